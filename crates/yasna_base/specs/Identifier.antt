@@ -1,0 +1,49 @@
+-- The identifier octets of a tag (X.690, 8.1.2).
+use Rattle.std.specs.Prelude.{◌≡◌, ℕ, ◌+◌, ◌*◌, ◌^◌, ◌<◌, List, [], ◌∷◌, ◌++◌, if◌then◌else◌, nat_lt}
+use Rattle.yasna_base.specs.declared.tag.Tag.{Tag}
+use Rattle.yasna_base.specs.declared.tag.TagClass.{TagClass}
+use Rattle.yasna_base.specs.declared.tag.TagClass.TheVariants.{Universal, Application, ContextSpecific, Private}
+use Rattle.yasna_base.specs.declared.tag.PCBit.{PCBit}
+use Rattle.yasna_base.specs.declared.tag.PCBit.TheVariants.{Primitive, Constructed}
+use Rattle.yasna_base.specs.Digits.{base128}
+
+abbrev pub class_number : TagClass → ℕ
+class_number Universal = 0
+class_number Application = 1
+class_number ContextSpecific = 2
+class_number Private = 3
+
+abbrev pub bit_number : PCBit → ℕ
+bit_number Primitive = 0
+bit_number Constructed = 1
+
+-- the first byte, with the number's place in its five low bits
+abbrev pub leading_byte : Tag → PCBit → ℕ → ℕ
+leading_byte t p low = 64 * class_number t.tag_class + 32 * bit_number p + low
+
+-- a number below 31 stands in the first byte, and any other behind it in base 128
+unfoldable pub identifier : Tag → PCBit → List ℕ
+identifier t p = if nat_lt t.tag_number 31 then (leading_byte t p t.tag_number ∷ []) else (leading_byte t p 31 ∷ base128 t.tag_number)
+
+abbrev pub universal : ℕ → Tag
+universal number = record { tag_class = Universal; tag_number = number }
+
+-- the tag of the two zeros that end contents of indefinite length
+abbrev pub end_tag : Tag
+end_tag = universal 0
+
+-- s begins with an identifier of the tag t
+pub data BeginsWithTag (t : Tag) (s : List ℕ) : Type 0 where
+  begins : (p : PCBit) (r : List ℕ) → s ≡ identifier t p ++ r → BeginsWithTag t s
+
+-- s begins with an identifier, which isn't that of the end of contents
+pub record StartsElement (s : List ℕ) : Type 0 where
+  pub tag : Tag
+  pub in_range : tag.tag_number < 2 ^ 64
+  pub not_end : tag ≡ end_tag → ⊥
+  pub begins : BeginsWithTag tag s
+
+-- nothing is left, or the end of contents stands first
+pub data AtEnd (s : List ℕ) : Type 0 where
+  nothing : s ≡ [] → AtEnd s
+  end : BeginsWithTag end_tag s → AtEnd s

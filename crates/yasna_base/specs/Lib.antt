@@ -1,0 +1,11 @@
+pub mod Refusal
+pub mod Digits
+pub mod Identifier
+pub mod Length
+pub mod Element
+pub mod Integer
+pub mod Simple
+pub mod Sequence
+pub mod Coding
+pub mod Canonical
+pub mod Written

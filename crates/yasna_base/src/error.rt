@@ -1,0 +1,69 @@
+//! Refusals.
+ghost use Rattle.std.specs.Prelude.{◌≡◌};
+
+use std::error::Error;
+use std::fmt;
+
+/// What a reading or a writing answers.
+pub type ASN1Result<T> = Result<T, ASN1Error>;
+
+/// Why bytes were refused, or a value was not written.
+#[derive(Clone, Copy, PartialEq, Eq, Debug)]
+pub enum ASN1ErrorKind {
+    /// The bytes end before the element does.
+    Eof,
+    /// Bytes are left where none should be.
+    Extra,
+    /// A number, a tag number or a place passes what its type holds.
+    IntegerOverflow,
+    /// Elements are nested more than 101 deep.
+    StackOverflow,
+    /// The bytes aren't an encoding of what was asked for.
+    Invalid,
+    /// No memory was to be had.
+    OutOfMemory,
+}
+
+/// A refusal.
+#[derive(Clone, Copy, PartialEq, Eq, Debug)]
+pub struct ASN1Error {
+    kind: ASN1ErrorKind,
+}
+
+impl ASN1Error {
+    ghost use Rattle.yasna_base.specs.Refusal.{kind_of};
+
+    /// The refusal of this kind.
+    pub fn new(kind: ASN1ErrorKind) -> ASN1Error
+        ensures { kind_of result ≡ kind }
+    {
+        ASN1Error { kind }
+    }
+
+    /// Of what kind the refusal is.
+    pub fn kind(&self) -> ASN1ErrorKind
+        ensures { result ≡ kind_of self.now }
+    {
+        self.kind
+    }
+}
+
+impl fmt::Display for ASN1Error {
+    ghost use Rattle.std.specs.Prelude.{Some};
+    ghost use Rattle.yasna_base.specs.Refusal.{error_text};
+
+    ghost output = { λ e. Some (error_text e) };
+
+    fn fmt<W: fmt::Write>(&self, f: &mut fmt::Formatter<W>) -> fmt::Result {
+        match self.kind {
+            ASN1ErrorKind::Eof => write!(f, "ASN1Error {{ kind: Eof }}"),
+            ASN1ErrorKind::Extra => write!(f, "ASN1Error {{ kind: Extra }}"),
+            ASN1ErrorKind::IntegerOverflow => write!(f, "ASN1Error {{ kind: IntegerOverflow }}"),
+            ASN1ErrorKind::StackOverflow => write!(f, "ASN1Error {{ kind: StackOverflow }}"),
+            ASN1ErrorKind::Invalid => write!(f, "ASN1Error {{ kind: Invalid }}"),
+            ASN1ErrorKind::OutOfMemory => write!(f, "ASN1Error {{ kind: OutOfMemory }}"),
+        }
+    }
+}
+
+impl Error for ASN1Error {}

@@ -1,0 +1,34 @@
+//! Identifiers (X.690, 8.1.2).
+
+/// Whether an element's contents are a value's bytes or further elements (X.690, 8.1.2.5).
+#[derive(Clone, Copy, PartialEq, Eq, PartialOrd, Ord, Hash, Debug)]
+pub enum PCBit {
+    /// The contents are the value's own bytes.
+    Primitive = 0,
+    /// The contents are elements, one after the other.
+    Constructed = 1,
+}
+
+/// The class of a tag (X.690, 8.1.2.2).
+#[derive(Clone, Copy, PartialEq, Eq, PartialOrd, Ord, Hash, Debug)]
+pub enum TagClass {
+    /// The types of ASN.1 itself.
+    Universal = 0,
+    /// Types of one application.
+    Application,
+    /// Types told apart by the place where they stand.
+    ContextSpecific,
+    /// Types of one enterprise.
+    Private,
+}
+
+/// A tag: it says of what type an element is.
+///
+/// Tags are ordered by class, then by number.
+#[derive(Clone, Copy, PartialEq, Eq, PartialOrd, Ord, Hash, Debug)]
+pub struct Tag {
+    /// The class.
+    pub tag_class: TagClass,
+    /// The number within the class.
+    pub tag_number: u64,
+}
