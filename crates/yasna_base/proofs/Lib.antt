@@ -1,1 +1,14 @@
-
+pub mod CanonicalElement
+pub mod Codings
+pub mod Digits
+pub mod DigitsOnly
+pub mod Element
+pub mod Header
+pub mod Identifier
+pub mod Integer
+pub mod Length
+pub mod LengthFront
+pub mod Lists
+pub mod MinimalBytes
+pub mod Numbers
+pub mod Writings

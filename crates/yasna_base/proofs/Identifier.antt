@@ -1,0 +1,112 @@
+-- An identifier at the front of bytes shows its tag, its bit and its own end.
+use Rattle.std.proofs.Common.{◌≡◌, ℕ, ◌<◌, ◌≤◌, inl, inr, List, [], ◌∷◌, ◌++◌, length, length-append, append_assoc, refl, sym, ap, ap₂, ◌∙◌, arith}
+use Rattle.std.proofs.lemmas.Bool.{cases_lt, lt-ltb, le-ltb}
+use Rattle.yasna_base.specs.declared.tag.Tag.{Tag}
+use Rattle.yasna_base.specs.declared.tag.TagClass.{TagClass}
+use Rattle.yasna_base.specs.declared.tag.TagClass.TheVariants.{Universal, Application, ContextSpecific, Private}
+use Rattle.yasna_base.specs.declared.tag.PCBit.{PCBit}
+use Rattle.yasna_base.specs.declared.tag.PCBit.TheVariants.{Primitive, Constructed}
+use Rattle.yasna_base.specs.Digits.{base128}
+use Rattle.yasna_base.specs.Identifier.{class_number, bit_number, leading_byte, identifier, end_tag, BeginsWithTag, begins, StartsElement, AtEnd, nothing, end}
+use Rattle.yasna_base.proofs.Lists.{fronts_as}
+use Rattle.yasna_base.proofs.Digits.{base128_exact}
+
+-- classes with one number are equal
+pub class_same : (c d : TagClass) → class_number c ≡ class_number d → c ≡ d
+class_same Universal Universal e = refl
+class_same Application Application e = refl
+class_same ContextSpecific ContextSpecific e = refl
+class_same Private Private e = refl
+class_same c d e = absurd (omega arith)
+
+-- bits with one number are equal
+pub bit_same : (p q : PCBit) → bit_number p ≡ bit_number q → p ≡ q
+bit_same Primitive Primitive e = refl
+bit_same Constructed Constructed e = refl
+bit_same p q e = absurd (omega arith)
+
+bit_below : (p : PCBit) → bit_number p < 2
+bit_below Primitive = omega arith
+bit_below Constructed = omega arith
+
+-- a leading byte shows the class, the bit and the five low bits
+pub leading_same : (t u : Tag) (p q : PCBit) (i j : ℕ) → i < 32 → j < 32 → leading_byte t p i ≡ leading_byte u q j → (t.tag_class ≡ u.tag_class) × (p ≡ q) × (i ≡ j)
+leading_same t u p q i j k l e =
+    let m = bit_below p in
+    let n = bit_below q in
+    (class_same t.tag_class u.tag_class (omega arith), bit_same p q (omega arith), omega arith)
+
+-- a number below 31 stands in the leading byte
+pub identifier_short : (t : Tag) (p : PCBit) → t.tag_number < 31 → identifier t p ≡ leading_byte t p t.tag_number ∷ []
+unfolding identifier
+identifier_short t p h = rw (lt-ltb t.tag_number 31 h)
+
+-- any other number stands behind it
+pub identifier_long : (t : Tag) (p : PCBit) → 31 ≤ t.tag_number → identifier t p ≡ leading_byte t p 31 ∷ base128 t.tag_number
+unfolding identifier
+identifier_long t p h = rw (le-ltb t.tag_number 31 h)
+
+tag_same : (t u : Tag) → t.tag_class ≡ u.tag_class → t.tag_number ≡ u.tag_number → t ≡ u
+tag_same t u e f = ap₂ (λ c n. record { tag_class = c; tag_number = n }) e f
+
+-- two identifiers at the front of one list are equal, and so is what follows
+pub identifier_exact : (t u : Tag) (p q : PCBit) (r s : List ℕ) → identifier t p ++ r ≡ identifier u q ++ s → (t ≡ u) × (p ≡ q) × (r ≡ s)
+identifier_exact t u p q r s e = elim (cases_lt t.tag_number 31) [
+  | inl h ↦ elim (cases_lt u.tag_number 31) [
+    | inl k ↦
+        let x = fronts_as r s (identifier_short t p h) (identifier_short u q k) e in
+        let y = leading_same t u p q t.tag_number u.tag_number (omega arith) (omega arith) (cc) in
+        (tag_same t u y.0 y.2, y.1, (cc))
+    | inr k ↦
+        let x = fronts_as r s (identifier_short t p h) (identifier_long u q k) e in
+        let y = leading_same t u p q t.tag_number 31 (omega arith) (omega arith) (cc) in
+        absurd (omega (arith, y.2))
+  ]
+  | inr h ↦ elim (cases_lt u.tag_number 31) [
+    | inl k ↦
+        let x = fronts_as r s (identifier_long t p h) (identifier_short u q k) e in
+        let y = leading_same t u p q 31 u.tag_number (omega arith) (omega arith) (cc) in
+        absurd (omega (arith, y.2))
+    | inr k ↦
+        let x = fronts_as r s (identifier_long t p h) (identifier_long u q k) e in
+        let y = leading_same t u p q 31 31 (omega arith) (omega arith) (cc) in
+        let z = base128_exact t.tag_number u.tag_number r s (cc) in
+        (tag_same t u y.0 z.0, y.1, z.1)
+  ]
+]
+
+-- an identifier has at least one byte
+pub identifier_some : (t : Tag) (p : PCBit) → 1 ≤ length (identifier t p)
+identifier_some t p = elim (cases_lt t.tag_number 31) [
+  | inl h ↦ omega (arith, ap length (identifier_short t p h))
+  | inr h ↦ omega (arith, ap length (identifier_long t p h))
+]
+
+-- bytes begin with the identifier of one tag only
+pub begins_once : (t u : Tag) (s : List ℕ) → BeginsWithTag t s → BeginsWithTag u s → t ≡ u
+begins_once t u s (begins p r e) (begins q v f) = (identifier_exact t u p q r v (sym e ∙ f)).0
+
+-- bytes that begin with an identifier aren't empty
+pub begins_some : (t : Tag) (s : List ℕ) → BeginsWithTag t s → 1 ≤ length s
+begins_some t s (begins p r e) = omega (arith, identifier_some t p, ap length e, length-append (identifier t p) r)
+
+-- more bytes behind change no identifier at the front
+pub begins_more : (t : Tag) (s r : List ℕ) → BeginsWithTag t s → BeginsWithTag t (s ++ r)
+begins_more t s r (begins p v e) = begins p (v ++ r) (ap (λ z. z ++ r) e ∙ append_assoc (identifier t p) v r)
+
+-- what starts an element still does with more bytes behind
+pub starts_more : (s r : List ℕ) → StartsElement s → StartsElement (s ++ r)
+starts_more s r x = record { tag = x.tag; in_range = x.in_range; not_end = x.not_end; begins = begins_more x.tag s r x.begins }
+
+-- no element starts where contents end
+pub starts_not_end : (s : List ℕ) → StartsElement s → AtEnd s → ⊥
+starts_not_end s x (nothing e) = omega (arith, begins_some x.tag s x.begins, ap length e)
+starts_not_end s x (end y) = x.not_end (begins_once x.tag end_tag s x.begins y)
+
+-- the identifier of the end of contents is a zero
+pub end_identifier : (r : List ℕ) → identifier end_tag Primitive ++ r ≡ 0 ∷ r
+end_identifier r = ap (λ z. z ++ r) (identifier_short end_tag Primitive (omega arith))
+
+-- contents end where a zero stands
+pub zeros_at_end : (r : List ℕ) → AtEnd (0 ∷ r)
+zeros_at_end r = end (begins Primitive r (sym (end_identifier r)))
