@@ -9,7 +9,7 @@ use Rattle.yasna_base.specs.declared.mode.BERMode.TheVariants.{Ber, Der}
 use Rattle.yasna_base.specs.Digits.{IsBytes, digits}
 use Rattle.yasna_base.specs.Length.{shortest_length, one_byte, counted, SpellsLength}
 use Rattle.yasna_base.proofs.DigitsOnly.{shortest_only}
-use Rattle.yasna_base.proofs.MinimalBytes.{digits_first}
+use Rattle.yasna_base.proofs.Digits.{digits_first}
 use Rattle.yasna_base.proofs.Length.{short_length, counted_length, spells_long, spells_below}
 
 -- the number of the first digits is at most that of all

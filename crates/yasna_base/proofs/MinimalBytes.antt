@@ -4,19 +4,12 @@ use Rattle.std.proofs.Math.Nat.{pow-zero, pow-suc}
 use Rattle.std.specs.Int.Digits.{number_from_digits}
 use Rattle.std.proofs.lemmas.Bool.{cond_both}
 use Rattle.std.proofs.lemmas.List.{length-map}
-use Rattle.std.proofs.lemmas.Int.Digits.{first_digits_of}
 use Rattle.yasna_base.specs.Digits.{IsBytes, digits}
 use Rattle.yasna_base.specs.Integer.{twos, IsMinimal, unsigned_bytes, minimal_bytes}
 use Rattle.yasna_base.specs.Simple.{IsInteger}
-use Rattle.yasna_base.proofs.Digits.{digits_below, digits_some, number_digits}
+use Rattle.yasna_base.proofs.Digits.{digits_below, digits_some, digits_first, number_digits}
 use Rattle.yasna_base.proofs.Numbers.{number_cons}
 use Rattle.yasna_base.proofs.Integer.{twos_positive, negative_is, twos_determined}
-
--- The digits of a number above 0 don't begin with a zero.
-pub digits_first : (b k : ℕ) → 2 ≤ b → 1 ≤ k → 0 < get_or (digits b k) 0 0
-unfolding digits
-digits_first b zero h p = absurd (omega arith)
-digits_first b (suc k) h p = first_digits_of b (suc k) h p
 
 -- minimal bytes whose first bit isn't set and whose number is n
 abbrev IsUnsigned : ℕ → List ℕ → Type 0

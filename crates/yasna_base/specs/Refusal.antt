@@ -8,6 +8,10 @@ use Rattle.yasna_base.specs.declared.error.ASN1ErrorKind.TheVariants.{Eof, Extra
 abbrev pub kind_of : ASN1Error → ASN1ErrorKind
 kind_of e = e.kind
 
+-- the refusal of a kind
+abbrev pub error_of : ASN1ErrorKind → ASN1Error
+error_of k = record { kind = k }
+
 abbrev pub kind_text : ASN1ErrorKind → List ℕ
 kind_text Eof = codes "Eof"
 kind_text Extra = codes "Extra"

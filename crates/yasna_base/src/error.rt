@@ -31,11 +31,11 @@ pub struct ASN1Error {
 }
 
 impl ASN1Error {
-    ghost use Rattle.yasna_base.specs.Refusal.{kind_of};
+    ghost use Rattle.yasna_base.specs.Refusal.{kind_of, error_of};
 
     /// The refusal of this kind.
     pub fn new(kind: ASN1ErrorKind) -> ASN1Error
-        ensures { kind_of result ≡ kind }
+        ensures { result ≡ error_of kind }
     {
         ASN1Error { kind }
     }

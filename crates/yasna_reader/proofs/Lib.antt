@@ -1,2 +1,5 @@
 pub mod Scan
 pub mod Sizes
+pub mod Identifying
+pub mod Measuring
+pub mod Front

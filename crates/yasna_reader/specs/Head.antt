@@ -7,6 +7,7 @@ use Rattle.yasna_base.specs.declared.mode.BERMode.{BERMode}
 use Rattle.yasna_base.specs.declared.mode.BERMode.TheVariants.{Ber, Der}
 use Rattle.yasna_base.specs.declared.tag.Tag.{Tag}
 use Rattle.yasna_base.specs.declared.tag.PCBit.{PCBit}
+use Rattle.yasna_base.specs.declared.tag.PCBit.TheVariants.{Constructed}
 use Rattle.yasna_base.specs.Digits.{base128}
 use Rattle.yasna_base.specs.Identifier.{identifier, BeginsWithTag}
 use Rattle.yasna_base.specs.Length.{SpellsLength}
@@ -65,6 +66,20 @@ abbrev pub OpensAt : BERMode → Tag → PCBit → List ℕ → List ℕ → Opt
 OpensAt m t p s c (Some r) = Counts m t p s c r
 OpensAt m t p s c None = Leaves m t p s c
 
+-- behind an identifier with the bit p, a length, the contents c that it counts, and r; or the byte of the indefinite form and c
+abbrev pub Holds : BERMode → PCBit → List ℕ → List ℕ → Option (List ℕ) → Type 0
+Holds m p y c (Some r) = (l : List ℕ) × TakesDefinite m p × SpellsLength m (length c) l × (y ≡ l ++ (c ++ r))
+Holds m p y c None = TakesIndefinite m p × (y ≡ 128 ∷ c)
+
+abbrev pub behind : Option (Bor (List ℕ)) → Option (List ℕ)
+behind (Some a) = Some a.now
+behind None = None
+
+-- a length and contents stand behind an identifier with the bit p
+abbrev pub ContentsAt : BERMode → PCBit → List ℕ → Result (Bor (List ℕ) × Option (Bor (List ℕ))) ASN1ErrorKind → Type 0
+ContentsAt m p y (Ok x) = Holds m p y x.0.now (behind x.1)
+ContentsAt m p y (Err k) = IsPlain k × ((c : List ℕ) (r : Option (List ℕ)) → Holds m p y c r → ⊥)
+
 -- s is empty or begins with an identifier of another tag
 pub data IsElsewhere (t : Tag) (s : List ℕ) : Type 0 where
   nothing : s ≡ [] → IsElsewhere t s
@@ -83,30 +98,42 @@ pub record Refuses {A : Type 0} (B : A → List ℕ → Type 0) (D M : Type 0) (
   pub deep : (e.kind ≡ OutOfMemory → ⊥) → D → e.kind ≡ StackOverflow
   pub memory : e.kind ≡ OutOfMemory → M
 
-abbrev pub behind : Option (Bor (List ℕ)) → Option (List ℕ)
-behind (Some a) = Some a.now
-behind None = None
-
--- no header of the tag stands at the front
-pub record RefusesHead (m : BERMode) (n : ℕ) (t : Tag) (s : List ℕ) (e : Refusal) : Type 0 where
-  pub none : (p : PCBit) (c : List ℕ) (r : Option (List ℕ)) → 1 ≤ n → OpensAt m t p s c r → ⊥
+-- no header of the tag with a bit that P allows stands at the front
+pub record RefusesHead (P : PCBit → Type 0) (m : BERMode) (n : ℕ) (t : Tag) (s : List ℕ) (e : Refusal) : Type 0 where
+  pub none : (p : PCBit) (c : List ℕ) (r : Option (List ℕ)) → P p → 1 ≤ n → OpensAt m t p s c r → ⊥
   pub unmoved : e.moved ≡ false → IsElsewhere t s
   pub moved : e.moved ≡ true → IsElsewhere t s → ⊥
   pub too_deep : e.kind ≡ StackOverflow → IsTooDeep n t s
   pub deep : IsTooDeep n t s → e.kind ≡ StackOverflow
   pub in_memory : e.kind ≡ OutOfMemory → ⊥
 
+abbrev pub AnyBit : PCBit → Type 0
+AnyBit p = Unit {0}
+
+abbrev pub OnlyConstructed : PCBit → Type 0
+OnlyConstructed p = p ≡ Constructed
+
+-- a header of the tag stands at the front, and a level is left for the element
 abbrev pub Headed : BERMode → ℕ → Tag → List ℕ → Result Opened Refusal → Type 0
 Headed m n t s (Ok o) = (1 ≤ n) × OpensAt m t o.bit s o.within.now (behind o.after)
-Headed m n t s (Err e) = RefusesHead m n t s e
+Headed m n t s (Err e) = RefusesHead AnyBit m n t s e
+
+-- the same of a constructed element
+abbrev pub ConstructedAt : BERMode → ℕ → Tag → List ℕ → Result Opened Refusal → Type 0
+ConstructedAt m n t s (Ok o) = (1 ≤ n) × OpensAt m t Constructed s o.within.now (behind o.after)
+ConstructedAt m n t s (Err e) = RefusesHead OnlyConstructed m n t s e
 
 -- y is where contents may end: of definite length, or before two zeros
 abbrev pub EndsAt : Option (List ℕ) → List ℕ → Type 0
 EndsAt (Some a) y = y ≡ []
 EndsAt None y = (z : List ℕ) × (y ≡ 0 ∷ 0 ∷ z)
 
--- contents that were read as far as y end there, and r follows the element
+-- the same, and r follows the element
+abbrev pub EndsBefore : Option (List ℕ) → List ℕ → List ℕ → Type 0
+EndsBefore (Some a) y r = (y ≡ []) × (r ≡ a)
+EndsBefore None y r = y ≡ 0 ∷ 0 ∷ r
+
+-- contents that were read as far as y end there, or don't
 abbrev pub ClosesAt : Option (List ℕ) → List ℕ → Result (Bor (List ℕ)) ASN1ErrorKind → Type 0
-ClosesAt (Some a) y (Ok r) = (y ≡ []) × (r.now ≡ a)
-ClosesAt None y (Ok r) = y ≡ 0 ∷ 0 ∷ r.now
+ClosesAt a y (Ok r) = EndsBefore a y r.now
 ClosesAt a y (Err k) = IsPlain k × (EndsAt a y → ⊥)

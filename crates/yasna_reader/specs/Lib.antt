@@ -1,2 +1,7 @@
 pub mod Head
 pub mod Reads
+pub mod View
+pub mod Typed
+pub mod Lending
+pub mod Calls
+pub mod Decodes

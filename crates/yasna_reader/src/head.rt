@@ -1,11 +1,11 @@
 //! The header of an element: identifier, length, and the cut of the contents (X.690, 8.1).
 //!
 //! Everything here goes over bytes and knows nothing of a reading's state. `open` is what reads of elements call.
-ghost use Rattle.std.specs.Prelude.{◌≡◌, ℕ, ◌+◌, ◌*◌, ◌^◌, ◌<◌, ◌≤◌, ◌++◌, List, length, true, false, MatchOption, IfSome, IfNone, IsTrue, ◌↔◌};
+ghost use Rattle.std.specs.Prelude.{◌≡◌, ℕ, ◌+◌, ◌*◌, ◌^◌, ◌<◌, ◌≤◌, ◌++◌, List, length, true, false, MatchOption, IfSome, IfNone, IsTrue, ◌↔◌, None};
 ghost use Rattle.std.specs.Int.Digits.{number_from_digits};
 ghost use Rattle.yasna_base.specs.Identifier.{class_number, bit_number};
 ghost use Rattle.yasna_base.specs.Element.{TakesIndefinite};
-ghost use Rattle.yasna_reader.specs.Head.{NumberAt, IdentifierAt, LengthAt, TakesSpelling};
+ghost use Rattle.yasna_reader.specs.Head.{NumberAt, IdentifierAt, LengthAt, TakesSpelling, IsPlain, ContentsAt, Headed, ConstructedAt, ClosesAt, behind};
 
 use yasna_base::error::ASN1ErrorKind;
 use yasna_base::mode::BERMode;
@@ -156,5 +156,136 @@ fn is_spelling(mode: BERMode, digits: &[u8], size: u64) -> bool
     match mode {
         BERMode::Ber => true,
         BERMode::Der => size >= 128 && digits.first() != Some(&0),
+    }
+}
+
+// Whether a mode takes an element of indefinite length.
+fn takes_indefinite(mode: BERMode, bit: PCBit) -> bool
+    ensures { IsTrue result ↔ TakesIndefinite mode bit }
+{
+    match mode {
+        BERMode::Ber => match bit {
+            PCBit::Primitive => false,
+            PCBit::Constructed => true,
+        },
+        BERMode::Der => false,
+    }
+}
+
+fn is_tag(found: Tag, wanted: Tag) -> bool
+    ensures { IsTrue result ↔ (found ≡ wanted) }
+{
+    found == wanted
+}
+
+fn refuse(kind: ASN1ErrorKind, moved: bool) -> Refusal
+    ensures { result ≡ record { kind = kind; moved = moved } }
+{
+    Refusal { kind, moved }
+}
+
+// Of what kind the refusal is where fewer than `size` bytes are left up to the place `end`.
+fn length_fault(end: usize, rest: &[u8], size: usize) -> ASN1ErrorKind
+    ensures { IsPlain result }
+{
+    let place = end.saturating_sub(rest.len());
+    match size.checked_add(place) {
+        Some(_) => ASN1ErrorKind::Eof,
+        None => ASN1ErrorKind::IntegerOverflow,
+    }
+}
+
+/// Reads the header of an element of this tag, and cuts off its contents where they have a length.
+///
+/// `end` is how far from the input's first byte `s` ends; it decides only whether a length that isn't there is called
+/// too large or cut off.
+pub fn open(s: &[u8], mode: BERMode, levels: u8, tag: Tag, end: usize) -> Result<Opened<'_>, Refusal>
+    ensures { Headed mode levels tag s.now result }
+{
+    if s.is_empty() {
+        return Err(refuse(ASN1ErrorKind::Eof, false));
+    }
+    let (found, bit, rest) = match read_identifier(s) {
+        Ok(identifier) => identifier,
+        Err(kind) => return Err(refuse(kind, true)),
+    };
+    if !is_tag(found, tag) {
+        return Err(refuse(ASN1ErrorKind::Invalid, false));
+    }
+    if levels == 0 {
+        return Err(refuse(ASN1ErrorKind::StackOverflow, true));
+    }
+    match contents(rest, mode, bit, end) {
+        Ok((within, after)) => Ok(Opened { bit, within, after }),
+        Err(kind) => Err(refuse(kind, true)),
+    }
+}
+
+// Reads a length, and cuts off the contents that it counts.
+fn contents(s: &[u8], mode: BERMode, bit: PCBit, end: usize) -> Result<(&[u8], Option<&[u8]>), ASN1ErrorKind>
+    ensures { ContentsAt mode bit s.now result }
+{
+    match read_length(s, mode) {
+        Ok((Some(size), rest)) => match cut(rest, size) {
+            Some((within, after)) => Ok((within, Some(after))),
+            None => Err(length_fault(end, rest, size)),
+        },
+        Ok((None, rest)) => {
+            if takes_indefinite(mode, bit) {
+                Ok((rest, None))
+            } else {
+                Err(ASN1ErrorKind::Invalid)
+            }
+        }
+        Err(kind) => Err(kind),
+    }
+}
+
+/// The same, of a constructed element.
+pub fn constructed(s: &[u8], mode: BERMode, levels: u8, tag: Tag, end: usize) -> Result<Opened<'_>, Refusal>
+    ensures { ConstructedAt mode levels tag s.now result }
+{
+    match open(s, mode, levels, tag, end) {
+        Ok(opened) => match opened.bit {
+            PCBit::Constructed => Ok(opened),
+            PCBit::Primitive => Err(refuse(ASN1ErrorKind::Invalid, true)),
+        },
+        Err(refusal) => Err(refusal),
+    }
+}
+
+/// What follows an element whose contents were read as far as `rest`, where they end there.
+pub fn close<'a>(after: Option<&'a [u8]>, rest: &'a [u8]) -> Result<&'a [u8], ASN1ErrorKind>
+    ensures { ClosesAt (behind after.entry) rest.now result }
+{
+    let Some(after) = after else {
+        return end_of_contents(rest);
+    };
+    if rest.is_empty() { Ok(after) } else { Err(ASN1ErrorKind::Extra) }
+}
+
+// What follows the two zeros that end contents of indefinite length.
+fn end_of_contents(s: &[u8]) -> Result<&[u8], ASN1ErrorKind>
+    ensures { ClosesAt None s.now result }
+{
+    let Some((first, rest)) = s.split_first() else {
+        return Err(ASN1ErrorKind::Eof);
+    };
+    if *first != 0 {
+        return Err(end_fault(s));
+    }
+    let Some((second, after)) = rest.split_first() else {
+        return Err(ASN1ErrorKind::Eof);
+    };
+    if *second == 0 { Ok(after) } else { Err(ASN1ErrorKind::Invalid) }
+}
+
+// Of what kind the refusal is where contents of indefinite length go on with something else.
+fn end_fault(s: &[u8]) -> ASN1ErrorKind
+    ensures { IsPlain result }
+{
+    match read_identifier(s) {
+        Ok(_) => ASN1ErrorKind::Invalid,
+        Err(kind) => kind,
     }
 }

@@ -7,3 +7,4 @@
 #![tactic(auto)]
 
 pub mod head;
+pub mod state;

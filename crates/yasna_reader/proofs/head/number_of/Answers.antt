@@ -1,14 +1,10 @@
-use Rattle.std.proofs.Common.{rules, ◌≡◌, ℕ, ◌+◌, ◌*◌, ◌^◌, ◌<◌, ◌≤◌, ◌++◌, List, length, true, false, MatchOption, IfSome, IfNone, IsTrue, ◌↔◌, ◌-◌, ◌/◌, ◌%◌, Bool, nat_eq, nat_lt, [], ◌∷◌, slice_index_or, slice_set, bit_and, bit_or, Fits, w8, w32, w64, Bor, MutBor}
-use Rattle.std.specs.Int.Digits.{number_from_digits}
-use Rattle.yasna_base.specs.Identifier.{class_number, bit_number}
-use Rattle.yasna_base.specs.Element.{TakesIndefinite}
-use Rattle.yasna_reader.specs.Head.{NumberAt, IdentifierAt, LengthAt, TakesSpelling}
+use Rattle.std.proofs.Common.{◌∙◌, ap, sym, arith}
+use Rattle.std.proofs.lemmas.Int.Digits.{number_more}
+use Rattle.yasna_reader.proofs.Sizes.{grown}
 use Rattle.yasna_reader.proofs.head.number_of.Goals as goal
 
--- src/head.rt:116:13
 pub returns-then-number-ge-LEAST_TOO_WIDE : goal.returns-then-number-ge-LEAST_TOO_WIDE
-returns-then-number-ge-LEAST_TOO_WIDE c = ?
+returns-then-number-ge-LEAST_TOO_WIDE c = let g = grown c.args.digits.now c.loop-digit.digit-index c.loop-digit-test.true in let i = c.loop-digit.invariant in omega arith
 
--- src/head.rt:114:5
 pub loop-digit-preserved : goal.loop-digit-preserved
-loop-digit-preserved c = ?
+loop-digit-preserved c = let m = number_more 256 c.args.digits.now c.loop-digit.digit-index c.loop-digit-test.true in let i = c.loop-digit.invariant in let e = c.from.ensures in omega arith

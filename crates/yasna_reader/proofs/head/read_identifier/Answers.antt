@@ -1,22 +1,26 @@
-use Rattle.std.proofs.Common.{rules, ◌≡◌, ℕ, ◌+◌, ◌*◌, ◌^◌, ◌<◌, ◌≤◌, ◌++◌, List, length, true, false, MatchOption, IfSome, IfNone, IsTrue, ◌↔◌, ◌-◌, ◌/◌, ◌%◌, Bool, nat_eq, nat_lt, [], ◌∷◌, slice_index_or, slice_set, bit_and, bit_or, Fits, w8, w32, w64, Bor, MutBor}
-use Rattle.std.specs.Int.Digits.{number_from_digits}
-use Rattle.yasna_base.specs.Identifier.{class_number, bit_number}
-use Rattle.yasna_base.specs.Element.{TakesIndefinite}
-use Rattle.yasna_reader.specs.Head.{NumberAt, IdentifierAt, LengthAt, TakesSpelling}
+use Rattle.std.proofs.Common.{◌≡◌, ◌∙◌, sym, ap, arith, ℕ, List, ◌∷◌, []}
+use Rattle.yasna_reader.proofs.Scan.{empty_is}
+use Rattle.yasna_reader.proofs.Identifying.{nothing_there, short_identifier, long_identifier, no_identifier}
 use Rattle.yasna_reader.proofs.head.read_identifier.Goals as goal
 
--- src/head.rt:96:9
 pub returns-in_default : goal.returns-in_default
-returns-in_default c = ?
+returns-in_default c = (tt, nothing_there c.args.s.now (empty_is c.args.s.now (c.in_default.ensures {u = tt}).cases))
 
--- src/head.rt:101:9
 pub returns-then-low-lt31 : goal.returns-then-low-lt31
-returns-then-low-lt31 c = ?
+returns-then-low-lt31 c =
+  let e = c.from.ensures in
+  short_identifier c.args.s.now c.in-Some.first.now c.in-Some.rest.now c.leading-tag_class.result.0 c.leading-tag_class.result.1 c.from.result (c.in-Some.ensures {u = tt}).cases.0 (rw e c.leading-tag_class.ensures.parts) (omega arith)
 
--- src/head.rt:92:1
 pub returns-in-Ok : goal.returns-in-Ok
-returns-in-Ok c = ?
+returns-in-Ok c =
+  let r = c.in-Ok.ensures {u = tt} in
+  let l = c.leading-tag_class.ensures.low in
+  let i : c.leading-tag_class.result.2 ≡ 31 = omega arith in
+  long_identifier c.args.s.now c.in-Some.first.now c.in-Some.rest.now c.leading-tag_class.result.0 c.leading-tag_class.result.1 c.leading-tag_class.result.2 c.in-Ok.tag_number c.in-Ok.after.now (c.in-Some.ensures {u = tt}).cases.0 c.leading-tag_class.ensures.parts i r.0 r.1
 
--- src/head.rt:92:1
 pub returns-in-Err : goal.returns-in-Err
-returns-in-Err c = ?
+returns-in-Err c =
+  let r = c.in-Err.ensures {u = tt} in
+  let l = c.leading-tag_class.ensures.low in
+  let i : c.leading-tag_class.result.2 ≡ 31 = omega arith in
+  (r.0, no_identifier c.args.s.now c.in-Some.first.now c.in-Some.rest.now c.leading-tag_class.result.0 c.leading-tag_class.result.1 c.leading-tag_class.result.2 (c.in-Some.ensures {u = tt}).cases.0 c.leading-tag_class.ensures.parts i r.1)

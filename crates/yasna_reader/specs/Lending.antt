@@ -1,0 +1,8 @@
+-- What the parts of a constructed element lend.
+use Rattle.std.specs.Borrow.{Lends, MutBor, Fml, RattleType}
+use Rattle.yasna_reader.specs.declared.state.Parts.{Parts}
+use Rattle.yasna_reader.specs.contracts.state.Parts.{the_row}
+
+-- r lends the reading: what it is in the end is what is left of the parts
+abbrev pub LendsReader : (S : RattleType) → MutBor (Parts S.Denot) → MutBor S.Denot → Fml
+LendsReader S s r = Lends (the_row S) S s r (λ w. record s.now { reader = w })
