@@ -1,5 +1,7 @@
-pub mod Scan
-pub mod Sizes
+pub mod Calling
+pub mod Front
 pub mod Identifying
 pub mod Measuring
-pub mod Front
+pub mod Reading
+pub mod Scan
+pub mod Sizes

@@ -5,3 +5,4 @@ pub mod Typed
 pub mod Lending
 pub mod Calls
 pub mod Decodes
+pub mod Composed

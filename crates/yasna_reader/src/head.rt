@@ -178,7 +178,7 @@ fn is_tag(found: Tag, wanted: Tag) -> bool
     found == wanted
 }
 
-fn refuse(kind: ASN1ErrorKind, moved: bool) -> Refusal
+pub(crate) fn refuse(kind: ASN1ErrorKind, moved: bool) -> Refusal
     ensures { result ≡ record { kind = kind; moved = moved } }
 {
     Refusal { kind, moved }

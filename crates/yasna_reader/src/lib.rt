@@ -6,5 +6,9 @@
 //! | `values` | elements of one primitive type, over bytes |
 #![tactic(auto)]
 
+mod contents;
 pub mod head;
+mod parse;
+mod simple;
+pub mod values;
 pub mod state;

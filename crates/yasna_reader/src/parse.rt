@@ -1,0 +1,69 @@
+//! Parses of whole inputs.
+ghost use Rattle.yasna_base.specs.declared.mode.BERMode.TheVariants.{Ber, Der};
+ghost use Rattle.yasna_reader.specs.Calls.{MayRead, Parses, parsed};
+
+use std::alloc::Global;
+
+use yasna_base::error::{ASN1Error, ASN1ErrorKind, ASN1Result};
+use yasna_base::mode::BERMode;
+
+use crate::state::{BERReader, ReaderState};
+
+/// Reads bytes by these rules: the callback is to read all of them.
+///
+/// Answers the failure that the reading kept, if there is one; else the callback's Err; else `Extra` where bytes are
+/// left; else the callback's value.
+pub fn parse_ber_general<'a, T: Drop, F>(alloc: Global, buf: &'a [u8], mode: BERMode, callback: F) -> ASN1Result<T>
+where
+    F: for<'b> FnOnce(BERReader<'a, 'b>) -> ASN1Result<T>,
+    requires { MayRead F.FnOnce callback }
+    ensures { Parses F.FnOnce callback mode buf.now result }
+{
+    let mut state = ReaderState::new(alloc, buf, mode);
+    let answer = callback(&mut state);
+    state.parsed(answer)
+}
+
+/// Reads bytes by the basic encoding rules.
+pub fn parse_ber<'a, T: Drop, F>(alloc: Global, buf: &'a [u8], callback: F) -> ASN1Result<T>
+where
+    F: for<'b> FnOnce(BERReader<'a, 'b>) -> ASN1Result<T>,
+    requires { MayRead F.FnOnce callback }
+    ensures { Parses F.FnOnce callback Ber buf.now result }
+{
+    parse_ber_general(alloc, buf, BERMode::Ber, callback)
+}
+
+/// Reads bytes by the distinguished encoding rules.
+pub fn parse_der<'a, T: Drop, F>(alloc: Global, buf: &'a [u8], callback: F) -> ASN1Result<T>
+where
+    F: for<'b> FnOnce(BERReader<'a, 'b>) -> ASN1Result<T>,
+    requires { MayRead F.FnOnce callback }
+    ensures { Parses F.FnOnce callback Der buf.now result }
+{
+    parse_ber_general(alloc, buf, BERMode::Der, callback)
+}
+
+impl<'a> ReaderState<'a> {
+    ghost use Rattle.std.specs.Prelude.{◌≡◌};
+    ghost use Rattle.yasna_reader.specs.Calls.{parsed};
+
+    // What a parse answers where its callback gave this answer.
+    fn parsed<T: Drop>(&self, answer: ASN1Result<T>) -> ASN1Result<T>
+        ensures { result ≡ parsed answer self.now }
+    {
+        if let Some(error) = self.kept {
+            return Err(error);
+        }
+        match answer {
+            Ok(value) => {
+                if self.rest.is_empty() {
+                    Ok(value)
+                } else {
+                    Err(ASN1Error::new(ASN1ErrorKind::Extra))
+                }
+            }
+            Err(error) => Err(error),
+        }
+    }
+}
