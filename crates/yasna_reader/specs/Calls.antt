@@ -1,9 +1,10 @@
 -- What a call does that hands a reading to a callback.
 use Rattle.std.specs.Prelude.{◌≡◌, ℕ, ◌-◌, ◌<◌, ◌≤◌, List, [], ◌∷◌, length, drop, Option, Some, None, Result, Ok, Err, true, false, ◌⊎◌}
-use Rattle.std.specs.Borrow.{MutBor}
+use Rattle.std.specs.Borrow.{Bor, MutBor}
 use Rattle.std.specs.Fn.{Once, FnOnceReturnsAtMut}
 use Rattle.yasna_base.specs.declared.error.ASN1Error.{ASN1Error}
-use Rattle.yasna_base.specs.declared.error.ASN1ErrorKind.TheVariants.{Extra, Invalid}
+use Rattle.yasna_base.specs.declared.error.ASN1ErrorKind.{ASN1ErrorKind}
+use Rattle.yasna_base.specs.declared.error.ASN1ErrorKind.TheVariants.{Extra}
 use Rattle.yasna_base.specs.declared.mode.BERMode.{BERMode}
 use Rattle.yasna_base.specs.declared.tag.Tag.{Tag}
 use Rattle.yasna_base.specs.declared.tag.PCBit.TheVariants.{Constructed}
@@ -55,6 +56,11 @@ IsBefore c y = length c < length y
 pub record Fails {A : Type 0} (e : ASN1Error) (s : Reading) (r : Result A ASN1Error) (s' : Reading) : Type 0 where
   pub answer : r ≡ Err e
   pub state : s' ≡ failing s e
+
+-- contents end where a callback left n bytes of them, and r follows the element, or they don't end there
+abbrev pub ClosesFrom : Option (List ℕ) → List ℕ → ℕ → Result (Bor (List ℕ)) ASN1ErrorKind → Type 0
+ClosesFrom after c n (Ok r) = (n ≤ length c) × EndsBefore after (drop (length c - n) c) r.now
+ClosesFrom after c n (Err k) = IsPlain k × ((length c < n) ⊎ (EndsAt after (drop (length c - n) c) → ⊥))
 
 -- contents end where the callback left them, and the rest is left
 pub record Closes {A : Type 0} (after : Option (List ℕ)) (c y : List ℕ) (v : A) (s : Reading) (r : Result A ASN1Error) (s' : Reading) : Type 0 where

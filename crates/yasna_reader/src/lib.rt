@@ -9,6 +9,7 @@
 mod contents;
 pub mod head;
 mod parse;
+mod sequence;
 mod simple;
 pub mod values;
 pub mod state;

@@ -1,0 +1,108 @@
+//! Reads of constructed elements whose contents a callback reads (X.690, 8.9).
+ghost use Rattle.std.specs.Prelude.{◌≡◌, ◌≤◌, length};
+ghost use Rattle.yasna_reader.specs.Head.{behind, ConstructedAt};
+ghost use Rattle.yasna_reader.specs.Calls.{ClosesFrom, Left, MayReadParts, ReadsParts};
+
+use yasna_base::error::{ASN1Error, ASN1ErrorKind, ASN1Result};
+use yasna_base::tag::Tag;
+use yasna_base::tags::TAG_SEQUENCE;
+
+use crate::head::{Opened, Refusal, close, constructed};
+use crate::state::{BERReaderSeq, Parts, ReaderState};
+
+// What follows an element of which a callback left this many bytes to be read.
+fn close_from<'a>(opened: &Opened<'a>, remaining: usize) -> Result<&'a [u8], ASN1ErrorKind>
+    ensures { ClosesFrom (behind opened.now.after) opened.now.within.now remaining result }
+{
+    let within = opened.within;
+    if within.len() < remaining {
+        return Err(ASN1ErrorKind::Invalid);
+    }
+    close(opened.after, &within[within.len() - remaining..])
+}
+
+impl<'a> ReaderState<'a> {
+    ghost use Rattle.yasna_reader.specs.View.{inside, untagged, failing, tag_of};
+    ghost use Rattle.yasna_reader.specs.Calls.{Fails, Left};
+
+    /// Reads a SEQUENCE, whose parts the callback reads.
+    ///
+    /// The callback is to read all of them. What goes wrong in it is kept, whatever it answers: later calls answer it.
+    pub fn read_sequence<T: Drop, F>(&mut self, f: F) -> ASN1Result<T>
+    where
+        F: FnOnce(&mut BERReaderSeq<'a, '_>) -> ASN1Result<T>,
+        requires { MayReadParts F.FnOnce f self.old }
+        ensures { ReadsParts F.FnOnce f TAG_SEQUENCE self.old result self.new }
+    {
+        self.read_parts(TAG_SEQUENCE, f)
+    }
+
+    // Reads a constructed element of this tag, or of the implicit one.
+    fn read_parts<T: Drop, F>(&mut self, tag: Tag, f: F) -> ASN1Result<T>
+    where
+        F: FnOnce(&mut BERReaderSeq<'a, '_>) -> ASN1Result<T>,
+        requires { MayReadParts F.FnOnce f self.old }
+        ensures { ReadsParts F.FnOnce f tag self.old result self.new }
+    {
+        if let Some(error) = self.kept {
+            self.tag = None;
+            return Err(error);
+        }
+        match self.enter(tag) {
+            Ok(opened) => {
+                let mut parts = Parts { reader: self.within(&opened) };
+                let answer = f(&mut parts);
+                let Parts { reader } = parts;
+                self.leave(&opened, answer, &reader)
+            }
+            Err(refusal) => self.settle(Err(refusal)),
+        }
+    }
+
+    // The header of a constructed element of this tag, or of the implicit one.
+    fn enter(&self, tag: Tag) -> Result<Opened<'a>, Refusal>
+        ensures { ConstructedAt self.now.mode self.now.levels (tag_of self.now tag) self.now.left result }
+    {
+        constructed(self.rest, self.mode, self.levels, self.wanted(tag), self.end)
+    }
+
+    // The reading of an element's contents.
+    fn within(&self, opened: &Opened<'a>) -> ReaderState<'a>
+        requires { 1 ≤ self.now.levels }
+        ensures { result ≡ inside self.now opened.now.within.now }
+    {
+        let end = match opened.after {
+            Some(after) => self.end.saturating_sub(after.len()),
+            None => self.end,
+        };
+        ReaderState { rest: opened.within, end, mode: self.mode, levels: self.levels - 1, tag: None, kept: None, alloc: self.alloc }
+    }
+
+    // What is made of a callback's answer, where it left the contents of an element like this.
+    fn leave<T: Drop>(&mut self, opened: &Opened<'a>, answer: ASN1Result<T>, left: &ReaderState<'a>) -> ASN1Result<T>
+        ensures { Left (behind opened.now.after) opened.now.within.now left.now.kept left.now.left answer (untagged self.old) result self.new }
+    {
+        self.tag = None;
+        if let Some(error) = left.kept {
+            return self.fail(error);
+        }
+        match answer {
+            Ok(value) => match close_from(opened, left.rest.len()) {
+                Ok(rest) => {
+                    self.rest = rest;
+                    Ok(value)
+                }
+                Err(kind) => self.fail(ASN1Error::new(kind)),
+            },
+            Err(error) => self.fail(error),
+        }
+    }
+
+    // Keeps a failure, and answers it.
+    fn fail<T>(&mut self, error: ASN1Error) -> ASN1Result<T>
+        ensures { Fails error self.old result self.new }
+    {
+        self.kept = Some(error);
+        Err(error)
+    }
+}
