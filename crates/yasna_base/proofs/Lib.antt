@@ -12,3 +12,4 @@ pub mod Lists
 pub mod MinimalBytes
 pub mod Numbers
 pub mod Writings
+pub mod Types

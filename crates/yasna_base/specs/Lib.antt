@@ -9,3 +9,4 @@ pub mod Sequence
 pub mod Coding
 pub mod Canonical
 pub mod Written
+pub mod Types

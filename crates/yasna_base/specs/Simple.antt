@@ -1,5 +1,6 @@
 -- Types of one primitive element: BOOLEAN, INTEGER and ENUMERATED, NULL.
-use Rattle.std.specs.Prelude.{◌≡◌, ℕ, ◌<◌, ◌≤◌, List, [], ◌∷◌, Bool, ℤ}
+use Rattle.std.specs.Prelude.{◌≡◌, ℕ, ◌^◌, ◌<◌, ◌≤◌, List, [], ◌∷◌, Bool, ℤ, pos, FitsSigned}
+use Rattle.std.specs.Int.{Width}
 use Rattle.yasna_base.specs.declared.mode.BERMode.{BERMode}
 use Rattle.yasna_base.specs.declared.mode.BERMode.TheVariants.{Ber, Der}
 use Rattle.yasna_base.specs.declared.tag.Tag.{Tag}
@@ -42,3 +43,11 @@ pub record IsNumber {A : Type 0} (f : A → ℤ) (InType : A → Type 0) (m : BE
 -- no contents (X.690, 8.8)
 abbrev pub IsNull : BERMode → Unit {0} → List ℕ → Type 0
 IsNull m v c = c ≡ []
+
+-- a number of a signed type of the width w
+abbrev pub IsSigned : Width → BERMode → ℤ → List ℕ → Type 0
+IsSigned w m v c = IsNumber (λ z. z) (FitsSigned w) m v c
+
+-- a number of an unsigned type of k bits
+abbrev pub IsUnsigned : ℕ → BERMode → ℕ → List ℕ → Type 0
+IsUnsigned k m v c = IsNumber pos (λ n. n < 2 ^ k) m v c

@@ -5,3 +5,4 @@ pub mod Measuring
 pub mod Reading
 pub mod Scan
 pub mod Sizes
+pub mod Leaf

@@ -8,7 +8,7 @@
 
 mod contents;
 pub mod head;
-mod parse;
+pub mod parse;
 mod sequence;
 mod simple;
 pub mod values;
