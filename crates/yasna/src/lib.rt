@@ -3,6 +3,7 @@
 
 mod simple;
 mod traits;
+mod tuples;
 
 pub use traits::BERDecodable;
 pub use yasna_base::error::{ASN1Error, ASN1ErrorKind, ASN1Result};

@@ -6,8 +6,8 @@ use Rattle.std.specs.Fn.{Once, FnOnceReturnsAtMut}
 use Rattle.yasna_base.specs.declared.error.ASN1Error.{ASN1Error}
 use Rattle.yasna_base.specs.declared.tag.Tag.{Tag}
 use Rattle.yasna_reader.specs.declared.state.Parts.{Parts}
-use Rattle.yasna_reader.specs.Calls.{Entered, EntersUnlessKept, ReadsParts}
-use Rattle.yasna_reader.specs.Composed.{EnteredBy, PartsUnlessKept, PartsBy}
+use Rattle.yasna_reader.specs.Calls.{EntersUnlessKept, ReadsParts}
+use Rattle.yasna_reader.specs.Composed.{PartsUnlessKept, PartsBy}
 use Rattle.yasna_reader.specs.View.{Reading, IsFresh, inside, tag_of}
 
 module _ {F A : Type 0} (g : Once F (MutBor (Parts Reading) × Unit {0}) (Result A ASN1Error × (MutBor (Parts Reading) × Unit {0}))) (f : F) (P : Reading → Result A ASN1Error → Reading → Type 0) (says : (s : Reading) (r : Result A ASN1Error) (s' : Reading) → IsFresh s → FnOnceReturnsAtMut g f (record { reader = s }) r (record { reader = s' }) → P s r s') where

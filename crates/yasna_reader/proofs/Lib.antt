@@ -1,8 +1,10 @@
+pub mod Answered
 pub mod Calling
+pub mod Elements
 pub mod Front
 pub mod Identifying
+pub mod Leaf
 pub mod Measuring
 pub mod Reading
 pub mod Scan
 pub mod Sizes
-pub mod Leaf

@@ -154,7 +154,7 @@ pub true_der : (m : BERMode) (x : ℕ) → m ≡ Der → x ≡ 255 → SaysTrue 
 true_der m x e h = subst (λ o. SaysTrue o x) (sym e) h
 
 -- at an end no other tag stands
-at_end_elsewhere : (t : Tag) (s : List ℕ) → (t ≡ end_tag → ⊥) → AtEnd s → IsElsewhere t s
+pub at_end_elsewhere : (t : Tag) (s : List ℕ) → (t ≡ end_tag → ⊥) → AtEnd s → IsElsewhere t s
 at_end_elsewhere t s n (at_nothing e) = nothing e
 at_end_elsewhere t s n (at_zeros b) = another end_tag (omega arith) (λ e. n (sym e)) b
 
@@ -162,7 +162,8 @@ at_end_elsewhere t s n (at_zeros b) = another end_tag (omega arith) (λ e. n (sy
 pub not_at_end : (t : Tag) (s : List ℕ) → (t ≡ end_tag → ⊥) → AtEnd s → BeginsWithTag t s → ⊥
 not_at_end t s n a b = begins_not_elsewhere b (at_end_elsewhere t s n a)
 
-plain_of : (k : ASN1ErrorKind) → (k ≡ StackOverflow → ⊥) → (k ≡ OutOfMemory → ⊥) → IsPlain k
+-- a refusal that is neither of depth nor of memory is plain
+pub plain_of : (k : ASN1ErrorKind) → (k ≡ StackOverflow → ⊥) → (k ≡ OutOfMemory → ⊥) → IsPlain k
 plain_of Eof d o = tt
 plain_of Extra d o = tt
 plain_of IntegerOverflow d o = tt

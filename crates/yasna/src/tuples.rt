@@ -1,0 +1,95 @@
+//! Tuples: a SEQUENCE of their parts (X.690, 8.9).
+//!
+//! A tuple is read as pairs that end in `()`: `(A, B)` as `(A, (B, ()))`. So the laws and the reading of every tuple
+//! are those of its parts, one after the other.
+ghost use Rattle.std.specs.Prelude.{◌≡◌, ℕ, List, Bool, None, false, ◌||◌};
+ghost use Rattle.yasna_base.specs.declared.mode.BERMode.{BERMode};
+ghost use Rattle.yasna_base.specs.Sequence.{sequence_tag, Enclosed, AnyEnclosed, PartOf, NoParts, AnyPart, AnyNothing, SamePart, SameNothing};
+ghost use Rattle.yasna_base.specs.Coding.{ArePartsCoding};
+ghost use Rattle.yasna_base.proofs.Codings.{part, no_part, tuple};
+ghost use Rattle.yasna_reader.specs.View.{IsFresh};
+ghost use Rattle.yasna_reader.specs.Decodes.{Decodes, DecodesParts};
+
+use yasna_base::error::ASN1Result;
+use yasna_reader::state::{BERReader, BERReaderSeq};
+
+use crate::traits::BERDecodable;
+
+/// What a tuple's parts are read as.
+pub trait TupleParts: Sized + Drop {
+    // Which contents encode the parts.
+    ghost parts: { BERMode → ℕ → Self → List ℕ → Type 0 };
+
+    // What that asks of the bytes alone.
+    ghost any_parts: { BERMode → ℕ → List ℕ → Type 0 };
+
+    // Whether reading one may want memory.
+    ghost parts_ask: { Bool };
+
+    // Which parts are equal.
+    ghost same_parts: { Self → Self → Type 0 };
+
+    /// Reads the parts, one after the other.
+    fn read_parts(seq: &mut BERReaderSeq) -> ASN1Result<Self>
+        requires { IsFresh seq.old.reader }
+        ensures { DecodesParts parts_ask parts any_parts seq.old.reader result seq.new.reader };
+
+    // The laws of reading.
+    ghost lawful: { ArePartsCoding same_parts parts any_parts };
+}
+
+impl TupleParts for () {
+    ghost parts = { NoParts };
+    ghost any_parts = { AnyNothing };
+    ghost parts_ask = { false };
+    ghost same_parts = { SameNothing };
+
+    fn read_parts(_seq: &mut BERReaderSeq) -> ASN1Result<()> {
+        Ok(())
+    }
+
+    ghost lawful = { no_part };
+}
+
+impl<A: BERDecodable, W: TupleParts> TupleParts for (A, W) {
+    ghost parts = { PartOf A.encodes W.parts };
+    ghost any_parts = { AnyPart A.elements W.any_parts };
+    ghost parts_ask = { (A.asks_memory || W.parts_ask) };
+    ghost same_parts = { SamePart A.same W.same_parts };
+
+    fn read_parts(seq: &mut BERReaderSeq) -> ASN1Result<(A, W)> {
+        match A::decode_ber(seq.next()) {
+            Ok(first) => match W::read_parts(seq) {
+                Ok(others) => Ok((first, others)),
+                Err(error) => Err(error),
+            },
+            Err(error) => Err(error),
+        }
+    }
+
+    ghost lawful = { part A.coding W.lawful };
+}
+
+// Reads a SEQUENCE of these parts.
+fn read_tuple<W: TupleParts>(reader: BERReader) -> ASN1Result<W>
+    requires { reader.old.tag ≡ None }
+    ensures { reader.old.kept ≡ None → Decodes W.parts_ask (Enclosed W.parts sequence_tag) (AnyEnclosed W.any_parts sequence_tag) reader.old result reader.new }
+{
+    reader.read_sequence(|seq| W::read_parts(seq))
+}
+
+impl<A: BERDecodable, B: BERDecodable> BERDecodable for (A, B) {
+    ghost encodes = { λ m n v b. Enclosed (PartOf A.encodes (PartOf B.encodes NoParts)) sequence_tag m n (v.0, (v.1, tt)) b };
+    ghost elements = { AnyEnclosed (AnyPart A.elements (AnyPart B.elements AnyNothing)) sequence_tag };
+    ghost asks_memory = { (A.asks_memory || (B.asks_memory || false)) };
+    ghost same = { λ v w. SamePart A.same (SamePart B.same SameNothing) (v.0, (v.1, tt)) (w.0, (w.1, tt)) };
+
+    fn decode_ber(reader: BERReader) -> ASN1Result<(A, B)> {
+        match read_tuple::<(A, (B, ()))>(reader) {
+            Ok((a, (b, ()))) => Ok((a, b)),
+            Err(error) => Err(error),
+        }
+    }
+
+    ghost coding = { tuple (λ v. (v.0, (v.1, tt))) (part A.coding (part B.coding no_part)) };
+}
