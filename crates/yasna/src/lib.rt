@@ -1,10 +1,12 @@
 //! ASN.1 under BER and DER: reading, writing, and types that do both.
 #![tactic(auto)]
 
+mod calls;
 mod simple;
 mod traits;
 mod tuples;
 
+pub use calls::{decode_ber, decode_ber_general, decode_der};
 pub use traits::BERDecodable;
 pub use yasna_base::error::{ASN1Error, ASN1ErrorKind, ASN1Result};
 pub use yasna_base::mode::BERMode;
