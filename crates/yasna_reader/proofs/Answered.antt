@@ -56,7 +56,7 @@ module _ {A V : Type 0} {E : A → A → Type 0} {B : BERMode → ℕ → A → 
 
   -- where the first part isn't read, the parts aren't
   pub part_err : (s : Reading) (e : ASN1Error) (s' : Reading) → NotTook p (S s.mode s.levels) s e s' → NotTook (p || q) (AnyPart S Q s.mode s.levels) s e s'
-  part_err s e s' x = record { tells = tells_first s.mode s.levels s.left e x.tells; kept = keeps_first s.mode s.levels s.left s'.kept x.kept; further = x.further }
+  part_err s e s' x = record { tells = tells_first s.mode s.levels s.left e x.tells; kept = keeps_first s.mode s.levels s.left s'.kept x.kept; further = x.further; same = x.same }
 
   tells_second : (m : BERMode) (n : ℕ) (v : A) (front rest s : List ℕ) → s ≡ front ++ rest → B m n v front → (e : ASN1Error) → Tells q (Q m n) rest e → Tells (p || q) (AnyPart S Q m n) s e
   tells_second m n v front rest s joined stands e x = record {
@@ -79,6 +79,7 @@ module _ {A V : Type 0} {E : A → A → Type 0} {B : BERMode → ℕ → A → 
       tells = tells_second s.mode s.levels v h.front h.rest s.left h.joined h.stands e x.tells;
       kept = keeps_second s.mode s.levels v h.front h.rest s.left h.joined h.stands s'.kept x.kept;
       further = omega (arith, x.further, ap length h.joined, length-append h.front h.rest);
+      same = x.same;
     }
 
   -- where both were read, the parts were

@@ -90,7 +90,10 @@ not_end_tag t other e = other (ap (λ (u : Tag). u.tag_number) e)
 pub replaced : {X Y : Type 0} {r x : X} {s y : Y} (B : X → Y → Type 0) → r ≡ x → s ≡ y → B x y → B r s
 replaced {r} {y} B e f h = subst (λ z. B r z) (sym f) (subst (λ z. B z y) (sym e) h)
 
-module _ {A : Type 0} (asks : Bool) (C : BERMode → ℕ → A → List ℕ → Type 0) (S : BERMode → ℕ → List ℕ → Type 0) (t : Tag) (not_end : t ≡ end_tag → ⊥) (s : Reading) where
+module _ {A : Type 0} (asks : Bool) (C : BERMode → ℕ → A → List ℕ → Type 0) (S : BERMode → ℕ → List ℕ → Type 0) (t : Tag) (not_end : t ≡ end_tag → ⊥) (s : Reading) (fresh : IsFresh s) where
+  tagless : (k : Option ASN1Error) → record (untagged s) { kept = k } ≡ record s { kept = k }
+  tagless k = ap {A = Option Tag} {B = Reading} (λ u. record s { kept = k; tag = u }) (sym fresh.1)
+
   -- an answer that was kept, where no front of the contents is what they are to be
   kept_failure : (c : List ℕ) (after : Option (List ℕ)) → OpensAt s.mode t Constructed s.left c after → (e : ASN1Error) → ((kind_of e ≡ OutOfMemory → ⊥) → (d y r : List ℕ) → c ≡ d ++ y → EndsBefore after y r → S s.mode (s.levels - 1) d → ⊥) → (kind_of e ≡ OutOfMemory → asks ≡ true) → (r : Result A ASN1Error) (s' : Reading) → Fails e (untagged s) r s' → Decodes asks (Enclosed C t) (AnyEnclosed S t) s r s'
   kept_failure c after o e none memory r s' h =
@@ -102,51 +105,50 @@ module _ {A : Type 0} (asks : Bool) (C : BERMode → ℕ → A → List ℕ → 
       memory = memory;
     } in
     replaced (Decodes asks (Enclosed C t) (AnyEnclosed S t) s) h.answer h.state
-      (record { tells = T; kept = T; further = omega arith }, λ i. absurd (not_at_end t s.left not_end i (opens_begins s.mode t Constructed s.left c after o)))
+      (record { tells = T; kept = T; further = omega arith; same = tagless (Some e) }, λ i. absurd (not_at_end t s.left not_end i (opens_begins s.mode t Constructed s.left c after o)))
 
   contents_failure : (c : List ℕ) (after : Option (List ℕ)) → OpensAt s.mode t Constructed s.left c after → (e : ASN1Error) → NotContents asks (S s.mode (s.levels - 1)) (inside s c) e → (r : Result A ASN1Error) (s' : Reading) → Fails e (untagged s) r s' → Decodes asks (Enclosed C t) (AnyEnclosed S t) s r s'
   contents_failure c after o e x = kept_failure c after o e (λ q d y r i j. x.none q d y i (end_behind after y r j)) x.memory
 
-  module _ (fresh : IsFresh s) where
-    left_behind : (c : List ℕ) (left : Reading) (v : A) → (x : TookContents (C s.mode (s.levels - 1)) (S s.mode (s.levels - 1)) (inside s c) v left) → place_in c left.left ≡ x.took.rest
-    left_behind c left v x = ap (λ (z : Reading). place_in c z.left) x.took.left ∙ ap (λ z. place_in z x.took.rest) x.took.joined ∙ place_behind x.took.front x.took.rest
+  left_behind : (c : List ℕ) (left : Reading) (v : A) → (x : TookContents (C s.mode (s.levels - 1)) (S s.mode (s.levels - 1)) (inside s c) v left) → place_in c left.left ≡ x.took.rest
+  left_behind c left v x = ap (λ (z : Reading). place_in c z.left) x.took.left ∙ ap (λ z. place_in z x.took.rest) x.took.joined ∙ place_behind x.took.front x.took.rest
 
-    settled : (c : List ℕ) (after : Option (List ℕ)) → OpensAt s.mode t Constructed s.left c after → 1 ≤ s.levels → (k : Option ASN1Error) (own : Result A ASN1Error) (left : Reading) → DecodesContents asks C S (inside s c) (unless_kept k own) left → (r : Result A ASN1Error) (s' : Reading) → Left after c k left.left own (untagged s) r s' → Decodes asks (Enclosed C t) (AnyEnclosed S t) s r s'
-    settled c after o l (Some e) own left x r s' h = contents_failure c after o e x r s' h
-    settled c after o l None (Err e) left x r s' h = contents_failure c after o e x r s' h
-    settled c after o l None (Ok v) left x r s' (inl h) =
-      let at = left_behind c left v x in
-      let w = closed s.mode t Constructed s.left c after o x.took.front x.took.rest h.rest x.took.joined (subst (λ z. EndsBefore after z h.rest) at h.ends) in
-      replaced (Decodes asks (Enclosed C t) (AnyEnclosed S t) s) h.answer h.state (record {
-        front = w.bytes; rest = h.rest; joined = w.joined;
-        stands = around C t s.mode s.levels v w.bytes l (record { contents = x.took.front; element = w.element; meaning = x.took.stands });
-        left = ap (λ u. record s { left = h.rest; tag = u }) (sym fresh.1);
-      })
-    settled c after o l None (Ok v) left x r s' (inr h) = kept_failure c after o h.error (λ q d y u i j k.
-      let f = x.ends d y i (end_behind after y u j) k in
-      let g : x.took.rest ≡ y = append_same x.took.front x.took.rest y (sym x.took.joined ∙ i ∙ ap (λ z. z ++ y) f) in
-      elim h.open_end [
-        | inl before ↦ omega (arith, before, ap length x.took.joined, length-append x.took.front x.took.rest, ap (λ (z : Reading). length z.left) x.took.left)
-        | inr wrong ↦ wrong (subst (λ z. EndsAt after z) (sym (left_behind c left v x ∙ g)) (ends_at after y u j))
-      ]) (λ q. absurd (plain_not_memory h.plain q)) r s' h.fails
+  settled : (c : List ℕ) (after : Option (List ℕ)) → OpensAt s.mode t Constructed s.left c after → 1 ≤ s.levels → (k : Option ASN1Error) (own : Result A ASN1Error) (left : Reading) → DecodesContents asks C S (inside s c) (unless_kept k own) left → (r : Result A ASN1Error) (s' : Reading) → Left after c k left.left own (untagged s) r s' → Decodes asks (Enclosed C t) (AnyEnclosed S t) s r s'
+  settled c after o l (Some e) own left x r s' h = contents_failure c after o e x r s' h
+  settled c after o l None (Err e) left x r s' h = contents_failure c after o e x r s' h
+  settled c after o l None (Ok v) left x r s' (inl h) =
+    let at = left_behind c left v x in
+    let w = closed s.mode t Constructed s.left c after o x.took.front x.took.rest h.rest x.took.joined (subst (λ z. EndsBefore after z h.rest) at h.ends) in
+    replaced (Decodes asks (Enclosed C t) (AnyEnclosed S t) s) h.answer h.state (record {
+      front = w.bytes; rest = h.rest; joined = w.joined;
+      stands = around C t s.mode s.levels v w.bytes l (record { contents = x.took.front; element = w.element; meaning = x.took.stands });
+      left = ap (λ u. record s { left = h.rest; tag = u }) (sym fresh.1);
+    })
+  settled c after o l None (Ok v) left x r s' (inr h) = kept_failure c after o h.error (λ q d y u i j k.
+    let f = x.ends d y i (end_behind after y u j) k in
+    let g : x.took.rest ≡ y = append_same x.took.front x.took.rest y (sym x.took.joined ∙ i ∙ ap (λ z. z ++ y) f) in
+    elim h.open_end [
+      | inl before ↦ omega (arith, before, ap length x.took.joined, length-append x.took.front x.took.rest, ap (λ (z : Reading). length z.left) x.took.left)
+      | inr wrong ↦ wrong (subst (λ z. EndsAt after z) (sym (left_behind c left v x ∙ g)) (ends_at after y u j))
+    ]) (λ q. absurd (plain_not_memory h.plain q)) r s' h.fails
 
-    refused_at : (k : Refusal) → RefusesHead OnlyConstructed s.mode s.levels t s.left k → Tells asks (AnyEnclosed S t s.mode s.levels) s.left (error_of k.kind) → (w : Bool) → k.moved ≡ w → NotTook asks (AnyEnclosed S t s.mode s.levels) s (error_of k.kind) (refusing w (untagged s) (error_of k.kind)) × IsQuietAtEnd s (error_of k.kind) (refusing w (untagged s) (error_of k.kind))
-    refused_at k h T true e = (record { tells = T; kept = T; further = omega arith }, λ i. absurd (h.moved e (at_end_elsewhere t s.left not_end i)))
-    refused_at k h T false e = (
-      record { tells = T; kept = subst (λ z. KeptTells asks (AnyEnclosed S t s.mode s.levels) s.left z) (sym fresh.0) tt; further = omega arith },
-      λ i. (ap (λ u. record s { tag = u }) (sym fresh.1), plain_of k.kind (λ f. not_at_end t s.left not_end i (h.too_deep f).1) h.in_memory))
+  refused_at : (k : Refusal) → RefusesHead OnlyConstructed s.mode s.levels t s.left k → Tells asks (AnyEnclosed S t s.mode s.levels) s.left (error_of k.kind) → (w : Bool) → k.moved ≡ w → NotTook asks (AnyEnclosed S t s.mode s.levels) s (error_of k.kind) (refusing w (untagged s) (error_of k.kind)) × IsQuietAtEnd s (error_of k.kind) (refusing w (untagged s) (error_of k.kind))
+  refused_at k h T true e = (record { tells = T; kept = T; further = omega arith; same = tagless (Some (error_of k.kind)) }, λ i. absurd (h.moved e (at_end_elsewhere t s.left not_end i)))
+  refused_at k h T false e = (
+    record { tells = T; kept = subst (λ z. KeptTells asks (AnyEnclosed S t s.mode s.levels) s.left z) (sym fresh.0) tt; further = omega arith; same = tagless s.kept },
+    λ i. (ap (λ u. record s { tag = u }) (sym fresh.1), plain_of k.kind (λ f. not_at_end t s.left not_end i (h.too_deep f).1) h.in_memory))
 
-    refused : (r : Result A ASN1Error) (s' : Reading) → NotEntered t s r s' → Decodes asks (Enclosed C t) (AnyEnclosed S t) s r s'
-    refused r s' h =
-      let e : ASN1Error = error_of h.refusal.kind in
-      let T : Tells asks (AnyEnclosed S t s.mode s.levels) s.left e = record {
-        none = λ q b v i j.
-          let w = within {A = Unit {0}} (λ m n u c. S m n c) t s.mode s.levels tt b j in
-          let o = element_at s.mode t Constructed w.1.contents b s.left v w.1.element i in
-          h.refuses.none Constructed o.contents o.after refl w.0 o.opens;
-        memory = λ q. absurd (h.refuses.in_memory q);
-      } in
-      replaced (Decodes asks (Enclosed C t) (AnyEnclosed S t) s) h.answer h.state (refused_at h.refusal h.refuses T h.refusal.moved refl)
+  refused : (r : Result A ASN1Error) (s' : Reading) → NotEntered t s r s' → Decodes asks (Enclosed C t) (AnyEnclosed S t) s r s'
+  refused r s' h =
+    let e : ASN1Error = error_of h.refusal.kind in
+    let T : Tells asks (AnyEnclosed S t s.mode s.levels) s.left e = record {
+      none = λ q b v i j.
+        let w = within {A = Unit {0}} (λ m n u c. S m n c) t s.mode s.levels tt b j in
+        let o = element_at s.mode t Constructed w.1.contents b s.left v w.1.element i in
+        h.refuses.none Constructed o.contents o.after refl w.0 o.opens;
+      memory = λ q. absurd (h.refuses.in_memory q);
+    } in
+    replaced (Decodes asks (Enclosed C t) (AnyEnclosed S t) s) h.answer h.state (refused_at h.refusal h.refuses T h.refusal.moved refl)
 
 -- an element whose contents are read up to their end
 pub element : {A : Type 0} (asks : Bool) (C : BERMode → ℕ → A → List ℕ → Type 0) (S : BERMode → ℕ → List ℕ → Type 0) (P : Reading → Result A ASN1Error → Reading → Type 0) → ((s : Reading) (x : Result A ASN1Error) (left : Reading) → IsFresh s → P s x left → DecodesContents asks C S s (unless_kept left.kept x) left) → (t : Tag) → (t ≡ end_tag → ⊥) → (s : Reading) → IsFresh s → (r : Result A ASN1Error) (s' : Reading) → PartsBy P t s r s' → Decodes asks (Enclosed C t) (AnyEnclosed S t) s r s'

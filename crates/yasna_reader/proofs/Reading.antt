@@ -216,6 +216,10 @@ module _ {A : Type 0} (asks : Bool) (B : ℕ → BERMode → Tag → A → List 
     none = λ h b z g w. let a = asked s.mode s.levels b w in y.refuses.none (λ i. h (sym (y.kind) ∙ i)) a.0 b z g a.1;
     memory = λ i. may s.levels s.left (y.refuses.memory (y.kind ∙ i)) }
 
+  tagless : (b : Bool) (s : Reading) (e : ASN1Error) → s.tag ≡ None → refusing b (untagged s) e ≡ record s { left = (refusing b (untagged s) e).left; kept = (refusing b (untagged s) e).kept }
+  tagless true s e f = ap {B = Reading} (λ u. record s { kept = Some e; tag = u }) (sym f)
+  tagless false s e f = ap {B = Reading} (λ u. record s { tag = u }) (sym f)
+
   refused : (s : Reading) (e : ASN1Error) (s' : Reading) → IsFresh s → RefusedAs (B s.levels s.mode t) (D s.levels s.mode t s.left) (M s.levels t s.left) t s e s' → NotTook asks (S' s.mode s.levels) s e s'
   refused s e s' f y =
     let i = ap (λ z. length z.left) y.state in
@@ -223,7 +227,8 @@ module _ {A : Type 0} (asks : Bool) (B : ℕ → BERMode → Tag → A → List 
     record {
       tells = tells s e s' y;
       kept = subst (λ z. KeptTells asks (S' s.mode s.levels) s.left z.kept) (sym y.state) (kept_as asks (S' s.mode s.levels) y.refusal.moved s e f.0 (tells s e s' y));
-      further = omega arith }
+      further = omega arith;
+      same = subst (λ z. z ≡ record s { left = z.left; kept = z.kept }) (sym y.state) (tagless y.refusal.moved s e f.1) }
 
   quiet : (s : Reading) (e : ASN1Error) (s' : Reading) → s.tag ≡ None → RefusedAs (B s.levels s.mode t) (D s.levels s.mode t s.left) (M s.levels t s.left) t s e s' → IsQuietAtEnd s e s'
   quiet s e s' f y a =

@@ -32,6 +32,7 @@ pub record NotTook (asks : Bool) (S : List ℕ → Type 0) (s : Reading) (e : AS
   pub tells : Tells asks S s.left e
   pub kept : KeptTells asks S s.left s'.kept
   pub further : length s'.left ≤ length s.left
+  pub same : s' ≡ record s { left = s'.left; kept = s'.kept }
 
 -- at an end it moves and keeps nothing, and e isn't of memory or of depth
 abbrev pub IsQuietAtEnd : Reading → ASN1Error → Reading → Type 0
