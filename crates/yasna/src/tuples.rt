@@ -8,6 +8,7 @@ ghost use Rattle.yasna_base.specs.Sequence.{sequence_tag, Enclosed, AnyEnclosed,
 ghost use Rattle.yasna_base.specs.Coding.{ArePartsCoding};
 ghost use Rattle.yasna_base.proofs.Codings.{part, no_part, tuple};
 ghost use Rattle.yasna_reader.specs.View.{IsFresh};
+ghost use Rattle.yasna_reader.specs.Lending.{part_of};
 ghost use Rattle.yasna_reader.specs.Decodes.{Decodes, DecodesParts};
 
 use yasna_base::error::ASN1Result;
@@ -31,8 +32,8 @@ pub trait TupleParts: Sized + Drop {
 
     /// Reads the parts, one after the other.
     fn read_parts(seq: &mut BERReaderSeq) -> ASN1Result<Self>
-        requires { IsFresh seq.old.reader }
-        ensures { DecodesParts parts_ask parts any_parts seq.old.reader result seq.new.reader };
+        requires { IsFresh (part_of seq.old) }
+        ensures { DecodesParts parts_ask parts any_parts (part_of seq.old) result (part_of seq.new) };
 
     // The laws of reading.
     ghost lawful: { ArePartsCoding same_parts parts any_parts };

@@ -25,10 +25,10 @@ module _ {A : Type 0} (asks : Bool) (C : BERMode → ℕ → A → List ℕ → 
 
   alone_contents : ((m : BERMode) (n : ℕ) (v : A) (c : List ℕ) → C m n v c → S m n c) → ((m : BERMode) (n k : ℕ) (b c r s : List ℕ) → S m n b → S m k c → b ++ r ≡ c ++ s → b ≡ c) → (s : Reading) (r : Result A ASN1Error) (s' : Reading) → IsFresh s → DecodesParts asks C S s r s' → DecodesContents asks C S s (unless_kept s'.kept r) s'
   alone_contents among alone s (Ok v) s' fresh h =
-    subst (λ k. DecodesContents asks C S s (unless_kept k (Ok v)) s') (sym (ap (λ (z : Reading). z.kept) h.left ∙ fresh.0)) (record {
-      took = h;
-      ends = λ d x i j k. alone s.mode s.levels s.levels d h.front x h.rest k (among s.mode s.levels v h.front h.stands) (sym i ∙ h.joined);
-    })
+      subst (λ k. DecodesContents asks C S s (unless_kept k (Ok v)) s') (sym (ap (λ (z : Reading). z.kept) h.left ∙ fresh.0)) (record {
+        took = h;
+        ends = λ d x i j k. alone s.mode s.levels s.levels d h.front x h.rest k (among s.mode s.levels v h.front h.stands) (sym i ∙ h.joined);
+      })
   alone_contents among alone s (Err e) s' fresh h = kept_contents s'.kept s e s' h.tells h.kept
 
 -- the parts of a tuple are contents that were read up to their end
@@ -61,9 +61,9 @@ module _ {A V : Type 0} {E : A → A → Type 0} {B : BERMode → ℕ → A → 
   tells_second : (m : BERMode) (n : ℕ) (v : A) (front rest s : List ℕ) → s ≡ front ++ rest → B m n v front → (e : ASN1Error) → Tells q (Q m n) rest e → Tells (p || q) (AnyPart S Q m n) s e
   tells_second m n v front rest s joined stands e x = record {
     none = λ k b r i j.
-      let f : front ++ rest ≡ j.front ++ (j.rest ++ r) = sym joined ∙ i ∙ ap (λ z. z ++ r) j.joined ∙ append_assoc j.front j.rest r in
-      let g = laws.alone m n n front j.front rest (j.rest ++ r) (laws.among m n v front stands) j.here f in
-      x.none k j.rest r (append_same j.front rest (j.rest ++ r) (sym (ap (λ z. z ++ rest) g) ∙ f)) j.more;
+        let f : front ++ rest ≡ j.front ++ (j.rest ++ r) = sym joined ∙ i ∙ ap (λ z. z ++ r) j.joined ∙ append_assoc j.front j.rest r in
+        let g = laws.alone m n n front j.front rest (j.rest ++ r) (laws.among m n v front stands) j.here f in
+        x.none k j.rest r (append_same j.front rest (j.rest ++ r) (sym (ap (λ z. z ++ rest) g) ∙ f)) j.more;
     memory = λ k. or_right p q (x.memory k);
   }
 
@@ -74,32 +74,32 @@ module _ {A V : Type 0} {E : A → A → Type 0} {B : BERMode → ℕ → A → 
   -- where the first part was read and the others aren't, the parts aren't
   pub others_err : (s : Reading) (v : A) (m : Reading) → Took (B s.mode s.levels) s v m → (e : ASN1Error) (s' : Reading) → NotTook q (Q m.mode m.levels) m e s' → NotTook (p || q) (AnyPart S Q s.mode s.levels) s e s'
   others_err s v m h e s' k =
-    let x = subst (λ z. NotTook q (Q z.mode z.levels) z e s') h.left k in
-    record {
-      tells = tells_second s.mode s.levels v h.front h.rest s.left h.joined h.stands e x.tells;
-      kept = keeps_second s.mode s.levels v h.front h.rest s.left h.joined h.stands s'.kept x.kept;
-      further = omega (arith, x.further, ap length h.joined, length-append h.front h.rest);
-      same = x.same;
-    }
+      let x = subst (λ z. NotTook q (Q z.mode z.levels) z e s') h.left k in
+      record {
+        tells = tells_second s.mode s.levels v h.front h.rest s.left h.joined h.stands e x.tells;
+        kept = keeps_second s.mode s.levels v h.front h.rest s.left h.joined h.stands s'.kept x.kept;
+        further = omega (arith, x.further, ap length h.joined, length-append h.front h.rest);
+        same = x.same;
+      }
 
   -- where both were read, the parts were
   pub others_ok : (s : Reading) (v : A) (m : Reading) → Took (B s.mode s.levels) s v m → (w : V) (s' : Reading) → Took (C m.mode m.levels) m w s' → Took (PartOf B C s.mode s.levels) s (v, w) s'
   others_ok s v m h w s' k =
-    let x = subst (λ z. Took (C z.mode z.levels) z w s') h.left k in
-    record {
-      front = h.front ++ x.front;
-      rest = x.rest;
-      joined = h.joined ∙ ap (λ z. h.front ++ z) x.joined ∙ sym (append_assoc h.front x.front x.rest);
-      stands = record { front = h.front; rest = x.front; joined = refl; here = h.stands; more = x.stands };
-      left = x.left;
-    }
+      let x = subst (λ z. Took (C z.mode z.levels) z w s') h.left k in
+      record {
+        front = h.front ++ x.front;
+        rest = x.rest;
+        joined = h.joined ∙ ap (λ z. h.front ++ z) x.joined ∙ sym (append_assoc h.front x.front x.rest);
+        stands = record { front = h.front; rest = x.front; joined = refl; here = h.stands; more = x.stands };
+        left = x.left;
+      }
 
   module _ {U : Type 0} (make : A × V → U) where
     others : (s : Reading) (v : A) (m : Reading) → Took (B s.mode s.levels) s v m → (r : Result U ASN1Error) (s' : Reading) → DecodesParts q (Made C (λ w. make (v, w))) Q m r s' → DecodesParts (p || q) (Made (PartOf B C) make) (AnyPart S Q) s r s'
     others s v m h (Ok u) s' k =
-      let w = k.stands.0 in
-      let x = others_ok s v m h w s' (record { front = k.front; rest = k.rest; joined = k.joined; stands = k.stands.1; left = k.left }) in
-      record { front = x.front; rest = x.rest; joined = x.joined; stands = ((v, w), x.stands, k.stands.2); left = x.left }
+        let w = k.stands.0 in
+        let x = others_ok s v m h w s' (record { front = k.front; rest = k.rest; joined = k.joined; stands = k.stands.1; left = k.left }) in
+        record { front = x.front; rest = x.rest; joined = x.joined; stands = ((v, w), x.stands, k.stands.2); left = x.left }
     others s v m h (Err e) s' k = others_err s v m h e s' k
 
     stepped : (K : A → Reading → Result U ASN1Error → Reading → Type 0) (s : Reading) → IsFresh s → (x : Result A ASN1Error) (m : Reading) → Decodes p B S s x m → (r : Result U ASN1Error) (s' : Reading) → ((v : A) → IsFresh m → K v m r s' → DecodesParts q (Made C (λ w. make (v, w))) Q m r s') → AndIn K x m r s' → DecodesParts (p || q) (Made (PartOf B C) make) (AnyPart S Q) s r s'
@@ -150,7 +150,9 @@ decodes_along f asks B S s x r s' h e = along_by f asks B S s r s' (subst (λ z.
 
 made : {U A : Type 0} (f : U → A) (make : A → U) → ((w : A) → f (make w) ≡ w) → (asks : Bool) (C : BERMode → ℕ → A → List ℕ → Type 0) (S : BERMode → ℕ → List ℕ → Type 0) (s : Reading) (r : Result U ASN1Error) (s' : Reading) → DecodesParts asks (Made C make) S s r s' → DecodesParts {A = U} asks (λ m n v c. C m n (f v) c) S s r s'
 made f make back asks C S s (Ok v) s' h = record {
-  front = h.front; rest = h.rest; joined = h.joined;
+  front = h.front;
+  rest = h.rest;
+  joined = h.joined;
   stands = subst (λ w. C s.mode s.levels w h.front) (sym (ap f h.stands.2 ∙ back h.stands.0)) h.stands.1;
   left = h.left;
 }
@@ -167,13 +169,13 @@ last asks C S make s (Err e) m h r s' k = replaced (DecodesParts asks (Made C ma
 -- the first part by Decodes, and where it stood the others by DecodesParts
 pub parts_by : {A V : Type 0} {E : A → A → Type 0} {B : BERMode → ℕ → A → List ℕ → Type 0} {S : BERMode → ℕ → List ℕ → Type 0} → IsCoding E B S → (p q : Bool) (C : BERMode → ℕ → V → List ℕ → Type 0) (Q : BERMode → ℕ → List ℕ → Type 0) (s : Reading) → IsFresh s → (r : Result (A × V) ASN1Error) (s' : Reading) → Step (Decodes p B S) (λ a. Step (DecodesParts q C Q) (λ w. Done (a, w))) s r s' → DecodesParts (p || q) (PartOf B C) (AnyPart S Q) s r s'
 parts_by {B} {S} laws p q C Q s fresh r s' h =
-  made (λ v. v) (λ v. v) (λ v. refl) (p || q) (PartOf B C) (AnyPart S Q) s r s'
+    made (λ v. v) (λ v. v) (λ v. refl) (p || q) (PartOf B C) (AnyPart S Q) s r s'
     (stepped laws p q C Q (λ v. v) (λ a. Step (DecodesParts q C Q) (λ w. Done (a, w))) s fresh h.0 h.1 h.2 r s' (λ a now k. last q C Q (λ w. (a, w)) h.1 k.0 k.1 k.2 r s' k.3) h.3)
 
 -- an element around parts that are read one by one and make a value
 pub steps_sequence : {U A : Type 0} {E : A → A → Type 0} {C : BERMode → ℕ → A → List ℕ → Type 0} {S : BERMode → ℕ → List ℕ → Type 0} {asks : Bool} {P : Reading → Result U ASN1Error → Reading → Type 0} (f : U → A) (make : A → U) → ((w : A) → f (make w) ≡ w) → ArePartsCoding E C S → IsPartsDecoder asks C S make P → (t : Tag) → (t ≡ end_tag → ⊥) → (s : Reading) → IsFresh s → (r : Result U ASN1Error) (s' : Reading) → PartsBy P t s r s' → Decodes {A = U} asks (λ m n v b. Enclosed C t m n (f v) b) (AnyEnclosed S t) s r s'
 steps_sequence {C} {S} {asks} {P} f make back laws parts t not_end s fresh r s' h =
-  decodes_map asks (Enclosed (λ m n v c. C m n (f v) c) t) (λ m n v b. Enclosed C t m n (f v) b) (AnyEnclosed S t) (enclosed_seen f C t) s r s'
+    decodes_map asks (Enclosed (λ m n v c. C m n (f v) c) t) (λ m n v b. Enclosed C t m n (f v) b) (AnyEnclosed S t) (enclosed_seen f C t) s r s'
     (element asks (λ m n v c. C m n (f v) c) S P (λ z x m i k. alone_contents asks (λ m n v c. C m n (f v) c) S (λ m n v c. laws.among m n (f v) c) laws.alone z x m i (made f make back asks C S z x m (parts.decodes z x m i k))) t not_end s fresh r s' h)
 
 kept_none : (f : ASN1Error) → ◌≡◌ {A = Option ASN1Error} (Some f) None → ⊥
@@ -184,8 +186,8 @@ module _ {A : Type 0} {E : A → A → Type 0} {B : BERMode → ℕ → A → Li
   all_read v front [] joined stands = subst (λ z. B m 101 v z) (sym (joined ∙ append-nil front)) stands
   all_read v front (x ∷ rest) joined stands = record {
     none = λ k i.
-      let e = laws.alone m 101 101 s front [] (x ∷ rest) i (laws.among m 101 v front stands) (append-nil s ∙ joined) in
-      omega (arith, ap length e, ap length joined, length-append front (x ∷ rest));
+        let e = laws.alone m 101 101 s front [] (x ∷ rest) i (laws.among m 101 v front stands) (append-nil s ∙ joined) in
+        omega (arith, ap length e, ap length joined, length-append front (x ∷ rest));
     memory = λ k. absurd (cc);
     quiet = λ i k. absurd (cc);
   }
@@ -196,7 +198,7 @@ module _ {A : Type 0} {E : A → A → Type 0} {B : BERMode → ℕ → A → Li
 
   settled : (own : Result A ASN1Error) (left : Reading) → Decodes asks B S (starts s m) own left → Decoded asks B S m s (parsed own left)
   settled (Ok v) left h =
-    subst (λ (z : Reading). Decoded asks B S m s (unless_kept z.kept (ended (Ok v) z.left))) (sym h.left) (all_read v h.front h.rest h.joined h.stands)
+      subst (λ (z : Reading). Decoded asks B S m s (unless_kept z.kept (ended (Ok v) z.left))) (sym h.left) (all_read v h.front h.rest h.joined h.stands)
   settled (Err e) left h = not_read left.kept e h.0.tells h.0.kept (λ i. (ap (λ (z : Reading). z.kept) (h.1 i).0, plain_not_memory (h.1 i).1))
 
   -- whole bytes, by what the callback does to a reading of them

@@ -15,8 +15,14 @@ module _ {F A : Type 0} (g : Once F (MutBor (Parts Reading) × Unit {0}) (Result
   entered (Some e) t s r s' h = h
   entered None t s r s' (inr x) = inr x
   entered None t s r s' (inl x) = inl (record {
-    level = x.level; contents = x.contents; after = x.after; opens = x.opens; own = x.own; left = x.left;
-    says = says (inside s x.contents) x.own x.left (refl, refl) x.ran; closed = x.closed;
+    level = x.level;
+    contents = x.contents;
+    after = x.after;
+    opens = x.opens;
+    own = x.own;
+    left = x.left;
+    says = says (inside s x.contents) x.own x.left (refl, refl) x.ran;
+    closed = x.closed;
   })
 
   -- where each run of the callback on a fresh reading satisfies P, its contents were read as P says

@@ -33,12 +33,12 @@ record Behind (c d : List ℕ) (after : Option (List ℕ)) (r : List ℕ) : Type
 -- an element that stands where a header was read has its contents there
 opened : (m : BERMode) (t : Tag) (p : PCBit) (s c : List ℕ) (after : Option (List ℕ)) → OpensAt m t p s c after → (d b r : List ℕ) → Element m t p d b → s ≡ b ++ r → Behind c d after r
 opened m t p s c (Some a) x d b r y e =
-  let h = counted_header m m t t p p (length c) x.l d b (c ++ a) r x.spelled y (sym x.joined ∙ e) in
-  let f = fronts_same c d a r h.count h.behind in
-  record { y = []; joined = f.0 ∙ sym (append-nil d); ends = (refl, sym f.1) }
+    let h = counted_header m m t t p p (length c) x.l d b (c ++ a) r x.spelled y (sym x.joined ∙ e) in
+    let f = fronts_same c d a r h.count h.behind in
+    record { y = []; joined = f.0 ∙ sym (append-nil d); ends = (refl, sym f.1) }
 opened m t p s c None x d b r y e =
-  let h = uncounted_header m t t p p d b c r y (sym x.joined ∙ e) in
-  record { y = 0 ∷ 0 ∷ r; joined = h.behind; ends = refl }
+    let h = uncounted_header m t t p p d b c r y (sym x.joined ∙ e) in
+    record { y = 0 ∷ 0 ∷ r; joined = h.behind; ends = refl }
 
 -- where contents end behind a header, an element stands
 record Stands (m : BERMode) (t : Tag) (p : PCBit) (s d r : List ℕ) : Type 0 where
@@ -48,12 +48,12 @@ record Stands (m : BERMode) (t : Tag) (p : PCBit) (s d r : List ℕ) : Type 0 wh
 
 closed : (m : BERMode) (t : Tag) (p : PCBit) (s c : List ℕ) (after : Option (List ℕ)) → OpensAt m t p s c after → (d y r : List ℕ) → c ≡ d ++ y → EndsBefore after y r → Stands m t p s d r
 closed m t p s c (Some a) x d y r e h =
-  let f : c ≡ d = e ∙ ap (λ z. d ++ z) h.0 ∙ append-nil d in
-  record {
-    bytes = identifier t p ++ (x.l ++ d);
-    joined = x.joined ∙ ap (λ z. identifier t p ++ (x.l ++ (z ++ a))) f ∙ ap (λ z. identifier t p ++ (x.l ++ (d ++ z))) (sym h.1) ∙ simp append_assoc;
-    element = definite (record { taken = x.taken; l = x.l; spelled = rw (← f) x.spelled; joined = refl });
-  }
+    let f : c ≡ d = e ∙ ap (λ z. d ++ z) h.0 ∙ append-nil d in
+    record {
+      bytes = identifier t p ++ (x.l ++ d);
+      joined = x.joined ∙ ap (λ z. identifier t p ++ (x.l ++ (z ++ a))) f ∙ ap (λ z. identifier t p ++ (x.l ++ (d ++ z))) (sym h.1) ∙ simp append_assoc;
+      element = definite (record { taken = x.taken; l = x.l; spelled = rw (← f) x.spelled; joined = refl });
+    }
 closed m t p s c None x d y r e h = record {
   bytes = identifier t p ++ (128 ∷ (d ++ end_of_contents));
   joined = x.joined ∙ ap (λ z. identifier t p ++ (128 ∷ z)) (e ∙ ap (λ z. d ++ z) h) ∙ simp append_assoc;
@@ -79,8 +79,8 @@ within C t m (suc n) v b h = let e : n ≡ suc n - 1 = omega arith in (omega ari
 -- what is left behind a front is found by its length
 place_behind : (b r : List ℕ) → place_in (b ++ r) r ≡ r
 place_behind b r =
-  let e : length (b ++ r) - length r ≡ length b = omega (arith, length-append b r) in
-  ap (λ n. drop n (b ++ r)) e ∙ drop-append_seam b r
+    let e : length (b ++ r) - length r ≡ length b = omega (arith, length-append b r) in
+    ap (λ n. drop n (b ++ r)) e ∙ drop-append_seam b r
 
 -- a tag with a number other than 0 isn't that of the end of contents
 pub not_end_tag : (t : Tag) → (t.tag_number ≡ 0 → ⊥) → t ≡ end_tag → ⊥
@@ -97,14 +97,14 @@ module _ {A : Type 0} (asks : Bool) (C : BERMode → ℕ → A → List ℕ → 
   -- an answer that was kept, where no front of the contents is what they are to be
   kept_failure : (c : List ℕ) (after : Option (List ℕ)) → OpensAt s.mode t Constructed s.left c after → (e : ASN1Error) → ((kind_of e ≡ OutOfMemory → ⊥) → (d y r : List ℕ) → c ≡ d ++ y → EndsBefore after y r → S s.mode (s.levels - 1) d → ⊥) → (kind_of e ≡ OutOfMemory → asks ≡ true) → (r : Result A ASN1Error) (s' : Reading) → Fails e (untagged s) r s' → Decodes asks (Enclosed C t) (AnyEnclosed S t) s r s'
   kept_failure c after o e none memory r s' h =
-    let T : Tells asks (AnyEnclosed S t s.mode s.levels) s.left e = record {
-      none = λ q b v i j.
-        let w = (within {A = Unit {0}} (λ m n u c. S m n c) t s.mode s.levels tt b j).1 in
-        let x = opened s.mode t Constructed s.left c after o w.contents b v w.element i in
-        none q w.contents x.y v x.joined x.ends w.meaning;
-      memory = memory;
-    } in
-    replaced (Decodes asks (Enclosed C t) (AnyEnclosed S t) s) h.answer h.state
+      let T : Tells asks (AnyEnclosed S t s.mode s.levels) s.left e = record {
+        none = λ q b v i j.
+            let w = (within {A = Unit {0}} (λ m n u c. S m n c) t s.mode s.levels tt b j).1 in
+            let x = opened s.mode t Constructed s.left c after o w.contents b v w.element i in
+            none q w.contents x.y v x.joined x.ends w.meaning;
+        memory = memory;
+      } in
+      replaced (Decodes asks (Enclosed C t) (AnyEnclosed S t) s) h.answer h.state
       (record { tells = T; kept = T; further = omega arith; same = tagless (Some e) }, λ i. absurd (not_at_end t s.left not_end i (opens_begins s.mode t Constructed s.left c after o)))
 
   contents_failure : (c : List ℕ) (after : Option (List ℕ)) → OpensAt s.mode t Constructed s.left c after → (e : ASN1Error) → NotContents asks (S s.mode (s.levels - 1)) (inside s c) e → (r : Result A ASN1Error) (s' : Reading) → Fails e (untagged s) r s' → Decodes asks (Enclosed C t) (AnyEnclosed S t) s r s'
@@ -117,44 +117,47 @@ module _ {A : Type 0} (asks : Bool) (C : BERMode → ℕ → A → List ℕ → 
   settled c after o l (Some e) own left x r s' h = contents_failure c after o e x r s' h
   settled c after o l None (Err e) left x r s' h = contents_failure c after o e x r s' h
   settled c after o l None (Ok v) left x r s' (inl h) =
-    let at = left_behind c left v x in
-    let w = closed s.mode t Constructed s.left c after o x.took.front x.took.rest h.rest x.took.joined (subst (λ z. EndsBefore after z h.rest) at h.ends) in
-    replaced (Decodes asks (Enclosed C t) (AnyEnclosed S t) s) h.answer h.state (record {
-      front = w.bytes; rest = h.rest; joined = w.joined;
-      stands = around C t s.mode s.levels v w.bytes l (record { contents = x.took.front; element = w.element; meaning = x.took.stands });
-      left = ap (λ u. record s { left = h.rest; tag = u }) (sym fresh.1);
-    })
+      let at = left_behind c left v x in
+      let w = closed s.mode t Constructed s.left c after o x.took.front x.took.rest h.rest x.took.joined (subst (λ z. EndsBefore after z h.rest) at h.ends) in
+      replaced (Decodes asks (Enclosed C t) (AnyEnclosed S t) s) h.answer h.state (record {
+        front = w.bytes;
+        rest = h.rest;
+        joined = w.joined;
+        stands = around C t s.mode s.levels v w.bytes l (record { contents = x.took.front; element = w.element; meaning = x.took.stands });
+        left = ap (λ u. record s { left = h.rest; tag = u }) (sym fresh.1);
+      })
   settled c after o l None (Ok v) left x r s' (inr h) = kept_failure c after o h.error (λ q d y u i j k.
-    let f = x.ends d y i (end_behind after y u j) k in
-    let g : x.took.rest ≡ y = append_same x.took.front x.took.rest y (sym x.took.joined ∙ i ∙ ap (λ z. z ++ y) f) in
-    elim h.open_end [
-      | inl before ↦ omega (arith, before, ap length x.took.joined, length-append x.took.front x.took.rest, ap (λ (z : Reading). length z.left) x.took.left)
-      | inr wrong ↦ wrong (subst (λ z. EndsAt after z) (sym (left_behind c left v x ∙ g)) (ends_at after y u j))
-    ]) (λ q. absurd (plain_not_memory h.plain q)) r s' h.fails
+      let f = x.ends d y i (end_behind after y u j) k in
+      let g : x.took.rest ≡ y = append_same x.took.front x.took.rest y (sym x.took.joined ∙ i ∙ ap (λ z. z ++ y) f) in
+      elim h.open_end [
+        | inl before ↦ omega (arith, before, ap length x.took.joined, length-append x.took.front x.took.rest, ap (λ (z : Reading). length z.left) x.took.left)
+        | inr wrong ↦ wrong (subst (λ z. EndsAt after z) (sym (left_behind c left v x ∙ g)) (ends_at after y u j))
+      ]) (λ q. absurd (plain_not_memory h.plain q)) r s' h.fails
 
   refused_at : (k : Refusal) → RefusesHead OnlyConstructed s.mode s.levels t s.left k → Tells asks (AnyEnclosed S t s.mode s.levels) s.left (error_of k.kind) → (w : Bool) → k.moved ≡ w → NotTook asks (AnyEnclosed S t s.mode s.levels) s (error_of k.kind) (refusing w (untagged s) (error_of k.kind)) × IsQuietAtEnd s (error_of k.kind) (refusing w (untagged s) (error_of k.kind))
   refused_at k h T true e = (record { tells = T; kept = T; further = omega arith; same = tagless (Some (error_of k.kind)) }, λ i. absurd (h.moved e (at_end_elsewhere t s.left not_end i)))
   refused_at k h T false e = (
     record { tells = T; kept = subst (λ z. KeptTells asks (AnyEnclosed S t s.mode s.levels) s.left z) (sym fresh.0) tt; further = omega arith; same = tagless s.kept },
-    λ i. (ap (λ u. record s { tag = u }) (sym fresh.1), plain_of k.kind (λ f. not_at_end t s.left not_end i (h.too_deep f).1) h.in_memory))
+    λ i. (ap (λ u. record s { tag = u }) (sym fresh.1), plain_of k.kind (λ f. not_at_end t s.left not_end i (h.too_deep f).1) h.in_memory),
+  )
 
   refused : (r : Result A ASN1Error) (s' : Reading) → NotEntered t s r s' → Decodes asks (Enclosed C t) (AnyEnclosed S t) s r s'
   refused r s' h =
-    let e : ASN1Error = error_of h.refusal.kind in
-    let T : Tells asks (AnyEnclosed S t s.mode s.levels) s.left e = record {
-      none = λ q b v i j.
-        let w = within {A = Unit {0}} (λ m n u c. S m n c) t s.mode s.levels tt b j in
-        let o = element_at s.mode t Constructed w.1.contents b s.left v w.1.element i in
-        h.refuses.none Constructed o.contents o.after refl w.0 o.opens;
-      memory = λ q. absurd (h.refuses.in_memory q);
-    } in
-    replaced (Decodes asks (Enclosed C t) (AnyEnclosed S t) s) h.answer h.state (refused_at h.refusal h.refuses T h.refusal.moved refl)
+      let e : ASN1Error = error_of h.refusal.kind in
+      let T : Tells asks (AnyEnclosed S t s.mode s.levels) s.left e = record {
+        none = λ q b v i j.
+            let w = within {A = Unit {0}} (λ m n u c. S m n c) t s.mode s.levels tt b j in
+            let o = element_at s.mode t Constructed w.1.contents b s.left v w.1.element i in
+            h.refuses.none Constructed o.contents o.after refl w.0 o.opens;
+        memory = λ q. absurd (h.refuses.in_memory q);
+      } in
+      replaced (Decodes asks (Enclosed C t) (AnyEnclosed S t) s) h.answer h.state (refused_at h.refusal h.refuses T h.refusal.moved refl)
 
 -- an element whose contents are read up to their end
 pub element : {A : Type 0} (asks : Bool) (C : BERMode → ℕ → A → List ℕ → Type 0) (S : BERMode → ℕ → List ℕ → Type 0) (P : Reading → Result A ASN1Error → Reading → Type 0) → ((s : Reading) (x : Result A ASN1Error) (left : Reading) → IsFresh s → P s x left → DecodesContents asks C S s (unless_kept left.kept x) left) → (t : Tag) → (t ≡ end_tag → ⊥) → (s : Reading) → IsFresh s → (r : Result A ASN1Error) (s' : Reading) → PartsBy P t s r s' → Decodes asks (Enclosed C t) (AnyEnclosed S t) s r s'
 element asks C S P says t not_end s fresh r s' h =
-  let k : EnteredBy P t s r s' ⊎ NotEntered t s r s' = subst (λ u. PartsUnlessKept None P (or_tag u t) s r s') fresh.1 (subst (λ z. PartsUnlessKept z P (tag_of s t) s r s') fresh.0 h.enters) in
-  elim k [
-    | inl x ↦ settled asks C S t not_end s fresh x.contents x.after x.opens x.level x.left.kept x.own x.left (says (inside s x.contents) x.own x.left (refl, refl) x.says) r s' x.closed
-    | inr x ↦ refused asks C S t not_end s fresh r s' x
-  ]
+    let k : EnteredBy P t s r s' ⊎ NotEntered t s r s' = subst (λ u. PartsUnlessKept None P (or_tag u t) s r s') fresh.1 (subst (λ z. PartsUnlessKept z P (tag_of s t) s r s') fresh.0 h.enters) in
+    elim k [
+      | inl x ↦ settled asks C S t not_end s fresh x.contents x.after x.opens x.level x.left.kept x.own x.left (says (inside s x.contents) x.own x.left (refl, refl) x.says) r s' x.closed
+      | inr x ↦ refused asks C S t not_end s fresh r s' x
+    ]

@@ -51,19 +51,21 @@ elsewhere_refuses P m n t s e f k o = record {
   moved = λ h. absurd (cc);
   too_deep = λ h. absurd (plain_not_deep k h);
   deep = λ d. absurd (begins_not_elsewhere d.1 f);
-  in_memory = plain_not_memory k }
+  in_memory = plain_not_memory k;
+}
 
 -- no identifier stands there
 pub broken_refuses : (P : PCBit → Type 0) (m : BERMode) (n : ℕ) (t : Tag) (s : List ℕ) (e : Refusal) → ((u : Tag) (p : PCBit) (r : List ℕ) → u.tag_number < 2 ^ 64 → s ≡ identifier u p ++ r → ⊥) → (s ≡ [] → ⊥) → t.tag_number < 2 ^ 64 → IsPlain e.kind → e.moved ≡ true → RefusesHead P m n t s e
 broken_refuses P m n t s e h i b k o =
-  let other : (u : Tag) → u.tag_number < 2 ^ 64 → BeginsWithTag u s → ⊥ = λ u l x. elim x [ begins p r f ↦ h u p r l f ] in
-  record {
-    none = λ p c r _ _ x. other t b (opens_begins m t p s c r x);
-    unmoved = λ z. absurd (cc);
-    moved = λ _ x. elim x [ nothing f ↦ i f | another u l d f ↦ other u l f ];
-    too_deep = λ z. absurd (plain_not_deep k z);
-    deep = λ d. absurd (other t b d.1);
-    in_memory = plain_not_memory k }
+    let other : (u : Tag) → u.tag_number < 2 ^ 64 → BeginsWithTag u s → ⊥ = λ u l x. elim x [ begins p r f ↦ h u p r l f ] in
+    record {
+      none = λ p c r _ _ x. other t b (opens_begins m t p s c r x);
+      unmoved = λ z. absurd (cc);
+      moved = λ _ x. elim x [ nothing f ↦ i f | another u l d f ↦ other u l f ];
+      too_deep = λ z. absurd (plain_not_deep k z);
+      deep = λ d. absurd (other t b d.1);
+      in_memory = plain_not_memory k;
+    }
 
 -- the tag stands there, and no level is left for the element
 pub deep_refuses : (P : PCBit → Type 0) (m : BERMode) (n : ℕ) (t : Tag) (s : List ℕ) (e : Refusal) (p : PCBit) (y : List ℕ) → s ≡ identifier t p ++ y → n ≡ 0 → e.kind ≡ StackOverflow → e.moved ≡ true → RefusesHead P m n t s e
@@ -73,7 +75,8 @@ deep_refuses P m n t s e p y f z k o = record {
   moved = λ _ x. begins_not_elsewhere (begins p y f) x;
   too_deep = λ _. (z, begins p y f);
   deep = λ _. k;
-  in_memory = λ h. absurd (cc) }
+  in_memory = λ h. absurd (cc);
+}
 
 -- the tag stands there, and something behind it is wrong
 pub wanted_refuses : (P : PCBit → Type 0) (m : BERMode) (n : ℕ) (t : Tag) (s : List ℕ) (e : Refusal) (p : PCBit) (y : List ℕ) → s ≡ identifier t p ++ y → 1 ≤ n → IsPlain e.kind → e.moved ≡ true → ((c : List ℕ) (r : Option (List ℕ)) → P p → OpensAt m t p s c r → ⊥) → RefusesHead P m n t s e
@@ -83,7 +86,8 @@ wanted_refuses P m n t s e p y f l k o w = record {
   moved = λ _ x. begins_not_elsewhere (begins p y f) x;
   too_deep = λ h. absurd (plain_not_deep k h);
   deep = λ d. let z = d.0 in absurd (omega arith);
-  in_memory = plain_not_memory k }
+  in_memory = plain_not_memory k;
+}
 
 -- the bytes behind an identifier, as they were read and as a header has them
 behind : (t : Tag) (p : PCBit) (s y z : List ℕ) → s ≡ identifier t p ++ y → s ≡ identifier t p ++ z → y ≡ z
@@ -97,8 +101,8 @@ no_length P m t p s y e h c None _ x = h None c (behind t p s y _ e x.joined)
 -- nor where the length is more than is left
 pub too_long : (P : PCBit → Type 0) (m : BERMode) (t : Tag) (p : PCBit) (s y z : List ℕ) (k : ℕ) → s ≡ identifier t p ++ y → Measures m y (Some k) z → length z < k → (c : List ℕ) (r : Option (List ℕ)) → P p → OpensAt m t p s c r → ⊥
 too_long P m t p s y z k e w h c (Some r) _ x =
-  let j = length_exact m m k (length c) w.0 x.l z (c ++ r) w.1 x.spelled (sym (w.2) ∙ behind t p s y _ e x.joined) in
-  omega (arith, j.0, ap length (j.2), length-append c r)
+    let j = length_exact m m k (length c) w.0 x.l z (c ++ r) w.1 x.spelled (sym (w.2) ∙ behind t p s y _ e x.joined) in
+    omega (arith, j.0, ap length (j.2), length-append c r)
 too_long P m t p s y z k e w h c None _ x = length_not_indefinite m k w.0 z c w.1 (sym (w.2) ∙ behind t p s y _ e x.joined)
 
 -- nor where the indefinite form stands and the mode doesn't take it
@@ -108,9 +112,11 @@ not_indefinite P m t p s y z e w h c None _ x = h x.taken
 
 -- an element with the tag stands there, and isn't constructed
 pub other_bit : (m : BERMode) (n : ℕ) (t : Tag) (q : PCBit) (s d : List ℕ) (o : Option (List ℕ)) (e : Refusal) → OpensAt m t q s d o → q ≡ Primitive → 1 ≤ n → IsPlain e.kind → e.moved ≡ true → RefusesHead OnlyConstructed m n t s e
-other_bit m n t q s d o e x f l k v = elim (opens_begins m t q s d o x) [ begins p y g ↦
-  let b = opens_bit m t p q s y d o g x in
-  wanted_refuses OnlyConstructed m n t s e p y g l k v (λ _ _ h _. let i : Constructed ≡ Primitive = sym h ∙ sym b ∙ f in absurd (cc)) ]
+other_bit m n t q s d o e x f l k v = elim (opens_begins m t q s d o x) [
+  | begins p y g ↦
+      let b = opens_bit m t p q s y d o g x in
+      wanted_refuses OnlyConstructed m n t s e p y g l k v (λ _ _ h _. let i : Constructed ≡ Primitive = sym h ∙ sym b ∙ f in absurd (cc))
+]
 
 -- where no header stands, none with a certain bit does
 pub any_refuses : (P : PCBit → Type 0) (m : BERMode) (n : ℕ) (t : Tag) (s : List ℕ) (e : Refusal) → RefusesHead AnyBit m n t s e → RefusesHead P m n t s e
@@ -122,7 +128,8 @@ opened_counts m t p s y z c r k e w f h i = record {
   taken = i;
   l = w.0;
   spelled = subst (λ j. SpellsLength m j w.0) (sym h) w.1;
-  joined = e ∙ ap (λ b. identifier t p ++ b) (w.2 ∙ ap (λ b. w.0 ++ b) f) }
+  joined = e ∙ ap (λ b. identifier t p ++ b) (w.2 ∙ ap (λ b. w.0 ++ b) f);
+}
 
 -- identifier and 128 are a header, and all that is left its contents
 pub opened_leaves : (m : BERMode) (t : Tag) (p : PCBit) (s y z : List ℕ) → s ≡ identifier t p ++ y → Measures m y None z → TakesIndefinite m p → OpensAt m t p s z None

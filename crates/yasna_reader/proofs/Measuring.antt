@@ -35,8 +35,9 @@ spelling_takes Der ds k h e = h
 counted_front : (m : BERMode) (x : ℕ) (s y : List ℕ) → s ≡ x ∷ y → 128 < x → ((k : ℕ) (ds r : List ℕ) → x ≡ 128 + length ds → length ds ≤ 126 → y ≡ ds ++ r → number_from_digits 256 ds ≡ k → k < 2 ^ 64 → TakesSpelling m ds k → ⊥) → (k : Option ℕ) (r : List ℕ) → Measures m s k r → ⊥
 counted_front m x s y e h f None r w = let g = sym e ∙ w in let i : x ≡ 128 = cc in omega arith
 counted_front m x s y e h f (Some k) r w = elim (length_front m x y k w.0 r w.1 (sym e ∙ w.2)) [
-    small i j ↦ omega arith
-  | large ds q i j l n o b t ↦ f k ds q i l n o b (takes_spelling m ds k t) ]
+  | small i j ↦ omega arith
+  | large ds q i j l n o b t ↦ f k ds q i l n o b (takes_spelling m ds k t)
+]
 
 -- the byte 255 begins no length
 pub not_measured_255 : (m : BERMode) (x : ℕ) (s y : List ℕ) → s ≡ x ∷ y → x ≡ 255 → (k : Option ℕ) (r : List ℕ) → Measures m s k r → ⊥
@@ -57,9 +58,9 @@ not_measured_wide m x s y d a e h g f w = counted_front m x s y e h (λ k ds r i
 -- the mode doesn't take them
 pub not_measured_so : (m : BERMode) (x : ℕ) (s y d a : List ℕ) (z : ℕ) → s ≡ x ∷ y → 128 < x → length d ≡ x - 128 → y ≡ d ++ a → z ≡ number_from_digits 256 d → (TakesSpelling m d z → ⊥) → (k : Option ℕ) (r : List ℕ) → Measures m s k r → ⊥
 not_measured_so m x s y d a z e h g f w u = counted_front m x s y e h (λ k ds r i l n o b t.
-  let c = same_digits x y ds d r a h i g n f in
-  let j : k ≡ z = sym o ∙ ap (number_from_digits 256) c ∙ sym w in
-  u (subst (λ q. TakesSpelling m d q) j (subst (λ q. TakesSpelling m q k) c t)))
+    let c = same_digits x y ds d r a h i g n f in
+    let j : k ≡ z = sym o ∙ ap (number_from_digits 256) c ∙ sym w in
+    u (subst (λ q. TakesSpelling m d q) j (subst (λ q. TakesSpelling m q k) c t)))
 
 bytes_front : (a b : List ℕ) → IsBytes (a ++ b) → IsBytes a
 bytes_front [] b h = tt
@@ -68,11 +69,11 @@ bytes_front (x ∷ a) b h = (h.0, bytes_front a b h.1)
 -- a count and digits
 pub counted_measured : (m : BERMode) (x : ℕ) (s y d a : List ℕ) (z : ℕ) → IsBytes s → s ≡ x ∷ y → 128 < x → x < 255 → length d ≡ x - 128 → y ≡ d ++ a → z ≡ number_from_digits 256 d → z < 2 ^ 64 → TakesSpelling m d z → (l : List ℕ) × SpellsLength m z l × (s ≡ l ++ a)
 counted_measured m x s y d a z b e h g f i w k t =
-  let c : x ≡ 128 + length d = omega arith in
-  let j : s ≡ ((128 + length d) ∷ d) ++ a = e ∙ ap (λ q. q ∷ y) c ∙ ap (λ q. (128 + length d) ∷ q) i in
-  let n : IsBytes d = bytes_front d a (subst IsBytes (e ∙ ap (λ q. x ∷ q) i) b).1 in
-  let P : ℕ → Type 0 = λ q. SpellsLength m q ((128 + length d) ∷ d) in
-  ((128 + length d) ∷ d, subst P (sym w) (long_spells m d n (omega arith) (omega arith) (omega arith) (λ o. let r = spelling_takes m d z t o in (omega (arith, r.0), r.1))), j)
+    let c : x ≡ 128 + length d = omega arith in
+    let j : s ≡ ((128 + length d) ∷ d) ++ a = e ∙ ap (λ q. q ∷ y) c ∙ ap (λ q. (128 + length d) ∷ q) i in
+    let n : IsBytes d = bytes_front d a (subst IsBytes (e ∙ ap (λ q. x ∷ q) i) b).1 in
+    let P : ℕ → Type 0 = λ q. SpellsLength m q ((128 + length d) ∷ d) in
+    ((128 + length d) ∷ d, subst P (sym w) (long_spells m d n (omega arith) (omega arith) (omega arith) (λ o. let r = spelling_takes m d z t o in (omega (arith, r.0), r.1))), j)
 
 -- no contents stand where no length does
 pub holds_none : (m : BERMode) (p : PCBit) (y : List ℕ) → ((k : Option ℕ) (r : List ℕ) → Measures m y k r → ⊥) → (c : List ℕ) (r : Option (List ℕ)) → Holds m p y c r → ⊥
@@ -82,9 +83,9 @@ holds_none m p y f c None h = f None c h.1
 -- nor where fewer bytes are left than the length says
 pub holds_short : (m : BERMode) (p : PCBit) (y z : List ℕ) (k : ℕ) → Measures m y (Some k) z → length z < k → (c : List ℕ) (r : Option (List ℕ)) → Holds m p y c r → ⊥
 holds_short m p y z k w l c (Some r) h =
-  let e = length_exact m m k (length c) w.0 h.0 z (c ++ r) w.1 h.2 (sym w.2 ∙ h.3) in
-  let n = ap length e.2 ∙ length-append c r in
-  omega (arith, e.0, n)
+    let e = length_exact m m k (length c) w.0 h.0 z (c ++ r) w.1 h.2 (sym w.2 ∙ h.3) in
+    let n = ap length e.2 ∙ length-append c r in
+    omega (arith, e.0, n)
 holds_short m p y z k w l c None h = length_not_indefinite m k w.0 z c w.1 (sym w.2 ∙ h.1)
 
 -- nor where the length is indefinite and may not be

@@ -49,7 +49,8 @@ head_refuses B m n t s e has x = record {
   moved = x.moved;
   too_deep = x.too_deep;
   deep = λ _. x.deep;
-  memory = x.in_memory }
+  memory = x.in_memory;
+}
 
 -- the tag stands there within the levels, and no value does
 pub stood_refuses : {A : Type 0} (B : A → List ℕ → Type 0) (n : ℕ) (t : Tag) (s : List ℕ) (e : Refusal) → BeginsWithTag t s → 1 ≤ n → IsPlain e.kind → e.moved ≡ true → ((v : A) (b r : List ℕ) → s ≡ b ++ r → B v b → ⊥) → Refuses B (IsTooDeep n t s) ⊥ t s e
@@ -59,7 +60,8 @@ stood_refuses B n t s e b l k o w = record {
   moved = λ _. begins_not_elsewhere b;
   too_deep = λ h. absurd (plain_not_deep k h);
   deep = λ _ d. let z = d.0 in absurd (omega arith);
-  memory = plain_not_memory k }
+  memory = plain_not_memory k;
+}
 
 -- a primitive element is an element
 pub primitive_element : {A : Type 0} (W : A → List ℕ → Type 0) (n : ℕ) (m : BERMode) (t : Tag) (v : A) (b : List ℕ) → IsPrimitive W n m t v b → HasElement n m t b
@@ -85,21 +87,21 @@ bits_differ m t p q s c r d o x y = elim (opens_begins m t p s c r x) [ begins i
 -- a constructed element stands where a primitive one is wanted
 pub other_primitive : {A : Type 0} (W : A → List ℕ → Type 0) (m : BERMode) (n : ℕ) (t : Tag) (q : PCBit) (s c : List ℕ) (o : Option (List ℕ)) (e : Refusal) → 1 ≤ n → q ≡ Constructed → OpensAt m t q s c o → IsPlain e.kind → e.moved ≡ true → Refuses (IsPrimitive W n m t) (IsTooDeep n t s) ⊥ t s e
 other_primitive W m n t q s c o e l f x k h = stood_refuses (IsPrimitive W n m t) n t s e (opens_begins m t q s c o x) l k h (λ v b r g w.
-  let y = element_at m t Primitive w.contents b s r w.element g in
-  let i : Primitive ≡ q = bits_differ m t Primitive q s y.contents y.after c o y.opens x in absurd (cc))
+    let y = element_at m t Primitive w.contents b s r w.element g in
+    let i : Primitive ≡ q = bits_differ m t Primitive q s y.contents y.after c o y.opens x in absurd (cc))
 
 -- contents that stand for v, in a primitive element
 pub takes_value : {A : Type 0} (W : A → List ℕ → Type 0) (m : BERMode) (n : ℕ) (t : Tag) (s c r : List ℕ) (v : A) → Takes (IsPrimitive AreContents n m t) s c r → W v c → Takes (IsPrimitive W n m t) s v r
 takes_value W m n t s c r v x w =
-  let y = x.member in
-  record { front = x.front; joined = x.joined; member = record { level = y.level; contents = c; element = subst (λ z. Element m t Primitive z x.front) (sym y.meaning) y.element; meaning = w } }
+    let y = x.member in
+    record { front = x.front; joined = x.joined; member = record { level = y.level; contents = c; element = subst (λ z. Element m t Primitive z x.front) (sym y.meaning) y.element; meaning = w } }
 
 -- contents that stand for no value, in a primitive element
 pub no_value : {A : Type 0} (W : A → List ℕ → Type 0) (m : BERMode) (n : ℕ) (t : Tag) (s c r : List ℕ) (e : Refusal) → Takes (IsPrimitive AreContents n m t) s c r → ((v : A) → W v c → ⊥) → IsPlain e.kind → e.moved ≡ true → Refuses (IsPrimitive W n m t) (IsTooDeep n t s) ⊥ t s e
 no_value W m n t s c r e x h k o =
-  let y = x.member in
-  let p = element_at m t Primitive y.contents x.front s r y.element x.joined in
-  stood_refuses (IsPrimitive W n m t) n t s e (opens_begins m t Primitive s p.contents p.after p.opens) y.level k o (λ v b z g w.
+    let y = x.member in
+    let p = element_at m t Primitive y.contents x.front s r y.element x.joined in
+    stood_refuses (IsPrimitive W n m t) n t s e (opens_begins m t Primitive s p.contents p.after p.opens) y.level k o (λ v b z g w.
     let i = primitive_exact m m t t Primitive y.contents w.contents x.front b r z y.element w.element (sym x.joined ∙ g) in
     h v (subst (W v) (sym (y.meaning ∙ i.contents)) w.meaning))
 
@@ -111,15 +113,16 @@ refuses_value W m n t s e x = record {
   moved = x.moved;
   too_deep = x.too_deep;
   deep = x.deep;
-  memory = x.memory }
+  memory = x.memory;
+}
 
 settled : {A : Type 0} (B : A → List ℕ → Type 0) (D M : Type 0) (t : Tag) (s : Reading) (f : Result (A × Bor (List ℕ)) Refusal) (r : Result A ASN1Error) (s' : Reading) → AtFront B D M t s.left f → Settles (untagged s) f r s' → ReadsUnlessKept None B D M t s r s'
 settled B D M t s (Ok x) (Ok v) s' a b = record { rest = x.1.now; takes = let e : x.0 ≡ v = cc (b.0) in subst (λ z. Takes B s.left z x.1.now) e a; state = b.1 }
 settled B D M t s (Ok x) (Err e) s' a b = let f = b.0 in absurd (cc)
 settled B D M t s (Err x) (Ok v) s' a b = let f = b.0 in absurd (cc)
 settled {A} B D M t s (Err x) (Err e) s' a b =
-  let g : record { kind = x.kind } ≡ e = let f = b.0 in cc in
-  record { refusal = x; kind = ap kind_of g; refuses = a; state = b.1 ∙ ap (refusing x.moved (untagged s)) g }
+    let g : record { kind = x.kind } ≡ e = let f = b.0 in cc in
+    record { refusal = x; kind = ap kind_of g; refuses = a; state = b.1 ∙ ap (refusing x.moved (untagged s)) g }
 
 -- what was found at the front, with the reading settled, is what a typed read does
 pub settled_reads : {A : Type 0} (B : A → List ℕ → Type 0) (D M : Type 0) (t : Tag) (s : Reading) (f : Result (A × Bor (List ℕ)) Refusal) (r : Result A ASN1Error) (s' : Reading) → s.kept ≡ None → AtFront B D M t s.left f → Settles (untagged s) f r s' → ReadsUnlessKept s.kept B D M t s r s'
@@ -128,8 +131,8 @@ settled_reads B D M t s f r s' e a b = subst (λ k. ReadsUnlessKept k B D M t s 
 -- what was found with the fields of a reading was found for the reading
 pub at_view : {A : Type 0} (B : ℕ → BERMode → Tag → A → List ℕ → Type 0) (D : ℕ → BERMode → Tag → List ℕ → Type 0) (M : ℕ → Tag → List ℕ → Type 0) (tag u : Tag) (z s : Reading) (r : Result (A × Bor (List ℕ)) Refusal) → z ≡ s → u ≡ tag_of s tag → AtFront (B z.levels z.mode u) (D z.levels z.mode u z.left) (M z.levels u z.left) u z.left r → FrontOf B D M tag s r
 at_view B D M tag u z s r e f x =
-  let y = subst (λ u. AtFront (B z.levels z.mode u) (D z.levels z.mode u z.left) (M z.levels u z.left) u z.left r) f x in
-  subst (λ z. AtFront (B z.levels z.mode (tag_of s tag)) (D z.levels z.mode (tag_of s tag) z.left) (M z.levels (tag_of s tag) z.left) (tag_of s tag) z.left r) e y
+    let y = subst (λ u. AtFront (B z.levels z.mode u) (D z.levels z.mode u z.left) (M z.levels u z.left) u z.left r) f x in
+    subst (λ z. AtFront (B z.levels z.mode (tag_of s tag)) (D z.levels z.mode (tag_of s tag) z.left) (M z.levels (tag_of s tag) z.left) (tag_of s tag) z.left r) e y
 
 -- the same of a whole typed read
 pub reads_front : {A : Type 0} (B : ℕ → BERMode → Tag → A → List ℕ → Type 0) (D : ℕ → BERMode → Tag → List ℕ → Type 0) (M : ℕ → Tag → List ℕ → Type 0) (tag : Tag) (s : Reading) (f : Result (A × Bor (List ℕ)) Refusal) (r : Result A ASN1Error) (s' : Reading) → s.kept ≡ None → FrontOf B D M tag s f → Settles (untagged s) f r s' → Reads B D M tag s r s'
@@ -173,8 +176,8 @@ plain_of OutOfMemory d o = o refl
 
 fresh : {A : Type 0} (B : ℕ → BERMode → Tag → A → List ℕ → Type 0) (D : ℕ → BERMode → Tag → List ℕ → Type 0) (M : ℕ → Tag → List ℕ → Type 0) (t : Tag) (s : Reading) (r : Result A ASN1Error) (s' : Reading) → IsFresh s → Reads B D M t s r s' → ReadsUnlessKept None (B s.levels s.mode t) (D s.levels s.mode t s.left) (M s.levels t s.left) t s r s'
 fresh B D M t s r s' f x =
-  let y = subst (λ k. ReadsUnlessKept k (B s.levels s.mode (tag_of s t)) (D s.levels s.mode (tag_of s t) s.left) (M s.levels (tag_of s t) s.left) (tag_of s t) s r s') f.0 x.reads in
-  subst (λ u. ReadsUnlessKept None (B s.levels s.mode (or_tag u t)) (D s.levels s.mode (or_tag u t) s.left) (M s.levels (or_tag u t) s.left) (or_tag u t) s r s') f.1 y
+    let y = subst (λ k. ReadsUnlessKept k (B s.levels s.mode (tag_of s t)) (D s.levels s.mode (tag_of s t) s.left) (M s.levels (tag_of s t) s.left) (tag_of s t) s r s') f.0 x.reads in
+    subst (λ u. ReadsUnlessKept None (B s.levels s.mode (or_tag u t)) (D s.levels s.mode (or_tag u t) s.left) (M s.levels (or_tag u t) s.left) (or_tag u t) s r s') f.1 y
 
 not_true : (b : Bool) → (b ≡ true → ⊥) → b ≡ false
 not_true true h = absurd (h refl)
@@ -202,19 +205,20 @@ stays s e = ap (λ t. record s { tag = t }) (sym e)
 -- What a fresh reading decodes, where the encodings of a type are what a typed read takes, at an end nothing is too deep
 -- or wants memory, and asks says whether memory may be wanting.
 module _ {A : Type 0} (asks : Bool) (B : ℕ → BERMode → Tag → A → List ℕ → Type 0) (D : ℕ → BERMode → Tag → List ℕ → Type 0) (M : ℕ → Tag → List ℕ → Type 0) (B' : BERMode → ℕ → A → List ℕ → Type 0) (S' : BERMode → ℕ → List ℕ → Type 0) (t : Tag) (other : t ≡ end_tag → ⊥) (says : (m : BERMode) (n : ℕ) (v : A) (b : List ℕ) → B n m t v b → B' m n v b) (asked : (m : BERMode) (n : ℕ) (b : List ℕ) → S' m n b → (v : A) × B n m t v b) (deep : (n : ℕ) (m : BERMode) (s : List ℕ) → AtEnd s → D n m t s → ⊥) (memory : (n : ℕ) (s : List ℕ) → AtEnd s → M n t s → ⊥) (may : (n : ℕ) (s : List ℕ) → M n t s → asks ≡ true) where
-
   took : (s : Reading) (v : A) (s' : Reading) → s.tag ≡ None → ReadsFront (B s.levels s.mode t) s v s' → Took (B' s.mode s.levels) s v s'
   took s v s' f y = record {
     front = y.takes.front;
     rest = y.rest;
     joined = y.takes.joined;
     stands = says s.mode s.levels v y.takes.front y.takes.member;
-    left = y.state ∙ ap {A = Reading} (λ z. record z { left = y.rest }) (stays s f) }
+    left = y.state ∙ ap {A = Reading} (λ z. record z { left = y.rest }) (stays s f);
+  }
 
   tells : (s : Reading) (e : ASN1Error) (s' : Reading) → RefusedAs (B s.levels s.mode t) (D s.levels s.mode t s.left) (M s.levels t s.left) t s e s' → Tells asks (S' s.mode s.levels) s.left e
   tells s e s' y = record {
     none = λ h b z g w. let a = asked s.mode s.levels b w in y.refuses.none (λ i. h (sym (y.kind) ∙ i)) a.0 b z g a.1;
-    memory = λ i. may s.levels s.left (y.refuses.memory (y.kind ∙ i)) }
+    memory = λ i. may s.levels s.left (y.refuses.memory (y.kind ∙ i));
+  }
 
   tagless : (b : Bool) (s : Reading) (e : ASN1Error) → s.tag ≡ None → refusing b (untagged s) e ≡ record s { left = (refusing b (untagged s) e).left; kept = (refusing b (untagged s) e).kept }
   tagless true s e f = ap {B = Reading} (λ u. record s { kept = Some e; tag = u }) (sym f)
@@ -222,18 +226,20 @@ module _ {A : Type 0} (asks : Bool) (B : ℕ → BERMode → Tag → A → List 
 
   refused : (s : Reading) (e : ASN1Error) (s' : Reading) → IsFresh s → RefusedAs (B s.levels s.mode t) (D s.levels s.mode t s.left) (M s.levels t s.left) t s e s' → NotTook asks (S' s.mode s.levels) s e s'
   refused s e s' f y =
-    let i = ap (λ z. length z.left) y.state in
-    let j = ap length (left_as y.refusal.moved s e) in
-    record {
-      tells = tells s e s' y;
-      kept = subst (λ z. KeptTells asks (S' s.mode s.levels) s.left z.kept) (sym y.state) (kept_as asks (S' s.mode s.levels) y.refusal.moved s e f.0 (tells s e s' y));
-      further = omega arith;
-      same = subst (λ z. z ≡ record s { left = z.left; kept = z.kept }) (sym y.state) (tagless y.refusal.moved s e f.1) }
+      let i = ap (λ z. length z.left) y.state in
+      let j = ap length (left_as y.refusal.moved s e) in
+      record {
+        tells = tells s e s' y;
+        kept = subst (λ z. KeptTells asks (S' s.mode s.levels) s.left z.kept) (sym y.state) (kept_as asks (S' s.mode s.levels) y.refusal.moved s e f.0 (tells s e s' y));
+        further = omega arith;
+        same = subst (λ z. z ≡ record s { left = z.left; kept = z.kept }) (sym y.state) (tagless y.refusal.moved s e f.1);
+      }
 
   quiet : (s : Reading) (e : ASN1Error) (s' : Reading) → s.tag ≡ None → RefusedAs (B s.levels s.mode t) (D s.levels s.mode t s.left) (M s.levels t s.left) t s e s' → IsQuietAtEnd s e s'
-  quiet s e s' f y a =
-    (y.state ∙ ap (λ b. refusing b (untagged s) e) (not_true y.refusal.moved (λ h. y.refuses.moved h (at_end_elsewhere t s.left other a))) ∙ stays s f,
-    plain_of (kind_of e) (λ i. deep s.levels s.mode s.left a (y.refuses.too_deep (y.kind ∙ i))) (λ i. memory s.levels s.left a (y.refuses.memory (y.kind ∙ i))))
+  quiet s e s' f y a = (
+    y.state ∙ ap (λ b. refusing b (untagged s) e) (not_true y.refusal.moved (λ h. y.refuses.moved h (at_end_elsewhere t s.left other a))) ∙ stays s f,
+    plain_of (kind_of e) (λ i. deep s.levels s.mode s.left a (y.refuses.too_deep (y.kind ∙ i))) (λ i. memory s.levels s.left a (y.refuses.memory (y.kind ∙ i))),
+  )
 
   decodes : (s : Reading) (r : Result A ASN1Error) (s' : Reading) → IsFresh s → ReadsUnlessKept None (B s.levels s.mode t) (D s.levels s.mode t s.left) (M s.levels t s.left) t s r s' → Decodes asks B' S' s r s'
   decodes s (Ok v) s' f y = took s v s' f.1 y

@@ -25,9 +25,9 @@ pub scan_marked : (ds : List ℕ) (n : ℕ) (r : List ℕ) → AllBelowBase 128 
 scan_marked [] n r a l = absurd (omega arith)
 scan_marked (d ∷ []) n r a l = scan_last n d r a.0
 scan_marked (d ∷ e ∷ ds) n r a l =
-  let h : 128 ≤ 128 + d = omega arith in
-  let f : 128 + d - 128 ≡ d = omega arith in
-  scan_more n (128 + d) (marked (e ∷ ds) ++ r) h ∙ ap (λ z. scan (n * 128 + z) (marked (e ∷ ds) ++ r)) f ∙ scan_marked (e ∷ ds) (n * 128 + d) r a.1 (omega arith)
+    let h : 128 ≤ 128 + d = omega arith in
+    let f : 128 + d - 128 ≡ d = omega arith in
+    scan_more n (128 + d) (marked (e ∷ ds) ++ r) h ∙ ap (λ z. scan (n * 128 + z) (marked (e ∷ ds) ++ r)) f ∙ scan_marked (e ∷ ds) (n * 128 + d) r a.1 (omega arith)
 
 abbrev number_in : Option (ℕ × List ℕ) → ℕ
 number_in None = 0
@@ -59,7 +59,7 @@ some_of k j r q e = (ap (λ (z : Option (ℕ × List ℕ)). number_in z) e, ap (
 pub scanned : (s : List ℕ) (n k : ℕ) (r : List ℕ) → IsBytes s → scan n s ≡ Some (k, r) → Scanned n s k r
 scanned [] n k r a e = absurd (cc)
 scanned (x ∷ s) n k r a e = elim (cases_lt x 128) [
-    inl h ↦ let p = some_of k (n * 128 + x) r s (sym (scan_last n x s h) ∙ e) in
+  | inl h ↦ let p = some_of k (n * 128 + x) r s (sym (scan_last n x s h) ∙ e) in
       record { digits = x ∷ []; below = (h, tt); some = omega arith; joined = ap (λ z. x ∷ z) p.1; number = p.0 }
   | inr h ↦ let w = scanned s (n * 128 + (x - 128)) k r a.1 (sym (scan_more n x s h) ∙ e) in
       let b : x < 256 = a.0 in
@@ -67,12 +67,13 @@ scanned (x ∷ s) n k r a e = elim (cases_lt x 128) [
       let f : x ≡ 128 + (x - 128) = omega arith in
       let m : marked ((x - 128) ∷ w.digits) ≡ (128 + (x - 128)) ∷ marked w.digits = marked_cons (x - 128) w.digits w.some in
       let j : s ≡ marked w.digits ++ r = w.joined in
-      record { digits = (x - 128) ∷ w.digits; below = (d, w.below); some = omega arith; joined = ap₂ (λ y z. y ∷ z) f j ∙ ap (λ z. z ++ r) (sym m); number = w.number } ]
+      record { digits = (x - 128) ∷ w.digits; below = (d, w.below); some = omega arith; joined = ap₂ (λ y z. y ∷ z) f j ∙ ap (λ z. z ++ r) (sym m); number = w.number }
+]
 
 -- a number that is read on is at least 128 times what it was
 pub scan_above : (s : List ℕ) (n x k : ℕ) (r : List ℕ) → IsBytes (x ∷ s) → scan n (x ∷ s) ≡ Some (k, r) → n * 128 ≤ k
 scan_above s n x k r a e =
-  let w = scanned (x ∷ s) n k r a e in grows n k w.digits w.some w.number
+    let w = scanned (x ∷ s) n k r a e in grows n k w.digits w.some w.number
 
 -- a number in base 128 is read as it is
 pub scan_base : (k : ℕ) (r : List ℕ) → scan 0 (base128 k ++ r) ≡ Some (k, r)
@@ -97,10 +98,10 @@ first_digit (d ∷ c ∷ ds) r s k n h l e f = elim (cases_lt 0 d) [ inl g ↦ g
 -- what was read is the number's spelling, where it isn't below 31 and doesn't begin with a digit of zero
 pub base_found : (s : List ℕ) (k : ℕ) (r : List ℕ) → IsBytes s → 31 ≤ k → ((y : List ℕ) → s ≡ 128 ∷ y → ⊥) → scan 0 s ≡ Some (k, r) → s ≡ base128 k ++ r
 base_found s k r a h f e =
-  let w = scanned s 0 k r a e in
-  let n : number_from_digits 128 w.digits ≡ k = w.number in
-  let g : base128 (number_from_digits 128 w.digits) ≡ marked w.digits = base128_only w.digits w.below (first_digit w.digits r s k n h w.some w.joined f) in
-  w.joined ∙ ap (λ z. z ++ r) (sym g ∙ ap base128 n)
+    let w = scanned s 0 k r a e in
+    let n : number_from_digits 128 w.digits ≡ k = w.number in
+    let g : base128 (number_from_digits 128 w.digits) ≡ marked w.digits = base128_only w.digits w.below (first_digit w.digits r s k n h w.some w.joined f) in
+    w.joined ∙ ap (λ z. z ++ r) (sym g ∙ ap base128 n)
 
 -- bytes that are read otherwise aren't a number's spelling
 pub no_number : (s : List ℕ) (z : Option (ℕ × List ℕ)) → scan 0 s ≡ z → ((n : ℕ) (r : List ℕ) → 31 ≤ n → n < 2 ^ 64 → s ≡ base128 n ++ r → z ≡ Some (n, r) → ⊥) → (n : ℕ) (r : List ℕ) → 31 ≤ n → n < 2 ^ 64 → s ≡ base128 n ++ r → ⊥

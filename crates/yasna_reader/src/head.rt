@@ -57,7 +57,11 @@ fn leading(first: u8) -> (TagClass, PCBit, u8)
         2 => TagClass::ContextSpecific,
         _ => TagClass::Private,
     };
-    let bit = if first / 32 % 2 == 0 { PCBit::Primitive } else { PCBit::Constructed };
+    let bit = if first / 32 % 2 == 0 {
+        PCBit::Primitive
+    } else {
+        PCBit::Constructed
+    };
     (class, bit, first % 32)
 }
 
@@ -97,11 +101,21 @@ pub fn read_identifier(s: &[u8]) -> Result<(Tag, PCBit, &[u8]), ASN1ErrorKind>
     };
     let (tag_class, bit, low) = leading(*first);
     if low < 31 {
-        let tag = Tag { tag_class, tag_number: u64::from(low) };
+        let tag = Tag {
+            tag_class,
+            tag_number: u64::from(low),
+        };
         return Ok((tag, bit, rest));
     }
     match read_number(rest) {
-        Ok((tag_number, after)) => Ok((Tag { tag_class, tag_number }, bit, after)),
+        Ok((tag_number, after)) => Ok((
+            Tag {
+                tag_class,
+                tag_number,
+            },
+            bit,
+            after,
+        )),
         Err(kind) => Err(kind),
     }
 }
@@ -199,7 +213,13 @@ fn length_fault(end: usize, rest: &[u8], size: usize) -> ASN1ErrorKind
 ///
 /// `end` is how far from the input's first byte `s` ends; it decides only whether a length that isn't there is called
 /// too large or cut off.
-pub fn open(s: &[u8], mode: BERMode, levels: u8, tag: Tag, end: usize) -> Result<Opened<'_>, Refusal>
+pub fn open(
+    s: &[u8],
+    mode: BERMode,
+    levels: u8,
+    tag: Tag,
+    end: usize,
+) -> Result<Opened<'_>, Refusal>
     ensures { Headed mode levels tag s.now result }
 {
     if s.is_empty() {
@@ -222,7 +242,12 @@ pub fn open(s: &[u8], mode: BERMode, levels: u8, tag: Tag, end: usize) -> Result
 }
 
 // Reads a length, and cuts off the contents that it counts.
-fn contents(s: &[u8], mode: BERMode, bit: PCBit, end: usize) -> Result<(&[u8], Option<&[u8]>), ASN1ErrorKind>
+fn contents(
+    s: &[u8],
+    mode: BERMode,
+    bit: PCBit,
+    end: usize,
+) -> Result<(&[u8], Option<&[u8]>), ASN1ErrorKind>
     ensures { ContentsAt mode bit s.now result }
 {
     match read_length(s, mode) {
@@ -242,7 +267,13 @@ fn contents(s: &[u8], mode: BERMode, bit: PCBit, end: usize) -> Result<(&[u8], O
 }
 
 /// The same, of a constructed element.
-pub fn constructed(s: &[u8], mode: BERMode, levels: u8, tag: Tag, end: usize) -> Result<Opened<'_>, Refusal>
+pub fn constructed(
+    s: &[u8],
+    mode: BERMode,
+    levels: u8,
+    tag: Tag,
+    end: usize,
+) -> Result<Opened<'_>, Refusal>
     ensures { ConstructedAt mode levels tag s.now result }
 {
     match open(s, mode, levels, tag, end) {
@@ -261,7 +292,11 @@ pub fn close<'a>(after: Option<&'a [u8]>, rest: &'a [u8]) -> Result<&'a [u8], AS
     let Some(after) = after else {
         return end_of_contents(rest);
     };
-    if rest.is_empty() { Ok(after) } else { Err(ASN1ErrorKind::Extra) }
+    if rest.is_empty() {
+        Ok(after)
+    } else {
+        Err(ASN1ErrorKind::Extra)
+    }
 }
 
 // What follows the two zeros that end contents of indefinite length.
@@ -277,7 +312,11 @@ fn end_of_contents(s: &[u8]) -> Result<&[u8], ASN1ErrorKind>
     let Some((second, after)) = rest.split_first() else {
         return Err(ASN1ErrorKind::Eof);
     };
-    if *second == 0 { Ok(after) } else { Err(ASN1ErrorKind::Invalid) }
+    if *second == 0 {
+        Ok(after)
+    } else {
+        Err(ASN1ErrorKind::Invalid)
+    }
 }
 
 // Of what kind the refusal is where contents of indefinite length go on with something else.

@@ -2,18 +2,21 @@
 ghost use Rattle.yasna_base.specs.declared.mode.BERMode.TheVariants.{Ber, Der};
 ghost use Rattle.yasna_reader.specs.Calls.{MayRead, Parses, parsed};
 
+use crate::state::{BERReader, ReaderState};
 use std::alloc::Global;
-
 use yasna_base::error::{ASN1Error, ASN1ErrorKind, ASN1Result};
 use yasna_base::mode::BERMode;
-
-use crate::state::{BERReader, ReaderState};
 
 /// Reads bytes by these rules: the callback is to read all of them.
 ///
 /// Answers the failure that the reading kept, if there is one; else the callback's Err; else `Extra` where bytes are
 /// left; else the callback's value.
-pub fn parse_ber_general<'a, T: Drop, F>(alloc: Global, buf: &'a [u8], mode: BERMode, callback: F) -> ASN1Result<T>
+pub fn parse_ber_general<'a, T: Drop, F>(
+    alloc: Global,
+    buf: &'a [u8],
+    mode: BERMode,
+    callback: F,
+) -> ASN1Result<T>
 where
     F: for<'b> FnOnce(BERReader<'a, 'b>) -> ASN1Result<T>,
     requires { MayRead F.FnOnce callback }

@@ -3,12 +3,11 @@ ghost use Rattle.std.specs.Prelude.{◌≡◌, ◌≤◌, length};
 ghost use Rattle.yasna_reader.specs.Head.{behind, ConstructedAt};
 ghost use Rattle.yasna_reader.specs.Calls.{ClosesFrom, Left, MayReadParts, ReadsParts};
 
+use crate::head::{Opened, Refusal, close, constructed};
+use crate::state::{BERReaderSeq, Parts, ReaderState};
 use yasna_base::error::{ASN1Error, ASN1ErrorKind, ASN1Result};
 use yasna_base::tag::Tag;
 use yasna_base::tags::TAG_SEQUENCE;
-
-use crate::head::{Opened, Refusal, close, constructed};
-use crate::state::{BERReaderSeq, Parts, ReaderState};
 
 // What follows an element of which a callback left this many bytes to be read.
 fn close_from<'a>(opened: &Opened<'a>, remaining: usize) -> Result<&'a [u8], ASN1ErrorKind>
@@ -50,7 +49,9 @@ impl<'a> ReaderState<'a> {
         }
         match self.enter(tag) {
             Ok(opened) => {
-                let mut parts = Parts { reader: self.within(&opened) };
+                let mut parts = Parts {
+                    reader: self.within(&opened),
+                };
                 let answer = f(&mut parts);
                 let Parts { reader } = parts;
                 self.leave(&opened, answer, &reader)
@@ -63,7 +64,13 @@ impl<'a> ReaderState<'a> {
     fn enter(&self, tag: Tag) -> Result<Opened<'a>, Refusal>
         ensures { ConstructedAt self.now.mode self.now.levels (tag_of self.now tag) self.now.left result }
     {
-        constructed(self.rest, self.mode, self.levels, self.wanted(tag), self.end)
+        constructed(
+            self.rest,
+            self.mode,
+            self.levels,
+            self.wanted(tag),
+            self.end,
+        )
     }
 
     // The reading of an element's contents.
@@ -75,11 +82,24 @@ impl<'a> ReaderState<'a> {
             Some(after) => self.end.saturating_sub(after.len()),
             None => self.end,
         };
-        ReaderState { rest: opened.within, end, mode: self.mode, levels: self.levels - 1, tag: None, kept: None, alloc: self.alloc }
+        ReaderState {
+            rest: opened.within,
+            end,
+            mode: self.mode,
+            levels: self.levels - 1,
+            tag: None,
+            kept: None,
+            alloc: self.alloc,
+        }
     }
 
     // What is made of a callback's answer, where it left the contents of an element like this.
-    fn leave<T: Drop>(&mut self, opened: &Opened<'a>, answer: ASN1Result<T>, left: &ReaderState<'a>) -> ASN1Result<T>
+    fn leave<T: Drop>(
+        &mut self,
+        opened: &Opened<'a>,
+        answer: ASN1Result<T>,
+        left: &ReaderState<'a>,
+    ) -> ASN1Result<T>
         ensures { Left (behind opened.now.after) opened.now.within.now left.now.kept left.now.left answer (untagged self.old) result self.new }
     {
         self.tag = None;

@@ -1,16 +1,14 @@
 //! The state of a reading, and what the calls on it share.
 ghost use Rattle.std.specs.Prelude.{◌≡◌};
 
-use std::alloc::Global;
-use std::marker::Model;
-
-use yasna_base::error::{ASN1Error, ASN1Result};
-use yasna_base::mode::BERMode;
-use yasna_base::tag::Tag;
-
 use crate::contents::Contents;
 use crate::head::Refusal;
 use crate::values::value;
+use std::alloc::Global;
+use std::marker::Model;
+use yasna_base::error::{ASN1Error, ASN1Result};
+use yasna_base::mode::BERMode;
+use yasna_base::tag::Tag;
 
 // How many levels of elements a reading goes down.
 const LEVELS: u8 = 101;
@@ -48,14 +46,15 @@ impl<'a> ReaderState<'a> {
     pub(crate) fn new(alloc: Global, buf: &'a [u8], mode: BERMode) -> ReaderState<'a>
         ensures { result ≡ starts buf.now mode }
     {
-        ReaderState { rest: buf, end: buf.len(), mode, levels: LEVELS, tag: None, kept: None, alloc }
-    }
-
-    /// By which rules this reading reads.
-    pub fn mode(&self) -> BERMode
-        ensures { result ≡ self.now.mode }
-    {
-        self.mode
+        ReaderState {
+            rest: buf,
+            end: buf.len(),
+            mode,
+            levels: LEVELS,
+            tag: None,
+            kept: None,
+            alloc,
+        }
     }
 
     // The tag that the next element is to have, where its type's own is this one.
@@ -92,7 +91,13 @@ impl<'a> ReaderState<'a> {
     fn front<T: Contents>(&self, tag: Tag) -> Result<(T, &'a [u8]), Refusal>
         ensures { FrontOf (Primitively T.means) NoLevel Never tag self.now result }
     {
-        value(self.rest, self.mode, self.levels, self.wanted(tag), self.end)
+        value(
+            self.rest,
+            self.mode,
+            self.levels,
+            self.wanted(tag),
+            self.end,
+        )
     }
 
     // Reads an element of one primitive type.
@@ -123,12 +128,12 @@ pub struct Parts<S> {
 
 impl<S> Parts<S> {
     ghost use Rattle.std.specs.Borrow.{sem};
-    ghost use Rattle.yasna_reader.specs.Lending.{LendsReader};
+    ghost use Rattle.yasna_reader.specs.Lending.{LendsReader, part_of};
 
     /// The reading of the next part.
     pub fn next(&mut self) -> &mut S
         ensures* lends { sem 𝓛 (LendsReader S.row self.entry result) }
-        ensures value { result.now ≡ self.old.reader }
+        ensures value { result.now ≡ part_of self.old }
     {
         &mut self.reader
     }

@@ -4,15 +4,20 @@ ghost use Rattle.yasna_reader.specs.Head.{IsTooDeep};
 ghost use Rattle.yasna_base.specs.Simple.{IsPrimitive};
 ghost use Rattle.yasna_reader.specs.Reads.{PrimitiveAt, AtFront};
 
+use crate::contents::Contents;
+use crate::head::{Refusal, open, refuse};
 use yasna_base::error::ASN1ErrorKind;
 use yasna_base::mode::BERMode;
 use yasna_base::tag::{PCBit, Tag};
 
-use crate::contents::Contents;
-use crate::head::{Refusal, open, refuse};
-
 /// The contents of a primitive element of this tag, and the rest.
-pub(crate) fn primitive(s: &[u8], mode: BERMode, levels: u8, tag: Tag, end: usize) -> Result<(&[u8], &[u8]), Refusal>
+pub(crate) fn primitive(
+    s: &[u8],
+    mode: BERMode,
+    levels: u8,
+    tag: Tag,
+    end: usize,
+) -> Result<(&[u8], &[u8]), Refusal>
     ensures { PrimitiveAt levels mode tag s.now result }
 {
     match open(s, mode, levels, tag, end) {
@@ -29,7 +34,13 @@ pub(crate) fn primitive(s: &[u8], mode: BERMode, levels: u8, tag: Tag, end: usiz
 }
 
 /// The value that a primitive element of this tag holds, and the rest.
-pub(crate) fn value<T: Contents>(s: &[u8], mode: BERMode, levels: u8, tag: Tag, end: usize) -> Result<(T, &[u8]), Refusal>
+pub(crate) fn value<T: Contents>(
+    s: &[u8],
+    mode: BERMode,
+    levels: u8,
+    tag: Tag,
+    end: usize,
+) -> Result<(T, &[u8]), Refusal>
     ensures { AtFront (IsPrimitive (T.means mode) levels mode tag) (IsTooDeep levels tag s.now) ⊥ tag s.now result }
 {
     match primitive(s, mode, levels, tag, end) {

@@ -1,0 +1,44 @@
+-- A number of 64 bits as eight bytes, the highest first.
+use Rattle.std.proofs.Common.{◌≡◌, ℕ, zero, suc, ◌+◌, ◌*◌, ◌^◌, ◌<◌, ◌≤◌, List, [], ◌∷◌, length, refl, sym, ap, ◌∙◌, subst, ℤ, pos, negsuc, ◌-ℤ◌, ◌-◌, arith}
+use Rattle.std.specs.Prelude.{true, int_le}
+use Rattle.std.proofs.Math.Dec.{leb-zero}
+use mir.Val.{SFits}
+use Rattle.std.proofs.lemmas.Int.{ints}
+use Rattle.std.specs.Int.{w64, cast_unsigned, to_be_bytes, bytes_high_first}
+use Rattle.std.specs.Int.Digits.{number_from_digits}
+use Rattle.std.proofs.lemmas.Nat.{from_be_bytes-to_be_bytes_8}
+use Rattle.yasna_base.specs.Digits.{IsBytes, digits}
+use Rattle.yasna_base.specs.Length.{shortest_length}
+use Rattle.yasna_base.proofs.Length.{counted_length}
+use Rattle.yasna_writer.specs.Number.{without, signed_number}
+use Rattle.yasna_writer.proofs.Front.{without_shorter, digits_without}
+
+pub be_length : (n : ℕ) → length (to_be_bytes w64 n) ≡ 8
+be_length n = refl
+
+pub be_bytes : (n : ℕ) → IsBytes (to_be_bytes w64 n)
+be_bytes n = search arith
+
+pub be_number : (n : ℕ) → n < 2 ^ 64 → number_from_digits 256 (to_be_bytes w64 n) ≡ n
+be_number n h = let e = from_be_bytes-to_be_bytes_8 n h in omega arith
+
+pub without_at_most : (n : ℕ) → length (without 0 (to_be_bytes w64 n)) ≤ 8
+without_at_most n = omega (arith, without_shorter 0 (to_be_bytes w64 n), be_length n)
+
+-- a length from 128 on is its bytes without the zeros in front, and their count
+pub length_without : (n : ℕ) → 128 ≤ n → n < 2 ^ 64 → shortest_length n ≡ (128 + length (without 0 (to_be_bytes w64 n))) ∷ without 0 (to_be_bytes w64 n)
+length_without n h small =
+    let e = be_number n small in
+    let d = ap (digits 256) (sym e) ∙ digits_without (to_be_bytes w64 n) (be_bytes n) (omega arith) in
+    counted_length n h ∙ ap (λ ds. (128 + length ds) ∷ ds) d
+
+-- the bytes of a number from 0 on
+pub be_unsigned : (n : ℕ) → n < 2 ^ 64 → signed_number true (to_be_bytes w64 n) ≡ pos n
+be_unsigned n h = ap pos (be_number n h)
+
+-- the bytes of a signed number, and its sign
+pub be_signed : (z : ℤ) → SFits w64 z → signed_number (int_le (pos 0) z) (to_be_bytes w64 (cast_unsigned w64 z)) ≡ z
+be_signed (pos n) h =
+    ap (λ t. signed_number t (to_be_bytes w64 n)) (leb-zero n) ∙ be_unsigned n (omega (arith, h))
+be_signed (negsuc n) h =
+    ap (λ k. pos k -ℤ pos (2 ^ 64)) (be_number (2 ^ 64 - suc n) (omega arith)) ∙ omega (arith, ints, h)

@@ -1,0 +1,6 @@
+pub mod Appends
+pub mod Base128Digits
+pub mod BigEndian
+pub mod Front
+pub mod Joined
+pub mod SignedBytes

@@ -1,0 +1,5 @@
+pub mod Written
+pub mod Closures
+pub mod Number
+pub mod Joining
+pub mod Base128

@@ -1,0 +1,131 @@
+//! The writer.
+ghost use Rattle.std.specs.Prelude.{◌≡◌, ◌≤◌, ◌+◌, ◌++◌, ℕ, length, List, MatchOption, MatchResult, Ok, Err, Some, None, OnOk, IfOk};
+ghost use Rattle.yasna_base.specs.Refusal.{kind_of};
+ghost use Rattle.yasna_base.specs.declared.error.ASN1ErrorKind.TheVariants.{OutOfMemory};
+ghost use Rattle.yasna_base.specs.Canonical.{canonical_element};
+ghost use Rattle.yasna_base.specs.declared.mode.BERMode.TheVariants.{Der};
+ghost use Rattle.yasna_base.specs.declared.tag.PCBit.TheVariants.{Primitive};
+ghost use Rattle.yasna_writer.specs.Written.{Written, tag_or, holding, empty_writing, Wrote};
+ghost use Rattle.yasna_writer.specs.Closures.{Constructed};
+
+use crate::header::{Header, append_primitive};
+use crate::join::join;
+use std::alloc::{AllocError, Global};
+use std::marker::Model;
+use yasna_base::{ASN1Error, ASN1ErrorKind, ASN1Result, Tag};
+
+/// A writing: bytes so far, the implicit tag that the next element takes, and the failure that later calls answer.
+///
+/// A write that finds no memory answers `OutOfMemory`. That failure is kept: each later write answers it, and so does
+/// the call that began the writing.
+#[derive(Drop)]
+pub struct Writer {
+    // Contents, which are only appended to.
+    contents: Vec<u8>,
+    // The headers of elements with parts, which aren't among the contents, by their places.
+    headers: Vec<Header>,
+    // How many bytes those headers take.
+    heads: usize,
+    tag: Option<Tag>,
+    kept: Option<ASN1Error>,
+    alloc: Global,
+}
+
+impl Model for Writer {
+    ghost use Rattle.std.specs.Prelude.{◌≡◌, length};
+    ghost use Rattle.yasna_writer.specs.Written.{Written};
+    ghost use Rattle.yasna_writer.specs.Joining.{joined, AreInOrder, headers_length};
+
+    ghost Value = { Written };
+
+    ghost view = { λ s. record { bytes = joined s.headers.items s.contents.items; tag = s.tag; kept = s.kept } };
+
+    ghost invariant = { λ s. AreInOrder 0 s.headers.items (length s.contents.items) × (s.heads ≡ headers_length s.headers.items) };
+}
+
+/// What a closure writes to.
+///
+/// Each write takes the implicit tag if there is one, and else the type's own.
+pub type DERWriter<'a> = &'a mut Writer;
+
+impl Writer {
+    // A writing that begins.
+    pub(crate) fn new(alloc: Global) -> Writer
+        ensures { result ≡ empty_writing }
+    {
+        Writer {
+            contents: Vec::new(alloc),
+            headers: Vec::new(alloc),
+            heads: 0,
+            tag: None,
+            kept: None,
+            alloc,
+        }
+    }
+
+    // The failure that is kept.
+    pub(crate) fn kept(&self) -> Option<ASN1Error>
+        ensures { result ≡ self.now.kept }
+    {
+        self.kept
+    }
+
+    // Takes the implicit tag, or else a type's own.
+    pub(crate) fn take_tag(&mut self, own: Tag) -> Tag
+        ensures tag { result ≡ tag_or self.old.tag own }
+        ensures taken { self.new ≡ record self.old { tag = None } }
+    {
+        match self.tag.take() {
+            None => own,
+            Some(tag) => tag,
+        }
+    }
+
+    // Keeps want of memory.
+    pub(crate) fn lack_memory(&mut self) -> ASN1Error
+        ensures kind { kind_of result ≡ OutOfMemory }
+        ensures kept { self.new ≡ record self.old { kept = Some result } }
+    {
+        let error = ASN1Error::new(ASN1ErrorKind::OutOfMemory);
+        self.kept = Some(error);
+        error
+    }
+
+    // Appends an element without parts, whose contents are two pieces.
+    #[tactic(auto, using(crate::proofs::Joined::joined_append, crate::proofs::Joined::order_more))]
+    pub(crate) fn append_primitive(&mut self, own: Tag, front: &[u8], rest: &[u8]) -> ASN1Result<()>
+        ensures { Wrote (canonical_element Der (tag_or self.old.tag own) Primitive (front.now ++ rest.now)) self.old self.new result }
+    {
+        if let Some(error) = self.kept {
+            return Err(error);
+        }
+        let tag = self.take_tag(own);
+        match append_primitive(&mut self.contents, tag, front, rest) {
+            Ok(()) => Ok(()),
+            Err(_) => Err(self.lack_memory()),
+        }
+    }
+
+    // The bytes that were written.
+    fn into_bytes(self) -> Result<Vec<u8>, AllocError>
+        ensures { IfOk result (λ v. v.items ≡ self.bytes) }
+    {
+        join(self.alloc, self.contents, &self.headers, self.heads)
+    }
+
+    // What the writing answers, where the closure answered `own`.
+    pub(crate) fn finish<E: From<ASN1Error> + Drop>(self, own: Result<(), E>) -> Result<Vec<u8>, E>
+        ensures { Constructed E.from_gives self own result }
+    {
+        if let Some(error) = self.kept {
+            return Err(E::from(error));
+        }
+        if let Err(error) = own {
+            return Err(error);
+        }
+        match self.into_bytes() {
+            Ok(bytes) => Ok(bytes),
+            Err(_) => Err(E::from(ASN1Error::new(ASN1ErrorKind::OutOfMemory))),
+        }
+    }
+}
