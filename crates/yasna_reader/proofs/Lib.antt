@@ -8,3 +8,5 @@ pub mod Measuring
 pub mod Reading
 pub mod Scan
 pub mod Sizes
+pub mod Signed
+pub mod Memory

@@ -1,7 +1,8 @@
 -- What a read does with the front of bytes.
-use Rattle.std.specs.Prelude.{◌≡◌, ℕ, List, ◌++◌, Result, Ok, Err}
+use Rattle.std.specs.Prelude.{◌≡◌, ℕ, ◌<◌, List, ◌++◌, length, Result, Ok, Err, ◌⊎◌}
 use Rattle.std.specs.Borrow.{Bor}
 use Rattle.yasna_base.specs.declared.error.ASN1ErrorKind.{ASN1ErrorKind}
+use Rattle.yasna_base.specs.declared.error.ASN1ErrorKind.TheVariants.{OutOfMemory}
 use Rattle.yasna_base.specs.declared.mode.BERMode.{BERMode}
 use Rattle.yasna_base.specs.declared.tag.Tag.{Tag}
 use Rattle.yasna_base.specs.Simple.{IsPrimitive}
@@ -31,3 +32,8 @@ PrimitiveAt n m t s (Err e) = Refuses (IsPrimitive AreContents n m t) (IsTooDeep
 abbrev pub Decides : {A : Type 0} → (A → List ℕ → Type 0) → List ℕ → Result A ASN1ErrorKind → Type 0
 Decides {A} W c (Ok v) = W v c
 Decides {A} W c (Err k) = IsPlain k × ((v : A) → W v c → ⊥)
+
+-- the same of contents that are copied: memory may be wanting where there are any
+abbrev pub DecidesInMemory : {A : Type 0} → (A → List ℕ → Type 0) → List ℕ → Result A ASN1ErrorKind → Type 0
+DecidesInMemory {A} W c (Ok v) = W v c
+DecidesInMemory {A} W c (Err k) = ((k ≡ OutOfMemory) × (0 < length c)) ⊎ (IsPlain k × ((v : A) → W v c → ⊥))

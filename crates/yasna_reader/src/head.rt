@@ -121,7 +121,7 @@ pub fn read_identifier(s: &[u8]) -> Result<(Tag, PCBit, &[u8]), ASN1ErrorKind>
 }
 
 // The number that bytes spell in base 256, where it is below 2^64.
-fn number_of(digits: &[u8]) -> Option<u64>
+pub(crate) fn number_of(digits: &[u8]) -> Option<u64>
     ensures { MatchOption result (2 ^ 64 ≤ number_from_digits 256 digits.now) (λ k. k ≡ number_from_digits 256 digits.now) }
 {
     let mut number: u64 = 0;

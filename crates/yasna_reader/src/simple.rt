@@ -1,17 +1,112 @@
 //! Reads of simple types: BOOLEAN, NULL, INTEGER and ENUMERATED (X.690, 8.2 to 8.4 and 8.8).
 
-use crate::state::ReaderState;
 use yasna_base::error::ASN1Result;
-use yasna_base::tags::TAG_NULL;
+use yasna_base::tag::Tag;
+use yasna_base::tags::{TAG_BOOLEAN, TAG_ENUM, TAG_INTEGER, TAG_NULL};
+
+use crate::head::Refusal;
+use crate::state::ReaderState;
+use crate::values::big_integer;
 
 impl<'a> ReaderState<'a> {
-    ghost use Rattle.yasna_base.specs.Simple.{Primitively, IsNull};
-    ghost use Rattle.yasna_reader.specs.Typed.{Reads, NoLevel, Never};
+    ghost use Rattle.std.specs.Int.{w64, w32, w16, w8};
+    ghost use Rattle.yasna_base.specs.Simple.{Primitively, IsBoolean, IsNull, IsSigned, IsUnsigned};
+    ghost use Rattle.yasna_reader.specs.Typed.{Reads, FrontOf, NoLevel, Never, WantsMemory, IsBigInteger};
+
+    /// Reads BOOLEAN: any byte but 0 is true in BER, 255 alone in DER.
+    pub fn read_bool(&mut self) -> ASN1Result<bool>
+        ensures { Reads (Primitively IsBoolean) NoLevel Never TAG_BOOLEAN self.old result self.new }
+    {
+        self.read_primitive::<bool>(TAG_BOOLEAN)
+    }
 
     /// Reads NULL.
     pub fn read_null(&mut self) -> ASN1Result<()>
         ensures { Reads (Primitively IsNull) NoLevel Never TAG_NULL self.old result self.new }
     {
         self.read_primitive::<()>(TAG_NULL)
+    }
+
+    /// Reads ENUMERATED: `IntegerOverflow` outside the type.
+    pub fn read_enum(&mut self) -> ASN1Result<i64>
+        ensures { Reads (Primitively (IsSigned w64)) NoLevel Never TAG_ENUM self.old result self.new }
+    {
+        self.read_primitive::<i64>(TAG_ENUM)
+    }
+
+    /// Reads INTEGER: `IntegerOverflow` outside the type.
+    pub fn read_i64(&mut self) -> ASN1Result<i64>
+        ensures { Reads (Primitively (IsSigned w64)) NoLevel Never TAG_INTEGER self.old result self.new }
+    {
+        self.read_primitive::<i64>(TAG_INTEGER)
+    }
+
+    /// Reads INTEGER: `IntegerOverflow` outside the type.
+    pub fn read_i32(&mut self) -> ASN1Result<i32>
+        ensures { Reads (Primitively (IsSigned w32)) NoLevel Never TAG_INTEGER self.old result self.new }
+    {
+        self.read_primitive::<i32>(TAG_INTEGER)
+    }
+
+    /// Reads INTEGER: `IntegerOverflow` outside the type.
+    pub fn read_i16(&mut self) -> ASN1Result<i16>
+        ensures { Reads (Primitively (IsSigned w16)) NoLevel Never TAG_INTEGER self.old result self.new }
+    {
+        self.read_primitive::<i16>(TAG_INTEGER)
+    }
+
+    /// Reads INTEGER: `IntegerOverflow` outside the type.
+    pub fn read_i8(&mut self) -> ASN1Result<i8>
+        ensures { Reads (Primitively (IsSigned w8)) NoLevel Never TAG_INTEGER self.old result self.new }
+    {
+        self.read_primitive::<i8>(TAG_INTEGER)
+    }
+
+    /// Reads INTEGER: `IntegerOverflow` outside the type.
+    pub fn read_u64(&mut self) -> ASN1Result<u64>
+        ensures { Reads (Primitively (IsUnsigned 64)) NoLevel Never TAG_INTEGER self.old result self.new }
+    {
+        self.read_primitive::<u64>(TAG_INTEGER)
+    }
+
+    /// Reads INTEGER: `IntegerOverflow` outside the type.
+    pub fn read_u32(&mut self) -> ASN1Result<u32>
+        ensures { Reads (Primitively (IsUnsigned 32)) NoLevel Never TAG_INTEGER self.old result self.new }
+    {
+        self.read_primitive::<u32>(TAG_INTEGER)
+    }
+
+    /// Reads INTEGER: `IntegerOverflow` outside the type.
+    pub fn read_u16(&mut self) -> ASN1Result<u16>
+        ensures { Reads (Primitively (IsUnsigned 16)) NoLevel Never TAG_INTEGER self.old result self.new }
+    {
+        self.read_primitive::<u16>(TAG_INTEGER)
+    }
+
+    /// Reads INTEGER: `IntegerOverflow` outside the type.
+    pub fn read_u8(&mut self) -> ASN1Result<u8>
+        ensures { Reads (Primitively (IsUnsigned 8)) NoLevel Never TAG_INTEGER self.old result self.new }
+    {
+        self.read_primitive::<u8>(TAG_INTEGER)
+    }
+
+    /// Reads INTEGER of any size: its contents, highest byte first in two's complement, and true where it isn't negative.
+    #[tactic(auto, using(crate::proofs::Reading::reads_front, crate::proofs::Reading::reads_kept))]
+    pub fn read_bigint_bytes(&mut self) -> ASN1Result<(Vec<u8>, bool)>
+        ensures { Reads (Primitively IsBigInteger) NoLevel WantsMemory TAG_INTEGER self.old result self.new }
+    {
+        if let Some(error) = self.kept {
+            self.tag = None;
+            return Err(error);
+        }
+        let front = self.big_integer(TAG_INTEGER);
+        self.settle(front)
+    }
+
+    // An INTEGER of any size that stands at the front.
+    fn big_integer(&self, tag: Tag) -> Result<((Vec<u8>, bool), &'a [u8]), Refusal>
+        ensures { FrontOf (Primitively IsBigInteger) NoLevel WantsMemory tag self.now result }
+    {
+        big_integer(self.alloc, self.rest, self.mode, self.levels, self.wanted(tag), self.end)
     }
 }

@@ -1,11 +1,14 @@
 //! Elements of one primitive type, over bytes (X.690, 8.2 to 8.4 and 8.8).
 ghost use Rattle.std.specs.Prelude.{◌≡◌};
 ghost use Rattle.yasna_reader.specs.Head.{IsTooDeep};
-ghost use Rattle.yasna_base.specs.Simple.{IsPrimitive};
+ghost use Rattle.yasna_base.specs.Simple.{IsPrimitive, Primitively};
+ghost use Rattle.yasna_reader.specs.Typed.{WantsMemory, IsBigInteger};
 ghost use Rattle.yasna_reader.specs.Reads.{PrimitiveAt, AtFront};
 
-use crate::contents::Contents;
+use crate::contents::{Contents, big_integer_of};
 use crate::head::{Refusal, open, refuse};
+use std::alloc::Global;
+
 use yasna_base::error::ASN1ErrorKind;
 use yasna_base::mode::BERMode;
 use yasna_base::tag::{PCBit, Tag};
@@ -45,6 +48,19 @@ pub(crate) fn value<T: Contents>(
 {
     match primitive(s, mode, levels, tag, end) {
         Ok((contents, rest)) => match T::of_contents(mode, contents) {
+            Ok(value) => Ok((value, rest)),
+            Err(kind) => Err(refuse(kind, true)),
+        },
+        Err(refusal) => Err(refusal),
+    }
+}
+
+/// The contents of an INTEGER of any size and its sign, and the rest.
+pub(crate) fn big_integer(alloc: Global, s: &[u8], mode: BERMode, levels: u8, tag: Tag, end: usize) -> Result<((Vec<u8>, bool), &[u8]), Refusal>
+    ensures { AtFront (Primitively IsBigInteger levels mode tag) (IsTooDeep levels tag s.now) (WantsMemory levels tag s.now) tag s.now result }
+{
+    match primitive(s, mode, levels, tag, end) {
+        Ok((contents, rest)) => match big_integer_of(alloc, contents) {
             Ok(value) => Ok((value, rest)),
             Err(kind) => Err(refuse(kind, true)),
         },
