@@ -1,5 +1,8 @@
 //! Whole inputs and outputs.
-ghost use Rattle.std.specs.Prelude.{◌≡◌};
+ghost use Rattle.std.specs.Prelude.{◌≡◌, ◌↔◌, ◌<◌, ◌≤◌, ◌^◌, ◌++◌, ℕ, List, [], length, IfOk, IfErr, MatchResult};
+ghost use Rattle.yasna_base.specs.declared.mode.BERMode.{BERMode};
+ghost use Rattle.yasna_base.specs.declared.error.ASN1ErrorKind.TheVariants.{OutOfMemory};
+ghost use Rattle.yasna_base.specs.Refusal.{kind_of};
 ghost use Rattle.yasna_base.specs.declared.mode.BERMode.TheVariants.{Ber, Der};
 ghost use Rattle.yasna_reader.specs.Decodes.{Decoded};
 
@@ -8,19 +11,22 @@ use std::alloc::Global;
 use yasna_base::error::ASN1Result;
 use yasna_base::mode::BERMode;
 use yasna_reader::parse::parse_ber_general;
+use yasna_writer::construct::construct_der;
 
-use crate::traits::BERDecodable;
+use crate::traits::{BERDecodable, DERCanonical, DEREncodable};
 
 /// Reads a value from bytes, all of them, by these rules.
 pub fn decode_ber_general<T: BERDecodable>(alloc: Global, src: &[u8], mode: BERMode) -> ASN1Result<T>
-    ensures { Decoded T.asks_memory T.encodes T.elements mode src.now result }
+    ensures decoded { Decoded T.asks_memory T.encodes T.elements mode src.now result }
+    ensures exact { (v : T) → T.encodes mode 101 v src.now → MatchResult result (λ w. T.same w v) (λ e. kind_of e ≡ OutOfMemory) }
 {
     parse_ber_general(alloc, src, mode, |reader| T::decode_ber(reader))
 }
 
 /// Reads a value from bytes, all of them, by the basic encoding rules.
 pub fn decode_ber<T: BERDecodable>(alloc: Global, src: &[u8]) -> ASN1Result<T>
-    ensures { Decoded T.asks_memory T.encodes T.elements Ber src.now result }
+    ensures decoded { Decoded T.asks_memory T.encodes T.elements Ber src.now result }
+    ensures exact { (v : T) → T.encodes Ber 101 v src.now → MatchResult result (λ w. T.same w v) (λ e. kind_of e ≡ OutOfMemory) }
 {
     decode_ber_general(alloc, src, BERMode::Ber)
 }
@@ -29,7 +35,29 @@ pub fn decode_ber<T: BERDecodable>(alloc: Global, src: &[u8]) -> ASN1Result<T>
 ///
 /// A value is answered only from its one DER form.
 pub fn decode_der<T: BERDecodable>(alloc: Global, src: &[u8]) -> ASN1Result<T>
-    ensures { Decoded T.asks_memory T.encodes T.elements Der src.now result }
+    ensures decoded { Decoded T.asks_memory T.encodes T.elements Der src.now result }
+    ensures exact { (v : T) → T.encodes Der 101 v src.now → MatchResult result (λ w. T.same w v) (λ e. kind_of e ≡ OutOfMemory) }
 {
     decode_ber_general(alloc, src, BERMode::Der)
+}
+
+/// The DER form of a value that has one, or `OutOfMemory`.
+pub fn encode_der<T: DEREncodable>(alloc: Global, value: &T) -> ASN1Result<Vec<u8>>
+    requires { T.encodable value.now }
+    ensures form { IfOk result (λ bytes. bytes.items ≡ T.form Der value.now) }
+    ensures memory { IfErr result (λ e. kind_of e ≡ OutOfMemory) }
+{
+    construct_der(alloc, |writer| value.encode_der(writer))
+}
+
+/// What is proved of every type that keeps the laws.
+///
+/// Its DER form is the only bytes that it is read from in DER, and it is read from it in BER too; what BER reads has a
+/// form; no bytes belong to two values, and no encoding begins another. All within 101 levels.
+pub fn one_form<T: DERCanonical>()
+    ensures der { (v : T) (s : List ℕ) → length s < 2 ^ 64 → T.encodes Der 101 v s ↔ (T.encodable v × (T.nest Der v ≤ 101) × (s ≡ T.form Der v)) }
+    ensures ber { (v : T) → T.encodable v → T.nest Der v ≤ 101 → length (T.form Der v) < 2 ^ 64 → T.encodes Ber 101 v (T.form Der v) }
+    ensures written { (v : T) (s : List ℕ) → T.encodes Ber 101 v s → T.encodable v × (T.nest Der v ≤ 101) }
+    ensures unique { (m : BERMode) (v w : T) (s r : List ℕ) → T.encodes m 101 v s → T.encodes m 101 w (s ++ r) → T.same v w × (r ≡ []) }
+{
 }

@@ -1,16 +1,29 @@
 //! ASN.1 under BER and DER: reading, writing, and types that do both.
+//!
+//! `decode_ber`, `decode_der` and `encode_der` read and write values of a type as a whole. `parse_ber`, `parse_der` and
+//! `construct_der` hand a reader or a writer to a closure, which reads or writes element by element.
+//!
+//! | Module | Holds |
+//! |---|---|
+//! | `traits` | what a type says that is read and written as a whole |
+//! | `calls` | whole inputs and outputs, and what is proved of them for every such type |
+//! | `simple`, `numbers`, `tuples` | the types that come with the crate |
 #![tactic(auto)]
 
 mod calls;
+mod numbers;
 mod simple;
 mod traits;
 mod tuples;
 
-pub use calls::{decode_ber, decode_ber_general, decode_der};
-pub use traits::BERDecodable;
+pub use calls::{decode_ber, decode_ber_general, decode_der, encode_der, one_form};
+pub use traits::{BERDecodable, DERCanonical, DEREncodable};
+pub use tuples::TupleParts;
 pub use yasna_base::error::{ASN1Error, ASN1ErrorKind, ASN1Result};
 pub use yasna_base::mode::BERMode;
 pub use yasna_base::tag::{PCBit, Tag, TagClass};
 pub use yasna_base::tags;
 pub use yasna_reader::parse::{parse_ber, parse_ber_general, parse_der};
 pub use yasna_reader::state::{BERReader, BERReaderSeq};
+pub use yasna_writer::construct::{construct_der, try_construct_der};
+pub use yasna_writer::state::DERWriter;

@@ -1,13 +1,16 @@
 //! NULL and BOOLEAN.
 ghost use Rattle.std.specs.Prelude.{◌≡◌, false};
+ghost use Rattle.yasna_base.specs.Identifier.{universal};
 ghost use Rattle.yasna_base.specs.Coding.{Any};
-ghost use Rattle.yasna_base.specs.Types.{EncodesNull};
-ghost use Rattle.yasna_base.proofs.Types.{unit_coding};
+ghost use Rattle.yasna_base.specs.Canonical.{boolean_form, null_form, leaf_nest, Always};
+ghost use Rattle.yasna_base.specs.Types.{EncodesNull, EncodesBoolean};
+ghost use Rattle.yasna_base.proofs.Types.{unit_coding, unit_written, bool_coding, bool_written};
 
 use yasna_base::error::ASN1Result;
 use yasna_reader::state::BERReader;
+use yasna_writer::state::DERWriter;
 
-use crate::traits::BERDecodable;
+use crate::traits::{BERDecodable, DERCanonical, DEREncodable};
 
 impl BERDecodable for () {
     ghost encodes = { EncodesNull };
@@ -20,4 +23,45 @@ impl BERDecodable for () {
     }
 
     ghost coding = { unit_coding };
+}
+
+impl DEREncodable for () {
+    ghost form = { null_form (universal 5) };
+    ghost nest = { leaf_nest };
+    ghost encodable = { Always };
+
+    fn encode_der(&self, writer: DERWriter<'_>) -> ASN1Result<()> {
+        writer.write_null()
+    }
+}
+
+impl DERCanonical for () {
+    ghost written = { unit_written };
+}
+
+impl BERDecodable for bool {
+    ghost encodes = { EncodesBoolean };
+    ghost elements = { Any EncodesBoolean };
+    ghost asks_memory = { false };
+    ghost same = { λ v w. v ≡ w };
+
+    fn decode_ber(reader: BERReader) -> ASN1Result<bool> {
+        reader.read_bool()
+    }
+
+    ghost coding = { bool_coding };
+}
+
+impl DEREncodable for bool {
+    ghost form = { boolean_form (universal 1) };
+    ghost nest = { leaf_nest };
+    ghost encodable = { Always };
+
+    fn encode_der(&self, writer: DERWriter<'_>) -> ASN1Result<()> {
+        writer.write_bool(*self)
+    }
+}
+
+impl DERCanonical for bool {
+    ghost written = { bool_written };
 }

@@ -10,3 +10,4 @@ pub mod Scan
 pub mod Sizes
 pub mod Signed
 pub mod Memory
+pub mod Whole
