@@ -1,11 +1,11 @@
 -- The laws of reading, of simple types and of what encloses others.
-use Rattle.std.proofs.Common.{◌≡◌, ℕ, zero, suc, ◌+◌, ◌^◌, ◌<◌, ◌≤◌, List, [], ◌∷◌, ◌++◌, refl, sym, ap, subst, ◌∙◌, append_assoc, append-nil, arith}
+use Rattle.std.proofs.Common.{◌≡◌, ℕ, zero, suc, ◌^◌, ◌<◌, ◌≤◌, List, [], ◌++◌, refl, sym, ap, subst, ◌∙◌, append_assoc, append-nil, arith}
 use Rattle.std.specs.Prelude.{ℤ, Bool}
 use Rattle.yasna_base.specs.declared.mode.BERMode.{BERMode}
 use Rattle.yasna_base.specs.declared.mode.BERMode.TheVariants.{Ber, Der}
 use Rattle.yasna_base.specs.declared.tag.Tag.{Tag}
 use Rattle.yasna_base.specs.declared.tag.PCBit.TheVariants.{Primitive, Constructed}
-use Rattle.yasna_base.specs.Identifier.{end_tag, universal, StartsElement}
+use Rattle.yasna_base.specs.Identifier.{end_tag, StartsElement}
 use Rattle.yasna_base.specs.Simple.{Primitively, SaysTrue, IsBoolean, IsNumber, IsNull}
 use Rattle.yasna_base.specs.Sequence.{sequence_tag, Enclosed, AnyEnclosed, Then, PartOf, NoParts, AnyPart, AnyNothing, SamePart, SameNothing}
 use Rattle.yasna_base.specs.Coding.{IsSame, IsCoding, ArePartsCoding, IsContentsCoding, Any}
@@ -24,8 +24,8 @@ primitively W t not_end in_range one = record {
   opens = λ m n b x. element_starts m t Primitive x.1.contents b not_end in_range x.1.element;
   alone = λ m n k b c r s x y e. (primitive_exact m m t t Primitive x.1.contents y.1.contents b c r s x.1.element y.1.element e).bytes;
   exact = λ m n k v w b x y.
-    let same = primitive_exact m m t t Primitive x.contents y.contents b b [] [] x.element y.element refl in
-    one m v w y.contents (subst (λ c. W m v c) same.contents x.meaning) y.meaning;
+      let same = primitive_exact m m t t Primitive x.contents y.contents b b [] [] x.element y.element refl in
+      one m v w y.contents (subst (λ c. W m v c) same.contents x.meaning) y.meaning;
   deeper = λ m n k v b below x. record { level = omega (arith, below, x.level); contents = x.contents; element = x.element; meaning = x.meaning };
 }
 
@@ -78,15 +78,15 @@ part {B} {C} x y = record {
   };
   among = λ m n v c p. record { front = p.front; rest = p.rest; joined = p.joined; here = x.among m n v.0 p.front p.here; more = y.among m n v.1 p.rest p.more };
   alone = λ m n k b c r s p q e.
-    let same = then_same (x.alone m n k) (y.alone m n k) b c r s p q e in
-    let joined = p.joined in
-    let other = q.joined in
-    let front = same.0 in
-    let rest = same.1 in
-    cc;
+      let same = then_same (x.alone m n k) (y.alone m n k) b c r s p q e in
+      let joined = p.joined in
+      let other = q.joined in
+      let front = same.0 in
+      let rest = same.1 in
+      cc;
   exact = λ m n k v w c p q.
-    let same = then_same (λ b d r s i j. x.alone m n k b d r s (x.among m n v.0 b i) (x.among m k w.0 d j)) (λ b d r s i j. y.alone m n k b d r s (y.among m n v.1 b i) (y.among m k w.1 d j)) c c [] [] p q refl in
-    (x.exact m n k v.0 w.0 q.front (subst (λ b. B m n v.0 b) same.0 p.here) q.here, y.exact m n k v.1 w.1 q.rest (subst (λ b. C m n v.1 b) same.1 p.more) q.more);
+      let same = then_same (λ b d r s i j. x.alone m n k b d r s (x.among m n v.0 b i) (x.among m k w.0 d j)) (λ b d r s i j. y.alone m n k b d r s (y.among m n v.1 b i) (y.among m k w.1 d j)) c c [] [] p q refl in
+      (x.exact m n k v.0 w.0 q.front (subst (λ b. B m n v.0 b) same.0 p.here) q.here, y.exact m n k v.1 w.1 q.rest (subst (λ b. C m n v.1 b) same.1 p.more) q.more);
   deeper = λ m n k v c below p. record { front = p.front; rest = p.rest; joined = p.joined; here = x.deeper m n k v.0 p.front below p.here; more = y.deeper m n k v.1 p.rest below p.more };
 }
 

@@ -1,6 +1,6 @@
 -- The laws of the simple types, by name: what types made of them cite.
 use Rattle.std.proofs.Common.{◌≡◌, ℕ, ◌<◌, ◌^◌, ap, arith}
-use Rattle.std.specs.Prelude.{ℤ, pos, FitsSigned}
+use Rattle.std.specs.Prelude.{pos, FitsSigned}
 use Rattle.std.specs.Int.{Width}
 use Rattle.yasna_base.specs.declared.tag.Tag.{Tag}
 use Rattle.yasna_base.specs.Identifier.{universal, end_tag}

@@ -9,7 +9,7 @@ use Rattle.yasna_base.specs.Integer.{minimal_bytes}
 use Rattle.yasna_base.specs.Simple.{Primitively, SaysTrue, IsBoolean, IsNumber, IsNull}
 use Rattle.yasna_base.specs.Sequence.{sequence_tag, Enclosed, PartOf, NoParts, SamePart, SameNothing}
 use Rattle.yasna_base.specs.Canonical.{IsCanonicalMode, HoldsForm, canonical_element, boolean_byte, boolean_form, integer_form, null_form, leaf_nest, enclosed_form, enclosed_nest, part_form, part_nest, part_can, nothing_form, nothing_nest, Always}
-use Rattle.yasna_base.specs.Written.{HasForm, IsWritten}
+use Rattle.yasna_base.specs.Written.{IsWritten}
 use Rattle.yasna_base.proofs.CanonicalElement.{short_contents, canonical_element_is, canonical_element_only}
 use Rattle.yasna_base.proofs.MinimalBytes.{minimal_only, minimal_is}
 
@@ -68,27 +68,27 @@ pub part_written : {A V : Type 0} {E : A → A → Type 0} {F : V → V → Type
 part_written {f} {g} {n} {o} x y = record {
   has = record {
     holds = λ m p k v h can level short.
-      let both = length-append (f m v.0) (g m v.1) in
-      record {
-        front = f m v.0;
-        rest = g m v.1;
-        joined = refl;
-        here = x.has.holds m p k v.0 h can.0 (omega (arith, level)) (omega (arith, both, short));
-        more = y.has.holds m p k v.1 h can.1 (omega (arith, level)) (omega (arith, both, short));
-      };
+        let both = length-append (f m v.0) (g m v.1) in
+        record {
+          front = f m v.0;
+          rest = g m v.1;
+          joined = refl;
+          here = x.has.holds m p k v.0 h can.0 (omega (arith, level)) (omega (arith, both, short));
+          more = y.has.holds m p k v.1 h can.1 (omega (arith, level)) (omega (arith, both, short));
+        };
     only = λ m k v b h p.
-      let front = x.has.only m k v.0 p.front h p.here in
-      let rest = y.has.only m k v.1 p.rest h p.more in
-      (p.joined ∙ ap (λ z. z ++ p.rest) front.0 ∙ ap (λ z. f m v.0 ++ z) rest.0, (front.1, rest.1), omega (arith, front.2, rest.2));
+        let front = x.has.only m k v.0 p.front h p.here in
+        let rest = y.has.only m k v.1 p.rest h p.more in
+        (p.joined ∙ ap (λ z. z ++ p.rest) front.0 ∙ ap (λ z. f m v.0 ++ z) rest.0, (front.1, rest.1), omega (arith, front.2, rest.2));
   };
   any = λ k v b p.
-    let front = x.any k v.0 p.front p.here in
-    let rest = y.any k v.1 p.rest p.more in
-    ((front.0, rest.0), omega (arith, front.1, rest.1));
+      let front = x.any k v.0 p.front p.here in
+      let rest = y.any k v.1 p.rest p.more in
+      ((front.0, rest.0), omega (arith, front.1, rest.1));
   same = λ m v w e.
-    let front = x.same m v.0 w.0 e.0 in
-    let rest = y.same m v.1 w.1 e.1 in
-    (ap (λ z. z ++ g m v.1) front.0 ∙ ap (λ z. f m w.0 ++ z) rest.0, λ can. (front.1 can.0, rest.1 can.1), ap (λ z. max z (o m v.1)) front.2 ∙ ap (λ z. max (n m w.0) z) rest.2);
+      let front = x.same m v.0 w.0 e.0 in
+      let rest = y.same m v.1 w.1 e.1 in
+      (ap (λ z. z ++ g m v.1) front.0 ∙ ap (λ z. f m w.0 ++ z) rest.0, λ can. (front.1 can.0, rest.1 can.1), ap (λ z. max z (o m v.1)) front.2 ∙ ap (λ z. max (n m w.0) z) rest.2);
 }
 
 module _ {A : Type 0} {E : A → A → Type 0} {C : BERMode → ℕ → A → List ℕ → Type 0} {form : BERMode → A → List ℕ} {nest : BERMode → A → ℕ} {Can : A → Type 0} (x : IsWritten E C form nest Can) (t : Tag) where

@@ -1,7 +1,7 @@
 -- Two's complement (X.690, 8.3).
-use Rattle.std.specs.Prelude.{◌≡◌, ℕ, ◌+◌, ◌-◌, ◌*◌, ◌^◌, ◌<◌, ◌≤◌, List, [], ◌∷◌, length, map, if◌then◌else◌, nat_lt, ℤ, pos, negsuc, ◌-ℤ◌}
+use Rattle.std.specs.Prelude.{◌≡◌, ℕ, ◌-◌, ◌^◌, ◌<◌, ◌≤◌, List, [], ◌∷◌, length, map, if◌then◌else◌, nat_lt, ℤ, pos, negsuc, ◌-ℤ◌}
 use Rattle.std.specs.Int.Digits.{number_from_digits}
-use Rattle.yasna_base.specs.Digits.{IsBytes, digits}
+use Rattle.yasna_base.specs.Digits.{digits}
 
 -- the number read unsigned, less 256 ^ length where the first bit is set
 unfoldable pub twos : List ℕ → ℤ
