@@ -10,8 +10,8 @@ use std::alloc::Global;
 
 use yasna_base::error::ASN1Result;
 use yasna_base::mode::BERMode;
-use yasna_reader::parse::parse_ber_general;
-use yasna_writer::construct::construct_der;
+use yasna_reader::parse_ber_general;
+use yasna_writer::construct_der;
 
 use crate::traits::{BERDecodable, DERCanonical, DEREncodable};
 

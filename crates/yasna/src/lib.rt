@@ -23,7 +23,7 @@ pub use yasna_base::error::{ASN1Error, ASN1ErrorKind, ASN1Result};
 pub use yasna_base::mode::BERMode;
 pub use yasna_base::tag::{PCBit, Tag, TagClass};
 pub use yasna_base::tags;
-pub use yasna_reader::parse::{parse_ber, parse_ber_general, parse_der};
-pub use yasna_reader::state::{BERReader, BERReaderSeq};
-pub use yasna_writer::construct::{construct_der, try_construct_der};
-pub use yasna_writer::state::DERWriter;
+pub use yasna_reader::{BERReader, BERReaderSeq, parse_ber, parse_ber_general, parse_der};
+pub use yasna_writer::{
+    DERWriter, DERWriterSeq, construct_der, construct_der_seq, try_construct_der, try_construct_der_seq,
+};

@@ -8,8 +8,8 @@ ghost use Rattle.yasna_base.specs.Types.{EncodesSigned, EncodesUnsigned};
 ghost use Rattle.yasna_base.proofs.Types.{signed_coding, signed_written, unsigned_coding, unsigned_written};
 
 use yasna_base::error::ASN1Result;
-use yasna_reader::state::BERReader;
-use yasna_writer::state::DERWriter;
+use yasna_reader::BERReader;
+use yasna_writer::DERWriter;
 
 use crate::traits::{BERDecodable, DERCanonical, DEREncodable};
 

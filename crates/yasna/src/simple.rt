@@ -7,8 +7,8 @@ ghost use Rattle.yasna_base.specs.Types.{EncodesNull, EncodesBoolean};
 ghost use Rattle.yasna_base.proofs.Types.{unit_coding, unit_written, bool_coding, bool_written};
 
 use yasna_base::error::ASN1Result;
-use yasna_reader::state::BERReader;
-use yasna_writer::state::DERWriter;
+use yasna_reader::BERReader;
+use yasna_writer::DERWriter;
 
 use crate::traits::{BERDecodable, DERCanonical, DEREncodable};
 

@@ -11,8 +11,8 @@ ghost use Rattle.yasna_reader.specs.Decodes.{Decodes};
 ghost use Rattle.yasna_writer.specs.Written.{Wrote};
 
 use yasna_base::error::ASN1Result;
-use yasna_reader::state::BERReader;
-use yasna_writer::state::DERWriter;
+use yasna_reader::BERReader;
+use yasna_writer::DERWriter;
 
 /// A type that is read from BER and DER.
 pub trait BERDecodable: Sized + Drop {

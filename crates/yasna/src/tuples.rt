@@ -2,19 +2,24 @@
 //!
 //! A tuple is read as pairs that end in `()`: `(A, B)` as `(A, (B, ()))`. So the laws and the reading of every tuple
 //! are those of its parts, one after the other.
-ghost use Rattle.std.specs.Prelude.{◌≡◌, ℕ, List, Bool, None, false, ◌||◌};
+ghost use Rattle.std.specs.Prelude.{◌≡◌, ℕ, List, Bool, None, false, ◌||◌, ◌++◌, []};
 ghost use Rattle.yasna_base.specs.declared.mode.BERMode.{BERMode};
 ghost use Rattle.yasna_base.specs.Sequence.{sequence_tag, Enclosed, AnyEnclosed, PartOf, NoParts, AnyPart, AnyNothing, SamePart, SameNothing};
 ghost use Rattle.yasna_base.specs.Coding.{ArePartsCoding};
+ghost use Rattle.yasna_base.specs.declared.mode.BERMode.TheVariants.{Der};
+ghost use Rattle.yasna_base.specs.Canonical.{enclosed_form, enclosed_nest, part_form, part_nest, part_can, nothing_form, nothing_nest, Always};
 ghost use Rattle.yasna_base.proofs.Codings.{part, no_part, tuple};
+ghost use Rattle.yasna_base.proofs.Writings.{part_written, no_part_written, tuple_written};
+ghost use Rattle.yasna_writer.specs.Written.{Wrote};
 ghost use Rattle.yasna_reader.specs.View.{IsFresh};
 ghost use Rattle.yasna_reader.specs.Lending.{part_of};
 ghost use Rattle.yasna_reader.specs.Decodes.{Decodes, DecodesParts};
 
 use yasna_base::error::ASN1Result;
-use yasna_reader::state::{BERReader, BERReaderSeq};
+use yasna_reader::{BERReader, BERReaderSeq};
+use yasna_writer::{DERWriter, DERWriterSeq};
 
-use crate::traits::BERDecodable;
+use crate::traits::{BERDecodable, DERCanonical, DEREncodable};
 
 /// What a tuple's parts are read as.
 pub trait TupleParts: Sized + Drop {
@@ -93,4 +98,28 @@ impl<A: BERDecodable, B: BERDecodable> BERDecodable for (A, B) {
     }
 
     ghost coding = { tuple (λ v. (v.0, (v.1, tt))) (part A.coding (part B.coding no_part)) };
+}
+
+impl<A: DEREncodable, B: DEREncodable> DEREncodable for (A, B) {
+    ghost form = { λ m v. enclosed_form (part_form A.form (part_form B.form nothing_form)) sequence_tag m (v.0, (v.1, tt)) };
+    ghost nest = { λ m v. enclosed_nest (part_nest A.nest (part_nest B.nest nothing_nest)) m (v.0, (v.1, tt)) };
+    ghost encodable = { λ v. part_can A.encodable (part_can B.encodable Always) (v.0, (v.1, tt {0})) };
+
+    fn encode_der(&self, writer: DERWriter<'_>) -> ASN1Result<()> {
+        writer.write_sequence(|seq| write_pair(self, seq))
+    }
+}
+
+// Writes both parts, one after the other.
+fn write_pair<A: DEREncodable, B: DEREncodable>(pair: &(A, B), seq: &mut DERWriterSeq) -> ASN1Result<()>
+    requires first { A.encodable pair.now.0 }
+    requires second { B.encodable pair.now.1 }
+    ensures { Wrote (A.form Der pair.now.0 ++ (B.form Der pair.now.1 ++ [])) seq.old seq.new result }
+{
+    pair.0.encode_der(seq.next())?;
+    pair.1.encode_der(seq.next())
+}
+
+impl<A: DERCanonical, B: DERCanonical> DERCanonical for (A, B) {
+    ghost written = { tuple_written (λ v. (v.0, (v.1, tt))) (part_written A.written (part_written B.written no_part_written)) };
 }

@@ -18,10 +18,10 @@
 mod contents;
 mod head;
 mod modes;
-pub mod parse;
+mod parse;
 mod sequence;
 mod simple;
-pub mod state;
+mod state;
 mod values;
 
 pub use parse::{parse_ber, parse_ber_general, parse_der};

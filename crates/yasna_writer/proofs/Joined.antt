@@ -78,3 +78,26 @@ pub joined_turn : (k : ℕ) (rest : List Header) (h : Header) (hs : List Header)
 joined_turn k rest h hs c whole out one two e o w p q =
     let there = ap (λ r. drop k (joined r c)) e ∙ joined_step k h hs c (subst (λ (xs : List Header). AreInOrder k xs (length c)) e o) in
     w ∙ ap (λ x. out ++ x) there ∙ sym (appended_two out one two (slice_range c k h.place) (header_bytes h) (drop h.place (joined hs c)) p q)
+
+-- headers in front of a place, one at it, and those behind it are in order
+pub order_around : (k : ℕ) (hs : List Header) (h : Header) (is : List Header) (n : ℕ) → AreInOrder k hs h.place → AreInOrder h.place is n → AreInOrder k (hs ++ (h ∷ is)) n
+order_around k [] h is n o i = (o, i)
+order_around k (g ∷ hs) h is n o i = (o.0, order_around g.place hs h is n o.1 i)
+
+pub headers_length_append : (hs is : List Header) → headers_length (hs ++ is) ≡ headers_length hs + headers_length is
+headers_length_append [] is = omega arith
+headers_length_append (h ∷ hs) is = omega (arith, headers_length_append hs is)
+
+-- headers in front of a place are joined with what stands in front of it, and those from it on with the rest
+pub joined_around : (k : ℕ) (hs : List Header) (h : Header) (is : List Header) (c : List ℕ) → AreInOrder k hs h.place → AreInOrder h.place is (length c) → joined (hs ++ (h ∷ is)) c ≡ joined hs (take h.place c) ++ (header_bytes h ++ drop h.place (joined is c))
+joined_around k [] h is c o i = ap (λ x. x ++ (header_bytes h ++ drop h.place (joined is c))) (joined_front h.place is c i)
+joined_around k (g ∷ hs) h is c o i =
+    let front = take h.place c in
+    let le = order_within h.place is (length c) i in
+    let here = order_within g.place hs h.place o.1 in
+    ap (with_header g) (joined_around g.place hs h is c o.1 i)
+    ∙ with_header_append g (joined hs front) (header_bytes h ++ drop h.place (joined is c)) (omega (arith, joined_length hs front, length-take h.place c))
+
+-- how much stands from a place on
+pub joined_rest_length : (k : ℕ) (hs : List Header) (c : List ℕ) → k ≤ length c → length (drop k (joined hs c)) ≡ length c - k + headers_length hs
+joined_rest_length k hs c le = omega (arith, length-drop k (joined hs c), joined_length hs c)

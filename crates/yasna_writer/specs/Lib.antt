@@ -3,3 +3,5 @@ pub mod Closures
 pub mod Number
 pub mod Joining
 pub mod Base128
+pub mod Opening
+pub mod Lending

@@ -1,5 +1,5 @@
 //! Identifier and length octets (X.690, 8.1.2 and 8.1.3).
-ghost use Rattle.std.specs.Prelude.{◌≡◌, ◌≤◌, ◌+◌, ◌*◌, ◌++◌, ℕ, length, OnOk, vec_len, if◌then◌else◌, nat_eq};
+ghost use Rattle.std.specs.Prelude.{◌≡◌, ◌≤◌, ◌+◌, ◌*◌, ◌++◌, ℕ, length, length as count, OnOk, vec_len, if◌then◌else◌, nat_eq};
 ghost use Rattle.yasna_base.specs.Identifier.{identifier, class_number, bit_number};
 ghost use Rattle.yasna_base.specs.Length.{shortest_length};
 ghost use Rattle.yasna_base.specs.Digits.{base128};
@@ -7,21 +7,21 @@ ghost use Rattle.yasna_writer.specs.Joining.{header_bytes};
 ghost use Rattle.yasna_writer.specs.Base128.{base128_digits, base128_byte};
 ghost use Rattle.yasna_base.specs.Canonical.{canonical_element};
 ghost use Rattle.yasna_base.specs.declared.mode.BERMode.TheVariants.{Der};
-ghost use Rattle.yasna_base.specs.declared.tag.PCBit.TheVariants.{Primitive};
+ghost use Rattle.yasna_base.specs.declared.tag.PCBit.TheVariants.{Primitive, Constructed};
 
 use crate::number::without;
 use std::alloc::AllocError;
 use yasna_base::{PCBit, Tag, TagClass};
 
-/// The header of an element with parts that isn't among the contents yet.
+// The header of an element with parts that isn't among the contents yet.
 #[derive(Clone, Copy)]
-pub struct Header {
-    /// Where in the contents it belongs.
-    pub place: usize,
-    /// The element's tag.
-    pub tag: Tag,
-    /// How long the element's contents are, with the headers of its parts.
-    pub length: usize,
+pub(crate) struct Header {
+    // Where in the contents it belongs.
+    pub(crate) place: usize,
+    // The element's tag.
+    pub(crate) tag: Tag,
+    // How long the element's contents are, with the headers of its parts.
+    pub(crate) length: usize,
 }
 
 // Appends bytes.
@@ -136,4 +136,36 @@ pub(crate) fn append_header(out: &mut Vec<u8>, header: Header) -> Result<(), All
 {
     append_identifier(out, header.tag, PCBit::Constructed)?;
     append_length(out, header.length)
+}
+
+// How many bytes the identifier of a constructed element takes.
+#[tactic(auto, using(yasna_base::proofs::Identifier::identifier_short, yasna_base::proofs::Identifier::identifier_long, crate::proofs::Base128Digits::base128_length_at_most))]
+fn identifier_length(tag: Tag) -> usize
+    ensures octets { result ≡ length (identifier tag Constructed) }
+    ensures few { result ≤ 11 }
+{
+    if tag.tag_number < 31 {
+        return 1;
+    }
+    base128_length(tag.tag_number) + 1
+}
+
+// How many bytes a length takes.
+#[tactic(auto, using(yasna_base::proofs::Length::short_length, crate::proofs::BigEndian::length_without, crate::proofs::BigEndian::without_at_most))]
+fn length_length(length: usize) -> usize
+    ensures octets { result ≡ count (shortest_length length) }
+    ensures few { result ≤ 9 }
+{
+    if length < 128 {
+        return 1;
+    }
+    without(0, &length.to_be_bytes()).len() + 1
+}
+
+// How many bytes the header of an element with parts takes.
+pub(crate) fn header_length(header: Header) -> usize
+    ensures octets { result ≡ length (header_bytes header) }
+    ensures few { result ≤ 20 }
+{
+    identifier_length(header.tag) + length_length(header.length)
 }

@@ -55,14 +55,14 @@ impl Writer {
     pub fn write_i16(&mut self, val: i16) -> ASN1Result<()>
         ensures { Wrote (integer_form (tag_or self.old.tag (universal 2)) Der val) self.old self.new result }
     {
-        self.write_i64(i64::from(val))
+        self.write_i32(i32::from(val))
     }
 
     /// Writes an INTEGER (X.690, 8.3).
     pub fn write_i8(&mut self, val: i8) -> ASN1Result<()>
         ensures { Wrote (integer_form (tag_or self.old.tag (universal 2)) Der val) self.old self.new result }
     {
-        self.write_i64(i64::from(val))
+        self.write_i16(i16::from(val))
     }
 
     /// Writes an INTEGER (X.690, 8.3).
@@ -84,14 +84,14 @@ impl Writer {
     pub fn write_u16(&mut self, val: u16) -> ASN1Result<()>
         ensures { Wrote (integer_form (tag_or self.old.tag (universal 2)) Der (pos val)) self.old self.new result }
     {
-        self.write_u64(u64::from(val))
+        self.write_u32(u32::from(val))
     }
 
     /// Writes an INTEGER (X.690, 8.3).
     pub fn write_u8(&mut self, val: u8) -> ASN1Result<()>
         ensures { Wrote (integer_form (tag_or self.old.tag (universal 2)) Der (pos val)) self.old self.new result }
     {
-        self.write_u64(u64::from(val))
+        self.write_u16(u16::from(val))
     }
 
     /// Writes an INTEGER of any size (X.690, 8.3).

@@ -6,10 +6,14 @@ ghost use Rattle.yasna_base.specs.Canonical.{canonical_element};
 ghost use Rattle.yasna_base.specs.declared.mode.BERMode.TheVariants.{Der};
 ghost use Rattle.yasna_base.specs.declared.tag.PCBit.TheVariants.{Primitive};
 ghost use Rattle.yasna_writer.specs.Written.{Written, tag_or, holding, empty_writing, Wrote};
-ghost use Rattle.yasna_writer.specs.Closures.{Constructed};
+ghost use Rattle.yasna_writer.specs.Closures.{Constructed, AnswersKept};
+ghost use Rattle.yasna_writer.specs.Joining.{IsOpened};
+ghost use Rattle.yasna_writer.specs.Opening.{Opens, Ends, Closes};
 
 use crate::header::{Header, append_primitive};
 use crate::join::join;
+use crate::nesting::{Draft, Opened, end_draft};
+use std::mem;
 use std::alloc::{AllocError, Global};
 use std::marker::Model;
 use yasna_base::{ASN1Error, ASN1ErrorKind, ASN1Result, Tag};
@@ -63,13 +67,6 @@ impl Writer {
         }
     }
 
-    // The failure that is kept.
-    pub(crate) fn kept(&self) -> Option<ASN1Error>
-        ensures { result ≡ self.now.kept }
-    {
-        self.kept
-    }
-
     // Takes the implicit tag, or else a type's own.
     pub(crate) fn take_tag(&mut self, own: Tag) -> Tag
         ensures tag { result ≡ tag_or self.old.tag own }
@@ -79,6 +76,13 @@ impl Writer {
             None => own,
             Some(tag) => tag,
         }
+    }
+
+    // Drops the implicit tag.
+    pub(crate) fn untag(&mut self)
+        ensures { self.new ≡ record self.old { tag = None } }
+    {
+        self.tag = None;
     }
 
     // Keeps want of memory.
@@ -126,6 +130,94 @@ impl Writer {
         match self.into_bytes() {
             Ok(bytes) => Ok(bytes),
             Err(_) => Err(E::from(ASN1Error::new(ASN1ErrorKind::OutOfMemory))),
+        }
+    }
+
+    // Hands the contents to a writer of an element's parts, and keeps what stands around them.
+    pub(crate) fn open(&mut self, own: Tag) -> Result<(Opened, Writer), ASN1Error>
+        ensures { Opens own self.old self.new result }
+    {
+        if let Some(error) = self.kept {
+            return Err(error);
+        }
+        let tag = self.take_tag(own);
+        let alloc = self.alloc;
+        let outer = mem::replace(self, Writer::new(alloc));
+        let Writer {
+            contents,
+            headers,
+            heads,
+            tag: _,
+            kept: _,
+            alloc: _,
+        } = outer;
+        let opened = Opened {
+            headers,
+            heads,
+            place: contents.len(),
+            tag,
+        };
+        let inner = Writer {
+            contents,
+            headers: Vec::new(alloc),
+            heads: 0,
+            tag: None,
+            kept: None,
+            alloc,
+        };
+        Ok((opened, inner))
+    }
+
+    // The element around what a writer of its parts left.
+    fn end(self, opened: Opened) -> Result<Draft, ASN1Error>
+        requires { IsOpened opened }
+        ensures { Ends opened self result }
+    {
+        if let Some(error) = self.kept {
+            return Err(error);
+        }
+        let Some(length) = self.contents.len().checked_add(self.heads) else {
+            return Err(ASN1Error::new(ASN1ErrorKind::OutOfMemory));
+        };
+        if length < opened.place {
+            return Err(ASN1Error::new(ASN1ErrorKind::Invalid));
+        }
+        let alloc = self.alloc;
+        let draft = Draft {
+            contents: self.contents,
+            headers: self.headers,
+            heads: self.heads,
+        };
+        end_draft(alloc, opened, draft)
+    }
+
+    // Ends an element over what the writer of its parts left, or keeps why that fails.
+    pub(crate) fn close(&mut self, opened: Opened, inner: Writer)
+        requires { IsOpened opened }
+        ensures { Closes opened inner self.old self.new }
+    {
+        match inner.end(opened) {
+            Err(error) => self.kept = Some(error),
+            Ok(draft) => {
+                *self = Writer {
+                    contents: draft.contents,
+                    headers: draft.headers,
+                    heads: draft.heads,
+                    tag: None,
+                    kept: None,
+                    alloc: self.alloc,
+                };
+            }
+        }
+    }
+
+    // What a call with a closure answers, where the closure answered `own`.
+    pub(crate) fn settle<T: Drop, E: From<ASN1Error> + Drop>(&self, own: Result<T, E>) -> Result<T, E>
+        ensures { AnswersKept E.from_gives self.now.kept own result }
+    {
+        match self.kept {
+            Some(error) => Err(E::from(error)),
+            None => own,
         }
     }
 }
