@@ -1,0 +1,19 @@
+-- Writing a list of bytes in pieces.
+use Rattle.std.proofs.Common.{◌≡◌, ℕ, List, ◌++◌, ◌-◌, take, drop, length, take-append-drop, append_assoc, ap, sym, ◌∙◌, arith}
+use Rattle.std.proofs.lemmas.List.{take_all, length-drop}
+use Rattle.std.specs.Prelude.{Option}
+use Rattle.std.specs.Io.KnownBytes.{Appends}
+use Rattle.std.proofs.KnownBytes.{Appends-trans}
+
+take_rest : (xs : List ℕ) (n : ℕ) → take (length xs - n) (drop n xs) ≡ drop n xs
+take_rest xs n = take_all _ _ (rw length-drop (omega arith))
+
+-- after a front of the bytes, a piece of the rest makes a longer front
+pub wrote_more : (a b c : Option (List ℕ)) (bytes front rest : List ℕ) (n : ℕ) → bytes ≡ front ++ rest
+    → Appends a b front → Appends b c (take n rest)
+    → (x : List ℕ) × (bytes ≡ x ++ take (length rest - n) (drop n rest)) × Appends a c x
+wrote_more a b c bytes front rest n e p q = (
+  front ++ take n rest,
+  e ∙ ap (λ l. front ++ l) (sym (take-append-drop n rest)) ∙ sym (append_assoc front (take n rest) (drop n rest)) ∙ ap (λ l. (front ++ take n rest) ++ l) (sym (take_rest rest n)),
+  Appends-trans a b c front (take n rest) p q,
+)

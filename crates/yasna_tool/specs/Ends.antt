@@ -1,0 +1,11 @@
+-- What `Counted` holds.
+use Rattle.std.specs.Prelude.{ℕ}
+use Rattle.yasna_tool.specs.declared.ends.Counted.{Counted}
+
+-- the reader or writer
+abbrev pub end_of : {E : Type 0} → Counted E → E
+end_of c = c.end
+
+-- how often it failed
+abbrev pub failure_count : {E : Type 0} → Counted E → ℕ
+failure_count c = c.failures

@@ -1,0 +1,3 @@
+pub mod Failures
+pub mod Ends
+pub mod Engine

@@ -1,0 +1,138 @@
+//! The two ends of a run: where its bytes come from, and where they go.
+//!
+//! Each end counts its failures, so that a contract can say that a run fails by its ends only
+//! where one of them failed in it.
+ghost use Rattle.std.specs.Prelude.{◌≡◌, ℕ, List, Option};
+ghost use Rattle.std.specs.Io.{ReadsAtMost, WritesAtMost};
+ghost use Rattle.std.specs.Io.KnownBytes.{ReadConsumes, WriteAppends, Keeps};
+ghost use Rattle.yasna_tool.specs.Ends.{end_of, failure_count};
+ghost use Rattle.yasna_tool.specs.Failures.{one_more, CountsErr, CountsWrite};
+
+use std::io;
+use std::io::{Read, Write};
+
+/// Where bytes come from.
+pub trait Source {
+    // The bytes that pulls will give from here on, where they are known.
+    ghost remaining: { Self → Option (List ℕ) };
+
+    ghost failed: { Self → ℕ };
+
+    /// Puts bytes at the front of `buffer` and says how many: none only at the end, or where
+    /// `buffer` has no room.
+    fn pull(&mut self, buffer: &mut [u8]) -> io::Result<usize>
+        ensures bound { ReadsAtMost result buffer.new }
+        ensures bytes { ReadConsumes (remaining self.old) (remaining self.new) result buffer.new }
+        ensures count { CountsErr (failed self.old) (failed self.new) result };
+
+    /// How many pulls failed, at most `u64::MAX`.
+    fn failures(&self) -> u64
+        ensures { result ≡ failed self.now };
+}
+
+/// Where bytes go.
+pub trait Sink {
+    // The bytes that were taken, where they are known.
+    ghost contents: { Self → Option (List ℕ) };
+
+    ghost failed: { Self → ℕ };
+
+    /// Takes bytes from the front of `buffer` and says how many. To take none where there are
+    /// some counts as a failure.
+    fn push(&mut self, buffer: &[u8]) -> io::Result<usize>
+        ensures bound { WritesAtMost result buffer.now }
+        ensures bytes { WriteAppends (contents self.old) (contents self.new) result buffer.now }
+        ensures count { CountsWrite (failed self.old) (failed self.new) result buffer.now };
+
+    /// Sends on what was taken.
+    fn flush(&mut self) -> io::Result<()>
+        ensures bytes { Keeps (contents self.old) (contents self.new) }
+        ensures count { CountsErr (failed self.old) (failed self.new) result };
+
+    /// How many pushes and flushes failed, at most `u64::MAX`.
+    fn failures(&self) -> u64
+        ensures { result ≡ failed self.now };
+}
+
+/// A reader or a writer of the standard library, with a count of its failures.
+#[derive(Drop)]
+pub struct Counted<E> {
+    end: E,
+    failures: u64,
+}
+
+impl<E> Counted<E> {
+    /// Counts the failures of `end`, from 0.
+    pub fn new(end: E) -> Counted<E>
+        ensures end { end_of result ≡ end }
+        ensures failures { failure_count result ≡ 0 }
+    {
+        Counted { end, failures: 0 }
+    }
+
+    /// The reader or writer, without its count.
+    pub fn into_end(self) -> E
+        ensures { result ≡ end_of self }
+    {
+        self.end
+    }
+
+    /// One failure more, up to `u64::MAX`.
+    fn count_failure(&mut self)
+        ensures end { end_of self.new ≡ end_of self.old }
+        ensures failures { failure_count self.new ≡ one_more (failure_count self.old) }
+    {
+        self.failures = self.failures.saturating_add(1);
+    }
+}
+
+impl<E: Read> Source for Counted<E> {
+    ghost remaining = { λ c. E.remaining (end_of c) };
+
+    ghost failed = { failure_count };
+
+    fn pull(&mut self, buffer: &mut [u8]) -> io::Result<usize> {
+        let answer = self.end.read(buffer);
+        if answer.is_err() {
+            self.count_failure();
+        }
+        answer
+    }
+
+    fn failures(&self) -> u64 {
+        self.failures
+    }
+}
+
+impl<E: Write> Sink for Counted<E> {
+    ghost contents = { λ c. E.contents (end_of c) };
+
+    ghost failed = { failure_count };
+
+    fn push(&mut self, buffer: &[u8]) -> io::Result<usize> {
+        match self.end.write(buffer) {
+            Ok(taken) => {
+                if taken == 0 && !buffer.is_empty() {
+                    self.count_failure();
+                }
+                Ok(taken)
+            }
+            Err(error) => {
+                self.count_failure();
+                Err(error)
+            }
+        }
+    }
+
+    fn flush(&mut self) -> io::Result<()> {
+        let answer = self.end.flush();
+        if answer.is_err() {
+            self.count_failure();
+        }
+        answer
+    }
+
+    fn failures(&self) -> u64 {
+        self.failures
+    }
+}

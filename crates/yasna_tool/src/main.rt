@@ -1,0 +1,38 @@
+//! `yasna_tool MODE KIND` reads one value from standard input and writes its DER form.
+//!
+//! | Module | Holds |
+//! |---|---|
+//! | `ends` | where bytes come from and go to, with a count of failures |
+//! | `engine` | read to the end, decode, encode, write |
+//! | `tool` | the arguments, the texts of faults and the exit statuses |
+#![tactic(auto)]
+
+mod ends;
+mod engine;
+#[cfg(test)]
+mod tests;
+mod tool;
+
+use ends::Counted;
+use std::env;
+use std::process::ExitCode;
+
+fn main(rt: HostRuntime) -> ExitCode {
+    let mut errors = rt.stderr();
+    let Ok(all) = env::args(&rt) else {
+        return ExitCode::from(tool::report_device(&mut errors));
+    };
+    let Ok(words) = all.skip(1).collect::<Vec<String>>(rt.alloc()) else {
+        return ExitCode::from(tool::report_device(&mut errors));
+    };
+    let mut reader = Counted::new(rt.stdin());
+    let mut writer = Counted::new(rt.stdout());
+    let status = tool::tool(
+        rt.alloc(),
+        words.as_slice(),
+        &mut reader,
+        &mut writer,
+        &mut errors,
+    );
+    ExitCode::from(status)
+}

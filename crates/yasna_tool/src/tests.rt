@@ -1,0 +1,382 @@
+//! The program over memory: statuses and texts for rows of bytes, for arguments and for ends
+//! that fail.
+ghost use Rattle.std.specs.Prelude.{◌-◌, ◌^◌, ◌<◌, None};
+
+use crate::ends::{Counted, Sink, Source};
+use crate::tool::tool;
+use std::alloc::{AllocError, Global};
+use std::io;
+use std::io::Read;
+use std::process::Abort;
+use std::test::Fail;
+
+/// What the program answers.
+#[derive(Clone, Copy)]
+struct Wanted {
+    status: u8,
+    output: &'static [u8],
+    errors: &'static str,
+}
+
+const EOF: Wanted = Wanted {
+    status: 1,
+    output: &[],
+    errors: "ASN1Error { kind: Eof }\n",
+};
+
+const EXTRA: Wanted = Wanted {
+    status: 1,
+    output: &[],
+    errors: "ASN1Error { kind: Extra }\n",
+};
+
+const INVALID: Wanted = Wanted {
+    status: 1,
+    output: &[],
+    errors: "ASN1Error { kind: Invalid }\n",
+};
+
+/// The DER form of (10, true) is written.
+const TEN_TRUE: Wanted = Wanted {
+    status: 0,
+    output: &[48, 6, 2, 1, 10, 1, 1, 255],
+    errors: "",
+};
+
+/// The DER form of (9223372036854775807, false) is written.
+const GREATEST_FALSE: Wanted = Wanted {
+    status: 0,
+    output: &[
+        48, 13, 2, 8, 127, 255, 255, 255, 255, 255, 255, 255, 1, 1, 0,
+    ],
+    errors: "",
+};
+
+const MINUS_129: Wanted = Wanted {
+    status: 0,
+    output: &[2, 2, 255, 127],
+    errors: "",
+};
+
+const TRUE: Wanted = Wanted {
+    status: 0,
+    output: &[1, 1, 255],
+    errors: "",
+};
+
+const NULL: Wanted = Wanted {
+    status: 0,
+    output: &[5, 0],
+    errors: "",
+};
+
+const USAGE: &str = "usage: yasna_tool ber|der KIND\n";
+
+const DEVICE: &str = "io\n";
+
+/// Bytes, and what they give as a pair in each mode.
+#[derive(Clone, Copy)]
+struct Row {
+    input: &'static [u8],
+    ber: Wanted,
+    der: Wanted,
+}
+
+const ROWS: [Row; 11] = [
+    Row {
+        input: &[],
+        ber: EOF,
+        der: EOF,
+    },
+    Row {
+        input: &[48, 6, 2, 1, 10, 1, 1, 255, 0],
+        ber: EXTRA,
+        der: EXTRA,
+    },
+    Row {
+        input: &[48, 7, 2, 1, 10, 1, 1, 255, 0],
+        ber: EXTRA,
+        der: EXTRA,
+    },
+    Row {
+        input: &[48, 8, 2, 1, 10, 1, 1, 255],
+        ber: EOF,
+        der: EOF,
+    },
+    Row {
+        input: &[48, 129, 6, 2, 1, 10, 1, 1, 1],
+        ber: TEN_TRUE,
+        der: INVALID,
+    },
+    Row {
+        input: &[48, 128, 2, 1, 10, 1, 1, 255],
+        ber: EOF,
+        der: INVALID,
+    },
+    Row {
+        input: &[48, 6, 1, 1, 255, 2, 1, 10],
+        ber: INVALID,
+        der: INVALID,
+    },
+    Row {
+        input: &[
+            48, 13, 2, 8, 127, 255, 255, 255, 255, 255, 255, 255, 1, 1, 0,
+        ],
+        ber: GREATEST_FALSE,
+        der: GREATEST_FALSE,
+    },
+    Row {
+        input: &[48, 6, 2, 1, 10, 1, 1, 255],
+        ber: TEN_TRUE,
+        der: TEN_TRUE,
+    },
+    Row {
+        input: &[48, 6, 2, 1, 10, 1, 1],
+        ber: EOF,
+        der: EOF,
+    },
+    Row {
+        input: &[48, 128, 2, 1, 10, 1, 1, 255, 0, 0],
+        ber: TEN_TRUE,
+        der: INVALID,
+    },
+];
+
+fn strings(alloc: Global, words: &[&str]) -> Result<Vec<String>, AllocError> {
+    let mut all = Vec::new(alloc);
+    for word in words {
+        all.push(word.to_string(alloc)?)?;
+    }
+    Ok(all)
+}
+
+/// What the program answered over memory.
+#[derive(Drop)]
+struct Answer {
+    status: u8,
+    output: Vec<u8>,
+    errors: Vec<u8>,
+    unread: usize,
+}
+
+fn told(alloc: Global, words: &[&str], input: &[u8]) -> Result<Answer, AllocError> {
+    let words = strings(alloc, words)?;
+    let mut reader = Counted::new(input);
+    let mut writer = Counted::new(Vec::new(alloc));
+    let mut errors = Vec::new(alloc);
+    let status = tool(
+        alloc,
+        words.as_slice(),
+        &mut reader,
+        &mut writer,
+        &mut errors,
+    );
+    Ok(Answer {
+        status,
+        output: writer.into_end(),
+        errors,
+        unread: reader.into_end().len(),
+    })
+}
+
+fn judge(
+    rt: &(impl AllocGlobal + Abort),
+    words: &[&str],
+    input: &[u8],
+    wanted: &Wanted,
+) -> Result<(), Fail> {
+    let told = told(rt.alloc(), words, input)?;
+    assert_eq!(rt; told.status, wanted.status, "{words:?} on {input:?}");
+    assert_eq!(rt;
+        told.output.as_slice(),
+        wanted.output,
+        "{words:?} on {input:?}"
+    );
+    assert_eq!(rt;
+        told.errors.as_slice(),
+        wanted.errors.as_bytes(),
+        "{words:?} on {input:?}"
+    );
+    Ok(())
+}
+
+#[test]
+fn rows(rt: HostRuntime) -> Result<(), Fail> {
+    for row in &ROWS {
+        judge(&rt, &["ber", "pair"], row.input, &row.ber)?;
+        judge(&rt, &["der", "pair"], row.input, &row.der)?;
+    }
+    Ok(())
+}
+
+const KINDS: [(&str, Wanted); 4] = [
+    ("pair", TEN_TRUE),
+    ("int", MINUS_129),
+    ("bool", TRUE),
+    ("null", NULL),
+];
+
+/// Each kind reads its own form, and no octet string.
+#[test]
+fn kinds(rt: HostRuntime) -> Result<(), Fail> {
+    for (kind, wanted) in &KINDS {
+        judge(&rt, &["der", kind], wanted.output, wanted)?;
+        judge(&rt, &["ber", kind], &[4, 0], &INVALID)?;
+    }
+    Ok(())
+}
+
+const OTHER_WORDS: [&[&str]; 5] = [
+    &["xer", "pair"],
+    &["ber", "ints"],
+    &["ber"],
+    &[],
+    &["ber", "pair", "pair"],
+];
+
+#[test]
+fn other_words(rt: HostRuntime) -> Result<(), Fail> {
+    for (number, words) in OTHER_WORDS.iter().enumerate() {
+        let told = told(rt.alloc(), words, TEN_TRUE.output)?;
+        assert_eq!(rt; told.status, 2, "row {number}");
+        assert_eq!(rt; told.errors.as_slice(), USAGE.as_bytes(), "row {number}");
+        assert_eq!(rt; told.unread, TEN_TRUE.output.len(), "row {number}");
+        assert_eq!(rt; told.output.len(), 0, "row {number}");
+    }
+    Ok(())
+}
+
+/// Gives at most four bytes a pull, and fails once its pulls are used up.
+#[derive(Drop)]
+struct FailingSource {
+    rest: &'static [u8],
+    pulls: u8,
+    failures: u64,
+}
+
+impl Source for FailingSource {
+    ghost remaining = { λ _. None };
+
+    ghost failed = { λ s. s.failures };
+
+    fn pull(&mut self, buffer: &mut [u8]) -> io::Result<usize> {
+        let Some(pulls) = self.pulls.checked_sub(1) else {
+            self.failures = self.failures.saturating_add(1);
+            return Err(io::Error::other("no pull is left"));
+        };
+        self.pulls = pulls;
+        let room = buffer.len().min(4);
+        self.rest.read(&mut buffer[..room])
+    }
+
+    fn failures(&self) -> u64 {
+        self.failures
+    }
+}
+
+#[test]
+fn failed_read(rt: HostRuntime) -> Result<(), Fail> {
+    for pulls in 0..3 {
+        let words = strings(rt.alloc(), &["ber", "pair"])?;
+        let mut reader = FailingSource {
+            rest: TEN_TRUE.output,
+            pulls,
+            failures: 0,
+        };
+        let mut writer = Counted::new(Vec::new(rt.alloc()));
+        let mut errors = Vec::new(rt.alloc());
+        let status = tool(
+            rt.alloc(),
+            words.as_slice(),
+            &mut reader,
+            &mut writer,
+            &mut errors,
+        );
+        assert_eq!(rt; status, 3, "after {pulls} pulls");
+        assert_eq!(rt; errors.as_slice(), DEVICE.as_bytes(), "after {pulls} pulls");
+        assert_eq!(rt; writer.into_end().len(), 0, "after {pulls} pulls");
+        assert_eq!(rt; reader.failures(), 1, "after {pulls} pulls");
+    }
+    Ok(())
+}
+
+/// Takes bytes while it has room, and then fails.
+#[derive(Drop)]
+struct FailingSink {
+    room: usize,
+    fails_at_flush: bool,
+    failures: u64,
+}
+
+impl Sink for FailingSink {
+    ghost contents = { λ _. None };
+
+    ghost failed = { λ s. s.failures };
+
+    fn push(&mut self, buffer: &[u8]) -> io::Result<usize> {
+        let taken = buffer.len().min(self.room);
+        if taken == 0 && !buffer.is_empty() {
+            self.failures = self.failures.saturating_add(1);
+            return Err(io::Error::other("no room is left"));
+        }
+        self.room -= taken;
+        Ok(taken)
+    }
+
+    fn flush(&mut self) -> io::Result<()> {
+        if self.fails_at_flush {
+            self.failures = self.failures.saturating_add(1);
+            return Err(io::Error::other("no flush"));
+        }
+        Ok(())
+    }
+
+    fn failures(&self) -> u64 {
+        self.failures
+    }
+}
+
+/// What the program answers over `writer`: its status, and what it writes to standard error.
+fn told_over<W: Sink>(alloc: Global, writer: &mut W) -> Result<(u8, Vec<u8>), AllocError>
+    requires { W.failed writer.old < 2 ^ 64 - 1 }
+{
+    let words = strings(alloc, &["ber", "pair"])?;
+    let mut reader = Counted::new(TEN_TRUE.output);
+    let mut errors = Vec::new(alloc);
+    let status = tool(alloc, words.as_slice(), &mut reader, writer, &mut errors);
+    Ok((status, errors))
+}
+
+#[test]
+fn failed_write(rt: HostRuntime) -> Result<(), Fail> {
+    for (room, fails_at_flush) in [(0, false), (3, false), (8, true)] {
+        let mut writer = FailingSink {
+            room,
+            fails_at_flush,
+            failures: 0,
+        };
+        let (status, errors) = told_over(rt.alloc(), &mut writer)?;
+        assert_eq!(rt; status, 3, "with room for {room}");
+        assert_eq!(rt;
+            errors.as_slice(),
+            DEVICE.as_bytes(),
+            "with room for {room}"
+        );
+        assert_eq!(rt; writer.room, 0, "with room for {room}");
+        assert_eq!(rt; writer.failures(), 1, "with room for {room}");
+    }
+    Ok(())
+}
+
+// A slice takes nothing once it is full.
+#[test]
+fn nothing_taken(rt: HostRuntime) -> Result<(), Fail> {
+    let mut room = [0; 3];
+    let mut writer = Counted::new(&mut room[..]);
+    let (status, errors) = told_over(rt.alloc(), &mut writer)?;
+    assert_eq!(rt; status, 3);
+    assert_eq!(rt; errors.as_slice(), DEVICE.as_bytes());
+    assert_eq!(rt; writer.failures(), 1);
+    assert_eq!(rt; room, [48, 6, 2]);
+    Ok(())
+}
