@@ -1,3 +1,4 @@
+pub mod BigIntegers
 pub mod CanonicalElement
 pub mod Codings
 pub mod Digits
@@ -11,5 +12,6 @@ pub mod LengthFront
 pub mod Lists
 pub mod MinimalBytes
 pub mod Numbers
+pub mod Rows
 pub mod Writings
 pub mod Types

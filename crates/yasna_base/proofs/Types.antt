@@ -1,13 +1,13 @@
 -- The laws of the simple types, by name: what types made of them cite.
 use Rattle.std.proofs.Common.{◌≡◌, ℕ, ◌<◌, ◌^◌, ap, arith}
 use Rattle.std.specs.Prelude.{pos, FitsSigned}
-use Rattle.std.specs.Int.{Width}
+use Rattle.std.specs.Int.{Width, w64}
 use Rattle.yasna_base.specs.declared.tag.Tag.{Tag}
 use Rattle.yasna_base.specs.Identifier.{universal, end_tag}
 use Rattle.yasna_base.specs.Coding.{IsCoding, Any}
 use Rattle.yasna_base.specs.Written.{IsWritten}
 use Rattle.yasna_base.specs.Canonical.{boolean_form, integer_form, null_form, leaf_nest, Always}
-use Rattle.yasna_base.specs.Types.{EncodesBoolean, EncodesNull, EncodesSigned, EncodesUnsigned}
+use Rattle.yasna_base.specs.Types.{EncodesBoolean, EncodesNull, EncodesSigned, EncodesUnsigned, EncodesEnumerated}
 use Rattle.yasna_base.proofs.Codings.{boolean_coding, number_coding, null_coding}
 use Rattle.yasna_base.proofs.Writings.{boolean_written, number_written, null_written}
 
@@ -27,6 +27,9 @@ signed_coding w = number_coding (λ z. z) (FitsSigned w) (λ v u e. e) (universa
 pub unsigned_coding : (k : ℕ) → IsCoding (λ v w. v ≡ w) (EncodesUnsigned k) (Any (EncodesUnsigned k))
 unsigned_coding k = number_coding pos (λ u. u < 2 ^ k) (λ v u e. cc) (universal 2) (not_end 2 (λ e. omega arith)) (omega arith)
 
+pub enumerated_coding : IsCoding (λ v w. v ≡ w) EncodesEnumerated (Any EncodesEnumerated)
+enumerated_coding = number_coding (λ z. z) (FitsSigned w64) (λ v u e. e) (universal 10) (not_end 10 (λ e. omega arith)) (omega arith)
+
 pub bool_written : IsWritten (λ v w. v ≡ w) EncodesBoolean (boolean_form (universal 1)) leaf_nest Always
 bool_written = boolean_written (universal 1)
 
@@ -38,3 +41,6 @@ signed_written w = number_written (λ z. z) (FitsSigned w) (universal 2)
 
 pub unsigned_written : (k : ℕ) → IsWritten (λ v w. v ≡ w) (EncodesUnsigned k) (λ m v. integer_form (universal 2) m (pos v)) leaf_nest (λ u. u < 2 ^ k)
 unsigned_written k = number_written pos (λ u. u < 2 ^ k) (universal 2)
+
+pub enumerated_written : IsWritten (λ v w. v ≡ w) EncodesEnumerated (λ m v. integer_form (universal 10) m v) leaf_nest (FitsSigned w64)
+enumerated_written = number_written (λ z. z) (FitsSigned w64) (universal 10)

@@ -10,3 +10,5 @@ pub mod Coding
 pub mod Canonical
 pub mod Written
 pub mod Types
+pub mod BigInteger
+pub mod Statements

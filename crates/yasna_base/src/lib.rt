@@ -4,12 +4,14 @@
 //! | Module | Holds |
 //! |---|---|
 //! | `error` | why a reading or a writing was refused |
+//! | `laws` | what is proved of the grammar itself |
 //! | `mode` | by which of the rules of X.690 bytes are read |
 //! | `tag` | identifiers: class, number, and whether the contents are constructed |
 //! | `tags` | the universal tags, by name |
 #![tactic(auto)]
 
 pub mod error;
+pub mod laws;
 pub mod mode;
 pub mod tag;
 pub mod tags;

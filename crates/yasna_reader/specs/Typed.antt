@@ -9,6 +9,7 @@ use Rattle.yasna_base.specs.declared.tag.PCBit.{PCBit}
 use Rattle.yasna_base.specs.Refusal.{kind_of, error_of}
 use Rattle.yasna_base.specs.Digits.{IsBytes}
 use Rattle.yasna_base.specs.Identifier.{identifier}
+use Rattle.yasna_base.specs.BigInteger.{IsBigInteger}
 use Rattle.yasna_base.specs.Integer.{twos, IsMinimal}
 use Rattle.yasna_reader.specs.declared.head.Refusal.{Refusal}
 use Rattle.yasna_reader.specs.Head.{IsTooDeep, Refuses}
@@ -67,8 +68,5 @@ pub record WantsMemory (n : ℕ) (t : Tag) (s : List ℕ) : Type 0 where
   pub joined : s ≡ identifier t bit ++ (size ∷ after)
 
 -- the contents of an INTEGER as they are, and whether the number isn't negative
-pub record IsBigInteger (m : BERMode) (v : Vec ℕ Global × Bool) (c : List ℕ) : Type 0 where
-  pub contents : v.0.items ≡ c
-  pub in_bytes : IsBytes c
-  pub minimal : IsMinimal c
-  pub sign : IsTrue v.1 ↔ (pos 0 ≤ℤ twos c)
+abbrev pub HoldsBigInteger : BERMode → Vec ℕ Global × Bool → List ℕ → Type 0
+HoldsBigInteger m v c = IsBigInteger m (record { bytes = v.0.items; positive = v.1 }) c

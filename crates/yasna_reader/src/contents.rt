@@ -5,7 +5,7 @@ ghost use Rattle.yasna_base.specs.declared.mode.BERMode.{BERMode};
 ghost use Rattle.yasna_base.specs.Integer.{IsMinimal};
 ghost use Rattle.yasna_base.specs.Simple.{IsBoolean, SaysTrue, IsNull, IsSigned, IsUnsigned};
 ghost use Rattle.yasna_reader.specs.Reads.{Decides, DecidesInMemory};
-ghost use Rattle.yasna_reader.specs.Typed.{IsBigInteger};
+ghost use Rattle.yasna_reader.specs.Typed.{HoldsBigInteger};
 
 use crate::head::number_of;
 use std::alloc::Global;
@@ -206,7 +206,7 @@ pub(crate) fn big_integer_of(
     alloc: Global,
     contents: &[u8],
 ) -> Result<(Vec<u8>, bool), ASN1ErrorKind>
-    ensures { (mode : BERMode) → DecidesInMemory (IsBigInteger mode) contents.now result }
+    ensures { (mode : BERMode) → DecidesInMemory (HoldsBigInteger mode) contents.now result }
 {
     if !is_minimal(contents) {
         return Err(ASN1ErrorKind::Invalid);

@@ -11,7 +11,7 @@ use crate::values::big_integer;
 impl<'a> ReaderState<'a> {
     ghost use Rattle.std.specs.Int.{w64, w32, w16, w8};
     ghost use Rattle.yasna_base.specs.Simple.{Primitively, IsBoolean, IsNull, IsSigned, IsUnsigned};
-    ghost use Rattle.yasna_reader.specs.Typed.{Reads, FrontOf, NoLevel, Never, WantsMemory, IsBigInteger};
+    ghost use Rattle.yasna_reader.specs.Typed.{Reads, FrontOf, NoLevel, Never, WantsMemory, HoldsBigInteger};
 
     /// Reads BOOLEAN: any byte but 0 is true in BER, 255 alone in DER.
     pub fn read_bool(&mut self) -> ASN1Result<bool>
@@ -93,7 +93,7 @@ impl<'a> ReaderState<'a> {
     /// Reads INTEGER of any size: its contents, highest byte first in two's complement, and true where it isn't negative.
     #[tactic(auto, using(crate::proofs::Reading::reads_front, crate::proofs::Reading::reads_kept))]
     pub fn read_bigint_bytes(&mut self) -> ASN1Result<(Vec<u8>, bool)>
-        ensures { Reads (Primitively IsBigInteger) NoLevel WantsMemory TAG_INTEGER self.old result self.new }
+        ensures { Reads (Primitively HoldsBigInteger) NoLevel WantsMemory TAG_INTEGER self.old result self.new }
     {
         if let Some(error) = self.kept {
             self.tag = None;
@@ -105,7 +105,7 @@ impl<'a> ReaderState<'a> {
 
     // An INTEGER of any size that stands at the front.
     fn big_integer(&self, tag: Tag) -> Result<((Vec<u8>, bool), &'a [u8]), Refusal>
-        ensures { FrontOf (Primitively IsBigInteger) NoLevel WantsMemory tag self.now result }
+        ensures { FrontOf (Primitively HoldsBigInteger) NoLevel WantsMemory tag self.now result }
     {
         big_integer(self.alloc, self.rest, self.mode, self.levels, self.wanted(tag), self.end)
     }

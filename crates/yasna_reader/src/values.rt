@@ -2,7 +2,7 @@
 ghost use Rattle.std.specs.Prelude.{◌≡◌};
 ghost use Rattle.yasna_reader.specs.Head.{IsTooDeep};
 ghost use Rattle.yasna_base.specs.Simple.{IsPrimitive, Primitively};
-ghost use Rattle.yasna_reader.specs.Typed.{WantsMemory, IsBigInteger};
+ghost use Rattle.yasna_reader.specs.Typed.{WantsMemory, HoldsBigInteger};
 ghost use Rattle.yasna_reader.specs.Reads.{PrimitiveAt, AtFront};
 
 use crate::contents::{Contents, big_integer_of};
@@ -57,7 +57,7 @@ pub(crate) fn value<T: Contents>(
 
 /// The contents of an INTEGER of any size and its sign, and the rest.
 pub(crate) fn big_integer(alloc: Global, s: &[u8], mode: BERMode, levels: u8, tag: Tag, end: usize) -> Result<((Vec<u8>, bool), &[u8]), Refusal>
-    ensures { AtFront (Primitively IsBigInteger levels mode tag) (IsTooDeep levels tag s.now) (WantsMemory levels tag s.now) tag s.now result }
+    ensures { AtFront (Primitively HoldsBigInteger levels mode tag) (IsTooDeep levels tag s.now) (WantsMemory levels tag s.now) tag s.now result }
 {
     match primitive(s, mode, levels, tag, end) {
         Ok((contents, rest)) => match big_integer_of(alloc, contents) {
