@@ -1,0 +1,3 @@
+pub use Rattle.yasna_base.specs as base
+pub use Rattle.yasna_reader.specs as reader
+pub use Rattle.yasna_writer.specs as writer

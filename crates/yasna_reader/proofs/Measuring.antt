@@ -1,12 +1,12 @@
 -- Lengths, by their first byte.
-use Rattle.std.proofs.Common.{◌≡◌, ℕ, ◌+◌, ◌-◌, ◌^◌, ◌<◌, ◌≤◌, List, [], ◌∷◌, ◌++◌, length, get_or, refl, ap, sym, subst, ◌∙◌, arith, Option, Some, None, length-append, le_trans}
+use Rattle.std.proofs.Common.{◌≡◌, ℕ, ◌+◌, ◌-◌, ◌^◌, ◌<◌, ◌≤◌, List, [], ◌∷◌, ◌++◌, length, get_or, refl, ap, sym, subst, ◌∙◌, arith, Option, Some, None, length-append}
 use Rattle.std.specs.Int.Digits.{number_from_digits}
 use Rattle.yasna_base.specs.declared.mode.BERMode.{BERMode}
 use Rattle.yasna_base.specs.declared.mode.BERMode.TheVariants.{Ber, Der}
 use Rattle.yasna_base.specs.Digits.{IsBytes}
 use Rattle.yasna_base.specs.Length.{SpellsLength}
 use Rattle.yasna_base.proofs.Lists.{fronts_same, append_same}
-use Rattle.yasna_base.proofs.LengthFront.{LengthFront, small, large, length_front, not_empty, short_spells, long_spells}
+use Rattle.yasna_base.proofs.LengthFront.{small, large, length_front, not_empty, short_spells, long_spells}
 use Rattle.yasna_base.specs.declared.tag.Tag.{Tag}
 use Rattle.yasna_base.specs.declared.tag.PCBit.{PCBit}
 use Rattle.yasna_base.specs.Identifier.{identifier}

@@ -1,5 +1,5 @@
 -- What a typed read does to a reading.
-use Rattle.std.specs.Prelude.{◌≡◌, ℕ, ◌≤◌, List, ◌∷◌, ◌++◌, Option, Some, None, Result, Ok, Err, Bool, ℤ, pos, ◌≤ℤ◌, IsTrue, ◌↔◌, Vec}
+use Rattle.std.specs.Prelude.{◌≡◌, ℕ, ◌≤◌, List, ◌∷◌, ◌++◌, Option, Some, None, Result, Ok, Err, Bool, Vec}
 use Rattle.std.specs.Global.{Global}
 use Rattle.std.specs.Borrow.{Bor}
 use Rattle.yasna_base.specs.declared.error.ASN1Error.{ASN1Error}
@@ -7,10 +7,8 @@ use Rattle.yasna_base.specs.declared.mode.BERMode.{BERMode}
 use Rattle.yasna_base.specs.declared.tag.Tag.{Tag}
 use Rattle.yasna_base.specs.declared.tag.PCBit.{PCBit}
 use Rattle.yasna_base.specs.Refusal.{kind_of, error_of}
-use Rattle.yasna_base.specs.Digits.{IsBytes}
 use Rattle.yasna_base.specs.Identifier.{identifier}
 use Rattle.yasna_base.specs.BigInteger.{IsBigInteger}
-use Rattle.yasna_base.specs.Integer.{twos, IsMinimal}
 use Rattle.yasna_reader.specs.declared.head.Refusal.{Refusal}
 use Rattle.yasna_reader.specs.Head.{IsTooDeep, Refuses}
 use Rattle.yasna_reader.specs.Reads.{Takes, AtFront}

@@ -1,9 +1,8 @@
 //! By which rules a reading reads.
 ghost use Rattle.std.specs.Prelude.{◌≡◌};
 
-use yasna_base::mode::BERMode;
-
 use crate::state::{Parts, ReaderState};
+use yasna_base::mode::BERMode;
 
 impl<'a> ReaderState<'a> {
     /// By which rules this reading reads.

@@ -1,12 +1,11 @@
 //! Reads of simple types: BOOLEAN, NULL, INTEGER and ENUMERATED (X.690, 8.2 to 8.4 and 8.8).
 
-use yasna_base::error::ASN1Result;
-use yasna_base::tag::Tag;
-use yasna_base::tags::{TAG_BOOLEAN, TAG_ENUM, TAG_INTEGER, TAG_NULL};
-
 use crate::head::Refusal;
 use crate::state::ReaderState;
 use crate::values::big_integer;
+use yasna_base::error::ASN1Result;
+use yasna_base::tag::Tag;
+use yasna_base::tags::{TAG_BOOLEAN, TAG_ENUM, TAG_INTEGER, TAG_NULL};
 
 impl<'a> ReaderState<'a> {
     ghost use Rattle.std.specs.Int.{w64, w32, w16, w8};
@@ -107,6 +106,13 @@ impl<'a> ReaderState<'a> {
     fn big_integer(&self, tag: Tag) -> Result<((Vec<u8>, bool), &'a [u8]), Refusal>
         ensures { FrontOf (Primitively HoldsBigInteger) NoLevel WantsMemory tag self.now result }
     {
-        big_integer(self.alloc, self.rest, self.mode, self.levels, self.wanted(tag), self.end)
+        big_integer(
+            self.alloc,
+            self.rest,
+            self.mode,
+            self.levels,
+            self.wanted(tag),
+            self.end,
+        )
     }
 }

@@ -8,7 +8,6 @@ ghost use Rattle.yasna_reader.specs.Reads.{PrimitiveAt, AtFront};
 use crate::contents::{Contents, big_integer_of};
 use crate::head::{Refusal, open, refuse};
 use std::alloc::Global;
-
 use yasna_base::error::ASN1ErrorKind;
 use yasna_base::mode::BERMode;
 use yasna_base::tag::{PCBit, Tag};
@@ -56,7 +55,14 @@ pub(crate) fn value<T: Contents>(
 }
 
 /// The contents of an INTEGER of any size and its sign, and the rest.
-pub(crate) fn big_integer(alloc: Global, s: &[u8], mode: BERMode, levels: u8, tag: Tag, end: usize) -> Result<((Vec<u8>, bool), &[u8]), Refusal>
+pub(crate) fn big_integer(
+    alloc: Global,
+    s: &[u8],
+    mode: BERMode,
+    levels: u8,
+    tag: Tag,
+    end: usize,
+) -> Result<((Vec<u8>, bool), &[u8]), Refusal>
     ensures { AtFront (Primitively HoldsBigInteger levels mode tag) (IsTooDeep levels tag s.now) (WantsMemory levels tag s.now) tag s.now result }
 {
     match primitive(s, mode, levels, tag, end) {

@@ -1,6 +1,5 @@
-use Rattle.std.proofs.Common.{rules, ◌≡◌, ◌<◌, ◌∷◌, List, ℕ, length, Some, None, ◌≢◌}
-use Rattle.yasna_base.specs.Element.{TakesIndefinite}
-use Rattle.yasna_reader.specs.Head.{IsPlain, Measures}
+use Rattle.std.proofs.Common.{rules, ◌≡◌, ◌∷◌, Some}
+use Rattle.yasna_reader.specs.Head.{Measures}
 use Rattle.yasna_reader.proofs.Measuring.{holds_none, holds_short, holds_closed}
 use Rattle.yasna_reader.proofs.head.contents.Goals as goal
 

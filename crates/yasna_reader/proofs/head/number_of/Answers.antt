@@ -1,4 +1,4 @@
-use Rattle.std.proofs.Common.{◌∙◌, ap, sym, arith}
+use Rattle.std.proofs.Common.{arith}
 use Rattle.std.proofs.lemmas.Int.Digits.{number_more}
 use Rattle.yasna_reader.proofs.Sizes.{grown}
 use Rattle.yasna_reader.proofs.head.number_of.Goals as goal

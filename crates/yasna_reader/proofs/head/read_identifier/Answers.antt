@@ -1,4 +1,4 @@
-use Rattle.std.proofs.Common.{◌≡◌, ◌∙◌, sym, ap, arith, ℕ, List, ◌∷◌, []}
+use Rattle.std.proofs.Common.{◌≡◌, arith}
 use Rattle.yasna_reader.proofs.Scan.{empty_is}
 use Rattle.yasna_reader.proofs.Identifying.{nothing_there, short_identifier, long_identifier, no_identifier}
 use Rattle.yasna_reader.proofs.head.read_identifier.Goals as goal

@@ -1,5 +1,4 @@
-use Rattle.std.proofs.Common.{◌≡◌, ◌<◌, ◌+◌, ◌^◌, sym, arith, ℕ, rules, refl, ◌∙◌, ◌-◌, ◌++◌, length}
-use Rattle.yasna_reader.specs.Head.{TakesSpelling}
+use Rattle.std.proofs.Common.{◌≡◌, ◌<◌, arith, rules, refl, ◌∙◌, ◌-◌, ◌++◌, length}
 use Rattle.yasna_reader.proofs.Scan.{empty_is, bytes_from}
 use Rattle.yasna_reader.proofs.Measuring.{nothing_measured, short_measured, not_measured_255, not_measured_short, not_measured_wide, not_measured_so, counted_measured}
 use Rattle.yasna_reader.proofs.head.read_length.Goals as goal

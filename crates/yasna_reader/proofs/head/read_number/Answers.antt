@@ -1,4 +1,4 @@
-use Rattle.std.proofs.Common.{◌≡◌, ◌∙◌, sym, subst, arith, ℕ, List, ◌∷◌, []}
+use Rattle.std.proofs.Common.{◌≡◌, ◌∙◌, sym, subst, arith, ℕ, ◌∷◌}
 use Rattle.yasna_reader.proofs.Scan.{zero_first, passes, too_small, cut_off, scans_start, scans_more, scans_found, bytes_from, empty_is}
 use Rattle.yasna_reader.proofs.head.read_number.Goals as goal
 use Rattle.yasna_reader.proofs.head.read_number.Goals.{else-number-eq0-via-then-number-eq0+else-byte, else-number-eq0-via-else-number-eq0}

@@ -1,4 +1,4 @@
-use Rattle.std.proofs.Common.{rules, refl, sym, subst, Some, Option, List, ℕ}
+use Rattle.std.proofs.Common.{rules, refl, Some}
 use Rattle.yasna_base.specs.Simple.{IsPrimitive}
 use Rattle.yasna_reader.specs.Head.{OpensAt, behind}
 use Rattle.yasna_reader.specs.Reads.{AreContents}

@@ -1,4 +1,4 @@
-use Rattle.std.proofs.Common.{rules, refl}
+use Rattle.std.proofs.Common.{refl}
 use Rattle.yasna_reader.proofs.Reading.{no_value, refuses_value}
 use Rattle.yasna_reader.proofs.values.value.Goals as goal
 
