@@ -32,3 +32,38 @@ pub struct Tag {
     /// The number within the class.
     pub tag_number: u64,
 }
+
+impl Tag {
+    ghost use Rattle.std.specs.Prelude.{◌≡◌};
+    ghost use Rattle.yasna_base.specs.declared.tag.TagClass.TheVariants.{Application, ContextSpecific, Private};
+
+    /// The tag of class Application with this number.
+    pub const fn application(tag_number: u64) -> Tag
+        ensures { result ≡ record { tag_class = Application; tag_number = tag_number } }
+    {
+        Tag {
+            tag_class: TagClass::Application,
+            tag_number,
+        }
+    }
+
+    /// The tag of class ContextSpecific with this number.
+    pub const fn context(tag_number: u64) -> Tag
+        ensures { result ≡ record { tag_class = ContextSpecific; tag_number = tag_number } }
+    {
+        Tag {
+            tag_class: TagClass::ContextSpecific,
+            tag_number,
+        }
+    }
+
+    /// The tag of class Private with this number.
+    pub const fn private(tag_number: u64) -> Tag
+        ensures { result ≡ record { tag_class = Private; tag_number = tag_number } }
+    {
+        Tag {
+            tag_class: TagClass::Private,
+            tag_number,
+        }
+    }
+}

@@ -1,12 +1,12 @@
 -- Digits in base 128, one step at a time.
 use Rattle.std.proofs.Common.{◌≡◌, ℕ, zero, suc, ◌+◌, ◌/◌, ◌%◌, ◌^◌, ◌<◌, ◌≤◌, List, [], ◌∷◌, ◌++◌, length, map, refl, sym, ap, ◌∙◌, arith, length-append, mod-eq_of_lt}
-use Rattle.std.proofs.lemmas.List.{length-map, map-append}
+use Rattle.std.proofs.lemmas.List.{map-append}
 use Rattle.std.proofs.lemmas.Int.Digits.{digits_of_step}
 use Rattle.std.proofs.Math.Nat.{le-div_iff_mul-le}
 use Rattle.std.specs.Int.Digits.{digits_of}
 use Rattle.std.specs.Prelude.{Bool, true, false}
 use Rattle.yasna_base.specs.Digits.{digits, marked, base128}
-use Rattle.yasna_base.proofs.Digits.{digits_some, digits_small, digits_length}
+use Rattle.yasna_base.proofs.Digits.{digits_small, digits_length}
 use Rattle.yasna_writer.specs.Base128.{base128_digits, base128_byte}
 
 digits_are : (b k : ℕ) → 2 ≤ b → 0 < k → digits_of b k ≡ digits b k

@@ -1,16 +1,16 @@
 -- A number of 64 bits as eight bytes, the highest first.
-use Rattle.std.proofs.Common.{◌≡◌, ℕ, zero, suc, ◌+◌, ◌*◌, ◌^◌, ◌<◌, ◌≤◌, List, [], ◌∷◌, length, refl, sym, ap, ◌∙◌, subst, ℤ, pos, negsuc, ◌-ℤ◌, ◌-◌, arith}
+use Rattle.std.proofs.Common.{◌≡◌, ℕ, suc, ◌+◌, ◌^◌, ◌<◌, ◌≤◌, ◌∷◌, length, refl, sym, ap, ◌∙◌, ℤ, pos, negsuc, ◌-ℤ◌, ◌-◌, arith}
 use Rattle.std.specs.Prelude.{true, int_le}
 use Rattle.std.proofs.Math.Dec.{leb-zero}
 use mir.Val.{SFits}
 use Rattle.std.proofs.lemmas.Int.{ints}
-use Rattle.std.specs.Int.{w64, cast_unsigned, to_be_bytes, bytes_high_first}
+use Rattle.std.specs.Int.{w64, cast_unsigned, to_be_bytes}
 use Rattle.std.specs.Int.Digits.{number_from_digits}
 use Rattle.std.proofs.lemmas.Nat.{from_be_bytes-to_be_bytes_8}
 use Rattle.yasna_base.specs.Digits.{IsBytes, digits}
 use Rattle.yasna_base.specs.Length.{shortest_length}
 use Rattle.yasna_base.proofs.Length.{counted_length}
-use Rattle.yasna_writer.specs.Number.{without, signed_number}
+use Rattle.yasna_base.specs.BigInteger.{without, signed_number}
 use Rattle.yasna_writer.proofs.Front.{without_shorter, digits_without}
 
 pub be_length : (n : ℕ) → length (to_be_bytes w64 n) ≡ 8

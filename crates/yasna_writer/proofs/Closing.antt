@@ -1,6 +1,5 @@
 -- What a writing has at the end of an element with parts.
-use Rattle.std.proofs.Common.{◌≡◌, ℕ, List, [], ◌++◌, length, Option, None, refl, sym, ap, ap₂, subst, ◌∙◌}
-use Rattle.yasna_base.specs.declared.error.ASN1Error.{ASN1Error}
+use Rattle.std.proofs.Common.{◌≡◌, ℕ, List, [], ◌++◌, length, None, sym, ap, ap₂, subst, ◌∙◌}
 use Rattle.yasna_base.specs.declared.mode.BERMode.TheVariants.{Der}
 use Rattle.yasna_base.specs.declared.tag.Tag.{Tag}
 use Rattle.yasna_base.specs.declared.tag.PCBit.TheVariants.{Constructed}

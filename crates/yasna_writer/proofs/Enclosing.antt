@@ -1,5 +1,5 @@
 -- An element around contents whose headers stand apart.
-use Rattle.std.proofs.Common.{◌≡◌, ℕ, ◌+◌, ◌-◌, List, [], ◌∷◌, ◌++◌, length, take, drop, refl, sym, ap, ap₂, subst, ◌∙◌, arith, append_assoc}
+use Rattle.std.proofs.Common.{◌≡◌, ℕ, ◌+◌, ◌-◌, List, ◌∷◌, ◌++◌, length, take, drop, sym, ap, ap₂, subst, ◌∙◌, append_assoc}
 use Rattle.std.proofs.Math.Seq.{take-append_seam, drop-append_seam}
 use Rattle.yasna_base.specs.declared.mode.BERMode.TheVariants.{Der}
 use Rattle.yasna_base.specs.declared.tag.Tag.{Tag}
@@ -32,9 +32,9 @@ enclosed place tag n hs is whole c o i count e =
       ordered = subst (λ (xs : List Header). AreInOrder 0 xs (length c)) (sym e) (order_around 0 hs h is (length c) o i);
       counted = ap headers_length e ∙ headers_length_append hs (h ∷ is);
       joins =
-        ap (λ xs. joined xs c) e ∙ joined_around 0 hs h is c o i
-        ∙ ap (λ k. joined hs (take place c) ++ ((identifier tag Constructed ++ shortest_length k) ++ rest)) long
-        ∙ ap (λ x. joined hs (take place c) ++ x) (append_assoc (identifier tag Constructed) (shortest_length (length rest)) rest);
+          ap (λ xs. joined xs c) e ∙ joined_around 0 hs h is c o i
+          ∙ ap (λ k. joined hs (take place c) ++ ((identifier tag Constructed ++ shortest_length k) ++ rest)) long
+          ∙ ap (λ x. joined hs (take place c) ++ x) (append_assoc (identifier tag Constructed) (shortest_length (length rest)) rest);
     }
 
 parted : (n : ℕ) (start c whole : List ℕ) → length start ≡ n → whole ≡ start ++ c → (take n whole ≡ start) × (drop n whole ≡ c)

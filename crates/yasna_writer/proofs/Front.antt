@@ -1,11 +1,11 @@
 -- Bytes without those that stand in front.
-use Rattle.std.proofs.Common.{◌≡◌, ℕ, zero, suc, ◌+◌, ◌*◌, ◌^◌, ◌<◌, ◌≤◌, List, [], ◌∷◌, ◌++◌, length, get_or, eqb, cond, refl, sym, ap, subst, ◌∙◌, arith, ◌⊎◌, inl, inr}
+use Rattle.std.proofs.Common.{◌≡◌, ℕ, zero, suc, ◌*◌, ◌^◌, ◌<◌, ◌≤◌, List, [], ◌∷◌, length, get_or, cond, refl, sym, ap, ◌∙◌, arith, ◌⊎◌, inl, inr}
 use Rattle.std.proofs.lemmas.Bool.Decides.{eqb_tells}
 use Rattle.std.specs.Int.Digits.{number_from_digits}
 use Rattle.yasna_base.specs.Digits.{IsBytes, digits}
 use Rattle.yasna_base.proofs.Numbers.{number_cons}
 use Rattle.yasna_base.proofs.DigitsOnly.{digits_only}
-use Rattle.yasna_writer.specs.Number.{without}
+use Rattle.yasna_base.specs.BigInteger.{without}
 
 -- numbers that are bytes one by one
 pub all_bytes : (b : List ℕ) → ((i : ℕ) → get_or b i 0 < 256) → IsBytes b

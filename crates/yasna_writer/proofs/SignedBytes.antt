@@ -1,18 +1,18 @@
 -- The fewest bytes of a number in two's complement, from any bytes of it and its sign.
-use Rattle.std.proofs.Common.{◌≡◌, ℕ, zero, suc, ◌+◌, ◌-◌, ◌*◌, ◌^◌, ◌≤◌, ◌<◌, List, [], ◌∷◌, ◌++◌, length, ltb, leb, cond, ℤ, pos, negsuc, ◌-ℤ◌, inl, inr, refl, sym, ap, ◌∙◌, subst, arith, lt-ltb, le-ltb}
+use Rattle.std.proofs.Common.{◌≡◌, ℕ, ◌<◌, List, [], ◌∷◌, ◌++◌, length, cond, pos, inl, inr, refl, sym, ap, ◌∙◌, subst, arith, lt-ltb, le-ltb}
 use Rattle.std.specs.Prelude.{Bool, true, false}
 use Rattle.std.proofs.Math.Nat.{pow-suc}
-use Rattle.std.specs.Int.Digits.{number_from_digits}
 use Rattle.std.proofs.lemmas.Bool.{cases_lt, lt-leb, le-leb}
 use Rattle.std.proofs.lemmas.Int.{ints}
 use Rattle.yasna_base.specs.Digits.{IsBytes}
-use Rattle.yasna_base.specs.Integer.{twos, IsMinimal, minimal_bytes}
+use Rattle.yasna_base.specs.Integer.{IsMinimal, minimal_bytes}
 use Rattle.yasna_base.specs.Simple.{IsInteger}
 use Rattle.yasna_base.proofs.Numbers.{number_cons}
 use Rattle.yasna_base.proofs.Integer.{twos_positive, twos_negative}
 use Rattle.yasna_base.proofs.MinimalBytes.{minimal_only}
-use Rattle.yasna_writer.specs.Number.{without, signed_number, signed_or_zero, big_integer, sign_byte, needs_sign, sign_front}
-use Rattle.yasna_writer.proofs.Front.{without_cases, without_bytes, without_first, without_number}
+use Rattle.yasna_base.specs.BigInteger.{without, signed_number, signed_or_zero, big_integer}
+use Rattle.yasna_writer.specs.Number.{sign_byte, sign_front}
+use Rattle.yasna_writer.proofs.Front.{without_cases, without_bytes, without_first}
 
 -- a sign byte in front changes nothing
 pub sign_more : (positive : Bool) (b : List ℕ) → signed_number positive (sign_byte positive ∷ b) ≡ signed_number positive b
@@ -38,21 +38,21 @@ small_minimal x (y ∷ ys) f g = (λ e. absurd (f e), λ e. absurd (g e))
 positive_integer : (x : ℕ) (xs : List ℕ) → IsBytes (x ∷ xs) → (x ≡ 0 → ⊥) → IsInteger (signed_number true (x ∷ xs)) (signed true (x ∷ xs))
 positive_integer x xs h f = elim (cases_lt x 128) [
   | inl l ↦
-    let whole = ap (λ t. cond t (0 ∷ []) [] ++ (x ∷ xs)) (lt-leb 128 x l) in
-    subst (IsInteger (signed_number true (x ∷ xs))) (sym whole) (record { in_bytes = h; minimal = small_minimal x xs f (λ e. omega arith); number = twos_positive x xs l })
+      let whole = ap (λ t. cond t (0 ∷ []) [] ++ (x ∷ xs)) (lt-leb 128 x l) in
+      subst (IsInteger (signed_number true (x ∷ xs))) (sym whole) (record { in_bytes = h; minimal = small_minimal x xs f (λ e. omega arith); number = twos_positive x xs l })
   | inr g ↦
-    let whole = ap (λ t. cond t (0 ∷ []) [] ++ (x ∷ xs)) (le-leb 128 x g) in
-    subst (IsInteger (signed_number true (x ∷ xs))) (sym whole) (record { in_bytes = (omega arith, h); minimal = (λ e. g, λ e. absurd (omega (arith, e))); number = twos_positive 0 (x ∷ xs) (omega arith) ∙ sign_more true (x ∷ xs) })
+      let whole = ap (λ t. cond t (0 ∷ []) [] ++ (x ∷ xs)) (le-leb 128 x g) in
+      subst (IsInteger (signed_number true (x ∷ xs))) (sym whole) (record { in_bytes = (omega arith, h); minimal = (λ e. g, λ e. absurd (omega (arith, e))); number = twos_positive 0 (x ∷ xs) (omega arith) ∙ sign_more true (x ∷ xs) })
 ]
 
 negative_integer : (x : ℕ) (xs : List ℕ) → IsBytes (x ∷ xs) → (x ≡ 255 → ⊥) → IsInteger (signed_number false (x ∷ xs)) (signed false (x ∷ xs))
 negative_integer x xs h f = elim (cases_lt x 128) [
   | inl l ↦
-    let whole = ap (λ t. cond t (255 ∷ []) [] ++ (x ∷ xs)) (lt-ltb x 128 l) in
-    subst (IsInteger (signed_number false (x ∷ xs))) (sym whole) (record { in_bytes = (omega arith, h); minimal = (λ e. absurd (omega (arith, e)), λ e. l); number = twos_negative 255 (x ∷ xs) (omega arith) ∙ sign_more false (x ∷ xs) })
+      let whole = ap (λ t. cond t (255 ∷ []) [] ++ (x ∷ xs)) (lt-ltb x 128 l) in
+      subst (IsInteger (signed_number false (x ∷ xs))) (sym whole) (record { in_bytes = (omega arith, h); minimal = (λ e. absurd (omega (arith, e)), λ e. l); number = twos_negative 255 (x ∷ xs) (omega arith) ∙ sign_more false (x ∷ xs) })
   | inr g ↦
-    let whole = ap (λ t. cond t (255 ∷ []) [] ++ (x ∷ xs)) (le-ltb x 128 g) in
-    subst (IsInteger (signed_number false (x ∷ xs))) (sym whole) (record { in_bytes = h; minimal = small_minimal x xs (λ e. omega arith) f; number = twos_negative x xs g })
+      let whole = ap (λ t. cond t (255 ∷ []) [] ++ (x ∷ xs)) (le-ltb x 128 g) in
+      subst (IsInteger (signed_number false (x ∷ xs))) (sym whole) (record { in_bytes = h; minimal = small_minimal x xs (λ e. omega arith) f; number = twos_negative x xs g })
 ]
 
 signed_integer : (positive : Bool) (c : List ℕ) → IsBytes c → ((y : ℕ) (ys : List ℕ) → c ≡ y ∷ ys → y ≡ sign_byte positive → ⊥) → IsInteger (signed_number positive c) (signed positive c)

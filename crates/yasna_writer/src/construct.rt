@@ -14,7 +14,10 @@ use yasna_base::{ASN1Error, ASN1Result};
 ///
 /// Answers the first failure of a write, whatever the closure answers; else the closure's own `Err`; else the bytes, or
 /// `OutOfMemory` where there is no memory for them.
-pub fn construct_der<F: FnOnce(DERWriter<'_>) -> ASN1Result<()>>(alloc: Global, f: F) -> ASN1Result<Vec<u8>>
+pub fn construct_der<F: FnOnce(DERWriter<'_>) -> ASN1Result<()>>(
+    alloc: Global,
+    f: F,
+) -> ASN1Result<Vec<u8>>
     requires { FnOnceTakesAtMut F.FnOnce f empty_writing }
     ensures { (own : Result (Unit {0}) ASN1Error) × (left : Written) × FnOnceReturnsAtMut F.FnOnce f empty_writing own left × Constructed (λ k e. e ≡ k) left own result }
 {
@@ -24,7 +27,10 @@ pub fn construct_der<F: FnOnce(DERWriter<'_>) -> ASN1Result<()>>(alloc: Global, 
 /// The bytes that a closure writes, with errors of any type that takes those of a writing.
 ///
 /// Answers as `construct_der` does, with the failures of the writing turned into `E`.
-pub fn try_construct_der<E: From<ASN1Error> + Drop, F: FnOnce(DERWriter<'_>) -> Result<(), E>>(alloc: Global, f: F) -> Result<Vec<u8>, E>
+pub fn try_construct_der<E: From<ASN1Error> + Drop, F: FnOnce(DERWriter<'_>) -> Result<(), E>>(
+    alloc: Global,
+    f: F,
+) -> Result<Vec<u8>, E>
     requires { FnOnceTakesAtMut F.FnOnce f empty_writing }
     ensures { (own : Result (Unit {0}) E) × (left : Written) × FnOnceReturnsAtMut F.FnOnce f empty_writing own left × Constructed E.from_gives left own result }
 {
@@ -36,7 +42,10 @@ pub fn try_construct_der<E: From<ASN1Error> + Drop, F: FnOnce(DERWriter<'_>) -> 
 /// The bytes that a closure writes as parts, one after the other, with no header around them.
 ///
 /// Answers as `construct_der` does.
-pub fn construct_der_seq<F: FnOnce(&mut DERWriterSeq) -> ASN1Result<()>>(alloc: Global, f: F) -> ASN1Result<Vec<u8>>
+pub fn construct_der_seq<F: FnOnce(&mut DERWriterSeq) -> ASN1Result<()>>(
+    alloc: Global,
+    f: F,
+) -> ASN1Result<Vec<u8>>
     requires { FnOnceTakesAtMut F.FnOnce f empty_writing }
     ensures { (own : Result (Unit {0}) ASN1Error) × (left : Written) × FnOnceReturnsAtMut F.FnOnce f empty_writing own left × Constructed (λ k e. e ≡ k) left own result }
 {
@@ -46,7 +55,10 @@ pub fn construct_der_seq<F: FnOnce(&mut DERWriterSeq) -> ASN1Result<()>>(alloc: 
 /// The bytes that a closure writes as parts, with errors of any type that takes those of a writing.
 ///
 /// Answers as `try_construct_der` does.
-pub fn try_construct_der_seq<E: From<ASN1Error> + Drop, F: FnOnce(&mut DERWriterSeq) -> Result<(), E>>(alloc: Global, f: F) -> Result<Vec<u8>, E>
+pub fn try_construct_der_seq<
+    E: From<ASN1Error> + Drop,
+    F: FnOnce(&mut DERWriterSeq) -> Result<(), E>,
+>(alloc: Global, f: F) -> Result<Vec<u8>, E>
     requires { FnOnceTakesAtMut F.FnOnce f empty_writing }
     ensures { (own : Result (Unit {0}) E) × (left : Written) × FnOnceReturnsAtMut F.FnOnce f empty_writing own left × Constructed E.from_gives left own result }
 {

@@ -1,5 +1,5 @@
 //! Elements with parts (X.690, 8.9).
-ghost use Rattle.std.specs.Prelude.{◌≡◌, List, ℕ, None, MatchOption};
+ghost use Rattle.std.specs.Prelude.{◌≡◌, List, ℕ, None};
 ghost use Rattle.std.specs.Borrow.{sem};
 ghost use Rattle.std.specs.Fn.{FnOnceTakesAtMut};
 ghost use Rattle.yasna_base.specs.declared.mode.BERMode.TheVariants.{Der};
@@ -61,7 +61,11 @@ impl Writer {
     /// where it is an `Err` of its own, the element still ends over what was written so far and the writing goes on.
     /// Where a write of the closure failed, or there is no memory for the header (`OutOfMemory`), or the closure left
     /// fewer bytes than there were (`Invalid`), that failure is answered instead and kept.
-    pub fn write_sequence<T: Drop, E: From<ASN1Error> + Drop, F: FnOnce(&mut DERWriterSeq) -> Result<T, E>>(&mut self, f: F) -> Result<T, E>
+    pub fn write_sequence<
+        T: Drop,
+        E: From<ASN1Error> + Drop,
+        F: FnOnce(&mut DERWriterSeq) -> Result<T, E>,
+    >(&mut self, f: F) -> Result<T, E>
         requires { (bs : List ℕ) → FnOnceTakesAtMut F.FnOnce f (holding self.old bs) }
         ensures { Encloses F.FnOnce E.from_gives f (canonical_element Der (tag_or self.old.tag (universal 16)) Constructed) self.old self.new result }
     {

@@ -1,5 +1,5 @@
 //! Identifier and length octets (X.690, 8.1.2 and 8.1.3).
-ghost use Rattle.std.specs.Prelude.{◌≡◌, ◌≤◌, ◌+◌, ◌*◌, ◌++◌, ℕ, length, length as count, OnOk, vec_len, if◌then◌else◌, nat_eq};
+ghost use Rattle.std.specs.Prelude.{◌≡◌, ◌≤◌, ◌+◌, ◌*◌, ◌++◌, length, length as count, OnOk, vec_len};
 ghost use Rattle.yasna_base.specs.Identifier.{identifier, class_number, bit_number};
 ghost use Rattle.yasna_base.specs.Length.{shortest_length};
 ghost use Rattle.yasna_base.specs.Digits.{base128};
@@ -116,7 +116,12 @@ pub(crate) fn append_length(out: &mut Vec<u8>, length: usize) -> Result<(), Allo
 }
 
 // Appends an element without parts, whose contents are two pieces.
-pub(crate) fn append_primitive(out: &mut Vec<u8>, tag: Tag, front: &[u8], rest: &[u8]) -> Result<(), AllocError>
+pub(crate) fn append_primitive(
+    out: &mut Vec<u8>,
+    tag: Tag,
+    front: &[u8],
+    rest: &[u8],
+) -> Result<(), AllocError>
     ensures items { OnOk result (out.new.items ≡ out.old.items ++ canonical_element Der tag Primitive (front.now ++ rest.now)) }
     ensures grows { vec_len out.old ≤ vec_len out.new }
 {

@@ -1,5 +1,5 @@
 //! Headers and contents made one.
-ghost use Rattle.std.specs.Prelude.{◌≡◌, ◌≤◌, ◌++◌, length, OnOk, IfOk, vec_len};
+ghost use Rattle.std.specs.Prelude.{◌≡◌, ◌++◌, length, OnOk, IfOk};
 ghost use Rattle.yasna_writer.specs.Joining.{joined, AreInOrder};
 
 use crate::header::{Header, append, append_header};
@@ -22,7 +22,12 @@ fn append_joined(out: &mut Vec<u8>, contents: &[u8], headers: &[Header]) -> Resu
 }
 
 // The contents with each header at its place, of which `heads` counts the bytes.
-pub(crate) fn join(alloc: Global, contents: Vec<u8>, headers: &[Header], heads: usize) -> Result<Vec<u8>, AllocError>
+pub(crate) fn join(
+    alloc: Global,
+    contents: Vec<u8>,
+    headers: &[Header],
+    heads: usize,
+) -> Result<Vec<u8>, AllocError>
     requires { AreInOrder 0 headers.now (length contents.items) }
     ensures { IfOk result (λ v. v.items ≡ joined headers.now contents.items) }
 {

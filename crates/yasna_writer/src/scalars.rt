@@ -2,17 +2,17 @@
 //!
 //! Each write takes the implicit tag if there is one, and else the type's own. A failure that is kept is answered, and
 //! nothing is written. Besides, each answers `OutOfMemory` where there is no memory for the element, and keeps it.
-ghost use Rattle.std.specs.Prelude.{◌≡◌, pos};
+ghost use Rattle.std.specs.Prelude.{pos};
 ghost use Rattle.yasna_base.specs.declared.mode.BERMode.TheVariants.{Der};
 ghost use Rattle.yasna_base.specs.Identifier.{universal};
 ghost use Rattle.yasna_base.specs.Canonical.{boolean_form, integer_form, null_form};
 ghost use Rattle.yasna_writer.specs.Written.{tag_or, Wrote};
-ghost use Rattle.yasna_writer.specs.Number.{signed_number, big_integer};
+ghost use Rattle.yasna_base.specs.BigInteger.{signed_number, big_integer};
 
 use crate::number::{sign_byte, sign_front, without};
 use crate::state::Writer;
-use yasna_base::{ASN1Result, Tag};
 use yasna_base::tags::{TAG_BOOLEAN, TAG_ENUM, TAG_INTEGER, TAG_NULL};
+use yasna_base::{ASN1Result, Tag};
 
 impl Writer {
     /// Writes a BOOLEAN: one byte, 255 for true (X.690, 8.2 and 11.1).

@@ -1,11 +1,11 @@
 //! The writer.
-ghost use Rattle.std.specs.Prelude.{◌≡◌, ◌≤◌, ◌+◌, ◌++◌, ℕ, length, List, MatchOption, MatchResult, Ok, Err, Some, None, OnOk, IfOk};
+ghost use Rattle.std.specs.Prelude.{◌≡◌, ◌+◌, ◌++◌, length, Ok, Err, Some, None, IfOk};
 ghost use Rattle.yasna_base.specs.Refusal.{kind_of};
 ghost use Rattle.yasna_base.specs.declared.error.ASN1ErrorKind.TheVariants.{OutOfMemory};
 ghost use Rattle.yasna_base.specs.Canonical.{canonical_element};
 ghost use Rattle.yasna_base.specs.declared.mode.BERMode.TheVariants.{Der};
 ghost use Rattle.yasna_base.specs.declared.tag.PCBit.TheVariants.{Primitive};
-ghost use Rattle.yasna_writer.specs.Written.{Written, tag_or, holding, empty_writing, Wrote};
+ghost use Rattle.yasna_writer.specs.Written.{Written, tag_or, empty_writing, Wrote};
 ghost use Rattle.yasna_writer.specs.Closures.{Constructed, AnswersKept};
 ghost use Rattle.yasna_writer.specs.Joining.{IsOpened};
 ghost use Rattle.yasna_writer.specs.Opening.{Opens, Ends, Closes};
@@ -13,9 +13,9 @@ ghost use Rattle.yasna_writer.specs.Opening.{Opens, Ends, Closes};
 use crate::header::{Header, append_primitive};
 use crate::join::join;
 use crate::nesting::{Draft, Opened, end_draft};
-use std::mem;
 use std::alloc::{AllocError, Global};
 use std::marker::Model;
+use std::mem;
 use yasna_base::{ASN1Error, ASN1ErrorKind, ASN1Result, Tag};
 
 /// A writing: bytes so far, the implicit tag that the next element takes, and the failure that later calls answer.
@@ -212,7 +212,10 @@ impl Writer {
     }
 
     // What a call with a closure answers, where the closure answered `own`.
-    pub(crate) fn settle<T: Drop, E: From<ASN1Error> + Drop>(&self, own: Result<T, E>) -> Result<T, E>
+    pub(crate) fn settle<T: Drop, E: From<ASN1Error> + Drop>(
+        &self,
+        own: Result<T, E>,
+    ) -> Result<T, E>
         ensures { AnswersKept E.from_gives self.now.kept own result }
     {
         match self.kept {

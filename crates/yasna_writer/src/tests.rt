@@ -16,34 +16,90 @@ fn is_written(rt: &impl Abort, written: ASN1Result<Vec<u8>>, bytes: &[u8]) {
 #[test]
 fn scalars(rt: HostRuntime) {
     let alloc = rt.alloc();
-    is_written(&rt, construct_der(alloc, |w| w.write_bool(true)), &[1, 1, 255]);
-    is_written(&rt, construct_der(alloc, |w| w.write_bool(false)), &[1, 1, 0]);
+    is_written(
+        &rt,
+        construct_der(alloc, |w| w.write_bool(true)),
+        &[1, 1, 255],
+    );
+    is_written(
+        &rt,
+        construct_der(alloc, |w| w.write_bool(false)),
+        &[1, 1, 0],
+    );
     is_written(&rt, construct_der(alloc, |w| w.write_null()), &[5, 0]);
-    is_written(&rt, construct_der(alloc, |w| w.write_enum(13)), &[10, 1, 13]);
-    is_written(&rt, construct_der(alloc, |w| w.write_i32(-128)), &[2, 1, 128]);
-    is_written(&rt, construct_der(alloc, |w| w.write_i16(128)), &[2, 2, 0, 128]);
+    is_written(
+        &rt,
+        construct_der(alloc, |w| w.write_enum(13)),
+        &[10, 1, 13],
+    );
+    is_written(
+        &rt,
+        construct_der(alloc, |w| w.write_i32(-128)),
+        &[2, 1, 128],
+    );
+    is_written(
+        &rt,
+        construct_der(alloc, |w| w.write_i16(128)),
+        &[2, 2, 0, 128],
+    );
     is_written(&rt, construct_der(alloc, |w| w.write_i8(-1)), &[2, 1, 255]);
     is_written(&rt, construct_der(alloc, |w| w.write_u32(0)), &[2, 1, 0]);
-    is_written(&rt, construct_der(alloc, |w| w.write_u16(256)), &[2, 2, 1, 0]);
+    is_written(
+        &rt,
+        construct_der(alloc, |w| w.write_u16(256)),
+        &[2, 2, 1, 0],
+    );
     is_written(&rt, construct_der(alloc, |w| w.write_u8(127)), &[2, 1, 127]);
 }
 
 #[test]
 fn numbers_of_64_bits(rt: HostRuntime) {
     let alloc = rt.alloc();
-    is_written(&rt, construct_der(alloc, |w| w.write_i64(-129)), &[2, 2, 255, 127]);
-    is_written(&rt, construct_der(alloc, |w| w.write_i64(i64::MIN)), &[2, 8, 128, 0, 0, 0, 0, 0, 0, 0]);
-    is_written(&rt, construct_der(alloc, |w| w.write_u64(u64::MAX)), &[2, 9, 0, 255, 255, 255, 255, 255, 255, 255, 255]);
+    is_written(
+        &rt,
+        construct_der(alloc, |w| w.write_i64(-129)),
+        &[2, 2, 255, 127],
+    );
+    is_written(
+        &rt,
+        construct_der(alloc, |w| w.write_i64(i64::MIN)),
+        &[2, 8, 128, 0, 0, 0, 0, 0, 0, 0],
+    );
+    is_written(
+        &rt,
+        construct_der(alloc, |w| w.write_u64(u64::MAX)),
+        &[2, 9, 0, 255, 255, 255, 255, 255, 255, 255, 255],
+    );
 }
 
 #[test]
 fn big_numbers(rt: HostRuntime) {
     let alloc = rt.alloc();
-    is_written(&rt, construct_der(alloc, |w| w.write_bigint_bytes(&[255, 0], false)), &[2, 2, 255, 0]);
-    is_written(&rt, construct_der(alloc, |w| w.write_bigint_bytes(&[0, 128], false)), &[2, 1, 128]);
-    is_written(&rt, construct_der(alloc, |w| w.write_bigint_bytes(&[1], false)), &[2, 2, 255, 1]);
-    is_written(&rt, construct_der(alloc, |w| w.write_bigint_bytes(&[0, 0], false)), &[2, 1, 0]);
-    is_written(&rt, construct_der(alloc, |w| w.write_bigint_bytes(&[255, 0], true)), &[2, 3, 0, 255, 0]);
+    is_written(
+        &rt,
+        construct_der(alloc, |w| w.write_bigint_bytes(&[255, 0], false)),
+        &[2, 2, 255, 0],
+    );
+    is_written(
+        &rt,
+        construct_der(alloc, |w| w.write_bigint_bytes(&[0, 128], false)),
+        &[2, 1, 128],
+    );
+    is_written(
+        &rt,
+        construct_der(alloc, |w| w.write_bigint_bytes(&[1], false)),
+        &[2, 2, 255, 1],
+    );
+    is_written(
+        &rt,
+        construct_der(alloc, |w| w.write_bigint_bytes(&[0, 0], false)),
+        &[2, 1, 0],
+    );
+    is_written(
+        &rt,
+        construct_der(alloc, |w| w.write_bigint_bytes(&[255, 0], true)),
+        &[2, 3, 0, 255, 0],
+    );
 }
 
 #[test]
@@ -81,7 +137,10 @@ fn own_errors(rt: HostRuntime) {
             Err(ASN1Error::new(ASN1ErrorKind::Invalid))
         })
     });
-    assert_eq!(rt; handed_on.err(), Some(ASN1Error::new(ASN1ErrorKind::Invalid)));
+    assert_eq!(rt;
+        handed_on.err(),
+        Some(ASN1Error::new(ASN1ErrorKind::Invalid))
+    );
     let ten: ASN1Result<Vec<u8>> = try_construct_der(alloc, |w| w.write_i64(10));
     is_written(&rt, ten, &[2, 1, 10]);
     let ten: ASN1Result<Vec<u8>> = try_construct_der_seq(alloc, |s| s.next().write_i64(10));
@@ -92,7 +151,10 @@ fn own_errors(rt: HostRuntime) {
 fn long_contents(rt: HostRuntime) -> Result<(), Fail> {
     let alloc = rt.alloc();
     let bytes = vec![in alloc; 1; 200000]?;
-    let written = construct_der(alloc, |w| w.write_sequence(|s| s.next().write_bigint_bytes(&bytes, true)))?;
+    let written = construct_der(
+        alloc,
+        |w| w.write_sequence(|s| s.next().write_bigint_bytes(&bytes, true)),
+    )?;
     assert_eq!(rt; written.len(), 200010);
     assert!(rt; written.starts_with(&[48, 131, 3, 13, 69, 2, 131, 3, 13, 64, 1]));
     Ok(())

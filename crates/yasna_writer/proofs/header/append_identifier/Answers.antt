@@ -1,4 +1,4 @@
-use Rattle.std.proofs.Common.{◌∷◌, [], sym, ap, ◌∙◌, arith}
+use Rattle.std.proofs.Common.{◌∷◌, ap, ◌∙◌, arith}
 use Rattle.yasna_base.specs.Digits.{base128}
 use Rattle.yasna_base.proofs.Identifier.{identifier_long}
 use Rattle.yasna_writer.specs.Base128.{base128_digits}

@@ -1,5 +1,5 @@
 use Rattle.std.proofs.Common.{◌+◌, ◌∷◌, [], length, sym, ap, ◌∙◌, arith}
-use Rattle.yasna_writer.specs.Number.{without}
+use Rattle.yasna_base.specs.BigInteger.{without}
 use Rattle.yasna_writer.proofs.Appends.{append_then}
 use Rattle.yasna_writer.proofs.BigEndian.{length_without}
 use Rattle.yasna_writer.proofs.header.append_length.Goals as goal

@@ -1,5 +1,5 @@
 use Rattle.std.proofs.Common.{◌≡◌, length}
-use Rattle.yasna_writer.specs.Number.{without}
+use Rattle.yasna_base.specs.BigInteger.{without}
 use Rattle.yasna_writer.proofs.number.without.Given as goal
 
 abbrev pub invariant-loop-first : goal.invariant-loop-first

@@ -1,9 +1,10 @@
-use Rattle.std.proofs.Common.{ℕ, List, ◌++◌, sym, ap, ap₂, ◌∙◌, subst}
+use Rattle.std.proofs.Common.{ℕ, List, ◌++◌, ap, ap₂, ◌∙◌, subst}
 use Rattle.yasna_base.specs.declared.mode.BERMode.TheVariants.{Der}
 use Rattle.yasna_base.specs.declared.tag.PCBit.TheVariants.{Primitive}
 use Rattle.yasna_base.specs.Canonical.{canonical_element}
 use Rattle.yasna_writer.specs.Written.{tag_or, Wrote}
-use Rattle.yasna_writer.specs.Number.{without, sign_byte, sign_front}
+use Rattle.yasna_base.specs.BigInteger.{without}
+use Rattle.yasna_writer.specs.Number.{sign_front}
 use Rattle.yasna_writer.proofs.Front.{all_bytes}
 use Rattle.yasna_writer.proofs.SignedBytes.{signed_bytes}
 use Rattle.yasna_writer.proofs.state.Writer.append_number.Goals as goal

@@ -5,7 +5,7 @@ use Rattle.yasna_base.specs.Canonical.{integer_form}
 use Rattle.std.specs.Prelude.{true}
 use Rattle.std.proofs.lemmas.Bool.{eqb-true, eqb-false}
 use Rattle.yasna_writer.specs.Written.{tag_or, Wrote}
-use Rattle.yasna_writer.specs.Number.{signed_number}
+use Rattle.yasna_base.specs.BigInteger.{signed_number}
 use Rattle.yasna_writer.proofs.SignedBytes.{big_some, big_none}
 use Rattle.yasna_writer.proofs.state.Writer.write_bigint_bytes.Goals as goal
 

@@ -1,5 +1,4 @@
-use Rattle.std.proofs.Common.{ℕ, List, Option, refl, sym, ap, subst, ◌∙◌}
-use Rattle.yasna_base.specs.declared.error.ASN1Error.{ASN1Error}
+use Rattle.std.proofs.Common.{refl, subst, ◌∙◌}
 use Rattle.yasna_writer.specs.Written.{Written}
 use Rattle.yasna_writer.specs.Opening.{Closes}
 use Rattle.yasna_writer.proofs.Closing.{closed_kept, closed_writes}
