@@ -19,6 +19,7 @@ mod big_integers;
 mod booleans;
 mod enumerated;
 mod integers;
+mod known;
 mod levels;
 mod nulls;
 mod reading;
@@ -26,6 +27,7 @@ mod refusals;
 mod sequences;
 #[cfg(test)]
 mod tests;
+mod third_party;
 mod vector;
 mod wholes;
 mod writing;

@@ -1,0 +1,30 @@
+//! Calls whose closures are known: what they answer follows from what the calls of `yasna` promise.
+ghost use Rattle.std.specs.Prelude.{◌≡◌, ℤ, IfOk, IfErr};
+ghost use Rattle.std.specs.Int.{w64};
+ghost use Rattle.yasna.specs.base.declared.mode.BERMode.TheVariants.{Der};
+ghost use Rattle.yasna.specs.base.declared.error.ASN1ErrorKind.TheVariants.{OutOfMemory};
+ghost use Rattle.yasna.specs.base.Refusal.{kind_of};
+ghost use Rattle.yasna.specs.base.Identifier.{universal};
+ghost use Rattle.yasna.specs.base.Types.{EncodesSigned};
+ghost use Rattle.yasna.specs.base.Canonical.{integer_form};
+
+use std::alloc::Global;
+use yasna::{ASN1Result, construct_der, parse_der};
+
+/// The number whose DER form as an INTEGER these bytes are.
+///
+/// Refuses bytes that are the form of no such number, and no others.
+pub fn parsed_integer(alloc: Global, buf: &[u8]) -> ASN1Result<i64>
+    ensures number { IfOk result (λ v. EncodesSigned w64 Der 101 v buf.now × (buf.now ≡ integer_form (universal 2) Der v)) }
+    ensures refused { IfErr result (λ e. ((v : ℤ) → EncodesSigned w64 Der 101 v buf.now → ⊥) × (kind_of e ≡ OutOfMemory → ⊥)) }
+{
+    parse_der(alloc, buf, |reader| reader.read_i64())
+}
+
+/// The DER form of a number as an INTEGER, or `OutOfMemory`.
+pub fn constructed_integer(alloc: Global, number: i64) -> ASN1Result<Vec<u8>>
+    ensures form { IfOk result (λ bytes. bytes.items ≡ integer_form (universal 2) Der number) }
+    ensures memory { IfErr result (λ e. kind_of e ≡ OutOfMemory) }
+{
+    construct_der(alloc, |writer| writer.write_i64(number))
+}

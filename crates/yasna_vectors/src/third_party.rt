@@ -1,0 +1,110 @@
+//! Types of a crate of its own that are read and written as a whole.
+ghost use Rattle.std.specs.Prelude.{◌≡◌, ◌<◌, ◌^◌, false, ◌||◌, pos};
+ghost use Rattle.std.specs.Int.{w64};
+ghost use Rattle.yasna.specs.base.Identifier.{universal};
+ghost use Rattle.yasna.specs.base.Coding.{Any};
+ghost use Rattle.yasna.specs.base.Sequence.{sequence_tag, Enclosed, AnyEnclosed, PartOf, NoParts, AnyPart, AnyNothing, SamePart, SameNothing};
+ghost use Rattle.yasna.specs.base.Simple.{Primitively, IsUnsigned};
+ghost use Rattle.yasna.specs.base.Types.{EncodesBoolean, EncodesUnsigned};
+ghost use Rattle.yasna.specs.reader.Decodes.{Decodes, Step, Done};
+ghost use Rattle.yasna.specs.reader.Lending.{part_of};
+ghost use Rattle.yasna.specs.reader.Typed.{Reads, NoLevel, Never};
+ghost use Rattle.yasna.specs.reader.View.{IsFresh};
+ghost use Rattle.yasna.specs.base.Canonical.{integer_form, boolean_form, leaf_nest, enclosed_form, enclosed_nest, part_form, part_nest, part_can, nothing_form, nothing_nest, Always};
+ghost use Rattle.yasna.proofs.Laws.{part, no_part, tuple, bool_coding, signed_coding, unsigned_coding};
+ghost use Rattle.yasna.proofs.Laws.{part_written, no_part_written, tuple_written, bool_written, signed_written, unsigned_written};
+
+use yasna::{ASN1Result, BERDecodable, BERReader, DERCanonical, DEREncodable, DERWriter};
+
+/// A number, and whether it counts: a SEQUENCE of INTEGER and BOOLEAN.
+#[derive(Drop)]
+pub struct Measurement {
+    pub number: i64,
+    pub valid: bool,
+}
+
+impl BERDecodable for Measurement {
+    ghost encodes = { λ m n v b. ⟦<(i64, bool) as BERDecodable>⟧.encodes m n (v.number, v.valid) b };
+
+    ghost elements = { ⟦<(i64, bool) as BERDecodable>⟧.elements };
+
+    ghost asks_memory = { ⟦<(i64, bool) as BERDecodable>⟧.asks_memory };
+
+    ghost same = { λ v w. ⟦<(i64, bool) as BERDecodable>⟧.same (v.number, v.valid) (w.number, w.valid) };
+
+    fn decode_ber(reader: BERReader) -> ASN1Result<Measurement> {
+        match <(i64, bool)>::decode_ber(reader) {
+            Ok((number, valid)) => Ok(Measurement { number, valid }),
+            Err(error) => Err(error),
+        }
+    }
+
+    ghost coding = { tuple (λ v. (v.number, (v.valid, tt))) (part (signed_coding w64) (part bool_coding no_part)) };
+}
+
+impl DEREncodable for Measurement {
+    ghost form = { λ m v. ⟦<(i64, bool) as DEREncodable>⟧.form m (v.number, v.valid) };
+
+    ghost nest = { λ m v. ⟦<(i64, bool) as DEREncodable>⟧.nest m (v.number, v.valid) };
+
+    ghost encodable = { λ v. ⟦<(i64, bool) as DEREncodable>⟧.encodable (v.number, v.valid) };
+
+    fn encode_der(&self, writer: DERWriter<'_>) -> ASN1Result<()> {
+        (self.number, self.valid).encode_der(writer)
+    }
+}
+
+impl DERCanonical for Measurement {
+    ghost written = { tuple_written (λ v. (v.number, (v.valid, tt))) (part_written (signed_written w64) (part_written bool_written no_part_written)) };
+}
+
+/// A version's number, and whether a flag is set: a SEQUENCE of INTEGER and BOOLEAN.
+#[derive(Drop)]
+pub struct Version {
+    pub major: u16,
+    pub flag: bool,
+}
+
+impl BERDecodable for Version {
+    ghost encodes = { λ m n v b. Enclosed (PartOf (EncodesUnsigned 16) (PartOf EncodesBoolean NoParts)) sequence_tag m n (v.major, (v.flag, tt)) b };
+
+    ghost elements = { AnyEnclosed (AnyPart (Any (EncodesUnsigned 16)) (AnyPart (Any EncodesBoolean) AnyNothing)) sequence_tag };
+
+    ghost asks_memory = { (false || (false || false)) };
+
+    ghost same = { λ v w. SamePart (λ x y. x ≡ y) (SamePart (λ x y. x ≡ y) SameNothing) (v.major, (v.flag, tt)) (w.major, (w.flag, tt)) };
+
+    fn decode_ber(reader: BERReader) -> ASN1Result<Version> {
+        reader.read_sequence(
+            |seq| -> ASN1Result<Version>
+                requires { IsFresh (part_of seq.old) }
+                ensures { Step (Reads (Primitively (IsUnsigned 16)) NoLevel Never (universal 2)) (λ major. Step (Decodes false EncodesBoolean (Any EncodesBoolean)) (λ flag. Done (record { major = major; flag = flag }))) (part_of seq.old) result (part_of seq.new) }
+            {
+                let major = seq.next().read_u16()?;
+                let flag = bool::decode_ber(seq.next())?;
+                Ok(Version { major, flag })
+            },
+        )
+    }
+
+    ghost coding = { tuple (λ v. (v.major, (v.flag, tt))) (part (unsigned_coding 16) (part bool_coding no_part)) };
+}
+
+impl DEREncodable for Version {
+    ghost form = { λ m v. enclosed_form (part_form (λ m v. integer_form (universal 2) m (pos v)) (part_form (boolean_form (universal 1)) nothing_form)) sequence_tag m (v.major, (v.flag, tt)) };
+
+    ghost nest = { λ m v. enclosed_nest (part_nest leaf_nest (part_nest leaf_nest nothing_nest)) m (v.major, (v.flag, tt)) };
+
+    ghost encodable = { λ v. part_can (λ n. n < 2 ^ 16) (part_can Always Always) (v.major, (v.flag, tt {0})) };
+
+    fn encode_der(&self, writer: DERWriter<'_>) -> ASN1Result<()> {
+        writer.write_sequence(|seq| {
+            seq.next().write_u16(self.major)?;
+            self.flag.encode_der(seq.next())
+        })
+    }
+}
+
+impl DERCanonical for Version {
+    ghost written = { tuple_written (λ v. (v.major, (v.flag, tt))) (part_written (unsigned_written 16) (part_written bool_written no_part_written)) };
+}
