@@ -6,17 +6,19 @@ ghost use Rattle.yasna_base.specs.Refusal.{kind_of};
 ghost use Rattle.yasna_base.specs.declared.mode.BERMode.TheVariants.{Ber, Der};
 ghost use Rattle.yasna_reader.specs.Decodes.{Decoded};
 
+use crate::traits::{BERDecodable, DERCanonical, DEREncodable};
 use std::alloc::Global;
-
 use yasna_base::error::ASN1Result;
 use yasna_base::mode::BERMode;
 use yasna_reader::parse_ber_general;
 use yasna_writer::construct_der;
 
-use crate::traits::{BERDecodable, DERCanonical, DEREncodable};
-
 /// Reads a value from bytes, all of them, by these rules.
-pub fn decode_ber_general<T: BERDecodable>(alloc: Global, src: &[u8], mode: BERMode) -> ASN1Result<T>
+pub fn decode_ber_general<T: BERDecodable>(
+    alloc: Global,
+    src: &[u8],
+    mode: BERMode,
+) -> ASN1Result<T>
     ensures decoded { Decoded T.asks_memory T.encodes T.elements mode src.now result }
     ensures exact { (v : T) → T.encodes mode 101 v src.now → MatchResult result (λ w. T.same w v) (λ e. kind_of e ≡ OutOfMemory) }
 {
@@ -59,5 +61,4 @@ pub fn one_form<T: DERCanonical>()
     ensures ber { (v : T) → T.encodable v → T.nest Der v ≤ 101 → length (T.form Der v) < 2 ^ 64 → T.encodes Ber 101 v (T.form Der v) }
     ensures written { (v : T) (s : List ℕ) → T.encodes Ber 101 v s → T.encodable v × (T.nest Der v ≤ 101) }
     ensures unique { (m : BERMode) (v w : T) (s r : List ℕ) → T.encodes m 101 v s → T.encodes m 101 w (s ++ r) → T.same v w × (r ≡ []) }
-{
-}
+{}

@@ -25,5 +25,6 @@ pub use yasna_base::tag::{PCBit, Tag, TagClass};
 pub use yasna_base::tags;
 pub use yasna_reader::{BERReader, BERReaderSeq, parse_ber, parse_ber_general, parse_der};
 pub use yasna_writer::{
-    DERWriter, DERWriterSeq, construct_der, construct_der_seq, try_construct_der, try_construct_der_seq,
+    DERWriter, DERWriterSeq, construct_der, construct_der_seq, try_construct_der,
+    try_construct_der_seq,
 };

@@ -7,16 +7,18 @@ ghost use Rattle.yasna_base.specs.Canonical.{integer_form, leaf_nest};
 ghost use Rattle.yasna_base.specs.Types.{EncodesSigned, EncodesUnsigned};
 ghost use Rattle.yasna_base.proofs.Types.{signed_coding, signed_written, unsigned_coding, unsigned_written};
 
+use crate::traits::{BERDecodable, DERCanonical, DEREncodable};
 use yasna_base::error::ASN1Result;
 use yasna_reader::BERReader;
 use yasna_writer::DERWriter;
 
-use crate::traits::{BERDecodable, DERCanonical, DEREncodable};
-
 impl BERDecodable for i64 {
     ghost encodes = { EncodesSigned w64 };
+
     ghost elements = { Any (EncodesSigned w64) };
+
     ghost asks_memory = { false };
+
     ghost same = { λ v w. v ≡ w };
 
     fn decode_ber(reader: BERReader) -> ASN1Result<i64> {
@@ -28,7 +30,9 @@ impl BERDecodable for i64 {
 
 impl DEREncodable for i64 {
     ghost form = { λ m v. integer_form (universal 2) m v };
+
     ghost nest = { leaf_nest };
+
     ghost encodable = { FitsSigned w64 };
 
     fn encode_der(&self, writer: DERWriter<'_>) -> ASN1Result<()> {
@@ -42,8 +46,11 @@ impl DERCanonical for i64 {
 
 impl BERDecodable for i32 {
     ghost encodes = { EncodesSigned w32 };
+
     ghost elements = { Any (EncodesSigned w32) };
+
     ghost asks_memory = { false };
+
     ghost same = { λ v w. v ≡ w };
 
     fn decode_ber(reader: BERReader) -> ASN1Result<i32> {
@@ -55,7 +62,9 @@ impl BERDecodable for i32 {
 
 impl DEREncodable for i32 {
     ghost form = { λ m v. integer_form (universal 2) m v };
+
     ghost nest = { leaf_nest };
+
     ghost encodable = { FitsSigned w32 };
 
     fn encode_der(&self, writer: DERWriter<'_>) -> ASN1Result<()> {
@@ -69,8 +78,11 @@ impl DERCanonical for i32 {
 
 impl BERDecodable for i16 {
     ghost encodes = { EncodesSigned w16 };
+
     ghost elements = { Any (EncodesSigned w16) };
+
     ghost asks_memory = { false };
+
     ghost same = { λ v w. v ≡ w };
 
     fn decode_ber(reader: BERReader) -> ASN1Result<i16> {
@@ -82,7 +94,9 @@ impl BERDecodable for i16 {
 
 impl DEREncodable for i16 {
     ghost form = { λ m v. integer_form (universal 2) m v };
+
     ghost nest = { leaf_nest };
+
     ghost encodable = { FitsSigned w16 };
 
     fn encode_der(&self, writer: DERWriter<'_>) -> ASN1Result<()> {
@@ -96,8 +110,11 @@ impl DERCanonical for i16 {
 
 impl BERDecodable for u64 {
     ghost encodes = { EncodesUnsigned 64 };
+
     ghost elements = { Any (EncodesUnsigned 64) };
+
     ghost asks_memory = { false };
+
     ghost same = { λ v w. v ≡ w };
 
     fn decode_ber(reader: BERReader) -> ASN1Result<u64> {
@@ -109,7 +126,9 @@ impl BERDecodable for u64 {
 
 impl DEREncodable for u64 {
     ghost form = { λ m v. integer_form (universal 2) m (pos v) };
+
     ghost nest = { leaf_nest };
+
     ghost encodable = { λ v. v < 2 ^ 64 };
 
     fn encode_der(&self, writer: DERWriter<'_>) -> ASN1Result<()> {
@@ -123,8 +142,11 @@ impl DERCanonical for u64 {
 
 impl BERDecodable for u32 {
     ghost encodes = { EncodesUnsigned 32 };
+
     ghost elements = { Any (EncodesUnsigned 32) };
+
     ghost asks_memory = { false };
+
     ghost same = { λ v w. v ≡ w };
 
     fn decode_ber(reader: BERReader) -> ASN1Result<u32> {
@@ -136,7 +158,9 @@ impl BERDecodable for u32 {
 
 impl DEREncodable for u32 {
     ghost form = { λ m v. integer_form (universal 2) m (pos v) };
+
     ghost nest = { leaf_nest };
+
     ghost encodable = { λ v. v < 2 ^ 32 };
 
     fn encode_der(&self, writer: DERWriter<'_>) -> ASN1Result<()> {
@@ -150,8 +174,11 @@ impl DERCanonical for u32 {
 
 impl BERDecodable for u16 {
     ghost encodes = { EncodesUnsigned 16 };
+
     ghost elements = { Any (EncodesUnsigned 16) };
+
     ghost asks_memory = { false };
+
     ghost same = { λ v w. v ≡ w };
 
     fn decode_ber(reader: BERReader) -> ASN1Result<u16> {
@@ -163,7 +190,9 @@ impl BERDecodable for u16 {
 
 impl DEREncodable for u16 {
     ghost form = { λ m v. integer_form (universal 2) m (pos v) };
+
     ghost nest = { leaf_nest };
+
     ghost encodable = { λ v. v < 2 ^ 16 };
 
     fn encode_der(&self, writer: DERWriter<'_>) -> ASN1Result<()> {

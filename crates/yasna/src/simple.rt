@@ -6,16 +6,18 @@ ghost use Rattle.yasna_base.specs.Canonical.{boolean_form, null_form, leaf_nest,
 ghost use Rattle.yasna_base.specs.Types.{EncodesNull, EncodesBoolean};
 ghost use Rattle.yasna_base.proofs.Types.{unit_coding, unit_written, bool_coding, bool_written};
 
+use crate::traits::{BERDecodable, DERCanonical, DEREncodable};
 use yasna_base::error::ASN1Result;
 use yasna_reader::BERReader;
 use yasna_writer::DERWriter;
 
-use crate::traits::{BERDecodable, DERCanonical, DEREncodable};
-
 impl BERDecodable for () {
     ghost encodes = { EncodesNull };
+
     ghost elements = { Any EncodesNull };
+
     ghost asks_memory = { false };
+
     ghost same = { λ v w. v ≡ w };
 
     fn decode_ber(reader: BERReader) -> ASN1Result<()> {
@@ -27,7 +29,9 @@ impl BERDecodable for () {
 
 impl DEREncodable for () {
     ghost form = { null_form (universal 5) };
+
     ghost nest = { leaf_nest };
+
     ghost encodable = { Always };
 
     fn encode_der(&self, writer: DERWriter<'_>) -> ASN1Result<()> {
@@ -41,8 +45,11 @@ impl DERCanonical for () {
 
 impl BERDecodable for bool {
     ghost encodes = { EncodesBoolean };
+
     ghost elements = { Any EncodesBoolean };
+
     ghost asks_memory = { false };
+
     ghost same = { λ v w. v ≡ w };
 
     fn decode_ber(reader: BERReader) -> ASN1Result<bool> {
@@ -54,7 +61,9 @@ impl BERDecodable for bool {
 
 impl DEREncodable for bool {
     ghost form = { boolean_form (universal 1) };
+
     ghost nest = { leaf_nest };
+
     ghost encodable = { Always };
 
     fn encode_der(&self, writer: DERWriter<'_>) -> ASN1Result<()> {

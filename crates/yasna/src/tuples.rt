@@ -15,11 +15,10 @@ ghost use Rattle.yasna_reader.specs.View.{IsFresh};
 ghost use Rattle.yasna_reader.specs.Lending.{part_of};
 ghost use Rattle.yasna_reader.specs.Decodes.{Decodes, DecodesParts};
 
+use crate::traits::{BERDecodable, DERCanonical, DEREncodable};
 use yasna_base::error::ASN1Result;
 use yasna_reader::{BERReader, BERReaderSeq};
 use yasna_writer::{DERWriter, DERWriterSeq};
-
-use crate::traits::{BERDecodable, DERCanonical, DEREncodable};
 
 /// What a tuple's parts are read as.
 pub trait TupleParts: Sized + Drop {
@@ -46,8 +45,11 @@ pub trait TupleParts: Sized + Drop {
 
 impl TupleParts for () {
     ghost parts = { NoParts };
+
     ghost any_parts = { AnyNothing };
+
     ghost parts_ask = { false };
+
     ghost same_parts = { SameNothing };
 
     fn read_parts(_seq: &mut BERReaderSeq) -> ASN1Result<()> {
@@ -59,8 +61,11 @@ impl TupleParts for () {
 
 impl<A: BERDecodable, W: TupleParts> TupleParts for (A, W) {
     ghost parts = { PartOf A.encodes W.parts };
+
     ghost any_parts = { AnyPart A.elements W.any_parts };
+
     ghost parts_ask = { (A.asks_memory || W.parts_ask) };
+
     ghost same_parts = { SamePart A.same W.same_parts };
 
     fn read_parts(seq: &mut BERReaderSeq) -> ASN1Result<(A, W)> {
@@ -86,8 +91,11 @@ fn read_tuple<W: TupleParts>(reader: BERReader) -> ASN1Result<W>
 
 impl<A: BERDecodable, B: BERDecodable> BERDecodable for (A, B) {
     ghost encodes = { λ m n v b. Enclosed (PartOf A.encodes (PartOf B.encodes NoParts)) sequence_tag m n (v.0, (v.1, tt)) b };
+
     ghost elements = { AnyEnclosed (AnyPart A.elements (AnyPart B.elements AnyNothing)) sequence_tag };
+
     ghost asks_memory = { (A.asks_memory || (B.asks_memory || false)) };
+
     ghost same = { λ v w. SamePart A.same (SamePart B.same SameNothing) (v.0, (v.1, tt)) (w.0, (w.1, tt)) };
 
     fn decode_ber(reader: BERReader) -> ASN1Result<(A, B)> {
@@ -102,7 +110,9 @@ impl<A: BERDecodable, B: BERDecodable> BERDecodable for (A, B) {
 
 impl<A: DEREncodable, B: DEREncodable> DEREncodable for (A, B) {
     ghost form = { λ m v. enclosed_form (part_form A.form (part_form B.form nothing_form)) sequence_tag m (v.0, (v.1, tt)) };
+
     ghost nest = { λ m v. enclosed_nest (part_nest A.nest (part_nest B.nest nothing_nest)) m (v.0, (v.1, tt)) };
+
     ghost encodable = { λ v. part_can A.encodable (part_can B.encodable Always) (v.0, (v.1, tt {0})) };
 
     fn encode_der(&self, writer: DERWriter<'_>) -> ASN1Result<()> {
@@ -111,7 +121,10 @@ impl<A: DEREncodable, B: DEREncodable> DEREncodable for (A, B) {
 }
 
 // Writes both parts, one after the other.
-fn write_pair<A: DEREncodable, B: DEREncodable>(pair: &(A, B), seq: &mut DERWriterSeq) -> ASN1Result<()>
+fn write_pair<A: DEREncodable, B: DEREncodable>(
+    pair: &(A, B),
+    seq: &mut DERWriterSeq,
+) -> ASN1Result<()>
     requires first { A.encodable pair.now.0 }
     requires second { B.encodable pair.now.1 }
     ensures { Wrote (A.form Der pair.now.0 ++ (B.form Der pair.now.1 ++ [])) seq.old seq.new result }

@@ -10,7 +10,9 @@
 //! | `vector` | what a vector is |
 //! | `reading`, `writing` | the calls |
 //! | `integers`, `big_integers`, `enumerated`, `booleans`, `nulls`, `sequences` | vectors, by type |
+//! | `nests` | vectors of sequences in sequences, as one type |
 //! | `refusals` | vectors that say why a read is refused, and what becomes of the failure |
+//! | `failures` | vectors of failures that a callback throws away |
 //! | `levels` | vectors that nest as deep as may be, and one level deeper |
 //! | `wholes` | vectors of the calls around a reading or a writing |
 #![tactic(auto)]
@@ -18,13 +20,19 @@
 mod big_integers;
 mod booleans;
 mod enumerated;
+mod failures;
 mod integers;
 mod known;
+#[cfg(test)]
+mod lengths;
 mod levels;
+mod nests;
 mod nulls;
 mod reading;
 mod refusals;
 mod sequences;
+#[cfg(test)]
+mod tags;
 #[cfg(test)]
 mod tests;
 mod third_party;
@@ -41,14 +49,16 @@ use yasna::ASN1ErrorKind;
 // Which request of the process is refused.
 const REFUSED: u8 = 200;
 
-const GROUPS: [&[Vector]; 9] = [
+const GROUPS: [&[Vector]; 11] = [
     integers::VECTORS,
     big_integers::VECTORS,
     enumerated::VECTORS,
     booleans::VECTORS,
     nulls::VECTORS,
     sequences::VECTORS,
+    nests::VECTORS,
     refusals::VECTORS,
+    failures::VECTORS,
     levels::VECTORS,
     wholes::VECTORS,
 ];

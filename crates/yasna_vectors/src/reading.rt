@@ -4,7 +4,7 @@ use crate::vector::{Answer, Given, Read, Reading, Type, Width};
 use std::alloc::Global;
 use yasna::{
     ASN1Error, ASN1ErrorKind, ASN1Result, BERDecodable, BERMode, BERReader, BERReaderSeq,
-    decode_ber, decode_der, parse_ber, parse_der,
+    decode_ber, decode_der, parse_ber, parse_ber_general, parse_der,
 };
 
 /// What reading the bytes in this way answers.
@@ -19,6 +19,18 @@ pub fn read_by(alloc: Global, reading: Reading, mode: BERMode, bytes: &[u8]) -> 
             BERMode::Ber => parse_ber(alloc, bytes, |reader| thrown_away(reader, call)),
             BERMode::Der => parse_der(alloc, bytes, |reader| thrown_away(reader, call)),
         },
+        Reading::Replaced(call, kind) => parse_ber_general(
+            alloc,
+            bytes,
+            mode,
+            |reader| replaced(reader, call, kind),
+        ),
+        Reading::PartReplaced(call, kind) => parse_ber_general(
+            alloc,
+            bytes,
+            mode,
+            |reader| part_replaced(reader, call, kind),
+        ),
         Reading::Twice(first, second) => return read_twice(alloc, mode, bytes, first, second),
     };
     match answer {
@@ -45,6 +57,10 @@ fn read(reader: BERReader, call: Read) -> ASN1Result<Given> {
         )),
         Read::Empty => reader.read_sequence(|_seq| Ok(Answer::Nothing)),
         Read::Unread => reader.read_sequence(|_seq| Err(ASN1Error::new(ASN1ErrorKind::Invalid))),
+        Read::Ignored => reader.read_sequence(|seq| {
+            let _ = seq.next().read_i64();
+            Ok(Answer::Nothing)
+        }),
         Read::Nested(depth) => read_nested(reader, depth),
         Read::Nothing => Ok(Answer::Nothing),
     }
@@ -93,6 +109,17 @@ fn thrown_away(reader: BERReader, call: Read) -> ASN1Result<Given> {
     Ok(Answer::Nothing)
 }
 
+// Makes a call, throws its answer away and answers another refusal.
+fn replaced(reader: BERReader, call: Read, kind: ASN1ErrorKind) -> ASN1Result<Given> {
+    let _ = read(reader, call);
+    Err(ASN1Error::new(kind))
+}
+
+// The same in a SEQUENCE.
+fn part_replaced(reader: BERReader, call: Read, kind: ASN1ErrorKind) -> ASN1Result<Given> {
+    reader.read_sequence(|seq| replaced(seq.next(), call, kind))
+}
+
 // What a value as a whole is decoded as.
 fn decoded(alloc: Global, whole: Type, mode: BERMode, bytes: &[u8]) -> ASN1Result<Given> {
     match whole {
@@ -120,7 +147,23 @@ fn decoded(alloc: Global, whole: Type, mode: BERMode, bytes: &[u8]) -> ASN1Resul
             number,
             flag,
         )| Answer::Pair(number, flag)),
+        Type::Pairs => decoded_pairs(alloc, mode, bytes),
+        Type::Deep => decoded_deep(alloc, mode, bytes),
     }
+}
+
+// What a pair of pairs is decoded as.
+fn decoded_pairs(alloc: Global, mode: BERMode, bytes: &[u8]) -> ASN1Result<Given> {
+    let ((number, flag), (other, last)): ((i64, bool), (bool, i64)) = decoded_as(
+        alloc, mode, bytes,
+    )?;
+    Ok(Answer::Pairs(number, flag, other, last))
+}
+
+// What pairs in pairs are decoded as.
+fn decoded_deep(alloc: Global, mode: BERMode, bytes: &[u8]) -> ASN1Result<Given> {
+    let (flag, (number, (other, ()))): (bool, (i64, (bool, ()))) = decoded_as(alloc, mode, bytes)?;
+    Ok(Answer::Deep(flag, number, other))
 }
 
 fn decoded_as<T: BERDecodable>(alloc: Global, mode: BERMode, bytes: &[u8]) -> ASN1Result<T> {

@@ -1,13 +1,20 @@
 //! SEQUENCE (X.690, 8.9).
 
 use crate::vector::Answer::{Nothing, Pair, Refused};
-use crate::vector::{Read, Reading, Type, Vector, Ways};
+use crate::vector::{Read, Reading, Type, Vector, Ways, Write, Writing};
 use yasna::ASN1ErrorKind::{Eof, Extra, Invalid};
 use yasna::BERMode::{Ber, Der};
 
 const READINGS: &[Reading] = &[Reading::Parse(Read::Pair), Reading::Decode(Type::Pair)];
 
 const READS: Ways = Ways::Reads(READINGS);
+
+const WRITINGS: &[Writing] = &[
+    Writing::Construct(Write::Parts),
+    Writing::Encode(Type::Pair),
+];
+
+const BOTH: Ways = Ways::Both(READINGS, WRITINGS);
 
 const BER: Ways = Ways::ReadsIn(Ber, READINGS);
 
@@ -18,17 +25,17 @@ const UNREAD: &[Reading] = &[Reading::Parse(Read::Empty)];
 pub const VECTORS: &[Vector] = &[
     // an INTEGER and a BOOLEAN
     Vector {
-        ways: READS,
+        ways: BOTH,
         bytes: &[48, 6, 2, 1, 10, 1, 1, 255],
         value: Pair(10, true),
     },
     Vector {
-        ways: READS,
+        ways: BOTH,
         bytes: &[48, 7, 2, 2, 1, 10, 1, 1, 255],
         value: Pair(266, true),
     },
     Vector {
-        ways: READS,
+        ways: BOTH,
         bytes: &[
             48, 13, 2, 8, 127, 255, 255, 255, 255, 255, 255, 255, 1, 1, 0,
         ],
@@ -175,7 +182,7 @@ pub const VECTORS: &[Vector] = &[
     },
     // no parts
     Vector {
-        ways: Ways::Reads(UNREAD),
+        ways: Ways::Both(UNREAD, &[Writing::Construct(Write::Parts)]),
         bytes: &[48, 0],
         value: Nothing,
     },

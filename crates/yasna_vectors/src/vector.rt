@@ -20,6 +20,10 @@ pub enum Answer<B> {
     BigInteger(B, bool),
     /// A SEQUENCE of an INTEGER and a BOOLEAN.
     Pair(i64, bool),
+    /// A SEQUENCE of two: one of an INTEGER and a BOOLEAN, one of a BOOLEAN and an INTEGER.
+    Pairs(i64, bool, bool, i64),
+    /// A SEQUENCE of a BOOLEAN and one of an INTEGER and one of a BOOLEAN and a NULL.
+    Deep(bool, i64, bool),
     /// The bytes that were written.
     Bytes(B),
     /// A refusal.
@@ -64,6 +68,10 @@ pub enum Type {
     U16,
     /// `(i64, bool)`.
     Pair,
+    /// `((i64, bool), (bool, i64))`.
+    Pairs,
+    /// `(bool, (i64, (bool, ())))`.
+    Deep,
 }
 
 /// A call on a reader.
@@ -82,6 +90,8 @@ pub enum Read {
     Empty,
     /// `read_sequence`, whose callback reads nothing and answers `Err(Invalid)`.
     Unread,
+    /// `read_sequence`, whose callback reads an `i64`, throws the answer away and answers `Ok`.
+    Ignored,
     /// `read_sequence`, so many times one in the other, around an `i64`.
     Nested(u8),
     /// No call: `Ok`.
@@ -97,6 +107,10 @@ pub enum Reading {
     Decode(Type),
     /// A parse whose callback makes this call, throws its answer away and answers `Ok`.
     ThrownAway(Read),
+    /// A parse whose callback makes this call, throws its answer away and answers an `Err` of this kind.
+    Replaced(Read, ASN1ErrorKind),
+    /// The same in the callback of `read_sequence`, whose answer the parse's callback hands on.
+    PartReplaced(Read, ASN1ErrorKind),
     /// A parse of a SEQUENCE, whose callback makes the first call, then the second, whatever the first answered, and
     /// answers `Ok`.
     Twice(Read, Read),
@@ -111,6 +125,14 @@ pub enum Write {
     Number(Width),
     /// `write_bigint_bytes`, behind so many bytes more that repeat the sign: 0, or 255 of a negative number.
     BigInteger(u8),
+    /// `write_sequence`, whose closure writes the parts of a pair, or none.
+    Parts,
+    /// `write_sequence`, whose closure writes an `i64` and answers `Err(Invalid)`.
+    Refused,
+    /// The same, and its answer is thrown away: `Ok`.
+    ThrownAway,
+    /// `write_sequence`, so many times one in the other, around an `i64`.
+    Nested(u8),
     /// No call: `Ok`.
     Nothing,
 }
@@ -122,6 +144,10 @@ pub enum Writing {
     Construct(Write),
     /// `try_construct_der`, whose closure makes this call, with an error type that isn't this library's.
     TryConstruct(Write),
+    /// `construct_der_seq`, whose closure writes the parts of a pair, or none.
+    ConstructParts,
+    /// `try_construct_der_seq`, whose closure does so, with an error type that isn't this library's.
+    TryConstructParts,
     /// `encode_der`.
     Encode(Type),
 }
@@ -135,6 +161,8 @@ pub enum Ways {
     ReadsIn(BERMode, &'static [Reading]),
     /// Each of these writes.
     Writes(&'static [Writing]),
+    /// Each of these writes, which are refused for this reason.
+    Refuses(ASN1ErrorKind, &'static [Writing]),
     /// Each of these reads, in both modes, and each of these writes.
     Both(&'static [Reading], &'static [Writing]),
     /// Each number read and write of these types, in both modes and also as a whole. The other number reads answer
@@ -173,6 +201,10 @@ impl Answer<Vec<u8>> {
             Answer::Number(number) => Answer::Number(*number),
             Answer::BigInteger(bytes, positive) => Answer::BigInteger(bytes.as_slice(), *positive),
             Answer::Pair(number, flag) => Answer::Pair(*number, *flag),
+            Answer::Pairs(number, flag, other, last) => Answer::Pairs(
+                *number, *flag, *other, *last,
+            ),
+            Answer::Deep(flag, number, other) => Answer::Deep(*flag, *number, *other),
             Answer::Bytes(bytes) => Answer::Bytes(bytes.as_slice()),
             Answer::Refused(kind) => Answer::Refused(*kind),
             Answer::Kept(kind) => Answer::Kept(*kind),
@@ -193,14 +225,25 @@ pub fn first_mismatch(alloc: Global, vector: &Vector) -> Option<Mismatch> {
             vector.bytes,
             &vector.value,
         ),
-        Ways::Writes(writings) => miswritten(alloc, writings, vector.bytes, &vector.value),
+        Ways::Writes(writings) => miswritten(
+            alloc,
+            writings,
+            Answer::Bytes(vector.bytes),
+            &vector.value,
+        ),
+        Ways::Refuses(kind, writings) => miswritten(
+            alloc,
+            writings,
+            Answer::Refused(kind),
+            &vector.value,
+        ),
         Ways::Both(readings, writings) => match misread(
             alloc,
             readings,
             vector.bytes,
             &vector.value,
         ) {
-            None => miswritten(alloc, writings, vector.bytes, &vector.value),
+            None => miswritten(alloc, writings, Answer::Bytes(vector.bytes), &vector.value),
             Some(mismatch) => Some(mismatch),
         },
         Ways::Held(widths) => misheld(alloc, widths, vector.bytes, &vector.value),
@@ -235,16 +278,16 @@ fn misread_in(
     None
 }
 
-// The first of these writes that doesn't give the bytes.
+// The first of these writes that doesn't answer as wanted.
 fn miswritten(
     alloc: Global,
     writings: &[Writing],
-    bytes: &[u8],
+    wanted: Answer<&[u8]>,
     value: &Known,
 ) -> Option<Mismatch> {
     for writing in writings {
         let answer = written_by(alloc, *writing, value);
-        if answer.as_slices() != Answer::Bytes(bytes) {
+        if answer.as_slices() != wanted {
             return Some(Mismatch {
                 step: Step::Write(*writing),
                 answer,
@@ -309,7 +352,7 @@ fn misheld_by(
         );
     }
     match misread(alloc, &[reading], bytes, value) {
-        None => miswritten(alloc, &[writing], bytes, value),
+        None => miswritten(alloc, &[writing], Answer::Bytes(bytes), value),
         Some(mismatch) => Some(mismatch),
     }
 }
