@@ -3,8 +3,8 @@
 /// The encoding rules of X.690 by which bytes are read.
 #[derive(Clone, Copy, PartialEq, Eq, PartialOrd, Ord, Hash, Debug)]
 pub enum BERMode {
-    /// The basic encoding rules, clause 8.
+    /// The basic encoding rules (X.690, clause 8).
     Ber,
-    /// The distinguished encoding rules, clauses 8, 10 and 11: one form a value.
+    /// The distinguished encoding rules (X.690, clauses 8, 10 and 11): one form a value.
     Der,
 }
