@@ -1,6 +1,6 @@
 -- What a fault of a run says.
 use Rattle.std.specs.Prelude.{Result, Ok, Err, ⊤}
-use Rattle.yasna_base.specs.declared.error.ASN1Error.{ASN1Error}
+use Rattle.yasna.specs.base.declared.error.ASN1Error.{ASN1Error}
 use Rattle.yasna_tool.specs.declared.engine.RunFault.{RunFault}
 use Rattle.yasna_tool.specs.declared.engine.RunFault.TheVariants.{Refused, Device}
 
