@@ -1,3 +1,4 @@
 pub mod Failures
 pub mod Ends
 pub mod Engine
+pub mod Words

@@ -1,6 +1,8 @@
 //! The program over any two ends: arguments, texts of faults, exit statuses.
-ghost use Rattle.std.specs.Prelude.{◌≡◌, ◌-◌, ◌^◌, ◌<◌, ◌≤◌, ◌⊎◌};
+ghost use Rattle.std.specs.Prelude.{◌≡◌, ◌-◌, ◌^◌, ◌<◌, ◌≤◌, ◌⊎◌, map};
 ghost use Rattle.std.specs.Io.KnownBytes.{IsAtEnd, Keeps};
+ghost use Rattle.std.specs.String.{string_bytes};
+ghost use Rattle.yasna_tool.specs.Words.{AreTaken};
 
 use crate::ends::{Sink, Source};
 use crate::engine::{RunFault, run};
@@ -47,6 +49,8 @@ pub fn tool<R: Source, W: Sink, E: Write>(
     ensures status { result ≤ 3 }
     ensures ok { result ≡ 0 → IsAtEnd (R.remaining reader.new) }
     ensures refused { result ≡ 1 → Keeps (W.contents writer.old) (W.contents writer.new) }
+    ensures taken { AreTaken (map string_bytes words.now) ⊎ (result ≡ 2) }
+    ensures not_taken { result ≡ 2 → AreTaken (map string_bytes words.now) → ⊥ }
     ensures usage { result ≡ 2 → (reader.new ≡ reader.old) × (writer.new ≡ writer.old) }
     ensures device { result ≡ 3 → (R.failed reader.old < R.failed reader.new)
         ⊎ (W.failed writer.old < W.failed writer.new) }
