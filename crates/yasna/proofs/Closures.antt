@@ -8,8 +8,9 @@ use Rattle.yasna_base.specs.declared.mode.BERMode.{BERMode}
 use Rattle.yasna_base.specs.declared.tag.Tag.{Tag}
 use Rattle.yasna_base.specs.Identifier.{universal}
 use Rattle.yasna_base.specs.Coding.{IsCoding, ArePartsCoding, Any}
-use Rattle.yasna_base.specs.Sequence.{sequence_tag, Enclosed, AnyEnclosed}
-use Rattle.yasna_base.proofs.Types.{not_end}
+use Rattle.yasna_base.specs.Sequence.{sequence_tag}
+use Rattle.yasna_base.specs.Element.{Enclosed, AnyEnclosed}
+use Rattle.yasna_base.proofs.Identifier.{not_end}
 use Rattle.yasna_reader.specs.declared.state.Parts.{Parts}
 use Rattle.yasna_reader.specs.Calls.{Parses, ReadsParts}
 use Rattle.yasna_reader.specs.Decodes.{Decodes, Decoded}

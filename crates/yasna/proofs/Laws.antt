@@ -1,5 +1,8 @@
 -- The laws that impls of the traits cite.
-pub use Rattle.yasna_base.proofs.Codings.{along, enclosed, no_part, number_coding, part, parts_contents, primitively, tuple}
-pub use Rattle.yasna_base.proofs.Types.{bool_coding, enumerated_coding, signed_coding, unit_coding, unsigned_coding}
-pub use Rattle.yasna_base.proofs.Types.{bool_written, enumerated_written, signed_written, unit_written, unsigned_written}
-pub use Rattle.yasna_base.proofs.Writings.{enclosed_written, no_part_written, number_written, part_written, primitively_written, tuple_written, written_along}
+pub use Rattle.yasna_base.proofs.Coding.{along, enclosed, parts_contents, primitively}
+pub use Rattle.yasna_base.proofs.Sequence.{no_part, part, tuple, no_part_written, part_written, tuple_written}
+pub use Rattle.yasna_base.proofs.Integer.{number_coding, signed_coding, unsigned_coding, signed_written, unsigned_written, number_written}
+pub use Rattle.yasna_base.proofs.Boolean.{bool_coding, bool_written}
+pub use Rattle.yasna_base.proofs.Enumerated.{enumerated_coding, enumerated_written}
+pub use Rattle.yasna_base.proofs.Null.{unit_coding, unit_written}
+pub use Rattle.yasna_base.proofs.Canonical.{enclosed_written, primitively_written, written_along}

@@ -3,9 +3,9 @@ ghost use Rattle.std.specs.Prelude.{◌≡◌, ◌<◌, ◌^◌, false, pos, Fit
 ghost use Rattle.std.specs.Int.{w64, w32, w16};
 ghost use Rattle.yasna_base.specs.Identifier.{universal};
 ghost use Rattle.yasna_base.specs.Coding.{Any};
-ghost use Rattle.yasna_base.specs.Canonical.{integer_form, leaf_nest};
-ghost use Rattle.yasna_base.specs.Types.{EncodesSigned, EncodesUnsigned};
-ghost use Rattle.yasna_base.proofs.Types.{signed_coding, signed_written, unsigned_coding, unsigned_written};
+ghost use Rattle.yasna_base.specs.Integer.{integer_form, EncodesSigned, EncodesUnsigned};
+ghost use Rattle.yasna_base.specs.Canonical.{leaf_nest};
+ghost use Rattle.yasna_base.proofs.Integer.{signed_coding, signed_written, unsigned_coding, unsigned_written};
 
 use crate::traits::{BERDecodable, DERCanonical, DEREncodable};
 use yasna_base::error::ASN1Result;

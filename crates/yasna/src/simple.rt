@@ -2,9 +2,11 @@
 ghost use Rattle.std.specs.Prelude.{◌≡◌, false};
 ghost use Rattle.yasna_base.specs.Identifier.{universal};
 ghost use Rattle.yasna_base.specs.Coding.{Any};
-ghost use Rattle.yasna_base.specs.Canonical.{boolean_form, null_form, leaf_nest, Always};
-ghost use Rattle.yasna_base.specs.Types.{EncodesNull, EncodesBoolean};
-ghost use Rattle.yasna_base.proofs.Types.{unit_coding, unit_written, bool_coding, bool_written};
+ghost use Rattle.yasna_base.specs.Boolean.{boolean_form, EncodesBoolean};
+ghost use Rattle.yasna_base.specs.Null.{null_form, EncodesNull};
+ghost use Rattle.yasna_base.specs.Canonical.{leaf_nest, Always};
+ghost use Rattle.yasna_base.proofs.Null.{unit_coding, unit_written};
+ghost use Rattle.yasna_base.proofs.Boolean.{bool_coding, bool_written};
 
 use crate::traits::{BERDecodable, DERCanonical, DEREncodable};
 use yasna_base::error::ASN1Result;

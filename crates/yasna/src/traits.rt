@@ -6,7 +6,7 @@ ghost use Rattle.std.specs.Prelude.{◌≡◌, ℕ, List, Bool, None};
 ghost use Rattle.yasna_base.specs.declared.mode.BERMode.{BERMode};
 ghost use Rattle.yasna_base.specs.declared.mode.BERMode.TheVariants.{Der};
 ghost use Rattle.yasna_base.specs.Coding.{IsCoding};
-ghost use Rattle.yasna_base.specs.Written.{IsWritten};
+ghost use Rattle.yasna_base.specs.Canonical.{IsWritten};
 ghost use Rattle.yasna_reader.specs.Decodes.{Decodes};
 ghost use Rattle.yasna_writer.specs.Written.{Wrote};
 

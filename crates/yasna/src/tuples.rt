@@ -4,12 +4,12 @@
 //! are those of its parts, one after the other.
 ghost use Rattle.std.specs.Prelude.{◌≡◌, ℕ, List, Bool, None, false, ◌||◌, ◌++◌, []};
 ghost use Rattle.yasna_base.specs.declared.mode.BERMode.{BERMode};
-ghost use Rattle.yasna_base.specs.Sequence.{sequence_tag, Enclosed, AnyEnclosed, PartOf, NoParts, AnyPart, AnyNothing, SamePart, SameNothing};
+ghost use Rattle.yasna_base.specs.Sequence.{sequence_tag, PartOf, NoParts, AnyPart, AnyNothing, SamePart, SameNothing, part_form, part_nest, part_can, nothing_form, nothing_nest};
+ghost use Rattle.yasna_base.specs.Element.{Enclosed, AnyEnclosed};
 ghost use Rattle.yasna_base.specs.Coding.{ArePartsCoding};
 ghost use Rattle.yasna_base.specs.declared.mode.BERMode.TheVariants.{Der};
-ghost use Rattle.yasna_base.specs.Canonical.{enclosed_form, enclosed_nest, part_form, part_nest, part_can, nothing_form, nothing_nest, Always};
-ghost use Rattle.yasna_base.proofs.Codings.{part, no_part, tuple};
-ghost use Rattle.yasna_base.proofs.Writings.{part_written, no_part_written, tuple_written};
+ghost use Rattle.yasna_base.specs.Canonical.{enclosed_form, enclosed_nest, Always};
+ghost use Rattle.yasna_base.proofs.Sequence.{part, no_part, tuple, part_written, no_part_written, tuple_written};
 ghost use Rattle.yasna_writer.specs.Written.{Wrote};
 ghost use Rattle.yasna_reader.specs.View.{IsFresh};
 ghost use Rattle.yasna_reader.specs.Lending.{part_of};

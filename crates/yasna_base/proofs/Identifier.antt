@@ -1,15 +1,15 @@
 -- An identifier at the front of bytes shows its tag, its bit and its own end.
-use Rattle.std.proofs.Common.{◌≡◌, ℕ, ◌<◌, ◌≤◌, inl, inr, List, [], ◌∷◌, ◌++◌, length, length-append, append_assoc, refl, sym, ap, ap₂, ◌∙◌, arith}
-use Rattle.std.proofs.lemmas.Bool.{cases_lt, lt-ltb, le-ltb}
+use Rattle.std.proofs.Common.{◌≡◌, ℕ, ◌+◌, ◌<◌, ◌≤◌, List, [], ◌∷◌, ◌++◌, length, refl, ap, ◌∙◌, sym, inl, inr, arith, ap₂, length-append, append_assoc, subst, ◌-◌, lt-ltb, le-ltb}
+use Rattle.std.proofs.lemmas.Bool.{cases_lt}
+use Rattle.yasna_base.specs.declared.tag.PCBit.{PCBit}
+use Rattle.yasna_base.specs.declared.tag.PCBit.TheVariants.{Primitive, Constructed}
 use Rattle.yasna_base.specs.declared.tag.Tag.{Tag}
 use Rattle.yasna_base.specs.declared.tag.TagClass.{TagClass}
 use Rattle.yasna_base.specs.declared.tag.TagClass.TheVariants.{Universal, Application, ContextSpecific, Private}
-use Rattle.yasna_base.specs.declared.tag.PCBit.{PCBit}
-use Rattle.yasna_base.specs.declared.tag.PCBit.TheVariants.{Primitive, Constructed}
-use Rattle.yasna_base.specs.Digits.{base128}
-use Rattle.yasna_base.specs.Identifier.{class_number, bit_number, leading_byte, identifier, end_tag, BeginsWithTag, begins, StartsElement, AtEnd, nothing, end}
+use Rattle.yasna_base.specs.Digits.{IsBytes, base128}
+use Rattle.yasna_base.specs.Identifier.{class_number, bit_number, leading_byte, identifier, universal, end_tag, BeginsWithTag, begins, StartsElement, AtEnd, nothing, end}
+use Rattle.yasna_base.proofs.Digits.{base128_exact, base128_bytes}
 use Rattle.yasna_base.proofs.Lists.{fronts_as}
-use Rattle.yasna_base.proofs.Digits.{base128_exact}
 
 -- classes with one number are equal
 pub class_same : (c d : TagClass) → class_number c ≡ class_number d → c ≡ d
@@ -30,7 +30,8 @@ bit_below Primitive = omega arith
 bit_below Constructed = omega arith
 
 -- a leading byte shows the class, the bit and the five low bits
-pub leading_same : (t u : Tag) (p q : PCBit) (i j : ℕ) → i < 32 → j < 32 → leading_byte t p i ≡ leading_byte u q j → (t.tag_class ≡ u.tag_class) × (p ≡ q) × (i ≡ j)
+pub leading_same : (t u : Tag) (p q : PCBit) (i j : ℕ) → i < 32 → j < 32 → leading_byte t p i ≡ leading_byte u q j →
+    (t.tag_class ≡ u.tag_class) × (p ≡ q) × (i ≡ j)
 leading_same t u p q i j k l e =
     let m = bit_below p in
     let n = bit_below q in
@@ -110,3 +111,23 @@ end_identifier r = ap (λ z. z ++ r) (identifier_short end_tag Primitive (omega 
 -- contents end where a zero stands
 pub zeros_at_end : (r : List ℕ) → AtEnd (0 ∷ r)
 zeros_at_end r = end (begins Primitive r (sym (end_identifier r)))
+
+class_below : (c : TagClass) → class_number c < 4
+class_below Universal = omega arith
+class_below Application = omega arith
+class_below ContextSpecific = omega arith
+class_below Private = omega arith
+
+leading_below : (t : Tag) (p : PCBit) (i : ℕ) → i < 32 → leading_byte t p i < 256
+leading_below t p i h = omega (arith, class_below t.tag_class, bit_below p)
+
+-- an identifier is bytes
+pub identifier_bytes : (t : Tag) (p : PCBit) → IsBytes (identifier t p)
+identifier_bytes t p = elim (cases_lt t.tag_number 31) [
+  | inl h ↦ subst IsBytes (sym (identifier_short t p h)) (leading_below t p t.tag_number (omega arith), tt)
+  | inr h ↦ subst IsBytes (sym (identifier_long t p h)) (leading_below t p 31 (omega arith), base128_bytes t.tag_number)
+]
+
+-- a universal tag with another number isn't that of the end of contents
+pub not_end : (k : ℕ) → (k ≡ 0 → ⊥) → universal k ≡ end_tag → ⊥
+not_end k h e = h (ap (λ (t : Tag). t.tag_number) e)

@@ -1,14 +1,18 @@
--- The length octets: of two spelled lengths neither begins the other, and the fewest bytes are a spelling.
-use Rattle.std.proofs.Common.{◌≡◌, ℕ, ◌+◌, ◌^◌, ◌<◌, ◌≤◌, List, [], ◌∷◌, ◌++◌, length, refl, ap, ◌∙◌, sym, inl, inr, arith}
+-- The length octets: of two spelled lengths neither begins the other, the fewest bytes are a spelling, and what bytes that
+-- begin with a spelled length look like.
+use Rattle.std.proofs.Common.{◌≡◌, ℕ, ◌+◌, ◌^◌, ◌<◌, ◌≤◌, List, [], ◌∷◌, ◌++◌, length, get_or, take, drop, refl, ap, ◌∙◌, sym, inl, inr, arith, subst, ◌-◌, le-ltb}
 use Rattle.std.proofs.lemmas.Bool.{cases_lt}
 use Rattle.std.proofs.lemmas.Bool.Decides.{nat_tests}
+use Rattle.std.proofs.lemmas.Int.Digits.{number_after_append, number_after_ge}
+use Rattle.std.proofs.lemmas.List.{take-append-drop}
+use Rattle.std.specs.Int.Digits.{number_from_digits}
 use Rattle.yasna_base.specs.declared.mode.BERMode.{BERMode}
 use Rattle.yasna_base.specs.declared.mode.BERMode.TheVariants.{Ber, Der}
-use Rattle.yasna_base.specs.Digits.{digits}
-use Rattle.yasna_base.specs.Length.{shortest_length, IsLongLength, one_byte, counted, SpellsLength}
 use Rattle.yasna_base.specs.Canonical.{IsCanonicalMode}
+use Rattle.yasna_base.specs.Digits.{IsBytes, digits}
+use Rattle.yasna_base.specs.Length.{shortest_length, IsLongLength, one_byte, counted, SpellsLength}
+use Rattle.yasna_base.proofs.Digits.{digits_below, digits_some, digits_first, number_digits, digits_length, digits_only}
 use Rattle.yasna_base.proofs.Lists.{fronts_same, fronts_as}
-use Rattle.yasna_base.proofs.Digits.{digits_below, digits_some, number_digits, digits_length}
 
 -- a length below 128 is its one byte
 pub short_length : (k : ℕ) → k < 128 → shortest_length k ≡ k ∷ []
@@ -25,7 +29,8 @@ pub shortest_spells : (k : ℕ) → k < 2 ^ 64 → IsLongLength k (shortest_leng
 shortest_spells k h = elim (cases_lt k 128) [
   | inl i ↦ one_byte i (short_length k i)
   | inr i ↦ let j : length (digits 256 k) ≤ 8 = digits_length 256 k 8 (omega arith) (omega arith) h in
-      counted (digits 256 k) (digits_some 256 k (omega arith)) (omega arith) (digits_below 256 k (omega arith)) (number_digits 256 k (omega arith)) (counted_length k i)
+      counted (digits 256 k) (digits_some 256 k (omega arith)) (omega arith) (digits_below 256 k (omega arith)) (number_digits 256 k (omega arith))
+      (counted_length k i)
 ]
 
 -- each mode takes the fewest bytes
@@ -69,3 +74,68 @@ not_128 k a r s (counted ds h _ _ _ e) f = let w : 128 + length ds ≡ 128 = cc 
 -- no spelled length begins with the byte 128, which announces contents of indefinite length
 pub length_not_indefinite : (m : BERMode) (k : ℕ) (a r s : List ℕ) → SpellsLength m k a → a ++ r ≡ 128 ∷ s → ⊥
 length_not_indefinite m k a r s x e = not_128 k a r s (spells_long m k a x) e
+
+-- a length in the fewest bytes is bytes
+pub shortest_bytes : (k : ℕ) → k < 2 ^ 64 → IsBytes (shortest_length k)
+shortest_bytes k h = elim (cases_lt k 128) [
+  | inl i ↦ subst IsBytes (sym (short_length k i)) (omega arith, tt)
+  | inr i ↦
+      let j : length (digits 256 k) ≤ 8 = digits_length 256 k 8 (omega arith) (omega arith) h in
+      subst IsBytes (sym (counted_length k i)) (omega arith, digits_below 256 k (omega arith))
+]
+
+-- a counted length of 128 or more without a leading zero is the shortest
+pub shortest_only : (ds : List ℕ) → IsBytes ds → 0 < get_or ds 0 0 → 128 ≤ number_from_digits 256 ds →
+    shortest_length (number_from_digits 256 ds) ≡ (128 + length ds) ∷ ds
+unfolding shortest_length
+shortest_only ds p h k = rw (le-ltb (number_from_digits 256 ds) 128 k) (ap (λ x. (128 + length x) ∷ x) (digits_only 256 ds (omega arith) p h))
+
+-- the number of the first digits is at most that of all
+pub number_front : (i : ℕ) (ds : List ℕ) → number_from_digits 256 (take i ds) ≤ number_from_digits 256 ds
+number_front i ds =
+    let whole = ap (number_from_digits 256) (take-append-drop i ds) in
+    let split = number_after_append 256 0 (take i ds) (drop i ds) in
+    let above = number_after_ge 256 (number_from_digits 256 (take i ds)) (drop i ds) (omega arith) in
+    omega arith
+
+-- x is the length k itself, or counts the digits of k that y begins with
+pub data LengthFront (m : BERMode) (x : ℕ) (y : List ℕ) (k : ℕ) : Type 0 where
+  small : x < 128 → k ≡ x → LengthFront m x y k
+  large : (ds r : List ℕ) → x ≡ 128 + length ds → 1 ≤ length ds → length ds ≤ 126 → y ≡ ds ++ r → number_from_digits 256 ds ≡ k → k < 2 ^ 64 →
+      (m ≡ Der → (128 ≤ k) × (0 < get_or ds 0 0)) → LengthFront m x y k
+
+counted_shortest : (k : ℕ) (ds : List ℕ) → 1 ≤ length ds → (128 + length ds) ∷ ds ≡ shortest_length k → (128 ≤ k) × (0 < get_or ds 0 0)
+counted_shortest k ds h e = elim (cases_lt k 128) [
+  | inl i ↦ let f : ds ≡ [] = cc (e ∙ short_length k i) in absurd (omega (arith, ap length f))
+  | inr i ↦ let f : ds ≡ digits 256 k = cc (e ∙ counted_length k i) in (i, rw f (digits_first 256 k (omega arith) (omega arith)))
+]
+
+der_counted : (m : BERMode) (k : ℕ) (ds l : List ℕ) → SpellsLength m k l → 1 ≤ length ds → l ≡ (128 + length ds) ∷ ds → m ≡ Der →
+    (128 ≤ k) × (0 < get_or ds 0 0)
+der_counted Ber k ds l x h e f = absurd (cc)
+der_counted Der k ds l x h e f = counted_shortest k ds h (sym e ∙ x.1)
+
+-- bytes that begin with a spelled length are of one of the two kinds
+pub length_front : (m : BERMode) (x : ℕ) (y : List ℕ) (k : ℕ) (l r : List ℕ) → SpellsLength m k l → x ∷ y ≡ l ++ r → LengthFront m x y k
+length_front m x y k l r w e = elim (spells_long m k l w) [
+  | one_byte h f ↦ let g = e ∙ ap (λ z. z ++ r) f in let i : x ≡ k = cc in small (omega arith) (cc)
+  | counted ds h i b n f ↦ let g = e ∙ ap (λ z. z ++ r) f in large ds r (cc) h i (cc) n (spells_below m k l w) (der_counted m k ds l w h f)
+]
+
+-- no bytes at all do not begin with a spelled length
+pub not_empty : (m : BERMode) (k : ℕ) (l r : List ℕ) → SpellsLength m k l → [] ≡ l ++ r → ⊥
+not_empty m k l r w e = elim (spells_long m k l w) [
+  | one_byte h f ↦ let g = e ∙ ap (λ z. z ++ r) f in cc
+  | counted ds h i b n f ↦ let g = e ∙ ap (λ z. z ++ r) f in cc
+]
+
+-- a byte below 128 spells itself
+pub short_spells : (m : BERMode) (x : ℕ) → x < 128 → SpellsLength m x (x ∷ [])
+short_spells Ber x h = (omega arith, one_byte h refl)
+short_spells Der x h = (omega arith, sym (short_length x h))
+
+-- a count and digits spell the digits' number
+pub long_spells : (m : BERMode) (ds : List ℕ) → IsBytes ds → 1 ≤ length ds → length ds ≤ 126 → number_from_digits 256 ds < 2 ^ 64 →
+    (m ≡ Der → (128 ≤ number_from_digits 256 ds) × (0 < get_or ds 0 0)) → SpellsLength m (number_from_digits 256 ds) ((128 + length ds) ∷ ds)
+long_spells Ber ds x h i j f = (j, counted ds h i x refl refl)
+long_spells Der ds x h i j f = let g = f refl in (j, sym (shortest_only ds x (g.1) (g.0)))

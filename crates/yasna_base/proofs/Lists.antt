@@ -1,5 +1,5 @@
 -- Lists that agree after joining.
-use Rattle.std.proofs.Common.{◌≡◌, ◌⊎◌, inl, inr, List, [], ◌∷◌, ◌++◌, length, refl, sym, ap, ◌∙◌, arith}
+use Rattle.std.proofs.Common.{◌≡◌, ◌+◌, List, [], ◌∷◌, ◌++◌, length, refl, ap, ◌∙◌, sym, inl, inr, arith, ◌-◌, ◌⊎◌}
 
 -- fronts of one length of two equal lists are equal, and so are the rests
 pub fronts_same : {A : Type 0} → (a b r s : List A) → length a ≡ length b → a ++ r ≡ b ++ s → (a ≡ b) × (r ≡ s)
@@ -15,7 +15,8 @@ fronts_same {A} (x ∷ a) (y ∷ b) r s n e =
     ((cc), w.1)
 
 -- of two fronts of one list, one begins the other
-pub fronts_split : {A : Type 0} → (a b r s : List A) → a ++ r ≡ b ++ s → ((x : List A) × (b ≡ a ++ x) × (r ≡ x ++ s)) ⊎ ((x : List A) × (a ≡ b ++ x) × (s ≡ x ++ r))
+pub fronts_split : {A : Type 0} → (a b r s : List A) → a ++ r ≡ b ++ s →
+    ((x : List A) × (b ≡ a ++ x) × (r ≡ x ++ s)) ⊎ ((x : List A) × (a ≡ b ++ x) × (s ≡ x ++ r))
 fronts_split [] b r s e = inl (b, refl, e)
 fronts_split (x ∷ a) [] r s e = inr (x ∷ a, refl, sym e)
 fronts_split (x ∷ a) (y ∷ b) r s e =

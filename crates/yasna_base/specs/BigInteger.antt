@@ -1,11 +1,12 @@
 -- INTEGER of any size (X.690, 8.3).
-use Rattle.std.specs.Prelude.{◌≡◌, ℕ, ◌^◌, List, [], ◌∷◌, length, Bool, true, false, if◌then◌else◌, ◌==◌, ◌↔◌, IsTrue, ℤ, pos, ◌-ℤ◌, ◌≤ℤ◌}
+use Rattle.std.specs.Prelude.{◌≡◌, ℕ, ◌^◌, List, [], ◌∷◌, length, Bool, true, false, if◌then◌else◌, ◌==◌, ◌↔◌, IsTrue}
+use Rattle.std.specs.Prelude.{ℤ, pos, ◌-ℤ◌, ◌≤ℤ◌}
 use Rattle.std.specs.Int.Digits.{number_from_digits}
 use Rattle.yasna_base.specs.declared.mode.BERMode.{BERMode}
 use Rattle.yasna_base.specs.declared.tag.Tag.{Tag}
 use Rattle.yasna_base.specs.Digits.{IsBytes}
-use Rattle.yasna_base.specs.Integer.{twos, IsMinimal}
-use Rattle.yasna_base.specs.Canonical.{integer_form}
+use Rattle.yasna_base.specs.Integer.{twos, IsMinimal, integer_form}
+use Rattle.yasna_base.specs.Laws.{KeepsLaws}
 
 -- bytes, highest first, and whether the number isn't negative
 pub record BigInteger : Type 0 where
@@ -46,3 +47,7 @@ pub record CanBigInteger (v : BigInteger) : Type 0 where
   pub in_bytes : IsBytes v.bytes
   pub minimal : IsMinimal v.bytes
   pub sign : IsTrue v.positive ↔ (pos 0 ≤ℤ twos v.bytes)
+
+-- INTEGER of any size keeps the laws under any tag
+abbrev pub BigIntegerKeepsLaws : Type 0
+BigIntegerKeepsLaws = KeepsLaws IsBigInteger big_integer_form CanBigInteger

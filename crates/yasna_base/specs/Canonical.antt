@@ -1,13 +1,13 @@
--- The one form of a value in each canonical mode, and how deep it nests.
-use Rattle.std.specs.Prelude.{ℕ, ◌+◌, max, List, [], ◌∷◌, ◌++◌, length, Bool, ℤ}
+-- The one form of a value in each canonical mode (X.690, 10 and 11), how deep it nests, and the laws of writing.
+use Rattle.std.specs.Prelude.{◌≡◌, ℕ, ◌+◌, ◌^◌, ◌<◌, ◌≤◌, List, ◌++◌, length}
 use Rattle.yasna_base.specs.declared.mode.BERMode.{BERMode}
 use Rattle.yasna_base.specs.declared.mode.BERMode.TheVariants.{Ber, Der}
 use Rattle.yasna_base.specs.declared.tag.Tag.{Tag}
 use Rattle.yasna_base.specs.declared.tag.PCBit.{PCBit}
-use Rattle.yasna_base.specs.declared.tag.PCBit.TheVariants.{Primitive, Constructed}
+use Rattle.yasna_base.specs.declared.tag.PCBit.TheVariants.{Constructed}
+use Rattle.yasna_base.specs.Digits.{IsBytes}
 use Rattle.yasna_base.specs.Identifier.{identifier}
 use Rattle.yasna_base.specs.Length.{shortest_length}
-use Rattle.yasna_base.specs.Integer.{minimal_bytes}
 
 -- the modes in which a value has one form
 abbrev pub IsCanonicalMode : BERMode → Type 0
@@ -27,19 +27,6 @@ definite_element t p c = identifier t p ++ (shortest_length (length c) ++ c)
 unfoldable pub canonical_element : BERMode → Tag → PCBit → List ℕ → List ℕ
 canonical_element _ t p c = definite_element t p c
 
-abbrev pub boolean_byte : Bool → ℕ
-boolean_byte Bool.false = 0
-boolean_byte Bool.true = 255
-
-abbrev pub boolean_form : Tag → BERMode → Bool → List ℕ
-boolean_form t m v = canonical_element m t Primitive (boolean_byte v ∷ [])
-
-abbrev pub integer_form : Tag → BERMode → ℤ → List ℕ
-integer_form t m z = canonical_element m t Primitive (minimal_bytes z)
-
-abbrev pub null_form : Tag → BERMode → Unit {0} → List ℕ
-null_form t m v = canonical_element m t Primitive []
-
 -- a value with no parts of its own
 abbrev pub leaf_nest : {A : Type 0} → BERMode → A → ℕ
 leaf_nest m v = 1
@@ -51,22 +38,24 @@ enclosed_form form t m v = canonical_element m t Constructed (form m v)
 abbrev pub enclosed_nest : {A : Type 0} → (BERMode → A → ℕ) → BERMode → A → ℕ
 enclosed_nest nest m v = 1 + nest m v
 
--- the parts of a tuple, one after the other
-abbrev pub part_form : {A V : Type 0} → (BERMode → A → List ℕ) → (BERMode → V → List ℕ) → BERMode → A × V → List ℕ
-part_form f g m v = f m v.0 ++ g m v.1
-
-abbrev pub part_nest : {A V : Type 0} → (BERMode → A → ℕ) → (BERMode → V → ℕ) → BERMode → A × V → ℕ
-part_nest f g m v = max (f m v.0) (g m v.1)
-
-abbrev pub part_can : {A V : Type 0} → (A → Type 0) → (V → Type 0) → A × V → Type 0
-part_can c d v = c v.0 × d v.1
-
-abbrev pub nothing_form : BERMode → Unit {0} → List ℕ
-nothing_form m v = []
-
-abbrev pub nothing_nest : BERMode → Unit {0} → ℕ
-nothing_nest m v = 0
-
 -- every value can be written
 abbrev pub Always : {A : Type 0} → A → Type 0
 Always v = Unit {0}
+
+-- Can m says which values can be written in the mode m, which may differ by mode
+pub record HasForm {A : Type 0} (B : BERMode → ℕ → A → List ℕ → Type 0) (form : BERMode → A → List ℕ) (nest : BERMode → A → ℕ)
+    (Can : BERMode → A → Type 0) : Type 0 where
+  -- the form is bytes
+  pub in_bytes : (m : BERMode) (v : A) → Can m v → length (form m v) < 2 ^ 64 → IsBytes (form m v)
+  -- the form is read, in its mode and in BER
+  pub holds : (m o : BERMode) (n : ℕ) (v : A) → HoldsForm m o → Can m v → nest m v ≤ n → length (form m v) < 2 ^ 64 → B o n v (form m v)
+  -- a canonical mode reads nothing but the form
+  pub only : (m : BERMode) (n : ℕ) (v : A) (b : List ℕ) → IsCanonicalMode m → B m n v b → (b ≡ form m v) × Can m v × (nest m v ≤ n)
+
+-- the laws of writing of a type: any mode can write what BER reads
+pub record IsWritten {A : Type 0} (E : A → A → Type 0) (B : BERMode → ℕ → A → List ℕ → Type 0) (form : BERMode → A → List ℕ) (nest : BERMode → A → ℕ)
+    (Can : A → Type 0) : Type 0 where
+  pub has : HasForm B form nest (λ m. Can)
+  pub any : (n : ℕ) (v : A) (b : List ℕ) → B Ber n v b → Can v × (nest Der v ≤ n)
+  -- equal values are written alike
+  pub same : (m : BERMode) (v w : A) → E v w → (form m v ≡ form m w) × (Can v → Can w) × (nest m v ≡ nest m w)

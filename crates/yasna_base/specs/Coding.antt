@@ -1,5 +1,5 @@
--- What the grammar of a type keeps. B m n v b says that b encodes v in the mode m within n levels, S m n b says what
--- that asks of the bytes alone, and E says which values are equal.
+-- The laws of reading of a type. B m n v b says that b encodes v in the mode m within n levels, S m n b what that asks of
+-- the bytes alone, and E says which values are equal.
 use Rattle.std.specs.Prelude.{◌≡◌, ℕ, ◌≤◌, List, ◌++◌}
 use Rattle.yasna_base.specs.declared.mode.BERMode.{BERMode}
 use Rattle.yasna_base.specs.Identifier.{StartsElement, AtEnd}
@@ -10,35 +10,37 @@ pub record IsSame {A : Type 0} (E : A → A → Type 0) : Type 0 where
   pub symmetric : (v w : A) → E v w → E w v
   pub transitive : (u v w : A) → E u v → E v w → E u w
 
--- the laws of reading of a type
-pub record IsCoding {A : Type 0} (E : A → A → Type 0) (B : BERMode → ℕ → A → List ℕ → Type 0) (S : BERMode → ℕ → List ℕ → Type 0) : Type 0 where
+-- what any bytes that mean values keep
+pub record IsMeaning {A : Type 0} (E : A → A → Type 0) (B : BERMode → ℕ → A → List ℕ → Type 0) (S : BERMode → ℕ → List ℕ → Type 0) : Type 0 where
   pub equal : IsSame E
   -- an encoding of a value is among the encodings
   pub among : (m : BERMode) (n : ℕ) (v : A) (b : List ℕ) → B m n v b → S m n b
-  -- an encoding begins with an identifier, which isn't that of the end of contents
-  pub opens : (m : BERMode) (n : ℕ) (b : List ℕ) → S m n b → StartsElement b
-  -- of two encodings neither begins the other
-  pub alone : (m : BERMode) (n k : ℕ) (b c r s : List ℕ) → S m n b → S m k c → b ++ r ≡ c ++ s → b ≡ c
   -- equal bytes encode equal values
   pub exact : (m : BERMode) (n k : ℕ) (v w : A) (b : List ℕ) → B m n v b → B m k w b → E v w
   -- what is read within some levels is read within more
   pub deeper : (m : BERMode) (n k : ℕ) (v : A) (b : List ℕ) → n ≤ k → B m n v b → B m k v b
 
+-- of two members of S, within any levels, neither begins the other
+abbrev pub StandAlone : (BERMode → ℕ → List ℕ → Type 0) → Type 0
+StandAlone S = (m : BERMode) (n k : ℕ) (b c r s : List ℕ) → S m n b → S m k c → b ++ r ≡ c ++ s → b ≡ c
+
+-- the laws of reading of a type
+pub record IsCoding {A : Type 0} (E : A → A → Type 0) (B : BERMode → ℕ → A → List ℕ → Type 0) (S : BERMode → ℕ → List ℕ → Type 0) : Type 0 where
+  pub meaning : IsMeaning E B S
+  -- an encoding begins with an identifier, which isn't that of the end of contents
+  pub opens : (m : BERMode) (n : ℕ) (b : List ℕ) → S m n b → StartsElement b
+  -- of two encodings neither begins the other
+  pub alone : StandAlone S
+
 -- the same of the parts of a tuple, which may be empty
 pub record ArePartsCoding {A : Type 0} (E : A → A → Type 0) (C : BERMode → ℕ → A → List ℕ → Type 0) (S : BERMode → ℕ → List ℕ → Type 0) : Type 0 where
-  pub equal : IsSame E
-  pub among : (m : BERMode) (n : ℕ) (v : A) (c : List ℕ) → C m n v c → S m n c
-  pub alone : (m : BERMode) (n k : ℕ) (b c r s : List ℕ) → S m n b → S m k c → b ++ r ≡ c ++ s → b ≡ c
-  pub exact : (m : BERMode) (n k : ℕ) (v w : A) (c : List ℕ) → C m n v c → C m k w c → E v w
-  pub deeper : (m : BERMode) (n k : ℕ) (v : A) (c : List ℕ) → n ≤ k → C m n v c → C m k v c
+  pub meaning : IsMeaning E C S
+  pub alone : StandAlone S
 
 -- the same of contents, which end where nothing is left or the end of contents stands
 pub record IsContentsCoding {A : Type 0} (E : A → A → Type 0) (C : BERMode → ℕ → A → List ℕ → Type 0) (S : BERMode → ℕ → List ℕ → Type 0) : Type 0 where
-  pub equal : IsSame E
-  pub among : (m : BERMode) (n : ℕ) (v : A) (c : List ℕ) → C m n v c → S m n c
+  pub meaning : IsMeaning E C S
   pub ends : (m : BERMode) (n k : ℕ) (b c r s : List ℕ) → AtEnd r → AtEnd s → S m n b → S m k c → b ++ r ≡ c ++ s → b ≡ c
-  pub exact : (m : BERMode) (n k : ℕ) (v w : A) (c : List ℕ) → C m n v c → C m k w c → E v w
-  pub deeper : (m : BERMode) (n k : ℕ) (v : A) (c : List ℕ) → n ≤ k → C m n v c → C m k v c
 
 -- what reading asks of the bytes alone, where that is just to stand for some value
 abbrev pub Any : {A : Type 0} → (BERMode → ℕ → A → List ℕ → Type 0) → BERMode → ℕ → List ℕ → Type 0

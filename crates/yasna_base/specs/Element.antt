@@ -1,10 +1,11 @@
 -- An element: identifier, length, contents (X.690, 8.1.1).
-use Rattle.std.specs.Prelude.{◌≡◌, ℕ, List, [], ◌∷◌, ◌++◌, length}
+use Rattle.std.specs.Prelude.{◌≡◌, ℕ, zero, suc, ◌^◌, ◌<◌, ◌≤◌, List, [], ◌∷◌, ◌++◌, length}
 use Rattle.yasna_base.specs.declared.mode.BERMode.{BERMode}
 use Rattle.yasna_base.specs.declared.mode.BERMode.TheVariants.{Ber, Der}
 use Rattle.yasna_base.specs.declared.tag.Tag.{Tag}
 use Rattle.yasna_base.specs.declared.tag.PCBit.{PCBit}
 use Rattle.yasna_base.specs.declared.tag.PCBit.TheVariants.{Primitive, Constructed}
+use Rattle.yasna_base.specs.Digits.{IsBytes}
 use Rattle.yasna_base.specs.Identifier.{identifier}
 use Rattle.yasna_base.specs.Length.{SpellsLength}
 
@@ -35,7 +36,39 @@ pub record Indefinite (m : BERMode) (t : Tag) (p : PCBit) (c b : List ℕ) : Typ
   pub taken : TakesIndefinite m p
   pub joined : b ≡ identifier t p ++ (128 ∷ (c ++ end_of_contents))
 
--- b is an element with this tag, this bit and the contents c
-pub data Element (m : BERMode) (t : Tag) (p : PCBit) (c b : List ℕ) : Type 0 where
-  definite : Definite m t p c b → Element m t p c b
-  indefinite : Indefinite m t p c b → Element m t p c b
+-- b is one or the other
+pub data Framed (m : BERMode) (t : Tag) (p : PCBit) (c b : List ℕ) : Type 0 where
+  definite : Definite m t p c b → Framed m t p c b
+  indefinite : Indefinite m t p c b → Framed m t p c b
+
+-- b is an element with this tag, this bit and the contents c: a tag number of 64 bits, and contents that are bytes
+pub record Element (m : BERMode) (t : Tag) (p : PCBit) (c b : List ℕ) : Type 0 where
+  pub in_range : t.tag_number < 2 ^ 64
+  pub in_bytes : IsBytes c
+  pub framed : Framed m t p c b
+
+-- within n levels, b is a primitive element whose contents say v by W
+pub record IsPrimitive {A : Type 0} (W : A → List ℕ → Type 0) (n : ℕ) (m : BERMode) (t : Tag) (v : A) (b : List ℕ) : Type 0 where
+  pub level : 1 ≤ n
+  pub contents : List ℕ
+  pub element : Element m t Primitive contents b
+  pub meaning : W v contents
+
+-- the same, where the meaning depends on the mode
+abbrev pub Primitively : {A : Type 0} → (BERMode → A → List ℕ → Type 0) → ℕ → BERMode → Tag → A → List ℕ → Type 0
+Primitively W n m t v b = IsPrimitive (W m) n m t v b
+
+-- b is a constructed element around contents that say v by C
+pub record Around {A : Type 0} (m : BERMode) (t : Tag) (C : A → List ℕ → Type 0) (v : A) (b : List ℕ) : Type 0 where
+  pub contents : List ℕ
+  pub element : Element m t Constructed contents b
+  pub meaning : C v contents
+
+-- an element around contents that say v by C with one level less
+abbrev pub Enclosed : {A : Type 0} → (BERMode → ℕ → A → List ℕ → Type 0) → Tag → BERMode → ℕ → A → List ℕ → Type 0
+Enclosed C t m zero v b = ⊥
+Enclosed C t m (suc n) v b = Around m t (C m n) v b
+
+-- the same of bytes alone
+abbrev pub AnyEnclosed : (BERMode → ℕ → List ℕ → Type 0) → Tag → BERMode → ℕ → List ℕ → Type 0
+AnyEnclosed S t m n b = Enclosed {A = Unit {0}} (λ m n u c. S m n c) t m n tt b

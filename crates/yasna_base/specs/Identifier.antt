@@ -1,5 +1,5 @@
 -- The identifier octets of a tag (X.690, 8.1.2).
-use Rattle.std.specs.Prelude.{◌≡◌, ℕ, ◌+◌, ◌*◌, ◌^◌, ◌<◌, List, [], ◌∷◌, ◌++◌, if◌then◌else◌, nat_lt}
+use Rattle.std.specs.Prelude.{◌≡◌, ℕ, ◌+◌, ◌*◌, ◌^◌, ◌<◌, List, [], ◌∷◌, ◌++◌, if◌then◌else◌, nat_lt, Option, Some, None}
 use Rattle.yasna_base.specs.declared.tag.Tag.{Tag}
 use Rattle.yasna_base.specs.declared.tag.TagClass.{TagClass}
 use Rattle.yasna_base.specs.declared.tag.TagClass.TheVariants.{Universal, Application, ContextSpecific, Private}
@@ -27,6 +27,11 @@ identifier t p = if nat_lt t.tag_number 31 then (leading_byte t p t.tag_number �
 
 abbrev pub universal : ℕ → Tag
 universal number = record { tag_class = Universal; tag_number = number }
+
+-- an implicit tag stands in place of a type's own
+abbrev pub tag_or : Option Tag → Tag → Tag
+tag_or None own = own
+tag_or (Some tag) own = tag
 
 -- the tag of the two zeros that end contents of indefinite length
 abbrev pub end_tag : Tag

@@ -1,28 +1,11 @@
 -- SEQUENCE of parts, each of a type of its own (X.690, 8.9).
-use Rattle.std.specs.Prelude.{◌≡◌, ℕ, zero, suc, List, [], ◌++◌}
+use Rattle.std.specs.Prelude.{◌≡◌, ℕ, max, List, [], ◌++◌}
 use Rattle.yasna_base.specs.declared.mode.BERMode.{BERMode}
 use Rattle.yasna_base.specs.declared.tag.Tag.{Tag}
-use Rattle.yasna_base.specs.declared.tag.PCBit.TheVariants.{Constructed}
 use Rattle.yasna_base.specs.Identifier.{universal}
-use Rattle.yasna_base.specs.Element.{Element}
 
 abbrev pub sequence_tag : Tag
 sequence_tag = universal 16
-
--- b is a constructed element around contents that say v by C
-pub record Around {A : Type 0} (m : BERMode) (t : Tag) (C : A → List ℕ → Type 0) (v : A) (b : List ℕ) : Type 0 where
-  pub contents : List ℕ
-  pub element : Element m t Constructed contents b
-  pub meaning : C v contents
-
--- an element around contents that say v by C with one level less
-abbrev pub Enclosed : {A : Type 0} → (BERMode → ℕ → A → List ℕ → Type 0) → Tag → BERMode → ℕ → A → List ℕ → Type 0
-Enclosed C t m zero v b = ⊥
-Enclosed C t m (suc n) v b = Around m t (C m n) v b
-
--- the same of bytes alone
-abbrev pub AnyEnclosed : (BERMode → ℕ → List ℕ → Type 0) → Tag → BERMode → ℕ → List ℕ → Type 0
-AnyEnclosed S t m n b = Enclosed {A = Unit {0}} (λ m n u c. S m n c) t m n tt b
 
 -- c is what R says, and behind it what C says
 pub record Then (R C : List ℕ → Type 0) (c : List ℕ) : Type 0 where
@@ -33,7 +16,8 @@ pub record Then (R C : List ℕ → Type 0) (c : List ℕ) : Type 0 where
   pub more : C rest
 
 -- the parts of a tuple, as pairs that end in nothing
-abbrev pub PartOf : {A V : Type 0} → (BERMode → ℕ → A → List ℕ → Type 0) → (BERMode → ℕ → V → List ℕ → Type 0) → BERMode → ℕ → A × V → List ℕ → Type 0
+abbrev pub PartOf : {A V : Type 0} → (BERMode → ℕ → A → List ℕ → Type 0) → (BERMode → ℕ → V → List ℕ → Type 0) →
+    BERMode → ℕ → A × V → List ℕ → Type 0
 PartOf B C m n v c = Then (B m n v.0) (C m n v.1) c
 
 abbrev pub NoParts : BERMode → ℕ → Unit {0} → List ℕ → Type 0
@@ -52,3 +36,21 @@ SamePart E F v w = E v.0 w.0 × F v.1 w.1
 
 abbrev pub SameNothing : Unit {0} → Unit {0} → Type 0
 SameNothing v w = Unit {0}
+
+-- the forms of the parts, one after the other
+abbrev pub part_form : {A V : Type 0} → (BERMode → A → List ℕ) → (BERMode → V → List ℕ) → BERMode → A × V → List ℕ
+part_form f g m v = f m v.0 ++ g m v.1
+
+-- parts nest as deep as the deepest
+abbrev pub part_nest : {A V : Type 0} → (BERMode → A → ℕ) → (BERMode → V → ℕ) → BERMode → A × V → ℕ
+part_nest f g m v = max (f m v.0) (g m v.1)
+
+-- parts can be written where each can
+abbrev pub part_can : {A V : Type 0} → (A → Type 0) → (V → Type 0) → A × V → Type 0
+part_can c d v = c v.0 × d v.1
+
+abbrev pub nothing_form : BERMode → Unit {0} → List ℕ
+nothing_form m v = []
+
+abbrev pub nothing_nest : BERMode → Unit {0} → ℕ
+nothing_nest m v = 0

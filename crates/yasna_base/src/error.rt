@@ -31,7 +31,7 @@ pub struct ASN1Error {
 }
 
 impl ASN1Error {
-    ghost use Rattle.yasna_base.specs.Refusal.{kind_of, error_of};
+    ghost use Rattle.yasna_base.specs.Error.{kind_of, error_of};
 
     /// The refusal of this kind.
     pub fn new(kind: ASN1ErrorKind) -> ASN1Error
@@ -50,7 +50,7 @@ impl ASN1Error {
 
 impl fmt::Display for ASN1Error {
     ghost use Rattle.std.specs.Prelude.{Some};
-    ghost use Rattle.yasna_base.specs.Refusal.{error_text};
+    ghost use Rattle.yasna_base.specs.Error.{error_text};
 
     ghost output = { λ e. Some (error_text e) };
 

@@ -6,9 +6,10 @@ use Rattle.yasna_base.specs.declared.error.ASN1Error.{ASN1Error}
 use Rattle.yasna_base.specs.declared.error.ASN1ErrorKind.TheVariants.{OutOfMemory}
 use Rattle.yasna_base.specs.declared.mode.BERMode.{BERMode}
 use Rattle.yasna_base.specs.declared.tag.Tag.{Tag}
-use Rattle.yasna_base.specs.Refusal.{kind_of}
+use Rattle.yasna_base.specs.Error.{kind_of}
 use Rattle.yasna_base.specs.Identifier.{end_tag, AtEnd}
-use Rattle.yasna_base.specs.Sequence.{Enclosed, AnyEnclosed, PartOf, NoParts, AnyPart, AnyNothing}
+use Rattle.yasna_base.specs.Element.{Enclosed, AnyEnclosed}
+use Rattle.yasna_base.specs.Sequence.{PartOf, NoParts, AnyPart, AnyNothing}
 use Rattle.yasna_base.specs.Coding.{IsCoding, ArePartsCoding}
 use Rattle.yasna_base.proofs.Lists.{append_same}
 use Rattle.yasna_reader.specs.Calls.{unless_kept, ended, parsed}
@@ -33,7 +34,7 @@ module _ {A : Type 0} (asks : Bool) (C : BERMode → ℕ → A → List ℕ → 
 
 -- the parts of a tuple are contents that were read up to their end
 pub parts_contents : {A : Type 0} {E : A → A → Type 0} {C : BERMode → ℕ → A → List ℕ → Type 0} {S : BERMode → ℕ → List ℕ → Type 0} → (asks : Bool) → ArePartsCoding E C S → (s : Reading) (r : Result A ASN1Error) (s' : Reading) → IsFresh s → DecodesParts asks C S s r s' → DecodesContents asks C S s (unless_kept s'.kept r) s'
-parts_contents {C} {S} asks laws = alone_contents asks C S laws.among laws.alone
+parts_contents {C} {S} asks laws = alone_contents asks C S laws.meaning.among laws.alone
 
 -- an element around the parts of a tuple
 pub parts_element : {A : Type 0} {E : A → A → Type 0} {C : BERMode → ℕ → A → List ℕ → Type 0} {S : BERMode → ℕ → List ℕ → Type 0} → (asks : Bool) → ArePartsCoding E C S → (t : Tag) → (t ≡ end_tag → ⊥) → (s : Reading) → IsFresh s → (r : Result A ASN1Error) (s' : Reading) → PartsBy (DecodesParts asks C S) t s r s' → Decodes asks (Enclosed C t) (AnyEnclosed S t) s r s'
@@ -62,7 +63,7 @@ module _ {A V : Type 0} {E : A → A → Type 0} {B : BERMode → ℕ → A → 
   tells_second m n v front rest s joined stands e x = record {
     none = λ k b r i j.
         let f : front ++ rest ≡ j.front ++ (j.rest ++ r) = sym joined ∙ i ∙ ap (λ z. z ++ r) j.joined ∙ append_assoc j.front j.rest r in
-        let g = laws.alone m n n front j.front rest (j.rest ++ r) (laws.among m n v front stands) j.here f in
+        let g = laws.alone m n n front j.front rest (j.rest ++ r) (laws.meaning.among m n v front stands) j.here f in
         x.none k j.rest r (append_same j.front rest (j.rest ++ r) (sym (ap (λ z. z ++ rest) g) ∙ f)) j.more;
     memory = λ k. or_right p q (x.memory k);
   }
@@ -176,7 +177,7 @@ parts_by {B} {S} laws p q C Q s fresh r s' h =
 pub steps_sequence : {U A : Type 0} {E : A → A → Type 0} {C : BERMode → ℕ → A → List ℕ → Type 0} {S : BERMode → ℕ → List ℕ → Type 0} {asks : Bool} {P : Reading → Result U ASN1Error → Reading → Type 0} (f : U → A) (make : A → U) → ((w : A) → f (make w) ≡ w) → ArePartsCoding E C S → IsPartsDecoder asks C S make P → (t : Tag) → (t ≡ end_tag → ⊥) → (s : Reading) → IsFresh s → (r : Result U ASN1Error) (s' : Reading) → PartsBy P t s r s' → Decodes {A = U} asks (λ m n v b. Enclosed C t m n (f v) b) (AnyEnclosed S t) s r s'
 steps_sequence {C} {S} {asks} {P} f make back laws parts t not_end s fresh r s' h =
     decodes_map asks (Enclosed (λ m n v c. C m n (f v) c) t) (λ m n v b. Enclosed C t m n (f v) b) (AnyEnclosed S t) (enclosed_seen f C t) s r s'
-    (element asks (λ m n v c. C m n (f v) c) S P (λ z x m i k. alone_contents asks (λ m n v c. C m n (f v) c) S (λ m n v c. laws.among m n (f v) c) laws.alone z x m i (made f make back asks C S z x m (parts.decodes z x m i k))) t not_end s fresh r s' h)
+    (element asks (λ m n v c. C m n (f v) c) S P (λ z x m i k. alone_contents asks (λ m n v c. C m n (f v) c) S (λ m n v c. laws.meaning.among m n (f v) c) laws.alone z x m i (made f make back asks C S z x m (parts.decodes z x m i k))) t not_end s fresh r s' h)
 
 kept_none : (f : ASN1Error) → ◌≡◌ {A = Option ASN1Error} (Some f) None → ⊥
 kept_none f e = cc
@@ -186,7 +187,7 @@ module _ {A : Type 0} {E : A → A → Type 0} {B : BERMode → ℕ → A → Li
   all_read v front [] joined stands = subst (λ z. B m 101 v z) (sym (joined ∙ append-nil front)) stands
   all_read v front (x ∷ rest) joined stands = record {
     none = λ k i.
-        let e = laws.alone m 101 101 s front [] (x ∷ rest) i (laws.among m 101 v front stands) (append-nil s ∙ joined) in
+        let e = laws.alone m 101 101 s front [] (x ∷ rest) i (laws.meaning.among m 101 v front stands) (append-nil s ∙ joined) in
         omega (arith, ap length e, ap length joined, length-append front (x ∷ rest));
     memory = λ k. absurd (cc);
     quiet = λ i k. absurd (cc);

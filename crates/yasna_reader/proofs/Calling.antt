@@ -15,7 +15,6 @@ module _ {F A : Type 0} (g : Once F (MutBor (Parts Reading) × Unit {0}) (Result
   entered (Some e) t s r s' h = h
   entered None t s r s' (inr x) = inr x
   entered None t s r s' (inl x) = inl (record {
-    level = x.level;
     contents = x.contents;
     after = x.after;
     opens = x.opens;

@@ -1,5 +1,5 @@
 -- An element whose contents are read up to their end.
-use Rattle.std.proofs.Common.{◌≡◌, ℕ, zero, suc, ◌-◌, ◌≤◌, ◌⊎◌, inl, inr, List, [], ◌∷◌, ◌++◌, length, drop, Option, Some, None, refl, sym, ap, subst, ◌∙◌, append_assoc, append-nil, length-append, Bool, true, false, arith}
+use Rattle.std.proofs.Common.{◌≡◌, ℕ, zero, suc, ◌-◌, ◌≤◌, ◌⊎◌, inl, inr, List, [], ◌∷◌, ◌++◌, length, drop, Option, Some, None, refl, sym, ap, subst, ◌∙◌, append_assoc, append-nil, length-append, Bool, true, false, arith, ◌<◌, ◌^◌}
 use Rattle.std.proofs.Math.Seq.{drop-append_seam}
 use Rattle.std.specs.Prelude.{Result, Ok, Err}
 use Rattle.yasna_base.specs.declared.error.ASN1Error.{ASN1Error}
@@ -8,20 +8,21 @@ use Rattle.yasna_base.specs.declared.mode.BERMode.{BERMode}
 use Rattle.yasna_base.specs.declared.tag.Tag.{Tag}
 use Rattle.yasna_base.specs.declared.tag.PCBit.{PCBit}
 use Rattle.yasna_base.specs.declared.tag.PCBit.TheVariants.{Constructed}
-use Rattle.yasna_base.specs.Refusal.{kind_of, error_of}
+use Rattle.yasna_base.specs.Error.{kind_of, error_of}
 use Rattle.yasna_base.specs.Identifier.{identifier, end_tag, AtEnd, nothing}
-use Rattle.yasna_base.specs.Element.{Element, definite, indefinite, end_of_contents}
-use Rattle.yasna_base.specs.Sequence.{Around, Enclosed, AnyEnclosed}
+use Rattle.yasna_base.specs.Element.{Element, definite, indefinite, end_of_contents, Around, Enclosed, AnyEnclosed}
 use Rattle.yasna_base.proofs.Lists.{append_same, fronts_same}
 use Rattle.yasna_base.proofs.Identifier.{zeros_at_end}
-use Rattle.yasna_base.proofs.Header.{counted_header, uncounted_header}
+use Rattle.yasna_base.proofs.Element.{counted_header, uncounted_header}
 use Rattle.yasna_reader.specs.declared.head.Refusal.{Refusal}
-use Rattle.yasna_reader.specs.Head.{OpensAt, EndsAt, EndsBefore, RefusesHead, OnlyConstructed}
+use Rattle.yasna_reader.specs.Head.{OpensAt, EndsAt, EndsBefore, RefusesHead, OnlyConstructed, Opens}
 use Rattle.yasna_reader.specs.Calls.{unless_kept, place_in, Fails, Left, NotEntered}
 use Rattle.yasna_reader.specs.Composed.{EnteredBy, PartsUnlessKept, PartsBy}
 use Rattle.yasna_reader.specs.Decodes.{Tells, KeptTells, NotTook, IsQuietAtEnd, Decodes, NotContents, TookContents, DecodesContents}
 use Rattle.yasna_reader.specs.View.{Reading, IsFresh, inside, untagged, refusing, tag_of, or_tag}
 use Rattle.yasna_reader.proofs.Front.{plain_not_memory, opens_begins}
+use Rattle.yasna_base.specs.Digits.{IsBytes}
+use Rattle.yasna_base.proofs.Digits.{bytes_parts}
 use Rattle.yasna_reader.proofs.Reading.{element_at, at_end_elsewhere, not_at_end, plain_of}
 
 -- y is what stands behind contents, and r what follows their element
@@ -33,11 +34,11 @@ record Behind (c d : List ℕ) (after : Option (List ℕ)) (r : List ℕ) : Type
 -- an element that stands where a header was read has its contents there
 opened : (m : BERMode) (t : Tag) (p : PCBit) (s c : List ℕ) (after : Option (List ℕ)) → OpensAt m t p s c after → (d b r : List ℕ) → Element m t p d b → s ≡ b ++ r → Behind c d after r
 opened m t p s c (Some a) x d b r y e =
-    let h = counted_header m m t t p p (length c) x.l d b (c ++ a) r x.spelled y (sym x.joined ∙ e) in
+    let h = counted_header m m t t p p (length c) x.l d b (c ++ a) r x.spelled y.framed (sym x.joined ∙ e) in
     let f = fronts_same c d a r h.count h.behind in
     record { y = []; joined = f.0 ∙ sym (append-nil d); ends = (refl, sym f.1) }
 opened m t p s c None x d b r y e =
-    let h = uncounted_header m t t p p d b c r y (sym x.joined ∙ e) in
+    let h = uncounted_header m t t p p d b c r y.framed (sym x.joined ∙ e) in
     record { y = 0 ∷ 0 ∷ r; joined = h.behind; ends = refl }
 
 -- where contents end behind a header, an element stands
@@ -46,18 +47,27 @@ record Stands (m : BERMode) (t : Tag) (p : PCBit) (s d r : List ℕ) : Type 0 wh
   joined : s ≡ bytes ++ r
   element : Element m t p d bytes
 
-closed : (m : BERMode) (t : Tag) (p : PCBit) (s c : List ℕ) (after : Option (List ℕ)) → OpensAt m t p s c after → (d y r : List ℕ) → c ≡ d ++ y → EndsBefore after y r → Stands m t p s d r
-closed m t p s c (Some a) x d y r e h =
+closed : (m : BERMode) (t : Tag) (p : PCBit) (s c : List ℕ) (after : Option (List ℕ)) → t.tag_number < 2 ^ 64 → IsBytes c → OpensAt m t p s c after →
+    (d y r : List ℕ) → c ≡ d ++ y → EndsBefore after y r → Stands m t p s d r
+closed m t p s c (Some a) range bytes x d y r e h =
     let f : c ≡ d = e ∙ ap (λ z. d ++ z) h.0 ∙ append-nil d in
     record {
       bytes = identifier t p ++ (x.l ++ d);
       joined = x.joined ∙ ap (λ z. identifier t p ++ (x.l ++ (z ++ a))) f ∙ ap (λ z. identifier t p ++ (x.l ++ (d ++ z))) (sym h.1) ∙ simp append_assoc;
-      element = definite (record { taken = x.taken; l = x.l; spelled = rw (← f) x.spelled; joined = refl });
+      element = record {
+        in_range = range;
+        in_bytes = subst IsBytes f bytes;
+        framed = definite (record { taken = x.taken; l = x.l; spelled = rw (← f) x.spelled; joined = refl });
+      };
     }
-closed m t p s c None x d y r e h = record {
+closed m t p s c None range bytes x d y r e h = record {
   bytes = identifier t p ++ (128 ∷ (d ++ end_of_contents));
   joined = x.joined ∙ ap (λ z. identifier t p ++ (128 ∷ z)) (e ∙ ap (λ z. d ++ z) h) ∙ simp append_assoc;
-  element = indefinite (record { taken = x.taken; joined = refl });
+  element = record {
+    in_range = range;
+    in_bytes = (bytes_parts d y (subst IsBytes e bytes)).0;
+    framed = indefinite (record { taken = x.taken; joined = refl });
+  };
 }
 
 ends_at : (after : Option (List ℕ)) (y r : List ℕ) → EndsBefore after y r → EndsAt after y
@@ -113,20 +123,21 @@ module _ {A : Type 0} (asks : Bool) (C : BERMode → ℕ → A → List ℕ → 
   left_behind : (c : List ℕ) (left : Reading) (v : A) → (x : TookContents (C s.mode (s.levels - 1)) (S s.mode (s.levels - 1)) (inside s c) v left) → place_in c left.left ≡ x.took.rest
   left_behind c left v x = ap (λ (z : Reading). place_in c z.left) x.took.left ∙ ap (λ z. place_in z x.took.rest) x.took.joined ∙ place_behind x.took.front x.took.rest
 
-  settled : (c : List ℕ) (after : Option (List ℕ)) → OpensAt s.mode t Constructed s.left c after → 1 ≤ s.levels → (k : Option ASN1Error) (own : Result A ASN1Error) (left : Reading) → DecodesContents asks C S (inside s c) (unless_kept k own) left → (r : Result A ASN1Error) (s' : Reading) → Left after c k left.left own (untagged s) r s' → Decodes asks (Enclosed C t) (AnyEnclosed S t) s r s'
-  settled c after o l (Some e) own left x r s' h = contents_failure c after o e x r s' h
-  settled c after o l None (Err e) left x r s' h = contents_failure c after o e x r s' h
-  settled c after o l None (Ok v) left x r s' (inl h) =
+  settled : (c : List ℕ) (after : Option (List ℕ)) → Opens s.mode s.levels t Constructed s.left c after →
+      (k : Option ASN1Error) (own : Result A ASN1Error) (left : Reading) → DecodesContents asks C S (inside s c) (unless_kept k own) left → (r : Result A ASN1Error) (s' : Reading) → Left after c k left.left own (untagged s) r s' → Decodes asks (Enclosed C t) (AnyEnclosed S t) s r s'
+  settled c after o (Some e) own left x r s' h = contents_failure c after o.header e x r s' h
+  settled c after o None (Err e) left x r s' h = contents_failure c after o.header e x r s' h
+  settled c after o None (Ok v) left x r s' (inl h) =
       let at = left_behind c left v x in
-      let w = closed s.mode t Constructed s.left c after o x.took.front x.took.rest h.rest x.took.joined (subst (λ z. EndsBefore after z h.rest) at h.ends) in
+      let w = closed s.mode t Constructed s.left c after o.in_range o.in_bytes o.header x.took.front x.took.rest h.rest x.took.joined (subst (λ z. EndsBefore after z h.rest) at h.ends) in
       replaced (Decodes asks (Enclosed C t) (AnyEnclosed S t) s) h.answer h.state (record {
         front = w.bytes;
         rest = h.rest;
         joined = w.joined;
-        stands = around C t s.mode s.levels v w.bytes l (record { contents = x.took.front; element = w.element; meaning = x.took.stands });
+        stands = around C t s.mode s.levels v w.bytes o.level (record { contents = x.took.front; element = w.element; meaning = x.took.stands });
         left = ap (λ u. record s { left = h.rest; tag = u }) (sym fresh.1);
       })
-  settled c after o l None (Ok v) left x r s' (inr h) = kept_failure c after o h.error (λ q d y u i j k.
+  settled c after o None (Ok v) left x r s' (inr h) = kept_failure c after o.header h.error (λ q d y u i j k.
       let f = x.ends d y i (end_behind after y u j) k in
       let g : x.took.rest ≡ y = append_same x.took.front x.took.rest y (sym x.took.joined ∙ i ∙ ap (λ z. z ++ y) f) in
       elim h.open_end [
@@ -158,6 +169,6 @@ pub element : {A : Type 0} (asks : Bool) (C : BERMode → ℕ → A → List ℕ
 element asks C S P says t not_end s fresh r s' h =
     let k : EnteredBy P t s r s' ⊎ NotEntered t s r s' = subst (λ u. PartsUnlessKept None P (or_tag u t) s r s') fresh.1 (subst (λ z. PartsUnlessKept z P (tag_of s t) s r s') fresh.0 h.enters) in
     elim k [
-      | inl x ↦ settled asks C S t not_end s fresh x.contents x.after x.opens x.level x.left.kept x.own x.left (says (inside s x.contents) x.own x.left (refl, refl) x.says) r s' x.closed
+      | inl x ↦ settled asks C S t not_end s fresh x.contents x.after x.opens x.left.kept x.own x.left (says (inside s x.contents) x.own x.left (refl, refl) x.says) r s' x.closed
       | inr x ↦ refused asks C S t not_end s fresh r s' x
     ]

@@ -122,19 +122,6 @@ other_bit m n t q s d o e x f l k v = elim (opens_begins m t q s d o x) [
 pub any_refuses : (P : PCBit → Type 0) (m : BERMode) (n : ℕ) (t : Tag) (s : List ℕ) (e : Refusal) → RefusesHead AnyBit m n t s e → RefusesHead P m n t s e
 any_refuses P m n t s e x = record { none = λ p c r _. x.none p c r tt; unmoved = x.unmoved; moved = x.moved; too_deep = x.too_deep; deep = x.deep; in_memory = x.in_memory }
 
--- identifier, length, and as many bytes are a header and its contents
-pub opened_counts : (m : BERMode) (t : Tag) (p : PCBit) (s y z c r : List ℕ) (k : ℕ) → s ≡ identifier t p ++ y → Measures m y (Some k) z → z ≡ c ++ r → length c ≡ k → TakesDefinite m p → OpensAt m t p s c (Some r)
-opened_counts m t p s y z c r k e w f h i = record {
-  taken = i;
-  l = w.0;
-  spelled = subst (λ j. SpellsLength m j w.0) (sym h) w.1;
-  joined = e ∙ ap (λ b. identifier t p ++ b) (w.2 ∙ ap (λ b. w.0 ++ b) f);
-}
-
--- identifier and 128 are a header, and all that is left its contents
-pub opened_leaves : (m : BERMode) (t : Tag) (p : PCBit) (s y z : List ℕ) → s ≡ identifier t p ++ y → Measures m y None z → TakesIndefinite m p → OpensAt m t p s z None
-opened_leaves m t p s y z e w i = record { taken = i; joined = e ∙ ap (λ b. identifier t p ++ b) w }
-
 -- the contents of a primitive element are counted
 pub primitive_counts : (m : BERMode) (t : Tag) (q : PCBit) (s c : List ℕ) → q ≡ Primitive → OpensAt m t q s c None → ⊥
 primitive_counts Ber t Primitive s c e x = x.taken

@@ -5,7 +5,7 @@ use Rattle.yasna_base.specs.declared.mode.BERMode.{BERMode}
 use Rattle.yasna_base.specs.declared.tag.Tag.{Tag}
 use Rattle.yasna_base.specs.Identifier.{universal}
 use Rattle.yasna_base.specs.Coding.{Any}
-use Rattle.yasna_base.proofs.Types.{not_end}
+use Rattle.yasna_base.proofs.Identifier.{not_end}
 use Rattle.yasna_reader.specs.View.{Reading}
 use Rattle.yasna_reader.specs.Typed.{Reads, NoLevel, Never}
 use Rattle.yasna_reader.specs.Decodes.{Decodes}

@@ -6,12 +6,12 @@ use Rattle.yasna_base.specs.declared.mode.BERMode.TheVariants.{Ber, Der}
 use Rattle.yasna_base.specs.Digits.{IsBytes}
 use Rattle.yasna_base.specs.Length.{SpellsLength}
 use Rattle.yasna_base.proofs.Lists.{fronts_same, append_same}
-use Rattle.yasna_base.proofs.LengthFront.{small, large, length_front, not_empty, short_spells, long_spells}
+use Rattle.yasna_base.proofs.Length.{small, large, length_front, not_empty, short_spells, long_spells, length_exact, length_not_indefinite}
 use Rattle.yasna_base.specs.declared.tag.Tag.{Tag}
 use Rattle.yasna_base.specs.declared.tag.PCBit.{PCBit}
 use Rattle.yasna_base.specs.Identifier.{identifier}
 use Rattle.yasna_base.specs.Element.{TakesIndefinite}
-use Rattle.yasna_base.proofs.Length.{length_exact, length_not_indefinite}
+use Rattle.yasna_base.proofs.Digits.{bytes_parts}
 use Rattle.yasna_reader.specs.Head.{Measures, TakesSpelling, Holds, OpensAt}
 
 -- no length stands where nothing is left
@@ -62,16 +62,12 @@ not_measured_so m x s y d a z e h g f w u = counted_front m x s y e h (λ k ds r
     let j : k ≡ z = sym o ∙ ap (number_from_digits 256) c ∙ sym w in
     u (subst (λ q. TakesSpelling m d q) j (subst (λ q. TakesSpelling m q k) c t)))
 
-bytes_front : (a b : List ℕ) → IsBytes (a ++ b) → IsBytes a
-bytes_front [] b h = tt
-bytes_front (x ∷ a) b h = (h.0, bytes_front a b h.1)
-
 -- a count and digits
 pub counted_measured : (m : BERMode) (x : ℕ) (s y d a : List ℕ) (z : ℕ) → IsBytes s → s ≡ x ∷ y → 128 < x → x < 255 → length d ≡ x - 128 → y ≡ d ++ a → z ≡ number_from_digits 256 d → z < 2 ^ 64 → TakesSpelling m d z → (l : List ℕ) × SpellsLength m z l × (s ≡ l ++ a)
 counted_measured m x s y d a z b e h g f i w k t =
     let c : x ≡ 128 + length d = omega arith in
     let j : s ≡ ((128 + length d) ∷ d) ++ a = e ∙ ap (λ q. q ∷ y) c ∙ ap (λ q. (128 + length d) ∷ q) i in
-    let n : IsBytes d = bytes_front d a (subst IsBytes (e ∙ ap (λ q. x ∷ q) i) b).1 in
+    let n : IsBytes d = (bytes_parts d a (subst IsBytes (e ∙ ap (λ q. x ∷ q) i) b).1).0 in
     let P : ℕ → Type 0 = λ q. SpellsLength m q ((128 + length d) ∷ d) in
     ((128 + length d) ∷ d, subst P (sym w) (long_spells m d n (omega arith) (omega arith) (omega arith) (λ o. let r = spelling_takes m d z t o in (omega (arith, r.0), r.1))), j)
 
@@ -97,3 +93,13 @@ holds_closed m p y z e f c None h = f h.0
 pub opens_holds : (m : BERMode) (t : Tag) (p : PCBit) (s y c : List ℕ) (r : Option (List ℕ)) → s ≡ identifier t p ++ y → OpensAt m t p s c r → Holds m p y c r
 opens_holds m t p s y c (Some r) e h = (h.l, h.taken, h.spelled, append_same (identifier t p) y (h.l ++ (c ++ r)) (sym e ∙ h.joined))
 opens_holds m t p s y c None e h = (h.taken, append_same (identifier t p) y (128 ∷ c) (sym e ∙ h.joined))
+
+-- what holds behind an identifier is what a header opens
+pub holds_opens : (m : BERMode) (t : Tag) (p : PCBit) (s y c : List ℕ) (r : Option (List ℕ)) → s ≡ identifier t p ++ y → Holds m p y c r → OpensAt m t p s c r
+holds_opens m t p s y c (Some r) e h = record { taken = h.1; l = h.0; spelled = h.2; joined = e ∙ ap (λ b. identifier t p ++ b) h.3 }
+holds_opens m t p s y c None e h = record { taken = h.0; joined = e ∙ ap (λ b. identifier t p ++ b) h.1 }
+
+-- contents that stand in bytes are bytes
+pub holds_bytes : (m : BERMode) (p : PCBit) (y c : List ℕ) (r : Option (List ℕ)) → IsBytes y → Holds m p y c r → IsBytes c
+holds_bytes m p y c (Some r) b h = (bytes_parts c r (bytes_parts h.0 (c ++ r) (subst IsBytes h.3 b)).1).0
+holds_bytes m p y c None b h = (let P : List ℕ → Type 0 = IsBytes in subst P h.1 b).1

@@ -7,8 +7,7 @@ use Rattle.yasna_base.specs.declared.tag.Tag.{Tag}
 use Rattle.yasna_base.specs.declared.tag.PCBit.TheVariants.{Primitive}
 use Rattle.yasna_base.specs.Identifier.{identifier, begins}
 use Rattle.yasna_base.specs.Length.{IsLongLength, one_byte, counted}
-use Rattle.yasna_base.specs.Element.{Element, definite, indefinite, TakesIndefinite}
-use Rattle.yasna_base.specs.Simple.{IsPrimitive}
+use Rattle.yasna_base.specs.Element.{Element, definite, indefinite, TakesIndefinite, IsPrimitive, Framed}
 use Rattle.yasna_base.proofs.Length.{spells_long}
 use Rattle.yasna_reader.specs.declared.head.Refusal.{Refusal}
 use Rattle.yasna_reader.specs.Head.{IsTooDeep, Refuses}
@@ -29,7 +28,7 @@ not_indefinite : (m : BERMode) → TakesIndefinite m Primitive → ⊥
 not_indefinite Ber h = h
 not_indefinite Der h = h
 
-wants : (n : ℕ) (m : BERMode) (t : Tag) (s c b r : List ℕ) → 1 ≤ n → 0 < length c → Element m t Primitive c b → s ≡ b ++ r → WantsMemory n t s
+wants : (n : ℕ) (m : BERMode) (t : Tag) (s c b r : List ℕ) → 1 ≤ n → 0 < length c → Framed m t Primitive c b → s ≡ b ++ r → WantsMemory n t s
 wants n m t s c b r l h (definite x) e =
     let f = long_first (length c) x.l h (spells_long m (length c) x.l x.spelled) in
     let g : s ≡ identifier t Primitive ++ (x.l ++ (c ++ r)) = e ∙ ap (λ z. z ++ r) x.joined ∙ simp append_assoc in
@@ -39,7 +38,7 @@ wants n m t s c b r l h (indefinite x) e = absurd (not_indefinite m x.taken)
 -- contents were read that couldn't be copied
 pub lacks_memory : {A : Type 0} (B : A → List ℕ → Type 0) (m : BERMode) (n : ℕ) (t : Tag) (s c r : List ℕ) (e : Refusal) → Takes (IsPrimitive AreContents n m t) s c r → 0 < length c → e.kind ≡ OutOfMemory → e.moved ≡ true → Refuses B (IsTooDeep n t s) (WantsMemory n t s) t s e
 lacks_memory B m n t s c r e x h k o =
-    let w : WantsMemory n t s = wants n m t s x.member.contents x.front r x.member.level (subst (λ z. 0 < length z) x.member.meaning h) x.member.element x.joined in
+    let w : WantsMemory n t s = wants n m t s x.member.contents x.front r x.member.level (subst (λ z. 0 < length z) x.member.meaning h) x.member.element.framed x.joined in
     record {
       none = λ f. absurd (f k);
       unmoved = λ f. absurd (let g = sym o ∙ f in cc);

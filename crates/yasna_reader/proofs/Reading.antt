@@ -1,6 +1,6 @@
 -- Typed reads: what a header that was read or refused says of the values that stand there, and what a front that was
 -- looked for does to a reading.
-use Rattle.std.proofs.Common.{◌≡◌, ℕ, ◌≤◌, List, [], ◌∷◌, ◌++◌, length, get_or, append_assoc, Option, Some, None, Result, Ok, Err, Bool, true, false, refl, sym, ap, subst, ◌∙◌, arith}
+use Rattle.std.proofs.Common.{◌≡◌, ℕ, ◌≤◌, List, [], ◌∷◌, ◌++◌, length, get_or, append_assoc, Option, Some, None, Result, Ok, Err, Bool, true, false, refl, sym, ap, subst, ◌∙◌, arith, ◌<◌, ◌^◌}
 use Rattle.std.specs.Borrow.{Bor}
 use Rattle.yasna_base.specs.declared.error.ASN1Error.{ASN1Error}
 use Rattle.yasna_base.specs.declared.error.ASN1ErrorKind.{ASN1ErrorKind}
@@ -10,17 +10,18 @@ use Rattle.yasna_base.specs.declared.mode.BERMode.TheVariants.{Ber, Der}
 use Rattle.yasna_base.specs.declared.tag.Tag.{Tag}
 use Rattle.yasna_base.specs.declared.tag.PCBit.{PCBit}
 use Rattle.yasna_base.specs.declared.tag.PCBit.TheVariants.{Primitive, Constructed}
-use Rattle.yasna_base.specs.Refusal.{kind_of}
+use Rattle.yasna_base.specs.Error.{kind_of}
 use Rattle.yasna_base.specs.Identifier.{identifier, end_tag, BeginsWithTag, begins, AtEnd, nothing as at_nothing, end as at_zeros}
-use Rattle.yasna_base.specs.Element.{Element, definite, indefinite}
-use Rattle.yasna_base.specs.Simple.{IsPrimitive, SaysTrue}
+use Rattle.yasna_base.specs.Element.{Element, definite, indefinite, IsPrimitive, Framed}
+use Rattle.yasna_base.specs.Boolean.{SaysTrue}
 use Rattle.yasna_base.proofs.Element.{definite_then, indefinite_then, primitive_exact}
 use Rattle.yasna_reader.specs.declared.head.Refusal.{Refusal}
-use Rattle.yasna_reader.specs.Head.{IsPlain, Counts, OpensAt, IsElsewhere, nothing, another, IsTooDeep, Refuses, RefusesHead, AnyBit}
+use Rattle.yasna_reader.specs.Head.{IsPlain, Counts, OpensAt, IsElsewhere, nothing, another, IsTooDeep, Refuses, RefusesHead, AnyBit, Opens}
 use Rattle.yasna_reader.specs.Reads.{Takes, AtFront, AreContents}
 use Rattle.yasna_reader.specs.Typed.{RefusedAs, ReadsFront, ReadsUnlessKept, Settles, FrontOf, Reads, NoLevel, Never, WantsMemory}
 use Rattle.yasna_reader.specs.View.{Reading, IsFresh, untagged, refusing, or_tag, tag_of}
 use Rattle.yasna_reader.specs.Decodes.{Tells, KeptTells, Took, NotTook, IsQuietAtEnd, Decodes}
+use Rattle.yasna_base.specs.Digits.{IsBytes}
 use Rattle.yasna_reader.proofs.Front.{plain_not_deep, plain_not_memory, begins_not_elsewhere, opens_begins, opens_bit}
 
 -- within n levels, b is an element with the tag t
@@ -36,10 +37,18 @@ pub record OpensSo (m : BERMode) (t : Tag) (p : PCBit) (s : List ℕ) : Type 0 w
   pub after : Option (List ℕ)
   pub opens : OpensAt m t p s contents after
 
+framed_at : (m : BERMode) (t : Tag) (p : PCBit) (c b s r : List ℕ) → Framed m t p c b → s ≡ b ++ r → OpensSo m t p s
+framed_at m t p c b s r (definite x) e = record {
+  contents = c;
+  after = Some r;
+  opens = record { taken = x.taken; l = x.l; spelled = x.spelled; joined = e ∙ definite_then x r };
+}
+framed_at m t p c b s r (indefinite x) e =
+    record { contents = c ++ (0 ∷ 0 ∷ r); after = None; opens = record { taken = x.taken; joined = e ∙ indefinite_then x r } }
+
 -- an element begins with its header
 pub element_at : (m : BERMode) (t : Tag) (p : PCBit) (c b s r : List ℕ) → Element m t p c b → s ≡ b ++ r → OpensSo m t p s
-element_at m t p c b s r (definite x) e = record { contents = c; after = Some r; opens = record { taken = x.taken; l = x.l; spelled = x.spelled; joined = e ∙ definite_then x r } }
-element_at m t p c b s r (indefinite x) e = record { contents = c ++ (0 ∷ 0 ∷ r); after = None; opens = record { taken = x.taken; joined = e ∙ indefinite_then x r } }
+element_at m t p c b s r x e = framed_at m t p c b s r x.framed e
 
 -- where no header stands, no value does that is an element
 pub head_refuses : {A : Type 0} (B : A → List ℕ → Type 0) (m : BERMode) (n : ℕ) (t : Tag) (s : List ℕ) (e : Refusal) → ((v : A) (b : List ℕ) → B v b → HasElement n m t b) → RefusesHead AnyBit m n t s e → Refuses B (IsTooDeep n t s) ⊥ t s e
@@ -68,17 +77,27 @@ pub primitive_element : {A : Type 0} (W : A → List ℕ → Type 0) (n : ℕ) (
 primitive_element W n m t v b x = record { level = x.level; bit = Primitive; contents = x.contents; element = x.element }
 
 -- a header that counts its contents is an element up to their end
-pub counts_element : (m : BERMode) (t : Tag) (p : PCBit) (s c r : List ℕ) → (x : Counts m t p s c r) → Element m t p c (identifier t p ++ (x.l ++ c))
-counts_element m t p s c r x = definite (record { taken = x.taken; l = x.l; spelled = x.spelled; joined = refl })
+pub counts_element : (m : BERMode) (t : Tag) (p : PCBit) (s c r : List ℕ) → t.tag_number < 2 ^ 64 → IsBytes c → (x : Counts m t p s c r) →
+    Element m t p c (identifier t p ++ (x.l ++ c))
+counts_element m t p s c r range bytes x = record {
+  in_range = range;
+  in_bytes = bytes;
+  framed = definite (record { taken = x.taken; l = x.l; spelled = x.spelled; joined = refl });
+}
 
 -- and what follows the element is left
 pub counts_joined : (m : BERMode) (t : Tag) (p : PCBit) (s c r : List ℕ) → (x : Counts m t p s c r) → s ≡ (identifier t p ++ (x.l ++ c)) ++ r
 counts_joined m t p s c r x = x.joined ∙ simp append_assoc
 
 -- the contents of a primitive element were read
-pub takes_primitive : (m : BERMode) (n : ℕ) (t : Tag) (q : PCBit) (s c r : List ℕ) → 1 ≤ n → q ≡ Primitive → OpensAt m t q s c (Some r) → Takes (IsPrimitive AreContents n m t) s c r
-takes_primitive m n t Primitive s c r l e x = record { front = _; joined = counts_joined m t Primitive s c r x; member = record { level = l; contents = c; element = counts_element m t Primitive s c r x; meaning = refl } }
-takes_primitive m n t Constructed s c r l e x = absurd (cc)
+pub takes_primitive : (m : BERMode) (n : ℕ) (t : Tag) (q : PCBit) (s c r : List ℕ) → q ≡ Primitive → Opens m n t q s c (Some r) →
+    Takes (IsPrimitive AreContents n m t) s c r
+takes_primitive m n t Primitive s c r e x = record {
+  front = _;
+  joined = counts_joined m t Primitive s c r x.header;
+  member = record { level = x.level; contents = c; element = counts_element m t Primitive s c r x.in_range x.in_bytes x.header; meaning = refl };
+}
+takes_primitive m n t Constructed s c r e x = absurd (cc)
 
 -- two headers at one place have one bit
 pub bits_differ : (m : BERMode) (t : Tag) (p q : PCBit) (s c : List ℕ) (r : Option (List ℕ)) (d : List ℕ) (o : Option (List ℕ)) → OpensAt m t p s c r → OpensAt m t q s d o → p ≡ q

@@ -4,8 +4,7 @@ use Rattle.std.proofs.lemmas.Bool.{cases_lt}
 use Rattle.std.specs.Int.Digits.{number_from_digits, number_from_digits_after, AllBelowBase}
 use Rattle.std.proofs.lemmas.Int.Digits.{number_after_ge}
 use Rattle.yasna_base.specs.Digits.{marked, IsBytes, digits, base128}
-use Rattle.yasna_base.proofs.Digits.{digits_below, digits_some, digits_first, number_digits}
-use Rattle.yasna_base.proofs.DigitsOnly.{base128_only}
+use Rattle.yasna_base.proofs.Digits.{digits_below, digits_some, digits_first, number_digits, base128_only}
 
 -- the number so far was n
 abbrev pub scan : ℕ → List ℕ → Option (ℕ × List ℕ)
@@ -126,11 +125,6 @@ zero_first s y e k r l b j = base_head k r y (omega arith) (sym j ∙ e)
 -- the last digit was read
 pub last_found : (n x : ℕ) (s rest : List ℕ) (y : List ℕ) → IsBytes s → rest ≡ x ∷ y → x < 128 → scan 0 s ≡ scan n rest → 31 ≤ n * 128 + x → ((z : List ℕ) → s ≡ 128 ∷ z → ⊥) → s ≡ base128 (n * 128 + x) ++ y
 last_found n x s rest y a e b f h z = base_found s (n * 128 + x) y a h z (f ∙ ap (scan n) e ∙ scan_last n x y b)
-
--- bytes, by each index
-pub bytes_from : (s : List ℕ) → ((i : ℕ) → get_or s i 0 < 256) → IsBytes s
-bytes_from [] f = tt
-bytes_from (x ∷ s) f = (f 0, bytes_from s (λ i. f (suc i)))
 
 -- where the scan of s stands: the number so far and the rest
 pub record Scans (s : List ℕ) (n : ℕ) (rest : List ℕ) : Type 0 where

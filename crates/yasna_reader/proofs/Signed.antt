@@ -8,14 +8,13 @@ use Rattle.std.proofs.lemmas.Int.{ints}
 use Rattle.std.proofs.lemmas.Int.Digits.{number_lt}
 use Rattle.yasna_base.specs.declared.mode.BERMode.{BERMode}
 use Rattle.yasna_base.specs.Digits.{IsBytes}
-use Rattle.yasna_base.specs.Integer.{twos, IsMinimal}
-use Rattle.yasna_base.specs.Simple.{IsSigned, IsUnsigned}
-use Rattle.yasna_reader.proofs.Scan.{bytes_from}
+use Rattle.yasna_base.specs.Integer.{twos, IsMinimal, IsSigned, IsUnsigned}
+use Rattle.yasna_base.proofs.Digits.{all_bytes}
 use Rattle.yasna_base.proofs.Integer.{twos_positive, negative_is, number_below, number_above, positive_above, negative_below}
 
 -- What a slice of bytes points to are bytes.
 pub slice_bytes : (s : List ℕ) → ((i : ℕ) → Fits w8 (get_or s i 0)) → IsBytes s
-slice_bytes s f = bytes_from s (λ i. let g = f i in omega arith)
+slice_bytes s f = all_bytes s (λ i. let g = f i in omega arith)
 
 -- Without the first bit, the number is read unsigned.
 pub positive_is : (c : List ℕ) → get_or c 0 0 < 128 → twos c ≡ pos (number_from_digits 256 c)

@@ -8,10 +8,10 @@ use Rattle.yasna_base.specs.declared.error.ASN1ErrorKind.TheVariants.{Extra}
 use Rattle.yasna_base.specs.declared.mode.BERMode.{BERMode}
 use Rattle.yasna_base.specs.declared.tag.Tag.{Tag}
 use Rattle.yasna_base.specs.declared.tag.PCBit.TheVariants.{Constructed}
-use Rattle.yasna_base.specs.Refusal.{kind_of, error_of}
+use Rattle.yasna_base.specs.Error.{kind_of, error_of}
 use Rattle.yasna_reader.specs.declared.head.Refusal.{Refusal}
 use Rattle.yasna_reader.specs.declared.state.Parts.{Parts}
-use Rattle.yasna_reader.specs.Head.{IsPlain, OpensAt, OnlyConstructed, RefusesHead, EndsAt, EndsBefore}
+use Rattle.yasna_reader.specs.Head.{IsPlain, Opens, OnlyConstructed, RefusesHead, EndsAt, EndsBefore}
 use Rattle.yasna_reader.specs.View.{Reading, IsFresh, starts, inside, untagged, failing, refusing, tag_of}
 
 -- f may be called on any reading with no failure kept and no implicit tag
@@ -85,10 +85,9 @@ Left after c None y (Ok v) s r s' = Closes after c y v s r s' ⊎ StaysOpen afte
 
 -- the header of a constructed element stands there, and the callback ran on its contents
 pub record Entered {F A : Type 0} (g : Once F (MutBor (Parts Reading) × Unit {0}) (Result A ASN1Error × (MutBor (Parts Reading) × Unit {0}))) (f : F) (t : Tag) (s : Reading) (r : Result A ASN1Error) (s' : Reading) : Type 0 where
-  pub level : 1 ≤ s.levels
   pub contents : List ℕ
   pub after : Option (List ℕ)
-  pub opens : OpensAt s.mode t Constructed s.left contents after
+  pub opens : Opens s.mode s.levels t Constructed s.left contents after
   pub own : Result A ASN1Error
   pub left : Reading
   pub ran : FnOnceReturnsAtMut g f (record { reader = inside s contents }) own (record { reader = left })

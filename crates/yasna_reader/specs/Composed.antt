@@ -3,16 +3,15 @@ use Rattle.std.specs.Prelude.{◌≡◌, ℕ, ◌≤◌, List, Option, Some, Non
 use Rattle.yasna_base.specs.declared.error.ASN1Error.{ASN1Error}
 use Rattle.yasna_base.specs.declared.tag.Tag.{Tag}
 use Rattle.yasna_base.specs.declared.tag.PCBit.TheVariants.{Constructed}
-use Rattle.yasna_reader.specs.Head.{OpensAt}
+use Rattle.yasna_reader.specs.Head.{Opens}
 use Rattle.yasna_reader.specs.Calls.{Left, NotEntered}
 use Rattle.yasna_reader.specs.View.{Reading, inside, untagged, tag_of}
 
 -- the header of a constructed element stands there, and its contents were read as P says
 pub record EnteredBy {A : Type 0} (P : Reading → Result A ASN1Error → Reading → Type 0) (t : Tag) (s : Reading) (r : Result A ASN1Error) (s' : Reading) : Type 0 where
-  pub level : 1 ≤ s.levels
   pub contents : List ℕ
   pub after : Option (List ℕ)
-  pub opens : OpensAt s.mode t Constructed s.left contents after
+  pub opens : Opens s.mode s.levels t Constructed s.left contents after
   pub own : Result A ASN1Error
   pub left : Reading
   pub says : P (inside s contents) own left

@@ -8,7 +8,7 @@ use Rattle.yasna_base.specs.declared.mode.BERMode.TheVariants.{Ber, Der}
 use Rattle.yasna_base.specs.declared.tag.Tag.{Tag}
 use Rattle.yasna_base.specs.declared.tag.PCBit.{PCBit}
 use Rattle.yasna_base.specs.declared.tag.PCBit.TheVariants.{Constructed}
-use Rattle.yasna_base.specs.Digits.{base128}
+use Rattle.yasna_base.specs.Digits.{IsBytes, base128}
 use Rattle.yasna_base.specs.Identifier.{identifier, BeginsWithTag}
 use Rattle.yasna_base.specs.Length.{SpellsLength}
 use Rattle.yasna_base.specs.Element.{TakesDefinite, TakesIndefinite}
@@ -113,14 +113,21 @@ AnyBit p = Unit {0}
 abbrev pub OnlyConstructed : PCBit → Type 0
 OnlyConstructed p = p ≡ Constructed
 
+-- the header of an element that was found: its ranges, and that a level is left for the element
+pub record Opens (m : BERMode) (n : ℕ) (t : Tag) (p : PCBit) (s c : List ℕ) (after : Option (List ℕ)) : Type 0 where
+  pub level : 1 ≤ n
+  pub in_range : t.tag_number < 2 ^ 64
+  pub in_bytes : IsBytes c
+  pub header : OpensAt m t p s c after
+
 -- a header of the tag stands at the front, and a level is left for the element
 abbrev pub Headed : BERMode → ℕ → Tag → List ℕ → Result Opened Refusal → Type 0
-Headed m n t s (Ok o) = (1 ≤ n) × OpensAt m t o.bit s o.within.now (behind o.after)
+Headed m n t s (Ok o) = Opens m n t o.bit s o.within.now (behind o.after)
 Headed m n t s (Err e) = RefusesHead AnyBit m n t s e
 
 -- the same of a constructed element
 abbrev pub ConstructedAt : BERMode → ℕ → Tag → List ℕ → Result Opened Refusal → Type 0
-ConstructedAt m n t s (Ok o) = (1 ≤ n) × OpensAt m t Constructed s o.within.now (behind o.after)
+ConstructedAt m n t s (Ok o) = Opens m n t Constructed s o.within.now (behind o.after)
 ConstructedAt m n t s (Err e) = RefusesHead OnlyConstructed m n t s e
 
 -- y is where contents may end: of definite length, or before two zeros

@@ -5,7 +5,7 @@ use Rattle.yasna_base.specs.declared.error.ASN1ErrorKind.{ASN1ErrorKind}
 use Rattle.yasna_base.specs.declared.error.ASN1ErrorKind.TheVariants.{OutOfMemory}
 use Rattle.yasna_base.specs.declared.mode.BERMode.{BERMode}
 use Rattle.yasna_base.specs.declared.tag.Tag.{Tag}
-use Rattle.yasna_base.specs.Simple.{IsPrimitive}
+use Rattle.yasna_base.specs.Element.{IsPrimitive}
 use Rattle.yasna_reader.specs.declared.head.Refusal.{Refusal}
 use Rattle.yasna_reader.specs.Head.{IsPlain, IsTooDeep, Refuses}
 

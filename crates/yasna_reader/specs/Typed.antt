@@ -6,7 +6,7 @@ use Rattle.yasna_base.specs.declared.error.ASN1Error.{ASN1Error}
 use Rattle.yasna_base.specs.declared.mode.BERMode.{BERMode}
 use Rattle.yasna_base.specs.declared.tag.Tag.{Tag}
 use Rattle.yasna_base.specs.declared.tag.PCBit.{PCBit}
-use Rattle.yasna_base.specs.Refusal.{kind_of, error_of}
+use Rattle.yasna_base.specs.Error.{kind_of, error_of}
 use Rattle.yasna_base.specs.Identifier.{identifier}
 use Rattle.yasna_base.specs.BigInteger.{IsBigInteger}
 use Rattle.yasna_reader.specs.declared.head.Refusal.{Refusal}

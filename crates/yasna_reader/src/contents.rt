@@ -2,8 +2,9 @@
 ghost use Rattle.std.specs.Prelude.{◌≡◌, ℕ, ◌+◌, ◌-◌, ◌^◌, ◌<◌, ◌≤◌, List, length, pos, negsuc, IsTrue, ◌↔◌};
 ghost use Rattle.std.specs.Int.{w8, w16, w32, w64};
 ghost use Rattle.yasna_base.specs.declared.mode.BERMode.{BERMode};
-ghost use Rattle.yasna_base.specs.Integer.{IsMinimal};
-ghost use Rattle.yasna_base.specs.Simple.{IsBoolean, SaysTrue, IsNull, IsSigned, IsUnsigned};
+ghost use Rattle.yasna_base.specs.Integer.{IsMinimal, IsSigned, IsUnsigned};
+ghost use Rattle.yasna_base.specs.Boolean.{IsBoolean, SaysTrue};
+ghost use Rattle.yasna_base.specs.Null.{IsNull};
 ghost use Rattle.yasna_reader.specs.Reads.{Decides, DecidesInMemory};
 ghost use Rattle.yasna_reader.specs.Typed.{HoldsBigInteger};
 

@@ -9,7 +9,10 @@ use yasna_base::tags::{TAG_BOOLEAN, TAG_ENUM, TAG_INTEGER, TAG_NULL};
 
 impl<'a> ReaderState<'a> {
     ghost use Rattle.std.specs.Int.{w64, w32, w16, w8};
-    ghost use Rattle.yasna_base.specs.Simple.{Primitively, IsBoolean, IsNull, IsSigned, IsUnsigned};
+    ghost use Rattle.yasna_base.specs.Element.{Primitively};
+    ghost use Rattle.yasna_base.specs.Boolean.{IsBoolean};
+    ghost use Rattle.yasna_base.specs.Null.{IsNull};
+    ghost use Rattle.yasna_base.specs.Integer.{IsSigned, IsUnsigned};
     ghost use Rattle.yasna_reader.specs.Typed.{Reads, FrontOf, NoLevel, Never, WantsMemory, HoldsBigInteger};
 
     /// Reads BOOLEAN: any byte but 0 is true in BER, 255 alone in DER.

@@ -39,7 +39,7 @@ impl<'a> Model for ReaderState<'a> {
 }
 
 impl<'a> ReaderState<'a> {
-    ghost use Rattle.yasna_base.specs.Simple.{Primitively};
+    ghost use Rattle.yasna_base.specs.Element.{Primitively};
     ghost use Rattle.yasna_reader.specs.View.{starts, untagged, tag_of};
     ghost use Rattle.yasna_reader.specs.Typed.{Settles, FrontOf, Reads, NoLevel, Never};
 

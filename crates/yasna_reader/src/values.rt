@@ -1,7 +1,7 @@
 //! Elements of one primitive type, over bytes (X.690, 8.2 to 8.4 and 8.8).
 ghost use Rattle.std.specs.Prelude.{◌≡◌};
 ghost use Rattle.yasna_reader.specs.Head.{IsTooDeep};
-ghost use Rattle.yasna_base.specs.Simple.{IsPrimitive, Primitively};
+ghost use Rattle.yasna_base.specs.Element.{IsPrimitive, Primitively};
 ghost use Rattle.yasna_reader.specs.Typed.{WantsMemory, HoldsBigInteger};
 ghost use Rattle.yasna_reader.specs.Reads.{PrimitiveAt, AtFront};
 

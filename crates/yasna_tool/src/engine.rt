@@ -1,7 +1,7 @@
 //! One run: read to the end, decode, encode, write.
 ghost use Rattle.std.specs.Prelude.{◌≡◌, ◌≢◌, ◌-◌, ◌^◌, ◌<◌, ◌⊎◌, IfOk, OnOk, OnErr, IfSome};
 ghost use Rattle.std.specs.Io.KnownBytes.{Appends, Consumes, IsAtEnd, Keeps};
-ghost use Rattle.yasna.specs.base.Refusal.{kind_of};
+ghost use Rattle.yasna.specs.base.Error.{kind_of};
 ghost use Rattle.yasna_tool.specs.Engine.{IfRefused, IfDevice};
 
 use crate::ends::{Sink, Source};

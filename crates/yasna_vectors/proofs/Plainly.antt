@@ -5,9 +5,9 @@ use Rattle.yasna.specs.base.declared.error.ASN1Error.{ASN1Error}
 use Rattle.yasna.specs.base.declared.error.ASN1ErrorKind.TheVariants.{OutOfMemory}
 use Rattle.yasna.specs.base.declared.mode.BERMode.{BERMode}
 use Rattle.yasna.specs.base.declared.mode.BERMode.TheVariants.{Der}
-use Rattle.yasna.specs.base.Refusal.{kind_of}
+use Rattle.yasna.specs.base.Error.{kind_of}
 use Rattle.yasna.specs.base.Coding.{Any}
-use Rattle.yasna.specs.base.Written.{IsWritten}
+use Rattle.yasna.specs.base.Canonical.{IsWritten}
 use Rattle.yasna.specs.reader.Decodes.{Decoded}
 
 -- what DER reads is the form of the value

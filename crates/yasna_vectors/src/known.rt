@@ -3,10 +3,10 @@ ghost use Rattle.std.specs.Prelude.{◌≡◌, ℤ, IfOk, IfErr};
 ghost use Rattle.std.specs.Int.{w64};
 ghost use Rattle.yasna.specs.base.declared.mode.BERMode.TheVariants.{Der};
 ghost use Rattle.yasna.specs.base.declared.error.ASN1ErrorKind.TheVariants.{OutOfMemory};
-ghost use Rattle.yasna.specs.base.Refusal.{kind_of};
+ghost use Rattle.yasna.specs.base.Error.{kind_of};
 ghost use Rattle.yasna.specs.base.Identifier.{universal};
-ghost use Rattle.yasna.specs.base.Types.{EncodesSigned};
-ghost use Rattle.yasna.specs.base.Canonical.{integer_form};
+ghost use Rattle.yasna.specs.base.Integer.{EncodesSigned};
+ghost use Rattle.yasna.specs.base.Integer.{integer_form};
 
 use std::alloc::Global;
 use yasna::{ASN1Result, construct_der, parse_der};

@@ -3,14 +3,20 @@ ghost use Rattle.std.specs.Prelude.{◌≡◌, ◌<◌, ◌^◌, false, ◌||◌
 ghost use Rattle.std.specs.Int.{w64};
 ghost use Rattle.yasna.specs.base.Identifier.{universal};
 ghost use Rattle.yasna.specs.base.Coding.{Any};
-ghost use Rattle.yasna.specs.base.Sequence.{sequence_tag, Enclosed, AnyEnclosed, PartOf, NoParts, AnyPart, AnyNothing, SamePart, SameNothing};
-ghost use Rattle.yasna.specs.base.Simple.{Primitively, IsUnsigned};
-ghost use Rattle.yasna.specs.base.Types.{EncodesBoolean, EncodesUnsigned};
+ghost use Rattle.yasna.specs.base.Sequence.{sequence_tag, PartOf, NoParts, AnyPart, AnyNothing, SamePart, SameNothing};
+ghost use Rattle.yasna.specs.base.Element.{Enclosed, AnyEnclosed};
+ghost use Rattle.yasna.specs.base.Element.{Primitively};
+ghost use Rattle.yasna.specs.base.Integer.{IsUnsigned};
+ghost use Rattle.yasna.specs.base.Boolean.{EncodesBoolean};
+ghost use Rattle.yasna.specs.base.Integer.{EncodesUnsigned};
 ghost use Rattle.yasna.specs.reader.Decodes.{Decodes, Step, Done};
 ghost use Rattle.yasna.specs.reader.Lending.{part_of};
 ghost use Rattle.yasna.specs.reader.Typed.{Reads, NoLevel, Never};
 ghost use Rattle.yasna.specs.reader.View.{IsFresh};
-ghost use Rattle.yasna.specs.base.Canonical.{integer_form, boolean_form, leaf_nest, enclosed_form, enclosed_nest, part_form, part_nest, part_can, nothing_form, nothing_nest, Always};
+ghost use Rattle.yasna.specs.base.Integer.{integer_form};
+ghost use Rattle.yasna.specs.base.Boolean.{boolean_form};
+ghost use Rattle.yasna.specs.base.Canonical.{leaf_nest, enclosed_form, enclosed_nest, Always};
+ghost use Rattle.yasna.specs.base.Sequence.{part_form, part_nest, part_can, nothing_form, nothing_nest};
 ghost use Rattle.yasna.proofs.Laws.{part, no_part, tuple, bool_coding, signed_coding, unsigned_coding};
 ghost use Rattle.yasna.proofs.Laws.{part_written, no_part_written, tuple_written, bool_written, signed_written, unsigned_written};
 

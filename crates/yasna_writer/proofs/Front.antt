@@ -3,8 +3,7 @@ use Rattle.std.proofs.Common.{◌≡◌, ℕ, zero, suc, ◌*◌, ◌^◌, ◌<�
 use Rattle.std.proofs.lemmas.Bool.Decides.{eqb_tells}
 use Rattle.std.specs.Int.Digits.{number_from_digits}
 use Rattle.yasna_base.specs.Digits.{IsBytes, digits}
-use Rattle.yasna_base.proofs.Numbers.{number_cons}
-use Rattle.yasna_base.proofs.DigitsOnly.{digits_only}
+use Rattle.yasna_base.proofs.Digits.{number_cons, digits_only}
 use Rattle.yasna_base.specs.BigInteger.{without}
 
 -- numbers that are bytes one by one

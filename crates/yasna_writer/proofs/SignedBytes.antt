@@ -5,11 +5,9 @@ use Rattle.std.proofs.Math.Nat.{pow-suc}
 use Rattle.std.proofs.lemmas.Bool.{cases_lt, lt-leb, le-leb}
 use Rattle.std.proofs.lemmas.Int.{ints}
 use Rattle.yasna_base.specs.Digits.{IsBytes}
-use Rattle.yasna_base.specs.Integer.{IsMinimal, minimal_bytes}
-use Rattle.yasna_base.specs.Simple.{IsInteger}
-use Rattle.yasna_base.proofs.Numbers.{number_cons}
-use Rattle.yasna_base.proofs.Integer.{twos_positive, twos_negative}
-use Rattle.yasna_base.proofs.MinimalBytes.{minimal_only}
+use Rattle.yasna_base.specs.Integer.{IsMinimal, minimal_bytes, IsInteger}
+use Rattle.yasna_base.proofs.Digits.{number_cons}
+use Rattle.yasna_base.proofs.Integer.{twos_positive, twos_negative, minimal_only}
 use Rattle.yasna_base.specs.BigInteger.{without, signed_number, signed_or_zero, big_integer}
 use Rattle.yasna_writer.specs.Number.{sign_byte, sign_front}
 use Rattle.yasna_writer.proofs.Front.{without_cases, without_bytes, without_first}

@@ -4,7 +4,7 @@ use Rattle.std.specs.Global.{Global}
 use Rattle.yasna_base.specs.declared.error.ASN1Error.{ASN1Error}
 use Rattle.yasna_base.specs.declared.error.ASN1ErrorKind.TheVariants.{OutOfMemory}
 use Rattle.yasna_base.specs.declared.tag.Tag.{Tag}
-use Rattle.yasna_base.specs.Refusal.{kind_of}
+use Rattle.yasna_base.specs.Error.{kind_of}
 
 -- the bytes so far, the implicit tag that the next element takes, and the failure that later calls answer
 pub record Written : Type 0 where

@@ -5,7 +5,9 @@
 ghost use Rattle.std.specs.Prelude.{pos};
 ghost use Rattle.yasna_base.specs.declared.mode.BERMode.TheVariants.{Der};
 ghost use Rattle.yasna_base.specs.Identifier.{universal};
-ghost use Rattle.yasna_base.specs.Canonical.{boolean_form, integer_form, null_form};
+ghost use Rattle.yasna_base.specs.Boolean.{boolean_form};
+ghost use Rattle.yasna_base.specs.Integer.{integer_form};
+ghost use Rattle.yasna_base.specs.Null.{null_form};
 ghost use Rattle.yasna_writer.specs.Written.{tag_or, Wrote};
 ghost use Rattle.yasna_base.specs.BigInteger.{signed_number, big_integer};
 

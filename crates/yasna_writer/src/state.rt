@@ -1,6 +1,6 @@
 //! The writer.
 ghost use Rattle.std.specs.Prelude.{◌≡◌, ◌+◌, ◌++◌, length, Ok, Err, Some, None, IfOk};
-ghost use Rattle.yasna_base.specs.Refusal.{kind_of};
+ghost use Rattle.yasna_base.specs.Error.{kind_of};
 ghost use Rattle.yasna_base.specs.declared.error.ASN1ErrorKind.TheVariants.{OutOfMemory};
 ghost use Rattle.yasna_base.specs.Canonical.{canonical_element};
 ghost use Rattle.yasna_base.specs.declared.mode.BERMode.TheVariants.{Der};

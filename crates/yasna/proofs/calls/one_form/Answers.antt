@@ -1,4 +1,4 @@
-use Rattle.yasna_base.proofs.Codings.{unambiguous}
+use Rattle.yasna_base.proofs.Coding.{unambiguous}
 use Rattle.yasna.proofs.calls.one_form.Goals as goal
 
 pub returns-clause-unique : goal.returns-clause-unique

@@ -1,6 +1,6 @@
 use Rattle.std.proofs.Common.{rules, arith}
 use Rattle.yasna_base.specs.Sequence.{sequence_tag}
-use Rattle.yasna_base.proofs.Types.{not_end}
+use Rattle.yasna_base.proofs.Identifier.{not_end}
 use Rattle.yasna_reader.specs.Decodes.{DecodesParts}
 use Rattle.yasna_reader.proofs.Calling.{parts_by_run}
 use Rattle.yasna_reader.proofs.Answered.{parts_element}

@@ -1,6 +1,7 @@
 use Rattle.std.proofs.Common.{◌≡◌, ◌<◌, arith, rules, refl, ◌∙◌, ◌-◌, ◌++◌, length}
-use Rattle.yasna_reader.proofs.Scan.{empty_is, bytes_from}
+use Rattle.yasna_reader.proofs.Scan.{empty_is}
 use Rattle.yasna_reader.proofs.Measuring.{nothing_measured, short_measured, not_measured_255, not_measured_short, not_measured_wide, not_measured_so, counted_measured}
+use Rattle.yasna_base.proofs.Digits.{all_bytes}
 use Rattle.yasna_reader.proofs.head.read_length.Goals as goal
 
 pub returns-in_default : goal.returns-in_default
@@ -42,4 +43,4 @@ returns c =
     let w = c.in-Some-cut.ensures {u = tt} in
     let l : length c.in-Some-cut.digits.now ≡ c.in-Some.first.now - 128 = w.0 ∙ e in
     let j : c.in-Some.rest.now ≡ c.in-Some-cut.digits.now ++ c.in-Some-cut.after.now = w.1 in
-    counted_measured c.args.mode c.in-Some.first.now c.args.s.now c.in-Some.rest.now c.in-Some-cut.digits.now c.in-Some-cut.after.now c.in-Some-number_of.size (bytes_from c.args.s.now (λ i. let f = c.type_inv.s i in omega arith)) (c.in-Some.ensures {u = tt}).cases.0 h (omega arith) l j (c.in-Some-number_of.ensures {u = tt}) (search rules) ((c.if-not-is_spelling.ensures {u = tt}).0 refl)
+    counted_measured c.args.mode c.in-Some.first.now c.args.s.now c.in-Some.rest.now c.in-Some-cut.digits.now c.in-Some-cut.after.now c.in-Some-number_of.size (all_bytes c.args.s.now (λ i. let f = c.type_inv.s i in omega arith)) (c.in-Some.ensures {u = tt}).cases.0 h (omega arith) l j (c.in-Some-number_of.ensures {u = tt}) (search rules) ((c.if-not-is_spelling.ensures {u = tt}).0 refl)

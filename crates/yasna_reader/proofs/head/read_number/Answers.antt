@@ -1,10 +1,11 @@
 use Rattle.std.proofs.Common.{◌≡◌, ◌∙◌, sym, subst, arith, ℕ, ◌∷◌}
-use Rattle.yasna_reader.proofs.Scan.{zero_first, passes, too_small, cut_off, scans_start, scans_more, scans_found, bytes_from, empty_is}
+use Rattle.yasna_reader.proofs.Scan.{zero_first, passes, too_small, cut_off, scans_start, scans_more, scans_found, empty_is}
 use Rattle.yasna_reader.proofs.head.read_number.Goals as goal
+use Rattle.yasna_base.proofs.Digits.{all_bytes}
 use Rattle.yasna_reader.proofs.head.read_number.Goals.{else-number-eq0-via-then-number-eq0+else-byte, else-number-eq0-via-else-number-eq0}
 
 pub loop-byte-init : goal.loop-byte-init
-loop-byte-init c = scans_start c.args.s.now (bytes_from c.args.s.now (λ i. let f = c.type_inv.s i in omega arith))
+loop-byte-init c = scans_start c.args.s.now (all_bytes c.args.s.now (λ i. let f = c.type_inv.s i in omega arith))
 
 pub loop-byte-preserved : goal.loop-byte-preserved
 loop-byte-preserved c =
@@ -24,7 +25,7 @@ returns-then-found-lt31 c = (tt, too_small c.loop-byte.number c.in-Some.byte.now
 pub returns-then-byte-lt128 : goal.returns-then-byte-lt128
 returns-then-byte-lt128 c =
     let e = c.from.ensures in
-    let f = scans_found c.args.s.now c.loop-byte.number c.in-Some.byte.now c.loop-byte.rest.now c.in-Some.after.now (bytes_from c.args.s.now (λ i. let f = c.type_inv.s i in omega arith)) c.loop-byte.invariant (c.in-Some.ensures {u = tt}).cases.0 c.if-byte-lt128.true (omega arith) in
+    let f = scans_found c.args.s.now c.loop-byte.number c.in-Some.byte.now c.loop-byte.rest.now c.in-Some.after.now (all_bytes c.args.s.now (λ i. let f = c.type_inv.s i in omega arith)) c.loop-byte.invariant (c.in-Some.ensures {u = tt}).cases.0 c.if-byte-lt128.true (omega arith) in
     (omega arith, rw e f)
 
 pub returns : goal.returns

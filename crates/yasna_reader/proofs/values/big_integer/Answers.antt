@@ -1,5 +1,5 @@
 use Rattle.std.proofs.Common.{refl, inl, inr}
-use Rattle.yasna_base.specs.Simple.{Primitively}
+use Rattle.yasna_base.specs.Element.{Primitively}
 use Rattle.yasna_reader.specs.Head.{IsTooDeep}
 use Rattle.yasna_reader.specs.Typed.{HoldsBigInteger, WantsMemory}
 use Rattle.yasna_reader.proofs.Reading.{takes_value, no_value, refuses_value}

@@ -1,8 +1,9 @@
 use Rattle.std.proofs.Common.{rules, arith}
 use Rattle.std.specs.Int.{w64}
 use Rattle.yasna.specs.base.declared.mode.BERMode.TheVariants.{Der}
-use Rattle.yasna.specs.base.Simple.{Primitively, IsSigned}
-use Rattle.yasna.specs.base.Types.{EncodesSigned}
+use Rattle.yasna.specs.base.Element.{Primitively}
+use Rattle.yasna.specs.base.Integer.{IsSigned}
+use Rattle.yasna.specs.base.Integer.{EncodesSigned}
 use Rattle.yasna.proofs.Closures.{leaf_by, parse_by}
 use Rattle.yasna.proofs.Laws.{signed_coding, signed_written}
 use Rattle.yasna_vectors.proofs.Plainly.{read_form, refuses_none}

@@ -1,5 +1,6 @@
 use Rattle.std.proofs.Common.{arith}
-use Rattle.yasna_base.specs.Simple.{Primitively, IsBoolean}
+use Rattle.yasna_base.specs.Element.{Primitively}
+use Rattle.yasna_base.specs.Boolean.{IsBoolean}
 use Rattle.yasna_reader.proofs.Leaf.{leaf_decodes}
 use Rattle.yasna.proofs.simple.BoolBERDecodable.decode_ber.Goals as goal
 

@@ -1,5 +1,6 @@
 use Rattle.std.proofs.Common.{arith}
-use Rattle.yasna_base.specs.Simple.{Primitively, IsNull}
+use Rattle.yasna_base.specs.Element.{Primitively}
+use Rattle.yasna_base.specs.Null.{IsNull}
 use Rattle.yasna_reader.proofs.Leaf.{leaf_decodes}
 use Rattle.yasna.proofs.simple.UnitBERDecodable.decode_ber.Goals as goal
 

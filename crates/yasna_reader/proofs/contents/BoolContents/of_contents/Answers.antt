@@ -1,5 +1,5 @@
 use Rattle.std.proofs.Common.{refl, arith}
-use Rattle.yasna_base.specs.Simple.{says_true}
+use Rattle.yasna_base.specs.Boolean.{says_true}
 use Rattle.yasna_reader.proofs.Reading.{one_of}
 use Rattle.yasna_reader.proofs.contents.BoolContents.of_contents.Goals as goal
 

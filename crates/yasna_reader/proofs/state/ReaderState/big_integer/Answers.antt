@@ -1,4 +1,4 @@
-use Rattle.yasna_base.specs.Simple.{Primitively}
+use Rattle.yasna_base.specs.Element.{Primitively}
 use Rattle.yasna_reader.specs.Typed.{NoLevel, WantsMemory, HoldsBigInteger}
 use Rattle.yasna_reader.proofs.Reading.{at_view}
 use Rattle.yasna_reader.proofs.state.ReaderState.big_integer.Goals as goal

@@ -1,4 +1,4 @@
-use Rattle.yasna_base.specs.Simple.{Primitively}
+use Rattle.yasna_base.specs.Element.{Primitively}
 use Rattle.yasna_reader.specs.Typed.{NoLevel, Never}
 use Rattle.yasna_reader.proofs.Reading.{at_view}
 use Rattle.yasna_reader.proofs.state.ReaderState.front.Goals as goal

@@ -1,5 +1,6 @@
 use Rattle.std.proofs.Common.{rules, refl, arith, false}
-use Rattle.yasna.specs.base.Simple.{Primitively, IsUnsigned}
+use Rattle.yasna.specs.base.Element.{Primitively}
+use Rattle.yasna.specs.base.Integer.{IsUnsigned}
 use Rattle.yasna.proofs.Closures.{sequence_by, step_by, done_by, decodes_by, leaf_by}
 use Rattle.yasna.proofs.Laws.{part, no_part, bool_coding, unsigned_coding}
 use Rattle.yasna_vectors.proofs.third_party.VersionBERDecodable.decode_ber.Goals as goal

@@ -1,6 +1,6 @@
 use Rattle.std.proofs.Common.{◌≡◌, ◌≤◌, ◌<◌, None, length, inl, inr, sym, ap, subst, ◌∙◌, arith}
 use Rattle.std.proofs.lemmas.Result.{MatchResult-weaker}
-use Rattle.yasna_base.specs.Refusal.{kind_of}
+use Rattle.yasna_base.specs.Error.{kind_of}
 use Rattle.yasna_writer.specs.Written.{Written}
 use Rattle.yasna_writer.specs.Joining.{draft_bytes, EndsIn}
 use Rattle.yasna_writer.proofs.Joined.{joined_length}

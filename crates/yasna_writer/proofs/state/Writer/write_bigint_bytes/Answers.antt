@@ -1,7 +1,7 @@
 use Rattle.std.proofs.Common.{ℤ, length, ap, sym, ◌∙◌, subst, arith}
 use Rattle.yasna_base.specs.declared.mode.BERMode.TheVariants.{Der}
 use Rattle.yasna_base.specs.Identifier.{universal}
-use Rattle.yasna_base.specs.Canonical.{integer_form}
+use Rattle.yasna_base.specs.Integer.{integer_form}
 use Rattle.std.specs.Prelude.{true}
 use Rattle.std.proofs.lemmas.Bool.{eqb-true, eqb-false}
 use Rattle.yasna_writer.specs.Written.{tag_or, Wrote}

@@ -1,4 +1,4 @@
--- What a refusal is of, and how it prints.
+-- Of what kind a refusal is, and how it prints.
 use Rattle.std.specs.Prelude.{List, ℕ, ◌++◌, codes}
 use Rattle.yasna_base.specs.declared.error.ASN1Error.{ASN1Error}
 use Rattle.yasna_base.specs.declared.error.ASN1ErrorKind.{ASN1ErrorKind}

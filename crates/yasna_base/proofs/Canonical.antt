@@ -1,0 +1,137 @@
+-- The one form of an element in a canonical mode, and the laws of writing, of primitive elements, of what encloses others,
+-- and of what stands for others.
+use Rattle.std.proofs.Common.{◌≡◌, ℕ, ◌+◌, ◌^◌, ◌<◌, ◌≤◌, List, ◌++◌, length, refl, ap, ◌∙◌, arith, zero, suc, length-append, subst, ◌-◌}
+use Rattle.yasna_base.specs.declared.mode.BERMode.{BERMode}
+use Rattle.yasna_base.specs.declared.mode.BERMode.TheVariants.{Ber, Der}
+use Rattle.yasna_base.specs.declared.tag.PCBit.{PCBit}
+use Rattle.yasna_base.specs.declared.tag.PCBit.TheVariants.{Primitive, Constructed}
+use Rattle.yasna_base.specs.declared.tag.Tag.{Tag}
+use Rattle.yasna_base.specs.Canonical.{IsCanonicalMode, HoldsForm, definite_element, canonical_element, leaf_nest, enclosed_form, enclosed_nest, IsWritten}
+use Rattle.yasna_base.specs.Digits.{IsBytes}
+use Rattle.yasna_base.specs.Element.{TakesDefinite, Definite, Framed, definite, indefinite, Element, Primitively, Enclosed}
+use Rattle.yasna_base.specs.Identifier.{identifier}
+use Rattle.yasna_base.specs.Length.{shortest_length}
+use Rattle.yasna_base.proofs.Digits.{bytes_append}
+use Rattle.yasna_base.proofs.Identifier.{identifier_bytes}
+use Rattle.yasna_base.proofs.Length.{shortest_in_mode, spells_shortest, shortest_bytes}
+
+-- the form with a definite length is an element, where the mode takes one
+pub definite_is : (m : BERMode) (t : Tag) (p : PCBit) (c : List ℕ) → TakesDefinite m p → length c < 2 ^ 64 → Framed m t p c (definite_element t p c)
+unfolding definite_element
+definite_is m t p c x h = definite (record { taken = x; l = shortest_length (length c); spelled = shortest_in_mode m (length c) h; joined = refl })
+
+-- in a canonical mode an element of definite length is that form
+pub definite_only : (m : BERMode) (t : Tag) (p : PCBit) (c b : List ℕ) → IsCanonicalMode m → Definite m t p c b → b ≡ definite_element t p c
+unfolding definite_element
+definite_only m t p c b x y = y.joined ∙ ap (λ l. identifier t p ++ (l ++ c)) (spells_shortest m (length c) y.l x y.spelled)
+
+-- the contents are no longer than the form around them
+pub contents_shorter : (m : BERMode) (t : Tag) (p : PCBit) (c : List ℕ) → length c ≤ length (canonical_element m t p c)
+unfolding canonical_element definite_element
+contents_shorter m t p c = omega (arith, length-append {A = ℕ})
+
+-- where the form fits 64 bits, the contents do
+pub short_contents : (m : BERMode) (t : Tag) (p : PCBit) (c : List ℕ) → length (canonical_element m t p c) < 2 ^ 64 → length c < 2 ^ 64
+short_contents m t p c h = omega (arith, contents_shorter m t p c)
+
+canonical_framed : (m o : BERMode) (t : Tag) (p : PCBit) (c : List ℕ) → HoldsForm m o → length (canonical_element m t p c) < 2 ^ 64 →
+    Framed o t p c (canonical_element m t p c)
+unfolding canonical_element
+canonical_framed Ber o t p c x h = absurd x
+canonical_framed Der Ber t p c x h = definite_is Ber t p c tt (short_contents Der t p c h)
+canonical_framed Der Der t p c x h = definite_is Der t p c tt (short_contents Der t p c h)
+
+-- the canonical form is an element, in its mode and wherever that mode's forms hold
+pub canonical_element_is : (m o : BERMode) (t : Tag) (p : PCBit) (c : List ℕ) → HoldsForm m o → t.tag_number < 2 ^ 64 → IsBytes c →
+    length (canonical_element m t p c) < 2 ^ 64 → Element o t p c (canonical_element m t p c)
+canonical_element_is m o t p c x range bytes h = record { in_range = range; in_bytes = bytes; framed = canonical_framed m o t p c x h }
+
+canonical_framed_only : (m : BERMode) (t : Tag) (p : PCBit) (c b : List ℕ) → IsCanonicalMode m → Framed m t p c b → b ≡ canonical_element m t p c
+unfolding canonical_element
+canonical_framed_only Ber t p c b x y = absurd x
+canonical_framed_only Der t p c b x (definite y) = definite_only Der t p c b x y
+canonical_framed_only Der t p c b x (indefinite y) = absurd (y.taken)
+
+-- a canonical mode takes no other element with these contents
+pub canonical_element_only : (m : BERMode) (t : Tag) (p : PCBit) (c b : List ℕ) → IsCanonicalMode m → Element m t p c b → b ≡ canonical_element m t p c
+canonical_element_only m t p c b x y = canonical_framed_only m t p c b x y.framed
+
+-- the form around bytes is bytes
+pub canonical_element_bytes : (m : BERMode) (t : Tag) (p : PCBit) (c : List ℕ) → IsBytes c → length (canonical_element m t p c) < 2 ^ 64 →
+    IsBytes (canonical_element m t p c)
+unfolding canonical_element definite_element
+canonical_element_bytes m t p c bytes h =
+    let size = shortest_bytes (length c) (short_contents m t p c h) in
+    bytes_append (identifier t p) (shortest_length (length c) ++ c) (identifier_bytes t p) (bytes_append (shortest_length (length c)) c size bytes)
+
+-- a type of one primitive element, whose contents are one in each canonical mode, keeps the laws
+pub primitively_written : {A : Type 0} (W : BERMode → A → List ℕ → Type 0) (Can : A → Type 0) (contents : A → List ℕ) (t : Tag) → t.tag_number < 2 ^ 64 →
+    ((v : A) → Can v → IsBytes (contents v)) → ((m : BERMode) (v : A) → Can v → W m v (contents v)) →
+    ((m : BERMode) (v : A) (c : List ℕ) → IsCanonicalMode m → W m v c → c ≡ contents v) →
+    ((m : BERMode) (v : A) (c : List ℕ) → W m v c → Can v) →
+    IsWritten (λ v w. v ≡ w) (λ m n v b. Primitively W n m t v b) (λ m v. canonical_element m t Primitive (contents v)) leaf_nest Can
+primitively_written W Can contents t range bytes means one back = record {
+  has = record {
+    in_bytes = λ m v can short. canonical_element_bytes m t Primitive (contents v) (bytes v can) short;
+    holds = λ m o n v h can level short. record {
+      level = level;
+      contents = contents v;
+      element = canonical_element_is m o t Primitive (contents v) h range (bytes v can) short;
+      meaning = means o v can;
+    };
+    only = λ m n v b h x.
+        let form = ap (λ c. canonical_element m t Primitive c) (one m v x.contents h x.meaning) in
+        (canonical_element_only m t Primitive x.contents b h x.element ∙ form, back m v x.contents x.meaning, x.level);
+  };
+  any = λ n v b x. (back Ber v x.contents x.meaning, x.level);
+  same = λ m v w e. (ap (λ u. canonical_element m t Primitive (contents u)) e, λ can. subst Can e can, refl);
+}
+
+module _ {A : Type 0} {E : A → A → Type 0} {C : BERMode → ℕ → A → List ℕ → Type 0}
+    {form : BERMode → A → List ℕ} {nest : BERMode → A → ℕ} {Can : A → Type 0} (x : IsWritten E C form nest Can) (t : Tag) (range : t.tag_number < 2 ^ 64) where
+  enclosed_holds : (m o : BERMode) (n : ℕ) (v : A) → HoldsForm m o → Can v → enclosed_nest nest m v ≤ n →
+      length (enclosed_form form t m v) < 2 ^ 64 → Enclosed C t o n v (enclosed_form form t m v)
+  enclosed_holds m o zero v h can level short = omega (arith, level)
+  enclosed_holds m o (suc n) v h can level short = record {
+    contents = form m v;
+    element = canonical_element_is m o t Constructed (form m v) h range (x.has.in_bytes m v can (short_contents m t Constructed (form m v) short)) short;
+    meaning = x.has.holds m o n v h can (omega (arith, level)) (short_contents m t Constructed (form m v) short);
+  }
+
+  enclosed_only : (m : BERMode) (n : ℕ) (v : A) (b : List ℕ) → IsCanonicalMode m → Enclosed C t m n v b →
+      (b ≡ enclosed_form form t m v) × Can v × (enclosed_nest nest m v ≤ n)
+  enclosed_only m zero v b h p = absurd p
+  enclosed_only m (suc n) v b h p =
+      let inner = x.has.only m n v p.contents h p.meaning in
+      (canonical_element_only m t Constructed p.contents b h p.element ∙ ap (λ c. canonical_element m t Constructed c) inner.0, inner.1, omega (arith, inner.2))
+
+  enclosed_any : (n : ℕ) (v : A) (b : List ℕ) → Enclosed C t Ber n v b → Can v × (enclosed_nest nest Der v ≤ n)
+  enclosed_any zero v b p = absurd p
+  enclosed_any (suc n) v b p = let inner = x.any n v p.contents p.meaning in (inner.0, omega (arith, inner.1))
+
+-- an element around contents keeps the laws
+pub enclosed_written : {A : Type 0} {E : A → A → Type 0} {C : BERMode → ℕ → A → List ℕ → Type 0} {form : BERMode → A → List ℕ}
+    {nest : BERMode → A → ℕ} {Can : A → Type 0}
+    (t : Tag) → t.tag_number < 2 ^ 64 → IsWritten E C form nest Can → IsWritten E (Enclosed C t) (enclosed_form form t) (enclosed_nest nest) Can
+enclosed_written {form} t range x = record {
+  has = record {
+    in_bytes = λ m v can short.
+        let inner = short_contents m t Constructed (form m v) short in
+        canonical_element_bytes m t Constructed (form m v) (x.has.in_bytes m v can inner) short;
+    holds = enclosed_holds x t range;
+    only = enclosed_only x t range;
+  };
+  any = enclosed_any x t range;
+  same = λ m v w e. let inner = x.same m v w e in (ap (λ c. canonical_element m t Constructed c) inner.0, inner.1, ap (λ k. 1 + k) inner.2);
+}
+
+-- a type whose values stand for those of another keeps its laws
+pub written_along : {U A : Type 0} {E : A → A → Type 0} {B : BERMode → ℕ → A → List ℕ → Type 0} {form : BERMode → A → List ℕ}
+    {nest : BERMode → A → ℕ} {Can : A → Type 0} (f : U → A) →
+    IsWritten E B form nest Can →
+    IsWritten (λ v w. E (f v) (f w)) (λ m n v b. B m n (f v) b) (λ m v. form m (f v)) (λ m v. nest m (f v)) (λ v. Can (f v))
+written_along f x = record {
+  has = record { in_bytes = λ m v. x.has.in_bytes m (f v); holds = λ m o n v. x.has.holds m o n (f v); only = λ m n v. x.has.only m n (f v) };
+  any = λ n v. x.any n (f v);
+  same = λ m v w. x.same m (f v) (f w);
+}

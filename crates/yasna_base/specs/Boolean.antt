@@ -1,0 +1,37 @@
+-- BOOLEAN (X.690, 8.2 and 11.1).
+use Rattle.std.specs.Prelude.{◌≡◌, ℕ, ◌^◌, ◌<◌, List, [], ◌∷◌, Bool}
+use Rattle.yasna_base.specs.declared.mode.BERMode.{BERMode}
+use Rattle.yasna_base.specs.declared.mode.BERMode.TheVariants.{Ber, Der}
+use Rattle.yasna_base.specs.declared.tag.Tag.{Tag}
+use Rattle.yasna_base.specs.declared.tag.PCBit.TheVariants.{Primitive}
+use Rattle.yasna_base.specs.Digits.{IsBytes}
+use Rattle.yasna_base.specs.Identifier.{universal}
+use Rattle.yasna_base.specs.Element.{Primitively}
+use Rattle.yasna_base.specs.Canonical.{canonical_element, Always}
+use Rattle.yasna_base.specs.Laws.{KeepsLaws}
+
+-- any byte but 0 is true in BER, 255 alone in DER
+abbrev pub SaysTrue : BERMode → ℕ → Type 0
+SaysTrue Ber x = x ≡ 0 → ⊥
+SaysTrue Der x = x ≡ 255
+
+-- the contents c say v in one byte
+pub data IsBoolean (m : BERMode) (v : Bool) (c : List ℕ) : Type 0 where
+  says_false : v ≡ Bool.false → c ≡ 0 ∷ [] → IsBoolean m v c
+  says_true : (x : ℕ) → SaysTrue m x → IsBytes (x ∷ []) → v ≡ Bool.true → c ≡ x ∷ [] → IsBoolean m v c
+
+-- the type's grammar under its own tag
+abbrev pub EncodesBoolean : BERMode → ℕ → Bool → List ℕ → Type 0
+EncodesBoolean m n v b = Primitively IsBoolean n m (universal 1) v b
+
+-- the one byte that is written
+abbrev pub boolean_byte : Bool → ℕ
+boolean_byte Bool.false = 0
+boolean_byte Bool.true = 255
+
+abbrev pub boolean_form : Tag → BERMode → Bool → List ℕ
+boolean_form t m v = canonical_element m t Primitive (boolean_byte v ∷ [])
+
+-- BOOLEAN keeps the laws under any tag
+abbrev pub BooleanKeepsLaws : Type 0
+BooleanKeepsLaws = KeepsLaws IsBoolean boolean_form Always

@@ -1,0 +1,36 @@
+-- What holds of the grammar, as the laws of this crate say it.
+use Rattle.std.specs.Prelude.{◌≡◌, ℕ, ◌^◌, ◌<◌, List, ◌++◌}
+use Rattle.yasna_base.specs.declared.mode.BERMode.{BERMode}
+use Rattle.yasna_base.specs.declared.tag.Tag.{Tag}
+use Rattle.yasna_base.specs.declared.tag.PCBit.{PCBit}
+use Rattle.yasna_base.specs.declared.tag.PCBit.TheVariants.{Primitive}
+use Rattle.yasna_base.specs.Identifier.{identifier, end_tag}
+use Rattle.yasna_base.specs.Length.{SpellsLength}
+use Rattle.yasna_base.specs.Element.{Element, Primitively}
+use Rattle.yasna_base.specs.Coding.{IsCoding, Any}
+use Rattle.yasna_base.specs.Canonical.{leaf_nest, IsWritten}
+
+-- no identifier begins another, and it tells the tag and the bit
+abbrev pub IdentifiersAreUnambiguous : Type 0
+IdentifiersAreUnambiguous =
+    (t u : Tag) (p q : PCBit) (r s : List ℕ) → identifier t p ++ r ≡ identifier u q ++ s → (t ≡ u) × (p ≡ q) × (r ≡ s)
+
+-- in one mode no spelling of a length begins another, and it tells the length
+abbrev pub LengthsAreUnambiguous : Type 0
+LengthsAreUnambiguous =
+    (m : BERMode) (j k : ℕ) (a b r s : List ℕ) → SpellsLength m j a → SpellsLength m k b → a ++ r ≡ b ++ s →
+    (j ≡ k) × (a ≡ b) × (r ≡ s)
+
+-- in one mode no primitive element begins another, and it tells the tag and the contents
+abbrev pub PrimitiveElementsAreUnambiguous : Type 0
+PrimitiveElementsAreUnambiguous =
+    (m : BERMode) (t u : Tag) (c d a b r s : List ℕ) → Element m t Primitive c a → Element m u Primitive d b → a ++ r ≡ b ++ s →
+    (t ≡ u) × (c ≡ d) × (a ≡ b) × (r ≡ s)
+
+-- A type without parts, whose contents say v by W, keeps the laws of reading and of writing under any tag but that of the
+-- end of contents. Its values are equal only where they are one
+abbrev pub KeepsLaws : {A : Type 0} → (BERMode → A → List ℕ → Type 0) → (Tag → BERMode → A → List ℕ) → (A → Type 0) → Type 0
+KeepsLaws W form Can =
+    (t : Tag) → (t ≡ end_tag → ⊥) → t.tag_number < 2 ^ 64 →
+    IsCoding (λ v w. v ≡ w) (λ m n v b. Primitively W n m t v b) (Any (λ m n v b. Primitively W n m t v b))
+    × IsWritten (λ v w. v ≡ w) (λ m n v b. Primitively W n m t v b) (form t) leaf_nest Can

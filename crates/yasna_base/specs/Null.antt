@@ -1,0 +1,24 @@
+-- NULL (X.690, 8.8).
+use Rattle.std.specs.Prelude.{◌≡◌, ℕ, List, []}
+use Rattle.yasna_base.specs.declared.mode.BERMode.{BERMode}
+use Rattle.yasna_base.specs.declared.tag.Tag.{Tag}
+use Rattle.yasna_base.specs.declared.tag.PCBit.TheVariants.{Primitive}
+use Rattle.yasna_base.specs.Identifier.{universal}
+use Rattle.yasna_base.specs.Element.{Primitively}
+use Rattle.yasna_base.specs.Canonical.{canonical_element, Always}
+use Rattle.yasna_base.specs.Laws.{KeepsLaws}
+
+-- no contents
+abbrev pub IsNull : BERMode → Unit {0} → List ℕ → Type 0
+IsNull m v c = c ≡ []
+
+-- the type's grammar under its own tag
+abbrev pub EncodesNull : BERMode → ℕ → Unit {0} → List ℕ → Type 0
+EncodesNull m n v b = Primitively IsNull n m (universal 5) v b
+
+abbrev pub null_form : Tag → BERMode → Unit {0} → List ℕ
+null_form t m v = canonical_element m t Primitive []
+
+-- NULL keeps the laws under any tag
+abbrev pub NullKeepsLaws : Type 0
+NullKeepsLaws = KeepsLaws IsNull null_form Always
