@@ -6,19 +6,18 @@
 //! | Module | Holds |
 //! |---|---|
 //! | `traits` | what a type says that is read and written as a whole |
-//! | `calls` | whole inputs and outputs, and what is proved of them for every such type |
-//! | `simple`, `numbers`, `tuples` | the types that come with the crate |
+//! | `whole` | whole inputs and outputs, and what is proved of them for every such type |
+//! | `primitive`, `tuples` | the types that come with the crate |
 #![tactic(auto)]
 
-mod calls;
-mod numbers;
-mod simple;
+mod primitive;
 mod traits;
 mod tuples;
+mod whole;
 
-pub use calls::{decode_ber, decode_ber_general, decode_der, encode_der, one_form};
 pub use traits::{BERDecodable, DERCanonical, DEREncodable};
 pub use tuples::TupleParts;
+pub use whole::{decode_ber, decode_ber_general, decode_der, encode_der, one_form};
 pub use yasna_base::error::{ASN1Error, ASN1ErrorKind, ASN1Result};
 pub use yasna_base::mode::BERMode;
 pub use yasna_base::tag::{PCBit, Tag, TagClass};

@@ -14,3 +14,7 @@ abbrev pub CountsWrite : {E : Type 0} → ℕ → ℕ → Result ℕ E → List 
 CountsWrite old new r bytes = MatchResult r
     (λ n. ((0 < n → new ≡ old) × (length bytes ≡ 0 → new ≡ old) × (n ≡ 0 → 0 < length bytes → new ≡ one_more old)))
     (λ _. new ≡ one_more old)
+
+-- neither end failed: both counts are what they were
+abbrev pub AreAsBefore : ℕ → ℕ → ℕ → ℕ → Type 0
+AreAsBefore reads reads' writes writes' = (reads' ≡ reads) × (writes' ≡ writes)

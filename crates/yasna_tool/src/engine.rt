@@ -3,6 +3,7 @@ ghost use Rattle.std.specs.Prelude.{◌≡◌, ◌≢◌, ◌-◌, ◌^◌, ◌<
 ghost use Rattle.std.specs.Io.KnownBytes.{Appends, Consumes, IsAtEnd, Keeps};
 ghost use Rattle.yasna.specs.base.Error.{kind_of};
 ghost use Rattle.yasna_tool.specs.Engine.{IfRefused, IfDevice};
+ghost use Rattle.yasna_tool.specs.Failures.{AreAsBefore};
 
 use crate::ends::{Sink, Source};
 use std::alloc::Global;
@@ -92,11 +93,13 @@ pub fn run<T: DERCanonical, R: Source, W: Sink>(
     ensures ok { OnOk result (IfSome (R.remaining reader.old) (λ s. (v : T) × T.encodes mode 101 v s
         × Appends (W.contents writer.old) (W.contents writer.new) (T.form BERMode.Der v))) }
     ensures to_the_end { OnOk result (IsAtEnd (R.remaining reader.new)) }
+    ensures counts { OnOk result (AreAsBefore (R.failed reader.old) (R.failed reader.new) (W.failed writer.old) (W.failed writer.new)) }
+    ensures refused_counts { IfRefused result (λ _. AreAsBefore (R.failed reader.old) (R.failed reader.new) (W.failed writer.old) (W.failed writer.new)) }
     ensures refused_writes_nothing { IfRefused result (λ _. Keeps (W.contents writer.old) (W.contents writer.new)) }
 
     // With memory to be had, only bytes that encode no value are refused.
     ensures refused { IfRefused result (λ e. kind_of e ≢ ASN1ErrorKind.OutOfMemory → IsAtEnd (R.remaining reader.new)
-        × IfSome (R.remaining reader.old) (λ s. (v : T) → T.encodes mode 101 v s → ⊥)) }
+        × IfSome (R.remaining reader.old) (λ s. T.elements mode 101 s → ⊥)) }
     ensures device { IfDevice result ((R.failed reader.old < R.failed reader.new)
         ⊎ (W.failed writer.old < W.failed writer.new)) }
     ensures failed_read { R.failed reader.old < R.failed reader.new → Keeps (W.contents writer.old) (W.contents writer.new) }

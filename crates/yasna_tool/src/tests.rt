@@ -6,7 +6,7 @@ use crate::ends::{Counted, Sink, Source};
 use crate::tool::tool;
 use std::alloc::{AllocError, Global};
 use std::io;
-use std::io::Read;
+use std::io::{Read, Write};
 use std::process::Abort;
 use std::test::Fail;
 
@@ -378,5 +378,33 @@ fn nothing_taken(rt: HostRuntime) -> Result<(), Fail> {
     assert_eq!(rt; errors.as_slice(), DEVICE.as_bytes());
     assert_eq!(rt; writer.failures(), 1);
     assert_eq!(rt; room, [48, 6, 2]);
+    Ok(())
+}
+
+/// Takes all bytes, and counts its flushes.
+#[derive(Drop)]
+struct Flushed {
+    flushes: u8,
+}
+
+impl Write for Flushed {
+    ghost contents = { λ _. None };
+
+    fn write(&mut self, buffer: &[u8]) -> io::Result<usize> {
+        Ok(buffer.len())
+    }
+
+    fn flush(&mut self) -> io::Result<()> {
+        self.flushes = self.flushes.saturating_add(1);
+        Ok(())
+    }
+}
+
+#[test]
+fn flushes_once(rt: HostRuntime) -> Result<(), Fail> {
+    let mut writer = Counted::new(Flushed { flushes: 0 });
+    let (status, _errors) = told_over(rt.alloc(), &mut writer)?;
+    assert_eq!(rt; status, 0);
+    assert_eq!(rt; writer.into_end().flushes, 1);
     Ok(())
 }

@@ -1,8 +1,9 @@
 //! The program over any two ends: arguments, texts of faults, exit statuses.
-ghost use Rattle.std.specs.Prelude.{◌≡◌, ◌-◌, ◌^◌, ◌<◌, ◌≤◌, ◌⊎◌, map};
+ghost use Rattle.std.specs.Prelude.{◌≡◌, ◌-◌, ◌^◌, ◌<◌, ◌≤◌, ◌⊎◌, map, OnOk, MatchOption};
 ghost use Rattle.std.specs.Io.KnownBytes.{IsAtEnd, Keeps};
 ghost use Rattle.std.specs.String.{string_bytes};
-ghost use Rattle.yasna_tool.specs.Words.{AreTaken};
+ghost use Rattle.yasna_tool.specs.Engine.{IfRefused, IfDevice};
+ghost use Rattle.yasna_tool.specs.Words.{IsMode, IsKind, AreTaken};
 
 use crate::ends::{Sink, Source};
 use crate::engine::{RunFault, run};
@@ -34,6 +35,76 @@ fn report_refusal<E: Write>(errors: &mut E, error: ASN1Error) -> u8
     1
 }
 
+/// A kind of value that the program knows.
+#[derive(Clone, Copy, PartialEq, Eq, Debug)]
+enum Kind {
+    Pair,
+    Int,
+    Bool,
+    Null,
+}
+
+/// The mode of this name.
+fn mode_named(word: &str) -> Option<BERMode>
+    ensures { MatchOption result (IsMode word.now → ⊥) (λ _. IsMode word.now) }
+{
+    match word {
+        "ber" => Some(BERMode::Ber),
+        "der" => Some(BERMode::Der),
+        _ => None,
+    }
+}
+
+/// The kind of this name.
+fn kind_named(word: &str) -> Option<Kind>
+    ensures { MatchOption result (IsKind word.now → ⊥) (λ _. IsKind word.now) }
+{
+    match word {
+        "pair" => Some(Kind::Pair),
+        "int" => Some(Kind::Int),
+        "bool" => Some(Kind::Bool),
+        "null" => Some(Kind::Null),
+        _ => None,
+    }
+}
+
+/// The mode and the kind that the words name, and no more.
+fn named(words: &[String]) -> Option<(BERMode, Kind)>
+    ensures { MatchOption result (AreTaken (map string_bytes words.now) → ⊥) (λ _. AreTaken (map string_bytes words.now)) }
+{
+    let [mode, kind] = words else {
+        return None;
+    };
+    match (mode_named(mode.as_str()), kind_named(kind.as_str())) {
+        (Some(mode), Some(kind)) => Some((mode, kind)),
+        _ => None,
+    }
+}
+
+/// Runs over values of this kind.
+fn run_kind<R: Source, W: Sink>(
+    alloc: Global,
+    mode: BERMode,
+    kind: Kind,
+    reader: &mut R,
+    writer: &mut W,
+) -> Result<(), RunFault>
+    requires reads { R.failed reader.old < 2 ^ 64 - 1 }
+    requires writes { W.failed writer.old < 2 ^ 64 - 1 }
+    ensures to_the_end { OnOk result (IsAtEnd (R.remaining reader.new)) }
+    ensures refused { IfRefused result (λ _. Keeps (W.contents writer.old) (W.contents writer.new)) }
+    ensures device { IfDevice result ((R.failed reader.old < R.failed reader.new)
+        ⊎ (W.failed writer.old < W.failed writer.new)) }
+    ensures failed_read { R.failed reader.old < R.failed reader.new → Keeps (W.contents writer.old) (W.contents writer.new) }
+{
+    match kind {
+        Kind::Pair => run::<(i64, bool), R, W>(alloc, mode, reader, writer),
+        Kind::Int => run::<i64, R, W>(alloc, mode, reader, writer),
+        Kind::Bool => run::<bool, R, W>(alloc, mode, reader, writer),
+        Kind::Null => run::<(), R, W>(alloc, mode, reader, writer),
+    }
+}
+
 /// Runs the program on the words after its name, and gives its exit status.
 ///
 /// A fault's text goes to `errors`, and a failure to write it changes nothing.
@@ -56,22 +127,10 @@ pub fn tool<R: Source, W: Sink, E: Write>(
         ⊎ (W.failed writer.old < W.failed writer.new) }
     ensures failed_read { R.failed reader.old < R.failed reader.new → Keeps (W.contents writer.old) (W.contents writer.new) }
 {
-    let [mode, kind] = words else {
+    let Some((mode, kind)) = named(words) else {
         return report_usage(errors);
     };
-    let mode = match mode.as_str() {
-        "ber" => BERMode::Ber,
-        "der" => BERMode::Der,
-        _ => return report_usage(errors),
-    };
-    let outcome = match kind.as_str() {
-        "pair" => run::<(i64, bool), R, W>(alloc, mode, reader, writer),
-        "int" => run::<i64, R, W>(alloc, mode, reader, writer),
-        "bool" => run::<bool, R, W>(alloc, mode, reader, writer),
-        "null" => run::<(), R, W>(alloc, mode, reader, writer),
-        _ => return report_usage(errors),
-    };
-    match outcome {
+    match run_kind(alloc, mode, kind, reader, writer) {
         Ok(()) => 0,
         Err(RunFault::Refused(error)) => report_refusal(errors, error),
         Err(RunFault::Device) => report_device(errors),

@@ -1,8 +1,0 @@
-use Rattle.std.proofs.Common.{arith}
-use Rattle.yasna_base.specs.Element.{Primitively}
-use Rattle.yasna_base.specs.Integer.{IsUnsigned}
-use Rattle.yasna_reader.proofs.Leaf.{leaf_decodes}
-use Rattle.yasna.proofs.numbers.U32BERDecodable.decode_ber.Goals as goal
-
-pub returns : goal.returns
-returns c = leaf_decodes (Primitively (IsUnsigned 32)) 2 (λ e. omega arith) c.args.reader.now c.read_u32.result c.read_u32.new.self c.requires c.read_u32.ensures

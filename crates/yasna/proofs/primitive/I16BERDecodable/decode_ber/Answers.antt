@@ -1,0 +1,9 @@
+use Rattle.std.proofs.Common.{arith}
+use Rattle.std.specs.Int.{w16}
+use Rattle.yasna_base.specs.Element.{Primitively}
+use Rattle.yasna_base.specs.Integer.{IsSigned}
+use Rattle.yasna_reader.proofs.Leaf.{leaf_decodes}
+use Rattle.yasna.proofs.primitive.I16BERDecodable.decode_ber.Goals as goal
+
+pub returns : goal.returns
+returns c = leaf_decodes (Primitively (IsSigned w16)) 2 (λ e. omega arith) c.args.reader.now c.read_i16.result c.read_i16.new.self c.requires c.read_i16.ensures
