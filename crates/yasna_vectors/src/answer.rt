@@ -1,4 +1,6 @@
 //! Answers as text, and the list of families.
+ghost use Rattle.std.specs.Prelude.{◌≡◌, ◌++◌, OnOk, string_bytes};
+ghost use Rattle.hex.specs.Hex.{encode_lower};
 
 use crate::line::Case;
 use crate::nest::Nest;
@@ -97,11 +99,11 @@ impl Shown for u16 {
 }
 
 /// Appends bytes in hexadecimal.
-pub fn show_bytes(bytes: &[u8], text: &mut String) -> Result<(), AllocError> {
-    for byte in bytes {
-        write!(text, "{byte:02x}")?;
-    }
-    Ok(())
+pub fn show_bytes(bytes: &[u8], text: &mut String) -> Result<(), AllocError>
+    ensures { OnOk result (string_bytes text.new ≡ string_bytes text.old ++ encode_lower bytes.now) }
+{
+    let digits = hex::encode(*text.allocator(), bytes)?;
+    text.push_str(digits.as_str())
 }
 
 /// The answer `ok`, with a value and what was written of it.

@@ -1,8 +1,9 @@
 //! What a line says.
-ghost use Rattle.std.specs.Prelude.{◌≡◌, ◌++◌, ◌∷◌, IfSome};
+ghost use Rattle.std.specs.Prelude.{◌≡◌, ◌≢◌, ◌++◌, ◌∷◌, IfSome, IfNone, IfOk, IsErr, codes, []};
+ghost use Rattle.hex.specs.Hex.{decode_of};
 
-use std::alloc::{AllocError, Global};
 use hex::FromHexError;
+use std::alloc::{AllocError, Global};
 use yasna::BERMode;
 
 /// A call, and what it is made on.
@@ -74,7 +75,11 @@ impl<'a> Line<'a> {
 }
 
 /// The bytes that a text in hexadecimal stands for, `-` for none.
-pub fn bytes_of(alloc: Global, text: &str) -> Option<Result<Vec<u8>, AllocError>> {
+pub fn bytes_of(alloc: Global, text: &str) -> Option<Result<Vec<u8>, AllocError>>
+    ensures bytes { text.now ≢ codes "-" → IfSome result (λ found. IfOk found (λ bytes. decode_of text.now ≡ Ok bytes.items)) }
+    ensures dash { text.now ≡ codes "-" → IfSome result (λ found. IfOk found (λ bytes. bytes.items ≡ [])) }
+    ensures none { IfNone result (IsErr (decode_of text.now)) }
+{
     if text == "-" {
         return Some(Ok(Vec::new(alloc)));
     }

@@ -19,7 +19,10 @@ pub fn answer(alloc: Global, case: &Case) -> Answer {
         Err(lack) => return Some(Err(lack)),
     };
     Some(match case.call {
-        "mode" => shown(alloc, parse_ber_general(alloc, &bytes, mode, |reader| Ok(reader.mode()))),
+        "mode" => shown(
+            alloc,
+            parse_ber_general(alloc, &bytes, mode, |reader| Ok(reader.mode())),
+        ),
         "seq_mode" => shown(
             alloc,
             parse_ber_general(

@@ -75,9 +75,10 @@ impl Family for Primitive {
             Primitive::U32 => reader.read_u32().map(Scalar::U32),
             Primitive::U16 => reader.read_u16().map(Scalar::U16),
             Primitive::U8 => reader.read_u8().map(Scalar::U8),
-            Primitive::BigInteger => reader
-                .read_bigint_bytes()
-                .map(|(contents, positive)| Scalar::BigInteger(contents, positive)),
+            Primitive::BigInteger => reader.read_bigint_bytes().map(|(
+                contents,
+                positive,
+            )| Scalar::BigInteger(contents, positive)),
         }
     }
 }

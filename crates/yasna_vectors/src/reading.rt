@@ -41,7 +41,10 @@ pub fn answer<F: Family>(alloc: Global, case: &Case) -> Answer {
             construct_der(alloc, |writer| value.write(writer)),
         )),
         Err(error) if case.marked || second.is_some() => {
-            let both = Both { first: call, second };
+            let both = Both {
+                first: call,
+                second,
+            };
             marked(alloc, mode, both, &bytes, error.kind())
         }
         Err(error) => Some(refused(alloc, error.kind())),
@@ -127,7 +130,8 @@ fn mark(
     match (kinds.second, parsed) {
         (Some(second), Some(whole)) if second == kind && whole == kind => "moved",
         (None, None) => "unmoved",
-        (Some(second), None | Some(ASN1ErrorKind::Extra)) if second == kind && !differs => "unmoved",
+        (Some(second), None | Some(ASN1ErrorKind::Extra)) if second == kind && !differs =>
+            "unmoved",
         _ => "neither moved nor unmoved",
     }
 }

@@ -2,7 +2,7 @@
 
 use crate::answer::answer;
 use crate::line::{Case, Line};
-use std::io::{self, BufRead, BufReader, BufWriter, Write};
+use std::io::{self, BufWriter, Write};
 
 /// How a run ended.
 pub enum Verdict {
@@ -17,10 +17,10 @@ pub enum Verdict {
 /// Prints an answer for each line that has none.
 pub fn answer_lines(rt: &(impl Input + Print + AllocGlobal)) -> io::Result<Verdict> {
     let alloc = rt.alloc();
+    let input = io::read_to_string(alloc, rt.reader())?;
     let mut output = BufWriter::new(alloc, io::writer(rt))?;
-    for line in BufReader::new(alloc, rt.reader())?.lines(alloc) {
-        let line = line?;
-        let came = match Case::parse(line.as_str(), false) {
+    for line in input.lines() {
+        let came = match Case::parse(line, false) {
             Some(case) => answer(alloc, &case),
             None => None,
         };
@@ -36,15 +36,15 @@ pub fn answer_lines(rt: &(impl Input + Print + AllocGlobal)) -> io::Result<Verdi
 /// Checks the answer of each line, and says how many there were.
 pub fn check_lines(rt: &(impl Input + Print + AllocGlobal)) -> io::Result<Verdict> {
     let alloc = rt.alloc();
+    let input = io::read_to_string(alloc, rt.reader())?;
     let mut output = BufWriter::new(alloc, io::writer(rt))?;
     let mut count = 0u64;
     let mut failed = 0u64;
-    for line in BufReader::new(alloc, rt.reader())?.lines(alloc) {
-        let text = line?;
+    for text in input.lines() {
         if text.is_empty() || text.starts_with('#') {
             continue;
         }
-        let Some(line) = Line::parse(text.as_str()) else {
+        let Some(line) = Line::parse(text) else {
             writeln!(output, "no line: {text}")?;
             output.flush()?;
             return Ok(Verdict::NoLine);
@@ -63,5 +63,9 @@ pub fn check_lines(rt: &(impl Input + Print + AllocGlobal)) -> io::Result<Verdic
     }
     writeln!(output, "{count} lines, {failed} failed")?;
     output.flush()?;
-    Ok(if failed == 0 { Verdict::Right } else { Verdict::Wrong })
+    Ok(if failed == 0 {
+        Verdict::Right
+    } else {
+        Verdict::Wrong
+    })
 }

@@ -4,6 +4,7 @@
 //! |---|---|
 //! | `seq_ib` | INTEGER as an `i64`, BOOLEAN |
 //! | `seq_i` | INTEGER as an `i64` |
+//! | `seq_sb` | SEQUENCE of an INTEGER, BOOLEAN |
 //! | `seq_empty` | none |
 
 use crate::answer::{Shown, Value};
@@ -16,6 +17,7 @@ use yasna::{ASN1Result, BERReader, DERWriter, DERWriterSeq};
 pub enum Sequence {
     IntegerBoolean,
     Integer,
+    SequenceBoolean,
     Empty,
 }
 
@@ -24,6 +26,7 @@ pub enum Sequence {
 pub enum Parts {
     IntegerBoolean(i64, bool),
     Integer(i64),
+    SequenceBoolean(i64, bool),
     Empty,
 }
 
@@ -34,6 +37,7 @@ impl Family for Sequence {
         match name {
             "seq_ib" => Some(Sequence::IntegerBoolean),
             "seq_i" => Some(Sequence::Integer),
+            "seq_sb" => Some(Sequence::SequenceBoolean),
             "seq_empty" => Some(Sequence::Empty),
             _ => None,
         }
@@ -47,6 +51,11 @@ impl Family for Sequence {
                 Ok(Parts::IntegerBoolean(number, flag))
             }
             Sequence::Integer => seq.next().read_i64().map(Parts::Integer),
+            Sequence::SequenceBoolean => {
+                let number = seq.next().read_sequence(|inner| inner.next().read_i64())?;
+                let flag = seq.next().read_bool()?;
+                Ok(Parts::SequenceBoolean(number, flag))
+            }
             Sequence::Empty => Ok(Parts::Empty),
         })
     }
@@ -59,12 +68,14 @@ impl Parts {
         match call {
             Sequence::IntegerBoolean => {
                 let (number, flag) = inner.split_once(',')?;
-                Some(Parts::IntegerBoolean(
-                    number.parse().ok()?,
-                    flag.parse().ok()?,
-                ))
+                Some(Parts::IntegerBoolean(number.parse().ok()?, flag.parse().ok()?))
             }
             Sequence::Integer => Some(Parts::Integer(inner.parse().ok()?)),
+            Sequence::SequenceBoolean => {
+                let (number, flag) = inner.split_once(',')?;
+                let number = number.strip_prefix('(')?.strip_suffix(')')?;
+                Some(Parts::SequenceBoolean(number.parse().ok()?, flag.parse().ok()?))
+            }
             Sequence::Empty if inner.is_empty() => Some(Parts::Empty),
             Sequence::Empty => None,
         }
@@ -78,6 +89,11 @@ impl Parts {
                 seq.next().write_bool(flag)
             }
             Parts::Integer(number) => seq.next().write_i64(number),
+            Parts::SequenceBoolean(number, flag) => {
+                seq.next()
+                    .write_sequence(|inner| inner.next().write_i64(number))?;
+                seq.next().write_bool(flag)
+            }
             Parts::Empty => Ok(()),
         }
     }
@@ -88,6 +104,7 @@ impl Shown for Parts {
         match self {
             Parts::IntegerBoolean(number, flag) => write!(text, "({number},{flag})"),
             Parts::Integer(number) => write!(text, "({number})"),
+            Parts::SequenceBoolean(number, flag) => write!(text, "(({number}),{flag})"),
             Parts::Empty => text.push_str("()"),
         }
     }
