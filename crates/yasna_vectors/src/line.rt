@@ -1,5 +1,7 @@
 //! What a line says.
-ghost use Rattle.std.specs.Prelude.{◌≡◌, ◌≢◌, ◌++◌, ◌∷◌, IfSome, IfNone, IfOk, IsErr, codes, []};
+ghost use Rattle.std.specs.Prelude.{◌≡◌, ◌≢◌, ◌++◌, ◌∷◌, IfSome, IfNone, IfOk, IsErr, codes, [], ◌⊎◌};
+ghost use Rattle.std.specs.List.{before_first};
+ghost use Rattle.yasna_vectors.specs.Words.{is_space, others, HasNoSpace};
 ghost use Rattle.hex.specs.Hex.{decode_of};
 
 use hex::FromHexError;
@@ -28,7 +30,10 @@ pub struct Line<'a> {
 
 /// Splits a text at the first space and at the next one.
 pub fn three_words(text: &str) -> Option<(&str, &str, &str)>
-    ensures { IfSome result (λ words. text.now ≡ words.0.now ++ (32 ∷ (words.1.now ++ (32 ∷ words.2.now)))) }
+    ensures words { IfSome result (λ w. text.now ≡ w.0.now ++ (32 ∷ (w.1.now ++ (32 ∷ w.2.now)))) }
+    ensures first { IfSome result (λ w. w.0.now ≡ before_first is_space text.now) }
+    ensures second { IfSome result (λ w. w.1.now ≡ before_first is_space (others text.now)) }
+    ensures none { IfNone result (HasNoSpace text.now ⊎ HasNoSpace (others text.now)) }
 {
     let (first, others) = text.split_once(' ')?;
     let (second, third) = others.split_once(' ')?;
