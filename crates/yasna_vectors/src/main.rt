@@ -1,117 +1,78 @@
-//! Vectors of BER and DER, run through the public calls.
+//! Lines of calls and answers, run through the public calls of `yasna`.
 //!
-//! A vector is data: bytes, a value, and the calls that lead from one to the other. The tests run all of them with
-//! ample memory. The program runs one of them, with one request for memory refused: it reads the vector's number, two
-//! bytes, and the request's, one byte, and makes as many requests of its own first as are needed for the vector's to
-//! be request number 200 of the process, which whoever runs the program makes fail.
+//! A line is `MODE CALL ARG => ANSWER`. MODE is `ber` or `der` where bytes are read, `x` elsewhere. ARG is the bytes in
+//! hexadecimal, `-` for none, unless the call says otherwise. ANSWER is `ok VALUE HEX`, where HEX is what the matching
+//! writes make of the value in DER, or `err KIND`. Behind a refused read may stand ` moved` or ` unmoved`: then the call
+//! is made twice in a SEQUENCE around ARG, and says whether the failure is kept. Lines that begin with `#` and blank
+//! lines are passed over.
+//!
+//! With no argument the program reads such lines from standard input, and says how many ran and how many failed; each
+//! that failed is printed with what came. With the argument `answer` it reads lines with no answer, and prints one each,
+//! `unknown` where it has no such call.
+//!
+//! | Status | When |
+//! |---|---|
+//! | 0 | no line failed |
+//! | 1 | a line failed |
+//! | 2 | a line is none, or names no call, or the arguments are others |
+//! | 3 | a read or a write failed |
+//! | 4 | there was no memory for the program itself |
 //!
 //! | Module | Holds |
 //! |---|---|
-//! | `vector` | what a vector is |
-//! | `reading`, `writing` | the calls |
-//! | `integers`, `big_integers`, `enumerated`, `booleans`, `nulls`, `sequences` | vectors, by type |
-//! | `nests` | vectors of sequences in sequences, as one type |
-//! | `refusals` | vectors that say why a read is refused, and what becomes of the failure |
-//! | `failures` | vectors of failures that a callback throws away |
-//! | `levels` | vectors that nest as deep as may be, and one level deeper |
-//! | `wholes` | vectors of the calls around a reading or a writing |
+//! | `line` | what a line says |
+//! | `run` | all lines, one after the other |
+//! | `answer` | answers as text, and the list of families |
+//! | `reading` | how a call of a family that reads is made |
+//! | `primitive`, `sequence`, `nest`, `swallow` | the families that read |
+//! | `whole` | types that are read and written as a whole |
+//! | `writing`, `length` | calls that write |
+//! | `tag`, `refusal`, `mode` | tags, the texts of refusals, the mode that a callback sees |
 #![tactic(auto)]
 
-mod big_integers;
-mod booleans;
-mod enumerated;
-mod failures;
-mod integers;
-mod known;
-#[cfg(test)]
-mod lengths;
-mod levels;
-mod nests;
-mod nulls;
+mod answer;
+mod length;
+mod line;
+mod mode;
+mod nest;
+mod primitive;
 mod reading;
-mod refusals;
-mod sequences;
-#[cfg(test)]
-mod tags;
-#[cfg(test)]
-mod tests;
-mod third_party;
-mod vector;
-mod wholes;
+mod refusal;
+mod run;
+mod sequence;
+mod swallow;
+mod tag;
+mod whole;
 mod writing;
 
-use crate::vector::{Answer, Vector, first_mismatch};
-use std::alloc::Global;
-use std::io::{self, Read};
+use run::Verdict;
 use std::process::ExitCode;
-use yasna::ASN1ErrorKind;
+use std::{env, io};
 
-// Which request of the process is refused.
-const REFUSED: u8 = 200;
-
-const GROUPS: [&[Vector]; 11] = [
-    integers::VECTORS,
-    big_integers::VECTORS,
-    enumerated::VECTORS,
-    booleans::VECTORS,
-    nulls::VECTORS,
-    sequences::VECTORS,
-    nests::VECTORS,
-    refusals::VECTORS,
-    failures::VECTORS,
-    levels::VECTORS,
-    wholes::VECTORS,
-];
-
-// The vector of this number, counted through all groups.
-fn vector_at(number: u16) -> Option<&'static Vector> {
-    let mut left = usize::from(number);
-    for group in GROUPS {
-        if let Some(vector) = group.get(left) {
-            return Some(vector);
-        }
-        left = left.saturating_sub(group.len());
-    }
-    None
-}
-
-// Makes so many requests: was one refused?
-fn is_refused(alloc: Global, count: u8) -> bool {
-    for _ in 0..count {
-        if Box::new(alloc, 0u8).is_err() {
-            return true;
+fn main(rt: HostRuntime) -> ExitCode {
+    match verdict(&rt) {
+        Ok(Verdict::Right) => ExitCode::SUCCESS,
+        Ok(Verdict::Wrong) => ExitCode::from(1),
+        Ok(Verdict::NoLine) => ExitCode::from(2),
+        Err(error) => {
+            let _ = eprintln!(rt; "{error}");
+            match error.kind() {
+                io::ErrorKind::OutOfMemory => ExitCode::from(4),
+                _ => ExitCode::from(3),
+            }
         }
     }
-    false
 }
 
-fn main(rt: HostRuntime) -> io::Result<ExitCode> {
-    let mut input = [0u8; 3];
-    rt.stdin().read_exact(&mut input)?;
-    let [high, low, request] = input;
-    let Some(vector) = vector_at(u16::from_be_bytes([high, low])) else {
-        println!(rt; "no vector")?;
-        return Ok(ExitCode::from(2));
+// Runs what the arguments ask for.
+fn verdict(rt: &HostRuntime) -> io::Result<Verdict> {
+    let words = env::args(rt)?.skip(1).collect::<Vec<String>>(rt.alloc())?;
+    let Some(word) = words.first() else {
+        return run::check_lines(rt);
     };
-    let _ = is_refused(rt.alloc(), REFUSED.saturating_sub(request));
-    let mismatch = first_mismatch(rt.alloc(), vector);
-    let spared = is_refused(rt.alloc(), request);
-    match mismatch {
-        None => {
-            if spared {
-                println!(rt; "ample")?;
-            } else {
-                println!(rt; "right")?;
-            }
-            Ok(ExitCode::SUCCESS)
-        }
-        Some(mismatch) => {
-            if mismatch.answer.as_slices() == Answer::Refused(ASN1ErrorKind::OutOfMemory) {
-                println!(rt; "refused")?;
-                return Ok(ExitCode::SUCCESS);
-            }
-            println!(rt; "wrong: {mismatch:?}")?;
-            Ok(ExitCode::FAILURE)
-        }
+    if word.as_str() == "answer" {
+        return run::answer_lines(rt);
     }
+    eprintln!(rt; "usage: yasna_vectors [answer]")?;
+    Ok(Verdict::NoLine)
 }

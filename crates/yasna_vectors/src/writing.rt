@@ -1,28 +1,44 @@
-//! The calls by which a vector's value is written.
+//! Calls that write, by each of the calls around a writing.
+//!
+//! | Call | Around |
+//! |---|---|
+//! | `w:NAME` | construct_der |
+//! | `tw:NAME` | try_construct_der, with an error type of the caller's own |
+//! | `ws:NAME` | construct_der_seq |
+//! | `tws:NAME` | try_construct_der_seq, with an error type of the caller's own |
+//!
+//! ARG is the value, as an answer shows it. NAME is a primitive call or one of a sequence, or:
+//!
+//! | NAME | Body |
+//! |---|---|
+//! | `nest` | as many sequences one in the other as ARG says, around the INTEGER 10 |
+//! | `nothing` | no call; Ok |
+//! | `refused` | write_sequence of write_i64, whose closure then answers Err(Invalid) |
+//! | `thrown` | `refused`, thrown away |
+//!
+//! `ws` and `tws` write parts of a sequence with no header around them.
 
-use crate::vector::{Answer, Given, Known, Type, Width, Write, Writing};
-use std::alloc::Global;
+use crate::answer::{Answer, Shown, Value, refused, written};
+use crate::line::Case;
+use crate::nest::Nested;
+use crate::primitive::{Primitive, Scalar};
+use crate::reading::Family;
+use crate::sequence::{Parts, Sequence};
+use std::alloc::{AllocError, Global};
 use yasna::{
-    ASN1Error, ASN1ErrorKind, ASN1Result, DERWriter, DERWriterSeq, construct_der,
-    construct_der_seq, encode_der, try_construct_der, try_construct_der_seq,
+    ASN1Error, ASN1ErrorKind, ASN1Result, DERWriter, construct_der, construct_der_seq,
+    try_construct_der, try_construct_der_seq,
 };
 
-/// What writing the value in this way answers: `Invalid` where the call writes no such value.
-pub fn written_by(alloc: Global, writing: Writing, value: &Known) -> Given {
-    let bytes = match writing {
-        Writing::Construct(call) => construct_der(
-            alloc,
-            |writer| write(alloc, writer, call, value),
-        ),
-        Writing::TryConstruct(call) => return tried(alloc, call, value),
-        Writing::ConstructParts => construct_der_seq(alloc, |seq| write_parts(seq, value)),
-        Writing::TryConstructParts => return tried_parts(alloc, value),
-        Writing::Encode(whole) => encoded(alloc, whole, value),
-    };
-    match bytes {
-        Ok(bytes) => Answer::Bytes(bytes),
-        Err(error) => Answer::Refused(error.kind()),
-    }
+/// What is written.
+#[derive(Drop)]
+enum Written {
+    Scalar(Scalar),
+    Parts(Parts),
+    Nested(Nested),
+    Nothing,
+    Refused(i64),
+    Thrown(i64),
 }
 
 /// The error type of a caller of its own.
@@ -42,161 +58,96 @@ impl From<ASN1Error> for Fault {
     }
 }
 
-// What `try_construct_der` answers.
-fn tried(alloc: Global, call: Write, value: &Known) -> Given {
-    untried(try_construct_der(alloc, |writer| Ok(write(alloc, writer, call, value)?)))
+/// What a call of this family answers.
+pub fn answer(alloc: Global, case: &Case) -> Answer {
+    let (around, name) = case.call.split_once(':')?;
+    if around == "ws" || around == "tws" {
+        return parts_answer(alloc, around == "tws", name, case.arg);
+    }
+    let value = match value(alloc, name, case.arg)? {
+        Ok(value) => value,
+        Err(lack) => return Some(Err(lack)),
+    };
+    let form = match around {
+        "w" => construct_der(alloc, |writer| value.write(writer)),
+        "tw" => tried(try_construct_der(alloc, |writer| Ok(value.write(writer)?))),
+        _ => return None,
+    };
+    Some(written(alloc, &value, form))
 }
 
-// What `try_construct_der_seq` answers.
-fn tried_parts(alloc: Global, value: &Known) -> Given {
-    untried(try_construct_der_seq(alloc, |seq| Ok(write_parts(seq, value)?)))
+// What writing parts with no header around them answers.
+fn parts_answer(alloc: Global, tries: bool, name: &str, arg: &str) -> Answer {
+    let parts = Parts::parse(Sequence::named(name)?, arg)?;
+    let form = if tries {
+        tried(try_construct_der_seq(alloc, |seq| Ok(parts.write_parts(seq)?)))
+    } else {
+        construct_der_seq(alloc, |seq| parts.write_parts(seq))
+    };
+    Some(written(alloc, &parts, form))
 }
 
-// The answer of a call with an error type of its own.
-fn untried(bytes: Result<Vec<u8>, Fault>) -> Given {
-    match bytes {
-        Ok(bytes) => Answer::Bytes(bytes),
-        Err(Fault::Writing(error)) => Answer::Refused(error.kind()),
+// The answer of a call with an error type of the caller's own.
+fn tried(form: Result<Vec<u8>, Fault>) -> ASN1Result<Vec<u8>> {
+    form.map_err(|fault| match fault {
+        Fault::Writing(error) => error,
+    })
+}
+
+// The value of this name and argument.
+fn value(alloc: Global, name: &str, arg: &str) -> Option<Result<Written, AllocError>> {
+    if let Some(primitive) = Primitive::named(name) {
+        return Some(primitive.value(alloc, arg)?.map(Written::Scalar));
+    }
+    if let Some(sequence) = Sequence::named(name) {
+        return Some(Ok(Written::Parts(Parts::parse(sequence, arg)?)));
+    }
+    let value = match name {
+        "nest" => Written::Nested(Nested {
+            depth: arg.parse().ok()?,
+            number: 10,
+        }),
+        "nothing" => Written::Nothing,
+        "refused" => Written::Refused(arg.parse().ok()?),
+        "thrown" => Written::Thrown(arg.parse().ok()?),
+        _ => return None,
+    };
+    Some(Ok(value))
+}
+
+impl Shown for Written {
+    fn show(&self, text: &mut String) -> Result<(), AllocError> {
+        match self {
+            Written::Scalar(scalar) => scalar.show(text),
+            Written::Parts(parts) => parts.show(text),
+            Written::Nested(nested) => nested.show(text),
+            Written::Nothing => text.push_str("()"),
+            Written::Refused(number) => write!(text, "{number}"),
+            Written::Thrown(number) => write!(text, "{number}"),
+        }
     }
 }
 
-// The refusal of a value that a call doesn't write.
-fn misfit() -> ASN1Error {
-    ASN1Error::new(ASN1ErrorKind::Invalid)
-}
-
-// The number as an `i64`.
-fn signed(number: i128) -> ASN1Result<i64> {
-    i64::try_from(number).or(Err(misfit()))
-}
-
-// Makes a call on a writer.
-fn write(alloc: Global, writer: DERWriter<'_>, call: Write, value: &Known) -> ASN1Result<()> {
-    match (call, value) {
-        (Write::Bool, Answer::Flag(flag)) => writer.write_bool(*flag),
-        (Write::Null, Answer::Nothing) => writer.write_null(),
-        (Write::Enum, Answer::Number(number)) => writer.write_enum(signed(*number)?),
-        (Write::Number(width), Answer::Number(number)) => write_number(writer, width, *number),
-        (Write::BigInteger(more), Answer::BigInteger(bytes, positive)) => {
-            write_longer(alloc, writer, more, bytes, *positive)
+impl Value for Written {
+    fn write(&self, writer: DERWriter<'_>) -> ASN1Result<()> {
+        match self {
+            Written::Scalar(scalar) => scalar.write(writer),
+            Written::Parts(parts) => parts.write(writer),
+            Written::Nested(nested) => nested.write(writer),
+            Written::Nothing => Ok(()),
+            Written::Refused(number) => write_refused(writer, *number),
+            Written::Thrown(number) => {
+                let _ = write_refused(writer, *number);
+                Ok(())
+            }
         }
-        (Write::Parts, _) => writer.write_sequence(|seq| write_parts(seq, value)),
-        (Write::Refused, Answer::Number(number)) => write_refused(writer, signed(*number)?),
-        (Write::ThrownAway, Answer::Number(number)) => {
-            let _ = write_refused(writer, signed(*number)?);
-            Ok(())
-        }
-        (Write::Nested(depth), Answer::Number(number)) => write_nested(
-            writer,
-            depth,
-            signed(*number)?,
-        ),
-        (Write::Nothing, Answer::Nothing) => Ok(()),
-        _ => Err(misfit()),
     }
 }
 
-// Writes the parts of a pair, or none.
-fn write_parts(seq: &mut DERWriterSeq, value: &Known) -> ASN1Result<()> {
-    match value {
-        Answer::Pair(number, flag) => {
-            seq.next().write_i64(*number)?;
-            seq.next().write_bool(*flag)
-        }
-        Answer::Nothing => Ok(()),
-        _ => Err(misfit()),
-    }
-}
-
-// Writes a number in a sequence whose closure answers an `Err`.
+// Writes a number in a sequence whose closure answers an Err.
 fn write_refused(writer: DERWriter<'_>, number: i64) -> ASN1Result<()> {
     writer.write_sequence(|seq| {
         seq.next().write_i64(number)?;
         Err(ASN1Error::new(ASN1ErrorKind::Invalid))
     })
-}
-
-// Writes sequences, so many one in the other, around a number.
-fn write_nested(writer: DERWriter<'_>, depth: u8, number: i64) -> ASN1Result<()> {
-    match depth.checked_sub(1) {
-        None => writer.write_i64(number),
-        Some(below) => writer.write_sequence(|seq| write_inner(seq, below, number)),
-    }
-}
-
-// The same in the contents of a sequence.
-fn write_inner(seq: &mut DERWriterSeq, depth: u8, number: i64) -> ASN1Result<()> {
-    match depth.checked_sub(1) {
-        None => seq.next().write_i64(number),
-        Some(below) => seq
-            .next()
-            .write_sequence(|inner| write_inner(inner, below, number)),
-    }
-}
-
-// Writes an INTEGER as one of the number types.
-fn write_number(writer: DERWriter<'_>, width: Width, number: i128) -> ASN1Result<()> {
-    match width {
-        Width::I64 => writer.write_i64(signed(number)?),
-        Width::I32 => writer.write_i32(i32::try_from(number).or(Err(misfit()))?),
-        Width::I16 => writer.write_i16(i16::try_from(number).or(Err(misfit()))?),
-        Width::I8 => writer.write_i8(i8::try_from(number).or(Err(misfit()))?),
-        Width::U64 => writer.write_u64(u64::try_from(number).or(Err(misfit()))?),
-        Width::U32 => writer.write_u32(u32::try_from(number).or(Err(misfit()))?),
-        Width::U16 => writer.write_u16(u16::try_from(number).or(Err(misfit()))?),
-        Width::U8 => writer.write_u8(u8::try_from(number).or(Err(misfit()))?),
-    }
-}
-
-// Writes the number of these bytes and this sign behind so many bytes of the sign.
-fn write_longer(
-    alloc: Global,
-    writer: DERWriter<'_>,
-    more: u8,
-    bytes: &[u8],
-    positive: bool,
-) -> ASN1Result<()> {
-    let mut longer = Vec::new(alloc);
-    for _ in 0..more {
-        longer.push(if positive { 0 } else { 255 }).or(Err(lack()))?;
-    }
-    longer.extend_from_slice(bytes).or(Err(lack()))?;
-    writer.write_bigint_bytes(longer.as_slice(), positive)
-}
-
-// The refusal for want of memory.
-fn lack() -> ASN1Error {
-    ASN1Error::new(ASN1ErrorKind::OutOfMemory)
-}
-
-// The value as a whole.
-fn encoded(alloc: Global, whole: Type, value: &Known) -> ASN1Result<Vec<u8>> {
-    match (whole, value) {
-        (Type::Unit, Answer::Nothing) => encode_der(alloc, &()),
-        (Type::Bool, Answer::Flag(flag)) => encode_der(alloc, flag),
-        (Type::Pair, Answer::Pair(number, flag)) => encode_der(alloc, &(*number, *flag)),
-        (Type::Pairs, Answer::Pairs(number, flag, other, last)) => encode_der(
-            alloc,
-            &((*number, *flag), (*other, *last)),
-        ),
-        (Type::Deep, Answer::Deep(flag, number, other)) => encode_der(
-            alloc,
-            &(*flag, (*number, (*other, ()))),
-        ),
-        (_, Answer::Number(number)) => encoded_number(alloc, whole, *number),
-        _ => Err(misfit()),
-    }
-}
-
-// A number as a whole.
-fn encoded_number(alloc: Global, whole: Type, number: i128) -> ASN1Result<Vec<u8>> {
-    match whole {
-        Type::I64 => encode_der(alloc, &signed(number)?),
-        Type::I32 => encode_der(alloc, &i32::try_from(number).or(Err(misfit()))?),
-        Type::I16 => encode_der(alloc, &i16::try_from(number).or(Err(misfit()))?),
-        Type::U64 => encode_der(alloc, &u64::try_from(number).or(Err(misfit()))?),
-        Type::U32 => encode_der(alloc, &u32::try_from(number).or(Err(misfit()))?),
-        Type::U16 => encode_der(alloc, &u16::try_from(number).or(Err(misfit()))?),
-        _ => Err(misfit()),
-    }
 }

@@ -1,0 +1,17 @@
+//! What a user of `yasna` writes, and what is proved of it.
+//!
+//! The crate stands on `yasna` alone, as a user's does: its contracts and proofs name only what `yasna` hands on.
+//!
+//! | Module | Holds |
+//! |---|---|
+//! | `known` | calls whose closures are known: their exact results follow from the contracts of `yasna` |
+//! | `third_party` | types of one's own: one that is read and written as a tuple, one step by step |
+#![tactic(auto)]
+
+mod known;
+#[cfg(test)]
+mod tests;
+mod third_party;
+
+pub use known::{constructed_integer, parsed_integer};
+pub use third_party::{Measurement, Version};

@@ -1,0 +1,132 @@
+//! Answers as text, and the list of families.
+ghost use Rattle.std.specs.Prelude.{◌≡◌, ◌++◌, OnOk, string_bytes};
+ghost use Rattle.hex.specs.Hex.{encode_lower};
+
+use crate::line::Case;
+use crate::nest::Nest;
+use crate::primitive::Primitive;
+use crate::sequence::Sequence;
+use crate::swallow::Swallow;
+use crate::{length, mode, reading, refusal, tag, whole, writing};
+use std::alloc::{AllocError, Global};
+use yasna::{ASN1ErrorKind, ASN1Result, DERWriter};
+
+/// The text of an answer; none where there is no such call, or no such argument of it.
+pub type Answer = Option<Result<String, AllocError>>;
+
+/// What the call of a case answers, in the first family that has it.
+pub fn answer(alloc: Global, case: &Case) -> Answer {
+    reading::answer::<Primitive>(alloc, case)
+        .or_else(|| reading::answer::<Sequence>(alloc, case))
+        .or_else(|| reading::answer::<Nest>(alloc, case))
+        .or_else(|| reading::answer::<Swallow>(alloc, case))
+        .or_else(|| whole::answer(alloc, case))
+        .or_else(|| writing::answer(alloc, case))
+        .or_else(|| length::answer(alloc, case))
+        .or_else(|| tag::answer(alloc, case))
+        .or_else(|| refusal::answer(alloc, case))
+        .or_else(|| mode::answer(alloc, case))
+}
+
+/// A value that a line shows.
+pub trait Shown {
+    /// Appends the value to a text.
+    fn show(&self, text: &mut String) -> Result<(), AllocError>;
+}
+
+/// A value that its own writes write.
+pub trait Value: Shown + Drop {
+    /// Makes these writes.
+    fn write(&self, writer: DERWriter<'_>) -> ASN1Result<()>;
+}
+
+impl<A: Shown, B: Shown> Shown for (A, B) {
+    fn show(&self, text: &mut String) -> Result<(), AllocError> {
+        text.push('(')?;
+        self.0.show(text)?;
+        text.push(',')?;
+        self.1.show(text)?;
+        text.push(')')
+    }
+}
+
+impl Shown for () {
+    fn show(&self, text: &mut String) -> Result<(), AllocError> {
+        text.push_str("()")
+    }
+}
+
+impl Shown for bool {
+    fn show(&self, text: &mut String) -> Result<(), AllocError> {
+        write!(text, "{self}")
+    }
+}
+
+impl Shown for i64 {
+    fn show(&self, text: &mut String) -> Result<(), AllocError> {
+        write!(text, "{self}")
+    }
+}
+
+impl Shown for i32 {
+    fn show(&self, text: &mut String) -> Result<(), AllocError> {
+        write!(text, "{self}")
+    }
+}
+
+impl Shown for i16 {
+    fn show(&self, text: &mut String) -> Result<(), AllocError> {
+        write!(text, "{self}")
+    }
+}
+
+impl Shown for u64 {
+    fn show(&self, text: &mut String) -> Result<(), AllocError> {
+        write!(text, "{self}")
+    }
+}
+
+impl Shown for u32 {
+    fn show(&self, text: &mut String) -> Result<(), AllocError> {
+        write!(text, "{self}")
+    }
+}
+
+impl Shown for u16 {
+    fn show(&self, text: &mut String) -> Result<(), AllocError> {
+        write!(text, "{self}")
+    }
+}
+
+/// Appends bytes in hexadecimal.
+pub fn show_bytes(bytes: &[u8], text: &mut String) -> Result<(), AllocError>
+    ensures { OnOk result (string_bytes text.new ≡ string_bytes text.old ++ encode_lower bytes.now) }
+{
+    let digits = hex::encode(*text.allocator(), bytes)?;
+    text.push_str(digits.as_str())
+}
+
+/// The answer `ok`, with a value and what was written of it.
+pub fn written<V: Shown>(
+    alloc: Global,
+    value: &V,
+    form: ASN1Result<Vec<u8>>,
+) -> Result<String, AllocError> {
+    let form = match form {
+        Ok(form) => form,
+        Err(error) => return refused(alloc, error.kind()),
+    };
+    let mut text = String::from_str(alloc, "ok ")?;
+    value.show(&mut text)?;
+    text.push(' ')?;
+    if form.is_empty() {
+        text.push('-')?;
+    }
+    show_bytes(form.as_slice(), &mut text)?;
+    Ok(text)
+}
+
+/// The answer of a refusal.
+pub fn refused(alloc: Global, kind: ASN1ErrorKind) -> Result<String, AllocError> {
+    format!(in alloc; "err {kind:?}")
+}

@@ -1,0 +1,96 @@
+//! What a line says.
+ghost use Rattle.std.specs.Prelude.{◌≡◌, ◌≢◌, ◌++◌, ◌∷◌, IfSome, IfNone, IfOk, IsErr, codes, [], ◌⊎◌};
+ghost use Rattle.std.specs.List.{before_first};
+ghost use Rattle.yasna_vectors.specs.Words.{is_space, others, HasNoSpace};
+ghost use Rattle.hex.specs.Hex.{decode_of};
+
+use hex::FromHexError;
+use std::alloc::{AllocError, Global};
+use yasna::BERMode;
+
+/// A call, and what it is made on.
+#[derive(Drop)]
+pub struct Case<'a> {
+    /// The rules to read by; none where nothing is read.
+    pub mode: Option<BERMode>,
+    pub call: &'a str,
+    /// The second call in a SEQUENCE, behind a `/`.
+    pub second: Option<&'a str>,
+    pub arg: &'a str,
+    /// Whether the answer says if a refused read moved.
+    pub marked: bool,
+}
+
+/// A call, and the answer that is to come.
+#[derive(Drop)]
+pub struct Line<'a> {
+    pub case: Case<'a>,
+    pub wanted: &'a str,
+}
+
+/// Splits a text at the first space and at the next one.
+pub fn three_words(text: &str) -> Option<(&str, &str, &str)>
+    ensures words { IfSome result (λ w. text.now ≡ w.0.now ++ (32 ∷ (w.1.now ++ (32 ∷ w.2.now)))) }
+    ensures first { IfSome result (λ w. w.0.now ≡ before_first is_space text.now) }
+    ensures second { IfSome result (λ w. w.1.now ≡ before_first is_space (others text.now)) }
+    ensures none { IfNone result (HasNoSpace text.now ⊎ HasNoSpace (others text.now)) }
+{
+    let (first, others) = text.split_once(' ')?;
+    let (second, third) = others.split_once(' ')?;
+    Some((first, second, third))
+}
+
+impl<'a> Case<'a> {
+    /// The case of a line `MODE CALL ARG`.
+    pub fn parse(text: &'a str, marked: bool) -> Option<Case<'a>> {
+        let (mode, name, arg) = three_words(text)?;
+        let mode = match mode {
+            "ber" => Some(BERMode::Ber),
+            "der" => Some(BERMode::Der),
+            "x" => None,
+            _ => return None,
+        };
+        let (call, second) = match name.split_once('/') {
+            Some((call, second)) => (call, Some(second)),
+            None => (name, None),
+        };
+        Some(Case {
+            mode,
+            call,
+            second,
+            arg,
+            marked,
+        })
+    }
+
+    /// The bytes that the argument stands for, if it is such a text.
+    pub fn bytes(&self, alloc: Global) -> Option<Result<Vec<u8>, AllocError>> {
+        bytes_of(alloc, self.arg)
+    }
+}
+
+impl<'a> Line<'a> {
+    /// The line `MODE CALL ARG => ANSWER`.
+    pub fn parse(text: &'a str) -> Option<Line<'a>> {
+        let (call, wanted) = text.split_once(" => ")?;
+        let marked = wanted.ends_with("moved");
+        let case = Case::parse(call, marked)?;
+        Some(Line { case, wanted })
+    }
+}
+
+/// The bytes that a text in hexadecimal stands for, `-` for none.
+pub fn bytes_of(alloc: Global, text: &str) -> Option<Result<Vec<u8>, AllocError>>
+    ensures bytes { text.now ≢ codes "-" → IfSome result (λ found. IfOk found (λ bytes. decode_of text.now ≡ Ok bytes.items)) }
+    ensures dash { text.now ≡ codes "-" → IfSome result (λ found. IfOk found (λ bytes. bytes.items ≡ [])) }
+    ensures none { IfNone result (IsErr (decode_of text.now)) }
+{
+    if text == "-" {
+        return Some(Ok(Vec::new(alloc)));
+    }
+    match hex::decode(alloc, text) {
+        Ok(bytes) => Some(Ok(bytes)),
+        Err(FromHexError::OutOfMemory) => Some(Err(AllocError)),
+        Err(_) => None,
+    }
+}

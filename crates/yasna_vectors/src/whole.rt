@@ -1,0 +1,53 @@
+//! Types that are read and written as a whole.
+//!
+//! `d:TYPE` decodes by decode_ber or decode_der, and encodes by encode_der. `int` is `i64`, `pair` is `(i64, bool)`, `pairs`
+//! is `((i64, bool), (bool, i64))`, `deep` is `(bool, (i64, (bool, ())))`.
+
+use crate::answer::{Answer, Shown, refused, written};
+use crate::line::Case;
+use std::alloc::{AllocError, Global};
+use yasna::{BERMode, DERCanonical, decode_ber, decode_der, encode_der};
+
+type Pairs = ((i64, bool), (bool, i64));
+
+type Deep = (bool, (i64, (bool, ())));
+
+/// What a call of this family answers.
+pub fn answer(alloc: Global, case: &Case) -> Answer {
+    let mode = case.mode?;
+    let name = case.call.strip_prefix("d:")?;
+    let bytes = match case.bytes(alloc)? {
+        Ok(bytes) => bytes,
+        Err(lack) => return Some(Err(lack)),
+    };
+    Some(match name {
+        "null" => decoded::<()>(alloc, mode, &bytes),
+        "bool" => decoded::<bool>(alloc, mode, &bytes),
+        "int" => decoded::<i64>(alloc, mode, &bytes),
+        "i32" => decoded::<i32>(alloc, mode, &bytes),
+        "i16" => decoded::<i16>(alloc, mode, &bytes),
+        "u64" => decoded::<u64>(alloc, mode, &bytes),
+        "u32" => decoded::<u32>(alloc, mode, &bytes),
+        "u16" => decoded::<u16>(alloc, mode, &bytes),
+        "pair" => decoded::<(i64, bool)>(alloc, mode, &bytes),
+        "pairs" => decoded::<Pairs>(alloc, mode, &bytes),
+        "deep" => decoded::<Deep>(alloc, mode, &bytes),
+        _ => return None,
+    })
+}
+
+// What decoding answers, and encoding behind it.
+fn decoded<T: DERCanonical + Shown>(
+    alloc: Global,
+    mode: BERMode,
+    bytes: &[u8],
+) -> Result<String, AllocError> {
+    let value: T = match match mode {
+        BERMode::Ber => decode_ber(alloc, bytes),
+        BERMode::Der => decode_der(alloc, bytes),
+    } {
+        Ok(value) => value,
+        Err(error) => return refused(alloc, error.kind()),
+    };
+    written(alloc, &value, encode_der(alloc, &value))
+}
