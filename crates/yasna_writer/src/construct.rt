@@ -2,10 +2,10 @@
 ghost use Rattle.std.specs.Prelude.{◌≡◌, Result};
 ghost use Rattle.std.specs.Fn.{FnOnceTakesAtMut, FnOnceReturnsAtMut};
 ghost use Rattle.yasna_base.specs.declared.error.ASN1Error.{ASN1Error};
-ghost use Rattle.yasna_writer.specs.Written.{Written, empty_writing};
-ghost use Rattle.yasna_writer.specs.Closures.{Constructed};
+ghost use Rattle.yasna_writer.specs.View.{Written, empty_writing};
+ghost use Rattle.yasna_writer.specs.Construct.{Constructed};
 
-use crate::elements::DERWriterSeq;
+use crate::sequence::DERWriterSeq;
 use crate::state::{DERWriter, Writer};
 use std::alloc::Global;
 use yasna_base::{ASN1Error, ASN1Result};

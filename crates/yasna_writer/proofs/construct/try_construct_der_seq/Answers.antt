@@ -1,6 +1,6 @@
 use Rattle.std.proofs.Common.{refl, subst, ◌∙◌}
-use Rattle.yasna_writer.specs.Written.{Written}
-use Rattle.yasna_writer.specs.Closures.{Constructed}
+use Rattle.yasna_writer.specs.View.{Written}
+use Rattle.yasna_writer.specs.Construct.{Constructed}
 use Rattle.yasna_writer.proofs.construct.try_construct_der_seq.Goals as goal
 
 pub returns : goal.returns
