@@ -27,3 +27,6 @@ mod state;
 pub use construct::{construct_der, construct_der_seq, try_construct_der, try_construct_der_seq};
 pub use sequence::DERWriterSeq;
 pub use state::{DERWriter, Writer};
+
+#[cfg(test)]
+mod tests;

@@ -101,9 +101,9 @@ impl Writer {
         ensures kind { kind_of result ≡ OutOfMemory }
         ensures kept { self.new ≡ record self.old { kept = Some result } }
     {
-        let error = ASN1Error::new(ASN1ErrorKind::OutOfMemory);
-        self.kept = Some(error);
-        error
+        let lack = ASN1Error::new(ASN1ErrorKind::OutOfMemory);
+        self.kept = Some(lack);
+        lack
     }
 
     // Appends bytes, or keeps want of memory.

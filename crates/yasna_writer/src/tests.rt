@@ -1,0 +1,52 @@
+//! What vectors can't say: long tags, and writers that a closure exchanges.
+use crate::construct_der;
+use crate::header::{Header, append_header};
+use std::mem;
+use std::process::Abort;
+use std::test::Fail;
+use yasna_base::{ASN1Error, ASN1ErrorKind, ASN1Result, Tag, TagClass};
+
+// A writing answered just these bytes.
+fn is_written(rt: &impl Abort, written: ASN1Result<Vec<u8>>, bytes: &[u8]) {
+    match written {
+        Ok(written) => assert_eq!(rt; written.as_slice(), bytes),
+        Err(e) => assert!(rt; false, "{e}"),
+    }
+}
+
+#[test]
+fn long_tags(rt: HostRuntime) -> Result<(), Fail> {
+    let mut out = Vec::new(rt.alloc());
+    let tag = Tag {
+        tag_class: TagClass::ContextSpecific,
+        tag_number: 345678,
+    };
+    append_header(&mut out, Header { tag, length: 128 })?;
+    assert_eq!(rt; out.as_slice(), &[191, 149, 140, 78, 129, 128][..]);
+    Ok(())
+}
+
+// Each element ends over what the writer holds then, from its own place on: the inner one, which began in front of all
+// bytes, around the BOOLEAN, and the outer one, which began behind it, where nothing is left, as `Invalid`.
+#[test]
+fn exchanged_writers(rt: HostRuntime) {
+    let alloc = rt.alloc();
+    let outer = construct_der(alloc, |writer| {
+        writer.write_sequence(|around| {
+            around.next().write_bool(true)?;
+            around
+                .next()
+                .write_sequence(|outer| {
+                    let inner = construct_der(alloc, |other| {
+                        other.write_sequence(|inner| -> ASN1Result<()> {
+                            mem::swap(outer, inner);
+                            Ok(())
+                        })
+                    });
+                    is_written(&rt, inner, &[48, 3, 1, 1, 255]);
+                    Ok(())
+                })
+        })
+    });
+    assert_eq!(rt; outer.err(), Some(ASN1Error::new(ASN1ErrorKind::Invalid)));
+}
