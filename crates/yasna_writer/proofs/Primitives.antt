@@ -1,5 +1,5 @@
 -- A primitive element that is one append.
-use Rattle.std.proofs.Common.{◌≡◌, ℕ, ◌<◌, List, ◌∷◌, ◌++◌, length, None, Some, ap, ap₂, sym, ◌∙◌}
+use Rattle.std.proofs.Common.{◌≡◌, ℕ, ◌<◌, List, [], ◌∷◌, ◌++◌, length, get_or, drop, refl, None, Some, ap, ap₂, sym, ◌∙◌, arith}
 use Rattle.std.specs.Prelude.{Result, MatchResult, Option}
 use Rattle.std.proofs.lemmas.Result.{MatchResult-weaker}
 use Rattle.yasna_base.specs.declared.error.ASN1Error.{ASN1Error}
@@ -30,3 +30,23 @@ wrote_by piece bs old mid new r none taken e h =
     (MatchResult-weaker r h
     (λ _ f. f ∙ ap₂ (λ (w : Written) x. record w { bytes = w.bytes ++ x }) taken e ∙ ap (λ (k : Option ASN1Error). record old { bytes = old.bytes ++ bs; tag = None; kept = k }) none)
     (λ k f. f))
+
+-- eight bytes one by one
+pub eight_bytes : (b : List ℕ) → length b ≡ 8 → b ≡ get_or b 0 0 ∷ get_or b 1 0 ∷ get_or b 2 0 ∷ get_or b 3 0 ∷ get_or b 4 0 ∷ get_or b 5 0 ∷ get_or b 6 0 ∷ get_or b 7 0 ∷ []
+eight_bytes (a ∷ b ∷ c ∷ d ∷ e ∷ f ∷ g ∷ h ∷ []) l = refl
+eight_bytes (a ∷ b ∷ c ∷ d ∷ e ∷ f ∷ g ∷ h ∷ i ∷ x) l = absurd (omega arith)
+eight_bytes [] l = absurd (omega arith)
+eight_bytes (a ∷ []) l = absurd (omega arith)
+eight_bytes (a ∷ b ∷ []) l = absurd (omega arith)
+eight_bytes (a ∷ b ∷ c ∷ []) l = absurd (omega arith)
+eight_bytes (a ∷ b ∷ c ∷ d ∷ []) l = absurd (omega arith)
+eight_bytes (a ∷ b ∷ c ∷ d ∷ e ∷ []) l = absurd (omega arith)
+eight_bytes (a ∷ b ∷ c ∷ d ∷ e ∷ f ∷ []) l = absurd (omega arith)
+eight_bytes (a ∷ b ∷ c ∷ d ∷ e ∷ f ∷ g ∷ []) l = absurd (omega arith)
+
+-- what one append leaves of identifier, length and the last bytes
+pub appended_last : (w new : Written) (r : Result (Unit {0}) ASN1Error) (P : ASN1Error → Type 0) (t : Tag) (first from k : ℕ) (b c : List ℕ) → t.tag_number < 31 → first ≡ leading_byte t Primitive t.tag_number → k ≡ length c → k < 128 → drop from b ≡ c → MatchResult r (λ _. new ≡ record w { bytes = w.bytes ++ (first ∷ k ∷ c) }) P → MatchResult r (λ _. new ≡ record w { bytes = w.bytes ++ canonical_element w.mode t Primitive (drop from b) }) P
+appended_last w new r P t first from k b c h f l s d m =
+    MatchResult-weaker r m
+    (λ _ e. e ∙ ap (λ x. record w { bytes = w.bytes ++ x }) (short_bytes w.mode t first k c h (omega arith) f l ∙ ap (canonical_element w.mode t Primitive) (sym d)))
+    (λ e i. i)

@@ -7,7 +7,7 @@ use Rattle.yasna_base.specs.declared.tag.Tag.{Tag}
 use Rattle.yasna_base.specs.Refusal.{kind_of}
 use Rattle.yasna_writer.specs.declared.draft.Beginning.{Beginning}
 use Rattle.yasna_writer.specs.Draft.{with_element}
-use Rattle.yasna_writer.specs.View.{Written, tag_or, handed}
+use Rattle.yasna_writer.specs.View.{Written, tag_or}
 
 -- why k is kept at the end of an element that began behind n bytes, where a closure left this writing: a write of the
 -- closure failed, or there is no memory, or fewer bytes are left than there were
@@ -24,7 +24,7 @@ pub record BeginsAt (tag : Tag) (old new : Written) (b : Beginning) : Type 0 whe
   pub mode : old.mode ≡ Der
   pub tagged : b.tag ≡ tag
   pub start : b.start ≡ length old.bytes
-  pub handed : new ≡ handed old
+  pub same : new ≡ record old { tag = None }
 
 -- an element begins, or a kept failure is answered
 abbrev pub Begins : Tag → Written → Written → Result Beginning ASN1Error → Type 0

@@ -76,8 +76,7 @@ impl Writer {
         };
         let mut sequence = DERWriterSeq::over(self.lend());
         let own = f(&mut sequence);
-        *self = sequence.into_inner();
-        self.end(beginning);
+        self.end(sequence.into_inner(), beginning);
         self.settle(own)
     }
 }

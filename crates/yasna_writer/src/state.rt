@@ -4,7 +4,7 @@ ghost use Rattle.yasna_base.specs.Refusal.{kind_of};
 ghost use Rattle.yasna_base.specs.declared.error.ASN1ErrorKind.TheVariants.{OutOfMemory};
 ghost use Rattle.yasna_base.specs.Canonical.{canonical_element};
 ghost use Rattle.yasna_base.specs.declared.tag.PCBit.TheVariants.{Primitive};
-ghost use Rattle.yasna_writer.specs.View.{Written, tag_or, empty_writing, Wrote};
+ghost use Rattle.yasna_writer.specs.View.{Written, tag_or, empty_writing, handed, Wrote};
 ghost use Rattle.yasna_writer.specs.Construct.{Constructed};
 ghost use Rattle.yasna_writer.specs.Sequence.{AnswersKept};
 ghost use Rattle.yasna_writer.specs.State.{Begins, Ends};
@@ -58,13 +58,17 @@ impl Writer {
         }
     }
 
-    // Hands out the writing, for a new one.
+    // Hands out the bytes, to be written on by another writer.
     #[inline(always)]
     pub(crate) fn lend(&mut self) -> Writer
-        ensures { result ≡ self.old }
+        ensures { result ≡ handed self.old }
     {
-        let alloc = self.alloc;
-        mem::replace(self, Writer::new(alloc))
+        Writer {
+            draft: mem::replace(&mut self.draft, Draft::new(self.alloc)),
+            tag: None,
+            kept: None,
+            alloc: self.alloc,
+        }
     }
 
     // The failure that is kept.
@@ -163,11 +167,13 @@ impl Writer {
         Ok(self.draft.begin(tag))
     }
 
-    // Ends it over what is left from its beginning on, or keeps why that fails.
+    // Ends it over what the writer left that the bytes were handed to, or keeps why that fails.
     #[inline(always)]
-    pub(crate) fn end(&mut self, beginning: Beginning)
-        ensures { Ends beginning self.old self.new }
+    pub(crate) fn end(&mut self, left: Writer, beginning: Beginning)
+        ensures { Ends beginning left self.new }
     {
+        self.draft = left.draft;
+        self.kept = left.kept;
         if self.kept.is_none() {
             self.tag = None;
             if let Err(error) = self.draft.end(self.alloc, beginning) {

@@ -34,18 +34,16 @@ fn exchanged_writers(rt: HostRuntime) {
     let outer = construct_der(alloc, |writer| {
         writer.write_sequence(|around| {
             around.next().write_bool(true)?;
-            around
-                .next()
-                .write_sequence(|outer| {
-                    let inner = construct_der(alloc, |other| {
-                        other.write_sequence(|inner| -> ASN1Result<()> {
-                            mem::swap(outer, inner);
-                            Ok(())
-                        })
-                    });
-                    is_written(&rt, inner, &[48, 3, 1, 1, 255]);
-                    Ok(())
-                })
+            around.next().write_sequence(|outer| {
+                let inner = construct_der(alloc, |other| {
+                    other.write_sequence(|inner| -> ASN1Result<()> {
+                        mem::swap(outer, inner);
+                        Ok(())
+                    })
+                });
+                is_written(&rt, inner, &[48, 3, 1, 1, 255]);
+                Ok(())
+            })
         })
     });
     assert_eq!(rt; outer.err(), Some(ASN1Error::new(ASN1ErrorKind::Invalid)));

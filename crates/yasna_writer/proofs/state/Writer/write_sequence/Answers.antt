@@ -1,5 +1,5 @@
-use Rattle.std.proofs.Common.{refl, subst, ◌∙◌}
-use Rattle.yasna_writer.specs.View.{Written}
+use Rattle.std.proofs.Common.{refl, subst, ap, ◌∙◌}
+use Rattle.yasna_writer.specs.View.{Written, handed}
 use Rattle.yasna_writer.specs.State.{Ends}
 use Rattle.yasna_writer.proofs.Sequences.{ended_kept, ended_writes}
 use Rattle.yasna_writer.proofs.state.Writer.write_sequence.Goals as goal
@@ -8,7 +8,7 @@ pub returns : goal.returns
 returns g c =
     let begun = c.in-Ok.ensures {u = tt} in
     let ends = subst (λ (w : Written). Ends c.in-Ok.beginning w c.end.new.self) c.into_inner.ensures c.end.ensures in
-    let start = c.over-sequence.ensures ∙ c.lend.ensures ∙ begun.handed in
+    let start = c.over-sequence.ensures ∙ c.lend.ensures ∙ ap handed begun.same in
     rw begun.fresh (record {
       own = c.f-own.result;
       left = c.f-own.new.arg2;
