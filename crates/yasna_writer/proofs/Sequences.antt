@@ -6,6 +6,8 @@ use Rattle.yasna_base.specs.declared.mode.BERMode.TheVariants.{Der}
 use Rattle.yasna_base.specs.declared.tag.Tag.{Tag}
 use Rattle.yasna_base.specs.declared.tag.PCBit.TheVariants.{Constructed}
 use Rattle.yasna_base.specs.Canonical.{canonical_element}
+use Rattle.std.specs.Prelude.{Option}
+use Rattle.yasna_base.specs.declared.error.ASN1Error.{ASN1Error}
 use Rattle.yasna_writer.specs.declared.draft.Beginning.{Beginning}
 use Rattle.yasna_writer.specs.View.{Written, holding}
 use Rattle.yasna_writer.specs.Draft.{with_element}
@@ -29,3 +31,10 @@ module _ (t : Tag) (old between left new : Written) (b : Beginning) (begun : Beg
       ends.bytes none
       ∙ ap (λ x. holding (record old { mode = Der }) x) (element_at_seam b.tag t b.start old.bytes c left.bytes begun.start begun.tagged e)
       ∙ ap (λ (m : BERMode). holding (record old { mode = m }) (old.bytes ++ canonical_element m t Constructed c)) (sym begun.mode)
+
+-- an implicit tag that waits at the end is dropped
+pub ends_untagged : (b : Beginning) (left ended new : Written) → Ends b left ended → new ≡ record ended { tag = None } → Ends b left new
+ends_untagged b left ended new e same = record {
+  kept = subst (λ (k : Option ASN1Error). KeptAtEnd b.start left k) (sym (ap (λ (w : Written). w.kept) same)) e.kept;
+  bytes = λ none. same ∙ ap (λ (w : Written). record w { tag = None }) (e.bytes (sym (ap (λ (w : Written). w.kept) same) ∙ none));
+}

@@ -198,20 +198,18 @@ impl Draft {
         if all < beginning.start {
             return Err(ASN1Error::new(ASN1ErrorKind::Invalid));
         }
-        let header = Header {
-            tag: beginning.tag,
-            length: all - beginning.start,
-        };
+        let length = all - beginning.start;
+        let tag = beginning.tag;
         let Some(place) = innermost(&self.entries, self.waits, beginning) else {
-            return self.end_apart(alloc, beginning.start, header);
+            return self.end_apart(alloc, beginning.start, Header { tag, length });
         };
-        let heads = self.heads + header_length(header);
+        let heads = self.heads + header_length(tag, length);
         if heads > usize::MAX / 2 {
             return Err(ASN1Error::new(ASN1ErrorKind::OutOfMemory));
         }
         self.entries[beginning.entry] = Entry {
             place,
-            mark: Mark::Known(header),
+            mark: Mark::Known(Header { tag, length }),
         };
         self.heads = heads;
         self.waits -= 1;
@@ -250,7 +248,7 @@ impl Draft {
         Ok(Draft {
             contents,
             entries,
-            heads: header_length(header),
+            heads: header_length(header.tag, header.length),
             waits: 0,
         })
     }

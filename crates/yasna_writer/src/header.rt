@@ -1,5 +1,5 @@
 //! The header of an element with parts: identifier and length (X.690, 8.1.2 and 8.1.3).
-ghost use Rattle.std.specs.Prelude.{◌≡◌, ◌≤◌, ◌++◌, length, OnOk, vec_len};
+ghost use Rattle.std.specs.Prelude.{◌≡◌, ◌≤◌, ◌++◌, length as count, OnOk, vec_len};
 ghost use Rattle.yasna_writer.specs.Header.{header_bytes};
 
 use crate::identifier::{append, append_identifier, identifier_length, leading};
@@ -32,10 +32,11 @@ pub(crate) fn append_header(out: &mut Vec<u8>, header: Header) -> Result<(), All
     append_length(out, header.length)
 }
 
-// How many bytes a header takes.
-pub(crate) fn header_length(header: Header) -> usize
-    ensures octets { result ≡ length (header_bytes header) }
+// How many bytes the header of such an element takes.
+#[inline(always)]
+pub(crate) fn header_length(tag: Tag, length: usize) -> usize
+    ensures octets { result ≡ count (header_bytes (record { tag = tag; length = length })) }
     ensures few { result ≤ 20 }
 {
-    identifier_length(header.tag) + length_length(header.length)
+    identifier_length(tag) + length_length(length)
 }

@@ -97,6 +97,7 @@ pub(crate) fn append_identifier(out: &mut Vec<u8>, tag: Tag, pc: PCBit) -> Resul
 
 // How many bytes the identifier of a constructed element takes.
 #[tactic(auto, using(yasna_base::proofs::Identifier::identifier_short, yasna_base::proofs::Identifier::identifier_long, crate::proofs::Identifiers::base128_length_at_most))]
+#[inline(always)]
 pub(crate) fn identifier_length(tag: Tag) -> usize
     ensures octets { result ≡ length (identifier tag Constructed) }
     ensures few { result ≤ 11 }

@@ -6,8 +6,10 @@ ghost use Rattle.yasna_base.specs.declared.tag.PCBit.TheVariants.{Constructed};
 ghost use Rattle.yasna_base.specs.Identifier.{universal};
 ghost use Rattle.yasna_base.specs.Canonical.{canonical_element};
 ghost use Rattle.yasna_writer.specs.View.{tag_or, handed};
+ghost use Rattle.yasna_writer.specs.State.{Ends};
 ghost use Rattle.yasna_writer.specs.Sequence.{Encloses, LendsNext};
 
+use crate::draft::Beginning;
 use crate::state::{DERWriter, Writer};
 use std::marker::Model;
 use yasna_base::ASN1Error;
@@ -44,6 +46,14 @@ impl DERWriterSeq {
         self.inner
     }
 
+    // Ends the element around the parts.
+    #[inline(always)]
+    fn end(&mut self, beginning: Beginning)
+        ensures { Ends beginning self.old self.new }
+    {
+        self.inner.end(beginning);
+    }
+
     /// The writer of the next part.
     #[inline(always)]
     pub fn next(&mut self) -> DERWriter<'_>
@@ -76,7 +86,8 @@ impl Writer {
         };
         let mut sequence = DERWriterSeq::over(self.lend());
         let own = f(&mut sequence);
-        self.end(sequence.into_inner(), beginning);
+        sequence.end(beginning);
+        self.take_back(sequence.into_inner());
         self.settle(own)
     }
 }

@@ -167,19 +167,27 @@ impl Writer {
         Ok(self.draft.begin(tag))
     }
 
-    // Ends it over what the writer left that the bytes were handed to, or keeps why that fails.
+    // Ends it over what is left from its beginning on, or keeps why that fails.
     #[inline(always)]
-    pub(crate) fn end(&mut self, left: Writer, beginning: Beginning)
-        ensures { Ends beginning left self.new }
+    pub(crate) fn end(&mut self, beginning: Beginning)
+        ensures { Ends beginning self.old self.new }
     {
-        self.draft = left.draft;
-        self.kept = left.kept;
         if self.kept.is_none() {
             self.tag = None;
             if let Err(error) = self.draft.end(self.alloc, beginning) {
                 self.kept = Some(error);
             }
         }
+    }
+
+    // Takes the bytes back that were handed out, and the failure.
+    #[inline(always)]
+    pub(crate) fn take_back(&mut self, left: Writer)
+        ensures { self.new ≡ record left { tag = None } }
+    {
+        self.draft = left.draft;
+        self.tag = None;
+        self.kept = left.kept;
     }
 
     // What a call with a closure answers, where the closure answered `own`.
