@@ -27,6 +27,7 @@ pub fn construct_der<F: FnOnce(DERWriter<'_>) -> ASN1Result<()>>(
 /// The bytes that a closure writes, with errors of any type that takes those of a writing.
 ///
 /// Answers as `construct_der` does, with the failures of the writing turned into `E`.
+#[inline(always)]
 pub fn try_construct_der<E: From<ASN1Error> + Drop, F: FnOnce(DERWriter<'_>) -> Result<(), E>>(
     alloc: Global,
     f: F,
@@ -55,6 +56,7 @@ pub fn construct_der_seq<F: FnOnce(&mut DERWriterSeq) -> ASN1Result<()>>(
 /// The bytes that a closure writes as parts, with errors of any type that takes those of a writing.
 ///
 /// Answers as `try_construct_der` does.
+#[inline(always)]
 pub fn try_construct_der_seq<
     E: From<ASN1Error> + Drop,
     F: FnOnce(&mut DERWriterSeq) -> Result<(), E>,
@@ -64,5 +66,5 @@ pub fn try_construct_der_seq<
 {
     let mut sequence = DERWriterSeq::over(Writer::new(alloc));
     let own = f(&mut sequence);
-    sequence.into_inner().finish(own)
+    sequence.finish(own)
 }

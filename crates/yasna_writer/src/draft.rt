@@ -2,7 +2,7 @@
 //!
 //! Where an element with parts begins, an entry with no bytes marks its place; where it ends, the entry takes its
 //! header. So contents are only appended to, no header is ever moved, and how deep elements nest costs nothing.
-ghost use Rattle.std.specs.Prelude.{◌≡◌, ◌≤◌, ◌<◌, ◌+◌, ◌++◌, ◌⊎◌, [], length, vec_len, IfOk, OnOk, IfSome, MatchResult};
+ghost use Rattle.std.specs.Prelude.{◌≡◌, ◌≤◌, ◌<◌, ◌+◌, ◌++◌, ◌⊎◌, [], length, length as count, vec_len, IfOk, OnOk, IfSome, MatchResult};
 ghost use Rattle.yasna_base.specs.Refusal.{kind_of};
 ghost use Rattle.yasna_base.specs.declared.error.ASN1ErrorKind.TheVariants.{OutOfMemory, Invalid};
 ghost use Rattle.yasna_base.specs.declared.mode.BERMode.TheVariants.{Der};
@@ -224,7 +224,7 @@ impl Draft {
         requires counted { header.length + start ≡ length self.old }
         ensures { MatchResult result (λ _. self.new ≡ with_element header.tag start self.old) (λ e. kind_of e ≡ OutOfMemory) }
     {
-        match mem::replace(self, Draft::new(alloc)).ended(alloc, start, header) {
+        match self.ended(alloc, start, header) {
             Ok(draft) => {
                 *self = draft;
                 Ok(())
@@ -234,12 +234,12 @@ impl Draft {
     }
 
     // The bytes with a header at a place.
-    fn ended(self, alloc: Global, place: usize, header: Header) -> Result<Draft, AllocError>
-        requires reached { place ≤ length self }
-        requires counted { header.length + place ≡ length self }
-        ensures { IfOk result (λ draft. draft ≡ with_element header.tag place self) }
+    fn ended(&mut self, alloc: Global, place: usize, header: Header) -> Result<Draft, AllocError>
+        requires reached { place ≤ length self.old }
+        requires counted { header.length + place ≡ length self.old }
+        ensures { IfOk result (λ draft. draft ≡ with_element header.tag place self.old) }
     {
-        let contents = self.into_bytes(alloc)?;
+        let contents = self.take_bytes(alloc)?;
         let mut entries = Vec::new(alloc);
         entries.push(Entry {
             place,
@@ -253,17 +253,26 @@ impl Draft {
         })
     }
 
-    // The contents with each header at its place.
-    pub(crate) fn into_bytes(self, alloc: Global) -> Result<Vec<u8>, AllocError>
-        ensures { IfOk result (λ v. v.items ≡ self) }
+    // Takes out the contents with each header at its place. Where there is no header they are the contents themselves.
+    #[inline(always)]
+    pub(crate) fn take_bytes(&mut self, alloc: Global) -> Result<Vec<u8>, AllocError>
+        ensures { IfOk result (λ v. v.items ≡ self.old) }
     {
         if self.entries.is_empty() {
-            return Ok(self.contents);
+            return Ok(mem::replace(&mut self.contents, Vec::new(alloc)));
         }
-        let mut out = Vec::with_capacity(alloc, self.len())?;
-        append_joined(&mut out, &self.contents, &self.entries)?;
-        Ok(out)
+        join(alloc, &self.contents, &self.entries, self.len())
     }
+}
+
+// The contents with each header at its place, `length` bytes in all.
+fn join(alloc: Global, contents: &[u8], entries: &[Entry], length: usize) -> Result<Vec<u8>, AllocError>
+    requires { AreInOrder 0 entries.now (count contents.now) }
+    ensures { IfOk result (λ v. v.items ≡ joined entries.now contents.now) }
+{
+    let mut out = Vec::with_capacity(alloc, length)?;
+    append_joined(&mut out, contents, entries)?;
+    Ok(out)
 }
 
 // Appends an element without parts, whose contents are two pieces.

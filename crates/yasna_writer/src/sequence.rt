@@ -6,6 +6,7 @@ ghost use Rattle.yasna_base.specs.declared.tag.PCBit.TheVariants.{Constructed};
 ghost use Rattle.yasna_base.specs.Identifier.{universal};
 ghost use Rattle.yasna_base.specs.Canonical.{canonical_element};
 ghost use Rattle.yasna_writer.specs.View.{tag_or, handed};
+ghost use Rattle.yasna_writer.specs.Construct.{Constructed as Ended};
 ghost use Rattle.yasna_writer.specs.State.{Ends};
 ghost use Rattle.yasna_writer.specs.Sequence.{Encloses, LendsNext};
 
@@ -38,9 +39,20 @@ impl DERWriterSeq {
         DERWriterSeq { inner }
     }
 
+    // What the writing of these parts answers, where the closure answered `own`.
+    #[inline(always)]
+    pub(crate) fn finish<E: From<ASN1Error> + Drop>(
+        &mut self,
+        own: Result<(), E>,
+    ) -> Result<Vec<u8>, E>
+        ensures { Ended E.from_gives self.old own result }
+    {
+        self.inner.finish(own)
+    }
+
     // What was written.
     #[inline(always)]
-    pub(crate) fn into_inner(self) -> Writer
+    fn into_inner(self) -> Writer
         ensures { result ≡ self }
     {
         self.inner

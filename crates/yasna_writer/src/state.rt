@@ -1,5 +1,5 @@
 //! The writer.
-ghost use Rattle.std.specs.Prelude.{◌≡◌, ◌++◌, Ok, Err, Some, None, IfOk, MatchResult};
+ghost use Rattle.std.specs.Prelude.{◌≡◌, ◌++◌, Ok, Err, Some, None, MatchResult};
 ghost use Rattle.yasna_base.specs.Refusal.{kind_of};
 ghost use Rattle.yasna_base.specs.declared.error.ASN1ErrorKind.TheVariants.{OutOfMemory};
 ghost use Rattle.yasna_base.specs.Canonical.{canonical_element};
@@ -10,7 +10,7 @@ ghost use Rattle.yasna_writer.specs.Sequence.{AnswersKept};
 ghost use Rattle.yasna_writer.specs.State.{Begins, Ends};
 
 use crate::draft::{Beginning, Draft};
-use std::alloc::{AllocError, Global};
+use std::alloc::Global;
 use std::marker::Model;
 use std::mem;
 use yasna_base::{ASN1Error, ASN1ErrorKind, ASN1Result, Tag};
@@ -132,16 +132,13 @@ impl Writer {
         }
     }
 
-    // The bytes that were written.
-    fn into_bytes(self) -> Result<Vec<u8>, AllocError>
-        ensures { IfOk result (λ v. v.items ≡ self.bytes) }
-    {
-        self.draft.into_bytes(self.alloc)
-    }
-
     // What the writing answers, where the closure answered `own`.
-    pub(crate) fn finish<E: From<ASN1Error> + Drop>(self, own: Result<(), E>) -> Result<Vec<u8>, E>
-        ensures { Constructed E.from_gives self own result }
+    #[inline(always)]
+    pub(crate) fn finish<E: From<ASN1Error> + Drop>(
+        &mut self,
+        own: Result<(), E>,
+    ) -> Result<Vec<u8>, E>
+        ensures { Constructed E.from_gives self.old own result }
     {
         if let Some(error) = self.kept {
             return Err(E::from(error));
@@ -149,7 +146,7 @@ impl Writer {
         if let Err(error) = own {
             return Err(error);
         }
-        match self.into_bytes() {
+        match self.draft.take_bytes(self.alloc) {
             Ok(bytes) => Ok(bytes),
             Err(_) => Err(E::from(ASN1Error::new(ASN1ErrorKind::OutOfMemory))),
         }

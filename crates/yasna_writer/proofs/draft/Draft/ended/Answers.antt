@@ -9,4 +9,4 @@ pub returns : goal.returns
 returns c =
     let x : Entry = record { place = c.args.place; mark = Known c.args.header } in
     let whole = (c.in_ok-push.ensures {u = tt}).items ∙ ap (λ (es : List Entry). es ++ (x ∷ [])) c.new-entries.ensures.items in
-    ap₂ joined whole (c.in_ok-contents.ensures {u = tt}) ∙ apart c.args.header c.args.place c.args.self c.requires.reached c.requires.counted
+    ap₂ joined whole (c.in_ok-contents.ensures {u = tt}) ∙ apart c.args.header c.args.place c.args.self.now c.requires.reached c.requires.counted
