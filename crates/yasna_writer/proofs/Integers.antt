@@ -1,7 +1,9 @@
 -- The fewest bytes of a number in two's complement, from any bytes of it and its sign, or from more bytes than it takes.
-use Rattle.std.proofs.Common.{◌≡◌, ℕ, zero, suc, ◌+◌, ◌-◌, ◌*◌, ◌^◌, ◌<◌, ◌≤◌, List, [], ◌∷◌, ◌++◌, length, length-drop, drop, cond, ℤ, pos, negsuc, inl, inr, refl, sym, ap, ◌∙◌, subst, arith, lt-ltb, le-ltb, mul-le-mul_right}
+use Rattle.std.proofs.Common.{◌≡◌, ℕ, zero, suc, ◌+◌, ◌-◌, ◌*◌, ◌/◌, ◌^◌, ◌<◌, ◌≤◌, List, [], ◌∷◌, ◌++◌, length, length-drop, drop, cond, ℤ, pos, negsuc, inl, inr, refl, sym, ap, ◌∙◌, subst, arith, lt-ltb, le-ltb, mul-le-mul_right}
 use Rattle.std.specs.Prelude.{Bool, true, false}
 use Rattle.std.proofs.Math.Nat.{pow-suc, pow-le-pow_right}
+use lib.Count.{count_leading_zeros}
+use Rattle.std.proofs.lemmas.Nat.{leading_length, pow-add}
 use mir.Val.{SFits}
 use Rattle.std.specs.Int.{w8, w64, cast_unsigned, to_be_bytes}
 use Rattle.std.specs.Int.Digits.{number_from_digits}
@@ -192,3 +194,28 @@ one_byte (negsuc n) h =
     let u = 256 - suc n in
     let number : twos (u ∷ []) ≡ negsuc n = negative_is u [] (omega (arith, h), tt) (omega (arith, h)) ∙ ap negsuc (omega (arith, h)) in
     sym (minimal_only (negsuc n) (u ∷ []) (record { in_bytes = (omega (arith, h), tt); minimal = tt; number = number }))
+
+bits_of_bytes : (k : ℕ) → 2 ^ (8 * k) ≡ 256 ^ k
+bits_of_bytes zero = refl
+bits_of_bytes (suc k) =
+    let e : 8 * suc k ≡ 8 + 8 * k = omega arith in
+    omega (arith, ap (λ n. 2 ^ n) e, pow-add 2 8 (8 * k), bits_of_bytes k, pow-suc 256 k)
+
+-- how many bytes hold a number below 2^63 and one bit more
+pub octets_hold : (d k : ℕ) → d < 2 ^ 63 → k ≡ (64 - count_leading_zeros 64 d) / 8 → (k ≤ 7) × (d < 128 * 256 ^ k) × (1 ≤ k → 128 * 256 ^ (k - 1) ≤ d)
+octets_hold d k small e =
+    let p = leading_length 64 d (omega arith) in
+    let m = p.0 in
+    let few : m < 64 = elim (cases_lt m 64) [
+      | inl h ↦ h
+      | inr h ↦ let q : 2 ^ 64 ≤ 2 ^ m = pow-le-pow_right (omega arith) h in absurd (omega (arith, p.3, q, small))
+    ] in
+    let within : m ≤ 8 * k + 7 = omega (arith, p.1, e) in
+    let over : 8 * k ≤ m = omega (arith, p.1, e) in
+    let fits : 2 ^ m ≤ 2 ^ (8 * k + 7) = pow-le-pow_right (omega arith) within in
+    let least : 2 ^ (8 * k) ≤ 2 ^ m = pow-le-pow_right (omega arith) over in
+    let b = bits_of_bytes k in (
+      omega (arith, p.1, e, few),
+      omega (arith, p.2, fits, pow-add 2 (8 * k) 7, b),
+      λ i. let one : k ≡ suc (k - 1) = omega arith in omega (arith, p.3, least, b, ap (λ n. 256 ^ n) one, pow-suc 256 (k - 1)),
+    )

@@ -266,7 +266,12 @@ impl Draft {
 }
 
 // The contents with each header at its place, `length` bytes in all.
-fn join(alloc: Global, contents: &[u8], entries: &[Entry], length: usize) -> Result<Vec<u8>, AllocError>
+fn join(
+    alloc: Global,
+    contents: &[u8],
+    entries: &[Entry],
+    length: usize,
+) -> Result<Vec<u8>, AllocError>
     requires { AreInOrder 0 entries.now (count contents.now) }
     ensures { IfOk result (λ v. v.items ≡ joined entries.now contents.now) }
 {

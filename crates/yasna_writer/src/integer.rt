@@ -57,7 +57,7 @@ fn distance(val: i64) -> u64
     val.cast_unsigned()
 }
 
-// How many bytes a number takes in two's complement.
+// How many bytes a number takes in two's complement: one more bit than its distance.
 #[inline(always)]
 pub(crate) fn octets(val: i64) -> usize
     ensures some { 1 ≤ result }
@@ -65,27 +65,6 @@ pub(crate) fn octets(val: i64) -> usize
     ensures fits { distance val < 128 * 256 ^ (result - 1) }
     ensures least { 2 ≤ result → 128 * 256 ^ (result - 2) ≤ distance val }
 {
-    let far = distance(val);
-    if far < 1 << 31 {
-        return low_octets(far);
-    }
-    if far < 1 << 47 {
-        return if far < 1 << 39 { 5 } else { 6 };
-    }
-    if far < 1 << 55 { 7 } else { 8 }
-}
-
-// The same for numbers of four bytes at most, by their distance.
-#[inline(always)]
-fn low_octets(far: u64) -> usize
-    requires { far < 2 ^ 31 }
-    ensures some { 1 ≤ result }
-    ensures few { result ≤ 4 }
-    ensures fits { far < 128 * 256 ^ (result - 1) }
-    ensures least { 2 ≤ result → 128 * 256 ^ (result - 2) ≤ far }
-{
-    if far < 1 << 15 {
-        return if far < 1 << 7 { 1 } else { 2 };
-    }
-    if far < 1 << 23 { 3 } else { 4 }
+    let bits = 64 - distance(val).leading_zeros();
+    bits as usize / 8 + 1
 }
