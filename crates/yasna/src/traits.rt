@@ -4,11 +4,10 @@
 //! types that come with the crate stand by name in `yasna_base`; those of a type made of others follow from theirs.
 ghost use Rattle.std.specs.Prelude.{◌≡◌, ℕ, List, Bool, None};
 ghost use Rattle.yasna_base.specs.declared.mode.BERMode.{BERMode};
-ghost use Rattle.yasna_base.specs.declared.mode.BERMode.TheVariants.{Der};
 ghost use Rattle.yasna_base.specs.Coding.{IsCoding};
 ghost use Rattle.yasna_base.specs.Canonical.{IsWritten};
 ghost use Rattle.yasna_reader.specs.Decodes.{Decodes};
-ghost use Rattle.yasna_writer.specs.Written.{Wrote};
+ghost use Rattle.yasna_writer.specs.View.{Wrote};
 
 use yasna_base::error::ASN1Result;
 use yasna_reader::BERReader;
@@ -55,7 +54,7 @@ pub trait DEREncodable {
     fn encode_der(&self, writer: DERWriter<'_>) -> ASN1Result<()>
         requires can { encodable self.now }
         requires untagged { writer.old.tag ≡ None }
-        ensures { Wrote (form Der self.now) writer.old writer.new result };
+        ensures { Wrote (form writer.old.mode self.now) writer.old writer.new result };
 }
 
 /// A type that is read from DER exactly where its one DER form stands, which BER reads too.

@@ -7,10 +7,9 @@ ghost use Rattle.yasna_base.specs.declared.mode.BERMode.{BERMode};
 ghost use Rattle.yasna_base.specs.Sequence.{sequence_tag, PartOf, NoParts, AnyPart, AnyNothing, SamePart, SameNothing, part_form, part_nest, part_can, nothing_form, nothing_nest};
 ghost use Rattle.yasna_base.specs.Element.{Enclosed, AnyEnclosed};
 ghost use Rattle.yasna_base.specs.Coding.{ArePartsCoding};
-ghost use Rattle.yasna_base.specs.declared.mode.BERMode.TheVariants.{Der};
 ghost use Rattle.yasna_base.specs.Canonical.{enclosed_form, enclosed_nest, Always};
 ghost use Rattle.yasna_base.proofs.Sequence.{part, no_part, tuple, part_written, no_part_written, tuple_written};
-ghost use Rattle.yasna_writer.specs.Written.{Wrote};
+ghost use Rattle.yasna_writer.specs.View.{Wrote};
 ghost use Rattle.yasna_reader.specs.View.{IsFresh};
 ghost use Rattle.yasna_reader.specs.Lending.{part_of};
 ghost use Rattle.yasna_reader.specs.Decodes.{Decodes, DecodesParts};
@@ -127,7 +126,7 @@ fn write_pair<A: DEREncodable, B: DEREncodable>(
 ) -> ASN1Result<()>
     requires first { A.encodable pair.now.0 }
     requires second { B.encodable pair.now.1 }
-    ensures { Wrote (A.form Der pair.now.0 ++ (B.form Der pair.now.1 ++ [])) seq.old seq.new result }
+    ensures { Wrote (A.form seq.old.mode pair.now.0 ++ (B.form seq.old.mode pair.now.1 ++ [])) seq.old seq.new result }
 {
     pair.0.encode_der(seq.next())?;
     pair.1.encode_der(seq.next())

@@ -11,7 +11,7 @@ use Rattle.yasna_base.specs.Digits.{IsBytes, digits}
 use Rattle.yasna_base.specs.Length.{shortest_length}
 use Rattle.yasna_base.proofs.Length.{counted_length}
 use Rattle.yasna_base.specs.BigInteger.{without, signed_number}
-use Rattle.yasna_writer.proofs.Front.{without_shorter, digits_without}
+use Rattle.yasna_writer.proofs.Without.{without_shorter, digits_without}
 
 pub be_length : (n : ℕ) → length (to_be_bytes w64 n) ≡ 8
 be_length n = refl

@@ -1,8 +1,8 @@
 pub mod Appends
-pub mod Base128Digits
 pub mod BigEndian
-pub mod Closing
-pub mod Enclosing
-pub mod Front
-pub mod Joined
-pub mod SignedBytes
+pub mod Drafts
+pub mod Identifiers
+pub mod Integers
+pub mod Primitives
+pub mod Sequences
+pub mod Without

@@ -1,7 +1,8 @@
-pub mod Written
-pub mod Closures
-pub mod Number
-pub mod Joining
-pub mod Base128
-pub mod Opening
-pub mod Lending
+pub mod View
+pub mod Identifier
+pub mod Header
+pub mod Integer
+pub mod Draft
+pub mod State
+pub mod Construct
+pub mod Sequence

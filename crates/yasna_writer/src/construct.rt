@@ -2,10 +2,10 @@
 ghost use Rattle.std.specs.Prelude.{◌≡◌, Result};
 ghost use Rattle.std.specs.Fn.{FnOnceTakesAtMut, FnOnceReturnsAtMut};
 ghost use Rattle.yasna_base.specs.declared.error.ASN1Error.{ASN1Error};
-ghost use Rattle.yasna_writer.specs.Written.{Written, empty_writing};
-ghost use Rattle.yasna_writer.specs.Closures.{Constructed};
+ghost use Rattle.yasna_writer.specs.View.{Written, empty_writing};
+ghost use Rattle.yasna_writer.specs.Construct.{Constructed};
 
-use crate::elements::DERWriterSeq;
+use crate::sequence::DERWriterSeq;
 use crate::state::{DERWriter, Writer};
 use std::alloc::Global;
 use yasna_base::{ASN1Error, ASN1Result};
@@ -27,6 +27,7 @@ pub fn construct_der<F: FnOnce(DERWriter<'_>) -> ASN1Result<()>>(
 /// The bytes that a closure writes, with errors of any type that takes those of a writing.
 ///
 /// Answers as `construct_der` does, with the failures of the writing turned into `E`.
+#[inline(always)]
 pub fn try_construct_der<E: From<ASN1Error> + Drop, F: FnOnce(DERWriter<'_>) -> Result<(), E>>(
     alloc: Global,
     f: F,
@@ -55,6 +56,7 @@ pub fn construct_der_seq<F: FnOnce(&mut DERWriterSeq) -> ASN1Result<()>>(
 /// The bytes that a closure writes as parts, with errors of any type that takes those of a writing.
 ///
 /// Answers as `try_construct_der` does.
+#[inline(always)]
 pub fn try_construct_der_seq<
     E: From<ASN1Error> + Drop,
     F: FnOnce(&mut DERWriterSeq) -> Result<(), E>,
@@ -64,5 +66,5 @@ pub fn try_construct_der_seq<
 {
     let mut sequence = DERWriterSeq::over(Writer::new(alloc));
     let own = f(&mut sequence);
-    sequence.into_inner().finish(own)
+    sequence.finish(own)
 }

@@ -5,26 +5,27 @@
 //! | Module | Holds |
 //! |---|---|
 //! | `construct` | the calls that begin a writing and end it |
-//! | `state` | the writer: contents, headers that aren't among them yet, the implicit tag, the failure kept |
-//! | `scalars` | the writes of elements without parts |
-//! | `elements` | the writes of elements with parts |
-//! | `nesting` | how an element ends whose header stands apart from the contents |
-//! | `header` | identifier and length octets |
-//! | `number` | the fewest bytes of a number |
-//! | `join` | headers and contents made one |
+//! | `state` | the writer: a draft, the implicit tag, the failure kept |
+//! | `primitive` | the writes of elements without parts |
+//! | `sequence` | the writes of elements with parts |
+//! | `draft` | contents, the headers that aren't among them yet, and how they are joined |
+//! | `header` | the header of an element with parts |
+//! | `identifier`, `length` | identifier and length octets |
+//! | `integer` | the fewest bytes of a number |
 #![tactic(auto)]
 
 mod construct;
-mod elements;
+mod draft;
 mod header;
-mod join;
-mod nesting;
-mod number;
-mod scalars;
+mod identifier;
+mod integer;
+mod length;
+mod primitive;
+mod sequence;
 mod state;
 
 pub use construct::{construct_der, construct_der_seq, try_construct_der, try_construct_der_seq};
-pub use elements::DERWriterSeq;
+pub use sequence::DERWriterSeq;
 pub use state::{DERWriter, Writer};
 
 #[cfg(test)]

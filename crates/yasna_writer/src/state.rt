@@ -1,19 +1,17 @@
 //! The writer.
-ghost use Rattle.std.specs.Prelude.{◌≡◌, ◌+◌, ◌++◌, length, Ok, Err, Some, None, IfOk};
+ghost use Rattle.std.specs.Prelude.{◌≡◌, ◌++◌, Ok, Err, Some, None, MatchResult};
 ghost use Rattle.yasna_base.specs.Error.{kind_of};
 ghost use Rattle.yasna_base.specs.declared.error.ASN1ErrorKind.TheVariants.{OutOfMemory};
 ghost use Rattle.yasna_base.specs.Canonical.{canonical_element};
-ghost use Rattle.yasna_base.specs.declared.mode.BERMode.TheVariants.{Der};
 ghost use Rattle.yasna_base.specs.declared.tag.PCBit.TheVariants.{Primitive};
-ghost use Rattle.yasna_writer.specs.Written.{Written, tag_or, empty_writing, Wrote};
-ghost use Rattle.yasna_writer.specs.Closures.{Constructed, AnswersKept};
-ghost use Rattle.yasna_writer.specs.Joining.{IsOpened};
-ghost use Rattle.yasna_writer.specs.Opening.{Opens, Ends, Closes};
+ghost use Rattle.yasna_writer.specs.View.{Written, empty_writing, handed, Wrote};
+ghost use Rattle.yasna_base.specs.Identifier.{tag_or};
+ghost use Rattle.yasna_writer.specs.Construct.{Constructed};
+ghost use Rattle.yasna_writer.specs.Sequence.{AnswersKept};
+ghost use Rattle.yasna_writer.specs.State.{Begins, Ends};
 
-use crate::header::{Header, append_primitive};
-use crate::join::join;
-use crate::nesting::{Draft, Opened, end_draft};
-use std::alloc::{AllocError, Global};
+use crate::draft::{Beginning, Draft};
+use std::alloc::Global;
 use std::marker::Model;
 use std::mem;
 use yasna_base::{ASN1Error, ASN1ErrorKind, ASN1Result, Tag};
@@ -24,50 +22,66 @@ use yasna_base::{ASN1Error, ASN1ErrorKind, ASN1Result, Tag};
 /// the call that began the writing.
 #[derive(Drop)]
 pub struct Writer {
-    // Contents, which are only appended to.
-    contents: Vec<u8>,
-    // The headers of elements with parts, which aren't among the contents, by their places.
-    headers: Vec<Header>,
-    // How many bytes those headers take.
-    heads: usize,
+    draft: Draft,
     tag: Option<Tag>,
     kept: Option<ASN1Error>,
     alloc: Global,
 }
 
 impl Model for Writer {
-    ghost use Rattle.std.specs.Prelude.{◌≡◌, length};
-    ghost use Rattle.yasna_writer.specs.Written.{Written};
-    ghost use Rattle.yasna_writer.specs.Joining.{joined, AreInOrder, headers_length};
+    ghost use Rattle.yasna_base.specs.declared.mode.BERMode.TheVariants.{Der};
+    ghost use Rattle.yasna_writer.specs.View.{Written};
 
     ghost Value = { Written };
 
-    ghost view = { λ s. record { bytes = joined s.headers.items s.contents.items; tag = s.tag; kept = s.kept } };
-
-    ghost invariant = { λ s. AreInOrder 0 s.headers.items (length s.contents.items) × (s.heads ≡ headers_length s.headers.items) };
+    ghost view = { λ s. record { bytes = s.draft; mode = Der; tag = s.tag; kept = s.kept } };
 }
 
 /// What a closure writes to.
 ///
-/// Each write takes the implicit tag if there is one, and else the type's own.
+/// Each write takes the implicit tag if there is one, and else the type's own. Two writers of nested writings can be
+/// exchanged by `std::mem::swap`. Each then goes on with the bytes and the failure of the other, and an element that is
+/// open in one ends over what it holds then: from the place on where the element began, by its count of bytes, and where
+/// fewer bytes are there, as `Invalid`, which is kept.
 pub type DERWriter<'a> = &'a mut Writer;
 
 impl Writer {
     // A writing that begins.
+    #[inline(always)]
     pub(crate) fn new(alloc: Global) -> Writer
         ensures { result ≡ empty_writing }
     {
         Writer {
-            contents: Vec::new(alloc),
-            headers: Vec::new(alloc),
-            heads: 0,
+            draft: Draft::new(alloc),
             tag: None,
             kept: None,
             alloc,
         }
     }
 
+    // Hands out the bytes, to be written on by another writer.
+    #[inline(always)]
+    pub(crate) fn lend(&mut self) -> Writer
+        ensures { result ≡ handed self.old }
+    {
+        Writer {
+            draft: mem::replace(&mut self.draft, Draft::new(self.alloc)),
+            tag: None,
+            kept: None,
+            alloc: self.alloc,
+        }
+    }
+
+    // The failure that is kept.
+    #[inline(always)]
+    pub(crate) fn kept(&self) -> Option<ASN1Error>
+        ensures { result ≡ self.now.kept }
+    {
+        self.kept
+    }
+
     // Takes the implicit tag, or else a type's own.
+    #[inline(always)]
     pub(crate) fn take_tag(&mut self, own: Tag) -> Tag
         ensures tag { result ≡ tag_or self.old.tag own }
         ensures taken { self.new ≡ record self.old { tag = None } }
@@ -79,6 +93,7 @@ impl Writer {
     }
 
     // Drops the implicit tag.
+    #[inline(always)]
     pub(crate) fn untag(&mut self)
         ensures { self.new ≡ record self.old { tag = None } }
     {
@@ -86,40 +101,45 @@ impl Writer {
     }
 
     // Keeps want of memory.
+    #[cold]
     pub(crate) fn lack_memory(&mut self) -> ASN1Error
         ensures kind { kind_of result ≡ OutOfMemory }
         ensures kept { self.new ≡ record self.old { kept = Some result } }
     {
-        let error = ASN1Error::new(ASN1ErrorKind::OutOfMemory);
-        self.kept = Some(error);
-        error
+        let lack = ASN1Error::new(ASN1ErrorKind::OutOfMemory);
+        self.kept = Some(lack);
+        lack
     }
 
-    // Appends an element without parts, whose contents are two pieces.
-    #[tactic(auto, using(crate::proofs::Joined::joined_append, crate::proofs::Joined::order_more))]
-    pub(crate) fn append_primitive(&mut self, own: Tag, front: &[u8], rest: &[u8]) -> ASN1Result<()>
-        ensures { Wrote (canonical_element Der (tag_or self.old.tag own) Primitive (front.now ++ rest.now)) self.old self.new result }
+    // Appends bytes, or keeps want of memory.
+    #[inline(always)]
+    pub(crate) fn append(&mut self, bytes: &[u8]) -> ASN1Result<()>
+        ensures { MatchResult result (λ _. self.new ≡ record self.old { bytes = self.old.bytes ++ bytes.now }) (λ e. (kind_of e ≡ OutOfMemory) × (self.new.kept ≡ Some e)) }
     {
-        if let Some(error) = self.kept {
-            return Err(error);
-        }
-        let tag = self.take_tag(own);
-        match append_primitive(&mut self.contents, tag, front, rest) {
+        match self.draft.append(bytes) {
             Ok(()) => Ok(()),
             Err(_) => Err(self.lack_memory()),
         }
     }
 
-    // The bytes that were written.
-    fn into_bytes(self) -> Result<Vec<u8>, AllocError>
-        ensures { IfOk result (λ v. v.items ≡ self.bytes) }
+    // Appends an element without parts, whose contents are two pieces, or keeps want of memory.
+    #[tactic(auto, unfolding(yasna_base::specs::Canonical::canonical_element))]
+    pub(crate) fn append_primitive(&mut self, tag: Tag, front: &[u8], rest: &[u8]) -> ASN1Result<()>
+        ensures { MatchResult result (λ _. self.new ≡ record self.old { bytes = self.old.bytes ++ canonical_element self.old.mode tag Primitive (front.now ++ rest.now) }) (λ e. (kind_of e ≡ OutOfMemory) × (self.new.kept ≡ Some e)) }
     {
-        join(self.alloc, self.contents, &self.headers, self.heads)
+        match self.draft.append_primitive(tag, front, rest) {
+            Ok(()) => Ok(()),
+            Err(_) => Err(self.lack_memory()),
+        }
     }
 
     // What the writing answers, where the closure answered `own`.
-    pub(crate) fn finish<E: From<ASN1Error> + Drop>(self, own: Result<(), E>) -> Result<Vec<u8>, E>
-        ensures { Constructed E.from_gives self own result }
+    #[inline(always)]
+    pub(crate) fn finish<E: From<ASN1Error> + Drop>(
+        &mut self,
+        own: Result<(), E>,
+    ) -> Result<Vec<u8>, E>
+        ensures { Constructed E.from_gives self.old own result }
     {
         if let Some(error) = self.kept {
             return Err(E::from(error));
@@ -127,91 +147,49 @@ impl Writer {
         if let Err(error) = own {
             return Err(error);
         }
-        match self.into_bytes() {
+        match self.draft.take_bytes(self.alloc) {
             Ok(bytes) => Ok(bytes),
             Err(_) => Err(E::from(ASN1Error::new(ASN1ErrorKind::OutOfMemory))),
         }
     }
 
-    // Hands the contents to a writer of an element's parts, and keeps what stands around them.
-    pub(crate) fn open(&mut self, own: Tag) -> Result<(Opened, Writer), ASN1Error>
-        ensures { Opens own self.old self.new result }
+    // Begins an element with parts.
+    #[inline(always)]
+    pub(crate) fn begin(&mut self, own: Tag) -> Result<Beginning, ASN1Error>
+        ensures { Begins own self.old self.new result }
     {
         if let Some(error) = self.kept {
             return Err(error);
         }
         let tag = self.take_tag(own);
-        let alloc = self.alloc;
-        let outer = mem::replace(self, Writer::new(alloc));
-        let Writer {
-            contents,
-            headers,
-            heads,
-            tag: _,
-            kept: _,
-            alloc: _,
-        } = outer;
-        let opened = Opened {
-            headers,
-            heads,
-            place: contents.len(),
-            tag,
-        };
-        let inner = Writer {
-            contents,
-            headers: Vec::new(alloc),
-            heads: 0,
-            tag: None,
-            kept: None,
-            alloc,
-        };
-        Ok((opened, inner))
+        Ok(self.draft.begin(tag))
     }
 
-    // The element around what a writer of its parts left.
-    fn end(self, opened: Opened) -> Result<Draft, ASN1Error>
-        requires { IsOpened opened }
-        ensures { Ends opened self result }
+    // Ends it over what is left from its beginning on, or keeps why that fails.
+    #[inline(always)]
+    pub(crate) fn end(&mut self, beginning: Beginning)
+        ensures { Ends beginning self.old self.new }
     {
-        if let Some(error) = self.kept {
-            return Err(error);
-        }
-        let Some(length) = self.contents.len().checked_add(self.heads) else {
-            return Err(ASN1Error::new(ASN1ErrorKind::OutOfMemory));
-        };
-        if length < opened.place {
-            return Err(ASN1Error::new(ASN1ErrorKind::Invalid));
-        }
-        let alloc = self.alloc;
-        let draft = Draft {
-            contents: self.contents,
-            headers: self.headers,
-            heads: self.heads,
-        };
-        end_draft(alloc, opened, draft)
-    }
-
-    // Ends an element over what the writer of its parts left, or keeps why that fails.
-    pub(crate) fn close(&mut self, opened: Opened, inner: Writer)
-        requires { IsOpened opened }
-        ensures { Closes opened inner self.old self.new }
-    {
-        match inner.end(opened) {
-            Err(error) => self.kept = Some(error),
-            Ok(draft) => {
-                *self = Writer {
-                    contents: draft.contents,
-                    headers: draft.headers,
-                    heads: draft.heads,
-                    tag: None,
-                    kept: None,
-                    alloc: self.alloc,
-                };
+        if self.kept.is_none() {
+            self.tag = None;
+            if let Err(error) = self.draft.end(self.alloc, beginning) {
+                self.kept = Some(error);
             }
         }
     }
 
+    // Takes the bytes back that were handed out, and the failure.
+    #[inline(always)]
+    pub(crate) fn take_back(&mut self, left: Writer)
+        ensures { self.new ≡ record left { tag = None } }
+    {
+        self.draft = left.draft;
+        self.tag = None;
+        self.kept = left.kept;
+    }
+
     // What a call with a closure answers, where the closure answered `own`.
+    #[inline(always)]
     pub(crate) fn settle<T: Drop, E: From<ASN1Error> + Drop>(
         &self,
         own: Result<T, E>,

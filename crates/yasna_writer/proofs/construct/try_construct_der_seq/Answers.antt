@@ -1,9 +1,6 @@
-use Rattle.std.proofs.Common.{refl, subst, ◌∙◌}
-use Rattle.yasna_writer.specs.Written.{Written}
-use Rattle.yasna_writer.specs.Closures.{Constructed}
+use Rattle.std.proofs.Common.{refl, ◌∙◌}
 use Rattle.yasna_writer.proofs.construct.try_construct_der_seq.Goals as goal
 
 pub returns : goal.returns
 returns g c =
-    let left = subst (λ (w : Written). Constructed g.E.From.from_gives w c.f-own.result c.finish.result) c.into_inner.ensures c.finish.ensures in
-    (c.f-own.result, c.f-own.new.arg2, record { shown = _; shows = c.over-sequence.ensures ∙ c.new.ensures; left = _; met = c.f-own.ensures; leaves = refl }, left)
+    (c.f-own.result, c.f-own.new.arg2, record { shown = _; shows = c.over-sequence.ensures ∙ c.new.ensures; left = _; met = c.f-own.ensures; leaves = refl }, c.finish.ensures)

@@ -1,23 +1,22 @@
 use Rattle.std.proofs.Common.{ℤ, length, ap, sym, ◌∙◌, subst, arith}
-use Rattle.yasna_base.specs.declared.mode.BERMode.TheVariants.{Der}
-use Rattle.yasna_base.specs.Identifier.{universal}
+use Rattle.yasna_base.specs.Identifier.{universal, tag_or}
 use Rattle.yasna_base.specs.Integer.{integer_form}
 use Rattle.std.specs.Prelude.{true}
 use Rattle.std.proofs.lemmas.Bool.{eqb-true, eqb-false}
-use Rattle.yasna_writer.specs.Written.{tag_or, Wrote}
+use Rattle.yasna_writer.specs.View.{Wrote}
 use Rattle.yasna_base.specs.BigInteger.{signed_number}
-use Rattle.yasna_writer.proofs.SignedBytes.{big_some, big_none}
+use Rattle.yasna_writer.proofs.Integers.{big_some, big_none}
 use Rattle.yasna_writer.proofs.state.Writer.write_bigint_bytes.Goals as goal
 
 pub returns-then-is_empty : goal.returns-then-is_empty
 returns-then-is_empty c =
     let empty = ap length (sym c.without-rest.ensures) ∙ eqb-true _ 0 (sym (c.if-is_empty.ensures {u = tt})) in
     let number = ap (signed_number true) c.without-rest.ensures ∙ big_none c.args.positive c.args.bytes.now empty in
-    subst (λ (z : ℤ). Wrote (integer_form (tag_or c.args.self.now.tag (universal 2)) Der z) c.args.self.now c.append_number.new.self c.append_number.result) number c.append_number.ensures
+    subst (λ (z : ℤ). Wrote (integer_form (tag_or c.args.self.now.tag (universal 2)) c.args.self.now.mode z) c.args.self.now c.write_bytes.new.self c.write_bytes.result) number c.write_bytes.ensures
 
 pub returns : goal.returns
 returns c =
     let some = eqb-false _ 0 (sym (c.if-is_empty.ensures {u = tt})) in
     let rest = ap length c.without-rest.ensures in
     let number = ap (signed_number c.args.positive) c.without-rest.ensures ∙ big_some c.args.positive c.args.bytes.now (omega arith) in
-    subst (λ (z : ℤ). Wrote (integer_form (tag_or c.args.self.now.tag (universal 2)) Der z) c.args.self.now c.append_number-2.new.self c.append_number-2.result) number c.append_number-2.ensures
+    subst (λ (z : ℤ). Wrote (integer_form (tag_or c.args.self.now.tag (universal 2)) c.args.self.now.mode z) c.args.self.now c.write_bytes-2.new.self c.write_bytes-2.result) number c.write_bytes-2.ensures

@@ -1,0 +1,69 @@
+-- Digits in base 128, one step at a time.
+use Rattle.std.proofs.Common.{◌≡◌, ℕ, zero, suc, ◌+◌, ◌/◌, ◌%◌, ◌^◌, ◌<◌, ◌≤◌, List, [], ◌∷◌, ◌++◌, length, map, refl, sym, ap, ◌∙◌, arith, length-append, mod-eq_of_lt}
+use Rattle.std.proofs.lemmas.List.{map-append}
+use Rattle.std.proofs.lemmas.Int.Digits.{digits_of_step}
+use Rattle.std.proofs.Math.Nat.{le-div_iff_mul-le}
+use Rattle.std.specs.Int.Digits.{digits_of}
+use Rattle.std.specs.Prelude.{Bool, true, false}
+use Rattle.yasna_base.specs.Digits.{digits, marked, base128}
+use Rattle.yasna_base.proofs.Digits.{digits_small, digits_length}
+use Rattle.yasna_writer.specs.Identifier.{base128_digits, base128_byte}
+
+digits_are : (b k : ℕ) → 2 ≤ b → 0 < k → digits_of b k ≡ digits b k
+unfolding digits
+digits_are b zero two h = absurd (omega arith)
+digits_are b (suc k) two h = refl
+
+positive_quotient : (b k : ℕ) → 2 ≤ b → b ≤ k → 0 < k / b
+positive_quotient b k two h = (le-div_iff_mul-le {x = 1} (omega arith)).1 (omega arith)
+
+-- a number from the base on has the digits of its quotient, and then its remainder
+pub digits_step : (b k : ℕ) → 2 ≤ b → b ≤ k → digits b k ≡ digits b (k / b) ++ (k % b ∷ [])
+unfolding digits
+digits_step b zero two h = absurd (omega arith)
+digits_step b (suc k) two h = digits_of_step b (suc k) two (omega arith) ∙ ap (λ ds. ds ++ (suc k % b ∷ [])) (digits_are b (suc k / b) two (positive_quotient b (suc k) two h))
+
+-- with another digit behind them, all digits are marked
+pub marked_push : (ds : List ℕ) (d : ℕ) → marked (ds ++ (d ∷ [])) ≡ map (λ e. 128 + e) ds ++ (d ∷ [])
+marked_push [] d = refl
+marked_push (e ∷ []) d = refl
+marked_push (e ∷ f ∷ ds) d = ap (λ z. (128 + e) ∷ z) (marked_push (f ∷ ds) d)
+
+pub base128_small : (k : ℕ) → k < 128 → base128 k ≡ k ∷ []
+unfolding base128
+base128_small k h = rw (digits_small 128 k (omega arith) h)
+
+pub base128_step : (k : ℕ) → 128 ≤ k → base128 k ≡ map (λ d. 128 + d) (digits 128 (k / 128)) ++ (k % 128 ∷ [])
+unfolding base128
+base128_step k h = ap marked (digits_step 128 k (omega arith) h) ∙ marked_push (digits 128 (k / 128)) (k % 128)
+
+marked_length : (ds : List ℕ) → length (marked ds) ≡ length ds
+marked_length [] = refl
+marked_length (d ∷ []) = refl
+marked_length (d ∷ e ∷ ds) = ap suc (marked_length (e ∷ ds))
+
+pub base128_length_is : (k : ℕ) → length (base128 k) ≡ length (digits 128 k)
+unfolding base128
+base128_length_is k = marked_length (digits 128 k)
+
+-- a number of 64 bits takes ten bytes at most
+pub base128_length_at_most : (k : ℕ) → k < 2 ^ 64 → length (base128 k) ≤ 10
+base128_length_at_most k h = omega (arith, base128_length_is k, digits_length 128 k 10 (omega arith) (omega arith) (omega arith))
+
+pub base128_length_small : (k : ℕ) → k < 128 → length (base128 k) ≡ 1
+base128_length_small k h = ap length (base128_small k h)
+
+-- one byte more than the quotient
+pub base128_length_step : (k : ℕ) → 128 ≤ k → length (base128 k) ≡ length (base128 (k / 128)) + 1
+base128_length_step k h =
+    omega (arith, base128_length_is k, base128_length_is (k / 128), ap length (digits_step 128 k (omega arith) h), length-append (digits 128 (k / 128)) (k % 128 ∷ []))
+
+pub base128_digits_small : (more : Bool) (k : ℕ) → k < 128 → base128_digits more k ≡ base128_byte more k ∷ []
+unfolding base128_digits
+base128_digits_small true k h = rw (digits_small 128 k (omega arith) h, mod-eq_of_lt h)
+base128_digits_small false k h = base128_small k h ∙ ap (λ n. n ∷ []) (sym (mod-eq_of_lt h))
+
+pub base128_digits_step : (more : Bool) (k : ℕ) → 128 ≤ k → base128_digits more k ≡ base128_digits true (k / 128) ++ (base128_byte more k ∷ [])
+unfolding base128_digits
+base128_digits_step true k h = ap (map (λ d. 128 + d)) (digits_step 128 k (omega arith) h) ∙ map-append (λ d. 128 + d) (digits 128 (k / 128)) (k % 128 ∷ [])
+base128_digits_step false k h = base128_step k h

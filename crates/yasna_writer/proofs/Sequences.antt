@@ -1,0 +1,40 @@
+-- What a writing has at the end of an element with parts.
+use Rattle.std.proofs.Common.{◌≡◌, ℕ, List, ◌++◌, length, take, drop, None, sym, ap, ap₂, subst, ◌∙◌}
+use Rattle.std.proofs.Math.Seq.{take-append_seam, drop-append_seam}
+use Rattle.yasna_base.specs.declared.mode.BERMode.{BERMode}
+use Rattle.yasna_base.specs.declared.mode.BERMode.TheVariants.{Der}
+use Rattle.yasna_base.specs.declared.tag.Tag.{Tag}
+use Rattle.yasna_base.specs.declared.tag.PCBit.TheVariants.{Constructed}
+use Rattle.yasna_base.specs.Canonical.{canonical_element}
+use Rattle.std.specs.Prelude.{Option}
+use Rattle.yasna_base.specs.declared.error.ASN1Error.{ASN1Error}
+use Rattle.yasna_writer.specs.declared.draft.Beginning.{Beginning}
+use Rattle.yasna_writer.specs.View.{Written, holding}
+use Rattle.yasna_writer.specs.Draft.{with_element}
+use Rattle.yasna_writer.specs.State.{KeptAtEnd, BeginsAt, Ends}
+
+-- the bytes around a seam are put around an element of what stands behind it
+element_at_seam : (t u : Tag) (n : ℕ) (front c whole : List ℕ) → n ≡ length front → t ≡ u → whole ≡ front ++ c → with_element t n whole ≡ front ++ canonical_element Der u Constructed c
+element_at_seam t u n front c whole l s e =
+    let head = ap₂ take l e ∙ take-append_seam front c in
+    let rest = ap₂ drop l e ∙ drop-append_seam front c in
+    ap₂ (λ x y. x ++ canonical_element Der t Constructed y) head rest ∙ ap (λ v. front ++ canonical_element Der v Constructed c) s
+
+module _ (t : Tag) (old between left new : Written) (b : Beginning) (begun : BeginsAt t old between b) (ends : Ends b left new) where
+  -- what is kept, by the count of bytes that stood in front
+  pub ended_kept : KeptAtEnd (length old.bytes) left new.kept
+  ended_kept = subst (λ (n : ℕ). KeptAtEnd n left new.kept) begun.start ends.kept
+
+  -- the element behind the bytes before
+  pub ended_writes : new.kept ≡ None → (c : List ℕ) → left.bytes ≡ old.bytes ++ c → new ≡ holding old (old.bytes ++ canonical_element old.mode t Constructed c)
+  ended_writes none c e =
+      ends.bytes none
+      ∙ ap (λ x. holding (record old { mode = Der }) x) (element_at_seam b.tag t b.start old.bytes c left.bytes begun.start begun.tagged e)
+      ∙ ap (λ (m : BERMode). holding (record old { mode = m }) (old.bytes ++ canonical_element m t Constructed c)) (sym begun.mode)
+
+-- an implicit tag that waits at the end is dropped
+pub ends_untagged : (b : Beginning) (left ended new : Written) → Ends b left ended → new ≡ record ended { tag = None } → Ends b left new
+ends_untagged b left ended new e same = record {
+  kept = subst (λ (k : Option ASN1Error). KeptAtEnd b.start left k) (sym (ap (λ (w : Written). w.kept) same)) e.kept;
+  bytes = λ none. same ∙ ap (λ (w : Written). record w { tag = None }) (e.bytes (sym (ap (λ (w : Written). w.kept) same) ∙ none));
+}

@@ -1,0 +1,22 @@
+-- Numbers as bytes, highest first.
+use Rattle.std.specs.Prelude.{ℕ, List, [], ◌∷◌, Bool, true, false, if◌then◌else◌, nat_lt, nat_le, ℤ, pos, negsuc}
+
+-- the byte that stands endlessly in front of a number in two's complement
+abbrev pub sign_byte : Bool → ℕ
+sign_byte true = 0
+sign_byte false = 255
+
+-- whether bytes need that byte in front to have that sign
+abbrev pub needs_sign : Bool → List ℕ → Bool
+needs_sign positive [] = true
+needs_sign true (x ∷ xs) = nat_le 128 x
+needs_sign false (x ∷ xs) = nat_lt x 128
+
+-- that byte where it is needed
+abbrev pub sign_front : Bool → List ℕ → List ℕ
+sign_front positive b = if needs_sign positive b then sign_byte positive ∷ [] else []
+
+-- how far a number is from 0, or from -1 below it
+abbrev pub distance : ℤ → ℕ
+distance (pos n) = n
+distance (negsuc n) = n

@@ -1,0 +1,35 @@
+-- What a call does that writes an element around what a closure writes, and what the closure is lent.
+use Rattle.std.specs.Prelude.{◌≡◌, ℕ, List, ◌++◌, length, Option, Some, None, Result, MatchOption, IsErrAnd}
+use Rattle.std.specs.Borrow.{Lends, MutBor, Fml}
+use Rattle.std.specs.Fn.{Once, FnOnceReturnsAtMut}
+use Rattle.yasna_base.specs.declared.error.ASN1Error.{ASN1Error}
+use Rattle.yasna_writer.specs.View.{Written, holding, handed}
+use Rattle.yasna_writer.specs.State.{KeptAtEnd}
+use Rattle.yasna_writer.specs.contracts.sequence.DERWriterSeq.{the_row}
+use Rattle.yasna_writer.specs.contracts.state.Writer.{the_row as writer_row}
+
+-- a kept failure wins over a closure's own answer
+abbrev pub AnswersKept : {T E : Type 0} → (ASN1Error → E → Type 0) → Option ASN1Error → Result T E → Result T E → Type 0
+AnswersKept from None own result = result ≡ own
+AnswersKept from (Some k) own result = IsErrAnd result (λ e. from k e)
+
+-- the closure f ran behind the bytes that stood; where nothing failed, form of what it appended was written, and its
+-- own answer is handed on, an Err too
+pub record WroteAround {F T E : Type 0} (g : Once F (MutBor Written × Unit {0}) (Result T E × (MutBor Written × Unit {0}))) (from : ASN1Error → E → Type 0) (f : F) (form : List ℕ → List ℕ) (old new : Written) (result : Result T E) : Type 0 where
+  pub own : Result T E
+  pub left : Written
+  pub ran : FnOnceReturnsAtMut g f (handed old) own left
+  pub kept : KeptAtEnd (length old.bytes) left new.kept
+  pub answers : AnswersKept from new.kept own result
+  pub bytes : new.kept ≡ None → (c : List ℕ) → left.bytes ≡ old.bytes ++ c → new ≡ holding old (old.bytes ++ form c)
+
+-- a kept failure is answered and stays, and the closure doesn't run
+abbrev pub AnswersOnly : {T E : Type 0} → (ASN1Error → E → Type 0) → ASN1Error → Written → Result T E → Type 0
+AnswersOnly from k new result = (new.kept ≡ Some k) × IsErrAnd result (λ e. from k e)
+
+abbrev pub Encloses : {F T E : Type 0} → Once F (MutBor Written × Unit {0}) (Result T E × (MutBor Written × Unit {0})) → (ASN1Error → E → Type 0) → F → (List ℕ → List ℕ) → Written → Written → Result T E → Type 0
+Encloses g from f form old new result = MatchOption old.kept (WroteAround g from f form old new result) (λ k. AnswersOnly from k new result)
+
+-- s ends as the last value behind r
+abbrev pub LendsNext : MutBor Written → MutBor Written → Fml
+LendsNext s r = Lends the_row writer_row s r (λ w. w)

@@ -1,0 +1,37 @@
+-- How an element with parts begins and ends in a writing.
+use Rattle.std.specs.Prelude.{◌≡◌, ℕ, ◌≤◌, ◌<◌, ◌⊎◌, length, Option, Some, None, Result, MatchResult}
+use Rattle.yasna_base.specs.declared.error.ASN1Error.{ASN1Error}
+use Rattle.yasna_base.specs.declared.error.ASN1ErrorKind.TheVariants.{OutOfMemory, Invalid}
+use Rattle.yasna_base.specs.declared.mode.BERMode.TheVariants.{Der}
+use Rattle.yasna_base.specs.declared.tag.Tag.{Tag}
+use Rattle.yasna_base.specs.Error.{kind_of}
+use Rattle.yasna_writer.specs.declared.draft.Beginning.{Beginning}
+use Rattle.yasna_writer.specs.Draft.{with_element}
+use Rattle.yasna_writer.specs.View.{Written}
+use Rattle.yasna_base.specs.Identifier.{tag_or}
+
+-- why k is kept at the end of an element that began behind n bytes, where a closure left this writing: a write of the
+-- closure failed, or there is no memory, or fewer bytes are left than there were
+abbrev pub FailsAtEnd : ℕ → Written → ASN1Error → Type 0
+FailsAtEnd n left k = (left.kept ≡ Some k) ⊎ ((left.kept ≡ None) × ((kind_of k ≡ OutOfMemory) ⊎ ((kind_of k ≡ Invalid) × (length left.bytes < n))))
+
+abbrev pub KeptAtEnd : ℕ → Written → Option ASN1Error → Type 0
+KeptAtEnd n left None = (left.kept ≡ None) × (n ≤ length left.bytes)
+KeptAtEnd n left (Some k) = FailsAtEnd n left k
+
+-- an element begins behind the bytes that stand, under this tag
+pub record BeginsAt (tag : Tag) (old new : Written) (b : Beginning) : Type 0 where
+  pub fresh : old.kept ≡ None
+  pub mode : old.mode ≡ Der
+  pub tagged : b.tag ≡ tag
+  pub start : b.start ≡ length old.bytes
+  pub same : new ≡ record old { tag = None }
+
+-- an element begins, or a kept failure is answered
+abbrev pub Begins : Tag → Written → Written → Result Beginning ASN1Error → Type 0
+Begins own old new result = MatchResult result (BeginsAt (tag_or old.tag own) old new) (λ k. (old.kept ≡ Some k) × (new ≡ old))
+
+-- an element ends around what is left from its beginning on, or a failure is kept
+pub record Ends (b : Beginning) (left new : Written) : Type 0 where
+  pub kept : KeptAtEnd b.start left new.kept
+  pub bytes : new.kept ≡ None → new ≡ record { bytes = with_element b.tag b.start left.bytes; mode = Der; tag = None; kept = None }

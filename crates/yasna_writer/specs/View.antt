@@ -1,0 +1,42 @@
+-- A writing as contracts see it, and what a write does to it.
+use Rattle.std.specs.Prelude.{◌≡◌, ℕ, List, [], ◌++◌, Option, Some, None, Result, Ok, Err, MatchOption, MatchResult, Vec}
+use Rattle.std.specs.Global.{Global}
+use Rattle.yasna_base.specs.declared.error.ASN1Error.{ASN1Error}
+use Rattle.yasna_base.specs.declared.error.ASN1ErrorKind.TheVariants.{OutOfMemory}
+use Rattle.yasna_base.specs.declared.mode.BERMode.{BERMode}
+use Rattle.yasna_base.specs.declared.mode.BERMode.TheVariants.{Der}
+use Rattle.yasna_base.specs.declared.tag.Tag.{Tag}
+use Rattle.yasna_base.specs.Error.{kind_of}
+
+-- the bytes so far, the canonical mode of what is written, the implicit tag that the next element takes, and the
+-- failure that later calls answer
+pub record Written : Type 0 where
+  pub bytes : List ℕ
+  pub mode : BERMode
+  pub tag : Option Tag
+  pub kept : Option ASN1Error
+
+-- the writing with these bytes, with no implicit tag and no failure
+abbrev pub holding : Written → List ℕ → Written
+holding w bs = record w { bytes = bs; tag = None; kept = None }
+
+-- the writing that a closure is handed, with the bytes that stand already
+abbrev pub handed : Written → Written
+handed w = holding w w.bytes
+
+-- a writing that begins
+abbrev pub empty_writing : Written
+empty_writing = record { bytes = []; mode = Der; tag = None; kept = None }
+
+-- a kept failure is answered and stays; else Ok appended bs under the tag, which is used up, and Err is want of
+-- memory, which is kept
+abbrev pub Wrote : List ℕ → Written → Written → Result (Unit {0}) ASN1Error → Type 0
+Wrote bs old new r =
+    MatchOption old.kept
+    (MatchResult r (λ _. new ≡ holding old (old.bytes ++ bs)) (λ e. (kind_of e ≡ OutOfMemory) × (new.kept ≡ Some e)))
+    (λ k. (r ≡ Err k) × (new.kept ≡ Some k))
+
+-- the bytes of a vector that was made
+abbrev pub bytes_of : {E : Type 0} → Result (Vec ℕ Global) E → Result (List ℕ) E
+bytes_of (Ok v) = Ok (v.items)
+bytes_of (Err e) = Err e

@@ -1,0 +1,300 @@
+//! Contents, and the headers of elements with parts, which stand apart from them until all is joined.
+//!
+//! Where an element with parts begins, an entry with no bytes marks its place; where it ends, the entry takes its
+//! header. So contents are only appended to, no header is ever moved, and how deep elements nest costs nothing.
+ghost use Rattle.std.specs.Prelude.{◌≡◌, ◌≤◌, ◌<◌, ◌+◌, ◌++◌, ◌⊎◌, [], length, length as count, vec_len, IfOk, OnOk, IfSome, MatchResult};
+ghost use Rattle.yasna_base.specs.Error.{kind_of};
+ghost use Rattle.yasna_base.specs.declared.error.ASN1ErrorKind.TheVariants.{OutOfMemory, Invalid};
+ghost use Rattle.yasna_base.specs.declared.mode.BERMode.TheVariants.{Der};
+ghost use Rattle.yasna_base.specs.declared.tag.PCBit.TheVariants.{Primitive};
+ghost use Rattle.yasna_base.specs.Canonical.{canonical_element};
+ghost use Rattle.yasna_writer.specs.Draft.{mark_bytes, joined, AreInOrder, IsInnermost, with_element};
+
+use crate::header::{Header, append_header, header_length};
+use crate::identifier::{append, append_identifier};
+use crate::length::append_length;
+use std::alloc::{AllocError, Global};
+use std::marker::Model;
+use std::mem;
+use yasna_base::{ASN1Error, ASN1ErrorKind, ASN1Result, PCBit, Tag};
+
+// What an element that isn't ended knows of its place.
+#[derive(Clone, Copy)]
+pub(crate) struct Waiting {
+    // How many bytes stand in front of it, those of headers too.
+    start: usize,
+    // How many elements aren't ended, it and those around it.
+    depth: usize,
+}
+
+// An element with parts that isn't ended, or the header of one that is.
+#[derive(Clone, Copy)]
+pub(crate) enum Mark {
+    Waits(Waiting),
+    Known(Header),
+}
+
+// A place in the contents at which an element with parts begins.
+#[derive(Clone, Copy)]
+pub(crate) struct Entry {
+    place: usize,
+    mark: Mark,
+}
+
+// Where an element with parts begins, as the call that writes it remembers it.
+#[derive(Clone, Copy)]
+pub(crate) struct Beginning {
+    // The number of its entry.
+    entry: usize,
+    // How many bytes stand in front of it, those of headers too.
+    pub(crate) start: usize,
+    pub(crate) tag: Tag,
+}
+
+// Contents and headers. Contracts see the bytes that they are joined to.
+#[derive(Drop)]
+pub(crate) struct Draft {
+    // Contents, which are only appended to.
+    contents: Vec<u8>,
+    // Where headers belong, by their places.
+    entries: Vec<Entry>,
+    // How many bytes the headers take.
+    heads: usize,
+    // How many elements aren't ended.
+    waits: usize,
+}
+
+impl Model for Draft {
+    ghost use Rattle.std.specs.Prelude.{ℕ, List, length};
+    ghost use Rattle.yasna_writer.specs.Draft.{joined, AreEntries};
+
+    ghost Value = { List ℕ };
+
+    ghost view = { λ d. joined d.entries.items d.contents.items };
+
+    ghost invariant = { λ d. AreEntries d.entries.items (length d.contents.items) d.heads d.waits };
+}
+
+// Whether the element that began there is the innermost that isn't ended, and at which place.
+#[inline(always)]
+fn innermost(entries: &[Entry], waits: usize, beginning: Beginning) -> Option<usize>
+    ensures { IfSome result (λ place. IsInnermost entries.now waits beginning place) }
+{
+    if beginning.entry >= entries.len() {
+        return None;
+    }
+    let entry = entries[beginning.entry];
+    match entry.mark {
+        Mark::Waits(waiting) if waiting.depth == waits && waiting.start == beginning.start => {
+            Some(entry.place)
+        }
+        _ => None,
+    }
+}
+
+// Appends the contents with each header at its place.
+fn append_joined(out: &mut Vec<u8>, contents: &[u8], entries: &[Entry]) -> Result<(), AllocError>
+    requires { AreInOrder 0 entries.now (length contents.now) }
+    ensures { OnOk result (out.new.items ≡ out.old.items ++ joined entries.now contents.now) }
+{
+    let mut from = 0;
+    let mut rest = entries;
+    while let Some((entry, tail)) = rest.split_first() {
+        append(out, &contents[from..entry.place])?;
+        append_mark(out, entry.mark)?;
+        from = entry.place;
+        rest = tail;
+    }
+    append(out, &contents[from..])
+}
+
+// Appends a header that is known.
+#[inline(always)]
+fn append_mark(out: &mut Vec<u8>, mark: Mark) -> Result<(), AllocError>
+    ensures { OnOk result (out.new.items ≡ out.old.items ++ mark_bytes mark) }
+{
+    match mark {
+        Mark::Waits(_) => Ok(()),
+        Mark::Known(header) => append_header(out, header),
+    }
+}
+
+impl Draft {
+    // A draft that begins.
+    #[inline(always)]
+    pub(crate) fn new(alloc: Global) -> Draft
+        ensures { result ≡ [] }
+    {
+        Draft {
+            contents: Vec::new(alloc),
+            entries: Vec::new(alloc),
+            heads: 0,
+            waits: 0,
+        }
+    }
+
+    // How many bytes there are.
+    #[inline(always)]
+    fn len(&self) -> usize
+        ensures { result ≡ length self.now }
+    {
+        self.contents.len() + self.heads
+    }
+
+    // Appends bytes.
+    #[tactic(auto, using(crate::proofs::Drafts::joined_append))]
+    #[inline(always)]
+    pub(crate) fn append(&mut self, bytes: &[u8]) -> Result<(), AllocError>
+        ensures { OnOk result (self.new ≡ self.old ++ bytes.now) }
+    {
+        append(&mut self.contents, bytes)
+    }
+
+    // Appends an element without parts, whose contents are two pieces.
+    #[tactic(auto, using(crate::proofs::Drafts::joined_append))]
+    pub(crate) fn append_primitive(
+        &mut self,
+        tag: Tag,
+        front: &[u8],
+        rest: &[u8],
+    ) -> Result<(), AllocError>
+        ensures { OnOk result (self.new ≡ self.old ++ canonical_element Der tag Primitive (front.now ++ rest.now)) }
+    {
+        append_primitive(&mut self.contents, tag, front, rest)
+    }
+
+    // Marks where an element with parts begins. Where there is no memory for the mark, its end does without.
+    #[inline(always)]
+    pub(crate) fn begin(&mut self, tag: Tag) -> Beginning
+        ensures same { self.new ≡ self.old }
+        ensures start { result.start ≡ length self.old }
+        ensures tagged { result.tag ≡ tag }
+    {
+        let place = self.contents.len();
+        let start = self.len();
+        let beginning = Beginning {
+            entry: self.entries.len(),
+            start,
+            tag,
+        };
+        let depth = self.waits + 1;
+        let entry = Entry {
+            place,
+            mark: Mark::Waits(Waiting { start, depth }),
+        };
+        if self.entries.push(entry).is_ok() {
+            self.waits = depth;
+        }
+        beginning
+    }
+
+    // Makes what stands from a beginning on an element, or answers `Invalid` where fewer bytes are left than there were,
+    // or `OutOfMemory`.
+    #[inline(always)]
+    pub(crate) fn end(&mut self, alloc: Global, beginning: Beginning) -> ASN1Result<()>
+        ensures { MatchResult result (λ _. (beginning.start ≤ length self.old) × (self.new ≡ with_element beginning.tag beginning.start self.old)) (λ e. (kind_of e ≡ OutOfMemory) ⊎ ((kind_of e ≡ Invalid) × (length self.old < beginning.start))) }
+    {
+        let all = self.len();
+        if all < beginning.start {
+            return Err(ASN1Error::new(ASN1ErrorKind::Invalid));
+        }
+        let length = all - beginning.start;
+        let tag = beginning.tag;
+        let Some(place) = innermost(&self.entries, self.waits, beginning) else {
+            return self.end_apart(alloc, beginning.start, Header { tag, length });
+        };
+        let heads = self.heads + header_length(tag, length);
+        if heads > usize::MAX / 2 {
+            return Err(ASN1Error::new(ASN1ErrorKind::OutOfMemory));
+        }
+        self.entries[beginning.entry] = Entry {
+            place,
+            mark: Mark::Known(Header { tag, length }),
+        };
+        self.heads = heads;
+        self.waits -= 1;
+        Ok(())
+    }
+
+    // The same where the element has no entry, or others that aren't ended stand behind it: all is joined, so that the
+    // element's start is a place in the contents.
+    #[cold]
+    fn end_apart(&mut self, alloc: Global, start: usize, header: Header) -> ASN1Result<()>
+        requires reached { start ≤ length self.old }
+        requires counted { header.length + start ≡ length self.old }
+        ensures { MatchResult result (λ _. self.new ≡ with_element header.tag start self.old) (λ e. kind_of e ≡ OutOfMemory) }
+    {
+        match self.ended(alloc, start, header) {
+            Ok(draft) => {
+                *self = draft;
+                Ok(())
+            }
+            Err(_) => Err(ASN1Error::new(ASN1ErrorKind::OutOfMemory)),
+        }
+    }
+
+    // The bytes with a header at a place.
+    fn ended(&mut self, alloc: Global, place: usize, header: Header) -> Result<Draft, AllocError>
+        requires reached { place ≤ length self.old }
+        requires counted { header.length + place ≡ length self.old }
+        ensures { IfOk result (λ draft. draft ≡ with_element header.tag place self.old) }
+    {
+        let contents = self.take_bytes(alloc)?;
+        let mut entries = Vec::new(alloc);
+        entries.push(Entry {
+            place,
+            mark: Mark::Known(header),
+        })?;
+        Ok(Draft {
+            contents,
+            entries,
+            heads: header_length(header.tag, header.length),
+            waits: 0,
+        })
+    }
+
+    // Takes out the contents with each header at its place. Where there is no header they are the contents themselves.
+    #[inline(always)]
+    pub(crate) fn take_bytes(&mut self, alloc: Global) -> Result<Vec<u8>, AllocError>
+        ensures { IfOk result (λ v. v.items ≡ self.old) }
+    {
+        if self.entries.is_empty() {
+            return Ok(mem::replace(&mut self.contents, Vec::new(alloc)));
+        }
+        join(alloc, &self.contents, &self.entries, self.len())
+    }
+}
+
+// The contents with each header at its place, `length` bytes in all.
+fn join(
+    alloc: Global,
+    contents: &[u8],
+    entries: &[Entry],
+    length: usize,
+) -> Result<Vec<u8>, AllocError>
+    requires { AreInOrder 0 entries.now (count contents.now) }
+    ensures { IfOk result (λ v. v.items ≡ joined entries.now contents.now) }
+{
+    let mut out = Vec::with_capacity(alloc, length)?;
+    append_joined(&mut out, contents, entries)?;
+    Ok(out)
+}
+
+// Appends an element without parts, whose contents are two pieces.
+fn append_primitive(
+    out: &mut Vec<u8>,
+    tag: Tag,
+    front: &[u8],
+    rest: &[u8],
+) -> Result<(), AllocError>
+    ensures items { OnOk result (out.new.items ≡ out.old.items ++ canonical_element Der tag Primitive (front.now ++ rest.now)) }
+    ensures grows { vec_len out.old ≤ vec_len out.new }
+{
+    let Some(length) = front.len().checked_add(rest.len()) else {
+        return Err(AllocError);
+    };
+    append_identifier(out, tag, PCBit::Primitive)?;
+    append_length(out, length)?;
+    append(out, front)?;
+    append(out, rest)
+}

@@ -1,0 +1,109 @@
+//! Identifier octets (X.690, 8.1.2).
+ghost use Rattle.std.specs.Prelude.{◌≡◌, ◌<◌, ◌≤◌, ◌+◌, ◌*◌, ◌++◌, length, OnOk, vec_len};
+ghost use Rattle.yasna_base.specs.Identifier.{identifier, class_number, bit_number, leading_byte};
+ghost use Rattle.yasna_base.specs.Digits.{base128};
+ghost use Rattle.yasna_base.specs.declared.tag.PCBit.TheVariants.{Constructed};
+ghost use Rattle.yasna_writer.specs.Identifier.{base128_digits, base128_byte};
+
+use std::alloc::AllocError;
+use yasna_base::{PCBit, Tag, TagClass};
+
+// Appends bytes.
+#[inline(always)]
+pub(crate) fn append(out: &mut Vec<u8>, bytes: &[u8]) -> Result<(), AllocError>
+    ensures items { OnOk result (out.new.items ≡ out.old.items ++ bytes.now) }
+    ensures grows { vec_len out.old ≤ vec_len out.new }
+{
+    out.extend_from_slice(bytes)
+}
+
+// The class's place in the first byte.
+#[inline(always)]
+fn class_bits(class: TagClass) -> u8
+    ensures { result ≡ 64 * class_number class }
+{
+    match class {
+        TagClass::Universal => 0,
+        TagClass::Application => 64,
+        TagClass::ContextSpecific => 128,
+        TagClass::Private => 192,
+    }
+}
+
+// The bit's place in the first byte.
+#[inline(always)]
+fn constructed_bit(pc: PCBit) -> u8
+    ensures { result ≡ 32 * bit_number pc }
+{
+    match pc {
+        PCBit::Primitive => 0,
+        PCBit::Constructed => 32,
+    }
+}
+
+// The one byte of an identifier whose number is below 31.
+#[inline(always)]
+pub(crate) fn leading(tag: Tag, pc: PCBit) -> u8
+    requires { tag.tag_number < 31 }
+    ensures { result ≡ leading_byte tag pc tag.tag_number }
+{
+    class_bits(tag.tag_class) + constructed_bit(pc) + tag.tag_number as u8
+}
+
+// How many bytes a number takes in base 128.
+#[tactic(auto, using(crate::proofs::Identifiers::base128_length_small, crate::proofs::Identifiers::base128_length_step, crate::proofs::Identifiers::base128_length_at_most))]
+fn base128_length(number: u64) -> usize
+    ensures { result ≡ length (base128 number) }
+{
+    if number < 128 {
+        return 1;
+    }
+    base128_length(number / 128) + 1
+}
+
+// The last byte of a number in base 128.
+fn base128_byte(more: bool, number: u64) -> u8
+    ensures { result ≡ base128_byte more number }
+{
+    let digit = (number % 128) as u8;
+    if more { 128 + digit } else { digit }
+}
+
+// Appends a number in base 128, with 128 added to all its digits, or to all but the last.
+#[tactic(auto, using(crate::proofs::Identifiers::base128_digits_small, crate::proofs::Identifiers::base128_digits_step))]
+fn append_base128(out: &mut Vec<u8>, number: u64, more: bool) -> Result<(), AllocError>
+    ensures items { OnOk result (out.new.items ≡ out.old.items ++ base128_digits more number) }
+    ensures grows { vec_len out.old ≤ vec_len out.new }
+{
+    if number >= 128 {
+        append_base128(out, number / 128, true)?;
+        return append(out, &[base128_byte(more, number)]);
+    }
+    append(out, &[base128_byte(more, number)])
+}
+
+// Appends the identifier of a tag.
+#[tactic(auto, using(yasna_base::proofs::Identifier::identifier_short, yasna_base::proofs::Identifier::identifier_long), unfolding(crate::specs::Identifier::base128_digits))]
+pub(crate) fn append_identifier(out: &mut Vec<u8>, tag: Tag, pc: PCBit) -> Result<(), AllocError>
+    ensures items { OnOk result (out.new.items ≡ out.old.items ++ identifier tag pc) }
+    ensures grows { vec_len out.old ≤ vec_len out.new }
+{
+    if tag.tag_number < 31 {
+        return append(out, &[leading(tag, pc)]);
+    }
+    append(out, &[class_bits(tag.tag_class) + constructed_bit(pc) + 31])?;
+    append_base128(out, tag.tag_number, false)
+}
+
+// How many bytes the identifier of a constructed element takes.
+#[tactic(auto, using(yasna_base::proofs::Identifier::identifier_short, yasna_base::proofs::Identifier::identifier_long, crate::proofs::Identifiers::base128_length_at_most))]
+#[inline(always)]
+pub(crate) fn identifier_length(tag: Tag) -> usize
+    ensures octets { result ≡ length (identifier tag Constructed) }
+    ensures few { result ≤ 11 }
+{
+    if tag.tag_number < 31 {
+        return 1;
+    }
+    base128_length(tag.tag_number) + 1
+}

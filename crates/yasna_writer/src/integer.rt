@@ -1,0 +1,70 @@
+//! The fewest bytes of a number, highest first (X.690, 8.3).
+ghost use Rattle.std.specs.Prelude.{◌≡◌, ◌-◌, ◌*◌, ◌^◌, ◌<◌, ◌≤◌};
+ghost use Rattle.yasna_base.specs.BigInteger.{without};
+ghost use Rattle.yasna_writer.specs.Integer.{sign_byte, needs_sign, sign_front, distance};
+
+// The bytes without those equal to `byte` that stand in front.
+pub(crate) fn without(byte: u8, bytes: &[u8]) -> &[u8]
+    ensures { result.now ≡ without byte bytes.now }
+{
+    let mut rest = bytes;
+    while let Some((first, tail)) = rest.split_first() {
+        if *first != byte {
+            return rest;
+        }
+        rest = tail;
+    }
+    rest
+}
+
+// The byte that stands endlessly in front of a number in two's complement.
+pub(crate) fn sign_byte(positive: bool) -> u8
+    ensures { result ≡ sign_byte positive }
+{
+    if positive { 0 } else { 255 }
+}
+
+// Whether bytes need that byte in front to have that sign.
+fn needs_sign(positive: bool, bytes: &[u8]) -> bool
+    ensures { result ≡ needs_sign positive bytes.now }
+{
+    match bytes.first() {
+        None => true,
+        Some(first) if positive => *first >= 128,
+        Some(first) => *first < 128,
+    }
+}
+
+// That byte where it is needed.
+pub(crate) fn sign_front(positive: bool, bytes: &[u8]) -> &'static [u8]
+    ensures { result.now ≡ sign_front positive bytes.now }
+{
+    if !needs_sign(positive, bytes) {
+        return &[];
+    }
+    if positive { &[0] } else { &[255] }
+}
+
+// How far a number is from 0, or from -1 below it.
+#[inline(always)]
+fn distance(val: i64) -> u64
+    ensures distance { result ≡ distance val }
+    ensures small { result < 2 ^ 63 }
+{
+    if val < 0 {
+        return (-1 - val).cast_unsigned();
+    }
+    val.cast_unsigned()
+}
+
+// How many bytes a number takes in two's complement: one more bit than its distance.
+#[inline(always)]
+pub(crate) fn octets(val: i64) -> usize
+    ensures some { 1 ≤ result }
+    ensures few { result ≤ 8 }
+    ensures fits { distance val < 128 * 256 ^ (result - 1) }
+    ensures least { 2 ≤ result → 128 * 256 ^ (result - 2) ≤ distance val }
+{
+    let bits = 64 - distance(val).leading_zeros();
+    bits as usize / 8 + 1
+}

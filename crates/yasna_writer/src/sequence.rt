@@ -1,0 +1,105 @@
+//! Elements with parts (X.690, 8.9).
+ghost use Rattle.std.specs.Prelude.{◌≡◌, None};
+ghost use Rattle.std.specs.Borrow.{sem};
+ghost use Rattle.std.specs.Fn.{FnOnceTakesAtMut};
+ghost use Rattle.yasna_base.specs.declared.tag.PCBit.TheVariants.{Constructed};
+ghost use Rattle.yasna_base.specs.Identifier.{universal, tag_or};
+ghost use Rattle.yasna_base.specs.Canonical.{canonical_element};
+ghost use Rattle.yasna_writer.specs.View.{handed};
+ghost use Rattle.yasna_writer.specs.Construct.{Constructed as Ended};
+ghost use Rattle.yasna_writer.specs.State.{Ends};
+ghost use Rattle.yasna_writer.specs.Sequence.{Encloses, LendsNext};
+
+use crate::draft::Beginning;
+use crate::state::{DERWriter, Writer};
+use std::marker::Model;
+use yasna_base::ASN1Error;
+use yasna_base::tags::TAG_SEQUENCE;
+
+/// What a closure writes the parts of a sequence to, one after the other.
+#[derive(Drop)]
+pub struct DERWriterSeq {
+    inner: Writer,
+}
+
+impl Model for DERWriterSeq {
+    ghost use Rattle.yasna_writer.specs.View.{Written};
+
+    ghost Value = { Written };
+
+    ghost view = { λ s. s.inner };
+}
+
+impl DERWriterSeq {
+    // The parts that are written behind what a writer holds.
+    #[inline(always)]
+    pub(crate) fn over(inner: Writer) -> DERWriterSeq
+        ensures { result ≡ inner }
+    {
+        DERWriterSeq { inner }
+    }
+
+    // What the writing of these parts answers, where the closure answered `own`.
+    #[inline(always)]
+    pub(crate) fn finish<E: From<ASN1Error> + Drop>(
+        &mut self,
+        own: Result<(), E>,
+    ) -> Result<Vec<u8>, E>
+        ensures { Ended E.from_gives self.old own result }
+    {
+        self.inner.finish(own)
+    }
+
+    // What was written.
+    #[inline(always)]
+    fn into_inner(self) -> Writer
+        ensures { result ≡ self }
+    {
+        self.inner
+    }
+
+    // Ends the element around the parts.
+    #[inline(always)]
+    fn end(&mut self, beginning: Beginning)
+        ensures { Ends beginning self.old self.new }
+    {
+        self.inner.end(beginning);
+    }
+
+    /// The writer of the next part.
+    #[inline(always)]
+    pub fn next(&mut self) -> DERWriter<'_>
+        ensures* lends { sem 𝓛 (LendsNext self.entry result) }
+        ensures value { result.now ≡ record self.old { tag = None } }
+    {
+        self.inner.untag();
+        &mut self.inner
+    }
+}
+
+impl Writer {
+    /// Writes a SEQUENCE (X.690, 8.9): its contents are what the closure writes.
+    ///
+    /// A failure that is kept is answered, and the closure doesn't run. Else the closure's answer is handed on, and
+    /// where it is an `Err` of its own, the element still ends over what was written so far and the writing goes on.
+    /// Where a write of the closure failed, or there is no memory for the header (`OutOfMemory`), or the closure left
+    /// fewer bytes than there were (`Invalid`), that failure is answered instead and kept.
+    pub fn write_sequence<
+        T: Drop,
+        E: From<ASN1Error> + Drop,
+        F: FnOnce(&mut DERWriterSeq) -> Result<T, E>,
+    >(&mut self, f: F) -> Result<T, E>
+        requires { self.old.kept ≡ None → FnOnceTakesAtMut F.FnOnce f (handed self.old) }
+        ensures { Encloses F.FnOnce E.from_gives f (canonical_element self.old.mode (tag_or self.old.tag (universal 16)) Constructed) self.old self.new result }
+    {
+        let beginning = match self.begin(TAG_SEQUENCE) {
+            Ok(beginning) => beginning,
+            Err(error) => return Err(E::from(error)),
+        };
+        let mut sequence = DERWriterSeq::over(self.lend());
+        let own = f(&mut sequence);
+        sequence.end(beginning);
+        self.take_back(sequence.into_inner());
+        self.settle(own)
+    }
+}
