@@ -16,7 +16,7 @@ mod tuples;
 mod whole;
 
 pub use traits::{BERDecodable, DERCanonical, DEREncodable};
-pub use tuples::TupleParts;
+pub use tuples::{EncodableParts, TupleParts};
 pub use whole::{decode_ber, decode_ber_general, decode_der, encode_der, one_form};
 pub use yasna_base::error::{ASN1Error, ASN1ErrorKind, ASN1Result};
 pub use yasna_base::mode::BERMode;

@@ -57,6 +57,18 @@ pub trait DEREncodable {
         ensures { Wrote (form writer.old.mode self.now) writer.old writer.new result };
 }
 
+impl<'a, T: DEREncodable> DEREncodable for &'a T {
+    ghost form = { λ m v. T.form m v.now };
+
+    ghost nest = { λ m v. T.nest m v.now };
+
+    ghost encodable = { λ v. T.encodable v.now };
+
+    fn encode_der(&self, writer: DERWriter<'_>) -> ASN1Result<()> {
+        T::encode_der(*self, writer)
+    }
+}
+
 /// A type that is read from DER exactly where its one DER form stands, which BER reads too.
 ///
 /// It has no function: an impl proves the law.

@@ -9,7 +9,7 @@ ghost use Rattle.yasna_base.specs.Element.{Enclosed, AnyEnclosed};
 ghost use Rattle.yasna_base.specs.Coding.{ArePartsCoding};
 ghost use Rattle.yasna_base.specs.Canonical.{enclosed_form, enclosed_nest, Always};
 ghost use Rattle.yasna_base.proofs.Sequence.{part, no_part, tuple, part_written, no_part_written, tuple_written};
-ghost use Rattle.yasna_writer.specs.View.{Wrote};
+ghost use Rattle.yasna_writer.specs.View.{WroteParts};
 ghost use Rattle.yasna_reader.specs.View.{IsFresh};
 ghost use Rattle.yasna_reader.specs.Lending.{part_of};
 ghost use Rattle.yasna_reader.specs.Decodes.{Decodes, DecodesParts};
@@ -115,21 +115,43 @@ impl<A: DEREncodable, B: DEREncodable> DEREncodable for (A, B) {
     ghost encodable = { λ v. part_can A.encodable (part_can B.encodable Always) (v.0, (v.1, tt {0})) };
 
     fn encode_der(&self, writer: DERWriter<'_>) -> ASN1Result<()> {
-        writer.write_sequence(|seq| write_pair(self, seq))
+        writer.write_sequence(|seq| (&self.0, (&self.1, ())).write_parts(seq))
     }
 }
 
-// Writes both parts, one after the other.
-fn write_pair<A: DEREncodable, B: DEREncodable>(
-    pair: &(A, B),
-    seq: &mut DERWriterSeq,
-) -> ASN1Result<()>
-    requires first { A.encodable pair.now.0 }
-    requires second { B.encodable pair.now.1 }
-    ensures { Wrote (A.form seq.old.mode pair.now.0 ++ (B.form seq.old.mode pair.now.1 ++ [])) seq.old seq.new result }
-{
-    pair.0.encode_der(seq.next())?;
-    pair.1.encode_der(seq.next())
+/// Values that are written one after the other: pairs that end in `()`, as `(&a, (&b, (&c, ())))`.
+pub trait EncodableParts {
+    // The forms of the values, one after the other.
+    ghost parts_form: { BERMode → Self → List ℕ };
+
+    // Whether each has a form.
+    ghost parts_encodable: { Self → Type 0 };
+
+    /// Writes the values as parts of a SEQUENCE.
+    fn write_parts(&self, seq: &mut DERWriterSeq) -> ASN1Result<()>
+        requires { parts_encodable self.now }
+        ensures { WroteParts (parts_form seq.old.mode self.now) seq.old seq.new result };
+}
+
+impl EncodableParts for () {
+    ghost parts_form = { nothing_form };
+
+    ghost parts_encodable = { Always };
+
+    fn write_parts(&self, _seq: &mut DERWriterSeq) -> ASN1Result<()> {
+        Ok(())
+    }
+}
+
+impl<A: DEREncodable, W: EncodableParts> EncodableParts for (A, W) {
+    ghost parts_form = { part_form A.form W.parts_form };
+
+    ghost parts_encodable = { part_can A.encodable W.parts_encodable };
+
+    fn write_parts(&self, seq: &mut DERWriterSeq) -> ASN1Result<()> {
+        self.0.encode_der(seq.next())?;
+        self.1.write_parts(seq)
+    }
 }
 
 impl<A: DERCanonical, B: DERCanonical> DERCanonical for (A, B) {

@@ -5,7 +5,7 @@
 //! | Module | Holds |
 //! |---|---|
 //! | `known` | calls whose closures are known: their exact results follow from the contracts of `yasna` |
-//! | `third_party` | types of one's own: one that is read and written as a tuple, one step by step |
+//! | `third_party` | types of one's own: one that is read and written as a tuple, two step by step |
 #![tactic(auto)]
 
 mod known;
@@ -14,4 +14,4 @@ mod tests;
 mod third_party;
 
 pub use known::{constructed_integer, parsed_integer};
-pub use third_party::{Measurement, Version};
+pub use third_party::{Measurement, Sample, Version};

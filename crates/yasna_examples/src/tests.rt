@@ -1,6 +1,6 @@
 //! Each example once, with ample memory.
 
-use crate::{Measurement, Version, constructed_integer, parsed_integer};
+use crate::{Measurement, Sample, Version, constructed_integer, parsed_integer};
 use std::test::Fail;
 use yasna::{ASN1ErrorKind, decode_ber, decode_der, encode_der};
 
@@ -41,5 +41,30 @@ fn versions(rt: HostRuntime) -> Result<(), Fail> {
     let read: Version = decode_der(alloc, &bytes)?;
     assert_eq!(rt; read.major, 300);
     assert!(rt; !read.flag);
+    Ok(())
+}
+
+#[test]
+fn samples(rt: HostRuntime) -> Result<(), Fail> {
+    let alloc = rt.alloc();
+    let sample = Sample {
+        count: 300,
+        last: true,
+        shift: -129,
+    };
+    let bytes = encode_der(alloc, &sample)?;
+    assert_eq!(rt;
+        bytes.as_slice(),
+        [48, 11, 2, 2, 1, 44, 1, 1, 255, 2, 2, 255, 127].as_slice()
+    );
+    let read: Sample = decode_der(alloc, &bytes)?;
+    assert_eq!(rt; read.count, 300);
+    assert!(rt; read.last);
+    assert_eq!(rt; read.shift, -129);
+    let refused = decode_der::<Sample>(alloc, &[48, 6, 2, 1, 10, 1, 1, 255]);
+    assert_eq!(rt;
+        refused.err().map(|error| error.kind()),
+        Some(ASN1ErrorKind::Eof)
+    );
     Ok(())
 }

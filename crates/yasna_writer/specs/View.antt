@@ -36,6 +36,13 @@ Wrote bs old new r =
     (MatchResult r (λ _. new ≡ holding old (old.bytes ++ bs)) (λ e. (kind_of e ≡ OutOfMemory) × (new.kept ≡ Some e)))
     (λ k. (r ≡ Err k) × (new.kept ≡ Some k))
 
+-- the same of parts, of which there may be none: then nothing is written, and a failure that is kept isn't answered
+abbrev pub WroteParts : List ℕ → Written → Written → Result (Unit {0}) ASN1Error → Type 0
+WroteParts bs old new r =
+    MatchOption old.kept
+    (MatchResult r (λ _. record new { tag = None } ≡ holding old (old.bytes ++ bs)) (λ e. (kind_of e ≡ OutOfMemory) × (new.kept ≡ Some e)))
+    (λ k. new.kept ≡ Some k)
+
 -- the bytes of a vector that was made
 abbrev pub bytes_of : {E : Type 0} → Result (Vec ℕ Global) E → Result (List ℕ) E
 bytes_of (Ok v) = Ok (v.items)
