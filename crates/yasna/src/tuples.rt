@@ -11,8 +11,7 @@ ghost use Rattle.yasna_base.specs.Canonical.{enclosed_form, enclosed_nest, part_
 ghost use Rattle.yasna_base.proofs.Codings.{part, no_part, tuple};
 ghost use Rattle.yasna_base.proofs.Writings.{part_written, no_part_written, tuple_written};
 ghost use Rattle.yasna_writer.specs.Written.{Wrote};
-ghost use Rattle.yasna_reader.specs.View.{IsFresh};
-ghost use Rattle.yasna_reader.specs.Lending.{part_of};
+ghost use Rattle.yasna_reader.specs.State.{IsFresh, part_of};
 ghost use Rattle.yasna_reader.specs.Decodes.{Decodes, DecodesParts};
 
 use crate::traits::{BERDecodable, DERCanonical, DEREncodable};

@@ -1,13 +1,13 @@
 -- What reading a value of a type does: B m n v b says that b encodes v, S m n b what that asks of the bytes alone, and
 -- asks whether reading may want memory.
-use Rattle.std.specs.Prelude.{◌≡◌, ℕ, ◌≤◌, List, ◌++◌, length, Option, Some, None, Result, Ok, Err, Bool, true}
+use Rattle.std.specs.Prelude.{Bool, Err, List, None, Ok, Option, Result, Some, length, true, ℕ, ◌++◌, ◌≡◌, ◌≤◌}
+use Rattle.yasna_base.specs.Identifier.{AtEnd}
+use Rattle.yasna_base.specs.Refusal.{kind_of}
 use Rattle.yasna_base.specs.declared.error.ASN1Error.{ASN1Error}
 use Rattle.yasna_base.specs.declared.error.ASN1ErrorKind.TheVariants.{OutOfMemory}
 use Rattle.yasna_base.specs.declared.mode.BERMode.{BERMode}
-use Rattle.yasna_base.specs.Refusal.{kind_of}
-use Rattle.yasna_base.specs.Identifier.{AtEnd}
-use Rattle.yasna_reader.specs.Head.{IsPlain}
-use Rattle.yasna_reader.specs.View.{Reading}
+use Rattle.yasna_reader.specs.Refusal.{IsPlain}
+use Rattle.yasna_reader.specs.State.{Reading}
 
 -- the failure f says that no front of s is in S, or is of memory
 pub record Tells (asks : Bool) (S : List ℕ → Type 0) (s : List ℕ) (f : ASN1Error) : Type 0 where

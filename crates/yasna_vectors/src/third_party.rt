@@ -7,9 +7,9 @@ ghost use Rattle.yasna.specs.base.Sequence.{sequence_tag, Enclosed, AnyEnclosed,
 ghost use Rattle.yasna.specs.base.Simple.{Primitively, IsUnsigned};
 ghost use Rattle.yasna.specs.base.Types.{EncodesBoolean, EncodesUnsigned};
 ghost use Rattle.yasna.specs.reader.Decodes.{Decodes, Step, Done};
-ghost use Rattle.yasna.specs.reader.Lending.{part_of};
-ghost use Rattle.yasna.specs.reader.Typed.{Reads, NoLevel, Never};
-ghost use Rattle.yasna.specs.reader.View.{IsFresh};
+ghost use Rattle.yasna.specs.reader.Contents.{Never};
+ghost use Rattle.yasna.specs.reader.Primitive.{Reads, NoLevel};
+ghost use Rattle.yasna.specs.reader.State.{IsFresh, part_of};
 ghost use Rattle.yasna.specs.base.Canonical.{integer_form, boolean_form, leaf_nest, enclosed_form, enclosed_nest, part_form, part_nest, part_can, nothing_form, nothing_nest, Always};
 ghost use Rattle.yasna.proofs.Laws.{part, no_part, tuple, bool_coding, signed_coding, unsigned_coding};
 ghost use Rattle.yasna.proofs.Laws.{part_written, no_part_written, tuple_written, bool_written, signed_written, unsigned_written};

@@ -1,6 +1,6 @@
 use Rattle.std.proofs.Common.{arith}
 use Rattle.yasna_base.specs.Simple.{Primitively, IsNull}
-use Rattle.yasna_reader.proofs.Leaf.{leaf_decodes}
+use Rattle.yasna_reader.proofs.Primitives.{leaf_decodes}
 use Rattle.yasna.proofs.simple.UnitBERDecodable.decode_ber.Goals as goal
 
 pub returns : goal.returns

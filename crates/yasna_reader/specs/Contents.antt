@@ -1,0 +1,40 @@
+-- What contents say, and where reading them may want memory.
+use Rattle.std.specs.Global.{Global}
+use Rattle.std.specs.Prelude.{Bool, Err, List, Ok, Result, Vec, ℕ, ◌++◌, ◌∷◌, ◌≡◌, ◌≤◌, ◌⊎◌}
+use Rattle.yasna_base.specs.BigInteger.{IsBigInteger}
+use Rattle.yasna_base.specs.Identifier.{identifier}
+use Rattle.yasna_base.specs.Simple.{IsPrimitive}
+use Rattle.yasna_base.specs.declared.error.ASN1ErrorKind.{ASN1ErrorKind}
+use Rattle.yasna_base.specs.declared.error.ASN1ErrorKind.TheVariants.{OutOfMemory}
+use Rattle.yasna_base.specs.declared.mode.BERMode.{BERMode}
+use Rattle.yasna_base.specs.declared.tag.PCBit.{PCBit}
+use Rattle.yasna_base.specs.declared.tag.Tag.{Tag}
+use Rattle.yasna_reader.specs.Front.{Takes}
+use Rattle.yasna_reader.specs.Header.{AreContents}
+use Rattle.yasna_reader.specs.Refusal.{IsPlain}
+
+-- wherever c are the contents of a primitive element, memory may be wanting by M
+abbrev pub MayWant : (ℕ → Tag → List ℕ → Type 0) → List ℕ → Type 0
+MayWant M c = (n : ℕ) (m : BERMode) (t : Tag) (s r : List ℕ) → Takes (IsPrimitive AreContents n m t) s c r → M n t s
+
+-- contents that are taken exactly where W says so, want of memory aside
+abbrev pub Decides : {A : Type 0} → (A → List ℕ → Type 0) → (ℕ → Tag → List ℕ → Type 0) → List ℕ → Result A ASN1ErrorKind → Type 0
+Decides {A} W M c (Ok v) = W v c
+Decides {A} W M c (Err k) = ((k ≡ OutOfMemory) × MayWant M c) ⊎ (IsPlain k × ((v : A) → W v c → ⊥))
+
+-- a read that takes no memory
+abbrev pub Never : ℕ → Tag → List ℕ → Type 0
+Never n t s = ⊥
+
+-- an identifier of the tag, behind which a byte other than 0 stands
+pub record WantsMemory (n : ℕ) (t : Tag) (s : List ℕ) : Type 0 where
+  pub level : 1 ≤ n
+  pub bit : PCBit
+  pub size : ℕ
+  pub after : List ℕ
+  pub not_empty : size ≡ 0 → ⊥
+  pub joined : s ≡ identifier t bit ++ (size ∷ after)
+
+-- the contents of an INTEGER as they are, and whether the number isn't negative
+abbrev pub HoldsBigInteger : BERMode → Vec ℕ Global × Bool → List ℕ → Type 0
+HoldsBigInteger m v c = IsBigInteger m (record { bytes = v.0.items; positive = v.1 }) c
