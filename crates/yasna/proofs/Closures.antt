@@ -22,6 +22,7 @@ use Rattle.yasna_reader.proofs.Tuples.{IsDecoder, IsPartsDecoder, steps_sequence
 use Rattle.yasna_reader.proofs.Whole.{whole}
 use Rattle.yasna_reader.proofs.Primitives.{leaf_decodes}
 pub use Rattle.yasna_reader.proofs.Tuples.{decodes_by, done_by, step_by}
+pub use Rattle.yasna_reader.proofs.Whole.{read_form, refuses_none}
 
 -- a typed read from what equals s
 pub reads_at : {A : Type 0} {B : ℕ → BERMode → Tag → A → List ℕ → Type 0} {D : ℕ → BERMode → Tag → List ℕ → Type 0} {M : ℕ → Tag → List ℕ → Type 0} {t : Tag} {p s : Reading} {r : Result A ASN1Error} {s' : Reading} → Reads B D M t p r s' → p ≡ s → Reads B D M t s r s'

@@ -20,12 +20,6 @@ use Rattle.yasna_reader.specs.Contents.{MayWant, WantsMemory}
 use Rattle.yasna_reader.proofs.Refusal.{begins_not_elsewhere, stood_refuses, refuses_less, may_want}
 use Rattle.yasna_reader.proofs.Header.{element_begins}
 
--- contents that stand for v, in a primitive element
-pub takes_value : {A : Type 0} (W : A → List ℕ → Type 0) (m : BERMode) (n : ℕ) (t : Tag) (s c r : List ℕ) (v : A) → Takes (IsPrimitive AreContents n m t) s c r → W v c → Takes (IsPrimitive W n m t) s v r
-takes_value W m n t s c r v x w =
-    let y = x.member in
-    record { front = x.front; joined = x.joined; member = record { level = y.level; contents = c; element = subst (λ z. Element m t Primitive z x.front) (sym y.meaning) y.element; meaning = w } }
-
 -- a front that is a primitive element begins with the tag
 takes_begins : (m : BERMode) (n : ℕ) (t : Tag) (s c r : List ℕ) → Takes (IsPrimitive AreContents n m t) s c r → BeginsWithTag t s
 takes_begins m n t s c r x = element_begins m t Primitive x.member.contents x.front s r x.member.element x.joined

@@ -35,19 +35,6 @@ pub takes_definite : (m : BERMode) (p : PCBit) → TakesDefinite m p
 takes_definite Ber p = tt
 takes_definite Der p = tt
 
--- no identifier stands there
-pub broken_refuses : (P : PCBit → Type 0) (m : BERMode) (n : ℕ) (t : Tag) (s : List ℕ) (e : Refusal) → ((u : Tag) (p : PCBit) (r : List ℕ) → u.tag_number < 2 ^ 64 → s ≡ identifier u p ++ r → ⊥) → (s ≡ [] → ⊥) → t.tag_number < 2 ^ 64 → IsPlain e.kind → e.moved ≡ true → RefusesHeader P m n t s e
-broken_refuses P m n t s e h i b k o =
-    let other : (u : Tag) → u.tag_number < 2 ^ 64 → BeginsWithTag u s → ⊥ = λ u l x. elim x [ begins p r f ↦ h u p r l f ] in
-    let here : IsElsewhere t s → ⊥ = λ x. elim x [ nothing f ↦ i f | another u l d f ↦ other u l f ] in
-    record {
-      none = λ _ x. other t b (header_begins x);
-      moved = (λ z. absurd (cc), λ x. absurd (here x));
-      too_deep = λ z. absurd (plain_not_deep k z);
-      deep = λ _ d. absurd (other t b d.1);
-      memory = plain_not_memory k;
-    }
-
 -- the identifier stands there within the levels, and no contents behind it
 pub wanted_refuses : (P : PCBit → Type 0) (m : BERMode) (n : ℕ) (t : Tag) (s : List ℕ) (e : Refusal) (p : PCBit) (y : List ℕ) → s ≡ identifier t p ++ y → 1 ≤ n → IsPlain e.kind → e.moved ≡ true → ((c : List ℕ) (f : ContentsEnd) → P p → Holds m p y c f → ⊥) → RefusesHeader P m n t s e
 wanted_refuses P m n t s e p y f l k o w = stood_refuses (HasHeader P m n t s) n t s e (begins p y f) l k o (λ x.
@@ -143,9 +130,3 @@ other_primitive W m n t q s c f e l i x k h = stood_refuses (Stands (IsPrimitive
     differ : (m : BERMode) (t : Tag) (q : PCBit) (s c : List ℕ) (f : ContentsEnd) → OpensAt m t q s c f → (y : List ℕ) → s ≡ identifier t Primitive ++ y → q ≡ Constructed → ⊥
     differ m t q s c (counted r) x y e i = let j = (identifier_exact t t q Primitive _ y (sym x.joined ∙ e)).1 in cc
     differ m t q s c uncounted x y e i = let j = (identifier_exact t t q Primitive _ y (sym x.joined ∙ e)).1 in cc
-
--- the contents of a primitive element are counted
-pub primitive_counts : (m : BERMode) (t : Tag) (q : PCBit) (s c : List ℕ) → q ≡ Primitive → OpensAt m t q s c uncounted → ⊥
-primitive_counts Ber t Primitive s c e x = x.taken
-primitive_counts Ber t Constructed s c e x = absurd (cc)
-primitive_counts Der t q s c e x = x.taken

@@ -51,10 +51,6 @@ fresh B D M t s r s' f x =
 pub no_level_at_end : (n : ℕ) (m : BERMode) (t : Tag) (s : List ℕ) → (t ≡ end_tag → ⊥) → AtEnd s → NoLevel n m t s → ⊥
 no_level_at_end n m t s o a x = not_at_end t s o a x.1
 
--- nothing wants memory at an end
-pub no_memory_at_end : (n : ℕ) (t : Tag) (s : List ℕ) → (t ≡ end_tag → ⊥) → AtEnd s → WantsMemory n t s → ⊥
-no_memory_at_end n t s o a x = not_at_end t s o a (begins x.bit _ x.joined)
-
 left_as : (b : Bool) (s : Reading) (e : ASN1Error) → (refusing b (untagged s) e).left ≡ s.left
 left_as true s e = refl
 left_as false s e = refl

@@ -39,11 +39,6 @@ at_end_elsewhere t s n (at_zeros b) = another end_tag (omega arith) (λ e. n (sy
 pub not_at_end : (t : Tag) (s : List ℕ) → (t ≡ end_tag → ⊥) → AtEnd s → BeginsWithTag t s → ⊥
 not_at_end t s n a b = begins_not_elsewhere b (at_end_elsewhere t s n a)
 
--- a refusal that didn't move says false
-pub unmoved : (b : Bool) → (b ≡ true → ⊥) → b ≡ false
-unmoved true h = absurd (h refl)
-unmoved false h = refl
-
 -- nothing is left, or an element of another tag stands there, and so nothing that begins with the tag
 pub elsewhere_refuses : (N : Type 0) (n : ℕ) (t : Tag) (s : List ℕ) (e : Refusal) → (N → BeginsWithTag t s) → IsElsewhere t s → IsPlain e.kind → e.moved ≡ false → Refuses N (IsTooDeep n t s) ⊥ t s e
 elsewhere_refuses N n t s e has f k o = record {

@@ -101,10 +101,6 @@ place_behind b r =
     let e : length (b ++ r) - length r ≡ length b = omega (arith, length-append b r) in
     ap (λ n. drop n (b ++ r)) e ∙ drop-append_seam b r
 
--- a tag with a number other than 0 isn't that of the end of contents
-pub not_end_tag : (t : Tag) → (t.tag_number ≡ 0 → ⊥) → t ≡ end_tag → ⊥
-not_end_tag t other e = other (ap (λ (u : Tag). u.tag_number) e)
-
 -- what holds of two things holds of what equals them
 pub replaced : {X Y : Type 0} {r x : X} {s y : Y} (B : X → Y → Type 0) → r ≡ x → s ≡ y → B x y → B r s
 replaced {r} {y} B e f h = subst (λ z. B r z) (sym f) (subst (λ z. B z y) (sym e) h)

@@ -38,10 +38,6 @@ parts_contents {C} {S} asks laws = alone_contents asks C S laws.among laws.alone
 pub parts_element : {A : Type 0} {E : A → A → Type 0} {C : BERMode → ℕ → A → List ℕ → Type 0} {S : BERMode → ℕ → List ℕ → Type 0} → (asks : Bool) → ArePartsCoding E C S → (t : Tag) → (t ≡ end_tag → ⊥) → (s : Reading) → IsFresh s → (r : Result A ASN1Error) (s' : Reading) → ReadsParts (DecodesParts asks C S) t s r s' → Decodes asks (Enclosed C t) (AnyEnclosed S t) s r s'
 parts_element {C} {S} asks laws = element asks C S (DecodesParts asks C S) (parts_contents asks laws)
 
--- nothing is read of no part
-pub nothing_by : (s : Reading) → DecodesParts false NoParts AnyNothing s (Ok tt) s
-nothing_by s = record { front = []; rest = s.left; joined = refl; stands = refl; left = refl }
-
 module _ {A V : Type 0} {E : A → A → Type 0} {B : BERMode → ℕ → A → List ℕ → Type 0} {S : BERMode → ℕ → List ℕ → Type 0} (laws : IsCoding E B S) (p q : Bool) (C : BERMode → ℕ → V → List ℕ → Type 0) (Q : BERMode → ℕ → List ℕ → Type 0) where
   tells_first : (m : BERMode) (n : ℕ) (s : List ℕ) (e : ASN1Error) → Tells p (S m n) s e → Tells (p || q) (AnyPart S Q m n) s e
   tells_first m n s e x = record {
@@ -139,14 +135,6 @@ abbrev pub seen : {U A : Type 0} → (U → A) → Result U ASN1Error → Result
 seen f (Ok v) = Ok (f v)
 seen f (Err e) = Err e
 
-along_by : {U A : Type 0} (f : U → A) (asks : Bool) (B : BERMode → ℕ → A → List ℕ → Type 0) (S : BERMode → ℕ → List ℕ → Type 0) (s : Reading) (r : Result U ASN1Error) (s' : Reading) → Decodes asks B S s (seen f r) s' → Decodes {A = U} asks (λ m n v b. B m n (f v) b) S s r s'
-along_by f asks B S s (Ok v) s' h = record { front = h.front; rest = h.rest; joined = h.joined; stands = h.stands; left = h.left }
-along_by f asks B S s (Err e) s' h = h
-
--- where a read answered x, and r is the same with values that stand for those of x, r decodes
-pub decodes_along : {U A : Type 0} (f : U → A) (asks : Bool) (B : BERMode → ℕ → A → List ℕ → Type 0) (S : BERMode → ℕ → List ℕ → Type 0) (s : Reading) (x : Result A ASN1Error) (r : Result U ASN1Error) (s' : Reading) → Decodes asks B S s x s' → x ≡ seen f r → Decodes {A = U} asks (λ m n v b. B m n (f v) b) S s r s'
-decodes_along f asks B S s x r s' h e = along_by f asks B S s r s' (subst (λ z. Decodes asks B S s z s') e h)
-
 made : {U A : Type 0} (f : U → A) (make : A → U) → ((w : A) → f (make w) ≡ w) → (asks : Bool) (C : BERMode → ℕ → A → List ℕ → Type 0) (S : BERMode → ℕ → List ℕ → Type 0) (s : Reading) (r : Result U ASN1Error) (s' : Reading) → DecodesParts asks (Made C make) S s r s' → DecodesParts {A = U} asks (λ m n v c. C m n (f v) c) S s r s'
 made f make back asks C S s (Ok v) s' h = record {
   front = h.front;
@@ -164,12 +152,6 @@ enclosed_seen f C t m (suc n) v b h = record { contents = h.contents; element = 
 last : {A U : Type 0} (asks : Bool) (C : BERMode → ℕ → A → List ℕ → Type 0) (S : BERMode → ℕ → List ℕ → Type 0) (make : A → U) (s : Reading) (x : Result A ASN1Error) (m : Reading) → DecodesParts asks C S s x m → (r : Result U ASN1Error) (s' : Reading) → AndIn (λ w. Done (make w)) x m r s' → DecodesParts asks (Made C make) S s r s'
 last asks C S make s (Ok w) m h r s' k = replaced (DecodesParts asks (Made C make) S s) k.0 k.1 (record { front = h.front; rest = h.rest; joined = h.joined; stands = (w, h.stands, refl); left = h.left })
 last asks C S make s (Err e) m h r s' k = replaced (DecodesParts asks (Made C make) S s) k.0 k.1 h
-
--- the first part by Decodes, and where it stood the others by DecodesParts
-pub parts_by : {A V : Type 0} {E : A → A → Type 0} {B : BERMode → ℕ → A → List ℕ → Type 0} {S : BERMode → ℕ → List ℕ → Type 0} → IsCoding E B S → (p q : Bool) (C : BERMode → ℕ → V → List ℕ → Type 0) (Q : BERMode → ℕ → List ℕ → Type 0) (s : Reading) → IsFresh s → (r : Result (A × V) ASN1Error) (s' : Reading) → Step (Decodes p B S) (λ a. Step (DecodesParts q C Q) (λ w. Done (a, w))) s r s' → DecodesParts (p || q) (PartOf B C) (AnyPart S Q) s r s'
-parts_by {B} {S} laws p q C Q s fresh r s' h =
-    made (λ v. v) (λ v. v) (λ v. refl) (p || q) (PartOf B C) (AnyPart S Q) s r s'
-    (stepped laws p q C Q (λ v. v) (λ a. Step (DecodesParts q C Q) (λ w. Done (a, w))) s fresh h.0 h.1 h.2 r s' (λ a now k. last q C Q (λ w. (a, w)) h.1 k.0 k.1 k.2 r s' k.3) h.3)
 
 -- an element around parts that are read one by one and make a value
 pub steps_sequence : {U A : Type 0} {E : A → A → Type 0} {C : BERMode → ℕ → A → List ℕ → Type 0} {S : BERMode → ℕ → List ℕ → Type 0} {asks : Bool} {P : Reading → Result U ASN1Error → Reading → Type 0} (f : U → A) (make : A → U) → ((w : A) → f (make w) ≡ w) → ArePartsCoding E C S → IsPartsDecoder asks C S make P → (t : Tag) → (t ≡ end_tag → ⊥) → (s : Reading) → IsFresh s → (r : Result U ASN1Error) (s' : Reading) → ReadsParts P t s r s' → Decodes {A = U} asks (λ m n v b. Enclosed C t m n (f v) b) (AnyEnclosed S t) s r s'

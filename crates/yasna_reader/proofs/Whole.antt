@@ -5,10 +5,10 @@ use Rattle.yasna_base.specs.declared.error.ASN1Error.{ASN1Error}
 use Rattle.yasna_base.specs.declared.error.ASN1ErrorKind.{ASN1ErrorKind}
 use Rattle.yasna_base.specs.declared.error.ASN1ErrorKind.TheVariants.{Eof, Extra, IntegerOverflow, StackOverflow, Invalid, OutOfMemory}
 use Rattle.yasna_base.specs.declared.mode.BERMode.{BERMode}
-use Rattle.yasna_base.specs.declared.mode.BERMode.TheVariants.{Der}
 use Rattle.yasna_base.specs.Refusal.{kind_of}
 use Rattle.yasna_base.specs.Identifier.{AtEnd}
-use Rattle.yasna_base.specs.Coding.{IsCoding, Any}
+use Rattle.yasna_base.specs.Coding.{IsCoding}
+use Rattle.yasna_base.specs.Canonical.{IsCanonicalMode}
 use Rattle.yasna_base.specs.Written.{IsWritten}
 use Rattle.yasna_reader.specs.State.{Reading, starts}
 use Rattle.yasna_reader.specs.Parse.{unless_kept, ended, parsed}
@@ -55,12 +55,12 @@ pub exactly : {A : Type 0} {E : A → A → Type 0} {B : BERMode → ℕ → A �
 exactly asks laws m s (Ok w) h v k = laws.exact m 101 101 w v s h k
 exactly asks laws m s (Err e) h v k = elim (memory_or (kind_of e)) [ inl f ↦ f | inr f ↦ absurd (h.none f (laws.among m 101 v s k)) ]
 
--- what DER reads is the form of the value
-pub read_form : {A : Type 0} {E : A → A → Type 0} {B : BERMode → ℕ → A → List ℕ → Type 0} {form : BERMode → A → List ℕ} {nest : BERMode → A → ℕ} {Can : A → Type 0} → IsWritten E B form nest Can → (s : List ℕ) (r : Result A ASN1Error) → Decoded false B (Any B) Der s r → IfOk r (λ v. B Der 101 v s × (s ≡ form Der v))
-read_form x s (Ok v) h = (h, (x.has.only Der 101 v s tt h).0)
-read_form x s (Err e) h = tt
+-- what is read in a canonical mode is the form of the value
+pub read_form : {A : Type 0} {E : A → A → Type 0} {B : BERMode → ℕ → A → List ℕ → Type 0} {form : BERMode → A → List ℕ} {nest : BERMode → A → ℕ} {Can : A → Type 0} {S : BERMode → ℕ → List ℕ → Type 0} (asks : Bool) → IsCoding E B S → IsWritten E B form nest Can → (m : BERMode) → IsCanonicalMode m → (s : List ℕ) (r : Result A ASN1Error) → Decoded asks B S m s r → IfOk r (λ v. B m 101 v s × (s ≡ form m v))
+read_form asks laws x m canonical s (Ok v) h = (h, (x.has.only m 101 v s canonical h).0)
+read_form asks laws x m canonical s (Err e) h = tt
 
 -- what is refused encodes nothing, where reading wants no memory
-pub refuses_none : {A : Type 0} (B : BERMode → ℕ → A → List ℕ → Type 0) (m : BERMode) (s : List ℕ) (r : Result A ASN1Error) → Decoded false B (Any B) m s r → IfErr r (λ e. ((v : A) → B m 101 v s → ⊥) × (kind_of e ≡ OutOfMemory → ⊥))
-refuses_none B m s (Ok v) h = tt
-refuses_none B m s (Err e) h = (λ v x. h.none (λ q. absurd (let f = h.memory q in cc)) (v, x), λ q. let f = h.memory q in cc)
+pub refuses_none : {A : Type 0} {E : A → A → Type 0} {B : BERMode → ℕ → A → List ℕ → Type 0} {S : BERMode → ℕ → List ℕ → Type 0} → IsCoding E B S → (m : BERMode) (s : List ℕ) (r : Result A ASN1Error) → Decoded false B S m s r → IfErr r (λ e. ((v : A) → B m 101 v s → ⊥) × (kind_of e ≡ OutOfMemory → ⊥))
+refuses_none laws m s (Ok v) h = tt
+refuses_none laws m s (Err e) h = (λ v x. h.none (λ q. let f = h.memory q in cc) (laws.among m 101 v s x), λ q. let f = h.memory q in cc)

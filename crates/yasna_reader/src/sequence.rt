@@ -57,8 +57,7 @@ impl<'a> ReaderState<'a> {
                     reader: self.within(&opened),
                 };
                 let answer = f(&mut parts);
-                let Parts { reader } = parts;
-                self.leave(&opened, answer, &reader)
+                self.leave(&opened, answer, &parts.reader)
             }
             Err(refusal) => self.settle(Err(refusal)),
         }
