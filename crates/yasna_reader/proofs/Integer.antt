@@ -62,7 +62,10 @@ not_eight m c l v h = too_far c h.integer.in_bytes h.integer.minimal l (subst (�
 
 -- At most eight bytes are one.
 pub says_signed : (m : BERMode) (c : List ℕ) (v : ℤ) → IsBytes c → IsMinimal c → length c ≤ 8 → v ≡ twos c → IsSigned w64 m v c
-says_signed m c v b k l e = record { integer = record { in_bytes = b; minimal = k; number = sym e }; in_type = subst (λ z. FitsSigned w64 z) (sym e) (eight_fit c b l) }
+says_signed m c v b k l e = record {
+  integer = record { in_bytes = b; minimal = k; number = sym e };
+  in_type = subst (λ z. FitsSigned w64 z) (sym e) (eight_fit c b l);
+}
 
 -- The sign is that of the first bit.
 pub twos_signed : (c : List ℕ) → 1 ≤ length c → signed_number (nat_lt (get_or c 0 0) 128) c ≡ twos c
@@ -73,7 +76,8 @@ twos_signed (x ∷ xs) l = elim (cases_lt x 128) [
 ]
 
 -- A further byte behind the first i.
-pub signed_more : (p : Bool) (c : List ℕ) (i : ℕ) → i < length c → signed_number p (take (i + 1) c) ≡ signed_number p (take i c) *ℤ pos 256 +ℤ pos (get_or c i 0)
+pub signed_more : (p : Bool) (c : List ℕ) (i : ℕ) → i < length c →
+    signed_number p (take (i + 1) c) ≡ signed_number p (take i c) *ℤ pos 256 +ℤ pos (get_or c i 0)
 signed_more true c i h = let m = number_more 256 c i h in omega (arith, ints)
 signed_more false c i h =
     let m = number_more 256 c i h in
@@ -100,13 +104,17 @@ pub record Room (z : ℤ) (d : ℕ) : Type 0 where
   pub product : FitsSigned w64 (z *ℤ pos 256)
   pub sum : FitsSigned w64 (z *ℤ pos 256 +ℤ pos d)
 
-room : (p : Bool) (a : List ℕ) (d : ℕ) → d < 256 → IsBytes a → length a ≤ 7 → (p ≡ true → get_or a 0 0 < 128) → (p ≡ false → 0 < length a → 128 ≤ get_or a 0 0) → Room (signed_number p a) d
+room : (p : Bool) (a : List ℕ) (d : ℕ) → d < 256 → IsBytes a → length a ≤ 7 → (p ≡ true → get_or a 0 0 < 128) →
+    (p ≡ false → 0 < length a → 128 ≤ get_or a 0 0) → Room (signed_number p a) d
 room true a d k b l f g =
     let n = number_from_digits 256 a in
     let r = room_positive a b l (f refl) in
     let e : pos (n * 256) ≡ pos n *ℤ pos 256 = omega (arith, ints) in
     let h : pos (n * 256 + d) ≡ pos n *ℤ pos 256 +ℤ pos d = omega (arith, ints) in
-    record { product = subst (λ z. FitsSigned w64 z) e (record { sfits = omega arith }); sum = subst (λ z. FitsSigned w64 z) h (record { sfits = omega arith }) }
+    record {
+      product = subst (λ z. FitsSigned w64 z) e (record { sfits = omega arith });
+      sum = subst (λ z. FitsSigned w64 z) h (record { sfits = omega arith });
+    }
 room false a d k b l f g =
     let n = number_from_digits 256 a in
     let q = 256 ^ length a in
@@ -114,7 +122,10 @@ room false a d k b l f g =
     let i : n < q = number_lt 256 a b in
     let e : negsuc ((q - n) * 256 - 1) ≡ (pos n -ℤ pos q) *ℤ pos 256 = omega (arith, ints) in
     let h : negsuc ((q - n) * 256 - 1 - d) ≡ (pos n -ℤ pos q) *ℤ pos 256 +ℤ pos d = omega (arith, ints) in
-    record { product = subst (λ z. FitsSigned w64 z) e (record { sfits = omega arith }); sum = subst (λ z. FitsSigned w64 z) h (record { sfits = omega arith }) }
+    record {
+      product = subst (λ z. FitsSigned w64 z) e (record { sfits = omega arith });
+      sum = subst (λ z. FitsSigned w64 z) h (record { sfits = omega arith });
+    }
 
 take_bytes : (i : ℕ) (c : List ℕ) → IsBytes c → IsBytes (take i c)
 take_bytes zero c b = tt
@@ -130,7 +141,8 @@ not_first : (a : List ℕ) → length a ≡ 0 → get_or a 0 0 < 128
 not_first [] e = omega arith
 not_first (x ∷ a) e = absurd (omega arith)
 
-pub room_of : (c : List ℕ) (i : ℕ) → IsBytes c → length c ≤ 8 → i < length c → get_or c i 0 < 256 → Room (signed_number (nat_lt (get_or c 0 0) 128) (take i c)) (get_or c i 0)
+pub room_of : (c : List ℕ) (i : ℕ) → IsBytes c → length c ≤ 8 → i < length c → get_or c i 0 < 256 →
+    Room (signed_number (nat_lt (get_or c 0 0) 128) (take i c)) (get_or c i 0)
 room_of c i b l h k =
     let a = take i c in
     room (nat_lt (get_or c 0 0) 128) a (get_or c i 0) k (take_bytes i c b) (omega (arith, length-take i c))
@@ -143,7 +155,8 @@ not_unsigned k m [] h v u = omega arith
 not_unsigned k m (x ∷ xs) h v u = let e = sym (negative_is x xs u.integer.in_bytes h) ∙ u.integer.number in absurd (cc)
 
 -- Without it they are the unsigned number that they spell.
-pub says_unsigned : (k : ℕ) (m : BERMode) (c : List ℕ) (n : ℕ) → IsBytes c → IsMinimal c → get_or c 0 0 < 128 → n ≡ number_from_digits 256 c → n < 2 ^ k → IsUnsigned k m n c
+pub says_unsigned : (k : ℕ) (m : BERMode) (c : List ℕ) (n : ℕ) → IsBytes c → IsMinimal c → get_or c 0 0 < 128 → n ≡ number_from_digits 256 c → n < 2 ^ k →
+    IsUnsigned k m n c
 says_unsigned k m c n b i h e l = record {
   integer = record { in_bytes = b; minimal = i; number = positive_is c h ∙ ap pos (sym e) };
   in_type = l;

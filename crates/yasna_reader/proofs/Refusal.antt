@@ -1,5 +1,5 @@
 -- Refusals: of what kind they are, and that what stands elsewhere isn't an element of the tag.
-use Rattle.std.proofs.Common.{◌≡◌, ℕ, ◌≤◌, List, length, Bool, true, false, refl, sym, ap, arith}
+use Rattle.std.proofs.Common.{◌≡◌, ℕ, ◌≤◌, List, length, true, false, refl, sym, ap, arith}
 use Rattle.yasna_base.specs.declared.error.ASN1ErrorKind.{ASN1ErrorKind}
 use Rattle.yasna_base.specs.declared.error.ASN1ErrorKind.TheVariants.{Eof, Extra, IntegerOverflow, StackOverflow, Invalid, OutOfMemory}
 use Rattle.yasna_base.specs.declared.tag.Tag.{Tag}
@@ -40,7 +40,8 @@ pub not_at_end : (t : Tag) (s : List ℕ) → (t ≡ end_tag → ⊥) → AtEnd 
 not_at_end t s n a b = begins_not_elsewhere b (at_end_elsewhere t s n a)
 
 -- nothing is left, or an element of another tag stands there, and so nothing that begins with the tag
-pub elsewhere_refuses : (N : Type 0) (n : ℕ) (t : Tag) (s : List ℕ) (e : Refusal) → (N → BeginsWithTag t s) → IsElsewhere t s → IsPlain e.kind → e.moved ≡ false → Refuses N (IsTooDeep n t s) ⊥ t s e
+pub elsewhere_refuses : (N : Type 0) (n : ℕ) (t : Tag) (s : List ℕ) (e : Refusal) → (N → BeginsWithTag t s) → IsElsewhere t s → IsPlain e.kind →
+    e.moved ≡ false → Refuses N (IsTooDeep n t s) ⊥ t s e
 elsewhere_refuses N n t s e has f k o = record {
   none = λ _ x. begins_not_elsewhere (has x) f;
   moved = (λ _. f, λ _. o);
@@ -50,7 +51,8 @@ elsewhere_refuses N n t s e has f k o = record {
 }
 
 -- the tag stands there, and no level is left for an element
-pub deep_refuses : (N : Type 0) (n : ℕ) (t : Tag) (s : List ℕ) (e : Refusal) → (N → 1 ≤ n) → BeginsWithTag t s → n ≡ 0 → e.kind ≡ StackOverflow → e.moved ≡ true → Refuses N (IsTooDeep n t s) ⊥ t s e
+pub deep_refuses : (N : Type 0) (n : ℕ) (t : Tag) (s : List ℕ) (e : Refusal) → (N → 1 ≤ n) → BeginsWithTag t s → n ≡ 0 → e.kind ≡ StackOverflow →
+    e.moved ≡ true → Refuses N (IsTooDeep n t s) ⊥ t s e
 deep_refuses N n t s e has b z k o = record {
   none = λ _ x. let l = has x in absurd (omega arith);
   moved = (λ f. absurd (cc), λ f. absurd (begins_not_elsewhere b f));
@@ -60,7 +62,8 @@ deep_refuses N n t s e has b z k o = record {
 }
 
 -- the tag stands there within the levels, and nothing that is wanted does
-pub stood_refuses : (N : Type 0) (n : ℕ) (t : Tag) (s : List ℕ) (e : Refusal) → BeginsWithTag t s → 1 ≤ n → IsPlain e.kind → e.moved ≡ true → (N → ⊥) → Refuses N (IsTooDeep n t s) ⊥ t s e
+pub stood_refuses : (N : Type 0) (n : ℕ) (t : Tag) (s : List ℕ) (e : Refusal) → BeginsWithTag t s → 1 ≤ n → IsPlain e.kind → e.moved ≡ true → (N → ⊥) →
+    Refuses N (IsTooDeep n t s) ⊥ t s e
 stood_refuses N n t s e b l k o w = record {
   none = λ _. w;
   moved = (λ f. absurd (cc), λ f. absurd (begins_not_elsewhere b f));

@@ -35,14 +35,18 @@ Settles s (Ok x) r s' = (r ≡ Ok x.0) × (s' ≡ record s { left = x.1.now })
 Settles s (Err e) r s' = (r ≡ Err (error_of e.kind)) × (s' ≡ refusing e.moved s (error_of e.kind))
 
 -- What a typed read looks for. B: which fronts it takes; D: where they lie too deep; M: where memory may be wanting
-abbrev pub FrontOf : {A : Type 0} → (ℕ → BERMode → Tag → A → List ℕ → Type 0) → (ℕ → BERMode → Tag → List ℕ → Type 0) → (ℕ → Tag → List ℕ → Type 0) → Tag → Reading → Result (A × Bor (List ℕ)) Refusal → Type 0
-FrontOf B D M tag s r = AtFront (B s.levels s.mode (tag_of s tag)) (D s.levels s.mode (tag_of s tag) s.left) (M s.levels (tag_of s tag) s.left) (tag_of s tag) s.left r
+abbrev pub FrontOf : {A : Type 0} → (ℕ → BERMode → Tag → A → List ℕ → Type 0) → (ℕ → BERMode → Tag → List ℕ → Type 0) → (ℕ → Tag → List ℕ → Type 0) → Tag →
+    Reading → Result (A × Bor (List ℕ)) Refusal → Type 0
+FrontOf B D M tag s r = AtFront (B s.levels s.mode (tag_of s tag)) (D s.levels s.mode (tag_of s tag) s.left) (M s.levels (tag_of s tag) s.left)
+    (tag_of s tag) s.left r
 
 -- A typed read: with a failure kept that failure, and nothing moved; else Ok takes a front in B and leaves the rest; an
 -- Err that isn't of memory says that no front is in B. It is unmoved exactly where nothing or another tag stands there,
 -- and kept otherwise; of depth exactly where D holds; of memory only where M does
-pub record Reads {A : Type 0} (B : ℕ → BERMode → Tag → A → List ℕ → Type 0) (D : ℕ → BERMode → Tag → List ℕ → Type 0) (M : ℕ → Tag → List ℕ → Type 0) (tag : Tag) (s : Reading) (r : Result A ASN1Error) (s' : Reading) : Type 0 where
-  pub reads : ReadsUnlessKept s.kept (B s.levels s.mode (tag_of s tag)) (D s.levels s.mode (tag_of s tag) s.left) (M s.levels (tag_of s tag) s.left) (tag_of s tag) s r s'
+pub record Reads {A : Type 0} (B : ℕ → BERMode → Tag → A → List ℕ → Type 0) (D : ℕ → BERMode → Tag → List ℕ → Type 0) (M : ℕ → Tag → List ℕ → Type 0)
+    (tag : Tag) (s : Reading) (r : Result A ASN1Error) (s' : Reading) : Type 0 where
+  pub reads : ReadsUnlessKept s.kept (B s.levels s.mode (tag_of s tag)) (D s.levels s.mode (tag_of s tag) s.left) (M s.levels (tag_of s tag) s.left)
+      (tag_of s tag) s r s'
 
 -- depth of a read that goes one level down
 abbrev pub NoLevel : ℕ → BERMode → Tag → List ℕ → Type 0

@@ -21,7 +21,8 @@ TakesParts g f tag s =
     FnOnceTakesAtMut g f (record { reader = inside s c })
 
 -- f runs on the reading s, answers r and leaves s'
-abbrev pub Runs : {F A : Type 0} → Once F (MutBor (Parts Reading) × Unit {0}) (Result A ASN1Error × (MutBor (Parts Reading) × Unit {0})) → F → Reading → Result A ASN1Error → Reading → Type 0
+abbrev pub Runs : {F A : Type 0} → Once F (MutBor (Parts Reading) × Unit {0}) (Result A ASN1Error × (MutBor (Parts Reading) × Unit {0})) → F → Reading →
+    Result A ASN1Error → Reading → Type 0
 Runs g f s r s' = FnOnceReturnsAtMut g f (record { reader = s }) r (record { reader = s' })
 
 -- the place that a callback left, as far from the end of the contents c as what it left is long
@@ -64,7 +65,8 @@ Left end c None y (Err e) s r s' = Fails e s r s'
 Left end c None y (Ok v) s r s' = Closes end c y v s r s' ⊎ StaysOpen end c y s r s'
 
 -- the header of a constructed element stands there, and its contents were read as P says
-pub record Entered {A : Type 0} (P : Reading → Result A ASN1Error → Reading → Type 0) (t : Tag) (s : Reading) (r : Result A ASN1Error) (s' : Reading) : Type 0 where
+pub record Entered {A : Type 0} (P : Reading → Result A ASN1Error → Reading → Type 0) (t : Tag) (s : Reading) (r : Result A ASN1Error) (s' : Reading) : Type
+    0 where
   pub level : 1 ≤ s.levels
   pub contents : List ℕ
   pub end : ContentsEnd
@@ -82,10 +84,12 @@ pub record NotEntered {A : Type 0} (t : Tag) (s : Reading) (r : Result A ASN1Err
   pub state : s' ≡ refusing refusal.moved (untagged s) (error_of refusal.kind)
 
 -- a kept failure comes first
-abbrev pub EntersUnlessKept : {A : Type 0} → Option ASN1Error → (Reading → Result A ASN1Error → Reading → Type 0) → Tag → Reading → Result A ASN1Error → Reading → Type 0
+abbrev pub EntersUnlessKept : {A : Type 0} → Option ASN1Error → (Reading → Result A ASN1Error → Reading → Type 0) → Tag → Reading → Result A ASN1Error →
+    Reading → Type 0
 EntersUnlessKept (Some e) P t s r s' = (r ≡ Err e) × (s' ≡ untagged s)
 EntersUnlessKept None P t s r s' = Entered P t s r s' ⊎ NotEntered t s r s'
 
 -- a read of a constructed element whose contents are read as P says
-pub record ReadsParts {A : Type 0} (P : Reading → Result A ASN1Error → Reading → Type 0) (tag : Tag) (s : Reading) (r : Result A ASN1Error) (s' : Reading) : Type 0 where
+pub record ReadsParts {A : Type 0} (P : Reading → Result A ASN1Error → Reading → Type 0) (tag : Tag) (s : Reading) (r : Result A ASN1Error) (s' : Reading) :
+    Type 0 where
   pub enters : EntersUnlessKept s.kept P (tag_of s tag) s r s'

@@ -90,6 +90,9 @@ impl<'a> ReaderState<'a> {
 ///
 /// Each read takes what it reads off the front. A read that fails behind an identifier of the wanted tag is kept:
 /// each later call answers that failure, and so does the parse around it.
+///
+/// Two readings over bytes of one lifetime can be exchanged by `std::mem::swap`. A failure that one keeps moves with it;
+/// each call around a callback takes only that failure and how many bytes are left, and cuts from its own bytes.
 pub type BERReader<'a, 'b> = &'b mut ReaderState<'a>;
 
 /// The contents of a constructed element, which holds the reading of them.

@@ -4,10 +4,7 @@
 ghost use Rattle.std.specs.Prelude.{ℕ, List};
 ghost use Rattle.yasna_base.specs.declared.mode.BERMode.{BERMode};
 ghost use Rattle.yasna_base.specs.declared.tag.Tag.{Tag};
-ghost use Rattle.yasna_base.specs.Simple.{IsPrimitive};
-ghost use Rattle.yasna_reader.specs.Refusal.{IsTooDeep};
-ghost use Rattle.yasna_reader.specs.Contents.{Decides};
-ghost use Rattle.yasna_reader.specs.Front.{AtFront};
+ghost use Rattle.yasna_reader.specs.Contents.{Decides, ValueAt};
 
 mod big_integer;
 mod boolean;
@@ -41,7 +38,7 @@ pub(crate) fn value<T: Contents>(
     cursor: Cursor<'_>,
     tag: Tag,
 ) -> Result<(T, &[u8]), Refusal>
-    ensures { AtFront (IsPrimitive (T.means cursor.entry.mode) cursor.entry.levels cursor.entry.mode tag) (IsTooDeep cursor.entry.levels tag cursor.entry.left.now) (T.wants cursor.entry.levels tag cursor.entry.left.now) tag cursor.entry.left.now result }
+    ensures { ValueAt T.means T.wants cursor.entry.levels cursor.entry.mode tag cursor.entry.left.now result }
 {
     match primitive(cursor, tag) {
         Ok((contents, rest)) => match T::of_contents(alloc, cursor.mode, contents) {

@@ -10,7 +10,8 @@ returns-in-Some c =
     let w : Measures c.args.mode c.args.s.now (Some c.in-Ok-Some-default.size) c.in-Ok-Some-default.rest.now = search rules in
     let x = c.in-Some.ensures {u = tt} in
     let h : Holds c.args.mode c.args.bit c.args.s.now c.in-Some.within.now (counted c.in-Some.after.now) =
-    holds_counted c.args.mode c.args.bit c.args.s.now c.in-Ok-Some-default.rest.now c.in-Some.within.now c.in-Some.after.now c.in-Ok-Some-default.size w x.1 x.0 (takes_definite c.args.mode c.args.bit) in
+    holds_counted c.args.mode c.args.bit c.args.s.now c.in-Ok-Some-default.rest.now c.in-Some.within.now c.in-Some.after.now c.in-Ok-Some-default.size w x.1
+    x.0 (takes_definite c.args.mode c.args.bit) in
     (holds_bytes c.args.mode c.args.bit c.args.s.now c.in-Some.within.now (counted c.in-Some.after.now) (slice_bytes c.args.s.now c.type_inv.s) h, h)
 
 pub returns-then-takes_indefinite : goal.returns-then-takes_indefinite

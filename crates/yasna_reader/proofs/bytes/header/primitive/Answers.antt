@@ -14,7 +14,8 @@ pub returns-in-Constructed : goal.returns-in-Constructed
 returns-in-Constructed c =
     let p = c.args.cursor in
     let w = c.in-Ok.ensures {u = tt} in
-    rw c.refuse-in-Constructed.ensures (other_primitive AreContents p.mode p.levels c.args.tag c.in-Ok.opened.bit p.left.now c.in-Ok.opened.within.now (end_of c.in-Ok.opened.after) _ w.0 c.in-Constructed.is w.1 tt refl)
+    rw c.refuse-in-Constructed.ensures (other_primitive AreContents p.mode p.levels c.args.tag c.in-Ok.opened.bit p.left.now c.in-Ok.opened.within.now
+    (end_of c.in-Ok.opened.after) _ w.0 c.in-Constructed.is w.1 tt refl)
 
 pub returns-in-Err : goal.returns-in-Err
 returns-in-Err c = let p = c.args.cursor in header_refuses AreContents p.mode p.levels c.args.tag p.left.now c.in-Err.refusal (c.in-Err.ensures {u = tt})

@@ -1,4 +1,4 @@
-use Rattle.std.proofs.Common.{◌≡◌, length, sym, ◌∙◌, arith, rules}
+use Rattle.std.proofs.Common.{◌≡◌, length, ◌∙◌, arith}
 use Rattle.yasna_reader.proofs.Length.{too_few, too_wide, not_so}
 use Rattle.yasna_reader.proofs.bytes.length.read_digits.Goals as goal
 
@@ -14,5 +14,8 @@ returns-in_default-number_of c =
 pub returns-then-not-is_spelling : goal.returns-then-not-is_spelling
 returns-then-not-is_spelling c =
     let w = c.in-Some.ensures {u = tt} in
-    let l : length c.in-Some.digits.now ≡ c.args.count = w.0 ∙ c.from.ensures in
-    (tt, not_so c.args.mode c.args.count c.args.s.now c.in-Some.digits.now c.in-Some.after.now c.in-Some-number_of.size l w.1 (c.in-Some-number_of.ensures {u = tt}) (λ t. let z = (c.if-not-is_spelling.ensures {u = tt}).1 t in cc))
+    let l : length c.in-Some.digits.now ≡ c.args.count = w.0 ∙ c.from.ensures in (
+      tt,
+      not_so c.args.mode c.args.count c.args.s.now c.in-Some.digits.now c.in-Some.after.now c.in-Some-number_of.size l w.1
+          (c.in-Some-number_of.ensures {u = tt}) (λ t. let z = (c.if-not-is_spelling.ensures {u = tt}).1 t in cc),
+    )

@@ -7,7 +7,8 @@ pub returns-in_default : goal.returns-in_default
 returns-in_default c = (tt, nothing_measured c.args.mode c.args.s.now (empty_is c.args.s.now (c.in_default.ensures {u = tt}).cases))
 
 pub returns-then-first-lt128 : goal.returns-then-first-lt128
-returns-then-first-lt128 c = rw c.from.ensures (short_measured c.args.mode c.in-Some.first.now c.args.s.now c.in-Some.rest.now (c.in-Some.ensures {u = tt}).cases.0 c.if-first-lt128.true)
+returns-then-first-lt128 c = rw c.from.ensures
+    (short_measured c.args.mode c.in-Some.first.now c.args.s.now c.in-Some.rest.now (c.in-Some.ensures {u = tt}).cases.0 c.if-first-lt128.true)
 
 pub returns-then-first-2 : goal.returns-then-first-2
 returns-then-first-2 c =
@@ -17,7 +18,8 @@ returns-then-first-2 c =
 pub returns-in-Ok : goal.returns-in-Ok
 returns-in-Ok c =
     let h : 128 < c.in-Some.first.now = omega arith in
-    counted_measured c.args.mode c.in-Some.first.now c.args.s.now c.in-Some.rest.now c.in-Ok.size c.in-Ok.after.now (all_bytes c.args.s.now (λ i. let f = c.type_inv.s i in omega arith)) (c.in-Some.ensures {u = tt}).cases.0 h (omega arith) (c.in-Ok.ensures {u = tt})
+    counted_measured c.args.mode c.in-Some.first.now c.args.s.now c.in-Some.rest.now c.in-Ok.size c.in-Ok.after.now
+    (all_bytes c.args.s.now (λ i. let f = c.type_inv.s i in omega arith)) (c.in-Some.ensures {u = tt}).cases.0 h (omega arith) (c.in-Ok.ensures {u = tt})
 
 pub returns-in-Err : goal.returns-in-Err
 returns-in-Err c =

@@ -1,4 +1,4 @@
-use Rattle.std.proofs.Common.{refl, rules, inl}
+use Rattle.std.proofs.Common.{refl, inl}
 use Rattle.yasna_reader.proofs.Lists.{slice_bytes}
 use Rattle.yasna_reader.proofs.Integer.{sign_is, minimal_some}
 use Rattle.yasna_reader.proofs.Contents.{copy_wants}
@@ -13,4 +13,8 @@ returns-in-Ok c = record {
 }
 
 pub returns-in-Err : goal.returns-in-Err
-returns-in-Err c = inl (c.in-Err.ensures.memory, copy_wants c.args.contents.now (minimal_some c.args.contents.now ((c.if-not-is_minimal.ensures {u = tt}).0 refl)))
+returns-in-Err c = inl (
+  c.in-Err.ensures.memory,
+  copy_wants c.args.contents.now
+      (minimal_some c.args.contents.now ((c.if-not-is_minimal.ensures {u = tt}).0 refl)),
+)
