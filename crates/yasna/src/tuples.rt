@@ -10,8 +10,7 @@ ghost use Rattle.yasna_base.specs.Coding.{ArePartsCoding};
 ghost use Rattle.yasna_base.specs.Canonical.{enclosed_form, enclosed_nest, Always};
 ghost use Rattle.yasna_base.proofs.Sequence.{part, no_part, tuple, part_written, no_part_written, tuple_written};
 ghost use Rattle.yasna_writer.specs.View.{WroteParts};
-ghost use Rattle.yasna_reader.specs.View.{IsFresh};
-ghost use Rattle.yasna_reader.specs.Lending.{part_of};
+ghost use Rattle.yasna_reader.specs.State.{IsFresh, part_of};
 ghost use Rattle.yasna_reader.specs.Decodes.{Decodes, DecodesParts};
 
 use crate::traits::{BERDecodable, DERCanonical, DEREncodable};

@@ -1,5 +1,5 @@
 -- Lists that agree after joining.
-use Rattle.std.proofs.Common.{◌≡◌, ◌+◌, List, [], ◌∷◌, ◌++◌, length, refl, ap, ◌∙◌, sym, inl, inr, arith, ◌-◌, ◌⊎◌}
+use Rattle.std.proofs.Common.{◌≡◌, ℕ, get_or, ◌+◌, List, [], ◌∷◌, ◌++◌, length, refl, ap, ◌∙◌, sym, inl, inr, arith, ◌-◌, ◌⊎◌}
 
 -- fronts of one length of two equal lists are equal, and so are the rests
 pub fronts_same : {A : Type 0} → (a b r s : List A) → length a ≡ length b → a ++ r ≡ b ++ s → (a ≡ b) × (r ≡ s)
@@ -34,3 +34,13 @@ fronts_as r s f g e = sym (ap (λ z. z ++ r) f) ∙ e ∙ ap (λ z. z ++ s) g
 -- what follows a common front is equal
 pub append_same : {A : Type 0} → (a r s : List A) → a ++ r ≡ a ++ s → r ≡ s
 append_same a r s e = (fronts_same a a r s refl e).1
+
+pub empty_is : {A : Type 0} → (s : List A) → length s ≡ 0 → s ≡ []
+empty_is [] e = refl
+empty_is (x ∷ s) e = absurd (omega arith)
+
+-- a list of one number
+pub one_of : (s : List ℕ) → length s ≡ 1 → s ≡ get_or s 0 0 ∷ []
+one_of [] e = absurd (omega arith)
+one_of (x ∷ []) e = refl
+one_of (x ∷ y ∷ s) e = absurd (omega arith)

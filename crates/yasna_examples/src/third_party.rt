@@ -9,12 +9,12 @@ ghost use Rattle.yasna.specs.base.Element.{Primitively};
 ghost use Rattle.yasna.specs.base.Boolean.{EncodesBoolean};
 ghost use Rattle.yasna.specs.base.Integer.{IsUnsigned, EncodesSigned, EncodesUnsigned, integer_form};
 ghost use Rattle.yasna.specs.reader.Decodes.{Decodes, Step, Done};
-ghost use Rattle.yasna.specs.reader.Lending.{part_of};
-ghost use Rattle.yasna.specs.reader.Typed.{Reads, NoLevel, Never};
-ghost use Rattle.yasna.specs.reader.View.{IsFresh};
 ghost use Rattle.yasna.specs.base.Boolean.{boolean_form};
 ghost use Rattle.yasna.specs.base.Canonical.{leaf_nest, enclosed_form, enclosed_nest, Always};
 ghost use Rattle.yasna.specs.base.Sequence.{part_form, part_nest, part_can, nothing_form, nothing_nest};
+ghost use Rattle.yasna.specs.reader.Contents.{Never};
+ghost use Rattle.yasna.specs.reader.Primitive.{Reads, NoLevel};
+ghost use Rattle.yasna.specs.reader.State.{IsFresh, part_of};
 ghost use Rattle.yasna.proofs.Laws.{part, no_part, tuple, bool_coding, signed_coding, unsigned_coding};
 ghost use Rattle.yasna.proofs.Laws.{part_written, no_part_written, tuple_written, bool_written, signed_written, unsigned_written};
 

@@ -1,13 +1,13 @@
 -- What reading a value of a type does: B m n v b says that b encodes v, S m n b what that asks of the bytes alone, and
 -- asks whether reading may want memory.
-use Rattle.std.specs.Prelude.{◌≡◌, ℕ, ◌≤◌, List, ◌++◌, length, Option, Some, None, Result, Ok, Err, Bool, true}
+use Rattle.std.specs.Prelude.{Bool, Err, List, None, Ok, Option, Result, Some, length, true, ℕ, ◌++◌, ◌≡◌, ◌≤◌}
+use Rattle.yasna_base.specs.Identifier.{AtEnd}
+use Rattle.yasna_base.specs.Error.{kind_of}
 use Rattle.yasna_base.specs.declared.error.ASN1Error.{ASN1Error}
 use Rattle.yasna_base.specs.declared.error.ASN1ErrorKind.TheVariants.{OutOfMemory}
 use Rattle.yasna_base.specs.declared.mode.BERMode.{BERMode}
-use Rattle.yasna_base.specs.Error.{kind_of}
-use Rattle.yasna_base.specs.Identifier.{AtEnd}
-use Rattle.yasna_reader.specs.Head.{IsPlain}
-use Rattle.yasna_reader.specs.View.{Reading}
+use Rattle.yasna_reader.specs.Refusal.{IsPlain}
+use Rattle.yasna_reader.specs.State.{Reading}
 
 -- the failure f says that no front of s is in S, or is of memory
 pub record Tells (asks : Bool) (S : List ℕ → Type 0) (s : List ℕ) (f : ASN1Error) : Type 0 where
@@ -39,12 +39,14 @@ abbrev pub IsQuietAtEnd : Reading → ASN1Error → Reading → Type 0
 IsQuietAtEnd s e s' = AtEnd s.left → (s' ≡ s) × IsPlain (kind_of e)
 
 -- what reading a value does
-abbrev pub Decodes : {A : Type 0} → Bool → (BERMode → ℕ → A → List ℕ → Type 0) → (BERMode → ℕ → List ℕ → Type 0) → Reading → Result A ASN1Error → Reading → Type 0
+abbrev pub Decodes : {A : Type 0} → Bool → (BERMode → ℕ → A → List ℕ → Type 0) → (BERMode → ℕ → List ℕ → Type 0) → Reading → Result A ASN1Error → Reading →
+    Type 0
 Decodes asks B S s (Ok v) s' = Took (B s.mode s.levels) s v s'
 Decodes asks B S s (Err e) s' = NotTook asks (S s.mode s.levels) s e s' × IsQuietAtEnd s e s'
 
 -- the same of the parts of a tuple, which may be empty
-abbrev pub DecodesParts : {A : Type 0} → Bool → (BERMode → ℕ → A → List ℕ → Type 0) → (BERMode → ℕ → List ℕ → Type 0) → Reading → Result A ASN1Error → Reading → Type 0
+abbrev pub DecodesParts : {A : Type 0} → Bool → (BERMode → ℕ → A → List ℕ → Type 0) → (BERMode → ℕ → List ℕ → Type 0) → Reading → Result A ASN1Error →
+    Reading → Type 0
 DecodesParts asks C S s (Ok v) s' = Took (C s.mode s.levels) s v s'
 DecodesParts asks C S s (Err e) s' = NotTook asks (S s.mode s.levels) s e s'
 
@@ -57,7 +59,8 @@ pub record NotContents (asks : Bool) (S : List ℕ → Type 0) (s : Reading) (e 
   pub none : (kind_of e ≡ OutOfMemory → ⊥) → (d x : List ℕ) → s.left ≡ d ++ x → AtEnd x → S d → ⊥
   pub memory : kind_of e ≡ OutOfMemory → asks ≡ true
 
-abbrev pub DecodesContents : {A : Type 0} → Bool → (BERMode → ℕ → A → List ℕ → Type 0) → (BERMode → ℕ → List ℕ → Type 0) → Reading → Result A ASN1Error → Reading → Type 0
+abbrev pub DecodesContents : {A : Type 0} → Bool → (BERMode → ℕ → A → List ℕ → Type 0) → (BERMode → ℕ → List ℕ → Type 0) → Reading → Result A ASN1Error →
+    Reading → Type 0
 DecodesContents asks C S s (Ok v) s' = TookContents (C s.mode s.levels) (S s.mode s.levels) s v s'
 DecodesContents asks C S s (Err e) s' = NotContents asks (S s.mode s.levels) s e
 
@@ -67,7 +70,8 @@ pub record NotWhole (asks : Bool) (S : List ℕ → Type 0) (s : List ℕ) (e : 
   pub memory : kind_of e ≡ OutOfMemory → asks ≡ true
   pub quiet : AtEnd s → kind_of e ≡ OutOfMemory → ⊥
 
-abbrev pub Decoded : {A : Type 0} → Bool → (BERMode → ℕ → A → List ℕ → Type 0) → (BERMode → ℕ → List ℕ → Type 0) → BERMode → List ℕ → Result A ASN1Error → Type 0
+abbrev pub Decoded : {A : Type 0} → Bool → (BERMode → ℕ → A → List ℕ → Type 0) → (BERMode → ℕ → List ℕ → Type 0) → BERMode → List ℕ → Result A ASN1Error →
+    Type 0
 Decoded asks B S m s (Ok v) = B m 101 v s
 Decoded asks B S m s (Err e) = NotWhole asks (S m 101) s e
 
@@ -77,7 +81,8 @@ AndIn K (Ok a) m r s' = K a m r s'
 AndIn K (Err e) m r s' = (r ≡ Err e) × (s' ≡ m)
 
 -- a call as P, and where it answered Ok, K of its value
-abbrev pub Step : {A U : Type 0} → (Reading → Result A ASN1Error → Reading → Type 0) → (A → Reading → Result U ASN1Error → Reading → Type 0) → Reading → Result U ASN1Error → Reading → Type 0
+abbrev pub Step : {A U : Type 0} → (Reading → Result A ASN1Error → Reading → Type 0) → (A → Reading → Result U ASN1Error → Reading → Type 0) → Reading →
+    Result U ASN1Error → Reading → Type 0
 Step {A} P K s r s' = (x : Result A ASN1Error) × (m : Reading) × P s x m × AndIn K x m r s'
 
 abbrev pub Done : {U : Type 0} → U → Reading → Result U ASN1Error → Reading → Type 0

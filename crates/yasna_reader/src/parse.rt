@@ -1,6 +1,8 @@
 //! Parses of whole inputs.
 ghost use Rattle.yasna_base.specs.declared.mode.BERMode.TheVariants.{Ber, Der};
-ghost use Rattle.yasna_reader.specs.Calls.{MayRead, Parses, parsed};
+ghost use Rattle.std.specs.Fn.{FnOnceTakesAtMut, FnOnceReturnsAtMut};
+ghost use Rattle.yasna_reader.specs.State.{starts};
+ghost use Rattle.yasna_reader.specs.Parse.{Parses};
 
 use crate::state::{BERReader, ReaderState};
 use std::alloc::Global;
@@ -11,6 +13,7 @@ use yasna_base::mode::BERMode;
 ///
 /// Answers the failure that the reading kept, if there is one; else the callback's Err; else `Extra` where bytes are
 /// left; else the callback's value.
+#[inline(always)]
 pub fn parse_ber_general<'a, T: Drop, F>(
     alloc: Global,
     buf: &'a [u8],
@@ -19,8 +22,8 @@ pub fn parse_ber_general<'a, T: Drop, F>(
 ) -> ASN1Result<T>
 where
     F: for<'b> FnOnce(BERReader<'a, 'b>) -> ASN1Result<T>,
-    requires { MayRead F.FnOnce callback }
-    ensures { Parses F.FnOnce callback mode buf.now result }
+    requires { FnOnceTakesAtMut F.FnOnce callback (starts buf.now mode) }
+    ensures { Parses (FnOnceReturnsAtMut F.FnOnce callback) mode buf.now result }
 {
     let mut state = ReaderState::new(alloc, buf, mode);
     let answer = callback(&mut state);
@@ -28,30 +31,33 @@ where
 }
 
 /// Reads bytes by the basic encoding rules.
+#[inline(always)]
 pub fn parse_ber<'a, T: Drop, F>(alloc: Global, buf: &'a [u8], callback: F) -> ASN1Result<T>
 where
     F: for<'b> FnOnce(BERReader<'a, 'b>) -> ASN1Result<T>,
-    requires { MayRead F.FnOnce callback }
-    ensures { Parses F.FnOnce callback Ber buf.now result }
+    requires { FnOnceTakesAtMut F.FnOnce callback (starts buf.now Ber) }
+    ensures { Parses (FnOnceReturnsAtMut F.FnOnce callback) Ber buf.now result }
 {
     parse_ber_general(alloc, buf, BERMode::Ber, callback)
 }
 
 /// Reads bytes by the distinguished encoding rules.
+#[inline(always)]
 pub fn parse_der<'a, T: Drop, F>(alloc: Global, buf: &'a [u8], callback: F) -> ASN1Result<T>
 where
     F: for<'b> FnOnce(BERReader<'a, 'b>) -> ASN1Result<T>,
-    requires { MayRead F.FnOnce callback }
-    ensures { Parses F.FnOnce callback Der buf.now result }
+    requires { FnOnceTakesAtMut F.FnOnce callback (starts buf.now Der) }
+    ensures { Parses (FnOnceReturnsAtMut F.FnOnce callback) Der buf.now result }
 {
     parse_ber_general(alloc, buf, BERMode::Der, callback)
 }
 
 impl<'a> ReaderState<'a> {
     ghost use Rattle.std.specs.Prelude.{◌≡◌};
-    ghost use Rattle.yasna_reader.specs.Calls.{parsed};
+    ghost use Rattle.yasna_reader.specs.Parse.{parsed};
 
     // What a parse answers where its callback gave this answer.
+    #[inline(always)]
     fn parsed<T: Drop>(&self, answer: ASN1Result<T>) -> ASN1Result<T>
         ensures { result ≡ parsed answer self.now }
     {
@@ -60,7 +66,7 @@ impl<'a> ReaderState<'a> {
         }
         match answer {
             Ok(value) => {
-                if self.rest.is_empty() {
+                if self.cursor.left.is_empty() {
                     Ok(value)
                 } else {
                     Err(ASN1Error::new(ASN1ErrorKind::Extra))

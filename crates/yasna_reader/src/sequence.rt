@@ -1,17 +1,17 @@
 //! Reads of constructed elements whose contents a callback reads (X.690, 8.9).
-ghost use Rattle.std.specs.Prelude.{◌≡◌, ◌≤◌, length};
-ghost use Rattle.yasna_reader.specs.Head.{behind, ConstructedAt};
-ghost use Rattle.yasna_reader.specs.Calls.{ClosesFrom, Left, MayReadParts, ReadsParts};
+ghost use Rattle.yasna_reader.specs.Header.{end_of};
+ghost use Rattle.yasna_reader.specs.Sequence.{ClosesFrom};
 
-use crate::head::{Opened, Refusal, close, constructed};
+use crate::bytes::header::{Opened, Refusal, close, constructed};
 use crate::state::{BERReaderSeq, Parts, ReaderState};
 use yasna_base::error::{ASN1Error, ASN1ErrorKind, ASN1Result};
 use yasna_base::tag::Tag;
 use yasna_base::tags::TAG_SEQUENCE;
 
 // What follows an element of which a callback left this many bytes to be read.
+#[inline(always)]
 fn close_from<'a>(opened: &Opened<'a>, remaining: usize) -> Result<&'a [u8], ASN1ErrorKind>
-    ensures { ClosesFrom (behind opened.now.after) opened.now.within.now remaining result }
+    ensures { ClosesFrom (end_of opened.now.after) opened.now.within.now remaining result }
 {
     let within = opened.within;
     if within.len() < remaining {
@@ -21,27 +21,31 @@ fn close_from<'a>(opened: &Opened<'a>, remaining: usize) -> Result<&'a [u8], ASN
 }
 
 impl<'a> ReaderState<'a> {
-    ghost use Rattle.yasna_reader.specs.View.{inside, untagged, failing, tag_of};
-    ghost use Rattle.yasna_reader.specs.Calls.{Fails, Left};
+    ghost use Rattle.std.specs.Prelude.{◌≡◌, ◌≤◌};
+    ghost use Rattle.yasna_reader.specs.Header.{end_of, ConstructedAt};
+    ghost use Rattle.yasna_reader.specs.State.{inside, untagged, tag_of};
+    ghost use Rattle.yasna_reader.specs.Sequence.{Fails, Left, TakesParts, Runs, ReadsParts};
 
     /// Reads a SEQUENCE, whose parts the callback reads.
     ///
     /// The callback is to read all of them. What goes wrong in it is kept, whatever it answers: later calls answer it.
+    #[inline(always)]
     pub fn read_sequence<T: Drop, F>(&mut self, f: F) -> ASN1Result<T>
     where
         F: FnOnce(&mut BERReaderSeq<'a, '_>) -> ASN1Result<T>,
-        requires { MayReadParts F.FnOnce f self.old }
-        ensures { ReadsParts F.FnOnce f TAG_SEQUENCE self.old result self.new }
+        requires { TakesParts F.FnOnce f TAG_SEQUENCE self.old }
+        ensures { ReadsParts (Runs F.FnOnce f) TAG_SEQUENCE self.old result self.new }
     {
         self.read_parts(TAG_SEQUENCE, f)
     }
 
     // Reads a constructed element of this tag, or of the implicit one.
+    #[inline(always)]
     fn read_parts<T: Drop, F>(&mut self, tag: Tag, f: F) -> ASN1Result<T>
     where
         F: FnOnce(&mut BERReaderSeq<'a, '_>) -> ASN1Result<T>,
-        requires { MayReadParts F.FnOnce f self.old }
-        ensures { ReadsParts F.FnOnce f tag self.old result self.new }
+        requires { TakesParts F.FnOnce f tag self.old }
+        ensures { ReadsParts (Runs F.FnOnce f) tag self.old result self.new }
     {
         if let Some(error) = self.kept {
             self.tag = None;
@@ -53,40 +57,28 @@ impl<'a> ReaderState<'a> {
                     reader: self.within(&opened),
                 };
                 let answer = f(&mut parts);
-                let Parts { reader } = parts;
-                self.leave(&opened, answer, &reader)
+                self.leave(&opened, answer, &parts.reader)
             }
             Err(refusal) => self.settle(Err(refusal)),
         }
     }
 
     // The header of a constructed element of this tag, or of the implicit one.
+    #[inline(always)]
     fn enter(&self, tag: Tag) -> Result<Opened<'a>, Refusal>
         ensures { ConstructedAt self.now.mode self.now.levels (tag_of self.now tag) self.now.left result }
     {
-        constructed(
-            self.rest,
-            self.mode,
-            self.levels,
-            self.wanted(tag),
-            self.end,
-        )
+        constructed(self.cursor, self.wanted(tag))
     }
 
     // The reading of an element's contents.
+    #[inline(always)]
     fn within(&self, opened: &Opened<'a>) -> ReaderState<'a>
         requires { 1 ≤ self.now.levels }
         ensures { result ≡ inside self.now opened.now.within.now }
     {
-        let end = match opened.after {
-            Some(after) => self.end.saturating_sub(after.len()),
-            None => self.end,
-        };
         ReaderState {
-            rest: opened.within,
-            end,
-            mode: self.mode,
-            levels: self.levels - 1,
+            cursor: self.cursor.inside(opened),
             tag: None,
             kept: None,
             alloc: self.alloc,
@@ -94,22 +86,23 @@ impl<'a> ReaderState<'a> {
     }
 
     // What is made of a callback's answer, where it left the contents of an element like this.
+    #[inline(always)]
     fn leave<T: Drop>(
         &mut self,
         opened: &Opened<'a>,
         answer: ASN1Result<T>,
         left: &ReaderState<'a>,
     ) -> ASN1Result<T>
-        ensures { Left (behind opened.now.after) opened.now.within.now left.now.kept left.now.left answer (untagged self.old) result self.new }
+        ensures { Left (end_of opened.now.after) opened.now.within.now left.now.kept left.now.left answer (untagged self.old) result self.new }
     {
         self.tag = None;
         if let Some(error) = left.kept {
             return self.fail(error);
         }
         match answer {
-            Ok(value) => match close_from(opened, left.rest.len()) {
+            Ok(value) => match close_from(opened, left.cursor.left.len()) {
                 Ok(rest) => {
-                    self.rest = rest;
+                    self.cursor.left = rest;
                     Ok(value)
                 }
                 Err(kind) => self.fail(ASN1Error::new(kind)),
@@ -119,6 +112,7 @@ impl<'a> ReaderState<'a> {
     }
 
     // Keeps a failure, and answers it.
+    #[inline(always)]
     fn fail<T>(&mut self, error: ASN1Error) -> ASN1Result<T>
         ensures { Fails error self.old result self.new }
     {

@@ -1,12 +1,11 @@
-use Rattle.std.proofs.Common.{rules, arith}
+use Rattle.std.proofs.Common.{rules, arith, false}
 use Rattle.std.specs.Int.{w64}
 use Rattle.yasna.specs.base.declared.mode.BERMode.TheVariants.{Der}
 use Rattle.yasna.specs.base.Element.{Primitively}
 use Rattle.yasna.specs.base.Integer.{IsSigned}
 use Rattle.yasna.specs.base.Integer.{EncodesSigned}
-use Rattle.yasna.proofs.Closures.{leaf_by, parse_by}
 use Rattle.yasna.proofs.Laws.{signed_coding, signed_written}
-use Rattle.yasna_examples.proofs.Plainly.{read_form, refuses_none}
+use Rattle.yasna.proofs.Closures.{leaf_by, parse_by, read_form, refuses_none}
 use Rattle.yasna_examples.proofs.known.parsed_integer.Goals as goal
 
 pub returns : goal.returns
@@ -14,4 +13,4 @@ returns c =
     let s = c.args.buf.now in
     let r = c.parse_der.result in
     let h = parse_by (signed_coding w64) (leaf_by (Primitively (IsSigned w64)) 2 (λ e. omega arith)) c.parse_der.ensures (λ p q x h. search rules) in
-    record { number = read_form (signed_written w64) s r h; refused = refuses_none (EncodesSigned w64) Der s r h }
+    record { number = read_form false (signed_coding w64) (signed_written w64) Der tt s r h; refused = refuses_none (signed_coding w64) Der s r h }

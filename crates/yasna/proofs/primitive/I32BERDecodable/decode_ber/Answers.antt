@@ -2,7 +2,7 @@ use Rattle.std.proofs.Common.{arith}
 use Rattle.std.specs.Int.{w32}
 use Rattle.yasna_base.specs.Element.{Primitively}
 use Rattle.yasna_base.specs.Integer.{IsSigned}
-use Rattle.yasna_reader.proofs.Leaf.{leaf_decodes}
+use Rattle.yasna_reader.proofs.Primitives.{leaf_decodes}
 use Rattle.yasna.proofs.primitive.I32BERDecodable.decode_ber.Goals as goal
 
 pub returns : goal.returns

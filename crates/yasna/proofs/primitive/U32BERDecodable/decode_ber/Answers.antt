@@ -1,7 +1,7 @@
 use Rattle.std.proofs.Common.{arith}
 use Rattle.yasna_base.specs.Element.{Primitively}
 use Rattle.yasna_base.specs.Integer.{IsUnsigned}
-use Rattle.yasna_reader.proofs.Leaf.{leaf_decodes}
+use Rattle.yasna_reader.proofs.Primitives.{leaf_decodes}
 use Rattle.yasna.proofs.primitive.U32BERDecodable.decode_ber.Goals as goal
 
 pub returns : goal.returns

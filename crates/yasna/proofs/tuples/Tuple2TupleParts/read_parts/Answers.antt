@@ -1,6 +1,6 @@
 use Rattle.std.proofs.Common.{rules}
 use Rattle.yasna_reader.specs.Decodes.{Took, NotTook}
-use Rattle.yasna_reader.proofs.Answered.{others_ok, others_err}
+use Rattle.yasna_reader.proofs.Tuples.{others_ok, others_err}
 use Rattle.yasna.proofs.tuples.Tuple2TupleParts.read_parts.Goals as goal
 
 pub returns-in-Ok-read_parts : goal.returns-in-Ok-read_parts

@@ -1,0 +1,156 @@
+-- Typed reads: what a front that was looked for does to a reading, and what that decodes.
+use Rattle.std.proofs.Common.{◌≡◌, ℕ, List, length, Some, None, Result, Ok, Err, Bool, true, false, refl, sym, ap, subst, ◌∙◌, arith}
+use Rattle.std.specs.Borrow.{Bor}
+use Rattle.yasna_base.specs.declared.error.ASN1Error.{ASN1Error}
+use Rattle.yasna_base.specs.declared.mode.BERMode.{BERMode}
+use Rattle.yasna_base.specs.declared.tag.Tag.{Tag}
+use Rattle.yasna_base.specs.Error.{kind_of}
+use Rattle.yasna_base.specs.Identifier.{end_tag, AtEnd, universal, tag_or}
+use Rattle.yasna_base.specs.Coding.{Any}
+use Rattle.yasna_base.proofs.Identifier.{not_end}
+use Rattle.yasna_reader.specs.declared.bytes.header.Refusal.{Refusal}
+use Rattle.yasna_reader.specs.State.{Reading, IsFresh, untagged, refusing, tag_of}
+use Rattle.yasna_reader.specs.Front.{Takes, AtFront}
+use Rattle.yasna_reader.specs.Contents.{Never}
+use Rattle.yasna_reader.specs.Primitive.{RefusedAs, ReadsFront, ReadsUnlessKept, Settles, FrontOf, Reads, NoLevel}
+use Rattle.yasna_reader.specs.Decodes.{Tells, KeptTells, Took, NotTook, IsQuietAtEnd, Decodes}
+use Rattle.yasna_reader.proofs.Refusal.{plain_of, at_end_elsewhere, not_at_end}
+
+settled : {A : Type 0} (B : A → List ℕ → Type 0) (D M : Type 0) (t : Tag) (s : Reading) (f : Result (A × Bor (List ℕ)) Refusal) (r : Result A ASN1Error)
+    (s' : Reading) → AtFront B D M t s.left f → Settles (untagged s) f r s' → ReadsUnlessKept None B D M t s r s'
+settled B D M t s (Ok x) (Ok v) s' a b = record { rest = x.1.now; takes = let e : x.0 ≡ v = cc (b.0) in subst (λ z. Takes B s.left z x.1.now) e a; state = b.1 }
+settled B D M t s (Ok x) (Err e) s' a b = let f = b.0 in absurd (cc)
+settled B D M t s (Err x) (Ok v) s' a b = let f = b.0 in absurd (cc)
+settled {A} B D M t s (Err x) (Err e) s' a b =
+    let g : record { kind = x.kind } ≡ e = let f = b.0 in cc in
+    record { refusal = x; kind = ap kind_of g; refuses = a; state = b.1 ∙ ap (refusing x.moved (untagged s)) g }
+
+-- what was found at the front, with the reading settled, is what a typed read does
+pub settled_reads : {A : Type 0} (B : A → List ℕ → Type 0) (D M : Type 0) (t : Tag) (s : Reading) (f : Result (A × Bor (List ℕ)) Refusal)
+    (r : Result A ASN1Error) (s' : Reading) → s.kept ≡ None → AtFront B D M t s.left f → Settles (untagged s) f r s' → ReadsUnlessKept s.kept B D M t s r s'
+settled_reads B D M t s f r s' e a b = subst (λ k. ReadsUnlessKept k B D M t s r s') (sym e) (settled B D M t s f r s' a b)
+
+-- what was found with the fields of a reading was found for the reading
+pub at_view : {A : Type 0} (B : ℕ → BERMode → Tag → A → List ℕ → Type 0) (D : ℕ → BERMode → Tag → List ℕ → Type 0) (M : ℕ → Tag → List ℕ → Type 0)
+    (tag u : Tag) (z s : Reading) (r : Result (A × Bor (List ℕ)) Refusal) → z ≡ s → u ≡ tag_of s tag →
+    AtFront (B z.levels z.mode u) (D z.levels z.mode u z.left) (M z.levels u z.left) u z.left r → FrontOf B D M tag s r
+at_view B D M tag u z s r e f x =
+    let y = subst (λ u. AtFront (B z.levels z.mode u) (D z.levels z.mode u z.left) (M z.levels u z.left) u z.left r) f x in
+    subst (λ z. AtFront (B z.levels z.mode (tag_of s tag)) (D z.levels z.mode (tag_of s tag) z.left) (M z.levels (tag_of s tag) z.left) (tag_of s tag) z.left
+    r) e y
+
+-- the same of a whole typed read
+pub reads_front : {A : Type 0} (B : ℕ → BERMode → Tag → A → List ℕ → Type 0) (D : ℕ → BERMode → Tag → List ℕ → Type 0) (M : ℕ → Tag → List ℕ → Type 0)
+    (tag : Tag) (s : Reading) (f : Result (A × Bor (List ℕ)) Refusal) (r : Result A ASN1Error) (s' : Reading) → s.kept ≡ None → FrontOf B D M tag s f →
+    Settles (untagged s) f r s' → Reads B D M tag s r s'
+reads_front B D M tag s f r s' e a b = record {
+  reads = settled_reads (B s.levels s.mode (tag_of s tag)) (D s.levels s.mode (tag_of s tag) s.left)
+      (M s.levels (tag_of s tag) s.left) (tag_of s tag) s f r s' e a b;
+}
+
+-- a typed read with a failure kept answers that failure
+pub reads_kept : {A : Type 0} (B : ℕ → BERMode → Tag → A → List ℕ → Type 0) (D : ℕ → BERMode → Tag → List ℕ → Type 0) (M : ℕ → Tag → List ℕ → Type 0)
+    (tag : Tag) (s : Reading) (e : ASN1Error) (r : Result A ASN1Error) (s' : Reading) → s.kept ≡ Some e → r ≡ Err e → s' ≡ untagged s → Reads B D M tag s r s'
+reads_kept B D M tag s e r s' k f g = record {
+  reads = subst
+      (λ k. ReadsUnlessKept k (B s.levels s.mode (tag_of s tag)) (D s.levels s.mode (tag_of s tag) s.left) (M s.levels (tag_of s tag) s.left) (tag_of s tag) s
+      r s') (sym k) (f, g);
+}
+
+fresh : {A : Type 0} (B : ℕ → BERMode → Tag → A → List ℕ → Type 0) (D : ℕ → BERMode → Tag → List ℕ → Type 0) (M : ℕ → Tag → List ℕ → Type 0) (t : Tag)
+    (s : Reading) (r : Result A ASN1Error) (s' : Reading) → IsFresh s → Reads B D M t s r s' →
+    ReadsUnlessKept None (B s.levels s.mode t) (D s.levels s.mode t s.left) (M s.levels t s.left) t s r s'
+fresh B D M t s r s' f x =
+    let y = subst (λ k. ReadsUnlessKept k (B s.levels s.mode (tag_of s t)) (D s.levels s.mode (tag_of s t) s.left) (M s.levels (tag_of s t) s.left)
+    (tag_of s t) s r s') f.0 x.reads in
+    subst (λ u. ReadsUnlessKept None (B s.levels s.mode (tag_or u t)) (D s.levels s.mode (tag_or u t) s.left) (M s.levels (tag_or u t) s.left) (tag_or u t) s
+    r s') f.1 y
+
+-- nothing is too deep at an end
+pub no_level_at_end : (n : ℕ) (m : BERMode) (t : Tag) (s : List ℕ) → (t ≡ end_tag → ⊥) → AtEnd s → NoLevel n m t s → ⊥
+no_level_at_end n m t s o a x = not_at_end t s o a x.1
+
+left_as : (b : Bool) (s : Reading) (e : ASN1Error) → (refusing b (untagged s) e).left ≡ s.left
+left_as true s e = refl
+left_as false s e = refl
+
+kept_as : (asks : Bool) (S : List ℕ → Type 0) (b : Bool) (s : Reading) (e : ASN1Error) → s.kept ≡ None → Tells asks S s.left e →
+    KeptTells asks S s.left (refusing b (untagged s) e).kept
+kept_as asks S true s e k x = x
+kept_as asks S false s e k x = subst (KeptTells asks S s.left) (sym k) tt
+
+stays : (s : Reading) → s.tag ≡ None → untagged s ≡ s
+stays s e = ap (λ t. record s { tag = t }) (sym e)
+
+-- What a fresh reading decodes, where the encodings of a type are what a typed read takes, at an end nothing is too deep
+-- or wants memory, and asks says whether memory may be wanting.
+module _ {A : Type 0} (asks : Bool) (B : ℕ → BERMode → Tag → A → List ℕ → Type 0) (D : ℕ → BERMode → Tag → List ℕ → Type 0) (M : ℕ → Tag → List ℕ → Type 0)
+    (B' : BERMode → ℕ → A → List ℕ → Type 0) (S' : BERMode → ℕ → List ℕ → Type 0) (t : Tag) (other : t ≡ end_tag → ⊥)
+    (says : (m : BERMode) (n : ℕ) (v : A) (b : List ℕ) → B n m t v b → B' m n v b)
+    (asked : (m : BERMode) (n : ℕ) (b : List ℕ) → S' m n b → (v : A) × B n m t v b) (deep : (n : ℕ) (m : BERMode) (s : List ℕ) → AtEnd s → D n m t s → ⊥)
+    (memory : (n : ℕ) (s : List ℕ) → AtEnd s → M n t s → ⊥) (may : (n : ℕ) (s : List ℕ) → M n t s → asks ≡ true) where
+  took : (s : Reading) (v : A) (s' : Reading) → s.tag ≡ None → ReadsFront (B s.levels s.mode t) s v s' → Took (B' s.mode s.levels) s v s'
+  took s v s' f y = record {
+    front = y.takes.front;
+    rest = y.rest;
+    joined = y.takes.joined;
+    stands = says s.mode s.levels v y.takes.front y.takes.member;
+    left = y.state ∙ ap {A = Reading} (λ z. record z { left = y.rest }) (stays s f);
+  }
+
+  tells : (s : Reading) (e : ASN1Error) (s' : Reading) → RefusedAs (B s.levels s.mode t) (D s.levels s.mode t s.left) (M s.levels t s.left) t s e s' →
+      Tells asks (S' s.mode s.levels) s.left e
+  tells s e s' y = record {
+    none = λ h b z g w. let a = asked s.mode s.levels b w in
+        y.refuses.none (λ i. h (sym (y.kind) ∙ i)) (a.0, z, record { front = b; joined = g; member = a.1 });
+    memory = λ i. may s.levels s.left (y.refuses.memory (y.kind ∙ i));
+  }
+
+  tagless : (b : Bool) (s : Reading) (e : ASN1Error) → s.tag ≡ None →
+      refusing b (untagged s) e ≡ record s { left = (refusing b (untagged s) e).left; kept = (refusing b (untagged s) e).kept }
+  tagless true s e f = ap {B = Reading} (λ u. record s { kept = Some e; tag = u }) (sym f)
+  tagless false s e f = ap {B = Reading} (λ u. record s { tag = u }) (sym f)
+
+  refused : (s : Reading) (e : ASN1Error) (s' : Reading) → IsFresh s →
+      RefusedAs (B s.levels s.mode t) (D s.levels s.mode t s.left) (M s.levels t s.left) t s e s' → NotTook asks (S' s.mode s.levels) s e s'
+  refused s e s' f y =
+      let i = ap (λ z. length z.left) y.state in
+      let j = ap length (left_as y.refusal.moved s e) in
+      record {
+        tells = tells s e s' y;
+        kept = subst (λ z. KeptTells asks (S' s.mode s.levels) s.left z.kept) (sym y.state)
+            (kept_as asks (S' s.mode s.levels) y.refusal.moved s e f.0 (tells s e s' y));
+        further = omega arith;
+        same = subst (λ z. z ≡ record s { left = z.left; kept = z.kept }) (sym y.state) (tagless y.refusal.moved s e f.1);
+      }
+
+  quiet : (s : Reading) (e : ASN1Error) (s' : Reading) → s.tag ≡ None →
+      RefusedAs (B s.levels s.mode t) (D s.levels s.mode t s.left) (M s.levels t s.left) t s e s' → IsQuietAtEnd s e s'
+  quiet s e s' f y a = (
+    y.state ∙ ap (λ b. refusing b (untagged s) e) (y.refuses.moved.1 (at_end_elsewhere t s.left other a)) ∙ stays s f,
+    plain_of (kind_of e) (λ i. deep s.levels s.mode s.left a (y.refuses.too_deep (y.kind ∙ i))) (λ i. memory s.levels s.left a (y.refuses.memory (y.kind ∙ i))),
+  )
+
+  decodes : (s : Reading) (r : Result A ASN1Error) (s' : Reading) → IsFresh s →
+      ReadsUnlessKept None (B s.levels s.mode t) (D s.levels s.mode t s.left) (M s.levels t s.left) t s r s' → Decodes asks B' S' s r s'
+  decodes s (Ok v) s' f y = took s v s' f.1 y
+  decodes s (Err e) s' f y = (refused s e s' f y, quiet s e s' f.1 y)
+
+  -- such a read decodes
+  pub asked_decodes : (s : Reading) (r : Result A ASN1Error) (s' : Reading) → IsFresh s → Reads B D M t s r s' → Decodes asks B' S' s r s'
+  asked_decodes s r s' f x = decodes s r s' f (fresh B D M t s r s' f x)
+
+-- a typed read that goes one level down and takes no memory decodes
+pub reads_decodes : {A : Type 0} (B : ℕ → BERMode → Tag → A → List ℕ → Type 0) (B' : BERMode → ℕ → A → List ℕ → Type 0) (S' : BERMode → ℕ → List ℕ → Type 0)
+    (t : Tag) → (t ≡ end_tag → ⊥) → ((m : BERMode) (n : ℕ) (v : A) (b : List ℕ) → B n m t v b → B' m n v b) →
+    ((m : BERMode) (n : ℕ) (b : List ℕ) → S' m n b → (v : A) × B n m t v b) → (s : Reading) (r : Result A ASN1Error) (s' : Reading) → IsFresh s →
+    Reads B NoLevel Never t s r s' → Decodes false B' S' s r s'
+reads_decodes B B' S' t n says asked = asked_decodes false B NoLevel Never B' S' t n says asked (λ k m s. no_level_at_end k m t s n) (λ _ _ _ x. x)
+    (λ _ _ x. absurd x)
+
+-- a typed read under the type's own tag
+pub leaf_decodes : {A : Type 0} (B : ℕ → BERMode → Tag → A → List ℕ → Type 0) (k : ℕ) → (k ≡ 0 → ⊥) → (s : Reading) (r : Result A ASN1Error) (s' : Reading) →
+    s.tag ≡ None → Reads B NoLevel Never (universal k) s r s' → s.kept ≡ None →
+    Decodes false (λ m n v b. B n m (universal k) v b) (Any (λ m n v b. B n m (universal k) v b)) s r s'
+leaf_decodes B k h s r s' t x f = reads_decodes B (λ m n v b. B n m (universal k) v b) (Any (λ m n v b. B n m (universal k) v b)) (universal k) (not_end k h)
+    (λ m n v b y. y) (λ m n b y. y) s r s' (f, t) x

@@ -1,0 +1,224 @@
+-- Elements whose contents a callback reads, up to their end.
+use Rattle.std.proofs.Common.{◌≡◌, ℕ, zero, suc, ◌-◌, ◌≤◌, ◌⊎◌, inl, inr, List, [], ◌∷◌, ◌++◌, length, drop, Option, Some, None, refl, sym, ap, subst, ◌∙◌, append_assoc, append-nil, length-append, Bool, true, false, arith}
+use Rattle.std.proofs.Math.Seq.{drop-append_seam}
+use Rattle.std.specs.Prelude.{Result, Ok, Err}
+use Rattle.yasna_base.specs.declared.error.ASN1Error.{ASN1Error}
+use Rattle.yasna_base.specs.declared.error.ASN1ErrorKind.TheVariants.{OutOfMemory}
+use Rattle.yasna_base.specs.declared.mode.BERMode.{BERMode}
+use Rattle.yasna_base.specs.declared.tag.Tag.{Tag}
+use Rattle.yasna_base.specs.declared.tag.PCBit.{PCBit}
+use Rattle.yasna_base.specs.declared.tag.PCBit.TheVariants.{Constructed}
+use Rattle.yasna_base.specs.Error.{kind_of, error_of}
+use Rattle.yasna_base.specs.Identifier.{identifier, end_tag, AtEnd, nothing, tag_or}
+use Rattle.yasna_base.specs.Element.{Element, definite, indefinite, end_of_contents, Around, Enclosed, AnyEnclosed}
+use Rattle.yasna_base.proofs.Lists.{append_same, fronts_same}
+use Rattle.yasna_base.proofs.Identifier.{zeros_at_end}
+use Rattle.yasna_base.proofs.Element.{counted_header, uncounted_header}
+use Rattle.yasna_reader.specs.declared.bytes.header.Refusal.{Refusal}
+use Rattle.yasna_reader.specs.Header.{ContentsEnd, counted, uncounted, OpensAt, EndsAt, EndsBefore, RefusesHeader, OnlyConstructed}
+use Rattle.yasna_reader.specs.Parse.{unless_kept}
+use Rattle.yasna_reader.specs.Sequence.{place_in, Fails, Left, Entered, NotEntered, EntersUnlessKept, ReadsParts}
+use Rattle.yasna_reader.specs.Decodes.{Tells, KeptTells, NotTook, IsQuietAtEnd, Decodes, NotContents, TookContents, DecodesContents}
+use Rattle.yasna_reader.specs.State.{Reading, IsFresh, inside, untagged, refusing, tag_of}
+use Rattle.yasna_reader.proofs.Refusal.{plain_not_memory, plain_of, at_end_elsewhere, not_at_end}
+use Rattle.yasna_base.specs.Digits.{IsBytes}
+use Rattle.yasna_base.proofs.Digits.{bytes_front}
+use Rattle.yasna_reader.proofs.Header.{opens_begins, element_header}
+
+module _ {A : Type 0} (P Q : Reading → Result A ASN1Error → Reading → Type 0)
+    (says : (s : Reading) (r : Result A ASN1Error) (s' : Reading) → IsFresh s → P s r s' → Q s r s') where
+  entered : (k : Option ASN1Error) (t : Tag) (s : Reading) (r : Result A ASN1Error) (s' : Reading) → EntersUnlessKept k P t s r s' →
+      EntersUnlessKept k Q t s r s'
+  entered (Some e) t s r s' h = h
+  entered None t s r s' (inr x) = inr x
+  entered None t s r s' (inl x) = inl (record {
+    level = x.level;
+    contents = x.contents;
+    end = x.end;
+    opens = x.opens;
+    own = x.own;
+    left = x.left;
+    says = says (inside s x.contents) x.own x.left (refl, refl) x.says;
+    closed = x.closed;
+  })
+
+  -- where contents are read as P says, and so as Q says
+  pub parts_map : (tag : Tag) (s : Reading) (r : Result A ASN1Error) (s' : Reading) → ReadsParts P tag s r s' → ReadsParts Q tag s r s'
+  parts_map tag s r s' h = record { enters = entered s.kept (tag_of s tag) s r s' h.enters }
+
+-- y is what stands behind contents, and r what follows their element
+record Behind (c d : List ℕ) (after : ContentsEnd) (r : List ℕ) : Type 0 where
+  y : List ℕ
+  joined : c ≡ d ++ y
+  ends : EndsBefore after y r
+
+-- an element that stands where a header was read has its contents there
+opened : (m : BERMode) (t : Tag) (p : PCBit) (s c : List ℕ) (after : ContentsEnd) → OpensAt m t p s c after → (d b r : List ℕ) → Element m t p d b →
+    s ≡ b ++ r → Behind c d after r
+opened m t p s c (counted a) x d b r y e =
+    let h = counted_header m m t t p p (length c) x.l d b (c ++ a) r x.spelled y.framed (sym x.joined ∙ e) in
+    let f = fronts_same c d a r h.count h.behind in
+    record { y = []; joined = f.0 ∙ sym (append-nil d); ends = (refl, sym f.1) }
+opened m t p s c uncounted x d b r y e =
+    let h = uncounted_header m t t p p d b c r y.framed (sym x.joined ∙ e) in
+    record { y = 0 ∷ 0 ∷ r; joined = h.behind; ends = refl }
+
+-- where contents end behind a header, an element stands
+record Stands (m : BERMode) (t : Tag) (p : PCBit) (s d r : List ℕ) : Type 0 where
+  bytes : List ℕ
+  joined : s ≡ bytes ++ r
+  element : Element m t p d bytes
+
+closed : (m : BERMode) (t : Tag) (p : PCBit) (s c : List ℕ) (after : ContentsEnd) → OpensAt m t p s c after → (d y r : List ℕ) → c ≡ d ++ y →
+    EndsBefore after y r → Stands m t p s d r
+closed m t p s c (counted a) x d y r e h =
+    let f : c ≡ d = e ∙ ap (λ z. d ++ z) h.0 ∙ append-nil d in
+    record {
+      bytes = identifier t p ++ (x.l ++ d);
+      joined = x.joined ∙ ap (λ z. identifier t p ++ (x.l ++ (z ++ a))) f ∙ ap (λ z. identifier t p ++ (x.l ++ (d ++ z))) (sym h.1) ∙ simp append_assoc;
+      element = record {
+        in_range = x.in_range;
+        in_bytes = subst IsBytes f x.in_bytes;
+        framed = definite (record { taken = x.taken; l = x.l; spelled = rw (← f) x.spelled; joined = refl });
+      };
+    }
+closed m t p s c uncounted x d y r e h = record {
+  bytes = identifier t p ++ (128 ∷ (d ++ end_of_contents));
+  joined = x.joined ∙ ap (λ z. identifier t p ++ (128 ∷ z)) (e ∙ ap (λ z. d ++ z) h) ∙ simp append_assoc;
+  element = record {
+    in_range = x.in_range;
+    in_bytes = bytes_front d y (subst IsBytes e x.in_bytes);
+    framed = indefinite (record { taken = x.taken; joined = refl });
+  };
+}
+
+ends_at : (after : ContentsEnd) (y r : List ℕ) → EndsBefore after y r → EndsAt after y
+ends_at (counted a) y r h = h.0
+ends_at uncounted y r h = (r, h)
+
+end_behind : (after : ContentsEnd) (y r : List ℕ) → EndsBefore after y r → AtEnd y
+end_behind (counted a) y r h = nothing h.0
+end_behind uncounted y r h = subst (λ z. AtEnd z) (sym h) (zeros_at_end (0 ∷ r))
+
+around : {A : Type 0} (C : BERMode → ℕ → A → List ℕ → Type 0) (t : Tag) (m : BERMode) (n : ℕ) (v : A) (b : List ℕ) → 1 ≤ n → Around m t (C m (n - 1)) v b →
+    Enclosed C t m n v b
+around C t m zero v b l h = absurd (omega arith)
+around C t m (suc n) v b l h = let e : suc n - 1 ≡ n = omega arith in subst (λ k. Around m t (C m k) v b) e h
+
+within : {A : Type 0} (C : BERMode → ℕ → A → List ℕ → Type 0) (t : Tag) (m : BERMode) (n : ℕ) (v : A) (b : List ℕ) → Enclosed C t m n v b →
+    (1 ≤ n) × Around m t (C m (n - 1)) v b
+within C t m zero v b h = absurd h
+within C t m (suc n) v b h = let e : n ≡ suc n - 1 = omega arith in (omega arith, subst (λ k. Around m t (C m k) v b) e h)
+
+-- what is left behind a front is found by its length
+place_behind : (b r : List ℕ) → place_in (b ++ r) r ≡ r
+place_behind b r =
+    let e : length (b ++ r) - length r ≡ length b = omega (arith, length-append b r) in
+    ap (λ n. drop n (b ++ r)) e ∙ drop-append_seam b r
+
+-- what holds of two things holds of what equals them
+pub replaced : {X Y : Type 0} {r x : X} {s y : Y} (B : X → Y → Type 0) → r ≡ x → s ≡ y → B x y → B r s
+replaced {r} {y} B e f h = subst (λ z. B r z) (sym f) (subst (λ z. B z y) (sym e) h)
+
+module _ {A : Type 0} (asks : Bool) (C : BERMode → ℕ → A → List ℕ → Type 0) (S : BERMode → ℕ → List ℕ → Type 0) (t : Tag) (not_end : t ≡ end_tag → ⊥)
+    (s : Reading) (fresh : IsFresh s) where
+  tagless : (k : Option ASN1Error) → record (untagged s) { kept = k } ≡ record s { kept = k }
+  tagless k = ap {A = Option Tag} {B = Reading} (λ u. record s { kept = k; tag = u }) (sym fresh.1)
+
+  -- an answer that was kept, where no front of the contents is what they are to be
+  kept_failure : (c : List ℕ) (after : ContentsEnd) → OpensAt s.mode t Constructed s.left c after → (e : ASN1Error) →
+      ((kind_of e ≡ OutOfMemory → ⊥) → (d y r : List ℕ) → c ≡ d ++ y → EndsBefore after y r → S s.mode (s.levels - 1) d → ⊥) →
+      (kind_of e ≡ OutOfMemory → asks ≡ true) → (r : Result A ASN1Error) (s' : Reading) → Fails e (untagged s) r s' →
+      Decodes asks (Enclosed C t) (AnyEnclosed S t) s r s'
+  kept_failure c after o e none memory r s' h =
+      let T : Tells asks (AnyEnclosed S t s.mode s.levels) s.left e = record {
+        none = λ q b v i j.
+            let w = (within {A = Unit {0}} (λ m n u c. S m n c) t s.mode s.levels tt b j).1 in
+            let x = opened s.mode t Constructed s.left c after o w.contents b v w.element i in
+            none q w.contents x.y v x.joined x.ends w.meaning;
+        memory = memory;
+      } in
+      replaced (Decodes asks (Enclosed C t) (AnyEnclosed S t) s) h.answer h.state (
+        record { tells = T; kept = T; further = omega arith; same = tagless (Some e) },
+        λ i. absurd
+            (not_at_end t s.left not_end i (opens_begins s.mode t Constructed s.left c after o)),
+      )
+
+  contents_failure : (c : List ℕ) (after : ContentsEnd) → OpensAt s.mode t Constructed s.left c after → (e : ASN1Error) →
+      NotContents asks (S s.mode (s.levels - 1)) (inside s c) e → (r : Result A ASN1Error) (s' : Reading) → Fails e (untagged s) r s' →
+      Decodes asks (Enclosed C t) (AnyEnclosed S t) s r s'
+  contents_failure c after o e x = kept_failure c after o e (λ q d y r i j. x.none q d y i (end_behind after y r j)) x.memory
+
+  left_behind : (c : List ℕ) (left : Reading) (v : A) → (x : TookContents (C s.mode (s.levels - 1)) (S s.mode (s.levels - 1)) (inside s c) v left) →
+      place_in c left.left ≡ x.took.rest
+  left_behind c left v x = ap (λ (z : Reading). place_in c z.left) x.took.left ∙ ap (λ z. place_in z x.took.rest) x.took.joined ∙
+      place_behind x.took.front x.took.rest
+
+  settled : (c : List ℕ) (after : ContentsEnd) → OpensAt s.mode t Constructed s.left c after → 1 ≤ s.levels →
+      (k : Option ASN1Error) (own : Result A ASN1Error) (left : Reading) → DecodesContents asks C S (inside s c) (unless_kept k own) left →
+      (r : Result A ASN1Error) (s' : Reading) → Left after c k left.left own (untagged s) r s' → Decodes asks (Enclosed C t) (AnyEnclosed S t) s r s'
+  settled c after o l (Some e) own left x r s' h = contents_failure c after o e x r s' h
+  settled c after o l None (Err e) left x r s' h = contents_failure c after o e x r s' h
+  settled c after o l None (Ok v) left x r s' (inl h) =
+      let at = left_behind c left v x in
+      let w = closed s.mode t Constructed s.left c after o x.took.front x.took.rest h.rest x.took.joined (subst (λ z. EndsBefore after z h.rest) at h.ends) in
+      replaced (Decodes asks (Enclosed C t) (AnyEnclosed S t) s) h.answer h.state (record {
+        front = w.bytes;
+        rest = h.rest;
+        joined = w.joined;
+        stands = around C t s.mode s.levels v w.bytes l (record { contents = x.took.front; element = w.element; meaning = x.took.stands });
+        left = ap (λ u. record s { left = h.rest; tag = u }) (sym fresh.1);
+      })
+  settled c after o l None (Ok v) left x r s' (inr h) = kept_failure c after o h.error (λ q d y u i j k.
+      let f = x.ends d y i (end_behind after y u j) k in
+      let g : x.took.rest ≡ y = append_same x.took.front x.took.rest y (sym x.took.joined ∙ i ∙ ap (λ z. z ++ y) f) in
+      elim h.open_end [
+        | inl before ↦ omega (arith, before, ap length x.took.joined, length-append x.took.front x.took.rest, ap (λ (z : Reading). length z.left) x.took.left)
+        | inr wrong ↦ wrong (subst (λ z. EndsAt after z) (sym (left_behind c left v x ∙ g)) (ends_at after y u j))
+      ]) (λ q. absurd (plain_not_memory h.plain q)) r s' h.fails
+
+  refused_at : (k : Refusal) → RefusesHeader OnlyConstructed s.mode s.levels t s.left k →
+      Tells asks (AnyEnclosed S t s.mode s.levels) s.left (error_of k.kind) → (w : Bool) → k.moved ≡ w →
+      NotTook asks (AnyEnclosed S t s.mode s.levels) s (error_of k.kind) (refusing w (untagged s) (error_of k.kind)) ×
+      IsQuietAtEnd s (error_of k.kind) (refusing w (untagged s) (error_of k.kind))
+  refused_at k h T true e = (
+    record { tells = T; kept = T; further = omega arith; same = tagless (Some (error_of k.kind)) },
+    λ i. absurd
+        (let f = h.moved.1 (at_end_elsewhere t s.left not_end i) in let g = sym e ∙ f in cc),
+  )
+  refused_at k h T false e = (
+    record {
+      tells = T;
+      kept = subst (λ z. KeptTells asks (AnyEnclosed S t s.mode s.levels) s.left z) (sym fresh.0) tt;
+      further = omega arith;
+      same = tagless s.kept;
+    },
+    λ i. (ap (λ u. record s { tag = u }) (sym fresh.1), plain_of k.kind (λ f. not_at_end t s.left not_end i (h.too_deep f).1) h.memory),
+  )
+
+  refused : (r : Result A ASN1Error) (s' : Reading) → NotEntered t s r s' → Decodes asks (Enclosed C t) (AnyEnclosed S t) s r s'
+  refused r s' h =
+      let e : ASN1Error = error_of h.refusal.kind in
+      let T : Tells asks (AnyEnclosed S t s.mode s.levels) s.left e = record {
+        none = λ q b v i j.
+            let w = within {A = Unit {0}} (λ m n u c. S m n c) t s.mode s.levels tt b j in
+            h.refuses.none (λ f. h.refuses.memory f) (element_header OnlyConstructed s.mode s.levels t Constructed w.1.contents b s.left v w.0 refl
+            w.1.element i);
+        memory = λ q. absurd (h.refuses.memory q);
+      } in
+      replaced (Decodes asks (Enclosed C t) (AnyEnclosed S t) s) h.answer h.state (refused_at h.refusal h.refuses T h.refusal.moved refl)
+
+-- an element whose contents are read up to their end
+pub element : {A : Type 0} (asks : Bool) (C : BERMode → ℕ → A → List ℕ → Type 0) (S : BERMode → ℕ → List ℕ → Type 0)
+    (P : Reading → Result A ASN1Error → Reading → Type 0) →
+    ((s : Reading) (x : Result A ASN1Error) (left : Reading) → IsFresh s → P s x left → DecodesContents asks C S s (unless_kept left.kept x) left) →
+    (t : Tag) → (t ≡ end_tag → ⊥) → (s : Reading) → IsFresh s → (r : Result A ASN1Error) (s' : Reading) → ReadsParts P t s r s' →
+    Decodes asks (Enclosed C t) (AnyEnclosed S t) s r s'
+element asks C S P says t not_end s fresh r s' h =
+    let k : Entered P t s r s' ⊎ NotEntered t s r s' =
+    subst (λ u. EntersUnlessKept None P (tag_or u t) s r s') fresh.1 (subst (λ z. EntersUnlessKept z P (tag_of s t) s r s') fresh.0 h.enters) in
+    elim k [
+      | inl x ↦ settled asks C S t not_end s fresh x.contents x.end x.opens x.level x.left.kept x.own x.left
+          (says (inside s x.contents) x.own x.left (refl, refl) x.says) r s' x.closed
+      | inr x ↦ refused asks C S t not_end s fresh r s' x
+    ]

@@ -1,0 +1,29 @@
+-- What a parse of a whole input does.
+use Rattle.std.specs.Prelude.{Err, List, None, Ok, Option, Result, Some, [], ℕ, ◌∷◌, ◌≡◌}
+use Rattle.yasna_base.specs.Error.{error_of}
+use Rattle.yasna_base.specs.declared.error.ASN1Error.{ASN1Error}
+use Rattle.yasna_base.specs.declared.error.ASN1ErrorKind.TheVariants.{Extra}
+use Rattle.yasna_base.specs.declared.mode.BERMode.{BERMode}
+use Rattle.yasna_reader.specs.State.{Reading, starts}
+
+-- a kept failure is answered before anything else
+abbrev pub unless_kept : {A : Type 0} → Option ASN1Error → Result A ASN1Error → Result A ASN1Error
+unless_kept None r = r
+unless_kept (Some e) r = Err e
+
+-- nothing may be left behind a value
+abbrev pub ended : {A : Type 0} → Result A ASN1Error → List ℕ → Result A ASN1Error
+ended (Err e) s = Err e
+ended (Ok v) [] = Ok v
+ended (Ok v) (x ∷ s) = Err (error_of Extra)
+
+-- what a parse answers where its callback answered r and left s
+abbrev pub parsed : {A : Type 0} → Result A ASN1Error → Reading → Result A ASN1Error
+parsed r s = unless_kept s.kept (ended r s.left)
+
+-- a parse of s in the mode m: what P says of the reading that it starts with, and what is made of the answer
+pub record Parses {A : Type 0} (P : Reading → Result A ASN1Error → Reading → Type 0) (m : BERMode) (s : List ℕ) (r : Result A ASN1Error) : Type 0 where
+  pub own : Result A ASN1Error
+  pub left : Reading
+  pub says : P (starts s m) own left
+  pub answers : r ≡ parsed own left

@@ -1,0 +1,95 @@
+-- What a read of a constructed element does, whose contents a callback reads.
+use Rattle.std.specs.Borrow.{Bor, MutBor}
+use Rattle.std.specs.Fn.{Once, FnOnceTakesAtMut, FnOnceReturnsAtMut}
+use Rattle.std.specs.Prelude.{Err, List, None, Ok, Option, Result, Some, drop, length, ℕ, ◌-◌, ◌<◌, ◌≡◌, ◌≤◌, ◌⊎◌}
+use Rattle.yasna_base.specs.Error.{error_of, kind_of}
+use Rattle.yasna_base.specs.declared.error.ASN1Error.{ASN1Error}
+use Rattle.yasna_base.specs.declared.error.ASN1ErrorKind.{ASN1ErrorKind}
+use Rattle.yasna_base.specs.declared.tag.PCBit.TheVariants.{Constructed}
+use Rattle.yasna_base.specs.declared.tag.Tag.{Tag}
+use Rattle.yasna_reader.specs.Header.{ContentsEnd, OpensAt, OnlyConstructed, RefusesHeader, EndsAt, EndsBefore}
+use Rattle.yasna_reader.specs.Refusal.{IsPlain}
+use Rattle.yasna_reader.specs.State.{Reading, failing, inside, refusing, tag_of, untagged}
+use Rattle.yasna_reader.specs.declared.bytes.header.Refusal.{Refusal}
+use Rattle.yasna_reader.specs.declared.state.Parts.{Parts}
+
+-- What f may be called on: the reading of the contents of an element with the tag, where one stands at the front, no
+-- failure is kept and a level is left
+abbrev pub TakesParts : {F R : Type 0} → Once F (MutBor (Parts Reading) × Unit {0}) R → F → Tag → Reading → Type 0
+TakesParts g f tag s =
+    (c : List ℕ) (end : ContentsEnd) → s.kept ≡ None → 1 ≤ s.levels → OpensAt s.mode (tag_of s tag) Constructed s.left c end →
+    FnOnceTakesAtMut g f (record { reader = inside s c })
+
+-- f runs on the reading s, answers r and leaves s'
+abbrev pub Runs : {F A : Type 0} → Once F (MutBor (Parts Reading) × Unit {0}) (Result A ASN1Error × (MutBor (Parts Reading) × Unit {0})) → F → Reading →
+    Result A ASN1Error → Reading → Type 0
+Runs g f s r s' = FnOnceReturnsAtMut g f (record { reader = s }) r (record { reader = s' })
+
+-- the place that a callback left, as far from the end of the contents c as what it left is long
+abbrev pub place_in : List ℕ → List ℕ → List ℕ
+place_in c y = drop (length c - length y) c
+
+-- the callback left a place that isn't the old one or further on
+abbrev pub IsBefore : List ℕ → List ℕ → Type 0
+IsBefore c y = length c < length y
+
+-- an Err of a reading that moved
+pub record Fails {A : Type 0} (e : ASN1Error) (s : Reading) (r : Result A ASN1Error) (s' : Reading) : Type 0 where
+  pub answer : r ≡ Err e
+  pub state : s' ≡ failing s e
+
+-- contents end where a callback left n bytes of them, and r follows the element, or they don't end there
+abbrev pub ClosesFrom : ContentsEnd → List ℕ → ℕ → Result (Bor (List ℕ)) ASN1ErrorKind → Type 0
+ClosesFrom end c n (Ok r) = (n ≤ length c) × EndsBefore end (drop (length c - n) c) r.now
+ClosesFrom end c n (Err k) = IsPlain k × ((length c < n) ⊎ (EndsAt end (drop (length c - n) c) → ⊥))
+
+-- contents end where the callback left them, and the rest is left
+pub record Closes {A : Type 0} (end : ContentsEnd) (c y : List ℕ) (v : A) (s : Reading) (r : Result A ASN1Error) (s' : Reading) : Type 0 where
+  pub rest : List ℕ
+  pub forward : IsBefore c y → ⊥
+  pub ends : EndsBefore end (place_in c y) rest
+  pub answer : r ≡ Ok v
+  pub state : s' ≡ record s { left = rest }
+
+-- they don't end there
+pub record StaysOpen {A : Type 0} (end : ContentsEnd) (c y : List ℕ) (s : Reading) (r : Result A ASN1Error) (s' : Reading) : Type 0 where
+  pub error : ASN1Error
+  pub plain : IsPlain (kind_of error)
+  pub open_end : IsBefore c y ⊎ (EndsAt end (place_in c y) → ⊥)
+  pub fails : Fails error s r s'
+
+-- what is made of a callback's answer: first the failure that it kept, then its own Err, then whether the contents end
+abbrev pub Left : {A : Type 0} → ContentsEnd → List ℕ → Option ASN1Error → List ℕ → Result A ASN1Error → Reading → Result A ASN1Error → Reading → Type 0
+Left end c (Some e) y x s r s' = Fails e s r s'
+Left end c None y (Err e) s r s' = Fails e s r s'
+Left end c None y (Ok v) s r s' = Closes end c y v s r s' ⊎ StaysOpen end c y s r s'
+
+-- the header of a constructed element stands there, and its contents were read as P says
+pub record Entered {A : Type 0} (P : Reading → Result A ASN1Error → Reading → Type 0) (t : Tag) (s : Reading) (r : Result A ASN1Error) (s' : Reading) : Type
+    0 where
+  pub level : 1 ≤ s.levels
+  pub contents : List ℕ
+  pub end : ContentsEnd
+  pub opens : OpensAt s.mode t Constructed s.left contents end
+  pub own : Result A ASN1Error
+  pub left : Reading
+  pub says : P (inside s contents) own left
+  pub closed : Left end contents left.kept left.left own (untagged s) r s'
+
+-- no such header stands there, and nothing was read of contents
+pub record NotEntered {A : Type 0} (t : Tag) (s : Reading) (r : Result A ASN1Error) (s' : Reading) : Type 0 where
+  pub refusal : Refusal
+  pub refuses : RefusesHeader OnlyConstructed s.mode s.levels t s.left refusal
+  pub answer : r ≡ Err (error_of refusal.kind)
+  pub state : s' ≡ refusing refusal.moved (untagged s) (error_of refusal.kind)
+
+-- a kept failure comes first
+abbrev pub EntersUnlessKept : {A : Type 0} → Option ASN1Error → (Reading → Result A ASN1Error → Reading → Type 0) → Tag → Reading → Result A ASN1Error →
+    Reading → Type 0
+EntersUnlessKept (Some e) P t s r s' = (r ≡ Err e) × (s' ≡ untagged s)
+EntersUnlessKept None P t s r s' = Entered P t s r s' ⊎ NotEntered t s r s'
+
+-- a read of a constructed element whose contents are read as P says
+pub record ReadsParts {A : Type 0} (P : Reading → Result A ASN1Error → Reading → Type 0) (tag : Tag) (s : Reading) (r : Result A ASN1Error) (s' : Reading) :
+    Type 0 where
+  pub enters : EntersUnlessKept s.kept P (tag_of s tag) s r s'

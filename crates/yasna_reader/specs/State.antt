@@ -1,0 +1,53 @@
+-- A reading as contracts see it, and what the parts of a constructed element lend.
+use Rattle.std.specs.Borrow.{Fml, Lends, MutBor, RattleType}
+use Rattle.std.specs.Prelude.{Bool, List, None, Option, Some, false, true, ℕ, ◌-◌, ◌≡◌}
+use Rattle.yasna_base.specs.declared.error.ASN1Error.{ASN1Error}
+use Rattle.yasna_base.specs.declared.mode.BERMode.{BERMode}
+use Rattle.yasna_base.specs.declared.tag.Tag.{Tag}
+use Rattle.yasna_base.specs.Identifier.{tag_or}
+use Rattle.yasna_reader.specs.contracts.state.Parts.{the_row}
+use Rattle.yasna_reader.specs.declared.state.Parts.{Parts}
+
+-- the bytes left in the innermost element of definite length or the input, the mode, the levels left, the implicit tag
+-- of the next element, and the failure that was kept
+pub record Reading : Type 0 where
+  pub left : List ℕ
+  pub mode : BERMode
+  pub levels : ℕ
+  pub tag : Option Tag
+  pub kept : Option ASN1Error
+
+-- no failure was kept, and no implicit tag waits
+abbrev pub IsFresh : Reading → Type 0
+IsFresh s = (s.kept ≡ None) × (s.tag ≡ None)
+
+-- the reading that a parse starts with
+abbrev pub starts : List ℕ → BERMode → Reading
+starts s m = record { left = s; mode = m; levels = 101; tag = None; kept = None }
+
+-- the reading of an element's contents c
+abbrev pub inside : Reading → List ℕ → Reading
+inside s c = record s { left = c; levels = s.levels - 1; tag = None; kept = None }
+
+abbrev pub untagged : Reading → Reading
+untagged s = record s { tag = None }
+
+abbrev pub failing : Reading → ASN1Error → Reading
+failing s e = record s { kept = Some e }
+
+-- the tag of the next element: the implicit one, or the type's own
+abbrev pub tag_of : Reading → Tag → Tag
+tag_of s t = tag_or s.tag t
+
+-- a refusal that moved is kept
+abbrev pub refusing : Bool → Reading → ASN1Error → Reading
+refusing true s e = failing s e
+refusing false s e = s
+
+-- what the next part is read from
+abbrev pub part_of : {S : Type 0} → Parts S → S
+part_of p = p.reader
+
+-- r lends the reading: what it is in the end is what is left of the parts
+abbrev pub LendsReader : (S : RattleType) → MutBor (Parts S.Denot) → MutBor S.Denot → Fml
+LendsReader S s r = Lends (the_row S) S s r (λ w. record s.now { reader = w })

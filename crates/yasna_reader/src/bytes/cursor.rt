@@ -1,0 +1,60 @@
+//! A place in an input's bytes.
+ghost use Rattle.std.specs.Prelude.{◌≡◌, ◌-◌, ◌≤◌, length};
+
+use crate::bytes::header::Opened;
+use yasna_base::mode::BERMode;
+
+// How many levels of elements a reading goes down.
+const LEVELS: u8 = 101;
+
+/// Where elements are read, and by which rules.
+#[derive(Clone, Copy)]
+pub struct Cursor<'a> {
+    /// What is left in the innermost element of definite length, or in the input.
+    pub left: &'a [u8],
+    /// Where that ends, counted from the input's first byte: it decides only of what kind some refusals are.
+    pub end: usize,
+    /// The encoding rules.
+    pub mode: BERMode,
+    /// How many levels of elements are still allowed.
+    pub levels: u8,
+}
+
+impl<'a> Cursor<'a> {
+    ghost use Rattle.std.specs.Prelude.{◌≡◌, ◌-◌, ◌≤◌};
+
+    /// The beginning of an input.
+    #[inline(always)]
+    pub fn start(input: &'a [u8], mode: BERMode) -> Cursor<'a>
+        ensures left { result.left.now ≡ input.now }
+        ensures mode { result.mode ≡ mode }
+        ensures levels { result.levels ≡ 101 }
+    {
+        Cursor {
+            left: input,
+            end: input.len(),
+            mode,
+            levels: LEVELS,
+        }
+    }
+
+    /// The beginning of an element's contents.
+    #[inline(always)]
+    pub fn inside(self, opened: &Opened<'a>) -> Cursor<'a>
+        requires { 1 ≤ self.levels }
+        ensures left { result.left.now ≡ opened.now.within.now }
+        ensures mode { result.mode ≡ self.entry.mode }
+        ensures levels { result.levels ≡ self.entry.levels - 1 }
+    {
+        let end = match opened.after {
+            Some(after) => self.end.saturating_sub(after.len()),
+            None => self.end,
+        };
+        Cursor {
+            left: opened.within,
+            end,
+            mode: self.mode,
+            levels: self.levels - 1,
+        }
+    }
+}

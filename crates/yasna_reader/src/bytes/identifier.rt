@@ -1,0 +1,88 @@
+//! Identifiers (X.690, 8.1.2).
+ghost use Rattle.std.specs.Prelude.{◌≡◌, ◌+◌, ◌*◌, ◌<◌};
+ghost use Rattle.yasna_base.specs.Identifier.{class_number, bit_number};
+ghost use Rattle.yasna_reader.specs.Identifier.{NumberAt, IdentifierAt};
+
+use yasna_base::error::ASN1ErrorKind;
+use yasna_base::tag::{PCBit, Tag, TagClass};
+
+// From here on a further digit in base 128 passes 2^64 - 1.
+const LEAST_TOO_LARGE: u64 = 144115188075855872;
+
+// The class, the bit and the low five bits of an identifier's first byte.
+#[inline(always)]
+fn leading(first: u8) -> (TagClass, PCBit, u8)
+    ensures parts { first ≡ 64 * class_number result.0 + 32 * bit_number result.1 + result.2 }
+    ensures low { result.2 < 32 }
+{
+    let class = match first / 64 {
+        0 => TagClass::Universal,
+        1 => TagClass::Application,
+        2 => TagClass::ContextSpecific,
+        _ => TagClass::Private,
+    };
+    let bit = if first / 32 % 2 == 0 {
+        PCBit::Primitive
+    } else {
+        PCBit::Constructed
+    };
+    (class, bit, first % 32)
+}
+
+// Reads a tag number of the long form, in base 128, the highest digit first.
+#[cold]
+#[inline(never)]
+fn read_number(s: &[u8]) -> Result<(u64, &[u8]), ASN1ErrorKind>
+    ensures { NumberAt s.now result }
+{
+    let mut number: u64 = 0;
+    let mut rest = s;
+    while let Some((byte, after)) = rest.split_first() {
+        // A first digit of zero says nothing.
+        if number == 0 && *byte == 128 {
+            return Err(ASN1ErrorKind::Invalid);
+        }
+        if number >= LEAST_TOO_LARGE {
+            return Err(ASN1ErrorKind::IntegerOverflow);
+        }
+        rest = after;
+        if *byte < 128 {
+            let found = number * 128 + u64::from(*byte);
+            if found < 31 {
+                return Err(ASN1ErrorKind::Invalid);
+            }
+            return Ok((found, rest));
+        }
+        number = number * 128 + u64::from(*byte - 128);
+    }
+    Err(ASN1ErrorKind::Eof)
+}
+
+/// Reads an identifier.
+#[inline(always)]
+pub fn read_identifier(s: &[u8]) -> Result<(Tag, PCBit, &[u8]), ASN1ErrorKind>
+    ensures { IdentifierAt s.now result }
+{
+    let Some((first, rest)) = s.split_first() else {
+        return Err(ASN1ErrorKind::Eof);
+    };
+    let (tag_class, bit, low) = leading(*first);
+    if low < 31 {
+        let tag = Tag {
+            tag_class,
+            tag_number: u64::from(low),
+        };
+        return Ok((tag, bit, rest));
+    }
+    match read_number(rest) {
+        Ok((tag_number, after)) => Ok((
+            Tag {
+                tag_class,
+                tag_number,
+            },
+            bit,
+            after,
+        )),
+        Err(kind) => Err(kind),
+    }
+}

@@ -1,0 +1,88 @@
+//! Lengths (X.690, 8.1.3 and 10.1).
+ghost use Rattle.std.specs.Prelude.{◌≡◌, ◌^◌, ◌<◌, ◌≤◌, ◌++◌, length, MatchOption, IsTrue, ◌↔◌};
+ghost use Rattle.std.specs.Int.Digits.{number_from_digits};
+ghost use Rattle.yasna_reader.specs.Length.{TakesSpelling, DigitsAt, LengthAt};
+
+use yasna_base::error::ASN1ErrorKind;
+use yasna_base::mode::BERMode;
+
+// From here on a further digit in base 256 passes 2^64 - 1.
+const LEAST_TOO_LARGE: u64 = 72057594037927936;
+
+/// The first `count` bytes and the rest, where there are as many.
+#[inline(always)]
+pub fn cut(s: &[u8], count: usize) -> Option<(&[u8], &[u8])>
+    ensures { MatchOption result (length s.now < count) (λ o. (length o.0.now ≡ count) × (s.now ≡ o.0.now ++ o.1.now)) }
+{
+    if s.len() < count {
+        return None;
+    }
+    Some(s.split_at(count))
+}
+
+/// The number that bytes spell in base 256, where it is below 2^64.
+#[inline(always)]
+pub fn number_of(digits: &[u8]) -> Option<u64>
+    ensures { MatchOption result (2 ^ 64 ≤ number_from_digits 256 digits.now) (λ k. k ≡ number_from_digits 256 digits.now) }
+{
+    let mut number: u64 = 0;
+    for digit in digits {
+        if number >= LEAST_TOO_LARGE {
+            return None;
+        }
+        number = number * 256 + u64::from(*digit);
+    }
+    Some(number)
+}
+
+// Whether a mode takes a length spelled by these digits.
+fn is_spelling(mode: BERMode, digits: &[u8], size: u64) -> bool
+    requires { 0 < length digits.now }
+    ensures { IsTrue result ↔ TakesSpelling mode digits.now size }
+{
+    match mode {
+        BERMode::Ber => true,
+        BERMode::Der => size >= 128 && digits.first() != Some(&0),
+    }
+}
+
+// Reads the digits of a length behind the byte that counts them.
+#[inline(never)]
+fn read_digits(s: &[u8], count: u8, mode: BERMode) -> Result<(usize, &[u8]), ASN1ErrorKind>
+    requires { 0 < count }
+    ensures { DigitsAt mode count s.now result }
+{
+    let Some((digits, after)) = cut(s, usize::from(count)) else {
+        return Err(ASN1ErrorKind::Eof);
+    };
+    let Some(size) = number_of(digits) else {
+        return Err(ASN1ErrorKind::Eof);
+    };
+    if !is_spelling(mode, digits, size) {
+        return Err(ASN1ErrorKind::Invalid);
+    }
+    Ok((size as usize, after))
+}
+
+/// Reads a length, None for the byte of the indefinite form.
+#[inline(always)]
+pub fn read_length(s: &[u8], mode: BERMode) -> Result<(Option<usize>, &[u8]), ASN1ErrorKind>
+    ensures { LengthAt mode s.now result }
+{
+    let Some((first, rest)) = s.split_first() else {
+        return Err(ASN1ErrorKind::Eof);
+    };
+    if *first < 128 {
+        return Ok((Some(usize::from(*first)), rest));
+    }
+    if *first == 128 {
+        return Ok((None, rest));
+    }
+    if *first == 255 {
+        return Err(ASN1ErrorKind::Invalid);
+    }
+    match read_digits(rest, *first - 128, mode) {
+        Ok((size, after)) => Ok((Some(size), after)),
+        Err(kind) => Err(kind),
+    }
+}

@@ -1,0 +1,136 @@
+//! Reads of types of one primitive element: BOOLEAN, NULL, INTEGER and ENUMERATED (X.690, 8.2 to 8.4 and 8.8).
+
+use crate::bytes::contents::{Contents, value};
+use crate::bytes::header::Refusal;
+use crate::state::ReaderState;
+use yasna_base::error::ASN1Result;
+use yasna_base::tag::Tag;
+use yasna_base::tags::{TAG_BOOLEAN, TAG_ENUM, TAG_INTEGER, TAG_NULL};
+
+impl<'a> ReaderState<'a> {
+    ghost use Rattle.std.specs.Int.{w64, w32, w16, w8};
+    ghost use Rattle.yasna_base.specs.Element.{Primitively};
+    ghost use Rattle.yasna_base.specs.Boolean.{IsBoolean};
+    ghost use Rattle.yasna_base.specs.Null.{IsNull};
+    ghost use Rattle.yasna_base.specs.Integer.{IsSigned, IsUnsigned};
+    ghost use Rattle.yasna_reader.specs.Contents.{HoldsBigInteger, Never, WantsMemory};
+    ghost use Rattle.yasna_reader.specs.Primitive.{Reads, FrontOf, NoLevel};
+
+    /// Reads BOOLEAN: any byte but 0 is true in BER, 255 alone in DER.
+    #[inline(always)]
+    pub fn read_bool(&mut self) -> ASN1Result<bool>
+        ensures { Reads (Primitively IsBoolean) NoLevel Never TAG_BOOLEAN self.old result self.new }
+    {
+        self.read_primitive::<bool>(TAG_BOOLEAN)
+    }
+
+    /// Reads NULL.
+    #[inline(always)]
+    pub fn read_null(&mut self) -> ASN1Result<()>
+        ensures { Reads (Primitively IsNull) NoLevel Never TAG_NULL self.old result self.new }
+    {
+        self.read_primitive::<()>(TAG_NULL)
+    }
+
+    /// Reads ENUMERATED: `IntegerOverflow` outside the type.
+    #[inline(always)]
+    pub fn read_enum(&mut self) -> ASN1Result<i64>
+        ensures { Reads (Primitively (IsSigned w64)) NoLevel Never TAG_ENUM self.old result self.new }
+    {
+        self.read_primitive::<i64>(TAG_ENUM)
+    }
+
+    /// Reads INTEGER: `IntegerOverflow` outside the type.
+    #[inline(always)]
+    pub fn read_i64(&mut self) -> ASN1Result<i64>
+        ensures { Reads (Primitively (IsSigned w64)) NoLevel Never TAG_INTEGER self.old result self.new }
+    {
+        self.read_primitive::<i64>(TAG_INTEGER)
+    }
+
+    /// Reads INTEGER: `IntegerOverflow` outside the type.
+    #[inline(always)]
+    pub fn read_i32(&mut self) -> ASN1Result<i32>
+        ensures { Reads (Primitively (IsSigned w32)) NoLevel Never TAG_INTEGER self.old result self.new }
+    {
+        self.read_primitive::<i32>(TAG_INTEGER)
+    }
+
+    /// Reads INTEGER: `IntegerOverflow` outside the type.
+    #[inline(always)]
+    pub fn read_i16(&mut self) -> ASN1Result<i16>
+        ensures { Reads (Primitively (IsSigned w16)) NoLevel Never TAG_INTEGER self.old result self.new }
+    {
+        self.read_primitive::<i16>(TAG_INTEGER)
+    }
+
+    /// Reads INTEGER: `IntegerOverflow` outside the type.
+    #[inline(always)]
+    pub fn read_i8(&mut self) -> ASN1Result<i8>
+        ensures { Reads (Primitively (IsSigned w8)) NoLevel Never TAG_INTEGER self.old result self.new }
+    {
+        self.read_primitive::<i8>(TAG_INTEGER)
+    }
+
+    /// Reads INTEGER: `IntegerOverflow` outside the type.
+    #[inline(always)]
+    pub fn read_u64(&mut self) -> ASN1Result<u64>
+        ensures { Reads (Primitively (IsUnsigned 64)) NoLevel Never TAG_INTEGER self.old result self.new }
+    {
+        self.read_primitive::<u64>(TAG_INTEGER)
+    }
+
+    /// Reads INTEGER: `IntegerOverflow` outside the type.
+    #[inline(always)]
+    pub fn read_u32(&mut self) -> ASN1Result<u32>
+        ensures { Reads (Primitively (IsUnsigned 32)) NoLevel Never TAG_INTEGER self.old result self.new }
+    {
+        self.read_primitive::<u32>(TAG_INTEGER)
+    }
+
+    /// Reads INTEGER: `IntegerOverflow` outside the type.
+    #[inline(always)]
+    pub fn read_u16(&mut self) -> ASN1Result<u16>
+        ensures { Reads (Primitively (IsUnsigned 16)) NoLevel Never TAG_INTEGER self.old result self.new }
+    {
+        self.read_primitive::<u16>(TAG_INTEGER)
+    }
+
+    /// Reads INTEGER: `IntegerOverflow` outside the type.
+    #[inline(always)]
+    pub fn read_u8(&mut self) -> ASN1Result<u8>
+        ensures { Reads (Primitively (IsUnsigned 8)) NoLevel Never TAG_INTEGER self.old result self.new }
+    {
+        self.read_primitive::<u8>(TAG_INTEGER)
+    }
+
+    /// Reads INTEGER of any size: its contents, highest byte first in two's complement, and true where it isn't negative.
+    #[inline(always)]
+    pub fn read_bigint_bytes(&mut self) -> ASN1Result<(Vec<u8>, bool)>
+        ensures { Reads (Primitively HoldsBigInteger) NoLevel WantsMemory TAG_INTEGER self.old result self.new }
+    {
+        self.read_primitive::<(Vec<u8>, bool)>(TAG_INTEGER)
+    }
+
+    // What stands at the front as an element of one primitive type.
+    #[inline(always)]
+    fn front<T: Contents>(&self, tag: Tag) -> Result<(T, &'a [u8]), Refusal>
+        ensures { FrontOf (Primitively T.means) NoLevel T.wants tag self.now result }
+    {
+        value(self.alloc, self.cursor, self.wanted(tag))
+    }
+
+    // Reads an element of one primitive type.
+    #[inline(always)]
+    #[tactic(auto, using(crate::proofs::Primitives::reads_front, crate::proofs::Primitives::reads_kept))]
+    fn read_primitive<T: Contents + Drop>(&mut self, tag: Tag) -> ASN1Result<T>
+        ensures { Reads (Primitively T.means) NoLevel T.wants tag self.old result self.new }
+    {
+        if let Some(error) = self.kept {
+            self.tag = None;
+            return Err(error);
+        }
+        let front = self.front::<T>(tag);
+        self.settle(front)
+    }
+}
