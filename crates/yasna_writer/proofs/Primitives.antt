@@ -24,7 +24,9 @@ pub short_bytes : (m : BERMode) (t : Tag) (first count : ℕ) (c : List ℕ) →
 short_bytes m t first count c h k e f = ap₂ (λ x y. x ∷ y ∷ c) e f ∙ sym (short_element m t c h k)
 
 -- what one append leaves, where nothing was kept and the tag is used up before it
-pub wrote_by : (piece bs : List ℕ) (old mid new : Written) (r : Result (Unit {0}) ASN1Error) → old.kept ≡ None → mid ≡ record old { tag = None } → piece ≡ bs → MatchResult r (λ _. new ≡ record mid { bytes = mid.bytes ++ piece }) (λ e. (kind_of e ≡ OutOfMemory) × (new.kept ≡ Some e)) → Wrote bs old new r
+pub wrote_by :
+    (piece bs : List ℕ) (old mid new : Written) (r : Result (Unit {0}) ASN1Error)
+    → old.kept ≡ None → mid ≡ record old { tag = None } → piece ≡ bs → MatchResult r (λ _. new ≡ record mid { bytes = mid.bytes ++ piece }) (λ e. (kind_of e ≡ OutOfMemory) × (new.kept ≡ Some e)) → Wrote bs old new r
 wrote_by piece bs old mid new r none taken e h =
     rw none
     (MatchResult-weaker r h
