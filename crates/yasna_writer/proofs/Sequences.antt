@@ -14,7 +14,9 @@ use Rattle.yasna_writer.specs.Draft.{with_element}
 use Rattle.yasna_writer.specs.State.{KeptAtEnd, BeginsAt, Ends}
 
 -- the bytes around a seam are put around an element of what stands behind it
-element_at_seam : (t u : Tag) (n : ℕ) (front c whole : List ℕ) → n ≡ length front → t ≡ u → whole ≡ front ++ c → with_element t n whole ≡ front ++ canonical_element Der u Constructed c
+element_at_seam :
+    (t u : Tag) (n : ℕ) (front c whole : List ℕ) → n ≡ length front → t ≡ u → whole ≡ front ++ c
+    → with_element t n whole ≡ front ++ canonical_element Der u Constructed c
 element_at_seam t u n front c whole l s e =
     let head = ap₂ take l e ∙ take-append_seam front c in
     let rest = ap₂ drop l e ∙ drop-append_seam front c in

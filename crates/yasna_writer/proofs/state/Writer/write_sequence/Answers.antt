@@ -15,7 +15,8 @@ returns g c =
     let start : c.over-sequence.result ≡ handed old = c.over-sequence.ensures ∙ c.lend.ensures ∙ ap handed taken.2 in
     let between = c.begin-beginning.new.self in
     let begun : BeginsAt t (handed old) between b =
-    subst (λ (w : Written). BeginsAt t w between b) start (subst (λ (u : Tag). BeginsAt u c.over-sequence.result between b) taken.1 c.begin-beginning.ensures) in
+    subst (λ (w : Written). BeginsAt t w between b) start
+    (subst (λ (u : Tag). BeginsAt u c.over-sequence.result between b) taken.1 c.begin-beginning.ensures) in
     let back = c.take_back.ensures ∙ ap (λ (w : Written). record w { tag = None }) c.into_inner.ensures in
     let left = c.f-own.new.arg2 in
     let ends = ends_untagged b left c.end.new.self c.take_back.new.self c.end.ensures back in
