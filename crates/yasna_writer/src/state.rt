@@ -4,7 +4,7 @@ ghost use Rattle.yasna_base.specs.Refusal.{kind_of};
 ghost use Rattle.yasna_base.specs.declared.error.ASN1ErrorKind.TheVariants.{OutOfMemory};
 ghost use Rattle.yasna_base.specs.Canonical.{canonical_element};
 ghost use Rattle.yasna_base.specs.declared.tag.PCBit.TheVariants.{Primitive};
-ghost use Rattle.yasna_writer.specs.View.{Written, tag_or, empty_writing, handed, Wrote};
+ghost use Rattle.yasna_writer.specs.View.{Written, tag_or, empty_writing, handed};
 ghost use Rattle.yasna_writer.specs.Construct.{Constructed};
 ghost use Rattle.yasna_writer.specs.Sequence.{AnswersKept};
 ghost use Rattle.yasna_writer.specs.State.{TakesTag, BeginsAt, Ends};
