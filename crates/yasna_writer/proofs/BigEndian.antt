@@ -1,10 +1,7 @@
 -- A number of 64 bits as eight bytes, the highest first.
-use Rattle.std.proofs.Common.{◌≡◌, ℕ, suc, ◌+◌, ◌^◌, ◌<◌, ◌≤◌, ◌∷◌, length, refl, sym, ap, ◌∙◌, ℤ, pos, negsuc, ◌-ℤ◌, ◌-◌, arith}
-use Rattle.std.specs.Prelude.{true, int_le}
-use Rattle.std.proofs.Math.Dec.{leb-zero}
-use mir.Val.{SFits}
-use Rattle.std.proofs.lemmas.Int.{ints}
-use Rattle.std.specs.Int.{w64, cast_unsigned, to_be_bytes}
+use Rattle.std.proofs.Common.{◌≡◌, ℕ, ◌+◌, ◌^◌, ◌<◌, ◌≤◌, ◌∷◌, length, refl, sym, ap, ◌∙◌, pos, arith}
+use Rattle.std.specs.Prelude.{true}
+use Rattle.std.specs.Int.{w64, to_be_bytes}
 use Rattle.std.specs.Int.Digits.{number_from_digits}
 use Rattle.std.proofs.lemmas.Nat.{from_be_bytes-to_be_bytes_8}
 use Rattle.yasna_base.specs.Digits.{IsBytes, digits}
@@ -35,10 +32,3 @@ length_without n h small =
 -- the bytes of a number from 0 on
 pub be_unsigned : (n : ℕ) → n < 2 ^ 64 → signed_number true (to_be_bytes w64 n) ≡ pos n
 be_unsigned n h = ap pos (be_number n h)
-
--- the bytes of a signed number, and its sign
-pub be_signed : (z : ℤ) → SFits w64 z → signed_number (int_le (pos 0) z) (to_be_bytes w64 (cast_unsigned w64 z)) ≡ z
-be_signed (pos n) h =
-    ap (λ t. signed_number t (to_be_bytes w64 n)) (leb-zero n) ∙ be_unsigned n (omega (arith, h))
-be_signed (negsuc n) h =
-    ap (λ k. pos k -ℤ pos (2 ^ 64)) (be_number (2 ^ 64 - suc n) (omega arith)) ∙ omega (arith, ints, h)

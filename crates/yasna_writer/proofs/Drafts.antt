@@ -29,7 +29,13 @@ order_within k (g ∷ hs) n o = omega (arith, o.0, order_within g.place hs n o.1
 
 pub with_entry_length : (h : Entry) (b : List ℕ) → length (with_entry h b) ≡ length (mark_bytes h.mark) + length b
 with_entry_length h b =
-    omega (arith, length-append (take h.place b) (mark_bytes h.mark ++ drop h.place b), length-append (mark_bytes h.mark) (drop h.place b), length-take h.place b, length-drop h.place b)
+    omega (
+      arith,
+      length-append (take h.place b) (mark_bytes h.mark ++ drop h.place b),
+      length-append (mark_bytes h.mark) (drop h.place b),
+      length-take h.place b,
+      length-drop h.place b,
+    )
 
 -- bytes behind a header's place may be appended before or after it is put there
 pub with_entry_append : (h : Entry) (b bs : List ℕ) → h.place ≤ length b → with_entry h (b ++ bs) ≡ with_entry h b ++ bs
@@ -70,7 +76,9 @@ rest_of : (k p : ℕ) → k ≤ p → p ≡ k + (p - k)
 rest_of k p h = omega arith
 
 -- from a place on, up to the first header, that header, and what is behind it
-pub joined_step : (k : ℕ) (h : Entry) (hs : List Entry) (c : List ℕ) → AreInOrder k (h ∷ hs) (length c) → drop k (joined (h ∷ hs) c) ≡ slice_range c k h.place ++ (mark_bytes h.mark ++ drop h.place (joined hs c))
+pub joined_step :
+    (k : ℕ) (h : Entry) (hs : List Entry) (c : List ℕ) → AreInOrder k (h ∷ hs) (length c)
+    → drop k (joined (h ∷ hs) c) ≡ slice_range c k h.place ++ (mark_bytes h.mark ++ drop h.place (joined hs c))
 joined_step k h hs c o =
     let j = joined hs c in
     let p = h.place in
@@ -80,19 +88,25 @@ joined_step k h hs c o =
     drop-append-le k (take p j) (mark_bytes h.mark ++ drop p j) there ∙ ap (λ x. x ++ (mark_bytes h.mark ++ drop p j)) front
 
 -- what the order says of the first header and of those behind it
-pub order_step : (k n : ℕ) (rest : List Entry) (h : Entry) (hs : List Entry) → rest ≡ h ∷ hs → AreInOrder k rest n → (k ≤ h.place) × (h.place ≤ n) × AreInOrder h.place hs n
+pub order_step :
+    (k n : ℕ) (rest : List Entry) (h : Entry) (hs : List Entry) → rest ≡ h ∷ hs → AreInOrder k rest n
+    → (k ≤ h.place) × (h.place ≤ n) × AreInOrder h.place hs n
 order_step k n rest h hs e o =
     let r = subst (λ (xs : List Entry). AreInOrder k xs n) e o in
     (r.0, order_within h.place hs n r.1, r.1)
 
 -- a turn of the joining
-pub joined_turn : (k : ℕ) (rest : List Entry) (h : Entry) (hs : List Entry) (c whole out one two : List ℕ) → rest ≡ h ∷ hs → AreInOrder k rest (length c) → whole ≡ out ++ drop k (joined rest c) → one ≡ out ++ slice_range c k h.place → two ≡ one ++ mark_bytes h.mark → whole ≡ two ++ drop h.place (joined hs c)
+pub joined_turn :
+    (k : ℕ) (rest : List Entry) (h : Entry) (hs : List Entry) (c whole out one two : List ℕ) → rest ≡ h ∷ hs → AreInOrder k rest (length c)
+    → whole ≡ out ++ drop k (joined rest c) → one ≡ out ++ slice_range c k h.place → two ≡ one ++ mark_bytes h.mark
+    → whole ≡ two ++ drop h.place (joined hs c)
 joined_turn k rest h hs c whole out one two e o w p q =
     let there = ap (λ r. drop k (joined r c)) e ∙ joined_step k h hs c (subst (λ (xs : List Entry). AreInOrder k xs (length c)) e o) in
     w ∙ ap (λ x. out ++ x) there ∙ sym (appended_two out one two (slice_range c k h.place) (mark_bytes h.mark) (drop h.place (joined hs c)) p q)
 
 -- headers in front of a place, one at it, and those behind it are in order
-pub order_around : (k : ℕ) (hs : List Entry) (h : Entry) (is : List Entry) (n : ℕ) → AreInOrder k hs h.place → AreInOrder h.place is n → AreInOrder k (hs ++ (h ∷ is)) n
+pub order_around :
+    (k : ℕ) (hs : List Entry) (h : Entry) (is : List Entry) (n : ℕ) → AreInOrder k hs h.place → AreInOrder h.place is n → AreInOrder k (hs ++ (h ∷ is)) n
 order_around k [] h is n o i = (o, i)
 order_around k (g ∷ hs) h is n o i = (o.0, order_around g.place hs h is n o.1 i)
 
@@ -101,7 +115,9 @@ heads_of_append [] is = omega arith
 heads_of_append (h ∷ hs) is = omega (arith, heads_of_append hs is)
 
 -- headers in front of a place are joined with what stands in front of it, and those from it on with the rest
-pub joined_around : (k : ℕ) (hs : List Entry) (h : Entry) (is : List Entry) (c : List ℕ) → AreInOrder k hs h.place → AreInOrder h.place is (length c) → joined (hs ++ (h ∷ is)) c ≡ joined hs (take h.place c) ++ (mark_bytes h.mark ++ drop h.place (joined is c))
+pub joined_around :
+    (k : ℕ) (hs : List Entry) (h : Entry) (is : List Entry) (c : List ℕ) → AreInOrder k hs h.place → AreInOrder h.place is (length c)
+    → joined (hs ++ (h ∷ is)) c ≡ joined hs (take h.place c) ++ (mark_bytes h.mark ++ drop h.place (joined is c))
 joined_around k [] h is c o i = ap (λ x. x ++ (mark_bytes h.mark ++ drop h.place (joined is c))) (joined_front h.place is c i)
 joined_around k (g ∷ hs) h is c o i =
     let front = take h.place c in
@@ -111,7 +127,8 @@ joined_around k (g ∷ hs) h is c o i =
     ∙ with_entry_append g (joined hs front) (mark_bytes h.mark ++ drop h.place (joined is c)) (omega (arith, joined_length hs front, length-take h.place c))
 
 -- the order in front of an entry, and behind it
-pub order_split : (k : ℕ) (hs : List Entry) (h : Entry) (is : List Entry) (n : ℕ) → AreInOrder k (hs ++ (h ∷ is)) n → AreInOrder k hs h.place × AreInOrder h.place is n
+pub order_split :
+    (k : ℕ) (hs : List Entry) (h : Entry) (is : List Entry) (n : ℕ) → AreInOrder k (hs ++ (h ∷ is)) n → AreInOrder k hs h.place × AreInOrder h.place is n
 order_split k [] h is n o = o
 order_split k (g ∷ hs) h is n o = let r = order_split g.place hs h is n o.1 in ((o.0, r.0), r.1)
 
@@ -168,7 +185,9 @@ entries_more es m n heads waits a h = record {
   few = a.few;
 }
 
-begin_at : (es : List Entry) (n heads waits : ℕ) (w : Waiting) → AreEntries es n heads waits → w.start ≡ n + heads → w.depth ≡ waits + 1 → AreEntries (es ++ ((record { place = n; mark = Waits w }) ∷ [])) n heads (waits + 1)
+begin_at :
+    (es : List Entry) (n heads waits : ℕ) (w : Waiting) → AreEntries es n heads waits → w.start ≡ n + heads → w.depth ≡ waits + 1
+    → AreEntries (es ++ ((record { place = n; mark = Waits w }) ∷ [])) n heads (waits + 1)
 begin_at es n heads waits w a p q =
     let h : Entry = record { place = n; mark = Waits w } in
     record {
@@ -180,7 +199,9 @@ begin_at es n heads waits w a p q =
     }
 
 -- an element begins where the contents end
-pub entries_begin : (es : List Entry) (p n heads waits : ℕ) (w : Waiting) → AreEntries es n heads waits → p ≡ n → w.start ≡ n + heads → w.depth ≡ waits + 1 → AreEntries (es ++ ((record { place = p; mark = Waits w }) ∷ [])) n heads (waits + 1)
+pub entries_begin :
+    (es : List Entry) (p n heads waits : ℕ) (w : Waiting) → AreEntries es n heads waits → p ≡ n → w.start ≡ n + heads → w.depth ≡ waits + 1
+    → AreEntries (es ++ ((record { place = p; mark = Waits w }) ∷ [])) n heads (waits + 1)
 entries_begin es p n heads waits w a e s d =
     subst (λ k. AreEntries (es ++ ((record { place = p; mark = Waits w }) ∷ [])) k heads (waits + 1)) e
     (begin_at es p heads waits w (subst (λ k. AreEntries es k heads waits) (sym e) a) (omega (arith, e, s)) d)
@@ -200,7 +221,12 @@ pub record Takes (tag : Tag) (start : ℕ) (es : List Entry) (n heads waits : �
   pub joins : joined es c ≡ with_element tag start b
 
 -- where no element waits behind it
-pub ended : (front back : List Entry) (w : Waiting) (h : Header) (place heads more waits : ℕ) (c : List ℕ) → AreEntries (front ++ ((record { place = place; mark = Waits w }) ∷ back)) (length c) heads (waits + 1) → w.depth ≡ waits + 1 → more ≡ heads + length (header_bytes h) → more < 2 ^ 63 → h.length + w.start ≡ length c + heads → Takes h.tag w.start (front ++ ((record { place = place; mark = Known h }) ∷ back)) (length c) more waits c (joined (front ++ ((record { place = place; mark = Waits w }) ∷ back)) c)
+pub ended :
+    (front back : List Entry) (w : Waiting) (h : Header) (place heads more waits : ℕ) (c : List ℕ)
+    → AreEntries (front ++ ((record { place = place; mark = Waits w }) ∷ back)) (length c) heads (waits + 1) → w.depth ≡ waits + 1
+    → more ≡ heads + length (header_bytes h) → more < 2 ^ 63 → h.length + w.start ≡ length c + heads
+    → Takes h.tag w.start (front ++ ((record { place = place; mark = Known h }) ∷ back)) (length c) more waits c
+    (joined (front ++ ((record { place = place; mark = Waits w }) ∷ back)) c)
 unfolding canonical_element definite_element
 ended front back w h place heads more waits c a d m few l =
     let x : Entry = record { place = place; mark = Waits w } in
@@ -219,14 +245,16 @@ ended front back w h place heads more waits c a d m few l =
         ordered = order_around 0 front y back (length c) o.0 o.1;
         counted = omega (arith, a.counted, heads_of_append front (x ∷ back), heads_of_append front (y ∷ back));
         waiting = omega (arith, a.waiting, waits_of_append front (x ∷ back), waits_of_append front (y ∷ back));
-        placed = know_append 0 0 (heads_of front) (waits_of front) front (y ∷ back) (know_front 0 0 front (x ∷ back) a.placed) (tt, know_none (heads_of front + length (header_bytes h)) (waits_of front + 0) back none) (omega arith) (omega arith);
+        placed = know_append 0 0 (heads_of front) (waits_of front) front (y ∷ back) (know_front 0 0 front (x ∷ back) a.placed)
+            (tt, know_none (heads_of front + length (header_bytes h)) (waits_of front + 0) back none) (omega arith) (omega arith);
         few = few;
       };
       joins =
           joined_around 0 front y back c o.0 o.1
           ∙ ap (λ x. head ++ x) (append_assoc (identifier h.tag Constructed) (shortest_length h.length) rest)
           ∙ ap (λ k. head ++ (identifier h.tag Constructed ++ (shortest_length k ++ rest))) long
-          ∙ ap₂ (λ x z. x ++ (identifier h.tag Constructed ++ (shortest_length (length z) ++ z))) (sym (ap₂ take (sym begins) old ∙ take-append_seam head rest)) (sym (ap₂ drop (sym begins) old ∙ drop-append_seam head rest));
+          ∙ ap₂ (λ x z. x ++ (identifier h.tag Constructed ++ (shortest_length (length z) ++ z)))
+          (sym (ap₂ take (sym begins) old ∙ take-append_seam head rest)) (sym (ap₂ drop (sym begins) old ∙ drop-append_seam head rest));
     }
 
 -- some element waits where one is the innermost
@@ -237,7 +265,10 @@ waits_some es b place n heads waits a i =
     omega (arith, a.waiting, ap waits_of split, waits_of_append (take b.entry es) (x ∷ drop (b.entry + 1) es))
 
 -- the same by the number of the entry
-pub takes : (es : List Entry) (b : Beginning) (h : Header) (place heads more waits : ℕ) (c : List ℕ) → AreEntries es (length c) heads waits → IsInnermost es waits b place → more ≡ heads + length (header_bytes h) → more < 2 ^ 63 → h.length + b.start ≡ length c + heads → Takes h.tag b.start (set es b.entry (record { place = place; mark = Known h })) (length c) more (waits - 1) c (joined es c)
+pub takes :
+    (es : List Entry) (b : Beginning) (h : Header) (place heads more waits : ℕ) (c : List ℕ) → AreEntries es (length c) heads waits
+    → IsInnermost es waits b place → more ≡ heads + length (header_bytes h) → more < 2 ^ 63 → h.length + b.start ≡ length c + heads
+    → Takes h.tag b.start (set es b.entry (record { place = place; mark = Known h })) (length c) more (waits - 1) c (joined es c)
 takes es b h place heads more waits c a i m few l =
     let w = i.waiting in
     let x : Entry = record { place = place; mark = Waits w } in
@@ -247,7 +278,8 @@ takes es b h place heads more waits c a i m few l =
     let split : es ≡ front ++ (x ∷ back) = sym (take-append-drop b.entry es) ∙ ap (λ z. front ++ z) i.there in
     let there : length front ≡ b.entry = omega (arith, length-take b.entry es, length-drop b.entry es, ap length i.there) in
     let some : waits ≡ (waits - 1) + 1 = omega (arith, waits_some es b place (length c) heads waits a i) in
-    let old = subst (λ k. AreEntries (front ++ (x ∷ back)) (length c) heads k) some (subst (λ (zs : List Entry). AreEntries zs (length c) heads waits) split a) in
+    let old = subst (λ k. AreEntries (front ++ (x ∷ back)) (length c) heads k) some
+    (subst (λ (zs : List Entry). AreEntries zs (length c) heads waits) split a) in
     let new = ended front back w h place heads more (waits - 1) c old (i.inner ∙ some) m few (omega (arith, i.start, l)) in
     let whole : set es b.entry y ≡ front ++ (y ∷ back) = ap (λ z. set z b.entry y) split ∙ set_at front x back y b.entry there in
     let known = subst (λ (zs : List Entry). Takes h.tag w.start (front ++ (y ∷ back)) (length c) more (waits - 1) c (joined zs c)) (sym split) new in
@@ -255,7 +287,9 @@ takes es b h place heads more waits c a i m few l =
     (subst (λ (zs : List Entry). Takes h.tag w.start zs (length c) more (waits - 1) c (joined es c)) (sym whole) known)
 
 -- a header put in front of bytes from a place on
-pub apart : (h : Header) (place : ℕ) (b : List ℕ) → place ≤ length b → h.length + place ≡ length b → with_entry (record { place = place; mark = Known h }) b ≡ with_element h.tag place b
+pub apart :
+    (h : Header) (place : ℕ) (b : List ℕ) → place ≤ length b → h.length + place ≡ length b
+    → with_entry (record { place = place; mark = Known h }) b ≡ with_element h.tag place b
 unfolding canonical_element definite_element
 apart h place b within l =
     let long : h.length ≡ length (drop place b) = omega (arith, length-drop place b) in

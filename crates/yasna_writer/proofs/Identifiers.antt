@@ -21,7 +21,8 @@ positive_quotient b k two h = (le-div_iff_mul-le {x = 1} (omega arith)).1 (omega
 pub digits_step : (b k : ℕ) → 2 ≤ b → b ≤ k → digits b k ≡ digits b (k / b) ++ (k % b ∷ [])
 unfolding digits
 digits_step b zero two h = absurd (omega arith)
-digits_step b (suc k) two h = digits_of_step b (suc k) two (omega arith) ∙ ap (λ ds. ds ++ (suc k % b ∷ [])) (digits_are b (suc k / b) two (positive_quotient b (suc k) two h))
+digits_step b (suc k) two h = digits_of_step b (suc k) two (omega arith) ∙ ap (λ ds. ds ++ (suc k % b ∷ []))
+    (digits_are b (suc k / b) two (positive_quotient b (suc k) two h))
 
 -- with another digit behind them, all digits are marked
 pub marked_push : (ds : List ℕ) (d : ℕ) → marked (ds ++ (d ∷ [])) ≡ map (λ e. 128 + e) ds ++ (d ∷ [])
@@ -56,7 +57,13 @@ base128_length_small k h = ap length (base128_small k h)
 -- one byte more than the quotient
 pub base128_length_step : (k : ℕ) → 128 ≤ k → length (base128 k) ≡ length (base128 (k / 128)) + 1
 base128_length_step k h =
-    omega (arith, base128_length_is k, base128_length_is (k / 128), ap length (digits_step 128 k (omega arith) h), length-append (digits 128 (k / 128)) (k % 128 ∷ []))
+    omega (
+      arith,
+      base128_length_is k,
+      base128_length_is (k / 128),
+      ap length (digits_step 128 k (omega arith) h),
+      length-append (digits 128 (k / 128)) (k % 128 ∷ []),
+    )
 
 pub base128_digits_small : (more : Bool) (k : ℕ) → k < 128 → base128_digits more k ≡ base128_byte more k ∷ []
 unfolding base128_digits

@@ -44,33 +44,50 @@ positive_integer : (x : ℕ) (xs : List ℕ) → IsBytes (x ∷ xs) → (x ≡ 0
 positive_integer x xs h f = elim (cases_lt x 128) [
   | inl l ↦
       let whole = ap (λ t. cond t (0 ∷ []) [] ++ (x ∷ xs)) (lt-leb 128 x l) in
-      subst (IsInteger (signed_number true (x ∷ xs))) (sym whole) (record { in_bytes = h; minimal = small_minimal x xs f (λ e. omega arith); number = twos_positive x xs l })
+      subst (IsInteger (signed_number true (x ∷ xs))) (sym whole)
+      (record { in_bytes = h; minimal = small_minimal x xs f (λ e. omega arith); number = twos_positive x xs l })
   | inr g ↦
       let whole = ap (λ t. cond t (0 ∷ []) [] ++ (x ∷ xs)) (le-leb 128 x g) in
-      subst (IsInteger (signed_number true (x ∷ xs))) (sym whole) (record { in_bytes = (omega arith, h); minimal = (λ e. g, λ e. absurd (omega (arith, e))); number = twos_positive 0 (x ∷ xs) (omega arith) ∙ sign_more true (x ∷ xs) })
+      subst (IsInteger (signed_number true (x ∷ xs))) (sym whole)
+      (record {
+        in_bytes = (omega arith, h);
+        minimal = (λ e. g, λ e. absurd (omega (arith, e)));
+        number = twos_positive 0 (x ∷ xs) (omega arith) ∙ sign_more true (x ∷ xs);
+      })
 ]
 
 negative_integer : (x : ℕ) (xs : List ℕ) → IsBytes (x ∷ xs) → (x ≡ 255 → ⊥) → IsInteger (signed_number false (x ∷ xs)) (signed false (x ∷ xs))
 negative_integer x xs h f = elim (cases_lt x 128) [
   | inl l ↦
       let whole = ap (λ t. cond t (255 ∷ []) [] ++ (x ∷ xs)) (lt-ltb x 128 l) in
-      subst (IsInteger (signed_number false (x ∷ xs))) (sym whole) (record { in_bytes = (omega arith, h); minimal = (λ e. absurd (omega (arith, e)), λ e. l); number = twos_negative 255 (x ∷ xs) (omega arith) ∙ sign_more false (x ∷ xs) })
+      subst (IsInteger (signed_number false (x ∷ xs))) (sym whole)
+      (record {
+        in_bytes = (omega arith, h);
+        minimal = (λ e. absurd (omega (arith, e)), λ e. l);
+        number = twos_negative 255 (x ∷ xs) (omega arith) ∙ sign_more false (x ∷ xs);
+      })
   | inr g ↦
       let whole = ap (λ t. cond t (255 ∷ []) [] ++ (x ∷ xs)) (le-ltb x 128 g) in
-      subst (IsInteger (signed_number false (x ∷ xs))) (sym whole) (record { in_bytes = h; minimal = small_minimal x xs (λ e. omega arith) f; number = twos_negative x xs g })
+      subst (IsInteger (signed_number false (x ∷ xs))) (sym whole)
+      (record { in_bytes = h; minimal = small_minimal x xs (λ e. omega arith) f; number = twos_negative x xs g })
 ]
 
-signed_integer : (positive : Bool) (c : List ℕ) → IsBytes c → ((y : ℕ) (ys : List ℕ) → c ≡ y ∷ ys → y ≡ sign_byte positive → ⊥) → IsInteger (signed_number positive c) (signed positive c)
+signed_integer :
+    (positive : Bool) (c : List ℕ) → IsBytes c → ((y : ℕ) (ys : List ℕ) → c ≡ y ∷ ys → y ≡ sign_byte positive → ⊥)
+    → IsInteger (signed_number positive c) (signed positive c)
 signed_integer true [] h f = record { in_bytes = (omega arith, tt); minimal = tt; number = twos_positive 0 [] (omega arith) }
 signed_integer false [] h f = record { in_bytes = (omega arith, tt); minimal = tt; number = twos_negative 255 [] (omega arith) }
 signed_integer true (x ∷ xs) h f = positive_integer x xs h (f x xs refl)
 signed_integer false (x ∷ xs) h f = negative_integer x xs h (f x xs refl)
 
 -- bytes without sign bytes in front, and one where it is needed, are the fewest
-pub signed_bytes : (positive : Bool) (b : List ℕ) → IsBytes b → sign_front positive (without (sign_byte positive) b) ++ without (sign_byte positive) b ≡ minimal_bytes (signed_number positive b)
+pub signed_bytes :
+    (positive : Bool) (b : List ℕ) → IsBytes b
+    → sign_front positive (without (sign_byte positive) b) ++ without (sign_byte positive) b ≡ minimal_bytes (signed_number positive b)
 signed_bytes positive b h =
     let c = without (sign_byte positive) b in
-    minimal_only (signed_number positive c) (signed positive c) (signed_integer positive c (without_bytes (sign_byte positive) b h) (λ y ys. without_first (sign_byte positive) y b ys))
+    minimal_only (signed_number positive c) (signed positive c)
+    (signed_integer positive c (without_bytes (sign_byte positive) b h) (λ y ys. without_first (sign_byte positive) y b ys))
     ∙ ap minimal_bytes (sign_without positive b)
 
 signed_some : (positive : Bool) (c : List ℕ) → 0 < length c → signed_number positive c ≡ signed_or_zero positive c
@@ -115,7 +132,8 @@ narrow_one x y ys b d =
           let fits = number_lt 256 (y ∷ ys) b.1 in
           elim (cases_eq x 255) [
             | inl z ↦
-                let more : 256 ^ length (x ∷ y ∷ ys) - 1 - number_from_digits 256 (x ∷ y ∷ ys) ≡ 256 ^ length (y ∷ ys) - 1 - number_from_digits 256 (y ∷ ys) = omega (arith, e, r, ap (λ k. k * 256 ^ length (y ∷ ys)) z) in
+                let more : 256 ^ length (x ∷ y ∷ ys) - 1 - number_from_digits 256 (x ∷ y ∷ ys)
+                ≡ 256 ^ length (y ∷ ys) - 1 - number_from_digits 256 (y ∷ ys) = omega (arith, e, r, ap (λ k. k * 256 ^ length (y ∷ ys)) z) in
                 elim (cases_lt y 128) [
                   | inl k ↦ absurd (omega (arith, n, more, q, fits, number_below y ys b.1 k))
                   | inr k ↦ negative_is y ys b.1 k ∙ ap negsuc (sym more) ∙ sym (negative_is x (y ∷ ys) b h)
@@ -154,7 +172,8 @@ minimal_by (x ∷ y ∷ ys) b s least =
       λ z. elim (cases_lt y 128) [
         | inl k ↦ k
         | inr k ↦
-            let n : 128 * 256 ^ length ys ≤ 256 ^ length (x ∷ y ∷ ys) - 1 - number_from_digits 256 (x ∷ y ∷ ys) = rw (sym (ap distance (negative_is x (y ∷ ys) b (omega arith)))) far in
+            let n : 128 * 256 ^ length ys ≤ 256 ^ length (x ∷ y ∷ ys) - 1 - number_from_digits 256 (x ∷ y ∷ ys) =
+            rw (sym (ap distance (negative_is x (y ∷ ys) b (omega arith)))) far in
             absurd (omega (arith, n, e, q, r, ap (λ i. i * 256 ^ length (y ∷ ys)) z, number_lt 256 (y ∷ ys) b.1, number_above y ys k))
       ],
     )
@@ -165,7 +184,9 @@ bytes_drop (suc n) [] h = h
 bytes_drop (suc n) (x ∷ xs) h = bytes_drop n xs h.1
 
 -- of bytes of a number, as many as it takes, from the last one, are the fewest
-pub fewest : (n k : ℕ) (b : List ℕ) (z : ℤ) → IsBytes b → twos b ≡ z → length b ≡ n + suc k → distance z < 128 * 256 ^ k → (1 ≤ k → 128 * 256 ^ (k - 1) ≤ distance z) → drop n b ≡ minimal_bytes z
+pub fewest :
+    (n k : ℕ) (b : List ℕ) (z : ℤ) → IsBytes b → twos b ≡ z → length b ≡ n + suc k → distance z < 128 * 256 ^ k → (1 ≤ k → 128 * 256 ^ (k - 1) ≤ distance z)
+    → drop n b ≡ minimal_bytes z
 fewest n k b z h e l d least =
     let same : twos (drop n b) ≡ z = narrow n k b h l (rw e d) ∙ e in
     let few : length (drop n b) ≡ suc k = omega (arith, length-drop n b) in

@@ -15,24 +15,34 @@ use Rattle.yasna_base.proofs.Length.{short_length}
 use Rattle.yasna_writer.specs.View.{Written, Wrote}
 
 -- where the tag's number is below 31 and the contents are short, identifier and length are one byte each
-pub short_element : (m : BERMode) (t : Tag) (c : List ℕ) → t.tag_number < 31 → length c < 128 → canonical_element m t Primitive c ≡ leading_byte t Primitive t.tag_number ∷ length c ∷ c
+pub short_element :
+    (m : BERMode) (t : Tag) (c : List ℕ) → t.tag_number < 31 → length c < 128
+    → canonical_element m t Primitive c ≡ leading_byte t Primitive t.tag_number ∷ length c ∷ c
 unfolding canonical_element definite_element
 short_element m t c h k = ap₂ (λ i l. i ++ (l ++ c)) (identifier_short t Primitive h) (short_length (length c) k)
 
 -- those two bytes, and the contents
-pub short_bytes : (m : BERMode) (t : Tag) (first count : ℕ) (c : List ℕ) → t.tag_number < 31 → length c < 128 → first ≡ leading_byte t Primitive t.tag_number → count ≡ length c → first ∷ count ∷ c ≡ canonical_element m t Primitive c
+pub short_bytes :
+    (m : BERMode) (t : Tag) (first count : ℕ) (c : List ℕ) → t.tag_number < 31 → length c < 128 → first ≡ leading_byte t Primitive t.tag_number
+    → count ≡ length c → first ∷ count ∷ c ≡ canonical_element m t Primitive c
 short_bytes m t first count c h k e f = ap₂ (λ x y. x ∷ y ∷ c) e f ∙ sym (short_element m t c h k)
 
 -- what one append leaves, where nothing was kept and the tag is used up before it
-pub wrote_by : (piece bs : List ℕ) (old mid new : Written) (r : Result (Unit {0}) ASN1Error) → old.kept ≡ None → mid ≡ record old { tag = None } → piece ≡ bs → MatchResult r (λ _. new ≡ record mid { bytes = mid.bytes ++ piece }) (λ e. (kind_of e ≡ OutOfMemory) × (new.kept ≡ Some e)) → Wrote bs old new r
+pub wrote_by :
+    (piece bs : List ℕ) (old mid new : Written) (r : Result (Unit {0}) ASN1Error)
+    → old.kept ≡ None → mid ≡ record old { tag = None } → piece ≡ bs → MatchResult r (λ _. new ≡ record mid { bytes = mid.bytes ++ piece })
+    (λ e. (kind_of e ≡ OutOfMemory) × (new.kept ≡ Some e)) → Wrote bs old new r
 wrote_by piece bs old mid new r none taken e h =
     rw none
     (MatchResult-weaker r h
-    (λ _ f. f ∙ ap₂ (λ (w : Written) x. record w { bytes = w.bytes ++ x }) taken e ∙ ap (λ (k : Option ASN1Error). record old { bytes = old.bytes ++ bs; tag = None; kept = k }) none)
+    (λ _ f. f ∙ ap₂ (λ (w : Written) x. record w { bytes = w.bytes ++ x }) taken e
+    ∙ ap (λ (k : Option ASN1Error). record old { bytes = old.bytes ++ bs; tag = None; kept = k }) none)
     (λ k f. f))
 
 -- eight bytes one by one
-pub eight_bytes : (b : List ℕ) → length b ≡ 8 → b ≡ get_or b 0 0 ∷ get_or b 1 0 ∷ get_or b 2 0 ∷ get_or b 3 0 ∷ get_or b 4 0 ∷ get_or b 5 0 ∷ get_or b 6 0 ∷ get_or b 7 0 ∷ []
+pub eight_bytes :
+    (b : List ℕ) → length b ≡ 8
+    → b ≡ get_or b 0 0 ∷ get_or b 1 0 ∷ get_or b 2 0 ∷ get_or b 3 0 ∷ get_or b 4 0 ∷ get_or b 5 0 ∷ get_or b 6 0 ∷ get_or b 7 0 ∷ []
 eight_bytes (a ∷ b ∷ c ∷ d ∷ e ∷ f ∷ g ∷ h ∷ []) l = refl
 eight_bytes (a ∷ b ∷ c ∷ d ∷ e ∷ f ∷ g ∷ h ∷ i ∷ x) l = absurd (omega arith)
 eight_bytes [] l = absurd (omega arith)
@@ -45,8 +55,13 @@ eight_bytes (a ∷ b ∷ c ∷ d ∷ e ∷ f ∷ []) l = absurd (omega arith)
 eight_bytes (a ∷ b ∷ c ∷ d ∷ e ∷ f ∷ g ∷ []) l = absurd (omega arith)
 
 -- what one append leaves of identifier, length and the last bytes
-pub appended_last : (w new : Written) (r : Result (Unit {0}) ASN1Error) (P : ASN1Error → Type 0) (t : Tag) (first from k : ℕ) (b c : List ℕ) → t.tag_number < 31 → first ≡ leading_byte t Primitive t.tag_number → k ≡ length c → k < 128 → drop from b ≡ c → MatchResult r (λ _. new ≡ record w { bytes = w.bytes ++ (first ∷ k ∷ c) }) P → MatchResult r (λ _. new ≡ record w { bytes = w.bytes ++ canonical_element w.mode t Primitive (drop from b) }) P
+pub appended_last :
+    (w new : Written) (r : Result (Unit {0}) ASN1Error) (P : ASN1Error → Type 0) (t : Tag) (first from k : ℕ) (b c : List ℕ) → t.tag_number < 31
+    → first ≡ leading_byte t Primitive t.tag_number → k ≡ length c → k < 128 → drop from b ≡ c
+    → MatchResult r (λ _. new ≡ record w { bytes = w.bytes ++ (first ∷ k ∷ c) }) P
+    → MatchResult r (λ _. new ≡ record w { bytes = w.bytes ++ canonical_element w.mode t Primitive (drop from b) }) P
 appended_last w new r P t first from k b c h f l s d m =
     MatchResult-weaker r m
-    (λ _ e. e ∙ ap (λ x. record w { bytes = w.bytes ++ x }) (short_bytes w.mode t first k c h (omega arith) f l ∙ ap (canonical_element w.mode t Primitive) (sym d)))
+    (λ _ e. e ∙ ap (λ x. record w { bytes = w.bytes ++ x })
+    (short_bytes w.mode t first k c h (omega arith) f l ∙ ap (canonical_element w.mode t Primitive) (sym d)))
     (λ e i. i)

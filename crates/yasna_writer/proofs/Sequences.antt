@@ -9,18 +9,20 @@ use Rattle.yasna_base.specs.Canonical.{canonical_element}
 use Rattle.std.specs.Prelude.{Option}
 use Rattle.yasna_base.specs.declared.error.ASN1Error.{ASN1Error}
 use Rattle.yasna_writer.specs.declared.draft.Beginning.{Beginning}
-use Rattle.yasna_writer.specs.View.{Written, holding}
+use Rattle.yasna_writer.specs.View.{Written, handed, holding}
 use Rattle.yasna_writer.specs.Draft.{with_element}
 use Rattle.yasna_writer.specs.State.{KeptAtEnd, BeginsAt, Ends}
 
 -- the bytes around a seam are put around an element of what stands behind it
-element_at_seam : (t u : Tag) (n : ℕ) (front c whole : List ℕ) → n ≡ length front → t ≡ u → whole ≡ front ++ c → with_element t n whole ≡ front ++ canonical_element Der u Constructed c
+element_at_seam :
+    (t u : Tag) (n : ℕ) (front c whole : List ℕ) → n ≡ length front → t ≡ u → whole ≡ front ++ c
+    → with_element t n whole ≡ front ++ canonical_element Der u Constructed c
 element_at_seam t u n front c whole l s e =
     let head = ap₂ take l e ∙ take-append_seam front c in
     let rest = ap₂ drop l e ∙ drop-append_seam front c in
     ap₂ (λ x y. x ++ canonical_element Der t Constructed y) head rest ∙ ap (λ v. front ++ canonical_element Der v Constructed c) s
 
-module _ (t : Tag) (old between left new : Written) (b : Beginning) (begun : BeginsAt t old between b) (ends : Ends b left new) where
+module _ (t : Tag) (old between left new : Written) (b : Beginning) (begun : BeginsAt t (handed old) between b) (ends : Ends b left new) where
   -- what is kept, by the count of bytes that stood in front
   pub ended_kept : KeptAtEnd (length old.bytes) left new.kept
   ended_kept = subst (λ (n : ℕ). KeptAtEnd n left new.kept) begun.start ends.kept

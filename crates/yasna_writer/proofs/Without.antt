@@ -44,7 +44,8 @@ begins_positive (suc y ∷ ys) f h = omega arith
 pub without_number : (b : List ℕ) → number_from_digits 256 (without 0 b) ≡ number_from_digits 256 b
 without_number [] = refl
 without_number (y ∷ ys) = elim (without_cases 0 y ys) [
-  | inl p ↦ let whole = number_cons 256 y ys in let here = ap (λ z. z * 256 ^ length ys) p.0 in let more = ap (number_from_digits 256) p.1 ∙ without_number ys in omega arith
+  | inl p ↦ let whole = number_cons 256 y ys in let here = ap (λ z. z * 256 ^ length ys) p.0 in
+      let more = ap (number_from_digits 256) p.1 ∙ without_number ys in omega arith
   | inr p ↦ ap (number_from_digits 256) p.1
 ]
 

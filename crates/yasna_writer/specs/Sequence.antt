@@ -15,7 +15,8 @@ AnswersKept from (Some k) own result = IsErrAnd result (λ e. from k e)
 
 -- the closure f ran behind the bytes that stood; where nothing failed, form of what it appended was written, and its
 -- own answer is handed on, an Err too
-pub record WroteAround {F T E : Type 0} (g : Once F (MutBor Written × Unit {0}) (Result T E × (MutBor Written × Unit {0}))) (from : ASN1Error → E → Type 0) (f : F) (form : List ℕ → List ℕ) (old new : Written) (result : Result T E) : Type 0 where
+pub record WroteAround {F T E : Type 0} (g : Once F (MutBor Written × Unit {0}) (Result T E × (MutBor Written × Unit {0}))) (from : ASN1Error → E → Type 0)
+    (f : F) (form : List ℕ → List ℕ) (old new : Written) (result : Result T E) : Type 0 where
   pub own : Result T E
   pub left : Written
   pub ran : FnOnceReturnsAtMut g f (handed old) own left
@@ -27,7 +28,9 @@ pub record WroteAround {F T E : Type 0} (g : Once F (MutBor Written × Unit {0})
 abbrev pub AnswersOnly : {T E : Type 0} → (ASN1Error → E → Type 0) → ASN1Error → Written → Result T E → Type 0
 AnswersOnly from k new result = (new.kept ≡ Some k) × IsErrAnd result (λ e. from k e)
 
-abbrev pub Encloses : {F T E : Type 0} → Once F (MutBor Written × Unit {0}) (Result T E × (MutBor Written × Unit {0})) → (ASN1Error → E → Type 0) → F → (List ℕ → List ℕ) → Written → Written → Result T E → Type 0
+abbrev pub Encloses :
+    {F T E : Type 0} → Once F (MutBor Written × Unit {0}) (Result T E × (MutBor Written × Unit {0})) → (ASN1Error → E → Type 0) → F → (List ℕ → List ℕ)
+    → Written → Written → Result T E → Type 0
 Encloses g from f form old new result = MatchOption old.kept (WroteAround g from f form old new result) (λ k. AnswersOnly from k new result)
 
 -- s ends as the last value behind r

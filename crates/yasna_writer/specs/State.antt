@@ -19,17 +19,19 @@ abbrev pub KeptAtEnd : ℕ → Written → Option ASN1Error → Type 0
 KeptAtEnd n left None = (left.kept ≡ None) × (n ≤ length left.bytes)
 KeptAtEnd n left (Some k) = FailsAtEnd n left k
 
+-- the tag of an element, or a kept failure
+abbrev pub TakesTag : Tag → Written → Written → Result Tag ASN1Error → Type 0
+TakesTag own old new result =
+    MatchResult result
+    (λ tag. (old.kept ≡ None) × (tag ≡ tag_or old.tag own) × (new ≡ record old { tag = None }))
+    (λ k. (old.kept ≡ Some k) × (new ≡ old))
+
 -- an element begins behind the bytes that stand, under this tag
 pub record BeginsAt (tag : Tag) (old new : Written) (b : Beginning) : Type 0 where
-  pub fresh : old.kept ≡ None
   pub mode : old.mode ≡ Der
   pub tagged : b.tag ≡ tag
   pub start : b.start ≡ length old.bytes
-  pub same : new ≡ record old { tag = None }
-
--- an element begins, or a kept failure is answered
-abbrev pub Begins : Tag → Written → Written → Result Beginning ASN1Error → Type 0
-Begins own old new result = MatchResult result (BeginsAt (tag_or old.tag own) old new) (λ k. (old.kept ≡ Some k) × (new ≡ old))
+  pub same : new ≡ old
 
 -- an element ends around what is left from its beginning on, or a failure is kept
 pub record Ends (b : Beginning) (left new : Written) : Type 0 where

@@ -4,7 +4,7 @@
 //! nothing is written. Besides, each answers `OutOfMemory` where there is no memory for the element, and keeps it.
 //!
 //! Where the tag's number is below 31 and the contents take a few bytes, the whole element is one append.
-ghost use Rattle.std.specs.Prelude.{◌≡◌, ◌≤◌, ◌-◌, ◌∷◌, [], ◌++◌, drop, length, None, Some, Err, MatchResult, pos};
+ghost use Rattle.std.specs.Prelude.{◌≡◌, ◌≤◌, ◌-◌, ◌∷◌, [], ◌++◌, drop, length, Some, Err, MatchResult, pos};
 ghost use Rattle.yasna_base.specs.declared.error.ASN1ErrorKind.TheVariants.{OutOfMemory};
 ghost use Rattle.yasna_base.specs.declared.tag.PCBit.TheVariants.{Primitive};
 ghost use Rattle.yasna_base.specs.Error.{kind_of};

@@ -7,14 +7,14 @@ ghost use Rattle.yasna_base.specs.Identifier.{universal, tag_or};
 ghost use Rattle.yasna_base.specs.Canonical.{canonical_element};
 ghost use Rattle.yasna_writer.specs.View.{handed};
 ghost use Rattle.yasna_writer.specs.Construct.{Constructed as Ended};
-ghost use Rattle.yasna_writer.specs.State.{Ends};
+ghost use Rattle.yasna_writer.specs.State.{BeginsAt, Ends};
 ghost use Rattle.yasna_writer.specs.Sequence.{Encloses, LendsNext};
 
 use crate::draft::Beginning;
 use crate::state::{DERWriter, Writer};
 use std::marker::Model;
-use yasna_base::ASN1Error;
 use yasna_base::tags::TAG_SEQUENCE;
+use yasna_base::{ASN1Error, Tag};
 
 /// What a closure writes the parts of a sequence to, one after the other.
 #[derive(Drop)]
@@ -58,6 +58,14 @@ impl DERWriterSeq {
         self.inner
     }
 
+    // Begins the element around the parts.
+    #[inline(always)]
+    fn begin(&mut self, tag: Tag) -> Beginning
+        ensures { BeginsAt tag self.old self.new result }
+    {
+        self.inner.begin(tag)
+    }
+
     // Ends the element around the parts.
     #[inline(always)]
     fn end(&mut self, beginning: Beginning)
@@ -92,11 +100,12 @@ impl Writer {
         requires { self.old.kept ≡ None → FnOnceTakesAtMut F.FnOnce f (handed self.old) }
         ensures { Encloses F.FnOnce E.from_gives f (canonical_element self.old.mode (tag_or self.old.tag (universal 16)) Constructed) self.old self.new result }
     {
-        let beginning = match self.begin(TAG_SEQUENCE) {
-            Ok(beginning) => beginning,
+        let tag = match self.fresh_tag(TAG_SEQUENCE) {
+            Ok(tag) => tag,
             Err(error) => return Err(E::from(error)),
         };
         let mut sequence = DERWriterSeq::over(self.lend());
+        let beginning = sequence.begin(tag);
         let own = f(&mut sequence);
         sequence.end(beginning);
         self.take_back(sequence.into_inner());

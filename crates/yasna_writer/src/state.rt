@@ -4,11 +4,11 @@ ghost use Rattle.yasna_base.specs.Error.{kind_of};
 ghost use Rattle.yasna_base.specs.declared.error.ASN1ErrorKind.TheVariants.{OutOfMemory};
 ghost use Rattle.yasna_base.specs.Canonical.{canonical_element};
 ghost use Rattle.yasna_base.specs.declared.tag.PCBit.TheVariants.{Primitive};
-ghost use Rattle.yasna_writer.specs.View.{Written, empty_writing, handed, Wrote};
+ghost use Rattle.yasna_writer.specs.View.{Written, empty_writing, handed};
 ghost use Rattle.yasna_base.specs.Identifier.{tag_or};
 ghost use Rattle.yasna_writer.specs.Construct.{Constructed};
 ghost use Rattle.yasna_writer.specs.Sequence.{AnswersKept};
-ghost use Rattle.yasna_writer.specs.State.{Begins, Ends};
+ghost use Rattle.yasna_writer.specs.State.{TakesTag, BeginsAt, Ends};
 
 use crate::draft::{Beginning, Draft};
 use std::alloc::Global;
@@ -153,16 +153,23 @@ impl Writer {
         }
     }
 
-    // Begins an element with parts.
+    // The tag of an element that begins, where no failure is kept.
     #[inline(always)]
-    pub(crate) fn begin(&mut self, own: Tag) -> Result<Beginning, ASN1Error>
-        ensures { Begins own self.old self.new result }
+    pub(crate) fn fresh_tag(&mut self, own: Tag) -> Result<Tag, ASN1Error>
+        ensures { TakesTag own self.old self.new result }
     {
         if let Some(error) = self.kept {
             return Err(error);
         }
-        let tag = self.take_tag(own);
-        Ok(self.draft.begin(tag))
+        Ok(self.take_tag(own))
+    }
+
+    // Begins an element with parts behind what stands.
+    #[inline(always)]
+    pub(crate) fn begin(&mut self, tag: Tag) -> Beginning
+        ensures { BeginsAt tag self.old self.new result }
+    {
+        self.draft.begin(tag)
     }
 
     // Ends it over what is left from its beginning on, or keeps why that fails.

@@ -2,5 +2,9 @@ use Rattle.std.proofs.Common.{refl, ◌∙◌}
 use Rattle.yasna_writer.proofs.construct.try_construct_der_seq.Goals as goal
 
 pub returns : goal.returns
-returns g c =
-    (c.f-own.result, c.f-own.new.arg2, record { shown = _; shows = c.over-sequence.ensures ∙ c.new.ensures; left = _; met = c.f-own.ensures; leaves = refl }, c.finish.ensures)
+returns g c = (
+  c.f-own.result,
+  c.f-own.new.arg2,
+  record { shown = _; shows = c.over-sequence.ensures ∙ c.new.ensures; left = _; met = c.f-own.ensures; leaves = refl },
+  c.finish.ensures,
+)

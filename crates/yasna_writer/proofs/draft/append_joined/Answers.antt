@@ -14,5 +14,6 @@ loop-entry-preserved c =
     let o = order_step _ _ _ _ _ first c.loop-entry.invariant.ordered in
     record {
       ordered = o.2;
-      joins = joined_turn _ _ _ _ _ _ _ _ _ first c.loop-entry.invariant.ordered c.loop-entry.invariant.joins (c.in_ok-append.ensures {u = tt}).items (c.in_ok-append_mark.ensures {u = tt});
+      joins = joined_turn _ _ _ _ _ _ _ _ _ first c.loop-entry.invariant.ordered c.loop-entry.invariant.joins (c.in_ok-append.ensures {u = tt}).items
+          (c.in_ok-append_mark.ensures {u = tt});
     }

@@ -13,6 +13,7 @@ returns-clause-items c =
     let rest = c.args.rest.now in
     let header = identifier c.args.tag Primitive in
     let counted : c.in-Some.length ≡ length (front ++ rest) = omega (arith, length-append front rest, c.in-Some.ensures) in
-    let before = appended_three _ _ _ _ header (shortest_length c.in-Some.length) front (c.in_ok-append_identifier.ensures {u = tt}).items (c.in_ok-append_length.ensures {u = tt}).items (c.in_ok-append.ensures {u = tt}).items in
+    let before = appended_three _ _ _ _ header (shortest_length c.in-Some.length) front (c.in_ok-append_identifier.ensures {u = tt}).items
+    (c.in_ok-append_length.ensures {u = tt}).items (c.in_ok-append.ensures {u = tt}).items in
     append_then _ _ _ _ (header ++ (shortest_length c.in-Some.length ++ front)) rest _ before c.append-2.ensures.items
     (ap (λ n. header ++ (shortest_length n ++ (front ++ rest))) (sym counted) ∙ simp append_assoc)

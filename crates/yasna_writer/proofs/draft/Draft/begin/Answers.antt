@@ -8,7 +8,14 @@ use Rattle.yasna_writer.proofs.draft.Draft.begin.Goals as goal
 
 pub overflow_add-depth : goal.overflow_add-depth
 overflow_add-depth c =
-    omega (arith, c.self.invariant.waiting, waits_few c.self.inside.entries.items, c.self.inside.entries.ok.0, c.self.inside.entries.ok.1, c.self.inside.entries.small)
+    omega (
+      arith,
+      c.self.invariant.waiting,
+      waits_few c.self.inside.entries.items,
+      c.self.inside.entries.ok.0,
+      c.self.inside.entries.ok.1,
+      c.self.inside.entries.small,
+    )
 
 pub invariant_of-self : goal.invariant_of-self
 invariant_of-self c =
@@ -18,7 +25,8 @@ invariant_of-self c =
     let pushed = c.push.ensures.items ∙ ap (λ t. cond t (d.entries.items ++ (x ∷ [])) d.entries.items) (sym ((c.if-is_ok.ensures {u = tt}).value)) in
     let long = entries_length d.entries.items d.contents.items d.heads d.waits c.self.invariant in
     subst (λ (es : List Entry). AreEntries es (length d.contents.items) d.heads (d.waits + 1)) (sym pushed)
-    (entries_begin d.entries.items c.len-place.result (length d.contents.items) d.heads d.waits w c.self.invariant (omega (arith, c.len-place.ensures, d.contents.ok.0))
+    (entries_begin d.entries.items c.len-place.result (length d.contents.items) d.heads d.waits w c.self.invariant
+    (omega (arith, c.len-place.ensures, d.contents.ok.0))
     (omega (arith, c.len-start.ensures, ap length c.self.view_is, long)) (omega arith))
 
 pub returns-then-is_ok-clause-same : goal.returns-then-is_ok-clause-same

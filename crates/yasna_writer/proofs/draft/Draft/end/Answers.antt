@@ -19,7 +19,8 @@ invariant_of-self c =
     let i = subst (λ (es : List Entry). IsInnermost es d.waits b c.in-Some.place) c.deref.ensures.value (c.in-Some.ensures {u = tt}) in
     let long = entries_length d.entries.items d.contents.items d.heads d.waits c.self.invariant in
     (takes d.entries.items b h c.in-Some.place d.heads (d.heads + c.header_length.result) d.waits d.contents.items c.self.invariant i
-    (ap (λ n. d.heads + n) c.header_length.ensures.octets) (omega (arith, c.if-heads.false)) (omega (arith, c.if-all-beginning.false, c.len-all.ensures, ap length c.self.view_is, long))).entries
+    (ap (λ n. d.heads + n) c.header_length.ensures.octets) (omega (arith, c.if-heads.false))
+    (omega (arith, c.if-all-beginning.false, c.len-all.ensures, ap length c.self.view_is, long))).entries
 
 pub returns : goal.returns
 returns c =
@@ -29,5 +30,6 @@ returns c =
     let i = subst (λ (es : List Entry). IsInnermost es d.waits b c.in-Some.place) c.deref.ensures.value (c.in-Some.ensures {u = tt}) in
     let long = entries_length d.entries.items d.contents.items d.heads d.waits c.self.invariant in
     let taken = takes d.entries.items b h c.in-Some.place d.heads (d.heads + c.header_length.result) d.waits d.contents.items c.self.invariant i
-    (ap (λ n. d.heads + n) c.header_length.ensures.octets) (omega (arith, c.if-heads.false)) (omega (arith, c.if-all-beginning.false, c.len-all.ensures, ap length c.self.view_is, long)) in
+    (ap (λ n. d.heads + n) c.header_length.ensures.octets) (omega (arith, c.if-heads.false))
+    (omega (arith, c.if-all-beginning.false, c.len-all.ensures, ap length c.self.view_is, long)) in
     (omega (arith, c.if-all-beginning.false, c.len-all.ensures), taken.joins ∙ ap (with_element b.tag b.start) c.self.view_is)

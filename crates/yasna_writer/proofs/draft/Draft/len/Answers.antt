@@ -4,4 +4,10 @@ use Rattle.yasna_writer.proofs.draft.Draft.len.Goals as goal
 
 pub returns : goal.returns
 returns c =
-    omega (arith, c.len.ensures, ap length c.self.view_is, entries_length c.self.inside.entries.items c.self.inside.contents.items c.self.inside.heads c.self.inside.waits c.self.invariant)
+    omega (
+      arith,
+      c.len.ensures,
+      ap length c.self.view_is,
+      entries_length c.self.inside.entries.items c.self.inside.contents.items c.self.inside.heads
+          c.self.inside.waits c.self.invariant,
+    )

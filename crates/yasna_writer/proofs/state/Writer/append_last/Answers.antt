@@ -9,7 +9,8 @@ returns-then-count-eq2 c =
     let b = c.args.bytes in
     let eight : length b ≡ 8 = search rules in
     let from : 8 - c.args.count ≡ 6 = omega (arith, c.if-count-eq2.true) in
-    appended_last _ _ c.append.result _ c.args.tag _ _ 2 b _ c.if-tag-ge31.false c.leading-first.ensures (omega arith) (omega arith) (ap₂ drop from (eight_bytes b eight)) c.append.ensures
+    appended_last _ _ c.append.result _ c.args.tag _ _ 2 b _ c.if-tag-ge31.false c.leading-first.ensures (omega arith) (omega arith)
+    (ap₂ drop from (eight_bytes b eight)) c.append.ensures
 
 pub returns : goal.returns
 returns c =

@@ -15,4 +15,5 @@ returns c =
     let rest = c.without-rest.ensures ∙ ap (λ s. without s c.args.bytes.now) c.sign_byte.ensures in
     let front = c.sign_front.ensures ∙ ap (sign_front positive) rest in
     let whole = ap₂ (λ x y. x ++ y) front rest ∙ signed_bytes positive c.args.bytes.now (all_bytes c.args.bytes.now (λ i. (c.type_inv.bytes i).fits)) in
-    subst (λ (b : List ℕ). Wrote (canonical_element c.args.self.now.mode (tag_or c.args.self.now.tag c.args.own) Primitive b) c.args.self.now c.write_pieces.new.self c.write_pieces.result) whole c.write_pieces.ensures
+    subst (λ (b : List ℕ). Wrote (canonical_element c.args.self.now.mode (tag_or c.args.self.now.tag c.args.own) Primitive b) c.args.self.now
+    c.write_pieces.new.self c.write_pieces.result) whole c.write_pieces.ensures

@@ -18,8 +18,10 @@ returns c =
     let back = to_z-of_z w64 z c.ranges.val in
     let bytes : c.to_be_bytes.result ≡ b = c.to_be_bytes.ensures ∙ ap (λ y. to_be_bytes w64 (cast_unsigned w64 y)) back in
     let last = ap (drop (8 - n)) bytes
-    ∙ fewest (8 - n) (n - 1) b z (be_bytes (cast_unsigned w64 z)) (be_twos z c.ranges.val) (omega (arith, c.octets.ensures.some, c.octets.ensures.few)) (rw back at c.octets.ensures.fits)
+    ∙ fewest (8 - n) (n - 1) b z (be_bytes (cast_unsigned w64 z)) (be_twos z c.ranges.val) (omega (arith, c.octets.ensures.some, c.octets.ensures.few))
+    (rw back at c.octets.ensures.fits)
     (λ i. let e : (n - 1) - 1 ≡ n - 2 = omega arith in rw e (rw back at c.octets.ensures.least (omega arith))) in
     let piece = ap (λ (w : Written). canonical_element w.mode c.take_tag-tag.result Primitive (drop (8 - n) c.to_be_bytes.result)) c.take_tag-tag.ensures.taken
     ∙ ap₂ (λ t x. canonical_element old.mode t Primitive x) c.take_tag-tag.ensures.tag last in
-    wrote_by _ _ old c.take_tag-tag.new.self c.append_last.new.self c.append_last.result (sym c.kept.ensures ∙ c.in_default.is) c.take_tag-tag.ensures.taken piece c.append_last.ensures
+    wrote_by _ _ old c.take_tag-tag.new.self c.append_last.new.self c.append_last.result (sym c.kept.ensures ∙ c.in_default.is) c.take_tag-tag.ensures.taken
+    piece c.append_last.ensures

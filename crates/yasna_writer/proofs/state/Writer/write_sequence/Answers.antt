@@ -1,19 +1,30 @@
-use Rattle.std.proofs.Common.{None, refl, ap, ◌∙◌}
+use Rattle.std.proofs.Common.{◌≡◌, None, refl, subst, ap, ◌∙◌}
+use Rattle.yasna_base.specs.declared.tag.Tag.{Tag}
+use Rattle.yasna_base.specs.Identifier.{universal, tag_or}
 use Rattle.yasna_writer.specs.View.{Written, handed}
+use Rattle.yasna_writer.specs.State.{BeginsAt}
 use Rattle.yasna_writer.proofs.Sequences.{ended_kept, ended_writes, ends_untagged}
 use Rattle.yasna_writer.proofs.state.Writer.write_sequence.Goals as goal
 
 pub returns : goal.returns
 returns g c =
-    let begun = c.in-Ok.ensures {u = tt} in
+    let old = c.args.self.now in
+    let b = c.begin-beginning.result in
+    let t = tag_or old.tag (universal 16) in
+    let taken = c.in-Ok.ensures {u = tt} in
+    let start : c.over-sequence.result ≡ handed old = c.over-sequence.ensures ∙ c.lend.ensures ∙ ap handed taken.2 in
+    let between = c.begin-beginning.new.self in
+    let begun : BeginsAt t (handed old) between b =
+    subst (λ (w : Written). BeginsAt t w between b) start
+    (subst (λ (u : Tag). BeginsAt u c.over-sequence.result between b) taken.1 c.begin-beginning.ensures) in
     let back = c.take_back.ensures ∙ ap (λ (w : Written). record w { tag = None }) c.into_inner.ensures in
-    let ends = ends_untagged c.in-Ok.beginning c.f-own.new.arg2 c.end.new.self c.take_back.new.self c.end.ensures back in
-    let start = c.over-sequence.ensures ∙ c.lend.ensures ∙ ap handed begun.same in
-    rw begun.fresh (record {
+    let left = c.f-own.new.arg2 in
+    let ends = ends_untagged b left c.end.new.self c.take_back.new.self c.end.ensures back in
+    rw taken.0 (record {
       own = c.f-own.result;
-      left = c.f-own.new.arg2;
-      ran = record { shown = _; shows = start; left = _; met = c.f-own.ensures; leaves = refl };
-      kept = ended_kept _ c.args.self.now c.begin.new.self c.f-own.new.arg2 c.take_back.new.self c.in-Ok.beginning begun ends;
+      left = left;
+      ran = record { shown = _; shows = begun.same; left = _; met = c.f-own.ensures; leaves = refl };
+      kept = ended_kept t old between left c.take_back.new.self b begun ends;
       answers = c.settle.ensures;
-      bytes = ended_writes _ c.args.self.now c.begin.new.self c.f-own.new.arg2 c.take_back.new.self c.in-Ok.beginning begun ends;
+      bytes = ended_writes t old between left c.take_back.new.self b begun ends;
     })
