@@ -9,6 +9,8 @@
 //! | `writing` | calls that write |
 #![tactic(auto)]
 
+ghost use Rattle.std.specs.Prelude.{◌≡◌, ◌-◌, ◌^◌, MatchResult};
+
 mod reading;
 mod writing;
 
@@ -18,7 +20,9 @@ use yasna::ASN1Result;
 const REFUSED: u64 = u64::MAX;
 
 // The number that a call answers.
-fn answered(answer: ASN1Result<u64>) -> u64 {
+fn answered(answer: ASN1Result<u64>) -> u64
+    ensures { MatchResult answer (λ number. result ≡ number) (λ _. result ≡ 2 ^ 64 - 1) }
+{
     match answer {
         Ok(number) => number,
         Err(_) => REFUSED,

@@ -1,4 +1,6 @@
 //! Calls that read.
+ghost use Rattle.std.specs.Prelude.{◌≡◌};
+ghost use Rattle.yasna.specs.base.declared.mode.BERMode.TheVariants.{Ber, Der};
 
 use crate::{answered, length, mixed};
 use std::alloc::Global;
@@ -8,7 +10,9 @@ use yasna::{
 };
 
 // The rules to read by.
-fn mode(der: bool) -> BERMode {
+fn mode(der: bool) -> BERMode
+    ensures { result ≡ (if der then Der else Ber) }
+{
     if der { BERMode::Der } else { BERMode::Ber }
 }
 
