@@ -66,13 +66,22 @@ fn main(rt: HostRuntime) -> ExitCode {
 
 // Runs what the arguments ask for.
 fn verdict(rt: &HostRuntime) -> io::Result<Verdict> {
-    let words = env::args(rt)?.skip(1).collect::<Vec<String>>(rt.alloc())?;
-    let Some(word) = words.first() else {
-        return run::check_lines(rt);
+    let alloc = rt.alloc();
+    let words = env::args(rt)?.skip(1).collect::<Vec<String>>(alloc)?;
+    let answers = match words.as_slice() {
+        [] => false,
+        [word] if word.as_str() == "answer" => true,
+        _ => {
+            eprintln!(rt; "usage: yasna_vectors [answer]")?;
+            return Ok(Verdict::NoLine);
+        }
     };
-    if word.as_str() == "answer" {
-        return run::answer_lines(rt);
-    }
-    eprintln!(rt; "usage: yasna_vectors [answer]")?;
-    Ok(Verdict::NoLine)
+    let input = io::read_to_string(alloc, rt.reader())?;
+    let report = if answers {
+        run::answer_lines(alloc, input.as_str())?
+    } else {
+        run::check_lines(alloc, input.as_str())?
+    };
+    rt.print(report.text.as_str())?;
+    Ok(report.verdict)
 }

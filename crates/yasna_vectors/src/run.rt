@@ -1,10 +1,11 @@
-//! All lines of standard input, one after the other.
+//! All lines of a text, one after the other.
 
 use crate::answer::answer;
 use crate::line::{Case, Line};
-use std::io::{self, BufWriter, Write};
+use std::alloc::{AllocError, Global};
 
 /// How a run ended.
+#[derive(Clone, Copy, PartialEq)]
 pub enum Verdict {
     /// No line failed.
     Right,
@@ -14,58 +15,81 @@ pub enum Verdict {
     NoLine,
 }
 
-/// Prints an answer for each line that has none.
-pub fn answer_lines(rt: &(impl Input + Print + AllocGlobal)) -> io::Result<Verdict> {
-    let alloc = rt.alloc();
-    let input = io::read_to_string(alloc, rt.reader())?;
-    let mut output = BufWriter::new(alloc, io::writer(rt))?;
+/// What a run prints, and how it ended.
+#[derive(Drop)]
+pub struct Report {
+    pub text: String,
+    pub verdict: Verdict,
+}
+
+/// An answer for each line that has none.
+pub fn answer_lines(alloc: Global, input: &str) -> Result<Report, AllocError> {
+    let mut text = String::new(alloc);
     for line in input.lines() {
-        let came = match Case::parse(line, false) {
-            Some(case) => answer(alloc, &case),
-            None => None,
-        };
-        match came {
-            Some(text) => writeln!(output, "{}", text?)?,
-            None => writeln!(output, "unknown")?,
-        }
+        answer_line(alloc, line, &mut text)?;
     }
-    output.flush()?;
-    Ok(Verdict::Right)
+    Ok(Report {
+        text,
+        verdict: Verdict::Right,
+    })
+}
+
+// Appends the answer for a line.
+fn answer_line(alloc: Global, line: &str, text: &mut String) -> Result<(), AllocError> {
+    let came = match Case::parse(line, false) {
+        Some(case) => answer(alloc, &case),
+        None => None,
+    };
+    match came {
+        Some(came) => text.push_str(came?.as_str())?,
+        None => text.push_str("unknown")?,
+    }
+    text.push('\n')
 }
 
 /// Checks the answer of each line, and says how many there were.
-pub fn check_lines(rt: &(impl Input + Print + AllocGlobal)) -> io::Result<Verdict> {
-    let alloc = rt.alloc();
-    let input = io::read_to_string(alloc, rt.reader())?;
-    let mut output = BufWriter::new(alloc, io::writer(rt))?;
+pub fn check_lines(alloc: Global, input: &str) -> Result<Report, AllocError> {
+    let mut text = String::new(alloc);
     let mut count = 0u64;
     let mut failed = 0u64;
-    for text in input.lines() {
-        if text.is_empty() || text.starts_with('#') {
+    for line in input.lines() {
+        if line.is_empty() || line.starts_with('#') {
             continue;
         }
-        let Some(line) = Line::parse(text) else {
-            writeln!(output, "no line: {text}")?;
-            output.flush()?;
-            return Ok(Verdict::NoLine);
-        };
-        let Some(came) = answer(alloc, &line.case) else {
-            writeln!(output, "no such call or argument: {text}")?;
-            output.flush()?;
-            return Ok(Verdict::NoLine);
-        };
-        let came = came?;
-        count = count.saturating_add(1);
-        if came.as_str() != line.wanted {
-            failed = failed.saturating_add(1);
-            writeln!(output, "{text}\n    came {came}")?;
+        match check_line(alloc, line, &mut text)? {
+            Verdict::Right => (),
+            Verdict::Wrong => failed = failed.saturating_add(1),
+            Verdict::NoLine => return Ok(Report {
+                text,
+                verdict: Verdict::NoLine,
+            }),
         }
+        count = count.saturating_add(1);
     }
-    writeln!(output, "{count} lines, {failed} failed")?;
-    output.flush()?;
-    Ok(if failed == 0 {
+    writeln!(text, "{count} lines, {failed} failed")?;
+    let verdict = if failed == 0 {
         Verdict::Right
     } else {
         Verdict::Wrong
-    })
+    };
+    Ok(Report { text, verdict })
+}
+
+// Checks a line, and appends it where it isn't right.
+fn check_line(alloc: Global, line: &str, text: &mut String) -> Result<Verdict, AllocError> {
+    let Some(parsed) = Line::parse(line) else {
+        writeln!(text, "no line: {line}")?;
+        return Ok(Verdict::NoLine);
+    };
+    let Some(came) = answer(alloc, &parsed.case) else {
+        writeln!(text, "no such call or argument: {line}")?;
+        return Ok(Verdict::NoLine);
+    };
+    let came = came?;
+    if came.as_str() == parsed.wanted {
+        return Ok(Verdict::Right);
+    }
+    let came = came.as_str();
+    writeln!(text, "{line}\n    came {came}")?;
+    Ok(Verdict::Wrong)
 }

@@ -1,0 +1,33 @@
+//! Times this library against the upstream crate, two of its peers and loops by hand, on the same work in one run.
+//!
+//! It prints a table: a row a case, a column a contestant, with the median time of a call.
+
+mod by_hand;
+mod inputs;
+mod measure;
+mod port;
+mod reading;
+mod writing;
+
+use std::env;
+use std::process::ExitCode;
+
+fn main() -> ExitCode {
+    let wanted = env::args().nth(1).unwrap_or_default();
+    let rounds = env::var("ROUNDS")
+        .ok()
+        .and_then(|rounds| rounds.parse().ok())
+        .unwrap_or(31);
+    let mut agree = true;
+    measure::print_head();
+    for case in reading::cases().into_iter().chain(writing::cases()) {
+        if case.name.contains(&wanted) {
+            agree &= measure::print_row(case, rounds);
+        }
+    }
+    if agree {
+        ExitCode::SUCCESS
+    } else {
+        ExitCode::FAILURE
+    }
+}

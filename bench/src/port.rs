@@ -1,0 +1,60 @@
+//! The functions of `yasna_bench`, over slices.
+
+mod linked {
+    extern "C" {
+        pub fn yasna_decode_pair(bytes: *const u8, length: usize, der: bool) -> u64;
+        pub fn yasna_read_integers(bytes: *const u8, length: usize, count: usize, der: bool)
+            -> u64;
+        pub fn yasna_list_integers(bytes: *const u8, length: usize, count: usize, der: bool)
+            -> u64;
+        pub fn yasna_read_pairs(bytes: *const u8, length: usize, count: usize, der: bool) -> u64;
+        pub fn yasna_read_big_integer(bytes: *const u8, length: usize, der: bool) -> u64;
+        pub fn yasna_read_nest(bytes: *const u8, length: usize, depth: usize, der: bool) -> u64;
+        pub fn yasna_encode_pair(number: i64, flag: bool) -> u64;
+        pub fn yasna_write_integers(numbers: *const i64, length: usize) -> u64;
+        pub fn yasna_write_pairs(count: u32, depth: usize) -> u64;
+        pub fn yasna_write_nest(contents: *const u8, length: usize, depth: usize) -> u64;
+    }
+}
+
+// SAFETY, of each call below: pointer and length are those of a slice, which the function only reads.
+
+pub fn decode_pair(bytes: &[u8], der: bool) -> u64 {
+    unsafe { linked::yasna_decode_pair(bytes.as_ptr(), bytes.len(), der) }
+}
+
+pub fn read_integers(bytes: &[u8], count: usize, der: bool) -> u64 {
+    unsafe { linked::yasna_read_integers(bytes.as_ptr(), bytes.len(), count, der) }
+}
+
+pub fn list_integers(bytes: &[u8], count: usize, der: bool) -> u64 {
+    unsafe { linked::yasna_list_integers(bytes.as_ptr(), bytes.len(), count, der) }
+}
+
+pub fn read_pairs(bytes: &[u8], count: usize, der: bool) -> u64 {
+    unsafe { linked::yasna_read_pairs(bytes.as_ptr(), bytes.len(), count, der) }
+}
+
+pub fn read_big_integer(bytes: &[u8], der: bool) -> u64 {
+    unsafe { linked::yasna_read_big_integer(bytes.as_ptr(), bytes.len(), der) }
+}
+
+pub fn read_nest(bytes: &[u8], depth: usize, der: bool) -> u64 {
+    unsafe { linked::yasna_read_nest(bytes.as_ptr(), bytes.len(), depth, der) }
+}
+
+pub fn encode_pair(number: i64, flag: bool) -> u64 {
+    unsafe { linked::yasna_encode_pair(number, flag) }
+}
+
+pub fn write_integers(numbers: &[i64]) -> u64 {
+    unsafe { linked::yasna_write_integers(numbers.as_ptr(), numbers.len()) }
+}
+
+pub fn write_pairs(count: u32, depth: usize) -> u64 {
+    unsafe { linked::yasna_write_pairs(count, depth) }
+}
+
+pub fn write_nest(contents: &[u8], depth: usize) -> u64 {
+    unsafe { linked::yasna_write_nest(contents.as_ptr(), contents.len(), depth) }
+}

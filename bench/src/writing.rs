@@ -1,0 +1,152 @@
+//! Cases that write.
+
+use crate::by_hand;
+use crate::inputs::{self, kept, PAIRS};
+use crate::measure::Case;
+use crate::measure::Contestant::{Asn1, Bcder, ByHand, Port, Upstream};
+use crate::port;
+use asn1::{SequenceOfWriter, SequenceWriter};
+use bcder::encode::{self, PrimitiveContent, Values};
+use std::hint::black_box;
+use yasna::{construct_der, encode_der, DERWriterSeq};
+
+pub fn cases() -> Vec<Case> {
+    vec![
+        pair(),
+        integers("write 100k small integers", inputs::small_integers()),
+        integers("write 100k mixed integers", inputs::mixed_integers()),
+        pairs(),
+        nested_pairs("20k pairs inside 100 sequences", 100),
+        nest("1 MiB in 50 sequences", inputs::big_contents(), 50, 2),
+        nest("a level at depth 100", kept(vec![10]), 100, 200).by_parts(100),
+        nest("a level at depth 5000", kept(vec![10]), 5000, 4).by_parts(5000),
+    ]
+}
+
+// How many bytes were written.
+fn length(bytes: Vec<u8>) -> u64 {
+    black_box(bytes).len() as u64
+}
+
+// What bcder writes.
+fn bcder_length(values: impl Values) -> u64 {
+    let mut bytes = Vec::new();
+    values
+        .write_encoded(bcder::Mode::Der, &mut bytes)
+        .expect("a vector takes all bytes");
+    length(bytes)
+}
+
+fn pair() -> Case {
+    Case::new("encode a pair", 100_000)
+        .with(Port, || port::encode_pair(black_box(10), black_box(true)))
+        .with(Upstream, || length(encode_der(&black_box((10_i64, true)))))
+        .with(Asn1, || {
+            let (number, flag) = black_box((10_i64, true));
+            let written = asn1::write(|writer| {
+                writer.write_element(&SequenceWriter::new(&|parts| {
+                    parts.write_element(&number)?;
+                    parts.write_element(&flag)
+                }))
+            });
+            length(written.expect("a pair can be written"))
+        })
+        .with(Bcder, || {
+            let (number, flag) = black_box((10_i64, true));
+            bcder_length(encode::sequence((number.encode(), flag.encode())))
+        })
+        .with(ByHand, || {
+            let (number, flag) = black_box((10, true));
+            let mut bytes = Vec::new();
+            by_hand::write_pair(&mut bytes, number, flag);
+            length(bytes)
+        })
+}
+
+fn integers(name: &'static str, numbers: &'static [i64]) -> Case {
+    Case::new(name, 3)
+        .with(Port, move || port::write_integers(black_box(numbers)))
+        .with(Upstream, move || {
+            length(construct_der(|writer| {
+                writer.write_sequence(|seq| {
+                    for number in black_box(numbers) {
+                        seq.next().write_i64(*number);
+                    }
+                })
+            }))
+        })
+        .with(Asn1, move || {
+            let written = asn1::write_single(&SequenceOfWriter::new(black_box(numbers)));
+            length(written.expect("numbers can be written"))
+        })
+        .with(Bcder, move || {
+            bcder_length(encode::sequence(encode::slice(
+                black_box(numbers),
+                |number: &i64| (*number).encode(),
+            )))
+        })
+        .with(ByHand, move || {
+            let mut contents = Vec::new();
+            for number in black_box(numbers) {
+                by_hand::write_integer(&mut contents, *number);
+            }
+            length(by_hand::enclosed(&contents))
+        })
+}
+
+fn pairs() -> Case {
+    nested_pairs("write 20k pairs", 0)
+        .with(Asn1, || {
+            let written = asn1::write(|writer| {
+                writer.write_element(&SequenceWriter::new(&|seq| {
+                    (0..i64::from(black_box(PAIRS))).try_for_each(|number| {
+                        seq.write_element(&SequenceWriter::new(&|parts| {
+                            parts.write_element(&number)?;
+                            parts.write_element(&(number % 2 == 0))
+                        }))
+                    })
+                }))
+            });
+            length(written.expect("pairs can be written"))
+        })
+        .with(Bcder, || {
+            let numbers: Vec<i64> = (0..i64::from(black_box(PAIRS))).collect();
+            bcder_length(encode::sequence(encode::slice(
+                &numbers[..],
+                |number: &i64| encode::sequence(((*number).encode(), (*number % 2 == 0).encode())),
+            )))
+        })
+        .with(ByHand, || {
+            let mut contents = Vec::new();
+            for number in 0..i64::from(black_box(PAIRS)) {
+                by_hand::write_pair(&mut contents, number, number % 2 == 0);
+            }
+            length(by_hand::enclosed(&contents))
+        })
+}
+
+fn nested_pairs(name: &'static str, depth: usize) -> Case {
+    fn within(seq: &mut DERWriterSeq, depth: usize) {
+        match depth {
+            0 => inputs::write_pairs(seq, black_box(PAIRS)),
+            _ => seq.next().write_sequence(|inner| within(inner, depth - 1)),
+        }
+    }
+    Case::new(name, 5)
+        .with(Port, move || port::write_pairs(black_box(PAIRS), depth))
+        .with(Upstream, move || {
+            length(construct_der(|writer| {
+                writer.write_sequence(|seq| within(seq, depth))
+            }))
+        })
+}
+
+fn nest(name: &'static str, contents: &'static [u8], depth: usize, calls: usize) -> Case {
+    Case::new(name, calls)
+        .with(Port, move || port::write_nest(black_box(contents), depth))
+        .with(Upstream, move || {
+            length(construct_der(|writer| {
+                inputs::write_nest(writer, black_box(contents), depth)
+            }))
+        })
+}

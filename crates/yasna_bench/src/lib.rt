@@ -1,0 +1,40 @@
+//! Calls that a driver times: each does one piece of work with `yasna` and answers one number.
+//!
+//! `bench/` at the top of the repository holds the driver. Read values go into a checksum, so that no work can be left
+//! out; written bytes are answered by their length.
+//!
+//! | Module | Holds |
+//! |---|---|
+//! | `reading` | calls that read |
+//! | `writing` | calls that write |
+#![tactic(auto)]
+
+ghost use Rattle.std.specs.Prelude.{◌≡◌, ◌-◌, ◌^◌, MatchResult};
+
+mod reading;
+mod writing;
+
+use yasna::ASN1Result;
+
+// The answer of a call that was refused.
+const REFUSED: u64 = u64::MAX;
+
+// The number that a call answers.
+fn answered(answer: ASN1Result<u64>) -> u64
+    ensures { MatchResult answer (λ number. result ≡ number) (λ _. result ≡ 2 ^ 64 - 1) }
+{
+    match answer {
+        Ok(number) => number,
+        Err(_) => REFUSED,
+    }
+}
+
+// The length that a call answers of what it wrote.
+fn length(written: ASN1Result<Vec<u8>>) -> u64 {
+    answered(written.map(|bytes| bytes.len() as u64))
+}
+
+// A checksum with one more number in it.
+fn mixed(checksum: u64, number: i64) -> u64 {
+    checksum.rotate_left(5) ^ number.cast_unsigned()
+}

@@ -1,0 +1,137 @@
+//! Calls that read.
+ghost use Rattle.std.specs.Prelude.{◌≡◌, if◌then◌else◌};
+ghost use Rattle.yasna.specs.base.declared.mode.BERMode.TheVariants.{Ber, Der};
+
+use crate::{answered, length, mixed};
+use std::alloc::Global;
+use yasna::{
+    ASN1Error, ASN1ErrorKind, ASN1Result, BERMode, BERReader, BERReaderSeq, decode_ber_general,
+    parse_ber_general,
+};
+
+// The rules to read by.
+fn mode(der: bool) -> BERMode
+    ensures { result ≡ (if der then Der else Ber) }
+{
+    if der { BERMode::Der } else { BERMode::Ber }
+}
+
+/// The checksum of a pair, decoded as a whole.
+#[unsafe(no_mangle)]
+pub extern "C" fn yasna_decode_pair(alloc: Global, bytes: &[u8], der: bool) -> u64 {
+    answered(decode_ber_general(alloc, bytes, mode(der)).map(pair_checksum))
+}
+
+// The checksum of a pair.
+fn pair_checksum(pair: (i64, bool)) -> u64 {
+    let (number, flag) = pair;
+    mixed(u64::from(flag), number)
+}
+
+/// The checksum of so many numbers in a SEQUENCE, taken as they are read.
+#[unsafe(no_mangle)]
+pub extern "C" fn yasna_read_integers(alloc: Global, bytes: &[u8], count: usize, der: bool) -> u64 {
+    answered(parse_ber_general(
+        alloc,
+        bytes,
+        mode(der),
+        |reader| reader.read_sequence(|seq| integers(seq, count)),
+    ))
+}
+
+// The checksum of so many numbers.
+fn integers(seq: &mut BERReaderSeq, count: usize) -> ASN1Result<u64> {
+    let mut checksum = 0;
+    for _ in 0..count {
+        checksum = mixed(checksum, seq.next().read_i64()?);
+    }
+    Ok(checksum)
+}
+
+/// The checksum of so many numbers in a SEQUENCE, which are put into a list first.
+#[unsafe(no_mangle)]
+pub extern "C" fn yasna_list_integers(alloc: Global, bytes: &[u8], count: usize, der: bool) -> u64 {
+    let list = parse_ber_general(
+        alloc,
+        bytes,
+        mode(der),
+        |reader| reader.read_sequence(|seq| integer_list(alloc, seq, count)),
+    );
+    answered(list.map(|numbers| list_checksum(&numbers)))
+}
+
+// So many numbers.
+fn integer_list(alloc: Global, seq: &mut BERReaderSeq, count: usize) -> ASN1Result<Vec<i64>> {
+    let mut numbers = Vec::new(alloc);
+    for _ in 0..count {
+        let number = seq.next().read_i64()?;
+        if numbers.push(number).is_err() {
+            return Err(ASN1Error::new(ASN1ErrorKind::OutOfMemory));
+        }
+    }
+    Ok(numbers)
+}
+
+// The checksum of a list.
+fn list_checksum(numbers: &[i64]) -> u64 {
+    let mut checksum = 0;
+    for number in numbers {
+        checksum = mixed(checksum, *number);
+    }
+    checksum
+}
+
+/// The checksum of so many pairs in a SEQUENCE.
+#[unsafe(no_mangle)]
+pub extern "C" fn yasna_read_pairs(alloc: Global, bytes: &[u8], count: usize, der: bool) -> u64 {
+    answered(parse_ber_general(
+        alloc,
+        bytes,
+        mode(der),
+        |reader| reader.read_sequence(|seq| pairs(seq, count)),
+    ))
+}
+
+// The checksum of so many pairs.
+fn pairs(seq: &mut BERReaderSeq, count: usize) -> ASN1Result<u64> {
+    let mut checksum = 0;
+    for _ in 0..count {
+        let pair = seq.next().read_sequence(|parts| {
+            let number = parts.next().read_i64()?;
+            let flag = parts.next().read_bool()?;
+            Ok((number, flag))
+        })?;
+        checksum = mixed(checksum, pair_checksum(pair).cast_signed());
+    }
+    Ok(checksum)
+}
+
+/// The length of the contents of an INTEGER of any size.
+#[unsafe(no_mangle)]
+pub extern "C" fn yasna_read_big_integer(alloc: Global, bytes: &[u8], der: bool) -> u64 {
+    let read = parse_ber_general(alloc, bytes, mode(der), |reader| reader.read_bigint_bytes());
+    length(read.map(|(contents, _)| contents))
+}
+
+/// The checksum of the number in so many SEQUENCEs, one in the other.
+#[unsafe(no_mangle)]
+pub extern "C" fn yasna_read_nest(alloc: Global, bytes: &[u8], depth: usize, der: bool) -> u64 {
+    let number = parse_ber_general(alloc, bytes, mode(der), |reader| nest(reader, depth));
+    answered(number.map(|number| mixed(0, number)))
+}
+
+// The number in so many sequences.
+fn nest(reader: BERReader, depth: usize) -> ASN1Result<i64> {
+    match depth.checked_sub(1) {
+        None => reader.read_i64(),
+        Some(below) => reader.read_sequence(|seq| nest_within(seq, below)),
+    }
+}
+
+// The same in the contents of a sequence.
+fn nest_within(seq: &mut BERReaderSeq, depth: usize) -> ASN1Result<i64> {
+    match depth.checked_sub(1) {
+        None => seq.next().read_i64(),
+        Some(below) => seq.next().read_sequence(|inner| nest_within(inner, below)),
+    }
+}

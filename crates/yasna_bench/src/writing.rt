@@ -1,0 +1,82 @@
+//! Calls that write.
+
+use crate::length;
+use std::alloc::Global;
+use yasna::{ASN1Result, DERWriter, DERWriterSeq, construct_der, encode_der};
+
+/// The length of a pair, encoded as a whole.
+#[unsafe(no_mangle)]
+pub extern "C" fn yasna_encode_pair(alloc: Global, number: i64, flag: bool) -> u64 {
+    length(encode_der(alloc, &(number, flag)))
+}
+
+/// The length of a SEQUENCE of these numbers.
+#[unsafe(no_mangle)]
+pub extern "C" fn yasna_write_integers(alloc: Global, numbers: &[i64]) -> u64 {
+    length(construct_der(
+        alloc,
+        |writer| writer.write_sequence(|seq| integers(seq, numbers)),
+    ))
+}
+
+// Writes each of these numbers.
+fn integers(seq: &mut DERWriterSeq, numbers: &[i64]) -> ASN1Result<()> {
+    for number in numbers {
+        seq.next().write_i64(*number)?;
+    }
+    Ok(())
+}
+
+/// The length of so many pairs in a SEQUENCE, in as many SEQUENCEs more as `depth` says.
+#[unsafe(no_mangle)]
+pub extern "C" fn yasna_write_pairs(alloc: Global, count: u32, depth: usize) -> u64 {
+    length(construct_der(
+        alloc,
+        |writer| writer.write_sequence(|seq| pairs_within(seq, count, depth)),
+    ))
+}
+
+// Writes so many sequences, one in the other, around the pairs.
+fn pairs_within(seq: &mut DERWriterSeq, count: u32, depth: usize) -> ASN1Result<()> {
+    match depth.checked_sub(1) {
+        None => pairs(seq, count),
+        Some(below) => seq
+            .next()
+            .write_sequence(|inner| pairs_within(inner, count, below)),
+    }
+}
+
+// Writes the pairs of the numbers up to this one, and whether each is even.
+fn pairs(seq: &mut DERWriterSeq, count: u32) -> ASN1Result<()> {
+    for number in 0..count {
+        seq.next().write_sequence(|parts| {
+            parts.next().write_i64(i64::from(number))?;
+            parts.next().write_bool(number % 2 == 0)
+        })?;
+    }
+    Ok(())
+}
+
+/// The length of an INTEGER with these contents in so many SEQUENCEs, one in the other.
+#[unsafe(no_mangle)]
+pub extern "C" fn yasna_write_nest(alloc: Global, contents: &[u8], depth: usize) -> u64 {
+    length(construct_der(alloc, |writer| nest(writer, contents, depth)))
+}
+
+// Writes so many sequences around a number.
+fn nest(writer: DERWriter<'_>, contents: &[u8], depth: usize) -> ASN1Result<()> {
+    match depth.checked_sub(1) {
+        None => writer.write_bigint_bytes(contents, true),
+        Some(below) => writer.write_sequence(|seq| nest_within(seq, contents, below)),
+    }
+}
+
+// The same in the contents of a sequence.
+fn nest_within(seq: &mut DERWriterSeq, contents: &[u8], depth: usize) -> ASN1Result<()> {
+    match depth.checked_sub(1) {
+        None => seq.next().write_bigint_bytes(contents, true),
+        Some(below) => seq
+            .next()
+            .write_sequence(|inner| nest_within(inner, contents, below)),
+    }
+}
