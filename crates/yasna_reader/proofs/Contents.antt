@@ -93,4 +93,5 @@ wants n m t s c b r l h (indefinite x) e = absurd (not_indefinite m x.taken)
 
 -- a copy of contents may want memory where there are any
 pub copy_wants : (c : List ℕ) → 0 < length c → MayWant WantsMemory c
-copy_wants c h n m t s r x = wants n m t s x.member.contents x.front r x.member.level (subst (λ z. 0 < length z) x.member.meaning h) x.member.element.framed x.joined
+copy_wants c h n m t s r x =
+    wants n m t s x.member.contents x.front r x.member.level (subst (λ z. 0 < length z) x.member.meaning h) x.member.element.framed x.joined

@@ -8,7 +8,7 @@ use Rattle.yasna_base.specs.Digits.{IsBytes}
 use Rattle.yasna_base.specs.Length.{SpellsLength}
 use Rattle.yasna_base.proofs.Lists.{fronts_same}
 use Rattle.yasna_base.proofs.Length.{small, large, length_front, not_empty, short_spells, long_spells}
-use Rattle.yasna_reader.specs.Length.{Measures, TakesSpelling, IsSpelled}
+use Rattle.yasna_reader.specs.Length.{Measures, TakesSpelling, Spells}
 use Rattle.yasna_base.proofs.Digits.{bytes_front}
 
 -- no length stands where nothing is left
@@ -28,52 +28,46 @@ spelling_takes : (m : BERMode) (ds : List ℕ) (k : ℕ) → TakesSpelling m ds 
 spelling_takes Ber ds k h e = absurd (cc)
 spelling_takes Der ds k h e = h
 
--- behind a first byte above 128 no length stands unless as many digits do
-pub not_counted : (m : BERMode) (x : ℕ) (s y : List ℕ) → s ≡ x ∷ y → 128 < x → ((k : ℕ) (r : List ℕ) → IsSpelled m (x - 128) y k r → x < 255 → ⊥) →
-    (k : Option ℕ) (r : List ℕ) → Measures m s k r → ⊥
+-- behind a first byte above 128 no length stands unless as many digits spell it
+pub not_counted : (m : BERMode) (x : ℕ) (s y : List ℕ) → s ≡ x ∷ y → 128 < x →
+    ((ds r : List ℕ) (k : ℕ) → length ds ≡ x - 128 → y ≡ ds ++ r → Spells m ds k → x < 255 → ⊥) → (k : Option ℕ) (r : List ℕ) → Measures m s k r → ⊥
 not_counted m x s y e h f None r w = let g = sym e ∙ w in let i : x ≡ 128 = cc in omega arith
 not_counted m x s y e h f (Some k) r w = elim (length_front m x y k w.0 r w.1 (sym e ∙ w.2)) [
   | small i j ↦ omega arith
-  | large ds q i j l n o b t ↦ f k q (record { digits = ds; counted = omega arith; joined = n; number = o; in_range = b; taken = takes_spelling m ds k t })
-      (omega arith)
+  | large ds q i j l n o b t ↦ f ds q k (omega arith) n (record { number = o; in_range = b; taken = takes_spelling m ds k t }) (omega arith)
 ]
 
--- fewer bytes follow than are counted
-pub too_few : (m : BERMode) (n : ℕ) (s : List ℕ) → length s < n → (k : ℕ) (r : List ℕ) → IsSpelled m n s k r → ⊥
-too_few m n s h k r x = omega (arith, x.counted, ap length x.joined, length-append x.digits r)
+-- nor where fewer bytes follow than are counted
+pub too_few : (m : BERMode) (x : ℕ) (s y : List ℕ) → s ≡ x ∷ y → 128 < x → length y < x - 128 → (k : Option ℕ) (r : List ℕ) → Measures m s k r → ⊥
+too_few m x s y e h l = not_counted m x s y e h (λ ds r k i j z b. omega (arith, i, ap length j, length-append ds r))
 
--- the digits that are counted
-same_digits : {m : BERMode} {n : ℕ} {s : List ℕ} {k : ℕ} {r : List ℕ} (d a : List ℕ) → length d ≡ n → s ≡ d ++ a → (x : IsSpelled m n s k r) → x.digits ≡ d
-same_digits {r} d a h e x = (fronts_same x.digits d r a (x.counted ∙ sym h) (sym x.joined ∙ e)).0
+-- nor where those that are counted spell none
+pub not_spelled : (m : BERMode) (x : ℕ) (s y d a : List ℕ) → s ≡ x ∷ y → 128 < x → length d ≡ x - 128 → y ≡ d ++ a →
+    ((k : ℕ) → Spells m d k → ⊥) → (k : Option ℕ) (r : List ℕ) → Measures m s k r → ⊥
+not_spelled m x s y d a e h l j f = not_counted m x s y e h (λ ds r k i n z b.
+    let c = (fronts_same ds d r a (i ∙ sym l) (sym n ∙ j)).0 in
+    f k (subst (λ q. Spells m q k) c z))
 
--- they pass 2^64 - 1
-pub too_wide : (m : BERMode) (n : ℕ) (s d a : List ℕ) → length d ≡ n → s ≡ d ++ a → 2 ^ 64 ≤ number_from_digits 256 d → (k : ℕ) (r : List ℕ) →
-    IsSpelled m n s k r → ⊥
-too_wide m n s d a h e w k r x = omega (arith, x.in_range, sym x.number ∙ ap (number_from_digits 256) (same_digits d a h e x))
+-- digits that pass 2^64 - 1 spell none
+pub too_wide : (m : BERMode) (d : List ℕ) → 2 ^ 64 ≤ number_from_digits 256 d → (k : ℕ) → Spells m d k → ⊥
+too_wide m d w k x = omega (arith, x.in_range, x.number)
 
--- the mode doesn't take them
-pub not_so : (m : BERMode) (n : ℕ) (s d a : List ℕ) (z : ℕ) → length d ≡ n → s ≡ d ++ a → z ≡ number_from_digits 256 d → (TakesSpelling m d z → ⊥) →
-    (k : ℕ) (r : List ℕ) → IsSpelled m n s k r → ⊥
-not_so m n s d a z h e w u k r x =
-    let c = same_digits d a h e x in
-    let j : k ≡ z = sym x.number ∙ ap (number_from_digits 256) c ∙ sym w in
-    u (subst (λ q. TakesSpelling m d q) j (subst (λ q. TakesSpelling m q k) c x.taken))
+-- nor do those that the mode doesn't take
+pub not_so : (m : BERMode) (d : List ℕ) (z : ℕ) → z ≡ number_from_digits 256 d → (TakesSpelling m d z → ⊥) → (k : ℕ) → Spells m d k → ⊥
+not_so m d z w u k x = u (subst (λ q. TakesSpelling m d q) (sym x.number ∙ sym w) x.taken)
 
 -- a count and digits
-pub counted_measured : (m : BERMode) (x : ℕ) (s y : List ℕ) (k : ℕ) (r : List ℕ) → IsBytes s → s ≡ x ∷ y → 128 < x → x < 255 → IsSpelled m (x - 128) y k r →
-    (l : List ℕ) × SpellsLength m k l × (s ≡ l ++ r)
-counted_measured m x s y k r b e h g i =
-    let d = i.digits in
-    let n = i.counted in
+pub counted_measured : (m : BERMode) (x : ℕ) (s y d r : List ℕ) (k : ℕ) → IsBytes s → s ≡ x ∷ y → 128 < x → x < 255 → length d ≡ x - 128 → y ≡ d ++ r →
+    Spells m d k → (l : List ℕ) × SpellsLength m k l × (s ≡ l ++ r)
+counted_measured m x s y d r k b e h g n i z =
     let c : x ≡ 128 + length d = omega arith in
-    let j : s ≡ ((128 + length d) ∷ d) ++ r = e ∙ ap (λ q. q ∷ y) c ∙ ap (λ q. (128 + length d) ∷ q) i.joined in
-    let o : IsBytes d = bytes_front d r (subst IsBytes (e ∙ ap (λ q. x ∷ q) i.joined) b).1 in
+    let j : s ≡ ((128 + length d) ∷ d) ++ r = e ∙ ap (λ q. q ∷ y) c ∙ ap (λ q. (128 + length d) ∷ q) i in
+    let o : IsBytes d = bytes_front d r (subst IsBytes (e ∙ ap (λ q. x ∷ q) i) b).1 in
     let P : ℕ → Type 0 = λ q. SpellsLength m q ((128 + length d) ∷ d) in
-    let w = i.in_range in
-    let z = i.number in (
+    let w = z.in_range in
+    let v = z.number in (
       (128 + length d) ∷ d,
-      subst P z (long_spells m d o (omega arith) (omega arith) (omega arith)
-          (λ t. let u = spelling_takes m d k i.taken t in (omega (arith, u.0), u.1))),
+      subst P v (long_spells m d o (omega arith) (omega arith) (omega arith) (λ t. let u = spelling_takes m d k z.taken t in (omega (arith, u.0), u.1))),
       j,
     )
 

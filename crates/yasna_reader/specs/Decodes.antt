@@ -39,8 +39,8 @@ abbrev pub IsQuietAtEnd : Reading → ASN1Error → Reading → Type 0
 IsQuietAtEnd s e s' = AtEnd s.left → (s' ≡ s) × IsPlain (kind_of e)
 
 -- what reading a value does
-abbrev pub Decodes : {A : Type 0} → Bool → (BERMode → ℕ → A → List ℕ → Type 0) → (BERMode → ℕ → List ℕ → Type 0) → Reading → Result A ASN1Error → Reading →
-    Type 0
+abbrev pub Decodes : {A : Type 0} → Bool → (BERMode → ℕ → A → List ℕ → Type 0) → (BERMode → ℕ → List ℕ → Type 0) →
+    Reading → Result A ASN1Error → Reading → Type 0
 Decodes asks B S s (Ok v) s' = Took (B s.mode s.levels) s v s'
 Decodes asks B S s (Err e) s' = NotTook asks (S s.mode s.levels) s e s' × IsQuietAtEnd s e s'
 
@@ -70,8 +70,8 @@ pub record NotWhole (asks : Bool) (S : List ℕ → Type 0) (s : List ℕ) (e : 
   pub memory : kind_of e ≡ OutOfMemory → asks ≡ true
   pub quiet : AtEnd s → kind_of e ≡ OutOfMemory → ⊥
 
-abbrev pub Decoded : {A : Type 0} → Bool → (BERMode → ℕ → A → List ℕ → Type 0) → (BERMode → ℕ → List ℕ → Type 0) → BERMode → List ℕ → Result A ASN1Error →
-    Type 0
+abbrev pub Decoded : {A : Type 0} → Bool → (BERMode → ℕ → A → List ℕ → Type 0) → (BERMode → ℕ → List ℕ → Type 0) →
+    BERMode → List ℕ → Result A ASN1Error → Type 0
 Decoded asks B S m s (Ok v) = B m 101 v s
 Decoded asks B S m s (Err e) = NotWhole asks (S m 101) s e
 

@@ -1,7 +1,7 @@
 -- Lengths at the front of bytes (X.690, 8.1.3).
 use Rattle.std.specs.Borrow.{Bor}
 use Rattle.std.specs.Int.Digits.{number_from_digits}
-use Rattle.std.specs.Prelude.{Err, List, None, Ok, Option, Result, Some, get_or, length, ℕ, ◌++◌, ◌<◌, ◌^◌, ◌∷◌, ◌≡◌, ◌≤◌}
+use Rattle.std.specs.Prelude.{Err, List, None, Ok, Option, Result, Some, get_or, ℕ, ◌++◌, ◌<◌, ◌^◌, ◌∷◌, ◌≡◌, ◌≤◌}
 use Rattle.yasna_base.specs.Length.{SpellsLength}
 use Rattle.yasna_base.specs.declared.error.ASN1ErrorKind.{ASN1ErrorKind}
 use Rattle.yasna_base.specs.declared.mode.BERMode.{BERMode}
@@ -18,19 +18,11 @@ abbrev pub TakesSpelling : BERMode → List ℕ → ℕ → Type 0
 TakesSpelling Ber ds k = Unit {0}
 TakesSpelling Der ds k = (128 ≤ k) × (0 < get_or ds 0 0)
 
--- n digits that spell the length k as the mode takes it, and r
-pub record IsSpelled (m : BERMode) (n : ℕ) (s : List ℕ) (k : ℕ) (r : List ℕ) : Type 0 where
-  pub digits : List ℕ
-  pub counted : length digits ≡ n
-  pub joined : s ≡ digits ++ r
+-- digits behind a count spell the length k as the mode takes it
+pub record Spells (m : BERMode) (digits : List ℕ) (k : ℕ) : Type 0 where
   pub number : number_from_digits 256 digits ≡ k
   pub in_range : k < 2 ^ 64
   pub taken : TakesSpelling m digits k
-
--- n digits of a length stand at the front
-abbrev pub DigitsAt : BERMode → ℕ → List ℕ → Result (ℕ × Bor (List ℕ)) ASN1ErrorKind → Type 0
-DigitsAt m n s (Ok x) = IsSpelled m n s x.0 x.1.now
-DigitsAt m n s (Err e) = IsPlain e × ((k : ℕ) (r : List ℕ) → IsSpelled m n s k r → ⊥)
 
 -- a length, or the byte of the indefinite form, stands at the front
 abbrev pub LengthAt : BERMode → List ℕ → Result (Option ℕ × Bor (List ℕ)) ASN1ErrorKind → Type 0

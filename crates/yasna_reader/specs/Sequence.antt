@@ -65,8 +65,8 @@ Left end c None y (Err e) s r s' = Fails e s r s'
 Left end c None y (Ok v) s r s' = Closes end c y v s r s' ⊎ StaysOpen end c y s r s'
 
 -- the header of a constructed element stands there, and its contents were read as P says
-pub record Entered {A : Type 0} (P : Reading → Result A ASN1Error → Reading → Type 0) (t : Tag) (s : Reading) (r : Result A ASN1Error) (s' : Reading) : Type
-    0 where
+pub record Entered {A : Type 0} (P : Reading → Result A ASN1Error → Reading → Type 0) (t : Tag)
+    (s : Reading) (r : Result A ASN1Error) (s' : Reading) : Type 0 where
   pub level : 1 ≤ s.levels
   pub contents : List ℕ
   pub end : ContentsEnd
@@ -90,6 +90,6 @@ EntersUnlessKept (Some e) P t s r s' = (r ≡ Err e) × (s' ≡ untagged s)
 EntersUnlessKept None P t s r s' = Entered P t s r s' ⊎ NotEntered t s r s'
 
 -- a read of a constructed element whose contents are read as P says
-pub record ReadsParts {A : Type 0} (P : Reading → Result A ASN1Error → Reading → Type 0) (tag : Tag) (s : Reading) (r : Result A ASN1Error) (s' : Reading) :
-    Type 0 where
+pub record ReadsParts {A : Type 0} (P : Reading → Result A ASN1Error → Reading → Type 0) (tag : Tag)
+    (s : Reading) (r : Result A ASN1Error) (s' : Reading) : Type 0 where
   pub enters : EntersUnlessKept s.kept P (tag_of s tag) s r s'

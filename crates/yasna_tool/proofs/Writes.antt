@@ -14,6 +14,7 @@ pub wrote_more : (a b c : Option (List ℕ)) (bytes front rest : List ℕ) (n : 
     → (x : List ℕ) × (bytes ≡ x ++ take (length rest - n) (drop n rest)) × Appends a c x
 wrote_more a b c bytes front rest n e p q = (
   front ++ take n rest,
-  e ∙ ap (λ l. front ++ l) (sym (take-append-drop n rest)) ∙ sym (append_assoc front (take n rest) (drop n rest)) ∙ ap (λ l. (front ++ take n rest) ++ l) (sym (take_rest rest n)),
+  e ∙ ap (λ l. front ++ l) (sym (take-append-drop n rest)) ∙ sym (append_assoc front (take n rest) (drop n rest))
+      ∙ ap (λ l. (front ++ take n rest) ++ l) (sym (take_rest rest n)),
   Appends-trans a b c front (take n rest) p q,
 )

@@ -1,7 +1,8 @@
 //! Lengths (X.690, 8.1.3 and 10.1).
-ghost use Rattle.std.specs.Prelude.{◌≡◌, ◌^◌, ◌<◌, ◌≤◌, ◌++◌, length, MatchOption, IsTrue, ◌↔◌};
+ghost use Rattle.std.specs.Prelude.{◌≡◌, ℕ, ◌^◌, ◌<◌, ◌≤◌, ◌++◌, length, MatchOption, IsTrue, ◌↔◌};
 ghost use Rattle.std.specs.Int.Digits.{number_from_digits};
-ghost use Rattle.yasna_reader.specs.Length.{TakesSpelling, DigitsAt, LengthAt};
+ghost use Rattle.yasna_reader.specs.Refusal.{IsPlain};
+ghost use Rattle.yasna_reader.specs.Length.{TakesSpelling, Spells, LengthAt};
 
 use yasna_base::error::ASN1ErrorKind;
 use yasna_base::mode::BERMode;
@@ -46,22 +47,32 @@ fn is_spelling(mode: BERMode, digits: &[u8], size: u64) -> bool
     }
 }
 
-// Reads the digits of a length behind the byte that counts them.
+// The length that digits spell, where a mode takes it so.
 #[inline(never)]
-fn read_digits(s: &[u8], count: u8, mode: BERMode) -> Result<(usize, &[u8]), ASN1ErrorKind>
-    requires { 0 < count }
-    ensures { DigitsAt mode count s.now result }
+fn size_of(digits: &[u8], mode: BERMode) -> Option<usize>
+    requires { 0 < length digits.now }
+    ensures { MatchOption result ((k : ℕ) → Spells mode digits.now k → ⊥) (λ k. Spells mode digits.now k) }
 {
-    let Some((digits, after)) = cut(s, usize::from(count)) else {
-        return Err(ASN1ErrorKind::Eof);
-    };
     let Some(size) = number_of(digits) else {
-        return Err(ASN1ErrorKind::Eof);
+        return None;
     };
-    if !is_spelling(mode, digits, size) {
-        return Err(ASN1ErrorKind::Invalid);
+    if is_spelling(mode, digits, size) {
+        Some(size as usize)
+    } else {
+        None
     }
-    Ok((size as usize, after))
+}
+
+// Of what kind the refusal is where digits spell no length that a mode takes.
+#[cold]
+#[inline(never)]
+fn digits_fault(digits: &[u8]) -> ASN1ErrorKind
+    ensures { IsPlain result }
+{
+    match number_of(digits) {
+        Some(_) => ASN1ErrorKind::Invalid,
+        None => ASN1ErrorKind::Eof,
+    }
 }
 
 /// Reads a length, None for the byte of the indefinite form.
@@ -81,8 +92,11 @@ pub fn read_length(s: &[u8], mode: BERMode) -> Result<(Option<usize>, &[u8]), AS
     if *first == 255 {
         return Err(ASN1ErrorKind::Invalid);
     }
-    match read_digits(rest, *first - 128, mode) {
-        Ok((size, after)) => Ok((Some(size), after)),
-        Err(kind) => Err(kind),
+    let Some((digits, after)) = cut(rest, usize::from(*first - 128)) else {
+        return Err(ASN1ErrorKind::Eof);
+    };
+    match size_of(digits, mode) {
+        Some(size) => Ok((Some(size), after)),
+        None => Err(digits_fault(digits)),
     }
 }

@@ -12,4 +12,5 @@ returns g c kept =
     let r = c.read_sequence.result in
     let left = c.read_sequence.new.self in
     parts_element g.W.TupleParts.parts_ask g.met.W.TupleParts.lawful sequence_tag (not_end 16 (λ e. omega arith)) s (kept, c.requires) r left
-    (parts_map _ (DecodesParts g.W.TupleParts.parts_ask g.W.TupleParts.parts g.W.TupleParts.any_parts) (λ s r s' f h. search rules) sequence_tag s r left c.read_sequence.ensures)
+    (parts_map _ (DecodesParts g.W.TupleParts.parts_ask g.W.TupleParts.parts g.W.TupleParts.any_parts) (λ s r s' f h. search rules)
+    sequence_tag s r left c.read_sequence.ensures)

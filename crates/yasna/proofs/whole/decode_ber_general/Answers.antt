@@ -7,6 +7,7 @@ use Rattle.yasna.proofs.whole.decode_ber_general.Goals as goal
 pub returns : goal.returns
 returns g c =
     let p = c.parse_ber_general.ensures in
-    let h : Decodes g.T.BERDecodable.asks_memory g.T.BERDecodable.encodes g.T.BERDecodable.elements (starts c.args.src.now c.args.mode) p.own p.left = search rules in
+    let h : Decodes g.T.BERDecodable.asks_memory g.T.BERDecodable.encodes g.T.BERDecodable.elements (starts c.args.src.now c.args.mode)
+    p.own p.left = search rules in
     let w = whole g.T.BERDecodable.asks_memory g.met.T.BERDecodable.coding c.args.mode c.args.src.now p.own p.left h c.parse_ber_general.result p.answers in
     record { decoded = w; exact = exactly g.T.BERDecodable.asks_memory g.met.T.BERDecodable.coding c.args.mode c.args.src.now c.parse_ber_general.result w }

@@ -5,4 +5,5 @@ use Rattle.yasna_reader.proofs.Primitives.{leaf_decodes}
 use Rattle.yasna.proofs.primitive.U64BERDecodable.decode_ber.Goals as goal
 
 pub returns : goal.returns
-returns c = leaf_decodes (Primitively (IsUnsigned 64)) 2 (λ e. omega arith) c.args.reader.now c.read_u64.result c.read_u64.new.self c.requires c.read_u64.ensures
+returns c =
+    leaf_decodes (Primitively (IsUnsigned 64)) 2 (λ e. omega arith) c.args.reader.now c.read_u64.result c.read_u64.new.self c.requires c.read_u64.ensures

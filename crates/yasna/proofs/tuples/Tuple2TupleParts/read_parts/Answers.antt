@@ -4,7 +4,8 @@ use Rattle.yasna_reader.proofs.Tuples.{others_ok, others_err}
 use Rattle.yasna.proofs.tuples.Tuple2TupleParts.read_parts.Goals as goal
 
 pub returns-in-Ok-read_parts : goal.returns-in-Ok-read_parts
-returns-in-Ok-read_parts g c = search (rules, others_ok g.met.A.BERDecodable.coding g.A.BERDecodable.asks_memory g.W.TupleParts.parts_ask g.W.TupleParts.parts g.W.TupleParts.any_parts)
+returns-in-Ok-read_parts g c =
+    search (rules, others_ok g.met.A.BERDecodable.coding g.A.BERDecodable.asks_memory g.W.TupleParts.parts_ask g.W.TupleParts.parts g.W.TupleParts.any_parts)
 
 pub returns-in-Err-read_parts : goal.returns-in-Err-read_parts
 returns-in-Err-read_parts g c =

@@ -8,5 +8,6 @@ use Rattle.yasna_examples.proofs.third_party.VersionBERDecodable.decode_ber.Goal
 pub returns : goal.returns
 returns c kept =
     sequence_by (λ v. (v.major, (v.flag, tt))) (λ w. record { major = w.0; flag = w.1.0 }) (λ w. refl) (part (unsigned_coding 16) (part bool_coding no_part))
-    (step_by (unsigned_coding 16) (leaf_by (Primitively (IsUnsigned 16)) 2 (λ e. omega arith)) (λ major. step_by bool_coding (decodes_by {asks = false}) (λ flag. done_by)))
+    (step_by (unsigned_coding 16) (leaf_by (Primitively (IsUnsigned 16)) 2 (λ e. omega arith)) (λ major. step_by bool_coding (decodes_by {asks =
+    false}) (λ flag. done_by)))
     (kept, c.requires) c.read_sequence.ensures (λ p q x h. search rules)
