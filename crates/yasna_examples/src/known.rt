@@ -1,15 +1,20 @@
 //! Calls whose closures are known: what they answer follows from what the calls of `yasna` promise.
-ghost use Rattle.std.specs.Prelude.{◌≡◌, ℤ, IfOk, IfErr};
+ghost use Rattle.std.specs.Prelude.{◌≡◌, ℤ, Bool, false, IfOk, IfErr};
 ghost use Rattle.std.specs.Int.{w64};
 ghost use Rattle.yasna.specs.base.declared.mode.BERMode.TheVariants.{Der};
 ghost use Rattle.yasna.specs.base.declared.error.ASN1ErrorKind.TheVariants.{OutOfMemory};
 ghost use Rattle.yasna.specs.base.Error.{kind_of};
 ghost use Rattle.yasna.specs.base.Identifier.{universal};
+ghost use Rattle.yasna.specs.base.Coding.{Any};
+ghost use Rattle.yasna.specs.base.Boolean.{EncodesBoolean};
+ghost use Rattle.yasna.specs.reader.Decodes.{Decodes, Step, Done};
+ghost use Rattle.yasna.specs.reader.State.{IsFresh, part_of};
+ghost use Rattle.yasna_examples.specs.Pair.{EncodesPair, AnyPair};
 ghost use Rattle.yasna.specs.base.Integer.{EncodesSigned};
 ghost use Rattle.yasna.specs.base.Integer.{integer_form};
 
 use std::alloc::Global;
-use yasna::{ASN1Result, construct_der, parse_der};
+use yasna::{ASN1Result, BERDecodable, construct_der, parse_der};
 
 /// The number whose DER form as an INTEGER these bytes are.
 ///
@@ -27,4 +32,32 @@ pub fn constructed_integer(alloc: Global, number: i64) -> ASN1Result<Vec<u8>>
     ensures memory { IfErr result (λ e. kind_of e ≡ OutOfMemory) }
 {
     construct_der(alloc, |writer| writer.write_i64(number))
+}
+
+/// The number and the flag whose DER form as a SEQUENCE these bytes are.
+///
+/// Refuses bytes that are the form of no such pair, and no others.
+pub fn parsed_pair(alloc: Global, buf: &[u8]) -> ASN1Result<(i64, bool)>
+    ensures pair { IfOk result (λ v. EncodesPair Der 101 v buf.now) }
+    ensures refused { IfErr result (λ e. ((v : ℤ × Bool) → EncodesPair Der 101 v buf.now → ⊥) × (kind_of e ≡ OutOfMemory → ⊥)) }
+{
+    parse_der(
+        alloc,
+        buf,
+        |reader| -> ASN1Result<(i64, bool)>
+            requires { IsFresh reader.old }
+            ensures { Decodes false EncodesPair AnyPair reader.old result reader.new }
+        {
+            reader.read_sequence(
+                |seq| -> ASN1Result<(i64, bool)>
+                    requires { IsFresh (part_of seq.old) }
+                    ensures { Step (Decodes false (EncodesSigned w64) (Any (EncodesSigned w64))) (λ number. Step (Decodes false EncodesBoolean (Any EncodesBoolean)) (λ flag. Done (number, flag))) (part_of seq.old) result (part_of seq.new) }
+                {
+                    let number = i64::decode_ber(seq.next())?;
+                    let flag = bool::decode_ber(seq.next())?;
+                    Ok((number, flag))
+                },
+            )
+        },
+    )
 }

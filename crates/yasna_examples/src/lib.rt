@@ -13,5 +13,5 @@ mod known;
 mod tests;
 mod third_party;
 
-pub use known::{constructed_integer, parsed_integer};
+pub use known::{constructed_integer, parsed_integer, parsed_pair};
 pub use third_party::{Measurement, Sample, Version};

@@ -1,6 +1,6 @@
 //! Each example once, with ample memory.
 
-use crate::{Measurement, Sample, Version, constructed_integer, parsed_integer};
+use crate::{Measurement, Sample, Version, constructed_integer, parsed_integer, parsed_pair};
 use std::test::Fail;
 use yasna::{ASN1ErrorKind, decode_ber, decode_der, encode_der};
 
@@ -65,6 +65,19 @@ fn samples(rt: HostRuntime) -> Result<(), Fail> {
     assert_eq!(rt;
         refused.err().map(|error| error.kind()),
         Some(ASN1ErrorKind::Eof)
+    );
+    Ok(())
+}
+
+#[test]
+fn pairs(rt: HostRuntime) -> Result<(), Fail> {
+    let alloc = rt.alloc();
+    let pair = parsed_pair(alloc, &[48, 6, 2, 1, 10, 1, 1, 255])?;
+    assert_eq!(rt; pair, (10, true));
+    let refused = parsed_pair(alloc, &[48, 6, 2, 1, 10, 1, 1, 1]);
+    assert_eq!(rt;
+        refused.err().map(|error| error.kind()),
+        Some(ASN1ErrorKind::Invalid)
     );
     Ok(())
 }

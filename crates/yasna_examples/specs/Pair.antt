@@ -1,0 +1,17 @@
+-- A SEQUENCE of an INTEGER and a BOOLEAN.
+use Rattle.std.specs.Prelude.{ℕ, List, ℤ, Bool}
+use Rattle.std.specs.Int.{w64}
+use Rattle.yasna.specs.base.declared.mode.BERMode.{BERMode}
+use Rattle.yasna.specs.base.Boolean.{EncodesBoolean}
+use Rattle.yasna.specs.base.Coding.{Any}
+use Rattle.yasna.specs.base.Element.{Enclosed, AnyEnclosed}
+use Rattle.yasna.specs.base.Integer.{EncodesSigned}
+use Rattle.yasna.specs.base.Sequence.{sequence_tag, PartOf, NoParts, AnyPart, AnyNothing}
+
+-- the bytes encode the number and the flag
+abbrev pub EncodesPair : BERMode → ℕ → ℤ × Bool → List ℕ → Type 0
+EncodesPair m n v b = Enclosed (PartOf (EncodesSigned w64) (PartOf EncodesBoolean NoParts)) sequence_tag m n (v.0, (v.1, tt)) b
+
+-- what that asks of the bytes alone
+abbrev pub AnyPair : BERMode → ℕ → List ℕ → Type 0
+AnyPair = AnyEnclosed (AnyPart (Any (EncodesSigned w64)) (AnyPart (Any EncodesBoolean) AnyNothing)) sequence_tag
