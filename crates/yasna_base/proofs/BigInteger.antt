@@ -1,5 +1,5 @@
 -- The laws of INTEGER of any size.
-use Rattle.std.proofs.Common.{◌≡◌, ℕ, ◌^◌, ◌<◌, ◌≤◌, List, [], ◌∷◌, refl, ap, ◌∙◌, sym, inl, inr, arith, zero, suc, subst, ◌-◌, pos, Bool, true, false, cond, ◌↔◌, IsTrue, ◌≤ℤ◌}
+use Rattle.std.proofs.Common.{◌≡◌, ℕ, ◌^◌, ◌<◌, List, [], ◌∷◌, refl, ap, ◌∙◌, sym, inl, inr, arith, zero, suc, subst, pos, Bool, true, false, cond, ◌↔◌, IsTrue, ◌≤ℤ◌}
 use Rattle.std.proofs.Math.Dec.{eqb-suc-zero}
 use Rattle.std.proofs.lemmas.Bool.{cases_lt}
 use Rattle.std.proofs.lemmas.Int.{ints}

@@ -1,9 +1,9 @@
 -- The laws of BOOLEAN.
-use Rattle.std.proofs.Common.{◌≡◌, ℕ, ◌^◌, ◌<◌, List, [], ◌∷◌, refl, ap, ◌∙◌, sym, arith, subst, ◌-◌, Bool, true, false}
+use Rattle.std.proofs.Common.{◌≡◌, ℕ, ◌^◌, ◌<◌, List, [], ◌∷◌, refl, ap, ◌∙◌, sym, arith, subst, Bool}
 use Rattle.yasna_base.specs.declared.mode.BERMode.{BERMode}
 use Rattle.yasna_base.specs.declared.mode.BERMode.TheVariants.{Ber, Der}
 use Rattle.yasna_base.specs.declared.tag.Tag.{Tag}
-use Rattle.yasna_base.specs.Boolean.{SaysTrue, IsBoolean, says_false, says_true, EncodesBoolean, boolean_byte, boolean_form}
+use Rattle.yasna_base.specs.Boolean.{SaysTrue, IsBoolean, EncodesBoolean, boolean_byte, boolean_form}
 use Rattle.yasna_base.specs.Canonical.{IsCanonicalMode, leaf_nest, Always, IsWritten}
 use Rattle.yasna_base.specs.Coding.{IsCoding, Any}
 use Rattle.yasna_base.specs.Digits.{IsBytes}

@@ -1,6 +1,6 @@
 -- Elements: neither of two begins the other, equal bytes have equal parts, and what a header that was read says of an
 -- element that the same bytes begin with.
-use Rattle.std.proofs.Common.{◌≡◌, ℕ, ◌+◌, List, ◌∷◌, ◌++◌, length, ap, ◌∙◌, sym, append_assoc, ◌-◌}
+use Rattle.std.proofs.Common.{◌≡◌, ℕ, List, ◌∷◌, ◌++◌, length, ap, ◌∙◌, sym, append_assoc}
 use Rattle.yasna_base.specs.declared.mode.BERMode.{BERMode}
 use Rattle.yasna_base.specs.declared.mode.BERMode.TheVariants.{Ber, Der}
 use Rattle.yasna_base.specs.declared.tag.PCBit.{PCBit}
@@ -9,7 +9,7 @@ use Rattle.yasna_base.specs.declared.tag.Tag.{Tag}
 use Rattle.yasna_base.specs.Element.{TakesIndefinite, Definite, Indefinite, Framed, definite, indefinite, Element}
 use Rattle.yasna_base.specs.Identifier.{identifier, end_tag, BeginsWithTag, begins, StartsElement, AtEnd}
 use Rattle.yasna_base.specs.Length.{SpellsLength}
-use Rattle.yasna_base.proofs.Identifier.{identifier_exact, zeros_at_end, not_end}
+use Rattle.yasna_base.proofs.Identifier.{identifier_exact, zeros_at_end}
 use Rattle.yasna_base.proofs.Length.{length_exact, length_not_indefinite}
 use Rattle.yasna_base.proofs.Lists.{fronts_same}
 

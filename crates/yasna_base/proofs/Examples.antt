@@ -1,11 +1,11 @@
 -- Worked examples: what the definitions say of single values and bytes.
-use Rattle.std.proofs.Common.{◌≡◌, ℕ, List, [], ◌∷◌, refl, arith, subst, ◌-◌, ℤ, pos, negsuc, Bool, true, false}
+use Rattle.std.proofs.Common.{◌≡◌, ℕ, List, [], ◌∷◌, refl, arith, subst, ℤ, pos, negsuc, Bool}
 use Rattle.std.specs.Int.{w64}
 use Rattle.yasna_base.specs.declared.mode.BERMode.{BERMode}
 use Rattle.yasna_base.specs.declared.mode.BERMode.TheVariants.{Ber, Der}
 use Rattle.yasna_base.specs.declared.tag.PCBit.TheVariants.{Primitive, Constructed}
 use Rattle.yasna_base.specs.declared.tag.TagClass.TheVariants.{ContextSpecific}
-use Rattle.yasna_base.specs.Boolean.{IsBoolean, says_true, EncodesBoolean, boolean_form}
+use Rattle.yasna_base.specs.Boolean.{IsBoolean, EncodesBoolean, boolean_form}
 use Rattle.yasna_base.specs.Canonical.{definite_element, canonical_element, enclosed_form}
 use Rattle.yasna_base.specs.Digits.{IsBytes, digits, base128}
 use Rattle.yasna_base.specs.Element.{Element, indefinite, Primitively, Enclosed}

@@ -1,5 +1,5 @@
 -- An identifier at the front of bytes shows its tag, its bit and its own end.
-use Rattle.std.proofs.Common.{◌≡◌, ℕ, ◌+◌, ◌<◌, ◌≤◌, List, [], ◌∷◌, ◌++◌, length, refl, ap, ◌∙◌, sym, inl, inr, arith, ap₂, length-append, append_assoc, subst, ◌-◌, lt-ltb, le-ltb}
+use Rattle.std.proofs.Common.{◌≡◌, ℕ, ◌<◌, ◌≤◌, List, [], ◌∷◌, ◌++◌, length, refl, ap, ◌∙◌, sym, inl, inr, arith, ap₂, length-append, subst, lt-ltb, le-ltb}
 use Rattle.std.proofs.lemmas.Bool.{cases_lt}
 use Rattle.yasna_base.specs.declared.tag.PCBit.{PCBit}
 use Rattle.yasna_base.specs.declared.tag.PCBit.TheVariants.{Primitive, Constructed}
@@ -7,7 +7,7 @@ use Rattle.yasna_base.specs.declared.tag.Tag.{Tag}
 use Rattle.yasna_base.specs.declared.tag.TagClass.{TagClass}
 use Rattle.yasna_base.specs.declared.tag.TagClass.TheVariants.{Universal, Application, ContextSpecific, Private}
 use Rattle.yasna_base.specs.Digits.{IsBytes, base128}
-use Rattle.yasna_base.specs.Identifier.{class_number, bit_number, leading_byte, identifier, universal, end_tag, BeginsWithTag, begins, StartsElement, AtEnd, nothing, end}
+use Rattle.yasna_base.specs.Identifier.{class_number, bit_number, leading_byte, identifier, universal, end_tag, BeginsWithTag, begins, AtEnd, end}
 use Rattle.yasna_base.proofs.Digits.{base128_exact, base128_bytes}
 use Rattle.yasna_base.proofs.Lists.{fronts_as}
 
@@ -90,19 +90,6 @@ begins_once t u s (begins p r e) (begins q v f) = (identifier_exact t u p q r v 
 -- bytes that begin with an identifier aren't empty
 pub begins_some : (t : Tag) (s : List ℕ) → BeginsWithTag t s → 1 ≤ length s
 begins_some t s (begins p r e) = omega (arith, identifier_some t p, ap length e, length-append (identifier t p) r)
-
--- more bytes behind change no identifier at the front
-pub begins_more : (t : Tag) (s r : List ℕ) → BeginsWithTag t s → BeginsWithTag t (s ++ r)
-begins_more t s r (begins p v e) = begins p (v ++ r) (ap (λ z. z ++ r) e ∙ append_assoc (identifier t p) v r)
-
--- what starts an element still does with more bytes behind
-pub starts_more : (s r : List ℕ) → StartsElement s → StartsElement (s ++ r)
-starts_more s r x = record { tag = x.tag; in_range = x.in_range; not_end = x.not_end; begins = begins_more x.tag s r x.begins }
-
--- no element starts where contents end
-pub starts_not_end : (s : List ℕ) → StartsElement s → AtEnd s → ⊥
-starts_not_end s x (nothing e) = omega (arith, begins_some x.tag s x.begins, ap length e)
-starts_not_end s x (end y) = x.not_end (begins_once x.tag end_tag s x.begins y)
 
 -- the identifier of the end of contents is a zero
 pub end_identifier : (r : List ℕ) → identifier end_tag Primitive ++ r ≡ 0 ∷ r

@@ -14,7 +14,7 @@ use Rattle.yasna_base.specs.Coding.{IsCoding, Any}
 use Rattle.yasna_base.specs.Digits.{IsBytes, digits}
 use Rattle.yasna_base.specs.Element.{Primitively}
 use Rattle.yasna_base.specs.Identifier.{universal, end_tag}
-use Rattle.yasna_base.specs.Integer.{twos, IsMinimal, IsInteger, IsNumber, IsSigned, IsUnsigned, EncodesSigned, EncodesUnsigned, unsigned_bytes, minimal_bytes, integer_form}
+use Rattle.yasna_base.specs.Integer.{twos, distance, IsMinimal, IsInteger, IsNumber, IsSigned, IsUnsigned, EncodesSigned, EncodesUnsigned, unsigned_bytes, minimal_bytes, integer_form}
 use Rattle.yasna_base.proofs.Canonical.{primitively_written}
 use Rattle.yasna_base.proofs.Coding.{primitively}
 use Rattle.yasna_base.proofs.Digits.{number_cons, digits_determined, digits_below, digits_some, digits_first, number_digits}
@@ -66,18 +66,13 @@ negative_below x y ys b m h =
 pub negative_is : (x : ℕ) (xs : List ℕ) → IsBytes (x ∷ xs) → 128 ≤ x → twos (x ∷ xs) ≡ negsuc (256 ^ length (x ∷ xs) - 1 - number_from_digits 256 (x ∷ xs))
 negative_is x xs b h = twos_negative x xs h ∙ omega (arith, ints, number_lt 256 (x ∷ xs) b)
 
--- how far a number is from 0, or from -1 below it
-abbrev size : ℤ → ℕ
-size (pos n) = n
-size (negsuc n) = n
-
-size_below : (x : ℕ) (xs : List ℕ) → IsBytes (x ∷ xs) → size (twos (x ∷ xs)) < 128 * 256 ^ length xs
+size_below : (x : ℕ) (xs : List ℕ) → IsBytes (x ∷ xs) → distance (twos (x ∷ xs)) < 128 * 256 ^ length xs
 size_below x xs b = elim (cases_lt x 128) [
   | inl h ↦ rw (twos_positive x xs h) (number_below x xs b h)
   | inr h ↦ rw (negative_is x xs b h) (omega (arith, number_above x xs h, number_lt 256 (x ∷ xs) b, pow-suc 256 (length xs)))
 ]
 
-size_above : (x y : ℕ) (ys : List ℕ) → IsBytes (x ∷ y ∷ ys) → IsMinimal (x ∷ y ∷ ys) → 128 * 256 ^ length ys ≤ size (twos (x ∷ y ∷ ys))
+size_above : (x y : ℕ) (ys : List ℕ) → IsBytes (x ∷ y ∷ ys) → IsMinimal (x ∷ y ∷ ys) → 128 * 256 ^ length ys ≤ distance (twos (x ∷ y ∷ ys))
 size_above x y ys b m = elim (cases_lt x 128) [
   | inl h ↦ rw (twos_positive x (y ∷ ys) h) (positive_above x y ys m h)
   | inr h ↦ rw (negative_is x (y ∷ ys) b h) (omega (arith, negative_below x y ys b m h))
@@ -87,7 +82,7 @@ not_longer : (x y : ℕ) (xs ys : List ℕ) → IsBytes (x ∷ xs) → IsBytes (
 not_longer x y xs [] b c m e = omega arith
 not_longer x y xs (z ∷ zs) b c m e = elim (cases_lt (length xs) (length (z ∷ zs))) [
   | inl h ↦ let k : length xs ≤ length zs = omega arith in let p : 256 ^ length xs ≤ 256 ^ length zs = pow-le-pow_right (omega arith) k in
-      absurd (omega (arith, ap size e, size_below x xs b, size_above y z zs c m))
+      absurd (omega (arith, ap distance e, size_below x xs b, size_above y z zs c m))
   | inr h ↦ h
 ]
 

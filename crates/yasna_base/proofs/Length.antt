@@ -1,10 +1,8 @@
 -- The length octets: of two spelled lengths neither begins the other, the fewest bytes are a spelling, and what bytes that
 -- begin with a spelled length look like.
-use Rattle.std.proofs.Common.{◌≡◌, ℕ, ◌+◌, ◌^◌, ◌<◌, ◌≤◌, List, [], ◌∷◌, ◌++◌, length, get_or, take, drop, refl, ap, ◌∙◌, sym, inl, inr, arith, subst, ◌-◌, le-ltb}
+use Rattle.std.proofs.Common.{◌≡◌, ℕ, ◌+◌, ◌^◌, ◌<◌, ◌≤◌, List, [], ◌∷◌, ◌++◌, length, get_or, refl, ap, ◌∙◌, sym, inl, inr, arith, subst, le-ltb}
 use Rattle.std.proofs.lemmas.Bool.{cases_lt}
 use Rattle.std.proofs.lemmas.Bool.Decides.{nat_tests}
-use Rattle.std.proofs.lemmas.Int.Digits.{number_after_append, number_after_ge}
-use Rattle.std.proofs.lemmas.List.{take-append-drop}
 use Rattle.std.specs.Int.Digits.{number_from_digits}
 use Rattle.yasna_base.specs.declared.mode.BERMode.{BERMode}
 use Rattle.yasna_base.specs.declared.mode.BERMode.TheVariants.{Ber, Der}
@@ -89,14 +87,6 @@ pub shortest_only : (ds : List ℕ) → IsBytes ds → 0 < get_or ds 0 0 → 128
     shortest_length (number_from_digits 256 ds) ≡ (128 + length ds) ∷ ds
 unfolding shortest_length
 shortest_only ds p h k = rw (le-ltb (number_from_digits 256 ds) 128 k) (ap (λ x. (128 + length x) ∷ x) (digits_only 256 ds (omega arith) p h))
-
--- the number of the first digits is at most that of all
-pub number_front : (i : ℕ) (ds : List ℕ) → number_from_digits 256 (take i ds) ≤ number_from_digits 256 ds
-number_front i ds =
-    let whole = ap (number_from_digits 256) (take-append-drop i ds) in
-    let split = number_after_append 256 0 (take i ds) (drop i ds) in
-    let above = number_after_ge 256 (number_from_digits 256 (take i ds)) (drop i ds) (omega arith) in
-    omega arith
 
 -- x is the length k itself, or counts the digits of k that y begins with
 pub data LengthFront (m : BERMode) (x : ℕ) (y : List ℕ) (k : ℕ) : Type 0 where

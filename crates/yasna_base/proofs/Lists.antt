@@ -1,5 +1,5 @@
 -- Lists that agree after joining.
-use Rattle.std.proofs.Common.{◌≡◌, ℕ, get_or, ◌+◌, List, [], ◌∷◌, ◌++◌, length, refl, ap, ◌∙◌, sym, inl, inr, arith, ◌-◌, ◌⊎◌}
+use Rattle.std.proofs.Common.{◌≡◌, ℕ, get_or, List, [], ◌∷◌, ◌++◌, length, refl, ap, ◌∙◌, sym, inl, inr, arith, ◌⊎◌}
 
 -- fronts of one length of two equal lists are equal, and so are the rests
 pub fronts_same : {A : Type 0} → (a b r s : List A) → length a ≡ length b → a ++ r ≡ b ++ s → (a ≡ b) × (r ≡ s)

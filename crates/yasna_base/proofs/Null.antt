@@ -1,5 +1,5 @@
 -- The laws of NULL.
-use Rattle.std.proofs.Common.{◌≡◌, ◌^◌, ◌<◌, [], refl, arith, ◌-◌}
+use Rattle.std.proofs.Common.{◌≡◌, ◌^◌, ◌<◌, [], refl, arith}
 use Rattle.yasna_base.specs.declared.tag.Tag.{Tag}
 use Rattle.yasna_base.specs.Canonical.{leaf_nest, Always, IsWritten}
 use Rattle.yasna_base.specs.Coding.{IsCoding, Any}

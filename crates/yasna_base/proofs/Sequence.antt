@@ -1,5 +1,5 @@
 -- The laws of parts, one after the other, and of a SEQUENCE of them.
-use Rattle.std.proofs.Common.{◌≡◌, ℕ, ◌+◌, List, [], ◌++◌, refl, ap, ◌∙◌, sym, arith, length-append, append_assoc, subst, ◌-◌, max}
+use Rattle.std.proofs.Common.{◌≡◌, ℕ, List, [], ◌++◌, refl, ap, ◌∙◌, sym, arith, length-append, append_assoc, subst, max}
 use Rattle.yasna_base.specs.declared.mode.BERMode.{BERMode}
 use Rattle.yasna_base.specs.Canonical.{enclosed_form, enclosed_nest, Always, IsWritten}
 use Rattle.yasna_base.specs.Coding.{IsCoding, ArePartsCoding}

@@ -20,6 +20,11 @@ twos (x ∷ xs) =
     then pos (number_from_digits 256 (x ∷ xs))
     else pos (number_from_digits 256 (x ∷ xs)) -ℤ pos (256 ^ length (x ∷ xs))
 
+-- how far a number is from 0, or from -1 below it
+abbrev pub distance : ℤ → ℕ
+distance (pos n) = n
+distance (negsuc n) = n
+
 -- one byte at least, and where there are two, the first nine bits aren't all equal
 abbrev pub IsMinimal : List ℕ → Type 0
 IsMinimal [] = ⊥

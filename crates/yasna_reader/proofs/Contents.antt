@@ -7,7 +7,7 @@ use Rattle.yasna_base.specs.declared.tag.Tag.{Tag}
 use Rattle.yasna_base.specs.declared.tag.PCBit.TheVariants.{Primitive}
 use Rattle.yasna_base.specs.Identifier.{identifier, BeginsWithTag}
 use Rattle.yasna_base.specs.Length.{IsLongLength, one_byte, counted}
-use Rattle.yasna_base.specs.Element.{Element, definite, indefinite, TakesIndefinite, IsPrimitive, Framed}
+use Rattle.yasna_base.specs.Element.{definite, indefinite, TakesIndefinite, IsPrimitive, Framed}
 use Rattle.yasna_base.proofs.Length.{spells_long}
 use Rattle.yasna_base.proofs.Element.{primitive_exact}
 use Rattle.yasna_reader.specs.declared.bytes.header.Refusal.{Refusal}

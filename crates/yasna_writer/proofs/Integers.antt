@@ -11,11 +11,11 @@ use Rattle.std.proofs.lemmas.Int.Digits.{number_lt}
 use Rattle.std.proofs.lemmas.Bool.{cases_eq, cases_lt, lt-leb, le-leb}
 use Rattle.std.proofs.lemmas.Int.{ints}
 use Rattle.yasna_base.specs.Digits.{IsBytes}
-use Rattle.yasna_base.specs.Integer.{twos, IsMinimal, minimal_bytes, IsInteger}
+use Rattle.yasna_base.specs.Integer.{twos, IsMinimal, minimal_bytes, IsInteger, distance}
 use Rattle.yasna_base.proofs.Digits.{number_cons}
 use Rattle.yasna_base.proofs.Integer.{twos_positive, twos_negative, negative_is, number_above, number_below, minimal_only}
 use Rattle.yasna_base.specs.BigInteger.{without, signed_number, signed_or_zero, big_integer}
-use Rattle.yasna_writer.specs.Integer.{sign_byte, sign_front, distance}
+use Rattle.yasna_writer.specs.Integer.{sign_byte, sign_front}
 use Rattle.yasna_writer.proofs.BigEndian.{be_bytes, be_number}
 use Rattle.yasna_writer.proofs.Without.{without_cases, without_bytes, without_first}
 

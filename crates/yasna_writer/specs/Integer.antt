@@ -1,5 +1,5 @@
 -- Numbers as bytes, highest first.
-use Rattle.std.specs.Prelude.{ℕ, List, [], ◌∷◌, Bool, true, false, if◌then◌else◌, nat_lt, nat_le, ℤ, pos, negsuc}
+use Rattle.std.specs.Prelude.{ℕ, List, [], ◌∷◌, Bool, true, false, if◌then◌else◌, nat_lt, nat_le}
 
 -- the byte that stands endlessly in front of a number in two's complement
 abbrev pub sign_byte : Bool → ℕ
@@ -15,8 +15,3 @@ needs_sign false (x ∷ xs) = nat_lt x 128
 -- that byte where it is needed
 abbrev pub sign_front : Bool → List ℕ → List ℕ
 sign_front positive b = if needs_sign positive b then sign_byte positive ∷ [] else []
-
--- how far a number is from 0, or from -1 below it
-abbrev pub distance : ℤ → ℕ
-distance (pos n) = n
-distance (negsuc n) = n

@@ -1,7 +1,8 @@
 //! The fewest bytes of a number, highest first (X.690, 8.3).
 ghost use Rattle.std.specs.Prelude.{◌≡◌, ◌-◌, ◌*◌, ◌^◌, ◌<◌, ◌≤◌};
 ghost use Rattle.yasna_base.specs.BigInteger.{without};
-ghost use Rattle.yasna_writer.specs.Integer.{sign_byte, needs_sign, sign_front, distance};
+ghost use Rattle.yasna_writer.specs.Integer.{sign_byte, needs_sign, sign_front};
+ghost use Rattle.yasna_base.specs.Integer.{distance};
 
 // The bytes without those equal to `byte` that stand in front.
 pub(crate) fn without(byte: u8, bytes: &[u8]) -> &[u8]

@@ -2,7 +2,7 @@ use Rattle.std.proofs.Common.{◌≡◌, ◌+◌, ◌-◌, ◌/◌, sym, ap, ◌
 use lib.Count.{count_leading_zeros}
 use Rattle.std.proofs.lemmas.Int.{to_z-of_z}
 use Rattle.std.specs.Int.{w64}
-use Rattle.yasna_writer.specs.Integer.{distance}
+use Rattle.yasna_base.specs.Integer.{distance}
 use Rattle.yasna_writer.proofs.Integers.{octets_hold}
 use Rattle.yasna_writer.proofs.integer.octets.Goals as goal
 
