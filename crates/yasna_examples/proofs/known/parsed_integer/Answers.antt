@@ -3,7 +3,6 @@ use Rattle.std.specs.Int.{w64}
 use Rattle.yasna.specs.base.declared.mode.BERMode.TheVariants.{Der}
 use Rattle.yasna.specs.base.Element.{Primitively}
 use Rattle.yasna.specs.base.Integer.{IsSigned}
-use Rattle.yasna.specs.base.Integer.{EncodesSigned}
 use Rattle.yasna.proofs.Laws.{signed_coding, signed_written}
 use Rattle.yasna.proofs.Closures.{leaf_by, parse_by, read_form, refuses_none}
 use Rattle.yasna_examples.proofs.known.parsed_integer.Goals as goal
