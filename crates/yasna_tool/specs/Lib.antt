@@ -2,3 +2,4 @@ pub mod Failures
 pub mod Ends
 pub mod Engine
 pub mod Words
+pub mod Kinds

@@ -1,17 +1,26 @@
 -- Which words the program takes.
-use Rattle.std.specs.Prelude.{◌≡◌, ◌⊎◌, List, [], ◌∷◌, ℕ, codes}
+use Rattle.std.specs.Prelude.{◌≡◌, List, [], ◌∷◌, ℕ, codes}
+use Rattle.yasna.specs.base.declared.mode.BERMode.{BERMode}
+use Rattle.yasna.specs.base.declared.mode.BERMode.TheVariants.{Ber, Der}
+use Rattle.yasna_tool.specs.declared.kind.Kind.{Kind}
+use Rattle.yasna_tool.specs.declared.kind.Kind.TheVariants.{Pair, Int, Bool, Null}
 
--- The bytes name a mode
-abbrev pub IsMode : List ℕ → Type 0
-IsMode m = (m ≡ codes "ber") ⊎ (m ≡ codes "der")
+-- the word for a mode
+abbrev pub mode_word : BERMode → List ℕ
+mode_word Ber = codes "ber"
+mode_word Der = codes "der"
 
--- The bytes name a kind of value
-abbrev pub IsKind : List ℕ → Type 0
-IsKind k = (k ≡ codes "pair") ⊎ (k ≡ codes "int") ⊎ (k ≡ codes "bool") ⊎ (k ≡ codes "null")
+-- the word for a kind of value
+abbrev pub kind_word : Kind → List ℕ
+kind_word Pair = codes "pair"
+kind_word Int = codes "int"
+kind_word Bool = codes "bool"
+kind_word Null = codes "null"
 
--- The words are a mode and a kind, and no more
+-- the words are this mode and this kind, and no more
+abbrev pub AreWords : BERMode → Kind → List (List ℕ) → Type 0
+AreWords m k words = words ≡ mode_word m ∷ kind_word k ∷ []
+
+-- the words are some mode and some kind, and no more
 abbrev pub AreTaken : List (List ℕ) → Type 0
-AreTaken [] = ⊥
-AreTaken (m ∷ []) = ⊥
-AreTaken (m ∷ k ∷ []) = IsMode m × IsKind k
-AreTaken (m ∷ k ∷ _ ∷ _) = ⊥
+AreTaken words = (m : BERMode) × (k : Kind) × AreWords m k words

@@ -4,11 +4,13 @@
 //! |---|---|
 //! | `ends` | where bytes come from and go to, with a count of failures |
 //! | `engine` | read to the end, decode, encode, write |
+//! | `kind` | the kinds of values that the program knows |
 //! | `tool` | the arguments, the texts of faults and the exit statuses |
 #![tactic(auto)]
 
 mod ends;
 mod engine;
+mod kind;
 #[cfg(test)]
 mod tests;
 mod tool;

@@ -1,12 +1,15 @@
 //! The program over any two ends: arguments, texts of faults, exit statuses.
-ghost use Rattle.std.specs.Prelude.{◌≡◌, ◌-◌, ◌^◌, ◌<◌, ◌≤◌, ◌⊎◌, map, OnOk, MatchOption};
-ghost use Rattle.std.specs.Io.KnownBytes.{IsAtEnd, Keeps};
+ghost use Rattle.std.specs.Prelude.{◌≡◌, ◌-◌, ◌^◌, ◌<◌, ◌≤◌, ◌⊎◌, ℕ, List, map, IfSome, MatchOption};
+ghost use Rattle.std.specs.Io.KnownBytes.{Appends, IsAtEnd, Keeps};
 ghost use Rattle.std.specs.String.{string_bytes};
-ghost use Rattle.yasna_tool.specs.Engine.{IfRefused, IfDevice};
-ghost use Rattle.yasna_tool.specs.Words.{IsMode, IsKind, AreTaken};
+ghost use Rattle.yasna.specs.base.declared.mode.BERMode.{BERMode};
+ghost use Rattle.yasna_tool.specs.Kinds.{Recodes};
+ghost use Rattle.yasna_tool.specs.Words.{mode_word, AreWords, AreTaken};
+ghost use Rattle.yasna_tool.specs.declared.kind.Kind.{Kind};
 
 use crate::ends::{Sink, Source};
-use crate::engine::{RunFault, run};
+use crate::engine::RunFault;
+use crate::kind::{Kind, kind_named, run_kind};
 use std::alloc::Global;
 use std::io::Write;
 use yasna::{ASN1Error, BERMode};
@@ -35,18 +38,9 @@ fn report_refusal<E: Write>(errors: &mut E, error: ASN1Error) -> u8
     1
 }
 
-/// A kind of value that the program knows.
-#[derive(Clone, Copy, PartialEq, Eq, Debug)]
-enum Kind {
-    Pair,
-    Int,
-    Bool,
-    Null,
-}
-
 /// The mode of this name.
 fn mode_named(word: &str) -> Option<BERMode>
-    ensures { MatchOption result (IsMode word.now → ⊥) (λ _. IsMode word.now) }
+    ensures { MatchOption result ((m : BERMode) → word.now ≡ mode_word m → ⊥) (λ m. word.now ≡ mode_word m) }
 {
     match word {
         "ber" => Some(BERMode::Ber),
@@ -55,22 +49,9 @@ fn mode_named(word: &str) -> Option<BERMode>
     }
 }
 
-/// The kind of this name.
-fn kind_named(word: &str) -> Option<Kind>
-    ensures { MatchOption result (IsKind word.now → ⊥) (λ _. IsKind word.now) }
-{
-    match word {
-        "pair" => Some(Kind::Pair),
-        "int" => Some(Kind::Int),
-        "bool" => Some(Kind::Bool),
-        "null" => Some(Kind::Null),
-        _ => None,
-    }
-}
-
 /// The mode and the kind that the words name, and no more.
 fn named(words: &[String]) -> Option<(BERMode, Kind)>
-    ensures { MatchOption result (AreTaken (map string_bytes words.now) → ⊥) (λ _. AreTaken (map string_bytes words.now)) }
+    ensures { MatchOption result (AreTaken (map string_bytes words.now) → ⊥) (λ x. AreWords x.0 x.1 (map string_bytes words.now)) }
 {
     let [mode, kind] = words else {
         return None;
@@ -78,30 +59,6 @@ fn named(words: &[String]) -> Option<(BERMode, Kind)>
     match (mode_named(mode.as_str()), kind_named(kind.as_str())) {
         (Some(mode), Some(kind)) => Some((mode, kind)),
         _ => None,
-    }
-}
-
-/// Runs over values of this kind.
-fn run_kind<R: Source, W: Sink>(
-    alloc: Global,
-    mode: BERMode,
-    kind: Kind,
-    reader: &mut R,
-    writer: &mut W,
-) -> Result<(), RunFault>
-    requires reads { R.failed reader.old < 2 ^ 64 - 1 }
-    requires writes { W.failed writer.old < 2 ^ 64 - 1 }
-    ensures to_the_end { OnOk result (IsAtEnd (R.remaining reader.new)) }
-    ensures refused { IfRefused result (λ _. Keeps (W.contents writer.old) (W.contents writer.new)) }
-    ensures device { IfDevice result ((R.failed reader.old < R.failed reader.new)
-        ⊎ (W.failed writer.old < W.failed writer.new)) }
-    ensures failed_read { R.failed reader.old < R.failed reader.new → Keeps (W.contents writer.old) (W.contents writer.new) }
-{
-    match kind {
-        Kind::Pair => run::<(i64, bool), R, W>(alloc, mode, reader, writer),
-        Kind::Int => run::<i64, R, W>(alloc, mode, reader, writer),
-        Kind::Bool => run::<bool, R, W>(alloc, mode, reader, writer),
-        Kind::Null => run::<(), R, W>(alloc, mode, reader, writer),
     }
 }
 
@@ -119,6 +76,8 @@ pub fn tool<R: Source, W: Sink, E: Write>(
     requires writes { W.failed writer.old < 2 ^ 64 - 1 }
     ensures status { result ≤ 3 }
     ensures ok { result ≡ 0 → IsAtEnd (R.remaining reader.new) }
+    // The words name a mode and a kind, and the DER form was written of what the bytes are in these.
+    ensures recoded { result ≡ 0 → (m : BERMode) × (k : Kind) × AreWords m k (map string_bytes words.now) × IfSome (R.remaining reader.old) (λ s. (out : List ℕ) × Recodes k m s out × Appends (W.contents writer.old) (W.contents writer.new) out) }
     ensures refused { result ≡ 1 → Keeps (W.contents writer.old) (W.contents writer.new) }
     ensures taken { AreTaken (map string_bytes words.now) ⊎ (result ≡ 2) }
     ensures not_taken { result ≡ 2 → AreTaken (map string_bytes words.now) → ⊥ }

@@ -1,0 +1,34 @@
+-- What bytes are as a kind of value, and what is written of them.
+use Rattle.std.specs.Prelude.{◌≡◌, ℕ, List, Bool, ℤ}
+use Rattle.std.specs.Int.{w64}
+use Rattle.yasna.specs.base.declared.mode.BERMode.{BERMode}
+use Rattle.yasna.specs.base.declared.mode.BERMode.TheVariants.{Der}
+use Rattle.yasna.specs.base.Identifier.{universal}
+use Rattle.yasna.specs.base.Element.{Enclosed}
+use Rattle.yasna.specs.base.Canonical.{enclosed_form}
+use Rattle.yasna.specs.base.Boolean.{EncodesBoolean, boolean_form}
+use Rattle.yasna.specs.base.Integer.{EncodesSigned, integer_form}
+use Rattle.yasna.specs.base.Null.{EncodesNull, null_form}
+use Rattle.yasna.specs.base.Sequence.{sequence_tag, PartOf, NoParts, part_form, nothing_form}
+use Rattle.yasna_tool.specs.declared.kind.Kind.{Kind}
+use Rattle.yasna_tool.specs.declared.kind.Kind.TheVariants as kind
+
+-- s encodes a value in the mode m, and out is its DER form
+pub record Recoded {A : Type 0} (B : BERMode → ℕ → A → List ℕ → Type 0) (form : BERMode → A → List ℕ) (m : BERMode) (s out : List ℕ) : Type 0 where
+  pub value : A
+  pub read : B m 101 value s
+  pub written : out ≡ form Der value
+
+-- a SEQUENCE of an INTEGER and a BOOLEAN
+abbrev pub EncodesPair : BERMode → ℕ → ℤ × Bool → List ℕ → Type 0
+EncodesPair m n v b = Enclosed (PartOf (EncodesSigned w64) (PartOf EncodesBoolean NoParts)) sequence_tag m n (v.0, (v.1, tt)) b
+
+abbrev pub pair_form : BERMode → ℤ × Bool → List ℕ
+pair_form m v = enclosed_form (part_form (integer_form (universal 2)) (part_form (boolean_form (universal 1)) nothing_form)) sequence_tag m (v.0, (v.1, tt))
+
+-- the same of each kind
+abbrev pub Recodes : Kind → BERMode → List ℕ → List ℕ → Type 0
+Recodes kind.Pair m s out = Recoded EncodesPair pair_form m s out
+Recodes kind.Int m s out = Recoded (EncodesSigned w64) (integer_form (universal 2)) m s out
+Recodes kind.Bool m s out = Recoded EncodesBoolean (boolean_form (universal 1)) m s out
+Recodes kind.Null m s out = Recoded EncodesNull (null_form (universal 5)) m s out
