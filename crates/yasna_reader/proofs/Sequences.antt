@@ -53,24 +53,24 @@ record Behind (c d : List ℕ) (after : ContentsEnd) (r : List ℕ) : Type 0 whe
   ends : EndsBefore after y r
 
 -- an element that stands where a header was read has its contents there
-opened : (m : BERMode) (t : Tag) (p : PCBit) (s c : List ℕ) (after : ContentsEnd) → OpensAt m t p s c after → (d b r : List ℕ) → Element m t p d b →
+placed : (m : BERMode) (t : Tag) (p : PCBit) (s c : List ℕ) (after : ContentsEnd) → OpensAt m t p s c after → (d b r : List ℕ) → Element m t p d b →
     s ≡ b ++ r → Behind c d after r
-opened m t p s c (counted a) x d b r y e =
+placed m t p s c (counted a) x d b r y e =
     let h = counted_header m m t t p p (length c) x.l d b (c ++ a) r x.spelled y.framed (sym x.joined ∙ e) in
     let f = fronts_same c d a r h.count h.behind in
     record { y = []; joined = f.0 ∙ sym (append-nil d); ends = (refl, sym f.1) }
-opened m t p s c uncounted x d b r y e =
+placed m t p s c uncounted x d b r y e =
     let h = uncounted_header m t t p p d b c r y.framed (sym x.joined ∙ e) in
     record { y = 0 ∷ 0 ∷ r; joined = h.behind; ends = refl }
 
 -- where contents end behind a header, an element stands
-record Stands (m : BERMode) (t : Tag) (p : PCBit) (s d r : List ℕ) : Type 0 where
+record StandsBefore (m : BERMode) (t : Tag) (p : PCBit) (s d r : List ℕ) : Type 0 where
   bytes : List ℕ
   joined : s ≡ bytes ++ r
   element : Element m t p d bytes
 
 closed : (m : BERMode) (t : Tag) (p : PCBit) (s c : List ℕ) (after : ContentsEnd) → OpensAt m t p s c after → (d y r : List ℕ) → c ≡ d ++ y →
-    EndsBefore after y r → Stands m t p s d r
+    EndsBefore after y r → StandsBefore m t p s d r
 closed m t p s c (counted a) x d y r e h =
     let f : c ≡ d = e ∙ ap (λ z. d ++ z) h.0 ∙ append-nil d in
     record {
@@ -134,7 +134,7 @@ module _ {A : Type 0} (asks : Bool) (C : BERMode → ℕ → A → List ℕ → 
       let T : Tells asks (AnyEnclosed S t s.mode s.levels) s.left e = record {
         none = λ q b v i j.
             let w = (within {A = Unit {0}} (λ m n u c. S m n c) t s.mode s.levels tt b j).1 in
-            let x = opened s.mode t Constructed s.left c after o w.contents b v w.element i in
+            let x = placed s.mode t Constructed s.left c after o w.contents b v w.element i in
             none q w.contents x.y v x.joined x.ends w.meaning;
         memory = memory;
       } in

@@ -33,16 +33,16 @@ module _ {A : Type 0} (asks : Bool) (C : BERMode → ℕ → A → List ℕ → 
   alone_contents among alone s (Err e) s' fresh h = kept_contents s'.kept s e s' h.tells h.kept
 
 -- the parts of a tuple are contents that were read up to their end
-pub parts_contents : {A : Type 0} {E : A → A → Type 0} {C : BERMode → ℕ → A → List ℕ → Type 0} {S : BERMode → ℕ → List ℕ → Type 0} → (asks : Bool) →
+pub parts_read : {A : Type 0} {E : A → A → Type 0} {C : BERMode → ℕ → A → List ℕ → Type 0} {S : BERMode → ℕ → List ℕ → Type 0} → (asks : Bool) →
     ArePartsCoding E C S → (s : Reading) (r : Result A ASN1Error) (s' : Reading) → IsFresh s → DecodesParts asks C S s r s' →
     DecodesContents asks C S s (unless_kept s'.kept r) s'
-parts_contents {C} {S} asks laws = alone_contents asks C S laws.meaning.among laws.alone
+parts_read {C} {S} asks laws = alone_contents asks C S laws.meaning.among laws.alone
 
 -- an element around the parts of a tuple
 pub parts_element : {A : Type 0} {E : A → A → Type 0} {C : BERMode → ℕ → A → List ℕ → Type 0} {S : BERMode → ℕ → List ℕ → Type 0} → (asks : Bool) →
     ArePartsCoding E C S → (t : Tag) → (t ≡ end_tag → ⊥) → (s : Reading) → IsFresh s → (r : Result A ASN1Error) (s' : Reading) →
     ReadsParts (DecodesParts asks C S) t s r s' → Decodes asks (Enclosed C t) (AnyEnclosed S t) s r s'
-parts_element {C} {S} asks laws = element asks C S (DecodesParts asks C S) (parts_contents asks laws)
+parts_element {C} {S} asks laws = element asks C S (DecodesParts asks C S) (parts_read asks laws)
 
 module _ {A V : Type 0} {E : A → A → Type 0} {B : BERMode → ℕ → A → List ℕ → Type 0} {S : BERMode → ℕ → List ℕ → Type 0} (laws : IsCoding E B S) (p q : Bool)
     (C : BERMode → ℕ → V → List ℕ → Type 0) (Q : BERMode → ℕ → List ℕ → Type 0) where

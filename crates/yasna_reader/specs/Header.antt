@@ -47,13 +47,13 @@ Holds m p y c (counted r) = (l : List ℕ) × TakesDefinite m p × SpellsLength 
 Holds m p y c uncounted = TakesIndefinite m p × (y ≡ 128 ∷ c)
 
 -- what follows an element that was cut off, if anything was
-abbrev pub end_of : Option (Bor (List ℕ)) → ContentsEnd
-end_of (Some a) = counted a.now
-end_of None = uncounted
+abbrev pub contents_end : Option (Bor (List ℕ)) → ContentsEnd
+contents_end (Some a) = counted a.now
+contents_end None = uncounted
 
 -- a length and contents, which are bytes, stand behind an identifier with the bit p
 abbrev pub ContentsAt : BERMode → PCBit → List ℕ → Result (Bor (List ℕ) × Option (Bor (List ℕ))) ASN1ErrorKind → Type 0
-ContentsAt m p y (Ok x) = IsBytes x.0.now × Holds m p y x.0.now (end_of x.1)
+ContentsAt m p y (Ok x) = IsBytes x.0.now × Holds m p y x.0.now (contents_end x.1)
 ContentsAt m p y (Err k) = IsPlain k × ((c : List ℕ) (f : ContentsEnd) → Holds m p y c f → ⊥)
 
 -- some header of the tag with a bit that P allows stands at the front, and a level is left for the element
@@ -79,12 +79,12 @@ RefusesHeader P m n t s e = Refuses (HasHeader P m n t s) (IsTooDeep n t s) ⊥ 
 
 -- a header of the tag stands at the front, and a level is left for the element
 abbrev pub OpenedAt : BERMode → ℕ → Tag → List ℕ → Result Opened Refusal → Type 0
-OpenedAt m n t s (Ok o) = (1 ≤ n) × OpensAt m t o.bit s o.within.now (end_of o.after)
+OpenedAt m n t s (Ok o) = (1 ≤ n) × OpensAt m t o.bit s o.within.now (contents_end o.after)
 OpenedAt m n t s (Err e) = RefusesHeader AnyBit m n t s e
 
 -- the same of a constructed element
 abbrev pub ConstructedAt : BERMode → ℕ → Tag → List ℕ → Result Opened Refusal → Type 0
-ConstructedAt m n t s (Ok o) = (1 ≤ n) × OpensAt m t Constructed s o.within.now (end_of o.after)
+ConstructedAt m n t s (Ok o) = (1 ≤ n) × OpensAt m t Constructed s o.within.now (contents_end o.after)
 ConstructedAt m n t s (Err e) = RefusesHeader OnlyConstructed m n t s e
 
 -- the contents v themselves are what is asked for

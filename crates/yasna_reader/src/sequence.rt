@@ -1,5 +1,5 @@
 //! Reads of constructed elements whose contents a callback reads (X.690, 8.9).
-ghost use Rattle.yasna_reader.specs.Header.{end_of};
+ghost use Rattle.yasna_reader.specs.Header.{contents_end};
 ghost use Rattle.yasna_reader.specs.Sequence.{ClosesFrom};
 
 use crate::bytes::header::{Opened, Refusal, close, constructed};
@@ -11,7 +11,7 @@ use yasna_base::tags::TAG_SEQUENCE;
 // What follows an element of which a callback left this many bytes to be read.
 #[inline(always)]
 fn close_from<'a>(opened: &Opened<'a>, remaining: usize) -> Result<&'a [u8], ASN1ErrorKind>
-    ensures { ClosesFrom (end_of opened.now.after) opened.now.within.now remaining result }
+    ensures { ClosesFrom (contents_end opened.now.after) opened.now.within.now remaining result }
 {
     let within = opened.within;
     if within.len() < remaining {
@@ -22,7 +22,7 @@ fn close_from<'a>(opened: &Opened<'a>, remaining: usize) -> Result<&'a [u8], ASN
 
 impl<'a> ReaderState<'a> {
     ghost use Rattle.std.specs.Prelude.{◌≡◌, ◌≤◌};
-    ghost use Rattle.yasna_reader.specs.Header.{end_of, ConstructedAt};
+    ghost use Rattle.yasna_reader.specs.Header.{contents_end, ConstructedAt};
     ghost use Rattle.yasna_reader.specs.State.{inside, untagged, tag_of};
     ghost use Rattle.yasna_reader.specs.Sequence.{Fails, Left, TakesParts, Runs, ReadsParts};
 
@@ -93,7 +93,7 @@ impl<'a> ReaderState<'a> {
         answer: ASN1Result<T>,
         left: &ReaderState<'a>,
     ) -> ASN1Result<T>
-        ensures { Left (end_of opened.now.after) opened.now.within.now left.now.kept left.now.left answer (untagged self.old) result self.new }
+        ensures { Left (contents_end opened.now.after) opened.now.within.now left.now.kept left.now.left answer (untagged self.old) result self.new }
     {
         self.tag = None;
         if let Some(error) = left.kept {

@@ -2,7 +2,7 @@
 ghost use Rattle.std.specs.Prelude.{◌≡◌, IsTrue, ◌↔◌};
 ghost use Rattle.yasna_base.specs.Element.{TakesIndefinite};
 ghost use Rattle.yasna_reader.specs.Refusal.{IsPlain};
-ghost use Rattle.yasna_reader.specs.Header.{ContentsAt, OpenedAt, ConstructedAt, PrimitiveAt, ClosesAt, end_of, uncounted};
+ghost use Rattle.yasna_reader.specs.Header.{ContentsAt, OpenedAt, ConstructedAt, PrimitiveAt, ClosesAt, contents_end, uncounted};
 
 use crate::bytes::cursor::Cursor;
 use crate::bytes::identifier::read_identifier;
@@ -158,7 +158,7 @@ pub fn primitive(cursor: Cursor<'_>, tag: Tag) -> Result<(&[u8], &[u8]), Refusal
 /// What follows an element whose contents were read as far as `rest`, where they end there.
 #[inline(always)]
 pub fn close<'a>(after: Option<&'a [u8]>, rest: &'a [u8]) -> Result<&'a [u8], ASN1ErrorKind>
-    ensures { ClosesAt (end_of after.entry) rest.now result }
+    ensures { ClosesAt (contents_end after.entry) rest.now result }
 {
     let Some(after) = after else {
         return end_of_contents(rest);

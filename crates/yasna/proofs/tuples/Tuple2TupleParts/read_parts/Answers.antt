@@ -14,4 +14,5 @@ returns-in-Err-read_parts g c =
     let left = c.read_parts.new.seq.reader in
     let h : Took (g.A.BERDecodable.encodes s.mode s.levels) s c.in-Ok.first m = search rules in
     let k : NotTook g.W.TupleParts.parts_ask (g.W.TupleParts.any_parts m.mode m.levels) m c.in-Err-read_parts.error left = search rules in
-    others_err g.met.A.BERDecodable.coding g.A.BERDecodable.asks_memory g.W.TupleParts.parts_ask g.W.TupleParts.parts g.W.TupleParts.any_parts s c.in-Ok.first m h c.in-Err-read_parts.error left k
+    others_err g.met.A.BERDecodable.coding g.A.BERDecodable.asks_memory g.W.TupleParts.parts_ask g.W.TupleParts.parts g.W.TupleParts.any_parts
+    s c.in-Ok.first m h c.in-Err-read_parts.error left k

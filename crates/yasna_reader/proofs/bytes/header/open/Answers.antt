@@ -2,7 +2,7 @@ use Rattle.std.proofs.Common.{rules, ◌≡◌, ◌<◌, ◌++◌, ◌^◌, leng
 use Rattle.yasna_base.specs.declared.tag.Tag.{Tag}
 use Rattle.yasna_base.specs.Identifier.{identifier, begins}
 use Rattle.yasna_reader.specs.Refusal.{nothing, another}
-use Rattle.yasna_reader.specs.Header.{AnyBit, HasHeader, end_of}
+use Rattle.yasna_reader.specs.Header.{AnyBit, HasHeader, contents_end}
 use Rattle.yasna_base.proofs.Lists.{empty_is}
 use Rattle.yasna_reader.proofs.Refusal.{elsewhere_refuses, deep_refuses}
 use Rattle.yasna_reader.proofs.Header.{header_begins, wanted_refuses, opened}
@@ -43,7 +43,7 @@ returns-in-Ok-contents c =
     let g : s ≡ identifier c.args.tag found.1 ++ found.2.now = subst (λ (t : Tag). s ≡ identifier t found.1 ++ found.2.now) f e in
     let w = c.in-Ok-contents.ensures {u = tt} in (
       omega arith,
-      opened c.args.cursor.mode c.args.tag found.1 s found.2.now c.in-Ok-contents.within.now (end_of c.in-Ok-contents.after) (search rules) g w.0
+      opened c.args.cursor.mode c.args.tag found.1 s found.2.now c.in-Ok-contents.within.now (contents_end c.in-Ok-contents.after) (search rules) g w.0
           w.1,
     )
 

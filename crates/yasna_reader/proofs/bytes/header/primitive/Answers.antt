@@ -1,5 +1,5 @@
 use Rattle.std.proofs.Common.{rules, refl}
-use Rattle.yasna_reader.specs.Header.{OpensAt, AreContents, counted, end_of}
+use Rattle.yasna_reader.specs.Header.{OpensAt, AreContents, counted, contents_end}
 use Rattle.yasna_reader.proofs.Header.{header_refuses, takes_primitive, other_primitive}
 use Rattle.yasna_reader.proofs.bytes.header.primitive.Goals as goal
 
@@ -15,7 +15,7 @@ returns-in-Constructed c =
     let p = c.args.cursor in
     let w = c.in-Ok.ensures {u = tt} in
     rw c.refuse-in-Constructed.ensures (other_primitive AreContents p.mode p.levels c.args.tag c.in-Ok.opened.bit p.left.now c.in-Ok.opened.within.now
-    (end_of c.in-Ok.opened.after) _ w.0 c.in-Constructed.is w.1 tt refl)
+    (contents_end c.in-Ok.opened.after) _ w.0 c.in-Constructed.is w.1 tt refl)
 
 pub returns-in-Err : goal.returns-in-Err
 returns-in-Err c = let p = c.args.cursor in header_refuses AreContents p.mode p.levels c.args.tag p.left.now c.in-Err.refusal (c.in-Err.ensures {u = tt})
