@@ -95,7 +95,10 @@ impl<'a> ReaderState<'a> {
     ) -> ASN1Result<T>
         ensures { Left (contents_end opened.now.after) opened.now.within.now left.now.kept left.now.left answer (untagged self.old) result self.new }
     {
-        self.tag = None;
+        // Mostly none waits: a branch is cheaper than the store.
+        if self.tag.is_some() {
+            self.tag = None;
+        }
         if let Some(error) = left.kept {
             return self.fail(error);
         }
