@@ -1,12 +1,12 @@
 -- The one form of an element in a canonical mode, and the laws of writing, of primitive elements, of what encloses others,
 -- and of what stands for others.
-use Rattle.std.proofs.Common.{◌≡◌, ℕ, ◌+◌, ◌^◌, ◌<◌, ◌≤◌, List, ◌++◌, length, refl, ap, ◌∙◌, arith, zero, suc, length-append, subst}
+use Rattle.std.proofs.Common.{◌≡◌, ◌↔◌, ℕ, ◌+◌, ◌^◌, ◌<◌, ◌≤◌, List, ◌++◌, length, refl, ap, ◌∙◌, arith, zero, suc, length-append, subst}
 use Rattle.yasna_base.specs.declared.mode.BERMode.{BERMode}
 use Rattle.yasna_base.specs.declared.mode.BERMode.TheVariants.{Ber, Der}
 use Rattle.yasna_base.specs.declared.tag.PCBit.{PCBit}
 use Rattle.yasna_base.specs.declared.tag.PCBit.TheVariants.{Primitive, Constructed}
 use Rattle.yasna_base.specs.declared.tag.Tag.{Tag}
-use Rattle.yasna_base.specs.Canonical.{IsCanonicalMode, HoldsForm, definite_element, canonical_element, leaf_nest, enclosed_form, enclosed_nest, IsWritten}
+use Rattle.yasna_base.specs.Canonical.{IsCanonicalMode, HoldsForm, definite_element, canonical_element, leaf_nest, enclosed_form, enclosed_nest, Always, IsWritten}
 use Rattle.yasna_base.specs.Digits.{IsBytes}
 use Rattle.yasna_base.specs.Element.{TakesDefinite, Definite, Framed, definite, indefinite, Element, Primitively, Enclosed}
 use Rattle.yasna_base.specs.Identifier.{identifier}
@@ -135,3 +135,28 @@ written_along f x = record {
   any = λ n v. x.any n (f v);
   same = λ m v w. x.same m (f v) (f w);
 }
+
+-- what keeps the laws keeps them where other words say which values can be written
+pub written_where : {A : Type 0} {E : A → A → Type 0} {B : BERMode → ℕ → A → List ℕ → Type 0} {form : BERMode → A → List ℕ}
+    {nest : BERMode → A → ℕ} {Can Can' : A → Type 0} →
+    ((v : A) → Can v ↔ Can' v) → IsWritten E B form nest Can → IsWritten E B form nest Can'
+written_where same x = record {
+  has = record {
+    in_bytes = λ m v can. x.has.in_bytes m v ((same v).1 can);
+    holds = λ m o n v h can. x.has.holds m o n v h ((same v).1 can);
+    only = λ m n v b h y. let z = x.has.only m n v b h y in (z.0, (same v).0 z.1, z.2);
+  };
+  any = λ n v b y. let z = x.any n v b y in ((same v).0 z.0, z.1);
+  same = λ m v w e. let z = x.same m v w e in (z.0, λ can. (same w).0 (z.1 ((same v).1 can)), z.2);
+}
+
+-- where every value can be written nothing is asked of one
+pub written_always : {A : Type 0} {E : A → A → Type 0} {B : BERMode → ℕ → A → List ℕ → Type 0} {form : BERMode → A → List ℕ}
+    {nest : BERMode → A → ℕ} {Can : A → Type 0} → ((v : A) → Can v) → IsWritten E B form nest Can → IsWritten E B form nest Always
+written_always can x = written_where (λ v. (λ c. tt, λ always. can v)) x
+
+-- whatever is read can be written
+pub can_be_written : {A : Type 0} {E : A → A → Type 0} {B : BERMode → ℕ → A → List ℕ → Type 0} {form : BERMode → A → List ℕ}
+    {nest : BERMode → A → ℕ} {Can : A → Type 0} → IsWritten E B form nest Can → (m : BERMode) (n : ℕ) (v : A) (b : List ℕ) → B m n v b → Can v
+can_be_written x Ber n v b h = (x.any n v b h).0
+can_be_written x Der n v b h = (x.has.only Der n v b tt h).1

@@ -5,8 +5,8 @@ use Rattle.yasna_base.specs.declared.tag.PCBit.TheVariants.{Primitive, Construct
 use Rattle.yasna_base.specs.declared.tag.Tag.{Tag}
 use Rattle.yasna_base.specs.Coding.{IsSame, IsCoding, ArePartsCoding, IsContentsCoding, Any}
 use Rattle.yasna_base.specs.Element.{Primitively, Enclosed, AnyEnclosed}
-use Rattle.yasna_base.specs.Identifier.{end_tag, StartsElement}
-use Rattle.yasna_base.proofs.Element.{element_exact, primitive_exact, element_starts}
+use Rattle.yasna_base.specs.Identifier.{end_tag, BeginsWithTag, StartsElement}
+use Rattle.yasna_base.proofs.Element.{element_exact, primitive_exact, element_starts, framed_begins}
 use Rattle.yasna_base.proofs.Identifier.{not_end}
 use Rattle.yasna_base.proofs.Lists.{append_same}
 
@@ -29,6 +29,25 @@ primitively W t not_end one = record {
   };
   opens = λ m n b x. element_starts m t Primitive x.1.contents b not_end x.1.element;
   alone = λ m n k b c r s x y e. (primitive_exact m m t t Primitive x.1.contents y.1.contents b c r s x.1.element y.1.element e).bytes;
+}
+
+-- and begins with its tag
+pub primitively_begins : {A : Type 0} (W : BERMode → A → List ℕ → Type 0) (t : Tag) (m : BERMode) (n : ℕ) (b : List ℕ) →
+    Any (λ m n v b. Primitively W n m t v b) m n b → BeginsWithTag t b
+primitively_begins W t m n b x = framed_begins m t Primitive x.1.contents b x.1.element.framed
+
+-- a type keeps the laws by any equivalence that follows from its own
+pub same_as : {A : Type 0} {E : A → A → Type 0} {B : BERMode → ℕ → A → List ℕ → Type 0} {S : BERMode → ℕ → List ℕ → Type 0} (F : A → A → Type 0) → IsSame F →
+    ((v w : A) → E v w → F v w) → IsCoding E B S → IsCoding F B S
+same_as F equal says x = record {
+  meaning = record {
+    equal = equal;
+    among = x.meaning.among;
+    exact = λ m n k v w b p q. says v w (x.meaning.exact m n k v w b p q);
+    deeper = x.meaning.deeper;
+  };
+  opens = x.opens;
+  alone = x.alone;
 }
 
 -- the parts of a tuple may be contents
@@ -93,6 +112,15 @@ along f x = record {
   };
   opens = x.opens;
   alone = x.alone;
+}
+
+-- what keeps the laws keeps them where no more is asked of bytes than to encode some value
+pub any_coding : {A : Type 0} {E : A → A → Type 0} {B : BERMode → ℕ → A → List ℕ → Type 0} {S : BERMode → ℕ → List ℕ → Type 0} → IsCoding E B S →
+    IsCoding E B (Any B)
+any_coding x = record {
+  meaning = record { equal = x.meaning.equal; among = λ m n v b y. (v, y); exact = x.meaning.exact; deeper = x.meaning.deeper };
+  opens = λ m n b y. x.opens m n b (x.meaning.among m n y.0 b y.1);
+  alone = λ m n k b c r s y z. x.alone m n k b c r s (x.meaning.among m n y.0 b y.1) (x.meaning.among m k z.0 c z.1);
 }
 
 -- no encoding begins another, and equal encodings have equal values

@@ -83,9 +83,14 @@ pub primitive_exact : (m o : BERMode) (t u : Tag) (q : PCBit) (c d b e r s : Lis
     b ++ r ≡ e ++ s → SameElement t u Primitive q c d b e r s
 primitive_exact m o t u q c d b e r s x y f = primitive_framed m o t u q c d b e r s x.framed y.framed f
 
-framed_begins : (m : BERMode) (t : Tag) (p : PCBit) (c b : List ℕ) → Framed m t p c b → BeginsWithTag t b
+-- an element begins with its tag
+pub framed_begins : (m : BERMode) (t : Tag) (p : PCBit) (c b : List ℕ) → Framed m t p c b → BeginsWithTag t b
 framed_begins m t p c b (definite x) = begins p _ x.joined
 framed_begins m t p c b (indefinite x) = begins p _ x.joined
+
+-- an element begins with its tag
+pub element_begins : (m : BERMode) (t : Tag) (p : PCBit) (c b : List ℕ) → Element m t p c b → BeginsWithTag t b
+element_begins m t p c b x = framed_begins m t p c b x.framed
 
 -- an element begins with its identifier
 pub element_starts : (m : BERMode) (t : Tag) (p : PCBit) (c b : List ℕ) → (t ≡ end_tag → ⊥) → Element m t p c b → StartsElement b

@@ -1,5 +1,5 @@
 -- Worked examples: what the definitions say of single values and bytes.
-use Rattle.std.proofs.Common.{◌≡◌, ℕ, List, [], ◌∷◌, refl, arith, subst, ℤ, pos, negsuc, Bool}
+use Rattle.std.proofs.Common.{◌≡◌, ℕ, List, [], ◌∷◌, refl, arith, subst, ℤ, pos, negsuc, Bool, suc}
 use Rattle.std.specs.Int.{w64}
 use Rattle.yasna_base.specs.declared.mode.BERMode.{BERMode}
 use Rattle.yasna_base.specs.declared.mode.BERMode.TheVariants.{Ber, Der}
@@ -9,7 +9,7 @@ use Rattle.yasna_base.specs.Boolean.{IsBoolean, EncodesBoolean, boolean_form}
 use Rattle.yasna_base.specs.Canonical.{definite_element, canonical_element, enclosed_form}
 use Rattle.yasna_base.specs.Digits.{IsBytes, digits, base128}
 use Rattle.yasna_base.specs.Element.{Element, indefinite, Primitively, Enclosed}
-use Rattle.yasna_base.specs.Identifier.{identifier, universal}
+use Rattle.yasna_base.specs.Identifier.{identifier, universal, begins}
 use Rattle.yasna_base.specs.Integer.{twos, IsMinimal, IsNumber, EncodesSigned, minimal_bytes, integer_form}
 use Rattle.yasna_base.specs.Length.{shortest_length}
 use Rattle.yasna_base.specs.Sequence.{sequence_tag, PartOf, NoParts, part_form, nothing_form}
@@ -17,6 +17,18 @@ use Rattle.yasna_base.proofs.Boolean.{bool_written}
 use Rattle.yasna_base.proofs.Canonical.{definite_is}
 use Rattle.yasna_base.proofs.Element.{primitive_exact}
 use Rattle.yasna_base.proofs.Integer.{signed_written}
+use Rattle.std.proofs.Math.Utf8.{encode}
+use Rattle.std.specs.Char.Utf16.{utf16_chars}
+use Rattle.std.specs.Prelude.{codes}
+use Rattle.yasna_base.specs.Cut.{Cut, whole, in_pieces}
+use Rattle.yasna_base.specs.Octets.{octets_tag, octets_cutting, IsDeepOctets, EncodesOctets}
+use Rattle.yasna_base.specs.Bits.{BitString, bits_tag, bits_cutting, AreFullBeforeLast, IsBits, bits_form}
+use Rattle.yasna_base.specs.Text.{EncodesText, IsBmp, IsPairedBmp}
+use Rattle.yasna_base.specs.Header.{uncounted}
+use Rattle.yasna_base.specs.Pieces.{Pieces}
+use Rattle.yasna_base.proofs.Octets.{octets_written}
+use Rattle.yasna_base.proofs.Bits.{bits_once, bits_has}
+use Rattle.yasna_base.proofs.Cut.{cut_of, cut_into, cut_deeper, cut_exact, cut_starts, deep_of, deep_at_zero, pieces_same}
 
 identifier_31 : identifier (record { tag_class = ContextSpecific; tag_number = 31 }) Constructed ≡ 191 ∷ 31 ∷ []
 unfolding identifier base128 digits
@@ -133,3 +145,150 @@ not_127 f InType m n v x =
     let minimal : IsMinimal (0 ∷ 127 ∷ []) = subst IsMinimal e x.meaning.integer.minimal in
     let h = minimal.0 refl in
     absurd (omega arith)
+
+-- an octet string of two pieces
+hello : (n : ℕ) → EncodesOctets Ber (suc (suc n)) (codes "Hello!") (36 ∷ 128 ∷ 4 ∷ 2 ∷ 72 ∷ 101 ∷ 4 ∷ 4 ∷ 108 ∷ 108 ∷ 111 ∷ 33 ∷ 0 ∷ 0 ∷ [])
+unfolding canonical_element definite_element identifier shortest_length digits
+hello n =
+    let form = (octets_written octets_tag (omega arith)).has.holds Der Ber (suc n) in
+    cut_of octets_cutting (suc n) Ber octets_tag (codes "Hello!") _ (in_pieces tt (4 ∷ 2 ∷ 72 ∷ 101 ∷ 4 ∷ 4 ∷ 108 ∷ 108 ∷ 111 ∷ 33 ∷ [])
+    ((72 ∷ 101 ∷ []) ∷ (108 ∷ 108 ∷ 111 ∷ 33 ∷ []) ∷ [])
+    (record { in_range = omega arith; in_bytes = search arith; framed = indefinite (record { taken = tt; joined = refl }) })
+    (record {
+      pieces = (4 ∷ 2 ∷ 72 ∷ 101 ∷ []) ∷ (4 ∷ 4 ∷ 108 ∷ 108 ∷ 111 ∷ 33 ∷ []) ∷ [];
+      each = (
+        form (72 ∷ 101 ∷ []) tt (search arith) (omega arith) (omega arith),
+        (form (108 ∷ 108 ∷ 111 ∷ 33 ∷ []) tt (search arith) (omega arith) (omega arith), tt),
+      );
+      joined = refl;
+    }) refl)
+
+hello_101 : EncodesOctets Ber 101 (codes "Hello!") (36 ∷ 128 ∷ 4 ∷ 2 ∷ 72 ∷ 101 ∷ 4 ∷ 4 ∷ 108 ∷ 108 ∷ 111 ∷ 33 ∷ 0 ∷ 0 ∷ [])
+hello_101 = hello 99
+
+-- DER takes no pieces
+hello_der : (n : ℕ) (v : List ℕ) → EncodesOctets Der n v (36 ∷ 6 ∷ 4 ∷ 1 ∷ 72 ∷ 4 ∷ 1 ∷ 105 ∷ []) → ⊥
+unfolding canonical_element definite_element identifier
+hello_der n v x = let e = ((octets_written octets_tag (omega arith)).has.only Der n v _ tt x).0 in absurd (cc)
+
+-- with one level the first piece is too deep
+hello_deep : IsDeepOctets 1 Ber octets_tag (36 ∷ 128 ∷ 4 ∷ 2 ∷ 72 ∷ 101 ∷ 0 ∷ 0 ∷ [])
+unfolding identifier
+hello_deep = deep_of octets_cutting 0 Ber octets_tag _ (record {
+  taken = tt;
+  contents = 4 ∷ 2 ∷ 72 ∷ 101 ∷ 0 ∷ 0 ∷ [];
+  end = uncounted;
+  opens = record { in_range = omega arith; in_bytes = search arith; taken = tt; joined = refl };
+  inside = record {
+    values = [];
+    front = [];
+    rest = 4 ∷ 2 ∷ 72 ∷ 101 ∷ 0 ∷ 0 ∷ [];
+    pieces = record { pieces = []; each = tt; joined = refl };
+    more = tt;
+    joined = refl;
+    deep = deep_at_zero octets_cutting Ber octets_tag _ (begins Primitive (2 ∷ 72 ∷ 101 ∷ 0 ∷ 0 ∷ []) refl);
+  };
+})
+
+-- a text that is cut inside a character
+accent : (n : ℕ) → EncodesText Ber (suc (suc n)) (233 ∷ []) (44 ∷ 6 ∷ 4 ∷ 1 ∷ 195 ∷ 4 ∷ 1 ∷ 169 ∷ [])
+unfolding canonical_element definite_element identifier shortest_length digits encode
+accent n =
+    let form = (octets_written octets_tag (omega arith)).has.holds Der Ber (suc n) in
+    record {
+      octets = 195 ∷ 169 ∷ [];
+      string = cut_of octets_cutting (suc n) Ber (universal 12) (195 ∷ 169 ∷ []) _ (in_pieces tt (4 ∷ 1 ∷ 195 ∷ 4 ∷ 1 ∷ 169 ∷ [])
+          ((195 ∷ []) ∷ (169 ∷ []) ∷ [])
+          (record {
+            in_range = omega arith;
+            in_bytes = search arith;
+            framed = definite_is Ber (universal 12) Constructed (4 ∷ 1 ∷ 195 ∷ 4 ∷ 1 ∷ 169 ∷ []) tt (omega arith);
+          })
+          (record {
+            pieces = (4 ∷ 1 ∷ 195 ∷ []) ∷ (4 ∷ 1 ∷ 169 ∷ []) ∷ [];
+            each = (form (195 ∷ []) tt (search arith) (omega arith) (omega arith), (form (169 ∷ []) tt (search arith) (omega arith) (omega arith), tt));
+            joined = refl;
+          }) refl);
+      meaning = record { is_text = record { characters = (refl, tt); in_class = (tt, tt) }; octets = refl };
+    }
+
+-- eight bits, and four
+bits_8 : BitString
+bits_8 = record { bytes = 1 ∷ []; count = 8 }
+
+bits_4 : BitString
+bits_4 = record { bytes = 240 ∷ []; count = 4 }
+
+bits_8_form : (n : ℕ) → IsBits (suc n) Ber bits_tag bits_8 (3 ∷ 2 ∷ 0 ∷ 1 ∷ [])
+unfolding canonical_element definite_element identifier shortest_length digits bits_8
+bits_8_form n = (bits_has bits_tag (omega arith)).holds Der Ber (suc n) bits_8 tt
+    (record { can = record { in_bytes = byte_1; enough = omega arith; least = omega arith; in_range = omega arith }; zeros = refl })
+    (omega arith) (omega arith)
+
+bits_4_form : (n : ℕ) → IsBits (suc n) Ber bits_tag bits_4 (3 ∷ 2 ∷ 4 ∷ 240 ∷ [])
+unfolding canonical_element definite_element identifier shortest_length digits bits_4
+bits_4_form n = (bits_has bits_tag (omega arith)).holds Der Ber (suc n) bits_4 tt
+    (record { can = record { in_bytes = search arith; enough = omega arith; least = omega arith; in_range = omega arith }; zeros = refl })
+    (omega arith) (omega arith)
+
+-- make twelve
+bits_12 : (n : ℕ) → IsBits (suc (suc n)) Ber bits_tag (record { bytes = 1 ∷ 240 ∷ []; count = 12 }) (35 ∷ 8 ∷ 3 ∷ 2 ∷ 0 ∷ 1 ∷ 3 ∷ 2 ∷ 4 ∷ 240 ∷ [])
+unfolding definite_element identifier shortest_length bits_8 bits_4
+bits_12 n = cut_of bits_cutting (suc n) Ber bits_tag _ _ (in_pieces tt (3 ∷ 2 ∷ 0 ∷ 1 ∷ 3 ∷ 2 ∷ 4 ∷ 240 ∷ []) (bits_8 ∷ bits_4 ∷ [])
+    (record {
+      in_range = omega arith;
+      in_bytes = search arith;
+      framed = definite_is Ber bits_tag Constructed (3 ∷ 2 ∷ 0 ∷ 1 ∷ 3 ∷ 2 ∷ 4 ∷ 240 ∷ []) tt (omega arith);
+    })
+    (record {
+      pieces = (3 ∷ 2 ∷ 0 ∷ 1 ∷ []) ∷ (3 ∷ 2 ∷ 4 ∷ 240 ∷ []) ∷ [];
+      each = (bits_8_form n, (bits_4_form n, tt));
+      joined = refl;
+    })
+    (record { full = (refl, tt); bytes = refl; count = refl; in_range = omega arith }))
+
+turned : Element Ber bits_tag Constructed (3 ∷ 2 ∷ 4 ∷ 240 ∷ 3 ∷ 2 ∷ 0 ∷ 1 ∷ []) (35 ∷ 8 ∷ 3 ∷ 2 ∷ 4 ∷ 240 ∷ 3 ∷ 2 ∷ 0 ∷ 1 ∷ [])
+unfolding definite_element identifier shortest_length
+turned = record {
+  in_range = omega arith;
+  in_bytes = search arith;
+  framed = definite_is Ber bits_tag Constructed (3 ∷ 2 ∷ 4 ∷ 240 ∷ 3 ∷ 2 ∷ 0 ∷ 1 ∷ []) tt (omega arith);
+}
+
+turned_pieces : (n : ℕ) → Pieces (IsBits (suc n) Ber bits_tag) (bits_4 ∷ bits_8 ∷ []) (3 ∷ 2 ∷ 4 ∷ 240 ∷ 3 ∷ 2 ∷ 0 ∷ 1 ∷ [])
+turned_pieces n = record {
+  pieces = (3 ∷ 2 ∷ 4 ∷ 240 ∷ []) ∷ (3 ∷ 2 ∷ 0 ∷ 1 ∷ []) ∷ [];
+  each = (bits_4_form n, (bits_8_form n, tt));
+  joined = refl;
+}
+
+not_turned : (n : ℕ) (v : BitString) →
+    Cut bits_cutting (IsBits (suc n) Ber bits_tag) Ber bits_tag v (35 ∷ 8 ∷ 3 ∷ 2 ∷ 4 ∷ 240 ∷ 3 ∷ 2 ∷ 0 ∷ 1 ∷ []) → ⊥
+unfolding bits_4
+not_turned n v (whole c x p) = let e = (primitive_exact Ber Ber bits_tag bits_tag Constructed c _ _ _ [] [] x turned refl).bit in absurd (cc)
+not_turned n v (in_pieces h c vs x p j) =
+    let starts = λ (u : BitString) (b : List ℕ). cut_starts bits_cutting (suc n) Ber bits_tag u b bits_once.piece in
+    let same = (pieces_same Ber bits_tag (cut_exact bits_once (suc n) (suc n) Ber bits_tag) starts starts vs (bits_4 ∷ bits_8 ∷ []) c _ _ _ [] [] x turned p
+    (turned_pieces n) refl).0 in
+    let full = (subst AreFullBeforeLast same j.full).0 in
+    absurd (omega arith)
+
+-- behind unused bits no piece may follow
+bits_end : (n : ℕ) (v : BitString) → IsBits n Ber bits_tag v (35 ∷ 8 ∷ 3 ∷ 2 ∷ 4 ∷ 240 ∷ 3 ∷ 2 ∷ 0 ∷ 1 ∷ []) → ⊥
+bits_end n v x =
+    not_turned n v (cut_into bits_cutting (suc n) Ber bits_tag v _ (cut_deeper bits_cutting n (suc (suc n)) Ber bits_tag v _ (omega arith) x))
+
+-- unused bits are written as zero
+bits_cleared : bits_form bits_tag Der (record { bytes = 255 ∷ []; count = 4 }) ≡ 3 ∷ 2 ∷ 4 ∷ 240 ∷ []
+unfolding canonical_element definite_element identifier shortest_length digits
+bits_cleared = refl
+
+-- a surrogate with no partner
+lone_surrogate : IsBmp Ber (0xFFFD ∷ []) (216 ∷ 0 ∷ [])
+unfolding utf16_chars
+lone_surrogate = record { even = refl; spelled = refl }
+
+-- a pair of surrogates is one character
+paired_surrogates : IsPairedBmp Ber (0x1_F600 ∷ []) (216 ∷ 61 ∷ 222 ∷ 0 ∷ [])
+unfolding utf16_chars
+paired_surrogates = record { even = refl; spelled = refl }

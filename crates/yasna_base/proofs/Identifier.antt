@@ -1,5 +1,5 @@
 -- An identifier at the front of bytes shows its tag, its bit and its own end.
-use Rattle.std.proofs.Common.{◌≡◌, ℕ, ◌<◌, ◌≤◌, List, [], ◌∷◌, ◌++◌, length, refl, ap, ◌∙◌, sym, inl, inr, arith, ap₂, length-append, subst, lt-ltb, le-ltb}
+use Rattle.std.proofs.Common.{◌≡◌, ℕ, ◌<◌, ◌≤◌, List, [], ◌∷◌, ◌++◌, length, refl, ap, ◌∙◌, sym, inl, inr, arith, ap₂, append_assoc, length-append, subst, lt-ltb, le-ltb}
 use Rattle.std.proofs.lemmas.Bool.{cases_lt}
 use Rattle.yasna_base.specs.declared.tag.PCBit.{PCBit}
 use Rattle.yasna_base.specs.declared.tag.PCBit.TheVariants.{Primitive, Constructed}
@@ -90,6 +90,10 @@ begins_once t u s (begins p r e) (begins q v f) = (identifier_exact t u p q r v 
 -- bytes that begin with an identifier aren't empty
 pub begins_some : (t : Tag) (s : List ℕ) → BeginsWithTag t s → 1 ≤ length s
 begins_some t s (begins p r e) = omega (arith, identifier_some t p, ap length e, length-append (identifier t p) r)
+
+-- and so do bytes that go on
+pub begins_with : (t : Tag) (s r : List ℕ) → BeginsWithTag t s → BeginsWithTag t (s ++ r)
+begins_with t s r (begins p x e) = begins p (x ++ r) (ap (λ z. z ++ r) e ∙ append_assoc (identifier t p) x r)
 
 -- the identifier of the end of contents is a zero
 pub end_identifier : (r : List ℕ) → identifier end_tag Primitive ++ r ≡ 0 ∷ r

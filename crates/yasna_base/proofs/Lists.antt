@@ -1,5 +1,5 @@
 -- Lists that agree after joining.
-use Rattle.std.proofs.Common.{◌≡◌, ℕ, get_or, List, [], ◌∷◌, ◌++◌, length, refl, ap, ◌∙◌, sym, inl, inr, arith, ◌⊎◌}
+use Rattle.std.proofs.Common.{◌≡◌, ℕ, get_or, List, [], ◌∷◌, ◌++◌, length, refl, ap, ◌∙◌, sym, inl, inr, arith, ◌⊎◌, length-append}
 
 -- fronts of one length of two equal lists are equal, and so are the rests
 pub fronts_same : {A : Type 0} → (a b r s : List A) → length a ≡ length b → a ++ r ≡ b ++ s → (a ≡ b) × (r ≡ s)
@@ -34,6 +34,14 @@ fronts_as r s f g e = sym (ap (λ z. z ++ r) f) ∙ e ∙ ap (λ z. z ++ s) g
 -- what follows a common front is equal
 pub append_same : {A : Type 0} → (a r s : List A) → a ++ r ≡ a ++ s → r ≡ s
 append_same a r s e = (fronts_same a a r s refl e).1
+
+-- what stands before a common rest is equal
+pub append_before : {A : Type 0} → (a b r : List A) → a ++ r ≡ b ++ r → a ≡ b
+append_before a b r e =
+    let n = ap length e in
+    let i = length-append a r in
+    let j = length-append b r in
+    (fronts_same a b r r (omega arith) e).0
 
 pub empty_is : {A : Type 0} → (s : List A) → length s ≡ 0 → s ≡ []
 empty_is [] e = refl

@@ -6,7 +6,7 @@ use Rattle.yasna_base.specs.declared.mode.BERMode.{BERMode}
 use Rattle.yasna_base.specs.declared.tag.Tag.{Tag}
 use Rattle.yasna_base.specs.Digits.{IsBytes}
 use Rattle.yasna_base.specs.Integer.{twos, IsMinimal, integer_form}
-use Rattle.yasna_base.specs.Laws.{KeepsLaws}
+use Rattle.yasna_base.specs.Laws.{PrimitiveKeepsLaws}
 
 -- bytes, highest first, and whether the number isn't negative
 pub record BigInteger : Type 0 where
@@ -50,4 +50,4 @@ pub record CanBigInteger (v : BigInteger) : Type 0 where
 
 -- INTEGER of any size keeps the laws under any tag
 abbrev pub BigIntegerKeepsLaws : Type 0
-BigIntegerKeepsLaws = KeepsLaws IsBigInteger big_integer_form CanBigInteger
+BigIntegerKeepsLaws = PrimitiveKeepsLaws IsBigInteger big_integer_form CanBigInteger

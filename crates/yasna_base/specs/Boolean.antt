@@ -8,7 +8,7 @@ use Rattle.yasna_base.specs.Digits.{IsBytes}
 use Rattle.yasna_base.specs.Identifier.{universal}
 use Rattle.yasna_base.specs.Element.{Primitively}
 use Rattle.yasna_base.specs.Canonical.{canonical_element, Always}
-use Rattle.yasna_base.specs.Laws.{KeepsLaws}
+use Rattle.yasna_base.specs.Laws.{PrimitiveKeepsLaws}
 
 -- any byte but 0 is true in BER, 255 alone in DER
 abbrev pub SaysTrue : BERMode → ℕ → Type 0
@@ -34,4 +34,4 @@ boolean_form t m v = canonical_element m t Primitive (boolean_byte v ∷ [])
 
 -- BOOLEAN keeps the laws under any tag
 abbrev pub BooleanKeepsLaws : Type 0
-BooleanKeepsLaws = KeepsLaws IsBoolean boolean_form Always
+BooleanKeepsLaws = PrimitiveKeepsLaws IsBoolean boolean_form Always

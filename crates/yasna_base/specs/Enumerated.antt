@@ -5,7 +5,7 @@ use Rattle.yasna_base.specs.declared.mode.BERMode.{BERMode}
 use Rattle.yasna_base.specs.Identifier.{universal}
 use Rattle.yasna_base.specs.Element.{Primitively}
 use Rattle.yasna_base.specs.Integer.{IsSigned, integer_form}
-use Rattle.yasna_base.specs.Laws.{KeepsLaws}
+use Rattle.yasna_base.specs.Laws.{PrimitiveKeepsLaws}
 
 -- the type's grammar under its own tag
 abbrev pub EncodesEnumerated : BERMode → ℕ → ℤ → List ℕ → Type 0
@@ -13,4 +13,4 @@ EncodesEnumerated m n v b = Primitively (IsSigned w64) n m (universal 10) v b
 
 -- ENUMERATED keeps the laws under any tag
 abbrev pub EnumeratedKeepsLaws : Type 0
-EnumeratedKeepsLaws = KeepsLaws (IsSigned w64) integer_form (FitsSigned w64)
+EnumeratedKeepsLaws = PrimitiveKeepsLaws (IsSigned w64) integer_form (FitsSigned w64)

@@ -10,7 +10,7 @@ use Rattle.yasna_base.specs.Digits.{IsBytes, digits}
 use Rattle.yasna_base.specs.Identifier.{universal}
 use Rattle.yasna_base.specs.Element.{Primitively}
 use Rattle.yasna_base.specs.Canonical.{canonical_element}
-use Rattle.yasna_base.specs.Laws.{KeepsLaws}
+use Rattle.yasna_base.specs.Laws.{PrimitiveKeepsLaws}
 
 -- two's complement: the number read unsigned, less 256 ^ length where the first bit is set
 unfoldable pub twos : List ℕ → ℤ
@@ -73,8 +73,8 @@ integer_form t m z = canonical_element m t Primitive (minimal_bytes z)
 
 -- a signed type of each width keeps the laws under any tag
 abbrev pub SignedKeepsLaws : Type 0
-SignedKeepsLaws = (w : Width) → KeepsLaws (IsSigned w) integer_form (FitsSigned w)
+SignedKeepsLaws = (w : Width) → PrimitiveKeepsLaws (IsSigned w) integer_form (FitsSigned w)
 
 -- an unsigned type of each count of bits keeps the laws under any tag
 abbrev pub UnsignedKeepsLaws : Type 0
-UnsignedKeepsLaws = (k : ℕ) → KeepsLaws (IsUnsigned k) (λ t m n. integer_form t m (pos n)) (λ n. n < 2 ^ k)
+UnsignedKeepsLaws = (k : ℕ) → PrimitiveKeepsLaws (IsUnsigned k) (λ t m n. integer_form t m (pos n)) (λ n. n < 2 ^ k)

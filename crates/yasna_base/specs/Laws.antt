@@ -27,10 +27,15 @@ PrimitiveElementsAreUnambiguous =
     (m : BERMode) (t u : Tag) (c d a b r s : List ℕ) → Element m t Primitive c a → Element m u Primitive d b → a ++ r ≡ b ++ s →
     (t ≡ u) × (c ≡ d) × (a ≡ b) × (r ≡ s)
 
--- A type without parts, whose contents say v by W, keeps the laws of reading and of writing under any tag but that of the
--- end of contents. Its values are equal only where they are one
-abbrev pub KeepsLaws : {A : Type 0} → (BERMode → A → List ℕ → Type 0) → (Tag → BERMode → A → List ℕ) → (A → Type 0) → Type 0
-KeepsLaws W form Can =
+-- A type, which B n m t v b says the bytes b to encode, keeps the laws of reading and of writing under any tag but that of
+-- the end of contents. Its values are equal only where they are one
+abbrev pub KeepsLaws : {A : Type 0} → (ℕ → BERMode → Tag → A → List ℕ → Type 0) → (Tag → BERMode → A → List ℕ) → (BERMode → A → ℕ) →
+    (A → Type 0) → Type 0
+KeepsLaws B form nest Can =
     (t : Tag) → (t ≡ end_tag → ⊥) → t.tag_number < 2 ^ 64 →
-    IsCoding (λ v w. v ≡ w) (λ m n v b. Primitively W n m t v b) (Any (λ m n v b. Primitively W n m t v b))
-    × IsWritten (λ v w. v ≡ w) (λ m n v b. Primitively W n m t v b) (form t) leaf_nest Can
+    IsCoding (λ v w. v ≡ w) (λ m n v b. B n m t v b) (Any (λ m n v b. B n m t v b))
+    × IsWritten (λ v w. v ≡ w) (λ m n v b. B n m t v b) (form t) nest Can
+
+-- the same of a type of primitive elements alone, whose contents say v by W
+abbrev pub PrimitiveKeepsLaws : {A : Type 0} → (BERMode → A → List ℕ → Type 0) → (Tag → BERMode → A → List ℕ) → (A → Type 0) → Type 0
+PrimitiveKeepsLaws W form Can = KeepsLaws (Primitively W) form leaf_nest Can

@@ -6,7 +6,7 @@ use Rattle.yasna_base.specs.declared.tag.PCBit.TheVariants.{Primitive}
 use Rattle.yasna_base.specs.Identifier.{universal}
 use Rattle.yasna_base.specs.Element.{Primitively}
 use Rattle.yasna_base.specs.Canonical.{canonical_element, Always}
-use Rattle.yasna_base.specs.Laws.{KeepsLaws}
+use Rattle.yasna_base.specs.Laws.{PrimitiveKeepsLaws}
 
 -- no contents
 abbrev pub IsNull : BERMode → Unit {0} → List ℕ → Type 0
@@ -21,4 +21,4 @@ null_form t m v = canonical_element m t Primitive []
 
 -- NULL keeps the laws under any tag
 abbrev pub NullKeepsLaws : Type 0
-NullKeepsLaws = KeepsLaws IsNull null_form Always
+NullKeepsLaws = PrimitiveKeepsLaws IsNull null_form Always

@@ -2,7 +2,9 @@
 //!
 //! These functions do nothing. Their contracts state the laws that every reader and every writer above relies on:
 //! bytes have one meaning, no encoding begins another, and each value has one form in DER.
-ghost use Rattle.std.specs.Prelude.{◌≡◌};
+ghost use Rattle.std.specs.Prelude.{◌≡◌, ◌<◌, ◌^◌, ℕ, List, length, true, MatchResult, IsTrue, ◌↔◌};
+ghost use Rattle.std.specs.List.{AllByRecursion};
+ghost use Rattle.std.specs.Cmp.Lexicographic.{slice_cmp};
 ghost use Rattle.std.specs.Ordering.{nat_cmp, ordering_then};
 ghost use Rattle.yasna_base.specs.declared.mode.BERMode.TheVariants.{Ber, Der};
 ghost use Rattle.yasna_base.specs.declared.mode.BERMode.{BERMode};
@@ -16,8 +18,21 @@ ghost use Rattle.yasna_base.specs.Null.{NullKeepsLaws};
 ghost use Rattle.yasna_base.specs.Integer.{SignedKeepsLaws, UnsignedKeepsLaws};
 ghost use Rattle.yasna_base.specs.Enumerated.{EnumeratedKeepsLaws};
 ghost use Rattle.yasna_base.specs.BigInteger.{BigIntegerKeepsLaws};
+ghost use Rattle.yasna_base.specs.Cut.{DeepIsNone};
+ghost use Rattle.yasna_base.specs.Octets.{octets_cutting, OctetsKeepLaws};
+ghost use Rattle.yasna_base.specs.Bits.{bits_cutting, BitsKeepLaws};
+ghost use Rattle.yasna_base.specs.Text.{InUtf8, InNumeric, InPrintable, InVisible, InIa5, TextKeepsLaws, BmpKeepsLaws};
+ghost use Rattle.yasna_base.specs.Oid.{OidKeepsLaws};
+ghost use Rattle.yasna_base.specs.OidText.{lacks_memory};
+ghost use Rattle.yasna_base.specs.declared.models.tagged_der_value.TaggedDerValue.{TaggedDerValue};
+ghost use Rattle.yasna_base.specs.TaggedDerValue.{raw_of};
+ghost use Rattle.yasna_base.specs.Raw.{RawKeepsReadingLaws, TooDeepIsNotRaw};
+ghost use Rattle.yasna_base.specs.UtcTime.{UtcTextsAreExact, UtcTimeKeepsLaws};
+ghost use Rattle.yasna_base.specs.GeneralizedTime.{GeneralTextsAreExact, GeneralizedTimeKeepsLaws};
+ghost use Rattle.yasna_base.specs.Models.{TimesAreMoments};
 
 use crate::mode::BERMode;
+use crate::models::{ObjectIdentifier, ParseOidError, TaggedDerValue};
 use crate::tag::{PCBit, Tag, TagClass};
 use crate::tags::{
     TAG_BITSTRING, TAG_BMPSTRING, TAG_BOOLEAN, TAG_DATE, TAG_DATE_TIME, TAG_DURATION,
@@ -28,6 +43,7 @@ use crate::tags::{
     TAG_TELETEXSTRING, TAG_TIME, TAG_TIME_OF_DAY, TAG_UNIVERSALSTRING, TAG_UTCTIME, TAG_UTF8STRING,
     TAG_VIDEOTEXSTRING, TAG_VISIBLESTRING,
 };
+use std::alloc::Global;
 use std::cmp::Ordering;
 
 /// The universal tags have the numbers that X.680, 8.6, gives them.
@@ -70,12 +86,20 @@ pub fn universal_tags()
 {}
 
 /// Tags are ordered by class, then by number; classes and bits by the numbers that they have in an identifier; BER
-/// stands before DER.
+/// stands before DER. Object identifiers are ordered by their first component that differs, and what begins another
+/// comes first.
 pub fn orders()
     ensures tags { (t u : Tag) → ⟦<Tag as Ord>⟧.cmp t u ≡ ordering_then (nat_cmp (class_number t.tag_class) (class_number u.tag_class)) (nat_cmp t.tag_number u.tag_number) }
     ensures classes { (c d : TagClass) → ⟦<TagClass as Ord>⟧.cmp c d ≡ nat_cmp (class_number c) (class_number d) }
     ensures modes { (⟦<BERMode as Ord>⟧.cmp Ber Der ≡ Ordering.Less) × (⟦<BERMode as Ord>⟧.cmp Der Ber ≡ Ordering.Greater) × ((m : BERMode) → ⟦<BERMode as Ord>⟧.cmp m m ≡ Ordering.Equal) }
     ensures bits { (p q : PCBit) → ⟦<PCBit as Ord>⟧.cmp p q ≡ nat_cmp (bit_number p) (bit_number q) }
+    ensures object_identifiers { (v w : List ℕ) → ⟦<ObjectIdentifier as Ord>⟧.cmp v w ≡ slice_cmp nat_cmp v w }
+{}
+
+/// Raw elements are ordered by tag, then bit, then bytes, and equal where all three are.
+pub fn raw_orders()
+    ensures order { (v w : TaggedDerValue) → ⟦<TaggedDerValue as Ord>⟧.cmp v w ≡ ordering_then (⟦<Tag as Ord>⟧.cmp v.tag w.tag) (ordering_then (⟦<PCBit as Ord>⟧.cmp v.pcbit w.pcbit) (slice_cmp nat_cmp v.value.items w.value.items)) }
+    ensures equality { (v w : TaggedDerValue) → IsTrue (⟦<TaggedDerValue as PartialEq>⟧.eq v w) ↔ (raw_of v ≡ raw_of w) }
 {}
 
 /// The number that a class has in an identifier, as Rust numbers the variants.
@@ -122,4 +146,71 @@ pub fn simple_types()
     ensures unsigned { UnsignedKeepsLaws }
     ensures enumerated { EnumeratedKeepsLaws }
     ensures big_integer { BigIntegerKeepsLaws }
+    ensures object_identifier { OidKeepsLaws }
+{}
+
+/// The types of strings keep the laws of reading and of writing, as `simple_types` says them, however BER cuts a string
+/// into pieces.
+///
+/// A bit string whose unused bits aren't zero has no form of its own: it is written as the canonical string of the same
+/// bits. A BMPString keeps the laws of writing where each surrogate has its partner; any other is only read, with U+FFFD
+/// in place of each surrogate that has none.
+///
+/// Where reading a string would go too deep, no string stands.
+pub fn strings()
+    ensures octets { OctetsKeepLaws }
+    ensures bits { BitsKeepLaws }
+    ensures utf8 { TextKeepsLaws InUtf8 }
+    ensures numeric { TextKeepsLaws InNumeric }
+    ensures printable { TextKeepsLaws InPrintable }
+    ensures ia5 { TextKeepsLaws InIa5 }
+    ensures visible { TextKeepsLaws InVisible }
+    ensures bmp { BmpKeepsLaws }
+    ensures deep_octets { DeepIsNone octets_cutting }
+    ensures deep_bits { DeepIsNone bits_cutting }
+{}
+
+/// Raw elements keep the laws of reading, whatever their lengths and however deep they nest. Where reading one meets an
+/// element that no level is left for, none stands.
+pub fn raw_elements()
+    ensures reading { RawKeepsReadingLaws }
+    ensures depth { TooDeepIsNotRaw }
+{}
+
+// Numbers of 64 bits are below 2^64.
+fn are_small(numbers: &[u64])
+    ensures { AllByRecursion (λ n. n < 2 ^ 64) numbers.now }
+{}
+
+/// What an object identifier with components prints is read as the same one, unless memory runs out.
+pub fn oid_is_read_again(
+    alloc: Global,
+    oid: &ObjectIdentifier,
+) -> Result<ObjectIdentifier, ParseOidError>
+    requires { 0 < length oid.now }
+    ensures { MatchResult result (λ again. again ≡ oid.now) (λ e. lacks_memory e ≡ true) }
+{
+    are_small(oid.components());
+    match oid.to_string(alloc) {
+        Ok(text) => ObjectIdentifier::from_str(alloc, &text),
+        Err(_) => Err(ParseOidError::lack()),
+    }
+}
+
+/// A text of a time says one moment, of the ranges of its type, and the canonical text of a moment says it.
+pub fn texts_of_times()
+    ensures utc { UtcTextsAreExact }
+    ensures general { GeneralTextsAreExact }
+{}
+
+/// Times of one moment are one, and print the same bytes.
+pub fn moments()
+    ensures { TimesAreMoments }
+{}
+
+/// Both times keep the laws of reading and of writing, as `simple_types` says them, however BER cuts their texts into
+/// pieces.
+pub fn times()
+    ensures utc { UtcTimeKeepsLaws }
+    ensures general { GeneralizedTimeKeepsLaws }
 {}

@@ -6,16 +6,21 @@
 //! | `error` | why a reading or a writing was refused |
 //! | `laws` | what is proved of the grammar itself |
 //! | `mode` | by which of the rules of X.690 bytes are read |
+//! | `models` | values of ASN.1 that Rust has no type for: object identifiers, times and raw elements |
 //! | `tag` | identifiers: class, number, and whether the contents are constructed |
 //! | `tags` | the universal tags, by name |
+//! | `text` | which characters the classes of text take |
 #![tactic(auto)]
 
 pub mod error;
 pub mod laws;
 pub mod mode;
+pub mod models;
 pub mod tag;
 pub mod tags;
+pub mod text;
 
 pub use error::{ASN1Error, ASN1ErrorKind, ASN1Result};
 pub use mode::BERMode;
 pub use tag::{PCBit, Tag, TagClass};
+pub use text::{is_numeric_text, is_printable_text, is_visible_text};

@@ -2,6 +2,7 @@ use Rattle.yasna_base.proofs.Boolean.{boolean_coding, boolean_written}
 use Rattle.yasna_base.proofs.Null.{null_coding, null_written}
 use Rattle.yasna_base.proofs.Integer.{signed_under, unsigned_under, number_written}
 use Rattle.yasna_base.proofs.BigInteger.{big_integer_coding, big_integer_written}
+use Rattle.yasna_base.proofs.Oid.{oid_under, oid_written_under}
 use Rattle.std.specs.Prelude.{pos, FitsSigned, ◌<◌, ◌^◌}
 use Rattle.std.specs.Int.{w64}
 use Rattle.yasna_base.proofs.laws.simple_types.Goals as goal
@@ -23,3 +24,6 @@ returns-clause-enumerated c = λ t not_end range. (signed_under w64 t not_end, n
 
 pub returns-clause-big_integer : goal.returns-clause-big_integer
 returns-clause-big_integer c = λ t not_end range. (big_integer_coding t not_end, big_integer_written t range)
+
+pub returns-clause-object_identifier : goal.returns-clause-object_identifier
+returns-clause-object_identifier c = λ t not_end range. (oid_under t not_end, oid_written_under t range)

@@ -1,0 +1,60 @@
+-- A header at the front of bytes: it is the only one there, and tells of the element that begins there.
+use Rattle.std.proofs.Common.{◌≡◌, ℕ, List, [], ◌∷◌, ◌++◌, length, refl, ap, ◌∙◌, sym, append-nil}
+use Rattle.yasna_base.specs.declared.mode.BERMode.{BERMode}
+use Rattle.yasna_base.specs.declared.tag.PCBit.{PCBit}
+use Rattle.yasna_base.specs.declared.tag.Tag.{Tag}
+use Rattle.yasna_base.specs.Element.{Element}
+use Rattle.yasna_base.specs.Header.{ContentsEnd, counted, uncounted, OpensAt}
+use Rattle.yasna_base.specs.Identifier.{BeginsWithTag, begins, AtEnd, nothing}
+use Rattle.yasna_base.proofs.Element.{counted_header, uncounted_header}
+use Rattle.yasna_base.proofs.Identifier.{identifier_exact, zeros_at_end}
+use Rattle.yasna_base.proofs.Length.{length_exact, length_not_indefinite}
+use Rattle.yasna_base.proofs.Lists.{fronts_same}
+
+-- a header begins with its identifier
+pub opens_begins : (m : BERMode) (t : Tag) (p : PCBit) (s c : List ℕ) (e : ContentsEnd) → OpensAt m t p s c e → BeginsWithTag t s
+opens_begins m t p s c (counted r) x = begins p _ x.joined
+opens_begins m t p s c uncounted x = begins p _ x.joined
+
+-- the bytes o behind a header of t with p begin with the contents c of an element of u with q
+pub record HeaderOf (t : Tag) (p : PCBit) (o : List ℕ) (u : Tag) (q : PCBit) (c : List ℕ) : Type 0 where
+  pub tag : t ≡ u
+  pub bit : p ≡ q
+  pub behind : List ℕ
+  pub ended : AtEnd behind
+  pub joined : o ≡ c ++ behind
+
+-- where an element begins, a header is its own
+pub header_of : (m : BERMode) (t u : Tag) (p q : PCBit) (s o c b r : List ℕ) (e : ContentsEnd) → OpensAt m t p s o e → Element m u q c b → s ≡ b ++ r →
+    HeaderOf t p o u q c
+header_of m t u p q s o c b r (counted z) x y f =
+    let i = counted_header m m t u p q (length o) x.l c b (o ++ z) r x.spelled y.framed (sym x.joined ∙ f) in
+    record { tag = i.tag; bit = i.bit; behind = []; ended = nothing refl; joined = (fronts_same o c z r i.count i.behind).0 ∙ sym (append-nil c) }
+header_of m t u p q s o c b r uncounted x y f =
+    let i = uncounted_header m t u p q c b o r y.framed (sym x.joined ∙ f) in
+    record { tag = i.tag; bit = i.bit; behind = 0 ∷ 0 ∷ r; ended = zeros_at_end (0 ∷ r); joined = i.behind }
+
+-- two headers are the same
+pub record SameHeader (t u : Tag) (p q : PCBit) (c d : List ℕ) (e f : ContentsEnd) : Type 0 where
+  pub tag : t ≡ u
+  pub bit : p ≡ q
+  pub contents : c ≡ d
+  pub end : e ≡ f
+
+-- bytes begin with one header only
+pub header_once : (m : BERMode) (t u : Tag) (p q : PCBit) (s c d : List ℕ) (e f : ContentsEnd) → OpensAt m t p s c e → OpensAt m u q s d f →
+    SameHeader t u p q c d e f
+header_once m t u p q s c d (counted r) (counted z) x y =
+    let i = identifier_exact t u p q _ _ (sym x.joined ∙ y.joined) in
+    let j = length_exact m m (length c) (length d) x.l y.l (c ++ r) (d ++ z) x.spelled y.spelled i.2 in
+    let k = fronts_same c d r z j.0 j.2 in
+    record { tag = i.0; bit = i.1; contents = k.0; end = ap counted k.1 }
+header_once m t u p q s c d (counted r) uncounted x y =
+    let i = identifier_exact t u p q _ _ (sym x.joined ∙ y.joined) in
+    absurd (length_not_indefinite m (length c) x.l (c ++ r) d x.spelled i.2)
+header_once m t u p q s c d uncounted (counted z) x y =
+    let i = identifier_exact t u p q _ _ (sym x.joined ∙ y.joined) in
+    absurd (length_not_indefinite m (length d) y.l (d ++ z) c y.spelled (sym (i.2)))
+header_once m t u p q s c d uncounted uncounted x y =
+    let i = identifier_exact t u p q _ _ (sym x.joined ∙ y.joined) in
+    record { tag = i.0; bit = i.1; contents = cc (i.2); end = refl }

@@ -1,0 +1,54 @@
+-- The laws of OCTET STRING.
+use Rattle.std.proofs.Common.{◌≡◌, ◌∙◌, sym, arith, [], ◌∷◌, ◌<◌, ◌^◌, refl, ap, subst, ℕ, List}
+use Rattle.yasna_base.specs.declared.tag.Tag.{Tag}
+use Rattle.yasna_base.specs.Coding.{IsCoding, Any}
+use Rattle.yasna_base.specs.Identifier.{end_tag}
+use Rattle.yasna_base.specs.Octets.{octets_cutting, IsOctets, octets_form, OctetsKeepLaws, octets_tag, EncodesVec}
+use Rattle.yasna_base.proofs.Cut.{CutsOnce, cut_coding, cut_keeps, cut_has, cut_level}
+use Rattle.yasna_base.proofs.Identifier.{not_end}
+use Rattle.std.specs.List.{AllByRecursion, concat}
+use Rattle.yasna_base.specs.declared.mode.BERMode.TheVariants.{Ber}
+use Rattle.yasna_base.specs.declared.mode.BERMode.{BERMode}
+use Rattle.yasna_base.specs.Canonical.{leaf_nest, IsWritten}
+use Rattle.yasna_base.specs.Digits.{IsBytes}
+use Rattle.yasna_base.proofs.Digits.{bytes_append}
+use Rattle.std.specs.Prelude.{Vec}
+use Rattle.std.specs.Global.{Global}
+use Rattle.yasna_base.proofs.Coding.{along, any_coding}
+use Rattle.yasna_base.proofs.Canonical.{written_along}
+
+-- octets are cut in one way
+pub octets_once : CutsOnce octets_cutting
+octets_once = record { whole = λ m v w c x y. x ∙ sym y; join = λ m vs v w x y. x ∙ sym y; piece = not_end 4 (λ e. omega arith) }
+
+-- OCTET STRING keeps the laws of reading
+pub octets_coding : (t : Tag) → (t ≡ end_tag → ⊥) → IsCoding (λ v w. v ≡ w) (λ m n v b. IsOctets n m t v b) (Any (λ m n v b. IsOctets n m t v b))
+octets_coding t not_end = cut_coding octets_once t not_end
+
+concat_bytes : (vs : List (List ℕ)) → AllByRecursion IsBytes vs → IsBytes (concat vs)
+concat_bytes [] h = tt
+concat_bytes (v ∷ vs) h = bytes_append v (concat vs) h.0 (concat_bytes vs h.1)
+
+-- octets are bytes
+pub octets_bytes : (n : ℕ) (m : BERMode) (t : Tag) (v b : List ℕ) → IsOctets n m t v b → IsBytes v
+octets_bytes = cut_keeps octets_cutting IsBytes (λ m v c h e. subst IsBytes (sym e) h) (λ m vs v h e. subst IsBytes (sym e) (concat_bytes vs h))
+
+-- OCTET STRING keeps the laws of writing
+pub octets_written : (t : Tag) → t.tag_number < 2 ^ 64 →
+    IsWritten (λ v w. v ≡ w) (λ m n v b. IsOctets n m t v b) (octets_form t) leaf_nest IsBytes
+octets_written t range = record {
+  has = cut_has octets_cutting IsBytes (λ v. v) t range (λ v can. can) (λ m v can. refl) (λ m v c h bytes e. (sym e, subst IsBytes (sym e) bytes));
+  any = λ n v b x. (octets_bytes n Ber t v b x, cut_level octets_cutting n Ber t v b x);
+  same = λ m v w e. (ap (octets_form t m) e, λ can. subst IsBytes e can, refl);
+}
+
+pub octets_keep : OctetsKeepLaws
+octets_keep t not_end range = (octets_coding t not_end, octets_written t range)
+
+-- under its own tag, of vectors that are equal where their items are
+pub vec_coding : IsCoding (λ (v w : Vec ℕ Global). v.items ≡ w.items) EncodesVec (Any EncodesVec)
+vec_coding = any_coding (along (λ v. v.items) (octets_coding octets_tag octets_once.piece))
+
+pub vec_written : IsWritten (λ (v w : Vec ℕ Global). v.items ≡ w.items) EncodesVec (λ m v. octets_form octets_tag m v.items)
+    leaf_nest (λ v. IsBytes v.items)
+vec_written = written_along (λ v. v.items) (octets_written octets_tag (omega arith))

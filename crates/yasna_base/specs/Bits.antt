@@ -1,0 +1,118 @@
+-- BIT STRING (X.690, 8.6 and 11.2).
+use Rattle.std.specs.Prelude.{◌≡◌, ℕ, ◌+◌, ◌-◌, ◌*◌, ◌%◌, ◌^◌, ◌<◌, ◌≤◌, List, [], ◌∷◌, length, get_or}
+use Rattle.std.specs.List.{flat_map, AllByRecursion}
+use Rattle.yasna_base.specs.declared.mode.BERMode.{BERMode}
+use Rattle.yasna_base.specs.declared.mode.BERMode.TheVariants.{Ber, Der}
+use Rattle.yasna_base.specs.declared.tag.Tag.{Tag}
+use Rattle.yasna_base.specs.declared.tag.PCBit.TheVariants.{Primitive}
+use Rattle.yasna_base.specs.Canonical.{canonical_element, HasForm, leaf_nest}
+use Rattle.yasna_base.specs.Coding.{IsCoding, Any}
+use Rattle.yasna_base.specs.Cut.{Cutting, IsCut, IsDeepCut}
+use Rattle.yasna_base.specs.Digits.{IsBytes}
+use Rattle.yasna_base.specs.Identifier.{universal, end_tag}
+
+abbrev pub bits_tag : Tag
+bits_tag = universal 3
+
+-- the bytes that hold the bits, and how many bits there are
+pub record BitString : Type 0 where
+  pub bytes : List ℕ
+  pub count : ℕ
+
+-- the last u bits are zero, where the mode asks it of unused bits
+abbrev pub IsPadded : BERMode → ℕ → List ℕ → Type 0
+IsPadded Ber u d = Unit {0}
+IsPadded Der u d = get_or d (length d - 1) 0 % 2 ^ u ≡ 0
+
+-- the contents of a primitive element are the count of unused bits, and the bytes
+pub record AreTheBits (m : BERMode) (v : BitString) (c : List ℕ) : Type 0 where
+  pub unused : ℕ
+  pub contents : c ≡ unused ∷ v.bytes
+  pub below : unused ≤ 7
+  pub none_of_none : v.bytes ≡ [] → unused ≡ 0
+  pub counted : v.count + unused ≡ 8 * length v.bytes
+  pub padded : IsPadded m unused v.bytes
+  pub in_range : v.count < 2 ^ 64
+
+-- no bit of the bytes is unused
+abbrev pub IsFull : BitString → Type 0
+IsFull v = v.count ≡ 8 * length v.bytes
+
+-- none but the last has unused bits
+abbrev pub AreFullBeforeLast : List BitString → Type 0
+AreFullBeforeLast [] = Unit {0}
+AreFullBeforeLast (v ∷ []) = Unit {0}
+AreFullBeforeLast (v ∷ w ∷ vs) = IsFull v × AreFullBeforeLast (w ∷ vs)
+
+-- how many bits there are in all
+abbrev pub all_bits : List BitString → ℕ
+all_bits [] = 0
+all_bits (v ∷ vs) = v.count + all_bits vs
+
+-- the bits of the pieces make the string, one after the other
+pub record AreBitsJoined (m : BERMode) (vs : List BitString) (v : BitString) : Type 0 where
+  pub full : AreFullBeforeLast vs
+  pub bytes : v.bytes ≡ flat_map (λ (w : BitString). w.bytes) vs
+  pub count : v.count ≡ all_bits vs
+  pub in_range : v.count < 2 ^ 64
+
+-- behind unused bits no piece may follow, nor behind more than 2 ^ 64 - 1 bits
+pub record MayFollow (vs : List BitString) : Type 0 where
+  pub full : AllByRecursion IsFull vs
+  pub in_range : all_bits vs < 2 ^ 64
+
+abbrev pub bits_cutting : Cutting BitString
+bits_cutting = record { whole = AreTheBits; join = AreBitsJoined; more = MayFollow; piece = bits_tag }
+
+-- within n levels, b is the bit string v with the tag t
+abbrev pub IsBits : ℕ → BERMode → Tag → BitString → List ℕ → Type 0
+IsBits n m t v b = IsCut bits_cutting n m t v b
+
+-- reading a bit string with the tag t from s meets an element that no level is left for
+abbrev pub IsDeepBits : ℕ → BERMode → Tag → List ℕ → Type 0
+IsDeepBits n m t s = IsDeepCut bits_cutting n m t s
+
+-- how many bits of the bytes are unused
+abbrev pub unused_bits : BitString → ℕ
+unused_bits v = 8 * length v.bytes - v.count
+
+-- the bytes, with zeros in the last u bits
+abbrev pub padded : ℕ → List ℕ → List ℕ
+padded u [] = []
+padded u (x ∷ []) = (x - x % 2 ^ u) ∷ []
+padded u (x ∷ y ∷ ys) = x ∷ padded u (y ∷ ys)
+
+-- how many bits are unused, and the bytes with zeros there
+abbrev pub bits_contents : BitString → List ℕ
+bits_contents v = unused_bits v ∷ padded (unused_bits v) v.bytes
+
+abbrev pub bits_form : Tag → BERMode → BitString → List ℕ
+bits_form t m v = canonical_element m t Primitive (bits_contents v)
+
+-- the bytes are as many as the bits need
+pub record CanBits (v : BitString) : Type 0 where
+  pub in_bytes : IsBytes v.bytes
+  pub enough : v.count ≤ 8 * length v.bytes
+  pub least : 8 * length v.bytes < v.count + 8
+  pub in_range : v.count < 2 ^ 64
+
+-- v is canonical: besides, its unused bits are zero
+pub record AreCanonicalBits (v : BitString) : Type 0 where
+  pub can : CanBits v
+  pub zeros : IsPadded Der (unused_bits v) v.bytes
+
+-- the same bits, with zeros behind them
+abbrev pub cleared : BitString → BitString
+cleared v = record { bytes = padded (unused_bits v) v.bytes; count = v.count }
+
+-- the laws of reading hold, and those of the form where a string is canonical. Whatever is read has as many bytes as the bits
+-- need, and is written as the canonical string of the same bits
+pub record BitLaws (t : Tag) : Type 0 where
+  pub coding : IsCoding (λ v w. v ≡ w) (λ m n v b. IsBits n m t v b) (Any (λ m n v b. IsBits n m t v b))
+  pub has : HasForm (λ m n v b. IsBits n m t v b) (bits_form t) leaf_nest (λ m. AreCanonicalBits)
+  pub can : (m : BERMode) (n : ℕ) (v : BitString) (b : List ℕ) → IsBits n m t v b → CanBits v
+  pub cleared : (m : BERMode) (v : BitString) → CanBits v → AreCanonicalBits (cleared v) × (bits_form t m v ≡ bits_form t m (cleared v))
+
+-- BIT STRING keeps these laws under any tag
+abbrev pub BitsKeepLaws : Type 0
+BitsKeepLaws = (t : Tag) → (t ≡ end_tag → ⊥) → t.tag_number < 2 ^ 64 → BitLaws t

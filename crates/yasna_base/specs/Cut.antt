@@ -1,0 +1,60 @@
+-- Strings, in one primitive element or cut into pieces (X.690, 8.6, 8.7 and 8.23).
+use Rattle.std.specs.Prelude.{◌≡◌, ℕ, zero, suc, List, ◌++◌}
+use Rattle.yasna_base.specs.declared.mode.BERMode.{BERMode}
+use Rattle.yasna_base.specs.declared.mode.BERMode.TheVariants.{Ber, Der}
+use Rattle.yasna_base.specs.declared.tag.PCBit.TheVariants.{Primitive, Constructed}
+use Rattle.yasna_base.specs.declared.tag.Tag.{Tag}
+use Rattle.yasna_base.specs.Element.{Element}
+use Rattle.yasna_base.specs.Header.{ContentsEnd, OpensAt}
+use Rattle.yasna_base.specs.Identifier.{BeginsWithTag}
+use Rattle.yasna_base.specs.Pieces.{Pieces}
+
+-- where a mode takes strings in pieces
+abbrev pub TakesPieces : BERMode → Type 0
+TakesPieces Ber = Unit {0}
+TakesPieces Der = ⊥
+
+-- How a kind of string is cut. whole m v c: the contents c of a primitive element say v; join m vs v: the values vs of
+-- pieces make v; more vs: a further piece may follow these; piece: the tag of each piece
+pub record Cutting (A : Type 0) : Type 1 where
+  pub whole : BERMode → A → List ℕ → Type 0
+  pub join : BERMode → List A → A → Type 0
+  pub more : List A → Type 0
+  pub piece : Tag
+
+-- b is a string with the tag t that says v: a primitive element, or a constructed one around pieces that stand for their values by R
+pub data Cut {A : Type 0} (k : Cutting A) (R : A → List ℕ → Type 0) (m : BERMode) (t : Tag) (v : A) (b : List ℕ) : Type 0 where
+  whole : (c : List ℕ) → Element m t Primitive c b → k.whole m v c → Cut k R m t v b
+  in_pieces : TakesPieces m → (c : List ℕ) (vs : List A) → Element m t Constructed c b → Pieces R vs c → k.join m vs v → Cut k R m t v b
+
+-- the same within n levels, where each piece is such a string in turn
+unfoldable pub IsCut : {A : Type 0} → Cutting A → ℕ → BERMode → Tag → A → List ℕ → Type 0
+IsCut k zero m t v b = ⊥
+IsCut k (suc n) m t v b = Cut k (IsCut k n m k.piece) m t v b
+
+-- c are pieces that a further one may follow, and behind them stands what D says
+pub record PiecesBefore {A : Type 0} (R : A → List ℕ → Type 0) (More : List A → Type 0) (D : List ℕ → Type 0) (c : List ℕ) : Type 0 where
+  pub values : List A
+  pub front : List ℕ
+  pub rest : List ℕ
+  pub pieces : Pieces R values front
+  pub more : More values
+  pub joined : c ≡ front ++ rest
+  pub deep : D rest
+
+-- a string in pieces is begun at the front of s, and what D says stands where a further piece may
+pub record DeepCut {A : Type 0} (k : Cutting A) (R : A → List ℕ → Type 0) (D : List ℕ → Type 0) (m : BERMode) (t : Tag) (s : List ℕ) : Type 0 where
+  pub taken : TakesPieces m
+  pub contents : List ℕ
+  pub end : ContentsEnd
+  pub opens : OpensAt m t Constructed s contents end
+  pub inside : PiecesBefore R k.more D contents
+
+-- reading a string with the tag t from the front of s meets an element that no level is left for
+unfoldable pub IsDeepCut : {A : Type 0} → Cutting A → ℕ → BERMode → Tag → List ℕ → Type 0
+IsDeepCut k zero m t s = BeginsWithTag t s
+IsDeepCut k (suc n) m t s = DeepCut k (IsCut k n m k.piece) (IsDeepCut k n m k.piece) m t s
+
+-- where reading a string would go too deep none stands at the front
+abbrev pub DeepIsNone : {A : Type 0} → Cutting A → Type 0
+DeepIsNone {A} k = (n : ℕ) (m : BERMode) (t : Tag) (s : List ℕ) → IsDeepCut k n m t s → (v : A) (b r : List ℕ) → IsCut k n m t v b → s ≡ b ++ r → ⊥

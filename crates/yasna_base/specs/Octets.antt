@@ -1,0 +1,50 @@
+-- OCTET STRING (X.690, 8.7).
+use Rattle.std.specs.Prelude.{◌≡◌, ℕ, List, Vec}
+use Rattle.std.specs.Global.{Global}
+use Rattle.std.specs.List.{concat}
+use Rattle.yasna_base.specs.declared.mode.BERMode.{BERMode}
+use Rattle.yasna_base.specs.declared.tag.Tag.{Tag}
+use Rattle.yasna_base.specs.declared.tag.PCBit.TheVariants.{Primitive}
+use Rattle.yasna_base.specs.Canonical.{canonical_element, leaf_nest}
+use Rattle.yasna_base.specs.Cut.{Cutting, IsCut, IsDeepCut}
+use Rattle.yasna_base.specs.Digits.{IsBytes}
+use Rattle.yasna_base.specs.Identifier.{universal}
+use Rattle.yasna_base.specs.Laws.{KeepsLaws}
+
+abbrev pub octets_tag : Tag
+octets_tag = universal 4
+
+-- the contents of a primitive element are the octets
+abbrev pub AreTheOctets : BERMode → List ℕ → List ℕ → Type 0
+AreTheOctets m v c = v ≡ c
+
+-- the octets of the pieces make the string, one after the other
+abbrev pub AreOctetsJoined : BERMode → List (List ℕ) → List ℕ → Type 0
+AreOctetsJoined m vs v = v ≡ concat vs
+
+-- a further piece may follow any
+abbrev pub octets_cutting : Cutting (List ℕ)
+octets_cutting = record { whole = AreTheOctets; join = AreOctetsJoined; more = λ vs. Unit {0}; piece = octets_tag }
+
+-- within n levels, b is the octet string v with the tag t
+abbrev pub IsOctets : ℕ → BERMode → Tag → List ℕ → List ℕ → Type 0
+IsOctets n m t v b = IsCut octets_cutting n m t v b
+
+-- reading an octet string with the tag t from s meets an element that no level is left for
+abbrev pub IsDeepOctets : ℕ → BERMode → Tag → List ℕ → Type 0
+IsDeepOctets n m t s = IsDeepCut octets_cutting n m t s
+
+-- the type's grammar under its own tag
+abbrev pub EncodesOctets : BERMode → ℕ → List ℕ → List ℕ → Type 0
+EncodesOctets m n v b = IsOctets n m octets_tag v b
+
+-- the same of the octets in a vector
+abbrev pub EncodesVec : BERMode → ℕ → Vec ℕ Global → List ℕ → Type 0
+EncodesVec m n v b = EncodesOctets m n v.items b
+
+abbrev pub octets_form : Tag → BERMode → List ℕ → List ℕ
+octets_form t m v = canonical_element m t Primitive v
+
+-- OCTET STRING keeps the laws under any tag
+abbrev pub OctetsKeepLaws : Type 0
+OctetsKeepLaws = KeepsLaws IsOctets octets_form leaf_nest IsBytes

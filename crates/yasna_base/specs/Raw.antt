@@ -1,0 +1,95 @@
+-- Raw elements, whose contents aren't given a type (X.690, 8.1).
+use Rattle.std.specs.Prelude.{◌≡◌, ℕ, zero, suc, ◌^◌, ◌<◌, List, ◌∷◌, ◌++◌}
+use Rattle.yasna_base.specs.declared.mode.BERMode.{BERMode}
+use Rattle.yasna_base.specs.declared.mode.BERMode.TheVariants.{Ber, Der}
+use Rattle.yasna_base.specs.declared.tag.PCBit.{PCBit}
+use Rattle.yasna_base.specs.declared.tag.PCBit.TheVariants.{Primitive, Constructed}
+use Rattle.yasna_base.specs.declared.tag.Tag.{Tag}
+use Rattle.yasna_base.specs.Canonical.{canonical_element}
+use Rattle.yasna_base.specs.Coding.{IsCoding, Any}
+use Rattle.yasna_base.specs.Cut.{PiecesBefore}
+use Rattle.yasna_base.specs.Digits.{IsBytes}
+use Rattle.yasna_base.specs.Element.{Definite, Indefinite, end_of_contents}
+use Rattle.yasna_base.specs.Header.{ContentsEnd, counted, uncounted, OpensAt}
+use Rattle.yasna_base.specs.Identifier.{end_tag, StartsElement}
+use Rattle.yasna_base.specs.Pieces.{Pieces}
+
+-- a tag, a bit, and what follows the length: the contents, with the two zeros where their length is indefinite
+pub record RawValue : Type 0 where
+  pub tag : Tag
+  pub bit : PCBit
+  pub payload : List ℕ
+
+-- where a mode looks into contents whose length is counted
+abbrev pub LooksInto : BERMode → PCBit → Type 0
+LooksInto Ber p = ⊥
+LooksInto Der Primitive = ⊥
+LooksInto Der Constructed = Unit {0}
+
+-- where it looks into contents that end so
+abbrev pub LooksUpTo : BERMode → PCBit → ContentsEnd → Type 0
+LooksUpTo m p (counted r) = LooksInto m p
+LooksUpTo m p uncounted = Unit {0}
+
+-- c is a joining of pieces by R
+abbrev pub IsJoining : {A : Type 0} → (A → List ℕ → Type 0) → List ℕ → Type 0
+IsJoining {A} R c = (vs : List A) × Pieces R vs c
+
+-- b is the element v, and contents that are looked into are a joining by R
+pub data RawFramed (R : RawValue → List ℕ → Type 0) (m : BERMode) (v : RawValue) (b : List ℕ) : Type 0 where
+  with_length : Definite m v.tag v.bit v.payload b → (LooksInto m v.bit → IsJoining R v.payload) → RawFramed R m v b
+  with_zeros : (c : List ℕ) → Indefinite m v.tag v.bit c b → IsJoining R c → v.payload ≡ c ++ end_of_contents → RawFramed R m v b
+
+-- its tag isn't that of the end of contents and has a number of 64 bits, and its payload is bytes
+pub record RawOver (R : RawValue → List ℕ → Type 0) (m : BERMode) (v : RawValue) (b : List ℕ) : Type 0 where
+  pub not_end : v.tag ≡ end_tag → ⊥
+  pub in_range : v.tag.tag_number < 2 ^ 64
+  pub in_bytes : IsBytes v.payload
+  pub framed : RawFramed R m v b
+
+-- within n levels, b is the raw element v
+unfoldable pub IsRaw : ℕ → BERMode → RawValue → List ℕ → Type 0
+IsRaw zero m v b = ⊥
+IsRaw (suc n) m v b = RawOver (IsRaw n m) m v b
+
+-- elements by R, and behind them what D says
+abbrev pub JoiningBefore : (RawValue → List ℕ → Type 0) → (List ℕ → Type 0) → List ℕ → Type 0
+JoiningBefore R D c = PiecesBefore R (λ vs. Unit {0}) D c
+
+-- an element that is looked into is begun at the front of s, and what D says stands where one within it may
+pub record DeepRaw (R : RawValue → List ℕ → Type 0) (D : List ℕ → Type 0) (m : BERMode) (s : List ℕ) : Type 0 where
+  pub tag : Tag
+  pub bit : PCBit
+  pub not_end : tag ≡ end_tag → ⊥
+  pub contents : List ℕ
+  pub end : ContentsEnd
+  pub opens : OpensAt m tag bit s contents end
+  pub looks : LooksUpTo m bit end
+  pub inside : JoiningBefore R D contents
+
+-- reading a raw element from the front of s meets one that no level is left for
+unfoldable pub IsDeepRaw : ℕ → BERMode → List ℕ → Type 0
+IsDeepRaw zero m s = StartsElement s
+IsDeepRaw (suc n) m s = DeepRaw (IsRaw n m) (IsDeepRaw n m) m s
+
+-- the form of a raw element whose payload is written as it is
+abbrev pub raw_form : Tag → BERMode → RawValue → List ℕ
+raw_form t m v = canonical_element m t v.bit v.payload
+
+-- raw elements keep the laws of reading
+abbrev pub RawKeepsReadingLaws : Type 0
+RawKeepsReadingLaws = IsCoding (λ v w. v ≡ w) (λ m n v b. IsRaw n m v b) (Any (λ m n v b. IsRaw n m v b))
+
+-- where an element lies too deep, no raw element stands
+abbrev pub TooDeepIsNotRaw : Type 0
+TooDeepIsNotRaw = (n : ℕ) (m : BERMode) (v : RawValue) (s b r : List ℕ) → IsDeepRaw n m s → IsRaw n m v b → s ≡ b ++ r → ⊥
+
+-- the element whose contents c a header opens ends before r
+abbrev pub ContentsTo : (RawValue → List ℕ → Type 0) → BERMode → PCBit → List ℕ → ContentsEnd → List ℕ → Type 0
+ContentsTo R m p c (counted z) r = (r ≡ z) × (LooksInto m p → IsJoining R c)
+ContentsTo R m p c uncounted r = (d : List ℕ) × IsJoining R d × (c ≡ d ++ (0 ∷ 0 ∷ r))
+
+-- p is the payload of that element
+abbrev pub IsPayload : List ℕ → ContentsEnd → List ℕ → List ℕ → Type 0
+IsPayload c (counted z) r p = p ≡ c
+IsPayload c uncounted r p = c ≡ p ++ r

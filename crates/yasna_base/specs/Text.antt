@@ -1,0 +1,108 @@
+-- Character strings (X.680, 41; X.690, 8.23). A text is the list of its characters.
+use Rattle.std.specs.Prelude.{◌≡◌, ◌⊎◌, ℕ, ◌+◌, ◌*◌, ◌/◌, ◌%◌, ◌^◌, ◌<◌, ◌≤◌, List, [], ◌∷◌, length, map, codes, Some, String, string_bytes}
+use Rattle.std.specs.Char.{IsScalar}
+use Rattle.std.specs.Char.Escape.{encode_utf16}
+use Rattle.std.specs.Char.Utf16.{utf16_chars, utf16_lossy_chars}
+use Rattle.std.specs.Global.{Global}
+use Rattle.std.specs.List.{Contains, flat_map, AllByRecursion}
+use Rattle.std.specs.Str.{chars, encode_utf8_all}
+use Rattle.yasna_base.specs.declared.mode.BERMode.{BERMode}
+use Rattle.yasna_base.specs.declared.tag.Tag.{Tag}
+use Rattle.yasna_base.specs.Canonical.{leaf_nest}
+use Rattle.yasna_base.specs.Coding.{IsCoding, Any}
+use Rattle.yasna_base.specs.Identifier.{universal, end_tag}
+use Rattle.yasna_base.specs.Laws.{KeepsLaws}
+use Rattle.yasna_base.specs.Octets.{IsOctets, octets_form}
+
+-- any character
+abbrev pub InUtf8 : ℕ → Type 0
+InUtf8 c = Unit {0}
+
+abbrev pub IsDigit : ℕ → Type 0
+IsDigit c = (48 ≤ c) × (c ≤ 57)
+
+abbrev pub IsLetter : ℕ → Type 0
+IsLetter c = ((65 ≤ c) × (c ≤ 90)) ⊎ ((97 ≤ c) × (c ≤ 122))
+
+-- digits and space
+abbrev pub InNumeric : ℕ → Type 0
+InNumeric c = IsDigit c ⊎ (c ≡ 32)
+
+-- letters, digits, space and some marks
+abbrev pub InPrintable : ℕ → Type 0
+InPrintable c = IsLetter c ⊎ IsDigit c ⊎ Contains (codes " '()+,-./:=?") c
+
+abbrev pub InVisible : ℕ → Type 0
+InVisible c = (32 ≤ c) × (c ≤ 126)
+
+abbrev pub InIa5 : ℕ → Type 0
+InIa5 c = c ≤ 127
+
+-- a text whose characters lie in a class
+pub record IsTextIn (In : ℕ → Type 0) (text : List ℕ) : Type 0 where
+  pub characters : AllByRecursion IsScalar text
+  pub in_class : AllByRecursion In text
+
+-- the octets v are the text in UTF-8, and its characters lie in the class
+pub record IsUtf8In (In : ℕ → Type 0) (m : BERMode) (text v : List ℕ) : Type 0 where
+  pub is_text : IsTextIn In text
+  pub octets : v ≡ encode_utf8_all text
+
+-- numbers of 16 bits, each in two octets, the high one first
+abbrev pub units : List ℕ → List ℕ
+units [] = []
+units (x ∷ []) = []
+units (x ∷ y ∷ v) = (256 * x + y) ∷ units v
+
+-- the octets v are units of UTF-16, and the text is what they spell, with U+FFFD for each surrogate that has no partner
+pub record IsBmp (m : BERMode) (text v : List ℕ) : Type 0 where
+  pub even : length v % 2 ≡ 0
+  pub spelled : text ≡ utf16_lossy_chars (units v)
+
+-- the same where each surrogate has its partner
+pub record IsPairedBmp (m : BERMode) (text v : List ℕ) : Type 0 where
+  pub even : length v % 2 ≡ 0
+  pub spelled : map Some text ≡ utf16_chars (units v)
+
+-- within n levels, b is an octet string with the tag t, and its octets say v by K
+pub record IsStringOf {A : Type 0} (K : BERMode → A → List ℕ → Type 0) (n : ℕ) (m : BERMode) (t : Tag) (v : A) (b : List ℕ) : Type 0 where
+  pub octets : List ℕ
+  pub string : IsOctets n m t octets b
+  pub meaning : K m v octets
+
+-- the octets of a unit
+abbrev pub unit_octets : ℕ → List ℕ
+unit_octets u = (u / 256) ∷ (u % 256) ∷ []
+
+-- the text in UTF-16
+abbrev pub bmp_octets : List ℕ → List ℕ
+bmp_octets text = flat_map unit_octets (flat_map encode_utf16 text)
+
+abbrev pub utf8_form : Tag → BERMode → List ℕ → List ℕ
+utf8_form t m text = octets_form t m (encode_utf8_all text)
+
+abbrev pub bmp_form : Tag → BERMode → List ℕ → List ℕ
+bmp_form t m text = octets_form t m (bmp_octets text)
+
+-- the characters of a string
+abbrev pub characters : String Global → List ℕ
+characters s = chars (string_bytes s)
+
+-- the grammar of UTF8String under its own tag
+abbrev pub EncodesText : BERMode → ℕ → List ℕ → List ℕ → Type 0
+EncodesText m n v b = IsStringOf (IsUtf8In InUtf8) n m (universal 12) v b
+
+-- the same of the characters of a string
+abbrev pub EncodesString : BERMode → ℕ → String Global → List ℕ → Type 0
+EncodesString m n v b = EncodesText m n (characters v) b
+
+-- a class of text in UTF-8 keeps the laws under any tag
+abbrev pub TextKeepsLaws : (ℕ → Type 0) → Type 0
+TextKeepsLaws In = KeepsLaws (IsStringOf (IsUtf8In In)) utf8_form leaf_nest (IsTextIn In)
+
+-- BMPString keeps the laws of reading under any tag; where each surrogate has its partner, it keeps those of writing
+pub record BmpKeepsLaws : Type 0 where
+  pub reading : (t : Tag) → (t ≡ end_tag → ⊥) → t.tag_number < 2 ^ 64 →
+      IsCoding (λ v w. v ≡ w) (λ m n v b. IsStringOf IsBmp n m t v b) (Any (λ m n v b. IsStringOf IsBmp n m t v b))
+  pub paired : KeepsLaws (IsStringOf IsPairedBmp) bmp_form leaf_nest (IsTextIn InUtf8)
+  pub spells : (m : BERMode) (text v : List ℕ) → IsPairedBmp m text v → IsBmp m text v
