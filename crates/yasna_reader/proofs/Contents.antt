@@ -1,15 +1,17 @@
 -- Contents of one primitive element, as they were made a value or not, and where reading them may want memory.
-use Rattle.std.proofs.Common.{◌≡◌, ℕ, ◌+◌, ◌<◌, ◌≤◌, List, [], ◌∷◌, ◌++◌, length, sym, ap, ◌∙◌, subst, append_assoc, true, inl, inr, ◌⊎◌, refl, arith}
+use Rattle.std.proofs.Common.{◌≡◌, ℕ, ◌+◌, ◌<◌, ◌≤◌, List, [], ◌∷◌, ◌++◌, length, sym, ap, ◌∙◌, subst, true, inl, inr, ◌⊎◌, refl, arith}
 use Rattle.yasna_base.specs.declared.error.ASN1ErrorKind.TheVariants.{OutOfMemory}
 use Rattle.yasna_base.specs.declared.mode.BERMode.{BERMode}
-use Rattle.yasna_base.specs.declared.mode.BERMode.TheVariants.{Ber, Der}
 use Rattle.yasna_base.specs.declared.tag.Tag.{Tag}
+use Rattle.yasna_base.specs.declared.tag.PCBit.{PCBit}
 use Rattle.yasna_base.specs.declared.tag.PCBit.TheVariants.{Primitive}
 use Rattle.yasna_base.specs.Identifier.{identifier, BeginsWithTag}
 use Rattle.yasna_base.specs.Length.{IsLongLength, one_byte, counted}
-use Rattle.yasna_base.specs.Element.{definite, indefinite, TakesIndefinite, IsPrimitive, Framed}
+use Rattle.yasna_base.specs.Element.{Element, definite, indefinite, IsPrimitive}
+use Rattle.yasna_base.specs.Header.{ContentsEnd, counted as counted_to, uncounted, OpensAt}
 use Rattle.yasna_base.proofs.Length.{spells_long}
-use Rattle.yasna_base.proofs.Element.{primitive_exact}
+use Rattle.yasna_base.proofs.Element.{primitive_exact, definite_then, indefinite_then}
+use Rattle.yasna_base.proofs.Lists.{empty_is}
 use Rattle.yasna_reader.specs.declared.bytes.header.Refusal.{Refusal}
 use Rattle.yasna_reader.specs.Refusal.{IsPlain, IsTooDeep, Refuses}
 use Rattle.yasna_reader.specs.Front.{Takes, Stands}
@@ -19,7 +21,7 @@ use Rattle.yasna_reader.proofs.Refusal.{begins_not_elsewhere, stood_refuses, ref
 use Rattle.yasna_reader.proofs.Header.{element_begins}
 
 -- a front that is a primitive element begins with the tag
-takes_begins : (m : BERMode) (n : ℕ) (t : Tag) (s c r : List ℕ) → Takes (IsPrimitive AreContents n m t) s c r → BeginsWithTag t s
+pub takes_begins : (m : BERMode) (n : ℕ) (t : Tag) (s c r : List ℕ) → Takes (IsPrimitive AreContents n m t) s c r → BeginsWithTag t s
 takes_begins m n t s c r x = element_begins m t Primitive x.member.contents x.front s r x.member.element x.joined
 
 -- contents that stand for no value, in a primitive element
@@ -73,25 +75,37 @@ long_first : (k : ℕ) (l : List ℕ) → 0 < k → IsLongLength k l → (x : �
 long_first k l h (one_byte i e) = (k, [], e, λ z. omega arith)
 long_first k l h (counted ds i j b n e) = (128 + length ds, ds, e, λ z. omega arith)
 
-not_indefinite : (m : BERMode) → TakesIndefinite m Primitive → ⊥
-not_indefinite Ber h = h
-not_indefinite Der h = h
-
-wants : (n : ℕ) (m : BERMode) (t : Tag) (s c b r : List ℕ) → 1 ≤ n → 0 < length c → Framed m t Primitive c b → s ≡ b ++ r → WantsMemory n t s
-wants n m t s c b r l h (definite x) e =
-    let f = long_first (length c) x.l h (spells_long m (length c) x.l x.spelled) in
-    let g : s ≡ identifier t Primitive ++ (x.l ++ (c ++ r)) = e ∙ ap (λ z. z ++ r) x.joined ∙ simp append_assoc in
+-- behind the identifier of an element with contents a byte other than 0 stands
+pub opens_wants : (n : ℕ) (m : BERMode) (t : Tag) (p : PCBit) (s c : List ℕ) (e : ContentsEnd) → 1 ≤ n → (c ≡ [] → ⊥) → OpensAt m t p s c e → WantsMemory n t s
+opens_wants n m t p s c (counted_to r) l h x =
+    let f = long_first (length c) x.l (let i : length c ≡ 0 → ⊥ = λ i. h (empty_is c i) in omega (arith, i)) (spells_long m (length c) x.l x.spelled) in
     record {
       level = l;
-      bit = Primitive;
+      bit = p;
       size = f.0;
       after = f.1 ++ (c ++ r);
       not_empty = f.3;
-      joined = g ∙ ap (λ z. identifier t Primitive ++ (z ++ (c ++ r))) f.2;
+      joined = x.joined ∙ ap (λ z. identifier t p ++ (z ++ (c ++ r))) f.2;
     }
-wants n m t s c b r l h (indefinite x) e = absurd (not_indefinite m x.taken)
+opens_wants n m t p s c uncounted l h x = record { level = l; bit = p; size = 128; after = c; not_empty = λ z. omega arith; joined = x.joined }
+
+-- so it does where an element has contents
+pub element_wants : (n : ℕ) (m : BERMode) (t : Tag) (p : PCBit) (s c b r : List ℕ) → 1 ≤ n → (c ≡ [] → ⊥) → Element m t p c b → s ≡ b ++ r → WantsMemory n t s
+element_wants n m t p s c b r l h x e = elim x.framed [
+  | definite y ↦ opens_wants n m t p s c (counted_to r) l h (record {
+    in_range = x.in_range;
+    in_bytes = x.in_bytes;
+    taken = y.taken;
+    l = y.l;
+    spelled = y.spelled;
+    joined = e ∙ definite_then y r;
+  })
+  | indefinite y ↦
+      record { level = l; bit = p; size = 128; after = c ++ (0 ∷ 0 ∷ r); not_empty = λ z. omega arith; joined = e ∙ indefinite_then y r }
+]
 
 -- a copy of contents may want memory where there are any
 pub copy_wants : (c : List ℕ) → 0 < length c → MayWant WantsMemory c
 copy_wants c h n m t s r x =
-    wants n m t s x.member.contents x.front r x.member.level (subst (λ z. 0 < length z) x.member.meaning h) x.member.element.framed x.joined
+    let y = x.member in
+    element_wants n m t Primitive s y.contents x.front r y.level (λ e. omega (arith, h, ap length (y.meaning ∙ e))) y.element x.joined

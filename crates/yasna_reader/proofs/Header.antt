@@ -16,7 +16,8 @@ use Rattle.yasna_reader.specs.declared.bytes.header.Refusal.{Refusal}
 use Rattle.yasna_reader.specs.Refusal.{IsPlain, IsTooDeep, Refuses}
 use Rattle.yasna_reader.specs.Length.{Measures}
 use Rattle.yasna_reader.specs.Front.{Takes, Stands}
-use Rattle.yasna_reader.specs.Header.{ContentsEnd, counted, uncounted, Counts, OpensAt, Holds, HasHeader, AnyBit, OnlyConstructed, RefusesHeader, AreContents}
+use Rattle.yasna_base.specs.Header.{ContentsEnd, counted, uncounted, Counts, OpensAt}
+use Rattle.yasna_reader.specs.Header.{Holds, HasHeader, AnyBit, OnlyConstructed, RefusesHeader, AreContents}
 use Rattle.yasna_base.proofs.Digits.{bytes_behind, bytes_front}
 use Rattle.yasna_reader.proofs.Refusal.{stood_refuses, refuses_less}
 

@@ -1,20 +1,20 @@
 -- Typed reads: what a front that was looked for does to a reading, and what that decodes.
-use Rattle.std.proofs.Common.{◌≡◌, ℕ, List, length, Some, None, Result, Ok, Err, Bool, true, false, refl, sym, ap, subst, ◌∙◌, arith}
+use Rattle.std.proofs.Common.{◌≡◌, ℕ, List, ◌∷◌, length, Some, None, Result, Ok, Err, Bool, true, false, refl, sym, ap, subst, ◌∙◌, arith}
 use Rattle.std.specs.Borrow.{Bor}
 use Rattle.yasna_base.specs.declared.error.ASN1Error.{ASN1Error}
 use Rattle.yasna_base.specs.declared.mode.BERMode.{BERMode}
 use Rattle.yasna_base.specs.declared.tag.Tag.{Tag}
 use Rattle.yasna_base.specs.Error.{kind_of}
-use Rattle.yasna_base.specs.Identifier.{end_tag, AtEnd, universal, tag_or}
+use Rattle.yasna_base.specs.Identifier.{BeginsWithTag, begins, end_tag, AtEnd, universal, tag_or}
 use Rattle.yasna_base.specs.Coding.{Any}
 use Rattle.yasna_base.proofs.Identifier.{not_end}
 use Rattle.yasna_reader.specs.declared.bytes.header.Refusal.{Refusal}
 use Rattle.yasna_reader.specs.State.{Reading, IsFresh, untagged, refusing, tag_of}
-use Rattle.yasna_reader.specs.Front.{Takes, AtFront}
-use Rattle.yasna_reader.specs.Contents.{Never}
+use Rattle.yasna_reader.specs.Front.{Takes, Stands, AtFront, SeenAt}
+use Rattle.yasna_reader.specs.Contents.{Never, WantsMemory}
 use Rattle.yasna_reader.specs.Primitive.{RefusedAs, ReadsFront, ReadsUnlessKept, Settles, FrontOf, Reads, NoLevel}
 use Rattle.yasna_reader.specs.Decodes.{Tells, KeptTells, Took, NotTook, IsQuietAtEnd, Decodes}
-use Rattle.yasna_reader.proofs.Refusal.{plain_of, at_end_elsewhere, not_at_end}
+use Rattle.yasna_reader.proofs.Refusal.{plain_of, at_end_elsewhere, not_at_end, refuses_less}
 
 settled : {A : Type 0} (B : A → List ℕ → Type 0) (D M : Type 0) (t : Tag) (s : Reading) (f : Result (A × Bor (List ℕ)) Refusal) (r : Result A ASN1Error)
     (s' : Reading) → AtFront B D M t s.left f → Settles (untagged s) f r s' → ReadsUnlessKept None B D M t s r s'
@@ -38,6 +38,20 @@ at_view B D M tag u z s r e f x =
     let y = subst (λ u. AtFront (B z.levels z.mode u) (D z.levels z.mode u z.left) (M z.levels u z.left) u z.left r) f x in
     subst (λ z. AtFront (B z.levels z.mode (tag_of s tag)) (D z.levels z.mode (tag_of s tag) z.left) (M z.levels (tag_of s tag) z.left) (tag_of s tag) z.left
     r) e y
+
+-- where a value is seen as view says, it stands for what is seen of it
+seen_front : {V A : Type 0} (B : A → List ℕ → Type 0) (view : V → A) (D M : Type 0) (t : Tag) (s : List ℕ) (r : Result (V × Bor (List ℕ)) Refusal) →
+    SeenAt B view D M t s r → AtFront (λ v b. B (view v) b) D M t s r
+seen_front B view D M t s (Ok x) h = record { front = h.front; joined = h.joined; member = h.member }
+seen_front {V} {A} B view D M t s (Err e) h = refuses_less (Stands B s) (Stands {A = V} (λ v b. B (view v) b) s) D M t s e
+    (λ w. (view w.0, w.1, record { front = w.2.front; joined = w.2.joined; member = w.2.member })) h
+
+-- what was seen with the fields of a reading was found for the reading
+pub seen_at_view : {V A : Type 0} (B : ℕ → BERMode → Tag → A → List ℕ → Type 0) (view : V → A) (D : ℕ → BERMode → Tag → List ℕ → Type 0)
+    (M : ℕ → Tag → List ℕ → Type 0) (tag u : Tag) (z s : Reading) (r : Result (V × Bor (List ℕ)) Refusal) → z ≡ s → u ≡ tag_of s tag →
+    SeenAt (B z.levels z.mode u) view (D z.levels z.mode u z.left) (M z.levels u z.left) u z.left r → FrontOf (λ n m t v b. B n m t (view v) b) D M tag s r
+seen_at_view B view D M tag u z s r e f x = at_view (λ n m t v b. B n m t (view v) b) D M tag u z s r e f
+    (seen_front (B z.levels z.mode u) view (D z.levels z.mode u z.left) (M z.levels u z.left) u z.left r x)
 
 -- the same of a whole typed read
 pub reads_front : {A : Type 0} (B : ℕ → BERMode → Tag → A → List ℕ → Type 0) (D : ℕ → BERMode → Tag → List ℕ → Type 0) (M : ℕ → Tag → List ℕ → Type 0)
@@ -154,3 +168,13 @@ pub leaf_decodes : {A : Type 0} (B : ℕ → BERMode → Tag → A → List ℕ 
     Decodes false (λ m n v b. B n m (universal k) v b) (Any (λ m n v b. B n m (universal k) v b)) s r s'
 leaf_decodes B k h s r s' t x f = reads_decodes B (λ m n v b. B n m (universal k) v b) (Any (λ m n v b. B n m (universal k) v b)) (universal k) (not_end k h)
     (λ m n v b y. y) (λ m n b y. y) s r s' (f, t) x
+
+-- a typed read under the type's own tag that may want memory decodes, where what lies too deep begins with that tag
+pub asking_decodes : {A : Type 0} (B : ℕ → BERMode → Tag → A → List ℕ → Type 0) (D : ℕ → BERMode → Tag → List ℕ → Type 0) (k : ℕ) → (k ≡ 0 → ⊥) →
+    ((n : ℕ) (m : BERMode) (s : List ℕ) → D n m (universal k) s → BeginsWithTag (universal k) s) → (s : Reading) (r : Result A ASN1Error) (s' : Reading) →
+    s.tag ≡ None → Reads B D WantsMemory (universal k) s r s' → s.kept ≡ None →
+    Decodes true (λ m n v b. B n m (universal k) v b) (Any (λ m n v b. B n m (universal k) v b)) s r s'
+asking_decodes B D k h begins_so s r s' t x f =
+    asked_decodes true B D WantsMemory (λ m n v b. B n m (universal k) v b) (Any (λ m n v b. B n m (universal k) v b)) (universal k) (not_end k h)
+    (λ m n v b y. y) (λ m n b y. y) (λ n m z a d. not_at_end (universal k) z (not_end k h) a (begins_so n m z d))
+    (λ n z a w. not_at_end (universal k) z (not_end k h) a (begins w.bit (w.size ∷ w.after) w.joined)) (λ n z w. refl) s r s' (f, t) x

@@ -15,7 +15,8 @@ use Rattle.yasna_base.proofs.Lists.{append_same, fronts_same}
 use Rattle.yasna_base.proofs.Identifier.{zeros_at_end}
 use Rattle.yasna_base.proofs.Element.{counted_header, uncounted_header}
 use Rattle.yasna_reader.specs.declared.bytes.header.Refusal.{Refusal}
-use Rattle.yasna_reader.specs.Header.{ContentsEnd, counted, uncounted, OpensAt, EndsAt, EndsBefore, RefusesHeader, OnlyConstructed}
+use Rattle.yasna_base.specs.Header.{ContentsEnd, counted, uncounted, OpensAt}
+use Rattle.yasna_reader.specs.Header.{EndsAt, EndsBefore, RefusesHeader, OnlyConstructed}
 use Rattle.yasna_reader.specs.Parse.{unless_kept}
 use Rattle.yasna_reader.specs.Sequence.{place_in, Fails, Left, Entered, NotEntered, EntersUnlessKept, ReadsParts}
 use Rattle.yasna_reader.specs.Decodes.{Tells, KeptTells, NotTook, IsQuietAtEnd, Decodes, NotContents, TookContents, DecodesContents}
@@ -47,13 +48,13 @@ module _ {A : Type 0} (P Q : Reading → Result A ASN1Error → Reading → Type
   parts_map tag s r s' h = record { enters = entered s.kept (tag_of s tag) s r s' h.enters }
 
 -- y is what stands behind contents, and r what follows their element
-record Behind (c d : List ℕ) (after : ContentsEnd) (r : List ℕ) : Type 0 where
-  y : List ℕ
-  joined : c ≡ d ++ y
-  ends : EndsBefore after y r
+pub record Behind (c d : List ℕ) (after : ContentsEnd) (r : List ℕ) : Type 0 where
+  pub y : List ℕ
+  pub joined : c ≡ d ++ y
+  pub ends : EndsBefore after y r
 
 -- an element that stands where a header was read has its contents there
-placed : (m : BERMode) (t : Tag) (p : PCBit) (s c : List ℕ) (after : ContentsEnd) → OpensAt m t p s c after → (d b r : List ℕ) → Element m t p d b →
+pub placed : (m : BERMode) (t : Tag) (p : PCBit) (s c : List ℕ) (after : ContentsEnd) → OpensAt m t p s c after → (d b r : List ℕ) → Element m t p d b →
     s ≡ b ++ r → Behind c d after r
 placed m t p s c (counted a) x d b r y e =
     let h = counted_header m m t t p p (length c) x.l d b (c ++ a) r x.spelled y.framed (sym x.joined ∙ e) in
@@ -64,12 +65,12 @@ placed m t p s c uncounted x d b r y e =
     record { y = 0 ∷ 0 ∷ r; joined = h.behind; ends = refl }
 
 -- where contents end behind a header, an element stands
-record StandsBefore (m : BERMode) (t : Tag) (p : PCBit) (s d r : List ℕ) : Type 0 where
-  bytes : List ℕ
-  joined : s ≡ bytes ++ r
-  element : Element m t p d bytes
+pub record StandsBefore (m : BERMode) (t : Tag) (p : PCBit) (s d r : List ℕ) : Type 0 where
+  pub bytes : List ℕ
+  pub joined : s ≡ bytes ++ r
+  pub element : Element m t p d bytes
 
-closed : (m : BERMode) (t : Tag) (p : PCBit) (s c : List ℕ) (after : ContentsEnd) → OpensAt m t p s c after → (d y r : List ℕ) → c ≡ d ++ y →
+pub closed : (m : BERMode) (t : Tag) (p : PCBit) (s c : List ℕ) (after : ContentsEnd) → OpensAt m t p s c after → (d y r : List ℕ) → c ≡ d ++ y →
     EndsBefore after y r → StandsBefore m t p s d r
 closed m t p s c (counted a) x d y r e h =
     let f : c ≡ d = e ∙ ap (λ z. d ++ z) h.0 ∙ append-nil d in
@@ -92,11 +93,11 @@ closed m t p s c uncounted x d y r e h = record {
   };
 }
 
-ends_at : (after : ContentsEnd) (y r : List ℕ) → EndsBefore after y r → EndsAt after y
+pub ends_at : (after : ContentsEnd) (y r : List ℕ) → EndsBefore after y r → EndsAt after y
 ends_at (counted a) y r h = h.0
 ends_at uncounted y r h = (r, h)
 
-end_behind : (after : ContentsEnd) (y r : List ℕ) → EndsBefore after y r → AtEnd y
+pub end_behind : (after : ContentsEnd) (y r : List ℕ) → EndsBefore after y r → AtEnd y
 end_behind (counted a) y r h = nothing h.0
 end_behind uncounted y r h = subst (λ z. AtEnd z) (sym h) (zeros_at_end (0 ∷ r))
 
@@ -111,7 +112,7 @@ within C t m zero v b h = absurd h
 within C t m (suc n) v b h = let e : n ≡ suc n - 1 = omega arith in (omega arith, subst (λ k. Around m t (C m k) v b) e h)
 
 -- what is left behind a front is found by its length
-place_behind : (b r : List ℕ) → place_in (b ++ r) r ≡ r
+pub place_behind : (b r : List ℕ) → place_in (b ++ r) r ≡ r
 place_behind b r =
     let e : length (b ++ r) - length r ≡ length b = omega (arith, length-append b r) in
     ap (λ n. drop n (b ++ r)) e ∙ drop-append_seam b r

@@ -1,5 +1,5 @@
 -- What reading parts, and values that stand for others, does.
-use Rattle.std.proofs.Common.{◌≡◌, ℕ, List, [], ◌++◌, length, Option, Some, None, refl, sym, ap, subst, ◌∙◌, append_assoc, length-append, Bool, false, ◌||◌, zero, suc, arith}
+use Rattle.std.proofs.Common.{◌≡◌, ℕ, List, [], ◌++◌, length, Option, Some, None, refl, sym, ap, subst, ◌∙◌, append_assoc, length-append, Bool, true, false, ◌||◌, zero, suc, arith}
 use Rattle.std.proofs.lemmas.Bool.{or_left, or_right}
 use Rattle.std.specs.Prelude.{Result, Ok, Err}
 use Rattle.yasna_base.specs.declared.error.ASN1Error.{ASN1Error}
@@ -168,6 +168,33 @@ abbrev pub seen : {U A : Type 0} → (U → A) → Result U ASN1Error → Result
 seen f (Ok v) = Ok (f v)
 seen f (Err e) = Err e
 
+-- What reads one way of a choice, where nothing of another way stands, reads the choice: its values stand by f for those of
+-- the choice.
+module _ {A U : Type 0} (asks more : Bool) (B : BERMode → ℕ → A → List ℕ → Type 0) (S : BERMode → ℕ → List ℕ → Type 0)
+    (D : BERMode → ℕ → U → List ℕ → Type 0) (T : BERMode → ℕ → List ℕ → Type 0) (f : A → U)
+    (says : (m : BERMode) (n : ℕ) (v : A) (b : List ℕ) → B m n v b → D m n (f v) b) (up : asks ≡ true → more ≡ true) where
+  chosen_tells : (m : BERMode) (n : ℕ) (s : List ℕ) → ((b r : List ℕ) → s ≡ b ++ r → T m n b → S m n b) → (e : ASN1Error) → Tells asks (S m n) s e →
+      Tells more (T m n) s e
+  chosen_tells m n s only e h = record { none = λ q b r i j. h.none q b r i (only b r i j); memory = λ q. up (h.memory q) }
+
+  chosen_kept : (m : BERMode) (n : ℕ) (s : List ℕ) → ((b r : List ℕ) → s ≡ b ++ r → T m n b → S m n b) → (k : Option ASN1Error) →
+      KeptTells asks (S m n) s k → KeptTells more (T m n) s k
+  chosen_kept m n s only None h = tt
+  chosen_kept m n s only (Some e) h = chosen_tells m n s only e h
+
+  pub chosen : (s : Reading) → ((b r : List ℕ) → s.left ≡ b ++ r → T s.mode s.levels b → S s.mode s.levels b) → (x : Result A ASN1Error) (s' : Reading) →
+      Decodes asks B S s x s' → Decodes more D T s (seen f x) s'
+  chosen s only (Ok v) s' h = record { front = h.front; rest = h.rest; joined = h.joined; stands = says s.mode s.levels v h.front h.stands; left = h.left }
+  chosen s only (Err e) s' h = (
+    record {
+      tells = chosen_tells s.mode s.levels s.left only e h.0.tells;
+      kept = chosen_kept s.mode s.levels s.left only s'.kept h.0.kept;
+      further = h.0.further;
+      same = h.0.same;
+    },
+    h.1,
+  )
+
 made : {U A : Type 0} (f : U → A) (make : A → U) → ((w : A) → f (make w) ≡ w) →
     (asks : Bool) (C : BERMode → ℕ → A → List ℕ → Type 0) (S : BERMode → ℕ → List ℕ → Type 0) (s : Reading) (r : Result U ASN1Error) (s' : Reading) →
     DecodesParts asks (Made C make) S s r s' → DecodesParts {A = U} asks (λ m n v c. C m n (f v) c) S s r s'
@@ -180,7 +207,8 @@ made f make back asks C S s (Ok v) s' h = record {
 }
 made f make back asks C S s (Err e) s' h = h
 
-enclosed_seen : {U A : Type 0} (f : U → A) (C : BERMode → ℕ → A → List ℕ → Type 0) (t : Tag) (m : BERMode) (n : ℕ) (v : U) (b : List ℕ) →
+-- an element around what stands for a value is one that stands for the value
+pub enclosed_seen : {U A : Type 0} (f : U → A) (C : BERMode → ℕ → A → List ℕ → Type 0) (t : Tag) (m : BERMode) (n : ℕ) (v : U) (b : List ℕ) →
     Enclosed {A = U} (λ m n v c. C m n (f v) c) t m n v b → Enclosed C t m n (f v) b
 enclosed_seen f C t m zero v b h = h
 enclosed_seen f C t m (suc n) v b h = record { contents = h.contents; element = h.element; meaning = h.meaning }

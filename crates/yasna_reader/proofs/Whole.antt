@@ -63,6 +63,19 @@ pub exactly : {A : Type 0} {E : A → A → Type 0} {B : BERMode → ℕ → A �
 exactly asks laws m s (Ok w) h v k = laws.meaning.exact m 101 101 w v s h k
 exactly asks laws m s (Err e) h v k = elim (memory_or (kind_of e)) [ inl f ↦ f | inr f ↦ absurd (h.none f (laws.meaning.among m 101 v s k)) ]
 
+-- the same, where what is read stands for a value
+pub exactly_as : {U A : Type 0} {E : A → A → Type 0} {B : BERMode → ℕ → A → List ℕ → Type 0} {S : BERMode → ℕ → List ℕ → Type 0} (asks : Bool) (f : U → A) →
+    IsCoding E B S → (m : BERMode) (s : List ℕ) (r : Result U ASN1Error) → Decoded {A = U} asks (λ m n u b. B m n (f u) b) S m s r → (v : A) → B m 101 v s →
+    MatchResult r (λ u. E (f u) v) (λ e. kind_of e ≡ OutOfMemory)
+exactly_as asks f laws m s (Ok u) h v k = laws.meaning.exact m 101 101 (f u) v s h k
+exactly_as asks f laws m s (Err e) h v k = elim (memory_or (kind_of e)) [ inl q ↦ q | inr q ↦ absurd (h.none q (laws.meaning.among m 101 v s k)) ]
+
+-- what is read is encoded there
+pub reads_some : {A : Type 0} (asks : Bool) (B : BERMode → ℕ → A → List ℕ → Type 0) (S : BERMode → ℕ → List ℕ → Type 0) (m : BERMode) (s : List ℕ)
+    (r : Result A ASN1Error) → Decoded asks B S m s r → IfOk r (λ v. B m 101 v s)
+reads_some asks B S m s (Ok v) h = h
+reads_some asks B S m s (Err e) h = tt
+
 -- what is read in a canonical mode is the form of the value
 pub read_form : {A : Type 0} {E : A → A → Type 0} {B : BERMode → ℕ → A → List ℕ → Type 0} {form : BERMode → A → List ℕ} {nest : BERMode → A → ℕ}
     {Can : A → Type 0} {S : BERMode → ℕ → List ℕ → Type 0} (asks : Bool) → IsCoding E B S → IsWritten E B form nest Can → (m : BERMode) → IsCanonicalMode m →

@@ -1,8 +1,9 @@
 -- Headers at the front of bytes, and where contents end (X.690, 8.1).
 use Rattle.std.specs.Borrow.{Bor}
-use Rattle.std.specs.Prelude.{◌≡◌, ℕ, ◌^◌, ◌<◌, ◌≤◌, List, [], ◌∷◌, ◌++◌, length, Option, Some, None, Result, Ok, Err}
+use Rattle.std.specs.Prelude.{◌≡◌, ℕ, ◌≤◌, List, [], ◌∷◌, ◌++◌, length, Option, Some, None, Result, Ok, Err}
 use Rattle.yasna_base.specs.Digits.{IsBytes}
 use Rattle.yasna_base.specs.Element.{TakesDefinite, TakesIndefinite, IsPrimitive}
+use Rattle.yasna_base.specs.Header.{ContentsEnd, counted, uncounted, OpensAt}
 use Rattle.yasna_base.specs.Identifier.{identifier}
 use Rattle.yasna_base.specs.Length.{SpellsLength}
 use Rattle.yasna_base.specs.declared.error.ASN1ErrorKind.{ASN1ErrorKind}
@@ -14,32 +15,6 @@ use Rattle.yasna_reader.specs.Front.{Takes, Stands}
 use Rattle.yasna_reader.specs.Refusal.{IsPlain, IsTooDeep, Refuses}
 use Rattle.yasna_reader.specs.declared.bytes.header.Opened.{Opened}
 use Rattle.yasna_reader.specs.declared.bytes.header.Refusal.{Refusal}
-
--- where the contents of an element end: before what follows the element, as their length counts them, or before two zeros
-pub data ContentsEnd : Type 0 where
-  counted : List ℕ → ContentsEnd
-  uncounted : ContentsEnd
-
--- the identifier of t with p, a length, the contents c that it counts, and r
-pub record Counts (m : BERMode) (t : Tag) (p : PCBit) (s c r : List ℕ) : Type 0 where
-  pub in_range : t.tag_number < 2 ^ 64
-  pub in_bytes : IsBytes c
-  pub taken : TakesDefinite m p
-  pub l : List ℕ
-  pub spelled : SpellsLength m (length c) l
-  pub joined : s ≡ identifier t p ++ (l ++ (c ++ r))
-
--- the identifier, 128, and c
-pub record Leaves (m : BERMode) (t : Tag) (p : PCBit) (s c : List ℕ) : Type 0 where
-  pub in_range : t.tag_number < 2 ^ 64
-  pub in_bytes : IsBytes c
-  pub taken : TakesIndefinite m p
-  pub joined : s ≡ identifier t p ++ (128 ∷ c)
-
--- a header stands at the front, and behind it c: the contents, or where their length is indefinite all that is left
-abbrev pub OpensAt : BERMode → Tag → PCBit → List ℕ → List ℕ → ContentsEnd → Type 0
-OpensAt m t p s c (counted r) = Counts m t p s c r
-OpensAt m t p s c uncounted = Leaves m t p s c
 
 -- behind an identifier with the bit p, a length, the contents c that it counts, and r; or the byte of the indefinite form and c
 abbrev pub Holds : BERMode → PCBit → List ℕ → List ℕ → ContentsEnd → Type 0

@@ -7,18 +7,22 @@ use Rattle.yasna_base.specs.declared.error.ASN1Error.{ASN1Error}
 use Rattle.yasna_base.specs.declared.error.ASN1ErrorKind.{ASN1ErrorKind}
 use Rattle.yasna_base.specs.declared.tag.PCBit.TheVariants.{Constructed}
 use Rattle.yasna_base.specs.declared.tag.Tag.{Tag}
-use Rattle.yasna_reader.specs.Header.{ContentsEnd, OpensAt, OnlyConstructed, RefusesHeader, EndsAt, EndsBefore}
+use Rattle.yasna_base.specs.Header.{ContentsEnd, OpensAt}
+use Rattle.yasna_reader.specs.Header.{OnlyConstructed, RefusesHeader, EndsAt, EndsBefore}
 use Rattle.yasna_reader.specs.Refusal.{IsPlain}
 use Rattle.yasna_reader.specs.State.{Reading, failing, inside, refusing, tag_of, untagged}
 use Rattle.yasna_reader.specs.declared.bytes.header.Refusal.{Refusal}
 use Rattle.yasna_reader.specs.declared.state.Parts.{Parts}
 
--- What f may be called on: the reading of the contents of an element with the tag, where one stands at the front, no
--- failure is kept and a level is left
+-- P holds of the reading of the contents of an element with the tag, where one stands at the front, no failure is kept and
+-- a level is left
+abbrev pub TakesContents : (Reading → Type 0) → Tag → Reading → Type 0
+TakesContents P tag s =
+    (c : List ℕ) (end : ContentsEnd) → s.kept ≡ None → 1 ≤ s.levels → OpensAt s.mode (tag_of s tag) Constructed s.left c end → P (inside s c)
+
+-- f may be called on the parts of such an element
 abbrev pub TakesParts : {F R : Type 0} → Once F (MutBor (Parts Reading) × Unit {0}) R → F → Tag → Reading → Type 0
-TakesParts g f tag s =
-    (c : List ℕ) (end : ContentsEnd) → s.kept ≡ None → 1 ≤ s.levels → OpensAt s.mode (tag_of s tag) Constructed s.left c end →
-    FnOnceTakesAtMut g f (record { reader = inside s c })
+TakesParts g f tag s = TakesContents (λ z. FnOnceTakesAtMut g f (record { reader = z })) tag s
 
 -- f runs on the reading s, answers r and leaves s'
 abbrev pub Runs : {F A : Type 0} → Once F (MutBor (Parts Reading) × Unit {0}) (Result A ASN1Error × (MutBor (Parts Reading) × Unit {0})) → F → Reading →

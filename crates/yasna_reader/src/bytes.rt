@@ -1,11 +1,16 @@
-//! What stands at the front of bytes, one notion a module: an element's identifier, its length, its header, its contents
-//! (X.690, 8.1).
+//! What stands at the front of bytes, one notion a module: a number in base 128, an element's identifier, its length,
+//! its header, its contents (X.690, 8.1).
 //!
 //! Everything here goes over a `Cursor` or a slice, and knows nothing of implicit tags, kept failures and callbacks.
-//! Every read of an element passes `header::open`.
+//! Every read of an element of a wanted tag passes `header::open`, every one of any tag `walk::open_any`.
 
+pub mod base128;
 pub mod contents;
 pub mod cursor;
 pub mod header;
 pub mod identifier;
 pub mod length;
+pub mod segments;
+pub mod text;
+pub mod times;
+pub mod walk;

@@ -7,16 +7,34 @@
 //! |---|---|
 //! | `parse` | parses of whole inputs |
 //! | `state` | the state of a reading, and what the calls on it share |
-//! | `primitive` | reads of BOOLEAN, NULL, INTEGER and ENUMERATED |
+//! | `primitive` | reads of BOOLEAN, NULL, INTEGER, ENUMERATED and OBJECT IDENTIFIER |
+//! | `strings` | reads of OCTET STRING, BIT STRING and character strings |
+//! | `raw` | reads of raw elements |
+//! | `times` | reads of UTCTime and GeneralizedTime |
 //! | `sequence` | reads of constructed elements whose contents a callback reads |
-//! | `bytes` | over bytes alone: identifier, length, header, contents |
+//! | `sequence_of` | reads of lists, whose elements a callback reads one by one |
+//! | `callback` | what becomes of a reading that a callback is handed |
+//! | `tagged` | reads under tags of the caller's |
+//! | `optional` | reads of parts that may be left out |
+//! | `buffer` | reads that also answer the bytes they took |
+//! | `lookahead` | the next tag |
+//! | `bytes` | over bytes alone: numbers in base 128, identifier, length, header, contents |
 #![tactic(auto)]
 
+mod buffer;
 mod bytes;
+mod callback;
+mod lookahead;
+mod optional;
 mod parse;
 mod primitive;
+mod raw;
 mod sequence;
+mod sequence_of;
 mod state;
+mod strings;
+mod tagged;
+mod times;
 
 pub use parse::{parse_ber, parse_ber_general, parse_der};
 pub use state::{BERReader, BERReaderSeq, Parts, ReaderState};

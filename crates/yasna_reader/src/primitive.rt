@@ -1,17 +1,20 @@
-//! Reads of types of one primitive element: BOOLEAN, NULL, INTEGER and ENUMERATED (X.690, 8.2 to 8.4 and 8.8).
+//! Reads of types of one primitive element: BOOLEAN, NULL, INTEGER, ENUMERATED and OBJECT IDENTIFIER (X.690, 8.2 to 8.4,
+//! 8.8 and 8.19).
 
 use crate::bytes::contents::{Contents, value};
 use crate::bytes::header::Refusal;
 use crate::state::ReaderState;
 use yasna_base::error::ASN1Result;
+use yasna_base::models::ObjectIdentifier;
 use yasna_base::tag::Tag;
-use yasna_base::tags::{TAG_BOOLEAN, TAG_ENUM, TAG_INTEGER, TAG_NULL};
+use yasna_base::tags::{TAG_BOOLEAN, TAG_ENUM, TAG_INTEGER, TAG_NULL, TAG_OID};
 
 impl<'a> ReaderState<'a> {
     ghost use Rattle.std.specs.Int.{w64, w32, w16, w8};
     ghost use Rattle.yasna_base.specs.Element.{Primitively};
     ghost use Rattle.yasna_base.specs.Boolean.{IsBoolean};
     ghost use Rattle.yasna_base.specs.Null.{IsNull};
+    ghost use Rattle.yasna_base.specs.Oid.{AreComponents};
     ghost use Rattle.yasna_base.specs.Integer.{IsSigned, IsUnsigned};
     ghost use Rattle.yasna_reader.specs.Contents.{HoldsBigInteger, Never, WantsMemory};
     ghost use Rattle.yasna_reader.specs.Primitive.{Reads, FrontOf, NoLevel};
@@ -110,6 +113,14 @@ impl<'a> ReaderState<'a> {
         ensures { Reads (Primitively HoldsBigInteger) NoLevel WantsMemory TAG_INTEGER self.old result self.new }
     {
         self.read_primitive::<(Vec<u8>, bool)>(TAG_INTEGER)
+    }
+
+    /// Reads OBJECT IDENTIFIER: `IntegerOverflow` where a subidentifier passes 2^64-1.
+    #[inline(always)]
+    pub fn read_oid(&mut self) -> ASN1Result<ObjectIdentifier>
+        ensures { Reads (Primitively AreComponents) NoLevel WantsMemory TAG_OID self.old result self.new }
+    {
+        self.read_primitive::<ObjectIdentifier>(TAG_OID)
     }
 
     // What stands at the front as an element of one primitive type.

@@ -65,7 +65,7 @@ impl<'a> ReaderState<'a> {
 
     // The header of a constructed element of this tag, or of the implicit one.
     #[inline(always)]
-    fn enter(&self, tag: Tag) -> Result<Opened<'a>, Refusal>
+    pub(crate) fn enter(&self, tag: Tag) -> Result<Opened<'a>, Refusal>
         ensures { ConstructedAt self.now.mode self.now.levels (tag_of self.now tag) self.now.left result }
     {
         constructed(self.cursor, self.wanted(tag))
@@ -73,7 +73,7 @@ impl<'a> ReaderState<'a> {
 
     // The reading of an element's contents.
     #[inline(always)]
-    fn within(&self, opened: &Opened<'a>) -> ReaderState<'a>
+    pub(crate) fn within(&self, opened: &Opened<'a>) -> ReaderState<'a>
         requires { 1 ≤ self.now.levels }
         ensures { result ≡ inside self.now opened.now.within.now }
     {
@@ -87,7 +87,7 @@ impl<'a> ReaderState<'a> {
 
     // What is made of a callback's answer, where it left the contents of an element like this.
     #[inline(always)]
-    fn leave<T: Drop>(
+    pub(crate) fn leave<T: Drop>(
         &mut self,
         opened: &Opened<'a>,
         answer: ASN1Result<T>,
@@ -116,7 +116,7 @@ impl<'a> ReaderState<'a> {
 
     // Keeps a failure, and answers it.
     #[inline(always)]
-    fn fail<T>(&mut self, error: ASN1Error) -> ASN1Result<T>
+    pub(crate) fn fail<T>(&mut self, error: ASN1Error) -> ASN1Result<T>
         ensures { Fails error self.old result self.new }
     {
         self.kept = Some(error);

@@ -1,4 +1,5 @@
-//! What the contents of one primitive element say, where a type is of such elements alone (X.690, 8.2 to 8.4 and 8.8).
+//! What the contents of one primitive element say, where a type is of such elements alone (X.690, 8.2 to 8.4, 8.8 and
+//! 8.19).
 //!
 //! A type's file holds its impl of `Contents`; `value` reads any such type.
 ghost use Rattle.std.specs.Prelude.{ℕ, List};
@@ -10,6 +11,7 @@ mod big_integer;
 mod boolean;
 mod integer;
 mod null;
+mod oid;
 
 use crate::bytes::cursor::Cursor;
 use crate::bytes::header::{Refusal, primitive, refuse};

@@ -18,10 +18,12 @@ pub struct Cursor<'a> {
     pub mode: BERMode,
     /// How many levels of elements are still allowed.
     pub levels: u8,
+
+    ghost few: { levels ≤ 101 },
 }
 
 impl<'a> Cursor<'a> {
-    ghost use Rattle.std.specs.Prelude.{◌≡◌, ◌-◌, ◌≤◌};
+    ghost use Rattle.std.specs.Prelude.{◌≡◌, ◌+◌, ◌-◌, ◌≤◌};
 
     /// The beginning of an input.
     #[inline(always)]
@@ -55,6 +57,41 @@ impl<'a> Cursor<'a> {
             end,
             mode: self.mode,
             levels: self.levels - 1,
+        }
+    }
+
+    /// A place further on in the same contents.
+    #[inline(always)]
+    pub fn further(self, left: &'a [u8]) -> Cursor<'a>
+        ensures left { result.left.now ≡ left.now }
+        ensures mode { result.mode ≡ self.entry.mode }
+        ensures levels { result.levels ≡ self.entry.levels }
+    {
+        Cursor {
+            left,
+            end: self.end,
+            mode: self.mode,
+            levels: self.levels,
+        }
+    }
+
+    /// The place behind the element around this one, whose contents end so.
+    #[inline(always)]
+    pub fn outside(self, end: Option<&'a [u8]>, after: &'a [u8]) -> Cursor<'a>
+        requires { self.levels ≤ 100 }
+        ensures left { result.left.now ≡ after.now }
+        ensures mode { result.mode ≡ self.entry.mode }
+        ensures levels { result.levels ≡ self.entry.levels + 1 }
+    {
+        let end = match end {
+            Some(_) => self.end.saturating_add(after.len()),
+            None => self.end,
+        };
+        Cursor {
+            left: after,
+            end,
+            mode: self.mode,
+            levels: self.levels + 1,
         }
     }
 }

@@ -2,7 +2,8 @@
 ghost use Rattle.std.specs.Prelude.{◌≡◌, IsTrue, ◌↔◌};
 ghost use Rattle.yasna_base.specs.Element.{TakesIndefinite};
 ghost use Rattle.yasna_reader.specs.Refusal.{IsPlain};
-ghost use Rattle.yasna_reader.specs.Header.{ContentsAt, OpenedAt, ConstructedAt, PrimitiveAt, ClosesAt, contents_end, uncounted};
+ghost use Rattle.yasna_base.specs.Header.{uncounted};
+ghost use Rattle.yasna_reader.specs.Header.{ContentsAt, OpenedAt, ConstructedAt, PrimitiveAt, ClosesAt, contents_end};
 
 use crate::bytes::cursor::Cursor;
 use crate::bytes::identifier::read_identifier;
@@ -97,9 +98,9 @@ pub fn open(cursor: Cursor<'_>, tag: Tag) -> Result<Opened<'_>, Refusal>
     }
 }
 
-// Reads a length, and cuts off the contents that it counts.
+/// Reads a length, and cuts off the contents that it counts.
 #[inline(always)]
-fn contents(
+pub fn contents(
     s: &[u8],
     mode: BERMode,
     bit: PCBit,

@@ -3,11 +3,9 @@ ghost use Rattle.std.specs.Prelude.{◌≡◌, ◌+◌, ◌*◌, ◌<◌};
 ghost use Rattle.yasna_base.specs.Identifier.{class_number, bit_number};
 ghost use Rattle.yasna_reader.specs.Identifier.{NumberAt, IdentifierAt};
 
+use crate::bytes::base128::read_base128;
 use yasna_base::error::ASN1ErrorKind;
 use yasna_base::tag::{PCBit, Tag, TagClass};
-
-// From here on a further digit in base 128 passes 2^64 - 1.
-const LEAST_TOO_LARGE: u64 = 144115188075855872;
 
 // The class, the bit and the low five bits of an identifier's first byte.
 #[inline(always)]
@@ -29,33 +27,21 @@ fn leading(first: u8) -> (TagClass, PCBit, u8)
     (class, bit, first % 32)
 }
 
-// Reads a tag number of the long form, in base 128, the highest digit first.
+// Reads a tag number of the long form.
 #[cold]
 #[inline(never)]
 fn read_number(s: &[u8]) -> Result<(u64, &[u8]), ASN1ErrorKind>
     ensures { NumberAt s.now result }
 {
-    let mut number: u64 = 0;
-    let mut rest = s;
-    while let Some((byte, after)) = rest.split_first() {
-        // A first digit of zero says nothing.
-        if number == 0 && *byte == 128 {
-            return Err(ASN1ErrorKind::Invalid);
-        }
-        if number >= LEAST_TOO_LARGE {
-            return Err(ASN1ErrorKind::IntegerOverflow);
-        }
-        rest = after;
-        if *byte < 128 {
-            let found = number * 128 + u64::from(*byte);
-            if found < 31 {
+    match read_base128(s) {
+        Ok((number, rest)) => {
+            if number < 31 {
                 return Err(ASN1ErrorKind::Invalid);
             }
-            return Ok((found, rest));
+            Ok((number, rest))
         }
-        number = number * 128 + u64::from(*byte - 128);
+        Err(kind) => Err(kind),
     }
-    Err(ASN1ErrorKind::Eof)
 }
 
 /// Reads an identifier.

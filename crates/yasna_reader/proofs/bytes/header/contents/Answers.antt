@@ -1,6 +1,7 @@
 use Rattle.std.proofs.Common.{rules, ◌≡◌, ◌∷◌, Some, refl}
 use Rattle.yasna_reader.specs.Length.{Measures}
-use Rattle.yasna_reader.specs.Header.{Holds, counted, uncounted}
+use Rattle.yasna_base.specs.Header.{counted, uncounted}
+use Rattle.yasna_reader.specs.Header.{Holds}
 use Rattle.yasna_base.proofs.Digits.{slice_bytes}
 use Rattle.yasna_reader.proofs.Header.{takes_definite, holds_counted, holds_none, holds_short, holds_closed, holds_bytes}
 use Rattle.yasna_reader.proofs.bytes.header.contents.Goals as goal

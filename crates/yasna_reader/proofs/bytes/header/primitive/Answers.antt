@@ -1,5 +1,6 @@
 use Rattle.std.proofs.Common.{rules, refl}
-use Rattle.yasna_reader.specs.Header.{OpensAt, AreContents, counted, contents_end}
+use Rattle.yasna_base.specs.Header.{OpensAt, counted}
+use Rattle.yasna_reader.specs.Header.{AreContents, contents_end}
 use Rattle.yasna_reader.proofs.Header.{header_refuses, takes_primitive, other_primitive}
 use Rattle.yasna_reader.proofs.bytes.header.primitive.Goals as goal
 

@@ -4,7 +4,7 @@ use Rattle.std.proofs.lemmas.Bool.{cases_lt}
 use Rattle.std.specs.Int.Digits.{number_from_digits, number_from_digits_after, AllBelowBase}
 use Rattle.std.proofs.lemmas.Int.Digits.{number_after_ge}
 use Rattle.yasna_base.specs.Digits.{marked, IsBytes, digits, base128}
-use Rattle.yasna_base.proofs.Digits.{digits_below, digits_some, digits_first, number_digits, base128_only}
+use Rattle.yasna_base.proofs.Digits.{digits_below, digits_some, digits_first, number_digits, base128_only, digits_small, base128_exact}
 
 -- the number so far was n
 abbrev pub scan : ℕ → List ℕ → Option (ℕ × List ℕ)
@@ -93,60 +93,66 @@ not_128 [] r s a h e = omega arith
 not_128 (d ∷ []) r s a h e = let f : d ≡ 128 = cc in let b = a.0 in omega arith
 not_128 (d ∷ f ∷ ds) r s a h e = let g : 128 + d ≡ 128 = cc in omega arith
 
--- it doesn't begin with a digit of zero that others follow
-pub base_head : (k : ℕ) (r s : List ℕ) → 1 ≤ k → base128 k ++ r ≡ 128 ∷ s → ⊥
+not_zero : (n : ℕ) → n < 128 → (s r : List ℕ) → base128 n ++ r ≡ 128 ∷ s → ⊥
 unfolding base128
-base_head k r s h e = not_128 (digits 128 k) r s (digits_below 128 k (omega arith)) (digits_first 128 k (omega arith) h) e
+not_zero n h s r e =
+    let f : n ∷ r ≡ 128 ∷ s = sym (ap (λ ds. marked ds ++ r) (digits_small 128 n (omega arith) h)) ∙ e in
+    let g : n ≡ 128 = cc in
+    omega arith
 
-first_digit : (ds : List ℕ) (r s : List ℕ) (k : ℕ) → number_from_digits 128 ds ≡ k → 31 ≤ k → 1 ≤ length ds → s ≡ marked ds ++ r →
-    ((y : List ℕ) → s ≡ 128 ∷ y → ⊥) → 0 < get_or ds 0 0
-first_digit [] r s k n h l e f = absurd (omega arith)
-first_digit (d ∷ []) r s k n h l e f = let g : 0 * 128 + d ≡ k = n in omega arith
-first_digit (d ∷ c ∷ ds) r s k n h l e f =
-    elim (cases_lt 0 d) [
-      | inl g ↦ g
-      | inr g ↦ let z : d ≡ 0 = omega arith in absurd
-          (f (marked (c ∷ ds) ++ r) (e ∙ ap (λ x. (128 + x) ∷ (marked (c ∷ ds) ++ r)) z))
-    ]
+not_large : (k : ℕ) → 128 ≤ k → (s r : List ℕ) → base128 k ++ r ≡ 128 ∷ s → ⊥
+unfolding base128
+not_large k h s r e = not_128 (digits 128 k) r s (digits_below 128 k (omega arith)) (digits_first 128 k (omega arith) (omega arith)) e
 
--- what was read is the number's spelling, where it isn't below 31 and doesn't begin with a digit of zero
-pub base_found : (s : List ℕ) (k : ℕ) (r : List ℕ) → IsBytes s → 31 ≤ k → ((y : List ℕ) → s ≡ 128 ∷ y → ⊥) → scan 0 s ≡ Some (k, r) → s ≡ base128 k ++ r
-base_found s k r a h f e =
+-- it doesn't begin with a digit of zero that others follow
+pub base_head : (k : ℕ) (r s : List ℕ) → base128 k ++ r ≡ 128 ∷ s → ⊥
+base_head k r s e = elim (cases_lt k 128) [ inl h ↦ not_zero k h s r e | inr h ↦ not_large k h s r e ]
+
+one_digit : (d : ℕ) → d < 128 → base128 d ≡ d ∷ []
+unfolding base128
+one_digit d h = ap marked (digits_small 128 d (omega arith) h)
+
+-- digits that don't begin with a zero that others follow are those of their number
+spelling : (ds r s : List ℕ) → AllBelowBase 128 ds → 1 ≤ length ds → s ≡ marked ds ++ r → ((y : List ℕ) → s ≡ 128 ∷ y → ⊥) →
+    base128 (number_from_digits 128 ds) ≡ marked ds
+spelling [] r s a l e f = absurd (omega arith)
+spelling (d ∷ []) r s a l e f = let z : 0 * 128 + d ≡ d = omega arith in ap base128 z ∙ one_digit d a.0
+spelling (d ∷ c ∷ ds) r s a l e f = elim (cases_lt 0 d) [
+  | inl g ↦ base128_only (d ∷ c ∷ ds) a g
+  | inr g ↦ let z : d ≡ 0 = omega arith in absurd (f (marked (c ∷ ds) ++ r) (e ∙ ap (λ x. (128 + x) ∷ (marked (c ∷ ds) ++ r)) z))
+]
+
+-- what was read is the number's spelling, where it doesn't begin with a digit of zero
+pub base_found : (s : List ℕ) (k : ℕ) (r : List ℕ) → IsBytes s → ((y : List ℕ) → s ≡ 128 ∷ y → ⊥) → scan 0 s ≡ Some (k, r) → s ≡ base128 k ++ r
+base_found s k r a f e =
     let w = scanned s 0 k r a e in
     let n : number_from_digits 128 w.digits ≡ k = w.number in
-    let g : base128 (number_from_digits 128 w.digits) ≡ marked w.digits = base128_only w.digits w.below (first_digit w.digits r s k n h w.some w.joined f) in
+    let g : base128 (number_from_digits 128 w.digits) ≡ marked w.digits = spelling w.digits r s w.below w.some w.joined f in
     w.joined ∙ ap (λ z. z ++ r) (sym g ∙ ap base128 n)
 
 -- bytes that are read otherwise aren't a number's spelling
-pub no_number : (s : List ℕ) (z : Option (ℕ × List ℕ)) → scan 0 s ≡ z →
-    ((n : ℕ) (r : List ℕ) → 31 ≤ n → n < 2 ^ 64 → s ≡ base128 n ++ r → z ≡ Some (n, r) → ⊥) → (n : ℕ) (r : List ℕ) → 31 ≤ n → n < 2 ^ 64 →
-    s ≡ base128 n ++ r → ⊥
-no_number s z e f n r l b j = f n r l b j (sym e ∙ ap (scan 0) j ∙ scan_base n r)
+no_number : (s : List ℕ) (z : Option (ℕ × List ℕ)) → scan 0 s ≡ z → ((n : ℕ) (r : List ℕ) → n < 2 ^ 64 → z ≡ Some (n, r) → ⊥) →
+    (n : ℕ) (r : List ℕ) → n < 2 ^ 64 → s ≡ base128 n ++ r → ⊥
+no_number s z e f n r b j = f n r b (sym e ∙ ap (scan 0) j ∙ scan_base n r)
 
 -- a number that has another digit, and is so large, passes 2^64 - 1
-pub passes : (n x : ℕ) (s rest : List ℕ) (y : List ℕ) → IsBytes rest → rest ≡ x ∷ y → scan 0 s ≡ scan n rest → 2 ^ 57 ≤ n → (k : ℕ) (r : List ℕ) → 31 ≤ k →
-    k < 2 ^ 64 → s ≡ base128 k ++ r → ⊥
+pub passes : (n x : ℕ) (s rest : List ℕ) (y : List ℕ) → IsBytes rest → rest ≡ x ∷ y → scan 0 s ≡ scan n rest → 2 ^ 57 ≤ n →
+    (k : ℕ) (r : List ℕ) → k < 2 ^ 64 → s ≡ base128 k ++ r → ⊥
 passes n x s rest y a e f h = no_number s (scan n rest) f
-    (λ k r l b j g. let i = scan_above y n x k r (subst IsBytes e a) (sym (ap (scan n) e) ∙ g) in omega arith)
-
--- a number that ends below 31 isn't spelled in the long form
-pub too_small : (n x : ℕ) (s rest : List ℕ) (y : List ℕ) → rest ≡ x ∷ y → x < 128 → scan 0 s ≡ scan n rest → n * 128 + x < 31 → (k : ℕ) (r : List ℕ) →
-    31 ≤ k → k < 2 ^ 64 → s ≡ base128 k ++ r → ⊥
-too_small n x s rest y e b f h = no_number s (scan n rest) f
-    (λ k r l c j g. let i = (some_of k (n * 128 + x) r y (sym (scan_last n x y b) ∙ sym (ap (scan n) e) ∙ g)).0 in omega arith)
+    (λ k r b g. let i = scan_above y n x k r (subst IsBytes e a) (sym (ap (scan n) e) ∙ g) in omega arith)
 
 -- a number whose last digit is missing isn't spelled
-pub cut_off : (n : ℕ) (s rest : List ℕ) → rest ≡ [] → scan 0 s ≡ scan n rest → (k : ℕ) (r : List ℕ) → 31 ≤ k → k < 2 ^ 64 → s ≡ base128 k ++ r → ⊥
-cut_off n s rest e f = no_number s (scan n rest) f (λ k r l c j g. let i = sym (ap (scan n) e) ∙ g in absurd (cc))
+pub cut_off : (n : ℕ) (s rest : List ℕ) → rest ≡ [] → scan 0 s ≡ scan n rest → (k : ℕ) (r : List ℕ) → k < 2 ^ 64 → s ≡ base128 k ++ r → ⊥
+cut_off n s rest e f = no_number s (scan n rest) f (λ k r b g. let i = sym (ap (scan n) e) ∙ g in absurd (cc))
 
 -- bytes that begin with a digit of zero aren't a number's spelling
-pub zero_first : (s y : List ℕ) → s ≡ 128 ∷ y → (k : ℕ) (r : List ℕ) → 31 ≤ k → k < 2 ^ 64 → s ≡ base128 k ++ r → ⊥
-zero_first s y e k r l b j = base_head k r y (omega arith) (sym j ∙ e)
+pub zero_first : (s y : List ℕ) → s ≡ 128 ∷ y → (k : ℕ) (r : List ℕ) → k < 2 ^ 64 → s ≡ base128 k ++ r → ⊥
+zero_first s y e k r b j = base_head k r y (sym j ∙ e)
 
 -- the last digit was read
-pub last_found : (n x : ℕ) (s rest : List ℕ) (y : List ℕ) → IsBytes s → rest ≡ x ∷ y → x < 128 → scan 0 s ≡ scan n rest → 31 ≤ n * 128 + x →
+last_found : (n x : ℕ) (s rest : List ℕ) (y : List ℕ) → IsBytes s → rest ≡ x ∷ y → x < 128 → scan 0 s ≡ scan n rest →
     ((z : List ℕ) → s ≡ 128 ∷ z → ⊥) → s ≡ base128 (n * 128 + x) ++ y
-last_found n x s rest y a e b f h z = base_found s (n * 128 + x) y a h z (f ∙ ap (scan n) e ∙ scan_last n x y b)
+last_found n x s rest y a e b f z = base_found s (n * 128 + x) y a z (f ∙ ap (scan n) e ∙ scan_last n x y b)
 
 -- where the scan of s stands: the number so far and the rest
 pub record Scans (s : List ℕ) (n : ℕ) (rest : List ℕ) : Type 0 where
@@ -167,7 +173,10 @@ scans_more s n x rest y i e h f = record {
 }
 
 -- the last digit was read
-pub scans_found : (s : List ℕ) (n x : ℕ) (rest y : List ℕ) → IsBytes s → Scans s n rest → rest ≡ x ∷ y → x < 128 → 31 ≤ n * 128 + x →
-    s ≡ base128 (n * 128 + x) ++ y
-scans_found s n x rest y a i e h b = last_found n x s rest y a e h i.same b
+pub scans_found : (s : List ℕ) (n x : ℕ) (rest y : List ℕ) → IsBytes s → Scans s n rest → rest ≡ x ∷ y → x < 128 → s ≡ base128 (n * 128 + x) ++ y
+scans_found s n x rest y a i e h = last_found n x s rest y a e h i.same
     (λ z j. elim (cases_lt 0 n) [ inl k ↦ i.no_zero k z j | inr k ↦ let c : n ≡ 0 = omega arith in let d = i.begun c in let g : x ≡ 128 = cc in omega arith ])
+
+-- a number below 31 isn't one from there on
+pub too_small : (s : List ℕ) (k : ℕ) (y : List ℕ) → s ≡ base128 k ++ y → k < 31 → (n : ℕ) (r : List ℕ) → 31 ≤ n → n < 2 ^ 64 → s ≡ base128 n ++ r → ⊥
+too_small s k y e h n r l b f = let g : k ≡ n = (base128_exact k n y r (sym e ∙ f)).0 in omega (arith, h, l)

@@ -1,0 +1,75 @@
+-- Reads of raw elements: what a front that was copied or not does to a reading.
+use Rattle.std.proofs.Common.{◌≡◌, ℕ, zero, suc, ◌≤◌, List, ◌++◌, Some, None, Result, Ok, Err, true, sym, ap, subst, ◌∙◌, arith}
+use Rattle.std.specs.Borrow.{Bor}
+use Rattle.yasna_base.specs.declared.error.ASN1Error.{ASN1Error}
+use Rattle.yasna_base.specs.declared.error.ASN1ErrorKind.TheVariants.{OutOfMemory}
+use Rattle.yasna_base.specs.declared.mode.BERMode.{BERMode}
+use Rattle.yasna_base.specs.Error.{kind_of}
+use Rattle.yasna_base.specs.Identifier.{StartsElement}
+use Rattle.yasna_base.specs.Raw.{RawValue, IsRaw}
+use Rattle.yasna_base.proofs.Identifier.{begins_with}
+use Rattle.yasna_base.proofs.Raw.{raw_zero, raw_starts}
+use Rattle.yasna_reader.specs.declared.bytes.header.Refusal.{Refusal}
+use Rattle.yasna_reader.specs.declared.bytes.walk.RawElement.{RawElement}
+use Rattle.yasna_reader.specs.Front.{Takes, Stands}
+use Rattle.yasna_reader.specs.Primitive.{Settles}
+use Rattle.yasna_reader.specs.Raw.{RefusesCopy, CopiedAt, ReadsRawUnlessKept, ReadsRaw}
+use Rattle.yasna_reader.specs.State.{Reading, untagged, refusing}
+use Rattle.yasna_reader.specs.Walk.{RefusesRaw, TakesRaw, element_of}
+use Rattle.yasna_reader.proofs.RawHeader.{starts_not_at_end}
+
+-- where no raw element stands, no copy of one is made
+pub refuses_copy : {A : Type 0} (B : ℕ → BERMode → A → List ℕ → Type 0) (n : ℕ) (m : BERMode) (s : List ℕ) (e : Refusal) →
+    ((v : A) (b : List ℕ) → B n m v b → (x : RawValue) × IsRaw n m x b) → RefusesRaw m n s e → RefusesCopy (Stands (B n m) s) n m s e
+refuses_copy B n m s e raw x = record {
+  none = λ _ y.
+      let w = y.2 in
+      let r = raw y.0 w.front w.member in
+      x.none (r.0, y.1, record { front = w.front; joined = w.joined; member = r.1 });
+  moved = x.moved;
+  too_deep = x.deep.0;
+  deep = λ _. x.deep.1;
+  memory = λ k. absurd (x.no_memory k);
+}
+
+-- bytes that begin with an element start one
+pub starts_with : (s b r : List ℕ) → StartsElement b → s ≡ b ++ r → StartsElement s
+starts_with s b r x e = subst StartsElement (sym e)
+    (record { tag = x.tag; in_range = x.in_range; not_end = x.not_end; begins = begins_with x.tag b r x.begins })
+
+raw_level : (n : ℕ) (m : BERMode) (v : RawValue) (b : List ℕ) → IsRaw n m v b → 1 ≤ n
+raw_level zero m v b x = absurd (raw_zero m v b x)
+raw_level (suc n) m v b x = omega arith
+
+-- a raw element stands there, and there is no memory for a copy
+pub lacks_copy : (N : Type 0) (n : ℕ) (m : BERMode) (s : List ℕ) (e : Refusal) (x : RawElement) (r : List ℕ) → TakesRaw m n s x r → e.kind ≡ OutOfMemory →
+    e.moved ≡ true → RefusesCopy N n m s e
+lacks_copy N n m s e x r y k f =
+    let i = starts_with s x.bytes.now r (raw_starts n m (element_of x) x.bytes.now y.raw) y.joined in
+    record {
+      none = λ no _. no k;
+      moved = (λ g. absurd (cc), λ a. absurd (starts_not_at_end s i a));
+      too_deep = λ g. absurd (cc);
+      deep = λ no _. absurd (no k);
+      memory = λ _. (raw_level n m (element_of x) x.bytes.now y.raw, i);
+    }
+
+settled_raw : {A : Type 0} (B : ℕ → BERMode → A → List ℕ → Type 0) (s : Reading) (f : Result (A × Bor (List ℕ)) Refusal) (r : Result A ASN1Error)
+    (s' : Reading) → CopiedAt B s.levels s.mode s.left f → Settles (untagged s) f r s' → ReadsRawUnlessKept None B s r s'
+settled_raw B s (Ok x) (Ok v) s' a b =
+    record { rest = x.1.now; takes = let e : x.0 ≡ v = cc (b.0) in subst (λ z. Takes (B s.levels s.mode) s.left z x.1.now) e a; state = b.1 }
+settled_raw B s (Ok x) (Err e) s' a b = let f = b.0 in absurd (cc)
+settled_raw B s (Err x) (Ok v) s' a b = let f = b.0 in absurd (cc)
+settled_raw B s (Err x) (Err e) s' a b =
+    let g : record { kind = x.kind } ≡ e = let f = b.0 in cc in
+    record { refusal = x; kind = ap kind_of g; refuses = a; state = b.1 ∙ ap (refusing x.moved (untagged s)) g }
+
+-- what was found at the front, with the reading settled, is what a read does
+pub reads_raw : {A : Type 0} (B : ℕ → BERMode → A → List ℕ → Type 0) (s : Reading) (f : Result (A × Bor (List ℕ)) Refusal) (r : Result A ASN1Error)
+    (s' : Reading) → s.kept ≡ None → CopiedAt B s.levels s.mode s.left f → Settles (untagged s) f r s' → ReadsRaw B s r s'
+reads_raw B s f r s' e a b = record { reads = subst (λ k. ReadsRawUnlessKept k B s r s') (sym e) (settled_raw B s f r s' a b) }
+
+-- with a failure kept a read answers that failure
+pub reads_raw_kept : {A : Type 0} (B : ℕ → BERMode → A → List ℕ → Type 0) (s : Reading) (e : ASN1Error) (r : Result A ASN1Error) (s' : Reading) →
+    s.kept ≡ Some e → r ≡ Err e → s' ≡ untagged s → ReadsRaw B s r s'
+reads_raw_kept B s e r s' k f g = record { reads = subst (λ k. ReadsRawUnlessKept k B s r s') (sym k) (f, g) }

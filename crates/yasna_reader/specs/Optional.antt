@@ -1,0 +1,46 @@
+-- What reads of parts do that may be left out (X.690, 8.9.3 and 11.5).
+use Rattle.std.specs.Prelude.{Bool, Err, None, Ok, Option, Result, Some, false, length, nat_lt, true, ℕ, ◌≡◌, ◌⊎◌}
+use Rattle.yasna_base.specs.Error.{error_of}
+use Rattle.yasna_base.specs.declared.error.ASN1Error.{ASN1Error}
+use Rattle.yasna_base.specs.declared.error.ASN1ErrorKind.TheVariants.{Invalid}
+use Rattle.yasna_base.specs.declared.mode.BERMode.{BERMode}
+use Rattle.yasna_base.specs.declared.mode.BERMode.TheVariants.{Ber, Der}
+use Rattle.yasna_reader.specs.Callback.{Hands, UnlessKept}
+use Rattle.yasna_reader.specs.State.{Reading, refusing, untagged}
+use Rattle.yasna_reader.specs.declared.callback.Outcome.{Outcome}
+use Rattle.yasna_reader.specs.declared.callback.Outcome.TheVariants.{Gave, Quiet, Failed}
+
+-- a value, or none where the callback's Err is quiet
+abbrev pub optional : {A : Type 0} → Outcome A → Result (Option A) ASN1Error
+optional (Gave v) = Ok (Some v)
+optional (Quiet e) = Ok None
+optional (Failed e) = Err e
+
+-- the callback is handed the reading
+abbrev pub ReadsOptional : {A : Type 0} → (Reading → Result A ASN1Error → Reading → Type 0) → Reading → Result (Option A) ASN1Error → Reading → Type 0
+ReadsOptional {A} P s r s' = UnlessKept s.kept s r s' ((o : Outcome A) × Hands P (untagged s) o s' × (r ≡ optional o))
+
+-- where a mode takes a value that is its default (X.690, 11.5)
+abbrev pub TakesDefault : BERMode → Type 0
+TakesDefault Ber = Unit {0}
+TakesDefault Der = ⊥
+
+-- the default d for none; a value v of a reading of n bytes that left z, unless it equals d and the mode refuses that
+abbrev pub DefaultsTo : {A : Type 0} → (A → A → Bool) → A → ℕ → Outcome A → Reading → Result A ASN1Error → Reading → Type 0
+DefaultsTo eq d n (Gave v) z r s' =
+    ((TakesDefault z.mode ⊎ (eq v d ≡ false)) × (r ≡ Ok v) × (s' ≡ z)) ⊎
+    ((TakesDefault z.mode → ⊥) × (eq v d ≡ true) × (r ≡ Err (error_of Invalid)) × (s' ≡ refusing (nat_lt (length z.left) n) z (error_of Invalid)))
+DefaultsTo eq d n (Quiet e) z r s' = (r ≡ Ok d) × (s' ≡ z)
+DefaultsTo eq d n (Failed e) z r s' = (r ≡ Err e) × (s' ≡ z)
+
+-- the callback is handed the reading, and what it comes to is put to the test
+pub record ReadsOrDefaults {A : Type 0} (P : Reading → Result A ASN1Error → Reading → Type 0) (eq : A → A → Bool) (d : A)
+    (s : Reading) (r : Result A ASN1Error) (s' : Reading) : Type 0 where
+  pub outcome : Outcome A
+  pub between : Reading
+  pub hands : Hands P s outcome between
+  pub defaults : DefaultsTo eq d (length s.left) outcome between r s'
+
+abbrev pub ReadsDefault : {A : Type 0} → (Reading → Result A ASN1Error → Reading → Type 0) → (A → A → Bool) → A →
+    Reading → Result A ASN1Error → Reading → Type 0
+ReadsDefault P eq d s r s' = UnlessKept s.kept s r s' (ReadsOrDefaults P eq d (untagged s) r s')

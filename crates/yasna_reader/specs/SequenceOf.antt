@@ -1,0 +1,101 @@
+-- What a read of a SEQUENCE OF does, whose elements a callback reads one by one (X.690, 8.10). C f s x f' m says that the
+-- callback f, called on the reading s, answers x, becomes f' and leaves m.
+use Rattle.std.specs.Borrow.{MutBor}
+use Rattle.std.specs.Fn.{Mut}
+use Rattle.std.specs.Global.{Global}
+use Rattle.std.specs.Prelude.{Err, List, Ok, Result, Vec, [], length, ℕ, ◌++◌, ◌<◌, ◌∷◌, ◌≡◌, ◌⊎◌}
+use Rattle.yasna_base.specs.Error.{error_of, kind_of}
+use Rattle.yasna_base.specs.declared.error.ASN1Error.{ASN1Error}
+use Rattle.yasna_base.specs.declared.error.ASN1ErrorKind.TheVariants.{Invalid, OutOfMemory}
+use Rattle.yasna_reader.specs.Callback.{ComesTo, IsUnmoved}
+use Rattle.yasna_reader.specs.State.{Reading, failing}
+use Rattle.yasna_reader.specs.declared.callback.Outcome.{Outcome}
+use Rattle.yasna_reader.specs.declared.callback.Outcome.TheVariants.{Gave, Quiet, Failed}
+
+-- f may be called on the reading s
+abbrev pub TakesTurn : {F R : Type 0} → Mut F (MutBor Reading × Unit {0}) R → F → Reading → Type 0
+TakesTurn g f s = (p : MutBor Reading) → p.now ≡ s → g.pre f (p, tt)
+
+-- so may the callback, in any state of its own, on what is left of s behind any front
+abbrev pub TakesTurns : {F R : Type 0} → Mut F (MutBor Reading × Unit {0}) R → Reading → Type 0
+TakesTurns {F} g s = (f : F) (front rest : List ℕ) → s.left ≡ front ++ rest → TakesTurn g f (record s { left = rest })
+
+-- a value for which nothing was taken is Invalid, and that is kept
+pub record Idles {A : Type 0} (s : Reading) (x : Result A ASN1Error) (m : Reading) (e : ASN1Error) (s' : Reading) : Type 0 where
+  pub value : A
+  pub between : Reading
+  pub comes : ComesTo s x m (Gave value) between
+  pub unmoved : IsUnmoved s.left between
+  pub invalid : e ≡ error_of Invalid
+  pub state : s' ≡ failing between e
+
+-- what a turn comes to whose callback answered x and left m: a value for which something was taken, a quiet Err, or a
+-- failure that is kept
+abbrev pub TurnsOut : {A : Type 0} → Reading → Result A ASN1Error → Reading → Outcome A → Reading → Type 0
+TurnsOut s x m (Gave v) s' = ComesTo s x m (Gave v) s' × (length s'.left < length s.left)
+TurnsOut s x m (Quiet e) s' = ComesTo s x m (Quiet e) s'
+TurnsOut s x m (Failed e) s' = ComesTo s x m (Failed e) s' ⊎ Idles s x m e s'
+
+-- a turn of f on the reading s
+pub record Turn {F A : Type 0} (C : F → Reading → Result A ASN1Error → F → Reading → Type 0) (f : F) (s : Reading) (o : Outcome A) (f' : F)
+    (s' : Reading) : Type 0 where
+  pub own : Result A ASN1Error
+  pub left : Reading
+  pub called : C f s own f' left
+  pub comes : TurnsOut s own left o s'
+
+-- turns one after the other, each from where the one before left off, gave these values
+abbrev pub Turns : {F A : Type 0} → (F → Reading → Result A ASN1Error → F → Reading → Type 0) → F → Reading → List A → F → Reading → Type 0
+Turns C f s [] f' s' = (f' ≡ f) × (s' ≡ s)
+Turns {F} C f s (v ∷ vs) f' s' = (h : F) × (m : Reading) × Turn C f s (Gave v) h m × Turns C h m vs f' s'
+
+-- what is answered where the turn behind these values came to that
+abbrev pub Ends : {A : Type 0} → List A → Outcome A → Result (List A) ASN1Error → Type 0
+Ends vs (Gave v) r = ⊥
+Ends vs (Quiet e) r = r ≡ Ok vs
+Ends vs (Failed e) r = r ≡ Err e
+
+-- turns from s on, up to one that gives no value: a quiet Err ends the list, a failure is answered
+pub record Lists {F A : Type 0} (C : F → Reading → Result A ASN1Error → F → Reading → Type 0) (f : F) (s : Reading) (r : Result (List A) ASN1Error)
+    (s' : Reading) : Type 0 where
+  pub values : List A
+  pub reached : F
+  pub place : Reading
+  pub turns : Turns C f s values reached place
+  pub last : Outcome A
+  pub after : F
+  pub turn : Turn C reached place last after s'
+  pub ends : Ends values last r
+
+-- there was no memory for the last of these values
+pub record LacksMemory {F A : Type 0} (C : F → Reading → Result A ASN1Error → F → Reading → Type 0) (f : F) (s : Reading) (r : Result (List A) ASN1Error)
+    (s' : Reading) : Type 0 where
+  pub values : List A
+  pub last : A
+  pub reached : F
+  pub place : Reading
+  pub turns : Turns C f s (values ++ (last ∷ [])) reached place
+  pub error : ASN1Error
+  pub memory : kind_of error ≡ OutOfMemory
+  pub answer : r ≡ Err error
+  pub state : s' ≡ failing place error
+
+abbrev pub items_of : {A : Type 0} → Result (Vec A Global) ASN1Error → Result (List A) ASN1Error
+items_of (Ok v) = Ok v.items
+items_of (Err e) = Err e
+
+-- contents are read into a vector
+abbrev pub Collects : {F A : Type 0} → (F → Reading → Result A ASN1Error → F → Reading → Type 0) → F →
+    Reading → Result (Vec A Global) ASN1Error → Reading → Type 0
+Collects C f s r s' = Lists C f s (items_of r) s' ⊎ LacksMemory C f s (items_of r) s'
+
+abbrev pub without_items : {A : Type 0} → Result (List A) ASN1Error → Result (Unit {0}) ASN1Error
+without_items (Ok vs) = Ok tt
+without_items (Err e) = Err e
+
+-- contents are read, and nothing is answered of them
+pub record Visits {F A : Type 0} (C : F → Reading → Result A ASN1Error → F → Reading → Type 0) (f : F)
+    (s : Reading) (r : Result (Unit {0}) ASN1Error) (s' : Reading) : Type 0 where
+  pub items : Result (List A) ASN1Error
+  pub lists : Lists C f s items s'
+  pub answer : r ≡ without_items items

@@ -1,0 +1,77 @@
+//! Reads that also answer the bytes they took.
+
+use crate::callback::Outcome;
+use crate::state::{BERReader, BERReaderSeq, Parts, ReaderState};
+use yasna_base::error::ASN1Result;
+
+impl<'a> ReaderState<'a> {
+    ghost use Rattle.std.specs.Prelude.{List, None, ℕ, ◌++◌, ◌≡◌};
+    ghost use Rattle.std.specs.Fn.{FnOnceTakesAtMut, FnOnceReturnsAtMut};
+    ghost use Rattle.yasna_reader.specs.Buffer.{Buffered, ReadsBuffer};
+
+    // What is answered where a callback that began with these bytes came to this.
+    #[inline(always)]
+    fn with_taken<T: Drop>(
+        &self,
+        before: &'a [u8],
+        outcome: Outcome<T>,
+    ) -> ASN1Result<(T, &'a [u8])>
+        requires { (taken : List ℕ) × (before.now ≡ taken ++ self.now.left) }
+        ensures { Buffered before.now outcome result self.now.left }
+    {
+        match outcome {
+            Outcome::Gave(value) => {
+                let taken = before.len() - self.cursor.left.len();
+                Ok((value, &before[..taken]))
+            }
+            Outcome::Quiet(error) | Outcome::Failed(error) => Err(error),
+        }
+    }
+
+    /// Reads what the callback reads, and answers the bytes that it took beside its value.
+    ///
+    /// The bytes are the input's own: they outlive this reading. An implicit tag that waits is handed on.
+    #[inline(always)]
+    pub fn read_with_buffer<T: Drop, F>(&mut self, f: F) -> ASN1Result<(T, &'a [u8])>
+    where
+        F: FnOnce(BERReader<'a, '_>) -> ASN1Result<T>,
+        requires { self.old.kept ≡ None → FnOnceTakesAtMut F.FnOnce f self.old }
+        ensures { ReadsBuffer (FnOnceReturnsAtMut F.FnOnce f) self.old result self.new }
+    {
+        if let Some(error) = self.kept {
+            self.tag = None;
+            return Err(error);
+        }
+        let before = self.cursor.left;
+        let outcome = self.hand(f);
+        self.with_taken(before, outcome)
+    }
+}
+
+impl<'a> Parts<ReaderState<'a>> {
+    ghost use Rattle.std.specs.Prelude.{None, ◌≡◌};
+    ghost use Rattle.std.specs.Fn.{FnOnceTakesAtMut};
+    ghost use Rattle.yasna_reader.specs.Buffer.{ReadsBuffer};
+    ghost use Rattle.yasna_reader.specs.Sequence.{Runs};
+    ghost use Rattle.yasna_reader.specs.State.{part_of, untagged};
+
+    /// Reads what the callback reads of these parts, and answers the bytes that it took beside its value.
+    ///
+    /// The bytes are the input's own: they outlive this reading.
+    #[inline(always)]
+    pub fn read_with_buffer<T: Drop, F>(&mut self, f: F) -> ASN1Result<(T, &'a [u8])>
+    where
+        F: FnOnce(&mut BERReaderSeq<'a, '_>) -> ASN1Result<T>,
+        requires { (part_of self.old).kept ≡ None → FnOnceTakesAtMut F.FnOnce f (record { reader = untagged (part_of self.old) }) }
+        ensures { ReadsBuffer (Runs F.FnOnce f) (untagged (part_of self.old)) result (part_of self.new) }
+    {
+        self.reader.tag = None;
+        if let Some(error) = self.reader.kept {
+            return Err(error);
+        }
+        let before = self.reader.cursor;
+        let answer = f(self);
+        let outcome = self.reader.take_back(before, answer);
+        self.reader.with_taken(before.left, outcome)
+    }
+}

@@ -1,0 +1,233 @@
+//! Raw elements: their contents are elements one after the other, which are walked over (X.690, 8.1).
+//!
+//! In DER constructed contents are walked, in BER those of indefinite length alone. The walk is one loop over a table of
+//! the ends of the elements that it is in, and takes no memory.
+ghost use Rattle.std.specs.Prelude.{IsTrue, ◌↔◌, ◌≡◌, ◌≤◌, ◌-◌, ◌++◌, MatchOption};
+ghost use Rattle.yasna_base.specs.Identifier.{end_tag};
+ghost use Rattle.yasna_base.specs.Raw.{LooksInto, IsPayload};
+ghost use Rattle.yasna_reader.specs.Header.{EndsAt, EndsBefore, contents_end};
+ghost use Rattle.yasna_reader.specs.Refusal.{IsPlain};
+ghost use Rattle.yasna_reader.specs.Walk.{AnyOpenedAt, TurnOf, WalksTo, FollowsAt, IsRest, HasRest, RawElementAt};
+
+use crate::bytes::cursor::Cursor;
+use crate::bytes::header::{Opened, Refusal, contents, refuse};
+use crate::bytes::identifier::read_identifier;
+use yasna_base::error::ASN1ErrorKind;
+use yasna_base::mode::BERMode;
+use yasna_base::tag::{PCBit, Tag};
+use yasna_base::tags::TAG_EOC;
+
+/// A raw element at the front of bytes.
+#[derive(Clone, Copy)]
+pub struct RawElement<'a> {
+    /// The tag.
+    pub tag: Tag,
+    /// Whether the contents are elements.
+    pub bit: PCBit,
+    /// What follows the length, with the two zeros that end contents of indefinite length.
+    pub payload: &'a [u8],
+    /// The whole element.
+    pub bytes: &'a [u8],
+}
+
+// What a walk meets at a place.
+#[derive(Drop)]
+enum Turn<'a> {
+    // The end of the innermost element, and what follows it.
+    Left(&'a [u8]),
+    // An element that isn't looked into, and what follows it.
+    Passed(&'a [u8]),
+    // The header of one that is.
+    Entered(Opened<'a>),
+}
+
+// Whether contents whose length is counted are walked.
+#[inline(always)]
+fn looks_into(mode: BERMode, bit: PCBit) -> bool
+    ensures { IsTrue result ↔ LooksInto mode bit }
+{
+    match mode {
+        BERMode::Ber => false,
+        BERMode::Der => match bit {
+            PCBit::Primitive => false,
+            PCBit::Constructed => true,
+        },
+    }
+}
+
+#[inline(always)]
+fn is_end(tag: Tag) -> bool
+    ensures { IsTrue result ↔ (tag ≡ end_tag) }
+{
+    tag == TAG_EOC
+}
+
+// Reads the header of an element of any tag but that of the end of contents.
+#[inline(always)]
+fn open_any(cursor: Cursor<'_>) -> Result<(Tag, Opened<'_>), Refusal>
+    ensures { AnyOpenedAt cursor.entry.mode cursor.entry.levels cursor.entry.left.now result }
+{
+    if cursor.left.is_empty() {
+        return Err(refuse(ASN1ErrorKind::Eof, false));
+    }
+    let (tag, bit, rest) = match read_identifier(cursor.left) {
+        Ok(identifier) => identifier,
+        Err(kind) => return Err(refuse(kind, true)),
+    };
+    if is_end(tag) {
+        return Err(refuse(ASN1ErrorKind::Invalid, false));
+    }
+    if cursor.levels == 0 {
+        return Err(refuse(ASN1ErrorKind::StackOverflow, true));
+    }
+    match contents(rest, cursor.mode, bit, cursor.end) {
+        Ok((within, after)) => Ok((tag, Opened { bit, within, after })),
+        Err(kind) => Err(refuse(kind, true)),
+    }
+}
+
+// What follows contents that end here.
+#[inline(always)]
+fn ended<'a>(end: Option<&'a [u8]>, rest: &'a [u8]) -> Option<&'a [u8]>
+    ensures { MatchOption result (EndsAt (contents_end end.entry) rest.now → ⊥) (λ a. EndsBefore (contents_end end.entry) rest.now a.now) }
+{
+    match end {
+        Some(after) => { if rest.is_empty() { Some(after) } else { None } }
+        None => match rest {
+            [0, 0, after @ ..] => Some(after),
+            _ => None,
+        },
+    }
+}
+
+// Of what kind the refusal is where the end of contents, which isn't one, or nothing stands in an element.
+#[cold]
+#[inline(never)]
+fn end_fault(end: Option<&[u8]>, rest: &[u8]) -> ASN1ErrorKind
+    ensures { IsPlain result }
+{
+    match end {
+        Some(_) => ASN1ErrorKind::Invalid,
+        None => match rest {
+            [] | [0] => ASN1ErrorKind::Eof,
+            _ => ASN1ErrorKind::Invalid,
+        },
+    }
+}
+
+// One step of a walk in an element that ends so.
+#[inline(always)]
+fn take_turn<'a>(cursor: Cursor<'a>, end: Option<&'a [u8]>) -> Result<Turn<'a>, ASN1ErrorKind>
+    ensures { TurnOf cursor.entry.mode cursor.entry.levels (contents_end end.entry) cursor.entry.left.now result }
+{
+    if let Some(after) = ended(end, cursor.left) {
+        return Ok(Turn::Left(after));
+    }
+    match open_any(cursor) {
+        Ok((_, opened)) => match opened.after {
+            None => Ok(Turn::Entered(opened)),
+            Some(after) => {
+                if looks_into(cursor.mode, opened.bit) {
+                    Ok(Turn::Entered(opened))
+                } else {
+                    Ok(Turn::Passed(after))
+                }
+            }
+        },
+        Err(refusal) => {
+            if refusal.moved {
+                Err(refusal.kind)
+            } else {
+                Err(end_fault(end, cursor.left))
+            }
+        }
+    }
+}
+
+// Walks over the elements that stand from here on in contents that end so, and answers what follows.
+fn walk<'a>(cursor: Cursor<'a>, end: Option<&'a [u8]>) -> Result<&'a [u8], ASN1ErrorKind>
+    requires { cursor.levels ≤ 100 }
+    ensures { WalksTo cursor.entry.mode cursor.entry.levels (contents_end end.entry) cursor.entry.left.now result }
+{
+    // The innermost last; none for the elements of indefinite length.
+    let mut ends: [Option<&'a [u8]>; 101] = [None; 101];
+    ends[0] = end;
+    let mut depth: usize = 1;
+    let mut here = cursor;
+    loop {
+        let innermost = ends[depth - 1];
+        match take_turn(here, innermost) {
+            Ok(Turn::Left(after)) => {
+                depth -= 1;
+                if depth == 0 {
+                    return Ok(after);
+                }
+                here = here.outside(innermost, after);
+            }
+            Ok(Turn::Passed(after)) => here = here.further(after),
+            Ok(Turn::Entered(opened)) => {
+                ends[depth] = opened.after;
+                depth += 1;
+                here = here.inside(&opened);
+            }
+            Err(kind) => return Err(kind),
+        }
+    }
+}
+
+// What follows an element with this header, where its contents stand to their end.
+#[inline(always)]
+fn follow<'a>(cursor: Cursor<'a>, opened: &Opened<'a>) -> Result<&'a [u8], ASN1ErrorKind>
+    requires { 1 ≤ cursor.levels }
+    ensures { FollowsAt cursor.entry.mode (cursor.entry.levels - 1) opened.now.bit opened.now.within.now (contents_end opened.now.after) result }
+{
+    if let Some(after) = opened.after {
+        if !looks_into(cursor.mode, opened.bit) {
+            return Ok(after);
+        }
+    }
+    walk(cursor.inside(opened), opened.after)
+}
+
+// The bytes in front of the last ones.
+#[inline(always)]
+fn in_front<'a>(s: &'a [u8], rest: &[u8]) -> &'a [u8]
+    requires { IsRest s.now rest.now }
+    ensures { s.now ≡ result.now ++ rest.now }
+{
+    &s[..s.len() - rest.len()]
+}
+
+// What follows the length of an element that ends before `rest`.
+#[inline(always)]
+fn payload<'a>(opened: &Opened<'a>, rest: &[u8]) -> &'a [u8]
+    requires { HasRest (contents_end opened.now.after) opened.now.within.now rest.now }
+    ensures { IsPayload opened.now.within.now (contents_end opened.now.after) rest.now result.now }
+{
+    match opened.after {
+        Some(_) => opened.within,
+        None => in_front(opened.within, rest),
+    }
+}
+
+/// Reads a raw element of any tag but that of the end of contents, and answers the rest too.
+#[inline(always)]
+pub fn raw_element(cursor: Cursor<'_>) -> Result<(RawElement<'_>, &[u8]), Refusal>
+    ensures { RawElementAt cursor.entry.mode cursor.entry.levels cursor.entry.left.now result }
+{
+    match open_any(cursor) {
+        Ok((tag, opened)) => match follow(cursor, &opened) {
+            Ok(rest) => {
+                let element = RawElement {
+                    tag,
+                    bit: opened.bit,
+                    payload: payload(&opened, rest),
+                    bytes: in_front(cursor.left, rest),
+                };
+                Ok((element, rest))
+            }
+            Err(kind) => Err(refuse(kind, true)),
+        },
+        Err(refusal) => Err(refusal),
+    }
+}

@@ -1,0 +1,90 @@
+//! What becomes of a reading that a callback is handed.
+//!
+//! Of what the callback left only the failure counts that is kept there, and how many bytes are left.
+ghost use Rattle.std.specs.Prelude.{IsTrue, ◌↔◌, ◌≡◌, length};
+ghost use Rattle.yasna_reader.specs.Refusal.{IsPlain};
+
+use crate::bytes::cursor::Cursor;
+use crate::state::{BERReader, ReaderState};
+use yasna_base::error::{ASN1Error, ASN1ErrorKind, ASN1Result};
+
+/// What a callback came to.
+#[derive(Drop)]
+pub enum Outcome<T> {
+    /// A value, with no failure kept.
+    Gave(T),
+    /// An Err that moved nothing and is neither of depth nor of memory, with no failure kept.
+    Quiet(ASN1Error),
+    /// This failure is kept.
+    Failed(ASN1Error),
+}
+
+// Whether a kind is neither of depth nor of memory.
+#[inline(always)]
+fn is_plain(kind: ASN1ErrorKind) -> bool
+    ensures { IsTrue result ↔ IsPlain kind }
+{
+    match kind {
+        ASN1ErrorKind::StackOverflow | ASN1ErrorKind::OutOfMemory => false,
+        _ => true,
+    }
+}
+
+impl<'a> ReaderState<'a> {
+    ghost use Rattle.std.specs.Prelude.{None, length, ◌≡◌};
+    ghost use Rattle.std.specs.Fn.{FnOnceTakesAtMut, FnOnceReturnsAtMut};
+    ghost use Rattle.yasna_reader.specs.Callback.{ComesTo, Hands, FailsAs, at_cursor};
+
+    // Hands this reading to a callback, and takes it back.
+    #[inline(always)]
+    pub(crate) fn hand<T: Drop, F>(&mut self, f: F) -> Outcome<T>
+    where
+        F: FnOnce(BERReader<'a, '_>) -> ASN1Result<T>,
+        requires { FnOnceTakesAtMut F.FnOnce f self.old }
+        ensures { Hands (FnOnceReturnsAtMut F.FnOnce f) self.old result self.new }
+    {
+        let before = self.cursor;
+        let answer = f(self);
+        self.take_back(before, answer)
+    }
+
+    // What a callback came to that began here and gave this answer. The reading goes on where the callback left it.
+    #[inline(always)]
+    pub(crate) fn take_back<T: Drop>(
+        &mut self,
+        before: Cursor<'a>,
+        answer: ASN1Result<T>,
+    ) -> Outcome<T>
+        ensures { ComesTo (at_cursor before.entry) answer self.old result self.new }
+    {
+        let all = before.left.len();
+        let remaining = self.cursor.left.len();
+        self.cursor = before;
+        self.cursor.left = &before.left[all.saturating_sub(remaining)..];
+        self.tag = None;
+        if let Some(error) = self.kept {
+            return Outcome::Failed(error);
+        }
+        if all < remaining {
+            return self.failed(ASN1Error::new(ASN1ErrorKind::Invalid));
+        }
+        match answer {
+            Ok(value) => Outcome::Gave(value),
+            Err(error) => {
+                if remaining == all && is_plain(error.kind()) {
+                    return Outcome::Quiet(error);
+                }
+                self.failed(error)
+            }
+        }
+    }
+
+    // Keeps a failure.
+    #[inline(always)]
+    pub(crate) fn failed<T>(&mut self, error: ASN1Error) -> Outcome<T>
+        ensures { FailsAs error self.old result self.new }
+    {
+        self.kept = Some(error);
+        Outcome::Failed(error)
+    }
+}

@@ -1,0 +1,26 @@
+//! The next tag, by which a CHOICE is read.
+
+use crate::bytes::identifier::read_identifier;
+use crate::state::ReaderState;
+use yasna_base::error::{ASN1Error, ASN1Result};
+use yasna_base::tag::Tag;
+
+impl<'a> ReaderState<'a> {
+    ghost use Rattle.yasna_reader.specs.Lookahead.{LooksAhead};
+
+    /// The tag of the next element, which isn't taken. An implicit tag that waits changes nothing.
+    ///
+    /// Answers `Eof` where nothing is left, and why there is no identifier where one is broken. No such Err is kept.
+    #[inline(always)]
+    pub fn lookahead_tag(&self) -> ASN1Result<Tag>
+        ensures { LooksAhead self.now.kept self.now.left result }
+    {
+        if let Some(error) = self.kept {
+            return Err(error);
+        }
+        match read_identifier(self.cursor.left) {
+            Ok((tag, _, _)) => Ok(tag),
+            Err(kind) => Err(ASN1Error::new(kind)),
+        }
+    }
+}

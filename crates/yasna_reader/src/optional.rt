@@ -1,0 +1,100 @@
+//! Reads of parts that may be left out: OPTIONAL and DEFAULT.
+ghost use Rattle.std.specs.Prelude.{IsTrue, ◌↔◌};
+ghost use Rattle.yasna_reader.specs.Optional.{TakesDefault};
+
+use crate::callback::Outcome;
+use crate::state::{BERReader, Parts, ReaderState};
+use yasna_base::error::{ASN1Error, ASN1ErrorKind, ASN1Result};
+use yasna_base::mode::BERMode;
+
+// Whether a mode takes a value that is its default (X.690, 11.5).
+#[inline(always)]
+fn takes_default(mode: BERMode) -> bool
+    ensures { IsTrue result ↔ TakesDefault mode }
+{
+    match mode {
+        BERMode::Ber => true,
+        BERMode::Der => false,
+    }
+}
+
+impl<'a> ReaderState<'a> {
+    ghost use Rattle.std.specs.Prelude.{length};
+    ghost use Rattle.yasna_reader.specs.Optional.{DefaultsTo};
+
+    // What is read where a callback that began with so many bytes came to this, and this is the default.
+    #[inline(always)]
+    fn or_default<T: Eq + Drop>(
+        &mut self,
+        before: usize,
+        outcome: Outcome<T>,
+        default: T,
+    ) -> ASN1Result<T>
+        ensures { DefaultsTo T.eq default before outcome self.old result self.new }
+    {
+        match outcome {
+            Outcome::Gave(value) => {
+                if takes_default(self.cursor.mode) || value != default {
+                    return Ok(value);
+                }
+                let error = ASN1Error::new(ASN1ErrorKind::Invalid);
+                if self.cursor.left.len() < before {
+                    self.kept = Some(error);
+                }
+                Err(error)
+            }
+            Outcome::Quiet(_) => Ok(default),
+            Outcome::Failed(error) => Err(error),
+        }
+    }
+}
+
+impl<'a> Parts<ReaderState<'a>> {
+    ghost use Rattle.std.specs.Prelude.{None, ◌≡◌};
+    ghost use Rattle.std.specs.Fn.{FnOnceTakesAtMut, FnOnceReturnsAtMut};
+    ghost use Rattle.yasna_reader.specs.Optional.{ReadsOptional, ReadsDefault};
+    ghost use Rattle.yasna_reader.specs.State.{part_of, untagged};
+
+    /// Reads a part that may be left out.
+    ///
+    /// None where the callback's Err moved nothing, unless it is `StackOverflow` or `OutOfMemory`: these are kept and
+    /// answered, and so is an Err that moved.
+    #[inline(always)]
+    pub fn read_optional<T: Drop, F>(&mut self, f: F) -> ASN1Result<Option<T>>
+    where
+        F: FnOnce(BERReader<'a, '_>) -> ASN1Result<T>,
+        requires { (part_of self.old).kept ≡ None → FnOnceTakesAtMut F.FnOnce f (untagged (part_of self.old)) }
+        ensures { ReadsOptional (FnOnceReturnsAtMut F.FnOnce f) (part_of self.old) result (part_of self.new) }
+    {
+        let reader = &mut self.reader;
+        reader.tag = None;
+        if let Some(error) = reader.kept {
+            return Err(error);
+        }
+        match reader.hand(f) {
+            Outcome::Gave(value) => Ok(Some(value)),
+            Outcome::Quiet(_) => Ok(None),
+            Outcome::Failed(error) => Err(error),
+        }
+    }
+
+    /// Reads a part that is the default where it is left out, as `read_optional` does.
+    ///
+    /// In DER a part that equals the default is refused as `Invalid` (X.690, 11.5).
+    #[inline(always)]
+    pub fn read_default<T: Eq + Drop, F>(&mut self, default: T, f: F) -> ASN1Result<T>
+    where
+        F: FnOnce(BERReader<'a, '_>) -> ASN1Result<T>,
+        requires { (part_of self.old).kept ≡ None → FnOnceTakesAtMut F.FnOnce f (untagged (part_of self.old)) }
+        ensures { ReadsDefault (FnOnceReturnsAtMut F.FnOnce f) T.eq default (part_of self.old) result (part_of self.new) }
+    {
+        let reader = &mut self.reader;
+        reader.tag = None;
+        if let Some(error) = reader.kept {
+            return Err(error);
+        }
+        let before = reader.cursor.left.len();
+        let outcome = reader.hand(f);
+        reader.or_default(before, outcome, default)
+    }
+}

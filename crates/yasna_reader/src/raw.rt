@@ -1,0 +1,106 @@
+//! Reads of raw elements, whose contents aren't given a type.
+ghost use Rattle.std.specs.Prelude.{ℕ, List, IfOk};
+ghost use Rattle.yasna_base.specs.declared.mode.BERMode.{BERMode};
+ghost use Rattle.yasna_base.specs.Raw.{RawValue, IsRaw};
+ghost use Rattle.yasna_reader.specs.Raw.{IsTagged, IsWhole, CopiedAt};
+ghost use Rattle.yasna_reader.specs.Walk.{element_of};
+
+use crate::bytes::cursor::Cursor;
+use crate::bytes::header::{Refusal, refuse};
+use crate::bytes::walk::{RawElement, raw_element};
+use crate::state::ReaderState;
+use std::alloc::{AllocError, Global};
+use yasna_base::error::{ASN1ErrorKind, ASN1Result};
+use yasna_base::models::TaggedDerValue;
+
+/// What is made of a raw element.
+trait Copied: Sized {
+    ghost copies: { ℕ → BERMode → Self → List ℕ → Type 0 };
+
+    fn of_element(alloc: Global, element: &RawElement<'_>) -> Result<Self, AllocError>
+        ensures { IfOk result (λ v. (n : ℕ) (m : BERMode) → IsRaw n m (element_of element.now) element.now.bytes.now → copies n m v element.now.bytes.now) };
+
+    ghost element: { (n : ℕ) (m : BERMode) (v : Self) (b : List ℕ) → copies n m v b → (x : RawValue) × IsRaw n m x b };
+}
+
+/// Its tag, its bit and its payload.
+impl Copied for TaggedDerValue {
+    ghost use Rattle.yasna_base.specs.TaggedDerValue.{raw_of};
+
+    ghost copies = { IsTagged };
+
+    fn of_element(alloc: Global, element: &RawElement<'_>) -> Result<TaggedDerValue, AllocError> {
+        let payload = Vec::from_slice(alloc, element.payload)?;
+        Ok(TaggedDerValue::from_tag_pc_and_bytes(element.tag, element.bit, payload))
+    }
+
+    ghost element = { λ n m v b x. (raw_of v, x) };
+}
+
+/// The whole of it.
+impl Copied for Vec<u8> {
+    ghost copies = { IsWhole };
+
+    fn of_element(alloc: Global, element: &RawElement<'_>) -> Result<Vec<u8>, AllocError> {
+        Vec::from_slice(alloc, element.bytes)
+    }
+
+    ghost element = { λ n m v b x. (x.element, x.raw) };
+}
+
+// What is made of the raw element at the front, and the rest.
+#[inline(always)]
+fn copy_of_front<T: Copied>(alloc: Global, cursor: Cursor<'_>) -> Result<(T, &[u8]), Refusal>
+    ensures { CopiedAt T.copies cursor.entry.levels cursor.entry.mode cursor.entry.left.now result }
+{
+    match raw_element(cursor) {
+        Ok((element, rest)) => match T::of_element(alloc, &element) {
+            Ok(value) => Ok((value, rest)),
+            Err(_) => Err(refuse(ASN1ErrorKind::OutOfMemory, true)),
+        },
+        Err(refusal) => Err(refusal),
+    }
+}
+
+impl<'a> ReaderState<'a> {
+    ghost use Rattle.yasna_reader.specs.Raw.{IsTagged, IsWhole, CopiedAt, ReadsRaw};
+
+    /// Reads an element of any tag but that of the end of contents: its tag, its bit, and what follows its length.
+    ///
+    /// In DER constructed contents are to be elements one after the other, in BER those of indefinite length. What values
+    /// they are isn't looked at. An implicit tag is ignored, and used up.
+    pub fn read_tagged_der(&mut self) -> ASN1Result<TaggedDerValue>
+        ensures { ReadsRaw IsTagged self.old result self.new }
+    {
+        self.read_raw::<TaggedDerValue>()
+    }
+
+    /// Reads the same element as a whole: its bytes from the identifier on, with the two zeros that end contents of
+    /// indefinite length.
+    pub fn read_der(&mut self) -> ASN1Result<Vec<u8>>
+        ensures { ReadsRaw IsWhole self.old result self.new }
+    {
+        self.read_raw::<Vec<u8>>()
+    }
+
+    #[inline(always)]
+    fn copy_of<T: Copied>(&self) -> Result<(T, &'a [u8]), Refusal>
+        ensures { CopiedAt T.copies self.now.levels self.now.mode self.now.left result }
+    {
+        copy_of_front::<T>(self.alloc, self.cursor)
+    }
+
+    // Reads a raw element, and copies what is wanted of it.
+    #[inline(always)]
+    #[tactic(auto, using(crate::proofs::RawReads::reads_raw, crate::proofs::RawReads::reads_raw_kept))]
+    fn read_raw<T: Copied + Drop>(&mut self) -> ASN1Result<T>
+        ensures { ReadsRaw T.copies self.old result self.new }
+    {
+        if let Some(error) = self.kept {
+            self.tag = None;
+            return Err(error);
+        }
+        let front = self.copy_of::<T>();
+        self.settle(front)
+    }
+}

@@ -1,0 +1,135 @@
+//! Reads of SEQUENCE OF, whose elements a callback reads one by one (X.690, 8.10).
+
+use crate::bytes::cursor::Cursor;
+use crate::callback::Outcome;
+use crate::state::{BERReader, ReaderState};
+use yasna_base::error::{ASN1Error, ASN1ErrorKind, ASN1Result};
+use yasna_base::tags::TAG_SEQUENCE;
+
+impl<'a> ReaderState<'a> {
+    ghost use Rattle.std.specs.Fn.{CalledAtMut};
+    ghost use Rattle.yasna_reader.specs.Callback.{at_cursor};
+    ghost use Rattle.yasna_reader.specs.Sequence.{TakesContents, ReadsParts};
+    ghost use Rattle.yasna_reader.specs.SequenceOf.{TakesTurn, TakesTurns, Turn, TurnsOut, Collects, Visits};
+    ghost use Rattle.yasna_reader.specs.State.{IsFresh};
+
+    /// Reads a SEQUENCE OF: the callback reads one element each time that it is called.
+    ///
+    /// It is called until its Err moves nothing; the list is to end there. `StackOverflow` and `OutOfMemory` end no list:
+    /// they are kept. Where the callback answers Ok and took nothing, that is `Invalid`, and kept.
+    #[inline(always)]
+    pub fn read_sequence_of<F>(&mut self, f: F) -> ASN1Result<()>
+    where
+        F: FnMut(BERReader<'a, '_>) -> ASN1Result<()> + Drop,
+        requires { TakesContents (TakesTurns F.FnMut) TAG_SEQUENCE self.old }
+        ensures { ReadsParts (Visits (CalledAtMut F.FnMut) f) TAG_SEQUENCE self.old result self.new }
+    {
+        if let Some(error) = self.kept {
+            self.tag = None;
+            return Err(error);
+        }
+        match self.enter(TAG_SEQUENCE) {
+            Ok(opened) => {
+                let mut contents = self.within(&opened);
+                let answer = contents.visit(f);
+                self.leave(&opened, answer, &contents)
+            }
+            Err(refusal) => self.settle(Err(refusal)),
+        }
+    }
+
+    /// Reads a SEQUENCE OF as `read_sequence_of` does, into a vector of what the callback answered, in order.
+    ///
+    /// Answers `OutOfMemory` besides, and keeps it, where there is no memory for the vector.
+    #[inline(always)]
+    pub fn collect_sequence_of<T: Drop, F>(&mut self, f: F) -> ASN1Result<Vec<T>>
+    where
+        F: FnMut(BERReader<'a, '_>) -> ASN1Result<T> + Drop,
+        requires { TakesContents (TakesTurns F.FnMut) TAG_SEQUENCE self.old }
+        ensures { ReadsParts (Collects (CalledAtMut F.FnMut) f) TAG_SEQUENCE self.old result self.new }
+    {
+        if let Some(error) = self.kept {
+            self.tag = None;
+            return Err(error);
+        }
+        match self.enter(TAG_SEQUENCE) {
+            Ok(opened) => {
+                let mut contents = self.within(&opened);
+                let answer = contents.collect(f);
+                self.leave(&opened, answer, &contents)
+            }
+            Err(refusal) => self.settle(Err(refusal)),
+        }
+    }
+
+    // Calls a callback until it gives no value.
+    #[inline(always)]
+    fn visit<F>(&mut self, mut f: F) -> ASN1Result<()>
+    where
+        F: FnMut(BERReader<'a, '_>) -> ASN1Result<()> + Drop,
+        requires fresh { IsFresh self.old }
+        requires turns { TakesTurns F.FnMut self.old }
+        ensures { Visits (CalledAtMut F.FnMut) f self.old result self.new }
+    {
+        loop {
+            match self.turn(&mut f) {
+                Outcome::Gave(()) => {}
+                Outcome::Quiet(_) => return Ok(()),
+                Outcome::Failed(error) => return Err(error),
+            }
+        }
+    }
+
+    // Calls a callback until it gives no value, and collects what it gives.
+    #[inline(always)]
+    fn collect<T: Drop, F>(&mut self, mut f: F) -> ASN1Result<Vec<T>>
+    where
+        F: FnMut(BERReader<'a, '_>) -> ASN1Result<T> + Drop,
+        requires fresh { IsFresh self.old }
+        requires turns { TakesTurns F.FnMut self.old }
+        ensures { Collects (CalledAtMut F.FnMut) f self.old result self.new }
+    {
+        let mut items = Vec::new(self.alloc);
+        loop {
+            match self.turn(&mut f) {
+                Outcome::Gave(item) => {
+                    if items.push(item).is_err() {
+                        return self.fail(ASN1Error::new(ASN1ErrorKind::OutOfMemory));
+                    }
+                }
+                Outcome::Quiet(_) => return Ok(items),
+                Outcome::Failed(error) => return Err(error),
+            }
+        }
+    }
+
+    // One turn of a list's callback.
+    #[inline(always)]
+    fn turn<T: Drop, F>(&mut self, f: &mut F) -> Outcome<T>
+    where
+        F: FnMut(BERReader<'a, '_>) -> ASN1Result<T>,
+        requires { TakesTurn F.FnMut f.old self.old }
+        ensures { Turn (CalledAtMut F.FnMut) f.old self.old result f.new self.new }
+    {
+        let before = self.cursor;
+        let answer = f(self);
+        self.take_turn(before, answer)
+    }
+
+    // What a turn came to that began here, and whose callback gave this answer.
+    #[inline(always)]
+    fn take_turn<T: Drop>(&mut self, before: Cursor<'a>, answer: ASN1Result<T>) -> Outcome<T>
+        ensures { TurnsOut (at_cursor before.entry) answer self.old result self.new }
+    {
+        match self.take_back(before, answer) {
+            Outcome::Gave(value) => {
+                if self.cursor.left.len() < before.left.len() {
+                    return Outcome::Gave(value);
+                }
+                self.failed(ASN1Error::new(ASN1ErrorKind::Invalid))
+            }
+            Outcome::Quiet(error) => Outcome::Quiet(error),
+            Outcome::Failed(error) => Outcome::Failed(error),
+        }
+    }
+}

@@ -1,0 +1,140 @@
+//! Reads of strings: OCTET STRING, BIT STRING and character strings (X.690, 8.6, 8.7 and 8.23).
+//!
+//! In BER a string may be cut into segments, to be joined. Each segment is an element of its own, one level down, whose tag is
+//! universal 3 in a BIT STRING and universal 4 in any other, whatever the tag of the string.
+
+use crate::bytes::header::Refusal;
+use crate::bytes::segments::{bit_string, octet_string};
+use crate::bytes::text::{Class, Judge, string_of};
+use crate::state::ReaderState;
+use yasna_base::error::ASN1Result;
+use yasna_base::tag::Tag;
+use yasna_base::tags::{
+    TAG_BITSTRING, TAG_BMPSTRING, TAG_IA5STRING, TAG_NUMERICSTRING, TAG_OCTETSTRING,
+    TAG_PRINTABLESTRING, TAG_UTF8STRING, TAG_VISIBLESTRING,
+};
+
+impl<'a> ReaderState<'a> {
+    ghost use Rattle.yasna_base.specs.Bits.{IsDeepBits};
+    ghost use Rattle.yasna_base.specs.Octets.{IsDeepOctets};
+    ghost use Rattle.yasna_base.specs.Text.{InUtf8, InNumeric, InPrintable, InIa5, InVisible, IsUtf8In, IsBmp};
+    ghost use Rattle.yasna_reader.specs.Contents.{WantsMemory};
+    ghost use Rattle.yasna_reader.specs.Primitive.{Reads, FrontOf};
+    ghost use Rattle.yasna_reader.specs.Segments.{HoldsOctets, HoldsBits};
+    ghost use Rattle.yasna_reader.specs.Text.{HoldsSaid, HoldsText};
+
+    /// Reads OCTET STRING: its octets, joined.
+    #[inline(always)]
+    #[tactic(auto, using(crate::proofs::Primitives::reads_front, crate::proofs::Primitives::reads_kept))]
+    pub fn read_bytes(&mut self) -> ASN1Result<Vec<u8>>
+        ensures { Reads HoldsOctets IsDeepOctets WantsMemory TAG_OCTETSTRING self.old result self.new }
+    {
+        if let Some(error) = self.kept {
+            self.tag = None;
+            return Err(error);
+        }
+        let front = self.octets(TAG_OCTETSTRING);
+        self.settle(front)
+    }
+
+    /// Reads BIT STRING: its bytes, the first bit the highest of the first byte, and how many bits there are. In BER the
+    /// unused bits of the last byte are answered as they stand there; in DER they are zero.
+    #[inline(always)]
+    #[tactic(auto, using(crate::proofs::Primitives::reads_front, crate::proofs::Primitives::reads_kept))]
+    pub fn read_bitvec_bytes(&mut self) -> ASN1Result<(Vec<u8>, usize)>
+        ensures { Reads HoldsBits IsDeepBits WantsMemory TAG_BITSTRING self.old result self.new }
+    {
+        if let Some(error) = self.kept {
+            self.tag = None;
+            return Err(error);
+        }
+        let front = self.bits(TAG_BITSTRING);
+        self.settle(front)
+    }
+
+    /// Reads UTF8String.
+    #[inline(always)]
+    pub fn read_utf8string(&mut self) -> ASN1Result<String>
+        ensures { Reads (HoldsText (IsUtf8In InUtf8)) IsDeepOctets WantsMemory TAG_UTF8STRING self.old result self.new }
+    {
+        self.read_said(TAG_UTF8STRING, Class::Utf8)
+    }
+
+    /// Reads NumericString: digits and space.
+    #[inline(always)]
+    pub fn read_numeric_string(&mut self) -> ASN1Result<String>
+        ensures { Reads (HoldsText (IsUtf8In InNumeric)) IsDeepOctets WantsMemory TAG_NUMERICSTRING self.old result self.new }
+    {
+        self.read_said(TAG_NUMERICSTRING, Class::Numeric)
+    }
+
+    /// Reads PrintableString: letters, digits, space and `'()+,-./:=?`.
+    #[inline(always)]
+    pub fn read_printable_string(&mut self) -> ASN1Result<String>
+        ensures { Reads (HoldsText (IsUtf8In InPrintable)) IsDeepOctets WantsMemory TAG_PRINTABLESTRING self.old result self.new }
+    {
+        self.read_said(TAG_PRINTABLESTRING, Class::Printable)
+    }
+
+    /// Reads IA5String: the characters up to 127.
+    #[inline(always)]
+    pub fn read_ia5_string(&mut self) -> ASN1Result<String>
+        ensures { Reads (HoldsText (IsUtf8In InIa5)) IsDeepOctets WantsMemory TAG_IA5STRING self.old result self.new }
+    {
+        self.read_said(TAG_IA5STRING, Class::Ia5)
+    }
+
+    /// Reads BMPString: units of UTF-16, the high byte of each first. A surrogate without its partner is read as U+FFFD.
+    #[inline(always)]
+    pub fn read_bmp_string(&mut self) -> ASN1Result<String>
+        ensures { Reads (HoldsText IsBmp) IsDeepOctets WantsMemory TAG_BMPSTRING self.old result self.new }
+    {
+        self.read_said(TAG_BMPSTRING, Class::Bmp)
+    }
+
+    /// Reads VisibleString: the characters from space to `~`.
+    #[inline(always)]
+    pub fn read_visible_string(&mut self) -> ASN1Result<String>
+        ensures { Reads (HoldsText (IsUtf8In InVisible)) IsDeepOctets WantsMemory TAG_VISIBLESTRING self.old result self.new }
+    {
+        self.read_said(TAG_VISIBLESTRING, Class::Visible)
+    }
+
+    // Reads a string whose octets are judged.
+    #[inline(always)]
+    #[tactic(auto, using(crate::proofs::Primitives::reads_front, crate::proofs::Primitives::reads_kept))]
+    pub(crate) fn read_said<J: Judge>(&mut self, tag: Tag, judge: J) -> ASN1Result<J::Value>
+        ensures { Reads (HoldsSaid (J.says judge) J.view) IsDeepOctets WantsMemory tag self.old result self.new }
+    {
+        if let Some(error) = self.kept {
+            self.tag = None;
+            return Err(error);
+        }
+        let front = self.said(tag, judge);
+        self.settle(front)
+    }
+
+    // The string at the front whose octets are judged.
+    #[inline(always)]
+    fn said<J: Judge>(&self, tag: Tag, judge: J) -> Result<(J::Value, &'a [u8]), Refusal>
+        ensures { FrontOf (HoldsSaid (J.says judge) J.view) IsDeepOctets WantsMemory tag self.now result }
+    {
+        string_of(self.alloc, self.cursor, self.wanted(tag), judge)
+    }
+
+    // The octet string at the front.
+    #[inline(always)]
+    fn octets(&self, tag: Tag) -> Result<(Vec<u8>, &'a [u8]), Refusal>
+        ensures { FrontOf HoldsOctets IsDeepOctets WantsMemory tag self.now result }
+    {
+        octet_string(self.alloc, self.cursor, self.wanted(tag))
+    }
+
+    // The bit string at the front.
+    #[inline(always)]
+    fn bits(&self, tag: Tag) -> Result<((Vec<u8>, usize), &'a [u8]), Refusal>
+        ensures { FrontOf HoldsBits IsDeepBits WantsMemory tag self.now result }
+    {
+        bit_string(self.alloc, self.cursor, self.wanted(tag))
+    }
+}

@@ -1,0 +1,60 @@
+//! Reads under tags of the caller's (X.690, 8.14).
+
+use crate::callback::Outcome;
+use crate::state::{BERReader, ReaderState};
+use yasna_base::error::ASN1Result;
+use yasna_base::tag::Tag;
+
+impl<'a> ReaderState<'a> {
+    ghost use Rattle.std.specs.Prelude.{None, ◌≡◌};
+    ghost use Rattle.std.specs.Fn.{FnOnceTakesAtMut, FnOnceReturnsAtMut};
+    ghost use Rattle.yasna_reader.specs.Sequence.{TakesContents, ReadsParts};
+    ghost use Rattle.yasna_reader.specs.Tagged.{ReadsImplicitly, tagging};
+
+    /// Reads a constructed element of this tag, explicit tagging: the callback reads the element inside.
+    ///
+    /// An implicit tag that waits stands in place of this one. What goes wrong in the callback is kept, whatever it
+    /// answers.
+    #[inline(always)]
+    pub fn read_tagged<T: Drop, F>(&mut self, tag: Tag, f: F) -> ASN1Result<T>
+    where
+        F: FnOnce(BERReader<'a, '_>) -> ASN1Result<T>,
+        requires { TakesContents (FnOnceTakesAtMut F.FnOnce f) tag self.old }
+        ensures { ReadsParts (FnOnceReturnsAtMut F.FnOnce f) tag self.old result self.new }
+    {
+        if let Some(error) = self.kept {
+            self.tag = None;
+            return Err(error);
+        }
+        match self.enter(tag) {
+            Ok(opened) => {
+                let mut contents = self.within(&opened);
+                let answer = f(&mut contents);
+                self.leave(&opened, answer, &contents)
+            }
+            Err(refusal) => self.settle(Err(refusal)),
+        }
+    }
+
+    /// Lets this tag stand in place of that of the next element that the callback reads, implicit tagging.
+    ///
+    /// An implicit tag that waits already stands in place of this one: the outermost wins. An Err of the callback is kept
+    /// where it moved something, or is `StackOverflow` or `OutOfMemory`.
+    #[inline(always)]
+    pub fn read_tagged_implicit<T: Drop, F>(&mut self, tag: Tag, f: F) -> ASN1Result<T>
+    where
+        F: FnOnce(BERReader<'a, '_>) -> ASN1Result<T>,
+        requires { self.old.kept ≡ None → FnOnceTakesAtMut F.FnOnce f (tagging tag self.old) }
+        ensures { ReadsImplicitly (FnOnceReturnsAtMut F.FnOnce f) tag self.old result self.new }
+    {
+        if let Some(error) = self.kept {
+            self.tag = None;
+            return Err(error);
+        }
+        self.tag = Some(self.wanted(tag));
+        match self.hand(f) {
+            Outcome::Gave(value) => Ok(value),
+            Outcome::Quiet(error) | Outcome::Failed(error) => Err(error),
+        }
+    }
+}
