@@ -224,7 +224,7 @@ pub record Takes (tag : Tag) (start : ℕ) (es : List Entry) (n heads waits : �
 pub ended :
     (front back : List Entry) (w : Waiting) (h : Header) (place heads more waits : ℕ) (c : List ℕ)
     → AreEntries (front ++ ((record { place = place; mark = Waits w }) ∷ back)) (length c) heads (waits + 1) → w.depth ≡ waits + 1
-    → more ≡ heads + length (header_bytes h) → more < 2 ^ 63 → h.length + w.start ≡ length c + heads
+    → more ≡ heads + length (header_bytes Constructed h) → more < 2 ^ 63 → h.length + w.start ≡ length c + heads
     → Takes h.tag w.start (front ++ ((record { place = place; mark = Known h }) ∷ back)) (length c) more waits c
     (joined (front ++ ((record { place = place; mark = Waits w }) ∷ back)) c)
 unfolding canonical_element definite_element
@@ -246,7 +246,7 @@ ended front back w h place heads more waits c a d m few l =
         counted = omega (arith, a.counted, heads_of_append front (x ∷ back), heads_of_append front (y ∷ back));
         waiting = omega (arith, a.waiting, waits_of_append front (x ∷ back), waits_of_append front (y ∷ back));
         placed = know_append 0 0 (heads_of front) (waits_of front) front (y ∷ back) (know_front 0 0 front (x ∷ back) a.placed)
-            (tt, know_none (heads_of front + length (header_bytes h)) (waits_of front + 0) back none) (omega arith) (omega arith);
+            (tt, know_none (heads_of front + length (header_bytes Constructed h)) (waits_of front + 0) back none) (omega arith) (omega arith);
         few = few;
       };
       joins =
@@ -267,7 +267,7 @@ waits_some es b place n heads waits a i =
 -- the same by the number of the entry
 pub takes :
     (es : List Entry) (b : Beginning) (h : Header) (place heads more waits : ℕ) (c : List ℕ) → AreEntries es (length c) heads waits
-    → IsInnermost es waits b place → more ≡ heads + length (header_bytes h) → more < 2 ^ 63 → h.length + b.start ≡ length c + heads
+    → IsInnermost es waits b place → more ≡ heads + length (header_bytes Constructed h) → more < 2 ^ 63 → h.length + b.start ≡ length c + heads
     → Takes h.tag b.start (set es b.entry (record { place = place; mark = Known h })) (length c) more (waits - 1) c (joined es c)
 takes es b h place heads more waits c a i m few l =
     let w = i.waiting in

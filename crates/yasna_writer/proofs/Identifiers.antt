@@ -1,9 +1,10 @@
 -- Digits in base 128, one step at a time.
-use Rattle.std.proofs.Common.{◌≡◌, ℕ, zero, suc, ◌+◌, ◌/◌, ◌%◌, ◌^◌, ◌<◌, ◌≤◌, List, [], ◌∷◌, ◌++◌, length, map, refl, sym, ap, ◌∙◌, arith, length-append, mod-eq_of_lt}
+use Rattle.std.proofs.Common.{take, get_or, ◌≡◌, ℕ, zero, suc, ◌+◌, ◌/◌, ◌%◌, ◌^◌, ◌<◌, ◌≤◌, List, [], ◌∷◌, ◌++◌, length, map, refl, sym, ap, ◌∙◌, arith, length-append, mod-eq_of_lt}
 use Rattle.std.proofs.lemmas.List.{map-append}
 use Rattle.std.proofs.lemmas.Int.Digits.{digits_of_step}
 use Rattle.std.proofs.Math.Nat.{le-div_iff_mul-le}
 use Rattle.std.specs.Int.Digits.{digits_of}
+use Rattle.std.specs.List.{flat_map}
 use Rattle.std.specs.Prelude.{Bool, true, false}
 use Rattle.yasna_base.specs.Digits.{digits, marked, base128}
 use Rattle.yasna_base.proofs.Digits.{digits_small, digits_length}
@@ -74,3 +75,34 @@ pub base128_digits_step : (more : Bool) (k : ℕ) → 128 ≤ k → base128_digi
 unfolding base128_digits
 base128_digits_step true k h = ap (map (λ d. 128 + d)) (digits_step 128 k (omega arith) h) ∙ map-append (λ d. 128 + d) (digits 128 (k / 128)) (k % 128 ∷ [])
 base128_digits_step false k h = base128_step k h
+
+-- a number of two bytes
+pub base128_two : (k : ℕ) → 128 ≤ k → k < 16384 → base128 k ≡ (128 + k / 128) ∷ k % 128 ∷ []
+base128_two k h l =
+    let q : k / 128 < 128 = omega arith in
+    base128_step k h ∙ ap (λ ds. map (λ d. 128 + d) ds ++ (k % 128 ∷ [])) (digits_small 128 (k / 128) (omega arith) q)
+
+-- and of three
+pub base128_three : (k : ℕ) → 16384 ≤ k → k < 2097152 → base128 k ≡ (128 + k / 128 / 128) ∷ (128 + k / 128 % 128) ∷ k % 128 ∷ []
+base128_three k h l =
+    let q : k / 128 / 128 < 128 = omega arith in
+    let g : 128 ≤ k / 128 = omega arith in
+    base128_step k (omega arith) ∙ ap (λ ds. map (λ d. 128 + d) ds ++ (k % 128 ∷ []))
+    (digits_step 128 (k / 128) (omega arith) g ∙ ap (λ ds. ds ++ (k / 128 % 128 ∷ [])) (digits_small 128 (k / 128 / 128) (omega arith) q))
+
+length_more : (ks : List ℕ) (i : ℕ) → i < length ks →
+    length (flat_map base128 (take (suc i) ks)) ≡ length (flat_map base128 (take i ks)) + length (base128 (get_or ks i 0))
+length_more [] i h = absurd (omega arith)
+length_more (k ∷ ks) zero h = omega (arith, length-append (base128 k) [])
+length_more (k ∷ ks) (suc i) h =
+    omega (
+      arith,
+      length-append (base128 k) (flat_map base128 (take (suc i) ks)),
+      length-append (base128 k) (flat_map base128 (take i ks)),
+      length_more ks i (omega arith),
+    )
+
+-- one number more takes its bytes more
+pub numbers_length_more : (ks : List ℕ) (i : ℕ) → i < length ks →
+    length (flat_map base128 (take (i + 1) ks)) ≡ length (flat_map base128 (take i ks)) + length (base128 (get_or ks i 0))
+numbers_length_more ks i h = let e : i + 1 ≡ suc i = omega arith in ap (λ j. length (flat_map base128 (take j ks))) e ∙ length_more ks i h

@@ -1,8 +1,11 @@
 pub mod Appends
+pub mod Bmp
 pub mod BigEndian
 pub mod Drafts
 pub mod Identifiers
 pub mod Integers
+pub mod Padding
 pub mod Primitives
 pub mod Sequences
+pub mod Tagging
 pub mod Without

@@ -22,6 +22,10 @@ element_at_seam t u n front c whole l s e =
     let rest = ap₂ drop l e ∙ drop-append_seam front c in
     ap₂ (λ x y. x ++ canonical_element Der t Constructed y) head rest ∙ ap (λ v. front ++ canonical_element Der v Constructed c) s
 
+-- a writing without a failure whose tag was taken is the one that a closure is handed
+pub handed_untagged : (old new : Written) → old.kept ≡ None → new ≡ record old { tag = None } → new ≡ handed old
+handed_untagged old new none same = same ∙ ap (λ (k : Option ASN1Error). record old { tag = None; kept = k }) none
+
 module _ (t : Tag) (old between left new : Written) (b : Beginning) (begun : BeginsAt t (handed old) between b) (ends : Ends b left new) where
   -- what is kept, by the count of bytes that stood in front
   pub ended_kept : KeptAtEnd (length old.bytes) left new.kept

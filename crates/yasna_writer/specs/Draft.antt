@@ -14,7 +14,7 @@ use Rattle.yasna_writer.specs.Header.{header_bytes}
 -- an element that isn't ended has no bytes yet
 abbrev pub mark_bytes : Mark → List ℕ
 mark_bytes (Waits w) = []
-mark_bytes (Known h) = header_bytes h
+mark_bytes (Known h) = header_bytes Constructed h
 
 -- how many elements that aren't ended a mark stands for
 abbrev pub mark_waits : Mark → ℕ

@@ -6,3 +6,4 @@ pub mod Draft
 pub mod State
 pub mod Construct
 pub mod Sequence
+pub mod Tagged

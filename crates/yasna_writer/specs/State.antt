@@ -1,5 +1,5 @@
 -- How an element with parts begins and ends in a writing.
-use Rattle.std.specs.Prelude.{◌≡◌, ℕ, ◌≤◌, ◌<◌, ◌⊎◌, length, Option, Some, None, Result, MatchResult}
+use Rattle.std.specs.Prelude.{◌≡◌, ℕ, ◌≤◌, ◌<◌, ◌⊎◌, List, ◌++◌, length, Option, Some, None, Result, MatchResult}
 use Rattle.yasna_base.specs.declared.error.ASN1Error.{ASN1Error}
 use Rattle.yasna_base.specs.declared.error.ASN1ErrorKind.TheVariants.{OutOfMemory, Invalid}
 use Rattle.yasna_base.specs.declared.mode.BERMode.TheVariants.{Der}
@@ -9,6 +9,11 @@ use Rattle.yasna_writer.specs.declared.draft.Beginning.{Beginning}
 use Rattle.yasna_writer.specs.Draft.{with_element}
 use Rattle.yasna_writer.specs.View.{Written}
 use Rattle.yasna_base.specs.Identifier.{tag_or}
+
+-- bytes were appended, or want of memory is answered and kept
+abbrev pub Appended : List ℕ → Written → Written → Result (Unit {0}) ASN1Error → Type 0
+Appended bs old new result =
+    MatchResult result (λ _. new ≡ record old { bytes = old.bytes ++ bs }) (λ e. (kind_of e ≡ OutOfMemory) × (new.kept ≡ Some e))
 
 -- why k is kept at the end of an element that began behind n bytes, where a closure left this writing: a write of the
 -- closure failed, or there is no memory, or fewer bytes are left than there were

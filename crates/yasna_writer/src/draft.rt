@@ -5,14 +5,14 @@
 ghost use Rattle.std.specs.Prelude.{◌≡◌, ◌≤◌, ◌<◌, ◌+◌, ◌++◌, ◌⊎◌, [], length, length as count, vec_len, IfOk, OnOk, IfSome, MatchResult};
 ghost use Rattle.yasna_base.specs.Error.{kind_of};
 ghost use Rattle.yasna_base.specs.declared.error.ASN1ErrorKind.TheVariants.{OutOfMemory, Invalid};
-ghost use Rattle.yasna_base.specs.declared.mode.BERMode.TheVariants.{Der};
-ghost use Rattle.yasna_base.specs.declared.tag.PCBit.TheVariants.{Primitive};
-ghost use Rattle.yasna_base.specs.Canonical.{canonical_element};
+ghost use Rattle.yasna_base.specs.Digits.{base128};
+ghost use Rattle.std.specs.List.{flat_map};
+ghost use Rattle.yasna_writer.specs.Header.{header_bytes};
 ghost use Rattle.yasna_writer.specs.Draft.{mark_bytes, joined, AreInOrder, IsInnermost, with_element};
 
 use crate::header::{Header, append_header, header_length};
-use crate::identifier::{append, append_identifier};
-use crate::length::append_length;
+use crate::identifier::{append, leading};
+use crate::oid::append_subidentifiers;
 use std::alloc::{AllocError, Global};
 use std::marker::Model;
 use std::mem;
@@ -115,7 +115,7 @@ fn append_mark(out: &mut Vec<u8>, mark: Mark) -> Result<(), AllocError>
 {
     match mark {
         Mark::Waits(_) => Ok(()),
-        Mark::Known(header) => append_header(out, header),
+        Mark::Known(header) => append_header(out, header, PCBit::Constructed),
     }
 }
 
@@ -135,7 +135,7 @@ impl Draft {
 
     // How many bytes there are.
     #[inline(always)]
-    fn len(&self) -> usize
+    pub(crate) fn len(&self) -> usize
         ensures { result ≡ length self.now }
     {
         self.contents.len() + self.heads
@@ -150,17 +150,25 @@ impl Draft {
         append(&mut self.contents, bytes)
     }
 
-    // Appends an element without parts, whose contents are two pieces.
+    // Appends the header of an element whose contents follow.
     #[tactic(auto, using(crate::proofs::Drafts::joined_append))]
-    pub(crate) fn append_primitive(
-        &mut self,
-        tag: Tag,
-        front: &[u8],
-        rest: &[u8],
-    ) -> Result<(), AllocError>
-        ensures { OnOk result (self.new ≡ self.old ++ canonical_element Der tag Primitive (front.now ++ rest.now)) }
+    #[inline(always)]
+    pub(crate) fn append_opening(&mut self, header: Header, pc: PCBit) -> Result<(), AllocError>
+        ensures { OnOk result (self.new ≡ self.old ++ header_bytes pc header) }
     {
-        append_primitive(&mut self.contents, tag, front, rest)
+        append_opening(&mut self.contents, header, pc)
+    }
+
+    // Appends numbers in base 128.
+    #[tactic(auto, using(crate::proofs::Drafts::joined_append))]
+    pub(crate) fn append_subidentifiers(
+        &mut self,
+        first: u64,
+        further: &[u64],
+    ) -> Result<(), AllocError>
+        ensures { OnOk result (self.new ≡ self.old ++ (base128 first ++ flat_map base128 further.now)) }
+    {
+        append_subidentifiers(&mut self.contents, first, further)
     }
 
     // Marks where an element with parts begins. Where there is no memory for the mark, its end does without.
@@ -280,21 +288,30 @@ fn join(
     Ok(out)
 }
 
-// Appends an element without parts, whose contents are two pieces.
-fn append_primitive(
-    out: &mut Vec<u8>,
-    tag: Tag,
-    front: &[u8],
-    rest: &[u8],
-) -> Result<(), AllocError>
-    ensures items { OnOk result (out.new.items ≡ out.old.items ++ canonical_element Der tag Primitive (front.now ++ rest.now)) }
+// Appends the header of an element whose contents follow. Where the tag's number is below 31 and the contents are short, that is
+// two bytes.
+#[tactic(auto, using(crate::proofs::Primitives::short_header))]
+#[inline(always)]
+fn append_opening(out: &mut Vec<u8>, header: Header, pc: PCBit) -> Result<(), AllocError>
+    ensures items { OnOk result (out.new.items ≡ out.old.items ++ header_bytes pc header) }
     ensures grows { vec_len out.old ≤ vec_len out.new }
 {
-    let Some(length) = front.len().checked_add(rest.len()) else {
-        return Err(AllocError);
-    };
-    append_identifier(out, tag, PCBit::Primitive)?;
-    append_length(out, length)?;
-    append(out, front)?;
-    append(out, rest)
+    if header.tag.tag_number < 31 && header.length < 128 {
+        let first = leading(header.tag, pc);
+        return append(out, &[first, header.length as u8]);
+    }
+    append_longer_opening(out, header, pc)
+}
+
+// Appends any header. Where the contents are long, room is made for all of it first.
+#[inline(never)]
+fn append_longer_opening(out: &mut Vec<u8>, header: Header, pc: PCBit) -> Result<(), AllocError>
+    ensures items { OnOk result (out.new.items ≡ out.old.items ++ header_bytes pc header) }
+    ensures grows { vec_len out.old ≤ vec_len out.new }
+{
+    if header.length >= 128 {
+        let room = header_length(header.tag, header.length);
+        out.reserve(header.length.saturating_add(room))?;
+    }
+    append_header(out, header, pc)
 }

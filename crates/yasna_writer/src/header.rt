@@ -1,5 +1,6 @@
-//! The header of an element with parts: identifier and length (X.690, 8.1.2 and 8.1.3).
+//! The header of an element: identifier and length (X.690, 8.1.2 and 8.1.3).
 ghost use Rattle.std.specs.Prelude.{◌≡◌, ◌≤◌, ◌++◌, length as count, OnOk, vec_len};
+ghost use Rattle.yasna_base.specs.declared.tag.PCBit.TheVariants.{Constructed};
 ghost use Rattle.yasna_writer.specs.Header.{header_bytes};
 
 use crate::identifier::{append, append_identifier, identifier_length, leading};
@@ -7,7 +8,7 @@ use crate::length::{append_length, length_length};
 use std::alloc::AllocError;
 use yasna_base::{PCBit, Tag};
 
-// The header of an element with parts.
+// What the header of an element says.
 #[derive(Clone, Copy)]
 pub(crate) struct Header {
     // The element's tag.
@@ -18,24 +19,21 @@ pub(crate) struct Header {
 
 // Appends a header.
 #[tactic(auto, using(yasna_base::proofs::Identifier::identifier_short, yasna_base::proofs::Length::short_length))]
-pub(crate) fn append_header(out: &mut Vec<u8>, header: Header) -> Result<(), AllocError>
-    ensures items { OnOk result (out.new.items ≡ out.old.items ++ header_bytes header) }
+pub(crate) fn append_header(out: &mut Vec<u8>, header: Header, pc: PCBit) -> Result<(), AllocError>
+    ensures items { OnOk result (out.new.items ≡ out.old.items ++ header_bytes pc header) }
     ensures grows { vec_len out.old ≤ vec_len out.new }
 {
     if header.tag.tag_number < 31 && header.length < 128 {
-        return append(
-            out,
-            &[leading(header.tag, PCBit::Constructed), header.length as u8],
-        );
+        return append(out, &[leading(header.tag, pc), header.length as u8]);
     }
-    append_identifier(out, header.tag, PCBit::Constructed)?;
+    append_identifier(out, header.tag, pc)?;
     append_length(out, header.length)
 }
 
-// How many bytes the header of such an element takes.
+// How many bytes the header of an element takes.
 #[inline(always)]
 pub(crate) fn header_length(tag: Tag, length: usize) -> usize
-    ensures octets { result ≡ count (header_bytes (record { tag = tag; length = length })) }
+    ensures octets { result ≡ count (header_bytes Constructed (record { tag = tag; length = length })) }
     ensures few { result ≤ 20 }
 {
     identifier_length(tag) + length_length(length)

@@ -52,7 +52,7 @@ pub(crate) fn leading(tag: Tag, pc: PCBit) -> u8
 
 // How many bytes a number takes in base 128.
 #[tactic(auto, using(crate::proofs::Identifiers::base128_length_small, crate::proofs::Identifiers::base128_length_step, crate::proofs::Identifiers::base128_length_at_most))]
-fn base128_length(number: u64) -> usize
+pub(crate) fn base128_length(number: u64) -> usize
     ensures { result ≡ length (base128 number) }
 {
     if number < 128 {
@@ -71,7 +71,7 @@ fn base128_byte(more: bool, number: u64) -> u8
 
 // Appends a number in base 128, with 128 added to all its digits, or to all but the last.
 #[tactic(auto, using(crate::proofs::Identifiers::base128_digits_small, crate::proofs::Identifiers::base128_digits_step))]
-fn append_base128(out: &mut Vec<u8>, number: u64, more: bool) -> Result<(), AllocError>
+pub(crate) fn append_base128(out: &mut Vec<u8>, number: u64, more: bool) -> Result<(), AllocError>
     ensures items { OnOk result (out.new.items ≡ out.old.items ++ base128_digits more number) }
     ensures grows { vec_len out.old ≤ vec_len out.new }
 {

@@ -7,7 +7,12 @@
 //! | `construct` | the calls that begin a writing and end it |
 //! | `state` | the writer: a draft, the implicit tag, the failure kept |
 //! | `primitive` | the writes of elements without parts |
+//! | `strings` | the writes of strings |
+//! | `oid` | the write of an object identifier |
+//! | `raw` | the writes of raw elements |
+//! | `times` | the writes of times |
 //! | `sequence` | the writes of elements with parts |
+//! | `tagged` | the writes of elements under tags of the caller's |
 //! | `draft` | contents, the headers that aren't among them yet, and how they are joined |
 //! | `header` | the header of an element with parts |
 //! | `identifier`, `length` | identifier and length octets |
@@ -20,9 +25,14 @@ mod header;
 mod identifier;
 mod integer;
 mod length;
+mod oid;
 mod primitive;
+mod raw;
 mod sequence;
 mod state;
+mod strings;
+mod tagged;
+mod times;
 
 pub use construct::{construct_der, construct_der_seq, try_construct_der, try_construct_der_seq};
 pub use sequence::DERWriterSeq;

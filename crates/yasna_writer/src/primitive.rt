@@ -14,6 +14,7 @@ ghost use Rattle.yasna_base.specs.BigInteger.{signed_number, big_integer};
 ghost use Rattle.yasna_base.specs.Canonical.{canonical_element};
 ghost use Rattle.yasna_base.specs.Boolean.{boolean_form};
 ghost use Rattle.yasna_base.specs.Null.{null_form};
+ghost use Rattle.yasna_writer.specs.State.{Appended};
 ghost use Rattle.yasna_writer.specs.View.{Wrote};
 
 use crate::identifier::leading;
@@ -96,7 +97,7 @@ impl Writer {
     {
         match i64::try_from(val) {
             Ok(signed) => self.write_i64(signed),
-            Err(_) => self.write_bytes(TAG_INTEGER, true, &val.to_be_bytes()),
+            Err(_) => self.write_signed_bytes(TAG_INTEGER, true, &val.to_be_bytes()),
         }
     }
 
@@ -133,9 +134,9 @@ impl Writer {
     {
         let rest = without(0, bytes);
         if rest.is_empty() {
-            return self.write_bytes(TAG_INTEGER, true, rest);
+            return self.write_signed_bytes(TAG_INTEGER, true, rest);
         }
-        self.write_bytes(TAG_INTEGER, positive, rest)
+        self.write_signed_bytes(TAG_INTEGER, positive, rest)
     }
 
     // Writes an element with one byte of contents.
@@ -182,7 +183,7 @@ impl Writer {
     fn append_last(&mut self, tag: Tag, bytes: [u8; 8], count: usize) -> ASN1Result<()>
         requires some { 1 ≤ count }
         requires few { count ≤ 8 }
-        ensures { MatchResult result (λ _. self.new ≡ record self.old { bytes = self.old.bytes ++ canonical_element self.old.mode tag Primitive (drop (8 - count) bytes) }) (λ e. (kind_of e ≡ OutOfMemory) × (self.new.kept ≡ Some e)) }
+        ensures { Appended (canonical_element self.old.mode tag Primitive (drop (8 - count) bytes)) self.old self.new result }
     {
         if tag.tag_number >= 31 {
             return self.append_primitive(tag, &[], &bytes[8 - count..]);
@@ -206,7 +207,7 @@ impl Writer {
     }
 
     // Writes the number that bytes and its sign stand for.
-    fn write_bytes(&mut self, own: Tag, positive: bool, bytes: &[u8]) -> ASN1Result<()>
+    fn write_signed_bytes(&mut self, own: Tag, positive: bool, bytes: &[u8]) -> ASN1Result<()>
         ensures { Wrote (integer_form (tag_or self.old.tag own) self.old.mode (signed_number positive bytes.now)) self.old self.new result }
     {
         let rest = without(sign_byte(positive), bytes);

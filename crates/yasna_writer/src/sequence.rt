@@ -111,4 +111,17 @@ impl Writer {
         self.take_back(sequence.into_inner());
         self.settle(own)
     }
+
+    /// Writes a SEQUENCE OF (X.690, 8.10), as `write_sequence` writes a SEQUENCE.
+    #[inline(always)]
+    pub fn write_sequence_of<
+        T: Drop,
+        E: From<ASN1Error> + Drop,
+        F: FnOnce(&mut DERWriterSeq) -> Result<T, E>,
+    >(&mut self, f: F) -> Result<T, E>
+        requires { self.old.kept ≡ None → FnOnceTakesAtMut F.FnOnce f (handed self.old) }
+        ensures { Encloses F.FnOnce E.from_gives f (canonical_element self.old.mode (tag_or self.old.tag (universal 16)) Constructed) self.old self.new result }
+    {
+        self.write_sequence(f)
+    }
 }

@@ -1,20 +1,25 @@
 //! The writer.
-ghost use Rattle.std.specs.Prelude.{◌≡◌, ◌++◌, Ok, Err, Some, None, MatchResult};
+ghost use Rattle.std.specs.Prelude.{◌≡◌, ◌++◌, length, Ok, Err, Some, None, MatchResult};
 ghost use Rattle.yasna_base.specs.Error.{kind_of};
 ghost use Rattle.yasna_base.specs.declared.error.ASN1ErrorKind.TheVariants.{OutOfMemory};
 ghost use Rattle.yasna_base.specs.Canonical.{canonical_element};
+ghost use Rattle.yasna_base.specs.Digits.{base128};
+ghost use Rattle.std.specs.List.{flat_map};
 ghost use Rattle.yasna_base.specs.declared.tag.PCBit.TheVariants.{Primitive};
 ghost use Rattle.yasna_writer.specs.View.{Written, empty_writing, handed};
 ghost use Rattle.yasna_base.specs.Identifier.{tag_or};
 ghost use Rattle.yasna_writer.specs.Construct.{Constructed};
 ghost use Rattle.yasna_writer.specs.Sequence.{AnswersKept};
-ghost use Rattle.yasna_writer.specs.State.{TakesTag, BeginsAt, Ends};
+ghost use Rattle.yasna_writer.specs.Header.{header_bytes};
+ghost use Rattle.yasna_writer.specs.State.{Appended, TakesTag, BeginsAt, Ends};
+ghost use Rattle.yasna_writer.specs.Tagged.{tagging, LeftBehind};
 
 use crate::draft::{Beginning, Draft};
+use crate::header::Header;
 use std::alloc::Global;
 use std::marker::Model;
 use std::mem;
-use yasna_base::{ASN1Error, ASN1ErrorKind, ASN1Result, Tag};
+use yasna_base::{ASN1Error, ASN1ErrorKind, ASN1Result, PCBit, Tag};
 
 /// A writing: bytes so far, the implicit tag that the next element takes, and the failure that later calls answer.
 ///
@@ -80,6 +85,12 @@ impl Writer {
         self.kept
     }
 
+    // Where memory is taken from.
+    #[inline(always)]
+    pub(crate) fn alloc(&self) -> Global {
+        self.alloc
+    }
+
     // Takes the implicit tag, or else a type's own.
     #[inline(always)]
     pub(crate) fn take_tag(&mut self, own: Tag) -> Tag
@@ -114,7 +125,7 @@ impl Writer {
     // Appends bytes, or keeps want of memory.
     #[inline(always)]
     pub(crate) fn append(&mut self, bytes: &[u8]) -> ASN1Result<()>
-        ensures { MatchResult result (λ _. self.new ≡ record self.old { bytes = self.old.bytes ++ bytes.now }) (λ e. (kind_of e ≡ OutOfMemory) × (self.new.kept ≡ Some e)) }
+        ensures { Appended bytes.now self.old self.new result }
     {
         match self.draft.append(bytes) {
             Ok(()) => Ok(()),
@@ -122,12 +133,35 @@ impl Writer {
         }
     }
 
-    // Appends an element without parts, whose contents are two pieces, or keeps want of memory.
-    #[tactic(auto, unfolding(yasna_base::specs::Canonical::canonical_element))]
-    pub(crate) fn append_primitive(&mut self, tag: Tag, front: &[u8], rest: &[u8]) -> ASN1Result<()>
-        ensures { MatchResult result (λ _. self.new ≡ record self.old { bytes = self.old.bytes ++ canonical_element self.old.mode tag Primitive (front.now ++ rest.now) }) (λ e. (kind_of e ≡ OutOfMemory) × (self.new.kept ≡ Some e)) }
+    // Appends the header of an element whose contents follow, or keeps want of memory.
+    #[inline(always)]
+    pub(crate) fn append_opening(&mut self, header: Header, pc: PCBit) -> ASN1Result<()>
+        ensures { Appended (header_bytes pc header) self.old self.new result }
     {
-        match self.draft.append_primitive(tag, front, rest) {
+        match self.draft.append_opening(header, pc) {
+            Ok(()) => Ok(()),
+            Err(_) => Err(self.lack_memory()),
+        }
+    }
+
+    // Appends an element without parts, whose contents are two pieces, or keeps want of memory.
+    #[tactic(auto, unfolding(yasna_base::specs::Canonical::canonical_element, yasna_base::specs::Canonical::definite_element))]
+    pub(crate) fn append_primitive(&mut self, tag: Tag, front: &[u8], rest: &[u8]) -> ASN1Result<()>
+        ensures { Appended (canonical_element self.old.mode tag Primitive (front.now ++ rest.now)) self.old self.new result }
+    {
+        let Some(length) = front.len().checked_add(rest.len()) else {
+            return Err(self.lack_memory());
+        };
+        self.append_opening(Header { tag, length }, PCBit::Primitive)?;
+        self.append(front)?;
+        self.append(rest)
+    }
+
+    // Appends numbers in base 128, or keeps want of memory.
+    pub(crate) fn append_subidentifiers(&mut self, first: u64, further: &[u64]) -> ASN1Result<()>
+        ensures { Appended (base128 first ++ flat_map base128 further.now) self.old self.new result }
+    {
+        match self.draft.append_subidentifiers(first, further) {
             Ok(()) => Ok(()),
             Err(_) => Err(self.lack_memory()),
         }
@@ -182,6 +216,29 @@ impl Writer {
             if let Err(error) = self.draft.end(self.alloc, beginning) {
                 self.kept = Some(error);
             }
+        }
+    }
+
+    // Lets this tag wait for the next element, where none does, and answers how many bytes there are.
+    #[inline(always)]
+    pub(crate) fn tag_next(&mut self, tag: Tag) -> usize
+        ensures tagged { self.new ≡ tagging tag self.old }
+        ensures start { result ≡ length self.old.bytes }
+    {
+        if self.tag.is_none() {
+            self.tag = Some(tag);
+        }
+        self.draft.len()
+    }
+
+    // Drops the implicit tag behind a closure, and keeps a failure where it left fewer bytes than these.
+    #[inline(always)]
+    pub(crate) fn end_tagging(&mut self, start: usize)
+        ensures { LeftBehind start self.old self.new }
+    {
+        self.untag();
+        if self.kept.is_none() && self.draft.len() < start {
+            self.kept = Some(ASN1Error::new(ASN1ErrorKind::Invalid));
         }
     }
 

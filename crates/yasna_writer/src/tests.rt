@@ -1,10 +1,10 @@
-//! What vectors can't say: long tags, and writers that a closure exchanges.
+//! What vectors can't say: long tags, writers that a closure exchanges, and how the contents of strings are put together.
 use crate::construct_der;
 use crate::header::{Header, append_header};
 use std::mem;
 use std::process::Abort;
 use std::test::Fail;
-use yasna_base::{ASN1Error, ASN1ErrorKind, ASN1Result, Tag, TagClass};
+use yasna_base::{ASN1Error, ASN1ErrorKind, ASN1Result, PCBit, Tag, TagClass};
 
 // A writing answered just these bytes.
 fn is_written(rt: &impl Abort, written: ASN1Result<Vec<u8>>, bytes: &[u8]) {
@@ -21,7 +21,7 @@ fn long_tags(rt: HostRuntime) -> Result<(), Fail> {
         tag_class: TagClass::ContextSpecific,
         tag_number: 345678,
     };
-    append_header(&mut out, Header { tag, length: 128 })?;
+    append_header(&mut out, Header { tag, length: 128 }, PCBit::Constructed)?;
     assert_eq!(rt; out.as_slice(), &[191, 149, 140, 78, 129, 128][..]);
     Ok(())
 }
@@ -47,4 +47,27 @@ fn exchanged_writers(rt: HostRuntime) {
         })
     });
     assert_eq!(rt; outer.err(), Some(ASN1Error::new(ASN1ErrorKind::Invalid)));
+}
+
+// Strings whose contents come in pieces, and one whose length takes two bytes.
+#[test]
+fn strings(rt: HostRuntime) {
+    let alloc = rt.alloc();
+    let bits = construct_der(
+        alloc,
+        |writer| writer.write_bitvec_bytes(&[117, 13, 65], 18),
+    );
+    is_written(&rt, bits, &[3, 4, 6, 117, 13, 64]);
+    let none = construct_der(alloc, |writer| writer.write_bitvec_bytes(&[], 0));
+    is_written(&rt, none, &[3, 1, 0]);
+    let text = construct_der(alloc, |writer| writer.write_bmp_string("a\u{1F600}"));
+    is_written(&rt, text, &[30, 6, 0, 97, 216, 61, 222, 0]);
+    let long = construct_der(alloc, |writer| writer.write_bytes(&[91; 200]));
+    match long {
+        Ok(bytes) => {
+            assert_eq!(rt; bytes.len(), 203);
+            assert_eq!(rt; &bytes[..4], &[4, 129, 200, 91][..]);
+        }
+        Err(e) => assert!(rt; false, "{e}"),
+    }
 }

@@ -12,13 +12,13 @@ pub returns-then-is_empty : goal.returns-then-is_empty
 returns-then-is_empty c =
     let empty = ap length (sym c.without-rest.ensures) ∙ eqb-true _ 0 (sym (c.if-is_empty.ensures {u = tt})) in
     let number = ap (signed_number true) c.without-rest.ensures ∙ big_none c.args.positive c.args.bytes.now empty in
-    subst (λ (z : ℤ). Wrote (integer_form (tag_or c.args.self.now.tag (universal 2)) c.args.self.now.mode z) c.args.self.now c.write_bytes.new.self
-    c.write_bytes.result) number c.write_bytes.ensures
+    subst (λ (z : ℤ). Wrote (integer_form (tag_or c.args.self.now.tag (universal 2)) c.args.self.now.mode z) c.args.self.now c.write_signed_bytes.new.self
+    c.write_signed_bytes.result) number c.write_signed_bytes.ensures
 
 pub returns : goal.returns
 returns c =
     let some = eqb-false _ 0 (sym (c.if-is_empty.ensures {u = tt})) in
     let rest = ap length c.without-rest.ensures in
     let number = ap (signed_number c.args.positive) c.without-rest.ensures ∙ big_some c.args.positive c.args.bytes.now (omega arith) in
-    subst (λ (z : ℤ). Wrote (integer_form (tag_or c.args.self.now.tag (universal 2)) c.args.self.now.mode z) c.args.self.now c.write_bytes-2.new.self
-    c.write_bytes-2.result) number c.write_bytes-2.ensures
+    subst (λ (z : ℤ). Wrote (integer_form (tag_or c.args.self.now.tag (universal 2)) c.args.self.now.mode z) c.args.self.now c.write_signed_bytes-2.new.self
+    c.write_signed_bytes-2.result) number c.write_signed_bytes-2.ensures

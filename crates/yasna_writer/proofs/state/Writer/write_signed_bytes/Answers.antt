@@ -7,7 +7,7 @@ use Rattle.yasna_base.specs.BigInteger.{without}
 use Rattle.yasna_writer.specs.Integer.{sign_front}
 use Rattle.yasna_base.proofs.Digits.{all_bytes}
 use Rattle.yasna_writer.proofs.Integers.{signed_bytes}
-use Rattle.yasna_writer.proofs.state.Writer.write_bytes.Goals as goal
+use Rattle.yasna_writer.proofs.state.Writer.write_signed_bytes.Goals as goal
 
 pub returns : goal.returns
 returns c =

@@ -1,0 +1,15 @@
+use Rattle.std.proofs.Common.{◌≡◌, None, rules, refl, subst}
+use Rattle.yasna_writer.specs.Tagged.{LeftBehind}
+use Rattle.yasna_writer.proofs.Tagging.{tagged_fresh}
+use Rattle.yasna_writer.proofs.state.Writer.write_tagged_implicit.Goals as goal
+
+pub returns : goal.returns
+returns g c =
+    let none : c.args.self.now.kept ≡ None = search rules in
+    tagged_fresh none (record {
+      own = c.f-own.result;
+      left = c.f-own.new.arg2;
+      ran = record { shown = _; shows = c.tag_next-start.ensures.tagged; left = _; met = c.f-own.ensures; leaves = refl };
+      behind = subst (λ n. LeftBehind n c.f-own.new.arg2 c.end_tagging.new.self) c.tag_next-start.ensures.start c.end_tagging.ensures;
+      answers = c.settle.ensures;
+    })

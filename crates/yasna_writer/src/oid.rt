@@ -1,0 +1,112 @@
+//! OBJECT IDENTIFIER (X.690, 8.19): a write of its own, since its contents are made of numbers as they are appended.
+ghost use Rattle.std.specs.List.{flat_map};
+ghost use Rattle.std.specs.Prelude.{◌≡◌, ◌≤◌, ◌*◌, ◌∷◌, ◌++◌, length, OnOk, vec_len};
+ghost use Rattle.yasna_base.specs.declared.mode.BERMode.TheVariants.{Der};
+ghost use Rattle.yasna_base.specs.declared.tag.PCBit.TheVariants.{Primitive};
+ghost use Rattle.yasna_base.specs.Canonical.{canonical_element};
+ghost use Rattle.yasna_base.specs.Digits.{base128};
+ghost use Rattle.yasna_base.specs.Identifier.{universal, tag_or};
+ghost use Rattle.yasna_base.specs.Oid.{IsEncodableOid, subidentifiers, oid_form};
+ghost use Rattle.yasna_writer.specs.View.{Wrote};
+
+use crate::header::Header;
+use crate::identifier::{append, append_base128, base128_length};
+use crate::state::Writer;
+use std::alloc::AllocError;
+use yasna_base::models::ObjectIdentifier;
+use yasna_base::tags::TAG_OID;
+use yasna_base::{ASN1Result, PCBit};
+
+// How many bytes numbers take in base 128.
+#[inline(always)]
+fn numbers_length(numbers: &[u64]) -> usize
+    ensures octets { result ≡ length (flat_map base128 numbers.now) }
+    ensures few { result ≤ 10 * length numbers.now }
+{
+    let mut octets = 0;
+    for number in numbers {
+        octets += base128_length(*number);
+    }
+    octets
+}
+
+// Appends a number in base 128, of up to three bytes at once.
+#[tactic(auto, using(crate::proofs::Identifiers::base128_small, crate::proofs::Identifiers::base128_two, crate::proofs::Identifiers::base128_three), unfolding(crate::specs::Identifier::base128_digits))]
+#[inline(always)]
+fn append_number(out: &mut Vec<u8>, number: u64) -> Result<(), AllocError>
+    ensures items { OnOk result (out.new.items ≡ out.old.items ++ base128 number) }
+    ensures grows { vec_len out.old ≤ vec_len out.new }
+{
+    if number < 128 {
+        return append(out, &[number as u8]);
+    }
+    let low = (number % 128) as u8;
+    if number < 16384 {
+        return append(out, &[128 + (number / 128) as u8, low]);
+    }
+    if number < 2097152 {
+        let middle = (number / 128 % 128) as u8;
+        return append(out, &[128 + (number / 128 / 128) as u8, 128 + middle, low]);
+    }
+    append_base128(out, number, false)
+}
+
+// Appends numbers in base 128.
+#[inline(always)]
+fn append_numbers(out: &mut Vec<u8>, numbers: &[u64]) -> Result<(), AllocError>
+    ensures items { OnOk result (out.new.items ≡ out.old.items ++ flat_map base128 numbers.now) }
+    ensures grows { vec_len out.old ≤ vec_len out.new }
+{
+    for number in numbers {
+        append_number(out, *number)?;
+    }
+    Ok(())
+}
+
+// How many bytes these subidentifiers take.
+#[inline(always)]
+fn contents_length(first: u64, further: &[u64]) -> usize
+    ensures { result ≡ length (base128 first ++ flat_map base128 further.now) }
+{
+    base128_length(first) + numbers_length(further)
+}
+
+// Appends these subidentifiers.
+pub(crate) fn append_subidentifiers(
+    out: &mut Vec<u8>,
+    first: u64,
+    further: &[u64],
+) -> Result<(), AllocError>
+    ensures items { OnOk result (out.new.items ≡ out.old.items ++ (base128 first ++ flat_map base128 further.now)) }
+    ensures grows { vec_len out.old ≤ vec_len out.new }
+{
+    append_number(out, first)?;
+    append_numbers(out, further)
+}
+
+// What the first two components make, and the further components.
+#[inline(always)]
+fn subidentifiers(components: &[u64]) -> (u64, &[u64])
+    requires { IsEncodableOid components.now }
+    ensures { subidentifiers components.now ≡ result.0 ∷ result.1.now }
+{
+    (40 * components[0] + components[1], &components[2..])
+}
+
+impl Writer {
+    /// Writes an OBJECT IDENTIFIER that has an encoding, as `is_encodable` says (X.690, 8.19).
+    #[tactic(auto, unfolding(yasna_base::specs::Canonical::canonical_element, yasna_base::specs::Canonical::definite_element))]
+    pub fn write_oid(&mut self, oid: &ObjectIdentifier) -> ASN1Result<()>
+        requires { IsEncodableOid oid.now }
+        ensures { Wrote (oid_form (tag_or self.old.tag (universal 6)) self.old.mode oid.now) self.old self.new result }
+    {
+        if let Some(error) = self.kept() {
+            return Err(error);
+        }
+        let tag = self.take_tag(TAG_OID);
+        let (first, further) = subidentifiers(oid.components());
+        let length = contents_length(first, further);
+        self.append_opening(Header { tag, length }, PCBit::Primitive)?;
+        self.append_subidentifiers(first, further)
+    }
+}

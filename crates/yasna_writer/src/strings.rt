@@ -1,0 +1,194 @@
+//! Strings: OCTET STRING, BIT STRING and texts (X.690, 8.6, 8.7, 8.23 and 11.2).
+//!
+//! Each is written as one primitive element, as DER asks. Each write takes the implicit tag if there is one, and else the
+//! type's own. A failure that is kept is answered, and nothing is written. Besides, each answers `OutOfMemory` where there
+//! is no memory for the element, and keeps it.
+ghost use Rattle.std.specs.Prelude.{[], ◌∷◌, ◌≡◌, ◌≤◌, ◌<◌, ◌+◌, ◌-◌, ◌*◌, ◌%◌, ◌++◌, length};
+ghost use Rattle.std.specs.List.{AllByRecursion};
+ghost use Rattle.std.specs.Str.{chars};
+ghost use Rattle.yasna_base.specs.declared.tag.PCBit.TheVariants.{Primitive};
+ghost use Rattle.yasna_base.specs.Canonical.{canonical_element};
+ghost use Rattle.yasna_base.specs.Identifier.{universal, tag_or};
+ghost use Rattle.yasna_base.specs.Octets.{octets_form};
+ghost use Rattle.yasna_base.specs.Bits.{bits_form};
+ghost use Rattle.yasna_base.specs.Text.{utf8_form, bmp_form, bmp_octets, InNumeric, InPrintable, InVisible, InIa5};
+ghost use Rattle.yasna_writer.specs.Header.{header_bytes};
+ghost use Rattle.yasna_writer.specs.State.{Appended};
+ghost use Rattle.yasna_writer.specs.View.{Wrote};
+
+use crate::header::Header;
+use crate::state::Writer;
+use yasna_base::tags::{
+    TAG_BITSTRING, TAG_BMPSTRING, TAG_IA5STRING, TAG_NUMERICSTRING, TAG_OCTETSTRING,
+    TAG_PRINTABLESTRING, TAG_UTF8STRING, TAG_VISIBLESTRING,
+};
+use yasna_base::{ASN1Result, PCBit, Tag};
+
+impl Writer {
+    /// Writes an OCTET STRING (X.690, 8.7).
+    #[inline(always)]
+    pub fn write_bytes(&mut self, bytes: &[u8]) -> ASN1Result<()>
+        ensures { Wrote (octets_form (tag_or self.old.tag (universal 4)) self.old.mode bytes.now) self.old self.new result }
+    {
+        self.write_contents(TAG_OCTETSTRING, bytes)
+    }
+
+    /// Writes a BIT STRING of so many bits, the first of a byte being its highest (X.690, 8.6). Bits of the last byte
+    /// that are left over are written as zero (X.690, 11.2).
+    #[tactic(auto, using(crate::proofs::Padding::padded_contents))]
+    pub fn write_bitvec_bytes(&mut self, bytes: &[u8], len: usize) -> ASN1Result<()>
+        requires enough { len ≤ 8 * length bytes.now }
+        requires least { 8 * length bytes.now < len + 8 }
+        ensures { Wrote (bits_form (tag_or self.old.tag (universal 3)) self.old.mode (record { bytes = bytes.now; count = len })) self.old self.new result }
+    {
+        let Some((last, front)) = bytes.split_last() else {
+            return self.write_contents(TAG_BITSTRING, &[0]);
+        };
+        let unused = unused_bits(len);
+        self.write_bits(unused, front, *last >> unused << unused)
+    }
+
+    /// Writes a UTF8String (X.690, 8.23.10).
+    #[inline(always)]
+    pub fn write_utf8_string(&mut self, string: &str) -> ASN1Result<()>
+        ensures { Wrote (utf8_form (tag_or self.old.tag (universal 12)) self.old.mode (chars string.now)) self.old self.new result }
+    {
+        self.write_text(TAG_UTF8STRING, string)
+    }
+
+    /// The same as `write_utf8_string`, under the name that the reader's call has.
+    #[inline(always)]
+    pub fn write_utf8string(&mut self, string: &str) -> ASN1Result<()>
+        ensures { Wrote (utf8_form (tag_or self.old.tag (universal 12)) self.old.mode (chars string.now)) self.old self.new result }
+    {
+        self.write_utf8_string(string)
+    }
+
+    /// Writes a NumericString: digits and space.
+    #[inline(always)]
+    pub fn write_numeric_string(&mut self, string: &str) -> ASN1Result<()>
+        requires { AllByRecursion InNumeric (chars string.now) }
+        ensures { Wrote (utf8_form (tag_or self.old.tag (universal 18)) self.old.mode (chars string.now)) self.old self.new result }
+    {
+        self.write_text(TAG_NUMERICSTRING, string)
+    }
+
+    /// Writes a PrintableString: letters, digits, space and `' ( ) + , - . / : = ?`.
+    #[inline(always)]
+    pub fn write_printable_string(&mut self, string: &str) -> ASN1Result<()>
+        requires { AllByRecursion InPrintable (chars string.now) }
+        ensures { Wrote (utf8_form (tag_or self.old.tag (universal 19)) self.old.mode (chars string.now)) self.old self.new result }
+    {
+        self.write_text(TAG_PRINTABLESTRING, string)
+    }
+
+    /// Writes an IA5String: characters up to 127.
+    #[inline(always)]
+    pub fn write_ia5_string(&mut self, string: &str) -> ASN1Result<()>
+        requires { AllByRecursion InIa5 (chars string.now) }
+        ensures { Wrote (utf8_form (tag_or self.old.tag (universal 22)) self.old.mode (chars string.now)) self.old self.new result }
+    {
+        self.write_text(TAG_IA5STRING, string)
+    }
+
+    /// Writes a VisibleString: characters from 32 to 126.
+    #[inline(always)]
+    pub fn write_visible_string(&mut self, string: &str) -> ASN1Result<()>
+        requires { AllByRecursion InVisible (chars string.now) }
+        ensures { Wrote (utf8_form (tag_or self.old.tag (universal 26)) self.old.mode (chars string.now)) self.old self.new result }
+    {
+        self.write_text(TAG_VISIBLESTRING, string)
+    }
+
+    /// Writes a BMPString: the text in UTF-16, the high byte of each unit first. A character past 65535 is written as two
+    /// surrogates, which X.680 doesn't provide for.
+    #[tactic(auto, unfolding(yasna_base::specs::Canonical::canonical_element, yasna_base::specs::Canonical::definite_element))]
+    pub fn write_bmp_string(&mut self, string: &str) -> ASN1Result<()>
+        ensures { Wrote (bmp_form (tag_or self.old.tag (universal 30)) self.old.mode (chars string.now)) self.old self.new result }
+    {
+        self.begin_contents(TAG_BMPSTRING, bmp_length(string))?;
+        self.append_bmp(string)
+    }
+
+    // Writes a text in UTF-8.
+    #[inline(always)]
+    fn write_text(&mut self, own: Tag, string: &str) -> ASN1Result<()>
+        ensures { Wrote (utf8_form (tag_or self.old.tag own) self.old.mode (chars string.now)) self.old self.new result }
+    {
+        self.write_contents(own, string.as_bytes())
+    }
+
+    // Writes an element with these contents.
+    #[tactic(auto, unfolding(yasna_base::specs::Canonical::canonical_element, yasna_base::specs::Canonical::definite_element))]
+    #[inline(always)]
+    pub(crate) fn write_contents(&mut self, own: Tag, contents: &[u8]) -> ASN1Result<()>
+        ensures { Wrote (canonical_element self.old.mode (tag_or self.old.tag own) Primitive contents.now) self.old self.new result }
+    {
+        self.begin_contents(own, contents.len())?;
+        self.append(contents)
+    }
+
+    // Writes the header of an element with so many bytes of contents.
+    #[inline(always)]
+    pub(crate) fn begin_contents(&mut self, own: Tag, length: usize) -> ASN1Result<()>
+        ensures { Wrote (header_bytes Primitive (record { tag = tag_or self.old.tag own; length = length })) self.old self.new result }
+    {
+        if let Some(error) = self.kept() {
+            return Err(error);
+        }
+        let tag = self.take_tag(own);
+        self.append_opening(Header { tag, length }, PCBit::Primitive)
+    }
+
+    // Writes a BIT STRING, whose contents are the count of unused bits, and the bytes.
+    #[tactic(auto, unfolding(yasna_base::specs::Canonical::canonical_element, yasna_base::specs::Canonical::definite_element))]
+    fn write_bits(&mut self, unused: u8, front: &[u8], last: u8) -> ASN1Result<()>
+        ensures { Wrote (canonical_element self.old.mode (tag_or self.old.tag (universal 3)) Primitive (unused ∷ (front.now ++ last ∷ []))) self.old self.new result }
+    {
+        self.begin_contents(TAG_BITSTRING, front.len() + 2)?;
+        self.append(&[unused])?;
+        self.append(front)?;
+        self.append(&[last])
+    }
+
+    // Appends a text in UTF-16.
+    fn append_bmp(&mut self, string: &str) -> ASN1Result<()>
+        ensures { Appended (bmp_octets (chars string.now)) self.old self.new result }
+    {
+        for c in string.chars() {
+            self.append_units(c)?;
+        }
+        Ok(())
+    }
+
+    // Appends the units of a character.
+    fn append_units(&mut self, c: char) -> ASN1Result<()>
+        ensures { Appended (bmp_octets (c ∷ [])) self.old self.new result }
+    {
+        let mut pair = [0; 2];
+        let units = c.encode_utf16(&mut pair);
+        self.append(&units[0].to_be_bytes())?;
+        if units.len() == 1 {
+            return Ok(());
+        }
+        self.append(&units[1].to_be_bytes())
+    }
+}
+
+// How many bits of the last byte a BIT STRING of so many bits leaves over.
+fn unused_bits(len: usize) -> u8
+    ensures { result ≡ (8 - len % 8) % 8 }
+{
+    ((8 - len % 8) % 8) as u8
+}
+
+// How many bytes a text takes in UTF-16.
+fn bmp_length(string: &str) -> usize
+    ensures { result ≡ length (bmp_octets (chars string.now)) }
+{
+    let mut length = 0;
+    for c in string.chars() {
+        length += 2 * c.len_utf16();
+    }
+    length
+}

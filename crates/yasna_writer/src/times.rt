@@ -1,0 +1,33 @@
+//! UTCTime and GeneralizedTime: their canonical texts (X.690, 11.7 and 11.8).
+ghost use Rattle.yasna_base.specs.GeneralizedTime.{generalized_time_form};
+ghost use Rattle.yasna_base.specs.Identifier.{universal, tag_or};
+ghost use Rattle.yasna_base.specs.Models.{utc_of, moment_of};
+ghost use Rattle.yasna_base.specs.UtcTime.{utc_time_form};
+ghost use Rattle.yasna_writer.specs.View.{Wrote};
+
+use crate::state::Writer;
+use yasna_base::ASN1Result;
+use yasna_base::models::{GeneralizedTime, UTCTime};
+use yasna_base::tags::{TAG_GENERALIZEDTIME, TAG_UTCTIME};
+
+impl Writer {
+    /// Writes a UTCTime: `YYMMDDhhmmssZ`.
+    pub fn write_utctime(&mut self, time: &UTCTime) -> ASN1Result<()>
+        ensures { Wrote (utc_time_form (tag_or self.old.tag (universal 23)) self.old.mode (utc_of time.now)) self.old self.new result }
+    {
+        self.write_contents(TAG_UTCTIME, &time.text())
+    }
+
+    /// Writes a GeneralizedTime: `YYYYMMDDhhmmss`, the fraction of the second behind `.` if there is one, `Z`.
+    pub fn write_generalized_time(&mut self, time: &GeneralizedTime) -> ASN1Result<()>
+        ensures { Wrote (generalized_time_form (tag_or self.old.tag (universal 24)) self.old.mode (moment_of time.now)) self.old self.new result }
+    {
+        if let Some(error) = self.kept() {
+            return Err(error);
+        }
+        match time.to_bytes(self.alloc()) {
+            Ok(text) => self.write_contents(TAG_GENERALIZEDTIME, text.as_slice()),
+            Err(_) => Err(self.lack_memory()),
+        }
+    }
+}
