@@ -1,29 +1,37 @@
 -- What is read through a closure, by what the closure's calls do.
-use Rattle.std.proofs.Common.{◌≡◌, ℕ, List, Bool, false, refl, subst, arith}
-use Rattle.std.specs.Prelude.{Result}
+use Rattle.std.proofs.Common.{◌≡◌, ℕ, List, Bool, true, false, refl, subst, arith}
+use Rattle.std.specs.Global.{Global}
+use Rattle.std.specs.Prelude.{Result, Vec}
 use Rattle.std.specs.Borrow.{MutBor}
-use Rattle.std.specs.Fn.{Once, FnOnceReturnsAtMut}
+use Rattle.std.specs.Fn.{Once, Mut, Called, FnOnceReturnsAtMut, CalledAtMut}
 use Rattle.yasna_base.specs.declared.error.ASN1Error.{ASN1Error}
 use Rattle.yasna_base.specs.declared.mode.BERMode.{BERMode}
 use Rattle.yasna_base.specs.declared.tag.Tag.{Tag}
 use Rattle.yasna_base.specs.Identifier.{universal}
 use Rattle.yasna_base.specs.Coding.{IsCoding, ArePartsCoding, Any}
 use Rattle.yasna_base.specs.Sequence.{sequence_tag}
+use Rattle.yasna_base.specs.SequenceOf.{IsListOf, AnyListOf}
 use Rattle.yasna_base.specs.Element.{Enclosed, AnyEnclosed}
+use Rattle.yasna_base.specs.Octets.{octets_cutting, IsDeepOctets}
+use Rattle.yasna_base.proofs.Cut.{deep_begins}
 use Rattle.yasna_base.proofs.Identifier.{not_end}
 use Rattle.yasna_reader.specs.declared.state.Parts.{Parts}
 use Rattle.yasna_reader.specs.Parse.{Parses}
 use Rattle.yasna_reader.specs.Sequence.{Runs, ReadsParts}
+use Rattle.yasna_reader.specs.SequenceOf.{Collects}
 use Rattle.yasna_reader.specs.Decodes.{Decodes, Decoded}
 use Rattle.yasna_reader.specs.Primitive.{Reads, NoLevel}
-use Rattle.yasna_reader.specs.Contents.{Never}
+use Rattle.yasna_reader.specs.Contents.{Never, WantsMemory}
 use Rattle.yasna_reader.specs.State.{Reading, IsFresh, starts, part_of}
+use Rattle.yasna_reader.proofs.Listing.{collects}
 use Rattle.yasna_reader.proofs.Sequences.{parts_map}
 use Rattle.yasna_reader.proofs.Tuples.{IsDecoder, IsPartsDecoder, steps_sequence}
 use Rattle.yasna_reader.proofs.Whole.{whole}
-use Rattle.yasna_reader.proofs.Primitives.{leaf_decodes}
-pub use Rattle.yasna_reader.proofs.Tuples.{decodes_by, done_by, step_by}
-pub use Rattle.yasna_reader.proofs.Whole.{read_form, refuses_none}
+use Rattle.yasna_reader.proofs.Primitives.{leaf_decodes, asking_decodes}
+pub use Rattle.yasna_reader.proofs.Tuples.{decodes_by, done_by, step_by, seen, chosen}
+pub use Rattle.yasna_reader.proofs.Ahead.{looked, found_none, found_other}
+pub use Rattle.yasna_reader.proofs.Whole.{read_form, refuses_none, exactly_as, reads_some}
+pub use Rattle.yasna_reader.proofs.Listing.{same_items}
 
 -- a typed read from what equals s
 pub reads_at : {A : Type 0} {B : ℕ → BERMode → Tag → A → List ℕ → Type 0} {D : ℕ → BERMode → Tag → List ℕ → Type 0} {M : ℕ → Tag → List ℕ → Type 0}
@@ -34,6 +42,19 @@ reads_at {B} {D} {M} {t} {r} {s'} h e = subst (λ z. Reads B D M t z r s') e h
 pub leaf_by : {A : Type 0} (B : ℕ → BERMode → Tag → A → List ℕ → Type 0) (k : ℕ) → (k ≡ 0 → ⊥) →
     IsDecoder false (λ m n v b. B n m (universal k) v b) (Any (λ m n v b. B n m (universal k) v b)) (Reads B NoLevel Never (universal k))
 leaf_by B k h = record { decodes = λ s r s' fresh x. leaf_decodes B k h s r s' fresh.1 x fresh.0 }
+
+-- and so does a read of a string, whose pieces may be elements
+pub string_by : {A : Type 0} (B : ℕ → BERMode → Tag → A → List ℕ → Type 0) (k : ℕ) → (k ≡ 0 → ⊥) →
+    IsDecoder true (λ m n v b. B n m (universal k) v b) (Any (λ m n v b. B n m (universal k) v b)) (Reads B IsDeepOctets WantsMemory (universal k))
+string_by B k h = record {
+  decodes = λ s r s' fresh x.
+      asking_decodes B IsDeepOctets k h (λ n m z. deep_begins octets_cutting n m (universal k) z) s r s' fresh.1 x fresh.0;
+}
+
+-- and a read of one element whose contents are copied
+pub leaf_with_memory_by : {A : Type 0} (B : ℕ → BERMode → Tag → A → List ℕ → Type 0) (k : ℕ) → (k ≡ 0 → ⊥) →
+    IsDecoder true (λ m n v b. B n m (universal k) v b) (Any (λ m n v b. B n m (universal k) v b)) (Reads B NoLevel WantsMemory (universal k))
+leaf_with_memory_by B k h = record { decodes = λ s r s' fresh x. asking_decodes B NoLevel k h (λ n m z d. d.1) s r s' fresh.1 x fresh.0 }
 
 -- a run of f does what each of its calls does
 by_run : {F T R : Type 0} {g : Once F (MutBor T × Unit {0}) (R × (MutBor T × Unit {0}))} {f : F} (P : T → R → T → Type 0) →
@@ -60,3 +81,20 @@ pub sequence_by : {U A F : Type 0} {g : Once F (MutBor (Parts Reading) × Unit {
 sequence_by {P} {s} {r} {s'} parts make back laws reads fresh h says =
     steps_sequence parts make back laws reads sequence_tag (not_end 16 (λ e. omega arith)) s fresh r s'
     (parts_map _ P (λ x y z i k. by_run (λ u y w. P (part_of u) y (part_of w)) says (record { reader = x }) y (record { reader = z }) k) sequence_tag s r s' h)
+
+-- a call of f does what each of its calls does
+by_call : {F T R : Type 0} {g : Mut F (MutBor T × Unit {0}) (R × (MutBor T × Unit {0}))} (P : T → R → T → Type 0) →
+    ((f f' : F) (p q : MutBor T) (r : R) → Called g f (p, tt) (r, (q, tt)) f' → P p.now r q.now) → (f f' : F) (s : T) (r : R) (s' : T) →
+    CalledAtMut g f s r f' s' → P s r s'
+by_call P says f f' s r s' h = subst (λ z. P z r s') h.shows (subst (λ z. P h.shown.now r z) h.leaves (says f f' h.shown h.left r h.called))
+
+-- a SEQUENCE OF whose closure reads one element a turn
+pub list_by : {F A : Type 0} {g : Mut F (MutBor Reading × Unit {0}) (Result A ASN1Error × (MutBor Reading × Unit {0}))} {f : F}
+    {E : A → A → Type 0} {asks : Bool} {B : BERMode → ℕ → A → List ℕ → Type 0} {S : BERMode → ℕ → List ℕ → Type 0}
+    {N : Reading → Result A ASN1Error → Reading → Type 0} {s : Reading} {r : Result (Vec A Global) ASN1Error} {s' : Reading} → IsCoding E B S →
+    IsDecoder asks B S N → IsFresh s → ReadsParts (Collects (CalledAtMut g) f) sequence_tag s r s' →
+    ((f f' : F) (p q : MutBor Reading) (x : Result A ASN1Error) → Called g f (p, tt) (x, (q, tt)) f' → N p.now x q.now) →
+    Decodes {A = Vec A Global} true (λ m n v b. IsListOf B sequence_tag m n v.items b) (AnyListOf S sequence_tag) s r s'
+list_by {g} {f} {asks} {N} {s} {r} {s'} laws value fresh h says =
+    collects laws asks (CalledAtMut g) (λ h z x h' z' now k. value.decodes z x z' now (by_call N says h h' z x z' k)) sequence_tag
+    (not_end 16 (λ e. omega arith)) f s fresh r s' h

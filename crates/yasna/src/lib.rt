@@ -7,10 +7,13 @@
 //! |---|---|
 //! | `traits` | what a type says that is read and written as a whole |
 //! | `whole` | whole inputs and outputs, and what is proved of them for every such type |
-//! | `primitive`, `tuples` | the types that come with the crate |
+//! | `primitive`, `strings`, `oid`, `times`, `tuples` | the types that come with the crate |
 #![tactic(auto)]
 
+mod oid;
 mod primitive;
+mod strings;
+mod times;
 mod traits;
 mod tuples;
 mod whole;
@@ -21,7 +24,8 @@ pub use whole::{decode_ber, decode_ber_general, decode_der, encode_der, one_form
 pub use yasna_base::error::{ASN1Error, ASN1ErrorKind, ASN1Result};
 pub use yasna_base::mode::BERMode;
 pub use yasna_base::tag::{PCBit, Tag, TagClass};
-pub use yasna_base::tags;
+pub use yasna_base::text::{is_numeric_text, is_printable_text, is_visible_text};
+pub use yasna_base::{models, tags};
 pub use yasna_reader::{BERReader, BERReaderSeq, parse_ber, parse_ber_general, parse_der};
 pub use yasna_writer::{
     DERWriter, DERWriterSeq, construct_der, construct_der_seq, try_construct_der,

@@ -1,0 +1,11 @@
+use Rattle.std.proofs.Common.{arith}
+use Rattle.yasna_base.specs.Element.{Primitively}
+use Rattle.yasna_base.specs.Oid.{AreComponents}
+use Rattle.yasna_reader.specs.Primitive.{NoLevel}
+use Rattle.yasna_reader.proofs.Primitives.{asking_decodes}
+use Rattle.yasna.proofs.oid.ObjectIdentifierBERDecodable.decode_ber.Goals as goal
+
+pub returns : goal.returns
+returns c =
+    asking_decodes (Primitively AreComponents) NoLevel 6 (λ e. omega arith) (λ n m s d. d.1) c.args.reader.now c.read_oid.result
+    c.read_oid.new.self c.requires c.read_oid.ensures

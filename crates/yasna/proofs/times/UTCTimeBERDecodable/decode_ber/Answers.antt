@@ -1,0 +1,8 @@
+use Rattle.std.proofs.Common.{arith}
+use Rattle.yasna_reader.specs.Times.{HoldsUtc}
+use Rattle.yasna.proofs.Closures.{string_by}
+use Rattle.yasna.proofs.times.UTCTimeBERDecodable.decode_ber.Goals as goal
+
+pub returns : goal.returns
+returns c kept =
+    (string_by HoldsUtc 23 (λ e. omega arith)).decodes c.args.reader.now c.read_utctime.result c.read_utctime.new.self (kept, c.requires) c.read_utctime.ensures

@@ -1,0 +1,45 @@
+//! OBJECT IDENTIFIER (X.690, 8.19).
+ghost use Rattle.std.specs.Prelude.{◌≡◌, true};
+ghost use Rattle.yasna_base.specs.Canonical.{leaf_nest};
+ghost use Rattle.yasna_base.specs.Coding.{Any};
+ghost use Rattle.yasna_base.specs.Identifier.{universal};
+ghost use Rattle.yasna_base.specs.Oid.{EncodesOid, IsEncodableOid, oid_form};
+ghost use Rattle.yasna_base.proofs.Oid.{oid_coding, oid_written};
+
+use crate::traits::{BERDecodable, DERCanonical, DEREncodable};
+use yasna_base::error::ASN1Result;
+use yasna_base::models::ObjectIdentifier;
+use yasna_reader::BERReader;
+use yasna_writer::DERWriter;
+
+impl BERDecodable for ObjectIdentifier {
+    ghost encodes = { EncodesOid };
+
+    ghost elements = { Any EncodesOid };
+
+    ghost asks_memory = { true };
+
+    ghost same = { λ v w. v ≡ w };
+
+    fn decode_ber(reader: BERReader) -> ASN1Result<ObjectIdentifier> {
+        reader.read_oid()
+    }
+
+    ghost coding = { oid_coding };
+}
+
+impl DEREncodable for ObjectIdentifier {
+    ghost form = { oid_form (universal 6) };
+
+    ghost nest = { leaf_nest };
+
+    ghost encodable = { IsEncodableOid };
+
+    fn encode_der(&self, writer: DERWriter<'_>) -> ASN1Result<()> {
+        writer.write_oid(self)
+    }
+}
+
+impl DERCanonical for ObjectIdentifier {
+    ghost written = { oid_written };
+}

@@ -1,0 +1,79 @@
+//! OCTET STRING and UTF8String as the types of Rust that hold them (X.690, 8.7 and 8.23).
+ghost use Rattle.std.specs.Prelude.{◌≡◌, true};
+ghost use Rattle.yasna_base.specs.Canonical.{leaf_nest, Always};
+ghost use Rattle.yasna_base.specs.Coding.{Any};
+ghost use Rattle.yasna_base.specs.Digits.{IsBytes};
+ghost use Rattle.yasna_base.specs.Identifier.{universal};
+ghost use Rattle.yasna_base.specs.Octets.{EncodesVec, octets_form};
+ghost use Rattle.yasna_base.specs.Text.{EncodesString, utf8_form, characters};
+ghost use Rattle.yasna_base.proofs.Octets.{vec_coding, vec_written};
+ghost use Rattle.yasna_base.proofs.Texts.{text_coding, text_written};
+
+use crate::traits::{BERDecodable, DERCanonical, DEREncodable};
+use yasna_base::error::ASN1Result;
+use yasna_reader::BERReader;
+use yasna_writer::DERWriter;
+
+impl BERDecodable for Vec<u8> {
+    ghost encodes = { EncodesVec };
+
+    ghost elements = { Any EncodesVec };
+
+    ghost asks_memory = { true };
+
+    ghost same = { λ v w. v.items ≡ w.items };
+
+    fn decode_ber(reader: BERReader) -> ASN1Result<Vec<u8>> {
+        reader.read_bytes()
+    }
+
+    ghost coding = { vec_coding };
+}
+
+impl DEREncodable for Vec<u8> {
+    ghost form = { λ m v. octets_form (universal 4) m v.items };
+
+    ghost nest = { leaf_nest };
+
+    ghost encodable = { λ v. IsBytes v.items };
+
+    fn encode_der(&self, writer: DERWriter<'_>) -> ASN1Result<()> {
+        writer.write_bytes(self.as_slice())
+    }
+}
+
+impl DERCanonical for Vec<u8> {
+    ghost written = { vec_written };
+}
+
+impl BERDecodable for String {
+    ghost encodes = { EncodesString };
+
+    ghost elements = { Any EncodesString };
+
+    ghost asks_memory = { true };
+
+    ghost same = { λ v w. characters v ≡ characters w };
+
+    fn decode_ber(reader: BERReader) -> ASN1Result<String> {
+        reader.read_utf8string()
+    }
+
+    ghost coding = { text_coding };
+}
+
+impl DEREncodable for String {
+    ghost form = { λ m v. utf8_form (universal 12) m (characters v) };
+
+    ghost nest = { leaf_nest };
+
+    ghost encodable = { Always };
+
+    fn encode_der(&self, writer: DERWriter<'_>) -> ASN1Result<()> {
+        writer.write_utf8_string(self.as_str())
+    }
+}
+
+impl DERCanonical for String {
+    ghost written = { text_written };
+}

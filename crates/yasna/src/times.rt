@@ -1,0 +1,79 @@
+//! UTCTime and GeneralizedTime (X.680, 46 and 47; X.690, 11.7 and 11.8).
+ghost use Rattle.std.specs.Prelude.{◌≡◌, true};
+ghost use Rattle.yasna_base.specs.Canonical.{leaf_nest, Always};
+ghost use Rattle.yasna_base.specs.Coding.{Any};
+ghost use Rattle.yasna_base.specs.GeneralizedTime.{generalized_time_form};
+ghost use Rattle.yasna_base.specs.Identifier.{universal};
+ghost use Rattle.yasna_base.specs.Models.{EncodesUtc, EncodesGeneral, utc_of, moment_of};
+ghost use Rattle.yasna_base.specs.UtcTime.{utc_time_form};
+ghost use Rattle.yasna_base.proofs.TimeLaws.{utc_coding, utc_written, general_coding, general_written};
+
+use crate::traits::{BERDecodable, DERCanonical, DEREncodable};
+use yasna_base::error::ASN1Result;
+use yasna_base::models::{GeneralizedTime, UTCTime};
+use yasna_reader::BERReader;
+use yasna_writer::DERWriter;
+
+impl BERDecodable for UTCTime {
+    ghost encodes = { EncodesUtc };
+
+    ghost elements = { Any EncodesUtc };
+
+    ghost asks_memory = { true };
+
+    ghost same = { λ v w. utc_of v ≡ utc_of w };
+
+    fn decode_ber(reader: BERReader) -> ASN1Result<UTCTime> {
+        reader.read_utctime()
+    }
+
+    ghost coding = { utc_coding };
+}
+
+impl DEREncodable for UTCTime {
+    ghost form = { λ m v. utc_time_form (universal 23) m (utc_of v) };
+
+    ghost nest = { leaf_nest };
+
+    ghost encodable = { Always };
+
+    fn encode_der(&self, writer: DERWriter<'_>) -> ASN1Result<()> {
+        writer.write_utctime(self)
+    }
+}
+
+impl DERCanonical for UTCTime {
+    ghost written = { utc_written };
+}
+
+impl BERDecodable for GeneralizedTime {
+    ghost encodes = { EncodesGeneral };
+
+    ghost elements = { Any EncodesGeneral };
+
+    ghost asks_memory = { true };
+
+    ghost same = { λ v w. moment_of v ≡ moment_of w };
+
+    fn decode_ber(reader: BERReader) -> ASN1Result<GeneralizedTime> {
+        reader.read_generalized_time()
+    }
+
+    ghost coding = { general_coding };
+}
+
+impl DEREncodable for GeneralizedTime {
+    ghost form = { λ m v. generalized_time_form (universal 24) m (moment_of v) };
+
+    ghost nest = { leaf_nest };
+
+    ghost encodable = { Always };
+
+    fn encode_der(&self, writer: DERWriter<'_>) -> ASN1Result<()> {
+        writer.write_generalized_time(self)
+    }
+}
+
+impl DERCanonical for GeneralizedTime {
+    ghost written = { general_written };
+}
