@@ -1,5 +1,5 @@
 //! Calls whose closures are known: what they answer follows from what the calls of `yasna` promise.
-ghost use Rattle.std.specs.Prelude.{◌≡◌, ℤ, Bool, false, IfOk, IfErr};
+ghost use Rattle.std.specs.Prelude.{◌≡◌, ℤ, Bool, List, true, false, IfOk, IfErr, MatchResult};
 ghost use Rattle.std.specs.Int.{w64};
 ghost use Rattle.yasna.specs.base.declared.mode.BERMode.TheVariants.{Der};
 ghost use Rattle.yasna.specs.base.declared.error.ASN1ErrorKind.TheVariants.{OutOfMemory};
@@ -10,6 +10,7 @@ ghost use Rattle.yasna.specs.base.Boolean.{EncodesBoolean};
 ghost use Rattle.yasna.specs.reader.Decodes.{Decodes, Step, Done};
 ghost use Rattle.yasna.specs.reader.State.{IsFresh, part_of};
 ghost use Rattle.yasna_examples.specs.Pair.{EncodesPair, AnyPair};
+ghost use Rattle.yasna_examples.specs.Numbers.{EncodesNumbers, AnyNumbers};
 ghost use Rattle.yasna.specs.base.Integer.{EncodesSigned};
 ghost use Rattle.yasna.specs.base.Integer.{integer_form};
 
@@ -59,5 +60,22 @@ pub fn parsed_pair(alloc: Global, buf: &[u8]) -> ASN1Result<(i64, bool)>
                 },
             )
         },
+    )
+}
+
+/// The numbers whose DER form as a SEQUENCE OF INTEGER these bytes are, in order.
+///
+/// Refuses bytes that are the form of no such list, and no others, unless memory is wanting.
+pub fn parsed_numbers(alloc: Global, buf: &[u8]) -> ASN1Result<Vec<i64>>
+    ensures numbers { IfOk result (λ v. EncodesNumbers Der 101 v.items buf.now) }
+    ensures exactly { (vs : List ℤ) → EncodesNumbers Der 101 vs buf.now → MatchResult result (λ v. v.items ≡ vs) (λ e. kind_of e ≡ OutOfMemory) }
+{
+    parse_der(
+        alloc,
+        buf,
+        |reader| -> ASN1Result<Vec<i64>>
+            requires { IsFresh reader.old }
+            ensures { Decodes true (λ m n v b. EncodesNumbers m n v.items b) AnyNumbers reader.old result reader.new }
+        { reader.collect_sequence_of(|item| item.read_i64()) },
     )
 }

@@ -4,14 +4,19 @@
 //!
 //! | Module | Holds |
 //! |---|---|
+//! | `choice` | a list of a CHOICE, read by the next tag |
 //! | `known` | calls whose closures are known: their exact results follow from the contracts of `yasna` |
-//! | `third_party` | types of one's own: one that is read and written as a tuple, two step by step |
+//! | `third_party` | types of one's own: one that is read and written as a tuple, three step by step |
 #![tactic(auto)]
 
+mod choice;
 mod known;
 #[cfg(test)]
 mod tests;
 mod third_party;
 
-pub use known::{constructed_integer, parsed_integer, parsed_pair};
-pub use third_party::{Measurement, Sample, Version};
+pub use choice::parsed_items;
+pub use known::{constructed_integer, parsed_integer, parsed_numbers, parsed_pair};
+pub use third_party::{
+    Measurement, Report, Sample, Version, encoded_report, normalized, normalized_report,
+};

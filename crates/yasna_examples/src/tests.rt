@@ -1,8 +1,17 @@
 //! Each example once, with ample memory.
 
-use crate::{Measurement, Sample, Version, constructed_integer, parsed_integer, parsed_pair};
+mod oid;
+
+use crate::{
+    Measurement, Report, Sample, Version, constructed_integer, encoded_report, normalized_report,
+    parsed_integer, parsed_items, parsed_numbers, parsed_pair,
+};
+use std::alloc::Global;
 use std::test::Fail;
-use yasna::{ASN1ErrorKind, decode_ber, decode_der, encode_der};
+use yasna::{
+    ASN1ErrorKind, ASN1Result, BERReader, BERReaderSeq, construct_der, decode_ber, decode_der,
+    encode_der, parse_der,
+};
 
 #[test]
 fn integers(rt: HostRuntime) -> Result<(), Fail> {
@@ -70,6 +79,30 @@ fn samples(rt: HostRuntime) -> Result<(), Fail> {
 }
 
 #[test]
+fn reports(rt: HostRuntime) -> Result<(), Fail> {
+    let alloc = rt.alloc();
+    let name = "é".to_string(alloc)?;
+    let raw = vec![in alloc; 72, 101]?;
+    let bytes = encoded_report(alloc, name, raw, -129)?;
+    let form = [48, 12, 12, 2, 195, 169, 4, 2, 72, 101, 2, 2, 255, 127];
+    assert_eq!(rt; bytes.as_slice(), form.as_slice());
+    let read: Report = decode_der(alloc, &bytes)?;
+    assert_eq!(rt; read.name.as_str(), "é");
+    assert_eq!(rt; read.raw.as_slice(), [72, 101].as_slice());
+    assert_eq!(rt; read.number, -129);
+    let pieces = [48, 14, 44, 6, 4, 1, 195, 4, 1, 169, 4, 0, 2, 2, 255, 127];
+    let form = [48, 10, 12, 2, 195, 169, 4, 0, 2, 2, 255, 127];
+    let bytes = normalized_report(alloc, &pieces)?;
+    assert_eq!(rt; bytes.as_slice(), form.as_slice());
+    let refused = decode_der::<Report>(alloc, &pieces);
+    assert_eq!(rt;
+        refused.err().map(|error| error.kind()),
+        Some(ASN1ErrorKind::Invalid)
+    );
+    Ok(())
+}
+
+#[test]
 fn pairs(rt: HostRuntime) -> Result<(), Fail> {
     let alloc = rt.alloc();
     let pair = parsed_pair(alloc, &[48, 6, 2, 1, 10, 1, 1, 255])?;
@@ -79,5 +112,73 @@ fn pairs(rt: HostRuntime) -> Result<(), Fail> {
         refused.err().map(|error| error.kind()),
         Some(ASN1ErrorKind::Invalid)
     );
+    Ok(())
+}
+
+#[test]
+fn numbers(rt: HostRuntime) -> Result<(), Fail> {
+    let alloc = rt.alloc();
+    let numbers = parsed_numbers(alloc, &[48, 7, 2, 1, 10, 2, 2, 255, 127])?;
+    assert_eq!(rt; numbers.as_slice(), [10, -129].as_slice());
+    let none = parsed_numbers(alloc, &[48, 0])?;
+    assert!(rt; none.is_empty());
+    let refused = parsed_numbers(alloc, &[48, 5, 2, 1, 10, 5, 0]);
+    assert_eq!(rt;
+        refused.err().map(|error| error.kind()),
+        Some(ASN1ErrorKind::Extra)
+    );
+    Ok(())
+}
+
+#[test]
+fn items(rt: HostRuntime) -> Result<(), Fail> {
+    let alloc = rt.alloc();
+    let items = parsed_items(alloc, &[48, 5, 2, 1, 10, 5, 0])?;
+    assert_eq!(rt; items.as_slice(), [Some(10), None].as_slice());
+    let refused = parsed_items(alloc, &[48, 3, 1, 1, 255]);
+    assert_eq!(rt;
+        refused.err().map(|error| error.kind()),
+        Some(ASN1ErrorKind::Extra)
+    );
+    Ok(())
+}
+
+#[test]
+fn many_numbers(rt: HostRuntime) -> Result<(), Fail> {
+    let alloc = rt.alloc();
+    let bytes = construct_der(alloc, |writer| {
+        writer.write_sequence_of(|list| -> ASN1Result<()> {
+            for number in 0..100_000i64 {
+                list.next().write_i64(number)?;
+            }
+            Ok(())
+        })
+    })?;
+    let numbers = parsed_numbers(alloc, &bytes)?;
+    assert_eq!(rt; numbers.len(), 100_000);
+    assert_eq!(rt; numbers.as_slice().last(), Some(&99_999));
+    Ok(())
+}
+
+// The first part, a number, and the bytes of its element.
+fn number_and_bytes<'a>(parts: &mut BERReaderSeq<'a, '_>) -> ASN1Result<(i64, &'a [u8])> {
+    parts.read_with_buffer(|parts| parts.next().read_i64())
+}
+
+fn first_number_and_bytes<'a>(reader: BERReader<'a, '_>) -> ASN1Result<(i64, &'a [u8])> {
+    reader.read_sequence(number_and_bytes)
+}
+
+// The bytes outlive the reading that they were taken by.
+fn bytes_of_number(alloc: Global, input: &[u8]) -> ASN1Result<&[u8]> {
+    let (_, bytes) = parse_der(alloc, input, first_number_and_bytes)?;
+    Ok(bytes)
+}
+
+#[test]
+fn bytes_outlive_their_reading(rt: HostRuntime) -> Result<(), Fail> {
+    let input = [48, 4, 2, 2, 1, 44];
+    let bytes = bytes_of_number(rt.alloc(), &input)?;
+    assert_eq!(rt; bytes, [2, 2, 1, 44].as_slice());
     Ok(())
 }

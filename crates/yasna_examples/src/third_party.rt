@@ -1,8 +1,12 @@
 //! Types of a crate of its own that are read and written as a whole.
-ghost use Rattle.std.specs.Prelude.{◌≡◌, ◌<◌, ◌^◌, false, ◌||◌, pos, FitsSigned};
+ghost use Rattle.std.specs.Prelude.{IfOk, ◌≡◌, ◌<◌, ◌^◌, true, false, ◌||◌, pos, FitsSigned};
 ghost use Rattle.std.specs.Int.{w64};
 ghost use Rattle.yasna.specs.base.Identifier.{universal};
+ghost use Rattle.yasna.specs.base.declared.mode.BERMode.TheVariants.{Ber, Der};
 ghost use Rattle.yasna.specs.base.Coding.{Any};
+ghost use Rattle.yasna.specs.base.Digits.{IsBytes};
+ghost use Rattle.yasna.specs.base.Octets.{EncodesVec, octets_tag, octets_form};
+ghost use Rattle.yasna.specs.base.Text.{EncodesString, characters, utf8_form};
 ghost use Rattle.yasna.specs.base.Sequence.{sequence_tag, PartOf, NoParts, AnyPart, AnyNothing, SamePart, SameNothing};
 ghost use Rattle.yasna.specs.base.Element.{Enclosed, AnyEnclosed};
 ghost use Rattle.yasna.specs.base.Element.{Primitively};
@@ -15,11 +19,13 @@ ghost use Rattle.yasna.specs.base.Sequence.{part_form, part_nest, part_can, noth
 ghost use Rattle.yasna.specs.reader.Contents.{Never};
 ghost use Rattle.yasna.specs.reader.Primitive.{Reads, NoLevel};
 ghost use Rattle.yasna.specs.reader.State.{IsFresh, part_of};
-ghost use Rattle.yasna.proofs.Laws.{part, no_part, tuple, bool_coding, signed_coding, unsigned_coding};
-ghost use Rattle.yasna.proofs.Laws.{part_written, no_part_written, tuple_written, bool_written, signed_written, unsigned_written};
+ghost use Rattle.yasna.proofs.Laws.{part, no_part, tuple, bool_coding, signed_coding, unsigned_coding, vec_coding, text_coding};
+ghost use Rattle.yasna.proofs.Laws.{part_written, no_part_written, tuple_written, bool_written, signed_written, unsigned_written, vec_written, text_written};
 
+use std::alloc::Global;
 use yasna::{
     ASN1Result, BERDecodable, BERReader, DERCanonical, DEREncodable, DERWriter, EncodableParts,
+    decode_ber, encode_der,
 };
 
 /// A number, and whether it counts: a SEQUENCE of INTEGER and BOOLEAN.
@@ -163,4 +169,77 @@ impl DEREncodable for Sample {
 
 impl DERCanonical for Sample {
     ghost written = { tuple_written (λ v. (v.count, (v.last, (v.shift, tt)))) (part_written (unsigned_written 32) (part_written bool_written (part_written (signed_written w64) no_part_written))) };
+}
+
+/// A name, the bytes that came under it, and the number that they stand for: a SEQUENCE of UTF8String, OCTET STRING and
+/// INTEGER.
+#[derive(Drop)]
+pub struct Report {
+    pub name: String,
+    pub raw: Vec<u8>,
+    pub number: i64,
+}
+
+impl BERDecodable for Report {
+    ghost encodes = { λ m n v b. Enclosed (PartOf EncodesString (PartOf EncodesVec (PartOf (EncodesSigned w64) NoParts))) sequence_tag m n (v.name, (v.raw, (v.number, tt))) b };
+
+    ghost elements = { AnyEnclosed (AnyPart (Any EncodesString) (AnyPart (Any EncodesVec) (AnyPart (Any (EncodesSigned w64)) AnyNothing))) sequence_tag };
+
+    ghost asks_memory = { (true || (true || (false || false))) };
+
+    ghost same = { λ v w. SamePart (λ x y. characters x ≡ characters y) (SamePart (λ x y. x.items ≡ y.items) (SamePart (λ x y. x ≡ y) SameNothing)) (v.name, (v.raw, (v.number, tt))) (w.name, (w.raw, (w.number, tt))) };
+
+    fn decode_ber(reader: BERReader) -> ASN1Result<Report> {
+        reader.read_sequence(
+            |seq| -> ASN1Result<Report>
+                requires { IsFresh (part_of seq.old) }
+                ensures { Step (Decodes true EncodesString (Any EncodesString)) (λ name. Step (Decodes true EncodesVec (Any EncodesVec)) (λ raw. Step (Decodes false (EncodesSigned w64) (Any (EncodesSigned w64))) (λ number. Done (record { name = name; raw = raw; number = number })))) (part_of seq.old) result (part_of seq.new) }
+            {
+                let name = String::decode_ber(seq.next())?;
+                let raw = Vec::<u8>::decode_ber(seq.next())?;
+                let number = i64::decode_ber(seq.next())?;
+                Ok(Report { name, raw, number })
+            },
+        )
+    }
+
+    ghost coding = { tuple (λ v. (v.name, (v.raw, (v.number, tt)))) (part text_coding (part vec_coding (part (signed_coding w64) no_part))) };
+}
+
+impl DEREncodable for Report {
+    ghost form = { λ m v. enclosed_form (part_form (λ m s. utf8_form (universal 12) m (characters s)) (part_form (λ m r. octets_form octets_tag m r.items) (part_form (integer_form (universal 2)) nothing_form))) sequence_tag m (v.name, (v.raw, (v.number, tt))) };
+
+    ghost nest = { λ m v. enclosed_nest (part_nest leaf_nest (part_nest leaf_nest (part_nest leaf_nest nothing_nest))) m (v.name, (v.raw, (v.number, tt))) };
+
+    ghost encodable = { λ v. part_can Always (part_can (λ r. IsBytes r.items) (part_can (FitsSigned w64) Always)) (v.name, (v.raw, (v.number, tt {0}))) };
+
+    fn encode_der(&self, writer: DERWriter<'_>) -> ASN1Result<()> {
+        writer.write_sequence(|seq| (&self.name, (&self.raw, (self.number, ()))).write_parts(seq))
+    }
+}
+
+impl DERCanonical for Report {
+    ghost written = { tuple_written (λ v. (v.name, (v.raw, (v.number, tt)))) (part_written text_written (part_written vec_written (part_written (signed_written w64) no_part_written))) };
+}
+
+/// The DER form of a report that is given part by part.
+pub fn encoded_report(alloc: Global, name: String, raw: Vec<u8>, number: i64) -> ASN1Result<Vec<u8>>
+    ensures { IfOk result (λ bytes. bytes.items ≡ ⟦<Report as DEREncodable>⟧.form Der (record { name = name; raw = raw; number = number })) }
+{
+    encode_der(alloc, &Report { name, raw, number })
+}
+
+/// The DER form of a value that these bytes are in BER. What was read can be written, by the law of `DERCanonical`.
+pub fn normalized<T: DERCanonical>(alloc: Global, src: &[u8]) -> ASN1Result<Vec<u8>>
+    ensures { IfOk result (λ bytes. (v : T) × T.encodes Ber 101 v src.now × (bytes.items ≡ T.form Der v)) }
+{
+    let value: T = decode_ber(alloc, src)?;
+    encode_der(alloc, &value)
+}
+
+/// The DER form of a report that these bytes are in BER.
+pub fn normalized_report(alloc: Global, src: &[u8]) -> ASN1Result<Vec<u8>>
+    ensures { IfOk result (λ bytes. (v : Report) × ⟦<Report as BERDecodable>⟧.encodes Ber 101 v src.now × (bytes.items ≡ ⟦<Report as DEREncodable>⟧.form Der v)) }
+{
+    normalized::<Report>(alloc, src)
 }

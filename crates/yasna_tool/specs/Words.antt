@@ -3,7 +3,7 @@ use Rattle.std.specs.Prelude.{◌≡◌, List, [], ◌∷◌, ℕ, codes}
 use Rattle.yasna.specs.base.declared.mode.BERMode.{BERMode}
 use Rattle.yasna.specs.base.declared.mode.BERMode.TheVariants.{Ber, Der}
 use Rattle.yasna_tool.specs.declared.kind.Kind.{Kind}
-use Rattle.yasna_tool.specs.declared.kind.Kind.TheVariants.{Pair, Int, Bool, Null}
+use Rattle.yasna_tool.specs.declared.kind.Kind.TheVariants.{Pair, Int, Bool, Null, Octets, Text, Oid, Utime, Gtime}
 
 -- the word for a mode
 abbrev pub mode_word : BERMode → List ℕ
@@ -16,6 +16,11 @@ kind_word Pair = codes "pair"
 kind_word Int = codes "int"
 kind_word Bool = codes "bool"
 kind_word Null = codes "null"
+kind_word Octets = codes "octets"
+kind_word Text = codes "text"
+kind_word Oid = codes "oid"
+kind_word Utime = codes "utime"
+kind_word Gtime = codes "gtime"
 
 -- the words are this mode and this kind, and no more
 abbrev pub AreWords : BERMode → Kind → List (List ℕ) → Type 0

@@ -10,6 +10,7 @@ ghost use Rattle.yasna_tool.specs.declared.kind.Kind.{Kind};
 use crate::ends::{Sink, Source};
 use crate::engine::{RunFault, run};
 use std::alloc::Global;
+use yasna::models::{GeneralizedTime, ObjectIdentifier, UTCTime};
 use yasna::{ASN1ErrorKind, BERMode};
 
 /// A kind of value that the program knows.
@@ -19,6 +20,11 @@ pub enum Kind {
     Int,
     Bool,
     Null,
+    Octets,
+    Text,
+    Oid,
+    Utime,
+    Gtime,
 }
 
 /// The kind of this name.
@@ -30,6 +36,11 @@ pub fn kind_named(word: &str) -> Option<Kind>
         "int" => Some(Kind::Int),
         "bool" => Some(Kind::Bool),
         "null" => Some(Kind::Null),
+        "octets" => Some(Kind::Octets),
+        "text" => Some(Kind::Text),
+        "oid" => Some(Kind::Oid),
+        "utime" => Some(Kind::Utime),
+        "gtime" => Some(Kind::Gtime),
         _ => None,
     }
 }
@@ -59,5 +70,10 @@ pub fn run_kind<R: Source, W: Sink>(
         Kind::Int => run::<i64, R, W>(alloc, mode, reader, writer),
         Kind::Bool => run::<bool, R, W>(alloc, mode, reader, writer),
         Kind::Null => run::<(), R, W>(alloc, mode, reader, writer),
+        Kind::Octets => run::<Vec<u8>, R, W>(alloc, mode, reader, writer),
+        Kind::Text => run::<String, R, W>(alloc, mode, reader, writer),
+        Kind::Oid => run::<ObjectIdentifier, R, W>(alloc, mode, reader, writer),
+        Kind::Utime => run::<UTCTime, R, W>(alloc, mode, reader, writer),
+        Kind::Gtime => run::<GeneralizedTime, R, W>(alloc, mode, reader, writer),
     }
 }

@@ -70,6 +70,12 @@ const NULL: Wanted = Wanted {
     errors: "",
 };
 
+const OID: Wanted = Wanted {
+    status: 0,
+    output: &[6, 4, 42, 129, 128, 0],
+    errors: "",
+};
+
 const USAGE: &str = "usage: yasna_tool ber|der KIND\n";
 
 const DEVICE: &str = "io\n";
@@ -209,21 +215,82 @@ fn rows(rt: HostRuntime) -> Result<(), Fail> {
     Ok(())
 }
 
-const KINDS: [(&str, Wanted); 4] = [
+const HELLO: Wanted = Wanted {
+    status: 0,
+    output: &[4, 6, 72, 101, 108, 108, 111, 33],
+    errors: "",
+};
+
+/// The DER form of the text `é` is written.
+const ACCENT: Wanted = Wanted {
+    status: 0,
+    output: &[12, 2, 195, 169],
+    errors: "",
+};
+
+/// The DER form of noon on 2 January 1982 is written.
+const NOON: Wanted = Wanted {
+    status: 0,
+    output: &[23, 13, 56, 50, 48, 49, 48, 50, 49, 50, 48, 48, 48, 48, 90],
+    errors: "",
+};
+
+/// The DER form of 21:08:29.724 on 6 November 1985 is written.
+const EVENING: Wanted = Wanted {
+    status: 0,
+    output: &[
+        24, 19, 49, 57, 56, 53, 49, 49, 48, 54, 50, 49, 48, 56, 50, 57, 46, 55, 50, 52, 90,
+    ],
+    errors: "",
+};
+
+const KINDS: [(&str, Wanted); 9] = [
     ("pair", TEN_TRUE),
     ("int", MINUS_129),
     ("bool", TRUE),
     ("null", NULL),
+    ("octets", HELLO),
+    ("text", ACCENT),
+    ("oid", OID),
+    ("utime", NOON),
+    ("gtime", EVENING),
 ];
 
-/// Each kind reads its own form, and no octet string.
+/// Each kind reads its own form, and no ENUMERATED.
 #[test]
 fn kinds(rt: HostRuntime) -> Result<(), Fail> {
     for (kind, wanted) in &KINDS {
         judge(&rt, &["der", kind], wanted.output, wanted)?;
-        judge(&rt, &["ber", kind], &[4, 0], &INVALID)?;
+        judge(&rt, &["ber", kind], &[10, 1, 0], &INVALID)?;
     }
     Ok(())
+}
+
+/// Strings in pieces, one cut inside a character, are read in BER alone.
+#[test]
+fn pieces(rt: HostRuntime) -> Result<(), Fail> {
+    let octets = [36, 128, 4, 2, 72, 101, 4, 4, 108, 108, 111, 33, 0, 0];
+    judge(&rt, &["ber", "octets"], &octets, &HELLO)?;
+    judge(&rt, &["der", "octets"], &octets, &INVALID)?;
+    let text = [44, 6, 4, 1, 195, 4, 1, 169];
+    judge(&rt, &["ber", "text"], &text, &ACCENT)?;
+    judge(&rt, &["der", "text"], &text, &INVALID)
+}
+
+/// Texts that aren't canonical, the second of them in pieces, are read in BER alone.
+#[test]
+fn times(rt: HostRuntime) -> Result<(), Fail> {
+    let utc = [
+        23, 15, 56, 50, 48, 49, 48, 50, 48, 55, 48, 48, 45, 48, 53, 48, 48,
+    ];
+    judge(&rt, &["ber", "utime"], &utc, &NOON)?;
+    judge(&rt, &["der", "utime"], &utc, &INVALID)?;
+    let general = [
+        56, 128, 4, 8, 49, 57, 56, 53, 49, 49, 48, 54, 4, 9, 50, 49, 46, 49, 52, 49, 53, 57, 90, 0,
+        0,
+    ];
+    judge(&rt, &["ber", "gtime"], &general, &EVENING)?;
+    judge(&rt, &["der", "gtime"], &general, &INVALID)
 }
 
 const OTHER_WORDS: [&[&str]; 5] = [

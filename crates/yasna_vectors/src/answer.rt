@@ -3,11 +3,21 @@ ghost use Rattle.std.specs.Prelude.{◌≡◌, ◌++◌, OnOk, string_bytes};
 ghost use Rattle.hex.specs.Hex.{encode_lower};
 
 use crate::line::Case;
+use crate::list::List;
 use crate::nest::Nest;
+use crate::oid::Oid;
+use crate::optional::Optional;
 use crate::primitive::Primitive;
+use crate::raw::Raw;
+use crate::recursion::Recursion;
 use crate::sequence::Sequence;
+use crate::strings::Strings;
 use crate::swallow::Swallow;
-use crate::{length, mode, reading, refusal, tag, whole, writing};
+use crate::tagged::Tagging;
+use crate::times::{Generalized, Utc};
+use crate::{
+    buffer, length, list, mode, oid, reading, refusal, segments, tag, times, whole, writing,
+};
 use std::alloc::{AllocError, Global};
 use yasna::{ASN1ErrorKind, ASN1Result, DERWriter};
 
@@ -17,12 +27,26 @@ pub type Answer = Option<Result<String, AllocError>>;
 /// What the call of a case answers, in the first family that has it.
 pub fn answer(alloc: Global, case: &Case) -> Answer {
     reading::answer::<Primitive>(alloc, case)
+        .or_else(|| reading::answer::<Strings>(alloc, case))
+        .or_else(|| reading::answer::<Oid>(alloc, case))
+        .or_else(|| reading::answer::<Utc>(alloc, case))
+        .or_else(|| reading::answer::<Generalized>(alloc, case))
         .or_else(|| reading::answer::<Sequence>(alloc, case))
+        .or_else(|| reading::answer::<Optional>(alloc, case))
+        .or_else(|| reading::answer::<List>(alloc, case))
+        .or_else(|| reading::answer::<Tagging>(alloc, case))
+        .or_else(|| buffer::answer(alloc, case))
+        .or_else(|| list::answer(alloc, case))
         .or_else(|| reading::answer::<Nest>(alloc, case))
+        .or_else(|| reading::answer::<Recursion>(alloc, case))
+        .or_else(|| reading::answer::<Raw>(alloc, case))
         .or_else(|| reading::answer::<Swallow>(alloc, case))
         .or_else(|| whole::answer(alloc, case))
         .or_else(|| writing::answer(alloc, case))
         .or_else(|| length::answer(alloc, case))
+        .or_else(|| segments::answer(alloc, case))
+        .or_else(|| oid::answer(alloc, case))
+        .or_else(|| times::answer(alloc, case))
         .or_else(|| tag::answer(alloc, case))
         .or_else(|| refusal::answer(alloc, case))
         .or_else(|| mode::answer(alloc, case))
@@ -95,6 +119,20 @@ impl Shown for u32 {
 impl Shown for u16 {
     fn show(&self, text: &mut String) -> Result<(), AllocError> {
         write!(text, "{self}")
+    }
+}
+
+impl Shown for Vec<u8> {
+    fn show(&self, text: &mut String) -> Result<(), AllocError> {
+        text.push('h')?;
+        show_bytes(self, text)
+    }
+}
+
+impl Shown for String {
+    fn show(&self, text: &mut String) -> Result<(), AllocError> {
+        text.push('s')?;
+        show_bytes(self.as_bytes(), text)
     }
 }
 

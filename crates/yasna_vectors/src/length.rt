@@ -1,4 +1,10 @@
-//! Contents of any length: `w:seqbigint N` writes a SEQUENCE of an INTEGER of N bytes 01, and reads it back.
+//! Contents of any length. ARG is the length.
+//!
+//! | Call | Written |
+//! |---|---|
+//! | `w:seqbigint` | a SEQUENCE of an INTEGER of bytes 01, which is read back |
+//! | `w:seqlen` | a SEQUENCE of an octet string of bytes 5b |
+//! | `w:seqseqlen` | a SEQUENCE of such a SEQUENCE |
 //!
 //! The answer shows how many bytes were written and the first 16 of these.
 
@@ -9,11 +15,43 @@ use yasna::{ASN1Result, construct_der, parse_der};
 
 /// What a call of this family answers.
 pub fn answer(alloc: Global, case: &Case) -> Answer {
-    if case.call != "w:seqbigint" {
+    let call = case.call;
+    if call != "w:seqbigint" && call != "w:seqlen" && call != "w:seqseqlen" {
         return None;
     }
     let count = case.arg.parse().ok()?;
-    Some(long_answer(alloc, count))
+    Some(match call {
+        "w:seqbigint" => long_answer(alloc, count),
+        _ => octets_answer(alloc, count, call == "w:seqseqlen"),
+    })
+}
+
+// What so many bytes 5b are written as, in a SEQUENCE or in two.
+fn octets_answer(alloc: Global, count: usize, twice: bool) -> Result<String, AllocError> {
+    let octets = vec![in alloc; 91u8; count]?;
+    let form = construct_der(
+        alloc,
+        |writer| writer.write_sequence(|seq| {
+            if twice {
+                seq.next()
+                    .write_sequence(|inner| inner.next().write_bytes(&octets))
+            } else {
+                seq.next().write_bytes(&octets)
+            }
+        }),
+    );
+    match form {
+        Ok(form) => size_and_front(alloc, &form),
+        Err(error) => refused(alloc, error.kind()),
+    }
+}
+
+// How many bytes there are, and the first 16.
+fn size_and_front(alloc: Global, form: &[u8]) -> Result<String, AllocError> {
+    let length = form.len();
+    let mut text = format!(in alloc; "ok {length} ")?;
+    show_bytes(form.get(..16).unwrap_or(form), &mut text)?;
+    Ok(text)
 }
 
 // What a number of so many bytes is written as.
@@ -23,9 +61,7 @@ fn long_answer(alloc: Global, count: usize) -> Result<String, AllocError> {
         Ok(form) => form,
         Err(error) => return refused(alloc, error.kind()),
     };
-    let length = form.len();
-    let mut text = format!(in alloc; "ok {length} ")?;
-    show_bytes(form.get(..16).unwrap_or(&form), &mut text)?;
+    let mut text = size_and_front(alloc, &form)?;
     match is_read_back(alloc, &form, &number) {
         Ok(true) => Ok(text),
         Ok(false) => {

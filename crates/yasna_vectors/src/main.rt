@@ -24,24 +24,36 @@
 //! | `run` | all lines, one after the other |
 //! | `answer` | answers as text, and the list of families |
 //! | `reading` | how a call of a family that reads is made |
-//! | `primitive`, `sequence`, `nest`, `swallow` | the families that read |
+//! | `primitive`, `strings`, `oid`, `times`, `sequence`, `optional`, `list`, `tagged`, `nest`, `recursion`, `raw`, `swallow` | the families that read |
+//! | `buffer` | reads with the bytes that they took |
 //! | `whole` | types that are read and written as a whole |
 //! | `writing`, `length` | calls that write |
+//! | `segments` | octet strings of any length |
 //! | `tag`, `refusal`, `mode` | tags, the texts of refusals, the mode that a callback sees |
 #![tactic(auto)]
 
 mod answer;
+mod buffer;
 mod length;
 mod line;
+mod list;
 mod mode;
 mod nest;
+mod oid;
+mod optional;
 mod primitive;
+mod raw;
 mod reading;
+mod recursion;
 mod refusal;
 mod run;
+mod segments;
 mod sequence;
+mod strings;
 mod swallow;
 mod tag;
+mod tagged;
+mod times;
 mod whole;
 mod writing;
 

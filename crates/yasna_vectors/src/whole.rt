@@ -1,11 +1,13 @@
 //! Types that are read and written as a whole.
 //!
 //! `d:TYPE` decodes by decode_ber or decode_der, and encodes by encode_der. `int` is `i64`, `pair` is `(i64, bool)`, `pairs`
-//! is `((i64, bool), (bool, i64))`, `deep` is `(bool, (i64, (bool, ())))`.
+//! is `((i64, bool), (bool, i64))`, `deep` is `(bool, (i64, (bool, ())))`, `octets` is `Vec<u8>`, `text` is `String`, `oid` is
+//! `ObjectIdentifier`, `utime` is `UTCTime`, `gtime` is `GeneralizedTime`, `named` is `(String, Vec<u8>)`.
 
 use crate::answer::{Answer, Shown, refused, written};
 use crate::line::Case;
 use std::alloc::{AllocError, Global};
+use yasna::models::{GeneralizedTime, ObjectIdentifier, UTCTime};
 use yasna::{BERMode, DERCanonical, decode_ber, decode_der, encode_der};
 
 type Pairs = ((i64, bool), (bool, i64));
@@ -32,6 +34,12 @@ pub fn answer(alloc: Global, case: &Case) -> Answer {
         "pair" => decoded::<(i64, bool)>(alloc, mode, &bytes),
         "pairs" => decoded::<Pairs>(alloc, mode, &bytes),
         "deep" => decoded::<Deep>(alloc, mode, &bytes),
+        "octets" => decoded::<Vec<u8>>(alloc, mode, &bytes),
+        "text" => decoded::<String>(alloc, mode, &bytes),
+        "oid" => decoded::<ObjectIdentifier>(alloc, mode, &bytes),
+        "utime" => decoded::<UTCTime>(alloc, mode, &bytes),
+        "gtime" => decoded::<GeneralizedTime>(alloc, mode, &bytes),
+        "named" => decoded::<(String, Vec<u8>)>(alloc, mode, &bytes),
         _ => return None,
     })
 }

@@ -7,7 +7,8 @@
 //! | `ws:NAME` | construct_der_seq |
 //! | `tws:NAME` | try_construct_der_seq, with an error type of the caller's own |
 //!
-//! ARG is the value, as an answer shows it. NAME is a primitive call or one of a sequence, or:
+//! ARG is the value, as an answer shows it. NAME is a primitive call, one of a string, `oid`, one of a sequence, one under
+//! tags around an INTEGER or a NULL, or:
 //!
 //! | NAME | Body |
 //! |---|---|
@@ -21,10 +22,14 @@
 use crate::answer::{Answer, Shown, Value, refused, written};
 use crate::line::Case;
 use crate::nest::Nested;
+use crate::oid::Oid;
 use crate::primitive::{Primitive, Scalar};
 use crate::reading::Family;
 use crate::sequence::{Parts, Sequence};
+use crate::strings::{Content, Strings};
+use crate::tagged::{Tagged, Tagging};
 use std::alloc::{AllocError, Global};
+use yasna::models::ObjectIdentifier;
 use yasna::{
     ASN1Error, ASN1ErrorKind, ASN1Result, DERWriter, construct_der, construct_der_seq,
     try_construct_der, try_construct_der_seq,
@@ -34,7 +39,10 @@ use yasna::{
 #[derive(Drop)]
 enum Written {
     Scalar(Scalar),
+    Content(Content),
+    Identifier(ObjectIdentifier),
     Parts(Parts),
+    Tagged(Tagged),
     Nested(Nested),
     Nothing,
     Refused(i64),
@@ -99,8 +107,17 @@ fn value(alloc: Global, name: &str, arg: &str) -> Option<Result<Written, AllocEr
     if let Some(primitive) = Primitive::named(name) {
         return Some(primitive.value(alloc, arg)?.map(Written::Scalar));
     }
+    if let Some(string) = Strings::named(name) {
+        return Some(string.value(alloc, arg)?.map(Written::Content));
+    }
+    if let Some(identifier) = Oid::named(name) {
+        return Some(identifier.value(alloc, arg)?.map(Written::Identifier));
+    }
     if let Some(sequence) = Sequence::named(name) {
         return Some(Ok(Written::Parts(Parts::parse(sequence, arg)?)));
+    }
+    if let Some(tagging) = Tagging::named(name) {
+        return Some(Ok(Written::Tagged(tagging.value(arg)?)));
     }
     let value = match name {
         "nest" => Written::Nested(Nested {
@@ -119,7 +136,10 @@ impl Shown for Written {
     fn show(&self, text: &mut String) -> Result<(), AllocError> {
         match self {
             Written::Scalar(scalar) => scalar.show(text),
+            Written::Content(content) => content.show(text),
+            Written::Identifier(identifier) => identifier.show(text),
             Written::Parts(parts) => parts.show(text),
+            Written::Tagged(tagged) => tagged.show(text),
             Written::Nested(nested) => nested.show(text),
             Written::Nothing => text.push_str("()"),
             Written::Refused(number) => write!(text, "{number}"),
@@ -132,7 +152,10 @@ impl Value for Written {
     fn write(&self, writer: DERWriter<'_>) -> ASN1Result<()> {
         match self {
             Written::Scalar(scalar) => scalar.write(writer),
+            Written::Content(content) => content.write(writer),
+            Written::Identifier(identifier) => identifier.write(writer),
             Written::Parts(parts) => parts.write(writer),
+            Written::Tagged(tagged) => tagged.write(writer),
             Written::Nested(nested) => nested.write(writer),
             Written::Nothing => Ok(()),
             Written::Refused(number) => write_refused(writer, *number),
