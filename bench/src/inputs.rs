@@ -1,6 +1,6 @@
 //! What is read and written.
 
-use yasna::{construct_der, DERWriter, DERWriterSeq};
+use yasna::{construct_der, DERWriter, DERWriterSeq, Tag};
 
 pub const INTEGERS: usize = 100_000;
 
@@ -73,6 +73,21 @@ pub fn write_pairs(seq: &mut DERWriterSeq, count: u32) {
             parts.next().write_bool(number % 2 == 0)
         })
     }
+}
+
+/// A SEQUENCE of these numbers, each under the implicit tag 1 inside the explicit tag 0.
+pub fn tagged_list(numbers: &[i64]) -> &'static [u8] {
+    kept(construct_der(|writer| {
+        writer.write_sequence(|seq| {
+            for number in numbers {
+                seq.next().write_tagged(Tag::context(0), |inner| {
+                    inner.write_tagged_implicit(Tag::context(1), |writer| {
+                        writer.write_i64(*number)
+                    })
+                })
+            }
+        })
+    }))
 }
 
 /// A SEQUENCE of pairs.

@@ -7,6 +7,7 @@ mod inputs;
 mod measure;
 mod port;
 mod reading;
+mod strings;
 mod writing;
 
 use std::env;
@@ -20,7 +21,11 @@ fn main() -> ExitCode {
         .unwrap_or(31);
     let mut agree = true;
     measure::print_head();
-    for case in reading::cases().into_iter().chain(writing::cases()) {
+    let cases = reading::cases()
+        .into_iter()
+        .chain(writing::cases())
+        .chain(strings::cases());
+    for case in cases {
         if case.name.contains(&wanted) {
             agree &= measure::print_row(case, rounds);
         }

@@ -5,15 +5,28 @@ mod linked {
         pub fn yasna_decode_pair(bytes: *const u8, length: usize, der: bool) -> u64;
         pub fn yasna_read_integers(bytes: *const u8, length: usize, count: usize, der: bool)
             -> u64;
-        pub fn yasna_list_integers(bytes: *const u8, length: usize, count: usize, der: bool)
-            -> u64;
+        pub fn yasna_list_integers(bytes: *const u8, length: usize, der: bool) -> u64;
         pub fn yasna_read_pairs(bytes: *const u8, length: usize, count: usize, der: bool) -> u64;
+        pub fn yasna_read_options(bytes: *const u8, length: usize, count: usize, der: bool) -> u64;
+        pub fn yasna_read_tagged(bytes: *const u8, length: usize, count: usize, der: bool) -> u64;
         pub fn yasna_read_big_integer(bytes: *const u8, length: usize, der: bool) -> u64;
         pub fn yasna_read_nest(bytes: *const u8, length: usize, depth: usize, der: bool) -> u64;
         pub fn yasna_encode_pair(number: i64, flag: bool) -> u64;
         pub fn yasna_write_integers(numbers: *const i64, length: usize) -> u64;
         pub fn yasna_write_pairs(count: u32, depth: usize) -> u64;
         pub fn yasna_write_nest(contents: *const u8, length: usize, depth: usize) -> u64;
+        pub fn yasna_read_bytes(bytes: *const u8, length: usize, der: bool) -> u64;
+        pub fn yasna_write_bytes(contents: *const u8, length: usize) -> u64;
+        pub fn yasna_read_texts(bytes: *const u8, length: usize, count: usize, der: bool) -> u64;
+        pub fn yasna_write_texts(text: *const u8, length: usize, count: usize) -> u64;
+        pub fn yasna_read_identifiers(
+            bytes: *const u8,
+            length: usize,
+            count: usize,
+            der: bool,
+        ) -> u64;
+        pub fn yasna_write_identifiers(components: *const u64, length: usize, count: usize)
+            -> u64;
     }
 }
 
@@ -27,12 +40,20 @@ pub fn read_integers(bytes: &[u8], count: usize, der: bool) -> u64 {
     unsafe { linked::yasna_read_integers(bytes.as_ptr(), bytes.len(), count, der) }
 }
 
-pub fn list_integers(bytes: &[u8], count: usize, der: bool) -> u64 {
-    unsafe { linked::yasna_list_integers(bytes.as_ptr(), bytes.len(), count, der) }
+pub fn list_integers(bytes: &[u8], der: bool) -> u64 {
+    unsafe { linked::yasna_list_integers(bytes.as_ptr(), bytes.len(), der) }
 }
 
 pub fn read_pairs(bytes: &[u8], count: usize, der: bool) -> u64 {
     unsafe { linked::yasna_read_pairs(bytes.as_ptr(), bytes.len(), count, der) }
+}
+
+pub fn read_options(bytes: &[u8], count: usize, der: bool) -> u64 {
+    unsafe { linked::yasna_read_options(bytes.as_ptr(), bytes.len(), count, der) }
+}
+
+pub fn read_tagged(bytes: &[u8], count: usize, der: bool) -> u64 {
+    unsafe { linked::yasna_read_tagged(bytes.as_ptr(), bytes.len(), count, der) }
 }
 
 pub fn read_big_integer(bytes: &[u8], der: bool) -> u64 {
@@ -57,4 +78,28 @@ pub fn write_pairs(count: u32, depth: usize) -> u64 {
 
 pub fn write_nest(contents: &[u8], depth: usize) -> u64 {
     unsafe { linked::yasna_write_nest(contents.as_ptr(), contents.len(), depth) }
+}
+
+pub fn read_bytes(bytes: &[u8], der: bool) -> u64 {
+    unsafe { linked::yasna_read_bytes(bytes.as_ptr(), bytes.len(), der) }
+}
+
+pub fn write_bytes(contents: &[u8]) -> u64 {
+    unsafe { linked::yasna_write_bytes(contents.as_ptr(), contents.len()) }
+}
+
+pub fn read_texts(bytes: &[u8], count: usize, der: bool) -> u64 {
+    unsafe { linked::yasna_read_texts(bytes.as_ptr(), bytes.len(), count, der) }
+}
+
+pub fn write_texts(text: &str, count: usize) -> u64 {
+    unsafe { linked::yasna_write_texts(text.as_ptr(), text.len(), count) }
+}
+
+pub fn read_identifiers(bytes: &[u8], count: usize, der: bool) -> u64 {
+    unsafe { linked::yasna_read_identifiers(bytes.as_ptr(), bytes.len(), count, der) }
+}
+
+pub fn write_identifiers(components: &[u64], count: usize) -> u64 {
+    unsafe { linked::yasna_write_identifiers(components.as_ptr(), components.len(), count) }
 }

@@ -7,7 +7,7 @@ use crate::measure::Contestant::{Asn1, Bcder, ByHand, Port, Upstream};
 use crate::port;
 use bcder::decode::{Constructed, Source};
 use std::hint::black_box;
-use yasna::{parse_ber_general, ASN1Result, BERMode, BERReader, BERReaderSeq};
+use yasna::{parse_ber_general, ASN1Result, BERMode, BERReader, BERReaderSeq, Tag};
 
 const DEPTH: usize = 100;
 
@@ -35,6 +35,8 @@ pub fn cases() -> Vec<Case> {
         integers("100k mixed integers", large),
         list("100k mixed integers, into a list", large),
         pairs("20k pairs read", inputs::pair_list()),
+        options("20k pairs of options read", inputs::pair_list()),
+        tagged("100k tagged integers read", inputs::tagged_list(numbers)),
         nest("nested 100, DER", inputs::nest(DEPTH), true),
         nest("nested 100, BER", inputs::indefinite_nest(DEPTH), false),
         big_integer("big integer of 1 MiB read"),
@@ -153,7 +155,7 @@ fn list(name: &'static str, bytes: &'static [u8]) -> Case {
     };
     Case::new(name, 3)
         .with(Port, move || {
-            port::list_integers(black_box(bytes), INTEGERS, true)
+            port::list_integers(black_box(bytes), true)
         })
         .with(Upstream, move || {
             let read = yasna::decode_der::<Vec<i64>>(black_box(bytes));
@@ -266,6 +268,54 @@ fn nest_by_hand(bytes: &mut Bytes, depth: usize) -> Option<i64> {
         0 => bytes.integer(),
         _ => bytes.sequence(|contents| nest_by_hand(contents, depth - 1)),
     }
+}
+
+fn options(name: &'static str, bytes: &'static [u8]) -> Case {
+    let count = PAIRS as usize;
+    Case::new(name, 5)
+        .with(Port, move || {
+            port::read_options(black_box(bytes), count, false)
+        })
+        .with(Upstream, move || {
+            let read = yasna::parse_ber(black_box(bytes), |reader| {
+                reader.read_sequence(|seq| {
+                    let mut checksum = 0;
+                    for _ in 0..count {
+                        let pair = seq.next().read_sequence(|parts| {
+                            let null = parts.read_optional(|part| part.read_null())?;
+                            let number = parts.read_optional(|part| part.read_i64())?;
+                            let flag = parts.read_default(false, |part| part.read_bool())?;
+                            Ok(pair_checksum(number.unwrap_or(0), flag != null.is_some()))
+                        })?;
+                        checksum = mixed(checksum, pair as i64);
+                    }
+                    Ok(checksum)
+                })
+            });
+            read.unwrap_or(REFUSED)
+        })
+}
+
+fn tagged(name: &'static str, bytes: &'static [u8]) -> Case {
+    Case::new(name, 3)
+        .with(Port, move || {
+            port::read_tagged(black_box(bytes), INTEGERS, true)
+        })
+        .with(Upstream, move || {
+            let read = yasna::parse_der(black_box(bytes), |reader| {
+                reader.read_sequence(|seq| {
+                    let mut checksum = 0;
+                    for _ in 0..INTEGERS {
+                        let number = seq.next().read_tagged(Tag::context(0), |inner| {
+                            inner.read_tagged_implicit(Tag::context(1), |reader| reader.read_i64())
+                        })?;
+                        checksum = mixed(checksum, number);
+                    }
+                    Ok(checksum)
+                })
+            });
+            read.unwrap_or(REFUSED)
+        })
 }
 
 fn nest(name: &'static str, bytes: &'static [u8], der: bool) -> Case {

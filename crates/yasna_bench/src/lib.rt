@@ -5,13 +5,16 @@
 //!
 //! | Module | Holds |
 //! |---|---|
-//! | `reading` | calls that read |
-//! | `writing` | calls that write |
+//! | `reading` | calls that read numbers, pairs and nests |
+//! | `writing` | calls that write them |
+//! | `strings`, `oid` | calls that read and write octet strings, texts and object identifiers |
 #![tactic(auto)]
 
 ghost use Rattle.std.specs.Prelude.{◌≡◌, ◌-◌, ◌^◌, MatchResult};
 
+mod oid;
 mod reading;
+mod strings;
 mod writing;
 
 use yasna::ASN1Result;

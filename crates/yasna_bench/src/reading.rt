@@ -5,12 +5,11 @@ ghost use Rattle.yasna.specs.base.declared.mode.BERMode.TheVariants.{Ber, Der};
 use crate::{answered, length, mixed};
 use std::alloc::Global;
 use yasna::{
-    ASN1Error, ASN1ErrorKind, ASN1Result, BERMode, BERReader, BERReaderSeq, decode_ber_general,
-    parse_ber_general,
+    ASN1Result, BERMode, BERReader, BERReaderSeq, Tag, decode_ber_general, parse_ber_general,
 };
 
 // The rules to read by.
-fn mode(der: bool) -> BERMode
+pub(crate) fn mode(der: bool) -> BERMode
     ensures { result ≡ (if der then Der else Ber) }
 {
     if der { BERMode::Der } else { BERMode::Ber }
@@ -48,28 +47,16 @@ fn integers(seq: &mut BERReaderSeq, count: usize) -> ASN1Result<u64> {
     Ok(checksum)
 }
 
-/// The checksum of so many numbers in a SEQUENCE, which are put into a list first.
+/// The checksum of the numbers of a SEQUENCE OF, which are collected first.
 #[unsafe(no_mangle)]
-pub extern "C" fn yasna_list_integers(alloc: Global, bytes: &[u8], count: usize, der: bool) -> u64 {
+pub extern "C" fn yasna_list_integers(alloc: Global, bytes: &[u8], der: bool) -> u64 {
     let list = parse_ber_general(
         alloc,
         bytes,
         mode(der),
-        |reader| reader.read_sequence(|seq| integer_list(alloc, seq, count)),
+        |reader| reader.collect_sequence_of(|item| item.read_i64()),
     );
     answered(list.map(|numbers| list_checksum(&numbers)))
-}
-
-// So many numbers.
-fn integer_list(alloc: Global, seq: &mut BERReaderSeq, count: usize) -> ASN1Result<Vec<i64>> {
-    let mut numbers = Vec::new(alloc);
-    for _ in 0..count {
-        let number = seq.next().read_i64()?;
-        if numbers.push(number).is_err() {
-            return Err(ASN1Error::new(ASN1ErrorKind::OutOfMemory));
-        }
-    }
-    Ok(numbers)
 }
 
 // The checksum of a list.
@@ -102,6 +89,56 @@ fn pairs(seq: &mut BERReaderSeq, count: usize) -> ASN1Result<u64> {
             Ok((number, flag))
         })?;
         checksum = mixed(checksum, pair_checksum(pair).cast_signed());
+    }
+    Ok(checksum)
+}
+
+/// The checksum of so many pairs in a SEQUENCE, whose parts may be left out, behind one that is.
+#[unsafe(no_mangle)]
+pub extern "C" fn yasna_read_options(alloc: Global, bytes: &[u8], count: usize, der: bool) -> u64 {
+    answered(parse_ber_general(
+        alloc,
+        bytes,
+        mode(der),
+        |reader| reader.read_sequence(|seq| options(seq, count)),
+    ))
+}
+
+// The checksum of so many such pairs.
+fn options(seq: &mut BERReaderSeq, count: usize) -> ASN1Result<u64> {
+    let mut checksum = 0;
+    for _ in 0..count {
+        let pair = seq.next().read_sequence(|parts| {
+            let null = parts.read_optional(|part| part.read_null())?;
+            let number = parts.read_optional(|part| part.read_i64())?;
+            let flag = parts.read_default(false, |part| part.read_bool())?;
+            Ok((number.unwrap_or(0), flag != null.is_some()))
+        })?;
+        checksum = mixed(checksum, pair_checksum(pair).cast_signed());
+    }
+    Ok(checksum)
+}
+
+/// The checksum of so many numbers in a SEQUENCE, each under an implicit tag inside an explicit one.
+#[unsafe(no_mangle)]
+pub extern "C" fn yasna_read_tagged(alloc: Global, bytes: &[u8], count: usize, der: bool) -> u64 {
+    answered(parse_ber_general(
+        alloc,
+        bytes,
+        mode(der),
+        |reader| reader.read_sequence(|seq| tagged(seq, count)),
+    ))
+}
+
+// The checksum of so many such numbers.
+fn tagged(seq: &mut BERReaderSeq, count: usize) -> ASN1Result<u64> {
+    let mut checksum = 0;
+    for _ in 0..count {
+        let number = seq.next().read_tagged(
+            Tag::context(0),
+            |inner| inner.read_tagged_implicit(Tag::context(1), |number| number.read_i64()),
+        )?;
+        checksum = mixed(checksum, number);
     }
     Ok(checksum)
 }

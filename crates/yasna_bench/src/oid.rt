@@ -1,0 +1,66 @@
+//! Calls that read and write object identifiers.
+ghost use Rattle.yasna.specs.base.Oid.{IsEncodableOid};
+
+use crate::reading::mode;
+use crate::{REFUSED, answered, length, mixed};
+use std::alloc::Global;
+use yasna::models::ObjectIdentifier;
+use yasna::{ASN1Result, BERReaderSeq, DERWriterSeq, construct_der, parse_ber_general};
+
+/// The checksum of so many object identifiers in a SEQUENCE, of each its count of components.
+#[unsafe(no_mangle)]
+pub extern "C" fn yasna_read_identifiers(
+    alloc: Global,
+    bytes: &[u8],
+    count: usize,
+    der: bool,
+) -> u64 {
+    answered(parse_ber_general(
+        alloc,
+        bytes,
+        mode(der),
+        |reader| reader.read_sequence(|seq| identifiers(seq, count)),
+    ))
+}
+
+// The checksum of so many object identifiers.
+fn identifiers(seq: &mut BERReaderSeq, count: usize) -> ASN1Result<u64> {
+    let mut checksum = 0;
+    for _ in 0..count {
+        let identifier = seq.next().read_oid()?;
+        checksum = mixed(
+            checksum,
+            (identifier.components().len() as u64).cast_signed(),
+        );
+    }
+    Ok(checksum)
+}
+
+/// The length of a SEQUENCE of the object identifier with these components, so many times.
+#[unsafe(no_mangle)]
+pub extern "C" fn yasna_write_identifiers(alloc: Global, components: &[u64], count: usize) -> u64 {
+    let Ok(identifier) = ObjectIdentifier::from_slice(alloc, components) else {
+        return REFUSED;
+    };
+    if !identifier.is_encodable() {
+        return REFUSED;
+    }
+    length(construct_der(
+        alloc,
+        |writer| writer.write_sequence(|seq| write_identifiers(seq, &identifier, count)),
+    ))
+}
+
+// Writes an object identifier so many times.
+fn write_identifiers(
+    seq: &mut DERWriterSeq,
+    identifier: &ObjectIdentifier,
+    count: usize,
+) -> ASN1Result<()>
+    requires { IsEncodableOid identifier.now }
+{
+    for _ in 0..count {
+        seq.next().write_oid(identifier)?;
+    }
+    Ok(())
+}

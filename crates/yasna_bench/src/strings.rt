@@ -1,0 +1,59 @@
+//! Calls that read and write octet strings and texts.
+
+use crate::reading::mode;
+use crate::{answered, length, mixed};
+use std::alloc::Global;
+use yasna::{ASN1Result, BERReaderSeq, DERWriterSeq, construct_der, parse_ber_general};
+
+/// The length of an octet string that is read.
+#[unsafe(no_mangle)]
+pub extern "C" fn yasna_read_bytes(alloc: Global, bytes: &[u8], der: bool) -> u64 {
+    length(parse_ber_general(alloc, bytes, mode(der), |reader| reader.read_bytes()))
+}
+
+/// The length of an octet string that is written.
+#[unsafe(no_mangle)]
+pub extern "C" fn yasna_write_bytes(alloc: Global, contents: &[u8]) -> u64 {
+    length(construct_der(alloc, |writer| writer.write_bytes(contents)))
+}
+
+/// The checksum of the lengths of so many UTF8Strings in a SEQUENCE.
+#[unsafe(no_mangle)]
+pub extern "C" fn yasna_read_texts(alloc: Global, bytes: &[u8], count: usize, der: bool) -> u64 {
+    answered(parse_ber_general(
+        alloc,
+        bytes,
+        mode(der),
+        |reader| reader.read_sequence(|seq| texts(seq, count)),
+    ))
+}
+
+// The checksum of the lengths of so many texts.
+fn texts(seq: &mut BERReaderSeq, count: usize) -> ASN1Result<u64> {
+    let mut checksum = 0;
+    for _ in 0..count {
+        let text = seq.next().read_utf8string()?;
+        checksum = mixed(checksum, (text.len() as u64).cast_signed());
+    }
+    Ok(checksum)
+}
+
+/// The length of a SEQUENCE of this text, so many times; none where it isn't UTF-8.
+#[unsafe(no_mangle)]
+pub extern "C" fn yasna_write_texts(alloc: Global, text: &[u8], count: usize) -> u64 {
+    let Ok(text) = str::from_utf8(text) else {
+        return crate::REFUSED;
+    };
+    length(construct_der(
+        alloc,
+        |writer| writer.write_sequence(|seq| write_texts(seq, text, count)),
+    ))
+}
+
+// Writes a text so many times.
+fn write_texts(seq: &mut DERWriterSeq, text: &str, count: usize) -> ASN1Result<()> {
+    for _ in 0..count {
+        seq.next().write_utf8string(text)?;
+    }
+    Ok(())
+}
