@@ -20,7 +20,7 @@ use Rattle.yasna_reader.specs.Parse.{Parses}
 use Rattle.yasna_reader.specs.Sequence.{Runs, ReadsParts}
 use Rattle.yasna_reader.specs.SequenceOf.{Collects}
 use Rattle.yasna_reader.specs.Decodes.{Decodes, Decoded}
-use Rattle.yasna_reader.specs.Primitive.{Reads, NoLevel}
+use Rattle.yasna_reader.specs.Primitive.{ReadsSeen, Reads, NoLevel}
 use Rattle.yasna_reader.specs.Contents.{Never, WantsMemory}
 use Rattle.yasna_reader.specs.State.{Reading, IsFresh, starts, part_of}
 use Rattle.yasna_reader.proofs.Listing.{collects}
@@ -34,27 +34,31 @@ pub use Rattle.yasna_reader.proofs.Whole.{read_form, refuses_none, exactly_as, r
 pub use Rattle.yasna_reader.proofs.Listing.{same_items}
 
 -- a typed read from what equals s
-pub reads_at : {A : Type 0} {B : ℕ → BERMode → Tag → A → List ℕ → Type 0} {D : ℕ → BERMode → Tag → List ℕ → Type 0} {M : ℕ → Tag → List ℕ → Type 0}
-    {t : Tag} {p s : Reading} {r : Result A ASN1Error} {s' : Reading} → Reads B D M t p r s' → p ≡ s → Reads B D M t s r s'
-reads_at {B} {D} {M} {t} {r} {s'} h e = subst (λ z. Reads B D M t z r s') e h
+pub reads_at : {V A : Type 0} {B : ℕ → BERMode → Tag → A → List ℕ → Type 0} {view : V → A} {D : ℕ → BERMode → Tag → List ℕ → Type 0}
+    {M : ℕ → Tag → List ℕ → Type 0} {t : Tag} {p s : Reading} {r : Result V ASN1Error} {s' : Reading} → ReadsSeen B view D M t p r s' → p ≡ s →
+    ReadsSeen B view D M t s r s'
+reads_at {B} {view} {D} {M} {t} {r} {s'} h e = subst (λ z. ReadsSeen B view D M t z r s') e h
 
 -- a typed read under the type's own tag decodes
 pub leaf_by : {A : Type 0} (B : ℕ → BERMode → Tag → A → List ℕ → Type 0) (k : ℕ) → (k ≡ 0 → ⊥) →
     IsDecoder false (λ m n v b. B n m (universal k) v b) (Any (λ m n v b. B n m (universal k) v b)) (Reads B NoLevel Never (universal k))
 leaf_by B k h = record { decodes = λ s r s' fresh x. leaf_decodes B k h s r s' fresh.1 x fresh.0 }
 
--- and so does a read of a string, whose pieces may be elements
-pub string_by : {A : Type 0} (B : ℕ → BERMode → Tag → A → List ℕ → Type 0) (k : ℕ) → (k ≡ 0 → ⊥) →
-    IsDecoder true (λ m n v b. B n m (universal k) v b) (Any (λ m n v b. B n m (universal k) v b)) (Reads B IsDeepOctets WantsMemory (universal k))
-string_by B k h = record {
+-- and so does a read of a string, whose pieces may be elements, where view says what is seen of a value
+pub string_by : {V A : Type 0} (B : ℕ → BERMode → Tag → A → List ℕ → Type 0) (view : V → A) (k : ℕ) → (k ≡ 0 → ⊥) →
+    IsDecoder true (λ m n v b. B n m (universal k) (view v) b) (Any (λ m n v b. B n m (universal k) v b))
+    (ReadsSeen B view IsDeepOctets WantsMemory (universal k))
+string_by B view k h = record {
   decodes = λ s r s' fresh x.
-      asking_decodes B IsDeepOctets k h (λ n m z. deep_begins octets_cutting n m (universal k) z) s r s' fresh.1 x fresh.0;
+      asking_decodes B view IsDeepOctets k h (λ n m z. deep_begins octets_cutting n m (universal k) z) s r s' fresh.1 x fresh.0;
 }
 
 -- and a read of one element whose contents are copied
-pub leaf_with_memory_by : {A : Type 0} (B : ℕ → BERMode → Tag → A → List ℕ → Type 0) (k : ℕ) → (k ≡ 0 → ⊥) →
-    IsDecoder true (λ m n v b. B n m (universal k) v b) (Any (λ m n v b. B n m (universal k) v b)) (Reads B NoLevel WantsMemory (universal k))
-leaf_with_memory_by B k h = record { decodes = λ s r s' fresh x. asking_decodes B NoLevel k h (λ n m z d. d.1) s r s' fresh.1 x fresh.0 }
+pub leaf_with_memory_by : {V A : Type 0} (B : ℕ → BERMode → Tag → A → List ℕ → Type 0) (view : V → A) (k : ℕ) → (k ≡ 0 → ⊥) →
+    IsDecoder true (λ m n v b. B n m (universal k) (view v) b) (Any (λ m n v b. B n m (universal k) v b))
+    (ReadsSeen B view NoLevel WantsMemory (universal k))
+leaf_with_memory_by B view k h =
+    record { decodes = λ s r s' fresh x. asking_decodes B view NoLevel k h (λ n m z d. d.1) s r s' fresh.1 x fresh.0 }
 
 -- a run of f does what each of its calls does
 by_run : {F T R : Type 0} {g : Once F (MutBor T × Unit {0}) (R × (MutBor T × Unit {0}))} {f : F} (P : T → R → T → Type 0) →

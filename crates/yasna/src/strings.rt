@@ -4,8 +4,8 @@ ghost use Rattle.yasna_base.specs.Canonical.{leaf_nest, Always};
 ghost use Rattle.yasna_base.specs.Coding.{Any};
 ghost use Rattle.yasna_base.specs.Digits.{IsBytes};
 ghost use Rattle.yasna_base.specs.Identifier.{universal};
-ghost use Rattle.yasna_base.specs.Octets.{EncodesVec, octets_form};
-ghost use Rattle.yasna_base.specs.Text.{EncodesString, utf8_form, characters};
+ghost use Rattle.yasna_base.specs.Octets.{EncodesOctets, EncodesVec, octets_form};
+ghost use Rattle.yasna_base.specs.Text.{EncodesText, EncodesString, utf8_form, characters};
 ghost use Rattle.yasna_base.proofs.Octets.{vec_coding, vec_written};
 ghost use Rattle.yasna_base.proofs.Texts.{text_coding, text_written};
 
@@ -17,7 +17,7 @@ use yasna_writer::DERWriter;
 impl BERDecodable for Vec<u8> {
     ghost encodes = { EncodesVec };
 
-    ghost elements = { Any EncodesVec };
+    ghost elements = { Any EncodesOctets };
 
     ghost asks_memory = { true };
 
@@ -49,7 +49,7 @@ impl DERCanonical for Vec<u8> {
 impl BERDecodable for String {
     ghost encodes = { EncodesString };
 
-    ghost elements = { Any EncodesString };
+    ghost elements = { Any EncodesText };
 
     ghost asks_memory = { true };
 

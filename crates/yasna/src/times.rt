@@ -2,10 +2,10 @@
 ghost use Rattle.std.specs.Prelude.{◌≡◌, true};
 ghost use Rattle.yasna_base.specs.Canonical.{leaf_nest, Always};
 ghost use Rattle.yasna_base.specs.Coding.{Any};
-ghost use Rattle.yasna_base.specs.GeneralizedTime.{generalized_time_form};
+ghost use Rattle.yasna_base.specs.GeneralizedTime.{EncodesGeneralizedTime, generalized_time_form};
 ghost use Rattle.yasna_base.specs.Identifier.{universal};
 ghost use Rattle.yasna_base.specs.Models.{EncodesUtc, EncodesGeneral, utc_of, moment_of};
-ghost use Rattle.yasna_base.specs.UtcTime.{utc_time_form};
+ghost use Rattle.yasna_base.specs.UtcTime.{EncodesUtcTime, utc_time_form};
 ghost use Rattle.yasna_base.proofs.TimeLaws.{utc_coding, utc_written, general_coding, general_written};
 
 use crate::traits::{BERDecodable, DERCanonical, DEREncodable};
@@ -17,7 +17,7 @@ use yasna_writer::DERWriter;
 impl BERDecodable for UTCTime {
     ghost encodes = { EncodesUtc };
 
-    ghost elements = { Any EncodesUtc };
+    ghost elements = { Any EncodesUtcTime };
 
     ghost asks_memory = { true };
 
@@ -49,7 +49,7 @@ impl DERCanonical for UTCTime {
 impl BERDecodable for GeneralizedTime {
     ghost encodes = { EncodesGeneral };
 
-    ghost elements = { Any EncodesGeneral };
+    ghost elements = { Any EncodesGeneralizedTime };
 
     ghost asks_memory = { true };
 

@@ -114,15 +114,6 @@ along f x = record {
   alone = x.alone;
 }
 
--- what keeps the laws keeps them where no more is asked of bytes than to encode some value
-pub any_coding : {A : Type 0} {E : A → A → Type 0} {B : BERMode → ℕ → A → List ℕ → Type 0} {S : BERMode → ℕ → List ℕ → Type 0} → IsCoding E B S →
-    IsCoding E B (Any B)
-any_coding x = record {
-  meaning = record { equal = x.meaning.equal; among = λ m n v b y. (v, y); exact = x.meaning.exact; deeper = x.meaning.deeper };
-  opens = λ m n b y. x.opens m n b (x.meaning.among m n y.0 b y.1);
-  alone = λ m n k b c r s y z. x.alone m n k b c r s (x.meaning.among m n y.0 b y.1) (x.meaning.among m k z.0 c z.1);
-}
-
 -- no encoding begins another, and equal encodings have equal values
 pub unambiguous : {A : Type 0} {E : A → A → Type 0} {B : BERMode → ℕ → A → List ℕ → Type 0} {S : BERMode → ℕ → List ℕ → Type 0} → IsCoding E B S →
     (m : BERMode) (n k : ℕ) (v w : A) (b r : List ℕ) → B m n v b → B m k w (b ++ r) → E v w × (r ≡ [])

@@ -3,7 +3,7 @@ use Rattle.std.proofs.Common.{◌≡◌, ◌∙◌, sym, arith, [], ◌∷◌, �
 use Rattle.yasna_base.specs.declared.tag.Tag.{Tag}
 use Rattle.yasna_base.specs.Coding.{IsCoding, Any}
 use Rattle.yasna_base.specs.Identifier.{end_tag}
-use Rattle.yasna_base.specs.Octets.{octets_cutting, IsOctets, octets_form, OctetsKeepLaws, octets_tag, EncodesVec}
+use Rattle.yasna_base.specs.Octets.{octets_cutting, IsOctets, octets_form, OctetsKeepLaws, octets_tag, EncodesOctets, EncodesVec}
 use Rattle.yasna_base.proofs.Cut.{CutsOnce, cut_coding, cut_keeps, cut_has, cut_level}
 use Rattle.yasna_base.proofs.Identifier.{not_end}
 use Rattle.std.specs.List.{AllByRecursion, concat}
@@ -14,7 +14,7 @@ use Rattle.yasna_base.specs.Digits.{IsBytes}
 use Rattle.yasna_base.proofs.Digits.{bytes_append}
 use Rattle.std.specs.Prelude.{Vec}
 use Rattle.std.specs.Global.{Global}
-use Rattle.yasna_base.proofs.Coding.{along, any_coding}
+use Rattle.yasna_base.proofs.Coding.{along}
 use Rattle.yasna_base.proofs.Canonical.{written_along}
 
 -- octets are cut in one way
@@ -46,8 +46,8 @@ pub octets_keep : OctetsKeepLaws
 octets_keep t not_end range = (octets_coding t not_end, octets_written t range)
 
 -- under its own tag, of vectors that are equal where their items are
-pub vec_coding : IsCoding (λ (v w : Vec ℕ Global). v.items ≡ w.items) EncodesVec (Any EncodesVec)
-vec_coding = any_coding (along (λ v. v.items) (octets_coding octets_tag octets_once.piece))
+pub vec_coding : IsCoding (λ (v w : Vec ℕ Global). v.items ≡ w.items) EncodesVec (Any EncodesOctets)
+vec_coding = along (λ v. v.items) (octets_coding octets_tag octets_once.piece)
 
 pub vec_written : IsWritten (λ (v w : Vec ℕ Global). v.items ≡ w.items) EncodesVec (λ m v. octets_form octets_tag m v.items)
     leaf_nest (λ v. IsBytes v.items)

@@ -17,9 +17,9 @@ use Rattle.yasna_base.specs.Coding.{IsCoding, Any}
 use Rattle.yasna_base.specs.Digits.{IsBytes}
 use Rattle.yasna_base.specs.Identifier.{universal, end_tag}
 use Rattle.yasna_base.specs.Octets.{octets_cutting, octets_form}
-use Rattle.yasna_base.specs.Text.{IsTextIn, IsUtf8In, IsStringOf, utf8_form, characters, EncodesString, TextKeepsLaws, InUtf8, InNumeric, InVisible, InIa5, InPrintable}
+use Rattle.yasna_base.specs.Text.{IsTextIn, IsUtf8In, IsStringOf, utf8_form, characters, EncodesText, EncodesString, TextKeepsLaws, InUtf8, InNumeric, InVisible, InIa5, InPrintable}
 use Rattle.yasna_base.proofs.Canonical.{written_along, written_always}
-use Rattle.yasna_base.proofs.Coding.{equal_same, along, any_coding}
+use Rattle.yasna_base.proofs.Coding.{equal_same, along}
 use Rattle.yasna_base.proofs.Cut.{cut_exact, cut_starts, cut_deeper, cut_level}
 use Rattle.yasna_base.proofs.Digits.{bytes_append}
 use Rattle.yasna_base.proofs.Identifier.{not_end}
@@ -154,8 +154,8 @@ same_string s t e =
     sym (encodes-chars (string_bytes s) (IsUtf8-string_bytes s)) ∙ ap encode_utf8_all e ∙ encodes-chars (string_bytes t) (IsUtf8-string_bytes t)
 
 -- under its own tag, of strings that are equal where their characters are
-pub text_coding : IsCoding (λ (v w : String Global). characters v ≡ characters w) EncodesString (Any EncodesString)
-text_coding = any_coding (along characters (class_coding InUtf8 (universal 12) (not_end 12 (λ e. omega arith))))
+pub text_coding : IsCoding (λ (v w : String Global). characters v ≡ characters w) EncodesString (Any EncodesText)
+text_coding = along characters (class_coding InUtf8 (universal 12) (not_end 12 (λ e. omega arith)))
 
 pub text_written : IsWritten (λ (v w : String Global). characters v ≡ characters w) EncodesString
     (λ m v. utf8_form (universal 12) m (characters v)) leaf_nest Always

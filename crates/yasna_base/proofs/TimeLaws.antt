@@ -5,13 +5,13 @@ use Rattle.yasna_base.specs.declared.models.utc_time.UTCTime.{UTCTime}
 use Rattle.yasna_base.specs.declared.tag.Tag.{Tag}
 use Rattle.yasna_base.specs.Canonical.{leaf_nest, Always, IsWritten}
 use Rattle.yasna_base.specs.Coding.{IsCoding, Any}
-use Rattle.yasna_base.specs.GeneralizedTime.{IsGeneralMoment, SaysGeneralizedTime, GeneralizedTimeKeepsLaws, general_text, generalized_time_form}
+use Rattle.yasna_base.specs.GeneralizedTime.{IsGeneralMoment, SaysGeneralizedTime, EncodesGeneralizedTime, GeneralizedTimeKeepsLaws, general_text, generalized_time_form}
 use Rattle.yasna_base.specs.Identifier.{universal}
 use Rattle.yasna_base.specs.Models.{utc_of, moment_of, EncodesUtc, EncodesGeneral}
 use Rattle.yasna_base.specs.Text.{IsStringOf}
-use Rattle.yasna_base.specs.UtcTime.{IsUtcDateTime, SaysUtcTime, UtcTimeKeepsLaws, utc_text, utc_time_form}
+use Rattle.yasna_base.specs.UtcTime.{IsUtcDateTime, SaysUtcTime, EncodesUtcTime, UtcTimeKeepsLaws, utc_text, utc_time_form}
 use Rattle.yasna_base.proofs.Canonical.{written_along, written_where}
-use Rattle.yasna_base.proofs.Coding.{along, any_coding}
+use Rattle.yasna_base.proofs.Coding.{along}
 use Rattle.yasna_base.proofs.GeneralText.{general_says_one, general_says_can, general_says_canonical, general_says_only, general_text_bytes}
 use Rattle.yasna_base.proofs.Identifier.{not_end}
 use Rattle.yasna_base.proofs.Texts.{string_coding, string_written}
@@ -37,15 +37,15 @@ pub generalized_time_keeps : GeneralizedTimeKeepsLaws
 generalized_time_keeps t not_end range = (string_coding SaysGeneralizedTime general_says_one t not_end, generalized_time_written t range)
 
 -- under its own tag, of times that are equal where their date-times are
-pub utc_coding : IsCoding (λ v w. utc_of v ≡ utc_of w) EncodesUtc (Any EncodesUtc)
-utc_coding = any_coding (along utc_of (string_coding SaysUtcTime utc_says_one (universal 23) (not_end 23 (λ e. omega arith))))
+pub utc_coding : IsCoding (λ v w. utc_of v ≡ utc_of w) EncodesUtc (Any EncodesUtcTime)
+utc_coding = along utc_of (string_coding SaysUtcTime utc_says_one (universal 23) (not_end 23 (λ e. omega arith)))
 
 pub utc_written : IsWritten (λ v w. utc_of v ≡ utc_of w) EncodesUtc (λ m v. utc_time_form (universal 23) m (utc_of v)) leaf_nest Always
 utc_written = written_where (λ (v : UTCTime). (λ can. tt, λ can. v.in_range)) (written_along utc_of (utc_time_written (universal 23) (omega arith)))
 
 -- under its own tag, of times that are equal where their moments are
-pub general_coding : IsCoding (λ v w. moment_of v ≡ moment_of w) EncodesGeneral (Any EncodesGeneral)
-general_coding = any_coding (along moment_of (string_coding SaysGeneralizedTime general_says_one (universal 24) (not_end 24 (λ e. omega arith))))
+pub general_coding : IsCoding (λ v w. moment_of v ≡ moment_of w) EncodesGeneral (Any EncodesGeneralizedTime)
+general_coding = along moment_of (string_coding SaysGeneralizedTime general_says_one (universal 24) (not_end 24 (λ e. omega arith)))
 
 pub general_written : IsWritten (λ v w. moment_of v ≡ moment_of w) EncodesGeneral (λ m v. generalized_time_form (universal 24) m (moment_of v))
     leaf_nest Always

@@ -5,8 +5,8 @@ ghost use Rattle.yasna.specs.base.Identifier.{universal};
 ghost use Rattle.yasna.specs.base.declared.mode.BERMode.TheVariants.{Ber, Der};
 ghost use Rattle.yasna.specs.base.Coding.{Any};
 ghost use Rattle.yasna.specs.base.Digits.{IsBytes};
-ghost use Rattle.yasna.specs.base.Octets.{EncodesVec, octets_tag, octets_form};
-ghost use Rattle.yasna.specs.base.Text.{EncodesString, characters, utf8_form};
+ghost use Rattle.yasna.specs.base.Octets.{EncodesOctets, EncodesVec, octets_tag, octets_form};
+ghost use Rattle.yasna.specs.base.Text.{EncodesText, EncodesString, characters, utf8_form};
 ghost use Rattle.yasna.specs.base.Sequence.{sequence_tag, PartOf, NoParts, AnyPart, AnyNothing, SamePart, SameNothing};
 ghost use Rattle.yasna.specs.base.Element.{Enclosed, AnyEnclosed};
 ghost use Rattle.yasna.specs.base.Element.{Primitively};
@@ -183,7 +183,7 @@ pub struct Report {
 impl BERDecodable for Report {
     ghost encodes = { λ m n v b. Enclosed (PartOf EncodesString (PartOf EncodesVec (PartOf (EncodesSigned w64) NoParts))) sequence_tag m n (v.name, (v.raw, (v.number, tt))) b };
 
-    ghost elements = { AnyEnclosed (AnyPart (Any EncodesString) (AnyPart (Any EncodesVec) (AnyPart (Any (EncodesSigned w64)) AnyNothing))) sequence_tag };
+    ghost elements = { AnyEnclosed (AnyPart (Any EncodesText) (AnyPart (Any EncodesOctets) (AnyPart (Any (EncodesSigned w64)) AnyNothing))) sequence_tag };
 
     ghost asks_memory = { (true || (true || (false || false))) };
 
@@ -193,7 +193,7 @@ impl BERDecodable for Report {
         reader.read_sequence(
             |seq| -> ASN1Result<Report>
                 requires { IsFresh (part_of seq.old) }
-                ensures { Step (Decodes true EncodesString (Any EncodesString)) (λ name. Step (Decodes true EncodesVec (Any EncodesVec)) (λ raw. Step (Decodes false (EncodesSigned w64) (Any (EncodesSigned w64))) (λ number. Done (record { name = name; raw = raw; number = number })))) (part_of seq.old) result (part_of seq.new) }
+                ensures { Step (Decodes true EncodesString (Any EncodesText)) (λ name. Step (Decodes true EncodesVec (Any EncodesOctets)) (λ raw. Step (Decodes false (EncodesSigned w64) (Any (EncodesSigned w64))) (λ number. Done (record { name = name; raw = raw; number = number })))) (part_of seq.old) result (part_of seq.new) }
             {
                 let name = String::decode_ber(seq.next())?;
                 let raw = Vec::<u8>::decode_ber(seq.next())?;

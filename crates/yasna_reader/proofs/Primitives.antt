@@ -10,75 +10,61 @@ use Rattle.yasna_base.specs.Coding.{Any}
 use Rattle.yasna_base.proofs.Identifier.{not_end}
 use Rattle.yasna_reader.specs.declared.bytes.header.Refusal.{Refusal}
 use Rattle.yasna_reader.specs.State.{Reading, IsFresh, untagged, refusing, tag_of}
-use Rattle.yasna_reader.specs.Front.{Takes, Stands, AtFront, SeenAt}
+use Rattle.yasna_reader.specs.Front.{Takes, SeenAt}
 use Rattle.yasna_reader.specs.Contents.{Never, WantsMemory}
-use Rattle.yasna_reader.specs.Primitive.{RefusedAs, ReadsFront, ReadsUnlessKept, Settles, FrontOf, Reads, NoLevel}
+use Rattle.yasna_reader.specs.Primitive.{RefusedAs, ReadsFront, ReadsUnlessKept, Settles, FrontOf, ReadsSeen, Reads, NoLevel}
 use Rattle.yasna_reader.specs.Decodes.{Tells, KeptTells, Took, NotTook, IsQuietAtEnd, Decodes}
-use Rattle.yasna_reader.proofs.Refusal.{plain_of, at_end_elsewhere, not_at_end, refuses_less}
+use Rattle.yasna_reader.proofs.Refusal.{plain_of, at_end_elsewhere, not_at_end}
 
-settled : {A : Type 0} (B : A → List ℕ → Type 0) (D M : Type 0) (t : Tag) (s : Reading) (f : Result (A × Bor (List ℕ)) Refusal) (r : Result A ASN1Error)
-    (s' : Reading) → AtFront B D M t s.left f → Settles (untagged s) f r s' → ReadsUnlessKept None B D M t s r s'
-settled B D M t s (Ok x) (Ok v) s' a b = record { rest = x.1.now; takes = let e : x.0 ≡ v = cc (b.0) in subst (λ z. Takes B s.left z x.1.now) e a; state = b.1 }
-settled B D M t s (Ok x) (Err e) s' a b = let f = b.0 in absurd (cc)
-settled B D M t s (Err x) (Ok v) s' a b = let f = b.0 in absurd (cc)
-settled {A} B D M t s (Err x) (Err e) s' a b =
+settled : {V A : Type 0} (B : A → List ℕ → Type 0) (view : V → A) (D M : Type 0) (t : Tag) (s : Reading) (f : Result (V × Bor (List ℕ)) Refusal)
+    (r : Result V ASN1Error) (s' : Reading) → SeenAt B view D M t s.left f → Settles (untagged s) f r s' → ReadsUnlessKept None B view D M t s r s'
+settled B view D M t s (Ok x) (Ok v) s' a b =
+    record { rest = x.1.now; takes = let e : x.0 ≡ v = cc (b.0) in subst (λ z. Takes B s.left (view z) x.1.now) e a; state = b.1 }
+settled B view D M t s (Ok x) (Err e) s' a b = let f = b.0 in absurd (cc)
+settled B view D M t s (Err x) (Ok v) s' a b = let f = b.0 in absurd (cc)
+settled B view D M t s (Err x) (Err e) s' a b =
     let g : record { kind = x.kind } ≡ e = let f = b.0 in cc in
     record { refusal = x; kind = ap kind_of g; refuses = a; state = b.1 ∙ ap (refusing x.moved (untagged s)) g }
 
--- what was found at the front, with the reading settled, is what a typed read does
-pub settled_reads : {A : Type 0} (B : A → List ℕ → Type 0) (D M : Type 0) (t : Tag) (s : Reading) (f : Result (A × Bor (List ℕ)) Refusal)
-    (r : Result A ASN1Error) (s' : Reading) → s.kept ≡ None → AtFront B D M t s.left f → Settles (untagged s) f r s' → ReadsUnlessKept s.kept B D M t s r s'
-settled_reads B D M t s f r s' e a b = subst (λ k. ReadsUnlessKept k B D M t s r s') (sym e) (settled B D M t s f r s' a b)
-
 -- what was found with the fields of a reading was found for the reading
-pub at_view : {A : Type 0} (B : ℕ → BERMode → Tag → A → List ℕ → Type 0) (D : ℕ → BERMode → Tag → List ℕ → Type 0) (M : ℕ → Tag → List ℕ → Type 0)
-    (tag u : Tag) (z s : Reading) (r : Result (A × Bor (List ℕ)) Refusal) → z ≡ s → u ≡ tag_of s tag →
-    AtFront (B z.levels z.mode u) (D z.levels z.mode u z.left) (M z.levels u z.left) u z.left r → FrontOf B D M tag s r
-at_view B D M tag u z s r e f x =
-    let y = subst (λ u. AtFront (B z.levels z.mode u) (D z.levels z.mode u z.left) (M z.levels u z.left) u z.left r) f x in
-    subst (λ z. AtFront (B z.levels z.mode (tag_of s tag)) (D z.levels z.mode (tag_of s tag) z.left) (M z.levels (tag_of s tag) z.left) (tag_of s tag) z.left
-    r) e y
-
--- where a value is seen as view says, it stands for what is seen of it
-seen_front : {V A : Type 0} (B : A → List ℕ → Type 0) (view : V → A) (D M : Type 0) (t : Tag) (s : List ℕ) (r : Result (V × Bor (List ℕ)) Refusal) →
-    SeenAt B view D M t s r → AtFront (λ v b. B (view v) b) D M t s r
-seen_front B view D M t s (Ok x) h = record { front = h.front; joined = h.joined; member = h.member }
-seen_front {V} {A} B view D M t s (Err e) h = refuses_less (Stands B s) (Stands {A = V} (λ v b. B (view v) b) s) D M t s e
-    (λ w. (view w.0, w.1, record { front = w.2.front; joined = w.2.joined; member = w.2.member })) h
-
--- what was seen with the fields of a reading was found for the reading
-pub seen_at_view : {V A : Type 0} (B : ℕ → BERMode → Tag → A → List ℕ → Type 0) (view : V → A) (D : ℕ → BERMode → Tag → List ℕ → Type 0)
+pub at_view : {V A : Type 0} (B : ℕ → BERMode → Tag → A → List ℕ → Type 0) (view : V → A) (D : ℕ → BERMode → Tag → List ℕ → Type 0)
     (M : ℕ → Tag → List ℕ → Type 0) (tag u : Tag) (z s : Reading) (r : Result (V × Bor (List ℕ)) Refusal) → z ≡ s → u ≡ tag_of s tag →
-    SeenAt (B z.levels z.mode u) view (D z.levels z.mode u z.left) (M z.levels u z.left) u z.left r → FrontOf (λ n m t v b. B n m t (view v) b) D M tag s r
-seen_at_view B view D M tag u z s r e f x = at_view (λ n m t v b. B n m t (view v) b) D M tag u z s r e f
-    (seen_front (B z.levels z.mode u) view (D z.levels z.mode u z.left) (M z.levels u z.left) u z.left r x)
+    SeenAt (B z.levels z.mode u) view (D z.levels z.mode u z.left) (M z.levels u z.left) u z.left r → FrontOf B view D M tag s r
+at_view B view D M tag u z s r e f x =
+    let y = subst (λ u. SeenAt (B z.levels z.mode u) view (D z.levels z.mode u z.left) (M z.levels u z.left) u z.left r) f x in
+    subst (λ z. SeenAt (B z.levels z.mode (tag_of s tag)) view (D z.levels z.mode (tag_of s tag) z.left) (M z.levels (tag_of s tag) z.left) (tag_of s tag)
+    z.left r) e y
 
--- the same of a whole typed read
-pub reads_front : {A : Type 0} (B : ℕ → BERMode → Tag → A → List ℕ → Type 0) (D : ℕ → BERMode → Tag → List ℕ → Type 0) (M : ℕ → Tag → List ℕ → Type 0)
-    (tag : Tag) (s : Reading) (f : Result (A × Bor (List ℕ)) Refusal) (r : Result A ASN1Error) (s' : Reading) → s.kept ≡ None → FrontOf B D M tag s f →
-    Settles (untagged s) f r s' → Reads B D M tag s r s'
-reads_front B D M tag s f r s' e a b = record {
-  reads = settled_reads (B s.levels s.mode (tag_of s tag)) (D s.levels s.mode (tag_of s tag) s.left)
-      (M s.levels (tag_of s tag) s.left) (tag_of s tag) s f r s' e a b;
+-- what was found at the front, with the reading settled, is what a typed read does
+pub reads_front : {V A : Type 0} (B : ℕ → BERMode → Tag → A → List ℕ → Type 0) (view : V → A) (D : ℕ → BERMode → Tag → List ℕ → Type 0)
+    (M : ℕ → Tag → List ℕ → Type 0) (tag : Tag) (s : Reading) (f : Result (V × Bor (List ℕ)) Refusal) (r : Result V ASN1Error) (s' : Reading) →
+    s.kept ≡ None → FrontOf B view D M tag s f → Settles (untagged s) f r s' → ReadsSeen B view D M tag s r s'
+reads_front B view D M tag s f r s' e a b = record {
+  reads = subst
+      (λ k. ReadsUnlessKept k (B s.levels s.mode (tag_of s tag)) view (D s.levels s.mode (tag_of s tag) s.left) (M s.levels (tag_of s tag) s.left)
+      (tag_of s tag) s r s') (sym e)
+      (settled (B s.levels s.mode (tag_of s tag)) view (D s.levels s.mode (tag_of s tag) s.left) (M s.levels (tag_of s tag) s.left) (tag_of s tag) s f r s'
+      a b);
 }
 
 -- a typed read with a failure kept answers that failure
-pub reads_kept : {A : Type 0} (B : ℕ → BERMode → Tag → A → List ℕ → Type 0) (D : ℕ → BERMode → Tag → List ℕ → Type 0) (M : ℕ → Tag → List ℕ → Type 0)
-    (tag : Tag) (s : Reading) (e : ASN1Error) (r : Result A ASN1Error) (s' : Reading) → s.kept ≡ Some e → r ≡ Err e → s' ≡ untagged s → Reads B D M tag s r s'
-reads_kept B D M tag s e r s' k f g = record {
+pub reads_kept : {V A : Type 0} (B : ℕ → BERMode → Tag → A → List ℕ → Type 0) (view : V → A) (D : ℕ → BERMode → Tag → List ℕ → Type 0)
+    (M : ℕ → Tag → List ℕ → Type 0) (tag : Tag) (s : Reading) (e : ASN1Error) (r : Result V ASN1Error) (s' : Reading) → s.kept ≡ Some e → r ≡ Err e →
+    s' ≡ untagged s → ReadsSeen B view D M tag s r s'
+reads_kept B view D M tag s e r s' k f g = record {
   reads = subst
-      (λ k. ReadsUnlessKept k (B s.levels s.mode (tag_of s tag)) (D s.levels s.mode (tag_of s tag) s.left) (M s.levels (tag_of s tag) s.left) (tag_of s tag) s
-      r s') (sym k) (f, g);
+      (λ k. ReadsUnlessKept k (B s.levels s.mode (tag_of s tag)) view (D s.levels s.mode (tag_of s tag) s.left) (M s.levels (tag_of s tag) s.left)
+      (tag_of s tag) s r s') (sym k) (f, g);
 }
 
-fresh : {A : Type 0} (B : ℕ → BERMode → Tag → A → List ℕ → Type 0) (D : ℕ → BERMode → Tag → List ℕ → Type 0) (M : ℕ → Tag → List ℕ → Type 0) (t : Tag)
-    (s : Reading) (r : Result A ASN1Error) (s' : Reading) → IsFresh s → Reads B D M t s r s' →
-    ReadsUnlessKept None (B s.levels s.mode t) (D s.levels s.mode t s.left) (M s.levels t s.left) t s r s'
-fresh B D M t s r s' f x =
-    let y = subst (λ k. ReadsUnlessKept k (B s.levels s.mode (tag_of s t)) (D s.levels s.mode (tag_of s t) s.left) (M s.levels (tag_of s t) s.left)
+fresh : {V A : Type 0} (B : ℕ → BERMode → Tag → A → List ℕ → Type 0) (view : V → A) (D : ℕ → BERMode → Tag → List ℕ → Type 0)
+    (M : ℕ → Tag → List ℕ → Type 0) (t : Tag) (s : Reading) (r : Result V ASN1Error) (s' : Reading) → IsFresh s → ReadsSeen B view D M t s r s' →
+    ReadsUnlessKept None (B s.levels s.mode t) view (D s.levels s.mode t s.left) (M s.levels t s.left) t s r s'
+fresh B view D M t s r s' f x =
+    let y = subst (λ k. ReadsUnlessKept k (B s.levels s.mode (tag_of s t)) view (D s.levels s.mode (tag_of s t) s.left) (M s.levels (tag_of s t) s.left)
     (tag_of s t) s r s') f.0 x.reads in
-    subst (λ u. ReadsUnlessKept None (B s.levels s.mode (tag_or u t)) (D s.levels s.mode (tag_or u t) s.left) (M s.levels (tag_or u t) s.left) (tag_or u t) s
-    r s') f.1 y
+    subst (λ u. ReadsUnlessKept None (B s.levels s.mode (tag_or u t)) view (D s.levels s.mode (tag_or u t) s.left) (M s.levels (tag_or u t) s.left)
+    (tag_or u t) s r s') f.1 y
 
 -- nothing is too deep at an end
 pub no_level_at_end : (n : ℕ) (m : BERMode) (t : Tag) (s : List ℕ) → (t ≡ end_tag → ⊥) → AtEnd s → NoLevel n m t s → ⊥
@@ -98,12 +84,12 @@ stays s e = ap (λ t. record s { tag = t }) (sym e)
 
 -- What a fresh reading decodes, where the encodings of a type are what a typed read takes, at an end nothing is too deep
 -- or wants memory, and asks says whether memory may be wanting.
-module _ {A : Type 0} (asks : Bool) (B : ℕ → BERMode → Tag → A → List ℕ → Type 0) (D : ℕ → BERMode → Tag → List ℕ → Type 0) (M : ℕ → Tag → List ℕ → Type 0)
-    (B' : BERMode → ℕ → A → List ℕ → Type 0) (S' : BERMode → ℕ → List ℕ → Type 0) (t : Tag) (other : t ≡ end_tag → ⊥)
-    (says : (m : BERMode) (n : ℕ) (v : A) (b : List ℕ) → B n m t v b → B' m n v b)
+module _ {V A : Type 0} (asks : Bool) (B : ℕ → BERMode → Tag → A → List ℕ → Type 0) (view : V → A) (D : ℕ → BERMode → Tag → List ℕ → Type 0)
+    (M : ℕ → Tag → List ℕ → Type 0) (B' : BERMode → ℕ → V → List ℕ → Type 0) (S' : BERMode → ℕ → List ℕ → Type 0) (t : Tag) (other : t ≡ end_tag → ⊥)
+    (says : (m : BERMode) (n : ℕ) (v : V) (b : List ℕ) → B n m t (view v) b → B' m n v b)
     (asked : (m : BERMode) (n : ℕ) (b : List ℕ) → S' m n b → (v : A) × B n m t v b) (deep : (n : ℕ) (m : BERMode) (s : List ℕ) → AtEnd s → D n m t s → ⊥)
     (memory : (n : ℕ) (s : List ℕ) → AtEnd s → M n t s → ⊥) (may : (n : ℕ) (s : List ℕ) → M n t s → asks ≡ true) where
-  took : (s : Reading) (v : A) (s' : Reading) → s.tag ≡ None → ReadsFront (B s.levels s.mode t) s v s' → Took (B' s.mode s.levels) s v s'
+  took : (s : Reading) (v : V) (s' : Reading) → s.tag ≡ None → ReadsFront (B s.levels s.mode t) s (view v) s' → Took (B' s.mode s.levels) s v s'
   took s v s' f y = record {
     front = y.takes.front;
     rest = y.rest;
@@ -145,36 +131,29 @@ module _ {A : Type 0} (asks : Bool) (B : ℕ → BERMode → Tag → A → List 
     plain_of (kind_of e) (λ i. deep s.levels s.mode s.left a (y.refuses.too_deep (y.kind ∙ i))) (λ i. memory s.levels s.left a (y.refuses.memory (y.kind ∙ i))),
   )
 
-  decodes : (s : Reading) (r : Result A ASN1Error) (s' : Reading) → IsFresh s →
-      ReadsUnlessKept None (B s.levels s.mode t) (D s.levels s.mode t s.left) (M s.levels t s.left) t s r s' → Decodes asks B' S' s r s'
+  decodes : (s : Reading) (r : Result V ASN1Error) (s' : Reading) → IsFresh s →
+      ReadsUnlessKept None (B s.levels s.mode t) view (D s.levels s.mode t s.left) (M s.levels t s.left) t s r s' → Decodes asks B' S' s r s'
   decodes s (Ok v) s' f y = took s v s' f.1 y
   decodes s (Err e) s' f y = (refused s e s' f y, quiet s e s' f.1 y)
 
   -- such a read decodes
-  pub asked_decodes : (s : Reading) (r : Result A ASN1Error) (s' : Reading) → IsFresh s → Reads B D M t s r s' → Decodes asks B' S' s r s'
-  asked_decodes s r s' f x = decodes s r s' f (fresh B D M t s r s' f x)
+  pub asked_decodes : (s : Reading) (r : Result V ASN1Error) (s' : Reading) → IsFresh s → ReadsSeen B view D M t s r s' → Decodes asks B' S' s r s'
+  asked_decodes s r s' f x = decodes s r s' f (fresh B view D M t s r s' f x)
 
--- a typed read that goes one level down and takes no memory decodes
-pub reads_decodes : {A : Type 0} (B : ℕ → BERMode → Tag → A → List ℕ → Type 0) (B' : BERMode → ℕ → A → List ℕ → Type 0) (S' : BERMode → ℕ → List ℕ → Type 0)
-    (t : Tag) → (t ≡ end_tag → ⊥) → ((m : BERMode) (n : ℕ) (v : A) (b : List ℕ) → B n m t v b → B' m n v b) →
-    ((m : BERMode) (n : ℕ) (b : List ℕ) → S' m n b → (v : A) × B n m t v b) → (s : Reading) (r : Result A ASN1Error) (s' : Reading) → IsFresh s →
-    Reads B NoLevel Never t s r s' → Decodes false B' S' s r s'
-reads_decodes B B' S' t n says asked = asked_decodes false B NoLevel Never B' S' t n says asked (λ k m s. no_level_at_end k m t s n) (λ _ _ _ x. x)
-    (λ _ _ x. absurd x)
-
--- a typed read under the type's own tag
+-- a typed read under the type's own tag that goes one level down and takes no memory decodes
 pub leaf_decodes : {A : Type 0} (B : ℕ → BERMode → Tag → A → List ℕ → Type 0) (k : ℕ) → (k ≡ 0 → ⊥) → (s : Reading) (r : Result A ASN1Error) (s' : Reading) →
     s.tag ≡ None → Reads B NoLevel Never (universal k) s r s' → s.kept ≡ None →
     Decodes false (λ m n v b. B n m (universal k) v b) (Any (λ m n v b. B n m (universal k) v b)) s r s'
-leaf_decodes B k h s r s' t x f = reads_decodes B (λ m n v b. B n m (universal k) v b) (Any (λ m n v b. B n m (universal k) v b)) (universal k) (not_end k h)
-    (λ m n v b y. y) (λ m n b y. y) s r s' (f, t) x
+leaf_decodes B k h s r s' t x f =
+    asked_decodes false B (λ v. v) NoLevel Never (λ m n v b. B n m (universal k) v b) (Any (λ m n v b. B n m (universal k) v b)) (universal k) (not_end k h)
+    (λ m n v b y. y) (λ m n b y. y) (λ n m z. no_level_at_end n m (universal k) z (not_end k h)) (λ _ _ _ y. y) (λ _ _ y. absurd y) s r s' (f, t) x
 
--- a typed read under the type's own tag that may want memory decodes, where what lies too deep begins with that tag
-pub asking_decodes : {A : Type 0} (B : ℕ → BERMode → Tag → A → List ℕ → Type 0) (D : ℕ → BERMode → Tag → List ℕ → Type 0) (k : ℕ) → (k ≡ 0 → ⊥) →
-    ((n : ℕ) (m : BERMode) (s : List ℕ) → D n m (universal k) s → BeginsWithTag (universal k) s) → (s : Reading) (r : Result A ASN1Error) (s' : Reading) →
-    s.tag ≡ None → Reads B D WantsMemory (universal k) s r s' → s.kept ≡ None →
-    Decodes true (λ m n v b. B n m (universal k) v b) (Any (λ m n v b. B n m (universal k) v b)) s r s'
-asking_decodes B D k h begins_so s r s' t x f =
-    asked_decodes true B D WantsMemory (λ m n v b. B n m (universal k) v b) (Any (λ m n v b. B n m (universal k) v b)) (universal k) (not_end k h)
+-- so does one that may want memory, where what lies too deep begins with that tag
+pub asking_decodes : {V A : Type 0} (B : ℕ → BERMode → Tag → A → List ℕ → Type 0) (view : V → A) (D : ℕ → BERMode → Tag → List ℕ → Type 0) (k : ℕ) →
+    (k ≡ 0 → ⊥) → ((n : ℕ) (m : BERMode) (s : List ℕ) → D n m (universal k) s → BeginsWithTag (universal k) s) → (s : Reading) (r : Result V ASN1Error)
+    (s' : Reading) → s.tag ≡ None → ReadsSeen B view D WantsMemory (universal k) s r s' → s.kept ≡ None →
+    Decodes true (λ m n v b. B n m (universal k) (view v) b) (Any (λ m n v b. B n m (universal k) v b)) s r s'
+asking_decodes B view D k h begins_so s r s' t x f =
+    asked_decodes true B view D WantsMemory (λ m n v b. B n m (universal k) (view v) b) (Any (λ m n v b. B n m (universal k) v b)) (universal k) (not_end k h)
     (λ m n v b y. y) (λ m n b y. y) (λ n m z a d. not_at_end (universal k) z (not_end k h) a (begins_so n m z d))
     (λ n z a w. not_at_end (universal k) z (not_end k h) a (begins w.bit (w.size ∷ w.after) w.joined)) (λ n z w. refl) s r s' (f, t) x

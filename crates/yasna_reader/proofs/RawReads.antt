@@ -54,22 +54,23 @@ lacks_copy N n m s e x r y k f =
       memory = λ _. (raw_level n m (element_of x) x.bytes.now y.raw, i);
     }
 
-settled_raw : {A : Type 0} (B : ℕ → BERMode → A → List ℕ → Type 0) (s : Reading) (f : Result (A × Bor (List ℕ)) Refusal) (r : Result A ASN1Error)
-    (s' : Reading) → CopiedAt B s.levels s.mode s.left f → Settles (untagged s) f r s' → ReadsRawUnlessKept None B s r s'
-settled_raw B s (Ok x) (Ok v) s' a b =
-    record { rest = x.1.now; takes = let e : x.0 ≡ v = cc (b.0) in subst (λ z. Takes (B s.levels s.mode) s.left z x.1.now) e a; state = b.1 }
-settled_raw B s (Ok x) (Err e) s' a b = let f = b.0 in absurd (cc)
-settled_raw B s (Err x) (Ok v) s' a b = let f = b.0 in absurd (cc)
-settled_raw B s (Err x) (Err e) s' a b =
+settled_raw : {V A : Type 0} (B : ℕ → BERMode → A → List ℕ → Type 0) (view : V → A) (s : Reading) (f : Result (V × Bor (List ℕ)) Refusal)
+    (r : Result V ASN1Error) (s' : Reading) → CopiedAt B view s.levels s.mode s.left f → Settles (untagged s) f r s' → ReadsRawUnlessKept None B view s r s'
+settled_raw B view s (Ok x) (Ok v) s' a b =
+    record { rest = x.1.now; takes = let e : x.0 ≡ v = cc (b.0) in subst (λ z. Takes (B s.levels s.mode) s.left (view z) x.1.now) e a; state = b.1 }
+settled_raw B view s (Ok x) (Err e) s' a b = let f = b.0 in absurd (cc)
+settled_raw B view s (Err x) (Ok v) s' a b = let f = b.0 in absurd (cc)
+settled_raw B view s (Err x) (Err e) s' a b =
     let g : record { kind = x.kind } ≡ e = let f = b.0 in cc in
     record { refusal = x; kind = ap kind_of g; refuses = a; state = b.1 ∙ ap (refusing x.moved (untagged s)) g }
 
 -- what was found at the front, with the reading settled, is what a read does
-pub reads_raw : {A : Type 0} (B : ℕ → BERMode → A → List ℕ → Type 0) (s : Reading) (f : Result (A × Bor (List ℕ)) Refusal) (r : Result A ASN1Error)
-    (s' : Reading) → s.kept ≡ None → CopiedAt B s.levels s.mode s.left f → Settles (untagged s) f r s' → ReadsRaw B s r s'
-reads_raw B s f r s' e a b = record { reads = subst (λ k. ReadsRawUnlessKept k B s r s') (sym e) (settled_raw B s f r s' a b) }
+pub reads_raw : {V A : Type 0} (B : ℕ → BERMode → A → List ℕ → Type 0) (view : V → A) (s : Reading) (f : Result (V × Bor (List ℕ)) Refusal)
+    (r : Result V ASN1Error) (s' : Reading) → s.kept ≡ None → CopiedAt B view s.levels s.mode s.left f → Settles (untagged s) f r s' →
+    ReadsRaw B view s r s'
+reads_raw B view s f r s' e a b = record { reads = subst (λ k. ReadsRawUnlessKept k B view s r s') (sym e) (settled_raw B view s f r s' a b) }
 
 -- with a failure kept a read answers that failure
-pub reads_raw_kept : {A : Type 0} (B : ℕ → BERMode → A → List ℕ → Type 0) (s : Reading) (e : ASN1Error) (r : Result A ASN1Error) (s' : Reading) →
-    s.kept ≡ Some e → r ≡ Err e → s' ≡ untagged s → ReadsRaw B s r s'
-reads_raw_kept B s e r s' k f g = record { reads = subst (λ k. ReadsRawUnlessKept k B s r s') (sym k) (f, g) }
+pub reads_raw_kept : {V A : Type 0} (B : ℕ → BERMode → A → List ℕ → Type 0) (view : V → A) (s : Reading) (e : ASN1Error) (r : Result V ASN1Error)
+    (s' : Reading) → s.kept ≡ Some e → r ≡ Err e → s' ≡ untagged s → ReadsRaw B view s r s'
+reads_raw_kept B view s e r s' k f g = record { reads = subst (λ k. ReadsRawUnlessKept k B view s r s') (sym k) (f, g) }

@@ -2,7 +2,7 @@
 use Rattle.std.specs.Borrow.{Bor}
 use Rattle.std.specs.Global.{Global}
 use Rattle.std.specs.Prelude.{Bool, Err, List, Ok, Result, Vec, ℕ, ◌++◌, ◌∷◌, ◌≡◌, ◌≤◌, ◌⊎◌}
-use Rattle.yasna_base.specs.BigInteger.{IsBigInteger}
+use Rattle.yasna_base.specs.BigInteger.{BigInteger}
 use Rattle.yasna_base.specs.Identifier.{identifier}
 use Rattle.yasna_base.specs.Element.{IsPrimitive, Primitively}
 use Rattle.yasna_base.specs.declared.error.ASN1ErrorKind.{ASN1ErrorKind}
@@ -10,7 +10,7 @@ use Rattle.yasna_base.specs.declared.error.ASN1ErrorKind.TheVariants.{OutOfMemor
 use Rattle.yasna_base.specs.declared.mode.BERMode.{BERMode}
 use Rattle.yasna_base.specs.declared.tag.PCBit.{PCBit}
 use Rattle.yasna_base.specs.declared.tag.Tag.{Tag}
-use Rattle.yasna_reader.specs.Front.{Takes, AtFront}
+use Rattle.yasna_reader.specs.Front.{Takes, SeenAt}
 use Rattle.yasna_reader.specs.Header.{AreContents}
 use Rattle.yasna_reader.specs.Refusal.{IsPlain, IsTooDeep}
 use Rattle.yasna_reader.specs.declared.bytes.header.Refusal.{Refusal}
@@ -19,10 +19,10 @@ use Rattle.yasna_reader.specs.declared.bytes.header.Refusal.{Refusal}
 abbrev pub MayWant : (ℕ → Tag → List ℕ → Type 0) → List ℕ → Type 0
 MayWant M c = (n : ℕ) (m : BERMode) (t : Tag) (s r : List ℕ) → Takes (IsPrimitive AreContents n m t) s c r → M n t s
 
--- contents that are taken exactly where W says so, want of memory aside
-abbrev pub Decides : {A : Type 0} → (A → List ℕ → Type 0) → (ℕ → Tag → List ℕ → Type 0) → List ℕ → Result A ASN1ErrorKind → Type 0
-Decides {A} W M c (Ok v) = W v c
-Decides {A} W M c (Err k) = ((k ≡ OutOfMemory) × MayWant M c) ⊎ (IsPlain k × ((v : A) → W v c → ⊥))
+-- contents that are taken exactly where they say by W what the view of a value is, want of memory aside
+abbrev pub Decides : {V A : Type 0} → (A → List ℕ → Type 0) → (V → A) → (ℕ → Tag → List ℕ → Type 0) → List ℕ → Result V ASN1ErrorKind → Type 0
+Decides {V} {A} W view M c (Ok v) = W (view v) c
+Decides {V} {A} W view M c (Err k) = ((k ≡ OutOfMemory) × MayWant M c) ⊎ (IsPlain k × ((v : A) → W v c → ⊥))
 
 -- a read that takes no memory
 abbrev pub Never : ℕ → Tag → List ℕ → Type 0
@@ -38,10 +38,11 @@ pub record WantsMemory (n : ℕ) (t : Tag) (s : List ℕ) : Type 0 where
   pub joined : s ≡ identifier t bit ++ (size ∷ after)
 
 -- the contents of an INTEGER as they are, and whether the number isn't negative
-abbrev pub HoldsBigInteger : BERMode → Vec ℕ Global × Bool → List ℕ → Type 0
-HoldsBigInteger m v c = IsBigInteger m (record { bytes = v.0.items; positive = v.1 }) c
+abbrev pub big_integer_in : Vec ℕ Global × Bool → BigInteger
+big_integer_in v = record { bytes = v.0.items; positive = v.1 }
 
--- a primitive element whose contents say a value by W, and the rest, or a refusal; memory may be wanting where M says so
-abbrev pub ValueAt : {A : Type 0} → (BERMode → A → List ℕ → Type 0) → (ℕ → Tag → List ℕ → Type 0) → ℕ → BERMode → Tag → List ℕ →
-    Result (A × Bor (List ℕ)) Refusal → Type 0
-ValueAt W M n m t s r = AtFront (Primitively W n m t) (IsTooDeep n t s) (M n t s) t s r
+-- a primitive element whose contents say by W what the view of a value is, and the rest, or a refusal; memory may be wanting
+-- where M says so
+abbrev pub ValueAt : {V A : Type 0} → (BERMode → A → List ℕ → Type 0) → (V → A) → (ℕ → Tag → List ℕ → Type 0) → ℕ → BERMode → Tag → List ℕ →
+    Result (V × Bor (List ℕ)) Refusal → Type 0
+ValueAt W view M n m t s r = SeenAt (Primitively W n m t) view (IsTooDeep n t s) (M n t s) t s r

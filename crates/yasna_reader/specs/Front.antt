@@ -15,12 +15,7 @@ pub record Takes {A : Type 0} (B : A → List ℕ → Type 0) (s : List ℕ) (v 
 abbrev pub Stands : {A : Type 0} → (A → List ℕ → Type 0) → List ℕ → Type 0
 Stands {A} B s = (v : A) × (r : List ℕ) × Takes B s v r
 
--- a value and the rest, or a refusal
-abbrev pub AtFront : {A : Type 0} → (A → List ℕ → Type 0) → Type 0 → Type 0 → Tag → List ℕ → Result (A × Bor (List ℕ)) Refusal → Type 0
-AtFront B D M t s (Ok x) = Takes B s x.0 x.1.now
-AtFront B D M t s (Err e) = Refuses (Stands B s) D M t s e
-
--- the same, where view says what is seen of a value
+-- a value, of which view says what is seen, and the rest, or a refusal
 abbrev pub SeenAt : {V A : Type 0} → (A → List ℕ → Type 0) → (V → A) → Type 0 → Type 0 → Tag → List ℕ → Result (V × Bor (List ℕ)) Refusal → Type 0
 SeenAt B view D M t s (Ok x) = Takes B s (view x.0) x.1.now
 SeenAt B view D M t s (Err e) = Refuses (Stands B s) D M t s e

@@ -9,7 +9,6 @@ pub mod Oid
 pub mod Contents
 pub mod Segments
 pub mod Text
-pub mod Times
 pub mod Primitive
 pub mod Sequence
 pub mod Callback

@@ -5,7 +5,7 @@ use Rattle.yasna_base.specs.Error.{error_of, kind_of}
 use Rattle.yasna_base.specs.declared.error.ASN1Error.{ASN1Error}
 use Rattle.yasna_base.specs.declared.mode.BERMode.{BERMode}
 use Rattle.yasna_base.specs.declared.tag.Tag.{Tag}
-use Rattle.yasna_reader.specs.Front.{Takes, Stands, AtFront}
+use Rattle.yasna_reader.specs.Front.{Takes, Stands, SeenAt}
 use Rattle.yasna_reader.specs.Refusal.{IsTooDeep, Refuses}
 use Rattle.yasna_reader.specs.State.{Reading, refusing, tag_of, untagged}
 use Rattle.yasna_reader.specs.declared.bytes.header.Refusal.{Refusal}
@@ -23,11 +23,12 @@ pub record ReadsFront {A : Type 0} (B : A → List ℕ → Type 0) (s : Reading)
   pub takes : Takes B s.left v rest
   pub state : s' ≡ record (untagged s) { left = rest }
 
--- a kept failure comes first
-abbrev pub ReadsUnlessKept : {A : Type 0} → Option ASN1Error → (A → List ℕ → Type 0) → Type 0 → Type 0 → Tag → Reading → Result A ASN1Error → Reading → Type 0
-ReadsUnlessKept (Some e) B D M t s r s' = (r ≡ Err e) × (s' ≡ untagged s)
-ReadsUnlessKept None B D M t s (Ok v) s' = ReadsFront B s v s'
-ReadsUnlessKept None B D M t s (Err e) s' = RefusedAs B D M t s e s'
+-- a kept failure comes first; view says what is seen of a value
+abbrev pub ReadsUnlessKept : {V A : Type 0} → Option ASN1Error → (A → List ℕ → Type 0) → (V → A) → Type 0 → Type 0 → Tag → Reading → Result V ASN1Error →
+    Reading → Type 0
+ReadsUnlessKept (Some e) B view D M t s r s' = (r ≡ Err e) × (s' ≡ untagged s)
+ReadsUnlessKept None B view D M t s (Ok v) s' = ReadsFront B s (view v) s'
+ReadsUnlessKept None B view D M t s (Err e) s' = RefusedAs B D M t s e s'
 
 -- what a front that was looked for does to a reading
 abbrev pub Settles : {A : Type 0} → Reading → Result (A × Bor (List ℕ)) Refusal → Result A ASN1Error → Reading → Type 0
@@ -35,18 +36,24 @@ Settles s (Ok x) r s' = (r ≡ Ok x.0) × (s' ≡ record s { left = x.1.now })
 Settles s (Err e) r s' = (r ≡ Err (error_of e.kind)) × (s' ≡ refusing e.moved s (error_of e.kind))
 
 -- What a typed read looks for. B: which fronts it takes; D: where they lie too deep; M: where memory may be wanting
-abbrev pub FrontOf : {A : Type 0} → (ℕ → BERMode → Tag → A → List ℕ → Type 0) → (ℕ → BERMode → Tag → List ℕ → Type 0) → (ℕ → Tag → List ℕ → Type 0) → Tag →
-    Reading → Result (A × Bor (List ℕ)) Refusal → Type 0
-FrontOf B D M tag s r = AtFront (B s.levels s.mode (tag_of s tag)) (D s.levels s.mode (tag_of s tag) s.left) (M s.levels (tag_of s tag) s.left)
+abbrev pub FrontOf : {V A : Type 0} → (ℕ → BERMode → Tag → A → List ℕ → Type 0) → (V → A) → (ℕ → BERMode → Tag → List ℕ → Type 0) →
+    (ℕ → Tag → List ℕ → Type 0) → Tag → Reading → Result (V × Bor (List ℕ)) Refusal → Type 0
+FrontOf B view D M tag s r = SeenAt (B s.levels s.mode (tag_of s tag)) view (D s.levels s.mode (tag_of s tag) s.left) (M s.levels (tag_of s tag) s.left)
     (tag_of s tag) s.left r
 
--- A typed read: with a failure kept that failure, and nothing moved; else Ok takes a front in B and leaves the rest; an
--- Err that isn't of memory says that no front is in B. It is unmoved exactly where nothing or another tag stands there,
--- and kept otherwise; of depth exactly where D holds; of memory only where M does
-pub record Reads {A : Type 0} (B : ℕ → BERMode → Tag → A → List ℕ → Type 0) (D : ℕ → BERMode → Tag → List ℕ → Type 0) (M : ℕ → Tag → List ℕ → Type 0)
-    (tag : Tag) (s : Reading) (r : Result A ASN1Error) (s' : Reading) : Type 0 where
-  pub reads : ReadsUnlessKept s.kept (B s.levels s.mode (tag_of s tag)) (D s.levels s.mode (tag_of s tag) s.left) (M s.levels (tag_of s tag) s.left)
+-- A typed read of values of which view says what is seen: with a failure kept that failure, and nothing moved; else Ok takes
+-- a front in B, which stands for what is seen of the value, and leaves the rest; an Err that isn't of memory says that no
+-- front is in B, whatever it stands for. It is unmoved exactly where nothing or another tag stands there, and kept
+-- otherwise; of depth exactly where D holds; of memory only where M does
+pub record ReadsSeen {V A : Type 0} (B : ℕ → BERMode → Tag → A → List ℕ → Type 0) (view : V → A) (D : ℕ → BERMode → Tag → List ℕ → Type 0)
+    (M : ℕ → Tag → List ℕ → Type 0) (tag : Tag) (s : Reading) (r : Result V ASN1Error) (s' : Reading) : Type 0 where
+  pub reads : ReadsUnlessKept s.kept (B s.levels s.mode (tag_of s tag)) view (D s.levels s.mode (tag_of s tag) s.left) (M s.levels (tag_of s tag) s.left)
       (tag_of s tag) s r s'
+
+-- the same of values that are seen as they are
+abbrev pub Reads : {A : Type 0} → (ℕ → BERMode → Tag → A → List ℕ → Type 0) → (ℕ → BERMode → Tag → List ℕ → Type 0) → (ℕ → Tag → List ℕ → Type 0) → Tag →
+    Reading → Result A ASN1Error → Reading → Type 0
+Reads B D M tag s r s' = ReadsSeen B (λ v. v) D M tag s r s'
 
 -- depth of a read that goes one level down
 abbrev pub NoLevel : ℕ → BERMode → Tag → List ℕ → Type 0

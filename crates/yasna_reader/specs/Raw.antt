@@ -1,27 +1,20 @@
 -- What a read of a raw element does to a reading.
 use Rattle.std.specs.Borrow.{Bor}
-use Rattle.std.specs.Global.{Global}
-use Rattle.std.specs.Prelude.{Err, List, None, Ok, Option, Result, Some, Vec, false, ℕ, ◌≡◌, ◌↔◌, ◌≤◌}
+use Rattle.std.specs.Prelude.{Err, List, None, Ok, Option, Result, Some, false, ℕ, ◌≡◌, ◌↔◌, ◌≤◌}
 use Rattle.yasna_base.specs.Error.{kind_of}
 use Rattle.yasna_base.specs.Identifier.{StartsElement, AtEnd}
 use Rattle.yasna_base.specs.Raw.{RawValue, IsRaw, IsDeepRaw}
-use Rattle.yasna_base.specs.TaggedDerValue.{raw_of}
 use Rattle.yasna_base.specs.declared.error.ASN1Error.{ASN1Error}
 use Rattle.yasna_base.specs.declared.error.ASN1ErrorKind.TheVariants.{OutOfMemory, StackOverflow}
 use Rattle.yasna_base.specs.declared.mode.BERMode.{BERMode}
-use Rattle.yasna_base.specs.declared.models.tagged_der_value.TaggedDerValue.{TaggedDerValue}
 use Rattle.yasna_reader.specs.Front.{Stands, Takes}
 use Rattle.yasna_reader.specs.Primitive.{ReadsFront}
 use Rattle.yasna_reader.specs.State.{Reading, refusing, untagged}
 use Rattle.yasna_reader.specs.declared.bytes.header.Refusal.{Refusal}
 
--- the tag, the bit and the payload of a raw element
-abbrev pub IsTagged : ℕ → BERMode → TaggedDerValue → List ℕ → Type 0
-IsTagged n m v b = IsRaw n m (raw_of v) b
-
 -- the whole of a raw element
-pub record IsWhole (n : ℕ) (m : BERMode) (v : Vec ℕ Global) (b : List ℕ) : Type 0 where
-  pub bytes : v.items ≡ b
+pub record IsWhole (n : ℕ) (m : BERMode) (v b : List ℕ) : Type 0 where
+  pub bytes : v ≡ b
   pub element : RawValue
   pub raw : IsRaw n m element b
 
@@ -33,10 +26,10 @@ pub record RefusesCopy (N : Type 0) (n : ℕ) (m : BERMode) (s : List ℕ) (e : 
   pub deep : (e.kind ≡ OutOfMemory → ⊥) → IsDeepRaw n m s → e.kind ≡ StackOverflow
   pub memory : e.kind ≡ OutOfMemory → (1 ≤ n) × StartsElement s
 
--- a value and the rest, or a refusal
-abbrev pub CopiedAt : {A : Type 0} → (ℕ → BERMode → A → List ℕ → Type 0) → ℕ → BERMode → List ℕ → Result (A × Bor (List ℕ)) Refusal → Type 0
-CopiedAt B n m s (Ok x) = Takes (B n m) s x.0 x.1.now
-CopiedAt B n m s (Err e) = RefusesCopy (Stands (B n m) s) n m s e
+-- a value, of which view says what is seen, and the rest, or a refusal
+abbrev pub CopiedAt : {V A : Type 0} → (ℕ → BERMode → A → List ℕ → Type 0) → (V → A) → ℕ → BERMode → List ℕ → Result (V × Bor (List ℕ)) Refusal → Type 0
+CopiedAt B view n m s (Ok x) = Takes (B n m) s (view x.0) x.1.now
+CopiedAt B view n m s (Err e) = RefusesCopy (Stands (B n m) s) n m s e
 
 -- the refusal e of a read: what it says, and that it is kept where it moved
 pub record RefusedRaw {A : Type 0} (B : ℕ → BERMode → A → List ℕ → Type 0) (s : Reading) (e : ASN1Error) (s' : Reading) : Type 0 where
@@ -46,14 +39,17 @@ pub record RefusedRaw {A : Type 0} (B : ℕ → BERMode → A → List ℕ → T
   pub state : s' ≡ refusing refusal.moved (untagged s) e
 
 -- a kept failure comes first
-abbrev pub ReadsRawUnlessKept : {A : Type 0} → Option ASN1Error → (ℕ → BERMode → A → List ℕ → Type 0) → Reading → Result A ASN1Error → Reading → Type 0
-ReadsRawUnlessKept (Some e) B s r s' = (r ≡ Err e) × (s' ≡ untagged s)
-ReadsRawUnlessKept None B s (Ok v) s' = ReadsFront (B s.levels s.mode) s v s'
-ReadsRawUnlessKept None B s (Err e) s' = RefusedRaw B s e s'
+abbrev pub ReadsRawUnlessKept : {V A : Type 0} → Option ASN1Error → (ℕ → BERMode → A → List ℕ → Type 0) → (V → A) → Reading → Result V ASN1Error → Reading →
+    Type 0
+ReadsRawUnlessKept (Some e) B view s r s' = (r ≡ Err e) × (s' ≡ untagged s)
+ReadsRawUnlessKept None B view s (Ok v) s' = ReadsFront (B s.levels s.mode) s (view v) s'
+ReadsRawUnlessKept None B view s (Err e) s' = RefusedRaw B s e s'
 
--- A read of a raw element, whatever implicit tag waits: with a failure kept that failure, and nothing moved; else Ok takes
--- a front in B and leaves the rest; an Err that isn't of memory says that no front is in B. It is unmoved exactly where
--- nothing is left or an identifier of the end of contents stands there, and kept otherwise; of depth exactly where the
--- elements nest too deep; of memory only where a level is left and another identifier stands there
-pub record ReadsRaw {A : Type 0} (B : ℕ → BERMode → A → List ℕ → Type 0) (s : Reading) (r : Result A ASN1Error) (s' : Reading) : Type 0 where
-  pub reads : ReadsRawUnlessKept s.kept B s r s'
+-- A read of a raw element, whatever implicit tag waits, where view says what is seen of a value: with a failure kept that
+-- failure, and nothing moved; else Ok takes a front in B, which stands for what is seen of the value, and leaves the rest;
+-- an Err that isn't of memory says that no front is in B. It is unmoved exactly where nothing is left or an identifier of
+-- the end of contents stands there, and kept otherwise; of depth exactly where the elements nest too deep; of memory only
+-- where a level is left and another identifier stands there
+pub record ReadsRaw {V A : Type 0} (B : ℕ → BERMode → A → List ℕ → Type 0) (view : V → A) (s : Reading) (r : Result V ASN1Error) (s' : Reading) :
+    Type 0 where
+  pub reads : ReadsRawUnlessKept s.kept B view s r s'

@@ -111,19 +111,13 @@ StringAt k value n m t s out (Err e) out' = RefusesString k n m t s e × (e.move
 abbrev pub WithVecAt : {A T : Type 0} → Cutting A → (List ℕ → T → A) → ℕ → BERMode → Tag → List ℕ → Result ((Vec ℕ Global × T) × Bor (List ℕ)) Refusal → Type 0
 WithVecAt k value n m t s r = SeenAt (IsCut k n m t) (λ v. value v.0.items v.1) (IsDeepCut k n m t s) (WantsMemory n t s) t s r
 
--- the octet string in a vector's bytes
-abbrev pub HoldsOctets : ℕ → BERMode → Tag → Vec ℕ Global → List ℕ → Type 0
-HoldsOctets n m t v b = IsOctets n m t v.items b
-
+-- the octet string in a vector's bytes, and the rest, or a refusal
 abbrev pub OctetsAt : ℕ → BERMode → Tag → List ℕ → Result (Vec ℕ Global × Bor (List ℕ)) Refusal → Type 0
 OctetsAt n m t s r = SeenAt (IsOctets n m t) (λ v. v.items) (IsDeepOctets n m t s) (WantsMemory n t s) t s r
 
 -- the bit string in a vector's bytes and the count of its bits
 abbrev pub bits_in : Vec ℕ Global × ℕ → BitString
 bits_in v = record { bytes = v.0.items; count = v.1 }
-
-abbrev pub HoldsBits : ℕ → BERMode → Tag → Vec ℕ Global × ℕ → List ℕ → Type 0
-HoldsBits n m t v b = IsBits n m t (bits_in v) b
 
 abbrev pub BitsAt : ℕ → BERMode → Tag → List ℕ → Result ((Vec ℕ Global × ℕ) × Bor (List ℕ)) Refusal → Type 0
 BitsAt n m t s r = SeenAt (IsBits n m t) bits_in (IsDeepBits n m t s) (WantsMemory n t s) t s r

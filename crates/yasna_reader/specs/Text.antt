@@ -1,10 +1,9 @@
 -- What reading a string does whose octets say a value, as those of a character string do (X.690, 8.23).
 use Rattle.std.specs.Borrow.{Bor}
-use Rattle.std.specs.Global.{Global}
 use Rattle.std.specs.List.{AllByRecursion}
-use Rattle.std.specs.Prelude.{◌≡◌, ◌⊎◌, ℕ, ◌%◌, List, [], length, Result, Ok, Err, String}
+use Rattle.std.specs.Prelude.{◌≡◌, ◌⊎◌, ℕ, ◌%◌, List, [], length, Result, Ok, Err}
 use Rattle.yasna_base.specs.Octets.{IsDeepOctets}
-use Rattle.yasna_base.specs.Text.{InUtf8, InNumeric, InPrintable, InIa5, InVisible, IsUtf8In, IsBmp, IsStringOf, characters}
+use Rattle.yasna_base.specs.Text.{InUtf8, InNumeric, InPrintable, InIa5, InVisible, IsUtf8In, IsBmp, IsStringOf}
 use Rattle.yasna_base.specs.declared.error.ASN1ErrorKind.{ASN1ErrorKind}
 use Rattle.yasna_base.specs.declared.error.ASN1ErrorKind.TheVariants.{OutOfMemory}
 use Rattle.yasna_base.specs.declared.mode.BERMode.{BERMode}
@@ -42,11 +41,3 @@ MayHold Printable o = AllByRecursion InPrintable o
 MayHold Ia5 o = AllByRecursion InIa5 o
 MayHold Visible o = AllByRecursion InVisible o
 MayHold Bmp o = length o % 2 ≡ 0
-
--- the octets of a string say by K what the view of a value is
-abbrev pub HoldsSaid : {V A : Type 0} → (BERMode → A → List ℕ → Type 0) → (V → A) → ℕ → BERMode → Tag → V → List ℕ → Type 0
-HoldsSaid K view n m t v b = IsStringOf K n m t (view v) b
-
--- the text in a string's bytes, where octets say texts by K
-abbrev pub HoldsText : (BERMode → List ℕ → List ℕ → Type 0) → ℕ → BERMode → Tag → String Global → List ℕ → Type 0
-HoldsText K n m t v b = HoldsSaid K characters n m t v b

@@ -12,12 +12,13 @@ use yasna_base::tags::{TAG_BOOLEAN, TAG_ENUM, TAG_INTEGER, TAG_NULL, TAG_OID};
 impl<'a> ReaderState<'a> {
     ghost use Rattle.std.specs.Int.{w64, w32, w16, w8};
     ghost use Rattle.yasna_base.specs.Element.{Primitively};
+    ghost use Rattle.yasna_base.specs.BigInteger.{IsBigInteger};
     ghost use Rattle.yasna_base.specs.Boolean.{IsBoolean};
     ghost use Rattle.yasna_base.specs.Null.{IsNull};
     ghost use Rattle.yasna_base.specs.Oid.{AreComponents};
     ghost use Rattle.yasna_base.specs.Integer.{IsSigned, IsUnsigned};
-    ghost use Rattle.yasna_reader.specs.Contents.{HoldsBigInteger, Never, WantsMemory};
-    ghost use Rattle.yasna_reader.specs.Primitive.{Reads, FrontOf, NoLevel};
+    ghost use Rattle.yasna_reader.specs.Contents.{big_integer_in, Never, WantsMemory};
+    ghost use Rattle.yasna_reader.specs.Primitive.{Reads, ReadsSeen, FrontOf, NoLevel};
 
     /// Reads BOOLEAN: any byte but 0 is true in BER, 255 alone in DER.
     #[inline(always)]
@@ -110,7 +111,7 @@ impl<'a> ReaderState<'a> {
     /// Reads INTEGER of any size: its contents, highest byte first in two's complement, and true where it isn't negative.
     #[inline(always)]
     pub fn read_bigint_bytes(&mut self) -> ASN1Result<(Vec<u8>, bool)>
-        ensures { Reads (Primitively HoldsBigInteger) NoLevel WantsMemory TAG_INTEGER self.old result self.new }
+        ensures { ReadsSeen (Primitively IsBigInteger) big_integer_in NoLevel WantsMemory TAG_INTEGER self.old result self.new }
     {
         self.read_primitive::<(Vec<u8>, bool)>(TAG_INTEGER)
     }
@@ -126,7 +127,7 @@ impl<'a> ReaderState<'a> {
     // What stands at the front as an element of one primitive type.
     #[inline(always)]
     fn front<T: Contents>(&self, tag: Tag) -> Result<(T, &'a [u8]), Refusal>
-        ensures { FrontOf (Primitively T.means) NoLevel T.wants tag self.now result }
+        ensures { FrontOf (Primitively T.means) T.view NoLevel T.wants tag self.now result }
     {
         value(self.alloc, self.cursor, self.wanted(tag))
     }
@@ -135,7 +136,7 @@ impl<'a> ReaderState<'a> {
     #[inline(always)]
     #[tactic(auto, using(crate::proofs::Primitives::reads_front, crate::proofs::Primitives::reads_kept))]
     fn read_primitive<T: Contents + Drop>(&mut self, tag: Tag) -> ASN1Result<T>
-        ensures { Reads (Primitively T.means) NoLevel T.wants tag self.old result self.new }
+        ensures { ReadsSeen (Primitively T.means) T.view NoLevel T.wants tag self.old result self.new }
     {
         if let Some(error) = self.kept {
             self.tag = None;

@@ -2,7 +2,7 @@
 ghost use Rattle.std.specs.Prelude.{ℕ, List, IfOk};
 ghost use Rattle.yasna_base.specs.declared.mode.BERMode.{BERMode};
 ghost use Rattle.yasna_base.specs.Raw.{RawValue, IsRaw};
-ghost use Rattle.yasna_reader.specs.Raw.{IsTagged, IsWhole, CopiedAt};
+ghost use Rattle.yasna_reader.specs.Raw.{IsWhole, CopiedAt};
 ghost use Rattle.yasna_reader.specs.Walk.{element_of};
 
 use crate::bytes::cursor::Cursor;
@@ -15,30 +15,43 @@ use yasna_base::models::TaggedDerValue;
 
 /// What is made of a raw element.
 trait Copied: Sized {
-    ghost copies: { ℕ → BERMode → Self → List ℕ → Type 0 };
+    // What contracts see of such values, and what a raw element is to be for them.
+    ghost Seen: { Type 0 };
+
+    ghost view: { Self → Seen };
+
+    ghost copies: { ℕ → BERMode → Seen → List ℕ → Type 0 };
 
     fn of_element(alloc: Global, element: &RawElement<'_>) -> Result<Self, AllocError>
-        ensures { IfOk result (λ v. (n : ℕ) (m : BERMode) → IsRaw n m (element_of element.now) element.now.bytes.now → copies n m v element.now.bytes.now) };
+        ensures { IfOk result (λ v. (n : ℕ) (m : BERMode) → IsRaw n m (element_of element.now) element.now.bytes.now → copies n m (view v) element.now.bytes.now) };
 
-    ghost element: { (n : ℕ) (m : BERMode) (v : Self) (b : List ℕ) → copies n m v b → (x : RawValue) × IsRaw n m x b };
+    ghost element: { (n : ℕ) (m : BERMode) (v : Seen) (b : List ℕ) → copies n m v b → (x : RawValue) × IsRaw n m x b };
 }
 
 /// Its tag, its bit and its payload.
 impl Copied for TaggedDerValue {
     ghost use Rattle.yasna_base.specs.TaggedDerValue.{raw_of};
 
-    ghost copies = { IsTagged };
+    ghost Seen = { RawValue };
+
+    ghost view = { raw_of };
+
+    ghost copies = { IsRaw };
 
     fn of_element(alloc: Global, element: &RawElement<'_>) -> Result<TaggedDerValue, AllocError> {
         let payload = Vec::from_slice(alloc, element.payload)?;
         Ok(TaggedDerValue::from_tag_pc_and_bytes(element.tag, element.bit, payload))
     }
 
-    ghost element = { λ n m v b x. (raw_of v, x) };
+    ghost element = { λ n m v b x. (v, x) };
 }
 
 /// The whole of it.
 impl Copied for Vec<u8> {
+    ghost Seen = { List ℕ };
+
+    ghost view = { λ v. v.items };
+
     ghost copies = { IsWhole };
 
     fn of_element(alloc: Global, element: &RawElement<'_>) -> Result<Vec<u8>, AllocError> {
@@ -51,7 +64,7 @@ impl Copied for Vec<u8> {
 // What is made of the raw element at the front, and the rest.
 #[inline(always)]
 fn copy_of_front<T: Copied>(alloc: Global, cursor: Cursor<'_>) -> Result<(T, &[u8]), Refusal>
-    ensures { CopiedAt T.copies cursor.entry.levels cursor.entry.mode cursor.entry.left.now result }
+    ensures { CopiedAt T.copies T.view cursor.entry.levels cursor.entry.mode cursor.entry.left.now result }
 {
     match raw_element(cursor) {
         Ok((element, rest)) => match T::of_element(alloc, &element) {
@@ -63,14 +76,16 @@ fn copy_of_front<T: Copied>(alloc: Global, cursor: Cursor<'_>) -> Result<(T, &[u
 }
 
 impl<'a> ReaderState<'a> {
-    ghost use Rattle.yasna_reader.specs.Raw.{IsTagged, IsWhole, CopiedAt, ReadsRaw};
+    ghost use Rattle.yasna_base.specs.Raw.{IsRaw};
+    ghost use Rattle.yasna_base.specs.TaggedDerValue.{raw_of};
+    ghost use Rattle.yasna_reader.specs.Raw.{IsWhole, CopiedAt, ReadsRaw};
 
     /// Reads an element of any tag but that of the end of contents: its tag, its bit, and what follows its length.
     ///
     /// In DER constructed contents are to be elements one after the other, in BER those of indefinite length. What values
     /// they are isn't looked at. An implicit tag is ignored, and used up.
     pub fn read_tagged_der(&mut self) -> ASN1Result<TaggedDerValue>
-        ensures { ReadsRaw IsTagged self.old result self.new }
+        ensures { ReadsRaw IsRaw raw_of self.old result self.new }
     {
         self.read_raw::<TaggedDerValue>()
     }
@@ -78,14 +93,14 @@ impl<'a> ReaderState<'a> {
     /// Reads the same element as a whole: its bytes from the identifier on, with the two zeros that end contents of
     /// indefinite length.
     pub fn read_der(&mut self) -> ASN1Result<Vec<u8>>
-        ensures { ReadsRaw IsWhole self.old result self.new }
+        ensures { ReadsRaw IsWhole (λ v. v.items) self.old result self.new }
     {
         self.read_raw::<Vec<u8>>()
     }
 
     #[inline(always)]
     fn copy_of<T: Copied>(&self) -> Result<(T, &'a [u8]), Refusal>
-        ensures { CopiedAt T.copies self.now.levels self.now.mode self.now.left result }
+        ensures { CopiedAt T.copies T.view self.now.levels self.now.mode self.now.left result }
     {
         copy_of_front::<T>(self.alloc, self.cursor)
     }
@@ -94,7 +109,7 @@ impl<'a> ReaderState<'a> {
     #[inline(always)]
     #[tactic(auto, using(crate::proofs::RawReads::reads_raw, crate::proofs::RawReads::reads_raw_kept))]
     fn read_raw<T: Copied + Drop>(&mut self) -> ASN1Result<T>
-        ensures { ReadsRaw T.copies self.old result self.new }
+        ensures { ReadsRaw T.copies T.view self.old result self.new }
     {
         if let Some(error) = self.kept {
             self.tag = None;

@@ -15,19 +15,18 @@ use yasna_base::tags::{
 };
 
 impl<'a> ReaderState<'a> {
-    ghost use Rattle.yasna_base.specs.Bits.{IsDeepBits};
-    ghost use Rattle.yasna_base.specs.Octets.{IsDeepOctets};
-    ghost use Rattle.yasna_base.specs.Text.{InUtf8, InNumeric, InPrintable, InIa5, InVisible, IsUtf8In, IsBmp};
+    ghost use Rattle.yasna_base.specs.Bits.{IsBits, IsDeepBits};
+    ghost use Rattle.yasna_base.specs.Octets.{IsOctets, IsDeepOctets};
+    ghost use Rattle.yasna_base.specs.Text.{InUtf8, InNumeric, InPrintable, InIa5, InVisible, IsUtf8In, IsBmp, IsStringOf, characters};
     ghost use Rattle.yasna_reader.specs.Contents.{WantsMemory};
-    ghost use Rattle.yasna_reader.specs.Primitive.{Reads, FrontOf};
-    ghost use Rattle.yasna_reader.specs.Segments.{HoldsOctets, HoldsBits};
-    ghost use Rattle.yasna_reader.specs.Text.{HoldsSaid, HoldsText};
+    ghost use Rattle.yasna_reader.specs.Primitive.{ReadsSeen, FrontOf};
+    ghost use Rattle.yasna_reader.specs.Segments.{bits_in};
 
     /// Reads OCTET STRING: its octets, joined.
     #[inline(always)]
     #[tactic(auto, using(crate::proofs::Primitives::reads_front, crate::proofs::Primitives::reads_kept))]
     pub fn read_bytes(&mut self) -> ASN1Result<Vec<u8>>
-        ensures { Reads HoldsOctets IsDeepOctets WantsMemory TAG_OCTETSTRING self.old result self.new }
+        ensures { ReadsSeen IsOctets (λ v. v.items) IsDeepOctets WantsMemory TAG_OCTETSTRING self.old result self.new }
     {
         if let Some(error) = self.kept {
             self.tag = None;
@@ -42,7 +41,7 @@ impl<'a> ReaderState<'a> {
     #[inline(always)]
     #[tactic(auto, using(crate::proofs::Primitives::reads_front, crate::proofs::Primitives::reads_kept))]
     pub fn read_bitvec_bytes(&mut self) -> ASN1Result<(Vec<u8>, usize)>
-        ensures { Reads HoldsBits IsDeepBits WantsMemory TAG_BITSTRING self.old result self.new }
+        ensures { ReadsSeen IsBits bits_in IsDeepBits WantsMemory TAG_BITSTRING self.old result self.new }
     {
         if let Some(error) = self.kept {
             self.tag = None;
@@ -55,7 +54,7 @@ impl<'a> ReaderState<'a> {
     /// Reads UTF8String.
     #[inline(always)]
     pub fn read_utf8string(&mut self) -> ASN1Result<String>
-        ensures { Reads (HoldsText (IsUtf8In InUtf8)) IsDeepOctets WantsMemory TAG_UTF8STRING self.old result self.new }
+        ensures { ReadsSeen (IsStringOf (IsUtf8In InUtf8)) characters IsDeepOctets WantsMemory TAG_UTF8STRING self.old result self.new }
     {
         self.read_said(TAG_UTF8STRING, Class::Utf8)
     }
@@ -63,7 +62,7 @@ impl<'a> ReaderState<'a> {
     /// Reads NumericString: digits and space.
     #[inline(always)]
     pub fn read_numeric_string(&mut self) -> ASN1Result<String>
-        ensures { Reads (HoldsText (IsUtf8In InNumeric)) IsDeepOctets WantsMemory TAG_NUMERICSTRING self.old result self.new }
+        ensures { ReadsSeen (IsStringOf (IsUtf8In InNumeric)) characters IsDeepOctets WantsMemory TAG_NUMERICSTRING self.old result self.new }
     {
         self.read_said(TAG_NUMERICSTRING, Class::Numeric)
     }
@@ -71,7 +70,7 @@ impl<'a> ReaderState<'a> {
     /// Reads PrintableString: letters, digits, space and `'()+,-./:=?`.
     #[inline(always)]
     pub fn read_printable_string(&mut self) -> ASN1Result<String>
-        ensures { Reads (HoldsText (IsUtf8In InPrintable)) IsDeepOctets WantsMemory TAG_PRINTABLESTRING self.old result self.new }
+        ensures { ReadsSeen (IsStringOf (IsUtf8In InPrintable)) characters IsDeepOctets WantsMemory TAG_PRINTABLESTRING self.old result self.new }
     {
         self.read_said(TAG_PRINTABLESTRING, Class::Printable)
     }
@@ -79,7 +78,7 @@ impl<'a> ReaderState<'a> {
     /// Reads IA5String: the characters up to 127.
     #[inline(always)]
     pub fn read_ia5_string(&mut self) -> ASN1Result<String>
-        ensures { Reads (HoldsText (IsUtf8In InIa5)) IsDeepOctets WantsMemory TAG_IA5STRING self.old result self.new }
+        ensures { ReadsSeen (IsStringOf (IsUtf8In InIa5)) characters IsDeepOctets WantsMemory TAG_IA5STRING self.old result self.new }
     {
         self.read_said(TAG_IA5STRING, Class::Ia5)
     }
@@ -87,7 +86,7 @@ impl<'a> ReaderState<'a> {
     /// Reads BMPString: units of UTF-16, the high byte of each first. A surrogate without its partner is read as U+FFFD.
     #[inline(always)]
     pub fn read_bmp_string(&mut self) -> ASN1Result<String>
-        ensures { Reads (HoldsText IsBmp) IsDeepOctets WantsMemory TAG_BMPSTRING self.old result self.new }
+        ensures { ReadsSeen (IsStringOf IsBmp) characters IsDeepOctets WantsMemory TAG_BMPSTRING self.old result self.new }
     {
         self.read_said(TAG_BMPSTRING, Class::Bmp)
     }
@@ -95,7 +94,7 @@ impl<'a> ReaderState<'a> {
     /// Reads VisibleString: the characters from space to `~`.
     #[inline(always)]
     pub fn read_visible_string(&mut self) -> ASN1Result<String>
-        ensures { Reads (HoldsText (IsUtf8In InVisible)) IsDeepOctets WantsMemory TAG_VISIBLESTRING self.old result self.new }
+        ensures { ReadsSeen (IsStringOf (IsUtf8In InVisible)) characters IsDeepOctets WantsMemory TAG_VISIBLESTRING self.old result self.new }
     {
         self.read_said(TAG_VISIBLESTRING, Class::Visible)
     }
@@ -104,7 +103,7 @@ impl<'a> ReaderState<'a> {
     #[inline(always)]
     #[tactic(auto, using(crate::proofs::Primitives::reads_front, crate::proofs::Primitives::reads_kept))]
     pub(crate) fn read_said<J: Judge>(&mut self, tag: Tag, judge: J) -> ASN1Result<J::Value>
-        ensures { Reads (HoldsSaid (J.says judge) J.view) IsDeepOctets WantsMemory tag self.old result self.new }
+        ensures { ReadsSeen (IsStringOf (J.says judge)) J.view IsDeepOctets WantsMemory tag self.old result self.new }
     {
         if let Some(error) = self.kept {
             self.tag = None;
@@ -117,7 +116,7 @@ impl<'a> ReaderState<'a> {
     // The string at the front whose octets are judged.
     #[inline(always)]
     fn said<J: Judge>(&self, tag: Tag, judge: J) -> Result<(J::Value, &'a [u8]), Refusal>
-        ensures { FrontOf (HoldsSaid (J.says judge) J.view) IsDeepOctets WantsMemory tag self.now result }
+        ensures { FrontOf (IsStringOf (J.says judge)) J.view IsDeepOctets WantsMemory tag self.now result }
     {
         string_of(self.alloc, self.cursor, self.wanted(tag), judge)
     }
@@ -125,7 +124,7 @@ impl<'a> ReaderState<'a> {
     // The octet string at the front.
     #[inline(always)]
     fn octets(&self, tag: Tag) -> Result<(Vec<u8>, &'a [u8]), Refusal>
-        ensures { FrontOf HoldsOctets IsDeepOctets WantsMemory tag self.now result }
+        ensures { FrontOf IsOctets (λ v. v.items) IsDeepOctets WantsMemory tag self.now result }
     {
         octet_string(self.alloc, self.cursor, self.wanted(tag))
     }
@@ -133,7 +132,7 @@ impl<'a> ReaderState<'a> {
     // The bit string at the front.
     #[inline(always)]
     fn bits(&self, tag: Tag) -> Result<((Vec<u8>, usize), &'a [u8]), Refusal>
-        ensures { FrontOf HoldsBits IsDeepBits WantsMemory tag self.now result }
+        ensures { FrontOf IsBits bits_in IsDeepBits WantsMemory tag self.now result }
     {
         bit_string(self.alloc, self.cursor, self.wanted(tag))
     }

@@ -9,15 +9,18 @@ use yasna_base::models::{GeneralizedTime, UTCTime};
 use yasna_base::tags::{TAG_GENERALIZEDTIME, TAG_UTCTIME};
 
 impl<'a> ReaderState<'a> {
+    ghost use Rattle.yasna_base.specs.GeneralizedTime.{SaysGeneralizedTime};
+    ghost use Rattle.yasna_base.specs.Models.{utc_of, moment_of};
     ghost use Rattle.yasna_base.specs.Octets.{IsDeepOctets};
+    ghost use Rattle.yasna_base.specs.Text.{IsStringOf};
+    ghost use Rattle.yasna_base.specs.UtcTime.{SaysUtcTime};
     ghost use Rattle.yasna_reader.specs.Contents.{WantsMemory};
-    ghost use Rattle.yasna_reader.specs.Primitive.{Reads};
-    ghost use Rattle.yasna_reader.specs.Times.{HoldsUtc, HoldsGeneral};
+    ghost use Rattle.yasna_reader.specs.Primitive.{ReadsSeen};
 
     /// Reads UTCTime. In BER any text that `UTCTime::parse` takes, in DER the canonical one alone.
     #[inline(always)]
     pub fn read_utctime(&mut self) -> ASN1Result<UTCTime>
-        ensures { Reads HoldsUtc IsDeepOctets WantsMemory TAG_UTCTIME self.old result self.new }
+        ensures { ReadsSeen (IsStringOf SaysUtcTime) utc_of IsDeepOctets WantsMemory TAG_UTCTIME self.old result self.new }
     {
         self.read_said(TAG_UTCTIME, UtcText)
     }
@@ -25,7 +28,7 @@ impl<'a> ReaderState<'a> {
     /// Reads GeneralizedTime. In BER any text that `GeneralizedTime::parse` takes, in DER the canonical one alone.
     #[inline(always)]
     pub fn read_generalized_time(&mut self) -> ASN1Result<GeneralizedTime>
-        ensures { Reads HoldsGeneral IsDeepOctets WantsMemory TAG_GENERALIZEDTIME self.old result self.new }
+        ensures { ReadsSeen (IsStringOf SaysGeneralizedTime) moment_of IsDeepOctets WantsMemory TAG_GENERALIZEDTIME self.old result self.new }
     {
         self.read_said(TAG_GENERALIZEDTIME, GeneralText)
     }

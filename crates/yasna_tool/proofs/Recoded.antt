@@ -9,19 +9,19 @@ use Rattle.yasna_tool.specs.Kinds.{Recoded}
 use Rattle.yasna_tool.specs.declared.engine.RunFault.{RunFault}
 use Rattle.yasna_tool.specs.declared.engine.RunFault.TheVariants.{Refused, Device}
 
-module _ {A : Type 0} (B : BERMode → ℕ → A → List ℕ → Type 0) (form : BERMode → A → List ℕ) (m : BERMode) where
-  -- a value's form is what the bytes are recoded to
-  pub recoded : (P : List ℕ → Type 0) (s : Option (List ℕ)) (r : Result (Unit {0}) RunFault) →
-      OnOk r (IfSome s (λ b. (v : A) × B m 101 v b × P (form Der v))) → OnOk r (IfSome s (λ b. (out : List ℕ) × Recoded B form m b out × P out))
-  recoded P None (Ok u) h = tt
-  recoded P (Some b) (Ok u) h = (form Der h.0, record { value = h.0; read = h.1; written = refl }, h.2)
-  recoded P s (Err e) h = h
+-- the form of a value, as view sees it, is what the bytes are recoded to
+pub recoded : {V A : Type 0} (B : BERMode → ℕ → A → List ℕ → Type 0) (view : V → A) (form : BERMode → A → List ℕ) (m : BERMode) (P : List ℕ → Type 0)
+    (s : Option (List ℕ)) (r : Result (Unit {0}) RunFault) → OnOk r (IfSome s (λ b. (v : V) × B m 101 (view v) b × P (form Der (view v)))) →
+    OnOk r (IfSome s (λ b. (out : List ℕ) × Recoded B form m b out × P out))
+recoded B view form m P None (Ok u) h = tt
+recoded B view form m P (Some b) (Ok u) h = (form Der (view h.0), record { value = view h.0; read = h.1; written = refl }, h.2)
+recoded B view form m P s (Err e) h = h
 
-  -- bytes that encode no value are recoded to nothing
-  pub not_recoded : (C : ASN1Error → Type 0) (End : Type 0) (s : Option (List ℕ)) (r : Result (Unit {0}) RunFault) →
-      IfRefused r (λ e. C e → End × IfSome s (λ b. (v : A) × B m 101 v b → ⊥)) →
-      IfRefused r (λ e. C e → IfSome s (λ b. (out : List ℕ) → Recoded B form m b out → ⊥))
-  not_recoded C End s (Ok u) h = tt
-  not_recoded C End None (Err (Refused e)) h = λ c. tt
-  not_recoded C End (Some b) (Err (Refused e)) h = λ c out x. (h c).1 (x.value, x.read)
-  not_recoded C End s (Err Device) h = tt
+-- bytes that encode no value are recoded to nothing
+pub not_recoded : {A : Type 0} (B : BERMode → ℕ → A → List ℕ → Type 0) (form : BERMode → A → List ℕ) (m : BERMode) (C : ASN1Error → Type 0) (End : Type 0)
+    (s : Option (List ℕ)) (r : Result (Unit {0}) RunFault) → IfRefused r (λ e. C e → End × IfSome s (λ b. (v : A) × B m 101 v b → ⊥)) →
+    IfRefused r (λ e. C e → IfSome s (λ b. (out : List ℕ) → Recoded B form m b out → ⊥))
+not_recoded B form m C End s (Ok u) h = tt
+not_recoded B form m C End None (Err (Refused e)) h = λ c. tt
+not_recoded B form m C End (Some b) (Err (Refused e)) h = λ c out x. (h c).1 (x.value, x.read)
+not_recoded B form m C End s (Err Device) h = tt

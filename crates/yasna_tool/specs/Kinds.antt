@@ -9,13 +9,12 @@ use Rattle.yasna.specs.base.Canonical.{enclosed_form}
 use Rattle.yasna.specs.base.Boolean.{EncodesBoolean, boolean_form}
 use Rattle.yasna.specs.base.Integer.{EncodesSigned, integer_form}
 use Rattle.yasna.specs.base.Null.{EncodesNull, null_form}
-use Rattle.yasna.specs.base.Octets.{EncodesVec, octets_tag, octets_form}
+use Rattle.yasna.specs.base.Octets.{EncodesOctets, octets_tag, octets_form}
 use Rattle.yasna.specs.base.Oid.{EncodesOid, oid_form}
-use Rattle.yasna.specs.base.GeneralizedTime.{generalized_time_form}
-use Rattle.yasna.specs.base.Models.{EncodesUtc, EncodesGeneral, utc_of, moment_of}
-use Rattle.yasna.specs.base.UtcTime.{utc_time_form}
+use Rattle.yasna.specs.base.GeneralizedTime.{EncodesGeneralizedTime, generalized_time_form}
+use Rattle.yasna.specs.base.UtcTime.{EncodesUtcTime, utc_time_form}
 use Rattle.yasna.specs.base.Sequence.{sequence_tag, PartOf, NoParts, part_form, nothing_form}
-use Rattle.yasna.specs.base.Text.{EncodesString, characters, utf8_form}
+use Rattle.yasna.specs.base.Text.{EncodesText, utf8_form}
 use Rattle.yasna_tool.specs.declared.kind.Kind.{Kind}
 use Rattle.yasna_tool.specs.declared.kind.Kind.TheVariants as kind
 
@@ -38,8 +37,8 @@ Recodes kind.Pair m s out = Recoded EncodesPair pair_form m s out
 Recodes kind.Int m s out = Recoded (EncodesSigned w64) (integer_form (universal 2)) m s out
 Recodes kind.Bool m s out = Recoded EncodesBoolean (boolean_form (universal 1)) m s out
 Recodes kind.Null m s out = Recoded EncodesNull (null_form (universal 5)) m s out
-Recodes kind.Octets m s out = Recoded EncodesVec (λ m v. octets_form octets_tag m v.items) m s out
-Recodes kind.Text m s out = Recoded EncodesString (λ m v. utf8_form (universal 12) m (characters v)) m s out
+Recodes kind.Octets m s out = Recoded EncodesOctets (octets_form octets_tag) m s out
+Recodes kind.Text m s out = Recoded EncodesText (utf8_form (universal 12)) m s out
 Recodes kind.Oid m s out = Recoded EncodesOid (oid_form (universal 6)) m s out
-Recodes kind.Utime m s out = Recoded EncodesUtc (λ m v. utc_time_form (universal 23) m (utc_of v)) m s out
-Recodes kind.Gtime m s out = Recoded EncodesGeneral (λ m v. generalized_time_form (universal 24) m (moment_of v)) m s out
+Recodes kind.Utime m s out = Recoded EncodesUtcTime (utc_time_form (universal 23)) m s out
+Recodes kind.Gtime m s out = Recoded EncodesGeneralizedTime (generalized_time_form (universal 24)) m s out

@@ -22,15 +22,19 @@ use yasna_base::tag::Tag;
 
 /// A type that the contents of one primitive element hold.
 pub(crate) trait Contents: Sized {
-    // What contents say in a mode.
-    ghost means: { BERMode → Self → List ℕ → Type 0 };
+    // What contracts see of such values, and what contents say in a mode.
+    ghost Said: { Type 0 };
+
+    ghost view: { Self → Said };
+
+    ghost means: { BERMode → Said → List ℕ → Type 0 };
 
     // Where reading within so many levels, under a tag, may want memory.
     ghost wants: { ℕ → Tag → List ℕ → Type 0 };
 
     /// The value that these contents say in this mode.
     fn of_contents(alloc: Global, mode: BERMode, contents: &[u8]) -> Result<Self, ASN1ErrorKind>
-        ensures { Decides (means mode) wants contents.now result };
+        ensures { Decides (means mode) view wants contents.now result };
 }
 
 /// The value that a primitive element of this tag holds, and the rest.
@@ -40,7 +44,7 @@ pub(crate) fn value<T: Contents>(
     cursor: Cursor<'_>,
     tag: Tag,
 ) -> Result<(T, &[u8]), Refusal>
-    ensures { ValueAt T.means T.wants cursor.entry.levels cursor.entry.mode tag cursor.entry.left.now result }
+    ensures { ValueAt T.means T.view T.wants cursor.entry.levels cursor.entry.mode tag cursor.entry.left.now result }
 {
     match primitive(cursor, tag) {
         Ok((contents, rest)) => match T::of_contents(alloc, cursor.mode, contents) {

@@ -1,7 +1,8 @@
 //! The contents of INTEGER of any size (X.690, 8.3).
 ghost use Rattle.std.specs.Prelude.{◌≡◌, IfOk, IfErr};
+ghost use Rattle.yasna_base.specs.BigInteger.{BigInteger, IsBigInteger};
 ghost use Rattle.yasna_base.specs.declared.error.ASN1ErrorKind.TheVariants.{OutOfMemory};
-ghost use Rattle.yasna_reader.specs.Contents.{HoldsBigInteger, WantsMemory};
+ghost use Rattle.yasna_reader.specs.Contents.{big_integer_in, WantsMemory};
 
 use crate::bytes::contents::Contents;
 use crate::bytes::contents::integer::is_minimal;
@@ -25,7 +26,11 @@ fn copied(alloc: Global, bytes: &[u8]) -> Result<Vec<u8>, ASN1ErrorKind>
 
 /// The contents as they are, and whether the number isn't negative.
 impl Contents for (Vec<u8>, bool) {
-    ghost means = { HoldsBigInteger };
+    ghost Said = { BigInteger };
+
+    ghost view = { big_integer_in };
+
+    ghost means = { IsBigInteger };
 
     ghost wants = { WantsMemory };
 

@@ -1,5 +1,5 @@
 //! The contents of BOOLEAN (X.690, 8.2 and 11.1).
-ghost use Rattle.std.specs.Prelude.{IsTrue, ◌↔◌};
+ghost use Rattle.std.specs.Prelude.{Bool, IsTrue, ◌↔◌};
 ghost use Rattle.yasna_base.specs.Boolean.{IsBoolean, SaysTrue};
 ghost use Rattle.yasna_reader.specs.Contents.{Never};
 
@@ -20,6 +20,10 @@ fn is_true(mode: BERMode, byte: u8) -> bool
 }
 
 impl Contents for bool {
+    ghost Said = { Bool };
+
+    ghost view = { λ v. v };
+
     ghost means = { IsBoolean };
 
     ghost wants = { Never };

@@ -1,5 +1,5 @@
 //! The contents of INTEGER and ENUMERATED, in each type of Rust (X.690, 8.3 and 8.4).
-ghost use Rattle.std.specs.Prelude.{◌≡◌, ◌≤◌, length, IsTrue, ◌↔◌};
+ghost use Rattle.std.specs.Prelude.{ℕ, ℤ, ◌≡◌, ◌≤◌, length, IsTrue, ◌↔◌};
 ghost use Rattle.std.specs.Int.{w8, w16, w32, w64};
 ghost use Rattle.yasna_base.specs.Integer.{IsMinimal, twos, IsSigned, IsUnsigned};
 ghost use Rattle.yasna_reader.specs.Contents.{Never};
@@ -37,6 +37,10 @@ fn signed_of(contents: &[u8]) -> i64
 }
 
 impl Contents for i64 {
+    ghost Said = { ℤ };
+
+    ghost view = { λ v. v };
+
     ghost means = { IsSigned w64 };
 
     ghost wants = { Never };
@@ -54,6 +58,10 @@ impl Contents for i64 {
 }
 
 impl Contents for i32 {
+    ghost Said = { ℤ };
+
+    ghost view = { λ v. v };
+
     ghost means = { IsSigned w32 };
 
     ghost wants = { Never };
@@ -66,6 +74,10 @@ impl Contents for i32 {
 }
 
 impl Contents for i16 {
+    ghost Said = { ℤ };
+
+    ghost view = { λ v. v };
+
     ghost means = { IsSigned w16 };
 
     ghost wants = { Never };
@@ -78,6 +90,10 @@ impl Contents for i16 {
 }
 
 impl Contents for i8 {
+    ghost Said = { ℤ };
+
+    ghost view = { λ v. v };
+
     ghost means = { IsSigned w8 };
 
     ghost wants = { Never };
@@ -90,6 +106,10 @@ impl Contents for i8 {
 }
 
 impl Contents for u64 {
+    ghost Said = { ℕ };
+
+    ghost view = { λ v. v };
+
     ghost means = { IsUnsigned 64 };
 
     ghost wants = { Never };
@@ -113,6 +133,10 @@ impl Contents for u64 {
 }
 
 impl Contents for u32 {
+    ghost Said = { ℕ };
+
+    ghost view = { λ v. v };
+
     ghost means = { IsUnsigned 32 };
 
     ghost wants = { Never };
@@ -125,6 +149,10 @@ impl Contents for u32 {
 }
 
 impl Contents for u16 {
+    ghost Said = { ℕ };
+
+    ghost view = { λ v. v };
+
     ghost means = { IsUnsigned 16 };
 
     ghost wants = { Never };
@@ -137,6 +165,10 @@ impl Contents for u16 {
 }
 
 impl Contents for u8 {
+    ghost Said = { ℕ };
+
+    ghost view = { λ v. v };
+
     ghost means = { IsUnsigned 8 };
 
     ghost wants = { Never };

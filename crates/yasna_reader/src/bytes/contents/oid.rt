@@ -1,5 +1,5 @@
 //! The contents of OBJECT IDENTIFIER (X.690, 8.19).
-ghost use Rattle.std.specs.Prelude.{◌≡◌, ◌+◌, ◌*◌, ◌++◌, ◌∷◌, [], MatchResult, IfErr};
+ghost use Rattle.std.specs.Prelude.{ℕ, List, ◌≡◌, ◌+◌, ◌*◌, ◌++◌, ◌∷◌, [], MatchResult, IfErr};
 ghost use Rattle.yasna_base.specs.declared.error.ASN1ErrorKind.TheVariants.{OutOfMemory};
 ghost use Rattle.yasna_base.specs.declared.mode.BERMode.{BERMode};
 ghost use Rattle.yasna_base.specs.Oid.{AreFirstTwo, AreComponents};
@@ -85,7 +85,7 @@ fn push_all(components: &mut Vec<u64>, contents: &[u8]) -> Result<(), ASN1ErrorK
 // The object identifier that contents stand for.
 #[inline(always)]
 fn read_components(alloc: Global, contents: &[u8]) -> Result<ObjectIdentifier, ASN1ErrorKind>
-    ensures { (m : BERMode) → Decides (AreComponents m) WantsMemory contents.now result }
+    ensures { (m : BERMode) → Decides (AreComponents m) (λ v. v) WantsMemory contents.now result }
 {
     if contents.is_empty() {
         return Err(ASN1ErrorKind::Invalid);
@@ -123,6 +123,10 @@ fn fault(contents: &[u8], kind: ASN1ErrorKind) -> ASN1ErrorKind
 }
 
 impl Contents for ObjectIdentifier {
+    ghost Said = { List ℕ };
+
+    ghost view = { λ v. v };
+
     ghost means = { AreComponents };
 
     ghost wants = { WantsMemory };

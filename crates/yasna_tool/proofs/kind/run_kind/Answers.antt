@@ -1,61 +1,59 @@
+use Rattle.std.proofs.Common.{Vec, ℕ}
+use Rattle.std.specs.Global.{Global}
 use Rattle.std.specs.Io.KnownBytes.{Appends}
 use Rattle.yasna.specs.base.Identifier.{universal}
-use Rattle.yasna.specs.base.GeneralizedTime.{generalized_time_form}
-use Rattle.yasna.specs.base.Models.{EncodesUtc, EncodesGeneral, utc_of, moment_of}
-use Rattle.yasna.specs.base.UtcTime.{utc_time_form}
-use Rattle.yasna.specs.base.Octets.{EncodesVec, octets_tag, octets_form}
-use Rattle.yasna.specs.base.Text.{EncodesString, characters, utf8_form}
+use Rattle.yasna.specs.base.GeneralizedTime.{EncodesGeneralizedTime, generalized_time_form}
+use Rattle.yasna.specs.base.Models.{utc_of, moment_of}
+use Rattle.yasna.specs.base.UtcTime.{EncodesUtcTime, utc_time_form}
+use Rattle.yasna.specs.base.Octets.{EncodesOctets, octets_tag, octets_form}
+use Rattle.yasna.specs.base.Text.{EncodesText, characters, utf8_form}
 use Rattle.yasna_tool.proofs.Recoded.{recoded, not_recoded}
 use Rattle.yasna_tool.proofs.kind.run_kind.Goals as goal
 
 pub returns-in-Octets-clause-recoded : goal.returns-in-Octets-clause-recoded
 returns-in-Octets-clause-recoded g c =
     rw c.in-Octets.is
-    (recoded EncodesVec (λ m v. octets_form octets_tag m v.items) c.args.mode
+    (recoded EncodesOctets (λ (v : Vec ℕ Global). v.items) (octets_form octets_tag) c.args.mode
     (Appends (g.W.Sink.contents c.args.writer.now) (g.W.Sink.contents c.run-in-Octets.new.writer)) (g.R.Source.remaining c.args.reader.now)
     c.run-in-Octets.result c.run-in-Octets.ensures.ok)
 
 pub returns-in-Octets-clause-none : goal.returns-in-Octets-clause-none
 returns-in-Octets-clause-none g c =
     rw c.in-Octets.is
-    (not_recoded EncodesVec (λ m v. octets_form octets_tag m v.items) c.args.mode _ _ (g.R.Source.remaining c.args.reader.now) c.run-in-Octets.result
-    c.run-in-Octets.ensures.refused)
+    (not_recoded EncodesOctets (octets_form octets_tag) c.args.mode _ _ (g.R.Source.remaining c.args.reader.now) c.run-in-Octets.result c.run-in-Octets.ensures.refused)
 
 pub returns-in-Text-clause-recoded : goal.returns-in-Text-clause-recoded
 returns-in-Text-clause-recoded g c =
     rw c.in-Text.is
-    (recoded EncodesString (λ m v. utf8_form (universal 12) m (characters v)) c.args.mode
+    (recoded EncodesText characters (utf8_form (universal 12)) c.args.mode
     (Appends (g.W.Sink.contents c.args.writer.now) (g.W.Sink.contents c.run-in-Text.new.writer)) (g.R.Source.remaining c.args.reader.now)
     c.run-in-Text.result c.run-in-Text.ensures.ok)
 
 pub returns-in-Text-clause-none : goal.returns-in-Text-clause-none
 returns-in-Text-clause-none g c =
     rw c.in-Text.is
-    (not_recoded EncodesString (λ m v. utf8_form (universal 12) m (characters v)) c.args.mode _ _ (g.R.Source.remaining c.args.reader.now)
-    c.run-in-Text.result c.run-in-Text.ensures.refused)
+    (not_recoded EncodesText (utf8_form (universal 12)) c.args.mode _ _ (g.R.Source.remaining c.args.reader.now) c.run-in-Text.result c.run-in-Text.ensures.refused)
 
 pub returns-in-Utime-clause-recoded : goal.returns-in-Utime-clause-recoded
 returns-in-Utime-clause-recoded g c =
     rw c.in-Utime.is
-    (recoded EncodesUtc (λ m v. utc_time_form (universal 23) m (utc_of v)) c.args.mode
+    (recoded EncodesUtcTime utc_of (utc_time_form (universal 23)) c.args.mode
     (Appends (g.W.Sink.contents c.args.writer.now) (g.W.Sink.contents c.run-in-Utime.new.writer)) (g.R.Source.remaining c.args.reader.now)
     c.run-in-Utime.result c.run-in-Utime.ensures.ok)
 
 pub returns-in-Utime-clause-none : goal.returns-in-Utime-clause-none
 returns-in-Utime-clause-none g c =
     rw c.in-Utime.is
-    (not_recoded EncodesUtc (λ m v. utc_time_form (universal 23) m (utc_of v)) c.args.mode _ _ (g.R.Source.remaining c.args.reader.now)
-    c.run-in-Utime.result c.run-in-Utime.ensures.refused)
+    (not_recoded EncodesUtcTime (utc_time_form (universal 23)) c.args.mode _ _ (g.R.Source.remaining c.args.reader.now) c.run-in-Utime.result c.run-in-Utime.ensures.refused)
 
 pub returns-in-Gtime-clause-recoded : goal.returns-in-Gtime-clause-recoded
 returns-in-Gtime-clause-recoded g c =
     rw c.in-Gtime.is
-    (recoded EncodesGeneral (λ m v. generalized_time_form (universal 24) m (moment_of v)) c.args.mode
+    (recoded EncodesGeneralizedTime moment_of (generalized_time_form (universal 24)) c.args.mode
     (Appends (g.W.Sink.contents c.args.writer.now) (g.W.Sink.contents c.run-in-Gtime.new.writer)) (g.R.Source.remaining c.args.reader.now)
     c.run-in-Gtime.result c.run-in-Gtime.ensures.ok)
 
 pub returns-in-Gtime-clause-none : goal.returns-in-Gtime-clause-none
 returns-in-Gtime-clause-none g c =
     rw c.in-Gtime.is
-    (not_recoded EncodesGeneral (λ m v. generalized_time_form (universal 24) m (moment_of v)) c.args.mode _ _ (g.R.Source.remaining c.args.reader.now)
-    c.run-in-Gtime.result c.run-in-Gtime.ensures.refused)
+    (not_recoded EncodesGeneralizedTime (generalized_time_form (universal 24)) c.args.mode _ _ (g.R.Source.remaining c.args.reader.now) c.run-in-Gtime.result c.run-in-Gtime.ensures.refused)

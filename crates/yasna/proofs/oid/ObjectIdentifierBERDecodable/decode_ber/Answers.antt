@@ -7,5 +7,5 @@ use Rattle.yasna.proofs.oid.ObjectIdentifierBERDecodable.decode_ber.Goals as goa
 
 pub returns : goal.returns
 returns c =
-    asking_decodes (Primitively AreComponents) NoLevel 6 (λ e. omega arith) (λ n m s d. d.1) c.args.reader.now c.read_oid.result
+    asking_decodes (Primitively AreComponents) (λ v. v) NoLevel 6 (λ e. omega arith) (λ n m s d. d.1) c.args.reader.now c.read_oid.result
     c.read_oid.new.self c.requires c.read_oid.ensures

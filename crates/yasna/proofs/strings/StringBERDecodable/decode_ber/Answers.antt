@@ -1,10 +1,9 @@
 use Rattle.std.proofs.Common.{arith}
-use Rattle.yasna_base.specs.Text.{IsUtf8In, InUtf8}
-use Rattle.yasna_reader.specs.Text.{HoldsText}
+use Rattle.yasna_base.specs.Text.{IsStringOf, IsUtf8In, InUtf8, characters}
 use Rattle.yasna.proofs.Closures.{string_by}
 use Rattle.yasna.proofs.strings.StringBERDecodable.decode_ber.Goals as goal
 
 pub returns : goal.returns
 returns c kept =
-    (string_by (HoldsText (IsUtf8In InUtf8)) 12 (λ e. omega arith)).decodes c.args.reader.now c.read_utf8string.result c.read_utf8string.new.self
-    (kept, c.requires) c.read_utf8string.ensures
+    (string_by (IsStringOf (IsUtf8In InUtf8)) characters 12 (λ e. omega arith)).decodes c.args.reader.now c.read_utf8string.result
+    c.read_utf8string.new.self (kept, c.requires) c.read_utf8string.ensures

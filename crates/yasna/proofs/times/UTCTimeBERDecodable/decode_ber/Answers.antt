@@ -1,8 +1,11 @@
 use Rattle.std.proofs.Common.{arith}
-use Rattle.yasna_reader.specs.Times.{HoldsUtc}
+use Rattle.yasna_base.specs.Models.{utc_of}
+use Rattle.yasna_base.specs.Text.{IsStringOf}
+use Rattle.yasna_base.specs.UtcTime.{SaysUtcTime}
 use Rattle.yasna.proofs.Closures.{string_by}
 use Rattle.yasna.proofs.times.UTCTimeBERDecodable.decode_ber.Goals as goal
 
 pub returns : goal.returns
 returns c kept =
-    (string_by HoldsUtc 23 (λ e. omega arith)).decodes c.args.reader.now c.read_utctime.result c.read_utctime.new.self (kept, c.requires) c.read_utctime.ensures
+    (string_by (IsStringOf SaysUtcTime) utc_of 23 (λ e. omega arith)).decodes c.args.reader.now c.read_utctime.result c.read_utctime.new.self
+    (kept, c.requires) c.read_utctime.ensures
