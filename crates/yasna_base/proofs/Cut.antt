@@ -9,7 +9,7 @@ use Rattle.yasna_base.specs.Identifier.{end_tag, BeginsWithTag, StartsElement, A
 use Rattle.yasna_base.specs.Pieces.{Each, Pieces}
 use Rattle.yasna_base.proofs.Coding.{equal_same}
 use Rattle.yasna_base.proofs.Element.{element_exact, primitive_exact, element_begins, element_starts}
-use Rattle.yasna_base.proofs.Header.{opens_begins, header_of}
+use Rattle.yasna_base.proofs.Header.{opens_begins, header_of, end_behind}
 use Rattle.yasna_base.proofs.Pieces.{NoFront, no_front_at_end, tag_not_end, pieces_end, pieces_once, each_same, each_equal, pieces_wider}
 use Rattle.std.specs.List.{AllByRecursion}
 use Rattle.yasna_base.specs.declared.mode.BERMode.TheVariants.{Ber, Der}
@@ -159,9 +159,10 @@ module _ {A : Type 0} {k : Cutting A} (once : CutsOnce k) where
       let i = (header_of m t t Constructed Primitive s d.contents c b r d.end d.opens x e).bit in absurd (cc)
   deep_not_in m t alone starts first apart v s b r d (in_pieces h c vs x p j) e =
       let i = header_of m t t Constructed Constructed s d.contents c b r d.end d.opens x e in
+      let ended = end_behind d.end i.behind r i.ends in
       let f = pieces_once alone d.inside.values vs d.inside.front c d.inside.rest i.behind d.inside.pieces p (apart d.inside.rest d.inside.deep)
-      (no_front_at_end starts i.behind i.ended) (sym d.inside.joined ∙ i.joined) in
-      tag_not_end k.piece i.behind once.piece (subst (λ z. BeginsWithTag k.piece z) f.1 (first d.inside.rest d.inside.deep)) i.ended
+      (no_front_at_end starts i.behind ended) (sym d.inside.joined ∙ i.joined) in
+      tag_not_end k.piece i.behind once.piece (subst (λ z. BeginsWithTag k.piece z) f.1 (first d.inside.rest d.inside.deep)) ended
 
   -- where it is too deep no front is a string
   pub deep_not_cut : (n : ℕ) (m : BERMode) (t : Tag) (s : List ℕ) → IsDeepCut k n m t s → NoFront (IsCut k n m t) s

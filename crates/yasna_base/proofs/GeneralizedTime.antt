@@ -12,7 +12,8 @@ use Rattle.yasna_base.proofs.Places.{layout_is}
 pub general_clock_is : (s : List ℕ) (end seconds : ℕ) (a b : DateTime) → IsGeneralClock s end seconds a → IsGeneralClock s end seconds b → a ≡ b
 general_clock_is s end seconds a b x y = clock_is a b _ _ _ _ _ _ _ x.date y.date x.time y.time
 
-pub reading_is : (s : List ℕ) (end seconds : ℕ) (offset : ℤ) (a b : DateTime) → IsGeneralReading s end seconds offset a → IsGeneralReading s end seconds offset b → a ≡ b
+pub reading_is : (s : List ℕ) (end seconds : ℕ) (offset : ℤ) (a b : DateTime) → IsGeneralReading s end seconds offset a →
+    IsGeneralReading s end seconds offset b → a ≡ b
 reading_is s end seconds offset a b x y =
     less_is x.local y.local a b offset offset (general_clock_is s end seconds x.local y.local x.clock y.clock) refl x.less y.less
 
@@ -55,6 +56,7 @@ leap_second : (s : List ℕ) (end seconds : ℕ) → is_leap s end ≡ true → 
 leap_second s end seconds e = kept_second (end == 14) (two_at s 12 == 60) (two_at s 12) (seconds % 60) e
 
 -- second 60 is kept as second 59
-pub reading_flagged : (s : List ℕ) (end seconds : ℕ) (offset : ℤ) (utc : DateTime) → IsGeneralReading s end seconds offset utc → is_leap s end ≡ true → utc.time.second ≡ 59
+pub reading_flagged : (s : List ℕ) (end seconds : ℕ) (offset : ℤ) (utc : DateTime) → IsGeneralReading s end seconds offset utc → is_leap s end ≡ true →
+    utc.time.second ≡ 59
 reading_flagged s end seconds offset utc r e =
     second_kept r.local utc offset (r.whole e) r.less ∙ pos_is r.local.time.second 59 (r.clock.time.2 ∙ ap pos (leap_second s end seconds e))

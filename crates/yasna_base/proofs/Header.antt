@@ -1,10 +1,10 @@
 -- A header at the front of bytes: it is the only one there, and tells of the element that begins there.
-use Rattle.std.proofs.Common.{◌≡◌, ℕ, List, [], ◌∷◌, ◌++◌, length, refl, ap, ◌∙◌, sym, append-nil}
+use Rattle.std.proofs.Common.{◌≡◌, ℕ, List, [], ◌∷◌, ◌++◌, length, refl, ap, ◌∙◌, sym, subst, append-nil}
 use Rattle.yasna_base.specs.declared.mode.BERMode.{BERMode}
 use Rattle.yasna_base.specs.declared.tag.PCBit.{PCBit}
 use Rattle.yasna_base.specs.declared.tag.Tag.{Tag}
 use Rattle.yasna_base.specs.Element.{Element}
-use Rattle.yasna_base.specs.Header.{ContentsEnd, counted, uncounted, OpensAt}
+use Rattle.yasna_base.specs.Header.{ContentsEnd, counted, uncounted, OpensAt, EndsBefore}
 use Rattle.yasna_base.specs.Identifier.{BeginsWithTag, begins, AtEnd, nothing}
 use Rattle.yasna_base.proofs.Element.{counted_header, uncounted_header}
 use Rattle.yasna_base.proofs.Identifier.{identifier_exact, zeros_at_end}
@@ -16,23 +16,29 @@ pub opens_begins : (m : BERMode) (t : Tag) (p : PCBit) (s c : List ℕ) (e : Con
 opens_begins m t p s c (counted r) x = begins p _ x.joined
 opens_begins m t p s c uncounted x = begins p _ x.joined
 
--- the bytes o behind a header of t with p begin with the contents c of an element of u with q
-pub record HeaderOf (t : Tag) (p : PCBit) (o : List ℕ) (u : Tag) (q : PCBit) (c : List ℕ) : Type 0 where
+-- the bytes o behind a header of t with p begin with the contents c of an element of u with q, which r follows
+pub record HeaderOf (t : Tag) (p : PCBit) (o : List ℕ) (e : ContentsEnd) (u : Tag) (q : PCBit) (c r : List ℕ) : Type 0 where
   pub tag : t ≡ u
   pub bit : p ≡ q
   pub behind : List ℕ
-  pub ended : AtEnd behind
   pub joined : o ≡ c ++ behind
+  pub ends : EndsBefore e behind r
 
 -- where an element begins, a header is its own
 pub header_of : (m : BERMode) (t u : Tag) (p q : PCBit) (s o c b r : List ℕ) (e : ContentsEnd) → OpensAt m t p s o e → Element m u q c b → s ≡ b ++ r →
-    HeaderOf t p o u q c
+    HeaderOf t p o e u q c r
 header_of m t u p q s o c b r (counted z) x y f =
     let i = counted_header m m t u p q (length o) x.l c b (o ++ z) r x.spelled y.framed (sym x.joined ∙ f) in
-    record { tag = i.tag; bit = i.bit; behind = []; ended = nothing refl; joined = (fronts_same o c z r i.count i.behind).0 ∙ sym (append-nil c) }
+    let j = fronts_same o c z r i.count i.behind in
+    record { tag = i.tag; bit = i.bit; behind = []; joined = j.0 ∙ sym (append-nil c); ends = (refl, sym j.1) }
 header_of m t u p q s o c b r uncounted x y f =
     let i = uncounted_header m t u p q c b o r y.framed (sym x.joined ∙ f) in
-    record { tag = i.tag; bit = i.bit; behind = 0 ∷ 0 ∷ r; ended = zeros_at_end (0 ∷ r); joined = i.behind }
+    record { tag = i.tag; bit = i.bit; behind = 0 ∷ 0 ∷ r; joined = i.behind; ends = refl }
+
+-- where contents end is an end
+pub end_behind : (e : ContentsEnd) (y r : List ℕ) → EndsBefore e y r → AtEnd y
+end_behind (counted a) y r h = nothing h.0
+end_behind uncounted y r h = subst (λ z. AtEnd z) (sym h) (zeros_at_end (0 ∷ r))
 
 -- two headers are the same
 pub record SameHeader (t u : Tag) (p q : PCBit) (c d : List ℕ) (e f : ContentsEnd) : Type 0 where

@@ -166,16 +166,3 @@ module _ {A : Type 0} {R : A → List ℕ → Type 0} (exact : (v w : A) (b c r 
   before_rest {More} apart vs front rest p x =
       let i = pieces_further vs x.values front x.front rest x.rest p x.pieces (apart x.rest x.deep) x.joined in
       record { values = i.values; front = i.front; rest = x.rest; pieces = i.pieces; more = subst More i.all x.more; joined = i.joined; deep = x.deep }
-
--- and the other way round
-pub before_front : {A : Type 0} {R : A → List ℕ → Type 0} {More : List A → Type 0} {D : List ℕ → Type 0} (vs : List A) (front rest : List ℕ) →
-    Pieces R vs front → PiecesBefore R (λ us. More (vs ++ us)) D rest → PiecesBefore R More D (front ++ rest)
-before_front vs front rest p x = record {
-  values = vs ++ x.values;
-  front = front ++ x.front;
-  rest = x.rest;
-  pieces = pieces_append vs x.values front x.front p x.pieces;
-  more = x.more;
-  joined = ap (λ z. front ++ z) x.joined ∙ sym (append_assoc front x.front x.rest);
-  deep = x.deep;
-}

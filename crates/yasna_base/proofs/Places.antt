@@ -46,7 +46,8 @@ pub record SameLayout (p f : ℕ) (z : ℤ) (end zone : ℕ) (offset : ℤ) : Ty
   pub same_offset : offset ≡ z
 
 -- the clock and the zone of a layout stand where digits end
-pub places_are : (s : List ℕ) (given : Option ℤ) (p f end zone : ℕ) (z : ℤ) → IsRun s 0 p → EndsPart s p f → IsLayout s given end zone z → (end ≡ p) × (zone ≡ f)
+pub places_are : (s : List ℕ) (given : Option ℤ) (p f end zone : ℕ) (z : ℤ) → IsRun s 0 p → EndsPart s p f → IsLayout s given end zone z →
+    (end ≡ p) × (zone ≡ f)
 places_are s given p f end zone z r e l =
     let same = run_is s 0 end p l.clock r in
     (same, part_is s given p f zone z e (subst (λ k. IsPart s k zone) same l.part) l.at_end)
@@ -56,7 +57,8 @@ empty_part s i j (IsPart.none e) f = omega arith
 empty_part s i j (IsPart.some m more r) f = omega arith
 
 -- no fraction of no digits
-pub no_empty_part : (s : List ℕ) (given : Option ℤ) (p f : ℕ) → IsRun s 0 p → EndsPart s p f → f ≡ p + 1 → (end zone : ℕ) (z : ℤ) → IsLayout s given end zone z → ⊥
+pub no_empty_part : (s : List ℕ) (given : Option ℤ) (p f : ℕ) → IsRun s 0 p → EndsPart s p f → f ≡ p + 1 → (end zone : ℕ) (z : ℤ) →
+    IsLayout s given end zone z → ⊥
 no_empty_part s given p f r e one end zone z l =
     let w = places_are s given p f end zone z r e l in
     empty_part s end zone l.part (omega (arith, w.0, w.1))

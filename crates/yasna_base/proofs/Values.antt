@@ -77,8 +77,10 @@ same_moment a b e =
     let date : x.date ≡ y.date = ap (λ (m : Moment). m.date) e in
     let hour : x.time.hour ≡ y.time.hour = ap (λ (m : Moment). m.hour) e in
     let minute : x.time.minute ≡ y.time.minute = ap (λ (m : Moment). m.minute) e in
-    let second = seconds_are a.is_leap_second b.is_leap_second x.time.second y.time.second x.time.second_in y.time.second_in a.flagged b.flagged (ap (λ (m : Moment). m.second) e) in
-    let split = split_is x.time.subsec_nanosecond y.time.subsec_nanosecond a.sub_nano.items b.sub_nano.items x.time.subsec_in y.time.subsec_in a.trimmed b.trimmed (ap (λ (m : Moment). m.fraction) e) in
+    let second = seconds_are a.is_leap_second b.is_leap_second x.time.second y.time.second x.time.second_in y.time.second_in a.flagged b.flagged
+    (ap (λ (m : Moment). m.second) e) in
+    let split = split_is x.time.subsec_nanosecond y.time.subsec_nanosecond a.sub_nano.items b.sub_nano.items x.time.subsec_in y.time.subsec_in a.trimmed
+    b.trimmed (ap (λ (m : Moment). m.fraction) e) in
     let s : x.time.second ≡ y.time.second = second.1 in
     let n : x.time.subsec_nanosecond ≡ y.time.subsec_nanosecond = split.0 in
     record { datetime = same_datetime x y (civil_nanos-parts x ∙ (cc) ∙ sym (civil_nanos-parts y)); digits = split.1; flag = second.0 }

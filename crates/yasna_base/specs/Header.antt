@@ -1,5 +1,5 @@
 -- What stands in front of an element's contents, and where they end (X.690, 8.1).
-use Rattle.std.specs.Prelude.{◌≡◌, ℕ, ◌^◌, ◌<◌, List, ◌∷◌, ◌++◌, length}
+use Rattle.std.specs.Prelude.{◌≡◌, ℕ, ◌^◌, ◌<◌, List, [], ◌∷◌, ◌++◌, length}
 use Rattle.yasna_base.specs.Digits.{IsBytes}
 use Rattle.yasna_base.specs.Element.{TakesDefinite, TakesIndefinite}
 use Rattle.yasna_base.specs.Identifier.{identifier}
@@ -33,3 +33,8 @@ pub record Leaves (m : BERMode) (t : Tag) (p : PCBit) (s c : List ℕ) : Type 0 
 abbrev pub OpensAt : BERMode → Tag → PCBit → List ℕ → List ℕ → ContentsEnd → Type 0
 OpensAt m t p s c (counted r) = Counts m t p s c r
 OpensAt m t p s c uncounted = Leaves m t p s c
+
+-- y is where contents end, and r follows the element
+abbrev pub EndsBefore : ContentsEnd → List ℕ → List ℕ → Type 0
+EndsBefore (counted a) y r = (y ≡ []) × (r ≡ a)
+EndsBefore uncounted y r = y ≡ 0 ∷ 0 ∷ r

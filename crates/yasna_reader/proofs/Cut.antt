@@ -1,17 +1,16 @@
 -- Strings, whole or in segments: what the header and the contents behind it say of them.
-use Rattle.std.proofs.Common.{◌≡◌, ◌⊎◌, inl, inr, ℕ, zero, suc, ◌-◌, ◌≤◌, List, [], ◌∷◌, ◌++◌, length, Bool, true, false, refl, sym, subst, ◌∙◌, arith}
+use Rattle.std.proofs.Common.{◌≡◌, ◌⊎◌, inl, inr, ℕ, zero, suc, ◌-◌, ◌≤◌, List, [], ◌++◌, length, Bool, true, false, refl, sym, subst, ◌∙◌, arith}
 use Rattle.yasna_base.specs.declared.error.ASN1ErrorKind.TheVariants.{OutOfMemory}
 use Rattle.yasna_base.specs.declared.mode.BERMode.{BERMode}
 use Rattle.yasna_base.specs.declared.tag.Tag.{Tag}
-use Rattle.yasna_base.specs.declared.tag.PCBit.{PCBit}
 use Rattle.yasna_base.specs.declared.tag.PCBit.TheVariants.{Primitive, Constructed}
 use Rattle.yasna_base.specs.Cut.{TakesPieces, Cutting, whole, in_pieces, IsCut, IsDeepCut}
 use Rattle.yasna_base.specs.Element.{IsPrimitive}
-use Rattle.yasna_base.specs.Header.{ContentsEnd, counted, uncounted, OpensAt}
+use Rattle.yasna_base.specs.Header.{ContentsEnd, OpensAt}
 use Rattle.yasna_base.specs.Identifier.{BeginsWithTag}
 use Rattle.yasna_base.proofs.Cut.{cut_zero, cut_of, cut_into, deep_at_zero, deep_of, deep_into, deep_zero_into}
 use Rattle.yasna_base.proofs.Element.{primitive_exact}
-use Rattle.yasna_base.proofs.Header.{header_of, header_once}
+use Rattle.yasna_base.proofs.Header.{opens_begins, header_of, header_once, end_behind}
 use Rattle.yasna_base.proofs.Lists.{empty_is}
 use Rattle.yasna_reader.specs.declared.bytes.header.Refusal.{Refusal}
 use Rattle.yasna_reader.specs.Front.{Takes, Stands}
@@ -19,9 +18,10 @@ use Rattle.yasna_reader.specs.Header.{AnyBit, AreContents, HasHeader, RefusesHea
 use Rattle.yasna_reader.specs.Refusal.{IsPlain, IsTooDeep}
 use Rattle.yasna_reader.specs.Segments.{EndAt, IsDeepWithin, TakesSegments, RefusesSegments, TakesString, RefusesString}
 use Rattle.yasna_reader.proofs.Contents.{takes_begins, copy_wants, opens_wants}
-use Rattle.yasna_reader.proofs.Header.{opens_begins, element_header}
+use Rattle.yasna_reader.proofs.Header.{element_header}
+use Rattle.yasna_reader.proofs.RawHeader.{opens_header}
 use Rattle.yasna_reader.proofs.Refusal.{plain_not_deep, plain_not_memory, begins_not_elsewhere}
-use Rattle.yasna_reader.proofs.Sequences.{placed, closed, ends_at, end_behind}
+use Rattle.yasna_reader.proofs.Sequences.{closed, ends_at}
 
 -- the wanted tag stands there, no string does, and it isn't too deep
 stood : {A : Type 0} (k : Cutting A) (n : ℕ) (m : BERMode) (t : Tag) (s : List ℕ) (e : Refusal) → BeginsWithTag t s → IsPlain e.kind → e.moved ≡ true →
@@ -41,20 +41,6 @@ cut_header k (suc n) m t v b s r x e = elim (cut_into k n m t v b x) [
   | whole c y w ↦ element_header AnyBit m (suc n) t Primitive c b s r (omega arith) tt y e
   | in_pieces h c vs y p j ↦ element_header AnyBit m (suc n) t Constructed c b s r (omega arith) tt y e
 ]
-
-opens_header : (m : BERMode) (n : ℕ) (t : Tag) (p : PCBit) (s c : List ℕ) (e : ContentsEnd) → 1 ≤ n → OpensAt m t p s c e → HasHeader AnyBit m n t s
-opens_header m n t p s c (counted r) l x = record {
-  level = l;
-  bit = p;
-  allowed = tt;
-  behind = x.l ++ (c ++ r);
-  joined = x.joined;
-  contents = c;
-  end = counted r;
-  holds = (x.l, x.taken, x.spelled, refl);
-}
-opens_header m n t p s c uncounted l x =
-    record { level = l; bit = p; allowed = tt; behind = 128 ∷ c; joined = x.joined; contents = c; end = uncounted; holds = (x.taken, refl) }
 
 deep_header : {A : Type 0} (k : Cutting A) (n : ℕ) (m : BERMode) (t : Tag) (s : List ℕ) → IsDeepCut k n m t s → IsTooDeep n t s ⊎ HasHeader AnyBit m n t s
 deep_header k zero m t s d = inl (refl, deep_zero_into k m t s d)
@@ -140,17 +126,17 @@ module _ {A : Type 0} (k : Cutting A) (n j : ℕ) (more : 1 ≤ n) (less : j ≡
   in_segments v r w = elim (cut_into k j m t v w.front (subst (λ z. IsCut k z m t v w.front) (sym level) w.member)) [
     | whole d z q ↦ let i = (header_of m t t Constructed Primitive s c d w.front r end o z w.joined).bit in absurd (cc)
     | in_pieces h d vs z p q ↦
-        let b = placed m t Constructed s c end o d w.front r z w.joined in
+        let b = header_of m t t Constructed Constructed s c d w.front r end o z w.joined in
         record {
           taken = h;
-          place = b.y;
+          place = b.behind;
           ends = b.ends;
           end_at = record {
             values = vs;
             value = v;
             lead = record { front = d; pieces = p; joined = b.joined };
             join = q;
-            at_end = end_behind end b.y r b.ends;
+            at_end = end_behind end b.behind r b.ends;
           };
         }
   ]

@@ -12,6 +12,7 @@ use Rattle.yasna_base.specs.Element.{Element, definite, indefinite, TakesDefinit
 use Rattle.yasna_base.proofs.Identifier.{identifier_exact}
 use Rattle.yasna_base.proofs.Length.{length_exact, length_not_indefinite}
 use Rattle.yasna_base.proofs.Element.{definite_then, indefinite_then}
+use Rattle.yasna_base.proofs.Header.{opens_begins}
 use Rattle.yasna_reader.specs.declared.bytes.header.Refusal.{Refusal}
 use Rattle.yasna_reader.specs.Refusal.{IsPlain, IsTooDeep, Refuses}
 use Rattle.yasna_reader.specs.Length.{Measures}
@@ -21,12 +22,7 @@ use Rattle.yasna_reader.specs.Header.{Holds, HasHeader, AnyBit, OnlyConstructed,
 use Rattle.yasna_base.proofs.Digits.{bytes_behind, bytes_front}
 use Rattle.yasna_reader.proofs.Refusal.{stood_refuses, refuses_less}
 
--- a header begins with its identifier
-pub opens_begins : (m : BERMode) (t : Tag) (p : PCBit) (s c : List ℕ) (f : ContentsEnd) → OpensAt m t p s c f → BeginsWithTag t s
-opens_begins m t p s c (counted r) x = begins p _ x.joined
-opens_begins m t p s c uncounted x = begins p _ x.joined
-
--- so does one that a refusal speaks of
+-- a header that a refusal speaks of begins with its identifier
 pub header_begins : {P : PCBit → Type 0} {m : BERMode} {n : ℕ} {t : Tag} {s : List ℕ} → HasHeader P m n t s → BeginsWithTag t s
 header_begins x = begins x.bit x.behind x.joined
 

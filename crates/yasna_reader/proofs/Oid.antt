@@ -1,5 +1,5 @@
 -- The contents of OBJECT IDENTIFIER, read from the left.
-use Rattle.std.proofs.Common.{inl, inr, ◌+◌, ◌*◌, ◌≡◌, ℕ, ◌^◌, ◌<◌, List, [], ◌∷◌, ◌++◌, length, refl, ap, ◌∙◌, sym, subst, append_assoc, append-nil, length-append, arith}
+use Rattle.std.proofs.Common.{inl, inr, ◌+◌, ◌*◌, ◌≡◌, ℕ, ◌^◌, ◌<◌, List, [], ◌∷◌, ◌++◌, length, refl, ap, ◌∙◌, sym, append_assoc, append-nil, length-append, arith}
 use Rattle.std.proofs.lemmas.Bool.{cases_lt}
 use Rattle.std.specs.List.{flat_map, AllByRecursion}
 use Rattle.yasna_base.specs.Digits.{base128}
@@ -7,7 +7,7 @@ use Rattle.yasna_base.proofs.Digits.{base128_exact, base128_some}
 use Rattle.yasna_base.proofs.Oid.{not_empty}
 use Rattle.yasna_base.specs.declared.mode.BERMode.{BERMode}
 use Rattle.yasna_base.specs.Oid.{AreFirstTwo, AreComponents}
-use Rattle.yasna_reader.specs.Oid.{AreNumbers, Appended}
+use Rattle.yasna_reader.specs.Oid.{AreNumbers}
 
 -- numbers were read of s and appended to old, and rest is left
 pub record AreReadSo (s old new rest : List ℕ) : Type 0 where
@@ -91,13 +91,3 @@ no_further m c n rest e h [] x = x.encodable
 no_further m c n rest e h (a ∷ []) x = x.encodable
 no_further m c n rest e h (a ∷ b ∷ cs) x =
     h cs (record { small = x.encodable.1; joined = (base128_exact n (40 * a + b) rest (flat_map base128 cs) (sym e ∙ x.contents)).1 })
-
--- a number, and numbers behind it, are contents
-pub contents_are : (m : BERMode) (c : List ℕ) (n : ℕ) (rest cs ks new : List ℕ) → c ≡ base128 n ++ rest → (p : Appended n [] cs) → AreNumbers ks rest →
-    new ≡ cs ++ ks → AreComponents m new c
-contents_are m c n rest cs ks new e p x f =
-    let g : new ≡ p.first ∷ p.second ∷ ks = f ∙ ap (λ z. z ++ ks) p.appended in
-    subst (λ z. AreComponents m z c) (sym g) (record {
-      encodable = (p.two, x.small);
-      contents = e ∙ ap (λ k. base128 k ++ rest) (sym p.made) ∙ ap (λ r. base128 (40 * p.first + p.second) ++ r) x.joined;
-    })

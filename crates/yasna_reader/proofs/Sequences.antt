@@ -1,5 +1,5 @@
 -- Elements whose contents a callback reads, up to their end.
-use Rattle.std.proofs.Common.{◌≡◌, ℕ, zero, suc, ◌-◌, ◌≤◌, ◌⊎◌, inl, inr, List, [], ◌∷◌, ◌++◌, length, drop, Option, Some, None, refl, sym, ap, subst, ◌∙◌, append_assoc, append-nil, length-append, Bool, true, false, arith}
+use Rattle.std.proofs.Common.{◌≡◌, ℕ, zero, suc, ◌-◌, ◌≤◌, ◌⊎◌, inl, inr, List, ◌∷◌, ◌++◌, length, drop, Option, Some, None, refl, sym, ap, subst, ◌∙◌, append_assoc, append-nil, length-append, Bool, true, false, arith}
 use Rattle.std.proofs.Math.Seq.{drop-append_seam}
 use Rattle.std.specs.Prelude.{Result, Ok, Err}
 use Rattle.yasna_base.specs.declared.error.ASN1Error.{ASN1Error}
@@ -9,11 +9,10 @@ use Rattle.yasna_base.specs.declared.tag.Tag.{Tag}
 use Rattle.yasna_base.specs.declared.tag.PCBit.{PCBit}
 use Rattle.yasna_base.specs.declared.tag.PCBit.TheVariants.{Constructed}
 use Rattle.yasna_base.specs.Error.{kind_of, error_of}
-use Rattle.yasna_base.specs.Identifier.{identifier, end_tag, AtEnd, nothing, tag_or}
+use Rattle.yasna_base.specs.Identifier.{identifier, end_tag, tag_or}
 use Rattle.yasna_base.specs.Element.{Element, definite, indefinite, end_of_contents, Around, Enclosed, AnyEnclosed}
-use Rattle.yasna_base.proofs.Lists.{append_same, fronts_same}
-use Rattle.yasna_base.proofs.Identifier.{zeros_at_end}
-use Rattle.yasna_base.proofs.Element.{counted_header, uncounted_header}
+use Rattle.yasna_base.proofs.Header.{opens_begins, header_of, end_behind}
+use Rattle.yasna_base.proofs.Lists.{append_same}
 use Rattle.yasna_reader.specs.declared.bytes.header.Refusal.{Refusal}
 use Rattle.yasna_base.specs.Header.{ContentsEnd, counted, uncounted, OpensAt}
 use Rattle.yasna_reader.specs.Header.{EndsAt, EndsBefore, RefusesHeader, OnlyConstructed}
@@ -24,7 +23,7 @@ use Rattle.yasna_reader.specs.State.{Reading, IsFresh, inside, untagged, refusin
 use Rattle.yasna_reader.proofs.Refusal.{plain_not_memory, plain_of, at_end_elsewhere, not_at_end}
 use Rattle.yasna_base.specs.Digits.{IsBytes}
 use Rattle.yasna_base.proofs.Digits.{bytes_front}
-use Rattle.yasna_reader.proofs.Header.{opens_begins, element_header}
+use Rattle.yasna_reader.proofs.Header.{element_header}
 
 module _ {A : Type 0} (P Q : Reading → Result A ASN1Error → Reading → Type 0)
     (says : (s : Reading) (r : Result A ASN1Error) (s' : Reading) → IsFresh s → P s r s' → Q s r s') where
@@ -46,23 +45,6 @@ module _ {A : Type 0} (P Q : Reading → Result A ASN1Error → Reading → Type
   -- where contents are read as P says, and so as Q says
   pub parts_map : (tag : Tag) (s : Reading) (r : Result A ASN1Error) (s' : Reading) → ReadsParts P tag s r s' → ReadsParts Q tag s r s'
   parts_map tag s r s' h = record { enters = entered s.kept (tag_of s tag) s r s' h.enters }
-
--- y is what stands behind contents, and r what follows their element
-pub record Behind (c d : List ℕ) (after : ContentsEnd) (r : List ℕ) : Type 0 where
-  pub y : List ℕ
-  pub joined : c ≡ d ++ y
-  pub ends : EndsBefore after y r
-
--- an element that stands where a header was read has its contents there
-pub placed : (m : BERMode) (t : Tag) (p : PCBit) (s c : List ℕ) (after : ContentsEnd) → OpensAt m t p s c after → (d b r : List ℕ) → Element m t p d b →
-    s ≡ b ++ r → Behind c d after r
-placed m t p s c (counted a) x d b r y e =
-    let h = counted_header m m t t p p (length c) x.l d b (c ++ a) r x.spelled y.framed (sym x.joined ∙ e) in
-    let f = fronts_same c d a r h.count h.behind in
-    record { y = []; joined = f.0 ∙ sym (append-nil d); ends = (refl, sym f.1) }
-placed m t p s c uncounted x d b r y e =
-    let h = uncounted_header m t t p p d b c r y.framed (sym x.joined ∙ e) in
-    record { y = 0 ∷ 0 ∷ r; joined = h.behind; ends = refl }
 
 -- where contents end behind a header, an element stands
 pub record StandsBefore (m : BERMode) (t : Tag) (p : PCBit) (s d r : List ℕ) : Type 0 where
@@ -96,10 +78,6 @@ closed m t p s c uncounted x d y r e h = record {
 pub ends_at : (after : ContentsEnd) (y r : List ℕ) → EndsBefore after y r → EndsAt after y
 ends_at (counted a) y r h = h.0
 ends_at uncounted y r h = (r, h)
-
-pub end_behind : (after : ContentsEnd) (y r : List ℕ) → EndsBefore after y r → AtEnd y
-end_behind (counted a) y r h = nothing h.0
-end_behind uncounted y r h = subst (λ z. AtEnd z) (sym h) (zeros_at_end (0 ∷ r))
 
 around : {A : Type 0} (C : BERMode → ℕ → A → List ℕ → Type 0) (t : Tag) (m : BERMode) (n : ℕ) (v : A) (b : List ℕ) → 1 ≤ n → Around m t (C m (n - 1)) v b →
     Enclosed C t m n v b
@@ -135,8 +113,8 @@ module _ {A : Type 0} (asks : Bool) (C : BERMode → ℕ → A → List ℕ → 
       let T : Tells asks (AnyEnclosed S t s.mode s.levels) s.left e = record {
         none = λ q b v i j.
             let w = (within {A = Unit {0}} (λ m n u c. S m n c) t s.mode s.levels tt b j).1 in
-            let x = placed s.mode t Constructed s.left c after o w.contents b v w.element i in
-            none q w.contents x.y v x.joined x.ends w.meaning;
+            let x = header_of s.mode t t Constructed Constructed s.left c w.contents b v after o w.element i in
+            none q w.contents x.behind v x.joined x.ends w.meaning;
         memory = memory;
       } in
       replaced (Decodes asks (Enclosed C t) (AnyEnclosed S t) s) h.answer h.state (

@@ -52,9 +52,6 @@ pub record SoFar {F A : Type 0} (C : F → Reading → Result A ASN1Error → F 
   pub same : m ≡ record s { left = m.left }
   pub turns : Turns C f s vs h m
 
-pub none_so_far : {F A : Type 0} (C : F → Reading → Result A ASN1Error → F → Reading → Type 0) (f : F) (s : Reading) → SoFar C f s [] f s
-none_so_far C f s = record { front = []; joined = refl; same = refl; turns = (refl, refl) }
-
 -- a further turn
 pub more_so_far : {F A : Type 0} (C : F → Reading → Result A ASN1Error → F → Reading → Type 0) (f : F) (s : Reading) (vs : List A) (v : A) (h : F)
     (m : Reading) (f' : F) (s' : Reading) → IsFresh s → SoFar C f s vs h m → Turn C h m (Gave v) f' s' → SoFar C f s (vs ++ (v ∷ [])) f' s'

@@ -135,7 +135,8 @@ module _ (m : BERMode) (n : ℕ) (s r : List ℕ) (x : Passes m (suc n) s r) whe
   passed : {P : List ℕ → Type 0} → (P s → ⊥) → JoiningBefore (IsRaw (suc n) m) P s ↔ JoiningBefore (IsRaw (suc n) m) P r
   passed not_here = (
     λ y. past not_here (behind m n x.tag x.bit s x.contents (counted r) x.opened.opens (before_first s y)),
-    λ y. let w = raw_within m x.tag x.bit s x.contents (counted r) r x.opened.not_end x.opened.opens (refl, λ l. absurd (x.closed l)) in more_raw m n w.0 s r w.1 y,
+    λ y. let w = raw_within m x.tag x.bit s x.contents (counted r) r x.opened.not_end x.opened.opens (refl, λ l. absurd (x.closed l)) in
+        more_raw m n w.0 s r w.1 y,
   )
 
   passed_starts : StartsElement s
@@ -206,7 +207,8 @@ deep_no_header m zero s none d = (refl, deep_zero_into m s d)
 deep_no_header m (suc n) s none d =
     let y = deep_into n m s d in
     let x = opens_starts m y.tag y.bit s y.contents y.end y.not_end y.opens in
-    absurd (none y.tag (opens_range m y.tag y.bit s y.contents y.end y.opens) y.not_end (opens_header m (suc n) y.tag y.bit s y.contents y.end (omega arith) y.opens))
+    absurd (none y.tag (opens_range m y.tag y.bit s y.contents y.end y.opens) y.not_end
+    (opens_header m (suc n) y.tag y.bit s y.contents y.end (omega arith) y.opens))
 
 pub level_deep : (m : BERMode) (n : ℕ) (s : List ℕ) → HasNoLevel n s → IsDeepRaw n m s
 level_deep m n s x = subst (λ k. IsDeepRaw k m s) (sym x.0) (deep_at_zero m s x.1)

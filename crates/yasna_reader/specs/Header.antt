@@ -3,6 +3,7 @@ use Rattle.std.specs.Borrow.{Bor}
 use Rattle.std.specs.Prelude.{◌≡◌, ℕ, ◌≤◌, List, [], ◌∷◌, ◌++◌, length, Option, Some, None, Result, Ok, Err}
 use Rattle.yasna_base.specs.Digits.{IsBytes}
 use Rattle.yasna_base.specs.Element.{TakesDefinite, TakesIndefinite, IsPrimitive}
+pub use Rattle.yasna_base.specs.Header.{EndsBefore}
 use Rattle.yasna_base.specs.Header.{ContentsEnd, counted, uncounted, OpensAt}
 use Rattle.yasna_base.specs.Identifier.{identifier}
 use Rattle.yasna_base.specs.Length.{SpellsLength}
@@ -75,11 +76,6 @@ PrimitiveAt n m t s (Err e) = Refuses (Stands (IsPrimitive AreContents n m t) s)
 abbrev pub EndsAt : ContentsEnd → List ℕ → Type 0
 EndsAt (counted a) y = y ≡ []
 EndsAt uncounted y = (z : List ℕ) × (y ≡ 0 ∷ 0 ∷ z)
-
--- the same, and r follows the element
-abbrev pub EndsBefore : ContentsEnd → List ℕ → List ℕ → Type 0
-EndsBefore (counted a) y r = (y ≡ []) × (r ≡ a)
-EndsBefore uncounted y r = y ≡ 0 ∷ 0 ∷ r
 
 -- contents that were read as far as y end there, or don't
 abbrev pub ClosesAt : ContentsEnd → List ℕ → Result (Bor (List ℕ)) ASN1ErrorKind → Type 0

@@ -79,7 +79,8 @@ pub appended_character :
     → record mid { bytes = mid.bytes ++ bmp_octets (drop n cs) } ≡ w → record new { bytes = new.bytes ++ bmp_octets (drop (n + 1) cs) } ≡ w
 appended_character w mid new cs n c turn e all =
     ap (λ (z : Written). record z { bytes = z.bytes ++ bmp_octets (drop (n + 1) cs) }) e
-    ∙ ap (λ x. record mid { bytes = x }) (append_assoc mid.bytes (bmp_octets (c ∷ [])) (bmp_octets (drop (n + 1) cs)) ∙ ap (λ x. mid.bytes ++ x) (sym (octets_left cs n c turn)))
+    ∙ ap (λ x. record mid { bytes = x })
+    (append_assoc mid.bytes (bmp_octets (c ∷ [])) (bmp_octets (drop (n + 1) cs)) ∙ ap (λ x. mid.bytes ++ x) (sym (octets_left cs n c turn)))
     ∙ all
 
 pub appended_all : (w mid : Written) (cs : List ℕ) (n : ℕ) → length cs ≤ n → record mid { bytes = mid.bytes ++ bmp_octets (drop n cs) } ≡ w → mid ≡ w

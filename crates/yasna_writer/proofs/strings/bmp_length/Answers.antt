@@ -11,14 +11,16 @@ use Rattle.yasna_writer.proofs.strings.bmp_length.Goals as goal
 pub overflow_add-length : goal.overflow_add-length
 overflow_add-length c =
     let text = c.args.string.now in
-    let t = YieldsList-turn (YieldsList-from_chars text c.utf8.string cc) c.loop-c.yielded _ c.loop-c.yielded_by _ _ c.in-Some.c c.in-Some.is c.next.ensures.steps in
+    let t = YieldsList-turn (YieldsList-from_chars text c.utf8.string cc) c.loop-c.yielded _ c.loop-c.yielded_by _ _ c.in-Some.c c.in-Some.is
+    c.next.ensures.steps in
     let left = length_left _ _ _ _ t c.len_utf16.ensures.bmp c.len_utf16.ensures.surrogate_pair in
     omega (arith, c.loop-c.invariant, left, octets_bound (chars text), ap length (encodes-chars text c.utf8.string))
 
 pub loop-c-preserved : goal.loop-c-preserved
 loop-c-preserved c =
     let text = c.args.string.now in
-    let t = YieldsList-turn (YieldsList-from_chars text c.utf8.string cc) c.loop-c.yielded _ c.loop-c.yielded_by _ _ c.in-Some.c c.in-Some.is c.next.ensures.steps in
+    let t = YieldsList-turn (YieldsList-from_chars text c.utf8.string cc) c.loop-c.yielded _ c.loop-c.yielded_by _ _ c.in-Some.c c.in-Some.is
+    c.next.ensures.steps in
     let left = length_left _ _ _ _ t c.len_utf16.ensures.bmp c.len_utf16.ensures.surrogate_pair in
     rw (length_push c.loop-c.yielded c.in-Some.c) (omega (arith, c.loop-c.invariant, left))
 

@@ -11,5 +11,6 @@ returns-in-Err c =
     let f8 : FitsSigned w64 c.seconds.result = omega (arith, signed_arith, c.args.offset.in_range, c.seconds.ensures) in
     let d = simp to_z-of_z at c.from_secs.ensures in
     let r = civil_nanos_range utc in
-    let none = c.in-Err.ensures.succeeds.1 (omega (arith, signed_arith, d, less, r, c.seconds.ensures), omega (arith, signed_arith, d, less, r, c.seconds.ensures)) in
+    let none = c.in-Err.ensures.succeeds.1
+    (omega (arith, signed_arith, d, less, r, c.seconds.ensures), omega (arith, signed_arith, d, less, r, c.seconds.ensures)) in
     cc

@@ -32,7 +32,8 @@ returns-in-Err-follow c =
     let p = c.args.cursor in
     let o = c.in-Ok.opened in
     let w = c.in-Err-follow.ensures {u = tt} in
-    rw c.refuse.ensures (not_followed p.mode p.levels c.in-Ok.tag o.bit p.left.now o.within.now (contents_end o.after) _ (c.in-Ok.ensures {u = tt}) w.0 w.1 refl)
+    rw c.refuse.ensures
+    (not_followed p.mode p.levels c.in-Ok.tag o.bit p.left.now o.within.now (contents_end o.after) _ (c.in-Ok.ensures {u = tt}) w.0 w.1 refl)
 
 pub returns-in-Err : goal.returns-in-Err
 returns-in-Err c = not_opened c.args.cursor.mode c.args.cursor.levels c.args.cursor.left.now c.in-Err.refusal (c.in-Err.ensures {u = tt})

@@ -10,7 +10,8 @@ loop-after-init c = (omega arith, omega arith, omega arith, search rules, same_s
 pub returns-then-depth-eq0 : goal.returns-then-depth-eq0
 returns-then-depth-eq0 c =
     let i = c.loop-after.invariant in
-    let x : EndsBefore (contents_end (get_or c.loop-after.ends (c.loop-after.depth - 1) None)) c.loop-after.here.left.now c.in-Ok-Left.after.now = search rules in
+    let x : EndsBefore (contents_end (get_or c.loop-after.ends (c.loop-after.depth - 1) None)) c.loop-after.here.left.now c.in-Ok-Left.after.now =
+    search rules in
     let w = keeps_left c.args.cursor.mode (contents_end c.args.end) c.args.cursor.levels c.args.cursor.left.now c.loop-after.ends c.loop-after.depth
     c.loop-after.here.levels c.loop-after.here.mode c.loop-after.here.left.now i.0 i.3 i.4
     c.in-Ok-Left.after.now c.in-Ok-Left.after.now (c.loop-after.here.levels + 1) x refl refl in
@@ -20,14 +21,17 @@ returns-then-depth-eq0 c =
 
 pub loop-after-smaller-in-Ok-Left : goal.loop-after-smaller-in-Ok-Left
 loop-after-smaller-in-Ok-Left c =
-    let x : EndsBefore (contents_end (get_or c.loop-after.ends (c.loop-after.depth - 1) None)) c.loop-after.here.left.now c.in-Ok-Left.after.now = search rules in
-    left_smaller c.loop-after.ends c.loop-after.depth c.loop-after.here.left.now c.in-Ok-Left.after.now c.outside-here.result.left.now c.loop-after.invariant.0 x c.outside-here.ensures.left
+    let x : EndsBefore (contents_end (get_or c.loop-after.ends (c.loop-after.depth - 1) None)) c.loop-after.here.left.now c.in-Ok-Left.after.now =
+    search rules in
+    left_smaller c.loop-after.ends c.loop-after.depth c.loop-after.here.left.now c.in-Ok-Left.after.now c.outside-here.result.left.now c.loop-after.invariant.0
+    x c.outside-here.ensures.left
 
 pub loop-after-preserved-in-Ok-Left : goal.loop-after-preserved-in-Ok-Left
 loop-after-preserved-in-Ok-Left c =
     let i = c.loop-after.invariant in
     let b = c.outside-here.ensures in
-    let x : EndsBefore (contents_end (get_or c.loop-after.ends (c.loop-after.depth - 1) None)) c.loop-after.here.left.now c.in-Ok-Left.after.now = search rules in (
+    let x : EndsBefore (contents_end (get_or c.loop-after.ends (c.loop-after.depth - 1) None)) c.loop-after.here.left.now c.in-Ok-Left.after.now =
+    search rules in (
       omega (arith, c.if-depth-eq0.false),
       i.1,
       omega (arith, b.levels),
@@ -40,7 +44,8 @@ loop-after-preserved-in-Ok-Left c =
 pub loop-after-smaller-in-Ok-Passed : goal.loop-after-smaller-in-Ok-Passed
 loop-after-smaller-in-Ok-Passed c =
     let x : Passes c.loop-after.here.mode c.loop-after.here.levels c.loop-after.here.left.now c.in-Ok-Passed.after.now = search rules in
-    passed_smaller c.loop-after.ends c.loop-after.depth c.loop-after.here.mode c.loop-after.here.levels c.loop-after.here.left.now c.in-Ok-Passed.after.now c.further-here.result.left.now x c.further-here.ensures.left
+    passed_smaller c.loop-after.ends c.loop-after.depth c.loop-after.here.mode c.loop-after.here.levels c.loop-after.here.left.now c.in-Ok-Passed.after.now
+    c.further-here.result.left.now x c.further-here.ensures.left
 
 pub loop-after-preserved-in-Ok-Passed : goal.loop-after-preserved-in-Ok-Passed
 loop-after-preserved-in-Ok-Passed c =
@@ -61,7 +66,8 @@ loop-after-smaller c =
     let i = c.loop-after.invariant in
     let x : Enters c.loop-after.here.mode c.loop-after.here.levels c.loop-after.here.left.now c.in-Ok-Entered.opened.within.now
     (contents_end c.in-Ok-Entered.opened.after) = search rules in
-    entered_smaller c.loop-after.ends c.loop-after.depth c.loop-after.here.mode c.loop-after.here.levels c.loop-after.here.left.now c.in-Ok-Entered.opened.within.now
+    entered_smaller c.loop-after.ends c.loop-after.depth c.loop-after.here.mode c.loop-after.here.levels c.loop-after.here.left.now
+    c.in-Ok-Entered.opened.within.now
     c.inside-here.result.left.now c.in-Ok-Entered.opened.after (let l = x.opened.level in omega arith) x c.inside-here.ensures.left
 
 pub loop-after-preserved : goal.loop-after-preserved
@@ -77,7 +83,8 @@ loop-after-preserved c =
       b.mode ∙ i.3,
       keeps_entered c.args.cursor.mode (contents_end c.args.end) c.args.cursor.levels c.args.cursor.left.now c.loop-after.ends c.loop-after.depth
           c.loop-after.here.levels c.loop-after.here.mode c.loop-after.here.left.now i.0 i.3 i.4
-          c.in-Ok-Entered.opened.within.now c.inside-here.result.left.now c.inside-here.result.levels c.in-Ok-Entered.opened.after (omega arith) x b.left b.levels,
+          c.in-Ok-Entered.opened.within.now c.inside-here.result.left.now c.inside-here.result.levels c.in-Ok-Entered.opened.after (omega arith) x b.left
+          b.levels,
     )
 
 pub returns-in-Err : goal.returns-in-Err

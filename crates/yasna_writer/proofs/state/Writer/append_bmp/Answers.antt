@@ -9,7 +9,8 @@ use Rattle.yasna_writer.proofs.state.Writer.append_bmp.Goals as goal
 pub loop-c-preserved : goal.loop-c-preserved
 loop-c-preserved c =
     let text = c.args.string.now in
-    let t = YieldsList-turn (YieldsList-from_chars text c.utf8.string cc) c.loop-c.yielded _ c.loop-c.yielded_by _ _ c.in-Some.c c.in-Some.is c.next.ensures.steps in
+    let t = YieldsList-turn (YieldsList-from_chars text c.utf8.string cc) c.loop-c.yielded _ c.loop-c.yielded_by _ _ c.in-Some.c c.in-Some.is
+    c.next.ensures.steps in
     rw (length_push c.loop-c.yielded c.in-Some.c)
     (appended_character _ c.loop-c.self c.append_units.new.self (chars text) _ c.in-Some.c t (c.in_ok-append_units.ensures {u = tt}) c.loop-c.invariant)
 

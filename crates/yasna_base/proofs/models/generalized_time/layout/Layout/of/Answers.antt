@@ -9,13 +9,15 @@ pub returns-then-zone_at-clock_end-clause-exact : goal.returns-then-zone_at-cloc
 returns-then-zone_at-clock_end-clause-exact c =
     let e : EndsPart c.args.bytes.now c.digits_end-clock_end.result c.part_end-zone_at.result =
     record { some = c.part_end-zone_at.ensures.some; none = c.part_end-zone_at.ensures.none } in
-    no_empty_part c.args.bytes.now (seconds_of c.args.given) c.digits_end-clock_end.result c.part_end-zone_at.result c.digits_end-clock_end.ensures e c.if-zone_at-clock_end.true
+    no_empty_part c.args.bytes.now (seconds_of c.args.given) c.digits_end-clock_end.result c.part_end-zone_at.result c.digits_end-clock_end.ensures e
+    c.if-zone_at-clock_end.true
 
 pub returns-in_default-clause-exact : goal.returns-in_default-clause-exact
 returns-in_default-clause-exact c =
     let e : EndsPart c.args.bytes.now c.digits_end-clock_end.result c.part_end-zone_at.result =
     record { some = c.part_end-zone_at.ensures.some; none = c.part_end-zone_at.ensures.none } in
-    no_zone_there c.args.bytes.now (seconds_of c.args.given) c.digits_end-clock_end.result c.part_end-zone_at.result c.digits_end-clock_end.ensures e c.in_default.ensures
+    no_zone_there c.args.bytes.now (seconds_of c.args.given) c.digits_end-clock_end.result c.part_end-zone_at.result c.digits_end-clock_end.ensures e
+    c.in_default.ensures
 
 pub returns-clause-exact : goal.returns-clause-exact
 returns-clause-exact c =
