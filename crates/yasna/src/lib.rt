@@ -7,9 +7,10 @@
 //! |---|---|
 //! | `traits` | what a type says that is read and written as a whole |
 //! | `whole` | whole inputs and outputs, and what is proved of them for every such type |
-//! | `primitive`, `strings`, `oid`, `times`, `tuples` | the types that come with the crate |
+//! | `primitive`, `strings`, `oid`, `times`, `lists`, `tuples` | the types that come with the crate |
 #![tactic(auto)]
 
+mod lists;
 mod oid;
 mod primitive;
 mod strings;
