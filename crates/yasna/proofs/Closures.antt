@@ -21,12 +21,14 @@ use Rattle.yasna_reader.specs.Sequence.{Runs, ReadsParts}
 use Rattle.yasna_reader.specs.SequenceOf.{Collects}
 use Rattle.yasna_reader.specs.Decodes.{Decodes, Decoded}
 use Rattle.yasna_reader.specs.Primitive.{ReadsSeen, Reads, NoLevel}
+use Rattle.yasna_reader.specs.Raw.{ReadsRaw}
 use Rattle.yasna_reader.specs.Contents.{Never, WantsMemory}
 use Rattle.yasna_reader.specs.State.{Reading, IsFresh, starts, part_of}
 use Rattle.yasna_reader.proofs.Listing.{collects}
 use Rattle.yasna_reader.proofs.Sequences.{parts_map}
 use Rattle.yasna_reader.proofs.Tuples.{IsDecoder, IsPartsDecoder, steps_sequence}
 use Rattle.yasna_reader.proofs.Whole.{whole}
+use Rattle.yasna_reader.proofs.RawReads.{raw_decodes}
 use Rattle.yasna_reader.proofs.Primitives.{leaf_decodes, asking_decodes}
 pub use Rattle.yasna_reader.proofs.Tuples.{decodes_by, done_by, step_by, seen, chosen}
 pub use Rattle.yasna_reader.proofs.Ahead.{looked, found_none, found_other}
@@ -59,6 +61,11 @@ pub leaf_with_memory_by : {V A : Type 0} (B : ℕ → BERMode → Tag → A → 
     (ReadsSeen B view NoLevel WantsMemory (universal k))
 leaf_with_memory_by B view k h =
     record { decodes = λ s r s' fresh x. asking_decodes B view NoLevel k h (λ n m z d. d.1) s r s' fresh.1 x fresh.0 }
+
+-- and a read of an element of any tag, of which B says what is copied
+pub raw_by : {V A : Type 0} (B : ℕ → BERMode → A → List ℕ → Type 0) (view : V → A) →
+    IsDecoder true (λ m n v b. B n m (view v) b) (Any (λ m n v b. B n m v b)) (ReadsRaw B view)
+raw_by B view = record { decodes = λ s r s' fresh x. raw_decodes B view s fresh r s' x }
 
 -- a run of f does what each of its calls does
 by_run : {F T R : Type 0} {g : Once F (MutBor T × Unit {0}) (R × (MutBor T × Unit {0}))} {f : F} (P : T → R → T → Type 0) →

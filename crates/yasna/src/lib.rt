@@ -7,11 +7,14 @@
 //! |---|---|
 //! | `traits` | what a type says that is read and written as a whole |
 //! | `whole` | whole inputs and outputs, and what is proved of them for every such type |
-//! | `primitive`, `strings`, `oid`, `times`, `tuples` | the types that come with the crate |
+//! | `primitive`, `strings`, `borrowed`, `oid`, `times`, `raw`, `lists`, `tuples` | the types that come with the crate |
 #![tactic(auto)]
 
+mod borrowed;
+mod lists;
 mod oid;
 mod primitive;
+mod raw;
 mod strings;
 mod times;
 mod traits;

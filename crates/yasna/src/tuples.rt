@@ -9,9 +9,11 @@ ghost use Rattle.yasna_base.specs.Element.{Enclosed, AnyEnclosed};
 ghost use Rattle.yasna_base.specs.Coding.{ArePartsCoding};
 ghost use Rattle.yasna_base.specs.Canonical.{enclosed_form, enclosed_nest, Always};
 ghost use Rattle.yasna_base.proofs.Sequence.{part, no_part, tuple, part_written, no_part_written, tuple_written};
-ghost use Rattle.yasna_writer.specs.View.{WroteParts};
+ghost use Rattle.yasna_writer.specs.View.{Wrote, WroteParts};
 ghost use Rattle.yasna_reader.specs.State.{IsFresh, part_of};
 ghost use Rattle.yasna_reader.specs.Decodes.{Decodes, DecodesParts};
+
+mod others;
 
 use crate::traits::{BERDecodable, DERCanonical, DEREncodable};
 use yasna_base::error::ASN1Result;
@@ -87,37 +89,6 @@ fn read_tuple<W: TupleParts>(reader: BERReader) -> ASN1Result<W>
     reader.read_sequence(|seq| W::read_parts(seq))
 }
 
-impl<A: BERDecodable, B: BERDecodable> BERDecodable for (A, B) {
-    ghost encodes = { λ m n v b. Enclosed (PartOf A.encodes (PartOf B.encodes NoParts)) sequence_tag m n (v.0, (v.1, tt)) b };
-
-    ghost elements = { AnyEnclosed (AnyPart A.elements (AnyPart B.elements AnyNothing)) sequence_tag };
-
-    ghost asks_memory = { (A.asks_memory || (B.asks_memory || false)) };
-
-    ghost same = { λ v w. SamePart A.same (SamePart B.same SameNothing) (v.0, (v.1, tt)) (w.0, (w.1, tt)) };
-
-    fn decode_ber(reader: BERReader) -> ASN1Result<(A, B)> {
-        match read_tuple::<(A, (B, ()))>(reader) {
-            Ok((a, (b, ()))) => Ok((a, b)),
-            Err(error) => Err(error),
-        }
-    }
-
-    ghost coding = { tuple (λ v. (v.0, (v.1, tt))) (part A.coding (part B.coding no_part)) };
-}
-
-impl<A: DEREncodable, B: DEREncodable> DEREncodable for (A, B) {
-    ghost form = { λ m v. enclosed_form (part_form A.form (part_form B.form nothing_form)) sequence_tag m (v.0, (v.1, tt)) };
-
-    ghost nest = { λ m v. enclosed_nest (part_nest A.nest (part_nest B.nest nothing_nest)) m (v.0, (v.1, tt)) };
-
-    ghost encodable = { λ v. part_can A.encodable (part_can B.encodable Always) (v.0, (v.1, tt {0})) };
-
-    fn encode_der(&self, writer: DERWriter<'_>) -> ASN1Result<()> {
-        writer.write_sequence(|seq| (&self.0, (&self.1, ())).write_parts(seq))
-    }
-}
-
 /// Values that are written one after the other: pairs that end in `()`, as `(&a, (&b, (&c, ())))`.
 pub trait EncodableParts {
     // The forms of the values, one after the other.
@@ -150,6 +121,65 @@ impl<A: DEREncodable, W: EncodableParts> EncodableParts for (A, W) {
     fn write_parts(&self, seq: &mut DERWriterSeq) -> ASN1Result<()> {
         self.0.encode_der(seq.next())?;
         self.1.write_parts(seq)
+    }
+}
+
+// Writes a SEQUENCE of these parts.
+#[inline(always)]
+fn write_tuple<W: EncodableParts>(parts: &W, writer: DERWriter<'_>) -> ASN1Result<()>
+    requires can { W.parts_encodable parts.now }
+    requires untagged { writer.old.tag ≡ None }
+    ensures { Wrote (enclosed_form W.parts_form sequence_tag writer.old.mode parts.now) writer.old writer.new result }
+{
+    writer.write_sequence(|seq| parts.write_parts(seq))
+}
+
+// Writes a SEQUENCE of six parts and of those behind them.
+fn write_long_tuple<
+    A: DEREncodable,
+    B: DEREncodable,
+    C: DEREncodable,
+    D: DEREncodable,
+    E: DEREncodable,
+    F: DEREncodable,
+    W: EncodableParts + Drop,
+>(first: (&A, &B, &C, &D, &E, &F), others: W, writer: DERWriter<'_>) -> ASN1Result<()>
+    requires can { part_can A.encodable (part_can B.encodable (part_can C.encodable (part_can D.encodable (part_can E.encodable (part_can F.encodable W.parts_encodable))))) (first.0.now, (first.1.now, (first.2.now, (first.3.now, (first.4.now, (first.5.now, others)))))) }
+    requires untagged { writer.old.tag ≡ None }
+    ensures { Wrote (enclosed_form (part_form A.form (part_form B.form (part_form C.form (part_form D.form (part_form E.form (part_form F.form W.parts_form)))))) sequence_tag writer.old.mode (first.entry.0.now, (first.entry.1.now, (first.entry.2.now, (first.entry.3.now, (first.entry.4.now, (first.entry.5.now, others))))))) writer.old writer.new result }
+{
+    let (a, b, c, d, e, f) = first;
+    write_tuple(&(a, (b, (c, (d, (e, (f, others)))))), writer)
+}
+
+impl<A: BERDecodable, B: BERDecodable> BERDecodable for (A, B) {
+    ghost encodes = { λ m n v b. Enclosed (PartOf A.encodes (PartOf B.encodes NoParts)) sequence_tag m n (v.0, (v.1, tt)) b };
+
+    ghost elements = { AnyEnclosed (AnyPart A.elements (AnyPart B.elements AnyNothing)) sequence_tag };
+
+    ghost asks_memory = { (A.asks_memory || (B.asks_memory || false)) };
+
+    ghost same = { λ v w. SamePart A.same (SamePart B.same SameNothing) (v.0, (v.1, tt)) (w.0, (w.1, tt)) };
+
+    fn decode_ber(reader: BERReader) -> ASN1Result<(A, B)> {
+        match read_tuple::<(A, (B, ()))>(reader) {
+            Ok((a, (b, ()))) => Ok((a, b)),
+            Err(error) => Err(error),
+        }
+    }
+
+    ghost coding = { tuple (λ v. (v.0, (v.1, tt))) (part A.coding (part B.coding no_part)) };
+}
+
+impl<A: DEREncodable, B: DEREncodable> DEREncodable for (A, B) {
+    ghost form = { λ m v. enclosed_form (part_form A.form (part_form B.form nothing_form)) sequence_tag m (v.0, (v.1, tt)) };
+
+    ghost nest = { λ m v. enclosed_nest (part_nest A.nest (part_nest B.nest nothing_nest)) m (v.0, (v.1, tt)) };
+
+    ghost encodable = { λ v. part_can A.encodable (part_can B.encodable Always) (v.0, (v.1, tt {0})) };
+
+    fn encode_der(&self, writer: DERWriter<'_>) -> ASN1Result<()> {
+        write_tuple(&(&self.0, (&self.1, ())), writer)
     }
 }
 

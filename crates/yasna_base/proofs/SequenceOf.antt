@@ -1,13 +1,21 @@
--- The laws of reading of elements of one type, one after the other, and of a SEQUENCE OF them.
-use Rattle.std.proofs.Common.{◌≡◌, ℕ, List, [], ◌∷◌, refl, subst}
+-- The laws of elements of one type, one after the other, and of a SEQUENCE OF them.
+use Rattle.std.proofs.Common.{◌≡◌, ℕ, ◌^◌, ◌<◌, ◌≤◌, max, List, [], ◌∷◌, ◌++◌, length, refl, ap₂, ◌∙◌, arith, length-append, subst}
+use Rattle.std.specs.List.{AllByRecursion, concat}
 use Rattle.yasna_base.specs.declared.mode.BERMode.{BERMode}
+use Rattle.yasna_base.specs.declared.mode.BERMode.TheVariants.{Ber, Der}
 use Rattle.yasna_base.specs.declared.tag.Tag.{Tag}
+use Rattle.yasna_base.specs.Canonical.{IsCanonicalMode, HoldsForm, enclosed_form, enclosed_nest, IsWritten}
 use Rattle.yasna_base.specs.Coding.{IsSame, IsCoding, IsContentsCoding}
+use Rattle.yasna_base.specs.Digits.{IsBytes}
 use Rattle.yasna_base.specs.Identifier.{end_tag, nothing}
 use Rattle.yasna_base.specs.Pieces.{Each}
-use Rattle.yasna_base.specs.SequenceOf.{ElementsOf, AnyElements, IsListOf, AnyListOf}
-use Rattle.yasna_base.proofs.Coding.{enclosed}
-use Rattle.yasna_base.proofs.Pieces.{no_front_at_end, pieces_once, pieces_end, each_same, pieces_wider}
+use Rattle.yasna_base.specs.Sequence.{sequence_tag}
+use Rattle.yasna_base.specs.SequenceOf.{ElementsOf, AnyElements, IsListOf, AnyListOf, elements_form, elements_nest}
+use Rattle.yasna_base.proofs.Canonical.{enclosed_written, written_along}
+use Rattle.yasna_base.proofs.Coding.{along, enclosed}
+use Rattle.yasna_base.proofs.Digits.{bytes_append}
+use Rattle.yasna_base.proofs.Identifier.{not_end}
+use Rattle.yasna_base.proofs.Pieces.{no_front_at_end, pieces_once, pieces_end, each_same, pieces_wider, no_pieces, one_piece, pieces_append}
 
 each_reflexive : {A : Type 0} (E : A → A → Type 0) → ((v : A) → E v v) → (vs : List A) → Each E vs vs
 each_reflexive E f [] = tt
@@ -65,3 +73,74 @@ elements_contents {A} {E} {B} {S} x = record {
 pub list : {A : Type 0} {E : A → A → Type 0} {B : BERMode → ℕ → A → List ℕ → Type 0} {S : BERMode → ℕ → List ℕ → Type 0} (t : Tag) → (t ≡ end_tag → ⊥) →
     IsCoding E B S → IsCoding (λ vs ws. Each E vs ws) (IsListOf B t) (AnyListOf S t)
 list t not_end x = enclosed t not_end (elements_contents x)
+
+-- a type whose values stand for lists keeps the laws of reading as a SEQUENCE OF
+pub list_along : {U A : Type 0} {E : A → A → Type 0} {B : BERMode → ℕ → A → List ℕ → Type 0} {S : BERMode → ℕ → List ℕ → Type 0} (f : U → List A) →
+    IsCoding E B S → IsCoding (λ v w. Each E (f v) (f w)) (λ m n v b. IsListOf B sequence_tag m n (f v) b) (AnyListOf S sequence_tag)
+list_along f x = along f (list sequence_tag (not_end 16 (λ e. omega arith)) x)
+
+module _ {A : Type 0} {E : A → A → Type 0} {B : BERMode → ℕ → A → List ℕ → Type 0} {form : BERMode → A → List ℕ} {nest : BERMode → A → ℕ}
+    {Can : A → Type 0} (x : IsWritten E B form nest Can) where
+  elements_bytes : (m : BERMode) (vs : List A) → AllByRecursion Can vs → length (elements_form form m vs) < 2 ^ 64 → IsBytes (elements_form form m vs)
+  elements_bytes m [] can short = tt
+  elements_bytes m (v ∷ vs) can short =
+      let both = length-append (form m v) (elements_form form m vs) in
+      bytes_append (form m v) (elements_form form m vs) (x.has.in_bytes m v can.0 (omega (arith, both, short)))
+      (elements_bytes m vs can.1 (omega (arith, both, short)))
+
+  elements_hold : (m o : BERMode) (n : ℕ) (vs : List A) → HoldsForm m o → AllByRecursion Can vs → elements_nest nest m vs ≤ n →
+      length (elements_form form m vs) < 2 ^ 64 → ElementsOf B o n vs (elements_form form m vs)
+  elements_hold m o n [] h can level short = no_pieces
+  elements_hold m o n (v ∷ vs) h can level short =
+      let both = length-append (form m v) (elements_form form m vs) in
+      let first = x.has.holds m o n v h can.0 (omega (arith, level)) (omega (arith, both, short)) in
+      pieces_append (v ∷ []) vs (form m v) (elements_form form m vs) (one_piece v (form m v) first)
+      (elements_hold m o n vs h can.1 (omega (arith, level)) (omega (arith, both, short)))
+
+  elements_only : (m : BERMode) (n : ℕ) (vs : List A) (bs : List (List ℕ)) → IsCanonicalMode m → Each (B m n) vs bs →
+      (concat bs ≡ elements_form form m vs) × AllByRecursion Can vs × (elements_nest nest m vs ≤ n)
+  elements_only m n [] [] h p = (refl, tt, omega arith)
+  elements_only m n [] (b ∷ bs) h p = absurd p
+  elements_only m n (v ∷ vs) [] h p = absurd p
+  elements_only m n (v ∷ vs) (b ∷ bs) h p =
+      let first = x.has.only m n v b h p.0 in
+      let others = elements_only m n vs bs h p.1 in
+      (ap₂ (λ y z. y ++ z) first.0 others.0, (first.1, others.1), omega (arith, first.2, others.2))
+
+  elements_any : (n : ℕ) (vs : List A) (bs : List (List ℕ)) → Each (B Ber n) vs bs → AllByRecursion Can vs × (elements_nest nest Der vs ≤ n)
+  elements_any n [] [] p = (tt, omega arith)
+  elements_any n [] (b ∷ bs) p = absurd p
+  elements_any n (v ∷ vs) [] p = absurd p
+  elements_any n (v ∷ vs) (b ∷ bs) p =
+      let first = x.any n v b p.0 in
+      let others = elements_any n vs bs p.1 in
+      ((first.0, others.0), omega (arith, first.1, others.1))
+
+  elements_same : (m : BERMode) (vs ws : List A) → Each E vs ws → (elements_form form m vs ≡ elements_form form m ws) ×
+      (AllByRecursion Can vs → AllByRecursion Can ws) × (elements_nest nest m vs ≡ elements_nest nest m ws)
+  elements_same m [] [] p = (refl, λ can. tt, refl)
+  elements_same m [] (w ∷ ws) p = absurd p
+  elements_same m (v ∷ vs) [] p = absurd p
+  elements_same m (v ∷ vs) (w ∷ ws) p =
+      let first = x.same m v w p.0 in
+      let others = elements_same m vs ws p.1 in
+      (ap₂ (λ y z. y ++ z) first.0 others.0, λ can. (first.1 can.0, others.1 can.1), ap₂ (λ y z. max y z) first.2 others.2)
+
+  -- the elements of a list keep the laws of writing
+  pub elements_written : IsWritten (λ vs ws. Each E vs ws) (ElementsOf B) (elements_form form) (elements_nest nest) (λ vs. AllByRecursion Can vs)
+  elements_written = record {
+    has = record {
+      in_bytes = elements_bytes;
+      holds = elements_hold;
+      only = λ m n vs c h p. let y = elements_only m n vs p.pieces h p.each in (p.joined ∙ y.0, y.1, y.2);
+    };
+    any = λ n vs c p. elements_any n vs p.pieces p.each;
+    same = elements_same;
+  }
+
+-- a type whose values stand for lists keeps the laws of writing as a SEQUENCE OF
+pub list_written : {U A : Type 0} {E : A → A → Type 0} {B : BERMode → ℕ → A → List ℕ → Type 0} {form : BERMode → A → List ℕ}
+    {nest : BERMode → A → ℕ} {Can : A → Type 0} (f : U → List A) → IsWritten E B form nest Can →
+    IsWritten (λ v w. Each E (f v) (f w)) (λ m n v b. IsListOf B sequence_tag m n (f v) b) (λ m v. enclosed_form (elements_form form) sequence_tag m (f v))
+    (λ m v. enclosed_nest (elements_nest nest) m (f v)) (λ v. AllByRecursion Can (f v))
+list_written f x = written_along f (enclosed_written sequence_tag (omega arith) (elements_written x))

@@ -1,22 +1,26 @@
 -- Reads of raw elements: what a front that was copied or not does to a reading.
-use Rattle.std.proofs.Common.{◌≡◌, ℕ, zero, suc, ◌≤◌, List, ◌++◌, Some, None, Result, Ok, Err, true, sym, ap, subst, ◌∙◌, arith}
+use Rattle.std.proofs.Common.{◌≡◌, ℕ, zero, suc, ◌≤◌, List, ◌++◌, Option, Some, None, Result, Ok, Err, Bool, true, false, refl, sym, ap, subst, ◌∙◌, arith}
 use Rattle.std.specs.Borrow.{Bor}
 use Rattle.yasna_base.specs.declared.error.ASN1Error.{ASN1Error}
 use Rattle.yasna_base.specs.declared.error.ASN1ErrorKind.TheVariants.{OutOfMemory}
 use Rattle.yasna_base.specs.declared.mode.BERMode.{BERMode}
+use Rattle.yasna_base.specs.declared.tag.Tag.{Tag}
+use Rattle.yasna_base.specs.Coding.{Any}
 use Rattle.yasna_base.specs.Error.{kind_of}
 use Rattle.yasna_base.specs.Identifier.{StartsElement}
 use Rattle.yasna_base.specs.Raw.{RawValue, IsRaw}
 use Rattle.yasna_base.proofs.Identifier.{begins_with}
-use Rattle.yasna_base.proofs.Raw.{raw_zero, raw_starts}
+use Rattle.yasna_base.proofs.Raw.{raw_zero, raw_starts, deep_starts}
 use Rattle.yasna_reader.specs.declared.bytes.header.Refusal.{Refusal}
 use Rattle.yasna_reader.specs.declared.bytes.walk.RawElement.{RawElement}
 use Rattle.yasna_reader.specs.Front.{Takes, Stands}
+use Rattle.yasna_reader.specs.Decodes.{Tells, KeptTells, NotTook, IsQuietAtEnd, Decodes}
 use Rattle.yasna_reader.specs.Primitive.{Settles}
-use Rattle.yasna_reader.specs.Raw.{RefusesCopy, CopiedAt, ReadsRawUnlessKept, ReadsRaw}
-use Rattle.yasna_reader.specs.State.{Reading, untagged, refusing}
+use Rattle.yasna_reader.specs.Raw.{RefusesCopy, CopiedAt, RefusedRaw, ReadsRawUnlessKept, ReadsRaw}
+use Rattle.yasna_reader.specs.State.{Reading, IsFresh, untagged, refusing}
 use Rattle.yasna_reader.specs.Walk.{RefusesRaw, TakesRaw, element_of}
 use Rattle.yasna_reader.proofs.RawHeader.{starts_not_at_end}
+use Rattle.yasna_reader.proofs.Refusal.{plain_of}
 
 -- where no raw element stands, no copy of one is made
 pub refuses_copy : {A : Type 0} (B : ℕ → BERMode → A → List ℕ → Type 0) (n : ℕ) (m : BERMode) (s : List ℕ) (e : Refusal) →
@@ -74,3 +78,51 @@ reads_raw B view s f r s' e a b = record { reads = subst (λ k. ReadsRawUnlessKe
 pub reads_raw_kept : {V A : Type 0} (B : ℕ → BERMode → A → List ℕ → Type 0) (view : V → A) (s : Reading) (e : ASN1Error) (r : Result V ASN1Error)
     (s' : Reading) → s.kept ≡ Some e → r ≡ Err e → s' ≡ untagged s → ReadsRaw B view s r s'
 reads_raw_kept B view s e r s' k f g = record { reads = subst (λ k. ReadsRawUnlessKept k B view s r s') (sym k) (f, g) }
+
+-- What a fresh reading decodes by a read of a raw element, of which B says what is copied
+module _ {V A : Type 0} (B : ℕ → BERMode → A → List ℕ → Type 0) (view : V → A) (s : Reading) (fresh : IsFresh s) where
+  refused_tells : (e : ASN1Error) (s' : Reading) → RefusedRaw B s e s' → Tells true (Any (λ m n v b. B n m v b) s.mode s.levels) s.left e
+  refused_tells e s' x = record {
+    none = λ q b y i j. x.refuses.none (λ f. q (sym x.kind ∙ f)) (j.0, y, record { front = b; joined = i; member = j.1 });
+    memory = λ q. refl;
+  }
+
+  refused_as : (e : ASN1Error) (s' : Reading) (x : RefusedRaw B s e s') (w : Bool) → x.refusal.moved ≡ w →
+      NotTook true (Any (λ m n v b. B n m v b) s.mode s.levels) s e (refusing w (untagged s) e) × IsQuietAtEnd s e (refusing w (untagged s) e)
+  refused_as e s' x true f = (
+    record {
+      tells = refused_tells e s' x;
+      kept = refused_tells e s' x;
+      further = omega arith;
+      same = ap {A = Option Tag} {B = Reading} (λ u. record s { kept = Some e; tag = u }) (sym fresh.1);
+    },
+    λ a. let g = sym f ∙ x.refuses.moved.1 a in absurd (cc),
+  )
+  refused_as e s' x false f = (
+    record {
+      tells = refused_tells e s' x;
+      kept = subst (λ z. KeptTells true (Any (λ m n v b. B n m v b) s.mode s.levels) s.left z) (sym fresh.0) tt;
+      further = omega arith;
+      same = ap {A = Option Tag} {B = Reading} (λ u. record s { tag = u }) (sym fresh.1);
+    },
+    λ a. (
+      ap {A = Option Tag} {B = Reading} (λ u. record s { tag = u }) (sym fresh.1),
+      plain_of (kind_of e) (λ i. starts_not_at_end s.left (deep_starts s.levels s.mode s.left (x.refuses.too_deep (x.kind ∙ i))) a)
+          (λ i. starts_not_at_end s.left (x.refuses.memory (x.kind ∙ i)).1 a),
+    ),
+  )
+
+  decodes_unkept : (r : Result V ASN1Error) (s' : Reading) → ReadsRawUnlessKept None B view s r s' →
+      Decodes true (λ m n v b. B n m (view v) b) (Any (λ m n v b. B n m v b)) s r s'
+  decodes_unkept (Ok v) s' x = record {
+    front = x.takes.front;
+    rest = x.rest;
+    joined = x.takes.joined;
+    stands = x.takes.member;
+    left = x.state ∙ ap {A = Option Tag} {B = Reading} (λ u. record s { left = x.rest; tag = u }) (sym fresh.1);
+  }
+  decodes_unkept (Err e) s' x =
+      subst (λ z. NotTook true (Any (λ m n v b. B n m v b) s.mode s.levels) s e z × IsQuietAtEnd s e z) (sym x.state) (refused_as e s' x x.refusal.moved refl)
+
+  pub raw_decodes : (r : Result V ASN1Error) (s' : Reading) → ReadsRaw B view s r s' → Decodes true (λ m n v b. B n m (view v) b) (Any (λ m n v b. B n m v b)) s r s'
+  raw_decodes r s' x = decodes_unkept r s' (subst (λ k. ReadsRawUnlessKept k B view s r s') fresh.0 x.reads)

@@ -1,0 +1,35 @@
+//! Octets and texts that another holds: they are written as those are that hold their own.
+ghost use Rattle.std.specs.Str.{chars};
+ghost use Rattle.yasna_base.specs.Canonical.{leaf_nest, Always};
+ghost use Rattle.yasna_base.specs.Digits.{IsBytes};
+ghost use Rattle.yasna_base.specs.Identifier.{universal};
+ghost use Rattle.yasna_base.specs.Octets.{octets_form};
+ghost use Rattle.yasna_base.specs.Text.{utf8_form};
+
+use crate::traits::DEREncodable;
+use yasna_base::error::ASN1Result;
+use yasna_writer::DERWriter;
+
+impl<'a> DEREncodable for &'a [u8] {
+    ghost form = { λ m v. octets_form (universal 4) m v.now };
+
+    ghost nest = { leaf_nest };
+
+    ghost encodable = { λ v. IsBytes v.now };
+
+    fn encode_der(&self, writer: DERWriter<'_>) -> ASN1Result<()> {
+        writer.write_bytes(*self)
+    }
+}
+
+impl<'a> DEREncodable for &'a str {
+    ghost form = { λ m v. utf8_form (universal 12) m (chars v.now) };
+
+    ghost nest = { leaf_nest };
+
+    ghost encodable = { Always };
+
+    fn encode_der(&self, writer: DERWriter<'_>) -> ASN1Result<()> {
+        writer.write_utf8_string(*self)
+    }
+}

@@ -1,0 +1,80 @@
+//! Lists: a SEQUENCE OF their items (X.690, 8.10).
+//!
+//! `Vec<u8>` is an OCTET STRING: `u8` itself is no type that is read or written.
+ghost use Rattle.std.specs.Prelude.{◌≡◌, None, true};
+ghost use Rattle.std.specs.List.{AllByRecursion};
+ghost use Rattle.yasna_base.specs.Canonical.{enclosed_form, enclosed_nest};
+ghost use Rattle.yasna_base.specs.Pieces.{Each};
+ghost use Rattle.yasna_base.specs.Sequence.{sequence_tag};
+ghost use Rattle.yasna_base.specs.SequenceOf.{IsListOf, AnyListOf, elements_form, elements_nest};
+ghost use Rattle.yasna_base.proofs.SequenceOf.{list_along, list_written};
+ghost use Rattle.yasna_writer.specs.View.{Wrote, WroteParts};
+
+use crate::traits::{BERDecodable, DERCanonical, DEREncodable};
+use yasna_base::error::ASN1Result;
+use yasna_reader::BERReader;
+use yasna_writer::{DERWriter, DERWriterSeq};
+
+impl<T: BERDecodable> BERDecodable for Vec<T> {
+    ghost encodes = { λ m n v b. IsListOf T.encodes sequence_tag m n v.items b };
+
+    ghost elements = { AnyListOf T.elements sequence_tag };
+
+    ghost asks_memory = { true };
+
+    ghost same = { λ v w. Each T.same v.items w.items };
+
+    fn decode_ber(reader: BERReader) -> ASN1Result<Vec<T>> {
+        reader.collect_sequence_of(|item| T::decode_ber(item))
+    }
+
+    ghost coding = { list_along (λ v. v.items) T.coding };
+}
+
+impl<T: DEREncodable> DEREncodable for Vec<T> {
+    ghost form = { λ m v. enclosed_form (elements_form T.form) sequence_tag m v.items };
+
+    ghost nest = { λ m v. enclosed_nest (elements_nest T.nest) m v.items };
+
+    ghost encodable = { λ v. AllByRecursion T.encodable v.items };
+
+    fn encode_der(&self, writer: DERWriter<'_>) -> ASN1Result<()> {
+        write_list(self.as_slice(), writer)
+    }
+}
+
+impl<T: DERCanonical> DERCanonical for Vec<T> {
+    ghost written = { list_written (λ v. v.items) T.written };
+}
+
+impl<'a, T: DEREncodable> DEREncodable for &'a [T] {
+    ghost form = { λ m v. enclosed_form (elements_form T.form) sequence_tag m v.now };
+
+    ghost nest = { λ m v. enclosed_nest (elements_nest T.nest) m v.now };
+
+    ghost encodable = { λ v. AllByRecursion T.encodable v.now };
+
+    fn encode_der(&self, writer: DERWriter<'_>) -> ASN1Result<()> {
+        write_list(*self, writer)
+    }
+}
+
+// Writes a SEQUENCE OF these items.
+fn write_list<T: DEREncodable>(items: &[T], writer: DERWriter<'_>) -> ASN1Result<()>
+    requires can { AllByRecursion T.encodable items.now }
+    requires untagged { writer.old.tag ≡ None }
+    ensures { Wrote (enclosed_form (elements_form T.form) sequence_tag writer.old.mode items.now) writer.old writer.new result }
+{
+    writer.write_sequence_of(|seq| write_items(items, seq))
+}
+
+// Writes items, one after the other.
+fn write_items<T: DEREncodable>(items: &[T], seq: &mut DERWriterSeq) -> ASN1Result<()>
+    requires { AllByRecursion T.encodable items.now }
+    ensures { WroteParts (elements_form T.form seq.old.mode items.now) seq.old seq.new result }
+{
+    for item in items {
+        item.encode_der(seq.next())?;
+    }
+    Ok(())
+}

@@ -1,0 +1,28 @@
+//! Elements of any tag, whose contents aren't given a type (X.690, 8.1).
+ghost use Rattle.std.specs.Prelude.{◌≡◌, true};
+ghost use Rattle.yasna_base.specs.Coding.{Any};
+ghost use Rattle.yasna_base.specs.Raw.{IsRaw};
+ghost use Rattle.yasna_base.specs.TaggedDerValue.{raw_of};
+ghost use Rattle.yasna_base.proofs.Coding.{along};
+ghost use Rattle.yasna_base.proofs.Raw.{raw_coding};
+
+use crate::traits::BERDecodable;
+use yasna_base::error::ASN1Result;
+use yasna_base::models::TaggedDerValue;
+use yasna_reader::BERReader;
+
+impl BERDecodable for TaggedDerValue {
+    ghost encodes = { λ m n v b. IsRaw n m (raw_of v) b };
+
+    ghost elements = { Any (λ m n v b. IsRaw n m v b) };
+
+    ghost asks_memory = { true };
+
+    ghost same = { λ v w. raw_of v ≡ raw_of w };
+
+    fn decode_ber(reader: BERReader) -> ASN1Result<TaggedDerValue> {
+        reader.read_tagged_der()
+    }
+
+    ghost coding = { along raw_of raw_coding };
+}
