@@ -26,6 +26,7 @@
 //! | `reading` | how a call of a family that reads is made |
 //! | `primitive`, `strings`, `oid`, `times`, `sequence`, `optional`, `list`, `tagged`, `nest`, `recursion`, `raw`, `swallow` | the families that read |
 //! | `buffer` | reads with the bytes that they took |
+//! | `swallowed` | failures that callbacks throw away, call in call |
 //! | `whole` | types that are read and written as a whole |
 //! | `writing`, `length` | calls that write |
 //! | `segments` | octet strings of any length |
@@ -51,6 +52,7 @@ mod segments;
 mod sequence;
 mod strings;
 mod swallow;
+mod swallowed;
 mod tag;
 mod tagged;
 mod times;

@@ -136,8 +136,8 @@ fn mark(
     }
 }
 
-// Why a call was refused.
-fn kind_of<T: Drop>(answer: ASN1Result<T>) -> Option<ASN1ErrorKind> {
+/// Why a call was refused, if it was.
+pub fn kind_of<T: Drop>(answer: ASN1Result<T>) -> Option<ASN1ErrorKind> {
     match answer {
         Ok(_) => None,
         Err(error) => Some(error.kind()),
