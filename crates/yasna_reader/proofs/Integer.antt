@@ -175,3 +175,50 @@ sign_is (x ∷ xs) b = (
     | inr h ↦ let e = negative_is x xs b h in absurd (omega (arith, ints))
   ],
 )
+
+-- A further one of eight bytes, of which those in front repeat the first bit.
+pub record Step (p : Bool) (c : List ℕ) (b d : ℕ) : Type 0 where
+  pub room : Room (signed_number p (take (b - 8) c)) d
+  pub more : signed_number p (take (b + 1 - 8) c) ≡ signed_number p (take (b - 8) c) *ℤ pos 256 +ℤ pos d
+
+sign_more : (p : Bool) (d : ℕ) → (p ≡ true → d ≡ 0) → (p ≡ false → d ≡ 255) → signed_number p [] ≡ signed_number p [] *ℤ pos 256 +ℤ pos d
+sign_more true d f g = let e = f refl in omega (arith, ints)
+sign_more false d f g = let e = g refl in omega (arith, ints)
+
+sign_small : (p : Bool) (d : ℕ) → (p ≡ true → d ≡ 0) → (p ≡ false → d ≡ 255) → d < 256
+sign_small true d f g = let e = f refl in omega arith
+sign_small false d f g = let e = g refl in omega arith
+
+step_in_front : (p : Bool) (c : List ℕ) (b d : ℕ) → b < 8 → (p ≡ true → d ≡ 0) → (p ≡ false → d ≡ 255) → Step p c b d
+step_in_front p c b d n f g =
+    let e : 0 ≡ b - 8 = omega arith in
+    let h : 0 ≡ b + 1 - 8 = omega arith in
+    record {
+      room = subst (λ i. Room (signed_number p (take i c)) d) e
+          (room p [] d (sign_small p d f g) tt (omega arith) (λ _. omega arith) (λ _ j. absurd (omega arith)));
+      more = subst (λ i. signed_number p (take i c) ≡ signed_number p (take (b - 8) c) *ℤ pos 256 +ℤ pos d) h
+          (subst (λ i. signed_number p [] ≡ signed_number p (take i c) *ℤ pos 256 +ℤ pos d) e (sign_more p d f g));
+    }
+
+pub step_of_eight : (c : List ℕ) (b d : ℕ) → IsBytes c → length c ≤ 8 → b < length c + 8 → get_or c (b - 8) 0 < 256 →
+    (b < 8 → get_or c 0 0 < 128 → d ≡ 0) → (b < 8 → 128 ≤ get_or c 0 0 → d ≡ 255) → (8 ≤ b → d ≡ get_or c (b - 8) 0) →
+    Step (nat_lt (get_or c 0 0) 128) c b d
+step_of_eight c b d y l h k f g j = elim (cases_lt b 8) [
+  | inl n ↦ step_in_front (nat_lt (get_or c 0 0) 128) c b d n (λ e. f n (ltb-true (get_or c 0 0) 128 e)) (λ e. g n (ltb-false (get_or c 0 0) 128 e))
+  | inr n ↦
+      let p = nat_lt (get_or c 0 0) 128 in
+      let e : b - 8 + 1 ≡ b + 1 - 8 = omega arith in
+      let q = sym (j n) in
+      record {
+        room = subst (λ x. Room (signed_number p (take (b - 8) c)) x) q (room_of c (b - 8) y l (omega arith) k);
+        more = subst (λ i. signed_number p (take i c) ≡ signed_number p (take (b - 8) c) *ℤ pos 256 +ℤ pos d) e
+            (subst (λ x. signed_number p (take (b - 8 + 1) c) ≡ signed_number p (take (b - 8) c) *ℤ pos 256 +ℤ pos x) q (signed_more p c (b - 8) (omega arith)));
+      }
+]
+
+-- No bytes stand for 0 or -1, by the sign of the number that they begin.
+pub start_is : (x : ℕ) (z : ℤ) → (x < 128 → z ≡ pos 0) → (128 ≤ x → z ≡ negsuc 0) → z ≡ signed_number (nat_lt x 128) []
+start_is x z f g = elim (cases_lt x 128) [
+  | inl h ↦ let e = f h in rw (lt-ltb x 128 h) (omega (arith, ints))
+  | inr h ↦ let e = g h in rw (le-ltb x 128 h) (omega (arith, ints))
+]

@@ -1,5 +1,5 @@
 //! The contents of INTEGER and ENUMERATED, in each type of Rust (X.690, 8.3 and 8.4).
-ghost use Rattle.std.specs.Prelude.{ℕ, ℤ, ◌≡◌, ◌≤◌, length, IsTrue, ◌↔◌};
+ghost use Rattle.std.specs.Prelude.{ℕ, ℤ, ◌≡◌, ◌≤◌, ◌<◌, ◌+◌, ◌-◌, length, slice_index, IsTrue, ◌↔◌};
 ghost use Rattle.std.specs.Int.{w8, w16, w32, w64};
 ghost use Rattle.yasna_base.specs.Integer.{IsMinimal, twos, IsSigned, IsUnsigned};
 ghost use Rattle.yasna_reader.specs.Contents.{Never};
@@ -22,7 +22,22 @@ pub(crate) fn is_minimal(contents: &[u8]) -> bool
     }
 }
 
-// The number that a few bytes stand for in two's complement.
+// One of the bytes of a number that is written in eight: those in front repeat the first bit of its contents.
+#[inline(always)]
+fn extended(contents: &[u8], behind: usize) -> u8
+    requires some { 1 ≤ length contents.now }
+    requires within { behind < length contents.now + 8 }
+    ensures positive { behind < 8 → slice_index contents.now 0 < 128 → result ≡ 0 }
+    ensures negative { behind < 8 → 128 ≤ slice_index contents.now 0 → result ≡ 255 }
+    ensures contents { 8 ≤ behind → result ≡ slice_index contents.now (behind - 8) }
+{
+    let byte = contents[behind.saturating_sub(8)];
+    let sign = if contents[0] < 128 { 0 } else { 255 };
+    if behind < 8 { sign } else { byte }
+}
+
+// The number that a few bytes stand for in two's complement. More than one are taken as eight, so that no branch depends on
+// how many there are.
 #[inline(always)]
 fn signed_of(contents: &[u8]) -> i64
     requires some { 1 ≤ length contents.now }
@@ -30,8 +45,12 @@ fn signed_of(contents: &[u8]) -> i64
     ensures { result ≡ twos contents.now }
 {
     let mut number: i64 = if contents[0] < 128 { 0 } else { -1 };
-    for byte in contents {
-        number = number * 256 + i64::from(*byte);
+    if contents.len() == 1 {
+        return number * 256 + i64::from(contents[0]);
+    }
+    for place in 0..8usize {
+        let byte = extended(contents, contents.len() + place);
+        number = number * 256 + i64::from(byte);
     }
     number
 }
