@@ -8,6 +8,7 @@ mod measure;
 mod port;
 mod reading;
 mod strings;
+mod times;
 mod writing;
 
 use std::env;
@@ -24,7 +25,8 @@ fn main() -> ExitCode {
     let cases = reading::cases()
         .into_iter()
         .chain(writing::cases())
-        .chain(strings::cases());
+        .chain(strings::cases())
+        .chain(times::cases());
     for case in cases {
         if case.name.contains(&wanted) {
             agree &= measure::print_row(case, rounds);

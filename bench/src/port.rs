@@ -27,6 +27,24 @@ mod linked {
         ) -> u64;
         pub fn yasna_write_identifiers(components: *const u64, length: usize, count: usize)
             -> u64;
+        pub fn yasna_parse_utc_times(texts: *const u8, length: usize) -> u64;
+        pub fn yasna_parse_generalized_times(texts: *const u8, length: usize) -> u64;
+        pub fn yasna_print_utc_times(text: *const u8, length: usize, count: usize) -> u64;
+        pub fn yasna_print_generalized_times(text: *const u8, length: usize, count: usize) -> u64;
+        pub fn yasna_read_utc_times(
+            bytes: *const u8,
+            length: usize,
+            count: usize,
+            der: bool,
+        ) -> u64;
+        pub fn yasna_read_generalized_times(
+            bytes: *const u8,
+            length: usize,
+            count: usize,
+            der: bool,
+        ) -> u64;
+        pub fn yasna_write_utc_times(text: *const u8, length: usize, count: usize) -> u64;
+        pub fn yasna_write_generalized_times(text: *const u8, length: usize, count: usize) -> u64;
     }
 }
 
@@ -102,4 +120,36 @@ pub fn read_identifiers(bytes: &[u8], count: usize, der: bool) -> u64 {
 
 pub fn write_identifiers(components: &[u64], count: usize) -> u64 {
     unsafe { linked::yasna_write_identifiers(components.as_ptr(), components.len(), count) }
+}
+
+pub fn parse_utc_times(texts: &[u8]) -> u64 {
+    unsafe { linked::yasna_parse_utc_times(texts.as_ptr(), texts.len()) }
+}
+
+pub fn print_utc_times(text: &[u8], count: usize) -> u64 {
+    unsafe { linked::yasna_print_utc_times(text.as_ptr(), text.len(), count) }
+}
+
+pub fn read_utc_times(bytes: &[u8], count: usize, der: bool) -> u64 {
+    unsafe { linked::yasna_read_utc_times(bytes.as_ptr(), bytes.len(), count, der) }
+}
+
+pub fn write_utc_times(text: &[u8], count: usize) -> u64 {
+    unsafe { linked::yasna_write_utc_times(text.as_ptr(), text.len(), count) }
+}
+
+pub fn parse_generalized_times(texts: &[u8]) -> u64 {
+    unsafe { linked::yasna_parse_generalized_times(texts.as_ptr(), texts.len()) }
+}
+
+pub fn print_generalized_times(text: &[u8], count: usize) -> u64 {
+    unsafe { linked::yasna_print_generalized_times(text.as_ptr(), text.len(), count) }
+}
+
+pub fn read_generalized_times(bytes: &[u8], count: usize, der: bool) -> u64 {
+    unsafe { linked::yasna_read_generalized_times(bytes.as_ptr(), bytes.len(), count, der) }
+}
+
+pub fn write_generalized_times(text: &[u8], count: usize) -> u64 {
+    unsafe { linked::yasna_write_generalized_times(text.as_ptr(), text.len(), count) }
 }

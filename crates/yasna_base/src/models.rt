@@ -1,4 +1,4 @@
-//! Values of ASN.1 that Rust has no type for.
+//! Values of ASN.1 that Rust has no type for, and the date-times and offsets that times are made of.
 //!
 //! | Module | Holds |
 //! |---|---|
@@ -19,6 +19,8 @@ pub mod utc_time;
 mod zone;
 
 pub use generalized_time::GeneralizedTime;
+pub use jiff::civil::DateTime;
+pub use jiff::tz::Offset;
 pub use oid::ObjectIdentifier;
 pub use oid_text::ParseOidError;
 pub use tagged_der_value::TaggedDerValue;

@@ -8,6 +8,7 @@
 //! | `reading` | calls that read numbers, pairs and nests |
 //! | `writing` | calls that write them |
 //! | `strings`, `oid` | calls that read and write octet strings, texts and object identifiers |
+//! | `times` | calls that parse, print, read and write both times |
 #![tactic(auto)]
 
 ghost use Rattle.std.specs.Prelude.{◌≡◌, ◌-◌, ◌^◌, MatchResult};
@@ -15,6 +16,7 @@ ghost use Rattle.std.specs.Prelude.{◌≡◌, ◌-◌, ◌^◌, MatchResult};
 mod oid;
 mod reading;
 mod strings;
+mod times;
 mod writing;
 
 use yasna::ASN1Result;

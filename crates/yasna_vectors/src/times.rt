@@ -7,9 +7,8 @@
 use crate::answer::{Answer, Shown, Value, written};
 use crate::line::{Case, bytes_of};
 use crate::reading::Family;
-use jiff::tz::Offset;
 use std::alloc::{AllocError, Global};
-use yasna::models::{GeneralizedTime, UTCTime};
+use yasna::models::{GeneralizedTime, Offset, UTCTime};
 use yasna::{ASN1Result, BERReader, DERWriter, construct_der};
 
 /// The read and the write of UTCTime.

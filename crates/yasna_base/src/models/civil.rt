@@ -13,7 +13,11 @@ use jiff::tz::Offset;
 pub(crate) fn in_utc(local: DateTime, offset: Offset) -> Option<DateTime>
     ensures { MatchOption result ((utc : Plain) → ¬ (IsLess local offset.seconds utc)) (λ utc. IsLess local offset.seconds utc) }
 {
-    match local.checked_sub(SignedDuration::from_secs(offset.seconds() as i64)) {
+    let seconds = offset.seconds();
+    if seconds == 0 {
+        return Some(local);
+    }
+    match local.checked_sub(SignedDuration::from_secs(seconds as i64)) {
         Ok(utc) => Some(utc),
         Err(_) => None,
     }

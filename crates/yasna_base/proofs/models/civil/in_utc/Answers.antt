@@ -7,10 +7,10 @@ use Rattle.yasna_base.proofs.models.civil.in_utc.Goals as goal
 pub returns-in-Err : goal.returns-in-Err
 returns-in-Err c =
     λ utc less.
-    let f4 : FitsSigned w32 c.seconds.result = omega (arith, signed_arith, c.args.offset.in_range, c.seconds.ensures) in
-    let f8 : FitsSigned w64 c.seconds.result = omega (arith, signed_arith, c.args.offset.in_range, c.seconds.ensures) in
+    let f4 : FitsSigned w32 c.seconds-seconds.result = omega (arith, signed_arith, c.args.offset.in_range, c.seconds-seconds.ensures) in
+    let f8 : FitsSigned w64 c.seconds-seconds.result = omega (arith, signed_arith, c.args.offset.in_range, c.seconds-seconds.ensures) in
     let d = simp to_z-of_z at c.from_secs.ensures in
     let r = civil_nanos_range utc in
     let none = c.in-Err.ensures.succeeds.1
-    (omega (arith, signed_arith, d, less, r, c.seconds.ensures), omega (arith, signed_arith, d, less, r, c.seconds.ensures)) in
+    (omega (arith, signed_arith, d, less, r, c.seconds-seconds.ensures), omega (arith, signed_arith, d, less, r, c.seconds-seconds.ensures)) in
     cc

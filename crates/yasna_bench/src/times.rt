@@ -1,0 +1,171 @@
+//! Calls that parse, print, read and write both times.
+
+use crate::reading::mode;
+use crate::{REFUSED, answered, length, mixed};
+use std::alloc::Global;
+use yasna::models::{GeneralizedTime, UTCTime};
+use yasna::{ASN1Result, BERReaderSeq, DERWriterSeq, construct_der, parse_ber_general};
+
+// What a time adds to a checksum.
+fn second_in(checksum: u64, second: i8) -> u64 {
+    mixed(checksum, second as i64)
+}
+
+// What a text adds to a checksum.
+fn length_in(checksum: u64, text: &[u8]) -> u64 {
+    mixed(checksum, (text.len() as u64).cast_signed())
+}
+
+/// The checksum of the seconds of UTCTimes, whose texts of 13 bytes stand one behind the other.
+#[unsafe(no_mangle)]
+pub extern "C" fn yasna_parse_utc_times(texts: &[u8]) -> u64 {
+    let mut checksum = 0;
+    for text in texts.chunks(13) {
+        let Some(time) = UTCTime::parse(text) else {
+            return REFUSED;
+        };
+        checksum = second_in(checksum, time.datetime().second());
+    }
+    checksum
+}
+
+/// The checksum of the seconds of GeneralizedTimes, whose texts of 19 bytes stand one behind the other.
+#[unsafe(no_mangle)]
+pub extern "C" fn yasna_parse_generalized_times(alloc: Global, texts: &[u8]) -> u64 {
+    let mut checksum = 0;
+    for text in texts.chunks(19) {
+        let Ok(Some(time)) = GeneralizedTime::parse(alloc, text) else {
+            return REFUSED;
+        };
+        checksum = second_in(checksum, time.datetime().second());
+    }
+    checksum
+}
+
+/// The checksum of the lengths of a UTCTime's text, printed so many times.
+#[unsafe(no_mangle)]
+pub extern "C" fn yasna_print_utc_times(alloc: Global, text: &[u8], count: usize) -> u64 {
+    let Some(time) = UTCTime::parse(text) else {
+        return REFUSED;
+    };
+    let mut checksum = 0;
+    for _ in 0..count {
+        let Ok(text) = time.to_bytes(alloc) else {
+            return REFUSED;
+        };
+        checksum = length_in(checksum, text.as_slice());
+    }
+    checksum
+}
+
+/// The checksum of the lengths of a GeneralizedTime's text, printed so many times.
+#[unsafe(no_mangle)]
+pub extern "C" fn yasna_print_generalized_times(alloc: Global, text: &[u8], count: usize) -> u64 {
+    let Ok(Some(time)) = GeneralizedTime::parse(alloc, text) else {
+        return REFUSED;
+    };
+    let mut checksum = 0;
+    for _ in 0..count {
+        let Ok(text) = time.to_bytes(alloc) else {
+            return REFUSED;
+        };
+        checksum = length_in(checksum, text.as_slice());
+    }
+    checksum
+}
+
+/// The checksum of the seconds of so many UTCTimes in a SEQUENCE.
+#[unsafe(no_mangle)]
+pub extern "C" fn yasna_read_utc_times(
+    alloc: Global,
+    bytes: &[u8],
+    count: usize,
+    der: bool,
+) -> u64 {
+    answered(parse_ber_general(
+        alloc,
+        bytes,
+        mode(der),
+        |reader| reader.read_sequence(|seq| utc_times(seq, count)),
+    ))
+}
+
+// The checksum of so many UTCTimes.
+fn utc_times(seq: &mut BERReaderSeq, count: usize) -> ASN1Result<u64> {
+    let mut checksum = 0;
+    for _ in 0..count {
+        let time = seq.next().read_utctime()?;
+        checksum = second_in(checksum, time.datetime().second());
+    }
+    Ok(checksum)
+}
+
+/// The checksum of the seconds of so many GeneralizedTimes in a SEQUENCE.
+#[unsafe(no_mangle)]
+pub extern "C" fn yasna_read_generalized_times(
+    alloc: Global,
+    bytes: &[u8],
+    count: usize,
+    der: bool,
+) -> u64 {
+    answered(parse_ber_general(
+        alloc,
+        bytes,
+        mode(der),
+        |reader| reader.read_sequence(|seq| generalized_times(seq, count)),
+    ))
+}
+
+// The checksum of so many GeneralizedTimes.
+fn generalized_times(seq: &mut BERReaderSeq, count: usize) -> ASN1Result<u64> {
+    let mut checksum = 0;
+    for _ in 0..count {
+        let time = seq.next().read_generalized_time()?;
+        checksum = second_in(checksum, time.datetime().second());
+    }
+    Ok(checksum)
+}
+
+/// The length of a SEQUENCE of the UTCTime of this text, so many times.
+#[unsafe(no_mangle)]
+pub extern "C" fn yasna_write_utc_times(alloc: Global, text: &[u8], count: usize) -> u64 {
+    let Some(time) = UTCTime::parse(text) else {
+        return REFUSED;
+    };
+    length(construct_der(
+        alloc,
+        |writer| writer.write_sequence(|seq| write_utc_times(seq, &time, count)),
+    ))
+}
+
+// Writes a UTCTime so many times.
+fn write_utc_times(seq: &mut DERWriterSeq, time: &UTCTime, count: usize) -> ASN1Result<()> {
+    for _ in 0..count {
+        seq.next().write_utctime(time)?;
+    }
+    Ok(())
+}
+
+/// The length of a SEQUENCE of the GeneralizedTime of this text, so many times.
+#[unsafe(no_mangle)]
+pub extern "C" fn yasna_write_generalized_times(alloc: Global, text: &[u8], count: usize) -> u64 {
+    let Ok(Some(time)) = GeneralizedTime::parse(alloc, text) else {
+        return REFUSED;
+    };
+    length(construct_der(
+        alloc,
+        |writer| writer.write_sequence(|seq| write_generalized_times(seq, &time, count)),
+    ))
+}
+
+// Writes a GeneralizedTime so many times.
+fn write_generalized_times(
+    seq: &mut DERWriterSeq,
+    time: &GeneralizedTime,
+    count: usize,
+) -> ASN1Result<()> {
+    for _ in 0..count {
+        seq.next().write_generalized_time(time)?;
+    }
+    Ok(())
+}
