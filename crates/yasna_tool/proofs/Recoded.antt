@@ -17,11 +17,11 @@ module _ {A : Type 0} (B : BERMode → ℕ → A → List ℕ → Type 0) (form 
   recoded P (Some b) (Ok u) h = (form Der h.0, record { value = h.0; read = h.1; written = refl }, h.2)
   recoded P s (Err e) h = h
 
-  -- bytes that encode no value are recoded to nothing
-  pub not_recoded : (C : ASN1Error → Type 0) (End : Type 0) (s : Option (List ℕ)) (r : Result (Unit {0}) RunFault) →
-      IfRefused r (λ e. C e → End × IfSome s (λ b. (v : A) × B m 101 v b → ⊥)) →
+  -- bytes of which reading asks more than they are encode no value, and are recoded to nothing
+  pub not_recoded : {S : List ℕ → Type 0} → ((v : A) (b : List ℕ) → B m 101 v b → S b) → (C : ASN1Error → Type 0) (End : Type 0) (s : Option (List ℕ))
+      (r : Result (Unit {0}) RunFault) → IfRefused r (λ e. C e → End × IfSome s (λ b. S b → ⊥)) →
       IfRefused r (λ e. C e → IfSome s (λ b. (out : List ℕ) → Recoded B form m b out → ⊥))
-  not_recoded C End s (Ok u) h = tt
-  not_recoded C End None (Err (Refused e)) h = λ c. tt
-  not_recoded C End (Some b) (Err (Refused e)) h = λ c out x. (h c).1 (x.value, x.read)
-  not_recoded C End s (Err Device) h = tt
+  not_recoded among C End s (Ok u) h = tt
+  not_recoded among C End None (Err (Refused e)) h = λ c. tt
+  not_recoded among C End (Some b) (Err (Refused e)) h = λ c out x. (h c).1 (among x.value b x.read)
+  not_recoded among C End s (Err Device) h = tt

@@ -1,5 +1,6 @@
 -- What bytes are as a kind of value, and what is written of them.
-use Rattle.std.specs.Prelude.{◌≡◌, ℕ, List, Bool, ℤ}
+use Rattle.std.specs.Global.{Global}
+use Rattle.std.specs.Prelude.{◌≡◌, ℕ, List, Vec, Bool, ℤ}
 use Rattle.std.specs.Int.{w64}
 use Rattle.yasna.specs.base.declared.mode.BERMode.{BERMode}
 use Rattle.yasna.specs.base.declared.mode.BERMode.TheVariants.{Der}
@@ -15,6 +16,7 @@ use Rattle.yasna.specs.base.GeneralizedTime.{generalized_time_form}
 use Rattle.yasna.specs.base.Models.{EncodesUtc, EncodesGeneral, utc_of, moment_of}
 use Rattle.yasna.specs.base.UtcTime.{utc_time_form}
 use Rattle.yasna.specs.base.Sequence.{sequence_tag, PartOf, NoParts, part_form, nothing_form}
+use Rattle.yasna.specs.base.SequenceOf.{IsListOf, elements_form}
 use Rattle.yasna.specs.base.Text.{EncodesString, characters, utf8_form}
 use Rattle.yasna_tool.specs.declared.kind.Kind.{Kind}
 use Rattle.yasna_tool.specs.declared.kind.Kind.TheVariants as kind
@@ -32,6 +34,13 @@ EncodesPair m n v b = Enclosed (PartOf (EncodesSigned w64) (PartOf EncodesBoolea
 abbrev pub pair_form : BERMode → ℤ × Bool → List ℕ
 pair_form m v = enclosed_form (part_form (integer_form (universal 2)) (part_form (boolean_form (universal 1)) nothing_form)) sequence_tag m (v.0, (v.1, tt))
 
+-- a SEQUENCE OF INTEGER
+abbrev pub EncodesIntegers : BERMode → ℕ → Vec ℤ Global → List ℕ → Type 0
+EncodesIntegers m n v b = IsListOf (EncodesSigned w64) sequence_tag m n v.items b
+
+abbrev pub integers_form : BERMode → Vec ℤ Global → List ℕ
+integers_form m v = enclosed_form (elements_form (integer_form (universal 2))) sequence_tag m v.items
+
 -- the same of each kind
 abbrev pub Recodes : Kind → BERMode → List ℕ → List ℕ → Type 0
 Recodes kind.Pair m s out = Recoded EncodesPair pair_form m s out
@@ -43,3 +52,4 @@ Recodes kind.Text m s out = Recoded EncodesString (λ m v. utf8_form (universal 
 Recodes kind.Oid m s out = Recoded EncodesOid (oid_form (universal 6)) m s out
 Recodes kind.Utime m s out = Recoded EncodesUtc (λ m v. utc_time_form (universal 23) m (utc_of v)) m s out
 Recodes kind.Gtime m s out = Recoded EncodesGeneral (λ m v. generalized_time_form (universal 24) m (moment_of v)) m s out
+Recodes kind.Ints m s out = Recoded EncodesIntegers integers_form m s out

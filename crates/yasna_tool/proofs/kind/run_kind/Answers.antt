@@ -1,10 +1,16 @@
+use Rattle.std.proofs.Common.{ℤ}
+use Rattle.std.specs.Global.{Global}
+use Rattle.std.specs.Int.{w64}
 use Rattle.std.specs.Io.KnownBytes.{Appends}
+use Rattle.std.specs.Prelude.{Vec}
 use Rattle.yasna.specs.base.Identifier.{universal}
 use Rattle.yasna.specs.base.GeneralizedTime.{generalized_time_form}
 use Rattle.yasna.specs.base.Models.{EncodesUtc, EncodesGeneral, utc_of, moment_of}
 use Rattle.yasna.specs.base.UtcTime.{utc_time_form}
 use Rattle.yasna.specs.base.Octets.{EncodesVec, octets_tag, octets_form}
 use Rattle.yasna.specs.base.Text.{EncodesString, characters, utf8_form}
+use Rattle.yasna_tool.specs.Kinds.{EncodesIntegers, integers_form}
+use Rattle.yasna.proofs.Laws.{list_along, signed_coding}
 use Rattle.yasna_tool.proofs.Recoded.{recoded, not_recoded}
 use Rattle.yasna_tool.proofs.kind.run_kind.Goals as goal
 
@@ -18,7 +24,7 @@ returns-in-Octets-clause-recoded g c =
 pub returns-in-Octets-clause-none : goal.returns-in-Octets-clause-none
 returns-in-Octets-clause-none g c =
     rw c.in-Octets.is
-    (not_recoded EncodesVec (λ m v. octets_form octets_tag m v.items) c.args.mode _ _ (g.R.Source.remaining c.args.reader.now) c.run-in-Octets.result
+    (not_recoded EncodesVec (λ m v. octets_form octets_tag m v.items) c.args.mode (λ v b x. (v, x)) _ _ (g.R.Source.remaining c.args.reader.now) c.run-in-Octets.result
     c.run-in-Octets.ensures.refused)
 
 pub returns-in-Text-clause-recoded : goal.returns-in-Text-clause-recoded
@@ -31,7 +37,7 @@ returns-in-Text-clause-recoded g c =
 pub returns-in-Text-clause-none : goal.returns-in-Text-clause-none
 returns-in-Text-clause-none g c =
     rw c.in-Text.is
-    (not_recoded EncodesString (λ m v. utf8_form (universal 12) m (characters v)) c.args.mode _ _ (g.R.Source.remaining c.args.reader.now)
+    (not_recoded EncodesString (λ m v. utf8_form (universal 12) m (characters v)) c.args.mode (λ v b x. (v, x)) _ _ (g.R.Source.remaining c.args.reader.now)
     c.run-in-Text.result c.run-in-Text.ensures.refused)
 
 pub returns-in-Utime-clause-recoded : goal.returns-in-Utime-clause-recoded
@@ -44,7 +50,7 @@ returns-in-Utime-clause-recoded g c =
 pub returns-in-Utime-clause-none : goal.returns-in-Utime-clause-none
 returns-in-Utime-clause-none g c =
     rw c.in-Utime.is
-    (not_recoded EncodesUtc (λ m v. utc_time_form (universal 23) m (utc_of v)) c.args.mode _ _ (g.R.Source.remaining c.args.reader.now)
+    (not_recoded EncodesUtc (λ m v. utc_time_form (universal 23) m (utc_of v)) c.args.mode (λ v b x. (v, x)) _ _ (g.R.Source.remaining c.args.reader.now)
     c.run-in-Utime.result c.run-in-Utime.ensures.refused)
 
 pub returns-in-Gtime-clause-recoded : goal.returns-in-Gtime-clause-recoded
@@ -57,5 +63,19 @@ returns-in-Gtime-clause-recoded g c =
 pub returns-in-Gtime-clause-none : goal.returns-in-Gtime-clause-none
 returns-in-Gtime-clause-none g c =
     rw c.in-Gtime.is
-    (not_recoded EncodesGeneral (λ m v. generalized_time_form (universal 24) m (moment_of v)) c.args.mode _ _ (g.R.Source.remaining c.args.reader.now)
+    (not_recoded EncodesGeneral (λ m v. generalized_time_form (universal 24) m (moment_of v)) c.args.mode (λ v b x. (v, x)) _ _ (g.R.Source.remaining c.args.reader.now)
     c.run-in-Gtime.result c.run-in-Gtime.ensures.refused)
+
+pub returns-in-Ints-clause-recoded : goal.returns-in-Ints-clause-recoded
+returns-in-Ints-clause-recoded g c =
+    rw c.in-Ints.is
+    (recoded EncodesIntegers integers_form c.args.mode
+    (Appends (g.W.Sink.contents c.args.writer.now) (g.W.Sink.contents c.run-in-Ints.new.writer)) (g.R.Source.remaining c.args.reader.now)
+    c.run-in-Ints.result c.run-in-Ints.ensures.ok)
+
+pub returns-in-Ints-clause-none : goal.returns-in-Ints-clause-none
+returns-in-Ints-clause-none g c =
+    rw c.in-Ints.is
+    (not_recoded EncodesIntegers integers_form c.args.mode
+    ((list_along (λ (v : Vec ℤ Global). v.items) (signed_coding w64)).meaning.among c.args.mode 101) _ _ (g.R.Source.remaining c.args.reader.now)
+    c.run-in-Ints.result c.run-in-Ints.ensures.refused)
