@@ -27,6 +27,7 @@
 //! | `primitive`, `strings`, `oid`, `times`, `sequence`, `optional`, `list`, `tagged`, `nest`, `recursion`, `raw`, `swallow` | the families that read |
 //! | `buffer` | reads with the bytes that they took |
 //! | `whole` | types that are read and written as a whole |
+//! | `composed` | lists and tuples that are |
 //! | `writing`, `length` | calls that write |
 //! | `segments` | octet strings of any length |
 //! | `tag`, `refusal`, `mode` | tags, the texts of refusals, the mode that a callback sees |
@@ -34,6 +35,7 @@
 
 mod answer;
 mod buffer;
+mod composed;
 mod length;
 mod line;
 mod list;
