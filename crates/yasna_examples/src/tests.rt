@@ -1,5 +1,6 @@
 //! Each example once, with ample memory.
 
+mod composed;
 mod oid;
 
 use crate::{

@@ -17,11 +17,11 @@ recoded B view form m P None (Ok u) h = tt
 recoded B view form m P (Some b) (Ok u) h = (form Der (view h.0), record { value = view h.0; read = h.1; written = refl }, h.2)
 recoded B view form m P s (Err e) h = h
 
--- bytes that encode no value are recoded to nothing
-pub not_recoded : {A : Type 0} (B : BERMode → ℕ → A → List ℕ → Type 0) (form : BERMode → A → List ℕ) (m : BERMode) (C : ASN1Error → Type 0) (End : Type 0)
-    (s : Option (List ℕ)) (r : Result (Unit {0}) RunFault) → IfRefused r (λ e. C e → End × IfSome s (λ b. (v : A) × B m 101 v b → ⊥)) →
-    IfRefused r (λ e. C e → IfSome s (λ b. (out : List ℕ) → Recoded B form m b out → ⊥))
-not_recoded B form m C End s (Ok u) h = tt
-not_recoded B form m C End None (Err (Refused e)) h = λ c. tt
-not_recoded B form m C End (Some b) (Err (Refused e)) h = λ c out x. (h c).1 (x.value, x.read)
-not_recoded B form m C End s (Err Device) h = tt
+-- bytes of which reading asks more than they are encode no value, and are recoded to nothing
+pub not_recoded : {A : Type 0} {S : List ℕ → Type 0} (B : BERMode → ℕ → A → List ℕ → Type 0) (form : BERMode → A → List ℕ) (m : BERMode) →
+    ((v : A) (b : List ℕ) → B m 101 v b → S b) → (C : ASN1Error → Type 0) (End : Type 0) (s : Option (List ℕ)) (r : Result (Unit {0}) RunFault) →
+    IfRefused r (λ e. C e → End × IfSome s (λ b. S b → ⊥)) → IfRefused r (λ e. C e → IfSome s (λ b. (out : List ℕ) → Recoded B form m b out → ⊥))
+not_recoded B form m among C End s (Ok u) h = tt
+not_recoded B form m among C End None (Err (Refused e)) h = λ c. tt
+not_recoded B form m among C End (Some b) (Err (Refused e)) h = λ c out x. (h c).1 (among x.value b x.read)
+not_recoded B form m among C End s (Err Device) h = tt

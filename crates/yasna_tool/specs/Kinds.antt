@@ -14,6 +14,7 @@ use Rattle.yasna.specs.base.Oid.{EncodesOid, oid_form}
 use Rattle.yasna.specs.base.GeneralizedTime.{EncodesGeneralizedTime, generalized_time_form}
 use Rattle.yasna.specs.base.UtcTime.{EncodesUtcTime, utc_time_form}
 use Rattle.yasna.specs.base.Sequence.{sequence_tag, PartOf, NoParts, part_form, nothing_form}
+use Rattle.yasna.specs.base.SequenceOf.{IsListOf, elements_form}
 use Rattle.yasna.specs.base.Text.{EncodesText, utf8_form}
 use Rattle.yasna_tool.specs.declared.kind.Kind.{Kind}
 use Rattle.yasna_tool.specs.declared.kind.Kind.TheVariants as kind
@@ -31,6 +32,13 @@ EncodesPair m n v b = Enclosed (PartOf (EncodesSigned w64) (PartOf EncodesBoolea
 abbrev pub pair_form : BERMode → ℤ × Bool → List ℕ
 pair_form m v = enclosed_form (part_form (integer_form (universal 2)) (part_form (boolean_form (universal 1)) nothing_form)) sequence_tag m (v.0, (v.1, tt))
 
+-- a SEQUENCE OF INTEGER
+abbrev pub EncodesIntegers : BERMode → ℕ → List ℤ → List ℕ → Type 0
+EncodesIntegers m n v b = IsListOf (EncodesSigned w64) sequence_tag m n v b
+
+abbrev pub integers_form : BERMode → List ℤ → List ℕ
+integers_form m v = enclosed_form (elements_form (integer_form (universal 2))) sequence_tag m v
+
 -- the same of each kind
 abbrev pub Recodes : Kind → BERMode → List ℕ → List ℕ → Type 0
 Recodes kind.Pair m s out = Recoded EncodesPair pair_form m s out
@@ -42,3 +50,4 @@ Recodes kind.Text m s out = Recoded EncodesText (utf8_form (universal 12)) m s o
 Recodes kind.Oid m s out = Recoded EncodesOid (oid_form (universal 6)) m s out
 Recodes kind.Utime m s out = Recoded EncodesUtcTime (utc_time_form (universal 23)) m s out
 Recodes kind.Gtime m s out = Recoded EncodesGeneralizedTime (generalized_time_form (universal 24)) m s out
+Recodes kind.Ints m s out = Recoded EncodesIntegers integers_form m s out

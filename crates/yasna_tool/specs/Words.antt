@@ -3,7 +3,7 @@ use Rattle.std.specs.Prelude.{◌≡◌, List, [], ◌∷◌, ℕ, codes}
 use Rattle.yasna.specs.base.declared.mode.BERMode.{BERMode}
 use Rattle.yasna.specs.base.declared.mode.BERMode.TheVariants.{Ber, Der}
 use Rattle.yasna_tool.specs.declared.kind.Kind.{Kind}
-use Rattle.yasna_tool.specs.declared.kind.Kind.TheVariants.{Pair, Int, Bool, Null, Octets, Text, Oid, Utime, Gtime}
+use Rattle.yasna_tool.specs.declared.kind.Kind.TheVariants.{Pair, Int, Bool, Null, Octets, Text, Oid, Utime, Gtime, Ints}
 
 -- the word for a mode
 abbrev pub mode_word : BERMode → List ℕ
@@ -21,6 +21,7 @@ kind_word Text = codes "text"
 kind_word Oid = codes "oid"
 kind_word Utime = codes "utime"
 kind_word Gtime = codes "gtime"
+kind_word Ints = codes "ints"
 
 -- the words are this mode and this kind, and no more
 abbrev pub AreWords : BERMode → Kind → List (List ℕ) → Type 0

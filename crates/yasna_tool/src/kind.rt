@@ -25,6 +25,7 @@ pub enum Kind {
     Oid,
     Utime,
     Gtime,
+    Ints,
 }
 
 /// The kind of this name.
@@ -41,6 +42,7 @@ pub fn kind_named(word: &str) -> Option<Kind>
         "oid" => Some(Kind::Oid),
         "utime" => Some(Kind::Utime),
         "gtime" => Some(Kind::Gtime),
+        "ints" => Some(Kind::Ints),
         _ => None,
     }
 }
@@ -75,5 +77,6 @@ pub fn run_kind<R: Source, W: Sink>(
         Kind::Oid => run::<ObjectIdentifier, R, W>(alloc, mode, reader, writer),
         Kind::Utime => run::<UTCTime, R, W>(alloc, mode, reader, writer),
         Kind::Gtime => run::<GeneralizedTime, R, W>(alloc, mode, reader, writer),
+        Kind::Ints => run::<Vec<i64>, R, W>(alloc, mode, reader, writer),
     }
 }

@@ -244,7 +244,14 @@ const EVENING: Wanted = Wanted {
     errors: "",
 };
 
-const KINDS: [(&str, Wanted); 9] = [
+/// The DER form of 10 and -129 as a list is written.
+const INTS: Wanted = Wanted {
+    status: 0,
+    output: &[48, 7, 2, 1, 10, 2, 2, 255, 127],
+    errors: "",
+};
+
+const KINDS: [(&str, Wanted); 10] = [
     ("pair", TEN_TRUE),
     ("int", MINUS_129),
     ("bool", TRUE),
@@ -254,6 +261,7 @@ const KINDS: [(&str, Wanted); 9] = [
     ("oid", OID),
     ("utime", NOON),
     ("gtime", EVENING),
+    ("ints", INTS),
 ];
 
 /// Each kind reads its own form, and no ENUMERATED.
@@ -295,7 +303,7 @@ fn times(rt: HostRuntime) -> Result<(), Fail> {
 
 const OTHER_WORDS: [&[&str]; 5] = [
     &["xer", "pair"],
-    &["ber", "ints"],
+    &["ber", "lists"],
     &["ber"],
     &[],
     &["ber", "pair", "pair"],

@@ -16,7 +16,7 @@ use crate::swallow::Swallow;
 use crate::tagged::Tagging;
 use crate::times::{Generalized, Utc};
 use crate::{
-    buffer, length, list, mode, oid, reading, refusal, segments, swallowed, tag, times, whole,
+    buffer, composed, length, list, mode, oid, reading, refusal, segments, swallowed, tag, times, whole,
     writing,
 };
 use std::alloc::{AllocError, Global};
@@ -44,6 +44,7 @@ pub fn answer(alloc: Global, case: &Case) -> Answer {
         .or_else(|| reading::answer::<Swallow>(alloc, case))
         .or_else(|| swallowed::answer(alloc, case))
         .or_else(|| whole::answer(alloc, case))
+        .or_else(|| composed::answer(alloc, case))
         .or_else(|| writing::answer(alloc, case))
         .or_else(|| length::answer(alloc, case))
         .or_else(|| segments::answer(alloc, case))

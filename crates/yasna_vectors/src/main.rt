@@ -28,6 +28,7 @@
 //! | `buffer` | reads with the bytes that they took |
 //! | `swallowed` | failures that callbacks throw away, call in call |
 //! | `whole` | types that are read and written as a whole |
+//! | `composed` | lists and tuples that are |
 //! | `writing`, `length` | calls that write |
 //! | `segments` | octet strings of any length |
 //! | `tag`, `refusal`, `mode` | tags, the texts of refusals, the mode that a callback sees |
@@ -35,6 +36,7 @@
 
 mod answer;
 mod buffer;
+mod composed;
 mod length;
 mod line;
 mod list;

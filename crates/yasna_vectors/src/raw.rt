@@ -49,17 +49,19 @@ fn letter(class: TagClass) -> char {
     }
 }
 
-// Appends the tag, the bit and the payload.
-fn show_tagged(value: &TaggedDerValue, text: &mut String) -> Result<(), AllocError> {
-    let tag = value.tag();
-    let number = tag.tag_number;
-    let bit = match value.pcbit() {
-        PCBit::Primitive => 0u8,
-        PCBit::Constructed => 1,
-    };
-    text.push(letter(tag.tag_class))?;
-    write!(text, "{number}.{bit}.")?;
-    show_bytes(value.value(), text)
+/// Its tag, its bit and its payload.
+impl Shown for TaggedDerValue {
+    fn show(&self, text: &mut String) -> Result<(), AllocError> {
+        let tag = self.tag();
+        let number = tag.tag_number;
+        let bit = match self.pcbit() {
+            PCBit::Primitive => 0u8,
+            PCBit::Constructed => 1,
+        };
+        text.push(letter(tag.tag_class))?;
+        write!(text, "{number}.{bit}.")?;
+        show_bytes(self.value(), text)
+    }
 }
 
 impl Shown for Element {
@@ -69,7 +71,7 @@ impl Shown for Element {
                 text.push('r')?;
                 show_bytes(bytes.as_slice(), text)
             }
-            Element::Tagged(value) => show_tagged(value, text),
+            Element::Tagged(value) => value.show(text),
         }
     }
 }

@@ -44,8 +44,8 @@ pub fn answer(alloc: Global, case: &Case) -> Answer {
     })
 }
 
-// What decoding answers, and encoding behind it.
-fn decoded<T: DERCanonical + Shown>(
+/// What decoding answers, and encoding behind it.
+pub fn decoded<T: DERCanonical + Shown>(
     alloc: Global,
     mode: BERMode,
     bytes: &[u8],

@@ -1,5 +1,6 @@
-use Rattle.std.proofs.Common.{Vec, ℕ}
+use Rattle.std.proofs.Common.{Vec, List, ℕ, ℤ}
 use Rattle.std.specs.Global.{Global}
+use Rattle.std.specs.Int.{w64}
 use Rattle.std.specs.Io.KnownBytes.{Appends}
 use Rattle.yasna.specs.base.Identifier.{universal}
 use Rattle.yasna.specs.base.GeneralizedTime.{EncodesGeneralizedTime, generalized_time_form}
@@ -7,6 +8,8 @@ use Rattle.yasna.specs.base.Models.{utc_of, moment_of}
 use Rattle.yasna.specs.base.UtcTime.{EncodesUtcTime, utc_time_form}
 use Rattle.yasna.specs.base.Octets.{EncodesOctets, octets_tag, octets_form}
 use Rattle.yasna.specs.base.Text.{EncodesText, characters, utf8_form}
+use Rattle.yasna_tool.specs.Kinds.{EncodesIntegers, integers_form}
+use Rattle.yasna.proofs.Laws.{list_along, signed_coding}
 use Rattle.yasna_tool.proofs.Recoded.{recoded, not_recoded}
 use Rattle.yasna_tool.proofs.kind.run_kind.Goals as goal
 
@@ -20,7 +23,8 @@ returns-in-Octets-clause-recoded g c =
 pub returns-in-Octets-clause-none : goal.returns-in-Octets-clause-none
 returns-in-Octets-clause-none g c =
     rw c.in-Octets.is
-    (not_recoded EncodesOctets (octets_form octets_tag) c.args.mode _ _ (g.R.Source.remaining c.args.reader.now) c.run-in-Octets.result c.run-in-Octets.ensures.refused)
+    (not_recoded EncodesOctets (octets_form octets_tag) c.args.mode (λ v b x. (v, x)) _ _ (g.R.Source.remaining c.args.reader.now)
+    c.run-in-Octets.result c.run-in-Octets.ensures.refused)
 
 pub returns-in-Text-clause-recoded : goal.returns-in-Text-clause-recoded
 returns-in-Text-clause-recoded g c =
@@ -32,7 +36,8 @@ returns-in-Text-clause-recoded g c =
 pub returns-in-Text-clause-none : goal.returns-in-Text-clause-none
 returns-in-Text-clause-none g c =
     rw c.in-Text.is
-    (not_recoded EncodesText (utf8_form (universal 12)) c.args.mode _ _ (g.R.Source.remaining c.args.reader.now) c.run-in-Text.result c.run-in-Text.ensures.refused)
+    (not_recoded EncodesText (utf8_form (universal 12)) c.args.mode (λ v b x. (v, x)) _ _ (g.R.Source.remaining c.args.reader.now)
+    c.run-in-Text.result c.run-in-Text.ensures.refused)
 
 pub returns-in-Utime-clause-recoded : goal.returns-in-Utime-clause-recoded
 returns-in-Utime-clause-recoded g c =
@@ -44,7 +49,8 @@ returns-in-Utime-clause-recoded g c =
 pub returns-in-Utime-clause-none : goal.returns-in-Utime-clause-none
 returns-in-Utime-clause-none g c =
     rw c.in-Utime.is
-    (not_recoded EncodesUtcTime (utc_time_form (universal 23)) c.args.mode _ _ (g.R.Source.remaining c.args.reader.now) c.run-in-Utime.result c.run-in-Utime.ensures.refused)
+    (not_recoded EncodesUtcTime (utc_time_form (universal 23)) c.args.mode (λ v b x. (v, x)) _ _ (g.R.Source.remaining c.args.reader.now)
+    c.run-in-Utime.result c.run-in-Utime.ensures.refused)
 
 pub returns-in-Gtime-clause-recoded : goal.returns-in-Gtime-clause-recoded
 returns-in-Gtime-clause-recoded g c =
@@ -56,4 +62,18 @@ returns-in-Gtime-clause-recoded g c =
 pub returns-in-Gtime-clause-none : goal.returns-in-Gtime-clause-none
 returns-in-Gtime-clause-none g c =
     rw c.in-Gtime.is
-    (not_recoded EncodesGeneralizedTime (generalized_time_form (universal 24)) c.args.mode _ _ (g.R.Source.remaining c.args.reader.now) c.run-in-Gtime.result c.run-in-Gtime.ensures.refused)
+    (not_recoded EncodesGeneralizedTime (generalized_time_form (universal 24)) c.args.mode (λ v b x. (v, x)) _ _ (g.R.Source.remaining c.args.reader.now)
+    c.run-in-Gtime.result c.run-in-Gtime.ensures.refused)
+
+pub returns-in-Ints-clause-recoded : goal.returns-in-Ints-clause-recoded
+returns-in-Ints-clause-recoded g c =
+    rw c.in-Ints.is
+    (recoded EncodesIntegers (λ (v : Vec ℤ Global). v.items) integers_form c.args.mode
+    (Appends (g.W.Sink.contents c.args.writer.now) (g.W.Sink.contents c.run-in-Ints.new.writer)) (g.R.Source.remaining c.args.reader.now)
+    c.run-in-Ints.result c.run-in-Ints.ensures.ok)
+
+pub returns-in-Ints-clause-none : goal.returns-in-Ints-clause-none
+returns-in-Ints-clause-none g c =
+    rw c.in-Ints.is
+    (not_recoded EncodesIntegers integers_form c.args.mode ((list_along (λ (v : List ℤ). v) (signed_coding w64)).meaning.among c.args.mode 101) _ _
+    (g.R.Source.remaining c.args.reader.now) c.run-in-Ints.result c.run-in-Ints.ensures.refused)

@@ -1,0 +1,102 @@
+//! Lists, tuples, raw elements and borrowed values, each impl once at types of its own.
+
+use crate::third_party::normalized;
+use std::alloc::Global;
+use std::process::Abort;
+use std::test::Fail;
+use yasna::models::TaggedDerValue;
+use yasna::{
+    ASN1ErrorKind, ASN1Result, DERCanonical, PCBit, decode_ber, decode_der, encode_der, tags,
+};
+
+// A SEQUENCE of so many INTEGERs, 0, 1 and so on, is a value of this type, and its form.
+fn is_form_of<T: DERCanonical>(rt: &impl Abort, alloc: Global, count: u8) -> Result<(), Fail> {
+    let mut bytes = Vec::from_slice(alloc, &[48, count.saturating_mul(3)])?;
+    for number in 0..count {
+        bytes.extend_from_slice(&[2, 1, number])?;
+    }
+    let written = normalized::<T>(alloc, &bytes)?;
+    assert_eq!(rt; written.as_slice(), bytes.as_slice());
+    let other = count.saturating_add(1);
+    bytes.extend_from_slice(&[2, 1, other])?;
+    let refused: ASN1Result<T> = decode_ber(alloc, &bytes);
+    assert_eq!(rt;
+        refused.err().map(|error| error.kind()),
+        Some(ASN1ErrorKind::Extra)
+    );
+    Ok(())
+}
+
+#[test]
+fn tuples_to_six(rt: HostRuntime) -> Result<(), Fail> {
+    let alloc = rt.alloc();
+    is_form_of::<(i64,)>(&rt, alloc, 1)?;
+    is_form_of::<(i64, i64)>(&rt, alloc, 2)?;
+    is_form_of::<(i64, i64, u16)>(&rt, alloc, 3)?;
+    is_form_of::<(i64, i64, i64, i64)>(&rt, alloc, 4)?;
+    is_form_of::<(i64, i64, u64, i64, i64)>(&rt, alloc, 5)?;
+    is_form_of::<(i64, i64, i64, i64, i64, i64)>(&rt, alloc, 6)
+}
+
+#[test]
+fn tuples_to_twelve(rt: HostRuntime) -> Result<(), Fail> {
+    let alloc = rt.alloc();
+    is_form_of::<(i64, i64, i64, i64, i64, i64, i16)>(&rt, alloc, 7)?;
+    is_form_of::<(i64, i64, i64, i64, i64, i64, i64, i64)>(&rt, alloc, 8)?;
+    is_form_of::<(i64, i64, i64, i64, i64, i64, i64, i64, i64)>(&rt, alloc, 9)?;
+    is_form_of::<(i64, i64, i64, i64, i64, i64, i64, i64, i64, i64)>(&rt, alloc, 10)?;
+    is_form_of::<(i64, i64, i64, i64, i64, i64, i64, i64, i64, i64, i64)>(&rt, alloc, 11)?;
+    is_form_of::<(i64, i64, i64, i64, i64, i64, i64, i64, i64, i64, i64, i32)>(&rt, alloc, 12)
+}
+
+#[test]
+fn lists(rt: HostRuntime) -> Result<(), Fail> {
+    let alloc = rt.alloc();
+    is_form_of::<Vec<i64>>(&rt, alloc, 0)?;
+    is_form_of::<Vec<u32>>(&rt, alloc, 5)?;
+    let nested = normalized::<Vec<(Vec<u8>, Vec<bool>)>>(
+        alloc,
+        &[48, 128, 48, 128, 4, 1, 9, 48, 3, 1, 1, 7, 0, 0, 0, 0],
+    )?;
+    assert_eq!(rt;
+        nested.as_slice(),
+        [48, 10, 48, 8, 4, 1, 9, 48, 3, 1, 1, 255].as_slice()
+    );
+    let broken: ASN1Result<Vec<i64>> = decode_ber(alloc, &[48, 128, 2, 1, 10, 5, 0, 0, 0]);
+    assert_eq!(rt;
+        broken.err().map(|error| error.kind()),
+        Some(ASN1ErrorKind::Invalid)
+    );
+    Ok(())
+}
+
+#[test]
+fn raw_elements(rt: HostRuntime) -> Result<(), Fail> {
+    let alloc = rt.alloc();
+    let element: TaggedDerValue = decode_der(alloc, &[12, 1, 65])?;
+    assert!(rt; element.tag() == tags::TAG_UTF8STRING);
+    assert!(rt; element.pcbit() == PCBit::Primitive);
+    assert_eq!(rt; element.value(), [65].as_slice());
+    let list: Vec<TaggedDerValue> = decode_ber(alloc, &[48, 5, 5, 0, 2, 1, 7])?;
+    assert_eq!(rt; list.len(), 2);
+    Ok(())
+}
+
+#[test]
+fn borrowed(rt: HostRuntime) -> Result<(), Fail> {
+    let alloc = rt.alloc();
+    let flags: &[bool] = &[true, false];
+    let list = encode_der(alloc, &flags)?;
+    assert_eq!(rt; list.as_slice(), [48, 6, 1, 1, 255, 1, 1, 0].as_slice());
+    let octets: &[u8] = &[7, 9];
+    assert_eq!(rt;
+        encode_der(alloc, &octets)?.as_slice(),
+        [4, 2, 7, 9].as_slice()
+    );
+    let text = "ab";
+    assert_eq!(rt;
+        encode_der(alloc, &text)?.as_slice(),
+        [12, 2, 97, 98].as_slice()
+    );
+    Ok(())
+}
