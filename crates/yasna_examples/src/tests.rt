@@ -2,6 +2,7 @@
 
 mod composed;
 mod oid;
+mod public_key;
 
 use crate::{
     Measurement, Report, Sample, Version, constructed_integer, encoded_report, normalized_report,

@@ -1,0 +1,110 @@
+//! SubjectPublicKeyInfo with its AlgorithmIdentifier (RFC 5280, 4.1), read from and written to real bytes by closures.
+
+use std::alloc::Global;
+use std::process::Abort;
+use std::test::Fail;
+use yasna::models::{ObjectIdentifier, TaggedDerValue};
+use yasna::{ASN1Error, ASN1ErrorKind, ASN1Result, BERReader, DERWriter, construct_der, parse_der};
+
+// The Ed25519 key of RFC 8410, 10.1, whose algorithm has no parameters.
+const ED25519: [u8; 44] = [
+    48, 42, 48, 5, 6, 3, 43, 101, 112, 3, 33, 0, 25, 191, 68, 9, 105, 132, 205, 254, 133, 65, 186,
+    193, 103, 220, 59, 150, 200, 80, 134, 170, 48, 182, 182, 203, 12, 92, 56, 173, 112, 49, 102,
+    225,
+];
+
+// An RSA key with the modulus 33, whose algorithm has NULL for its parameters.
+const RSA: [u8; 28] = [
+    48, 26, 48, 13, 6, 9, 42, 134, 72, 134, 247, 13, 1, 1, 1, 5, 0, 3, 9, 0, 48, 6, 2, 1, 33, 2, 1,
+    3,
+];
+
+#[derive(Drop)]
+struct Algorithm {
+    name: ObjectIdentifier,
+    parameters: Option<TaggedDerValue>,
+}
+
+#[derive(Drop)]
+struct PublicKey {
+    algorithm: Algorithm,
+    key: Vec<u8>,
+    bits: usize,
+}
+
+fn read_algorithm(reader: BERReader) -> ASN1Result<Algorithm> {
+    reader.read_sequence(|parts| {
+        let name = parts.next().read_oid()?;
+        let parameters = parts.read_optional(|part| part.read_tagged_der())?;
+        Ok(Algorithm { name, parameters })
+    })
+}
+
+fn read_public_key(reader: BERReader) -> ASN1Result<PublicKey> {
+    reader.read_sequence(|parts| {
+        let algorithm = read_algorithm(parts.next())?;
+        let (key, bits) = parts.next().read_bitvec_bytes()?;
+        Ok(PublicKey {
+            algorithm,
+            key,
+            bits,
+        })
+    })
+}
+
+fn write_name(name: &ObjectIdentifier, writer: DERWriter<'_>) -> ASN1Result<()> {
+    if !name.is_encodable() {
+        return Err(ASN1Error::new(ASN1ErrorKind::Invalid));
+    }
+    writer.write_oid(name)
+}
+
+fn write_bits(key: &[u8], bits: usize, writer: DERWriter<'_>) -> ASN1Result<()> {
+    if bits % 8 != 0 || key.len() != bits / 8 {
+        return Err(ASN1Error::new(ASN1ErrorKind::Invalid));
+    }
+    writer.write_bitvec_bytes(key, bits)
+}
+
+fn write_algorithm(algorithm: &Algorithm, writer: DERWriter<'_>) -> ASN1Result<()> {
+    writer.write_sequence(|parts| {
+        write_name(&algorithm.name, parts.next())?;
+        match &algorithm.parameters {
+            Some(parameters) => parts.next().write_tagged_der(parameters),
+            None => Ok(()),
+        }
+    })
+}
+
+fn write_public_key(key: &PublicKey, writer: DERWriter<'_>) -> ASN1Result<()> {
+    writer.write_sequence(|parts| {
+        write_algorithm(&key.algorithm, parts.next())?;
+        write_bits(&key.key, key.bits, parts.next())
+    })
+}
+
+// A key is read from its form, and written in it.
+fn is_form(
+    rt: &impl Abort,
+    alloc: Global,
+    form: &[u8],
+    name: &[u64],
+    bits: usize,
+) -> Result<PublicKey, Fail> {
+    let key = parse_der(alloc, form, |reader| read_public_key(reader))?;
+    assert_eq!(rt; key.algorithm.name.components().as_slice(), name);
+    assert_eq!(rt; key.bits, bits);
+    let written = construct_der(alloc, |writer| write_public_key(&key, writer))?;
+    assert_eq!(rt; written.as_slice(), form);
+    Ok(key)
+}
+
+#[test]
+fn public_keys(rt: HostRuntime) -> Result<(), Fail> {
+    let alloc = rt.alloc();
+    let ed25519 = is_form(&rt, alloc, &ED25519, &[1, 3, 101, 112], 256)?;
+    assert!(rt; ed25519.algorithm.parameters.is_none());
+    let rsa = is_form(&rt, alloc, &RSA, &[1, 2, 840, 113549, 1, 1, 1], 64)?;
+    assert!(rt; rsa.algorithm.parameters.is_some());
+    Ok(())
+}
