@@ -71,7 +71,7 @@ module _ {F A : Type 0} {E : A → A → Type 0} {B : BERMode → ℕ → A → 
     pieces : Pieces (B s.mode s.levels) vs front
     same : s' ≡ record s { left = s'.left }
 
-  ran : (vs : List A) (f : F) (s : Reading) (f' : F) (s' : Reading) → IsFresh s → Turns C f s vs f' s' → Ran vs s s'
+  ran : (vs : List A) (f : F) (s : Reading) (f' : F) (s' : Reading) → IsFresh s → Turns (Turn C) f s vs f' s' → Ran vs s s'
   ran [] f s f' s' fresh t = record {
     front = [];
     joined = ap (λ (z : Reading). z.left) (sym t.1);
@@ -178,7 +178,7 @@ module _ {F A : Type 0} {E : A → A → Type 0} {B : BERMode → ℕ → A → 
         subst (λ z. DecodesContents a (ElementsOf B) (AnyElements S) s (unless_kept z xs) s') (sym f.2) D
 
     -- contents that a list's turns read
-    pub listed : (f : F) (s : Reading) → IsFresh s → (xs : Result (List A) ASN1Error) (s' : Reading) → Lists C f s xs s' →
+    pub listed : (f : F) (s : Reading) → IsFresh s → (xs : Result (List A) ASN1Error) (s' : Reading) → Lists (Turn C) f s xs s' →
         DecodesContents a (ElementsOf B) (AnyElements S) s (unless_kept s'.kept xs) s'
     listed f s fresh xs s' x =
         listed_by s fresh x.values x.reached x.place (ran x.values f s x.reached x.place fresh x.turns) x.last x.after s' x.turn xs x.ends

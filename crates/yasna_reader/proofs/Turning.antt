@@ -1,15 +1,21 @@
 -- The turns of a list's callback.
-use Rattle.std.proofs.Common.{◌≡◌, ℕ, inl, inr, List, [], ◌∷◌, ◌++◌, None, Option, refl, sym, ap, subst, ◌∙◌, append_assoc}
-use Rattle.std.specs.Prelude.{Result}
+use Rattle.std.proofs.Common.{◌≡◌, ℕ, inl, inr, List, [], ◌∷◌, ◌++◌, None, Some, Option, refl, sym, ap, subst, ◌∙◌, append_assoc}
+use Rattle.std.specs.Global.{Global}
+use Rattle.std.specs.Prelude.{Result, Vec}
 use Rattle.yasna_base.specs.declared.error.ASN1Error.{ASN1Error}
 use Rattle.yasna_base.specs.declared.tag.Tag.{Tag}
 use Rattle.yasna_reader.specs.declared.callback.Outcome.{Outcome}
 use Rattle.yasna_reader.specs.declared.callback.Outcome.TheVariants.{Gave, Quiet, Failed}
 use Rattle.yasna_reader.specs.declared.bytes.cursor.Cursor.{Cursor}
 use Rattle.yasna_reader.specs.Callback.{at_cursor}
-use Rattle.yasna_reader.specs.SequenceOf.{TurnsOut, Turn, Turns}
+use Rattle.yasna_reader.specs.Sequence.{ReadsParts}
+use Rattle.yasna_reader.specs.SequenceOf.{TurnsOut, Turn, Turns, Lists, Collects, Visits, items_of}
+use Rattle.yasna_reader.specs.SetOf.{Bounded, Follows, FallsBelow, GivesInOrder, TurnInOrder, Ordered, CollectsInOrder, VisitsInOrder}
+use Rattle.yasna_reader.specs.declared.set_of.Order.TheVariants.{Any}
 use Rattle.yasna_reader.specs.State.{Reading, IsFresh}
+use Rattle.yasna_reader.specs.Walk.{IsRest}
 use Rattle.yasna_reader.proofs.Callbacks.{taken_behind}
+use Rattle.yasna_reader.proofs.Sequences.{parts_map}
 
 tagged_turn : {A : Type 0} (c : Cursor) (t : Option Tag) (k : Option ASN1Error) (x : Result A ASN1Error) (m : Reading) (o : Outcome A) (s' : Reading) →
     TurnsOut (at_cursor c) x m o s' → TurnsOut (record (at_cursor c) { tag = t; kept = k }) x m o s'
@@ -30,13 +36,12 @@ pub turned_at : {A : Type 0} (c : Cursor) (t : Option Tag) (k : Option ASN1Error
     (s' : Reading) → record (at_cursor c) { tag = t; kept = k } ≡ s → TurnsOut (at_cursor c) x m o s' → TurnsOut s x m o s'
 turned_at c t k s x m o s' e h = subst (λ z. TurnsOut z x m o s') e (tagged_turn c t k x m o s' h)
 
-module _ {F A : Type 0} (C : F → Reading → Result A ASN1Error → F → Reading → Type 0) where
+module _ {G A : Type 0} (T : G → Reading → Outcome A → G → Reading → Type 0) where
   -- one turn more
-  pub turns_more : (f : F) (s : Reading) (vs : List A) (v : A) (h : F) (m : Reading) (f' : F) (s' : Reading) → Turns C f s vs h m →
-      Turn C h m (Gave v) f' s' → Turns C f s (vs ++ (v ∷ [])) f' s'
-  turns_more f s [] v h m f' s' a b =
-      (f', s', subst (λ z. Turn C z s (Gave v) f' s') a.0 (subst (λ z. Turn C h z (Gave v) f' s') a.1 b), (refl, refl))
-  turns_more f s (w ∷ vs) v h m f' s' a b = (a.0, a.1, a.2, turns_more a.0 a.1 vs v h m f' s' a.3 b)
+  pub turns_more : (g : G) (s : Reading) (vs : List A) (v : A) (h : G) (m : Reading) (g' : G) (s' : Reading) → Turns T g s vs h m → T h m (Gave v) g' s' →
+      Turns T g s (vs ++ (v ∷ [])) g' s'
+  turns_more g s [] v h m g' s' a b = (g', s', subst (λ z. T z s (Gave v) g' s') a.0 (subst (λ z. T h z (Gave v) g' s') a.1 b), (refl, refl))
+  turns_more g s (w ∷ vs) v h m g' s' a b = (a.0, a.1, a.2, turns_more a.0 a.1 vs v h m g' s' a.3 b)
 
 -- a fresh reading has no implicit tag and no failure to lose
 pub fresh_as : (s : Reading) (c : List ℕ) → IsFresh s → record s { left = c; tag = None; kept = None } ≡ record s { left = c }
@@ -45,25 +50,129 @@ fresh_as s c fresh =
     ap (λ (k : Option ASN1Error). record s { left = c; kept = k }) (sym fresh.0)
 
 -- turns so far: from the fresh reading s they gave these values, and are at the reading m, which is what is left of s
-pub record SoFar {F A : Type 0} (C : F → Reading → Result A ASN1Error → F → Reading → Type 0) (f : F) (s : Reading) (vs : List A) (h : F) (m : Reading) :
+pub record SoFar {G A : Type 0} (T : G → Reading → Outcome A → G → Reading → Type 0) (g : G) (s : Reading) (vs : List A) (h : G) (m : Reading) :
     Type 0 where
   pub front : List ℕ
   pub joined : s.left ≡ front ++ m.left
   pub same : m ≡ record s { left = m.left }
-  pub turns : Turns C f s vs h m
+  pub turns : Turns T g s vs h m
 
 -- a further turn
-pub more_so_far : {F A : Type 0} (C : F → Reading → Result A ASN1Error → F → Reading → Type 0) (f : F) (s : Reading) (vs : List A) (v : A) (h : F)
-    (m : Reading) (f' : F) (s' : Reading) → IsFresh s → SoFar C f s vs h m → Turn C h m (Gave v) f' s' → SoFar C f s (vs ++ (v ∷ [])) f' s'
-more_so_far C f s vs v h m f' s' fresh a b =
-    let t = taken_behind m b.own b.left (Gave v) s' b.comes.0 in
+pub more_so_far : {F A : Type 0} (C : F → Reading → Result A ASN1Error → F → Reading → Type 0) (g : Bounded F) (s : Reading) (vs : List A) (v : A)
+    (h : Bounded F) (m : Reading) (g' : Bounded F) (s' : Reading) → IsFresh s → SoFar (TurnInOrder C) g s vs h m → GivesInOrder C h m v g' s' →
+    SoFar (TurnInOrder C) g s (vs ++ (v ∷ [])) g' s'
+more_so_far C g s vs v h m g' s' fresh a b =
+    let c = b.turn.comes.0 in
     let at : s' ≡ record m { left = s'.left; tag = None; kept = None } =
-    b.comes.0.3 ∙ ap (λ (z : List ℕ). record m { left = z; tag = None; kept = None }) (sym (ap (λ (z : Reading). z.left) b.comes.0.3)) in
+    c.3 ∙ ap (λ (z : List ℕ). record m { left = z; tag = None; kept = None }) (sym (ap (λ (z : Reading). z.left) c.3)) in
     let mid : record m { left = s'.left; tag = None; kept = None } ≡ record s { left = s'.left; tag = None; kept = None } =
     ap (λ (z : Reading). record z { left = s'.left; tag = None; kept = None }) a.same in
     record {
-      front = a.front ++ t.0;
-      joined = a.joined ∙ ap (λ z. a.front ++ z) t.1 ∙ sym (append_assoc a.front t.0 s'.left);
+      front = a.front ++ b.element;
+      joined = a.joined ∙ ap (λ z. a.front ++ z) b.joined ∙ sym (append_assoc a.front b.element s'.left);
       same = at ∙ mid ∙ fresh_as s s'.left fresh;
-      turns = turns_more C f s vs v h m f' s' a.turns b;
+      turns = turns_more (TurnInOrder C) g s vs v h m g' s' a.turns b;
     }
+
+-- what is left behind a turn stands behind what it took
+pub turn_rest : {F A : Type 0} (C : F → Reading → Result A ASN1Error → F → Reading → Type 0) (f : F) (s : Reading) (o : Outcome A) (f' : F)
+    (s' : Reading) → Turn C f s o f' s' → IsRest s.left s'.left
+turn_rest C f s (Gave v) f' s' t = taken_behind s t.own t.left (Gave v) s' t.comes.0
+turn_rest C f s (Quiet e) f' s' t = taken_behind s t.own t.left (Quiet e) s' t.comes
+turn_rest C f s (Failed e) f' s' t = elim t.comes [
+  | inl c ↦ taken_behind s t.own t.left (Failed e) s' c
+  | inr i ↦
+      let w = taken_behind s t.own t.left (Gave i.value) i.between i.comes in
+      (w.0, w.1 ∙ ap (λ (z : Reading). w.0 ++ z.left) (sym i.state))
+]
+
+-- what was made of a turn
+pub turned_in_order : {F A : Type 0} (C : F → Reading → Result A ASN1Error → F → Reading → Type 0) (g g' : Bounded F) (s : Reading) (o : Outcome A)
+    (m : Reading) (r : Outcome A) (s' : Reading) → Turn C g.callback s o g'.callback m → Ordered g.bound s.left o m r g'.bound s' →
+    TurnInOrder C g s r g' s'
+turned_in_order C g g' s (Gave v) m r s' t (b, e, inl h) =
+    subst (λ z. TurnInOrder C g s z g' s') (sym h.1) (subst (λ z. GivesInOrder C g s v g' z) (sym h.2) (record {
+      turn = t;
+      element = b;
+      joined = e;
+      follows = h.0;
+    }))
+turned_in_order C g g' s (Gave v) m r s' t (b, e, inr h) =
+    subst (λ z. TurnInOrder C g s z g' s') (sym h.1) (inr (record {
+      value = v;
+      between = m;
+      turn = t;
+      element = b;
+      joined = e;
+      falls = h.0;
+      invalid = refl;
+      state = h.2;
+    }))
+turned_in_order C g g' s (Quiet e) m r s' t h =
+    subst (λ z. TurnInOrder C g s z g' s') (sym h.0) (subst (λ z. Turn C g.callback s (Quiet e) g'.callback z) (sym h.1) t)
+turned_in_order C g g' s (Failed e) m r s' t h =
+    subst (λ z. TurnInOrder C g s z g' s') (sym h.0) (inl (subst (λ z. Turn C g.callback s (Failed e) g'.callback z) (sym h.1) t))
+
+-- without a bound, turns are just those of the callback
+module _ {F A : Type 0} (C : F → Reading → Result A ASN1Error → F → Reading → Type 0) where
+  unbounded : (a n : Option (List ℕ)) (b : List ℕ) → a ≡ None → Follows a b n → n ≡ None
+  unbounded None n b e h = h
+  unbounded (Some a) n b e h = absurd (cc)
+
+  none_falls : (a : Option (List ℕ)) (b : List ℕ) → a ≡ None → FallsBelow a b → ⊥
+  none_falls None b e h = h
+  none_falls (Some a) b e h = absurd (cc)
+
+  turns_any : (vs : List A) (g : Bounded F) (s : Reading) (h : Bounded F) (m : Reading) → g.bound ≡ None → Turns (TurnInOrder C) g s vs h m →
+      Turns (Turn C) g.callback s vs h.callback m × (h.bound ≡ None)
+  turns_any [] g s h m e t = ((ap (λ (z : Bounded F). z.callback) t.0, t.1), ap (λ (z : Bounded F). z.bound) t.0 ∙ e)
+  turns_any (v ∷ vs) g s h m e t =
+      let w = turns_any vs t.0 t.1 h m (unbounded g.bound t.0.bound t.2.element e t.2.follows) t.3 in
+      ((t.0.callback, t.1, t.2.turn, w.0), w.1)
+
+  turn_any : (g : Bounded F) (s : Reading) (o : Outcome A) (g' : Bounded F) (s' : Reading) → g.bound ≡ None → TurnInOrder C g s o g' s' →
+      Turn C g.callback s o g'.callback s'
+  turn_any g s (Gave v) g' s' e t = t.turn
+  turn_any g s (Quiet k) g' s' e t = t
+  turn_any g s (Failed k) g' s' e (inl t) = t
+  turn_any g s (Failed k) g' s' e (inr t) = absurd (none_falls g.bound t.element e t.falls)
+
+  lists_any : (f : F) (s : Reading) (r : Result (List A) ASN1Error) (s' : Reading) → Lists (TurnInOrder C) (record { callback = f; bound = None }) s r s' →
+      Lists (Turn C) f s r s'
+  lists_any f s r s' h =
+      let w = turns_any h.values (record { callback = f; bound = None }) s h.reached h.place refl h.turns in
+      record {
+        values = h.values;
+        reached = h.reached.callback;
+        place = h.place;
+        turns = w.0;
+        last = h.last;
+        after = h.after.callback;
+        turn = turn_any h.reached h.place h.last h.after s' w.1 h.turn;
+        ends = h.ends;
+      }
+
+  pub collects_any : (f : F) (t : Tag) (s : Reading) (r : Result (Vec A Global) ASN1Error) (s' : Reading) → ReadsParts (CollectsInOrder Any C f) t s r s' →
+      ReadsParts (Collects C f) t s r s'
+  collects_any f t = parts_map (CollectsInOrder Any C f) (Collects C f) (λ s r s' fresh h. elim h [
+    | inl x ↦ inl (lists_any f s (items_of r) s' x)
+    | inr x ↦ inr (record {
+      values = x.values;
+      last = x.last;
+      reached = x.reached.callback;
+      place = x.place;
+      turns = (turns_any (x.values ++ (x.last ∷ [])) (record { callback = f; bound = None }) s x.reached x.place refl x.turns).0;
+      error = x.error;
+      memory = x.memory;
+      answer = x.answer;
+      state = x.state;
+    })
+  ]) t
+
+  pub visits_any : (f : F) (t : Tag) (s : Reading) (r : Result (Unit {0}) ASN1Error) (s' : Reading) → ReadsParts (VisitsInOrder Any C f) t s r s' →
+      ReadsParts (Visits C f) t s r s'
+  visits_any f t = parts_map (VisitsInOrder Any C f) (Visits C f) (λ s r s' fresh h. record {
+    items = h.items;
+    lists = lists_any f s h.items s' h.lists;
+    answer = h.answer;
+  }) t

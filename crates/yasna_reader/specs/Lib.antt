@@ -17,6 +17,7 @@ pub mod Buffer
 pub mod Optional
 pub mod Lookahead
 pub mod SequenceOf
+pub mod SetOf
 pub mod Parse
 pub mod Walk
 pub mod Raw

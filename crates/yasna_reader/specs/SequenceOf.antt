@@ -44,10 +44,11 @@ pub record Turn {F A : Type 0} (C : F → Reading → Result A ASN1Error → F �
   pub called : C f s own f' left
   pub comes : TurnsOut s own left o s'
 
--- turns one after the other, each from where the one before left off, gave these values
-abbrev pub Turns : {F A : Type 0} → (F → Reading → Result A ASN1Error → F → Reading → Type 0) → F → Reading → List A → F → Reading → Type 0
-Turns C f s [] f' s' = (f' ≡ f) × (s' ≡ s)
-Turns {F} C f s (v ∷ vs) f' s' = (h : F) × (m : Reading) × Turn C f s (Gave v) h m × Turns C h m vs f' s'
+-- turns one after the other, each from where the one before left off, gave these values. T g s o g' s' says that a turn in
+-- the state g, on the reading s, comes to o and leaves g' and s'
+abbrev pub Turns : {G A : Type 0} → (G → Reading → Outcome A → G → Reading → Type 0) → G → Reading → List A → G → Reading → Type 0
+Turns T g s [] g' s' = (g' ≡ g) × (s' ≡ s)
+Turns {G} T g s (v ∷ vs) g' s' = (h : G) × (m : Reading) × T g s (Gave v) h m × Turns T h m vs g' s'
 
 -- what is answered where the turn behind these values came to that
 abbrev pub Ends : {A : Type 0} → List A → Outcome A → Result (List A) ASN1Error → Type 0
@@ -56,25 +57,25 @@ Ends vs (Quiet e) r = r ≡ Ok vs
 Ends vs (Failed e) r = r ≡ Err e
 
 -- turns from s on, up to one that gives no value: a quiet Err ends the list, a failure is answered
-pub record Lists {F A : Type 0} (C : F → Reading → Result A ASN1Error → F → Reading → Type 0) (f : F) (s : Reading) (r : Result (List A) ASN1Error)
+pub record Lists {G A : Type 0} (T : G → Reading → Outcome A → G → Reading → Type 0) (g : G) (s : Reading) (r : Result (List A) ASN1Error)
     (s' : Reading) : Type 0 where
   pub values : List A
-  pub reached : F
+  pub reached : G
   pub place : Reading
-  pub turns : Turns C f s values reached place
+  pub turns : Turns T g s values reached place
   pub last : Outcome A
-  pub after : F
-  pub turn : Turn C reached place last after s'
+  pub after : G
+  pub turn : T reached place last after s'
   pub ends : Ends values last r
 
 -- there was no memory for the last of these values
-pub record LacksMemory {F A : Type 0} (C : F → Reading → Result A ASN1Error → F → Reading → Type 0) (f : F) (s : Reading) (r : Result (List A) ASN1Error)
+pub record LacksMemory {G A : Type 0} (T : G → Reading → Outcome A → G → Reading → Type 0) (g : G) (s : Reading) (r : Result (List A) ASN1Error)
     (s' : Reading) : Type 0 where
   pub values : List A
   pub last : A
-  pub reached : F
+  pub reached : G
   pub place : Reading
-  pub turns : Turns C f s (values ++ (last ∷ [])) reached place
+  pub turns : Turns T g s (values ++ (last ∷ [])) reached place
   pub error : ASN1Error
   pub memory : kind_of error ≡ OutOfMemory
   pub answer : r ≡ Err error
@@ -84,18 +85,26 @@ abbrev pub items_of : {A : Type 0} → Result (Vec A Global) ASN1Error → Resul
 items_of (Ok v) = Ok v.items
 items_of (Err e) = Err e
 
--- contents are read into a vector
-abbrev pub Collects : {F A : Type 0} → (F → Reading → Result A ASN1Error → F → Reading → Type 0) → F →
-    Reading → Result (Vec A Global) ASN1Error → Reading → Type 0
-Collects C f s r s' = Lists C f s (items_of r) s' ⊎ LacksMemory C f s (items_of r) s'
+-- contents are read into a vector by such turns
+abbrev pub CollectsBy : {G A : Type 0} → (G → Reading → Outcome A → G → Reading → Type 0) → G → Reading → Result (Vec A Global) ASN1Error → Reading → Type 0
+CollectsBy T g s r s' = Lists T g s (items_of r) s' ⊎ LacksMemory T g s (items_of r) s'
 
 abbrev pub without_items : {A : Type 0} → Result (List A) ASN1Error → Result (Unit {0}) ASN1Error
 without_items (Ok vs) = Ok tt
 without_items (Err e) = Err e
 
--- contents are read, and nothing is answered of them
-pub record Visits {F A : Type 0} (C : F → Reading → Result A ASN1Error → F → Reading → Type 0) (f : F)
+-- contents are read by such turns, and nothing is answered of them
+pub record VisitsBy {G A : Type 0} (T : G → Reading → Outcome A → G → Reading → Type 0) (g : G)
     (s : Reading) (r : Result (Unit {0}) ASN1Error) (s' : Reading) : Type 0 where
   pub items : Result (List A) ASN1Error
-  pub lists : Lists C f s items s'
+  pub lists : Lists T g s items s'
   pub answer : r ≡ without_items items
+
+-- the elements are the callback's, in any order
+abbrev pub Collects : {F A : Type 0} → (F → Reading → Result A ASN1Error → F → Reading → Type 0) → F →
+    Reading → Result (Vec A Global) ASN1Error → Reading → Type 0
+Collects C f = CollectsBy (Turn C) f
+
+abbrev pub Visits : {F A : Type 0} → (F → Reading → Result A ASN1Error → F → Reading → Type 0) → F →
+    Reading → Result (Unit {0}) ASN1Error → Reading → Type 0
+Visits C f = VisitsBy (Turn C) f

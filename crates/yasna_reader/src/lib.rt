@@ -13,6 +13,7 @@
 //! | `times` | reads of UTCTime and GeneralizedTime |
 //! | `sequence` | reads of constructed elements whose contents a callback reads |
 //! | `sequence_of` | reads of lists, whose elements a callback reads one by one |
+//! | `set_of` | reads of lists whose elements ascend in DER |
 //! | `callback` | what becomes of a reading that a callback is handed |
 //! | `tagged` | reads under tags of the caller's |
 //! | `optional` | reads of parts that may be left out |
@@ -31,6 +32,7 @@ mod primitive;
 mod raw;
 mod sequence;
 mod sequence_of;
+mod set_of;
 mod state;
 mod strings;
 mod tagged;

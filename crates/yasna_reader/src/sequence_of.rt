@@ -2,8 +2,10 @@
 
 use crate::bytes::cursor::Cursor;
 use crate::callback::Outcome;
+use crate::set_of::{Order, first_bound};
 use crate::state::{BERReader, ReaderState};
 use yasna_base::error::{ASN1Error, ASN1ErrorKind, ASN1Result};
+use yasna_base::tag::Tag;
 use yasna_base::tags::TAG_SEQUENCE;
 
 impl<'a> ReaderState<'a> {
@@ -11,6 +13,7 @@ impl<'a> ReaderState<'a> {
     ghost use Rattle.yasna_reader.specs.Callback.{at_cursor};
     ghost use Rattle.yasna_reader.specs.Sequence.{TakesContents, ReadsParts};
     ghost use Rattle.yasna_reader.specs.SequenceOf.{TakesTurn, TakesTurns, Turn, TurnsOut, Collects, Visits};
+    ghost use Rattle.yasna_reader.specs.SetOf.{CollectsInOrder, VisitsInOrder, TurnInOrder, bounded};
     ghost use Rattle.yasna_reader.specs.State.{IsFresh};
 
     /// Reads a SEQUENCE OF: the callback reads one element each time that it is called.
@@ -18,44 +21,73 @@ impl<'a> ReaderState<'a> {
     /// It is called until its Err moves nothing; the list is to end there. `StackOverflow` and `OutOfMemory` end no list:
     /// they are kept. Where the callback answers Ok and took nothing, that is `Invalid`, and kept.
     #[inline(always)]
+    #[tactic(auto, using(crate::proofs::Turning::visits_any))]
     pub fn read_sequence_of<F>(&mut self, f: F) -> ASN1Result<()>
     where
         F: FnMut(BERReader<'a, '_>) -> ASN1Result<()> + Drop,
         requires { TakesContents (TakesTurns F.FnMut) TAG_SEQUENCE self.old }
         ensures { ReadsParts (Visits (CalledAtMut F.FnMut) f) TAG_SEQUENCE self.old result self.new }
     {
-        if let Some(error) = self.kept {
-            self.tag = None;
-            return Err(error);
-        }
-        match self.enter(TAG_SEQUENCE) {
-            Ok(opened) => {
-                let mut contents = self.within(&opened);
-                let answer = contents.visit(f);
-                self.leave(&opened, answer, &contents)
-            }
-            Err(refusal) => self.settle(Err(refusal)),
-        }
+        self.read_list(TAG_SEQUENCE, Order::Any, f)
     }
 
     /// Reads a SEQUENCE OF as `read_sequence_of` does, into a vector of what the callback answered, in order.
     ///
     /// Answers `OutOfMemory` besides, and keeps it, where there is no memory for the vector.
     #[inline(always)]
+    #[tactic(auto, using(crate::proofs::Turning::collects_any))]
     pub fn collect_sequence_of<T: Drop, F>(&mut self, f: F) -> ASN1Result<Vec<T>>
     where
         F: FnMut(BERReader<'a, '_>) -> ASN1Result<T> + Drop,
         requires { TakesContents (TakesTurns F.FnMut) TAG_SEQUENCE self.old }
         ensures { ReadsParts (Collects (CalledAtMut F.FnMut) f) TAG_SEQUENCE self.old result self.new }
     {
+        self.collect_list(TAG_SEQUENCE, Order::Any, f)
+    }
+
+    // Reads a list under this tag, or the implicit one.
+    #[inline(always)]
+    pub(crate) fn read_list<F>(&mut self, tag: Tag, order: Order, f: F) -> ASN1Result<()>
+    where
+        F: FnMut(BERReader<'a, '_>) -> ASN1Result<()> + Drop,
+        requires { TakesContents (TakesTurns F.FnMut) tag self.old }
+        ensures { ReadsParts (VisitsInOrder order (CalledAtMut F.FnMut) f) tag self.old result self.new }
+    {
         if let Some(error) = self.kept {
             self.tag = None;
             return Err(error);
         }
-        match self.enter(TAG_SEQUENCE) {
+        match self.enter(tag) {
             Ok(opened) => {
                 let mut contents = self.within(&opened);
-                let answer = contents.collect(f);
+                let answer = contents.visit(order, f);
+                self.leave(&opened, answer, &contents)
+            }
+            Err(refusal) => self.settle(Err(refusal)),
+        }
+    }
+
+    // Reads such a list into a vector.
+    #[inline(always)]
+    pub(crate) fn collect_list<T: Drop, F>(
+        &mut self,
+        tag: Tag,
+        order: Order,
+        f: F,
+    ) -> ASN1Result<Vec<T>>
+    where
+        F: FnMut(BERReader<'a, '_>) -> ASN1Result<T> + Drop,
+        requires { TakesContents (TakesTurns F.FnMut) tag self.old }
+        ensures { ReadsParts (CollectsInOrder order (CalledAtMut F.FnMut) f) tag self.old result self.new }
+    {
+        if let Some(error) = self.kept {
+            self.tag = None;
+            return Err(error);
+        }
+        match self.enter(tag) {
+            Ok(opened) => {
+                let mut contents = self.within(&opened);
+                let answer = contents.collect(order, f);
                 self.leave(&opened, answer, &contents)
             }
             Err(refusal) => self.settle(Err(refusal)),
@@ -64,15 +96,16 @@ impl<'a> ReaderState<'a> {
 
     // Calls a callback until it gives no value.
     #[inline(always)]
-    fn visit<F>(&mut self, mut f: F) -> ASN1Result<()>
+    fn visit<F>(&mut self, order: Order, mut f: F) -> ASN1Result<()>
     where
         F: FnMut(BERReader<'a, '_>) -> ASN1Result<()> + Drop,
         requires fresh { IsFresh self.old }
         requires turns { TakesTurns F.FnMut self.old }
-        ensures { Visits (CalledAtMut F.FnMut) f self.old result self.new }
+        ensures { VisitsInOrder order (CalledAtMut F.FnMut) f self.old result self.new }
     {
+        let mut bound = first_bound(order, self.cursor.mode);
         loop {
-            match self.turn(&mut f) {
+            match self.turn_in_order(&mut f, &mut bound) {
                 Outcome::Gave(()) => {}
                 Outcome::Quiet(_) => return Ok(()),
                 Outcome::Failed(error) => return Err(error),
@@ -82,16 +115,17 @@ impl<'a> ReaderState<'a> {
 
     // Calls a callback until it gives no value, and collects what it gives.
     #[inline(always)]
-    fn collect<T: Drop, F>(&mut self, mut f: F) -> ASN1Result<Vec<T>>
+    fn collect<T: Drop, F>(&mut self, order: Order, mut f: F) -> ASN1Result<Vec<T>>
     where
         F: FnMut(BERReader<'a, '_>) -> ASN1Result<T> + Drop,
         requires fresh { IsFresh self.old }
         requires turns { TakesTurns F.FnMut self.old }
-        ensures { Collects (CalledAtMut F.FnMut) f self.old result self.new }
+        ensures { CollectsInOrder order (CalledAtMut F.FnMut) f self.old result self.new }
     {
         let mut items = Vec::new(self.alloc);
+        let mut bound = first_bound(order, self.cursor.mode);
         loop {
-            match self.turn(&mut f) {
+            match self.turn_in_order(&mut f, &mut bound) {
                 Outcome::Gave(item) => {
                     if items.push(item).is_err() {
                         return self.fail(ASN1Error::new(ASN1ErrorKind::OutOfMemory));
@@ -101,6 +135,19 @@ impl<'a> ReaderState<'a> {
                 Outcome::Failed(error) => return Err(error),
             }
         }
+    }
+
+    // One turn of a list's callback, where no element may be less than the bound, which becomes the element.
+    #[inline(always)]
+    fn turn_in_order<T: Drop, F>(&mut self, f: &mut F, bound: &mut Option<&'a [u8]>) -> Outcome<T>
+    where
+        F: FnMut(BERReader<'a, '_>) -> ASN1Result<T>,
+        requires { TakesTurn F.FnMut f.old self.old }
+        ensures { TurnInOrder (CalledAtMut F.FnMut) (bounded f.old bound.old) self.old result (bounded f.new bound.new) self.new }
+    {
+        let before = self.cursor.left;
+        let outcome = self.turn(f);
+        self.in_order(before, outcome, bound)
     }
 
     // One turn of a list's callback.

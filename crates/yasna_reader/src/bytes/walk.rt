@@ -189,9 +189,9 @@ fn follow<'a>(cursor: Cursor<'a>, opened: &Opened<'a>) -> Result<&'a [u8], ASN1E
     walk(cursor.inside(opened), opened.after)
 }
 
-// The bytes in front of the last ones.
+/// The bytes in front of the last ones.
 #[inline(always)]
-fn in_front<'a>(s: &'a [u8], rest: &[u8]) -> &'a [u8]
+pub fn in_front<'a>(s: &'a [u8], rest: &[u8]) -> &'a [u8]
     requires { IsRest s.now rest.now }
     ensures { s.now ≡ result.now ++ rest.now }
 {

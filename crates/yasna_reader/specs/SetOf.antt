@@ -1,0 +1,92 @@
+-- What a read of a SET OF does, whose elements ascend in DER as byte strings (X.690, 8.12 and 11.6).
+use Rattle.std.specs.Borrow.{Bor}
+use Rattle.std.specs.Global.{Global}
+use Rattle.std.specs.Ordering.{is_lt}
+use Rattle.std.specs.Prelude.{Bool, List, None, Option, Result, Some, Vec, [], false, true, ℕ, ◌++◌, ◌≡◌, ◌⊎◌}
+use Rattle.yasna_base.specs.Error.{error_of}
+use Rattle.yasna_base.specs.Order.{octets_cmp}
+use Rattle.yasna_base.specs.declared.error.ASN1Error.{ASN1Error}
+use Rattle.yasna_base.specs.declared.error.ASN1ErrorKind.TheVariants.{Invalid}
+use Rattle.yasna_base.specs.declared.mode.BERMode.{BERMode}
+use Rattle.yasna_base.specs.declared.mode.BERMode.TheVariants.{Ber, Der}
+use Rattle.yasna_reader.specs.SequenceOf.{CollectsBy, Turn, VisitsBy}
+use Rattle.yasna_reader.specs.State.{Reading, failing}
+use Rattle.yasna_reader.specs.declared.callback.Outcome.{Outcome}
+use Rattle.yasna_reader.specs.declared.callback.Outcome.TheVariants.{Gave, Quiet, Failed}
+use Rattle.yasna_reader.specs.declared.set_of.Order.{Order}
+use Rattle.yasna_reader.specs.declared.set_of.Order.TheVariants.{Any, Ascending}
+
+-- whether the encoding b goes before a
+abbrev pub goes_before : List ℕ → List ℕ → Bool
+goes_before b a = is_lt (octets_cmp b a)
+
+-- a list's callback, and where its elements are to ascend the bytes before which the next one may not go
+pub record Bounded (F : Type 0) : Type 0 where
+  pub callback : F
+  pub bound : Option (List ℕ)
+
+abbrev pub bytes_of : Option (Bor (List ℕ)) → Option (List ℕ)
+bytes_of None = None
+bytes_of (Some b) = Some b.now
+
+abbrev pub bounded : {F : Type 0} → F → Option (Bor (List ℕ)) → Bounded F
+bounded f b = record { callback = f; bound = bytes_of b }
+
+-- where elements are to ascend, the first one is behind no bytes
+abbrev pub bound_in : Order → BERMode → Option (List ℕ)
+bound_in Any m = None
+bound_in Ascending Ber = None
+bound_in Ascending Der = Some []
+
+-- the element b goes before the bound
+abbrev pub FallsBelow : Option (List ℕ) → List ℕ → Type 0
+FallsBelow None b = ⊥
+FallsBelow (Some a) b = goes_before b a ≡ true
+
+-- it doesn't, and is the bound of the next one
+abbrev pub Follows : Option (List ℕ) → List ℕ → Option (List ℕ) → Type 0
+Follows None b n = n ≡ None
+Follows (Some a) b n = (goes_before b a ≡ false) × (n ≡ Some b)
+
+-- a turn gave a value, and took an element that may stand behind those before
+pub record GivesInOrder {F A : Type 0} (C : F → Reading → Result A ASN1Error → F → Reading → Type 0) (g : Bounded F) (s : Reading) (v : A)
+    (g' : Bounded F) (s' : Reading) : Type 0 where
+  pub turn : Turn C g.callback s (Gave v) g'.callback s'
+  pub element : List ℕ
+  pub joined : s.left ≡ element ++ s'.left
+  pub follows : Follows g.bound element g'.bound
+
+-- one that may not is Invalid, and that is kept
+pub record Falls {F A : Type 0} (C : F → Reading → Result A ASN1Error → F → Reading → Type 0) (g : Bounded F) (s : Reading) (e : ASN1Error)
+    (g' : Bounded F) (s' : Reading) : Type 0 where
+  pub value : A
+  pub between : Reading
+  pub turn : Turn C g.callback s (Gave value) g'.callback between
+  pub element : List ℕ
+  pub joined : s.left ≡ element ++ between.left
+  pub falls : FallsBelow g.bound element
+  pub invalid : e ≡ error_of Invalid
+  pub state : s' ≡ failing between e
+
+-- a turn of a list whose elements ascend where there is a bound
+abbrev pub TurnInOrder : {F A : Type 0} → (F → Reading → Result A ASN1Error → F → Reading → Type 0) → Bounded F → Reading → Outcome A → Bounded F →
+    Reading → Type 0
+TurnInOrder C g s (Gave v) g' s' = GivesInOrder C g s v g' s'
+TurnInOrder C g s (Quiet e) g' s' = Turn C g.callback s (Quiet e) g'.callback s'
+TurnInOrder C g s (Failed e) g' s' = Turn C g.callback s (Failed e) g'.callback s' ⊎ Falls C g s e g' s'
+
+-- what is made of a turn that came to o, began with the bytes c and left s, where the bound is a
+abbrev pub Ordered : {A : Type 0} → Option (List ℕ) → List ℕ → Outcome A → Reading → Outcome A → Option (List ℕ) → Reading → Type 0
+Ordered a c (Gave v) s o n s' = (b : List ℕ) × (c ≡ b ++ s.left) ×
+    ((Follows a b n × (o ≡ Gave v) × (s' ≡ s)) ⊎ (FallsBelow a b × (o ≡ Failed (error_of Invalid)) × (s' ≡ failing s (error_of Invalid))))
+Ordered a c (Quiet e) s o n s' = (o ≡ Quiet e) × (s' ≡ s)
+Ordered a c (Failed e) s o n s' = (o ≡ Failed e) × (s' ≡ s)
+
+-- the elements are the callback's, and ascend where the order asks it in the mode
+abbrev pub CollectsInOrder : {F A : Type 0} → Order → (F → Reading → Result A ASN1Error → F → Reading → Type 0) → F →
+    Reading → Result (Vec A Global) ASN1Error → Reading → Type 0
+CollectsInOrder o C f s = CollectsBy (TurnInOrder C) (record { callback = f; bound = bound_in o s.mode }) s
+
+abbrev pub VisitsInOrder : {F A : Type 0} → Order → (F → Reading → Result A ASN1Error → F → Reading → Type 0) → F →
+    Reading → Result (Unit {0}) ASN1Error → Reading → Type 0
+VisitsInOrder o C f s = VisitsBy (TurnInOrder C) (record { callback = f; bound = bound_in o s.mode }) s

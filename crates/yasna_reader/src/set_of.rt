@@ -1,0 +1,104 @@
+//! Reads of SET OF, whose elements ascend in DER (X.690, 8.12 and 11.6).
+ghost use Rattle.std.specs.Prelude.{◌≡◌};
+ghost use Rattle.yasna_reader.specs.SetOf.{goes_before, bytes_of, bound_in};
+
+use crate::bytes::walk::in_front;
+use crate::callback::Outcome;
+use crate::state::{BERReader, ReaderState};
+use yasna_base::error::{ASN1Error, ASN1ErrorKind, ASN1Result};
+use yasna_base::mode::BERMode;
+use yasna_base::tags::TAG_SET;
+
+/// How the elements of a list are to follow each other.
+#[derive(Clone, Copy)]
+pub enum Order {
+    /// In any order.
+    Any,
+    /// In DER none is less than the one before.
+    Ascending,
+}
+
+/// What the first element may not be less than, where elements are to ascend.
+#[inline(always)]
+pub fn first_bound<'a>(order: Order, mode: BERMode) -> Option<&'a [u8]>
+    ensures { bytes_of result ≡ bound_in order mode }
+{
+    match order {
+        Order::Any => None,
+        Order::Ascending => match mode {
+            BERMode::Ber => None,
+            BERMode::Der => Some(&[]),
+        },
+    }
+}
+
+// Whether an encoding goes before another.
+fn goes_before(element: &[u8], other: &[u8]) -> bool
+    ensures { result ≡ goes_before element.now other.now }
+{
+    element.cmp(other).is_lt()
+}
+
+impl<'a> ReaderState<'a> {
+    ghost use Rattle.std.specs.Fn.{CalledAtMut};
+    ghost use Rattle.yasna_reader.specs.Sequence.{TakesContents, ReadsParts};
+    ghost use Rattle.yasna_reader.specs.SequenceOf.{TakesTurns};
+    ghost use Rattle.yasna_reader.specs.SetOf.{CollectsInOrder, VisitsInOrder, Ordered, bytes_of};
+    ghost use Rattle.yasna_reader.specs.Walk.{IsRest};
+    ghost use Rattle.yasna_reader.specs.declared.set_of.Order.TheVariants.{Ascending};
+
+    /// Reads a SET OF: the callback reads one element each time that it is called.
+    ///
+    /// It is called as that of `read_sequence_of` is. In DER an element whose bytes are less than those of the one before is
+    /// `Invalid`, and that is kept.
+    #[inline(always)]
+    pub fn read_set_of<F>(&mut self, f: F) -> ASN1Result<()>
+    where
+        F: FnMut(BERReader<'a, '_>) -> ASN1Result<()> + Drop,
+        requires { TakesContents (TakesTurns F.FnMut) TAG_SET self.old }
+        ensures { ReadsParts (VisitsInOrder Ascending (CalledAtMut F.FnMut) f) TAG_SET self.old result self.new }
+    {
+        self.read_list(TAG_SET, Order::Ascending, f)
+    }
+
+    /// Reads a SET OF as `read_set_of` does, into a vector of what the callback answered, in order.
+    ///
+    /// Answers `OutOfMemory` besides, and keeps it, where there is no memory for the vector.
+    #[inline(always)]
+    pub fn collect_set_of<T: Drop, F>(&mut self, f: F) -> ASN1Result<Vec<T>>
+    where
+        F: FnMut(BERReader<'a, '_>) -> ASN1Result<T> + Drop,
+        requires { TakesContents (TakesTurns F.FnMut) TAG_SET self.old }
+        ensures { ReadsParts (CollectsInOrder Ascending (CalledAtMut F.FnMut) f) TAG_SET self.old result self.new }
+    {
+        self.collect_list(TAG_SET, Order::Ascending, f)
+    }
+
+    // What is made of a turn that began with the bytes `before`: its element may not be less than the bound, and becomes it.
+    #[inline(always)]
+    pub(crate) fn in_order<T: Drop>(
+        &mut self,
+        before: &'a [u8],
+        outcome: Outcome<T>,
+        bound: &mut Option<&'a [u8]>,
+    ) -> Outcome<T>
+        requires { IsRest before.now self.old.left }
+        ensures { Ordered (bytes_of bound.old) before.now outcome self.old result (bytes_of bound.new) self.new }
+    {
+        match outcome {
+            Outcome::Gave(value) => match *bound {
+                None => Outcome::Gave(value),
+                Some(least) => {
+                    let element = in_front(before, self.cursor.left);
+                    if goes_before(element, least) {
+                        return self.failed(ASN1Error::new(ASN1ErrorKind::Invalid));
+                    }
+                    *bound = Some(element);
+                    Outcome::Gave(value)
+                }
+            },
+            Outcome::Quiet(error) => Outcome::Quiet(error),
+            Outcome::Failed(error) => Outcome::Failed(error),
+        }
+    }
+}
