@@ -22,6 +22,8 @@ pub mod Pieces
 pub mod Cut
 pub mod Raw
 pub mod TaggedDerValue
+pub mod Order
+pub mod Set
 pub mod Octets
 pub mod Bits
 pub mod Text
