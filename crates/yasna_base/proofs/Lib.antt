@@ -19,6 +19,7 @@ pub mod Header
 pub mod Pieces
 pub mod Cut
 pub mod Raw
+pub mod Order
 pub mod Octets
 pub mod Bits
 pub mod BitPieces

@@ -7,5 +7,6 @@ pub mod Integers
 pub mod Padding
 pub mod Primitives
 pub mod Sequences
+pub mod Sets
 pub mod Tagging
 pub mod Without

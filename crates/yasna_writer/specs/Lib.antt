@@ -7,3 +7,5 @@ pub mod State
 pub mod Construct
 pub mod Sequence
 pub mod Tagged
+pub mod Parts
+pub mod Set

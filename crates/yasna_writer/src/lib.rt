@@ -12,6 +12,7 @@
 //! | `raw` | the writes of raw elements |
 //! | `times` | the writes of times |
 //! | `sequence` | the writes of elements with parts |
+//! | `set` | the writes of sets, whose parts are put in order |
 //! | `tagged` | the writes of elements under tags of the caller's |
 //! | `draft` | contents, the headers that aren't among them yet, and how they are joined |
 //! | `header` | the header of an element with parts |
@@ -29,6 +30,7 @@ mod oid;
 mod primitive;
 mod raw;
 mod sequence;
+mod set;
 mod state;
 mod strings;
 mod tagged;
@@ -36,6 +38,7 @@ mod times;
 
 pub use construct::{construct_der, construct_der_seq, try_construct_der, try_construct_der_seq};
 pub use sequence::DERWriterSeq;
+pub use set::DERWriterSet;
 pub use state::{DERWriter, Writer};
 
 #[cfg(test)]

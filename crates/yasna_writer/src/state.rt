@@ -11,11 +11,13 @@ ghost use Rattle.yasna_base.specs.Identifier.{tag_or};
 ghost use Rattle.yasna_writer.specs.Construct.{Constructed};
 ghost use Rattle.yasna_writer.specs.Sequence.{AnswersKept};
 ghost use Rattle.yasna_writer.specs.Header.{header_bytes};
+ghost use Rattle.yasna_writer.specs.Parts.{no_parts};
 ghost use Rattle.yasna_writer.specs.State.{Appended, TakesTag, BeginsAt, Ends};
 ghost use Rattle.yasna_writer.specs.Tagged.{tagging, LeftBehind};
 
 use crate::draft::{Beginning, Draft};
 use crate::header::Header;
+use crate::set::DERWriterSet;
 use std::alloc::Global;
 use std::marker::Model;
 use std::mem;
@@ -196,6 +198,43 @@ impl Writer {
             return Err(error);
         }
         Ok(self.take_tag(own))
+    }
+
+    // Takes out the bytes. Nothing is written to what is left.
+    #[inline(always)]
+    pub(crate) fn take_bytes(&mut self) -> ASN1Result<Vec<u8>>
+        ensures { MatchResult result (λ v. v.items ≡ self.old.bytes) (λ e. kind_of e ≡ OutOfMemory) }
+    {
+        match self.draft.take_bytes(self.alloc) {
+            Ok(bytes) => Ok(bytes),
+            Err(_) => Err(ASN1Error::new(ASN1ErrorKind::OutOfMemory)),
+        }
+    }
+
+    // Begins anew, with this failure kept.
+    #[inline(always)]
+    pub(crate) fn restart(&mut self, kept: Option<ASN1Error>)
+        ensures { self.new ≡ record empty_writing { kept = kept } }
+    {
+        self.draft = Draft::new(self.alloc);
+        self.tag = None;
+        self.kept = kept;
+    }
+
+    // The parts of a set that begins.
+    #[inline(always)]
+    pub(crate) fn no_parts(&self) -> DERWriterSet
+        ensures { result ≡ no_parts self.now.mode }
+    {
+        DERWriterSet::new(self.alloc)
+    }
+
+    // Keeps a failure.
+    #[cold]
+    pub(crate) fn keep(&mut self, error: ASN1Error)
+        ensures { self.new ≡ record self.old { kept = Some error } }
+    {
+        self.kept = Some(error);
     }
 
     // Begins an element with parts behind what stands.

@@ -1,0 +1,23 @@
+-- The parts of a set as contracts see them.
+use Rattle.std.specs.Prelude.{ℕ, List, [], ◌∷◌, Bool, true, false, map, Vec, Option, None}
+use Rattle.std.specs.Global.{Global}
+use Rattle.yasna_base.specs.declared.error.ASN1Error.{ASN1Error}
+use Rattle.yasna_base.specs.declared.mode.BERMode.{BERMode}
+
+-- the bytes of each part, the canonical mode of what is written, and the failure that later calls answer
+pub record Parts : Type 0 where
+  pub parts : List (List ℕ)
+  pub mode : BERMode
+  pub kept : Option ASN1Error
+
+-- a set that begins
+abbrev pub no_parts : BERMode → Parts
+no_parts m = record { parts = []; mode = m; kept = None }
+
+abbrev pub bytes_each : List (Vec ℕ Global) → List (List ℕ)
+bytes_each vs = map (λ (v : Vec ℕ Global). v.items) vs
+
+-- the last part, where one was begun
+abbrev pub last_part : Bool → List ℕ → List (List ℕ)
+last_part false b = []
+last_part true b = b ∷ []

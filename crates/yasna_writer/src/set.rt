@@ -1,0 +1,213 @@
+//! Sets (X.690, 8.11, 8.12, 10.3 and 11.6): their parts are written apart from each other, and then put in order.
+ghost use Rattle.std.specs.Prelude.{◌≡◌, ◌++◌, [], None, IsTrue, ◌↔◌, OnOk, MatchOption, MatchResult};
+ghost use Rattle.std.specs.Borrow.{sem};
+ghost use Rattle.std.specs.Fn.{FnOnceTakesAtMut};
+ghost use Rattle.std.specs.List.{AllByRecursion, flat_map};
+ghost use Rattle.yasna_base.specs.declared.error.ASN1ErrorKind.TheVariants.{OutOfMemory};
+ghost use Rattle.yasna_base.specs.declared.mode.BERMode.TheVariants.{Der};
+ghost use Rattle.yasna_base.specs.declared.tag.PCBit.TheVariants.{Constructed};
+ghost use Rattle.yasna_base.specs.Canonical.{canonical_element};
+ghost use Rattle.yasna_base.specs.Error.{kind_of};
+ghost use Rattle.yasna_base.specs.Identifier.{tag_or};
+ghost use Rattle.yasna_base.specs.Order.{octets_cmp, in_order};
+ghost use Rattle.yasna_base.specs.Set.{set_tag, SetOfContents};
+ghost use Rattle.yasna_writer.specs.Parts.{no_parts, bytes_each};
+ghost use Rattle.yasna_writer.specs.Set.{Pushes, LacksParts, EndsPart, BeginsPart, BeginsNext, LendsPart, FailsAtSet, EndsSet, WritesSet};
+ghost use Rattle.yasna_writer.specs.State.{Appended};
+ghost use Rattle.yasna_writer.specs.View.{holding, handed};
+
+use crate::state::{DERWriter, Writer};
+use std::alloc::{AllocError, Global};
+use std::marker::Model;
+use yasna_base::tags::TAG_SET;
+use yasna_base::{ASN1Error, ASN1ErrorKind, ASN1Result, Tag};
+
+/// What a closure writes the parts of a set to.
+#[derive(Drop)]
+pub struct DERWriterSet {
+    // The parts before the last.
+    parts: Vec<Vec<u8>>,
+    // The writing of the last part.
+    last: Writer,
+    // Whether there is a last part.
+    begun: bool,
+}
+
+impl Model for DERWriterSet {
+    ghost use Rattle.std.specs.Prelude.{◌++◌};
+    ghost use Rattle.yasna_base.specs.declared.mode.BERMode.TheVariants.{Der};
+    ghost use Rattle.yasna_writer.specs.Parts.{Parts, bytes_each, last_part};
+
+    ghost Value = { Parts };
+
+    ghost view = { λ s. record { parts = bytes_each s.parts.items ++ last_part s.begun s.last.bytes; mode = Der; kept = s.last.kept } };
+}
+
+// Puts the bytes of a part behind others, or lacks memory.
+fn push_part(parts: &mut Vec<Vec<u8>>, last: &mut Writer) -> ASN1Result<()>
+    ensures { Pushes last.old.bytes parts.old.items parts.new.items result }
+{
+    let part = last.take_bytes()?;
+    match parts.push(part) {
+        Ok(()) => Ok(()),
+        Err(_) => Err(ASN1Error::new(ASN1ErrorKind::OutOfMemory)),
+    }
+}
+
+// Puts the last part behind the others, where one was begun.
+fn end_part(parts: &mut Vec<Vec<u8>>, last: &mut Writer, begun: bool) -> ASN1Result<()>
+    ensures { EndsPart begun parts.old.items last.old parts.new.items result }
+{
+    if let Some(error) = last.kept() {
+        return Err(error);
+    }
+    if begun {
+        return push_part(parts, last);
+    }
+    Ok(())
+}
+
+// Begins a part behind the others.
+fn begin_part(parts: &mut Vec<Vec<u8>>, last: &mut Writer, begun: bool)
+    ensures { BeginsNext begun parts.old.items last.old parts.new.items last.new }
+{
+    match end_part(parts, last, begun) {
+        Ok(()) => last.restart(None),
+        Err(error) => {
+            parts.clear();
+            last.restart(Some(error));
+        }
+    }
+}
+
+fn is_filled(part: &[u8]) -> bool
+    ensures { IsTrue result ↔ (part.now ≡ [] → ⊥) }
+{
+    !part.is_empty()
+}
+
+// Whether no part is empty.
+fn are_filled(parts: &[Vec<u8>]) -> bool
+    ensures { IsTrue result ↔ AllByRecursion (λ v. v.items ≡ [] → ⊥) parts.now }
+{
+    parts.iter().all(|part| is_filled(part))
+}
+
+// Puts parts in the order of a SET OF.
+fn order_parts(parts: &mut Vec<Vec<u8>>) -> Result<(), AllocError>
+    ensures { OnOk result (bytes_each parts.new.items ≡ in_order octets_cmp (bytes_each parts.old.items)) }
+{
+    parts.sort()
+}
+
+impl DERWriterSet {
+    // A set that begins.
+    #[inline(always)]
+    pub(crate) fn new(alloc: Global) -> DERWriterSet
+        ensures { result ≡ no_parts Der }
+    {
+        DERWriterSet {
+            parts: Vec::new(alloc),
+            last: Writer::new(alloc),
+            begun: false,
+        }
+    }
+
+    // The parts, or why there are none.
+    fn into_parts(self) -> ASN1Result<Vec<Vec<u8>>>
+        ensures { MatchResult result (λ v. (self.kept ≡ None) × (bytes_each v.items ≡ self.parts)) (λ e. LacksParts self.kept e) }
+    {
+        let DERWriterSet {
+            mut parts,
+            mut last,
+            begun,
+        } = self;
+        end_part(&mut parts, &mut last, begun)?;
+        Ok(parts)
+    }
+
+    // The parts in the order of a SET OF, or why there are none.
+    fn into_set_of(self) -> ASN1Result<Vec<Vec<u8>>>
+        ensures { MatchResult result (λ v. (self.kept ≡ None) × SetOfContents self.parts (flat_map (λ part. part.items) v.items)) (λ e. FailsAtSet SetOfContents self e) }
+    {
+        let mut parts = self.into_parts()?;
+        if !are_filled(&parts) {
+            return Err(ASN1Error::new(ASN1ErrorKind::Invalid));
+        }
+        match order_parts(&mut parts) {
+            Ok(()) => Ok(parts),
+            Err(_) => Err(ASN1Error::new(ASN1ErrorKind::OutOfMemory)),
+        }
+    }
+
+    /// The writer of a further part.
+    ///
+    /// Where there is no memory for the parts before, `OutOfMemory` is kept, and this writer answers it.
+    #[inline(always)]
+    pub fn next(&mut self) -> DERWriter<'_>
+        ensures* lends { sem 𝓛 (LendsPart self.entry result) }
+        ensures value { BeginsPart self.old.mode self.old.kept result.now }
+    {
+        begin_part(&mut self.parts, &mut self.last, self.begun);
+        self.begun = true;
+        &mut self.last
+    }
+}
+
+impl Writer {
+    // Appends parts, one after the other, or keeps want of memory.
+    fn append_parts(&mut self, parts: &[Vec<u8>]) -> ASN1Result<()>
+        ensures { Appended (flat_map (λ part. part.items) parts.now) self.old self.new result }
+    {
+        for part in parts {
+            self.append(part)?;
+        }
+        Ok(())
+    }
+
+    // Writes an element around parts, or keeps want of memory.
+    fn write_parts(&mut self, tag: Tag, parts: &[Vec<u8>])
+        requires { self.old ≡ handed self.old }
+        ensures { MatchOption self.new.kept (self.new ≡ holding self.old (self.old.bytes ++ canonical_element self.old.mode tag Constructed (flat_map (λ part. part.items) parts.now))) (λ k. kind_of k ≡ OutOfMemory) }
+    {
+        let beginning = self.begin(tag);
+        if self.append_parts(parts).is_ok() {
+            self.end(beginning);
+        }
+    }
+
+    // Writes a SET OF around the parts, or keeps why it can't.
+    fn end_set_of(&mut self, tag: Tag, set: DERWriterSet)
+        requires { self.old ≡ handed self.old }
+        ensures { EndsSet SetOfContents (canonical_element self.old.mode tag Constructed) set self.old self.new }
+    {
+        match set.into_set_of() {
+            Ok(parts) => self.write_parts(tag, &parts),
+            Err(error) => self.keep(error),
+        }
+    }
+
+    /// Writes a SET OF (X.690, 8.12): its contents are the parts that the closure writes, in ascending order as bytes.
+    ///
+    /// A failure that is kept is answered, and the closure doesn't run. Else the closure's answer is handed on, and
+    /// where it is an `Err` of its own, the set still ends over the parts so far and the writing goes on. Where a write
+    /// of the closure failed, or there is no memory (`OutOfMemory`), or a part is empty (`Invalid`), that failure is
+    /// answered instead and kept, and nothing of the set is written.
+    pub fn write_set_of<
+        T: Drop,
+        E: From<ASN1Error> + Drop,
+        F: FnOnce(&mut DERWriterSet) -> Result<T, E>,
+    >(&mut self, f: F) -> Result<T, E>
+        requires { self.old.kept ≡ None → FnOnceTakesAtMut F.FnOnce f (no_parts self.old.mode) }
+        ensures { WritesSet F.FnOnce E.from_gives f SetOfContents (canonical_element self.old.mode (tag_or self.old.tag set_tag) Constructed) self.old self.new result }
+    {
+        let tag = match self.fresh_tag(TAG_SET) {
+            Ok(tag) => tag,
+            Err(error) => return Err(E::from(error)),
+        };
+        let mut set = self.no_parts();
+        let own = f(&mut set);
+        self.end_set_of(tag, set);
+        self.settle(own)
+    }
+}
