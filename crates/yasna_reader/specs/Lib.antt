@@ -23,3 +23,4 @@ pub mod Parse
 pub mod Walk
 pub mod Raw
 pub mod Decodes
+pub mod Set
