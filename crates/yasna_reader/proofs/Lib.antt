@@ -18,6 +18,9 @@ pub mod RawReads
 pub mod Sequences
 pub mod Callbacks
 pub mod Turning
+pub mod SetListing
+pub mod SetRuns
+pub mod SetChoosing
 pub mod Tuples
 pub mod Ahead
 pub mod Listing

@@ -22,3 +22,4 @@ pub mod Parse
 pub mod Walk
 pub mod Raw
 pub mod Decodes
+pub mod Set

@@ -14,6 +14,7 @@
 //! | `sequence` | reads of constructed elements whose contents a callback reads |
 //! | `sequence_of` | reads of lists, whose elements a callback reads one by one |
 //! | `set_of` | reads of lists whose elements ascend in DER |
+//! | `set` | reads of sets, whose elements a callback takes by their tags |
 //! | `callback` | what becomes of a reading that a callback is handed |
 //! | `tagged` | reads under tags of the caller's |
 //! | `optional` | reads of parts that may be left out |
@@ -32,6 +33,7 @@ mod primitive;
 mod raw;
 mod sequence;
 mod sequence_of;
+mod set;
 mod set_of;
 mod state;
 mod strings;
@@ -39,4 +41,5 @@ mod tagged;
 mod times;
 
 pub use parse::{parse_ber, parse_ber_general, parse_der};
+pub use set::{BERReaderSet, Choose, Chosen, SetElement};
 pub use state::{BERReader, BERReaderSeq, Parts, ReaderState};

@@ -75,6 +75,21 @@ impl<'a> Cursor<'a> {
         }
     }
 
+    /// The beginning of an element that stands in these contents, and ends there in the input.
+    #[inline(always)]
+    pub fn alone(self, element: &'a [u8], end: usize) -> Cursor<'a>
+        ensures left { result.left.now ≡ element.now }
+        ensures mode { result.mode ≡ self.entry.mode }
+        ensures levels { result.levels ≡ self.entry.levels }
+    {
+        Cursor {
+            left: element,
+            end,
+            mode: self.mode,
+            levels: self.levels,
+        }
+    }
+
     /// The place behind the element around this one, whose contents end so.
     #[inline(always)]
     pub fn outside(self, end: Option<&'a [u8]>, after: &'a [u8]) -> Cursor<'a>

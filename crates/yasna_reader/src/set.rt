@@ -1,0 +1,325 @@
+//! Reads of SET, whose elements a callback takes by their tags (X.690, 8.11 and 10.3).
+ghost use Rattle.std.specs.Prelude.{IsTrue, ◌↔◌, ◌≡◌, MatchOption};
+ghost use Rattle.std.specs.Fn.{FnOnceTakesAtMut, FnOnceReturnsAtMut};
+ghost use Rattle.std.specs.List.Sorted.{IsSortedByKey};
+ghost use Rattle.std.specs.Ordering.{is_lt};
+ghost use Rattle.yasna_base.specs.Order.{tag_cmp};
+ghost use Rattle.yasna_reader.specs.Set.{AreInTagOrder, ElementsAt, IsAmong, IsFirstAmong, NoneIsAmong, SetListAt, all_taken};
+ghost use Rattle.yasna_reader.specs.declared.set.SetElement.{SetElement};
+
+use crate::bytes::cursor::Cursor;
+use crate::bytes::walk::raw_element;
+use crate::state::ReaderState;
+use std::alloc::Global;
+use yasna_base::error::{ASN1Error, ASN1ErrorKind, ASN1Result};
+use yasna_base::mode::BERMode;
+use yasna_base::tag::Tag;
+use yasna_base::tags::TAG_SET;
+
+/// An element of a SET, as it was found.
+#[derive(Clone, Copy)]
+pub struct SetElement<'a> {
+    pub(crate) tag: Tag,
+    pub(crate) bytes: &'a [u8],
+    // where it ends, counted from the input's first byte
+    pub(crate) end: usize,
+}
+
+/// What gives a reading, by tags.
+pub trait Choose<S> {
+    ghost use Rattle.std.specs.Prelude.{List, Result};
+    ghost use Rattle.yasna_base.specs.declared.error.ASN1Error.{ASN1Error};
+    ghost use Rattle.yasna_base.specs.declared.tag.Tag.{Tag};
+
+    /// What choosing does.
+    ghost chooses: { Self → S → List Tag → Result (Unit {0}) ASN1Error → Self → S → Type 0 };
+
+    /// Lets the state read the first that has one of the tags, which is gone then.
+    fn choose(&mut self, tags: &[Tag], state: &mut S) -> ASN1Result<()>
+        ensures { chooses self.old state.old tags.now result self.new state.new };
+}
+
+/// A reading of one element after the other, and those that are left.
+#[derive(Drop)]
+pub struct Chosen<S, L> {
+    pub(crate) reader: S,
+    pub(crate) list: L,
+}
+
+impl<S, L: Choose<S>> Chosen<S, L> {
+    ghost use Rattle.std.specs.Borrow.{sem};
+    ghost use Rattle.yasna_reader.specs.Set.{LendsChosen};
+
+    /// The reading of the first element left that has one of these tags. It sees that element alone, which is gone then,
+    /// even if it is never read.
+    ///
+    /// Answers `Invalid` where there is none: this isn't kept.
+    pub fn next(&mut self, tags: &[Tag]) -> ASN1Result<&mut S>
+        ensures* lends { sem 𝓛 (LendsChosen S.row L.row (λ l s r k t. L.chooses l s tags.now r k t) self.entry result) }
+    {
+        self.list.choose(tags, &mut self.reader)?;
+        Ok(&mut self.reader)
+    }
+}
+
+/// The elements of a SET, which are taken by their tags, in any order.
+pub type BERReaderSet<'a, 'b> = Chosen<ReaderState<'a>, Vec<SetElement<'a>>>;
+
+// Where the first element stands that has one of these tags.
+#[tactic(auto, using(crate::proofs::SetChoosing::among_more_at, crate::proofs::SetChoosing::among_here_at, crate::proofs::SetChoosing::among_end))]
+fn first_among(list: &[SetElement<'_>], tags: &[Tag]) -> Option<usize>
+    ensures { MatchOption result (NoneIsAmong tags.now list.now) (λ i. IsFirstAmong tags.now list.now i) }
+{
+    let mut place = 0;
+    while place < list.len() {
+        if is_among(tags, &list[place]) {
+            return Some(place);
+        }
+        place += 1;
+    }
+    None
+}
+
+fn is_among(tags: &[Tag], element: &SetElement<'_>) -> bool
+    ensures { IsTrue result ↔ IsAmong tags.now element.now }
+{
+    tags.contains(&element.tag)
+}
+
+impl<'a> Choose<ReaderState<'a>> for Vec<SetElement<'a>> {
+    ghost use Rattle.yasna_reader.specs.Set.{Chooses};
+
+    ghost chooses = { λ l s ts r k t. Chooses l.items s ts r k.items t };
+
+    #[tactic(auto, using(crate::proofs::SetChoosing::chose, crate::proofs::SetChoosing::chose_none, crate::proofs::SetChoosing::chose_kept))]
+    fn choose(&mut self, tags: &[Tag], state: &mut ReaderState<'a>) -> ASN1Result<()> {
+        state.untag();
+        if let Some(error) = state.kept {
+            return Err(error);
+        }
+        match first_among(self, tags) {
+            Some(place) => {
+                let element = self.remove(place);
+                state.turn_to(element);
+                Ok(())
+            }
+            None => Err(ASN1Error::new(ASN1ErrorKind::Invalid)),
+        }
+    }
+}
+
+// Whether a tag goes before another.
+fn tag_goes_before(tag: Tag, other: Tag) -> bool
+    ensures { result ≡ is_lt (tag_cmp tag other) }
+{
+    tag.cmp(&other).is_lt()
+}
+
+// Whether no tag goes before that of the element in front.
+#[tactic(auto, using(crate::proofs::SetListing::ascend_more_at, crate::proofs::SetListing::ascend_not_at, crate::proofs::SetListing::ascend_end))]
+fn tags_ascend(list: &[SetElement<'_>]) -> bool
+    ensures { IsTrue result ↔ IsSortedByKey (λ (x : SetElement). x.tag) tag_cmp list.now }
+{
+    let mut place = 1;
+    while place < list.len() {
+        if tag_goes_before(list[place].tag, list[place - 1].tag) {
+            return false;
+        }
+        place += 1;
+    }
+    true
+}
+
+// Whether elements are in the order that a mode asks (X.690, 10.3).
+fn is_in_order(mode: BERMode, list: &[SetElement<'_>]) -> bool
+    ensures { IsTrue result ↔ AreInTagOrder mode list.now }
+{
+    match mode {
+        BERMode::Ber => true,
+        BERMode::Der => tags_ascend(list),
+    }
+}
+
+// The elements that stand one after the other, and what is left behind them.
+fn list_elements<'a>(
+    alloc: Global,
+    cursor: Cursor<'a>,
+) -> Result<(Vec<SetElement<'a>>, &'a [u8]), ASN1ErrorKind>
+    ensures { ElementsAt cursor.entry.levels cursor.entry.mode cursor.entry.left.now result }
+{
+    let mut list = Vec::new(alloc);
+    let mut here = cursor;
+    loop {
+        match raw_element(here) {
+            Ok((element, rest)) => {
+                let listed = SetElement {
+                    tag: element.tag,
+                    bytes: element.bytes,
+                    end: here.end.saturating_sub(rest.len()),
+                };
+                if list.push(listed).is_err() {
+                    return Err(ASN1ErrorKind::OutOfMemory);
+                }
+                here = here.further(rest);
+            }
+            Err(refusal) => {
+                if refusal.moved {
+                    return Err(refusal.kind);
+                }
+                return Ok((list, here.left));
+            }
+        }
+    }
+}
+
+// The same, in the order that the mode asks.
+fn list_set<'a>(
+    alloc: Global,
+    cursor: Cursor<'a>,
+) -> Result<(Vec<SetElement<'a>>, &'a [u8]), ASN1ErrorKind>
+    ensures { SetListAt cursor.entry.levels cursor.entry.mode cursor.entry.left.now result }
+{
+    match list_elements(alloc, cursor) {
+        Ok((list, rest)) => {
+            if is_in_order(cursor.mode, &list) {
+                Ok((list, rest))
+            } else {
+                Err(ASN1ErrorKind::Invalid)
+            }
+        }
+        Err(kind) => Err(kind),
+    }
+}
+
+// What is answered where a callback left these elements.
+fn answer_of_all<T: Drop>(answer: ASN1Result<T>, others: &[SetElement<'_>]) -> ASN1Result<T>
+    ensures { result ≡ all_taken answer others.now }
+{
+    match answer {
+        Ok(value) => match others {
+            [] => Ok(value),
+            _ => Err(ASN1Error::new(ASN1ErrorKind::Invalid)),
+        },
+        Err(error) => Err(error),
+    }
+}
+
+// Runs a callback on what is chosen from.
+#[inline(always)]
+fn run<S, L, T, F>(f: F, set: &mut Chosen<S, L>) -> ASN1Result<T>
+where
+    F: FnOnce(&mut Chosen<S, L>) -> ASN1Result<T>,
+    requires { FnOnceTakesAtMut F.FnOnce f set.old }
+    ensures { FnOnceReturnsAtMut F.FnOnce f set.old result set.new }
+{
+    f(set)
+}
+
+impl<'a> ReaderState<'a> {
+    ghost use Rattle.std.specs.Prelude.{[], ◌≡◌};
+    ghost use Rattle.yasna_reader.specs.Sequence.{TakesContents, ReadsParts};
+    ghost use Rattle.yasna_reader.specs.Set.{RunsOnSet, SetListAt, TakesElements, emptied};
+    ghost use Rattle.yasna_reader.specs.State.{IsFresh, untagged};
+
+    /// Reads a SET, whose elements the callback takes by their tags.
+    ///
+    /// All elements are found before the callback is called: they are raw elements up to an end, and in DER their tags don't
+    /// fall. The callback is to take all of them. What goes wrong in it is kept, whatever it answers: later calls answer it.
+    #[inline(always)]
+    pub fn read_set<T: Drop, F>(&mut self, f: F) -> ASN1Result<T>
+    where
+        F: FnOnce(&mut BERReaderSet<'a, '_>) -> ASN1Result<T>,
+        requires { TakesContents (TakesElements F.FnOnce f) TAG_SET self.old }
+        ensures { ReadsParts (RunsOnSet F.FnOnce f) TAG_SET self.old result self.new }
+    {
+        if let Some(error) = self.kept {
+            self.tag = None;
+            return Err(error);
+        }
+        match self.enter(TAG_SET) {
+            Ok(opened) => {
+                let mut contents = self.within(&opened);
+                let answer = contents.run_on_set(f);
+                self.leave(&opened, answer, &contents)
+            }
+            Err(refusal) => self.settle(Err(refusal)),
+        }
+    }
+
+    // Runs a callback on the elements that stand here.
+    #[inline(always)]
+    fn run_on_set<T: Drop, F>(&mut self, f: F) -> ASN1Result<T>
+    where
+        F: FnOnce(&mut BERReaderSet<'a, '_>) -> ASN1Result<T>,
+        requires fresh { IsFresh self.old }
+        requires takes { TakesElements F.FnOnce f self.old }
+        ensures { RunsOnSet F.FnOnce f self.old result self.new }
+    {
+        match self.set_list() {
+            Ok((list, rest)) => {
+                let mut set = Chosen {
+                    reader: self.emptied(),
+                    list,
+                };
+                let answer = run(f, &mut set);
+                let Chosen { reader, list } = set;
+                self.pass(rest, &reader);
+                answer_of_all(answer, &list)
+            }
+            Err(kind) => self.fail(ASN1Error::new(kind)),
+        }
+    }
+
+    // The elements that stand here, and what is left behind them.
+    fn set_list(&self) -> Result<(Vec<SetElement<'a>>, &'a [u8]), ASN1ErrorKind>
+        ensures { SetListAt self.now.levels self.now.mode self.now.left result }
+    {
+        list_set(self.alloc, self.cursor)
+    }
+
+    // A reading like this one, of nothing.
+    fn emptied(&self) -> ReaderState<'a>
+        ensures { result ≡ emptied self.now }
+    {
+        ReaderState {
+            cursor: self.cursor.further(&[]),
+            tag: None,
+            kept: None,
+            alloc: self.alloc,
+        }
+    }
+
+    // Goes on with this rest, and keeps the failure that was kept there.
+    fn pass(&mut self, rest: &'a [u8], reader: &ReaderState<'a>)
+        ensures { self.new ≡ record self.old { left = rest.now; kept = reader.now.kept } }
+    {
+        self.cursor.left = rest;
+        self.kept = reader.kept;
+    }
+
+    fn untag(&mut self)
+        ensures { self.new ≡ untagged self.old }
+    {
+        self.tag = None;
+    }
+
+    // Goes on with an element of a SET.
+    fn turn_to(&mut self, element: SetElement<'a>)
+        ensures { self.new ≡ record self.old { left = element.entry.bytes.now; tag = None } }
+    {
+        self.cursor = self.cursor.alone(element.bytes, element.end);
+        self.tag = None;
+    }
+}
+
+impl<'a> Chosen<ReaderState<'a>, Vec<SetElement<'a>>> {
+    ghost use Rattle.std.specs.Prelude.{◌≡◌};
+
+    /// By which rules the elements are read.
+    pub fn mode(&self) -> BERMode
+        ensures { result ≡ self.now.reader.mode }
+    {
+        let reader = &self.reader;
+        reader.cursor.mode
+    }
+}
