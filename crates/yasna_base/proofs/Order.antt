@@ -87,9 +87,9 @@ same_filter {X} p xs ys h one =
     length-filter p xs ∙ sym (sum_by-IsPermutation (λ x. cond (p x) 1 0) xs ys h) ∙ sym (length-filter p ys) in
     same_copies (filter p xs) (filter p ys) n
     (all_filter p (λ x. AllByRecursion (λ y. x ≡ y) (filter p ys)) xs
-        (all_contained (λ x. p x ≡ true → AllByRecursion (λ y. x ≡ y) (filter p ys)) xs (λ x a e.
-            all_filter p (λ y. x ≡ y) ys
-                (all_contained (λ y. p y ≡ true → x ≡ y) ys (λ y b f. one x y a (Contains-permutation ys xs y (IsPermutation-sym xs ys h) b) e f)))))
+    (all_contained (λ x. p x ≡ true → AllByRecursion (λ y. x ≡ y) (filter p ys)) xs (λ x a e.
+    all_filter p (λ y. x ≡ y) ys
+    (all_contained (λ y. p y ≡ true → x ≡ y) ys (λ y b f. one x y a (Contains-permutation ys xs y (IsPermutation-sym xs ys h) b) e f)))))
 
 module _ {X : Type 0} (R : X → X → Ordering) (o : IsStrictWeakOrder (λ (x y : X). is_lt (R x y))) where
   same_side : (x : X) → is_lt (R x x) ≡ false
@@ -199,9 +199,9 @@ module _ {X : Type 0} (R : X → X → Ordering) (o : IsStrictWeakOrder (λ (x y
       ((x y : X) → Contains xs x → Contains xs y → ties (λ x y. is_lt (R x y)) x y ≡ true → x ≡ y) → in_order R xs ≡ in_order R ys
   in_order_permuted xs ys p one =
       one_rising (in_order R xs) (in_order R ys) (rises_order xs) (rises_order ys) (λ z.
-          stable_order z xs ∙
-          same_filter (ties (λ x y. is_lt (R x y)) z) xs ys p (λ x y a b e f. one x y a b (ties_join z x y e f)) ∙
-          sym (stable_order z ys))
+      stable_order z xs ∙
+      same_filter (ties (λ x y. is_lt (R x y)) z) xs ys p (λ x y a b e f. one x y a b (ties_join z x y e f)) ∙
+      sym (stable_order z ys))
 
 module _ {X Y : Type 0} (f : X → Y) (R : Y → Y → Ordering) where
   put_in_map : (x : X) (ys : List X) → map f (put_in (λ v w. R (f v) (f w)) x ys) ≡ put_in R (f x) (map f ys)
