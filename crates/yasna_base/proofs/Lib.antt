@@ -20,6 +20,7 @@ pub mod Pieces
 pub mod Cut
 pub mod Raw
 pub mod Order
+pub mod SetLaws
 pub mod Octets
 pub mod Bits
 pub mod BitPieces

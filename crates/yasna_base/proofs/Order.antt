@@ -2,11 +2,12 @@
 use Rattle.std.proofs.Common.{◌≡◌, ℕ, ◌<◌, List, [], ◌∷◌, length, get_or, suc, refl, ap, ap₂, sym, ◌∙◌, arith, Bool, true, false, cond, not, ◌&&◌, map}
 use Rattle.std.specs.Cmp.{IsStrictWeakOrder}
 use Rattle.std.specs.declared.cmp.Ordering.{Ordering}
-use Rattle.std.specs.List.{AllByRecursion, filter}
-use Rattle.std.specs.List.Sorted.{IsSortedBy, IsStableBy, ties}
+use Rattle.std.specs.List.{AllByRecursion, filter, Contains}
+use Rattle.std.specs.List.Sorted.{IsSortedBy, IsStableBy, IsPermutation, ties}
 use Rattle.std.specs.Ordering.{is_lt}
 use Rattle.std.specs.Prelude.{if◌then◌else◌}
-use Rattle.std.proofs.lemmas.List.Sorted.{sorted_far}
+use Rattle.std.proofs.lemmas.List.Sorted.{sorted_far, sum_by-IsPermutation, Contains-permutation, IsPermutation-sym}
+use Rattle.std.proofs.lemmas.List.Sums.{length-filter}
 use Rattle.yasna_base.specs.Order.{put_in, in_order}
 
 -- what holds of all items by one property holds of them by a wider one
@@ -19,7 +20,7 @@ all_from : {X : Type 0} (P : X → Type 0) (xs : List X) → ((k : ℕ) (d : X) 
 all_from P [] f = tt
 all_from P (x ∷ xs) f = (f 0 x (omega arith), all_from P xs (λ k d h. f (suc k) d (omega (arith, h))))
 
-both_false : (a b : Bool) → not a && not b ≡ true → (a ≡ false) × (b ≡ false)
+pub both_false : (a b : Bool) → not a && not b ≡ true → (a ≡ false) × (b ≡ false)
 both_false true b e = absurd (cc)
 both_false false true e = absurd (cc)
 both_false false false e = (refl, refl)
@@ -58,6 +59,37 @@ rises_pairs lt (x ∷ xs) f = (
   all_from (λ y. lt y x ≡ false) xs (λ k d h. f 0 (suc k) d (omega arith) (omega (arith, h))),
   rises_pairs lt xs (λ i j d h k. f (suc i) (suc j) d (omega (arith, h)) (omega (arith, k))),
 )
+
+-- what holds of each item that a list has
+all_contained : {X : Type 0} (P : X → Type 0) (xs : List X) → ((x : X) → Contains xs x → P x) → AllByRecursion P xs
+all_contained P [] f = tt
+all_contained P (x ∷ xs) f = (f x (0, omega arith, refl), all_contained P xs (λ y c. f y (suc c.0, omega (arith, c.1), c.2)))
+
+all_filter : {X : Type 0} (p : X → Bool) (P : X → Type 0) (xs : List X) → AllByRecursion (λ x. p x ≡ true → P x) xs → AllByRecursion P (filter p xs)
+all_filter p P [] a = tt
+all_filter p P (x ∷ xs) a = step (p x) refl (all_filter p P xs a.1)
+  where
+    step : (b : Bool) → p x ≡ b → AllByRecursion P (filter p xs) → AllByRecursion P (cond b (x ∷ filter p xs) (filter p xs))
+    step true e r = (a.0 e, r)
+    step false e r = r
+
+same_copies : {X : Type 0} (xs ys : List X) → length xs ≡ length ys → AllByRecursion (λ x. AllByRecursion (λ y. x ≡ y) ys) xs → xs ≡ ys
+same_copies [] [] n a = refl
+same_copies [] (y ∷ ys) n a = absurd (omega (arith, n))
+same_copies (x ∷ xs) [] n a = absurd (omega (arith, n))
+same_copies (x ∷ xs) (y ∷ ys) n a = ap₂ (λ z zs. z ∷ zs) a.0.0 (same_copies xs ys (omega (arith, n)) (all_wider (λ z q. q.1) xs a.1))
+
+-- items that pass a test are the same in a list and its permutation, where all that pass are one
+same_filter : {X : Type 0} (p : X → Bool) (xs ys : List X) → IsPermutation xs ys →
+    ((x y : X) → Contains xs x → Contains xs y → p x ≡ true → p y ≡ true → x ≡ y) → filter p xs ≡ filter p ys
+same_filter {X} p xs ys h one =
+    let n : length (filter p xs) ≡ length (filter p ys) =
+    length-filter p xs ∙ sym (sum_by-IsPermutation (λ x. cond (p x) 1 0) xs ys h) ∙ sym (length-filter p ys) in
+    same_copies (filter p xs) (filter p ys) n
+    (all_filter p (λ x. AllByRecursion (λ y. x ≡ y) (filter p ys)) xs
+    (all_contained (λ x. p x ≡ true → AllByRecursion (λ y. x ≡ y) (filter p ys)) xs (λ x a e.
+    all_filter p (λ y. x ≡ y) ys
+    (all_contained (λ y. p y ≡ true → x ≡ y) ys (λ y b f. one x y a (Contains-permutation ys xs y (IsPermutation-sym xs ys h) b) e f)))))
 
 module _ {X : Type 0} (R : X → X → Ordering) (o : IsStrictWeakOrder (λ (x y : X). is_lt (R x y))) where
   same_side : (x : X) → is_lt (R x x) ≡ false
@@ -155,6 +187,21 @@ module _ {X : Type 0} (R : X → X → Ordering) (o : IsStrictWeakOrder (λ (x y
   pub in_order_is : (xs ys : List X) → IsSortedBy (λ x y. is_lt (R x y)) ys → IsStableBy (λ x y. is_lt (R x y)) xs ys → ys ≡ in_order R xs
   in_order_is xs ys up stable =
       one_rising ys (in_order R xs) (rises_sorted ys up) (rises_order xs) (λ x. stable x ∙ sym (stable_order x xs))
+
+  ties_join : (z x y : X) → ties (λ x y. is_lt (R x y)) z x ≡ true → ties (λ x y. is_lt (R x y)) z y ≡ true → ties (λ x y. is_lt (R x y)) x y ≡ true
+  ties_join z x y e f =
+      let h = both_false (is_lt (R z x)) (is_lt (R x z)) e in
+      let k = both_false (is_lt (R z y)) (is_lt (R y z)) f in
+      neither (is_lt (R x y)) (is_lt (R y x)) (o.chain x z y h.1 k.0) (o.chain y z x k.1 h.0)
+
+  -- the order of a list doesn't depend on how its items stood, where those that tie are one
+  pub in_order_permuted : (xs ys : List X) → IsPermutation xs ys →
+      ((x y : X) → Contains xs x → Contains xs y → ties (λ x y. is_lt (R x y)) x y ≡ true → x ≡ y) → in_order R xs ≡ in_order R ys
+  in_order_permuted xs ys p one =
+      one_rising (in_order R xs) (in_order R ys) (rises_order xs) (rises_order ys) (λ z.
+      stable_order z xs ∙
+      same_filter (ties (λ x y. is_lt (R x y)) z) xs ys p (λ x y a b e f. one x y a b (ties_join z x y e f)) ∙
+      sym (stable_order z ys))
 
 module _ {X Y : Type 0} (f : X → Y) (R : Y → Y → Ordering) where
   put_in_map : (x : X) (ys : List X) → map f (put_in (λ v w. R (f v) (f w)) x ys) ≡ put_in R (f x) (map f ys)

@@ -43,7 +43,7 @@ each_is_same {E} x = record {
 }
 
 -- what each value stands for stands for no value
-each_any : {A : Type 0} {R : A → List ℕ → Type 0} {S : List ℕ → Type 0} → ((v : A) (b : List ℕ) → R v b → S b) → (vs : List A) (bs : List (List ℕ)) →
+pub each_any : {A : Type 0} {R : A → List ℕ → Type 0} {S : List ℕ → Type 0} → ((v : A) (b : List ℕ) → R v b → S b) → (vs : List A) (bs : List (List ℕ)) →
     Each R vs bs → (us : List (Unit {0})) × Each (λ u. S) us bs
 each_any f [] [] p = ([], tt)
 each_any f [] (b ∷ bs) p = absurd p

@@ -24,6 +24,7 @@ pub mod Raw
 pub mod TaggedDerValue
 pub mod Order
 pub mod Set
+pub mod SetLaws
 pub mod Octets
 pub mod Bits
 pub mod Text

@@ -61,7 +61,7 @@ pub record SetPart : Type 0 where
   pub bytes : List ℕ
 
 -- the part begins with an identifier of the tag
-pub record IsTagged (p : SetPart) : Type 0 where
+pub record HasItsTag (p : SetPart) : Type 0 where
   pub in_range : p.tag.tag_number < 2 ^ 64
   pub begins : BeginsWithTag p.tag p.bytes
 
@@ -79,6 +79,6 @@ parts_bytes ps = map (λ (p : SetPart). p.bytes) ps
 -- c is what a SET of these parts holds, each of which begins with an identifier: the parts in order
 pub record SetContents (parts : List (List ℕ)) (c : List ℕ) : Type 0 where
   pub tagged : List SetPart
-  pub tags : AllByRecursion IsTagged tagged
+  pub tags : AllByRecursion HasItsTag tagged
   pub same : parts_bytes tagged ≡ parts
   pub joined : c ≡ concat (parts_bytes (in_order part_cmp tagged))

@@ -9,7 +9,7 @@ use Rattle.yasna_base.specs.declared.tag.Tag.{Tag}
 use Rattle.yasna_base.specs.Canonical.{canonical_element}
 use Rattle.yasna_base.specs.Order.{octets_cmp, in_order}
 use Rattle.yasna_base.specs.Set.{SetOfContents}
-use Rattle.yasna_writer.specs.Parts.{Parts, bytes_each, last_part}
+use Rattle.yasna_writer.specs.Parts.{WrittenParts, bytes_each}
 use Rattle.yasna_writer.specs.Set.{EndsPart, LacksParts, BeginsNext, EndsSet}
 use Rattle.yasna_writer.specs.View.{Written, empty_writing}
 
@@ -57,7 +57,7 @@ pub is_not : (b : Bool) → b ≡ false → b ≡ true → ⊥
 is_not b e f = absurd (cc)
 
 -- the end of a set, seen from where its tag hadn't been taken
-pub set_ends : (Contents : List (List ℕ) → List ℕ → Type 0) (tag t : Tag) (old taken : Written) (left : Parts) (new : Written) →
+pub set_ends : (Contents : List (List ℕ) → List ℕ → Type 0) (tag t : Tag) (old taken : Written) (left : WrittenParts) (new : Written) →
     taken ≡ record old { tag = None } → tag ≡ t → EndsSet Contents (canonical_element taken.mode tag Constructed) left taken new →
     EndsSet Contents (canonical_element old.mode t Constructed) left old new
 set_ends Contents tag t old taken left new e f h =

@@ -5,13 +5,13 @@ use Rattle.yasna_base.specs.declared.error.ASN1Error.{ASN1Error}
 use Rattle.yasna_base.specs.declared.mode.BERMode.{BERMode}
 
 -- the bytes of each part, the canonical mode of what is written, and the failure that later calls answer
-pub record Parts : Type 0 where
+pub record WrittenParts : Type 0 where
   pub parts : List (List ℕ)
   pub mode : BERMode
   pub kept : Option ASN1Error
 
 -- a set that begins
-abbrev pub no_parts : BERMode → Parts
+abbrev pub no_parts : BERMode → WrittenParts
 no_parts m = record { parts = []; mode = m; kept = None }
 
 abbrev pub bytes_each : List (Vec ℕ Global) → List (List ℕ)

@@ -9,7 +9,7 @@ use Rattle.yasna_base.specs.declared.mode.BERMode.{BERMode}
 use Rattle.yasna_base.specs.declared.mode.BERMode.TheVariants.{Der}
 use Rattle.yasna_base.specs.Error.{kind_of}
 use Rattle.yasna_writer.specs.Sequence.{AnswersKept, AnswersOnly}
-use Rattle.yasna_writer.specs.Parts.{Parts, no_parts, bytes_each, last_part}
+use Rattle.yasna_writer.specs.Parts.{WrittenParts, no_parts, bytes_each, last_part}
 use Rattle.yasna_writer.specs.View.{Written, holding}
 use Rattle.yasna_writer.specs.contracts.set.DERWriterSet.{the_row}
 use Rattle.yasna_writer.specs.contracts.state.Writer.{the_row as writer_row}
@@ -48,34 +48,34 @@ pub record BeginsNext (begun : Bool) (old : List (Vec ℕ Global)) (last : Writt
   pub before : bytes_each new ≡ unless_kept w.kept (bytes_each old ++ last_part begun last.bytes)
 
 -- s ends with the part that is behind r at last
-abbrev pub LendsPart : MutBor Parts → MutBor Written → Fml
+abbrev pub LendsPart : MutBor WrittenParts → MutBor Written → Fml
 LendsPart s r = Lends the_row writer_row s r (λ w. record { parts = unless_kept r.now.kept s.now.parts ++ (w.bytes ∷ []); mode = s.now.mode; kept = w.kept })
 
 -- why k is kept at the end of a set whose parts a closure left so: a write of the closure failed, or there is no memory,
 -- or the parts make no contents
-abbrev pub FailsAtSet : (List (List ℕ) → List ℕ → Type 0) → Parts → ASN1Error → Type 0
+abbrev pub FailsAtSet : (List (List ℕ) → List ℕ → Type 0) → WrittenParts → ASN1Error → Type 0
 FailsAtSet Contents left k =
     (left.kept ≡ Some k) ⊎ ((left.kept ≡ None) × ((kind_of k ≡ OutOfMemory) ⊎ ((kind_of k ≡ Invalid) × ((c : List ℕ) → Contents left.parts c → ⊥))))
 
 -- the contents that the parts make were written by form
-abbrev pub WritesParts : (List (List ℕ) → List ℕ → Type 0) → (List ℕ → List ℕ) → Parts → Written → Written → Type 0
+abbrev pub WritesParts : (List (List ℕ) → List ℕ → Type 0) → (List ℕ → List ℕ) → WrittenParts → Written → Written → Type 0
 WritesParts Contents form left old new = (left.kept ≡ None) × (c : List ℕ) × Contents left.parts c × (new ≡ holding old (old.bytes ++ form c))
 
-abbrev pub EndsSet : (List (List ℕ) → List ℕ → Type 0) → (List ℕ → List ℕ) → Parts → Written → Written → Type 0
+abbrev pub EndsSet : (List (List ℕ) → List ℕ → Type 0) → (List ℕ → List ℕ) → WrittenParts → Written → Written → Type 0
 EndsSet Contents form left old new = MatchOption new.kept (WritesParts Contents form left old new) (λ k. FailsAtSet Contents left k)
 
 -- the closure f ran and wrote parts; where nothing failed, form of the contents that they make was written, and its own
 -- answer is handed on, an Err too
-pub record WroteSet {F T E : Type 0} (g : Once F (MutBor Parts × Unit {0}) (Result T E × (MutBor Parts × Unit {0}))) (from : ASN1Error → E → Type 0)
+pub record WroteSet {F T E : Type 0} (g : Once F (MutBor WrittenParts × Unit {0}) (Result T E × (MutBor WrittenParts × Unit {0}))) (from : ASN1Error → E → Type 0)
     (f : F) (Contents : List (List ℕ) → List ℕ → Type 0) (form : List ℕ → List ℕ) (old new : Written) (result : Result T E) : Type 0 where
   pub own : Result T E
-  pub left : Parts
+  pub left : WrittenParts
   pub ran : FnOnceReturnsAtMut g f (no_parts old.mode) own left
   pub ends : EndsSet Contents form left old new
   pub answers : AnswersKept from new.kept own result
 
 abbrev pub WritesSet :
-    {F T E : Type 0} → Once F (MutBor Parts × Unit {0}) (Result T E × (MutBor Parts × Unit {0})) → (ASN1Error → E → Type 0) → F
+    {F T E : Type 0} → Once F (MutBor WrittenParts × Unit {0}) (Result T E × (MutBor WrittenParts × Unit {0})) → (ASN1Error → E → Type 0) → F
     → (List (List ℕ) → List ℕ → Type 0) → (List ℕ → List ℕ) → Written → Written → Result T E → Type 0
 WritesSet g from f Contents form old new result =
     MatchOption old.kept (WroteSet g from f Contents form old new result) (λ k. AnswersOnly from k new result)

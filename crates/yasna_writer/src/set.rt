@@ -36,9 +36,9 @@ pub struct DERWriterSet {
 impl Model for DERWriterSet {
     ghost use Rattle.std.specs.Prelude.{◌++◌};
     ghost use Rattle.yasna_base.specs.declared.mode.BERMode.TheVariants.{Der};
-    ghost use Rattle.yasna_writer.specs.Parts.{Parts, bytes_each, last_part};
+    ghost use Rattle.yasna_writer.specs.Parts.{WrittenParts, bytes_each, last_part};
 
-    ghost Value = { Parts };
+    ghost Value = { WrittenParts };
 
     ghost view = { λ s. record { parts = bytes_each s.parts.items ++ last_part s.begun s.last.bytes; mode = Der; kept = s.last.kept } };
 }

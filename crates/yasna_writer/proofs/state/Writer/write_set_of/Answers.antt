@@ -1,4 +1,4 @@
-use Rattle.std.proofs.Common.{◌≡◌, refl, ap, ◌∙◌}
+use Rattle.std.proofs.Common.{refl, ap, ◌∙◌}
 use Rattle.yasna_base.specs.Identifier.{tag_or}
 use Rattle.yasna_base.specs.Set.{set_tag, SetOfContents}
 use Rattle.yasna_writer.specs.Parts.{no_parts}
