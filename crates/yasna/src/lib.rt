@@ -28,6 +28,6 @@ pub use yasna_base::text::{is_numeric_text, is_printable_text, is_visible_text};
 pub use yasna_base::{models, tags};
 pub use yasna_reader::{BERReader, BERReaderSeq, parse_ber, parse_ber_general, parse_der};
 pub use yasna_writer::{
-    DERWriter, DERWriterSeq, construct_der, construct_der_seq, try_construct_der,
+    DERWriter, DERWriterSeq, DERWriterSet, construct_der, construct_der_seq, try_construct_der,
     try_construct_der_seq,
 };
