@@ -33,6 +33,6 @@ pub use yasna_reader::{
     BERReader, BERReaderSeq, BERReaderSet, parse_ber, parse_ber_general, parse_der,
 };
 pub use yasna_writer::{
-    DERWriter, DERWriterSeq, construct_der, construct_der_seq, try_construct_der,
+    DERWriter, DERWriterSeq, DERWriterSet, construct_der, construct_der_seq, try_construct_der,
     try_construct_der_seq,
 };
