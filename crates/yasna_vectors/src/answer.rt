@@ -16,8 +16,8 @@ use crate::swallow::Swallow;
 use crate::tagged::Tagging;
 use crate::times::{Generalized, Utc};
 use crate::{
-    buffer, composed, length, list, mode, oid, reading, refusal, segments, swallowed, tag, times, whole,
-    writing,
+    buffer, composed, length, list, mode, oid, reading, refusal, segments, swallowed, tag, times,
+    whole, writing,
 };
 use std::alloc::{AllocError, Global};
 use yasna::{ASN1ErrorKind, ASN1Result, DERWriter};
