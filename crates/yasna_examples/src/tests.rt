@@ -3,6 +3,8 @@
 mod composed;
 mod oid;
 mod public_key;
+mod sets;
+mod times;
 
 use crate::{
     Measurement, Report, Sample, Version, constructed_integer, encoded_report, normalized_report,

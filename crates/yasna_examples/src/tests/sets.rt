@@ -1,0 +1,87 @@
+//! Sets, read and written by closures.
+
+use std::process::Abort;
+use std::test::Fail;
+use yasna::tags::{TAG_BOOLEAN, TAG_INTEGER, TAG_NULL};
+use yasna::{ASN1ErrorKind, ASN1Result, BERReader, construct_der, parse_ber, parse_der};
+
+// SET OF INTEGER, of 11 and 10.
+const FALLING: [u8; 8] = [49, 6, 2, 1, 11, 2, 1, 10];
+
+// The same in order.
+const ASCENDING: [u8; 8] = [49, 6, 2, 1, 10, 2, 1, 11];
+
+// A SET of the INTEGER 10 and TRUE, whose tags fall.
+const MIXED: [u8; 8] = [49, 6, 2, 1, 10, 1, 1, 255];
+
+// A SET of the INTEGER 10.
+const SINGLE: [u8; 5] = [49, 3, 2, 1, 10];
+
+fn numbers(reader: BERReader) -> ASN1Result<Vec<i64>> {
+    reader.collect_set_of(|item| item.read_i64())
+}
+
+fn all_read(reader: BERReader) -> ASN1Result<()> {
+    reader.read_set_of(|item| {
+        item.read_i64()?;
+        Ok(())
+    })
+}
+
+fn number_and_flag(reader: BERReader) -> ASN1Result<(i64, bool)> {
+    reader.read_set(|set| {
+        let flag = set.next(&[TAG_BOOLEAN])?.read_bool()?;
+        let number = set.next(&[TAG_NULL, TAG_INTEGER])?.read_i64()?;
+        Ok((number, flag))
+    })
+}
+
+fn kind_of<T: Drop>(answer: ASN1Result<T>) -> Option<ASN1ErrorKind> {
+    answer.err().map(|error| error.kind())
+}
+
+#[test]
+fn lists_in_order(rt: HostRuntime) -> Result<(), Fail> {
+    let alloc = rt.alloc();
+    let falling = parse_ber(alloc, &FALLING, |reader| numbers(reader))?;
+    assert_eq!(rt; falling.as_slice(), [11, 10].as_slice());
+    let ascending = parse_der(alloc, &ASCENDING, |reader| numbers(reader))?;
+    assert_eq!(rt; ascending.as_slice(), [10, 11].as_slice());
+    parse_der(alloc, &ASCENDING, |reader| all_read(reader))?;
+    let refused = parse_der(alloc, &FALLING, |reader| all_read(reader));
+    assert_eq!(rt; kind_of(refused), Some(ASN1ErrorKind::Invalid));
+    Ok(())
+}
+
+#[test]
+fn lists_written(rt: HostRuntime) -> Result<(), Fail> {
+    let alloc = rt.alloc();
+    let written = construct_der(alloc, |writer| {
+        writer.write_set_of(|parts| {
+            parts.next().write_i64(11)?;
+            parts.next().write_i64(10)
+        })
+    })?;
+    assert_eq!(rt; written.as_slice(), ASCENDING.as_slice());
+    let empty = construct_der(alloc, |writer| {
+        writer.write_set_of(|parts| {
+            parts.next();
+            parts.next().write_i64(10)
+        })
+    });
+    assert_eq!(rt; kind_of(empty), Some(ASN1ErrorKind::Invalid));
+    Ok(())
+}
+
+#[test]
+fn elements_by_tags(rt: HostRuntime) -> Result<(), Fail> {
+    let alloc = rt.alloc();
+    let (number, flag) = parse_ber(alloc, &MIXED, |reader| number_and_flag(reader))?;
+    assert_eq!(rt; number, 10);
+    assert!(rt; flag);
+    let falling = parse_der(alloc, &MIXED, |reader| number_and_flag(reader));
+    assert_eq!(rt; kind_of(falling), Some(ASN1ErrorKind::Invalid));
+    let lacking = parse_der(alloc, &SINGLE, |reader| number_and_flag(reader));
+    assert_eq!(rt; kind_of(lacking), Some(ASN1ErrorKind::Invalid));
+    Ok(())
+}

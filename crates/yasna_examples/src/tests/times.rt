@@ -1,0 +1,93 @@
+//! Both times, each call once, and what no contract says of their orders, hashes and copies.
+
+use std::cmp::Ordering;
+use std::hash::{BuildHasher, BuildHasherDefault, FoldHasher};
+use std::process::Abort;
+use std::test::Fail;
+use yasna::models::{GeneralizedTime, Offset, UTCTime};
+
+const EVENING: &[u8] = b"19851106210627.3Z";
+
+const DIGITS: &str = "19851106210627.300000000001Z";
+
+// Twelve digits of a second, of which the last three stand behind the nanosecond.
+#[test]
+fn made_of_digits(rt: HostRuntime) -> Result<(), Fail> {
+    let alloc = rt.alloc();
+    let Some(evening) = GeneralizedTime::parse(alloc, EVENING)? else {
+        assert!(rt; false, "no time");
+        return Ok(());
+    };
+    let local = *evening.datetime();
+    let made = GeneralizedTime::from_datetime_and_sub_nano_opt(alloc, local, Offset::UTC, b"0010")?;
+    let Some(made) = made else {
+        assert!(rt; false, "no time of these digits");
+        return Ok(());
+    };
+    assert_eq!(rt; made.to_string(alloc)?.as_str(), DIGITS);
+    assert_eq!(rt; made.to_bytes(alloc)?.as_slice(), DIGITS.as_bytes());
+    assert_eq!(rt; made.sub_nano(), b"001".as_slice());
+    let copy = made.clone()?;
+    assert_eq!(rt; copy.to_string(alloc)?.as_str(), DIGITS);
+    assert!(rt; copy == made);
+    assert_eq!(rt; evening.cmp(&made), Ordering::Less);
+    let hasher = BuildHasherDefault::<FoldHasher>::default();
+    assert_eq!(rt; hasher.hash_one(&copy), hasher.hash_one(&made));
+    let other = GeneralizedTime::from_datetime_and_sub_nano_opt(alloc, local, Offset::UTC, b"0a")?;
+    assert!(rt; other.is_none());
+    Ok(())
+}
+
+// Second 60 shows as 59, so 60.1 comes before 59.5.
+#[test]
+fn ordered_as_they_show(rt: HostRuntime) -> Result<(), Fail> {
+    let alloc = rt.alloc();
+    let sixty = GeneralizedTime::parse(alloc, b"19981231235960.1Z")?;
+    let half = GeneralizedTime::parse(alloc, b"19981231235959.5Z")?;
+    let same = GeneralizedTime::parse(alloc, b"19981231235959.1Z")?;
+    let (Some(sixty), Some(half), Some(same)) = (sixty, half, same) else {
+        assert!(rt; false, "no time");
+        return Ok(());
+    };
+    assert_eq!(rt; sixty.cmp(&half), Ordering::Less);
+    assert_eq!(rt; sixty.cmp(&same), Ordering::Greater);
+    assert_eq!(rt; sixty.datetime().second(), 59);
+    Ok(())
+}
+
+#[test]
+fn of_date_times(rt: HostRuntime) -> Result<(), Fail> {
+    let alloc = rt.alloc();
+    let Some(noon) = UTCTime::parse(b"8201020700-0500") else {
+        assert!(rt; false, "no time");
+        return Ok(());
+    };
+    assert_eq!(rt; noon.to_string(alloc)?.as_str(), "820102120000Z");
+    assert_eq!(rt;
+        noon.to_bytes(alloc)?.as_slice(),
+        b"820102120000Z".as_slice()
+    );
+    let Some(again) = UTCTime::from_datetime_opt(*noon.datetime(), Offset::UTC) else {
+        assert!(rt; false, "no time at noon");
+        return Ok(());
+    };
+    assert!(rt; again == noon.clone()?);
+    let hasher = BuildHasherDefault::<FoldHasher>::default();
+    assert_eq!(rt; hasher.hash_one(&again), hasher.hash_one(&noon));
+    let Ok(ahead) = Offset::from_seconds(3600) else {
+        assert!(rt; false, "no offset");
+        return Ok(());
+    };
+    let Some(earlier) = UTCTime::from_datetime_opt(*noon.datetime(), ahead) else {
+        assert!(rt; false, "no time before noon");
+        return Ok(());
+    };
+    assert_eq!(rt; earlier.to_string(alloc)?.as_str(), "820102110000Z");
+    assert_eq!(rt; earlier.cmp(&noon), Ordering::Less);
+    let Some(general) = GeneralizedTime::from_datetime_opt(alloc, *noon.datetime(), ahead) else {
+        assert!(rt; false, "no time");
+        return Ok(());
+    };
+    assert_eq!(rt; general.to_string(alloc)?.as_str(), "19820102110000Z");
+    Ok(())
+}
