@@ -1,6 +1,6 @@
 -- The laws of reading of sets, and the order of their parts.
-use Rattle.std.proofs.Common.{◌≡◌, ℕ, ◌∷◌, List, refl, ap, ap₂, sym, ◌∙◌, Bool, true, false, not, ◌&&◌}
-use Rattle.std.specs.List.Sorted.{IsPermutation, ties}
+use Rattle.std.proofs.Common.{◌≡◌, ℕ, List, refl, ap, ap₂, sym, ◌∙◌, true, false}
+use Rattle.std.specs.List.Sorted.{ties}
 use Rattle.std.specs.Ordering.{is_lt, is_eq, ordering_reverse}
 use Rattle.std.specs.declared.cmp.Ordering.{Ordering}
 use Rattle.std.specs.declared.cmp.Ordering.TheVariants.{Less, Equal, Greater}
@@ -11,12 +11,10 @@ use Rattle.std.proofs.lemmas.Slice.Eq.{bytes_eq-Decides}
 use Rattle.yasna_base.specs.declared.mode.BERMode.{BERMode}
 use Rattle.yasna_base.specs.declared.tag.Tag.{Tag}
 use Rattle.yasna_base.specs.Coding.{IsCoding, IsContentsCoding, Any}
-use Rattle.yasna_base.specs.Element.{AnyEnclosed}
 use Rattle.yasna_base.specs.Identifier.{end_tag, class_number}
-use Rattle.yasna_base.specs.Order.{octets_cmp, in_order}
+use Rattle.yasna_base.specs.Order.{octets_cmp}
 use Rattle.yasna_base.specs.Pieces.{Each}
-use Rattle.yasna_base.specs.Raw.{RawValue, IsRaw}
-use Rattle.yasna_base.specs.Set.{SetOfElements, AnySetOfElements, IsSetOf, AnySetOf, SetElements, IsSet, SetPart, part_key, part_cmp}
+use Rattle.yasna_base.specs.Set.{SetOfElements, AnySetOfElements, IsSetOf, AnySetOf, SetElements, SetPart, part_key, part_cmp}
 use Rattle.yasna_base.specs.SetLaws.{SetKeepsReadingLaws, SetOfOrderIsOne, SetOrderIsOne}
 use Rattle.yasna_base.proofs.Coding.{equal_same, enclosed}
 use Rattle.yasna_base.proofs.Identifier.{class_same}

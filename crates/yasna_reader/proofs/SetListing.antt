@@ -1,16 +1,15 @@
 -- The elements of a SET, which are listed one after the other up to an end.
-use Rattle.std.proofs.Common.{◌≡◌, ◌⊎◌, inl, inr, ℕ, ◌<◌, ◌≤◌, ◌+◌, ◌-◌, List, [], ◌∷◌, ◌++◌, length, refl, sym, ap, subst, ◌∙◌, append_assoc, length-append, true, false, Bool, arith}
+use Rattle.std.proofs.Common.{◌≡◌, inl, inr, ℕ, ◌<◌, ◌≤◌, ◌+◌, ◌-◌, List, [], ◌∷◌, ◌++◌, length, refl, sym, ap, subst, ◌∙◌, append_assoc, length-append, true, false, Bool, arith}
 use Rattle.std.proofs.lemmas.Bool.{cases_lt}
 use Rattle.std.proofs.lemmas.List.{get_or_default}
 use Rattle.std.specs.List.Sorted.{IsSortedByKey, IsSortedWithin}
 use Rattle.std.specs.Ordering.{is_lt}
 use Rattle.std.specs.Prelude.{slice_index_or}
-use Rattle.yasna_base.specs.declared.error.ASN1ErrorKind.{ASN1ErrorKind}
 use Rattle.yasna_base.specs.declared.error.ASN1ErrorKind.TheVariants.{OutOfMemory}
 use Rattle.yasna_base.specs.declared.mode.BERMode.{BERMode}
 use Rattle.yasna_base.specs.Identifier.{AtEnd}
 use Rattle.yasna_base.specs.Order.{tag_cmp}
-use Rattle.yasna_base.specs.Pieces.{Each, Pieces}
+use Rattle.yasna_base.specs.Pieces.{Each}
 use Rattle.yasna_base.specs.Raw.{RawValue, IsRaw, IsDeepRaw}
 use Rattle.yasna_base.proofs.Identifier.{begins_some}
 use Rattle.yasna_base.proofs.Pieces.{NoFront, no_front_at_end, pieces_once, no_pieces, one_piece, pieces_append}
@@ -19,7 +18,7 @@ use Rattle.yasna_reader.specs.declared.bytes.header.Refusal.{Refusal}
 use Rattle.yasna_reader.specs.declared.bytes.walk.RawElement.{RawElement}
 use Rattle.yasna_reader.specs.declared.set.SetElement.{SetElement}
 use Rattle.yasna_reader.specs.Set.{IsListed, Listed, ListsAll, NotListed}
-use Rattle.yasna_reader.specs.Walk.{RefusesRaw, TakesRaw, MeetsDeep, element_of}
+use Rattle.yasna_reader.specs.Walk.{RefusesRaw, TakesRaw, element_of}
 
 -- before the first element
 pub none_listed : (n : ℕ) (m : BERMode) (c : List ℕ) → Listed n m [] c c

@@ -1,5 +1,5 @@
 -- A callback that is run on the elements of a SET.
-use Rattle.std.proofs.Common.{◌≡◌, inl, List, ℕ, refl, ap, subst, ◌∙◌}
+use Rattle.std.proofs.Common.{◌≡◌, inl, List, ℕ, ap, subst, ◌∙◌}
 use Rattle.std.specs.Borrow.{MutBor}
 use Rattle.std.specs.Fn.{Once, FnOnceTakesAtMut, FnOnceReturnsAtMut}
 use Rattle.std.specs.Global.{Global}

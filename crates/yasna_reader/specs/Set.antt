@@ -5,18 +5,17 @@ use Rattle.std.specs.Global.{Global}
 use Rattle.std.specs.List.{AllWithin, Contains, HoldsAt, remove}
 use Rattle.std.specs.List.Sorted.{IsSortedByKey}
 use Rattle.std.specs.Prelude.{Err, List, MatchResult, None, Ok, Option, Result, Some, Vec, [], length, ℕ, ◌++◌, ◌<◌, ◌∷◌, ◌≡◌, ◌⊎◌}
-use Rattle.yasna_base.specs.Error.{error_of, kind_of}
+use Rattle.yasna_base.specs.Error.{error_of}
 use Rattle.yasna_base.specs.Identifier.{AtEnd}
 use Rattle.yasna_base.specs.Order.{tag_cmp}
 use Rattle.yasna_base.specs.Pieces.{Pieces}
 use Rattle.yasna_base.specs.Raw.{RawValue, IsRaw}
 use Rattle.yasna_base.specs.declared.error.ASN1Error.{ASN1Error}
 use Rattle.yasna_base.specs.declared.error.ASN1ErrorKind.{ASN1ErrorKind}
-use Rattle.yasna_base.specs.declared.error.ASN1ErrorKind.TheVariants.{Extra, Invalid, OutOfMemory, StackOverflow}
+use Rattle.yasna_base.specs.declared.error.ASN1ErrorKind.TheVariants.{Invalid, OutOfMemory, StackOverflow}
 use Rattle.yasna_base.specs.declared.mode.BERMode.{BERMode}
 use Rattle.yasna_base.specs.declared.mode.BERMode.TheVariants.{Ber, Der}
 use Rattle.yasna_base.specs.declared.tag.Tag.{Tag}
-use Rattle.yasna_reader.specs.Sequence.{TakesContents}
 use Rattle.yasna_reader.specs.State.{Reading, failing, untagged}
 use Rattle.yasna_reader.specs.Walk.{MeetsDeep}
 use Rattle.yasna_reader.specs.contracts.set.Chosen.{the_row}

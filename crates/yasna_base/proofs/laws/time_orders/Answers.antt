@@ -4,7 +4,6 @@ use Rattle.std.specs.Cmp.{booleans_Decides}
 use Rattle.std.proofs.lemmas.Slice.Eq.{bytes_eq-Decides}
 use Rattle.jiff.proofs.Family.{same_datetime}
 use Rattle.jiff.specs.Words.{civil_nanos}
-use Rattle.yasna_base.specs.Models.{moment_of}
 use Rattle.yasna_base.specs.Moment.{moment}
 use Rattle.yasna_base.proofs.Values.{same_moment}
 use Rattle.yasna_base.proofs.laws.time_orders.Goals as goal

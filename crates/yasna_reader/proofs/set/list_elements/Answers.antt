@@ -1,7 +1,7 @@
 use Rattle.std.proofs.Common.{◌≡◌, [], ◌∷◌, ◌++◌, rules, refl, sym, subst, ◌∙◌}
 use Rattle.yasna_reader.specs.declared.set.SetElement.{SetElement}
-use Rattle.yasna_reader.specs.Set.{Listed, NotListed}
-use Rattle.yasna_reader.proofs.SetListing.{none_listed, listed_more, listed_smaller, not_listed, listed_all, lacks_memory}
+use Rattle.yasna_reader.specs.Set.{Listed}
+use Rattle.yasna_reader.proofs.SetListing.{none_listed, listed_more, listed_smaller, not_listed, listed_all}
 use Rattle.yasna_reader.proofs.set.list_elements.Goals as goal
 
 pub loop-element-init : goal.loop-element-init

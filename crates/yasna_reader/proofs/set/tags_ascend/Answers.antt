@@ -1,4 +1,4 @@
-use Rattle.std.proofs.Common.{rules, ◌-◌, ◌+◌, ◌≤◌, arith, sym, ◌∙◌}
+use Rattle.std.proofs.Common.{arith, sym, ◌∙◌}
 use Rattle.yasna_reader.proofs.SetListing.{ascend_more_at, ascend_not_at}
 use Rattle.yasna_reader.proofs.set.tags_ascend.Goals as goal
 

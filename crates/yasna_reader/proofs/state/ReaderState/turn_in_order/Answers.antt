@@ -1,4 +1,4 @@
-use Rattle.std.proofs.Common.{ap, sym, subst, ◌∙◌}
+use Rattle.std.proofs.Common.{ap, subst, ◌∙◌}
 use Rattle.std.specs.Fn.{CalledAtMut}
 use Rattle.yasna_reader.specs.State.{Reading}
 use Rattle.yasna_reader.specs.SetOf.{Ordered, bytes_of}
