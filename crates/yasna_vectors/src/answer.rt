@@ -16,8 +16,8 @@ use crate::swallow::Swallow;
 use crate::tagged::Tagging;
 use crate::times::{Generalized, Utc};
 use crate::{
-    buffer, composed, length, list, mode, oid, reading, refusal, segments, swallowed, tag, thrown,
-    times, whole, writing,
+    buffer, composed, length, list, mode, oid, reading, refusal, segments, swallowed, tag, times,
+    whole, writing,
 };
 use std::alloc::{AllocError, Global};
 use yasna::{ASN1ErrorKind, ASN1Result, DERWriter};
@@ -46,7 +46,6 @@ pub fn answer(alloc: Global, case: &Case) -> Answer {
         .or_else(|| whole::answer(alloc, case))
         .or_else(|| composed::answer(alloc, case))
         .or_else(|| writing::answer(alloc, case))
-        .or_else(|| thrown::answer(alloc, case))
         .or_else(|| length::answer(alloc, case))
         .or_else(|| segments::answer(alloc, case))
         .or_else(|| oid::answer(alloc, case))
