@@ -23,3 +23,4 @@ pub mod Walk
 pub mod Raw
 pub mod Decodes
 pub mod Set
+pub mod SetOptional

@@ -15,6 +15,7 @@
 //! | `sequence_of` | reads of lists, whose elements a callback reads one by one |
 //! | `set_of` | reads of lists whose elements ascend in DER |
 //! | `set` | reads of sets, whose elements a callback takes by their tags |
+//! | `set_optional` | reads of elements of a set that may be left out |
 //! | `callback` | what becomes of a reading that a callback is handed |
 //! | `tagged` | reads under tags of the caller's |
 //! | `optional` | reads of parts that may be left out |
@@ -35,6 +36,7 @@ mod sequence;
 mod sequence_of;
 mod set;
 mod set_of;
+mod set_optional;
 mod state;
 mod strings;
 mod tagged;
