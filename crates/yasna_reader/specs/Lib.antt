@@ -24,3 +24,4 @@ pub mod Raw
 pub mod Decodes
 pub mod Set
 pub mod SetOptional
+pub mod SetLaws

@@ -21,12 +21,14 @@
 //! | `optional` | reads of parts that may be left out |
 //! | `buffer` | reads that also answer the bytes they took |
 //! | `lookahead` | the next tag |
+//! | `laws` | what is proved of the readings that callbacks are handed |
 //! | `bytes` | over bytes alone: numbers in base 128, identifier, length, header, contents |
 #![tactic(auto)]
 
 mod buffer;
 mod bytes;
 mod callback;
+pub mod laws;
 mod lookahead;
 mod optional;
 mod parse;
