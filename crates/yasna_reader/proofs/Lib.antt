@@ -21,6 +21,7 @@ pub mod Turning
 pub mod SetListing
 pub mod SetRuns
 pub mod SetChoosing
+pub mod SetLaws
 pub mod Tuples
 pub mod Ahead
 pub mod Listing

@@ -42,7 +42,7 @@ listed_smaller k o y z e r t f =
     let s = raw_starts k o (element_of e) e.bytes.now t.raw in
     omega (arith, begins_some s.tag e.bytes.now s.begins, ap length t.joined, length-append e.bytes.now r, ap length f)
 
-listed_alone : (n : ℕ) (m : BERMode) (x w : SetElement) (b c r s : List ℕ) → IsListed n m x b → IsListed n m w c → b ++ r ≡ c ++ s → b ≡ c
+pub listed_alone : (n : ℕ) (m : BERMode) (x w : SetElement) (b c r s : List ℕ) → IsListed n m x b → IsListed n m w c → b ++ r ≡ c ++ s → b ≡ c
 listed_alone n m x w b c r s h k e = (raw_exact n n m h.value k.value b c r s h.raw k.raw e).1
 
 raw_alone : (n : ℕ) (m : BERMode) (x : SetElement) (v : RawValue) (b c r s : List ℕ) → IsListed n m x b → IsRaw n m v c → b ++ r ≡ c ++ s → b ≡ c

@@ -23,3 +23,5 @@ pub mod Walk
 pub mod Raw
 pub mod Decodes
 pub mod Set
+pub mod SetOptional
+pub mod SetLaws

@@ -25,11 +25,16 @@ abbrev pub TakesDefault : BERMode → Type 0
 TakesDefault Ber = Unit {0}
 TakesDefault Der = ⊥
 
--- the default d for none; a value v of a reading of n bytes that left z, unless it equals d and the mode refuses that
-abbrev pub DefaultsTo : {A : Type 0} → (A → A → Bool) → A → ℕ → Outcome A → Reading → Result A ASN1Error → Reading → Type 0
-DefaultsTo eq d n (Gave v) z r s' =
+-- the value v that a reading of which z is left gave, unless it equals the default d and the mode refuses that: then the
+-- refusal is kept where something moved
+abbrev pub UnlessDefault : {A : Type 0} → (A → A → Bool) → A → A → Bool → Reading → Result A ASN1Error → Reading → Type 0
+UnlessDefault eq d v moved z r s' =
     ((TakesDefault z.mode ⊎ (eq v d ≡ false)) × (r ≡ Ok v) × (s' ≡ z)) ⊎
-    ((TakesDefault z.mode → ⊥) × (eq v d ≡ true) × (r ≡ Err (error_of Invalid)) × (s' ≡ refusing (nat_lt (length z.left) n) z (error_of Invalid)))
+    ((TakesDefault z.mode → ⊥) × (eq v d ≡ true) × (r ≡ Err (error_of Invalid)) × (s' ≡ refusing moved z (error_of Invalid)))
+
+-- the default d for none; a value of a reading of n bytes that left z, unless the mode refuses it
+abbrev pub DefaultsTo : {A : Type 0} → (A → A → Bool) → A → ℕ → Outcome A → Reading → Result A ASN1Error → Reading → Type 0
+DefaultsTo eq d n (Gave v) z r s' = UnlessDefault eq d v (nat_lt (length z.left) n) z r s'
 DefaultsTo eq d n (Quiet e) z r s' = (r ≡ Ok d) × (s' ≡ z)
 DefaultsTo eq d n (Failed e) z r s' = (r ≡ Err e) × (s' ≡ z)
 

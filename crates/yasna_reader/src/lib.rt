@@ -15,17 +15,20 @@
 //! | `sequence_of` | reads of lists, whose elements a callback reads one by one |
 //! | `set_of` | reads of lists whose elements ascend in DER |
 //! | `set` | reads of sets, whose elements a callback takes by their tags |
+//! | `set_optional` | reads of elements of a set that may be left out |
 //! | `callback` | what becomes of a reading that a callback is handed |
 //! | `tagged` | reads under tags of the caller's |
 //! | `optional` | reads of parts that may be left out |
 //! | `buffer` | reads that also answer the bytes they took |
 //! | `lookahead` | the next tag |
+//! | `laws` | what is proved of the readings that callbacks are handed |
 //! | `bytes` | over bytes alone: numbers in base 128, identifier, length, header, contents |
 #![tactic(auto)]
 
 mod buffer;
 mod bytes;
 mod callback;
+pub mod laws;
 mod lookahead;
 mod optional;
 mod parse;
@@ -35,6 +38,7 @@ mod sequence;
 mod sequence_of;
 mod set;
 mod set_of;
+mod set_optional;
 mod state;
 mod strings;
 mod tagged;

@@ -20,7 +20,27 @@ fn takes_default(mode: BERMode) -> bool
 
 impl<'a> ReaderState<'a> {
     ghost use Rattle.std.specs.Prelude.{length};
-    ghost use Rattle.yasna_reader.specs.Optional.{DefaultsTo};
+    ghost use Rattle.yasna_reader.specs.Optional.{DefaultsTo, UnlessDefault};
+
+    // A value that was read where this is the default. Where it is refused, that is kept if something moved.
+    #[inline(always)]
+    pub(crate) fn unless_default<T: Eq + Drop>(
+        &mut self,
+        value: T,
+        default: T,
+        moved: bool,
+    ) -> ASN1Result<T>
+        ensures { UnlessDefault T.eq default value moved self.old result self.new }
+    {
+        if takes_default(self.cursor.mode) || value != default {
+            return Ok(value);
+        }
+        let error = ASN1Error::new(ASN1ErrorKind::Invalid);
+        if moved {
+            self.kept = Some(error);
+        }
+        Err(error)
+    }
 
     // What is read where a callback that began with so many bytes came to this, and this is the default.
     #[inline(always)]
@@ -34,14 +54,8 @@ impl<'a> ReaderState<'a> {
     {
         match outcome {
             Outcome::Gave(value) => {
-                if takes_default(self.cursor.mode) || value != default {
-                    return Ok(value);
-                }
-                let error = ASN1Error::new(ASN1ErrorKind::Invalid);
-                if self.cursor.left.len() < before {
-                    self.kept = Some(error);
-                }
-                Err(error)
+                let moved = self.cursor.left.len() < before;
+                self.unless_default(value, default, moved)
             }
             Outcome::Quiet(_) => Ok(default),
             Outcome::Failed(error) => Err(error),

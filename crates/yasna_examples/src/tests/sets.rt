@@ -3,7 +3,7 @@
 use std::process::Abort;
 use std::test::Fail;
 use yasna::tags::{TAG_BOOLEAN, TAG_INTEGER, TAG_NULL};
-use yasna::{ASN1ErrorKind, ASN1Result, BERReader, construct_der, parse_ber, parse_der};
+use yasna::{ASN1Error, ASN1ErrorKind, ASN1Result, BERReader, construct_der, parse_ber, parse_der};
 
 // SET OF INTEGER, of 11 and 10.
 const FALLING: [u8; 8] = [49, 6, 2, 1, 11, 2, 1, 10];
@@ -83,5 +83,89 @@ fn elements_by_tags(rt: HostRuntime) -> Result<(), Fail> {
     assert_eq!(rt; kind_of(falling), Some(ASN1ErrorKind::Invalid));
     let lacking = parse_der(alloc, &SINGLE, |reader| number_and_flag(reader));
     assert_eq!(rt; kind_of(lacking), Some(ASN1ErrorKind::Invalid));
+    Ok(())
+}
+
+// A flag that is TRUE where it is left out, and a number that may be left out.
+fn flag_and_number(reader: BERReader) -> ASN1Result<(bool, Option<i64>)> {
+    reader.read_set(|set| {
+        let number = set.read_optional(&[TAG_INTEGER], |element| element.read_i64())?;
+        let flag = set.read_default(&[TAG_BOOLEAN], true, |element| element.read_bool())?;
+        Ok((flag, number))
+    })
+}
+
+#[test]
+fn elements_left_out(rt: HostRuntime) -> Result<(), Fail> {
+    let alloc = rt.alloc();
+    let (flag, number) = parse_der(
+        alloc,
+        &[49, 6, 1, 1, 0, 2, 1, 10],
+        |reader| flag_and_number(reader),
+    )?;
+    assert!(rt; !flag);
+    assert_eq!(rt; number, Some(10));
+    let (flag, number) = parse_der(alloc, &SINGLE, |reader| flag_and_number(reader))?;
+    assert!(rt; flag);
+    assert_eq!(rt; number, Some(10));
+    let (flag, number) = parse_der(alloc, &[49, 0], |reader| flag_and_number(reader))?;
+    assert!(rt; flag);
+    assert_eq!(rt; number, None);
+    Ok(())
+}
+
+#[test]
+fn element_that_equals_its_default(rt: HostRuntime) -> Result<(), Fail> {
+    let alloc = rt.alloc();
+    let (flag, _) = parse_ber(alloc, &MIXED, |reader| flag_and_number(reader))?;
+    assert!(rt; flag);
+    let sorted = [49, 6, 1, 1, 255, 2, 1, 10];
+    let refused = parse_der(alloc, &sorted, |reader| flag_and_number(reader));
+    assert_eq!(rt; kind_of(refused), Some(ASN1ErrorKind::Invalid));
+    let kept = parse_der(alloc, &sorted, |reader| {
+        reader.read_set(|set| {
+            let _ = set.read_default(&[TAG_BOOLEAN], true, |element| element.read_bool());
+            set.next(&[TAG_INTEGER])?.read_i64()
+        })
+    });
+    assert_eq!(rt; kind_of(kept), Some(ASN1ErrorKind::Invalid));
+    Ok(())
+}
+
+#[test]
+fn element_that_is_not_read(rt: HostRuntime) -> Result<(), Fail> {
+    let alloc = rt.alloc();
+    let unread = parse_ber(alloc, &SINGLE, |reader| {
+        reader.read_set(|set| set.read_optional(&[TAG_INTEGER], |_| -> ASN1Result<()> { Ok(()) }))
+    });
+    assert_eq!(rt; kind_of(unread), Some(ASN1ErrorKind::Extra));
+    let another = parse_ber(alloc, &SINGLE, |reader| {
+        reader.read_set(|set| set.read_optional(&[TAG_INTEGER], |element| element.read_bool()))
+    });
+    assert_eq!(rt; kind_of(another), Some(ASN1ErrorKind::Invalid));
+    Ok(())
+}
+
+#[test]
+fn element_that_lacks_memory(rt: HostRuntime) -> Result<(), Fail> {
+    let alloc = rt.alloc();
+    let answered = parse_ber(alloc, &SINGLE, |reader| {
+        reader.read_set(|set| {
+            set.read_optional(&[TAG_INTEGER], |_| -> ASN1Result<i64> {
+                Err(ASN1Error::new(ASN1ErrorKind::OutOfMemory))
+            })
+        })
+    });
+    assert_eq!(rt; kind_of(answered), Some(ASN1ErrorKind::OutOfMemory));
+    let kept = parse_ber(alloc, &SINGLE, |reader| {
+        let _ = reader.read_set(|set| {
+            let _ = set.read_optional(&[TAG_INTEGER], |_| -> ASN1Result<i64> {
+                Err(ASN1Error::new(ASN1ErrorKind::OutOfMemory))
+            });
+            Ok(())
+        });
+        Ok(())
+    });
+    assert_eq!(rt; kind_of(kept), Some(ASN1ErrorKind::OutOfMemory));
     Ok(())
 }
