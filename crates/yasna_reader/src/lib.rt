@@ -20,7 +20,7 @@
 //! | `optional` | reads of parts that may be left out |
 //! | `buffer` | reads that also answer the bytes they took |
 //! | `lookahead` | the next tag |
-//! | `bytes` | over bytes alone: numbers in base 128, identifier, length, header, contents |
+//! | `bytes` | over bytes alone: length, header, contents |
 #![tactic(auto)]
 
 mod buffer;
