@@ -20,6 +20,15 @@ kind_text StackOverflow = codes "StackOverflow"
 kind_text Invalid = codes "Invalid"
 kind_text OutOfMemory = codes "OutOfMemory"
 
+-- neither too deep nor want of memory
+abbrev pub IsPlain : ASN1ErrorKind → Type 0
+IsPlain Eof = Unit {0}
+IsPlain Extra = Unit {0}
+IsPlain IntegerOverflow = Unit {0}
+IsPlain Invalid = Unit {0}
+IsPlain StackOverflow = ⊥
+IsPlain OutOfMemory = ⊥
+
 -- what a refusal prints
 abbrev pub error_text : ASN1Error → List ℕ
 error_text e = codes "ASN1Error { kind: " ++ kind_text (kind_of e) ++ codes " }"

@@ -1,11 +1,14 @@
 -- The identifier octets of a tag (X.690, 8.1.2).
-use Rattle.std.specs.Prelude.{◌≡◌, ℕ, ◌+◌, ◌*◌, ◌^◌, ◌<◌, List, [], ◌∷◌, ◌++◌, if◌then◌else◌, nat_lt, Option, Some, None}
+use Rattle.std.specs.Prelude.{◌≡◌, ℕ, ◌+◌, ◌*◌, ◌^◌, ◌<◌, ◌≤◌, List, [], ◌∷◌, ◌++◌, if◌then◌else◌, nat_lt, Option, Some, None, Result, Ok, Err}
+use Rattle.std.specs.Borrow.{Bor}
+use Rattle.yasna_base.specs.declared.error.ASN1ErrorKind.{ASN1ErrorKind}
 use Rattle.yasna_base.specs.declared.tag.Tag.{Tag}
 use Rattle.yasna_base.specs.declared.tag.TagClass.{TagClass}
 use Rattle.yasna_base.specs.declared.tag.TagClass.TheVariants.{Universal, Application, ContextSpecific, Private}
 use Rattle.yasna_base.specs.declared.tag.PCBit.{PCBit}
 use Rattle.yasna_base.specs.declared.tag.PCBit.TheVariants.{Primitive, Constructed}
 use Rattle.yasna_base.specs.Digits.{base128}
+use Rattle.yasna_base.specs.Error.{IsPlain}
 
 abbrev pub class_number : TagClass → ℕ
 class_number Universal = 0
@@ -52,3 +55,13 @@ pub record StartsElement (s : List ℕ) : Type 0 where
 pub data AtEnd (s : List ℕ) : Type 0 where
   nothing : s ≡ [] → AtEnd s
   end : BeginsWithTag end_tag s → AtEnd s
+
+-- a number in base 128, not below 31, stands at the front
+abbrev pub NumberAt : List ℕ → Result (ℕ × Bor (List ℕ)) ASN1ErrorKind → Type 0
+NumberAt s (Ok x) = (31 ≤ x.0) × (s ≡ base128 x.0 ++ x.1.now)
+NumberAt s (Err k) = IsPlain k × ((n : ℕ) (r : List ℕ) → 31 ≤ n → n < 2 ^ 64 → s ≡ base128 n ++ r → ⊥)
+
+-- an identifier stands at the front
+abbrev pub IdentifierAt : List ℕ → Result (Tag × PCBit × Bor (List ℕ)) ASN1ErrorKind → Type 0
+IdentifierAt s (Ok x) = s ≡ identifier x.0 x.1 ++ x.2.now
+IdentifierAt s (Err k) = IsPlain k × ((t : Tag) (p : PCBit) (r : List ℕ) → t.tag_number < 2 ^ 64 → s ≡ identifier t p ++ r → ⊥)

@@ -1,5 +1,6 @@
 pub mod Error
 pub mod Digits
+pub mod Base128
 pub mod Identifier
 pub mod Length
 pub mod Element

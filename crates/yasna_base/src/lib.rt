@@ -3,6 +3,7 @@
 //!
 //! | Module | Holds |
 //! |---|---|
+//! | `bytes` | numbers in base 128 and identifiers at the front of bytes |
 //! | `error` | why a reading or a writing was refused |
 //! | `laws` | what is proved of the grammar itself |
 //! | `mode` | by which of the rules of X.690 bytes are read |
@@ -12,6 +13,7 @@
 //! | `text` | which characters the classes of text take |
 #![tactic(auto)]
 
+pub mod bytes;
 pub mod error;
 pub mod laws;
 pub mod mode;

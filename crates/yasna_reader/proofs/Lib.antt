@@ -1,6 +1,4 @@
 pub mod Refusal
-pub mod Base128
-pub mod Identifier
 pub mod Length
 pub mod Header
 pub mod Oid

@@ -1,7 +1,5 @@
 pub mod State
 pub mod Refusal
-pub mod Base128
-pub mod Identifier
 pub mod Length
 pub mod Front
 pub mod Header

@@ -1,19 +1,10 @@
 -- Why no element was taken from the front of bytes.
 use Rattle.std.specs.Prelude.{◌≡◌, ◌↔◌, ℕ, ◌^◌, ◌<◌, List, [], false}
 use Rattle.yasna_base.specs.Identifier.{BeginsWithTag}
-use Rattle.yasna_base.specs.declared.error.ASN1ErrorKind.{ASN1ErrorKind}
-use Rattle.yasna_base.specs.declared.error.ASN1ErrorKind.TheVariants.{Eof, Extra, IntegerOverflow, Invalid, OutOfMemory, StackOverflow}
+use Rattle.yasna_base.specs.declared.error.ASN1ErrorKind.TheVariants.{OutOfMemory, StackOverflow}
 use Rattle.yasna_base.specs.declared.tag.Tag.{Tag}
+pub use Rattle.yasna_base.specs.Error.{IsPlain}
 use Rattle.yasna_reader.specs.declared.bytes.header.Refusal.{Refusal}
-
--- neither too deep nor want of memory
-abbrev pub IsPlain : ASN1ErrorKind → Type 0
-IsPlain Eof = Unit {0}
-IsPlain Extra = Unit {0}
-IsPlain IntegerOverflow = Unit {0}
-IsPlain Invalid = Unit {0}
-IsPlain StackOverflow = ⊥
-IsPlain OutOfMemory = ⊥
 
 -- s is empty or begins with an identifier of another tag
 pub data IsElsewhere (t : Tag) (s : List ℕ) : Type 0 where

@@ -1,14 +1,12 @@
-//! What stands at the front of bytes, one notion a module: a number in base 128, an element's identifier, its length,
-//! its header, its contents (X.690, 8.1).
+//! What stands at the front of bytes, one notion a module: an element's length, its header, its contents (X.690, 8.1).
+//! Identifiers and numbers in base 128 are read by `yasna_base::bytes`, since the writer reads identifiers too.
 //!
 //! Everything here goes over a `Cursor` or a slice, and knows nothing of implicit tags, kept failures and callbacks.
 //! Every read of an element of a wanted tag passes `header::open`, every one of any tag `walk::open_any`.
 
-pub mod base128;
 pub mod contents;
 pub mod cursor;
 pub mod header;
-pub mod identifier;
 pub mod length;
 pub mod segments;
 pub mod text;

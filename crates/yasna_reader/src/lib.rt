@@ -22,7 +22,7 @@
 //! | `buffer` | reads that also answer the bytes they took |
 //! | `lookahead` | the next tag |
 //! | `laws` | what is proved of the readings that callbacks are handed |
-//! | `bytes` | over bytes alone: numbers in base 128, identifier, length, header, contents |
+//! | `bytes` | over bytes alone: length, header, contents |
 #![tactic(auto)]
 
 mod buffer;

@@ -1,7 +1,7 @@
 //! The next tag, by which a CHOICE is read.
 
-use crate::bytes::identifier::read_identifier;
 use crate::state::ReaderState;
+use yasna_base::bytes::identifier::read_identifier;
 use yasna_base::error::{ASN1Error, ASN1Result};
 use yasna_base::tag::Tag;
 

@@ -6,8 +6,8 @@ ghost use Rattle.yasna_base.specs.Header.{uncounted};
 ghost use Rattle.yasna_reader.specs.Header.{ContentsAt, OpenedAt, ConstructedAt, PrimitiveAt, ClosesAt, contents_end};
 
 use crate::bytes::cursor::Cursor;
-use crate::bytes::identifier::read_identifier;
 use crate::bytes::length::{cut, read_length};
+use yasna_base::bytes::identifier::read_identifier;
 use yasna_base::error::ASN1ErrorKind;
 use yasna_base::mode::BERMode;
 use yasna_base::tag::{PCBit, Tag};

@@ -11,7 +11,7 @@ ghost use Rattle.yasna_reader.specs.Walk.{AnyOpenedAt, TurnOf, WalksTo, FollowsA
 
 use crate::bytes::cursor::Cursor;
 use crate::bytes::header::{Opened, Refusal, contents, refuse};
-use crate::bytes::identifier::read_identifier;
+use yasna_base::bytes::identifier::read_identifier;
 use yasna_base::error::ASN1ErrorKind;
 use yasna_base::mode::BERMode;
 use yasna_base::tag::{PCBit, Tag};

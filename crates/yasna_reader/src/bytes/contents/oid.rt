@@ -7,9 +7,9 @@ ghost use Rattle.yasna_reader.specs.Contents.{Decides, WantsMemory};
 ghost use Rattle.yasna_reader.specs.Oid.{AppendsFirst, AppendsNumbers};
 ghost use Rattle.yasna_reader.specs.Refusal.{IsPlain};
 
-use crate::bytes::base128::read_base128;
 use crate::bytes::contents::Contents;
 use std::alloc::Global;
+use yasna_base::bytes::base128::read_base128;
 use yasna_base::error::ASN1ErrorKind;
 use yasna_base::mode::BERMode;
 use yasna_base::models::ObjectIdentifier;

@@ -3,7 +3,7 @@ use Rattle.std.specs.Borrow.{Bor}
 use Rattle.std.specs.Prelude.{Err, List, Ok, Result, ℕ, ◌++◌, ◌<◌, ◌^◌, ◌≡◌}
 use Rattle.yasna_base.specs.Digits.{base128}
 use Rattle.yasna_base.specs.declared.error.ASN1ErrorKind.{ASN1ErrorKind}
-use Rattle.yasna_reader.specs.Refusal.{IsPlain}
+use Rattle.yasna_base.specs.Error.{IsPlain}
 
 -- a number of 64 bits in base 128 stands at the front
 abbrev pub Base128At : List ℕ → Result (ℕ × Bor (List ℕ)) ASN1ErrorKind → Type 0

@@ -1,7 +1,7 @@
 //! Numbers in base 128, as tag numbers and the components of object identifiers are (X.690, 8.1.2.4 and 8.19.2).
-ghost use Rattle.yasna_reader.specs.Base128.{Base128At};
+ghost use Rattle.yasna_base.specs.Base128.{Base128At};
 
-use yasna_base::error::ASN1ErrorKind;
+use crate::error::ASN1ErrorKind;
 
 // From here on a further digit in base 128 passes 2^64 - 1.
 const LEAST_TOO_LARGE: u64 = 144115188075855872;

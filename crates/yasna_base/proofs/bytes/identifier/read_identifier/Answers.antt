@@ -1,7 +1,7 @@
 use Rattle.std.proofs.Common.{◌≡◌, arith}
 use Rattle.yasna_base.proofs.Lists.{empty_is}
-use Rattle.yasna_reader.proofs.Identifier.{nothing_there, short_identifier, long_identifier, no_identifier}
-use Rattle.yasna_reader.proofs.bytes.identifier.read_identifier.Goals as goal
+use Rattle.yasna_base.proofs.Identifier.{nothing_there, short_identifier, long_identifier, no_identifier}
+use Rattle.yasna_base.proofs.bytes.identifier.read_identifier.Goals as goal
 
 pub returns-in_default : goal.returns-in_default
 returns-in_default c = (tt, nothing_there c.args.s.now (empty_is c.args.s.now (c.in_default.ensures {u = tt}).cases))

@@ -1,6 +1,6 @@
 use Rattle.std.proofs.Common.{length}
-use Rattle.yasna_reader.proofs.Base128.{Scans}
-use Rattle.yasna_reader.proofs.bytes.base128.read_base128.Given as goal
+use Rattle.yasna_base.proofs.Base128.{Scans}
+use Rattle.yasna_base.proofs.bytes.base128.read_base128.Given as goal
 
 abbrev pub invariant-loop-byte : goal.invariant-loop-byte
 invariant-loop-byte l = Scans l.s l.number l.rest

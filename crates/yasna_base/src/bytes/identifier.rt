@@ -1,11 +1,10 @@
 //! Identifiers (X.690, 8.1.2).
 ghost use Rattle.std.specs.Prelude.{◌≡◌, ◌+◌, ◌*◌, ◌<◌};
-ghost use Rattle.yasna_base.specs.Identifier.{class_number, bit_number};
-ghost use Rattle.yasna_reader.specs.Identifier.{NumberAt, IdentifierAt};
+ghost use Rattle.yasna_base.specs.Identifier.{class_number, bit_number, NumberAt, IdentifierAt};
 
 use crate::bytes::base128::read_base128;
-use yasna_base::error::ASN1ErrorKind;
-use yasna_base::tag::{PCBit, Tag, TagClass};
+use crate::error::ASN1ErrorKind;
+use crate::tag::{PCBit, Tag, TagClass};
 
 // The class, the bit and the low five bits of an identifier's first byte.
 #[inline(always)]

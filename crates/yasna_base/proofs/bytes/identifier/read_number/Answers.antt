@@ -1,5 +1,5 @@
-use Rattle.yasna_reader.proofs.Base128.{too_small}
-use Rattle.yasna_reader.proofs.bytes.identifier.read_number.Goals as goal
+use Rattle.yasna_base.proofs.Base128.{too_small}
+use Rattle.yasna_base.proofs.bytes.identifier.read_number.Goals as goal
 
 pub returns-then-number-lt31 : goal.returns-then-number-lt31
 returns-then-number-lt31 c = (

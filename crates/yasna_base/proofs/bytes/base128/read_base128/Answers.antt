@@ -1,9 +1,9 @@
 use Rattle.std.proofs.Common.{◌≡◌, ◌∙◌, sym, subst, arith, ℕ, ◌∷◌}
 use Rattle.yasna_base.proofs.Lists.{empty_is}
 use Rattle.yasna_base.proofs.Digits.{all_bytes}
-use Rattle.yasna_reader.proofs.Base128.{zero_first, passes, cut_off, scans_start, scans_more, scans_found}
-use Rattle.yasna_reader.proofs.bytes.base128.read_base128.Goals as goal
-use Rattle.yasna_reader.proofs.bytes.base128.read_base128.Goals.{else-number-eq0-via-then-number-eq0+else-byte, else-number-eq0-via-else-number-eq0}
+use Rattle.yasna_base.proofs.Base128.{zero_first, passes, cut_off, scans_start, scans_more, scans_found}
+use Rattle.yasna_base.proofs.bytes.base128.read_base128.Goals as goal
+use Rattle.yasna_base.proofs.bytes.base128.read_base128.Goals.{else-number-eq0-via-then-number-eq0+else-byte, else-number-eq0-via-else-number-eq0}
 
 pub loop-byte-init : goal.loop-byte-init
 loop-byte-init c = scans_start c.args.s.now (all_bytes c.args.s.now (λ i. let f = c.type_inv.s i in omega arith))
