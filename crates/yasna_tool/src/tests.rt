@@ -1,12 +1,10 @@
-//! The program over memory: statuses and texts for rows of bytes, for arguments and for ends
-//! that fail.
-ghost use Rattle.std.specs.Prelude.{◌-◌, ◌^◌, ◌<◌, None};
+//! The program over memory: statuses and texts for rows of bytes and for arguments.
 
-use crate::ends::{Counted, Sink, Source};
+mod ends;
+
+use crate::ends::Counted;
 use crate::tool::tool;
 use std::alloc::{AllocError, Global};
-use std::io;
-use std::io::{Read, Write};
 use std::process::Abort;
 use std::test::Fail;
 
@@ -77,8 +75,6 @@ const OID: Wanted = Wanted {
 };
 
 const USAGE: &str = "usage: yasna_tool ber|der KIND\n";
-
-const DEVICE: &str = "io\n";
 
 /// Bytes, and what they give as a pair in each mode.
 #[derive(Clone, Copy)]
@@ -318,168 +314,5 @@ fn other_words(rt: HostRuntime) -> Result<(), Fail> {
         assert_eq!(rt; told.unread, TEN_TRUE.output.len(), "row {number}");
         assert_eq!(rt; told.output.len(), 0, "row {number}");
     }
-    Ok(())
-}
-
-/// Gives at most four bytes a pull, and fails once its pulls are used up.
-#[derive(Drop)]
-struct FailingSource {
-    rest: &'static [u8],
-    pulls: u8,
-    failures: u64,
-}
-
-impl Source for FailingSource {
-    ghost remaining = { λ _. None };
-
-    ghost failed = { λ s. s.failures };
-
-    fn pull(&mut self, buffer: &mut [u8]) -> io::Result<usize> {
-        let Some(pulls) = self.pulls.checked_sub(1) else {
-            self.failures = self.failures.saturating_add(1);
-            return Err(io::Error::other("no pull is left"));
-        };
-        self.pulls = pulls;
-        let room = buffer.len().min(4);
-        self.rest.read(&mut buffer[..room])
-    }
-
-    fn failures(&self) -> u64 {
-        self.failures
-    }
-}
-
-#[test]
-fn failed_read(rt: HostRuntime) -> Result<(), Fail> {
-    for pulls in 0..3 {
-        let words = strings(rt.alloc(), &["ber", "pair"])?;
-        let mut reader = FailingSource {
-            rest: TEN_TRUE.output,
-            pulls,
-            failures: 0,
-        };
-        let mut writer = Counted::new(Vec::new(rt.alloc()));
-        let mut errors = Vec::new(rt.alloc());
-        let status = tool(
-            rt.alloc(),
-            words.as_slice(),
-            &mut reader,
-            &mut writer,
-            &mut errors,
-        );
-        assert_eq!(rt; status, 3, "after {pulls} pulls");
-        assert_eq!(rt; errors.as_slice(), DEVICE.as_bytes(), "after {pulls} pulls");
-        assert_eq!(rt; writer.into_end().len(), 0, "after {pulls} pulls");
-        assert_eq!(rt; reader.failures(), 1, "after {pulls} pulls");
-    }
-    Ok(())
-}
-
-/// Takes bytes while it has room, and then fails.
-#[derive(Drop)]
-struct FailingSink {
-    room: usize,
-    fails_at_flush: bool,
-    failures: u64,
-}
-
-impl Sink for FailingSink {
-    ghost contents = { λ _. None };
-
-    ghost failed = { λ s. s.failures };
-
-    fn push(&mut self, buffer: &[u8]) -> io::Result<usize> {
-        let taken = buffer.len().min(self.room);
-        if taken == 0 && !buffer.is_empty() {
-            self.failures = self.failures.saturating_add(1);
-            return Err(io::Error::other("no room is left"));
-        }
-        self.room -= taken;
-        Ok(taken)
-    }
-
-    fn flush(&mut self) -> io::Result<()> {
-        if self.fails_at_flush {
-            self.failures = self.failures.saturating_add(1);
-            return Err(io::Error::other("no flush"));
-        }
-        Ok(())
-    }
-
-    fn failures(&self) -> u64 {
-        self.failures
-    }
-}
-
-/// What the program answers over `writer`: its status, and what it writes to standard error.
-fn told_over<W: Sink>(alloc: Global, writer: &mut W) -> Result<(u8, Vec<u8>), AllocError>
-    requires { W.failed writer.old < 2 ^ 64 - 1 }
-{
-    let words = strings(alloc, &["ber", "pair"])?;
-    let mut reader = Counted::new(TEN_TRUE.output);
-    let mut errors = Vec::new(alloc);
-    let status = tool(alloc, words.as_slice(), &mut reader, writer, &mut errors);
-    Ok((status, errors))
-}
-
-#[test]
-fn failed_write(rt: HostRuntime) -> Result<(), Fail> {
-    for (room, fails_at_flush) in [(0, false), (3, false), (8, true)] {
-        let mut writer = FailingSink {
-            room,
-            fails_at_flush,
-            failures: 0,
-        };
-        let (status, errors) = told_over(rt.alloc(), &mut writer)?;
-        assert_eq!(rt; status, 3, "with room for {room}");
-        assert_eq!(rt;
-            errors.as_slice(),
-            DEVICE.as_bytes(),
-            "with room for {room}"
-        );
-        assert_eq!(rt; writer.room, 0, "with room for {room}");
-        assert_eq!(rt; writer.failures(), 1, "with room for {room}");
-    }
-    Ok(())
-}
-
-// A slice takes nothing once it is full.
-#[test]
-fn nothing_taken(rt: HostRuntime) -> Result<(), Fail> {
-    let mut room = [0; 3];
-    let mut writer = Counted::new(&mut room[..]);
-    let (status, errors) = told_over(rt.alloc(), &mut writer)?;
-    assert_eq!(rt; status, 3);
-    assert_eq!(rt; errors.as_slice(), DEVICE.as_bytes());
-    assert_eq!(rt; writer.failures(), 1);
-    assert_eq!(rt; room, [48, 6, 2]);
-    Ok(())
-}
-
-/// Takes all bytes, and counts its flushes.
-#[derive(Drop)]
-struct Flushed {
-    flushes: u8,
-}
-
-impl Write for Flushed {
-    ghost contents = { λ _. None };
-
-    fn write(&mut self, buffer: &[u8]) -> io::Result<usize> {
-        Ok(buffer.len())
-    }
-
-    fn flush(&mut self) -> io::Result<()> {
-        self.flushes = self.flushes.saturating_add(1);
-        Ok(())
-    }
-}
-
-#[test]
-fn flushes_once(rt: HostRuntime) -> Result<(), Fail> {
-    let mut writer = Counted::new(Flushed { flushes: 0 });
-    let (status, _errors) = told_over(rt.alloc(), &mut writer)?;
-    assert_eq!(rt; status, 0);
-    assert_eq!(rt; writer.into_end().flushes, 1);
     Ok(())
 }
