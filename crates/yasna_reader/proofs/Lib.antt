@@ -22,6 +22,7 @@ pub mod SetListing
 pub mod SetRuns
 pub mod SetChoosing
 pub mod Tuples
+pub mod OptionalParts
 pub mod Ahead
 pub mod Listing
 pub mod Whole
