@@ -14,6 +14,7 @@ pub mod Enumerated
 pub mod Oid
 pub mod OidText
 pub mod Sequence
+pub mod Optional
 pub mod SequenceOf
 pub mod Choice
 pub mod Header

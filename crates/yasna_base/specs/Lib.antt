@@ -16,6 +16,7 @@ pub mod Oid
 pub mod Lending
 pub mod OidText
 pub mod Sequence
+pub mod Optional
 pub mod SequenceOf
 pub mod Choice
 pub mod Header

@@ -3,6 +3,7 @@
 mod composed;
 mod oid;
 mod public_key;
+mod records;
 mod sets;
 mod times;
 

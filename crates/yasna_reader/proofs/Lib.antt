@@ -21,6 +21,7 @@ pub mod SetRuns
 pub mod SetChoosing
 pub mod SetLaws
 pub mod Tuples
+pub mod OptionalParts
 pub mod Ahead
 pub mod Listing
 pub mod Whole

@@ -1,0 +1,207 @@
+-- The laws of a SEQUENCE of which parts may be left out: of its contents, which are read up to their end.
+use Rattle.std.proofs.Common.{◌≡◌, ℕ, ◌^◌, ◌<◌, ◌≤◌, List, [], ◌++◌, length, Option, Some, None, inl, inr, refl, ap, ap₂, ◌∙◌, sym, arith, append_assoc, subst}
+use Rattle.yasna_base.specs.declared.mode.BERMode.{BERMode}
+use Rattle.yasna_base.specs.declared.mode.BERMode.TheVariants.{Ber, Der}
+use Rattle.yasna_base.specs.Canonical.{IsCanonicalMode, HoldsForm, IsWritten}
+use Rattle.yasna_base.specs.Coding.{IsMeaning, IsCoding, IsContentsCoding}
+use Rattle.yasna_base.specs.Digits.{IsBytes}
+use Rattle.yasna_base.specs.Element.{Enclosed, AnyEnclosed}
+use Rattle.yasna_base.specs.Identifier.{AtEnd, nothing}
+use Rattle.yasna_base.specs.Optional.{OptionOf, AnyOption, SameOption, option_form, option_nest, option_can}
+use Rattle.yasna_base.specs.Sequence.{sequence_tag, PartOf, AnyPart, AnyNothing, SamePart}
+use Rattle.yasna_base.proofs.Choice.{StandApart}
+use Rattle.yasna_base.proofs.Coding.{along, enclosed}
+use Rattle.yasna_base.proofs.Identifier.{not_end}
+use Rattle.yasna_base.proofs.Lists.{append_same}
+use Rattle.yasna_base.proofs.Pieces.{starts_not_end}
+
+-- contents in Q that go up to an end never begin as members of S
+abbrev pub BeginsApart : (BERMode → ℕ → List ℕ → Type 0) → (BERMode → ℕ → List ℕ → Type 0) → Type 0
+BeginsApart S Q = (m : BERMode) (n k : ℕ) (b c r s : List ℕ) → AtEnd s → S m n b → Q m k c → b ++ r ≡ c ++ s → ⊥
+
+-- they don't where nothing follows
+pub apart_from_nothing : {A : Type 0} {E : A → A → Type 0} {B : BERMode → ℕ → A → List ℕ → Type 0} {S : BERMode → ℕ → List ℕ → Type 0} → IsCoding E B S →
+    BeginsApart S AnyNothing
+apart_from_nothing x m n k b c r s i p q e = starts_not_end b r s (x.opens m n b p) i (sym (e ∙ ap (λ z. z ++ s) q))
+
+-- nor where a part follows that never begins the same bytes
+pub apart_from_part : {S Q : BERMode → ℕ → List ℕ → Type 0} (R : BERMode → ℕ → List ℕ → Type 0) → StandApart S Q → BeginsApart S (AnyPart Q R)
+apart_from_part R apart m n k b c r s i p q e =
+    apart m n k b q.front r (q.rest ++ s) p q.here (e ∙ ap (λ z. z ++ s) q.joined ∙ append_assoc q.front q.rest s)
+
+-- nor where that part may be left out, and what follows it doesn't
+pub apart_from_option : {S Q R : BERMode → ℕ → List ℕ → Type 0} → StandApart S Q → BeginsApart S R → BeginsApart S (AnyPart (AnyOption Q) R)
+apart_from_option {S} {Q} {R} apart behind m n k b c r s i p q e = by_front q.here
+  where
+    by_front : AnyOption Q m k q.front → ⊥
+    by_front (inl x) = apart m n k b q.front r (q.rest ++ s) p x (e ∙ ap (λ z. z ++ s) q.joined ∙ append_assoc q.front q.rest s)
+    by_front (inr x) = behind m n k b q.rest r s i p q.more (e ∙ ap (λ z. z ++ s) (q.joined ∙ ap (λ z. z ++ q.rest) x))
+
+-- what follows two fronts that are the same is the same
+behind : (front x other y : List ℕ) → front ≡ other → front ++ x ≡ other ++ y → x ≡ y
+behind front x other y f e = append_same other x y (sym (ap (λ z. z ++ x) f) ∙ e)
+
+whole_of : (front rest r other more s b c : List ℕ) → b ≡ front ++ rest → c ≡ other ++ more → b ++ r ≡ c ++ s → front ++ (rest ++ r) ≡ other ++ (more ++ s)
+whole_of front rest r other more s b c f g e =
+    sym (append_assoc front rest r) ∙ sym (ap (λ z. z ++ r) f) ∙ e ∙ ap (λ z. z ++ s) g ∙ append_assoc other more s
+
+-- a part and contents behind it have one meaning, where the same bytes fall into them in one way
+parts_meaning : {A V : Type 0} {E : A → A → Type 0} {F : V → V → Type 0} {B : BERMode → ℕ → A → List ℕ → Type 0} {C : BERMode → ℕ → V → List ℕ → Type 0}
+    {S Q : BERMode → ℕ → List ℕ → Type 0} → IsMeaning E B S → IsMeaning F C Q →
+    ((m : BERMode) (n k : ℕ) (b : List ℕ) (p : AnyPart S Q m n b) (q : AnyPart S Q m k b) → (p.front ≡ q.front) × (p.rest ≡ q.rest)) →
+    IsMeaning (SamePart E F) (PartOf B C) (AnyPart S Q)
+parts_meaning {E} {F} {B} {C} {S} {Q} x y once = record {
+  equal = record {
+    reflexive = λ v. (x.equal.reflexive v.0, y.equal.reflexive v.1);
+    symmetric = λ v w e. (x.equal.symmetric v.0 w.0 e.0, y.equal.symmetric v.1 w.1 e.1);
+    transitive = λ u v w d e. (x.equal.transitive u.0 v.0 w.0 d.0 e.0, y.equal.transitive u.1 v.1 w.1 d.1 e.1);
+  };
+  among = among;
+  exact = λ m n k v w b p q.
+      let same = once m n k b (among m n v b p) (among m k w b q) in (
+        x.exact m n k v.0 w.0 q.front (subst (λ c. B m n v.0 c) same.0 p.here) q.here,
+        y.exact m n k v.1 w.1 q.rest (subst (λ c. C m n v.1 c) same.1 p.more) q.more,
+      );
+  deeper = λ m n k v c below p. record {
+    front = p.front;
+    rest = p.rest;
+    joined = p.joined;
+    here = x.deeper m n k v.0 p.front below p.here;
+    more = y.deeper m n k v.1 p.rest below p.more;
+  };
+}
+  where
+    among : (m : BERMode) (n : ℕ) (v : _) (b : List ℕ) → PartOf B C m n v b → AnyPart S Q m n b
+    among m n v b p = record {
+      front = p.front;
+      rest = p.rest;
+      joined = p.joined;
+      here = x.among m n v.0 p.front p.here;
+      more = y.among m n v.1 p.rest p.more;
+    }
+
+-- a part and contents behind it keep the laws of contents, where the same bytes fall into them in one way
+parts_coding : {A V : Type 0} {E : A → A → Type 0} {F : V → V → Type 0} {B : BERMode → ℕ → A → List ℕ → Type 0} {C : BERMode → ℕ → V → List ℕ → Type 0}
+    {S Q : BERMode → ℕ → List ℕ → Type 0} → IsMeaning E B S → IsMeaning F C Q →
+    ((m : BERMode) (n k : ℕ) (b c r s : List ℕ) → AtEnd r → AtEnd s → (p : AnyPart S Q m n b) (q : AnyPart S Q m k c) → b ++ r ≡ c ++ s →
+    (p.front ≡ q.front) × (p.rest ≡ q.rest)) → IsContentsCoding (SamePart E F) (PartOf B C) (AnyPart S Q)
+parts_coding x y once = record {
+  meaning = parts_meaning x y (λ m n k b p q. once m n k b b [] [] (nothing refl) (nothing refl) p q refl);
+  ends = λ m n k b c r s i j p q e.
+      let same = once m n k b c r s i j p q e in
+      p.joined ∙ ap₂ (λ y z. y ++ z) same.0 same.1 ∙ sym q.joined;
+}
+
+module _ {A V : Type 0} {E : A → A → Type 0} {F : V → V → Type 0} {B : BERMode → ℕ → A → List ℕ → Type 0} {C : BERMode → ℕ → V → List ℕ → Type 0}
+    {S Q : BERMode → ℕ → List ℕ → Type 0} (x : IsCoding E B S) (y : IsContentsCoding F C Q) where
+  rests_same : (m : BERMode) (n k : ℕ) (front rest r other more s : List ℕ) → AtEnd r → AtEnd s → Q m n rest → Q m k more → front ≡ other →
+      front ++ (rest ++ r) ≡ other ++ (more ++ s) → (front ≡ other) × (rest ≡ more)
+  rests_same m n k front rest r other more s i j p q f e = (f, y.ends m n k rest more r s i j p q (behind front (rest ++ r) other (more ++ s) f e))
+
+  -- a part and contents behind it keep the laws of contents
+  pub part_before : IsContentsCoding (SamePart E F) (PartOf B C) (AnyPart S Q)
+  part_before = parts_coding x.meaning y.meaning (λ m n k b c r s i j p q e.
+      let whole = whole_of p.front p.rest r q.front q.rest s b c p.joined q.joined e in
+      rests_same m n k p.front p.rest r q.front q.rest s i j p.more q.more
+      (x.alone m n k p.front q.front (p.rest ++ r) (q.rest ++ s) p.here q.here whole) whole)
+
+module _ {A : Type 0} {E : A → A → Type 0} {B : BERMode → ℕ → A → List ℕ → Type 0} {S : BERMode → ℕ → List ℕ → Type 0} (x : IsCoding E B S) where
+  option_reflexive : (v : Option A) → SameOption E v v
+  option_reflexive (Some v) = x.meaning.equal.reflexive v
+  option_reflexive None = tt
+
+  option_symmetric : (v w : Option A) → SameOption E v w → SameOption E w v
+  option_symmetric (Some v) (Some w) e = x.meaning.equal.symmetric v w e
+  option_symmetric (Some v) None e = absurd e
+  option_symmetric None (Some w) e = absurd e
+  option_symmetric None None e = tt
+
+  option_transitive : (u v w : Option A) → SameOption E u v → SameOption E v w → SameOption E u w
+  option_transitive (Some u) (Some v) (Some w) d e = x.meaning.equal.transitive u v w d e
+  option_transitive (Some u) (Some v) None d e = absurd e
+  option_transitive (Some u) None w d e = absurd d
+  option_transitive None (Some v) w d e = absurd d
+  option_transitive None None w d e = e
+
+  option_among : (m : BERMode) (n : ℕ) (v : Option A) (b : List ℕ) → OptionOf B m n v b → AnyOption S m n b
+  option_among m n (Some v) b p = inl (x.meaning.among m n v b p)
+  option_among m n None b p = inr p
+
+  some_not_empty : (m : BERMode) (n : ℕ) (v : A) (b : List ℕ) → B m n v b → b ≡ [] → ⊥
+  some_not_empty m n v b p e = starts_not_end b [] [] (x.opens m n b (x.meaning.among m n v b p)) (nothing refl) (sym (ap (λ z. z ++ []) e))
+
+  option_exact : (m : BERMode) (n k : ℕ) (v w : Option A) (b : List ℕ) → OptionOf B m n v b → OptionOf B m k w b → SameOption E v w
+  option_exact m n k (Some v) (Some w) b p q = x.meaning.exact m n k v w b p q
+  option_exact m n k (Some v) None b p q = some_not_empty m n v b p q
+  option_exact m n k None (Some w) b p q = some_not_empty m k w b q p
+  option_exact m n k None None b p q = tt
+
+  option_deeper : (m : BERMode) (n k : ℕ) (v : Option A) (b : List ℕ) → n ≤ k → OptionOf B m n v b → OptionOf B m k v b
+  option_deeper m n k (Some v) b below p = x.meaning.deeper m n k v b below p
+  option_deeper m n k None b below p = p
+
+  option_meaning : IsMeaning (SameOption E) (OptionOf B) (AnyOption S)
+  option_meaning = record {
+    equal = record { reflexive = option_reflexive; symmetric = option_symmetric; transitive = option_transitive };
+    among = option_among;
+    exact = option_exact;
+    deeper = option_deeper;
+  }
+
+module _ {A V : Type 0} {E : A → A → Type 0} {F : V → V → Type 0} {B : BERMode → ℕ → A → List ℕ → Type 0} {C : BERMode → ℕ → V → List ℕ → Type 0}
+    {S Q : BERMode → ℕ → List ℕ → Type 0} (x : IsCoding E B S) (apart : BeginsApart S Q) (y : IsContentsCoding F C Q) where
+  fronts_same : (m : BERMode) (n k : ℕ) (front rest r other more s : List ℕ) → AtEnd r → AtEnd s → AnyOption S m n front → AnyOption S m k other →
+      Q m n rest → Q m k more → front ++ (rest ++ r) ≡ other ++ (more ++ s) → front ≡ other
+  fronts_same m n k front rest r other more s i j (inl f) (inl g) p q e = x.alone m n k front other (rest ++ r) (more ++ s) f g e
+  fronts_same m n k front rest r other more s i j (inl f) (inr g) p q e =
+      absurd (apart m n k front more (rest ++ r) s j f q (e ∙ ap (λ z. z ++ (more ++ s)) g))
+  fronts_same m n k front rest r other more s i j (inr f) (inl g) p q e =
+      absurd (apart m k n other rest (more ++ s) r i g p (sym e ∙ ap (λ z. z ++ (rest ++ r)) f))
+  fronts_same m n k front rest r other more s i j (inr f) (inr g) p q e = f ∙ sym g
+
+  -- a part that may be left out, and contents behind it that never begin as it does, keep the laws of contents
+  pub option_before : IsContentsCoding (SamePart (SameOption E) F) (PartOf (OptionOf B) C) (AnyPart (AnyOption S) Q)
+  option_before = parts_coding (option_meaning x) y.meaning (λ m n k b c r s i j p q e.
+      let whole = whole_of p.front p.rest r q.front q.rest s b c p.joined q.joined e in
+      rests_same x y m n k p.front p.rest r q.front q.rest s i j p.more q.more
+      (fronts_same m n k p.front p.rest r q.front q.rest s i j p.here q.here p.more q.more whole) whole)
+
+-- a type whose values stand for contents keeps the laws of reading as a SEQUENCE
+pub sequence : {U A : Type 0} {E : A → A → Type 0} {C : BERMode → ℕ → A → List ℕ → Type 0} {S : BERMode → ℕ → List ℕ → Type 0} (f : U → A) →
+    IsContentsCoding E C S → IsCoding (λ v w. E (f v) (f w)) (λ m n v b. Enclosed C sequence_tag m n (f v) b) (AnyEnclosed S sequence_tag)
+sequence f x = along f (enclosed sequence_tag (not_end 16 (λ e. omega arith)) x)
+
+module _ {A : Type 0} {E : A → A → Type 0} {B : BERMode → ℕ → A → List ℕ → Type 0} {form : BERMode → A → List ℕ} {nest : BERMode → A → ℕ}
+    {Can : A → Type 0} (x : IsWritten E B form nest Can) where
+  option_bytes : (m : BERMode) (v : Option A) → option_can Can v → length (option_form form m v) < 2 ^ 64 → IsBytes (option_form form m v)
+  option_bytes m (Some v) can short = x.has.in_bytes m v can short
+  option_bytes m None can short = tt
+
+  option_holds : (m o : BERMode) (n : ℕ) (v : Option A) → HoldsForm m o → option_can Can v → option_nest nest m v ≤ n →
+      length (option_form form m v) < 2 ^ 64 → OptionOf B o n v (option_form form m v)
+  option_holds m o n (Some v) h can level short = x.has.holds m o n v h can level short
+  option_holds m o n None h can level short = refl
+
+  option_only : (m : BERMode) (n : ℕ) (v : Option A) (b : List ℕ) → IsCanonicalMode m → OptionOf B m n v b →
+      (b ≡ option_form form m v) × option_can Can v × (option_nest nest m v ≤ n)
+  option_only m n (Some v) b h p = x.has.only m n v b h p
+  option_only m n None b h p = (p, tt, omega arith)
+
+  option_any : (n : ℕ) (v : Option A) (b : List ℕ) → OptionOf B Ber n v b → option_can Can v × (option_nest nest Der v ≤ n)
+  option_any n (Some v) b p = x.any n v b p
+  option_any n None b p = (tt, omega arith)
+
+  option_alike : (m : BERMode) (v w : Option A) → SameOption E v w → (option_form form m v ≡ option_form form m w) × (option_can Can v → option_can Can w) ×
+      (option_nest nest m v ≡ option_nest nest m w)
+  option_alike m (Some v) (Some w) e = x.same m v w e
+  option_alike m (Some v) None e = absurd e
+  option_alike m None (Some w) e = absurd e
+  option_alike m None None e = (refl, λ can. tt, refl)
+
+  -- a part that may be left out keeps the laws of writing
+  pub option_written : IsWritten (SameOption E) (OptionOf B) (option_form form) (option_nest nest) (option_can Can)
+  option_written = record {
+    has = record { in_bytes = option_bytes; holds = option_holds; only = option_only };
+    any = option_any;
+    same = option_alike;
+  }

@@ -1,0 +1,33 @@
+-- OPTIONAL: a part of a SEQUENCE that may be left out (X.690, 8.9.3).
+use Rattle.std.specs.Prelude.{◌≡◌, ℕ, List, [], Option, Some, None, ◌⊎◌}
+use Rattle.yasna_base.specs.declared.mode.BERMode.{BERMode}
+
+-- the part encodes a value, or it is left out and there is none
+abbrev pub OptionOf : {A : Type 0} → (BERMode → ℕ → A → List ℕ → Type 0) → BERMode → ℕ → Option A → List ℕ → Type 0
+OptionOf B m n (Some v) b = B m n v b
+OptionOf B m n None b = b ≡ []
+
+-- the same of bytes alone
+abbrev pub AnyOption : (BERMode → ℕ → List ℕ → Type 0) → BERMode → ℕ → List ℕ → Type 0
+AnyOption S m n b = S m n b ⊎ (b ≡ [])
+
+-- values are equal where both are there and equal, or neither is
+abbrev pub SameOption : {A : Type 0} → (A → A → Type 0) → Option A → Option A → Type 0
+SameOption E (Some v) (Some w) = E v w
+SameOption E (Some v) None = ⊥
+SameOption E None (Some w) = ⊥
+SameOption E None None = Unit {0}
+
+-- the form of the value, or nothing
+abbrev pub option_form : {A : Type 0} → (BERMode → A → List ℕ) → BERMode → Option A → List ℕ
+option_form f m (Some v) = f m v
+option_form f m None = []
+
+abbrev pub option_nest : {A : Type 0} → (BERMode → A → ℕ) → BERMode → Option A → ℕ
+option_nest f m (Some v) = f m v
+option_nest f m None = 0
+
+-- what is left out can always be written
+abbrev pub option_can : {A : Type 0} → (A → Type 0) → Option A → Type 0
+option_can c (Some v) = c v
+option_can c None = Unit {0}
