@@ -60,6 +60,25 @@ rises_pairs lt (x ∷ xs) f = (
   rises_pairs lt xs (λ i j d h k. f (suc i) (suc j) d (omega (arith, h)) (omega (arith, k))),
 )
 
+-- and so it isn't below the one before it
+sorted_rises : {X : Type 0} (lt : X → X → Bool) (xs : List X) → Rises lt xs → IsSortedBy lt xs
+sorted_rises lt [] r k d low h = absurd (omega (arith, h))
+sorted_rises lt (x ∷ []) r k d low h = absurd (omega (arith, h))
+sorted_rises lt (x ∷ y ∷ ys) r zero d low h = r.0.0
+sorted_rises lt (x ∷ y ∷ ys) r (suc k) d low h =
+    let e : suc k + 1 ≡ suc (k + 1) = omega arith in
+    ap (λ i. lt (get_or (x ∷ y ∷ ys) i d) (get_or (y ∷ ys) k d)) e ∙ sorted_rises lt (y ∷ ys) r.1 k d (omega arith) (omega (arith, h))
+
+-- images rise by a test that fails wherever the items' own test fails
+pub rises_map : {X Y : Type 0} (f : X → Y) (lt : X → X → Bool) (less : Y → Y → Bool) → ((x y : X) → lt x y ≡ false → less (f x) (f y) ≡ false) →
+    (xs : List X) → Rises lt xs → Rises less (map f xs)
+rises_map f lt less g [] r = tt
+rises_map {X} f lt less g (x ∷ xs) r = (images xs r.0, rises_map f lt less g xs r.1)
+  where
+    images : (ys : List X) → AllByRecursion (λ y. lt y x ≡ false) ys → AllByRecursion (λ z. less z (f x) ≡ false) (map f ys)
+    images [] a = tt
+    images (y ∷ ys) a = (g y x a.0, images ys a.1)
+
 -- what holds of each item that a list has
 all_contained : {X : Type 0} (P : X → Type 0) (xs : List X) → ((x : X) → Contains xs x → P x) → AllByRecursion P xs
 all_contained P [] f = tt
