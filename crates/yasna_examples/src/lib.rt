@@ -5,12 +5,14 @@
 //! | Module | Holds |
 //! |---|---|
 //! | `choice` | a list of a CHOICE, read by the next tag |
+//! | `guide` | the pieces of code of README.md and docs/GUIDE.md |
 //! | `known` | calls whose closures are known: their exact results follow from the contracts of `yasna` |
 //! | `records` | types of one's own of three, five and seven parts, each read and written as a tuple |
 //! | `third_party` | types of one's own: one that is read and written as a tuple, three step by step |
 #![tactic(auto)]
 
 mod choice;
+mod guide;
 mod known;
 mod records;
 #[cfg(test)]

@@ -1,6 +1,7 @@
 //! Each example once, with ample memory.
 
 mod composed;
+mod guide;
 mod oid;
 mod public_key;
 mod records;

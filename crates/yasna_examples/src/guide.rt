@@ -1,0 +1,17 @@
+//! The pieces of code of README.md and docs/GUIDE.md, which stand there word for word: `ci/guide.sh` compares them.
+//!
+//! A file is a section. Its functions have no contract: they are proved safe, and the tests run them on real bytes.
+
+pub mod any;
+pub mod choice;
+pub mod errors;
+pub mod first;
+pub mod lists;
+pub mod numbers;
+pub mod optional;
+pub mod sequence;
+pub mod sets;
+pub mod strings;
+pub mod tagged;
+pub mod times;
+pub mod whole;

@@ -1,0 +1,310 @@
+//! The pieces of README.md and docs/GUIDE.md, each once on bytes.
+
+use crate::guide::any::{read_algorithm, read_signed, write_algorithm};
+use crate::guide::choice::{Name, read_name, write_name};
+use crate::guide::errors::{Id, StoreError, entries_to_der, number_or_zero, read_id, reason};
+use crate::guide::first::{decode_report, encode_report};
+use crate::guide::lists::{highest, read_names, write_names};
+use crate::guide::numbers::{
+    Status, read_key, read_status, write_key, write_signature, write_status,
+};
+use crate::guide::optional::{
+    BasicConstraints, read_constraints, read_person, write_constraints, write_person,
+};
+use crate::guide::sequence::{Point, point_from_ber, point_from_der, point_to_der};
+use crate::guide::sets::{read_setting, read_values, write_values};
+use crate::guide::strings::{read_directory_string, read_ldap_string, write_directory_string};
+use crate::guide::tagged::{read_accuracy, read_encrypted, write_accuracy, write_encrypted};
+use crate::guide::times::{Time, read_time, time_of_text, write_time};
+use crate::guide::whole::{read_table, write_flag};
+use std::process::Abort;
+use std::test::Fail;
+use yasna::{ASN1Error, ASN1ErrorKind, ASN1Result, construct_der, parse_ber, parse_der};
+
+fn kind_of<T: Drop>(answer: ASN1Result<T>) -> Option<ASN1ErrorKind> {
+    answer.err().map(|error| error.kind())
+}
+
+#[test]
+fn reports(rt: HostRuntime) -> Result<(), Fail> {
+    let alloc = rt.alloc();
+    for form in [
+        [48, 6, 48, 4, 2, 2, 255, 127].as_slice(),
+        [48, 7, 48, 0, 160, 3, 2, 1, 90].as_slice(),
+    ] {
+        let report = decode_report(alloc, form)?;
+        assert_eq!(rt; report.readings.is_empty(), report.battery.is_some());
+        assert_eq!(rt; encode_report(alloc, &report)?.as_slice(), form);
+    }
+    Ok(())
+}
+
+#[test]
+fn points(rt: HostRuntime) -> Result<(), Fail> {
+    let alloc = rt.alloc();
+    let form = [48, 7, 2, 1, 10, 2, 2, 255, 127];
+    let bytes = point_to_der(alloc, Point { x: 10, y: -129 })?;
+    assert_eq!(rt; bytes.as_slice(), form.as_slice());
+    let point = point_from_der(alloc, &form)?;
+    assert_eq!(rt; (point.x, point.y), (10, -129));
+    let indefinite = [48, 128, 2, 1, 10, 2, 2, 255, 127, 0, 0];
+    let point = point_from_ber(alloc, &indefinite)?;
+    assert_eq!(rt; (point.x, point.y), (10, -129));
+    let refused = point_from_der(alloc, &indefinite);
+    assert_eq!(rt; kind_of(refused), Some(ASN1ErrorKind::Invalid));
+    Ok(())
+}
+
+#[test]
+fn values_as_a_whole(rt: HostRuntime) -> Result<(), Fail> {
+    let alloc = rt.alloc();
+    let table = read_table(alloc, &[48, 128, 48, 6, 12, 1, 97, 1, 1, 1, 0, 0])?;
+    let [(name, flag)] = table.as_slice() else {
+        assert!(rt; false, "one row");
+        return Ok(());
+    };
+    assert_eq!(rt; name.as_str(), "a");
+    assert!(rt; *flag);
+    let bytes = write_flag(alloc, "a", true)?;
+    assert_eq!(rt; bytes.as_slice(), [48, 6, 12, 1, 97, 1, 1, 255].as_slice());
+    Ok(())
+}
+
+#[test]
+fn options(rt: HostRuntime) -> Result<(), Fail> {
+    let alloc = rt.alloc();
+    let form = [48, 6, 12, 1, 97, 2, 1, 10];
+    let person = parse_der(alloc, &form, |reader| read_person(reader))?;
+    assert_eq!(rt; person.age, Some(10));
+    let written = construct_der(alloc, |writer| write_person(&person, writer))?;
+    assert_eq!(rt; written.as_slice(), form.as_slice());
+    let ageless = [48, 3, 12, 1, 97];
+    let person = parse_der(alloc, &ageless, |reader| read_person(reader))?;
+    assert_eq!(rt; person.age, None);
+    let written = construct_der(alloc, |writer| write_person(&person, writer))?;
+    assert_eq!(rt; written.as_slice(), ageless.as_slice());
+    // an age that is there and broken isn't taken for none
+    let broken = parse_der(
+        alloc,
+        &[48, 6, 12, 1, 97, 2, 1],
+        |reader| read_person(reader),
+    );
+    assert_eq!(rt; kind_of(broken), Some(ASN1ErrorKind::Eof));
+    Ok(())
+}
+
+#[test]
+fn defaults(rt: HostRuntime) -> Result<(), Fail> {
+    let alloc = rt.alloc();
+    for (form, is_authority, path_length) in [
+        ([48, 0].as_slice(), false, None),
+        ([48, 6, 1, 1, 255, 2, 1, 3].as_slice(), true, Some(3)),
+    ] {
+        let read = parse_der(alloc, form, |reader| read_constraints(reader))?;
+        assert_eq!(rt; read.is_authority, is_authority);
+        assert_eq!(rt; read.path_length, path_length);
+        let written = construct_der(alloc, |writer| {
+            write_constraints(
+                BasicConstraints {
+                    is_authority,
+                    path_length,
+                },
+                writer,
+            )
+        })?;
+        assert_eq!(rt; written.as_slice(), form);
+    }
+    let said = [48, 3, 1, 1, 0];
+    let read = parse_ber(alloc, &said, |reader| read_constraints(reader))?;
+    assert!(rt; !read.is_authority);
+    let refused = parse_der(alloc, &said, |reader| read_constraints(reader));
+    assert_eq!(rt; kind_of(refused), Some(ASN1ErrorKind::Invalid));
+    Ok(())
+}
+
+#[test]
+fn choices(rt: HostRuntime) -> Result<(), Fail> {
+    let alloc = rt.alloc();
+    for form in [
+        [129, 3, 97, 64, 98].as_slice(),
+        [130, 3, 97, 46, 98].as_slice(),
+        [135, 4, 127, 0, 0, 1].as_slice(),
+    ] {
+        let name = parse_der(alloc, form, |reader| read_name(reader))?;
+        let written = construct_der(alloc, |writer| write_name(&name, writer))?;
+        assert_eq!(rt; written.as_slice(), form);
+    }
+    let other = parse_der(alloc, &[136, 1, 42], |reader| read_name(reader));
+    assert_eq!(rt; kind_of(other), Some(ASN1ErrorKind::Invalid));
+    let name = Name::Mail("é".to_string(alloc)?);
+    let refused = construct_der(alloc, |writer| write_name(&name, writer));
+    assert_eq!(rt; kind_of(refused), Some(ASN1ErrorKind::Invalid));
+    Ok(())
+}
+
+#[test]
+fn explicit_tags(rt: HostRuntime) -> Result<(), Fail> {
+    let alloc = rt.alloc();
+    for form in [
+        [48, 10, 160, 3, 2, 1, 18, 162, 3, 4, 1, 7].as_slice(),
+        [48, 15, 160, 3, 2, 1, 18, 161, 3, 2, 1, 5, 162, 3, 4, 1, 7].as_slice(),
+    ] {
+        let data = parse_der(alloc, form, |reader| read_encrypted(reader))?;
+        assert_eq!(rt; data.etype, 18);
+        assert_eq!(rt; data.cipher.as_slice(), [7].as_slice());
+        let written = construct_der(alloc, |writer| write_encrypted(&data, writer))?;
+        assert_eq!(rt; written.as_slice(), form);
+    }
+    Ok(())
+}
+
+#[test]
+fn implicit_tags(rt: HostRuntime) -> Result<(), Fail> {
+    let alloc = rt.alloc();
+    for (form, seconds, micros) in [
+        ([48, 3, 2, 1, 60].as_slice(), Some(60), None),
+        (
+            [48, 7, 128, 1, 1, 129, 2, 1, 244].as_slice(),
+            None,
+            Some(500),
+        ),
+    ] {
+        let accuracy = parse_der(alloc, form, |reader| read_accuracy(reader))?;
+        assert_eq!(rt; accuracy.seconds, seconds);
+        assert_eq!(rt; accuracy.micros, micros);
+        let written = construct_der(alloc, |writer| write_accuracy(accuracy, writer))?;
+        assert_eq!(rt; written.as_slice(), form);
+    }
+    Ok(())
+}
+
+#[test]
+fn lists(rt: HostRuntime) -> Result<(), Fail> {
+    let alloc = rt.alloc();
+    let form = [48, 7, 12, 1, 97, 12, 2, 98, 99];
+    let names = parse_der(alloc, &form, |reader| read_names(reader))?;
+    assert_eq!(rt; names.len(), 2);
+    let written = construct_der(alloc, |writer| write_names(&names, writer))?;
+    assert_eq!(rt; written.as_slice(), form.as_slice());
+    let numbers = [48, 9, 2, 1, 255, 2, 1, 7, 2, 1, 3];
+    let found = parse_der(alloc, &numbers, |reader| highest(reader))?;
+    assert_eq!(rt; found, Some(7));
+    Ok(())
+}
+
+#[test]
+fn sets(rt: HostRuntime) -> Result<(), Fail> {
+    let alloc = rt.alloc();
+    let setting = parse_ber(
+        alloc,
+        &[49, 6, 2, 1, 10, 1, 1, 255],
+        |reader| read_setting(reader),
+    )?;
+    assert_eq!(rt; setting.number, 10);
+    assert!(rt; setting.enabled);
+    let ascending = [49, 7, 4, 1, 98, 4, 2, 97, 97];
+    let values = parse_ber(
+        alloc,
+        &[49, 7, 4, 2, 97, 97, 4, 1, 98],
+        |reader| read_values(reader),
+    )?;
+    let written = construct_der(alloc, |writer| write_values(&values, writer))?;
+    assert_eq!(rt; written.as_slice(), ascending.as_slice());
+    Ok(())
+}
+
+#[test]
+fn raw_elements(rt: HostRuntime) -> Result<(), Fail> {
+    let alloc = rt.alloc();
+    for form in [
+        [48, 5, 6, 3, 43, 101, 112].as_slice(),
+        [48, 13, 6, 9, 42, 134, 72, 134, 247, 13, 1, 1, 1, 5, 0].as_slice(),
+    ] {
+        let algorithm = parse_der(alloc, form, |reader| read_algorithm(reader))?;
+        let written = construct_der(alloc, |writer| write_algorithm(&algorithm, writer))?;
+        assert_eq!(rt; written.as_slice(), form);
+    }
+    let signed = [48, 9, 48, 3, 2, 1, 10, 3, 2, 0, 7];
+    let signed = parse_der(alloc, &signed, |reader| read_signed(reader))?;
+    assert_eq!(rt; signed.serial, 10);
+    assert_eq!(rt; signed.signed_bytes, [48, 3, 2, 1, 10].as_slice());
+    assert_eq!(rt; signed.signature.as_slice(), [7].as_slice());
+    Ok(())
+}
+
+#[test]
+fn strings(rt: HostRuntime) -> Result<(), Fail> {
+    let alloc = rt.alloc();
+    for form in [[19, 2, 97, 98].as_slice(), [12, 2, 195, 169].as_slice()] {
+        let text = parse_der(alloc, form, |reader| read_directory_string(reader))?;
+        let written = construct_der(alloc, |writer| write_directory_string(&text, writer))?;
+        assert_eq!(rt; written.as_slice(), form);
+    }
+    let text = parse_ber(alloc, &[4, 2, 195, 169], |reader| read_ldap_string(reader))?;
+    assert_eq!(rt; text.as_str(), "é");
+    Ok(())
+}
+
+#[test]
+fn times(rt: HostRuntime) -> Result<(), Fail> {
+    let alloc = rt.alloc();
+    for (text, tag) in [("820102120000Z", 23), ("19820102120000.5Z", 24)] {
+        let Some(time) = time_of_text(alloc, text)? else {
+            assert!(rt; false, "no time");
+            return Ok(());
+        };
+        let written = construct_der(alloc, |writer| write_time(&time, writer))?;
+        assert_eq!(rt; written.first(), Some(&tag));
+        assert_eq!(rt; written.get(2..), Some(text.as_bytes()));
+        let read = parse_der(alloc, &written, |reader| read_time(reader))?;
+        assert_eq!(rt; matches!(read, Time::Utc(_)), tag == 23);
+    }
+    assert!(rt; time_of_text(alloc, "820132120000Z")?.is_none());
+    Ok(())
+}
+
+#[test]
+fn numbers(rt: HostRuntime) -> Result<(), Fail> {
+    let alloc = rt.alloc();
+    let malformed = parse_der(alloc, &[10, 1, 1], |reader| read_status(reader))?;
+    assert!(rt; matches!(malformed, Status::Malformed));
+    let written = construct_der(alloc, |writer| write_status(malformed, writer))?;
+    assert_eq!(rt; written.as_slice(), [10, 1, 1].as_slice());
+    let unknown = parse_der(alloc, &[10, 1, 2], |reader| read_status(reader));
+    assert_eq!(rt; kind_of(unknown), Some(ASN1ErrorKind::Invalid));
+    let form = [48, 9, 2, 2, 0, 255, 2, 3, 1, 0, 1];
+    let key = parse_der(alloc, &form, |reader| read_key(reader))?;
+    assert_eq!(rt; key.modulus.as_slice(), [0, 255].as_slice());
+    assert_eq!(rt; key.exponent, 65537);
+    let written = construct_der(alloc, |writer| write_key(&key, writer))?;
+    assert_eq!(rt; written.as_slice(), form.as_slice());
+    let signature = construct_der(alloc, |writer| write_signature(&[7, 9], writer))?;
+    assert_eq!(rt; signature.as_slice(), [3, 3, 0, 7, 9].as_slice());
+    Ok(())
+}
+
+#[test]
+fn errors(rt: HostRuntime) -> Result<(), Fail> {
+    let alloc = rt.alloc();
+    let cut = ASN1Error::new(ASN1ErrorKind::Eof);
+    assert_eq!(rt; reason(cut), "an element is cut off or missing");
+    let number = parse_der(alloc, &[2, 1, 7], |reader| read_id(reader))?;
+    assert!(rt; matches!(number, Id::Number(7)));
+    let name = parse_der(alloc, &[12, 1, 97], |reader| read_id(reader))?;
+    assert!(rt; matches!(name, Id::Name(_)));
+    let broken = parse_der(alloc, &[2, 2, 0, 7], |reader| read_id(reader));
+    assert_eq!(rt; kind_of(broken), Some(ASN1ErrorKind::Invalid));
+    assert_eq!(rt; number_or_zero(alloc, &[48, 3, 2, 1, 7])?, 7);
+    assert_eq!(rt; number_or_zero(alloc, &[48, 0])?, 0);
+    let kept = number_or_zero(alloc, &[48, 4, 2, 2, 0, 7]);
+    assert_eq!(rt; kind_of(kept), Some(ASN1ErrorKind::Invalid));
+    let store = [5, 6];
+    let written = entries_to_der(alloc, &store, &[1]);
+    assert_eq!(rt;
+        written.ok().as_ref().map(|bytes| bytes.as_slice()),
+        Some([48, 3, 2, 1, 6].as_slice())
+    );
+    let refused = entries_to_der(alloc, &store, &[2]);
+    assert!(rt; matches!(refused, Err(StoreError::NoSuchEntry)));
+    Ok(())
+}
