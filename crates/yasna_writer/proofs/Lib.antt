@@ -8,5 +8,6 @@ pub mod Padding
 pub mod Primitives
 pub mod Sequences
 pub mod Sets
+pub mod SetParts
 pub mod Tagging
 pub mod Without

@@ -3,6 +3,8 @@ use Rattle.std.specs.Prelude.{ℕ, List, [], ◌∷◌, Bool, true, false, map, 
 use Rattle.std.specs.Global.{Global}
 use Rattle.yasna_base.specs.declared.error.ASN1Error.{ASN1Error}
 use Rattle.yasna_base.specs.declared.mode.BERMode.{BERMode}
+use Rattle.yasna_base.specs.Set.{SetPart}
+use Rattle.yasna_writer.specs.declared.tagged_part.TaggedPart.{TaggedPart}
 
 -- the bytes of each part, the canonical mode of what is written, and the failure that later calls answer
 pub record WrittenParts : Type 0 where
@@ -21,3 +23,10 @@ bytes_each vs = map (λ (v : Vec ℕ Global). v.items) vs
 abbrev pub last_part : Bool → List ℕ → List (List ℕ)
 last_part false b = []
 last_part true b = b ∷ []
+
+-- a part with its tag, as the contents of a SET are defined by it
+abbrev pub part_of : TaggedPart → SetPart
+part_of p = record { tag = p.tag; bytes = p.bytes.items }
+
+abbrev pub parts_of : List TaggedPart → List SetPart
+parts_of ps = map part_of ps

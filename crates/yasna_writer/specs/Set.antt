@@ -1,4 +1,5 @@
 -- What a call does that writes a set around the parts that a closure writes, and what the closure is lent.
+use Rattle.std.specs.List.{AllByRecursion}
 use Rattle.std.specs.Prelude.{◌≡◌, ℕ, List, [], ◌∷◌, ◌++◌, ◌⊎◌, Bool, Vec, Option, Some, None, Result, MatchOption, MatchResult}
 use Rattle.std.specs.Borrow.{Lends, MutBor, Fml}
 use Rattle.std.specs.Fn.{Once, FnOnceReturnsAtMut}
@@ -8,8 +9,12 @@ use Rattle.yasna_base.specs.declared.error.ASN1ErrorKind.TheVariants.{OutOfMemor
 use Rattle.yasna_base.specs.declared.mode.BERMode.{BERMode}
 use Rattle.yasna_base.specs.declared.mode.BERMode.TheVariants.{Der}
 use Rattle.yasna_base.specs.Error.{kind_of}
+use Rattle.yasna_base.specs.Set.{SetPart, HasItsTag, parts_bytes, SetOfContents, SetContents}
 use Rattle.yasna_writer.specs.Sequence.{AnswersKept, AnswersOnly}
-use Rattle.yasna_writer.specs.Parts.{WrittenParts, no_parts, bytes_each, last_part}
+use Rattle.yasna_writer.specs.declared.set.PartOrder.{PartOrder}
+use Rattle.yasna_writer.specs.declared.set.PartOrder.TheVariants.{Bytes, Tags}
+use Rattle.yasna_writer.specs.declared.tagged_part.TaggedPart.{TaggedPart}
+use Rattle.yasna_writer.specs.Parts.{WrittenParts, no_parts, bytes_each, last_part, parts_of}
 use Rattle.yasna_writer.specs.View.{Written, holding}
 use Rattle.yasna_writer.specs.contracts.set.DERWriterSet.{the_row}
 use Rattle.yasna_writer.specs.contracts.state.Writer.{the_row as writer_row}
@@ -51,11 +56,26 @@ pub record BeginsNext (begun : Bool) (old : List (Vec ℕ Global)) (last : Writt
 abbrev pub LendsPart : MutBor WrittenParts → MutBor Written → Fml
 LendsPart s r = Lends the_row writer_row s r (λ w. record { parts = unless_kept r.now.kept s.now.parts ++ (w.bytes ∷ []); mode = s.now.mode; kept = w.kept })
 
+-- these parts of a SET begin with their tags, and are ps
+abbrev pub AreTagged : List (List ℕ) → List SetPart → Type 0
+AreTagged ps ts = AllByRecursion HasItsTag ts × (parts_bytes ts ≡ ps)
+
+-- the tags of parts were found, or there is no memory, or a part begins with no identifier
+abbrev pub TagsParts : List (List ℕ) → Result (Vec TaggedPart Global) ASN1Error → Type 0
+TagsParts ps result =
+    MatchResult result (λ v. AreTagged ps (parts_of v.items))
+    (λ e. (kind_of e ≡ OutOfMemory) ⊎ ((kind_of e ≡ Invalid) × ((ts : List SetPart) → AreTagged ps ts → ⊥)))
+
 -- why k is kept at the end of a set whose parts a closure left so: a write of the closure failed, or there is no memory,
 -- or the parts make no contents
 abbrev pub FailsAtSet : (List (List ℕ) → List ℕ → Type 0) → WrittenParts → ASN1Error → Type 0
 FailsAtSet Contents left k =
     (left.kept ≡ Some k) ⊎ ((left.kept ≡ None) × ((kind_of k ≡ OutOfMemory) ⊎ ((kind_of k ≡ Invalid) × ((c : List ℕ) → Contents left.parts c → ⊥))))
+
+-- the contents that parts make in this order
+abbrev pub contents_in : PartOrder → List (List ℕ) → List ℕ → Type 0
+contents_in Bytes = SetOfContents
+contents_in Tags = SetContents
 
 -- the contents that the parts make were written by form
 abbrev pub WritesParts : (List (List ℕ) → List ℕ → Type 0) → (List ℕ → List ℕ) → WrittenParts → Written → Written → Type 0

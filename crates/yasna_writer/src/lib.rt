@@ -34,6 +34,7 @@ mod set;
 mod state;
 mod strings;
 mod tagged;
+mod tagged_part;
 mod times;
 
 pub use construct::{construct_der, construct_der_seq, try_construct_der, try_construct_der_seq};

@@ -10,17 +10,28 @@ ghost use Rattle.yasna_base.specs.Canonical.{canonical_element};
 ghost use Rattle.yasna_base.specs.Error.{kind_of};
 ghost use Rattle.yasna_base.specs.Identifier.{tag_or};
 ghost use Rattle.yasna_base.specs.Order.{octets_cmp, in_order};
-ghost use Rattle.yasna_base.specs.Set.{set_tag, SetOfContents};
+ghost use Rattle.yasna_base.specs.Set.{set_tag, SetOfContents, SetContents};
 ghost use Rattle.yasna_writer.specs.Parts.{no_parts, bytes_each};
-ghost use Rattle.yasna_writer.specs.Set.{Pushes, LacksParts, EndsPart, BeginsPart, BeginsNext, LendsPart, FailsAtSet, EndsSet, WritesSet};
+ghost use Rattle.yasna_writer.specs.Set.{Pushes, LacksParts, EndsPart, BeginsPart, BeginsNext, LendsPart, FailsAtSet, EndsSet, WritesSet, contents_in};
 ghost use Rattle.yasna_writer.specs.State.{Appended};
 ghost use Rattle.yasna_writer.specs.View.{holding, handed};
 
 use crate::state::{DERWriter, Writer};
+use crate::tagged_part::{TaggedPart, order_by_tag, tag_parts};
 use std::alloc::{AllocError, Global};
+use std::convert::AsSlice;
 use std::marker::Model;
 use yasna_base::tags::TAG_SET;
 use yasna_base::{ASN1Error, ASN1ErrorKind, ASN1Result, Tag};
+
+/// By what the parts of a set are ordered.
+#[derive(Clone, Copy)]
+pub enum PartOrder {
+    /// By their bytes, as those of a SET OF.
+    Bytes,
+    /// By the tags that they begin with, as those of a SET.
+    Tags,
+}
 
 /// What a closure writes the parts of a set to.
 #[derive(Drop)]
@@ -140,6 +151,18 @@ impl DERWriterSet {
         }
     }
 
+    // The parts in the order of a SET, or why there are none.
+    fn into_set(self) -> ASN1Result<Vec<TaggedPart>>
+        ensures { MatchResult result (λ v. (self.kept ≡ None) × SetContents self.parts (flat_map (λ part. part.bytes.items) v.items)) (λ e. FailsAtSet SetContents self e) }
+    {
+        let alloc = self.last.alloc();
+        let mut parts = tag_parts(alloc, self.into_parts()?)?;
+        match order_by_tag(&mut parts) {
+            Ok(()) => Ok(parts),
+            Err(_) => Err(ASN1Error::new(ASN1ErrorKind::OutOfMemory)),
+        }
+    }
+
     /// The writer of a further part.
     ///
     /// Where there is no memory for the parts before, `OutOfMemory` is kept, and this writer answers it.
@@ -156,19 +179,19 @@ impl DERWriterSet {
 
 impl Writer {
     // Appends parts, one after the other, or keeps want of memory.
-    fn append_parts(&mut self, parts: &[Vec<u8>]) -> ASN1Result<()>
-        ensures { Appended (flat_map (λ part. part.items) parts.now) self.old self.new result }
+    fn append_parts<P: AsSlice<u8>>(&mut self, parts: &[P]) -> ASN1Result<()>
+        ensures { Appended (flat_map P.items parts.now) self.old self.new result }
     {
         for part in parts {
-            self.append(part)?;
+            self.append(part.as_slice())?;
         }
         Ok(())
     }
 
     // Writes an element around parts, or keeps want of memory.
-    fn write_parts(&mut self, tag: Tag, parts: &[Vec<u8>])
+    fn write_parts<P: AsSlice<u8>>(&mut self, tag: Tag, parts: &[P])
         requires { self.old ≡ handed self.old }
-        ensures { MatchOption self.new.kept (self.new ≡ holding self.old (self.old.bytes ++ canonical_element self.old.mode tag Constructed (flat_map (λ part. part.items) parts.now))) (λ k. kind_of k ≡ OutOfMemory) }
+        ensures { MatchOption self.new.kept (self.new ≡ holding self.old (self.old.bytes ++ canonical_element self.old.mode tag Constructed (flat_map P.items parts.now))) (λ k. kind_of k ≡ OutOfMemory) }
     {
         let beginning = self.begin(tag);
         if self.append_parts(parts).is_ok() {
@@ -187,6 +210,63 @@ impl Writer {
         }
     }
 
+    // The same of a SET.
+    fn end_set_by_tag(&mut self, tag: Tag, set: DERWriterSet)
+        requires { self.old ≡ handed self.old }
+        ensures { EndsSet SetContents (canonical_element self.old.mode tag Constructed) set self.old self.new }
+    {
+        match set.into_set() {
+            Ok(parts) => self.write_parts(tag, &parts),
+            Err(error) => self.keep(error),
+        }
+    }
+
+    // The same of either.
+    fn end_set(&mut self, tag: Tag, order: PartOrder, set: DERWriterSet)
+        requires { self.old ≡ handed self.old }
+        ensures { EndsSet (contents_in order) (canonical_element self.old.mode tag Constructed) set self.old self.new }
+    {
+        match order {
+            PartOrder::Bytes => self.end_set_of(tag, set),
+            PartOrder::Tags => self.end_set_by_tag(tag, set),
+        }
+    }
+
+    // Writes a set of the parts that the closure writes, in this order.
+    fn write_in_order<
+        T: Drop,
+        E: From<ASN1Error> + Drop,
+        F: FnOnce(&mut DERWriterSet) -> Result<T, E>,
+    >(&mut self, order: PartOrder, f: F) -> Result<T, E>
+        requires { self.old.kept ≡ None → FnOnceTakesAtMut F.FnOnce f (no_parts self.old.mode) }
+        ensures { WritesSet F.FnOnce E.from_gives f (contents_in order) (canonical_element self.old.mode (tag_or self.old.tag set_tag) Constructed) self.old self.new result }
+    {
+        let tag = match self.fresh_tag(TAG_SET) {
+            Ok(tag) => tag,
+            Err(error) => return Err(E::from(error)),
+        };
+        let mut set = self.no_parts();
+        let own = f(&mut set);
+        self.end_set(tag, order, set);
+        self.settle(own)
+    }
+
+    /// Writes a SET (X.690, 8.11 and 10.3): its contents are the parts that the closure writes, by the tags that they
+    /// begin with, first the class, then the number.
+    ///
+    /// Parts of one tag stand as they were written, but where its number is 31 or more, by their bytes. What is kept
+    /// and answered is as with `write_set_of`; a part that doesn't begin with an identifier is `Invalid` too.
+    pub fn write_set<
+        T: Drop,
+        E: From<ASN1Error> + Drop,
+        F: FnOnce(&mut DERWriterSet) -> Result<T, E>,
+    >(&mut self, f: F) -> Result<T, E>
+        requires { self.old.kept ≡ None → FnOnceTakesAtMut F.FnOnce f (no_parts self.old.mode) }
+        ensures { WritesSet F.FnOnce E.from_gives f SetContents (canonical_element self.old.mode (tag_or self.old.tag set_tag) Constructed) self.old self.new result }
+    {
+        self.write_in_order(PartOrder::Tags, f)
+    }
+
     /// Writes a SET OF (X.690, 8.12): its contents are the parts that the closure writes, in ascending order as bytes.
     ///
     /// A failure that is kept is answered, and the closure doesn't run. Else the closure's answer is handed on, and
@@ -201,13 +281,6 @@ impl Writer {
         requires { self.old.kept ≡ None → FnOnceTakesAtMut F.FnOnce f (no_parts self.old.mode) }
         ensures { WritesSet F.FnOnce E.from_gives f SetOfContents (canonical_element self.old.mode (tag_or self.old.tag set_tag) Constructed) self.old self.new result }
     {
-        let tag = match self.fresh_tag(TAG_SET) {
-            Ok(tag) => tag,
-            Err(error) => return Err(E::from(error)),
-        };
-        let mut set = self.no_parts();
-        let own = f(&mut set);
-        self.end_set_of(tag, set);
-        self.settle(own)
+        self.write_in_order(PartOrder::Bytes, f)
     }
 }

@@ -1,10 +1,11 @@
 use Rattle.std.proofs.Common.{refl, ap, ◌∙◌}
 use Rattle.yasna_base.specs.Identifier.{tag_or}
-use Rattle.yasna_base.specs.Set.{set_tag, SetOfContents}
+use Rattle.yasna_base.specs.Set.{set_tag}
 use Rattle.yasna_writer.specs.Parts.{no_parts}
+use Rattle.yasna_writer.specs.Set.{contents_in}
 use Rattle.yasna_writer.specs.View.{Written}
 use Rattle.yasna_writer.proofs.Sets.{set_ends}
-use Rattle.yasna_writer.proofs.state.Writer.write_set_of.Goals as goal
+use Rattle.yasna_writer.proofs.state.Writer.write_in_order.Goals as goal
 
 pub f-own-requires : goal.f-own-requires
 f-own-requires g c =
@@ -20,6 +21,6 @@ returns g c =
       own = c.f-own.result;
       left = left;
       ran = record { shown = _; shows = c.no_parts-set.ensures ∙ ap (λ (w : Written). no_parts w.mode) taken.2; left = _; met = c.f-own.ensures; leaves = refl };
-      ends = set_ends SetOfContents _ (tag_or old.tag set_tag) old c.fresh_tag.new.self left c.end_set_of.new.self taken.2 taken.1 c.end_set_of.ensures;
+      ends = set_ends (contents_in c.args.order) _ (tag_or old.tag set_tag) old c.fresh_tag.new.self left c.end_set.new.self taken.2 taken.1 c.end_set.ensures;
       answers = c.settle.ensures;
     })
