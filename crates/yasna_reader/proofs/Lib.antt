@@ -18,6 +18,7 @@ pub mod Callbacks
 pub mod Turning
 pub mod SetListing
 pub mod SetRuns
+pub mod SetReads
 pub mod SetChoosing
 pub mod SetLaws
 pub mod Tuples

@@ -79,12 +79,12 @@ pub ends_at : (after : ContentsEnd) (y r : List ℕ) → EndsBefore after y r �
 ends_at (counted a) y r h = h.0
 ends_at uncounted y r h = (r, h)
 
-around : {A : Type 0} (C : BERMode → ℕ → A → List ℕ → Type 0) (t : Tag) (m : BERMode) (n : ℕ) (v : A) (b : List ℕ) → 1 ≤ n → Around m t (C m (n - 1)) v b →
+pub around : {A : Type 0} (C : BERMode → ℕ → A → List ℕ → Type 0) (t : Tag) (m : BERMode) (n : ℕ) (v : A) (b : List ℕ) → 1 ≤ n → Around m t (C m (n - 1)) v b →
     Enclosed C t m n v b
 around C t m zero v b l h = absurd (omega arith)
 around C t m (suc n) v b l h = let e : suc n - 1 ≡ n = omega arith in subst (λ k. Around m t (C m k) v b) e h
 
-within : {A : Type 0} (C : BERMode → ℕ → A → List ℕ → Type 0) (t : Tag) (m : BERMode) (n : ℕ) (v : A) (b : List ℕ) → Enclosed C t m n v b →
+pub within : {A : Type 0} (C : BERMode → ℕ → A → List ℕ → Type 0) (t : Tag) (m : BERMode) (n : ℕ) (v : A) (b : List ℕ) → Enclosed C t m n v b →
     (1 ≤ n) × Around m t (C m (n - 1)) v b
 within C t m zero v b h = absurd h
 within C t m (suc n) v b h = let e : n ≡ suc n - 1 = omega arith in (omega arith, subst (λ k. Around m t (C m k) v b) e h)

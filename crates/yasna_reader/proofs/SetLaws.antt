@@ -17,7 +17,7 @@ use Rattle.yasna_base.specs.Set.{AreInSetOrder, SetElements}
 use Rattle.yasna_base.proofs.Pieces.{NoFront, no_front_at_end, pieces_once, each_same}
 use Rattle.yasna_base.proofs.Raw.{raw_starts, raw_exact}
 use Rattle.yasna_reader.specs.declared.set.SetElement.{SetElement}
-use Rattle.yasna_reader.specs.Set.{AreInTagOrder, IsListed, IsSetList}
+use Rattle.yasna_reader.specs.Set.{AreInTagOrder, IsListed, IsSetList, ListsAll}
 use Rattle.yasna_reader.specs.SetLaws.{IsElementOf, IsSameElement, ListsAreOne, ListsAreSets, ListsSet, SetsAreListed, elements_bytes}
 use Rattle.yasna_reader.proofs.SetListing.{listed_alone}
 
@@ -157,13 +157,40 @@ same_element n m x w b h k =
     let e = (raw_exact n n m h.value k.value b b [] [] h.raw k.raw refl).0 in
     record { tag = h.tag ∙ ap (λ (v : RawValue). v.tag) e ∙ sym k.tag; bytes = h.bytes ∙ sym k.bytes }
 
-pub lists_are_one : ListsAreOne
-lists_are_one = λ n m l k c y z h i.
-    let p = h.all.listed in
-    let q = i.all.listed in
+-- what stands up to an end is listed once
+pub all_one : (n : ℕ) (m : BERMode) (l k : List SetElement) (c y z : List ℕ) → ListsAll n m l c y → ListsAll n m k c z → Each IsSameElement l k × (y ≡ z)
+all_one n m l k c y z h i =
+    let p = h.listed in
+    let q = i.listed in
     let no_more : (x : List ℕ) → AtEnd x → NoFront (IsListed n m) x = λ x e. no_front_at_end (λ v b r. raw_starts n m r.value b r.raw) x e in
-    let w = pieces_once (listed_alone n m) l k p.front q.front y z p.elements q.elements (no_more y h.all.ends) (no_more z i.all.ends)
-    (sym p.joined ∙ q.joined) in (
+    let w = pieces_once (listed_alone n m) l k p.front q.front y z p.elements q.elements (no_more y h.ends) (no_more z i.ends) (sym p.joined ∙ q.joined) in (
       each_same (same_element n m) l k q.elements.pieces (subst (λ bs. Each (IsListed n m) l bs) w.0 p.elements.each) q.elements.each,
       w.1,
     )
+
+pub lists_are_one : ListsAreOne
+lists_are_one = λ n m l k c y z h i. all_one n m l k c y z h.all i.all
+
+-- the same elements have the same tags
+tags_of_same : (l k : List SetElement) → Each IsSameElement l k → map (λ (x : SetElement). x.tag) l ≡ map (λ (x : SetElement). x.tag) k
+tags_of_same [] [] h = refl
+tags_of_same [] (y ∷ k) h = absurd h
+tags_of_same (x ∷ l) [] h = absurd h
+tags_of_same (x ∷ l) (y ∷ k) h = ap₂ (λ t ts. t ∷ ts) h.0.tag (tags_of_same l k h.1)
+
+pub order_of_same : (m : BERMode) (l k : List SetElement) → Each IsSameElement l k → AreInTagOrder m k → AreInTagOrder m l
+order_of_same m l k h i =
+    let ts = map (λ (x : SetElement). x.tag) k in
+    order_of_elements m l ts (tags_of_same l k h) (order_of_values m k ts refl i)
+
+-- and the same values
+pub values_of_same : (n : ℕ) (m : BERMode) (l k : List SetElement) (vs : List RawValue) → Each IsSameElement l k → Each (IsElementOf n m) k vs →
+    Each (IsElementOf n m) l vs
+values_of_same n m [] [] vs h i = i
+values_of_same n m [] (y ∷ k) vs h i = absurd h
+values_of_same n m (x ∷ l) [] vs h i = absurd h
+values_of_same n m (x ∷ l) (y ∷ k) [] h i = absurd i
+values_of_same n m (x ∷ l) (y ∷ k) (v ∷ vs) h i = (
+  record { tag = h.0.tag ∙ i.0.tag; raw = subst (λ b. IsRaw n m v b) (sym h.0.bytes) i.0.raw },
+  values_of_same n m l k vs h.1 i.1,
+)

@@ -22,6 +22,10 @@ use Rattle.yasna_reader.specs.contracts.set.Chosen.{the_row}
 use Rattle.yasna_reader.specs.declared.set.Chosen.{Chosen}
 use Rattle.yasna_reader.specs.declared.set.SetElement.{SetElement}
 
+-- the reading of a SET: that of one element after the other, and the elements that are left
+abbrev pub SetReading : Type 0
+SetReading = Chosen Reading (Vec SetElement Global)
+
 -- within n levels, b is a raw element, and x what was listed of it: its tag and these very bytes
 pub record IsListed (n : ℕ) (m : BERMode) (x : SetElement) (b : List ℕ) : Type 0 where
   pub value : RawValue

@@ -1,12 +1,20 @@
 -- What holds of the elements that a SET's callback is handed, as the laws of this crate say it.
+use Rattle.std.specs.Borrow.{MutBor}
+use Rattle.std.specs.Fn.{Once, FnOnceReturnsAtMut}
+use Rattle.std.specs.Global.{Global}
 use Rattle.std.specs.List.{concat}
-use Rattle.std.specs.Prelude.{List, map, ℕ, ◌++◌, ◌≡◌, ◌↔◌}
+use Rattle.std.specs.Prelude.{Err, List, None, Ok, Result, Vec, [], map, ℕ, ◌++◌, ◌-◌, ◌≡◌, ◌↔◌}
+use Rattle.yasna_base.specs.Error.{kind_of}
 use Rattle.yasna_base.specs.Identifier.{AtEnd}
 use Rattle.yasna_base.specs.Pieces.{Each}
 use Rattle.yasna_base.specs.Raw.{RawValue, IsRaw}
-use Rattle.yasna_base.specs.Set.{SetElements}
+use Rattle.yasna_base.specs.Set.{IsSet, SetElements}
+use Rattle.yasna_base.specs.declared.error.ASN1Error.{ASN1Error}
+use Rattle.yasna_base.specs.declared.error.ASN1ErrorKind.TheVariants.{OutOfMemory}
 use Rattle.yasna_base.specs.declared.mode.BERMode.{BERMode}
-use Rattle.yasna_reader.specs.Set.{IsSetList}
+use Rattle.yasna_base.specs.declared.tag.Tag.{Tag}
+use Rattle.yasna_reader.specs.Set.{IsSetList, SetReading}
+use Rattle.yasna_reader.specs.State.{Reading, inside}
 use Rattle.yasna_reader.specs.declared.set.SetElement.{SetElement}
 
 -- within n levels, x is an element of the raw value v: its tag, and bytes that encode it
@@ -42,3 +50,42 @@ SetsAreListed = (n : ℕ) (m : BERMode) (vs : List RawValue) (b c y : List ℕ) 
 -- they are the same elements, with the same end, however they were listed
 abbrev pub ListsAreOne : Type 0
 ListsAreOne = (n : ℕ) (m : BERMode) (l k : List SetElement) (c y z : List ℕ) → IsSetList n m l c y → IsSetList n m k c z → Each IsSameElement l k × (y ≡ z)
+
+-- f was run on the elements of the raw values vs, at the level inside a SET that s reads, and came to this
+pub record RunOnValues {F A : Type 0} (g : Once F (MutBor SetReading × Unit {0}) (Result A ASN1Error × (MutBor SetReading × Unit {0}))) (f : F)
+    (s : Reading) (vs : List RawValue) : Type 0 where
+  pub list : Vec SetElement Global
+  pub each : Each (IsElementOf (s.levels - 1) s.mode) list.items vs
+  pub own : Result A ASN1Error
+  pub left : SetReading
+  pub called : FnOnceReturnsAtMut g f (record { reader = inside s []; list = list }) own left
+
+-- a callback that answered r and left this gave v: it took all elements, and no failure was kept
+pub record GaveOfAll {A : Type 0} (r : Result A ASN1Error) (left : SetReading) (v : A) : Type 0 where
+  pub answer : r ≡ Ok v
+  pub all : left.list.items ≡ []
+  pub unkept : left.reader.kept ≡ None
+
+-- a SET of these values stands at the front of s, f gave v from its elements, and the rest is left
+pub record TakesSet {F A : Type 0} (g : Once F (MutBor SetReading × Unit {0}) (Result A ASN1Error × (MutBor SetReading × Unit {0}))) (f : F)
+    (t : Tag) (s : Reading) (v : A) (s' : Reading) : Type 0 where
+  pub values : List RawValue
+  pub front : List ℕ
+  pub rest : List ℕ
+  pub joined : s.left ≡ front ++ rest
+  pub set : IsSet t s.mode s.levels values front
+  pub run : RunOnValues g f s values
+  pub gave : GaveOfAll run.own run.left v
+  pub state : s' ≡ record s { left = rest; tag = None }
+
+-- where a SET stands at the front of s, f was run on its elements and gave no value from them, or e is of memory
+abbrev pub RefusesSet : {F A : Type 0} → Once F (MutBor SetReading × Unit {0}) (Result A ASN1Error × (MutBor SetReading × Unit {0})) → F →
+    Tag → Reading → ASN1Error → Type 0
+RefusesSet {F} {A} g f t s e = (vs : List RawValue) (front rest : List ℕ) → (kind_of e ≡ OutOfMemory → ⊥) → s.left ≡ front ++ rest →
+    IsSet t s.mode s.levels vs front → (x : RunOnValues g f s vs) × ((v : A) → GaveOfAll x.own x.left v → ⊥)
+
+-- a read of a SET, whose elements f takes
+abbrev pub ReadsSet : {F A : Type 0} → Once F (MutBor SetReading × Unit {0}) (Result A ASN1Error × (MutBor SetReading × Unit {0})) → F →
+    Tag → Reading → Result A ASN1Error → Reading → Type 0
+ReadsSet g f t s (Ok v) s' = TakesSet g f t s v s'
+ReadsSet g f t s (Err e) s' = RefusesSet g f t s e

@@ -1,22 +1,16 @@
 -- What reads of a SET's elements do that may be left out (X.690, 8.11.2 and 11.5).
 use Rattle.std.specs.Fn.{Once, FnOnceTakesAtMut}
 use Rattle.std.specs.Borrow.{MutBor}
-use Rattle.std.specs.Global.{Global}
-use Rattle.std.specs.Prelude.{Bool, Err, List, None, Ok, Option, Result, Some, Vec, true, ◌≡◌, ◌⊎◌}
+use Rattle.std.specs.Prelude.{Bool, Err, List, None, Ok, Option, Result, Some, true, ◌≡◌, ◌⊎◌}
 use Rattle.yasna_base.specs.declared.error.ASN1Error.{ASN1Error}
 use Rattle.yasna_base.specs.declared.tag.Tag.{Tag}
 use Rattle.yasna_reader.specs.Callback.{Hands, answer_of}
 use Rattle.yasna_reader.specs.Optional.{UnlessDefault}
 use Rattle.yasna_reader.specs.Parse.{ended}
-use Rattle.yasna_reader.specs.Set.{NoneIsAmong, Takes}
+use Rattle.yasna_reader.specs.Set.{NoneIsAmong, SetReading, Takes}
 use Rattle.yasna_reader.specs.State.{Reading, failing, untagged}
 use Rattle.yasna_reader.specs.declared.callback.Outcome.{Outcome}
-use Rattle.yasna_reader.specs.declared.set.Chosen.{Chosen}
 use Rattle.yasna_reader.specs.declared.set.SetElement.{SetElement}
-
--- the reading of a SET: that of one element after the other, and the elements that are left
-abbrev pub SetReading : Type 0
-SetReading = Chosen Reading (Vec SetElement Global)
 
 -- f may be called on the element that is taken, where one has one of the tags and no failure is kept
 abbrev pub TakesChosen : {F R : Type 0} → Once F (MutBor Reading × Unit {0}) R → F → List Tag → SetReading → Type 0

@@ -1,0 +1,151 @@
+-- What a read of a SET takes is a SET, and from every SET the callback is run.
+use Rattle.std.proofs.Common.{◌≡◌, ℕ, ◌-◌, ◌≤◌, inl, inr, List, [], ◌∷◌, ◌++◌, length, Option, Some, None, refl, sym, ap, ap₂, subst, ◌∙◌, length-append, arith}
+use Rattle.std.specs.Borrow.{MutBor}
+use Rattle.std.specs.Fn.{Once}
+use Rattle.std.specs.Prelude.{Result, Ok, Err}
+use Rattle.yasna_base.specs.declared.error.ASN1Error.{ASN1Error}
+use Rattle.yasna_base.specs.declared.error.ASN1ErrorKind.{ASN1ErrorKind}
+use Rattle.yasna_base.specs.declared.error.ASN1ErrorKind.TheVariants.{OutOfMemory}
+use Rattle.yasna_base.specs.declared.tag.Tag.{Tag}
+use Rattle.yasna_base.specs.declared.tag.PCBit.TheVariants.{Constructed}
+use Rattle.yasna_base.specs.Error.{error_of, kind_of}
+use Rattle.yasna_base.specs.Header.{ContentsEnd, EndsBefore, OpensAt}
+use Rattle.yasna_base.specs.Pieces.{Each}
+use Rattle.yasna_base.specs.Raw.{RawValue}
+use Rattle.yasna_base.specs.Set.{SetElements}
+use Rattle.yasna_base.proofs.Header.{header_of, end_behind}
+use Rattle.yasna_reader.specs.declared.set.SetElement.{SetElement}
+use Rattle.yasna_reader.specs.Header.{EndsAt, OnlyConstructed}
+use Rattle.yasna_reader.specs.Sequence.{EntersUnlessKept, Left, ReadsParts, place_in}
+use Rattle.yasna_reader.specs.Set.{IsSetList, NotSetList, RunsOnSet, SetReading, all_taken}
+use Rattle.yasna_reader.specs.SetLaws.{GaveOfAll, IsElementOf, ReadsSet, RefusesSet, RunOnValues, TakesSet, elements_bytes}
+use Rattle.yasna_reader.specs.State.{Reading, inside, tag_of, untagged}
+use Rattle.yasna_reader.proofs.Header.{element_header}
+use Rattle.yasna_reader.proofs.Sequences.{around, closed, ends_at, place_behind, within}
+use Rattle.yasna_reader.proofs.SetLaws.{all_one, lists_are_one, lists_are_sets, order_of_same, sets_are_listed, values_of_same}
+
+module _ {F A : Type 0} (g : Once F (MutBor SetReading × Unit {0}) (Result A ASN1Error × (MutBor SetReading × Unit {0}))) (f : F) where
+  all_gave : (own : Result A ASN1Error) (l : List SetElement) (v : A) → Ok v ≡ all_taken own l → (own ≡ Ok v) × (l ≡ [])
+  all_gave (Err e) l v h = absurd (cc)
+  all_gave (Ok w) [] v h = (sym h, refl)
+  all_gave (Ok w) (x ∷ l) v h = absurd (cc)
+
+  -- contents that are those of a SET, from whose elements a callback gave a value
+  record GaveFrom (s : Reading) (c : List ℕ) (v : A) (left : Reading) : Type 0 where
+    values : List RawValue
+    front : List ℕ
+    rest : List ℕ
+    joined : c ≡ front ++ rest
+    contents : SetElements s.mode (s.levels - 1) values front
+    run : RunOnValues g f s values
+    gave : GaveOfAll run.own run.left v
+    place : left.left ≡ rest
+
+  gave_from : (s : Reading) (c : List ℕ) (v : A) (own : Result A ASN1Error) (left : Reading) → RunsOnSet g f (inside s c) own left → own ≡ Ok v →
+      left.kept ≡ None → GaveFrom s c v left
+  gave_from s c v own left (inl x) e k =
+      let w = (lists_are_sets (s.levels - 1) s.mode x.list.items c x.rest).0 x.lists in
+      let a = all_gave x.own x.others.items v (sym e ∙ x.answer) in
+      record {
+        values = w.0;
+        front = elements_bytes x.list.items;
+        rest = x.rest;
+        joined = w.1.joined;
+        contents = w.1.contents;
+        run = record { list = x.list; each = w.1.each; own = x.own; left = record { reader = x.left; list = x.others }; called = x.called };
+        gave = record { answer = a.0; all = a.1; unkept = sym (ap (λ (z : Reading). z.kept) x.state) ∙ k };
+        place = ap (λ (z : Reading). z.left) x.state;
+      }
+  gave_from s c v own left (inr x) e k = let h = sym x.answer ∙ e in absurd (cc)
+
+  module _ (t : Tag) (s : Reading) (c : List ℕ) (after : ContentsEnd) (opens : OpensAt s.mode t Constructed s.left c after) where
+    took : 1 ≤ s.levels → (own : Result A ASN1Error) (left : Reading) → RunsOnSet g f (inside s c) own left → (k : Option ASN1Error) → left.kept ≡ k →
+        (v : A) (s' : Reading) → Left after c k left.left own (untagged s) (Ok v) s' → TakesSet g f t s v s'
+    took l own left x (Some e) i v s' h = let a = h.answer in absurd (cc)
+    took l (Err e) left x None i v s' h = let a = h.answer in absurd (cc)
+    took l (Ok w) left x None i v s' (inr h) = let a = h.fails.answer in absurd (cc)
+    took l (Ok w) left x None i v s' (inl h) =
+        let q = gave_from s c v (Ok w) left x (sym h.answer) i in
+        let at : place_in c left.left ≡ q.rest = ap (λ z. place_in c z) q.place ∙ ap (λ z. place_in z q.rest) q.joined ∙ place_behind q.front q.rest in
+        let y = closed s.mode t Constructed s.left c after opens q.front q.rest h.rest q.joined (subst (λ z. EndsBefore after z h.rest) at h.ends) in
+        record {
+          values = q.values;
+          front = y.bytes;
+          rest = h.rest;
+          joined = y.joined;
+          set = around SetElements t s.mode s.levels q.values y.bytes l (record { contents = q.front; element = y.element; meaning = q.contents });
+          run = q.run;
+          gave = q.gave;
+          state = h.state;
+        }
+
+    not_run : (l : List SetElement) (y : List ℕ) → IsSetList (s.levels - 1) s.mode l c y → (kind : ASN1ErrorKind) → (kind ≡ OutOfMemory → ⊥) →
+        NotSetList (s.levels - 1) s.mode c kind → ⊥
+    not_run l y p kind q (inl h) = h.none q l y p.all
+    not_run l y p kind q (inr h) =
+        let same = (all_one (s.levels - 1) s.mode h.0.list l c h.0.rest y h.0.all p.all).0 in
+        h.0.disorder (order_of_same s.mode h.0.list l same p.order)
+
+    kept_is : (z : List ℕ) (own : Result A ASN1Error) (d : ASN1Error) (k : Option ASN1Error) → k ≡ Some d → (e : ASN1Error) (s' : Reading) →
+        Left after c k z own (untagged s) (Err e) s' → e ≡ d
+    kept_is z own d (Some b) i e s' h = let a = h.answer in cc
+    kept_is z own d None i e s' h = absurd (cc)
+
+    -- where a callback leaves contents at their end, kept no failure and answered Ok, that isn't refused
+    not_refused : (d y : List ℕ) → c ≡ d ++ y → (rest : List ℕ) → EndsBefore after y rest → (own : Result A ASN1Error) (z : List ℕ) → z ≡ y → (v : A) →
+        own ≡ Ok v → (k : Option ASN1Error) → k ≡ None → (e : ASN1Error) (s' : Reading) → Left after c k z own (untagged s) (Err e) s' → ⊥
+    not_refused d y j rest ends own z m v i (Some b) n e s' h = absurd (cc)
+    not_refused d y j rest ends (Err b) z m v i None n e s' h = absurd (cc)
+    not_refused d y j rest ends (Ok w) z m v i None n e s' (inl h) = let a = h.answer in absurd (cc)
+    not_refused d y j rest ends (Ok w) z m v i None n e s' (inr h) =
+        let at : place_in c z ≡ y = ap (λ u. place_in c u) m ∙ ap (λ u. place_in u y) j ∙ place_behind d y in
+        elim h.open_end [
+          | inl before ↦ omega (arith, before, ap length j, length-append d y, ap length m)
+          | inr wrong ↦ wrong (subst (λ u. EndsAt after u) (sym at) (ends_at after y rest ends))
+        ]
+
+    -- where the contents are those of a SET, the callback was run on its elements
+    run_as : (vs : List RawValue) (d y : List ℕ) (l : List SetElement) → Each (IsElementOf (s.levels - 1) s.mode) l vs →
+        IsSetList (s.levels - 1) s.mode l c y → c ≡ d ++ y → (rest : List ℕ) → EndsBefore after y rest → (own : Result A ASN1Error) (left : Reading) →
+        RunsOnSet g f (inside s c) own left → (k : Option ASN1Error) → left.kept ≡ k → (e : ASN1Error) (s' : Reading) →
+        Left after c k left.left own (untagged s) (Err e) s' → (kind_of e ≡ OutOfMemory → ⊥) →
+        (x : RunOnValues g f s vs) × ((v : A) → GaveOfAll x.own x.left v → ⊥)
+    run_as vs d y l each p j rest ends own left (inl x) k i e s' h q =
+        let same = lists_are_one (s.levels - 1) s.mode x.list.items l c x.rest y x.lists p in (
+          record {
+            list = x.list;
+            each = values_of_same (s.levels - 1) s.mode x.list.items l vs same.0 each;
+            own = x.own;
+            left = record { reader = x.left; list = x.others };
+            called = x.called;
+          },
+          λ v gave.
+              not_refused d y j rest ends own left.left (ap (λ (z : Reading). z.left) x.state ∙ same.1) v
+              (x.answer ∙ ap₂ (λ a b. all_taken a b) gave.answer gave.all) k (sym i ∙ ap (λ (z : Reading). z.kept) x.state ∙ gave.unkept) e s' h,
+        )
+    run_as vs d y l each p j rest ends own left (inr x) k i e s' h q =
+        let m = kept_is left.left own (error_of x.kind) k (sym i ∙ ap (λ (z : Reading). z.kept) x.state) e s' h in
+        absurd (not_run l y p x.kind (λ n. q (ap kind_of m ∙ n)) x.why)
+
+    refused : (own : Result A ASN1Error) (left : Reading) → RunsOnSet g f (inside s c) own left → (k : Option ASN1Error) → left.kept ≡ k → (e : ASN1Error)
+        (s' : Reading) → Left after c k left.left own (untagged s) (Err e) s' → RefusesSet g f t s e
+    refused own left x k i e s' h = λ vs front rest q j p.
+        let w = (within SetElements t s.mode s.levels vs front p).1 in
+        let b = header_of s.mode t t Constructed Constructed s.left c w.contents front rest after opens w.element j in
+        let z = sets_are_listed (s.levels - 1) s.mode vs w.contents c b.behind w.meaning b.joined (end_behind after b.behind rest b.ends) in
+        run_as vs w.contents b.behind z.0 z.2.each ((lists_are_sets (s.levels - 1) s.mode z.0 c b.behind).1 (vs, z.2)) b.joined rest b.ends own left x k i e
+        s' h q
+
+  entered : (t : Tag) (s : Reading) (r : Result A ASN1Error) (s' : Reading) → EntersUnlessKept None (RunsOnSet g f) t s r s' → ReadsSet g f t s r s'
+  entered t s (Ok v) s' (inl x) = took t s x.contents x.end x.opens x.level x.own x.left x.says x.left.kept refl v s' x.closed
+  entered t s (Err e) s' (inl x) = refused t s x.contents x.end x.opens x.own x.left x.says x.left.kept refl e s' x.closed
+  entered t s (Ok v) s' (inr x) = let h = x.answer in absurd (cc)
+  entered t s (Err e) s' (inr x) = λ vs front rest q j p.
+      let w = within SetElements t s.mode s.levels vs front p in
+      absurd (x.refuses.none (λ m. x.refuses.memory m)
+      (element_header OnlyConstructed s.mode s.levels t Constructed w.1.contents front s.left rest w.0 refl w.1.element j))
+
+  -- what a read of a SET does
+  pub reads_set : (tag : Tag) (s : Reading) (r : Result A ASN1Error) (s' : Reading) → ReadsParts (RunsOnSet g f) tag s r s' → s.kept ≡ None →
+      ReadsSet g f (tag_of s tag) s r s'
+  reads_set tag s r s' h k = entered (tag_of s tag) s r s' (subst (λ z. EntersUnlessKept z (RunsOnSet g f) (tag_of s tag) s r s') k h.enters)
