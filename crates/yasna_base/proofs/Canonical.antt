@@ -6,7 +6,7 @@ use Rattle.yasna_base.specs.declared.mode.BERMode.TheVariants.{Ber, Der}
 use Rattle.yasna_base.specs.declared.tag.PCBit.{PCBit}
 use Rattle.yasna_base.specs.declared.tag.PCBit.TheVariants.{Primitive, Constructed}
 use Rattle.yasna_base.specs.declared.tag.Tag.{Tag}
-use Rattle.yasna_base.specs.Canonical.{IsCanonicalMode, HoldsForm, definite_element, canonical_element, leaf_nest, enclosed_form, enclosed_nest, Always, IsWritten}
+use Rattle.yasna_base.specs.Canonical.{IsCanonicalMode, HoldsForm, definite_element, canonical_element, leaf_nest, enclosed_form, enclosed_nest, Always, HasForm, IsWritten}
 use Rattle.yasna_base.specs.Digits.{IsBytes}
 use Rattle.yasna_base.specs.Element.{TakesDefinite, Definite, Framed, definite, indefinite, Element, Primitively, Enclosed}
 use Rattle.yasna_base.specs.Identifier.{identifier}
@@ -87,24 +87,36 @@ primitively_written W Can contents t range bytes means one back = record {
   same = λ m v w e. (ap (λ u. canonical_element m t Primitive (contents u)) e, λ can. subst Can e can, refl);
 }
 
-module _ {A : Type 0} {E : A → A → Type 0} {C : BERMode → ℕ → A → List ℕ → Type 0}
-    {form : BERMode → A → List ℕ} {nest : BERMode → A → ℕ} {Can : A → Type 0} (x : IsWritten E C form nest Can) (t : Tag) (range : t.tag_number < 2 ^ 64) where
-  enclosed_holds : (m o : BERMode) (n : ℕ) (v : A) → HoldsForm m o → Can v → enclosed_nest nest m v ≤ n →
+module _ {A : Type 0} {C : BERMode → ℕ → A → List ℕ → Type 0} {form : BERMode → A → List ℕ} {nest : BERMode → A → ℕ}
+    {Can : BERMode → A → Type 0} (x : HasForm C form nest Can) (t : Tag) (range : t.tag_number < 2 ^ 64) where
+  enclosed_holds : (m o : BERMode) (n : ℕ) (v : A) → HoldsForm m o → Can m v → enclosed_nest nest m v ≤ n →
       length (enclosed_form form t m v) < 2 ^ 64 → Enclosed C t o n v (enclosed_form form t m v)
   enclosed_holds m o zero v h can level short = omega (arith, level)
   enclosed_holds m o (suc n) v h can level short = record {
     contents = form m v;
-    element = canonical_element_is m o t Constructed (form m v) h range (x.has.in_bytes m v can (short_contents m t Constructed (form m v) short)) short;
-    meaning = x.has.holds m o n v h can (omega (arith, level)) (short_contents m t Constructed (form m v) short);
+    element = canonical_element_is m o t Constructed (form m v) h range (x.in_bytes m v can (short_contents m t Constructed (form m v) short)) short;
+    meaning = x.holds m o n v h can (omega (arith, level)) (short_contents m t Constructed (form m v) short);
   }
 
   enclosed_only : (m : BERMode) (n : ℕ) (v : A) (b : List ℕ) → IsCanonicalMode m → Enclosed C t m n v b →
-      (b ≡ enclosed_form form t m v) × Can v × (enclosed_nest nest m v ≤ n)
+      (b ≡ enclosed_form form t m v) × Can m v × (enclosed_nest nest m v ≤ n)
   enclosed_only m zero v b h p = absurd p
   enclosed_only m (suc n) v b h p =
-      let inner = x.has.only m n v p.contents h p.meaning in
+      let inner = x.only m n v p.contents h p.meaning in
       (canonical_element_only m t Constructed p.contents b h p.element ∙ ap (λ c. canonical_element m t Constructed c) inner.0, inner.1, omega (arith, inner.2))
 
+  -- an element around contents that have a form has one
+  pub enclosed_has : HasForm (Enclosed C t) (enclosed_form form t) (enclosed_nest nest) Can
+  enclosed_has = record {
+    in_bytes = λ m v can short.
+        let inner = short_contents m t Constructed (form m v) short in
+        canonical_element_bytes m t Constructed (form m v) (x.in_bytes m v can inner) short;
+    holds = enclosed_holds;
+    only = enclosed_only;
+  }
+
+module _ {A : Type 0} {E : A → A → Type 0} {C : BERMode → ℕ → A → List ℕ → Type 0}
+    {form : BERMode → A → List ℕ} {nest : BERMode → A → ℕ} {Can : A → Type 0} (x : IsWritten E C form nest Can) (t : Tag) where
   enclosed_any : (n : ℕ) (v : A) (b : List ℕ) → Enclosed C t Ber n v b → Can v × (enclosed_nest nest Der v ≤ n)
   enclosed_any zero v b p = absurd p
   enclosed_any (suc n) v b p = let inner = x.any n v p.contents p.meaning in (inner.0, omega (arith, inner.1))
@@ -113,15 +125,9 @@ module _ {A : Type 0} {E : A → A → Type 0} {C : BERMode → ℕ → A → Li
 pub enclosed_written : {A : Type 0} {E : A → A → Type 0} {C : BERMode → ℕ → A → List ℕ → Type 0} {form : BERMode → A → List ℕ}
     {nest : BERMode → A → ℕ} {Can : A → Type 0}
     (t : Tag) → t.tag_number < 2 ^ 64 → IsWritten E C form nest Can → IsWritten E (Enclosed C t) (enclosed_form form t) (enclosed_nest nest) Can
-enclosed_written {form} t range x = record {
-  has = record {
-    in_bytes = λ m v can short.
-        let inner = short_contents m t Constructed (form m v) short in
-        canonical_element_bytes m t Constructed (form m v) (x.has.in_bytes m v can inner) short;
-    holds = enclosed_holds x t range;
-    only = enclosed_only x t range;
-  };
-  any = enclosed_any x t range;
+enclosed_written t range x = record {
+  has = enclosed_has x.has t range;
+  any = enclosed_any x t;
   same = λ m v w e. let inner = x.same m v w e in (ap (λ c. canonical_element m t Constructed c) inner.0, inner.1, ap (λ k. 1 + k) inner.2);
 }
 
@@ -160,3 +166,13 @@ pub can_be_written : {A : Type 0} {E : A → A → Type 0} {B : BERMode → ℕ 
     {nest : BERMode → A → ℕ} {Can : A → Type 0} → IsWritten E B form nest Can → (m : BERMode) (n : ℕ) (v : A) (b : List ℕ) → B m n v b → Can v
 can_be_written x Ber n v b h = (x.any n v b h).0
 can_be_written x Der n v b h = (x.has.only Der n v b tt h).1
+
+-- a canonical mode holds its own forms
+pub holds_own : (m : BERMode) → IsCanonicalMode m → HoldsForm m m
+holds_own Ber h = absurd h
+holds_own Der h = tt
+
+-- a mode whose forms hold anywhere is canonical
+pub form_canonical : (m o : BERMode) → HoldsForm m o → IsCanonicalMode m
+form_canonical Ber o h = absurd h
+form_canonical Der o h = tt

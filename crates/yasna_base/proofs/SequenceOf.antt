@@ -1,10 +1,10 @@
 -- The laws of elements of one type, one after the other, and of a SEQUENCE OF them.
-use Rattle.std.proofs.Common.{◌≡◌, ℕ, ◌^◌, ◌<◌, ◌≤◌, max, List, [], ◌∷◌, ◌++◌, length, refl, ap₂, ◌∙◌, arith, length-append, subst}
-use Rattle.std.specs.List.{AllByRecursion, concat}
+use Rattle.std.proofs.Common.{◌≡◌, ℕ, ◌^◌, ◌<◌, ◌≤◌, max, List, [], ◌∷◌, ◌++◌, length, refl, ap, ap₂, ◌∙◌, sym, arith, length-append, subst, map}
+use Rattle.std.specs.List.{AllByRecursion, concat, flat_map}
 use Rattle.yasna_base.specs.declared.mode.BERMode.{BERMode}
 use Rattle.yasna_base.specs.declared.mode.BERMode.TheVariants.{Ber, Der}
 use Rattle.yasna_base.specs.declared.tag.Tag.{Tag}
-use Rattle.yasna_base.specs.Canonical.{IsCanonicalMode, HoldsForm, enclosed_form, enclosed_nest, IsWritten}
+use Rattle.yasna_base.specs.Canonical.{IsCanonicalMode, HoldsForm, enclosed_form, enclosed_nest, HasForm, IsWritten}
 use Rattle.yasna_base.specs.Coding.{IsSame, IsCoding, IsContentsCoding}
 use Rattle.yasna_base.specs.Digits.{IsBytes}
 use Rattle.yasna_base.specs.Identifier.{end_tag, nothing}
@@ -15,7 +15,7 @@ use Rattle.yasna_base.proofs.Canonical.{enclosed_written, written_along}
 use Rattle.yasna_base.proofs.Coding.{along, enclosed}
 use Rattle.yasna_base.proofs.Digits.{bytes_append}
 use Rattle.yasna_base.proofs.Identifier.{not_end}
-use Rattle.yasna_base.proofs.Pieces.{no_front_at_end, pieces_once, pieces_end, each_same, pieces_wider, no_pieces, one_piece, pieces_append}
+use Rattle.yasna_base.proofs.Pieces.{no_front_at_end, pieces_once, pieces_end, each_same, pieces_wider}
 
 each_reflexive : {A : Type 0} (E : A → A → Type 0) → ((v : A) → E v v) → (vs : List A) → Each E vs vs
 each_reflexive E f [] = tt
@@ -79,34 +79,54 @@ pub list_along : {U A : Type 0} {E : A → A → Type 0} {B : BERMode → ℕ �
     IsCoding E B S → IsCoding (λ v w. Each E (f v) (f w)) (λ m n v b. IsListOf B sequence_tag m n (f v) b) (AnyListOf S sequence_tag)
 list_along f x = along f (list sequence_tag (not_end 16 (λ e. omega arith)) x)
 
-module _ {A : Type 0} {E : A → A → Type 0} {B : BERMode → ℕ → A → List ℕ → Type 0} {form : BERMode → A → List ℕ} {nest : BERMode → A → ℕ}
-    {Can : A → Type 0} (x : IsWritten E B form nest Can) where
-  elements_bytes : (m : BERMode) (vs : List A) → AllByRecursion Can vs → length (elements_form form m vs) < 2 ^ 64 → IsBytes (elements_form form m vs)
+-- forms joined are the forms one after the other
+pub forms_joined : {A : Type 0} (f : A → List ℕ) (vs : List A) → flat_map f vs ≡ concat (map f vs)
+forms_joined f [] = refl
+forms_joined f (v ∷ vs) = ap (λ c. f v ++ c) (forms_joined f vs)
+
+module _ {A : Type 0} {B : BERMode → ℕ → A → List ℕ → Type 0} {form : BERMode → A → List ℕ} {nest : BERMode → A → ℕ}
+    {Can : BERMode → A → Type 0} (x : HasForm B form nest Can) where
+  elements_bytes : (m : BERMode) (vs : List A) → AllByRecursion (Can m) vs → length (elements_form form m vs) < 2 ^ 64 → IsBytes (elements_form form m vs)
   elements_bytes m [] can short = tt
   elements_bytes m (v ∷ vs) can short =
       let both = length-append (form m v) (elements_form form m vs) in
-      bytes_append (form m v) (elements_form form m vs) (x.has.in_bytes m v can.0 (omega (arith, both, short)))
+      bytes_append (form m v) (elements_form form m vs) (x.in_bytes m v can.0 (omega (arith, both, short)))
       (elements_bytes m vs can.1 (omega (arith, both, short)))
 
-  elements_hold : (m o : BERMode) (n : ℕ) (vs : List A) → HoldsForm m o → AllByRecursion Can vs → elements_nest nest m vs ≤ n →
-      length (elements_form form m vs) < 2 ^ 64 → ElementsOf B o n vs (elements_form form m vs)
-  elements_hold m o n [] h can level short = no_pieces
-  elements_hold m o n (v ∷ vs) h can level short =
-      let both = length-append (form m v) (elements_form form m vs) in
-      let first = x.has.holds m o n v h can.0 (omega (arith, level)) (omega (arith, both, short)) in
-      pieces_append (v ∷ []) vs (form m v) (elements_form form m vs) (one_piece v (form m v) first)
-      (elements_hold m o n vs h can.1 (omega (arith, level)) (omega (arith, both, short)))
+  -- the form of each element is read
+  pub each_form : (m o : BERMode) (n : ℕ) (vs : List A) → HoldsForm m o → AllByRecursion (Can m) vs → elements_nest nest m vs ≤ n →
+      length (elements_form form m vs) < 2 ^ 64 → Each (B o n) vs (map (form m) vs)
+  each_form m o n [] h can level short = tt
+  each_form m o n (v ∷ vs) h can level short =
+      let both = length-append (form m v) (elements_form form m vs) in (
+        x.holds m o n v h can.0 (omega (arith, level)) (omega (arith, both, short)),
+        each_form m o n vs h can.1 (omega (arith, level)) (omega (arith, both, short)),
+      )
 
-  elements_only : (m : BERMode) (n : ℕ) (vs : List A) (bs : List (List ℕ)) → IsCanonicalMode m → Each (B m n) vs bs →
-      (concat bs ≡ elements_form form m vs) × AllByRecursion Can vs × (elements_nest nest m vs ≤ n)
-  elements_only m n [] [] h p = (refl, tt, omega arith)
-  elements_only m n [] (b ∷ bs) h p = absurd p
-  elements_only m n (v ∷ vs) [] h p = absurd p
-  elements_only m n (v ∷ vs) (b ∷ bs) h p =
-      let first = x.has.only m n v b h p.0 in
-      let others = elements_only m n vs bs h p.1 in
-      (ap₂ (λ y z. y ++ z) first.0 others.0, (first.1, others.1), omega (arith, first.2, others.2))
+  -- pieces that a canonical mode reads are the forms
+  pub each_only : (m : BERMode) (n : ℕ) (vs : List A) (bs : List (List ℕ)) → IsCanonicalMode m → Each (B m n) vs bs →
+      (bs ≡ map (form m) vs) × AllByRecursion (Can m) vs × (elements_nest nest m vs ≤ n)
+  each_only m n [] [] h p = (refl, tt, omega arith)
+  each_only m n [] (b ∷ bs) h p = absurd p
+  each_only m n (v ∷ vs) [] h p = absurd p
+  each_only m n (v ∷ vs) (b ∷ bs) h p =
+      let first = x.only m n v b h p.0 in
+      let others = each_only m n vs bs h p.1 in
+      (ap₂ (λ y z. y ∷ z) first.0 others.0, (first.1, others.1), omega (arith, first.2, others.2))
 
+  -- elements that have forms have them one after the other
+  pub elements_have : HasForm (ElementsOf B) (elements_form form) (elements_nest nest) (λ m vs. AllByRecursion (Can m) vs)
+  elements_have = record {
+    in_bytes = elements_bytes;
+    holds = λ m o n vs h can level short.
+        record { pieces = map (form m) vs; each = each_form m o n vs h can level short; joined = forms_joined (form m) vs };
+    only = λ m n vs c h p.
+        let y = each_only m n vs p.pieces h p.each in
+        (p.joined ∙ ap concat y.0 ∙ sym (forms_joined (form m) vs), y.1, y.2);
+  }
+
+module _ {A : Type 0} {E : A → A → Type 0} {B : BERMode → ℕ → A → List ℕ → Type 0} {form : BERMode → A → List ℕ} {nest : BERMode → A → ℕ}
+    {Can : A → Type 0} (x : IsWritten E B form nest Can) where
   elements_any : (n : ℕ) (vs : List A) (bs : List (List ℕ)) → Each (B Ber n) vs bs → AllByRecursion Can vs × (elements_nest nest Der vs ≤ n)
   elements_any n [] [] p = (tt, omega arith)
   elements_any n [] (b ∷ bs) p = absurd p
@@ -129,11 +149,7 @@ module _ {A : Type 0} {E : A → A → Type 0} {B : BERMode → ℕ → A → Li
   -- the elements of a list keep the laws of writing
   pub elements_written : IsWritten (λ vs ws. Each E vs ws) (ElementsOf B) (elements_form form) (elements_nest nest) (λ vs. AllByRecursion Can vs)
   elements_written = record {
-    has = record {
-      in_bytes = elements_bytes;
-      holds = elements_hold;
-      only = λ m n vs c h p. let y = elements_only m n vs p.pieces h p.each in (p.joined ∙ y.0, y.1, y.2);
-    };
+    has = elements_have x.has;
     any = λ n vs c p. elements_any n vs p.pieces p.each;
     same = elements_same;
   }
