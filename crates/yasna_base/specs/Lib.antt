@@ -25,6 +25,7 @@ pub mod TaggedDerValue
 pub mod Order
 pub mod Set
 pub mod SetLaws
+pub mod SetWriting
 pub mod Octets
 pub mod Bits
 pub mod Text
