@@ -23,6 +23,8 @@ pub mod Cut
 pub mod Raw
 pub mod Order
 pub mod SetLaws
+pub mod SetOfWriting
+pub mod SetWriting
 pub mod Octets
 pub mod Bits
 pub mod BitPieces

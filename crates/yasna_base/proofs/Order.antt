@@ -1,5 +1,5 @@
 -- Lists put in order: there is one order of a list in which items that tie stand as they stood.
-use Rattle.std.proofs.Common.{◌≡◌, ℕ, ◌<◌, List, [], ◌∷◌, length, get_or, suc, refl, ap, ap₂, sym, ◌∙◌, arith, Bool, true, false, cond, not, ◌&&◌, map}
+use Rattle.std.proofs.Common.{◌≡◌, ℕ, ◌+◌, ◌<◌, List, [], ◌∷◌, length, get_or, zero, suc, refl, ap, ap₂, sym, ◌∙◌, arith, subst, Bool, true, false, cond, not, ◌&&◌, map}
 use Rattle.std.specs.Cmp.{IsStrictWeakOrder}
 use Rattle.std.specs.declared.cmp.Ordering.{Ordering}
 use Rattle.std.specs.List.{AllByRecursion, filter, Contains}
@@ -44,7 +44,7 @@ strip : {X : Type 0} (b : Bool) (x : X) (f g : List X) → cond b (x ∷ f) f �
 strip true x f g e = cc
 strip false x f g e = e
 
-no_head : {X : Type 0} (x : X) (xs : List X) → [] ≡ x ∷ xs → ⊥
+pub no_head : {X : Type 0} (x : X) (xs : List X) → [] ≡ x ∷ xs → ⊥
 no_head x xs e = omega (arith, ap length e)
 
 -- each item isn't below those before it
@@ -61,7 +61,7 @@ rises_pairs lt (x ∷ xs) f = (
 )
 
 -- and so it isn't below the one before it
-sorted_rises : {X : Type 0} (lt : X → X → Bool) (xs : List X) → Rises lt xs → IsSortedBy lt xs
+pub sorted_rises : {X : Type 0} (lt : X → X → Bool) (xs : List X) → Rises lt xs → IsSortedBy lt xs
 sorted_rises lt [] r k d low h = absurd (omega (arith, h))
 sorted_rises lt (x ∷ []) r k d low h = absurd (omega (arith, h))
 sorted_rises lt (x ∷ y ∷ ys) r zero d low h = r.0.0
@@ -80,9 +80,22 @@ rises_map {X} f lt less g (x ∷ xs) r = (images xs r.0, rises_map f lt less g x
     images (y ∷ ys) a = (g y x a.0, images ys a.1)
 
 -- what holds of each item that a list has
-all_contained : {X : Type 0} (P : X → Type 0) (xs : List X) → ((x : X) → Contains xs x → P x) → AllByRecursion P xs
+pub all_contained : {X : Type 0} (P : X → Type 0) (xs : List X) → ((x : X) → Contains xs x → P x) → AllByRecursion P xs
 all_contained P [] f = tt
 all_contained P (x ∷ xs) f = (f x (0, omega arith, refl), all_contained P xs (λ y c. f y (suc c.0, omega (arith, c.1), c.2)))
+
+-- what holds of all items holds of each that a list has
+pub all_at : {X : Type 0} (P : X → Type 0) (xs : List X) → AllByRecursion P xs → (x : X) → Contains xs x → P x
+all_at {X} P xs a x c = at xs a c.0 c.1 c.2
+  where
+    at : (ys : List X) → AllByRecursion P ys → (k : ℕ) → k < length ys → get_or ys k x ≡ x → P x
+    at [] b k h e = absurd (omega (arith, h))
+    at (y ∷ ys) b zero h e = subst P e b.0
+    at (y ∷ ys) b (suc k) h e = at ys b.1 k (omega (arith, h)) e
+
+-- what holds of all items holds of them in any order
+pub all_permuted : {X : Type 0} (P : X → Type 0) (xs ys : List X) → IsPermutation xs ys → AllByRecursion P xs → AllByRecursion P ys
+all_permuted P xs ys h a = all_contained P ys (λ y c. all_at P xs a y (Contains-permutation ys xs y (IsPermutation-sym xs ys h) c))
 
 all_filter : {X : Type 0} (p : X → Bool) (P : X → Type 0) (xs : List X) → AllByRecursion (λ x. p x ≡ true → P x) xs → AllByRecursion P (filter p xs)
 all_filter p P [] a = tt
@@ -111,7 +124,8 @@ same_filter {X} p xs ys h one =
     (all_contained (λ y. p y ≡ true → x ≡ y) ys (λ y b f. one x y a (Contains-permutation ys xs y (IsPermutation-sym xs ys h) b) e f)))))
 
 module _ {X : Type 0} (R : X → X → Ordering) (o : IsStrictWeakOrder (λ (x y : X). is_lt (R x y))) where
-  same_side : (x : X) → is_lt (R x x) ≡ false
+  -- an item isn't below itself
+  pub same_side : (x : X) → is_lt (R x x) ≡ false
   same_side x = is_one (is_lt (R x x)) (λ e. absurd (let f = o.one_way x x e in cc))
 
   ties_self : (x : X) → ties (λ x y. is_lt (R x y)) x x ≡ true
@@ -134,9 +148,29 @@ module _ {X : Type 0} (R : X → X → Ordering) (o : IsStrictWeakOrder (λ (x y
       step true e s = (all_put (λ z. is_lt (R z y) ≡ false) x ys (o.one_way y x e) r.0, s)
       step false e s = ((e, all_wider (λ z h. o.chain z y x h e) ys r.0), r)
 
-  rises_order : (xs : List X) → Rises (λ x y. is_lt (R x y)) (in_order R xs)
+  -- a list in order rises
+  pub rises_order : (xs : List X) → Rises (λ x y. is_lt (R x y)) (in_order R xs)
   rises_order [] = tt
   rises_order (x ∷ xs) = rises_put x (in_order R xs) (rises_order xs)
+
+  -- what holds of all items holds of them in order
+  pub all_order : (P : X → Type 0) (xs : List X) → AllByRecursion P xs → AllByRecursion P (in_order R xs)
+  all_order P [] a = tt
+  all_order P (x ∷ xs) a = all_put P x (in_order R xs) a.0 (all_order P xs a.1)
+
+  all_put_back : (P : X → Type 0) (x : X) (ys : List X) → AllByRecursion P (put_in R x ys) → P x × AllByRecursion P ys
+  all_put_back P x [] a = a
+  all_put_back P x (y ∷ ys) a = step (is_lt (R y x)) (all_put_back P x ys) a
+    where
+      step : (b : Bool) → (AllByRecursion P (put_in R x ys) → P x × AllByRecursion P ys) →
+          AllByRecursion P (if b then (y ∷ put_in R x ys) else (x ∷ (y ∷ ys))) → P x × AllByRecursion P (y ∷ ys)
+      step true f p = let r = f p.1 in (r.0, (p.0, r.1))
+      step false f p = p
+
+  -- and back
+  pub all_order_back : (P : X → Type 0) (xs : List X) → AllByRecursion P (in_order R xs) → AllByRecursion P xs
+  all_order_back P [] a = tt
+  all_order_back P (x ∷ xs) a = let r = all_put_back P x (in_order R xs) a in (r.0, all_order_back P xs r.1)
 
   stable_put : (z x : X) (ys : List X) → filter (ties (λ x y. is_lt (R x y)) z) (put_in R x ys) ≡ filter (ties (λ x y. is_lt (R x y)) z) (x ∷ ys)
   stable_put z x [] = refl
@@ -199,13 +233,21 @@ module _ {X : Type 0} (R : X → X → Ordering) (o : IsStrictWeakOrder (λ (x y
       strip (ties (λ x y. is_lt (R x y)) x z) z (filter (ties (λ x y. is_lt (R x y)) x) ys) (filter (ties (λ x y. is_lt (R x y)) x) zs)
       (sym (ap (λ w. cond (ties (λ x y. is_lt (R x y)) x w) (w ∷ filter (ties (λ x y. is_lt (R x y)) x) ys) (filter (ties (λ x y. is_lt (R x y)) x) ys)) same) ∙ e x)))
 
-  rises_sorted : (xs : List X) → IsSortedBy (λ x y. is_lt (R x y)) xs → Rises (λ x y. is_lt (R x y)) xs
+  pub rises_sorted : (xs : List X) → IsSortedBy (λ x y. is_lt (R x y)) xs → Rises (λ x y. is_lt (R x y)) xs
   rises_sorted xs up = rises_pairs (λ x y. is_lt (R x y)) xs (λ i j d h k. sorted_far (λ x y. is_lt (R x y)) o xs up i j d (omega (arith, h)) k)
 
   -- what a stable sort makes of a list
   pub in_order_is : (xs ys : List X) → IsSortedBy (λ x y. is_lt (R x y)) ys → IsStableBy (λ x y. is_lt (R x y)) xs ys → ys ≡ in_order R xs
   in_order_is xs ys up stable =
       one_rising ys (in_order R xs) (rises_sorted ys up) (rises_order xs) (λ x. stable x ∙ sym (stable_order x xs))
+
+  -- a list in order is sorted
+  pub sorted_order : (xs : List X) → IsSortedBy (λ x y. is_lt (R x y)) (in_order R xs)
+  sorted_order xs = sorted_rises (λ x y. is_lt (R x y)) (in_order R xs) (rises_order xs)
+
+  -- a list that rises is in order
+  pub in_order_rising : (xs : List X) → Rises (λ x y. is_lt (R x y)) xs → in_order R xs ≡ xs
+  in_order_rising xs r = sym (in_order_is xs xs (sorted_rises (λ x y. is_lt (R x y)) xs r) (λ x. refl))
 
   ties_join : (z x y : X) → ties (λ x y. is_lt (R x y)) z x ≡ true → ties (λ x y. is_lt (R x y)) z y ≡ true → ties (λ x y. is_lt (R x y)) x y ≡ true
   ties_join z x y e f =

@@ -76,7 +76,7 @@ level Equal e f = refl
 level Greater e f = absurd (cc)
 
 -- bytes that tie are equal
-octets_tie : (b c : List ℕ) → ties (λ x y. is_lt (octets_cmp x y)) b c ≡ true → b ≡ c
+pub octets_tie : (b c : List ℕ) → ties (λ x y. is_lt (octets_cmp x y)) b c ≡ true → b ≡ c
 octets_tie b c e =
     let h = both_false (is_lt (octets_cmp b c)) (is_lt (octets_cmp c b)) e in
     let back = sym (ap is_lt (nat_list_cmp_total.antisymm c b)) ∙ h.1 in
@@ -86,7 +86,8 @@ pub set_of_order_one : SetOfOrderIsOne
 set_of_order_one = λ ps qs p.
     in_order_permuted octets_cmp (ranks_by nat_list_cmp_total (λ (b : List ℕ). b)) ps qs p (λ x y a b e. octets_tie x y e)
 
-tag_of_key : (p q : SetPart) → part_key p ≡ part_key q → p.tag ≡ q.tag
+-- parts that go by one key have one tag
+pub tag_of_key : (p q : SetPart) → part_key p ≡ part_key q → p.tag ≡ q.tag
 tag_of_key p q e =
     let c : class_number p.tag.tag_class ≡ class_number q.tag.tag_class = cc in
     let n : p.tag.tag_number ≡ q.tag.tag_number = cc in

@@ -7,7 +7,7 @@ use Rattle.yasna_base.specs.declared.mode.BERMode.TheVariants.{Ber, Der}
 use Rattle.yasna_base.specs.declared.tag.PCBit.TheVariants.{Constructed}
 use Rattle.yasna_base.specs.declared.tag.Tag.{Tag}
 use Rattle.yasna_base.specs.Canonical.{IsCanonicalMode, HoldsForm, canonical_element, enclosed_form, enclosed_nest, HasForm}
-use Rattle.yasna_base.specs.Coding.{IsCoding}
+use Rattle.yasna_base.specs.Coding.{IsCoding, Any}
 use Rattle.yasna_base.specs.Identifier.{end_tag}
 use Rattle.yasna_base.specs.Order.{octets_cmp, in_order}
 use Rattle.yasna_base.specs.Pieces.{Each}
@@ -72,6 +72,18 @@ SetOfKeepsReadingLaws E B S =
 abbrev pub SetOfKeepsWritingLaws : {A : Type 0} → (A → A → Type 0) → (BERMode → ℕ → A → List ℕ → Type 0) → (BERMode → A → List ℕ) →
     (BERMode → A → ℕ) → (A → Type 0) → Type 0
 SetOfKeepsWritingLaws E B form nest Can = (t : Tag) → (t ≡ end_tag → ⊥) → t.tag_number < 2 ^ 64 → SetOfIsWritten E B form nest Can t
+
+-- SET OF keeps both, where its elements, which B n m u v b says the bytes b to encode under the tag u, keep them under any tag
+abbrev pub SetOfKeepsLaws : {A : Type 0} → (ℕ → BERMode → Tag → A → List ℕ → Type 0) → (Tag → BERMode → A → List ℕ) → (BERMode → A → ℕ) →
+    (A → Type 0) → Type 0
+SetOfKeepsLaws B form nest Can =
+    (u : Tag) → (u ≡ end_tag → ⊥) → u.tag_number < 2 ^ 64 →
+    SetOfKeepsReadingLaws (λ v w. v ≡ w) (λ m n v b. B n m u v b) (Any (λ m n v b. B n m u v b))
+    × SetOfKeepsWritingLaws (λ v w. v ≡ w) (λ m n v b. B n m u v b) (form u) nest Can
+
+-- SET OF raw elements keeps the laws of reading
+abbrev pub SetOfRawKeepsReadingLaws : Type 0
+SetOfRawKeepsReadingLaws = SetOfKeepsReadingLaws (λ v w. v ≡ w) (λ m n v b. IsRaw n m v b) (Any (λ m n v b. IsRaw n m v b))
 
 -- the form of a raw element under its own tag
 abbrev pub own_form : BERMode → RawValue → List ℕ

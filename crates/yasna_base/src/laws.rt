@@ -2,7 +2,8 @@
 //!
 //! These functions do nothing. Their contracts state the laws that every reader and every writer above relies on:
 //! bytes have one meaning, no encoding begins another, and each value has one form in DER.
-ghost use Rattle.std.specs.Prelude.{◌≡◌, ◌<◌, ◌^◌, ℕ, List, length, true, MatchResult, IsTrue, ◌↔◌};
+ghost use Rattle.std.specs.Prelude.{◌≡◌, ◌<◌, ◌^◌, ℕ, List, length, true, MatchResult, IsTrue, ◌↔◌, FitsSigned};
+ghost use Rattle.std.specs.Int.{w64};
 ghost use Rattle.std.specs.List.{AllByRecursion};
 ghost use Rattle.std.specs.Cmp.Lexicographic.{slice_cmp};
 ghost use Rattle.std.specs.Ordering.{nat_cmp, int_cmp, bool_cmp, ordering_then};
@@ -15,12 +16,15 @@ ghost use Rattle.yasna_base.specs.declared.tag.PCBit.{PCBit};
 ghost use Rattle.yasna_base.specs.Identifier.{universal, class_number, bit_number};
 ghost use Rattle.yasna_base.specs.Laws.{IdentifiersAreUnambiguous, LengthsAreUnambiguous, PrimitiveElementsAreUnambiguous};
 ghost use Rattle.yasna_base.specs.Boolean.{BooleanKeepsLaws};
+ghost use Rattle.yasna_base.specs.Canonical.{leaf_nest};
+ghost use Rattle.yasna_base.specs.Digits.{IsBytes};
+ghost use Rattle.yasna_base.specs.Element.{Primitively};
 ghost use Rattle.yasna_base.specs.Null.{NullKeepsLaws};
-ghost use Rattle.yasna_base.specs.Integer.{SignedKeepsLaws, UnsignedKeepsLaws};
+ghost use Rattle.yasna_base.specs.Integer.{IsSigned, integer_form, SignedKeepsLaws, UnsignedKeepsLaws};
 ghost use Rattle.yasna_base.specs.Enumerated.{EnumeratedKeepsLaws};
-ghost use Rattle.yasna_base.specs.BigInteger.{BigIntegerKeepsLaws};
+ghost use Rattle.yasna_base.specs.BigInteger.{IsBigInteger, big_integer_form, CanBigInteger, BigIntegerKeepsLaws};
 ghost use Rattle.yasna_base.specs.Cut.{DeepIsNone};
-ghost use Rattle.yasna_base.specs.Octets.{octets_cutting, OctetsKeepLaws};
+ghost use Rattle.yasna_base.specs.Octets.{IsOctets, octets_form, octets_cutting, OctetsKeepLaws};
 ghost use Rattle.yasna_base.specs.Bits.{bits_cutting, BitsKeepLaws};
 ghost use Rattle.yasna_base.specs.Text.{InUtf8, InNumeric, InPrintable, InVisible, InIa5, TextKeepsLaws, BmpKeepsLaws};
 ghost use Rattle.yasna_base.specs.Oid.{OidKeepsLaws};
@@ -29,6 +33,7 @@ ghost use Rattle.yasna_base.specs.declared.models.tagged_der_value.TaggedDerValu
 ghost use Rattle.yasna_base.specs.TaggedDerValue.{raw_of};
 ghost use Rattle.yasna_base.specs.Raw.{RawKeepsReadingLaws, TooDeepIsNotRaw};
 ghost use Rattle.yasna_base.specs.SetLaws.{SetKeepsReadingLaws, SetOfOrderIsOne, SetOrderIsOne};
+ghost use Rattle.yasna_base.specs.SetWriting.{SetOfKeepsLaws, SetOfRawKeepsReadingLaws, SetKeepsWritingLaws};
 ghost use Rattle.yasna_base.specs.UtcTime.{UtcTextsAreExact, UtcTimeKeepsLaws};
 ghost use Rattle.yasna_base.specs.GeneralizedTime.{GeneralTextsAreExact, GeneralizedTimeKeepsLaws};
 ghost use Rattle.yasna_base.specs.declared.models.utc_time.UTCTime.{UTCTime};
@@ -236,4 +241,21 @@ pub fn time_orders()
     ensures utc_equality { (a b : UTCTime) → IsTrue (⟦<UTCTime as PartialEq>⟧.eq a b) ↔ (utc_of a ≡ utc_of b) }
     ensures general { (a b : GeneralizedTime) → ⟦<GeneralizedTime as Ord>⟧.cmp a b ≡ ordering_then (int_cmp (civil_nanos a.datetime) (civil_nanos b.datetime)) (ordering_then (slice_cmp nat_cmp a.sub_nano.items b.sub_nano.items) (bool_cmp a.is_leap_second b.is_leap_second)) }
     ensures general_equality { (a b : GeneralizedTime) → IsTrue (⟦<GeneralizedTime as PartialEq>⟧.eq a b) ↔ (moment_of a ≡ moment_of b) }
+{}
+
+/// Sets keep the laws of writing, under any tag but that of the end of contents, and SET OF those of reading too.
+///
+/// A list of values is read from the forms of its items where these ascend, in DER and in BER, and DER reads nothing
+/// else; so is a list of raw elements of DER whose tags don't fall. Parts that are such forms make a set that is read as
+/// the same values in order, however the parts stood. Written again, what DER read makes the same bytes: a SET OF however
+/// its parts stand, and so a SET where each tag has one element. Where two elements of a SET have one tag, it does so for
+/// parts that stand as they were read, if that tag's number is below 31.
+///
+/// SET OF keeps both for elements of any type that does; `set_of_enumerated`, `set_of_big_integer` and `set_of_octets` say so of three.
+pub fn sets_written()
+    ensures set_of_enumerated { SetOfKeepsLaws (Primitively (IsSigned w64)) integer_form leaf_nest (FitsSigned w64) }
+    ensures set_of_big_integer { SetOfKeepsLaws (Primitively IsBigInteger) big_integer_form leaf_nest CanBigInteger }
+    ensures set_of_octets { SetOfKeepsLaws IsOctets octets_form leaf_nest IsBytes }
+    ensures set_of_raw { SetOfRawKeepsReadingLaws }
+    ensures set { SetKeepsWritingLaws }
 {}

@@ -1,0 +1,201 @@
+-- The laws of writing of SET OF.
+use Rattle.std.proofs.Common.{◌≡◌, ℕ, zero, suc, ◌+◌, ◌^◌, ◌<◌, ◌≤◌, Bool, true, false, max, List, [], ◌∷◌, length, map, refl, ap, ap₂, ◌∙◌, sym, arith, subst}
+use Rattle.std.specs.List.{AllByRecursion, concat}
+use Rattle.std.specs.List.Sorted.{IsSorted, IsPermutation}
+use Rattle.std.specs.Ordering.{is_lt}
+use Rattle.std.specs.Prelude.{if◌then◌else◌}
+use Rattle.std.specs.declared.cmp.Ordering.{Ordering}
+use Rattle.std.proofs.lemmas.Cmp.{nat_list_cmp_total}
+use Rattle.std.proofs.lemmas.List.Sorted.{ranks_by}
+use Rattle.yasna_base.specs.declared.mode.BERMode.{BERMode}
+use Rattle.yasna_base.specs.declared.mode.BERMode.TheVariants.{Ber, Der}
+use Rattle.yasna_base.specs.declared.tag.PCBit.TheVariants.{Constructed}
+use Rattle.yasna_base.specs.declared.tag.Tag.{Tag}
+use Rattle.yasna_base.specs.Canonical.{IsCanonicalMode, HoldsForm, canonical_element, HasForm, IsWritten}
+use Rattle.yasna_base.specs.Coding.{IsCoding}
+use Rattle.yasna_base.specs.Identifier.{StartsElement}
+use Rattle.yasna_base.specs.Laws.{KeepsLaws}
+use Rattle.yasna_base.specs.Order.{octets_cmp, put_in, in_order}
+use Rattle.yasna_base.specs.Pieces.{Each}
+use Rattle.yasna_base.specs.SequenceOf.{IsListOf, elements_form, elements_nest}
+use Rattle.yasna_base.specs.Set.{AreInSetOfOrder, SetOfElements, IsSetOf, SetOfContents}
+use Rattle.yasna_base.specs.SetWriting.{MakeElement, forms, in_form_order, CanSetOf, set_of_form, set_of_nest, SetOfIsWritten, SetOfKeepsReadingLaws, SetOfKeepsWritingLaws, SetOfKeepsLaws}
+use Rattle.yasna_base.proofs.Canonical.{enclosed_has, enclosed_written, holds_own, short_contents}
+use Rattle.yasna_base.proofs.Identifier.{begins_some}
+use Rattle.yasna_base.proofs.Order.{sorted_order, in_order_rising, rises_sorted, all_order, all_order_back, all_permuted, in_order_map}
+use Rattle.yasna_base.proofs.SequenceOf.{forms_joined, each_form, each_only, elements_have, elements_written}
+use Rattle.yasna_base.proofs.SetLaws.{set_of, set_of_order_one}
+
+-- what begins with an identifier isn't empty
+starts_filled : (b : List ℕ) → StartsElement b → b ≡ [] → ⊥
+starts_filled b x e = omega (arith, begins_some x.tag b x.begins, ap length e)
+
+-- what stands for values begins with identifiers, so none of it is empty
+each_filled : {A : Type 0} {R : A → List ℕ → Type 0} → ((v : A) (b : List ℕ) → R v b → StartsElement b) → (vs : List A) (bs : List (List ℕ)) → Each R vs bs →
+    AllByRecursion (λ b. b ≡ [] → ⊥) bs
+each_filled f [] [] p = tt
+each_filled f [] (b ∷ bs) p = absurd p
+each_filled f (v ∷ vs) [] p = absurd p
+each_filled f (v ∷ vs) (b ∷ bs) p = (starts_filled b (f v b p.0), each_filled f vs bs p.1)
+
+-- the order that a mode asks of forms is asked wherever they hold
+order_holds : (m o : BERMode) (bs : List (List ℕ)) → HoldsForm m o → AreInSetOfOrder m bs → AreInSetOfOrder o bs
+order_holds Ber o bs h x = absurd h
+order_holds Der Ber bs h x = tt
+order_holds Der Der bs h x = x
+
+-- what ascends stands in the order that any mode asks
+any_order : (m : BERMode) (bs : List (List ℕ)) → IsSorted octets_cmp bs → AreInSetOfOrder m bs
+any_order Ber bs x = tt
+any_order Der bs x = x
+
+-- and where a canonical mode asks it, it ascends
+canonical_order : (m : BERMode) (bs : List (List ℕ)) → IsCanonicalMode m → AreInSetOfOrder m bs → IsSorted octets_cmp bs
+canonical_order Ber bs h x = absurd h
+canonical_order Der bs h x = x
+
+-- encodings in order stand in the order that any mode asks
+octets_in_order : (m : BERMode) (bs : List (List ℕ)) → AreInSetOfOrder m (in_order octets_cmp bs)
+octets_in_order m bs = any_order m (in_order octets_cmp bs) (sorted_order octets_cmp (ranks_by nat_list_cmp_total (λ (b : List ℕ). b)) bs)
+
+-- encodings that a canonical mode takes so are in order
+octets_ordered : (m : BERMode) (bs : List (List ℕ)) → IsCanonicalMode m → AreInSetOfOrder m bs → in_order octets_cmp bs ≡ bs
+octets_ordered m bs h x =
+    let o = ranks_by nat_list_cmp_total (λ (b : List ℕ). b) in
+    in_order_rising octets_cmp o bs (rises_sorted octets_cmp o bs (canonical_order m bs h x))
+
+-- parts that stand otherwise than some that aren't empty make the contents of a SET OF, and no others
+parts_make : (m : BERMode) (t : Tag) (bs parts : List (List ℕ)) (b : List ℕ) → AllByRecursion (λ p. p ≡ [] → ⊥) bs → IsPermutation bs parts →
+    b ≡ canonical_element m t Constructed (concat (in_order octets_cmp bs)) → MakeElement SetOfContents m t parts b
+parts_make m t bs parts b filled p e =
+    let same = ap concat (set_of_order_one bs parts p) in
+    record {
+      contents = concat (in_order octets_cmp bs);
+      made = record { filled = all_permuted (λ p. p ≡ [] → ⊥) bs parts p filled; joined = same };
+      alone = λ c x. x.joined ∙ sym same;
+      around = e;
+    }
+
+module _ {A : Type 0} (nest : BERMode → A → ℕ) (m : BERMode) (R : A → A → Ordering) where
+  put_nest : (v : A) (vs : List A) → elements_nest nest m (put_in R v vs) ≡ max (nest m v) (elements_nest nest m vs)
+  put_nest v [] = refl
+  put_nest v (w ∷ vs) = step (is_lt (R w v)) (put_nest v vs)
+    where
+      step : (b : Bool) → elements_nest nest m (put_in R v vs) ≡ max (nest m v) (elements_nest nest m vs) →
+          elements_nest nest m (if b then (w ∷ put_in R v vs) else (v ∷ (w ∷ vs))) ≡ max (nest m v) (max (nest m w) (elements_nest nest m vs))
+      step true e = omega (arith, e)
+      step false e = refl
+
+  -- values in order nest as deep
+  order_nest : (vs : List A) → elements_nest nest m (in_order R vs) ≡ elements_nest nest m vs
+  order_nest [] = refl
+  order_nest (v ∷ vs) = put_nest v (in_order R vs) ∙ ap (λ n. max (nest m v) n) (order_nest vs)
+
+module _ {A : Type 0} {B : BERMode → ℕ → A → List ℕ → Type 0} {form : BERMode → A → List ℕ} {nest : BERMode → A → ℕ} {Can : A → Type 0}
+    (x : HasForm B form nest (λ m. Can)) where
+  -- values in the order of their forms have one form as the elements of a SET OF
+  set_of_elements_have : HasForm (SetOfElements B) (elements_form form) (elements_nest nest) (CanSetOf form Can)
+  set_of_elements_have = record {
+    in_bytes = λ m vs can short. (elements_have x).in_bytes m vs can.each short;
+    holds = λ m o n vs h can level short. record {
+      elements = record { pieces = map (form m) vs; each = each_form x m o n vs h can.each level short; joined = forms_joined (form m) vs };
+      order = order_holds m o (map (form m) vs) h can.order;
+    };
+    only = λ m n vs c h p.
+        let y = each_only x m n vs p.elements.pieces h p.elements.each in (
+          p.elements.joined ∙ ap concat y.0 ∙ sym (forms_joined (form m) vs),
+          record { each = y.1; order = subst (λ bs. AreInSetOfOrder m bs) y.0 p.order },
+          y.2,
+        );
+  }
+
+  -- the forms of values in order are the forms in order
+  forms_in_order : (m : BERMode) (vs : List A) → forms form m (in_form_order form m vs) ≡ in_order octets_cmp (forms form m vs)
+  forms_in_order m vs = in_order_map (form m) octets_cmp vs
+
+  -- values can be put in the order of their forms
+  form_ordered : (m : BERMode) (vs : List A) → AllByRecursion Can vs → CanSetOf form Can m (in_form_order form m vs)
+  form_ordered m vs can = record {
+    each = all_order (λ v w. octets_cmp (form m v) (form m w)) (ranks_by nat_list_cmp_total (form m)) Can vs can;
+    order = subst (λ bs. AreInSetOfOrder m bs) (sym (forms_in_order m vs)) (octets_in_order m (forms form m vs));
+  }
+
+-- a SET OF is a list in order
+as_list : {A : Type 0} (B : BERMode → ℕ → A → List ℕ → Type 0) (t : Tag) (m : BERMode) (n : ℕ) (vs : List A) (b : List ℕ) → IsSetOf B t m n vs b → IsListOf B t m n vs b
+as_list B t m zero vs b p = p
+as_list B t m (suc n) vs b p = record { contents = p.contents; element = p.element; meaning = p.meaning.elements }
+
+module _ {A : Type 0} {E : A → A → Type 0} {B : BERMode → ℕ → A → List ℕ → Type 0} {S : BERMode → ℕ → List ℕ → Type 0} {form : BERMode → A → List ℕ}
+    {nest : BERMode → A → ℕ} {Can : A → Type 0} (r : IsCoding E B S) (x : IsWritten E B form nest Can) (t : Tag) (range : t.tag_number < 2 ^ 64) where
+  element_starts : (m : BERMode) (n : ℕ) (v : A) (b : List ℕ) → B m n v b → StartsElement b
+  element_starts m n v b p = r.opens m n b (r.meaning.among m n v b p)
+
+  -- no form is empty
+  forms_filled : (m : BERMode) (vs : List A) → IsCanonicalMode m → AllByRecursion Can vs → length (elements_form form m vs) < 2 ^ 64 →
+      AllByRecursion (λ b. b ≡ [] → ⊥) (forms form m vs)
+  forms_filled m vs h can short =
+      each_filled (element_starts m (elements_nest nest m vs)) vs (forms form m vs)
+      (each_form x.has m m (elements_nest nest m vs) vs (holds_own m h) can (omega arith) short)
+
+  -- nor is any that was read
+  read_filled : (m : BERMode) (n : ℕ) (vs : List A) (b : List ℕ) → IsCanonicalMode m → IsSetOf B t m n vs b → AllByRecursion (λ b. b ≡ [] → ⊥) (forms form m vs)
+  read_filled m zero vs b h p = absurd p
+  read_filled m (suc n) vs b h p =
+      let bs = p.meaning.elements.pieces in
+      subst (λ cs. AllByRecursion (λ b. b ≡ [] → ⊥) cs) (each_only x.has m n vs bs h p.meaning.elements.each).0
+      (each_filled (element_starts m n) vs bs p.meaning.elements.each)
+
+  set_of_has : HasForm (IsSetOf B t) (set_of_form form t) (set_of_nest nest) (CanSetOf form Can)
+  set_of_has = enclosed_has (set_of_elements_have x.has) t range
+
+  -- the element around forms in order
+  around_forms : (m : BERMode) (vs : List A) (bs : List (List ℕ)) → forms form m vs ≡ bs → set_of_form form t m vs ≡ canonical_element m t Constructed (concat bs)
+  around_forms m vs bs e = ap (λ c. canonical_element m t Constructed c) (forms_joined (form m) vs ∙ ap concat e)
+
+  set_of_made : (m : BERMode) (vs : List A) (parts : List (List ℕ)) → IsCanonicalMode m → AllByRecursion Can vs →
+      length (set_of_form form t m (in_form_order form m vs)) < 2 ^ 64 → IsPermutation (forms form m vs) parts →
+      MakeElement SetOfContents m t parts (set_of_form form t m (in_form_order form m vs))
+  set_of_made m vs parts h can short p =
+      let ws = in_form_order form m vs in
+      let ordered = forms_in_order x.has m vs in
+      let inner = short_contents m t Constructed (elements_form form m ws) short in
+      let filled = forms_filled m ws h (form_ordered x.has m vs can).each inner in
+      let all = subst (λ bs. AllByRecursion (λ b. b ≡ [] → ⊥) bs) ordered filled in
+      let o = ranks_by nat_list_cmp_total (λ (b : List ℕ). b) in
+      parts_make m t (forms form m vs) parts (set_of_form form t m ws) (all_order_back octets_cmp o (λ b. b ≡ [] → ⊥) (forms form m vs) all) p
+      (around_forms m ws (in_order octets_cmp (forms form m vs)) ordered)
+
+  set_of_again : (m : BERMode) (n : ℕ) (vs : List A) (b : List ℕ) (parts : List (List ℕ)) → IsCanonicalMode m → IsSetOf B t m n vs b →
+      IsPermutation (forms form m vs) parts → MakeElement SetOfContents m t parts b
+  set_of_again m n vs b parts h y p =
+      let one = set_of_has.only m n vs b h y in
+      parts_make m t (forms form m vs) parts b (read_filled m n vs b h y) p
+      (one.0 ∙ around_forms m vs (in_order octets_cmp (forms form m vs)) (sym (octets_ordered m (forms form m vs) h one.1.order)))
+
+  -- a SET OF keeps the laws of writing
+  pub set_of_written : SetOfIsWritten E B form nest Can t
+  set_of_written =
+      let all = enclosed_written t range (elements_written x) in
+      record {
+        has = set_of_has;
+        ordered = λ m vs can. (form_ordered x.has m vs can, ap (λ n. 1 + n) (order_nest nest m (λ v w. octets_cmp (form m v) (form m w)) vs));
+        any = λ n vs b p. all.any n vs b (as_list B t Ber n vs b p);
+        same = all.same;
+        made = set_of_made;
+        again = set_of_again;
+      }
+
+-- under any tag it keeps the laws of reading, where its elements do
+pub set_of_reading : {A : Type 0} {E : A → A → Type 0} {B : BERMode → ℕ → A → List ℕ → Type 0} {S : BERMode → ℕ → List ℕ → Type 0} → IsCoding E B S →
+    SetOfKeepsReadingLaws E B S
+set_of_reading x = λ t not_end range. set_of t not_end x
+
+-- and those of writing
+pub set_of_writing : {A : Type 0} {E : A → A → Type 0} {B : BERMode → ℕ → A → List ℕ → Type 0} {S : BERMode → ℕ → List ℕ → Type 0} {form : BERMode → A → List ℕ}
+    {nest : BERMode → A → ℕ} {Can : A → Type 0} → IsCoding E B S → IsWritten E B form nest Can → SetOfKeepsWritingLaws E B form nest Can
+set_of_writing r x = λ t not_end range. set_of_written r x t range
+
+-- and both, where its elements keep them under any tag
+pub set_of_keeps : {A : Type 0} (B : ℕ → BERMode → Tag → A → List ℕ → Type 0) (form : Tag → BERMode → A → List ℕ) (nest : BERMode → A → ℕ) (Can : A → Type 0) →
+    KeepsLaws B form nest Can → SetOfKeepsLaws B form nest Can
+set_of_keeps B form nest Can x = λ u not_end range. let y = x u not_end range in (set_of_reading y.0, set_of_writing y.0 y.1)

@@ -1,0 +1,286 @@
+-- The laws of writing of SET.
+use Rattle.std.proofs.Common.{◌≡◌, ℕ, zero, suc, ◌+◌, ◌^◌, ◌<◌, ◌≤◌, ◌⊎◌, inl, inr, Bool, true, false, List, [], ◌∷◌, length, get_or, map, drop, refl, ap, ap₂, ◌∙◌, sym, arith, subst, lt-ltb}
+use Rattle.std.specs.Cmp.{IsStrictWeakOrder}
+use Rattle.std.specs.List.{AllByRecursion, concat}
+use Rattle.std.specs.List.Sorted.{IsSorted, IsSortedBy, IsPermutation}
+use Rattle.std.specs.Ordering.{nat_cmp, is_lt, ordering_then}
+use Rattle.std.specs.Prelude.{if◌then◌else◌, nat_lt}
+use Rattle.std.specs.declared.cmp.Ordering.{Ordering}
+use Rattle.std.specs.declared.cmp.Ordering.TheVariants.{Less, Equal, Greater}
+use Rattle.std.proofs.lemmas.Cmp.{nat_list_cmp_total}
+use Rattle.std.proofs.lemmas.List.Sorted.{ranks_by}
+use Rattle.std.proofs.lemmas.Map.Lookups.{exact_unsigned}
+use Rattle.std.proofs.Math.ListN.{get_or-map}
+use Rattle.std.proofs.lemmas.List.{length-map}
+use Rattle.std.proofs.lemmas.List.Elements.{Contains-get_or}
+use Rattle.yasna_base.specs.declared.mode.BERMode.{BERMode}
+use Rattle.yasna_base.specs.declared.mode.BERMode.TheVariants.{Ber, Der}
+use Rattle.yasna_base.specs.declared.tag.Tag.{Tag}
+use Rattle.yasna_base.specs.Canonical.{IsCanonicalMode, HoldsForm, enclosed_form, enclosed_nest, HasForm}
+use Rattle.yasna_base.specs.Digits.{IsBytes}
+use Rattle.yasna_base.specs.Element.{definite, Enclosed}
+use Rattle.yasna_base.specs.Identifier.{class_number, BeginsWithTag}
+use Rattle.yasna_base.specs.Length.{SpellsLength}
+use Rattle.yasna_base.specs.Order.{tag_cmp, octets_cmp, in_order}
+use Rattle.yasna_base.specs.Raw.{RawValue, RawFramed, with_length, with_zeros, RawOver, IsRaw}
+use Rattle.yasna_base.specs.SequenceOf.{elements_form, elements_nest}
+use Rattle.yasna_base.specs.Set.{AreInSetOrder, SetElements, IsSet, SetPart, HasItsTag, part_key, part_cmp, parts_bytes, SetContents}
+use Rattle.yasna_base.specs.SetWriting.{MakeElement, forms, own_form, part_of, in_part_order, AreRaw, CanSet, set_form, TagsKeepOrder, TagsTellElements, SetIsWritten, SetKeepsWritingLaws}
+use Rattle.yasna_base.proofs.Canonical.{canonical_element_bytes, canonical_element_only, enclosed_has}
+use Rattle.yasna_base.proofs.Element.{element_begins}
+use Rattle.yasna_base.proofs.Identifier.{class_same, begins_once}
+use Rattle.yasna_base.proofs.Length.{shortest_in_mode}
+use Rattle.yasna_base.proofs.Order.{no_head, rises_map, rises_order, sorted_rises, same_side, all_order, all_permuted, in_order_is, in_order_map, in_order_permuted}
+use Rattle.yasna_base.proofs.Raw.{raw_zero, raw_of, raw_into, raw_element}
+use Rattle.yasna_base.proofs.SequenceOf.{forms_joined, each_form, each_only, elements_have}
+use Rattle.yasna_base.proofs.SetLaws.{octets_tie, tag_of_key}
+
+-- what a raw element says of its own tag and payload
+record OwnTag (v : RawValue) (b : List ℕ) : Type 0 where
+  pub in_range : v.tag.tag_number < 2 ^ 64
+  pub in_bytes : IsBytes v.payload
+  pub begins : BeginsWithTag v.tag b
+
+raw_begins : (n : ℕ) (m : BERMode) (v : RawValue) (b : List ℕ) → IsRaw n m v b → OwnTag v b
+raw_begins zero m v b x = absurd (raw_zero m v b x)
+raw_begins (suc n) m v b x =
+    let y = raw_into n m v b x in
+    let z = raw_element v b y in
+    record { in_range = y.in_range; in_bytes = y.in_bytes; begins = element_begins m v.tag v.bit z.contents b z.element }
+
+framed_only : {R : RawValue → List ℕ → Type 0} (m : BERMode) (v : RawValue) (b : List ℕ) → IsCanonicalMode m → RawOver R m v b → RawFramed R m v b → b ≡ own_form m v
+framed_only m v b h x (with_length d j) =
+    canonical_element_only m v.tag v.bit v.payload b h (record { in_range = x.in_range; in_bytes = x.in_bytes; framed = definite d })
+framed_only Ber v b h x (with_zeros c i j e) = absurd h
+framed_only Der v b h x (with_zeros c i j e) = absurd (i.taken)
+
+-- a canonical mode takes a raw element in its form alone
+raw_only : (n : ℕ) (m : BERMode) (v : RawValue) (b : List ℕ) → IsCanonicalMode m → IsRaw n m v b → b ≡ own_form m v
+raw_only zero m v b h x = absurd (raw_zero m v b x)
+raw_only (suc n) m v b h x = let y = raw_into n m v b x in framed_only m v b h y y.framed
+
+framed_in_ber : {R S : RawValue → List ℕ → Type 0} (v : RawValue) (b : List ℕ) → RawFramed R Der v b → RawFramed S Ber v b
+framed_in_ber v b (with_length d j) =
+    with_length (record {
+      taken = tt;
+      l = d.l;
+      spelled = subst (λ l. SpellsLength Ber (length v.payload) l) (sym d.spelled.1) (shortest_in_mode Ber (length v.payload) d.spelled.0);
+      joined = d.joined;
+    }) (λ l. absurd l)
+framed_in_ber v b (with_zeros c i j e) = absurd (i.taken)
+
+raw_in_ber : (n : ℕ) (v : RawValue) (b : List ℕ) → IsRaw n Der v b → IsRaw n Ber v b
+raw_in_ber zero v b x = absurd (raw_zero Der v b x)
+raw_in_ber (suc n) v b x =
+    let y = raw_into n Der v b x in
+    raw_of n Ber v b (record { not_end = y.not_end; in_range = y.in_range; in_bytes = y.in_bytes; framed = framed_in_ber v b y.framed })
+
+-- a raw element of a canonical mode is one wherever that mode's forms hold
+raw_holds : (m o : BERMode) (n : ℕ) (v : RawValue) (b : List ℕ) → HoldsForm m o → IsRaw n m v b → IsRaw n o v b
+raw_holds Ber o n v b h x = absurd h
+raw_holds Der Ber n v b h x = raw_in_ber n v b x
+raw_holds Der Der n v b h x = x
+
+-- within levels that are given nothing is said of how deep elements nest
+abbrev no_nest : BERMode → RawValue → ℕ
+no_nest m v = 0
+
+-- raw elements within n levels have one form, where that is one
+raw_has : (n : ℕ) → HasForm (λ m k v b. IsRaw n m v b) own_form no_nest (λ m v. IsRaw n m v (own_form m v))
+raw_has n = record {
+  in_bytes = λ m v can short. canonical_element_bytes m v.tag v.bit v.payload (raw_begins n m v (own_form m v) can).in_bytes short;
+  holds = λ m o k v h can level short. raw_holds m o n v (own_form m v) h can;
+  only = λ m k v b h x.
+      let e = raw_only n m v b h x in
+      (e, subst (λ c. IsRaw n m v c) e x, omega arith);
+}
+
+-- the order that a mode asks of tags is asked wherever its forms hold
+tags_hold : (m o : BERMode) (ts : List Tag) → HoldsForm m o → AreInSetOrder m ts → AreInSetOrder o ts
+tags_hold Ber o ts h x = absurd h
+tags_hold Der Ber ts h x = tt
+tags_hold Der Der ts h x = x
+
+-- tags that don't fall stand in the order that any mode asks
+any_tags : (m : BERMode) (ts : List Tag) → IsSorted tag_cmp ts → AreInSetOrder m ts
+any_tags Ber ts x = tt
+any_tags Der ts x = x
+
+canonical_tags : (m : BERMode) (ts : List Tag) → IsCanonicalMode m → AreInSetOrder m ts → IsSorted tag_cmp ts
+canonical_tags Ber ts h x = absurd h
+canonical_tags Der ts h x = x
+
+-- raw elements whose tags stand in order have one form as the elements of a SET
+set_elements_have : (n : ℕ) → HasForm (λ m k vs c. SetElements m n vs c) (elements_form own_form) (elements_nest no_nest) (CanSet n)
+set_elements_have n = record {
+  in_bytes = λ m vs can short. (elements_have (raw_has n)).in_bytes m vs can.each short;
+  holds = λ m o k vs h can level short. record {
+    elements = record { pieces = map (own_form m) vs; each = each_form (raw_has n) m o k vs h can.each level short; joined = forms_joined (own_form m) vs };
+    order = tags_hold m o (map (λ (v : RawValue). v.tag) vs) h can.order;
+  };
+  only = λ m k vs c h p.
+      let y = each_only (raw_has n) m k vs p.elements.pieces h p.elements.each in
+      (p.elements.joined ∙ ap concat y.0 ∙ sym (forms_joined (own_form m) vs), record { each = y.1; order = p.order }, y.2);
+}
+
+-- where parts don't fall, their tags don't
+then_less : (a b x : Ordering) → is_lt (ordering_then a (ordering_then b x)) ≡ false → is_lt (ordering_then a b) ≡ false
+then_less Less b x e = e
+then_less Equal Less x e = e
+then_less Equal Equal x e = refl
+then_less Equal Greater x e = refl
+then_less Greater b x e = refl
+
+part_tags : (p q : SetPart) → is_lt (part_cmp p q) ≡ false → is_lt (tag_cmp p.tag q.tag) ≡ false
+part_tags p q e =
+    then_less (nat_cmp (class_number p.tag.tag_class) (class_number q.tag.tag_class)) (nat_cmp p.tag.tag_number q.tag.tag_number)
+    (octets_cmp (if nat_lt p.tag.tag_number 31 then [] else drop 1 p.bytes) (if nat_lt q.tag.tag_number 31 then [] else drop 1 q.bytes)) e
+
+-- and back, where of equal tags the rest doesn't
+less_then : (a b x : Ordering) → is_lt (ordering_then a b) ≡ false → (a ≡ Equal → b ≡ Equal → is_lt x ≡ false) → is_lt (ordering_then a (ordering_then b x)) ≡ false
+less_then Less b x e f = e
+less_then Equal Less x e f = e
+less_then Equal Equal x e f = f refl refl
+less_then Equal Greater x e f = refl
+less_then Greater b x e f = refl
+
+-- what parts of one tag go by
+abbrev rest : SetPart → List ℕ
+rest p = if nat_lt p.tag.tag_number 31 then [] else drop 1 p.bytes
+
+no_rest : (p : SetPart) → p.tag.tag_number < 31 → rest p ≡ []
+no_rest p h = ap (λ b. if b then [] else drop 1 p.bytes) (lt-ltb p.tag.tag_number 31 h)
+
+octets_self : (b : List ℕ) → is_lt (octets_cmp b b) ≡ false
+octets_self b = same_side octets_cmp (ranks_by nat_list_cmp_total (λ (c : List ℕ). c)) b
+
+same_rest : (p q : SetPart) → (p ≡ q) ⊎ (p.tag.tag_number < 31) → p.tag.tag_number ≡ q.tag.tag_number → is_lt (octets_cmp (rest p) (rest q)) ≡ false
+same_rest p q (inl same) n = subst (λ r. is_lt (octets_cmp (rest p) (rest r)) ≡ false) same (octets_self (rest p))
+same_rest p q (inr small) n = ap is_lt (ap₂ (λ a b. octets_cmp a b) (no_rest p small) (no_rest q (subst (λ k. k < 31) n small)))
+
+tag_parts : (p q : SetPart) → is_lt (tag_cmp p.tag q.tag) ≡ false → (p.tag ≡ q.tag → (p ≡ q) ⊎ (p.tag.tag_number < 31)) → is_lt (part_cmp p q) ≡ false
+tag_parts p q e one =
+    less_then (nat_cmp (class_number p.tag.tag_class) (class_number q.tag.tag_class)) (nat_cmp p.tag.tag_number q.tag.tag_number)
+    (octets_cmp (rest p) (rest q)) e
+    (λ f g.
+    let c = class_same p.tag.tag_class q.tag.tag_class (exact_unsigned (class_number p.tag.tag_class) (class_number q.tag.tag_class) f) in
+    let n = exact_unsigned p.tag.tag_number q.tag.tag_number g in
+    same_rest p q (one (ap₂ (λ d k. record { tag_class = d; tag_number = k }) c n)) n)
+
+abbrev part_order : BERMode → RawValue → RawValue → Ordering
+part_order m v w = part_cmp (part_of m v) (part_of m w)
+
+part_weak : (m : BERMode) → IsStrictWeakOrder (λ v w. is_lt (part_order m v w))
+part_weak m = ranks_by nat_list_cmp_total (λ (v : RawValue). part_key (part_of m v))
+
+abbrev tags : List RawValue → List Tag
+tags vs = map (λ (v : RawValue). v.tag) vs
+
+-- raw elements can be put in the order of parts
+set_ordered : (n : ℕ) (m : BERMode) (vs : List RawValue) → AreRaw n m vs → CanSet n m (in_part_order m vs)
+set_ordered n m vs all = record {
+  each = all_order (part_order m) (part_weak m) (λ v. IsRaw n m v (own_form m v)) vs all;
+  order = any_tags m (tags (in_part_order m vs)) (sorted_rises (λ t u. is_lt (tag_cmp t u)) (tags (in_part_order m vs))
+      (rises_map (λ (v : RawValue). v.tag) (λ v w. is_lt (part_order m v w)) (λ t u. is_lt (tag_cmp t u))
+      (λ v w. part_tags (part_of m v) (part_of m w)) (in_part_order m vs) (rises_order (part_order m) (part_weak m) vs)));
+}
+
+-- elements whose tags don't fall, and tell their order, stand in that order
+set_in_order : (m : BERMode) (vs : List RawValue) → IsSorted tag_cmp (tags vs) → TagsKeepOrder vs → in_part_order m vs ≡ vs
+set_in_order m vs up keep = sym (in_order_is (part_order m) (part_weak m) vs vs sorted (λ x. refl))
+  where
+    sorted : IsSortedBy (λ v w. is_lt (part_order m v w)) vs
+    sorted k d low h =
+        let here = get_or-map (λ (v : RawValue). v.tag) vs k d in
+        let next = get_or-map (λ (v : RawValue). v.tag) vs (k + 1) d in
+        let count = length-map vs (λ (v : RawValue). v.tag) in
+        let up_here = up k d.tag low (omega (arith, h, count)) in
+        tag_parts (part_of m (get_or vs (k + 1) d)) (part_of m (get_or vs k d))
+        (subst (λ t. is_lt (tag_cmp (get_or vs (k + 1) d).tag t) ≡ false) here
+        (subst (λ t. is_lt (tag_cmp t (get_or (tags vs) k d.tag)) ≡ false) next up_here))
+        (λ e. part_one (get_or vs (k + 1) d) (get_or vs k d)
+        (keep (get_or vs (k + 1) d) (get_or vs k d) (Contains-get_or vs (k + 1) d h) (Contains-get_or vs k d (omega (arith, h))) e))
+      where
+        part_one : (v w : RawValue) → (v ≡ w) ⊎ (v.tag.tag_number < 31) → (part_of m v ≡ part_of m w) ⊎ (v.tag.tag_number < 31)
+        part_one v w (inl same) = inl (ap (part_of m) same)
+        part_one v w (inr small) = inr small
+
+parts_tagged : (n : ℕ) (m : BERMode) (vs : List RawValue) → AreRaw n m vs → AllByRecursion HasItsTag (map (part_of m) vs)
+parts_tagged n m [] all = tt
+parts_tagged n m (v ∷ vs) all =
+    let x = raw_begins n m v (own_form m v) all.0 in
+    (record { in_range = x.in_range; begins = x.begins }, parts_tagged n m vs all.1)
+
+part_forms : (m : BERMode) (vs : List RawValue) → parts_bytes (map (part_of m) vs) ≡ forms own_form m vs
+part_forms m [] = refl
+part_forms m (v ∷ vs) = ap (λ bs. own_form m v ∷ bs) (part_forms m vs)
+
+same_part : (p q : SetPart) → p.tag ≡ q.tag → p.bytes ≡ q.bytes → p ≡ q
+same_part p q e f = ap₂ (λ t b. record { tag = t; bytes = b }) e f
+
+-- bytes that begin with identifiers are parts in one way
+pub parts_once : (ps qs : List SetPart) → AllByRecursion HasItsTag ps → AllByRecursion HasItsTag qs → parts_bytes ps ≡ parts_bytes qs → ps ≡ qs
+parts_once [] [] x y e = refl
+parts_once [] (q ∷ qs) x y e = absurd (no_head q.bytes (parts_bytes qs) e)
+parts_once (p ∷ ps) [] x y e = absurd (no_head p.bytes (parts_bytes ps) (sym e))
+parts_once (p ∷ ps) (q ∷ qs) x y e =
+    let b : p.bytes ≡ q.bytes = cc in
+    let bs : parts_bytes ps ≡ parts_bytes qs = cc in
+    let t = begins_once p.tag q.tag q.bytes (subst (λ c. BeginsWithTag p.tag c) b x.0.begins) y.0.begins in
+    ap₂ (λ r rs. r ∷ rs) (same_part p q t b) (parts_once ps qs x.1 y.1 bs)
+
+module _ (t : Tag) (range : t.tag_number < 2 ^ 64) (n : ℕ) where
+  set_has : HasForm (Enclosed (λ m k vs c. SetElements m n vs c) t) (enclosed_form (elements_form own_form) t) (enclosed_nest (elements_nest no_nest)) (CanSet n)
+  set_has = enclosed_has (set_elements_have n) t range
+
+  set_made : (m : BERMode) (vs : List RawValue) → AreRaw n m vs → MakeElement SetContents m t (forms own_form m vs) (set_form t m (in_part_order m vs))
+  set_made m vs all =
+      let joined : elements_form own_form m (in_part_order m vs) ≡ concat (parts_bytes (in_order part_cmp (map (part_of m) vs))) =
+      forms_joined (own_form m) (in_part_order m vs) ∙
+      ap concat (sym (part_forms m (in_part_order m vs)) ∙ ap parts_bytes (in_order_map (part_of m) part_cmp vs)) in
+      record {
+        contents = elements_form own_form m (in_part_order m vs);
+        made = record { tagged = map (part_of m) vs; tags = parts_tagged n m vs all; same = part_forms m vs; joined = joined };
+        alone = λ c x. x.joined ∙
+            ap (λ ps. concat (parts_bytes (in_order part_cmp ps)))
+            (parts_once x.tagged (map (part_of m) vs) x.tags (parts_tagged n m vs all) (x.same ∙ sym (part_forms m vs))) ∙ sym joined;
+        around = refl;
+      }
+
+  set_only : (m : BERMode) (vs : List RawValue) (b : List ℕ) → IsCanonicalMode m → IsSet t m (suc n) vs b → (b ≡ set_form t m vs) × CanSet n m vs
+  set_only m vs b h y = let one = set_has.only m (suc n) vs b h y in (one.0, one.1)
+
+  set_kept : (m : BERMode) (vs : List RawValue) → IsCanonicalMode m → CanSet n m vs → TagsKeepOrder vs → in_part_order m vs ≡ vs
+  set_kept m vs h can keep = set_in_order m vs (canonical_tags m (tags vs) h can.order) keep
+
+  set_again : (m : BERMode) (vs : List RawValue) (b : List ℕ) → IsCanonicalMode m → IsSet t m (suc n) vs b → TagsKeepOrder vs →
+      MakeElement SetContents m t (forms own_form m vs) b
+  set_again m vs b h y keep =
+      let one = set_only m vs b h y in
+      subst (λ c. MakeElement SetContents m t (forms own_form m vs) c) (ap (set_form t m) (set_kept m vs h one.1 keep) ∙ sym one.0)
+      (set_made m vs one.1.each)
+
+  set_anyhow : (m : BERMode) (vs ws : List RawValue) (b : List ℕ) → IsCanonicalMode m → IsSet t m (suc n) vs b → TagsTellElements vs → IsPermutation vs ws →
+      MakeElement SetContents m t (forms own_form m ws) b
+  set_anyhow m vs ws b h y tell p =
+      let one = set_only m vs b h y in
+      let order = sym (in_order_permuted (part_order m) (part_weak m) vs ws p (λ v w a c e.
+      tell v w a c (tag_of_key (part_of m v) (part_of m w) (octets_tie (part_key (part_of m v)) (part_key (part_of m w)) e)))) in
+      subst (λ c. MakeElement SetContents m t (forms own_form m ws) c)
+      (ap (set_form t m) (order ∙ set_kept m vs h one.1 (λ v w a c e. inl (tell v w a c e))) ∙ sym one.0)
+      (set_made m ws (all_permuted (λ v. IsRaw n m v (own_form m v)) vs ws p one.1.each))
+
+  -- a SET keeps the laws of writing
+  set_written : SetIsWritten t n
+  set_written = record {
+    holds = λ m o vs h can short. set_has.holds m o (suc (elements_nest no_nest m vs)) vs h can (omega arith) short;
+    only = set_only;
+    ordered = set_ordered n;
+    made = λ m vs h all. set_made m vs all;
+    again = set_again;
+    anyhow = set_anyhow;
+  }
+
+-- under any tag
+pub set_writing : SetKeepsWritingLaws
+set_writing = λ t not_end range n. set_written t range n
