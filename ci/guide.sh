@@ -1,6 +1,6 @@
 #!/bin/sh
-# What the documents show: each block of Rust in them, and in the comments on what the library hands out, stands in the proved
-# crate yasna_examples, line for line, but for how far the block is indented as a whole.
+# What the documents show: each block of Rust or of antt in them, and in the comments on what the library hands out, stands in the
+# proved crate yasna_examples, line for line, but for how far the block is indented as a whole.
 set -eu
 cd "$(dirname "$0")/.."
 work=$(mktemp -d)
@@ -47,26 +47,27 @@ BEGIN {
             inside = 0
             blocks++
             k = most_that_fit()
-            if (size == 0 || k < size) fail(begin + k ": no file of crates/yasna_examples/src goes on with " block[k + 1])
+            if (size == 0 || k < size) fail(begin + k ": no file of crates/yasna_examples goes on with " block[k + 1])
         } else if (inside) {
             block[++size] = line
-        } else if (line == "```rust") {
+        } else if (line == "```rust" || line == "```antt") {
             inside = 1
             size = 0
             begin = at + 1
         }
     }
     if (inside) fail(begin ": a block that does not end")
-    if (!blocks) fail("1: no block of Rust")
+    if (!blocks) fail("1: no block")
     print blocks
 }'
 
-for document in README.md docs/GUIDE.md \
+files=$(find crates/yasna_examples/src crates/yasna_examples/proofs -name '*.rt' -o -name '*.antt')
+for document in README.md docs/GUIDE.md docs/CONTRACTS.md \
     crates/yasna/src/lib.rt crates/yasna/src/traits.rt \
     crates/yasna_reader/src/state.rt crates/yasna_reader/src/set.rt \
     crates/yasna_writer/src/state.rt crates/yasna_writer/src/sequence.rt crates/yasna_writer/src/set.rt; do
     lines_of "$document" > "$work/lines"
-    if ! awk "$compare" "$work/lines" $(find crates/yasna_examples/src -name '*.rt') > "$work/said"; then
+    if ! awk "$compare" "$work/lines" $files > "$work/said"; then
         echo "$document:$(cat "$work/said")" >&2
         exit 1
     fi
