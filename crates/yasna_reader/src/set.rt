@@ -63,6 +63,16 @@ impl<S, L: Choose<S>> Chosen<S, L> {
 }
 
 /// The elements of a SET, which are taken by their tags, in any order.
+///
+/// ```rust
+/// pub fn read_setting(reader: BERReader) -> ASN1Result<Setting> {
+///     reader.read_set(|elements| {
+///         let number = elements.next(&[TAG_INTEGER])?.read_i64()?;
+///         let enabled = elements.next(&[TAG_BOOLEAN])?.read_bool()?;
+///         Ok(Setting { number, enabled })
+///     })
+/// }
+/// ```
 pub type BERReaderSet<'a, 'b> = Chosen<ReaderState<'a>, Vec<SetElement<'a>>>;
 
 // Where the first element stands that has one of these tags.

@@ -93,6 +93,16 @@ impl<'a> ReaderState<'a> {
 ///
 /// Two readings over bytes of one lifetime can be exchanged by `std::mem::swap`. A failure that one keeps moves with it;
 /// each call around a callback takes only that failure and how many bytes are left, and cuts from its own bytes.
+///
+/// ```rust
+/// pub fn read_point(reader: BERReader) -> ASN1Result<Point> {
+///     reader.read_sequence(|parts| {
+///         let x = parts.next().read_i64()?;
+///         let y = parts.next().read_i64()?;
+///         Ok(Point { x, y })
+///     })
+/// }
+/// ```
 pub type BERReader<'a, 'b> = &'b mut ReaderState<'a>;
 
 /// The contents of a constructed element, which holds the reading of them.
@@ -116,6 +126,16 @@ impl<S> Parts<S> {
 }
 
 /// The parts of a SEQUENCE, read one after the other.
+///
+/// ```rust
+/// pub fn read_person(reader: BERReader) -> ASN1Result<Person> {
+///     reader.read_sequence(|parts| {
+///         let name = parts.next().read_utf8string()?;
+///         let age = parts.read_optional(|part| part.read_u16())?;
+///         Ok(Person { name, age })
+///     })
+/// }
+/// ```
 pub type BERReaderSeq<'a, 'b> = Parts<ReaderState<'a>>;
 
 impl<'a> Parts<ReaderState<'a>> {

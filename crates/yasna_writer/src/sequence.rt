@@ -17,6 +17,15 @@ use yasna_base::tags::TAG_SEQUENCE;
 use yasna_base::{ASN1Error, Tag};
 
 /// What a closure writes the parts of a sequence to, one after the other.
+///
+/// ```rust
+/// pub fn write_point(point: Point, writer: DERWriter<'_>) -> ASN1Result<()> {
+///     writer.write_sequence(|parts| {
+///         parts.next().write_i64(point.x)?;
+///         parts.next().write_i64(point.y)
+///     })
+/// }
+/// ```
 #[derive(Drop)]
 pub struct DERWriterSeq {
     inner: Writer,

@@ -34,6 +34,17 @@ pub enum PartOrder {
 }
 
 /// What a closure writes the parts of a set to.
+///
+/// ```rust
+/// pub fn write_values(values: &[Vec<u8>], writer: DERWriter<'_>) -> ASN1Result<()> {
+///     writer.write_set_of(|items| {
+///         for value in values {
+///             items.next().write_bytes(value)?;
+///         }
+///         Ok(())
+///     })
+/// }
+/// ```
 #[derive(Drop)]
 pub struct DERWriterSet {
     // The parts before the last.

@@ -50,6 +50,15 @@ impl Model for Writer {
 /// exchanged by `std::mem::swap`. Each then goes on with the bytes and the failure of the other, and an element that is
 /// open in one ends over what it holds then: from the place on where the element began, by its count of bytes, and where
 /// fewer bytes are there, as `Invalid`, which is kept.
+///
+/// ```rust
+/// pub fn write_time(time: &Time, writer: DERWriter<'_>) -> ASN1Result<()> {
+///     match time {
+///         Time::Utc(time) => writer.write_utctime(time),
+///         Time::Generalized(time) => writer.write_generalized_time(time),
+///     }
+/// }
+/// ```
 pub type DERWriter<'a> = &'a mut Writer;
 
 impl Writer {

@@ -1,0 +1,75 @@
+#!/bin/sh
+# What the documents show: each block of Rust or of antt in them, and in the comments on what the library hands out, stands in the
+# proved crate yasna_examples, line for line, but for how far the block is indented as a whole.
+set -eu
+cd "$(dirname "$0")/.."
+work=$(mktemp -d)
+trap 'rm -rf "$work"' EXIT
+
+# A document's lines; of a file of Rust, those of its comments for readers, and others as empty ones.
+lines_of() {
+    case $1 in
+    *.rt) sed -e 's|^ *//[/!] \{0,1\}||' -e t -e 's/.*//' "$1" ;;
+    *) cat "$1" ;;
+    esac
+}
+
+# The first file holds a document's lines, the others the crate's. Prints how many blocks there are, or why that isn't all.
+compare='
+# How many lines of the block stand at this place.
+function fits(file, first,    indent, k) {
+    k = index(text[file, first], block[1])
+    indent = substr(text[file, first], 1, k - 1)
+    if (k == 0 || indent !~ /^ *$/) return 0
+    for (k = 1; k <= size; k++)
+        if (text[file, first + k - 1] != (block[k] == "" ? "" : indent block[k])) break
+    return k - 1
+}
+# How many stand at the place where most do.
+function most_that_fit(    file, first, k, most) {
+    for (file = 2; file < ARGC; file++)
+        for (first = 1; first <= lines[file]; first++) {
+            k = fits(file, first)
+            if (k > most) most = k
+        }
+    return most + 0
+}
+function fail(why) {
+    print why
+    exit 1
+}
+BEGIN {
+    for (file = 1; file < ARGC; file++)
+        while ((getline line < ARGV[file]) > 0) text[file, ++lines[file]] = line
+    for (at = 1; at <= lines[1]; at++) {
+        line = text[1, at]
+        if (inside && line == "```") {
+            inside = 0
+            blocks++
+            k = most_that_fit()
+            if (size == 0 || k < size) fail(begin + k ": no file of crates/yasna_examples goes on with " block[k + 1])
+        } else if (inside) {
+            block[++size] = line
+        } else if (line == "```rust" || line == "```antt") {
+            inside = 1
+            size = 0
+            begin = at + 1
+        }
+    }
+    if (inside) fail(begin ": a block that does not end")
+    if (!blocks) fail("1: no block")
+    print blocks
+}'
+
+files=$(find crates/yasna_examples/src crates/yasna_examples/proofs -name '*.rt' -o -name '*.antt')
+for document in README.md docs/GUIDE.md docs/CONTRACTS.md \
+    crates/yasna/src/lib.rt crates/yasna/src/traits.rt \
+    crates/yasna_reader/src/state.rt crates/yasna_reader/src/set.rt \
+    crates/yasna_writer/src/state.rt crates/yasna_writer/src/sequence.rt crates/yasna_writer/src/set.rt; do
+    lines_of "$document" > "$work/lines"
+    if ! awk "$compare" "$work/lines" $files > "$work/said"; then
+        echo "$document:$(cat "$work/said")" >&2
+        exit 1
+    fi
+    echo "$document: $(cat "$work/said") pieces, all stand in yasna_examples"
+done
