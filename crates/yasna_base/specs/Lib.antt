@@ -18,6 +18,7 @@ pub mod OidText
 pub mod Sequence
 pub mod Optional
 pub mod SequenceOf
+pub mod Nested
 pub mod Choice
 pub mod Header
 pub mod Pieces
