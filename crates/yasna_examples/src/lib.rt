@@ -7,6 +7,7 @@
 //! | `choice` | a list of a CHOICE, read by the next tag |
 //! | `known` | calls whose closures are known: their exact results follow from the contracts of `yasna` |
 //! | `third_party` | types of one's own: one that is read and written as a tuple, three step by step |
+//! | `times` | times made of the parts of others |
 #![tactic(auto)]
 
 mod choice;
@@ -14,9 +15,11 @@ mod known;
 #[cfg(test)]
 mod tests;
 mod third_party;
+mod times;
 
 pub use choice::parsed_items;
 pub use known::{constructed_integer, parsed_integer, parsed_numbers, parsed_pair};
 pub use third_party::{
     Measurement, Report, Sample, Version, encoded_report, normalized, normalized_report,
 };
+pub use times::{as_generalized_time, remade_utc_time, without_leap_second};
