@@ -3,10 +3,13 @@
 //! It prints a table: a row a case, a column a contestant, with the median time of a call.
 
 mod by_hand;
+mod certificates;
 mod inputs;
 mod measure;
 mod port;
+mod raw;
 mod reading;
+mod sets;
 mod strings;
 mod times;
 mod writing;
@@ -25,6 +28,8 @@ fn main() -> ExitCode {
     let cases = reading::cases()
         .into_iter()
         .chain(writing::cases())
+        .chain(sets::cases())
+        .chain(raw::cases())
         .chain(strings::cases())
         .chain(times::cases());
     for case in cases {

@@ -27,6 +27,9 @@ mod linked {
         ) -> u64;
         pub fn yasna_write_identifiers(components: *const u64, length: usize, count: usize)
             -> u64;
+        pub fn yasna_read_set_of(bytes: *const u8, length: usize, der: bool) -> u64;
+        pub fn yasna_write_set_of(numbers: *const i64, length: usize) -> u64;
+        pub fn yasna_read_raw(bytes: *const u8, length: usize, count: usize, der: bool) -> u64;
         pub fn yasna_parse_utc_times(texts: *const u8, length: usize) -> u64;
         pub fn yasna_parse_generalized_times(texts: *const u8, length: usize) -> u64;
         pub fn yasna_print_utc_times(text: *const u8, length: usize, count: usize) -> u64;
@@ -120,6 +123,18 @@ pub fn read_identifiers(bytes: &[u8], count: usize, der: bool) -> u64 {
 
 pub fn write_identifiers(components: &[u64], count: usize) -> u64 {
     unsafe { linked::yasna_write_identifiers(components.as_ptr(), components.len(), count) }
+}
+
+pub fn read_set_of(bytes: &[u8], der: bool) -> u64 {
+    unsafe { linked::yasna_read_set_of(bytes.as_ptr(), bytes.len(), der) }
+}
+
+pub fn write_set_of(numbers: &[i64]) -> u64 {
+    unsafe { linked::yasna_write_set_of(numbers.as_ptr(), numbers.len()) }
+}
+
+pub fn read_raw(bytes: &[u8], count: usize, der: bool) -> u64 {
+    unsafe { linked::yasna_read_raw(bytes.as_ptr(), bytes.len(), count, der) }
 }
 
 pub fn parse_utc_times(texts: &[u8]) -> u64 {

@@ -90,7 +90,7 @@ fn integers(name: &'static str, numbers: &'static [i64]) -> Case {
             for number in black_box(numbers) {
                 by_hand::write_integer(&mut contents, *number);
             }
-            length(by_hand::enclosed(&contents))
+            length(by_hand::enclosed(48, &contents))
         })
 }
 
@@ -121,7 +121,7 @@ fn pairs() -> Case {
             for number in 0..i64::from(black_box(PAIRS)) {
                 by_hand::write_pair(&mut contents, number, number % 2 == 0);
             }
-            length(by_hand::enclosed(&contents))
+            length(by_hand::enclosed(48, &contents))
         })
 }
 

@@ -7,6 +7,8 @@
 //! |---|---|
 //! | `reading` | calls that read numbers, pairs and nests |
 //! | `writing` | calls that write them |
+//! | `sets` | calls that read and write SET OF |
+//! | `raw` | calls that read raw elements |
 //! | `strings`, `oid` | calls that read and write octet strings, texts and object identifiers |
 //! | `times` | calls that parse, print, read and write both times |
 #![tactic(auto)]
@@ -14,7 +16,9 @@
 ghost use Rattle.std.specs.Prelude.{◌≡◌, ◌-◌, ◌^◌, MatchResult};
 
 mod oid;
+mod raw;
 mod reading;
+mod sets;
 mod strings;
 mod times;
 mod writing;

@@ -60,7 +60,7 @@ pub extern "C" fn yasna_list_integers(alloc: Global, bytes: &[u8], der: bool) ->
 }
 
 // The checksum of a list.
-fn list_checksum(numbers: &[i64]) -> u64 {
+pub(crate) fn list_checksum(numbers: &[i64]) -> u64 {
     let mut checksum = 0;
     for number in numbers {
         checksum = mixed(checksum, *number);

@@ -9,6 +9,7 @@
 //! | `known` | calls whose closures are known: their exact results follow from the contracts of `yasna` |
 //! | `records` | types of one's own of three, five and seven parts, each read and written as a tuple |
 //! | `third_party` | types of one's own: one that is read and written as a tuple, three step by step |
+//! | `times` | times made of the parts of others |
 #![tactic(auto)]
 
 mod choice;
@@ -18,6 +19,7 @@ mod records;
 #[cfg(test)]
 mod tests;
 mod third_party;
+mod times;
 
 pub use choice::parsed_items;
 pub use known::{constructed_integer, parsed_integer, parsed_numbers, parsed_pair};
@@ -25,3 +27,4 @@ pub use records::{DirectoryEntry, DomainParameters, RequestHeader};
 pub use third_party::{
     Measurement, Report, Sample, Version, encoded_report, normalized, normalized_report,
 };
+pub use times::{as_generalized_time, remade_utc_time, without_leap_second};

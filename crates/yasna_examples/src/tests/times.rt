@@ -1,5 +1,6 @@
 //! Both times, each call once, and what no contract says of their orders, hashes and copies.
 
+use crate::{as_generalized_time, remade_utc_time, without_leap_second};
 use std::cmp::Ordering;
 use std::hash::{BuildHasher, BuildHasherDefault, FoldHasher};
 use std::process::Abort;
@@ -89,5 +90,32 @@ fn of_date_times(rt: HostRuntime) -> Result<(), Fail> {
         return Ok(());
     };
     assert_eq!(rt; general.to_string(alloc)?.as_str(), "19820102110000Z");
+    Ok(())
+}
+
+// A time that is made of the parts of another says the same, but for a second 60.
+#[test]
+fn made_of_their_parts(rt: HostRuntime) -> Result<(), Fail> {
+    let alloc = rt.alloc();
+    let Some(noon) = UTCTime::parse(b"8201020700-0500") else {
+        assert!(rt; false, "no time");
+        return Ok(());
+    };
+    assert!(rt; remade_utc_time(&noon) == noon);
+    let general = as_generalized_time(alloc, &noon);
+    assert_eq!(rt; general.to_string(alloc)?.as_str(), "19820102120000Z");
+    let evening = GeneralizedTime::parse(alloc, DIGITS.as_bytes())?;
+    let sixty = GeneralizedTime::parse(alloc, b"19981231235960.1234567891Z")?;
+    let (Some(evening), Some(sixty)) = (evening, sixty) else {
+        assert!(rt; false, "no time");
+        return Ok(());
+    };
+    assert!(rt; without_leap_second(alloc, &evening)? == evening);
+    assert_eq!(rt;
+        without_leap_second(alloc, &sixty)?
+            .to_string(alloc)?
+            .as_str(),
+        "19981231235959.1234567891Z"
+    );
     Ok(())
 }

@@ -1,0 +1,35 @@
+//! Calls that read and write SET OF.
+
+use crate::reading::{list_checksum, mode};
+use crate::{answered, length};
+use std::alloc::Global;
+use yasna::{ASN1Result, DERWriterSet, construct_der, parse_ber_general};
+
+/// The checksum of the numbers of a SET OF, which are collected first.
+#[unsafe(no_mangle)]
+pub extern "C" fn yasna_read_set_of(alloc: Global, bytes: &[u8], der: bool) -> u64 {
+    let list = parse_ber_general(
+        alloc,
+        bytes,
+        mode(der),
+        |reader| reader.collect_set_of(|item| item.read_i64()),
+    );
+    answered(list.map(|numbers| list_checksum(&numbers)))
+}
+
+/// The length of a SET OF these numbers.
+#[unsafe(no_mangle)]
+pub extern "C" fn yasna_write_set_of(alloc: Global, numbers: &[i64]) -> u64 {
+    length(construct_der(
+        alloc,
+        |writer| writer.write_set_of(|set| write_parts(set, numbers)),
+    ))
+}
+
+// Writes each of these numbers.
+fn write_parts(set: &mut DERWriterSet, numbers: &[i64]) -> ASN1Result<()> {
+    for number in numbers {
+        set.next().write_i64(*number)?;
+    }
+    Ok(())
+}

@@ -1,0 +1,44 @@
+-- Times that are made of the parts of others.
+use Rattle.std.proofs.Common.{◌≡◌, ◌∙◌, ◌<◌, ap, refl, ℕ, List, pos, Bool, true, false, [], ◌++◌, ◌==◌, if◌then◌else◌, arith}
+use Rattle.std.proofs.lemmas.Bool.Decides.{nat_tests}
+use Rattle.std.proofs.lemmas.Int.{ints}
+use Rattle.yasna.specs.base.declared.models.generalized_time.GeneralizedTime.{GeneralizedTime}
+use Rattle.yasna.specs.base.Fraction.{nine_digits, trimmed}
+use Rattle.yasna.specs.base.GeneralizedTime.{IsInYears}
+use Rattle.yasna.specs.base.Models.{DateTime, IsTimeAt, moment_of}
+use Rattle.yasna.specs.base.Moment.{IsLess, Moment, moment, moment_at}
+use Rattle.yasna.specs.base.UtcTime.{IsUtcDateTime}
+use Rattle.yasna.proofs.base.Fraction.{trimmed_is}
+use Rattle.yasna.proofs.base.Moment.{less_is, less_none}
+use Rattle.yasna_examples.specs.Times.{to_the_second, with_second_59}
+
+-- a date-time less nothing is itself
+pub less_nothing : (a b : DateTime) → IsLess a (pos 0) b → b ≡ a
+less_nothing a b h = less_is a a b a (pos 0) (pos 0) refl refl h (less_none a)
+
+-- a date-time of a UTCTime is in the years of a GeneralizedTime
+pub in_years : (dt : DateTime) → IsUtcDateTime dt → IsInYears dt
+in_years dt h = omega (arith, ints, h.from)
+
+-- times of the same parts have one moment
+same_parts : (t : GeneralizedTime) (utc : DateTime) (digits : List ℕ) → t.datetime ≡ utc → t.sub_nano.items ≡ digits → t.is_leap_second ≡ false →
+    moment_of t ≡ moment utc digits false
+same_parts t utc digits d s f = cc
+
+-- a time of a whole second
+pub at_second : (utc : DateTime) (t : GeneralizedTime) → utc.time.subsec_nanosecond ≡ 0 → IsTimeAt utc (pos 0) [] t → moment_of t ≡ to_the_second utc
+at_second utc t whole h =
+    same_parts t utc [] (less_nothing utc t.datetime h.less) h.digits h.flag ∙ ap (λ n. moment_at utc false (trimmed (nine_digits n ++ []))) whole
+
+second_59 : (leap : Bool) (s : ℕ) → s < 60 → (leap ≡ true → s ≡ 59) →
+    s ≡ (if (if leap then 60 else s) == 60 then 59 else (if leap then 60 else s))
+second_59 true s below h = h refl
+second_59 false s below h = grind (arith, nat_tests)
+
+-- a time without its flag of second 60
+pub unflagged : (t u : GeneralizedTime) → IsTimeAt t.datetime (pos 0) (trimmed t.sub_nano.items) u → moment_of u ≡ with_second_59 (moment_of t)
+unflagged t u h =
+    let m = moment_of t in
+    let second = second_59 t.is_leap_second t.datetime.time.second t.datetime.time.second_in t.flagged in
+    same_parts u t.datetime t.sub_nano.items (less_nothing t.datetime u.datetime h.less) (h.digits ∙ trimmed_is t.sub_nano.items t.trimmed) h.flag
+    ∙ ap (λ s. record { date = m.date; hour = m.hour; minute = m.minute; second = s; fraction = m.fraction }) second

@@ -1,0 +1,34 @@
+//! Times made of the parts of others.
+ghost use Rattle.std.specs.Prelude.{◌≡◌, IfOk};
+ghost use Rattle.yasna.specs.base.Models.{utc_of, moment_of};
+ghost use Rattle.yasna_examples.specs.Times.{to_the_second, with_second_59};
+
+use std::alloc::{AllocError, Global};
+use yasna::models::{GeneralizedTime, Offset, UTCTime};
+
+/// The same time, made of its own date-time.
+pub fn remade_utc_time(time: &UTCTime) -> UTCTime
+    ensures { utc_of result ≡ utc_of time.now }
+{
+    UTCTime::from_datetime(*time.datetime(), Offset::UTC)
+}
+
+/// The same moment as a GeneralizedTime.
+pub fn as_generalized_time(alloc: Global, time: &UTCTime) -> GeneralizedTime
+    ensures { moment_of result ≡ to_the_second (utc_of time.now) }
+{
+    GeneralizedTime::from_datetime(alloc, *time.datetime(), Offset::UTC)
+}
+
+/// The same moment with the same fraction of a second, at second 59 where it is at second 60.
+///
+/// For clocks that know no second 60.
+pub fn without_leap_second(
+    alloc: Global,
+    time: &GeneralizedTime,
+) -> Result<GeneralizedTime, AllocError>
+    ensures { IfOk result (λ t. moment_of t ≡ with_second_59 (moment_of time.now)) }
+{
+    let local = *time.datetime();
+    GeneralizedTime::from_datetime_and_sub_nano(alloc, local, Offset::UTC, time.sub_nano())
+}
