@@ -63,6 +63,20 @@ impl<'a> Case<'a> {
         })
     }
 
+    /// Whether bytes are read, and the argument is these: some calls make the bytes themselves, as many as it says.
+    pub fn takes_bytes(&self) -> bool {
+        self.mode.is_some() && !matches!(self.call, "whole" | "cut" | "seqof_many")
+    }
+
+    /// The word for the rules to read by.
+    pub fn mode_name(&self) -> &'static str {
+        match self.mode {
+            Some(BERMode::Ber) => "ber",
+            Some(BERMode::Der) => "der",
+            None => "x",
+        }
+    }
+
     /// The bytes that the argument stands for, if it is such a text.
     pub fn bytes(&self, alloc: Global) -> Option<Result<Vec<u8>, AllocError>> {
         bytes_of(alloc, self.arg)

@@ -37,14 +37,19 @@
 mod answer;
 mod buffer;
 mod composed;
+mod fuzz;
+mod hostile;
 mod length;
 mod line;
 mod list;
+mod memory;
 mod mode;
+mod mutation;
 mod nest;
 mod oid;
 mod optional;
 mod primitive;
+mod random;
 mod raw;
 mod reading;
 mod recursion;
@@ -57,6 +62,7 @@ mod swallow;
 mod swallowed;
 mod tag;
 mod tagged;
+mod task;
 mod times;
 mod whole;
 mod writing;
@@ -64,6 +70,9 @@ mod writing;
 use run::Verdict;
 use std::process::ExitCode;
 use std::{env, io};
+use task::Task;
+
+const USAGE: &str = "usage: yasna_vectors [lines|answer|cut|length|memory|fuzz SEED COUNT]";
 
 fn main(rt: HostRuntime) -> ExitCode {
     match verdict(&rt) {
@@ -84,20 +93,12 @@ fn main(rt: HostRuntime) -> ExitCode {
 fn verdict(rt: &HostRuntime) -> io::Result<Verdict> {
     let alloc = rt.alloc();
     let words = env::args(rt)?.skip(1).collect::<Vec<String>>(alloc)?;
-    let answers = match words.as_slice() {
-        [] => false,
-        [word] if word.as_str() == "answer" => true,
-        _ => {
-            eprintln!(rt; "usage: yasna_vectors [answer]")?;
-            return Ok(Verdict::NoLine);
-        }
+    let Some(task) = Task::parse(words.as_slice()) else {
+        eprintln!(rt; "{USAGE}")?;
+        return Ok(Verdict::NoLine);
     };
     let input = io::read_to_string(alloc, rt.reader())?;
-    let report = if answers {
-        run::answer_lines(alloc, input.as_str())?
-    } else {
-        run::check_lines(alloc, input.as_str())?
-    };
+    let report = task.run(alloc, input.as_str())?;
     rt.print(report.text.as_str())?;
     Ok(report.verdict)
 }

@@ -1,0 +1,257 @@
+//! Calls on random input, whose answers are held against each other.
+//!
+//! | Where a call answers | So |
+//! |---|---|
+//! | a value in DER | BER gives the same value, and what is written of it are the bytes that were read |
+//! | a value in BER | what is written of it is read as the same value, in both modes |
+//! | anything | it is no want of memory |
+//!
+//! Three kinds of calls differ. What is written is read as another value, though as one that is written the same, where a
+//! bit string keeps unused bits that are set, or where the value shows the bytes that were taken. A BMPString takes half of
+//! a pair for U+FFFD, and so other bytes than it writes. A raw element is written as it was read, so one of BER is read
+//! again in BER.
+
+use crate::answer::answer;
+use crate::line::Case;
+use crate::mutation::Vectors;
+use crate::random::Random;
+use crate::run::{Report, Verdict};
+use std::alloc::{AllocError, Global};
+use yasna::BERMode;
+
+// Calls of which all of this holds.
+const PLAIN: [&str; 67] = [
+    "bool",
+    "null",
+    "enum",
+    "i64",
+    "i32",
+    "i16",
+    "i8",
+    "u64",
+    "u32",
+    "u16",
+    "u8",
+    "bigint",
+    "bytes",
+    "utf8",
+    "numeric",
+    "printable",
+    "ia5",
+    "visible",
+    "oid",
+    "utctime",
+    "gtime",
+    "seq_ib",
+    "seq_i",
+    "seq_sb",
+    "seq_empty",
+    "seq_opt",
+    "seq_def",
+    "seq_opts",
+    "seqof_i64",
+    "seqof_choice",
+    "tag3_i64",
+    "tag31_null",
+    "itag3_i64",
+    "itag3_bytes",
+    "itag3_utf8",
+    "itag31_seq",
+    "itag3_tag4",
+    "itag3_itag4",
+    "rec",
+    "nest2",
+    "d:null",
+    "d:bool",
+    "d:int",
+    "d:i32",
+    "d:i16",
+    "d:u64",
+    "d:u32",
+    "d:u16",
+    "d:pair",
+    "d:pairs",
+    "d:deep",
+    "d:octets",
+    "d:text",
+    "d:oid",
+    "d:utime",
+    "d:gtime",
+    "d:named",
+    "d:ints",
+    "d:vvi",
+    "d:vbytes",
+    "d:vtext",
+    "d:vpair",
+    "d:t1n",
+    "d:t3",
+    "tup1",
+    "tup3",
+    "tup12",
+];
+
+// Calls whose value shows bits or bytes that are written otherwise.
+const SHOWING: [&str; 5] = ["bits", "itag3_bits", "buf", "buf2", "buf3"];
+
+// Calls that take two forms for one value in DER.
+const LENIENT: [&str; 1] = ["bmp"];
+
+// Calls on raw elements.
+const RAW: [&str; 4] = ["der", "tdv", "d:tdv", "d:vtdv"];
+
+// What holds of a call.
+#[derive(Clone, Copy, PartialEq)]
+enum Kind {
+    Plain,
+    Showing,
+    Lenient,
+    Raw,
+}
+
+// What was tried, and what failed.
+#[derive(Drop)]
+struct Tally {
+    text: String,
+    accepted: u64,
+    failed: u64,
+}
+
+/// Makes so many inputs, each of a seed of its own, from this one on, and checks each call on each of them.
+pub fn check_random(
+    alloc: Global,
+    seed: u64,
+    count: u64,
+    input: &str,
+) -> Result<Report, AllocError> {
+    let vectors = Vectors::parse(alloc, input)?;
+    let mut tally = Tally {
+        text: String::new(alloc),
+        accepted: 0,
+        failed: 0,
+    };
+    for place in 0..count {
+        let seed = seed.wrapping_add(place);
+        let mut random = Random::new(seed);
+        let bytes = vectors.input(alloc, &mut random)?;
+        let digits = hex::encode(alloc, bytes.as_slice())?;
+        let arg = if digits.is_empty() {
+            "-"
+        } else {
+            digits.as_str()
+        };
+        check_calls(alloc, seed, arg, &mut tally)?;
+    }
+    report(count, tally)
+}
+
+// What it came to.
+fn report(count: u64, tally: Tally) -> Result<Report, AllocError> {
+    let mut text = tally.text;
+    let accepted = tally.accepted;
+    let failed = tally.failed;
+    writeln!(text, "{count} inputs, {accepted} values, {failed} failed")?;
+    let verdict = if failed == 0 {
+        Verdict::Right
+    } else {
+        Verdict::Wrong
+    };
+    Ok(Report { text, verdict })
+}
+
+// Checks each call on these bytes.
+fn check_calls(alloc: Global, seed: u64, bytes: &str, tally: &mut Tally) -> Result<(), AllocError> {
+    let kinds: [(Kind, &[&str]); 4] = [
+        (Kind::Plain, &PLAIN),
+        (Kind::Showing, &SHOWING),
+        (Kind::Lenient, &LENIENT),
+        (Kind::Raw, &RAW),
+    ];
+    for (kind, calls) in kinds {
+        for call in calls {
+            if let Some(fault) = fault(alloc, kind, call, bytes, &mut tally.accepted)? {
+                tally.failed = tally.failed.saturating_add(1);
+                writeln!(tally.text, "seed {seed}: {call} {bytes}: {fault}")?;
+            }
+        }
+    }
+    Ok(())
+}
+
+// What is wrong with a call's answers on these bytes.
+fn fault(
+    alloc: Global,
+    kind: Kind,
+    call: &str,
+    bytes: &str,
+    accepted: &mut u64,
+) -> Result<Option<&'static str>, AllocError> {
+    let ber = answered(alloc, BERMode::Ber, call, bytes)?;
+    let der = answered(alloc, BERMode::Der, call, bytes)?;
+    if is_none(ber.as_str()) || is_none(der.as_str()) {
+        return Ok(Some("an answer that is none"));
+    }
+    if let Some(form) = form_of(der.as_str()) {
+        *accepted = accepted.saturating_add(1);
+        if ber.as_str() != der.as_str() {
+            return Ok(Some("BER answers otherwise than DER"));
+        }
+        if kind != Kind::Lenient && form != bytes {
+            return Ok(Some("DER took what is not the form"));
+        }
+    }
+    let Some(form) = form_of(ber.as_str()) else {
+        return Ok(None);
+    };
+    *accepted = accepted.saturating_add(1);
+    let again = answered(alloc, BERMode::Ber, call, form)?;
+    if !agree(kind, ber.as_str(), again.as_str()) {
+        return Ok(Some("BER reads the form as another value"));
+    }
+    let again = answered(alloc, BERMode::Der, call, form)?;
+    if kind != Kind::Raw && !agree(kind, ber.as_str(), again.as_str()) {
+        return Ok(Some("DER reads the form as another value"));
+    }
+    Ok(None)
+}
+
+// Whether two answers are of one value, or, where it shows more, of values that are written the same.
+fn agree(kind: Kind, first: &str, second: &str) -> bool {
+    match kind {
+        Kind::Showing => form_of(first) == form_of(second),
+        Kind::Plain | Kind::Lenient | Kind::Raw => first == second,
+    }
+}
+
+// Whether an answer is none of a read with ample memory.
+fn is_none(answer: &str) -> bool {
+    answer == "unknown" || answer == "err OutOfMemory"
+}
+
+// What was written of a value that an answer shows.
+fn form_of(answer: &str) -> Option<&str> {
+    let value = answer.strip_prefix("ok ")?;
+    match value.rsplit_once(' ') {
+        Some((_, form)) => Some(form),
+        None => None,
+    }
+}
+
+// What a call answers on these bytes.
+fn answered<'a>(
+    alloc: Global,
+    mode: BERMode,
+    call: &'a str,
+    bytes: &'a str,
+) -> Result<String, AllocError> {
+    let case = Case {
+        mode: Some(mode),
+        call,
+        second: None,
+        arg: bytes,
+        marked: false,
+    };
+    match answer(alloc, &case) {
+        Some(came) => came,
+        None => String::from_str(alloc, "unknown"),
+    }
+}

@@ -1,0 +1,201 @@
+//! Input that is cut, or whose length is changed: the vectors once more, each of 300 bytes at most that a line reads and
+//! accepts.
+//!
+//! | Group | Bytes | Answer |
+//! |---|---|---|
+//! | cut | each proper front | Eof |
+//! | length | the first byte of the outermost element's length is 255 (X.690, 8.1.3.5) | Invalid |
+//! | | it is 254, for a length of 126 bytes | Eof |
+//! | | it is 128, in DER (X.690, 10.1) | Invalid |
+//!
+//! Some fronts answer otherwise: those of a SET of indefinite length that end behind its header or behind an element. Its
+//! callback runs before its end is missed; where it refuses these elements, that is the answer.
+
+use crate::answer::answer;
+use crate::line::{Case, Line};
+use crate::run::{Report, Verdict};
+use std::alloc::{AllocError, Global};
+use yasna::BERMode;
+
+/// What becomes of a vector.
+#[derive(Clone, Copy, PartialEq)]
+pub enum Group {
+    /// It is cut at each place.
+    Cut,
+    /// Its length is changed.
+    Length,
+}
+
+// What was tried, and what failed.
+#[derive(Drop)]
+struct Tally {
+    text: String,
+    tried: u64,
+    failed: u64,
+}
+
+/// Checks a group of all lines, and says how many inputs there were.
+pub fn check_group(alloc: Global, group: Group, input: &str) -> Result<Report, AllocError> {
+    let mut tally = Tally {
+        text: String::new(alloc),
+        tried: 0,
+        failed: 0,
+    };
+    for line in input.lines() {
+        if let Some(case) = accepted(line) {
+            match group {
+                Group::Cut => check_fronts(alloc, &case, &mut tally)?,
+                Group::Length => check_lengths(alloc, &case, &mut tally)?,
+            }
+        }
+    }
+    report(group, tally)
+}
+
+// What a group came to.
+fn report(group: Group, tally: Tally) -> Result<Report, AllocError> {
+    let mut text = tally.text;
+    let tried = tally.tried;
+    let failed = tally.failed;
+    let name = match group {
+        Group::Cut => "cuts",
+        Group::Length => "changed lengths",
+    };
+    writeln!(text, "{tried} {name}, {failed} failed")?;
+    let verdict = if failed == 0 {
+        Verdict::Right
+    } else {
+        Verdict::Wrong
+    };
+    Ok(Report { text, verdict })
+}
+
+// The case of a line that reads 1 to 300 bytes and accepts them.
+fn accepted(line: &str) -> Option<Case<'_>> {
+    let line = Line::parse(line)?;
+    let takes_bytes = line.case.takes_bytes() && line.case.arg != "-" && line.case.arg.len() <= 600;
+    if takes_bytes && line.wanted.starts_with("ok ") {
+        Some(line.case)
+    } else {
+        None
+    }
+}
+
+// Checks each proper front of a case's bytes.
+fn check_fronts(alloc: Global, case: &Case, tally: &mut Tally) -> Result<(), AllocError> {
+    for end in (0..case.arg.len()).step_by(2) {
+        let front = case.arg.get(..end).unwrap_or("");
+        let wanted = front_answer(alloc, case, front)?;
+        check(alloc, case, front, wanted, tally)?;
+    }
+    Ok(())
+}
+
+// What a front is to answer.
+fn front_answer(alloc: Global, case: &Case, front: &str) -> Result<&'static str, AllocError> {
+    if !front.starts_with("3180") {
+        return Ok("err Eof");
+    }
+    let ended = format!(in alloc; "{front}0000")?;
+    let is_whole = answers(alloc, &with(case, "der", &ended), "ok ")?;
+    if is_whole && answers(alloc, &with(case, case.call, &ended), "err Invalid")? {
+        Ok("err Invalid")
+    } else {
+        Ok("err Eof")
+    }
+}
+
+// Whether a case's answer begins so.
+fn answers(alloc: Global, case: &Case, beginning: &str) -> Result<bool, AllocError> {
+    match answer(alloc, case) {
+        Some(came) => Ok(came?.starts_with(beginning)),
+        None => Ok(false),
+    }
+}
+
+// Checks a case's bytes with other first bytes of their length.
+fn check_lengths(alloc: Global, case: &Case, tally: &mut Tally) -> Result<(), AllocError> {
+    check_length(alloc, case, "ff", "err Invalid", tally)?;
+    check_length(alloc, case, "fe", "err Eof", tally)?;
+    if case.mode == Some(BERMode::Der) {
+        check_length(alloc, case, "80", "err Invalid", tally)?;
+    }
+    Ok(())
+}
+
+// Checks them with this first byte, unless it stands there.
+fn check_length(
+    alloc: Global,
+    case: &Case,
+    byte: &str,
+    wanted: &str,
+    tally: &mut Tally,
+) -> Result<(), AllocError> {
+    let place = identifier_digits(case.arg);
+    let (identifier, length) = case.arg.split_at_checked(place).unwrap_or((case.arg, ""));
+    if length.starts_with(byte) {
+        return Ok(());
+    }
+    let others = length.get(2..).unwrap_or("");
+    let changed = format!(in alloc; "{identifier}{byte}{others}")?;
+    check(alloc, case, &changed, wanted, tally)
+}
+
+// How many hexadecimal digits the first identifier of a text has (X.690, 8.1.2): two, and in the long form those of each
+// byte from 128 on behind, and of the one that follows these.
+fn identifier_digits(text: &str) -> usize {
+    let is_long = matches!(
+        text.get(..2),
+        Some("1f" | "3f" | "5f" | "7f" | "9f" | "bf" | "df" | "ff")
+    );
+    if !is_long {
+        return 2;
+    }
+    let mut digits = 4usize;
+    for byte in text.as_bytes().iter().skip(2).step_by(2) {
+        if *byte < b'8' {
+            break;
+        }
+        digits = digits.saturating_add(2);
+    }
+    digits
+}
+
+// The same case of another call, on other bytes.
+fn with<'a>(case: &Case, call: &'a str, bytes: &'a str) -> Case<'a> {
+    Case {
+        mode: case.mode,
+        call,
+        second: None,
+        arg: if bytes.is_empty() { "-" } else { bytes },
+        marked: false,
+    }
+}
+
+// Checks what a case's call answers on other bytes.
+fn check(
+    alloc: Global,
+    case: &Case,
+    bytes: &str,
+    wanted: &str,
+    tally: &mut Tally,
+) -> Result<(), AllocError> {
+    tally.tried = tally.tried.saturating_add(1);
+    let changed = with(case, case.call, bytes);
+    let came = match answer(alloc, &changed) {
+        Some(came) => came?,
+        None => String::from_str(alloc, "unknown")?,
+    };
+    if came.as_str() == wanted {
+        return Ok(());
+    }
+    tally.failed = tally.failed.saturating_add(1);
+    let mode = changed.mode_name();
+    let call = changed.call;
+    let bytes = changed.arg;
+    let came = came.as_str();
+    writeln!(
+        tally.text,
+        "{mode} {call} {bytes} => {wanted}\n    came {came}"
+    )
+}

@@ -1,0 +1,164 @@
+//! Bytes made at random, and made of vectors: changed, cut, joined and nested.
+
+use crate::line::{Line, bytes_of};
+use crate::random::Random;
+use std::alloc::{AllocError, Global};
+
+// First bytes of identifiers and of lengths, and other bytes at which an encoding turns.
+const TURNING: [u8; 24] = [
+    0, 1, 2, 3, 4, 5, 6, 10, 12, 16, 17, 30, 31, 36, 48, 49, 127, 128, 129, 130, 136, 163, 191, 255,
+];
+
+// Identifiers of constructed elements.
+const AROUND: [u8; 8] = [48, 49, 36, 35, 44, 160, 163, 164];
+
+/// The bytes of vectors.
+#[derive(Drop)]
+pub struct Vectors {
+    all: Vec<Vec<u8>>,
+}
+
+impl Vectors {
+    /// Those of each line that reads at most 300 bytes.
+    pub fn parse(alloc: Global, input: &str) -> Result<Vectors, AllocError> {
+        let mut all = Vec::new(alloc);
+        for line in input.lines() {
+            if let Some(bytes) = bytes_in(alloc, line) {
+                all.push(bytes?)?;
+            }
+        }
+        Ok(Vectors { all })
+    }
+
+    // Any of them.
+    fn any(&self, random: &mut Random) -> &[u8] {
+        match self.all.get(random.below(self.all.len())) {
+            Some(bytes) => bytes.as_slice(),
+            None => &[],
+        }
+    }
+
+    /// An input made of them, or at random.
+    pub fn input(&self, alloc: Global, random: &mut Random) -> Result<Vec<u8>, AllocError> {
+        let mut bytes = if random.below(8) == 0 {
+            noise(alloc, random)?
+        } else {
+            Vec::from_slice(alloc, self.any(random))?
+        };
+        for _ in 0..random.below(4) {
+            bytes = self.changed(alloc, random, bytes)?;
+        }
+        Ok(bytes)
+    }
+
+    // These bytes, changed in one way.
+    fn changed(
+        &self,
+        alloc: Global,
+        random: &mut Random,
+        bytes: Vec<u8>,
+    ) -> Result<Vec<u8>, AllocError> {
+        match random.below(6) {
+            0 => Ok(with_other_byte(random, bytes)),
+            1 => Ok(cut(random, bytes)),
+            2 => with_middle(alloc, random, &bytes),
+            3 => joined(bytes, self.any(random)),
+            4 => nested(alloc, random, &bytes),
+            _ => nested_without_length(alloc, random, &bytes),
+        }
+    }
+}
+
+// The bytes of a line that reads at most 300.
+fn bytes_in(alloc: Global, line: &str) -> Option<Result<Vec<u8>, AllocError>> {
+    let case = Line::parse(line)?.case;
+    if case.takes_bytes() && case.arg.len() <= 600 {
+        bytes_of(alloc, case.arg)
+    } else {
+        None
+    }
+}
+
+// Up to 23 bytes at random.
+fn noise(alloc: Global, random: &mut Random) -> Result<Vec<u8>, AllocError> {
+    let mut bytes = Vec::new(alloc);
+    for _ in 0..random.below(24) {
+        bytes.push(any_byte(random))?;
+    }
+    Ok(bytes)
+}
+
+// A byte, every other time one at which an encoding turns.
+fn any_byte(random: &mut Random) -> u8 {
+    if random.below(2) == 0 {
+        return random.byte();
+    }
+    TURNING.get(random.below(24)).copied().unwrap_or(0)
+}
+
+// The bytes with another one in place of one of them.
+fn with_other_byte(random: &mut Random, mut bytes: Vec<u8>) -> Vec<u8> {
+    let place = random.below(bytes.len());
+    if let Some(byte) = bytes.get_mut(place) {
+        *byte = any_byte(random);
+    }
+    bytes
+}
+
+// A front of the bytes.
+fn cut(random: &mut Random, mut bytes: Vec<u8>) -> Vec<u8> {
+    bytes.truncate(random.below(bytes.len()));
+    bytes
+}
+
+// The bytes with another one between them, or without one.
+fn with_middle(alloc: Global, random: &mut Random, bytes: &[u8]) -> Result<Vec<u8>, AllocError> {
+    let place = random.below(bytes.len());
+    let (front, back) = bytes.split_at_checked(place).unwrap_or((bytes, &[]));
+    let mut made = Vec::from_slice(alloc, front)?;
+    if random.below(2) == 0 {
+        made.push(any_byte(random))?;
+        made.extend_from_slice(back)?;
+    } else {
+        made.extend_from_slice(back.get(1..).unwrap_or(&[]))?;
+    }
+    Ok(made)
+}
+
+// The bytes, and others behind them.
+fn joined(mut bytes: Vec<u8>, others: &[u8]) -> Result<Vec<u8>, AllocError> {
+    bytes.extend_from_slice(others)?;
+    Ok(bytes)
+}
+
+// An identifier of a constructed element.
+fn around(random: &mut Random) -> u8 {
+    AROUND.get(random.below(8)).copied().unwrap_or(48)
+}
+
+// The bytes as the contents of an element of definite length; as they are where they are more than 65535.
+fn nested(alloc: Global, random: &mut Random, bytes: &[u8]) -> Result<Vec<u8>, AllocError> {
+    let Ok(length) = u16::try_from(bytes.len()) else {
+        return Vec::from_slice(alloc, bytes);
+    };
+    let mut made = Vec::from_slice(alloc, &[around(random)])?;
+    match length.to_be_bytes() {
+        [0, low] if low < 128 => made.push(low)?,
+        [0, low] => made.extend_from_slice(&[129, low])?,
+        [high, low] => made.extend_from_slice(&[130, high, low])?,
+    }
+    made.extend_from_slice(bytes)?;
+    Ok(made)
+}
+
+// The bytes as the contents of an element of indefinite length.
+fn nested_without_length(
+    alloc: Global,
+    random: &mut Random,
+    bytes: &[u8],
+) -> Result<Vec<u8>, AllocError> {
+    let mut made = Vec::from_slice(alloc, &[around(random), 128])?;
+    made.extend_from_slice(bytes)?;
+    made.extend_from_slice(&[0, 0])?;
+    Ok(made)
+}
