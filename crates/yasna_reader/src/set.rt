@@ -68,8 +68,13 @@ impl<S, L: Choose<S>> Chosen<S, L> {
 /// pub fn read_setting(reader: BERReader) -> ASN1Result<Setting> {
 ///     reader.read_set(|elements| {
 ///         let number = elements.next(&[TAG_INTEGER])?.read_i64()?;
-///         let enabled = elements.next(&[TAG_BOOLEAN])?.read_bool()?;
-///         Ok(Setting { number, enabled })
+///         let enabled = elements.read_default(&[TAG_BOOLEAN], true, |flag| flag.read_bool())?;
+///         let note = elements.read_optional(&[TAG_UTF8STRING], |text| text.read_utf8string())?;
+///         Ok(Setting {
+///             number,
+///             enabled,
+///             note,
+///         })
 ///     })
 /// }
 /// ```

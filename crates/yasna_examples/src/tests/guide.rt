@@ -12,7 +12,7 @@ use crate::guide::optional::{
     BasicConstraints, read_constraints, read_person, write_constraints, write_person,
 };
 use crate::guide::sequence::{Point, point_from_ber, point_from_der, point_to_der};
-use crate::guide::sets::{read_setting, read_values, write_values};
+use crate::guide::sets::{read_setting, read_values, write_setting, write_values};
 use crate::guide::strings::{read_directory_string, read_ldap_string, write_directory_string};
 use crate::guide::tagged::{read_accuracy, read_encrypted, write_accuracy, write_encrypted};
 use crate::guide::times::{Time, read_time, time_of_text, write_time};
@@ -197,11 +197,25 @@ fn sets(rt: HostRuntime) -> Result<(), Fail> {
     let alloc = rt.alloc();
     let setting = parse_ber(
         alloc,
-        &[49, 6, 2, 1, 10, 1, 1, 255],
+        &[49, 9, 12, 1, 97, 1, 1, 0, 2, 1, 10],
         |reader| read_setting(reader),
     )?;
     assert_eq!(rt; setting.number, 10);
-    assert!(rt; setting.enabled);
+    assert!(rt; !setting.enabled);
+    let note = setting.note.as_ref().map(|note| note.as_str());
+    assert_eq!(rt; note, Some("a"));
+    let plain = parse_der(alloc, &[49, 3, 2, 1, 10], |reader| read_setting(reader))?;
+    assert!(rt; plain.enabled);
+    assert!(rt; plain.note.is_none());
+    let written = construct_der(alloc, |writer| write_setting(&setting, writer))?;
+    let in_order = [49, 9, 1, 1, 0, 2, 1, 10, 12, 1, 97];
+    assert_eq!(rt; written.as_slice(), in_order.as_slice());
+    let said = parse_der(
+        alloc,
+        &[49, 6, 1, 1, 255, 2, 1, 10],
+        |reader| read_setting(reader),
+    );
+    assert_eq!(rt; kind_of(said), Some(ASN1ErrorKind::Invalid));
     let ascending = [49, 7, 4, 1, 98, 4, 2, 97, 97];
     let values = parse_ber(
         alloc,
