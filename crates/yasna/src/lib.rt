@@ -52,6 +52,7 @@
 //! |---|---|
 //! | `traits` | what a type says that is read and written as a whole |
 //! | `whole` | whole inputs and outputs, and what is proved of them for every such type |
+//! | `sets` | what is proved of SET OF values of every such type |
 //! | `primitive`, `strings`, `borrowed`, `oid`, `times`, `raw`, `lists`, `tuples` | the types that come with the crate |
 #![tactic(auto)]
 
@@ -60,12 +61,14 @@ mod lists;
 mod oid;
 mod primitive;
 mod raw;
+mod sets;
 mod strings;
 mod times;
 mod traits;
 mod tuples;
 mod whole;
 
+pub use sets::{set_of_is_read, set_of_is_written};
 pub use traits::{BERDecodable, DERCanonical, DEREncodable};
 pub use tuples::{EncodableParts, TupleParts};
 pub use whole::{decode_ber, decode_ber_general, decode_der, encode_der, one_form};

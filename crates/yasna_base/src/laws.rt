@@ -251,7 +251,8 @@ pub fn time_orders()
 /// its parts stand, and so a SET where each tag has one element. Where two elements of a SET have one tag, it does so for
 /// parts that stand as they were read, if that tag's number is below 31.
 ///
-/// SET OF keeps both for elements of any type that does; `set_of_enumerated`, `set_of_big_integer` and `set_of_octets` say so of three.
+/// SET OF keeps both for elements of any type that does: these clauses say so of three types, and `set_of_is_written` of
+/// the crate `yasna` says so of each that has its traits.
 pub fn sets_written()
     ensures set_of_enumerated { SetOfKeepsLaws (Primitively (IsSigned w64)) integer_form leaf_nest (FitsSigned w64) }
     ensures set_of_big_integer { SetOfKeepsLaws (Primitively IsBigInteger) big_integer_form leaf_nest CanBigInteger }

@@ -1,0 +1,21 @@
+//! SET OF values of a type (X.690, 8.12 and 11.6): what is proved of it. A closure reads and writes them.
+ghost use Rattle.yasna_base.specs.SetWriting.{SetOfKeepsReadingLaws, SetOfKeepsWritingLaws};
+
+use crate::traits::{BERDecodable, DERCanonical};
+
+/// What is proved of a SET OF values of every type that keeps the laws of reading.
+///
+/// Under any tag but that of the end of contents, no bytes belong to two lists of values, no encoding begins another,
+/// and what is read within some levels is read within more.
+pub fn set_of_is_read<T: BERDecodable>()
+    ensures { SetOfKeepsReadingLaws T.same T.encodes T.elements }
+{}
+
+/// What is proved of a SET OF values of every type that keeps the laws.
+///
+/// Under any tag but that of the end of contents, DER reads values in the order of their forms, from these alone, and BER
+/// reads them from these too. What is written of values, in whatever order, is read as the same values in order; and what
+/// DER read is written again as the same bytes.
+pub fn set_of_is_written<T: DERCanonical>()
+    ensures { SetOfKeepsWritingLaws T.same T.encodes T.form T.nest T.encodable }
+{}
