@@ -1,4 +1,4 @@
--- What reads of a SET's elements do that may be left out (X.690, 8.11.2 and 11.5).
+-- What reads of a SET's elements do that may be left out (X.690, 8.11.3 and 11.5).
 use Rattle.std.specs.Fn.{Once, FnOnceTakesAtMut}
 use Rattle.std.specs.Borrow.{MutBor}
 use Rattle.std.specs.Prelude.{Bool, Err, List, None, Ok, Option, Result, Some, true, ◌≡◌, ◌⊎◌}

@@ -20,8 +20,9 @@ pub fn set_lists()
     ensures one { ListsAreOne }
 {}
 
-/// What `read_set` takes is a SET as the grammar has it, and it takes every one from all of whose elements its callback
-/// gives a value with no failure kept.
+/// Where `read_set` answers a value, a SET as the grammar has it stood at the front, and the callback gave that value from
+/// all of its elements, with no failure kept. Where it refuses, the callback gave none from the SET that stands there, if
+/// one does, unless memory ran out.
 pub fn set_reads<'a, T: Drop, F>()
 where
     F: FnOnce(&mut BERReaderSet<'a, '_>) -> ASN1Result<T>,
