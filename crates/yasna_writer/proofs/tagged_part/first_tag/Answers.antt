@@ -1,4 +1,4 @@
-use Rattle.std.proofs.Common.{rules, ℕ, ◌<◌, ◌^◌}
+use Rattle.std.proofs.Common.{rules, ◌<◌, ◌^◌}
 use Rattle.yasna_base.specs.Identifier.{begins}
 use Rattle.yasna_writer.proofs.tagged_part.first_tag.Goals as goal
 

@@ -2,7 +2,6 @@ use Rattle.std.proofs.Common.{rules, ap, ◌∙◌}
 use Rattle.std.proofs.lemmas.Cmp.{nat_list_cmp_total}
 use Rattle.std.proofs.lemmas.List.Sorted.{ranks_by, answers_always}
 use Rattle.std.proofs.lemmas.Result.{on_ok_weaker}
-use Rattle.std.specs.Ordering.{is_lt}
 use Rattle.yasna_base.specs.Set.{part_key, part_cmp}
 use Rattle.yasna_base.proofs.Order.{in_order_is, in_order_map}
 use Rattle.yasna_writer.specs.declared.tagged_part.TaggedPart.{TaggedPart}

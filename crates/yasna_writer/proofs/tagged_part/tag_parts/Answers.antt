@@ -1,9 +1,8 @@
-use Rattle.std.proofs.Common.{◌≡◌, ◌++◌, ◌∷◌, [], rules, inr, subst, List, Vec, ℕ, append_assoc, ◌∙◌, sym, ap}
-use Rattle.std.specs.Global.{Global}
+use Rattle.std.proofs.Common.{◌≡◌, ◌++◌, ◌∷◌, [], rules, inr, subst, List, append_assoc, ◌∙◌, sym, ap}
 use Rattle.std.specs.Vec.Iter.{into_iter_items}
 use Rattle.yasna_base.specs.declared.error.ASN1ErrorKind.TheVariants.{Invalid}
 use Rattle.yasna_base.specs.Error.{kind_of}
-use Rattle.yasna_base.specs.Set.{SetPart, HasItsTag}
+use Rattle.yasna_base.specs.Set.{HasItsTag}
 use Rattle.yasna_writer.specs.declared.tagged_part.TaggedPart.{TaggedPart}
 use Rattle.yasna_writer.specs.Parts.{bytes_each, parts_of}
 use Rattle.yasna_writer.specs.Set.{AreTagged}

@@ -1,4 +1,4 @@
-use Rattle.std.proofs.Common.{List, ℕ, subst}
+use Rattle.std.proofs.Common.{subst}
 use Rattle.yasna_writer.specs.Parts.{parts_of}
 use Rattle.yasna_writer.specs.Set.{AreTagged}
 use Rattle.yasna_writer.proofs.SetParts.{set_contents}
