@@ -3,6 +3,7 @@
 mod composed;
 mod oid;
 mod public_key;
+mod set_writing;
 mod sets;
 mod times;
 
