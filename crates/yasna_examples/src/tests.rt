@@ -5,6 +5,7 @@ mod guide;
 mod oid;
 mod public_key;
 mod records;
+mod set_writing;
 mod sets;
 mod times;
 

@@ -13,6 +13,7 @@
 //! | `times` | the writes of times |
 //! | `sequence` | the writes of elements with parts |
 //! | `set` | the writes of sets, whose parts are put in order |
+//! | `tagged_part` | the parts of a SET, in the order of their tags |
 //! | `tagged` | the writes of elements under tags of the caller's |
 //! | `draft` | contents, the headers that aren't among them yet, and how they are joined |
 //! | `header` | the header of an element with parts |
