@@ -1,3 +1,4 @@
 pub mod Pair
 pub mod Numbers
 pub mod Items
+pub mod Algorithm

@@ -1,9 +1,11 @@
 //! Each example once, with ample memory.
 
+mod algorithm;
 mod composed;
 mod oid;
 mod public_key;
 mod records;
+mod scrypt;
 mod sets;
 mod times;
 
