@@ -2,3 +2,4 @@ pub mod Pair
 pub mod Numbers
 pub mod Items
 pub mod Algorithm
+pub mod Branches

@@ -9,6 +9,7 @@
 //! | `public_key`, `scrypt` | types of one's own of which a part may be left out, read by closures |
 //! | `records` | types of one's own of three, five and seven parts, each read and written as a tuple |
 //! | `third_party` | types of one's own: one that is read and written as a tuple, three step by step |
+//! | `tree` | a type that refers to itself |
 #![tactic(auto)]
 
 mod choice;
@@ -19,6 +20,7 @@ mod scrypt;
 #[cfg(test)]
 mod tests;
 mod third_party;
+mod tree;
 
 pub use choice::parsed_items;
 pub use known::{constructed_integer, parsed_integer, parsed_numbers, parsed_pair};
@@ -28,3 +30,4 @@ pub use scrypt::ScryptParameters;
 pub use third_party::{
     Measurement, Report, Sample, Version, encoded_report, normalized, normalized_report,
 };
+pub use tree::Tree;

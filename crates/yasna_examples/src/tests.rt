@@ -8,6 +8,7 @@ mod records;
 mod scrypt;
 mod sets;
 mod times;
+mod tree;
 
 use crate::{
     Measurement, Report, Sample, Version, constructed_integer, encoded_report, normalized_report,
