@@ -12,6 +12,7 @@ use Rattle.yasna_base.specs.Coding.{IsCoding, ArePartsCoding, Any}
 use Rattle.yasna_base.specs.Sequence.{sequence_tag}
 use Rattle.yasna_base.specs.SequenceOf.{IsListOf, AnyListOf}
 use Rattle.yasna_base.specs.Element.{Enclosed, AnyEnclosed}
+use Rattle.yasna_base.specs.Bits.{bits_cutting, IsBits, IsDeepBits}
 use Rattle.yasna_base.specs.Octets.{octets_cutting, IsDeepOctets}
 use Rattle.yasna_base.proofs.Cut.{deep_begins}
 use Rattle.yasna_base.proofs.Identifier.{not_end}
@@ -23,14 +24,18 @@ use Rattle.yasna_reader.specs.Decodes.{Decodes, Decoded}
 use Rattle.yasna_reader.specs.Primitive.{ReadsSeen, Reads, NoLevel}
 use Rattle.yasna_reader.specs.Raw.{ReadsRaw}
 use Rattle.yasna_reader.specs.Contents.{Never, WantsMemory}
+use Rattle.yasna_reader.specs.Segments.{bits_in}
 use Rattle.yasna_reader.specs.State.{Reading, IsFresh, starts, part_of}
 use Rattle.yasna_reader.proofs.Listing.{collects}
+use Rattle.yasna_reader.proofs.OptionalParts.{IsContentsDecoder, contents_sequence}
 use Rattle.yasna_reader.proofs.Sequences.{parts_map}
 use Rattle.yasna_reader.proofs.Tuples.{IsDecoder, IsPartsDecoder, steps_sequence}
 use Rattle.yasna_reader.proofs.Whole.{whole}
 use Rattle.yasna_reader.proofs.RawReads.{raw_decodes}
 use Rattle.yasna_reader.proofs.Primitives.{leaf_decodes, asking_decodes}
 pub use Rattle.yasna_reader.proofs.Tuples.{decodes_by, done_by, step_by, seen, chosen}
+pub use Rattle.yasna_reader.proofs.OptionalParts.{then_by, end_by, part_by, option_by, quiet_at_end}
+pub use Rattle.yasna_reader.proofs.OptionalReads.{nothing_elsewhere, part_elsewhere, leaf_quiet, asking_quiet}
 pub use Rattle.yasna_reader.proofs.Ahead.{looked, found_none, found_other}
 pub use Rattle.yasna_reader.proofs.Whole.{read_form, refuses_none, exactly_as, reads_some}
 pub use Rattle.yasna_reader.proofs.Listing.{same_items}
@@ -53,6 +58,14 @@ pub string_by : {V A : Type 0} (B : ℕ → BERMode → Tag → A → List ℕ �
 string_by B view k h = record {
   decodes = λ s r s' fresh x.
       asking_decodes B view IsDeepOctets k h (λ n m z. deep_begins octets_cutting n m (universal k) z) s r s' fresh.1 x fresh.0;
+}
+
+-- and a read of a BIT STRING
+pub bits_by : IsDecoder true (λ m n v b. IsBits n m (universal 3) (bits_in v) b) (Any (λ m n v b. IsBits n m (universal 3) v b))
+    (ReadsSeen IsBits bits_in IsDeepBits WantsMemory (universal 3))
+bits_by = record {
+  decodes = λ s r s' fresh x.
+      asking_decodes IsBits bits_in IsDeepBits 3 (λ e. omega arith) (λ n m z. deep_begins bits_cutting n m (universal 3) z) s r s' fresh.1 x fresh.0;
 }
 
 -- and a read of one element whose contents are copied
@@ -91,6 +104,17 @@ pub sequence_by : {U A F : Type 0} {g : Once F (MutBor (Parts Reading) × Unit {
     Decodes {A = U} asks (λ m n v b. Enclosed C sequence_tag m n (parts v) b) (AnyEnclosed S sequence_tag) s r s'
 sequence_by {P} {s} {r} {s'} parts make back laws reads fresh h says =
     steps_sequence parts make back laws reads sequence_tag (not_end 16 (λ e. omega arith)) s fresh r s'
+    (parts_map _ P (λ x y z i k. by_run (λ u y w. P (part_of u) y (part_of w)) says (record { reader = x }) y (record { reader = z }) k) sequence_tag s r s' h)
+
+-- a SEQUENCE whose closure reads parts, of which some may be left out, and makes a value of them
+pub contents_by : {U A F : Type 0} {g : Once F (MutBor (Parts Reading) × Unit {0}) (Result U ASN1Error × (MutBor (Parts Reading) × Unit {0}))}
+    {f : F} {asks : Bool} {C : BERMode → ℕ → A → List ℕ → Type 0} {S : BERMode → ℕ → List ℕ → Type 0}
+    {P : Reading → Result U ASN1Error → Reading → Type 0} {s : Reading} {r : Result U ASN1Error} {s' : Reading} (parts : U → A) (make : A → U) →
+    ((w : A) → parts (make w) ≡ w) → IsContentsDecoder asks C S make P → IsFresh s → ReadsParts (Runs g f) sequence_tag s r s' →
+    ((p q : MutBor (Parts Reading)) (x : Result U ASN1Error) → g.post f (p, tt) (x, (q, tt)) → P (part_of p.now) x (part_of q.now)) →
+    Decodes {A = U} asks (λ m n v b. Enclosed C sequence_tag m n (parts v) b) (AnyEnclosed S sequence_tag) s r s'
+contents_by {P} {s} {r} {s'} parts make back reads fresh h says =
+    contents_sequence parts make back reads sequence_tag (not_end 16 (λ e. omega arith)) s fresh r s'
     (parts_map _ P (λ x y z i k. by_run (λ u y w. P (part_of u) y (part_of w)) says (record { reader = x }) y (record { reader = z }) k) sequence_tag s r s' h)
 
 -- a call of f does what each of its calls does

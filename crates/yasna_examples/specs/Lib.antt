@@ -2,3 +2,5 @@ pub mod Pair
 pub mod Numbers
 pub mod Items
 pub mod Times
+pub mod Algorithm
+pub mod Branches

@@ -1,13 +1,16 @@
 //! Each example once, with ample memory.
 
+mod algorithm;
 mod composed;
 mod guide;
 mod oid;
 mod public_key;
 mod records;
 mod set_writing;
+mod scrypt;
 mod sets;
 mod times;
+mod tree;
 
 use crate::{
     Measurement, Report, Sample, Version, constructed_integer, encoded_report, normalized_report,

@@ -23,6 +23,7 @@ pub mod SetChoosing
 pub mod SetLaws
 pub mod Tuples
 pub mod OptionalParts
+pub mod OptionalReads
 pub mod Ahead
 pub mod Listing
 pub mod Whole

@@ -30,7 +30,7 @@ use Rattle.yasna_reader.proofs.Tuples.{decodes_map, enclosed_seen}
 use Rattle.yasna_reader.proofs.Turning.{fresh_as}
 
 -- a place that didn't move is where it was
-place_unmoved : (c y : List ℕ) → length y ≡ length c → place_in c y ≡ c
+pub place_unmoved : (c y : List ℕ) → length y ≡ length c → place_in c y ≡ c
 place_unmoved c y e = let n : length c - length y ≡ 0 = omega (arith, e) in ap (λ n. drop n c) n
 
 -- a vector's contents are those of its items

@@ -1,5 +1,5 @@
 -- What reading a SEQUENCE does of which parts may be left out: its contents are read up to their end.
-use Rattle.std.proofs.Common.{◌≡◌, ℕ, ◌-◌, ◌<◌, List, [], ◌++◌, length, drop, Option, Some, None, inl, inr, refl, sym, ap, ap₂, subst, ◌∙◌, append_assoc, length-append, Bool, false, ◌||◌, arith}
+use Rattle.std.proofs.Common.{◌≡◌, ℕ, ◌<◌, List, [], ◌++◌, length, Option, Some, None, inl, inr, refl, sym, ap, ap₂, subst, ◌∙◌, append_assoc, length-append, Bool, false, ◌||◌, arith}
 use Rattle.std.proofs.lemmas.Bool.{or_left, or_right}
 use Rattle.std.specs.Prelude.{Result, Ok, Err}
 use Rattle.yasna_base.specs.declared.error.ASN1Error.{ASN1Error}
@@ -23,9 +23,11 @@ use Rattle.yasna_reader.specs.Parse.{unless_kept}
 use Rattle.yasna_reader.specs.Refusal.{IsPlain}
 use Rattle.yasna_reader.specs.Sequence.{ReadsParts, place_in}
 use Rattle.yasna_reader.specs.State.{Reading, IsFresh, untagged}
+use Rattle.yasna_reader.proofs.Listing.{place_unmoved}
 use Rattle.yasna_reader.proofs.Refusal.{plain_not_memory}
 use Rattle.yasna_reader.proofs.Sequences.{element, place_behind, replaced}
 use Rattle.yasna_reader.proofs.Tuples.{IsDecoder, decodes_map, enclosed_seen}
+use Rattle.yasna_reader.proofs.Turning.{fresh_as}
 
 -- the failure that was kept, or else the answer's own
 abbrev pub first_failure : Option ASN1Error → ASN1Error → ASN1Error
@@ -184,13 +186,7 @@ quiet_at_end decoder = record {
 }
 
 moved_fresh : (s m : Reading) → IsFresh s → (r : List ℕ) → place_in s.left m.left ≡ r → moved_as s m ≡ record s { left = r }
-moved_fresh s m fresh r e =
-    ap {A = List ℕ} {B = Reading} (λ z. record s { left = z; tag = None; kept = None }) e
-    ∙ ap {A = Option Tag} {B = Reading} (λ t. record s { left = r; tag = t; kept = None }) (sym fresh.1)
-    ∙ ap {A = Option ASN1Error} {B = Reading} (λ k. record s { left = r; kept = k }) (sym fresh.0)
-
-place_unmoved : (c y : List ℕ) → length y ≡ length c → place_in c y ≡ c
-place_unmoved c y e = let z : length c - length y ≡ 0 = omega (arith, e) in ap (λ n. drop n c) z
+moved_fresh s m fresh r e = ap {A = List ℕ} {B = Reading} (λ z. record s { left = z; tag = None; kept = None }) e ∙ fresh_as s r fresh
 
 -- a part that may be left out
 module _ {A : Type 0} {E : A → A → Type 0} {B : BERMode → ℕ → A → List ℕ → Type 0} {S : BERMode → ℕ → List ℕ → Type 0} (laws : IsCoding E B S)
@@ -303,17 +299,6 @@ pub option_by : {A : Type 0} {E : A → A → Type 0} {asks : Bool} {B : BERMode
     IsFirstDecoder asks (OptionOf B) (AnyOption S) Q (ReadsOptional N)
 option_by {asks} {Q} {N} laws decoder apart quiet =
     record { decodes = λ s r s' fresh h. option_first laws asks Q apart N decoder quiet s fresh r s' h }
-
--- a callback that does what N says is handed a reading where one that does what P says is
-pub optional_map : {A : Type 0} (P N : Reading → Result A ASN1Error → Reading → Type 0) →
-    ((s : Reading) (r : Result A ASN1Error) (s' : Reading) → P s r s' → N s r s') → (s : Reading) (r : Result (Option A) ASN1Error) (s' : Reading) →
-    ReadsOptional P s r s' → ReadsOptional N s r s'
-optional_map {A} P N says s r s' h = mapped s.kept h
-  where
-    mapped : (k : Option ASN1Error) → UnlessKept k s r s' ((o : Outcome A) × Hands P (untagged s) o s' × (r ≡ optional o)) →
-        UnlessKept k s r s' ((o : Outcome A) × Hands N (untagged s) o s' × (r ≡ optional o))
-    mapped (Some e) x = x
-    mapped None x = (x.0, record { own = x.1.own; left = x.1.left; says = says (untagged s) x.1.own x.1.left x.1.says; comes = x.1.comes }, x.2)
 
 made_contents : {U A : Type 0} (f : U → A) (make : A → U) → ((w : A) → f (make w) ≡ w) →
     (asks : Bool) (C : BERMode → ℕ → A → List ℕ → Type 0) (S : BERMode → ℕ → List ℕ → Type 0) (s : Reading) (r : Result U ASN1Error) (s' : Reading) →

@@ -70,6 +70,33 @@ fn lists(rt: HostRuntime) -> Result<(), Fail> {
     Ok(())
 }
 
+// A list goes on to the two zeros, a broken item is no end of it, and a part that isn't read is too much.
+#[test]
+fn ends(rt: HostRuntime) -> Result<(), Fail> {
+    let alloc = rt.alloc();
+    let list: Vec<i64> = decode_ber(alloc, &[48, 128, 2, 1, 10, 2, 1, 11, 0, 0])?;
+    assert_eq!(rt; list.as_slice(), [10, 11].as_slice());
+    let broken: ASN1Result<Vec<i64>> = decode_ber(alloc, &[48, 5, 2, 1, 10, 2, 0]);
+    assert_eq!(rt;
+        broken.err().map(|error| error.kind()),
+        Some(ASN1ErrorKind::Invalid)
+    );
+    let cut: ASN1Result<Vec<i64>> = decode_ber(alloc, &[48, 128, 2, 1, 10]);
+    assert_eq!(rt;
+        cut.err().map(|error| error.kind()),
+        Some(ASN1ErrorKind::Eof)
+    );
+    let unread: ASN1Result<(i64, i64)> = decode_ber(
+        alloc,
+        &[48, 128, 2, 1, 1, 2, 1, 2, 2, 1, 3, 0, 0],
+    );
+    assert_eq!(rt;
+        unread.err().map(|error| error.kind()),
+        Some(ASN1ErrorKind::Invalid)
+    );
+    Ok(())
+}
+
 #[test]
 fn raw_elements(rt: HostRuntime) -> Result<(), Fail> {
     let alloc = rt.alloc();

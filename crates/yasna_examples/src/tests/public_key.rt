@@ -7,14 +7,14 @@ use yasna::models::{ObjectIdentifier, TaggedDerValue};
 use yasna::{ASN1Error, ASN1ErrorKind, ASN1Result, BERReader, DERWriter, construct_der, parse_der};
 
 // The Ed25519 key of RFC 8410, 10.1, whose algorithm has no parameters.
-const ED25519: [u8; 44] = [
+pub const ED25519: [u8; 44] = [
     48, 42, 48, 5, 6, 3, 43, 101, 112, 3, 33, 0, 25, 191, 68, 9, 105, 132, 205, 254, 133, 65, 186,
     193, 103, 220, 59, 150, 200, 80, 134, 170, 48, 182, 182, 203, 12, 92, 56, 173, 112, 49, 102,
     225,
 ];
 
 // An RSA key with the modulus 33, whose algorithm has NULL for its parameters.
-const RSA: [u8; 28] = [
+pub const RSA: [u8; 28] = [
     48, 26, 48, 13, 6, 9, 42, 134, 72, 134, 247, 13, 1, 1, 1, 5, 0, 3, 9, 0, 48, 6, 2, 1, 33, 2, 1,
     3,
 ];

@@ -1,0 +1,45 @@
+-- AlgorithmIdentifier (RFC 5280, 4.1.1.2): a name, and any element, which may be left out.
+use Rattle.std.specs.Prelude.{◌≡◌, ℕ, ◌+◌, ◌*◌, ◌<◌, ◌≤◌, List, length}
+use Rattle.yasna.specs.base.declared.mode.BERMode.{BERMode}
+use Rattle.yasna.specs.base.declared.models.tagged_der_value.TaggedDerValue.{TaggedDerValue}
+use Rattle.yasna.specs.base.Bits.{BitString}
+use Rattle.yasna.specs.base.Coding.{IsCoding, Any}
+use Rattle.yasna.specs.base.Element.{Enclosed, AnyEnclosed}
+use Rattle.yasna.specs.base.Oid.{EncodesOid}
+use Rattle.yasna.specs.base.Optional.{OptionOf, AnyOption, SameOption}
+use Rattle.yasna.specs.base.Raw.{IsRaw}
+use Rattle.yasna.specs.base.Sequence.{sequence_tag, PartOf, NoParts, AnyPart, AnyNothing, SamePart, SameNothing}
+use Rattle.yasna.specs.base.TaggedDerValue.{raw_of}
+use Rattle.yasna.proofs.Laws.{along, apart_from_nothing, no_part, oid_coding, option_before, part_before, parts_contents, raw_coding, sequence}
+use Rattle.yasna_examples.specs.declared.public_key.AlgorithmIdentifier.{AlgorithmIdentifier}
+
+-- an element of any type
+abbrev pub EncodesAny : BERMode → ℕ → TaggedDerValue → List ℕ → Type 0
+EncodesAny m n v b = IsRaw n m (raw_of v) b
+
+abbrev pub AnyElement : BERMode → ℕ → List ℕ → Type 0
+AnyElement = Any (λ m n v b. IsRaw n m v b)
+
+abbrev pub EncodesAlgorithm : BERMode → ℕ → AlgorithmIdentifier → List ℕ → Type 0
+EncodesAlgorithm m n v b = Enclosed (PartOf EncodesOid (PartOf (OptionOf EncodesAny) NoParts)) sequence_tag m n (v.algorithm, (v.parameters, tt)) b
+
+-- what that asks of the bytes alone
+abbrev pub AnyAlgorithm : BERMode → ℕ → List ℕ → Type 0
+AnyAlgorithm = AnyEnclosed (AnyPart (Any EncodesOid) (AnyPart (AnyOption AnyElement) AnyNothing)) sequence_tag
+
+-- a bit string has as many bytes as its bits need
+abbrev pub HasRoom : BitString → Type 0
+HasRoom v = (v.count ≤ 8 * length v.bytes) × (8 * length v.bytes < v.count + 8)
+
+-- names are equal, and so are parameters
+abbrev pub SameAlgorithm : AlgorithmIdentifier → AlgorithmIdentifier → Type 0
+SameAlgorithm v w = SamePart (λ x y. x ≡ y) (SamePart (SameOption (λ x y. raw_of x ≡ raw_of y)) SameNothing) (v.algorithm, (v.parameters, tt)) (w.algorithm, (w.parameters, tt))
+
+-- any element keeps the laws of reading
+pub element_coding : IsCoding (λ v w. raw_of v ≡ raw_of w) EncodesAny AnyElement
+element_coding = along raw_of raw_coding
+
+-- AlgorithmIdentifier keeps the laws of reading
+pub algorithm_coding : IsCoding SameAlgorithm EncodesAlgorithm AnyAlgorithm
+algorithm_coding = sequence (λ v. (v.algorithm, (v.parameters, tt)))
+    (part_before oid_coding (option_before element_coding (apart_from_nothing element_coding) (parts_contents no_part)))

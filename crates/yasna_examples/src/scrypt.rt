@@ -1,0 +1,90 @@
+//! The parameters of scrypt (RFC 7914, 7.1), of which the last may be left out.
+ghost use Rattle.std.specs.Prelude.{◌≡◌, ◌<◌, ◌^◌, pos, true, false, ◌||◌};
+ghost use Rattle.yasna.specs.base.Canonical.{leaf_nest, enclosed_form, enclosed_nest, Always};
+ghost use Rattle.yasna.specs.base.Coding.{Any};
+ghost use Rattle.yasna.specs.base.Digits.{IsBytes};
+ghost use Rattle.yasna.specs.base.Element.{Enclosed, AnyEnclosed};
+ghost use Rattle.yasna.specs.base.Identifier.{universal};
+ghost use Rattle.yasna.specs.base.Integer.{EncodesUnsigned, integer_form};
+ghost use Rattle.yasna.specs.base.Octets.{EncodesOctets, EncodesVec, octets_tag, octets_form};
+ghost use Rattle.yasna.specs.base.Optional.{OptionOf, AnyOption, SameOption, option_form, option_nest, option_can};
+ghost use Rattle.yasna.specs.base.Sequence.{sequence_tag, PartOf, NoParts, AnyPart, AnyNothing, SamePart, SameNothing, part_form, part_nest, part_can, nothing_form, nothing_nest};
+ghost use Rattle.yasna.specs.reader.Decodes.{Decodes, Step, Done};
+ghost use Rattle.yasna.specs.reader.Optional.{ReadsOptional};
+ghost use Rattle.yasna.specs.reader.State.{IsFresh, part_of};
+ghost use Rattle.yasna.proofs.Laws.{apart_from_nothing, no_part, option_before, part_before, parts_contents, sequence, unsigned_coding, vec_coding};
+ghost use Rattle.yasna.proofs.Laws.{no_part_written, option_written, part_written, tuple_written, unsigned_written, vec_written};
+
+use yasna::{
+    ASN1Result, BERDecodable, BERReader, DERCanonical, DEREncodable, DERWriter, EncodableParts,
+};
+
+/// How a key is made of a password: a SEQUENCE of OCTET STRING and of INTEGERs, the last of which may be left out.
+#[derive(Drop)]
+pub struct ScryptParameters {
+    pub salt: Vec<u8>,
+    pub cost: u64,
+    pub block_size: u64,
+    pub parallelization: u64,
+    /// How many bytes the key has.
+    pub key_length: Option<u64>,
+}
+
+impl BERDecodable for ScryptParameters {
+    ghost encodes = { λ m n v b. Enclosed (PartOf EncodesVec (PartOf (EncodesUnsigned 64) (PartOf (EncodesUnsigned 64) (PartOf (EncodesUnsigned 64) (PartOf (OptionOf (EncodesUnsigned 64)) NoParts))))) sequence_tag m n (v.salt, (v.cost, (v.block_size, (v.parallelization, (v.key_length, tt))))) b };
+
+    ghost elements = { AnyEnclosed (AnyPart (Any EncodesOctets) (AnyPart (Any (EncodesUnsigned 64)) (AnyPart (Any (EncodesUnsigned 64)) (AnyPart (Any (EncodesUnsigned 64)) (AnyPart (AnyOption (Any (EncodesUnsigned 64))) AnyNothing))))) sequence_tag };
+
+    ghost asks_memory = { (true || (false || (false || (false || (false || false))))) };
+
+    ghost same = { λ v w. SamePart (λ x y. x.items ≡ y.items) (SamePart (λ x y. x ≡ y) (SamePart (λ x y. x ≡ y) (SamePart (λ x y. x ≡ y) (SamePart (SameOption (λ x y. x ≡ y)) SameNothing)))) (v.salt, (v.cost, (v.block_size, (v.parallelization, (v.key_length, tt))))) (w.salt, (w.cost, (w.block_size, (w.parallelization, (w.key_length, tt))))) };
+
+    fn decode_ber(reader: BERReader) -> ASN1Result<ScryptParameters> {
+        reader.read_sequence(
+            |seq| -> ASN1Result<ScryptParameters>
+                requires { IsFresh (part_of seq.old) }
+                ensures { Step (Decodes true EncodesVec (Any EncodesOctets)) (λ salt. Step (Decodes false (EncodesUnsigned 64) (Any (EncodesUnsigned 64))) (λ cost. Step (Decodes false (EncodesUnsigned 64) (Any (EncodesUnsigned 64))) (λ block_size. Step (Decodes false (EncodesUnsigned 64) (Any (EncodesUnsigned 64))) (λ parallelization. Step (ReadsOptional (Decodes false (EncodesUnsigned 64) (Any (EncodesUnsigned 64)))) (λ key_length. Done (record { salt = salt; cost = cost; block_size = block_size; parallelization = parallelization; key_length = key_length })))))) (part_of seq.old) result (part_of seq.new) }
+            {
+                let salt = Vec::<u8>::decode_ber(seq.next())?;
+                let cost = u64::decode_ber(seq.next())?;
+                let block_size = u64::decode_ber(seq.next())?;
+                let parallelization = u64::decode_ber(seq.next())?;
+                let key_length = seq.read_optional(|part| u64::decode_ber(part))?;
+                Ok(ScryptParameters {
+                    salt,
+                    cost,
+                    block_size,
+                    parallelization,
+                    key_length,
+                })
+            },
+        )
+    }
+
+    ghost coding = { sequence (λ v. (v.salt, (v.cost, (v.block_size, (v.parallelization, (v.key_length, tt)))))) (part_before vec_coding (part_before (unsigned_coding 64) (part_before (unsigned_coding 64) (part_before (unsigned_coding 64) (option_before (unsigned_coding 64) (apart_from_nothing (unsigned_coding 64)) (parts_contents no_part)))))) };
+}
+
+impl DEREncodable for ScryptParameters {
+    ghost form = { λ m v. enclosed_form (part_form (λ m s. octets_form octets_tag m s.items) (part_form (λ m n. integer_form (universal 2) m (pos n)) (part_form (λ m n. integer_form (universal 2) m (pos n)) (part_form (λ m n. integer_form (universal 2) m (pos n)) (part_form (option_form (λ m n. integer_form (universal 2) m (pos n))) nothing_form))))) sequence_tag m (v.salt, (v.cost, (v.block_size, (v.parallelization, (v.key_length, tt))))) };
+
+    ghost nest = { λ m v. enclosed_nest (part_nest leaf_nest (part_nest leaf_nest (part_nest leaf_nest (part_nest leaf_nest (part_nest (option_nest leaf_nest) nothing_nest))))) m (v.salt, (v.cost, (v.block_size, (v.parallelization, (v.key_length, tt))))) };
+
+    ghost encodable = { λ v. part_can (λ s. IsBytes s.items) (part_can (λ n. n < 2 ^ 64) (part_can (λ n. n < 2 ^ 64) (part_can (λ n. n < 2 ^ 64) (part_can (option_can (λ n. n < 2 ^ 64)) Always)))) (v.salt, (v.cost, (v.block_size, (v.parallelization, (v.key_length, tt {0}))))) };
+
+    fn encode_der(&self, writer: DERWriter<'_>) -> ASN1Result<()> {
+        let (salt, cost) = (&self.salt, self.cost);
+        let (block_size, parallelization) = (self.block_size, self.parallelization);
+        match self.key_length {
+            Some(length) => writer.write_sequence(|seq| {
+                (salt, (cost, (block_size, (parallelization, (length, ()))))).write_parts(seq)
+            }),
+            None => writer.write_sequence(|seq| {
+                (salt, (cost, (block_size, (parallelization, ())))).write_parts(seq)
+            }),
+        }
+    }
+}
+
+impl DERCanonical for ScryptParameters {
+    ghost written = { tuple_written (λ v. (v.salt, (v.cost, (v.block_size, (v.parallelization, (v.key_length, tt)))))) (part_written vec_written (part_written (unsigned_written 64) (part_written (unsigned_written 64) (part_written (unsigned_written 64) (part_written (option_written (unsigned_written 64)) no_part_written))))) };
+}
