@@ -16,8 +16,8 @@ use crate::swallow::Swallow;
 use crate::tagged::Tagging;
 use crate::times::{Generalized, Utc};
 use crate::{
-    buffer, composed, length, list, mode, oid, reading, refusal, segments, swallowed, tag, times,
-    whole, writing,
+    buffer, composed, length, list, mode, oid, reading, refusal, segments, swallowed, tag, thrown,
+    times, whole, writing,
 };
 use std::alloc::{AllocError, Global};
 use yasna::{ASN1ErrorKind, ASN1Result, DERWriter};
@@ -77,7 +77,9 @@ fn whole_answer(alloc: Global, case: &Case) -> Answer {
 
 // The same of families that write.
 fn writing_answer(alloc: Global, case: &Case) -> Answer {
-    writing::answer(alloc, case).or_else(|| length::answer(alloc, case))
+    writing::answer(alloc, case)
+        .or_else(|| thrown::answer(alloc, case))
+        .or_else(|| length::answer(alloc, case))
 }
 
 // The same of families that neither read nor write elements.

@@ -30,6 +30,7 @@
 //! | `whole` | types that are read and written as a whole |
 //! | `composed` | lists and tuples that are |
 //! | `writing`, `length` | calls that write |
+//! | `thrown` | writes whose closures refuse, call in call |
 //! | `segments` | octet strings of any length |
 //! | `tag`, `refusal`, `mode` | tags, the texts of refusals, the mode that a callback sees |
 #![tactic(auto)]
@@ -57,6 +58,7 @@ mod swallow;
 mod swallowed;
 mod tag;
 mod tagged;
+mod thrown;
 mod times;
 mod whole;
 mod writing;
