@@ -11,6 +11,8 @@ use crate::primitive::Primitive;
 use crate::raw::Raw;
 use crate::recursion::Recursion;
 use crate::sequence::Sequence;
+use crate::set::Set;
+use crate::set_of::SetOf;
 use crate::strings::Strings;
 use crate::swallow::Swallow;
 use crate::tagged::Tagging;
@@ -55,9 +57,11 @@ fn parts_answer(alloc: Global, case: &Case) -> Answer {
         .or_else(|| buffer::answer(alloc, case))
 }
 
-// The same of families that read raw elements, and elements as deep as they stand.
+// The same of families that read raw elements, sets, and elements as deep as they stand.
 fn raw_answer(alloc: Global, case: &Case) -> Answer {
     reading::answer::<Raw>(alloc, case)
+        .or_else(|| reading::answer::<SetOf>(alloc, case))
+        .or_else(|| reading::answer::<Set>(alloc, case))
         .or_else(|| reading::answer::<Nest>(alloc, case))
         .or_else(|| reading::answer::<Recursion>(alloc, case))
 }
@@ -180,6 +184,17 @@ pub fn show_bytes(bytes: &[u8], text: &mut String) -> Result<(), AllocError>
 {
     let digits = hex::encode(*text.allocator(), bytes)?;
     text.push_str(digits.as_str())
+}
+
+/// Appends values with commas between them.
+pub fn show_items<T: Shown>(items: &[T], text: &mut String) -> Result<(), AllocError> {
+    let mut between = "";
+    for item in items {
+        text.push_str(between)?;
+        item.show(text)?;
+        between = ",";
+    }
+    Ok(())
 }
 
 /// The answer `ok`, with a value and what was written of it.
