@@ -19,7 +19,7 @@ use crate::tagged::Tagging;
 use crate::times::{Generalized, Utc};
 use crate::{
     buffer, composed, length, list, mode, oid, reading, refusal, segments, swallowed, tag, thrown,
-    times, whole, writing,
+    times, tree, whole, writing,
 };
 use std::alloc::{AllocError, Global};
 use yasna::{ASN1ErrorKind, ASN1Result, DERWriter};
@@ -64,6 +64,7 @@ fn raw_answer(alloc: Global, case: &Case) -> Answer {
         .or_else(|| reading::answer::<Set>(alloc, case))
         .or_else(|| reading::answer::<Nest>(alloc, case))
         .or_else(|| reading::answer::<Recursion>(alloc, case))
+        .or_else(|| tree::answer(alloc, case))
 }
 
 // The same of families whose callbacks throw away or make refusals.

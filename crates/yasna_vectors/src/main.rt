@@ -25,6 +25,7 @@
 //! | `answer` | answers as text, and the list of families |
 //! | `reading` | how a call of a family that reads is made |
 //! | `primitive`, `strings`, `oid`, `times`, `sequence`, `optional`, `list`, `tagged`, `nest`, `recursion`, `raw`, `set_of`, `set`, `swallow` | the families that read |
+//! | `tree` | elements of many types, as deep as they stand |
 //! | `buffer` | reads with the bytes that they took |
 //! | `swallowed` | failures that callbacks throw away, call in call |
 //! | `whole` | types that are read and written as a whole |
@@ -62,6 +63,7 @@ mod tag;
 mod tagged;
 mod thrown;
 mod times;
+mod tree;
 mod whole;
 mod writing;
 
