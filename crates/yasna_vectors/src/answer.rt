@@ -11,13 +11,15 @@ use crate::primitive::Primitive;
 use crate::raw::Raw;
 use crate::recursion::Recursion;
 use crate::sequence::Sequence;
+use crate::set::Set;
+use crate::set_of::SetOf;
 use crate::strings::Strings;
 use crate::swallow::Swallow;
 use crate::tagged::Tagging;
 use crate::times::{Generalized, Utc};
 use crate::{
-    buffer, composed, length, list, mode, oid, reading, refusal, segments, swallowed, tag, times,
-    whole, writing,
+    buffer, composed, length, list, mode, oid, reading, refusal, segments, swallowed, tag, thrown,
+    times, tree, whole, writing,
 };
 use std::alloc::{AllocError, Global};
 use yasna::{ASN1ErrorKind, ASN1Result, DERWriter};
@@ -27,32 +29,70 @@ pub type Answer = Option<Result<String, AllocError>>;
 
 /// What the call of a case answers, in the first family that has it.
 pub fn answer(alloc: Global, case: &Case) -> Answer {
+    simple_answer(alloc, case)
+        .or_else(|| parts_answer(alloc, case))
+        .or_else(|| raw_answer(alloc, case))
+        .or_else(|| failing_answer(alloc, case))
+        .or_else(|| whole_answer(alloc, case))
+        .or_else(|| writing_answer(alloc, case))
+        .or_else(|| other_answer(alloc, case))
+}
+
+// The same of families that read elements which hold no other.
+fn simple_answer(alloc: Global, case: &Case) -> Answer {
     reading::answer::<Primitive>(alloc, case)
         .or_else(|| reading::answer::<Strings>(alloc, case))
         .or_else(|| reading::answer::<Oid>(alloc, case))
         .or_else(|| reading::answer::<Utc>(alloc, case))
         .or_else(|| reading::answer::<Generalized>(alloc, case))
-        .or_else(|| reading::answer::<Sequence>(alloc, case))
+}
+
+// The same of families that read elements by their parts.
+fn parts_answer(alloc: Global, case: &Case) -> Answer {
+    reading::answer::<Sequence>(alloc, case)
         .or_else(|| reading::answer::<Optional>(alloc, case))
         .or_else(|| reading::answer::<List>(alloc, case))
+        .or_else(|| list::answer(alloc, case))
         .or_else(|| reading::answer::<Tagging>(alloc, case))
         .or_else(|| buffer::answer(alloc, case))
-        .or_else(|| list::answer(alloc, case))
+}
+
+// The same of families that read raw elements, sets, and elements as deep as they stand.
+fn raw_answer(alloc: Global, case: &Case) -> Answer {
+    reading::answer::<Raw>(alloc, case)
+        .or_else(|| reading::answer::<SetOf>(alloc, case))
+        .or_else(|| reading::answer::<Set>(alloc, case))
         .or_else(|| reading::answer::<Nest>(alloc, case))
         .or_else(|| reading::answer::<Recursion>(alloc, case))
-        .or_else(|| reading::answer::<Raw>(alloc, case))
-        .or_else(|| reading::answer::<Swallow>(alloc, case))
-        .or_else(|| swallowed::answer(alloc, case))
-        .or_else(|| whole::answer(alloc, case))
+        .or_else(|| tree::answer(alloc, case))
+}
+
+// The same of families whose callbacks throw away or make refusals.
+fn failing_answer(alloc: Global, case: &Case) -> Answer {
+    reading::answer::<Swallow>(alloc, case).or_else(|| swallowed::answer(alloc, case))
+}
+
+// The same of families that read types as a whole, and of the modes that they are read in.
+fn whole_answer(alloc: Global, case: &Case) -> Answer {
+    whole::answer(alloc, case)
         .or_else(|| composed::answer(alloc, case))
-        .or_else(|| writing::answer(alloc, case))
-        .or_else(|| length::answer(alloc, case))
         .or_else(|| segments::answer(alloc, case))
-        .or_else(|| oid::answer(alloc, case))
+        .or_else(|| mode::answer(alloc, case))
+}
+
+// The same of families that write.
+fn writing_answer(alloc: Global, case: &Case) -> Answer {
+    writing::answer(alloc, case)
+        .or_else(|| thrown::answer(alloc, case))
+        .or_else(|| length::answer(alloc, case))
+}
+
+// The same of families that neither read nor write elements.
+fn other_answer(alloc: Global, case: &Case) -> Answer {
+    oid::answer(alloc, case)
         .or_else(|| times::answer(alloc, case))
         .or_else(|| tag::answer(alloc, case))
         .or_else(|| refusal::answer(alloc, case))
-        .or_else(|| mode::answer(alloc, case))
 }
 
 /// A value that a line shows.
@@ -145,6 +185,17 @@ pub fn show_bytes(bytes: &[u8], text: &mut String) -> Result<(), AllocError>
 {
     let digits = hex::encode(*text.allocator(), bytes)?;
     text.push_str(digits.as_str())
+}
+
+/// Appends values with commas between them.
+pub fn show_items<T: Shown>(items: &[T], text: &mut String) -> Result<(), AllocError> {
+    let mut between = "";
+    for item in items {
+        text.push_str(between)?;
+        item.show(text)?;
+        between = ",";
+    }
+    Ok(())
 }
 
 /// The answer `ok`, with a value and what was written of it.

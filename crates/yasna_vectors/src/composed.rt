@@ -4,7 +4,7 @@
 //! `Vec<(i64, bool)>`, `d:t1n` is `((((i64,),),),)`, `d:t3` is `(u16, (), Vec<u8>)`. `tup1`, `tup3` and `tup12` are tuples of
 //! `i64`. `d:tdv` is `TaggedDerValue` and `d:vtdv` is `Vec<TaggedDerValue>`, which are written by write_tagged_der.
 
-use crate::answer::{Answer, Shown, Value, refused, written};
+use crate::answer::{Answer, Shown, Value, refused, show_items, written};
 use crate::line::Case;
 use crate::whole::decoded;
 use std::alloc::{AllocError, Global};
@@ -58,19 +58,14 @@ fn raw<T: BERDecodable + Value>(
 
 impl<T: Shown> Shown for Vec<T> {
     fn show(&self, text: &mut String) -> Result<(), AllocError> {
-        show_items(self.as_slice(), text)
+        show_list(self.as_slice(), text)
     }
 }
 
-// Shows items, with commas between them.
-fn show_items<T: Shown>(items: &[T], text: &mut String) -> Result<(), AllocError> {
+// Shows items in brackets.
+fn show_list<T: Shown>(items: &[T], text: &mut String) -> Result<(), AllocError> {
     text.push('(')?;
-    let mut between = "";
-    for item in items {
-        text.push_str(between)?;
-        item.show(text)?;
-        between = ",";
-    }
+    show_items(items, text)?;
     text.push(')')
 }
 
@@ -100,7 +95,7 @@ impl Shown for Twelve {
             self.0, self.1, self.2, self.3, self.4, self.5, self.6, self.7, self.8, self.9,
             self.10, self.11,
         ];
-        show_items(&parts, text)
+        show_list(&parts, text)
     }
 }
 

@@ -77,10 +77,33 @@ impl<'a> Case<'a> {
         }
     }
 
-    /// The bytes that the argument stands for, if it is such a text.
+    /// The bytes that the argument stands for, if it is such a text: pieces with `+` between them, each in hexadecimal, with
+    /// `*` and a number behind it where it stands so many times.
     pub fn bytes(&self, alloc: Global) -> Option<Result<Vec<u8>, AllocError>> {
-        bytes_of(alloc, self.arg)
+        let mut bytes = Vec::new(alloc);
+        for piece in self.arg.split('+') {
+            let (text, times) = match piece.split_once('*') {
+                Some((text, times)) => (text, times.parse().ok()?),
+                None => (piece, 1),
+            };
+            let appended = match bytes_of(alloc, text)? {
+                Ok(piece) => append(&mut bytes, &piece, times),
+                Err(lack) => Err(lack),
+            };
+            if let Err(lack) = appended {
+                return Some(Err(lack));
+            }
+        }
+        Some(Ok(bytes))
     }
+}
+
+// Appends a piece so many times.
+fn append(bytes: &mut Vec<u8>, piece: &[u8], times: u64) -> Result<(), AllocError> {
+    for _ in 0..times {
+        bytes.extend_from_slice(piece)?;
+    }
+    Ok(())
 }
 
 impl<'a> Line<'a> {

@@ -3,6 +3,7 @@
 //! | Call | Body |
 //! |---|---|
 //! | `seqof_i64` | collect_sequence_of an INTEGER |
+//! | `seqof_der` | collect_sequence_of a raw element |
 //! | `seqof_choice` | collect_sequence_of lookahead_tag: INTEGER, or else NULL |
 //! | `seqof_sum` | read_sequence_of an INTEGER; the sum, wrapping, is shown, and written as it is |
 //! | `idle`, `idle_collect` | read_sequence_of and collect_sequence_of whose callback answers Ok unread |
@@ -10,6 +11,7 @@
 
 use crate::answer::{Answer, Shown, Value, refused};
 use crate::line::Case;
+use crate::raw::{RawElement, read_element};
 use crate::reading::Family;
 use std::alloc::{AllocError, Global};
 use yasna::tags::TAG_INTEGER;
@@ -21,6 +23,7 @@ use yasna::{
 #[derive(Clone, Copy)]
 pub enum List {
     Integers,
+    Elements,
     Choices,
     Sum,
     Idle,
@@ -32,6 +35,7 @@ pub enum List {
 pub enum Items {
     /// Numbers, where each that is none is a NULL.
     Choices(Vec<Option<i64>>),
+    Elements(Vec<RawElement>),
     Sum(i64),
     Nothing,
 }
@@ -42,6 +46,7 @@ impl Family for List {
     fn named(name: &str) -> Option<List> {
         match name {
             "seqof_i64" => Some(List::Integers),
+            "seqof_der" => Some(List::Elements),
             "seqof_choice" => Some(List::Choices),
             "seqof_sum" => Some(List::Sum),
             "idle" => Some(List::Idle),
@@ -55,6 +60,9 @@ impl Family for List {
             List::Integers => reader
                 .collect_sequence_of(|item| item.read_i64().map(Some))
                 .map(Items::Choices),
+            List::Elements => reader
+                .collect_sequence_of(read_element)
+                .map(Items::Elements),
             List::Choices => reader.collect_sequence_of(read_choice).map(Items::Choices),
             List::Sum => {
                 let mut sum = 0i64;
@@ -83,6 +91,7 @@ impl Shown for Items {
     fn show(&self, text: &mut String) -> Result<(), AllocError> {
         match self {
             Items::Choices(items) => show_items(items, text),
+            Items::Elements(items) => items.show(text),
             Items::Sum(sum) => write!(text, "{sum}"),
             Items::Nothing => text.push_str("()"),
         }
@@ -108,6 +117,7 @@ impl Value for Items {
     fn write(&self, writer: DERWriter<'_>) -> ASN1Result<()> {
         match self {
             Items::Choices(items) => writer.write_sequence_of(|seq| write_items(seq, items)),
+            Items::Elements(items) => writer.write_sequence_of(|seq| write_elements(seq, items)),
             Items::Sum(sum) => writer.write_i64(*sum),
             Items::Nothing => writer.write_null(),
         }
@@ -121,6 +131,14 @@ fn write_items(seq: &mut DERWriterSeq, items: &[Option<i64>]) -> ASN1Result<()> 
             Some(number) => seq.next().write_i64(*number)?,
             None => seq.next().write_null()?,
         }
+    }
+    Ok(())
+}
+
+// Writes raw elements.
+fn write_elements(seq: &mut DERWriterSeq, items: &[RawElement]) -> ASN1Result<()> {
+    for item in items {
+        item.write(seq.next())?;
     }
     Ok(())
 }

@@ -1,10 +1,10 @@
 //! Lines of calls and answers, run through the public calls of `yasna`.
 //!
 //! A line is `MODE CALL ARG => ANSWER`. MODE is `ber` or `der` where bytes are read, `x` elsewhere. ARG is the bytes in
-//! hexadecimal, `-` for none, unless the call says otherwise. ANSWER is `ok VALUE HEX`, where HEX is what the matching
-//! writes make of the value in DER, or `err KIND`. Behind a refused read may stand ` moved` or ` unmoved`: then the call
-//! is made twice in a SEQUENCE around ARG, and says whether the failure is kept. Lines that begin with `#` and blank
-//! lines are passed over.
+//! hexadecimal, `-` for none, unless the call says otherwise; `3080*200+00` is 200 times the bytes 3080, and a byte 00 behind.
+//! ANSWER is `ok VALUE HEX`, where HEX is what the matching writes make of the value in DER, or `err KIND`. Behind a refused
+//! read may stand ` moved` or ` unmoved`: then the call is made twice in a SEQUENCE around ARG, and says whether the failure
+//! is kept. Lines that begin with `#` and blank lines are passed over.
 //!
 //! With no argument the program reads such lines from standard input, and says how many ran and how many failed; each
 //! that failed is printed with what came. With the argument `answer` it reads lines with no answer, and prints one each,
@@ -24,12 +24,14 @@
 //! | `run` | all lines, one after the other |
 //! | `answer` | answers as text, and the list of families |
 //! | `reading` | how a call of a family that reads is made |
-//! | `primitive`, `strings`, `oid`, `times`, `sequence`, `optional`, `list`, `tagged`, `nest`, `recursion`, `raw`, `swallow` | the families that read |
+//! | `primitive`, `strings`, `oid`, `times`, `sequence`, `optional`, `list`, `tagged`, `nest`, `recursion`, `raw`, `set_of`, `set`, `swallow` | the families that read |
+//! | `tree` | elements of many types, as deep as they stand |
 //! | `buffer` | reads with the bytes that they took |
 //! | `swallowed` | failures that callbacks throw away, call in call |
 //! | `whole` | types that are read and written as a whole |
 //! | `composed` | lists and tuples that are |
 //! | `writing`, `length` | calls that write |
+//! | `thrown` | writes whose closures refuse, call in call |
 //! | `segments` | octet strings of any length |
 //! | `tag`, `refusal`, `mode` | tags, the texts of refusals, the mode that a callback sees |
 #![tactic(auto)]
@@ -57,13 +59,17 @@ mod refusal;
 mod run;
 mod segments;
 mod sequence;
+mod set;
+mod set_of;
 mod strings;
 mod swallow;
 mod swallowed;
 mod tag;
 mod tagged;
 mod task;
+mod thrown;
 mod times;
+mod tree;
 mod whole;
 mod writing;
 

@@ -12,6 +12,7 @@
 //!
 //! | NAME | Body |
 //! |---|---|
+//! | `setof` | write_set_of the raw elements that ARG says, with commas between them, each by write_der |
 //! | `nest` | as many sequences one in the other as ARG says, around the INTEGER 10 |
 //! | `nothing` | no call; Ok |
 //! | `refused` | write_sequence of write_i64, whose closure then answers Err(Invalid) |
@@ -24,8 +25,10 @@ use crate::line::Case;
 use crate::nest::Nested;
 use crate::oid::Oid;
 use crate::primitive::{Primitive, Scalar};
+use crate::raw::elements;
 use crate::reading::Family;
 use crate::sequence::{Parts, Sequence};
+use crate::set_of::Members;
 use crate::strings::{Content, Strings};
 use crate::tagged::{Tagged, Tagging};
 use std::alloc::{AllocError, Global};
@@ -43,6 +46,7 @@ enum Written {
     Identifier(ObjectIdentifier),
     Parts(Parts),
     Tagged(Tagged),
+    Members(Members),
     Nested(Nested),
     Nothing,
     Refused(i64),
@@ -119,6 +123,10 @@ fn value(alloc: Global, name: &str, arg: &str) -> Option<Result<Written, AllocEr
     if let Some(tagging) = Tagging::named(name) {
         return Some(Ok(Written::Tagged(tagging.value(arg)?)));
     }
+    if name == "setof" {
+        let members = elements(alloc, arg)?;
+        return Some(members.map(|members| Written::Members(Members::Elements(members))));
+    }
     let value = match name {
         "nest" => Written::Nested(Nested {
             depth: arg.parse().ok()?,
@@ -140,6 +148,7 @@ impl Shown for Written {
             Written::Identifier(identifier) => identifier.show(text),
             Written::Parts(parts) => parts.show(text),
             Written::Tagged(tagged) => tagged.show(text),
+            Written::Members(members) => members.show(text),
             Written::Nested(nested) => nested.show(text),
             Written::Nothing => text.push_str("()"),
             Written::Refused(number) => write!(text, "{number}"),
@@ -156,6 +165,7 @@ impl Value for Written {
             Written::Identifier(identifier) => identifier.write(writer),
             Written::Parts(parts) => parts.write(writer),
             Written::Tagged(tagged) => tagged.write(writer),
+            Written::Members(members) => members.write(writer),
             Written::Nested(nested) => nested.write(writer),
             Written::Nothing => Ok(()),
             Written::Refused(number) => write_refused(writer, *number),

@@ -1,0 +1,221 @@
+//! Elements of any of these types, as deep as they stand, by the next tag: `tree`.
+//!
+//! | Tag | Read |
+//! |---|---|
+//! | of the context | read_tagged of it, of such an element |
+//! | of an application | read_tagged_implicit of it, of an OCTET STRING |
+//! | SEQUENCE, SET | collect_sequence_of, collect_set_of such an element |
+//! | BOOLEAN, NULL, OCTET STRING, BIT STRING, OBJECT IDENTIFIER, UTF8String, PrintableString, UTCTime, GeneralizedTime, ENUMERATED | the read of the type |
+//! | any other | read_bigint_bytes |
+//!
+//! What stands within an element is shown and written when it has been read, and is written into it as it stands.
+ghost use Rattle.yasna.specs.reader.State.{IsFresh};
+
+use crate::answer::{Answer, Shown, Value, refused, show_items, written};
+use crate::line::Case;
+use crate::oid::Oid;
+use crate::primitive::Primitive;
+use crate::reading::Family;
+use crate::set_of::write_members;
+use crate::strings::{Class, Strings};
+use crate::times::{Generalized, Utc};
+use std::alloc::{AllocError, Global};
+use yasna::tags::{
+    TAG_BITSTRING, TAG_BOOLEAN, TAG_ENUM, TAG_GENERALIZEDTIME, TAG_NULL, TAG_OCTETSTRING, TAG_OID,
+    TAG_PRINTABLESTRING, TAG_SEQUENCE, TAG_SET, TAG_UTCTIME, TAG_UTF8STRING,
+};
+use yasna::{
+    ASN1Error, ASN1ErrorKind, ASN1Result, BERReader, DERWriter, Tag, TagClass, construct_der,
+    parse_ber_general,
+};
+
+// An element: how it is shown, and its form.
+#[derive(Drop)]
+struct Tree {
+    shown: String,
+    form: Vec<u8>,
+}
+
+impl Shown for Tree {
+    fn show(&self, text: &mut String) -> Result<(), AllocError> {
+        text.push_str(self.shown.as_str())
+    }
+}
+
+impl Value for Tree {
+    fn write(&self, writer: DERWriter<'_>) -> ASN1Result<()> {
+        writer.write_der(self.form.as_slice())
+    }
+}
+
+/// What the call answers.
+pub fn answer(alloc: Global, case: &Case) -> Answer {
+    let mode = case.mode?;
+    if case.call != "tree" {
+        return None;
+    }
+    let bytes = match case.bytes(alloc)? {
+        Ok(bytes) => bytes,
+        Err(lack) => return Some(Err(lack)),
+    };
+    let read = parse_ber_general(alloc, &bytes, mode, |reader| read_tree(alloc, reader));
+    Some(match read {
+        Ok(tree) => written(
+            alloc,
+            &tree,
+            construct_der(alloc, |writer| tree.write(writer)),
+        ),
+        Err(error) => refused(alloc, error.kind()),
+    })
+}
+
+// Reads an element by its tag.
+fn read_tree(alloc: Global, reader: BERReader) -> ASN1Result<Tree> {
+    let tag = reader.lookahead_tag()?;
+    match tag.tag_class {
+        TagClass::Application => read_implicit(alloc, tag, reader),
+        TagClass::ContextSpecific => {
+            let inner = reader.read_tagged(
+                tag,
+                |inner| -> ASN1Result<Tree>
+                    requires { IsFresh inner.old }
+                { read_tree(alloc, inner) },
+            )?;
+            explicit(alloc, tag, &inner)
+        }
+        _ if tag == TAG_SEQUENCE => {
+            let items = reader.collect_sequence_of(
+                |item| -> ASN1Result<Tree>
+                    requires { IsFresh item.old }
+                { read_tree(alloc, item) },
+            )?;
+            sequence(alloc, &items)
+        }
+        _ if tag == TAG_SET => {
+            let items = reader.collect_set_of(
+                |item| -> ASN1Result<Tree>
+                    requires { IsFresh item.old }
+                { read_tree(alloc, item) },
+            )?;
+            set(alloc, &items)
+        }
+        _ => read_simple(alloc, tag, reader),
+    }
+}
+
+// Reads an element that holds no other.
+fn read_simple(alloc: Global, tag: Tag, reader: BERReader) -> ASN1Result<Tree> {
+    if tag == TAG_BOOLEAN {
+        read_as(alloc, Primitive::Bool, reader)
+    } else if tag == TAG_NULL {
+        read_as(alloc, Primitive::Null, reader)
+    } else if tag == TAG_ENUM {
+        read_as(alloc, Primitive::Enum, reader)
+    } else if tag == TAG_OID {
+        read_as(alloc, Oid, reader)
+    } else if tag == TAG_UTCTIME {
+        read_as(alloc, Utc, reader)
+    } else if tag == TAG_GENERALIZEDTIME {
+        read_as(alloc, Generalized, reader)
+    } else {
+        match string_of(tag) {
+            Some(string) => read_as(alloc, string, reader),
+            None => read_as(alloc, Primitive::BigInteger, reader),
+        }
+    }
+}
+
+// The string of this tag.
+fn string_of(tag: Tag) -> Option<Strings> {
+    if tag == TAG_OCTETSTRING {
+        Some(Strings::Bytes)
+    } else if tag == TAG_BITSTRING {
+        Some(Strings::Bits)
+    } else if tag == TAG_UTF8STRING {
+        Some(Strings::Text(Class::Utf8))
+    } else if tag == TAG_PRINTABLESTRING {
+        Some(Strings::Text(Class::Printable))
+    } else {
+        None
+    }
+}
+
+// Reads an element by a call of a family.
+fn read_as<F: Family>(alloc: Global, call: F, reader: BERReader) -> ASN1Result<Tree> {
+    let value = call.read(reader)?;
+    let mut shown = String::new(alloc);
+    value.show(&mut shown).map_err(lack)?;
+    let form = construct_der(alloc, |writer| value.write(writer))?;
+    Ok(Tree { shown, form })
+}
+
+// Reads an OCTET STRING under an implicit tag.
+fn read_implicit(alloc: Global, tag: Tag, reader: BERReader) -> ASN1Result<Tree> {
+    let octets = reader.read_tagged_implicit(tag, |inner| inner.read_bytes())?;
+    let shown = shown_under(alloc, tag, &octets).map_err(lack)?;
+    let form = construct_der(
+        alloc,
+        |writer| writer.write_tagged_implicit(tag, |inner| inner.write_bytes(&octets)),
+    )?;
+    Ok(Tree { shown, form })
+}
+
+// An element under an explicit tag.
+fn explicit(alloc: Global, tag: Tag, inner: &Tree) -> ASN1Result<Tree> {
+    let shown = shown_under(alloc, tag, inner).map_err(lack)?;
+    let form = construct_der(
+        alloc,
+        |writer| writer.write_tagged(tag, |part| inner.write(part)),
+    )?;
+    Ok(Tree { shown, form })
+}
+
+// How an element is shown behind a tag.
+fn shown_under<V: Shown>(alloc: Global, tag: Tag, value: &V) -> Result<String, AllocError> {
+    let mut shown = String::new(alloc);
+    tag.show(&mut shown)?;
+    shown.push(':')?;
+    value.show(&mut shown)?;
+    Ok(shown)
+}
+
+// A SEQUENCE of elements.
+fn sequence(alloc: Global, items: &[Tree]) -> ASN1Result<Tree> {
+    let shown = shown_between(alloc, '(', items, ')').map_err(lack)?;
+    let form = construct_der(
+        alloc,
+        |writer| writer.write_sequence_of(|seq| {
+            for item in items {
+                item.write(seq.next())?;
+            }
+            Ok(())
+        }),
+    )?;
+    Ok(Tree { shown, form })
+}
+
+// A SET OF elements.
+fn set(alloc: Global, items: &[Tree]) -> ASN1Result<Tree> {
+    let shown = shown_between(alloc, '[', items, ']').map_err(lack)?;
+    let form = construct_der(alloc, |writer| write_members(writer, items))?;
+    Ok(Tree { shown, form })
+}
+
+// How elements are shown between brackets.
+fn shown_between(
+    alloc: Global,
+    first: char,
+    items: &[Tree],
+    last: char,
+) -> Result<String, AllocError> {
+    let mut shown = String::new(alloc);
+    shown.push(first)?;
+    show_items(items, &mut shown)?;
+    shown.push(last)?;
+    Ok(shown)
+}
+
+// The refusal of a read for which there was no memory.
+fn lack(_lack: AllocError) -> ASN1Error {
+    ASN1Error::new(ASN1ErrorKind::OutOfMemory)
+}
