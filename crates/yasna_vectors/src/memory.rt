@@ -6,12 +6,12 @@
 //! answers want of memory, and each other line what it says.
 
 use crate::answer::answer;
-use crate::line::Line;
+use crate::line::{Case, Line};
 use crate::run::{Report, Verdict};
 use std::alloc::{AllocError, Global};
 
 // No run makes more idle requests behind its lines.
-const MOST: u64 = 10_000;
+const MOST: u64 = 2_000;
 
 // What the lines answered.
 #[derive(Drop)]
@@ -23,6 +23,8 @@ struct Tally {
     // lines with no answer, as the text of one found no memory
     silent: u64,
     failed: u64,
+    // the last line that lacked memory
+    place: u64,
 }
 
 /// Runs the lines behind the first, behind as many idle requests as this one says; none where it says no number.
@@ -39,6 +41,7 @@ fn run_lines(alloc: Global, idle: u64, lines: &str) -> Result<Report, AllocError
         refused: 0,
         silent: 0,
         failed: 0,
+        place: 0,
     };
     if granted(alloc, idle) < idle {
         tally.text.push_str("refused in front of the lines\n")?;
@@ -65,29 +68,48 @@ fn granted(alloc: Global, count: u64) -> u64 {
     count
 }
 
-// Runs a line, and notes what it answered.
+// Runs a line, and notes what it answered. Whether a refusal moved isn't asked, as that takes further calls.
 fn run_line(alloc: Global, line: &Line, tally: &mut Tally) -> Result<(), AllocError> {
     tally.lines = tally.lines.saturating_add(1);
-    match answer(alloc, &line.case) {
-        Some(Err(_)) => tally.silent = tally.silent.saturating_add(1),
-        Some(Ok(came)) if came.as_str() == line.wanted => (),
+    let case = Case {
+        mode: line.case.mode,
+        call: line.case.call,
+        second: None,
+        arg: line.case.arg,
+        marked: false,
+    };
+    match answer(alloc, &case) {
+        Some(Err(_)) => {
+            tally.silent = tally.silent.saturating_add(1);
+            tally.place = tally.lines;
+            Ok(())
+        }
+        Some(Ok(came)) if came.as_str() == unmarked(line.wanted) => Ok(()),
         Some(Ok(came)) if came.as_str() == "err OutOfMemory" => {
             tally.refused = tally.refused.saturating_add(1);
+            tally.place = tally.lines;
+            Ok(())
         }
-        Some(Ok(came)) => {
-            tally.failed = tally.failed.saturating_add(1);
-            let call = line.case.call;
-            let arg = line.case.arg;
-            let came = came.as_str();
-            writeln!(tally.text, "{call} {arg}\n    came {came}")?;
-        }
-        None => {
-            tally.failed = tally.failed.saturating_add(1);
-            let call = line.case.call;
-            writeln!(tally.text, "no such call: {call}")?;
-        }
+        Some(Ok(came)) => fail(tally, &case, came.as_str()),
+        None => fail(tally, &case, "unknown"),
     }
-    Ok(())
+}
+
+// An answer without what it says of a move.
+fn unmarked(answer: &str) -> &str {
+    let unmarked = answer
+        .strip_suffix(" moved")
+        .or_else(|| answer.strip_suffix(" unmoved"));
+    unmarked.unwrap_or(answer)
+}
+
+// Notes a line that answered what it isn't to.
+fn fail(tally: &mut Tally, case: &Case, came: &str) -> Result<(), AllocError> {
+    tally.failed = tally.failed.saturating_add(1);
+    let mode = case.mode_name();
+    let call = case.call;
+    let arg = case.arg;
+    writeln!(tally.text, "{mode} {call} {arg}\n    came {came}")
 }
 
 // What the lines came to, and how many idle requests are granted behind them.
@@ -97,13 +119,14 @@ fn report(alloc: Global, tally: Tally) -> Result<Report, AllocError> {
     let refused = tally.refused;
     let silent = tally.silent;
     let failed = tally.failed;
+    let place = tally.place;
     let spare = if refused == 0 && silent == 0 {
         granted(alloc, MOST)
     } else {
         0
     };
     write!(text, "{lines} lines, {refused} refused, {silent} silent, ")?;
-    writeln!(text, "{failed} failed, {spare} spare")?;
+    writeln!(text, "{failed} failed, {spare} spare, place {place}")?;
     let verdict = if failed == 0 {
         Verdict::Right
     } else {
