@@ -13,13 +13,14 @@ use crate::recursion::Recursion;
 use crate::sequence::Sequence;
 use crate::set::Set;
 use crate::set_of::SetOf;
+use crate::set_optional::OptionalSet;
 use crate::strings::Strings;
 use crate::swallow::Swallow;
 use crate::tagged::Tagging;
 use crate::times::{Generalized, Utc};
 use crate::{
-    buffer, composed, length, list, mode, oid, reading, refusal, segments, swallowed, tag, thrown,
-    times, tree, whole, writing,
+    buffer, composed, length, list, mode, oid, reading, refusal, segments, set_any, swallowed, tag,
+    thrown, times, tree, whole, writing,
 };
 use std::alloc::{AllocError, Global};
 use yasna::{ASN1ErrorKind, ASN1Result, DERWriter};
@@ -62,6 +63,8 @@ fn raw_answer(alloc: Global, case: &Case) -> Answer {
     reading::answer::<Raw>(alloc, case)
         .or_else(|| reading::answer::<SetOf>(alloc, case))
         .or_else(|| reading::answer::<Set>(alloc, case))
+        .or_else(|| reading::answer::<OptionalSet>(alloc, case))
+        .or_else(|| set_any::answer(alloc, case))
         .or_else(|| reading::answer::<Nest>(alloc, case))
         .or_else(|| reading::answer::<Recursion>(alloc, case))
         .or_else(|| tree::answer(alloc, case))

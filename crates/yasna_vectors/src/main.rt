@@ -24,7 +24,8 @@
 //! | `run` | all lines, one after the other |
 //! | `answer` | answers as text, and the list of families |
 //! | `reading` | how a call of a family that reads is made |
-//! | `primitive`, `strings`, `oid`, `times`, `sequence`, `optional`, `list`, `tagged`, `nest`, `recursion`, `raw`, `set_of`, `set`, `swallow` | the families that read |
+//! | `primitive`, `strings`, `oid`, `times`, `sequence`, `optional`, `list`, `tagged`, `nest`, `recursion`, `raw`, `set_of`, `set`, `set_optional`, `swallow` | the families that read |
+//! | `set_any` | sets of any elements |
 //! | `tree` | elements of many types, as deep as they stand |
 //! | `buffer` | reads with the bytes that they took |
 //! | `swallowed` | failures that callbacks throw away, call in call |
@@ -60,7 +61,9 @@ mod run;
 mod segments;
 mod sequence;
 mod set;
+mod set_any;
 mod set_of;
+mod set_optional;
 mod strings;
 mod swallow;
 mod swallowed;

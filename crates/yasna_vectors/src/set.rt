@@ -1,5 +1,5 @@
-//! SET, whose elements are asked for by their tags (X.690, 8.11 and 10.3). They are shown in braces, in the order in which they
-//! are asked for, and written in the order of their tags.
+//! SET, whose elements are asked for by their tags (X.690, 8.11 and 10.3). They are shown in braces and written by
+//! write_set, in the order in which they are asked for.
 //!
 //! | Call | read_set, in which |
 //! |---|---|
@@ -17,8 +17,8 @@ use crate::raw::{RawElement, read_element};
 use crate::reading::Family;
 use crate::recursion::{Found, Recursion};
 use std::alloc::AllocError;
-use yasna::tags::{TAG_BOOLEAN, TAG_INTEGER, TAG_SEQUENCE, TAG_SET};
-use yasna::{ASN1Result, BERReader, BERReaderSet, DERWriter, DERWriterSeq, Tag};
+use yasna::tags::{TAG_BOOLEAN, TAG_INTEGER, TAG_SEQUENCE};
+use yasna::{ASN1Result, BERReader, BERReaderSet, DERWriter, DERWriterSet, Tag};
 
 /// A call on a SET.
 #[derive(Clone, Copy)]
@@ -187,19 +187,16 @@ impl Value for Elements {
         if let Elements::Dropped = self {
             return writer.write_null();
         }
-        writer.write_tagged_implicit(
-            TAG_SET,
-            |inner| inner.write_sequence(|parts| write_elements(parts, self)),
-        )
+        writer.write_set(|parts| write_elements(parts, self))
     }
 }
 
-// Writes elements in the order of their tags.
-fn write_elements(parts: &mut DERWriterSeq, elements: &Elements) -> ASN1Result<()> {
+// Writes elements in the order in which they are asked for.
+fn write_elements(parts: &mut DERWriterSet, elements: &Elements) -> ASN1Result<()> {
     match elements {
         Elements::IntegerBoolean(number, flag) => {
-            parts.next().write_bool(*flag)?;
-            parts.next().write_i64(*number)
+            parts.next().write_i64(*number)?;
+            parts.next().write_bool(*flag)
         }
         Elements::Integers(first, second) => {
             parts.next().write_i64(*first)?;
@@ -213,20 +210,20 @@ fn write_elements(parts: &mut DERWriterSeq, elements: &Elements) -> ASN1Result<(
     }
 }
 
-// Writes four elements under tags of the context, in the order of these.
-fn write_four(parts: &mut DERWriterSeq, four: &Four) -> ASN1Result<()> {
-    parts
-        .next()
-        .write_tagged(Tag::context(27), |inner| inner.write_i64(four.explicit))?;
+// Writes four elements under tags of the context.
+fn write_four(parts: &mut DERWriterSet, four: &Four) -> ASN1Result<()> {
     parts
         .next()
         .write_tagged_implicit(Tag::context(28), |inner| inner.write_i64(four.implicit))?;
     parts.next().write_tagged(
-        Tag::context(345677),
-        |inner| inner.write_bytes(&four.octets),
-    )?;
-    parts.next().write_tagged(
         Tag::context(345678),
         |inner| inner.write_bytes(&four.last_octets),
+    )?;
+    parts
+        .next()
+        .write_tagged(Tag::context(27), |inner| inner.write_i64(four.explicit))?;
+    parts.next().write_tagged(
+        Tag::context(345677),
+        |inner| inner.write_bytes(&four.octets),
     )
 }

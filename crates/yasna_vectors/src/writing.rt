@@ -13,6 +13,7 @@
 //! | NAME | Body |
 //! |---|---|
 //! | `setof` | write_set_of the raw elements that ARG says, with commas between them, each by write_der |
+//! | `set` | write_set of the raw elements that ARG says, with commas between them, each by write_der |
 //! | `nest` | as many sequences one in the other as ARG says, around the INTEGER 10 |
 //! | `nothing` | no call; Ok |
 //! | `refused` | write_sequence of write_i64, whose closure then answers Err(Invalid) |
@@ -28,6 +29,7 @@ use crate::primitive::{Primitive, Scalar};
 use crate::raw::elements;
 use crate::reading::Family;
 use crate::sequence::{Parts, Sequence};
+use crate::set_any::AnyElements;
 use crate::set_of::Members;
 use crate::strings::{Content, Strings};
 use crate::tagged::{Tagged, Tagging};
@@ -47,6 +49,7 @@ enum Written {
     Parts(Parts),
     Tagged(Tagged),
     Members(Members),
+    Elements(AnyElements),
     Nested(Nested),
     Nothing,
     Refused(i64),
@@ -127,6 +130,10 @@ fn value(alloc: Global, name: &str, arg: &str) -> Option<Result<Written, AllocEr
         let members = elements(alloc, arg)?;
         return Some(members.map(|members| Written::Members(Members::Elements(members))));
     }
+    if name == "set" {
+        let elements = elements(alloc, arg)?;
+        return Some(elements.map(|elements| Written::Elements(AnyElements(elements))));
+    }
     let value = match name {
         "nest" => Written::Nested(Nested {
             depth: arg.parse().ok()?,
@@ -149,6 +156,7 @@ impl Shown for Written {
             Written::Parts(parts) => parts.show(text),
             Written::Tagged(tagged) => tagged.show(text),
             Written::Members(members) => members.show(text),
+            Written::Elements(elements) => elements.show(text),
             Written::Nested(nested) => nested.show(text),
             Written::Nothing => text.push_str("()"),
             Written::Refused(number) => write!(text, "{number}"),
@@ -166,6 +174,7 @@ impl Value for Written {
             Written::Parts(parts) => parts.write(writer),
             Written::Tagged(tagged) => tagged.write(writer),
             Written::Members(members) => members.write(writer),
+            Written::Elements(elements) => elements.write(writer),
             Written::Nested(nested) => nested.write(writer),
             Written::Nothing => Ok(()),
             Written::Refused(number) => write_refused(writer, *number),
