@@ -22,6 +22,7 @@ pub mod Cut
 pub mod Raw
 pub mod Order
 pub mod SetLaws
+pub mod SetContents
 pub mod Octets
 pub mod Bits
 pub mod BitPieces
