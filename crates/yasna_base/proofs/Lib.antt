@@ -26,6 +26,7 @@ pub mod Order
 pub mod SetLaws
 pub mod SetOfWriting
 pub mod SetWriting
+pub mod SetContents
 pub mod Octets
 pub mod Bits
 pub mod BitPieces

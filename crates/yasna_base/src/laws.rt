@@ -32,7 +32,7 @@ ghost use Rattle.yasna_base.specs.OidText.{lacks_memory};
 ghost use Rattle.yasna_base.specs.declared.models.tagged_der_value.TaggedDerValue.{TaggedDerValue};
 ghost use Rattle.yasna_base.specs.TaggedDerValue.{raw_of};
 ghost use Rattle.yasna_base.specs.Raw.{RawKeepsReadingLaws, TooDeepIsNotRaw};
-ghost use Rattle.yasna_base.specs.SetLaws.{SetKeepsReadingLaws, SetOfOrderIsOne, SetOrderIsOne};
+ghost use Rattle.yasna_base.specs.SetLaws.{SetKeepsReadingLaws, SetOfOrderIsOne, SetOrderIsOne, SetContentsAreOne};
 ghost use Rattle.yasna_base.specs.SetWriting.{SetOfKeepsLaws, SetOfRawKeepsReadingLaws, SetKeepsWritingLaws};
 ghost use Rattle.yasna_base.specs.UtcTime.{UtcTextsAreExact, UtcTimeKeepsLaws};
 ghost use Rattle.yasna_base.specs.GeneralizedTime.{GeneralTextsAreExact, GeneralizedTimeKeepsLaws};
@@ -189,11 +189,12 @@ pub fn raw_elements()
 /// SET keeps the laws of reading, under any tag but that of the end of contents.
 ///
 /// What a SET OF holds depends on its parts alone, and not on how they stood; and so does what a SET holds, where parts
-/// that begin with one tag are one.
+/// that begin with one tag are one. The contents that the parts of a SET make are one then, however they stood.
 pub fn sets()
     ensures set { SetKeepsReadingLaws }
     ensures set_of_order { SetOfOrderIsOne }
     ensures set_order { SetOrderIsOne }
+    ensures set_contents { SetContentsAreOne }
 {}
 
 // Numbers of 64 bits are below 2^64.
