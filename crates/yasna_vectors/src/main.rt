@@ -7,8 +7,9 @@
 //! is kept. Lines that begin with `#` and blank lines are passed over.
 //!
 //! With no argument the program reads such lines from standard input, and says how many ran and how many failed; each
-//! that failed is printed with what came. With the argument `answer` it reads lines with no answer, and prints one each,
-//! `unknown` where it has no such call.
+//! that failed is printed with what came. Then it says the same of the lines' bytes, cut and with other lengths. With the
+//! argument `answer` it reads lines with no answer, and prints one each, `unknown` where it has no such call. `task` tells
+//! the other arguments.
 //!
 //! | Status | When |
 //! |---|---|
@@ -21,7 +22,11 @@
 //! | Module | Holds |
 //! |---|---|
 //! | `line` | what a line says |
+//! | `task` | what the arguments ask for |
 //! | `run` | all lines, one after the other |
+//! | `hostile` | their bytes, cut and with other lengths |
+//! | `memory` | lines of which a request for memory is refused |
+//! | `fuzz`, `mutation`, `random` | calls on random input, and how it is made |
 //! | `answer` | answers as text, and the list of families |
 //! | `reading` | how a call of a family that reads is made |
 //! | `primitive`, `strings`, `oid`, `times`, `sequence`, `optional`, `list`, `tagged`, `nest`, `recursion`, `raw`, `set_of`, `set`, `set_optional`, `swallow` | the families that read |

@@ -85,7 +85,7 @@ fn run_line(alloc: Global, line: &Line, tally: &mut Tally) -> Result<(), AllocEr
             Ok(())
         }
         Some(Ok(came)) if came.as_str() == unmarked(line.wanted) => Ok(()),
-        Some(Ok(came)) if came.as_str() == "err OutOfMemory" => {
+        Some(Ok(came)) if came.starts_with("err OutOfMemory") => {
             tally.refused = tally.refused.saturating_add(1);
             tally.place = tally.lines;
             Ok(())
