@@ -43,13 +43,31 @@ pub fn check_group(alloc: Global, group: Group, input: &str) -> Result<Report, A
     };
     for line in input.lines() {
         if let Some(case) = accepted(line) {
-            match group {
-                Group::Cut => check_fronts(alloc, &case, &mut tally)?,
-                Group::Length => check_lengths(alloc, &case, &mut tally)?,
-            }
+            check_case(alloc, group, &case, &mut tally)?;
         }
     }
     report(group, tally)
+}
+
+// Checks a case with each byte of its argument written out, if these are at most 300.
+fn check_case(
+    alloc: Global,
+    group: Group,
+    case: &Case,
+    tally: &mut Tally,
+) -> Result<(), AllocError> {
+    let Some(bytes) = case.bytes(alloc) else {
+        return Ok(());
+    };
+    let digits = hex::encode(alloc, bytes?)?;
+    if digits.len() > 600 {
+        return Ok(());
+    }
+    let case = with(case, case.call, &digits);
+    match group {
+        Group::Cut => check_fronts(alloc, &case, tally),
+        Group::Length => check_lengths(alloc, &case, tally),
+    }
 }
 
 // What a group came to.
@@ -70,7 +88,7 @@ fn report(group: Group, tally: Tally) -> Result<Report, AllocError> {
     Ok(Report { text, verdict })
 }
 
-// The case of a line that reads 1 to 300 bytes and accepts them.
+// The case of a line that reads a byte or more and accepts them.
 fn accepted(line: &str) -> Option<Case<'_>> {
     let line = Line::parse(line)?;
     let takes_bytes = line.case.takes_bytes() && line.case.arg != "-" && line.case.arg.len() <= 600;
