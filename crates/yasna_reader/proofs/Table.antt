@@ -149,7 +149,7 @@ stopped_all m e n s f fs j r k x y = record {
     only_innermost (inl d) = d
     only_innermost (inr z) = absurd z.2
 
--- the first places of the table, the last of them in front
+-- the first places of the table of the elements around the innermost, the last of them in front
 abbrev pub opened : List (Option (Bor (List ℕ))) → ℕ → List ContentsEnd
 opened ends zero = []
 opened ends (suc d) = contents_end (get_or ends d None) ∷ opened ends d
@@ -177,42 +177,38 @@ opened_more ends d o l =
     let e = get_or-set_same ends d o None l in
     ap (λ k. opened (set ends d o) k) (add-one d) ∙ ap₂ (λ x xs. contents_end x ∷ xs) e (opened_other ends d d o (omega arith))
 
--- what a turn keeps
-module _ (m : BERMode) (e : ContentsEnd) (n : ℕ) (s : List ℕ) (ends : List (Option (Bor (List ℕ)))) (d k : ℕ) (o : BERMode) (r : List ℕ)
-    (some : 1 ≤ d) (mode : o ≡ m) (same : Same m (e ∷ []) n s (opened ends d) k r) where
-  here : Same m (e ∷ []) n s (contents_end (get_or ends (d - 1) None) ∷ opened ends (d - 1)) k r
-  here = subst (λ z. Same m (e ∷ []) n s z k r) (opened_last ends d some) same
-
-  pub keeps_left : (a q : List ℕ) (j : ℕ) → EndsBefore (contents_end (get_or ends (d - 1) None)) r a → q ≡ a → j ≡ k + 1 →
-      Same m (e ∷ []) n s (opened ends (d - 1)) j q
+-- what a turn in the innermost element keeps
+module _ (m : BERMode) (e : ContentsEnd) (n : ℕ) (s : List ℕ) (last : Option (Bor (List ℕ))) (ends : List (Option (Bor (List ℕ)))) (d k : ℕ) (o : BERMode)
+    (r : List ℕ) (mode : o ≡ m) (same : Same m (e ∷ []) n s (contents_end last ∷ opened ends d) k r) where
+  pub keeps_left : (a q : List ℕ) (j : ℕ) → EndsBefore (contents_end last) r a → q ≡ a → j ≡ k + 1 → Same m (e ∷ []) n s (opened ends d) j q
   keeps_left a q j x f g =
-      let last = contents_end (get_or ends (d - 1) None) in
-      let outer = opened ends (d - 1) in
-      subst (λ i. Same m (e ∷ []) n s outer i q) (sym (g ∙ add-one k)) (same_then m (e ∷ []) (last ∷ outer) outer n k (suc k) s r q here
-      (same_left m last outer k r q (subst (λ z. EndsBefore last r z) (sym f) x)))
+      let outer = opened ends d in
+      subst (λ i. Same m (e ∷ []) n s outer i q) (sym (g ∙ add-one k)) (same_then m (e ∷ []) (contents_end last ∷ outer) outer n k (suc k) s r q same
+      (same_left m (contents_end last) outer k r q (subst (λ z. EndsBefore (contents_end last) r z) (sym f) x)))
 
-  pub keeps_passed : (a q : List ℕ) (j : ℕ) → Passes o k r a → q ≡ a → j ≡ k → Same m (e ∷ []) n s (opened ends d) j q
+  pub keeps_outer : (a q : List ℕ) (j : ℕ) → 1 ≤ d → EndsBefore (contents_end last) r a → q ≡ a → j ≡ k + 1 →
+      Same m (e ∷ []) n s (contents_end (get_or ends (d - 1) None) ∷ opened ends (d - 1)) j q
+  keeps_outer a q j l x f g = subst (λ z. Same m (e ∷ []) n s z j q) (opened_last ends d l) (keeps_left a q j x f g)
+
+  pub keeps_passed : (a q : List ℕ) (j : ℕ) → Passes o k r a → q ≡ a → j ≡ k → Same m (e ∷ []) n s (contents_end last ∷ opened ends d) j q
   keeps_passed a q j x f g =
-      let last = contents_end (get_or ends (d - 1) None) in
-      let outer = opened ends (d - 1) in
+      let all = contents_end last ∷ opened ends d in
       let y = subst (λ z. Passes m k r z) (sym f) (subst (λ p. Passes p k r a) mode x) in
-      subst (λ i. Same m (e ∷ []) n s (opened ends d) i q) (sym g) (subst (λ z. Same m (e ∷ []) n s z k q) (sym (opened_last ends d some))
-      (same_then m (e ∷ []) (last ∷ outer) (last ∷ outer) n k k s r q here (passed_any m last outer k r q y)))
+      subst (λ i. Same m (e ∷ []) n s all i q) (sym g) (same_then m (e ∷ []) all all n k k s r q same
+      (passed_any m (contents_end last) (opened ends d) k r q y))
 
   pub keeps_entered : (c q : List ℕ) (j : ℕ) (f : Option (Bor (List ℕ))) → d < length ends → Enters o k r c (contents_end f) → q ≡ c → j ≡ k - 1 →
-      Same m (e ∷ []) n s (opened (set ends d f) (d + 1)) j q
+      Same m (e ∷ []) n s (contents_end f ∷ opened (set ends d last) (d + 1)) j q
   keeps_entered c q j f l x g h =
-      let last = contents_end (get_or ends (d - 1) None) in
-      let outer = opened ends (d - 1) in
+      let all = contents_end last ∷ opened ends d in
       let y = subst (λ z. Enters m k r z (contents_end f)) (sym g) (subst (λ p. Enters p k r c (contents_end f)) mode x) in
-      let table = ap (λ z. contents_end f ∷ z) (sym (opened_last ends d some)) ∙ sym (opened_more ends d f l) in
-      subst (λ i. Same m (e ∷ []) n s (opened (set ends d f) (d + 1)) i q) (sym h) (subst (λ z. Same m (e ∷ []) n s z (k - 1) q) table
-      (same_then m (e ∷ []) (last ∷ outer) (contents_end f ∷ (last ∷ outer)) n k (k - 1) s r q here (entered_any m last outer k r q (contents_end f) y)))
+      subst (λ i. Same m (e ∷ []) n s (contents_end f ∷ opened (set ends d last) (d + 1)) i q) (sym h)
+      (subst (λ z. Same m (e ∷ []) n s (contents_end f ∷ z) (k - 1) q) (sym (opened_more ends d last l))
+      (same_then m (e ∷ []) all (contents_end f ∷ all) n k (k - 1) s r q same (entered_any m (contents_end last) (opened ends d) k r q (contents_end f) y)))
 
-  pub not_walked : (x : ASN1ErrorKind) → Stops o k (contents_end (get_or ends (d - 1) None)) r x → NotWalked m n e s x
+  pub not_walked : (x : ASN1ErrorKind) → Stops o k (contents_end last) r x → NotWalked m n e s x
   not_walked x y =
-      stopped_all m e n s (contents_end (get_or ends (d - 1) None)) (opened ends (d - 1)) k r x here
-      (subst (λ p. Stops p k (contents_end (get_or ends (d - 1) None)) r x) mode y)
+      stopped_all m e n s (contents_end last) (opened ends d) k r x same (subst (λ p. Stops p k (contents_end last) r x) mode y)
 
 -- the outermost element has ended
 pub walked : (m : BERMode) (e : ContentsEnd) (n k : ℕ) (s a : List ℕ) → Same m (e ∷ []) n s [] k a → ClosesBefore n m e s a
@@ -236,23 +232,27 @@ opens_total m t p s c uncounted es x =
     let i = length-append (identifier t p) (128 ∷ c) in
     omega (arith, identifier_some t p)
 
-pub left_smaller : (ends : List (Option (Bor (List ℕ)))) (d : ℕ) (s r q : List ℕ) → 1 ≤ d → EndsBefore (contents_end (get_or ends (d - 1) None)) s r →
-    q ≡ r → 2 * (length q + total (opened ends (d - 1))) + (d - 1) < 2 * (length s + total (opened ends d)) + d
-left_smaller ends d s r q l x f =
-    let i = ends_total (contents_end (get_or ends (d - 1) None)) (opened ends (d - 1)) s r x in
+-- how many bytes follow the elements that a walk is in, each within those around it
+abbrev pub around : Option (Bor (List ℕ)) → List (Option (Bor (List ℕ))) → ℕ → ℕ
+around last ends d = total (contents_end last ∷ opened ends d)
+
+pub left_smaller : (last : Option (Bor (List ℕ))) (ends : List (Option (Bor (List ℕ)))) (d : ℕ) (s r q : List ℕ) → 1 ≤ d → EndsBefore (contents_end last) s r →
+    q ≡ r → 2 * (length q + around (get_or ends (d - 1) None) ends (d - 1)) + (d - 1) < 2 * (length s + around last ends d) + d
+left_smaller last ends d s r q l x f =
+    let i = ends_total (contents_end last) (opened ends d) s r x in
     let e = ap total (opened_last ends d l) in
     omega (arith, ap length f)
 
-pub passed_smaller : (ends : List (Option (Bor (List ℕ)))) (d : ℕ) (m : BERMode) (n : ℕ) (s r q : List ℕ) → Passes m n s r → q ≡ r →
-    2 * (length q + total (opened ends d)) + d < 2 * (length s + total (opened ends d)) + d
-passed_smaller ends d m n s r q x f =
+pub passed_smaller : (last : Option (Bor (List ℕ))) (ends : List (Option (Bor (List ℕ)))) (d : ℕ) (m : BERMode) (n : ℕ) (s r q : List ℕ) → Passes m n s r →
+    q ≡ r → 2 * (length q + around last ends d) + d < 2 * (length s + around last ends d) + d
+passed_smaller last ends d m n s r q x f =
     let i = opens_total m x.tag x.bit s x.contents (counted r) [] x.opened.opens in
     omega (arith, ap length f)
 
-pub entered_smaller : (ends : List (Option (Bor (List ℕ)))) (d : ℕ) (m : BERMode) (n : ℕ) (s c q : List ℕ) (f : Option (Bor (List ℕ))) → d < length ends →
-    Enters m n s c (contents_end f) → q ≡ c →
-    2 * (length q + total (opened (set ends d f) (d + 1))) + (d + 1) < 2 * (length s + total (opened ends d)) + d
-entered_smaller ends d m n s c q f l x g =
-    let i = opens_total m x.tag x.bit s c (contents_end f) (opened ends d) x.opened.opens in
-    let e = ap total (opened_more ends d f l) in
+pub entered_smaller : (last : Option (Bor (List ℕ))) (ends : List (Option (Bor (List ℕ)))) (d : ℕ) (m : BERMode) (n : ℕ) (s c q : List ℕ)
+    (f : Option (Bor (List ℕ))) → d < length ends → Enters m n s c (contents_end f) → q ≡ c →
+    2 * (length q + around f (set ends d last) (d + 1)) + (d + 1) < 2 * (length s + around last ends d) + d
+entered_smaller last ends d m n s c q f l x g =
+    let i = opens_total m x.tag x.bit s c (contents_end f) (opened (set ends d last) (d + 1)) x.opened.opens in
+    let e = ap total (opened_more ends d last l) in
     omega (arith, ap length g)

@@ -1,6 +1,6 @@
 //! Raw elements: their contents are elements one after the other, which are walked over (X.690, 8.1).
 //!
-//! In DER constructed contents are walked, in BER those of indefinite length alone. The walk is one loop over a table of
+//! In DER constructed contents are walked, in BER those of indefinite length alone. The walk is one loop that keeps
 //! the ends of the elements that it is in, and takes no memory.
 ghost use Rattle.std.specs.Prelude.{IsTrue, ◌↔◌, ◌≡◌, ◌≤◌, ◌-◌, ◌++◌, MatchOption};
 ghost use Rattle.yasna_base.specs.Identifier.{end_tag};
@@ -149,26 +149,27 @@ fn walk<'a>(cursor: Cursor<'a>, end: Option<&'a [u8]>) -> Result<&'a [u8], ASN1E
     requires { cursor.levels ≤ 100 }
     ensures { WalksTo cursor.entry.mode cursor.entry.levels (contents_end end.entry) cursor.entry.left.now result }
 {
-    // The innermost last; none for the elements of indefinite length.
-    let mut ends: [Option<&'a [u8]>; 101] = [None; 101];
-    ends[0] = end;
-    let mut depth: usize = 1;
+    // The ends of the elements around the innermost, the nearest last; none for those of indefinite length.
+    let mut outer: [Option<&'a [u8]>; 100] = [None; 100];
+    let mut depth: usize = 0;
+    let mut innermost = end;
     let mut here = cursor;
     loop {
-        let innermost = ends[depth - 1];
         match take_turn(here, innermost) {
             Ok(Turn::Left(after)) => {
-                depth -= 1;
                 if depth == 0 {
                     return Ok(after);
                 }
+                depth -= 1;
                 here = here.outside(innermost, after);
+                innermost = outer[depth];
             }
             Ok(Turn::Passed(after)) => here = here.further(after),
             Ok(Turn::Entered(opened)) => {
-                ends[depth] = opened.after;
+                outer[depth] = innermost;
                 depth += 1;
                 here = here.inside(&opened);
+                innermost = opened.after;
             }
             Err(kind) => return Err(kind),
         }
