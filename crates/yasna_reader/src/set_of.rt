@@ -5,6 +5,7 @@ ghost use Rattle.yasna_reader.specs.SetOf.{goes_before, bytes_of, bound_in};
 use crate::bytes::walk::in_front;
 use crate::callback::Outcome;
 use crate::state::{BERReader, ReaderState};
+use yasna_base::bytes::order::compare_octets;
 use yasna_base::error::{ASN1Error, ASN1ErrorKind, ASN1Result};
 use yasna_base::mode::BERMode;
 use yasna_base::tags::TAG_SET;
@@ -33,10 +34,11 @@ pub fn first_bound<'a>(order: Order, mode: BERMode) -> Option<&'a [u8]>
 }
 
 // Whether an encoding goes before another.
+#[inline(always)]
 fn goes_before(element: &[u8], other: &[u8]) -> bool
     ensures { result ≡ goes_before element.now other.now }
 {
-    element.cmp(other).is_lt()
+    compare_octets(element, other).is_lt()
 }
 
 impl<'a> ReaderState<'a> {
