@@ -100,22 +100,28 @@ cat "$work"/[0-9]*.said | awk '
 
 # Each run refused one request: in front of the vectors, or of one of them, or behind, where less is spare than was asked
 # for. A writer does without the memory of a mark: so where that is refused, a vector whose call writes an element with parts
-# answers as ever; it is the one of the request before.
+# answers as ever. It is one of those from the vector of the request before to that of the request behind.
 awk -v vectors="$work/vectors" -v most=2000 -v group="$group" '
     BEGIN { while ((getline line < vectors) > 0) { text[++count] = line; words = split(line, word, " "); form[count] = word[words]; call[count] = word[2] } }
-    { split($1, part, "-"); if (part[1] != first) { first = part[1]; place = 1 } }
-    $2 == "front" { fronts[first] = 1; next }
+    function does_without(at) {
+        return form[at] ~ /^[2367abef][0-9a-f]*$/ || call[at] ~ /^(w|ws|thrown|refused):/ || call[at] == "own" || call[at] == "seqof_many"
+    }
+    function settle(upto, at, found) {
+        if (unsettled == 0) return
+        for (at = first + place - 1; at <= upto && at <= count; at++) if (does_without(at)) found = 1
+        if (found) without += unsettled
+        else { print "a request was refused, and this answered as ever, or one behind it: " text[first + place - 1]; wrong++ }
+        unsettled = 0
+    }
+    { split($1, part, "-"); if (part[1] != first) { settle(first + group - 1); first = part[1]; place = 1 } }
+    $2 == "front" { settle(first + place - 1); fronts[first] = 1; next }
     $2 == "wrong" { print; wrong++; next }
     $5 > 0 { next }
-    $3 + $4 == 0 && $7 + 0 < most { backs[first] = 1; next }
-    $3 + $4 == 1 { place = $6; refused += $3; silent += $4; next }
-    {
-        at = first + place - 1
-        if (form[at] ~ /^[2367abef][0-9a-f]*$/ || call[at] ~ /^(w|ws|thrown|refused):/ || call[at] == "own" || call[at] == "seqof_many") { without++; next }
-        print "a request was refused, and this answered as ever: " text[at]
-        wrong++
-    }
+    $3 + $4 == 0 && $7 + 0 < most { settle(first + group - 1); backs[first] = 1; next }
+    $3 + $4 == 1 { settle(first + $6 - 1); place = $6; refused += $3; silent += $4; next }
+    { unsettled++ }
     END {
+        settle(first + group - 1)
         if (wrong) exit 1
         for (at = 1; at <= count; at += group) {
             name = sprintf("%06d", at)

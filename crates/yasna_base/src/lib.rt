@@ -3,7 +3,7 @@
 //!
 //! | Module | Holds |
 //! |---|---|
-//! | `bytes` | numbers in base 128 and identifiers at the front of bytes |
+//! | `bytes` | numbers in base 128 and identifiers at the front of bytes, and how encodings compare |
 //! | `error` | why a reading or a writing was refused |
 //! | `laws` | what is proved of the grammar itself |
 //! | `mode` | by which of the rules of X.690 bytes are read |

@@ -239,7 +239,7 @@ fn raw_elements(rt: HostRuntime) -> Result<(), Fail> {
         assert_eq!(rt; written.as_slice(), form);
     }
     let signed = [48, 9, 48, 3, 2, 1, 10, 3, 2, 0, 7];
-    let signed = parse_der(alloc, &signed, |reader| read_signed(reader))?;
+    let signed = parse_der(alloc, &signed, read_signed)?;
     assert_eq!(rt; signed.serial, 10);
     assert_eq!(rt; signed.signed_bytes, [48, 3, 2, 1, 10].as_slice());
     assert_eq!(rt; signed.signature.as_slice(), [7].as_slice());
