@@ -4,8 +4,8 @@
 #
 #   sh ci/refused_memory.sh [JOBS [all]]     JOBS go on side by side, 2 where it isn't said
 #
-# The vectors are those of at most 300 bytes: for each call the longest that it accepts and the longest that it doesn't, or
-# all of them, which takes hours.
+# The vectors are those of at most 300 bytes: for each call the longest that it accepts, or that it refuses where it accepts
+# none; or all of them, which takes hours.
 #
 # `rt try --fail-alloc` refuses one request of a run, always the one of the same number. Behind idle requests of the
 # program's own fewer are left to the vectors: so how many these are says which one of theirs is refused. In a first run of
@@ -29,9 +29,9 @@ awk '
     { print }
 ' crates/yasna_vectors/stdin > "$work/all"
 awk '
-    { kind = $2 ($5 == "ok") }
-    !(kind in found) { order[++count] = kind }
-    length($0) > length(found[kind]) { found[kind] = $0 }
+    !($2 in found) { order[++count] = $2 }
+    { size = length($0) + ($5 == "ok" ? 2000 : 0) }
+    size > most[$2] { most[$2] = size; found[$2] = $0 }
     END { for (place = 1; place <= count; place++) print found[order[place]] }
 ' "$work/all" > "$work/longest"
 cp "$work/$share" "$work/vectors"
