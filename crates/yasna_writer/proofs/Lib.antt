@@ -2,6 +2,7 @@ pub mod Appends
 pub mod Bmp
 pub mod BigEndian
 pub mod Drafts
+pub mod Fronts
 pub mod Identifiers
 pub mod Integers
 pub mod Padding

@@ -9,7 +9,8 @@ use Rattle.yasna_base.specs.declared.tag.Tag.{Tag}
 use Rattle.yasna_base.specs.Canonical.{canonical_element}
 use Rattle.yasna_base.specs.Order.{octets_cmp, in_order}
 use Rattle.yasna_base.specs.Set.{SetOfContents}
-use Rattle.yasna_writer.specs.Parts.{WrittenParts, bytes_each}
+use Rattle.yasna_writer.specs.declared.ordered_part.OrderedPart.{OrderedPart}
+use Rattle.yasna_writer.specs.Parts.{WrittenParts, bytes_each, ordered_bytes}
 use Rattle.yasna_writer.specs.Set.{EndsPart, LacksParts, BeginsNext, EndsSet}
 use Rattle.yasna_writer.specs.View.{Written, empty_writing}
 
@@ -46,11 +47,11 @@ not_set_of vs ps e not_all c h =
     not_all (all_unmap (λ (v : Vec ℕ Global). v.items) (λ b. b ≡ [] → ⊥) vs (subst (λ z. AllByRecursion (λ b. b ≡ [] → ⊥) z) (sym e) h.filled))
 
 -- parts in order make the contents of a SET OF
-pub set_of_contents : (vs ws : List (Vec ℕ Global)) (ps : List (List ℕ)) → bytes_each vs ≡ ps → AllByRecursion (λ v. v.items ≡ [] → ⊥) vs →
-    bytes_each ws ≡ in_order octets_cmp (bytes_each vs) → SetOfContents ps (flat_map (λ (v : Vec ℕ Global). v.items) ws)
+pub set_of_contents : (vs : List (Vec ℕ Global)) (ws : List OrderedPart) (ps : List (List ℕ)) → bytes_each vs ≡ ps → AllByRecursion (λ v. v.items ≡ [] → ⊥) vs →
+    ordered_bytes ws ≡ in_order octets_cmp (bytes_each vs) → SetOfContents ps (flat_map (λ (p : OrderedPart). p.bytes.items) ws)
 set_of_contents vs ws ps e all f = record {
   filled = subst (λ z. AllByRecursion (λ b. b ≡ [] → ⊥) z) e (all_map (λ (v : Vec ℕ Global). v.items) (λ b. b ≡ [] → ⊥) vs all);
-  joined = flat_concat (λ (v : Vec ℕ Global). v.items) ws ∙ ap concat (f ∙ ap (in_order octets_cmp) e);
+  joined = flat_concat (λ (p : OrderedPart). p.bytes.items) ws ∙ ap concat (f ∙ ap (in_order octets_cmp) e);
 }
 
 pub is_not : (b : Bool) → b ≡ false → b ≡ true → ⊥

@@ -1,4 +1,5 @@
 pub mod View
+pub mod Front
 pub mod Identifier
 pub mod Header
 pub mod Integer

@@ -4,6 +4,7 @@ use Rattle.std.specs.Global.{Global}
 use Rattle.yasna_base.specs.declared.error.ASN1Error.{ASN1Error}
 use Rattle.yasna_base.specs.declared.mode.BERMode.{BERMode}
 use Rattle.yasna_base.specs.Set.{SetPart}
+use Rattle.yasna_writer.specs.declared.ordered_part.OrderedPart.{OrderedPart}
 use Rattle.yasna_writer.specs.declared.tagged_part.TaggedPart.{TaggedPart}
 
 -- the bytes of each part, the canonical mode of what is written, and the failure that later calls answer
@@ -30,3 +31,7 @@ part_of p = record { tag = p.tag; bytes = p.bytes.items }
 
 abbrev pub parts_of : List TaggedPart → List SetPart
 parts_of ps = map part_of ps
+
+-- the bytes of each part behind the number of its first ones
+abbrev pub ordered_bytes : List OrderedPart → List (List ℕ)
+ordered_bytes ps = map (λ (p : OrderedPart). p.bytes.items) ps

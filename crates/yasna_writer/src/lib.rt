@@ -13,6 +13,7 @@
 //! | `times` | the writes of times |
 //! | `sequence` | the writes of elements with parts |
 //! | `set` | the writes of sets, whose parts are put in order |
+//! | `ordered_part` | the parts of a SET OF, in the order of their bytes |
 //! | `tagged_part` | the parts of a SET, in the order of their tags |
 //! | `tagged` | the writes of elements under tags of the caller's |
 //! | `draft` | contents, the headers that aren't among them yet, and how they are joined |
@@ -28,6 +29,7 @@ mod identifier;
 mod integer;
 mod length;
 mod oid;
+mod ordered_part;
 mod primitive;
 mod raw;
 mod sequence;

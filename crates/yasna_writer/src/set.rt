@@ -1,5 +1,5 @@
 //! Sets (X.690, 8.11, 8.12, 10.3 and 11.6): their parts are written apart from each other, and then put in order.
-ghost use Rattle.std.specs.Prelude.{◌≡◌, ◌++◌, [], None, IsTrue, ◌↔◌, OnOk, MatchOption, MatchResult};
+ghost use Rattle.std.specs.Prelude.{◌≡◌, ◌++◌, [], None, IsTrue, ◌↔◌, IfOk, MatchOption, MatchResult};
 ghost use Rattle.std.specs.Borrow.{sem};
 ghost use Rattle.std.specs.Fn.{FnOnceTakesAtMut};
 ghost use Rattle.std.specs.List.{AllByRecursion, flat_map};
@@ -11,11 +11,12 @@ ghost use Rattle.yasna_base.specs.Error.{kind_of};
 ghost use Rattle.yasna_base.specs.Identifier.{tag_or};
 ghost use Rattle.yasna_base.specs.Order.{octets_cmp, in_order};
 ghost use Rattle.yasna_base.specs.Set.{set_tag, SetOfContents, SetContents};
-ghost use Rattle.yasna_writer.specs.Parts.{no_parts, bytes_each};
+ghost use Rattle.yasna_writer.specs.Parts.{no_parts, bytes_each, ordered_bytes};
 ghost use Rattle.yasna_writer.specs.Set.{Pushes, LacksParts, EndsPart, BeginsPart, BeginsNext, LendsPart, FailsAtSet, EndsSet, WritesSet, contents_in};
 ghost use Rattle.yasna_writer.specs.State.{Appended};
 ghost use Rattle.yasna_writer.specs.View.{holding, handed};
 
+use crate::ordered_part::OrderedPart;
 use crate::state::{DERWriter, Writer};
 use crate::tagged_part::{TaggedPart, order_by_tag, tag_parts};
 use std::alloc::{AllocError, Global};
@@ -115,11 +116,24 @@ fn are_filled(parts: &[Vec<u8>]) -> bool
     parts.iter().all(|part| is_filled(part))
 }
 
-// Puts parts in the order of a SET OF.
-fn order_parts(parts: &mut Vec<Vec<u8>>) -> Result<(), AllocError>
-    ensures { OnOk result (bytes_each parts.new.items ≡ in_order octets_cmp (bytes_each parts.old.items)) }
+// The parts as they stand, each behind the number of its first bytes.
+fn number_parts(alloc: Global, parts: Vec<Vec<u8>>) -> Result<Vec<OrderedPart>, AllocError>
+    ensures { IfOk result (λ v. ordered_bytes v.items ≡ bytes_each parts.items) }
 {
-    parts.sort()
+    let mut numbered = Vec::with_capacity(alloc, parts.len())?;
+    for bytes in parts {
+        numbered.push(OrderedPart::new(bytes))?;
+    }
+    Ok(numbered)
+}
+
+// Puts parts in the order of a SET OF.
+fn order_by_bytes(alloc: Global, parts: Vec<Vec<u8>>) -> Result<Vec<OrderedPart>, AllocError>
+    ensures { IfOk result (λ v. ordered_bytes v.items ≡ in_order octets_cmp (bytes_each parts.items)) }
+{
+    let mut ordered = number_parts(alloc, parts)?;
+    ordered.sort_by(|part, other| part.compare(other))?;
+    Ok(ordered)
 }
 
 impl DERWriterSet {
@@ -149,15 +163,16 @@ impl DERWriterSet {
     }
 
     // The parts in the order of a SET OF, or why there are none.
-    fn into_set_of(self) -> ASN1Result<Vec<Vec<u8>>>
-        ensures { MatchResult result (λ v. (self.kept ≡ None) × SetOfContents self.parts (flat_map (λ part. part.items) v.items)) (λ e. FailsAtSet SetOfContents self e) }
+    fn into_set_of(self) -> ASN1Result<Vec<OrderedPart>>
+        ensures { MatchResult result (λ v. (self.kept ≡ None) × SetOfContents self.parts (flat_map (λ part. part.bytes.items) v.items)) (λ e. FailsAtSet SetOfContents self e) }
     {
-        let mut parts = self.into_parts()?;
+        let alloc = self.last.alloc();
+        let parts = self.into_parts()?;
         if !are_filled(&parts) {
             return Err(ASN1Error::new(ASN1ErrorKind::Invalid));
         }
-        match order_parts(&mut parts) {
-            Ok(()) => Ok(parts),
+        match order_by_bytes(alloc, parts) {
+            Ok(parts) => Ok(parts),
             Err(_) => Err(ASN1Error::new(ASN1ErrorKind::OutOfMemory)),
         }
     }

@@ -1,0 +1,64 @@
+//! The parts of a SET OF, in the order of their bytes (X.690, 11.6).
+ghost use Rattle.std.specs.Prelude.{◌≡◌};
+ghost use Rattle.yasna_base.specs.Order.{octets_cmp};
+ghost use Rattle.yasna_writer.specs.Front.{IsFront};
+
+use std::cmp::Ordering;
+use std::convert::AsSlice;
+
+// How many bytes of a part the number in front of it holds.
+const FRONT: usize = 8;
+
+/// A part of a SET OF, behind the number that its first bytes spell: most parts differ there, so that they are compared
+/// without a look at their bytes.
+#[derive(Drop)]
+pub struct OrderedPart {
+    front: u64,
+    bytes: Vec<u8>,
+
+    ghost spelled: { IsFront front bytes.items },
+}
+
+impl AsSlice<u8> for OrderedPart {
+    ghost items = { λ p. p.bytes.items };
+
+    fn as_slice(&self) -> &[u8] {
+        self.bytes.as_slice()
+    }
+}
+
+// The number that the first eight bytes spell in base 256, with zeros behind fewer.
+fn front_of(bytes: &[u8]) -> u64
+    ensures { IsFront result bytes.now }
+{
+    let mut front: u64 = 0;
+    let mut place = 0;
+    while place < FRONT {
+        let byte = bytes.get(place).copied().unwrap_or(0);
+        front = front * 256 + u64::from(byte);
+        place += 1;
+    }
+    front
+}
+
+impl OrderedPart {
+    /// A part of these bytes.
+    pub fn new(bytes: Vec<u8>) -> OrderedPart
+        ensures { result.bytes ≡ bytes }
+    {
+        OrderedPart {
+            front: front_of(&bytes),
+            bytes,
+        }
+    }
+
+    /// How two parts are ordered.
+    pub fn compare(&self, other: &OrderedPart) -> Ordering
+        ensures { result ≡ octets_cmp self.now.bytes.items other.now.bytes.items }
+    {
+        if self.front == other.front {
+            return self.bytes.cmp(&other.bytes);
+        }
+        self.front.cmp(&other.front)
+    }
+}
