@@ -1,17 +1,21 @@
 -- The table of a walk: the ends of the elements that it is in, and what is found from a place in them.
-use Rattle.std.proofs.Common.{◌≡◌, ◌↔◌, ◌⊎◌, inl, inr, ℕ, zero, suc, ◌+◌, ◌-◌, ◌*◌, ◌<◌, ◌≤◌, List, [], ◌∷◌, ◌++◌, length, length-append, get_or, Option, None, refl, sym, ap, ap₂, set, add-one, ◌∙◌, arith, subst}
+use Rattle.std.proofs.Common.{◌≡◌, ◌↔◌, ◌⊎◌, inl, inr, ℕ, zero, suc, ◌+◌, ◌-◌, ◌<◌, ◌≤◌, List, [], ◌∷◌, ◌++◌, length, length-append, length-drop, append_assoc, append-nil, take, drop, get_or, Option, Some, None, unwrap_or, refl, sym, ap, set, add-one, ◌∙◌, arith, subst}
+use Rattle.std.proofs.Math.Seq.{take-append_seam, drop-append_seam}
 use Rattle.std.specs.Borrow.{Bor}
 use Rattle.std.proofs.lemmas.List.{get_or-set_same, get_or-set_other}
 use Rattle.yasna_base.specs.declared.mode.BERMode.{BERMode}
+use Rattle.yasna_base.specs.declared.mode.BERMode.TheVariants.{Ber, Der}
 use Rattle.yasna_base.specs.declared.error.ASN1ErrorKind.{ASN1ErrorKind}
 use Rattle.yasna_base.specs.declared.error.ASN1ErrorKind.TheVariants.{StackOverflow}
 use Rattle.yasna_base.specs.Header.{ContentsEnd, counted, uncounted, OpensAt}
+use Rattle.yasna_base.specs.Element.{TakesIndefinite}
 use Rattle.yasna_base.specs.Identifier.{identifier}
+use Rattle.yasna_base.specs.Raw.{LooksInto, LooksUpTo}
 use Rattle.yasna_base.specs.declared.tag.PCBit.{PCBit}
 use Rattle.yasna_base.specs.declared.tag.Tag.{Tag}
 use Rattle.yasna_base.proofs.Identifier.{identifier_some}
-use Rattle.yasna_reader.specs.Header.{EndsBefore, contents_end}
-use Rattle.yasna_reader.specs.Walk.{Passes, Enters, Stops, ClosesBefore, MeetsDeep, NotWalked}
+use Rattle.yasna_reader.specs.Header.{EndsAt, EndsBefore, contents_end}
+use Rattle.yasna_reader.specs.Walk.{Passes, Enters, EndsHere, Stops, ClosesBefore, MeetsDeep, NotWalked, TakesEnd, IsWalked, following}
 use Rattle.yasna_reader.proofs.Walking.{before_here, before_first, left_closes, left_deep, passed_closes, passed_deep, entered, entered_more, entered_not_end, entered_deep, deep_entered, closed_stops, deep_stops, stops_deep}
 
 -- from s on the innermost elements end, one behind the other, and a follows the outermost
@@ -149,110 +153,263 @@ stopped_all m e n s f fs j r k x y = record {
     only_innermost (inl d) = d
     only_innermost (inr z) = absurd z.2
 
--- the first places of the table of the elements around the innermost, the last of them in front
-abbrev pub opened : List (Option (Bor (List ℕ))) → ℕ → List ContentsEnd
-opened ends zero = []
-opened ends (suc d) = contents_end (get_or ends d None) ∷ opened ends d
+-- both are counted, or neither is
+abbrev pub AreAlike : ContentsEnd → ContentsEnd → Type 0
+AreAlike (counted a) (counted b) = Unit {0}
+AreAlike (counted a) uncounted = ⊥
+AreAlike uncounted (counted b) = ⊥
+AreAlike uncounted uncounted = Unit {0}
 
--- how many bytes follow these elements within those around them
-abbrev pub total : List ContentsEnd → ℕ
-total [] = 0
-total (counted z ∷ es) = length z + total es
-total (uncounted ∷ es) = total es
+alike : (e : ContentsEnd) → AreAlike e e
+alike (counted a) = tt
+alike uncounted = tt
 
-pub opened_last : (ends : List (Option (Bor (List ℕ)))) (d : ℕ) → 1 ≤ d → opened ends d ≡ contents_end (get_or ends (d - 1) None) ∷ opened ends (d - 1)
-opened_last ends zero l = absurd (omega arith)
-opened_last ends (suc d) l = ap (λ k. contents_end (get_or ends k None) ∷ opened ends k) (less-one d)
+alike_at : (e f : ContentsEnd) (s : List ℕ) → AreAlike e f → EndsAt f s → EndsAt e s
+alike_at (counted a) (counted b) s x y = y
+alike_at (counted a) uncounted s x y = absurd x
+alike_at uncounted (counted b) s x y = absurd x
+alike_at uncounted uncounted s x y = y
 
-opened_other : (ends : List (Option (Bor (List ℕ)))) (d j : ℕ) (o : Option (Bor (List ℕ))) → j ≤ d → opened (set ends d o) j ≡ opened ends j
-opened_other ends d zero o l = refl
-opened_other ends d (suc j) o l =
-    let e = get_or-set_other ends d j o None (λ f. omega (arith, f)) in
-    ap₂ (λ x xs. contents_end x ∷ xs) e (opened_other ends d j o (omega arith))
+-- a mode walks contents that end in one way
+looks_not_taken : (m : BERMode) (p q : PCBit) → LooksInto m p → TakesIndefinite m q → ⊥
+looks_not_taken Ber p q x y = x
+looks_not_taken Der p q x y = y
 
--- an element is put into the table
-pub opened_more : (ends : List (Option (Bor (List ℕ)))) (d : ℕ) (o : Option (Bor (List ℕ))) → d < length ends →
-    opened (set ends d o) (d + 1) ≡ contents_end o ∷ opened ends d
-opened_more ends d o l =
-    let e = get_or-set_same ends d o None l in
-    ap (λ k. opened (set ends d o) k) (add-one d) ∙ ap₂ (λ x xs. contents_end x ∷ xs) e (opened_other ends d d o (omega arith))
+one_way : (m : BERMode) (p q : PCBit) (e f : ContentsEnd) → TakesEnd m p e → LooksUpTo m p e → TakesEnd m q f → LooksUpTo m q f → AreAlike e f
+one_way m p q (counted a) (counted b) t x u y = tt
+one_way m p q (counted a) uncounted t x u y = absurd (looks_not_taken m p q x u)
+one_way m p q uncounted (counted b) t x u y = absurd (looks_not_taken m q p y t)
+one_way m p q uncounted uncounted t x u y = tt
 
--- what a turn in the innermost element keeps
-module _ (m : BERMode) (e : ContentsEnd) (n : ℕ) (s : List ℕ) (last : Option (Bor (List ℕ))) (ends : List (Option (Bor (List ℕ)))) (d k : ℕ) (o : BERMode)
-    (r : List ℕ) (mode : o ≡ m) (same : Same m (e ∷ []) n s (contents_end last ∷ opened ends d) k r) where
-  pub keeps_left : (a q : List ℕ) (j : ℕ) → EndsBefore (contents_end last) r a → q ≡ a → j ≡ k + 1 → Same m (e ∷ []) n s (opened ends d) j q
-  keeps_left a q j x f g =
-      let outer = opened ends d in
-      subst (λ i. Same m (e ∷ []) n s outer i q) (sym (g ∙ add-one k)) (same_then m (e ∷ []) (contents_end last ∷ outer) outer n k (suc k) s r q same
-      (same_left m (contents_end last) outer k r q (subst (λ z. EndsBefore (contents_end last) r z) (sym f) x)))
+pub opens_taken : (m : BERMode) (t : Tag) (p : PCBit) (s c : List ℕ) (e : ContentsEnd) → OpensAt m t p s c e → TakesEnd m p e
+opens_taken m t p s c (counted r) x = tt
+opens_taken m t p s c uncounted x = x.taken
 
-  pub keeps_outer : (a q : List ℕ) (j : ℕ) → 1 ≤ d → EndsBefore (contents_end last) r a → q ≡ a → j ≡ k + 1 →
-      Same m (e ∷ []) n s (contents_end (get_or ends (d - 1) None) ∷ opened ends (d - 1)) j q
-  keeps_outer a q j l x f g = subst (λ z. Same m (e ∷ []) n s z j q) (opened_last ends d l) (keeps_left a q j x f g)
+entered_alike : (m : BERMode) (n : ℕ) (e : ContentsEnd) (s c : List ℕ) (f : ContentsEnd) → IsWalked m e → Enters m n s c f → AreAlike e f
+entered_alike m n e s c f w x = one_way m w.0 x.bit e f w.1 w.2 (opens_taken m x.tag x.bit s c f x.opened.opens) x.looks
 
-  pub keeps_passed : (a q : List ℕ) (j : ℕ) → Passes o k r a → q ≡ a → j ≡ k → Same m (e ∷ []) n s (contents_end last ∷ opened ends d) j q
-  keeps_passed a q j x f g =
-      let all = contents_end last ∷ opened ends d in
-      let y = subst (λ z. Passes m k r z) (sym f) (subst (λ p. Passes p k r a) mode x) in
-      subst (λ i. Same m (e ∷ []) n s all i q) (sym g) (same_then m (e ∷ []) all all n k k s r q same
-      (passed_any m (contents_end last) (opened ends d) k r q y))
+-- where contents end, what is left and what follows them is what follows the element
+ends_before : (e f : ContentsEnd) (s r : List ℕ) → AreAlike e f → EndsHere e s r → EndsBefore f s (r ++ following f)
+ends_before (counted a) (counted b) s r x y = (y.0, ap (λ z. z ++ b) y.1)
+ends_before (counted a) uncounted s r x y = absurd x
+ends_before uncounted (counted b) s r x y = absurd x
+ends_before uncounted uncounted s r x y = y ∙ ap (λ z. 0 ∷ 0 ∷ z) (sym (append-nil r))
 
-  pub keeps_entered : (c q : List ℕ) (j : ℕ) (f : Option (Bor (List ℕ))) → d < length ends → Enters o k r c (contents_end f) → q ≡ c → j ≡ k - 1 →
-      Same m (e ∷ []) n s (contents_end f ∷ opened (set ends d last) (d + 1)) j q
-  keeps_entered c q j f l x g h =
-      let all = contents_end last ∷ opened ends d in
-      let y = subst (λ z. Enters m k r z (contents_end f)) (sym g) (subst (λ p. Enters p k r c (contents_end f)) mode x) in
-      subst (λ i. Same m (e ∷ []) n s (contents_end f ∷ opened (set ends d last) (d + 1)) i q) (sym h)
-      (subst (λ z. Same m (e ∷ []) n s (contents_end f ∷ z) (k - 1) q) (sym (opened_more ends d last l))
-      (same_then m (e ∷ []) all (contents_end f ∷ all) n k (k - 1) s r q same (entered_any m (contents_end last) (opened ends d) k r q (contents_end f) y)))
+pub ends_outermost : (o : Option (Bor (List ℕ))) (s : List ℕ) (a : Bor (List ℕ)) → EndsHere (contents_end o) s a.now →
+    EndsBefore (contents_end o) s (unwrap_or o a).now
+ends_outermost (Some z) s a x = (x.0, refl)
+ends_outermost None s a x = x
 
-  pub not_walked : (x : ASN1ErrorKind) → Stops o k (contents_end last) r x → NotWalked m n e s x
-  not_walked x y =
-      stopped_all m e n s (contents_end last) (opened ends d) k r x same (subst (λ p. Stops p k (contents_end last) r x) mode y)
+ends_front : (e : ContentsEnd) (s r : List ℕ) → EndsHere e s r → (p : List ℕ) × (s ≡ p ++ r)
+ends_front (counted a) s r x = ([], x.0 ∙ sym x.1)
+ends_front uncounted s r x = (0 ∷ 0 ∷ [], x)
+
+-- a header of a byte at least stands in front of contents
+opens_front : (m : BERMode) (t : Tag) (p : PCBit) (s c : List ℕ) (f : ContentsEnd) → OpensAt m t p s c f →
+    (h : List ℕ) × (1 ≤ length h) × (s ≡ h ++ (c ++ following f))
+opens_front m t p s c (counted r) x =
+    let i = length-append (identifier t p) x.l in
+    (identifier t p ++ x.l, omega (arith, identifier_some t p), x.joined ∙ sym (append_assoc (identifier t p) x.l (c ++ r)))
+opens_front m t p s c uncounted x =
+    let h = identifier t p ++ (128 ∷ []) in
+    let i = length-append (identifier t p) (128 ∷ []) in (
+      h,
+      omega (arith, identifier_some t p),
+      x.joined ∙ sym (append_assoc (identifier t p) (128 ∷ []) c) ∙ ap (λ z. h ++ z) (sym (append-nil c)),
+    )
+
+-- the first bytes and the last, by how many the last are
+take_front : (s x y : List ℕ) (k : ℕ) → s ≡ x ++ y → length y ≡ k → take (length s - k) s ≡ x
+take_front s x y k e f =
+    let g = ap length e in
+    let i = length-append x y in
+    let j : length s - k ≡ length x = omega arith in
+    ap (λ n. take n s) j ∙ ap (λ z. take (length x) z) e ∙ take-append_seam x y
+
+drop_front : (s x y : List ℕ) (k : ℕ) → s ≡ x ++ y → length y ≡ k → drop (length s - k) s ≡ y
+drop_front s x y k e f =
+    let g = ap length e in
+    let i = length-append x y in
+    let j : length s - k ≡ length x = omega arith in
+    ap (λ n. drop n s) j ∙ ap (λ z. drop (length x) z) e ∙ drop-append_seam x y
+
+-- the innermost of the elements ends by f, those around it by fs, and r follows it within the outermost, which ends by e;
+-- the table says how many bytes follow each but the innermost, the nearest last
+abbrev pub Encloses : ContentsEnd → List ℕ → ℕ → List ℕ → ContentsEnd → List ContentsEnd → Type 0
+Encloses e table zero r f fs = (f ≡ e) × (fs ≡ []) × (r ≡ [])
+Encloses e table (suc d) r f fs =
+    AreAlike e f × ((g : ContentsEnd) × (gs : List ContentsEnd) × (q : List ℕ) × (fs ≡ g ∷ gs) × (r ≡ following f ++ q) × (length q ≡ get_or table d 0)
+    × Encloses e table d q g gs)
+
+encloses_alike : (e : ContentsEnd) (table : List ℕ) (d : ℕ) (r : List ℕ) (f : ContentsEnd) (fs : List ContentsEnd) → Encloses e table d r f fs → AreAlike e f
+encloses_alike e table zero r f fs x = subst (λ z. AreAlike e z) (sym x.0) (alike e)
+encloses_alike e table (suc d) r f fs x = x.0
+
+encloses_other : (e : ContentsEnd) (table : List ℕ) (d j k : ℕ) (r : List ℕ) (f : ContentsEnd) (fs : List ContentsEnd) → j ≤ d → Encloses e table j r f fs →
+    Encloses e (set table d k) j r f fs
+encloses_other e table d zero k r f fs l x = x
+encloses_other e table d (suc j) k r f fs l (a, (g, gs, q, i, h, n, x)) =
+    let o = get_or-set_other table d j k 0 (λ z. omega (arith, z)) in
+    (a, (g, gs, q, i, h, n ∙ sym o, encloses_other e table d j k q g gs (omega arith) x))
+
+-- a place in a walk: what is left of the innermost element, and what follows that within the outermost
+pub record Walking (m : BERMode) (e : ContentsEnd) (n : ℕ) (s : List ℕ) (table : List ℕ) (d behind k : ℕ) (r : List ℕ) : Type 0 where
+  pub here : List ℕ
+  pub after : List ℕ
+  pub inner : ContentsEnd
+  pub around : List ContentsEnd
+  pub joined : r ≡ here ++ after
+  pub counts : length after ≡ behind
+  pub encloses : Encloses e table d after inner around
+  pub same : Same m (e ∷ []) n s (inner ∷ around) k here
+
+pub walking_start : (m : BERMode) (e : ContentsEnd) (n : ℕ) (s : List ℕ) (table : List ℕ) → Walking m e n s table 0 0 n s
+walking_start m e n s table = record {
+  here = s;
+  after = [];
+  inner = e;
+  around = [];
+  joined = sym (append-nil s);
+  counts = refl;
+  encloses = (refl, refl, refl);
+  same = same_start m (e ∷ []) n s;
+}
 
 -- the outermost element has ended
-pub walked : (m : BERMode) (e : ContentsEnd) (n k : ℕ) (s a : List ℕ) → Same m (e ∷ []) n s [] k a → ClosesBefore n m e s a
+walked : (m : BERMode) (e : ContentsEnd) (n k : ℕ) (s a : List ℕ) → Same m (e ∷ []) n s [] k a → ClosesBefore n m e s a
 walked m e n k s a x = let y = (x.closes a).1 refl in subst (λ z. ClosesBefore n m e s z) y.2 y.1
 
--- each turn leaves less to walk
-ends_total : (f : ContentsEnd) (es : List ContentsEnd) (s r : List ℕ) → EndsBefore f s r → length r + total es ≤ length s + total (f ∷ es)
-ends_total (counted z) es s r x = omega (arith, ap length x.1)
-ends_total uncounted es s r x = omega (arith, ap length x)
+less_is : (d : ℕ) → 1 ≤ d → d ≡ suc (d - 1)
+less_is d l = omega arith
 
-opens_total : (m : BERMode) (t : Tag) (p : PCBit) (s c : List ℕ) (f : ContentsEnd) (es : List ContentsEnd) → OpensAt m t p s c f →
-    length c + total (f ∷ es) < length s + total es
-opens_total m t p s c (counted z) es x =
-    let e = ap length x.joined in
-    let i = length-append (identifier t p) (x.l ++ (c ++ z)) in
-    let j = length-append x.l (c ++ z) in
-    let k = length-append c z in
-    omega (arith, identifier_some t p)
-opens_total m t p s c uncounted es x =
-    let e = ap length x.joined in
-    let i = length-append (identifier t p) (128 ∷ c) in
-    omega (arith, identifier_some t p)
+-- what a turn there keeps
+module _ {m : BERMode} {e : ContentsEnd} {n : ℕ} {s : List ℕ} {table : List ℕ} {d behind k : ℕ} {r : List ℕ} (w : Walking m e n s table d behind k r) where
+  pub behind_fits : behind ≤ length r
+  behind_fits = let i = length-append w.here w.after in omega (arith, ap length w.joined, w.counts)
 
--- how many bytes follow the elements that a walk is in, each within those around it
-abbrev pub around : Option (Bor (List ℕ)) → List (Option (Bor (List ℕ))) → ℕ → ℕ
-around last ends d = total (contents_end last ∷ opened ends d)
+  pub here_is : take (length r - behind) r ≡ w.here
+  here_is = take_front r w.here w.after behind w.joined w.counts
 
-pub left_smaller : (last : Option (Bor (List ℕ))) (ends : List (Option (Bor (List ℕ)))) (d : ℕ) (s r q : List ℕ) → 1 ≤ d → EndsBefore (contents_end last) s r →
-    q ≡ r → 2 * (length q + around (get_or ends (d - 1) None) ends (d - 1)) + (d - 1) < 2 * (length s + around last ends d) + d
-left_smaller last ends d s r q l x f =
-    let i = ends_total (contents_end last) (opened ends d) s r x in
-    let e = ap total (opened_last ends d l) in
-    omega (arith, ap length f)
+  rest_joins : (p x : List ℕ) → w.here ≡ p ++ x → r ≡ p ++ (x ++ w.after)
+  rest_joins p x f = w.joined ∙ ap (λ z. z ++ w.after) f ∙ append_assoc p x w.after
 
-pub passed_smaller : (last : Option (Bor (List ℕ))) (ends : List (Option (Bor (List ℕ)))) (d : ℕ) (m : BERMode) (n : ℕ) (s r q : List ℕ) → Passes m n s r →
-    q ≡ r → 2 * (length q + around last ends d) + d < 2 * (length s + around last ends d) + d
-passed_smaller last ends d m n s r q x f =
-    let i = opens_total m x.tag x.bit s x.contents (counted r) [] x.opened.opens in
-    omega (arith, ap length f)
+  rest_counts : (x : List ℕ) (i : ℕ) → i ≡ behind + length x → length (x ++ w.after) ≡ i
+  rest_counts x i g = let j = length-append x w.after in omega (arith, w.counts, g)
 
-pub entered_smaller : (last : Option (Bor (List ℕ))) (ends : List (Option (Bor (List ℕ)))) (d : ℕ) (m : BERMode) (n : ℕ) (s c q : List ℕ)
-    (f : Option (Bor (List ℕ))) → d < length ends → Enters m n s c (contents_end f) → q ≡ c →
-    2 * (length q + around f (set ends d last) (d + 1)) + (d + 1) < 2 * (length s + around last ends d) + d
-entered_smaller last ends d m n s c q f l x g =
-    let i = opens_total m x.tag x.bit s c (contents_end f) (opened (set ends d last) (d + 1)) x.opened.opens in
-    let e = ap total (opened_more ends d last l) in
-    omega (arith, ap length g)
+  rest_is : (p x : List ℕ) (i : ℕ) → w.here ≡ p ++ x → i ≡ behind + length x → drop (length r - i) r ≡ x ++ w.after
+  rest_is p x i f g = drop_front r p (x ++ w.after) i (rest_joins p x f) (rest_counts x i g)
+
+  rest_fits : (p x : List ℕ) → w.here ≡ p ++ x → length p + (behind + length x) ≤ length r
+  rest_fits p x f =
+      let i = length-append p (x ++ w.after) in
+      omega (arith, ap length (rest_joins p x f), rest_counts x (behind + length x) refl)
+
+  module _ {o : BERMode} {j : ℕ} {h : List ℕ} (mode : o ≡ m) (levels : j ≡ k) (is : h ≡ w.here) where
+    ends_in : (a : List ℕ) → EndsHere e h a → EndsHere e w.here a
+    ends_in a x = subst (λ z. EndsHere e z a) is x
+
+    passes_in : (a : List ℕ) → Passes o j h a → Passes m k w.here a
+    passes_in a x = subst (λ z. Passes m k z a) is (subst (λ i. Passes m i h a) levels (subst (λ p. Passes p j h a) mode x))
+
+    enters_in : (c : List ℕ) (f : ContentsEnd) → Enters o j h c f → Enters m k w.here c f
+    enters_in c f x = subst (λ z. Enters m k z c f) is (subst (λ i. Enters m i h c f) levels (subst (λ p. Enters p j h c f) mode x))
+
+    pub left_fits : (a : List ℕ) → EndsHere e h a → behind + length a ≤ length r
+    left_fits a x = let p = ends_front e w.here a (ends_in a x) in let l = rest_fits p.0 a p.1 in omega arith
+
+    pub passed_fits : (a : List ℕ) → Passes o j h a → behind + length a < length r
+    passed_fits a x =
+        let y = passes_in a x in
+        let p = opens_front m y.tag y.bit w.here y.contents (counted a) y.opened.opens in
+        let i = length-append p.0 y.contents in
+        let l = rest_fits (p.0 ++ y.contents) a (p.2 ∙ sym (append_assoc p.0 y.contents a)) in
+        omega (arith, p.1)
+
+    pub entered_fits : (c : List ℕ) (f : ContentsEnd) → Enters o j h c f → behind + length (following f) + length c < length r
+    entered_fits c f x =
+        let y = enters_in c f x in
+        let p = opens_front m y.tag y.bit w.here c f y.opened.opens in
+        let i = length-append c (following f) in
+        let l = rest_fits p.0 (c ++ following f) p.2 in
+        omega (arith, p.1)
+
+    pub left_walked : (a : List ℕ) → d ≡ 0 → EndsBefore e h a → ClosesBefore n m e s a
+    left_walked a z x =
+        let y = subst (λ i. Encloses e table i w.after w.inner w.around) z w.encloses in
+        let b = subst (λ f. Same m (e ∷ []) n s (f ∷ w.around) k w.here) y.0 w.same in
+        let c = subst (λ fs. Same m (e ∷ []) n s (e ∷ fs) k w.here) y.1 b in
+        walked m e n (suc k) s a (same_then m (e ∷ []) (e ∷ []) [] n k (suc k) s w.here a c
+        (same_left m e [] k w.here a (subst (λ i. EndsBefore e i a) is x)))
+
+    pub left_keeps : (a q : List ℕ) → 1 ≤ d → EndsHere e h a → q ≡ drop (length r - (behind + length a)) r →
+        Walking m e n s table (d - 1) (get_or table (d - 1) 0) (k + 1) q
+    left_keeps a q l x f =
+        let p = ends_front e w.here a (ends_in a x) in
+        let y = subst (λ i. Encloses e table i w.after w.inner w.around) (less_is d l) w.encloses in
+        let g = y.1.0 in
+        let gs = y.1.1 in
+        let t = y.1.2 in
+        let v = a ++ following w.inner in
+        let b = subst (λ fs. Same m (e ∷ []) n s (w.inner ∷ fs) k w.here) y.1.3 w.same in
+        record {
+          here = v;
+          after = t;
+          inner = g;
+          around = gs;
+          joined = f ∙ rest_is p.0 a (behind + length a) p.1 refl ∙ ap (λ i. a ++ i) y.1.4 ∙ sym (append_assoc a (following w.inner) t);
+          counts = y.1.5;
+          encloses = y.1.6;
+          same = subst (λ i. Same m (e ∷ []) n s (g ∷ gs) i v) (sym (add-one k)) (same_then m (e ∷ []) (w.inner ∷ (g ∷ gs)) (g ∷ gs) n k (suc k) s w.here v b
+              (same_left m w.inner (g ∷ gs) k w.here v (ends_before e w.inner w.here a y.0 (ends_in a x))));
+        }
+
+    pub passed_keeps : (a q : List ℕ) → Passes o j h a → q ≡ drop (length r - (behind + length a)) r → Walking m e n s table d behind k q
+    passed_keeps a q x f =
+        let y = passes_in a x in
+        let p = opens_front m y.tag y.bit w.here y.contents (counted a) y.opened.opens in
+        record {
+          here = a;
+          after = w.after;
+          inner = w.inner;
+          around = w.around;
+          joined = f ∙ rest_is (p.0 ++ y.contents) a (behind + length a) (p.2 ∙ sym (append_assoc p.0 y.contents a)) refl;
+          counts = w.counts;
+          encloses = w.encloses;
+          same = same_then m (e ∷ []) (w.inner ∷ w.around) (w.inner ∷ w.around) n k k s w.here a w.same (passed_any m w.inner w.around k w.here a y);
+        }
+
+    pub entered_keeps : (c q : List ℕ) (f : ContentsEnd) → IsWalked m e → d < length table → Enters o j h c f →
+        q ≡ drop (length r - (behind + length (following f) + length c)) r →
+        Walking m e n s (set table d behind) (d + 1) (behind + length (following f)) (k - 1) q
+    entered_keeps c q f u l x g =
+        let y = enters_in c f x in
+        let p = opens_front m y.tag y.bit w.here c f y.opened.opens in
+        let i = length-append c (following f) in
+        let i' = length-append (following f) w.after in
+        let v = set table d behind in
+        let inside : Encloses e v (suc d) (following f ++ w.after) f (w.inner ∷ w.around) = (
+          entered_alike m k e w.here c f u y,
+          (w.inner, w.around, w.after, refl, refl, w.counts ∙ sym (get_or-set_same table d behind 0 l), encloses_other e table d d behind w.after w.inner w.around (omega arith) w.encloses),
+        ) in
+        record {
+          here = c;
+          after = following f ++ w.after;
+          inner = f;
+          around = w.inner ∷ w.around;
+          joined = g ∙ rest_is p.0 (c ++ following f) (behind + length (following f) + length c) p.2 (omega arith) ∙ append_assoc c (following f) w.after;
+          counts = omega (arith, w.counts);
+          encloses = subst (λ z. Encloses e v z (following f ++ w.after) f (w.inner ∷ w.around)) (sym (add-one d)) inside;
+          same = same_then m (e ∷ []) (w.inner ∷ w.around) (f ∷ (w.inner ∷ w.around)) n k (k - 1) s w.here c w.same
+              (entered_any m w.inner w.around k w.here c f y);
+        }
+
+    pub not_walked : (x : ASN1ErrorKind) → Stops o j e h x → NotWalked m n e s x
+    not_walked x y =
+        let z = subst (λ i. Stops m k e i x) is (subst (λ i. Stops m i e h x) levels (subst (λ p. Stops p j e h x) mode y)) in
+        let u = encloses_alike e table d w.after w.inner w.around w.encloses in
+        stopped_all m e n s w.inner w.around k w.here x w.same
+        (record { open_end = λ i. z.open_end (alike_at e w.inner w.here u i); none = z.none; deep = z.deep; no_memory = z.no_memory })
+
+-- the last bytes are as many as they are counted
+pub last_counts : (s q : List ℕ) (k : ℕ) → k ≤ length s → q ≡ drop (length s - k) s → length q ≡ k
+last_counts s q k l f = let i = length-drop (length s - k) s in omega (arith, ap length f)

@@ -1,6 +1,7 @@
 -- The walk over raw elements.
 use Rattle.std.specs.Borrow.{Bor}
-use Rattle.std.specs.Prelude.{◌≡◌, ◌↔◌, ℕ, ◌^◌, ◌<◌, ◌≤◌, List, ◌++◌, Result, Ok, Err, false}
+use Rattle.std.specs.Prelude.{◌≡◌, ◌↔◌, ℕ, ◌^◌, ◌<◌, ◌≤◌, List, [], ◌∷◌, ◌++◌, Result, Ok, Err, false}
+use Rattle.yasna_base.specs.Element.{TakesIndefinite}
 use Rattle.yasna_base.specs.Header.{ContentsEnd, counted, uncounted, OpensAt}
 use Rattle.yasna_base.specs.Identifier.{end_tag, StartsElement, AtEnd}
 use Rattle.yasna_base.specs.Raw.{RawValue, LooksInto, LooksUpTo, IsRaw, JoiningBefore, IsDeepRaw, ContentsTo}
@@ -64,9 +65,14 @@ pub record Stops (m : BERMode) (n : ℕ) (e : ContentsEnd) (s : List ℕ) (k : A
   pub deep : k ≡ StackOverflow ↔ HasNoLevel n s
   pub no_memory : k ≡ OutOfMemory → ⊥
 
+-- y is where contents end, and r are left of y behind that
+abbrev pub EndsHere : ContentsEnd → List ℕ → List ℕ → Type 0
+EndsHere (counted a) y r = (y ≡ []) × (r ≡ [])
+EndsHere uncounted y r = y ≡ 0 ∷ 0 ∷ r
+
 -- what stands at a place in contents that end so
 abbrev pub TurnOf : BERMode → ℕ → ContentsEnd → List ℕ → Result Turn ASN1ErrorKind → Type 0
-TurnOf m n e s (Ok (Left a)) = EndsBefore e s a.now
+TurnOf m n e s (Ok (Left a)) = EndsHere e s a.now
 TurnOf m n e s (Ok (Passed a)) = Passes m n s a.now
 TurnOf m n e s (Ok (Entered o)) = Enters m n s o.within.now (contents_end o.after)
 TurnOf m n e s (Err k) = Stops m n e s k
@@ -89,6 +95,20 @@ pub record NotWalked (m : BERMode) (n : ℕ) (e : ContentsEnd) (s : List ℕ) (k
 abbrev pub WalksTo : BERMode → ℕ → ContentsEnd → List ℕ → Result (Bor (List ℕ)) ASN1ErrorKind → Type 0
 WalksTo m n e s (Ok a) = ClosesBefore n m e s a.now
 WalksTo m n e s (Err k) = NotWalked m n e s k
+
+-- where a mode takes contents that end so
+abbrev pub TakesEnd : BERMode → PCBit → ContentsEnd → Type 0
+TakesEnd m p (counted a) = Unit {0}
+TakesEnd m p uncounted = TakesIndefinite m p
+
+-- where it takes and walks them in some elements
+abbrev pub IsWalked : BERMode → ContentsEnd → Type 0
+IsWalked m e = (p : PCBit) × TakesEnd m p e × LooksUpTo m p e
+
+-- what follows contents within those around them, where their length is counted
+abbrev pub following : ContentsEnd → List ℕ
+following (counted a) = a
+following uncounted = []
 
 -- an element whose header was read ends, or its contents, which are looked into, don't
 abbrev pub FollowsAt : BERMode → ℕ → PCBit → List ℕ → ContentsEnd → Result (Bor (List ℕ)) ASN1ErrorKind → Type 0

@@ -23,7 +23,7 @@ pub struct Cursor<'a> {
 }
 
 impl<'a> Cursor<'a> {
-    ghost use Rattle.std.specs.Prelude.{◌≡◌, ◌+◌, ◌-◌, ◌≤◌};
+    ghost use Rattle.std.specs.Prelude.{◌≡◌, ◌-◌, ◌≤◌};
 
     /// The beginning of an input.
     #[inline(always)]
@@ -90,23 +90,20 @@ impl<'a> Cursor<'a> {
         }
     }
 
-    /// The place behind the element around this one, whose contents end so.
+    /// A place in these contents or in elements within them: so many of their bytes follow the innermost, and so many
+    /// levels are left.
     #[inline(always)]
-    pub fn outside(self, end: Option<&'a [u8]>, after: &'a [u8]) -> Cursor<'a>
-        requires { self.levels ≤ 100 }
-        ensures left { result.left.now ≡ after.now }
+    pub fn within(self, left: &'a [u8], behind: usize, levels: u8) -> Cursor<'a>
+        requires { levels ≤ 101 }
+        ensures left { result.left.now ≡ left.now }
         ensures mode { result.mode ≡ self.entry.mode }
-        ensures levels { result.levels ≡ self.entry.levels + 1 }
+        ensures levels { result.levels ≡ levels }
     {
-        let end = match end {
-            Some(_) => self.end.saturating_add(after.len()),
-            None => self.end,
-        };
         Cursor {
-            left: after,
-            end,
+            left,
+            end: self.end.saturating_sub(behind),
             mode: self.mode,
-            levels: self.levels + 1,
+            levels,
         }
     }
 }

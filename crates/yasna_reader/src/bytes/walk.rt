@@ -1,13 +1,13 @@
 //! Raw elements: their contents are elements one after the other, which are walked over (X.690, 8.1).
 //!
-//! In DER constructed contents are walked, in BER those of indefinite length alone. The walk is one loop that keeps
-//! the ends of the elements that it is in, and takes no memory.
-ghost use Rattle.std.specs.Prelude.{IsTrue, ◌↔◌, ◌≡◌, ◌≤◌, ◌-◌, ◌++◌, MatchOption};
+//! In DER constructed contents are walked, in BER those of indefinite length alone. The walk is one loop that counts the
+//! bytes behind each element that it is in, and takes no memory.
+ghost use Rattle.std.specs.Prelude.{IsTrue, ◌↔◌, ◌≡◌, ◌≤◌, ◌-◌, ◌++◌, length, take, drop, MatchOption};
 ghost use Rattle.yasna_base.specs.Identifier.{end_tag};
 ghost use Rattle.yasna_base.specs.Raw.{LooksInto, IsPayload};
-ghost use Rattle.yasna_reader.specs.Header.{EndsAt, EndsBefore, contents_end};
+ghost use Rattle.yasna_reader.specs.Header.{EndsAt, contents_end};
 ghost use Rattle.yasna_reader.specs.Refusal.{IsPlain};
-ghost use Rattle.yasna_reader.specs.Walk.{AnyOpenedAt, TurnOf, WalksTo, FollowsAt, IsRest, HasRest, RawElementAt};
+ghost use Rattle.yasna_reader.specs.Walk.{AnyOpenedAt, EndsHere, TurnOf, TakesEnd, IsWalked, WalksTo, FollowsAt, following, IsRest, HasRest, RawElementAt};
 
 use crate::bytes::cursor::Cursor;
 use crate::bytes::header::{Opened, Refusal, contents, refuse};
@@ -33,7 +33,7 @@ pub struct RawElement<'a> {
 // What a walk meets at a place.
 #[derive(Drop)]
 enum Turn<'a> {
-    // The end of the innermost element, and what follows it.
+    // The end of the innermost element, and what is left behind it of the bytes that the step was given.
     Left(&'a [u8]),
     // An element that isn't looked into, and what follows it.
     Passed(&'a [u8]),
@@ -86,13 +86,13 @@ fn open_any(cursor: Cursor<'_>) -> Result<(Tag, Opened<'_>), Refusal>
     }
 }
 
-// What follows contents that end here.
+// What is left of these bytes behind the end of contents that end here.
 #[inline(always)]
-fn ended<'a>(end: Option<&'a [u8]>, rest: &'a [u8]) -> Option<&'a [u8]>
-    ensures { MatchOption result (EndsAt (contents_end end.entry) rest.now → ⊥) (λ a. EndsBefore (contents_end end.entry) rest.now a.now) }
+fn ended<'a>(end: Option<&[u8]>, rest: &'a [u8]) -> Option<&'a [u8]>
+    ensures { MatchOption result (EndsAt (contents_end end.entry) rest.now → ⊥) (λ a. EndsHere (contents_end end.entry) rest.now a.now) }
 {
     match end {
-        Some(after) => { if rest.is_empty() { Some(after) } else { None } }
+        Some(_) => { if rest.is_empty() { Some(rest) } else { None } }
         None => match rest {
             [0, 0, after @ ..] => Some(after),
             _ => None,
@@ -117,7 +117,7 @@ fn end_fault(end: Option<&[u8]>, rest: &[u8]) -> ASN1ErrorKind
 
 // One step of a walk in an element that ends so.
 #[inline(always)]
-fn take_turn<'a>(cursor: Cursor<'a>, end: Option<&'a [u8]>) -> Result<Turn<'a>, ASN1ErrorKind>
+fn take_turn<'a>(cursor: Cursor<'a>, end: Option<&[u8]>) -> Result<Turn<'a>, ASN1ErrorKind>
     ensures { TurnOf cursor.entry.mode cursor.entry.levels (contents_end end.entry) cursor.entry.left.now result }
 {
     if let Some(after) = ended(end, cursor.left) {
@@ -144,32 +144,67 @@ fn take_turn<'a>(cursor: Cursor<'a>, end: Option<&'a [u8]>) -> Result<Turn<'a>, 
     }
 }
 
-// Walks over the elements that stand from here on in contents that end so, and answers what follows.
+// The bytes in front of the last so many.
+#[inline(always)]
+fn all_but(s: &[u8], count: usize) -> &[u8]
+    requires { count ≤ length s.now }
+    ensures { result.now ≡ take (length s.now - count) s.now }
+{
+    &s[..s.len() - count]
+}
+
+// The last so many bytes.
+#[inline(always)]
+fn last(s: &[u8], count: usize) -> &[u8]
+    requires { count ≤ length s.now }
+    ensures { result.now ≡ drop (length s.now - count) s.now }
+{
+    &s[s.len() - count..]
+}
+
+// How many bytes follow an element within the contents around it, none where its length is indefinite.
+#[inline(always)]
+fn count_following(opened: &Opened<'_>) -> usize
+    ensures { result ≡ length (following (contents_end opened.now.after)) }
+{
+    match opened.after {
+        Some(after) => after.len(),
+        None => 0,
+    }
+}
+
+// Walks over the elements that stand from here on in contents that end so, and answers what follows. A mode walks either
+// contents whose length is counted or those whose length is indefinite, so contents within end in the same way.
 fn walk<'a>(cursor: Cursor<'a>, end: Option<&'a [u8]>) -> Result<&'a [u8], ASN1ErrorKind>
-    requires { cursor.levels ≤ 100 }
+    requires shallow { cursor.levels ≤ 100 }
+    requires walked { IsWalked cursor.mode (contents_end end) }
     ensures { WalksTo cursor.entry.mode cursor.entry.levels (contents_end end.entry) cursor.entry.left.now result }
 {
-    // The ends of the elements around the innermost, the nearest last; none for those of indefinite length.
-    let mut outer: [Option<&'a [u8]>; 100] = [None; 100];
+    // How many bytes of the outermost contents follow the innermost element, and those around it, the nearest last.
+    let mut behind: usize = 0;
+    let mut outer: [usize; 100] = [0; 100];
     let mut depth: usize = 0;
-    let mut innermost = end;
-    let mut here = cursor;
+    let mut rest = cursor.left;
+    let mut levels = cursor.levels;
     loop {
-        match take_turn(here, innermost) {
+        let here = cursor.within(all_but(rest, behind), behind, levels);
+        match take_turn(here, end) {
             Ok(Turn::Left(after)) => {
                 if depth == 0 {
-                    return Ok(after);
+                    return Ok(end.unwrap_or(after));
                 }
+                rest = last(rest, behind + after.len());
                 depth -= 1;
-                here = here.outside(innermost, after);
-                innermost = outer[depth];
+                levels += 1;
+                behind = outer[depth];
             }
-            Ok(Turn::Passed(after)) => here = here.further(after),
+            Ok(Turn::Passed(after)) => rest = last(rest, behind + after.len()),
             Ok(Turn::Entered(opened)) => {
-                outer[depth] = innermost;
+                outer[depth] = behind;
                 depth += 1;
-                here = here.inside(&opened);
-                innermost = opened.after;
+                levels -= 1;
+                behind += count_following(&opened);
+                rest = last(rest, behind + opened.within.len());
             }
             Err(kind) => return Err(kind),
         }
@@ -179,7 +214,8 @@ fn walk<'a>(cursor: Cursor<'a>, end: Option<&'a [u8]>) -> Result<&'a [u8], ASN1E
 // What follows an element with this header, where its contents stand to their end.
 #[inline(always)]
 fn follow<'a>(cursor: Cursor<'a>, opened: &Opened<'a>) -> Result<&'a [u8], ASN1ErrorKind>
-    requires { 1 ≤ cursor.levels }
+    requires level { 1 ≤ cursor.levels }
+    requires taken { TakesEnd cursor.mode opened.now.bit (contents_end opened.now.after) }
     ensures { FollowsAt cursor.entry.mode (cursor.entry.levels - 1) opened.now.bit opened.now.within.now (contents_end opened.now.after) result }
 {
     if let Some(after) = opened.after {

@@ -2,7 +2,14 @@ use Rattle.std.proofs.Common.{◌-◌, refl}
 use Rattle.yasna_base.specs.Raw.{IsRaw}
 use Rattle.yasna_reader.specs.Header.{contents_end}
 use Rattle.yasna_reader.proofs.RawElement.{not_opened, not_followed, to_rest, followed_rest, followed}
+use Rattle.yasna_reader.proofs.Table.{opens_taken}
 use Rattle.yasna_reader.proofs.bytes.walk.raw_element.Goals as goal
+
+pub follow-requires-clause-taken : goal.follow-requires-clause-taken
+follow-requires-clause-taken c =
+    let o = c.in-Ok.opened in
+    let x = c.in-Ok.ensures {u = tt} in
+    opens_taken c.args.cursor.mode c.in-Ok.tag o.bit c.args.cursor.left.now o.within.now (contents_end o.after) x.opens
 
 pub payload-requires : goal.payload-requires
 payload-requires c =
