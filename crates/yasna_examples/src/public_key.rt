@@ -3,12 +3,14 @@
 //! Neither has DERCanonical, since what BER reads of them has no one form. Parameters are kept as the bytes that came, and
 //! are written so: where lengths within them are indefinite, DER doesn't read what is written. And BER takes any bits
 //! where a BIT STRING has unused ones, while zeros are written there.
-ghost use Rattle.std.specs.Prelude.{◌≡◌, ◌↔◌, true, false, ◌||◌, IfOk, IsTrue};
+ghost use Rattle.std.specs.Prelude.{◌≡◌, ◌↔◌, true, false, ◌||◌, ◌⊎◌, IfOk, IfErr, IsTrue};
+ghost use Rattle.yasna.specs.base.declared.error.ASN1ErrorKind.TheVariants.{Invalid, OutOfMemory};
 ghost use Rattle.yasna.specs.base.declared.mode.BERMode.TheVariants.{Der};
 ghost use Rattle.yasna.specs.base.Bits.{IsBits, IsDeepBits, bits_form};
 ghost use Rattle.yasna.specs.base.Canonical.{leaf_nest, enclosed_form, enclosed_nest, Always};
 ghost use Rattle.yasna.specs.base.Coding.{Any};
 ghost use Rattle.yasna.specs.base.Element.{Enclosed, AnyEnclosed};
+ghost use Rattle.yasna.specs.base.Error.{kind_of};
 ghost use Rattle.yasna.specs.base.Identifier.{universal};
 ghost use Rattle.yasna.specs.base.Oid.{EncodesOid, IsEncodableOid, oid_form};
 ghost use Rattle.yasna.specs.base.Optional.{option_form, option_nest, option_can};
@@ -155,7 +157,8 @@ impl SubjectPublicKeyInfo {
 
 /// The DER form of a key. Answers `Invalid` where it has none, and else `OutOfMemory` where memory is wanting.
 pub fn encoded_key(alloc: Global, key: &SubjectPublicKeyInfo) -> ASN1Result<Vec<u8>>
-    ensures { IfOk result (λ bytes. ⟦<SubjectPublicKeyInfo as DEREncodable>⟧.encodable key.now × (bytes.items ≡ ⟦<SubjectPublicKeyInfo as DEREncodable>⟧.form Der key.now)) }
+    ensures ok { IfOk result (λ bytes. ⟦<SubjectPublicKeyInfo as DEREncodable>⟧.encodable key.now × (bytes.items ≡ ⟦<SubjectPublicKeyInfo as DEREncodable>⟧.form Der key.now)) }
+    ensures err { IfErr result (λ e. (kind_of e ≡ OutOfMemory) ⊎ ((kind_of e ≡ Invalid) × (⟦<SubjectPublicKeyInfo as DEREncodable>⟧.encodable key.now → ⊥))) }
 {
     if !key.is_encodable() {
         return Err(ASN1Error::new(ASN1ErrorKind::Invalid));
