@@ -4,8 +4,8 @@
 #
 #   sh ci/refused_memory.sh [JOBS [all]]     JOBS go on side by side, 2 where it isn't said
 #
-# The vectors are those of at most 300 bytes: for each call the longest that it accepts, or that it refuses where it accepts
-# none; or all of them, which takes hours.
+# The vectors are those of at most 300 bytes: the calls that ci/worked_examples lists, and for each call the longest that it
+# accepts, or that it refuses where it accepts none; or all of them, which takes hours.
 #
 # `rt try --fail-alloc` refuses one request of a run, always the one of the same number. Behind idle requests of the
 # program's own fewer are left to the vectors: so how many these are says which one of theirs is refused. In a first run of
@@ -16,7 +16,7 @@ cd "$(dirname "$0")/.."
 jobs=${1:-2}
 share=${2:-longest}
 number=800      # the request that is refused
-group=25        # vectors of a run
+group=50        # vectors of a run
 work=$(mktemp -d)
 trap 'rm -rf "$work"' EXIT
 mkdir "$work/spare"
@@ -34,7 +34,15 @@ awk '
     size > most[$2] { most[$2] = size; found[$2] = $0 }
     END { for (place = 1; place <= count; place++) print found[order[place]] }
 ' "$work/all" > "$work/longest"
-cp "$work/$share" "$work/vectors"
+awk '
+    FNR == NR { if (NF > 0 && !/^#/) wanted[$1, $2, $3] = $0; next }
+    ($1, $2, $3) in wanted && !(($1, $2, $3) in seen) { seen[$1, $2, $3]; print }
+    END { for (call in wanted) if (!(call in seen)) { print "no vector: " wanted[call] > "/dev/stderr"; exit 1 } }
+' ci/worked_examples "$work/all" > "$work/examples"
+case $share in
+longest) awk '!seen[$0]++' "$work/examples" "$work/longest" > "$work/vectors" ;;
+*) cp "$work/all" "$work/vectors" ;;
+esac
 awk -v folder="$work/spare" -v group="$group" '
     NR % group == 1 { close(name); name = sprintf("%s/%06d", folder, NR); print "000000" > name }
     { print > name }

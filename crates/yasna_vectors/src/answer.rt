@@ -25,6 +25,9 @@ use crate::{
 use std::alloc::{AllocError, Global};
 use yasna::{ASN1ErrorKind, ASN1Result, DERWriter};
 
+// Room for most answers: with it a text asks for memory once, where each request is refused in turn.
+const ROOM: usize = 2_000;
+
 /// The text of an answer; none where there is no such call, or no such argument of it.
 pub type Answer = Option<Result<String, AllocError>>;
 
@@ -211,7 +214,8 @@ pub fn written<V: Shown>(
         Ok(form) => form,
         Err(error) => return refused(alloc, error.kind()),
     };
-    let mut text = String::from_str(alloc, "ok ")?;
+    let mut text = String::with_capacity(alloc, ROOM)?;
+    text.push_str("ok ")?;
     value.show(&mut text)?;
     text.push(' ')?;
     if form.is_empty() {
@@ -223,5 +227,7 @@ pub fn written<V: Shown>(
 
 /// The answer of a refusal.
 pub fn refused(alloc: Global, kind: ASN1ErrorKind) -> Result<String, AllocError> {
-    format!(in alloc; "err {kind:?}")
+    let mut text = String::with_capacity(alloc, ROOM)?;
+    write!(text, "err {kind:?}")?;
+    Ok(text)
 }

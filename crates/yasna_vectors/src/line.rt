@@ -80,6 +80,9 @@ impl<'a> Case<'a> {
     /// The bytes that the argument stands for, if it is such a text: pieces with `+` between them, each in hexadecimal, with
     /// `*` and a number behind it where it stands so many times.
     pub fn bytes(&self, alloc: Global) -> Option<Result<Vec<u8>, AllocError>> {
+        if !self.arg.contains(['+', '*']) {
+            return bytes_of(alloc, self.arg);
+        }
         let mut bytes = Vec::new(alloc);
         for piece in self.arg.split('+') {
             let (text, times) = match piece.split_once('*') {
