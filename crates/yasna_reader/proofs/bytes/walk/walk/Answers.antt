@@ -11,15 +11,13 @@ loop-after-init c =
 pub all_but-requires : goal.all_but-requires
 all_but-requires c =
     let i = c.loop-after.invariant in
-    let w : Walking c.args.cursor.mode (contents_end c.args.end) c.args.cursor.levels c.args.cursor.left.now c.loop-after.outer c.loop-after.depth
-    c.loop-after.behind c.loop-after.levels c.loop-after.rest.now = i.3 in
+    let w = i.3 in
     behind_fits w
 
 pub returns-then-depth-eq0 : goal.returns-then-depth-eq0
 returns-then-depth-eq0 c =
     let i = c.loop-after.invariant in
-    let w : Walking c.args.cursor.mode (contents_end c.args.end) c.args.cursor.levels c.args.cursor.left.now c.loop-after.outer c.loop-after.depth
-    c.loop-after.behind c.loop-after.levels c.loop-after.rest.now = i.3 in
+    let w = i.3 in
     let b = c.within-here.ensures in
     let h = b.left ∙ c.all_but.ensures ∙ here_is w in
     let x : EndsHere (contents_end c.args.end) c.within-here.result.left.now c.in-Ok-Left.after.now = search rules in
@@ -31,8 +29,7 @@ returns-then-depth-eq0 c =
 pub loop-after-smaller-in-Ok-Left : goal.loop-after-smaller-in-Ok-Left
 loop-after-smaller-in-Ok-Left c =
     let i = c.loop-after.invariant in
-    let w : Walking c.args.cursor.mode (contents_end c.args.end) c.args.cursor.levels c.args.cursor.left.now c.loop-after.outer c.loop-after.depth
-    c.loop-after.behind c.loop-after.levels c.loop-after.rest.now = i.3 in
+    let w = i.3 in
     let b = c.within-here.ensures in
     let h = b.left ∙ c.all_but.ensures ∙ here_is w in
     let x : EndsHere (contents_end c.args.end) c.within-here.result.left.now c.in-Ok-Left.after.now = search rules in
@@ -43,8 +40,7 @@ loop-after-smaller-in-Ok-Left c =
 pub loop-after-preserved-in-Ok-Left : goal.loop-after-preserved-in-Ok-Left
 loop-after-preserved-in-Ok-Left c =
     let i = c.loop-after.invariant in
-    let w : Walking c.args.cursor.mode (contents_end c.args.end) c.args.cursor.levels c.args.cursor.left.now c.loop-after.outer c.loop-after.depth
-    c.loop-after.behind c.loop-after.levels c.loop-after.rest.now = i.3 in
+    let w = i.3 in
     let b = c.within-here.ensures in
     let h = b.left ∙ c.all_but.ensures ∙ here_is w in
     let x : EndsHere (contents_end c.args.end) c.within-here.result.left.now c.in-Ok-Left.after.now = search rules in (
@@ -57,8 +53,7 @@ loop-after-preserved-in-Ok-Left c =
 pub loop-after-smaller-in-Ok-Passed : goal.loop-after-smaller-in-Ok-Passed
 loop-after-smaller-in-Ok-Passed c =
     let i = c.loop-after.invariant in
-    let w : Walking c.args.cursor.mode (contents_end c.args.end) c.args.cursor.levels c.args.cursor.left.now c.loop-after.outer c.loop-after.depth
-    c.loop-after.behind c.loop-after.levels c.loop-after.rest.now = i.3 in
+    let w = i.3 in
     let b = c.within-here.ensures in
     let h = b.left ∙ c.all_but.ensures ∙ here_is w in
     let x : Passes c.within-here.result.mode c.within-here.result.levels c.within-here.result.left.now c.in-Ok-Passed.after.now = search rules in
@@ -70,8 +65,7 @@ loop-after-smaller-in-Ok-Passed c =
 pub loop-after-preserved-in-Ok-Passed : goal.loop-after-preserved-in-Ok-Passed
 loop-after-preserved-in-Ok-Passed c =
     let i = c.loop-after.invariant in
-    let w : Walking c.args.cursor.mode (contents_end c.args.end) c.args.cursor.levels c.args.cursor.left.now c.loop-after.outer c.loop-after.depth
-    c.loop-after.behind c.loop-after.levels c.loop-after.rest.now = i.3 in
+    let w = i.3 in
     let b = c.within-here.ensures in
     let h = b.left ∙ c.all_but.ensures ∙ here_is w in
     let x : Passes c.within-here.result.mode c.within-here.result.levels c.within-here.result.left.now c.in-Ok-Passed.after.now = search rules in (
@@ -84,8 +78,7 @@ loop-after-preserved-in-Ok-Passed c =
 pub loop-after-smaller : goal.loop-after-smaller
 loop-after-smaller c =
     let i = c.loop-after.invariant in
-    let w : Walking c.args.cursor.mode (contents_end c.args.end) c.args.cursor.levels c.args.cursor.left.now c.loop-after.outer c.loop-after.depth
-    c.loop-after.behind c.loop-after.levels c.loop-after.rest.now = i.3 in
+    let w = i.3 in
     let b = c.within-here.ensures in
     let h = b.left ∙ c.all_but.ensures ∙ here_is w in
     let x : Enters c.within-here.result.mode c.within-here.result.levels c.within-here.result.left.now c.in-Ok-Entered.opened.within.now
@@ -100,8 +93,7 @@ loop-after-smaller c =
 pub loop-after-preserved : goal.loop-after-preserved
 loop-after-preserved c =
     let i = c.loop-after.invariant in
-    let w : Walking c.args.cursor.mode (contents_end c.args.end) c.args.cursor.levels c.args.cursor.left.now c.loop-after.outer c.loop-after.depth
-    c.loop-after.behind c.loop-after.levels c.loop-after.rest.now = i.3 in
+    let w = i.3 in
     let b = c.within-here.ensures in
     let h = b.left ∙ c.all_but.ensures ∙ here_is w in
     let x : Enters c.within-here.result.mode c.within-here.result.levels c.within-here.result.left.now c.in-Ok-Entered.opened.within.now
@@ -123,8 +115,7 @@ loop-after-preserved c =
 pub returns-in-Err : goal.returns-in-Err
 returns-in-Err c =
     let i = c.loop-after.invariant in
-    let w : Walking c.args.cursor.mode (contents_end c.args.end) c.args.cursor.levels c.args.cursor.left.now c.loop-after.outer c.loop-after.depth
-    c.loop-after.behind c.loop-after.levels c.loop-after.rest.now = i.3 in
+    let w = i.3 in
     let b = c.within-here.ensures in
     let h = b.left ∙ c.all_but.ensures ∙ here_is w in
     let x : Stops c.within-here.result.mode c.within-here.result.levels (contents_end c.args.end) c.within-here.result.left.now c.in-Err.kind = search rules in
