@@ -1,17 +1,13 @@
 //! Lines in whose calls a request for memory is refused.
 //!
-//! Under `rt try --fail-alloc N` the Nth request of a run is refused. The program makes as many idle requests as the first
-//! line of its input says, then runs the lines behind, and where none of them lacked memory it counts how many idle
-//! requests are granted from there on. So the number says which request of the lines is the one that is refused; its line
-//! answers want of memory, and each other line what it says.
+//! `ci/refused_memory.sh` refuses one request of a run. The line whose request it is answers want of memory, or nothing where
+//! the harness found none for an argument or a text, or what it says where it does without; each other line answers what it
+//! says.
 
 use crate::answer::answer;
 use crate::line::{Case, Line};
 use crate::run::{Report, Verdict};
 use std::alloc::{AllocError, Global};
-
-// No run makes more idle requests behind its lines.
-const MOST: u64 = 2_000;
 
 // What the lines answered.
 #[derive(Drop)]
@@ -20,21 +16,15 @@ struct Tally {
     lines: u64,
     // lines that `yasna` refused for want of memory
     refused: u64,
-    // lines with no answer, as the text of one found no memory
+    // lines with no answer, as there was no memory for their argument or their text
     silent: u64,
     failed: u64,
     // the last line that lacked memory
     place: u64,
 }
 
-/// Runs the lines behind the first, behind as many idle requests as this one says; none where it says no number.
-pub fn refuse_lines(alloc: Global, input: &str) -> Option<Result<Report, AllocError>> {
-    let (idle, lines) = input.split_once('\n')?;
-    Some(run_lines(alloc, idle.parse().ok()?, lines))
-}
-
-// Runs lines behind so many idle requests, and says what became of them.
-fn run_lines(alloc: Global, idle: u64, lines: &str) -> Result<Report, AllocError> {
+/// Runs the lines, and counts those that lacked memory.
+pub fn run_lines(alloc: Global, lines: &str) -> Result<Report, AllocError> {
     let mut tally = Tally {
         text: String::new(alloc),
         lines: 0,
@@ -43,29 +33,12 @@ fn run_lines(alloc: Global, idle: u64, lines: &str) -> Result<Report, AllocError
         failed: 0,
         place: 0,
     };
-    if granted(alloc, idle) < idle {
-        tally.text.push_str("refused in front of the lines\n")?;
-        return Ok(Report {
-            text: tally.text,
-            verdict: Verdict::Right,
-        });
-    }
     for line in lines.lines() {
         if let Some(line) = Line::parse(line) {
             run_line(alloc, &line, &mut tally)?;
         }
     }
-    report(alloc, tally)
-}
-
-// How many of so many idle requests are granted, up to the first that isn't.
-fn granted(alloc: Global, count: u64) -> u64 {
-    for made in 0..count {
-        if Box::new(alloc, 0u8).is_err() {
-            return made;
-        }
-    }
-    count
+    report(tally)
 }
 
 // Runs a line, and notes what it answered. Whether a refusal moved isn't asked, as that takes further calls.
@@ -112,21 +85,16 @@ fn fail(tally: &mut Tally, case: &Case, came: &str) -> Result<(), AllocError> {
     writeln!(tally.text, "{mode} {call} {arg}\n    came {came}")
 }
 
-// What the lines came to, and how many idle requests are granted behind them.
-fn report(alloc: Global, tally: Tally) -> Result<Report, AllocError> {
+// What the lines came to.
+fn report(tally: Tally) -> Result<Report, AllocError> {
     let mut text = tally.text;
     let lines = tally.lines;
     let refused = tally.refused;
     let silent = tally.silent;
     let failed = tally.failed;
     let place = tally.place;
-    let spare = if refused == 0 && silent == 0 {
-        granted(alloc, MOST)
-    } else {
-        0
-    };
     write!(text, "{lines} lines, {refused} refused, {silent} silent, ")?;
-    writeln!(text, "{failed} failed, {spare} spare, place {place}")?;
+    writeln!(text, "{failed} failed, place {place}")?;
     let verdict = if failed == 0 {
         Verdict::Right
     } else {

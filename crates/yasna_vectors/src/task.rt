@@ -5,7 +5,7 @@
 //! | none | they are checked, then cut, then their lengths are changed |
 //! | `lines`, `cut`, `length` | one of these alone |
 //! | `answer` | lines with no answer are answered |
-//! | `memory` | those behind the first are run where a request for memory is refused |
+//! | `memory` | they are run where a request for memory is refused |
 //! | `fuzz SEED COUNT` | so many inputs are made of them at random |
 
 use crate::hostile::{Group, check_group};
@@ -57,13 +57,7 @@ impl Task {
             Task::Lines => check_lines(alloc, input),
             Task::Answers => answer_lines(alloc, input),
             Task::Group(group) => check_group(alloc, group, input),
-            Task::Memory => match memory::refuse_lines(alloc, input) {
-                Some(report) => report,
-                None => Ok(Report {
-                    text: String::from_str(alloc, "no number in the first line\n")?,
-                    verdict: Verdict::NoLine,
-                }),
-            },
+            Task::Memory => memory::run_lines(alloc, input),
             Task::Random { seed, count } => fuzz::check_random(alloc, seed, count, input),
         }
     }

@@ -1,0 +1,62 @@
+//! What a run of the program answered.
+
+use std::process::Output;
+
+/// What the allocator writes where it refuses.
+const MARK: &str = "a request for memory was refused\n";
+/// What the program says where it has no memory itself, and its status then.
+const NO_MEMORY: &str = "out of memory\n";
+const NO_MEMORY_STATUS: i32 = 4;
+
+/// What a run came to.
+pub enum Outcome {
+    /// No request was refused, and each vector answered what it says.
+    Ample,
+    /// A request was refused, and each vector answered what it says.
+    Unchanged,
+    /// The vector at this place, counted from 1, answered want of memory, and each other one what it says.
+    Refused(usize),
+    /// So with no answer: there was no memory for the vector's argument, or for the text of its answer.
+    Silent(usize),
+    /// There was no memory for what the program does in front of all vectors, or behind them.
+    NoMemory,
+    /// Anything else, and what it was.
+    Wrong(String),
+}
+
+impl Outcome {
+    /// The outcome of a run of so many vectors.
+    pub fn of(output: &Output, vectors: usize) -> Outcome {
+        let said = String::from_utf8_lossy(&output.stdout);
+        let errors = String::from_utf8_lossy(&output.stderr);
+        let status = output.status.code();
+        let message = errors.strip_prefix(MARK);
+        match (status, message, tally(&said, vectors)) {
+            (Some(0), None, Some([0, 0, 0])) if errors.is_empty() => Outcome::Ample,
+            (Some(0), Some(""), Some([0, 0, 0])) => Outcome::Unchanged,
+            (Some(0), Some(""), Some([1, 0, place])) => Outcome::Refused(place),
+            (Some(0), Some(""), Some([0, 1, place])) => Outcome::Silent(place),
+            (Some(NO_MEMORY_STATUS), Some(NO_MEMORY), _) if said.is_empty() => Outcome::NoMemory,
+            _ => Outcome::Wrong(format!("{}\n{said}{errors}", output.status)),
+        }
+    }
+}
+
+/// Whether a request of a run was refused.
+pub fn is_refused(output: &Output) -> bool {
+    output.stderr.starts_with(MARK.as_bytes())
+}
+
+/// How many vectors answered want of memory and how many nothing, and the place of the last of these. None where the
+/// program said anything else, or that it ran another number of vectors, or that one failed.
+fn tally(said: &str, vectors: usize) -> Option<[usize; 3]> {
+    let numbers = said.split(|digit: char| !digit.is_ascii_digit());
+    let numbers: Vec<usize> = numbers.filter_map(|number| number.parse().ok()).collect();
+    let &[_, refused, silent, _, place] = numbers.as_slice() else {
+        return None;
+    };
+    let right =
+        format!("{vectors} lines, {refused} refused, {silent} silent, 0 failed, place {place}\n");
+    let has_place = (1..=vectors).contains(&place);
+    (said == right && has_place == (refused + silent > 0)).then_some([refused, silent, place])
+}
