@@ -1,5 +1,5 @@
 //! Identifiers (X.690, 8.1.2).
-ghost use Rattle.std.specs.Prelude.{◌≡◌, ◌+◌, ◌*◌, ◌<◌};
+ghost use Rattle.std.specs.Prelude.{◌≡◌, ◌+◌, ◌*◌, ◌<◌, ◌∷◌};
 ghost use Rattle.yasna_base.specs.Identifier.{class_number, bit_number, NumberAt, IdentifierAt};
 
 use crate::bytes::base128::read_base128;
@@ -43,6 +43,27 @@ fn read_number(s: &[u8]) -> Result<(u64, &[u8]), ASN1ErrorKind>
     }
 }
 
+// Reads the rest of an identifier whose first byte says that a tag number of the long form follows.
+#[inline(always)]
+fn read_long(
+    tag_class: TagClass,
+    bit: PCBit,
+    s: &[u8],
+) -> Result<(Tag, PCBit, &[u8]), ASN1ErrorKind>
+    ensures { IdentifierAt ((64 * class_number tag_class + 32 * bit_number bit + 31) ∷ s.now) result }
+{
+    match read_number(s) {
+        Ok((tag_number, rest)) => {
+            let tag = Tag {
+                tag_class,
+                tag_number,
+            };
+            Ok((tag, bit, rest))
+        }
+        Err(kind) => Err(kind),
+    }
+}
+
 /// Reads an identifier.
 #[inline(always)]
 pub fn read_identifier(s: &[u8]) -> Result<(Tag, PCBit, &[u8]), ASN1ErrorKind>
@@ -59,15 +80,5 @@ pub fn read_identifier(s: &[u8]) -> Result<(Tag, PCBit, &[u8]), ASN1ErrorKind>
         };
         return Ok((tag, bit, rest));
     }
-    match read_number(rest) {
-        Ok((tag_number, after)) => Ok((
-            Tag {
-                tag_class,
-                tag_number,
-            },
-            bit,
-            after,
-        )),
-        Err(kind) => Err(kind),
-    }
+    read_long(tag_class, bit, rest)
 }
