@@ -1,5 +1,6 @@
 -- Lengths, by their first byte, and numbers in base 256 (X.690, 8.1.3).
-use Rattle.std.proofs.Common.{◌≡◌, ℕ, ◌+◌, ◌-◌, ◌*◌, ◌^◌, ◌<◌, ◌≤◌, List, [], ◌∷◌, ◌++◌, length, get_or, take, drop, refl, ap, sym, subst, ◌∙◌, arith, Option, Some, None, length-append, take-append-drop, length-drop}
+use Rattle.std.proofs.Common.{◌≡◌, ◌⊎◌, inl, inr, MatchOption, ℕ, ◌+◌, ◌-◌, ◌*◌, ◌^◌, ◌<◌, ◌≤◌, List, [], ◌∷◌, ◌++◌, length, get_or, take, drop, refl, ap, sym, subst, ◌∙◌, arith, Option, Some, None, length-append, take-append-drop, length-drop}
+use Rattle.std.proofs.Math.Seq.{drop-append_seam}
 use Rattle.std.specs.Int.Digits.{number_from_digits, number_from_digits_after}
 use Rattle.std.proofs.lemmas.Int.Digits.{number_after_append, number_after_ge}
 use Rattle.yasna_base.specs.declared.mode.BERMode.{BERMode}
@@ -7,7 +8,7 @@ use Rattle.yasna_base.specs.declared.mode.BERMode.TheVariants.{Ber, Der}
 use Rattle.yasna_base.specs.Digits.{IsBytes}
 use Rattle.yasna_base.specs.Length.{SpellsLength}
 use Rattle.yasna_base.proofs.Lists.{fronts_same}
-use Rattle.yasna_base.proofs.Length.{small, large, length_front, not_empty, short_spells, long_spells}
+use Rattle.yasna_base.proofs.Length.{small, large, length_front, length_not_indefinite, not_empty, short_spells, long_spells}
 use Rattle.yasna_reader.specs.Length.{Measures, TakesSpelling, Spells}
 use Rattle.yasna_base.proofs.Digits.{bytes_front}
 
@@ -70,6 +71,32 @@ counted_measured m x s y d r k b e h g n i z =
       subst P v (long_spells m d o (omega arith) (omega arith) (omega arith) (λ t. let u = spelling_takes m d k z.taken t in (omega (arith, u.0), u.1))),
       j,
     )
+
+-- a first byte of 128 counts no digits, nor does 255
+pub none_counted : (m : BERMode) (x : ℕ) (y : List ℕ) → x ≡ 128 ⊎ ((x ≡ 128 → ⊥) × (x ≡ 255)) → (k : ℕ) (r : List ℕ) → Measures m (x ∷ y) (Some k) r → ⊥
+none_counted m x y (inl e) k r w = length_not_indefinite m k w.0 r y w.1 (sym w.2 ∙ ap (λ z. z ∷ y) e)
+none_counted m x y (inr e) k r w = not_counted m x (x ∷ y) y refl (omega (arith, e.1)) (λ ds q i j n z b. omega (arith, e.1, b)) (Some k) r w
+
+-- fewer digits than are counted spell none
+pub none_left : (m : BERMode) (x : ℕ) (y : List ℕ) → 128 < x → length y < x - 128 → (k : ℕ) (r : List ℕ) → Measures m (x ∷ y) (Some k) r → ⊥
+none_left m x y h l k r w = too_few m x (x ∷ y) y refl h l (Some k) r w
+
+-- what the digits that are counted come to
+pub digits_measured : (m : BERMode) (x : ℕ) (y d a : List ℕ) (o : Option ℕ) → IsBytes (x ∷ y) → 128 < x → x < 255 → length d ≡ x - 128 → y ≡ d ++ a →
+    MatchOption o ((k : ℕ) → Spells m d k → ⊥) (λ k. Spells m d k) →
+    MatchOption o ((k : ℕ) (r : List ℕ) → Measures m (x ∷ y) (Some k) r → ⊥)
+    (λ k. (x - 128 ≤ length y) × Measures m (x ∷ y) (Some k) (drop (x - 128) y))
+digits_measured m x y d a None b h g l j f = λ k r w. not_spelled m x (x ∷ y) y d a refl h l j f (Some k) r w
+digits_measured m x y d a (Some k) b h g l j f =
+    let n = length-append d a in
+    let i : drop (x - 128) y ≡ a = ap (λ q. drop q y) (sym l) ∙ ap (λ z. drop (length d) z) j ∙ drop-append_seam d a in
+    (omega (arith, l, ap length j), subst (λ z. Measures m (x ∷ y) (Some k) z) (sym i) (counted_measured m x (x ∷ y) y d a k b refl h g l j f))
+
+-- nothing stands there as a length, of whatever form
+pub none_measured : (m : BERMode) (x : ℕ) (y : List ℕ) → (x ≡ 128 → ⊥) → ((k : ℕ) (r : List ℕ) → Measures m (x ∷ y) (Some k) r → ⊥) →
+    (k : Option ℕ) (r : List ℕ) → Measures m (x ∷ y) k r → ⊥
+none_measured m x y n f None r w = let e : x ≡ 128 = cc in n e
+none_measured m x y n f (Some k) r w = f k r w
 
 first : (k n : ℕ) (ds : List ℕ) → 0 < length ds → k ≡ number_from_digits_after 256 n ds → n * 256 ≤ k
 first k n [] h e = absurd (omega arith)

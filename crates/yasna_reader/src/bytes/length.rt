@@ -1,8 +1,8 @@
 //! Lengths (X.690, 8.1.3 and 10.1).
-ghost use Rattle.std.specs.Prelude.{◌≡◌, ℕ, ◌^◌, ◌<◌, ◌≤◌, ◌++◌, length, MatchOption, IsTrue, ◌↔◌};
+ghost use Rattle.std.specs.Prelude.{◌≡◌, ℕ, ◌^◌, ◌<◌, ◌≤◌, ◌-◌, List, ◌∷◌, ◌++◌, length, drop, Some, MatchOption, IsTrue, ◌↔◌};
 ghost use Rattle.std.specs.Int.Digits.{number_from_digits};
 ghost use Rattle.yasna_reader.specs.Refusal.{IsPlain};
-ghost use Rattle.yasna_reader.specs.Length.{TakesSpelling, Spells, LengthAt};
+ghost use Rattle.yasna_reader.specs.Length.{Measures, TakesSpelling, Spells, LengthAt};
 
 use yasna_base::error::ASN1ErrorKind;
 use yasna_base::mode::BERMode;
@@ -48,7 +48,6 @@ fn is_spelling(mode: BERMode, digits: &[u8], size: u64) -> bool
 }
 
 // The length that digits spell, where a mode takes it so.
-#[inline(never)]
 fn size_of(digits: &[u8], mode: BERMode) -> Option<usize>
     requires { 0 < length digits.now }
     ensures { MatchOption result ((k : ℕ) → Spells mode digits.now k → ⊥) (λ k. Spells mode digits.now k) }
@@ -63,15 +62,56 @@ fn size_of(digits: &[u8], mode: BERMode) -> Option<usize>
     }
 }
 
-// Of what kind the refusal is where digits spell no length that a mode takes.
+// The length that digits spell behind a first byte of 128 or more, which counts them, where a mode takes it so.
 #[cold]
 #[inline(never)]
-fn digits_fault(digits: &[u8]) -> ASN1ErrorKind
+fn long_size(first: u8, s: &[u8], mode: BERMode) -> Option<usize>
+    requires { 128 ≤ first }
+    ensures { MatchOption result ((k : ℕ) (r : List ℕ) → Measures mode (first ∷ s.now) (Some k) r → ⊥) (λ k. (first - 128 ≤ length s.now) × Measures mode (first ∷ s.now) (Some k) (drop (first - 128) s.now)) }
+{
+    if first == 128 || first == 255 {
+        return None;
+    }
+    match cut(s, usize::from(first - 128)) {
+        Some((digits, _)) => size_of(digits, mode),
+        None => None,
+    }
+}
+
+// Of what kind the refusal is where no length stands behind such a byte.
+#[cold]
+#[inline(never)]
+fn long_fault(first: u8, s: &[u8]) -> ASN1ErrorKind
+    requires { 128 ≤ first }
     ensures { IsPlain result }
 {
-    match number_of(digits) {
-        Some(_) => ASN1ErrorKind::Invalid,
+    if first == 255 {
+        return ASN1ErrorKind::Invalid;
+    }
+    match cut(s, usize::from(first - 128)) {
+        Some((digits, _)) => match number_of(digits) {
+            Some(_) => ASN1ErrorKind::Invalid,
+            None => ASN1ErrorKind::Eof,
+        },
         None => ASN1ErrorKind::Eof,
+    }
+}
+
+// Reads the rest of a length whose first byte is 128 or more.
+#[inline(always)]
+fn read_long(first: u8, s: &[u8], mode: BERMode) -> Result<(Option<usize>, &[u8]), ASN1ErrorKind>
+    requires { 128 ≤ first }
+    ensures { LengthAt mode (first ∷ s.now) result }
+{
+    match long_size(first, s, mode) {
+        Some(size) => Ok((Some(size), &s[usize::from(first - 128)..])),
+        None => {
+            if first == 128 {
+                Ok((None, s))
+            } else {
+                Err(long_fault(first, s))
+            }
+        }
     }
 }
 
@@ -86,17 +126,5 @@ pub fn read_length(s: &[u8], mode: BERMode) -> Result<(Option<usize>, &[u8]), AS
     if *first < 128 {
         return Ok((Some(usize::from(*first)), rest));
     }
-    if *first == 128 {
-        return Ok((None, rest));
-    }
-    if *first == 255 {
-        return Err(ASN1ErrorKind::Invalid);
-    }
-    let Some((digits, after)) = cut(rest, usize::from(*first - 128)) else {
-        return Err(ASN1ErrorKind::Eof);
-    };
-    match size_of(digits, mode) {
-        Some(size) => Ok((Some(size), after)),
-        None => Err(digits_fault(digits)),
-    }
+    read_long(*first, rest, mode)
 }
