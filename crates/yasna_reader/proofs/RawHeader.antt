@@ -1,18 +1,22 @@
 -- Headers of raw elements: why none was read.
-use Rattle.std.proofs.Common.{◌≡◌, ℕ, ◌^◌, ◌<◌, ◌≤◌, List, ◌∷◌, ◌++◌, true, false, refl, sym, ◌∙◌, arith, subst}
+use Rattle.std.proofs.Common.{◌≡◌, inl, inr, ℕ, ◌^◌, ◌<◌, ◌≤◌, List, [], ◌∷◌, ◌++◌, length, get_or, true, false, Ok, refl, sym, ap, ◌∙◌, arith, subst}
 use Rattle.yasna_base.specs.declared.mode.BERMode.{BERMode}
 use Rattle.yasna_base.specs.declared.tag.PCBit.{PCBit}
+use Rattle.yasna_base.specs.declared.tag.PCBit.TheVariants.{Primitive, Constructed}
 use Rattle.yasna_base.specs.declared.tag.Tag.{Tag}
 use Rattle.yasna_base.specs.declared.error.ASN1ErrorKind.{ASN1ErrorKind}
 use Rattle.yasna_base.specs.declared.error.ASN1ErrorKind.TheVariants.{StackOverflow}
 use Rattle.yasna_base.specs.Header.{ContentsEnd, counted, uncounted, OpensAt}
-use Rattle.yasna_base.specs.Identifier.{identifier, end_tag, begins, StartsElement, AtEnd}
-use Rattle.yasna_base.proofs.Identifier.{identifier_exact}
+use Rattle.yasna_base.specs.Identifier.{identifier, end_tag, begins, StartsElement, AtEnd, nothing, end}
+use Rattle.yasna_base.proofs.Identifier.{identifier_exact, end_identifier, identifier_short, zeros_at_end}
 use Rattle.yasna_base.proofs.Pieces.{tag_not_end}
 use Rattle.yasna_reader.specs.declared.bytes.header.Refusal.{Refusal}
-use Rattle.yasna_reader.specs.Header.{Holds, HasHeader, AnyBit, EndsAt}
+use Rattle.yasna_reader.specs.Header.{Holds, HasHeader, AnyBit, EndsAt, contents_end}
 use Rattle.yasna_reader.specs.Refusal.{IsPlain}
-use Rattle.yasna_reader.specs.Walk.{NoHeader, NotOpened, Stops}
+use Rattle.yasna_reader.specs.Walk.{IsEndByte, NoHeader, NotOpened, IsOpened, HasOpened, TurnsTo, TurnOf, Stops}
+use Rattle.yasna_reader.specs.declared.bytes.header.Opened.{Opened}
+use Rattle.yasna_reader.specs.declared.bytes.walk.Turn.{Turn}
+use Rattle.yasna_reader.specs.declared.bytes.walk.Turn.TheVariants.{Left, Passed, Entered}
 use Rattle.yasna_reader.proofs.Header.{header_begins}
 use Rattle.yasna_reader.proofs.Refusal.{plain_not_deep, plain_not_memory}
 
@@ -56,8 +60,17 @@ contents_refuse m n s e t p y b ne f l k o w = record {
 }
 
 -- a walk stops where contents don't end and no header stands
-pub stops : (m : BERMode) (n : ℕ) (e : ContentsEnd) (s : List ℕ) (r : Refusal) → (EndsAt e s → ⊥) → NotOpened m n s r → Stops m n e s r.kind
+stops : (m : BERMode) (n : ℕ) (e : ContentsEnd) (s : List ℕ) (r : Refusal) → (EndsAt e s → ⊥) → NotOpened m n s r → Stops m n e s r.kind
 stops m n e s r o x = record { open_end = o; none = x.none; deep = x.deep; no_memory = x.no_memory }
+
+-- where contents end, nothing is left or an end stands there
+ends_at_end : (e : ContentsEnd) (s : List ℕ) → EndsAt e s → AtEnd s
+ends_at_end (counted a) s x = nothing x
+ends_at_end uncounted s x = subst AtEnd (sym x.1) (zeros_at_end (0 ∷ x.0))
+
+-- a walk stops where an element begins whose header doesn't stand there
+pub stops_behind : (m : BERMode) (n : ℕ) (e : ContentsEnd) (s : List ℕ) (r : Refusal) → NotOpened m n s r → r.moved ≡ true → Stops m n e s r.kind
+stops_behind m n e s r x f = stops m n e s r (λ y. let z = x.moved.1 (ends_at_end e s y) in absurd (cc)) x
 
 -- with a kind of its own where nothing is left or what looks like an end stands there
 pub stops_at_end : (m : BERMode) (n : ℕ) (e : ContentsEnd) (s : List ℕ) (k : ASN1ErrorKind) → (EndsAt e s → ⊥) → AtEnd s → IsPlain k → Stops m n e s k
@@ -66,6 +79,37 @@ stops_at_end m n e s k o a i = record {
   none = none_at_end m n s a;
   deep = (λ d. absurd (plain_not_deep i d), λ d. absurd (starts_not_at_end s d.1 a));
   no_memory = plain_not_memory i;
+}
+
+constructed_end : (r : List ℕ) → identifier end_tag Constructed ++ r ≡ 32 ∷ r
+constructed_end r = ap (λ z. z ++ r) (identifier_short end_tag Constructed (omega arith))
+
+-- bytes that begin so are an end
+pub first_at_end : (s : List ℕ) → 1 ≤ length s → IsEndByte (get_or s 0 0) → AtEnd s
+first_at_end [] l x = absurd (omega arith)
+first_at_end (b ∷ r) l (inl x) = subst (λ z. AtEnd (z ∷ r)) (sym x) (zeros_at_end r)
+first_at_end (b ∷ r) l (inr x) = end (begins Constructed r (ap (λ z. z ∷ r) x ∙ sym (constructed_end r)))
+
+-- those that don't begin with the identifier of another tag
+pub first_not_end : (s r : List ℕ) (t : Tag) (p : PCBit) → (IsEndByte (get_or s 0 0) → ⊥) → s ≡ identifier t p ++ r → t ≡ end_tag → ⊥
+first_not_end s r t Primitive n e f = n (inl (ap (λ b. get_or b 0 0) (e ∙ ap (λ u. identifier u Primitive ++ r) f ∙ end_identifier r)))
+first_not_end s r t Constructed n e f = n (inr (ap (λ b. get_or b 0 0) (e ∙ ap (λ u. identifier u Constructed ++ r) f ∙ constructed_end r)))
+
+-- what a walk does with a header
+pub turns_to : (m : BERMode) (n : ℕ) (e : ContentsEnd) (s : List ℕ) (o : Opened) (t : Turn) → HasOpened m n s o → TurnsTo m o t → TurnOf m n e s (Ok t)
+turns_to m n e s o (Left a) x y = absurd y
+turns_to m n e s o (Passed a) x y = record {
+  tag = x.0;
+  bit = o.bit;
+  contents = o.within.now;
+  opened = subst (λ z. IsOpened m n s x.0 o.bit o.within.now z) y.0 x.1;
+  closed = y.1;
+}
+turns_to m n e s o (Entered i) x y = record {
+  tag = x.0;
+  bit = i.bit;
+  opened = subst (λ (z : Opened). IsOpened m n s x.0 z.bit z.within.now (contents_end z.after)) (sym y.0) x.1;
+  looks = y.1;
 }
 
 -- a header of a tag stands there

@@ -1,5 +1,5 @@
 -- The table of a walk: the ends of the elements that it is in, and what is found from a place in them.
-use Rattle.std.proofs.Common.{◌≡◌, ◌↔◌, ◌⊎◌, inl, inr, ℕ, zero, suc, ◌+◌, ◌-◌, ◌<◌, ◌≤◌, List, [], ◌∷◌, ◌++◌, length, length-append, length-drop, append_assoc, append-nil, take, drop, get_or, Option, Some, None, unwrap_or, refl, sym, ap, set, add-one, ◌∙◌, arith, subst}
+use Rattle.std.proofs.Common.{◌≡◌, ◌↔◌, ◌⊎◌, inl, inr, ℕ, zero, suc, ◌+◌, ◌-◌, ◌<◌, ◌≤◌, List, [], ◌∷◌, ◌++◌, length, length-append, length-take, append_assoc, append-nil, take, drop, get_or, Option, Some, None, unwrap_or, refl, sym, ap, set, add-one, ◌∙◌, arith, subst}
 use Rattle.std.proofs.Math.Seq.{take-append_seam, drop-append_seam}
 use Rattle.std.specs.Borrow.{Bor}
 use Rattle.std.proofs.lemmas.List.{get_or-set_same, get_or-set_other}
@@ -233,39 +233,45 @@ drop_front s x y k e f =
     let j : length s - k ≡ length x = omega arith in
     ap (λ n. drop n s) j ∙ ap (λ z. drop (length x) z) e ∙ drop-append_seam x y
 
--- the innermost of the elements ends by f, those around it by fs, and r follows it within the outermost, which ends by e;
--- the table says how many bytes follow each but the innermost, the nearest last
-abbrev pub Encloses : ContentsEnd → List ℕ → ℕ → List ℕ → ContentsEnd → List ContentsEnd → Type 0
-Encloses e table zero r f fs = (f ≡ e) × (fs ≡ []) × (r ≡ [])
-Encloses e table (suc d) r f fs =
-    AreAlike e f × ((g : ContentsEnd) × (gs : List ContentsEnd) × (q : List ℕ) × (fs ≡ g ∷ gs) × (r ≡ following f ++ q) × (length q ≡ get_or table d 0)
-    × Encloses e table d q g gs)
+-- the innermost of d + 1 elements ends by f, those around it by fs, and r follows it within the outermost, which ends by e;
+-- k levels are left in the innermost, and the table says how many bytes follow each around it, by how many are left in what
+-- that one contains
+abbrev pub Encloses : ContentsEnd → List ℕ → ℕ → ℕ → List ℕ → ContentsEnd → List ContentsEnd → Type 0
+Encloses e table k zero r f fs = (f ≡ e) × (fs ≡ []) × (r ≡ [])
+Encloses e table k (suc d) r f fs =
+    AreAlike e f × ((g : ContentsEnd) × (gs : List ContentsEnd) × (q : List ℕ) × (fs ≡ g ∷ gs) × (r ≡ following f ++ q) × (length q ≡ get_or table k 0)
+    × Encloses e table (suc k) d q g gs)
 
-encloses_alike : (e : ContentsEnd) (table : List ℕ) (d : ℕ) (r : List ℕ) (f : ContentsEnd) (fs : List ContentsEnd) → Encloses e table d r f fs → AreAlike e f
-encloses_alike e table zero r f fs x = subst (λ z. AreAlike e z) (sym x.0) (alike e)
-encloses_alike e table (suc d) r f fs x = x.0
+encloses_alike : (e : ContentsEnd) (table : List ℕ) (k d : ℕ) (r : List ℕ) (f : ContentsEnd) (fs : List ContentsEnd) → Encloses e table k d r f fs →
+    AreAlike e f
+encloses_alike e table k zero r f fs x = subst (λ z. AreAlike e z) (sym x.0) (alike e)
+encloses_alike e table k (suc d) r f fs x = x.0
 
-encloses_other : (e : ContentsEnd) (table : List ℕ) (d j k : ℕ) (r : List ℕ) (f : ContentsEnd) (fs : List ContentsEnd) → j ≤ d → Encloses e table j r f fs →
-    Encloses e (set table d k) j r f fs
-encloses_other e table d zero k r f fs l x = x
-encloses_other e table d (suc j) k r f fs l (a, (g, gs, q, i, h, n, x)) =
-    let o = get_or-set_other table d j k 0 (λ z. omega (arith, z)) in
-    (a, (g, gs, q, i, h, n ∙ sym o, encloses_other e table d j k q g gs (omega arith) x))
+encloses_other : (e : ContentsEnd) (table : List ℕ) (i k d b : ℕ) (r : List ℕ) (f : ContentsEnd) (fs : List ContentsEnd) → i < k →
+    Encloses e table k d r f fs → Encloses e (set table i b) k d r f fs
+encloses_other e table i k zero b r f fs l x = x
+encloses_other e table i k (suc d) b r f fs l (a, (g, gs, q, j, h, n, x)) =
+    let o = get_or-set_other table i k b 0 (λ z. omega (arith, z)) in
+    (a, (g, gs, q, j, h, n ∙ sym o, encloses_other e table i (suc k) d b q g gs (omega arith) x))
 
--- a place in a walk: what is left of the innermost element, and what follows that within the outermost
-pub record Walking (m : BERMode) (e : ContentsEnd) (n : ℕ) (s : List ℕ) (table : List ℕ) (d behind k : ℕ) (r : List ℕ) : Type 0 where
-  pub here : List ℕ
+-- a place in a walk, of which r is left in the innermost element, and what follows that within the outermost
+pub record Walking (m : BERMode) (e : ContentsEnd) (n : ℕ) (s : List ℕ) (table : List ℕ) (behind k : ℕ) (r : List ℕ) : Type 0 where
+  pub depth : ℕ
+  pub deep : depth + k ≡ n
+  pub before : List ℕ
   pub after : List ℕ
   pub inner : ContentsEnd
   pub around : List ContentsEnd
-  pub joined : r ≡ here ++ after
+  pub joined : s ≡ before ++ (r ++ after)
   pub counts : length after ≡ behind
-  pub encloses : Encloses e table d after inner around
-  pub same : Same m (e ∷ []) n s (inner ∷ around) k here
+  pub encloses : Encloses e table k depth after inner around
+  pub same : Same m (e ∷ []) n s (inner ∷ around) k r
 
-pub walking_start : (m : BERMode) (e : ContentsEnd) (n : ℕ) (s : List ℕ) (table : List ℕ) → Walking m e n s table 0 0 n s
+pub walking_start : (m : BERMode) (e : ContentsEnd) (n : ℕ) (s : List ℕ) (table : List ℕ) → Walking m e n s table 0 n s
 walking_start m e n s table = record {
-  here = s;
+  depth = 0;
+  deep = omega arith;
+  before = [];
   after = [];
   inner = e;
   around = [];
@@ -283,133 +289,149 @@ less_is : (d : ℕ) → 1 ≤ d → d ≡ suc (d - 1)
 less_is d l = omega arith
 
 -- what a turn there keeps
-module _ {m : BERMode} {e : ContentsEnd} {n : ℕ} {s : List ℕ} {table : List ℕ} {d behind k : ℕ} {r : List ℕ} (w : Walking m e n s table d behind k r) where
-  pub behind_fits : behind ≤ length r
-  behind_fits = let i = length-append w.here w.after in omega (arith, ap length w.joined, w.counts)
+module _ {m : BERMode} {e : ContentsEnd} {n : ℕ} {s : List ℕ} {table : List ℕ} {behind k : ℕ} {r : List ℕ} (w : Walking m e n s table behind k r) where
+  joins : (p x : List ℕ) → r ≡ p ++ x → s ≡ (w.before ++ p) ++ (x ++ w.after)
+  joins p x f =
+      w.joined ∙ ap (λ z. w.before ++ (z ++ w.after)) f ∙ ap (λ z. w.before ++ z) (append_assoc p x w.after) ∙ sym (append_assoc w.before p (x ++ w.after))
 
-  pub here_is : take (length r - behind) r ≡ w.here
-  here_is = take_front r w.here w.after behind w.joined w.counts
+  rest_counts : (x : List ℕ) → length (x ++ w.after) ≡ behind + length x
+  rest_counts x = let j = length-append x w.after in omega (arith, w.counts)
 
-  rest_joins : (p x : List ℕ) → w.here ≡ p ++ x → r ≡ p ++ (x ++ w.after)
-  rest_joins p x f = w.joined ∙ ap (λ z. z ++ w.after) f ∙ append_assoc p x w.after
+  rest_is : (p x : List ℕ) → r ≡ p ++ x → drop (length s - (behind + length x)) s ≡ x ++ w.after
+  rest_is p x f = drop_front s (w.before ++ p) (x ++ w.after) (behind + length x) (joins p x f) (rest_counts x)
 
-  rest_counts : (x : List ℕ) (i : ℕ) → i ≡ behind + length x → length (x ++ w.after) ≡ i
-  rest_counts x i g = let j = length-append x w.after in omega (arith, w.counts, g)
-
-  rest_is : (p x : List ℕ) (i : ℕ) → w.here ≡ p ++ x → i ≡ behind + length x → drop (length r - i) r ≡ x ++ w.after
-  rest_is p x i f g = drop_front r p (x ++ w.after) i (rest_joins p x f) (rest_counts x i g)
-
-  rest_fits : (p x : List ℕ) → w.here ≡ p ++ x → length p + (behind + length x) ≤ length r
-  rest_fits p x f =
-      let i = length-append p (x ++ w.after) in
-      omega (arith, ap length (rest_joins p x f), rest_counts x (behind + length x) refl)
-
-  module _ {o : BERMode} {j : ℕ} {h : List ℕ} (mode : o ≡ m) (levels : j ≡ k) (is : h ≡ w.here) where
-    ends_in : (a : List ℕ) → EndsHere e h a → EndsHere e w.here a
+  module _ {o : BERMode} {j : ℕ} {h : List ℕ} (mode : o ≡ m) (levels : j ≡ k) (is : h ≡ r) where
+    ends_in : (a : List ℕ) → EndsHere e h a → EndsHere e r a
     ends_in a x = subst (λ z. EndsHere e z a) is x
 
-    passes_in : (a : List ℕ) → Passes o j h a → Passes m k w.here a
+    passes_in : (a : List ℕ) → Passes o j h a → Passes m k r a
     passes_in a x = subst (λ z. Passes m k z a) is (subst (λ i. Passes m i h a) levels (subst (λ p. Passes p j h a) mode x))
 
-    enters_in : (c : List ℕ) (f : ContentsEnd) → Enters o j h c f → Enters m k w.here c f
+    enters_in : (c : List ℕ) (f : ContentsEnd) → Enters o j h c f → Enters m k r c f
     enters_in c f x = subst (λ z. Enters m k z c f) is (subst (λ i. Enters m i h c f) levels (subst (λ p. Enters p j h c f) mode x))
 
-    pub left_fits : (a : List ℕ) → EndsHere e h a → behind + length a ≤ length r
-    left_fits a x = let p = ends_front e w.here a (ends_in a x) in let l = rest_fits p.0 a p.1 in omega arith
+    pub left_fits : (a : List ℕ) → EndsHere e h a → length a ≤ length r
+    left_fits a x = let p = ends_front e r a (ends_in a x) in let i = length-append p.0 a in omega (arith, ap length p.1)
 
-    pub passed_fits : (a : List ℕ) → Passes o j h a → behind + length a < length r
+    pub passed_fits : (a : List ℕ) → Passes o j h a → length a < length r
     passed_fits a x =
         let y = passes_in a x in
-        let p = opens_front m y.tag y.bit w.here y.contents (counted a) y.opened.opens in
-        let i = length-append p.0 y.contents in
-        let l = rest_fits (p.0 ++ y.contents) a (p.2 ∙ sym (append_assoc p.0 y.contents a)) in
-        omega (arith, p.1)
+        let p = opens_front m y.tag y.bit r y.contents (counted a) y.opened.opens in
+        let i = length-append p.0 (y.contents ++ a) in
+        let i' = length-append y.contents a in
+        omega (arith, p.1, ap length p.2)
 
-    pub entered_fits : (c : List ℕ) (f : ContentsEnd) → Enters o j h c f → behind + length (following f) + length c < length r
+    pub entered_fits : (c : List ℕ) (f : ContentsEnd) → Enters o j h c f → length (following f) + length c < length r
     entered_fits c f x =
         let y = enters_in c f x in
-        let p = opens_front m y.tag y.bit w.here c f y.opened.opens in
-        let i = length-append c (following f) in
-        let l = rest_fits p.0 (c ++ following f) p.2 in
-        omega (arith, p.1)
+        let p = opens_front m y.tag y.bit r c f y.opened.opens in
+        let i = length-append p.0 (c ++ following f) in
+        let i' = length-append c (following f) in
+        omega (arith, p.1, ap length p.2)
 
-    pub left_walked : (a : List ℕ) → d ≡ 0 → EndsBefore e h a → ClosesBefore n m e s a
+    pub left_walked : (a : List ℕ) → k ≡ n → EndsBefore e h a → ClosesBefore n m e s a
     left_walked a z x =
-        let y = subst (λ i. Encloses e table i w.after w.inner w.around) z w.encloses in
-        let b = subst (λ f. Same m (e ∷ []) n s (f ∷ w.around) k w.here) y.0 w.same in
-        let c = subst (λ fs. Same m (e ∷ []) n s (e ∷ fs) k w.here) y.1 b in
-        walked m e n (suc k) s a (same_then m (e ∷ []) (e ∷ []) [] n k (suc k) s w.here a c
-        (same_left m e [] k w.here a (subst (λ i. EndsBefore e i a) is x)))
+        let i : w.depth ≡ 0 = omega (arith, w.deep, z) in
+        let y = subst (λ d. Encloses e table k d w.after w.inner w.around) i w.encloses in
+        let b = subst (λ f. Same m (e ∷ []) n s (f ∷ w.around) k r) y.0 w.same in
+        let c = subst (λ fs. Same m (e ∷ []) n s (e ∷ fs) k r) y.1 b in
+        walked m e n (suc k) s a (same_then m (e ∷ []) (e ∷ []) [] n k (suc k) s r a c
+        (same_left m e [] k r a (subst (λ i. EndsBefore e i a) is x)))
 
-    pub left_keeps : (a q : List ℕ) → 1 ≤ d → EndsHere e h a → q ≡ drop (length r - (behind + length a)) r →
-        Walking m e n s table (d - 1) (get_or table (d - 1) 0) (k + 1) q
-    left_keeps a q l x f =
-        let p = ends_front e w.here a (ends_in a x) in
-        let y = subst (λ i. Encloses e table i w.after w.inner w.around) (less_is d l) w.encloses in
-        let g = y.1.0 in
+    -- the element around goes on behind the innermost
+    pub left_keeps : (a u q : List ℕ) → (k ≡ n → ⊥) → EndsHere e h a → u ≡ drop (length s - (behind + length a)) s → q ≡ take (length u - get_or table k 0) u →
+        (get_or table k 0 ≤ length u) × Walking m e n s table (get_or table k 0) (k + 1) q
+    left_keeps a u q l x f g =
+        let p = ends_front e r a (ends_in a x) in
+        let y = subst (λ d. Encloses e table k d w.after w.inner w.around) (less_is w.depth (omega (arith, w.deep, l))) w.encloses in
+        let o = y.1.0 in
         let gs = y.1.1 in
         let t = y.1.2 in
         let v = a ++ following w.inner in
-        let b = subst (λ fs. Same m (e ∷ []) n s (w.inner ∷ fs) k w.here) y.1.3 w.same in
-        record {
-          here = v;
+        let i : u ≡ v ++ t = f ∙ rest_is p.0 a p.1 ∙ ap (λ i. a ++ i) y.1.4 ∙ sym (append_assoc a (following w.inner) t) in
+        let i' : q ≡ v = g ∙ take_front u v t (get_or table k 0) i y.1.5 in
+        let b = subst (λ fs. Same m (e ∷ []) n s (w.inner ∷ fs) k r) y.1.3 w.same in
+        let z : Walking m e n s table (get_or table k 0) (suc k) v = record {
+          depth = w.depth - 1;
+          deep = omega (arith, w.deep, l);
+          before = w.before ++ p.0;
           after = t;
-          inner = g;
+          inner = o;
           around = gs;
-          joined = f ∙ rest_is p.0 a (behind + length a) p.1 refl ∙ ap (λ i. a ++ i) y.1.4 ∙ sym (append_assoc a (following w.inner) t);
+          joined = joins p.0 a p.1 ∙ ap (λ i. (w.before ++ p.0) ++ i) (sym (rest_is p.0 a p.1) ∙ sym f ∙ i);
           counts = y.1.5;
           encloses = y.1.6;
-          same = subst (λ i. Same m (e ∷ []) n s (g ∷ gs) i v) (sym (add-one k)) (same_then m (e ∷ []) (w.inner ∷ (g ∷ gs)) (g ∷ gs) n k (suc k) s w.here v b
-              (same_left m w.inner (g ∷ gs) k w.here v (ends_before e w.inner w.here a y.0 (ends_in a x))));
-        }
+          same = same_then m (e ∷ []) (w.inner ∷ (o ∷ gs)) (o ∷ gs) n k (suc k) s r v b
+              (same_left m w.inner (o ∷ gs) k r v (ends_before e w.inner r a y.0 (ends_in a x)));
+        } in
+        let c = length-append v t in
+        let z' = subst (λ i. Walking m e n s table (get_or table k 0) i v) (sym (add-one k)) z in
+        (omega (arith, ap length i, y.1.5), subst (λ i. Walking m e n s table (get_or table k 0) (k + 1) i) (sym i') z')
 
-    pub passed_keeps : (a q : List ℕ) → Passes o j h a → q ≡ drop (length r - (behind + length a)) r → Walking m e n s table d behind k q
-    passed_keeps a q x f =
+    pub left_counts : (a u q : List ℕ) → (k ≡ n → ⊥) → EndsHere e h a → u ≡ drop (length s - (behind + length a)) s →
+        q ≡ take (length u - get_or table k 0) u → length q + get_or table k 0 ≡ behind + length a
+    left_counts a u q l x f g =
+        let p = ends_front e r a (ends_in a x) in
+        let z = left_keeps a u q l x f g in
+        let i = length-take (length u - get_or table k 0) u in
+        omega (arith, ap length g, z.0, ap length (f ∙ rest_is p.0 a p.1), rest_counts a)
+
+    pub passed_keeps : (a : List ℕ) → Passes o j h a → Walking m e n s table behind k a
+    passed_keeps a x =
         let y = passes_in a x in
-        let p = opens_front m y.tag y.bit w.here y.contents (counted a) y.opened.opens in
+        let p = opens_front m y.tag y.bit r y.contents (counted a) y.opened.opens in
         record {
-          here = a;
+          depth = w.depth;
+          deep = w.deep;
+          before = w.before ++ (p.0 ++ y.contents);
           after = w.after;
           inner = w.inner;
           around = w.around;
-          joined = f ∙ rest_is (p.0 ++ y.contents) a (behind + length a) (p.2 ∙ sym (append_assoc p.0 y.contents a)) refl;
+          joined = joins (p.0 ++ y.contents) a (p.2 ∙ sym (append_assoc p.0 y.contents a));
           counts = w.counts;
           encloses = w.encloses;
-          same = same_then m (e ∷ []) (w.inner ∷ w.around) (w.inner ∷ w.around) n k k s w.here a w.same (passed_any m w.inner w.around k w.here a y);
+          same = same_then m (e ∷ []) (w.inner ∷ w.around) (w.inner ∷ w.around) n k k s r a w.same (passed_any m w.inner w.around k r a y);
         }
 
-    pub entered_keeps : (c q : List ℕ) (f : ContentsEnd) → IsWalked m e → d < length table → Enters o j h c f →
-        q ≡ drop (length r - (behind + length (following f) + length c)) r →
-        Walking m e n s (set table d behind) (d + 1) (behind + length (following f)) (k - 1) q
-    entered_keeps c q f u l x g =
+    pub entered_keeps : (c : List ℕ) (f : ContentsEnd) → IsWalked m e → n ≤ length table → Enters o j h c f →
+        Walking m e n s (set table (k - 1) behind) (behind + length (following f)) (k - 1) c
+    entered_keeps c f u l x =
         let y = enters_in c f x in
-        let p = opens_front m y.tag y.bit w.here c f y.opened.opens in
-        let i = length-append c (following f) in
-        let i' = length-append (following f) w.after in
-        let v = set table d behind in
-        let inside : Encloses e v (suc d) (following f ++ w.after) f (w.inner ∷ w.around) = (
-          entered_alike m k e w.here c f u y,
-          (w.inner, w.around, w.after, refl, refl, w.counts ∙ sym (get_or-set_same table d behind 0 l), encloses_other e table d d behind w.after w.inner w.around (omega arith) w.encloses),
+        let p = opens_front m y.tag y.bit r c f y.opened.opens in
+        let i = length-append (following f) w.after in
+        let v = set table (k - 1) behind in
+        let below : k - 1 < length table = omega (arith, y.opened.level, w.deep, l) in
+        let up : k ≡ suc (k - 1) = omega (arith, y.opened.level) in
+        let outside = encloses_other e table (k - 1) k w.depth behind w.after w.inner w.around (omega (arith, y.opened.level)) w.encloses in
+        let inside : Encloses e v (k - 1) (suc w.depth) (following f ++ w.after) f (w.inner ∷ w.around) = (
+          entered_alike m k e r c f u y,
+          (
+            w.inner,
+            w.around,
+            w.after,
+            refl,
+            refl,
+            w.counts ∙ sym (get_or-set_same table (k - 1) behind 0 below),
+            subst (λ i. Encloses e v i w.depth w.after w.inner w.around) up outside,
+          ),
         ) in
         record {
-          here = c;
+          depth = suc w.depth;
+          deep = omega (arith, w.deep, y.opened.level);
+          before = w.before ++ p.0;
           after = following f ++ w.after;
           inner = f;
           around = w.inner ∷ w.around;
-          joined = g ∙ rest_is p.0 (c ++ following f) (behind + length (following f) + length c) p.2 (omega arith) ∙ append_assoc c (following f) w.after;
+          joined = joins p.0 (c ++ following f) p.2 ∙ ap (λ i. (w.before ++ p.0) ++ i) (append_assoc c (following f) w.after);
           counts = omega (arith, w.counts);
-          encloses = subst (λ z. Encloses e v z (following f ++ w.after) f (w.inner ∷ w.around)) (sym (add-one d)) inside;
-          same = same_then m (e ∷ []) (w.inner ∷ w.around) (f ∷ (w.inner ∷ w.around)) n k (k - 1) s w.here c w.same
-              (entered_any m w.inner w.around k w.here c f y);
+          encloses = inside;
+          same = same_then m (e ∷ []) (w.inner ∷ w.around) (f ∷ (w.inner ∷ w.around)) n k (k - 1) s r c w.same
+              (entered_any m w.inner w.around k r c f y);
         }
 
     pub not_walked : (x : ASN1ErrorKind) → Stops o j e h x → NotWalked m n e s x
     not_walked x y =
         let z = subst (λ i. Stops m k e i x) is (subst (λ i. Stops m i e h x) levels (subst (λ p. Stops p j e h x) mode y)) in
-        let u = encloses_alike e table d w.after w.inner w.around w.encloses in
-        stopped_all m e n s w.inner w.around k w.here x w.same
-        (record { open_end = λ i. z.open_end (alike_at e w.inner w.here u i); none = z.none; deep = z.deep; no_memory = z.no_memory })
-
--- the last bytes are as many as they are counted
-pub last_counts : (s q : List ℕ) (k : ℕ) → k ≤ length s → q ≡ drop (length s - k) s → length q ≡ k
-last_counts s q k l f = let i = length-drop (length s - k) s in omega (arith, ap length f)
+        let u = encloses_alike e table k w.depth w.after w.inner w.around w.encloses in
+        stopped_all m e n s w.inner w.around k r x w.same
+        (record { open_end = λ i. z.open_end (alike_at e w.inner r u i); none = z.none; deep = z.deep; no_memory = z.no_memory })

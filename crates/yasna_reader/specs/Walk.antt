@@ -1,6 +1,6 @@
 -- The walk over raw elements.
 use Rattle.std.specs.Borrow.{Bor}
-use Rattle.std.specs.Prelude.{◌≡◌, ◌↔◌, ℕ, ◌^◌, ◌<◌, ◌≤◌, List, [], ◌∷◌, ◌++◌, Result, Ok, Err, false}
+use Rattle.std.specs.Prelude.{◌≡◌, ◌↔◌, ◌⊎◌, ℕ, ◌^◌, ◌<◌, ◌≤◌, List, [], ◌∷◌, ◌++◌, Result, Ok, Err, false}
 use Rattle.yasna_base.specs.Element.{TakesIndefinite}
 use Rattle.yasna_base.specs.Header.{ContentsEnd, counted, uncounted, OpensAt}
 use Rattle.yasna_base.specs.Identifier.{end_tag, StartsElement, AtEnd}
@@ -17,6 +17,10 @@ use Rattle.yasna_reader.specs.declared.bytes.header.Refusal.{Refusal}
 use Rattle.yasna_reader.specs.declared.bytes.walk.RawElement.{RawElement}
 use Rattle.yasna_reader.specs.declared.bytes.walk.Turn.{Turn}
 use Rattle.yasna_reader.specs.declared.bytes.walk.Turn.TheVariants.{Left, Passed, Entered}
+
+-- the identifier of the end of contents begins so, primitive or constructed
+abbrev pub IsEndByte : ℕ → Type 0
+IsEndByte b = b ≡ 0 ⊎ b ≡ 32
 
 -- no header of an element stands at the front, but for a tag of the end of contents
 abbrev pub NoHeader : BERMode → ℕ → List ℕ → Type 0
@@ -42,6 +46,10 @@ pub record IsOpened (m : BERMode) (n : ℕ) (s : List ℕ) (t : Tag) (p : PCBit)
 abbrev pub AnyOpenedAt : BERMode → ℕ → List ℕ → Result (Tag × Opened) Refusal → Type 0
 AnyOpenedAt m n s (Ok x) = IsOpened m n s x.0 x.1.bit x.1.within.now (contents_end x.1.after)
 AnyOpenedAt m n s (Err e) = NotOpened m n s e
+
+-- a header of some tag was read
+abbrev pub HasOpened : BERMode → ℕ → List ℕ → Opened → Type 0
+HasOpened m n s o = (t : Tag) × IsOpened m n s t o.bit o.within.now (contents_end o.after)
 
 -- an element isn't looked into, and r follows it
 pub record Passes (m : BERMode) (n : ℕ) (s r : List ℕ) : Type 0 where
@@ -69,6 +77,12 @@ pub record Stops (m : BERMode) (n : ℕ) (e : ContentsEnd) (s : List ℕ) (k : A
 abbrev pub EndsHere : ContentsEnd → List ℕ → List ℕ → Type 0
 EndsHere (counted a) y r = (y ≡ []) × (r ≡ [])
 EndsHere uncounted y r = y ≡ 0 ∷ 0 ∷ r
+
+-- the contents behind a header are looked into, or the element is passed
+abbrev pub TurnsTo : BERMode → Opened → Turn → Type 0
+TurnsTo m o (Left a) = ⊥
+TurnsTo m o (Passed a) = (contents_end o.after ≡ counted a.now) × (LooksInto m o.bit → ⊥)
+TurnsTo m o (Entered x) = (x ≡ o) × LooksUpTo m x.bit (contents_end x.after)
 
 -- what stands at a place in contents that end so
 abbrev pub TurnOf : BERMode → ℕ → ContentsEnd → List ℕ → Result Turn ASN1ErrorKind → Type 0

@@ -90,6 +90,21 @@ impl<'a> Cursor<'a> {
         }
     }
 
+    /// The same place, by these rules.
+    #[inline(always)]
+    pub fn ruled_by(self, mode: BERMode) -> Cursor<'a>
+        ensures left { result.left.now ≡ self.entry.left.now }
+        ensures mode { result.mode ≡ mode }
+        ensures levels { result.levels ≡ self.entry.levels }
+    {
+        Cursor {
+            left: self.left,
+            end: self.end,
+            mode,
+            levels: self.levels,
+        }
+    }
+
     /// A place in these contents or in elements within them: so many of their bytes follow the innermost, and so many
     /// levels are left.
     #[inline(always)]

@@ -2,12 +2,11 @@
 //!
 //! In DER constructed contents are walked, in BER those of indefinite length alone. The walk is one loop that counts the
 //! bytes behind each element that it is in, and takes no memory.
-ghost use Rattle.std.specs.Prelude.{IsTrue, ◌↔◌, ◌≡◌, ◌≤◌, ◌-◌, ◌++◌, length, take, drop, MatchOption};
-ghost use Rattle.yasna_base.specs.Identifier.{end_tag};
+ghost use Rattle.std.specs.Prelude.{IsTrue, ◌↔◌, ◌≡◌, ◌≤◌, ◌-◌, ◌++◌, length, take, drop, MatchOption, Err};
 ghost use Rattle.yasna_base.specs.Raw.{LooksInto, IsPayload};
 ghost use Rattle.yasna_reader.specs.Header.{EndsAt, contents_end};
 ghost use Rattle.yasna_reader.specs.Refusal.{IsPlain};
-ghost use Rattle.yasna_reader.specs.Walk.{AnyOpenedAt, EndsHere, TurnOf, TakesEnd, IsWalked, WalksTo, FollowsAt, following, IsRest, HasRest, RawElementAt};
+ghost use Rattle.yasna_reader.specs.Walk.{IsEndByte, AnyOpenedAt, EndsHere, TurnsTo, TurnOf, TakesEnd, IsWalked, WalksTo, FollowsAt, following, IsRest, HasRest, RawElementAt};
 
 use crate::bytes::cursor::Cursor;
 use crate::bytes::header::{Opened, Refusal, contents, refuse};
@@ -15,7 +14,6 @@ use yasna_base::bytes::identifier::read_identifier;
 use yasna_base::error::ASN1ErrorKind;
 use yasna_base::mode::BERMode;
 use yasna_base::tag::{PCBit, Tag};
-use yasna_base::tags::TAG_EOC;
 
 /// A raw element at the front of bytes.
 #[derive(Clone, Copy)]
@@ -55,11 +53,12 @@ fn looks_into(mode: BERMode, bit: PCBit) -> bool
     }
 }
 
+// Whether the identifier of the end of contents begins so, of a primitive element or a constructed one.
 #[inline(always)]
-fn is_end(tag: Tag) -> bool
-    ensures { IsTrue result ↔ (tag ≡ end_tag) }
+fn is_end(first: u8) -> bool
+    ensures { IsTrue result ↔ IsEndByte first }
 {
-    tag == TAG_EOC
+    first == 0 || first == 32
 }
 
 // Reads the header of an element of any tag but that of the end of contents.
@@ -67,16 +66,16 @@ fn is_end(tag: Tag) -> bool
 fn open_any(cursor: Cursor<'_>) -> Result<(Tag, Opened<'_>), Refusal>
     ensures { AnyOpenedAt cursor.entry.mode cursor.entry.levels cursor.entry.left.now result }
 {
-    if cursor.left.is_empty() {
+    let [first, ..] = cursor.left else {
         return Err(refuse(ASN1ErrorKind::Eof, false));
+    };
+    if is_end(*first) {
+        return Err(refuse(ASN1ErrorKind::Invalid, false));
     }
     let (tag, bit, rest) = match read_identifier(cursor.left) {
         Ok(identifier) => identifier,
         Err(kind) => return Err(refuse(kind, true)),
     };
-    if is_end(tag) {
-        return Err(refuse(ASN1ErrorKind::Invalid, false));
-    }
     if cursor.levels == 0 {
         return Err(refuse(ASN1ErrorKind::StackOverflow, true));
     }
@@ -115,30 +114,37 @@ fn end_fault(end: Option<&[u8]>, rest: &[u8]) -> ASN1ErrorKind
     }
 }
 
+// What a walk does with an element whose header was read.
+#[inline(always)]
+fn pass_or_enter<'a>(mode: BERMode, opened: Opened<'a>) -> Turn<'a>
+    ensures { TurnsTo mode opened.entry result }
+{
+    match opened.after {
+        None => Turn::Entered(opened),
+        Some(after) => {
+            if looks_into(mode, opened.bit) {
+                Turn::Entered(opened)
+            } else {
+                Turn::Passed(after)
+            }
+        }
+    }
+}
+
 // One step of a walk in an element that ends so.
 #[inline(always)]
 fn take_turn<'a>(cursor: Cursor<'a>, end: Option<&[u8]>) -> Result<Turn<'a>, ASN1ErrorKind>
     ensures { TurnOf cursor.entry.mode cursor.entry.levels (contents_end end.entry) cursor.entry.left.now result }
 {
-    if let Some(after) = ended(end, cursor.left) {
-        return Ok(Turn::Left(after));
-    }
     match open_any(cursor) {
-        Ok((_, opened)) => match opened.after {
-            None => Ok(Turn::Entered(opened)),
-            Some(after) => {
-                if looks_into(cursor.mode, opened.bit) {
-                    Ok(Turn::Entered(opened))
-                } else {
-                    Ok(Turn::Passed(after))
-                }
-            }
-        },
+        Ok((_, opened)) => Ok(pass_or_enter(cursor.mode, opened)),
         Err(refusal) => {
             if refusal.moved {
-                Err(refusal.kind)
-            } else {
-                Err(end_fault(end, cursor.left))
+                return Err(refusal.kind);
+            }
+            match ended(end, cursor.left) {
+                Some(after) => Ok(Turn::Left(after)),
+                None => Err(end_fault(end, cursor.left)),
             }
         }
     }
@@ -173,41 +179,62 @@ fn count_following(opened: &Opened<'_>) -> usize
     }
 }
 
+// A walk that stops for this reason, out of the way of its loop.
+#[cold]
+#[inline(never)]
+fn stopped<'a>(kind: ASN1ErrorKind) -> Result<&'a [u8], ASN1ErrorKind>
+    ensures { result ≡ Err kind }
+{
+    Err(kind)
+}
+
 // Walks over the elements that stand from here on in contents that end so, and answers what follows. A mode walks either
 // contents whose length is counted or those whose length is indefinite, so contents within end in the same way.
+#[inline(always)]
+fn walk_contents<'a>(cursor: Cursor<'a>, end: Option<&'a [u8]>) -> Result<&'a [u8], ASN1ErrorKind>
+    requires shallow { cursor.levels ≤ 100 }
+    requires walked { IsWalked cursor.mode (contents_end end) }
+    ensures { WalksTo cursor.entry.mode cursor.entry.levels (contents_end end.entry) cursor.entry.left.now result }
+{
+    // How many bytes of the outermost contents follow the innermost element; and those around it, each at the number of levels
+    // that are left one element further in.
+    let mut behind: usize = 0;
+    let mut outer: [usize; 100] = [0; 100];
+    let mut left = cursor.left;
+    let mut levels = cursor.levels;
+    loop {
+        match take_turn(cursor.within(left, behind, levels), end) {
+            Ok(Turn::Left(after)) => {
+                if levels == cursor.levels {
+                    return Ok(end.unwrap_or(after));
+                }
+                let rest = last(cursor.left, behind + after.len());
+                behind = outer[usize::from(levels)];
+                levels += 1;
+                left = all_but(rest, behind);
+            }
+            Ok(Turn::Passed(after)) => left = after,
+            Ok(Turn::Entered(opened)) => {
+                levels -= 1;
+                outer[usize::from(levels)] = behind;
+                behind += count_following(&opened);
+                left = opened.within;
+            }
+            Err(kind) => return stopped(kind),
+        }
+    }
+}
+
+// The same, by a loop for each mode: that asks for none at each step.
+#[inline(never)]
 fn walk<'a>(cursor: Cursor<'a>, end: Option<&'a [u8]>) -> Result<&'a [u8], ASN1ErrorKind>
     requires shallow { cursor.levels ≤ 100 }
     requires walked { IsWalked cursor.mode (contents_end end) }
     ensures { WalksTo cursor.entry.mode cursor.entry.levels (contents_end end.entry) cursor.entry.left.now result }
 {
-    // How many bytes of the outermost contents follow the innermost element, and those around it, the nearest last.
-    let mut behind: usize = 0;
-    let mut outer: [usize; 100] = [0; 100];
-    let mut depth: usize = 0;
-    let mut rest = cursor.left;
-    let mut levels = cursor.levels;
-    loop {
-        let here = cursor.within(all_but(rest, behind), behind, levels);
-        match take_turn(here, end) {
-            Ok(Turn::Left(after)) => {
-                if depth == 0 {
-                    return Ok(end.unwrap_or(after));
-                }
-                rest = last(rest, behind + after.len());
-                depth -= 1;
-                levels += 1;
-                behind = outer[depth];
-            }
-            Ok(Turn::Passed(after)) => rest = last(rest, behind + after.len()),
-            Ok(Turn::Entered(opened)) => {
-                outer[depth] = behind;
-                depth += 1;
-                levels -= 1;
-                behind += count_following(&opened);
-                rest = last(rest, behind + opened.within.len());
-            }
-            Err(kind) => return Err(kind),
-        }
+    match cursor.mode {
+        BERMode::Ber => walk_contents(cursor.ruled_by(BERMode::Ber), end),
+        BERMode::Der => walk_contents(cursor.ruled_by(BERMode::Der), end),
     }
 }
 
