@@ -1,5 +1,5 @@
 -- Lengths, by their first byte, and numbers in base 256 (X.690, 8.1.3).
-use Rattle.std.proofs.Common.{◌≡◌, ◌⊎◌, inl, inr, MatchOption, ℕ, ◌+◌, ◌-◌, ◌*◌, ◌^◌, ◌<◌, ◌≤◌, List, [], ◌∷◌, ◌++◌, length, get_or, take, drop, refl, ap, sym, subst, ◌∙◌, arith, Option, Some, None, length-append, take-append-drop, length-drop}
+use Rattle.std.proofs.Common.{◌≡◌, MatchOption, ℕ, ◌+◌, ◌-◌, ◌*◌, ◌^◌, ◌<◌, ◌≤◌, List, [], ◌∷◌, ◌++◌, length, get_or, take, drop, refl, ap, sym, subst, ◌∙◌, arith, Option, Some, None, length-append, take-append-drop, length-drop}
 use Rattle.std.proofs.Math.Seq.{drop-append_seam}
 use Rattle.std.specs.Int.Digits.{number_from_digits, number_from_digits_after}
 use Rattle.std.proofs.lemmas.Int.Digits.{number_after_append, number_after_ge}
@@ -8,7 +8,7 @@ use Rattle.yasna_base.specs.declared.mode.BERMode.TheVariants.{Ber, Der}
 use Rattle.yasna_base.specs.Digits.{IsBytes}
 use Rattle.yasna_base.specs.Length.{SpellsLength}
 use Rattle.yasna_base.proofs.Lists.{fronts_same}
-use Rattle.yasna_base.proofs.Length.{small, large, length_front, length_not_indefinite, not_empty, short_spells, long_spells}
+use Rattle.yasna_base.proofs.Length.{small, large, length_front, not_empty, short_spells, long_spells}
 use Rattle.yasna_reader.specs.Length.{Measures, TakesSpelling, Spells}
 use Rattle.yasna_base.proofs.Digits.{bytes_front}
 
@@ -72,10 +72,9 @@ counted_measured m x s y d r k b e h g n i z =
       j,
     )
 
--- a first byte of 128 counts no digits, nor does 255
-pub none_counted : (m : BERMode) (x : ℕ) (y : List ℕ) → x ≡ 128 ⊎ ((x ≡ 128 → ⊥) × (x ≡ 255)) → (k : ℕ) (r : List ℕ) → Measures m (x ∷ y) (Some k) r → ⊥
-none_counted m x y (inl e) k r w = length_not_indefinite m k w.0 r y w.1 (sym w.2 ∙ ap (λ z. z ∷ y) e)
-none_counted m x y (inr e) k r w = not_counted m x (x ∷ y) y refl (omega (arith, e.1)) (λ ds q i j n z b. omega (arith, e.1, b)) (Some k) r w
+-- a first byte of 255 counts no digits
+pub none_counted : (m : BERMode) (x : ℕ) (y : List ℕ) → x ≡ 255 → (k : ℕ) (r : List ℕ) → Measures m (x ∷ y) (Some k) r → ⊥
+none_counted m x y e k r w = not_counted m x (x ∷ y) y refl (omega (arith, e)) (λ ds q i j n z b. omega (arith, e, b)) (Some k) r w
 
 -- fewer digits than are counted spell none
 pub none_left : (m : BERMode) (x : ℕ) (y : List ℕ) → 128 < x → length y < x - 128 → (k : ℕ) (r : List ℕ) → Measures m (x ∷ y) (Some k) r → ⊥

@@ -62,14 +62,14 @@ fn size_of(digits: &[u8], mode: BERMode) -> Option<usize>
     }
 }
 
-// The length that digits spell behind a first byte of 128 or more, which counts them, where a mode takes it so.
+// The length that digits spell behind a first byte above 128, which counts them, where a mode takes it so.
 #[cold]
 #[inline(never)]
 fn long_size(first: u8, s: &[u8], mode: BERMode) -> Option<usize>
-    requires { 128 ≤ first }
+    requires { 128 < first }
     ensures { MatchOption result ((k : ℕ) (r : List ℕ) → Measures mode (first ∷ s.now) (Some k) r → ⊥) (λ k. (first - 128 ≤ length s.now) × Measures mode (first ∷ s.now) (Some k) (drop (first - 128) s.now)) }
 {
-    if first == 128 || first == 255 {
+    if first == 255 {
         return None;
     }
     match cut(s, usize::from(first - 128)) {
@@ -82,18 +82,16 @@ fn long_size(first: u8, s: &[u8], mode: BERMode) -> Option<usize>
 #[cold]
 #[inline(never)]
 fn long_fault(first: u8, s: &[u8]) -> ASN1ErrorKind
-    requires { 128 ≤ first }
+    requires { 128 < first }
     ensures { IsPlain result }
 {
-    if first == 255 {
-        return ASN1ErrorKind::Invalid;
-    }
     match cut(s, usize::from(first - 128)) {
-        Some((digits, _)) => match number_of(digits) {
+        Some((digits, _)) if first < 255 => match number_of(digits) {
             Some(_) => ASN1ErrorKind::Invalid,
             None => ASN1ErrorKind::Eof,
         },
-        None => ASN1ErrorKind::Eof,
+        None if first < 255 => ASN1ErrorKind::Eof,
+        _ => ASN1ErrorKind::Invalid,
     }
 }
 
@@ -103,15 +101,12 @@ fn read_long(first: u8, s: &[u8], mode: BERMode) -> Result<(Option<usize>, &[u8]
     requires { 128 ≤ first }
     ensures { LengthAt mode (first ∷ s.now) result }
 {
+    if first == 128 {
+        return Ok((None, s));
+    }
     match long_size(first, s, mode) {
         Some(size) => Ok((Some(size), &s[usize::from(first - 128)..])),
-        None => {
-            if first == 128 {
-                Ok((None, s))
-            } else {
-                Err(long_fault(first, s))
-            }
-        }
+        None => Err(long_fault(first, s)),
     }
 }
 

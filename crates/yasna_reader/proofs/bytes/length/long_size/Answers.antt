@@ -3,8 +3,8 @@ use Rattle.yasna_base.proofs.Digits.{slice_bytes}
 use Rattle.yasna_reader.proofs.Length.{none_counted, none_left, digits_measured}
 use Rattle.yasna_reader.proofs.bytes.length.long_size.Goals as goal
 
-pub returns-then-first-eq128 : goal.returns-then-first-eq128
-returns-then-first-eq128 c = none_counted c.args.mode c.args.first c.args.s.now c.then-first-eq128.either
+pub returns-then-first-eq255 : goal.returns-then-first-eq255
+returns-then-first-eq255 c = none_counted c.args.mode c.args.first c.args.s.now c.if-first-eq255.true
 
 pub returns-in-Some : goal.returns-in-Some
 returns-in-Some c =
