@@ -13,7 +13,7 @@ use Rattle.yasna_base.proofs.Pieces.{tag_not_end}
 use Rattle.yasna_reader.specs.declared.bytes.header.Refusal.{Refusal}
 use Rattle.yasna_reader.specs.Header.{Holds, HasHeader, AnyBit, EndsAt, contents_end}
 use Rattle.yasna_reader.specs.Refusal.{IsPlain}
-use Rattle.yasna_reader.specs.Walk.{IsEndByte, NoHeader, NotOpened, IsOpened, HasOpened, TurnsTo, TurnOf, Stops}
+use Rattle.yasna_reader.specs.Walk.{IsEndByte, NoHeader, NotOpened, IsOpened, TurnsTo, TurnOf, Stops}
 use Rattle.yasna_reader.specs.declared.bytes.header.Opened.{Opened}
 use Rattle.yasna_reader.specs.declared.bytes.walk.Turn.{Turn}
 use Rattle.yasna_reader.specs.declared.bytes.walk.Turn.TheVariants.{Left, Passed, Entered}
@@ -96,19 +96,20 @@ first_not_end s r t Primitive n e f = n (inl (ap (λ b. get_or b 0 0) (e ∙ ap 
 first_not_end s r t Constructed n e f = n (inr (ap (λ b. get_or b 0 0) (e ∙ ap (λ u. identifier u Constructed ++ r) f ∙ constructed_end r)))
 
 -- what a walk does with a header
-pub turns_to : (m : BERMode) (n : ℕ) (e : ContentsEnd) (s : List ℕ) (o : Opened) (t : Turn) → HasOpened m n s o → TurnsTo m o t → TurnOf m n e s (Ok t)
-turns_to m n e s o (Left a) x y = absurd y
-turns_to m n e s o (Passed a) x y = record {
-  tag = x.0;
+pub turns_to : (m : BERMode) (n : ℕ) (e : ContentsEnd) (s : List ℕ) (u : Tag) (o : Opened) (t : Turn) →
+    IsOpened m n s u o.bit o.within.now (contents_end o.after) → TurnsTo m o t → TurnOf m n e s (Ok t)
+turns_to m n e s u o (Left a) x y = absurd y
+turns_to m n e s u o (Passed a) x y = record {
+  tag = u;
   bit = o.bit;
   contents = o.within.now;
-  opened = subst (λ z. IsOpened m n s x.0 o.bit o.within.now z) y.0 x.1;
+  opened = subst (λ z. IsOpened m n s u o.bit o.within.now z) y.0 x;
   closed = y.1;
 }
-turns_to m n e s o (Entered i) x y = record {
-  tag = x.0;
+turns_to m n e s u o (Entered i) x y = record {
+  tag = u;
   bit = i.bit;
-  opened = subst (λ (z : Opened). IsOpened m n s x.0 z.bit z.within.now (contents_end z.after)) (sym y.0) x.1;
+  opened = subst (λ (z : Opened). IsOpened m n s u z.bit z.within.now (contents_end z.after)) (sym y.0) x;
   looks = y.1;
 }
 

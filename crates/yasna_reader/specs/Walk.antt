@@ -47,10 +47,6 @@ abbrev pub AnyOpenedAt : BERMode → ℕ → List ℕ → Result (Tag × Opened)
 AnyOpenedAt m n s (Ok x) = IsOpened m n s x.0 x.1.bit x.1.within.now (contents_end x.1.after)
 AnyOpenedAt m n s (Err e) = NotOpened m n s e
 
--- a header of some tag was read
-abbrev pub HasOpened : BERMode → ℕ → List ℕ → Opened → Type 0
-HasOpened m n s o = (t : Tag) × IsOpened m n s t o.bit o.within.now (contents_end o.after)
-
 -- an element isn't looked into, and r follows it
 pub record Passes (m : BERMode) (n : ℕ) (s r : List ℕ) : Type 0 where
   pub tag : Tag

@@ -92,15 +92,15 @@ impl<'a> Cursor<'a> {
 
     /// The same place, by these rules.
     #[inline(always)]
-    pub fn ruled_by(self, mode: BERMode) -> Cursor<'a>
+    pub fn ruled_by(self, rules: BERMode) -> Cursor<'a>
         ensures left { result.left.now ≡ self.entry.left.now }
-        ensures mode { result.mode ≡ mode }
+        ensures mode { result.mode ≡ rules }
         ensures levels { result.levels ≡ self.entry.levels }
     {
         Cursor {
             left: self.left,
             end: self.end,
-            mode,
+            mode: rules,
             levels: self.levels,
         }
     }

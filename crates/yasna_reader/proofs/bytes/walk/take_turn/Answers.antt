@@ -4,8 +4,8 @@ use Rattle.yasna_reader.proofs.RawHeader.{stops_behind, stops_at_end, turns_to}
 use Rattle.yasna_reader.proofs.bytes.walk.take_turn.Goals as goal
 
 pub returns-in-Ok : goal.returns-in-Ok
-returns-in-Ok c = turns_to c.args.cursor.mode c.args.cursor.levels (contents_end c.args.end) c.args.cursor.left.now c.in-Ok.opened _
-    (c.in-Ok.field-0-0, c.in-Ok.ensures {u = tt}) c.pass_or_enter.ensures
+returns-in-Ok c = turns_to c.args.cursor.mode c.args.cursor.levels (contents_end c.args.end) c.args.cursor.left.now
+    c.in-Ok.field-0-0 c.in-Ok.opened _ (c.in-Ok.ensures {u = tt}) c.pass_or_enter.ensures
 
 pub returns-then-refusal : goal.returns-then-refusal
 returns-then-refusal c = stops_behind c.args.cursor.mode c.args.cursor.levels (contents_end c.args.end) c.args.cursor.left.now c.in-Err.refusal
