@@ -1,6 +1,6 @@
 //! The pieces of code of README.md and docs/GUIDE.md, which stand there word for word: `ci/guide.sh` compares them.
 //!
-//! A file is a section. Its functions have no contract: they are proved safe, and the tests run them on real bytes.
+//! A file is a section. Its functions have no contract: they are proved safe, and `yasna_tests` runs them on real bytes.
 
 pub mod any;
 pub mod choice;

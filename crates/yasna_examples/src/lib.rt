@@ -1,6 +1,7 @@
 //! What a user of `yasna` writes, and what is proved of it.
 //!
-//! The crate stands on `yasna` alone, as a user's does: its contracts and proofs name only what `yasna` hands on.
+//! The crate stands on `yasna` alone, as a user's does: its contracts and proofs name only what `yasna` hands on. The tests
+//! of it are in `yasna_tests`.
 //!
 //! | Module | Holds |
 //! |---|---|
@@ -15,13 +16,11 @@
 #![tactic(auto)]
 
 mod choice;
-mod guide;
+pub mod guide;
 mod known;
 mod public_key;
 mod records;
 mod scrypt;
-#[cfg(test)]
-mod tests;
 mod third_party;
 mod times;
 mod tree;

@@ -44,6 +44,3 @@ pub use construct::{construct_der, construct_der_seq, try_construct_der, try_con
 pub use sequence::DERWriterSeq;
 pub use set::DERWriterSet;
 pub use state::{DERWriter, Writer};
-
-#[cfg(test)]
-mod tests;

@@ -1,11 +1,10 @@
 //! Types of three, five and seven parts, each from its form and from another encoding.
 
-use crate::third_party::normalized;
-use crate::{DirectoryEntry, DomainParameters, RequestHeader};
 use std::alloc::Global;
 use std::process::Abort;
 use std::test::Fail;
 use yasna::{ASN1ErrorKind, ASN1Result, DERCanonical, decode_der};
+use yasna_examples::{DirectoryEntry, DomainParameters, RequestHeader, normalized};
 
 // The form is read and written again, and so is the other encoding, which DER refuses.
 fn is_form_of<T: DERCanonical>(

@@ -1,6 +1,5 @@
 //! Lists, tuples, raw elements and borrowed values, each impl once at types of its own.
 
-use crate::third_party::normalized;
 use std::alloc::Global;
 use std::process::Abort;
 use std::test::Fail;
@@ -8,6 +7,7 @@ use yasna::models::TaggedDerValue;
 use yasna::{
     ASN1ErrorKind, ASN1Result, DERCanonical, PCBit, decode_ber, decode_der, encode_der, tags,
 };
+use yasna_examples::normalized;
 
 // A SEQUENCE of so many INTEGERs, 0, 1 and so on, is a value of this type, and its form.
 fn is_form_of<T: DERCanonical>(rt: &impl Abort, alloc: Global, count: u8) -> Result<(), Fail> {

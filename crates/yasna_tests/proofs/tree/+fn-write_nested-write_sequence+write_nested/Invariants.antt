@@ -1,5 +1,5 @@
 use Rattle.std.proofs.Common.{◌+◌}
-use Rattle.yasna_examples.proofs.tests.tree.+fn-write_nested-write_sequence+write_nested.Given as goal
+use Rattle.yasna_tests.proofs.tree.+fn-write_nested-write_sequence+write_nested.Given as goal
 
 abbrev pub decreases-write_sequence : goal.decreases-write_sequence
 decreases-write_sequence l = l.below + l.below + 1

@@ -1,9 +1,8 @@
 //! The parameters of scrypt, from real bytes, with the last part and without.
 
-use crate::ScryptParameters;
-use crate::third_party::normalized;
 use std::test::Fail;
 use yasna::{ASN1ErrorKind, ASN1Result, decode_ber, decode_der};
+use yasna_examples::{ScryptParameters, normalized};
 
 // Those of the key in RFC 7914, 13.
 const WITHOUT_LENGTH: [u8; 20] = [

@@ -1,6 +1,5 @@
 //! Trees, and elements as deep as they may nest, by a type that refers to itself and by functions that call themselves.
 
-use crate::Tree;
 use std::alloc::{AllocError, Global};
 use std::process::Abort;
 use std::test::Fail;
@@ -8,6 +7,7 @@ use yasna::{
     ASN1ErrorKind, ASN1Result, BERMode, BERReaderSeq, DERWriterSeq, construct_der_seq, decode_ber,
     decode_ber_general, decode_der, parse_ber_general,
 };
+use yasna_examples::Tree;
 
 // Writes so many SEQUENCEs, one in the other.
 fn write_nested(seq: &mut DERWriterSeq, depth: u8) -> ASN1Result<()> {

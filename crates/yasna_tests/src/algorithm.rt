@@ -1,12 +1,12 @@
 //! AlgorithmIdentifier, with parameters of several types and without, and keys with it.
 
-use crate::tests::public_key::{ED25519, RSA};
-use crate::{AlgorithmIdentifier, SubjectPublicKeyInfo, encoded_key};
+use crate::public_key::{ED25519, RSA};
 use std::alloc::Global;
 use std::process::Abort;
 use std::test::Fail;
 use yasna::models::TaggedDerValue;
 use yasna::{ASN1ErrorKind, ASN1Result, decode_ber, decode_der, encode_der, tags};
+use yasna_examples::{AlgorithmIdentifier, SubjectPublicKeyInfo, encoded_key};
 
 // An algorithm is read from its form, and written in it.
 fn is_form(

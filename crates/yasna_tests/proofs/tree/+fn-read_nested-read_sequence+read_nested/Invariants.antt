@@ -1,5 +1,5 @@
 use Rattle.std.proofs.Common.{◌+◌}
-use Rattle.yasna_examples.proofs.tests.tree.+fn-read_nested-read_sequence+read_nested.Given as goal
+use Rattle.yasna_tests.proofs.tree.+fn-read_nested-read_sequence+read_nested.Given as goal
 
 abbrev pub decreases-read_sequence : goal.decreases-read_sequence
 decreases-read_sequence l = l.below + l.below + 1

@@ -1,10 +1,10 @@
-//! What vectors can't say: long tags, writers that a closure exchanges, and how the contents of strings are put together.
-use crate::construct_der;
-use crate::header::{Header, append_header};
+//! What vectors can't say of writing: long tags, writers that a closure exchanges, and how the contents of strings are put
+//! together.
+
 use std::mem;
 use std::process::Abort;
 use std::test::Fail;
-use yasna_base::{ASN1Error, ASN1ErrorKind, ASN1Result, PCBit, Tag, TagClass};
+use yasna::{ASN1Error, ASN1ErrorKind, ASN1Result, Tag, TagClass, construct_der};
 
 // A writing answered just these bytes.
 fn is_written(rt: &impl Abort, written: ASN1Result<Vec<u8>>, bytes: &[u8]) {
@@ -14,15 +14,18 @@ fn is_written(rt: &impl Abort, written: ASN1Result<Vec<u8>>, bytes: &[u8]) {
     }
 }
 
+// A tag of three bytes, around an element of 128.
 #[test]
 fn long_tags(rt: HostRuntime) -> Result<(), Fail> {
-    let mut out = Vec::new(rt.alloc());
     let tag = Tag {
         tag_class: TagClass::ContextSpecific,
         tag_number: 345678,
     };
-    append_header(&mut out, Header { tag, length: 128 }, PCBit::Constructed)?;
-    assert_eq!(rt; out.as_slice(), &[191, 149, 140, 78, 129, 128][..]);
+    let written = construct_der(rt.alloc(), |writer| {
+        writer.write_tagged(tag, |part| part.write_bytes(&[91; 126]))
+    })?;
+    assert_eq!(rt; written.len(), 134);
+    assert!(rt; written.starts_with(&[191, 149, 140, 78, 129, 128, 4, 126, 91]));
     Ok(())
 }
 

@@ -1,11 +1,11 @@
 //! Both times, each call once, and what no contract says of their orders, hashes and copies.
 
-use crate::{as_generalized_time, remade_utc_time, without_leap_second};
 use std::cmp::Ordering;
 use std::hash::{BuildHasher, BuildHasherDefault, FoldHasher};
 use std::process::Abort;
 use std::test::Fail;
 use yasna::models::{GeneralizedTime, Offset, UTCTime};
+use yasna_examples::{as_generalized_time, remade_utc_time, without_leap_second};
 
 const EVENING: &[u8] = b"19851106210627.3Z";
 

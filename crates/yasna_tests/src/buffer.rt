@@ -1,0 +1,28 @@
+//! The bytes that a read took.
+
+use std::alloc::Global;
+use std::test::Fail;
+use yasna::{ASN1Result, BERReader, BERReaderSeq, parse_der};
+
+// The first part, a number, and the bytes of its element.
+fn number_and_bytes<'a>(parts: &mut BERReaderSeq<'a, '_>) -> ASN1Result<(i64, &'a [u8])> {
+    parts.read_with_buffer(|parts| parts.next().read_i64())
+}
+
+fn first_number_and_bytes<'a>(reader: BERReader<'a, '_>) -> ASN1Result<(i64, &'a [u8])> {
+    reader.read_sequence(number_and_bytes)
+}
+
+// The bytes outlive the reading that they were taken by.
+fn bytes_of_number(alloc: Global, input: &[u8]) -> ASN1Result<&[u8]> {
+    let (_, bytes) = parse_der(alloc, input, first_number_and_bytes)?;
+    Ok(bytes)
+}
+
+#[test]
+fn bytes_outlive_their_reading(rt: HostRuntime) -> Result<(), Fail> {
+    let input = [48, 4, 2, 2, 1, 44];
+    let bytes = bytes_of_number(rt.alloc(), &input)?;
+    assert_eq!(rt; bytes, [2, 2, 1, 44].as_slice());
+    Ok(())
+}

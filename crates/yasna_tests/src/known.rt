@@ -1,0 +1,79 @@
+//! Calls whose closures are known, and a list of a CHOICE.
+
+use std::test::Fail;
+use yasna::{ASN1ErrorKind, ASN1Result, construct_der};
+use yasna_examples::{
+    constructed_integer, parsed_integer, parsed_items, parsed_numbers, parsed_pair,
+};
+
+#[test]
+fn integers(rt: HostRuntime) -> Result<(), Fail> {
+    let alloc = rt.alloc();
+    let bytes = constructed_integer(alloc, -129)?;
+    assert_eq!(rt; bytes.as_slice(), [2, 2, 255, 127].as_slice());
+    assert_eq!(rt; parsed_integer(alloc, &bytes)?, -129);
+    let refused = parsed_integer(alloc, &[10, 1, 13]);
+    assert_eq!(rt;
+        refused.err().map(|error| error.kind()),
+        Some(ASN1ErrorKind::Invalid)
+    );
+    Ok(())
+}
+
+#[test]
+fn pairs(rt: HostRuntime) -> Result<(), Fail> {
+    let alloc = rt.alloc();
+    let pair = parsed_pair(alloc, &[48, 6, 2, 1, 10, 1, 1, 255])?;
+    assert_eq!(rt; pair, (10, true));
+    let refused = parsed_pair(alloc, &[48, 6, 2, 1, 10, 1, 1, 1]);
+    assert_eq!(rt;
+        refused.err().map(|error| error.kind()),
+        Some(ASN1ErrorKind::Invalid)
+    );
+    Ok(())
+}
+
+#[test]
+fn numbers(rt: HostRuntime) -> Result<(), Fail> {
+    let alloc = rt.alloc();
+    let numbers = parsed_numbers(alloc, &[48, 7, 2, 1, 10, 2, 2, 255, 127])?;
+    assert_eq!(rt; numbers.as_slice(), [10, -129].as_slice());
+    let none = parsed_numbers(alloc, &[48, 0])?;
+    assert!(rt; none.is_empty());
+    let refused = parsed_numbers(alloc, &[48, 5, 2, 1, 10, 5, 0]);
+    assert_eq!(rt;
+        refused.err().map(|error| error.kind()),
+        Some(ASN1ErrorKind::Extra)
+    );
+    Ok(())
+}
+
+#[test]
+fn many_numbers(rt: HostRuntime) -> Result<(), Fail> {
+    let alloc = rt.alloc();
+    let bytes = construct_der(alloc, |writer| {
+        writer.write_sequence_of(|list| -> ASN1Result<()> {
+            for number in 0..100_000i64 {
+                list.next().write_i64(number)?;
+            }
+            Ok(())
+        })
+    })?;
+    let numbers = parsed_numbers(alloc, &bytes)?;
+    assert_eq!(rt; numbers.len(), 100_000);
+    assert_eq!(rt; numbers.as_slice().last(), Some(&99_999));
+    Ok(())
+}
+
+#[test]
+fn items(rt: HostRuntime) -> Result<(), Fail> {
+    let alloc = rt.alloc();
+    let items = parsed_items(alloc, &[48, 5, 2, 1, 10, 5, 0])?;
+    assert_eq!(rt; items.as_slice(), [Some(10), None].as_slice());
+    let refused = parsed_items(alloc, &[48, 3, 1, 1, 255]);
+    assert_eq!(rt;
+        refused.err().map(|error| error.kind()),
+        Some(ASN1ErrorKind::Extra)
+    );
+    Ok(())
+}

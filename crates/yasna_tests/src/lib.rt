@@ -1,0 +1,50 @@
+//! Tests of the public calls of `yasna`, and of the examples in `yasna_examples`.
+//!
+//! They are a crate of their own, since a crate with tests is proved twice. Each has ample memory.
+//!
+//! | Module | Holds tests of |
+//! |---|---|
+//! | `algorithm`, `public_key` | keys and their algorithms, as types of one's own and by closures |
+//! | `buffer` | the bytes that a read took |
+//! | `composed` | lists, tuples, raw elements and borrowed values |
+//! | `guide` | the pieces of code of README.md and docs/GUIDE.md |
+//! | `known` | calls whose closures are known |
+//! | `oid` | object identifiers |
+//! | `records`, `scrypt`, `third_party` | types of one's own |
+//! | `sets` | sets, read and written by closures |
+//! | `set_writing` | the order of a SET's parts, and broken ones |
+//! | `times` | both times |
+//! | `tree` | a type that refers to itself, and elements as deep as they may nest |
+//! | `writing` | long tags, exchanged writers, strings whose contents come in pieces |
+#![tactic(auto)]
+
+#[cfg(test)]
+mod algorithm;
+#[cfg(test)]
+mod buffer;
+#[cfg(test)]
+mod composed;
+#[cfg(test)]
+mod guide;
+#[cfg(test)]
+mod known;
+#[cfg(test)]
+mod oid;
+#[cfg(test)]
+mod public_key;
+#[cfg(test)]
+mod records;
+#[cfg(test)]
+mod scrypt;
+#[cfg(test)]
+mod set_writing;
+#[cfg(test)]
+mod sets;
+#[cfg(test)]
+mod third_party;
+#[cfg(test)]
+mod times;
+#[cfg(test)]
+mod tree;
+#[cfg(test)]
+mod writing;
