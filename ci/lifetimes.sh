@@ -8,8 +8,8 @@ trap 'rm -rf "$work"' EXIT
 mkdir "$work/crates" "$work/crates/misuse" "$work/crates/misuse/src"
 git init -q "$work"
 cp HANDLES "$work/"
-{ grep -E '^yasna(_base|_reader|_writer)?:' crates.txt; echo 'misuse: yasna'; } > "$work/crates.txt"
-for name in yasna_base yasna_reader yasna_writer yasna; do
+{ grep -E '^yasna(_base|_times|_bytes|_reader|_writer)?:' crates.txt; echo 'misuse: yasna'; } > "$work/crates.txt"
+for name in yasna_base yasna_times yasna_bytes yasna_reader yasna_writer yasna; do
     mkdir "$work/crates/$name"
     for part in src specs proofs; do
         [ ! -d "crates/$name/$part" ] || cp -r "crates/$name/$part" "$work/crates/$name/"

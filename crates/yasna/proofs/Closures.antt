@@ -23,8 +23,8 @@ use Rattle.yasna_reader.specs.SequenceOf.{Collects}
 use Rattle.yasna_reader.specs.Decodes.{Decodes, Decoded}
 use Rattle.yasna_reader.specs.Primitive.{ReadsSeen, Reads, NoLevel}
 use Rattle.yasna_reader.specs.Raw.{ReadsRaw}
-use Rattle.yasna_reader.specs.Contents.{Never, WantsMemory}
-use Rattle.yasna_reader.specs.Segments.{bits_in}
+use Rattle.yasna_bytes.specs.Contents.{Never, WantsMemory}
+use Rattle.yasna_bytes.specs.Segments.{bits_in}
 use Rattle.yasna_reader.specs.State.{Reading, IsFresh, starts, part_of}
 use Rattle.yasna_reader.proofs.Listing.{collects}
 use Rattle.yasna_reader.proofs.OptionalParts.{IsContentsDecoder, contents_sequence}

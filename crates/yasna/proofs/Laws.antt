@@ -4,7 +4,7 @@ use Rattle.yasna_base.specs.Bits.{IsBits}
 use Rattle.yasna_base.specs.Coding.{IsCoding, Any}
 use Rattle.yasna_base.specs.Identifier.{universal}
 use Rattle.yasna_base.proofs.Bits.{bits_coding}
-use Rattle.yasna_reader.specs.Segments.{bits_in}
+use Rattle.yasna_bytes.specs.Segments.{bits_in}
 pub use Rattle.yasna_base.proofs.Coding.{along, enclosed, parts_contents, primitively, primitively_begins, equal_same, same_as}
 pub use Rattle.yasna_base.proofs.Choice.{apart_by_tags, choice}
 pub use Rattle.yasna_base.proofs.Sequence.{no_part, part, tuple, no_part_written, part_written, tuple_written}
@@ -17,7 +17,7 @@ pub use Rattle.yasna_base.proofs.Boolean.{bool_coding, bool_written}
 pub use Rattle.yasna_base.proofs.Enumerated.{enumerated_coding, enumerated_written}
 pub use Rattle.yasna_base.proofs.Oid.{oid_coding, oid_written}
 pub use Rattle.yasna_base.proofs.Raw.{raw_coding}
-pub use Rattle.yasna_base.proofs.TimeLaws.{utc_coding, utc_written, general_coding, general_written}
+pub use Rattle.yasna_times.proofs.TimeLaws.{utc_coding, utc_written, general_coding, general_written}
 pub use Rattle.yasna_base.proofs.Null.{unit_coding, unit_written}
 pub use Rattle.yasna_base.proofs.Octets.{vec_coding, vec_written}
 pub use Rattle.yasna_base.proofs.Texts.{text_coding, text_written, ascii_text}

@@ -52,12 +52,14 @@
 //! |---|---|
 //! | `traits` | what a type says that is read and written as a whole |
 //! | `whole` | whole inputs and outputs, and what is proved of them for every such type |
+//! | `models` | object identifiers, times and raw elements |
 //! | `sets` | what is proved of SET OF values of every such type |
 //! | `primitive`, `strings`, `borrowed`, `oid`, `times`, `raw`, `lists`, `tuples` | the types that come with the crate |
 #![tactic(auto)]
 
 mod borrowed;
 mod lists;
+pub mod models;
 mod oid;
 mod primitive;
 mod raw;
@@ -75,8 +77,8 @@ pub use whole::{decode_ber, decode_ber_general, decode_der, encode_der, one_form
 pub use yasna_base::error::{ASN1Error, ASN1ErrorKind, ASN1Result};
 pub use yasna_base::mode::BERMode;
 pub use yasna_base::tag::{PCBit, Tag, TagClass};
+pub use yasna_base::tags;
 pub use yasna_base::text::{is_numeric_text, is_printable_text, is_visible_text};
-pub use yasna_base::{models, tags};
 pub use yasna_reader::{
     BERReader, BERReaderSeq, BERReaderSet, parse_ber, parse_ber_general, parse_der,
 };

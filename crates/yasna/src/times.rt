@@ -2,16 +2,16 @@
 ghost use Rattle.std.specs.Prelude.{◌≡◌, true};
 ghost use Rattle.yasna_base.specs.Canonical.{leaf_nest, Always};
 ghost use Rattle.yasna_base.specs.Coding.{Any};
-ghost use Rattle.yasna_base.specs.GeneralizedTime.{EncodesGeneralizedTime, generalized_time_form};
+ghost use Rattle.yasna_times.specs.GeneralizedTime.{EncodesGeneralizedTime, generalized_time_form};
 ghost use Rattle.yasna_base.specs.Identifier.{universal};
-ghost use Rattle.yasna_base.specs.Models.{EncodesUtc, EncodesGeneral, utc_of, moment_of};
-ghost use Rattle.yasna_base.specs.UtcTime.{EncodesUtcTime, utc_time_form};
-ghost use Rattle.yasna_base.proofs.TimeLaws.{utc_coding, utc_written, general_coding, general_written};
+ghost use Rattle.yasna_times.specs.Models.{EncodesUtc, EncodesGeneral, utc_of, moment_of};
+ghost use Rattle.yasna_times.specs.UtcTime.{EncodesUtcTime, utc_time_form};
+ghost use Rattle.yasna_times.proofs.TimeLaws.{utc_coding, utc_written, general_coding, general_written};
 
 use crate::traits::{BERDecodable, DERCanonical, DEREncodable};
 use yasna_base::error::ASN1Result;
-use yasna_base::models::{GeneralizedTime, UTCTime};
 use yasna_reader::BERReader;
+use yasna_times::models::{GeneralizedTime, UTCTime};
 use yasna_writer::DERWriter;
 
 impl BERDecodable for UTCTime {

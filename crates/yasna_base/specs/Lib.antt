@@ -32,10 +32,3 @@ pub mod SetWriting
 pub mod Octets
 pub mod Bits
 pub mod Text
-pub mod Decimal
-pub mod Zone
-pub mod Fraction
-pub mod Moment
-pub mod UtcTime
-pub mod GeneralizedTime
-pub mod Models

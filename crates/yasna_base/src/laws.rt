@@ -6,8 +6,7 @@ ghost use Rattle.std.specs.Prelude.{◌≡◌, ◌<◌, ◌^◌, ℕ, List, leng
 ghost use Rattle.std.specs.Int.{w64};
 ghost use Rattle.std.specs.List.{AllByRecursion};
 ghost use Rattle.std.specs.Cmp.Lexicographic.{slice_cmp};
-ghost use Rattle.std.specs.Ordering.{nat_cmp, int_cmp, bool_cmp, ordering_then};
-ghost use Rattle.jiff.specs.Words.{civil_nanos};
+ghost use Rattle.std.specs.Ordering.{nat_cmp, ordering_then};
 ghost use Rattle.yasna_base.specs.declared.mode.BERMode.TheVariants.{Ber, Der};
 ghost use Rattle.yasna_base.specs.declared.mode.BERMode.{BERMode};
 ghost use Rattle.yasna_base.specs.declared.tag.Tag.{Tag};
@@ -34,14 +33,9 @@ ghost use Rattle.yasna_base.specs.TaggedDerValue.{raw_of};
 ghost use Rattle.yasna_base.specs.Raw.{RawKeepsReadingLaws, TooDeepIsNotRaw};
 ghost use Rattle.yasna_base.specs.SetLaws.{SetKeepsReadingLaws, SetOfOrderIsOne, SetOrderIsOne, SetContentsAreOne};
 ghost use Rattle.yasna_base.specs.SetWriting.{SetOfKeepsLaws, SetOfRawKeepsReadingLaws, SetKeepsWritingLaws};
-ghost use Rattle.yasna_base.specs.UtcTime.{UtcTextsAreExact, UtcTimeKeepsLaws};
-ghost use Rattle.yasna_base.specs.GeneralizedTime.{GeneralTextsAreExact, GeneralizedTimeKeepsLaws};
-ghost use Rattle.yasna_base.specs.declared.models.utc_time.UTCTime.{UTCTime};
-ghost use Rattle.yasna_base.specs.declared.models.generalized_time.GeneralizedTime.{GeneralizedTime};
-ghost use Rattle.yasna_base.specs.Models.{TimesAreMoments, utc_of, moment_of};
 
 use crate::mode::BERMode;
-use crate::models::{GeneralizedTime, ObjectIdentifier, ParseOidError, TaggedDerValue, UTCTime};
+use crate::models::{ObjectIdentifier, ParseOidError, TaggedDerValue};
 use crate::tag::{PCBit, Tag, TagClass};
 use crate::tags::{
     TAG_BITSTRING, TAG_BMPSTRING, TAG_BOOLEAN, TAG_DATE, TAG_DATE_TIME, TAG_DURATION,
@@ -216,33 +210,6 @@ pub fn oid_is_read_again(
         Err(_) => Err(ParseOidError::lack()),
     }
 }
-
-/// A text of a time says one moment, of the ranges of its type, and the canonical text of a moment says it.
-pub fn texts_of_times()
-    ensures utc { UtcTextsAreExact }
-    ensures general { GeneralTextsAreExact }
-{}
-
-/// Times of one moment are one, and print the same bytes.
-pub fn moments()
-    ensures { TimesAreMoments }
-{}
-
-/// Both times keep the laws of reading and of writing, as `simple_types` says them, however BER cuts their texts into
-/// pieces.
-pub fn times()
-    ensures utc { UtcTimeKeepsLaws }
-    ensures general { GeneralizedTimeKeepsLaws }
-{}
-
-/// UTCTimes are ordered as they come. GeneralizedTimes are ordered by their date-times, which show second 60 as 59, then by
-/// the digits behind the nanosecond, then by whether the second is 60. Times are equal where they are one moment.
-pub fn time_orders()
-    ensures utc { (a b : UTCTime) → ⟦<UTCTime as Ord>⟧.cmp a b ≡ int_cmp (civil_nanos (utc_of a)) (civil_nanos (utc_of b)) }
-    ensures utc_equality { (a b : UTCTime) → IsTrue (⟦<UTCTime as PartialEq>⟧.eq a b) ↔ (utc_of a ≡ utc_of b) }
-    ensures general { (a b : GeneralizedTime) → ⟦<GeneralizedTime as Ord>⟧.cmp a b ≡ ordering_then (int_cmp (civil_nanos a.datetime) (civil_nanos b.datetime)) (ordering_then (slice_cmp nat_cmp a.sub_nano.items b.sub_nano.items) (bool_cmp a.is_leap_second b.is_leap_second)) }
-    ensures general_equality { (a b : GeneralizedTime) → IsTrue (⟦<GeneralizedTime as PartialEq>⟧.eq a b) ↔ (moment_of a ≡ moment_of b) }
-{}
 
 /// Sets keep the laws of writing, under any tag but that of the end of contents, and SET OF those of reading too.
 ///

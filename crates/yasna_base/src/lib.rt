@@ -7,7 +7,7 @@
 //! | `error` | why a reading or a writing was refused |
 //! | `laws` | what is proved of the grammar itself |
 //! | `mode` | by which of the rules of X.690 bytes are read |
-//! | `models` | values of ASN.1 that Rust has no type for: object identifiers, times and raw elements |
+//! | `models` | values of ASN.1 that Rust has no type for: object identifiers and raw elements |
 //! | `tag` | identifiers: class, number, and whether the contents are constructed |
 //! | `tags` | the universal tags, by name |
 //! | `text` | which characters the classes of text take |

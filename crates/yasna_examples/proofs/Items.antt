@@ -11,7 +11,7 @@ use Rattle.yasna.specs.base.Identifier.{universal, BeginsWithTag}
 use Rattle.yasna.specs.base.Integer.{IsSigned, EncodesSigned}
 use Rattle.yasna.specs.base.Null.{IsNull, EncodesNull}
 use Rattle.yasna.specs.base.declared.error.ASN1Error.{ASN1Error}
-use Rattle.yasna.specs.reader.Contents.{Never}
+use Rattle.yasna.specs.bytes.Contents.{Never}
 use Rattle.yasna.specs.reader.Decodes.{Decodes}
 use Rattle.yasna.specs.reader.Primitive.{Reads, NoLevel}
 use Rattle.yasna.specs.reader.State.{Reading, IsFresh}

@@ -2,14 +2,14 @@
 use Rattle.std.proofs.Common.{◌≡◌, ◌∙◌, ◌<◌, ap, refl, ℕ, List, pos, Bool, true, false, [], ◌++◌, ◌==◌, if◌then◌else◌, arith}
 use Rattle.std.proofs.lemmas.Bool.Decides.{nat_tests}
 use Rattle.std.proofs.lemmas.Int.{ints}
-use Rattle.yasna.specs.base.declared.models.generalized_time.GeneralizedTime.{GeneralizedTime}
-use Rattle.yasna.specs.base.Fraction.{nine_digits, trimmed}
-use Rattle.yasna.specs.base.GeneralizedTime.{IsInYears}
-use Rattle.yasna.specs.base.Models.{DateTime, IsTimeAt, moment_of}
-use Rattle.yasna.specs.base.Moment.{IsLess, Moment, moment, moment_at}
-use Rattle.yasna.specs.base.UtcTime.{IsUtcDateTime}
-use Rattle.yasna.proofs.base.Fraction.{trimmed_is}
-use Rattle.yasna.proofs.base.Moment.{less_is, less_none}
+use Rattle.yasna.specs.time.declared.models.generalized_time.GeneralizedTime.{GeneralizedTime}
+use Rattle.yasna.specs.time.Fraction.{nine_digits, trimmed}
+use Rattle.yasna.specs.time.GeneralizedTime.{IsInYears}
+use Rattle.yasna.specs.time.Models.{DateTime, IsTimeAt, moment_of}
+use Rattle.yasna.specs.time.Moment.{IsLess, moment, moment_at}
+use Rattle.yasna.specs.time.UtcTime.{IsUtcDateTime}
+use Rattle.yasna.proofs.time.Fraction.{trimmed_is}
+use Rattle.yasna.proofs.time.Moment.{less_is, less_none}
 use Rattle.yasna_examples.specs.Times.{to_the_second, with_second_59}
 
 -- a date-time less nothing is itself

@@ -1,7 +1,7 @@
 -- Moments of times that are made of others.
 use Rattle.std.specs.Prelude.{[], false, ◌==◌, if◌then◌else◌}
-use Rattle.yasna.specs.base.Models.{DateTime}
-use Rattle.yasna.specs.base.Moment.{Moment, moment_at}
+use Rattle.yasna.specs.time.Models.{DateTime}
+use Rattle.yasna.specs.time.Moment.{Moment, moment_at}
 
 -- the moment of a date-time in UTC that has no fraction of a second
 abbrev pub to_the_second : DateTime → Moment

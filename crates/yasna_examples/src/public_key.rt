@@ -17,12 +17,12 @@ ghost use Rattle.yasna.specs.base.Optional.{option_form, option_nest, option_can
 ghost use Rattle.yasna.specs.base.Raw.{IsRaw, raw_form};
 ghost use Rattle.yasna.specs.base.Sequence.{sequence_tag, PartOf, NoParts, AnyPart, AnyNothing, SamePart, SameNothing, part_form, part_nest, part_can, nothing_form, nothing_nest};
 ghost use Rattle.yasna.specs.base.TaggedDerValue.{raw_of};
-ghost use Rattle.yasna.specs.reader.Contents.{WantsMemory};
+ghost use Rattle.yasna.specs.bytes.Contents.{WantsMemory};
 ghost use Rattle.yasna.specs.reader.Decodes.{Decodes, Step, Done};
 ghost use Rattle.yasna.specs.reader.Optional.{ReadsOptional};
 ghost use Rattle.yasna.specs.reader.Primitive.{ReadsSeen};
 ghost use Rattle.yasna.specs.reader.Raw.{ReadsRaw};
-ghost use Rattle.yasna.specs.reader.Segments.{bits_in};
+ghost use Rattle.yasna.specs.bytes.Segments.{bits_in};
 ghost use Rattle.yasna.specs.reader.State.{IsFresh, part_of};
 ghost use Rattle.yasna.proofs.Laws.{bit_string_coding, no_part, part, tuple};
 ghost use Rattle.yasna_examples.specs.Algorithm.{HasRoom, EncodesAlgorithm, AnyAlgorithm, SameAlgorithm, algorithm_coding};

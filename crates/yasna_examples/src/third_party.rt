@@ -16,7 +16,7 @@ ghost use Rattle.yasna.specs.reader.Decodes.{Decodes, Step, Done};
 ghost use Rattle.yasna.specs.base.Boolean.{boolean_form};
 ghost use Rattle.yasna.specs.base.Canonical.{leaf_nest, enclosed_form, enclosed_nest, Always};
 ghost use Rattle.yasna.specs.base.Sequence.{part_form, part_nest, part_can, nothing_form, nothing_nest};
-ghost use Rattle.yasna.specs.reader.Contents.{Never};
+ghost use Rattle.yasna.specs.bytes.Contents.{Never};
 ghost use Rattle.yasna.specs.reader.Primitive.{Reads, NoLevel};
 ghost use Rattle.yasna.specs.reader.State.{IsFresh, part_of};
 ghost use Rattle.yasna.proofs.Laws.{part, no_part, tuple, bool_coding, signed_coding, unsigned_coding, vec_coding, text_coding};

@@ -10,7 +10,7 @@ use Rattle.yasna_base.proofs.Identifier.{begins_once, begins_with}
 use Rattle.yasna_reader.specs.Decodes.{KeptTells, Decodes}
 use Rattle.yasna_reader.specs.Lookahead.{FindsTag, LooksAhead}
 use Rattle.yasna_reader.specs.State.{Reading, IsFresh}
-use Rattle.yasna_reader.proofs.Refusal.{plain_not_memory}
+use Rattle.yasna_bytes.proofs.Refusal.{plain_not_memory}
 
 -- what was found, where no failure is kept
 pub looked : (s : Reading) (r x : Result Tag ASN1Error) → LooksAhead s.kept s.left r → s.kept ≡ None → r ≡ x → FindsTag s.left x

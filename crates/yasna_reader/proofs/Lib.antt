@@ -1,16 +1,3 @@
-pub mod Refusal
-pub mod Length
-pub mod Header
-pub mod Oid
-pub mod RawHeader
-pub mod Walking
-pub mod Table
-pub mod RawElement
-pub mod Contents
-pub mod Segments
-pub mod Cut
-pub mod Text
-pub mod Integer
 pub mod Primitives
 pub mod RawReads
 pub mod Sequences

@@ -20,11 +20,11 @@ use Rattle.yasna_reader.specs.declared.callback.Outcome.TheVariants.{Gave, Quiet
 use Rattle.yasna_reader.specs.Callback.{Fault, kept, before, own}
 use Rattle.yasna_reader.specs.Decodes.{Tells, KeptTells, Took, Decodes, TookContents, NotContents, DecodesContents}
 use Rattle.yasna_reader.specs.Parse.{unless_kept}
-use Rattle.yasna_reader.specs.Refusal.{IsPlain}
+use Rattle.yasna_bytes.specs.Refusal.{IsPlain}
 use Rattle.yasna_reader.specs.Sequence.{place_in, ReadsParts}
 use Rattle.yasna_reader.specs.SequenceOf.{Idles, Turn, Turns, Ends, Lists, Collects, items_of}
 use Rattle.yasna_reader.specs.State.{Reading, IsFresh}
-use Rattle.yasna_reader.proofs.Refusal.{plain_not_memory}
+use Rattle.yasna_bytes.proofs.Refusal.{plain_not_memory}
 use Rattle.yasna_reader.proofs.Sequences.{place_behind, element}
 use Rattle.yasna_reader.proofs.Tuples.{decodes_map, enclosed_seen}
 use Rattle.yasna_reader.proofs.Turning.{fresh_as}

@@ -20,11 +20,11 @@ use Rattle.yasna_reader.specs.Callback.{Fault, kept, before, own, Hands, UnlessK
 use Rattle.yasna_reader.specs.Decodes.{Tells, KeptTells, Took, NotTook, Decodes, TookContents, NotContents, DecodesContents, AndIn, Step, Done, Made}
 use Rattle.yasna_reader.specs.Optional.{ReadsOptional, optional}
 use Rattle.yasna_reader.specs.Parse.{unless_kept}
-use Rattle.yasna_reader.specs.Refusal.{IsPlain}
+use Rattle.yasna_bytes.specs.Refusal.{IsPlain}
 use Rattle.yasna_reader.specs.Sequence.{ReadsParts, place_in}
 use Rattle.yasna_reader.specs.State.{Reading, IsFresh, untagged}
 use Rattle.yasna_reader.proofs.Listing.{place_unmoved}
-use Rattle.yasna_reader.proofs.Refusal.{plain_not_memory}
+use Rattle.yasna_bytes.proofs.Refusal.{plain_not_memory}
 use Rattle.yasna_reader.proofs.Sequences.{element, place_behind, replaced}
 use Rattle.yasna_reader.proofs.Tuples.{IsDecoder, decodes_map, enclosed_seen}
 use Rattle.yasna_reader.proofs.Turning.{fresh_as}

@@ -8,12 +8,12 @@ use Rattle.yasna_base.specs.Error.{kind_of}
 use Rattle.yasna_base.specs.Identifier.{BeginsWithTag, AtEnd, end_tag, tag_or, begins}
 use Rattle.yasna_base.specs.Sequence.{AnyPart, AnyNothing}
 use Rattle.yasna_base.proofs.Identifier.{begins_with}
-use Rattle.yasna_reader.specs.Contents.{Never, WantsMemory}
+use Rattle.yasna_bytes.specs.Contents.{Never, WantsMemory}
 use Rattle.yasna_reader.specs.Primitive.{RefusedAs, ReadsUnlessKept, ReadsSeen, Reads, NoLevel}
-use Rattle.yasna_reader.specs.Refusal.{IsPlain, IsElsewhere, another}
+use Rattle.yasna_bytes.specs.Refusal.{IsPlain, IsElsewhere, another}
 use Rattle.yasna_reader.specs.State.{Reading, IsFresh, untagged, refusing, tag_of}
 use Rattle.yasna_reader.proofs.OptionalParts.{IsQuietBefore}
-use Rattle.yasna_reader.proofs.Refusal.{plain_of, at_end_elsewhere, begins_not_elsewhere}
+use Rattle.yasna_bytes.proofs.Refusal.{plain_of, at_end_elsewhere, begins_not_elsewhere}
 
 -- contents in Q, up to an end, don't begin with the tag
 abbrev pub StartsElsewhere : Tag → (BERMode → ℕ → List ℕ → Type 0) → Type 0

@@ -8,13 +8,13 @@ use Rattle.yasna_base.specs.Error.{kind_of}
 use Rattle.yasna_base.specs.Identifier.{BeginsWithTag, begins, end_tag, AtEnd, universal, tag_or}
 use Rattle.yasna_base.specs.Coding.{Any}
 use Rattle.yasna_base.proofs.Identifier.{not_end}
-use Rattle.yasna_reader.specs.declared.bytes.header.Refusal.{Refusal}
+use Rattle.yasna_bytes.specs.declared.bytes.header.Refusal.{Refusal}
 use Rattle.yasna_reader.specs.State.{Reading, IsFresh, untagged, refusing, tag_of}
-use Rattle.yasna_reader.specs.Front.{Takes, SeenAt}
-use Rattle.yasna_reader.specs.Contents.{Never, WantsMemory}
+use Rattle.yasna_bytes.specs.Front.{Takes, SeenAt}
+use Rattle.yasna_bytes.specs.Contents.{Never, WantsMemory}
 use Rattle.yasna_reader.specs.Primitive.{RefusedAs, ReadsFront, ReadsUnlessKept, Settles, FrontOf, ReadsSeen, Reads, NoLevel}
 use Rattle.yasna_reader.specs.Decodes.{Tells, KeptTells, Took, NotTook, IsQuietAtEnd, Decodes}
-use Rattle.yasna_reader.proofs.Refusal.{plain_of, at_end_elsewhere, not_at_end}
+use Rattle.yasna_bytes.proofs.Refusal.{plain_of, at_end_elsewhere, not_at_end}
 
 settled : {V A : Type 0} (B : A → List ℕ → Type 0) (view : V → A) (D M : Type 0) (t : Tag) (s : Reading) (f : Result (V × Bor (List ℕ)) Refusal)
     (r : Result V ASN1Error) (s' : Reading) → SeenAt B view D M t s.left f → Settles (untagged s) f r s' → ReadsUnlessKept None B view D M t s r s'

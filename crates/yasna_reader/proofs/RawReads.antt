@@ -11,16 +11,16 @@ use Rattle.yasna_base.specs.Identifier.{StartsElement}
 use Rattle.yasna_base.specs.Raw.{RawValue, IsRaw}
 use Rattle.yasna_base.proofs.Identifier.{begins_with}
 use Rattle.yasna_base.proofs.Raw.{raw_zero, raw_starts, deep_starts}
-use Rattle.yasna_reader.specs.declared.bytes.header.Refusal.{Refusal}
-use Rattle.yasna_reader.specs.declared.bytes.walk.RawElement.{RawElement}
-use Rattle.yasna_reader.specs.Front.{Takes, Stands}
+use Rattle.yasna_bytes.specs.declared.bytes.header.Refusal.{Refusal}
+use Rattle.yasna_bytes.specs.declared.bytes.walk.RawElement.{RawElement}
+use Rattle.yasna_bytes.specs.Front.{Takes, Stands}
 use Rattle.yasna_reader.specs.Decodes.{Tells, KeptTells, NotTook, IsQuietAtEnd, Decodes}
 use Rattle.yasna_reader.specs.Primitive.{Settles}
 use Rattle.yasna_reader.specs.Raw.{RefusesCopy, CopiedAt, RefusedRaw, ReadsRawUnlessKept, ReadsRaw}
 use Rattle.yasna_reader.specs.State.{Reading, IsFresh, untagged, refusing}
-use Rattle.yasna_reader.specs.Walk.{RefusesRaw, TakesRaw, element_of}
-use Rattle.yasna_reader.proofs.RawHeader.{starts_not_at_end}
-use Rattle.yasna_reader.proofs.Refusal.{plain_of}
+use Rattle.yasna_bytes.specs.Walk.{RefusesRaw, TakesRaw, element_of}
+use Rattle.yasna_bytes.proofs.RawHeader.{starts_not_at_end}
+use Rattle.yasna_bytes.proofs.Refusal.{plain_of}
 
 -- where no raw element stands, no copy of one is made
 pub refuses_copy : {A : Type 0} (B : ℕ → BERMode → A → List ℕ → Type 0) (n : ℕ) (m : BERMode) (s : List ℕ) (e : Refusal) →

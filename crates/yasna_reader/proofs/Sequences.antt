@@ -1,29 +1,27 @@
 -- Elements whose contents a callback reads, up to their end.
-use Rattle.std.proofs.Common.{◌≡◌, ℕ, zero, suc, ◌-◌, ◌≤◌, ◌⊎◌, inl, inr, List, ◌∷◌, ◌++◌, length, drop, Option, Some, None, refl, sym, ap, subst, ◌∙◌, append_assoc, append-nil, length-append, Bool, true, false, arith}
+use Rattle.std.proofs.Common.{◌≡◌, ℕ, zero, suc, ◌-◌, ◌≤◌, ◌⊎◌, inl, inr, List, ◌++◌, length, drop, Option, Some, None, refl, sym, ap, subst, ◌∙◌, length-append, Bool, true, false, arith}
 use Rattle.std.proofs.Math.Seq.{drop-append_seam}
 use Rattle.std.specs.Prelude.{Result, Ok, Err}
 use Rattle.yasna_base.specs.declared.error.ASN1Error.{ASN1Error}
 use Rattle.yasna_base.specs.declared.error.ASN1ErrorKind.TheVariants.{OutOfMemory}
 use Rattle.yasna_base.specs.declared.mode.BERMode.{BERMode}
 use Rattle.yasna_base.specs.declared.tag.Tag.{Tag}
-use Rattle.yasna_base.specs.declared.tag.PCBit.{PCBit}
 use Rattle.yasna_base.specs.declared.tag.PCBit.TheVariants.{Constructed}
 use Rattle.yasna_base.specs.Error.{kind_of, error_of}
-use Rattle.yasna_base.specs.Identifier.{identifier, end_tag, tag_or}
-use Rattle.yasna_base.specs.Element.{Element, definite, indefinite, end_of_contents, Around, Enclosed, AnyEnclosed}
+use Rattle.yasna_base.specs.Identifier.{end_tag, tag_or}
+use Rattle.yasna_base.specs.Element.{Around, Enclosed, AnyEnclosed}
 use Rattle.yasna_base.proofs.Header.{opens_begins, header_of, end_behind}
 use Rattle.yasna_base.proofs.Lists.{append_same}
-use Rattle.yasna_reader.specs.declared.bytes.header.Refusal.{Refusal}
-use Rattle.yasna_base.specs.Header.{ContentsEnd, counted, uncounted, OpensAt}
-use Rattle.yasna_reader.specs.Header.{EndsAt, EndsBefore, RefusesHeader, OnlyConstructed}
+use Rattle.yasna_bytes.specs.declared.bytes.header.Refusal.{Refusal}
+use Rattle.yasna_base.specs.Header.{ContentsEnd, OpensAt}
+use Rattle.yasna_bytes.specs.Header.{EndsAt, EndsBefore, RefusesHeader, OnlyConstructed}
 use Rattle.yasna_reader.specs.Parse.{unless_kept}
 use Rattle.yasna_reader.specs.Sequence.{place_in, Fails, Left, Entered, NotEntered, EntersUnlessKept, ReadsParts}
 use Rattle.yasna_reader.specs.Decodes.{Tells, KeptTells, NotTook, IsQuietAtEnd, Decodes, NotContents, TookContents, DecodesContents}
 use Rattle.yasna_reader.specs.State.{Reading, IsFresh, inside, untagged, refusing, tag_of}
-use Rattle.yasna_reader.proofs.Refusal.{plain_not_memory, plain_of, at_end_elsewhere, not_at_end}
-use Rattle.yasna_base.specs.Digits.{IsBytes}
-use Rattle.yasna_base.proofs.Digits.{bytes_front}
-use Rattle.yasna_reader.proofs.Header.{element_header}
+use Rattle.yasna_bytes.proofs.Refusal.{plain_not_memory, plain_of, at_end_elsewhere, not_at_end}
+use Rattle.yasna_bytes.proofs.Ending.{closed, ends_at}
+use Rattle.yasna_bytes.proofs.Header.{element_header}
 
 module _ {A : Type 0} (P Q : Reading → Result A ASN1Error → Reading → Type 0)
     (says : (s : Reading) (r : Result A ASN1Error) (s' : Reading) → IsFresh s → P s r s' → Q s r s') where
@@ -45,39 +43,6 @@ module _ {A : Type 0} (P Q : Reading → Result A ASN1Error → Reading → Type
   -- where contents are read as P says, and so as Q says
   pub parts_map : (tag : Tag) (s : Reading) (r : Result A ASN1Error) (s' : Reading) → ReadsParts P tag s r s' → ReadsParts Q tag s r s'
   parts_map tag s r s' h = record { enters = entered s.kept (tag_of s tag) s r s' h.enters }
-
--- where contents end behind a header, an element stands
-pub record StandsBefore (m : BERMode) (t : Tag) (p : PCBit) (s d r : List ℕ) : Type 0 where
-  pub bytes : List ℕ
-  pub joined : s ≡ bytes ++ r
-  pub element : Element m t p d bytes
-
-pub closed : (m : BERMode) (t : Tag) (p : PCBit) (s c : List ℕ) (after : ContentsEnd) → OpensAt m t p s c after → (d y r : List ℕ) → c ≡ d ++ y →
-    EndsBefore after y r → StandsBefore m t p s d r
-closed m t p s c (counted a) x d y r e h =
-    let f : c ≡ d = e ∙ ap (λ z. d ++ z) h.0 ∙ append-nil d in
-    record {
-      bytes = identifier t p ++ (x.l ++ d);
-      joined = x.joined ∙ ap (λ z. identifier t p ++ (x.l ++ (z ++ a))) f ∙ ap (λ z. identifier t p ++ (x.l ++ (d ++ z))) (sym h.1) ∙ simp append_assoc;
-      element = record {
-        in_range = x.in_range;
-        in_bytes = subst IsBytes f x.in_bytes;
-        framed = definite (record { taken = x.taken; l = x.l; spelled = rw (← f) x.spelled; joined = refl });
-      };
-    }
-closed m t p s c uncounted x d y r e h = record {
-  bytes = identifier t p ++ (128 ∷ (d ++ end_of_contents));
-  joined = x.joined ∙ ap (λ z. identifier t p ++ (128 ∷ z)) (e ∙ ap (λ z. d ++ z) h) ∙ simp append_assoc;
-  element = record {
-    in_range = x.in_range;
-    in_bytes = bytes_front d y (subst IsBytes e x.in_bytes);
-    framed = indefinite (record { taken = x.taken; joined = refl });
-  };
-}
-
-pub ends_at : (after : ContentsEnd) (y r : List ℕ) → EndsBefore after y r → EndsAt after y
-ends_at (counted a) y r h = h.0
-ends_at uncounted y r h = (r, h)
 
 pub around : {A : Type 0} (C : BERMode → ℕ → A → List ℕ → Type 0) (t : Tag) (m : BERMode) (n : ℕ) (v : A) (b : List ℕ) → 1 ≤ n → Around m t (C m (n - 1)) v b →
     Enclosed C t m n v b

@@ -14,11 +14,11 @@ use Rattle.yasna_base.specs.Raw.{RawValue, IsRaw, IsDeepRaw}
 use Rattle.yasna_base.proofs.Identifier.{begins_some}
 use Rattle.yasna_base.proofs.Pieces.{NoFront, no_front_at_end, pieces_once, no_pieces, one_piece, pieces_append}
 use Rattle.yasna_base.proofs.Raw.{raw_starts, raw_exact, deep_not_raw}
-use Rattle.yasna_reader.specs.declared.bytes.header.Refusal.{Refusal}
-use Rattle.yasna_reader.specs.declared.bytes.walk.RawElement.{RawElement}
+use Rattle.yasna_bytes.specs.declared.bytes.header.Refusal.{Refusal}
+use Rattle.yasna_bytes.specs.declared.bytes.walk.RawElement.{RawElement}
 use Rattle.yasna_reader.specs.declared.set.SetElement.{SetElement}
 use Rattle.yasna_reader.specs.Set.{IsListed, Listed, ListsAll, NotListed}
-use Rattle.yasna_reader.specs.Walk.{RefusesRaw, TakesRaw, element_of}
+use Rattle.yasna_bytes.specs.Walk.{RefusesRaw, TakesRaw, element_of}
 
 -- before the first element
 pub none_listed : (n : ℕ) (m : BERMode) (c : List ℕ) → Listed n m [] c c

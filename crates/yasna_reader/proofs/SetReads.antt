@@ -15,13 +15,14 @@ use Rattle.yasna_base.specs.Raw.{RawValue}
 use Rattle.yasna_base.specs.Set.{SetElements}
 use Rattle.yasna_base.proofs.Header.{header_of, end_behind}
 use Rattle.yasna_reader.specs.declared.set.SetElement.{SetElement}
-use Rattle.yasna_reader.specs.Header.{EndsAt, OnlyConstructed}
+use Rattle.yasna_bytes.specs.Header.{EndsAt, OnlyConstructed}
 use Rattle.yasna_reader.specs.Sequence.{EntersUnlessKept, Left, ReadsParts, place_in}
 use Rattle.yasna_reader.specs.Set.{IsSetList, NotSetList, RunsOnSet, SetReading, all_taken}
 use Rattle.yasna_reader.specs.SetLaws.{GaveOfAll, IsElementOf, ReadsSet, RefusesSet, RunOnValues, TakesSet, elements_bytes}
 use Rattle.yasna_reader.specs.State.{Reading, inside, tag_of, untagged}
-use Rattle.yasna_reader.proofs.Header.{element_header}
-use Rattle.yasna_reader.proofs.Sequences.{around, closed, ends_at, place_behind, within}
+use Rattle.yasna_bytes.proofs.Header.{element_header}
+use Rattle.yasna_reader.proofs.Sequences.{around, place_behind, within}
+use Rattle.yasna_bytes.proofs.Ending.{closed, ends_at}
 use Rattle.yasna_reader.proofs.SetLaws.{all_one, lists_are_one, lists_are_sets, order_of_same, sets_are_listed, values_of_same}
 
 module _ {F A : Type 0} (g : Once F (MutBor SetReading × Unit {0}) (Result A ASN1Error × (MutBor SetReading × Unit {0}))) (f : F) where

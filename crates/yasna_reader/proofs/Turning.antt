@@ -6,14 +6,14 @@ use Rattle.yasna_base.specs.declared.error.ASN1Error.{ASN1Error}
 use Rattle.yasna_base.specs.declared.tag.Tag.{Tag}
 use Rattle.yasna_reader.specs.declared.callback.Outcome.{Outcome}
 use Rattle.yasna_reader.specs.declared.callback.Outcome.TheVariants.{Gave, Quiet, Failed}
-use Rattle.yasna_reader.specs.declared.bytes.cursor.Cursor.{Cursor}
+use Rattle.yasna_bytes.specs.declared.bytes.cursor.Cursor.{Cursor}
 use Rattle.yasna_reader.specs.Callback.{at_cursor}
 use Rattle.yasna_reader.specs.Sequence.{ReadsParts}
 use Rattle.yasna_reader.specs.SequenceOf.{TurnsOut, Turn, Turns, Lists, Collects, Visits, items_of}
 use Rattle.yasna_reader.specs.SetOf.{Bounded, Follows, FallsBelow, GivesInOrder, TurnInOrder, Ordered, CollectsInOrder, VisitsInOrder}
 use Rattle.yasna_reader.specs.declared.set_of.Order.TheVariants.{Any}
 use Rattle.yasna_reader.specs.State.{Reading, IsFresh}
-use Rattle.yasna_reader.specs.Walk.{IsRest}
+use Rattle.yasna_bytes.specs.Walk.{IsRest}
 use Rattle.yasna_reader.proofs.Callbacks.{taken_behind}
 use Rattle.yasna_reader.proofs.Sequences.{parts_map}
 

@@ -12,7 +12,7 @@ use Rattle.yasna_base.specs.Canonical.{IsCanonicalMode, IsWritten}
 use Rattle.yasna_reader.specs.State.{Reading, starts}
 use Rattle.yasna_reader.specs.Parse.{unless_kept, ended, parsed}
 use Rattle.yasna_reader.specs.Decodes.{Tells, KeptTells, Decodes, Decoded}
-use Rattle.yasna_reader.proofs.Refusal.{plain_not_memory}
+use Rattle.yasna_bytes.proofs.Refusal.{plain_not_memory}
 
 kept_none : (f : ASN1Error) → ◌≡◌ {A = Option ASN1Error} (Some f) None → ⊥
 kept_none f e = cc

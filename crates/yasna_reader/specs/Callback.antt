@@ -3,10 +3,10 @@ use Rattle.std.specs.Prelude.{Err, List, None, Ok, Option, Result, Some, length,
 use Rattle.yasna_base.specs.Error.{error_of, kind_of}
 use Rattle.yasna_base.specs.declared.error.ASN1Error.{ASN1Error}
 use Rattle.yasna_base.specs.declared.error.ASN1ErrorKind.TheVariants.{Invalid}
-use Rattle.yasna_reader.specs.Refusal.{IsPlain}
+use Rattle.yasna_bytes.specs.Refusal.{IsPlain}
 use Rattle.yasna_reader.specs.Sequence.{IsBefore, place_in}
 use Rattle.yasna_reader.specs.State.{Reading, failing, untagged}
-use Rattle.yasna_reader.specs.declared.bytes.cursor.Cursor.{Cursor}
+use Rattle.yasna_bytes.specs.declared.bytes.cursor.Cursor.{Cursor}
 use Rattle.yasna_reader.specs.declared.callback.Outcome.{Outcome}
 use Rattle.yasna_reader.specs.declared.callback.Outcome.TheVariants.{Gave, Quiet, Failed}
 

@@ -6,7 +6,7 @@ use Rattle.yasna_base.specs.Error.{kind_of}
 use Rattle.yasna_base.specs.declared.error.ASN1Error.{ASN1Error}
 use Rattle.yasna_base.specs.declared.error.ASN1ErrorKind.TheVariants.{OutOfMemory}
 use Rattle.yasna_base.specs.declared.mode.BERMode.{BERMode}
-use Rattle.yasna_reader.specs.Refusal.{IsPlain}
+use Rattle.yasna_bytes.specs.Refusal.{IsPlain}
 use Rattle.yasna_reader.specs.State.{Reading}
 
 -- the failure f says that no front of s is in S, or is of memory

@@ -1,12 +1,4 @@
 pub mod State
-pub mod Refusal
-pub mod Length
-pub mod Front
-pub mod Header
-pub mod Oid
-pub mod Contents
-pub mod Segments
-pub mod Text
 pub mod Primitive
 pub mod Sequence
 pub mod Callback
@@ -17,7 +9,6 @@ pub mod Lookahead
 pub mod SequenceOf
 pub mod SetOf
 pub mod Parse
-pub mod Walk
 pub mod Raw
 pub mod Decodes
 pub mod Set

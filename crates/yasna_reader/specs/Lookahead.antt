@@ -4,7 +4,7 @@ use Rattle.yasna_base.specs.Error.{kind_of}
 use Rattle.yasna_base.specs.Identifier.{BeginsWithTag}
 use Rattle.yasna_base.specs.declared.error.ASN1Error.{ASN1Error}
 use Rattle.yasna_base.specs.declared.tag.Tag.{Tag}
-use Rattle.yasna_reader.specs.Refusal.{IsPlain}
+use Rattle.yasna_bytes.specs.Refusal.{IsPlain}
 
 -- the tag with whose identifier s begins, or that s begins with none
 abbrev pub FindsTag : List ℕ → Result Tag ASN1Error → Type 0

@@ -5,10 +5,10 @@ use Rattle.yasna_base.specs.Error.{error_of, kind_of}
 use Rattle.yasna_base.specs.declared.error.ASN1Error.{ASN1Error}
 use Rattle.yasna_base.specs.declared.mode.BERMode.{BERMode}
 use Rattle.yasna_base.specs.declared.tag.Tag.{Tag}
-use Rattle.yasna_reader.specs.Front.{Takes, Stands, SeenAt}
-use Rattle.yasna_reader.specs.Refusal.{IsTooDeep, Refuses}
+use Rattle.yasna_bytes.specs.Front.{Takes, Stands, SeenAt}
+use Rattle.yasna_bytes.specs.Refusal.{IsTooDeep, Refuses}
 use Rattle.yasna_reader.specs.State.{Reading, refusing, tag_of, untagged}
-use Rattle.yasna_reader.specs.declared.bytes.header.Refusal.{Refusal}
+use Rattle.yasna_bytes.specs.declared.bytes.header.Refusal.{Refusal}
 
 -- the refusal e of a read: what it says, and that it is kept where it moved
 pub record RefusedAs {A : Type 0} (B : A → List ℕ → Type 0) (D M : Type 0) (t : Tag) (s : Reading) (e : ASN1Error) (s' : Reading) : Type 0 where

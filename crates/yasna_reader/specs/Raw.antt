@@ -7,10 +7,10 @@ use Rattle.yasna_base.specs.Raw.{RawValue, IsRaw, IsDeepRaw}
 use Rattle.yasna_base.specs.declared.error.ASN1Error.{ASN1Error}
 use Rattle.yasna_base.specs.declared.error.ASN1ErrorKind.TheVariants.{OutOfMemory, StackOverflow}
 use Rattle.yasna_base.specs.declared.mode.BERMode.{BERMode}
-use Rattle.yasna_reader.specs.Front.{Stands, Takes}
+use Rattle.yasna_bytes.specs.Front.{Stands, Takes}
 use Rattle.yasna_reader.specs.Primitive.{ReadsFront}
 use Rattle.yasna_reader.specs.State.{Reading, refusing, untagged}
-use Rattle.yasna_reader.specs.declared.bytes.header.Refusal.{Refusal}
+use Rattle.yasna_bytes.specs.declared.bytes.header.Refusal.{Refusal}
 
 -- the whole of a raw element
 pub record IsWhole (n : ℕ) (m : BERMode) (v b : List ℕ) : Type 0 where

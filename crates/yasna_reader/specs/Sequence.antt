@@ -8,10 +8,10 @@ use Rattle.yasna_base.specs.declared.error.ASN1ErrorKind.{ASN1ErrorKind}
 use Rattle.yasna_base.specs.declared.tag.PCBit.TheVariants.{Constructed}
 use Rattle.yasna_base.specs.declared.tag.Tag.{Tag}
 use Rattle.yasna_base.specs.Header.{ContentsEnd, OpensAt}
-use Rattle.yasna_reader.specs.Header.{OnlyConstructed, RefusesHeader, EndsAt, EndsBefore}
-use Rattle.yasna_reader.specs.Refusal.{IsPlain}
+use Rattle.yasna_bytes.specs.Header.{OnlyConstructed, RefusesHeader, EndsAt, EndsBefore}
+use Rattle.yasna_bytes.specs.Refusal.{IsPlain}
 use Rattle.yasna_reader.specs.State.{Reading, failing, inside, refusing, tag_of, untagged}
-use Rattle.yasna_reader.specs.declared.bytes.header.Refusal.{Refusal}
+use Rattle.yasna_bytes.specs.declared.bytes.header.Refusal.{Refusal}
 use Rattle.yasna_reader.specs.declared.state.Parts.{Parts}
 
 -- P holds of the reading of the contents of an element with the tag, where one stands at the front, no failure is kept and

@@ -17,7 +17,7 @@ use Rattle.yasna_base.specs.declared.mode.BERMode.{BERMode}
 use Rattle.yasna_base.specs.declared.mode.BERMode.TheVariants.{Ber, Der}
 use Rattle.yasna_base.specs.declared.tag.Tag.{Tag}
 use Rattle.yasna_reader.specs.State.{Reading, failing, untagged}
-use Rattle.yasna_reader.specs.Walk.{MeetsDeep}
+use Rattle.yasna_bytes.specs.Walk.{MeetsDeep}
 use Rattle.yasna_reader.specs.contracts.set.Chosen.{the_row}
 use Rattle.yasna_reader.specs.declared.set.Chosen.{Chosen}
 use Rattle.yasna_reader.specs.declared.set.SetElement.{SetElement}

@@ -2,11 +2,11 @@
 //!
 //! Of what the callback left only the failure counts that is kept there, and how many bytes are left.
 ghost use Rattle.std.specs.Prelude.{IsTrue, ◌↔◌, ◌≡◌, length};
-ghost use Rattle.yasna_reader.specs.Refusal.{IsPlain};
+ghost use Rattle.yasna_bytes.specs.Refusal.{IsPlain};
 
-use crate::bytes::cursor::Cursor;
 use crate::state::{BERReader, ReaderState};
 use yasna_base::error::{ASN1Error, ASN1ErrorKind, ASN1Result};
+use yasna_bytes::bytes::cursor::Cursor;
 
 /// What a callback came to.
 #[derive(Drop)]

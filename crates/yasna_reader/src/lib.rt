@@ -1,7 +1,7 @@
 //! Reading BER and DER.
 //!
 //! Bytes come in at `parse`; `state` holds where a reading stands, by which rules it reads and what went wrong; each
-//! read finds what stands in front of it (`bytes`), and the state takes it or keeps the refusal.
+//! read finds what stands in front of it (`yasna_bytes`), and the state takes it or keeps the refusal.
 //!
 //! | Module | Holds |
 //! |---|---|
@@ -22,11 +22,9 @@
 //! | `buffer` | reads that also answer the bytes they took |
 //! | `lookahead` | the next tag |
 //! | `laws` | what is proved of the readings that callbacks are handed |
-//! | `bytes` | over bytes alone: length, header, contents |
 #![tactic(auto)]
 
 mod buffer;
-mod bytes;
 mod callback;
 pub mod laws;
 mod lookahead;

@@ -1,13 +1,13 @@
 //! Reads of types of one primitive element: BOOLEAN, NULL, INTEGER, ENUMERATED and OBJECT IDENTIFIER (X.690, 8.2 to 8.4,
 //! 8.8 and 8.19).
 
-use crate::bytes::contents::{Contents, value};
-use crate::bytes::header::Refusal;
 use crate::state::ReaderState;
 use yasna_base::error::ASN1Result;
 use yasna_base::models::ObjectIdentifier;
 use yasna_base::tag::Tag;
 use yasna_base::tags::{TAG_BOOLEAN, TAG_ENUM, TAG_INTEGER, TAG_NULL, TAG_OID};
+use yasna_bytes::bytes::contents::{Contents, value};
+use yasna_bytes::bytes::header::Refusal;
 
 impl<'a> ReaderState<'a> {
     ghost use Rattle.std.specs.Int.{w64, w32, w16, w8};
@@ -17,7 +17,7 @@ impl<'a> ReaderState<'a> {
     ghost use Rattle.yasna_base.specs.Null.{IsNull};
     ghost use Rattle.yasna_base.specs.Oid.{AreComponents};
     ghost use Rattle.yasna_base.specs.Integer.{IsSigned, IsUnsigned};
-    ghost use Rattle.yasna_reader.specs.Contents.{big_integer_in, Never, WantsMemory};
+    ghost use Rattle.yasna_bytes.specs.Contents.{big_integer_in, Never, WantsMemory};
     ghost use Rattle.yasna_reader.specs.Primitive.{Reads, ReadsSeen, FrontOf, NoLevel};
 
     /// Reads BOOLEAN: any byte but 0 is true in BER, 255 alone in DER.

@@ -3,15 +3,15 @@ ghost use Rattle.std.specs.Prelude.{ℕ, List, IfOk};
 ghost use Rattle.yasna_base.specs.declared.mode.BERMode.{BERMode};
 ghost use Rattle.yasna_base.specs.Raw.{RawValue, IsRaw};
 ghost use Rattle.yasna_reader.specs.Raw.{IsWhole, CopiedAt};
-ghost use Rattle.yasna_reader.specs.Walk.{element_of};
+ghost use Rattle.yasna_bytes.specs.Walk.{element_of};
 
-use crate::bytes::cursor::Cursor;
-use crate::bytes::header::{Refusal, refuse};
-use crate::bytes::walk::{RawElement, raw_element};
 use crate::state::ReaderState;
 use std::alloc::{AllocError, Global};
 use yasna_base::error::{ASN1ErrorKind, ASN1Result};
 use yasna_base::models::TaggedDerValue;
+use yasna_bytes::bytes::cursor::Cursor;
+use yasna_bytes::bytes::header::{Refusal, refuse};
+use yasna_bytes::bytes::walk::{RawElement, raw_element};
 
 /// What is made of a raw element.
 trait Copied: Sized {

@@ -1,12 +1,12 @@
 //! Reads of constructed elements whose contents a callback reads (X.690, 8.9).
-ghost use Rattle.yasna_reader.specs.Header.{contents_end};
+ghost use Rattle.yasna_bytes.specs.Header.{contents_end};
 ghost use Rattle.yasna_reader.specs.Sequence.{ClosesFrom};
 
-use crate::bytes::header::{Opened, Refusal, close, constructed};
 use crate::state::{BERReaderSeq, Parts, ReaderState};
 use yasna_base::error::{ASN1Error, ASN1ErrorKind, ASN1Result};
 use yasna_base::tag::Tag;
 use yasna_base::tags::TAG_SEQUENCE;
+use yasna_bytes::bytes::header::{Opened, Refusal, close, constructed};
 
 // What follows an element of which a callback left this many bytes to be read.
 #[inline(always)]
@@ -22,7 +22,7 @@ fn close_from<'a>(opened: &Opened<'a>, remaining: usize) -> Result<&'a [u8], ASN
 
 impl<'a> ReaderState<'a> {
     ghost use Rattle.std.specs.Prelude.{◌≡◌, ◌≤◌};
-    ghost use Rattle.yasna_reader.specs.Header.{contents_end, ConstructedAt};
+    ghost use Rattle.yasna_bytes.specs.Header.{contents_end, ConstructedAt};
     ghost use Rattle.yasna_reader.specs.State.{inside, untagged, tag_of};
     ghost use Rattle.yasna_reader.specs.Sequence.{Fails, Left, TakesParts, Runs, ReadsParts};
 

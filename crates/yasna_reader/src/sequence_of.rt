@@ -1,12 +1,12 @@
 //! Reads of SEQUENCE OF, whose elements a callback reads one by one (X.690, 8.10).
 
-use crate::bytes::cursor::Cursor;
 use crate::callback::Outcome;
 use crate::set_of::{Order, first_bound};
 use crate::state::{BERReader, ReaderState};
 use yasna_base::error::{ASN1Error, ASN1ErrorKind, ASN1Result};
 use yasna_base::tag::Tag;
 use yasna_base::tags::TAG_SEQUENCE;
+use yasna_bytes::bytes::cursor::Cursor;
 
 impl<'a> ReaderState<'a> {
     ghost use Rattle.std.specs.Fn.{CalledAtMut};

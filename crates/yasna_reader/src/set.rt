@@ -7,14 +7,14 @@ ghost use Rattle.yasna_base.specs.Order.{tag_cmp};
 ghost use Rattle.yasna_reader.specs.Set.{AreInTagOrder, ElementsAt, IsAmong, IsFirstAmong, NoneIsAmong, SetListAt, all_taken};
 ghost use Rattle.yasna_reader.specs.declared.set.SetElement.{SetElement};
 
-use crate::bytes::cursor::Cursor;
-use crate::bytes::walk::raw_element;
 use crate::state::ReaderState;
 use std::alloc::Global;
 use yasna_base::error::{ASN1Error, ASN1ErrorKind, ASN1Result};
 use yasna_base::mode::BERMode;
 use yasna_base::tag::Tag;
 use yasna_base::tags::TAG_SET;
+use yasna_bytes::bytes::cursor::Cursor;
+use yasna_bytes::bytes::walk::raw_element;
 
 /// An element of a SET, as it was found.
 #[derive(Clone, Copy)]

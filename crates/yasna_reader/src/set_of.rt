@@ -2,13 +2,13 @@
 ghost use Rattle.std.specs.Prelude.{◌≡◌};
 ghost use Rattle.yasna_reader.specs.SetOf.{goes_before, bytes_of, bound_in};
 
-use crate::bytes::walk::in_front;
 use crate::callback::Outcome;
 use crate::state::{BERReader, ReaderState};
 use yasna_base::bytes::order::compare_octets;
 use yasna_base::error::{ASN1Error, ASN1ErrorKind, ASN1Result};
 use yasna_base::mode::BERMode;
 use yasna_base::tags::TAG_SET;
+use yasna_bytes::bytes::walk::in_front;
 
 /// How the elements of a list are to follow each other.
 #[derive(Clone, Copy)]
@@ -46,7 +46,7 @@ impl<'a> ReaderState<'a> {
     ghost use Rattle.yasna_reader.specs.Sequence.{TakesContents, ReadsParts};
     ghost use Rattle.yasna_reader.specs.SequenceOf.{TakesTurns};
     ghost use Rattle.yasna_reader.specs.SetOf.{CollectsInOrder, VisitsInOrder, Ordered, bytes_of};
-    ghost use Rattle.yasna_reader.specs.Walk.{IsRest};
+    ghost use Rattle.yasna_bytes.specs.Walk.{IsRest};
     ghost use Rattle.yasna_reader.specs.declared.set_of.Order.TheVariants.{Ascending};
 
     /// Reads a SET OF: the callback reads one element each time that it is called.

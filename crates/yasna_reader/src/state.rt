@@ -1,13 +1,13 @@
 //! The state of a reading, and what the calls on it share.
 ghost use Rattle.std.specs.Prelude.{◌≡◌};
 
-use crate::bytes::cursor::Cursor;
-use crate::bytes::header::Refusal;
 use std::alloc::Global;
 use std::marker::Model;
 use yasna_base::error::{ASN1Error, ASN1Result};
 use yasna_base::mode::BERMode;
 use yasna_base::tag::Tag;
+use yasna_bytes::bytes::cursor::Cursor;
+use yasna_bytes::bytes::header::Refusal;
 
 /// A reading of bytes: where it stands, by which rules it reads, and what went wrong.
 ///

@@ -3,9 +3,6 @@
 //! In BER a string may be cut into segments, to be joined. Each segment is an element of its own, one level down, whose tag is
 //! universal 3 in a BIT STRING and universal 4 in any other, whatever the tag of the string.
 
-use crate::bytes::header::Refusal;
-use crate::bytes::segments::{bit_string, octet_string};
-use crate::bytes::text::{Class, Judge, string_of};
 use crate::state::ReaderState;
 use yasna_base::error::ASN1Result;
 use yasna_base::tag::Tag;
@@ -13,14 +10,17 @@ use yasna_base::tags::{
     TAG_BITSTRING, TAG_BMPSTRING, TAG_IA5STRING, TAG_NUMERICSTRING, TAG_OCTETSTRING,
     TAG_PRINTABLESTRING, TAG_UTF8STRING, TAG_VISIBLESTRING,
 };
+use yasna_bytes::bytes::header::Refusal;
+use yasna_bytes::bytes::segments::{bit_string, octet_string};
+use yasna_bytes::bytes::text::{Class, Judge, string_of};
 
 impl<'a> ReaderState<'a> {
     ghost use Rattle.yasna_base.specs.Bits.{IsBits, IsDeepBits};
     ghost use Rattle.yasna_base.specs.Octets.{IsOctets, IsDeepOctets};
     ghost use Rattle.yasna_base.specs.Text.{InUtf8, InNumeric, InPrintable, InIa5, InVisible, IsUtf8In, IsBmp, IsStringOf, characters};
-    ghost use Rattle.yasna_reader.specs.Contents.{WantsMemory};
+    ghost use Rattle.yasna_bytes.specs.Contents.{WantsMemory};
     ghost use Rattle.yasna_reader.specs.Primitive.{ReadsSeen, FrontOf};
-    ghost use Rattle.yasna_reader.specs.Segments.{bits_in};
+    ghost use Rattle.yasna_bytes.specs.Segments.{bits_in};
 
     /// Reads OCTET STRING: its octets, joined.
     #[inline(always)]

@@ -11,8 +11,8 @@ use Rattle.yasna.specs.base.Integer.{EncodesSigned, integer_form}
 use Rattle.yasna.specs.base.Null.{EncodesNull, null_form}
 use Rattle.yasna.specs.base.Octets.{EncodesOctets, octets_tag, octets_form}
 use Rattle.yasna.specs.base.Oid.{EncodesOid, oid_form}
-use Rattle.yasna.specs.base.GeneralizedTime.{EncodesGeneralizedTime, generalized_time_form}
-use Rattle.yasna.specs.base.UtcTime.{EncodesUtcTime, utc_time_form}
+use Rattle.yasna.specs.time.GeneralizedTime.{EncodesGeneralizedTime, generalized_time_form}
+use Rattle.yasna.specs.time.UtcTime.{EncodesUtcTime, utc_time_form}
 use Rattle.yasna.specs.base.Sequence.{sequence_tag, PartOf, NoParts, part_form, nothing_form}
 use Rattle.yasna.specs.base.SequenceOf.{IsListOf, elements_form}
 use Rattle.yasna.specs.base.Text.{EncodesText, utf8_form}

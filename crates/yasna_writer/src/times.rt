@@ -1,14 +1,14 @@
 //! UTCTime and GeneralizedTime: their canonical texts (X.690, 11.7 and 11.8).
-ghost use Rattle.yasna_base.specs.GeneralizedTime.{generalized_time_form};
+ghost use Rattle.yasna_times.specs.GeneralizedTime.{generalized_time_form};
 ghost use Rattle.yasna_base.specs.Identifier.{universal, tag_or};
-ghost use Rattle.yasna_base.specs.Models.{utc_of, moment_of};
-ghost use Rattle.yasna_base.specs.UtcTime.{utc_time_form};
+ghost use Rattle.yasna_times.specs.Models.{utc_of, moment_of};
+ghost use Rattle.yasna_times.specs.UtcTime.{utc_time_form};
 ghost use Rattle.yasna_writer.specs.View.{Wrote};
 
 use crate::state::Writer;
 use yasna_base::ASN1Result;
-use yasna_base::models::{GeneralizedTime, UTCTime};
 use yasna_base::tags::{TAG_GENERALIZEDTIME, TAG_UTCTIME};
+use yasna_times::models::{GeneralizedTime, UTCTime};
 
 impl Writer {
     /// Writes a UTCTime: `YYMMDDhhmmssZ`.

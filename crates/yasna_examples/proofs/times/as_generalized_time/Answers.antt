@@ -1,5 +1,5 @@
 use Rattle.std.proofs.Common.{◌∙◌, ap}
-use Rattle.yasna.proofs.base.Moment.{less_none}
+use Rattle.yasna.proofs.time.Moment.{less_none}
 use Rattle.yasna_examples.proofs.Moments.{at_second, in_years}
 use Rattle.yasna_examples.specs.Times.{to_the_second}
 use Rattle.yasna_examples.proofs.times.as_generalized_time.Goals as goal

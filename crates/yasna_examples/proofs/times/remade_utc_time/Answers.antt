@@ -1,5 +1,5 @@
 use Rattle.std.proofs.Common.{◌∙◌}
-use Rattle.yasna.proofs.base.Moment.{less_none}
+use Rattle.yasna.proofs.time.Moment.{less_none}
 use Rattle.yasna_examples.proofs.Moments.{less_nothing}
 use Rattle.yasna_examples.proofs.times.remade_utc_time.Goals as goal
 

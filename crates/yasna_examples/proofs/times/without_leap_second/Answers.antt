@@ -1,9 +1,9 @@
 use Rattle.std.proofs.Common.{sym, subst, pos}
 use Rattle.std.proofs.lemmas.Result.{IfOk-weaker}
-use Rattle.yasna.specs.base.Fraction.{trimmed}
-use Rattle.yasna.specs.base.GeneralizedTime.{IsInYears}
-use Rattle.yasna.specs.base.Models.{IsTimeAt}
-use Rattle.yasna.proofs.base.Moment.{less_none}
+use Rattle.yasna.specs.time.Fraction.{trimmed}
+use Rattle.yasna.specs.time.GeneralizedTime.{IsInYears}
+use Rattle.yasna.specs.time.Models.{IsTimeAt}
+use Rattle.yasna.proofs.time.Moment.{less_none}
 use Rattle.yasna_examples.proofs.Moments.{unflagged}
 use Rattle.yasna_examples.proofs.times.without_leap_second.Goals as goal
 

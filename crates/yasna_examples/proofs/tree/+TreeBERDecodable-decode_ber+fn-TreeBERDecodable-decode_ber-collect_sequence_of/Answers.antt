@@ -1,5 +1,4 @@
 use Rattle.std.proofs.Common.{rules, true, subst}
-use Rattle.std.specs.Prelude.{Ok, Err}
 use Rattle.yasna.specs.base.Nested.{IsNested, AnyNested}
 use Rattle.yasna.specs.reader.Decodes.{Decodes}
 use Rattle.yasna.proofs.Closures.{decodes_by, list_by, seen}

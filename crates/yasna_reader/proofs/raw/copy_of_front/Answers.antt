@@ -1,5 +1,5 @@
 use Rattle.std.proofs.Common.{refl}
-use Rattle.yasna_reader.specs.Front.{Stands}
+use Rattle.yasna_bytes.specs.Front.{Stands}
 use Rattle.yasna_reader.proofs.RawReads.{refuses_copy, lacks_copy}
 use Rattle.yasna_reader.proofs.raw.copy_of_front.Goals as goal
 

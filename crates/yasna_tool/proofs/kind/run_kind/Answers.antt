@@ -3,9 +3,9 @@ use Rattle.std.specs.Global.{Global}
 use Rattle.std.specs.Int.{w64}
 use Rattle.std.specs.Io.KnownBytes.{Appends}
 use Rattle.yasna.specs.base.Identifier.{universal}
-use Rattle.yasna.specs.base.GeneralizedTime.{EncodesGeneralizedTime, generalized_time_form}
-use Rattle.yasna.specs.base.Models.{utc_of, moment_of}
-use Rattle.yasna.specs.base.UtcTime.{EncodesUtcTime, utc_time_form}
+use Rattle.yasna.specs.time.GeneralizedTime.{EncodesGeneralizedTime, generalized_time_form}
+use Rattle.yasna.specs.time.Models.{utc_of, moment_of}
+use Rattle.yasna.specs.time.UtcTime.{EncodesUtcTime, utc_time_form}
 use Rattle.yasna.specs.base.Octets.{EncodesOctets, octets_tag, octets_form}
 use Rattle.yasna.specs.base.Text.{EncodesText, characters, utf8_form}
 use Rattle.yasna_tool.specs.Kinds.{EncodesIntegers, integers_form}

@@ -1,6 +1,6 @@
 use Rattle.std.proofs.Common.{arith}
-use Rattle.yasna_base.specs.GeneralizedTime.{SaysGeneralizedTime}
-use Rattle.yasna_base.specs.Models.{moment_of}
+use Rattle.yasna_times.specs.GeneralizedTime.{SaysGeneralizedTime}
+use Rattle.yasna_times.specs.Models.{moment_of}
 use Rattle.yasna_base.specs.Text.{IsStringOf}
 use Rattle.yasna.proofs.Closures.{string_by}
 use Rattle.yasna.proofs.times.GeneralizedTimeBERDecodable.decode_ber.Goals as goal

@@ -1,7 +1,7 @@
 use Rattle.std.proofs.Common.{arith}
-use Rattle.yasna_base.specs.Models.{utc_of}
+use Rattle.yasna_times.specs.Models.{utc_of}
 use Rattle.yasna_base.specs.Text.{IsStringOf}
-use Rattle.yasna_base.specs.UtcTime.{SaysUtcTime}
+use Rattle.yasna_times.specs.UtcTime.{SaysUtcTime}
 use Rattle.yasna.proofs.Closures.{string_by}
 use Rattle.yasna.proofs.times.UTCTimeBERDecodable.decode_ber.Goals as goal
 

@@ -1,6 +1,6 @@
 use Rattle.yasna_base.specs.Bits.{IsBits, IsDeepBits}
-use Rattle.yasna_reader.specs.Contents.{WantsMemory}
-use Rattle.yasna_reader.specs.Segments.{bits_in}
+use Rattle.yasna_bytes.specs.Contents.{WantsMemory}
+use Rattle.yasna_bytes.specs.Segments.{bits_in}
 use Rattle.yasna_reader.proofs.Primitives.{at_view}
 use Rattle.yasna_reader.proofs.state.ReaderState.bits.Goals as goal
 

@@ -1,7 +1,7 @@
 use Rattle.std.proofs.Common.{Vec, ℕ}
 use Rattle.std.specs.Global.{Global}
 use Rattle.yasna_base.specs.Octets.{IsOctets, IsDeepOctets}
-use Rattle.yasna_reader.specs.Contents.{WantsMemory}
+use Rattle.yasna_bytes.specs.Contents.{WantsMemory}
 use Rattle.yasna_reader.proofs.Primitives.{at_view}
 use Rattle.yasna_reader.proofs.state.ReaderState.octets.Goals as goal
 

@@ -1,6 +1,6 @@
 use Rattle.std.proofs.Common.{◌≡◌, None, rules, refl, sym, ap, subst}
 use Rattle.yasna_reader.specs.Set.{TakesElements}
-use Rattle.yasna_reader.specs.Header.{contents_end}
+use Rattle.yasna_bytes.specs.Header.{contents_end}
 use Rattle.yasna_reader.specs.State.{Reading}
 use Rattle.yasna_reader.proofs.state.ReaderState.read_set.Goals as goal
 

@@ -1,6 +1,6 @@
 use Rattle.yasna_base.specs.Octets.{IsDeepOctets}
 use Rattle.yasna_base.specs.Text.{IsStringOf}
-use Rattle.yasna_reader.specs.Contents.{WantsMemory}
+use Rattle.yasna_bytes.specs.Contents.{WantsMemory}
 use Rattle.yasna_reader.proofs.Primitives.{at_view}
 use Rattle.yasna_reader.proofs.state.ReaderState.said.Goals as goal
 

@@ -1,0 +1,196 @@
+-- Strings, whole or in segments: what the header and the contents behind it say of them.
+use Rattle.std.proofs.Common.{◌≡◌, ◌⊎◌, inl, inr, ℕ, zero, suc, ◌-◌, ◌≤◌, List, [], ◌++◌, length, Bool, true, false, refl, sym, subst, ◌∙◌, arith}
+use Rattle.yasna_base.specs.declared.error.ASN1ErrorKind.TheVariants.{OutOfMemory}
+use Rattle.yasna_base.specs.declared.mode.BERMode.{BERMode}
+use Rattle.yasna_base.specs.declared.tag.Tag.{Tag}
+use Rattle.yasna_base.specs.declared.tag.PCBit.TheVariants.{Primitive, Constructed}
+use Rattle.yasna_base.specs.Cut.{TakesPieces, Cutting, whole, in_pieces, IsCut, IsDeepCut}
+use Rattle.yasna_base.specs.Element.{IsPrimitive}
+use Rattle.yasna_base.specs.Header.{ContentsEnd, OpensAt}
+use Rattle.yasna_base.specs.Identifier.{BeginsWithTag}
+use Rattle.yasna_base.proofs.Cut.{cut_zero, cut_of, cut_into, deep_at_zero, deep_of, deep_into, deep_zero_into}
+use Rattle.yasna_base.proofs.Element.{primitive_exact}
+use Rattle.yasna_base.proofs.Header.{opens_begins, header_of, header_once, end_behind}
+use Rattle.yasna_base.proofs.Lists.{empty_is}
+use Rattle.yasna_bytes.specs.declared.bytes.header.Refusal.{Refusal}
+use Rattle.yasna_bytes.specs.Front.{Takes, Stands}
+use Rattle.yasna_bytes.specs.Header.{AnyBit, AreContents, HasHeader, RefusesHeader, EndsAt, EndsBefore}
+use Rattle.yasna_bytes.specs.Refusal.{IsPlain, IsTooDeep}
+use Rattle.yasna_bytes.specs.Segments.{EndAt, IsDeepWithin, TakesSegments, RefusesSegments, TakesString, RefusesString}
+use Rattle.yasna_bytes.proofs.Contents.{takes_begins, copy_wants, opens_wants}
+use Rattle.yasna_bytes.proofs.Header.{element_header}
+use Rattle.yasna_bytes.proofs.RawHeader.{opens_header}
+use Rattle.yasna_bytes.proofs.Refusal.{plain_not_deep, plain_not_memory, begins_not_elsewhere}
+use Rattle.yasna_bytes.proofs.Ending.{closed, ends_at}
+
+-- the wanted tag stands there, no string does, and it isn't too deep
+stood : {A : Type 0} (k : Cutting A) (n : ℕ) (m : BERMode) (t : Tag) (s : List ℕ) (e : Refusal) → BeginsWithTag t s → IsPlain e.kind → e.moved ≡ true →
+    (Stands (IsCut k n m t) s → ⊥) → (IsDeepCut k n m t s → ⊥) → RefusesString k n m t s e
+stood k n m t s e b p o none deep = record {
+  none = λ _. none;
+  moved = (λ f. absurd (cc), λ f. absurd (begins_not_elsewhere b f));
+  too_deep = λ f. absurd (plain_not_deep p f);
+  deep = λ _ d. absurd (deep d);
+  memory = λ f. absurd (plain_not_memory p f);
+}
+
+-- a string has a header
+cut_header : {A : Type 0} (k : Cutting A) (n : ℕ) (m : BERMode) (t : Tag) (v : A) (b s r : List ℕ) → IsCut k n m t v b → s ≡ b ++ r → HasHeader AnyBit m n t s
+cut_header k zero m t v b s r x e = absurd (cut_zero k m t v b x)
+cut_header k (suc n) m t v b s r x e = elim (cut_into k n m t v b x) [
+  | whole c y w ↦ element_header AnyBit m (suc n) t Primitive c b s r (omega arith) tt y e
+  | in_pieces h c vs y p j ↦ element_header AnyBit m (suc n) t Constructed c b s r (omega arith) tt y e
+]
+
+deep_header : {A : Type 0} (k : Cutting A) (n : ℕ) (m : BERMode) (t : Tag) (s : List ℕ) → IsDeepCut k n m t s → IsTooDeep n t s ⊎ HasHeader AnyBit m n t s
+deep_header k zero m t s d = inl (refl, deep_zero_into k m t s d)
+deep_header k (suc n) m t s d = let x = deep_into k n m t s d in inr (opens_header m (suc n) t Constructed s x.contents x.end (omega arith) x.opens)
+
+too_deep : {A : Type 0} (k : Cutting A) (n : ℕ) (m : BERMode) (t : Tag) (s : List ℕ) → IsTooDeep n t s → IsDeepCut k n m t s
+too_deep k zero m t s d = deep_at_zero k m t s d.1
+too_deep k (suc n) m t s d = let e = d.0 in absurd (omega arith)
+
+-- where no header stands, no string does
+pub header_refused : {A : Type 0} (k : Cutting A) (n : ℕ) (m : BERMode) (t : Tag) (s : List ℕ) (e : Refusal) → RefusesHeader AnyBit m n t s e →
+    RefusesString k n m t s e
+header_refused k n m t s e x = record {
+  none = λ q w. x.none q (cut_header k n m t w.0 w.2.front s w.1 w.2.member w.2.joined);
+  moved = x.moved;
+  too_deep = λ f. too_deep k n m t s (x.too_deep f);
+  deep = λ q d. elim (deep_header k n m t s d) [ inl f ↦ x.deep q f | inr h ↦ absurd (x.none q h) ];
+  memory = λ f. absurd (x.memory f);
+}
+
+-- the contents of a primitive element say a value
+pub whole_taken : {A : Type 0} (k : Cutting A) (n : ℕ) (m : BERMode) (t : Tag) (s c r : List ℕ) (v : A) → Takes (IsPrimitive AreContents n m t) s c r →
+    k.whole m v c → Takes (IsCut k n m t) s v r
+whole_taken k zero m t s c r v x w = let l = x.member.level in absurd (omega arith)
+whole_taken k (suc n) m t s c r v x w = record {
+  front = x.front;
+  joined = x.joined;
+  member = cut_of k n m t v x.front (whole x.member.contents x.member.element (subst (k.whole m v) x.member.meaning w));
+}
+
+-- or say none
+whole_none : {A : Type 0} (k : Cutting A) (n : ℕ) (m : BERMode) (t : Tag) (s c r : List ℕ) → Takes (IsPrimitive AreContents n m t) s c r →
+    ((v : A) → k.whole m v c → ⊥) → Stands (IsCut k n m t) s → ⊥
+whole_none k zero m t s c r x h w = cut_zero k m t w.0 w.2.front w.2.member
+whole_none {A} k (suc n) m t s c r x h w =
+    let y = x.member in
+    let f = sym x.joined ∙ w.2.joined in
+    elim (cut_into k n m t w.0 w.2.front w.2.member) [
+      | whole d z q ↦
+          let i = (primitive_exact m m t t Primitive y.contents d x.front w.2.front r w.1 y.element z f).contents in
+          h w.0 (subst (k.whole m w.0) (sym (y.meaning ∙ i)) q)
+      | in_pieces g d vs z p j ↦ let i = (primitive_exact m m t t Constructed y.contents d x.front w.2.front r w.1 y.element z f).bit in absurd (cc)
+    ]
+
+-- a primitive element isn't too deep
+whole_not_deep : {A : Type 0} (k : Cutting A) (n : ℕ) (m : BERMode) (t : Tag) (s c r : List ℕ) → Takes (IsPrimitive AreContents n m t) s c r →
+    IsDeepCut k n m t s → ⊥
+whole_not_deep k zero m t s c r x d = let l = x.member.level in omega arith
+whole_not_deep k (suc n) m t s c r x d =
+    let y = deep_into k n m t s d in
+    let i = (header_of m t t Constructed Primitive s y.contents x.member.contents x.front r y.end y.opens x.member.element x.joined).bit in
+    absurd (cc)
+
+-- the contents of a primitive element were refused
+pub whole_refused : {A : Type 0} (k : Cutting A) (n : ℕ) (m : BERMode) (t : Tag) (s c r : List ℕ) (e : Refusal) → Takes (IsPrimitive AreContents n m t) s c r →
+    ((e.kind ≡ OutOfMemory) × (c ≡ [] → ⊥)) ⊎ (IsPlain e.kind × ((v : A) → k.whole m v c → ⊥)) → e.moved ≡ true → RefusesString k n m t s e
+whole_refused k n m t s c r e x (inl h) o = record {
+  none = λ q. absurd (q h.0);
+  moved = (λ f. absurd (cc), λ f. absurd (begins_not_elsewhere (takes_begins m n t s c r x) f));
+  too_deep = λ f. let g = h.0 in absurd (cc);
+  deep = λ q. absurd (q h.0);
+  memory = λ _. copy_wants c (let f : length c ≡ 0 → ⊥ = λ f. h.1 (empty_is c f) in omega (arith, f)) n m t s r x;
+}
+whole_refused k n m t s c r e x (inr h) o =
+    stood k n m t s e (takes_begins m n t s c r x) h.0 o (whole_none k n m t s c r x h.1) (whole_not_deep k n m t s c r x)
+
+module _ {A : Type 0} (k : Cutting A) (n j : ℕ) (more : 1 ≤ n) (less : j ≡ n - 1) (m : BERMode) (t : Tag) (s c : List ℕ) (end : ContentsEnd)
+    (o : OpensAt m t Constructed s c end) (e : Refusal) (moved : e.moved ≡ true) where
+  level : suc j ≡ n
+  level = omega arith
+
+  begun : BeginsWithTag t s
+  begun = opens_begins m t Constructed s c end o
+
+  -- what segments stand there, where a string does
+  record InPieces (v : A) (r : List ℕ) : Type 0 where
+    taken : TakesPieces m
+    place : List ℕ
+    ends : EndsBefore end place r
+    end_at : EndAt k j m c place
+
+  in_segments : (v : A) (r : List ℕ) → Takes (IsCut k n m t) s v r → InPieces v r
+  in_segments v r w = elim (cut_into k j m t v w.front (subst (λ z. IsCut k z m t v w.front) (sym level) w.member)) [
+    | whole d z q ↦ let i = (header_of m t t Constructed Primitive s c d w.front r end o z w.joined).bit in absurd (cc)
+    | in_pieces h d vs z p q ↦
+        let b = header_of m t t Constructed Constructed s c d w.front r end o z w.joined in
+        record {
+          taken = h;
+          place = b.behind;
+          ends = b.ends;
+          end_at = record {
+            values = vs;
+            value = v;
+            lead = record { front = d; pieces = p; joined = b.joined };
+            join = q;
+            at_end = end_behind end b.behind r b.ends;
+          };
+        }
+  ]
+
+  deep_within : IsDeepCut k n m t s → TakesPieces m × IsDeepWithin k j m c
+  deep_within d =
+      let y = deep_into k j m t s (subst (λ z. IsDeepCut k z m t s) (sym level) d) in
+      let i = (header_once m t t Constructed Constructed s y.contents c y.end end y.opens o).contents in
+      (y.taken, subst (IsDeepWithin k j m) i y.inside)
+
+  -- segments stand in a mode that takes none
+  pub uncut_refused : (TakesPieces m → ⊥) → IsPlain e.kind → RefusesString k n m t s e
+  uncut_refused h p = stood k n m t s e begun p moved (λ w. h (in_segments w.0 w.1 w.2).taken) (λ d. h (deep_within d).0)
+
+  -- segments were refused
+  pub segments_refused : TakesPieces m → RefusesSegments k j m c e → RefusesString k n m t s e
+  segments_refused h x = record {
+    none = λ q w. let y = in_segments w.0 w.1 w.2 in x.none q y.place y.end_at;
+    moved = (λ f. absurd (cc), λ f. absurd (begins_not_elsewhere begun f));
+    too_deep = λ f. subst (λ z. IsDeepCut k z m t s) level
+        (deep_of k j m t s (record { taken = h; contents = c; end = end; opens = o; inside = x.too_deep f }));
+    deep = λ q d. x.deep q (deep_within d).1;
+    memory = λ _. opens_wants n m t Constructed s c end more x.not_empty o;
+  }
+
+  -- segments were read, and don't end where contents may
+  pub unclosed_refused : {T : Type 0} {value : List ℕ → T → A} {out out' y : List ℕ} {x : T} → TakesSegments k value j m c out x y out' → IsPlain e.kind →
+      (EndsAt end y → ⊥) → RefusesString k n m t s e
+  unclosed_refused h p f = stood k n m t s e begun p moved
+      (λ w. let z = in_segments w.0 w.1 w.2 in f (subst (EndsAt end) (h.only z.place z.end_at) (ends_at end z.place w.1 z.ends)))
+      (λ d. h.not_deep (deep_within d).1)
+
+-- segments were read, and end where contents may
+pub closed_taken : {A T : Type 0} (k : Cutting A) (value : List ℕ → T → A) (n j : ℕ) → 1 ≤ n → j ≡ n - 1 → (m : BERMode) (t : Tag) (s c : List ℕ)
+    (end : ContentsEnd) → OpensAt m t Constructed s c end → TakesPieces m → (x : T) (y r out out' : List ℕ) → TakesSegments k value j m c out x y out' →
+    EndsBefore end y r → TakesString k value n m t s out x r out'
+closed_taken k value n j l f m t s c end o h x y r out out' z e =
+    let b = closed m t Constructed s c end o z.lead.front y r z.lead.joined e in
+    record {
+      bytes = z.bytes;
+      takes = record {
+        front = b.bytes;
+        joined = b.joined;
+        member = let i : suc j ≡ n = omega arith in
+            subst (λ q. IsCut k q m t (value z.bytes x) b.bytes) i
+            (cut_of k j m t (value z.bytes x) b.bytes (in_pieces h z.lead.front z.values b.element z.lead.pieces z.join));
+      };
+      added = z.added;
+    }
+
+-- what holds of three things holds of what equals them
+pub as_well : {X Y Z : Type 0} {r x : X} {s y : Y} {t z : Z} (B : X → Y → Z → Type 0) → r ≡ x → s ≡ y → t ≡ z → B r s t → B x y z
+as_well {r} {x} {s} {y} {t} B e f g h = subst (λ u. B x y u) g (subst (λ u. B x u t) f (subst (λ u. B u s t) e h))
+
+-- what holds where a refusal didn't move holds of one that did
+pub refused_moved : {R : Type 0} {b : Bool} {o p : List ℕ} → R → b ≡ true → R × (b ≡ false → o ≡ p)
+refused_moved r h = (r, λ f. absurd (cc))

@@ -1,0 +1,187 @@
+-- Segments of a string: where their reading stopped, and that no others go elsewhere.
+use Rattle.std.proofs.Common.{◌≡◌, ℕ, ◌<◌, List, [], ◌∷◌, ◌++◌, length, true, refl, sym, ap, subst, ◌∙◌, append_assoc, append-nil, length-append, arith}
+use Rattle.std.specs.List.{concat}
+use Rattle.std.specs.Prelude.{Ok, Err}
+use Rattle.yasna_base.specs.declared.error.ASN1ErrorKind.{ASN1ErrorKind}
+use Rattle.yasna_base.specs.declared.error.ASN1ErrorKind.TheVariants.{OutOfMemory}
+use Rattle.yasna_base.specs.declared.mode.BERMode.{BERMode}
+use Rattle.yasna_base.specs.Cut.{Cutting, IsCut, IsDeepCut}
+use Rattle.yasna_base.specs.Identifier.{AtEnd, BeginsWithTag}
+use Rattle.yasna_base.specs.Pieces.{Each}
+use Rattle.yasna_base.proofs.Cut.{CutsOnce, cut_begins, cut_starts, cut_exact, deep_begins, deep_not_cut}
+use Rattle.yasna_base.proofs.Identifier.{begins_some, begins_with}
+use Rattle.yasna_base.proofs.Pieces.{NoFront, no_front_at_end, pieces_further, pieces_append, one_piece}
+use Rattle.yasna_bytes.specs.declared.bytes.header.Refusal.{Refusal}
+use Rattle.yasna_bytes.specs.Refusal.{IsPlain, IsElsewhere, nothing}
+use Rattle.yasna_bytes.specs.Segments.{GoOn, Adds, LeadTo, EndAt, IsDeepWithin, TakesSegments, RefusesSegments, TakesString, RefusesString}
+use Rattle.yasna_bytes.proofs.Refusal.{plain_not_deep, at_end_elsewhere, begins_not_elsewhere}
+
+-- pieces that say ws and then y go on where those that say vs stopped, or stop there
+data GoesOn {A : Type 0} (R : A → List ℕ → Type 0) (vs ws : List A) (x y : List ℕ) : Type 0 where
+  stops : vs ≡ ws → x ≡ y → GoesOn R vs ws x y
+  goes : (w : A) (us : List A) (b r : List ℕ) → ws ≡ vs ++ (w ∷ us) → R w b → x ≡ b ++ r → GoesOn R vs ws x y
+
+goes_on : {A : Type 0} (R : A → List ℕ → Type 0) (vs ws us : List A) (bs : List (List ℕ)) (x y : List ℕ) → Each R us bs → ws ≡ vs ++ us →
+    x ≡ concat bs ++ y → GoesOn R vs ws x y
+goes_on R vs ws [] [] x y p f e = stops (sym (f ∙ append-nil vs)) e
+goes_on R vs ws [] (b ∷ bs) x y p f e = absurd p
+goes_on R vs ws (w ∷ us) [] x y p f e = absurd p
+goes_on R vs ws (w ∷ us) (b ∷ bs) x y p f e = goes w us b (concat bs ++ y) f p.0 (e ∙ append_assoc b (concat bs) y)
+
+leads_on : {A : Type 0} {R : A → List ℕ → Type 0} → ((v w : A) (b c r s : List ℕ) → R v b → R w c → b ++ r ≡ c ++ s → (v ≡ w) × (b ≡ c)) →
+    (c : List ℕ) (vs ws : List A) (x y : List ℕ) → LeadTo R c vs x → LeadTo R c ws y → NoFront R y → GoesOn R vs ws x y
+leads_on {R} exact c vs ws x y f g none =
+    let i = pieces_further exact vs ws f.front g.front x y f.pieces g.pieces none (sym f.joined ∙ g.joined) in
+    goes_on R vs ws i.values i.pieces.pieces x y i.pieces.each i.all (i.joined ∙ ap (λ z. z ++ y) i.pieces.joined)
+
+-- a further segment
+lead_more : {A : Type 0} (R : A → List ℕ → Type 0) (c : List ℕ) (vs : List A) (y : List ℕ) (v : A) (b r : List ℕ) → LeadTo R c vs y → R v b → y ≡ b ++ r →
+    LeadTo R c (vs ++ (v ∷ [])) r
+lead_more R c vs y v b r f p e = record {
+  front = f.front ++ b;
+  pieces = pieces_append vs (v ∷ []) f.front b f.pieces (one_piece v b p);
+  joined = f.joined ∙ ap (λ z. f.front ++ z) e ∙ sym (append_assoc f.front b r);
+}
+
+module _ {A : Type 0} {k : Cutting A} (once : CutsOnce k) (n : ℕ) (m : BERMode) (c : List ℕ) where
+  -- a string isn't elsewhere
+  here : (v : A) (b r y : List ℕ) → IsCut k n m k.piece v b → y ≡ b ++ r → IsElsewhere k.piece y → ⊥
+  here v b r y p e = begins_not_elsewhere (subst (λ z. BeginsWithTag k.piece z) (sym e) (begins_with k.piece b r (cut_begins k n m k.piece v b p)))
+
+  -- where segments that go on behind vs make no value, contents end nowhere but there
+  pub record OneEnd (vs : List A) (y z : List ℕ) : Type 0 where
+    pub same : z ≡ y
+    pub value : A
+    pub join : k.join m vs value
+    pub at_end : AtEnd y
+
+  one_end : (vs : List A) (y : List ℕ) → LeadTo (IsCut k n m k.piece) c vs y →
+      ((w : A) (us : List A) (v : A) (b r : List ℕ) → IsCut k n m k.piece w b → y ≡ b ++ r → k.join m (vs ++ (w ∷ us)) v → ⊥) →
+      (z : List ℕ) → EndAt k n m c z → OneEnd vs y z
+  one_end vs y f none z e =
+      elim (leads_on (cut_exact once n n m k.piece) c vs e.values y z f e.lead
+      (no_front_at_end (λ v b. cut_starts k n m k.piece v b once.piece) z e.at_end)) [
+        | stops g h ↦
+            record { same = sym h; value = e.value; join = subst (λ us. k.join m us e.value) (sym g) e.join; at_end = subst (λ x. AtEnd x) (sym h) e.at_end }
+        | goes w us b r g p h ↦ absurd (none w us e.value b r p h (subst (λ ws. k.join m ws e.value) g e.join))
+      ]
+
+  -- nor does too deep a segment stand elsewhere
+  one_deep : (vs : List A) (y : List ℕ) → LeadTo (IsCut k n m k.piece) c vs y →
+      ((w : A) (us : List A) (b r : List ℕ) → IsCut k n m k.piece w b → y ≡ b ++ r → k.more (vs ++ (w ∷ us)) → ⊥) →
+      IsDeepWithin k n m c → k.more vs × IsDeepCut k n m k.piece y
+  one_deep vs y f none d =
+      let g : LeadTo (IsCut k n m k.piece) c d.values d.rest = record { front = d.front; pieces = d.pieces; joined = d.joined } in
+      elim (leads_on (cut_exact once n n m k.piece) c vs d.values y d.rest f g (deep_not_cut once n m k.piece d.rest d.deep)) [
+        | stops h i ↦ (subst k.more (sym h) d.more, subst (IsDeepCut k n m k.piece) (sym i) d.deep)
+        | goes w us b r h p i ↦ absurd (none w us b r p i (subst k.more h d.more))
+      ]
+
+-- segments were read as far as y, their bytes appended to out, and x is known of them besides
+pub record Reached {A T : Type 0} (k : Cutting A) (value : List ℕ → T → A) (n : ℕ) (m : BERMode) (c : List ℕ) (x : T) (y out out' : List ℕ) : Type 0 where
+  pub values : List A
+  pub bytes : List ℕ
+  pub lead : LeadTo (IsCut k n m k.piece) c values y
+  pub join : k.join m values (value bytes x)
+  pub added : out' ≡ out ++ bytes
+
+module _ {A T : Type 0} {k : Cutting A} {value : List ℕ → T → A} (once : CutsOnce k) (go_on : GoOn k) (n : ℕ) (m : BERMode) (c : List ℕ) where
+  -- reading begins with no segments
+  pub reached_none : (x : T) (out : List ℕ) → k.join m [] (value [] x) → Reached k value n m c x c out out
+  reached_none x out j = record {
+    values = [];
+    bytes = [];
+    lead = record { front = []; pieces = record { pieces = []; each = tt; joined = refl }; joined = refl };
+    join = j;
+    added = sym (append-nil out);
+  }
+
+  -- and goes on by a further one
+  pub reached_more : (x z s : T) (y r out out' out'' : List ℕ) → (h : Reached k value n m c x y out out') → k.more h.values →
+      TakesString k value n m k.piece y out' s r out'' → Adds k value x s (Ok z) → Reached k value n m c z r out out''
+  reached_more x z s y r out out' out'' h more t a = record {
+    values = h.values ++ (value t.bytes s ∷ []);
+    bytes = h.bytes ++ t.bytes;
+    lead = lead_more (IsCut k n m k.piece) c h.values y (value t.bytes s) t.takes.front r h.lead t.takes.member t.takes.joined;
+    join = a m h.values h.bytes t.bytes h.join more;
+    added = t.added ∙ ap (λ q. q ++ t.bytes) h.added ∙ append_assoc out h.bytes t.bytes;
+  }
+
+  -- fewer bytes are left behind it
+  pub reached_shorter : (s : T) (y r out out' : List ℕ) → TakesString k value n m k.piece y out s r out' → length r < length y
+  reached_shorter s y r out out' t =
+      let i = begins_some k.piece t.takes.front (cut_begins k n m k.piece (value t.bytes s) t.takes.front t.takes.member) in
+      omega (arith, ap length t.takes.joined, length-append t.takes.front r)
+
+  -- reading stops where no segment stands
+  pub stops_elsewhere : (x : T) (y out out' : List ℕ) → Reached k value n m c x y out out' → IsElsewhere k.piece y → TakesSegments k value n m c out x y out'
+  stops_elsewhere x y out out' h f = record {
+    values = h.values;
+    bytes = h.bytes;
+    lead = h.lead;
+    join = h.join;
+    added = h.added;
+    only = λ z e. (one_end once n m c h.values y h.lead (λ w us v b r p g _. here once n m c w b r y p g f) z e).same;
+    not_deep = λ d. begins_not_elsewhere
+        (deep_begins k n m k.piece y (one_deep once n m c h.values y h.lead (λ w us b r p g _. here once n m c w b r y p g f) d).1) f;
+  }
+
+  -- or where none may follow
+  pub stops_full : (x : T) (y out out' : List ℕ) → (h : Reached k value n m c x y out out') → (k.more h.values → ⊥) → TakesSegments k value n m c out x y out'
+  stops_full x y out out' h f = record {
+    values = h.values;
+    bytes = h.bytes;
+    lead = h.lead;
+    join = h.join;
+    added = h.added;
+    only = λ z e. (one_end once n m c h.values y h.lead (λ w us v b r p g j. f (go_on.joined m h.values us w v j)) z e).same;
+    not_deep = λ d. f (one_deep once n m c h.values y h.lead (λ w us b r p g j. f (go_on.more h.values us w j)) d).0;
+  }
+
+  -- a segment is refused
+  pub segment_refused : (x : T) (y out out' : List ℕ) (e : Refusal) → (h : Reached k value n m c x y out out') → k.more h.values →
+      RefusesString k n m k.piece y e → e.moved ≡ true → RefusesSegments k n m c e
+  segment_refused x y out out' e h more f o =
+      let there : IsElsewhere k.piece y → ⊥ = λ g. let i = f.moved.1 g in absurd (cc) in
+      let none : (e.kind ≡ OutOfMemory → ⊥) → NoFront (IsCut k n m k.piece) y = λ q w b r p g. f.none q (w, r, record { front = b; joined = g; member = p }) in
+      record {
+        none = λ q z i. there (at_end_elsewhere k.piece y once.piece (one_end once n m c h.values y h.lead (λ w us v b r p g _. none q w b r p g) z i).at_end);
+        moved = o;
+        too_deep = λ i. record {
+          values = h.values;
+          front = h.lead.front;
+          rest = y;
+          pieces = h.lead.pieces;
+          more = more;
+          joined = h.lead.joined;
+          deep = f.too_deep i;
+        };
+        deep = λ q d. f.deep q (one_deep once n m c h.values y h.lead (λ w us b r p g _. none q w b r p g) d).1;
+        not_empty = λ i. there (nothing (no_rest h.lead.front y (sym h.lead.joined ∙ i)));
+      }
+    where
+      no_rest : (a b : List ℕ) → a ++ b ≡ [] → b ≡ []
+      no_rest [] b e = e
+      no_rest (x ∷ a) b e = absurd (cc)
+
+  -- a segment was read of which too much is known with the others
+  pub segment_too_much : (x s : T) (y r out out' out'' : List ℕ) (q : ASN1ErrorKind) (e : Refusal) → Reached k value n m c x y out out' →
+      TakesString k value n m k.piece y out' s r out'' → Adds k value x s (Err q) → e.kind ≡ q → e.moved ≡ true → RefusesSegments k n m c e
+  segment_too_much x s y r out out' out'' q e h t a f o =
+      let w = value t.bytes s in
+      let vs = h.values ++ (w ∷ []) in
+      let lead = lead_more (IsCut k n m k.piece) c h.values y w t.takes.front r h.lead t.takes.member t.takes.joined in
+      let none : (us : List A) → ((v : A) → k.join m (h.values ++ (w ∷ us)) v → ⊥) × (k.more (h.values ++ (w ∷ us)) → ⊥) =
+      λ us. a.1 m h.values us h.bytes t.bytes h.join in
+      let plain : IsPlain e.kind = subst IsPlain (sym f) a.0 in
+      record {
+        none = λ _ z i. let j = one_end once n m c vs r lead (λ u us v b x p g l.
+            (none (u ∷ us)).0 v (subst (λ ws. k.join m ws v) (append_assoc h.values (w ∷ []) (u ∷ us)) l)) z i in
+            (none []).0 j.value j.join;
+        moved = o;
+        too_deep = λ i. absurd (plain_not_deep plain i);
+        deep = λ _ d. absurd ((none []).1 (one_deep once n m c vs r lead (λ u us b x p g l.
+            (none (u ∷ us)).1 (subst k.more (append_assoc h.values (w ∷ []) (u ∷ us)) l)) d).0);
+        not_empty = λ i. let j = reached_shorter s y r out' out'' t in
+            omega (arith, ap length i, ap length h.lead.joined, length-append h.lead.front y);
+      }

@@ -1,0 +1,127 @@
+-- Strings whose octets say a value, and texts.
+use Rattle.std.proofs.Common.{◌≡◌, ◌⊎◌, inl, inr, ℕ, zero, suc, ◌<◌, List, [], ◌∷◌, length, true, refl, sym, ap, subst, ◌∙◌, length-append, arith, String, string_bytes}
+use Rattle.std.proofs.lemmas.Str.{chars_from_encodes, IsUtf8-string_bytes}
+use Rattle.std.specs.Global.{Global}
+use Rattle.std.specs.List.{concat, AllByRecursion}
+use Rattle.std.specs.Char.Utf16.{utf16_lossy_chars}
+use Rattle.std.specs.Str.{chars, encode_utf8_all, IsUtf8}
+use Rattle.std.specs.Prelude.{Result, Ok, Err, MatchResult}
+use Rattle.yasna_base.specs.declared.error.ASN1ErrorKind.{ASN1ErrorKind}
+use Rattle.yasna_base.specs.declared.error.ASN1ErrorKind.TheVariants.{OutOfMemory}
+use Rattle.yasna_base.specs.declared.mode.BERMode.{BERMode}
+use Rattle.yasna_base.specs.declared.tag.PCBit.TheVariants.{Primitive, Constructed}
+use Rattle.yasna_base.specs.declared.tag.Tag.{Tag}
+use Rattle.yasna_base.specs.Cut.{whole, in_pieces}
+use Rattle.yasna_base.specs.Identifier.{BeginsWithTag}
+use Rattle.yasna_base.specs.Octets.{octets_cutting, octets_tag, IsOctets, IsDeepOctets}
+use Rattle.yasna_base.specs.Pieces.{Each}
+use Rattle.yasna_base.specs.Text.{InUtf8, InNumeric, InPrintable, InIa5, InVisible, IsUtf8In, IsStringOf, characters, units}
+use Rattle.yasna_base.proofs.Cut.{cut_zero, cut_into, cut_begins, cut_exact, deep_not_cut}
+use Rattle.yasna_base.proofs.Identifier.{begins_some, begins_with}
+use Rattle.yasna_base.proofs.Octets.{octets_once}
+use Rattle.yasna_base.proofs.Texts.{utf8_means, utf8_only, class_means, class_only, class_utf8, numeric_below, printable_below, ia5_below, visible_below}
+use Rattle.yasna_bytes.specs.declared.bytes.header.Refusal.{Refusal}
+use Rattle.yasna_bytes.specs.declared.bytes.text.Class.{Class}
+use Rattle.yasna_bytes.specs.declared.bytes.text.Class.TheVariants.{Utf8, Numeric, Printable, Ia5, Visible, Bmp}
+use Rattle.yasna_bytes.specs.Contents.{WantsMemory}
+use Rattle.yasna_bytes.specs.Front.{Takes, Stands}
+use Rattle.yasna_bytes.specs.Refusal.{IsPlain, Refuses}
+use Rattle.yasna_bytes.specs.Text.{Judges, Spells, MayHold}
+use Rattle.yasna_bytes.proofs.Contents.{element_wants}
+use Rattle.yasna_bytes.proofs.Refusal.{plain_not_deep, plain_not_memory, begins_not_elsewhere, refuses_less}
+
+-- no pieces but none at all make up nothing
+no_pieces : (n : ℕ) (m : BERMode) (vs bs : List (List ℕ)) → Each (IsOctets n m octets_tag) vs bs → concat bs ≡ [] → concat vs ≡ []
+no_pieces n m [] [] p e = refl
+no_pieces n m [] (b ∷ bs) p e = absurd p
+no_pieces n m (v ∷ vs) [] p e = absurd p
+no_pieces n m (v ∷ vs) (b ∷ bs) p e =
+    let i = begins_some octets_tag b (cut_begins octets_cutting n m octets_tag v b p.0) in
+    absurd (omega (arith, ap length e, length-append b (concat bs)))
+
+-- a string with octets has contents
+octets_want : (n : ℕ) (m : BERMode) (t : Tag) (s v r : List ℕ) → Takes (IsOctets n m t) s v r → (v ≡ [] → ⊥) → WantsMemory n t s
+octets_want zero m t s v r x h = absurd (cut_zero octets_cutting m t v x.front x.member)
+octets_want (suc n) m t s v r x h = elim (cut_into octets_cutting n m t v x.front x.member) [
+  | whole c y w ↦ element_wants (suc n) m t Primitive s c x.front r (omega arith) (λ e. h (w ∙ e)) y x.joined
+  | in_pieces g c vs y p j ↦
+      element_wants (suc n) m t Constructed s c x.front r (omega arith) (λ e. h (j ∙ no_pieces n m vs p.pieces p.each (sym p.joined ∙ e))) y x.joined
+]
+
+octets_begin : (n : ℕ) (m : BERMode) (t : Tag) (s v r : List ℕ) → Takes (IsOctets n m t) s v r → BeginsWithTag t s
+octets_begin n m t s v r x =
+    subst (λ z. BeginsWithTag t z) (sym x.joined) (begins_with t x.front r (cut_begins octets_cutting n m t v x.front x.member))
+
+-- octets were read that say nothing, or for whose value there is no memory
+pub said_refused : {A : Type 0} (K : BERMode → A → List ℕ → Type 0) (n : ℕ) (m : BERMode) (t : Tag) (s o r : List ℕ) (e : Refusal) →
+    Takes (IsOctets n m t) s o r → ((e.kind ≡ OutOfMemory) × (o ≡ [] → ⊥)) ⊎ (IsPlain e.kind × ((v : A) → K m v o → ⊥)) → e.moved ≡ true →
+    Refuses (Stands (IsStringOf K n m t) s) (IsDeepOctets n m t s) (WantsMemory n t s) t s e
+said_refused K n m t s o r e x (inl h) f = record {
+  none = λ q. absurd (q h.0);
+  moved = (λ g. absurd (cc), λ g. absurd (begins_not_elsewhere (octets_begin n m t s o r x) g));
+  too_deep = λ g. let i = h.0 in absurd (cc);
+  deep = λ q. absurd (q h.0);
+  memory = λ _. octets_want n m t s o r x h.1;
+}
+said_refused K n m t s o r e x (inr h) f = record {
+  none = λ _ w.
+      let y = w.2.member in
+      let same = (cut_exact octets_once n n m t o y.octets x.front w.2.front r w.1 x.member y.string (sym x.joined ∙ w.2.joined)).0 in
+      h.1 w.0 (subst (K m w.0) (sym same) y.meaning);
+  moved = (λ g. absurd (cc), λ g. absurd (begins_not_elsewhere (octets_begin n m t s o r x) g));
+  too_deep = λ g. absurd (plain_not_deep h.0 g);
+  deep = λ _ d. absurd (deep_not_cut octets_once n m t s d o x.front r x.member x.joined);
+  memory = λ g. absurd (plain_not_memory h.0 g);
+}
+
+-- where no octet string stands, none does that says a value
+pub octets_refused : {A : Type 0} (K : BERMode → A → List ℕ → Type 0) (n : ℕ) (m : BERMode) (t : Tag) (s : List ℕ) (D M : Type 0) (e : Refusal) →
+    Refuses (Stands (IsOctets n m t) s) D M t s e → Refuses (Stands (IsStringOf K n m t) s) D M t s e
+octets_refused K n m t s D M e x = refuses_less (Stands (IsOctets n m t) s) (Stands (IsStringOf K n m t) s) D M t s e (λ w.
+    let y = w.2 in
+    (y.member.octets, w.1, record { front = y.front; joined = y.joined; member = y.member.string })) x
+
+ascii_spells : (In : ℕ → Type 0) → ((c : ℕ) → In c → c < 128) → (m : BERMode) (o : List ℕ) → AllByRecursion In o → IsUtf8In In m (chars o) o
+ascii_spells In below m o h = subst (λ z. IsUtf8In In m z o) (sym (class_utf8 In below o h).1) (class_means In below m o h)
+
+-- octets of a class that are UTF-8 spell their characters
+pub class_spells : (k : Class) (m : BERMode) (o : List ℕ) → (k ≡ Bmp → ⊥) → MayHold k o → IsUtf8 o → Spells k m (chars o) o
+class_spells Utf8 m o h i u = utf8_means m o u
+class_spells Numeric m o h i u = ascii_spells InNumeric numeric_below m o i
+class_spells Printable m o h i u = ascii_spells InPrintable printable_below m o i
+class_spells Ia5 m o h i u = ascii_spells InIa5 ia5_below m o i
+class_spells Visible m o h i u = ascii_spells InVisible visible_below m o i
+class_spells Bmp m o h i u = absurd (h refl)
+
+-- octets spell a text of a class only where the class may hold them
+pub class_holds : (k : Class) (m : BERMode) (text o : List ℕ) → Spells k m text o → MayHold k o
+class_holds Utf8 m text o x = tt
+class_holds Numeric m text o x = (class_only InNumeric numeric_below m text o x).1
+class_holds Printable m text o x = (class_only InPrintable printable_below m text o x).1
+class_holds Ia5 m text o x = (class_only InIa5 ia5_below m text o x).1
+class_holds Visible m text o x = (class_only InVisible visible_below m text o x).1
+class_holds Bmp m text o x = x.even
+
+-- and are UTF-8
+pub class_in_utf8 : (k : Class) (m : BERMode) (text o : List ℕ) → (k ≡ Bmp → ⊥) → Spells k m text o → IsUtf8 o
+class_in_utf8 Utf8 m text o h x = (utf8_only InUtf8 m text o x).0
+class_in_utf8 Numeric m text o h x = (utf8_only InNumeric m text o x).0
+class_in_utf8 Printable m text o h x = (utf8_only InPrintable m text o x).0
+class_in_utf8 Ia5 m text o h x = (utf8_only InIa5 m text o x).0
+class_in_utf8 Visible m text o h x = (utf8_only InVisible m text o x).0
+class_in_utf8 Bmp m text o h x = absurd (h refl)
+
+-- the characters of a string that is made of some
+pub made_of : (s : String Global) (text : List ℕ) → string_bytes s ≡ encode_utf8_all text → text ≡ characters s
+made_of s text e = chars_from_encodes text (string_bytes s) (IsUtf8-string_bytes s) (sym e)
+
+-- what units of UTF-16 spell
+pub bmp_judged : (k : Class) (m : BERMode) (o : List ℕ) (r : Result (String Global) ASN1ErrorKind) → k ≡ Bmp → MayHold k o →
+    MatchResult r (λ text. characters text ≡ utf16_lossy_chars (units o)) (λ e. (e ≡ OutOfMemory) × (o ≡ [] → ⊥)) → Judges (Spells k m) characters o r
+bmp_judged Utf8 m o r e h x = absurd (cc)
+bmp_judged Numeric m o r e h x = absurd (cc)
+bmp_judged Printable m o r e h x = absurd (cc)
+bmp_judged Ia5 m o r e h x = absurd (cc)
+bmp_judged Visible m o r e h x = absurd (cc)
+bmp_judged Bmp m o (Ok v) e h x = record { even = h; spelled = x }
+bmp_judged Bmp m o (Err f) e h x = inl x

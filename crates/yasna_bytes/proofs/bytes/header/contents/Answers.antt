@@ -1,0 +1,35 @@
+use Rattle.std.proofs.Common.{rules, ◌≡◌, ◌∷◌, Some, refl}
+use Rattle.yasna_bytes.specs.Length.{Measures}
+use Rattle.yasna_base.specs.Header.{counted, uncounted}
+use Rattle.yasna_bytes.specs.Header.{Holds}
+use Rattle.yasna_base.proofs.Digits.{slice_bytes}
+use Rattle.yasna_bytes.proofs.Header.{takes_definite, holds_counted, holds_none, holds_short, holds_closed, holds_bytes}
+use Rattle.yasna_bytes.proofs.bytes.header.contents.Goals as goal
+
+pub returns-in-Some : goal.returns-in-Some
+returns-in-Some c =
+    let w : Measures c.args.mode c.args.s.now (Some c.in-Ok-Some-default.size) c.in-Ok-Some-default.rest.now = search rules in
+    let x = c.in-Some.ensures {u = tt} in
+    let h : Holds c.args.mode c.args.bit c.args.s.now c.in-Some.within.now (counted c.in-Some.after.now) =
+    holds_counted c.args.mode c.args.bit c.args.s.now c.in-Ok-Some-default.rest.now c.in-Some.within.now c.in-Some.after.now c.in-Ok-Some-default.size w x.1
+    x.0 (takes_definite c.args.mode c.args.bit) in
+    (holds_bytes c.args.mode c.args.bit c.args.s.now c.in-Some.within.now (counted c.in-Some.after.now) (slice_bytes c.args.s.now c.type_inv.s) h, h)
+
+pub returns-then-takes_indefinite : goal.returns-then-takes_indefinite
+returns-then-takes_indefinite c =
+    let w : c.args.s.now ≡ 128 ∷ c.in-Ok-None-default.rest.now = search rules in
+    let h : Holds c.args.mode c.args.bit c.args.s.now c.in-Ok-None-default.rest.now uncounted = ((c.if-takes_indefinite.ensures {u = tt}).0 refl, w) in
+    (holds_bytes c.args.mode c.args.bit c.args.s.now c.in-Ok-None-default.rest.now uncounted (slice_bytes c.args.s.now c.type_inv.s) h, h)
+
+pub returns-in-None : goal.returns-in-None
+returns-in-None c =
+    let w : Measures c.args.mode c.args.s.now (Some c.in-Ok-Some-default.size) c.in-Ok-Some-default.rest.now = search rules in
+    (search rules, holds_short c.args.mode c.args.bit c.args.s.now c.in-Ok-Some-default.rest.now c.in-Ok-Some-default.size w (search rules))
+
+pub returns-else-takes_indefinite : goal.returns-else-takes_indefinite
+returns-else-takes_indefinite c =
+    let w : c.args.s.now ≡ 128 ∷ c.in-Ok-None-default.rest.now = search rules in
+    (tt, holds_closed c.args.mode c.args.bit c.args.s.now c.in-Ok-None-default.rest.now w (λ h. let z = (c.if-takes_indefinite.ensures {u = tt}).1 h in cc))
+
+pub returns-in-Err : goal.returns-in-Err
+returns-in-Err c = let w = c.in-Err.ensures {u = tt} in (w.0, holds_none c.args.mode c.args.bit c.args.s.now w.1)

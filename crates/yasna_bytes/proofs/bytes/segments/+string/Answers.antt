@@ -1,0 +1,159 @@
+use Rattle.std.proofs.Common.{rules, ◌-◌, ◌<◌, ◌∙◌, length, refl, sym, subst}
+use Rattle.yasna_base.specs.declared.tag.PCBit.TheVariants.{Constructed}
+use Rattle.yasna_base.specs.Header.{OpensAt, counted}
+use Rattle.yasna_bytes.specs.Header.{contents_end}
+use Rattle.yasna_bytes.specs.Segments.{TakesSegments, RefusesSegments, TakesString, RefusesString}
+use Rattle.yasna_bytes.proofs.Cut.{header_refused, whole_taken, whole_refused, uncut_refused, segments_refused, unclosed_refused, closed_taken, as_well, refused_moved}
+use Rattle.yasna_bytes.proofs.Header.{takes_primitive}
+use Rattle.yasna_bytes.proofs.Segments.{Reached, reached_none, reached_more, reached_shorter, stops_elsewhere, stops_full, segment_refused, segment_too_much}
+use Rattle.yasna_bytes.proofs.bytes.segments.+string.Goals as goal
+
+pub element-returns-in-Err : goal.element-returns-in-Err
+element-returns-in-Err g t c =
+    let p = c.args.cursor in
+    (header_refused g.T.Tally.cutting p.levels p.mode c.args.tag p.left.now c.in-Err.refusal (c.in-Err.ensures {u = tt}), λ _. refl {a = c.args.out.now.items})
+
+pub element-returns-in-Ok-whole : goal.element-returns-in-Ok-whole
+element-returns-in-Ok-whole g t c =
+    let p = c.args.cursor in
+    let w = c.in-Ok.ensures {u = tt} in
+    let o : OpensAt p.mode c.args.tag c.in-Ok.opened.bit p.left.now c.in-Ok.opened.within.now (counted c.in-Some.after.now) = search rules in
+    let x = takes_primitive p.mode p.levels c.args.tag c.in-Ok.opened.bit p.left.now c.in-Ok.opened.within.now c.in-Some.after.now w.0 c.in-Primitive.is o in
+    let y = c.in-Ok-whole.ensures {u = tt} in
+    record {
+      bytes = y.0;
+      takes = whole_taken g.T.Tally.cutting p.levels p.mode c.args.tag p.left.now c.in-Ok.opened.within.now c.in-Some.after.now
+          (g.T.Tally.value y.0 c.in-Ok-whole.tally) x y.1;
+      added = y.2;
+    }
+
+pub element-returns-in-Err-whole : goal.element-returns-in-Err-whole
+element-returns-in-Err-whole g t c =
+    let p = c.args.cursor in
+    let w = c.in-Ok.ensures {u = tt} in
+    let o : OpensAt p.mode c.args.tag c.in-Ok.opened.bit p.left.now c.in-Ok.opened.within.now (counted c.in-Some.after.now) = search rules in
+    let x = takes_primitive p.mode p.levels c.args.tag c.in-Ok.opened.bit p.left.now c.in-Ok.opened.within.now c.in-Some.after.now w.0 c.in-Primitive.is o in
+    rw c.refuse-in-Err-whole.ensures (refused_moved
+    (whole_refused g.T.Tally.cutting p.levels p.mode c.args.tag p.left.now c.in-Ok.opened.within.now c.in-Some.after.now _ x
+    (c.in-Err-whole.ensures {u = tt}) refl) refl)
+
+pub element-returns-then-not-takes_pieces : goal.element-returns-then-not-takes_pieces
+element-returns-then-not-takes_pieces g t c =
+    let p = c.args.cursor in
+    let w = c.in-Ok.ensures {u = tt} in
+    let o : OpensAt p.mode c.args.tag Constructed p.left.now c.in-Ok.opened.within.now (contents_end c.in-Ok.opened.after) = search rules in
+    rw c.refuse-then-not-takes_pieces.ensures (refused_moved
+    (uncut_refused g.T.Tally.cutting p.levels (p.levels - 1) w.0 refl p.mode c.args.tag p.left.now c.in-Ok.opened.within.now
+    (contents_end c.in-Ok.opened.after) o _ refl (λ h. let z = (c.if-not-takes_pieces.ensures {u = tt}).1 h in cc) tt) refl)
+
+pub element-returns-in-Err-segments : goal.element-returns-in-Err-segments
+element-returns-in-Err-segments g t c =
+    let p = c.args.cursor in
+    let w = c.in-Ok.ensures {u = tt} in
+    let o : OpensAt p.mode c.args.tag Constructed p.left.now c.in-Ok.opened.within.now (contents_end c.in-Ok.opened.after) = search rules in
+    let i = c.inside.ensures in
+    let x = as_well (λ n m s. RefusesSegments g.T.Tally.cutting n m s c.in-Err-segments.refusal) refl i.mode i.left (c.in-Err-segments.ensures {u = tt}) in
+    refused_moved (segments_refused g.T.Tally.cutting p.levels c.inside.result.levels w.0 i.levels p.mode c.args.tag p.left.now c.in-Ok.opened.within.now
+    (contents_end c.in-Ok.opened.after) o _ x.moved ((c.if-not-takes_pieces.ensures {u = tt}).0 refl) x) x.moved
+
+pub element-returns-in-Ok-close : goal.element-returns-in-Ok-close
+element-returns-in-Ok-close g t c =
+    let p = c.args.cursor in
+    let w = c.in-Ok.ensures {u = tt} in
+    let o : OpensAt p.mode c.args.tag Constructed p.left.now c.in-Ok.opened.within.now (contents_end c.in-Ok.opened.after) = search rules in
+    let i = c.inside.ensures in
+    let r = c.in-Ok-segments.taken in
+    let x = as_well (λ n m s. TakesSegments g.T.Tally.cutting g.T.Tally.value n m s c.args.out.now.items r.0 r.1.now c.segments.new.out.items) refl i.mode
+    i.left (c.in-Ok-segments.ensures {u = tt}) in
+    closed_taken g.T.Tally.cutting g.T.Tally.value p.levels c.inside.result.levels w.0 i.levels p.mode c.args.tag p.left.now c.in-Ok.opened.within.now
+    (contents_end c.in-Ok.opened.after) o ((c.if-not-takes_pieces.ensures {u = tt}).0 refl) r.0 r.1.now c.in-Ok-close.after.now c.args.out.now.items
+    c.segments.new.out.items x (c.in-Ok-close.ensures {u = tt})
+
+pub element-returns-in-Err-close : goal.element-returns-in-Err-close
+element-returns-in-Err-close g t c =
+    let p = c.args.cursor in
+    let w = c.in-Ok.ensures {u = tt} in
+    let o : OpensAt p.mode c.args.tag Constructed p.left.now c.in-Ok.opened.within.now (contents_end c.in-Ok.opened.after) = search rules in
+    let i = c.inside.ensures in
+    let r = c.in-Ok-segments.taken in
+    let x = as_well (λ n m s. TakesSegments g.T.Tally.cutting g.T.Tally.value n m s c.args.out.now.items r.0 r.1.now c.segments.new.out.items) refl i.mode
+    i.left (c.in-Ok-segments.ensures {u = tt}) in
+    let y = c.in-Err-close.ensures {u = tt} in
+    rw c.refuse-in-Err-close.ensures (refused_moved
+    (unclosed_refused g.T.Tally.cutting p.levels c.inside.result.levels w.0 i.levels p.mode c.args.tag p.left.now c.in-Ok.opened.within.now
+    (contents_end c.in-Ok.opened.after) o _ refl x y.0 y.1) refl)
+
+pub segments-loop-out-init : goal.segments-loop-out-init
+segments-loop-out-init g t c = record {
+  levels = refl;
+  mode = refl;
+  reached = reached_none (g.met.T.Tally.once) (g.met.T.Tally.go_on) c.args.contents.levels c.args.contents.mode c.args.contents.left.now c.none-tally.result
+      c.args.out.now.items (c.none-tally.ensures c.args.contents.mode);
+}
+
+pub segments-loop-out-smaller : goal.segments-loop-out-smaller
+segments-loop-out-smaller g t c =
+    let p = c.args.contents in
+    let l = c.loop-out in
+    let x = as_well (λ n m t. TakesString g.T.Tally.cutting g.T.Tally.value n m t l.place.left.now l.out.items c.in-Ok.taken.0 c.in-Ok.taken.1.now
+    c.element.new.out.items) l.invariant.levels l.invariant.mode c.tag.ensures (c.in-Ok.ensures {u = tt}) in
+    subst (λ z. length z < length l.place.left.now) (sym c.further-place.ensures.left) (reached_shorter (g.met.T.Tally.once) (g.met.T.Tally.go_on) p.levels
+    p.mode p.left.now c.in-Ok.taken.0 l.place.left.now c.in-Ok.taken.1.now l.out.items c.element.new.out.items x)
+
+pub segments-loop-out-preserved : goal.segments-loop-out-preserved
+segments-loop-out-preserved g t c =
+    let p = c.args.contents in
+    let l = c.loop-out in
+    let h = l.invariant.reached in
+    let x = as_well (λ n m t. TakesString g.T.Tally.cutting g.T.Tally.value n m t l.place.left.now l.out.items c.in-Ok.taken.0 c.in-Ok.taken.1.now
+    c.element.new.out.items) l.invariant.levels l.invariant.mode c.tag.ensures (c.in-Ok.ensures {u = tt}) in
+    let f = c.further-place.ensures in
+    record {
+      levels = f.levels ∙ l.invariant.levels;
+      mode = f.mode ∙ l.invariant.mode;
+      reached = subst (λ z. Reached g.T.Tally.cutting g.T.Tally.value p.levels p.mode p.left.now c.in-Ok-with.all z c.args.out.now.items
+          c.element.new.out.items) (sym f.left)
+          (reached_more (g.met.T.Tally.once) (g.met.T.Tally.go_on) p.levels p.mode p.left.now l.tally c.in-Ok-with.all c.in-Ok.taken.0 l.place.left.now
+          c.in-Ok.taken.1.now c.args.out.now.items l.out.items c.element.new.out.items h
+          ((c.loop-out-test.ensures {u = tt} p.levels p.mode h.values h.bytes h.lead.front h.lead.pieces h.join).0 refl) x (c.in-Ok-with.ensures {u = tt}));
+    }
+
+pub segments-returns-in-Err-with : goal.segments-returns-in-Err-with
+segments-returns-in-Err-with g t c =
+    let p = c.args.contents in
+    let l = c.loop-out in
+    let x = as_well (λ n m t. TakesString g.T.Tally.cutting g.T.Tally.value n m t l.place.left.now l.out.items c.in-Ok.taken.0 c.in-Ok.taken.1.now
+    c.element.new.out.items) l.invariant.levels l.invariant.mode c.tag.ensures (c.in-Ok.ensures {u = tt}) in
+    rw c.refuse.ensures (segment_too_much (g.met.T.Tally.once) (g.met.T.Tally.go_on) p.levels p.mode p.left.now l.tally c.in-Ok.taken.0 l.place.left.now
+    c.in-Ok.taken.1.now c.args.out.now.items l.out.items c.element.new.out.items c.in-Err-with.kind _ l.invariant.reached x
+    (c.in-Err-with.ensures {u = tt}) refl
+    refl)
+
+pub segments-returns-then-refusal : goal.segments-returns-then-refusal
+segments-returns-then-refusal g t c =
+    let p = c.args.contents in
+    let l = c.loop-out in
+    let h = l.invariant.reached in
+    let x = as_well (λ n m t. RefusesString g.T.Tally.cutting n m t l.place.left.now c.in-Err.refusal) l.invariant.levels l.invariant.mode c.tag.ensures
+    (c.in-Err.ensures {u = tt}).0 in
+    segment_refused (g.met.T.Tally.once) (g.met.T.Tally.go_on) p.levels p.mode p.left.now l.tally l.place.left.now c.args.out.now.items l.out.items
+    c.in-Err.refusal h ((c.loop-out-test.ensures {u = tt} p.levels p.mode h.values h.bytes h.lead.front h.lead.pieces h.join).0 refl) x c.if-refusal.true
+
+pub segments-returns-in-Err : goal.segments-returns-in-Err
+segments-returns-in-Err g t c =
+    let p = c.args.contents in
+    let l = c.loop-out in
+    let x = as_well (λ n m t. RefusesString g.T.Tally.cutting n m t l.place.left.now c.in-Err.refusal) l.invariant.levels l.invariant.mode c.tag.ensures
+    (c.in-Err.ensures {u = tt}).0 in
+    subst (λ o. TakesSegments g.T.Tally.cutting g.T.Tally.value p.levels p.mode p.left.now c.args.out.now.items l.tally l.place.left.now o)
+    (sym ((c.in-Err.ensures {u = tt}).1 c.if-refusal.false))
+    (stops_elsewhere (g.met.T.Tally.once) (g.met.T.Tally.go_on) p.levels p.mode p.left.now l.tally l.place.left.now c.args.out.now.items l.out.items
+    l.invariant.reached (x.moved.0 c.if-refusal.false))
+
+pub segments-returns : goal.segments-returns
+segments-returns g t c =
+    let p = c.args.contents in
+    let l = c.loop-out in
+    let h = l.invariant.reached in
+    stops_full (g.met.T.Tally.once) (g.met.T.Tally.go_on) p.levels p.mode p.left.now l.tally l.place.left.now c.args.out.now.items l.out.items h
+    (λ f. let z = (c.loop-out-test.ensures {u = tt} p.levels p.mode h.values h.bytes h.lead.front h.lead.pieces h.join).1 f in cc)

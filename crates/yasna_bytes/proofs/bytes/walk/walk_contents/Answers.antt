@@ -1,0 +1,100 @@
+use Rattle.std.proofs.Common.{rules, ◌∙◌, ◌-◌, take, sym, ap, set, get_or, length-set, arith, refl, subst, ◌≡◌, ◌+◌, ◌≤◌, length}
+use Rattle.yasna_bytes.specs.Header.{EndsBefore, contents_end}
+use Rattle.yasna_bytes.specs.Walk.{Passes, Enters, EndsHere, Stops}
+use Rattle.yasna_bytes.proofs.Table.{Walking, walking_start, left_fits, left_counts, passed_fits, entered_fits, ends_outermost, left_walked, left_keeps, passed_keeps, entered_keeps, not_walked}
+use Rattle.yasna_bytes.proofs.bytes.walk.walk_contents.Goals as goal
+
+pub loop-after-init : goal.loop-after-init
+loop-after-init c = (refl, walking_start c.args.cursor.mode (contents_end c.args.end) c.args.cursor.levels c.args.cursor.left.now _)
+
+pub returns-then-levels-cursor : goal.returns-then-levels-cursor
+returns-then-levels-cursor c =
+    let w = c.loop-after.invariant.1 in
+    let b = c.within.ensures in
+    let x : EndsHere (contents_end c.args.end) c.within.result.left.now c.in-Ok-Left.after.now = search rules in
+    let y : EndsBefore (contents_end c.args.end) c.within.result.left.now c.unwrap_or.result.now =
+    subst (λ a. EndsBefore (contents_end c.args.end) c.within.result.left.now a.now) (sym c.unwrap_or.ensures)
+    (ends_outermost c.args.end c.within.result.left.now c.in-Ok-Left.after x) in
+    left_walked w b.mode b.levels b.left c.unwrap_or.result.now c.if-levels-cursor.true y
+
+pub all_but-left-requires : goal.all_but-left-requires
+all_but-left-requires c =
+    let w = c.loop-after.invariant.1 in
+    let b = c.within.ensures in
+    let x : EndsHere (contents_end c.args.end) c.within.result.left.now c.in-Ok-Left.after.now = search rules in
+    let z = left_keeps w b.mode b.levels b.left c.in-Ok-Left.after.now c.last-rest.result.now _ c.if-levels-cursor.false x c.last-rest.ensures refl in
+    subst (λ i. get_or c.loop-after.outer i 0 ≤ length c.last-rest.result.now) (sym c.from.ensures) z.0
+
+pub loop-after-smaller-in-Ok-Left : goal.loop-after-smaller-in-Ok-Left
+loop-after-smaller-in-Ok-Left c =
+    let w = c.loop-after.invariant.1 in
+    let b = c.within.ensures in
+    let x : EndsHere (contents_end c.args.end) c.within.result.left.now c.in-Ok-Left.after.now = search rules in
+    let l = left_fits w b.mode b.levels b.left c.in-Ok-Left.after.now x in
+    let f = subst (λ i. c.all_but-left.result.now ≡ take (length c.last-rest.result.now - get_or c.loop-after.outer i 0) c.last-rest.result.now) c.from.ensures
+    c.all_but-left.ensures in
+    let n = left_counts w b.mode b.levels b.left c.in-Ok-Left.after.now c.last-rest.result.now c.all_but-left.result.now c.if-levels-cursor.false x
+    c.last-rest.ensures f in
+    omega (arith, l, n, w.deep, ap (λ i. get_or c.loop-after.outer i 0) c.from.ensures, c.if-levels-cursor.false)
+
+pub loop-after-preserved-in-Ok-Left : goal.loop-after-preserved-in-Ok-Left
+loop-after-preserved-in-Ok-Left c =
+    let i = c.loop-after.invariant in
+    let b = c.within.ensures in
+    let x : EndsHere (contents_end c.args.end) c.within.result.left.now c.in-Ok-Left.after.now = search rules in
+    let f = subst (λ i. c.all_but-left.result.now ≡ take (length c.last-rest.result.now - get_or c.loop-after.outer i 0) c.last-rest.result.now) c.from.ensures
+    c.all_but-left.ensures in
+    let z = left_keeps i.1 b.mode b.levels b.left c.in-Ok-Left.after.now c.last-rest.result.now c.all_but-left.result.now c.if-levels-cursor.false x
+    c.last-rest.ensures f in (
+      i.0,
+      subst (λ i. Walking c.args.cursor.mode (contents_end c.args.end) c.args.cursor.levels c.args.cursor.left.now c.loop-after.outer
+          (get_or c.loop-after.outer i 0) (c.loop-after.levels + 1) c.all_but-left.result.now) (sym c.from.ensures) z.1,
+    )
+
+pub loop-after-smaller-in-Ok-Passed : goal.loop-after-smaller-in-Ok-Passed
+loop-after-smaller-in-Ok-Passed c =
+    let w = c.loop-after.invariant.1 in
+    let b = c.within.ensures in
+    let x : Passes c.within.result.mode c.within.result.levels c.within.result.left.now c.in-Ok-Passed.after.now = search rules in
+    omega (arith, passed_fits w b.mode b.levels b.left c.in-Ok-Passed.after.now x)
+
+pub loop-after-preserved-in-Ok-Passed : goal.loop-after-preserved-in-Ok-Passed
+loop-after-preserved-in-Ok-Passed c =
+    let i = c.loop-after.invariant in
+    let b = c.within.ensures in
+    let x : Passes c.within.result.mode c.within.result.levels c.within.result.left.now c.in-Ok-Passed.after.now = search rules in
+    (i.0, passed_keeps i.1 b.mode b.levels b.left c.in-Ok-Passed.after.now x)
+
+pub loop-after-smaller : goal.loop-after-smaller
+loop-after-smaller c =
+    let w = c.loop-after.invariant.1 in
+    let b = c.within.ensures in
+    let x : Enters c.within.result.mode c.within.result.levels c.within.result.left.now c.in-Ok-Entered.opened.within.now
+    (contents_end c.in-Ok-Entered.opened.after) = search rules in
+    let f = contents_end c.in-Ok-Entered.opened.after in
+    let g = c.count_following-behind.ensures in
+    let l = entered_fits w b.mode b.levels b.left c.in-Ok-Entered.opened.within.now f x in
+    omega (arith, l, g, w.deep, b.levels, x.opened.level)
+
+pub loop-after-preserved : goal.loop-after-preserved
+loop-after-preserved c =
+    let i = c.loop-after.invariant in
+    let b = c.within.ensures in
+    let x : Enters c.within.result.mode c.within.result.levels c.within.result.left.now c.in-Ok-Entered.opened.within.now
+    (contents_end c.in-Ok-Entered.opened.after) = search rules in
+    let f = contents_end c.in-Ok-Entered.opened.after in
+    let g = c.count_following-behind.ensures in
+    let z = entered_keeps i.1 b.mode b.levels b.left c.in-Ok-Entered.opened.within.now f c.requires.walked (omega (arith, i.0, c.requires.shallow)) x in (
+      length-set c.loop-after.outer c.from-in-Ok-Entered.result c.loop-after.behind ∙ i.0,
+      subst (λ j. Walking c.args.cursor.mode (contents_end c.args.end) c.args.cursor.levels c.args.cursor.left.now (set c.loop-after.outer j c.loop-after.behind)
+          (c.loop-after.behind + c.count_following-behind.result) (c.loop-after.levels - 1) c.in-Ok-Entered.opened.within.now) (sym c.from-in-Ok-Entered.ensures)
+          (subst (λ k. Walking c.args.cursor.mode (contents_end c.args.end) c.args.cursor.levels c.args.cursor.left.now
+          (set c.loop-after.outer (c.loop-after.levels - 1) c.loop-after.behind) (c.loop-after.behind + k) (c.loop-after.levels - 1)
+          c.in-Ok-Entered.opened.within.now) (sym g) z),
+    )
+
+pub returns-in-Err : goal.returns-in-Err
+returns-in-Err c =
+    let b = c.within.ensures in
+    let x : Stops c.within.result.mode c.within.result.levels (contents_end c.args.end) c.within.result.left.now c.in-Err.kind = search rules in
+    rw c.stopped.ensures (not_walked c.loop-after.invariant.1 b.mode b.levels b.left c.in-Err.kind x)

@@ -1,0 +1,83 @@
+-- Headers at the front of bytes, and where contents end (X.690, 8.1).
+use Rattle.std.specs.Borrow.{Bor}
+use Rattle.std.specs.Prelude.{◌≡◌, ℕ, ◌≤◌, List, [], ◌∷◌, ◌++◌, length, Option, Some, None, Result, Ok, Err}
+use Rattle.yasna_base.specs.Digits.{IsBytes}
+use Rattle.yasna_base.specs.Element.{TakesDefinite, TakesIndefinite, IsPrimitive}
+pub use Rattle.yasna_base.specs.Header.{EndsBefore}
+use Rattle.yasna_base.specs.Header.{ContentsEnd, counted, uncounted, OpensAt}
+use Rattle.yasna_base.specs.Identifier.{identifier}
+use Rattle.yasna_base.specs.Length.{SpellsLength}
+use Rattle.yasna_base.specs.declared.error.ASN1ErrorKind.{ASN1ErrorKind}
+use Rattle.yasna_base.specs.declared.mode.BERMode.{BERMode}
+use Rattle.yasna_base.specs.declared.tag.PCBit.{PCBit}
+use Rattle.yasna_base.specs.declared.tag.PCBit.TheVariants.{Constructed}
+use Rattle.yasna_base.specs.declared.tag.Tag.{Tag}
+use Rattle.yasna_bytes.specs.Front.{Takes, Stands}
+use Rattle.yasna_bytes.specs.Refusal.{IsPlain, IsTooDeep, Refuses}
+use Rattle.yasna_bytes.specs.declared.bytes.header.Opened.{Opened}
+use Rattle.yasna_bytes.specs.declared.bytes.header.Refusal.{Refusal}
+
+-- behind an identifier with the bit p, a length, the contents c that it counts, and r; or the byte of the indefinite form and c
+abbrev pub Holds : BERMode → PCBit → List ℕ → List ℕ → ContentsEnd → Type 0
+Holds m p y c (counted r) = (l : List ℕ) × TakesDefinite m p × SpellsLength m (length c) l × (y ≡ l ++ (c ++ r))
+Holds m p y c uncounted = TakesIndefinite m p × (y ≡ 128 ∷ c)
+
+-- what follows an element that was cut off, if anything was
+abbrev pub contents_end : Option (Bor (List ℕ)) → ContentsEnd
+contents_end (Some a) = counted a.now
+contents_end None = uncounted
+
+-- a length and contents, which are bytes, stand behind an identifier with the bit p
+abbrev pub ContentsAt : BERMode → PCBit → List ℕ → Result (Bor (List ℕ) × Option (Bor (List ℕ))) ASN1ErrorKind → Type 0
+ContentsAt m p y (Ok x) = IsBytes x.0.now × Holds m p y x.0.now (contents_end x.1)
+ContentsAt m p y (Err k) = IsPlain k × ((c : List ℕ) (f : ContentsEnd) → Holds m p y c f → ⊥)
+
+-- some header of the tag with a bit that P allows stands at the front, and a level is left for the element
+pub record HasHeader (P : PCBit → Type 0) (m : BERMode) (n : ℕ) (t : Tag) (s : List ℕ) : Type 0 where
+  pub level : 1 ≤ n
+  pub bit : PCBit
+  pub allowed : P bit
+  pub behind : List ℕ
+  pub joined : s ≡ identifier t bit ++ behind
+  pub contents : List ℕ
+  pub end : ContentsEnd
+  pub holds : Holds m bit behind contents end
+
+abbrev pub AnyBit : PCBit → Type 0
+AnyBit p = Unit {0}
+
+abbrev pub OnlyConstructed : PCBit → Type 0
+OnlyConstructed p = p ≡ Constructed
+
+-- no such header stands there
+abbrev pub RefusesHeader : (PCBit → Type 0) → BERMode → ℕ → Tag → List ℕ → Refusal → Type 0
+RefusesHeader P m n t s e = Refuses (HasHeader P m n t s) (IsTooDeep n t s) ⊥ t s e
+
+-- a header of the tag stands at the front, and a level is left for the element
+abbrev pub OpenedAt : BERMode → ℕ → Tag → List ℕ → Result Opened Refusal → Type 0
+OpenedAt m n t s (Ok o) = (1 ≤ n) × OpensAt m t o.bit s o.within.now (contents_end o.after)
+OpenedAt m n t s (Err e) = RefusesHeader AnyBit m n t s e
+
+-- the same of a constructed element
+abbrev pub ConstructedAt : BERMode → ℕ → Tag → List ℕ → Result Opened Refusal → Type 0
+ConstructedAt m n t s (Ok o) = (1 ≤ n) × OpensAt m t Constructed s o.within.now (contents_end o.after)
+ConstructedAt m n t s (Err e) = RefusesHeader OnlyConstructed m n t s e
+
+-- the contents v themselves are what is asked for
+abbrev pub AreContents : List ℕ → List ℕ → Type 0
+AreContents v c = v ≡ c
+
+-- the contents of a primitive element, and the rest
+abbrev pub PrimitiveAt : ℕ → BERMode → Tag → List ℕ → Result (Bor (List ℕ) × Bor (List ℕ)) Refusal → Type 0
+PrimitiveAt n m t s (Ok x) = Takes (IsPrimitive AreContents n m t) s x.0.now x.1.now
+PrimitiveAt n m t s (Err e) = Refuses (Stands (IsPrimitive AreContents n m t) s) (IsTooDeep n t s) ⊥ t s e
+
+-- y is where contents may end
+abbrev pub EndsAt : ContentsEnd → List ℕ → Type 0
+EndsAt (counted a) y = y ≡ []
+EndsAt uncounted y = (z : List ℕ) × (y ≡ 0 ∷ 0 ∷ z)
+
+-- contents that were read as far as y end there, or don't
+abbrev pub ClosesAt : ContentsEnd → List ℕ → Result (Bor (List ℕ)) ASN1ErrorKind → Type 0
+ClosesAt a y (Ok r) = EndsBefore a y r.now
+ClosesAt a y (Err k) = IsPlain k × (EndsAt a y → ⊥)

@@ -1,0 +1,9 @@
+pub mod Refusal
+pub mod Length
+pub mod Front
+pub mod Header
+pub mod Oid
+pub mod Contents
+pub mod Segments
+pub mod Text
+pub mod Walk

@@ -1,0 +1,24 @@
+-- Why no element was taken from the front of bytes.
+use Rattle.std.specs.Prelude.{◌≡◌, ◌↔◌, ℕ, ◌^◌, ◌<◌, List, [], false}
+use Rattle.yasna_base.specs.Identifier.{BeginsWithTag}
+use Rattle.yasna_base.specs.declared.error.ASN1ErrorKind.TheVariants.{OutOfMemory, StackOverflow}
+use Rattle.yasna_base.specs.declared.tag.Tag.{Tag}
+pub use Rattle.yasna_base.specs.Error.{IsPlain}
+use Rattle.yasna_bytes.specs.declared.bytes.header.Refusal.{Refusal}
+
+-- s is empty or begins with an identifier of another tag
+pub data IsElsewhere (t : Tag) (s : List ℕ) : Type 0 where
+  nothing : s ≡ [] → IsElsewhere t s
+  another : (u : Tag) → u.tag_number < 2 ^ 64 → (u ≡ t → ⊥) → BeginsWithTag u s → IsElsewhere t s
+
+-- no level is left for the element
+abbrev pub IsTooDeep : ℕ → Tag → List ℕ → Type 0
+IsTooDeep n t s = (n ≡ 0) × BeginsWithTag t s
+
+-- How bytes are refused. N: what doesn't stand there. D: where it lies too deep. M: where memory may be wanting
+pub record Refuses (N D M : Type 0) (t : Tag) (s : List ℕ) (e : Refusal) : Type 0 where
+  pub none : (e.kind ≡ OutOfMemory → ⊥) → N → ⊥
+  pub moved : e.moved ≡ false ↔ IsElsewhere t s
+  pub too_deep : e.kind ≡ StackOverflow → D
+  pub deep : (e.kind ≡ OutOfMemory → ⊥) → D → e.kind ≡ StackOverflow
+  pub memory : e.kind ≡ OutOfMemory → M

@@ -1,0 +1,123 @@
+-- What reading a string of bytes does, whole or in segments (X.690, 8.6, 8.7 and 8.23).
+use Rattle.std.specs.Borrow.{Bor}
+use Rattle.std.specs.Global.{Global}
+use Rattle.std.specs.Prelude.{◌≡◌, ◌⊎◌, ◌↔◌, ℕ, ◌≤◌, List, [], ◌∷◌, ◌++◌, length, false, true, Result, Ok, Err, Vec}
+use Rattle.yasna_base.specs.Bits.{BitString, IsBits, IsDeepBits}
+use Rattle.yasna_base.specs.Cut.{Cutting, IsCut, IsDeepCut, PiecesBefore}
+use Rattle.yasna_base.specs.Identifier.{AtEnd}
+use Rattle.yasna_base.specs.Octets.{IsOctets, IsDeepOctets}
+use Rattle.yasna_base.specs.Pieces.{Pieces}
+use Rattle.yasna_base.specs.declared.error.ASN1ErrorKind.{ASN1ErrorKind}
+use Rattle.yasna_base.specs.declared.error.ASN1ErrorKind.TheVariants.{OutOfMemory, StackOverflow}
+use Rattle.yasna_base.specs.declared.mode.BERMode.{BERMode}
+use Rattle.yasna_base.specs.declared.tag.Tag.{Tag}
+use Rattle.yasna_bytes.specs.Contents.{WantsMemory}
+use Rattle.yasna_bytes.specs.Front.{Takes, Stands, SeenAt}
+use Rattle.yasna_bytes.specs.Refusal.{IsPlain, Refuses}
+use Rattle.yasna_bytes.specs.declared.bytes.header.Refusal.{Refusal}
+
+-- where pieces of such strings go on, they may
+pub record GoOn {A : Type 0} (k : Cutting A) : Type 0 where
+  pub joined : (m : BERMode) (vs ws : List A) (w v : A) → k.join m (vs ++ (w ∷ ws)) v → k.more vs
+  pub more : (vs ws : List A) (w : A) → k.more (vs ++ (w ∷ ws)) → k.more vs
+
+-- The contents of a primitive element are taken exactly where they say a value. value b x is the value of the bytes b of
+-- which x is known besides
+abbrev pub Says : {A T : Type 0} → Cutting A → (List ℕ → T → A) → BERMode → List ℕ → Result (T × Bor (List ℕ)) ASN1ErrorKind → Type 0
+Says {A} k value m c (Ok x) = k.whole m (value x.1.now x.0) c × (length x.1.now ≤ length c)
+Says {A} k value m c (Err e) = IsPlain e × ((v : A) → k.whole m v c → ⊥)
+
+-- x is known of no segments
+abbrev pub IsOfNone : {A T : Type 0} → Cutting A → (List ℕ → T → A) → T → Type 0
+IsOfNone k value x = (m : BERMode) → k.join m [] (value [] x)
+
+-- What is known of segments of which x is known and one more of which y is, or that such segments neither make a value nor
+-- go on
+abbrev pub Adds : {A T : Type 0} → Cutting A → (List ℕ → T → A) → T → T → Result T ASN1ErrorKind → Type 0
+Adds {A} k value x y (Ok z) =
+    (m : BERMode) (vs : List A) (b c : List ℕ) → k.join m vs (value b x) → k.more vs → k.join m (vs ++ (value c y ∷ [])) (value (b ++ c) z)
+Adds {A} k value x y (Err e) =
+    IsPlain e × ((m : BERMode) (vs ws : List A) (b c : List ℕ) → k.join m vs (value b x) →
+    ((v : A) → k.join m (vs ++ (value c y ∷ ws)) v → ⊥) × (k.more (vs ++ (value c y ∷ ws)) → ⊥))
+
+-- the answer says whether a further segment may follow those of which x is known
+abbrev pub TellsWhetherMore : {A T : Type 0} → Cutting A → (List ℕ → T → A) → T → Type 0 → Type 0
+TellsWhetherMore {A} k value x answer =
+    (n : ℕ) (m : BERMode) (vs : List A) (b c : List ℕ) → Pieces (IsCut k n m k.piece) vs c → k.join m vs (value b x) → answer ↔ k.more vs
+
+-- the contents of a primitive element, whose bytes were appended to out, or why not
+abbrev pub WholeAt : {A T : Type 0} → Cutting A → (List ℕ → T → A) → BERMode → List ℕ → List ℕ → Result T ASN1ErrorKind → List ℕ → Type 0
+WholeAt k value m c out (Ok x) out' = (b : List ℕ) × k.whole m (value b x) c × (out' ≡ out ++ b)
+WholeAt {A} k value m c out (Err e) out' = ((e ≡ OutOfMemory) × (c ≡ [] → ⊥)) ⊎ (IsPlain e × ((v : A) → k.whole m v c → ⊥))
+
+-- segments at the front of c say vs, and y is behind them
+pub record LeadTo {A : Type 0} (R : A → List ℕ → Type 0) (c : List ℕ) (vs : List A) (y : List ℕ) : Type 0 where
+  pub front : List ℕ
+  pub pieces : Pieces R vs front
+  pub joined : c ≡ front ++ y
+
+-- segments make up c as far as y, where contents may end
+pub record EndAt {A : Type 0} (k : Cutting A) (n : ℕ) (m : BERMode) (c y : List ℕ) : Type 0 where
+  pub values : List A
+  pub value : A
+  pub lead : LeadTo (IsCut k n m k.piece) c values y
+  pub join : k.join m values value
+  pub at_end : AtEnd y
+
+-- reading segments from c meets one that no level is left for
+abbrev pub IsDeepWithin : {A : Type 0} → Cutting A → ℕ → BERMode → List ℕ → Type 0
+IsDeepWithin k n m c = PiecesBefore (IsCut k n m k.piece) k.more (IsDeepCut k n m k.piece) c
+
+-- segments were read as far as y, their bytes appended to out, and x is known of them besides: no others make up c
+pub record TakesSegments {A T : Type 0} (k : Cutting A) (value : List ℕ → T → A) (n : ℕ) (m : BERMode) (c out : List ℕ) (x : T) (y out' : List ℕ) : Type 0 where
+  pub values : List A
+  pub bytes : List ℕ
+  pub lead : LeadTo (IsCut k n m k.piece) c values y
+  pub join : k.join m values (value bytes x)
+  pub added : out' ≡ out ++ bytes
+  pub only : (z : List ℕ) → EndAt k n m c z → z ≡ y
+  pub not_deep : IsDeepWithin k n m c → ⊥
+
+-- no segments make up c
+pub record RefusesSegments {A : Type 0} (k : Cutting A) (n : ℕ) (m : BERMode) (c : List ℕ) (e : Refusal) : Type 0 where
+  pub none : (e.kind ≡ OutOfMemory → ⊥) → (z : List ℕ) → EndAt k n m c z → ⊥
+  pub moved : e.moved ≡ true
+  pub too_deep : e.kind ≡ StackOverflow → IsDeepWithin k n m c
+  pub deep : (e.kind ≡ OutOfMemory → ⊥) → IsDeepWithin k n m c → e.kind ≡ StackOverflow
+  pub not_empty : c ≡ [] → ⊥
+
+abbrev pub SegmentsAt : {A T : Type 0} → Cutting A → (List ℕ → T → A) → ℕ → BERMode → List ℕ → List ℕ → Result (T × Bor (List ℕ)) Refusal → List ℕ →
+    Type 0
+SegmentsAt k value n m c out (Ok x) out' = TakesSegments k value n m c out x.0 x.1.now out'
+SegmentsAt k value n m c out (Err e) out' = RefusesSegments k n m c e
+
+-- a string stands at the front of s, its bytes were appended to out, and x is known of it besides
+pub record TakesString {A T : Type 0} (k : Cutting A) (value : List ℕ → T → A) (n : ℕ) (m : BERMode) (t : Tag) (s out : List ℕ) (x : T)
+    (r out' : List ℕ) : Type 0 where
+  pub bytes : List ℕ
+  pub takes : Takes (IsCut k n m t) s (value bytes x) r
+  pub added : out' ≡ out ++ bytes
+
+-- no string does
+abbrev pub RefusesString : {A : Type 0} → Cutting A → ℕ → BERMode → Tag → List ℕ → Refusal → Type 0
+RefusesString k n m t s e = Refuses (Stands (IsCut k n m t) s) (IsDeepCut k n m t s) (WantsMemory n t s) t s e
+
+abbrev pub StringAt : {A T : Type 0} → Cutting A → (List ℕ → T → A) → ℕ → BERMode → Tag → List ℕ → List ℕ → Result (T × Bor (List ℕ)) Refusal →
+    List ℕ → Type 0
+StringAt k value n m t s out (Ok x) out' = TakesString k value n m t s out x.0 x.1.now out'
+StringAt k value n m t s out (Err e) out' = RefusesString k n m t s e × (e.moved ≡ false → out' ≡ out)
+
+-- the same, where the bytes make up a vector of their own
+abbrev pub WithVecAt : {A T : Type 0} → Cutting A → (List ℕ → T → A) → ℕ → BERMode → Tag → List ℕ → Result ((Vec ℕ Global × T) × Bor (List ℕ)) Refusal → Type 0
+WithVecAt k value n m t s r = SeenAt (IsCut k n m t) (λ v. value v.0.items v.1) (IsDeepCut k n m t s) (WantsMemory n t s) t s r
+
+-- the octet string in a vector's bytes, and the rest, or a refusal
+abbrev pub OctetsAt : ℕ → BERMode → Tag → List ℕ → Result (Vec ℕ Global × Bor (List ℕ)) Refusal → Type 0
+OctetsAt n m t s r = SeenAt (IsOctets n m t) (λ v. v.items) (IsDeepOctets n m t s) (WantsMemory n t s) t s r
+
+-- the bit string in a vector's bytes and the count of its bits
+abbrev pub bits_in : Vec ℕ Global × ℕ → BitString
+bits_in v = record { bytes = v.0.items; count = v.1 }
+
+abbrev pub BitsAt : ℕ → BERMode → Tag → List ℕ → Result ((Vec ℕ Global × ℕ) × Bor (List ℕ)) Refusal → Type 0
+BitsAt n m t s r = SeenAt (IsBits n m t) bits_in (IsDeepBits n m t s) (WantsMemory n t s) t s r

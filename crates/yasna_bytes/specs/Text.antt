@@ -1,0 +1,43 @@
+-- What reading a string does whose octets say a value, as those of a character string do (X.690, 8.23).
+use Rattle.std.specs.Borrow.{Bor}
+use Rattle.std.specs.List.{AllByRecursion}
+use Rattle.std.specs.Prelude.{◌≡◌, ◌⊎◌, ℕ, ◌%◌, List, [], length, Result, Ok, Err}
+use Rattle.yasna_base.specs.Octets.{IsDeepOctets}
+use Rattle.yasna_base.specs.Text.{InUtf8, InNumeric, InPrintable, InIa5, InVisible, IsUtf8In, IsBmp, IsStringOf}
+use Rattle.yasna_base.specs.declared.error.ASN1ErrorKind.{ASN1ErrorKind}
+use Rattle.yasna_base.specs.declared.error.ASN1ErrorKind.TheVariants.{OutOfMemory}
+use Rattle.yasna_base.specs.declared.mode.BERMode.{BERMode}
+use Rattle.yasna_base.specs.declared.tag.Tag.{Tag}
+use Rattle.yasna_bytes.specs.Contents.{WantsMemory}
+use Rattle.yasna_bytes.specs.Front.{SeenAt}
+use Rattle.yasna_bytes.specs.Refusal.{IsPlain}
+use Rattle.yasna_bytes.specs.declared.bytes.header.Refusal.{Refusal}
+use Rattle.yasna_bytes.specs.declared.bytes.text.Class.{Class}
+use Rattle.yasna_bytes.specs.declared.bytes.text.Class.TheVariants.{Utf8, Numeric, Printable, Ia5, Visible, Bmp}
+
+-- octets are taken exactly where they say by W what the view of a value is
+abbrev pub Judges : {V A : Type 0} → (A → List ℕ → Type 0) → (V → A) → List ℕ → Result V ASN1ErrorKind → Type 0
+Judges W view o (Ok v) = W (view v) o
+Judges {V} {A} W view o (Err k) = ((k ≡ OutOfMemory) × (o ≡ [] → ⊥)) ⊎ (IsPlain k × ((v : A) → W v o → ⊥))
+
+-- a string whose octets say by K what the view of a value is, and the rest, or a refusal
+abbrev pub SaidAt : {V A : Type 0} → (BERMode → A → List ℕ → Type 0) → (V → A) → ℕ → BERMode → Tag → List ℕ → Result (V × Bor (List ℕ)) Refusal → Type 0
+SaidAt K view n m t s r = SeenAt (IsStringOf K n m t) view (IsDeepOctets n m t s) (WantsMemory n t s) t s r
+
+-- what the octets of a text of each class say
+abbrev pub Spells : Class → BERMode → List ℕ → List ℕ → Type 0
+Spells Utf8 m text o = IsUtf8In InUtf8 m text o
+Spells Numeric m text o = IsUtf8In InNumeric m text o
+Spells Printable m text o = IsUtf8In InPrintable m text o
+Spells Ia5 m text o = IsUtf8In InIa5 m text o
+Spells Visible m text o = IsUtf8In InVisible m text o
+Spells Bmp m text o = IsBmp m text o
+
+-- what the class asks of each octet, or of their number
+abbrev pub MayHold : Class → List ℕ → Type 0
+MayHold Utf8 o = Unit {0}
+MayHold Numeric o = AllByRecursion InNumeric o
+MayHold Printable o = AllByRecursion InPrintable o
+MayHold Ia5 o = AllByRecursion InIa5 o
+MayHold Visible o = AllByRecursion InVisible o
+MayHold Bmp o = length o % 2 ≡ 0

@@ -1,0 +1,155 @@
+-- The walk over raw elements.
+use Rattle.std.specs.Borrow.{Bor}
+use Rattle.std.specs.Prelude.{◌≡◌, ◌↔◌, ◌⊎◌, ℕ, ◌^◌, ◌<◌, ◌≤◌, List, [], ◌∷◌, ◌++◌, Result, Ok, Err, false}
+use Rattle.yasna_base.specs.Element.{TakesIndefinite}
+use Rattle.yasna_base.specs.Header.{ContentsEnd, counted, uncounted, OpensAt}
+use Rattle.yasna_base.specs.Identifier.{end_tag, StartsElement, AtEnd}
+use Rattle.yasna_base.specs.Raw.{RawValue, LooksInto, LooksUpTo, IsRaw, JoiningBefore, IsDeepRaw, ContentsTo}
+use Rattle.yasna_base.specs.declared.error.ASN1ErrorKind.{ASN1ErrorKind}
+use Rattle.yasna_base.specs.declared.error.ASN1ErrorKind.TheVariants.{OutOfMemory, StackOverflow}
+use Rattle.yasna_base.specs.declared.mode.BERMode.{BERMode}
+use Rattle.yasna_base.specs.declared.tag.PCBit.{PCBit}
+use Rattle.yasna_base.specs.declared.tag.Tag.{Tag}
+use Rattle.yasna_bytes.specs.Front.{Stands}
+use Rattle.yasna_bytes.specs.Header.{AnyBit, HasHeader, EndsAt, EndsBefore, contents_end}
+use Rattle.yasna_bytes.specs.declared.bytes.header.Opened.{Opened}
+use Rattle.yasna_bytes.specs.declared.bytes.header.Refusal.{Refusal}
+use Rattle.yasna_bytes.specs.declared.bytes.walk.RawElement.{RawElement}
+use Rattle.yasna_bytes.specs.declared.bytes.walk.Turn.{Turn}
+use Rattle.yasna_bytes.specs.declared.bytes.walk.Turn.TheVariants.{Left, Passed, Entered}
+
+-- the identifier of the end of contents begins so, primitive or constructed
+abbrev pub IsEndByte : ℕ → Type 0
+IsEndByte b = b ≡ 0 ⊎ b ≡ 32
+
+-- no header of an element stands at the front, but for a tag of the end of contents
+abbrev pub NoHeader : BERMode → ℕ → List ℕ → Type 0
+NoHeader m n s = (t : Tag) → t.tag_number < 2 ^ 64 → (t ≡ end_tag → ⊥) → HasHeader AnyBit m n t s → ⊥
+
+-- an element stands there that no level is left for
+abbrev pub HasNoLevel : ℕ → List ℕ → Type 0
+HasNoLevel n s = (n ≡ 0) × StartsElement s
+
+-- why no header was read
+pub record NotOpened (m : BERMode) (n : ℕ) (s : List ℕ) (e : Refusal) : Type 0 where
+  pub none : NoHeader m n s
+  pub moved : e.moved ≡ false ↔ AtEnd s
+  pub deep : e.kind ≡ StackOverflow ↔ HasNoLevel n s
+  pub no_memory : e.kind ≡ OutOfMemory → ⊥
+
+-- the header of an element stands at the front, and a level is left for it
+pub record IsOpened (m : BERMode) (n : ℕ) (s : List ℕ) (t : Tag) (p : PCBit) (c : List ℕ) (e : ContentsEnd) : Type 0 where
+  pub level : 1 ≤ n
+  pub not_end : t ≡ end_tag → ⊥
+  pub opens : OpensAt m t p s c e
+
+abbrev pub AnyOpenedAt : BERMode → ℕ → List ℕ → Result (Tag × Opened) Refusal → Type 0
+AnyOpenedAt m n s (Ok x) = IsOpened m n s x.0 x.1.bit x.1.within.now (contents_end x.1.after)
+AnyOpenedAt m n s (Err e) = NotOpened m n s e
+
+-- an element isn't looked into, and r follows it
+pub record Passes (m : BERMode) (n : ℕ) (s r : List ℕ) : Type 0 where
+  pub tag : Tag
+  pub bit : PCBit
+  pub contents : List ℕ
+  pub opened : IsOpened m n s tag bit contents (counted r)
+  pub closed : LooksInto m bit → ⊥
+
+-- an element is looked into, and c are its contents
+pub record Enters (m : BERMode) (n : ℕ) (s c : List ℕ) (e : ContentsEnd) : Type 0 where
+  pub tag : Tag
+  pub bit : PCBit
+  pub opened : IsOpened m n s tag bit c e
+  pub looks : LooksUpTo m bit e
+
+-- neither the end of contents that end so stands there nor an element
+pub record Stops (m : BERMode) (n : ℕ) (e : ContentsEnd) (s : List ℕ) (k : ASN1ErrorKind) : Type 0 where
+  pub open_end : EndsAt e s → ⊥
+  pub none : NoHeader m n s
+  pub deep : k ≡ StackOverflow ↔ HasNoLevel n s
+  pub no_memory : k ≡ OutOfMemory → ⊥
+
+-- y is where contents end, and r are left of y behind that
+abbrev pub EndsHere : ContentsEnd → List ℕ → List ℕ → Type 0
+EndsHere (counted a) y r = (y ≡ []) × (r ≡ [])
+EndsHere uncounted y r = y ≡ 0 ∷ 0 ∷ r
+
+-- the contents behind a header are looked into, or the element is passed
+abbrev pub TurnsTo : BERMode → Opened → Turn → Type 0
+TurnsTo m o (Left a) = ⊥
+TurnsTo m o (Passed a) = (contents_end o.after ≡ counted a.now) × (LooksInto m o.bit → ⊥)
+TurnsTo m o (Entered x) = (x ≡ o) × LooksUpTo m x.bit (contents_end x.after)
+
+-- what stands at a place in contents that end so
+abbrev pub TurnOf : BERMode → ℕ → ContentsEnd → List ℕ → Result Turn ASN1ErrorKind → Type 0
+TurnOf m n e s (Ok (Left a)) = EndsHere e s a.now
+TurnOf m n e s (Ok (Passed a)) = Passes m n s a.now
+TurnOf m n e s (Ok (Entered o)) = Enters m n s o.within.now (contents_end o.after)
+TurnOf m n e s (Err k) = Stops m n e s k
+
+-- raw elements within n levels stand from s on to the end of contents that end so, and a follows
+abbrev pub ClosesBefore : ℕ → BERMode → ContentsEnd → List ℕ → List ℕ → Type 0
+ClosesBefore n m e s a = JoiningBefore (IsRaw n m) (λ q. EndsBefore e q a) s
+
+-- raw elements stand from s on up to one that no level is left for
+abbrev pub MeetsDeep : ℕ → BERMode → List ℕ → Type 0
+MeetsDeep n m s = JoiningBefore (IsRaw n m) (IsDeepRaw n m) s
+
+-- why contents weren't walked to their end
+pub record NotWalked (m : BERMode) (n : ℕ) (e : ContentsEnd) (s : List ℕ) (k : ASN1ErrorKind) : Type 0 where
+  pub none : (a : List ℕ) → ClosesBefore n m e s a → ⊥
+  pub deep : k ≡ StackOverflow ↔ MeetsDeep n m s
+  pub no_memory : k ≡ OutOfMemory → ⊥
+
+-- contents that end so were walked from s on
+abbrev pub WalksTo : BERMode → ℕ → ContentsEnd → List ℕ → Result (Bor (List ℕ)) ASN1ErrorKind → Type 0
+WalksTo m n e s (Ok a) = ClosesBefore n m e s a.now
+WalksTo m n e s (Err k) = NotWalked m n e s k
+
+-- where a mode takes contents that end so
+abbrev pub TakesEnd : BERMode → PCBit → ContentsEnd → Type 0
+TakesEnd m p (counted a) = Unit {0}
+TakesEnd m p uncounted = TakesIndefinite m p
+
+-- where it takes and walks them in some elements
+abbrev pub IsWalked : BERMode → ContentsEnd → Type 0
+IsWalked m e = (p : PCBit) × TakesEnd m p e × LooksUpTo m p e
+
+-- what follows contents within those around them, where their length is counted
+abbrev pub following : ContentsEnd → List ℕ
+following (counted a) = a
+following uncounted = []
+
+-- an element whose header was read ends, or its contents, which are looked into, don't
+abbrev pub FollowsAt : BERMode → ℕ → PCBit → List ℕ → ContentsEnd → Result (Bor (List ℕ)) ASN1ErrorKind → Type 0
+FollowsAt m n p c e (Ok r) = ContentsTo (IsRaw n m) m p c e r.now
+FollowsAt m n p c e (Err k) = LooksUpTo m p e × NotWalked m n e c k
+
+-- r are the last of s
+abbrev pub IsRest : List ℕ → List ℕ → Type 0
+IsRest s r = (b : List ℕ) × (s ≡ b ++ r)
+
+-- where the length of the contents c isn't counted, r are the last of them
+abbrev pub HasRest : ContentsEnd → List ℕ → List ℕ → Type 0
+HasRest (counted z) c r = Unit {0}
+HasRest uncounted c r = IsRest c r
+
+abbrev pub element_of : RawElement → RawValue
+element_of x = record { tag = x.tag; bit = x.bit; payload = x.payload.now }
+
+-- How bytes are refused as a raw element: none stands there. It is unmoved exactly at an end, and of depth exactly where
+-- one meets an element that no level is left for
+pub record RefusesRaw (m : BERMode) (n : ℕ) (s : List ℕ) (e : Refusal) : Type 0 where
+  pub none : Stands (IsRaw n m) s → ⊥
+  pub moved : e.moved ≡ false ↔ AtEnd s
+  pub deep : e.kind ≡ StackOverflow ↔ IsDeepRaw n m s
+  pub no_memory : e.kind ≡ OutOfMemory → ⊥
+
+-- a raw element at the front of s, and the rest
+pub record TakesRaw (m : BERMode) (n : ℕ) (s : List ℕ) (x : RawElement) (r : List ℕ) : Type 0 where
+  pub raw : IsRaw n m (element_of x) x.bytes.now
+  pub joined : s ≡ x.bytes.now ++ r
+
+abbrev pub RawElementAt : BERMode → ℕ → List ℕ → Result (RawElement × Bor (List ℕ)) Refusal → Type 0
+RawElementAt m n s (Ok x) = TakesRaw m n s x.0 x.1.now
+RawElementAt m n s (Err e) = RefusesRaw m n s e

@@ -1,0 +1,145 @@
+//! The contents of OBJECT IDENTIFIER (X.690, 8.19).
+ghost use Rattle.std.specs.Prelude.{ℕ, List, ◌≡◌, ◌+◌, ◌*◌, ◌++◌, ◌∷◌, [], MatchResult, IfErr};
+ghost use Rattle.yasna_base.specs.declared.error.ASN1ErrorKind.TheVariants.{OutOfMemory};
+ghost use Rattle.yasna_base.specs.declared.mode.BERMode.{BERMode};
+ghost use Rattle.yasna_base.specs.Oid.{AreFirstTwo, AreComponents};
+ghost use Rattle.yasna_bytes.specs.Contents.{Decides, WantsMemory};
+ghost use Rattle.yasna_bytes.specs.Oid.{AppendsFirst, AppendsNumbers};
+ghost use Rattle.yasna_bytes.specs.Refusal.{IsPlain};
+
+use crate::bytes::contents::Contents;
+use std::alloc::Global;
+use yasna_base::bytes::base128::read_base128;
+use yasna_base::error::ASN1ErrorKind;
+use yasna_base::mode::BERMode;
+use yasna_base::models::ObjectIdentifier;
+
+// How many components there are: one for each byte that ends a subidentifier, and one more.
+#[inline(always)]
+fn count(contents: &[u8]) -> usize {
+    contents
+        .iter()
+        .filter(|byte| **byte < 128)
+        .count()
+        .saturating_add(1)
+}
+
+// The first two components (X.690, 8.19.4).
+#[inline(always)]
+fn first_two(number: u64) -> (u64, u64)
+    ensures two { AreFirstTwo result.0 result.1 }
+    ensures number { 40 * result.0 + result.1 ≡ number }
+{
+    if number < 40 {
+        (0, number)
+    } else if number < 80 {
+        (1, number - 40)
+    } else {
+        (2, number - 80)
+    }
+}
+
+// Appends a component.
+#[inline(always)]
+fn push(components: &mut Vec<u64>, component: u64) -> Result<(), ASN1ErrorKind>
+    ensures { MatchResult result (λ _. components.new.items ≡ components.old.items ++ (component ∷ [])) (λ kind. kind ≡ OutOfMemory) }
+{
+    match components.push(component) {
+        Ok(()) => Ok(()),
+        Err(_) => Err(ASN1ErrorKind::OutOfMemory),
+    }
+}
+
+// Appends the first two components.
+#[inline(always)]
+fn push_first(components: &mut Vec<u64>, number: u64) -> Result<(), ASN1ErrorKind>
+    ensures { AppendsFirst number components.old.items components.new.items result }
+{
+    let (first, second) = first_two(number);
+    if let Err(kind) = push(components, first) {
+        return Err(kind);
+    }
+    push(components, second)
+}
+
+// Appends a component for each further subidentifier.
+#[inline(always)]
+fn push_all(components: &mut Vec<u64>, contents: &[u8]) -> Result<(), ASN1ErrorKind>
+    ensures { AppendsNumbers contents.now components.old.items components.new.items result }
+{
+    let mut rest = contents;
+    while !rest.is_empty() {
+        match read_base128(rest) {
+            Ok((number, after)) => {
+                if let Err(kind) = push(components, number) {
+                    return Err(kind);
+                }
+                rest = after;
+            }
+            Err(kind) => return Err(kind),
+        }
+    }
+    Ok(())
+}
+
+// The object identifier that contents stand for.
+#[inline(always)]
+fn read_components(alloc: Global, contents: &[u8]) -> Result<ObjectIdentifier, ASN1ErrorKind>
+    ensures { (m : BERMode) → Decides (AreComponents m) (λ v. v) WantsMemory contents.now result }
+{
+    if contents.is_empty() {
+        return Err(ASN1ErrorKind::Invalid);
+    }
+    let Ok(mut components) = Vec::with_capacity(alloc, count(contents)) else {
+        return Err(ASN1ErrorKind::OutOfMemory);
+    };
+    let (number, rest) = match read_base128(contents) {
+        Ok(first) => first,
+        Err(kind) => return Err(kind),
+    };
+    if let Err(kind) = push_first(&mut components, number) {
+        return Err(kind);
+    }
+    match push_all(&mut components, rest) {
+        Ok(()) => Ok(ObjectIdentifier::new(components)),
+        Err(kind) => Err(kind),
+    }
+}
+
+// Of what kind a refusal is, where first it is asked whether the last subidentifier ends.
+#[cold]
+#[inline(never)]
+fn fault(contents: &[u8], kind: ASN1ErrorKind) -> ASN1ErrorKind
+    ensures memory { kind ≡ OutOfMemory → result ≡ OutOfMemory }
+    ensures plain { IsPlain kind → IsPlain result }
+{
+    match kind {
+        ASN1ErrorKind::OutOfMemory => kind,
+        _ => match contents {
+            [.., last] if *last < 128 => kind,
+            _ => ASN1ErrorKind::Invalid,
+        },
+    }
+}
+
+impl Contents for ObjectIdentifier {
+    ghost Said = { List ℕ };
+
+    ghost view = { λ v. v };
+
+    ghost means = { AreComponents };
+
+    ghost wants = { WantsMemory };
+
+    #[inline(always)]
+    fn of_contents(
+        alloc: Global,
+        _mode: BERMode,
+        contents: &[u8],
+    ) -> Result<ObjectIdentifier, ASN1ErrorKind> {
+        match read_components(alloc, contents) {
+            Ok(oid) => Ok(oid),
+            Err(kind) => Err(fault(contents, kind)),
+        }
+    }
+}

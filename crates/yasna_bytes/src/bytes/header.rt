@@ -1,0 +1,205 @@
+//! The header of an element: identifier, length, and the cut of the contents (X.690, 8.1).
+ghost use Rattle.std.specs.Prelude.{◌≡◌, IsTrue, ◌↔◌};
+ghost use Rattle.yasna_base.specs.Element.{TakesIndefinite};
+ghost use Rattle.yasna_bytes.specs.Refusal.{IsPlain};
+ghost use Rattle.yasna_base.specs.Header.{uncounted};
+ghost use Rattle.yasna_bytes.specs.Header.{ContentsAt, OpenedAt, ConstructedAt, PrimitiveAt, ClosesAt, contents_end};
+
+use crate::bytes::cursor::Cursor;
+use crate::bytes::length::{cut, read_length};
+use yasna_base::bytes::identifier::read_identifier;
+use yasna_base::error::ASN1ErrorKind;
+use yasna_base::mode::BERMode;
+use yasna_base::tag::{PCBit, Tag};
+
+/// Why no element was taken from the front of bytes.
+#[derive(Clone, Copy, PartialEq, Eq, Debug)]
+pub struct Refusal {
+    /// What is wrong.
+    pub kind: ASN1ErrorKind,
+    /// Whether an identifier was passed before it showed: false where nothing is left or an element of another tag stands there.
+    pub moved: bool,
+}
+
+/// An element whose header was read.
+#[derive(Drop)]
+pub struct Opened<'a> {
+    /// Whether the contents are elements.
+    pub bit: PCBit,
+    /// The contents, or where their length is indefinite all bytes that are left.
+    pub within: &'a [u8],
+    /// What follows the contents, where their length is definite.
+    pub after: Option<&'a [u8]>,
+}
+
+/// The refusal of this kind.
+#[inline(always)]
+pub fn refuse(kind: ASN1ErrorKind, moved: bool) -> Refusal
+    ensures { result ≡ record { kind = kind; moved = moved } }
+{
+    Refusal { kind, moved }
+}
+
+// Whether a mode takes an element of indefinite length.
+#[inline(always)]
+fn takes_indefinite(mode: BERMode, bit: PCBit) -> bool
+    ensures { IsTrue result ↔ TakesIndefinite mode bit }
+{
+    match mode {
+        BERMode::Ber => match bit {
+            PCBit::Primitive => false,
+            PCBit::Constructed => true,
+        },
+        BERMode::Der => false,
+    }
+}
+
+#[inline(always)]
+fn is_tag(found: Tag, wanted: Tag) -> bool
+    ensures { IsTrue result ↔ (found ≡ wanted) }
+{
+    found == wanted
+}
+
+// Of what kind the refusal is where fewer than `size` bytes are left up to the place `end`.
+#[cold]
+#[inline(never)]
+fn length_fault(end: usize, rest: &[u8], size: usize) -> ASN1ErrorKind
+    ensures { IsPlain result }
+{
+    let place = end.saturating_sub(rest.len());
+    match size.checked_add(place) {
+        Some(_) => ASN1ErrorKind::Eof,
+        None => ASN1ErrorKind::IntegerOverflow,
+    }
+}
+
+/// Reads the header of an element of this tag, and cuts off its contents where they have a length.
+#[inline(always)]
+pub fn open(cursor: Cursor<'_>, tag: Tag) -> Result<Opened<'_>, Refusal>
+    ensures { OpenedAt cursor.entry.mode cursor.entry.levels tag cursor.entry.left.now result }
+{
+    if cursor.left.is_empty() {
+        return Err(refuse(ASN1ErrorKind::Eof, false));
+    }
+    let (found, bit, rest) = match read_identifier(cursor.left) {
+        Ok(identifier) => identifier,
+        Err(kind) => return Err(refuse(kind, true)),
+    };
+    if !is_tag(found, tag) {
+        return Err(refuse(ASN1ErrorKind::Invalid, false));
+    }
+    if cursor.levels == 0 {
+        return Err(refuse(ASN1ErrorKind::StackOverflow, true));
+    }
+    match contents(rest, cursor.mode, bit, cursor.end) {
+        Ok((within, after)) => Ok(Opened { bit, within, after }),
+        Err(kind) => Err(refuse(kind, true)),
+    }
+}
+
+/// Reads a length, and cuts off the contents that it counts.
+#[inline(always)]
+pub fn contents(
+    s: &[u8],
+    mode: BERMode,
+    bit: PCBit,
+    end: usize,
+) -> Result<(&[u8], Option<&[u8]>), ASN1ErrorKind>
+    ensures { ContentsAt mode bit s.now result }
+{
+    match read_length(s, mode) {
+        Ok((Some(size), rest)) => match cut(rest, size) {
+            Some((within, after)) => Ok((within, Some(after))),
+            None => Err(length_fault(end, rest, size)),
+        },
+        Ok((None, rest)) => {
+            if takes_indefinite(mode, bit) {
+                Ok((rest, None))
+            } else {
+                Err(ASN1ErrorKind::Invalid)
+            }
+        }
+        Err(kind) => Err(kind),
+    }
+}
+
+/// The same, of a constructed element.
+#[inline(always)]
+pub fn constructed(cursor: Cursor<'_>, tag: Tag) -> Result<Opened<'_>, Refusal>
+    ensures { ConstructedAt cursor.entry.mode cursor.entry.levels tag cursor.entry.left.now result }
+{
+    match open(cursor, tag) {
+        Ok(opened) => match opened.bit {
+            PCBit::Constructed => Ok(opened),
+            PCBit::Primitive => Err(refuse(ASN1ErrorKind::Invalid, true)),
+        },
+        Err(refusal) => Err(refusal),
+    }
+}
+
+/// The contents of a primitive element of this tag, and the rest.
+#[inline(always)]
+pub fn primitive(cursor: Cursor<'_>, tag: Tag) -> Result<(&[u8], &[u8]), Refusal>
+    ensures { PrimitiveAt cursor.entry.levels cursor.entry.mode tag cursor.entry.left.now result }
+{
+    match open(cursor, tag) {
+        Ok(opened) => match opened.bit {
+            PCBit::Primitive => match opened.after {
+                Some(after) => Ok((opened.within, after)),
+                // No mode takes the indefinite form there.
+                None => Err(refuse(ASN1ErrorKind::Invalid, true)),
+            },
+            PCBit::Constructed => Err(refuse(ASN1ErrorKind::Invalid, true)),
+        },
+        Err(refusal) => Err(refusal),
+    }
+}
+
+/// What follows an element whose contents were read as far as `rest`, where they end there.
+#[inline(always)]
+pub fn close<'a>(after: Option<&'a [u8]>, rest: &'a [u8]) -> Result<&'a [u8], ASN1ErrorKind>
+    ensures { ClosesAt (contents_end after.entry) rest.now result }
+{
+    let Some(after) = after else {
+        return end_of_contents(rest);
+    };
+    if rest.is_empty() {
+        Ok(after)
+    } else {
+        Err(ASN1ErrorKind::Extra)
+    }
+}
+
+// What follows the two zeros that end contents of indefinite length.
+#[inline(always)]
+fn end_of_contents(s: &[u8]) -> Result<&[u8], ASN1ErrorKind>
+    ensures { ClosesAt uncounted s.now result }
+{
+    let Some((first, rest)) = s.split_first() else {
+        return Err(ASN1ErrorKind::Eof);
+    };
+    if *first != 0 {
+        return Err(end_fault(s));
+    }
+    let Some((second, after)) = rest.split_first() else {
+        return Err(ASN1ErrorKind::Eof);
+    };
+    if *second == 0 {
+        Ok(after)
+    } else {
+        Err(ASN1ErrorKind::Invalid)
+    }
+}
+
+// Of what kind the refusal is where contents of indefinite length go on with something else.
+#[cold]
+#[inline(never)]
+fn end_fault(s: &[u8]) -> ASN1ErrorKind
+    ensures { IsPlain result }
+{
+    match read_identifier(s) {
+        Ok(_) => ASN1ErrorKind::Invalid,
+        Err(kind) => kind,
+    }
+}

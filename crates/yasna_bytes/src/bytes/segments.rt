@@ -1,0 +1,163 @@
+//! Strings of bytes, in one element or cut into segments (X.690, 8.6, 8.7 and 8.23).
+//!
+//! `string` reads any kind of string, whose own file holds its impl of `Tally`.
+ghost use Rattle.std.specs.Prelude.{◌≡◌, ℕ, ◌-◌, List, IsTrue, ◌↔◌};
+ghost use Rattle.yasna_base.specs.Cut.{Cutting, TakesPieces};
+ghost use Rattle.yasna_base.proofs.Cut.{CutsOnce};
+ghost use Rattle.yasna_bytes.specs.Segments.{GoOn, Says, IsOfNone, Adds, TellsWhetherMore, WholeAt, SegmentsAt, StringAt, WithVecAt};
+
+mod bits;
+mod octets;
+
+use crate::bytes::cursor::Cursor;
+use crate::bytes::header::{Refusal, close, open, refuse};
+pub use bits::bit_string;
+pub use octets::octet_string;
+use std::alloc::Global;
+use yasna_base::error::ASN1ErrorKind;
+use yasna_base::mode::BERMode;
+use yasna_base::tag::{PCBit, Tag};
+
+/// What is known of a kind of string besides its bytes, as its segments are read.
+pub trait Tally: Sized + Copy {
+    // The values of such strings, and how the strings are cut.
+    ghost Value: { Type 0 };
+
+    ghost cutting: { Cutting Value };
+
+    // The value of bytes of which this is known besides.
+    ghost value: { List ℕ → Self → Value };
+
+    /// The tag of each segment.
+    fn tag() -> Tag
+        ensures { result ≡ cutting.piece };
+
+    /// What is known of no segments.
+    fn none() -> Self
+        ensures { IsOfNone cutting value result };
+
+    /// What the contents of a primitive element say: what is known, and the bytes.
+    fn of_contents(mode: BERMode, contents: &[u8]) -> Result<(Self, &[u8]), ASN1ErrorKind>
+        ensures { Says cutting value mode contents.now result };
+
+    /// What is known of these segments and one more.
+    fn with(self, segment: Self) -> Result<Self, ASN1ErrorKind>
+        ensures { Adds cutting value self segment result };
+
+    /// Whether a further segment may follow.
+    fn may_go_on(self) -> bool
+        ensures { TellsWhetherMore cutting value self (IsTrue result) };
+
+    ghost once: { CutsOnce cutting };
+
+    ghost go_on: { GoOn cutting };
+}
+
+// Whether a mode takes strings in segments.
+#[inline(always)]
+fn takes_pieces(mode: BERMode) -> bool
+    ensures { IsTrue result ↔ TakesPieces mode }
+{
+    match mode {
+        BERMode::Ber => true,
+        BERMode::Der => false,
+    }
+}
+
+// Appends what the contents of a primitive element say.
+#[inline(always)]
+fn whole<T: Tally>(out: &mut Vec<u8>, mode: BERMode, contents: &[u8]) -> Result<T, ASN1ErrorKind>
+    ensures { WholeAt T.cutting T.value mode contents.now out.old.items result out.new.items }
+{
+    match T::of_contents(mode, contents) {
+        Ok((tally, bytes)) => match out.extend_from_slice(bytes) {
+            Ok(()) => Ok(tally),
+            Err(_) => Err(ASN1ErrorKind::OutOfMemory),
+        },
+        Err(kind) => Err(kind),
+    }
+}
+
+// Reads a string with this tag, and appends its bytes.
+#[cycle(string)]
+#[inline(always)]
+fn element<'a, T: Tally>(
+    out: &mut Vec<u8>,
+    cursor: Cursor<'a>,
+    tag: Tag,
+) -> Result<(T, &'a [u8]), Refusal>
+    ensures { StringAt T.cutting T.value cursor.entry.levels cursor.entry.mode tag cursor.entry.left.now out.old.items result out.new.items }
+{
+    let opened = match open(cursor, tag) {
+        Ok(opened) => opened,
+        Err(refusal) => return Err(refusal),
+    };
+    match opened.bit {
+        PCBit::Primitive => {
+            let Some(after) = opened.after else {
+                // No mode takes the indefinite form there.
+                return Err(refuse(ASN1ErrorKind::Invalid, true));
+            };
+            match whole::<T>(out, cursor.mode, opened.within) {
+                Ok(tally) => Ok((tally, after)),
+                Err(kind) => Err(refuse(kind, true)),
+            }
+        }
+        PCBit::Constructed => {
+            if !takes_pieces(cursor.mode) {
+                return Err(refuse(ASN1ErrorKind::Invalid, true));
+            }
+            let (tally, rest) = match segments::<T>(out, cursor.inside(&opened)) {
+                Ok(taken) => taken,
+                Err(refusal) => return Err(refusal),
+            };
+            match close(opened.after, rest) {
+                Ok(after) => Ok((tally, after)),
+                Err(kind) => Err(refuse(kind, true)),
+            }
+        }
+    }
+}
+
+// Reads segments as far as there are any, and appends their bytes.
+#[cycle(string)]
+#[inline(never)]
+fn segments<'a, T: Tally>(out: &mut Vec<u8>, contents: Cursor<'a>) -> Result<(T, &'a [u8]), Refusal>
+    ensures { SegmentsAt T.cutting T.value contents.entry.levels contents.entry.mode contents.entry.left.now out.old.items result out.new.items }
+{
+    let mut place = contents;
+    let mut tally = T::none();
+    while tally.may_go_on() {
+        let (segment, rest) = match element::<T>(out, place, T::tag()) {
+            Ok(taken) => taken,
+            Err(refusal) => {
+                if refusal.moved {
+                    return Err(refusal);
+                }
+                return Ok((tally, place.left));
+            }
+        };
+        place = place.further(rest);
+        tally = match tally.with(segment) {
+            Ok(all) => all,
+            Err(kind) => return Err(refuse(kind, true)),
+        };
+    }
+    Ok((tally, place.left))
+}
+
+/// The string with this tag at the front, its bytes and what is known of it besides, and the rest.
+#[inline(always)]
+pub fn string<'a, T: Tally + Drop>(
+    alloc: Global,
+    cursor: Cursor<'a>,
+    tag: Tag,
+) -> Result<((Vec<u8>, T), &'a [u8]), Refusal>
+    ensures { WithVecAt T.cutting T.value cursor.entry.levels cursor.entry.mode tag cursor.entry.left.now result }
+{
+    let mut bytes = Vec::new(alloc);
+    match element::<T>(&mut bytes, cursor, tag) {
+        Ok((tally, rest)) => Ok(((bytes, tally), rest)),
+        Err(refusal) => Err(refusal),
+    }
+}

@@ -1,0 +1,123 @@
+//! Bit strings (X.690, 8.6 and 11.2.1).
+ghost use Rattle.std.specs.Prelude.{◌≡◌, ◌∷◌, ◌+◌, ◌*◌, ◌-◌, ◌^◌, ◌≤◌, ◌<◌, length, IsTrue, ◌↔◌, MatchOption};
+ghost use Rattle.yasna_base.proofs.Bits.{bits_once, joined_follow, follow_front};
+ghost use Rattle.yasna_base.specs.Bits.{BitString, IsPadded, bits_cutting};
+ghost use Rattle.yasna_bytes.specs.Segments.{BitsAt};
+
+use crate::bytes::cursor::Cursor;
+use crate::bytes::header::Refusal;
+use crate::bytes::segments::{Tally, string};
+use std::alloc::Global;
+use yasna_base::error::ASN1ErrorKind;
+use yasna_base::mode::BERMode;
+use yasna_base::tag::Tag;
+use yasna_base::tags::TAG_BITSTRING;
+
+/// Bits: how many there are.
+#[derive(Clone, Copy, Drop)]
+pub struct Bits {
+    count: usize,
+}
+
+// Whether the unused bits at the end are as the mode asks them to be.
+#[inline(always)]
+fn is_padded(mode: BERMode, unused: u8, bytes: &[u8]) -> bool
+    requires { unused ≤ 7 }
+    ensures { IsTrue result ↔ IsPadded mode unused bytes.now }
+{
+    match mode {
+        BERMode::Ber => true,
+        BERMode::Der => match bytes.last() {
+            Some(last) => *last % (1u8 << unused) == 0,
+            None => true,
+        },
+    }
+}
+
+// How many bits so many bytes hold, of which some are unused.
+#[inline(always)]
+fn used_bits(bytes: usize, unused: u8) -> Option<usize>
+    requires few { unused ≤ 7 }
+    requires none_of_none { bytes ≡ 0 → unused ≡ 0 }
+    ensures { MatchOption result (2 ^ 64 + unused ≤ 8 * bytes) (λ count. count + unused ≡ 8 * bytes) }
+{
+    if bytes == 0 {
+        return Some(0);
+    }
+    match (bytes - 1).checked_mul(8) {
+        Some(count) => count.checked_add(usize::from(8 - unused)),
+        None => None,
+    }
+}
+
+impl Tally for Bits {
+    ghost Value = { BitString };
+
+    ghost cutting = { bits_cutting };
+
+    ghost value = { λ b x. record { bytes = b; count = x.count } };
+
+    #[inline(always)]
+    fn tag() -> Tag {
+        TAG_BITSTRING
+    }
+
+    #[inline(always)]
+    fn none() -> Bits {
+        Bits { count: 0 }
+    }
+
+    #[inline(always)]
+    fn of_contents(mode: BERMode, contents: &[u8]) -> Result<(Bits, &[u8]), ASN1ErrorKind> {
+        let Some((unused, bytes)) = contents.split_first() else {
+            return Err(ASN1ErrorKind::Invalid);
+        };
+        let unused = *unused;
+        if unused >= 8 {
+            return Err(ASN1ErrorKind::Invalid);
+        }
+        if bytes.is_empty() && unused != 0 {
+            return Err(ASN1ErrorKind::Invalid);
+        }
+        if !is_padded(mode, unused, bytes) {
+            return Err(ASN1ErrorKind::Invalid);
+        }
+        match used_bits(bytes.len(), unused) {
+            Some(count) => Ok((Bits { count }, bytes)),
+            None => Err(ASN1ErrorKind::IntegerOverflow),
+        }
+    }
+
+    #[inline(always)]
+    fn with(self, segment: Bits) -> Result<Bits, ASN1ErrorKind> {
+        match self.count.checked_add(segment.count) {
+            Some(count) => Ok(Bits { count }),
+            None => Err(ASN1ErrorKind::IntegerOverflow),
+        }
+    }
+
+    // Any segment but the last has none unused, so all together have as many unused as the last.
+    #[inline(always)]
+    fn may_go_on(self) -> bool {
+        self.count % 8 == 0
+    }
+
+    ghost once = { bits_once };
+
+    ghost go_on = { record { joined = joined_follow; more = λ vs ws w h. follow_front vs (w ∷ ws) h } };
+}
+
+/// The bit string with this tag at the front, its bytes and how many bits they hold, and the rest.
+#[inline(always)]
+pub fn bit_string<'a>(
+    alloc: Global,
+    cursor: Cursor<'a>,
+    tag: Tag,
+) -> Result<((Vec<u8>, usize), &'a [u8]), Refusal>
+    ensures { BitsAt cursor.entry.levels cursor.entry.mode tag cursor.entry.left.now result }
+{
+    match string::<Bits>(alloc, cursor, tag) {
+        Ok(((bytes, bits), rest)) => Ok(((bytes, bits.count), rest)),
+        Err(refusal) => Err(refusal),
+    }
+}

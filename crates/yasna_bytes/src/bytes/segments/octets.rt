@@ -1,0 +1,70 @@
+//! Octet strings (X.690, 8.7).
+ghost use Rattle.std.specs.Prelude.{List, ℕ};
+ghost use Rattle.yasna_base.proofs.Octets.{octets_once};
+ghost use Rattle.yasna_base.specs.Octets.{octets_cutting};
+ghost use Rattle.yasna_bytes.specs.Segments.{OctetsAt};
+
+use crate::bytes::cursor::Cursor;
+use crate::bytes::header::Refusal;
+use crate::bytes::segments::{Tally, string};
+use std::alloc::Global;
+use yasna_base::error::ASN1ErrorKind;
+use yasna_base::mode::BERMode;
+use yasna_base::tag::Tag;
+use yasna_base::tags::TAG_OCTETSTRING;
+
+/// Octets: nothing is known besides the bytes.
+#[derive(Clone, Copy, Drop)]
+pub struct Octets;
+
+impl Tally for Octets {
+    ghost Value = { List ℕ };
+
+    ghost cutting = { octets_cutting };
+
+    ghost value = { λ b x. b };
+
+    #[inline(always)]
+    fn tag() -> Tag {
+        TAG_OCTETSTRING
+    }
+
+    #[inline(always)]
+    fn none() -> Octets {
+        Octets
+    }
+
+    #[inline(always)]
+    fn of_contents(_mode: BERMode, contents: &[u8]) -> Result<(Octets, &[u8]), ASN1ErrorKind> {
+        Ok((Octets, contents))
+    }
+
+    #[inline(always)]
+    fn with(self, _segment: Octets) -> Result<Octets, ASN1ErrorKind> {
+        Ok(Octets)
+    }
+
+    #[inline(always)]
+    fn may_go_on(self) -> bool {
+        true
+    }
+
+    ghost once = { octets_once };
+
+    ghost go_on = { record { joined = λ m vs ws w v h. tt {0}; more = λ vs ws w h. tt {0} } };
+}
+
+/// The octet string with this tag at the front, and the rest.
+#[inline(always)]
+pub fn octet_string<'a>(
+    alloc: Global,
+    cursor: Cursor<'a>,
+    tag: Tag,
+) -> Result<(Vec<u8>, &'a [u8]), Refusal>
+    ensures { OctetsAt cursor.entry.levels cursor.entry.mode tag cursor.entry.left.now result }
+{
+    match string::<Octets>(alloc, cursor, tag) {
+        Ok(((bytes, _), rest)) => Ok((bytes, rest)),
+        Err(refusal) => Err(refusal),
+    }
+}

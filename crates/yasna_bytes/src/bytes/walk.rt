@@ -1,0 +1,297 @@
+//! Raw elements: their contents are elements one after the other, which are walked over (X.690, 8.1).
+//!
+//! In DER constructed contents are walked, in BER those of indefinite length alone. The walk is one loop that counts the
+//! bytes behind each element that it is in, and takes no memory.
+ghost use Rattle.std.specs.Prelude.{IsTrue, ◌↔◌, ◌≡◌, ◌≤◌, ◌-◌, ◌++◌, length, take, drop, MatchOption, Err};
+ghost use Rattle.yasna_base.specs.Raw.{LooksInto, IsPayload};
+ghost use Rattle.yasna_bytes.specs.Header.{EndsAt, contents_end};
+ghost use Rattle.yasna_bytes.specs.Refusal.{IsPlain};
+ghost use Rattle.yasna_bytes.specs.Walk.{IsEndByte, AnyOpenedAt, EndsHere, TurnsTo, TurnOf, TakesEnd, IsWalked, WalksTo, FollowsAt, following, IsRest, HasRest, RawElementAt};
+
+use crate::bytes::cursor::Cursor;
+use crate::bytes::header::{Opened, Refusal, contents, refuse};
+use yasna_base::bytes::identifier::read_identifier;
+use yasna_base::error::ASN1ErrorKind;
+use yasna_base::mode::BERMode;
+use yasna_base::tag::{PCBit, Tag};
+
+/// A raw element at the front of bytes.
+#[derive(Clone, Copy)]
+pub struct RawElement<'a> {
+    /// The tag.
+    pub tag: Tag,
+    /// Whether the contents are elements.
+    pub bit: PCBit,
+    /// What follows the length, with the two zeros that end contents of indefinite length.
+    pub payload: &'a [u8],
+    /// The whole element.
+    pub bytes: &'a [u8],
+}
+
+// What a walk meets at a place.
+#[derive(Drop)]
+enum Turn<'a> {
+    // The end of the innermost element, and what is left behind it of the bytes that the step was given.
+    Left(&'a [u8]),
+    // An element that isn't looked into, and what follows it.
+    Passed(&'a [u8]),
+    // The header of one that is.
+    Entered(Opened<'a>),
+}
+
+// Whether contents whose length is counted are walked.
+#[inline(always)]
+fn looks_into(mode: BERMode, bit: PCBit) -> bool
+    ensures { IsTrue result ↔ LooksInto mode bit }
+{
+    match mode {
+        BERMode::Ber => false,
+        BERMode::Der => match bit {
+            PCBit::Primitive => false,
+            PCBit::Constructed => true,
+        },
+    }
+}
+
+// Whether the identifier of the end of contents begins so, of a primitive element or a constructed one.
+#[inline(always)]
+fn is_end(first: u8) -> bool
+    ensures { IsTrue result ↔ IsEndByte first }
+{
+    first == 0 || first == 32
+}
+
+// Reads the header of an element of any tag but that of the end of contents.
+#[inline(always)]
+fn open_any(cursor: Cursor<'_>) -> Result<(Tag, Opened<'_>), Refusal>
+    ensures { AnyOpenedAt cursor.entry.mode cursor.entry.levels cursor.entry.left.now result }
+{
+    let [first, ..] = cursor.left else {
+        return Err(refuse(ASN1ErrorKind::Eof, false));
+    };
+    if is_end(*first) {
+        return Err(refuse(ASN1ErrorKind::Invalid, false));
+    }
+    let (tag, bit, rest) = match read_identifier(cursor.left) {
+        Ok(identifier) => identifier,
+        Err(kind) => return Err(refuse(kind, true)),
+    };
+    if cursor.levels == 0 {
+        return Err(refuse(ASN1ErrorKind::StackOverflow, true));
+    }
+    match contents(rest, cursor.mode, bit, cursor.end) {
+        Ok((within, after)) => Ok((tag, Opened { bit, within, after })),
+        Err(kind) => Err(refuse(kind, true)),
+    }
+}
+
+// What is left of these bytes behind the end of contents that end here.
+#[inline(always)]
+fn ended<'a>(end: Option<&[u8]>, rest: &'a [u8]) -> Option<&'a [u8]>
+    ensures { MatchOption result (EndsAt (contents_end end.entry) rest.now → ⊥) (λ a. EndsHere (contents_end end.entry) rest.now a.now) }
+{
+    match end {
+        Some(_) => { if rest.is_empty() { Some(rest) } else { None } }
+        None => match rest {
+            [0, 0, after @ ..] => Some(after),
+            _ => None,
+        },
+    }
+}
+
+// Of what kind the refusal is where the end of contents, which isn't one, or nothing stands in an element.
+#[cold]
+#[inline(never)]
+fn end_fault(end: Option<&[u8]>, rest: &[u8]) -> ASN1ErrorKind
+    ensures { IsPlain result }
+{
+    match end {
+        Some(_) => ASN1ErrorKind::Invalid,
+        None => match rest {
+            [] | [0] => ASN1ErrorKind::Eof,
+            _ => ASN1ErrorKind::Invalid,
+        },
+    }
+}
+
+// What a walk does with an element whose header was read.
+#[inline(always)]
+fn pass_or_enter<'a>(mode: BERMode, opened: Opened<'a>) -> Turn<'a>
+    ensures { TurnsTo mode opened.entry result }
+{
+    match opened.after {
+        None => Turn::Entered(opened),
+        Some(after) => {
+            if looks_into(mode, opened.bit) {
+                Turn::Entered(opened)
+            } else {
+                Turn::Passed(after)
+            }
+        }
+    }
+}
+
+// One step of a walk in an element that ends so.
+#[inline(always)]
+fn take_turn<'a>(cursor: Cursor<'a>, end: Option<&[u8]>) -> Result<Turn<'a>, ASN1ErrorKind>
+    ensures { TurnOf cursor.entry.mode cursor.entry.levels (contents_end end.entry) cursor.entry.left.now result }
+{
+    match open_any(cursor) {
+        Ok((_, opened)) => Ok(pass_or_enter(cursor.mode, opened)),
+        Err(refusal) => {
+            if refusal.moved {
+                return Err(refusal.kind);
+            }
+            match ended(end, cursor.left) {
+                Some(after) => Ok(Turn::Left(after)),
+                None => Err(end_fault(end, cursor.left)),
+            }
+        }
+    }
+}
+
+// The bytes in front of the last so many.
+#[inline(always)]
+fn all_but(s: &[u8], count: usize) -> &[u8]
+    requires { count ≤ length s.now }
+    ensures { result.now ≡ take (length s.now - count) s.now }
+{
+    &s[..s.len() - count]
+}
+
+// The last so many bytes.
+#[inline(always)]
+fn last(s: &[u8], count: usize) -> &[u8]
+    requires { count ≤ length s.now }
+    ensures { result.now ≡ drop (length s.now - count) s.now }
+{
+    &s[s.len() - count..]
+}
+
+// How many bytes follow an element within the contents around it, none where its length is indefinite.
+#[inline(always)]
+fn count_following(opened: &Opened<'_>) -> usize
+    ensures { result ≡ length (following (contents_end opened.now.after)) }
+{
+    match opened.after {
+        Some(after) => after.len(),
+        None => 0,
+    }
+}
+
+// A walk that stops for this reason, out of the way of its loop.
+#[cold]
+#[inline(never)]
+fn stopped<'a>(kind: ASN1ErrorKind) -> Result<&'a [u8], ASN1ErrorKind>
+    ensures { result ≡ Err kind }
+{
+    Err(kind)
+}
+
+// Walks over the elements that stand from here on in contents that end so, and answers what follows. A mode walks either
+// contents whose length is counted or those whose length is indefinite, so contents within end in the same way.
+#[inline(always)]
+fn walk_contents<'a>(cursor: Cursor<'a>, end: Option<&'a [u8]>) -> Result<&'a [u8], ASN1ErrorKind>
+    requires shallow { cursor.levels ≤ 100 }
+    requires walked { IsWalked cursor.mode (contents_end end) }
+    ensures { WalksTo cursor.entry.mode cursor.entry.levels (contents_end end.entry) cursor.entry.left.now result }
+{
+    // How many bytes of the outermost contents follow the innermost element; and those around it, each at the number of levels
+    // that are left one element further in.
+    let mut behind: usize = 0;
+    let mut outer: [usize; 100] = [0; 100];
+    let mut left = cursor.left;
+    let mut levels = cursor.levels;
+    loop {
+        match take_turn(cursor.within(left, behind, levels), end) {
+            Ok(Turn::Left(after)) => {
+                if levels == cursor.levels {
+                    return Ok(end.unwrap_or(after));
+                }
+                let rest = last(cursor.left, behind + after.len());
+                behind = outer[usize::from(levels)];
+                levels += 1;
+                left = all_but(rest, behind);
+            }
+            Ok(Turn::Passed(after)) => left = after,
+            Ok(Turn::Entered(opened)) => {
+                levels -= 1;
+                outer[usize::from(levels)] = behind;
+                behind += count_following(&opened);
+                left = opened.within;
+            }
+            Err(kind) => return stopped(kind),
+        }
+    }
+}
+
+// The same, by a loop for each mode: that asks for none at each step.
+#[inline(never)]
+fn walk<'a>(cursor: Cursor<'a>, end: Option<&'a [u8]>) -> Result<&'a [u8], ASN1ErrorKind>
+    requires shallow { cursor.levels ≤ 100 }
+    requires walked { IsWalked cursor.mode (contents_end end) }
+    ensures { WalksTo cursor.entry.mode cursor.entry.levels (contents_end end.entry) cursor.entry.left.now result }
+{
+    match cursor.mode {
+        BERMode::Ber => walk_contents(cursor.ruled_by(BERMode::Ber), end),
+        BERMode::Der => walk_contents(cursor.ruled_by(BERMode::Der), end),
+    }
+}
+
+// What follows an element with this header, where its contents stand to their end.
+#[inline(always)]
+fn follow<'a>(cursor: Cursor<'a>, opened: &Opened<'a>) -> Result<&'a [u8], ASN1ErrorKind>
+    requires level { 1 ≤ cursor.levels }
+    requires taken { TakesEnd cursor.mode opened.now.bit (contents_end opened.now.after) }
+    ensures { FollowsAt cursor.entry.mode (cursor.entry.levels - 1) opened.now.bit opened.now.within.now (contents_end opened.now.after) result }
+{
+    if let Some(after) = opened.after {
+        if !looks_into(cursor.mode, opened.bit) {
+            return Ok(after);
+        }
+    }
+    walk(cursor.inside(opened), opened.after)
+}
+
+/// The bytes in front of the last ones.
+#[inline(always)]
+pub fn in_front<'a>(s: &'a [u8], rest: &[u8]) -> &'a [u8]
+    requires { IsRest s.now rest.now }
+    ensures { s.now ≡ result.now ++ rest.now }
+{
+    &s[..s.len() - rest.len()]
+}
+
+// What follows the length of an element that ends before `rest`.
+#[inline(always)]
+fn payload<'a>(opened: &Opened<'a>, rest: &[u8]) -> &'a [u8]
+    requires { HasRest (contents_end opened.now.after) opened.now.within.now rest.now }
+    ensures { IsPayload opened.now.within.now (contents_end opened.now.after) rest.now result.now }
+{
+    match opened.after {
+        Some(_) => opened.within,
+        None => in_front(opened.within, rest),
+    }
+}
+
+/// Reads a raw element of any tag but that of the end of contents, and answers the rest too.
+#[inline(always)]
+pub fn raw_element(cursor: Cursor<'_>) -> Result<(RawElement<'_>, &[u8]), Refusal>
+    ensures { RawElementAt cursor.entry.mode cursor.entry.levels cursor.entry.left.now result }
+{
+    match open_any(cursor) {
+        Ok((tag, opened)) => match follow(cursor, &opened) {
+            Ok(rest) => {
+                let element = RawElement {
+                    tag,
+                    bit: opened.bit,
+                    payload: payload(&opened, rest),
+                    bytes: in_front(cursor.left, rest),
+                };
+                Ok((element, rest))
+            }
+            Err(kind) => Err(refuse(kind, true)),
+        },
+        Err(refusal) => Err(refusal),
+    }
+}

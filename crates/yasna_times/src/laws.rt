@@ -1,0 +1,42 @@
+//! What is proved of times and their texts, of which no program is part.
+//!
+//! These functions do nothing. Their contracts state the laws that every reader and every writer of times relies on: a text
+//! says one moment, a moment has one canonical text, and both types keep the laws of reading and of writing.
+ghost use Rattle.std.specs.Prelude.{◌≡◌, IsTrue, ◌↔◌};
+ghost use Rattle.std.specs.Cmp.Lexicographic.{slice_cmp};
+ghost use Rattle.std.specs.Ordering.{nat_cmp, int_cmp, bool_cmp, ordering_then};
+ghost use Rattle.jiff.specs.Words.{civil_nanos};
+ghost use Rattle.yasna_times.specs.UtcTime.{UtcTextsAreExact, UtcTimeKeepsLaws};
+ghost use Rattle.yasna_times.specs.GeneralizedTime.{GeneralTextsAreExact, GeneralizedTimeKeepsLaws};
+ghost use Rattle.yasna_times.specs.declared.models.utc_time.UTCTime.{UTCTime};
+ghost use Rattle.yasna_times.specs.declared.models.generalized_time.GeneralizedTime.{GeneralizedTime};
+ghost use Rattle.yasna_times.specs.Models.{TimesAreMoments, utc_of, moment_of};
+
+use crate::models::{GeneralizedTime, UTCTime};
+
+/// A text of a time says one moment, of the ranges of its type, and the canonical text of a moment says it.
+pub fn texts_of_times()
+    ensures utc { UtcTextsAreExact }
+    ensures general { GeneralTextsAreExact }
+{}
+
+/// Times of one moment are one, and print the same bytes.
+pub fn moments()
+    ensures { TimesAreMoments }
+{}
+
+/// Both times keep the laws of reading and of writing, as `simple_types` says them, however BER cuts their texts into
+/// pieces.
+pub fn times()
+    ensures utc { UtcTimeKeepsLaws }
+    ensures general { GeneralizedTimeKeepsLaws }
+{}
+
+/// UTCTimes are ordered as they come. GeneralizedTimes are ordered by their date-times, which show second 60 as 59, then by
+/// the digits behind the nanosecond, then by whether the second is 60. Times are equal where they are one moment.
+pub fn time_orders()
+    ensures utc { (a b : UTCTime) → ⟦<UTCTime as Ord>⟧.cmp a b ≡ int_cmp (civil_nanos (utc_of a)) (civil_nanos (utc_of b)) }
+    ensures utc_equality { (a b : UTCTime) → IsTrue (⟦<UTCTime as PartialEq>⟧.eq a b) ↔ (utc_of a ≡ utc_of b) }
+    ensures general { (a b : GeneralizedTime) → ⟦<GeneralizedTime as Ord>⟧.cmp a b ≡ ordering_then (int_cmp (civil_nanos a.datetime) (civil_nanos b.datetime)) (ordering_then (slice_cmp nat_cmp a.sub_nano.items b.sub_nano.items) (bool_cmp a.is_leap_second b.is_leap_second)) }
+    ensures general_equality { (a b : GeneralizedTime) → IsTrue (⟦<GeneralizedTime as PartialEq>⟧.eq a b) ↔ (moment_of a ≡ moment_of b) }
+{}
