@@ -1,9 +1,7 @@
 //! What a run of the program answered.
 
-use std::process::Output;
+use crate::program::Run;
 
-/// What the allocator writes where it refuses.
-const MARK: &str = "a request for memory was refused\n";
 /// What the program says where it has no memory itself, and its status then.
 const NO_MEMORY: &str = "out of memory\n";
 const NO_MEMORY_STATUS: i32 = 4;
@@ -26,25 +24,19 @@ pub enum Outcome {
 
 impl Outcome {
     /// The outcome of a run of so many vectors.
-    pub fn of(output: &Output, vectors: usize) -> Outcome {
-        let said = String::from_utf8_lossy(&output.stdout);
-        let errors = String::from_utf8_lossy(&output.stderr);
-        let status = output.status.code();
-        let message = errors.strip_prefix(MARK);
-        match (status, message, tally(&said, vectors)) {
-            (Some(0), None, Some([0, 0, 0])) if errors.is_empty() => Outcome::Ample,
-            (Some(0), Some(""), Some([0, 0, 0])) => Outcome::Unchanged,
-            (Some(0), Some(""), Some([1, 0, place])) => Outcome::Refused(place),
-            (Some(0), Some(""), Some([0, 1, place])) => Outcome::Silent(place),
-            (Some(NO_MEMORY_STATUS), Some(NO_MEMORY), _) if said.is_empty() => Outcome::NoMemory,
-            _ => Outcome::Wrong(format!("{}\n{said}{errors}", output.status)),
+    pub fn of(run: &Run, vectors: usize) -> Outcome {
+        let said = String::from_utf8_lossy(&run.output);
+        let errors = run.errors.as_str();
+        let status = run.status.code();
+        match (status, run.is_refused, errors, tally(&said, vectors)) {
+            (Some(0), false, "", Some([0, 0, 0])) => Outcome::Ample,
+            (Some(0), true, "", Some([0, 0, 0])) => Outcome::Unchanged,
+            (Some(0), true, "", Some([1, 0, place])) => Outcome::Refused(place),
+            (Some(0), true, "", Some([0, 1, place])) => Outcome::Silent(place),
+            (Some(NO_MEMORY_STATUS), true, NO_MEMORY, _) if said.is_empty() => Outcome::NoMemory,
+            _ => Outcome::Wrong(format!("{}\n{said}{errors}", run.status)),
         }
     }
-}
-
-/// Whether a request of a run was refused.
-pub fn is_refused(output: &Output) -> bool {
-    output.stderr.starts_with(MARK.as_bytes())
 }
 
 /// How many vectors answered want of memory and how many nothing, and the place of the last of these. None where the

@@ -1,6 +1,6 @@
 //! Refuses each request for memory of the vectors once, in a run of its own.
 //!
-//!     sweep PROGRAM ALLOCATOR VECTORS ROWS FOLDER JOBS
+//!     sweep_vectors PROGRAM ALLOCATOR VECTORS ROWS FOLDER JOBS
 //!
 //! PROGRAM runs vectors in its mode `memory` (`crates/yasna_vectors/src/memory.rt`), behind ALLOCATOR (`allocator.rs`), which
 //! refuses one request of a run. Some vectors go into each run, and the run is made for its first request, its second, and
@@ -17,33 +17,26 @@
 //! row of ROWS is to be the call of one that isn't. JOBS runs go on side by side, and FOLDER is for the files that they read.
 
 mod outcome;
+mod program;
 mod vector;
 mod walk;
 
-use outcome::{is_refused, Outcome};
+use outcome::Outcome;
+use program::{exit_code, Program};
 use std::error::Error;
-use std::fs::{self, File};
-use std::io;
 use std::path::{Path, PathBuf};
-use std::process::{Command, ExitCode, Output};
+use std::process::ExitCode;
 use std::sync::atomic::{AtomicUsize, Ordering};
-use std::{env, iter, panic, thread};
+use std::{env, fs, io, iter, panic, thread};
 use vector::{missing_rows, vectors_of, Vector};
 use walk::{Counts, Walk};
 
-const USAGE: &str = "usage: sweep PROGRAM ALLOCATOR VECTORS ROWS FOLDER JOBS";
+const USAGE: &str = "usage: sweep_vectors PROGRAM ALLOCATOR VECTORS ROWS FOLDER JOBS";
 /// How many vectors go into a run.
 const GROUP: usize = 10;
 
 fn main() -> ExitCode {
-    match run() {
-        Ok(true) => ExitCode::SUCCESS,
-        Ok(false) => ExitCode::FAILURE,
-        Err(error) => {
-            eprintln!("sweep: {error}");
-            ExitCode::from(2)
-        }
-    }
+    exit_code(run())
 }
 
 /// Sweeps all vectors, prints what came of it, and says whether nothing failed.
@@ -110,7 +103,7 @@ fn sweep(program: &Program, groups: &[Group], jobs: usize) -> io::Result<Counts>
     let job = || {
         let mine = || groups.get(next.fetch_add(1, Ordering::Relaxed));
         iter::from_fn(mine)
-            .map(|group| program.sweep(group))
+            .map(|group| sweep_group(program, group))
             .sum::<io::Result<Counts>>()
     };
     thread::scope(|scope| {
@@ -126,35 +119,11 @@ fn sweep(program: &Program, groups: &[Group], jobs: usize) -> io::Result<Counts>
     })
 }
 
-/// The program that runs vectors, and the allocator in front of it.
-struct Program {
-    path: PathBuf,
-    allocator: PathBuf,
-}
-
-impl Program {
-    /// Runs a group for each of its requests, up to the run in which none was refused.
-    fn sweep(&self, group: &Group) -> io::Result<Counts> {
-        let mut walk = Walk::new(&group.vectors);
-        let mut request = 1;
-        loop {
-            let output = self.run(&group.input, request)?;
-            walk.take(request, Outcome::of(&output, group.vectors.len()));
-            if !is_refused(&output) {
-                return Ok(walk.end(request));
-            }
-            request += 1;
-        }
-    }
-
-    /// Runs the vectors of a file, and refuses this request.
-    fn run(&self, input: &Path, request: usize) -> io::Result<Output> {
-        Command::new(&self.path)
-            .arg("memory")
-            .env_clear()
-            .env("LD_PRELOAD", &self.allocator)
-            .env("REFUSED_REQUEST", request.to_string())
-            .stdin(File::open(input)?)
-            .output()
-    }
+/// Sweeps a group.
+fn sweep_group(program: &Program, group: &Group) -> io::Result<Counts> {
+    let mut walk = Walk::new(&group.vectors);
+    let end = program.sweep(&["memory"], &group.input, |request, run| {
+        walk.take(request, Outcome::of(run, group.vectors.len()));
+    })?;
+    Ok(walk.end(end))
 }
