@@ -10,14 +10,25 @@
 //! bit string keeps unused bits that are set, or where the value shows the bytes that were taken. A BMPString takes half of
 //! a pair for U+FFFD, and so other bytes than it writes. A raw element is written as it was read, so one of BER is read
 //! again in BER.
+//!
+//! Each input has a seed of its own, which is printed where a call fails on it. The first input of a run has the run's seed: so
+//! a run of one input from a printed seed makes that input again.
 
 use crate::answer::answer;
 use crate::line::Case;
 use crate::mutation::Vectors;
 use crate::random::Random;
-use crate::run::{Report, Verdict};
+use crate::run::Verdict;
 use std::alloc::{AllocError, Global};
+use std::io;
 use yasna::BERMode;
+
+// Behind how many inputs the counts are printed.
+const BLOCK: u64 = 100_000;
+
+// From the seed of an input to that of the next: 2^64 over the golden ratio, whose multiples lie far from each other. So runs of
+// up to a billion inputs share no seed where theirs lie within 2^32.
+const STRIDE: u64 = 0x9e37_79b9_7f4a_7c15;
 
 // Calls of which all of this holds.
 const PLAIN: [&str; 67] = [
@@ -108,58 +119,86 @@ enum Kind {
     Raw,
 }
 
-// What was tried, and what failed.
-#[derive(Drop)]
+// How many inputs were tried, how many values were read, and how many calls failed.
+#[derive(Clone, Copy)]
 struct Tally {
-    text: String,
+    inputs: u64,
     accepted: u64,
     failed: u64,
 }
 
-/// Makes so many inputs, each of a seed of its own, from this one on, and checks each call on each of them.
+/// Makes so many inputs, and checks each call on each of them. What fails is printed as it is found, the counts so far behind
+/// each block of inputs.
 pub fn check_random(
+    rt: &impl Print,
     alloc: Global,
     seed: u64,
     count: u64,
     input: &str,
-) -> Result<Report, AllocError> {
+) -> io::Result<Verdict> {
     let vectors = Vectors::parse(alloc, input)?;
     let mut tally = Tally {
-        text: String::new(alloc),
+        inputs: 0,
         accepted: 0,
         failed: 0,
     };
     for place in 0..count {
-        let seed = seed.wrapping_add(place);
-        let mut random = Random::new(seed);
-        let bytes = vectors.input(alloc, &mut random)?;
-        let digits = hex::encode(alloc, bytes.as_slice())?;
-        let arg = if digits.is_empty() {
-            "-"
-        } else {
-            digits.as_str()
-        };
-        check_calls(alloc, seed, arg, &mut tally)?;
+        if place > 0 && place.is_multiple_of(BLOCK) {
+            tally.print(rt)?;
+        }
+        let seed = seed.wrapping_add(place.wrapping_mul(STRIDE));
+        check_input(rt, alloc, &vectors, seed, &mut tally)?;
     }
-    report(count, tally)
+    tally.print(rt)?;
+    Ok(tally.verdict())
 }
 
-// What it came to.
-fn report(count: u64, tally: Tally) -> Result<Report, AllocError> {
-    let mut text = tally.text;
-    let accepted = tally.accepted;
-    let failed = tally.failed;
-    writeln!(text, "{count} inputs, {accepted} values, {failed} failed")?;
-    let verdict = if failed == 0 {
-        Verdict::Right
+impl Tally {
+    // Prints the counts.
+    fn print(self, rt: &impl Print) -> io::Result<()> {
+        let inputs = self.inputs;
+        let accepted = self.accepted;
+        let failed = self.failed;
+        println!(rt; "{inputs} inputs, {accepted} values, {failed} failed")
+    }
+
+    // What it came to.
+    fn verdict(self) -> Verdict {
+        if self.failed == 0 {
+            Verdict::Right
+        } else {
+            Verdict::Wrong
+        }
+    }
+}
+
+// Makes the input of a seed, and checks each call on it.
+fn check_input(
+    rt: &impl Print,
+    alloc: Global,
+    vectors: &Vectors,
+    seed: u64,
+    tally: &mut Tally,
+) -> io::Result<()> {
+    tally.inputs = tally.inputs.saturating_add(1);
+    let bytes = vectors.input(alloc, &mut Random::new(seed))?;
+    let digits = hex::encode(alloc, bytes.as_slice())?;
+    let arg = if digits.is_empty() {
+        "-"
     } else {
-        Verdict::Wrong
+        digits.as_str()
     };
-    Ok(Report { text, verdict })
+    check_calls(rt, alloc, seed, arg, tally)
 }
 
 // Checks each call on these bytes.
-fn check_calls(alloc: Global, seed: u64, bytes: &str, tally: &mut Tally) -> Result<(), AllocError> {
+fn check_calls(
+    rt: &impl Print,
+    alloc: Global,
+    seed: u64,
+    bytes: &str,
+    tally: &mut Tally,
+) -> io::Result<()> {
     let kinds: [(Kind, &[&str]); 4] = [
         (Kind::Plain, &PLAIN),
         (Kind::Showing, &SHOWING),
@@ -170,7 +209,7 @@ fn check_calls(alloc: Global, seed: u64, bytes: &str, tally: &mut Tally) -> Resu
         for call in calls {
             if let Some(fault) = fault(alloc, kind, call, bytes, &mut tally.accepted)? {
                 tally.failed = tally.failed.saturating_add(1);
-                writeln!(tally.text, "seed {seed}: {call} {bytes}: {fault}")?;
+                println!(rt; "seed {seed}: {call} {bytes}: {fault}")?;
             }
         }
     }

@@ -112,7 +112,5 @@ fn verdict(rt: &HostRuntime) -> io::Result<Verdict> {
         return Ok(Verdict::NoLine);
     };
     let input = io::read_to_string(alloc, rt.reader())?;
-    let report = task.run(alloc, input.as_str())?;
-    rt.print(report.text.as_str())?;
-    Ok(report.verdict)
+    task.run(rt, alloc, input.as_str())
 }

@@ -12,6 +12,7 @@ use crate::hostile::{Group, check_group};
 use crate::run::{Report, Verdict, answer_lines, check_lines};
 use crate::{fuzz, memory};
 use std::alloc::{AllocError, Global};
+use std::io;
 
 /// A task of the program.
 #[derive(Clone, Copy)]
@@ -50,16 +51,20 @@ impl Task {
         }
     }
 
-    /// Does it on these lines.
-    pub fn run(self, alloc: Global, input: &str) -> Result<Report, AllocError> {
-        match self {
-            Task::All => run_all(alloc, input),
-            Task::Lines => check_lines(alloc, input),
-            Task::Answers => answer_lines(alloc, input),
-            Task::Group(group) => check_group(alloc, group, input),
-            Task::Memory => memory::run_lines(alloc, input),
-            Task::Random { seed, count } => fuzz::check_random(alloc, seed, count, input),
-        }
+    /// Does it on these lines, and prints what came of it.
+    pub fn run(self, rt: &impl Print, alloc: Global, input: &str) -> io::Result<Verdict> {
+        let report = match self {
+            Task::All => run_all(alloc, input)?,
+            Task::Lines => check_lines(alloc, input)?,
+            Task::Answers => answer_lines(alloc, input)?,
+            Task::Group(group) => check_group(alloc, group, input)?,
+            Task::Memory => memory::run_lines(alloc, input)?,
+            Task::Random { seed, count } => {
+                return fuzz::check_random(rt, alloc, seed, count, input);
+            }
+        };
+        rt.print(report.text.as_str())?;
+        Ok(report.verdict)
     }
 }
 
