@@ -194,3 +194,10 @@ values_of_same n m (x ∷ l) (y ∷ k) (v ∷ vs) h i = (
   record { tag = h.0.tag ∙ i.0.tag; raw = subst (λ b. IsRaw n m v b) (sym h.0.bytes) i.0.raw },
   values_of_same n m l k vs h.1 i.1,
 )
+
+-- and the same bytes
+pub same_bytes : (l k : List SetElement) → Each IsSameElement l k → elements_bytes l ≡ elements_bytes k
+same_bytes [] [] h = refl
+same_bytes [] (y ∷ k) h = absurd h
+same_bytes (x ∷ l) [] h = absurd h
+same_bytes (x ∷ l) (y ∷ k) h = ap₂ (λ b c. b ++ c) h.0.bytes (same_bytes l k h.1)

@@ -2,6 +2,7 @@
 use Rattle.std.proofs.Common.{◌≡◌, inl, inr, ℕ, ◌<◌, ◌≤◌, ◌+◌, ◌-◌, List, [], ◌∷◌, ◌++◌, length, refl, sym, ap, subst, ◌∙◌, append_assoc, length-append, true, false, Bool, arith}
 use Rattle.std.proofs.lemmas.Bool.{cases_lt}
 use Rattle.std.proofs.lemmas.List.{get_or_default}
+use Rattle.std.specs.List.{concat}
 use Rattle.std.specs.List.Sorted.{IsSortedByKey, IsSortedWithin}
 use Rattle.std.specs.Ordering.{is_lt}
 use Rattle.std.specs.Prelude.{slice_index_or}
@@ -18,6 +19,7 @@ use Rattle.yasna_bytes.specs.declared.bytes.header.Refusal.{Refusal}
 use Rattle.yasna_bytes.specs.declared.bytes.walk.RawElement.{RawElement}
 use Rattle.yasna_reader.specs.declared.set.SetElement.{SetElement}
 use Rattle.yasna_reader.specs.Set.{IsListed, Listed, ListsAll, NotListed}
+use Rattle.yasna_bytes.specs.Front.{Stands}
 use Rattle.yasna_bytes.specs.Walk.{RefusesRaw, TakesRaw, element_of}
 
 -- before the first element
@@ -84,11 +86,29 @@ not_listed n k m o l c y e h i j t moved =
           let same = pieces_once (raw_alone n m) l d.values h.front d.front y d.rest h.elements d.pieces stop
           (λ v b r p q. at p.value b r p.raw q) (sym h.joined ∙ d.joined) in
           u.deep.1 (subst (λ w. IsDeepRaw n m w) (sym same.1) d.deep);
+      memory = λ q. absurd (u.no_memory q);
     }
 
--- there was no memory for the list
-pub lacks_memory : (n : ℕ) (m : BERMode) (c : List ℕ) → NotListed n m c OutOfMemory
-lacks_memory n m c = record { none = λ q. absurd (q refl); too_deep = λ e. absurd (cc); deep = λ q. absurd (q refl) }
+-- the first of these elements, or the one behind them, stands at the front
+first_stands : (n : ℕ) (m : BERMode) (l : List SetElement) (bs : List (List ℕ)) (y c : List ℕ) (v : RawValue) (b r : List ℕ) → Each (IsListed n m) l bs →
+    c ≡ concat bs ++ y → IsRaw n m v b → y ≡ b ++ r → Stands (IsRaw n m) c
+first_stands n m [] [] y c v b r h e p q = (v, r, record { front = b; joined = e ∙ q; member = p })
+first_stands n m [] (d ∷ ds) y c v b r h e p q = absurd h
+first_stands n m (x ∷ l) [] y c v b r h e p q = absurd h
+first_stands n m (x ∷ l) (d ∷ ds) y c v b r h e p q =
+    (h.0.value, concat ds ++ y, record { front = d; joined = e ∙ append_assoc d (concat ds) y; member = h.0.raw })
+
+-- there was no memory for the list, where an element stands behind those that were listed
+pub lacks_memory : (n k : ℕ) (m o : BERMode) (l : List SetElement) (c y : List ℕ) (e : RawElement) (r : List ℕ) → Listed n m l c y → o ≡ m → k ≡ n →
+    TakesRaw o k y e r → NotListed n m c OutOfMemory
+lacks_memory n k m o l c y e r h i j t =
+    let raw : IsRaw n m (element_of e) e.bytes.now = subst (λ u. IsRaw u m (element_of e) e.bytes.now) j (subst (λ u. IsRaw k u (element_of e) e.bytes.now) i t.raw) in
+    record {
+      none = λ q. absurd (q refl);
+      too_deep = λ g. absurd (cc);
+      deep = λ q. absurd (q refl);
+      memory = λ _. first_stands n m l h.elements.pieces y c (element_of e) e.bytes.now r h.elements.each (h.joined ∙ ap (λ z. z ++ y) h.elements.joined) raw t.joined;
+    }
 
 -- all are listed where an end stands
 pub listed_all : (n k : ℕ) (m o : BERMode) (l : List SetElement) (c y : List ℕ) (e : Refusal) → Listed n m l c y → RefusesRaw o k y e → e.moved ≡ false →

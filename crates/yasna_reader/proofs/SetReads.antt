@@ -8,6 +8,7 @@ use Rattle.yasna_base.specs.declared.error.ASN1ErrorKind.{ASN1ErrorKind}
 use Rattle.yasna_base.specs.declared.error.ASN1ErrorKind.TheVariants.{OutOfMemory}
 use Rattle.yasna_base.specs.declared.tag.Tag.{Tag}
 use Rattle.yasna_base.specs.declared.tag.PCBit.TheVariants.{Constructed}
+use Rattle.yasna_base.specs.Element.{Element}
 use Rattle.yasna_base.specs.Error.{error_of, kind_of}
 use Rattle.yasna_base.specs.Header.{ContentsEnd, EndsBefore, OpensAt}
 use Rattle.yasna_base.specs.Pieces.{Each}
@@ -23,7 +24,7 @@ use Rattle.yasna_reader.specs.State.{Reading, inside, tag_of, untagged}
 use Rattle.yasna_bytes.proofs.Header.{element_header}
 use Rattle.yasna_reader.proofs.Sequences.{around, place_behind, within}
 use Rattle.yasna_bytes.proofs.Ending.{closed, ends_at}
-use Rattle.yasna_reader.proofs.SetLaws.{all_one, lists_are_one, lists_are_sets, order_of_same, sets_are_listed, values_of_same}
+use Rattle.yasna_reader.proofs.SetLaws.{all_one, lists_are_one, lists_are_sets, order_of_same, same_bytes, sets_are_listed, values_of_same}
 
 module _ {F A : Type 0} (g : Once F (MutBor SetReading × Unit {0}) (Result A ASN1Error × (MutBor SetReading × Unit {0}))) (f : F) where
   all_gave : (own : Result A ASN1Error) (l : List SetElement) (v : A) → Ok v ≡ all_taken own l → (own ≡ Ok v) × (l ≡ [])
@@ -39,6 +40,7 @@ module _ {F A : Type 0} (g : Once F (MutBor SetReading × Unit {0}) (Result A AS
     joined : c ≡ front ++ rest
     contents : SetElements s.mode (s.levels - 1) values front
     run : RunOnValues g f s values
+    elements : elements_bytes run.list.items ≡ front
     gave : GaveOfAll run.own run.left v
     place : left.left ≡ rest
 
@@ -54,6 +56,7 @@ module _ {F A : Type 0} (g : Once F (MutBor SetReading × Unit {0}) (Result A AS
         joined = w.1.joined;
         contents = w.1.contents;
         run = record { list = x.list; each = w.1.each; own = x.own; left = record { reader = x.left; list = x.others }; called = x.called };
+        elements = refl;
         gave = record { answer = a.0; all = a.1; unkept = sym (ap (λ (z : Reading). z.kept) x.state) ∙ k };
         place = ap (λ (z : Reading). z.left) x.state;
       }
@@ -76,6 +79,7 @@ module _ {F A : Type 0} (g : Once F (MutBor SetReading × Unit {0}) (Result A AS
           joined = y.joined;
           set = around SetElements t s.mode s.levels q.values y.bytes l (record { contents = q.front; element = y.element; meaning = q.contents });
           run = q.run;
+          contents = subst (λ z. Element s.mode t Constructed z y.bytes) (sym q.elements) y.element;
           gave = q.gave;
           state = h.state;
         }
@@ -106,12 +110,13 @@ module _ {F A : Type 0} (g : Once F (MutBor SetReading × Unit {0}) (Result A AS
         ]
 
     -- where the contents are those of a SET, the callback was run on its elements
-    run_as : (vs : List RawValue) (d y : List ℕ) (l : List SetElement) → Each (IsElementOf (s.levels - 1) s.mode) l vs →
+    run_as : (vs : List RawValue) (d y : List ℕ) (l : List SetElement) → Each (IsElementOf (s.levels - 1) s.mode) l vs → (front : List ℕ) →
+        Element s.mode t Constructed (elements_bytes l) front →
         IsSetList (s.levels - 1) s.mode l c y → c ≡ d ++ y → (rest : List ℕ) → EndsBefore after y rest → (own : Result A ASN1Error) (left : Reading) →
         RunsOnSet g f (inside s c) own left → (k : Option ASN1Error) → left.kept ≡ k → (e : ASN1Error) (s' : Reading) →
         Left after c k left.left own (untagged s) (Err e) s' → (kind_of e ≡ OutOfMemory → ⊥) →
-        (x : RunOnValues g f s vs) × ((v : A) → GaveOfAll x.own x.left v → ⊥)
-    run_as vs d y l each p j rest ends own left (inl x) k i e s' h q =
+        (x : RunOnValues g f s vs) × Element s.mode t Constructed (elements_bytes x.list.items) front × ((v : A) → GaveOfAll x.own x.left v → ⊥)
+    run_as vs d y l each front element p j rest ends own left (inl x) k i e s' h q =
         let same = lists_are_one (s.levels - 1) s.mode x.list.items l c x.rest y x.lists p in (
           record {
             list = x.list;
@@ -120,11 +125,12 @@ module _ {F A : Type 0} (g : Once F (MutBor SetReading × Unit {0}) (Result A AS
             left = record { reader = x.left; list = x.others };
             called = x.called;
           },
+          subst (λ z. Element s.mode t Constructed z front) (sym (same_bytes x.list.items l same.0)) element,
           λ v gave.
               not_refused d y j rest ends own left.left (ap (λ (z : Reading). z.left) x.state ∙ same.1) v
               (x.answer ∙ ap₂ (λ a b. all_taken a b) gave.answer gave.all) k (sym i ∙ ap (λ (z : Reading). z.kept) x.state ∙ gave.unkept) e s' h,
         )
-    run_as vs d y l each p j rest ends own left (inr x) k i e s' h q =
+    run_as vs d y l each front element p j rest ends own left (inr x) k i e s' h q =
         let m = kept_is left.left own (error_of x.kind) k (sym i ∙ ap (λ (z : Reading). z.kept) x.state) e s' h in
         absurd (not_run l y p x.kind (λ n. q (ap kind_of m ∙ n)) x.why)
 
@@ -134,7 +140,7 @@ module _ {F A : Type 0} (g : Once F (MutBor SetReading × Unit {0}) (Result A AS
         let w = (within SetElements t s.mode s.levels vs front p).1 in
         let b = header_of s.mode t t Constructed Constructed s.left c w.contents front rest after opens w.element j in
         let z = sets_are_listed (s.levels - 1) s.mode vs w.contents c b.behind w.meaning b.joined (end_behind after b.behind rest b.ends) in
-        run_as vs w.contents b.behind z.0 z.2.each ((lists_are_sets (s.levels - 1) s.mode z.0 c b.behind).1 (vs, z.2)) b.joined rest b.ends own left x k i e
+        run_as vs w.contents b.behind z.0 z.2.each front (subst (λ u. Element s.mode t Constructed u front) (sym z.1) w.element) ((lists_are_sets (s.levels - 1) s.mode z.0 c b.behind).1 (vs, z.2)) b.joined rest b.ends own left x k i e
         s' h q
 
   entered : (t : Tag) (s : Reading) (r : Result A ASN1Error) (s' : Reading) → EntersUnlessKept None (RunsOnSet g f) t s r s' → ReadsSet g f t s r s'

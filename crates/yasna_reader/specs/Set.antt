@@ -17,6 +17,7 @@ use Rattle.yasna_base.specs.declared.mode.BERMode.{BERMode}
 use Rattle.yasna_base.specs.declared.mode.BERMode.TheVariants.{Ber, Der}
 use Rattle.yasna_base.specs.declared.tag.Tag.{Tag}
 use Rattle.yasna_reader.specs.State.{Reading, failing, untagged}
+use Rattle.yasna_bytes.specs.Front.{Stands}
 use Rattle.yasna_bytes.specs.Walk.{MeetsDeep}
 use Rattle.yasna_reader.specs.contracts.set.Chosen.{the_row}
 use Rattle.yasna_reader.specs.declared.set.Chosen.{Chosen}
@@ -49,11 +50,13 @@ pub record ListsAll (n : ℕ) (m : BERMode) (l : List SetElement) (c y : List �
   pub listed : Listed n m l c y
   pub ends : AtEnd y
 
--- Why elements weren't listed: some bytes before an end are none, or lie too deep, or there was no memory for the list
+-- Why elements weren't listed: some bytes before an end are none, or lie too deep, or there was no memory for the list, which
+-- is asked for only where an element stands
 pub record NotListed (n : ℕ) (m : BERMode) (c : List ℕ) (k : ASN1ErrorKind) : Type 0 where
   pub none : (k ≡ OutOfMemory → ⊥) → (l : List SetElement) (y : List ℕ) → ListsAll n m l c y → ⊥
   pub too_deep : k ≡ StackOverflow → MeetsDeep n m c
   pub deep : (k ≡ OutOfMemory → ⊥) → MeetsDeep n m c → k ≡ StackOverflow
+  pub memory : k ≡ OutOfMemory → Stands (IsRaw n m) c
 
 abbrev pub ElementsAt : ℕ → BERMode → List ℕ → Result (Vec SetElement Global × Bor (List ℕ)) ASN1ErrorKind → Type 0
 ElementsAt n m c (Ok x) = ListsAll n m x.0.items c x.1.now

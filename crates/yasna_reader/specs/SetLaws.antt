@@ -5,6 +5,7 @@ use Rattle.std.specs.Global.{Global}
 use Rattle.std.specs.List.{concat}
 use Rattle.std.specs.Prelude.{Err, List, None, Ok, Result, Vec, [], map, ℕ, ◌++◌, ◌-◌, ◌≡◌, ◌↔◌}
 use Rattle.yasna_base.specs.Error.{kind_of}
+use Rattle.yasna_base.specs.Element.{Element}
 use Rattle.yasna_base.specs.Identifier.{AtEnd}
 use Rattle.yasna_base.specs.Pieces.{Each}
 use Rattle.yasna_base.specs.Raw.{RawValue, IsRaw}
@@ -12,6 +13,7 @@ use Rattle.yasna_base.specs.Set.{IsSet, SetElements}
 use Rattle.yasna_base.specs.declared.error.ASN1Error.{ASN1Error}
 use Rattle.yasna_base.specs.declared.error.ASN1ErrorKind.TheVariants.{OutOfMemory}
 use Rattle.yasna_base.specs.declared.mode.BERMode.{BERMode}
+use Rattle.yasna_base.specs.declared.tag.PCBit.TheVariants.{Constructed}
 use Rattle.yasna_base.specs.declared.tag.Tag.{Tag}
 use Rattle.yasna_reader.specs.Set.{IsSetList, SetReading}
 use Rattle.yasna_reader.specs.State.{Reading, inside}
@@ -66,7 +68,8 @@ pub record GaveOfAll {A : Type 0} (r : Result A ASN1Error) (left : SetReading) (
   pub all : left.list.items ≡ []
   pub unkept : left.reader.kept ≡ None
 
--- a SET of these values stands at the front of s, f gave v from its elements, and the rest is left
+-- a SET of these values stands at the front of s, f gave v from its elements, whose bytes are the contents of that SET, and
+-- the rest is left
 pub record TakesSet {F A : Type 0} (g : Once F (MutBor SetReading × Unit {0}) (Result A ASN1Error × (MutBor SetReading × Unit {0}))) (f : F)
     (t : Tag) (s : Reading) (v : A) (s' : Reading) : Type 0 where
   pub values : List RawValue
@@ -75,14 +78,16 @@ pub record TakesSet {F A : Type 0} (g : Once F (MutBor SetReading × Unit {0}) (
   pub joined : s.left ≡ front ++ rest
   pub set : IsSet t s.mode s.levels values front
   pub run : RunOnValues g f s values
+  pub contents : Element s.mode t Constructed (elements_bytes run.list.items) front
   pub gave : GaveOfAll run.own run.left v
   pub state : s' ≡ record s { left = rest; tag = None }
 
--- where a SET stands at the front of s, f was run on its elements and gave no value from them, or e is of memory
+-- where a SET stands at the front of s, f was run on its elements, whose bytes are its contents, and gave no value from them,
+-- or e is of memory
 abbrev pub RefusesSet : {F A : Type 0} → Once F (MutBor SetReading × Unit {0}) (Result A ASN1Error × (MutBor SetReading × Unit {0})) → F →
     Tag → Reading → ASN1Error → Type 0
 RefusesSet {F} {A} g f t s e = (vs : List RawValue) (front rest : List ℕ) → (kind_of e ≡ OutOfMemory → ⊥) → s.left ≡ front ++ rest →
-    IsSet t s.mode s.levels vs front → (x : RunOnValues g f s vs) × ((v : A) → GaveOfAll x.own x.left v → ⊥)
+    IsSet t s.mode s.levels vs front → (x : RunOnValues g f s vs) × Element s.mode t Constructed (elements_bytes x.list.items) front × ((v : A) → GaveOfAll x.own x.left v → ⊥)
 
 -- a read of a SET, whose elements f takes
 abbrev pub ReadsSet : {F A : Type 0} → Once F (MutBor SetReading × Unit {0}) (Result A ASN1Error × (MutBor SetReading × Unit {0})) → F →

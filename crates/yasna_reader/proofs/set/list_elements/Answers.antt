@@ -1,7 +1,7 @@
 use Rattle.std.proofs.Common.{◌≡◌, [], ◌∷◌, ◌++◌, rules, refl, sym, subst, ◌∙◌}
 use Rattle.yasna_reader.specs.declared.set.SetElement.{SetElement}
 use Rattle.yasna_reader.specs.Set.{Listed}
-use Rattle.yasna_reader.proofs.SetListing.{none_listed, listed_more, listed_smaller, not_listed, listed_all}
+use Rattle.yasna_reader.proofs.SetListing.{none_listed, lacks_memory, listed_more, listed_smaller, not_listed, listed_all}
 use Rattle.yasna_reader.proofs.set.list_elements.Goals as goal
 
 pub loop-element-init : goal.loop-element-init
@@ -29,6 +29,12 @@ loop-element-preserved c =
       c.further-here.ensures.mode ∙ i.1,
       c.further-here.ensures.levels ∙ i.2,
     )
+
+pub returns-then-is_err : goal.returns-then-is_err
+returns-then-is_err c =
+    let i = c.loop-element.invariant in
+    lacks_memory c.args.cursor.levels c.loop-element.here.levels c.args.cursor.mode c.loop-element.here.mode c.loop-element.list.items
+    c.args.cursor.left.now c.loop-element.here.left.now c.in-Ok.element c.in-Ok.rest.now i.0 i.1 i.2 (c.in-Ok.ensures {u = tt})
 
 pub returns-then-refusal : goal.returns-then-refusal
 returns-then-refusal c =
