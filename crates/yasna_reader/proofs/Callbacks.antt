@@ -1,5 +1,5 @@
 -- What a callback that was handed a reading came to.
-use Rattle.std.proofs.Common.{◌≡◌, ℕ, ◌-◌, List, ◌++◌, length, take, take-append-drop, Option, None, sym, ap, subst, ◌∙◌}
+use Rattle.std.proofs.Common.{◌≡◌, ℕ, ◌-◌, List, [], ◌++◌, length, take, drop, take-append-drop, Option, None, sym, ap, subst, ◌∙◌, arith}
 use Rattle.std.specs.Prelude.{Result}
 use Rattle.yasna_base.specs.declared.error.ASN1Error.{ASN1Error}
 use Rattle.yasna_base.specs.declared.mode.BERMode.{BERMode}
@@ -7,7 +7,7 @@ use Rattle.yasna_base.specs.declared.tag.Tag.{Tag}
 use Rattle.yasna_bytes.specs.declared.bytes.cursor.Cursor.{Cursor}
 use Rattle.yasna_reader.specs.declared.callback.Outcome.{Outcome}
 use Rattle.yasna_reader.specs.declared.callback.Outcome.TheVariants.{Gave, Quiet, Failed}
-use Rattle.yasna_reader.specs.Callback.{ComesTo, at_cursor}
+use Rattle.yasna_reader.specs.Callback.{ComesTo, Hands, Lent, at_cursor}
 use Rattle.yasna_reader.specs.Sequence.{place_in}
 use Rattle.yasna_reader.specs.State.{Reading}
 
@@ -40,3 +40,34 @@ taken_behind s x m o s' h =
 pub taken_from : {A : Type 0} (c : List ℕ) (mode : BERMode) (n : ℕ) (x : Result A ASN1Error) (m : Reading) (o : Outcome A) (s' : Reading) →
     ComesTo (record { left = c; mode = mode; levels = n; tag = None; kept = None }) x m o s' → (taken : List ℕ) × (c ≡ taken ++ s'.left)
 taken_from c mode n x m o s' h = taken_behind (record { left = c; mode = mode; levels = n; tag = None; kept = None }) x m o s' h
+
+-- the place of an unmoved reading is the old one
+unmoved : (c y : List ℕ) → length y ≡ length c → place_in c y ≡ c
+unmoved c y e =
+    let f : length c - length y ≡ 0 = omega (arith, e) in
+    ap (λ n. drop n c) f
+
+-- a quiet callback left the reading as it was, but for the implicit tag that was handed to it
+quiet_leaves : {A : Type 0} (s : Reading) (t : Option Tag) (x : Result A ASN1Error) (m : Reading) (e : ASN1Error) (s' : Reading) → s.kept ≡ None →
+    ComesTo (record s { tag = t }) x m (Quiet e) s' → record s' { tag = s.tag } ≡ s
+quiet_leaves s t x m e s' k h =
+    ap (λ (z : Reading). record z { tag = s.tag }) h.4 ∙ ap {A = List ℕ} {B = Reading} (λ l. record s { left = l; kept = None }) (unmoved s.left m.left h.1)
+    ∙ ap {A = Option ASN1Error} {B = Reading} (λ u. record s { kept = u }) (sym k)
+
+-- so where the tag waits again that waited, the reading is as it was
+pub waits_again : {A : Type 0} (P : Reading → Result A ASN1Error → Reading → Type 0) (s : Reading) (t : Option Tag) (e : ASN1Error) (z s' : Reading) →
+    s.kept ≡ None → Hands P (record s { tag = t }) (Quiet e) z → s' ≡ record z { tag = s.tag } → Lent P (record s { tag = t }) s (Quiet e) s'
+waits_again P s t e z s' k h f = record { between = z; hands = h; state = f ∙ quiet_leaves s t h.own h.left e z k h.comes }
+
+behind : {A : Type 0} (P : Reading → Result A ASN1Error → Reading → Type 0) (z s : Reading) (o : Outcome A) (b s' : Reading) → z.left ≡ s.left →
+    Hands P z o b → s' ≡ b → (taken : List ℕ) × (s.left ≡ taken ++ s'.left)
+behind P z s o b s' e h f =
+    let t = taken_behind z h.own h.left o b h.comes in
+    (t.0, sym e ∙ t.1 ∙ ap (λ (x : Reading). t.0 ++ x.left) (sym f))
+
+-- what is left of a reading that was lent stands behind what was taken
+pub lent_behind : {A : Type 0} (P : Reading → Result A ASN1Error → Reading → Type 0) (z s : Reading) (o : Outcome A) (s' : Reading) → z.left ≡ s.left →
+    Lent P z s o s' → (taken : List ℕ) × (s.left ≡ taken ++ s'.left)
+lent_behind P z s (Gave v) s' e h = behind P z s (Gave v) h.between s' e h.hands h.state
+lent_behind P z s (Quiet d) s' e h = ([], ap (λ (x : Reading). x.left) (sym h.state))
+lent_behind P z s (Failed d) s' e h = behind P z s (Failed d) h.between s' e h.hands h.state

@@ -1,5 +1,5 @@
 -- Typed reads of parts that may be left out: they are quiet where what follows begins with another tag.
-use Rattle.std.proofs.Common.{◌≡◌, ℕ, ◌^◌, ◌<◌, List, ◌∷◌, ◌++◌, Option, None, sym, ap, subst, ◌∙◌}
+use Rattle.std.proofs.Common.{◌≡◌, ℕ, ◌^◌, ◌<◌, List, ◌∷◌, ◌++◌, sym, ap, subst, ◌∙◌}
 use Rattle.std.specs.Prelude.{Err}
 use Rattle.yasna_base.specs.declared.error.ASN1Error.{ASN1Error}
 use Rattle.yasna_base.specs.declared.mode.BERMode.{BERMode}
@@ -11,7 +11,7 @@ use Rattle.yasna_base.proofs.Identifier.{begins_with}
 use Rattle.yasna_bytes.specs.Contents.{Never, WantsMemory}
 use Rattle.yasna_reader.specs.Primitive.{RefusedAs, ReadsUnlessKept, ReadsSeen, Reads, NoLevel}
 use Rattle.yasna_bytes.specs.Refusal.{IsPlain, IsElsewhere, another}
-use Rattle.yasna_reader.specs.State.{Reading, IsFresh, untagged, refusing, tag_of}
+use Rattle.yasna_reader.specs.State.{Reading, IsFresh, refusing, tag_of}
 use Rattle.yasna_reader.proofs.OptionalParts.{IsQuietBefore}
 use Rattle.yasna_bytes.proofs.Refusal.{plain_of, at_end_elsewhere, begins_not_elsewhere}
 
@@ -33,10 +33,10 @@ part_elsewhere t u R range other starts m n c r i q =
 module _ {V A : Type 0} (B : ℕ → BERMode → Tag → A → List ℕ → Type 0) (view : V → A) (D : ℕ → BERMode → Tag → List ℕ → Type 0)
     (M : ℕ → Tag → List ℕ → Type 0) (t : Tag) (deep : (n : ℕ) (m : BERMode) (s : List ℕ) → D n m t s → BeginsWithTag t s)
     (memory : (n : ℕ) (s : List ℕ) → M n t s → BeginsWithTag t s) where
-  refused_quiet : (s : Reading) (e : ASN1Error) (s' : Reading) → s.tag ≡ None →
+  refused_quiet : (s : Reading) (e : ASN1Error) (s' : Reading) →
       RefusedAs (B s.levels s.mode t) (D s.levels s.mode t s.left) (M s.levels t s.left) t s e s' → IsElsewhere t s.left → (s' ≡ s) × IsPlain (kind_of e)
-  refused_quiet s e s' f y other = (
-    y.state ∙ ap (λ b. refusing b (untagged s) e) (y.refuses.moved.1 other) ∙ ap {A = Option Tag} {B = Reading} (λ u. record s { tag = u }) (sym f),
+  refused_quiet s e s' y other = (
+    y.state ∙ ap (λ b. refusing b s e) (y.refuses.moved.1 other),
     plain_of (kind_of e) (λ i. begins_not_elsewhere (deep s.levels s.mode s.left (y.refuses.too_deep (y.kind ∙ i))) other)
         (λ i. begins_not_elsewhere (memory s.levels s.left (y.refuses.memory (y.kind ∙ i))) other),
   )
@@ -52,7 +52,7 @@ module _ {V A : Type 0} (B : ℕ → BERMode → Tag → A → List ℕ → Type
   -- a typed read is quiet where what follows begins with another tag
   pub quiet_elsewhere : (Q : BERMode → ℕ → List ℕ → Type 0) → StartsElsewhere t Q → IsQuietBefore (ReadsSeen B view D M t) Q
   quiet_elsewhere Q elsewhere = record {
-    quiet = λ s e s' f x q. refused_quiet s e s' f.1 (fresh_refused s e s' f x)
+    quiet = λ s e s' f x q. refused_quiet s e s' (fresh_refused s e s' f x)
         (subst (λ z. IsElsewhere t z) (sym q.joined) (elsewhere s.mode s.levels q.contents q.rest q.ends q.member));
   }
 

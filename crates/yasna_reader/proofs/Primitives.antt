@@ -17,14 +17,14 @@ use Rattle.yasna_reader.specs.Decodes.{Tells, KeptTells, Took, NotTook, IsQuietA
 use Rattle.yasna_bytes.proofs.Refusal.{plain_of, at_end_elsewhere, not_at_end}
 
 settled : {V A : Type 0} (B : A → List ℕ → Type 0) (view : V → A) (D M : Type 0) (t : Tag) (s : Reading) (f : Result (V × Bor (List ℕ)) Refusal)
-    (r : Result V ASN1Error) (s' : Reading) → SeenAt B view D M t s.left f → Settles (untagged s) f r s' → ReadsUnlessKept None B view D M t s r s'
+    (r : Result V ASN1Error) (s' : Reading) → SeenAt B view D M t s.left f → Settles s f r s' → ReadsUnlessKept None B view D M t s r s'
 settled B view D M t s (Ok x) (Ok v) s' a b =
     record { rest = x.1.now; takes = let e : x.0 ≡ v = cc (b.0) in subst (λ z. Takes B s.left (view z) x.1.now) e a; state = b.1 }
 settled B view D M t s (Ok x) (Err e) s' a b = let f = b.0 in absurd (cc)
 settled B view D M t s (Err x) (Ok v) s' a b = let f = b.0 in absurd (cc)
 settled B view D M t s (Err x) (Err e) s' a b =
     let g : record { kind = x.kind } ≡ e = let f = b.0 in cc in
-    record { refusal = x; kind = ap kind_of g; refuses = a; state = b.1 ∙ ap (refusing x.moved (untagged s)) g }
+    record { refusal = x; kind = ap kind_of g; refuses = a; state = b.1 ∙ ap (refusing x.moved s) g }
 
 -- what was found with the fields of a reading was found for the reading
 pub at_view : {V A : Type 0} (B : ℕ → BERMode → Tag → A → List ℕ → Type 0) (view : V → A) (D : ℕ → BERMode → Tag → List ℕ → Type 0)
@@ -38,7 +38,7 @@ at_view B view D M tag u z s r e f x =
 -- what was found at the front, with the reading settled, is what a typed read does
 pub reads_front : {V A : Type 0} (B : ℕ → BERMode → Tag → A → List ℕ → Type 0) (view : V → A) (D : ℕ → BERMode → Tag → List ℕ → Type 0)
     (M : ℕ → Tag → List ℕ → Type 0) (tag : Tag) (s : Reading) (f : Result (V × Bor (List ℕ)) Refusal) (r : Result V ASN1Error) (s' : Reading) →
-    s.kept ≡ None → FrontOf B view D M tag s f → Settles (untagged s) f r s' → ReadsSeen B view D M tag s r s'
+    s.kept ≡ None → FrontOf B view D M tag s f → Settles s f r s' → ReadsSeen B view D M tag s r s'
 reads_front B view D M tag s f r s' e a b = record {
   reads = subst
       (λ k. ReadsUnlessKept k (B s.levels s.mode (tag_of s tag)) view (D s.levels s.mode (tag_of s tag) s.left) (M s.levels (tag_of s tag) s.left)
@@ -50,7 +50,7 @@ reads_front B view D M tag s f r s' e a b = record {
 -- a typed read with a failure kept answers that failure
 pub reads_kept : {V A : Type 0} (B : ℕ → BERMode → Tag → A → List ℕ → Type 0) (view : V → A) (D : ℕ → BERMode → Tag → List ℕ → Type 0)
     (M : ℕ → Tag → List ℕ → Type 0) (tag : Tag) (s : Reading) (e : ASN1Error) (r : Result V ASN1Error) (s' : Reading) → s.kept ≡ Some e → r ≡ Err e →
-    s' ≡ untagged s → ReadsSeen B view D M tag s r s'
+    s' ≡ s → ReadsSeen B view D M tag s r s'
 reads_kept B view D M tag s e r s' k f g = record {
   reads = subst
       (λ k. ReadsUnlessKept k (B s.levels s.mode (tag_of s tag)) view (D s.levels s.mode (tag_of s tag) s.left) (M s.levels (tag_of s tag) s.left)
@@ -70,12 +70,12 @@ fresh B view D M t s r s' f x =
 pub no_level_at_end : (n : ℕ) (m : BERMode) (t : Tag) (s : List ℕ) → (t ≡ end_tag → ⊥) → AtEnd s → NoLevel n m t s → ⊥
 no_level_at_end n m t s o a x = not_at_end t s o a x.1
 
-left_as : (b : Bool) (s : Reading) (e : ASN1Error) → (refusing b (untagged s) e).left ≡ s.left
+left_as : (b : Bool) (s : Reading) (e : ASN1Error) → (refusing b s e).left ≡ s.left
 left_as true s e = refl
 left_as false s e = refl
 
 kept_as : (asks : Bool) (S : List ℕ → Type 0) (b : Bool) (s : Reading) (e : ASN1Error) → s.kept ≡ None → Tells asks S s.left e →
-    KeptTells asks S s.left (refusing b (untagged s) e).kept
+    KeptTells asks S s.left (refusing b s e).kept
 kept_as asks S true s e k x = x
 kept_as asks S false s e k x = subst (KeptTells asks S s.left) (sym k) tt
 
@@ -107,9 +107,9 @@ module _ {V A : Type 0} (asks : Bool) (B : ℕ → BERMode → Tag → A → Lis
   }
 
   tagless : (b : Bool) (s : Reading) (e : ASN1Error) → s.tag ≡ None →
-      refusing b (untagged s) e ≡ record s { left = (refusing b (untagged s) e).left; kept = (refusing b (untagged s) e).kept }
+      refusing b s e ≡ record s { left = (refusing b s e).left; kept = (refusing b s e).kept }
   tagless true s e f = ap {B = Reading} (λ u. record s { kept = Some e; tag = u }) (sym f)
-  tagless false s e f = ap {B = Reading} (λ u. record s { tag = u }) (sym f)
+  tagless false s e f = refl
 
   refused : (s : Reading) (e : ASN1Error) (s' : Reading) → IsFresh s →
       RefusedAs (B s.levels s.mode t) (D s.levels s.mode t s.left) (M s.levels t s.left) t s e s' → NotTook asks (S' s.mode s.levels) s e s'
@@ -124,17 +124,17 @@ module _ {V A : Type 0} (asks : Bool) (B : ℕ → BERMode → Tag → A → Lis
         same = subst (λ z. z ≡ record s { left = z.left; kept = z.kept }) (sym y.state) (tagless y.refusal.moved s e f.1);
       }
 
-  quiet : (s : Reading) (e : ASN1Error) (s' : Reading) → s.tag ≡ None →
+  quiet : (s : Reading) (e : ASN1Error) (s' : Reading) →
       RefusedAs (B s.levels s.mode t) (D s.levels s.mode t s.left) (M s.levels t s.left) t s e s' → IsQuietAtEnd s e s'
-  quiet s e s' f y a = (
-    y.state ∙ ap (λ b. refusing b (untagged s) e) (y.refuses.moved.1 (at_end_elsewhere t s.left other a)) ∙ stays s f,
+  quiet s e s' y a = (
+    y.state ∙ ap (λ b. refusing b s e) (y.refuses.moved.1 (at_end_elsewhere t s.left other a)),
     plain_of (kind_of e) (λ i. deep s.levels s.mode s.left a (y.refuses.too_deep (y.kind ∙ i))) (λ i. memory s.levels s.left a (y.refuses.memory (y.kind ∙ i))),
   )
 
   decodes : (s : Reading) (r : Result V ASN1Error) (s' : Reading) → IsFresh s →
       ReadsUnlessKept None (B s.levels s.mode t) view (D s.levels s.mode t s.left) (M s.levels t s.left) t s r s' → Decodes asks B' S' s r s'
   decodes s (Ok v) s' f y = took s v s' f.1 y
-  decodes s (Err e) s' f y = (refused s e s' f y, quiet s e s' f.1 y)
+  decodes s (Err e) s' f y = (refused s e s' f y, quiet s e s' y)
 
   -- such a read decodes
   pub asked_decodes : (s : Reading) (r : Result V ASN1Error) (s' : Reading) → IsFresh s → ReadsSeen B view D M t s r s' → Decodes asks B' S' s r s'

@@ -17,7 +17,7 @@ use Rattle.yasna_bytes.specs.Front.{Takes, Stands}
 use Rattle.yasna_reader.specs.Decodes.{Tells, KeptTells, NotTook, IsQuietAtEnd, Decodes}
 use Rattle.yasna_reader.specs.Primitive.{Settles}
 use Rattle.yasna_reader.specs.Raw.{RefusesCopy, CopiedAt, RefusedRaw, ReadsRawUnlessKept, ReadsRaw}
-use Rattle.yasna_reader.specs.State.{Reading, IsFresh, untagged, refusing}
+use Rattle.yasna_reader.specs.State.{Reading, IsFresh, refusing}
 use Rattle.yasna_bytes.specs.Walk.{RefusesRaw, TakesRaw, element_of}
 use Rattle.yasna_bytes.proofs.RawHeader.{starts_not_at_end}
 use Rattle.yasna_bytes.proofs.Refusal.{plain_of}
@@ -59,24 +59,24 @@ lacks_copy N n m s e x r y k f =
     }
 
 settled_raw : {V A : Type 0} (B : ℕ → BERMode → A → List ℕ → Type 0) (view : V → A) (s : Reading) (f : Result (V × Bor (List ℕ)) Refusal)
-    (r : Result V ASN1Error) (s' : Reading) → CopiedAt B view s.levels s.mode s.left f → Settles (untagged s) f r s' → ReadsRawUnlessKept None B view s r s'
+    (r : Result V ASN1Error) (s' : Reading) → CopiedAt B view s.levels s.mode s.left f → Settles s f r s' → ReadsRawUnlessKept None B view s r s'
 settled_raw B view s (Ok x) (Ok v) s' a b =
     record { rest = x.1.now; takes = let e : x.0 ≡ v = cc (b.0) in subst (λ z. Takes (B s.levels s.mode) s.left (view z) x.1.now) e a; state = b.1 }
 settled_raw B view s (Ok x) (Err e) s' a b = let f = b.0 in absurd (cc)
 settled_raw B view s (Err x) (Ok v) s' a b = let f = b.0 in absurd (cc)
 settled_raw B view s (Err x) (Err e) s' a b =
     let g : record { kind = x.kind } ≡ e = let f = b.0 in cc in
-    record { refusal = x; kind = ap kind_of g; refuses = a; state = b.1 ∙ ap (refusing x.moved (untagged s)) g }
+    record { refusal = x; kind = ap kind_of g; refuses = a; state = b.1 ∙ ap (refusing x.moved s) g }
 
 -- what was found at the front, with the reading settled, is what a read does
 pub reads_raw : {V A : Type 0} (B : ℕ → BERMode → A → List ℕ → Type 0) (view : V → A) (s : Reading) (f : Result (V × Bor (List ℕ)) Refusal)
-    (r : Result V ASN1Error) (s' : Reading) → s.kept ≡ None → CopiedAt B view s.levels s.mode s.left f → Settles (untagged s) f r s' →
+    (r : Result V ASN1Error) (s' : Reading) → s.kept ≡ None → CopiedAt B view s.levels s.mode s.left f → Settles s f r s' →
     ReadsRaw B view s r s'
 reads_raw B view s f r s' e a b = record { reads = subst (λ k. ReadsRawUnlessKept k B view s r s') (sym e) (settled_raw B view s f r s' a b) }
 
 -- with a failure kept a read answers that failure
 pub reads_raw_kept : {V A : Type 0} (B : ℕ → BERMode → A → List ℕ → Type 0) (view : V → A) (s : Reading) (e : ASN1Error) (r : Result V ASN1Error)
-    (s' : Reading) → s.kept ≡ Some e → r ≡ Err e → s' ≡ untagged s → ReadsRaw B view s r s'
+    (s' : Reading) → s.kept ≡ Some e → r ≡ Err e → s' ≡ s → ReadsRaw B view s r s'
 reads_raw_kept B view s e r s' k f g = record { reads = subst (λ k. ReadsRawUnlessKept k B view s r s') (sym k) (f, g) }
 
 -- What a fresh reading decodes by a read of a raw element, of which B says what is copied
@@ -88,7 +88,7 @@ module _ {V A : Type 0} (B : ℕ → BERMode → A → List ℕ → Type 0) (vie
   }
 
   refused_as : (e : ASN1Error) (s' : Reading) (x : RefusedRaw B s e s') (w : Bool) → x.refusal.moved ≡ w →
-      NotTook true (Any (λ m n v b. B n m v b) s.mode s.levels) s e (refusing w (untagged s) e) × IsQuietAtEnd s e (refusing w (untagged s) e)
+      NotTook true (Any (λ m n v b. B n m v b) s.mode s.levels) s e (refusing w s e) × IsQuietAtEnd s e (refusing w s e)
   refused_as e s' x true f = (
     record {
       tells = refused_tells e s' x;
@@ -103,10 +103,10 @@ module _ {V A : Type 0} (B : ℕ → BERMode → A → List ℕ → Type 0) (vie
       tells = refused_tells e s' x;
       kept = subst (λ z. KeptTells true (Any (λ m n v b. B n m v b) s.mode s.levels) s.left z) (sym fresh.0) tt;
       further = omega arith;
-      same = ap {A = Option Tag} {B = Reading} (λ u. record s { tag = u }) (sym fresh.1);
+      same = refl;
     },
     λ a. (
-      ap {A = Option Tag} {B = Reading} (λ u. record s { tag = u }) (sym fresh.1),
+      refl,
       plain_of (kind_of e) (λ i. starts_not_at_end s.left (deep_starts s.levels s.mode s.left (x.refuses.too_deep (x.kind ∙ i))) a)
           (λ i. starts_not_at_end s.left (x.refuses.memory (x.kind ∙ i)).1 a),
     ),

@@ -123,8 +123,8 @@ module _ {A : Type 0} (asks : Bool) (C : BERMode → ℕ → A → List ℕ → 
 
   refused_at : (k : Refusal) → RefusesHeader OnlyConstructed s.mode s.levels t s.left k →
       Tells asks (AnyEnclosed S t s.mode s.levels) s.left (error_of k.kind) → (w : Bool) → k.moved ≡ w →
-      NotTook asks (AnyEnclosed S t s.mode s.levels) s (error_of k.kind) (refusing w (untagged s) (error_of k.kind)) ×
-      IsQuietAtEnd s (error_of k.kind) (refusing w (untagged s) (error_of k.kind))
+      NotTook asks (AnyEnclosed S t s.mode s.levels) s (error_of k.kind) (refusing w s (error_of k.kind)) ×
+      IsQuietAtEnd s (error_of k.kind) (refusing w s (error_of k.kind))
   refused_at k h T true e = (
     record { tells = T; kept = T; further = omega arith; same = tagless (Some (error_of k.kind)) },
     λ i. absurd
@@ -135,9 +135,9 @@ module _ {A : Type 0} (asks : Bool) (C : BERMode → ℕ → A → List ℕ → 
       tells = T;
       kept = subst (λ z. KeptTells asks (AnyEnclosed S t s.mode s.levels) s.left z) (sym fresh.0) tt;
       further = omega arith;
-      same = tagless s.kept;
+      same = refl;
     },
-    λ i. (ap (λ u. record s { tag = u }) (sym fresh.1), plain_of k.kind (λ f. not_at_end t s.left not_end i (h.too_deep f).1) h.memory),
+    λ i. (refl, plain_of k.kind (λ f. not_at_end t s.left not_end i (h.too_deep f).1) h.memory),
   )
 
   refused : (r : Result A ASN1Error) (s' : Reading) → NotEntered t s r s' → Decodes asks (Enclosed C t) (AnyEnclosed S t) s r s'

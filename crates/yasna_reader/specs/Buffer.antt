@@ -2,7 +2,7 @@
 use Rattle.std.specs.Borrow.{Bor}
 use Rattle.std.specs.Prelude.{Err, List, Ok, Result, ℕ, ◌++◌, ◌≡◌}
 use Rattle.yasna_base.specs.declared.error.ASN1Error.{ASN1Error}
-use Rattle.yasna_reader.specs.Callback.{Hands, UnlessKept}
+use Rattle.yasna_reader.specs.Callback.{Lent, UnlessKept}
 use Rattle.yasna_reader.specs.State.{Reading}
 use Rattle.yasna_reader.specs.declared.callback.Outcome.{Outcome}
 use Rattle.yasna_reader.specs.declared.callback.Outcome.TheVariants.{Gave, Quiet, Failed}
@@ -17,6 +17,7 @@ Buffered before (Gave v) r after = TookBytes before v r after
 Buffered before (Quiet e) r after = r ≡ Err e
 Buffered before (Failed e) r after = r ≡ Err e
 
--- the callback is handed the reading, and the bytes that it took are answered beside its value
+-- the callback is handed the reading, and the bytes that it took are answered beside its value; where it is quiet, the
+-- reading is as it was
 abbrev pub ReadsBuffer : {A : Type 0} → (Reading → Result A ASN1Error → Reading → Type 0) → Reading → Result (A × Bor (List ℕ)) ASN1Error → Reading → Type 0
-ReadsBuffer {A} P s r s' = UnlessKept s.kept s r s' ((o : Outcome A) × Hands P s o s' × Buffered s.left o r s'.left)
+ReadsBuffer {A} P s r s' = UnlessKept s.kept s r s' ((o : Outcome A) × Lent P s s o s' × Buffered s.left o r s'.left)

@@ -5,7 +5,7 @@ use Rattle.yasna_base.specs.declared.error.ASN1Error.{ASN1Error}
 use Rattle.yasna_base.specs.declared.error.ASN1ErrorKind.TheVariants.{Invalid}
 use Rattle.yasna_bytes.specs.Refusal.{IsPlain}
 use Rattle.yasna_reader.specs.Sequence.{IsBefore, place_in}
-use Rattle.yasna_reader.specs.State.{Reading, failing, untagged}
+use Rattle.yasna_reader.specs.State.{Reading, failing}
 use Rattle.yasna_bytes.specs.declared.bytes.cursor.Cursor.{Cursor}
 use Rattle.yasna_reader.specs.declared.callback.Outcome.{Outcome}
 use Rattle.yasna_reader.specs.declared.callback.Outcome.TheVariants.{Gave, Quiet, Failed}
@@ -39,15 +39,27 @@ pub record Hands {A : Type 0} (P : Reading → Result A ASN1Error → Reading �
   pub says : P s own left
   pub comes : ComesTo s own left o s'
 
+-- what is left of the reading s, of which a callback that came to o left z: where it is quiet, the reading as it was
+abbrev pub left_by : {A : Type 0} → Outcome A → Reading → Reading → Reading
+left_by (Gave v) s z = z
+left_by (Quiet e) s z = s
+left_by (Failed e) s z = z
+
+-- a callback that does what P says was handed z in place of the reading s, and came to o
+pub record Lent {A : Type 0} (P : Reading → Result A ASN1Error → Reading → Type 0) (z s : Reading) (o : Outcome A) (s' : Reading) : Type 0 where
+  pub between : Reading
+  pub hands : Hands P z o between
+  pub state : s' ≡ left_by o s between
+
 -- a call around a callback hands its answer on, a failure that is kept first
 abbrev pub answer_of : {A : Type 0} → Outcome A → Result A ASN1Error
 answer_of (Gave v) = Ok v
 answer_of (Quiet e) = Err e
 answer_of (Failed e) = Err e
 
--- a failure that is kept comes before what K says
+-- a failure that is kept comes before what K says, and leaves the reading as it was
 abbrev pub UnlessKept : {A : Type 0} → Option ASN1Error → Reading → Result A ASN1Error → Reading → Type 0 → Type 0
-UnlessKept (Some e) s r s' K = (r ≡ Err e) × (s' ≡ untagged s)
+UnlessKept (Some e) s r s' K = (r ≡ Err e) × (s' ≡ s)
 UnlessKept None s r s' K = K
 
 -- the reading that begins at a cursor

@@ -6,7 +6,7 @@ use Rattle.yasna_base.specs.declared.error.ASN1ErrorKind.TheVariants.{Invalid}
 use Rattle.yasna_base.specs.declared.mode.BERMode.{BERMode}
 use Rattle.yasna_base.specs.declared.mode.BERMode.TheVariants.{Ber, Der}
 use Rattle.yasna_reader.specs.Callback.{Hands, UnlessKept}
-use Rattle.yasna_reader.specs.State.{Reading, refusing, untagged}
+use Rattle.yasna_reader.specs.State.{Reading, failing_if, untagged}
 use Rattle.yasna_reader.specs.declared.callback.Outcome.{Outcome}
 use Rattle.yasna_reader.specs.declared.callback.Outcome.TheVariants.{Gave, Quiet, Failed}
 
@@ -30,7 +30,7 @@ TakesDefault Der = ⊥
 abbrev pub UnlessDefault : {A : Type 0} → (A → A → Bool) → A → A → Bool → Reading → Result A ASN1Error → Reading → Type 0
 UnlessDefault eq d v moved z r s' =
     ((TakesDefault z.mode ⊎ (eq v d ≡ false)) × (r ≡ Ok v) × (s' ≡ z)) ⊎
-    ((TakesDefault z.mode → ⊥) × (eq v d ≡ true) × (r ≡ Err (error_of Invalid)) × (s' ≡ refusing moved z (error_of Invalid)))
+    ((TakesDefault z.mode → ⊥) × (eq v d ≡ true) × (r ≡ Err (error_of Invalid)) × (s' ≡ failing_if moved z (error_of Invalid)))
 
 -- the default d for none; a value of a reading of n bytes that left z, unless the mode refuses it
 abbrev pub DefaultsTo : {A : Type 0} → (A → A → Bool) → A → ℕ → Outcome A → Reading → Result A ASN1Error → Reading → Type 0

@@ -15,7 +15,7 @@ pub record RefusedAs {A : Type 0} (B : A → List ℕ → Type 0) (D M : Type 0)
   pub refusal : Refusal
   pub kind : refusal.kind ≡ kind_of e
   pub refuses : Refuses (Stands B s.left) D M t s.left refusal
-  pub state : s' ≡ refusing refusal.moved (untagged s) e
+  pub state : s' ≡ refusing refusal.moved s e
 
 -- a front of what is left stands for v, and the rest is left
 pub record ReadsFront {A : Type 0} (B : A → List ℕ → Type 0) (s : Reading) (v : A) (s' : Reading) : Type 0 where
@@ -23,16 +23,16 @@ pub record ReadsFront {A : Type 0} (B : A → List ℕ → Type 0) (s : Reading)
   pub takes : Takes B s.left v rest
   pub state : s' ≡ record (untagged s) { left = rest }
 
--- a kept failure comes first; view says what is seen of a value
+-- a kept failure comes first, and leaves the reading as it was; view says what is seen of a value
 abbrev pub ReadsUnlessKept : {V A : Type 0} → Option ASN1Error → (A → List ℕ → Type 0) → (V → A) → Type 0 → Type 0 → Tag → Reading → Result V ASN1Error →
     Reading → Type 0
-ReadsUnlessKept (Some e) B view D M t s r s' = (r ≡ Err e) × (s' ≡ untagged s)
+ReadsUnlessKept (Some e) B view D M t s r s' = (r ≡ Err e) × (s' ≡ s)
 ReadsUnlessKept None B view D M t s (Ok v) s' = ReadsFront B s (view v) s'
 ReadsUnlessKept None B view D M t s (Err e) s' = RefusedAs B D M t s e s'
 
 -- what a front that was looked for does to a reading
 abbrev pub Settles : {A : Type 0} → Reading → Result (A × Bor (List ℕ)) Refusal → Result A ASN1Error → Reading → Type 0
-Settles s (Ok x) r s' = (r ≡ Ok x.0) × (s' ≡ record s { left = x.1.now })
+Settles s (Ok x) r s' = (r ≡ Ok x.0) × (s' ≡ record (untagged s) { left = x.1.now })
 Settles s (Err e) r s' = (r ≡ Err (error_of e.kind)) × (s' ≡ refusing e.moved s (error_of e.kind))
 
 -- What a typed read looks for. B: which fronts it takes; D: where they lie too deep; M: where memory may be wanting
@@ -43,8 +43,8 @@ FrontOf B view D M tag s r = SeenAt (B s.levels s.mode (tag_of s tag)) view (D s
 
 -- A typed read of values of which view says what is seen: with a failure kept that failure, and nothing moved; else Ok takes
 -- a front in B, which stands for what is seen of the value, and leaves the rest; an Err that isn't of memory says that no
--- front is in B, whatever it stands for. It is unmoved exactly where nothing or another tag stands there, and kept
--- otherwise; of depth exactly where D holds; of memory only where M does
+-- front is in B, whatever it stands for. It is unmoved exactly where nothing or another tag stands there: then the reading
+-- is as it was, the implicit tag too; and kept otherwise; of depth exactly where D holds; of memory only where M does
 pub record ReadsSeen {V A : Type 0} (B : ℕ → BERMode → Tag → A → List ℕ → Type 0) (view : V → A) (D : ℕ → BERMode → Tag → List ℕ → Type 0)
     (M : ℕ → Tag → List ℕ → Type 0) (tag : Tag) (s : Reading) (r : Result V ASN1Error) (s' : Reading) : Type 0 where
   pub reads : ReadsUnlessKept s.kept (B s.levels s.mode (tag_of s tag)) view (D s.levels s.mode (tag_of s tag) s.left) (M s.levels (tag_of s tag) s.left)

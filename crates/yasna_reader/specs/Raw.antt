@@ -9,7 +9,7 @@ use Rattle.yasna_base.specs.declared.error.ASN1ErrorKind.TheVariants.{OutOfMemor
 use Rattle.yasna_base.specs.declared.mode.BERMode.{BERMode}
 use Rattle.yasna_bytes.specs.Front.{Stands, Takes}
 use Rattle.yasna_reader.specs.Primitive.{ReadsFront}
-use Rattle.yasna_reader.specs.State.{Reading, refusing, untagged}
+use Rattle.yasna_reader.specs.State.{Reading, refusing}
 use Rattle.yasna_bytes.specs.declared.bytes.header.Refusal.{Refusal}
 
 -- the whole of a raw element
@@ -36,19 +36,19 @@ pub record RefusedRaw {A : Type 0} (B : ℕ → BERMode → A → List ℕ → T
   pub refusal : Refusal
   pub kind : refusal.kind ≡ kind_of e
   pub refuses : RefusesCopy (Stands (B s.levels s.mode) s.left) s.levels s.mode s.left refusal
-  pub state : s' ≡ refusing refusal.moved (untagged s) e
+  pub state : s' ≡ refusing refusal.moved s e
 
 -- a kept failure comes first
 abbrev pub ReadsRawUnlessKept : {V A : Type 0} → Option ASN1Error → (ℕ → BERMode → A → List ℕ → Type 0) → (V → A) → Reading → Result V ASN1Error → Reading →
     Type 0
-ReadsRawUnlessKept (Some e) B view s r s' = (r ≡ Err e) × (s' ≡ untagged s)
+ReadsRawUnlessKept (Some e) B view s r s' = (r ≡ Err e) × (s' ≡ s)
 ReadsRawUnlessKept None B view s (Ok v) s' = ReadsFront (B s.levels s.mode) s (view v) s'
 ReadsRawUnlessKept None B view s (Err e) s' = RefusedRaw B s e s'
 
 -- A read of a raw element, whatever implicit tag waits, where view says what is seen of a value: with a failure kept that
 -- failure, and nothing moved; else Ok takes a front in B, which stands for what is seen of the value, and leaves the rest;
 -- an Err that isn't of memory says that no front is in B. It is unmoved exactly where nothing is left or an identifier of
--- the end of contents stands there, and kept otherwise; of depth exactly where the elements nest too deep; of memory only
+-- the end of contents stands there: then the reading is as it was; and kept otherwise; of depth exactly where the elements nest too deep; of memory only
 -- where a level is left and another identifier stands there
 pub record ReadsRaw {V A : Type 0} (B : ℕ → BERMode → A → List ℕ → Type 0) (view : V → A) (s : Reading) (r : Result V ASN1Error) (s' : Reading) :
     Type 0 where

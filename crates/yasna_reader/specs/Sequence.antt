@@ -85,12 +85,12 @@ pub record NotEntered {A : Type 0} (t : Tag) (s : Reading) (r : Result A ASN1Err
   pub refusal : Refusal
   pub refuses : RefusesHeader OnlyConstructed s.mode s.levels t s.left refusal
   pub answer : r ≡ Err (error_of refusal.kind)
-  pub state : s' ≡ refusing refusal.moved (untagged s) (error_of refusal.kind)
+  pub state : s' ≡ refusing refusal.moved s (error_of refusal.kind)
 
 -- a kept failure comes first
 abbrev pub EntersUnlessKept : {A : Type 0} → Option ASN1Error → (Reading → Result A ASN1Error → Reading → Type 0) → Tag → Reading → Result A ASN1Error →
     Reading → Type 0
-EntersUnlessKept (Some e) P t s r s' = (r ≡ Err e) × (s' ≡ untagged s)
+EntersUnlessKept (Some e) P t s r s' = (r ≡ Err e) × (s' ≡ s)
 EntersUnlessKept None P t s r s' = Entered P t s r s' ⊎ NotEntered t s r s'
 
 -- a read of a constructed element whose contents are read as P says

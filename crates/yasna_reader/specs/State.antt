@@ -39,10 +39,15 @@ failing s e = record s { kept = Some e }
 abbrev pub tag_of : Reading → Tag → Tag
 tag_of s t = tag_or s.tag t
 
--- a refusal that moved is kept
+-- a refusal that moved is kept, and uses the implicit tag up; any other leaves the reading as it was
 abbrev pub refusing : Bool → Reading → ASN1Error → Reading
-refusing true s e = failing s e
+refusing true s e = failing (untagged s) e
 refusing false s e = s
+
+-- a failure is kept where something moved
+abbrev pub failing_if : Bool → Reading → ASN1Error → Reading
+failing_if true s e = failing s e
+failing_if false s e = s
 
 -- what the next part is read from
 abbrev pub part_of : {S : Type 0} → Parts S → S

@@ -2,7 +2,7 @@
 use Rattle.std.specs.Prelude.{Result, Some, ◌≡◌}
 use Rattle.yasna_base.specs.declared.error.ASN1Error.{ASN1Error}
 use Rattle.yasna_base.specs.declared.tag.Tag.{Tag}
-use Rattle.yasna_reader.specs.Callback.{Hands, UnlessKept, answer_of}
+use Rattle.yasna_reader.specs.Callback.{Lent, UnlessKept, answer_of}
 use Rattle.yasna_reader.specs.State.{Reading, tag_of}
 use Rattle.yasna_reader.specs.declared.callback.Outcome.{Outcome}
 
@@ -10,6 +10,7 @@ use Rattle.yasna_reader.specs.declared.callback.Outcome.{Outcome}
 abbrev pub tagging : Tag → Reading → Reading
 tagging tag s = record s { tag = Some (tag_of s tag) }
 
--- the callback is handed the reading under the tag, and what it comes to is answered
+-- the callback is handed the reading under the tag, and what it comes to is answered; where it is quiet, the reading is as
+-- it was, with the tag that waited
 abbrev pub ReadsImplicitly : {A : Type 0} → (Reading → Result A ASN1Error → Reading → Type 0) → Tag → Reading → Result A ASN1Error → Reading → Type 0
-ReadsImplicitly {A} P tag s r s' = UnlessKept s.kept s r s' ((o : Outcome A) × Hands P (tagging tag s) o s' × (r ≡ answer_of o))
+ReadsImplicitly {A} P tag s r s' = UnlessKept s.kept s r s' ((o : Outcome A) × Lent P (tagging tag s) s o s' × (r ≡ answer_of o))

@@ -30,7 +30,8 @@ impl<'a> ReaderState<'a> {
 
     /// Reads what the callback reads, and answers the bytes that it took beside its value.
     ///
-    /// The bytes are the input's own: they outlive this reading. An implicit tag that waits is handed on.
+    /// The bytes are the input's own: they outlive this reading. An implicit tag that waits is handed on, and waits again where
+    /// the callback's Err moved nothing.
     #[inline(always)]
     pub fn read_with_buffer<T: Drop, F>(&mut self, f: F) -> ASN1Result<(T, &'a [u8])>
     where
@@ -39,11 +40,10 @@ impl<'a> ReaderState<'a> {
         ensures { ReadsBuffer (FnOnceReturnsAtMut F.FnOnce f) self.old result self.new }
     {
         if let Some(error) = self.kept {
-            self.tag = None;
             return Err(error);
         }
         let before = self.cursor.left;
-        let outcome = self.hand(f);
+        let outcome = self.hand_under(self.tag, f);
         self.with_taken(before, outcome)
     }
 }

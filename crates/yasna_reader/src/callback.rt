@@ -6,6 +6,7 @@ ghost use Rattle.yasna_bytes.specs.Refusal.{IsPlain};
 
 use crate::state::{BERReader, ReaderState};
 use yasna_base::error::{ASN1Error, ASN1ErrorKind, ASN1Result};
+use yasna_base::tag::Tag;
 use yasna_bytes::bytes::cursor::Cursor;
 
 /// What a callback came to.
@@ -33,7 +34,7 @@ fn is_plain(kind: ASN1ErrorKind) -> bool
 impl<'a> ReaderState<'a> {
     ghost use Rattle.std.specs.Prelude.{None, length, ◌≡◌};
     ghost use Rattle.std.specs.Fn.{FnOnceTakesAtMut, FnOnceReturnsAtMut};
-    ghost use Rattle.yasna_reader.specs.Callback.{ComesTo, Hands, FailsAs, at_cursor};
+    ghost use Rattle.yasna_reader.specs.Callback.{ComesTo, Hands, Lent, FailsAs, at_cursor};
 
     // Hands this reading to a callback, and takes it back.
     #[inline(always)]
@@ -46,6 +47,29 @@ impl<'a> ReaderState<'a> {
         let before = self.cursor;
         let answer = f(self);
         self.take_back(before, answer)
+    }
+
+    // Hands this reading to a callback with this tag in place of the one that waits, which waits again where the callback is
+    // quiet.
+    #[inline(always)]
+    #[tactic(auto, using(crate::proofs::Callbacks::waits_again))]
+    pub(crate) fn hand_under<T: Drop, F>(&mut self, tag: Option<Tag>, f: F) -> Outcome<T>
+    where
+        F: FnOnce(BERReader<'a, '_>) -> ASN1Result<T>,
+        requires kept { self.old.kept ≡ None }
+        requires may { FnOnceTakesAtMut F.FnOnce f (record self.old { tag = tag }) }
+        ensures { Lent (FnOnceReturnsAtMut F.FnOnce f) (record self.old { tag = tag }) self.old result self.new }
+    {
+        let waiting = self.tag;
+        self.tag = tag;
+        match self.hand(f) {
+            Outcome::Gave(value) => Outcome::Gave(value),
+            Outcome::Quiet(error) => {
+                self.tag = waiting;
+                Outcome::Quiet(error)
+            }
+            Outcome::Failed(error) => Outcome::Failed(error),
+        }
     }
 
     // What a callback came to that began here and gave this answer. The reading goes on where the callback left it.

@@ -81,10 +81,10 @@ impl<'a> Parts<ReaderState<'a>> {
         ensures { ReadsOptional (FnOnceReturnsAtMut F.FnOnce f) (part_of self.old) result (part_of self.new) }
     {
         let reader = &mut self.reader;
-        reader.tag = None;
         if let Some(error) = reader.kept {
             return Err(error);
         }
+        reader.tag = None;
         match reader.hand(f) {
             Outcome::Gave(value) => Ok(Some(value)),
             Outcome::Quiet(_) => Ok(None),
@@ -103,10 +103,10 @@ impl<'a> Parts<ReaderState<'a>> {
         ensures { ReadsDefault (FnOnceReturnsAtMut F.FnOnce f) T.eq default (part_of self.old) result (part_of self.new) }
     {
         let reader = &mut self.reader;
-        reader.tag = None;
         if let Some(error) = reader.kept {
             return Err(error);
         }
+        reader.tag = None;
         let before = reader.cursor.left.len();
         let outcome = reader.hand(f);
         reader.or_default(before, outcome, default)

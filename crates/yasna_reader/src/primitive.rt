@@ -139,7 +139,6 @@ impl<'a> ReaderState<'a> {
         ensures { ReadsSeen (Primitively T.means) T.view NoLevel T.wants tag self.old result self.new }
     {
         if let Some(error) = self.kept {
-            self.tag = None;
             return Err(error);
         }
         let front = self.front::<T>(tag);

@@ -112,7 +112,6 @@ impl<'a> ReaderState<'a> {
         ensures { ReadsRaw T.copies T.view self.old result self.new }
     {
         if let Some(error) = self.kept {
-            self.tag = None;
             return Err(error);
         }
         let front = self.copy_of::<T>();

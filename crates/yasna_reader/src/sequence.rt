@@ -48,7 +48,6 @@ impl<'a> ReaderState<'a> {
         ensures { ReadsParts (Runs F.FnOnce f) tag self.old result self.new }
     {
         if let Some(error) = self.kept {
-            self.tag = None;
             return Err(error);
         }
         match self.enter(tag) {

@@ -54,7 +54,6 @@ impl<'a> ReaderState<'a> {
         ensures { ReadsParts (VisitsInOrder order (CalledAtMut F.FnMut) f) tag self.old result self.new }
     {
         if let Some(error) = self.kept {
-            self.tag = None;
             return Err(error);
         }
         match self.enter(tag) {
@@ -81,7 +80,6 @@ impl<'a> ReaderState<'a> {
         ensures { ReadsParts (CollectsInOrder order (CalledAtMut F.FnMut) f) tag self.old result self.new }
     {
         if let Some(error) = self.kept {
-            self.tag = None;
             return Err(error);
         }
         match self.enter(tag) {

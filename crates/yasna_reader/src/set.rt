@@ -248,7 +248,6 @@ impl<'a> ReaderState<'a> {
         ensures { ReadsParts (RunsOnSet F.FnOnce f) TAG_SET self.old result self.new }
     {
         if let Some(error) = self.kept {
-            self.tag = None;
             return Err(error);
         }
         match self.enter(TAG_SET) {

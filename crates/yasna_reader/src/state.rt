@@ -31,7 +31,7 @@ impl<'a> Model for ReaderState<'a> {
 
 impl<'a> ReaderState<'a> {
     ghost use Rattle.std.specs.Prelude.{◌≡◌};
-    ghost use Rattle.yasna_reader.specs.State.{starts, untagged, tag_of};
+    ghost use Rattle.yasna_reader.specs.State.{starts, tag_of};
     ghost use Rattle.yasna_reader.specs.Primitive.{Settles};
 
     /// By which rules this reading reads.
@@ -64,20 +64,21 @@ impl<'a> ReaderState<'a> {
         }
     }
 
-    // Takes what was found at the front, or keeps the refusal where it moved.
+    // Takes what was found at the front, or keeps the refusal where it moved. What moved nothing leaves the reading as it was.
     #[inline(always)]
     pub(crate) fn settle<T: Drop>(&mut self, front: Result<(T, &'a [u8]), Refusal>) -> ASN1Result<T>
-        ensures { Settles (untagged self.old) front.entry result self.new }
+        ensures { Settles self.old front.entry result self.new }
     {
-        self.tag = None;
         match front {
             Ok((value, rest)) => {
+                self.tag = None;
                 self.cursor.left = rest;
                 Ok(value)
             }
             Err(refusal) => {
                 let error = ASN1Error::new(refusal.kind);
                 if refusal.moved {
+                    self.tag = None;
                     self.kept = Some(error);
                 }
                 Err(error)
@@ -89,7 +90,8 @@ impl<'a> ReaderState<'a> {
 /// The reading of one element.
 ///
 /// Each read takes what it reads off the front. A read that fails behind an identifier of the wanted tag is kept:
-/// each later call answers that failure, and so does the parse around it.
+/// each later call answers that failure, and so does the parse around it. A read that fails in front of it leaves the
+/// reading as it was, and an implicit tag that waits too.
 ///
 /// Two readings over bytes of one lifetime can be exchanged by `std::mem::swap`. A failure that one keeps moves with it;
 /// each call around a callback takes only that failure and how many bytes are left, and cuts from its own bytes.

@@ -29,7 +29,6 @@ impl<'a> ReaderState<'a> {
         ensures { ReadsSeen IsOctets (λ v. v.items) IsDeepOctets WantsMemory TAG_OCTETSTRING self.old result self.new }
     {
         if let Some(error) = self.kept {
-            self.tag = None;
             return Err(error);
         }
         let front = self.octets(TAG_OCTETSTRING);
@@ -44,7 +43,6 @@ impl<'a> ReaderState<'a> {
         ensures { ReadsSeen IsBits bits_in IsDeepBits WantsMemory TAG_BITSTRING self.old result self.new }
     {
         if let Some(error) = self.kept {
-            self.tag = None;
             return Err(error);
         }
         let front = self.bits(TAG_BITSTRING);
@@ -106,7 +104,6 @@ impl<'a> ReaderState<'a> {
         ensures { ReadsSeen (IsStringOf (J.says judge)) J.view IsDeepOctets WantsMemory tag self.old result self.new }
     {
         if let Some(error) = self.kept {
-            self.tag = None;
             return Err(error);
         }
         let front = self.said(tag, judge);

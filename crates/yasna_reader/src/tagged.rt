@@ -23,7 +23,6 @@ impl<'a> ReaderState<'a> {
         ensures { ReadsParts (FnOnceReturnsAtMut F.FnOnce f) tag self.old result self.new }
     {
         if let Some(error) = self.kept {
-            self.tag = None;
             return Err(error);
         }
         match self.enter(tag) {
@@ -39,7 +38,8 @@ impl<'a> ReaderState<'a> {
     /// Lets this tag stand in place of that of the next element that the callback reads, implicit tagging.
     ///
     /// An implicit tag that waits already stands in place of this one: the outermost wins. An Err of the callback is kept
-    /// where it moved something, or is `StackOverflow` or `OutOfMemory`.
+    /// where it moved something, or is `StackOverflow` or `OutOfMemory`; any other leaves the reading as it was, and the tag
+    /// that waited waits again.
     #[inline(always)]
     pub fn read_tagged_implicit<T: Drop, F>(&mut self, tag: Tag, f: F) -> ASN1Result<T>
     where
@@ -48,11 +48,9 @@ impl<'a> ReaderState<'a> {
         ensures { ReadsImplicitly (FnOnceReturnsAtMut F.FnOnce f) tag self.old result self.new }
     {
         if let Some(error) = self.kept {
-            self.tag = None;
             return Err(error);
         }
-        self.tag = Some(self.wanted(tag));
-        match self.hand(f) {
+        match self.hand_under(Some(self.wanted(tag)), f) {
             Outcome::Gave(value) => Ok(value),
             Outcome::Quiet(error) | Outcome::Failed(error) => Err(error),
         }

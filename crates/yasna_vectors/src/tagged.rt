@@ -4,6 +4,7 @@
 //! |---|---|
 //! | `tag3_i64`, `tag31_null` | read_tagged context 3 of an INTEGER, context 31 of a NULL |
 //! | `itag3_i64`, `itag3_bytes`, `itag3_bits`, `itag3_utf8` | read_tagged_implicit context 3 |
+//! | `itag3_again` | read_tagged_implicit context 3 of an INTEGER, which is read once more where that is refused |
 //! | `itag31_seq` | read_tagged_implicit private 1000 of a SEQUENCE of an INTEGER and a BOOLEAN |
 //! | `itag3_tag4`, `itag3_itag4` | read_tagged_implicit context 3 of read_tagged context 4, of read_tagged_implicit context 4, of an INTEGER |
 
@@ -19,6 +20,7 @@ pub enum Tagging {
     Integer,
     Null,
     ImplicitInteger,
+    ImplicitAgain,
     ImplicitBytes,
     ImplicitBits,
     ImplicitText,
@@ -47,6 +49,7 @@ impl Family for Tagging {
             "tag3_i64" => Tagging::Integer,
             "tag31_null" => Tagging::Null,
             "itag3_i64" => Tagging::ImplicitInteger,
+            "itag3_again" => Tagging::ImplicitAgain,
             "itag3_bytes" => Tagging::ImplicitBytes,
             "itag3_bits" => Tagging::ImplicitBits,
             "itag3_utf8" => Tagging::ImplicitText,
@@ -95,6 +98,10 @@ impl Tagging {
     // Reads it, where the tag waits.
     fn read_inner(self, reader: BERReader) -> ASN1Result<Tagged> {
         match self {
+            Tagging::ImplicitAgain => match reader.read_i64() {
+                Ok(number) => Ok(Tagged::ImplicitInteger(number)),
+                Err(_) => reader.read_i64().map(Tagged::ImplicitInteger),
+            },
             Tagging::ImplicitBytes => {
                 let bytes = reader.read_bytes()?;
                 Ok(Tagged::ImplicitContent(Content::Bytes(bytes)))

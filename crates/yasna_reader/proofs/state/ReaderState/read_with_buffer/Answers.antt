@@ -1,10 +1,9 @@
-use Rattle.std.proofs.Common.{ap, ◌∙◌}
+use Rattle.std.proofs.Common.{ap, ◌∙◌, refl}
 use Rattle.yasna_reader.specs.State.{Reading}
-use Rattle.yasna_reader.proofs.Callbacks.{taken_behind}
+use Rattle.yasna_reader.proofs.Callbacks.{lent_behind}
 use Rattle.yasna_reader.proofs.state.ReaderState.read_with_buffer.Goals as goal
 
 pub with_taken-requires : goal.with_taken-requires
 with_taken-requires g c =
-    let h = c.hand-outcome.ensures in
-    let t = taken_behind c.args.self.now h.own h.left c.hand-outcome.result c.hand-outcome.new.self h.comes in
+    let t = lent_behind _ _ c.args.self.now c.hand_under-outcome.result c.hand_under-outcome.new.self refl c.hand_under-outcome.ensures in
     (t.0, ap (λ (z : Reading). z.left) c.self.view_is ∙ t.1)
