@@ -120,3 +120,12 @@ fn calls(rt: HostRuntime) -> Result<(), Fail> {
     assert_eq!(rt; oid.into_components().as_slice(), [2, 5, 4].as_slice());
     Ok(())
 }
+
+#[test]
+fn copied(rt: HostRuntime) -> Result<(), Fail> {
+    let alloc = rt.alloc();
+    let oid = ObjectIdentifier::from_slice(alloc, &[1, 2])?;
+    assert_eq!(rt; oid.to_string(alloc)?.as_str(), "1.2");
+    assert_eq!(rt; oid.clone()?.to_string(alloc)?.as_str(), "1.2");
+    Ok(())
+}

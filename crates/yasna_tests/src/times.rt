@@ -4,7 +4,7 @@ use std::cmp::Ordering;
 use std::hash::{BuildHasher, BuildHasherDefault, FoldHasher};
 use std::process::Abort;
 use std::test::Fail;
-use yasna::models::{GeneralizedTime, Offset, UTCTime};
+use yasna::models::{DateTime, GeneralizedTime, Offset, UTCTime};
 use yasna_examples::{as_generalized_time, remade_utc_time, without_leap_second};
 
 const EVENING: &[u8] = b"19851106210627.3Z";
@@ -117,5 +117,21 @@ fn made_of_their_parts(rt: HostRuntime) -> Result<(), Fail> {
             .as_str(),
         "19981231235959.1234567891Z"
     );
+    Ok(())
+}
+
+// Half an hour before the year 10000, an hour behind UTC.
+#[test]
+fn past_the_last_year(rt: HostRuntime) -> Result<(), Fail> {
+    let alloc = rt.alloc();
+    let (Ok(local), Ok(behind)) = (
+        DateTime::new(9999, 12, 31, 23, 30, 0, 0),
+        Offset::from_seconds(-3600),
+    ) else {
+        assert!(rt; false, "no date-time");
+        return Ok(());
+    };
+    let time = GeneralizedTime::from_datetime_opt(alloc, local, behind);
+    assert!(rt; time.is_none());
     Ok(())
 }
