@@ -1,5 +1,5 @@
 -- The texts of object identifiers: what each part says, and that what is printed is read again.
-use Rattle.std.proofs.Common.{◌≡◌, ◌≢◌, ℕ, ◌^◌, ◌<◌, List, [], ◌∷◌, ◌++◌, length, get_or, refl, ap, ap₂, false, ◌∙◌, sym, subst, append_assoc, append-nil, arith, All, Result, Ok, Err, MatchResult, Bool, true}
+use Rattle.std.proofs.Common.{◌≡◌, ◌≢◌, ◌⊎◌, inl, inr, ℕ, ◌^◌, ◌<◌, List, [], ◌∷◌, ◌++◌, length, get_or, refl, ap, ap₂, false, ◌∙◌, sym, subst, append_assoc, append-nil, arith, All, Result, Ok, Err, MatchResult, Bool, true}
 use Rattle.std.specs.Fmt.{decimal}
 use Rattle.std.specs.List.{AllByRecursion, AllZip, slice_split, position_or_len, before_first, after_first}
 use Rattle.std.specs.Str.Parse.{IsNumeral, digits_value, without_leading_plus}
@@ -9,7 +9,7 @@ use Rattle.std.proofs.lemmas.List.Elements.{All-from_get_or}
 use Rattle.std.proofs.lemmas.List.Sums.{fails_before_first}
 use Rattle.std.proofs.lemmas.List.Splits.{slice_split_first, slice_split_none, slice_split_at}
 use Rattle.std.proofs.lemmas.Str.Parse.{digit_at, without_leading_plus_none}
-use Rattle.yasna_base.specs.OidText.{oid_text, IsComponent, IsOidText, is_dot, lacks_memory}
+use Rattle.yasna_base.specs.OidText.{oid_text, BeginsWithComponent, IsComponent, IsOidText, is_dot, lacks_memory}
 use Rattle.yasna_base.specs.declared.models.oid_text.ParseOidError.{ParseOidError}
 
 -- the components cs were read of a text, and rest is left of it
@@ -69,6 +69,20 @@ no_first text cs rest part i h e =
 pub no_last : (text cs rest : List ℕ) → IsRest text cs rest → position_or_len is_dot rest ≡ length rest → ((n : ℕ) → IsComponent rest n → ⊥) →
     (ds : List ℕ) → IsOidText text ds → ⊥
 no_last text cs rest i h = no_part text cs rest rest [] i (one_part rest h)
+
+-- where parts were read of a text, or it is still whole, and the part up to the next dot is a component, its first part is one
+pub begins_more : (text rest part : List ℕ) (n : ℕ) → (rest ≡ text) ⊎ BeginsWithComponent text → position_or_len is_dot rest < length rest →
+    part ≡ before_first is_dot rest → IsComponent part n → BeginsWithComponent text
+begins_more text rest part n (inl w) h e c =
+    subst BeginsWithComponent w (n, part, slice_split is_dot (after_first is_dot rest),
+    slice_split_first is_dot rest 0 h ∙ ap (λ p. p ∷ slice_split is_dot (after_first is_dot rest)) (sym e), c)
+begins_more text rest part n (inr b) h e c = b
+
+-- the same of the last part
+pub begins_last : (text rest : List ℕ) (n : ℕ) → (rest ≡ text) ⊎ BeginsWithComponent text → position_or_len is_dot rest ≡ length rest →
+    IsComponent rest n → BeginsWithComponent text
+begins_last text rest n (inl w) h c = subst BeginsWithComponent w (n, rest, [], one_part rest h, c)
+begins_last text rest n (inr b) h c = b
 
 -- the digits of a number hold no dot
 no_dot : (n : ℕ) → n < 2 ^ 64 → All (λ c. is_dot c ≡ false) (decimal n)

@@ -1,7 +1,7 @@
 -- The texts of object identifiers, and why one wasn't read.
 use Rattle.std.specs.Fmt.{decimal}
 use Rattle.std.specs.List.{AllZip, join_by, slice_split}
-use Rattle.std.specs.Prelude.{◌≡◌, ◌==◌, ℕ, ◌^◌, ◌<◌, List, codes, Bool, true, false}
+use Rattle.std.specs.Prelude.{◌≡◌, ◌==◌, ℕ, ◌^◌, ◌<◌, List, ◌∷◌, codes, Bool, true, false}
 use Rattle.std.specs.Str.Parse.{IsNumeral, digits_value, without_leading_plus}
 use Rattle.yasna_base.specs.declared.models.oid_text.ParseOidError.{ParseOidError}
 
@@ -21,6 +21,11 @@ is_dot c = c == 46
 -- the parts of a text between its dots are the components
 abbrev pub IsOidText : List ℕ → List ℕ → Type 0
 IsOidText text cs = AllZip IsComponent (slice_split is_dot text) cs
+
+-- the first part of the text is a component
+abbrev pub BeginsWithComponent : List ℕ → Type 0
+BeginsWithComponent text =
+    (n : ℕ) × (part : List ℕ) × (parts : List (List ℕ)) × (slice_split is_dot text ≡ part ∷ parts) × IsComponent part n
 
 -- whether a text wasn't read for want of memory
 abbrev pub lacks_memory : ParseOidError → Bool

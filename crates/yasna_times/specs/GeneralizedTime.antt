@@ -100,6 +100,10 @@ pub record IsGeneralText (s : List ℕ) (given : Option ℤ) (m : Moment) : Type
   pub reading : IsGeneralReading s end seconds offset utc
   pub is : m ≡ moment_at utc (is_leap s end) m.fraction
 
+-- the text has the layout of one, and its fraction more than nine digits
+abbrev pub HasLongFraction : List ℕ → Option ℤ → Type 0
+HasLongFraction s given = (end zone : ℕ) × (offset : ℤ) × IsLayout s given end zone offset × (9 < length (part_digits s end zone))
+
 -- a moment that has a text
 pub record IsGeneralMoment (m : Moment) : Type 0 where
   pub in_years : pos 0 ≤ℤ m.date.year

@@ -1,5 +1,5 @@
 //! Object identifiers (X.690, 8.19).
-ghost use Rattle.std.specs.Prelude.{◌≡◌, IfOk, IsTrue, ◌↔◌, nat_eq};
+ghost use Rattle.std.specs.Prelude.{◌≡◌, ◌<◌, IfOk, IfErr, IsTrue, ◌↔◌, length, nat_eq};
 ghost use Rattle.std.specs.Ordering.{nat_cmp, as_partial_cmp};
 ghost use Rattle.std.specs.Cmp.Lexicographic.{slice_cmp, pointwise};
 ghost use Rattle.std.specs.Cmp.Rules.{comparing, hashing};
@@ -63,21 +63,22 @@ impl ObjectIdentifier {
         ObjectIdentifier { components }
     }
 
-    /// The identifier with a copy of these components.
+    /// The identifier with a copy of these components. No components take no memory.
     pub fn from_slice(alloc: Global, components: &[u64]) -> Result<ObjectIdentifier, AllocError>
-        ensures { IfOk result (λ oid. oid ≡ components.now) }
+        ensures copy { IfOk result (λ oid. oid ≡ components.now) }
+        ensures memory { IfErr result (λ _. 0 < length components.now) }
     {
         let mut copy = Vec::with_capacity(alloc, components.len())?;
         copy.extend_from_slice(components)?;
         Ok(ObjectIdentifier { components: copy })
     }
 
-    /// The same identifier in memory of its own.
+    /// The same identifier in memory of its own. No components take none.
     pub fn clone(&self) -> Result<ObjectIdentifier, AllocError>
-        ensures { IfOk result (λ oid. oid ≡ self.now) }
+        ensures copy { IfOk result (λ oid. oid ≡ self.now) }
+        ensures memory { IfErr result (λ _. 0 < length self.now) }
     {
-        let components = self.components.clone()?;
-        Ok(ObjectIdentifier { components })
+        ObjectIdentifier::from_slice(*self.components.allocator(), self.components.as_slice())
     }
 
     /// The components.

@@ -1,7 +1,7 @@
 //! The texts of object identifiers: their components in decimal, joined by dots.
 ghost use Rattle.std.specs.Prelude.{◌≡◌, ◌<◌, ◌⊎◌, ℕ, List, [], ◌∷◌, ◌++◌, length, true, false, MatchOption, MatchResult, IfErr};
 ghost use Rattle.std.specs.List.{position_or_len, before_first, after_first};
-ghost use Rattle.yasna_base.specs.OidText.{IsComponent, IsOidText, is_dot, lacks_memory};
+ghost use Rattle.yasna_base.specs.OidText.{BeginsWithComponent, IsComponent, IsOidText, is_dot, lacks_memory};
 
 use crate::models::ObjectIdentifier;
 use std::alloc::Global;
@@ -84,7 +84,8 @@ fn component(part: &str) -> Option<u64>
 
 // Appends the number that a part of a text is.
 fn push_component(components: &mut Vec<u64>, part: &str) -> Result<(), ParseOidError>
-    ensures { MatchResult result (λ _. (n : ℕ) × IsComponent part.now n × (components.new.items ≡ components.old.items ++ (n ∷ []))) (λ e. lacks_memory e ≡ false → (n : ℕ) → IsComponent part.now n → ⊥) }
+    ensures exact { MatchResult result (λ _. (n : ℕ) × IsComponent part.now n × (components.new.items ≡ components.old.items ++ (n ∷ []))) (λ e. lacks_memory e ≡ false → (n : ℕ) → IsComponent part.now n → ⊥) }
+    ensures memory { IfErr result (λ e. lacks_memory e ≡ true → (n : ℕ) × IsComponent part.now n) }
 {
     let Some(number) = component(part) else {
         return Err(ParseOidError {
@@ -100,9 +101,11 @@ fn push_component(components: &mut Vec<u64>, part: &str) -> Result<(), ParseOidE
 impl ObjectIdentifier {
     /// The object identifier whose text this is: its parts between dots are the components.
     ///
-    /// A part is one or more digits of value up to 2^64-1, before which a plus may stand. Other texts are refused.
+    /// A part is one or more digits of value up to 2^64-1, before which a plus may stand. Other texts are refused. Memory is
+    /// asked for only where the first part is such a number.
     pub fn from_str(alloc: Global, text: &str) -> Result<ObjectIdentifier, ParseOidError>
-        ensures { MatchResult result (λ oid. IsOidText text.now oid) (λ e. lacks_memory e ≡ false → (cs : List ℕ) → IsOidText text.now cs → ⊥) }
+        ensures exact { MatchResult result (λ oid. IsOidText text.now oid) (λ e. lacks_memory e ≡ false → (cs : List ℕ) → IsOidText text.now cs → ⊥) }
+        ensures memory { IfErr result (λ e. lacks_memory e ≡ true → BeginsWithComponent text.now) }
     {
         let mut components = Vec::new(alloc);
         let mut rest = text;

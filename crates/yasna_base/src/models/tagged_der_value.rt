@@ -22,7 +22,7 @@ pub struct TaggedDerValue {
 }
 
 impl TaggedDerValue {
-    ghost use Rattle.std.specs.Prelude.{◌≡◌, ℕ, List, IfOk, MatchOption};
+    ghost use Rattle.std.specs.Prelude.{◌≡◌, ◌<◌, ℕ, List, IfOk, IfErr, MatchOption, length};
     ghost use Rattle.yasna_base.specs.declared.tag.PCBit.TheVariants.{Primitive, Constructed};
     ghost use Rattle.yasna_base.specs.Identifier.{universal};
     ghost use Rattle.yasna_base.specs.TaggedDerValue.{raw_of, raw_value, HoldsOctets, HoldsText};
@@ -102,11 +102,13 @@ impl TaggedDerValue {
         }
     }
 
-    /// The same element in memory of its own.
+    /// The same element in memory of its own. No bytes take none.
     pub fn clone(&self) -> Result<TaggedDerValue, AllocError>
-        ensures { IfOk result (λ copy. raw_of copy ≡ raw_of self.now) }
+        ensures copy { IfOk result (λ copy. raw_of copy ≡ raw_of self.now) }
+        ensures memory { IfErr result (λ _. 0 < length (raw_of self.now).payload) }
     {
-        let value = self.value.clone()?;
+        let mut value = Vec::with_capacity(*self.value.allocator(), self.value.len())?;
+        value.extend_from_slice(self.value.as_slice())?;
         Ok(TaggedDerValue {
             tag: self.tag,
             pcbit: self.pcbit,

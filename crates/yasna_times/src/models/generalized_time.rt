@@ -1,8 +1,8 @@
 //! GeneralizedTime (X.680, 46; X.690, 11.7).
-ghost use Rattle.std.specs.Prelude.{◌≡◌, ◌↔◌, ◌<◌, ◌≤◌, ◌++◌, [], ℕ, ℤ, Option, None, Some, IfOk, IsTrue, List, OnOk, MatchOption, length, string_bytes};
+ghost use Rattle.std.specs.Prelude.{◌≡◌, ◌↔◌, ◌<◌, ◌≤◌, ◌++◌, [], ℕ, ℤ, Option, None, Some, IfOk, IfErr, IsTrue, List, OnOk, MatchOption, length, string_bytes};
 ghost use Rattle.yasna_times.specs.Decimal.{AreDigits};
 ghost use Rattle.yasna_times.specs.Fraction.{IsTrimmed, nine_digits, trimmed};
-ghost use Rattle.yasna_times.specs.GeneralizedTime.{IsFlagged, IsGeneralText, IsInYears, HasGeneralizedTime, clock_digits, general_text, part_digits, point_digits};
+ghost use Rattle.yasna_times.specs.GeneralizedTime.{HasLongFraction, IsFlagged, IsGeneralText, IsInYears, HasGeneralizedTime, clock_digits, general_text, part_digits, point_digits};
 ghost use Rattle.yasna_times.specs.Moment.{Moment};
 ghost use Rattle.yasna_times.specs.Zone.{seconds_of};
 
@@ -11,7 +11,7 @@ mod layout;
 
 use crate::models::civil::{at_nanosecond, in_years};
 use crate::models::decimal::{are_digits, ones, tens};
-use crate::models::fraction::{nine, split, trim};
+use crate::models::fraction::{copied, nine, split, trim};
 use clock::{reading, shows_leap, unit};
 use jiff::civil::DateTime;
 use jiff::tz::Offset;
@@ -119,9 +119,11 @@ impl GeneralizedTime {
     /// The time that a text of X.680's GeneralizedTime says: `YYYYMMDDhh`, the minute or not, the second or not, the
     /// fraction of the last of these behind `.` or `,` or not, and `Z`, `+hh`, `-hh`, `+hhmm` or `-hhmm`.
     ///
-    /// The fraction may have any number of digits, and is kept as it is. A text without a zone is none.
+    /// The fraction may have any number of digits, and is kept as it is. A text without a zone is none. Memory is asked for
+    /// only where the fraction has more than nine digits.
     pub fn parse(alloc: Global, bytes: &[u8]) -> Result<Option<GeneralizedTime>, AllocError>
-        ensures { IfOk result (λ o. MatchOption o ((m : Moment) → ¬ (IsGeneralText bytes.now None m)) (λ t. IsGeneralText bytes.now None (moment_of t))) }
+        ensures exact { IfOk result (λ o. MatchOption o ((m : Moment) → ¬ (IsGeneralText bytes.now None m)) (λ t. IsGeneralText bytes.now None (moment_of t))) }
+        ensures memory { IfErr result (λ _. HasLongFraction bytes.now None) }
     {
         GeneralizedTime::general(alloc, bytes, None)
     }
@@ -134,7 +136,8 @@ impl GeneralizedTime {
         bytes: &[u8],
         offset: Offset,
     ) -> Result<Option<GeneralizedTime>, AllocError>
-        ensures { IfOk result (λ o. MatchOption o ((m : Moment) → ¬ (IsGeneralText bytes.now (Some offset.seconds) m)) (λ t. IsGeneralText bytes.now (Some offset.seconds) (moment_of t))) }
+        ensures exact { IfOk result (λ o. MatchOption o ((m : Moment) → ¬ (IsGeneralText bytes.now (Some offset.seconds) m)) (λ t. IsGeneralText bytes.now (Some offset.seconds) (moment_of t))) }
+        ensures memory { IfErr result (λ _. HasLongFraction bytes.now (Some offset.seconds)) }
     {
         GeneralizedTime::general(alloc, bytes, Some(offset))
     }
@@ -145,7 +148,8 @@ impl GeneralizedTime {
         bytes: &[u8],
         given: Option<Offset>,
     ) -> Result<Option<GeneralizedTime>, AllocError>
-        ensures { IfOk result (λ o. MatchOption o ((m : Moment) → ¬ (IsGeneralText bytes.now (seconds_of given) m)) (λ t. IsGeneralText bytes.now (seconds_of given) (moment_of t))) }
+        ensures exact { IfOk result (λ o. MatchOption o ((m : Moment) → ¬ (IsGeneralText bytes.now (seconds_of given) m)) (λ t. IsGeneralText bytes.now (seconds_of given) (moment_of t))) }
+        ensures memory { IfErr result (λ _. HasLongFraction bytes.now (seconds_of given)) }
     {
         let Some(layout) = Layout::of(bytes, given) else {
             return Ok(None);
@@ -188,7 +192,8 @@ impl GeneralizedTime {
         })
     }
 
-    /// The local date-time less the offset, with these digits behind its nanosecond, whose zeros at the end are dropped.
+    /// The local date-time less the offset, with these digits behind its nanosecond, whose zeros at the end are dropped. Where
+    /// no digits are left, no memory is asked for.
     pub fn from_datetime_and_sub_nano(
         alloc: Global,
         local: DateTime,
@@ -197,7 +202,8 @@ impl GeneralizedTime {
     ) -> Result<GeneralizedTime, AllocError>
         requires years { HasGeneralizedTime local offset.seconds }
         requires digits { AreDigits sub_nano.now }
-        ensures { IfOk result (IsTimeAt local offset.seconds (trimmed sub_nano.now)) }
+        ensures time { IfOk result (IsTimeAt local offset.seconds (trimmed sub_nano.now)) }
+        ensures memory { IfErr result (λ _. 0 < length (trimmed sub_nano.now)) }
     {
         Ok(GeneralizedTime::from_datetime_and_sub_nano_opt(
             alloc, local, offset, sub_nano,
@@ -211,7 +217,8 @@ impl GeneralizedTime {
         offset: Offset,
         sub_nano: &[u8],
     ) -> Result<Option<GeneralizedTime>, AllocError>
-        ensures { IfOk result (λ o. MatchOption o (HasGeneralizedTime local offset.seconds → AreDigits sub_nano.now → ⊥) (IsTimeAt local offset.seconds (trimmed sub_nano.now))) }
+        ensures time { IfOk result (λ o. MatchOption o (HasGeneralizedTime local offset.seconds → AreDigits sub_nano.now → ⊥) (IsTimeAt local offset.seconds (trimmed sub_nano.now))) }
+        ensures memory { IfErr result (λ _. 0 < length (trimmed sub_nano.now)) }
     {
         if !are_digits(sub_nano, 0, sub_nano.len()) {
             return Ok(None);
@@ -221,7 +228,7 @@ impl GeneralizedTime {
         };
         Ok(Some(GeneralizedTime {
             datetime,
-            sub_nano: Vec::from_slice(alloc, trim(sub_nano))?,
+            sub_nano: copied(alloc, trim(sub_nano))?,
             is_leap_second: false,
         }))
     }
@@ -240,13 +247,14 @@ impl GeneralizedTime {
         self.sub_nano.as_slice()
     }
 
-    /// The same time again.
+    /// The same time again. Without digits behind the nanosecond it takes no memory.
     pub fn clone(&self) -> Result<GeneralizedTime, AllocError>
-        ensures { IfOk result (SameTime self.now) }
+        ensures same { IfOk result (SameTime self.now) }
+        ensures memory { IfErr result (λ _. 0 < length self.now.sub_nano.items) }
     {
         Ok(GeneralizedTime {
             datetime: self.datetime,
-            sub_nano: self.sub_nano.clone()?,
+            sub_nano: copied(*self.sub_nano.allocator(), self.sub_nano.as_slice())?,
             is_leap_second: self.is_leap_second,
         })
     }

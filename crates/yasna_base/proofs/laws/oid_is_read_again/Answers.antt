@@ -7,4 +7,4 @@ pub returns-in-Ok : goal.returns-in-Ok
 returns-in-Ok c =
     let small = subst (λ (ks : List ℕ). AllByRecursion (λ n. n < 2 ^ 64) ks) (c.deref.ensures.value ∙ c.components.ensures) c.are_small.ensures in
     read_again c.args.oid.now c.deref-in-Ok.result.now c.from_str.result c.requires small
-    (c.deref-in-Ok.ensures ∙ (c.in-Ok.ensures {u = tt}).ok) c.from_str.ensures
+    (c.deref-in-Ok.ensures ∙ (c.in-Ok.ensures {u = tt}).ok) c.from_str.ensures.exact

@@ -21,4 +21,4 @@ returns c =
     IfOk-weaker c.from_datetime_and_sub_nano.result _ _
     (λ u h. unflagged t u (subst (λ x. IsTimeAt x (pos 0) (trimmed t.sub_nano.items) u) c.datetime-local.ensures
     (subst (λ s. IsTimeAt c.datetime-local.result.now (pos 0) (trimmed s) u) c.sub_nano.ensures h)))
-    c.from_datetime_and_sub_nano.ensures
+    c.from_datetime_and_sub_nano.ensures.time

@@ -9,13 +9,13 @@ use Rattle.yasna_reader.proofs.times.GeneralTextJudge.judge.Goals.{in_default-vi
 
 pub returns-in-Ok-None : goal.returns-in-Ok-None
 returns-in-Ok-None c =
-    let none = rw c.as_slice-text.ensures.value at (rw c.in-Ok-None.field-0-is at (c.in-Ok-None.ensures {u = tt})) in
+    let none = (rw c.as_slice-text.ensures.value at (rw c.in-Ok-None.field-0-is at (c.in-Ok-None.ensures {u = tt}))).exact in
     inr (tt, λ v x. none v x.text)
 
 pub returns-in-Der : goal.returns-in-Der
 returns-in-Der c =
     let time = moment_of c.in-Ok-Some.time in
-    let says = rw c.as_slice-text.ensures.value at (rw c.in-Ok-Some.field-0-is at (c.in-Ok-Some.ensures {u = tt})) in
+    let says = (rw c.as_slice-text.ensures.value at (rw c.in-Ok-Some.field-0-is at (c.in-Ok-Some.ensures {u = tt}))).exact in
     inr (
       tt,
       λ v x.
@@ -29,7 +29,7 @@ returns-in-Der c =
 pub returns : goal.returns
 returns c =
     record {
-      text = rw c.as_slice-text.ensures.value at (rw c.in-Ok-Some.field-0-is at (c.in-Ok-Some.ensures {u = tt}));
+      text = (rw c.as_slice-text.ensures.value at (rw c.in-Ok-Some.field-0-is at (c.in-Ok-Some.ensures {u = tt}))).exact;
       canonical = elim c.in_default.branch [
         | in_default-via-in-Der+else-not-is_canonical w ↦ λ h. sym c.as_slice-text.ensures.value ∙ w.is_canonical.ensures.0 w.if-not-is_canonical.false
         | in_default-via-in_default w ↦ λ h. absurd (w.in_default.not-Der (is_der c.args.mode h))

@@ -8,7 +8,7 @@ pub invariant_of-result : goal.invariant_of-result
 invariant_of-result c =
     let ds = c.args.sub_nano.now in
     let given : AreDigits ds = λ k h. c.if-not-are_digits.ensures.0 refl k (omega arith) h in
-    let e : c.in_ok-from_slice.field-0.items ≡ trimmed ds = c.in_ok-from_slice.ensures.items ∙ c.trim.ensures in
+    let e : c.in_ok-copied.field-0.items ≡ trimmed ds = c.in_ok-copied.ensures.items ∙ c.trim.ensures in
     record {
       in_years = c.in-Some.ensures.0;
       digits = subst AreDigits (sym e) (trimmed_digits ds given);

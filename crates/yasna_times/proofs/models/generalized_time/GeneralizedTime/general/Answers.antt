@@ -8,11 +8,11 @@ use Rattle.yasna_times.proofs.GeneralizedTime.{says_at, reading_flagged, pos_is}
 use Rattle.yasna_times.proofs.Moment.{moment_is}
 use Rattle.yasna_times.proofs.models.generalized_time.GeneralizedTime.general.Goals as goal
 
-pub returns-in_default : goal.returns-in_default
-returns-in_default c = λ m t. c.in_default.ensures.exact t.end t.zone t.offset t.layout
+pub returns-in_default-clause-exact : goal.returns-in_default-clause-exact
+returns-in_default-clause-exact c = λ m t. c.in_default.ensures.exact t.end t.zone t.offset t.layout
 
-pub returns-in_default-reading : goal.returns-in_default-reading
-returns-in_default-reading c =
+pub returns-in_default-reading-clause-exact : goal.returns-in_default-reading-clause-exact
+returns-in_default-reading-clause-exact c =
     λ m t.
     let s = c.args.bytes.now in
     let l = c.in-Some.layout in
@@ -38,8 +38,8 @@ invariant_of-result c =
           ∙ reading_flagged s l.clock_end f.seconds l.offset.seconds utc c.in-Some-reading.ensures (sym c.shows_leap.ensures ∙ e);
     }
 
-pub returns : goal.returns
-returns c =
+pub returns-clause-exact : goal.returns-clause-exact
+returns-clause-exact c =
     let s = c.args.bytes.now in
     let l = c.in-Some.layout in
     let f = c.in_ok-fraction.fraction in
