@@ -11,6 +11,7 @@ pub use Rattle.yasna_base.proofs.Sequence.{no_part, part, tuple, no_part_written
 pub use Rattle.yasna_base.proofs.Optional.{apart_from_nothing, apart_from_part, apart_from_option, part_before, option_before, option_written, sequence}
 pub use Rattle.yasna_base.proofs.Identifier.{not_end}
 pub use Rattle.yasna_base.proofs.SequenceOf.{list, list_along, list_written}
+pub use Rattle.yasna_base.proofs.SetOfWriting.{set_of_reading}
 pub use Rattle.yasna_base.proofs.Nested.{nested_coding, nested_list, any_nested_list}
 pub use Rattle.yasna_base.proofs.Integer.{number_coding, signed_coding, unsigned_coding, signed_written, unsigned_written, number_written}
 pub use Rattle.yasna_base.proofs.Boolean.{bool_coding, bool_written}

@@ -53,11 +53,13 @@
 //! | `traits` | what a type says that is read and written as a whole |
 //! | `whole` | whole inputs and outputs, and what is proved of them for every such type |
 //! | `models` | object identifiers, times and raw elements |
+//! | `law_functions` | what is proved of the grammar, of the times and of sets |
 //! | `sets` | what is proved of SET OF values of every such type |
 //! | `primitive`, `strings`, `borrowed`, `oid`, `times`, `raw`, `lists`, `tuples` | the types that come with the crate |
 #![tactic(auto)]
 
 mod borrowed;
+pub mod law_functions;
 mod lists;
 pub mod models;
 mod oid;
@@ -70,7 +72,7 @@ mod traits;
 mod tuples;
 mod whole;
 
-pub use sets::{set_of_is_read, set_of_is_written};
+pub use sets::{set_of_is_read, set_of_is_written, set_of_sets_is_read};
 pub use traits::{BERDecodable, DERCanonical, DEREncodable};
 pub use tuples::{EncodableParts, TupleParts};
 pub use whole::{decode_ber, decode_ber_general, decode_der, encode_der, one_form};

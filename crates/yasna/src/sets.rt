@@ -1,5 +1,5 @@
 //! SET OF values of a type (X.690, 8.12 and 11.6): what is proved of it. A closure reads and writes them.
-ghost use Rattle.yasna_base.specs.SetWriting.{SetOfKeepsReadingLaws, SetOfKeepsWritingLaws};
+ghost use Rattle.yasna_base.specs.SetWriting.{SetOfKeepsReadingLaws, SetOfSetOfKeepsReadingLaws, SetOfKeepsWritingLaws};
 
 use crate::traits::{BERDecodable, DERCanonical};
 
@@ -9,6 +9,14 @@ use crate::traits::{BERDecodable, DERCanonical};
 /// and what is read within some levels is read within more.
 pub fn set_of_is_read<T: BERDecodable>()
     ensures { SetOfKeepsReadingLaws T.same T.encodes T.elements }
+{}
+
+/// The same of a SET OF such SETs OF, each under any tag but that of the end of contents.
+///
+/// Deeper ones keep the laws by the lemma `set_of_reading`, of the law of their elements; `laws::sets_of_others` of `yasna_base`
+/// says so of elements without traits.
+pub fn set_of_sets_is_read<T: BERDecodable>()
+    ensures { SetOfSetOfKeepsReadingLaws T.same T.encodes T.elements }
 {}
 
 /// What is proved of a SET OF values of every type that keeps the laws.

@@ -8,12 +8,13 @@ use Rattle.yasna_base.specs.declared.tag.PCBit.TheVariants.{Constructed}
 use Rattle.yasna_base.specs.declared.tag.Tag.{Tag}
 use Rattle.yasna_base.specs.Canonical.{IsCanonicalMode, HoldsForm, canonical_element, enclosed_form, enclosed_nest, HasForm}
 use Rattle.yasna_base.specs.Coding.{IsCoding, Any}
+use Rattle.yasna_base.specs.Element.{AnyEnclosed}
 use Rattle.yasna_base.specs.Identifier.{end_tag}
 use Rattle.yasna_base.specs.Order.{octets_cmp, in_order}
 use Rattle.yasna_base.specs.Pieces.{Each}
 use Rattle.yasna_base.specs.Raw.{RawValue, IsRaw, raw_form}
 use Rattle.yasna_base.specs.SequenceOf.{elements_form, elements_nest}
-use Rattle.yasna_base.specs.Set.{AreInSetOfOrder, IsSetOf, AnySetOf, AreInSetOrder, IsSet, SetOfContents, SetPart, part_cmp, SetContents}
+use Rattle.yasna_base.specs.Set.{AreInSetOfOrder, IsSetOf, AnySetOf, AreInSetOrder, IsSet, SetElements, SetOfContents, SetPart, part_cmp, SetContents}
 
 -- the parts make contents, and no others, and b is the element around them
 pub record MakeElement (Contents : List (List ℕ) → List ℕ → Type 0) (m : BERMode) (t : Tag) (parts : List (List ℕ)) (b : List ℕ) : Type 0 where
@@ -80,6 +81,24 @@ SetOfKeepsLaws B form nest Can =
     (u : Tag) → (u ≡ end_tag → ⊥) → u.tag_number < 2 ^ 64 →
     SetOfKeepsReadingLaws (λ v w. v ≡ w) (λ m n v b. B n m u v b) (Any (λ m n v b. B n m u v b))
     × SetOfKeepsWritingLaws (λ v w. v ≡ w) (λ m n v b. B n m u v b) (form u) nest Can
+
+-- SET OF keeps the laws of reading under any tag, where its elements, of which B n m u v b says so under the tag u, have any tag
+abbrev pub SetOfKeepsReadingOf : {A : Type 0} → (ℕ → BERMode → Tag → A → List ℕ → Type 0) → Type 0
+SetOfKeepsReadingOf B =
+    (u : Tag) → (u ≡ end_tag → ⊥) → u.tag_number < 2 ^ 64 →
+    SetOfKeepsReadingLaws (λ v w. v ≡ w) (λ m n v b. B n m u v b) (Any (λ m n v b. B n m u v b))
+
+-- the same where its elements are a SET
+abbrev pub SetOfSetKeepsReadingLaws : Type 0
+SetOfSetKeepsReadingLaws =
+    (u : Tag) → (u ≡ end_tag → ⊥) → u.tag_number < 2 ^ 64 →
+    SetOfKeepsReadingLaws (λ v w. v ≡ w) (IsSet u) (AnyEnclosed (Any SetElements) u)
+
+-- and where they are a SET OF such elements as B, E and S say
+abbrev pub SetOfSetOfKeepsReadingLaws : {A : Type 0} → (A → A → Type 0) → (BERMode → ℕ → A → List ℕ → Type 0) → (BERMode → ℕ → List ℕ → Type 0) → Type 0
+SetOfSetOfKeepsReadingLaws E B S =
+    (u : Tag) → (u ≡ end_tag → ⊥) → u.tag_number < 2 ^ 64 →
+    SetOfKeepsReadingLaws (λ vs ws. Each E vs ws) (IsSetOf B u) (AnySetOf S u)
 
 -- SET OF raw elements keeps the laws of reading
 abbrev pub SetOfRawKeepsReadingLaws : Type 0

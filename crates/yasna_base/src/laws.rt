@@ -24,15 +24,15 @@ ghost use Rattle.yasna_base.specs.Enumerated.{EnumeratedKeepsLaws};
 ghost use Rattle.yasna_base.specs.BigInteger.{IsBigInteger, big_integer_form, CanBigInteger, BigIntegerKeepsLaws};
 ghost use Rattle.yasna_base.specs.Cut.{DeepIsNone};
 ghost use Rattle.yasna_base.specs.Octets.{IsOctets, octets_form, octets_cutting, OctetsKeepLaws};
-ghost use Rattle.yasna_base.specs.Bits.{bits_cutting, BitsKeepLaws};
-ghost use Rattle.yasna_base.specs.Text.{InUtf8, InNumeric, InPrintable, InVisible, InIa5, TextKeepsLaws, BmpKeepsLaws};
+ghost use Rattle.yasna_base.specs.Bits.{IsBits, bits_cutting, BitsKeepLaws};
+ghost use Rattle.yasna_base.specs.Text.{InUtf8, InNumeric, InPrintable, InVisible, InIa5, IsBmp, IsStringOf, IsUtf8In, TextKeepsLaws, BmpKeepsLaws};
 ghost use Rattle.yasna_base.specs.Oid.{OidKeepsLaws};
 ghost use Rattle.yasna_base.specs.OidText.{lacks_memory};
 ghost use Rattle.yasna_base.specs.declared.models.tagged_der_value.TaggedDerValue.{TaggedDerValue};
 ghost use Rattle.yasna_base.specs.TaggedDerValue.{raw_of};
 ghost use Rattle.yasna_base.specs.Raw.{RawKeepsReadingLaws, TooDeepIsNotRaw};
 ghost use Rattle.yasna_base.specs.SetLaws.{SetKeepsReadingLaws, SetOfOrderIsOne, SetOrderIsOne, SetContentsAreOne};
-ghost use Rattle.yasna_base.specs.SetWriting.{SetOfKeepsLaws, SetOfRawKeepsReadingLaws, SetKeepsWritingLaws};
+ghost use Rattle.yasna_base.specs.SetWriting.{SetOfKeepsLaws, SetOfKeepsReadingOf, SetOfRawKeepsReadingLaws, SetOfSetKeepsReadingLaws, SetKeepsWritingLaws};
 
 use crate::mode::BERMode;
 use crate::models::{ObjectIdentifier, ParseOidError, TaggedDerValue};
@@ -227,4 +227,19 @@ pub fn sets_written()
     ensures set_of_octets { SetOfKeepsLaws IsOctets octets_form leaf_nest IsBytes }
     ensures set_of_raw { SetOfRawKeepsReadingLaws }
     ensures set { SetKeepsWritingLaws }
+{}
+
+/// SET OF keeps the laws of reading where its elements are of a type without traits: bit strings, texts of each class, and sets,
+/// each under any tag but that of the end of contents.
+///
+/// `set_of_sets_is_read` of the crate `yasna` says so of a SET OF values of a type with traits.
+pub fn sets_of_others()
+    ensures bits { SetOfKeepsReadingOf IsBits }
+    ensures utf8 { SetOfKeepsReadingOf (IsStringOf (IsUtf8In InUtf8)) }
+    ensures numeric { SetOfKeepsReadingOf (IsStringOf (IsUtf8In InNumeric)) }
+    ensures printable { SetOfKeepsReadingOf (IsStringOf (IsUtf8In InPrintable)) }
+    ensures ia5 { SetOfKeepsReadingOf (IsStringOf (IsUtf8In InIa5)) }
+    ensures visible { SetOfKeepsReadingOf (IsStringOf (IsUtf8In InVisible)) }
+    ensures bmp { SetOfKeepsReadingOf (IsStringOf IsBmp) }
+    ensures sets { SetOfSetKeepsReadingLaws }
 {}
