@@ -1,5 +1,7 @@
 -- The turns of a list's callback.
 use Rattle.std.proofs.Common.{◌≡◌, ℕ, inl, inr, List, [], ◌∷◌, ◌++◌, None, Some, Option, refl, sym, ap, subst, ◌∙◌, append_assoc}
+use Rattle.std.specs.Borrow.{MutBor}
+use Rattle.std.specs.Fn.{Mut, CalledAtMut}
 use Rattle.std.specs.Global.{Global}
 use Rattle.std.specs.Prelude.{Result, Vec}
 use Rattle.yasna_base.specs.declared.error.ASN1Error.{ASN1Error}
@@ -9,7 +11,7 @@ use Rattle.yasna_reader.specs.declared.callback.Outcome.TheVariants.{Gave, Quiet
 use Rattle.yasna_bytes.specs.declared.bytes.cursor.Cursor.{Cursor}
 use Rattle.yasna_reader.specs.Callback.{at_cursor}
 use Rattle.yasna_reader.specs.Sequence.{ReadsParts}
-use Rattle.yasna_reader.specs.SequenceOf.{TurnsOut, Turn, Turns, Lists, Collects, Visits, items_of}
+use Rattle.yasna_reader.specs.SequenceOf.{TakesTurn, TakesTurns, TurnsOut, Turn, Turns, Lists, Collects, Visits, items_of}
 use Rattle.yasna_reader.specs.SetOf.{Bounded, Follows, FallsBelow, GivesInOrder, TurnInOrder, Ordered, CollectsInOrder, VisitsInOrder}
 use Rattle.yasna_reader.specs.declared.set_of.Order.TheVariants.{Any}
 use Rattle.yasna_reader.specs.State.{Reading, IsFresh}
@@ -73,6 +75,19 @@ more_so_far C g s vs v h m g' s' fresh a b =
       same = at ∙ mid ∙ fresh_as s s'.left fresh;
       turns = turns_more (TurnInOrder C) g s vs v h m g' s' a.turns b;
     }
+
+-- turns of a list whose elements ascend are turns of its callback
+plain_turns : {F A : Type 0} (C : F → Reading → Result A ASN1Error → F → Reading → Type 0) (vs : List A) (g : Bounded F) (s : Reading) (h : Bounded F)
+    (m : Reading) → Turns (TurnInOrder C) g s vs h m → Turns (Turn C) g.callback s vs h.callback m
+plain_turns C [] g s h m t = (ap (λ (z : Bounded _). z.callback) t.0, t.1)
+plain_turns C (v ∷ vs) g s h m t = (t.0.callback, t.1, t.2.turn, plain_turns C vs t.0 t.1 h m t.3)
+
+-- the callback may be called where turns so far reached
+pub takes_turn : {F A : Type 0} (g : Mut F (MutBor Reading × Unit {0}) (Result A ASN1Error × (MutBor Reading × Unit {0}))) (b : Bounded F) (s : Reading)
+    (vs : List A) (h : Bounded F) (m : Reading) → TakesTurns g s → SoFar (TurnInOrder (CalledAtMut g)) b s vs h m → TakesTurn g h.callback m
+takes_turn g b s vs h m may so =
+    subst (λ z. TakesTurn g h.callback z) (sym so.same) (may b.callback h.callback vs so.front m.left so.joined
+    (subst (λ z. Turns (Turn (CalledAtMut g)) b.callback s vs h.callback z) so.same (plain_turns (CalledAtMut g) vs b s h m so.turns)))
 
 -- what is left behind a turn stands behind what it took
 pub turn_rest : {F A : Type 0} (C : F → Reading → Result A ASN1Error → F → Reading → Type 0) (f : F) (s : Reading) (o : Outcome A) (f' : F)

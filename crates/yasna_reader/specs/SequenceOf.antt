@@ -1,7 +1,7 @@
 -- What a read of a SEQUENCE OF does, whose elements a callback reads one by one (X.690, 8.10). C f s x f' m says that the
 -- callback f, called on the reading s, answers x, becomes f' and leaves m.
 use Rattle.std.specs.Borrow.{MutBor}
-use Rattle.std.specs.Fn.{Mut}
+use Rattle.std.specs.Fn.{Mut, CalledAtMut}
 use Rattle.std.specs.Global.{Global}
 use Rattle.std.specs.Prelude.{Err, List, Ok, Result, Vec, [], length, ℕ, ◌++◌, ◌<◌, ◌∷◌, ◌≡◌, ◌⊎◌}
 use Rattle.yasna_base.specs.Error.{error_of, kind_of}
@@ -15,10 +15,6 @@ use Rattle.yasna_reader.specs.declared.callback.Outcome.TheVariants.{Gave, Quiet
 -- f may be called on the reading s
 abbrev pub TakesTurn : {F R : Type 0} → Mut F (MutBor Reading × Unit {0}) R → F → Reading → Type 0
 TakesTurn g f s = (p : MutBor Reading) → p.now ≡ s → g.pre f (p, tt)
-
--- so may the callback, in any state of its own, on what is left of s behind any front
-abbrev pub TakesTurns : {F R : Type 0} → Mut F (MutBor Reading × Unit {0}) R → Reading → Type 0
-TakesTurns {F} g s = (f : F) (front rest : List ℕ) → s.left ≡ front ++ rest → TakesTurn g f (record s { left = rest })
 
 -- a value for which nothing was taken is Invalid, and that is kept
 pub record Idles {A : Type 0} (s : Reading) (x : Result A ASN1Error) (m : Reading) (e : ASN1Error) (s' : Reading) : Type 0 where
@@ -49,6 +45,13 @@ pub record Turn {F A : Type 0} (C : F → Reading → Result A ASN1Error → F �
 abbrev pub Turns : {G A : Type 0} → (G → Reading → Outcome A → G → Reading → Type 0) → G → Reading → List A → G → Reading → Type 0
 Turns T g s [] g' s' = (g' ≡ g) × (s' ≡ s)
 Turns {G} T g s (v ∷ vs) g' s' = (h : G) × (m : Reading) × T g s (Gave v) h m × Turns T h m vs g' s'
+
+-- so may the callback wherever its turns reach: first on the reading s, in any state of its own, then each time in the state
+-- and on the reading that the turn before left
+abbrev pub TakesTurns : {F A : Type 0} → Mut F (MutBor Reading × Unit {0}) (Result A ASN1Error × (MutBor Reading × Unit {0})) → Reading → Type 0
+TakesTurns {F} {A} g s =
+    (f h : F) (vs : List A) (front rest : List ℕ) → s.left ≡ front ++ rest → Turns (Turn (CalledAtMut g)) f s vs h (record s { left = rest }) →
+    TakesTurn g h (record s { left = rest })
 
 -- what is answered where the turn behind these values came to that
 abbrev pub Ends : {A : Type 0} → List A → Outcome A → Result (List A) ASN1Error → Type 0
