@@ -37,6 +37,7 @@ pub use Rattle.yasna_reader.proofs.Tuples.{decodes_by, done_by, step_by, seen, c
 pub use Rattle.yasna_reader.proofs.OptionalParts.{then_by, end_by, part_by, option_by, quiet_at_end}
 pub use Rattle.yasna_reader.proofs.OptionalReads.{nothing_elsewhere, part_elsewhere, leaf_quiet, asking_quiet}
 pub use Rattle.yasna_reader.proofs.Ahead.{looked, found_none, found_other}
+pub use Rattle.yasna_reader.proofs.Kept.{seen_repeats_kept, raw_repeats_kept, parts_repeat_kept}
 pub use Rattle.yasna_reader.proofs.Whole.{read_form, refuses_none, exactly_as, reads_some}
 pub use Rattle.yasna_reader.proofs.Listing.{same_items}
 

@@ -8,7 +8,7 @@ ghost use Rattle.yasna_base.specs.Pieces.{Each};
 ghost use Rattle.yasna_base.specs.Sequence.{sequence_tag};
 ghost use Rattle.yasna_base.specs.SequenceOf.{IsListOf, AnyListOf, elements_form, elements_nest};
 ghost use Rattle.yasna_base.proofs.SequenceOf.{list_along, list_written};
-ghost use Rattle.yasna_writer.specs.View.{Wrote, WroteParts};
+ghost use Rattle.yasna_writer.specs.View.{Writes, WroteParts};
 
 use crate::traits::{BERDecodable, DERCanonical, DEREncodable};
 use yasna_base::error::ASN1Result;
@@ -63,7 +63,7 @@ impl<'a, T: DEREncodable> DEREncodable for &'a [T] {
 fn write_list<T: DEREncodable>(items: &[T], writer: DERWriter<'_>) -> ASN1Result<()>
     requires can { AllByRecursion T.encodable items.now }
     requires untagged { writer.old.tag ≡ None }
-    ensures { Wrote (enclosed_form (elements_form T.form) sequence_tag writer.old.mode items.now) writer.old writer.new result }
+    ensures { Writes (enclosed_form (elements_form T.form) sequence_tag writer.old.mode items.now) writer.old writer.new result }
 {
     writer.write_sequence_of(|seq| write_items(items, seq))
 }

@@ -2,12 +2,14 @@
 //!
 //! A type names its grammar, its DER form and which values are equal, and proves the laws that tie them. The laws of the
 //! types that come with the crate stand by name in `yasna_base`; those of a type made of others follow from theirs.
-ghost use Rattle.std.specs.Prelude.{◌≡◌, ℕ, List, Bool, None};
+ghost use Rattle.std.specs.Prelude.{◌≡◌, ⊤, ℕ, List, Bool, None, Result};
+ghost use Rattle.yasna_base.specs.declared.error.ASN1Error.{ASN1Error};
 ghost use Rattle.yasna_base.specs.declared.mode.BERMode.{BERMode};
 ghost use Rattle.yasna_base.specs.Coding.{IsCoding};
 ghost use Rattle.yasna_base.specs.Canonical.{IsWritten};
-ghost use Rattle.yasna_reader.specs.Decodes.{Decodes};
-ghost use Rattle.yasna_writer.specs.View.{Wrote};
+ghost use Rattle.yasna_reader.specs.Decodes.{Decodes, RepeatsKept};
+ghost use Rattle.yasna_reader.specs.State.{Reading};
+ghost use Rattle.yasna_writer.specs.View.{Writes};
 
 use yasna_base::error::ASN1Result;
 use yasna_reader::BERReader;
@@ -50,12 +52,17 @@ pub trait BERDecodable: Sized + Drop {
     // Which values are equal.
     ghost same: { Self → Self → Type 0 };
 
+    // What `decode_ber` does besides, where a type says more than its contract, as which refusal comes.
+    ghost reads: { Reading → Result Self ASN1Error → Reading → Type 0 } = { λ _ _ _. ⊤ };
+
     /// Reads a value of this type, where no implicit tag waits.
     ///
-    /// The contract is that of a reading with no failure kept.
+    /// A failure that was kept is answered, and nothing else happens.
     fn decode_ber(reader: BERReader) -> ASN1Result<Self>
         requires { reader.old.tag ≡ None }
-        ensures { reader.old.kept ≡ None → Decodes asks_memory encodes elements reader.old result reader.new };
+        ensures decodes { reader.old.kept ≡ None → Decodes asks_memory encodes elements reader.old result reader.new }
+        ensures kept { RepeatsKept reader.old result reader.new }
+        ensures reads { reads reader.old result reader.new };
 
     // Of two encodings neither begins the other, equal bytes encode equal values, and what is read within some levels
     // is read within more.
@@ -88,10 +95,12 @@ pub trait DEREncodable {
     ghost encodable: { Self → Type 0 };
 
     /// Writes a value of this type, where no implicit tag waits.
+    ///
+    /// `Err` is want of memory, that of the writer or one of its own. Where a failure was kept, it stays.
     fn encode_der(&self, writer: DERWriter<'_>) -> ASN1Result<()>
         requires can { encodable self.now }
         requires untagged { writer.old.tag ≡ None }
-        ensures { Wrote (form writer.old.mode self.now) writer.old writer.new result };
+        ensures { Writes (form writer.old.mode self.now) writer.old writer.new result };
 }
 
 impl<'a, T: DEREncodable> DEREncodable for &'a T {

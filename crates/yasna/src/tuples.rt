@@ -9,9 +9,9 @@ ghost use Rattle.yasna_base.specs.Element.{Enclosed, AnyEnclosed};
 ghost use Rattle.yasna_base.specs.Coding.{ArePartsCoding};
 ghost use Rattle.yasna_base.specs.Canonical.{enclosed_form, enclosed_nest, Always};
 ghost use Rattle.yasna_base.proofs.Sequence.{part, no_part, tuple, part_written, no_part_written, tuple_written};
-ghost use Rattle.yasna_writer.specs.View.{Wrote, WroteParts};
+ghost use Rattle.yasna_writer.specs.View.{Writes, WroteParts};
 ghost use Rattle.yasna_reader.specs.State.{IsFresh, part_of};
-ghost use Rattle.yasna_reader.specs.Decodes.{Decodes, DecodesParts};
+ghost use Rattle.yasna_reader.specs.Decodes.{Decodes, DecodesParts, RepeatsKept};
 
 mod others;
 
@@ -84,7 +84,8 @@ impl<A: BERDecodable, W: TupleParts> TupleParts for (A, W) {
 // Reads a SEQUENCE of these parts.
 fn read_tuple<W: TupleParts>(reader: BERReader) -> ASN1Result<W>
     requires { reader.old.tag ≡ None }
-    ensures { reader.old.kept ≡ None → Decodes W.parts_ask (Enclosed W.parts sequence_tag) (AnyEnclosed W.any_parts sequence_tag) reader.old result reader.new }
+    ensures decodes { reader.old.kept ≡ None → Decodes W.parts_ask (Enclosed W.parts sequence_tag) (AnyEnclosed W.any_parts sequence_tag) reader.old result reader.new }
+    ensures kept { RepeatsKept reader.old result reader.new }
 {
     reader.read_sequence(|seq| W::read_parts(seq))
 }
@@ -129,7 +130,7 @@ impl<A: DEREncodable, W: EncodableParts> EncodableParts for (A, W) {
 fn write_tuple<W: EncodableParts>(parts: &W, writer: DERWriter<'_>) -> ASN1Result<()>
     requires can { W.parts_encodable parts.now }
     requires untagged { writer.old.tag ≡ None }
-    ensures { Wrote (enclosed_form W.parts_form sequence_tag writer.old.mode parts.now) writer.old writer.new result }
+    ensures { Writes (enclosed_form W.parts_form sequence_tag writer.old.mode parts.now) writer.old writer.new result }
 {
     writer.write_sequence(|seq| parts.write_parts(seq))
 }
@@ -146,7 +147,7 @@ fn write_long_tuple<
 >(first: (&A, &B, &C, &D, &E, &F), others: W, writer: DERWriter<'_>) -> ASN1Result<()>
     requires can { part_can A.encodable (part_can B.encodable (part_can C.encodable (part_can D.encodable (part_can E.encodable (part_can F.encodable W.parts_encodable))))) (first.0.now, (first.1.now, (first.2.now, (first.3.now, (first.4.now, (first.5.now, others)))))) }
     requires untagged { writer.old.tag ≡ None }
-    ensures { Wrote (enclosed_form (part_form A.form (part_form B.form (part_form C.form (part_form D.form (part_form E.form (part_form F.form W.parts_form)))))) sequence_tag writer.old.mode (first.entry.0.now, (first.entry.1.now, (first.entry.2.now, (first.entry.3.now, (first.entry.4.now, (first.entry.5.now, others))))))) writer.old writer.new result }
+    ensures { Writes (enclosed_form (part_form A.form (part_form B.form (part_form C.form (part_form D.form (part_form E.form (part_form F.form W.parts_form)))))) sequence_tag writer.old.mode (first.entry.0.now, (first.entry.1.now, (first.entry.2.now, (first.entry.3.now, (first.entry.4.now, (first.entry.5.now, others))))))) writer.old writer.new result }
 {
     let (a, b, c, d, e, f) = first;
     write_tuple(&(a, (b, (c, (d, (e, (f, others)))))), writer)

@@ -5,6 +5,7 @@ ghost use Rattle.yasna_base.specs.declared.error.ASN1ErrorKind.TheVariants.{OutO
 ghost use Rattle.yasna_base.specs.Error.{kind_of};
 ghost use Rattle.yasna_base.specs.declared.mode.BERMode.TheVariants.{Ber, Der};
 ghost use Rattle.yasna_reader.specs.Decodes.{Decoded};
+ghost use Rattle.yasna_reader.specs.Parse.{Parses};
 
 use crate::traits::{BERDecodable, DERCanonical, DEREncodable};
 use std::alloc::Global;
@@ -14,12 +15,15 @@ use yasna_reader::parse_ber_general;
 use yasna_writer::construct_der;
 
 /// Reads a value from bytes, all of them, by these rules.
+///
+/// An `Err` is what `T::decode_ber` kept or answered on a reading of all the bytes, else `Extra`, where it left some.
 pub fn decode_ber_general<T: BERDecodable>(
     alloc: Global,
     src: &[u8],
     mode: BERMode,
 ) -> ASN1Result<T>
     ensures decoded { Decoded T.asks_memory T.encodes T.elements mode src.now result }
+    ensures answers { Parses T.reads mode src.now result }
     ensures exact { (v : T) → T.encodes mode 101 v src.now → MatchResult result (λ w. T.same w v) (λ e. kind_of e ≡ OutOfMemory) }
 {
     parse_ber_general(alloc, src, mode, |reader| T::decode_ber(reader))
@@ -28,6 +32,7 @@ pub fn decode_ber_general<T: BERDecodable>(
 /// Reads a value from bytes, all of them, by the basic encoding rules.
 pub fn decode_ber<T: BERDecodable>(alloc: Global, src: &[u8]) -> ASN1Result<T>
     ensures decoded { Decoded T.asks_memory T.encodes T.elements Ber src.now result }
+    ensures answers { Parses T.reads Ber src.now result }
     ensures exact { (v : T) → T.encodes Ber 101 v src.now → MatchResult result (λ w. T.same w v) (λ e. kind_of e ≡ OutOfMemory) }
 {
     decode_ber_general(alloc, src, BERMode::Ber)
@@ -38,6 +43,7 @@ pub fn decode_ber<T: BERDecodable>(alloc: Global, src: &[u8]) -> ASN1Result<T>
 /// A value is answered only from its one DER form.
 pub fn decode_der<T: BERDecodable>(alloc: Global, src: &[u8]) -> ASN1Result<T>
     ensures decoded { Decoded T.asks_memory T.encodes T.elements Der src.now result }
+    ensures answers { Parses T.reads Der src.now result }
     ensures exact { (v : T) → T.encodes Der 101 v src.now → MatchResult result (λ w. T.same w v) (λ e. kind_of e ≡ OutOfMemory) }
 {
     decode_ber_general(alloc, src, BERMode::Der)

@@ -75,6 +75,10 @@ abbrev pub Decoded : {A : Type 0} → Bool → (BERMode → ℕ → A → List �
 Decoded asks B S m s (Ok v) = B m 101 v s
 Decoded asks B S m s (Err e) = NotWhole asks (S m 101) s e
 
+-- a failure that was kept is answered, and nothing else happens
+abbrev pub RepeatsKept : {A : Type 0} → Reading → Result A ASN1Error → Reading → Type 0
+RepeatsKept s r s' = (e : ASN1Error) → s.kept ≡ Some e → (r ≡ Err e) × (s' ≡ s)
+
 -- what follows a call that answered x and left m
 abbrev pub AndIn : {A U : Type 0} → (A → Reading → Result U ASN1Error → Reading → Type 0) → Result A ASN1Error → Reading → Result U ASN1Error → Reading → Type 0
 AndIn K (Ok a) m r s' = K a m r s'

@@ -36,11 +36,23 @@ Wrote bs old new r =
     (MatchResult r (λ _. new ≡ holding old (old.bytes ++ bs)) (λ e. (kind_of e ≡ OutOfMemory) × (new.kept ≡ Some e)))
     (λ k. (r ≡ Err k) × (new.kept ≡ Some k))
 
--- the same of parts, of which there may be none: then nothing is written, and a failure that is kept isn't answered
+-- a writing that lacks memory: what it keeps, if anything, is want of memory; else the bytes before still stand
+abbrev pub RanOut : Written → Written → ASN1Error → Type 0
+RanOut old new e = (kind_of e ≡ OutOfMemory) × MatchOption new.kept ((c : List ℕ) × (new.bytes ≡ old.bytes ++ c)) (λ k. kind_of k ≡ OutOfMemory)
+
+-- what a value of a type is asked for, which may want memory of its own: a kept failure stays, whatever is answered; else Ok
+-- appended bs, and Err is want of memory, kept or not
+abbrev pub Writes : List ℕ → Written → Written → Result (Unit {0}) ASN1Error → Type 0
+Writes bs old new r =
+    MatchOption old.kept
+    (MatchResult r (λ _. new ≡ holding old (old.bytes ++ bs)) (λ e. RanOut old new e))
+    (λ k. new.kept ≡ Some k)
+
+-- the same of parts, of which there may be none: then nothing is written, and an implicit tag still waits
 abbrev pub WroteParts : List ℕ → Written → Written → Result (Unit {0}) ASN1Error → Type 0
 WroteParts bs old new r =
     MatchOption old.kept
-    (MatchResult r (λ _. record new { tag = None } ≡ holding old (old.bytes ++ bs)) (λ e. (kind_of e ≡ OutOfMemory) × (new.kept ≡ Some e)))
+    (MatchResult r (λ _. record new { tag = None } ≡ holding old (old.bytes ++ bs)) (λ e. RanOut old new e))
     (λ k. new.kept ≡ Some k)
 
 -- the bytes of a vector that was made
