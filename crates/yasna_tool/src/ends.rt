@@ -1,13 +1,16 @@
 //! The two ends of a run: where its bytes come from, and where they go.
 //!
 //! Each end counts its failures, so that a contract can say that a run fails by its ends only
-//! where one of them failed in it.
-ghost use Rattle.std.specs.Prelude.{◌≡◌, ℕ, List, Option};
+//! where one of them failed in it. Where bytes go knows besides whether they were flushed.
+ghost use Rattle.std.specs.Prelude.{◌≡◌, ℕ, Bool, List, Option, OnOk, true, false, is_some};
 ghost use Rattle.std.specs.Io.{ReadsAtMost, WritesAtMost};
 ghost use Rattle.std.specs.Io.KnownBytes.{ReadConsumes, WriteAppends, Keeps};
-ghost use Rattle.yasna_tool.specs.Ends.{end_of, failure_count};
+ghost use Rattle.yasna_tool.specs.Ends.{end_of, failure_count, is_flushed};
 ghost use Rattle.yasna_tool.specs.Failures.{one_more, CountsErr, CountsWrite};
 
+mod flushed;
+
+use flushed::Flushed;
 use std::io;
 use std::io::{Read, Write};
 
@@ -37,28 +40,34 @@ pub trait Sink {
 
     ghost failed: { Self → ℕ };
 
+    // Whether a flush reached the end since the last push.
+    ghost flushed: { Self → Bool };
+
     /// Takes bytes from the front of `buffer` and says how many. To take none where there are
     /// some counts as a failure.
     fn push(&mut self, buffer: &[u8]) -> io::Result<usize>
         ensures bound { WritesAtMost result buffer.now }
         ensures bytes { WriteAppends (contents self.old) (contents self.new) result buffer.now }
-        ensures count { CountsWrite (failed self.old) (failed self.new) result buffer.now };
+        ensures count { CountsWrite (failed self.old) (failed self.new) result buffer.now }
+        ensures flushed { flushed self.new ≡ false };
 
     /// Sends on what was taken.
     fn flush(&mut self) -> io::Result<()>
         ensures bytes { Keeps (contents self.old) (contents self.new) }
-        ensures count { CountsErr (failed self.old) (failed self.new) result };
+        ensures count { CountsErr (failed self.old) (failed self.new) result }
+        ensures flushed { OnOk result (flushed self.new ≡ true) };
 
     /// How many pushes and flushes failed, at most `u64::MAX`.
     fn failures(&self) -> u64
         ensures { result ≡ failed self.now };
 }
 
-/// A reader or a writer of the standard library, with a count of its failures.
+/// A reader or a writer of the standard library, with a count of its failures, and the sign of a flush since its last write.
 #[derive(Drop)]
 pub struct Counted<E> {
     end: E,
     failures: u64,
+    flushed: Option<Flushed>,
 }
 
 impl<E> Counted<E> {
@@ -67,7 +76,11 @@ impl<E> Counted<E> {
         ensures end { end_of result ≡ end }
         ensures failures { failure_count result ≡ 0 }
     {
-        Counted { end, failures: 0 }
+        Counted {
+            end,
+            failures: 0,
+            flushed: None,
+        }
     }
 
     /// The reader or writer, without its count.
@@ -80,6 +93,7 @@ impl<E> Counted<E> {
     /// One failure more, up to `u64::MAX`.
     fn count_failure(&mut self)
         ensures end { end_of self.new ≡ end_of self.old }
+        ensures flushed { is_flushed self.new ≡ is_flushed self.old }
         ensures failures { failure_count self.new ≡ one_more (failure_count self.old) }
     {
         self.failures = self.failures.saturating_add(1);
@@ -109,7 +123,10 @@ impl<E: Write> Sink for Counted<E> {
 
     ghost failed = { failure_count };
 
+    ghost flushed = { is_flushed };
+
     fn push(&mut self, buffer: &[u8]) -> io::Result<usize> {
+        self.flushed = None;
         match self.end.write(buffer) {
             Ok(taken) => {
                 if taken == 0 && !buffer.is_empty() {
@@ -125,11 +142,16 @@ impl<E: Write> Sink for Counted<E> {
     }
 
     fn flush(&mut self) -> io::Result<()> {
-        let answer = self.end.flush();
-        if answer.is_err() {
-            self.count_failure();
+        match Flushed::of(&mut self.end) {
+            Ok(flushed) => {
+                self.flushed = Some(flushed);
+                Ok(())
+            }
+            Err(error) => {
+                self.count_failure();
+                Err(error)
+            }
         }
-        answer
     }
 
     fn failures(&self) -> u64 {

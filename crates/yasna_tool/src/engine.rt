@@ -1,5 +1,5 @@
 //! One run: read to the end, decode, encode, write.
-ghost use Rattle.std.specs.Prelude.{◌≡◌, ◌≢◌, ◌-◌, ◌^◌, ◌<◌, ◌⊎◌, IfOk, OnOk, OnErr, IfSome};
+ghost use Rattle.std.specs.Prelude.{◌≡◌, ◌≢◌, ◌-◌, ◌^◌, ◌<◌, ◌⊎◌, true, IfOk, OnOk, OnErr, IfSome};
 ghost use Rattle.std.specs.Io.KnownBytes.{Appends, Consumes, IsAtEnd, Keeps};
 ghost use Rattle.yasna.specs.base.Error.{kind_of};
 ghost use Rattle.yasna_tool.specs.Engine.{IfRefused, IfDevice};
@@ -59,6 +59,7 @@ fn write_all<W: Sink>(writer: &mut W, bytes: &[u8]) -> Result<(), RunFault>
     requires { W.failed writer.old < 2 ^ 64 - 1 }
     ensures bytes { OnOk result (Appends (W.contents writer.old) (W.contents writer.new) bytes.now) }
     ensures ok { OnOk result (W.failed writer.new ≡ W.failed writer.old) }
+    ensures flushed { OnOk result (W.flushed writer.new ≡ true) }
     ensures err { OnErr result ((result ≡ Err RunFault.Device)
         × (W.failed writer.old < W.failed writer.new)) }
 {
@@ -93,6 +94,7 @@ pub fn run<T: DERCanonical, R: Source, W: Sink>(
     ensures ok { OnOk result (IfSome (R.remaining reader.old) (λ s. (v : T) × T.encodes mode 101 v s
         × Appends (W.contents writer.old) (W.contents writer.new) (T.form BERMode.Der v))) }
     ensures to_the_end { OnOk result (IsAtEnd (R.remaining reader.new)) }
+    ensures flushed { OnOk result (W.flushed writer.new ≡ true) }
     ensures counts { OnOk result (AreAsBefore (R.failed reader.old) (R.failed reader.new) (W.failed writer.old) (W.failed writer.new)) }
     ensures refused_counts { IfRefused result (λ _. AreAsBefore (R.failed reader.old) (R.failed reader.new) (W.failed writer.old) (W.failed writer.new)) }
     ensures refused_writes_nothing { IfRefused result (λ _. Keeps (W.contents writer.old) (W.contents writer.new)) }

@@ -1,5 +1,5 @@
 //! The kinds of values that the program knows.
-ghost use Rattle.std.specs.Prelude.{◌≡◌, ◌≢◌, ◌-◌, ◌^◌, ◌<◌, ◌⊎◌, ℕ, List, OnOk, IfSome, MatchOption};
+ghost use Rattle.std.specs.Prelude.{◌≡◌, ◌≢◌, ◌-◌, ◌^◌, ◌<◌, ◌⊎◌, ℕ, List, true, OnOk, IfSome, MatchOption};
 ghost use Rattle.std.specs.Io.KnownBytes.{Appends, IsAtEnd, Keeps};
 ghost use Rattle.yasna.specs.base.Error.{kind_of};
 ghost use Rattle.yasna_tool.specs.Engine.{IfRefused, IfDevice};
@@ -58,6 +58,7 @@ pub fn run_kind<R: Source, W: Sink>(
     requires reads { R.failed reader.old < 2 ^ 64 - 1 }
     requires writes { W.failed writer.old < 2 ^ 64 - 1 }
     ensures to_the_end { OnOk result (IsAtEnd (R.remaining reader.new)) }
+    ensures flushed { OnOk result (W.flushed writer.new ≡ true) }
     // The bytes are a value of the kind, whose form was written.
     ensures recoded { OnOk result (IfSome (R.remaining reader.old) (λ s. (out : List ℕ) × Recodes kind mode s out × Appends (W.contents writer.old) (W.contents writer.new) out)) }
     // With memory to be had, only bytes that are no value of the kind are refused.

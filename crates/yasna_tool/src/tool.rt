@@ -1,5 +1,5 @@
 //! The program over any two ends: arguments, texts of faults, exit statuses.
-ghost use Rattle.std.specs.Prelude.{◌≡◌, ◌-◌, ◌^◌, ◌<◌, ◌≤◌, ◌⊎◌, ℕ, List, map, IfSome, MatchOption};
+ghost use Rattle.std.specs.Prelude.{◌≡◌, ◌-◌, ◌^◌, ◌<◌, ◌≤◌, ◌⊎◌, ℕ, List, true, map, IfSome, MatchOption};
 ghost use Rattle.std.specs.Io.KnownBytes.{Appends, IsAtEnd, Keeps};
 ghost use Rattle.std.specs.String.{string_bytes};
 ghost use Rattle.yasna.specs.base.declared.mode.BERMode.{BERMode};
@@ -76,6 +76,7 @@ pub fn tool<R: Source, W: Sink, E: Write>(
     requires writes { W.failed writer.old < 2 ^ 64 - 1 }
     ensures status { result ≤ 3 }
     ensures ok { result ≡ 0 → IsAtEnd (R.remaining reader.new) }
+    ensures flushed { result ≡ 0 → W.flushed writer.new ≡ true }
     // The words name a mode and a kind, and the DER form was written of what the bytes are in these.
     ensures recoded { result ≡ 0 → (m : BERMode) × (k : Kind) × AreWords m k (map string_bytes words.now) × IfSome (R.remaining reader.old) (λ s. (out : List ℕ) × Recodes k m s out × Appends (W.contents writer.old) (W.contents writer.new) out) }
     ensures refused { result ≡ 1 → Keeps (W.contents writer.old) (W.contents writer.new) }

@@ -60,6 +60,7 @@ struct FailingSink {
     room: usize,
     fails_at_flush: bool,
     failures: u64,
+    flushed: bool,
 }
 
 impl FailingSink {
@@ -70,6 +71,7 @@ impl FailingSink {
             room,
             fails_at_flush,
             failures: 0,
+            flushed: false,
         }
     }
 }
@@ -79,7 +81,10 @@ impl Sink for FailingSink {
 
     ghost failed = { λ s. s.failures };
 
+    ghost flushed = { λ s. s.flushed };
+
     fn push(&mut self, buffer: &[u8]) -> io::Result<usize> {
+        self.flushed = false;
         let taken = buffer.len().min(self.room);
         if taken == 0 && !buffer.is_empty() {
             self.failures = self.failures.saturating_add(1);
@@ -94,6 +99,7 @@ impl Sink for FailingSink {
             self.failures = self.failures.saturating_add(1);
             return Err(io::Error::other("no flush"));
         }
+        self.flushed = true;
         Ok(())
     }
 
