@@ -1,6 +1,7 @@
 #!/bin/sh
 # What the documents show: each block of Rust or of antt in them, and in the comments on what the library hands out, stands in the
-# proved crate yasna_examples, line for line, but for how far the block is indented as a whole.
+# proved crate yasna_examples, line for line, but for how far the block is indented as a whole. And a module of that crate that a
+# document shows is the document's blocks, one behind the other, and nothing else: so who copies them has all that is needed.
 set -eu
 cd "$(dirname "$0")/.."
 work=$(mktemp -d)
@@ -61,6 +62,47 @@ BEGIN {
     print blocks
 }'
 
+# The first file is a module, the second the document that shows it. Prints a line of the module that no block holds, if there is one.
+assemble='
+# Whether the block is what the module goes on with; then it goes on behind it.
+function takes(    k) {
+    for (k = 1; k <= size; k++)
+        if (module[at + k - 1] != block[k]) return 0
+    at += size
+    while (at <= lines && module[at] == "") at++
+    return 1
+}
+BEGIN {
+    while ((getline line < ARGV[1]) > 0) module[++lines] = line
+    for (at = 1; module[at] ~ /^\/\/!/ || module[at] == ""; at++) if (at > lines) exit
+    while ((getline line < ARGV[2]) > 0) {
+        if (inside && line == "```") {
+            inside = 0
+            if (at <= lines) takes()
+        } else if (inside) {
+            block[++size] = line
+        } else if (line == "```rust") {
+            inside = 1
+            size = 0
+        }
+    }
+    if (at <= lines) print at ": no block goes on with " module[at]
+}'
+
+# is_whole DOCUMENT MODULE..
+is_whole() {
+    shown_in=$1
+    shift
+    for module in "$@"; do
+        awk "$assemble" "$module" "$shown_in" > "$work/said"
+        if [ -s "$work/said" ]; then
+            echo "$module is not whole in $shown_in: $(cat "$work/said")" >&2
+            exit 1
+        fi
+    done
+    echo "$shown_in: $# modules, each whole"
+}
+
 files=$(find crates/yasna_examples/src crates/yasna_examples/proofs -name '*.rt' -o -name '*.antt')
 for document in README.md docs/GUIDE.md docs/CONTRACTS.md \
     crates/yasna/src/lib.rt crates/yasna/src/traits.rt \
@@ -73,3 +115,8 @@ for document in README.md docs/GUIDE.md docs/CONTRACTS.md \
     fi
     echo "$document: $(cat "$work/said") pieces, all stand in yasna_examples"
 done
+
+examples=crates/yasna_examples/src
+is_whole README.md "$examples/guide/first.rt"
+is_whole docs/GUIDE.md $(find "$examples/guide" -name '*.rt' ! -name first.rt | sort)
+is_whole docs/CONTRACTS.md "$examples/by_tuple.rt" "$examples/by_closure.rt"

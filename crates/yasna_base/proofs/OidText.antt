@@ -74,8 +74,13 @@ no_last text cs rest i h = no_part text cs rest rest [] i (one_part rest h)
 pub begins_more : (text rest part : List ℕ) (n : ℕ) → (rest ≡ text) ⊎ BeginsWithComponent text → position_or_len is_dot rest < length rest →
     part ≡ before_first is_dot rest → IsComponent part n → BeginsWithComponent text
 begins_more text rest part n (inl w) h e c =
-    subst BeginsWithComponent w (n, part, slice_split is_dot (after_first is_dot rest),
-    slice_split_first is_dot rest 0 h ∙ ap (λ p. p ∷ slice_split is_dot (after_first is_dot rest)) (sym e), c)
+    subst BeginsWithComponent w (
+      n,
+      part,
+      slice_split is_dot (after_first is_dot rest),
+      slice_split_first is_dot rest 0 h ∙ ap (λ p. p ∷ slice_split is_dot (after_first is_dot rest)) (sym e),
+      c,
+    )
 begins_more text rest part n (inr b) h e c = b
 
 -- the same of the last part

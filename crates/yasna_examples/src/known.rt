@@ -15,7 +15,7 @@ ghost use Rattle.yasna.specs.base.Integer.{EncodesSigned};
 ghost use Rattle.yasna.specs.base.Integer.{integer_form};
 
 use std::alloc::Global;
-use yasna::{ASN1Result, BERDecodable, construct_der, parse_der};
+use yasna::{ASN1Result, BERDecodable, construct_der, parse_ber, parse_der};
 
 /// The number whose DER form as an INTEGER these bytes are.
 ///
@@ -78,4 +78,17 @@ pub fn parsed_numbers(alloc: Global, buf: &[u8]) -> ASN1Result<Vec<i64>>
             ensures { Decodes true (λ m n v b. EncodesNumbers m n v.items b) AnyNumbers reader.old result reader.new }
         { reader.collect_sequence_of(|item| item.read_i64()) },
     )
+}
+
+/// The third number of a SEQUENCE of three INTEGERs, where the other two are looked at by no one.
+///
+/// A failed read of one of them is answered by the read of the third, and by the parse.
+pub fn third_number(alloc: Global, buf: &[u8]) -> ASN1Result<i64> {
+    parse_ber(alloc, buf, |reader| {
+        reader.read_sequence(|parts| {
+            let _ = i64::decode_ber(parts.next());
+            let _ = i64::decode_ber(parts.next());
+            i64::decode_ber(parts.next())
+        })
+    })
 }

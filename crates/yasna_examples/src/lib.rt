@@ -5,17 +5,22 @@
 //!
 //! | Module | Holds |
 //! |---|---|
+//! | `by_tuple`, `by_closure` | the two types of docs/CONTRACTS.md: one that is read and written as a tuple, one step by step |
 //! | `choice` | a list of a CHOICE, read by the next tag |
+//! | `encoders` | types of one's own that are written by other means than one call: one wants memory of its own, one may write nothing |
 //! | `guide` | the pieces of code of README.md and docs/GUIDE.md |
 //! | `known` | calls whose closures are known: their exact results follow from the contracts of `yasna` |
 //! | `public_key`, `scrypt` | types of one's own of which a part may be left out, read by closures |
 //! | `records` | types of one's own of three, five and seven parts, each read and written as a tuple |
-//! | `third_party` | types of one's own: one that is read and written as a tuple, three step by step |
+//! | `third_party` | types of one's own that are read step by step: by typed reads, and with memory |
 //! | `times` | times made of the parts of others |
 //! | `tree` | a type that refers to itself |
 #![tactic(auto)]
 
+mod by_closure;
+mod by_tuple;
 mod choice;
+mod encoders;
 pub mod guide;
 mod known;
 mod public_key;
@@ -25,13 +30,14 @@ mod third_party;
 mod times;
 mod tree;
 
+pub use by_closure::Sample;
+pub use by_tuple::Measurement;
 pub use choice::parsed_items;
-pub use known::{constructed_integer, parsed_integer, parsed_numbers, parsed_pair};
+pub use encoders::{Serial, Trail};
+pub use known::{constructed_integer, parsed_integer, parsed_numbers, parsed_pair, third_number};
 pub use public_key::{AlgorithmIdentifier, SubjectPublicKeyInfo, encoded_key};
 pub use records::{DirectoryEntry, DomainParameters, RequestHeader};
 pub use scrypt::ScryptParameters;
-pub use third_party::{
-    Measurement, Report, Sample, Version, encoded_report, normalized, normalized_report,
-};
+pub use third_party::{Report, Version, encoded_report, normalized, normalized_report};
 pub use times::{as_generalized_time, remade_utc_time, without_leap_second};
 pub use tree::Tree;

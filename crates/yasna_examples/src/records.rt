@@ -3,7 +3,7 @@ ghost use Rattle.std.specs.Int.{w64, w32};
 ghost use Rattle.yasna.proofs.Laws.{part, no_part, tuple, bool_coding, signed_coding, unsigned_coding, vec_coding, text_coding, oid_coding, utc_coding, list_along};
 ghost use Rattle.yasna.proofs.Laws.{part_written, no_part_written, tuple_written, bool_written, signed_written, unsigned_written, vec_written, text_written, oid_written, utc_written, list_written};
 
-use crate::third_party::Measurement;
+use crate::by_tuple::Measurement;
 use yasna::models::{ObjectIdentifier, UTCTime};
 use yasna::{ASN1Result, BERDecodable, BERReader, DERCanonical, DEREncodable, DERWriter};
 

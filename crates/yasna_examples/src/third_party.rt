@@ -1,4 +1,4 @@
-//! Types of a crate of its own that are read and written as a whole.
+//! Types of a crate of its own that are read step by step, with typed reads and with memory.
 ghost use Rattle.std.specs.Prelude.{IfOk, ◌≡◌, ◌<◌, ◌^◌, true, false, ◌||◌, pos, FitsSigned};
 ghost use Rattle.std.specs.Int.{w64};
 ghost use Rattle.yasna.specs.base.Identifier.{universal};
@@ -27,48 +27,6 @@ use yasna::{
     ASN1Result, BERDecodable, BERReader, DERCanonical, DEREncodable, DERWriter, EncodableParts,
     decode_ber, encode_der,
 };
-
-/// A number, and whether it counts: a SEQUENCE of INTEGER and BOOLEAN.
-#[derive(Drop)]
-pub struct Measurement {
-    pub number: i64,
-    pub valid: bool,
-}
-
-impl BERDecodable for Measurement {
-    ghost encodes = { λ m n v b. ⟦<(i64, bool) as BERDecodable>⟧.encodes m n (v.number, v.valid) b };
-
-    ghost elements = { ⟦<(i64, bool) as BERDecodable>⟧.elements };
-
-    ghost asks_memory = { ⟦<(i64, bool) as BERDecodable>⟧.asks_memory };
-
-    ghost same = { λ v w. ⟦<(i64, bool) as BERDecodable>⟧.same (v.number, v.valid) (w.number, w.valid) };
-
-    fn decode_ber(reader: BERReader) -> ASN1Result<Measurement> {
-        match <(i64, bool)>::decode_ber(reader) {
-            Ok((number, valid)) => Ok(Measurement { number, valid }),
-            Err(error) => Err(error),
-        }
-    }
-
-    ghost coding = { tuple (λ v. (v.number, (v.valid, tt))) (part (signed_coding w64) (part bool_coding no_part)) };
-}
-
-impl DEREncodable for Measurement {
-    ghost form = { λ m v. ⟦<(i64, bool) as DEREncodable>⟧.form m (v.number, v.valid) };
-
-    ghost nest = { λ m v. ⟦<(i64, bool) as DEREncodable>⟧.nest m (v.number, v.valid) };
-
-    ghost encodable = { λ v. ⟦<(i64, bool) as DEREncodable>⟧.encodable (v.number, v.valid) };
-
-    fn encode_der(&self, writer: DERWriter<'_>) -> ASN1Result<()> {
-        (self.number, self.valid).encode_der(writer)
-    }
-}
-
-impl DERCanonical for Measurement {
-    ghost written = { tuple_written (λ v. (v.number, (v.valid, tt))) (part_written (signed_written w64) (part_written bool_written no_part_written)) };
-}
 
 /// A version's number, and whether a flag is set: a SEQUENCE of INTEGER and BOOLEAN.
 #[derive(Drop)]
@@ -119,56 +77,6 @@ impl DEREncodable for Version {
 
 impl DERCanonical for Version {
     ghost written = { tuple_written (λ v. (v.major, (v.flag, tt))) (part_written (unsigned_written 16) (part_written bool_written no_part_written)) };
-}
-
-/// A count, whether it is the last, and a shift: a SEQUENCE of INTEGER, BOOLEAN and INTEGER.
-#[derive(Drop)]
-pub struct Sample {
-    pub count: u32,
-    pub last: bool,
-    pub shift: i64,
-}
-
-impl BERDecodable for Sample {
-    ghost encodes = { λ m n v b. Enclosed (PartOf (EncodesUnsigned 32) (PartOf EncodesBoolean (PartOf (EncodesSigned w64) NoParts))) sequence_tag m n (v.count, (v.last, (v.shift, tt))) b };
-
-    ghost elements = { AnyEnclosed (AnyPart (Any (EncodesUnsigned 32)) (AnyPart (Any EncodesBoolean) (AnyPart (Any (EncodesSigned w64)) AnyNothing))) sequence_tag };
-
-    ghost asks_memory = { (false || (false || (false || false))) };
-
-    ghost same = { λ v w. SamePart (λ x y. x ≡ y) (SamePart (λ x y. x ≡ y) (SamePart (λ x y. x ≡ y) SameNothing)) (v.count, (v.last, (v.shift, tt))) (w.count, (w.last, (w.shift, tt))) };
-
-    fn decode_ber(reader: BERReader) -> ASN1Result<Sample> {
-        reader.read_sequence(
-            |seq| -> ASN1Result<Sample>
-                requires { IsFresh (part_of seq.old) }
-                ensures { Step (Decodes false (EncodesUnsigned 32) (Any (EncodesUnsigned 32))) (λ count. Step (Decodes false EncodesBoolean (Any EncodesBoolean)) (λ last. Step (Decodes false (EncodesSigned w64) (Any (EncodesSigned w64))) (λ shift. Done (record { count = count; last = last; shift = shift })))) (part_of seq.old) result (part_of seq.new) }
-            {
-                let count = u32::decode_ber(seq.next())?;
-                let last = bool::decode_ber(seq.next())?;
-                let shift = i64::decode_ber(seq.next())?;
-                Ok(Sample { count, last, shift })
-            },
-        )
-    }
-
-    ghost coding = { tuple (λ v. (v.count, (v.last, (v.shift, tt)))) (part (unsigned_coding 32) (part bool_coding (part (signed_coding w64) no_part))) };
-}
-
-impl DEREncodable for Sample {
-    ghost form = { λ m v. enclosed_form (part_form (λ m v. integer_form (universal 2) m (pos v)) (part_form (boolean_form (universal 1)) (part_form (integer_form (universal 2)) nothing_form))) sequence_tag m (v.count, (v.last, (v.shift, tt))) };
-
-    ghost nest = { λ m v. enclosed_nest (part_nest leaf_nest (part_nest leaf_nest (part_nest leaf_nest nothing_nest))) m (v.count, (v.last, (v.shift, tt))) };
-
-    ghost encodable = { λ v. part_can (λ n. n < 2 ^ 32) (part_can Always (part_can (FitsSigned w64) Always)) (v.count, (v.last, (v.shift, tt {0}))) };
-
-    fn encode_der(&self, writer: DERWriter<'_>) -> ASN1Result<()> {
-        writer.write_sequence(|seq| (self.count, (self.last, (self.shift, ()))).write_parts(seq))
-    }
-}
-
-impl DERCanonical for Sample {
-    ghost written = { tuple_written (λ v. (v.count, (v.last, (v.shift, tt)))) (part_written (unsigned_written 32) (part_written bool_written (part_written (signed_written w64) no_part_written))) };
 }
 
 /// A name, the bytes that came under it, and the number that they stand for: a SEQUENCE of UTF8String, OCTET STRING and

@@ -1,5 +1,5 @@
 -- A call that a reading's own call makes first answers a failure that was kept, and does nothing else.
-use Rattle.std.proofs.Common.{◌≡◌, ℕ, List, Bool, Option, Some, subst}
+use Rattle.std.proofs.Common.{ℕ, List, subst}
 use Rattle.std.specs.Prelude.{Result}
 use Rattle.yasna_base.specs.declared.error.ASN1Error.{ASN1Error}
 use Rattle.yasna_base.specs.declared.mode.BERMode.{BERMode}

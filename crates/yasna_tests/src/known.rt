@@ -3,7 +3,7 @@
 use std::test::Fail;
 use yasna::{ASN1ErrorKind, ASN1Result, construct_der};
 use yasna_examples::{
-    constructed_integer, parsed_integer, parsed_items, parsed_numbers, parsed_pair,
+    constructed_integer, parsed_integer, parsed_items, parsed_numbers, parsed_pair, third_number,
 };
 
 #[test]
@@ -74,6 +74,26 @@ fn items(rt: HostRuntime) -> Result<(), Fail> {
     assert_eq!(rt;
         refused.err().map(|error| error.kind()),
         Some(ASN1ErrorKind::Extra)
+    );
+    Ok(())
+}
+
+#[test]
+fn third_of_three(rt: HostRuntime) -> Result<(), Fail> {
+    let alloc = rt.alloc();
+    let third = third_number(alloc, &[48, 9, 2, 1, 10, 2, 1, 11, 2, 1, 12])?;
+    assert_eq!(rt; third, 12);
+    // the first has nine bytes
+    let long = [48, 17, 2, 9, 1, 0, 0, 0, 0, 0, 0, 0, 0, 2, 1, 11, 2, 1, 12];
+    assert_eq!(rt;
+        third_number(alloc, &long).err().map(|error| error.kind()),
+        Some(ASN1ErrorKind::IntegerOverflow)
+    );
+    // the second is a BOOLEAN, and so is what the third is read from
+    let other = [48, 9, 2, 1, 10, 1, 1, 255, 2, 1, 12];
+    assert_eq!(rt;
+        third_number(alloc, &other).err().map(|error| error.kind()),
+        Some(ASN1ErrorKind::Invalid)
     );
     Ok(())
 }

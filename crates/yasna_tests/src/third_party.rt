@@ -1,8 +1,10 @@
 //! Types that are read and written as a tuple or step by step, each on bytes.
 
 use std::test::Fail;
-use yasna::{ASN1ErrorKind, decode_ber, decode_der, encode_der};
-use yasna_examples::{Measurement, Report, Sample, Version, encoded_report, normalized_report};
+use yasna::{ASN1ErrorKind, EncodableParts, construct_der, decode_ber, decode_der, encode_der};
+use yasna_examples::{
+    Measurement, Report, Sample, Serial, Trail, Version, encoded_report, normalized_report,
+};
 
 #[test]
 fn measurements(rt: HostRuntime) -> Result<(), Fail> {
@@ -76,5 +78,36 @@ fn reports(rt: HostRuntime) -> Result<(), Fail> {
         refused.err().map(|error| error.kind()),
         Some(ASN1ErrorKind::Invalid)
     );
+    Ok(())
+}
+
+#[test]
+fn trails(rt: HostRuntime) -> Result<(), Fail> {
+    let alloc = rt.alloc();
+    let trail = Trail {
+        steps: vec![in alloc; 300, 2, -1]?,
+    };
+    let form = [48, 10, 2, 1, 255, 2, 1, 2, 2, 2, 1, 44];
+    let bytes = encode_der(alloc, &trail)?;
+    assert_eq!(rt; bytes.as_slice(), form.as_slice());
+    let read: Trail = decode_der(alloc, &form)?;
+    assert_eq!(rt; read.steps.as_slice(), [300, 2, -1].as_slice());
+    Ok(())
+}
+
+#[test]
+fn serials(rt: HostRuntime) -> Result<(), Fail> {
+    let alloc = rt.alloc();
+    let left_out = Serial { number: None };
+    assert!(rt; encode_der(alloc, &left_out)?.is_empty());
+    let bytes = construct_der(alloc, |writer| {
+        writer.write_sequence(|parts| (&left_out, (true, ())).write_parts(parts))
+    })?;
+    assert_eq!(rt; bytes.as_slice(), [48, 3, 1, 1, 255].as_slice());
+    let given = Serial { number: Some(10) };
+    let bytes = construct_der(alloc, |writer| {
+        writer.write_sequence(|parts| (&given, (true, ())).write_parts(parts))
+    })?;
+    assert_eq!(rt; bytes.as_slice(), [48, 6, 2, 1, 10, 1, 1, 255].as_slice());
     Ok(())
 }

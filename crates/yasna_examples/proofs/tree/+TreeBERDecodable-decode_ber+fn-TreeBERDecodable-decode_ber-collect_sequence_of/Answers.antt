@@ -7,16 +7,16 @@ use Rattle.yasna_examples.specs.Branches.{branches_of}
 use Rattle.yasna_examples.proofs.Trees.{tree_of, tree_read}
 use Rattle.yasna_examples.proofs.tree.+TreeBERDecodable-decode_ber+fn-TreeBERDecodable-decode_ber-collect_sequence_of.Goals as goal
 
-pub returns-in-Ok : goal.returns-in-Ok
-returns-in-Ok t c kept =
+pub returns-in-Ok-clause-decodes : goal.returns-in-Ok-clause-decodes
+returns-in-Ok-clause-decodes t c kept =
     let s = c.args.reader.now in
     let s' = c.collect_sequence_of.new.self in
     let h = list_by (nested_coding branches_of) (decodes_by {asks = true}) (kept, c.requires) c.collect_sequence_of.ensures (λ f f' p q x h. search rules) in
     subst (λ z. Decodes true (λ m n v b. IsNested branches_of n m v b) (λ m n b. AnyNested n m b) s (seen tree_of z) s') c.in-Ok.is
     (tree_read s c.collect_sequence_of.result s' h)
 
-pub returns-in-Err : goal.returns-in-Err
-returns-in-Err t c kept =
+pub returns-in-Err-clause-decodes : goal.returns-in-Err-clause-decodes
+returns-in-Err-clause-decodes t c kept =
     let s = c.args.reader.now in
     let s' = c.collect_sequence_of.new.self in
     let h = list_by (nested_coding branches_of) (decodes_by {asks = true}) (kept, c.requires) c.collect_sequence_of.ensures (λ f f' p q x h. search rules) in

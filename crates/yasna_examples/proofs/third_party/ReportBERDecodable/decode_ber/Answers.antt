@@ -1,11 +1,11 @@
 use Rattle.std.proofs.Common.{rules, refl, true, false}
 use Rattle.std.specs.Int.{w64}
 use Rattle.yasna.proofs.Laws.{part, no_part, signed_coding, vec_coding, text_coding}
-use Rattle.yasna.proofs.Closures.{sequence_by, step_by, decodes_by, done_by}
+use Rattle.yasna.proofs.Closures.{sequence_by, step_by, decodes_by, done_by, parts_repeat_kept}
 use Rattle.yasna_examples.proofs.third_party.ReportBERDecodable.decode_ber.Goals as goal
 
-pub returns : goal.returns
-returns c kept =
+pub returns-clause-decodes : goal.returns-clause-decodes
+returns-clause-decodes c kept =
     sequence_by (λ v. (v.name, (v.raw, (v.number, tt))))
     (λ w. record { name = w.0; raw = w.1.0; number = w.1.1.0 })
     (λ w. refl)
@@ -14,3 +14,6 @@ returns c kept =
     step_by vec_coding (decodes_by {asks = true}) (λ raw.
     step_by (signed_coding w64) (decodes_by {asks = false}) (λ number. done_by))))
     (kept, c.requires) c.read_sequence.ensures (λ p q x h. search rules)
+
+pub returns-clause-kept : goal.returns-clause-kept
+returns-clause-kept c = parts_repeat_kept c.read_sequence.ensures

@@ -9,10 +9,12 @@ use Rattle.yasna_reader.proofs.Turning.{SoFar, more_so_far, takes_turn}
 use Rattle.yasna_reader.proofs.state.ReaderState.collect.Goals as goal
 
 pub turn_in_order-requires : goal.turn_in_order-requires
-turn_in_order-requires g c κs =
-    ((refl, tt), takes_turn g.F.FnMut (record { callback = c.args.f; bound = bound_in c.args.order c.args.self.now.mode }) c.args.self.now
-        c.loop-item.items.items (record { callback = c.loop-item.f; bound = bytes_of c.loop-item.bound }) c.loop-item.self c.requires.turns
-        c.loop-item.invariant)
+turn_in_order-requires g c κs = (
+  (refl, tt),
+  takes_turn g.F.FnMut (record { callback = c.args.f; bound = bound_in c.args.order c.args.self.now.mode }) c.args.self.now
+      c.loop-item.items.items (record { callback = c.loop-item.f; bound = bytes_of c.loop-item.bound }) c.loop-item.self c.requires.turns
+      c.loop-item.invariant,
+)
 
 pub returns-then-is_err : goal.returns-then-is_err
 returns-then-is_err g c =

@@ -7,9 +7,11 @@ use Rattle.yasna_reader.proofs.state.ReaderState.visit.Goals as goal
 
 pub turn_in_order-requires : goal.turn_in_order-requires
 turn_in_order-requires g c κs =
-    let so = c.loop-f.invariant in
-    ((refl, tt), takes_turn g.F.FnMut (record { callback = c.args.f; bound = bound_in c.args.order c.args.self.now.mode }) c.args.self.now so.0
-        (record { callback = c.loop-f.f; bound = bytes_of c.loop-f.bound }) c.loop-f.self c.requires.turns so.1)
+    let so = c.loop-f.invariant in (
+      (refl, tt),
+      takes_turn g.F.FnMut (record { callback = c.args.f; bound = bound_in c.args.order c.args.self.now.mode }) c.args.self.now so.0
+          (record { callback = c.loop-f.f; bound = bytes_of c.loop-f.bound }) c.loop-f.self c.requires.turns so.1,
+    )
 
 pub loop-f-preserved : goal.loop-f-preserved
 loop-f-preserved g c =

@@ -1,0 +1,70 @@
+//! A type of one's own that is read by a closure, step by step.
+
+ghost use Rattle.std.specs.Prelude.{◌≡◌, ◌<◌, ◌^◌, ◌||◌, false, pos, FitsSigned};
+ghost use Rattle.std.specs.Int.{w64};
+ghost use Rattle.yasna.specs.base.Boolean.{EncodesBoolean, boolean_form};
+ghost use Rattle.yasna.specs.base.Canonical.{leaf_nest, enclosed_form, enclosed_nest, Always};
+ghost use Rattle.yasna.specs.base.Coding.{Any};
+ghost use Rattle.yasna.specs.base.Element.{Enclosed, AnyEnclosed};
+ghost use Rattle.yasna.specs.base.Identifier.{universal};
+ghost use Rattle.yasna.specs.base.Integer.{EncodesSigned, EncodesUnsigned, integer_form};
+ghost use Rattle.yasna.specs.base.Sequence.{sequence_tag, PartOf, NoParts, AnyPart, AnyNothing, SamePart, SameNothing};
+ghost use Rattle.yasna.specs.base.Sequence.{part_form, part_nest, part_can, nothing_form, nothing_nest};
+ghost use Rattle.yasna.specs.reader.Decodes.{Decodes, Step, Done};
+ghost use Rattle.yasna.specs.reader.State.{IsFresh, part_of};
+ghost use Rattle.yasna.proofs.Laws.{part, no_part, tuple, bool_coding, signed_coding, unsigned_coding};
+ghost use Rattle.yasna.proofs.Laws.{part_written, no_part_written, tuple_written, bool_written, signed_written, unsigned_written};
+
+use yasna::{
+    ASN1Result, BERDecodable, BERReader, DERCanonical, DEREncodable, DERWriter, EncodableParts,
+};
+
+/// A count, whether it is the last, and a shift: a SEQUENCE of INTEGER, BOOLEAN and INTEGER.
+#[derive(Drop)]
+pub struct Sample {
+    pub count: u32,
+    pub last: bool,
+    pub shift: i64,
+}
+
+impl BERDecodable for Sample {
+    ghost encodes = { λ m n v b. Enclosed (PartOf (EncodesUnsigned 32) (PartOf EncodesBoolean (PartOf (EncodesSigned w64) NoParts))) sequence_tag m n (v.count, (v.last, (v.shift, tt))) b };
+
+    ghost elements = { AnyEnclosed (AnyPart (Any (EncodesUnsigned 32)) (AnyPart (Any EncodesBoolean) (AnyPart (Any (EncodesSigned w64)) AnyNothing))) sequence_tag };
+
+    ghost asks_memory = { (false || (false || (false || false))) };
+
+    ghost same = { λ v w. SamePart (λ x y. x ≡ y) (SamePart (λ x y. x ≡ y) (SamePart (λ x y. x ≡ y) SameNothing)) (v.count, (v.last, (v.shift, tt))) (w.count, (w.last, (w.shift, tt))) };
+
+    fn decode_ber(reader: BERReader) -> ASN1Result<Sample> {
+        reader.read_sequence(
+            |seq| -> ASN1Result<Sample>
+                requires { IsFresh (part_of seq.old) }
+                ensures { Step (Decodes false (EncodesUnsigned 32) (Any (EncodesUnsigned 32))) (λ count. Step (Decodes false EncodesBoolean (Any EncodesBoolean)) (λ last. Step (Decodes false (EncodesSigned w64) (Any (EncodesSigned w64))) (λ shift. Done (record { count = count; last = last; shift = shift })))) (part_of seq.old) result (part_of seq.new) }
+            {
+                let count = u32::decode_ber(seq.next())?;
+                let last = bool::decode_ber(seq.next())?;
+                let shift = i64::decode_ber(seq.next())?;
+                Ok(Sample { count, last, shift })
+            },
+        )
+    }
+
+    ghost coding = { tuple (λ v. (v.count, (v.last, (v.shift, tt)))) (part (unsigned_coding 32) (part bool_coding (part (signed_coding w64) no_part))) };
+}
+
+impl DEREncodable for Sample {
+    ghost form = { λ m v. enclosed_form (part_form (λ m v. integer_form (universal 2) m (pos v)) (part_form (boolean_form (universal 1)) (part_form (integer_form (universal 2)) nothing_form))) sequence_tag m (v.count, (v.last, (v.shift, tt))) };
+
+    ghost nest = { λ m v. enclosed_nest (part_nest leaf_nest (part_nest leaf_nest (part_nest leaf_nest nothing_nest))) m (v.count, (v.last, (v.shift, tt))) };
+
+    ghost encodable = { λ v. part_can (λ n. n < 2 ^ 32) (part_can Always (part_can (FitsSigned w64) Always)) (v.count, (v.last, (v.shift, tt {0}))) };
+
+    fn encode_der(&self, writer: DERWriter<'_>) -> ASN1Result<()> {
+        writer.write_sequence(|seq| (self.count, (self.last, (self.shift, ()))).write_parts(seq))
+    }
+}
+
+impl DERCanonical for Sample {
+    ghost written = { tuple_written (λ v. (v.count, (v.last, (v.shift, tt)))) (part_written (unsigned_written 32) (part_written bool_written (part_written (signed_written w64) no_part_written))) };
+}
