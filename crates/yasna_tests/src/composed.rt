@@ -49,6 +49,32 @@ fn tuples_to_twelve(rt: HostRuntime) -> Result<(), Fail> {
     is_form_of::<(i64, i64, i64, i64, i64, i64, i64, i64, i64, i64, i64, i32)>(&rt, alloc, 12)
 }
 
+// A SEQUENCE of so many INTEGERs 10 is a value of this type in both modes, and its form.
+fn holds_tens<T: DERCanonical>(rt: &impl Abort, alloc: Global, count: u8) -> Result<(), Fail> {
+    let mut bytes = Vec::from_slice(alloc, &[48, count.saturating_mul(3)])?;
+    for _ in 0..count {
+        bytes.extend_from_slice(&[2, 1, 10])?;
+    }
+    let written = normalized::<T>(alloc, &bytes)?;
+    assert_eq!(rt; written.as_slice(), bytes.as_slice());
+    assert!(rt; decode_der::<T>(alloc, &bytes).is_ok());
+    Ok(())
+}
+
+#[test]
+fn tens(rt: HostRuntime) -> Result<(), Fail> {
+    let alloc = rt.alloc();
+    holds_tens::<(i64, i64)>(&rt, alloc, 2)?;
+    holds_tens::<(i64, i64, i64, i64)>(&rt, alloc, 4)?;
+    holds_tens::<(i64, i64, i64, i64, i64)>(&rt, alloc, 5)?;
+    holds_tens::<(i64, i64, i64, i64, i64, i64)>(&rt, alloc, 6)?;
+    holds_tens::<(i64, i64, i64, i64, i64, i64, i64)>(&rt, alloc, 7)?;
+    holds_tens::<(i64, i64, i64, i64, i64, i64, i64, i64)>(&rt, alloc, 8)?;
+    holds_tens::<(i64, i64, i64, i64, i64, i64, i64, i64, i64)>(&rt, alloc, 9)?;
+    holds_tens::<(i64, i64, i64, i64, i64, i64, i64, i64, i64, i64)>(&rt, alloc, 10)?;
+    holds_tens::<(i64, i64, i64, i64, i64, i64, i64, i64, i64, i64, i64)>(&rt, alloc, 11)
+}
+
 #[test]
 fn lists(rt: HostRuntime) -> Result<(), Fail> {
     let alloc = rt.alloc();
@@ -112,18 +138,35 @@ fn raw_elements(rt: HostRuntime) -> Result<(), Fail> {
 #[test]
 fn borrowed(rt: HostRuntime) -> Result<(), Fail> {
     let alloc = rt.alloc();
+    let ten: &i64 = &10;
+    assert_eq!(rt; encode_der(alloc, &ten)?.as_slice(), [2, 1, 10].as_slice());
     let flags: &[bool] = &[true, false];
     let list = encode_der(alloc, &flags)?;
     assert_eq!(rt; list.as_slice(), [48, 6, 1, 1, 255, 1, 1, 0].as_slice());
-    let octets: &[u8] = &[7, 9];
+    let numbers: &[i64] = &[10, -129];
+    let list = encode_der(alloc, &numbers)?;
+    assert_eq!(rt;
+        list.as_slice(),
+        [48, 7, 2, 1, 10, 2, 2, 255, 127].as_slice()
+    );
+    let octets: &[u8] = b"Hello!".as_slice();
     assert_eq!(rt;
         encode_der(alloc, &octets)?.as_slice(),
-        [4, 2, 7, 9].as_slice()
+        [4, 6, 72, 101, 108, 108, 111, 33].as_slice()
     );
-    let text = "ab";
+    let text = "Hello!";
     assert_eq!(rt;
         encode_der(alloc, &text)?.as_slice(),
-        [12, 2, 97, 98].as_slice()
+        [12, 6, 72, 101, 108, 108, 111, 33].as_slice()
     );
+    Ok(())
+}
+
+#[test]
+fn copied_raw(rt: HostRuntime) -> Result<(), Fail> {
+    let alloc = rt.alloc();
+    let element = [4, 6, 72, 101, 108, 108, 111, 33];
+    let value: TaggedDerValue = decode_der(alloc, &element)?;
+    assert!(rt; value.clone()? == value);
     Ok(())
 }

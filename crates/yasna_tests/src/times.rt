@@ -120,6 +120,19 @@ fn made_of_their_parts(rt: HostRuntime) -> Result<(), Fail> {
     Ok(())
 }
 
+#[test]
+fn without_seconds(rt: HostRuntime) -> Result<(), Fail> {
+    let (Some(time), Ok(noon)) = (
+        UTCTime::parse(b"8201021200Z"),
+        DateTime::new(1982, 1, 2, 12, 0, 0, 0),
+    ) else {
+        assert!(rt; false, "no time");
+        return Ok(());
+    };
+    assert!(rt; *time.datetime() == noon);
+    Ok(())
+}
+
 // Half an hour before the year 10000, an hour behind UTC.
 #[test]
 fn past_the_last_year(rt: HostRuntime) -> Result<(), Fail> {

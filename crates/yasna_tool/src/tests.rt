@@ -297,8 +297,17 @@ fn times(rt: HostRuntime) -> Result<(), Fail> {
     judge(&rt, &["der", "gtime"], &general, &INVALID)
 }
 
-const OTHER_WORDS: [&[&str]; 5] = [
+/// A list of indefinite length is read in BER alone.
+#[test]
+fn lists(rt: HostRuntime) -> Result<(), Fail> {
+    let list = [48, 128, 2, 1, 10, 2, 2, 255, 127, 0, 0];
+    judge(&rt, &["ber", "ints"], &list, &INTS)?;
+    judge(&rt, &["der", "ints"], &list, &INVALID)
+}
+
+const OTHER_WORDS: [&[&str]; 6] = [
     &["xer", "pair"],
+    &["xer", "ints"],
     &["ber", "lists"],
     &["ber"],
     &[],
