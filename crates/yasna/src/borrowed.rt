@@ -1,10 +1,10 @@
 //! Octets and texts that another holds: they are written as those are that hold their own.
 ghost use Rattle.std.specs.Str.{chars};
-ghost use Rattle.yasna_base.specs.Canonical.{leaf_nest, Always};
+ghost use Rattle.yasna_base.specs.Canonical.{Always};
 ghost use Rattle.yasna_base.specs.Digits.{IsBytes};
 ghost use Rattle.yasna_base.specs.Identifier.{universal};
-ghost use Rattle.yasna_base.specs.Octets.{octets_form};
-ghost use Rattle.yasna_base.specs.Text.{utf8_form};
+ghost use Rattle.yasna_base.specs.Octets.{octets_form, octets_nest};
+ghost use Rattle.yasna_base.specs.Text.{utf8_form, utf8_nest};
 
 use crate::traits::DEREncodable;
 use yasna_base::error::ASN1Result;
@@ -13,7 +13,7 @@ use yasna_writer::DERWriter;
 impl<'a> DEREncodable for &'a [u8] {
     ghost form = { λ m v. octets_form (universal 4) m v.now };
 
-    ghost nest = { leaf_nest };
+    ghost nest = { λ m v. octets_nest m v.now };
 
     ghost encodable = { λ v. IsBytes v.now };
 
@@ -25,7 +25,7 @@ impl<'a> DEREncodable for &'a [u8] {
 impl<'a> DEREncodable for &'a str {
     ghost form = { λ m v. utf8_form (universal 12) m (chars v.now) };
 
-    ghost nest = { leaf_nest };
+    ghost nest = { λ m v. utf8_nest m (chars v.now) };
 
     ghost encodable = { Always };
 

@@ -1,7 +1,7 @@
-//! ASN.1 under BER and DER: reading, writing, and types that do both.
+//! ASN.1 under BER, DER and CER: reading, writing in DER, and types that do both.
 //!
-//! `decode_ber`, `decode_der` and `encode_der` read and write values of a type as a whole. `parse_ber`, `parse_der` and
-//! `construct_der` hand a reader or a writer to a closure, which reads or writes element by element.
+//! `decode_ber`, `decode_der`, `decode_cer` and `encode_der` read and write values of a type as a whole. `parse_ber`, `parse_der`,
+//! `parse_cer` and `construct_der` hand a reader or a writer to a closure, which reads or writes element by element.
 //!
 //! ```rust
 //! use std::alloc::Global;
@@ -75,14 +75,16 @@ mod whole;
 pub use sets::{set_of_is_read, set_of_is_written, set_of_sets_is_read};
 pub use traits::{BERDecodable, DERCanonical, DEREncodable};
 pub use tuples::{EncodableParts, TupleParts};
-pub use whole::{decode_ber, decode_ber_general, decode_der, encode_der, one_form};
+pub use whole::{
+    decode_ber, decode_ber_general, decode_cer, decode_der, encode_der, one_form, one_form_cer,
+};
 pub use yasna_base::error::{ASN1Error, ASN1ErrorKind, ASN1Result};
 pub use yasna_base::mode::BERMode;
 pub use yasna_base::tag::{PCBit, Tag, TagClass};
 pub use yasna_base::tags;
 pub use yasna_base::text::{is_numeric_text, is_printable_text, is_visible_text};
 pub use yasna_reader::{
-    BERReader, BERReaderSeq, BERReaderSet, parse_ber, parse_ber_general, parse_der,
+    BERReader, BERReaderSeq, BERReaderSet, parse_ber, parse_ber_general, parse_cer, parse_der,
 };
 pub use yasna_writer::{
     DERWriter, DERWriterSeq, DERWriterSet, construct_der, construct_der_seq, try_construct_der,

@@ -1,11 +1,11 @@
 //! OCTET STRING and UTF8String as the types of Rust that hold them (X.690, 8.7 and 8.23).
 ghost use Rattle.std.specs.Prelude.{◌≡◌, true};
-ghost use Rattle.yasna_base.specs.Canonical.{leaf_nest, Always};
+ghost use Rattle.yasna_base.specs.Canonical.{Always};
 ghost use Rattle.yasna_base.specs.Coding.{Any};
 ghost use Rattle.yasna_base.specs.Digits.{IsBytes};
 ghost use Rattle.yasna_base.specs.Identifier.{universal};
-ghost use Rattle.yasna_base.specs.Octets.{EncodesOctets, EncodesVec, octets_form};
-ghost use Rattle.yasna_base.specs.Text.{EncodesText, EncodesString, utf8_form, characters};
+ghost use Rattle.yasna_base.specs.Octets.{EncodesOctets, EncodesVec, octets_form, octets_nest};
+ghost use Rattle.yasna_base.specs.Text.{EncodesText, EncodesString, utf8_form, utf8_nest, characters};
 ghost use Rattle.yasna_base.proofs.Octets.{vec_coding, vec_written};
 ghost use Rattle.yasna_base.proofs.Texts.{text_coding, text_written};
 
@@ -33,7 +33,7 @@ impl BERDecodable for Vec<u8> {
 impl DEREncodable for Vec<u8> {
     ghost form = { λ m v. octets_form (universal 4) m v.items };
 
-    ghost nest = { leaf_nest };
+    ghost nest = { λ m v. octets_nest m v.items };
 
     ghost encodable = { λ v. IsBytes v.items };
 
@@ -65,7 +65,7 @@ impl BERDecodable for String {
 impl DEREncodable for String {
     ghost form = { λ m v. utf8_form (universal 12) m (characters v) };
 
-    ghost nest = { leaf_nest };
+    ghost nest = { λ m v. utf8_nest m (characters v) };
 
     ghost encodable = { Always };
 

@@ -1,11 +1,11 @@
 //! UTCTime and GeneralizedTime (X.680, 46 and 47; X.690, 11.7 and 11.8).
 ghost use Rattle.std.specs.Prelude.{◌≡◌, true};
-ghost use Rattle.yasna_base.specs.Canonical.{leaf_nest, Always};
+ghost use Rattle.yasna_base.specs.Canonical.{Always};
 ghost use Rattle.yasna_base.specs.Coding.{Any};
-ghost use Rattle.yasna_times.specs.GeneralizedTime.{EncodesGeneralizedTime, generalized_time_form};
+ghost use Rattle.yasna_times.specs.GeneralizedTime.{EncodesGeneralizedTime, generalized_time_form, generalized_time_nest};
 ghost use Rattle.yasna_base.specs.Identifier.{universal};
 ghost use Rattle.yasna_times.specs.Models.{EncodesUtc, EncodesGeneral, utc_of, moment_of};
-ghost use Rattle.yasna_times.specs.UtcTime.{EncodesUtcTime, utc_time_form};
+ghost use Rattle.yasna_times.specs.UtcTime.{EncodesUtcTime, utc_time_form, utc_time_nest};
 ghost use Rattle.yasna_times.proofs.TimeLaws.{utc_coding, utc_written, general_coding, general_written};
 
 use crate::traits::{BERDecodable, DERCanonical, DEREncodable};
@@ -33,7 +33,7 @@ impl BERDecodable for UTCTime {
 impl DEREncodable for UTCTime {
     ghost form = { λ m v. utc_time_form (universal 23) m (utc_of v) };
 
-    ghost nest = { leaf_nest };
+    ghost nest = { λ m v. utc_time_nest m (utc_of v) };
 
     ghost encodable = { Always };
 
@@ -65,7 +65,7 @@ impl BERDecodable for GeneralizedTime {
 impl DEREncodable for GeneralizedTime {
     ghost form = { λ m v. generalized_time_form (universal 24) m (moment_of v) };
 
-    ghost nest = { leaf_nest };
+    ghost nest = { λ m v. generalized_time_nest m (moment_of v) };
 
     ghost encodable = { Always };
 

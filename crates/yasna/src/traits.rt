@@ -15,7 +15,7 @@ use yasna_base::error::ASN1Result;
 use yasna_reader::BERReader;
 use yasna_writer::DERWriter;
 
-/// A type that is read from BER and DER.
+/// A type that is read from BER, DER and CER.
 ///
 /// A struct that is a SEQUENCE of its fields hands everything to the tuple of them:
 ///
@@ -115,7 +115,7 @@ impl<'a, T: DEREncodable> DEREncodable for &'a T {
     }
 }
 
-/// A type that is read from DER exactly where its one DER form stands, which BER reads too.
+/// A type that is read from DER and CER exactly where its one form there stands, which BER reads too.
 ///
 /// It has no function: an impl proves the law.
 ///

@@ -3,7 +3,7 @@ ghost use Rattle.std.specs.Prelude.{◌≡◌, ◌↔◌, ◌<◌, ◌≤◌, �
 ghost use Rattle.yasna_base.specs.declared.mode.BERMode.{BERMode};
 ghost use Rattle.yasna_base.specs.declared.error.ASN1ErrorKind.TheVariants.{OutOfMemory};
 ghost use Rattle.yasna_base.specs.Error.{kind_of};
-ghost use Rattle.yasna_base.specs.declared.mode.BERMode.TheVariants.{Ber, Der};
+ghost use Rattle.yasna_base.specs.declared.mode.BERMode.TheVariants.{Ber, Der, Cer};
 ghost use Rattle.yasna_reader.specs.Decodes.{Decoded};
 ghost use Rattle.yasna_reader.specs.Parse.{Parses};
 
@@ -49,6 +49,17 @@ pub fn decode_der<T: BERDecodable>(alloc: Global, src: &[u8]) -> ASN1Result<T>
     decode_ber_general(alloc, src, BERMode::Der)
 }
 
+/// Reads a value from bytes, all of them, by the canonical encoding rules.
+///
+/// A value is answered only from its one CER form.
+pub fn decode_cer<T: BERDecodable>(alloc: Global, src: &[u8]) -> ASN1Result<T>
+    ensures decoded { Decoded T.asks_memory T.encodes T.elements Cer src.now result }
+    ensures answers { Parses T.reads Cer src.now result }
+    ensures exact { (v : T) → T.encodes Cer 101 v src.now → MatchResult result (λ w. T.same w v) (λ e. kind_of e ≡ OutOfMemory) }
+{
+    decode_ber_general(alloc, src, BERMode::Cer)
+}
+
 /// The DER form of a value that has one, or `OutOfMemory`.
 pub fn encode_der<T: DEREncodable>(alloc: Global, value: &T) -> ASN1Result<Vec<u8>>
     requires { T.encodable value.now }
@@ -67,4 +78,14 @@ pub fn one_form<T: DERCanonical>()
     ensures ber { (v : T) → T.encodable v → T.nest Der v ≤ 101 → length (T.form Der v) < 2 ^ 64 → T.encodes Ber 101 v (T.form Der v) }
     ensures written { (v : T) (s : List ℕ) → T.encodes Ber 101 v s → T.encodable v × (T.nest Der v ≤ 101) }
     ensures unique { (m : BERMode) (v w : T) (s r : List ℕ) → T.encodes m 101 v s → T.encodes m 101 w (s ++ r) → T.same v w × (r ≡ []) }
+{}
+
+/// What is proved besides of every type that keeps the laws: its CER form is the only bytes that it is read from in CER, and it
+/// is read from it in BER too.
+///
+/// That form may nest deeper than that of DER, by one level where a string is cut into segments. No bytes belong to two
+/// values in CER, and no encoding begins another, as `one_form` says of each mode. All within 101 levels.
+pub fn one_form_cer<T: DERCanonical>()
+    ensures cer { (v : T) (s : List ℕ) → length s < 2 ^ 64 → T.encodes Cer 101 v s ↔ (T.encodable v × (T.nest Cer v ≤ 101) × (s ≡ T.form Cer v)) }
+    ensures ber { (v : T) → T.encodable v → T.nest Cer v ≤ 101 → length (T.form Cer v) < 2 ^ 64 → T.encodes Ber 101 v (T.form Cer v) }
 {}

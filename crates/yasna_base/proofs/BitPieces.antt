@@ -5,7 +5,7 @@ use Rattle.std.specs.List.{flat_map, AllByRecursion}
 use Rattle.yasna_base.specs.declared.mode.BERMode.{BERMode}
 use Rattle.yasna_base.specs.declared.tag.Tag.{Tag}
 use Rattle.yasna_base.specs.Bits.{BitString, IsFull, AreFullBeforeLast, all_bits, AreBitsJoined, MayFollow, bits_cutting, IsBits}
-use Rattle.yasna_base.specs.Cut.{whole, in_pieces, IsCut}
+use Rattle.yasna_base.specs.Cut.{piece_mode, whole, in_pieces, IsCut}
 use Rattle.yasna_base.specs.Pieces.{Each}
 use Rattle.yasna_base.proofs.Bits.{full_before, all_bits_append}
 use Rattle.yasna_base.proofs.Cut.{cut_zero, cut_into}
@@ -40,9 +40,9 @@ each_filled R f (v ∷ vs) (b ∷ bs) p = (f v b p.0, each_filled R f vs bs p.1)
 pub bits_filled : (n : ℕ) (m : BERMode) (t : Tag) (v : BitString) (b : List ℕ) → IsBits n m t v b → IsFilled v
 bits_filled zero m t v b x = absurd (cut_zero bits_cutting m t v b x)
 bits_filled (suc n) m t v b x = elim (cut_into bits_cutting n m t v b x) [
-  | whole c y w ↦ record { unused = w.unused; below = w.below; counted = w.counted }
-  | in_pieces h c vs y p j ↦
-      let f = joined_filled vs j.full (each_filled (IsCut bits_cutting n m bits_cutting.piece) (bits_filled n m bits_cutting.piece) vs p.pieces p.each) in
+  | whole c y w a ↦ record { unused = w.unused; below = w.below; counted = w.counted }
+  | in_pieces h c vs y p j a ↦
+      let f = joined_filled vs j.full (each_filled (IsCut bits_cutting n (piece_mode m) bits_cutting.piece) (bits_filled n (piece_mode m) bits_cutting.piece) vs p.pieces p.each) in
       let i = f.counted in
       let k = j.count in
       record { unused = f.unused; below = f.below; counted = omega (arith, ap length j.bytes) }

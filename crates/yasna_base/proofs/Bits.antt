@@ -2,18 +2,17 @@
 use Rattle.std.proofs.Common.{◌≡◌, ℕ, List, ◌∷◌, length, ap, ap₂, ◌∙◌, sym, arith, [], ◌*◌, ◌-◌, ◌%◌, ◌^◌, ◌<◌, ◌≤◌, get_or, suc, refl, subst, length-append, ◌+◌, ◌/◌, ◌++◌}
 use Rattle.yasna_base.specs.declared.mode.BERMode.{BERMode}
 use Rattle.yasna_base.specs.declared.tag.Tag.{Tag}
-use Rattle.yasna_base.specs.Bits.{BitString, AreTheBits, bits_cutting, IsBits, IsPadded, AreFullBeforeLast, all_bits, CanBits, AreCanonicalBits, unused_bits, padded, bits_form, BitsKeepLaws, bits_contents, AreBitsJoined, cleared, IsFull, MayFollow}
+use Rattle.yasna_base.specs.Bits.{BitString, AreTheBits, bits_cutting, IsBits, IsPadded, AreFullBeforeLast, all_bits, CanBits, AreCanonicalBits, unused_bits, padded, bits_contents, AreBitsJoined, cleared, IsFull, MayFollow}
 use Rattle.yasna_base.specs.Coding.{IsCoding, Any}
 use Rattle.yasna_base.specs.Identifier.{end_tag}
-use Rattle.yasna_base.proofs.Cut.{CutsOnce, cut_coding, cut_keeps, cut_has}
+use Rattle.yasna_base.proofs.Cut.{CutsOnce, cut_coding, cut_keeps}
 use Rattle.yasna_base.proofs.Identifier.{not_end}
 use Rattle.std.specs.List.{AllByRecursion, flat_map}
-use Rattle.yasna_base.specs.declared.mode.BERMode.TheVariants.{Ber, Der}
-use Rattle.yasna_base.specs.Canonical.{IsCanonicalMode, leaf_nest, HasForm, canonical_element}
+use Rattle.yasna_base.specs.declared.mode.BERMode.TheVariants.{Ber, Der, Cer}
+use Rattle.yasna_base.specs.Canonical.{IsCanonicalMode}
 use Rattle.yasna_base.specs.Digits.{IsBytes}
 use Rattle.yasna_base.proofs.Digits.{bytes_append}
 use Rattle.std.proofs.Math.Nat.{zero-mod, div-add-mod, mul-mod_right}
-use Rattle.yasna_base.specs.declared.tag.PCBit.TheVariants.{Primitive}
 
 -- equal bytes and equal counts are equal strings
 pub same_bits : (v w : BitString) → v.bytes ≡ w.bytes → v.count ≡ w.count → v ≡ w
@@ -52,7 +51,8 @@ joined_can (v ∷ w ∷ vs) full can =
     let n = length-append v.bytes (flat_map (λ (w : BitString). w.bytes) (w ∷ vs)) in
     (bytes_append v.bytes (flat_map (λ (w : BitString). w.bytes) (w ∷ vs)) can.0.in_bytes i.0, omega (arith, i.1, f, n), omega (arith, i.2, f, n))
 
-join_can : (m : BERMode) (vs : List BitString) (v : BitString) → AllByRecursion CanBits vs → AreBitsJoined m vs v → CanBits v
+-- bits that are joined stand in as many bytes as they need
+pub join_can : (m : BERMode) (vs : List BitString) (v : BitString) → AllByRecursion CanBits vs → AreBitsJoined m vs v → CanBits v
 join_can m vs v can x =
     let i = joined_can vs x.full can in
     let n = ap length x.bytes in
@@ -76,7 +76,7 @@ pub bits_can : (n : ℕ) (m : BERMode) (t : Tag) (v : BitString) (b : List ℕ) 
 bits_can = cut_keeps bits_cutting CanBits whole_can join_can
 
 -- zeros in place of zeros
-padded_same : (u : ℕ) (d : List ℕ) → get_or d (length d - 1) 0 % 2 ^ u ≡ 0 → padded u d ≡ d
+pub padded_same : (u : ℕ) (d : List ℕ) → get_or d (length d - 1) 0 % 2 ^ u ≡ 0 → padded u d ≡ d
 padded_same u [] h = refl
 padded_same u (x ∷ []) h =
     let i : x % 2 ^ u ≡ 0 = h in
@@ -86,7 +86,8 @@ padded_same u (x ∷ y ∷ ys) h =
     let last : length (x ∷ y ∷ ys) - 1 ≡ suc (length (y ∷ ys) - 1) = omega arith in
     ap (λ z. x ∷ z) (padded_same u (y ∷ ys) (subst (λ i. get_or (x ∷ y ∷ ys) i 0 % 2 ^ u ≡ 0) last h))
 
-padded_length : (u : ℕ) (d : List ℕ) → length (padded u d) ≡ length d
+-- as many bytes as before
+pub padded_length : (u : ℕ) (d : List ℕ) → length (padded u d) ≡ length d
 padded_length u [] = refl
 padded_length u (x ∷ []) = refl
 padded_length u (x ∷ y ∷ ys) = ap (λ n. suc n) (padded_length u (y ∷ ys))
@@ -99,12 +100,15 @@ padded_bytes u (x ∷ y ∷ ys) h = (h.0, padded_bytes u (y ∷ ys) h.1)
 zeros_padded : (m : BERMode) (u : ℕ) (d : List ℕ) → IsPadded Der u d → IsPadded m u d
 zeros_padded Ber u d h = tt
 zeros_padded Der u d h = h
+zeros_padded Cer u d h = h
 
 padded_zeros : (m : BERMode) (u : ℕ) (d : List ℕ) → IsCanonicalMode m → IsPadded m u d → IsPadded Der u d
 padded_zeros Ber u d c h = absurd c
 padded_zeros Der u d c h = h
+padded_zeros Cer u d c h = h
 
-canonical_means : (m : BERMode) (v : BitString) → AreCanonicalBits v → AreTheBits m v (bits_contents v)
+-- the contents of a canonical string say it
+pub canonical_means : (m : BERMode) (v : BitString) → AreCanonicalBits v → AreTheBits m v (bits_contents v)
 canonical_means m v h = record {
   unused = unused_bits v;
   contents = ap (λ d. unused_bits v ∷ d) (padded_same (unused_bits v) v.bytes h.zeros);
@@ -115,20 +119,18 @@ canonical_means m v h = record {
   in_range = h.can.in_range;
 }
 
-contents_bytes : (v : BitString) → AreCanonicalBits v → IsBytes (bits_contents v)
+-- they are bytes
+pub contents_bytes : (v : BitString) → AreCanonicalBits v → IsBytes (bits_contents v)
 contents_bytes v h = let l = h.can.least in (omega arith, padded_bytes (unused_bits v) v.bytes h.can.in_bytes)
 
-canonical_one : (m : BERMode) (v : BitString) (c : List ℕ) → IsCanonicalMode m → IsBytes c → AreTheBits m v c → (c ≡ bits_contents v) × AreCanonicalBits v
+-- and a canonical mode reads nothing else
+pub canonical_one : (m : BERMode) (v : BitString) (c : List ℕ) → IsCanonicalMode m → IsBytes c → AreTheBits m v c → (c ≡ bits_contents v) × AreCanonicalBits v
 canonical_one m v c h bytes x =
     let u : x.unused ≡ unused_bits v = let i = x.counted in omega arith in
     let zeros = subst (λ z. IsPadded Der z v.bytes) u (padded_zeros m x.unused v.bytes h x.padded) in (
       x.contents ∙ ap (λ z. z ∷ v.bytes) u ∙ ap (λ d. unused_bits v ∷ d) (sym (padded_same (unused_bits v) v.bytes zeros)),
       record { can = whole_can m v c bytes x; zeros = zeros },
     )
-
--- a canonical BIT STRING has its form
-pub bits_has : (t : Tag) → t.tag_number < 2 ^ 64 → HasForm (λ m n v b. IsBits n m t v b) (bits_form t) leaf_nest (λ m. AreCanonicalBits)
-bits_has t range = cut_has bits_cutting AreCanonicalBits bits_contents t range contents_bytes canonical_means canonical_one
 
 padded_ends : (u : ℕ) (d : List ℕ) → get_or (padded u d) (length (padded u d) - 1) 0 % 2 ^ u ≡ 0
 padded_ends u [] = zero-mod (2 ^ u)
@@ -163,14 +165,6 @@ pub cleared_contents : (v : BitString) → CanBits v → bits_contents v ≡ bit
 cleared_contents v h =
     let same = padded_same (unused_bits (cleared v)) (cleared v).bytes (cleared_canonical v h).zeros in
     ap (λ u. u ∷ (cleared v).bytes) (sym (cleared_unused v)) ∙ ap (λ d. unused_bits (cleared v) ∷ d) (sym same)
-
-pub bits_keep : BitsKeepLaws
-bits_keep t not_end range = record {
-  coding = bits_coding t not_end;
-  has = bits_has t range;
-  can = λ m n v b. bits_can n m t v b;
-  cleared = λ m v h. (cleared_canonical v h, ap (λ c. canonical_element m t Primitive c) (cleared_contents v h));
-}
 
 -- a string behind full ones is the last
 pub full_before : (vs : List BitString) (v : BitString) → AllByRecursion IsFull vs → AreFullBeforeLast (vs ++ (v ∷ []))

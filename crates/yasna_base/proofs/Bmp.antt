@@ -11,11 +11,11 @@ use Rattle.std.specs.List.{AllByRecursion, flat_map}
 use Rattle.std.specs.Prelude.{unwrap_or}
 use Rattle.yasna_base.specs.declared.mode.BERMode.{BERMode}
 use Rattle.yasna_base.specs.declared.tag.Tag.{Tag}
-use Rattle.yasna_base.specs.Canonical.{leaf_nest, IsWritten}
+use Rattle.yasna_base.specs.Canonical.{IsWritten}
 use Rattle.yasna_base.specs.Coding.{IsCoding, Any}
 use Rattle.yasna_base.specs.Digits.{IsBytes}
 use Rattle.yasna_base.specs.Identifier.{end_tag}
-use Rattle.yasna_base.specs.Text.{InUtf8, IsTextIn, units, IsBmp, IsPairedBmp, IsStringOf, unit_octets, bmp_octets, bmp_form, BmpKeepsLaws}
+use Rattle.yasna_base.specs.Text.{InUtf8, IsTextIn, units, IsBmp, IsPairedBmp, IsStringOf, unit_octets, bmp_octets, bmp_form, bmp_nest, BmpKeepsLaws}
 use Rattle.yasna_base.proofs.Texts.{scalar_below, string_coding, string_written, text_in_utf8}
 
 abbrev AreUnits : List ℕ → Type 0
@@ -237,7 +237,7 @@ paired_coding t not_end = string_coding IsPairedBmp (λ m v w c x y. some_same v
 
 -- and then those of writing
 pub paired_written : (t : Tag) → t.tag_number < 2 ^ 64 →
-    IsWritten (λ v w. v ≡ w) (λ m n v b. IsStringOf IsPairedBmp n m t v b) (bmp_form t) leaf_nest (IsTextIn InUtf8)
+    IsWritten (λ v w. v ≡ w) (λ m n v b. IsStringOf IsPairedBmp n m t v b) (bmp_form t) bmp_nest (IsTextIn InUtf8)
 paired_written t range = string_written IsPairedBmp (IsTextIn InUtf8) bmp_octets t range
     (λ v can. octets_bytes (flat_map encode_utf16 v) (text_units v can.characters)) paired_means
     (λ m v c h bytes x. paired_only m v c bytes x)

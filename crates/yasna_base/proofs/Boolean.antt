@@ -1,7 +1,7 @@
 -- The laws of BOOLEAN.
 use Rattle.std.proofs.Common.{◌≡◌, ℕ, ◌^◌, ◌<◌, List, [], ◌∷◌, refl, ap, ◌∙◌, sym, arith, subst, Bool}
 use Rattle.yasna_base.specs.declared.mode.BERMode.{BERMode}
-use Rattle.yasna_base.specs.declared.mode.BERMode.TheVariants.{Ber, Der}
+use Rattle.yasna_base.specs.declared.mode.BERMode.TheVariants.{Ber, Der, Cer}
 use Rattle.yasna_base.specs.declared.tag.Tag.{Tag}
 use Rattle.yasna_base.specs.Boolean.{SaysTrue, IsBoolean, EncodesBoolean, boolean_byte, boolean_form}
 use Rattle.yasna_base.specs.Canonical.{IsCanonicalMode, leaf_nest, Always, IsWritten}
@@ -16,6 +16,7 @@ use Rattle.yasna_base.proofs.Identifier.{not_end}
 zero_false : (m : BERMode) → SaysTrue m 0 → ⊥
 zero_false Ber h = h refl
 zero_false Der h = cc
+zero_false Cer h = cc
 
 one_boolean : (m : BERMode) (v w : Bool) (c : List ℕ) → IsBoolean m v c → IsBoolean m w c → v ≡ w
 one_boolean m v w c (IsBoolean.says_false e f) (IsBoolean.says_false g h) = e ∙ sym g
@@ -31,10 +32,12 @@ boolean_coding t not_end = primitively IsBoolean t not_end one_boolean
 true_255 : (m : BERMode) → SaysTrue m 255
 true_255 Ber = λ e. cc
 true_255 Der = refl
+true_255 Cer = refl
 
 only_255 : (m : BERMode) (x : ℕ) → IsCanonicalMode m → SaysTrue m x → x ≡ 255
 only_255 Ber x h k = absurd h
 only_255 Der x h k = k
+only_255 Cer x h k = k
 
 boolean_means : (m : BERMode) (v : Bool) → Always v → IsBoolean m v (boolean_byte v ∷ [])
 boolean_means m Bool.false h = IsBoolean.says_false refl refl

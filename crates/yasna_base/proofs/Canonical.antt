@@ -1,14 +1,14 @@
 -- The one form of an element in a canonical mode, and the laws of writing, of primitive elements, of what encloses others,
 -- and of what stands for others.
-use Rattle.std.proofs.Common.{◌≡◌, ◌↔◌, ℕ, ◌+◌, ◌^◌, ◌<◌, ◌≤◌, List, ◌++◌, length, refl, ap, ◌∙◌, arith, zero, suc, length-append, subst}
+use Rattle.std.proofs.Common.{◌≡◌, ◌↔◌, ℕ, ◌+◌, ◌^◌, ◌<◌, ◌≤◌, List, ◌∷◌, ◌++◌, length, refl, ap, ◌∙◌, sym, arith, zero, suc, length-append, subst}
 use Rattle.yasna_base.specs.declared.mode.BERMode.{BERMode}
-use Rattle.yasna_base.specs.declared.mode.BERMode.TheVariants.{Ber, Der}
+use Rattle.yasna_base.specs.declared.mode.BERMode.TheVariants.{Ber, Der, Cer}
 use Rattle.yasna_base.specs.declared.tag.PCBit.{PCBit}
 use Rattle.yasna_base.specs.declared.tag.PCBit.TheVariants.{Primitive, Constructed}
 use Rattle.yasna_base.specs.declared.tag.Tag.{Tag}
-use Rattle.yasna_base.specs.Canonical.{IsCanonicalMode, HoldsForm, definite_element, canonical_element, leaf_nest, enclosed_form, enclosed_nest, Always, HasForm, IsWritten}
+use Rattle.yasna_base.specs.Canonical.{IsCanonicalMode, HoldsForm, definite_element, indefinite_element, canonical_element, leaf_nest, enclosed_form, enclosed_nest, Always, HasForm, IsWritten}
 use Rattle.yasna_base.specs.Digits.{IsBytes}
-use Rattle.yasna_base.specs.Element.{TakesDefinite, Definite, Framed, definite, indefinite, Element, Primitively, Enclosed}
+use Rattle.yasna_base.specs.Element.{TakesDefinite, TakesIndefinite, end_of_contents, Definite, Indefinite, Framed, definite, indefinite, Element, Primitively, Enclosed}
 use Rattle.yasna_base.specs.Identifier.{identifier}
 use Rattle.yasna_base.specs.Length.{shortest_length}
 use Rattle.yasna_base.proofs.Digits.{bytes_append}
@@ -25,44 +25,101 @@ pub definite_only : (m : BERMode) (t : Tag) (p : PCBit) (c b : List ℕ) → IsC
 unfolding definite_element
 definite_only m t p c b x y = y.joined ∙ ap (λ l. identifier t p ++ (l ++ c)) (spells_shortest m (length c) y.l x y.spelled)
 
+definite_longer : (t : Tag) (p : PCBit) (c : List ℕ) → length c ≤ length (definite_element t p c)
+unfolding definite_element
+definite_longer t p c = omega (arith, length-append {A = ℕ})
+
+indefinite_longer : (t : Tag) (c : List ℕ) → length c ≤ length (indefinite_element t c)
+unfolding indefinite_element
+indefinite_longer t c = omega (arith, length-append {A = ℕ})
+
 -- the contents are no longer than the form around them
 pub contents_shorter : (m : BERMode) (t : Tag) (p : PCBit) (c : List ℕ) → length c ≤ length (canonical_element m t p c)
-unfolding canonical_element definite_element
-contents_shorter m t p c = omega (arith, length-append {A = ℕ})
+unfolding canonical_element
+contents_shorter m t Primitive c = definite_longer t Primitive c
+contents_shorter Ber t Constructed c = definite_longer t Constructed c
+contents_shorter Der t Constructed c = definite_longer t Constructed c
+contents_shorter Cer t Constructed c = indefinite_longer t c
 
 -- where the form fits 64 bits, the contents do
 pub short_contents : (m : BERMode) (t : Tag) (p : PCBit) (c : List ℕ) → length (canonical_element m t p c) < 2 ^ 64 → length c < 2 ^ 64
 short_contents m t p c h = omega (arith, contents_shorter m t p c)
 
+-- any mode takes a length before the contents of a primitive element
+takes_primitive : (m : BERMode) → TakesDefinite m Primitive
+takes_primitive Ber = tt
+takes_primitive Der = tt
+takes_primitive Cer = tt
+
+-- the form with an indefinite length is an element, where the mode takes one
+indefinite_is : (m : BERMode) (t : Tag) (c : List ℕ) → TakesIndefinite m Constructed → Framed m t Constructed c (indefinite_element t c)
+unfolding indefinite_element
+indefinite_is m t c x = indefinite (record { taken = x; joined = refl })
+
 canonical_framed : (m o : BERMode) (t : Tag) (p : PCBit) (c : List ℕ) → HoldsForm m o → length (canonical_element m t p c) < 2 ^ 64 →
     Framed o t p c (canonical_element m t p c)
 unfolding canonical_element
-canonical_framed Ber o t p c x h = absurd x
-canonical_framed Der Ber t p c x h = definite_is Ber t p c tt (short_contents Der t p c h)
-canonical_framed Der Der t p c x h = definite_is Der t p c tt (short_contents Der t p c h)
+canonical_framed m o t Primitive c x h = definite_is o t Primitive c (takes_primitive o) (short_contents m t Primitive c h)
+canonical_framed Ber o t Constructed c x h = absurd x
+canonical_framed Der Ber t Constructed c x h = definite_is Ber t Constructed c tt (short_contents Der t Constructed c h)
+canonical_framed Der Der t Constructed c x h = definite_is Der t Constructed c tt (short_contents Der t Constructed c h)
+canonical_framed Der Cer t Constructed c x h = absurd x
+canonical_framed Cer Ber t Constructed c x h = indefinite_is Ber t c tt
+canonical_framed Cer Der t Constructed c x h = absurd x
+canonical_framed Cer Cer t Constructed c x h = indefinite_is Cer t c tt
 
 -- the canonical form is an element, in its mode and wherever that mode's forms hold
 pub canonical_element_is : (m o : BERMode) (t : Tag) (p : PCBit) (c : List ℕ) → HoldsForm m o → t.tag_number < 2 ^ 64 → IsBytes c →
     length (canonical_element m t p c) < 2 ^ 64 → Element o t p c (canonical_element m t p c)
 canonical_element_is m o t p c x range bytes h = record { in_range = range; in_bytes = bytes; framed = canonical_framed m o t p c x h }
 
+-- a primitive one is the form in any canonical mode
+pub definite_whole : (m : BERMode) (t : Tag) (c b : List ℕ) → IsCanonicalMode m → Definite m t Primitive c b → b ≡ canonical_element m t Primitive c
+unfolding canonical_element
+definite_whole m t c b x y = definite_only m t Primitive c b x y
+
+-- an element of indefinite length is that form
+indefinite_only : (m : BERMode) (t : Tag) (c b : List ℕ) → Indefinite m t Constructed c b → b ≡ indefinite_element t c
+unfolding indefinite_element
+indefinite_only m t c b y = y.joined
+
 canonical_framed_only : (m : BERMode) (t : Tag) (p : PCBit) (c b : List ℕ) → IsCanonicalMode m → Framed m t p c b → b ≡ canonical_element m t p c
 unfolding canonical_element
 canonical_framed_only Ber t p c b x y = absurd x
-canonical_framed_only Der t p c b x (definite y) = definite_only Der t p c b x y
+canonical_framed_only Der t Primitive c b x (definite y) = definite_only Der t Primitive c b x y
+canonical_framed_only Der t Constructed c b x (definite y) = definite_only Der t Constructed c b x y
 canonical_framed_only Der t p c b x (indefinite y) = absurd (y.taken)
+canonical_framed_only Cer t Primitive c b x (definite y) = definite_only Cer t Primitive c b x y
+canonical_framed_only Cer t Primitive c b x (indefinite y) = absurd (y.taken)
+canonical_framed_only Cer t Constructed c b x (definite y) = absurd (y.taken)
+canonical_framed_only Cer t Constructed c b x (indefinite y) = indefinite_only Cer t c b y
 
 -- a canonical mode takes no other element with these contents
 pub canonical_element_only : (m : BERMode) (t : Tag) (p : PCBit) (c b : List ℕ) → IsCanonicalMode m → Element m t p c b → b ≡ canonical_element m t p c
 canonical_element_only m t p c b x y = canonical_framed_only m t p c b x y.framed
 
+definite_bytes : (t : Tag) (p : PCBit) (c : List ℕ) → IsBytes c → length c < 2 ^ 64 → IsBytes (definite_element t p c)
+unfolding definite_element
+definite_bytes t p c bytes h =
+    let size = shortest_bytes (length c) h in
+    bytes_append (identifier t p) (shortest_length (length c) ++ c) (identifier_bytes t p) (bytes_append (shortest_length (length c)) c size bytes)
+
+-- an identifier, 128 and bytes are bytes
+pub opening_bytes : (t : Tag) (c : List ℕ) → IsBytes c → IsBytes (identifier t Constructed ++ (128 ∷ c))
+opening_bytes t c bytes = bytes_append (identifier t Constructed) (128 ∷ c) (identifier_bytes t Constructed) (omega arith, bytes)
+
+indefinite_bytes : (t : Tag) (c : List ℕ) → IsBytes c → IsBytes (indefinite_element t c)
+unfolding indefinite_element
+indefinite_bytes t c bytes = opening_bytes t (c ++ end_of_contents) (bytes_append c end_of_contents bytes (omega arith, (omega arith, tt)))
+
 -- the form around bytes is bytes
 pub canonical_element_bytes : (m : BERMode) (t : Tag) (p : PCBit) (c : List ℕ) → IsBytes c → length (canonical_element m t p c) < 2 ^ 64 →
     IsBytes (canonical_element m t p c)
-unfolding canonical_element definite_element
-canonical_element_bytes m t p c bytes h =
-    let size = shortest_bytes (length c) (short_contents m t p c h) in
-    bytes_append (identifier t p) (shortest_length (length c) ++ c) (identifier_bytes t p) (bytes_append (shortest_length (length c)) c size bytes)
+unfolding canonical_element
+canonical_element_bytes m t Primitive c bytes h = definite_bytes t Primitive c bytes (short_contents m t Primitive c h)
+canonical_element_bytes Ber t Constructed c bytes h = definite_bytes t Constructed c bytes (short_contents Ber t Constructed c h)
+canonical_element_bytes Der t Constructed c bytes h = definite_bytes t Constructed c bytes (short_contents Der t Constructed c h)
+canonical_element_bytes Cer t Constructed c bytes h = indefinite_bytes t c bytes
 
 -- a type of one primitive element, whose contents are one in each canonical mode, keeps the laws
 pub primitively_written : {A : Type 0} (W : BERMode → A → List ℕ → Type 0) (Can : A → Type 0) (contents : A → List ℕ) (t : Tag) → t.tag_number < 2 ^ 64 →
@@ -166,13 +223,29 @@ pub can_be_written : {A : Type 0} {E : A → A → Type 0} {B : BERMode → ℕ 
     {nest : BERMode → A → ℕ} {Can : A → Type 0} → IsWritten E B form nest Can → (m : BERMode) (n : ℕ) (v : A) (b : List ℕ) → B m n v b → Can v
 can_be_written x Ber n v b h = (x.any n v b h).0
 can_be_written x Der n v b h = (x.has.only Der n v b tt h).1
+can_be_written x Cer n v b h = (x.has.only Cer n v b tt h).1
 
 -- a canonical mode holds its own forms
 pub holds_own : (m : BERMode) → IsCanonicalMode m → HoldsForm m m
 holds_own Ber h = absurd h
 holds_own Der h = tt
+holds_own Cer h = tt
 
 -- a mode whose forms hold anywhere is canonical
 pub form_canonical : (m o : BERMode) → HoldsForm m o → IsCanonicalMode m
 form_canonical Ber o h = absurd h
 form_canonical Der o h = tt
+form_canonical Cer o h = tt
+
+module _ {A : Type 0} {E : A → A → Type 0} {B : BERMode → ℕ → A → List ℕ → Type 0} {form : BERMode → A → List ℕ} {nest : BERMode → A → ℕ}
+    {Can : A → Type 0} (x : IsWritten E B form nest Can) where
+  -- a type that keeps the laws is read in CER from its one form alone
+  pub one_in_cer : (n : ℕ) (v : A) (s : List ℕ) → length s < 2 ^ 64 → B Cer n v s ↔ (Can v × (nest Cer v ≤ n) × (s ≡ form Cer v))
+  one_in_cer n v s short = (
+    λ y. let z = x.has.only Cer n v s tt y in (z.1, z.2, z.0),
+    λ z. subst (B Cer n v) (sym z.2) (x.has.holds Cer Cer n v tt z.0 z.1 (subst (λ b. length b < 2 ^ 64) z.2 short)),
+  )
+
+  -- which BER reads too
+  pub cer_in_ber : (n : ℕ) (v : A) → Can v → nest Cer v ≤ n → length (form Cer v) < 2 ^ 64 → B Ber n v (form Cer v)
+  cer_in_ber n v can level short = x.has.holds Cer Ber n v tt can level short

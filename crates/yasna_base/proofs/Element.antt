@@ -2,7 +2,7 @@
 -- element that the same bytes begin with.
 use Rattle.std.proofs.Common.{◌≡◌, ℕ, List, ◌∷◌, ◌++◌, length, ap, ◌∙◌, sym, append_assoc}
 use Rattle.yasna_base.specs.declared.mode.BERMode.{BERMode}
-use Rattle.yasna_base.specs.declared.mode.BERMode.TheVariants.{Ber, Der}
+use Rattle.yasna_base.specs.declared.mode.BERMode.TheVariants.{Ber, Der, Cer}
 use Rattle.yasna_base.specs.declared.tag.PCBit.{PCBit}
 use Rattle.yasna_base.specs.declared.tag.PCBit.TheVariants.{Primitive}
 use Rattle.yasna_base.specs.declared.tag.Tag.{Tag}
@@ -71,6 +71,7 @@ element_exact m o t u p q c d b e r s x y once f = framed_exact m o t u p q c d 
 primitive_definite : (m : BERMode) → TakesIndefinite m Primitive → ⊥
 primitive_definite Ber x = x
 primitive_definite Der x = x
+primitive_definite Cer x = x
 
 primitive_framed : (m o : BERMode) (t u : Tag) (q : PCBit) (c d b e r s : List ℕ) → Framed m t Primitive c b → Framed o u q d e → b ++ r ≡ e ++ s →
     SameElement t u Primitive q c d b e r s

@@ -27,7 +27,8 @@ use Rattle.yasna_base.specs.Text.{EncodesText, IsBmp, IsPairedBmp}
 use Rattle.yasna_base.specs.Header.{uncounted}
 use Rattle.yasna_base.specs.Pieces.{Pieces}
 use Rattle.yasna_base.proofs.Octets.{octets_written}
-use Rattle.yasna_base.proofs.Bits.{bits_once, bits_has}
+use Rattle.yasna_base.proofs.BitForm.{bits_has}
+use Rattle.yasna_base.proofs.Bits.{bits_once}
 use Rattle.yasna_base.proofs.Cut.{cut_of, cut_into, cut_deeper, cut_exact, cut_starts, deep_of, deep_at_zero, pieces_same}
 
 identifier_31 : identifier (record { tag_class = ContextSpecific; tag_number = 31 }) Constructed ≡ 191 ∷ 31 ∷ []
@@ -161,7 +162,7 @@ hello n =
         (form (108 ∷ 108 ∷ 111 ∷ 33 ∷ []) tt (search arith) (omega arith) (omega arith), tt),
       );
       joined = refl;
-    }) refl)
+    }) refl tt)
 
 hello_101 : EncodesOctets Ber 101 (codes "Hello!") (36 ∷ 128 ∷ 4 ∷ 2 ∷ 72 ∷ 101 ∷ 4 ∷ 4 ∷ 108 ∷ 108 ∷ 111 ∷ 33 ∷ 0 ∷ 0 ∷ [])
 hello_101 = hello 99
@@ -208,7 +209,7 @@ accent n =
             pieces = (4 ∷ 1 ∷ 195 ∷ []) ∷ (4 ∷ 1 ∷ 169 ∷ []) ∷ [];
             each = (form (195 ∷ []) tt (search arith) (omega arith) (omega arith), (form (169 ∷ []) tt (search arith) (omega arith) (omega arith), tt));
             joined = refl;
-          }) refl);
+          }) refl tt);
       meaning = record { is_text = record { characters = (refl, tt); in_class = (tt, tt) }; octets = refl };
     }
 
@@ -245,7 +246,7 @@ bits_12 n = cut_of bits_cutting (suc n) Ber bits_tag _ _ (in_pieces tt (3 ∷ 2 
       each = (bits_8_form n, (bits_4_form n, tt));
       joined = refl;
     })
-    (record { full = (refl, tt); bytes = refl; count = refl; in_range = omega arith }))
+    (record { full = (refl, tt); bytes = refl; count = refl; in_range = omega arith }) tt)
 
 turned : Element Ber bits_tag Constructed (3 ∷ 2 ∷ 4 ∷ 240 ∷ 3 ∷ 2 ∷ 0 ∷ 1 ∷ []) (35 ∷ 8 ∷ 3 ∷ 2 ∷ 4 ∷ 240 ∷ 3 ∷ 2 ∷ 0 ∷ 1 ∷ [])
 unfolding definite_element identifier shortest_length
@@ -265,8 +266,8 @@ turned_pieces n = record {
 not_turned : (n : ℕ) (v : BitString) →
     Cut bits_cutting (IsBits (suc n) Ber bits_tag) Ber bits_tag v (35 ∷ 8 ∷ 3 ∷ 2 ∷ 4 ∷ 240 ∷ 3 ∷ 2 ∷ 0 ∷ 1 ∷ []) → ⊥
 unfolding bits_4
-not_turned n v (whole c x p) = let e = (primitive_exact Ber Ber bits_tag bits_tag Constructed c _ _ _ [] [] x turned refl).bit in absurd (cc)
-not_turned n v (in_pieces h c vs x p j) =
+not_turned n v (whole c x p a) = let e = (primitive_exact Ber Ber bits_tag bits_tag Constructed c _ _ _ [] [] x turned refl).bit in absurd (cc)
+not_turned n v (in_pieces h c vs x p j a) =
     let starts = λ (u : BitString) (b : List ℕ). cut_starts bits_cutting (suc n) Ber bits_tag u b bits_once.piece in
     let same = (pieces_same Ber bits_tag (cut_exact bits_once (suc n) (suc n) Ber bits_tag) starts starts vs (bits_4 ∷ bits_8 ∷ []) c _ _ _ [] [] x turned p
     (turned_pieces n) refl).0 in

@@ -5,7 +5,7 @@ use Rattle.std.proofs.lemmas.Bool.{cases_lt}
 use Rattle.std.proofs.lemmas.Bool.Decides.{nat_tests}
 use Rattle.std.specs.Int.Digits.{number_from_digits}
 use Rattle.yasna_base.specs.declared.mode.BERMode.{BERMode}
-use Rattle.yasna_base.specs.declared.mode.BERMode.TheVariants.{Ber, Der}
+use Rattle.yasna_base.specs.declared.mode.BERMode.TheVariants.{Ber, Der, Cer}
 use Rattle.yasna_base.specs.Canonical.{IsCanonicalMode}
 use Rattle.yasna_base.specs.Digits.{IsBytes, digits}
 use Rattle.yasna_base.specs.Length.{shortest_length, IsLongLength, one_byte, counted, SpellsLength}
@@ -35,21 +35,25 @@ shortest_spells k h = elim (cases_lt k 128) [
 pub shortest_in_mode : (m : BERMode) (k : ℕ) → k < 2 ^ 64 → SpellsLength m k (shortest_length k)
 shortest_in_mode Ber k h = (h, shortest_spells k h)
 shortest_in_mode Der k h = (h, refl)
+shortest_in_mode Cer k h = (h, refl)
 
 -- a canonical mode takes nothing but the fewest bytes
 pub spells_shortest : (m : BERMode) (k : ℕ) (l : List ℕ) → IsCanonicalMode m → SpellsLength m k l → l ≡ shortest_length k
 spells_shortest Ber k l c x = absurd c
 spells_shortest Der k l c x = x.1
+spells_shortest Cer k l c x = x.1
 
 -- what a mode takes is a spelling in the widest sense
 pub spells_long : (m : BERMode) (k : ℕ) (l : List ℕ) → SpellsLength m k l → IsLongLength k l
 spells_long Ber k l x = x.1
 spells_long Der k l x = rw (x.1) (shortest_spells k x.0)
+spells_long Cer k l x = rw (x.1) (shortest_spells k x.0)
 
 -- a spelled length fits 64 bits
 pub spells_below : (m : BERMode) (k : ℕ) (l : List ℕ) → SpellsLength m k l → k < 2 ^ 64
 spells_below Ber k l x = x.0
 spells_below Der k l x = x.0
+spells_below Cer k l x = x.0
 
 long_exact : (j k : ℕ) (a b r s : List ℕ) → IsLongLength j a → IsLongLength k b → a ++ r ≡ b ++ s → (j ≡ k) × (a ≡ b) × (r ≡ s)
 long_exact j k a b r s (one_byte h e) (one_byte i f) g = let w = fronts_as r s e f g in (cc, cc, cc)
@@ -92,7 +96,7 @@ shortest_only ds p h k = rw (le-ltb (number_from_digits 256 ds) 128 k) (ap (λ x
 pub data LengthFront (m : BERMode) (x : ℕ) (y : List ℕ) (k : ℕ) : Type 0 where
   small : x < 128 → k ≡ x → LengthFront m x y k
   large : (ds r : List ℕ) → x ≡ 128 + length ds → 1 ≤ length ds → length ds ≤ 126 → y ≡ ds ++ r → number_from_digits 256 ds ≡ k → k < 2 ^ 64 →
-      (m ≡ Der → (128 ≤ k) × (0 < get_or ds 0 0)) → LengthFront m x y k
+      (IsCanonicalMode m → (128 ≤ k) × (0 < get_or ds 0 0)) → LengthFront m x y k
 
 counted_shortest : (k : ℕ) (ds : List ℕ) → 1 ≤ length ds → (128 + length ds) ∷ ds ≡ shortest_length k → (128 ≤ k) × (0 < get_or ds 0 0)
 counted_shortest k ds h e = elim (cases_lt k 128) [
@@ -100,16 +104,15 @@ counted_shortest k ds h e = elim (cases_lt k 128) [
   | inr i ↦ let f : ds ≡ digits 256 k = cc (e ∙ counted_length k i) in (i, rw f (digits_first 256 k (omega arith) (omega arith)))
 ]
 
-der_counted : (m : BERMode) (k : ℕ) (ds l : List ℕ) → SpellsLength m k l → 1 ≤ length ds → l ≡ (128 + length ds) ∷ ds → m ≡ Der →
+canonical_counted : (m : BERMode) (k : ℕ) (ds l : List ℕ) → SpellsLength m k l → 1 ≤ length ds → l ≡ (128 + length ds) ∷ ds → IsCanonicalMode m →
     (128 ≤ k) × (0 < get_or ds 0 0)
-der_counted Ber k ds l x h e f = absurd (cc)
-der_counted Der k ds l x h e f = counted_shortest k ds h (sym e ∙ x.1)
+canonical_counted m k ds l x h e c = counted_shortest k ds h (sym e ∙ spells_shortest m k l c x)
 
 -- bytes that begin with a spelled length are of one of the two kinds
 pub length_front : (m : BERMode) (x : ℕ) (y : List ℕ) (k : ℕ) (l r : List ℕ) → SpellsLength m k l → x ∷ y ≡ l ++ r → LengthFront m x y k
 length_front m x y k l r w e = elim (spells_long m k l w) [
   | one_byte h f ↦ let g = e ∙ ap (λ z. z ++ r) f in let i : x ≡ k = cc in small (omega arith) (cc)
-  | counted ds h i b n f ↦ let g = e ∙ ap (λ z. z ++ r) f in large ds r (cc) h i (cc) n (spells_below m k l w) (der_counted m k ds l w h f)
+  | counted ds h i b n f ↦ let g = e ∙ ap (λ z. z ++ r) f in large ds r (cc) h i (cc) n (spells_below m k l w) (canonical_counted m k ds l w h f)
 ]
 
 -- no bytes at all do not begin with a spelled length
@@ -123,9 +126,11 @@ not_empty m k l r w e = elim (spells_long m k l w) [
 pub short_spells : (m : BERMode) (x : ℕ) → x < 128 → SpellsLength m x (x ∷ [])
 short_spells Ber x h = (omega arith, one_byte h refl)
 short_spells Der x h = (omega arith, sym (short_length x h))
+short_spells Cer x h = (omega arith, sym (short_length x h))
 
 -- a count and digits spell the digits' number
 pub long_spells : (m : BERMode) (ds : List ℕ) → IsBytes ds → 1 ≤ length ds → length ds ≤ 126 → number_from_digits 256 ds < 2 ^ 64 →
-    (m ≡ Der → (128 ≤ number_from_digits 256 ds) × (0 < get_or ds 0 0)) → SpellsLength m (number_from_digits 256 ds) ((128 + length ds) ∷ ds)
+    (IsCanonicalMode m → (128 ≤ number_from_digits 256 ds) × (0 < get_or ds 0 0)) → SpellsLength m (number_from_digits 256 ds) ((128 + length ds) ∷ ds)
 long_spells Ber ds x h i j f = (j, counted ds h i x refl refl)
-long_spells Der ds x h i j f = let g = f refl in (j, sym (shortest_only ds x (g.1) (g.0)))
+long_spells Der ds x h i j f = let g = f tt in (j, sym (shortest_only ds x (g.1) (g.0)))
+long_spells Cer ds x h i j f = let g = f tt in (j, sym (shortest_only ds x (g.1) (g.0)))

@@ -20,7 +20,9 @@ pub mod Nested
 pub mod Choice
 pub mod Header
 pub mod Pieces
+pub mod Segments
 pub mod Cut
+pub mod CutForm
 pub mod Raw
 pub mod Order
 pub mod SetLaws
@@ -29,8 +31,10 @@ pub mod SetWriting
 pub mod SetContents
 pub mod Octets
 pub mod Bits
+pub mod BitForm
 pub mod BitPieces
 pub mod Texts
 pub mod Bmp
 pub mod Examples
+pub mod CerExamples
 pub mod Options

@@ -1,15 +1,19 @@
 -- The laws of OCTET STRING.
-use Rattle.std.proofs.Common.{◌≡◌, ◌∙◌, sym, arith, [], ◌∷◌, ◌<◌, ◌^◌, refl, ap, subst, ℕ, List}
+use Rattle.std.proofs.Common.{◌≡◌, ◌∙◌, sym, arith, [], ◌∷◌, ◌<◌, ◌^◌, refl, ap, subst, ℕ, List, length, ◌≤◌}
 use Rattle.yasna_base.specs.declared.tag.Tag.{Tag}
 use Rattle.yasna_base.specs.Coding.{IsCoding, Any}
 use Rattle.yasna_base.specs.Identifier.{end_tag}
-use Rattle.yasna_base.specs.Octets.{octets_cutting, IsOctets, octets_form, OctetsKeepLaws, octets_tag, EncodesOctets, EncodesVec}
-use Rattle.yasna_base.proofs.Cut.{CutsOnce, cut_coding, cut_keeps, cut_has, cut_level}
+use Rattle.yasna_base.specs.Octets.{octets_cutting, IsOctets, octets_form, octets_nest, OctetsKeepLaws, octets_tag, EncodesOctets, EncodesVec}
+use Rattle.yasna_base.proofs.Cut.{CutsOnce, cut_coding, cut_keeps, cut_level}
+use Rattle.yasna_base.proofs.CutForm.{HasPieces, cut_has}
+use Rattle.yasna_base.proofs.Segments.{segments_are, segments_two, segments_bytes, segments_only, segments_over}
+use Rattle.yasna_base.specs.Segments.{AreSegments, segments}
+use Rattle.std.proofs.lemmas.List.{map-id}
 use Rattle.yasna_base.proofs.Identifier.{not_end}
 use Rattle.std.specs.List.{AllByRecursion, concat}
 use Rattle.yasna_base.specs.declared.mode.BERMode.TheVariants.{Ber}
 use Rattle.yasna_base.specs.declared.mode.BERMode.{BERMode}
-use Rattle.yasna_base.specs.Canonical.{leaf_nest, IsWritten}
+use Rattle.yasna_base.specs.Canonical.{IsWritten}
 use Rattle.yasna_base.specs.Digits.{IsBytes}
 use Rattle.yasna_base.proofs.Digits.{bytes_append}
 use Rattle.std.specs.Prelude.{Vec}
@@ -33,13 +37,37 @@ concat_bytes (v ∷ vs) h = bytes_append v (concat vs) h.0 (concat_bytes vs h.1)
 pub octets_bytes : (n : ℕ) (m : BERMode) (t : Tag) (v b : List ℕ) → IsOctets n m t v b → IsBytes v
 octets_bytes = cut_keeps octets_cutting IsBytes (λ m v c h e. subst IsBytes (sym e) h) (λ m vs v h e. subst IsBytes (sym e) (concat_bytes vs h))
 
+-- octets are cut in one way by CER, into segments of 1000
+pub octets_pieces : HasPieces octets_cutting IsBytes (λ v. v) (segments 1000)
+octets_pieces = record {
+  bytes = λ v can. can;
+  means = λ m v can. refl;
+  one = λ m v c h bytes e. (sym e, subst IsBytes (sym e) bytes);
+  cut = λ v can long.
+      let x = segments_are 1000 v (omega arith) (omega (arith, long)) in (
+        (
+          subst (AreSegments 1000) (sym (map-id (segments 1000 v))) x.each,
+          subst (λ bs. 2 ≤ length bs) (sym (map-id (segments 1000 v))) (segments_two 1000 v (omega arith) long),
+        ),
+        segments_bytes (segments 1000 v) (subst IsBytes (sym x.joined) can),
+      );
+  join = λ m v can long. sym (segments_are 1000 v (omega arith) (omega (arith, long))).joined;
+  alone = λ vs v can e cut.
+      let each : AreSegments 1000 vs = subst (AreSegments 1000) (map-id vs) cut.0 in
+      let two : 2 ≤ length vs = subst (λ bs. 2 ≤ length bs) (map-id vs) cut.1 in (
+        segments_only 1000 vs v (omega arith) each (sym e),
+        subst IsBytes (sym e) (concat_bytes vs can),
+        subst (λ z. 1000 < length z) (sym e) (segments_over 1000 vs each two),
+      );
+}
+
 -- OCTET STRING keeps the laws of writing
 pub octets_written : (t : Tag) → t.tag_number < 2 ^ 64 →
-    IsWritten (λ v w. v ≡ w) (λ m n v b. IsOctets n m t v b) (octets_form t) leaf_nest IsBytes
+    IsWritten (λ v w. v ≡ w) (λ m n v b. IsOctets n m t v b) (octets_form t) octets_nest IsBytes
 octets_written t range = record {
-  has = cut_has octets_cutting IsBytes (λ v. v) t range (λ v can. can) (λ m v can. refl) (λ m v c h bytes e. (sym e, subst IsBytes (sym e) bytes));
+  has = cut_has octets_pieces (omega arith) t range;
   any = λ n v b x. (octets_bytes n Ber t v b x, cut_level octets_cutting n Ber t v b x);
-  same = λ m v w e. (ap (octets_form t m) e, λ can. subst IsBytes e can, refl);
+  same = λ m v w e. (ap (octets_form t m) e, λ can. subst IsBytes e can, ap (octets_nest m) e);
 }
 
 pub octets_keep : OctetsKeepLaws
@@ -50,5 +78,5 @@ pub vec_coding : IsCoding (λ (v w : Vec ℕ Global). v.items ≡ w.items) Encod
 vec_coding = along (λ v. v.items) (octets_coding octets_tag octets_once.piece)
 
 pub vec_written : IsWritten (λ (v w : Vec ℕ Global). v.items ≡ w.items) EncodesVec (λ m v. octets_form octets_tag m v.items)
-    leaf_nest (λ v. IsBytes v.items)
+    (λ m v. octets_nest m v.items) (λ v. IsBytes v.items)
 vec_written = written_along (λ v. v.items) (octets_written octets_tag (omega arith))

@@ -8,7 +8,7 @@ use Rattle.std.specs.declared.cmp.Ordering.{Ordering}
 use Rattle.std.proofs.lemmas.Cmp.{nat_list_cmp_total}
 use Rattle.std.proofs.lemmas.List.Sorted.{ranks_by}
 use Rattle.yasna_base.specs.declared.mode.BERMode.{BERMode}
-use Rattle.yasna_base.specs.declared.mode.BERMode.TheVariants.{Ber, Der}
+use Rattle.yasna_base.specs.declared.mode.BERMode.TheVariants.{Ber, Der, Cer}
 use Rattle.yasna_base.specs.declared.tag.PCBit.TheVariants.{Constructed}
 use Rattle.yasna_base.specs.declared.tag.Tag.{Tag}
 use Rattle.yasna_base.specs.Canonical.{IsCanonicalMode, HoldsForm, canonical_element, HasForm, IsWritten}
@@ -43,16 +43,22 @@ order_holds : (m o : BERMode) (bs : List (List ℕ)) → HoldsForm m o → AreIn
 order_holds Ber o bs h x = absurd h
 order_holds Der Ber bs h x = tt
 order_holds Der Der bs h x = x
+order_holds Der Cer bs h x = absurd h
+order_holds Cer Ber bs h x = tt
+order_holds Cer Der bs h x = absurd h
+order_holds Cer Cer bs h x = x
 
 -- what ascends stands in the order that any mode asks
 any_order : (m : BERMode) (bs : List (List ℕ)) → IsSorted octets_cmp bs → AreInSetOfOrder m bs
 any_order Ber bs x = tt
 any_order Der bs x = x
+any_order Cer bs x = x
 
 -- and where a canonical mode asks it, it ascends
 canonical_order : (m : BERMode) (bs : List (List ℕ)) → IsCanonicalMode m → AreInSetOfOrder m bs → IsSorted octets_cmp bs
 canonical_order Ber bs h x = absurd h
 canonical_order Der bs h x = x
+canonical_order Cer bs h x = x
 
 -- encodings in order stand in the order that any mode asks
 octets_in_order : (m : BERMode) (bs : List (List ℕ)) → AreInSetOfOrder m (in_order octets_cmp bs)

@@ -1,5 +1,5 @@
 -- The laws of writing of SET.
-use Rattle.std.proofs.Common.{◌≡◌, ℕ, zero, suc, ◌+◌, ◌^◌, ◌<◌, ◌⊎◌, inl, inr, false, List, [], ◌∷◌, length, get_or, map, drop, refl, ap, ap₂, ◌∙◌, sym, arith, subst, lt-ltb}
+use Rattle.std.proofs.Common.{◌≡◌, ℕ, zero, suc, ◌+◌, ◌^◌, ◌<◌, ◌⊎◌, inl, inr, false, List, [], ◌∷◌, ◌++◌, length, get_or, map, drop, refl, ap, ap₂, ◌∙◌, sym, arith, subst, lt-ltb}
 use Rattle.std.specs.Cmp.{IsStrictWeakOrder}
 use Rattle.std.specs.List.{AllByRecursion, concat}
 use Rattle.std.specs.List.Sorted.{IsSorted, IsSortedBy, IsPermutation}
@@ -14,23 +14,26 @@ use Rattle.std.proofs.Math.ListN.{get_or-map}
 use Rattle.std.proofs.lemmas.List.{length-map}
 use Rattle.std.proofs.lemmas.List.Elements.{Contains-get_or}
 use Rattle.yasna_base.specs.declared.mode.BERMode.{BERMode}
-use Rattle.yasna_base.specs.declared.mode.BERMode.TheVariants.{Ber, Der}
+use Rattle.yasna_base.specs.declared.mode.BERMode.TheVariants.{Ber, Der, Cer}
 use Rattle.yasna_base.specs.declared.tag.Tag.{Tag}
 use Rattle.yasna_base.specs.Canonical.{IsCanonicalMode, HoldsForm, enclosed_form, enclosed_nest, HasForm}
 use Rattle.yasna_base.specs.Digits.{IsBytes}
-use Rattle.yasna_base.specs.Element.{definite, Enclosed}
-use Rattle.yasna_base.specs.Identifier.{class_number, BeginsWithTag}
+use Rattle.yasna_base.specs.declared.tag.PCBit.{PCBit}
+use Rattle.yasna_base.specs.declared.tag.PCBit.TheVariants.{Primitive, Constructed}
+use Rattle.yasna_base.specs.Element.{TakesIndefinite, end_of_contents, Definite, definite, Indefinite, Enclosed}
+use Rattle.yasna_base.specs.Identifier.{identifier, class_number, BeginsWithTag}
 use Rattle.yasna_base.specs.Length.{SpellsLength}
 use Rattle.yasna_base.specs.Order.{tag_cmp, octets_cmp, in_order}
-use Rattle.yasna_base.specs.Raw.{RawValue, RawFramed, with_length, with_zeros, RawOver, IsRaw}
+use Rattle.yasna_base.specs.Raw.{RawValue, raw_cer_form, RawFramed, with_length, with_zeros, RawOver, IsRaw}
 use Rattle.yasna_base.specs.SequenceOf.{elements_form, elements_nest}
 use Rattle.yasna_base.specs.Set.{AreInSetOrder, SetElements, IsSet, SetPart, HasItsTag, part_key, part_cmp, parts_bytes, SetContents}
 use Rattle.yasna_base.specs.SetWriting.{MakeElement, forms, own_form, part_of, in_part_order, AreRaw, CanSet, set_form, TagsKeepOrder, TagsTellElements, SetIsWritten, SetKeepsWritingLaws}
-use Rattle.yasna_base.proofs.Canonical.{canonical_element_bytes, canonical_element_only, enclosed_has}
+use Rattle.yasna_base.proofs.Canonical.{canonical_element_bytes, canonical_element_only, definite_whole, opening_bytes, enclosed_has}
 use Rattle.yasna_base.proofs.Element.{element_begins}
 use Rattle.yasna_base.proofs.Identifier.{class_same, begins_once}
 use Rattle.yasna_base.proofs.Length.{shortest_in_mode}
 use Rattle.yasna_base.proofs.Order.{no_head, rises_map, rises_order, sorted_rises, same_side, all_order, all_permuted, in_order_is, in_order_map, in_order_permuted}
+use Rattle.yasna_base.proofs.Pieces.{pieces_wider}
 use Rattle.yasna_base.proofs.Raw.{raw_zero, raw_of, raw_into, raw_element}
 use Rattle.yasna_base.proofs.SequenceOf.{forms_joined, each_form, each_only, elements_have}
 use Rattle.yasna_base.proofs.SetLaws.{octets_tie, tag_of_key}
@@ -48,11 +51,23 @@ raw_begins (suc n) m v b x =
     let z = raw_element v b y in
     record { in_range = y.in_range; in_bytes = y.in_bytes; begins = element_begins m v.tag v.bit z.contents b z.element }
 
+-- in CER an element whose length is counted is primitive
+cer_whole : (t : Tag) (p : PCBit) (c b : List ℕ) → Definite Cer t p c b → b ≡ raw_cer_form t p c
+cer_whole t Primitive c b d = definite_whole Cer t c b tt d
+cer_whole t Constructed c b d = absurd (d.taken)
+
+-- and one that ends by two zeros is constructed
+cer_constructed : (t : Tag) (p : PCBit) (c y b : List ℕ) → Indefinite Cer t p c b → y ≡ c ++ end_of_contents → b ≡ raw_cer_form t p y
+cer_constructed t Primitive c y b i e = absurd (i.taken)
+cer_constructed t Constructed c y b i e = i.joined ∙ ap (λ z. identifier t Constructed ++ (128 ∷ z)) (sym e)
+
 framed_only : {R : RawValue → List ℕ → Type 0} (m : BERMode) (v : RawValue) (b : List ℕ) → IsCanonicalMode m → RawOver R m v b → RawFramed R m v b → b ≡ own_form m v
-framed_only m v b h x (with_length d j) =
-    canonical_element_only m v.tag v.bit v.payload b h (record { in_range = x.in_range; in_bytes = x.in_bytes; framed = definite d })
-framed_only Ber v b h x (with_zeros c i j e) = absurd h
+framed_only Ber v b h x y = absurd h
+framed_only Der v b h x (with_length d j) =
+    canonical_element_only Der v.tag v.bit v.payload b h (record { in_range = x.in_range; in_bytes = x.in_bytes; framed = definite d })
 framed_only Der v b h x (with_zeros c i j e) = absurd (i.taken)
+framed_only Cer v b h x (with_length d j) = cer_whole v.tag v.bit v.payload b d
+framed_only Cer v b h x (with_zeros c i j e) = cer_constructed v.tag v.bit c v.payload b i e
 
 -- a canonical mode takes a raw element in its form alone
 raw_only : (n : ℕ) (m : BERMode) (v : RawValue) (b : List ℕ) → IsCanonicalMode m → IsRaw n m v b → b ≡ own_form m v
@@ -75,20 +90,57 @@ raw_in_ber (suc n) v b x =
     let y = raw_into n Der v b x in
     raw_of n Ber v b (record { not_end = y.not_end; in_range = y.in_range; in_bytes = y.in_bytes; framed = framed_in_ber v b y.framed })
 
+-- BER takes two zeros wherever CER does
+ber_takes : (p : PCBit) → TakesIndefinite Cer p → TakesIndefinite Ber p
+ber_takes Primitive h = h
+ber_takes Constructed h = h
+
+cer_framed : {R S : RawValue → List ℕ → Type 0} → ((v : RawValue) (b : List ℕ) → R v b → S v b) → (v : RawValue) (b : List ℕ) →
+    RawFramed R Cer v b → RawFramed S Ber v b
+cer_framed f v b (with_length d j) =
+    with_length (record {
+      taken = tt;
+      l = d.l;
+      spelled = subst (λ l. SpellsLength Ber (length v.payload) l) (sym d.spelled.1) (shortest_in_mode Ber (length v.payload) d.spelled.0);
+      joined = d.joined;
+    }) (λ l. absurd l)
+cer_framed f v b (with_zeros c i j e) =
+    with_zeros c (record { taken = ber_takes v.bit i.taken; joined = i.joined }) (j.0, pieces_wider f j.0 c j.1) e
+
+raw_cer_in_ber : (n : ℕ) (v : RawValue) (b : List ℕ) → IsRaw n Cer v b → IsRaw n Ber v b
+raw_cer_in_ber zero v b x = absurd (raw_zero Cer v b x)
+raw_cer_in_ber (suc n) v b x =
+    let y = raw_into n Cer v b x in
+    raw_of n Ber v b (record { not_end = y.not_end; in_range = y.in_range; in_bytes = y.in_bytes; framed = cer_framed (raw_cer_in_ber n) v b y.framed })
+
 -- a raw element of a canonical mode is one wherever that mode's forms hold
 raw_holds : (m o : BERMode) (n : ℕ) (v : RawValue) (b : List ℕ) → HoldsForm m o → IsRaw n m v b → IsRaw n o v b
 raw_holds Ber o n v b h x = absurd h
 raw_holds Der Ber n v b h x = raw_in_ber n v b x
 raw_holds Der Der n v b h x = x
+raw_holds Der Cer n v b h x = absurd h
+raw_holds Cer Ber n v b h x = raw_cer_in_ber n v b x
+raw_holds Cer Der n v b h x = absurd h
+raw_holds Cer Cer n v b h x = x
 
 -- within levels that are given nothing is said of how deep elements nest
 abbrev no_nest : BERMode → RawValue → ℕ
 no_nest m v = 0
 
+cer_bytes : (t : Tag) (p : PCBit) (c : List ℕ) → IsBytes c → length (raw_cer_form t p c) < 2 ^ 64 → IsBytes (raw_cer_form t p c)
+cer_bytes t Primitive c bytes short = canonical_element_bytes Cer t Primitive c bytes short
+cer_bytes t Constructed c bytes short = opening_bytes t c bytes
+
+-- the form of bytes is bytes
+own_bytes : (m : BERMode) (v : RawValue) → IsBytes v.payload → length (own_form m v) < 2 ^ 64 → IsBytes (own_form m v)
+own_bytes Ber v bytes short = canonical_element_bytes Ber v.tag v.bit v.payload bytes short
+own_bytes Der v bytes short = canonical_element_bytes Der v.tag v.bit v.payload bytes short
+own_bytes Cer v bytes short = cer_bytes v.tag v.bit v.payload bytes short
+
 -- raw elements within n levels have one form, where that is one
 raw_has : (n : ℕ) → HasForm (λ m k v b. IsRaw n m v b) own_form no_nest (λ m v. IsRaw n m v (own_form m v))
 raw_has n = record {
-  in_bytes = λ m v can short. canonical_element_bytes m v.tag v.bit v.payload (raw_begins n m v (own_form m v) can).in_bytes short;
+  in_bytes = λ m v can short. own_bytes m v (raw_begins n m v (own_form m v) can).in_bytes short;
   holds = λ m o k v h can level short. raw_holds m o n v (own_form m v) h can;
   only = λ m k v b h x.
       let e = raw_only n m v b h x in
@@ -100,15 +152,21 @@ tags_hold : (m o : BERMode) (ts : List Tag) → HoldsForm m o → AreInSetOrder 
 tags_hold Ber o ts h x = absurd h
 tags_hold Der Ber ts h x = tt
 tags_hold Der Der ts h x = x
+tags_hold Der Cer ts h x = absurd h
+tags_hold Cer Ber ts h x = tt
+tags_hold Cer Der ts h x = absurd h
+tags_hold Cer Cer ts h x = x
 
 -- tags that don't fall stand in the order that any mode asks
 any_tags : (m : BERMode) (ts : List Tag) → IsSorted tag_cmp ts → AreInSetOrder m ts
 any_tags Ber ts x = tt
 any_tags Der ts x = x
+any_tags Cer ts x = x
 
 canonical_tags : (m : BERMode) (ts : List Tag) → IsCanonicalMode m → AreInSetOrder m ts → IsSorted tag_cmp ts
 canonical_tags Ber ts h x = absurd h
 canonical_tags Der ts h x = x
+canonical_tags Cer ts h x = x
 
 -- raw elements whose tags stand in order have one form as the elements of a SET
 set_elements_have : (n : ℕ) → HasForm (λ m k vs c. SetElements m n vs c) (elements_form own_form) (elements_nest no_nest) (CanSet n)

@@ -12,12 +12,12 @@ use Rattle.std.specs.Str.{chars, encode_utf8_all, IsUtf8, IsAscii, IsNotAscii}
 use Rattle.yasna_base.specs.declared.mode.BERMode.{BERMode}
 use Rattle.yasna_base.specs.declared.mode.BERMode.TheVariants.{Ber}
 use Rattle.yasna_base.specs.declared.tag.Tag.{Tag}
-use Rattle.yasna_base.specs.Canonical.{IsCanonicalMode, leaf_nest, IsWritten, Always}
+use Rattle.yasna_base.specs.Canonical.{IsCanonicalMode, IsWritten, Always}
 use Rattle.yasna_base.specs.Coding.{IsCoding, Any}
 use Rattle.yasna_base.specs.Digits.{IsBytes}
 use Rattle.yasna_base.specs.Identifier.{universal, end_tag}
-use Rattle.yasna_base.specs.Octets.{octets_cutting, octets_form}
-use Rattle.yasna_base.specs.Text.{IsTextIn, IsUtf8In, IsStringOf, utf8_form, characters, EncodesText, EncodesString, TextKeepsLaws, InUtf8, InNumeric, InVisible, InIa5, InPrintable}
+use Rattle.yasna_base.specs.Octets.{octets_cutting, octets_form, octets_nest}
+use Rattle.yasna_base.specs.Text.{IsTextIn, IsUtf8In, IsStringOf, utf8_form, utf8_nest, characters, EncodesText, EncodesString, TextKeepsLaws, InUtf8, InNumeric, InVisible, InIa5, InPrintable}
 use Rattle.yasna_base.proofs.Canonical.{written_along, written_always}
 use Rattle.yasna_base.proofs.Coding.{equal_same, along}
 use Rattle.yasna_base.proofs.Cut.{cut_exact, cut_starts, cut_deeper, cut_level}
@@ -49,7 +49,7 @@ pub string_written : {A : Type 0} (K : BERMode → A → List ℕ → Type 0) (C
     ((v : A) → Can v → IsBytes (octets v)) → ((m : BERMode) (v : A) → Can v → K m v (octets v)) →
     ((m : BERMode) (v : A) (c : List ℕ) → IsCanonicalMode m → IsBytes c → K m v c → c ≡ octets v) →
     ((m : BERMode) (v : A) (c : List ℕ) → IsBytes c → K m v c → Can v) →
-    IsWritten (λ v w. v ≡ w) (λ m n v b. IsStringOf K n m t v b) (λ m v. octets_form t m (octets v)) leaf_nest Can
+    IsWritten (λ v w. v ≡ w) (λ m n v b. IsStringOf K n m t v b) (λ m v. octets_form t m (octets v)) (λ m v. octets_nest m (octets v)) Can
 string_written K Can octets t range bytes means one back =
     let has = (octets_written t range).has in
     record {
@@ -58,14 +58,17 @@ string_written K Can octets t range bytes means one back =
         holds = λ m o n v h can level short. record
             { octets = octets v; string = has.holds m o n (octets v) h (bytes v can) level short; meaning = means o v can };
         only = λ m n v b h x.
-            let y = has.only m n x.octets b h x.string in
-            (y.0 ∙ ap (octets_form t m) (one m v x.octets h y.1 x.meaning), back m v x.octets y.1 x.meaning, y.2);
+            let y = has.only m n x.octets b h x.string in (
+              y.0 ∙ ap (octets_form t m) (one m v x.octets h y.1 x.meaning),
+              back m v x.octets y.1 x.meaning,
+              subst (λ c. octets_nest m c ≤ n) (one m v x.octets h y.1 x.meaning) y.2,
+            );
       };
       any = λ n v b x. (
         back Ber v x.octets (octets_bytes n Ber t x.octets b x.string) x.meaning,
         cut_level octets_cutting n Ber t x.octets b x.string,
       );
-      same = λ m v w e. (ap (λ u. octets_form t m (octets u)) e, λ can. subst Can e can, refl);
+      same = λ m v w e. (ap (λ u. octets_form t m (octets u)) e, λ can. subst Can e can, ap (λ u. octets_nest m (octets u)) e);
     }
 
 -- UTF-8
@@ -114,7 +117,7 @@ class_coding In t not_end = string_coding (IsUtf8In In) (λ m v w c x y. encodes
 
 -- and those of writing
 pub class_written : (In : ℕ → Type 0) (t : Tag) → t.tag_number < 2 ^ 64 →
-    IsWritten (λ v w. v ≡ w) (λ m n v b. IsStringOf (IsUtf8In In) n m t v b) (utf8_form t) leaf_nest (IsTextIn In)
+    IsWritten (λ v w. v ≡ w) (λ m n v b. IsStringOf (IsUtf8In In) n m t v b) (utf8_form t) utf8_nest (IsTextIn In)
 class_written In t range = string_written (IsUtf8In In) (IsTextIn In) encode_utf8_all t range
     (λ v can. text_bytes v can.characters) (λ m v can. record { is_text = can; octets = refl })
     (λ m v c h bytes x. x.octets) (λ m v c bytes x. x.is_text)
@@ -158,7 +161,7 @@ pub text_coding : IsCoding (λ (v w : String Global). characters v ≡ character
 text_coding = along characters (class_coding InUtf8 (universal 12) (not_end 12 (λ e. omega arith)))
 
 pub text_written : IsWritten (λ (v w : String Global). characters v ≡ characters w) EncodesString
-    (λ m v. utf8_form (universal 12) m (characters v)) leaf_nest Always
+    (λ m v. utf8_form (universal 12) m (characters v)) (λ m v. utf8_nest m (characters v)) Always
 text_written = written_always string_text (written_along characters (class_written InUtf8 (universal 12) (omega arith)))
 
 -- classes of ASCII

@@ -1,15 +1,15 @@
--- BIT STRING (X.690, 8.6 and 11.2).
+-- BIT STRING (X.690, 8.6, 9.2 and 11.2).
 use Rattle.std.specs.Prelude.{◌≡◌, ℕ, ◌+◌, ◌-◌, ◌*◌, ◌%◌, ◌^◌, ◌<◌, ◌≤◌, List, [], ◌∷◌, length, get_or}
 use Rattle.std.specs.List.{flat_map, AllByRecursion}
 use Rattle.yasna_base.specs.declared.mode.BERMode.{BERMode}
-use Rattle.yasna_base.specs.declared.mode.BERMode.TheVariants.{Ber, Der}
+use Rattle.yasna_base.specs.declared.mode.BERMode.TheVariants.{Ber, Der, Cer}
 use Rattle.yasna_base.specs.declared.tag.Tag.{Tag}
-use Rattle.yasna_base.specs.declared.tag.PCBit.TheVariants.{Primitive}
-use Rattle.yasna_base.specs.Canonical.{canonical_element, HasForm, leaf_nest}
+use Rattle.yasna_base.specs.Canonical.{HasForm}
 use Rattle.yasna_base.specs.Coding.{IsCoding, Any}
-use Rattle.yasna_base.specs.Cut.{Cutting, IsCut, IsDeepCut}
+use Rattle.yasna_base.specs.Cut.{Cutting, IsCut, IsDeepCut, cut_form, cut_nest}
 use Rattle.yasna_base.specs.Digits.{IsBytes}
 use Rattle.yasna_base.specs.Identifier.{universal, end_tag}
+use Rattle.yasna_base.specs.Segments.{segments}
 
 abbrev pub bits_tag : Tag
 bits_tag = universal 3
@@ -23,6 +23,7 @@ pub record BitString : Type 0 where
 abbrev pub IsPadded : BERMode → ℕ → List ℕ → Type 0
 IsPadded Ber u d = Unit {0}
 IsPadded Der u d = get_or d (length d - 1) 0 % 2 ^ u ≡ 0
+IsPadded Cer u d = get_or d (length d - 1) 0 % 2 ^ u ≡ 0
 
 -- the contents of a primitive element are the count of unused bits, and the bytes
 pub record AreTheBits (m : BERMode) (v : BitString) (c : List ℕ) : Type 0 where
@@ -61,8 +62,9 @@ pub record MayFollow (vs : List BitString) : Type 0 where
   pub full : AllByRecursion IsFull vs
   pub in_range : all_bits vs < 2 ^ 64
 
+-- the count of unused bits is the thousandth octet of a segment
 abbrev pub bits_cutting : Cutting BitString
-bits_cutting = record { whole = AreTheBits; join = AreBitsJoined; more = MayFollow; piece = bits_tag }
+bits_cutting = record { whole = AreTheBits; join = AreBitsJoined; more = MayFollow; piece = bits_tag; bytes = λ v. v.bytes; full = 999 }
 
 -- within n levels, b is the bit string v with the tag t
 abbrev pub IsBits : ℕ → BERMode → Tag → BitString → List ℕ → Type 0
@@ -86,8 +88,22 @@ padded u (x ∷ y ∷ ys) = x ∷ padded u (y ∷ ys)
 abbrev pub bits_contents : BitString → List ℕ
 bits_contents v = unused_bits v ∷ padded (unused_bits v) v.bytes
 
+-- k bits in these bytes, all but the last of which are full
+abbrev pub bit_pieces : List (List ℕ) → ℕ → List BitString
+bit_pieces [] k = []
+bit_pieces (b ∷ []) k = record { bytes = b; count = k } ∷ []
+bit_pieces (b ∷ c ∷ bs) k = record { bytes = b; count = 8 * length b } ∷ bit_pieces (c ∷ bs) (k - 8 * length b)
+
+-- the bits in segments of 999 bytes, with zeros behind them
+abbrev pub bit_segments : BitString → List BitString
+bit_segments v = bit_pieces (segments 999 (padded (unused_bits v) v.bytes)) v.count
+
 abbrev pub bits_form : Tag → BERMode → BitString → List ℕ
-bits_form t m v = canonical_element m t Primitive (bits_contents v)
+bits_form t m v = cut_form bits_cutting bits_contents bit_segments t m v
+
+-- how deep it nests
+abbrev pub bits_nest : BERMode → BitString → ℕ
+bits_nest m v = cut_nest bits_cutting m v
 
 -- the bytes are as many as the bits need
 pub record CanBits (v : BitString) : Type 0 where
@@ -109,7 +125,7 @@ cleared v = record { bytes = padded (unused_bits v) v.bytes; count = v.count }
 -- need, and is written as the canonical string of the same bits
 pub record BitLaws (t : Tag) : Type 0 where
   pub coding : IsCoding (λ v w. v ≡ w) (λ m n v b. IsBits n m t v b) (Any (λ m n v b. IsBits n m t v b))
-  pub has : HasForm (λ m n v b. IsBits n m t v b) (bits_form t) leaf_nest (λ m. AreCanonicalBits)
+  pub has : HasForm (λ m n v b. IsBits n m t v b) (bits_form t) bits_nest (λ m. AreCanonicalBits)
   pub can : (m : BERMode) (n : ℕ) (v : BitString) (b : List ℕ) → IsBits n m t v b → CanBits v
   pub cleared : (m : BERMode) (v : BitString) → CanBits v → AreCanonicalBits (cleared v) × (bits_form t m v ≡ bits_form t m (cleared v))
 

@@ -1,7 +1,7 @@
 -- BOOLEAN (X.690, 8.2 and 11.1).
 use Rattle.std.specs.Prelude.{◌≡◌, ℕ, List, [], ◌∷◌, Bool}
 use Rattle.yasna_base.specs.declared.mode.BERMode.{BERMode}
-use Rattle.yasna_base.specs.declared.mode.BERMode.TheVariants.{Ber, Der}
+use Rattle.yasna_base.specs.declared.mode.BERMode.TheVariants.{Ber, Der, Cer}
 use Rattle.yasna_base.specs.declared.tag.Tag.{Tag}
 use Rattle.yasna_base.specs.declared.tag.PCBit.TheVariants.{Primitive}
 use Rattle.yasna_base.specs.Digits.{IsBytes}
@@ -10,10 +10,11 @@ use Rattle.yasna_base.specs.Element.{Primitively}
 use Rattle.yasna_base.specs.Canonical.{canonical_element, Always}
 use Rattle.yasna_base.specs.Laws.{PrimitiveKeepsLaws}
 
--- any byte but 0 is true in BER, 255 alone in DER
+-- any byte but 0 is true in BER, 255 alone in DER and CER
 abbrev pub SaysTrue : BERMode → ℕ → Type 0
 SaysTrue Ber x = x ≡ 0 → ⊥
 SaysTrue Der x = x ≡ 255
+SaysTrue Cer x = x ≡ 255
 
 -- the contents c say v in one byte
 pub data IsBoolean (m : BERMode) (v : Bool) (c : List ℕ) : Type 0 where

@@ -1,11 +1,12 @@
--- The one form of a value in each canonical mode (X.690, 10 and 11), how deep it nests, and the laws of writing.
-use Rattle.std.specs.Prelude.{◌≡◌, ℕ, ◌+◌, ◌^◌, ◌<◌, ◌≤◌, List, ◌++◌, length}
+-- The one form of a value in each canonical mode (X.690, 9, 10 and 11), how deep it nests, and the laws of writing.
+use Rattle.std.specs.Prelude.{◌≡◌, ℕ, ◌+◌, ◌^◌, ◌<◌, ◌≤◌, List, ◌∷◌, ◌++◌, length}
 use Rattle.yasna_base.specs.declared.mode.BERMode.{BERMode}
-use Rattle.yasna_base.specs.declared.mode.BERMode.TheVariants.{Ber, Der}
+use Rattle.yasna_base.specs.declared.mode.BERMode.TheVariants.{Ber, Der, Cer}
 use Rattle.yasna_base.specs.declared.tag.Tag.{Tag}
 use Rattle.yasna_base.specs.declared.tag.PCBit.{PCBit}
-use Rattle.yasna_base.specs.declared.tag.PCBit.TheVariants.{Constructed}
+use Rattle.yasna_base.specs.declared.tag.PCBit.TheVariants.{Primitive, Constructed}
 use Rattle.yasna_base.specs.Digits.{IsBytes}
+use Rattle.yasna_base.specs.Element.{end_of_contents}
 use Rattle.yasna_base.specs.Identifier.{identifier}
 use Rattle.yasna_base.specs.Length.{shortest_length}
 
@@ -13,19 +14,31 @@ use Rattle.yasna_base.specs.Length.{shortest_length}
 abbrev pub IsCanonicalMode : BERMode → Type 0
 IsCanonicalMode Ber = ⊥
 IsCanonicalMode Der = Unit {0}
+IsCanonicalMode Cer = Unit {0}
 
 -- the form of the first mode stands in the grammar of the second
 abbrev pub HoldsForm : BERMode → BERMode → Type 0
 HoldsForm Ber o = ⊥
 HoldsForm Der Ber = Unit {0}
 HoldsForm Der Der = Unit {0}
+HoldsForm Der Cer = ⊥
+HoldsForm Cer Ber = Unit {0}
+HoldsForm Cer Der = ⊥
+HoldsForm Cer Cer = Unit {0}
 
 -- identifier, length of the fewest bytes, contents
 unfoldable pub definite_element : Tag → PCBit → List ℕ → List ℕ
 definite_element t p c = identifier t p ++ (shortest_length (length c) ++ c)
 
+-- identifier, 128, contents, two zeros
+unfoldable pub indefinite_element : Tag → List ℕ → List ℕ
+indefinite_element t c = identifier t Constructed ++ (128 ∷ (c ++ end_of_contents))
+
+-- in CER the length is indefinite where the contents are elements (X.690, 9.1)
 unfoldable pub canonical_element : BERMode → Tag → PCBit → List ℕ → List ℕ
-canonical_element _ t p c = definite_element t p c
+canonical_element m t Primitive c = definite_element t Primitive c
+canonical_element Cer t Constructed c = indefinite_element t c
+canonical_element m t Constructed c = definite_element t Constructed c
 
 -- a value with no parts of its own
 abbrev pub leaf_nest : {A : Type 0} → BERMode → A → ℕ

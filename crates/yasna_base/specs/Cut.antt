@@ -1,36 +1,61 @@
--- Strings, in one primitive element or cut into pieces (X.690, 8.6, 8.7 and 8.23).
-use Rattle.std.specs.Prelude.{◌≡◌, ℕ, zero, suc, List, ◌++◌}
+-- Strings, in one primitive element or cut into pieces (X.690, 8.6, 8.7, 8.23 and 9.2).
+use Rattle.std.specs.Prelude.{◌≡◌, ℕ, zero, suc, ◌≤◌, List, ◌++◌, length, map, flat_map, if◌then◌else◌, nat_lt}
 use Rattle.yasna_base.specs.declared.mode.BERMode.{BERMode}
-use Rattle.yasna_base.specs.declared.mode.BERMode.TheVariants.{Ber, Der}
+use Rattle.yasna_base.specs.declared.mode.BERMode.TheVariants.{Ber, Der, Cer}
 use Rattle.yasna_base.specs.declared.tag.PCBit.TheVariants.{Primitive, Constructed}
 use Rattle.yasna_base.specs.declared.tag.Tag.{Tag}
+use Rattle.yasna_base.specs.Canonical.{canonical_element}
 use Rattle.yasna_base.specs.Element.{Element}
 use Rattle.yasna_base.specs.Header.{ContentsEnd, OpensAt}
 use Rattle.yasna_base.specs.Identifier.{BeginsWithTag}
 use Rattle.yasna_base.specs.Pieces.{Pieces}
+use Rattle.yasna_base.specs.Segments.{AreSegments}
 
 -- where a mode takes strings in pieces
 abbrev pub TakesPieces : BERMode → Type 0
 TakesPieces Ber = Unit {0}
 TakesPieces Der = ⊥
+TakesPieces Cer = Unit {0}
+
+-- the mode of the pieces: in CER they are primitive, of a length in the fewest bytes, as strings of DER are
+abbrev pub piece_mode : BERMode → BERMode
+piece_mode Ber = Ber
+piece_mode Der = Der
+piece_mode Cer = Der
+
+-- where a mode takes n bytes in one primitive element, if k of them fill a segment (X.690, 9.2)
+abbrev pub StaysWhole : BERMode → ℕ → ℕ → Type 0
+StaysWhole Ber k n = Unit {0}
+StaysWhole Der k n = Unit {0}
+StaysWhole Cer k n = n ≤ k
+
+-- where it takes bytes that are cut so
+abbrev pub CutsInto : BERMode → ℕ → List (List ℕ) → Type 0
+CutsInto Ber k bs = Unit {0}
+CutsInto Der k bs = Unit {0}
+CutsInto Cer k bs = AreSegments k bs × (2 ≤ length bs)
 
 -- How a kind of string is cut. whole m v c: the contents c of a primitive element say v; join m vs v: the values vs of
--- pieces make v; more vs: a further piece may follow these; piece: the tag of each piece
+-- pieces make v; more vs: a further piece may follow these; piece: the tag of each piece; bytes v: those that are cut; full: how many
+-- of them fill a segment of CER
 pub record Cutting (A : Type 0) : Type 1 where
   pub whole : BERMode → A → List ℕ → Type 0
   pub join : BERMode → List A → A → Type 0
   pub more : List A → Type 0
   pub piece : Tag
+  pub bytes : A → List ℕ
+  pub full : ℕ
 
 -- b is a string with the tag t that says v: a primitive element, or a constructed one around pieces that stand for their values by R
 pub data Cut {A : Type 0} (k : Cutting A) (R : A → List ℕ → Type 0) (m : BERMode) (t : Tag) (v : A) (b : List ℕ) : Type 0 where
-  whole : (c : List ℕ) → Element m t Primitive c b → k.whole m v c → Cut k R m t v b
-  in_pieces : TakesPieces m → (c : List ℕ) (vs : List A) → Element m t Constructed c b → Pieces R vs c → k.join m vs v → Cut k R m t v b
+  whole : (c : List ℕ) → Element m t Primitive c b → k.whole m v c → StaysWhole m k.full (length (k.bytes v)) → Cut k R m t v b
+  in_pieces : TakesPieces m → (c : List ℕ) (vs : List A) → Element m t Constructed c b → Pieces R vs c → k.join (piece_mode m) vs v →
+      CutsInto m k.full (map k.bytes vs) → Cut k R m t v b
 
 -- the same within n levels, where each piece is such a string in turn
 unfoldable pub IsCut : {A : Type 0} → Cutting A → ℕ → BERMode → Tag → A → List ℕ → Type 0
 IsCut k zero m t v b = ⊥
-IsCut k (suc n) m t v b = Cut k (IsCut k n m k.piece) m t v b
+IsCut k (suc n) m t v b = Cut k (IsCut k n (piece_mode m) k.piece) m t v b
 
 -- c are pieces that a further one may follow, and behind them stands what D says
 pub record PiecesBefore {A : Type 0} (R : A → List ℕ → Type 0) (More : List A → Type 0) (D : List ℕ → Type 0) (c : List ℕ) : Type 0 where
@@ -53,8 +78,22 @@ pub record DeepCut {A : Type 0} (k : Cutting A) (R : A → List ℕ → Type 0) 
 -- reading a string with the tag t from the front of s meets an element that no level is left for
 unfoldable pub IsDeepCut : {A : Type 0} → Cutting A → ℕ → BERMode → Tag → List ℕ → Type 0
 IsDeepCut k zero m t s = BeginsWithTag t s
-IsDeepCut k (suc n) m t s = DeepCut k (IsCut k n m k.piece) (IsDeepCut k n m k.piece) m t s
+IsDeepCut k (suc n) m t s = DeepCut k (IsCut k n (piece_mode m) k.piece) (IsDeepCut k n (piece_mode m) k.piece) m t s
 
 -- where reading a string would go too deep none stands at the front
 abbrev pub DeepIsNone : {A : Type 0} → Cutting A → Type 0
 DeepIsNone {A} k = (n : ℕ) (m : BERMode) (t : Tag) (s : List ℕ) → IsDeepCut k n m t s → (v : A) (b r : List ℕ) → IsCut k n m t v b → s ≡ b ++ r → ⊥
+
+-- The form of a string in a canonical mode: one primitive element, in CER pieces where more bytes hold it than fill a segment.
+-- contents v: those of a primitive element; pieces v: the pieces that v is cut into
+abbrev pub cut_form : {A : Type 0} → Cutting A → (A → List ℕ) → (A → List A) → Tag → BERMode → A → List ℕ
+cut_form k contents pieces t Cer v =
+    if nat_lt k.full (length (k.bytes v))
+    then canonical_element Cer t Constructed (flat_map (λ w. canonical_element Der k.piece Primitive (contents w)) (pieces v))
+    else canonical_element Cer t Primitive (contents v)
+cut_form k contents pieces t m v = canonical_element m t Primitive (contents v)
+
+-- pieces are a level of their own
+abbrev pub cut_nest : {A : Type 0} → Cutting A → BERMode → A → ℕ
+cut_nest k Cer v = if nat_lt k.full (length (k.bytes v)) then 2 else 1
+cut_nest k m v = 1

@@ -1,7 +1,7 @@
 -- An element: identifier, length, contents (X.690, 8.1.1).
 use Rattle.std.specs.Prelude.{◌≡◌, ℕ, zero, suc, ◌^◌, ◌<◌, ◌≤◌, List, [], ◌∷◌, ◌++◌, length}
 use Rattle.yasna_base.specs.declared.mode.BERMode.{BERMode}
-use Rattle.yasna_base.specs.declared.mode.BERMode.TheVariants.{Ber, Der}
+use Rattle.yasna_base.specs.declared.mode.BERMode.TheVariants.{Ber, Der, Cer}
 use Rattle.yasna_base.specs.declared.tag.Tag.{Tag}
 use Rattle.yasna_base.specs.declared.tag.PCBit.{PCBit}
 use Rattle.yasna_base.specs.declared.tag.PCBit.TheVariants.{Primitive, Constructed}
@@ -9,16 +9,20 @@ use Rattle.yasna_base.specs.Digits.{IsBytes}
 use Rattle.yasna_base.specs.Identifier.{identifier}
 use Rattle.yasna_base.specs.Length.{SpellsLength}
 
--- where a mode takes a length before the contents
+-- where a mode takes a length before the contents (X.690, 9.1 and 10.1)
 abbrev pub TakesDefinite : BERMode → PCBit → Type 0
 TakesDefinite Ber p = Unit {0}
 TakesDefinite Der p = Unit {0}
+TakesDefinite Cer Primitive = Unit {0}
+TakesDefinite Cer Constructed = ⊥
 
 -- where it takes two zeros behind them (X.690, 8.1.3.6)
 abbrev pub TakesIndefinite : BERMode → PCBit → Type 0
 TakesIndefinite Ber Constructed = Unit {0}
 TakesIndefinite Ber Primitive = ⊥
 TakesIndefinite Der p = ⊥
+TakesIndefinite Cer Constructed = Unit {0}
+TakesIndefinite Cer Primitive = ⊥
 
 -- the two zeros
 abbrev pub end_of_contents : List ℕ

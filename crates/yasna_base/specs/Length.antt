@@ -1,8 +1,8 @@
--- The length octets (X.690, 8.1.3 and 10.1).
+-- The length octets (X.690, 8.1.3, 9.1 and 10.1).
 use Rattle.std.specs.Prelude.{◌≡◌, ℕ, ◌+◌, ◌^◌, ◌<◌, ◌≤◌, List, [], ◌∷◌, length, if◌then◌else◌, nat_lt}
 use Rattle.std.specs.Int.Digits.{number_from_digits}
 use Rattle.yasna_base.specs.declared.mode.BERMode.{BERMode}
-use Rattle.yasna_base.specs.declared.mode.BERMode.TheVariants.{Ber, Der}
+use Rattle.yasna_base.specs.declared.mode.BERMode.TheVariants.{Ber, Der, Cer}
 use Rattle.yasna_base.specs.Digits.{IsBytes, digits}
 
 -- the fewest bytes
@@ -18,3 +18,4 @@ pub data IsLongLength (k : ℕ) (l : List ℕ) : Type 0 where
 abbrev pub SpellsLength : BERMode → ℕ → List ℕ → Type 0
 SpellsLength Ber k l = (k < 2 ^ 64) × IsLongLength k l
 SpellsLength Der k l = (k < 2 ^ 64) × (l ≡ shortest_length k)
+SpellsLength Cer k l = (k < 2 ^ 64) × (l ≡ shortest_length k)

@@ -22,6 +22,7 @@ pub mod Nested
 pub mod Choice
 pub mod Header
 pub mod Pieces
+pub mod Segments
 pub mod Cut
 pub mod Raw
 pub mod TaggedDerValue

@@ -1,15 +1,14 @@
--- OCTET STRING (X.690, 8.7).
+-- OCTET STRING (X.690, 8.7 and 9.2).
 use Rattle.std.specs.Prelude.{◌≡◌, ℕ, List, Vec}
 use Rattle.std.specs.Global.{Global}
 use Rattle.std.specs.List.{concat}
 use Rattle.yasna_base.specs.declared.mode.BERMode.{BERMode}
 use Rattle.yasna_base.specs.declared.tag.Tag.{Tag}
-use Rattle.yasna_base.specs.declared.tag.PCBit.TheVariants.{Primitive}
-use Rattle.yasna_base.specs.Canonical.{canonical_element, leaf_nest}
-use Rattle.yasna_base.specs.Cut.{Cutting, IsCut, IsDeepCut}
+use Rattle.yasna_base.specs.Cut.{Cutting, IsCut, IsDeepCut, cut_form, cut_nest}
 use Rattle.yasna_base.specs.Digits.{IsBytes}
 use Rattle.yasna_base.specs.Identifier.{universal}
 use Rattle.yasna_base.specs.Laws.{KeepsLaws}
+use Rattle.yasna_base.specs.Segments.{segments}
 
 abbrev pub octets_tag : Tag
 octets_tag = universal 4
@@ -24,7 +23,7 @@ AreOctetsJoined m vs v = v ≡ concat vs
 
 -- a further piece may follow any
 abbrev pub octets_cutting : Cutting (List ℕ)
-octets_cutting = record { whole = AreTheOctets; join = AreOctetsJoined; more = λ vs. Unit {0}; piece = octets_tag }
+octets_cutting = record { whole = AreTheOctets; join = AreOctetsJoined; more = λ vs. Unit {0}; piece = octets_tag; bytes = λ v. v; full = 1000 }
 
 -- within n levels, b is the octet string v with the tag t
 abbrev pub IsOctets : ℕ → BERMode → Tag → List ℕ → List ℕ → Type 0
@@ -43,8 +42,12 @@ abbrev pub EncodesVec : BERMode → ℕ → Vec ℕ Global → List ℕ → Type
 EncodesVec m n v b = EncodesOctets m n v.items b
 
 abbrev pub octets_form : Tag → BERMode → List ℕ → List ℕ
-octets_form t m v = canonical_element m t Primitive v
+octets_form t m v = cut_form octets_cutting (λ v. v) (segments 1000) t m v
+
+-- how deep it nests
+abbrev pub octets_nest : BERMode → List ℕ → ℕ
+octets_nest m v = cut_nest octets_cutting m v
 
 -- OCTET STRING keeps the laws under any tag
 abbrev pub OctetsKeepLaws : Type 0
-OctetsKeepLaws = KeepsLaws IsOctets octets_form leaf_nest IsBytes
+OctetsKeepLaws = KeepsLaws IsOctets octets_form octets_nest IsBytes

@@ -1,7 +1,7 @@
 -- Raw elements, whose contents aren't given a type (X.690, 8.1).
 use Rattle.std.specs.Prelude.{◌≡◌, ℕ, zero, suc, ◌^◌, ◌<◌, List, ◌∷◌, ◌++◌}
 use Rattle.yasna_base.specs.declared.mode.BERMode.{BERMode}
-use Rattle.yasna_base.specs.declared.mode.BERMode.TheVariants.{Ber, Der}
+use Rattle.yasna_base.specs.declared.mode.BERMode.TheVariants.{Ber, Der, Cer}
 use Rattle.yasna_base.specs.declared.tag.PCBit.{PCBit}
 use Rattle.yasna_base.specs.declared.tag.PCBit.TheVariants.{Primitive, Constructed}
 use Rattle.yasna_base.specs.declared.tag.Tag.{Tag}
@@ -11,7 +11,7 @@ use Rattle.yasna_base.specs.Cut.{PiecesBefore}
 use Rattle.yasna_base.specs.Digits.{IsBytes}
 use Rattle.yasna_base.specs.Element.{Definite, Indefinite, end_of_contents}
 use Rattle.yasna_base.specs.Header.{ContentsEnd, counted, uncounted, OpensAt}
-use Rattle.yasna_base.specs.Identifier.{end_tag, StartsElement}
+use Rattle.yasna_base.specs.Identifier.{identifier, end_tag, StartsElement}
 use Rattle.yasna_base.specs.Pieces.{Pieces}
 
 -- a tag, a bit, and what follows the length: the contents, with the two zeros where their length is indefinite
@@ -25,6 +25,7 @@ abbrev pub LooksInto : BERMode → PCBit → Type 0
 LooksInto Ber p = ⊥
 LooksInto Der Primitive = ⊥
 LooksInto Der Constructed = Unit {0}
+LooksInto Cer p = ⊥
 
 -- where it looks into contents that end so
 abbrev pub LooksUpTo : BERMode → PCBit → ContentsEnd → Type 0
@@ -72,8 +73,14 @@ unfoldable pub IsDeepRaw : ℕ → BERMode → List ℕ → Type 0
 IsDeepRaw zero m s = StartsElement s
 IsDeepRaw (suc n) m s = DeepRaw (IsRaw n m) (IsDeepRaw n m) m s
 
+-- in CER, where the payload of a constructed element ends by the two zeros
+abbrev pub raw_cer_form : Tag → PCBit → List ℕ → List ℕ
+raw_cer_form t Primitive c = canonical_element Cer t Primitive c
+raw_cer_form t Constructed c = identifier t Constructed ++ (128 ∷ c)
+
 -- the form of a raw element whose payload is written as it is
 abbrev pub raw_form : Tag → BERMode → RawValue → List ℕ
+raw_form t Cer v = raw_cer_form t v.bit v.payload
 raw_form t m v = canonical_element m t v.bit v.payload
 
 -- raw elements keep the laws of reading

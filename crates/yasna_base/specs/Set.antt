@@ -1,10 +1,10 @@
--- SET OF and SET (X.690, 8.11, 8.12, 10.3 and 11.6).
+-- SET OF and SET (X.690, 8.11, 8.12, 9.3, 10.3 and 11.6).
 use Rattle.std.specs.Prelude.{◌≡◌, ℕ, ◌^◌, ◌<◌, List, [], ◌∷◌, map, drop, if◌then◌else◌, nat_lt}
 use Rattle.std.specs.List.{AllByRecursion, concat}
 use Rattle.std.specs.List.Sorted.{IsSorted}
 use Rattle.std.specs.declared.cmp.Ordering.{Ordering}
 use Rattle.yasna_base.specs.declared.mode.BERMode.{BERMode}
-use Rattle.yasna_base.specs.declared.mode.BERMode.TheVariants.{Ber, Der}
+use Rattle.yasna_base.specs.declared.mode.BERMode.TheVariants.{Ber, Der, Cer}
 use Rattle.yasna_base.specs.declared.tag.Tag.{Tag}
 use Rattle.yasna_base.specs.Element.{Enclosed, AnyEnclosed}
 use Rattle.yasna_base.specs.Identifier.{class_number, universal, BeginsWithTag}
@@ -19,6 +19,7 @@ set_tag = universal 17
 abbrev pub AreInSetOfOrder : BERMode → List (List ℕ) → Type 0
 AreInSetOfOrder Ber bs = Unit {0}
 AreInSetOfOrder Der bs = IsSorted octets_cmp bs
+AreInSetOfOrder Cer bs = IsSorted octets_cmp bs
 
 -- contents that encode these values by B, one after the other, in that order
 pub record SetOfElements {A : Type 0} (B : BERMode → ℕ → A → List ℕ → Type 0) (m : BERMode) (n : ℕ) (vs : List A) (c : List ℕ) : Type 0 where
@@ -40,6 +41,7 @@ AnySetOf S t = AnyEnclosed (AnySetOfElements S) t
 abbrev pub AreInSetOrder : BERMode → List Tag → Type 0
 AreInSetOrder Ber ts = Unit {0}
 AreInSetOrder Der ts = IsSorted tag_cmp ts
+AreInSetOrder Cer ts = IsSorted tag_cmp ts
 
 -- contents that are these raw elements, one after the other, their tags in that order
 pub record SetElements (m : BERMode) (n : ℕ) (vs : List RawValue) (c : List ℕ) : Type 0 where

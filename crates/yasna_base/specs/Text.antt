@@ -8,11 +8,10 @@ use Rattle.std.specs.List.{Contains, flat_map, AllByRecursion}
 use Rattle.std.specs.Str.{chars, encode_utf8_all}
 use Rattle.yasna_base.specs.declared.mode.BERMode.{BERMode}
 use Rattle.yasna_base.specs.declared.tag.Tag.{Tag}
-use Rattle.yasna_base.specs.Canonical.{leaf_nest}
 use Rattle.yasna_base.specs.Coding.{IsCoding, Any}
 use Rattle.yasna_base.specs.Identifier.{universal, end_tag}
 use Rattle.yasna_base.specs.Laws.{KeepsLaws}
-use Rattle.yasna_base.specs.Octets.{IsOctets, octets_form}
+use Rattle.yasna_base.specs.Octets.{IsOctets, octets_form, octets_nest}
 
 -- any character
 abbrev pub InUtf8 : ℕ → Type 0
@@ -84,6 +83,13 @@ utf8_form t m text = octets_form t m (encode_utf8_all text)
 abbrev pub bmp_form : Tag → BERMode → List ℕ → List ℕ
 bmp_form t m text = octets_form t m (bmp_octets text)
 
+-- how deep they nest
+abbrev pub utf8_nest : BERMode → List ℕ → ℕ
+utf8_nest m text = octets_nest m (encode_utf8_all text)
+
+abbrev pub bmp_nest : BERMode → List ℕ → ℕ
+bmp_nest m text = octets_nest m (bmp_octets text)
+
 -- the characters of a string
 abbrev pub characters : String Global → List ℕ
 characters s = chars (string_bytes s)
@@ -98,11 +104,11 @@ EncodesString m n v b = EncodesText m n (characters v) b
 
 -- a class of text in UTF-8 keeps the laws under any tag
 abbrev pub TextKeepsLaws : (ℕ → Type 0) → Type 0
-TextKeepsLaws In = KeepsLaws (IsStringOf (IsUtf8In In)) utf8_form leaf_nest (IsTextIn In)
+TextKeepsLaws In = KeepsLaws (IsStringOf (IsUtf8In In)) utf8_form utf8_nest (IsTextIn In)
 
 -- BMPString keeps the laws of reading under any tag; where each surrogate has its partner, it keeps those of writing
 pub record BmpKeepsLaws : Type 0 where
   pub reading : (t : Tag) → (t ≡ end_tag → ⊥) → t.tag_number < 2 ^ 64 →
       IsCoding (λ v w. v ≡ w) (λ m n v b. IsStringOf IsBmp n m t v b) (Any (λ m n v b. IsStringOf IsBmp n m t v b))
-  pub paired : KeepsLaws (IsStringOf IsPairedBmp) bmp_form leaf_nest (IsTextIn InUtf8)
+  pub paired : KeepsLaws (IsStringOf IsPairedBmp) bmp_form bmp_nest (IsTextIn InUtf8)
   pub spells : (m : BERMode) (text v : List ℕ) → IsPairedBmp m text v → IsBmp m text v

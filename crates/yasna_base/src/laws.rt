@@ -1,13 +1,13 @@
 //! What is proved of the grammar itself, of which no program is part.
 //!
 //! These functions do nothing. Their contracts state the laws that every reader and every writer above relies on:
-//! bytes have one meaning, no encoding begins another, and each value has one form in DER.
+//! bytes have one meaning, no encoding begins another, and each value has one form in DER and one in CER.
 ghost use Rattle.std.specs.Prelude.{◌≡◌, ◌<◌, ◌^◌, ℕ, List, length, true, MatchResult, IsTrue, ◌↔◌, FitsSigned};
 ghost use Rattle.std.specs.Int.{w64};
 ghost use Rattle.std.specs.List.{AllByRecursion};
 ghost use Rattle.std.specs.Cmp.Lexicographic.{slice_cmp};
 ghost use Rattle.std.specs.Ordering.{nat_cmp, ordering_then};
-ghost use Rattle.yasna_base.specs.declared.mode.BERMode.TheVariants.{Ber, Der};
+ghost use Rattle.yasna_base.specs.declared.mode.BERMode.TheVariants.{Ber, Der, Cer};
 ghost use Rattle.yasna_base.specs.declared.mode.BERMode.{BERMode};
 ghost use Rattle.yasna_base.specs.declared.tag.Tag.{Tag};
 ghost use Rattle.yasna_base.specs.declared.tag.TagClass.{TagClass};
@@ -23,7 +23,7 @@ ghost use Rattle.yasna_base.specs.Integer.{IsSigned, integer_form, SignedKeepsLa
 ghost use Rattle.yasna_base.specs.Enumerated.{EnumeratedKeepsLaws};
 ghost use Rattle.yasna_base.specs.BigInteger.{IsBigInteger, big_integer_form, CanBigInteger, BigIntegerKeepsLaws};
 ghost use Rattle.yasna_base.specs.Cut.{DeepIsNone};
-ghost use Rattle.yasna_base.specs.Octets.{IsOctets, octets_form, octets_cutting, OctetsKeepLaws};
+ghost use Rattle.yasna_base.specs.Octets.{IsOctets, octets_form, octets_nest, octets_cutting, OctetsKeepLaws};
 ghost use Rattle.yasna_base.specs.Bits.{IsBits, bits_cutting, BitsKeepLaws};
 ghost use Rattle.yasna_base.specs.Text.{InUtf8, InNumeric, InPrintable, InVisible, InIa5, IsBmp, IsStringOf, IsUtf8In, TextKeepsLaws, BmpKeepsLaws};
 ghost use Rattle.yasna_base.specs.Oid.{OidKeepsLaws};
@@ -89,12 +89,13 @@ pub fn universal_tags()
 {}
 
 /// Tags are ordered by class, then by number; classes and bits by the numbers that they have in an identifier; BER
-/// stands before DER. Object identifiers are ordered by their first component that differs, and what begins another
+/// stands before DER, and that before CER. Object identifiers are ordered by their first component that differs, and what begins another
 /// comes first.
 pub fn orders()
     ensures tags { (t u : Tag) → ⟦<Tag as Ord>⟧.cmp t u ≡ ordering_then (nat_cmp (class_number t.tag_class) (class_number u.tag_class)) (nat_cmp t.tag_number u.tag_number) }
     ensures classes { (c d : TagClass) → ⟦<TagClass as Ord>⟧.cmp c d ≡ nat_cmp (class_number c) (class_number d) }
     ensures modes { (⟦<BERMode as Ord>⟧.cmp Ber Der ≡ Ordering.Less) × (⟦<BERMode as Ord>⟧.cmp Der Ber ≡ Ordering.Greater) × ((m : BERMode) → ⟦<BERMode as Ord>⟧.cmp m m ≡ Ordering.Equal) }
+    ensures cer { (⟦<BERMode as Ord>⟧.cmp Ber Cer ≡ Ordering.Less) × (⟦<BERMode as Ord>⟧.cmp Der Cer ≡ Ordering.Less) × (⟦<BERMode as Ord>⟧.cmp Cer Ber ≡ Ordering.Greater) × (⟦<BERMode as Ord>⟧.cmp Cer Der ≡ Ordering.Greater) }
     ensures bits { (p q : PCBit) → ⟦<PCBit as Ord>⟧.cmp p q ≡ nat_cmp (bit_number p) (bit_number q) }
     ensures object_identifiers { (v w : List ℕ) → ⟦<ObjectIdentifier as Ord>⟧.cmp v w ≡ slice_cmp nat_cmp v w }
 {}
@@ -124,12 +125,12 @@ pub fn identifiers()
     ensures { IdentifiersAreUnambiguous }
 {}
 
-/// In BER and in DER, no spelling of a length begins another, and a spelling tells the length.
+/// In each mode, no spelling of a length begins another, and a spelling tells the length.
 pub fn lengths()
     ensures { LengthsAreUnambiguous }
 {}
 
-/// In BER and in DER, no primitive element begins another, and an element tells the tag and the contents.
+/// In each mode, no primitive element begins another, and an element tells the tag and the contents.
 pub fn elements()
     ensures { PrimitiveElementsAreUnambiguous }
 {}
@@ -137,8 +138,8 @@ pub fn elements()
 /// The simple types keep the laws of reading and of writing, under any tag but that of the end of contents.
 ///
 /// Reading: bytes encode one value at most, no encoding begins another, and what is read within some levels is read
-/// within more. Writing: DER reads a value from its one form alone, BER reads that form too, and what BER reads has a
-/// form.
+/// within more. Writing: DER and CER read a value from its one form there alone, BER reads both forms too, and what BER
+/// reads has them.
 ///
 /// INTEGER keeps them in the signed types of each width, in the unsigned types of each count of bits, and as bytes of
 /// any count with a sign.
@@ -153,7 +154,7 @@ pub fn simple_types()
 {}
 
 /// The types of strings keep the laws of reading and of writing, as `simple_types` says them, however BER cuts a string
-/// into pieces.
+/// into pieces; CER cuts one that is longer than 1000 octets into segments, in one way.
 ///
 /// A bit string whose unused bits aren't zero has no form of its own: it is written as the canonical string of the same
 /// bits. A BMPString keeps the laws of writing where each surrogate has its partner; any other is only read, with U+FFFD
@@ -213,9 +214,9 @@ pub fn oid_is_read_again(
 
 /// Sets keep the laws of writing, under any tag but that of the end of contents, and SET OF those of reading too.
 ///
-/// A list of values is read from the forms of its items where these ascend, in DER and in BER, and DER reads nothing
-/// else; so is a list of raw elements of DER whose tags don't fall. Parts that are such forms make a set that is read as
-/// the same values in order, however the parts stood. Written again, what DER read makes the same bytes: a SET OF however
+/// A list of values is read from the forms of its items where these ascend, in their mode and in BER, and DER and CER read
+/// nothing else; so is a list of raw elements of DER or CER whose tags don't fall. Parts that are such forms make a set that is read as
+/// the same values in order, however the parts stood. Written again, what DER or CER read makes the same bytes: a SET OF however
 /// its parts stand, and so a SET where each tag has one element. Where two elements of a SET have one tag, it does so for
 /// parts that stand as they were read, if that tag's number is below 31.
 ///
@@ -224,7 +225,7 @@ pub fn oid_is_read_again(
 pub fn sets_written()
     ensures set_of_enumerated { SetOfKeepsLaws (Primitively (IsSigned w64)) integer_form leaf_nest (FitsSigned w64) }
     ensures set_of_big_integer { SetOfKeepsLaws (Primitively IsBigInteger) big_integer_form leaf_nest CanBigInteger }
-    ensures set_of_octets { SetOfKeepsLaws IsOctets octets_form leaf_nest IsBytes }
+    ensures set_of_octets { SetOfKeepsLaws IsOctets octets_form octets_nest IsBytes }
     ensures set_of_raw { SetOfRawKeepsReadingLaws }
     ensures set { SetKeepsWritingLaws }
 {}

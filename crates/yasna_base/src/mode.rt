@@ -7,4 +7,7 @@ pub enum BERMode {
     Ber,
     /// The distinguished encoding rules (X.690, clauses 8, 10 and 11): one form a value.
     Der,
+    /// The canonical encoding rules (X.690, clauses 8, 9 and 11): one form a value, of constructed elements of indefinite length,
+    /// and long strings in segments of 1000 octets.
+    Cer,
 }

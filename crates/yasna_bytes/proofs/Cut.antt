@@ -1,10 +1,10 @@
 -- Strings, whole or in segments: what the header and the contents behind it say of them.
-use Rattle.std.proofs.Common.{◌≡◌, ◌⊎◌, inl, inr, ℕ, zero, suc, ◌-◌, ◌≤◌, List, [], ◌++◌, length, Bool, true, false, refl, sym, subst, ◌∙◌, arith}
+use Rattle.std.proofs.Common.{◌≡◌, ◌⊎◌, inl, inr, ℕ, zero, suc, ◌-◌, ◌≤◌, List, [], ◌++◌, length, map, Bool, true, false, refl, sym, subst, ◌∙◌, arith}
 use Rattle.yasna_base.specs.declared.error.ASN1ErrorKind.TheVariants.{OutOfMemory}
 use Rattle.yasna_base.specs.declared.mode.BERMode.{BERMode}
 use Rattle.yasna_base.specs.declared.tag.Tag.{Tag}
 use Rattle.yasna_base.specs.declared.tag.PCBit.TheVariants.{Primitive, Constructed}
-use Rattle.yasna_base.specs.Cut.{TakesPieces, Cutting, whole, in_pieces, IsCut, IsDeepCut}
+use Rattle.yasna_base.specs.Cut.{TakesPieces, piece_mode, StaysWhole, CutsInto, Cutting, whole, in_pieces, IsCut, IsDeepCut}
 use Rattle.yasna_base.specs.Element.{IsPrimitive}
 use Rattle.yasna_base.specs.Header.{ContentsEnd, OpensAt}
 use Rattle.yasna_base.specs.Identifier.{BeginsWithTag}
@@ -16,8 +16,10 @@ use Rattle.yasna_bytes.specs.declared.bytes.header.Refusal.{Refusal}
 use Rattle.yasna_bytes.specs.Front.{Takes, Stands}
 use Rattle.yasna_bytes.specs.Header.{AnyBit, AreContents, HasHeader, RefusesHeader, EndsAt, EndsBefore}
 use Rattle.yasna_bytes.specs.Refusal.{IsPlain, IsTooDeep}
-use Rattle.yasna_bytes.specs.Segments.{EndAt, IsDeepWithin, TakesSegments, RefusesSegments, TakesString, RefusesString}
+use Rattle.yasna_bytes.specs.declared.bytes.segments.cuts.Cuts.{Cuts}
+use Rattle.yasna_bytes.specs.Segments.{EndAt, IsDeepWithin, AsksFor, TakesSegments, RefusesSegments, TakesString, RefusesString}
 use Rattle.yasna_bytes.proofs.Contents.{takes_begins, copy_wants, opens_wants}
+use Rattle.yasna_bytes.proofs.Cuts.{asked_cut}
 use Rattle.yasna_bytes.proofs.Header.{element_header}
 use Rattle.yasna_bytes.proofs.RawHeader.{opens_header}
 use Rattle.yasna_bytes.proofs.Refusal.{plain_not_deep, plain_not_memory, begins_not_elsewhere}
@@ -38,8 +40,8 @@ stood k n m t s e b p o none deep = record {
 cut_header : {A : Type 0} (k : Cutting A) (n : ℕ) (m : BERMode) (t : Tag) (v : A) (b s r : List ℕ) → IsCut k n m t v b → s ≡ b ++ r → HasHeader AnyBit m n t s
 cut_header k zero m t v b s r x e = absurd (cut_zero k m t v b x)
 cut_header k (suc n) m t v b s r x e = elim (cut_into k n m t v b x) [
-  | whole c y w ↦ element_header AnyBit m (suc n) t Primitive c b s r (omega arith) tt y e
-  | in_pieces h c vs y p j ↦ element_header AnyBit m (suc n) t Constructed c b s r (omega arith) tt y e
+  | whole c y w a ↦ element_header AnyBit m (suc n) t Primitive c b s r (omega arith) tt y e
+  | in_pieces h c vs y p j a ↦ element_header AnyBit m (suc n) t Constructed c b s r (omega arith) tt y e
 ]
 
 deep_header : {A : Type 0} (k : Cutting A) (n : ℕ) (m : BERMode) (t : Tag) (s : List ℕ) → IsDeepCut k n m t s → IsTooDeep n t s ⊎ HasHeader AnyBit m n t s
@@ -63,26 +65,26 @@ header_refused k n m t s e x = record {
 
 -- the contents of a primitive element say a value
 pub whole_taken : {A : Type 0} (k : Cutting A) (n : ℕ) (m : BERMode) (t : Tag) (s c r : List ℕ) (v : A) → Takes (IsPrimitive AreContents n m t) s c r →
-    k.whole m v c → Takes (IsCut k n m t) s v r
-whole_taken k zero m t s c r v x w = let l = x.member.level in absurd (omega arith)
-whole_taken k (suc n) m t s c r v x w = record {
+    k.whole m v c → StaysWhole m k.full (length (k.bytes v)) → Takes (IsCut k n m t) s v r
+whole_taken k zero m t s c r v x w a = let l = x.member.level in absurd (omega arith)
+whole_taken k (suc n) m t s c r v x w a = record {
   front = x.front;
   joined = x.joined;
-  member = cut_of k n m t v x.front (whole x.member.contents x.member.element (subst (k.whole m v) x.member.meaning w));
+  member = cut_of k n m t v x.front (whole x.member.contents x.member.element (subst (k.whole m v) x.member.meaning w) a);
 }
 
 -- or say none
 whole_none : {A : Type 0} (k : Cutting A) (n : ℕ) (m : BERMode) (t : Tag) (s c r : List ℕ) → Takes (IsPrimitive AreContents n m t) s c r →
-    ((v : A) → k.whole m v c → ⊥) → Stands (IsCut k n m t) s → ⊥
+    ((v : A) → k.whole m v c → StaysWhole m k.full (length (k.bytes v)) → ⊥) → Stands (IsCut k n m t) s → ⊥
 whole_none k zero m t s c r x h w = cut_zero k m t w.0 w.2.front w.2.member
 whole_none {A} k (suc n) m t s c r x h w =
     let y = x.member in
     let f = sym x.joined ∙ w.2.joined in
     elim (cut_into k n m t w.0 w.2.front w.2.member) [
-      | whole d z q ↦
+      | whole d z q a ↦
           let i = (primitive_exact m m t t Primitive y.contents d x.front w.2.front r w.1 y.element z f).contents in
-          h w.0 (subst (k.whole m w.0) (sym (y.meaning ∙ i)) q)
-      | in_pieces g d vs z p j ↦ let i = (primitive_exact m m t t Constructed y.contents d x.front w.2.front r w.1 y.element z f).bit in absurd (cc)
+          h w.0 (subst (k.whole m w.0) (sym (y.meaning ∙ i)) q) a
+      | in_pieces g d vs z p j a ↦ let i = (primitive_exact m m t t Constructed y.contents d x.front w.2.front r w.1 y.element z f).bit in absurd (cc)
     ]
 
 -- a primitive element isn't too deep
@@ -96,7 +98,7 @@ whole_not_deep k (suc n) m t s c r x d =
 
 -- the contents of a primitive element were refused
 pub whole_refused : {A : Type 0} (k : Cutting A) (n : ℕ) (m : BERMode) (t : Tag) (s c r : List ℕ) (e : Refusal) → Takes (IsPrimitive AreContents n m t) s c r →
-    ((e.kind ≡ OutOfMemory) × (c ≡ [] → ⊥)) ⊎ (IsPlain e.kind × ((v : A) → k.whole m v c → ⊥)) → e.moved ≡ true → RefusesString k n m t s e
+    ((e.kind ≡ OutOfMemory) × (c ≡ [] → ⊥)) ⊎ (IsPlain e.kind × ((v : A) → k.whole m v c → StaysWhole m k.full (length (k.bytes v)) → ⊥)) → e.moved ≡ true → RefusesString k n m t s e
 whole_refused k n m t s c r e x (inl h) o = record {
   none = λ q. absurd (q h.0);
   moved = (λ f. absurd (cc), λ f. absurd (begins_not_elsewhere (takes_begins m n t s c r x) f));
@@ -120,12 +122,13 @@ module _ {A : Type 0} (k : Cutting A) (n j : ℕ) (more : 1 ≤ n) (less : j ≡
     taken : TakesPieces m
     place : List ℕ
     ends : EndsBefore end place r
-    end_at : EndAt k j m c place
+    end_at : EndAt k j (piece_mode m) c place
+    cut : CutsInto m k.full (map k.bytes end_at.values)
 
   in_segments : (v : A) (r : List ℕ) → Takes (IsCut k n m t) s v r → InPieces v r
   in_segments v r w = elim (cut_into k j m t v w.front (subst (λ z. IsCut k z m t v w.front) (sym level) w.member)) [
-    | whole d z q ↦ let i = (header_of m t t Constructed Primitive s c d w.front r end o z w.joined).bit in absurd (cc)
-    | in_pieces h d vs z p q ↦
+    | whole d z q a ↦ let i = (header_of m t t Constructed Primitive s c d w.front r end o z w.joined).bit in absurd (cc)
+    | in_pieces h d vs z p q a ↦
         let b = header_of m t t Constructed Constructed s c d w.front r end o z w.joined in
         record {
           taken = h;
@@ -138,21 +141,22 @@ module _ {A : Type 0} (k : Cutting A) (n j : ℕ) (more : 1 ≤ n) (less : j ≡
             join = q;
             at_end = end_behind end b.behind r b.ends;
           };
+          cut = a;
         }
   ]
 
-  deep_within : IsDeepCut k n m t s → TakesPieces m × IsDeepWithin k j m c
+  deep_within : IsDeepCut k n m t s → TakesPieces m × IsDeepWithin k j (piece_mode m) c
   deep_within d =
       let y = deep_into k j m t s (subst (λ z. IsDeepCut k z m t s) (sym level) d) in
       let i = (header_once m t t Constructed Constructed s y.contents c y.end end y.opens o).contents in
-      (y.taken, subst (IsDeepWithin k j m) i y.inside)
+      (y.taken, subst (IsDeepWithin k j (piece_mode m)) i y.inside)
 
   -- segments stand in a mode that takes none
   pub uncut_refused : (TakesPieces m → ⊥) → IsPlain e.kind → RefusesString k n m t s e
   uncut_refused h p = stood k n m t s e begun p moved (λ w. h (in_segments w.0 w.1 w.2).taken) (λ d. h (deep_within d).0)
 
   -- segments were refused
-  pub segments_refused : TakesPieces m → RefusesSegments k j m c e → RefusesString k n m t s e
+  pub segments_refused : TakesPieces m → RefusesSegments k j (piece_mode m) c e → RefusesString k n m t s e
   segments_refused h x = record {
     none = λ q w. let y = in_segments w.0 w.1 w.2 in x.none q y.place y.end_at;
     moved = (λ f. absurd (cc), λ f. absurd (begins_not_elsewhere begun f));
@@ -162,18 +166,28 @@ module _ {A : Type 0} (k : Cutting A) (n j : ℕ) (more : 1 ≤ n) (less : j ≡
     memory = λ _. opens_wants n m t Constructed s c end more x.not_empty o;
   }
 
-  -- segments were read, and don't end where contents may
-  pub unclosed_refused : {T : Type 0} {value : List ℕ → T → A} {out out' y : List ℕ} {x : T} → TakesSegments k value j m c out x y out' → IsPlain e.kind →
-      (EndsAt end y → ⊥) → RefusesString k n m t s e
-  unclosed_refused h p f = stood k n m t s e begun p moved
-      (λ w. let z = in_segments w.0 w.1 w.2 in f (subst (EndsAt end) (h.only z.place z.end_at) (ends_at end z.place w.1 z.ends)))
-      (λ d. h.not_deep (deep_within d).1)
+  module _ {T : Type 0} {value : List ℕ → T → A} {out out' y : List ℕ} {x : T} {u : Cuts} (h : TakesSegments k value j (piece_mode m) c out x u y out')
+      (p : IsPlain e.kind) where
+    -- segments were read that the mode doesn't take as they are cut
+    pub cuts_refused : (AsksFor m u → ⊥) → RefusesString k n m t s e
+    cuts_refused f = stood k n m t s e begun p moved
+        (λ w.
+        let z = in_segments w.0 w.1 w.2 in
+        let same = (h.only z.place z.end_at).1 in
+        f ((asked_cut k m h.values u h.cuts).1 (subst (λ vs. CutsInto m k.full (map k.bytes vs)) same z.cut)))
+        (λ d. h.not_deep (deep_within d).1)
 
--- segments were read, and end where contents may
+    -- segments were read, and don't end where contents may
+    pub unclosed_refused : (EndsAt end y → ⊥) → RefusesString k n m t s e
+    unclosed_refused f = stood k n m t s e begun p moved
+        (λ w. let z = in_segments w.0 w.1 w.2 in f (subst (EndsAt end) (h.only z.place z.end_at).0 (ends_at end z.place w.1 z.ends)))
+        (λ d. h.not_deep (deep_within d).1)
+
+-- segments were read, are cut as the mode asks, and end where contents may
 pub closed_taken : {A T : Type 0} (k : Cutting A) (value : List ℕ → T → A) (n j : ℕ) → 1 ≤ n → j ≡ n - 1 → (m : BERMode) (t : Tag) (s c : List ℕ)
-    (end : ContentsEnd) → OpensAt m t Constructed s c end → TakesPieces m → (x : T) (y r out out' : List ℕ) → TakesSegments k value j m c out x y out' →
-    EndsBefore end y r → TakesString k value n m t s out x r out'
-closed_taken k value n j l f m t s c end o h x y r out out' z e =
+    (end : ContentsEnd) → OpensAt m t Constructed s c end → TakesPieces m → (x : T) (u : Cuts) (y r out out' : List ℕ) →
+    TakesSegments k value j (piece_mode m) c out x u y out' → AsksFor m u → EndsBefore end y r → TakesString k value n m t s out x r out'
+closed_taken k value n j l f m t s c end o h x u y r out out' z a e =
     let b = closed m t Constructed s c end o z.lead.front y r z.lead.joined e in
     record {
       bytes = z.bytes;
@@ -182,7 +196,8 @@ closed_taken k value n j l f m t s c end o h x y r out out' z e =
         joined = b.joined;
         member = let i : suc j ≡ n = omega arith in
             subst (λ q. IsCut k q m t (value z.bytes x) b.bytes) i
-            (cut_of k j m t (value z.bytes x) b.bytes (in_pieces h z.lead.front z.values b.element z.lead.pieces z.join));
+            (cut_of k j m t (value z.bytes x) b.bytes
+            (in_pieces h z.lead.front z.values b.element z.lead.pieces z.join ((asked_cut k m z.values u z.cuts).0 a)));
       };
       added = z.added;
     }

@@ -1,7 +1,6 @@
 -- Headers at the front of bytes: what stands there as an identifier and a length were read or not.
 use Rattle.std.proofs.Common.{◌≡◌, ℕ, ◌^◌, ◌<◌, ◌≤◌, List, ◌∷◌, ◌++◌, length, length-append, append_assoc, Option, Some, None, true, refl, sym, ap, subst, ◌∙◌, arith}
 use Rattle.yasna_base.specs.declared.mode.BERMode.{BERMode}
-use Rattle.yasna_base.specs.declared.mode.BERMode.TheVariants.{Ber, Der}
 use Rattle.yasna_base.specs.declared.tag.Tag.{Tag}
 use Rattle.yasna_base.specs.declared.tag.PCBit.{PCBit}
 use Rattle.yasna_base.specs.declared.tag.PCBit.TheVariants.{Primitive, Constructed}
@@ -25,11 +24,6 @@ use Rattle.yasna_bytes.proofs.Refusal.{stood_refuses, refuses_less}
 -- a header that a refusal speaks of begins with its identifier
 pub header_begins : {P : PCBit → Type 0} {m : BERMode} {n : ℕ} {t : Tag} {s : List ℕ} → HasHeader P m n t s → BeginsWithTag t s
 header_begins x = begins x.bit x.behind x.joined
-
--- every mode takes a length before the contents
-pub takes_definite : (m : BERMode) (p : PCBit) → TakesDefinite m p
-takes_definite Ber p = tt
-takes_definite Der p = tt
 
 -- the identifier stands there within the levels, and no contents behind it
 pub wanted_refuses : (P : PCBit → Type 0) (m : BERMode) (n : ℕ) (t : Tag) (s : List ℕ) (e : Refusal) (p : PCBit) (y : List ℕ) → s ≡ identifier t p ++ y →
@@ -70,6 +64,12 @@ holds_short m p y z k w l c uncounted h = length_not_indefinite m k w.0 z c w.1 
 pub holds_closed : (m : BERMode) (p : PCBit) (y z : List ℕ) → y ≡ 128 ∷ z → (TakesIndefinite m p → ⊥) → (c : List ℕ) (f : ContentsEnd) → Holds m p y c f → ⊥
 holds_closed m p y z e f c (counted r) h = length_not_indefinite m (length c) h.0 (c ++ r) z h.2 (sym h.3 ∙ e)
 holds_closed m p y z e f c uncounted h = f h.0
+
+-- nor where the contents are counted and may not be
+pub holds_uncounted : (m : BERMode) (p : PCBit) (y z : List ℕ) (k : ℕ) → Measures m y (Some k) z → (TakesDefinite m p → ⊥) → (c : List ℕ) (f : ContentsEnd) →
+    Holds m p y c f → ⊥
+holds_uncounted m p y z k w t c (counted r) h = t h.1
+holds_uncounted m p y z k w t c uncounted h = length_not_indefinite m k w.0 z c w.1 (sym w.2 ∙ h.1)
 
 -- contents stand where as many bytes follow a length
 pub holds_counted : (m : BERMode) (p : PCBit) (y z c r : List ℕ) (k : ℕ) → Measures m y (Some k) z → z ≡ c ++ r → length c ≡ k → TakesDefinite m p →

@@ -4,7 +4,8 @@ use Rattle.std.proofs.Math.Seq.{drop-append_seam}
 use Rattle.std.specs.Int.Digits.{number_from_digits, number_from_digits_after}
 use Rattle.std.proofs.lemmas.Int.Digits.{number_after_append, number_after_ge}
 use Rattle.yasna_base.specs.declared.mode.BERMode.{BERMode}
-use Rattle.yasna_base.specs.declared.mode.BERMode.TheVariants.{Ber, Der}
+use Rattle.yasna_base.specs.declared.mode.BERMode.TheVariants.{Ber, Der, Cer}
+use Rattle.yasna_base.specs.Canonical.{IsCanonicalMode}
 use Rattle.yasna_base.specs.Digits.{IsBytes}
 use Rattle.yasna_base.specs.Length.{SpellsLength}
 use Rattle.yasna_base.proofs.Lists.{fronts_same}
@@ -21,13 +22,15 @@ nothing_measured m s e (Some k) r w = not_empty m k w.0 r w.1 (sym e ∙ w.2)
 pub short_measured : (m : BERMode) (x : ℕ) (s y : List ℕ) → s ≡ x ∷ y → x < 128 → (l : List ℕ) × SpellsLength m x l × (s ≡ l ++ y)
 short_measured m x s y e h = (x ∷ [], short_spells m x h, e)
 
-takes_spelling : (m : BERMode) (ds : List ℕ) (k : ℕ) → (m ≡ Der → (128 ≤ k) × (0 < get_or ds 0 0)) → TakesSpelling m ds k
+takes_spelling : (m : BERMode) (ds : List ℕ) (k : ℕ) → (IsCanonicalMode m → (128 ≤ k) × (0 < get_or ds 0 0)) → TakesSpelling m ds k
 takes_spelling Ber ds k f = tt
-takes_spelling Der ds k f = f refl
+takes_spelling Der ds k f = f tt
+takes_spelling Cer ds k f = f tt
 
-spelling_takes : (m : BERMode) (ds : List ℕ) (k : ℕ) → TakesSpelling m ds k → m ≡ Der → (128 ≤ k) × (0 < get_or ds 0 0)
-spelling_takes Ber ds k h e = absurd (cc)
+spelling_takes : (m : BERMode) (ds : List ℕ) (k : ℕ) → TakesSpelling m ds k → IsCanonicalMode m → (128 ≤ k) × (0 < get_or ds 0 0)
+spelling_takes Ber ds k h e = absurd e
 spelling_takes Der ds k h e = h
+spelling_takes Cer ds k h e = h
 
 -- behind a first byte above 128 no length stands unless as many digits spell it
 pub not_counted : (m : BERMode) (x : ℕ) (s y : List ℕ) → s ≡ x ∷ y → 128 < x →

@@ -7,6 +7,7 @@ pub mod Walking
 pub mod Table
 pub mod RawElement
 pub mod Contents
+pub mod Cuts
 pub mod Segments
 pub mod Ending
 pub mod Cut

@@ -1,5 +1,5 @@
 -- Segments of a string: where their reading stopped, and that no others go elsewhere.
-use Rattle.std.proofs.Common.{◌≡◌, ℕ, ◌<◌, List, [], ◌∷◌, ◌++◌, length, true, refl, sym, ap, subst, ◌∙◌, append_assoc, append-nil, length-append, arith}
+use Rattle.std.proofs.Common.{◌≡◌, ℕ, ◌-◌, ◌<◌, List, [], ◌∷◌, ◌++◌, length, true, false, refl, sym, ap, subst, ◌∙◌, append_assoc, append-nil, length-append, arith}
 use Rattle.std.specs.List.{concat}
 use Rattle.std.specs.Prelude.{Ok, Err}
 use Rattle.yasna_base.specs.declared.error.ASN1ErrorKind.{ASN1ErrorKind}
@@ -13,7 +13,9 @@ use Rattle.yasna_base.proofs.Identifier.{begins_some, begins_with}
 use Rattle.yasna_base.proofs.Pieces.{NoFront, no_front_at_end, pieces_further, pieces_append, one_piece}
 use Rattle.yasna_bytes.specs.declared.bytes.header.Refusal.{Refusal}
 use Rattle.yasna_bytes.specs.Refusal.{IsPlain, IsElsewhere, nothing}
-use Rattle.yasna_bytes.specs.Segments.{GoOn, Adds, LeadTo, EndAt, IsDeepWithin, TakesSegments, RefusesSegments, TakesString, RefusesString}
+use Rattle.yasna_bytes.specs.declared.bytes.segments.cuts.Cuts.{Cuts}
+use Rattle.yasna_bytes.specs.Segments.{GoOn, HoldsBytes, Adds, further_cut, AreCut, LeadTo, EndAt, IsDeepWithin, TakesSegments, RefusesSegments, TakesString, RefusesString}
+use Rattle.yasna_bytes.proofs.Cuts.{none_cut, further_is_cut}
 use Rattle.yasna_bytes.proofs.Refusal.{plain_not_deep, at_end_elsewhere, begins_not_elsewhere}
 
 -- pieces that say ws and then y go on where those that say vs stopped, or stop there
@@ -49,20 +51,21 @@ module _ {A : Type 0} {k : Cutting A} (once : CutsOnce k) (n : ℕ) (m : BERMode
   here v b r y p e = begins_not_elsewhere (subst (λ z. BeginsWithTag k.piece z) (sym e) (begins_with k.piece b r (cut_begins k n m k.piece v b p)))
 
   -- where segments that go on behind vs make no value, contents end nowhere but there
-  pub record OneEnd (vs : List A) (y z : List ℕ) : Type 0 where
+  pub record OneEnd (vs ws : List A) (y z : List ℕ) : Type 0 where
     pub same : z ≡ y
+    pub values : ws ≡ vs
     pub value : A
     pub join : k.join m vs value
     pub at_end : AtEnd y
 
   one_end : (vs : List A) (y : List ℕ) → LeadTo (IsCut k n m k.piece) c vs y →
       ((w : A) (us : List A) (v : A) (b r : List ℕ) → IsCut k n m k.piece w b → y ≡ b ++ r → k.join m (vs ++ (w ∷ us)) v → ⊥) →
-      (z : List ℕ) → EndAt k n m c z → OneEnd vs y z
+      (z : List ℕ) (e : EndAt k n m c z) → OneEnd vs e.values y z
   one_end vs y f none z e =
       elim (leads_on (cut_exact once n n m k.piece) c vs e.values y z f e.lead
       (no_front_at_end (λ v b. cut_starts k n m k.piece v b once.piece) z e.at_end)) [
         | stops g h ↦
-            record { same = sym h; value = e.value; join = subst (λ us. k.join m us e.value) (sym g) e.join; at_end = subst (λ x. AtEnd x) (sym h) e.at_end }
+            record { same = sym h; values = sym g; value = e.value; join = subst (λ us. k.join m us e.value) (sym g) e.join; at_end = subst (λ x. AtEnd x) (sym h) e.at_end }
         | goes w us b r g p h ↦ absurd (none w us e.value b r p h (subst (λ ws. k.join m ws e.value) g e.join))
       ]
 
@@ -77,34 +80,44 @@ module _ {A : Type 0} {k : Cutting A} (once : CutsOnce k) (n : ℕ) (m : BERMode
         | goes w us b r h p i ↦ absurd (none w us b r p i (subst k.more h d.more))
       ]
 
--- segments were read as far as y, their bytes appended to out, and x is known of them besides
-pub record Reached {A T : Type 0} (k : Cutting A) (value : List ℕ → T → A) (n : ℕ) (m : BERMode) (c : List ℕ) (x : T) (y out out' : List ℕ) : Type 0 where
+-- segments were read as far as y, their bytes appended to out, x is known of them besides, and u says how they are cut
+pub record Reached {A T : Type 0} (k : Cutting A) (value : List ℕ → T → A) (n : ℕ) (m : BERMode) (c : List ℕ) (x : T) (u : Cuts)
+    (y out out' : List ℕ) : Type 0 where
   pub values : List A
   pub bytes : List ℕ
   pub lead : LeadTo (IsCut k n m k.piece) c values y
   pub join : k.join m values (value bytes x)
   pub added : out' ≡ out ++ bytes
+  pub cuts : AreCut k values u
 
 module _ {A T : Type 0} {k : Cutting A} {value : List ℕ → T → A} (once : CutsOnce k) (go_on : GoOn k) (n : ℕ) (m : BERMode) (c : List ℕ) where
   -- reading begins with no segments
-  pub reached_none : (x : T) (out : List ℕ) → k.join m [] (value [] x) → Reached k value n m c x c out out
-  reached_none x out j = record {
+  pub reached_none : (x : T) (u : Cuts) (out : List ℕ) → u ≡ record { some = false; full = true; even = false } → k.join m [] (value [] x) →
+      Reached k value n m c x u c out out
+  reached_none x u out e j = record {
     values = [];
     bytes = [];
     lead = record { front = []; pieces = record { pieces = []; each = tt; joined = refl }; joined = refl };
     join = j;
     added = sym (append-nil out);
+    cuts = subst (AreCut k []) (sym e) (none_cut k);
   }
 
   -- and goes on by a further one
-  pub reached_more : (x z s : T) (y r out out' out'' : List ℕ) → (h : Reached k value n m c x y out out') → k.more h.values →
-      TakesString k value n m k.piece y out' s r out'' → Adds k value x s (Ok z) → Reached k value n m c z r out out''
-  reached_more x z s y r out out' out'' h more t a = record {
+  pub reached_more : HoldsBytes k value → (x z s : T) (u w : Cuts) (y r out out' out'' : List ℕ) → (h : Reached k value n m c x u y out out') →
+      k.more h.values → TakesString k value n m k.piece y out' s r out'' → Adds k value x s (Ok z) → w ≡ further_cut u k.full (length out'' - length out') →
+      Reached k value n m c z w r out out''
+  reached_more holds x z s u w y r out out' out'' h more t a e = record {
     values = h.values ++ (value t.bytes s ∷ []);
     bytes = h.bytes ++ t.bytes;
     lead = lead_more (IsCut k n m k.piece) c h.values y (value t.bytes s) t.takes.front r h.lead t.takes.member t.takes.joined;
     join = a m h.values h.bytes t.bytes h.join more;
     added = t.added ∙ ap (λ q. q ++ t.bytes) h.added ∙ append_assoc out h.bytes t.bytes;
+    cuts =
+        let size : length out'' - length out' ≡ length (k.bytes (value t.bytes s)) =
+        omega (arith, ap length t.added, length-append out' t.bytes, ap length (holds t.bytes s)) in
+        subst (AreCut k (h.values ++ (value t.bytes s ∷ []))) (sym e)
+        (further_is_cut k h.values u (value t.bytes s) (length out'' - length out') size h.cuts);
   }
 
   -- fewer bytes are left behind it
@@ -114,34 +127,38 @@ module _ {A T : Type 0} {k : Cutting A} {value : List ℕ → T → A} (once : C
       omega (arith, ap length t.takes.joined, length-append t.takes.front r)
 
   -- reading stops where no segment stands
-  pub stops_elsewhere : (x : T) (y out out' : List ℕ) → Reached k value n m c x y out out' → IsElsewhere k.piece y → TakesSegments k value n m c out x y out'
-  stops_elsewhere x y out out' h f = record {
+  pub stops_elsewhere : (x : T) (u : Cuts) (y out out' : List ℕ) → Reached k value n m c x u y out out' → IsElsewhere k.piece y →
+      TakesSegments k value n m c out x u y out'
+  stops_elsewhere x u y out out' h f = record {
     values = h.values;
     bytes = h.bytes;
     lead = h.lead;
     join = h.join;
     added = h.added;
-    only = λ z e. (one_end once n m c h.values y h.lead (λ w us v b r p g _. here once n m c w b r y p g f) z e).same;
+    cuts = h.cuts;
+    only = λ z e. let i = one_end once n m c h.values y h.lead (λ w us v b r p g _. here once n m c w b r y p g f) z e in (i.same, i.values);
     not_deep = λ d. begins_not_elsewhere
         (deep_begins k n m k.piece y (one_deep once n m c h.values y h.lead (λ w us b r p g _. here once n m c w b r y p g f) d).1) f;
   }
 
   -- or where none may follow
-  pub stops_full : (x : T) (y out out' : List ℕ) → (h : Reached k value n m c x y out out') → (k.more h.values → ⊥) → TakesSegments k value n m c out x y out'
-  stops_full x y out out' h f = record {
+  pub stops_full : (x : T) (u : Cuts) (y out out' : List ℕ) → (h : Reached k value n m c x u y out out') → (k.more h.values → ⊥) →
+      TakesSegments k value n m c out x u y out'
+  stops_full x u y out out' h f = record {
     values = h.values;
     bytes = h.bytes;
     lead = h.lead;
     join = h.join;
     added = h.added;
-    only = λ z e. (one_end once n m c h.values y h.lead (λ w us v b r p g j. f (go_on.joined m h.values us w v j)) z e).same;
+    cuts = h.cuts;
+    only = λ z e. let i = one_end once n m c h.values y h.lead (λ w us v b r p g j. f (go_on.joined m h.values us w v j)) z e in (i.same, i.values);
     not_deep = λ d. f (one_deep once n m c h.values y h.lead (λ w us b r p g j. f (go_on.more h.values us w j)) d).0;
   }
 
   -- a segment is refused
-  pub segment_refused : (x : T) (y out out' : List ℕ) (e : Refusal) → (h : Reached k value n m c x y out out') → k.more h.values →
+  pub segment_refused : (x : T) (u : Cuts) (y out out' : List ℕ) (e : Refusal) → (h : Reached k value n m c x u y out out') → k.more h.values →
       RefusesString k n m k.piece y e → e.moved ≡ true → RefusesSegments k n m c e
-  segment_refused x y out out' e h more f o =
+  segment_refused x u y out out' e h more f o =
       let there : IsElsewhere k.piece y → ⊥ = λ g. let i = f.moved.1 g in absurd (cc) in
       let none : (e.kind ≡ OutOfMemory → ⊥) → NoFront (IsCut k n m k.piece) y = λ q w b r p g. f.none q (w, r, record { front = b; joined = g; member = p }) in
       record {
@@ -165,9 +182,9 @@ module _ {A T : Type 0} {k : Cutting A} {value : List ℕ → T → A} (once : C
       no_rest (x ∷ a) b e = absurd (cc)
 
   -- a segment was read of which too much is known with the others
-  pub segment_too_much : (x s : T) (y r out out' out'' : List ℕ) (q : ASN1ErrorKind) (e : Refusal) → Reached k value n m c x y out out' →
+  pub segment_too_much : (x s : T) (u : Cuts) (y r out out' out'' : List ℕ) (q : ASN1ErrorKind) (e : Refusal) → Reached k value n m c x u y out out' →
       TakesString k value n m k.piece y out' s r out'' → Adds k value x s (Err q) → e.kind ≡ q → e.moved ≡ true → RefusesSegments k n m c e
-  segment_too_much x s y r out out' out'' q e h t a f o =
+  segment_too_much x s u y r out out' out'' q e h t a f o =
       let w = value t.bytes s in
       let vs = h.values ++ (w ∷ []) in
       let lead = lead_more (IsCut k n m k.piece) c h.values y w t.takes.front r h.lead t.takes.member t.takes.joined in

@@ -4,7 +4,7 @@ use Rattle.std.proofs.Math.Seq.{take-append_seam, drop-append_seam}
 use Rattle.std.specs.Borrow.{Bor}
 use Rattle.std.proofs.lemmas.List.{get_or-set_same, get_or-set_other}
 use Rattle.yasna_base.specs.declared.mode.BERMode.{BERMode}
-use Rattle.yasna_base.specs.declared.mode.BERMode.TheVariants.{Ber, Der}
+use Rattle.yasna_base.specs.declared.mode.BERMode.TheVariants.{Ber, Der, Cer}
 use Rattle.yasna_base.specs.declared.error.ASN1ErrorKind.{ASN1ErrorKind}
 use Rattle.yasna_base.specs.declared.error.ASN1ErrorKind.TheVariants.{StackOverflow}
 use Rattle.yasna_base.specs.Header.{ContentsEnd, counted, uncounted, OpensAt}
@@ -174,6 +174,7 @@ alike_at uncounted uncounted s x y = y
 looks_not_taken : (m : BERMode) (p q : PCBit) → LooksInto m p → TakesIndefinite m q → ⊥
 looks_not_taken Ber p q x y = x
 looks_not_taken Der p q x y = y
+looks_not_taken Cer p q x y = absurd x
 
 one_way : (m : BERMode) (p q : PCBit) (e f : ContentsEnd) → TakesEnd m p e → LooksUpTo m p e → TakesEnd m q f → LooksUpTo m q f → AreAlike e f
 one_way m p q (counted a) (counted b) t x u y = tt

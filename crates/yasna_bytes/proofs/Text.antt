@@ -11,7 +11,7 @@ use Rattle.yasna_base.specs.declared.error.ASN1ErrorKind.TheVariants.{OutOfMemor
 use Rattle.yasna_base.specs.declared.mode.BERMode.{BERMode}
 use Rattle.yasna_base.specs.declared.tag.PCBit.TheVariants.{Primitive, Constructed}
 use Rattle.yasna_base.specs.declared.tag.Tag.{Tag}
-use Rattle.yasna_base.specs.Cut.{whole, in_pieces}
+use Rattle.yasna_base.specs.Cut.{piece_mode, whole, in_pieces}
 use Rattle.yasna_base.specs.Identifier.{BeginsWithTag}
 use Rattle.yasna_base.specs.Octets.{octets_cutting, octets_tag, IsOctets, IsDeepOctets}
 use Rattle.yasna_base.specs.Pieces.{Each}
@@ -43,9 +43,9 @@ no_pieces n m (v ∷ vs) (b ∷ bs) p e =
 octets_want : (n : ℕ) (m : BERMode) (t : Tag) (s v r : List ℕ) → Takes (IsOctets n m t) s v r → (v ≡ [] → ⊥) → WantsMemory n t s
 octets_want zero m t s v r x h = absurd (cut_zero octets_cutting m t v x.front x.member)
 octets_want (suc n) m t s v r x h = elim (cut_into octets_cutting n m t v x.front x.member) [
-  | whole c y w ↦ element_wants (suc n) m t Primitive s c x.front r (omega arith) (λ e. h (w ∙ e)) y x.joined
-  | in_pieces g c vs y p j ↦
-      element_wants (suc n) m t Constructed s c x.front r (omega arith) (λ e. h (j ∙ no_pieces n m vs p.pieces p.each (sym p.joined ∙ e))) y x.joined
+  | whole c y w a ↦ element_wants (suc n) m t Primitive s c x.front r (omega arith) (λ e. h (w ∙ e)) y x.joined
+  | in_pieces g c vs y p j a ↦
+      element_wants (suc n) m t Constructed s c x.front r (omega arith) (λ e. h (j ∙ no_pieces n (piece_mode m) vs p.pieces p.each (sym p.joined ∙ e))) y x.joined
 ]
 
 octets_begin : (n : ℕ) (m : BERMode) (t : Tag) (s v r : List ℕ) → Takes (IsOctets n m t) s v r → BeginsWithTag t s

@@ -5,7 +5,7 @@ use Rattle.std.specs.Prelude.{Err, List, None, Ok, Option, Result, Some, get_or,
 use Rattle.yasna_base.specs.Length.{SpellsLength}
 use Rattle.yasna_base.specs.declared.error.ASN1ErrorKind.{ASN1ErrorKind}
 use Rattle.yasna_base.specs.declared.mode.BERMode.{BERMode}
-use Rattle.yasna_base.specs.declared.mode.BERMode.TheVariants.{Ber, Der}
+use Rattle.yasna_base.specs.declared.mode.BERMode.TheVariants.{Ber, Der, Cer}
 use Rattle.yasna_bytes.specs.Refusal.{IsPlain}
 
 -- a length and what follows it, or what follows the byte of the indefinite form
@@ -17,6 +17,7 @@ Measures m s None r = s ≡ 128 ∷ r
 abbrev pub TakesSpelling : BERMode → List ℕ → ℕ → Type 0
 TakesSpelling Ber ds k = Unit {0}
 TakesSpelling Der ds k = (128 ≤ k) × (0 < get_or ds 0 0)
+TakesSpelling Cer ds k = (128 ≤ k) × (0 < get_or ds 0 0)
 
 -- digits behind a count spell the length k as the mode takes it
 pub record Spells (m : BERMode) (digits : List ℕ) (k : ℕ) : Type 0 where

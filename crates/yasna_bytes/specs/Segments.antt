@@ -1,20 +1,23 @@
--- What reading a string of bytes does, whole or in segments (X.690, 8.6, 8.7 and 8.23).
+-- What reading a string of bytes does, whole or in segments (X.690, 8.6, 8.7, 8.23 and 9.2).
 use Rattle.std.specs.Borrow.{Bor}
 use Rattle.std.specs.Global.{Global}
-use Rattle.std.specs.Prelude.{◌≡◌, ◌⊎◌, ◌↔◌, ℕ, ◌≤◌, List, [], ◌∷◌, ◌++◌, length, false, true, Result, Ok, Err, Vec}
+use Rattle.std.specs.List.{AllByRecursion}
+use Rattle.std.specs.Prelude.{◌≡◌, ◌⊎◌, ◌↔◌, ℕ, ◌≤◌, List, [], ◌∷◌, ◌++◌, length, map, false, true, ◌&&◌, nat_eq, nat_le, IsTrue, Result, Ok, Err, Vec}
 use Rattle.yasna_base.specs.Bits.{BitString, IsBits, IsDeepBits}
-use Rattle.yasna_base.specs.Cut.{Cutting, IsCut, IsDeepCut, PiecesBefore}
+use Rattle.yasna_base.specs.Cut.{Cutting, StaysWhole, CutsInto, IsCut, IsDeepCut, PiecesBefore}
 use Rattle.yasna_base.specs.Identifier.{AtEnd}
 use Rattle.yasna_base.specs.Octets.{IsOctets, IsDeepOctets}
 use Rattle.yasna_base.specs.Pieces.{Pieces}
 use Rattle.yasna_base.specs.declared.error.ASN1ErrorKind.{ASN1ErrorKind}
 use Rattle.yasna_base.specs.declared.error.ASN1ErrorKind.TheVariants.{OutOfMemory, StackOverflow}
 use Rattle.yasna_base.specs.declared.mode.BERMode.{BERMode}
+use Rattle.yasna_base.specs.declared.mode.BERMode.TheVariants.{Ber, Der, Cer}
 use Rattle.yasna_base.specs.declared.tag.Tag.{Tag}
 use Rattle.yasna_bytes.specs.Contents.{WantsMemory}
 use Rattle.yasna_bytes.specs.Front.{Takes, Stands, SeenAt}
 use Rattle.yasna_bytes.specs.Refusal.{IsPlain, Refuses}
 use Rattle.yasna_bytes.specs.declared.bytes.header.Refusal.{Refusal}
+use Rattle.yasna_bytes.specs.declared.bytes.segments.cuts.Cuts.{Cuts}
 
 -- where pieces of such strings go on, they may
 pub record GoOn {A : Type 0} (k : Cutting A) : Type 0 where
@@ -26,6 +29,10 @@ pub record GoOn {A : Type 0} (k : Cutting A) : Type 0 where
 abbrev pub Says : {A T : Type 0} → Cutting A → (List ℕ → T → A) → BERMode → List ℕ → Result (T × Bor (List ℕ)) ASN1ErrorKind → Type 0
 Says {A} k value m c (Ok x) = k.whole m (value x.1.now x.0) c × (length x.1.now ≤ length c)
 Says {A} k value m c (Err e) = IsPlain e × ((v : A) → k.whole m v c → ⊥)
+
+-- the bytes of a value are those that it was made of
+abbrev pub HoldsBytes : {A T : Type 0} → Cutting A → (List ℕ → T → A) → Type 0
+HoldsBytes {A} {T} k value = (b : List ℕ) (x : T) → k.bytes (value b x) ≡ b
 
 -- x is known of no segments
 abbrev pub IsOfNone : {A T : Type 0} → Cutting A → (List ℕ → T → A) → T → Type 0
@@ -47,8 +54,10 @@ TellsWhetherMore {A} k value x answer =
 
 -- the contents of a primitive element, whose bytes were appended to out, or why not
 abbrev pub WholeAt : {A T : Type 0} → Cutting A → (List ℕ → T → A) → BERMode → List ℕ → List ℕ → Result T ASN1ErrorKind → List ℕ → Type 0
-WholeAt k value m c out (Ok x) out' = (b : List ℕ) × k.whole m (value b x) c × (out' ≡ out ++ b)
-WholeAt {A} k value m c out (Err e) out' = ((e ≡ OutOfMemory) × (c ≡ [] → ⊥)) ⊎ (IsPlain e × ((v : A) → k.whole m v c → ⊥))
+WholeAt k value m c out (Ok x) out' =
+    (b : List ℕ) × k.whole m (value b x) c × StaysWhole m k.full (length (k.bytes (value b x))) × (out' ≡ out ++ b)
+WholeAt {A} k value m c out (Err e) out' =
+    ((e ≡ OutOfMemory) × (c ≡ [] → ⊥)) ⊎ (IsPlain e × ((v : A) → k.whole m v c → StaysWhole m k.full (length (k.bytes v)) → ⊥))
 
 -- segments at the front of c say vs, and y is behind them
 pub record LeadTo {A : Type 0} (R : A → List ℕ → Type 0) (c : List ℕ) (vs : List A) (y : List ℕ) : Type 0 where
@@ -68,14 +77,33 @@ pub record EndAt {A : Type 0} (k : Cutting A) (n : ℕ) (m : BERMode) (c y : Lis
 abbrev pub IsDeepWithin : {A : Type 0} → Cutting A → ℕ → BERMode → List ℕ → Type 0
 IsDeepWithin k n m c = PiecesBefore (IsCut k n m k.piece) k.more (IsDeepCut k n m k.piece) c
 
--- segments were read as far as y, their bytes appended to out, and x is known of them besides: no others make up c
-pub record TakesSegments {A T : Type 0} (k : Cutting A) (value : List ℕ → T → A) (n : ℕ) (m : BERMode) (c out : List ℕ) (x : T) (y out' : List ℕ) : Type 0 where
+-- how segments are cut that were cut as c says, and one of n bytes more, if k of them fill one
+abbrev pub further_cut : Cuts → ℕ → ℕ → Cuts
+further_cut c k n = record { some = true; full = c.full && nat_eq n k; even = c.some && (c.full && (nat_le 1 n && nat_le n k)) }
+
+-- where a mode takes segments that are cut so
+abbrev pub AsksFor : BERMode → Cuts → Type 0
+AsksFor Ber c = Unit {0}
+AsksFor Der c = Unit {0}
+AsksFor Cer c = IsTrue c.even
+
+-- c says how the segments of these values are cut
+pub record AreCut {A : Type 0} (k : Cutting A) (vs : List A) (c : Cuts) : Type 0 where
+  pub some : IsTrue c.some ↔ (1 ≤ length vs)
+  pub full : IsTrue c.full ↔ AllByRecursion (λ b. length b ≡ k.full) (map k.bytes vs)
+  pub even : IsTrue c.even ↔ CutsInto Cer k.full (map k.bytes vs)
+
+-- segments were read as far as y, their bytes appended to out, x is known of them besides, and u says how they are cut: no others
+-- make up c
+pub record TakesSegments {A T : Type 0} (k : Cutting A) (value : List ℕ → T → A) (n : ℕ) (m : BERMode) (c out : List ℕ) (x : T) (u : Cuts)
+    (y out' : List ℕ) : Type 0 where
   pub values : List A
   pub bytes : List ℕ
   pub lead : LeadTo (IsCut k n m k.piece) c values y
   pub join : k.join m values (value bytes x)
   pub added : out' ≡ out ++ bytes
-  pub only : (z : List ℕ) → EndAt k n m c z → z ≡ y
+  pub cuts : AreCut k values u
+  pub only : (z : List ℕ) (e : EndAt k n m c z) → (z ≡ y) × (e.values ≡ values)
   pub not_deep : IsDeepWithin k n m c → ⊥
 
 -- no segments make up c
@@ -86,9 +114,9 @@ pub record RefusesSegments {A : Type 0} (k : Cutting A) (n : ℕ) (m : BERMode) 
   pub deep : (e.kind ≡ OutOfMemory → ⊥) → IsDeepWithin k n m c → e.kind ≡ StackOverflow
   pub not_empty : c ≡ [] → ⊥
 
-abbrev pub SegmentsAt : {A T : Type 0} → Cutting A → (List ℕ → T → A) → ℕ → BERMode → List ℕ → List ℕ → Result (T × Bor (List ℕ)) Refusal → List ℕ →
-    Type 0
-SegmentsAt k value n m c out (Ok x) out' = TakesSegments k value n m c out x.0 x.1.now out'
+abbrev pub SegmentsAt : {A T : Type 0} → Cutting A → (List ℕ → T → A) → ℕ → BERMode → List ℕ → List ℕ →
+    Result ((T × Cuts) × Bor (List ℕ)) Refusal → List ℕ → Type 0
+SegmentsAt k value n m c out (Ok x) out' = TakesSegments k value n m c out x.0.0 x.0.1 x.1.now out'
 SegmentsAt k value n m c out (Err e) out' = RefusesSegments k n m c e
 
 -- a string stands at the front of s, its bytes were appended to out, and x is known of it besides

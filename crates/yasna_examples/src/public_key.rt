@@ -6,7 +6,7 @@
 ghost use Rattle.std.specs.Prelude.{◌≡◌, ◌↔◌, true, false, ◌||◌, ◌⊎◌, IfOk, IfErr, IsTrue};
 ghost use Rattle.yasna.specs.base.declared.error.ASN1ErrorKind.TheVariants.{Invalid, OutOfMemory};
 ghost use Rattle.yasna.specs.base.declared.mode.BERMode.TheVariants.{Der};
-ghost use Rattle.yasna.specs.base.Bits.{IsBits, IsDeepBits, bits_form};
+ghost use Rattle.yasna.specs.base.Bits.{IsBits, IsDeepBits, bits_form, bits_nest};
 ghost use Rattle.yasna.specs.base.Canonical.{leaf_nest, enclosed_form, enclosed_nest, Always};
 ghost use Rattle.yasna.specs.base.Coding.{Any};
 ghost use Rattle.yasna.specs.base.Element.{Enclosed, AnyEnclosed};
@@ -132,7 +132,7 @@ impl BERDecodable for SubjectPublicKeyInfo {
 impl DEREncodable for SubjectPublicKeyInfo {
     ghost form = { λ m v. enclosed_form (part_form ⟦<AlgorithmIdentifier as DEREncodable>⟧.form (part_form (λ m v. bits_form (universal 3) m (bits_in v)) nothing_form)) sequence_tag m (v.algorithm, ((v.key, v.bits), tt)) };
 
-    ghost nest = { λ m v. enclosed_nest (part_nest ⟦<AlgorithmIdentifier as DEREncodable>⟧.nest (part_nest (λ m x. leaf_nest m (bits_in x)) nothing_nest)) m (v.algorithm, ((v.key, v.bits), tt)) };
+    ghost nest = { λ m v. enclosed_nest (part_nest ⟦<AlgorithmIdentifier as DEREncodable>⟧.nest (part_nest (λ m x. bits_nest m (bits_in x)) nothing_nest)) m (v.algorithm, ((v.key, v.bits), tt)) };
 
     ghost encodable = { λ v. part_can ⟦<AlgorithmIdentifier as DEREncodable>⟧.encodable (part_can (λ x. HasRoom (bits_in x)) Always) (v.algorithm, ((v.key, v.bits), tt {0})) };
 

@@ -6,7 +6,7 @@ ghost use Rattle.yasna.specs.base.Digits.{IsBytes};
 ghost use Rattle.yasna.specs.base.Element.{Enclosed, AnyEnclosed};
 ghost use Rattle.yasna.specs.base.Identifier.{universal};
 ghost use Rattle.yasna.specs.base.Integer.{EncodesUnsigned, integer_form};
-ghost use Rattle.yasna.specs.base.Octets.{EncodesOctets, EncodesVec, octets_tag, octets_form};
+ghost use Rattle.yasna.specs.base.Octets.{EncodesOctets, EncodesVec, octets_tag, octets_form, octets_nest};
 ghost use Rattle.yasna.specs.base.Optional.{OptionOf, AnyOption, SameOption, option_form, option_nest, option_can};
 ghost use Rattle.yasna.specs.base.Sequence.{sequence_tag, PartOf, NoParts, AnyPart, AnyNothing, SamePart, SameNothing, part_form, part_nest, part_can, nothing_form, nothing_nest};
 ghost use Rattle.yasna.specs.reader.Decodes.{Decodes, Step, Done};
@@ -67,7 +67,7 @@ impl BERDecodable for ScryptParameters {
 impl DEREncodable for ScryptParameters {
     ghost form = { λ m v. enclosed_form (part_form (λ m s. octets_form octets_tag m s.items) (part_form (λ m n. integer_form (universal 2) m (pos n)) (part_form (λ m n. integer_form (universal 2) m (pos n)) (part_form (λ m n. integer_form (universal 2) m (pos n)) (part_form (option_form (λ m n. integer_form (universal 2) m (pos n))) nothing_form))))) sequence_tag m (v.salt, (v.cost, (v.block_size, (v.parallelization, (v.key_length, tt))))) };
 
-    ghost nest = { λ m v. enclosed_nest (part_nest leaf_nest (part_nest leaf_nest (part_nest leaf_nest (part_nest leaf_nest (part_nest (option_nest leaf_nest) nothing_nest))))) m (v.salt, (v.cost, (v.block_size, (v.parallelization, (v.key_length, tt))))) };
+    ghost nest = { λ m v. enclosed_nest (part_nest (λ m s. octets_nest m s.items) (part_nest leaf_nest (part_nest leaf_nest (part_nest leaf_nest (part_nest (option_nest leaf_nest) nothing_nest))))) m (v.salt, (v.cost, (v.block_size, (v.parallelization, (v.key_length, tt))))) };
 
     ghost encodable = { λ v. part_can (λ s. IsBytes s.items) (part_can (λ n. n < 2 ^ 64) (part_can (λ n. n < 2 ^ 64) (part_can (λ n. n < 2 ^ 64) (part_can (option_can (λ n. n < 2 ^ 64)) Always)))) (v.salt, (v.cost, (v.block_size, (v.parallelization, (v.key_length, tt {0}))))) };
 

@@ -5,8 +5,8 @@ ghost use Rattle.yasna.specs.base.Identifier.{universal};
 ghost use Rattle.yasna.specs.base.declared.mode.BERMode.TheVariants.{Ber, Der};
 ghost use Rattle.yasna.specs.base.Coding.{Any};
 ghost use Rattle.yasna.specs.base.Digits.{IsBytes};
-ghost use Rattle.yasna.specs.base.Octets.{EncodesOctets, EncodesVec, octets_tag, octets_form};
-ghost use Rattle.yasna.specs.base.Text.{EncodesText, EncodesString, characters, utf8_form};
+ghost use Rattle.yasna.specs.base.Octets.{EncodesOctets, EncodesVec, octets_tag, octets_form, octets_nest};
+ghost use Rattle.yasna.specs.base.Text.{EncodesText, EncodesString, characters, utf8_form, utf8_nest};
 ghost use Rattle.yasna.specs.base.Sequence.{sequence_tag, PartOf, NoParts, AnyPart, AnyNothing, SamePart, SameNothing};
 ghost use Rattle.yasna.specs.base.Element.{Enclosed, AnyEnclosed};
 ghost use Rattle.yasna.specs.base.Element.{Primitively};
@@ -117,7 +117,7 @@ impl BERDecodable for Report {
 impl DEREncodable for Report {
     ghost form = { λ m v. enclosed_form (part_form (λ m s. utf8_form (universal 12) m (characters s)) (part_form (λ m r. octets_form octets_tag m r.items) (part_form (integer_form (universal 2)) nothing_form))) sequence_tag m (v.name, (v.raw, (v.number, tt))) };
 
-    ghost nest = { λ m v. enclosed_nest (part_nest leaf_nest (part_nest leaf_nest (part_nest leaf_nest nothing_nest))) m (v.name, (v.raw, (v.number, tt))) };
+    ghost nest = { λ m v. enclosed_nest (part_nest (λ m s. utf8_nest m (characters s)) (part_nest (λ m r. octets_nest m r.items) (part_nest leaf_nest nothing_nest))) m (v.name, (v.raw, (v.number, tt))) };
 
     ghost encodable = { λ v. part_can Always (part_can (λ r. IsBytes r.items) (part_can (FitsSigned w64) Always)) (v.name, (v.raw, (v.number, tt {0}))) };
 

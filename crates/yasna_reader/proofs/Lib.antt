@@ -15,4 +15,3 @@ pub mod OptionalReads
 pub mod Ahead
 pub mod Listing
 pub mod Whole
-pub mod Canonical

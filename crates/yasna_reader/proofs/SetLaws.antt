@@ -7,7 +7,7 @@ use Rattle.std.specs.Ordering.{is_lt}
 use Rattle.std.specs.Prelude.{map}
 use Rattle.std.specs.declared.cmp.Ordering.{Ordering}
 use Rattle.yasna_base.specs.declared.mode.BERMode.{BERMode}
-use Rattle.yasna_base.specs.declared.mode.BERMode.TheVariants.{Ber, Der}
+use Rattle.yasna_base.specs.declared.mode.BERMode.TheVariants.{Ber, Der, Cer}
 use Rattle.yasna_base.specs.declared.tag.Tag.{Tag}
 use Rattle.yasna_base.specs.Identifier.{AtEnd}
 use Rattle.yasna_base.specs.Order.{tag_cmp}
@@ -41,10 +41,12 @@ ascend_by_keys key cmp l h k d a b =
 order_of_values : (m : BERMode) (l : List SetElement) (ts : List Tag) → map (λ (x : SetElement). x.tag) l ≡ ts → AreInTagOrder m l → AreInSetOrder m ts
 order_of_values Ber l ts e h = tt
 order_of_values Der l ts e h = subst (λ z. IsSorted tag_cmp z) e (keys_ascend (λ (x : SetElement). x.tag) tag_cmp l h)
+order_of_values Cer l ts e h = subst (λ z. IsSorted tag_cmp z) e (keys_ascend (λ (x : SetElement). x.tag) tag_cmp l h)
 
 order_of_elements : (m : BERMode) (l : List SetElement) (ts : List Tag) → map (λ (x : SetElement). x.tag) l ≡ ts → AreInSetOrder m ts → AreInTagOrder m l
 order_of_elements Ber l ts e h = tt
 order_of_elements Der l ts e h = ascend_by_keys (λ (x : SetElement). x.tag) tag_cmp l (subst (λ z. IsSorted tag_cmp z) (sym e) h)
+order_of_elements Cer l ts e h = ascend_by_keys (λ (x : SetElement). x.tag) tag_cmp l (subst (λ z. IsSorted tag_cmp z) (sym e) h)
 
 -- elements have the tags of their values
 same_tags : (n : ℕ) (m : BERMode) (l : List SetElement) (vs : List RawValue) → Each (IsElementOf n m) l vs →

@@ -4,7 +4,7 @@ use Rattle.yasna_base.specs.Error.{error_of}
 use Rattle.yasna_base.specs.declared.error.ASN1Error.{ASN1Error}
 use Rattle.yasna_base.specs.declared.error.ASN1ErrorKind.TheVariants.{Invalid}
 use Rattle.yasna_base.specs.declared.mode.BERMode.{BERMode}
-use Rattle.yasna_base.specs.declared.mode.BERMode.TheVariants.{Ber, Der}
+use Rattle.yasna_base.specs.declared.mode.BERMode.TheVariants.{Ber, Der, Cer}
 use Rattle.yasna_reader.specs.Callback.{Hands, UnlessKept}
 use Rattle.yasna_reader.specs.State.{Reading, failing_if, untagged}
 use Rattle.yasna_reader.specs.declared.callback.Outcome.{Outcome}
@@ -24,6 +24,7 @@ ReadsOptional {A} P s r s' = UnlessKept s.kept s r s' ((o : Outcome A) × Hands 
 abbrev pub TakesDefault : BERMode → Type 0
 TakesDefault Ber = Unit {0}
 TakesDefault Der = ⊥
+TakesDefault Cer = ⊥
 
 -- the value v that a reading of which z is left gave, unless it equals the default d and the mode refuses that: then the
 -- refusal is kept where something moved

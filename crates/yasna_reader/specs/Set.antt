@@ -14,7 +14,7 @@ use Rattle.yasna_base.specs.declared.error.ASN1Error.{ASN1Error}
 use Rattle.yasna_base.specs.declared.error.ASN1ErrorKind.{ASN1ErrorKind}
 use Rattle.yasna_base.specs.declared.error.ASN1ErrorKind.TheVariants.{Invalid, OutOfMemory, StackOverflow}
 use Rattle.yasna_base.specs.declared.mode.BERMode.{BERMode}
-use Rattle.yasna_base.specs.declared.mode.BERMode.TheVariants.{Ber, Der}
+use Rattle.yasna_base.specs.declared.mode.BERMode.TheVariants.{Ber, Der, Cer}
 use Rattle.yasna_base.specs.declared.tag.Tag.{Tag}
 use Rattle.yasna_reader.specs.State.{Reading, failing, untagged}
 use Rattle.yasna_bytes.specs.Front.{Stands}
@@ -44,6 +44,7 @@ pub record Listed (n : ℕ) (m : BERMode) (l : List SetElement) (c y : List ℕ)
 abbrev pub AreInTagOrder : BERMode → List SetElement → Type 0
 AreInTagOrder Ber l = Unit {0}
 AreInTagOrder Der l = IsSortedByKey (λ (x : SetElement). x.tag) tag_cmp l
+AreInTagOrder Cer l = IsSortedByKey (λ (x : SetElement). x.tag) tag_cmp l
 
 -- raw elements stand from c on up to an end, and y is there
 pub record ListsAll (n : ℕ) (m : BERMode) (l : List SetElement) (c y : List ℕ) : Type 0 where

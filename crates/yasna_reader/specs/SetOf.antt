@@ -8,7 +8,7 @@ use Rattle.yasna_base.specs.Order.{octets_cmp}
 use Rattle.yasna_base.specs.declared.error.ASN1Error.{ASN1Error}
 use Rattle.yasna_base.specs.declared.error.ASN1ErrorKind.TheVariants.{Invalid}
 use Rattle.yasna_base.specs.declared.mode.BERMode.{BERMode}
-use Rattle.yasna_base.specs.declared.mode.BERMode.TheVariants.{Ber, Der}
+use Rattle.yasna_base.specs.declared.mode.BERMode.TheVariants.{Ber, Der, Cer}
 use Rattle.yasna_reader.specs.SequenceOf.{CollectsBy, Turn, VisitsBy}
 use Rattle.yasna_reader.specs.State.{Reading, failing}
 use Rattle.yasna_reader.specs.declared.callback.Outcome.{Outcome}
@@ -37,6 +37,7 @@ abbrev pub bound_in : Order → BERMode → Option (List ℕ)
 bound_in Any m = None
 bound_in Ascending Ber = None
 bound_in Ascending Der = Some []
+bound_in Ascending Cer = Some []
 
 -- the element b goes before the bound
 abbrev pub FallsBelow : Option (List ℕ) → List ℕ → Type 0

@@ -1,4 +1,4 @@
-//! Reading BER and DER.
+//! Reading BER, DER and CER.
 //!
 //! Bytes come in at `parse`; `state` holds where a reading stands, by which rules it reads and what went wrong; each
 //! read finds what stands in front of it (`yasna_bytes`), and the state takes it or keeps the refusal.
@@ -13,7 +13,7 @@
 //! | `times` | reads of UTCTime and GeneralizedTime |
 //! | `sequence` | reads of constructed elements whose contents a callback reads |
 //! | `sequence_of` | reads of lists, whose elements a callback reads one by one |
-//! | `set_of` | reads of lists whose elements ascend in DER |
+//! | `set_of` | reads of lists whose elements ascend in DER and CER |
 //! | `set` | reads of sets, whose elements a callback takes by their tags |
 //! | `set_optional` | reads of elements of a set that may be left out |
 //! | `callback` | what becomes of a reading that a callback is handed |
@@ -42,6 +42,6 @@ mod strings;
 mod tagged;
 mod times;
 
-pub use parse::{parse_ber, parse_ber_general, parse_der};
+pub use parse::{parse_ber, parse_ber_general, parse_cer, parse_der};
 pub use set::{BERReaderSet, Choose, Chosen, SetElement};
 pub use state::{BERReader, BERReaderSeq, Parts, ReaderState};

@@ -15,6 +15,7 @@ fn takes_default(mode: BERMode) -> bool
     match mode {
         BERMode::Ber => true,
         BERMode::Der => false,
+        BERMode::Cer => false,
     }
 }
 
@@ -94,7 +95,7 @@ impl<'a> Parts<ReaderState<'a>> {
 
     /// Reads a part that is the default where it is left out, as `read_optional` does.
     ///
-    /// In DER a part that equals the default is refused as `Invalid` (X.690, 11.5).
+    /// In DER and CER a part that equals the default is refused as `Invalid` (X.690, 11.5).
     #[inline(always)]
     pub fn read_default<T: Eq + Drop, F>(&mut self, default: T, f: F) -> ASN1Result<T>
     where

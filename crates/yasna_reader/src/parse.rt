@@ -1,5 +1,5 @@
 //! Parses of whole inputs.
-ghost use Rattle.yasna_base.specs.declared.mode.BERMode.TheVariants.{Ber, Der};
+ghost use Rattle.yasna_base.specs.declared.mode.BERMode.TheVariants.{Ber, Der, Cer};
 ghost use Rattle.std.specs.Fn.{FnOnceTakesAtMut, FnOnceReturnsAtMut};
 ghost use Rattle.yasna_reader.specs.State.{starts};
 ghost use Rattle.yasna_reader.specs.Parse.{Parses};
@@ -50,6 +50,17 @@ where
     ensures { Parses (FnOnceReturnsAtMut F.FnOnce callback) Der buf.now result }
 {
     parse_ber_general(alloc, buf, BERMode::Der, callback)
+}
+
+/// Reads bytes by the canonical encoding rules.
+#[inline(always)]
+pub fn parse_cer<'a, T: Drop, F>(alloc: Global, buf: &'a [u8], callback: F) -> ASN1Result<T>
+where
+    F: for<'b> FnOnce(BERReader<'a, 'b>) -> ASN1Result<T>,
+    requires { FnOnceTakesAtMut F.FnOnce callback (starts buf.now Cer) }
+    ensures { Parses (FnOnceReturnsAtMut F.FnOnce callback) Cer buf.now result }
+{
+    parse_ber_general(alloc, buf, BERMode::Cer, callback)
 }
 
 impl<'a> ReaderState<'a> {

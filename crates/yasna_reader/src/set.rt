@@ -145,13 +145,14 @@ fn tags_ascend(list: &[SetElement<'_>]) -> bool
     true
 }
 
-// Whether elements are in the order that a mode asks (X.690, 10.3).
+// Whether elements are in the order that a mode asks (X.690, 9.3 and 10.3).
 fn is_in_order(mode: BERMode, list: &[SetElement<'_>]) -> bool
     ensures { IsTrue result ↔ AreInTagOrder mode list.now }
 {
     match mode {
         BERMode::Ber => true,
         BERMode::Der => tags_ascend(list),
+        BERMode::Cer => tags_ascend(list),
     }
 }
 

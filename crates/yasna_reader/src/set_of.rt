@@ -1,4 +1,4 @@
-//! Reads of SET OF, whose elements ascend in DER (X.690, 8.12 and 11.6).
+//! Reads of SET OF, whose elements ascend in DER and CER (X.690, 8.12 and 11.6).
 ghost use Rattle.std.specs.Prelude.{◌≡◌};
 ghost use Rattle.yasna_reader.specs.SetOf.{goes_before, bytes_of, bound_in};
 
@@ -15,7 +15,7 @@ use yasna_bytes::bytes::walk::in_front;
 pub enum Order {
     /// In any order.
     Any,
-    /// In DER none is less than the one before.
+    /// In DER and CER none is less than the one before.
     Ascending,
 }
 
@@ -29,6 +29,7 @@ pub fn first_bound<'a>(order: Order, mode: BERMode) -> Option<&'a [u8]>
         Order::Ascending => match mode {
             BERMode::Ber => None,
             BERMode::Der => Some(&[]),
+            BERMode::Cer => Some(&[]),
         },
     }
 }
@@ -51,7 +52,7 @@ impl<'a> ReaderState<'a> {
 
     /// Reads a SET OF: the callback reads one element each time that it is called.
     ///
-    /// It is called as that of `read_sequence_of` is. In DER an element whose bytes are less than those of the one before is
+    /// It is called as that of `read_sequence_of` is. In DER and CER an element whose bytes are less than those of the one before is
     /// `Invalid`, and that is kept.
     #[inline(always)]
     pub fn read_set_of<F>(&mut self, f: F) -> ASN1Result<()>

@@ -1,6 +1,9 @@
 //! Reads of UTCTime and GeneralizedTime (X.680, 46 and 47; X.690, 11.7 and 11.8).
 //!
-//! In BER the text of a time may be cut into segments as an octet string, each with the tag universal 4.
+//! In BER the text of a time may be cut into segments as an octet string, each with the tag universal 4. In CER it is cut so where it
+//! is longer than 1000 octets.
+ghost use Rattle.std.specs.Prelude.{IsTrue, ◌↔◌};
+ghost use Rattle.yasna_base.specs.Canonical.{IsCanonicalMode};
 ghost use Rattle.yasna_times.specs.GeneralizedTime.{SaysGeneralizedTime};
 ghost use Rattle.yasna_times.specs.Models.{DateTime, utc_of, moment_of};
 ghost use Rattle.yasna_times.specs.Moment.{Moment};
@@ -13,6 +16,18 @@ use yasna_base::mode::BERMode;
 use yasna_base::tags::{TAG_GENERALIZEDTIME, TAG_UTCTIME};
 use yasna_bytes::bytes::text::Judge;
 use yasna_times::models::{GeneralizedTime, UTCTime};
+
+// Whether a mode takes the canonical text alone (X.690, 11.7 and 11.8).
+#[inline(always)]
+fn asks_canonical(mode: BERMode) -> bool
+    ensures { IsTrue result ↔ IsCanonicalMode mode }
+{
+    match mode {
+        BERMode::Ber => false,
+        BERMode::Der => true,
+        BERMode::Cer => true,
+    }
+}
 
 // The text of a UTCTime.
 #[derive(Clone, Copy, Drop)]
@@ -39,9 +54,13 @@ impl Judge for UtcText {
             Some(utc) => utc,
             None => return Err(ASN1ErrorKind::Invalid),
         };
-        match mode {
-            BERMode::Der if !utc.is_canonical(text) => Err(ASN1ErrorKind::Invalid),
-            _ => Ok(utc),
+        if !asks_canonical(mode) {
+            return Ok(utc);
+        }
+        if utc.is_canonical(text) {
+            Ok(utc)
+        } else {
+            Err(ASN1ErrorKind::Invalid)
         }
     }
 }
@@ -75,9 +94,13 @@ impl Judge for GeneralText {
             Ok(None) => return Err(ASN1ErrorKind::Invalid),
             Err(_) => return Err(ASN1ErrorKind::OutOfMemory),
         };
-        match mode {
-            BERMode::Der if !time.is_canonical(text) => Err(ASN1ErrorKind::Invalid),
-            _ => Ok(time),
+        if !asks_canonical(mode) {
+            return Ok(time);
+        }
+        if time.is_canonical(text) {
+            Ok(time)
+        } else {
+            Err(ASN1ErrorKind::Invalid)
         }
     }
 }
@@ -88,7 +111,7 @@ impl<'a> ReaderState<'a> {
     ghost use Rattle.yasna_bytes.specs.Contents.{WantsMemory};
     ghost use Rattle.yasna_reader.specs.Primitive.{ReadsSeen};
 
-    /// Reads UTCTime. In BER any text that `UTCTime::parse` takes, in DER the canonical one alone.
+    /// Reads UTCTime. In BER any text that `UTCTime::parse` takes, in DER and CER the canonical one alone.
     #[inline(always)]
     pub fn read_utctime(&mut self) -> ASN1Result<UTCTime>
         ensures { ReadsSeen (IsStringOf SaysUtcTime) utc_of IsDeepOctets WantsMemory TAG_UTCTIME self.old result self.new }
@@ -96,7 +119,7 @@ impl<'a> ReaderState<'a> {
         self.read_said(TAG_UTCTIME, UtcText)
     }
 
-    /// Reads GeneralizedTime. In BER any text that `GeneralizedTime::parse` takes, in DER the canonical one alone.
+    /// Reads GeneralizedTime. In BER any text that `GeneralizedTime::parse` takes, in DER and CER the canonical one alone.
     #[inline(always)]
     pub fn read_generalized_time(&mut self) -> ASN1Result<GeneralizedTime>
         ensures { ReadsSeen (IsStringOf SaysGeneralizedTime) moment_of IsDeepOctets WantsMemory TAG_GENERALIZEDTIME self.old result self.new }

@@ -4,13 +4,13 @@ use Rattle.jiff.specs.Types.{DateTime}
 use Rattle.jiff.specs.Words.{IsYmd, IsHms}
 use Rattle.yasna_base.specs.declared.mode.BERMode.{BERMode}
 use Rattle.yasna_base.specs.declared.tag.Tag.{Tag}
-use Rattle.yasna_base.specs.Canonical.{IsCanonicalMode, leaf_nest}
+use Rattle.yasna_base.specs.Canonical.{IsCanonicalMode}
 use Rattle.yasna_times.specs.Decimal.{AreDigits, IsRun, two_at, two_digits}
 use Rattle.yasna_times.specs.Fraction.{IsExact, IsTrimmed}
 use Rattle.yasna_base.specs.Identifier.{universal}
 use Rattle.yasna_base.specs.Laws.{KeepsLaws}
 use Rattle.yasna_times.specs.Moment.{Moment, IsLess, moment_at, after_year}
-use Rattle.yasna_base.specs.Octets.{octets_form}
+use Rattle.yasna_base.specs.Octets.{octets_form, octets_nest}
 use Rattle.yasna_base.specs.Text.{IsStringOf}
 use Rattle.yasna_times.specs.Zone.{IsZulu, IsAmount, IsOffset}
 
@@ -144,6 +144,10 @@ EncodesGeneralizedTime m n v b = IsStringOf SaysGeneralizedTime n m (universal 2
 abbrev pub generalized_time_form : Tag → BERMode → Moment → List ℕ
 generalized_time_form t m v = octets_form t m (general_text v)
 
+-- how deep it nests
+abbrev pub generalized_time_nest : BERMode → Moment → ℕ
+generalized_time_nest m v = octets_nest m (general_text v)
+
 -- GeneralizedTime keeps the laws under any tag
 abbrev pub GeneralizedTimeKeepsLaws : Type 0
-GeneralizedTimeKeepsLaws = KeepsLaws (IsStringOf SaysGeneralizedTime) generalized_time_form leaf_nest IsGeneralMoment
+GeneralizedTimeKeepsLaws = KeepsLaws (IsStringOf SaysGeneralizedTime) generalized_time_form generalized_time_nest IsGeneralMoment

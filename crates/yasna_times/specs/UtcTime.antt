@@ -4,12 +4,12 @@ use Rattle.jiff.specs.Types.{DateTime}
 use Rattle.jiff.specs.Words.{IsYmd, IsHms}
 use Rattle.yasna_base.specs.declared.mode.BERMode.{BERMode}
 use Rattle.yasna_base.specs.declared.tag.Tag.{Tag}
-use Rattle.yasna_base.specs.Canonical.{IsCanonicalMode, leaf_nest}
+use Rattle.yasna_base.specs.Canonical.{IsCanonicalMode}
 use Rattle.yasna_times.specs.Decimal.{HasDigits, two_at, two_digits}
 use Rattle.yasna_base.specs.Identifier.{universal}
 use Rattle.yasna_base.specs.Laws.{KeepsLaws}
 use Rattle.yasna_times.specs.Moment.{IsLess, moment_at, after_year}
-use Rattle.yasna_base.specs.Octets.{octets_form}
+use Rattle.yasna_base.specs.Octets.{octets_form, octets_nest}
 use Rattle.yasna_base.specs.Text.{IsStringOf}
 use Rattle.yasna_times.specs.Zone.{IsZulu, IsHoursAndMinutes, IsOffset}
 
@@ -74,6 +74,10 @@ EncodesUtcTime m n v b = IsStringOf SaysUtcTime n m (universal 23) v b
 abbrev pub utc_time_form : Tag → BERMode → DateTime → List ℕ
 utc_time_form t m utc = octets_form t m (utc_text utc)
 
+-- how deep it nests
+abbrev pub utc_time_nest : BERMode → DateTime → ℕ
+utc_time_nest m utc = octets_nest m (utc_text utc)
+
 -- UTCTime keeps the laws under any tag
 abbrev pub UtcTimeKeepsLaws : Type 0
-UtcTimeKeepsLaws = KeepsLaws (IsStringOf SaysUtcTime) utc_time_form leaf_nest IsUtcDateTime
+UtcTimeKeepsLaws = KeepsLaws (IsStringOf SaysUtcTime) utc_time_form utc_time_nest IsUtcDateTime

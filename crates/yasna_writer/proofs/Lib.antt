@@ -7,6 +7,7 @@ pub mod Identifiers
 pub mod Integers
 pub mod Padding
 pub mod Primitives
+pub mod RawElements
 pub mod Sequences
 pub mod Sets
 pub mod SetParts

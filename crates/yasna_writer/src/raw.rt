@@ -1,4 +1,5 @@
 //! Raw elements, whose contents are written as they are.
+ghost use Rattle.yasna_base.specs.Canonical.{definite_element};
 ghost use Rattle.yasna_base.specs.Identifier.{tag_or};
 ghost use Rattle.yasna_base.specs.Raw.{raw_form};
 ghost use Rattle.yasna_base.specs.TaggedDerValue.{raw_of};
@@ -12,9 +13,17 @@ use yasna_base::models::TaggedDerValue;
 impl Writer {
     /// Writes a raw element: its identifier, or that of the implicit tag with its bit, the length of its payload in the
     /// fewest bytes, and its payload as it is.
-    #[tactic(auto, unfolding(yasna_base::specs::Canonical::canonical_element, yasna_base::specs::Canonical::definite_element))]
     pub fn write_tagged_der(&mut self, value: &TaggedDerValue) -> ASN1Result<()>
         ensures { Wrote (raw_form (tag_or self.old.tag (raw_of value.now).tag) self.old.mode (raw_of value.now)) self.old self.new result }
+    {
+        self.writes_der();
+        self.write_raw(value)
+    }
+
+    // Writes a raw element of definite length.
+    #[tactic(auto, unfolding(yasna_base::specs::Canonical::definite_element))]
+    fn write_raw(&mut self, value: &TaggedDerValue) -> ASN1Result<()>
+        ensures { Wrote (definite_element (tag_or self.old.tag (raw_of value.now).tag) (raw_of value.now).bit (raw_of value.now).payload) self.old self.new result }
     {
         if let Some(error) = self.kept() {
             return Err(error);

@@ -5,6 +5,7 @@ ghost use Rattle.yasna_base.specs.declared.error.ASN1ErrorKind.TheVariants.{OutO
 ghost use Rattle.yasna_base.specs.Canonical.{canonical_element};
 ghost use Rattle.yasna_base.specs.Digits.{base128};
 ghost use Rattle.std.specs.List.{flat_map};
+ghost use Rattle.yasna_base.specs.declared.mode.BERMode.TheVariants.{Der};
 ghost use Rattle.yasna_base.specs.declared.tag.PCBit.TheVariants.{Primitive};
 ghost use Rattle.yasna_writer.specs.View.{Written, empty_writing, handed};
 ghost use Rattle.yasna_base.specs.Identifier.{tag_or};
@@ -86,6 +87,14 @@ impl Writer {
             kept: None,
             alloc: self.alloc,
         }
+    }
+
+    // What is written is in DER.
+    #[inline(always)]
+    pub(crate) fn writes_der(&self)
+        ensures { self.now.mode ≡ Der }
+    {
+        let _kept = self.kept;
     }
 
     // The failure that is kept.

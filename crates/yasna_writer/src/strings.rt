@@ -10,7 +10,7 @@ ghost use Rattle.yasna_base.specs.declared.tag.PCBit.TheVariants.{Primitive};
 ghost use Rattle.yasna_base.specs.Canonical.{canonical_element};
 ghost use Rattle.yasna_base.specs.Identifier.{universal, tag_or};
 ghost use Rattle.yasna_base.specs.Octets.{octets_form};
-ghost use Rattle.yasna_base.specs.Bits.{bits_form};
+ghost use Rattle.yasna_base.specs.Bits.{bits_contents, bits_form};
 ghost use Rattle.yasna_base.specs.Text.{utf8_form, bmp_form, bmp_octets, InNumeric, InPrintable, InVisible, InIa5};
 ghost use Rattle.yasna_writer.specs.Header.{header_bytes};
 ghost use Rattle.yasna_writer.specs.State.{Appended};
@@ -30,22 +30,18 @@ impl Writer {
     pub fn write_bytes(&mut self, bytes: &[u8]) -> ASN1Result<()>
         ensures { Wrote (octets_form (tag_or self.old.tag (universal 4)) self.old.mode bytes.now) self.old self.new result }
     {
-        self.write_contents(TAG_OCTETSTRING, bytes)
+        self.write_octets(TAG_OCTETSTRING, bytes)
     }
 
     /// Writes a BIT STRING of so many bits, the first of a byte being its highest (X.690, 8.6). Bits of the last byte
     /// that are left over are written as zero (X.690, 11.2).
-    #[tactic(auto, using(crate::proofs::Padding::padded_contents))]
     pub fn write_bitvec_bytes(&mut self, bytes: &[u8], len: usize) -> ASN1Result<()>
         requires enough { len ≤ 8 * length bytes.now }
         requires least { 8 * length bytes.now < len + 8 }
         ensures { Wrote (bits_form (tag_or self.old.tag (universal 3)) self.old.mode (record { bytes = bytes.now; count = len })) self.old self.new result }
     {
-        let Some((last, front)) = bytes.split_last() else {
-            return self.write_contents(TAG_BITSTRING, &[0]);
-        };
-        let unused = unused_bits(len);
-        self.write_bits(unused, front, *last >> unused << unused)
+        self.writes_der();
+        self.write_whole_bits(bytes, len)
     }
 
     /// Writes a UTF8String (X.690, 8.23.10).
@@ -102,12 +98,11 @@ impl Writer {
 
     /// Writes a BMPString: the text in UTF-16, the high byte of each unit first. A character past 65535 is written as two
     /// surrogates, which X.680 doesn't provide for.
-    #[tactic(auto, unfolding(yasna_base::specs::Canonical::canonical_element, yasna_base::specs::Canonical::definite_element))]
     pub fn write_bmp_string(&mut self, string: &str) -> ASN1Result<()>
         ensures { Wrote (bmp_form (tag_or self.old.tag (universal 30)) self.old.mode (chars string.now)) self.old self.new result }
     {
-        self.begin_contents(TAG_BMPSTRING, bmp_length(string))?;
-        self.append_bmp(string)
+        self.writes_der();
+        self.write_whole_bmp(string)
     }
 
     // Writes a text in UTF-8.
@@ -115,7 +110,39 @@ impl Writer {
     fn write_text(&mut self, own: Tag, string: &str) -> ASN1Result<()>
         ensures { Wrote (utf8_form (tag_or self.old.tag own) self.old.mode (chars string.now)) self.old self.new result }
     {
-        self.write_contents(own, string.as_bytes())
+        self.write_octets(own, string.as_bytes())
+    }
+
+    // Writes a text in UTF-16 as one primitive element.
+    #[tactic(auto, unfolding(yasna_base::specs::Canonical::canonical_element, yasna_base::specs::Canonical::definite_element))]
+    fn write_whole_bmp(&mut self, string: &str) -> ASN1Result<()>
+        ensures { Wrote (canonical_element self.old.mode (tag_or self.old.tag (universal 30)) Primitive (bmp_octets (chars string.now))) self.old self.new result }
+    {
+        self.begin_contents(TAG_BMPSTRING, bmp_length(string))?;
+        self.append_bmp(string)
+    }
+
+    // Writes bits as one primitive element.
+    #[tactic(auto, using(crate::proofs::Padding::padded_contents))]
+    fn write_whole_bits(&mut self, bytes: &[u8], len: usize) -> ASN1Result<()>
+        requires enough { len ≤ 8 * length bytes.now }
+        requires least { 8 * length bytes.now < len + 8 }
+        ensures { Wrote (canonical_element self.old.mode (tag_or self.old.tag (universal 3)) Primitive (bits_contents (record { bytes = bytes.now; count = len }))) self.old self.new result }
+    {
+        let Some((last, front)) = bytes.split_last() else {
+            return self.write_contents(TAG_BITSTRING, &[0]);
+        };
+        let unused = unused_bits(len);
+        self.write_bits(unused, front, *last >> unused << unused)
+    }
+
+    // Writes octets in one element.
+    #[inline(always)]
+    pub(crate) fn write_octets(&mut self, own: Tag, octets: &[u8]) -> ASN1Result<()>
+        ensures { Wrote (octets_form (tag_or self.old.tag own) self.old.mode octets.now) self.old self.new result }
+    {
+        self.writes_der();
+        self.write_contents(own, octets)
     }
 
     // Writes an element with these contents.

@@ -15,7 +15,7 @@ impl Writer {
     pub fn write_utctime(&mut self, time: &UTCTime) -> ASN1Result<()>
         ensures { Wrote (utc_time_form (tag_or self.old.tag (universal 23)) self.old.mode (utc_of time.now)) self.old self.new result }
     {
-        self.write_contents(TAG_UTCTIME, &time.text())
+        self.write_octets(TAG_UTCTIME, &time.text())
     }
 
     /// Writes a GeneralizedTime: `YYYYMMDDhhmmss`, the fraction of the second behind `.` if there is one, `Z`.
@@ -26,7 +26,7 @@ impl Writer {
             return Err(error);
         }
         match time.to_bytes(self.alloc()) {
-            Ok(text) => self.write_contents(TAG_GENERALIZEDTIME, text.as_slice()),
+            Ok(text) => self.write_octets(TAG_GENERALIZEDTIME, text.as_slice()),
             Err(_) => Err(self.lack_memory()),
         }
     }

@@ -1,6 +1,6 @@
-//! The header of an element: identifier, length, and the cut of the contents (X.690, 8.1).
+//! The header of an element: identifier, length, and the cut of the contents (X.690, 8.1 and 9.1).
 ghost use Rattle.std.specs.Prelude.{◌≡◌, IsTrue, ◌↔◌};
-ghost use Rattle.yasna_base.specs.Element.{TakesIndefinite};
+ghost use Rattle.yasna_base.specs.Element.{TakesDefinite, TakesIndefinite};
 ghost use Rattle.yasna_bytes.specs.Refusal.{IsPlain};
 ghost use Rattle.yasna_base.specs.Header.{uncounted};
 ghost use Rattle.yasna_bytes.specs.Header.{ContentsAt, OpenedAt, ConstructedAt, PrimitiveAt, ClosesAt, contents_end};
@@ -51,6 +51,25 @@ fn takes_indefinite(mode: BERMode, bit: PCBit) -> bool
             PCBit::Constructed => true,
         },
         BERMode::Der => false,
+        BERMode::Cer => match bit {
+            PCBit::Primitive => false,
+            PCBit::Constructed => true,
+        },
+    }
+}
+
+// Whether a mode takes an element whose contents are counted.
+#[inline(always)]
+fn takes_definite(mode: BERMode, bit: PCBit) -> bool
+    ensures { IsTrue result ↔ TakesDefinite mode bit }
+{
+    match mode {
+        BERMode::Ber => true,
+        BERMode::Der => true,
+        BERMode::Cer => match bit {
+            PCBit::Primitive => true,
+            PCBit::Constructed => false,
+        },
     }
 }
 
@@ -110,7 +129,13 @@ pub fn contents(
 {
     match read_length(s, mode) {
         Ok((Some(size), rest)) => match cut(rest, size) {
-            Some((within, after)) => Ok((within, Some(after))),
+            Some((within, after)) => {
+                if takes_definite(mode, bit) {
+                    Ok((within, Some(after)))
+                } else {
+                    Err(ASN1ErrorKind::Invalid)
+                }
+            }
             None => Err(length_fault(end, rest, size)),
         },
         Ok((None, rest)) => {

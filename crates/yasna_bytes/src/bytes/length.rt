@@ -1,4 +1,4 @@
-//! Lengths (X.690, 8.1.3 and 10.1).
+//! Lengths (X.690, 8.1.3, 9.1 and 10.1).
 ghost use Rattle.std.specs.Prelude.{◌≡◌, ℕ, ◌^◌, ◌<◌, ◌≤◌, ◌-◌, List, ◌∷◌, ◌++◌, length, drop, Some, MatchOption, IsTrue, ◌↔◌};
 ghost use Rattle.std.specs.Int.Digits.{number_from_digits};
 ghost use Rattle.yasna_bytes.specs.Refusal.{IsPlain};
@@ -44,6 +44,7 @@ fn is_spelling(mode: BERMode, digits: &[u8], size: u64) -> bool
     match mode {
         BERMode::Ber => true,
         BERMode::Der => size >= 128 && digits.first() != Some(&0),
+        BERMode::Cer => size >= 128 && digits.first() != Some(&0),
     }
 }
 

@@ -1,17 +1,19 @@
-//! Strings of bytes, in one element or cut into segments (X.690, 8.6, 8.7 and 8.23).
+//! Strings of bytes, in one element or cut into segments (X.690, 8.6, 8.7, 8.23 and 9.2).
 //!
 //! `string` reads any kind of string, whose own file holds its impl of `Tally`.
-ghost use Rattle.std.specs.Prelude.{◌≡◌, ℕ, ◌-◌, List, IsTrue, ◌↔◌};
-ghost use Rattle.yasna_base.specs.Cut.{Cutting, TakesPieces};
+ghost use Rattle.std.specs.Prelude.{◌≡◌, ℕ, ◌-◌, List, IsTrue, ◌↔◌, length};
+ghost use Rattle.yasna_base.specs.Cut.{Cutting};
 ghost use Rattle.yasna_base.proofs.Cut.{CutsOnce};
-ghost use Rattle.yasna_bytes.specs.Segments.{GoOn, Says, IsOfNone, Adds, TellsWhetherMore, WholeAt, SegmentsAt, StringAt, WithVecAt};
+ghost use Rattle.yasna_bytes.specs.Segments.{GoOn, Says, HoldsBytes, IsOfNone, Adds, TellsWhetherMore, WholeAt, SegmentsAt, StringAt, WithVecAt};
 
 mod bits;
+mod cuts;
 mod octets;
 
 use crate::bytes::cursor::Cursor;
 use crate::bytes::header::{Refusal, close, open, refuse};
 pub use bits::bit_string;
+use cuts::{Cuts, rules_of_pieces, stays_whole, takes_cuts, takes_pieces};
 pub use octets::octet_string;
 use std::alloc::Global;
 use yasna_base::error::ASN1ErrorKind;
@@ -32,6 +34,10 @@ pub trait Tally: Sized + Copy {
     fn tag() -> Tag
         ensures { result ≡ cutting.piece };
 
+    /// How many bytes fill a segment of CER.
+    fn full() -> usize
+        ensures { result ≡ cutting.full };
+
     /// What is known of no segments.
     fn none() -> Self
         ensures { IsOfNone cutting value result };
@@ -48,20 +54,11 @@ pub trait Tally: Sized + Copy {
     fn may_go_on(self) -> bool
         ensures { TellsWhetherMore cutting value self (IsTrue result) };
 
+    ghost holds: { HoldsBytes cutting value };
+
     ghost once: { CutsOnce cutting };
 
     ghost go_on: { GoOn cutting };
-}
-
-// Whether a mode takes strings in segments.
-#[inline(always)]
-fn takes_pieces(mode: BERMode) -> bool
-    ensures { IsTrue result ↔ TakesPieces mode }
-{
-    match mode {
-        BERMode::Ber => true,
-        BERMode::Der => false,
-    }
 }
 
 // Appends what the contents of a primitive element say.
@@ -70,12 +67,25 @@ fn whole<T: Tally>(out: &mut Vec<u8>, mode: BERMode, contents: &[u8]) -> Result<
     ensures { WholeAt T.cutting T.value mode contents.now out.old.items result out.new.items }
 {
     match T::of_contents(mode, contents) {
-        Ok((tally, bytes)) => match out.extend_from_slice(bytes) {
-            Ok(()) => Ok(tally),
-            Err(_) => Err(ASN1ErrorKind::OutOfMemory),
-        },
+        Ok((tally, bytes)) => {
+            if !stays_whole(mode, T::full(), bytes.len()) {
+                return Err(ASN1ErrorKind::Invalid);
+            }
+            match out.extend_from_slice(bytes) {
+                Ok(()) => Ok(tally),
+                Err(_) => Err(ASN1ErrorKind::OutOfMemory),
+            }
+        }
         Err(kind) => Err(kind),
     }
+}
+
+// How many bytes were appended so far.
+#[inline(always)]
+fn count(out: &Vec<u8>) -> usize
+    ensures { result ≡ length out.now.items }
+{
+    out.as_slice().len()
 }
 
 // Reads a string with this tag, and appends its bytes.
@@ -107,10 +117,16 @@ fn element<'a, T: Tally>(
             if !takes_pieces(cursor.mode) {
                 return Err(refuse(ASN1ErrorKind::Invalid, true));
             }
-            let (tally, rest) = match segments::<T>(out, cursor.inside(&opened)) {
+            let contents = cursor
+                .inside(&opened)
+                .ruled_by(rules_of_pieces(cursor.mode));
+            let ((tally, cuts), rest) = match segments::<T>(out, contents) {
                 Ok(taken) => taken,
                 Err(refusal) => return Err(refusal),
             };
+            if !takes_cuts(cursor.mode, cuts) {
+                return Err(refuse(ASN1ErrorKind::Invalid, true));
+            }
             match close(opened.after, rest) {
                 Ok(after) => Ok((tally, after)),
                 Err(kind) => Err(refuse(kind, true)),
@@ -119,31 +135,37 @@ fn element<'a, T: Tally>(
     }
 }
 
-// Reads segments as far as there are any, and appends their bytes.
+// Reads segments as far as there are any, and appends their bytes; how they are cut is answered too.
 #[cycle(string)]
 #[inline(never)]
-fn segments<'a, T: Tally>(out: &mut Vec<u8>, contents: Cursor<'a>) -> Result<(T, &'a [u8]), Refusal>
+fn segments<'a, T: Tally>(
+    out: &mut Vec<u8>,
+    contents: Cursor<'a>,
+) -> Result<((T, Cuts), &'a [u8]), Refusal>
     ensures { SegmentsAt T.cutting T.value contents.entry.levels contents.entry.mode contents.entry.left.now out.old.items result out.new.items }
 {
     let mut place = contents;
     let mut tally = T::none();
+    let mut cuts = Cuts::none();
     while tally.may_go_on() {
+        let before = count(out);
         let (segment, rest) = match element::<T>(out, place, T::tag()) {
             Ok(taken) => taken,
             Err(refusal) => {
                 if refusal.moved {
                     return Err(refusal);
                 }
-                return Ok((tally, place.left));
+                return Ok(((tally, cuts), place.left));
             }
         };
         place = place.further(rest);
+        cuts = cuts.with(T::full(), count(out) - before);
         tally = match tally.with(segment) {
             Ok(all) => all,
             Err(kind) => return Err(refuse(kind, true)),
         };
     }
-    Ok((tally, place.left))
+    Ok(((tally, cuts), place.left))
 }
 
 /// The string with this tag at the front, its bytes and what is known of it besides, and the rest.

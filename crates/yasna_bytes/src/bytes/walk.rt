@@ -1,6 +1,6 @@
 //! Raw elements: their contents are elements one after the other, which are walked over (X.690, 8.1).
 //!
-//! In DER constructed contents are walked, in BER those of indefinite length alone. The walk is one loop that counts the
+//! In DER constructed contents are walked, in BER and CER those of indefinite length alone. The walk is one loop that counts the
 //! bytes behind each element that it is in, and takes no memory.
 ghost use Rattle.std.specs.Prelude.{IsTrue, ◌↔◌, ◌≡◌, ◌≤◌, ◌-◌, ◌++◌, length, take, drop, MatchOption, Err};
 ghost use Rattle.yasna_base.specs.Raw.{LooksInto, IsPayload};
@@ -50,6 +50,7 @@ fn looks_into(mode: BERMode, bit: PCBit) -> bool
             PCBit::Primitive => false,
             PCBit::Constructed => true,
         },
+        BERMode::Cer => false,
     }
 }
 
@@ -235,6 +236,7 @@ fn walk<'a>(cursor: Cursor<'a>, end: Option<&'a [u8]>) -> Result<&'a [u8], ASN1E
     match cursor.mode {
         BERMode::Ber => walk_contents(cursor.ruled_by(BERMode::Ber), end),
         BERMode::Der => walk_contents(cursor.ruled_by(BERMode::Der), end),
+        BERMode::Cer => walk_contents(cursor.ruled_by(BERMode::Cer), end),
     }
 }
 

@@ -5,7 +5,7 @@ use Rattle.yasna_base.specs.Canonical.{leaf_nest}
 use Rattle.yasna_base.specs.Digits.{IsBytes}
 use Rattle.yasna_base.specs.Element.{Primitively}
 use Rattle.yasna_base.specs.Integer.{IsSigned, integer_form}
-use Rattle.yasna_base.specs.Octets.{IsOctets, octets_form}
+use Rattle.yasna_base.specs.Octets.{IsOctets, octets_form, octets_nest}
 use Rattle.yasna_base.proofs.BigInteger.{big_integer_coding, big_integer_written}
 use Rattle.yasna_base.proofs.Integer.{signed_under, number_written}
 use Rattle.yasna_base.proofs.Octets.{octets_keep}
@@ -25,7 +25,7 @@ returns-clause-set_of_big_integer c =
     (λ t not_end range. (big_integer_coding t not_end, big_integer_written t range))
 
 pub returns-clause-set_of_octets : goal.returns-clause-set_of_octets
-returns-clause-set_of_octets c = set_of_keeps IsOctets octets_form leaf_nest IsBytes octets_keep
+returns-clause-set_of_octets c = set_of_keeps IsOctets octets_form octets_nest IsBytes octets_keep
 
 pub returns-clause-set_of_raw : goal.returns-clause-set_of_raw
 returns-clause-set_of_raw c = set_of_reading raw_coding

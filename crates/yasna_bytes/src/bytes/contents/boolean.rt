@@ -16,6 +16,7 @@ fn is_true(mode: BERMode, byte: u8) -> bool
     match mode {
         BERMode::Ber => byte != 0,
         BERMode::Der => byte == 255,
+        BERMode::Cer => byte == 255,
     }
 }
 

@@ -1,5 +1,7 @@
-//! Bit strings (X.690, 8.6 and 11.2.1).
+//! Bit strings (X.690, 8.6, 9.2 and 11.2.1).
+ghost use Rattle.std.proofs.Common.{refl};
 ghost use Rattle.std.specs.Prelude.{◌≡◌, ◌∷◌, ◌+◌, ◌*◌, ◌-◌, ◌^◌, ◌≤◌, ◌<◌, length, IsTrue, ◌↔◌, MatchOption};
+ghost use Rattle.yasna_base.specs.declared.mode.BERMode.TheVariants.{Der};
 ghost use Rattle.yasna_base.proofs.Bits.{bits_once, joined_follow, follow_front};
 ghost use Rattle.yasna_base.specs.Bits.{BitString, IsPadded, bits_cutting};
 ghost use Rattle.yasna_bytes.specs.Segments.{BitsAt};
@@ -19,7 +21,19 @@ pub struct Bits {
     count: usize,
 }
 
-// Whether the unused bits at the end are as the mode asks them to be.
+// Whether the unused bits at the end are zero.
+#[inline(always)]
+fn ends_in_zeros(unused: u8, bytes: &[u8]) -> bool
+    requires { unused ≤ 7 }
+    ensures { IsTrue result ↔ IsPadded Der unused bytes.now }
+{
+    match bytes.last() {
+        Some(last) => *last % (1u8 << unused) == 0,
+        None => true,
+    }
+}
+
+// Whether they are as the mode asks them to be.
 #[inline(always)]
 fn is_padded(mode: BERMode, unused: u8, bytes: &[u8]) -> bool
     requires { unused ≤ 7 }
@@ -27,10 +41,8 @@ fn is_padded(mode: BERMode, unused: u8, bytes: &[u8]) -> bool
 {
     match mode {
         BERMode::Ber => true,
-        BERMode::Der => match bytes.last() {
-            Some(last) => *last % (1u8 << unused) == 0,
-            None => true,
-        },
+        BERMode::Der => ends_in_zeros(unused, bytes),
+        BERMode::Cer => ends_in_zeros(unused, bytes),
     }
 }
 
@@ -60,6 +72,12 @@ impl Tally for Bits {
     #[inline(always)]
     fn tag() -> Tag {
         TAG_BITSTRING
+    }
+
+    #[inline(always)]
+    fn full() -> usize {
+        // the thousandth octet of a segment counts the unused bits
+        999
     }
 
     #[inline(always)]
@@ -101,6 +119,8 @@ impl Tally for Bits {
     fn may_go_on(self) -> bool {
         self.count % 8 == 0
     }
+
+    ghost holds = { λ b x. refl };
 
     ghost once = { bits_once };
 

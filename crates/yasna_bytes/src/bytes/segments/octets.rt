@@ -1,4 +1,5 @@
-//! Octet strings (X.690, 8.7).
+//! Octet strings (X.690, 8.7 and 9.2).
+ghost use Rattle.std.proofs.Common.{refl};
 ghost use Rattle.std.specs.Prelude.{List, ℕ};
 ghost use Rattle.yasna_base.proofs.Octets.{octets_once};
 ghost use Rattle.yasna_base.specs.Octets.{octets_cutting};
@@ -30,6 +31,11 @@ impl Tally for Octets {
     }
 
     #[inline(always)]
+    fn full() -> usize {
+        1000
+    }
+
+    #[inline(always)]
     fn none() -> Octets {
         Octets
     }
@@ -48,6 +54,8 @@ impl Tally for Octets {
     fn may_go_on(self) -> bool {
         true
     }
+
+    ghost holds = { λ b x. refl };
 
     ghost once = { octets_once };
 

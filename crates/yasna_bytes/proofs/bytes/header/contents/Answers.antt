@@ -3,17 +3,25 @@ use Rattle.yasna_bytes.specs.Length.{Measures}
 use Rattle.yasna_base.specs.Header.{counted, uncounted}
 use Rattle.yasna_bytes.specs.Header.{Holds}
 use Rattle.yasna_base.proofs.Digits.{slice_bytes}
-use Rattle.yasna_bytes.proofs.Header.{takes_definite, holds_counted, holds_none, holds_short, holds_closed, holds_bytes}
+use Rattle.yasna_bytes.proofs.Header.{holds_counted, holds_uncounted, holds_none, holds_short, holds_closed, holds_bytes}
 use Rattle.yasna_bytes.proofs.bytes.header.contents.Goals as goal
 
-pub returns-in-Some : goal.returns-in-Some
-returns-in-Some c =
+pub returns-then-takes_definite : goal.returns-then-takes_definite
+returns-then-takes_definite c =
     let w : Measures c.args.mode c.args.s.now (Some c.in-Ok-Some-default.size) c.in-Ok-Some-default.rest.now = search rules in
     let x = c.in-Some.ensures {u = tt} in
     let h : Holds c.args.mode c.args.bit c.args.s.now c.in-Some.within.now (counted c.in-Some.after.now) =
     holds_counted c.args.mode c.args.bit c.args.s.now c.in-Ok-Some-default.rest.now c.in-Some.within.now c.in-Some.after.now c.in-Ok-Some-default.size w x.1
-    x.0 (takes_definite c.args.mode c.args.bit) in
+    x.0 ((c.if-takes_definite.ensures {u = tt}).0 refl) in
     (holds_bytes c.args.mode c.args.bit c.args.s.now c.in-Some.within.now (counted c.in-Some.after.now) (slice_bytes c.args.s.now c.type_inv.s) h, h)
+
+pub returns-else-takes_definite : goal.returns-else-takes_definite
+returns-else-takes_definite c =
+    let w : Measures c.args.mode c.args.s.now (Some c.in-Ok-Some-default.size) c.in-Ok-Some-default.rest.now = search rules in (
+      tt,
+      holds_uncounted c.args.mode c.args.bit c.args.s.now c.in-Ok-Some-default.rest.now c.in-Ok-Some-default.size w
+          (λ h. let z = (c.if-takes_definite.ensures {u = tt}).1 h in cc),
+    )
 
 pub returns-then-takes_indefinite : goal.returns-then-takes_indefinite
 returns-then-takes_indefinite c =

@@ -8,5 +8,5 @@ use Rattle.yasna_writer.proofs.state.Writer.write_text.Goals as goal
 pub returns : goal.returns
 returns c =
     let old = c.args.self.now in
-    subst (λ (b : List ℕ). Wrote (octets_form (tag_or old.tag c.args.own) old.mode b) old c.write_contents.new.self c.write_contents.result)
-    (c.as_bytes.ensures.value ∙ sym (encodes-chars c.args.string.now c.utf8.string)) c.write_contents.ensures
+    subst (λ (b : List ℕ). Wrote (octets_form (tag_or old.tag c.args.own) old.mode b) old c.write_octets.new.self c.write_octets.result)
+    (c.as_bytes.ensures.value ∙ sym (encodes-chars c.args.string.now c.utf8.string)) c.write_octets.ensures

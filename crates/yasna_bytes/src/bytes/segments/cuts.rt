@@ -1,0 +1,91 @@
+//! How a string is cut into segments, as far as CER asks it (X.690, 9.2).
+ghost use Rattle.std.specs.Prelude.{◌≡◌, ◌↔◌, IsTrue, true, false};
+ghost use Rattle.yasna_base.specs.Cut.{StaysWhole, TakesPieces, piece_mode};
+ghost use Rattle.yasna_bytes.specs.Segments.{further_cut, AsksFor};
+
+use yasna_base::mode::BERMode;
+
+/// What is known of how segments are cut, as they are read.
+#[derive(Clone, Copy, Drop)]
+pub struct Cuts {
+    // Whether there is one.
+    some: bool,
+    // Whether all are full.
+    full: bool,
+    // Whether there are two or more, all full but the last, which holds a byte or more and fits one.
+    even: bool,
+}
+
+impl Cuts {
+    /// Of no segments.
+    #[inline(always)]
+    pub fn none() -> Cuts
+        ensures { result ≡ record { some = false; full = true; even = false } }
+    {
+        Cuts {
+            some: false,
+            full: true,
+            even: false,
+        }
+    }
+
+    /// Of these segments and one more, of so many bytes, if `full` of them fill one.
+    #[inline(always)]
+    pub fn with(self, full: usize, size: usize) -> Cuts
+        ensures { result ≡ further_cut self full size }
+    {
+        Cuts {
+            some: true,
+            full: self.full && size == full,
+            even: self.some && (self.full && (1 <= size && size <= full)),
+        }
+    }
+}
+
+/// Whether a mode takes strings in segments.
+#[inline(always)]
+pub fn takes_pieces(mode: BERMode) -> bool
+    ensures { IsTrue result ↔ TakesPieces mode }
+{
+    match mode {
+        BERMode::Ber => true,
+        BERMode::Der => false,
+        BERMode::Cer => true,
+    }
+}
+
+/// The rules of the segments: in CER they are strings of DER.
+#[inline(always)]
+pub fn rules_of_pieces(mode: BERMode) -> BERMode
+    ensures { result ≡ piece_mode mode }
+{
+    match mode {
+        BERMode::Ber => BERMode::Ber,
+        BERMode::Der => BERMode::Der,
+        BERMode::Cer => BERMode::Der,
+    }
+}
+
+/// Whether a mode takes so many bytes in one primitive element, if `full` of them fill a segment.
+#[inline(always)]
+pub fn stays_whole(mode: BERMode, full: usize, size: usize) -> bool
+    ensures { IsTrue result ↔ StaysWhole mode full size }
+{
+    match mode {
+        BERMode::Ber => true,
+        BERMode::Der => true,
+        BERMode::Cer => size <= full,
+    }
+}
+
+/// Whether a mode takes segments that are cut so.
+#[inline(always)]
+pub fn takes_cuts(mode: BERMode, cuts: Cuts) -> bool
+    ensures { IsTrue result ↔ AsksFor mode cuts }
+{
+    match mode {
+        BERMode::Ber => true,
+        BERMode::Der => true,
+        BERMode::Cer => cuts.even,
+    }
+}
