@@ -1,7 +1,8 @@
-//! ASN.1 under BER, DER and CER: reading, writing in DER, and types that do both.
+//! ASN.1 under BER, DER and CER: reading, writing in DER and CER, and types that do both.
 //!
-//! `decode_ber`, `decode_der`, `decode_cer` and `encode_der` read and write values of a type as a whole. `parse_ber`, `parse_der`,
-//! `parse_cer` and `construct_der` hand a reader or a writer to a closure, which reads or writes element by element.
+//! `decode_ber`, `decode_der`, `decode_cer`, `encode_der` and `encode_cer` read and write values of a type as a whole. `parse_ber`,
+//! `parse_der`, `parse_cer`, `construct_der` and `construct_cer` hand a reader or a writer to a closure, which reads or writes
+//! element by element.
 //!
 //! ```rust
 //! use std::alloc::Global;
@@ -76,7 +77,8 @@ pub use sets::{set_of_is_read, set_of_is_written, set_of_sets_is_read};
 pub use traits::{BERDecodable, DERCanonical, DEREncodable};
 pub use tuples::{EncodableParts, TupleParts};
 pub use whole::{
-    decode_ber, decode_ber_general, decode_cer, decode_der, encode_der, one_form, one_form_cer,
+    decode_ber, decode_ber_general, decode_cer, decode_der, encode_cer, encode_der, one_form,
+    one_form_cer,
 };
 pub use yasna_base::error::{ASN1Error, ASN1ErrorKind, ASN1Result};
 pub use yasna_base::mode::BERMode;
@@ -87,6 +89,6 @@ pub use yasna_reader::{
     BERReader, BERReaderSeq, BERReaderSet, parse_ber, parse_ber_general, parse_cer, parse_der,
 };
 pub use yasna_writer::{
-    DERWriter, DERWriterSeq, DERWriterSet, construct_der, construct_der_seq, try_construct_der,
-    try_construct_der_seq,
+    DERWriter, DERWriterSeq, DERWriterSet, construct_cer, construct_der, construct_der_seq,
+    try_construct_der, try_construct_der_seq,
 };

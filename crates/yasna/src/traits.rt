@@ -69,7 +69,7 @@ pub trait BERDecodable: Sized + Drop {
     ghost coding: { IsCoding same encodes elements };
 }
 
-/// A type that is written in DER.
+/// A type that is written in DER and CER, by one `encode_der`.
 ///
 /// ```rust
 /// impl DEREncodable for Measurement {

@@ -12,7 +12,7 @@ use std::alloc::Global;
 use yasna_base::error::ASN1Result;
 use yasna_base::mode::BERMode;
 use yasna_reader::parse_ber_general;
-use yasna_writer::construct_der;
+use yasna_writer::{construct_cer, construct_der};
 
 /// Reads a value from bytes, all of them, by these rules.
 ///
@@ -67,6 +67,15 @@ pub fn encode_der<T: DEREncodable>(alloc: Global, value: &T) -> ASN1Result<Vec<u
     ensures memory { IfErr result (λ e. kind_of e ≡ OutOfMemory) }
 {
     construct_der(alloc, |writer| value.encode_der(writer))
+}
+
+/// The CER form of a value that has one, or `OutOfMemory`.
+pub fn encode_cer<T: DEREncodable>(alloc: Global, value: &T) -> ASN1Result<Vec<u8>>
+    requires { T.encodable value.now }
+    ensures form { IfOk result (λ bytes. bytes.items ≡ T.form Cer value.now) }
+    ensures memory { IfErr result (λ e. kind_of e ≡ OutOfMemory) }
+{
+    construct_cer(alloc, |writer| value.encode_der(writer))
 }
 
 /// What is proved of every type that keeps the laws.

@@ -7,13 +7,16 @@ use Rattle.yasna_base.specs.declared.tag.Tag.{Tag}
 use Rattle.yasna_base.specs.declared.tag.PCBit.TheVariants.{Constructed}
 use Rattle.yasna_base.specs.Identifier.{identifier}
 use Rattle.yasna_base.specs.Length.{shortest_length}
-use Rattle.yasna_base.specs.Canonical.{canonical_element, definite_element}
+use Rattle.yasna_base.specs.Canonical.{canonical_element, definite_element, indefinite_element}
+use Rattle.yasna_base.specs.Element.{end_of_contents}
+use Rattle.yasna_base.specs.declared.mode.BERMode.{BERMode}
+use Rattle.yasna_base.specs.declared.mode.BERMode.TheVariants.{Ber, Der, Cer}
 use Rattle.yasna_writer.specs.declared.header.Header.{Header}
 use Rattle.yasna_writer.specs.declared.draft.Beginning.{Beginning}
 use Rattle.yasna_writer.specs.declared.draft.Mark.{Mark}
-use Rattle.yasna_writer.specs.declared.draft.Mark.TheVariants.{Waits, Known}
+use Rattle.yasna_writer.specs.declared.draft.Mark.TheVariants.{Waits, Known, Open}
 use Rattle.yasna_writer.specs.declared.draft.Waiting.{Waiting}
-use Rattle.yasna_writer.specs.Header.{header_bytes}
+use Rattle.yasna_writer.specs.Header.{header_bytes, open_bytes}
 use Rattle.yasna_writer.proofs.Appends.{appended_two}
 use Rattle.yasna_writer.specs.declared.draft.Entry.{Entry}
 use Rattle.yasna_writer.specs.Draft.{mark_bytes, mark_waits, with_entry, joined, AreInOrder, heads_of, waits_of, KnowsPlace, KnowPlaces, AreEntries, IsInnermost, with_element}
@@ -144,6 +147,7 @@ waits_few (h ∷ hs) = omega (arith, waits_few hs, waits_one h.mark)
     waits_one : (m : Mark) → mark_waits m ≤ 1
     waits_one (Waits w) = omega arith
     waits_one (Known h) = omega arith
+    waits_one (Open t) = omega arith
 
 know_append : (a b c d : ℕ) (hs is : List Entry) → KnowPlaces a b hs → KnowPlaces c d is → c ≡ a + heads_of hs → d ≡ b + waits_of hs → KnowPlaces a b (hs ++ is)
 know_append a b c d [] is k l e f =
@@ -168,6 +172,7 @@ know_rest a b c d (g ∷ hs) is k e f =
 known_place : (a b p : ℕ) (m : Mark) → mark_waits m ≡ 0 → KnowsPlace a b p m
 known_place a b p (Waits w) h = absurd (omega arith)
 known_place a b p (Known h) e = tt
+known_place a b p (Open t) e = tt
 
 -- entries among which no element waits know their places anywhere
 know_none : (a b : ℕ) (hs : List Entry) → waits_of hs ≡ 0 → KnowPlaces a b hs
@@ -216,21 +221,20 @@ pub entries_length : (es : List Entry) (c : List ℕ) (heads waits : ℕ) → Ar
 entries_length es c heads waits a = omega (arith, a.counted, joined_length es c)
 
 -- what becomes of entries where an element takes its header, and of the bytes
-pub record Takes (tag : Tag) (start : ℕ) (es : List Entry) (n heads waits : ℕ) (c b : List ℕ) : Type 0 where
+pub record Takes (k : Mark) (start : ℕ) (es : List Entry) (n heads waits : ℕ) (c b : List ℕ) : Type 0 where
   pub entries : AreEntries es n heads waits
-  pub joins : joined es c ≡ with_element tag start b
+  pub joins : joined es c ≡ with_entry (record { place = start; mark = k }) b
 
 -- where no element waits behind it
 pub ended :
-    (front back : List Entry) (w : Waiting) (h : Header) (place heads more waits : ℕ) (c : List ℕ)
+    (front back : List Entry) (w : Waiting) (k : Mark) (place heads more waits : ℕ) (c : List ℕ)
     → AreEntries (front ++ ((record { place = place; mark = Waits w }) ∷ back)) (length c) heads (waits + 1) → w.depth ≡ waits + 1
-    → more ≡ heads + length (header_bytes Constructed h) → more < 2 ^ 63 → h.length + w.start ≡ length c + heads
-    → Takes h.tag w.start (front ++ ((record { place = place; mark = Known h }) ∷ back)) (length c) more waits c
+    → mark_waits k ≡ 0 → more ≡ heads + length (mark_bytes k) → more < 2 ^ 63
+    → Takes k w.start (front ++ ((record { place = place; mark = k }) ∷ back)) (length c) more waits c
     (joined (front ++ ((record { place = place; mark = Waits w }) ∷ back)) c)
-unfolding canonical_element definite_element
-ended front back w h place heads more waits c a d m few l =
+ended front back w k place heads more waits c a d z m few =
     let x : Entry = record { place = place; mark = Waits w } in
-    let y : Entry = record { place = place; mark = Known h } in
+    let y : Entry = record { place = place; mark = k } in
     let o = order_split 0 front x back (length c) a.ordered in
     let know = know_rest 0 0 (heads_of front) (waits_of front) front (x ∷ back) a.placed (omega arith) (omega arith) in
     let none : waits_of back ≡ 0 = omega (arith, a.waiting, waits_of_append front (x ∷ back), know.0.1) in
@@ -239,22 +243,20 @@ ended front back w h place heads more waits c a d m few l =
     let within = order_within place back (length c) o.1 in
     let begins : length head ≡ w.start = omega (arith, joined_length front (take place c), length-take place c, know.0.0) in
     let old : joined (front ++ (x ∷ back)) c ≡ head ++ rest = joined_around 0 front x back c o.0 o.1 in
-    let long : h.length ≡ length rest = omega (arith, ap length old, length-append head rest, joined_length (front ++ (x ∷ back)) c, a.counted) in
     record {
       entries = record {
         ordered = order_around 0 front y back (length c) o.0 o.1;
         counted = omega (arith, a.counted, heads_of_append front (x ∷ back), heads_of_append front (y ∷ back));
-        waiting = omega (arith, a.waiting, waits_of_append front (x ∷ back), waits_of_append front (y ∷ back));
+        waiting = omega (arith, a.waiting, waits_of_append front (x ∷ back), waits_of_append front (y ∷ back), z);
         placed = know_append 0 0 (heads_of front) (waits_of front) front (y ∷ back) (know_front 0 0 front (x ∷ back) a.placed)
-            (tt, know_none (heads_of front + length (header_bytes Constructed h)) (waits_of front + 0) back none) (omega arith) (omega arith);
+            (known_place (heads_of front) (waits_of front) place k z, know_none (heads_of front + length (mark_bytes k)) (waits_of front + mark_waits k) back none)
+            (omega arith) (omega arith);
         few = few;
       };
       joins =
           joined_around 0 front y back c o.0 o.1
-          ∙ ap (λ x. head ++ x) (append_assoc (identifier h.tag Constructed) (shortest_length h.length) rest)
-          ∙ ap (λ k. head ++ (identifier h.tag Constructed ++ (shortest_length k ++ rest))) long
-          ∙ ap₂ (λ x z. x ++ (identifier h.tag Constructed ++ (shortest_length (length z) ++ z)))
-          (sym (ap₂ take (sym begins) old ∙ take-append_seam head rest)) (sym (ap₂ drop (sym begins) old ∙ drop-append_seam head rest));
+          ∙ ap₂ (λ x z. x ++ (mark_bytes k ++ z)) (sym (ap₂ take (sym begins) old ∙ take-append_seam head rest))
+          (sym (ap₂ drop (sym begins) old ∙ drop-append_seam head rest));
     }
 
 -- some element waits where one is the innermost
@@ -266,32 +268,47 @@ waits_some es b place n heads waits a i =
 
 -- the same by the number of the entry
 pub takes :
-    (es : List Entry) (b : Beginning) (h : Header) (place heads more waits : ℕ) (c : List ℕ) → AreEntries es (length c) heads waits
-    → IsInnermost es waits b place → more ≡ heads + length (header_bytes Constructed h) → more < 2 ^ 63 → h.length + b.start ≡ length c + heads
-    → Takes h.tag b.start (set es b.entry (record { place = place; mark = Known h })) (length c) more (waits - 1) c (joined es c)
-takes es b h place heads more waits c a i m few l =
+    (es : List Entry) (b : Beginning) (k : Mark) (place heads more waits : ℕ) (c : List ℕ) → AreEntries es (length c) heads waits
+    → IsInnermost es waits b place → mark_waits k ≡ 0 → more ≡ heads + length (mark_bytes k) → more < 2 ^ 63
+    → Takes k b.start (set es b.entry (record { place = place; mark = k })) (length c) more (waits - 1) c (joined es c)
+takes es b k place heads more waits c a i z m few =
     let w = i.waiting in
     let x : Entry = record { place = place; mark = Waits w } in
-    let y : Entry = record { place = place; mark = Known h } in
+    let y : Entry = record { place = place; mark = k } in
     let front = take b.entry es in
     let back = drop (b.entry + 1) es in
     let split : es ≡ front ++ (x ∷ back) = sym (take-append-drop b.entry es) ∙ ap (λ z. front ++ z) i.there in
     let there : length front ≡ b.entry = omega (arith, length-take b.entry es, length-drop b.entry es, ap length i.there) in
     let some : waits ≡ (waits - 1) + 1 = omega (arith, waits_some es b place (length c) heads waits a i) in
-    let old = subst (λ k. AreEntries (front ++ (x ∷ back)) (length c) heads k) some
+    let old = subst (λ j. AreEntries (front ++ (x ∷ back)) (length c) heads j) some
     (subst (λ (zs : List Entry). AreEntries zs (length c) heads waits) split a) in
-    let new = ended front back w h place heads more (waits - 1) c old (i.inner ∙ some) m few (omega (arith, i.start, l)) in
+    let new = ended front back w k place heads more (waits - 1) c old (i.inner ∙ some) z m few in
     let whole : set es b.entry y ≡ front ++ (y ∷ back) = ap (λ z. set z b.entry y) split ∙ set_at front x back y b.entry there in
-    let known = subst (λ (zs : List Entry). Takes h.tag w.start (front ++ (y ∷ back)) (length c) more (waits - 1) c (joined zs c)) (sym split) new in
-    subst (λ n. Takes h.tag n (set es b.entry y) (length c) more (waits - 1) c (joined es c)) i.start
-    (subst (λ (zs : List Entry). Takes h.tag w.start zs (length c) more (waits - 1) c (joined es c)) (sym whole) known)
+    let known = subst (λ (zs : List Entry). Takes k w.start (front ++ (y ∷ back)) (length c) more (waits - 1) c (joined zs c)) (sym split) new in
+    subst (λ n. Takes k n (set es b.entry y) (length c) more (waits - 1) c (joined es c)) i.start
+    (subst (λ (zs : List Entry). Takes k w.start zs (length c) more (waits - 1) c (joined es c)) (sym whole) known)
 
--- a header put in front of bytes from a place on
-pub apart :
-    (h : Header) (place : ℕ) (b : List ℕ) → place ≤ length b → h.length + place ≡ length b
-    → with_entry (record { place = place; mark = Known h }) b ≡ with_element h.tag place b
-unfolding canonical_element definite_element
-apart h place b within l =
+definite_apart : (h : Header) (place : ℕ) (b : List ℕ) → h.length + place ≡ length b →
+    with_entry (record { place = place; mark = Known h }) b ≡ take place b ++ definite_element h.tag Constructed (drop place b)
+unfolding definite_element
+definite_apart h place b l =
     let long : h.length ≡ length (drop place b) = omega (arith, length-drop place b) in
     ap (λ x. take place b ++ x) (append_assoc (identifier h.tag Constructed) (shortest_length h.length) (drop place b))
     ∙ ap (λ k. take place b ++ (identifier h.tag Constructed ++ (shortest_length k ++ drop place b))) long
+
+-- a header that counts the bytes from a place on makes them an element, but in CER
+pub apart :
+    (m : BERMode) (h : Header) (place : ℕ) (b : List ℕ) → (m ≡ Cer → ⊥) → h.length + place ≡ length b
+    → with_entry (record { place = place; mark = Known h }) b ≡ with_element m h.tag place b
+unfolding canonical_element
+apart Ber h place b not l = definite_apart h place b l
+apart Der h place b not l = definite_apart h place b l
+apart Cer h place b not l = absurd (not refl)
+
+-- one of indefinite length makes them an element of CER, where two zeros were appended
+pub open_apart : (t : Tag) (place : ℕ) (b : List ℕ) → place ≤ length b →
+    with_entry (record { place = place; mark = Open t }) (b ++ end_of_contents) ≡ with_element Cer t place b
+unfolding canonical_element indefinite_element
+open_apart t place b within =
+    ap₂ (λ x y. x ++ (open_bytes t ++ y)) (take-append-le place b end_of_contents within) (drop-append-le place b end_of_contents within)
+    ∙ ap (λ x. take place b ++ x) (append_assoc (identifier t Constructed) (128 ∷ []) (drop place b ++ end_of_contents))

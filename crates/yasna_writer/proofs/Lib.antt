@@ -8,6 +8,7 @@ pub mod Integers
 pub mod Padding
 pub mod Primitives
 pub mod RawElements
+pub mod SegmentSteps
 pub mod Sequences
 pub mod Sets
 pub mod SetParts

@@ -1,7 +1,8 @@
 -- The bytes of a bit string, with zeros in the bits that are left over.
-use Rattle.std.proofs.Common.{◌≡◌, ℕ, ◌+◌, ◌-◌, ◌*◌, ◌/◌, ◌%◌, ◌^◌, ◌<◌, ◌≤◌, List, [], ◌∷◌, ◌++◌, length, refl, sym, ap, ◌∙◌, arith}
+use Rattle.std.proofs.Common.{◌≡◌, ℕ, ◌+◌, ◌-◌, ◌*◌, ◌/◌, ◌%◌, ◌^◌, ◌<◌, ◌≤◌, List, [], ◌∷◌, ◌++◌, length, length-append, refl, sym, ap, ◌∙◌, arith}
 use Rattle.std.proofs.Math.Nat.{mod-eq_of_lt, mod-add-div'}
-use Rattle.yasna_base.specs.Bits.{padded, unused_bits}
+use Rattle.yasna_base.specs.Bits.{padded, unused_bits, bits_contents}
+use Rattle.yasna_writer.specs.Segments.{bits_with}
 
 -- only the last byte changes
 pub padded_last : (u : ℕ) (front : List ℕ) (last : ℕ) → padded u (front ++ last ∷ []) ≡ front ++ (last - last % 2 ^ u) ∷ []
@@ -23,4 +24,14 @@ pub padded_contents :
     ≡ u ∷ (front ++ (last / 2 ^ u * 2 ^ u % 256) ∷ [])
 padded_contents bytes front last len u byte enough least split unused =
     let same : 8 * length bytes - len ≡ u = omega arith in
+    rw same (ap (λ zs. u ∷ zs) (ap (padded u) split ∙ padded_last u front last ∙ ap (λ x. front ++ x ∷ []) (sym (low_bits_cleared last u byte))))
+
+-- the contents of a string by the count of bits that are left over
+pub contents_with :
+    (bytes front : List ℕ) (last u : ℕ) → last < 256 → u < 8 → bytes ≡ front ++ last ∷ [] →
+    bits_contents (bits_with u bytes) ≡ u ∷ (front ++ (last / 2 ^ u * 2 ^ u % 256) ∷ [])
+contents_with bytes front last u byte few split =
+    let n = ap length split in
+    let l = length-append front (last ∷ []) in
+    let same : 8 * length bytes - (8 * length bytes - u) ≡ u = omega arith in
     rw same (ap (λ zs. u ∷ zs) (ap (padded u) split ∙ padded_last u front last ∙ ap (λ x. front ++ x ∷ []) (sym (low_bits_cleared last u byte))))

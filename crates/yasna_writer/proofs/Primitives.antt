@@ -1,5 +1,5 @@
 -- A primitive element that is one append.
-use Rattle.std.proofs.Common.{◌≡◌, ℕ, ◌<◌, List, [], ◌∷◌, ◌++◌, length, get_or, drop, refl, None, Some, ap, ap₂, sym, ◌∙◌, arith}
+use Rattle.std.proofs.Common.{◌≡◌, ℕ, ◌<◌, List, [], ◌∷◌, ◌++◌, length, get_or, drop, refl, None, Some, ap, ap₂, sym, ◌∙◌, arith, append_assoc}
 use Rattle.std.specs.Prelude.{Result, MatchResult, Option}
 use Rattle.std.proofs.lemmas.Result.{MatchResult-weaker}
 use Rattle.yasna_base.specs.declared.error.ASN1Error.{ASN1Error}
@@ -15,6 +15,7 @@ use Rattle.yasna_base.proofs.Identifier.{identifier_short}
 use Rattle.yasna_base.proofs.Length.{short_length}
 use Rattle.yasna_writer.specs.declared.header.Header.{Header}
 use Rattle.yasna_writer.specs.Header.{header_bytes}
+use Rattle.yasna_writer.specs.State.{Appended}
 use Rattle.yasna_writer.specs.View.{Written, Wrote}
 
 -- where the tag's number is below 31 and the contents are short, identifier and length are one byte each
@@ -47,6 +48,14 @@ wrote_by piece bs old mid new r none taken e h =
     (λ _ f. f ∙ ap₂ (λ (w : Written) x. record w { bytes = w.bytes ++ x }) taken e
     ∙ ap (λ (k : Option ASN1Error). record old { bytes = old.bytes ++ bs; tag = None; kept = k }) none)
     (λ k f. f))
+
+-- what two appends leave
+pub appended_both :
+    (w mid new : Written) (r : Result (Unit {0}) ASN1Error) (xs ys : List ℕ) → mid ≡ record w { bytes = w.bytes ++ xs } → Appended ys mid new r
+    → Appended (xs ++ ys) w new r
+appended_both w mid new r xs ys e h =
+    MatchResult-weaker r h
+    (λ _ f. f ∙ ap (λ (v : Written). record v { bytes = v.bytes ++ ys }) e ∙ ap (λ x. record w { bytes = x }) (append_assoc w.bytes xs ys)) (λ k f. f)
 
 -- eight bytes one by one
 pub eight_bytes :

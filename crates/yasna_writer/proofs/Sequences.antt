@@ -2,7 +2,6 @@
 use Rattle.std.proofs.Common.{◌≡◌, ℕ, List, ◌++◌, length, take, drop, None, sym, ap, ap₂, subst, ◌∙◌}
 use Rattle.std.proofs.Math.Seq.{take-append_seam, drop-append_seam}
 use Rattle.yasna_base.specs.declared.mode.BERMode.{BERMode}
-use Rattle.yasna_base.specs.declared.mode.BERMode.TheVariants.{Der}
 use Rattle.yasna_base.specs.declared.tag.Tag.{Tag}
 use Rattle.yasna_base.specs.declared.tag.PCBit.TheVariants.{Constructed}
 use Rattle.yasna_base.specs.Canonical.{canonical_element}
@@ -15,12 +14,12 @@ use Rattle.yasna_writer.specs.State.{KeptAtEnd, BeginsAt, Ends}
 
 -- the bytes around a seam are put around an element of what stands behind it
 element_at_seam :
-    (t u : Tag) (n : ℕ) (front c whole : List ℕ) → n ≡ length front → t ≡ u → whole ≡ front ++ c
-    → with_element t n whole ≡ front ++ canonical_element Der u Constructed c
-element_at_seam t u n front c whole l s e =
+    (m : BERMode) (t u : Tag) (n : ℕ) (front c whole : List ℕ) → n ≡ length front → t ≡ u → whole ≡ front ++ c
+    → with_element m t n whole ≡ front ++ canonical_element m u Constructed c
+element_at_seam m t u n front c whole l s e =
     let head = ap₂ take l e ∙ take-append_seam front c in
     let rest = ap₂ drop l e ∙ drop-append_seam front c in
-    ap₂ (λ x y. x ++ canonical_element Der t Constructed y) head rest ∙ ap (λ v. front ++ canonical_element Der v Constructed c) s
+    ap₂ (λ x y. x ++ canonical_element m t Constructed y) head rest ∙ ap (λ v. front ++ canonical_element m v Constructed c) s
 
 -- a writing without a failure whose tag was taken is the one that a closure is handed
 pub handed_untagged : (old new : Written) → old.kept ≡ None → new ≡ record old { tag = None } → new ≡ handed old
@@ -35,8 +34,8 @@ module _ (t : Tag) (old between left new : Written) (b : Beginning) (begun : Beg
   pub ended_writes : new.kept ≡ None → (c : List ℕ) → left.bytes ≡ old.bytes ++ c → new ≡ holding old (old.bytes ++ canonical_element old.mode t Constructed c)
   ended_writes none c e =
       ends.bytes none
-      ∙ ap (λ x. holding (record old { mode = Der }) x) (element_at_seam b.tag t b.start old.bytes c left.bytes begun.start begun.tagged e)
-      ∙ ap (λ (m : BERMode). holding (record old { mode = m }) (old.bytes ++ canonical_element m t Constructed c)) (sym begun.mode)
+      ∙ ap (λ x. holding (record old { mode = b.mode }) x) (element_at_seam b.mode b.tag t b.start old.bytes c left.bytes begun.start begun.tagged e)
+      ∙ ap (λ (m : BERMode). holding (record old { mode = m }) (old.bytes ++ canonical_element m t Constructed c)) begun.mode
 
 -- an implicit tag that waits at the end is dropped
 pub ends_untagged : (b : Beginning) (left ended new : Written) → Ends b left ended → new ≡ record ended { tag = None } → Ends b left new

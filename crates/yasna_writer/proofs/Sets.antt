@@ -4,6 +4,7 @@ use Rattle.std.specs.Global.{Global}
 use Rattle.std.specs.List.{AllByRecursion, concat, flat_map}
 use Rattle.std.specs.Prelude.{Ok}
 use Rattle.yasna_base.specs.declared.error.ASN1Error.{ASN1Error}
+use Rattle.yasna_base.specs.declared.mode.BERMode.{BERMode}
 use Rattle.yasna_base.specs.declared.tag.PCBit.TheVariants.{Constructed}
 use Rattle.yasna_base.specs.declared.tag.Tag.{Tag}
 use Rattle.yasna_base.specs.Canonical.{canonical_element}
@@ -12,19 +13,19 @@ use Rattle.yasna_base.specs.Set.{SetOfContents}
 use Rattle.yasna_writer.specs.declared.ordered_part.OrderedPart.{OrderedPart}
 use Rattle.yasna_writer.specs.Parts.{WrittenParts, bytes_each, ordered_bytes}
 use Rattle.yasna_writer.specs.Set.{EndsPart, LacksParts, BeginsNext, EndsSet}
-use Rattle.yasna_writer.specs.View.{Written, empty_writing}
+use Rattle.yasna_writer.specs.View.{Written, begun}
 
 -- a part begins behind those before
-pub part_begins : (begun : Bool) (old : List (Vec ℕ Global)) (last : Written) (new : List (Vec ℕ Global)) (w : Written) → EndsPart begun old last new (Ok tt) →
-    w ≡ record empty_writing { kept = None } → BeginsNext begun old last new w
-part_begins begun old last new w h e =
-    subst (λ x. BeginsNext begun old last new x) (sym e) (record { begins = record { keeps = h.0; fresh = refl }; before = h.1 })
+pub part_begins : (m : BERMode) (b : Bool) (old : List (Vec ℕ Global)) (last : Written) (new : List (Vec ℕ Global)) (w : Written) → EndsPart b old last new (Ok tt) →
+    w ≡ record (begun m) { kept = None } → BeginsNext m b old last new w
+part_begins m b old last new w h e =
+    subst (λ x. BeginsNext m b old last new x) (sym e) (record { begins = record { keeps = h.0; fresh = refl }; before = h.1 })
 
 -- the same where a failure is kept
-pub part_fails : (begun : Bool) (old : List (Vec ℕ Global)) (last : Written) (new : List (Vec ℕ Global)) (w : Written) (k : ASN1Error) → LacksParts last.kept k →
-    new ≡ [] → w ≡ record empty_writing { kept = Some k } → BeginsNext begun old last new w
-part_fails begun old last new w k h n e =
-    subst (λ x. BeginsNext begun old last new x) (sym e) (record { begins = record { keeps = h; fresh = refl }; before = ap bytes_each n })
+pub part_fails : (m : BERMode) (b : Bool) (old : List (Vec ℕ Global)) (last : Written) (new : List (Vec ℕ Global)) (w : Written) (k : ASN1Error) →
+    LacksParts last.kept k → new ≡ [] → w ≡ record (begun m) { kept = Some k } → BeginsNext m b old last new w
+part_fails m b old last new w k h n e =
+    subst (λ x. BeginsNext m b old last new x) (sym e) (record { begins = record { keeps = h; fresh = refl }; before = ap bytes_each n })
 
 -- parts joined are their bytes joined
 pub flat_concat : {X : Type 0} (f : X → List ℕ) (xs : List X) → flat_map f xs ≡ concat (map f xs)

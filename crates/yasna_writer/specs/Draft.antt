@@ -1,25 +1,27 @@
 -- Headers that stand apart from the contents, and what they are joined to.
 use Rattle.std.specs.Prelude.{◌≡◌, ℕ, ◌+◌, ◌^◌, ◌<◌, ◌≤◌, List, [], ◌∷◌, ◌++◌, length, take, drop}
-use Rattle.yasna_base.specs.declared.mode.BERMode.TheVariants.{Der}
+use Rattle.yasna_base.specs.declared.mode.BERMode.{BERMode}
 use Rattle.yasna_base.specs.declared.tag.Tag.{Tag}
 use Rattle.yasna_base.specs.declared.tag.PCBit.TheVariants.{Constructed}
 use Rattle.yasna_base.specs.Canonical.{canonical_element}
 use Rattle.yasna_writer.specs.declared.draft.Beginning.{Beginning}
 use Rattle.yasna_writer.specs.declared.draft.Entry.{Entry}
 use Rattle.yasna_writer.specs.declared.draft.Mark.{Mark}
-use Rattle.yasna_writer.specs.declared.draft.Mark.TheVariants.{Waits, Known}
+use Rattle.yasna_writer.specs.declared.draft.Mark.TheVariants.{Waits, Known, Open}
 use Rattle.yasna_writer.specs.declared.draft.Waiting.{Waiting}
-use Rattle.yasna_writer.specs.Header.{header_bytes}
+use Rattle.yasna_writer.specs.Header.{header_bytes, open_bytes}
 
 -- an element that isn't ended has no bytes yet
 abbrev pub mark_bytes : Mark → List ℕ
 mark_bytes (Waits w) = []
 mark_bytes (Known h) = header_bytes Constructed h
+mark_bytes (Open t) = open_bytes t
 
 -- how many elements that aren't ended a mark stands for
 abbrev pub mark_waits : Mark → ℕ
 mark_waits (Waits w) = 1
 mark_waits (Known h) = 0
+mark_waits (Open t) = 0
 
 -- the header put into the bytes at its place
 abbrev pub with_entry : Entry → List ℕ → List ℕ
@@ -50,6 +52,7 @@ waits_of (e ∷ es) = mark_waits e.mark + waits_of es
 abbrev pub KnowsPlace : ℕ → ℕ → ℕ → Mark → Type 0
 KnowsPlace heads waits place (Waits w) = (w.start ≡ place + heads) × (w.depth ≡ waits + 1)
 KnowsPlace heads waits place (Known h) = Unit {0}
+KnowsPlace heads waits place (Open t) = Unit {0}
 
 abbrev pub KnowPlaces : ℕ → ℕ → List Entry → Type 0
 KnowPlaces heads waits [] = Unit {0}
@@ -71,5 +74,5 @@ pub record IsInnermost (es : List Entry) (waits : ℕ) (b : Beginning) (place : 
   pub start : waiting.start ≡ b.start
 
 -- the bytes with those from n on made an element
-abbrev pub with_element : Tag → ℕ → List ℕ → List ℕ
-with_element t n b = take n b ++ canonical_element Der t Constructed (drop n b)
+abbrev pub with_element : BERMode → Tag → ℕ → List ℕ → List ℕ
+with_element m t n b = take n b ++ canonical_element m t Constructed (drop n b)

@@ -1,9 +1,22 @@
 -- The header of an element: identifier and length (X.690, 8.1.2 and 8.1.3).
-use Rattle.std.specs.Prelude.{ℕ, List, ◌++◌}
+use Rattle.std.specs.Prelude.{ℕ, List, [], ◌∷◌, ◌++◌}
+use Rattle.yasna_base.specs.declared.mode.BERMode.{BERMode}
+use Rattle.yasna_base.specs.declared.mode.BERMode.TheVariants.{Ber, Der, Cer}
 use Rattle.yasna_base.specs.declared.tag.PCBit.{PCBit}
+use Rattle.yasna_base.specs.declared.tag.PCBit.TheVariants.{Primitive, Constructed}
+use Rattle.yasna_base.specs.declared.tag.Tag.{Tag}
 use Rattle.yasna_base.specs.Identifier.{identifier}
 use Rattle.yasna_base.specs.Length.{shortest_length}
 use Rattle.yasna_writer.specs.declared.header.Header.{Header}
 
 abbrev pub header_bytes : PCBit → Header → List ℕ
 header_bytes p h = identifier h.tag p ++ shortest_length h.length
+
+-- where the length is indefinite
+abbrev pub open_bytes : Tag → List ℕ
+open_bytes t = identifier t Constructed ++ (128 ∷ [])
+
+-- what stands in front of a payload that is written as it is
+abbrev pub raw_header : BERMode → PCBit → Header → List ℕ
+raw_header Cer Constructed h = open_bytes h.tag
+raw_header m p h = header_bytes p h

@@ -7,7 +7,6 @@ use Rattle.std.specs.Global.{Global}
 use Rattle.yasna_base.specs.declared.error.ASN1Error.{ASN1Error}
 use Rattle.yasna_base.specs.declared.error.ASN1ErrorKind.TheVariants.{OutOfMemory, Invalid}
 use Rattle.yasna_base.specs.declared.mode.BERMode.{BERMode}
-use Rattle.yasna_base.specs.declared.mode.BERMode.TheVariants.{Der}
 use Rattle.yasna_base.specs.Error.{kind_of}
 use Rattle.yasna_base.specs.Set.{SetPart, HasItsTag, parts_bytes, SetOfContents, SetContents}
 use Rattle.yasna_writer.specs.Sequence.{AnswersKept, AnswersOnly}
@@ -48,8 +47,8 @@ pub record BeginsPart (mode : BERMode) (kept : Option ASN1Error) (w : Written) :
   pub fresh : w ≡ record { bytes = []; mode = mode; tag = None; kept = w.kept }
 
 -- that of a part, behind those before
-pub record BeginsNext (begun : Bool) (old : List (Vec ℕ Global)) (last : Written) (new : List (Vec ℕ Global)) (w : Written) : Type 0 where
-  pub begins : BeginsPart Der last.kept w
+pub record BeginsNext (mode : BERMode) (begun : Bool) (old : List (Vec ℕ Global)) (last : Written) (new : List (Vec ℕ Global)) (w : Written) : Type 0 where
+  pub begins : BeginsPart mode last.kept w
   pub before : bytes_each new ≡ unless_kept w.kept (bytes_each old ++ last_part begun last.bytes)
 
 -- s ends with the part that is behind r at last

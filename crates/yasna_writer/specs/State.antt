@@ -2,7 +2,6 @@
 use Rattle.std.specs.Prelude.{◌≡◌, ℕ, ◌≤◌, ◌<◌, ◌⊎◌, List, ◌++◌, length, Option, Some, None, Result, MatchResult}
 use Rattle.yasna_base.specs.declared.error.ASN1Error.{ASN1Error}
 use Rattle.yasna_base.specs.declared.error.ASN1ErrorKind.TheVariants.{OutOfMemory, Invalid}
-use Rattle.yasna_base.specs.declared.mode.BERMode.TheVariants.{Der}
 use Rattle.yasna_base.specs.declared.tag.Tag.{Tag}
 use Rattle.yasna_base.specs.Error.{kind_of}
 use Rattle.yasna_writer.specs.declared.draft.Beginning.{Beginning}
@@ -33,12 +32,12 @@ TakesTag own old new result =
 
 -- an element begins behind the bytes that stand, under this tag
 pub record BeginsAt (tag : Tag) (old new : Written) (b : Beginning) : Type 0 where
-  pub mode : old.mode ≡ Der
+  pub mode : b.mode ≡ old.mode
   pub tagged : b.tag ≡ tag
   pub start : b.start ≡ length old.bytes
   pub same : new ≡ old
 
--- an element ends around what is left from its beginning on, or a failure is kept
+-- an element ends, in the mode that it began with, around what is left from its beginning on, or a failure is kept
 pub record Ends (b : Beginning) (left new : Written) : Type 0 where
   pub kept : KeptAtEnd b.start left new.kept
-  pub bytes : new.kept ≡ None → new ≡ record { bytes = with_element b.tag b.start left.bytes; mode = Der; tag = None; kept = None }
+  pub bytes : new.kept ≡ None → new ≡ record { bytes = with_element b.mode b.tag b.start left.bytes; mode = b.mode; tag = None; kept = None }

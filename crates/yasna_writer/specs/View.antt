@@ -24,9 +24,13 @@ holding w bs = record w { bytes = bs; tag = None; kept = None }
 abbrev pub handed : Written → Written
 handed w = holding w w.bytes
 
--- a writing that begins
+-- a writing that begins, in this mode
+abbrev pub begun : BERMode → Written
+begun m = record { bytes = []; mode = m; tag = None; kept = None }
+
+-- one of DER
 abbrev pub empty_writing : Written
-empty_writing = record { bytes = []; mode = Der; tag = None; kept = None }
+empty_writing = begun Der
 
 -- a kept failure is answered and stays; else Ok appended bs under the tag, which is used up, and Err is want of
 -- memory, which is kept

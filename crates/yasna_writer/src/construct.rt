@@ -2,13 +2,14 @@
 ghost use Rattle.std.specs.Prelude.{◌≡◌, Result};
 ghost use Rattle.std.specs.Fn.{FnOnceTakesAtMut, FnOnceReturnsAtMut};
 ghost use Rattle.yasna_base.specs.declared.error.ASN1Error.{ASN1Error};
-ghost use Rattle.yasna_writer.specs.View.{Written, empty_writing};
+ghost use Rattle.yasna_base.specs.declared.mode.BERMode.TheVariants.{Cer};
+ghost use Rattle.yasna_writer.specs.View.{Written, begun, empty_writing};
 ghost use Rattle.yasna_writer.specs.Construct.{Constructed};
 
 use crate::sequence::DERWriterSeq;
 use crate::state::{DERWriter, Writer};
 use std::alloc::Global;
-use yasna_base::{ASN1Error, ASN1Result};
+use yasna_base::{ASN1Error, ASN1Result, BERMode};
 
 /// The bytes that a closure writes.
 ///
@@ -35,9 +36,42 @@ pub fn try_construct_der<E: From<ASN1Error> + Drop, F: FnOnce(DERWriter<'_>) -> 
     requires { FnOnceTakesAtMut F.FnOnce f empty_writing }
     ensures { (own : Result (Unit {0}) E) × (left : Written) × FnOnceReturnsAtMut F.FnOnce f empty_writing own left × Constructed E.from_gives left own result }
 {
-    let mut writer = Writer::new(alloc);
+    construct_by(alloc, BERMode::Der, f)
+}
+
+// The bytes that a closure writes by these rules.
+#[inline(always)]
+fn construct_by<E: From<ASN1Error> + Drop, F: FnOnce(DERWriter<'_>) -> Result<(), E>>(
+    alloc: Global,
+    mode: BERMode,
+    f: F,
+) -> Result<Vec<u8>, E>
+    requires { FnOnceTakesAtMut F.FnOnce f (begun mode) }
+    ensures { (own : Result (Unit {0}) E) × (left : Written) × FnOnceReturnsAtMut F.FnOnce f (begun mode) own left × Constructed E.from_gives left own result }
+{
+    let mut writer = Writer::new(alloc, mode);
     let own = f(&mut writer);
     writer.finish(own)
+}
+
+/// The bytes that a closure writes in CER (X.690, clause 9).
+///
+/// Elements with parts have indefinite length, and strings of more than 1000 octets stand in segments. Answers as `construct_der`
+/// does.
+///
+/// ```rust
+/// pub fn in_cer(alloc: Global, octets: &[u8]) -> ASN1Result<Vec<u8>> {
+///     construct_cer(alloc, |writer| writer.write_bytes(octets))
+/// }
+/// ```
+pub fn construct_cer<F: FnOnce(DERWriter<'_>) -> ASN1Result<()>>(
+    alloc: Global,
+    f: F,
+) -> ASN1Result<Vec<u8>>
+    requires { FnOnceTakesAtMut F.FnOnce f (begun Cer) }
+    ensures { (own : Result (Unit {0}) ASN1Error) × (left : Written) × FnOnceReturnsAtMut F.FnOnce f (begun Cer) own left × Constructed (λ k e. e ≡ k) left own result }
+{
+    construct_by(alloc, BERMode::Cer, f)
 }
 
 /// The bytes that a closure writes as parts, one after the other, with no header around them.
@@ -64,7 +98,7 @@ pub fn try_construct_der_seq<
     requires { FnOnceTakesAtMut F.FnOnce f empty_writing }
     ensures { (own : Result (Unit {0}) E) × (left : Written) × FnOnceReturnsAtMut F.FnOnce f empty_writing own left × Constructed E.from_gives left own result }
 {
-    let mut sequence = DERWriterSeq::over(Writer::new(alloc));
+    let mut sequence = DERWriterSeq::over(Writer::new(alloc, BERMode::Der));
     let own = f(&mut sequence);
     sequence.finish(own)
 }

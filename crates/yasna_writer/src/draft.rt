@@ -5,18 +5,19 @@
 ghost use Rattle.std.specs.Prelude.{◌≡◌, ◌≤◌, ◌<◌, ◌+◌, ◌++◌, ◌⊎◌, [], length, length as count, vec_len, IfOk, OnOk, IfSome, MatchResult};
 ghost use Rattle.yasna_base.specs.Error.{kind_of};
 ghost use Rattle.yasna_base.specs.declared.error.ASN1ErrorKind.TheVariants.{OutOfMemory, Invalid};
+ghost use Rattle.yasna_base.specs.declared.mode.BERMode.TheVariants.{Cer};
 ghost use Rattle.yasna_base.specs.Digits.{base128};
 ghost use Rattle.std.specs.List.{flat_map};
-ghost use Rattle.yasna_writer.specs.Header.{header_bytes};
-ghost use Rattle.yasna_writer.specs.Draft.{mark_bytes, joined, AreInOrder, IsInnermost, with_element};
+ghost use Rattle.yasna_writer.specs.Header.{header_bytes, open_bytes};
+ghost use Rattle.yasna_writer.specs.Draft.{mark_bytes, mark_waits, with_entry, joined, AreInOrder, IsInnermost, with_element};
 
-use crate::header::{Header, append_header, header_length};
-use crate::identifier::{append, leading};
+use crate::header::{Header, append_header, append_open, header_length};
+use crate::identifier::{append, identifier_length, leading};
 use crate::oid::append_subidentifiers;
 use std::alloc::{AllocError, Global};
 use std::marker::Model;
 use std::mem;
-use yasna_base::{ASN1Error, ASN1ErrorKind, ASN1Result, PCBit, Tag};
+use yasna_base::{ASN1Error, ASN1ErrorKind, ASN1Result, BERMode, PCBit, Tag};
 
 // What an element that isn't ended knows of its place.
 #[derive(Clone, Copy)]
@@ -32,6 +33,8 @@ pub(crate) struct Waiting {
 pub(crate) enum Mark {
     Waits(Waiting),
     Known(Header),
+    // The header is that of indefinite length.
+    Open(Tag),
 }
 
 // A place in the contents at which an element with parts begins.
@@ -49,6 +52,8 @@ pub(crate) struct Beginning {
     // How many bytes stand in front of it, those of headers too.
     pub(crate) start: usize,
     pub(crate) tag: Tag,
+    // By which rules it is written, whichever writer a closure leaves in the place of the one that it was lent.
+    pub(crate) mode: BERMode,
 }
 
 // Contents and headers. Contracts see the bytes that they are joined to.
@@ -116,6 +121,20 @@ fn append_mark(out: &mut Vec<u8>, mark: Mark) -> Result<(), AllocError>
     match mark {
         Mark::Waits(_) => Ok(()),
         Mark::Known(header) => append_header(out, header, PCBit::Constructed),
+        Mark::Open(tag) => append_open(out, tag),
+    }
+}
+
+// How many bytes a header takes.
+#[inline(always)]
+fn mark_length(mark: Mark) -> usize
+    ensures octets { result ≡ count (mark_bytes mark) }
+    ensures few { result ≤ 20 }
+{
+    match mark {
+        Mark::Waits(_) => 0,
+        Mark::Known(header) => header_length(header.tag, header.length),
+        Mark::Open(tag) => identifier_length(tag) + 1,
     }
 }
 
@@ -159,6 +178,14 @@ impl Draft {
         append_opening(&mut self.contents, header, pc)
     }
 
+    // Appends the header of an element of indefinite length, and makes room for so many bytes behind it.
+    #[tactic(auto, using(crate::proofs::Drafts::joined_append))]
+    pub(crate) fn append_open(&mut self, tag: Tag, length: usize) -> Result<(), AllocError>
+        ensures { OnOk result (self.new ≡ self.old ++ open_bytes tag) }
+    {
+        append_roomy(&mut self.contents, tag, length)
+    }
+
     // Appends numbers in base 128.
     #[tactic(auto, using(crate::proofs::Drafts::joined_append))]
     pub(crate) fn append_subidentifiers(
@@ -173,10 +200,11 @@ impl Draft {
 
     // Marks where an element with parts begins. Where there is no memory for the mark, its end does without.
     #[inline(always)]
-    pub(crate) fn begin(&mut self, tag: Tag) -> Beginning
+    pub(crate) fn begin(&mut self, tag: Tag, mode: BERMode) -> Beginning
         ensures same { self.new ≡ self.old }
         ensures start { result.start ≡ length self.old }
         ensures tagged { result.tag ≡ tag }
+        ensures mode { result.mode ≡ mode }
     {
         let place = self.contents.len();
         let start = self.len();
@@ -184,6 +212,7 @@ impl Draft {
             entry: self.entries.len(),
             start,
             tag,
+            mode,
         };
         let depth = self.waits + 1;
         let entry = Entry {
@@ -200,25 +229,47 @@ impl Draft {
     // or `OutOfMemory`.
     #[inline(always)]
     pub(crate) fn end(&mut self, alloc: Global, beginning: Beginning) -> ASN1Result<()>
-        ensures { MatchResult result (λ _. (beginning.start ≤ length self.old) × (self.new ≡ with_element beginning.tag beginning.start self.old)) (λ e. (kind_of e ≡ OutOfMemory) ⊎ ((kind_of e ≡ Invalid) × (length self.old < beginning.start))) }
+        ensures { MatchResult result (λ _. (beginning.start ≤ length self.old) × (self.new ≡ with_element beginning.mode beginning.tag beginning.start self.old)) (λ e. (kind_of e ≡ OutOfMemory) ⊎ ((kind_of e ≡ Invalid) × (length self.old < beginning.start))) }
     {
         let all = self.len();
         if all < beginning.start {
             return Err(ASN1Error::new(ASN1ErrorKind::Invalid));
         }
-        let length = all - beginning.start;
+        if let BERMode::Cer = beginning.mode {
+            return self.end_open(alloc, beginning);
+        }
         let tag = beginning.tag;
+        let length = all - beginning.start;
+        self.put(alloc, beginning, Mark::Known(Header { tag, length }))
+    }
+
+    // The same in CER: two zeros end the contents, whose length isn't counted (X.690, 9.1).
+    #[inline(never)]
+    fn end_open(&mut self, alloc: Global, beginning: Beginning) -> ASN1Result<()>
+        requires { beginning.start ≤ length self.old }
+        ensures { MatchResult result (λ _. self.new ≡ with_element Cer beginning.tag beginning.start self.old) (λ e. kind_of e ≡ OutOfMemory) }
+    {
+        match self.append(&[0, 0]) {
+            Ok(()) => self.put(alloc, beginning, Mark::Open(beginning.tag)),
+            Err(_) => Err(ASN1Error::new(ASN1ErrorKind::OutOfMemory)),
+        }
+    }
+
+    // Puts a header where an element began, or lacks memory.
+    #[inline(always)]
+    fn put(&mut self, alloc: Global, beginning: Beginning, mark: Mark) -> ASN1Result<()>
+        requires reached { beginning.start ≤ length self.old }
+        requires header { mark_waits mark ≡ 0 }
+        ensures { MatchResult result (λ _. self.new ≡ with_entry (record { place = beginning.start; mark = mark }) self.old) (λ e. kind_of e ≡ OutOfMemory) }
+    {
         let Some(place) = innermost(&self.entries, self.waits, beginning) else {
-            return self.end_apart(alloc, beginning.start, Header { tag, length });
+            return self.put_apart(alloc, beginning.start, mark);
         };
-        let heads = self.heads + header_length(tag, length);
+        let heads = self.heads + mark_length(mark);
         if heads > usize::MAX / 2 {
             return Err(ASN1Error::new(ASN1ErrorKind::OutOfMemory));
         }
-        self.entries[beginning.entry] = Entry {
-            place,
-            mark: Mark::Known(Header { tag, length }),
-        };
+        self.entries[beginning.entry] = Entry { place, mark };
         self.heads = heads;
         self.waits -= 1;
         Ok(())
@@ -227,12 +278,12 @@ impl Draft {
     // The same where the element has no entry, or others that aren't ended stand behind it: all is joined, so that the
     // element's start is a place in the contents.
     #[cold]
-    fn end_apart(&mut self, alloc: Global, start: usize, header: Header) -> ASN1Result<()>
-        requires reached { start ≤ length self.old }
-        requires counted { header.length + start ≡ length self.old }
-        ensures { MatchResult result (λ _. self.new ≡ with_element header.tag start self.old) (λ e. kind_of e ≡ OutOfMemory) }
+    fn put_apart(&mut self, alloc: Global, place: usize, mark: Mark) -> ASN1Result<()>
+        requires reached { place ≤ length self.old }
+        requires header { mark_waits mark ≡ 0 }
+        ensures { MatchResult result (λ _. self.new ≡ with_entry (record { place = place; mark = mark }) self.old) (λ e. kind_of e ≡ OutOfMemory) }
     {
-        match self.ended(alloc, start, header) {
+        match self.marked(alloc, place, mark) {
             Ok(draft) => {
                 *self = draft;
                 Ok(())
@@ -242,21 +293,18 @@ impl Draft {
     }
 
     // The bytes with a header at a place.
-    fn ended(&mut self, alloc: Global, place: usize, header: Header) -> Result<Draft, AllocError>
+    fn marked(&mut self, alloc: Global, place: usize, mark: Mark) -> Result<Draft, AllocError>
         requires reached { place ≤ length self.old }
-        requires counted { header.length + place ≡ length self.old }
-        ensures { IfOk result (λ draft. draft ≡ with_element header.tag place self.old) }
+        requires header { mark_waits mark ≡ 0 }
+        ensures { IfOk result (λ draft. draft ≡ with_entry (record { place = place; mark = mark }) self.old) }
     {
         let contents = self.take_bytes(alloc)?;
         let mut entries = Vec::new(alloc);
-        entries.push(Entry {
-            place,
-            mark: Mark::Known(header),
-        })?;
+        entries.push(Entry { place, mark })?;
         Ok(Draft {
             contents,
             entries,
-            heads: header_length(header.tag, header.length),
+            heads: mark_length(mark),
             waits: 0,
         })
     }
@@ -314,4 +362,13 @@ fn append_longer_opening(out: &mut Vec<u8>, header: Header, pc: PCBit) -> Result
         out.reserve(header.length.saturating_add(room))?;
     }
     append_header(out, header, pc)
+}
+
+// Appends the header of an element of indefinite length, and makes room for so many bytes behind it.
+fn append_roomy(out: &mut Vec<u8>, tag: Tag, length: usize) -> Result<(), AllocError>
+    ensures items { OnOk result (out.new.items ≡ out.old.items ++ open_bytes tag) }
+    ensures grows { vec_len out.old ≤ vec_len out.new }
+{
+    out.reserve(length.saturating_add(header_length(tag, 0)))?;
+    append_open(out, tag)
 }

@@ -1,7 +1,7 @@
 //! The header of an element: identifier and length (X.690, 8.1.2 and 8.1.3).
 ghost use Rattle.std.specs.Prelude.{◌≡◌, ◌≤◌, ◌++◌, length as count, OnOk, vec_len};
 ghost use Rattle.yasna_base.specs.declared.tag.PCBit.TheVariants.{Constructed};
-ghost use Rattle.yasna_writer.specs.Header.{header_bytes};
+ghost use Rattle.yasna_writer.specs.Header.{header_bytes, open_bytes};
 
 use crate::identifier::{append, append_identifier, identifier_length, leading};
 use crate::length::{append_length, length_length};
@@ -37,4 +37,13 @@ pub(crate) fn header_length(tag: Tag, length: usize) -> usize
     ensures few { result ≤ 20 }
 {
     identifier_length(tag) + length_length(length)
+}
+
+// Appends the header of an element of indefinite length: identifier and 128 (X.690, 8.1.3.6).
+pub(crate) fn append_open(out: &mut Vec<u8>, tag: Tag) -> Result<(), AllocError>
+    ensures items { OnOk result (out.new.items ≡ out.old.items ++ open_bytes tag) }
+    ensures grows { vec_len out.old ≤ vec_len out.new }
+{
+    append_identifier(out, tag, PCBit::Constructed)?;
+    append(out, &[128])
 }

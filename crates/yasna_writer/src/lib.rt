@@ -1,6 +1,6 @@
-//! Writing by ASN.1's distinguished encoding rules (X.690, clauses 8 to 11).
+//! Writing by ASN.1's distinguished and canonical encoding rules, DER and CER (X.690, clauses 8 to 11).
 //!
-//! A writing begins in `construct_der` and its kin, which hand a writer to a closure and answer the bytes that it wrote.
+//! A writing begins in `construct_der` and its kin, or `construct_cer`, which hand a writer to a closure and answer the bytes that it wrote.
 //!
 //! | Module | Holds |
 //! |---|---|
@@ -8,6 +8,7 @@
 //! | `state` | the writer: a draft, the implicit tag, the failure kept |
 //! | `primitive` | the writes of elements without parts |
 //! | `strings` | the writes of strings |
+//! | `segments` | long strings of CER, cut into segments |
 //! | `oid` | the write of an object identifier |
 //! | `raw` | the writes of raw elements |
 //! | `times` | the writes of times |
@@ -32,6 +33,7 @@ mod oid;
 mod ordered_part;
 mod primitive;
 mod raw;
+mod segments;
 mod sequence;
 mod set;
 mod state;
@@ -40,7 +42,9 @@ mod tagged;
 mod tagged_part;
 mod times;
 
-pub use construct::{construct_der, construct_der_seq, try_construct_der, try_construct_der_seq};
+pub use construct::{
+    construct_cer, construct_der, construct_der_seq, try_construct_der, try_construct_der_seq,
+};
 pub use sequence::DERWriterSeq;
 pub use set::DERWriterSet;
 pub use state::{DERWriter, Writer};

@@ -1,29 +1,23 @@
 //! Raw elements, whose contents are written as they are.
-ghost use Rattle.yasna_base.specs.Canonical.{definite_element};
 ghost use Rattle.yasna_base.specs.Identifier.{tag_or};
 ghost use Rattle.yasna_base.specs.Raw.{raw_form};
 ghost use Rattle.yasna_base.specs.TaggedDerValue.{raw_of};
+ghost use Rattle.yasna_writer.specs.Header.{raw_header};
+ghost use Rattle.yasna_writer.specs.State.{Appended};
 ghost use Rattle.yasna_writer.specs.View.{Wrote};
 
 use crate::header::Header;
 use crate::state::Writer;
-use yasna_base::ASN1Result;
 use yasna_base::models::TaggedDerValue;
+use yasna_base::{ASN1Result, BERMode, PCBit};
 
 impl Writer {
     /// Writes a raw element: its identifier, or that of the implicit tag with its bit, the length of its payload in the
     /// fewest bytes, and its payload as it is.
+    ///
+    /// In CER a constructed one has indefinite length: 128 stands in place of its length, and its payload ends by the two zeros.
     pub fn write_tagged_der(&mut self, value: &TaggedDerValue) -> ASN1Result<()>
         ensures { Wrote (raw_form (tag_or self.old.tag (raw_of value.now).tag) self.old.mode (raw_of value.now)) self.old self.new result }
-    {
-        self.writes_der();
-        self.write_raw(value)
-    }
-
-    // Writes a raw element of definite length.
-    #[tactic(auto, unfolding(yasna_base::specs::Canonical::definite_element))]
-    fn write_raw(&mut self, value: &TaggedDerValue) -> ASN1Result<()>
-        ensures { Wrote (definite_element (tag_or self.old.tag (raw_of value.now).tag) (raw_of value.now).bit (raw_of value.now).payload) self.old self.new result }
     {
         if let Some(error) = self.kept() {
             return Err(error);
@@ -31,8 +25,19 @@ impl Writer {
         let tag = self.take_tag(value.tag());
         let payload = value.value();
         let length = payload.len();
-        self.append_opening(Header { tag, length }, value.pcbit())?;
+        self.append_raw_header(Header { tag, length }, value.pcbit())?;
         self.append(payload)
+    }
+
+    // Appends what stands in front of a payload that is written as it is, or keeps want of memory.
+    #[inline(always)]
+    fn append_raw_header(&mut self, header: Header, pc: PCBit) -> ASN1Result<()>
+        ensures { Appended (raw_header self.old.mode pc header) self.old self.new result }
+    {
+        match (self.mode(), pc) {
+            (BERMode::Cer, PCBit::Constructed) => self.append_open(header.tag, header.length),
+            _ => self.append_opening(header, pc),
+        }
     }
 
     /// Writes bytes as they are, whatever implicit tag waits, which is used up.

@@ -4,7 +4,6 @@ ghost use Rattle.std.specs.Borrow.{sem};
 ghost use Rattle.std.specs.Fn.{FnOnceTakesAtMut};
 ghost use Rattle.std.specs.List.{AllByRecursion, flat_map};
 ghost use Rattle.yasna_base.specs.declared.error.ASN1ErrorKind.TheVariants.{OutOfMemory};
-ghost use Rattle.yasna_base.specs.declared.mode.BERMode.TheVariants.{Der};
 ghost use Rattle.yasna_base.specs.declared.tag.PCBit.TheVariants.{Constructed};
 ghost use Rattle.yasna_base.specs.Canonical.{canonical_element};
 ghost use Rattle.yasna_base.specs.Error.{kind_of};
@@ -23,7 +22,7 @@ use std::alloc::{AllocError, Global};
 use std::convert::AsSlice;
 use std::marker::Model;
 use yasna_base::tags::TAG_SET;
-use yasna_base::{ASN1Error, ASN1ErrorKind, ASN1Result, Tag};
+use yasna_base::{ASN1Error, ASN1ErrorKind, ASN1Result, BERMode, Tag};
 
 /// By what the parts of a set are ordered.
 #[derive(Clone, Copy)]
@@ -54,16 +53,17 @@ pub struct DERWriterSet {
     last: Writer,
     // Whether there is a last part.
     begun: bool,
+    // By which rules each part is written.
+    mode: BERMode,
 }
 
 impl Model for DERWriterSet {
     ghost use Rattle.std.specs.Prelude.{◌++◌};
-    ghost use Rattle.yasna_base.specs.declared.mode.BERMode.TheVariants.{Der};
     ghost use Rattle.yasna_writer.specs.Parts.{WrittenParts, bytes_each, last_part};
 
     ghost Value = { WrittenParts };
 
-    ghost view = { λ s. record { parts = bytes_each s.parts.items ++ last_part s.begun s.last.bytes; mode = Der; kept = s.last.kept } };
+    ghost view = { λ s. record { parts = bytes_each s.parts.items ++ last_part s.begun s.last.bytes; mode = s.mode; kept = s.last.kept } };
 }
 
 // Puts the bytes of a part behind others, or lacks memory.
@@ -91,14 +91,14 @@ fn end_part(parts: &mut Vec<Vec<u8>>, last: &mut Writer, begun: bool) -> ASN1Res
 }
 
 // Begins a part behind the others.
-fn begin_part(parts: &mut Vec<Vec<u8>>, last: &mut Writer, begun: bool)
-    ensures { BeginsNext begun parts.old.items last.old parts.new.items last.new }
+fn begin_part(parts: &mut Vec<Vec<u8>>, last: &mut Writer, begun: bool, mode: BERMode)
+    ensures { BeginsNext mode begun parts.old.items last.old parts.new.items last.new }
 {
     match end_part(parts, last, begun) {
-        Ok(()) => last.restart(None),
+        Ok(()) => last.restart(mode, None),
         Err(error) => {
             parts.clear();
-            last.restart(Some(error));
+            last.restart(mode, Some(error));
         }
     }
 }
@@ -139,13 +139,14 @@ fn order_by_bytes(alloc: Global, parts: Vec<Vec<u8>>) -> Result<Vec<OrderedPart>
 impl DERWriterSet {
     // A set that begins.
     #[inline(always)]
-    pub(crate) fn new(alloc: Global) -> DERWriterSet
-        ensures { result ≡ no_parts Der }
+    pub(crate) fn new(alloc: Global, mode: BERMode) -> DERWriterSet
+        ensures { result ≡ no_parts mode }
     {
         DERWriterSet {
             parts: Vec::new(alloc),
-            last: Writer::new(alloc),
+            last: Writer::new(alloc, mode),
             begun: false,
+            mode,
         }
     }
 
@@ -157,6 +158,7 @@ impl DERWriterSet {
             mut parts,
             mut last,
             begun,
+            mode: _,
         } = self;
         end_part(&mut parts, &mut last, begun)?;
         Ok(parts)
@@ -197,7 +199,7 @@ impl DERWriterSet {
         ensures* lends { sem 𝓛 (LendsPart self.entry result) }
         ensures value { BeginsPart self.old.mode self.old.kept result.now }
     {
-        begin_part(&mut self.parts, &mut self.last, self.begun);
+        begin_part(&mut self.parts, &mut self.last, self.begun, self.mode);
         self.begun = true;
         &mut self.last
     }

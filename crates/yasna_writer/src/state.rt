@@ -5,13 +5,12 @@ ghost use Rattle.yasna_base.specs.declared.error.ASN1ErrorKind.TheVariants.{OutO
 ghost use Rattle.yasna_base.specs.Canonical.{canonical_element};
 ghost use Rattle.yasna_base.specs.Digits.{base128};
 ghost use Rattle.std.specs.List.{flat_map};
-ghost use Rattle.yasna_base.specs.declared.mode.BERMode.TheVariants.{Der};
 ghost use Rattle.yasna_base.specs.declared.tag.PCBit.TheVariants.{Primitive};
-ghost use Rattle.yasna_writer.specs.View.{Written, empty_writing, handed};
+ghost use Rattle.yasna_writer.specs.View.{Written, begun, handed};
 ghost use Rattle.yasna_base.specs.Identifier.{tag_or};
 ghost use Rattle.yasna_writer.specs.Construct.{Constructed};
 ghost use Rattle.yasna_writer.specs.Sequence.{AnswersKept};
-ghost use Rattle.yasna_writer.specs.Header.{header_bytes};
+ghost use Rattle.yasna_writer.specs.Header.{header_bytes, open_bytes};
 ghost use Rattle.yasna_writer.specs.Parts.{no_parts};
 ghost use Rattle.yasna_writer.specs.State.{Appended, TakesTag, BeginsAt, Ends};
 ghost use Rattle.yasna_writer.specs.Tagged.{tagging, LeftBehind};
@@ -22,7 +21,7 @@ use crate::set::DERWriterSet;
 use std::alloc::Global;
 use std::marker::Model;
 use std::mem;
-use yasna_base::{ASN1Error, ASN1ErrorKind, ASN1Result, PCBit, Tag};
+use yasna_base::{ASN1Error, ASN1ErrorKind, ASN1Result, BERMode, PCBit, Tag};
 
 /// A writing: bytes so far, the implicit tag that the next element takes, and the failure that later calls answer.
 ///
@@ -34,15 +33,16 @@ pub struct Writer {
     tag: Option<Tag>,
     kept: Option<ASN1Error>,
     alloc: Global,
+    // By which rules it writes.
+    mode: BERMode,
 }
 
 impl Model for Writer {
-    ghost use Rattle.yasna_base.specs.declared.mode.BERMode.TheVariants.{Der};
     ghost use Rattle.yasna_writer.specs.View.{Written};
 
     ghost Value = { Written };
 
-    ghost view = { λ s. record { bytes = s.draft; mode = Der; tag = s.tag; kept = s.kept } };
+    ghost view = { λ s. record { bytes = s.draft; mode = s.mode; tag = s.tag; kept = s.kept } };
 }
 
 /// What a closure writes to.
@@ -63,16 +63,17 @@ impl Model for Writer {
 pub type DERWriter<'a> = &'a mut Writer;
 
 impl Writer {
-    // A writing that begins.
+    // A writing that begins, by these rules.
     #[inline(always)]
-    pub(crate) fn new(alloc: Global) -> Writer
-        ensures { result ≡ empty_writing }
+    pub(crate) fn new(alloc: Global, mode: BERMode) -> Writer
+        ensures { result ≡ begun mode }
     {
         Writer {
             draft: Draft::new(alloc),
             tag: None,
             kept: None,
             alloc,
+            mode,
         }
     }
 
@@ -86,15 +87,16 @@ impl Writer {
             tag: None,
             kept: None,
             alloc: self.alloc,
+            mode: self.mode,
         }
     }
 
-    // What is written is in DER.
+    // By which rules it writes.
     #[inline(always)]
-    pub(crate) fn writes_der(&self)
-        ensures { self.now.mode ≡ Der }
+    pub(crate) fn mode(&self) -> BERMode
+        ensures { result ≡ self.now.mode }
     {
-        let _kept = self.kept;
+        self.mode
     }
 
     // The failure that is kept.
@@ -159,6 +161,16 @@ impl Writer {
         ensures { Appended (header_bytes pc header) self.old self.new result }
     {
         match self.draft.append_opening(header, pc) {
+            Ok(()) => Ok(()),
+            Err(_) => Err(self.lack_memory()),
+        }
+    }
+
+    // Appends the header of an element of indefinite length, with room for so many bytes behind it, or keeps want of memory.
+    pub(crate) fn append_open(&mut self, tag: Tag, length: usize) -> ASN1Result<()>
+        ensures { Appended (open_bytes tag) self.old self.new result }
+    {
+        match self.draft.append_open(tag, length) {
             Ok(()) => Ok(()),
             Err(_) => Err(self.lack_memory()),
         }
@@ -229,11 +241,12 @@ impl Writer {
         }
     }
 
-    // Begins anew, with this failure kept.
+    // Begins anew, by these rules and with this failure kept.
     #[inline(always)]
-    pub(crate) fn restart(&mut self, kept: Option<ASN1Error>)
-        ensures { self.new ≡ record empty_writing { kept = kept } }
+    pub(crate) fn restart(&mut self, mode: BERMode, kept: Option<ASN1Error>)
+        ensures { self.new ≡ record (begun mode) { kept = kept } }
     {
+        self.mode = mode;
         self.draft = Draft::new(self.alloc);
         self.tag = None;
         self.kept = kept;
@@ -244,7 +257,7 @@ impl Writer {
     pub(crate) fn no_parts(&self) -> DERWriterSet
         ensures { result ≡ no_parts self.now.mode }
     {
-        DERWriterSet::new(self.alloc)
+        DERWriterSet::new(self.alloc, self.mode)
     }
 
     // Keeps a failure.
@@ -260,15 +273,16 @@ impl Writer {
     pub(crate) fn begin(&mut self, tag: Tag) -> Beginning
         ensures { BeginsAt tag self.old self.new result }
     {
-        self.draft.begin(tag)
+        self.draft.begin(tag, self.mode)
     }
 
-    // Ends it over what is left from its beginning on, or keeps why that fails.
+    // Ends it over what is left from its beginning on, by the rules that it began with, or keeps why that fails.
     #[inline(always)]
     pub(crate) fn end(&mut self, beginning: Beginning)
         ensures { Ends beginning self.old self.new }
     {
         if self.kept.is_none() {
+            self.mode = beginning.mode;
             self.tag = None;
             if let Err(error) = self.draft.end(self.alloc, beginning) {
                 self.kept = Some(error);
@@ -307,6 +321,7 @@ impl Writer {
         self.draft = left.draft;
         self.tag = None;
         self.kept = left.kept;
+        self.mode = left.mode;
     }
 
     // What a call with a closure answers, where the closure answered `own`.

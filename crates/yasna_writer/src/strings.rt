@@ -1,9 +1,9 @@
 //! Strings: OCTET STRING, BIT STRING and texts (X.690, 8.6, 8.7, 8.23 and 11.2).
 //!
-//! Each is written as one primitive element, as DER asks. Each write takes the implicit tag if there is one, and else the
+//! Each is written as one primitive element, but in CER as segments where it is long (`segments`). Each write takes the implicit tag if there is one, and else the
 //! type's own. A failure that is kept is answered, and nothing is written. Besides, each answers `OutOfMemory` where there
 //! is no memory for the element, and keeps it.
-ghost use Rattle.std.specs.Prelude.{[], ◌∷◌, ◌≡◌, ◌≤◌, ◌<◌, ◌+◌, ◌-◌, ◌*◌, ◌%◌, ◌++◌, length};
+ghost use Rattle.std.specs.Prelude.{[], ◌∷◌, ◌≡◌, ◌≤◌, ◌<◌, ◌+◌, ◌-◌, ◌*◌, ◌%◌, ◌++◌, length, length as count, IfOk};
 ghost use Rattle.std.specs.List.{AllByRecursion};
 ghost use Rattle.std.specs.Str.{chars};
 ghost use Rattle.yasna_base.specs.declared.tag.PCBit.TheVariants.{Primitive};
@@ -17,12 +17,14 @@ ghost use Rattle.yasna_writer.specs.State.{Appended};
 ghost use Rattle.yasna_writer.specs.View.{Wrote};
 
 use crate::header::Header;
+use crate::segments::{FULL_BITS, FULL_OCTETS};
 use crate::state::Writer;
+use std::alloc::Global;
 use yasna_base::tags::{
     TAG_BITSTRING, TAG_BMPSTRING, TAG_IA5STRING, TAG_NUMERICSTRING, TAG_OCTETSTRING,
     TAG_PRINTABLESTRING, TAG_UTF8STRING, TAG_VISIBLESTRING,
 };
-use yasna_base::{ASN1Result, PCBit, Tag};
+use yasna_base::{ASN1Result, BERMode, PCBit, Tag};
 
 impl Writer {
     /// Writes an OCTET STRING (X.690, 8.7).
@@ -40,7 +42,9 @@ impl Writer {
         requires least { 8 * length bytes.now < len + 8 }
         ensures { Wrote (bits_form (tag_or self.old.tag (universal 3)) self.old.mode (record { bytes = bytes.now; count = len })) self.old self.new result }
     {
-        self.writes_der();
+        if self.cuts(bytes.len(), FULL_BITS) {
+            return self.write_bit_segments(bytes, len);
+        }
         self.write_whole_bits(bytes, len)
     }
 
@@ -101,8 +105,11 @@ impl Writer {
     pub fn write_bmp_string(&mut self, string: &str) -> ASN1Result<()>
         ensures { Wrote (bmp_form (tag_or self.old.tag (universal 30)) self.old.mode (chars string.now)) self.old self.new result }
     {
-        self.writes_der();
-        self.write_whole_bmp(string)
+        let length = bmp_length(string);
+        if self.cuts(length, FULL_OCTETS) {
+            return self.write_cut_bmp(string);
+        }
+        self.write_whole_bmp(string, length)
     }
 
     // Writes a text in UTF-8.
@@ -115,11 +122,26 @@ impl Writer {
 
     // Writes a text in UTF-16 as one primitive element.
     #[tactic(auto, unfolding(yasna_base::specs::Canonical::canonical_element, yasna_base::specs::Canonical::definite_element))]
-    fn write_whole_bmp(&mut self, string: &str) -> ASN1Result<()>
+    fn write_whole_bmp(&mut self, string: &str, length: usize) -> ASN1Result<()>
+        requires { length ≡ count (bmp_octets (chars string.now)) }
         ensures { Wrote (canonical_element self.old.mode (tag_or self.old.tag (universal 30)) Primitive (bmp_octets (chars string.now))) self.old self.new result }
     {
-        self.begin_contents(TAG_BMPSTRING, bmp_length(string))?;
+        self.begin_contents(TAG_BMPSTRING, length)?;
         self.append_bmp(string)
+    }
+
+    // Writes a text in UTF-16, which is made apart, in segments.
+    #[cold]
+    fn write_cut_bmp(&mut self, string: &str) -> ASN1Result<()>
+        ensures { Wrote (bmp_form (tag_or self.old.tag (universal 30)) self.old.mode (chars string.now)) self.old self.new result }
+    {
+        if let Some(error) = self.kept() {
+            return Err(error);
+        }
+        match bmp_bytes(self.alloc(), string) {
+            Ok(octets) => self.write_octets(TAG_BMPSTRING, octets.as_slice()),
+            Err(_) => Err(self.lack_memory()),
+        }
     }
 
     // Writes bits as one primitive element.
@@ -134,15 +156,6 @@ impl Writer {
         };
         let unused = unused_bits(len);
         self.write_bits(unused, front, *last >> unused << unused)
-    }
-
-    // Writes octets in one element.
-    #[inline(always)]
-    pub(crate) fn write_octets(&mut self, own: Tag, octets: &[u8]) -> ASN1Result<()>
-        ensures { Wrote (octets_form (tag_or self.old.tag own) self.old.mode octets.now) self.old self.new result }
-    {
-        self.writes_der();
-        self.write_contents(own, octets)
     }
 
     // Writes an element with these contents.
@@ -173,6 +186,14 @@ impl Writer {
         ensures { Wrote (canonical_element self.old.mode (tag_or self.old.tag (universal 3)) Primitive (unused ∷ (front.now ++ last ∷ []))) self.old self.new result }
     {
         self.begin_contents(TAG_BITSTRING, front.len() + 2)?;
+        self.append_bits(unused, front, last)
+    }
+
+    // Appends the contents of a BIT STRING.
+    #[inline(always)]
+    pub(crate) fn append_bits(&mut self, unused: u8, front: &[u8], last: u8) -> ASN1Result<()>
+        ensures { Appended (unused ∷ (front.now ++ last ∷ [])) self.old self.new result }
+    {
         self.append(&[unused])?;
         self.append(front)?;
         self.append(&[last])
@@ -202,8 +223,17 @@ impl Writer {
     }
 }
 
+// A text in UTF-16, or want of memory.
+fn bmp_bytes(alloc: Global, string: &str) -> ASN1Result<Vec<u8>>
+    ensures { IfOk result (λ octets. octets.items ≡ bmp_octets (chars string.now)) }
+{
+    let mut text = Writer::new(alloc, BERMode::Der);
+    text.append_bmp(string)?;
+    text.take_bytes()
+}
+
 // How many bits of the last byte a BIT STRING of so many bits leaves over.
-fn unused_bits(len: usize) -> u8
+pub(crate) fn unused_bits(len: usize) -> u8
     ensures { result ≡ (8 - len % 8) % 8 }
 {
     ((8 - len % 8) % 8) as u8

@@ -1,17 +1,14 @@
-use Rattle.std.proofs.Common.{sym, subst}
-use Rattle.yasna_base.specs.declared.mode.BERMode.{BERMode}
-use Rattle.yasna_base.specs.declared.tag.PCBit.TheVariants.{Primitive}
-use Rattle.yasna_base.specs.Canonical.{canonical_element}
+use Rattle.std.proofs.Common.{ℕ, List, sym, subst}
 use Rattle.yasna_base.specs.Identifier.{tag_or}
-use Rattle.yasna_base.specs.Octets.{octets_form}
+use Rattle.yasna_base.specs.Octets.{octets_cutting}
+use Rattle.yasna_base.specs.Segments.{segments}
 use Rattle.yasna_writer.specs.View.{Wrote}
+use Rattle.yasna_writer.proofs.SegmentSteps.{goes_apart}
 use Rattle.yasna_writer.proofs.state.Writer.write_octets.Goals as goal
 
-pub returns : goal.returns
-returns c =
+pub returns-then-cuts : goal.returns-then-cuts
+returns-then-cuts c =
     let old = c.args.self.now in
-    let t = tag_or old.tag c.args.own in
-    let new = c.write_contents.new.self in
-    let r = c.write_contents.result in
-    subst (λ (m : BERMode). Wrote (octets_form t m c.args.octets.now) old new r) (sym c.writes_der.ensures)
-    (subst (λ (m : BERMode). Wrote (canonical_element m t Primitive c.args.octets.now) old new r) c.writes_der.ensures c.write_contents.ensures)
+    subst (λ (b : List ℕ). Wrote b old c.write_octet_segments.new.self c.write_octet_segments.result)
+    (goes_apart octets_cutting (λ v. v) (segments 1000) (tag_or old.tag c.args.own) old.mode c.args.octets.now (sym (c.if-cuts.ensures {u = tt})))
+    c.write_octet_segments.ensures

@@ -1,5 +1,5 @@
 use Rattle.std.proofs.Common.{refl}
-use Rattle.yasna_writer.proofs.construct.try_construct_der.Goals as goal
+use Rattle.yasna_writer.proofs.construct.construct_by.Goals as goal
 
 pub returns : goal.returns
 returns g c =

@@ -1,0 +1,177 @@
+//! Strings in segments, as CER asks where they are long (X.690, 9.2).
+//!
+//! A string of more than 1000 octets is a constructed element of indefinite length. Its parts are primitive: OCTET STRINGs of 1000
+//! octets, or BIT STRINGs of 999 bytes behind their count of unused bits; the last part has what is left.
+ghost use Rattle.std.specs.Prelude.{◌≡◌, ◌≤◌, ◌<◌, ◌+◌, ◌*◌, length, [], ◌∷◌, ◌++◌};
+ghost use Rattle.yasna_base.specs.declared.tag.PCBit.TheVariants.{Primitive};
+ghost use Rattle.yasna_base.specs.Canonical.{canonical_element, indefinite_element};
+ghost use Rattle.yasna_base.specs.Identifier.{universal, tag_or};
+ghost use Rattle.yasna_base.specs.Octets.{octets_form};
+ghost use Rattle.yasna_writer.specs.Header.{open_bytes};
+ghost use Rattle.yasna_writer.specs.Segments.{is_cut, octet_segment, in_octet_segments, bit_segment, in_bit_segments, bits_with};
+ghost use Rattle.yasna_writer.specs.State.{Appended};
+ghost use Rattle.yasna_writer.specs.View.{Wrote};
+
+use crate::header::Header;
+use crate::state::Writer;
+use crate::strings::unused_bits;
+use yasna_base::tags::{TAG_BITSTRING, TAG_OCTETSTRING};
+use yasna_base::{ASN1Result, BERMode, PCBit, Tag};
+
+// How many octets fill a segment.
+pub(crate) const FULL_OCTETS: usize = 1000;
+
+// How many bytes of a BIT STRING do, behind the count of unused bits.
+pub(crate) const FULL_BITS: usize = 999;
+
+// Room for so many bytes in segments, and for the two zeros.
+fn room(length: usize) -> usize {
+    (length / FULL_BITS + 1)
+        .saturating_mul(5)
+        .saturating_add(length)
+        .saturating_add(2)
+}
+
+impl Writer {
+    // Whether so many bytes are cut, where so many fill a segment.
+    #[inline(always)]
+    pub(crate) fn cuts(&self, length: usize, full: usize) -> bool
+        ensures { result ≡ is_cut self.now.mode full length }
+    {
+        length > full && self.cuts_long()
+    }
+
+    // Whether long strings are cut.
+    #[inline(always)]
+    fn cuts_long(&self) -> bool
+        ensures { result ≡ is_cut self.now.mode 0 1 }
+    {
+        match self.mode() {
+            BERMode::Cer => true,
+            BERMode::Ber | BERMode::Der => false,
+        }
+    }
+
+    // Writes octets: as one primitive element, or in segments where the mode cuts so many.
+    #[inline(always)]
+    pub(crate) fn write_octets(&mut self, own: Tag, octets: &[u8]) -> ASN1Result<()>
+        ensures { Wrote (octets_form (tag_or self.old.tag own) self.old.mode octets.now) self.old self.new result }
+    {
+        if self.cuts(octets.len(), FULL_OCTETS) {
+            return self.write_octet_segments(own, octets);
+        }
+        self.write_contents(own, octets)
+    }
+
+    // Writes octets in segments.
+    #[tactic(auto, unfolding(yasna_base::specs::Canonical::indefinite_element))]
+    #[inline(never)]
+    fn write_octet_segments(&mut self, own: Tag, octets: &[u8]) -> ASN1Result<()>
+        ensures { Wrote (indefinite_element (tag_or self.old.tag own) (in_octet_segments octets.now)) self.old self.new result }
+    {
+        self.begin_segments(own, octets.len())?;
+        self.append_octet_segments(octets)?;
+        self.append(&[0, 0])
+    }
+
+    // Writes bits in segments.
+    #[inline(never)]
+    pub(crate) fn write_bit_segments(&mut self, bytes: &[u8], len: usize) -> ASN1Result<()>
+        requires enough { len ≤ 8 * length bytes.now }
+        requires least { 8 * length bytes.now < len + 8 }
+        requires some { 1 ≤ length bytes.now }
+        ensures { Wrote (indefinite_element (tag_or self.old.tag (universal 3)) (in_bit_segments (record { bytes = bytes.now; count = len }))) self.old self.new result }
+    {
+        self.write_cut_bits(unused_bits(len), bytes)
+    }
+
+    // The same by the count of unused bits.
+    #[tactic(auto, unfolding(yasna_base::specs::Canonical::indefinite_element))]
+    fn write_cut_bits(&mut self, unused: u8, bytes: &[u8]) -> ASN1Result<()>
+        requires few { unused < 8 }
+        requires some { 1 ≤ length bytes.now }
+        ensures { Wrote (indefinite_element (tag_or self.old.tag (universal 3)) (in_bit_segments (bits_with unused bytes.now))) self.old self.new result }
+    {
+        self.begin_segments(TAG_BITSTRING, bytes.len())?;
+        self.append_bit_segments(unused, bytes)?;
+        self.append(&[0, 0])
+    }
+
+    // Writes the header of an element around segments of so many bytes, and makes room for them.
+    fn begin_segments(&mut self, own: Tag, length: usize) -> ASN1Result<()>
+        ensures { Wrote (open_bytes (tag_or self.old.tag own)) self.old self.new result }
+    {
+        if let Some(error) = self.kept() {
+            return Err(error);
+        }
+        let tag = self.take_tag(own);
+        self.append_open(tag, room(length))
+    }
+
+    // Appends octets in segments.
+    fn append_octet_segments(&mut self, octets: &[u8]) -> ASN1Result<()>
+        ensures { Appended (in_octet_segments octets.now) self.old self.new result }
+    {
+        let mut rest = octets;
+        while rest.len() > FULL_OCTETS {
+            let (segment, behind) = rest.split_at(FULL_OCTETS);
+            self.append_octet_segment(segment)?;
+            rest = behind;
+        }
+        self.append_octet_segment(rest)
+    }
+
+    // Appends a segment of octets.
+    #[tactic(auto, unfolding(yasna_base::specs::Canonical::canonical_element))]
+    fn append_octet_segment(&mut self, octets: &[u8]) -> ASN1Result<()>
+        ensures { Appended (octet_segment octets.now) self.old self.new result }
+    {
+        self.append_primitive(TAG_OCTETSTRING, octets, &[])
+    }
+
+    // Appends bits in segments.
+    fn append_bit_segments(&mut self, unused: u8, bytes: &[u8]) -> ASN1Result<()>
+        requires few { unused < 8 }
+        requires some { 1 ≤ length bytes.now }
+        ensures { Appended (in_bit_segments (bits_with unused bytes.now)) self.old self.new result }
+    {
+        let mut rest = bytes;
+        while rest.len() > FULL_BITS {
+            let (segment, behind) = rest.split_at(FULL_BITS);
+            self.append_full_bits(segment)?;
+            rest = behind;
+        }
+        self.append_last_bits(unused, rest)
+    }
+
+    // Appends a segment of bits, none of which is left over.
+    fn append_full_bits(&mut self, bytes: &[u8]) -> ASN1Result<()>
+        ensures { Appended (bit_segment (bits_with 0 bytes.now)) self.old self.new result }
+    {
+        self.append_primitive(TAG_BITSTRING, &[0], bytes)
+    }
+
+    // Appends the last segment of bits. Those that are left over are zero.
+    #[tactic(auto, using(crate::proofs::SegmentSteps::last_segment))]
+    fn append_last_bits(&mut self, unused: u8, bytes: &[u8]) -> ASN1Result<()>
+        requires few { unused < 8 }
+        requires some { 1 ≤ length bytes.now }
+        ensures { Appended (bit_segment (bits_with unused bytes.now)) self.old self.new result }
+    {
+        let Some((last, front)) = bytes.split_last() else {
+            return Ok(());
+        };
+        self.append_bit_string(unused, front, *last >> unused << unused)
+    }
+
+    // Appends a BIT STRING with these contents.
+    #[tactic(auto, unfolding(yasna_base::specs::Canonical::canonical_element, yasna_base::specs::Canonical::definite_element))]
+    fn append_bit_string(&mut self, unused: u8, front: &[u8], last: u8) -> ASN1Result<()>
+        ensures { Appended (canonical_element self.old.mode (universal 3) Primitive (unused ∷ (front.now ++ last ∷ []))) self.old self.new result }
+    {
+        let tag = TAG_BITSTRING;
+        let length = front.len() + 2;
+        self.append_opening(Header { tag, length }, PCBit::Primitive)?;
+        self.append_bits(unused, front, last)
+    }
+}
