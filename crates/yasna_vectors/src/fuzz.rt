@@ -3,7 +3,8 @@
 //! | Where a call answers | So |
 //! |---|---|
 //! | a value in DER | BER gives the same value, and what is written of it are the bytes that were read |
-//! | a value in BER | what is written of it is read as the same value, in both modes |
+//! | a value in CER | BER gives the same value |
+//! | a value in BER | what is written of it is read as the same value, in BER and in DER |
 //! | anything | it is no want of memory |
 //!
 //! Three kinds of calls differ. What is written is read as another value, though as one that is written the same, where a
@@ -226,7 +227,8 @@ fn fault(
 ) -> Result<Option<&'static str>, AllocError> {
     let ber = answered(alloc, BERMode::Ber, call, bytes)?;
     let der = answered(alloc, BERMode::Der, call, bytes)?;
-    if is_none(ber.as_str()) || is_none(der.as_str()) {
+    let cer = answered(alloc, BERMode::Cer, call, bytes)?;
+    if is_none(ber.as_str()) || is_none(der.as_str()) || is_none(cer.as_str()) {
         return Ok(Some("an answer that is none"));
     }
     if let Some(form) = form_of(der.as_str()) {
@@ -238,16 +240,33 @@ fn fault(
             return Ok(Some("DER took what is not the form"));
         }
     }
+    if form_of(cer.as_str()).is_some() {
+        *accepted = accepted.saturating_add(1);
+        if ber.as_str() != cer.as_str() {
+            return Ok(Some("BER answers otherwise than CER"));
+        }
+    }
     let Some(form) = form_of(ber.as_str()) else {
         return Ok(None);
     };
     *accepted = accepted.saturating_add(1);
+    form_fault(alloc, kind, call, ber.as_str(), form)
+}
+
+// What is wrong with a call's answers on the form that is written of the value in this answer.
+fn form_fault(
+    alloc: Global,
+    kind: Kind,
+    call: &str,
+    ber: &str,
+    form: &str,
+) -> Result<Option<&'static str>, AllocError> {
     let again = answered(alloc, BERMode::Ber, call, form)?;
-    if !agree(kind, ber.as_str(), again.as_str()) {
+    if !agree(kind, ber, again.as_str()) {
         return Ok(Some("BER reads the form as another value"));
     }
     let again = answered(alloc, BERMode::Der, call, form)?;
-    if kind != Kind::Raw && !agree(kind, ber.as_str(), again.as_str()) {
+    if kind != Kind::Raw && !agree(kind, ber, again.as_str()) {
         return Ok(Some("DER reads the form as another value"));
     }
     Ok(None)

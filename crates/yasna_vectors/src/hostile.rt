@@ -6,7 +6,8 @@
 //! | cut | each proper front | Eof |
 //! | length | the first byte of the outermost element's length is 255 (X.690, 8.1.3.5) | Invalid |
 //! | | it is 254, for a length of 126 bytes | Eof |
-//! | | it is 128, in DER (X.690, 10.1) | Invalid |
+//! | | it is 128, in DER (X.690, 10.1), and in CER of a primitive element (X.690, 9.1) | Invalid |
+//! | | it is 0 in place of 128, in CER (X.690, 9.1) | Invalid |
 //!
 //! Some fronts answer otherwise: those of a SET of indefinite length that end behind its header or behind an element. Its
 //! callback runs before its end is missed; where it refuses these elements, that is the answer.
@@ -135,10 +136,21 @@ fn answers(alloc: Global, case: &Case, beginning: &str) -> Result<bool, AllocErr
 fn check_lengths(alloc: Global, case: &Case, tally: &mut Tally) -> Result<(), AllocError> {
     check_length(alloc, case, "ff", "err Invalid", tally)?;
     check_length(alloc, case, "fe", "err Eof", tally)?;
-    if case.mode == Some(BERMode::Der) {
-        check_length(alloc, case, "80", "err Invalid", tally)?;
+    match case.mode {
+        Some(BERMode::Der) => check_length(alloc, case, "80", "err Invalid", tally),
+        Some(BERMode::Cer) => check_form(alloc, case, tally),
+        Some(BERMode::Ber) | None => Ok(()),
     }
-    Ok(())
+}
+
+// Checks them with the first byte of the other form, in CER.
+fn check_form(alloc: Global, case: &Case, tally: &mut Tally) -> Result<(), AllocError> {
+    let (_, length) = at_length(case.arg);
+    if length.starts_with("80") {
+        check_length(alloc, case, "00", "err Invalid", tally)
+    } else {
+        check_length(alloc, case, "80", "err Invalid", tally)
+    }
 }
 
 // Checks them with this first byte, unless it stands there.
@@ -149,14 +161,19 @@ fn check_length(
     wanted: &str,
     tally: &mut Tally,
 ) -> Result<(), AllocError> {
-    let place = identifier_digits(case.arg);
-    let (identifier, length) = case.arg.split_at_checked(place).unwrap_or((case.arg, ""));
+    let (identifier, length) = at_length(case.arg);
     if length.starts_with(byte) {
         return Ok(());
     }
     let others = length.get(2..).unwrap_or("");
     let changed = format!(in alloc; "{identifier}{byte}{others}")?;
     check(alloc, case, &changed, wanted, tally)
+}
+
+// The first identifier of a text in hexadecimal, and what stands behind it.
+fn at_length(text: &str) -> (&str, &str) {
+    let place = identifier_digits(text);
+    text.split_at_checked(place).unwrap_or((text, ""))
 }
 
 // How many hexadecimal digits the first identifier of a text has (X.690, 8.1.2): two, and in the long form those of each

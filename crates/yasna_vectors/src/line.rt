@@ -47,6 +47,7 @@ impl<'a> Case<'a> {
         let mode = match mode {
             "ber" => Some(BERMode::Ber),
             "der" => Some(BERMode::Der),
+            "cer" => Some(BERMode::Cer),
             "x" => None,
             _ => return None,
         };
@@ -73,6 +74,7 @@ impl<'a> Case<'a> {
         match self.mode {
             Some(BERMode::Ber) => "ber",
             Some(BERMode::Der) => "der",
+            Some(BERMode::Cer) => "cer",
             None => "x",
         }
     }
@@ -117,6 +119,25 @@ impl<'a> Line<'a> {
         let case = Case::parse(call, marked)?;
         Some(Line { case, wanted })
     }
+}
+
+/// Whether this came where that is wanted: pieces with `+` between them, with `*` and a number behind one that stands so many
+/// times.
+pub fn is_answer(came: &str, wanted: &str) -> bool {
+    let mut others = came;
+    for piece in wanted.split('+') {
+        let (text, times) = match piece.split_once('*') {
+            Some((text, times)) => (text, times.parse().unwrap_or(0)),
+            None => (piece, 1u64),
+        };
+        for _ in 0..times {
+            match others.strip_prefix(text) {
+                Some(behind) => others = behind,
+                None => return false,
+            }
+        }
+    }
+    others.is_empty()
 }
 
 /// The bytes that a text in hexadecimal stands for, `-` for none.

@@ -16,7 +16,8 @@ use crate::reading::Family;
 use std::alloc::{AllocError, Global};
 use yasna::tags::TAG_INTEGER;
 use yasna::{
-    ASN1Result, BERMode, BERReader, DERWriter, DERWriterSeq, construct_der, parse_ber, parse_der,
+    ASN1Result, BERMode, BERReader, DERWriter, DERWriterSeq, construct_der, parse_ber, parse_cer,
+    parse_der,
 };
 
 /// A call on a list.
@@ -174,6 +175,11 @@ fn collected(alloc: Global, mode: BERMode, count: i64) -> ASN1Result<(usize, usi
             |reader| reader.collect_sequence_of(|item| item.read_i64()),
         )?,
         BERMode::Der => parse_der(
+            alloc,
+            &bytes,
+            |reader| reader.collect_sequence_of(|item| item.read_i64()),
+        )?,
+        BERMode::Cer => parse_cer(
             alloc,
             &bytes,
             |reader| reader.collect_sequence_of(|item| item.read_i64()),

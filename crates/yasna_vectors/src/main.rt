@@ -1,10 +1,11 @@
 //! Lines of calls and answers, run through the public calls of `yasna`.
 //!
-//! A line is `MODE CALL ARG => ANSWER`. MODE is `ber` or `der` where bytes are read, `x` elsewhere. ARG is the bytes in
+//! A line is `MODE CALL ARG => ANSWER`. MODE is `ber`, `der` or `cer` where bytes are read, `x` elsewhere. ARG is the bytes in
 //! hexadecimal, `-` for none, unless the call says otherwise; `3080*200+00` is 200 times the bytes 3080, and a byte 00 behind.
 //! ANSWER is `ok VALUE HEX`, where HEX is what the matching writes make of the value in DER, or `err KIND`. Behind a refused
-//! read may stand ` moved` or ` unmoved`: then the call is made twice in a SEQUENCE around ARG, and says whether the failure
-//! is kept. Lines that begin with `#` and blank lines are passed over.
+//! read may stand ` moved` or ` unmoved`: then the call is made twice in a SEQUENCE around ARG, in CER in none, and says
+//! whether the failure is kept. ANSWER may say how often a text stands in it too: `ok h+5b*3+ 0403+5b*3` is `ok h5b5b5b 04035b5b5b`.
+//! Lines that begin with `#` and blank lines are passed over.
 //!
 //! With no argument the program reads such lines from standard input, and says how many ran and how many failed; each
 //! that failed is printed with what came. Then it says the same of the lines' bytes, cut and with other lengths. With the

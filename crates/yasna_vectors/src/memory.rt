@@ -5,7 +5,7 @@
 //! says.
 
 use crate::answer::answer;
-use crate::line::{Case, Line};
+use crate::line::{Case, Line, is_answer};
 use crate::run::{Report, Verdict};
 use std::alloc::{AllocError, Global};
 
@@ -57,7 +57,7 @@ fn run_line(alloc: Global, line: &Line, tally: &mut Tally) -> Result<(), AllocEr
             tally.place = tally.lines;
             Ok(())
         }
-        Some(Ok(came)) if came.as_str() == unmarked(line.wanted) => Ok(()),
+        Some(Ok(came)) if is_answer(came.as_str(), unmarked(line.wanted)) => Ok(()),
         Some(Ok(came)) if came.starts_with("err OutOfMemory") => {
             tally.refused = tally.refused.saturating_add(1);
             tally.place = tally.lines;

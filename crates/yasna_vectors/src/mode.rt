@@ -45,6 +45,7 @@ fn shown(alloc: Global, seen: ASN1Result<BERMode>) -> Result<String, AllocError>
     match seen {
         Ok(BERMode::Ber) => String::from_str(alloc, "ok ber"),
         Ok(BERMode::Der) => String::from_str(alloc, "ok der"),
+        Ok(BERMode::Cer) => String::from_str(alloc, "ok cer"),
         Err(error) => refused(alloc, error.kind()),
     }
 }

@@ -1,6 +1,6 @@
 //! Bytes made at random, and made of vectors: changed, cut, joined and nested.
 
-use crate::line::{Line, bytes_of};
+use crate::line::Line;
 use crate::random::Random;
 use std::alloc::{AllocError, Global};
 
@@ -12,6 +12,9 @@ const TURNING: [u8; 24] = [
 // Identifiers of constructed elements.
 const AROUND: [u8; 8] = [48, 49, 36, 35, 44, 160, 163, 164];
 
+// How many bytes of a line are taken.
+const LONGEST: usize = 2_100;
+
 /// The bytes of vectors.
 #[derive(Drop)]
 pub struct Vectors {
@@ -19,7 +22,7 @@ pub struct Vectors {
 }
 
 impl Vectors {
-    /// Those of each line that reads at most 300 bytes.
+    /// Those of each line that reads no more than is long enough for a string in three segments in CER.
     pub fn parse(alloc: Global, input: &str) -> Result<Vectors, AllocError> {
         let mut all = Vec::new(alloc);
         for line in input.lines() {
@@ -69,13 +72,15 @@ impl Vectors {
     }
 }
 
-// The bytes of a line that reads at most 300.
+// The bytes of a line that reads no more of them than this.
 fn bytes_in(alloc: Global, line: &str) -> Option<Result<Vec<u8>, AllocError>> {
     let case = Line::parse(line)?.case;
-    if case.takes_bytes() && case.arg.len() <= 600 {
-        bytes_of(alloc, case.arg)
-    } else {
-        None
+    if !case.takes_bytes() || case.arg.len() > 600 {
+        return None;
+    }
+    match case.bytes(alloc)? {
+        Ok(bytes) if bytes.len() > LONGEST => None,
+        bytes => Some(bytes),
     }
 }
 

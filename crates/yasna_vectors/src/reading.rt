@@ -4,7 +4,10 @@ use crate::answer::{Answer, Value, refused, written};
 use crate::line::Case;
 use crate::primitive::Primitive;
 use std::alloc::{AllocError, Global};
-use yasna::{ASN1ErrorKind, ASN1Result, BERMode, BERReader, construct_der, parse_ber, parse_der};
+use yasna::{
+    ASN1ErrorKind, ASN1Result, BERMode, BERReader, construct_der, parse_ber, parse_ber_general,
+    parse_cer, parse_der,
+};
 
 /// Calls on a reader.
 pub trait Family: Copy {
@@ -33,6 +36,7 @@ pub fn answer<F: Family>(alloc: Global, case: &Case) -> Answer {
     let read = match mode {
         BERMode::Ber => parse_ber(alloc, &bytes, |reader| call.read(reader)),
         BERMode::Der => parse_der(alloc, &bytes, |reader| call.read(reader)),
+        BERMode::Cer => parse_cer(alloc, &bytes, |reader| call.read(reader)),
     };
     match read {
         Ok(value) => Some(written(
@@ -65,8 +69,18 @@ struct Kinds {
     second: Option<ASN1ErrorKind>,
 }
 
+impl Kinds {
+    // Before the calls.
+    fn none() -> Kinds {
+        Kinds {
+            first: None,
+            second: None,
+        }
+    }
+}
+
 // The answer of a call that was refused, and whether the refusal is kept: both calls are made in a SEQUENCE of these
-// bytes, which hold no more than a length of one byte can say.
+// bytes, which hold no more than a length of one byte can say; in CER, where it would have no length, without one.
 fn marked<F: Family>(
     alloc: Global,
     mode: BERMode,
@@ -74,6 +88,9 @@ fn marked<F: Family>(
     bytes: &[u8],
     kind: ASN1ErrorKind,
 ) -> Answer {
+    if mode == BERMode::Cer {
+        return Some(marked_alone(alloc, both, bytes, kind));
+    }
     let length = u8::try_from(bytes.len()).ok()?;
     if length > 127 {
         return None;
@@ -92,14 +109,33 @@ fn marked_within<F: Family>(
 ) -> Result<String, AllocError> {
     let mut whole = Vec::from_slice(alloc, &[48, length])?;
     whole.extend_from_slice(bytes)?;
-    let mut kinds = Kinds {
-        first: None,
-        second: None,
-    };
-    let parsed = match mode {
-        BERMode::Ber => parse_ber(alloc, &whole, |reader| read_both(reader, both, &mut kinds)),
-        BERMode::Der => parse_der(alloc, &whole, |reader| read_both(reader, both, &mut kinds)),
-    };
+    let mut kinds = Kinds::none();
+    let parsed = parse_ber_general(
+        alloc,
+        &whole,
+        mode,
+        |reader| read_both(reader, both, &mut kinds),
+    );
+    let mark = mark(kind, &kinds, kind_of(parsed), both.second.is_some());
+    format!(in alloc; "err {kind:?} {mark}")
+}
+
+// The same where both calls are made in no SEQUENCE, in CER.
+fn marked_alone<F: Family>(
+    alloc: Global,
+    both: Both<F>,
+    bytes: &[u8],
+    kind: ASN1ErrorKind,
+) -> Result<String, AllocError> {
+    let mut kinds = Kinds::none();
+    let parsed = parse_cer(alloc, bytes, |reader| {
+        kinds.first = kind_of(both.first.read(reader));
+        kinds.second = match both.second {
+            Some(second) => kind_of(second.read(reader)),
+            None => kind_of(both.first.read(reader)),
+        };
+        Ok(())
+    });
     let mark = mark(kind, &kinds, kind_of(parsed), both.second.is_some());
     format!(in alloc; "err {kind:?} {mark}")
 }

@@ -1,7 +1,7 @@
 //! All lines of a text, one after the other.
 
 use crate::answer::answer;
-use crate::line::{Case, Line};
+use crate::line::{Case, Line, is_answer};
 use std::alloc::{AllocError, Global};
 
 /// How a run ended.
@@ -86,7 +86,7 @@ fn check_line(alloc: Global, line: &str, text: &mut String) -> Result<Verdict, A
         return Ok(Verdict::NoLine);
     };
     let came = came?;
-    if came.as_str() == parsed.wanted {
+    if is_answer(came.as_str(), parsed.wanted) {
         return Ok(Verdict::Right);
     }
     let came = came.as_str();

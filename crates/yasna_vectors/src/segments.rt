@@ -11,7 +11,9 @@
 use crate::answer::{Answer, refused};
 use crate::line::Case;
 use std::alloc::{AllocError, Global};
-use yasna::{ASN1Error, ASN1ErrorKind, ASN1Result, BERMode, construct_der, parse_ber, parse_der};
+use yasna::{
+    ASN1Error, ASN1ErrorKind, ASN1Result, BERMode, construct_der, parse_ber, parse_cer, parse_der,
+};
 
 /// What a call of this family answers.
 pub fn answer(alloc: Global, case: &Case) -> Answer {
@@ -99,6 +101,7 @@ fn read_back(
     let read = match mode {
         BERMode::Ber => parse_ber(alloc, encoded, |reader| reader.read_bytes())?,
         BERMode::Der => parse_der(alloc, encoded, |reader| reader.read_bytes())?,
+        BERMode::Cer => parse_cer(alloc, encoded, |reader| reader.read_bytes())?,
     };
     if read.as_slice() != bytes {
         return Ok((0, 0));

@@ -1,6 +1,6 @@
 //! Types that are read and written as a whole.
 //!
-//! `d:TYPE` decodes by decode_ber or decode_der, and encodes by encode_der. `int` is `i64`, `pair` is `(i64, bool)`, `pairs`
+//! `d:TYPE` decodes by decode_ber, decode_der or decode_cer, and encodes by encode_der. `int` is `i64`, `pair` is `(i64, bool)`, `pairs`
 //! is `((i64, bool), (bool, i64))`, `deep` is `(bool, (i64, (bool, ())))`, `octets` is `Vec<u8>`, `text` is `String`, `oid` is
 //! `ObjectIdentifier`, `utime` is `UTCTime`, `gtime` is `GeneralizedTime`, `named` is `(String, Vec<u8>)`.
 
@@ -8,7 +8,7 @@ use crate::answer::{Answer, Shown, refused, written};
 use crate::line::Case;
 use std::alloc::{AllocError, Global};
 use yasna::models::{GeneralizedTime, ObjectIdentifier, UTCTime};
-use yasna::{BERMode, DERCanonical, decode_ber, decode_der, encode_der};
+use yasna::{BERMode, DERCanonical, decode_ber, decode_cer, decode_der, encode_der};
 
 type Pairs = ((i64, bool), (bool, i64));
 
@@ -53,6 +53,7 @@ pub fn decoded<T: DERCanonical + Shown>(
     let value: T = match match mode {
         BERMode::Ber => decode_ber(alloc, bytes),
         BERMode::Der => decode_der(alloc, bytes),
+        BERMode::Cer => decode_cer(alloc, bytes),
     } {
         Ok(value) => value,
         Err(error) => return refused(alloc, error.kind()),
