@@ -1,7 +1,7 @@
 -- Which words the program takes.
 use Rattle.std.specs.Prelude.{◌≡◌, List, [], ◌∷◌, ℕ, codes}
 use Rattle.yasna.specs.base.declared.mode.BERMode.{BERMode}
-use Rattle.yasna.specs.base.declared.mode.BERMode.TheVariants.{Ber, Der}
+use Rattle.yasna.specs.base.declared.mode.BERMode.TheVariants.{Ber, Der, Cer}
 use Rattle.yasna_tool.specs.declared.kind.Kind.{Kind}
 use Rattle.yasna_tool.specs.declared.kind.Kind.TheVariants.{Pair, Int, Bool, Null, Octets, Text, Oid, Utime, Gtime, Ints}
 
@@ -9,6 +9,7 @@ use Rattle.yasna_tool.specs.declared.kind.Kind.TheVariants.{Pair, Int, Bool, Nul
 abbrev pub mode_word : BERMode → List ℕ
 mode_word Ber = codes "ber"
 mode_word Der = codes "der"
+mode_word Cer = codes "cer"
 
 -- the word for a kind of value
 abbrev pub kind_word : Kind → List ℕ

@@ -74,7 +74,7 @@ const OID: Wanted = Wanted {
     errors: "",
 };
 
-const USAGE: &str = "usage: yasna_tool ber|der KIND\n";
+const USAGE: &str = "usage: yasna_tool ber|der|cer KIND\n";
 
 /// Bytes, and what they give as a pair in each mode.
 #[derive(Clone, Copy)]
@@ -82,6 +82,7 @@ struct Row {
     input: &'static [u8],
     ber: Wanted,
     der: Wanted,
+    cer: Wanted,
 }
 
 const ROWS: [Row; 11] = [
@@ -89,36 +90,43 @@ const ROWS: [Row; 11] = [
         input: &[],
         ber: EOF,
         der: EOF,
+        cer: EOF,
     },
     Row {
         input: &[48, 6, 2, 1, 10, 1, 1, 255, 0],
         ber: EXTRA,
         der: EXTRA,
+        cer: INVALID,
     },
     Row {
         input: &[48, 7, 2, 1, 10, 1, 1, 255, 0],
         ber: EXTRA,
         der: EXTRA,
+        cer: INVALID,
     },
     Row {
         input: &[48, 8, 2, 1, 10, 1, 1, 255],
         ber: EOF,
         der: EOF,
+        cer: EOF,
     },
     Row {
         input: &[48, 129, 6, 2, 1, 10, 1, 1, 1],
         ber: TEN_TRUE,
         der: INVALID,
+        cer: INVALID,
     },
     Row {
         input: &[48, 128, 2, 1, 10, 1, 1, 255],
         ber: EOF,
         der: INVALID,
+        cer: EOF,
     },
     Row {
         input: &[48, 6, 1, 1, 255, 2, 1, 10],
         ber: INVALID,
         der: INVALID,
+        cer: INVALID,
     },
     Row {
         input: &[
@@ -126,21 +134,25 @@ const ROWS: [Row; 11] = [
         ],
         ber: GREATEST_FALSE,
         der: GREATEST_FALSE,
+        cer: INVALID,
     },
     Row {
         input: &[48, 6, 2, 1, 10, 1, 1, 255],
         ber: TEN_TRUE,
         der: TEN_TRUE,
+        cer: INVALID,
     },
     Row {
         input: &[48, 6, 2, 1, 10, 1, 1],
         ber: EOF,
         der: EOF,
+        cer: EOF,
     },
     Row {
         input: &[48, 128, 2, 1, 10, 1, 1, 255, 0, 0],
         ber: TEN_TRUE,
         der: INVALID,
+        cer: TEN_TRUE,
     },
 ];
 
@@ -207,6 +219,7 @@ fn rows(rt: HostRuntime) -> Result<(), Fail> {
     for row in &ROWS {
         judge(&rt, &["ber", "pair"], row.input, &row.ber)?;
         judge(&rt, &["der", "pair"], row.input, &row.der)?;
+        judge(&rt, &["cer", "pair"], row.input, &row.cer)?;
     }
     Ok(())
 }
@@ -270,12 +283,24 @@ fn kinds(rt: HostRuntime) -> Result<(), Fail> {
     Ok(())
 }
 
+/// In CER each kind reads its own form where that has no parts, and elements with parts have no length.
+#[test]
+fn canonical(rt: HostRuntime) -> Result<(), Fail> {
+    for (kind, wanted) in &KINDS {
+        let has_parts = wanted.output.first() == Some(&48);
+        let answer = if has_parts { &INVALID } else { wanted };
+        judge(&rt, &["cer", kind], wanted.output, answer)?;
+    }
+    Ok(())
+}
+
 /// Strings in pieces, one cut inside a character, are read in BER alone.
 #[test]
 fn pieces(rt: HostRuntime) -> Result<(), Fail> {
     let octets = [36, 128, 4, 2, 72, 101, 4, 4, 108, 108, 111, 33, 0, 0];
     judge(&rt, &["ber", "octets"], &octets, &HELLO)?;
     judge(&rt, &["der", "octets"], &octets, &INVALID)?;
+    judge(&rt, &["cer", "octets"], &octets, &INVALID)?;
     let text = [44, 6, 4, 1, 195, 4, 1, 169];
     judge(&rt, &["ber", "text"], &text, &ACCENT)?;
     judge(&rt, &["der", "text"], &text, &INVALID)
@@ -289,6 +314,7 @@ fn times(rt: HostRuntime) -> Result<(), Fail> {
     ];
     judge(&rt, &["ber", "utime"], &utc, &NOON)?;
     judge(&rt, &["der", "utime"], &utc, &INVALID)?;
+    judge(&rt, &["cer", "utime"], &utc, &INVALID)?;
     let general = [
         56, 128, 4, 8, 49, 57, 56, 53, 49, 49, 48, 54, 4, 9, 50, 49, 46, 49, 52, 49, 53, 57, 90, 0,
         0,
@@ -297,11 +323,12 @@ fn times(rt: HostRuntime) -> Result<(), Fail> {
     judge(&rt, &["der", "gtime"], &general, &INVALID)
 }
 
-/// A list of indefinite length is read in BER alone.
+/// A list of indefinite length is not read in DER.
 #[test]
 fn lists(rt: HostRuntime) -> Result<(), Fail> {
     let list = [48, 128, 2, 1, 10, 2, 2, 255, 127, 0, 0];
     judge(&rt, &["ber", "ints"], &list, &INTS)?;
+    judge(&rt, &["cer", "ints"], &list, &INTS)?;
     judge(&rt, &["der", "ints"], &list, &INVALID)
 }
 

@@ -26,7 +26,7 @@ pub fn report_device<E: Write>(errors: &mut E) -> u8
 fn report_usage<E: Write>(errors: &mut E) -> u8
     ensures { result ≡ 2 }
 {
-    let _ = errors.write_all(b"usage: yasna_tool ber|der KIND\n");
+    let _ = errors.write_all(b"usage: yasna_tool ber|der|cer KIND\n");
     2
 }
 
@@ -45,6 +45,7 @@ fn mode_named(word: &str) -> Option<BERMode>
     match word {
         "ber" => Some(BERMode::Ber),
         "der" => Some(BERMode::Der),
+        "cer" => Some(BERMode::Cer),
         _ => None,
     }
 }
