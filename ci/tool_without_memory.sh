@@ -1,6 +1,6 @@
 #!/bin/sh
 # The program without memory: each request for memory of yasna_tool is refused once, in a run of its own, over a value of each
-# kind in both modes. Want of memory for the value is a refusal, with its text and status 1; while the arguments are read it is
+# kind in each mode. Want of memory for the value is a refusal, with its text and status 1; while the arguments are read it is
 # `io` and status 3; either way nothing is written. Or the program does without, and its answer is whole.
 #
 #   sh ci/tool_without_memory.sh

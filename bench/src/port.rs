@@ -16,6 +16,7 @@ mod linked {
         pub fn yasna_write_pairs(count: u32, depth: usize) -> u64;
         pub fn yasna_write_nest(contents: *const u8, length: usize, depth: usize) -> u64;
         pub fn yasna_read_bytes(bytes: *const u8, length: usize, der: bool) -> u64;
+        pub fn yasna_read_bytes_cer(bytes: *const u8, length: usize) -> u64;
         pub fn yasna_write_bytes(contents: *const u8, length: usize) -> u64;
         pub fn yasna_read_texts(bytes: *const u8, length: usize, count: usize, der: bool) -> u64;
         pub fn yasna_write_texts(text: *const u8, length: usize, count: usize) -> u64;
@@ -103,6 +104,10 @@ pub fn write_nest(contents: &[u8], depth: usize) -> u64 {
 
 pub fn read_bytes(bytes: &[u8], der: bool) -> u64 {
     unsafe { linked::yasna_read_bytes(bytes.as_ptr(), bytes.len(), der) }
+}
+
+pub fn read_bytes_cer(bytes: &[u8]) -> u64 {
+    unsafe { linked::yasna_read_bytes_cer(bytes.as_ptr(), bytes.len()) }
 }
 
 pub fn write_bytes(contents: &[u8]) -> u64 {

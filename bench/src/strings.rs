@@ -16,6 +16,7 @@ pub fn cases() -> Vec<Case> {
     vec![
         read_whole(),
         read_segments(),
+        read_segments_cer(),
         read_bytes("octets of 1 MiB in segments of 1", segments(1), false, 1),
         write_bytes(),
         read_texts(),
@@ -55,6 +56,16 @@ fn read_segments() -> Case {
         .with(ByHand, move || length(black_box(contents).to_vec()))
 }
 
+// The same segments are those of CER. The upstream crate has no CER, and reads them in BER.
+fn read_segments_cer() -> Case {
+    let contents = big_contents();
+    let bytes = segments(1000);
+    Case::new("octets of 1 MiB in segments of 1000, CER", 10)
+        .with(Port, move || port::read_bytes_cer(black_box(bytes)))
+        .with(Upstream, move || upstream_bytes(bytes, BERMode::Ber))
+        .with(ByHand, move || length(black_box(contents).to_vec()))
+}
+
 // 1 MiB in segments of this size.
 fn segments(size: usize) -> &'static [u8] {
     let mut bytes = vec![36, 128];
@@ -68,10 +79,12 @@ fn segments(size: usize) -> &'static [u8] {
 fn read_bytes(name: &'static str, bytes: &'static [u8], der: bool, calls: usize) -> Case {
     Case::new(name, calls)
         .with(Port, move || port::read_bytes(black_box(bytes), der))
-        .with(Upstream, move || {
-            let read = parse_ber_general(black_box(bytes), mode(der), |reader| reader.read_bytes());
-            read.map_or(REFUSED, length)
-        })
+        .with(Upstream, move || upstream_bytes(bytes, mode(der)))
+}
+
+fn upstream_bytes(bytes: &[u8], mode: BERMode) -> u64 {
+    let read = parse_ber_general(black_box(bytes), mode, |reader| reader.read_bytes());
+    read.map_or(REFUSED, length)
 }
 
 fn write_bytes() -> Case {

@@ -2,7 +2,7 @@
 //!
 //!     sweep_tool PROGRAM ALLOCATOR FOLDER
 //!
-//! PROGRAM takes a value of each kind in both modes, behind ALLOCATOR (`allocator.rs`), which refuses one request of a run: its
+//! PROGRAM takes a value of each kind in each mode, behind ALLOCATOR (`allocator.rs`), which refuses one request of a run: its
 //! first, its second, and so on, until none was refused. Each refusal is one of these, and anything else is printed, and
 //! counted as failed:
 //!
@@ -28,63 +28,74 @@ const USAGE: &str = "usage: sweep_tool PROGRAM ALLOCATOR FOLDER";
 const OUT_OF_MEMORY: &str = "ASN1Error { kind: OutOfMemory }\n";
 const DEVICE: &str = "io\n";
 
-/// A kind that the program knows, an encoding of such a value in BER, and its form in DER.
+/// A kind that the program knows, an encoding of such a value in BER, and its forms in DER and in CER.
 struct Kind {
     name: &'static str,
-    encoding: &'static [u8],
-    form: &'static [u8],
+    ber: &'static [u8],
+    der: &'static [u8],
+    cer: &'static [u8],
 }
 
 const KINDS: [Kind; 10] = [
     Kind {
         name: "pair",
-        encoding: b"\x30\x80\x02\x01\x0a\x01\x01\x01\x00\x00",
-        form: b"\x30\x06\x02\x01\x0a\x01\x01\xff",
+        ber: b"\x30\x80\x02\x01\x0a\x01\x01\x01\x00\x00",
+        der: b"\x30\x06\x02\x01\x0a\x01\x01\xff",
+        cer: b"\x30\x80\x02\x01\x0a\x01\x01\xff\x00\x00",
     },
     Kind {
         name: "int",
-        encoding: b"\x02\x81\x02\xff\x7f",
-        form: b"\x02\x02\xff\x7f",
+        ber: b"\x02\x81\x02\xff\x7f",
+        der: b"\x02\x02\xff\x7f",
+        cer: b"\x02\x02\xff\x7f",
     },
     Kind {
         name: "bool",
-        encoding: b"\x01\x01\x01",
-        form: b"\x01\x01\xff",
+        ber: b"\x01\x01\x01",
+        der: b"\x01\x01\xff",
+        cer: b"\x01\x01\xff",
     },
     Kind {
         name: "null",
-        encoding: b"\x05\x81\x00",
-        form: b"\x05\x00",
+        ber: b"\x05\x81\x00",
+        der: b"\x05\x00",
+        cer: b"\x05\x00",
     },
     Kind {
         name: "octets",
-        encoding: b"\x24\x80\x04\x02He\x04\x04llo!\x00\x00",
-        form: b"\x04\x06Hello!",
+        ber: b"\x24\x80\x04\x02He\x04\x04llo!\x00\x00",
+        der: b"\x04\x06Hello!",
+        cer: b"\x04\x06Hello!",
     },
     Kind {
         name: "text",
-        encoding: b"\x2c\x06\x04\x01\xc3\x04\x01\xa9",
-        form: b"\x0c\x02\xc3\xa9",
+        ber: b"\x2c\x06\x04\x01\xc3\x04\x01\xa9",
+        der: b"\x0c\x02\xc3\xa9",
+        cer: b"\x0c\x02\xc3\xa9",
     },
     Kind {
         name: "oid",
-        encoding: b"\x06\x81\x04\x2a\x81\x80\x00",
-        form: b"\x06\x04\x2a\x81\x80\x00",
+        ber: b"\x06\x81\x04\x2a\x81\x80\x00",
+        der: b"\x06\x04\x2a\x81\x80\x00",
+        cer: b"\x06\x04\x2a\x81\x80\x00",
     },
     Kind {
         name: "utime",
-        encoding: b"\x17\x0f8201020700-0500",
-        form: b"\x17\x0d820102120000Z",
+        ber: b"\x17\x0f8201020700-0500",
+        der: b"\x17\x0d820102120000Z",
+        cer: b"\x17\x0d820102120000Z",
     },
     Kind {
         name: "gtime",
-        encoding: b"\x18\x111985110621.14159Z",
-        form: b"\x18\x1319851106210829.724Z",
+        ber: b"\x18\x111985110621.14159Z",
+        der: b"\x18\x1319851106210829.724Z",
+        cer: b"\x18\x1319851106210829.724Z",
     },
     Kind {
         name: "ints",
-        encoding: b"\x30\x80\x02\x01\x0a\x02\x02\xff\x7f\x00\x00",
-        form: b"\x30\x07\x02\x01\x0a\x02\x02\xff\x7f",
+        ber: b"\x30\x80\x02\x01\x0a\x02\x02\xff\x7f\x00\x00",
+        der: b"\x30\x07\x02\x01\x0a\x02\x02\xff\x7f",
+        cer: b"\x30\x80\x02\x01\x0a\x02\x02\xff\x7f\x00\x00",
     },
 ];
 
@@ -92,7 +103,7 @@ fn main() -> ExitCode {
     exit_code(run())
 }
 
-/// Sweeps all kinds in both modes, prints what came of it, and says whether nothing failed.
+/// Sweeps all kinds in all modes, prints what came of it, and says whether nothing failed.
 fn run() -> Result<bool, Box<dyn Error>> {
     let words: Vec<String> = env::args().skip(1).collect();
     let [program, allocator, folder] = words.as_slice() else {
@@ -105,10 +116,11 @@ fn run() -> Result<bool, Box<dyn Error>> {
     let input = Path::new(folder).join("input");
     let mut counts = Counts::default();
     for kind in &KINDS {
-        fs::write(&input, kind.encoding)?;
-        counts += sweep(&program, "ber", kind, &input)?;
-        fs::write(&input, kind.form)?;
-        counts += sweep(&program, "der", kind, &input)?;
+        let modes = [("ber", kind.ber), ("der", kind.der), ("cer", kind.cer)];
+        for (mode, encoding) in modes {
+            fs::write(&input, encoding)?;
+            counts += sweep(&program, mode, kind, &input)?;
+        }
     }
     Ok(report(&counts))
 }
@@ -121,7 +133,7 @@ fn report(counts: &Counts) -> bool {
         without,
         failed,
     } = counts;
-    let calls = 2 * KINDS.len();
+    let calls = 3 * KINDS.len();
     let passed = arguments + refused + without;
     println!(
         "yasna_tool: {calls} calls, {passed} requests refused: {arguments} of the arguments answered io, \
@@ -174,7 +186,7 @@ struct Call<'a> {
 impl Call<'_> {
     /// Takes what came of the next request.
     fn take(&mut self, request: usize, run: &Run) {
-        let is_whole = run.output == self.kind.form;
+        let is_whole = run.output == self.kind.der;
         let is_empty = run.output.is_empty();
         let is_first = self.counts.refused == 0;
         match (run.is_refused, run.status.code(), run.errors.as_str()) {

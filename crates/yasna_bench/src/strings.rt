@@ -3,12 +3,18 @@
 use crate::reading::mode;
 use crate::{answered, length, mixed};
 use std::alloc::Global;
-use yasna::{ASN1Result, BERReaderSeq, DERWriterSeq, construct_der, parse_ber_general};
+use yasna::{ASN1Result, BERReaderSeq, DERWriterSeq, construct_der, parse_ber_general, parse_cer};
 
 /// The length of an octet string that is read.
 #[unsafe(no_mangle)]
 pub extern "C" fn yasna_read_bytes(alloc: Global, bytes: &[u8], der: bool) -> u64 {
     length(parse_ber_general(alloc, bytes, mode(der), |reader| reader.read_bytes()))
+}
+
+/// The length of an octet string that is read in CER.
+#[unsafe(no_mangle)]
+pub extern "C" fn yasna_read_bytes_cer(alloc: Global, bytes: &[u8]) -> u64 {
+    length(parse_cer(alloc, bytes, |reader| reader.read_bytes()))
 }
 
 /// The length of an octet string that is written.

@@ -67,6 +67,7 @@ fn deepest(rt: HostRuntime) -> Result<(), Fail> {
     is_read(&rt, alloc, &bytes, BERMode::Ber, 101, None);
     let bytes = of_indefinite_length(alloc, 101)?;
     is_read(&rt, alloc, &bytes, BERMode::Ber, 101, None);
+    is_read(&rt, alloc, &bytes, BERMode::Cer, 101, None);
     Ok(())
 }
 
@@ -79,6 +80,7 @@ fn too_deep(rt: HostRuntime) -> Result<(), Fail> {
     is_read(&rt, alloc, &bytes, BERMode::Ber, 102, kind);
     let bytes = of_indefinite_length(alloc, 102)?;
     is_read(&rt, alloc, &bytes, BERMode::Ber, 102, kind);
+    is_read(&rt, alloc, &bytes, BERMode::Cer, 102, kind);
     Ok(())
 }
 
