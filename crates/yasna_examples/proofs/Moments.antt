@@ -1,5 +1,5 @@
 -- Times that are made of the parts of others.
-use Rattle.std.proofs.Common.{◌≡◌, ◌∙◌, ◌<◌, ap, refl, ℕ, List, pos, Bool, true, false, [], ◌++◌, ◌==◌, if◌then◌else◌, arith}
+use Rattle.std.proofs.Common.{◌≡◌, ◌∙◌, ◌<◌, ap, refl, ℕ, ◌+◌, ◌/◌, ◌%◌, List, pos, Bool, true, false, [], ◌∷◌, ◌++◌, ◌==◌, if◌then◌else◌, arith}
 use Rattle.std.proofs.lemmas.Bool.Decides.{nat_tests}
 use Rattle.std.proofs.lemmas.Int.{ints}
 use Rattle.yasna.specs.time.declared.models.generalized_time.GeneralizedTime.{GeneralizedTime}
@@ -10,7 +10,7 @@ use Rattle.yasna.specs.time.Moment.{IsLess, moment, moment_at}
 use Rattle.yasna.specs.time.UtcTime.{IsUtcDateTime}
 use Rattle.yasna.proofs.time.Fraction.{trimmed_is}
 use Rattle.yasna.proofs.time.Moment.{less_is, less_none}
-use Rattle.yasna_examples.specs.Times.{to_the_second, with_second_59}
+use Rattle.yasna_examples.specs.Times.{to_the_second, with_second_59, four_digits, with_tenths}
 
 -- a date-time less nothing is itself
 pub less_nothing : (a b : DateTime) → IsLess a (pos 0) b → b ≡ a
@@ -42,3 +42,14 @@ unflagged t u h =
     let second = second_59 t.is_leap_second t.datetime.time.second t.datetime.time.second_in t.flagged in
     same_parts u t.datetime t.sub_nano.items (less_nothing t.datetime u.datetime h.less) (h.digits ∙ trimmed_is t.sub_nano.items t.trimmed) h.flag
     ∙ ap (λ s. record { date = m.date; hour = m.hour; minute = m.minute; second = s; fraction = m.fraction }) second
+
+-- four digits by their numbers
+pub four_of : (n a b c d : ℕ) (ds : List ℕ) → a ≡ 48 + n / 1000 % 10 → b ≡ 48 + n / 100 % 10 → c ≡ 48 + n / 10 % 10 → d ≡ 48 + n % 10 →
+    ds ≡ a ∷ b ∷ c ∷ d ∷ [] → ds ≡ four_digits n
+four_of n a b c d ds ea eb ec ed e = cc
+
+-- a time of tenths of a picosecond
+pub at_tenths : (utc : DateTime) (tenths : ℕ) (t : GeneralizedTime) → IsTimeAt utc (pos 0) (trimmed (four_digits tenths)) t →
+    moment_of t ≡ with_tenths utc tenths
+at_tenths utc tenths t h =
+    same_parts t utc (trimmed (four_digits tenths)) (less_nothing utc t.datetime h.less) h.digits h.flag

@@ -13,7 +13,7 @@
 //! | `public_key`, `scrypt` | types of one's own of which a part may be left out, read by closures |
 //! | `records` | types of one's own of three, five and seven parts, each read and written as a tuple |
 //! | `third_party` | types of one's own that are read step by step: by typed reads, and with memory |
-//! | `times` | times made of the parts of others |
+//! | `times` | times made of the parts of others, and of digits behind the nanosecond |
 //! | `tree` | a type that refers to itself |
 #![tactic(auto)]
 
@@ -39,5 +39,7 @@ pub use public_key::{AlgorithmIdentifier, SubjectPublicKeyInfo, encoded_key};
 pub use records::{DirectoryEntry, DomainParameters, RequestHeader};
 pub use scrypt::ScryptParameters;
 pub use third_party::{Report, Version, encoded_report, normalized, normalized_report};
-pub use times::{as_generalized_time, remade_utc_time, without_leap_second};
+pub use times::{
+    as_generalized_time, remade_utc_time, with_tenths_of_a_picosecond, without_leap_second,
+};
 pub use tree::Tree;

@@ -1,7 +1,7 @@
 //! Times made of the parts of others.
-ghost use Rattle.std.specs.Prelude.{◌≡◌, IfOk};
+ghost use Rattle.std.specs.Prelude.{◌≡◌, ◌+◌, ◌%◌, ◌<◌, IfOk};
 ghost use Rattle.yasna.specs.time.Models.{utc_of, moment_of};
-ghost use Rattle.yasna_examples.specs.Times.{to_the_second, with_second_59};
+ghost use Rattle.yasna_examples.specs.Times.{to_the_second, with_second_59, with_tenths};
 
 use std::alloc::{AllocError, Global};
 use yasna::models::{GeneralizedTime, Offset, UTCTime};
@@ -31,4 +31,32 @@ pub fn without_leap_second(
 {
     let local = *time.datetime();
     GeneralizedTime::from_datetime_and_sub_nano(alloc, local, Offset::UTC, time.sub_nano())
+}
+
+/// The moment of its date-time, and behind the nanosecond so many tenths of a picosecond.
+///
+/// For clocks that count finer than a nanosecond.
+pub fn with_tenths_of_a_picosecond(
+    alloc: Global,
+    time: &GeneralizedTime,
+    tenths: u16,
+) -> Result<GeneralizedTime, AllocError>
+    requires { tenths < 10000 }
+    ensures { IfOk result (λ t. moment_of t ≡ with_tenths time.now.datetime tenths) }
+{
+    let local = *time.datetime();
+    let digits = [
+        last_digit(tenths / 1000),
+        last_digit(tenths / 100),
+        last_digit(tenths / 10),
+        last_digit(tenths),
+    ];
+    GeneralizedTime::from_datetime_and_sub_nano(alloc, local, Offset::UTC, digits.as_slice())
+}
+
+// The last digit of a number.
+fn last_digit(number: u16) -> u8
+    ensures { result ≡ 48 + number % 10 }
+{
+    b'0' + (number % 10) as u8
 }

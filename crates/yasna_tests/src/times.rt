@@ -5,7 +5,9 @@ use std::hash::{BuildHasher, BuildHasherDefault, FoldHasher};
 use std::process::Abort;
 use std::test::Fail;
 use yasna::models::{DateTime, GeneralizedTime, Offset, UTCTime};
-use yasna_examples::{as_generalized_time, remade_utc_time, without_leap_second};
+use yasna_examples::{
+    as_generalized_time, remade_utc_time, with_tenths_of_a_picosecond, without_leap_second,
+};
 
 const EVENING: &[u8] = b"19851106210627.3Z";
 
@@ -36,6 +38,24 @@ fn made_of_digits(rt: HostRuntime) -> Result<(), Fail> {
     assert_eq!(rt; hasher.hash_one(&copy), hasher.hash_one(&made));
     let other = GeneralizedTime::from_datetime_and_sub_nano_opt(alloc, local, Offset::UTC, b"0a")?;
     assert!(rt; other.is_none());
+    Ok(())
+}
+
+// Ten tenths of a picosecond behind the nanosecond, as the digits 0010.
+#[test]
+fn counted_finer(rt: HostRuntime) -> Result<(), Fail> {
+    let alloc = rt.alloc();
+    let Ok(local) = DateTime::new(1985, 11, 6, 21, 6, 27, 300_000_000) else {
+        assert!(rt; false, "no date-time");
+        return Ok(());
+    };
+    let Some(evening) = GeneralizedTime::from_datetime_opt(alloc, local, Offset::UTC) else {
+        assert!(rt; false, "no time");
+        return Ok(());
+    };
+    let made = with_tenths_of_a_picosecond(alloc, &evening, 10)?;
+    assert_eq!(rt; made.to_string(alloc)?.as_str(), DIGITS);
+    assert_eq!(rt; made.clone()?.to_string(alloc)?.as_str(), DIGITS);
     Ok(())
 }
 
