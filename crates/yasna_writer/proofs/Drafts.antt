@@ -16,7 +16,7 @@ use Rattle.yasna_writer.specs.declared.draft.Beginning.{Beginning}
 use Rattle.yasna_writer.specs.declared.draft.Mark.{Mark}
 use Rattle.yasna_writer.specs.declared.draft.Mark.TheVariants.{Waits, Known, Open}
 use Rattle.yasna_writer.specs.declared.draft.Waiting.{Waiting}
-use Rattle.yasna_writer.specs.Header.{header_bytes, open_bytes}
+use Rattle.yasna_writer.specs.Header.{open_bytes}
 use Rattle.yasna_writer.proofs.Appends.{appended_two}
 use Rattle.yasna_writer.specs.declared.draft.Entry.{Entry}
 use Rattle.yasna_writer.specs.Draft.{mark_bytes, mark_waits, with_entry, joined, AreInOrder, heads_of, waits_of, KnowsPlace, KnowPlaces, AreEntries, IsInnermost, with_element}

@@ -9,7 +9,7 @@ use Rattle.std.proofs.Common.{ℕ, List}
 use Rattle.yasna_base.specs.Canonical.{canonical_element, definite_element}
 use Rattle.yasna_base.specs.Identifier.{identifier}
 use Rattle.yasna_base.specs.Length.{shortest_length}
-use Rattle.yasna_base.specs.Raw.{RawValue, raw_form}
+use Rattle.yasna_base.specs.Raw.{raw_form}
 use Rattle.yasna_writer.specs.Header.{raw_header}
 
 -- header and payload are the element

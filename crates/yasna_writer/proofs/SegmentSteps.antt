@@ -1,5 +1,5 @@
 -- Strings in segments: how a canonical mode writes them, and what one segment leaves of the rest.
-use Rattle.std.proofs.Common.{◌≡◌, ℕ, zero, suc, inl, inr, ◌+◌, ◌-◌, ◌*◌, ◌%◌, ◌/◌, ◌^◌, ◌<◌, ◌≤◌, List, [], ◌∷◌, ◌++◌, length, take, drop, flat_map, true, refl, sym, ap, ap₂, ◌∙◌, arith, append_assoc, append-nil, length-take, length-drop}
+use Rattle.std.proofs.Common.{◌≡◌, ℕ, zero, suc, inl, inr, ◌-◌, ◌*◌, ◌%◌, ◌/◌, ◌^◌, ◌<◌, ◌≤◌, List, [], ◌∷◌, ◌++◌, length, take, drop, flat_map, true, refl, sym, ap, ap₂, ◌∙◌, arith, append_assoc, append-nil, length-take, length-drop}
 use Rattle.std.proofs.Math.Nat.{div-add-mod, mul-mod_right}
 use Rattle.std.specs.Prelude.{Result}
 use Rattle.std.proofs.lemmas.Bool.{cases_lt}
@@ -9,7 +9,7 @@ use Rattle.yasna_base.specs.declared.mode.BERMode.{BERMode}
 use Rattle.yasna_base.specs.declared.mode.BERMode.TheVariants.{Ber, Der, Cer}
 use Rattle.yasna_base.specs.declared.tag.PCBit.TheVariants.{Primitive}
 use Rattle.yasna_base.specs.declared.tag.Tag.{Tag}
-use Rattle.yasna_base.specs.Bits.{BitString, bits_tag, bits_contents, padded, unused_bits, bit_pieces, bit_segments}
+use Rattle.yasna_base.specs.Bits.{bits_tag, padded, unused_bits, bit_pieces}
 use Rattle.yasna_base.specs.Canonical.{canonical_element, definite_element, indefinite_element}
 use Rattle.yasna_base.specs.Cut.{Cutting, cut_form}
 use Rattle.yasna_base.specs.Segments.{segments}

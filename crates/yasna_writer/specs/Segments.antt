@@ -1,7 +1,7 @@
 -- Strings in segments, as CER asks where they are long (X.690, 9.2).
 use Rattle.std.specs.Prelude.{ℕ, ◌-◌, ◌*◌, List, length, flat_map, Bool, false, nat_lt}
 use Rattle.yasna_base.specs.declared.mode.BERMode.{BERMode}
-use Rattle.yasna_base.specs.declared.mode.BERMode.TheVariants.{Ber, Der, Cer}
+use Rattle.yasna_base.specs.declared.mode.BERMode.TheVariants.{Der, Cer}
 use Rattle.yasna_base.specs.declared.tag.PCBit.TheVariants.{Primitive}
 use Rattle.yasna_base.specs.Bits.{BitString, bits_tag, bits_contents, bit_segments}
 use Rattle.yasna_base.specs.Canonical.{canonical_element}

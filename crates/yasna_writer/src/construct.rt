@@ -11,7 +11,7 @@ use crate::state::{DERWriter, Writer};
 use std::alloc::Global;
 use yasna_base::{ASN1Error, ASN1Result, BERMode};
 
-/// The bytes that a closure writes.
+/// The bytes that a closure writes in DER (X.690, clause 10).
 ///
 /// Answers the first failure of a write, whatever the closure answers; else the closure's own `Err`; else the bytes, or
 /// `OutOfMemory` where there is no memory for them.
@@ -58,12 +58,6 @@ fn construct_by<E: From<ASN1Error> + Drop, F: FnOnce(DERWriter<'_>) -> Result<()
 ///
 /// Elements with parts have indefinite length, and strings of more than 1000 octets stand in segments. Answers as `construct_der`
 /// does.
-///
-/// ```rust
-/// pub fn in_cer(alloc: Global, octets: &[u8]) -> ASN1Result<Vec<u8>> {
-///     construct_cer(alloc, |writer| writer.write_bytes(octets))
-/// }
-/// ```
 pub fn construct_cer<F: FnOnce(DERWriter<'_>) -> ASN1Result<()>>(
     alloc: Global,
     f: F,

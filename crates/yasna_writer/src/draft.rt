@@ -1,7 +1,8 @@
 //! Contents, and the headers of elements with parts, which stand apart from them until all is joined.
 //!
 //! Where an element with parts begins, an entry with no bytes marks its place; where it ends, the entry takes its
-//! header. So contents are only appended to, no header is ever moved, and how deep elements nest costs nothing.
+//! header. So contents are only appended to, no header is ever moved, and how deep elements nest costs nothing. In CER the header
+//! counts no length, and two zeros are appended first (X.690, 8.1.3.6 and 9.1).
 ghost use Rattle.std.specs.Prelude.{◌≡◌, ◌≤◌, ◌<◌, ◌+◌, ◌++◌, ◌⊎◌, [], length, length as count, vec_len, IfOk, OnOk, IfSome, MatchResult};
 ghost use Rattle.yasna_base.specs.Error.{kind_of};
 ghost use Rattle.yasna_base.specs.declared.error.ASN1ErrorKind.TheVariants.{OutOfMemory, Invalid};

@@ -42,7 +42,7 @@ impl Writer {
 
     /// Writes bytes as they are, whatever implicit tag waits, which is used up.
     ///
-    /// Whoever calls it answers for their being one element in DER.
+    /// Whoever calls it answers for their being one element in the mode of the writing.
     #[inline(always)]
     pub fn write_der(&mut self, der: &[u8]) -> ASN1Result<()>
         ensures { Wrote der.now self.old self.new result }

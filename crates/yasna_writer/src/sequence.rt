@@ -1,4 +1,4 @@
-//! Elements with parts (X.690, 8.9).
+//! Elements with parts (X.690, 8.9). Their length is counted in DER (10.1), and indefinite in CER (9.1).
 ghost use Rattle.std.specs.Prelude.{◌≡◌, None};
 ghost use Rattle.std.specs.Borrow.{sem};
 ghost use Rattle.std.specs.Fn.{FnOnceTakesAtMut};

@@ -1,4 +1,5 @@
-//! Sets (X.690, 8.11, 8.12, 10.3 and 11.6): their parts are written apart from each other, and then put in order.
+//! Sets (X.690, 8.11, 8.12, 9.3, 10.3 and 11.6): their parts are written apart from each other, and then put in order. So parts of
+//! CER are ordered by the bytes that they have in CER.
 ghost use Rattle.std.specs.Prelude.{◌≡◌, ◌++◌, [], None, IsTrue, ◌↔◌, IfOk, MatchOption, MatchResult};
 ghost use Rattle.std.specs.Borrow.{sem};
 ghost use Rattle.std.specs.Fn.{FnOnceTakesAtMut};
@@ -191,7 +192,7 @@ impl DERWriterSet {
         }
     }
 
-    /// The writer of a further part.
+    /// The writer of a further part, by the rules that the set began with.
     ///
     /// Where there is no memory for the parts before, `OutOfMemory` is kept, and this writer answers it.
     #[inline(always)]
@@ -279,7 +280,7 @@ impl Writer {
         self.settle(own)
     }
 
-    /// Writes a SET (X.690, 8.11 and 10.3): its contents are the parts that the closure writes, by the tags that they
+    /// Writes a SET (X.690, 8.11, 9.3 and 10.3): its contents are the parts that the closure writes, by the tags that they
     /// begin with, first the class, then the number.
     ///
     /// Parts of one tag stand as they were written, but where its number is 31 or more, by their bytes. What is kept

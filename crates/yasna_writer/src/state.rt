@@ -23,7 +23,8 @@ use std::marker::Model;
 use std::mem;
 use yasna_base::{ASN1Error, ASN1ErrorKind, ASN1Result, BERMode, PCBit, Tag};
 
-/// A writing: bytes so far, the implicit tag that the next element takes, and the failure that later calls answer.
+/// A writing: bytes so far, whether they are in DER or in CER, the implicit tag that the next element takes, and the failure that
+/// later calls answer.
 ///
 /// A write that finds no memory answers `OutOfMemory`. That failure is kept: each later write answers it, and so does
 /// the call that began the writing.
@@ -48,9 +49,9 @@ impl Model for Writer {
 /// What a closure writes to.
 ///
 /// Each write takes the implicit tag if there is one, and else the type's own. Two writers of nested writings can be
-/// exchanged by `std::mem::swap`. Each then goes on with the bytes and the failure of the other, and an element that is
-/// open in one ends over what it holds then: from the place on where the element began, by its count of bytes, and where
-/// fewer bytes are there, as `Invalid`, which is kept.
+/// exchanged by `std::mem::swap`. Each then goes on with the bytes, the rules and the failure of the other, and an element that
+/// is open in one ends over what it holds then: by the rules that the element began with, from the place on where it began, by its
+/// count of bytes, and where fewer bytes are there, as `Invalid`, which is kept. What follows it is written by its rules again.
 ///
 /// ```rust
 /// pub fn write_time(time: &Time, writer: DERWriter<'_>) -> ASN1Result<()> {
