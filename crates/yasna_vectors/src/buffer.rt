@@ -7,11 +7,10 @@
 //! | `buf3` | read_sequence: next().read_with_buffer around an OCTET STRING under the implicit tag context 3, then NULL |
 
 use crate::answer::{Answer, Shown, Value, refused, show_bytes, written};
+use crate::forms::construct_in;
 use crate::line::Case;
 use std::alloc::{AllocError, Global};
-use yasna::{
-    ASN1Result, BERMode, BERReader, BERReaderSeq, DERWriter, Tag, construct_der, parse_ber_general,
-};
+use yasna::{ASN1Result, BERMode, BERReader, BERReaderSeq, DERWriter, Tag, parse_ber_general};
 
 // What was read, and the bytes that it took.
 #[derive(Drop)]
@@ -40,7 +39,7 @@ pub fn answer(alloc: Global, case: &Case) -> Answer {
         Ok(value) => written(
             alloc,
             &value,
-            construct_der(alloc, |writer| value.write(writer)),
+            construct_in(alloc, mode, |writer| value.write(writer)),
         ),
         Err(error) => refused(alloc, error.kind()),
     })

@@ -5,11 +5,12 @@
 //! `i64`. `d:tdv` is `TaggedDerValue` and `d:vtdv` is `Vec<TaggedDerValue>`, which are written by write_tagged_der.
 
 use crate::answer::{Answer, Shown, Value, refused, show_items, written};
+use crate::forms::construct_in;
 use crate::line::Case;
 use crate::whole::decoded;
 use std::alloc::{AllocError, Global};
 use yasna::models::TaggedDerValue;
-use yasna::{ASN1Result, BERDecodable, BERMode, DERWriter, construct_der, decode_ber_general};
+use yasna::{ASN1Result, BERDecodable, BERMode, DERWriter, decode_ber_general};
 
 type Nested = ((((i64,),),),);
 
@@ -52,7 +53,7 @@ fn raw<T: BERDecodable + Value>(
     written(
         alloc,
         &value,
-        construct_der(alloc, |writer| value.write(writer)),
+        construct_in(alloc, mode, |writer| value.write(writer)),
     )
 }
 

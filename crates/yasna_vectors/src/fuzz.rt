@@ -3,7 +3,7 @@
 //! | Where a call answers | So |
 //! |---|---|
 //! | a value in DER | BER gives the same value, and what is written of it are the bytes that were read |
-//! | a value in CER | BER gives the same value |
+//! | a value in CER | BER gives the same value, and what is written of it in CER are the bytes that were read |
 //! | a value in BER | what is written of it is read as the same value, in BER and in DER |
 //! | anything | it is no want of memory |
 //!
@@ -240,10 +240,13 @@ fn fault(
             return Ok(Some("DER took what is not the form"));
         }
     }
-    if form_of(cer.as_str()).is_some() {
+    if let Some(form) = form_of(cer.as_str()) {
         *accepted = accepted.saturating_add(1);
-        if ber.as_str() != cer.as_str() {
+        if value_of(ber.as_str()) != value_of(cer.as_str()) {
             return Ok(Some("BER answers otherwise than CER"));
+        }
+        if kind != Kind::Lenient && form != bytes {
+            return Ok(Some("CER took what is not the form"));
         }
     }
     let Some(form) = form_of(ber.as_str()) else {
@@ -283,6 +286,15 @@ fn agree(kind: Kind, first: &str, second: &str) -> bool {
 // Whether an answer is none of a read with ample memory.
 fn is_none(answer: &str) -> bool {
     answer == "unknown" || answer == "err OutOfMemory"
+}
+
+// The value that an answer shows.
+fn value_of(answer: &str) -> Option<&str> {
+    let value = answer.strip_prefix("ok ")?;
+    match value.rsplit_once(' ') {
+        Some((shown, _)) => Some(shown),
+        None => None,
+    }
 }
 
 // What was written of a value that an answer shows.

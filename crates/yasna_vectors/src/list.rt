@@ -10,14 +10,14 @@
 //! | `seqof_many` | ARG is a number N: N INTEGERs 0 to N - 1 are written, and collected: how many, and how many bytes |
 
 use crate::answer::{Answer, Shown, Value, refused};
+use crate::forms::construct_in;
 use crate::line::Case;
 use crate::raw::{RawElement, read_element};
 use crate::reading::Family;
 use std::alloc::{AllocError, Global};
 use yasna::tags::TAG_INTEGER;
 use yasna::{
-    ASN1Result, BERMode, BERReader, DERWriter, DERWriterSeq, construct_der, parse_ber, parse_cer,
-    parse_der,
+    ASN1Result, BERMode, BERReader, DERWriter, DERWriterSeq, parse_ber, parse_cer, parse_der,
 };
 
 /// A call on a list.
@@ -159,8 +159,9 @@ pub fn answer(alloc: Global, case: &Case) -> Answer {
 
 // How many numbers are collected of so many that are written, and in how many bytes.
 fn collected(alloc: Global, mode: BERMode, count: i64) -> ASN1Result<(usize, usize)> {
-    let bytes = construct_der(
+    let bytes = construct_in(
         alloc,
+        mode,
         |writer| writer.write_sequence_of(|seq| {
             for number in 0..count {
                 seq.next().write_i64(number)?;

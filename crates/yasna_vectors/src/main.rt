@@ -46,6 +46,7 @@
 mod answer;
 mod buffer;
 mod composed;
+mod forms;
 mod fuzz;
 mod hostile;
 mod length;

@@ -7,9 +7,10 @@
 //! | `general` | decode_ber_general of an `i64` |
 
 use crate::answer::{Answer, refused, written};
+use crate::forms::encode_in;
 use crate::line::Case;
 use std::alloc::{AllocError, Global};
-use yasna::{ASN1Result, BERMode, decode_ber_general, encode_der, parse_ber_general};
+use yasna::{ASN1Result, BERMode, decode_ber_general, parse_ber_general};
 
 /// What a call of this family answers.
 pub fn answer(alloc: Global, case: &Case) -> Answer {
@@ -33,7 +34,7 @@ pub fn answer(alloc: Global, case: &Case) -> Answer {
             ),
         ),
         "general" => match decode_ber_general::<i64>(alloc, &bytes, mode) {
-            Ok(number) => written(alloc, &number, encode_der(alloc, &number)),
+            Ok(number) => written(alloc, &number, encode_in(alloc, mode, &number)),
             Err(error) => refused(alloc, error.kind()),
         },
         _ => return None,

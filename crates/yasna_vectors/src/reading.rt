@@ -1,12 +1,13 @@
 //! How a call of a family that reads is made.
 
 use crate::answer::{Answer, Value, refused, written};
+use crate::forms::construct_in;
 use crate::line::Case;
 use crate::primitive::Primitive;
 use std::alloc::{AllocError, Global};
 use yasna::{
-    ASN1ErrorKind, ASN1Result, BERMode, BERReader, construct_der, parse_ber, parse_ber_general,
-    parse_cer, parse_der,
+    ASN1ErrorKind, ASN1Result, BERMode, BERReader, parse_ber, parse_ber_general, parse_cer,
+    parse_der,
 };
 
 /// Calls on a reader.
@@ -42,7 +43,7 @@ pub fn answer<F: Family>(alloc: Global, case: &Case) -> Answer {
         Ok(value) => Some(written(
             alloc,
             &value,
-            construct_der(alloc, |writer| value.write(writer)),
+            construct_in(alloc, mode, |writer| value.write(writer)),
         )),
         Err(error) if case.marked || second.is_some() => {
             let both = Both {

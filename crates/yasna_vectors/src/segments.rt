@@ -9,6 +9,7 @@
 //! them.
 
 use crate::answer::{Answer, refused};
+use crate::forms::construct_in;
 use crate::line::Case;
 use std::alloc::{AllocError, Global};
 use yasna::{
@@ -106,6 +107,6 @@ fn read_back(
     if read.as_slice() != bytes {
         return Ok((0, 0));
     }
-    let written = construct_der(alloc, |writer| writer.write_bytes(&read))?;
+    let written = construct_in(alloc, mode, |writer| writer.write_bytes(&read))?;
     Ok((read.len(), written.len()))
 }

@@ -4,12 +4,12 @@
 //! read as it stands. The elements are shown in braces in this order, and written by write_set.
 
 use crate::answer::{Answer, Shown, Value, refused, show_items, written};
+use crate::forms::construct_in;
 use crate::line::Case;
 use crate::raw::{RawElement, read_element};
 use std::alloc::{AllocError, Global};
 use yasna::{
-    ASN1Error, ASN1ErrorKind, ASN1Result, BERReaderSet, DERWriter, Tag, TagClass, construct_der,
-    parse_ber_general,
+    ASN1Error, ASN1ErrorKind, ASN1Result, BERReaderSet, DERWriter, Tag, TagClass, parse_ber_general,
 };
 
 /// Elements of a SET.
@@ -59,7 +59,7 @@ pub fn answer(alloc: Global, case: &Case) -> Answer {
         Ok(elements) => written(
             alloc,
             &elements,
-            construct_der(alloc, |writer| elements.write(writer)),
+            construct_in(alloc, mode, |writer| elements.write(writer)),
         ),
         Err(error) => refused(alloc, error.kind()),
     })

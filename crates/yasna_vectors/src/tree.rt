@@ -12,6 +12,7 @@
 ghost use Rattle.yasna.specs.reader.State.{IsFresh};
 
 use crate::answer::{Answer, Shown, Value, refused, show_items, written};
+use crate::forms::construct_in;
 use crate::line::Case;
 use crate::oid::Oid;
 use crate::primitive::Primitive;
@@ -25,7 +26,7 @@ use yasna::tags::{
     TAG_PRINTABLESTRING, TAG_SEQUENCE, TAG_SET, TAG_UTCTIME, TAG_UTF8STRING,
 };
 use yasna::{
-    ASN1Error, ASN1ErrorKind, ASN1Result, BERReader, DERWriter, Tag, TagClass, construct_der,
+    ASN1Error, ASN1ErrorKind, ASN1Result, BERMode, BERReader, DERWriter, Tag, TagClass,
     parse_ber_general,
 };
 
@@ -63,7 +64,7 @@ pub fn answer(alloc: Global, case: &Case) -> Answer {
         Ok(tree) => written(
             alloc,
             &tree,
-            construct_der(alloc, |writer| tree.write(writer)),
+            construct_in(alloc, mode, |writer| tree.write(writer)),
         ),
         Err(error) => refused(alloc, error.kind()),
     })
@@ -72,6 +73,7 @@ pub fn answer(alloc: Global, case: &Case) -> Answer {
 // Reads an element by its tag.
 fn read_tree(alloc: Global, reader: BERReader) -> ASN1Result<Tree> {
     let tag = reader.lookahead_tag()?;
+    let mode = reader.mode();
     match tag.tag_class {
         TagClass::Application => read_implicit(alloc, tag, reader),
         TagClass::ContextSpecific => {
@@ -81,7 +83,7 @@ fn read_tree(alloc: Global, reader: BERReader) -> ASN1Result<Tree> {
                     requires { IsFresh inner.old }
                 { read_tree(alloc, inner) },
             )?;
-            explicit(alloc, tag, &inner)
+            explicit(alloc, mode, tag, &inner)
         }
         _ if tag == TAG_SEQUENCE => {
             let items = reader.collect_sequence_of(
@@ -89,7 +91,7 @@ fn read_tree(alloc: Global, reader: BERReader) -> ASN1Result<Tree> {
                     requires { IsFresh item.old }
                 { read_tree(alloc, item) },
             )?;
-            sequence(alloc, &items)
+            sequence(alloc, mode, &items)
         }
         _ if tag == TAG_SET => {
             let items = reader.collect_set_of(
@@ -97,7 +99,7 @@ fn read_tree(alloc: Global, reader: BERReader) -> ASN1Result<Tree> {
                     requires { IsFresh item.old }
                 { read_tree(alloc, item) },
             )?;
-            set(alloc, &items)
+            set(alloc, mode, &items)
         }
         _ => read_simple(alloc, tag, reader),
     }
@@ -142,29 +144,33 @@ fn string_of(tag: Tag) -> Option<Strings> {
 
 // Reads an element by a call of a family.
 fn read_as<F: Family>(alloc: Global, call: F, reader: BERReader) -> ASN1Result<Tree> {
+    let mode = reader.mode();
     let value = call.read(reader)?;
     let mut shown = String::new(alloc);
     value.show(&mut shown).map_err(lack)?;
-    let form = construct_der(alloc, |writer| value.write(writer))?;
+    let form = construct_in(alloc, mode, |writer| value.write(writer))?;
     Ok(Tree { shown, form })
 }
 
 // Reads an OCTET STRING under an implicit tag.
 fn read_implicit(alloc: Global, tag: Tag, reader: BERReader) -> ASN1Result<Tree> {
+    let mode = reader.mode();
     let octets = reader.read_tagged_implicit(tag, |inner| inner.read_bytes())?;
     let shown = shown_under(alloc, tag, &octets).map_err(lack)?;
-    let form = construct_der(
+    let form = construct_in(
         alloc,
+        mode,
         |writer| writer.write_tagged_implicit(tag, |inner| inner.write_bytes(&octets)),
     )?;
     Ok(Tree { shown, form })
 }
 
 // An element under an explicit tag.
-fn explicit(alloc: Global, tag: Tag, inner: &Tree) -> ASN1Result<Tree> {
+fn explicit(alloc: Global, mode: BERMode, tag: Tag, inner: &Tree) -> ASN1Result<Tree> {
     let shown = shown_under(alloc, tag, inner).map_err(lack)?;
-    let form = construct_der(
+    let form = construct_in(
         alloc,
+        mode,
         |writer| writer.write_tagged(tag, |part| inner.write(part)),
     )?;
     Ok(Tree { shown, form })
@@ -180,10 +186,11 @@ fn shown_under<V: Shown>(alloc: Global, tag: Tag, value: &V) -> Result<String, A
 }
 
 // A SEQUENCE of elements.
-fn sequence(alloc: Global, items: &[Tree]) -> ASN1Result<Tree> {
+fn sequence(alloc: Global, mode: BERMode, items: &[Tree]) -> ASN1Result<Tree> {
     let shown = shown_between(alloc, '(', items, ')').map_err(lack)?;
-    let form = construct_der(
+    let form = construct_in(
         alloc,
+        mode,
         |writer| writer.write_sequence_of(|seq| {
             for item in items {
                 item.write(seq.next())?;
@@ -195,9 +202,9 @@ fn sequence(alloc: Global, items: &[Tree]) -> ASN1Result<Tree> {
 }
 
 // A SET OF elements.
-fn set(alloc: Global, items: &[Tree]) -> ASN1Result<Tree> {
+fn set(alloc: Global, mode: BERMode, items: &[Tree]) -> ASN1Result<Tree> {
     let shown = shown_between(alloc, '[', items, ']').map_err(lack)?;
-    let form = construct_der(alloc, |writer| write_members(writer, items))?;
+    let form = construct_in(alloc, mode, |writer| write_members(writer, items))?;
     Ok(Tree { shown, form })
 }
 

@@ -1,14 +1,15 @@
 //! Types that are read and written as a whole.
 //!
-//! `d:TYPE` decodes by decode_ber, decode_der or decode_cer, and encodes by encode_der. `int` is `i64`, `pair` is `(i64, bool)`, `pairs`
+//! `d:TYPE` decodes by decode_ber, decode_der or decode_cer, and encodes by encode_der, or by encode_cer what was read in CER. `int` is `i64`, `pair` is `(i64, bool)`, `pairs`
 //! is `((i64, bool), (bool, i64))`, `deep` is `(bool, (i64, (bool, ())))`, `octets` is `Vec<u8>`, `text` is `String`, `oid` is
 //! `ObjectIdentifier`, `utime` is `UTCTime`, `gtime` is `GeneralizedTime`, `named` is `(String, Vec<u8>)`.
 
 use crate::answer::{Answer, Shown, refused, written};
+use crate::forms::encode_in;
 use crate::line::Case;
 use std::alloc::{AllocError, Global};
 use yasna::models::{GeneralizedTime, ObjectIdentifier, UTCTime};
-use yasna::{BERMode, DERCanonical, decode_ber, decode_cer, decode_der, encode_der};
+use yasna::{BERMode, DERCanonical, decode_ber, decode_cer, decode_der};
 
 type Pairs = ((i64, bool), (bool, i64));
 
@@ -58,5 +59,5 @@ pub fn decoded<T: DERCanonical + Shown>(
         Ok(value) => value,
         Err(error) => return refused(alloc, error.kind()),
     };
-    written(alloc, &value, encode_der(alloc, &value))
+    written(alloc, &value, encode_in(alloc, mode, &value))
 }
