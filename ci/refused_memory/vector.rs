@@ -46,10 +46,11 @@ impl<'a> Vector<'a> {
     }
 }
 
-/// Whether this is an element in hexadecimal whose identifier says that it has parts. Behind a `+` the form goes on, as often
-/// as stands there.
+/// Whether this is an element in hexadecimal whose identifier says that it has parts. Pieces stand between
+/// `+`, and behind a `*` how often one stands there.
 fn has_parts(form: &str) -> bool {
-    let form = form.split('+').next().unwrap_or(form);
+    let form = form.trim_start_matches('+');
+    let form = form.split(['+', '*']).next().unwrap_or(form);
     form.len() % 2 == 0
         && form.bytes().all(|digit| digit.is_ascii_hexdigit())
         && form.starts_with(['2', '3', '6', '7', 'a', 'b', 'e', 'f'])
