@@ -1,6 +1,6 @@
 #!/bin/sh
-# Random input: reads bytes at random, and vectors that are changed, cut, joined and nested at random, by each call in both
-# modes, and holds the answers against each other (crates/yasna_vectors/src/fuzz.rt says how).
+# Random input: reads bytes at random, and vectors that are changed, cut, joined and nested at random, by each call in each
+# mode, and holds the answers against each other (crates/yasna_vectors/src/fuzz.rt says how).
 #
 #   sh ci/fuzz.sh [COUNT [SEED]]     COUNT inputs, 100000 where it isn't said, made from SEED, else from the time
 #

@@ -21,9 +21,9 @@ pub fn set_of_sets_is_read<T: BERDecodable>()
 
 /// What is proved of a SET OF values of every type that keeps the laws.
 ///
-/// Under any tag but that of the end of contents, DER reads values in the order of their forms, from these alone, and BER
-/// reads them from these too. What is written of values, in whatever order, is read as the same values in order; and what
-/// DER read is written again as the same bytes.
+/// Under any tag but that of the end of contents, DER and CER read values in the order of their forms there, from these
+/// alone, and BER reads them from these too. What is written of values, in whatever order, is read as the same values in
+/// order; and what DER or CER read is written again in that mode as the same bytes.
 pub fn set_of_is_written<T: DERCanonical>()
     ensures { SetOfKeepsWritingLaws T.same T.encodes T.form T.nest T.encodable }
 {}

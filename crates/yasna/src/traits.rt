@@ -1,7 +1,7 @@
 //! What a type says that is read and written as a whole.
 //!
-//! A type names its grammar, its DER form and which values are equal, and proves the laws that tie them. The laws of the
-//! types that come with the crate stand by name in `yasna_base`; those of a type made of others follow from theirs.
+//! A type names its grammar, its form in each canonical mode and which values are equal, and proves the laws that tie them.
+//! The laws of the types that come with the crate stand by name in `yasna_base`; those of a type made of others follow from theirs.
 ghost use Rattle.std.specs.Prelude.{◌≡◌, ⊤, ℕ, List, Bool, None, Result};
 ghost use Rattle.yasna_base.specs.declared.error.ASN1Error.{ASN1Error};
 ghost use Rattle.yasna_base.specs.declared.mode.BERMode.{BERMode};

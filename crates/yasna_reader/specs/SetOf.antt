@@ -1,4 +1,4 @@
--- What a read of a SET OF does, whose elements ascend in DER as byte strings (X.690, 8.12 and 11.6).
+-- What a read of a SET OF does, whose elements ascend in DER and CER as byte strings (X.690, 8.12 and 11.6).
 use Rattle.std.specs.Borrow.{Bor}
 use Rattle.std.specs.Global.{Global}
 use Rattle.std.specs.Ordering.{is_lt}

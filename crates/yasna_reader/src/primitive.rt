@@ -20,7 +20,7 @@ impl<'a> ReaderState<'a> {
     ghost use Rattle.yasna_bytes.specs.Contents.{big_integer_in, Never, WantsMemory};
     ghost use Rattle.yasna_reader.specs.Primitive.{Reads, ReadsSeen, FrontOf, NoLevel};
 
-    /// Reads BOOLEAN: any byte but 0 is true in BER, 255 alone in DER.
+    /// Reads BOOLEAN: any byte but 0 is true in BER, 255 alone in DER and CER.
     #[inline(always)]
     pub fn read_bool(&mut self) -> ASN1Result<bool>
         ensures { Reads (Primitively IsBoolean) NoLevel Never TAG_BOOLEAN self.old result self.new }

@@ -82,8 +82,8 @@ impl<'a> ReaderState<'a> {
 
     /// Reads an element of any tag but that of the end of contents: its tag, its bit, and what follows its length.
     ///
-    /// In DER constructed contents are to be elements one after the other, in BER those of indefinite length. What values
-    /// they are isn't looked at. An implicit tag is ignored, and used up.
+    /// In DER constructed contents are to be elements one after the other, in BER and CER those of indefinite length. What
+    /// values they are isn't looked at. An implicit tag is ignored, and used up.
     pub fn read_tagged_der(&mut self) -> ASN1Result<TaggedDerValue>
         ensures { ReadsRaw IsRaw raw_of self.old result self.new }
     {

@@ -239,8 +239,8 @@ impl<'a> ReaderState<'a> {
 
     /// Reads a SET, whose elements the callback takes by their tags.
     ///
-    /// All elements are found before the callback is called: they are raw elements up to an end, and in DER their tags don't
-    /// fall. The callback is to take all of them. What goes wrong in it is kept, whatever it answers: later calls answer it.
+    /// All elements are found before the callback is called: they are raw elements up to an end, and in DER and CER their
+    /// tags don't fall. The callback is to take all of them. What goes wrong in it is kept, whatever it answers: later calls answer it.
     #[inline(always)]
     pub fn read_set<T: Drop, F>(&mut self, f: F) -> ASN1Result<T>
     where

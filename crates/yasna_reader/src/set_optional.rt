@@ -76,7 +76,7 @@ impl<'a> Chosen<ReaderState<'a>, Vec<SetElement<'a>>> {
 
     /// Reads such an element, which is the default where there is none, as `read_optional` does.
     ///
-    /// In DER an element that equals the default is refused as `Invalid`, and this is kept (X.690, 11.5).
+    /// In DER and CER an element that equals the default is refused as `Invalid`, and this is kept (X.690, 11.5).
     #[inline(always)]
     pub fn read_default<T: Eq + Drop, F>(&mut self, tags: &[Tag], default: T, f: F) -> ASN1Result<T>
     where

@@ -1,7 +1,8 @@
-//! Reads of strings: OCTET STRING, BIT STRING and character strings (X.690, 8.6, 8.7 and 8.23).
+//! Reads of strings: OCTET STRING, BIT STRING and character strings (X.690, 8.6, 8.7, 8.23 and 9.2).
 //!
 //! In BER a string may be cut into segments, to be joined. Each segment is an element of its own, one level down, whose tag is
-//! universal 3 in a BIT STRING and universal 4 in any other, whatever the tag of the string.
+//! universal 3 in a BIT STRING and universal 4 in any other, whatever the tag of the string. In CER one with more than 1000 octets of
+//! contents is cut so, into primitive segments of 1000.
 
 use crate::state::ReaderState;
 use yasna_base::error::ASN1Result;
@@ -36,7 +37,7 @@ impl<'a> ReaderState<'a> {
     }
 
     /// Reads BIT STRING: its bytes, the first bit the highest of the first byte, and how many bits there are. In BER the
-    /// unused bits of the last byte are answered as they stand there; in DER they are zero.
+    /// unused bits of the last byte are answered as they stand there; in DER and CER they are zero.
     #[inline(always)]
     #[tactic(auto, using(crate::proofs::Primitives::reads_front, crate::proofs::Primitives::reads_kept))]
     pub fn read_bitvec_bytes(&mut self) -> ASN1Result<(Vec<u8>, usize)>

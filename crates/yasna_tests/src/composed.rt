@@ -49,7 +49,7 @@ fn tuples_to_twelve(rt: HostRuntime) -> Result<(), Fail> {
     is_form_of::<(i64, i64, i64, i64, i64, i64, i64, i64, i64, i64, i64, i32)>(&rt, alloc, 12)
 }
 
-// A SEQUENCE of so many INTEGERs 10 is a value of this type in both modes, and its form.
+// A SEQUENCE of so many INTEGERs 10 is a value of this type in BER and DER, and its form.
 fn holds_tens<T: DERCanonical>(rt: &impl Abort, alloc: Global, count: u8) -> Result<(), Fail> {
     let mut bytes = Vec::from_slice(alloc, &[48, count.saturating_mul(3)])?;
     for _ in 0..count {

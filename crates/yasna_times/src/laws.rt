@@ -27,8 +27,8 @@ pub fn moments()
     ensures { TimesAreMoments }
 {}
 
-/// Both times keep the laws of reading and of writing, as `simple_types` says them, however BER cuts their texts into
-/// pieces.
+/// Both times keep the laws of reading and of writing, as `simple_types` says them, however BER or CER cuts their texts
+/// into pieces.
 pub fn times()
     ensures utc { UtcTimeKeepsLaws }
     ensures general { GeneralizedTimeKeepsLaws }

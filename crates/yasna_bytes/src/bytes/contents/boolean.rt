@@ -8,7 +8,7 @@ use std::alloc::Global;
 use yasna_base::error::ASN1ErrorKind;
 use yasna_base::mode::BERMode;
 
-// Whether a byte that isn't 0 in BER, or is 255 in DER, stands for true.
+// Whether a byte that isn't 0 in BER, or is 255 in DER and CER, stands for true.
 #[inline(always)]
 fn is_true(mode: BERMode, byte: u8) -> bool
     ensures { IsTrue result ↔ SaysTrue mode byte }
