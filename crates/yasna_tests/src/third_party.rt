@@ -1,7 +1,10 @@
 //! Types that are read and written as a tuple or step by step, each on bytes.
 
 use std::test::Fail;
-use yasna::{ASN1ErrorKind, EncodableParts, construct_der, decode_ber, decode_der, encode_der};
+use yasna::{
+    ASN1ErrorKind, EncodableParts, construct_der, decode_ber, decode_cer, decode_der, encode_cer,
+    encode_der,
+};
 use yasna_examples::{
     Measurement, Report, Sample, Serial, Trail, Version, encoded_report, normalized_report,
 };
@@ -29,6 +32,29 @@ fn versions(rt: HostRuntime) -> Result<(), Fail> {
     let read: Version = decode_der(alloc, &bytes)?;
     assert_eq!(rt; read.major, 300);
     assert!(rt; !read.flag);
+    Ok(())
+}
+
+#[test]
+fn in_cer(rt: HostRuntime) -> Result<(), Fail> {
+    let alloc = rt.alloc();
+    let version = Version {
+        major: 300,
+        flag: false,
+    };
+    let bytes = encode_cer(alloc, &version)?;
+    assert_eq!(rt;
+        bytes.as_slice(),
+        [48, 128, 2, 2, 1, 44, 1, 1, 0, 0, 0].as_slice()
+    );
+    let read: Version = decode_cer(alloc, &bytes)?;
+    assert_eq!(rt; read.major, 300);
+    assert!(rt; !read.flag);
+    let refused = decode_cer::<Version>(alloc, &[48, 7, 2, 2, 1, 44, 1, 1, 0]);
+    assert_eq!(rt;
+        refused.err().map(|error| error.kind()),
+        Some(ASN1ErrorKind::Invalid)
+    );
     Ok(())
 }
 

@@ -66,7 +66,10 @@ impl<'a> Case<'a> {
 
     /// Whether bytes are read, and the argument is these: some calls make the bytes themselves, as many as it says.
     pub fn takes_bytes(&self) -> bool {
-        self.mode.is_some() && !matches!(self.call, "whole" | "cut" | "seqof_many")
+        self.mode.is_some()
+            && !matches!(self.call, "whole" | "cut" | "seqof_many")
+            && !self.call.starts_with("thrown:")
+            && !self.call.starts_with("refused:")
     }
 
     /// The word for the rules to read by.

@@ -7,12 +7,14 @@
 //!
 //! CALLS names one call or two, the outer one first, with a dot between them: `seq`, `seqof`, `tag`, `itag` are write_sequence
 //! and write_sequence_of, of next, write_tagged and write_tagged_implicit, context 3. The innermost closure writes ARG by
-//! write_i64, and answers Err(Invalid). The closure of construct_der around all throws away what it was answered too.
+//! write_i64, and answers Err(Invalid). The closure of construct_der around all throws away what it was answered too; that of
+//! construct_cer where MODE is `cer`.
 
 use crate::answer::{Answer, written};
+use crate::forms::construct_in;
 use crate::line::Case;
 use std::alloc::Global;
-use yasna::{ASN1Error, ASN1ErrorKind, ASN1Result, DERWriter, Tag, construct_der};
+use yasna::{ASN1Error, ASN1ErrorKind, ASN1Result, BERMode, DERWriter, Tag};
 
 // A call that takes a closure.
 #[derive(Clone, Copy)]
@@ -109,6 +111,7 @@ pub fn answer(alloc: Global, case: &Case) -> Answer {
         Some((outer, inner)) => (Some(Call::named(outer)?), Call::named(inner)?),
         None => (None, Call::named(calls)?),
     };
+    let mode = case.mode.unwrap_or(BERMode::Der);
     let body = Around {
         call: innermost,
         body: Integer(number),
@@ -117,6 +120,7 @@ pub fn answer(alloc: Global, case: &Case) -> Answer {
     let form = match outer {
         Some(call) => constructed(
             alloc,
+            mode,
             Around {
                 call,
                 body,
@@ -124,7 +128,7 @@ pub fn answer(alloc: Global, case: &Case) -> Answer {
             },
             refusal,
         ),
-        None => constructed(alloc, body, refusal),
+        None => constructed(alloc, mode, body, refusal),
     };
     Some(written(alloc, &number, form))
 }
@@ -132,8 +136,9 @@ pub fn answer(alloc: Global, case: &Case) -> Answer {
 // The bytes of this, written in a closure that throws away what it was answered.
 fn constructed<B: Body>(
     alloc: Global,
+    mode: BERMode,
     body: B,
     refusal: Option<ASN1ErrorKind>,
 ) -> ASN1Result<Vec<u8>> {
-    construct_der(alloc, |writer| throw_away(body, writer, refusal))
+    construct_in(alloc, mode, |writer| throw_away(body, writer, refusal))
 }
