@@ -231,12 +231,6 @@ holds_own Ber h = absurd h
 holds_own Der h = tt
 holds_own Cer h = tt
 
--- a mode whose forms hold anywhere is canonical
-pub form_canonical : (m o : BERMode) → HoldsForm m o → IsCanonicalMode m
-form_canonical Ber o h = absurd h
-form_canonical Der o h = tt
-form_canonical Cer o h = tt
-
 module _ {A : Type 0} {E : A → A → Type 0} {B : BERMode → ℕ → A → List ℕ → Type 0} {form : BERMode → A → List ℕ} {nest : BERMode → A → ℕ}
     {Can : A → Type 0} (x : IsWritten E B form nest Can) where
   -- a type that keeps the laws is read in CER from its one form alone
