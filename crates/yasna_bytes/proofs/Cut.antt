@@ -206,6 +206,12 @@ closed_taken k value n j l f m t s c end o h x u y r out out' z a e =
 pub as_well : {X Y Z : Type 0} {r x : X} {s y : Y} {t z : Z} (B : X → Y → Z → Type 0) → r ≡ x → s ≡ y → t ≡ z → B r s t → B x y z
 as_well {r} {x} {s} {y} {t} B e f g h = subst (λ u. B x y u) g (subst (λ u. B x u t) f (subst (λ u. B u s t) e h))
 
+-- segments that were read where the contents of an element begin, by the rules of its pieces
+pub taken_inside : {A T : Type 0} {k : Cutting A} {value : List ℕ → T → A} {n j : ℕ} {o : BERMode} {c s out y out' : List ℕ} {x : T} {u : Cuts} →
+    (m : BERMode) → j ≡ n → o ≡ piece_mode m → s ≡ c → TakesSegments k value j o s out x u y out' → TakesSegments k value n (piece_mode m) c out x u y out'
+taken_inside {k = k} {value = value} {n = n} {c = c} {out = out} {y = y} {out' = out'} {x = x} {u = u} m e f g h =
+    as_well {x = n} {y = piece_mode m} {z = c} (λ i q d. TakesSegments k value i q d out x u y out') e f g h
+
 -- what holds where a refusal didn't move holds of one that did
 pub refused_moved : {R : Type 0} {b : Bool} {o p : List ℕ} → R → b ≡ true → R × (b ≡ false → o ≡ p)
 refused_moved r h = (r, λ f. absurd (cc))

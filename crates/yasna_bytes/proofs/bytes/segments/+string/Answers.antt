@@ -4,7 +4,7 @@ use Rattle.yasna_base.specs.Cut.{piece_mode}
 use Rattle.yasna_base.specs.Header.{OpensAt, counted}
 use Rattle.yasna_bytes.specs.Header.{contents_end}
 use Rattle.yasna_bytes.specs.Segments.{further_cut, TakesSegments, RefusesSegments, TakesString, RefusesString}
-use Rattle.yasna_bytes.proofs.Cut.{header_refused, whole_taken, whole_refused, uncut_refused, segments_refused, cuts_refused, unclosed_refused, closed_taken, as_well, refused_moved}
+use Rattle.yasna_bytes.proofs.Cut.{header_refused, whole_taken, whole_refused, uncut_refused, segments_refused, cuts_refused, unclosed_refused, closed_taken, taken_inside, as_well, refused_moved}
 use Rattle.yasna_bytes.proofs.Header.{takes_primitive}
 use Rattle.yasna_bytes.proofs.Segments.{Reached, reached_none, reached_more, reached_shorter, stops_elsewhere, stops_full, segment_refused, segment_too_much}
 use Rattle.yasna_bytes.proofs.bytes.segments.+string.Goals as goal
@@ -54,7 +54,8 @@ element-returns-in-Err-segments g t c =
     let o : OpensAt p.mode c.args.tag Constructed p.left.now c.in-Ok.opened.within.now (contents_end c.in-Ok.opened.after) = search rules in
     let i = c.inside.ensures in
     let q = c.ruled_by-contents.ensures in
-    let x = as_well {x = c.inside.result.levels} {y = piece_mode p.mode} {z = c.in-Ok.opened.within.now} (λ n m s. RefusesSegments g.T.Tally.cutting n m s c.in-Err-segments.refusal) (q.levels) (q.mode ∙ c.rules_of_pieces.ensures)
+    let x = as_well {x = c.inside.result.levels} {y = piece_mode p.mode} {z = c.in-Ok.opened.within.now}
+    (λ n m s. RefusesSegments g.T.Tally.cutting n m s c.in-Err-segments.refusal) (q.levels) (q.mode ∙ c.rules_of_pieces.ensures)
     (q.left ∙ i.left) (c.in-Err-segments.ensures {u = tt}) in
     refused_moved (segments_refused g.T.Tally.cutting p.levels c.inside.result.levels w.0 i.levels p.mode c.args.tag p.left.now c.in-Ok.opened.within.now
     (contents_end c.in-Ok.opened.after) o _ x.moved ((c.if-not-takes_pieces.ensures {u = tt}).0 refl) x) x.moved
@@ -67,8 +68,8 @@ element-returns-then-not-takes_cuts g t c =
     let i = c.inside.ensures in
     let q = c.ruled_by-contents.ensures in
     let r = c.in-Ok-segments.taken in
-    let x = as_well {x = c.inside.result.levels} {y = piece_mode p.mode} {z = c.in-Ok.opened.within.now} (λ n m s. TakesSegments g.T.Tally.cutting g.T.Tally.value n m s c.args.out.now.items r.0.0 r.0.1 r.1.now c.segments.new.out.items)
-    (q.levels) (q.mode ∙ c.rules_of_pieces.ensures) (q.left ∙ i.left) (c.in-Ok-segments.ensures {u = tt}) in
+    let x = taken_inside {n = c.inside.result.levels} {c = c.in-Ok.opened.within.now} p.mode q.levels (q.mode ∙ c.rules_of_pieces.ensures)
+    (q.left ∙ i.left) (c.in-Ok-segments.ensures {u = tt}) in
     rw c.refuse-then-not-takes_cuts.ensures (refused_moved
     (cuts_refused g.T.Tally.cutting p.levels c.inside.result.levels w.0 i.levels p.mode c.args.tag p.left.now c.in-Ok.opened.within.now
     (contents_end c.in-Ok.opened.after) o _ refl x tt (λ h. let z = (c.if-not-takes_cuts.ensures {u = tt}).1 h in cc)) refl)
@@ -81,8 +82,8 @@ element-returns-in-Ok-close g t c =
     let i = c.inside.ensures in
     let q = c.ruled_by-contents.ensures in
     let r = c.in-Ok-segments.taken in
-    let x = as_well {x = c.inside.result.levels} {y = piece_mode p.mode} {z = c.in-Ok.opened.within.now} (λ n m s. TakesSegments g.T.Tally.cutting g.T.Tally.value n m s c.args.out.now.items r.0.0 r.0.1 r.1.now c.segments.new.out.items)
-    (q.levels) (q.mode ∙ c.rules_of_pieces.ensures) (q.left ∙ i.left) (c.in-Ok-segments.ensures {u = tt}) in
+    let x = taken_inside {n = c.inside.result.levels} {c = c.in-Ok.opened.within.now} p.mode q.levels (q.mode ∙ c.rules_of_pieces.ensures)
+    (q.left ∙ i.left) (c.in-Ok-segments.ensures {u = tt}) in
     closed_taken g.T.Tally.cutting g.T.Tally.value p.levels c.inside.result.levels w.0 i.levels p.mode c.args.tag p.left.now c.in-Ok.opened.within.now
     (contents_end c.in-Ok.opened.after) o ((c.if-not-takes_pieces.ensures {u = tt}).0 refl) r.0.0 r.0.1 r.1.now c.in-Ok-close.after.now
     c.args.out.now.items c.segments.new.out.items x ((c.if-not-takes_cuts.ensures {u = tt}).0 refl) (c.in-Ok-close.ensures {u = tt})
@@ -95,8 +96,8 @@ element-returns-in-Err-close g t c =
     let i = c.inside.ensures in
     let q = c.ruled_by-contents.ensures in
     let r = c.in-Ok-segments.taken in
-    let x = as_well {x = c.inside.result.levels} {y = piece_mode p.mode} {z = c.in-Ok.opened.within.now} (λ n m s. TakesSegments g.T.Tally.cutting g.T.Tally.value n m s c.args.out.now.items r.0.0 r.0.1 r.1.now c.segments.new.out.items)
-    (q.levels) (q.mode ∙ c.rules_of_pieces.ensures) (q.left ∙ i.left) (c.in-Ok-segments.ensures {u = tt}) in
+    let x = taken_inside {n = c.inside.result.levels} {c = c.in-Ok.opened.within.now} p.mode q.levels (q.mode ∙ c.rules_of_pieces.ensures)
+    (q.left ∙ i.left) (c.in-Ok-segments.ensures {u = tt}) in
     let y = c.in-Err-close.ensures {u = tt} in
     rw c.refuse-in-Err-close.ensures (refused_moved
     (unclosed_refused g.T.Tally.cutting p.levels c.inside.result.levels w.0 i.levels p.mode c.args.tag p.left.now c.in-Ok.opened.within.now
@@ -114,7 +115,8 @@ pub segments-loop-out-smaller : goal.segments-loop-out-smaller
 segments-loop-out-smaller g t c =
     let p = c.args.contents in
     let l = c.loop-out in
-    let x = as_well {x = p.levels} {y = p.mode} (λ n m t. TakesString g.T.Tally.cutting g.T.Tally.value n m t l.place.left.now l.out.items c.in-Ok.taken.0 c.in-Ok.taken.1.now
+    let x = as_well {x = p.levels} {y = p.mode}
+    (λ n m t. TakesString g.T.Tally.cutting g.T.Tally.value n m t l.place.left.now l.out.items c.in-Ok.taken.0 c.in-Ok.taken.1.now
     c.element.new.out.items) l.invariant.levels l.invariant.mode c.tag.ensures (c.in-Ok.ensures {u = tt}) in
     subst (λ z. length z < length l.place.left.now) (sym c.further-place.ensures.left) (reached_shorter (g.met.T.Tally.once) (g.met.T.Tally.go_on) p.levels
     p.mode p.left.now c.in-Ok.taken.0 l.place.left.now c.in-Ok.taken.1.now l.out.items c.element.new.out.items x)
@@ -124,7 +126,8 @@ segments-loop-out-preserved g t c =
     let p = c.args.contents in
     let l = c.loop-out in
     let h = l.invariant.reached in
-    let x = as_well {x = p.levels} {y = p.mode} (λ n m t. TakesString g.T.Tally.cutting g.T.Tally.value n m t l.place.left.now l.out.items c.in-Ok.taken.0 c.in-Ok.taken.1.now
+    let x = as_well {x = p.levels} {y = p.mode}
+    (λ n m t. TakesString g.T.Tally.cutting g.T.Tally.value n m t l.place.left.now l.out.items c.in-Ok.taken.0 c.in-Ok.taken.1.now
     c.element.new.out.items) l.invariant.levels l.invariant.mode c.tag.ensures (c.in-Ok.ensures {u = tt}) in
     let f = c.further-place.ensures in
     record {
@@ -143,7 +146,8 @@ pub segments-returns-in-Err-with : goal.segments-returns-in-Err-with
 segments-returns-in-Err-with g t c =
     let p = c.args.contents in
     let l = c.loop-out in
-    let x = as_well {x = p.levels} {y = p.mode} (λ n m t. TakesString g.T.Tally.cutting g.T.Tally.value n m t l.place.left.now l.out.items c.in-Ok.taken.0 c.in-Ok.taken.1.now
+    let x = as_well {x = p.levels} {y = p.mode}
+    (λ n m t. TakesString g.T.Tally.cutting g.T.Tally.value n m t l.place.left.now l.out.items c.in-Ok.taken.0 c.in-Ok.taken.1.now
     c.element.new.out.items) l.invariant.levels l.invariant.mode c.tag.ensures (c.in-Ok.ensures {u = tt}) in
     rw c.refuse.ensures (segment_too_much (g.met.T.Tally.once) (g.met.T.Tally.go_on) p.levels p.mode p.left.now l.tally c.in-Ok.taken.0 l.cuts
     l.place.left.now c.in-Ok.taken.1.now c.args.out.now.items l.out.items c.element.new.out.items c.in-Err-with.kind _ l.invariant.reached x
@@ -155,7 +159,8 @@ segments-returns-then-refusal g t c =
     let p = c.args.contents in
     let l = c.loop-out in
     let h = l.invariant.reached in
-    let x = as_well {x = p.levels} {y = p.mode} (λ n m t. RefusesString g.T.Tally.cutting n m t l.place.left.now c.in-Err.refusal) l.invariant.levels l.invariant.mode c.tag.ensures
+    let x = as_well {x = p.levels} {y = p.mode}
+    (λ n m t. RefusesString g.T.Tally.cutting n m t l.place.left.now c.in-Err.refusal) l.invariant.levels l.invariant.mode c.tag.ensures
     (c.in-Err.ensures {u = tt}).0 in
     segment_refused (g.met.T.Tally.once) (g.met.T.Tally.go_on) p.levels p.mode p.left.now l.tally l.cuts l.place.left.now c.args.out.now.items
     l.out.items c.in-Err.refusal h ((c.loop-out-test.ensures {u = tt} p.levels p.mode h.values h.bytes h.lead.front h.lead.pieces h.join).0 refl) x c.if-refusal.true
@@ -164,7 +169,8 @@ pub segments-returns-in-Err : goal.segments-returns-in-Err
 segments-returns-in-Err g t c =
     let p = c.args.contents in
     let l = c.loop-out in
-    let x = as_well {x = p.levels} {y = p.mode} (λ n m t. RefusesString g.T.Tally.cutting n m t l.place.left.now c.in-Err.refusal) l.invariant.levels l.invariant.mode c.tag.ensures
+    let x = as_well {x = p.levels} {y = p.mode}
+    (λ n m t. RefusesString g.T.Tally.cutting n m t l.place.left.now c.in-Err.refusal) l.invariant.levels l.invariant.mode c.tag.ensures
     (c.in-Err.ensures {u = tt}).0 in
     subst (λ o. TakesSegments g.T.Tally.cutting g.T.Tally.value p.levels p.mode p.left.now c.args.out.now.items l.tally l.cuts l.place.left.now o)
     (sym ((c.in-Err.ensures {u = tt}).1 c.if-refusal.false))
