@@ -6,15 +6,12 @@ use Rattle.yasna_base.specs.declared.error.ASN1Error.{ASN1Error}
 use Rattle.yasna_base.specs.declared.error.ASN1ErrorKind.TheVariants.{OutOfMemory}
 use Rattle.yasna_base.specs.declared.mode.BERMode.{BERMode}
 use Rattle.yasna_base.specs.declared.tag.Tag.{Tag}
-use Rattle.yasna_base.specs.declared.tag.PCBit.{PCBit}
 use Rattle.yasna_base.specs.declared.tag.PCBit.TheVariants.{Primitive}
 use Rattle.yasna_base.specs.Error.{kind_of}
 use Rattle.yasna_base.specs.Identifier.{leading_byte}
 use Rattle.yasna_base.specs.Canonical.{canonical_element, definite_element}
 use Rattle.yasna_base.proofs.Identifier.{identifier_short}
 use Rattle.yasna_base.proofs.Length.{short_length}
-use Rattle.yasna_writer.specs.declared.header.Header.{Header}
-use Rattle.yasna_writer.specs.Header.{header_bytes}
 use Rattle.yasna_writer.specs.State.{Appended}
 use Rattle.yasna_writer.specs.View.{Written, Wrote}
 
@@ -24,12 +21,6 @@ pub short_element :
     → canonical_element m t Primitive c ≡ leading_byte t Primitive t.tag_number ∷ length c ∷ c
 unfolding canonical_element definite_element
 short_element m t c h k = ap₂ (λ i l. i ++ (l ++ c)) (identifier_short t Primitive h) (short_length (length c) k)
-
--- so is the header
-pub short_header : (h : Header) (p : PCBit) (first : ℕ) → h.tag.tag_number < 31 → h.length < 128 →
-    first ≡ leading_byte h.tag p h.tag.tag_number → first ∷ h.length ∷ [] ≡ header_bytes p h
-short_header h p first i j e =
-    ap (λ x. x ∷ h.length ∷ []) e ∙ sym (ap₂ (λ x y. x ++ y) (identifier_short h.tag p i) (short_length h.length j))
 
 -- those two bytes, and the contents
 pub short_bytes :

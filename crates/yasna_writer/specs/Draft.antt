@@ -1,5 +1,5 @@
 -- Headers that stand apart from the contents, and what they are joined to.
-use Rattle.std.specs.Prelude.{◌≡◌, ℕ, ◌+◌, ◌^◌, ◌<◌, ◌≤◌, List, [], ◌∷◌, ◌++◌, length, take, drop}
+use Rattle.std.specs.Prelude.{◌≡◌, ℕ, ◌+◌, ◌^◌, ◌<◌, ◌≤◌, List, [], ◌∷◌, ◌++◌, length, take, drop, Option, Some, None}
 use Rattle.yasna_base.specs.declared.mode.BERMode.{BERMode}
 use Rattle.yasna_base.specs.declared.tag.Tag.{Tag}
 use Rattle.yasna_base.specs.declared.tag.PCBit.TheVariants.{Constructed}
@@ -22,6 +22,11 @@ abbrev pub mark_waits : Mark → ℕ
 mark_waits (Waits w) = 1
 mark_waits (Known h) = 0
 mark_waits (Open t) = 0
+
+-- the header of an element with parts: of a length, or of indefinite length
+abbrev pub header_mark : Tag → Option ℕ → Mark
+header_mark t (Some n) = Known (record { tag = t; length = n })
+header_mark t None = Open t
 
 -- the header put into the bytes at its place
 abbrev pub with_entry : Entry → List ℕ → List ℕ

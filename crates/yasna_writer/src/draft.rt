@@ -10,10 +10,10 @@ ghost use Rattle.yasna_base.specs.declared.mode.BERMode.TheVariants.{Cer};
 ghost use Rattle.yasna_base.specs.Digits.{base128};
 ghost use Rattle.std.specs.List.{flat_map};
 ghost use Rattle.yasna_writer.specs.Header.{header_bytes, open_bytes};
-ghost use Rattle.yasna_writer.specs.Draft.{mark_bytes, mark_waits, with_entry, joined, AreInOrder, IsInnermost, with_element};
+ghost use Rattle.yasna_writer.specs.Draft.{mark_bytes, mark_waits, header_mark, with_entry, joined, AreInOrder, IsInnermost, with_element};
 
 use crate::header::{Header, append_header, append_open, header_length};
-use crate::identifier::{append, identifier_length, leading};
+use crate::identifier::{append, identifier_length};
 use crate::oid::append_subidentifiers;
 use std::alloc::{AllocError, Global};
 use std::marker::Model;
@@ -62,10 +62,10 @@ pub(crate) struct Beginning {
 pub(crate) struct Draft {
     // Contents, which are only appended to.
     contents: Vec<u8>,
-    // Where headers belong, by their places.
-    entries: Vec<Entry>,
     // How many bytes the headers take.
     heads: usize,
+    // Where headers belong, by their places.
+    entries: Vec<Entry>,
     // How many elements aren't ended.
     waits: usize,
 }
@@ -126,6 +126,18 @@ fn append_mark(out: &mut Vec<u8>, mark: Mark) -> Result<(), AllocError>
     }
 }
 
+// The header of an element with parts: of this length, or of indefinite length.
+#[inline(always)]
+fn header_of(tag: Tag, length: Option<usize>) -> Mark
+    ensures mark { result ≡ header_mark tag length }
+    ensures ended { mark_waits result ≡ 0 }
+{
+    match length {
+        Some(length) => Mark::Known(Header { tag, length }),
+        None => Mark::Open(tag),
+    }
+}
+
 // How many bytes a header takes.
 #[inline(always)]
 fn mark_length(mark: Mark) -> usize
@@ -151,6 +163,34 @@ impl Draft {
             heads: 0,
             waits: 0,
         }
+    }
+
+    // Takes all out, and leaves nothing.
+    //
+    // Each part is moved by itself, here and where all is put back: a processor waits where it loads at once what it has just stored in
+    // two pieces.
+    #[inline(always)]
+    pub(crate) fn take(&mut self, alloc: Global) -> Draft
+        ensures taken { result ≡ self.old }
+        ensures empty { self.new ≡ [] }
+    {
+        Draft {
+            contents: mem::replace(&mut self.contents, Vec::new(alloc)),
+            heads: mem::replace(&mut self.heads, 0),
+            entries: mem::replace(&mut self.entries, Vec::new(alloc)),
+            waits: mem::replace(&mut self.waits, 0),
+        }
+    }
+
+    // Puts all of another in the place of what was here.
+    #[inline(always)]
+    pub(crate) fn put_back(&mut self, taken: Draft)
+        ensures { self.new ≡ taken }
+    {
+        self.heads = taken.heads;
+        self.contents = taken.contents;
+        self.waits = taken.waits;
+        self.entries = taken.entries;
     }
 
     // How many bytes there are.
@@ -237,35 +277,40 @@ impl Draft {
             return Err(ASN1Error::new(ASN1ErrorKind::Invalid));
         }
         if let BERMode::Cer = beginning.mode {
-            return self.end_open(alloc, beginning);
+            return self.end_open(alloc, beginning.entry, beginning.start, beginning.tag);
         }
-        let tag = beginning.tag;
-        let length = all - beginning.start;
-        self.put(alloc, beginning, Mark::Known(Header { tag, length }))
+        self.put(alloc, beginning, Some(all - beginning.start))
     }
 
     // The same in CER: two zeros end the contents, whose length isn't counted (X.690, 9.1).
     #[inline(never)]
-    fn end_open(&mut self, alloc: Global, beginning: Beginning) -> ASN1Result<()>
-        requires { beginning.start ≤ length self.old }
-        ensures { MatchResult result (λ _. self.new ≡ with_element Cer beginning.tag beginning.start self.old) (λ e. kind_of e ≡ OutOfMemory) }
+    fn end_open(&mut self, alloc: Global, entry: usize, start: usize, tag: Tag) -> ASN1Result<()>
+        requires { start ≤ length self.old }
+        ensures { MatchResult result (λ _. self.new ≡ with_element Cer tag start self.old) (λ e. kind_of e ≡ OutOfMemory) }
     {
+        let mode = BERMode::Cer;
+        let beginning = Beginning {
+            entry,
+            start,
+            tag,
+            mode,
+        };
         match self.append(&[0, 0]) {
-            Ok(()) => self.put(alloc, beginning, Mark::Open(beginning.tag)),
+            Ok(()) => self.put(alloc, beginning, None),
             Err(_) => Err(ASN1Error::new(ASN1ErrorKind::OutOfMemory)),
         }
     }
 
-    // Puts a header where an element began, or lacks memory.
+    // Puts a header where an element began, of this length or of indefinite length, or lacks memory.
     #[inline(always)]
-    fn put(&mut self, alloc: Global, beginning: Beginning, mark: Mark) -> ASN1Result<()>
-        requires reached { beginning.start ≤ length self.old }
-        requires header { mark_waits mark ≡ 0 }
-        ensures { MatchResult result (λ _. self.new ≡ with_entry (record { place = beginning.start; mark = mark }) self.old) (λ e. kind_of e ≡ OutOfMemory) }
+    fn put(&mut self, alloc: Global, beginning: Beginning, length: Option<usize>) -> ASN1Result<()>
+        requires { beginning.start ≤ count self.old }
+        ensures { MatchResult result (λ _. self.new ≡ with_entry (record { place = beginning.start; mark = header_mark beginning.tag length }) self.old) (λ e. kind_of e ≡ OutOfMemory) }
     {
         let Some(place) = innermost(&self.entries, self.waits, beginning) else {
-            return self.put_apart(alloc, beginning.start, mark);
+            return self.put_apart(alloc, beginning.start, header_of(beginning.tag, length));
         };
+        let mark = header_of(beginning.tag, length);
         let heads = self.heads + mark_length(mark);
         if heads > usize::MAX / 2 {
             return Err(ASN1Error::new(ASN1ErrorKind::OutOfMemory));
@@ -337,31 +382,26 @@ fn join(
     Ok(out)
 }
 
-// Appends the header of an element whose contents follow. Where the tag's number is below 31 and the contents are short, that is
-// two bytes.
-#[tactic(auto, using(crate::proofs::Primitives::short_header))]
+// Appends the header of an element whose contents follow.
 #[inline(always)]
 fn append_opening(out: &mut Vec<u8>, header: Header, pc: PCBit) -> Result<(), AllocError>
     ensures items { OnOk result (out.new.items ≡ out.old.items ++ header_bytes pc header) }
     ensures grows { vec_len out.old ≤ vec_len out.new }
 {
-    if header.tag.tag_number < 31 && header.length < 128 {
-        let first = leading(header.tag, pc);
-        return append(out, &[first, header.length as u8]);
+    if header.length < 128 {
+        return append_header(out, header, pc);
     }
-    append_longer_opening(out, header, pc)
+    append_long_opening(out, header, pc)
 }
 
-// Appends any header. Where the contents are long, room is made for all of it first.
+// The same where the contents are long: room is made for all of it first.
 #[inline(never)]
-fn append_longer_opening(out: &mut Vec<u8>, header: Header, pc: PCBit) -> Result<(), AllocError>
+fn append_long_opening(out: &mut Vec<u8>, header: Header, pc: PCBit) -> Result<(), AllocError>
     ensures items { OnOk result (out.new.items ≡ out.old.items ++ header_bytes pc header) }
     ensures grows { vec_len out.old ≤ vec_len out.new }
 {
-    if header.length >= 128 {
-        let room = header_length(header.tag, header.length);
-        out.reserve(header.length.saturating_add(room))?;
-    }
+    let room = header_length(header.tag, header.length);
+    out.reserve(header.length.saturating_add(room))?;
     append_header(out, header, pc)
 }
 

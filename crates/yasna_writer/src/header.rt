@@ -17,17 +17,33 @@ pub(crate) struct Header {
     pub(crate) length: usize,
 }
 
-// Appends a header.
+// Appends a header. Where the tag's number is below 31 and the contents are short, that is two bytes.
 #[tactic(auto, using(yasna_base::proofs::Identifier::identifier_short, yasna_base::proofs::Length::short_length))]
+#[inline(always)]
 pub(crate) fn append_header(out: &mut Vec<u8>, header: Header, pc: PCBit) -> Result<(), AllocError>
     ensures items { OnOk result (out.new.items ≡ out.old.items ++ header_bytes pc header) }
     ensures grows { vec_len out.old ≤ vec_len out.new }
 {
-    if header.tag.tag_number < 31 && header.length < 128 {
-        return append(out, &[leading(header.tag, pc), header.length as u8]);
+    let Header { tag, length } = header;
+    if tag.tag_number < 31 && length < 128 {
+        return append(out, &[leading(tag, pc), length as u8]);
     }
-    append_identifier(out, header.tag, pc)?;
-    append_length(out, header.length)
+    append_longer_header(out, tag, length, pc)
+}
+
+// Appends any header.
+#[inline(never)]
+fn append_longer_header(
+    out: &mut Vec<u8>,
+    tag: Tag,
+    length: usize,
+    pc: PCBit,
+) -> Result<(), AllocError>
+    ensures items { OnOk result (out.new.items ≡ out.old.items ++ header_bytes pc (record { tag = tag; length = length })) }
+    ensures grows { vec_len out.old ≤ vec_len out.new }
+{
+    append_identifier(out, tag, pc)?;
+    append_length(out, length)
 }
 
 // How many bytes the header of an element takes.
@@ -40,6 +56,7 @@ pub(crate) fn header_length(tag: Tag, length: usize) -> usize
 }
 
 // Appends the header of an element of indefinite length: identifier and 128 (X.690, 8.1.3.6).
+#[inline(never)]
 pub(crate) fn append_open(out: &mut Vec<u8>, tag: Tag) -> Result<(), AllocError>
     ensures items { OnOk result (out.new.items ≡ out.old.items ++ open_bytes tag) }
     ensures grows { vec_len out.old ≤ vec_len out.new }

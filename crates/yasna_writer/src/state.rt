@@ -20,7 +20,6 @@ use crate::header::Header;
 use crate::set::DERWriterSet;
 use std::alloc::Global;
 use std::marker::Model;
-use std::mem;
 use yasna_base::{ASN1Error, ASN1ErrorKind, ASN1Result, BERMode, PCBit, Tag};
 
 /// A writing: bytes so far, whether they are in DER or in CER, the implicit tag that the next element takes, and the failure that
@@ -84,7 +83,7 @@ impl Writer {
         ensures { result ≡ handed self.old }
     {
         Writer {
-            draft: mem::replace(&mut self.draft, Draft::new(self.alloc)),
+            draft: self.draft.take(self.alloc),
             tag: None,
             kept: None,
             alloc: self.alloc,
@@ -319,7 +318,7 @@ impl Writer {
     pub(crate) fn take_back(&mut self, left: Writer)
         ensures { self.new ≡ record left { tag = None } }
     {
-        self.draft = left.draft;
+        self.draft.put_back(left.draft);
         self.tag = None;
         self.kept = left.kept;
         self.mode = left.mode;

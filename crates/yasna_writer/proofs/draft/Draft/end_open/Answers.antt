@@ -7,7 +7,8 @@ use Rattle.yasna_writer.proofs.draft.Draft.end_open.Goals as goal
 
 pub returns-in-Ok : goal.returns-in-Ok
 returns-in-Ok c =
-    let b = c.args.beginning in
+    let t = c.args.tag in
+    let n = c.args.start in
     MatchResult-weaker c.put.result c.put.ensures
-    (λ _ e. e ∙ ap (with_entry (record { place = b.start; mark = Open b.tag })) (c.in-Ok.ensures {u = tt}) ∙ open_apart b.tag b.start c.args.self.now c.requires)
+    (λ _ e. e ∙ ap (with_entry (record { place = n; mark = Open t })) (c.in-Ok.ensures {u = tt}) ∙ open_apart t n c.args.self.now c.requires)
     (λ k f. f)

@@ -1,4 +1,4 @@
-use Rattle.std.proofs.Common.{◌+◌, List, subst, ap, ◌∙◌, length, arith}
+use Rattle.std.proofs.Common.{◌+◌, List, subst, ap, ap₂, ◌∙◌, length, arith}
 use Rattle.yasna_writer.specs.declared.draft.Entry.{Entry}
 use Rattle.yasna_writer.specs.Draft.{IsInnermost, with_entry}
 use Rattle.yasna_writer.proofs.Drafts.{takes, waits_some}
@@ -15,7 +15,7 @@ invariant_of-self c =
     let d = c.self.inside in
     let b = c.args.beginning in
     let i = subst (λ (es : List Entry). IsInnermost es d.waits b c.in-Some.place) c.deref.ensures.value (c.in-Some.ensures {u = tt}) in
-    (takes d.entries.items b c.args.mark c.in-Some.place d.heads (d.heads + c.mark_length.result) d.waits d.contents.items c.self.invariant i c.requires.header
+    (takes d.entries.items b c.header_of-mark.result c.in-Some.place d.heads (d.heads + c.mark_length.result) d.waits d.contents.items c.self.invariant i c.header_of-mark.ensures.ended
     (ap (λ n. d.heads + n) c.mark_length.ensures.octets) (omega (arith, c.if-heads.false))).entries
 
 pub returns : goal.returns
@@ -23,6 +23,6 @@ returns c =
     let d = c.self.inside in
     let b = c.args.beginning in
     let i = subst (λ (es : List Entry). IsInnermost es d.waits b c.in-Some.place) c.deref.ensures.value (c.in-Some.ensures {u = tt}) in
-    let taken = takes d.entries.items b c.args.mark c.in-Some.place d.heads (d.heads + c.mark_length.result) d.waits d.contents.items c.self.invariant i
-    c.requires.header (ap (λ n. d.heads + n) c.mark_length.ensures.octets) (omega (arith, c.if-heads.false)) in
-    taken.joins ∙ ap (with_entry (record { place = b.start; mark = c.args.mark })) c.self.view_is
+    let taken = takes d.entries.items b c.header_of-mark.result c.in-Some.place d.heads (d.heads + c.mark_length.result) d.waits d.contents.items c.self.invariant i
+    c.header_of-mark.ensures.ended (ap (λ n. d.heads + n) c.mark_length.ensures.octets) (omega (arith, c.if-heads.false)) in
+    taken.joins ∙ ap₂ (λ m v. with_entry (record { place = b.start; mark = m }) v) c.header_of-mark.ensures.mark c.self.view_is
