@@ -12,6 +12,9 @@ use Rattle.yasna_base.specs.declared.tag.Tag.{Tag}
 use Rattle.yasna_base.specs.Bits.{bits_tag, padded, unused_bits, bit_pieces}
 use Rattle.yasna_base.specs.Canonical.{canonical_element, definite_element, indefinite_element}
 use Rattle.yasna_base.specs.Cut.{Cutting, cut_form}
+use Rattle.yasna_base.specs.Digits.{digits}
+use Rattle.yasna_base.specs.Identifier.{identifier}
+use Rattle.yasna_base.specs.Length.{shortest_length}
 use Rattle.yasna_base.specs.Segments.{segments}
 use Rattle.yasna_base.proofs.Bits.{padded_length}
 use Rattle.yasna_base.proofs.Segments.{segments_more, segments_one}
@@ -116,12 +119,19 @@ bits_one u b h some fits =
     ∙ ap (λ i. canonical_element Der bits_tag Primitive (i ∷ padded i (padded j b))) left
     ∙ ap (λ d. canonical_element Der bits_tag Primitive (j ∷ d)) (padded_twice j b)
 
--- a full segment of bits, as it is written
-pub full_segment : (m : BERMode) (b : List ℕ) → canonical_element m bits_tag Primitive (0 ∷ b) ≡ bit_segment (bits_with 0 b)
-unfolding canonical_element
-full_segment m b =
+-- 1000 octets stand behind their tag and 1000 in two bytes
+pub full_octets : (b : List ℕ) → length b ≡ 1000 → (4 ∷ 130 ∷ 3 ∷ 232 ∷ []) ++ b ≡ octet_segment b
+unfolding canonical_element definite_element identifier shortest_length digits
+full_octets b h = ap (λ n. 4 ∷ (shortest_length n ++ b)) (sym h)
+
+-- so do 999 bytes of bits behind the count of those left over, none
+pub full_bits : (b : List ℕ) → length b ≡ 999 → (3 ∷ 130 ∷ 3 ∷ 232 ∷ 0 ∷ []) ++ b ≡ bit_segment (bits_with 0 b)
+unfolding canonical_element definite_element identifier shortest_length digits
+full_bits b h =
     let e : 0 ≡ 8 * length b - (8 * length b - 0) = omega arith in
-    ap (λ d. definite_element bits_tag Primitive (0 ∷ d)) (sym (padded_none b)) ∙ ap (λ u. definite_element bits_tag Primitive (u ∷ padded u b)) e
+    let n : 1000 ≡ length (0 ∷ b) = omega (arith, h) in
+    ap (λ k. 3 ∷ (shortest_length k ++ 0 ∷ b)) n ∙ ap (λ d. definite_element bits_tag Primitive (0 ∷ d)) (sym (padded_none b))
+    ∙ ap (λ u. definite_element bits_tag Primitive (u ∷ padded u b)) e
 
 -- the last one, as it is written
 pub last_segment : (m : BERMode) (bytes front : List ℕ) (last u : ℕ) → last < 256 → u < 8 → bytes ≡ front ++ last ∷ [] →

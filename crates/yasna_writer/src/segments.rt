@@ -115,10 +115,19 @@ impl Writer {
         let mut rest = octets;
         while rest.len() > FULL_OCTETS {
             let (segment, behind) = rest.split_at(FULL_OCTETS);
-            self.append_octet_segment(segment)?;
+            self.append_full_octets(segment)?;
             rest = behind;
         }
         self.append_octet_segment(rest)
+    }
+
+    // Appends a segment of octets that is full: the tag of OCTET STRING, 1000 in two bytes, and the octets.
+    fn append_full_octets(&mut self, octets: &[u8]) -> ASN1Result<()>
+        requires { length octets.now ≡ 1000 }
+        ensures { Appended (octet_segment octets.now) self.old self.new result }
+    {
+        self.append(&[4, 130, 3, 232])?;
+        self.append(octets)
     }
 
     // Appends a segment of octets.
@@ -144,11 +153,13 @@ impl Writer {
         self.append_last_bits(unused, rest)
     }
 
-    // Appends a segment of bits, none of which is left over.
+    // Appends a segment of bits that is full: the tag of BIT STRING, 1000 in two bytes, no bit that is left over, and the bits.
     fn append_full_bits(&mut self, bytes: &[u8]) -> ASN1Result<()>
+        requires { length bytes.now ≡ 999 }
         ensures { Appended (bit_segment (bits_with 0 bytes.now)) self.old self.new result }
     {
-        self.append_primitive(TAG_BITSTRING, &[0], bytes)
+        self.append(&[3, 130, 3, 232, 0])?;
+        self.append(bytes)
     }
 
     // Appends the last segment of bits. Those that are left over are zero.

@@ -7,12 +7,12 @@ pub loop-rest-preserved : goal.loop-rest-preserved
 loop-rest-preserved c =
     let rest = c.loop-rest.rest.now in
     let s = c.split_at.ensures in
-    goes_on _ c.loop-rest.self c.append_octet_segment.new.self (in_octet_segments rest) _ _ (c.in_ok-append_octet_segment.ensures {u = tt})
+    goes_on _ c.loop-rest.self c.append_full_octets.new.self (in_octet_segments rest) _ _ (c.in_ok-append_full_octets.ensures {u = tt})
     (octets_more rest (omega (arith, c.loop-rest-test.true)) ∙ ap₂ (λ x y. octet_segment x ++ in_octet_segments y) (sym s.front) (sym s.back))
     c.loop-rest.invariant
 
 pub returns : goal.returns
 returns c =
     let rest = c.loop-rest.rest.now in
-    goes_out c.args.self.now c.loop-rest.self c.append_octet_segment-2.new.self c.append_octet_segment-2.result _ (in_octet_segments rest) (octet_segment rest)
-    c.append_octet_segment-2.ensures (octets_one rest (omega (arith, c.loop-rest-test.false))) c.loop-rest.invariant
+    goes_out c.args.self.now c.loop-rest.self c.append_octet_segment.new.self c.append_octet_segment.result _ (in_octet_segments rest) (octet_segment rest)
+    c.append_octet_segment.ensures (octets_one rest (omega (arith, c.loop-rest-test.false))) c.loop-rest.invariant
