@@ -206,6 +206,13 @@ pub fn write_pair(bytes: &mut Vec<u8>, number: i64, flag: bool) {
     bytes[place + 1] = (bytes.len() - place - 2) as u8;
 }
 
+/// Appends a pair in CER.
+pub fn write_pair_cer(bytes: &mut Vec<u8>, number: i64, flag: bool) {
+    bytes.extend([48, 128]);
+    write_integer(bytes, number);
+    bytes.extend([1, 1, if flag { 255 } else { 0 }, 0, 0]);
+}
+
 /// A SET OF these numbers.
 pub fn write_set(numbers: &[i64]) -> Vec<u8> {
     let mut bytes = Vec::new();

@@ -14,10 +14,12 @@ mod linked {
         pub fn yasna_encode_pair(number: i64, flag: bool) -> u64;
         pub fn yasna_write_integers(numbers: *const i64, length: usize) -> u64;
         pub fn yasna_write_pairs(count: u32, depth: usize) -> u64;
+        pub fn yasna_write_pairs_cer(count: u32) -> u64;
         pub fn yasna_write_nest(contents: *const u8, length: usize, depth: usize) -> u64;
         pub fn yasna_read_bytes(bytes: *const u8, length: usize, der: bool) -> u64;
         pub fn yasna_read_bytes_cer(bytes: *const u8, length: usize) -> u64;
         pub fn yasna_write_bytes(contents: *const u8, length: usize) -> u64;
+        pub fn yasna_write_bytes_cer(contents: *const u8, length: usize) -> u64;
         pub fn yasna_read_texts(bytes: *const u8, length: usize, count: usize, der: bool) -> u64;
         pub fn yasna_write_texts(text: *const u8, length: usize, count: usize) -> u64;
         pub fn yasna_read_identifiers(
@@ -98,6 +100,10 @@ pub fn write_pairs(count: u32, depth: usize) -> u64 {
     unsafe { linked::yasna_write_pairs(count, depth) }
 }
 
+pub fn write_pairs_cer(count: u32) -> u64 {
+    unsafe { linked::yasna_write_pairs_cer(count) }
+}
+
 pub fn write_nest(contents: &[u8], depth: usize) -> u64 {
     unsafe { linked::yasna_write_nest(contents.as_ptr(), contents.len(), depth) }
 }
@@ -112,6 +118,10 @@ pub fn read_bytes_cer(bytes: &[u8]) -> u64 {
 
 pub fn write_bytes(contents: &[u8]) -> u64 {
     unsafe { linked::yasna_write_bytes(contents.as_ptr(), contents.len()) }
+}
+
+pub fn write_bytes_cer(contents: &[u8]) -> u64 {
+    unsafe { linked::yasna_write_bytes_cer(contents.as_ptr(), contents.len()) }
 }
 
 pub fn read_texts(bytes: &[u8], count: usize, der: bool) -> u64 {

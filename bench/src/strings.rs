@@ -19,6 +19,7 @@ pub fn cases() -> Vec<Case> {
         read_segments_cer(),
         read_bytes("octets of 1 MiB in segments of 1", segments(1), false, 1),
         write_bytes(),
+        write_bytes_cer(),
         read_texts(),
         write_texts(),
         read_identifiers(),
@@ -98,6 +99,25 @@ fn write_bytes() -> Case {
         })
         .with(ByHand, move || {
             length([&[4, 131, 16, 0, 0][..], black_box(contents)].concat())
+        })
+}
+
+// By hand: segments of 1000 octets, in room that was made once. The upstream crate has no CER.
+fn write_bytes_cer() -> Case {
+    let contents = big_contents();
+    Case::new("octets of 1 MiB written, CER", 10)
+        .with(Port, move || port::write_bytes_cer(black_box(contents)))
+        .with(ByHand, move || {
+            let contents = black_box(contents);
+            let mut bytes = Vec::with_capacity(contents.len() + contents.len() / 200 + 16);
+            bytes.extend([36, 128]);
+            for segment in contents.chunks(1000) {
+                let [.., high, low] = segment.len().to_be_bytes();
+                bytes.extend([4, 130, high, low]);
+                bytes.extend_from_slice(segment);
+            }
+            bytes.extend([0, 0]);
+            length(bytes)
         })
 }
 

@@ -16,6 +16,7 @@ pub fn cases() -> Vec<Case> {
         integers("write 100k small integers", inputs::small_integers()),
         integers("write 100k mixed integers", inputs::mixed_integers()),
         pairs(),
+        pairs_cer(),
         nested_pairs("20k pairs inside 100 sequences", 100),
         nest("1 MiB in 50 sequences", inputs::big_contents(), 50, 2),
         nest("a level at depth 100", kept(vec![10]), 100, 200).by_parts(100),
@@ -29,12 +30,21 @@ fn length(bytes: Vec<u8>) -> u64 {
 }
 
 // What bcder writes.
-fn bcder_length(values: impl Values) -> u64 {
+fn bcder_length(values: impl Values, mode: bcder::Mode) -> u64 {
     let mut bytes = Vec::new();
     values
-        .write_encoded(bcder::Mode::Der, &mut bytes)
+        .write_encoded(mode, &mut bytes)
         .expect("a vector takes all bytes");
     length(bytes)
+}
+
+// How many bytes bcder writes of the pairs.
+fn bcder_pairs(mode: bcder::Mode) -> u64 {
+    let numbers: Vec<i64> = (0..i64::from(black_box(PAIRS))).collect();
+    let pairs = encode::slice(&numbers[..], |number: &i64| {
+        encode::sequence(((*number).encode(), (*number % 2 == 0).encode()))
+    });
+    bcder_length(encode::sequence(pairs), mode)
 }
 
 fn pair() -> Case {
@@ -53,7 +63,8 @@ fn pair() -> Case {
         })
         .with(Bcder, || {
             let (number, flag) = black_box((10_i64, true));
-            bcder_length(encode::sequence((number.encode(), flag.encode())))
+            let pair = encode::sequence((number.encode(), flag.encode()));
+            bcder_length(pair, bcder::Mode::Der)
         })
         .with(ByHand, || {
             let (number, flag) = black_box((10, true));
@@ -80,10 +91,8 @@ fn integers(name: &'static str, numbers: &'static [i64]) -> Case {
             length(written.expect("numbers can be written"))
         })
         .with(Bcder, move || {
-            bcder_length(encode::sequence(encode::slice(
-                black_box(numbers),
-                |number: &i64| (*number).encode(),
-            )))
+            let parts = encode::slice(black_box(numbers), |number: &i64| (*number).encode());
+            bcder_length(encode::sequence(parts), bcder::Mode::Der)
         })
         .with(ByHand, move || {
             let mut contents = Vec::new();
@@ -109,19 +118,28 @@ fn pairs() -> Case {
             });
             length(written.expect("pairs can be written"))
         })
-        .with(Bcder, || {
-            let numbers: Vec<i64> = (0..i64::from(black_box(PAIRS))).collect();
-            bcder_length(encode::sequence(encode::slice(
-                &numbers[..],
-                |number: &i64| encode::sequence(((*number).encode(), (*number % 2 == 0).encode())),
-            )))
-        })
+        .with(Bcder, || bcder_pairs(bcder::Mode::Der))
         .with(ByHand, || {
             let mut contents = Vec::new();
             for number in 0..i64::from(black_box(PAIRS)) {
                 by_hand::write_pair(&mut contents, number, number % 2 == 0);
             }
             length(by_hand::enclosed(48, &contents))
+        })
+}
+
+// The upstream crate has no CER.
+fn pairs_cer() -> Case {
+    Case::new("write 20k pairs, CER", 5)
+        .with(Port, || port::write_pairs_cer(black_box(PAIRS)))
+        .with(Bcder, || bcder_pairs(bcder::Mode::Cer))
+        .with(ByHand, || {
+            let mut bytes = vec![48, 128];
+            for number in 0..i64::from(black_box(PAIRS)) {
+                by_hand::write_pair_cer(&mut bytes, number, number % 2 == 0);
+            }
+            bytes.extend([0, 0]);
+            length(bytes)
         })
 }
 

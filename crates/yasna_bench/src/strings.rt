@@ -3,7 +3,10 @@
 use crate::reading::mode;
 use crate::{answered, length, mixed};
 use std::alloc::Global;
-use yasna::{ASN1Result, BERReaderSeq, DERWriterSeq, construct_der, parse_ber_general, parse_cer};
+use yasna::{
+    ASN1Result, BERReaderSeq, DERWriterSeq, construct_cer, construct_der, parse_ber_general,
+    parse_cer,
+};
 
 /// The length of an octet string that is read.
 #[unsafe(no_mangle)]
@@ -21,6 +24,12 @@ pub extern "C" fn yasna_read_bytes_cer(alloc: Global, bytes: &[u8]) -> u64 {
 #[unsafe(no_mangle)]
 pub extern "C" fn yasna_write_bytes(alloc: Global, contents: &[u8]) -> u64 {
     length(construct_der(alloc, |writer| writer.write_bytes(contents)))
+}
+
+/// The length of an octet string that is written in CER.
+#[unsafe(no_mangle)]
+pub extern "C" fn yasna_write_bytes_cer(alloc: Global, contents: &[u8]) -> u64 {
+    length(construct_cer(alloc, |writer| writer.write_bytes(contents)))
 }
 
 /// The checksum of the lengths of so many UTF8Strings in a SEQUENCE.

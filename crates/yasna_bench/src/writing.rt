@@ -2,7 +2,7 @@
 
 use crate::length;
 use std::alloc::Global;
-use yasna::{ASN1Result, DERWriter, DERWriterSeq, construct_der, encode_der};
+use yasna::{ASN1Result, DERWriter, DERWriterSeq, construct_cer, construct_der, encode_der};
 
 /// The length of a pair, encoded as a whole.
 #[unsafe(no_mangle)]
@@ -33,6 +33,15 @@ pub extern "C" fn yasna_write_pairs(alloc: Global, count: u32, depth: usize) -> 
     length(construct_der(
         alloc,
         |writer| writer.write_sequence(|seq| pairs_within(seq, count, depth)),
+    ))
+}
+
+/// The length of so many pairs in a SEQUENCE, in CER.
+#[unsafe(no_mangle)]
+pub extern "C" fn yasna_write_pairs_cer(alloc: Global, count: u32) -> u64 {
+    length(construct_cer(
+        alloc,
+        |writer| writer.write_sequence(|seq| pairs(seq, count)),
     ))
 }
 
