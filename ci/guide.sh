@@ -1,7 +1,7 @@
 #!/bin/sh
-# What the documents show: each block of Rust or of antt in them, and in the comments on what the library hands out, stands in the
-# proved crate yasna_examples, line for line, but for how far the block is indented as a whole. And a module of that crate that a
-# document shows is the document's blocks, one behind the other, and nothing else: so who copies them has all that is needed.
+# What the documents show: each block of Rust or of antt in them, and in the comments on what the library hands out, stands in one of
+# the proved crates yasna_guide and yasna_examples, line for line, but for how far the block is indented as a whole. And a module of
+# them that a document shows is the document's blocks, one behind the other, and nothing else: so who copies them has all that is needed.
 set -eu
 cd "$(dirname "$0")/.."
 work=$(mktemp -d)
@@ -15,7 +15,7 @@ lines_of() {
     esac
 }
 
-# The first file holds a document's lines, the others the crate's. Prints how many blocks there are, or why that isn't all.
+# The first file holds a document's lines, the others the crates'. Prints how many blocks there are, or why that isn't all.
 compare='
 # How many lines of the block stand at this place.
 function fits(file, first,    indent, k) {
@@ -48,7 +48,7 @@ BEGIN {
             inside = 0
             blocks++
             k = most_that_fit()
-            if (size == 0 || k < size) fail(begin + k ": no file of crates/yasna_examples goes on with " block[k + 1])
+            if (size == 0 || k < size) fail(begin + k ": no file of yasna_guide or yasna_examples goes on with " block[k + 1])
         } else if (inside) {
             block[++size] = line
         } else if (line == "```rust" || line == "```antt") {
@@ -103,7 +103,9 @@ is_whole() {
     echo "$shown_in: $# modules, each whole"
 }
 
-files=$(find crates/yasna_examples/src crates/yasna_examples/proofs -name '*.rt' -o -name '*.antt')
+guide=crates/yasna_guide/src
+examples=crates/yasna_examples/src
+files=$(find "$guide" "$examples" crates/yasna_examples/proofs -name '*.rt' -o -name '*.antt')
 for document in README.md docs/GUIDE.md docs/CONTRACTS.md \
     crates/yasna/src/lib.rt crates/yasna/src/traits.rt \
     crates/yasna_reader/src/state.rt crates/yasna_reader/src/set.rt \
@@ -113,10 +115,9 @@ for document in README.md docs/GUIDE.md docs/CONTRACTS.md \
         echo "$document:$(cat "$work/said")" >&2
         exit 1
     fi
-    echo "$document: $(cat "$work/said") pieces, all stand in yasna_examples"
+    echo "$document: $(cat "$work/said") pieces, all stand in proved crates"
 done
 
-examples=crates/yasna_examples/src
-is_whole README.md "$examples/guide/first.rt"
-is_whole docs/GUIDE.md $(find "$examples/guide" -name '*.rt' ! -name first.rt | sort)
+is_whole README.md "$guide/first.rt"
+is_whole docs/GUIDE.md $(find "$guide" -name '*.rt' ! -name lib.rt ! -name first.rt | sort) "$examples/strings.rt"
 is_whole docs/CONTRACTS.md "$examples/by_tuple.rt" "$examples/by_closure.rt"

@@ -8,10 +8,10 @@
 //! | `by_tuple`, `by_closure` | the two types of docs/CONTRACTS.md: one that is read and written as a tuple, one step by step |
 //! | `choice` | a list of a CHOICE, read by the next tag |
 //! | `encoders` | types of one's own that are written by other means than one call: one wants memory of its own, one may write nothing |
-//! | `guide` | the pieces of code of README.md and docs/GUIDE.md |
 //! | `known` | calls whose closures are known: their exact results follow from the contracts of `yasna` |
 //! | `public_key`, `scrypt` | types of one's own of which a part may be left out, read by closures |
 //! | `records` | types of one's own of three, five and seven parts, each read and written as a tuple |
+//! | `strings` | the section of docs/GUIDE.md on strings, with no contract; the others stand in `yasna_guide` |
 //! | `third_party` | types of one's own that are read step by step: by typed reads, and with memory |
 //! | `times` | times made of the parts of others, and of digits behind the nanosecond |
 //! | `tree` | a type that refers to itself |
@@ -21,11 +21,11 @@ mod by_closure;
 mod by_tuple;
 mod choice;
 mod encoders;
-pub mod guide;
 mod known;
 mod public_key;
 mod records;
 mod scrypt;
+mod strings;
 mod third_party;
 mod times;
 mod tree;
@@ -38,6 +38,7 @@ pub use known::{constructed_integer, parsed_integer, parsed_numbers, parsed_pair
 pub use public_key::{AlgorithmIdentifier, SubjectPublicKeyInfo, encoded_key};
 pub use records::{DirectoryEntry, DomainParameters, RequestHeader};
 pub use scrypt::ScryptParameters;
+pub use strings::{read_directory_string, read_ldap_string, write_directory_string};
 pub use third_party::{Report, Version, encoded_report, normalized, normalized_report};
 pub use times::{
     as_generalized_time, remade_utc_time, with_tenths_of_a_picosecond, without_leap_second,

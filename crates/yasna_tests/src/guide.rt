@@ -3,29 +3,23 @@
 use std::process::Abort;
 use std::test::Fail;
 use yasna::{ASN1Error, ASN1ErrorKind, ASN1Result, construct_der, parse_ber, parse_der};
-use yasna_examples::guide::any::{read_algorithm, read_signed, write_algorithm};
-use yasna_examples::guide::choice::{Name, read_name, write_name};
-use yasna_examples::guide::errors::{
-    Id, StoreError, entries_to_der, number_or_zero, read_id, reason,
-};
-use yasna_examples::guide::first::{decode_report, encode_report};
-use yasna_examples::guide::lists::{highest, read_names, write_names};
-use yasna_examples::guide::numbers::{
+use yasna_examples::{read_directory_string, read_ldap_string, write_directory_string};
+use yasna_guide::any::{read_algorithm, read_signed, write_algorithm};
+use yasna_guide::choice::{Name, read_name, write_name};
+use yasna_guide::errors::{Id, StoreError, entries_to_der, number_or_zero, read_id, reason};
+use yasna_guide::first::{decode_report, encode_report};
+use yasna_guide::lists::{highest, read_names, write_names};
+use yasna_guide::numbers::{
     Status, read_key, read_status, write_key, write_signature, write_status,
 };
-use yasna_examples::guide::optional::{
+use yasna_guide::optional::{
     BasicConstraints, read_constraints, read_person, write_constraints, write_person,
 };
-use yasna_examples::guide::sequence::{Point, point_from_ber, point_from_der, point_to_der};
-use yasna_examples::guide::sets::{read_setting, read_values, write_setting, write_values};
-use yasna_examples::guide::strings::{
-    read_directory_string, read_ldap_string, write_directory_string,
-};
-use yasna_examples::guide::tagged::{
-    read_accuracy, read_encrypted, write_accuracy, write_encrypted,
-};
-use yasna_examples::guide::times::{Time, read_time, time_of_text, write_time};
-use yasna_examples::guide::whole::{read_table, write_flag};
+use yasna_guide::sequence::{Point, point_from_ber, point_from_der, point_to_der};
+use yasna_guide::sets::{read_setting, read_values, write_setting, write_values};
+use yasna_guide::tagged::{read_accuracy, read_encrypted, write_accuracy, write_encrypted};
+use yasna_guide::times::{Time, read_time, time_of_text, write_time};
+use yasna_guide::whole::{read_table, write_flag};
 
 fn kind_of<T: Drop>(answer: ASN1Result<T>) -> Option<ASN1ErrorKind> {
     answer.err().map(|error| error.kind())

@@ -1,4 +1,4 @@
-//! Tests of the public calls of `yasna`, and of the examples in `yasna_examples`.
+//! Tests of the public calls of `yasna`, and of the code in `yasna_guide` and `yasna_examples`.
 //!
 //! They are a crate of their own, since a crate with tests is proved twice. Each has ample memory.
 //!

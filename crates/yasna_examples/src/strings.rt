@@ -1,4 +1,6 @@
-//! Strings.
+//! Strings: a section of docs/GUIDE.md, which shows this module word for word.
+//!
+//! It stands here and not in `yasna_guide`, which has no wrong bodies: that a text is written untested is one.
 
 use yasna::tags::{TAG_OCTETSTRING, TAG_PRINTABLESTRING};
 use yasna::{ASN1Result, BERReader, DERWriter, is_printable_text};
