@@ -1,6 +1,7 @@
 -- Strings in segments: how a canonical mode writes them, and what one segment leaves of the rest.
 use Rattle.std.proofs.Common.{◌≡◌, ℕ, zero, suc, inl, inr, ◌-◌, ◌*◌, ◌%◌, ◌/◌, ◌^◌, ◌<◌, ◌≤◌, List, [], ◌∷◌, ◌++◌, length, take, drop, flat_map, true, refl, sym, ap, ap₂, ◌∙◌, arith, append_assoc, append-nil, length-take, length-drop}
 use Rattle.std.proofs.Math.Nat.{div-add-mod, mul-mod_right}
+use Rattle.std.proofs.lemmas.Bool.Decides.{nat_tests}
 use Rattle.std.specs.Prelude.{Result}
 use Rattle.std.proofs.lemmas.Bool.{cases_lt}
 use Rattle.std.proofs.lemmas.Result.{MatchResult-weaker}
@@ -15,6 +16,7 @@ use Rattle.yasna_base.specs.Cut.{Cutting, cut_form}
 use Rattle.yasna_base.specs.Digits.{digits}
 use Rattle.yasna_base.specs.Identifier.{identifier}
 use Rattle.yasna_base.specs.Length.{shortest_length}
+use Rattle.yasna_base.specs.Octets.{octets_form}
 use Rattle.yasna_base.specs.Segments.{segments}
 use Rattle.yasna_base.proofs.Bits.{padded_length}
 use Rattle.yasna_base.proofs.Segments.{segments_more, segments_one}
@@ -31,6 +33,12 @@ unfolding canonical_element
 goes_apart k contents pieces t Ber v h = absurd (cc)
 goes_apart k contents pieces t Der v h = absurd (cc)
 goes_apart k contents pieces t Cer v h = rw h refl
+
+-- so few octets aren't cut
+pub octets_whole : (t : Tag) (m : BERMode) (b : List ℕ) → length b ≤ 1000 → canonical_element m t Primitive b ≡ octets_form t m b
+octets_whole t Ber b h = refl
+octets_whole t Der b h = refl
+octets_whole t Cer b h = grind (arith, nat_tests)
 
 -- a full segment of octets, and those behind it
 pub octets_more : (b : List ℕ) → 1000 < length b → in_octet_segments b ≡ octet_segment (take 1000 b) ++ in_octet_segments (drop 1000 b)

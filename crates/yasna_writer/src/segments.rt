@@ -53,8 +53,20 @@ impl Writer {
     }
 
     // Writes octets: as one primitive element, or in segments where the mode cuts so many.
+    #[tactic(auto, using(crate::proofs::SegmentSteps::octets_whole))]
     #[inline(always)]
     pub(crate) fn write_octets(&mut self, own: Tag, octets: &[u8]) -> ASN1Result<()>
+        ensures { Wrote (octets_form (tag_or self.old.tag own) self.old.mode octets.now) self.old self.new result }
+    {
+        if octets.len() < 128 {
+            return self.write_contents(own, octets);
+        }
+        self.write_long_octets(own, octets)
+    }
+
+    // The same of many octets.
+    #[inline(never)]
+    fn write_long_octets(&mut self, own: Tag, octets: &[u8]) -> ASN1Result<()>
         ensures { Wrote (octets_form (tag_or self.old.tag own) self.old.mode octets.now) self.old self.new result }
     {
         if self.cuts(octets.len(), FULL_OCTETS) {

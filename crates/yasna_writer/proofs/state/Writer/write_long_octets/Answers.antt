@@ -4,7 +4,7 @@ use Rattle.yasna_base.specs.Octets.{octets_cutting}
 use Rattle.yasna_base.specs.Segments.{segments}
 use Rattle.yasna_writer.specs.View.{Wrote}
 use Rattle.yasna_writer.proofs.SegmentSteps.{goes_apart}
-use Rattle.yasna_writer.proofs.state.Writer.write_octets.Goals as goal
+use Rattle.yasna_writer.proofs.state.Writer.write_long_octets.Goals as goal
 
 pub returns-then-cuts : goal.returns-then-cuts
 returns-then-cuts c =
