@@ -56,8 +56,21 @@ pub(crate) fn header_length(tag: Tag, length: usize) -> usize
 }
 
 // Appends the header of an element of indefinite length: identifier and 128 (X.690, 8.1.3.6).
-#[inline(never)]
+#[tactic(auto, using(yasna_base::proofs::Identifier::identifier_short))]
+#[inline(always)]
 pub(crate) fn append_open(out: &mut Vec<u8>, tag: Tag) -> Result<(), AllocError>
+    ensures items { OnOk result (out.new.items ≡ out.old.items ++ open_bytes tag) }
+    ensures grows { vec_len out.old ≤ vec_len out.new }
+{
+    if tag.tag_number < 31 {
+        return append(out, &[leading(tag, PCBit::Constructed), 128]);
+    }
+    append_longer_open(out, tag)
+}
+
+// The same with any identifier.
+#[inline(never)]
+fn append_longer_open(out: &mut Vec<u8>, tag: Tag) -> Result<(), AllocError>
     ensures items { OnOk result (out.new.items ≡ out.old.items ++ open_bytes tag) }
     ensures grows { vec_len out.old ≤ vec_len out.new }
 {
