@@ -42,7 +42,8 @@ bits_filled zero m t v b x = absurd (cut_zero bits_cutting m t v b x)
 bits_filled (suc n) m t v b x = elim (cut_into bits_cutting n m t v b x) [
   | whole c y w a ↦ record { unused = w.unused; below = w.below; counted = w.counted }
   | in_pieces h c vs y p j a ↦
-      let f = joined_filled vs j.full (each_filled (IsCut bits_cutting n (piece_mode m) bits_cutting.piece) (bits_filled n (piece_mode m) bits_cutting.piece) vs p.pieces p.each) in
+      let f = joined_filled vs j.full
+      (each_filled (IsCut bits_cutting n (piece_mode m) bits_cutting.piece) (bits_filled n (piece_mode m) bits_cutting.piece) vs p.pieces p.each) in
       let i = f.counted in
       let k = j.count in
       record { unused = f.unused; below = f.below; counted = omega (arith, ap length j.bytes) }

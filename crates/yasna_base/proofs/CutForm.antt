@@ -56,7 +56,8 @@ takes_cut Cer h = record { pieces = tt; piece = tt; whole = λ k n. tt; into = �
 
 -- forms one after the other, each of which is a string
 forms_each : {A : Type 0} {R : A → List ℕ → Type 0} {Can : A → Type 0} (form : A → List ℕ) →
-    ((w : A) → Can w → length (form w) < 2 ^ 64 → R w (form w)) → (vs : List A) → AllByRecursion Can vs → length (flat_map form vs) < 2 ^ 64 → Pieces R vs (flat_map form vs)
+    ((w : A) → Can w → length (form w) < 2 ^ 64 → R w (form w)) → (vs : List A) → AllByRecursion Can vs → length (flat_map form vs) < 2 ^ 64 →
+    Pieces R vs (flat_map form vs)
 forms_each form f [] can short = record { pieces = []; each = tt; joined = refl }
 forms_each form f (v ∷ vs) can short =
     let n = length-append (form v) (flat_map form vs) in
@@ -159,7 +160,8 @@ module _ {A : Type 0} {k : Cutting A} {Can : A → Type 0} {contents : A → Lis
           (x.means o v can) (stays_where m o k.full (length (k.bytes v)) h i))
       | inr i ↦
           let e = form_cut v i.1 in
-          subst (λ q. HoldsForm q o → cut_nest k q v ≤ n → length (cut_form k contents pieces t q v) < 2 ^ 64 → IsCut k n o t v (cut_form k contents pieces t q v))
+          subst (λ q. HoldsForm q o → cut_nest k q v ≤ n → length (cut_form k contents pieces t q v) < 2 ^ 64 →
+          IsCut k n o t v (cut_form k contents pieces t q v))
           (sym i.0) (λ g l s. subst (IsCut k n o t v) (sym e.0)
           (long_holds o n v g can i.1 (subst (λ j. j ≤ n) e.1 l) (subst (λ b. length b < 2 ^ 64) e.0 s))) h level short
     ]

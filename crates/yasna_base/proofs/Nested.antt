@@ -89,7 +89,8 @@ module _ {U : Type 0} (parts : U → List U) where
   }
 
   -- a list of the values within one is the one
-  pub nested_list : (m : BERMode) (n : ℕ) (v : U) (vs : List U) (b : List ℕ) → parts v ≡ vs → IsListOf (λ m n v b. IsNested parts n m v b) sequence_tag m n vs b →
+  pub nested_list : (m : BERMode) (n : ℕ) (v : U) (vs : List U) (b : List ℕ) → parts v ≡ vs →
+      IsListOf (λ m n v b. IsNested parts n m v b) sequence_tag m n vs b →
       IsNested parts n m v b
   nested_list m zero v vs b e p = p
   nested_list m (suc n) v vs b e p = record {

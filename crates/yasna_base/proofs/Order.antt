@@ -231,7 +231,8 @@ module _ {X : Type 0} (R : X → X → Ordering) (o : IsStrictWeakOrder (λ (x y
       let same : y ≡ z = cc in
       ap₂ (λ w ws. w ∷ ws) same (one_rising ys zs r.1 s.1 (λ x.
       strip (ties (λ x y. is_lt (R x y)) x z) z (filter (ties (λ x y. is_lt (R x y)) x) ys) (filter (ties (λ x y. is_lt (R x y)) x) zs)
-      (sym (ap (λ w. cond (ties (λ x y. is_lt (R x y)) x w) (w ∷ filter (ties (λ x y. is_lt (R x y)) x) ys) (filter (ties (λ x y. is_lt (R x y)) x) ys)) same) ∙ e x)))
+      (sym (ap (λ w. cond (ties (λ x y. is_lt (R x y)) x w) (w ∷ filter (ties (λ x y. is_lt (R x y)) x) ys) (filter (ties (λ x y. is_lt (R x y)) x) ys))
+      same) ∙ e x)))
 
   pub rises_sorted : (xs : List X) → IsSortedBy (λ x y. is_lt (R x y)) xs → Rises (λ x y. is_lt (R x y)) xs
   rises_sorted xs up = rises_pairs (λ x y. is_lt (R x y)) xs (λ i j d h k. sorted_far (λ x y. is_lt (R x y)) o xs up i j d (omega (arith, h)) k)

@@ -50,7 +50,8 @@ pub record IsCutUp (k : ℕ) (v : List ℕ) (bs : List (List ℕ)) : Type 0 wher
   pub joined : concat bs ≡ v
 
 cut_up_is : (k f : ℕ) (v : List ℕ) → 1 ≤ k → 1 ≤ length v → length v ≤ k + f → IsCutUp k v (cut_up k f v)
-cut_up_is k zero v some h fits = subst (IsCutUp k v) (sym (cut_one k zero v (omega (arith, fits)))) (record { each = (h, omega (arith, fits)); joined = append-nil v })
+cut_up_is k zero v some h fits = subst (IsCutUp k v) (sym (cut_one k zero v (omega (arith, fits))))
+    (record { each = (h, omega (arith, fits)); joined = append-nil v })
 cut_up_is k (suc f) v some h fits = elim (cases_lt k (length v)) [
   | inl i ↦
       let n = length-drop k v in

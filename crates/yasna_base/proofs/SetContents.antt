@@ -38,7 +38,8 @@ moved_on ts qs i j p q m =
 
 moves : (ts : List SetPart) (qs : List (List ℕ)) → IsPermutation (parts_bytes ts) qs → Moved ts qs
 moves ts qs p =
-    IsPermutation-keeps (parts_bytes ts) (λ z. Moved ts z) (record { parts = ts; moved = IsPermutation-refl ts; same = refl }) (λ l i j h k m. moved_on ts l i j h k m) qs p
+    IsPermutation-keeps (parts_bytes ts) (λ z. Moved ts z) (record { parts = ts; moved = IsPermutation-refl ts; same = refl })
+    (λ l i j h k m. moved_on ts l i j h k m) qs p
 
 -- a part is known by its bytes
 part_known : (t u : SetPart) → HasItsTag t → HasItsTag u → t.bytes ≡ u.bytes → t ≡ u

@@ -127,7 +127,8 @@ module _ {A : Type 0} {B : BERMode → ℕ → A → List ℕ → Type 0} {form 
   }
 
 -- a SET OF is a list in order
-as_list : {A : Type 0} (B : BERMode → ℕ → A → List ℕ → Type 0) (t : Tag) (m : BERMode) (n : ℕ) (vs : List A) (b : List ℕ) → IsSetOf B t m n vs b → IsListOf B t m n vs b
+as_list : {A : Type 0} (B : BERMode → ℕ → A → List ℕ → Type 0) (t : Tag) (m : BERMode) (n : ℕ) (vs : List A) (b : List ℕ) → IsSetOf B t m n vs b →
+    IsListOf B t m n vs b
 as_list B t m zero vs b p = p
 as_list B t m (suc n) vs b p = record { contents = p.contents; element = p.element; meaning = p.meaning.elements }
 
@@ -155,7 +156,8 @@ module _ {A : Type 0} {E : A → A → Type 0} {B : BERMode → ℕ → A → Li
   set_of_has = enclosed_has (set_of_elements_have x.has) t range
 
   -- the element around forms in order
-  around_forms : (m : BERMode) (vs : List A) (bs : List (List ℕ)) → forms form m vs ≡ bs → set_of_form form t m vs ≡ canonical_element m t Constructed (concat bs)
+  around_forms : (m : BERMode) (vs : List A) (bs : List (List ℕ)) → forms form m vs ≡ bs →
+      set_of_form form t m vs ≡ canonical_element m t Constructed (concat bs)
   around_forms m vs bs e = ap (λ c. canonical_element m t Constructed c) (forms_joined (form m) vs ∙ ap concat e)
 
   set_of_made : (m : BERMode) (vs : List A) (parts : List (List ℕ)) → IsCanonicalMode m → AllByRecursion Can vs →

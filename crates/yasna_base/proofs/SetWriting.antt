@@ -61,7 +61,8 @@ cer_constructed : (t : Tag) (p : PCBit) (c y b : List ℕ) → Indefinite Cer t 
 cer_constructed t Primitive c y b i e = absurd (i.taken)
 cer_constructed t Constructed c y b i e = i.joined ∙ ap (λ z. identifier t Constructed ++ (128 ∷ z)) (sym e)
 
-framed_only : {R : RawValue → List ℕ → Type 0} (m : BERMode) (v : RawValue) (b : List ℕ) → IsCanonicalMode m → RawOver R m v b → RawFramed R m v b → b ≡ own_form m v
+framed_only : {R : RawValue → List ℕ → Type 0} (m : BERMode) (v : RawValue) (b : List ℕ) → IsCanonicalMode m → RawOver R m v b → RawFramed R m v b →
+    b ≡ own_form m v
 framed_only Ber v b h x y = absurd h
 framed_only Der v b h x (with_length d j) =
     canonical_element_only Der v.tag v.bit v.payload b h (record { in_range = x.in_range; in_bytes = x.in_bytes; framed = definite d })
@@ -195,7 +196,8 @@ part_tags p q e =
     (octets_cmp (if nat_lt p.tag.tag_number 31 then [] else drop 1 p.bytes) (if nat_lt q.tag.tag_number 31 then [] else drop 1 q.bytes)) e
 
 -- and back, where of equal tags the rest doesn't
-less_then : (a b x : Ordering) → is_lt (ordering_then a b) ≡ false → (a ≡ Equal → b ≡ Equal → is_lt x ≡ false) → is_lt (ordering_then a (ordering_then b x)) ≡ false
+less_then : (a b x : Ordering) → is_lt (ordering_then a b) ≡ false → (a ≡ Equal → b ≡ Equal → is_lt x ≡ false) →
+    is_lt (ordering_then a (ordering_then b x)) ≡ false
 less_then Less b x e f = e
 less_then Equal Less x e f = e
 less_then Equal Equal x e f = f refl refl
@@ -288,7 +290,8 @@ parts_once (p ∷ ps) (q ∷ qs) x y e =
     ap₂ (λ r rs. r ∷ rs) (same_part p q t b) (parts_once ps qs x.1 y.1 bs)
 
 module _ (t : Tag) (range : t.tag_number < 2 ^ 64) (n : ℕ) where
-  set_has : HasForm (Enclosed (λ m k vs c. SetElements m n vs c) t) (enclosed_form (elements_form own_form) t) (enclosed_nest (elements_nest no_nest)) (CanSet n)
+  set_has : HasForm (Enclosed (λ m k vs c. SetElements m n vs c) t) (enclosed_form (elements_form own_form) t)
+      (enclosed_nest (elements_nest no_nest)) (CanSet n)
   set_has = enclosed_has (set_elements_have n) t range
 
   set_made : (m : BERMode) (vs : List RawValue) → AreRaw n m vs → MakeElement SetContents m t (forms own_form m vs) (set_form t m (in_part_order m vs))

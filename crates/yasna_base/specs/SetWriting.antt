@@ -146,7 +146,8 @@ pub record SetIsWritten (t : Tag) (n : ℕ) : Type 0 where
   -- any raw elements can be put in that order
   pub ordered : (m : BERMode) (vs : List RawValue) → AreRaw n m vs → CanSet n m (in_part_order m vs)
   -- parts that are the forms of raw elements make the form of the elements in order
-  pub made : (m : BERMode) (vs : List RawValue) → IsCanonicalMode m → AreRaw n m vs → MakeElement SetContents m t (forms own_form m vs) (set_form t m (in_part_order m vs))
+  pub made : (m : BERMode) (vs : List RawValue) → IsCanonicalMode m → AreRaw n m vs →
+      MakeElement SetContents m t (forms own_form m vs) (set_form t m (in_part_order m vs))
   -- the forms of what a canonical mode read make the bytes that were read, where each tag with a number from 31 on has one element
   pub again : (m : BERMode) (vs : List RawValue) (b : List ℕ) → IsCanonicalMode m → IsSet t m (suc n) vs b → TagsKeepOrder vs →
       MakeElement SetContents m t (forms own_form m vs) b

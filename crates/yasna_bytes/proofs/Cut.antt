@@ -98,7 +98,8 @@ whole_not_deep k (suc n) m t s c r x d =
 
 -- the contents of a primitive element were refused
 pub whole_refused : {A : Type 0} (k : Cutting A) (n : ℕ) (m : BERMode) (t : Tag) (s c r : List ℕ) (e : Refusal) → Takes (IsPrimitive AreContents n m t) s c r →
-    ((e.kind ≡ OutOfMemory) × (c ≡ [] → ⊥)) ⊎ (IsPlain e.kind × ((v : A) → k.whole m v c → StaysWhole m k.full (length (k.bytes v)) → ⊥)) → e.moved ≡ true → RefusesString k n m t s e
+    ((e.kind ≡ OutOfMemory) × (c ≡ [] → ⊥)) ⊎ (IsPlain e.kind × ((v : A) → k.whole m v c → StaysWhole m k.full (length (k.bytes v)) → ⊥)) →
+    e.moved ≡ true → RefusesString k n m t s e
 whole_refused k n m t s c r e x (inl h) o = record {
   none = λ q. absurd (q h.0);
   moved = (λ f. absurd (cc), λ f. absurd (begins_not_elsewhere (takes_begins m n t s c r x) f));

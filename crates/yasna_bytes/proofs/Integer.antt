@@ -212,7 +212,8 @@ step_of_eight c b d y l h k f g j = elim (cases_lt b 8) [
       record {
         room = subst (λ x. Room (signed_number p (take (b - 8) c)) x) q (room_of c (b - 8) y l (omega arith) k);
         more = subst (λ i. signed_number p (take i c) ≡ signed_number p (take (b - 8) c) *ℤ pos 256 +ℤ pos d) e
-            (subst (λ x. signed_number p (take (b - 8 + 1) c) ≡ signed_number p (take (b - 8) c) *ℤ pos 256 +ℤ pos x) q (signed_more p c (b - 8) (omega arith)));
+            (subst (λ x. signed_number p (take (b - 8 + 1) c) ≡ signed_number p (take (b - 8) c) *ℤ pos 256 +ℤ pos x) q
+            (signed_more p c (b - 8) (omega arith)));
       }
 ]
 

@@ -65,7 +65,13 @@ module _ {A : Type 0} {k : Cutting A} (once : CutsOnce k) (n : ℕ) (m : BERMode
       elim (leads_on (cut_exact once n n m k.piece) c vs e.values y z f e.lead
       (no_front_at_end (λ v b. cut_starts k n m k.piece v b once.piece) z e.at_end)) [
         | stops g h ↦
-            record { same = sym h; values = sym g; value = e.value; join = subst (λ us. k.join m us e.value) (sym g) e.join; at_end = subst (λ x. AtEnd x) (sym h) e.at_end }
+            record {
+              same = sym h;
+              values = sym g;
+              value = e.value;
+              join = subst (λ us. k.join m us e.value) (sym g) e.join;
+              at_end = subst (λ x. AtEnd x) (sym h) e.at_end;
+            }
         | goes w us b r g p h ↦ absurd (none w us e.value b r p h (subst (λ ws. k.join m ws e.value) g e.join))
       ]
 

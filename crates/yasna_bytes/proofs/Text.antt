@@ -45,7 +45,8 @@ octets_want zero m t s v r x h = absurd (cut_zero octets_cutting m t v x.front x
 octets_want (suc n) m t s v r x h = elim (cut_into octets_cutting n m t v x.front x.member) [
   | whole c y w a ↦ element_wants (suc n) m t Primitive s c x.front r (omega arith) (λ e. h (w ∙ e)) y x.joined
   | in_pieces g c vs y p j a ↦
-      element_wants (suc n) m t Constructed s c x.front r (omega arith) (λ e. h (j ∙ no_pieces n (piece_mode m) vs p.pieces p.each (sym p.joined ∙ e))) y x.joined
+      element_wants (suc n) m t Constructed s c x.front r (omega arith) (λ e. h (j ∙ no_pieces n (piece_mode m) vs p.pieces p.each (sym p.joined ∙ e))) y
+      x.joined
 ]
 
 octets_begin : (n : ℕ) (m : BERMode) (t : Tag) (s v r : List ℕ) → Takes (IsOctets n m t) s v r → BeginsWithTag t s

@@ -33,7 +33,8 @@ HasRoom v = (v.count ≤ 8 * length v.bytes) × (8 * length v.bytes < v.count + 
 
 -- names are equal, and so are parameters
 abbrev pub SameAlgorithm : AlgorithmIdentifier → AlgorithmIdentifier → Type 0
-SameAlgorithm v w = SamePart (λ x y. x ≡ y) (SamePart (SameOption (λ x y. raw_of x ≡ raw_of y)) SameNothing) (v.algorithm, (v.parameters, tt)) (w.algorithm, (w.parameters, tt))
+SameAlgorithm v w = SamePart (λ x y. x ≡ y) (SamePart (SameOption (λ x y. raw_of x ≡ raw_of y)) SameNothing) (v.algorithm, (v.parameters, tt))
+    (w.algorithm, (w.parameters, tt))
 
 -- any element keeps the laws of reading
 pub element_coding : IsCoding (λ v w. raw_of v ≡ raw_of w) EncodesAny AnyElement

@@ -112,7 +112,8 @@ module _ {A V U : Type 0} (B : BERMode → ℕ → A → List ℕ → Type 0) (S
       contents_first s v m h (unless_kept s'.kept r) s' (more v now k)
   first_then K s fresh (Err e) m h r s' more k =
       let D = λ (x : Result U ASN1Error) (z : Reading). DecodesContents (p || q) (Made (PartOf B C) make) (AnyPart S Q) s (unless_kept z.kept x) z in
-      let N : NotContents (p || q) (AnyPart S Q s.mode s.levels) s (first_failure m.kept e) = record { none = h.none; memory = λ o. or_left p q (h.memory o) } in
+      let N : NotContents (p || q) (AnyPart S Q s.mode s.levels) s (first_failure m.kept e) =
+      record { none = h.none; memory = λ o. or_left p q (h.memory o) } in
       replaced D k.0 k.1 (subst (λ y. DecodesContents (p || q) (Made (PartOf B C) make) (AnyPart S Q) s y m) (sym (answered m.kept e)) N)
 
 -- a part, and where it stood or was left out, others

@@ -124,5 +124,6 @@ module _ {V A : Type 0} (B : ℕ → BERMode → A → List ℕ → Type 0) (vie
   decodes_unkept (Err e) s' x =
       subst (λ z. NotTook true (Any (λ m n v b. B n m v b) s.mode s.levels) s e z × IsQuietAtEnd s e z) (sym x.state) (refused_as e s' x x.refusal.moved refl)
 
-  pub raw_decodes : (r : Result V ASN1Error) (s' : Reading) → ReadsRaw B view s r s' → Decodes true (λ m n v b. B n m (view v) b) (Any (λ m n v b. B n m v b)) s r s'
+  pub raw_decodes : (r : Result V ASN1Error) (s' : Reading) → ReadsRaw B view s r s' →
+      Decodes true (λ m n v b. B n m (view v) b) (Any (λ m n v b. B n m v b)) s r s'
   raw_decodes r s' x = decodes_unkept r s' (subst (λ k. ReadsRawUnlessKept k B view s r s') fresh.0 x.reads)

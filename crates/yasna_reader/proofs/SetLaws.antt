@@ -85,7 +85,8 @@ values_of n m (x ∷ l) (b ∷ bs) h =
     }
 
 -- elements of values, whose tags are in order, are the contents of a SET
-contents_of : (n : ℕ) (m : BERMode) (l : List SetElement) (vs : List RawValue) → Each (IsElementOf n m) l vs → AreInSetOrder m (map (λ (v : RawValue). v.tag) vs) →
+contents_of : (n : ℕ) (m : BERMode) (l : List SetElement) (vs : List RawValue) → Each (IsElementOf n m) l vs →
+    AreInSetOrder m (map (λ (v : RawValue). v.tag) vs) →
     SetElements m n vs (elements_bytes l)
 contents_of n m l vs h i = record {
   elements = record { pieces = map (λ (x : SetElement). x.bytes.now) l; each = (pieces_of n m l vs h).0; joined = refl };

@@ -30,7 +30,8 @@ none_listed n m c = record { front = []; elements = no_pieces; joined = refl }
 pub listed_more : (n k : ℕ) (m o : BERMode) (l : List SetElement) (c y z : List ℕ) (x : SetElement) (e : RawElement) (r : List ℕ) → Listed n m l c y →
     o ≡ m → k ≡ n → TakesRaw o k y e r → x.tag ≡ e.tag → x.bytes.now ≡ e.bytes.now → z ≡ r → Listed n m (l ++ (x ∷ [])) c z
 listed_more n k m o l c y z x e r h i j t a b f =
-    let raw : IsRaw n m (element_of e) e.bytes.now = subst (λ u. IsRaw u m (element_of e) e.bytes.now) j (subst (λ u. IsRaw k u (element_of e) e.bytes.now) i t.raw) in
+    let raw : IsRaw n m (element_of e) e.bytes.now =
+    subst (λ u. IsRaw u m (element_of e) e.bytes.now) j (subst (λ u. IsRaw k u (element_of e) e.bytes.now) i t.raw) in
     record {
       front = h.front ++ e.bytes.now;
       elements = pieces_append l (x ∷ []) h.front e.bytes.now h.elements
@@ -102,12 +103,14 @@ first_stands n m (x ∷ l) (d ∷ ds) y c v b r h e p q =
 pub lacks_memory : (n k : ℕ) (m o : BERMode) (l : List SetElement) (c y : List ℕ) (e : RawElement) (r : List ℕ) → Listed n m l c y → o ≡ m → k ≡ n →
     TakesRaw o k y e r → NotListed n m c OutOfMemory
 lacks_memory n k m o l c y e r h i j t =
-    let raw : IsRaw n m (element_of e) e.bytes.now = subst (λ u. IsRaw u m (element_of e) e.bytes.now) j (subst (λ u. IsRaw k u (element_of e) e.bytes.now) i t.raw) in
+    let raw : IsRaw n m (element_of e) e.bytes.now =
+    subst (λ u. IsRaw u m (element_of e) e.bytes.now) j (subst (λ u. IsRaw k u (element_of e) e.bytes.now) i t.raw) in
     record {
       none = λ q. absurd (q refl);
       too_deep = λ g. absurd (cc);
       deep = λ q. absurd (q refl);
-      memory = λ _. first_stands n m l h.elements.pieces y c (element_of e) e.bytes.now r h.elements.each (h.joined ∙ ap (λ z. z ++ y) h.elements.joined) raw t.joined;
+      memory = λ _. first_stands n m l h.elements.pieces y c (element_of e) e.bytes.now r h.elements.each (h.joined ∙ ap (λ z. z ++ y) h.elements.joined)
+          raw t.joined;
     }
 
 -- all are listed where an end stands

@@ -140,7 +140,8 @@ module _ {F A : Type 0} (g : Once F (MutBor SetReading × Unit {0}) (Result A AS
         let w = (within SetElements t s.mode s.levels vs front p).1 in
         let b = header_of s.mode t t Constructed Constructed s.left c w.contents front rest after opens w.element j in
         let z = sets_are_listed (s.levels - 1) s.mode vs w.contents c b.behind w.meaning b.joined (end_behind after b.behind rest b.ends) in
-        run_as vs w.contents b.behind z.0 z.2.each front (subst (λ u. Element s.mode t Constructed u front) (sym z.1) w.element) ((lists_are_sets (s.levels - 1) s.mode z.0 c b.behind).1 (vs, z.2)) b.joined rest b.ends own left x k i e
+        run_as vs w.contents b.behind z.0 z.2.each front (subst (λ u. Element s.mode t Constructed u front) (sym z.1) w.element)
+        ((lists_are_sets (s.levels - 1) s.mode z.0 c b.behind).1 (vs, z.2)) b.joined rest b.ends own left x k i e
         s' h q
 
   entered : (t : Tag) (s : Reading) (r : Result A ASN1Error) (s' : Reading) → EntersUnlessKept None (RunsOnSet g f) t s r s' → ReadsSet g f t s r s'

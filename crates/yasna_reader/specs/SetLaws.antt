@@ -87,7 +87,8 @@ pub record TakesSet {F A : Type 0} (g : Once F (MutBor SetReading × Unit {0}) (
 abbrev pub RefusesSet : {F A : Type 0} → Once F (MutBor SetReading × Unit {0}) (Result A ASN1Error × (MutBor SetReading × Unit {0})) → F →
     Tag → Reading → ASN1Error → Type 0
 RefusesSet {F} {A} g f t s e = (vs : List RawValue) (front rest : List ℕ) → (kind_of e ≡ OutOfMemory → ⊥) → s.left ≡ front ++ rest →
-    IsSet t s.mode s.levels vs front → (x : RunOnValues g f s vs) × Element s.mode t Constructed (elements_bytes x.list.items) front × ((v : A) → GaveOfAll x.own x.left v → ⊥)
+    IsSet t s.mode s.levels vs front → (x : RunOnValues g f s vs) × Element s.mode t Constructed (elements_bytes x.list.items) front
+    × ((v : A) → GaveOfAll x.own x.left v → ⊥)
 
 -- a read of a SET, whose elements f takes
 abbrev pub ReadsSet : {F A : Type 0} → Once F (MutBor SetReading × Unit {0}) (Result A ASN1Error × (MutBor SetReading × Unit {0})) → F →

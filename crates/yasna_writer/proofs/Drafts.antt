@@ -248,8 +248,10 @@ ended front back w k place heads more waits c a d z m few =
         ordered = order_around 0 front y back (length c) o.0 o.1;
         counted = omega (arith, a.counted, heads_of_append front (x ∷ back), heads_of_append front (y ∷ back));
         waiting = omega (arith, a.waiting, waits_of_append front (x ∷ back), waits_of_append front (y ∷ back), z);
-        placed = know_append 0 0 (heads_of front) (waits_of front) front (y ∷ back) (know_front 0 0 front (x ∷ back) a.placed)
-            (known_place (heads_of front) (waits_of front) place k z, know_none (heads_of front + length (mark_bytes k)) (waits_of front + mark_waits k) back none)
+        placed = know_append 0 0 (heads_of front) (waits_of front) front (y ∷ back) (know_front 0 0 front (x ∷ back) a.placed) (
+          known_place (heads_of front) (waits_of front) place k z,
+          know_none (heads_of front + length (mark_bytes k)) (waits_of front + mark_waits k) back none,
+        )
             (omega arith) (omega arith);
         few = few;
       };

@@ -110,7 +110,8 @@ bits_more u b h long =
     ap (λ j. flat_map bit_segment (bit_pieces (segments 999 (padded j b)) (8 * length b - u))) own
     ∙ ap (λ bs. flat_map bit_segment (bit_pieces bs (8 * length b - u)))
     (segments_more 999 p (omega arith) (omega arith) ∙ ap₂ (λ x y. x ∷ segments 999 y) (padded_take u 999 b long) (padded_drop u 999 b long))
-    ∙ ap (flat_map bit_segment) (pieces_more (take 999 b) (segments 999 (padded u (drop 999 b))) (8 * length b - u) (some_segments 999 (padded u (drop 999 b)) (omega arith)))
+    ∙ ap (flat_map bit_segment) (pieces_more (take 999 b) (segments 999 (padded u (drop 999 b))) (8 * length b - u)
+    (some_segments 999 (padded u (drop 999 b)) (omega arith)))
     ∙ ap (λ k. bit_segment (record { bytes = take 999 b; count = k }) ++ flat_map bit_segment (bit_pieces (segments 999 (padded u (drop 999 b)))
     ((8 * length b - u) - 8 * length (take 999 b)))) whole
     ∙ ap₂ (λ k j. bit_segment (bits_with 0 (take 999 b)) ++ flat_map bit_segment (bit_pieces (segments 999 (padded j (drop 999 b))) k)) count (sym rest)

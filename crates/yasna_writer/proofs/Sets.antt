@@ -16,7 +16,8 @@ use Rattle.yasna_writer.specs.Set.{EndsPart, LacksParts, BeginsNext, EndsSet}
 use Rattle.yasna_writer.specs.View.{Written, begun}
 
 -- a part begins behind those before
-pub part_begins : (m : BERMode) (b : Bool) (old : List (Vec ℕ Global)) (last : Written) (new : List (Vec ℕ Global)) (w : Written) → EndsPart b old last new (Ok tt) →
+pub part_begins : (m : BERMode) (b : Bool) (old : List (Vec ℕ Global)) (last : Written) (new : List (Vec ℕ Global)) (w : Written) →
+    EndsPart b old last new (Ok tt) →
     w ≡ record (begun m) { kept = None } → BeginsNext m b old last new w
 part_begins m b old last new w h e =
     subst (λ x. BeginsNext m b old last new x) (sym e) (record { begins = record { keeps = h.0; fresh = refl }; before = h.1 })

@@ -85,7 +85,8 @@ EndsSet Contents form left old new = MatchOption new.kept (WritesParts Contents 
 
 -- the closure f ran and wrote parts; where nothing failed, form of the contents that they make was written, and its own
 -- answer is handed on, an Err too
-pub record WroteSet {F T E : Type 0} (g : Once F (MutBor WrittenParts × Unit {0}) (Result T E × (MutBor WrittenParts × Unit {0}))) (from : ASN1Error → E → Type 0)
+pub record WroteSet {F T E : Type 0} (g : Once F (MutBor WrittenParts × Unit {0}) (Result T E × (MutBor WrittenParts × Unit {0})))
+    (from : ASN1Error → E → Type 0)
     (f : F) (Contents : List (List ℕ) → List ℕ → Type 0) (form : List ℕ → List ℕ) (old new : Written) (result : Result T E) : Type 0 where
   pub own : Result T E
   pub left : WrittenParts

@@ -11,4 +11,8 @@ returns g c =
     p.own p.left = search rules in
     let w = whole g.T.BERDecodable.asks_memory g.met.T.BERDecodable.coding c.args.mode c.args.src.now p.own p.left h c.parse_ber_general.result p.answers in
     let does : g.T.BERDecodable.reads (starts c.args.src.now c.args.mode) p.own p.left = search rules in
-    record { decoded = w; answers = record { own = p.own; left = p.left; says = does; answers = p.answers }; exact = exactly g.T.BERDecodable.asks_memory g.met.T.BERDecodable.coding c.args.mode c.args.src.now c.parse_ber_general.result w }
+    record {
+      decoded = w;
+      answers = record { own = p.own; left = p.left; says = does; answers = p.answers };
+      exact = exactly g.T.BERDecodable.asks_memory g.met.T.BERDecodable.coding c.args.mode c.args.src.now c.parse_ber_general.result w;
+    }

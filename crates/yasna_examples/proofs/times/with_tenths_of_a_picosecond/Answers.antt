@@ -20,7 +20,8 @@ pub returns : goal.returns
 returns c =
     let t = c.args.time.now in
     let n = c.args.tenths in
-    let digits = four_of n _ _ _ _ c.as_slice.result.now c.last_digit.ensures c.last_digit-2.ensures c.last_digit-3.ensures c.last_digit-4.ensures c.as_slice.ensures in
+    let digits = four_of n _ _ _ _ c.as_slice.result.now c.last_digit.ensures c.last_digit-2.ensures c.last_digit-3.ensures c.last_digit-4.ensures
+    c.as_slice.ensures in
     IfOk-weaker c.from_datetime_and_sub_nano.result _ _
     (λ u h. at_tenths t.datetime n u (subst (λ x. IsTimeAt x (pos 0) (trimmed (four_digits n)) u) c.datetime-local.ensures
     (subst (λ s. IsTimeAt c.datetime-local.result.now (pos 0) (trimmed s) u) digits h)))

@@ -16,6 +16,7 @@ returns c =
     let answers = answers_always _ _ _ (λ f a r g h. search rules) in
     on_ok_weaker c.sort_by.result
     (λ sorted.
-    ap parts_of (in_order_is (λ (p q : TaggedPart). part_cmp (part_of p) (part_of q)) ranks old new (sorted _ ranks answers) (c.sort_by.ensures.stable _ ranks answers)) ∙
+    ap parts_of (in_order_is (λ (p q : TaggedPart). part_cmp (part_of p) (part_of q)) ranks old new (sorted _ ranks answers)
+    (c.sort_by.ensures.stable _ ranks answers)) ∙
     in_order_map part_of part_cmp old)
     c.sort_by.ensures.sorted

@@ -67,7 +67,6 @@ element-returns-then-not-takes_cuts g t c =
     let o : OpensAt p.mode c.args.tag Constructed p.left.now c.in-Ok.opened.within.now (contents_end c.in-Ok.opened.after) = search rules in
     let i = c.inside.ensures in
     let q = c.ruled_by-contents.ensures in
-    let r = c.in-Ok-segments.taken in
     let x = taken_inside {n = c.inside.result.levels} {c = c.in-Ok.opened.within.now} p.mode q.levels (q.mode ∙ c.rules_of_pieces.ensures)
     (q.left ∙ i.left) (c.in-Ok-segments.ensures {u = tt}) in
     rw c.refuse-then-not-takes_cuts.ensures (refused_moved
@@ -95,7 +94,6 @@ element-returns-in-Err-close g t c =
     let o : OpensAt p.mode c.args.tag Constructed p.left.now c.in-Ok.opened.within.now (contents_end c.in-Ok.opened.after) = search rules in
     let i = c.inside.ensures in
     let q = c.ruled_by-contents.ensures in
-    let r = c.in-Ok-segments.taken in
     let x = taken_inside {n = c.inside.result.levels} {c = c.in-Ok.opened.within.now} p.mode q.levels (q.mode ∙ c.rules_of_pieces.ensures)
     (q.left ∙ i.left) (c.in-Ok-segments.ensures {u = tt}) in
     let y = c.in-Err-close.ensures {u = tt} in
@@ -163,7 +161,8 @@ segments-returns-then-refusal g t c =
     (λ n m t. RefusesString g.T.Tally.cutting n m t l.place.left.now c.in-Err.refusal) l.invariant.levels l.invariant.mode c.tag.ensures
     (c.in-Err.ensures {u = tt}).0 in
     segment_refused (g.met.T.Tally.once) (g.met.T.Tally.go_on) p.levels p.mode p.left.now l.tally l.cuts l.place.left.now c.args.out.now.items
-    l.out.items c.in-Err.refusal h ((c.loop-out-test.ensures {u = tt} p.levels p.mode h.values h.bytes h.lead.front h.lead.pieces h.join).0 refl) x c.if-refusal.true
+    l.out.items c.in-Err.refusal h ((c.loop-out-test.ensures {u = tt} p.levels p.mode h.values h.bytes h.lead.front h.lead.pieces h.join).0 refl) x
+    c.if-refusal.true
 
 pub segments-returns-in-Err : goal.segments-returns-in-Err
 segments-returns-in-Err g t c =

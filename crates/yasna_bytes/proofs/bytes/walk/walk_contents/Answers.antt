@@ -86,8 +86,9 @@ loop-after-preserved c =
     let g = c.count_following-behind.ensures in
     let z = entered_keeps i.1 b.mode b.levels b.left c.in-Ok-Entered.opened.within.now f c.requires.walked (omega (arith, i.0, c.requires.shallow)) x in (
       length-set c.loop-after.outer c.from-in-Ok-Entered.result c.loop-after.behind ∙ i.0,
-      subst (λ j. Walking c.args.cursor.mode (contents_end c.args.end) c.args.cursor.levels c.args.cursor.left.now (set c.loop-after.outer j c.loop-after.behind)
-          (c.loop-after.behind + c.count_following-behind.result) (c.loop-after.levels - 1) c.in-Ok-Entered.opened.within.now) (sym c.from-in-Ok-Entered.ensures)
+      subst (λ j. Walking c.args.cursor.mode (contents_end c.args.end) c.args.cursor.levels c.args.cursor.left.now
+          (set c.loop-after.outer j c.loop-after.behind) (c.loop-after.behind + c.count_following-behind.result) (c.loop-after.levels - 1)
+          c.in-Ok-Entered.opened.within.now) (sym c.from-in-Ok-Entered.ensures)
           (subst (λ k. Walking c.args.cursor.mode (contents_end c.args.end) c.args.cursor.levels c.args.cursor.left.now
           (set c.loop-after.outer (c.loop-after.levels - 1) c.loop-after.behind) (c.loop-after.behind + k) (c.loop-after.levels - 1)
           c.in-Ok-Entered.opened.within.now) (sym g) z),

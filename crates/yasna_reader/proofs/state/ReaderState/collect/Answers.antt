@@ -38,7 +38,8 @@ returns-then-is_err g c =
 pub loop-item-preserved : goal.loop-item-preserved
 loop-item-preserved g c =
     let pushed : c.push.new.self.items ≡ c.loop-item.items.items ++ (c.in-Gave.item ∷ []) = search rules in
-    subst (λ vs. SoFar (TurnInOrder (CalledAtMut g.F.FnMut)) (record { callback = c.args.f; bound = bound_in c.args.order c.args.self.now.mode }) c.args.self.now vs
+    subst (λ vs. SoFar (TurnInOrder (CalledAtMut g.F.FnMut)) (record { callback = c.args.f; bound = bound_in c.args.order c.args.self.now.mode })
+    c.args.self.now vs
     (record { callback = c.turn_in_order.new.f; bound = bytes_of c.turn_in_order.new.bound }) c.turn_in_order.new.self) (sym pushed)
     (more_so_far (CalledAtMut g.F.FnMut) (record { callback = c.args.f; bound = bound_in c.args.order c.args.self.now.mode }) c.args.self.now
     c.loop-item.items.items c.in-Gave.item (record { callback = c.loop-item.f; bound = bytes_of c.loop-item.bound }) c.loop-item.self

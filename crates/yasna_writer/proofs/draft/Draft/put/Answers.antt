@@ -15,14 +15,14 @@ invariant_of-self c =
     let d = c.self.inside in
     let b = c.args.beginning in
     let i = subst (λ (es : List Entry). IsInnermost es d.waits b c.in-Some.place) c.deref.ensures.value (c.in-Some.ensures {u = tt}) in
-    (takes d.entries.items b c.header_of-mark.result c.in-Some.place d.heads (d.heads + c.mark_length.result) d.waits d.contents.items c.self.invariant i c.header_of-mark.ensures.ended
-    (ap (λ n. d.heads + n) c.mark_length.ensures.octets) (omega (arith, c.if-heads.false))).entries
+    (takes d.entries.items b c.header_of-mark.result c.in-Some.place d.heads (d.heads + c.mark_length.result) d.waits d.contents.items c.self.invariant i
+    c.header_of-mark.ensures.ended (ap (λ n. d.heads + n) c.mark_length.ensures.octets) (omega (arith, c.if-heads.false))).entries
 
 pub returns : goal.returns
 returns c =
     let d = c.self.inside in
     let b = c.args.beginning in
     let i = subst (λ (es : List Entry). IsInnermost es d.waits b c.in-Some.place) c.deref.ensures.value (c.in-Some.ensures {u = tt}) in
-    let taken = takes d.entries.items b c.header_of-mark.result c.in-Some.place d.heads (d.heads + c.mark_length.result) d.waits d.contents.items c.self.invariant i
-    c.header_of-mark.ensures.ended (ap (λ n. d.heads + n) c.mark_length.ensures.octets) (omega (arith, c.if-heads.false)) in
+    let taken = takes d.entries.items b c.header_of-mark.result c.in-Some.place d.heads (d.heads + c.mark_length.result) d.waits d.contents.items
+    c.self.invariant i c.header_of-mark.ensures.ended (ap (λ n. d.heads + n) c.mark_length.ensures.octets) (omega (arith, c.if-heads.false)) in
     taken.joins ∙ ap₂ (λ m v. with_entry (record { place = b.start; mark = m }) v) c.header_of-mark.ensures.mark c.self.view_is

@@ -13,7 +13,8 @@ returns-then-not-are_filled c =
       taken.0,
       inr (
         kind,
-        not_set_of _ _ taken.1 (λ all. is_not c.are_filled.result c.if-not-are_filled.true (c.are_filled.ensures.1 (subst (λ z. AllByRecursion (λ v. v.items ≡ [] → ⊥) z) (sym c.deref.ensures.value) all))),
+        not_set_of _ _ taken.1 (λ all. is_not c.are_filled.result c.if-not-are_filled.true
+            (c.are_filled.ensures.1 (subst (λ z. AllByRecursion (λ v. v.items ≡ [] → ⊥) z) (sym c.deref.ensures.value) all))),
       ),
     )
 

@@ -9,4 +9,5 @@ returns c =
     let w = c.args.self.now in
     let b = c.args.bytes.now in
     subst (λ (x : List ℕ). Appended x w c.append-2.new.self c.append-2.result) (full_bits b c.requires)
-    (appended_both w c.append.new.self c.append-2.new.self c.append-2.result (3 ∷ 130 ∷ 3 ∷ 232 ∷ 0 ∷ []) b (c.in_ok-append.ensures {u = tt}) c.append-2.ensures)
+    (appended_both w c.append.new.self c.append-2.new.self c.append-2.result (3 ∷ 130 ∷ 3 ∷ 232 ∷ 0 ∷ []) b (c.in_ok-append.ensures {u = tt})
+    c.append-2.ensures)

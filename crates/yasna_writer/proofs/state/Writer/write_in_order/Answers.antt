@@ -20,7 +20,13 @@ returns g c =
     rw taken.0 (record {
       own = c.f-own.result;
       left = left;
-      ran = record { shown = _; shows = c.no_parts-set.ensures ∙ ap (λ (w : Written). no_parts w.mode) taken.2; left = _; met = c.f-own.ensures; leaves = refl };
+      ran = record {
+        shown = _;
+        shows = c.no_parts-set.ensures ∙ ap (λ (w : Written). no_parts w.mode) taken.2;
+        left = _;
+        met = c.f-own.ensures;
+        leaves = refl;
+      };
       ends = set_ends (contents_in c.args.order) _ (tag_or old.tag set_tag) old c.fresh_tag.new.self left c.end_set.new.self taken.2 taken.1 c.end_set.ensures;
       answers = c.settle.ensures;
     })
