@@ -29,7 +29,7 @@ pub fn decode_ber_general<T: BERDecodable>(
     parse_ber_general(alloc, src, mode, |reader| T::decode_ber(reader))
 }
 
-/// Reads a value from bytes, all of them, by the basic encoding rules.
+/// Reads a value from bytes, all of them, by the basic encoding rules (X.690, clause 8).
 pub fn decode_ber<T: BERDecodable>(alloc: Global, src: &[u8]) -> ASN1Result<T>
     ensures decoded { Decoded T.asks_memory T.encodes T.elements Ber src.now result }
     ensures answers { Parses T.reads Ber src.now result }
@@ -38,7 +38,7 @@ pub fn decode_ber<T: BERDecodable>(alloc: Global, src: &[u8]) -> ASN1Result<T>
     decode_ber_general(alloc, src, BERMode::Ber)
 }
 
-/// Reads a value from bytes, all of them, by the distinguished encoding rules.
+/// Reads a value from bytes, all of them, by the distinguished encoding rules (X.690, clause 10).
 ///
 /// A value is answered only from its one DER form.
 pub fn decode_der<T: BERDecodable>(alloc: Global, src: &[u8]) -> ASN1Result<T>
@@ -49,7 +49,7 @@ pub fn decode_der<T: BERDecodable>(alloc: Global, src: &[u8]) -> ASN1Result<T>
     decode_ber_general(alloc, src, BERMode::Der)
 }
 
-/// Reads a value from bytes, all of them, by the canonical encoding rules.
+/// Reads a value from bytes, all of them, by the canonical encoding rules (X.690, clause 9).
 ///
 /// A value is answered only from its one CER form.
 pub fn decode_cer<T: BERDecodable>(alloc: Global, src: &[u8]) -> ASN1Result<T>

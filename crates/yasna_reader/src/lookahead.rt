@@ -8,7 +8,7 @@ use yasna_base::tag::Tag;
 impl<'a> ReaderState<'a> {
     ghost use Rattle.yasna_reader.specs.Lookahead.{LooksAhead};
 
-    /// The tag of the next element, which isn't taken. An implicit tag that waits changes nothing.
+    /// The tag of the next element, which isn't taken (X.690, 8.1.2). An implicit tag that waits changes nothing.
     ///
     /// Answers `Eof` where nothing is left, and why there is no identifier where one is broken. No such Err is kept.
     #[inline(always)]

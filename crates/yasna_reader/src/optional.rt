@@ -70,7 +70,7 @@ impl<'a> Parts<ReaderState<'a>> {
     ghost use Rattle.yasna_reader.specs.Optional.{ReadsOptional, ReadsDefault};
     ghost use Rattle.yasna_reader.specs.State.{part_of, untagged};
 
-    /// Reads a part that may be left out.
+    /// Reads a part that may be left out (X.690, 8.9.3).
     ///
     /// None where the callback's Err moved nothing, unless it is `StackOverflow` or `OutOfMemory`: these are kept and
     /// answered, and so is an Err that moved.

@@ -30,7 +30,7 @@ where
     state.parsed(answer)
 }
 
-/// Reads bytes by the basic encoding rules.
+/// Reads bytes by the basic encoding rules (X.690, clause 8), as `parse_ber_general` does.
 #[inline(always)]
 pub fn parse_ber<'a, T: Drop, F>(alloc: Global, buf: &'a [u8], callback: F) -> ASN1Result<T>
 where
@@ -41,7 +41,7 @@ where
     parse_ber_general(alloc, buf, BERMode::Ber, callback)
 }
 
-/// Reads bytes by the distinguished encoding rules.
+/// Reads bytes by the distinguished encoding rules (X.690, clause 10), as `parse_ber_general` does.
 #[inline(always)]
 pub fn parse_der<'a, T: Drop, F>(alloc: Global, buf: &'a [u8], callback: F) -> ASN1Result<T>
 where
@@ -52,7 +52,7 @@ where
     parse_ber_general(alloc, buf, BERMode::Der, callback)
 }
 
-/// Reads bytes by the canonical encoding rules.
+/// Reads bytes by the canonical encoding rules (X.690, clause 9), as `parse_ber_general` does.
 #[inline(always)]
 pub fn parse_cer<'a, T: Drop, F>(alloc: Global, buf: &'a [u8], callback: F) -> ASN1Result<T>
 where

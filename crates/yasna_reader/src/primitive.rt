@@ -20,7 +20,9 @@ impl<'a> ReaderState<'a> {
     ghost use Rattle.yasna_bytes.specs.Contents.{big_integer_in, Never, WantsMemory};
     ghost use Rattle.yasna_reader.specs.Primitive.{Reads, ReadsSeen, FrontOf, NoLevel};
 
-    /// Reads BOOLEAN: any byte but 0 is true in BER, 255 alone in DER and CER.
+    /// Reads BOOLEAN (X.690, 8.2): 0 is false, and any other byte true in BER.
+    ///
+    /// In DER and CER 255 alone is true (11.1). Other contents are `Invalid`.
     #[inline(always)]
     pub fn read_bool(&mut self) -> ASN1Result<bool>
         ensures { Reads (Primitively IsBoolean) NoLevel Never TAG_BOOLEAN self.old result self.new }
@@ -28,7 +30,7 @@ impl<'a> ReaderState<'a> {
         self.read_primitive::<bool>(TAG_BOOLEAN)
     }
 
-    /// Reads NULL.
+    /// Reads NULL (X.690, 8.8). It has no contents: any are `Invalid`.
     #[inline(always)]
     pub fn read_null(&mut self) -> ASN1Result<()>
         ensures { Reads (Primitively IsNull) NoLevel Never TAG_NULL self.old result self.new }
@@ -36,7 +38,7 @@ impl<'a> ReaderState<'a> {
         self.read_primitive::<()>(TAG_NULL)
     }
 
-    /// Reads ENUMERATED: `IntegerOverflow` outside the type.
+    /// Reads ENUMERATED (X.690, 8.4): its number, as `read_i64` reads that of an INTEGER.
     #[inline(always)]
     pub fn read_enum(&mut self) -> ASN1Result<i64>
         ensures { Reads (Primitively (IsSigned w64)) NoLevel Never TAG_ENUM self.old result self.new }
@@ -44,7 +46,9 @@ impl<'a> ReaderState<'a> {
         self.read_primitive::<i64>(TAG_ENUM)
     }
 
-    /// Reads INTEGER: `IntegerOverflow` outside the type.
+    /// Reads INTEGER (X.690, 8.3).
+    ///
+    /// Contents that aren't the fewest bytes of a number are `Invalid`, and a number outside the type is `IntegerOverflow`.
     #[inline(always)]
     pub fn read_i64(&mut self) -> ASN1Result<i64>
         ensures { Reads (Primitively (IsSigned w64)) NoLevel Never TAG_INTEGER self.old result self.new }
@@ -52,7 +56,7 @@ impl<'a> ReaderState<'a> {
         self.read_primitive::<i64>(TAG_INTEGER)
     }
 
-    /// Reads INTEGER: `IntegerOverflow` outside the type.
+    /// Reads INTEGER (X.690, 8.3), as `read_i64` does: a number outside the type is `IntegerOverflow`.
     #[inline(always)]
     pub fn read_i32(&mut self) -> ASN1Result<i32>
         ensures { Reads (Primitively (IsSigned w32)) NoLevel Never TAG_INTEGER self.old result self.new }
@@ -60,7 +64,7 @@ impl<'a> ReaderState<'a> {
         self.read_primitive::<i32>(TAG_INTEGER)
     }
 
-    /// Reads INTEGER: `IntegerOverflow` outside the type.
+    /// Reads INTEGER (X.690, 8.3), as `read_i64` does: a number outside the type is `IntegerOverflow`.
     #[inline(always)]
     pub fn read_i16(&mut self) -> ASN1Result<i16>
         ensures { Reads (Primitively (IsSigned w16)) NoLevel Never TAG_INTEGER self.old result self.new }
@@ -68,7 +72,7 @@ impl<'a> ReaderState<'a> {
         self.read_primitive::<i16>(TAG_INTEGER)
     }
 
-    /// Reads INTEGER: `IntegerOverflow` outside the type.
+    /// Reads INTEGER (X.690, 8.3), as `read_i64` does: a number outside the type is `IntegerOverflow`.
     #[inline(always)]
     pub fn read_i8(&mut self) -> ASN1Result<i8>
         ensures { Reads (Primitively (IsSigned w8)) NoLevel Never TAG_INTEGER self.old result self.new }
@@ -76,7 +80,7 @@ impl<'a> ReaderState<'a> {
         self.read_primitive::<i8>(TAG_INTEGER)
     }
 
-    /// Reads INTEGER: `IntegerOverflow` outside the type.
+    /// Reads INTEGER (X.690, 8.3), as `read_i64` does: a number outside the type is `IntegerOverflow`.
     #[inline(always)]
     pub fn read_u64(&mut self) -> ASN1Result<u64>
         ensures { Reads (Primitively (IsUnsigned 64)) NoLevel Never TAG_INTEGER self.old result self.new }
@@ -84,7 +88,7 @@ impl<'a> ReaderState<'a> {
         self.read_primitive::<u64>(TAG_INTEGER)
     }
 
-    /// Reads INTEGER: `IntegerOverflow` outside the type.
+    /// Reads INTEGER (X.690, 8.3), as `read_i64` does: a number outside the type is `IntegerOverflow`.
     #[inline(always)]
     pub fn read_u32(&mut self) -> ASN1Result<u32>
         ensures { Reads (Primitively (IsUnsigned 32)) NoLevel Never TAG_INTEGER self.old result self.new }
@@ -92,7 +96,7 @@ impl<'a> ReaderState<'a> {
         self.read_primitive::<u32>(TAG_INTEGER)
     }
 
-    /// Reads INTEGER: `IntegerOverflow` outside the type.
+    /// Reads INTEGER (X.690, 8.3), as `read_i64` does: a number outside the type is `IntegerOverflow`.
     #[inline(always)]
     pub fn read_u16(&mut self) -> ASN1Result<u16>
         ensures { Reads (Primitively (IsUnsigned 16)) NoLevel Never TAG_INTEGER self.old result self.new }
@@ -100,7 +104,7 @@ impl<'a> ReaderState<'a> {
         self.read_primitive::<u16>(TAG_INTEGER)
     }
 
-    /// Reads INTEGER: `IntegerOverflow` outside the type.
+    /// Reads INTEGER (X.690, 8.3), as `read_i64` does: a number outside the type is `IntegerOverflow`.
     #[inline(always)]
     pub fn read_u8(&mut self) -> ASN1Result<u8>
         ensures { Reads (Primitively (IsUnsigned 8)) NoLevel Never TAG_INTEGER self.old result self.new }
@@ -108,7 +112,9 @@ impl<'a> ReaderState<'a> {
         self.read_primitive::<u8>(TAG_INTEGER)
     }
 
-    /// Reads INTEGER of any size: its contents, highest byte first in two's complement, and true where it isn't negative.
+    /// Reads INTEGER of any size (X.690, 8.3): its contents, highest byte first in two's complement, and true where it isn't negative.
+    ///
+    /// Contents that aren't the fewest bytes of a number are `Invalid`.
     #[inline(always)]
     pub fn read_bigint_bytes(&mut self) -> ASN1Result<(Vec<u8>, bool)>
         ensures { ReadsSeen (Primitively IsBigInteger) big_integer_in NoLevel WantsMemory TAG_INTEGER self.old result self.new }
@@ -116,7 +122,9 @@ impl<'a> ReaderState<'a> {
         self.read_primitive::<(Vec<u8>, bool)>(TAG_INTEGER)
     }
 
-    /// Reads OBJECT IDENTIFIER: `IntegerOverflow` where a subidentifier passes 2^64-1.
+    /// Reads OBJECT IDENTIFIER (X.690, 8.19).
+    ///
+    /// A subidentifier past 2^64-1 is `IntegerOverflow`. One that begins with 128 or has no end is `Invalid`, and so are empty contents.
     #[inline(always)]
     pub fn read_oid(&mut self) -> ASN1Result<ObjectIdentifier>
         ensures { Reads (Primitively AreComponents) NoLevel WantsMemory TAG_OID self.old result self.new }

@@ -80,10 +80,11 @@ impl<'a> ReaderState<'a> {
     ghost use Rattle.yasna_base.specs.TaggedDerValue.{raw_of};
     ghost use Rattle.yasna_reader.specs.Raw.{IsWhole, CopiedAt, ReadsRaw};
 
-    /// Reads an element of any tag but that of the end of contents: its tag, its bit, and what follows its length.
+    /// Reads an element of any tag but that of the end of contents: its tag, its bit, and what follows its length (X.690, 8.1).
     ///
-    /// In DER constructed contents are to be elements one after the other, in BER and CER those of indefinite length. What
-    /// values they are isn't looked at. An implicit tag is ignored, and used up.
+    /// In DER constructed contents are to be elements one after the other, in BER and CER those of indefinite length; levels
+    /// are counted in them too. What values they are isn't looked at. An implicit tag is ignored, and used up. Where an end of
+    /// contents stands, the answer is `Invalid` and nothing is kept.
     pub fn read_tagged_der(&mut self) -> ASN1Result<TaggedDerValue>
         ensures { ReadsRaw IsRaw raw_of self.old result self.new }
     {

@@ -26,9 +26,10 @@ impl<'a> ReaderState<'a> {
     ghost use Rattle.yasna_reader.specs.State.{inside, untagged, tag_of};
     ghost use Rattle.yasna_reader.specs.Sequence.{Fails, Left, TakesParts, Runs, ReadsParts};
 
-    /// Reads a SEQUENCE, whose parts the callback reads.
+    /// Reads a SEQUENCE (X.690, 8.9), whose parts the callback reads.
     ///
-    /// The callback is to read all of them. What goes wrong in it is kept, whatever it answers: later calls answer it.
+    /// The callback is to read all of them: what it leaves is `Extra`, or `Invalid` where the length is indefinite. What goes
+    /// wrong in it is kept, whatever it answers: later calls answer it.
     #[inline(always)]
     pub fn read_sequence<T: Drop, F>(&mut self, f: F) -> ASN1Result<T>
     where

@@ -16,7 +16,7 @@ impl<'a> ReaderState<'a> {
     ghost use Rattle.yasna_reader.specs.SetOf.{CollectsInOrder, VisitsInOrder, TurnInOrder, bounded};
     ghost use Rattle.yasna_reader.specs.State.{IsFresh};
 
-    /// Reads a SEQUENCE OF: the callback reads one element each time that it is called.
+    /// Reads a SEQUENCE OF (X.690, 8.10): the callback reads one element each time that it is called.
     ///
     /// It is called until its Err moves nothing; the list is to end there. `StackOverflow` and `OutOfMemory` end no list:
     /// they are kept. Where the callback answers Ok and took nothing, that is `Invalid`, and kept.

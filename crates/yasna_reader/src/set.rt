@@ -237,10 +237,11 @@ impl<'a> ReaderState<'a> {
     ghost use Rattle.yasna_reader.specs.Set.{RunsOnSet, SetListAt, TakesElements, emptied};
     ghost use Rattle.yasna_reader.specs.State.{IsFresh, untagged};
 
-    /// Reads a SET, whose elements the callback takes by their tags.
+    /// Reads a SET (X.690, 8.11), whose elements the callback takes by their tags.
     ///
     /// All elements are found before the callback is called: they are raw elements up to an end, and in DER and CER their
-    /// tags don't fall. The callback is to take all of them. What goes wrong in it is kept, whatever it answers: later calls answer it.
+    /// tags don't fall (10.3 and 9.3), else `Invalid`. The callback is to take all of them, else `Invalid`. What goes wrong in it is
+    /// kept, whatever it answers: later calls answer it.
     #[inline(always)]
     pub fn read_set<T: Drop, F>(&mut self, f: F) -> ASN1Result<T>
     where

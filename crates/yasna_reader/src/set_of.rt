@@ -50,10 +50,10 @@ impl<'a> ReaderState<'a> {
     ghost use Rattle.yasna_bytes.specs.Walk.{IsRest};
     ghost use Rattle.yasna_reader.specs.declared.set_of.Order.TheVariants.{Ascending};
 
-    /// Reads a SET OF: the callback reads one element each time that it is called.
+    /// Reads a SET OF (X.690, 8.12): the callback reads one element each time that it is called.
     ///
     /// It is called as that of `read_sequence_of` is. In DER and CER an element whose bytes are less than those of the one before is
-    /// `Invalid`, and that is kept.
+    /// `Invalid`, and that is kept (11.6).
     #[inline(always)]
     pub fn read_set_of<F>(&mut self, f: F) -> ASN1Result<()>
     where

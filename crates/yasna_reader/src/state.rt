@@ -89,9 +89,18 @@ impl<'a> ReaderState<'a> {
 
 /// The reading of one element.
 ///
-/// Each read takes what it reads off the front. A read that fails behind an identifier of the wanted tag is kept:
-/// each later call answers that failure, and so does the parse around it. A read that fails in front of it leaves the
-/// reading as it was, and an implicit tag that waits too.
+/// Each read takes what it reads off the front. Where nothing is left (`Eof`), or an element of another tag stands there
+/// (`Invalid`), it leaves the reading as it was, and an implicit tag that waits too. Any other failure of a read is kept: each later
+/// call answers it, and so does the parse around it, whatever callbacks answer. Such are
+///
+/// - `Eof` where a header or contents end early,
+/// - `Invalid` for a header or contents that the mode doesn't take,
+/// - `IntegerOverflow` for a tag number or a position past 2^64-1,
+/// - `Extra` for what is left of contents whose length is counted,
+/// - `StackOverflow` for an element on level 102,
+/// - `OutOfMemory` where there is no memory for what it answers;
+///
+/// what contents and callbacks add is said with each read.
 ///
 /// Two readings over bytes of one lifetime can be exchanged by `std::mem::swap`. A failure that one keeps moves with it;
 /// each call around a callback takes only that failure and how many bytes are left, and cuts from its own bytes.

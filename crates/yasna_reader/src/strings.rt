@@ -23,7 +23,7 @@ impl<'a> ReaderState<'a> {
     ghost use Rattle.yasna_reader.specs.Primitive.{ReadsSeen, FrontOf};
     ghost use Rattle.yasna_bytes.specs.Segments.{bits_in};
 
-    /// Reads OCTET STRING: its octets, joined.
+    /// Reads OCTET STRING (X.690, 8.7): its octets, joined where they stand in segments.
     #[inline(always)]
     #[tactic(auto, using(crate::proofs::Primitives::reads_front, crate::proofs::Primitives::reads_kept))]
     pub fn read_bytes(&mut self) -> ASN1Result<Vec<u8>>
@@ -36,8 +36,10 @@ impl<'a> ReaderState<'a> {
         self.settle(front)
     }
 
-    /// Reads BIT STRING: its bytes, the first bit the highest of the first byte, and how many bits there are. In BER the
-    /// unused bits of the last byte are answered as they stand there; in DER and CER they are zero.
+    /// Reads BIT STRING (X.690, 8.6): its bytes, the first bit the highest of the first byte, and how many bits there are.
+    ///
+    /// In BER the unused bits of the last byte are answered as they stand there; in DER and CER any but zeros are `Invalid` (11.2).
+    /// So is a count of unused bits that the last byte doesn't have.
     #[inline(always)]
     #[tactic(auto, using(crate::proofs::Primitives::reads_front, crate::proofs::Primitives::reads_kept))]
     pub fn read_bitvec_bytes(&mut self) -> ASN1Result<(Vec<u8>, usize)>
@@ -50,7 +52,7 @@ impl<'a> ReaderState<'a> {
         self.settle(front)
     }
 
-    /// Reads UTF8String.
+    /// Reads UTF8String (X.690, 8.23.10). Octets that aren't UTF-8 are `Invalid`, once all segments are joined.
     #[inline(always)]
     pub fn read_utf8string(&mut self) -> ASN1Result<String>
         ensures { ReadsSeen (IsStringOf (IsUtf8In InUtf8)) characters IsDeepOctets WantsMemory TAG_UTF8STRING self.old result self.new }
@@ -58,7 +60,7 @@ impl<'a> ReaderState<'a> {
         self.read_said(TAG_UTF8STRING, Class::Utf8)
     }
 
-    /// Reads NumericString: digits and space.
+    /// Reads NumericString (X.680, 41): digits and space. Any other octet is `Invalid`.
     #[inline(always)]
     pub fn read_numeric_string(&mut self) -> ASN1Result<String>
         ensures { ReadsSeen (IsStringOf (IsUtf8In InNumeric)) characters IsDeepOctets WantsMemory TAG_NUMERICSTRING self.old result self.new }
@@ -66,7 +68,7 @@ impl<'a> ReaderState<'a> {
         self.read_said(TAG_NUMERICSTRING, Class::Numeric)
     }
 
-    /// Reads PrintableString: letters, digits, space and `'()+,-./:=?`.
+    /// Reads PrintableString (X.680, 41): letters, digits, space and `'()+,-./:=?`. Any other octet is `Invalid`.
     #[inline(always)]
     pub fn read_printable_string(&mut self) -> ASN1Result<String>
         ensures { ReadsSeen (IsStringOf (IsUtf8In InPrintable)) characters IsDeepOctets WantsMemory TAG_PRINTABLESTRING self.old result self.new }
@@ -74,7 +76,7 @@ impl<'a> ReaderState<'a> {
         self.read_said(TAG_PRINTABLESTRING, Class::Printable)
     }
 
-    /// Reads IA5String: the characters up to 127.
+    /// Reads IA5String (X.680, 41): the characters up to 127. Any other octet is `Invalid`.
     #[inline(always)]
     pub fn read_ia5_string(&mut self) -> ASN1Result<String>
         ensures { ReadsSeen (IsStringOf (IsUtf8In InIa5)) characters IsDeepOctets WantsMemory TAG_IA5STRING self.old result self.new }
@@ -82,7 +84,9 @@ impl<'a> ReaderState<'a> {
         self.read_said(TAG_IA5STRING, Class::Ia5)
     }
 
-    /// Reads BMPString: units of UTF-16, the high byte of each first. A surrogate without its partner is read as U+FFFD.
+    /// Reads BMPString (X.690, 8.23): units of UTF-16, the high byte of each first. An odd number of octets is `Invalid`.
+    ///
+    /// A surrogate without its partner is read as U+FFFD.
     #[inline(always)]
     pub fn read_bmp_string(&mut self) -> ASN1Result<String>
         ensures { ReadsSeen (IsStringOf IsBmp) characters IsDeepOctets WantsMemory TAG_BMPSTRING self.old result self.new }
@@ -90,7 +94,7 @@ impl<'a> ReaderState<'a> {
         self.read_said(TAG_BMPSTRING, Class::Bmp)
     }
 
-    /// Reads VisibleString: the characters from space to `~`.
+    /// Reads VisibleString (X.680, 41): the characters from space to `~`. Any other octet is `Invalid`.
     #[inline(always)]
     pub fn read_visible_string(&mut self) -> ASN1Result<String>
         ensures { ReadsSeen (IsStringOf (IsUtf8In InVisible)) characters IsDeepOctets WantsMemory TAG_VISIBLESTRING self.old result self.new }

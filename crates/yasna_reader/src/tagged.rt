@@ -11,7 +11,7 @@ impl<'a> ReaderState<'a> {
     ghost use Rattle.yasna_reader.specs.Sequence.{TakesContents, ReadsParts};
     ghost use Rattle.yasna_reader.specs.Tagged.{ReadsImplicitly, tagging};
 
-    /// Reads a constructed element of this tag, explicit tagging: the callback reads the element inside.
+    /// Reads a constructed element of this tag, explicit tagging (X.690, 8.14): the callback reads the element inside.
     ///
     /// An implicit tag that waits stands in place of this one. What goes wrong in the callback is kept, whatever it
     /// answers.
@@ -35,7 +35,7 @@ impl<'a> ReaderState<'a> {
         }
     }
 
-    /// Lets this tag stand in place of that of the next element that the callback reads, implicit tagging.
+    /// Lets this tag stand in place of that of the next element that the callback reads, implicit tagging (X.690, 8.14).
     ///
     /// An implicit tag that waits already stands in place of this one: the outermost wins. An Err of the callback is kept
     /// where it moved something, or is `StackOverflow` or `OutOfMemory`; any other leaves the reading as it was, and the tag

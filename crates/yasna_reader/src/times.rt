@@ -111,7 +111,9 @@ impl<'a> ReaderState<'a> {
     ghost use Rattle.yasna_bytes.specs.Contents.{WantsMemory};
     ghost use Rattle.yasna_reader.specs.Primitive.{ReadsSeen};
 
-    /// Reads UTCTime. In BER any text that `UTCTime::parse` takes, in DER and CER the canonical one alone.
+    /// Reads UTCTime (X.690, 8.26 and 11.8).
+    ///
+    /// In BER any text is taken that `UTCTime::parse` takes, in DER and CER the canonical one alone. Any other is `Invalid`.
     #[inline(always)]
     pub fn read_utctime(&mut self) -> ASN1Result<UTCTime>
         ensures { ReadsSeen (IsStringOf SaysUtcTime) utc_of IsDeepOctets WantsMemory TAG_UTCTIME self.old result self.new }
@@ -119,7 +121,9 @@ impl<'a> ReaderState<'a> {
         self.read_said(TAG_UTCTIME, UtcText)
     }
 
-    /// Reads GeneralizedTime. In BER any text that `GeneralizedTime::parse` takes, in DER and CER the canonical one alone.
+    /// Reads GeneralizedTime (X.690, 8.25 and 11.7).
+    ///
+    /// In BER any text is taken that `GeneralizedTime::parse` takes, in DER and CER the canonical one alone. Any other is `Invalid`.
     #[inline(always)]
     pub fn read_generalized_time(&mut self) -> ASN1Result<GeneralizedTime>
         ensures { ReadsSeen (IsStringOf SaysGeneralizedTime) moment_of IsDeepOctets WantsMemory TAG_GENERALIZEDTIME self.old result self.new }

@@ -12,7 +12,7 @@ use yasna_base::models::TaggedDerValue;
 use yasna_base::{ASN1Result, BERMode, PCBit};
 
 impl Writer {
-    /// Writes a raw element: its identifier, or that of the implicit tag with its bit, the length of its payload in the
+    /// Writes a raw element (X.690, 8.1): its identifier, or that of the implicit tag with its bit, the length of its payload in the
     /// fewest bytes, and its payload as it is.
     ///
     /// In CER a constructed one has indefinite length: 128 stands in place of its length, and its payload ends by the two zeros.

@@ -1,8 +1,8 @@
 //! Strings: OCTET STRING, BIT STRING and texts (X.690, 8.6, 8.7, 8.23 and 11.2).
 //!
-//! Each is written as one primitive element, but in CER as segments where it is long (`segments`). Each write takes the implicit tag if there is one, and else the
-//! type's own. A failure that is kept is answered, and nothing is written. Besides, each answers `OutOfMemory` where there
-//! is no memory for the element, and keeps it.
+//! Each is written as one primitive element, but in CER as segments where it is long (`segments`). Each write takes the implicit tag
+//! if there is one, and else the type's own. A failure that is kept is answered, and nothing is written. Besides, each answers
+//! `OutOfMemory` where there is no memory for the element, and keeps it.
 ghost use Rattle.std.specs.Prelude.{[], ◌∷◌, ◌≡◌, ◌≤◌, ◌<◌, ◌+◌, ◌-◌, ◌*◌, ◌%◌, ◌++◌, length, length as count, IfOk};
 ghost use Rattle.std.specs.List.{AllByRecursion};
 ghost use Rattle.std.specs.Str.{chars};
@@ -64,7 +64,7 @@ impl Writer {
         self.write_utf8_string(string)
     }
 
-    /// Writes a NumericString: digits and space.
+    /// Writes a NumericString (X.690, 8.23; X.680, 41): digits and space.
     #[inline(always)]
     pub fn write_numeric_string(&mut self, string: &str) -> ASN1Result<()>
         requires { AllByRecursion InNumeric (chars string.now) }
@@ -73,7 +73,7 @@ impl Writer {
         self.write_text(TAG_NUMERICSTRING, string)
     }
 
-    /// Writes a PrintableString: letters, digits, space and `' ( ) + , - . / : = ?`.
+    /// Writes a PrintableString (X.690, 8.23; X.680, 41): letters, digits, space and `' ( ) + , - . / : = ?`.
     #[inline(always)]
     pub fn write_printable_string(&mut self, string: &str) -> ASN1Result<()>
         requires { AllByRecursion InPrintable (chars string.now) }
@@ -82,7 +82,7 @@ impl Writer {
         self.write_text(TAG_PRINTABLESTRING, string)
     }
 
-    /// Writes an IA5String: characters up to 127.
+    /// Writes an IA5String (X.690, 8.23; X.680, 41): characters up to 127.
     #[inline(always)]
     pub fn write_ia5_string(&mut self, string: &str) -> ASN1Result<()>
         requires { AllByRecursion InIa5 (chars string.now) }
@@ -91,7 +91,7 @@ impl Writer {
         self.write_text(TAG_IA5STRING, string)
     }
 
-    /// Writes a VisibleString: characters from 32 to 126.
+    /// Writes a VisibleString (X.690, 8.23; X.680, 41): characters from 32 to 126.
     #[inline(always)]
     pub fn write_visible_string(&mut self, string: &str) -> ASN1Result<()>
         requires { AllByRecursion InVisible (chars string.now) }
@@ -100,7 +100,7 @@ impl Writer {
         self.write_text(TAG_VISIBLESTRING, string)
     }
 
-    /// Writes a BMPString: the text in UTF-16, the high byte of each unit first. A character past 65535 is written as two
+    /// Writes a BMPString (X.690, 8.23): the text in UTF-16, the high byte of each unit first. A character past 65535 is written as two
     /// surrogates, which X.680 doesn't provide for.
     pub fn write_bmp_string(&mut self, string: &str) -> ASN1Result<()>
         ensures { Wrote (bmp_form (tag_or self.old.tag (universal 30)) self.old.mode (chars string.now)) self.old self.new result }

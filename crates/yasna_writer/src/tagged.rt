@@ -12,7 +12,7 @@ use crate::state::{DERWriter, Writer};
 use yasna_base::{ASN1Error, Tag};
 
 impl Writer {
-    /// Writes a constructed element of this tag, explicit tagging: its contents are what the closure writes.
+    /// Writes a constructed element of this tag, explicit tagging (X.690, 8.14): its contents are what the closure writes.
     ///
     /// An implicit tag that waits stands in place of this one. Failures are those of `write_sequence`.
     pub fn write_tagged<
@@ -33,7 +33,7 @@ impl Writer {
         self.settle(own)
     }
 
-    /// Lets this tag stand in place of that of the next element that the closure writes, implicit tagging.
+    /// Lets this tag stand in place of that of the next element that the closure writes, implicit tagging (X.690, 8.14).
     ///
     /// An implicit tag that waits already stands in place of this one: the outermost wins. Nothing is written but what
     /// the closure writes. A failure that is kept is answered, and the closure doesn't run. Else the closure's answer is

@@ -11,14 +11,14 @@ use yasna_base::tags::{TAG_GENERALIZEDTIME, TAG_UTCTIME};
 use yasna_times::models::{GeneralizedTime, UTCTime};
 
 impl Writer {
-    /// Writes a UTCTime: `YYMMDDhhmmssZ`.
+    /// Writes a UTCTime (X.690, 8.26 and 11.8): `YYMMDDhhmmssZ`.
     pub fn write_utctime(&mut self, time: &UTCTime) -> ASN1Result<()>
         ensures { Wrote (utc_time_form (tag_or self.old.tag (universal 23)) self.old.mode (utc_of time.now)) self.old self.new result }
     {
         self.write_octets(TAG_UTCTIME, &time.text())
     }
 
-    /// Writes a GeneralizedTime: `YYYYMMDDhhmmss`, the fraction of the second behind `.` if there is one, `Z`.
+    /// Writes a GeneralizedTime (X.690, 8.25 and 11.7): `YYYYMMDDhhmmss`, the fraction of the second behind `.` if there is one, `Z`.
     pub fn write_generalized_time(&mut self, time: &GeneralizedTime) -> ASN1Result<()>
         ensures { Wrote (generalized_time_form (tag_or self.old.tag (universal 24)) self.old.mode (moment_of time.now)) self.old self.new result }
     {
