@@ -39,6 +39,7 @@ signed_or_zero positive (x ∷ xs) = signed_number positive (x ∷ xs)
 unfoldable pub big_integer : List ℕ → Bool → ℤ
 big_integer b positive = signed_or_zero positive (without 0 b)
 
+-- the form of that number as an INTEGER
 abbrev pub big_integer_form : Tag → BERMode → BigInteger → List ℕ
 big_integer_form t m v = integer_form t m (big_integer v.bytes v.positive)
 

@@ -11,6 +11,7 @@ use Rattle.yasna_base.specs.Digits.{IsBytes}
 use Rattle.yasna_base.specs.Identifier.{universal, end_tag}
 use Rattle.yasna_base.specs.Segments.{segments}
 
+-- the type's own tag
 abbrev pub bits_tag : Tag
 bits_tag = universal 3
 
@@ -98,6 +99,7 @@ bit_pieces (b ∷ c ∷ bs) k = record { bytes = b; count = 8 * length b } ∷ b
 abbrev pub bit_segments : BitString → List BitString
 bit_segments v = bit_pieces (segments 999 (padded (unused_bits v) v.bytes)) v.count
 
+-- a string of bits in a canonical mode: whole, or in those segments
 abbrev pub bits_form : Tag → BERMode → BitString → List ℕ
 bits_form t m v = cut_form bits_cutting bits_contents bit_segments t m v
 

@@ -30,6 +30,7 @@ abbrev pub boolean_byte : Bool → ℕ
 boolean_byte Bool.false = 0
 boolean_byte Bool.true = 255
 
+-- the form in a canonical mode
 abbrev pub boolean_form : Tag → BERMode → Bool → List ℕ
 boolean_form t m v = canonical_element m t Primitive (boolean_byte v ∷ [])
 

@@ -48,6 +48,7 @@ leaf_nest m v = 1
 abbrev pub enclosed_form : {A : Type 0} → (BERMode → A → List ℕ) → Tag → BERMode → A → List ℕ
 enclosed_form form t m v = canonical_element m t Constructed (form m v)
 
+-- it nests one level deeper than what it holds
 abbrev pub enclosed_nest : {A : Type 0} → (BERMode → A → ℕ) → BERMode → A → ℕ
 enclosed_nest nest m v = 1 + nest m v
 

@@ -3,6 +3,7 @@ use Rattle.std.proofs.Common.{inl, inr}
 use Rattle.std.specs.Prelude.{ℕ, List, ◌⊎◌}
 use Rattle.yasna_base.specs.declared.mode.BERMode.{BERMode}
 
+-- b encodes a value of the first type by B, or one of the second by C
 abbrev pub EitherOf : {A V : Type 0} → (BERMode → ℕ → A → List ℕ → Type 0) → (BERMode → ℕ → V → List ℕ → Type 0) →
     BERMode → ℕ → A ⊎ V → List ℕ → Type 0
 EitherOf B C m n (inl v) b = B m n v b

@@ -12,6 +12,7 @@ kind_of e = e.kind
 abbrev pub error_of : ASN1ErrorKind → ASN1Error
 error_of k = record { kind = k }
 
+-- the name of a kind
 abbrev pub kind_text : ASN1ErrorKind → List ℕ
 kind_text Eof = codes "Eof"
 kind_text Extra = codes "Extra"

@@ -10,12 +10,14 @@ use Rattle.yasna_base.specs.declared.tag.PCBit.TheVariants.{Primitive, Construct
 use Rattle.yasna_base.specs.Digits.{base128}
 use Rattle.yasna_base.specs.Error.{IsPlain}
 
+-- the number that a class has in bits 8 and 7 of the first byte
 abbrev pub class_number : TagClass → ℕ
 class_number Universal = 0
 class_number Application = 1
 class_number ContextSpecific = 2
 class_number Private = 3
 
+-- the number that the primitive or constructed bit has, which is bit 6
 abbrev pub bit_number : PCBit → ℕ
 bit_number Primitive = 0
 bit_number Constructed = 1
@@ -28,6 +30,7 @@ leading_byte t p low = 64 * class_number t.tag_class + 32 * bit_number p + low
 unfoldable pub identifier : Tag → PCBit → List ℕ
 identifier t p = if nat_lt t.tag_number 31 then (leading_byte t p t.tag_number ∷ []) else (leading_byte t p 31 ∷ base128 t.tag_number)
 
+-- a tag of X.680's own types
 abbrev pub universal : ℕ → Tag
 universal number = record { tag_class = Universal; tag_number = number }
 

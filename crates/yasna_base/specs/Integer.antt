@@ -68,6 +68,7 @@ unfoldable pub minimal_bytes : ℤ → List ℕ
 minimal_bytes (pos n) = unsigned_bytes (digits 256 n)
 minimal_bytes (negsuc n) = map (λ d. 255 - d) (unsigned_bytes (digits 256 n))
 
+-- the form in a canonical mode
 abbrev pub integer_form : Tag → BERMode → ℤ → List ℕ
 integer_form t m z = canonical_element m t Primitive (minimal_bytes z)
 

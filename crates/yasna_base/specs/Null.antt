@@ -16,6 +16,7 @@ IsNull m v c = c ≡ []
 abbrev pub EncodesNull : BERMode → ℕ → Unit {0} → List ℕ → Type 0
 EncodesNull m n v b = Primitively IsNull n m (universal 5) v b
 
+-- the form in a canonical mode
 abbrev pub null_form : Tag → BERMode → Unit {0} → List ℕ
 null_form t m v = canonical_element m t Primitive []
 

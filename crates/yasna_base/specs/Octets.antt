@@ -10,6 +10,7 @@ use Rattle.yasna_base.specs.Identifier.{universal}
 use Rattle.yasna_base.specs.Laws.{KeepsLaws}
 use Rattle.yasna_base.specs.Segments.{segments}
 
+-- the type's own tag
 abbrev pub octets_tag : Tag
 octets_tag = universal 4
 
@@ -41,6 +42,7 @@ EncodesOctets m n v b = IsOctets n m octets_tag v b
 abbrev pub EncodesVec : BERMode → ℕ → Vec ℕ Global → List ℕ → Type 0
 EncodesVec m n v b = EncodesOctets m n v.items b
 
+-- octets in a canonical mode: whole, or in segments of 1000
 abbrev pub octets_form : Tag → BERMode → List ℕ → List ℕ
 octets_form t m v = cut_form octets_cutting (λ v. v) (segments 1000) t m v
 

@@ -42,6 +42,7 @@ pub record AreComponents (m : BERMode) (cs c : List ℕ) : Type 0 where
 abbrev pub EncodesOid : BERMode → ℕ → List ℕ → List ℕ → Type 0
 EncodesOid m n v b = Primitively AreComponents n m (universal 6) v b
 
+-- the form in a canonical mode
 abbrev pub oid_form : Tag → BERMode → List ℕ → List ℕ
 oid_form t m cs = canonical_element m t Primitive (oid_contents cs)
 

@@ -15,6 +15,7 @@ pub record IsComponent (part : List ℕ) (n : ℕ) : Type 0 where
   pub value : digits_value 10 (without_leading_plus part) ≡ n
   pub in_range : n < 2 ^ 64
 
+-- the character between two components
 abbrev pub is_dot : ℕ → Bool
 is_dot c = c == 46
 

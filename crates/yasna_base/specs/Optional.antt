@@ -23,6 +23,7 @@ abbrev pub option_form : {A : Type 0} → (BERMode → A → List ℕ) → BERMo
 option_form f m (Some v) = f m v
 option_form f m None = []
 
+-- how deep that nests; nothing has no level
 abbrev pub option_nest : {A : Type 0} → (BERMode → A → ℕ) → BERMode → Option A → ℕ
 option_nest f m (Some v) = f m v
 option_nest f m None = 0

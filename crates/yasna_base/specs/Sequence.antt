@@ -4,6 +4,7 @@ use Rattle.yasna_base.specs.declared.mode.BERMode.{BERMode}
 use Rattle.yasna_base.specs.declared.tag.Tag.{Tag}
 use Rattle.yasna_base.specs.Identifier.{universal}
 
+-- the type's own tag
 abbrev pub sequence_tag : Tag
 sequence_tag = universal 16
 
@@ -20,6 +21,7 @@ abbrev pub PartOf : {A V : Type 0} → (BERMode → ℕ → A → List ℕ → T
     BERMode → ℕ → A × V → List ℕ → Type 0
 PartOf B C m n v c = Then (B m n v.0) (C m n v.1) c
 
+-- behind the last part there are no bytes
 abbrev pub NoParts : BERMode → ℕ → Unit {0} → List ℕ → Type 0
 NoParts m n v c = c ≡ []
 
@@ -27,6 +29,7 @@ NoParts m n v c = c ≡ []
 abbrev pub AnyPart : (BERMode → ℕ → List ℕ → Type 0) → (BERMode → ℕ → List ℕ → Type 0) → BERMode → ℕ → List ℕ → Type 0
 AnyPart S Q m n c = Then (S m n) (Q m n) c
 
+-- no bytes, where there is no part
 abbrev pub AnyNothing : BERMode → ℕ → List ℕ → Type 0
 AnyNothing m n c = c ≡ []
 
@@ -34,6 +37,7 @@ AnyNothing m n c = c ≡ []
 abbrev pub SamePart : {A V : Type 0} → (A → A → Type 0) → (V → V → Type 0) → A × V → A × V → Type 0
 SamePart E F v w = E v.0 w.0 × F v.1 w.1
 
+-- no parts are equal to no parts
 abbrev pub SameNothing : Unit {0} → Unit {0} → Type 0
 SameNothing v w = Unit {0}
 
@@ -49,8 +53,10 @@ part_nest f g m v = max (f m v.0) (g m v.1)
 abbrev pub part_can : {A V : Type 0} → (A → Type 0) → (V → Type 0) → A × V → Type 0
 part_can c d v = c v.0 × d v.1
 
+-- no bytes are the form of no parts
 abbrev pub nothing_form : BERMode → Unit {0} → List ℕ
 nothing_form m v = []
 
+-- they have no level
 abbrev pub nothing_nest : BERMode → Unit {0} → ℕ
 nothing_nest m v = 0

@@ -17,6 +17,7 @@ AnyElements S m n c = (us : List (Unit {0})) × Pieces (λ u. S m n) us c
 abbrev pub IsListOf : {A : Type 0} → (BERMode → ℕ → A → List ℕ → Type 0) → Tag → BERMode → ℕ → List A → List ℕ → Type 0
 IsListOf B t = Enclosed (ElementsOf B) t
 
+-- the same of bytes alone
 abbrev pub AnyListOf : (BERMode → ℕ → List ℕ → Type 0) → Tag → BERMode → ℕ → List ℕ → Type 0
 AnyListOf S t = AnyEnclosed (AnyElements S) t
 

@@ -12,6 +12,7 @@ use Rattle.yasna_base.specs.Order.{tag_cmp, octets_cmp, in_order}
 use Rattle.yasna_base.specs.Raw.{RawValue, IsRaw}
 use Rattle.yasna_base.specs.SequenceOf.{ElementsOf}
 
+-- the type's own tag
 abbrev pub set_tag : Tag
 set_tag = universal 17
 
@@ -34,6 +35,7 @@ AnySetOfElements S m n c = (us : List (Unit {0})) × SetOfElements {A = Unit {0}
 abbrev pub IsSetOf : {A : Type 0} → (BERMode → ℕ → A → List ℕ → Type 0) → Tag → BERMode → ℕ → List A → List ℕ → Type 0
 IsSetOf B t = Enclosed (SetOfElements B) t
 
+-- the same of bytes alone
 abbrev pub AnySetOf : (BERMode → ℕ → List ℕ → Type 0) → Tag → BERMode → ℕ → List ℕ → Type 0
 AnySetOf S t = AnyEnclosed (AnySetOfElements S) t
 
@@ -71,6 +73,7 @@ pub record HasItsTag (p : SetPart) : Type 0 where
 abbrev pub part_key : SetPart → List ℕ
 part_key p = class_number p.tag.tag_class ∷ (p.tag.tag_number ∷ (if nat_lt p.tag.tag_number 31 then [] else drop 1 p.bytes))
 
+-- the order of parts of a SET
 abbrev pub part_cmp : SetPart → SetPart → Ordering
 part_cmp p q = octets_cmp (part_key p) (part_key q)
 

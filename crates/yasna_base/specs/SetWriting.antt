@@ -40,6 +40,7 @@ pub record CanSetOf {A : Type 0} (form : BERMode → A → List ℕ) (Can : A �
 abbrev pub set_of_form : {A : Type 0} → (BERMode → A → List ℕ) → Tag → BERMode → List A → List ℕ
 set_of_form form t = enclosed_form (elements_form form) t
 
+-- how deep it nests
 abbrev pub set_of_nest : {A : Type 0} → (BERMode → A → ℕ) → BERMode → List A → ℕ
 set_of_nest nest = enclosed_nest (elements_nest nest)
 

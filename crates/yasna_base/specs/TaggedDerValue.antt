@@ -8,9 +8,11 @@ use Rattle.yasna_base.specs.declared.tag.Tag.{Tag}
 use Rattle.yasna_base.specs.Identifier.{universal}
 use Rattle.yasna_base.specs.Raw.{RawValue}
 
+-- what such a value stands for
 abbrev pub raw_of : TaggedDerValue → RawValue
 raw_of v = record { tag = v.tag; bit = v.pcbit; payload = v.value.items }
 
+-- a raw element of its three parts
 abbrev pub raw_value : Tag → PCBit → List ℕ → RawValue
 raw_value t p c = record { tag = t; bit = p; payload = c }
 

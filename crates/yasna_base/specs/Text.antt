@@ -17,9 +17,11 @@ use Rattle.yasna_base.specs.Octets.{IsOctets, octets_form, octets_nest}
 abbrev pub InUtf8 : ℕ → Type 0
 InUtf8 c = Unit {0}
 
+-- 0 to 9
 abbrev pub IsDigit : ℕ → Type 0
 IsDigit c = (48 ≤ c) × (c ≤ 57)
 
+-- A to Z and a to z
 abbrev pub IsLetter : ℕ → Type 0
 IsLetter c = ((65 ≤ c) × (c ≤ 90)) ⊎ ((97 ≤ c) × (c ≤ 122))
 
@@ -31,9 +33,11 @@ InNumeric c = IsDigit c ⊎ (c ≡ 32)
 abbrev pub InPrintable : ℕ → Type 0
 InPrintable c = IsLetter c ⊎ IsDigit c ⊎ Contains (codes " '()+,-./:=?") c
 
+-- space to the tilde
 abbrev pub InVisible : ℕ → Type 0
 InVisible c = (32 ≤ c) × (c ≤ 126)
 
+-- the characters of 7 bits
 abbrev pub InIa5 : ℕ → Type 0
 InIa5 c = c ≤ 127
 
@@ -77,9 +81,11 @@ unit_octets u = (u / 256) ∷ (u % 256) ∷ []
 abbrev pub bmp_octets : List ℕ → List ℕ
 bmp_octets text = flat_map unit_octets (flat_map encode_utf16 text)
 
+-- a text in UTF-8, in a canonical mode
 abbrev pub utf8_form : Tag → BERMode → List ℕ → List ℕ
 utf8_form t m text = octets_form t m (encode_utf8_all text)
 
+-- a text in UTF-16, in a canonical mode
 abbrev pub bmp_form : Tag → BERMode → List ℕ → List ℕ
 bmp_form t m text = octets_form t m (bmp_octets text)
 
@@ -87,6 +93,7 @@ bmp_form t m text = octets_form t m (bmp_octets text)
 abbrev pub utf8_nest : BERMode → List ℕ → ℕ
 utf8_nest m text = octets_nest m (encode_utf8_all text)
 
+-- how deep that nests
 abbrev pub bmp_nest : BERMode → List ℕ → ℕ
 bmp_nest m text = octets_nest m (bmp_octets text)
 

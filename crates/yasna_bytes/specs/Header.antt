@@ -43,9 +43,11 @@ pub record HasHeader (P : PCBit → Type 0) (m : BERMode) (n : ℕ) (t : Tag) (s
   pub end : ContentsEnd
   pub holds : Holds m bit behind contents end
 
+-- the bit may be either
 abbrev pub AnyBit : PCBit → Type 0
 AnyBit p = Unit {0}
 
+-- the element is to be constructed
 abbrev pub OnlyConstructed : PCBit → Type 0
 OnlyConstructed p = p ≡ Constructed
 

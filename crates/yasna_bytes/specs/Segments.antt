@@ -114,6 +114,7 @@ pub record RefusesSegments {A : Type 0} (k : Cutting A) (n : ℕ) (m : BERMode) 
   pub deep : (e.kind ≡ OutOfMemory → ⊥) → IsDeepWithin k n m c → e.kind ≡ StackOverflow
   pub not_empty : c ≡ [] → ⊥
 
+-- what reading segments answers, by its case
 abbrev pub SegmentsAt : {A T : Type 0} → Cutting A → (List ℕ → T → A) → ℕ → BERMode → List ℕ → List ℕ →
     Result ((T × Cuts) × Bor (List ℕ)) Refusal → List ℕ → Type 0
 SegmentsAt k value n m c out (Ok x) out' = TakesSegments k value n m c out x.0.0 x.0.1 x.1.now out'
@@ -130,6 +131,7 @@ pub record TakesString {A T : Type 0} (k : Cutting A) (value : List ℕ → T �
 abbrev pub RefusesString : {A : Type 0} → Cutting A → ℕ → BERMode → Tag → List ℕ → Refusal → Type 0
 RefusesString k n m t s e = Refuses (Stands (IsCut k n m t) s) (IsDeepCut k n m t s) (WantsMemory n t s) t s e
 
+-- what reading a string answers, by its case; where it is unmoved, nothing was appended
 abbrev pub StringAt : {A T : Type 0} → Cutting A → (List ℕ → T → A) → ℕ → BERMode → Tag → List ℕ → List ℕ → Result (T × Bor (List ℕ)) Refusal →
     List ℕ → Type 0
 StringAt k value n m t s out (Ok x) out' = TakesString k value n m t s out x.0 x.1.now out'
@@ -147,5 +149,6 @@ OctetsAt n m t s r = SeenAt (IsOctets n m t) (λ v. v.items) (IsDeepOctets n m t
 abbrev pub bits_in : Vec ℕ Global × ℕ → BitString
 bits_in v = record { bytes = v.0.items; count = v.1 }
 
+-- what reading a bit string answers
 abbrev pub BitsAt : ℕ → BERMode → Tag → List ℕ → Result ((Vec ℕ Global × ℕ) × Bor (List ℕ)) Refusal → Type 0
 BitsAt n m t s r = SeenAt (IsBits n m t) bits_in (IsDeepBits n m t s) (WantsMemory n t s) t s r

@@ -43,6 +43,7 @@ pub record IsOpened (m : BERMode) (n : ℕ) (s : List ℕ) (t : Tag) (p : PCBit)
   pub not_end : t ≡ end_tag → ⊥
   pub opens : OpensAt m t p s c e
 
+-- what reading such a header answers, by its case
 abbrev pub AnyOpenedAt : BERMode → ℕ → List ℕ → Result (Tag × Opened) Refusal → Type 0
 AnyOpenedAt m n s (Ok x) = IsOpened m n s x.0 x.1.bit x.1.within.now (contents_end x.1.after)
 AnyOpenedAt m n s (Err e) = NotOpened m n s e
@@ -134,6 +135,7 @@ abbrev pub HasRest : ContentsEnd → List ℕ → List ℕ → Type 0
 HasRest (counted z) c r = Unit {0}
 HasRest uncounted c r = IsRest c r
 
+-- the raw element that was found
 abbrev pub element_of : RawElement → RawValue
 element_of x = record { tag = x.tag; bit = x.bit; payload = x.payload.now }
 
@@ -150,6 +152,7 @@ pub record TakesRaw (m : BERMode) (n : ℕ) (s : List ℕ) (x : RawElement) (r :
   pub raw : IsRaw n m (element_of x) x.bytes.now
   pub joined : s ≡ x.bytes.now ++ r
 
+-- what reading a raw element answers, by its case
 abbrev pub RawElementAt : BERMode → ℕ → List ℕ → Result (RawElement × Bor (List ℕ)) Refusal → Type 0
 RawElementAt m n s (Ok x) = TakesRaw m n s x.0 x.1.now
 RawElementAt m n s (Err e) = RefusesRaw m n s e

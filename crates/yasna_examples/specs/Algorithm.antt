@@ -17,9 +17,11 @@ use Rattle.yasna_examples.specs.declared.public_key.AlgorithmIdentifier.{Algorit
 abbrev pub EncodesAny : BERMode → ℕ → TaggedDerValue → List ℕ → Type 0
 EncodesAny m n v b = IsRaw n m (raw_of v) b
 
+-- the same of bytes alone
 abbrev pub AnyElement : BERMode → ℕ → List ℕ → Type 0
 AnyElement = Any (λ m n v b. IsRaw n m v b)
 
+-- a SEQUENCE of a name and, where they are there, parameters of any type
 abbrev pub EncodesAlgorithm : BERMode → ℕ → AlgorithmIdentifier → List ℕ → Type 0
 EncodesAlgorithm m n v b = Enclosed (PartOf EncodesOid (PartOf (OptionOf EncodesAny) NoParts)) sequence_tag m n (v.algorithm, (v.parameters, tt)) b
 

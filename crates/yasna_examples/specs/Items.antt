@@ -27,5 +27,6 @@ AnyItem = AnyEither (Any (EncodesSigned w64)) (Any EncodesNull)
 abbrev pub EncodesItems : BERMode → ℕ → List (Option ℤ) → List ℕ → Type 0
 EncodesItems m n vs b = IsListOf EncodesItem sequence_tag m n vs b
 
+-- the same of bytes alone
 abbrev pub AnyItems : BERMode → ℕ → List ℕ → Type 0
 AnyItems = AnyListOf AnyItem sequence_tag

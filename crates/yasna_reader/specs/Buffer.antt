@@ -12,6 +12,7 @@ abbrev pub TookBytes : {A : Type 0} → List ℕ → A → Result (A × Bor (Lis
 TookBytes before v (Ok x) after = (x.0 ≡ v) × (before ≡ x.1.now ++ after)
 TookBytes before v (Err e) after = ⊥
 
+-- what the call makes of what its callback came to
 abbrev pub Buffered : {A : Type 0} → List ℕ → Outcome A → Result (A × Bor (List ℕ)) ASN1Error → List ℕ → Type 0
 Buffered before (Gave v) r after = TookBytes before v r after
 Buffered before (Quiet e) r after = r ≡ Err e

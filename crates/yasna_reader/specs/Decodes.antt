@@ -55,10 +55,12 @@ pub record TookContents {A : Type 0} (C : A → List ℕ → Type 0) (S : List �
   pub took : Took C s v s'
   pub ends : (d x : List ℕ) → s.left ≡ d ++ x → AtEnd x → S d → d ≡ took.front
 
+-- contents stand there for no value, but for want of memory, which comes only where the type asks for memory
 pub record NotContents (asks : Bool) (S : List ℕ → Type 0) (s : Reading) (e : ASN1Error) : Type 0 where
   pub none : (kind_of e ≡ OutOfMemory → ⊥) → (d x : List ℕ) → s.left ≡ d ++ x → AtEnd x → S d → ⊥
   pub memory : kind_of e ≡ OutOfMemory → asks ≡ true
 
+-- what reading contents answers, by its case
 abbrev pub DecodesContents : {A : Type 0} → Bool → (BERMode → ℕ → A → List ℕ → Type 0) → (BERMode → ℕ → List ℕ → Type 0) → Reading → Result A ASN1Error →
     Reading → Type 0
 DecodesContents asks C S s (Ok v) s' = TookContents (C s.mode s.levels) (S s.mode s.levels) s v s'
@@ -70,6 +72,7 @@ pub record NotWhole (asks : Bool) (S : List ℕ → Type 0) (s : List ℕ) (e : 
   pub memory : kind_of e ≡ OutOfMemory → asks ≡ true
   pub quiet : AtEnd s → kind_of e ≡ OutOfMemory → ⊥
 
+-- a value that all bytes encode within 101 levels, or an Err where they encode none
 abbrev pub Decoded : {A : Type 0} → Bool → (BERMode → ℕ → A → List ℕ → Type 0) → (BERMode → ℕ → List ℕ → Type 0) →
     BERMode → List ℕ → Result A ASN1Error → Type 0
 Decoded asks B S m s (Ok v) = B m 101 v s
@@ -89,6 +92,7 @@ abbrev pub Step : {A U : Type 0} → (Reading → Result A ASN1Error → Reading
     Result U ASN1Error → Reading → Type 0
 Step {A} P K s r s' = (x : Result A ASN1Error) × (m : Reading) × P s x m × AndIn K x m r s'
 
+-- the end of such steps: the value v is answered, and nothing more is read
 abbrev pub Done : {U : Type 0} → U → Reading → Result U ASN1Error → Reading → Type 0
 Done v s r s' = (r ≡ Ok v) × (s' ≡ s)
 

@@ -47,6 +47,7 @@ pub record ReadsOrDefaults {A : Type 0} (P : Reading → Result A ASN1Error → 
   pub hands : Hands P s outcome between
   pub defaults : DefaultsTo eq d (length s.left) outcome between r s'
 
+-- what read_default does: a failure that is kept comes first
 abbrev pub ReadsDefault : {A : Type 0} → (Reading → Result A ASN1Error → Reading → Type 0) → (A → A → Bool) → A →
     Reading → Result A ASN1Error → Reading → Type 0
 ReadsDefault P eq d s r s' = UnlessKept s.kept s r s' (ReadsOrDefaults P eq d (untagged s) r s')

@@ -84,6 +84,7 @@ pub record LacksMemory {G A : Type 0} (T : G → Reading → Outcome A → G →
   pub answer : r ≡ Err error
   pub state : s' ≡ failing place error
 
+-- what is seen of a vector that is answered
 abbrev pub items_of : {A : Type 0} → Result (Vec A Global) ASN1Error → Result (List A) ASN1Error
 items_of (Ok v) = Ok v.items
 items_of (Err e) = Err e
@@ -92,6 +93,7 @@ items_of (Err e) = Err e
 abbrev pub CollectsBy : {G A : Type 0} → (G → Reading → Outcome A → G → Reading → Type 0) → G → Reading → Result (Vec A Global) ASN1Error → Reading → Type 0
 CollectsBy T g s r s' = Lists T g s (items_of r) s' ⊎ LacksMemory T g s (items_of r) s'
 
+-- the same answer where nothing is gathered
 abbrev pub without_items : {A : Type 0} → Result (List A) ASN1Error → Result (Unit {0}) ASN1Error
 without_items (Ok vs) = Ok tt
 without_items (Err e) = Err e
@@ -108,6 +110,7 @@ abbrev pub Collects : {F A : Type 0} → (F → Reading → Result A ASN1Error �
     Reading → Result (Vec A Global) ASN1Error → Reading → Type 0
 Collects C f = CollectsBy (Turn C) f
 
+-- what read_sequence_of does: its turns, for no vector
 abbrev pub Visits : {F A : Type 0} → (F → Reading → Result A ASN1Error → F → Reading → Type 0) → F →
     Reading → Result (Unit {0}) ASN1Error → Reading → Type 0
 Visits C f = VisitsBy (Turn C) f

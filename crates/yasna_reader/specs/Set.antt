@@ -59,6 +59,7 @@ pub record NotListed (n : ℕ) (m : BERMode) (c : List ℕ) (k : ASN1ErrorKind) 
   pub deep : (k ≡ OutOfMemory → ⊥) → MeetsDeep n m c → k ≡ StackOverflow
   pub memory : k ≡ OutOfMemory → Stands (IsRaw n m) c
 
+-- what listing elements answers, by its case
 abbrev pub ElementsAt : ℕ → BERMode → List ℕ → Result (Vec SetElement Global × Bor (List ℕ)) ASN1ErrorKind → Type 0
 ElementsAt n m c (Ok x) = ListsAll n m x.0.items c x.1.now
 ElementsAt n m c (Err k) = NotListed n m c k
@@ -79,6 +80,7 @@ pub record IsDisordered (n : ℕ) (m : BERMode) (c : List ℕ) : Type 0 where
 abbrev pub NotSetList : ℕ → BERMode → List ℕ → ASN1ErrorKind → Type 0
 NotSetList n m c k = NotListed n m c k ⊎ (IsDisordered n m c × (k ≡ Invalid))
 
+-- what listing those of a SET answers, by its case
 abbrev pub SetListAt : ℕ → BERMode → List ℕ → Result (Vec SetElement Global × Bor (List ℕ)) ASN1ErrorKind → Type 0
 SetListAt n m c (Ok x) = IsSetList n m x.0.items c x.1.now
 SetListAt n m c (Err k) = NotSetList n m c k
@@ -153,6 +155,7 @@ ChoosesBy (Some e) ts l s r l' s' = (r ≡ Err e) × (l' ≡ l) × (s' ≡ untag
 ChoosesBy None ts l s (Ok u) l' s' = Takes ts l s l' s'
 ChoosesBy None ts l s (Err e) l' s' = NoneIsAmong ts l × (e ≡ error_of Invalid) × (l' ≡ l) × (s' ≡ untagged s)
 
+-- what choosing by tags does, in a record of its own, which goals name and don't unfold
 pub record Chooses (l : List SetElement) (s : Reading) (ts : List Tag) (r : Result (Unit {0}) ASN1Error) (l' : List SetElement) (s' : Reading) :
     Type 0 where
   pub chooses : ChoosesBy s.kept ts l s r l' s'

@@ -25,10 +25,12 @@ pub record Bounded (F : Type 0) : Type 0 where
   pub callback : F
   pub bound : Option (List ℕ)
 
+-- what is seen of a bound
 abbrev pub bytes_of : Option (Bor (List ℕ)) → Option (List ℕ)
 bytes_of None = None
 bytes_of (Some b) = Some b.now
 
+-- a callback, and the bound for its next element
 abbrev pub bounded : {F : Type 0} → F → Option (Bor (List ℕ)) → Bounded F
 bounded f b = record { callback = f; bound = bytes_of b }
 
@@ -88,6 +90,7 @@ abbrev pub CollectsInOrder : {F A : Type 0} → Order → (F → Reading → Res
     Reading → Result (Vec A Global) ASN1Error → Reading → Type 0
 CollectsInOrder o C f s = CollectsBy (TurnInOrder C) (record { callback = f; bound = bound_in o s.mode }) s
 
+-- what read_set_of does: such turns, for no vector
 abbrev pub VisitsInOrder : {F A : Type 0} → Order → (F → Reading → Result A ASN1Error → F → Reading → Type 0) → F →
     Reading → Result (Unit {0}) ASN1Error → Reading → Type 0
 VisitsInOrder o C f s = VisitsBy (TurnInOrder C) (record { callback = f; bound = bound_in o s.mode }) s

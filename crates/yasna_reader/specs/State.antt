@@ -29,9 +29,11 @@ starts s m = record { left = s; mode = m; levels = 101; tag = None; kept = None 
 abbrev pub inside : Reading → List ℕ → Reading
 inside s c = record s { left = c; levels = s.levels - 1; tag = None; kept = None }
 
+-- the reading once its implicit tag is used up
 abbrev pub untagged : Reading → Reading
 untagged s = record s { tag = None }
 
+-- the reading with this failure kept
 abbrev pub failing : Reading → ASN1Error → Reading
 failing s e = record s { kept = Some e }
 

@@ -77,6 +77,7 @@ pub record IsGeneralClock (s : List ℕ) (end seconds : ℕ) (local : DateTime) 
   pub date : IsYmd (pos (two_at s 0 * 100 + two_at s 2)) (pos (two_at s 4)) (pos (two_at s 6)) local.date
   pub time : IsHms (pos (two_at s 8)) (pos (minute_of s end seconds)) (pos (second_of s end seconds)) (pos 0) local.time
 
+-- a number of seconds that is one of minutes
 abbrev pub IsWholeMinutes : ℤ → Type 0
 IsWholeMinutes offset = unsigned_abs offset % 60 ≡ 0
 
@@ -141,6 +142,7 @@ pub record SaysGeneralizedTime (m : BERMode) (v : Moment) (s : List ℕ) : Type 
 abbrev pub EncodesGeneralizedTime : BERMode → ℕ → Moment → List ℕ → Type 0
 EncodesGeneralizedTime m n v b = IsStringOf SaysGeneralizedTime n m (universal 24) v b
 
+-- the form in a canonical mode
 abbrev pub generalized_time_form : Tag → BERMode → Moment → List ℕ
 generalized_time_form t m v = octets_form t m (general_text v)
 

@@ -37,5 +37,6 @@ TimesAreMoments =
 abbrev pub EncodesUtc : BERMode → ℕ → UTCTime → List ℕ → Type 0
 EncodesUtc m n v b = EncodesUtcTime m n (utc_of v) b
 
+-- the same of a GeneralizedTime
 abbrev pub EncodesGeneral : BERMode → ℕ → GeneralizedTime → List ℕ → Type 0
 EncodesGeneral m n v b = EncodesGeneralizedTime m n (moment_of v) b

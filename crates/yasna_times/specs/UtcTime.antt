@@ -71,6 +71,7 @@ pub record SaysUtcTime (m : BERMode) (utc : DateTime) (s : List ℕ) : Type 0 wh
 abbrev pub EncodesUtcTime : BERMode → ℕ → DateTime → List ℕ → Type 0
 EncodesUtcTime m n v b = IsStringOf SaysUtcTime n m (universal 23) v b
 
+-- the form in a canonical mode
 abbrev pub utc_time_form : Tag → BERMode → DateTime → List ℕ
 utc_time_form t m utc = octets_form t m (utc_text utc)
 

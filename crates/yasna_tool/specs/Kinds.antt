@@ -29,6 +29,7 @@ pub record Recoded {A : Type 0} (B : BERMode → ℕ → A → List ℕ → Type
 abbrev pub EncodesPair : BERMode → ℕ → ℤ × Bool → List ℕ → Type 0
 EncodesPair m n v b = Enclosed (PartOf (EncodesSigned w64) (PartOf EncodesBoolean NoParts)) sequence_tag m n (v.0, (v.1, tt)) b
 
+-- its form
 abbrev pub pair_form : BERMode → ℤ × Bool → List ℕ
 pair_form m v = enclosed_form (part_form (integer_form (universal 2)) (part_form (boolean_form (universal 1)) nothing_form)) sequence_tag m (v.0, (v.1, tt))
 
@@ -36,6 +37,7 @@ pair_form m v = enclosed_form (part_form (integer_form (universal 2)) (part_form
 abbrev pub EncodesIntegers : BERMode → ℕ → List ℤ → List ℕ → Type 0
 EncodesIntegers m n v b = IsListOf (EncodesSigned w64) sequence_tag m n v b
 
+-- its form
 abbrev pub integers_form : BERMode → List ℤ → List ℕ
 integers_form m v = enclosed_form (elements_form (integer_form (universal 2))) sequence_tag m v
 

@@ -59,6 +59,7 @@ KnowsPlace heads waits place (Waits w) = (w.start ≡ place + heads) × (w.depth
 KnowsPlace heads waits place (Known h) = Unit {0}
 KnowsPlace heads waits place (Open t) = Unit {0}
 
+-- each element knows its place
 abbrev pub KnowPlaces : ℕ → ℕ → List Entry → Type 0
 KnowPlaces heads waits [] = Unit {0}
 KnowPlaces heads waits (e ∷ es) = KnowsPlace heads waits e.place e.mark × KnowPlaces (heads + length (mark_bytes e.mark)) (waits + mark_waits e.mark) es

@@ -9,6 +9,7 @@ use Rattle.yasna_base.specs.Identifier.{identifier}
 use Rattle.yasna_base.specs.Length.{shortest_length}
 use Rattle.yasna_writer.specs.declared.header.Header.{Header}
 
+-- the bytes of a header
 abbrev pub header_bytes : PCBit → Header → List ℕ
 header_bytes p h = identifier h.tag p ++ shortest_length h.length
 

@@ -17,6 +17,7 @@ pub record WrittenParts : Type 0 where
 abbrev pub no_parts : BERMode → WrittenParts
 no_parts m = record { parts = []; mode = m; kept = None }
 
+-- the bytes of each part
 abbrev pub bytes_each : List (Vec ℕ Global) → List (List ℕ)
 bytes_each vs = map (λ (v : Vec ℕ Global). v.items) vs
 
@@ -29,6 +30,7 @@ last_part true b = b ∷ []
 abbrev pub part_of : TaggedPart → SetPart
 part_of p = record { tag = p.tag; bytes = p.bytes.items }
 
+-- the same of each part
 abbrev pub parts_of : List TaggedPart → List SetPart
 parts_of ps = map part_of ps
 

@@ -28,6 +28,7 @@ pub record WroteAround {F T E : Type 0} (g : Once F (MutBor Written × Unit {0})
 abbrev pub AnswersOnly : {T E : Type 0} → (ASN1Error → E → Type 0) → ASN1Error → Written → Result T E → Type 0
 AnswersOnly from k new result = (new.kept ≡ Some k) × IsErrAnd result (λ e. from k e)
 
+-- what such a call does: a failure that is kept comes first
 abbrev pub Encloses :
     {F T E : Type 0} → Once F (MutBor Written × Unit {0}) (Result T E × (MutBor Written × Unit {0})) → (ASN1Error → E → Type 0) → F → (List ℕ → List ℕ)
     → Written → Written → Result T E → Type 0

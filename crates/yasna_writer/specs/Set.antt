@@ -80,6 +80,7 @@ contents_in Tags = SetContents
 abbrev pub WritesParts : (List (List ℕ) → List ℕ → Type 0) → (List ℕ → List ℕ) → WrittenParts → Written → Written → Type 0
 WritesParts Contents form left old new = (left.kept ≡ None) × (c : List ℕ) × Contents left.parts c × (new ≡ holding old (old.bytes ++ form c))
 
+-- the end of a set: its contents are written, unless a failure is kept
 abbrev pub EndsSet : (List (List ℕ) → List ℕ → Type 0) → (List ℕ → List ℕ) → WrittenParts → Written → Written → Type 0
 EndsSet Contents form left old new = MatchOption new.kept (WritesParts Contents form left old new) (λ k. FailsAtSet Contents left k)
 
@@ -94,6 +95,7 @@ pub record WroteSet {F T E : Type 0} (g : Once F (MutBor WrittenParts × Unit {0
   pub ends : EndsSet Contents form left old new
   pub answers : AnswersKept from new.kept own result
 
+-- what such a call does: a failure that is kept comes first
 abbrev pub WritesSet :
     {F T E : Type 0} → Once F (MutBor WrittenParts × Unit {0}) (Result T E × (MutBor WrittenParts × Unit {0})) → (ASN1Error → E → Type 0) → F
     → (List (List ℕ) → List ℕ → Type 0) → (List ℕ → List ℕ) → Written → Written → Result T E → Type 0

@@ -19,6 +19,7 @@ Appended bs old new result =
 abbrev pub FailsAtEnd : ℕ → Written → ASN1Error → Type 0
 FailsAtEnd n left k = (left.kept ≡ Some k) ⊎ ((left.kept ≡ None) × ((kind_of k ≡ OutOfMemory) ⊎ ((kind_of k ≡ Invalid) × (length left.bytes < n))))
 
+-- what is kept once an element has ended: nothing, where as many bytes are there as when it began, or that failure
 abbrev pub KeptAtEnd : ℕ → Written → Option ASN1Error → Type 0
 KeptAtEnd n left None = (left.kept ≡ None) × (n ≤ length left.bytes)
 KeptAtEnd n left (Some k) = FailsAtEnd n left k

@@ -33,6 +33,7 @@ pub record WroteTagged {F T E : Type 0} (g : Once F (MutBor Written × Unit {0})
   pub behind : LeftBehind (length old.bytes) left new
   pub answers : AnswersKept from new.kept own result
 
+-- what such a call does: a failure that is kept comes first
 abbrev pub WritesTagged :
     {F T E : Type 0} → Once F (MutBor Written × Unit {0}) (Result T E × (MutBor Written × Unit {0})) → (ASN1Error → E → Type 0) → F → Tag
     → Written → Written → Result T E → Type 0
