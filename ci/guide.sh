@@ -2,6 +2,7 @@
 # What the documents show: each block of Rust or of antt in them, and in the comments on what the library hands out, stands in one of
 # the proved crates yasna_guide and yasna_examples, line for line, but for how far the block is indented as a whole. And a module of
 # them that a document shows is the document's blocks, one behind the other, and nothing else: so who copies them has all that is needed.
+# Each block of GUIDE.md is a module of its own, with what it uses.
 set -eu
 cd "$(dirname "$0")/.."
 work=$(mktemp -d)
@@ -119,5 +120,10 @@ for document in README.md docs/GUIDE.md docs/CONTRACTS.md \
 done
 
 is_whole README.md "$guide/first.rt"
-is_whole docs/GUIDE.md $(find "$guide" -name '*.rt' ! -name lib.rt ! -name first.rt | sort) "$examples/strings.rt"
+set -- $(find "$guide" -name '*.rt' ! -name lib.rt ! -name first.rt | sort) "$examples/strings.rt" "$examples/exact.rt"
+is_whole docs/GUIDE.md "$@"
+if [ "$(grep -c '^```rust$' docs/GUIDE.md)" -ne $# ]; then
+    echo "docs/GUIDE.md: a block that is not a module of its own" >&2
+    exit 1
+fi
 is_whole docs/CONTRACTS.md "$examples/by_tuple.rt" "$examples/by_closure.rt"

@@ -8,6 +8,7 @@
 //! | `by_tuple`, `by_closure` | the two types of docs/CONTRACTS.md: one that is read and written as a tuple, one step by step |
 //! | `choice` | a list of a CHOICE, read by the next tag |
 //! | `encoders` | types of one's own that are written by other means than one call: one wants memory of its own, one may write nothing |
+//! | `exact` | the section of docs/GUIDE.md on what is proved of values as a whole |
 //! | `known` | calls whose closures are known: their exact results follow from the contracts of `yasna` |
 //! | `public_key`, `scrypt` | types of one's own of which a part may be left out, read by closures |
 //! | `records` | types of one's own of three, five and seven parts, each read and written as a tuple |
@@ -21,6 +22,7 @@ mod by_closure;
 mod by_tuple;
 mod choice;
 mod encoders;
+mod exact;
 mod known;
 mod public_key;
 mod records;
@@ -34,6 +36,7 @@ pub use by_closure::Sample;
 pub use by_tuple::Measurement;
 pub use choice::parsed_items;
 pub use encoders::{Serial, Trail};
+pub use exact::reencoded;
 pub use known::{constructed_integer, parsed_integer, parsed_numbers, parsed_pair, third_number};
 pub use public_key::{AlgorithmIdentifier, SubjectPublicKeyInfo, encoded_key};
 pub use records::{DirectoryEntry, DomainParameters, RequestHeader};

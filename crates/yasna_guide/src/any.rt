@@ -1,7 +1,7 @@
 //! ANY: elements that are kept as they are.
 
 use yasna::models::{ObjectIdentifier, TaggedDerValue};
-use yasna::{ASN1Error, ASN1ErrorKind, ASN1Result, BERReader, BERReaderSeq, DERWriter};
+use yasna::{ASN1Error, ASN1ErrorKind, ASN1Result, BERReader, DERWriter};
 
 #[derive(Drop)]
 pub struct Algorithm {
@@ -28,29 +28,4 @@ pub fn write_algorithm(algorithm: &Algorithm, writer: DERWriter<'_>) -> ASN1Resu
             None => Ok(()),
         }
     })
-}
-
-#[derive(Drop)]
-pub struct Signed<'a> {
-    pub serial: i64,
-    pub signed_bytes: &'a [u8],
-    pub signature: Vec<u8>,
-}
-
-fn read_serial(reader: BERReader) -> ASN1Result<i64> {
-    reader.read_sequence(|parts| parts.next().read_i64())
-}
-
-fn read_signed_parts<'a>(parts: &mut BERReaderSeq<'a, '_>) -> ASN1Result<Signed<'a>> {
-    let (serial, signed_bytes) = parts.next().read_with_buffer(|body| read_serial(body))?;
-    let (signature, _) = parts.next().read_bitvec_bytes()?;
-    Ok(Signed {
-        serial,
-        signed_bytes,
-        signature,
-    })
-}
-
-pub fn read_signed<'a>(reader: BERReader<'a, '_>) -> ASN1Result<Signed<'a>> {
-    reader.read_sequence(read_signed_parts)
 }

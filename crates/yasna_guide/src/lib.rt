@@ -1,20 +1,27 @@
 //! The pieces of code of README.md and docs/GUIDE.md, which stand there word for word: `ci/guide.sh` compares them.
 //!
-//! A file is a section. Its functions have no contract: they are proved safe, and `yasna_tests` runs them on real bytes.
+//! A file is a piece of GUIDE.md, with all that it uses. Its functions have no contract: they are proved safe, and `yasna_tests` runs them on real bytes.
 //!
 //! The crate has no wrong bodies, each of which would cost it one more check: the section on strings, which has one, stands in
 //! `yasna_examples`.
 #![tactic(auto)]
 
+pub mod alternatives;
 pub mod any;
 pub mod choice;
+pub mod defaults;
 pub mod errors;
 pub mod first;
+pub mod implicit;
+pub mod kept;
 pub mod lists;
 pub mod numbers;
 pub mod optional;
+pub mod own_errors;
 pub mod sequence;
+pub mod set_of;
 pub mod sets;
+pub mod signed;
 pub mod tagged;
 pub mod times;
 pub mod whole;

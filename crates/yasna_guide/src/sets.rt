@@ -1,4 +1,4 @@
-//! SET and SET OF.
+//! SET.
 
 use yasna::tags::{TAG_BOOLEAN, TAG_INTEGER, TAG_UTF8STRING};
 use yasna::{ASN1Result, BERReader, DERWriter};
@@ -33,18 +33,5 @@ pub fn write_setting(setting: &Setting, writer: DERWriter<'_>) -> ASN1Result<()>
             Some(note) => elements.next().write_utf8string(note),
             None => Ok(()),
         }
-    })
-}
-
-pub fn read_values(reader: BERReader) -> ASN1Result<Vec<Vec<u8>>> {
-    reader.collect_set_of(|item| item.read_bytes())
-}
-
-pub fn write_values(values: &[Vec<u8>], writer: DERWriter<'_>) -> ASN1Result<()> {
-    writer.write_set_of(|items| {
-        for value in values {
-            items.next().write_bytes(value)?;
-        }
-        Ok(())
     })
 }

@@ -3,21 +3,26 @@
 use std::process::Abort;
 use std::test::Fail;
 use yasna::{ASN1Error, ASN1ErrorKind, ASN1Result, construct_der, parse_ber, parse_der};
-use yasna_examples::{read_directory_string, read_ldap_string, write_directory_string};
-use yasna_guide::any::{read_algorithm, read_signed, write_algorithm};
+use yasna_examples::{read_directory_string, read_ldap_string, reencoded, write_directory_string};
+use yasna_guide::alternatives::{Id, read_id};
+use yasna_guide::any::{read_algorithm, write_algorithm};
 use yasna_guide::choice::{Name, read_name, write_name};
-use yasna_guide::errors::{Id, StoreError, entries_to_der, number_or_zero, read_id, reason};
+use yasna_guide::defaults::{BasicConstraints, read_constraints, write_constraints};
+use yasna_guide::errors::reason;
 use yasna_guide::first::{decode_report, encode_report};
+use yasna_guide::implicit::{read_accuracy, write_accuracy};
+use yasna_guide::kept::number_or_zero;
 use yasna_guide::lists::{highest, read_names, write_names};
 use yasna_guide::numbers::{
     Status, read_key, read_status, write_key, write_signature, write_status,
 };
-use yasna_guide::optional::{
-    BasicConstraints, read_constraints, read_person, write_constraints, write_person,
-};
+use yasna_guide::optional::{read_person, write_person};
+use yasna_guide::own_errors::{StoreError, entries_to_der};
 use yasna_guide::sequence::{Point, point_from_ber, point_from_der, point_to_der};
-use yasna_guide::sets::{read_setting, read_values, write_setting, write_values};
-use yasna_guide::tagged::{read_accuracy, read_encrypted, write_accuracy, write_encrypted};
+use yasna_guide::set_of::{read_values, write_values, write_values_as_they_stand};
+use yasna_guide::sets::{read_setting, write_setting};
+use yasna_guide::signed::read_signed;
+use yasna_guide::tagged::{read_encrypted, write_encrypted};
 use yasna_guide::times::{Time, read_time, time_of_text, write_time};
 use yasna_guide::whole::{read_table, write_flag};
 
@@ -67,6 +72,10 @@ fn values_as_a_whole(rt: HostRuntime) -> Result<(), Fail> {
     assert!(rt; *flag);
     let bytes = write_flag(alloc, "a", true)?;
     assert_eq!(rt; bytes.as_slice(), [48, 6, 12, 1, 97, 1, 1, 255].as_slice());
+    let again = reencoded::<(String, bool)>(alloc, &bytes)?;
+    assert_eq!(rt; again.as_slice(), bytes.as_slice());
+    let other = reencoded::<(String, bool)>(alloc, &[48, 6, 12, 1, 97, 1, 1, 1]);
+    assert_eq!(rt; kind_of(other), Some(ASN1ErrorKind::Invalid));
     Ok(())
 }
 
@@ -224,6 +233,8 @@ fn sets(rt: HostRuntime) -> Result<(), Fail> {
     )?;
     let written = construct_der(alloc, |writer| write_values(&values, writer))?;
     assert_eq!(rt; written.as_slice(), ascending.as_slice());
+    let kept = construct_der(alloc, |writer| write_values_as_they_stand(&values, writer))?;
+    assert_eq!(rt; kept.as_slice(), [49, 7, 4, 2, 97, 97, 4, 1, 98].as_slice());
     Ok(())
 }
 

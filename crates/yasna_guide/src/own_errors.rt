@@ -1,0 +1,34 @@
+//! Errors of one's own.
+
+use std::alloc::Global;
+use yasna::{ASN1Error, try_construct_der};
+
+#[derive(Drop)]
+pub enum StoreError {
+    NoSuchEntry,
+    Encoding(ASN1Error),
+}
+
+impl From<ASN1Error> for StoreError {
+    fn from(error: ASN1Error) -> StoreError {
+        StoreError::Encoding(error)
+    }
+}
+
+pub fn entries_to_der(
+    alloc: Global,
+    store: &[i64],
+    places: &[usize],
+) -> Result<Vec<u8>, StoreError> {
+    try_construct_der(alloc, |writer| {
+        writer.write_sequence_of(|items| {
+            for place in places {
+                let Some(entry) = store.get(*place) else {
+                    return Err(StoreError::NoSuchEntry);
+                };
+                items.next().write_i64(*entry)?;
+            }
+            Ok(())
+        })
+    })
+}
