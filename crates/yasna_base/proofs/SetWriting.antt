@@ -27,7 +27,7 @@ use Rattle.yasna_base.specs.Order.{tag_cmp, octets_cmp, in_order}
 use Rattle.yasna_base.specs.Raw.{RawValue, raw_cer_form, RawFramed, with_length, with_zeros, RawOver, IsRaw}
 use Rattle.yasna_base.specs.SequenceOf.{elements_form, elements_nest}
 use Rattle.yasna_base.specs.Set.{AreInSetOrder, SetElements, IsSet, SetPart, HasItsTag, part_key, part_cmp, parts_bytes, SetContents}
-use Rattle.yasna_base.specs.SetWriting.{MakeElement, forms, own_form, part_of, in_part_order, AreRaw, CanSet, set_form, TagsKeepOrder, TagsTellElements, SetIsWritten, SetKeepsWritingLaws}
+use Rattle.yasna_base.specs.SetWriting.{MakeElement, forms, own_form, raw_part, in_part_order, AreRaw, CanSet, set_form, TagsKeepOrder, TagsTellElements, SetIsWritten, SetKeepsWritingLaws}
 use Rattle.yasna_base.proofs.Canonical.{canonical_element_bytes, canonical_element_only, definite_whole, opening_bytes, enclosed_has}
 use Rattle.yasna_base.proofs.Element.{element_begins}
 use Rattle.yasna_base.proofs.Identifier.{class_same, begins_once}
@@ -228,10 +228,10 @@ tag_parts p q e one =
     same_rest p q (one (ap₂ (λ d k. record { tag_class = d; tag_number = k }) c n)) n)
 
 abbrev part_order : BERMode → RawValue → RawValue → Ordering
-part_order m v w = part_cmp (part_of m v) (part_of m w)
+part_order m v w = part_cmp (raw_part m v) (raw_part m w)
 
 part_weak : (m : BERMode) → IsStrictWeakOrder (λ v w. is_lt (part_order m v w))
-part_weak m = ranks_by nat_list_cmp_total (λ (v : RawValue). part_key (part_of m v))
+part_weak m = ranks_by nat_list_cmp_total (λ (v : RawValue). part_key (raw_part m v))
 
 abbrev tags : List RawValue → List Tag
 tags vs = map (λ (v : RawValue). v.tag) vs
@@ -242,7 +242,7 @@ set_ordered n m vs all = record {
   each = all_order (part_order m) (part_weak m) (λ v. IsRaw n m v (own_form m v)) vs all;
   order = any_tags m (tags (in_part_order m vs)) (sorted_rises (λ t u. is_lt (tag_cmp t u)) (tags (in_part_order m vs))
       (rises_map (λ (v : RawValue). v.tag) (λ v w. is_lt (part_order m v w)) (λ t u. is_lt (tag_cmp t u))
-      (λ v w. part_tags (part_of m v) (part_of m w)) (in_part_order m vs) (rises_order (part_order m) (part_weak m) vs)));
+      (λ v w. part_tags (raw_part m v) (raw_part m w)) (in_part_order m vs) (rises_order (part_order m) (part_weak m) vs)));
 }
 
 -- elements whose tags don't fall, and tell their order, stand in that order
@@ -255,23 +255,23 @@ set_in_order m vs up keep = sym (in_order_is (part_order m) (part_weak m) vs vs 
         let next = get_or-map (λ (v : RawValue). v.tag) vs (k + 1) d in
         let count = length-map vs (λ (v : RawValue). v.tag) in
         let up_here = up k d.tag low (omega (arith, h, count)) in
-        tag_parts (part_of m (get_or vs (k + 1) d)) (part_of m (get_or vs k d))
+        tag_parts (raw_part m (get_or vs (k + 1) d)) (raw_part m (get_or vs k d))
         (subst (λ t. is_lt (tag_cmp (get_or vs (k + 1) d).tag t) ≡ false) here
         (subst (λ t. is_lt (tag_cmp t (get_or (tags vs) k d.tag)) ≡ false) next up_here))
         (λ e. part_one (get_or vs (k + 1) d) (get_or vs k d)
         (keep (get_or vs (k + 1) d) (get_or vs k d) (Contains-get_or vs (k + 1) d h) (Contains-get_or vs k d (omega (arith, h))) e))
       where
-        part_one : (v w : RawValue) → (v ≡ w) ⊎ (v.tag.tag_number < 31) → (part_of m v ≡ part_of m w) ⊎ (v.tag.tag_number < 31)
-        part_one v w (inl same) = inl (ap (part_of m) same)
+        part_one : (v w : RawValue) → (v ≡ w) ⊎ (v.tag.tag_number < 31) → (raw_part m v ≡ raw_part m w) ⊎ (v.tag.tag_number < 31)
+        part_one v w (inl same) = inl (ap (raw_part m) same)
         part_one v w (inr small) = inr small
 
-parts_tagged : (n : ℕ) (m : BERMode) (vs : List RawValue) → AreRaw n m vs → AllByRecursion HasItsTag (map (part_of m) vs)
+parts_tagged : (n : ℕ) (m : BERMode) (vs : List RawValue) → AreRaw n m vs → AllByRecursion HasItsTag (map (raw_part m) vs)
 parts_tagged n m [] all = tt
 parts_tagged n m (v ∷ vs) all =
     let x = raw_begins n m v (own_form m v) all.0 in
     (record { in_range = x.in_range; begins = x.begins }, parts_tagged n m vs all.1)
 
-part_forms : (m : BERMode) (vs : List RawValue) → parts_bytes (map (part_of m) vs) ≡ forms own_form m vs
+part_forms : (m : BERMode) (vs : List RawValue) → parts_bytes (map (raw_part m) vs) ≡ forms own_form m vs
 part_forms m [] = refl
 part_forms m (v ∷ vs) = ap (λ bs. own_form m v ∷ bs) (part_forms m vs)
 
@@ -296,15 +296,15 @@ module _ (t : Tag) (range : t.tag_number < 2 ^ 64) (n : ℕ) where
 
   set_made : (m : BERMode) (vs : List RawValue) → AreRaw n m vs → MakeElement SetContents m t (forms own_form m vs) (set_form t m (in_part_order m vs))
   set_made m vs all =
-      let joined : elements_form own_form m (in_part_order m vs) ≡ concat (parts_bytes (in_order part_cmp (map (part_of m) vs))) =
+      let joined : elements_form own_form m (in_part_order m vs) ≡ concat (parts_bytes (in_order part_cmp (map (raw_part m) vs))) =
       forms_joined (own_form m) (in_part_order m vs) ∙
-      ap concat (sym (part_forms m (in_part_order m vs)) ∙ ap parts_bytes (in_order_map (part_of m) part_cmp vs)) in
+      ap concat (sym (part_forms m (in_part_order m vs)) ∙ ap parts_bytes (in_order_map (raw_part m) part_cmp vs)) in
       record {
         contents = elements_form own_form m (in_part_order m vs);
-        made = record { tagged = map (part_of m) vs; tags = parts_tagged n m vs all; same = part_forms m vs; joined = joined };
+        made = record { tagged = map (raw_part m) vs; tags = parts_tagged n m vs all; same = part_forms m vs; joined = joined };
         alone = λ c x. x.joined ∙
             ap (λ ps. concat (parts_bytes (in_order part_cmp ps)))
-            (parts_once x.tagged (map (part_of m) vs) x.tags (parts_tagged n m vs all) (x.same ∙ sym (part_forms m vs))) ∙ sym joined;
+            (parts_once x.tagged (map (raw_part m) vs) x.tags (parts_tagged n m vs all) (x.same ∙ sym (part_forms m vs))) ∙ sym joined;
         around = refl;
       }
 
@@ -326,7 +326,7 @@ module _ (t : Tag) (range : t.tag_number < 2 ^ 64) (n : ℕ) where
   set_anyhow m vs ws b h y tell p =
       let one = set_only m vs b h y in
       let order = sym (in_order_permuted (part_order m) (part_weak m) vs ws p (λ v w a c e.
-      tell v w a c (tag_of_key (part_of m v) (part_of m w) (octets_tie (part_key (part_of m v)) (part_key (part_of m w)) e)))) in
+      tell v w a c (tag_of_key (raw_part m v) (raw_part m w) (octets_tie (part_key (raw_part m v)) (part_key (raw_part m w)) e)))) in
       subst (λ c. MakeElement SetContents m t (forms own_form m ws) c)
       (ap (set_form t m) (order ∙ set_kept m vs h one.1 (λ v w a c e. inl (tell v w a c e))) ∙ sym one.0)
       (set_made m ws (all_permuted (λ v. IsRaw n m v (own_form m v)) vs ws p one.1.each))

@@ -21,8 +21,8 @@ pub record IsMeaning {A : Type 0} (E : A → A → Type 0) (B : BERMode → ℕ 
   pub deeper : (m : BERMode) (n k : ℕ) (v : A) (b : List ℕ) → n ≤ k → B m n v b → B m k v b
 
 -- of two members of S, within any levels, neither begins the other
-abbrev pub StandAlone : (BERMode → ℕ → List ℕ → Type 0) → Type 0
-StandAlone S = (m : BERMode) (n k : ℕ) (b c r s : List ℕ) → S m n b → S m k c → b ++ r ≡ c ++ s → b ≡ c
+abbrev pub NoneBeginsAnother : (BERMode → ℕ → List ℕ → Type 0) → Type 0
+NoneBeginsAnother S = (m : BERMode) (n k : ℕ) (b c r s : List ℕ) → S m n b → S m k c → b ++ r ≡ c ++ s → b ≡ c
 
 -- the laws of reading of a type
 pub record IsCoding {A : Type 0} (E : A → A → Type 0) (B : BERMode → ℕ → A → List ℕ → Type 0) (S : BERMode → ℕ → List ℕ → Type 0) : Type 0 where
@@ -30,12 +30,12 @@ pub record IsCoding {A : Type 0} (E : A → A → Type 0) (B : BERMode → ℕ �
   -- an encoding begins with an identifier, which isn't that of the end of contents
   pub opens : (m : BERMode) (n : ℕ) (b : List ℕ) → S m n b → StartsElement b
   -- of two encodings neither begins the other
-  pub alone : StandAlone S
+  pub alone : NoneBeginsAnother S
 
 -- the same of the parts of a tuple, which may be empty
 pub record ArePartsCoding {A : Type 0} (E : A → A → Type 0) (C : BERMode → ℕ → A → List ℕ → Type 0) (S : BERMode → ℕ → List ℕ → Type 0) : Type 0 where
   pub meaning : IsMeaning E C S
-  pub alone : StandAlone S
+  pub alone : NoneBeginsAnother S
 
 -- the same of contents, which end where nothing is left or the end of contents stands
 pub record IsContentsCoding {A : Type 0} (E : A → A → Type 0) (C : BERMode → ℕ → A → List ℕ → Type 0) (S : BERMode → ℕ → List ℕ → Type 0) : Type 0 where

@@ -110,12 +110,12 @@ abbrev pub own_form : BERMode → RawValue → List ℕ
 own_form m v = raw_form v.tag m v
 
 -- a raw element as a part of a SET
-abbrev pub part_of : BERMode → RawValue → SetPart
-part_of m v = record { tag = v.tag; bytes = own_form m v }
+abbrev pub raw_part : BERMode → RawValue → SetPart
+raw_part m v = record { tag = v.tag; bytes = own_form m v }
 
 -- raw elements in the order of the parts of a SET
 abbrev pub in_part_order : BERMode → List RawValue → List RawValue
-in_part_order m vs = in_order (λ v w. part_cmp (part_of m v) (part_of m w)) vs
+in_part_order m vs = in_order (λ v w. part_cmp (raw_part m v) (raw_part m w)) vs
 
 -- the form of each is a raw element within n levels
 abbrev pub AreRaw : ℕ → BERMode → List RawValue → Type 0

@@ -10,7 +10,7 @@ use Rattle.yasna_base.specs.Digits.{IsBytes}
 use Rattle.yasna_base.specs.Length.{SpellsLength}
 use Rattle.yasna_base.proofs.Lists.{fronts_same}
 use Rattle.yasna_base.proofs.Length.{small, large, length_front, not_empty, short_spells, long_spells}
-use Rattle.yasna_bytes.specs.Length.{Measures, TakesSpelling, Spells}
+use Rattle.yasna_bytes.specs.Length.{Measures, TakesSpelling, SpellsDigits}
 use Rattle.yasna_base.proofs.Digits.{bytes_front}
 
 -- no length stands where nothing is left
@@ -34,7 +34,7 @@ spelling_takes Cer ds k h e = h
 
 -- behind a first byte above 128 no length stands unless as many digits spell it
 pub not_counted : (m : BERMode) (x : ℕ) (s y : List ℕ) → s ≡ x ∷ y → 128 < x →
-    ((ds r : List ℕ) (k : ℕ) → length ds ≡ x - 128 → y ≡ ds ++ r → Spells m ds k → x < 255 → ⊥) → (k : Option ℕ) (r : List ℕ) → Measures m s k r → ⊥
+    ((ds r : List ℕ) (k : ℕ) → length ds ≡ x - 128 → y ≡ ds ++ r → SpellsDigits m ds k → x < 255 → ⊥) → (k : Option ℕ) (r : List ℕ) → Measures m s k r → ⊥
 not_counted m x s y e h f None r w = let g = sym e ∙ w in let i : x ≡ 128 = cc in omega arith
 not_counted m x s y e h f (Some k) r w = elim (length_front m x y k w.0 r w.1 (sym e ∙ w.2)) [
   | small i j ↦ omega arith
@@ -47,22 +47,22 @@ too_few m x s y e h l = not_counted m x s y e h (λ ds r k i j z b. omega (arith
 
 -- nor where those that are counted spell none
 pub not_spelled : (m : BERMode) (x : ℕ) (s y d a : List ℕ) → s ≡ x ∷ y → 128 < x → length d ≡ x - 128 → y ≡ d ++ a →
-    ((k : ℕ) → Spells m d k → ⊥) → (k : Option ℕ) (r : List ℕ) → Measures m s k r → ⊥
+    ((k : ℕ) → SpellsDigits m d k → ⊥) → (k : Option ℕ) (r : List ℕ) → Measures m s k r → ⊥
 not_spelled m x s y d a e h l j f = not_counted m x s y e h (λ ds r k i n z b.
     let c = (fronts_same ds d r a (i ∙ sym l) (sym n ∙ j)).0 in
-    f k (subst (λ q. Spells m q k) c z))
+    f k (subst (λ q. SpellsDigits m q k) c z))
 
 -- digits that pass 2^64 - 1 spell none
-pub too_wide : (m : BERMode) (d : List ℕ) → 2 ^ 64 ≤ number_from_digits 256 d → (k : ℕ) → Spells m d k → ⊥
+pub too_wide : (m : BERMode) (d : List ℕ) → 2 ^ 64 ≤ number_from_digits 256 d → (k : ℕ) → SpellsDigits m d k → ⊥
 too_wide m d w k x = omega (arith, x.in_range, x.number)
 
 -- nor do those that the mode doesn't take
-pub not_so : (m : BERMode) (d : List ℕ) (z : ℕ) → z ≡ number_from_digits 256 d → (TakesSpelling m d z → ⊥) → (k : ℕ) → Spells m d k → ⊥
+pub not_so : (m : BERMode) (d : List ℕ) (z : ℕ) → z ≡ number_from_digits 256 d → (TakesSpelling m d z → ⊥) → (k : ℕ) → SpellsDigits m d k → ⊥
 not_so m d z w u k x = u (subst (λ q. TakesSpelling m d q) (sym x.number ∙ sym w) x.taken)
 
 -- a count and digits
 pub counted_measured : (m : BERMode) (x : ℕ) (s y d r : List ℕ) (k : ℕ) → IsBytes s → s ≡ x ∷ y → 128 < x → x < 255 → length d ≡ x - 128 → y ≡ d ++ r →
-    Spells m d k → (l : List ℕ) × SpellsLength m k l × (s ≡ l ++ r)
+    SpellsDigits m d k → (l : List ℕ) × SpellsLength m k l × (s ≡ l ++ r)
 counted_measured m x s y d r k b e h g n i z =
     let c : x ≡ 128 + length d = omega arith in
     let j : s ≡ ((128 + length d) ∷ d) ++ r = e ∙ ap (λ q. q ∷ y) c ∙ ap (λ q. (128 + length d) ∷ q) i in
@@ -85,7 +85,7 @@ none_left m x y h l k r w = too_few m x (x ∷ y) y refl h l (Some k) r w
 
 -- what the digits that are counted come to
 pub digits_measured : (m : BERMode) (x : ℕ) (y d a : List ℕ) (o : Option ℕ) → IsBytes (x ∷ y) → 128 < x → x < 255 → length d ≡ x - 128 → y ≡ d ++ a →
-    MatchOption o ((k : ℕ) → Spells m d k → ⊥) (λ k. Spells m d k) →
+    MatchOption o ((k : ℕ) → SpellsDigits m d k → ⊥) (λ k. SpellsDigits m d k) →
     MatchOption o ((k : ℕ) (r : List ℕ) → Measures m (x ∷ y) (Some k) r → ⊥)
     (λ k. (x - 128 ≤ length y) × Measures m (x ∷ y) (Some k) (drop (x - 128) y))
 digits_measured m x y d a None b h g l j f = λ k r w. not_spelled m x (x ∷ y) y d a refl h l j f (Some k) r w

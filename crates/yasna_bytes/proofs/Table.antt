@@ -237,19 +237,19 @@ drop_front s x y k e f =
 -- the innermost of d + 1 elements ends by f, those around it by fs, and r follows it within the outermost, which ends by e;
 -- k levels are left in the innermost, and the table says how many bytes follow each around it, by how many are left in what
 -- that one contains
-abbrev pub Encloses : ContentsEnd → List ℕ → ℕ → ℕ → List ℕ → ContentsEnd → List ContentsEnd → Type 0
-Encloses e table k zero r f fs = (f ≡ e) × (fs ≡ []) × (r ≡ [])
-Encloses e table k (suc d) r f fs =
+abbrev pub EnclosesContents : ContentsEnd → List ℕ → ℕ → ℕ → List ℕ → ContentsEnd → List ContentsEnd → Type 0
+EnclosesContents e table k zero r f fs = (f ≡ e) × (fs ≡ []) × (r ≡ [])
+EnclosesContents e table k (suc d) r f fs =
     AreAlike e f × ((g : ContentsEnd) × (gs : List ContentsEnd) × (q : List ℕ) × (fs ≡ g ∷ gs) × (r ≡ following f ++ q) × (length q ≡ get_or table k 0)
-    × Encloses e table (suc k) d q g gs)
+    × EnclosesContents e table (suc k) d q g gs)
 
-encloses_alike : (e : ContentsEnd) (table : List ℕ) (k d : ℕ) (r : List ℕ) (f : ContentsEnd) (fs : List ContentsEnd) → Encloses e table k d r f fs →
+encloses_alike : (e : ContentsEnd) (table : List ℕ) (k d : ℕ) (r : List ℕ) (f : ContentsEnd) (fs : List ContentsEnd) → EnclosesContents e table k d r f fs →
     AreAlike e f
 encloses_alike e table k zero r f fs x = subst (λ z. AreAlike e z) (sym x.0) (alike e)
 encloses_alike e table k (suc d) r f fs x = x.0
 
 encloses_other : (e : ContentsEnd) (table : List ℕ) (i k d b : ℕ) (r : List ℕ) (f : ContentsEnd) (fs : List ContentsEnd) → i < k →
-    Encloses e table k d r f fs → Encloses e (set table i b) k d r f fs
+    EnclosesContents e table k d r f fs → EnclosesContents e (set table i b) k d r f fs
 encloses_other e table i k zero b r f fs l x = x
 encloses_other e table i k (suc d) b r f fs l (a, (g, gs, q, j, h, n, x)) =
     let o = get_or-set_other table i k b 0 (λ z. omega (arith, z)) in
@@ -265,7 +265,7 @@ pub record Walking (m : BERMode) (e : ContentsEnd) (n : ℕ) (s : List ℕ) (tab
   pub around : List ContentsEnd
   pub joined : s ≡ before ++ (r ++ after)
   pub counts : length after ≡ behind
-  pub encloses : Encloses e table k depth after inner around
+  pub encloses : EnclosesContents e table k depth after inner around
   pub same : Same m (e ∷ []) n s (inner ∷ around) k r
 
 pub walking_start : (m : BERMode) (e : ContentsEnd) (n : ℕ) (s : List ℕ) (table : List ℕ) → Walking m e n s table 0 n s
@@ -333,7 +333,7 @@ module _ {m : BERMode} {e : ContentsEnd} {n : ℕ} {s : List ℕ} {table : List 
     pub left_walked : (a : List ℕ) → k ≡ n → EndsBefore e h a → ClosesBefore n m e s a
     left_walked a z x =
         let i : w.depth ≡ 0 = omega (arith, w.deep, z) in
-        let y = subst (λ d. Encloses e table k d w.after w.inner w.around) i w.encloses in
+        let y = subst (λ d. EnclosesContents e table k d w.after w.inner w.around) i w.encloses in
         let b = subst (λ f. Same m (e ∷ []) n s (f ∷ w.around) k r) y.0 w.same in
         let c = subst (λ fs. Same m (e ∷ []) n s (e ∷ fs) k r) y.1 b in
         walked m e n (suc k) s a (same_then m (e ∷ []) (e ∷ []) [] n k (suc k) s r a c
@@ -344,7 +344,7 @@ module _ {m : BERMode} {e : ContentsEnd} {n : ℕ} {s : List ℕ} {table : List 
         (get_or table k 0 ≤ length u) × Walking m e n s table (get_or table k 0) (k + 1) q
     left_keeps a u q l x f g =
         let p = ends_front e r a (ends_in a x) in
-        let y = subst (λ d. Encloses e table k d w.after w.inner w.around) (less_is w.depth (omega (arith, w.deep, l))) w.encloses in
+        let y = subst (λ d. EnclosesContents e table k d w.after w.inner w.around) (less_is w.depth (omega (arith, w.deep, l))) w.encloses in
         let o = y.1.0 in
         let gs = y.1.1 in
         let t = y.1.2 in
@@ -404,7 +404,7 @@ module _ {m : BERMode} {e : ContentsEnd} {n : ℕ} {s : List ℕ} {table : List 
         let below : k - 1 < length table = omega (arith, y.opened.level, w.deep, l) in
         let up : k ≡ suc (k - 1) = omega (arith, y.opened.level) in
         let outside = encloses_other e table (k - 1) k w.depth behind w.after w.inner w.around (omega (arith, y.opened.level)) w.encloses in
-        let inside : Encloses e v (k - 1) (suc w.depth) (following f ++ w.after) f (w.inner ∷ w.around) = (
+        let inside : EnclosesContents e v (k - 1) (suc w.depth) (following f ++ w.after) f (w.inner ∷ w.around) = (
           entered_alike m k e r c f u y,
           (
             w.inner,
@@ -413,7 +413,7 @@ module _ {m : BERMode} {e : ContentsEnd} {n : ℕ} {s : List ℕ} {table : List 
             refl,
             refl,
             w.counts ∙ sym (get_or-set_same table (k - 1) behind 0 below),
-            subst (λ i. Encloses e v i w.depth w.after w.inner w.around) up outside,
+            subst (λ i. EnclosesContents e v i w.depth w.after w.inner w.around) up outside,
           ),
         ) in
         record {

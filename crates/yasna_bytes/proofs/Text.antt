@@ -26,7 +26,7 @@ use Rattle.yasna_bytes.specs.declared.bytes.text.Class.TheVariants.{Utf8, Numeri
 use Rattle.yasna_bytes.specs.Contents.{WantsMemory}
 use Rattle.yasna_bytes.specs.Front.{Takes, Stands}
 use Rattle.yasna_bytes.specs.Refusal.{IsPlain, Refuses}
-use Rattle.yasna_bytes.specs.Text.{Judges, Spells, MayHold}
+use Rattle.yasna_bytes.specs.Text.{Judges, SaysText, MayHold}
 use Rattle.yasna_bytes.proofs.Contents.{element_wants}
 use Rattle.yasna_bytes.proofs.Refusal.{plain_not_deep, plain_not_memory, begins_not_elsewhere, refuses_less}
 
@@ -86,7 +86,7 @@ ascii_spells : (In : ℕ → Type 0) → ((c : ℕ) → In c → c < 128) → (m
 ascii_spells In below m o h = subst (λ z. IsUtf8In In m z o) (sym (class_utf8 In below o h).1) (class_means In below m o h)
 
 -- octets of a class that are UTF-8 spell their characters
-pub class_spells : (k : Class) (m : BERMode) (o : List ℕ) → (k ≡ Bmp → ⊥) → MayHold k o → IsUtf8 o → Spells k m (chars o) o
+pub class_spells : (k : Class) (m : BERMode) (o : List ℕ) → (k ≡ Bmp → ⊥) → MayHold k o → IsUtf8 o → SaysText k m (chars o) o
 class_spells Utf8 m o h i u = utf8_means m o u
 class_spells Numeric m o h i u = ascii_spells InNumeric numeric_below m o i
 class_spells Printable m o h i u = ascii_spells InPrintable printable_below m o i
@@ -95,7 +95,7 @@ class_spells Visible m o h i u = ascii_spells InVisible visible_below m o i
 class_spells Bmp m o h i u = absurd (h refl)
 
 -- octets spell a text of a class only where the class may hold them
-pub class_holds : (k : Class) (m : BERMode) (text o : List ℕ) → Spells k m text o → MayHold k o
+pub class_holds : (k : Class) (m : BERMode) (text o : List ℕ) → SaysText k m text o → MayHold k o
 class_holds Utf8 m text o x = tt
 class_holds Numeric m text o x = (class_only InNumeric numeric_below m text o x).1
 class_holds Printable m text o x = (class_only InPrintable printable_below m text o x).1
@@ -104,7 +104,7 @@ class_holds Visible m text o x = (class_only InVisible visible_below m text o x)
 class_holds Bmp m text o x = x.even
 
 -- and are UTF-8
-pub class_in_utf8 : (k : Class) (m : BERMode) (text o : List ℕ) → (k ≡ Bmp → ⊥) → Spells k m text o → IsUtf8 o
+pub class_in_utf8 : (k : Class) (m : BERMode) (text o : List ℕ) → (k ≡ Bmp → ⊥) → SaysText k m text o → IsUtf8 o
 class_in_utf8 Utf8 m text o h x = (utf8_only InUtf8 m text o x).0
 class_in_utf8 Numeric m text o h x = (utf8_only InNumeric m text o x).0
 class_in_utf8 Printable m text o h x = (utf8_only InPrintable m text o x).0
@@ -118,7 +118,7 @@ made_of s text e = chars_from_encodes text (string_bytes s) (IsUtf8-string_bytes
 
 -- what units of UTF-16 spell
 pub bmp_judged : (k : Class) (m : BERMode) (o : List ℕ) (r : Result (String Global) ASN1ErrorKind) → k ≡ Bmp → MayHold k o →
-    MatchResult r (λ text. characters text ≡ utf16_lossy_chars (units o)) (λ e. (e ≡ OutOfMemory) × (o ≡ [] → ⊥)) → Judges (Spells k m) characters o r
+    MatchResult r (λ text. characters text ≡ utf16_lossy_chars (units o)) (λ e. (e ≡ OutOfMemory) × (o ≡ [] → ⊥)) → Judges (SaysText k m) characters o r
 bmp_judged Utf8 m o r e h x = absurd (cc)
 bmp_judged Numeric m o r e h x = absurd (cc)
 bmp_judged Printable m o r e h x = absurd (cc)

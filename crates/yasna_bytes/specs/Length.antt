@@ -20,7 +20,7 @@ TakesSpelling Der ds k = (128 ≤ k) × (0 < get_or ds 0 0)
 TakesSpelling Cer ds k = (128 ≤ k) × (0 < get_or ds 0 0)
 
 -- digits behind a count spell the length k as the mode takes it
-pub record Spells (m : BERMode) (digits : List ℕ) (k : ℕ) : Type 0 where
+pub record SpellsDigits (m : BERMode) (digits : List ℕ) (k : ℕ) : Type 0 where
   pub number : number_from_digits 256 digits ≡ k
   pub in_range : k < 2 ^ 64
   pub taken : TakesSpelling m digits k

@@ -18,7 +18,7 @@ AppendsNumbers s old new (Ok _) = (ks : List ℕ) × AreNumbers ks s × (new ≡
 AppendsNumbers s old new (Err k) = (k ≡ OutOfMemory) ⊎ (IsPlain k × ((ks : List ℕ) → AreNumbers ks s → ⊥))
 
 -- the first two components, which make the number, were appended to old
-pub record Appended (number : ℕ) (old new : List ℕ) : Type 0 where
+pub record AppendedFirstTwo (number : ℕ) (old new : List ℕ) : Type 0 where
   pub first : ℕ
   pub second : ℕ
   pub two : AreFirstTwo first second
@@ -27,5 +27,5 @@ pub record Appended (number : ℕ) (old new : List ℕ) : Type 0 where
 
 -- the same, or memory is wanting
 abbrev pub AppendsFirst : ℕ → List ℕ → List ℕ → Result (Unit {0}) ASN1ErrorKind → Type 0
-AppendsFirst number old new (Ok _) = Appended number old new
+AppendsFirst number old new (Ok _) = AppendedFirstTwo number old new
 AppendsFirst number old new (Err k) = k ≡ OutOfMemory

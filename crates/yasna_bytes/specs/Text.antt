@@ -25,13 +25,13 @@ abbrev pub SaidAt : {V A : Type 0} → (BERMode → A → List ℕ → Type 0) �
 SaidAt K view n m t s r = SeenAt (IsStringOf K n m t) view (IsDeepOctets n m t s) (WantsMemory n t s) t s r
 
 -- what the octets of a text of each class say
-abbrev pub Spells : Class → BERMode → List ℕ → List ℕ → Type 0
-Spells Utf8 m text o = IsUtf8In InUtf8 m text o
-Spells Numeric m text o = IsUtf8In InNumeric m text o
-Spells Printable m text o = IsUtf8In InPrintable m text o
-Spells Ia5 m text o = IsUtf8In InIa5 m text o
-Spells Visible m text o = IsUtf8In InVisible m text o
-Spells Bmp m text o = IsBmp m text o
+abbrev pub SaysText : Class → BERMode → List ℕ → List ℕ → Type 0
+SaysText Utf8 m text o = IsUtf8In InUtf8 m text o
+SaysText Numeric m text o = IsUtf8In InNumeric m text o
+SaysText Printable m text o = IsUtf8In InPrintable m text o
+SaysText Ia5 m text o = IsUtf8In InIa5 m text o
+SaysText Visible m text o = IsUtf8In InVisible m text o
+SaysText Bmp m text o = IsBmp m text o
 
 -- what the class asks of each octet, or of their number
 abbrev pub MayHold : Class → List ℕ → Type 0

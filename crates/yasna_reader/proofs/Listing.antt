@@ -22,7 +22,7 @@ use Rattle.yasna_reader.specs.Decodes.{Tells, KeptTells, Took, Decodes, TookCont
 use Rattle.yasna_reader.specs.Parse.{unless_kept}
 use Rattle.yasna_bytes.specs.Refusal.{IsPlain}
 use Rattle.yasna_reader.specs.Sequence.{place_in, ReadsParts}
-use Rattle.yasna_reader.specs.SequenceOf.{Idles, Turn, Turns, Ends, Lists, Collects, items_of}
+use Rattle.yasna_reader.specs.SequenceOf.{Idles, Turn, Turns, EndsList, Lists, Collects, items_of}
 use Rattle.yasna_reader.specs.State.{Reading, IsFresh}
 use Rattle.yasna_bytes.proofs.Refusal.{plain_not_memory}
 use Rattle.yasna_reader.proofs.Sequences.{place_behind, element}
@@ -154,7 +154,7 @@ module _ {F A : Type 0} {E : A → A → Type 0} {B : BERMode → ℕ → A → 
         (k.1.joined ∙ ap concat w.0 ∙ sym x.pieces.joined, w.1)
 
     listed_by : (s : Reading) → IsFresh s → (vs : List A) (h : F) (place : Reading) → Ran vs s place → (o : Outcome A) (h' : F) (s' : Reading) →
-        Turn C h place o h' s' → (xs : Result (List A) ASN1Error) → Ends vs o xs →
+        Turn C h place o h' s' → (xs : Result (List A) ASN1Error) → EndsList vs o xs →
         DecodesContents a (ElementsOf B) (AnyElements S) s (unless_kept s'.kept xs) s'
     listed_by s fresh vs h place x (Gave v) h' s' t xs ends = absurd ends
     listed_by s fresh vs h place x (Quiet e) h' s' t xs ends =

@@ -54,10 +54,10 @@ TakesTurns {F} {A} g s =
     TakesTurn g h (record s { left = rest })
 
 -- what is answered where the turn behind these values came to that
-abbrev pub Ends : {A : Type 0} → List A → Outcome A → Result (List A) ASN1Error → Type 0
-Ends vs (Gave v) r = ⊥
-Ends vs (Quiet e) r = r ≡ Ok vs
-Ends vs (Failed e) r = r ≡ Err e
+abbrev pub EndsList : {A : Type 0} → List A → Outcome A → Result (List A) ASN1Error → Type 0
+EndsList vs (Gave v) r = ⊥
+EndsList vs (Quiet e) r = r ≡ Ok vs
+EndsList vs (Failed e) r = r ≡ Err e
 
 -- turns from s on, up to one that gives no value: a quiet Err ends the list, a failure is answered
 pub record Lists {G A : Type 0} (T : G → Reading → Outcome A → G → Reading → Type 0) (g : G) (s : Reading) (r : Result (List A) ASN1Error)
@@ -69,10 +69,10 @@ pub record Lists {G A : Type 0} (T : G → Reading → Outcome A → G → Readi
   pub last : Outcome A
   pub after : G
   pub turn : T reached place last after s'
-  pub ends : Ends values last r
+  pub ends : EndsList values last r
 
 -- there was no memory for the last of these values
-pub record LacksMemory {G A : Type 0} (T : G → Reading → Outcome A → G → Reading → Type 0) (g : G) (s : Reading) (r : Result (List A) ASN1Error)
+pub record LacksRoom {G A : Type 0} (T : G → Reading → Outcome A → G → Reading → Type 0) (g : G) (s : Reading) (r : Result (List A) ASN1Error)
     (s' : Reading) : Type 0 where
   pub values : List A
   pub last : A
@@ -91,7 +91,7 @@ items_of (Err e) = Err e
 
 -- contents are read into a vector by such turns
 abbrev pub CollectsBy : {G A : Type 0} → (G → Reading → Outcome A → G → Reading → Type 0) → G → Reading → Result (Vec A Global) ASN1Error → Reading → Type 0
-CollectsBy T g s r s' = Lists T g s (items_of r) s' ⊎ LacksMemory T g s (items_of r) s'
+CollectsBy T g s r s' = Lists T g s (items_of r) s' ⊎ LacksRoom T g s (items_of r) s'
 
 -- the same answer where nothing is gathered
 abbrev pub without_items : {A : Type 0} → Result (List A) ASN1Error → Result (Unit {0}) ASN1Error

@@ -141,7 +141,7 @@ abbrev pub NoneIsAmong : List Tag → List SetElement → Type 0
 NoneIsAmong ts l = AllWithin (λ x. IsAmong ts x → ⊥) l 0 (length l)
 
 -- the first such element is taken out of the list, and is all that the reading has left
-pub record Takes (ts : List Tag) (l : List SetElement) (s : Reading) (l' : List SetElement) (s' : Reading) : Type 0 where
+pub record TakesAmong (ts : List Tag) (l : List SetElement) (s : Reading) (l' : List SetElement) (s' : Reading) : Type 0 where
   pub place : ℕ
   pub element : SetElement
   pub first : IsFirstAmong ts l place
@@ -152,7 +152,7 @@ pub record Takes (ts : List Tag) (l : List SetElement) (s : Reading) (l' : List 
 -- an element is chosen by its tag; a failure that is kept comes first, and that there is none isn't kept
 abbrev pub ChoosesBy : Option ASN1Error → List Tag → List SetElement → Reading → Result (Unit {0}) ASN1Error → List SetElement → Reading → Type 0
 ChoosesBy (Some e) ts l s r l' s' = (r ≡ Err e) × (l' ≡ l) × (s' ≡ untagged s)
-ChoosesBy None ts l s (Ok u) l' s' = Takes ts l s l' s'
+ChoosesBy None ts l s (Ok u) l' s' = TakesAmong ts l s l' s'
 ChoosesBy None ts l s (Err e) l' s' = NoneIsAmong ts l × (e ≡ error_of Invalid) × (l' ≡ l) × (s' ≡ untagged s)
 
 -- what choosing by tags does, in a record of its own, which goals name and don't unfold

@@ -26,13 +26,13 @@ pub record Bounded (F : Type 0) : Type 0 where
   pub bound : Option (List ℕ)
 
 -- what is seen of a bound
-abbrev pub bytes_of : Option (Bor (List ℕ)) → Option (List ℕ)
-bytes_of None = None
-bytes_of (Some b) = Some b.now
+abbrev pub bound_bytes : Option (Bor (List ℕ)) → Option (List ℕ)
+bound_bytes None = None
+bound_bytes (Some b) = Some b.now
 
 -- a callback, and the bound for its next element
 abbrev pub bounded : {F : Type 0} → F → Option (Bor (List ℕ)) → Bounded F
-bounded f b = record { callback = f; bound = bytes_of b }
+bounded f b = record { callback = f; bound = bound_bytes b }
 
 -- where elements are to ascend, the first one is behind no bytes
 abbrev pub bound_in : Order → BERMode → Option (List ℕ)

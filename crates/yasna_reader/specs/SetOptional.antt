@@ -7,7 +7,7 @@ use Rattle.yasna_base.specs.declared.tag.Tag.{Tag}
 use Rattle.yasna_reader.specs.Callback.{Hands, answer_of}
 use Rattle.yasna_reader.specs.Optional.{UnlessDefault}
 use Rattle.yasna_reader.specs.Parse.{ended}
-use Rattle.yasna_reader.specs.Set.{NoneIsAmong, SetReading, Takes}
+use Rattle.yasna_reader.specs.Set.{NoneIsAmong, SetReading, TakesAmong}
 use Rattle.yasna_reader.specs.State.{Reading, failing, untagged}
 use Rattle.yasna_reader.specs.declared.callback.Outcome.{Outcome}
 use Rattle.yasna_reader.specs.declared.set.SetElement.{SetElement}
@@ -15,7 +15,7 @@ use Rattle.yasna_reader.specs.declared.set.SetElement.{SetElement}
 -- f may be called on the element that is taken, where one has one of the tags and no failure is kept
 abbrev pub TakesChosen : {F R : Type 0} → Once F (MutBor Reading × Unit {0}) R → F → List Tag → SetReading → Type 0
 TakesChosen g f ts c =
-    c.reader.kept ≡ None → (l : List SetElement) (z : Reading) → Takes ts c.list.items c.reader l z → FnOnceTakesAtMut g f z
+    c.reader.kept ≡ None → (l : List SetElement) (z : Reading) → TakesAmong ts c.list.items c.reader l z → FnOnceTakesAtMut g f z
 
 -- an Err is kept
 abbrev pub keeping : {A : Type 0} → Result A ASN1Error → Reading → Reading
@@ -40,7 +40,7 @@ some (Err e) = Err e
 pub record ReadsTaken {A : Type 0} (P : Reading → Result A ASN1Error → Reading → Type 0) (ts : List Tag) (c : SetReading)
     (r : Result (Option A) ASN1Error) (c' : SetReading) : Type 0 where
   pub alone : Reading
-  pub takes : Takes ts c.list.items c.reader c'.list.items alone
+  pub takes : TakesAmong ts c.list.items c.reader c'.list.items alone
   pub own : Result A ASN1Error
   pub reads : ReadsAlone P alone own c'.reader
   pub answer : r ≡ some own
@@ -53,15 +53,15 @@ pub record ReadsNone {A : Type 0} (ts : List Tag) (c : SetReading) (r : Result (
   pub state : c'.reader ≡ untagged c.reader
 
 -- a failure that is kept comes first, and then nothing is taken
-abbrev pub ReadsUnlessKept : {A : Type 0} → Option ASN1Error → (Reading → Result A ASN1Error → Reading → Type 0) → List Tag → SetReading →
+abbrev pub ReadsChosenBy : {A : Type 0} → Option ASN1Error → (Reading → Result A ASN1Error → Reading → Type 0) → List Tag → SetReading →
     Result (Option A) ASN1Error → SetReading → Type 0
-ReadsUnlessKept (Some e) P ts c r c' = (r ≡ Err e) × (c'.list.items ≡ c.list.items) × (c'.reader ≡ untagged c.reader)
-ReadsUnlessKept None P ts c r c' = ReadsTaken P ts c r c' ⊎ ReadsNone ts c r c'
+ReadsChosenBy (Some e) P ts c r c' = (r ≡ Err e) × (c'.list.items ≡ c.list.items) × (c'.reader ≡ untagged c.reader)
+ReadsChosenBy None P ts c r c' = ReadsTaken P ts c r c' ⊎ ReadsNone ts c r c'
 
 -- a read of an element that has one of the tags and may be left out
 pub record ReadsChosen {A : Type 0} (P : Reading → Result A ASN1Error → Reading → Type 0) (ts : List Tag) (c : SetReading)
     (r : Result (Option A) ASN1Error) (c' : SetReading) : Type 0 where
-  pub reads : ReadsUnlessKept c.reader.kept P ts c r c'
+  pub reads : ReadsChosenBy c.reader.kept P ts c r c'
 
 -- the default d for none; a value, unless the mode refuses it: an element was taken then, so that is kept
 abbrev pub DefaultsChosen : {A : Type 0} → (A → A → Bool) → A → Result (Option A) ASN1Error → Reading → Result A ASN1Error → Reading → Type 0

@@ -1,6 +1,6 @@
 //! Reads of SET OF, whose elements ascend in DER and CER (X.690, 8.12 and 11.6).
 ghost use Rattle.std.specs.Prelude.{◌≡◌};
-ghost use Rattle.yasna_reader.specs.SetOf.{goes_before, bytes_of, bound_in};
+ghost use Rattle.yasna_reader.specs.SetOf.{goes_before, bound_bytes, bound_in};
 
 use crate::callback::Outcome;
 use crate::state::{BERReader, ReaderState};
@@ -22,7 +22,7 @@ pub enum Order {
 /// What the first element may not be less than, where elements are to ascend.
 #[inline(always)]
 pub fn first_bound<'a>(order: Order, mode: BERMode) -> Option<&'a [u8]>
-    ensures { bytes_of result ≡ bound_in order mode }
+    ensures { bound_bytes result ≡ bound_in order mode }
 {
     match order {
         Order::Any => None,
@@ -46,7 +46,7 @@ impl<'a> ReaderState<'a> {
     ghost use Rattle.std.specs.Fn.{CalledAtMut};
     ghost use Rattle.yasna_reader.specs.Sequence.{TakesContents, ReadsParts};
     ghost use Rattle.yasna_reader.specs.SequenceOf.{TakesTurns};
-    ghost use Rattle.yasna_reader.specs.SetOf.{CollectsInOrder, VisitsInOrder, Ordered, bytes_of};
+    ghost use Rattle.yasna_reader.specs.SetOf.{CollectsInOrder, VisitsInOrder, Ordered, bound_bytes};
     ghost use Rattle.yasna_bytes.specs.Walk.{IsRest};
     ghost use Rattle.yasna_reader.specs.declared.set_of.Order.TheVariants.{Ascending};
 
@@ -86,7 +86,7 @@ impl<'a> ReaderState<'a> {
         bound: &mut Option<&'a [u8]>,
     ) -> Outcome<T>
         requires { IsRest before.now self.old.left }
-        ensures { Ordered (bytes_of bound.old) before.now outcome self.old result (bytes_of bound.new) self.new }
+        ensures { Ordered (bound_bytes bound.old) before.now outcome self.old result (bound_bytes bound.new) self.new }
     {
         match outcome {
             Outcome::Gave(value) => match *bound {

@@ -221,7 +221,7 @@ pub entries_length : (es : List Entry) (c : List ℕ) (heads waits : ℕ) → Ar
 entries_length es c heads waits a = omega (arith, a.counted, joined_length es c)
 
 -- what becomes of entries where an element takes its header, and of the bytes
-pub record Takes (k : Mark) (start : ℕ) (es : List Entry) (n heads waits : ℕ) (c b : List ℕ) : Type 0 where
+pub record TakesEntry (k : Mark) (start : ℕ) (es : List Entry) (n heads waits : ℕ) (c b : List ℕ) : Type 0 where
   pub entries : AreEntries es n heads waits
   pub joins : joined es c ≡ with_entry (record { place = start; mark = k }) b
 
@@ -230,7 +230,7 @@ pub ended :
     (front back : List Entry) (w : Waiting) (k : Mark) (place heads more waits : ℕ) (c : List ℕ)
     → AreEntries (front ++ ((record { place = place; mark = Waits w }) ∷ back)) (length c) heads (waits + 1) → w.depth ≡ waits + 1
     → mark_waits k ≡ 0 → more ≡ heads + length (mark_bytes k) → more < 2 ^ 63
-    → Takes k w.start (front ++ ((record { place = place; mark = k }) ∷ back)) (length c) more waits c
+    → TakesEntry k w.start (front ++ ((record { place = place; mark = k }) ∷ back)) (length c) more waits c
     (joined (front ++ ((record { place = place; mark = Waits w }) ∷ back)) c)
 ended front back w k place heads more waits c a d z m few =
     let x : Entry = record { place = place; mark = Waits w } in
@@ -272,7 +272,7 @@ waits_some es b place n heads waits a i =
 pub takes :
     (es : List Entry) (b : Beginning) (k : Mark) (place heads more waits : ℕ) (c : List ℕ) → AreEntries es (length c) heads waits
     → IsInnermost es waits b place → mark_waits k ≡ 0 → more ≡ heads + length (mark_bytes k) → more < 2 ^ 63
-    → Takes k b.start (set es b.entry (record { place = place; mark = k })) (length c) more (waits - 1) c (joined es c)
+    → TakesEntry k b.start (set es b.entry (record { place = place; mark = k })) (length c) more (waits - 1) c (joined es c)
 takes es b k place heads more waits c a i z m few =
     let w = i.waiting in
     let x : Entry = record { place = place; mark = Waits w } in
@@ -286,9 +286,9 @@ takes es b k place heads more waits c a i z m few =
     (subst (λ (zs : List Entry). AreEntries zs (length c) heads waits) split a) in
     let new = ended front back w k place heads more (waits - 1) c old (i.inner ∙ some) z m few in
     let whole : set es b.entry y ≡ front ++ (y ∷ back) = ap (λ z. set z b.entry y) split ∙ set_at front x back y b.entry there in
-    let known = subst (λ (zs : List Entry). Takes k w.start (front ++ (y ∷ back)) (length c) more (waits - 1) c (joined zs c)) (sym split) new in
-    subst (λ n. Takes k n (set es b.entry y) (length c) more (waits - 1) c (joined es c)) i.start
-    (subst (λ (zs : List Entry). Takes k w.start zs (length c) more (waits - 1) c (joined es c)) (sym whole) known)
+    let known = subst (λ (zs : List Entry). TakesEntry k w.start (front ++ (y ∷ back)) (length c) more (waits - 1) c (joined zs c)) (sym split) new in
+    subst (λ n. TakesEntry k n (set es b.entry y) (length c) more (waits - 1) c (joined es c)) i.start
+    (subst (λ (zs : List Entry). TakesEntry k w.start zs (length c) more (waits - 1) c (joined es c)) (sym whole) known)
 
 definite_apart : (h : Header) (place : ℕ) (b : List ℕ) → h.length + place ≡ length b →
     with_entry (record { place = place; mark = Known h }) b ≡ take place b ++ definite_element h.tag Constructed (drop place b)

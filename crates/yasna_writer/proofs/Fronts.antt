@@ -8,7 +8,7 @@ use Rattle.std.specs.declared.cmp.Ordering.TheVariants.{Less, Equal, Greater}
 use Rattle.yasna_base.specs.Digits.{IsBytes}
 use Rattle.yasna_base.specs.Order.{octets_cmp}
 use Rattle.yasna_base.proofs.Digits.{all_bytes}
-use Rattle.yasna_writer.specs.Front.{front_number, IsFront}
+use Rattle.yasna_writer.specs.Front.{front_number, IsFirstEight}
 
 byte_at : (n : ℕ) (b : List ℕ) → IsBytes b → get_or b n 0 < 256
 byte_at n [] h = omega arith
@@ -67,7 +67,7 @@ decides (suc n) (x ∷ xs) (y ∷ ys) i j h =
     (first_place x (front_number n xs) y (front_number n ys) (256 ^ n) (front_below n ys j.1) (omega (arith, h, front_cons n x xs, front_cons n y ys)))
 
 -- parts go by their numbers where these differ
-pub by_front : (f g : ℕ) (a b : List ℕ) → IsFront f a → IsFront g b → (f ≡ g → ⊥) → nat_cmp f g ≡ octets_cmp a b
+pub by_front : (f g : ℕ) (a b : List ℕ) → IsFirstEight f a → IsFirstEight g b → (f ≡ g → ⊥) → nat_cmp f g ≡ octets_cmp a b
 by_front f g a b i j n = elim (cases_order f g) [
   | inl e ↦ absurd (n e)
   | inr (inl l) ↦ (less f g l).0 ∙ sym (decides 8 a b (all_bytes a i.in_bytes) (all_bytes b j.in_bytes) (omega (arith, l, i.spells, j.spells))).0

@@ -10,7 +10,7 @@ use Rattle.yasna_base.specs.declared.error.ASN1Error.{ASN1Error}
 use Rattle.yasna_writer.specs.declared.draft.Beginning.{Beginning}
 use Rattle.yasna_writer.specs.View.{Written, handed, holding}
 use Rattle.yasna_writer.specs.Draft.{with_element}
-use Rattle.yasna_writer.specs.State.{KeptAtEnd, BeginsAt, Ends}
+use Rattle.yasna_writer.specs.State.{KeptAtEnd, BeginsAt, EndsElement}
 
 -- the bytes around a seam are put around an element of what stands behind it
 element_at_seam :
@@ -25,7 +25,7 @@ element_at_seam m t u n front c whole l s e =
 pub handed_untagged : (old new : Written) → old.kept ≡ None → new ≡ record old { tag = None } → new ≡ handed old
 handed_untagged old new none same = same ∙ ap (λ (k : Option ASN1Error). record old { tag = None; kept = k }) none
 
-module _ (t : Tag) (old between left new : Written) (b : Beginning) (begun : BeginsAt t (handed old) between b) (ends : Ends b left new) where
+module _ (t : Tag) (old between left new : Written) (b : Beginning) (begun : BeginsAt t (handed old) between b) (ends : EndsElement b left new) where
   -- what is kept, by the count of bytes that stood in front
   pub ended_kept : KeptAtEnd (length old.bytes) left new.kept
   ended_kept = subst (λ (n : ℕ). KeptAtEnd n left new.kept) begun.start ends.kept
@@ -38,7 +38,7 @@ module _ (t : Tag) (old between left new : Written) (b : Beginning) (begun : Beg
       ∙ ap (λ (m : BERMode). holding (record old { mode = m }) (old.bytes ++ canonical_element m t Constructed c)) begun.mode
 
 -- an implicit tag that waits at the end is dropped
-pub ends_untagged : (b : Beginning) (left ended new : Written) → Ends b left ended → new ≡ record ended { tag = None } → Ends b left new
+pub ends_untagged : (b : Beginning) (left ended new : Written) → EndsElement b left ended → new ≡ record ended { tag = None } → EndsElement b left new
 ends_untagged b left ended new e same = record {
   kept = subst (λ (k : Option ASN1Error). KeptAtEnd b.start left k) (sym (ap (λ (w : Written). w.kept) same)) e.kept;
   bytes = λ none. same ∙ ap (λ (w : Written). record w { tag = None }) (e.bytes (sym (ap (λ (w : Written). w.kept) same) ∙ none));

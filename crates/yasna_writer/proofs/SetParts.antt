@@ -8,7 +8,7 @@ use Rattle.yasna_base.specs.declared.tag.Tag.{Tag}
 use Rattle.yasna_base.specs.Order.{in_order}
 use Rattle.yasna_base.specs.Set.{SetPart, HasItsTag, part_cmp, parts_bytes, SetContents}
 use Rattle.yasna_writer.specs.declared.tagged_part.TaggedPart.{TaggedPart}
-use Rattle.yasna_writer.specs.Parts.{bytes_each, part_of, parts_of}
+use Rattle.yasna_writer.specs.Parts.{bytes_each, set_part_of, parts_of}
 use Rattle.yasna_writer.specs.Set.{AreTagged}
 use Rattle.yasna_writer.proofs.Sets.{flat_concat}
 
@@ -21,7 +21,7 @@ pub tagged_more : (done : List (Vec ℕ Global)) (ts : List TaggedPart) (v : Vec
     HasItsTag (record { tag = t; bytes = v.items }) → AreTagged (bytes_each (done ++ (v ∷ []))) (parts_of (ts ++ (record { tag = t; bytes = v } ∷ [])))
 tagged_more done ts v t h i =
     let more : List TaggedPart = record { tag = t; bytes = v } ∷ [] in
-    let e : parts_of (ts ++ more) ≡ parts_of ts ++ parts_of more = map-append part_of ts more in (
+    let e : parts_of (ts ++ more) ≡ parts_of ts ++ parts_of more = map-append set_part_of ts more in (
       subst (λ ps. AllByRecursion HasItsTag ps) (sym e) (all_joined HasItsTag (parts_of ts) (parts_of more) h.0 (i, tt)),
       ap parts_bytes e ∙ map-append (λ (p : SetPart). p.bytes) (parts_of ts) (parts_of more) ∙ ap (λ bs. bs ++ (v.items ∷ [])) h.1 ∙
           sym (map-append (λ (w : Vec ℕ Global). w.items) done (v ∷ [])),
@@ -46,6 +46,6 @@ set_contents ps ts us h e = record {
   tagged = parts_of ts;
   tags = h.0;
   same = h.1;
-  joined = sym (flat_map-map (λ (p : SetPart). p.bytes) part_of us) ∙ ap (λ qs. flat_map (λ (p : SetPart). p.bytes) qs) e ∙
+  joined = sym (flat_map-map (λ (p : SetPart). p.bytes) set_part_of us) ∙ ap (λ qs. flat_map (λ (p : SetPart). p.bytes) qs) e ∙
       flat_concat (λ (p : SetPart). p.bytes) (in_order part_cmp (parts_of ts));
 }

@@ -7,6 +7,6 @@ front_number zero b = 0
 front_number (suc n) b = front_number n b * 256 + get_or b n 0
 
 -- b are bytes, and f is the number that the first eight spell
-pub record IsFront (f : ℕ) (b : List ℕ) : Type 0 where
+pub record IsFirstEight (f : ℕ) (b : List ℕ) : Type 0 where
   pub in_bytes : (i : ℕ) → get_or b i 0 < 256
   pub spells : f ≡ front_number 8 b

@@ -27,12 +27,12 @@ last_part false b = []
 last_part true b = b ∷ []
 
 -- a part with its tag, as the contents of a SET are defined by it
-abbrev pub part_of : TaggedPart → SetPart
-part_of p = record { tag = p.tag; bytes = p.bytes.items }
+abbrev pub set_part_of : TaggedPart → SetPart
+set_part_of p = record { tag = p.tag; bytes = p.bytes.items }
 
 -- the same of each part
 abbrev pub parts_of : List TaggedPart → List SetPart
-parts_of ps = map part_of ps
+parts_of ps = map set_part_of ps
 
 -- the bytes of each part behind the number of its first ones
 abbrev pub ordered_bytes : List OrderedPart → List (List ℕ)

@@ -37,9 +37,9 @@ KeptAtPart old None = old ≡ None
 KeptAtPart old (Some k) = LacksParts old k
 
 -- nobody sees the parts after a failure
-abbrev pub unless_kept : Option ASN1Error → List (List ℕ) → List (List ℕ)
-unless_kept None ps = ps
-unless_kept (Some k) ps = []
+abbrev pub parts_unless_kept : Option ASN1Error → List (List ℕ) → List (List ℕ)
+parts_unless_kept None ps = ps
+parts_unless_kept (Some k) ps = []
 
 -- a writing with nothing in it begins, in this mode and where this was kept
 pub record BeginsPart (mode : BERMode) (kept : Option ASN1Error) (w : Written) : Type 0 where
@@ -49,11 +49,11 @@ pub record BeginsPart (mode : BERMode) (kept : Option ASN1Error) (w : Written) :
 -- that of a part, behind those before
 pub record BeginsNext (mode : BERMode) (begun : Bool) (old : List (Vec ℕ Global)) (last : Written) (new : List (Vec ℕ Global)) (w : Written) : Type 0 where
   pub begins : BeginsPart mode last.kept w
-  pub before : bytes_each new ≡ unless_kept w.kept (bytes_each old ++ last_part begun last.bytes)
+  pub before : bytes_each new ≡ parts_unless_kept w.kept (bytes_each old ++ last_part begun last.bytes)
 
 -- s ends with the part that is behind r at last
 abbrev pub LendsPart : MutBor WrittenParts → MutBor Written → Fml
-LendsPart s r = Lends the_row writer_row s r (λ w. record { parts = unless_kept r.now.kept s.now.parts ++ (w.bytes ∷ []); mode = s.now.mode; kept = w.kept })
+LendsPart s r = Lends the_row writer_row s r (λ w. record { parts = parts_unless_kept r.now.kept s.now.parts ++ (w.bytes ∷ []); mode = s.now.mode; kept = w.kept })
 
 -- these parts of a SET begin with their tags, and are ps
 abbrev pub AreTagged : List (List ℕ) → List SetPart → Type 0

@@ -39,6 +39,6 @@ pub record BeginsAt (tag : Tag) (old new : Written) (b : Beginning) : Type 0 whe
   pub same : new ≡ old
 
 -- an element ends, in the mode that it began with, around what is left from its beginning on, or a failure is kept
-pub record Ends (b : Beginning) (left new : Written) : Type 0 where
+pub record EndsElement (b : Beginning) (left new : Written) : Type 0 where
   pub kept : KeptAtEnd b.start left new.kept
   pub bytes : new.kept ≡ None → new ≡ record { bytes = with_element b.mode b.tag b.start left.bytes; mode = b.mode; tag = None; kept = None }

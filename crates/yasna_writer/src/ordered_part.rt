@@ -1,7 +1,7 @@
 //! The parts of a SET OF, in the order of their bytes (X.690, 11.6).
 ghost use Rattle.std.specs.Prelude.{◌≡◌};
 ghost use Rattle.yasna_base.specs.Order.{octets_cmp};
-ghost use Rattle.yasna_writer.specs.Front.{IsFront};
+ghost use Rattle.yasna_writer.specs.Front.{IsFirstEight};
 
 use std::cmp::Ordering;
 use std::convert::AsSlice;
@@ -16,7 +16,7 @@ pub struct OrderedPart {
     front: u64,
     bytes: Vec<u8>,
 
-    ghost spelled: { IsFront front bytes.items },
+    ghost spelled: { IsFirstEight front bytes.items },
 }
 
 impl AsSlice<u8> for OrderedPart {
@@ -29,7 +29,7 @@ impl AsSlice<u8> for OrderedPart {
 
 // The number that the first eight bytes spell in base 256, with zeros behind fewer.
 fn front_of(bytes: &[u8]) -> u64
-    ensures { IsFront result bytes.now }
+    ensures { IsFirstEight result bytes.now }
 {
     let mut front: u64 = 0;
     let mut place = 0;

@@ -7,7 +7,7 @@ ghost use Rattle.yasna_base.specs.Identifier.{universal, tag_or};
 ghost use Rattle.yasna_base.specs.Canonical.{canonical_element};
 ghost use Rattle.yasna_writer.specs.View.{handed};
 ghost use Rattle.yasna_writer.specs.Construct.{Constructed as Ended};
-ghost use Rattle.yasna_writer.specs.State.{BeginsAt, Ends};
+ghost use Rattle.yasna_writer.specs.State.{BeginsAt, EndsElement};
 ghost use Rattle.yasna_writer.specs.Sequence.{Encloses, LendsNext};
 
 use crate::draft::Beginning;
@@ -78,7 +78,7 @@ impl DERWriterSeq {
     // Ends the element around the parts.
     #[inline(always)]
     fn end(&mut self, beginning: Beginning)
-        ensures { Ends beginning self.old self.new }
+        ensures { EndsElement beginning self.old self.new }
     {
         self.inner.end(beginning);
     }

@@ -12,7 +12,7 @@ ghost use Rattle.yasna_writer.specs.Construct.{Constructed};
 ghost use Rattle.yasna_writer.specs.Sequence.{AnswersKept};
 ghost use Rattle.yasna_writer.specs.Header.{header_bytes, open_bytes};
 ghost use Rattle.yasna_writer.specs.Parts.{no_parts};
-ghost use Rattle.yasna_writer.specs.State.{Appended, TakesTag, BeginsAt, Ends};
+ghost use Rattle.yasna_writer.specs.State.{Appended, TakesTag, BeginsAt, EndsElement};
 ghost use Rattle.yasna_writer.specs.Tagged.{tagging, LeftBehind};
 
 use crate::draft::{Beginning, Draft};
@@ -279,7 +279,7 @@ impl Writer {
     // Ends it over what is left from its beginning on, by the rules that it began with, or keeps why that fails.
     #[inline(always)]
     pub(crate) fn end(&mut self, beginning: Beginning)
-        ensures { Ends beginning self.old self.new }
+        ensures { EndsElement beginning self.old self.new }
     {
         if self.kept.is_none() {
             self.mode = beginning.mode;

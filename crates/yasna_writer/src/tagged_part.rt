@@ -2,7 +2,7 @@
 ghost use Rattle.std.specs.Prelude.{◌≡◌, [], drop, if◌then◌else◌, nat_lt, OnOk, MatchOption};
 ghost use Rattle.yasna_base.specs.Order.{in_order};
 ghost use Rattle.yasna_base.specs.Set.{HasItsTag, part_cmp};
-ghost use Rattle.yasna_writer.specs.Parts.{bytes_each, part_of, parts_of};
+ghost use Rattle.yasna_writer.specs.Parts.{bytes_each, set_part_of, parts_of};
 ghost use Rattle.yasna_writer.specs.Set.{TagsParts};
 
 use std::alloc::{AllocError, Global};
@@ -42,7 +42,7 @@ impl TaggedPart {
 
     // How two parts are ordered.
     fn compare(&self, other: &TaggedPart) -> Ordering
-        ensures { result ≡ part_cmp (part_of self.now) (part_of other.now) }
+        ensures { result ≡ part_cmp (set_part_of self.now) (set_part_of other.now) }
     {
         self.tag
             .cmp(&other.tag)

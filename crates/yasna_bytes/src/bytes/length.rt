@@ -2,7 +2,7 @@
 ghost use Rattle.std.specs.Prelude.{◌≡◌, ℕ, ◌^◌, ◌<◌, ◌≤◌, ◌-◌, List, ◌∷◌, ◌++◌, length, drop, Some, MatchOption, IsTrue, ◌↔◌};
 ghost use Rattle.std.specs.Int.Digits.{number_from_digits};
 ghost use Rattle.yasna_bytes.specs.Refusal.{IsPlain};
-ghost use Rattle.yasna_bytes.specs.Length.{Measures, TakesSpelling, Spells, LengthAt};
+ghost use Rattle.yasna_bytes.specs.Length.{Measures, TakesSpelling, SpellsDigits, LengthAt};
 
 use yasna_base::error::ASN1ErrorKind;
 use yasna_base::mode::BERMode;
@@ -51,7 +51,7 @@ fn is_spelling(mode: BERMode, digits: &[u8], size: u64) -> bool
 // The length that digits spell, where a mode takes it so.
 fn size_of(digits: &[u8], mode: BERMode) -> Option<usize>
     requires { 0 < length digits.now }
-    ensures { MatchOption result ((k : ℕ) → Spells mode digits.now k → ⊥) (λ k. Spells mode digits.now k) }
+    ensures { MatchOption result ((k : ℕ) → SpellsDigits mode digits.now k → ⊥) (λ k. SpellsDigits mode digits.now k) }
 {
     let Some(size) = number_of(digits) else {
         return None;

@@ -6,7 +6,7 @@ ghost use Rattle.std.specs.Char.Utf16.{utf16_lossy_chars};
 ghost use Rattle.yasna_base.specs.Text.{characters, units};
 ghost use Rattle.yasna_base.specs.declared.error.ASN1ErrorKind.TheVariants.{OutOfMemory};
 ghost use Rattle.yasna_base.specs.declared.mode.BERMode.{BERMode};
-ghost use Rattle.yasna_bytes.specs.Text.{Judges, SaidAt, Spells, MayHold};
+ghost use Rattle.yasna_bytes.specs.Text.{Judges, SaidAt, SaysText, MayHold};
 
 use crate::bytes::cursor::Cursor;
 use crate::bytes::header::{Refusal, refuse};
@@ -125,7 +125,7 @@ impl Judge for Class {
 
     ghost view = { characters };
 
-    ghost says = { Spells };
+    ghost says = { SaysText };
 
     #[inline(always)]
     fn judge(

@@ -1,13 +1,13 @@
 use Rattle.std.proofs.Common.{length}
 use Rattle.std.specs.Fn.{CalledAtMut}
-use Rattle.yasna_reader.specs.SetOf.{TurnInOrder, bound_in, bytes_of}
+use Rattle.yasna_reader.specs.SetOf.{TurnInOrder, bound_in, bound_bytes}
 use Rattle.yasna_reader.proofs.Turning.{SoFar}
 use Rattle.yasna_reader.proofs.state.ReaderState.collect.Given as goal
 
 abbrev pub invariant-loop-item : goal.invariant-loop-item
 invariant-loop-item g l =
     SoFar (TurnInOrder (CalledAtMut g.F.FnMut)) (record { callback = l.fn.f; bound = bound_in l.fn.order l.fn.self.mode }) l.fn.self l.items.items
-    (record { callback = l.f; bound = bytes_of l.bound }) l.self
+    (record { callback = l.f; bound = bound_bytes l.bound }) l.self
 
 abbrev pub decreases-loop-item : goal.decreases-loop-item
 decreases-loop-item g l = length l.self.left

@@ -1,7 +1,7 @@
 use Rattle.std.proofs.Common.{ap, subst, ◌∙◌}
 use Rattle.std.specs.Fn.{CalledAtMut}
 use Rattle.yasna_reader.specs.State.{Reading}
-use Rattle.yasna_reader.specs.SetOf.{Ordered, bytes_of}
+use Rattle.yasna_reader.specs.SetOf.{Ordered, bound_bytes}
 use Rattle.yasna_reader.proofs.Turning.{turn_rest, turned_in_order}
 use Rattle.yasna_reader.proofs.state.ReaderState.turn_in_order.Goals as goal
 
@@ -13,8 +13,8 @@ in_order-requires g c =
 
 pub returns : goal.returns
 returns g c =
-    turned_in_order (CalledAtMut g.F.FnMut) (record { callback = c.args.f.now; bound = bytes_of c.args.bound.now })
-    (record { callback = c.turn-outcome.new.f; bound = bytes_of c.in_order.new.bound }) c.args.self.now c.turn-outcome.result
+    turned_in_order (CalledAtMut g.F.FnMut) (record { callback = c.args.f.now; bound = bound_bytes c.args.bound.now })
+    (record { callback = c.turn-outcome.new.f; bound = bound_bytes c.in_order.new.bound }) c.args.self.now c.turn-outcome.result
     c.turn-outcome.new.self c.in_order.result c.in_order.new.self c.turn-outcome.ensures
-    (subst (λ z. Ordered (bytes_of c.args.bound.now) z c.turn-outcome.result c.turn-outcome.new.self c.in_order.result (bytes_of c.in_order.new.bound)
+    (subst (λ z. Ordered (bound_bytes c.args.bound.now) z c.turn-outcome.result c.turn-outcome.new.self c.in_order.result (bound_bytes c.in_order.new.bound)
     c.in_order.new.self) (ap (λ (z : Reading). z.left) c.self.view_is) c.in_order.ensures)

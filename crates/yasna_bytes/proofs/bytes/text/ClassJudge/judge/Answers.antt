@@ -2,7 +2,7 @@ use Rattle.std.proofs.Common.{◌≡◌, ap, sym, subst, inr, refl, string_bytes
 use Rattle.std.proofs.lemmas.Str.{IsUtf8-string_bytes}
 use Rattle.std.specs.Global.{Global}
 use Rattle.std.specs.Str.{chars, IsUtf8}
-use Rattle.yasna_bytes.specs.Text.{Spells}
+use Rattle.yasna_bytes.specs.Text.{SaysText}
 use Rattle.yasna_bytes.proofs.Text.{class_spells, class_holds, class_in_utf8, bmp_judged}
 use Rattle.yasna_bytes.proofs.bytes.text.ClassJudge.judge.Goals as goal
 
@@ -25,7 +25,7 @@ returns-in-Ok c =
     let e : string_bytes c.in-Ok.text ≡ o = ap (λ (v : Vec ℕ Global). v.items) (c.in-Ok.ensures {u = tt}).ok in
     let h = rw c.as_slice.ensures.value at ((c.if-not-may_hold.ensures {u = tt}).0 refl) in
     let u : IsUtf8 o = subst IsUtf8 e (IsUtf8-string_bytes c.in-Ok.text) in
-    subst (λ b. Spells c.args.self c.args._mode (chars b) o) (sym e) (class_spells c.args.self c.args._mode o c.in_default.not-Bmp h u)
+    subst (λ b. SaysText c.args.self c.args._mode (chars b) o) (sym e) (class_spells c.args.self c.args._mode o c.in_default.not-Bmp h u)
 
 pub returns : goal.returns
 returns c = inr (
