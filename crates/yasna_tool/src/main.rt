@@ -18,14 +18,15 @@ mod tool;
 use ends::Counted;
 use std::env;
 use std::process::ExitCode;
+use tool::Device;
 
 fn main(rt: HostRuntime) -> ExitCode {
     let mut errors = rt.stderr();
     let Ok(all) = env::args(&rt) else {
-        return ExitCode::from(tool::report_device(&mut errors));
+        return ExitCode::from(tool::report_device(&mut errors, Device::Arguments));
     };
     let Ok(words) = all.skip(1).collect::<Vec<String>>(rt.alloc()) else {
-        return ExitCode::from(tool::report_device(&mut errors));
+        return ExitCode::from(tool::report_device(&mut errors, Device::Arguments));
     };
     let mut reader = Counted::new(rt.stdin());
     let mut writer = Counted::new(rt.stdout());

@@ -74,7 +74,8 @@ const OID: Wanted = Wanted {
     errors: "",
 };
 
-const USAGE: &str = "usage: yasna_tool ber|der|cer KIND\n";
+const USAGE: &str =
+    "usage: yasna_tool ber|der|cer KIND\nKIND: pair int bool null octets text oid utime gtime ints\n";
 
 /// Bytes, and what they give as a pair in each mode.
 #[derive(Clone, Copy)]

@@ -14,19 +14,37 @@ use std::alloc::Global;
 use std::io::Write;
 use yasna::{ASN1Error, BERMode};
 
-/// Says that a read or a write failed, and gives the status of that.
-pub fn report_device<E: Write>(errors: &mut E) -> u8
+/// What failed that isn't the bytes' fault.
+#[derive(Clone, Copy, PartialEq, Eq, Debug)]
+pub enum Device {
+    /// The arguments could not be read.
+    Arguments,
+    /// A read failed.
+    Input,
+    /// A write or the flush behind it failed.
+    Output,
+}
+
+/// Says that a read or a write failed, and in a second line which, and gives the status of that.
+pub fn report_device<E: Write>(errors: &mut E, device: Device) -> u8
     ensures { result ≡ 3 }
 {
-    let _ = errors.write_all(b"io\n");
+    let text = match device {
+        Device::Arguments => "io\nthe arguments could not be read\n",
+        Device::Input => "io\nthe input could not be read\n",
+        Device::Output => "io\nthe output could not be written\n",
+    };
+    let _ = errors.write_all(text.as_bytes());
     3
 }
 
-/// Says which arguments the program takes, and gives the status of others.
+/// Says which arguments the program takes, in a second line the kinds, and gives the status of others.
 fn report_usage<E: Write>(errors: &mut E) -> u8
     ensures { result ≡ 2 }
 {
-    let _ = errors.write_all(b"usage: yasna_tool ber|der|cer KIND\n");
+    let _ = errors.write_all(
+        b"usage: yasna_tool ber|der|cer KIND\nKIND: pair int bool null octets text oid utime gtime ints\n",
+    );
     2
 }
 
@@ -91,9 +109,13 @@ pub fn tool<R: Source, W: Sink, E: Write>(
     let Some((mode, kind)) = named(words) else {
         return report_usage(errors);
     };
+    let failures = reader.failures();
     match run_kind(alloc, mode, kind, reader, writer) {
         Ok(()) => 0,
         Err(RunFault::Refused(error)) => report_refusal(errors, error),
-        Err(RunFault::Device) => report_device(errors),
+        Err(RunFault::Device) if reader.failures() == failures => {
+            report_device(errors, Device::Output)
+        }
+        Err(RunFault::Device) => report_device(errors, Device::Input),
     }
 }

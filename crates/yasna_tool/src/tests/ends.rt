@@ -11,7 +11,9 @@ use std::io::{Read, Write};
 use std::test::Fail;
 use yasna::{ASN1Error, ASN1ErrorKind, BERMode};
 
-const DEVICE: &str = "io\n";
+const INPUT: &str = "io\nthe input could not be read\n";
+
+const OUTPUT: &str = "io\nthe output could not be written\n";
 
 /// Gives at most four bytes a pull, and fails once its pulls are used up.
 #[derive(Drop)]
@@ -188,12 +190,12 @@ fn told_of_failures(rt: HostRuntime) -> Result<(), Fail> {
     let mut writer = Counted::new(Vec::new(rt.alloc()));
     let (status, errors) = told_over(rt.alloc(), &mut failing, &mut writer)?;
     assert_eq!(rt; status, 3);
-    assert_eq!(rt; errors.as_slice(), DEVICE.as_bytes());
+    assert_eq!(rt; errors.as_slice(), INPUT.as_bytes());
     let mut reader = Counted::new(TEN_TRUE.output);
     let mut failing = FailingSink::new(0, false);
     let (status, errors) = told_over(rt.alloc(), &mut reader, &mut failing)?;
     assert_eq!(rt; status, 3);
-    assert_eq!(rt; errors.as_slice(), DEVICE.as_bytes());
+    assert_eq!(rt; errors.as_slice(), OUTPUT.as_bytes());
     Ok(())
 }
 
@@ -205,7 +207,7 @@ fn nothing_taken(rt: HostRuntime) -> Result<(), Fail> {
     let mut writer = Counted::new(&mut room[..]);
     let (status, errors) = told_over(rt.alloc(), &mut reader, &mut writer)?;
     assert_eq!(rt; status, 3);
-    assert_eq!(rt; errors.as_slice(), DEVICE.as_bytes());
+    assert_eq!(rt; errors.as_slice(), OUTPUT.as_bytes());
     assert_eq!(rt; writer.failures(), 1);
     assert_eq!(rt; room, [48, 6, 2]);
     Ok(())
