@@ -1,8 +1,10 @@
 //! Types of a crate of its own that are read step by step, with typed reads and with memory.
-ghost use Rattle.std.specs.Prelude.{IfOk, ◌≡◌, ◌<◌, ◌^◌, true, false, ◌||◌, pos, FitsSigned};
+ghost use Rattle.std.specs.Prelude.{IfOk, IfErr, ◌≡◌, ◌<◌, ◌^◌, true, false, ◌||◌, pos, FitsSigned};
 ghost use Rattle.std.specs.Int.{w64};
 ghost use Rattle.yasna.specs.base.Identifier.{universal};
+ghost use Rattle.yasna.specs.base.declared.error.ASN1ErrorKind.TheVariants.{OutOfMemory};
 ghost use Rattle.yasna.specs.base.declared.mode.BERMode.TheVariants.{Ber, Der};
+ghost use Rattle.yasna.specs.base.Error.{kind_of};
 ghost use Rattle.yasna.specs.base.Coding.{Any};
 ghost use Rattle.yasna.specs.base.Digits.{IsBytes};
 ghost use Rattle.yasna.specs.base.Octets.{EncodesOctets, EncodesVec, octets_tag, octets_form, octets_nest};
@@ -132,14 +134,16 @@ impl DERCanonical for Report {
 
 /// The DER form of a report that is given part by part.
 pub fn encoded_report(alloc: Global, name: String, raw: Vec<u8>, number: i64) -> ASN1Result<Vec<u8>>
-    ensures { IfOk result (λ bytes. bytes.items ≡ ⟦<Report as DEREncodable>⟧.form Der (record { name = name; raw = raw; number = number })) }
+    ensures form { IfOk result (λ bytes. bytes.items ≡ ⟦<Report as DEREncodable>⟧.form Der (record { name = name; raw = raw; number = number })) }
+    ensures memory { IfErr result (λ e. kind_of e ≡ OutOfMemory) }
 {
     encode_der(alloc, &Report { name, raw, number })
 }
 
 /// The DER form of a value that these bytes are in BER. What was read can be written, by the law of `DERCanonical`.
 pub fn normalized<T: DERCanonical>(alloc: Global, src: &[u8]) -> ASN1Result<Vec<u8>>
-    ensures { IfOk result (λ bytes. (v : T) × T.encodes Ber 101 v src.now × (bytes.items ≡ T.form Der v)) }
+    ensures form { IfOk result (λ bytes. (v : T) × T.encodes Ber 101 v src.now × (bytes.items ≡ T.form Der v)) }
+    ensures refused { IfErr result (λ e. (kind_of e ≡ OutOfMemory → ⊥) → (v : T) → T.encodes Ber 101 v src.now → ⊥) }
 {
     let value: T = decode_ber(alloc, src)?;
     encode_der(alloc, &value)
@@ -147,7 +151,8 @@ pub fn normalized<T: DERCanonical>(alloc: Global, src: &[u8]) -> ASN1Result<Vec<
 
 /// The DER form of a report that these bytes are in BER.
 pub fn normalized_report(alloc: Global, src: &[u8]) -> ASN1Result<Vec<u8>>
-    ensures { IfOk result (λ bytes. (v : Report) × ⟦<Report as BERDecodable>⟧.encodes Ber 101 v src.now × (bytes.items ≡ ⟦<Report as DEREncodable>⟧.form Der v)) }
+    ensures form { IfOk result (λ bytes. (v : Report) × ⟦<Report as BERDecodable>⟧.encodes Ber 101 v src.now × (bytes.items ≡ ⟦<Report as DEREncodable>⟧.form Der v)) }
+    ensures refused { IfErr result (λ e. (kind_of e ≡ OutOfMemory → ⊥) → (v : Report) → ⟦<Report as BERDecodable>⟧.encodes Ber 101 v src.now → ⊥) }
 {
     normalized::<Report>(alloc, src)
 }
