@@ -1,3 +1,4 @@
+pub mod Words
 pub use Rattle.yasna_base.specs as base
 pub use Rattle.yasna_times.specs as time
 pub use Rattle.yasna_bytes.specs as bytes

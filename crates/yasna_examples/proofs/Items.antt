@@ -2,19 +2,8 @@
 use Rattle.std.proofs.Common.{◌≡◌, ℕ, List, ◌++◌, refl, ap, sym, inl, inr, false, arith}
 use Rattle.std.specs.Prelude.{ℤ, Option, Some, None, Result}
 use Rattle.std.specs.Int.{w64}
-use Rattle.yasna.specs.base.declared.mode.BERMode.{BERMode}
-use Rattle.yasna.specs.base.declared.tag.Tag.{Tag}
-use Rattle.yasna.specs.base.Choice.{SameEither}
-use Rattle.yasna.specs.base.Coding.{IsCoding, Any}
-use Rattle.yasna.specs.base.Element.{Primitively}
-use Rattle.yasna.specs.base.Identifier.{universal, BeginsWithTag}
-use Rattle.yasna.specs.base.Integer.{IsSigned, EncodesSigned}
-use Rattle.yasna.specs.base.Null.{IsNull, EncodesNull}
-use Rattle.yasna.specs.base.declared.error.ASN1Error.{ASN1Error}
-use Rattle.yasna.specs.bytes.Contents.{Never}
-use Rattle.yasna.specs.reader.Decodes.{Decodes}
-use Rattle.yasna.specs.reader.Primitive.{Reads, NoLevel}
-use Rattle.yasna.specs.reader.State.{Reading, IsFresh}
+use Rattle.yasna.specs.Words.{BERMode, Tag, SameEither, IsCoding, Any, Primitively, universal, BeginsWithTag, IsSigned}
+use Rattle.yasna.specs.Words.{EncodesSigned, IsNull, EncodesNull, ASN1Error, Never, Decodes, Reads, NoLevel, Reading, IsFresh}
 use Rattle.yasna.proofs.Laws.{along, apart_by_tags, choice, equal_same, primitively_begins, same_as, signed_coding, unit_coding}
 use Rattle.yasna.proofs.Closures.{chosen, found_other, leaf_by, seen}
 use Rattle.yasna_examples.specs.Items.{as_either, EncodesItem, AnyItem}

@@ -5,7 +5,8 @@ use Rattle.std.proofs.lemmas.Int.{ints}
 use Rattle.yasna.specs.time.declared.models.generalized_time.GeneralizedTime.{GeneralizedTime}
 use Rattle.yasna.specs.time.Fraction.{nine_digits, trimmed}
 use Rattle.yasna.specs.time.GeneralizedTime.{IsInYears}
-use Rattle.yasna.specs.time.Models.{DateTime, IsTimeAt, moment_of}
+use Rattle.yasna.specs.Words.{moment_of}
+use Rattle.yasna.specs.time.Models.{DateTime, IsTimeAt}
 use Rattle.yasna.specs.time.Moment.{IsLess, moment, moment_at}
 use Rattle.yasna.specs.time.UtcTime.{IsUtcDateTime}
 use Rattle.yasna.proofs.time.Fraction.{trimmed_is}

@@ -2,12 +2,7 @@
 use Rattle.std.proofs.Common.{◌≡◌, true, ap}
 use Rattle.std.specs.Global.{Global}
 use Rattle.std.specs.Prelude.{Result, Vec}
-use Rattle.yasna.specs.base.declared.error.ASN1Error.{ASN1Error}
-use Rattle.yasna.specs.base.Nested.{IsNested, AnyNested}
-use Rattle.yasna.specs.base.Sequence.{sequence_tag}
-use Rattle.yasna.specs.base.SequenceOf.{IsListOf, AnyListOf}
-use Rattle.yasna.specs.reader.Decodes.{Decodes}
-use Rattle.yasna.specs.reader.State.{Reading}
+use Rattle.yasna.specs.Words.{ASN1Error, IsNested, AnyNested, sequence_tag, IsListOf, AnyListOf, Decodes, Reading}
 use Rattle.yasna.proofs.Closures.{chosen, seen}
 use Rattle.yasna.proofs.Laws.{nested_list, any_nested_list}
 use Rattle.yasna_examples.specs.Branches.{branches_of}

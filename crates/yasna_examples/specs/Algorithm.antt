@@ -1,15 +1,9 @@
 -- AlgorithmIdentifier (RFC 5280, 4.1.1.2): a name, and any element, which may be left out.
 use Rattle.std.specs.Prelude.{◌≡◌, ℕ, ◌+◌, ◌*◌, ◌<◌, ◌≤◌, List, length}
-use Rattle.yasna.specs.base.declared.mode.BERMode.{BERMode}
+use Rattle.yasna.specs.Words.{BERMode, BitString, IsCoding, Any, Enclosed, AnyEnclosed, EncodesOid, OptionOf, AnyOption}
+use Rattle.yasna.specs.Words.{SameOption, IsRaw, sequence_tag, PartOf, NoParts, AnyPart, AnyNothing, SamePart, SameNothing}
+use Rattle.yasna.specs.Words.{raw_of}
 use Rattle.yasna.specs.base.declared.models.tagged_der_value.TaggedDerValue.{TaggedDerValue}
-use Rattle.yasna.specs.base.Bits.{BitString}
-use Rattle.yasna.specs.base.Coding.{IsCoding, Any}
-use Rattle.yasna.specs.base.Element.{Enclosed, AnyEnclosed}
-use Rattle.yasna.specs.base.Oid.{EncodesOid}
-use Rattle.yasna.specs.base.Optional.{OptionOf, AnyOption, SameOption}
-use Rattle.yasna.specs.base.Raw.{IsRaw}
-use Rattle.yasna.specs.base.Sequence.{sequence_tag, PartOf, NoParts, AnyPart, AnyNothing, SamePart, SameNothing}
-use Rattle.yasna.specs.base.TaggedDerValue.{raw_of}
 use Rattle.yasna.proofs.Laws.{along, apart_from_nothing, no_part, oid_coding, option_before, part_before, parts_contents, raw_coding, sequence}
 use Rattle.yasna_examples.specs.declared.public_key.AlgorithmIdentifier.{AlgorithmIdentifier}
 

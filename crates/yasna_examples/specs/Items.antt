@@ -2,13 +2,7 @@
 use Rattle.std.proofs.Common.{inl, inr}
 use Rattle.std.specs.Prelude.{ℕ, List, ℤ, Option, Some, None, ◌⊎◌}
 use Rattle.std.specs.Int.{w64}
-use Rattle.yasna.specs.base.declared.mode.BERMode.{BERMode}
-use Rattle.yasna.specs.base.Choice.{EitherOf, AnyEither}
-use Rattle.yasna.specs.base.Coding.{Any}
-use Rattle.yasna.specs.base.Integer.{EncodesSigned}
-use Rattle.yasna.specs.base.Null.{EncodesNull}
-use Rattle.yasna.specs.base.Sequence.{sequence_tag}
-use Rattle.yasna.specs.base.SequenceOf.{IsListOf, AnyListOf}
+use Rattle.yasna.specs.Words.{BERMode, EitherOf, AnyEither, Any, EncodesSigned, EncodesNull, sequence_tag, IsListOf, AnyListOf}
 
 -- a number is an INTEGER, and none a NULL
 abbrev pub as_either : Option ℤ → ℤ ⊎ Unit {0}

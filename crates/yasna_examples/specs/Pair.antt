@@ -1,12 +1,8 @@
 -- A SEQUENCE of an INTEGER and a BOOLEAN.
 use Rattle.std.specs.Prelude.{ℕ, List, ℤ, Bool}
 use Rattle.std.specs.Int.{w64}
-use Rattle.yasna.specs.base.declared.mode.BERMode.{BERMode}
-use Rattle.yasna.specs.base.Boolean.{EncodesBoolean}
-use Rattle.yasna.specs.base.Coding.{Any}
-use Rattle.yasna.specs.base.Element.{Enclosed, AnyEnclosed}
-use Rattle.yasna.specs.base.Integer.{EncodesSigned}
-use Rattle.yasna.specs.base.Sequence.{sequence_tag, PartOf, NoParts, AnyPart, AnyNothing}
+use Rattle.yasna.specs.Words.{BERMode, EncodesBoolean, Any, Enclosed, AnyEnclosed, EncodesSigned, sequence_tag, PartOf, NoParts}
+use Rattle.yasna.specs.Words.{AnyPart, AnyNothing}
 
 -- the bytes encode the number and the flag
 abbrev pub EncodesPair : BERMode → ℕ → ℤ × Bool → List ℕ → Type 0

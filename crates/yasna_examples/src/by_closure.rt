@@ -2,16 +2,10 @@
 
 ghost use Rattle.std.specs.Prelude.{◌≡◌, ◌<◌, ◌^◌, ◌||◌, false, pos, FitsSigned};
 ghost use Rattle.std.specs.Int.{w64};
-ghost use Rattle.yasna.specs.base.Boolean.{EncodesBoolean, boolean_form};
-ghost use Rattle.yasna.specs.base.Canonical.{leaf_nest, enclosed_form, enclosed_nest, Always};
-ghost use Rattle.yasna.specs.base.Coding.{Any};
-ghost use Rattle.yasna.specs.base.Element.{Enclosed, AnyEnclosed};
-ghost use Rattle.yasna.specs.base.Identifier.{universal};
-ghost use Rattle.yasna.specs.base.Integer.{EncodesSigned, EncodesUnsigned, integer_form};
-ghost use Rattle.yasna.specs.base.Sequence.{sequence_tag, PartOf, NoParts, AnyPart, AnyNothing, SamePart, SameNothing};
-ghost use Rattle.yasna.specs.base.Sequence.{part_form, part_nest, part_can, nothing_form, nothing_nest};
-ghost use Rattle.yasna.specs.reader.Decodes.{Decodes, Step, Done};
-ghost use Rattle.yasna.specs.reader.State.{IsFresh, part_of};
+ghost use Rattle.yasna.specs.Words.{EncodesBoolean, boolean_form, leaf_nest, enclosed_form, enclosed_nest, Always, Any, Enclosed};
+ghost use Rattle.yasna.specs.Words.{AnyEnclosed, universal, EncodesSigned, EncodesUnsigned, integer_form, sequence_tag, PartOf};
+ghost use Rattle.yasna.specs.Words.{NoParts, AnyPart, AnyNothing, SamePart, SameNothing, part_form, part_nest, part_can};
+ghost use Rattle.yasna.specs.Words.{nothing_form, nothing_nest, Decodes, Step, Done, IsFresh, part_of};
 ghost use Rattle.yasna.proofs.Laws.{part, no_part, tuple, bool_coding, signed_coding, unsigned_coding};
 ghost use Rattle.yasna.proofs.Laws.{part_written, no_part_written, tuple_written, bool_written, signed_written, unsigned_written};
 

@@ -1,10 +1,6 @@
 //! A list of a CHOICE, which is read by the next tag.
 ghost use Rattle.std.specs.Prelude.{◌≡◌, ℤ, List, Option, true, false, IfOk, MatchResult};
-ghost use Rattle.yasna.specs.base.declared.mode.BERMode.TheVariants.{Der};
-ghost use Rattle.yasna.specs.base.declared.error.ASN1ErrorKind.TheVariants.{OutOfMemory};
-ghost use Rattle.yasna.specs.base.Error.{kind_of};
-ghost use Rattle.yasna.specs.reader.Decodes.{Decodes};
-ghost use Rattle.yasna.specs.reader.State.{IsFresh};
+ghost use Rattle.yasna.specs.Words.{Der, OutOfMemory, kind_of, Decodes, IsFresh};
 ghost use Rattle.yasna_examples.specs.Items.{EncodesItem, AnyItem, EncodesItems, AnyItems};
 
 use std::alloc::Global;

@@ -1,8 +1,6 @@
 //! What goes in comes out: a section of docs/GUIDE.md, which shows this module word for word.
 ghost use Rattle.std.specs.Prelude.{◌≡◌, ℕ, IfOk, IfErr};
-ghost use Rattle.yasna.specs.base.declared.mode.BERMode.TheVariants.{Der};
-ghost use Rattle.yasna.specs.base.declared.error.ASN1ErrorKind.TheVariants.{OutOfMemory};
-ghost use Rattle.yasna.specs.base.Error.{kind_of};
+ghost use Rattle.yasna.specs.Words.{Der, OutOfMemory, kind_of};
 
 use std::alloc::Global;
 use yasna::{ASN1Result, DERCanonical, decode_der, encode_der, one_form};

@@ -1,18 +1,10 @@
 //! Calls whose closures are known: what they answer follows from what the calls of `yasna` promise.
 ghost use Rattle.std.specs.Prelude.{◌≡◌, ℤ, Bool, List, true, false, IfOk, IfErr, MatchResult};
 ghost use Rattle.std.specs.Int.{w64};
-ghost use Rattle.yasna.specs.base.declared.mode.BERMode.TheVariants.{Der};
-ghost use Rattle.yasna.specs.base.declared.error.ASN1ErrorKind.TheVariants.{OutOfMemory};
-ghost use Rattle.yasna.specs.base.Error.{kind_of};
-ghost use Rattle.yasna.specs.base.Identifier.{universal};
-ghost use Rattle.yasna.specs.base.Coding.{Any};
-ghost use Rattle.yasna.specs.base.Boolean.{EncodesBoolean};
-ghost use Rattle.yasna.specs.reader.Decodes.{Decodes, Step, Done};
-ghost use Rattle.yasna.specs.reader.State.{IsFresh, part_of};
+ghost use Rattle.yasna.specs.Words.{Der, OutOfMemory, kind_of, universal, Any, EncodesBoolean, Decodes, Step, Done, IsFresh};
+ghost use Rattle.yasna.specs.Words.{part_of, EncodesSigned, integer_form};
 ghost use Rattle.yasna_examples.specs.Pair.{EncodesPair, AnyPair};
 ghost use Rattle.yasna_examples.specs.Numbers.{EncodesNumbers, AnyNumbers};
-ghost use Rattle.yasna.specs.base.Integer.{EncodesSigned};
-ghost use Rattle.yasna.specs.base.Integer.{integer_form};
 
 use std::alloc::Global;
 use yasna::{ASN1Result, BERDecodable, construct_der, parse_ber, parse_der};

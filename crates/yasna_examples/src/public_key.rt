@@ -4,26 +4,12 @@
 //! are written so: where lengths within them are indefinite, DER doesn't read what is written. And BER takes any bits
 //! where a BIT STRING has unused ones, while zeros are written there.
 ghost use Rattle.std.specs.Prelude.{◌≡◌, ◌↔◌, true, false, ◌||◌, ◌⊎◌, IfOk, IfErr, IsTrue};
-ghost use Rattle.yasna.specs.base.declared.error.ASN1ErrorKind.TheVariants.{Invalid, OutOfMemory};
-ghost use Rattle.yasna.specs.base.declared.mode.BERMode.TheVariants.{Der};
-ghost use Rattle.yasna.specs.base.Bits.{IsBits, IsDeepBits, bits_form, bits_nest};
-ghost use Rattle.yasna.specs.base.Canonical.{leaf_nest, enclosed_form, enclosed_nest, Always};
-ghost use Rattle.yasna.specs.base.Coding.{Any};
-ghost use Rattle.yasna.specs.base.Element.{Enclosed, AnyEnclosed};
-ghost use Rattle.yasna.specs.base.Error.{kind_of};
-ghost use Rattle.yasna.specs.base.Identifier.{universal};
-ghost use Rattle.yasna.specs.base.Oid.{EncodesOid, IsEncodableOid, oid_form};
-ghost use Rattle.yasna.specs.base.Optional.{option_form, option_nest, option_can};
-ghost use Rattle.yasna.specs.base.Raw.{IsRaw, raw_form};
-ghost use Rattle.yasna.specs.base.Sequence.{sequence_tag, PartOf, NoParts, AnyPart, AnyNothing, SamePart, SameNothing, part_form, part_nest, part_can, nothing_form, nothing_nest};
-ghost use Rattle.yasna.specs.base.TaggedDerValue.{raw_of};
-ghost use Rattle.yasna.specs.bytes.Contents.{WantsMemory};
-ghost use Rattle.yasna.specs.reader.Decodes.{Decodes, Step, Done};
-ghost use Rattle.yasna.specs.reader.Optional.{ReadsOptional};
-ghost use Rattle.yasna.specs.reader.Primitive.{ReadsSeen};
-ghost use Rattle.yasna.specs.reader.Raw.{ReadsRaw};
-ghost use Rattle.yasna.specs.bytes.Segments.{bits_in};
-ghost use Rattle.yasna.specs.reader.State.{IsFresh, part_of};
+ghost use Rattle.yasna.specs.Words.{Invalid, OutOfMemory, Der, IsBits, IsDeepBits, bits_form, bits_nest, leaf_nest, enclosed_form};
+ghost use Rattle.yasna.specs.Words.{enclosed_nest, Always, Any, Enclosed, AnyEnclosed, kind_of, universal, EncodesOid};
+ghost use Rattle.yasna.specs.Words.{IsEncodableOid, oid_form, option_form, option_nest, option_can, IsRaw, raw_form, sequence_tag};
+ghost use Rattle.yasna.specs.Words.{PartOf, NoParts, AnyPart, AnyNothing, SamePart, SameNothing, part_form, part_nest, part_can};
+ghost use Rattle.yasna.specs.Words.{nothing_form, nothing_nest, raw_of, WantsMemory, Decodes, Step, Done, ReadsOptional};
+ghost use Rattle.yasna.specs.Words.{ReadsSeen, ReadsRaw, bits_in, IsFresh, part_of};
 ghost use Rattle.yasna.proofs.Laws.{bit_string_coding, no_part, part, tuple};
 ghost use Rattle.yasna_examples.specs.Algorithm.{HasRoom, EncodesAlgorithm, AnyAlgorithm, SameAlgorithm, algorithm_coding};
 

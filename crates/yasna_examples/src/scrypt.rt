@@ -1,17 +1,11 @@
 //! The parameters of scrypt (RFC 7914, 7.1), of which the last may be left out.
 ghost use Rattle.std.specs.Prelude.{◌≡◌, ◌<◌, ◌^◌, pos, true, false, ◌||◌};
-ghost use Rattle.yasna.specs.base.Canonical.{leaf_nest, enclosed_form, enclosed_nest, Always};
-ghost use Rattle.yasna.specs.base.Coding.{Any};
-ghost use Rattle.yasna.specs.base.Digits.{IsBytes};
-ghost use Rattle.yasna.specs.base.Element.{Enclosed, AnyEnclosed};
-ghost use Rattle.yasna.specs.base.Identifier.{universal};
-ghost use Rattle.yasna.specs.base.Integer.{EncodesUnsigned, integer_form};
-ghost use Rattle.yasna.specs.base.Octets.{EncodesOctets, EncodesVec, octets_tag, octets_form, octets_nest};
-ghost use Rattle.yasna.specs.base.Optional.{OptionOf, AnyOption, SameOption, option_form, option_nest, option_can};
-ghost use Rattle.yasna.specs.base.Sequence.{sequence_tag, PartOf, NoParts, AnyPart, AnyNothing, SamePart, SameNothing, part_form, part_nest, part_can, nothing_form, nothing_nest};
-ghost use Rattle.yasna.specs.reader.Decodes.{Decodes, Step, Done};
-ghost use Rattle.yasna.specs.reader.Optional.{ReadsOptional};
-ghost use Rattle.yasna.specs.reader.State.{IsFresh, part_of};
+ghost use Rattle.yasna.specs.Words.{leaf_nest, enclosed_form, enclosed_nest, Always, Any, IsBytes, Enclosed, AnyEnclosed};
+ghost use Rattle.yasna.specs.Words.{universal, EncodesUnsigned, integer_form, EncodesOctets, EncodesVec, octets_tag, octets_form};
+ghost use Rattle.yasna.specs.Words.{octets_nest, OptionOf, AnyOption, SameOption, option_form, option_nest, option_can};
+ghost use Rattle.yasna.specs.Words.{sequence_tag, PartOf, NoParts, AnyPart, AnyNothing, SamePart, SameNothing, part_form};
+ghost use Rattle.yasna.specs.Words.{part_nest, part_can, nothing_form, nothing_nest, Decodes, Step, Done, ReadsOptional, IsFresh};
+ghost use Rattle.yasna.specs.Words.{part_of};
 ghost use Rattle.yasna.proofs.Laws.{apart_from_nothing, no_part, option_before, part_before, parts_contents, sequence, unsigned_coding, vec_coding};
 ghost use Rattle.yasna.proofs.Laws.{no_part_written, option_written, part_written, tuple_written, unsigned_written, vec_written};
 

@@ -1,26 +1,13 @@
 //! Types of a crate of its own that are read step by step, with typed reads and with memory.
 ghost use Rattle.std.specs.Prelude.{IfOk, IfErr, ◌≡◌, ◌<◌, ◌^◌, true, false, ◌||◌, pos, FitsSigned};
 ghost use Rattle.std.specs.Int.{w64};
-ghost use Rattle.yasna.specs.base.Identifier.{universal};
-ghost use Rattle.yasna.specs.base.declared.error.ASN1ErrorKind.TheVariants.{OutOfMemory};
-ghost use Rattle.yasna.specs.base.declared.mode.BERMode.TheVariants.{Ber, Der};
-ghost use Rattle.yasna.specs.base.Error.{kind_of};
-ghost use Rattle.yasna.specs.base.Coding.{Any};
-ghost use Rattle.yasna.specs.base.Digits.{IsBytes};
-ghost use Rattle.yasna.specs.base.Octets.{EncodesOctets, EncodesVec, octets_tag, octets_form, octets_nest};
-ghost use Rattle.yasna.specs.base.Text.{EncodesText, EncodesString, characters, utf8_form, utf8_nest};
-ghost use Rattle.yasna.specs.base.Sequence.{sequence_tag, PartOf, NoParts, AnyPart, AnyNothing, SamePart, SameNothing};
-ghost use Rattle.yasna.specs.base.Element.{Enclosed, AnyEnclosed};
-ghost use Rattle.yasna.specs.base.Element.{Primitively};
-ghost use Rattle.yasna.specs.base.Boolean.{EncodesBoolean};
-ghost use Rattle.yasna.specs.base.Integer.{IsUnsigned, EncodesSigned, EncodesUnsigned, integer_form};
-ghost use Rattle.yasna.specs.reader.Decodes.{Decodes, Step, Done};
-ghost use Rattle.yasna.specs.base.Boolean.{boolean_form};
-ghost use Rattle.yasna.specs.base.Canonical.{leaf_nest, enclosed_form, enclosed_nest, Always};
-ghost use Rattle.yasna.specs.base.Sequence.{part_form, part_nest, part_can, nothing_form, nothing_nest};
-ghost use Rattle.yasna.specs.bytes.Contents.{Never};
-ghost use Rattle.yasna.specs.reader.Primitive.{Reads, NoLevel};
-ghost use Rattle.yasna.specs.reader.State.{IsFresh, part_of};
+ghost use Rattle.yasna.specs.Words.{universal, OutOfMemory, Ber, Der, kind_of, Any, IsBytes, EncodesOctets, EncodesVec};
+ghost use Rattle.yasna.specs.Words.{octets_tag, octets_form, octets_nest, EncodesText, EncodesString, characters, utf8_form};
+ghost use Rattle.yasna.specs.Words.{utf8_nest, sequence_tag, PartOf, NoParts, AnyPart, AnyNothing, SamePart, SameNothing};
+ghost use Rattle.yasna.specs.Words.{Enclosed, AnyEnclosed, Primitively, EncodesBoolean, IsUnsigned, EncodesSigned};
+ghost use Rattle.yasna.specs.Words.{EncodesUnsigned, integer_form, Decodes, Step, Done, boolean_form, leaf_nest, enclosed_form};
+ghost use Rattle.yasna.specs.Words.{enclosed_nest, Always, part_form, part_nest, part_can, nothing_form, nothing_nest, Never};
+ghost use Rattle.yasna.specs.Words.{Reads, NoLevel, IsFresh, part_of};
 ghost use Rattle.yasna.proofs.Laws.{part, no_part, tuple, bool_coding, signed_coding, unsigned_coding, vec_coding, text_coding};
 ghost use Rattle.yasna.proofs.Laws.{part_written, no_part_written, tuple_written, bool_written, signed_written, unsigned_written, vec_written, text_written};
 

@@ -1,6 +1,6 @@
 //! Times made of the parts of others.
 ghost use Rattle.std.specs.Prelude.{◌≡◌, ◌+◌, ◌%◌, ◌<◌, IfOk};
-ghost use Rattle.yasna.specs.time.Models.{utc_of, moment_of};
+ghost use Rattle.yasna.specs.Words.{utc_of, moment_of};
 ghost use Rattle.yasna_examples.specs.Times.{to_the_second, with_second_59, with_tenths};
 
 use std::alloc::{AllocError, Global};

@@ -2,9 +2,7 @@
 //!
 //! It has no DERCanonical: its form would be one by recursion over its values.
 ghost use Rattle.std.specs.Prelude.{true};
-ghost use Rattle.yasna.specs.base.Nested.{IsNested, AnyNested, SameNested};
-ghost use Rattle.yasna.specs.reader.Decodes.{Decodes};
-ghost use Rattle.yasna.specs.reader.State.{IsFresh};
+ghost use Rattle.yasna.specs.Words.{IsNested, AnyNested, SameNested, Decodes, IsFresh};
 ghost use Rattle.yasna.proofs.Laws.{nested_coding};
 ghost use Rattle.yasna_examples.specs.Branches.{branches_of};
 

@@ -1,6 +1,5 @@
 use Rattle.std.proofs.Common.{rules, true, arith}
-use Rattle.yasna.specs.base.declared.mode.BERMode.TheVariants.{Der}
-use Rattle.yasna.specs.base.Identifier.{universal}
+use Rattle.yasna.specs.Words.{Der, universal}
 use Rattle.yasna.proofs.Laws.{along, list, not_end}
 use Rattle.yasna.proofs.Closures.{decodes_by, parse_by, exactly_as, reads_some, same_items}
 use Rattle.yasna_examples.specs.Items.{EncodesItems, AnyItems}

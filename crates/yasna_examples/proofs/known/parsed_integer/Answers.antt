@@ -1,8 +1,6 @@
 use Rattle.std.proofs.Common.{rules, arith, false}
 use Rattle.std.specs.Int.{w64}
-use Rattle.yasna.specs.base.declared.mode.BERMode.TheVariants.{Der}
-use Rattle.yasna.specs.base.Element.{Primitively}
-use Rattle.yasna.specs.base.Integer.{IsSigned}
+use Rattle.yasna.specs.Words.{Der, Primitively, IsSigned}
 use Rattle.yasna.proofs.Laws.{signed_coding, signed_written}
 use Rattle.yasna.proofs.Closures.{leaf_by, parse_by, read_form, refuses_none}
 use Rattle.yasna_examples.proofs.known.parsed_integer.Goals as goal

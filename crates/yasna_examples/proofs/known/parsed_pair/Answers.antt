@@ -1,6 +1,6 @@
 use Rattle.std.proofs.Common.{rules, false}
 use Rattle.std.specs.Int.{w64}
-use Rattle.yasna.specs.base.declared.mode.BERMode.TheVariants.{Der}
+use Rattle.yasna.specs.Words.{Der}
 use Rattle.yasna.proofs.Laws.{part, no_part, tuple, bool_coding, signed_coding}
 use Rattle.yasna.proofs.Closures.{decodes_by, parse_by, refuses_none}
 use Rattle.yasna_examples.proofs.known.parsed_pair.Goals as goal

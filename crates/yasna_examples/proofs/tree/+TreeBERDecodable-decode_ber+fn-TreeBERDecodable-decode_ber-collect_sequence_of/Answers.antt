@@ -1,6 +1,5 @@
 use Rattle.std.proofs.Common.{rules, true, subst}
-use Rattle.yasna.specs.base.Nested.{IsNested, AnyNested}
-use Rattle.yasna.specs.reader.Decodes.{Decodes}
+use Rattle.yasna.specs.Words.{IsNested, AnyNested, Decodes}
 use Rattle.yasna.proofs.Closures.{decodes_by, list_by, seen}
 use Rattle.yasna.proofs.Laws.{nested_coding}
 use Rattle.yasna_examples.specs.Branches.{branches_of}

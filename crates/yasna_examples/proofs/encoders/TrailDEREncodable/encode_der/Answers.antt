@@ -1,11 +1,6 @@
 use Rattle.std.proofs.Common.{rules, ◌≡◌, ◌∙◌, ◌++◌, ℤ, List, reverse, take, drop, length, ap, arith, subst}
 use Rattle.std.proofs.lemmas.Grind.{common_steps}
-use Rattle.yasna.specs.base.Canonical.{enclosed_form}
-use Rattle.yasna.specs.base.Identifier.{universal}
-use Rattle.yasna.specs.base.Integer.{integer_form}
-use Rattle.yasna.specs.base.Sequence.{sequence_tag}
-use Rattle.yasna.specs.base.SequenceOf.{elements_form}
-use Rattle.yasna.specs.writer.View.{Writes}
+use Rattle.yasna.specs.Words.{enclosed_form, universal, integer_form, sequence_tag, elements_form, Writes}
 use Rattle.yasna_examples.proofs.encoders.TrailDEREncodable.encode_der.Goals as goal
 
 pub returns : goal.returns

@@ -1,6 +1,5 @@
 use Rattle.std.proofs.Common.{rules, refl, true}
-use Rattle.yasna.specs.base.Raw.{IsRaw}
-use Rattle.yasna.specs.base.TaggedDerValue.{raw_of}
+use Rattle.yasna.specs.Words.{IsRaw, raw_of}
 use Rattle.yasna.proofs.Laws.{apart_from_nothing, oid_coding}
 use Rattle.yasna.proofs.Closures.{contents_by, then_by, part_by, option_by, end_by, decodes_by, raw_by, quiet_at_end, parts_repeat_kept}
 use Rattle.yasna_examples.specs.Algorithm.{element_coding}

@@ -1,6 +1,5 @@
 use Rattle.std.proofs.Common.{rules, refl, arith, false}
-use Rattle.yasna.specs.base.Element.{Primitively}
-use Rattle.yasna.specs.base.Integer.{IsUnsigned}
+use Rattle.yasna.specs.Words.{Primitively, IsUnsigned}
 use Rattle.yasna.proofs.Closures.{sequence_by, step_by, done_by, decodes_by, leaf_by, parts_repeat_kept}
 use Rattle.yasna.proofs.Laws.{part, no_part, bool_coding, unsigned_coding}
 use Rattle.yasna_examples.proofs.third_party.VersionBERDecodable.decode_ber.Goals as goal

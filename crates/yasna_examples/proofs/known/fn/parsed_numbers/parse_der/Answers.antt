@@ -1,7 +1,6 @@
 use Rattle.std.proofs.Common.{rules, arith}
 use Rattle.std.specs.Int.{w64}
-use Rattle.yasna.specs.base.Element.{Primitively}
-use Rattle.yasna.specs.base.Integer.{IsSigned}
+use Rattle.yasna.specs.Words.{Primitively, IsSigned}
 use Rattle.yasna.proofs.Laws.{signed_coding}
 use Rattle.yasna.proofs.Closures.{leaf_by, list_by}
 use Rattle.yasna_examples.proofs.known.fn.parsed_numbers.parse_der.Goals as goal
