@@ -7,14 +7,15 @@ use Rattle.std.specs.Fn.{Once, Mut, Called, FnOnceReturnsAtMut, CalledAtMut}
 use Rattle.yasna_base.specs.declared.error.ASN1Error.{ASN1Error}
 use Rattle.yasna_base.specs.declared.mode.BERMode.{BERMode}
 use Rattle.yasna_base.specs.declared.tag.Tag.{Tag}
+use Rattle.yasna_base.specs.Grammar.{Grammar, Members, TaggedGrammar, TaggedMembers}
 use Rattle.yasna_base.specs.Identifier.{universal}
 use Rattle.yasna_base.specs.Coding.{IsCoding, ArePartsCoding, Any}
 use Rattle.yasna_base.specs.Sequence.{sequence_tag}
 use Rattle.yasna_base.specs.SequenceOf.{IsListOf, AnyListOf}
 use Rattle.yasna_base.specs.Element.{Enclosed, AnyEnclosed}
-use Rattle.yasna_base.specs.Bits.{bits_cutting, IsBits, IsDeepBits}
-use Rattle.yasna_base.specs.Octets.{octets_cutting, IsDeepOctets}
-use Rattle.yasna_base.proofs.Cut.{deep_begins}
+use Rattle.yasna_base.specs.Bits.{bits_segmentation, IsBits, IsDeepBits, bits_tag}
+use Rattle.yasna_base.specs.Octets.{octets_segmentation, IsDeepOctets}
+use Rattle.yasna_base.proofs.Segmented.{deep_begins}
 use Rattle.yasna_base.proofs.Identifier.{not_end}
 use Rattle.yasna_reader.specs.declared.state.Parts.{Parts}
 use Rattle.yasna_reader.specs.Parse.{Parses}
@@ -25,7 +26,7 @@ use Rattle.yasna_reader.specs.Primitive.{ReadsSeen, Reads, NoLevel}
 use Rattle.yasna_reader.specs.Raw.{ReadsRaw}
 use Rattle.yasna_bytes.specs.Contents.{Never, WantsMemory}
 use Rattle.yasna_bytes.specs.Segments.{bits_in}
-use Rattle.yasna_reader.specs.State.{Reading, IsFresh, starts, part_of}
+use Rattle.yasna_reader.specs.State.{Reading, IsFresh, starts, part_of, Does}
 use Rattle.yasna_reader.proofs.Listing.{collects}
 use Rattle.yasna_reader.proofs.OptionalParts.{IsContentsDecoder, contents_sequence}
 use Rattle.yasna_reader.proofs.Sequences.{parts_map}
@@ -42,35 +43,35 @@ pub use Rattle.yasna_reader.proofs.Whole.{read_form, refuses_none, exactly_as, r
 pub use Rattle.yasna_reader.proofs.Listing.{same_items}
 
 -- a typed read from what equals s
-pub reads_at : {V A : Type 0} {B : ℕ → BERMode → Tag → A → List ℕ → Type 0} {view : V → A} {D : ℕ → BERMode → Tag → List ℕ → Type 0}
+pub reads_at : {V A : Type 0} {B : TaggedGrammar A} {view : V → A} {D : TaggedMembers}
     {M : ℕ → Tag → List ℕ → Type 0} {t : Tag} {p s : Reading} {r : Result V ASN1Error} {s' : Reading} → ReadsSeen B view D M t p r s' → p ≡ s →
     ReadsSeen B view D M t s r s'
 reads_at {B} {view} {D} {M} {t} {r} {s'} h e = subst (λ z. ReadsSeen B view D M t z r s') e h
 
 -- a typed read under the type's own tag decodes
-pub leaf_by : {A : Type 0} (B : ℕ → BERMode → Tag → A → List ℕ → Type 0) (k : ℕ) → (k ≡ 0 → ⊥) →
+pub leaf_by : {A : Type 0} (B : TaggedGrammar A) (k : ℕ) → (k ≡ 0 → ⊥) →
     IsDecoder false (λ m n v b. B n m (universal k) v b) (Any (λ m n v b. B n m (universal k) v b)) (Reads B NoLevel Never (universal k))
 leaf_by B k h = record { decodes = λ s r s' fresh x. leaf_decodes B k h s r s' fresh.1 x fresh.0 }
 
--- and so does a read of a string, whose pieces may be elements, where view says what is seen of a value
-pub string_by : {V A : Type 0} (B : ℕ → BERMode → Tag → A → List ℕ → Type 0) (view : V → A) (k : ℕ) → (k ≡ 0 → ⊥) →
+-- and so does a read of a string, whose segments may be elements, where view says what is seen of a value
+pub string_by : {V A : Type 0} (B : TaggedGrammar A) (view : V → A) (k : ℕ) → (k ≡ 0 → ⊥) →
     IsDecoder true (λ m n v b. B n m (universal k) (view v) b) (Any (λ m n v b. B n m (universal k) v b))
     (ReadsSeen B view IsDeepOctets WantsMemory (universal k))
 string_by B view k h = record {
   decodes = λ s r s' fresh x.
-      asking_decodes B view IsDeepOctets k h (λ n m z. deep_begins octets_cutting n m (universal k) z) s r s' fresh.1 x fresh.0;
+      asking_decodes B view IsDeepOctets k h (λ n m z. deep_begins octets_segmentation n m (universal k) z) s r s' fresh.1 x fresh.0;
 }
 
 -- and a read of a BIT STRING
-pub bits_by : IsDecoder true (λ m n v b. IsBits n m (universal 3) (bits_in v) b) (Any (λ m n v b. IsBits n m (universal 3) v b))
-    (ReadsSeen IsBits bits_in IsDeepBits WantsMemory (universal 3))
+pub bits_by : IsDecoder true (λ m n v b. IsBits n m bits_tag (bits_in v) b) (Any (λ m n v b. IsBits n m bits_tag v b))
+    (ReadsSeen IsBits bits_in IsDeepBits WantsMemory bits_tag)
 bits_by = record {
   decodes = λ s r s' fresh x.
-      asking_decodes IsBits bits_in IsDeepBits 3 (λ e. omega arith) (λ n m z. deep_begins bits_cutting n m (universal 3) z) s r s' fresh.1 x fresh.0;
+      asking_decodes IsBits bits_in IsDeepBits 3 (λ e. omega arith) (λ n m z. deep_begins bits_segmentation n m bits_tag z) s r s' fresh.1 x fresh.0;
 }
 
 -- and a read of one element whose contents are copied
-pub leaf_with_memory_by : {V A : Type 0} (B : ℕ → BERMode → Tag → A → List ℕ → Type 0) (view : V → A) (k : ℕ) → (k ≡ 0 → ⊥) →
+pub leaf_with_memory_by : {V A : Type 0} (B : TaggedGrammar A) (view : V → A) (k : ℕ) → (k ≡ 0 → ⊥) →
     IsDecoder true (λ m n v b. B n m (universal k) (view v) b) (Any (λ m n v b. B n m (universal k) v b))
     (ReadsSeen B view NoLevel WantsMemory (universal k))
 leaf_with_memory_by B view k h =
@@ -88,8 +89,8 @@ by_run P says s r s' h = subst (λ z. P z r s') h.shows (subst (λ z. P h.shown.
 
 -- a parse whose closure reads one value
 pub parse_by : {F A : Type 0} {g : Once F (MutBor Reading × Unit {0}) (Result A ASN1Error × (MutBor Reading × Unit {0}))} {f : F}
-    {E : A → A → Type 0} {asks : Bool} {B : BERMode → ℕ → A → List ℕ → Type 0} {S : BERMode → ℕ → List ℕ → Type 0}
-    {N : Reading → Result A ASN1Error → Reading → Type 0} {m : BERMode} {s : List ℕ} {r : Result A ASN1Error} → IsCoding E B S →
+    {E : A → A → Type 0} {asks : Bool} {B : Grammar A} {S : Members}
+    {N : Does A} {m : BERMode} {s : List ℕ} {r : Result A ASN1Error} → IsCoding E B S →
     IsDecoder asks B S N → Parses (FnOnceReturnsAtMut g f) m s r →
     ((p q : MutBor Reading) (x : Result A ASN1Error) → g.post f (p, tt) (x, (q, tt)) → N p.now x q.now) → Decoded asks B S m s r
 parse_by {asks} {N} {m} {s} {r} laws value p says =
@@ -98,8 +99,8 @@ parse_by {asks} {N} {m} {s} {r} laws value p says =
 
 -- a SEQUENCE whose closure reads the parts one by one and makes a value of them
 pub sequence_by : {U A F : Type 0} {g : Once F (MutBor (Parts Reading) × Unit {0}) (Result U ASN1Error × (MutBor (Parts Reading) × Unit {0}))}
-    {f : F} {E : A → A → Type 0} {asks : Bool} {C : BERMode → ℕ → A → List ℕ → Type 0} {S : BERMode → ℕ → List ℕ → Type 0}
-    {P : Reading → Result U ASN1Error → Reading → Type 0} {s : Reading} {r : Result U ASN1Error} {s' : Reading} (parts : U → A) (make : A → U) →
+    {f : F} {E : A → A → Type 0} {asks : Bool} {C : Grammar A} {S : Members}
+    {P : Does U} {s : Reading} {r : Result U ASN1Error} {s' : Reading} (parts : U → A) (make : A → U) →
     ((w : A) → parts (make w) ≡ w) → ArePartsCoding E C S → IsPartsDecoder asks C S make P → IsFresh s → ReadsParts (Runs g f) sequence_tag s r s' →
     ((p q : MutBor (Parts Reading)) (x : Result U ASN1Error) → g.post f (p, tt) (x, (q, tt)) → P (part_of p.now) x (part_of q.now)) →
     Decodes {A = U} asks (λ m n v b. Enclosed C sequence_tag m n (parts v) b) (AnyEnclosed S sequence_tag) s r s'
@@ -109,8 +110,8 @@ sequence_by {P} {s} {r} {s'} parts make back laws reads fresh h says =
 
 -- a SEQUENCE whose closure reads parts, of which some may be left out, and makes a value of them
 pub contents_by : {U A F : Type 0} {g : Once F (MutBor (Parts Reading) × Unit {0}) (Result U ASN1Error × (MutBor (Parts Reading) × Unit {0}))}
-    {f : F} {asks : Bool} {C : BERMode → ℕ → A → List ℕ → Type 0} {S : BERMode → ℕ → List ℕ → Type 0}
-    {P : Reading → Result U ASN1Error → Reading → Type 0} {s : Reading} {r : Result U ASN1Error} {s' : Reading} (parts : U → A) (make : A → U) →
+    {f : F} {asks : Bool} {C : Grammar A} {S : Members}
+    {P : Does U} {s : Reading} {r : Result U ASN1Error} {s' : Reading} (parts : U → A) (make : A → U) →
     ((w : A) → parts (make w) ≡ w) → IsContentsDecoder asks C S make P → IsFresh s → ReadsParts (Runs g f) sequence_tag s r s' →
     ((p q : MutBor (Parts Reading)) (x : Result U ASN1Error) → g.post f (p, tt) (x, (q, tt)) → P (part_of p.now) x (part_of q.now)) →
     Decodes {A = U} asks (λ m n v b. Enclosed C sequence_tag m n (parts v) b) (AnyEnclosed S sequence_tag) s r s'
@@ -126,8 +127,8 @@ by_call P says f f' s r s' h = subst (λ z. P z r s') h.shows (subst (λ z. P h.
 
 -- a SEQUENCE OF whose closure reads one element a turn
 pub list_by : {F A : Type 0} {g : Mut F (MutBor Reading × Unit {0}) (Result A ASN1Error × (MutBor Reading × Unit {0}))} {f : F}
-    {E : A → A → Type 0} {asks : Bool} {B : BERMode → ℕ → A → List ℕ → Type 0} {S : BERMode → ℕ → List ℕ → Type 0}
-    {N : Reading → Result A ASN1Error → Reading → Type 0} {s : Reading} {r : Result (Vec A Global) ASN1Error} {s' : Reading} → IsCoding E B S →
+    {E : A → A → Type 0} {asks : Bool} {B : Grammar A} {S : Members}
+    {N : Does A} {s : Reading} {r : Result (Vec A Global) ASN1Error} {s' : Reading} → IsCoding E B S →
     IsDecoder asks B S N → IsFresh s → ReadsParts (Collects (CalledAtMut g) f) sequence_tag s r s' →
     ((f f' : F) (p q : MutBor Reading) (x : Result A ASN1Error) → Called g f (p, tt) (x, (q, tt)) f' → N p.now x q.now) →
     Decodes {A = Vec A Global} true (λ m n v b. IsListOf B sequence_tag m n v.items b) (AnyListOf S sequence_tag) s r s'

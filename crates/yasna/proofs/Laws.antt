@@ -1,6 +1,6 @@
 -- The laws that impls of the traits cite.
 use Rattle.std.proofs.Common.{◌≡◌, arith}
-use Rattle.yasna_base.specs.Bits.{IsBits}
+use Rattle.yasna_base.specs.Bits.{IsBits, bits_tag}
 use Rattle.yasna_base.specs.Coding.{IsCoding, Any}
 use Rattle.yasna_base.specs.Identifier.{universal}
 use Rattle.yasna_base.proofs.Bits.{bits_coding}
@@ -25,6 +25,6 @@ pub use Rattle.yasna_base.proofs.Texts.{text_coding, text_written, ascii_text}
 pub use Rattle.yasna_base.proofs.Canonical.{enclosed_written, primitively_written, written_along, can_be_written}
 
 -- a BIT STRING keeps the laws of reading, as the bytes that hold the bits, and how many bits there are
-pub bit_string_coding : IsCoding (λ v w. bits_in v ≡ bits_in w) (λ m n v b. IsBits n m (universal 3) (bits_in v) b)
-    (Any (λ m n v b. IsBits n m (universal 3) v b))
-bit_string_coding = along bits_in (bits_coding (universal 3) (not_end 3 (λ e. omega arith)))
+pub bit_string_coding : IsCoding (λ v w. bits_in v ≡ bits_in w) (λ m n v b. IsBits n m bits_tag (bits_in v) b)
+    (Any (λ m n v b. IsBits n m bits_tag v b))
+bit_string_coding = along bits_in (bits_coding bits_tag (not_end 3 (λ e. omega arith)))

@@ -9,27 +9,30 @@ pub use Rattle.yasna_base.specs.declared.error.ASN1ErrorKind.TheVariants.{Eof, E
 pub use Rattle.yasna_base.specs.Error.{kind_of, error_of}
 pub use Rattle.yasna_base.specs.Identifier.{universal, BeginsWithTag, AtEnd}
 pub use Rattle.yasna_base.specs.Digits.{IsBytes}
+-- the types of relations, forms and nests
+pub use Rattle.yasna_base.specs.Grammar.{Grammar, Members, Form, Nest}
 -- the laws, and what a relation asks of bytes alone
 pub use Rattle.yasna_base.specs.Coding.{IsCoding, Any}
 pub use Rattle.yasna_base.specs.Canonical.{IsWritten, HasForm, Always, leaf_nest, enclosed_form, enclosed_nest, canonical_element}
 -- types of one primitive element
 pub use Rattle.yasna_base.specs.Element.{IsPrimitive, Primitively}
-pub use Rattle.yasna_base.specs.Boolean.{IsBoolean, EncodesBoolean, boolean_form}
-pub use Rattle.yasna_base.specs.Null.{IsNull, EncodesNull, null_form}
-pub use Rattle.yasna_base.specs.Integer.{IsSigned, IsUnsigned, EncodesSigned, EncodesUnsigned, integer_form}
+pub use Rattle.yasna_base.specs.Boolean.{boolean_tag, IsBoolean, EncodesBoolean, boolean_form}
+pub use Rattle.yasna_base.specs.Null.{null_tag, IsNull, EncodesNull, null_form}
+pub use Rattle.yasna_base.specs.Integer.{integer_tag, IsSigned, IsUnsigned, EncodesSigned, EncodesUnsigned, integer_form}
 pub use Rattle.yasna_base.specs.BigInteger.{BigInteger, IsBigInteger, CanBigInteger, big_integer_form}
-pub use Rattle.yasna_base.specs.Enumerated.{EncodesEnumerated}
-pub use Rattle.yasna_base.specs.Oid.{EncodesOid, IsEncodableOid, oid_form}
+pub use Rattle.yasna_base.specs.Enumerated.{enumerated_tag, EncodesEnumerated}
+pub use Rattle.yasna_base.specs.Oid.{oid_tag, EncodesOid, IsEncodableOid, oid_form}
 -- strings
 pub use Rattle.yasna_base.specs.Octets.{EncodesOctets, EncodesVec, octets_tag, octets_form, octets_nest, IsOctets, IsDeepOctets}
-pub use Rattle.yasna_base.specs.Bits.{BitString, IsBits, IsDeepBits, CanBits, AreCanonicalBits, bits_form, bits_nest}
+pub use Rattle.yasna_base.specs.Bits.{bits_tag, BitString, IsBits, IsDeepBits, CanBits, AreCanonicalBits, bits_form, bits_nest}
 pub use Rattle.yasna_bytes.specs.Segments.{bits_in}
+pub use Rattle.yasna_base.specs.Text.{utf8_tag, numeric_tag, printable_tag, ia5_tag, visible_tag, bmp_tag}
 pub use Rattle.yasna_base.specs.Text.{EncodesString, EncodesText, characters, utf8_form, utf8_nest, bmp_form, bmp_nest}
 pub use Rattle.yasna_base.specs.Text.{IsStringOf, IsUtf8In, IsBmp, IsPairedBmp, InNumeric, InPrintable, InIa5, InVisible, InUtf8}
 -- times
 pub use Rattle.yasna_times.specs.Models.{utc_of, moment_of, EncodesUtc, EncodesGeneral}
-pub use Rattle.yasna_times.specs.UtcTime.{EncodesUtcTime, utc_time_form, utc_time_nest}
-pub use Rattle.yasna_times.specs.GeneralizedTime.{EncodesGeneralizedTime, generalized_time_form, generalized_time_nest}
+pub use Rattle.yasna_times.specs.UtcTime.{utc_time_tag, EncodesUtcTime, utc_time_form, utc_time_nest}
+pub use Rattle.yasna_times.specs.GeneralizedTime.{generalized_time_tag, EncodesGeneralizedTime, generalized_time_form, generalized_time_nest}
 -- raw elements
 pub use Rattle.yasna_base.specs.Raw.{RawValue, IsRaw, IsDeepRaw, raw_form}
 pub use Rattle.yasna_base.specs.TaggedDerValue.{raw_of}
@@ -44,7 +47,7 @@ pub use Rattle.yasna_base.specs.Nested.{IsNested, AnyNested, SameNested}
 pub use Rattle.yasna_base.specs.Choice.{EitherOf, AnyEither, SameEither}
 pub use Rattle.yasna_base.specs.Set.{set_tag, IsSet, IsSetOf, AnySetOf}
 -- what reads do
-pub use Rattle.yasna_reader.specs.State.{Reading, IsFresh, part_of}
+pub use Rattle.yasna_reader.specs.State.{Reading, Does, IsFresh, part_of}
 pub use Rattle.yasna_reader.specs.Decodes.{Decodes, Step, Done}
 pub use Rattle.yasna_reader.specs.Primitive.{Reads, ReadsSeen, NoLevel}
 pub use Rattle.yasna_reader.specs.Raw.{ReadsRaw}

@@ -3,15 +3,15 @@ ghost use Rattle.std.specs.Str.{chars};
 ghost use Rattle.yasna_base.specs.Canonical.{Always};
 ghost use Rattle.yasna_base.specs.Digits.{IsBytes};
 ghost use Rattle.yasna_base.specs.Identifier.{universal};
-ghost use Rattle.yasna_base.specs.Octets.{octets_form, octets_nest};
-ghost use Rattle.yasna_base.specs.Text.{utf8_form, utf8_nest};
+ghost use Rattle.yasna_base.specs.Octets.{octets_form, octets_nest, octets_tag};
+ghost use Rattle.yasna_base.specs.Text.{utf8_form, utf8_nest, utf8_tag};
 
 use crate::traits::DEREncodable;
 use yasna_base::error::ASN1Result;
 use yasna_writer::DERWriter;
 
 impl<'a> DEREncodable for &'a [u8] {
-    ghost form = { λ m v. octets_form (universal 4) m v.now };
+    ghost form = { λ m v. octets_form octets_tag m v.now };
 
     ghost nest = { λ m v. octets_nest m v.now };
 
@@ -23,7 +23,7 @@ impl<'a> DEREncodable for &'a [u8] {
 }
 
 impl<'a> DEREncodable for &'a str {
-    ghost form = { λ m v. utf8_form (universal 12) m (chars v.now) };
+    ghost form = { λ m v. utf8_form utf8_tag m (chars v.now) };
 
     ghost nest = { λ m v. utf8_nest m (chars v.now) };
 

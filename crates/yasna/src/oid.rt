@@ -3,7 +3,7 @@ ghost use Rattle.std.specs.Prelude.{◌≡◌, true};
 ghost use Rattle.yasna_base.specs.Canonical.{leaf_nest};
 ghost use Rattle.yasna_base.specs.Coding.{Any};
 ghost use Rattle.yasna_base.specs.Identifier.{universal};
-ghost use Rattle.yasna_base.specs.Oid.{EncodesOid, IsEncodableOid, oid_form};
+ghost use Rattle.yasna_base.specs.Oid.{EncodesOid, IsEncodableOid, oid_form, oid_tag};
 ghost use Rattle.yasna_base.proofs.Oid.{oid_coding, oid_written};
 
 use crate::traits::{BERDecodable, DERCanonical, DEREncodable};
@@ -29,7 +29,7 @@ impl BERDecodable for ObjectIdentifier {
 }
 
 impl DEREncodable for ObjectIdentifier {
-    ghost form = { oid_form (universal 6) };
+    ghost form = { oid_form oid_tag };
 
     ghost nest = { leaf_nest };
 

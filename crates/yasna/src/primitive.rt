@@ -4,9 +4,9 @@ ghost use Rattle.std.specs.Int.{w64, w32, w16};
 ghost use Rattle.yasna_base.specs.Identifier.{universal};
 ghost use Rattle.yasna_base.specs.Coding.{Any};
 ghost use Rattle.yasna_base.specs.Canonical.{leaf_nest, Always};
-ghost use Rattle.yasna_base.specs.Boolean.{EncodesBoolean, boolean_form};
-ghost use Rattle.yasna_base.specs.Null.{EncodesNull, null_form};
-ghost use Rattle.yasna_base.specs.Integer.{EncodesSigned, EncodesUnsigned, integer_form};
+ghost use Rattle.yasna_base.specs.Boolean.{EncodesBoolean, boolean_form, boolean_tag};
+ghost use Rattle.yasna_base.specs.Null.{EncodesNull, null_form, null_tag};
+ghost use Rattle.yasna_base.specs.Integer.{EncodesSigned, EncodesUnsigned, integer_form, integer_tag};
 ghost use Rattle.yasna_base.proofs.Boolean.{bool_coding, bool_written};
 ghost use Rattle.yasna_base.proofs.Null.{unit_coding, unit_written};
 ghost use Rattle.yasna_base.proofs.Integer.{signed_coding, signed_written, unsigned_coding, unsigned_written};
@@ -33,7 +33,7 @@ impl BERDecodable for () {
 }
 
 impl DEREncodable for () {
-    ghost form = { null_form (universal 5) };
+    ghost form = { null_form null_tag };
 
     ghost nest = { leaf_nest };
 
@@ -65,7 +65,7 @@ impl BERDecodable for bool {
 }
 
 impl DEREncodable for bool {
-    ghost form = { boolean_form (universal 1) };
+    ghost form = { boolean_form boolean_tag };
 
     ghost nest = { leaf_nest };
 
@@ -97,7 +97,7 @@ impl BERDecodable for i64 {
 }
 
 impl DEREncodable for i64 {
-    ghost form = { λ m v. integer_form (universal 2) m v };
+    ghost form = { λ m v. integer_form integer_tag m v };
 
     ghost nest = { leaf_nest };
 
@@ -129,7 +129,7 @@ impl BERDecodable for i32 {
 }
 
 impl DEREncodable for i32 {
-    ghost form = { λ m v. integer_form (universal 2) m v };
+    ghost form = { λ m v. integer_form integer_tag m v };
 
     ghost nest = { leaf_nest };
 
@@ -161,7 +161,7 @@ impl BERDecodable for i16 {
 }
 
 impl DEREncodable for i16 {
-    ghost form = { λ m v. integer_form (universal 2) m v };
+    ghost form = { λ m v. integer_form integer_tag m v };
 
     ghost nest = { leaf_nest };
 
@@ -193,7 +193,7 @@ impl BERDecodable for u64 {
 }
 
 impl DEREncodable for u64 {
-    ghost form = { λ m v. integer_form (universal 2) m (pos v) };
+    ghost form = { λ m v. integer_form integer_tag m (pos v) };
 
     ghost nest = { leaf_nest };
 
@@ -225,7 +225,7 @@ impl BERDecodable for u32 {
 }
 
 impl DEREncodable for u32 {
-    ghost form = { λ m v. integer_form (universal 2) m (pos v) };
+    ghost form = { λ m v. integer_form integer_tag m (pos v) };
 
     ghost nest = { leaf_nest };
 
@@ -257,7 +257,7 @@ impl BERDecodable for u16 {
 }
 
 impl DEREncodable for u16 {
-    ghost form = { λ m v. integer_form (universal 2) m (pos v) };
+    ghost form = { λ m v. integer_form integer_tag m (pos v) };
 
     ghost nest = { leaf_nest };
 

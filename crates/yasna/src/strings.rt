@@ -4,8 +4,8 @@ ghost use Rattle.yasna_base.specs.Canonical.{Always};
 ghost use Rattle.yasna_base.specs.Coding.{Any};
 ghost use Rattle.yasna_base.specs.Digits.{IsBytes};
 ghost use Rattle.yasna_base.specs.Identifier.{universal};
-ghost use Rattle.yasna_base.specs.Octets.{EncodesOctets, EncodesVec, octets_form, octets_nest};
-ghost use Rattle.yasna_base.specs.Text.{EncodesText, EncodesString, utf8_form, utf8_nest, characters};
+ghost use Rattle.yasna_base.specs.Octets.{EncodesOctets, EncodesVec, octets_form, octets_nest, octets_tag};
+ghost use Rattle.yasna_base.specs.Text.{EncodesText, EncodesString, utf8_form, utf8_nest, characters, utf8_tag};
 ghost use Rattle.yasna_base.proofs.Octets.{vec_coding, vec_written};
 ghost use Rattle.yasna_base.proofs.Texts.{text_coding, text_written};
 
@@ -31,7 +31,7 @@ impl BERDecodable for Vec<u8> {
 }
 
 impl DEREncodable for Vec<u8> {
-    ghost form = { λ m v. octets_form (universal 4) m v.items };
+    ghost form = { λ m v. octets_form octets_tag m v.items };
 
     ghost nest = { λ m v. octets_nest m v.items };
 
@@ -63,7 +63,7 @@ impl BERDecodable for String {
 }
 
 impl DEREncodable for String {
-    ghost form = { λ m v. utf8_form (universal 12) m (characters v) };
+    ghost form = { λ m v. utf8_form utf8_tag m (characters v) };
 
     ghost nest = { λ m v. utf8_nest m (characters v) };
 

@@ -2,10 +2,10 @@
 ghost use Rattle.std.specs.Prelude.{◌≡◌, true};
 ghost use Rattle.yasna_base.specs.Canonical.{Always};
 ghost use Rattle.yasna_base.specs.Coding.{Any};
-ghost use Rattle.yasna_times.specs.GeneralizedTime.{EncodesGeneralizedTime, generalized_time_form, generalized_time_nest};
+ghost use Rattle.yasna_times.specs.GeneralizedTime.{EncodesGeneralizedTime, generalized_time_form, generalized_time_nest, generalized_time_tag};
 ghost use Rattle.yasna_base.specs.Identifier.{universal};
 ghost use Rattle.yasna_times.specs.Models.{EncodesUtc, EncodesGeneral, utc_of, moment_of};
-ghost use Rattle.yasna_times.specs.UtcTime.{EncodesUtcTime, utc_time_form, utc_time_nest};
+ghost use Rattle.yasna_times.specs.UtcTime.{EncodesUtcTime, utc_time_form, utc_time_nest, utc_time_tag};
 ghost use Rattle.yasna_times.proofs.TimeLaws.{utc_coding, utc_written, general_coding, general_written};
 
 use crate::traits::{BERDecodable, DERCanonical, DEREncodable};
@@ -31,7 +31,7 @@ impl BERDecodable for UTCTime {
 }
 
 impl DEREncodable for UTCTime {
-    ghost form = { λ m v. utc_time_form (universal 23) m (utc_of v) };
+    ghost form = { λ m v. utc_time_form utc_time_tag m (utc_of v) };
 
     ghost nest = { λ m v. utc_time_nest m (utc_of v) };
 
@@ -63,7 +63,7 @@ impl BERDecodable for GeneralizedTime {
 }
 
 impl DEREncodable for GeneralizedTime {
-    ghost form = { λ m v. generalized_time_form (universal 24) m (moment_of v) };
+    ghost form = { λ m v. generalized_time_form generalized_time_tag m (moment_of v) };
 
     ghost nest = { λ m v. generalized_time_nest m (moment_of v) };
 

@@ -7,8 +7,9 @@ ghost use Rattle.yasna_base.specs.declared.error.ASN1Error.{ASN1Error};
 ghost use Rattle.yasna_base.specs.declared.mode.BERMode.{BERMode};
 ghost use Rattle.yasna_base.specs.Coding.{IsCoding};
 ghost use Rattle.yasna_base.specs.Canonical.{IsWritten};
+ghost use Rattle.yasna_base.specs.Grammar.{Grammar, Members, Form, Nest};
 ghost use Rattle.yasna_reader.specs.Decodes.{Decodes, RepeatsKept};
-ghost use Rattle.yasna_reader.specs.State.{Reading};
+ghost use Rattle.yasna_reader.specs.State.{Reading, Does};
 ghost use Rattle.yasna_writer.specs.View.{Writes};
 
 use yasna_base::error::ASN1Result;
@@ -41,10 +42,10 @@ use yasna_writer::DERWriter;
 /// ```
 pub trait BERDecodable: Sized + Drop {
     // Which bytes encode a value, in a mode within a number of levels.
-    ghost encodes: { BERMode → ℕ → Self → List ℕ → Type 0 };
+    ghost encodes: { Grammar Self };
 
     // What that asks of the bytes alone.
-    ghost elements: { BERMode → ℕ → List ℕ → Type 0 };
+    ghost elements: { Members };
 
     // Whether reading a value may want memory.
     ghost asks_memory: { Bool };
@@ -53,7 +54,7 @@ pub trait BERDecodable: Sized + Drop {
     ghost same: { Self → Self → Type 0 };
 
     // What `decode_ber` does besides, where a type says more than its contract, as which refusal comes.
-    ghost reads: { Reading → Result Self ASN1Error → Reading → Type 0 } = { λ _ _ _. ⊤ };
+    ghost reads: { Does Self } = { λ _ _ _. ⊤ };
 
     /// Reads a value of this type, where no implicit tag waits.
     ///
@@ -86,10 +87,10 @@ pub trait BERDecodable: Sized + Drop {
 /// ```
 pub trait DEREncodable {
     // The form of a value in a canonical mode.
-    ghost form: { BERMode → Self → List ℕ };
+    ghost form: { Form Self };
 
     // How many levels that form takes.
-    ghost nest: { BERMode → Self → ℕ };
+    ghost nest: { Nest Self };
 
     // Which values have a form.
     ghost encodable: { Self → Type 0 };

@@ -4,6 +4,7 @@
 //! are those of its parts, one after the other.
 ghost use Rattle.std.specs.Prelude.{◌≡◌, ℕ, List, Bool, None, false, ◌||◌, ◌++◌, []};
 ghost use Rattle.yasna_base.specs.declared.mode.BERMode.{BERMode};
+ghost use Rattle.yasna_base.specs.Grammar.{Grammar, Members, Form};
 ghost use Rattle.yasna_base.specs.Sequence.{sequence_tag, PartOf, NoParts, AnyPart, AnyNothing, SamePart, SameNothing, part_form, part_nest, part_can, nothing_form, nothing_nest};
 ghost use Rattle.yasna_base.specs.Element.{Enclosed, AnyEnclosed};
 ghost use Rattle.yasna_base.specs.Coding.{ArePartsCoding};
@@ -23,10 +24,10 @@ use yasna_writer::{DERWriter, DERWriterSeq};
 /// What a tuple's parts are read as.
 pub trait TupleParts: Sized + Drop {
     // Which contents encode the parts.
-    ghost parts: { BERMode → ℕ → Self → List ℕ → Type 0 };
+    ghost parts: { Grammar Self };
 
     // What that asks of the bytes alone.
-    ghost any_parts: { BERMode → ℕ → List ℕ → Type 0 };
+    ghost any_parts: { Members };
 
     // Whether reading one may want memory.
     ghost parts_ask: { Bool };
@@ -93,7 +94,7 @@ fn read_tuple<W: TupleParts>(reader: BERReader) -> ASN1Result<W>
 /// Values that are written one after the other: pairs that end in `()`, as `(&a, (&b, (&c, ())))`.
 pub trait EncodableParts {
     // The forms of the values, one after the other.
-    ghost parts_form: { BERMode → Self → List ℕ };
+    ghost parts_form: { Form Self };
 
     // Whether each has a form.
     ghost parts_encodable: { Self → Type 0 };

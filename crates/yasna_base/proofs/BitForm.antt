@@ -1,5 +1,5 @@
 -- The laws of writing of BIT STRING, and how CER cuts one.
-use Rattle.std.proofs.Common.{◌≡◌, ℕ, zero, suc, ◌+◌, ◌-◌, ◌*◌, ◌%◌, ◌^◌, ◌<◌, ◌≤◌, List, [], ◌∷◌, ◌++◌, length, get_or, map, refl, ap, ap₂, ◌∙◌, sym, arith, subst, length-append, append-nil}
+use Rattle.std.proofs.Common.{◌≡◌, ℕ, ◌+◌, ◌-◌, ◌*◌, ◌%◌, ◌^◌, ◌<◌, ◌≤◌, List, [], ◌∷◌, ◌++◌, length, get_or, map, refl, ap, ap₂, ◌∙◌, sym, arith, subst, length-append, append-nil}
 use Rattle.std.proofs.Math.Nat.{mod-one}
 use Rattle.std.proofs.lemmas.List.{get_or-append-add}
 use Rattle.std.specs.List.{AllByRecursion, concat, flat_map}
@@ -8,12 +8,12 @@ use Rattle.yasna_base.specs.declared.mode.BERMode.TheVariants.{Ber, Der, Cer}
 use Rattle.yasna_base.specs.declared.tag.PCBit.TheVariants.{Primitive, Constructed}
 use Rattle.std.specs.Prelude.{if◌then◌else◌, nat_lt}
 use Rattle.yasna_base.specs.declared.tag.Tag.{Tag}
-use Rattle.yasna_base.specs.Bits.{BitString, bits_cutting, IsBits, IsFull, AreFullBeforeLast, all_bits, AreBitsJoined, CanBits, AreCanonicalBits, unused_bits, padded, bits_contents, bit_pieces, bit_segments, bits_form, bits_nest, BitsKeepLaws, cleared}
+use Rattle.yasna_base.specs.Bits.{BitString, bits_segmentation, IsBits, AreFullBeforeLast, all_bits, AreBitsJoined, CanBits, AreCanonicalBits, unused_bits, padded, bits_contents, bit_pieces, bit_segments, bits_form, bits_nest, BitsKeepLaws, cleared}
 use Rattle.yasna_base.specs.Canonical.{canonical_element, HasForm}
 use Rattle.yasna_base.specs.Digits.{IsBytes}
 use Rattle.yasna_base.specs.Segments.{AreSegments, segments}
 use Rattle.yasna_base.proofs.Bits.{bits_coding, bits_can, padded_same, padded_length, contents_bytes, canonical_means, canonical_one, cleared_canonical, cleared_contents, join_can}
-use Rattle.yasna_base.proofs.CutForm.{HasPieces, cut_has}
+use Rattle.yasna_base.proofs.SegmentedForm.{HasSegments, segmented_has}
 use Rattle.yasna_base.proofs.Digits.{bytes_front, bytes_behind}
 use Rattle.yasna_base.proofs.Segments.{segments_long, segments_are, segments_two, segments_only, segments_over}
 
@@ -34,7 +34,7 @@ record HoldBits (n : ℕ) (bs : List (List ℕ)) (k : ℕ) : Type 0 where
   each : AreSegments n bs
   canonical : AreCanonicalBits (record { bytes = concat bs; count = k })
 
--- the pieces that they make
+-- the segments that they make
 record ArePiecesOf (bs : List (List ℕ)) (k : ℕ) : Type 0 where
   same : map (λ (w : BitString). w.bytes) (bit_pieces bs k) ≡ bs
   canonical : AllByRecursion AreCanonicalBits (bit_pieces bs k)
@@ -76,7 +76,7 @@ rest_holds n b c bs k x some =
       below,
     )
 
--- a full one in front of pieces
+-- a full one in front of segments
 full_behind : (b : List ℕ) (bs : List (List ℕ)) (k : ℕ) → AreFullBeforeLast (bit_pieces bs k) →
     AreFullBeforeLast (record { bytes = b; count = 8 * length b } ∷ bit_pieces bs k)
 full_behind b [] k h = tt
@@ -106,7 +106,7 @@ pieces_of n (b ∷ c ∷ bs) k x =
       count = omega arith;
     }
 
--- pieces all but the last of which are full are made of their bytes and of the count of all bits
+-- segments all but the last of which are full are made of their bytes and of the count of all bits
 pieces_made : (vs : List BitString) → AreFullBeforeLast vs → vs ≡ bit_pieces (map (λ (w : BitString). w.bytes) vs) (all_bits vs)
 pieces_made [] h = refl
 pieces_made (v ∷ []) h = let e : v.count ≡ v.count + 0 = omega arith in ap (λ k. record { bytes = v.bytes; count = k } ∷ []) e
@@ -116,7 +116,7 @@ pieces_made (v ∷ w ∷ vs) h =
     ap₂ (λ c us. record { bytes = v.bytes; count = c } ∷ us) e
     (pieces_made (w ∷ vs) h.1 ∙ ap (bit_pieces (map (λ (w : BitString). w.bytes) (w ∷ vs))) rest)
 
--- what canonical pieces make is canonical
+-- what canonical segments make is canonical
 joined_zeros : (n : ℕ) (vs : List BitString) → AllByRecursion AreCanonicalBits vs → AreFullBeforeLast vs → AreSegments n (map (λ (w : BitString). w.bytes) vs) →
     let d = concat (map (λ (w : BitString). w.bytes) vs) in get_or d (length d - 1) 0 % 2 ^ (8 * length d - all_bits vs) ≡ 0
 joined_zeros n [] can full h = absurd h
@@ -189,8 +189,8 @@ bits_alone vs v can j cut =
     )
 
 -- bits are cut in one way by CER, into segments of 999 bytes
-pub bits_pieces : HasPieces bits_cutting AreCanonicalBits bits_contents bit_segments
-bits_pieces = record {
+pub bits_in_segments : HasSegments bits_segmentation AreCanonicalBits bits_contents bit_segments
+bits_in_segments = record {
   bytes = contents_bytes;
   means = canonical_means;
   one = canonical_one;
@@ -201,7 +201,7 @@ bits_pieces = record {
 
 -- a canonical BIT STRING has its form
 pub bits_has : (t : Tag) → t.tag_number < 2 ^ 64 → HasForm (λ m n v b. IsBits n m t v b) (bits_form t) bits_nest (λ m. AreCanonicalBits)
-bits_has t range = cut_has bits_pieces (omega arith) t range
+bits_has t range = segmented_has bits_in_segments (omega arith) t range
 
 -- with its unused bits cleared a string has the same form
 same_form : (t : Tag) (m : BERMode) (v : BitString) → CanBits v → bits_form t m v ≡ bits_form t m (cleared v)
@@ -211,7 +211,7 @@ same_form t Cer v h =
     let contents = cleared_contents v h in
     let bytes : padded (unused_bits v) v.bytes ≡ padded (unused_bits (cleared v)) (cleared v).bytes = cc in
     let cut : List BitString → List ℕ =
-    λ ws. canonical_element Cer t Constructed (flat_map (λ w. canonical_element Der bits_cutting.piece Primitive (bits_contents w)) ws) in
+    λ ws. canonical_element Cer t Constructed (flat_map (λ w. canonical_element Der bits_segmentation.segment Primitive (bits_contents w)) ws) in
     let all : List ℕ → List ℕ = λ c. canonical_element Cer t Primitive c in
     ap (λ j. if nat_lt 999 j then cut (bit_segments v) else all (bits_contents v)) (sym (padded_length (unused_bits v) v.bytes))
     ∙ ap₂ (λ ws c. if nat_lt 999 (length (cleared v).bytes) then cut ws else all c) (ap (λ b. bit_pieces (segments 999 b) v.count) bytes) contents

@@ -2,10 +2,10 @@
 use Rattle.std.proofs.Common.{◌≡◌, ℕ, List, ◌∷◌, length, ap, ap₂, ◌∙◌, sym, arith, [], ◌*◌, ◌-◌, ◌%◌, ◌^◌, ◌<◌, ◌≤◌, get_or, suc, refl, subst, length-append, ◌+◌, ◌/◌, ◌++◌}
 use Rattle.yasna_base.specs.declared.mode.BERMode.{BERMode}
 use Rattle.yasna_base.specs.declared.tag.Tag.{Tag}
-use Rattle.yasna_base.specs.Bits.{BitString, AreTheBits, bits_cutting, IsBits, IsPadded, AreFullBeforeLast, all_bits, CanBits, AreCanonicalBits, unused_bits, padded, bits_contents, AreBitsJoined, cleared, IsFull, MayFollow}
+use Rattle.yasna_base.specs.Bits.{BitString, AreTheBits, bits_segmentation, IsBits, IsPadded, AreFullBeforeLast, all_bits, CanBits, AreCanonicalBits, unused_bits, padded, bits_contents, AreBitsJoined, cleared, IsFull, MayFollow}
 use Rattle.yasna_base.specs.Coding.{IsCoding, Any}
 use Rattle.yasna_base.specs.Identifier.{end_tag}
-use Rattle.yasna_base.proofs.Cut.{CutsOnce, cut_coding, cut_keeps}
+use Rattle.yasna_base.proofs.Segmented.{SegmentsOnce, segmented_coding, segmented_keeps}
 use Rattle.yasna_base.proofs.Identifier.{not_end}
 use Rattle.std.specs.List.{AllByRecursion, flat_map}
 use Rattle.yasna_base.specs.declared.mode.BERMode.TheVariants.{Ber, Der, Cer}
@@ -26,16 +26,16 @@ one_whole m v w c x y =
     same_bits v w b (omega (arith, ap length b, x.counted, y.counted))
 
 -- bits are cut in one way
-pub bits_once : CutsOnce bits_cutting
+pub bits_once : SegmentsOnce bits_segmentation
 bits_once = record {
   whole = one_whole;
   join = λ m vs v w x y. same_bits v w (x.bytes ∙ sym y.bytes) (x.count ∙ sym y.count);
-  piece = not_end 3 (λ e. omega arith);
+  segment = not_end 3 (λ e. omega arith);
 }
 
 -- BIT STRING keeps the laws of reading
 pub bits_coding : (t : Tag) → (t ≡ end_tag → ⊥) → IsCoding (λ v w. v ≡ w) (λ m n v b. IsBits n m t v b) (Any (λ m n v b. IsBits n m t v b))
-bits_coding t not_end = cut_coding bits_once t not_end
+bits_coding t not_end = segmented_coding bits_once t not_end
 
 joined_can : (vs : List BitString) → AreFullBeforeLast vs → AllByRecursion CanBits vs →
     IsBytes (flat_map (λ (w : BitString). w.bytes) vs) × (all_bits vs ≤ 8 * length (flat_map (λ (w : BitString). w.bytes) vs)) ×
@@ -73,7 +73,7 @@ whole_can m v c bytes x = record {
 
 -- bits stand in as many bytes as they need
 pub bits_can : (n : ℕ) (m : BERMode) (t : Tag) (v : BitString) (b : List ℕ) → IsBits n m t v b → CanBits v
-bits_can = cut_keeps bits_cutting CanBits whole_can join_can
+bits_can = segmented_keeps bits_segmentation CanBits whole_can join_can
 
 -- zeros in place of zeros
 pub padded_same : (u : ℕ) (d : List ℕ) → get_or d (length d - 1) 0 % 2 ^ u ≡ 0 → padded u d ≡ d
@@ -186,11 +186,11 @@ all_front : (vs ws : List BitString) → AllByRecursion IsFull (vs ++ ws) → Al
 all_front [] ws h = tt
 all_front (v ∷ vs) ws h = (h.0, all_front vs ws h.1)
 
--- where a piece may follow strings, it may follow those in front
+-- where a segment may follow strings, it may follow those in front
 pub follow_front : (vs ws : List BitString) → MayFollow (vs ++ ws) → MayFollow vs
 follow_front vs ws x = record { full = all_front vs ws x.full; in_range = omega (arith, all_bits_append vs ws, x.in_range) }
 
--- and a piece that stands in a string may follow those in front of it
+-- and a segment that stands in a string may follow those in front of it
 pub joined_follow : (m : BERMode) (vs ws : List BitString) (w v : BitString) → AreBitsJoined m (vs ++ (w ∷ ws)) v → MayFollow vs
 joined_follow m vs ws w v x = record {
   full = full_front vs ws w x.full;

@@ -3,7 +3,7 @@ use Rattle.std.proofs.Common.{◌≡◌, ℕ, ◌^◌, ◌<◌, List, [], ◌∷
 use Rattle.yasna_base.specs.declared.mode.BERMode.{BERMode}
 use Rattle.yasna_base.specs.declared.mode.BERMode.TheVariants.{Ber, Der, Cer}
 use Rattle.yasna_base.specs.declared.tag.Tag.{Tag}
-use Rattle.yasna_base.specs.Boolean.{SaysTrue, IsBoolean, EncodesBoolean, boolean_byte, boolean_form}
+use Rattle.yasna_base.specs.Boolean.{SaysTrue, IsBoolean, EncodesBoolean, boolean_byte, boolean_form, boolean_tag}
 use Rattle.yasna_base.specs.Canonical.{IsCanonicalMode, leaf_nest, Always, IsWritten}
 use Rattle.yasna_base.specs.Coding.{IsCoding, Any}
 use Rattle.yasna_base.specs.Digits.{IsBytes}
@@ -59,7 +59,7 @@ boolean_written t range =
 
 -- under its own tag
 pub bool_coding : IsCoding (λ v w. v ≡ w) EncodesBoolean (Any EncodesBoolean)
-bool_coding = boolean_coding (universal 1) (not_end 1 (λ e. omega arith))
+bool_coding = boolean_coding boolean_tag (not_end 1 (λ e. omega arith))
 
-pub bool_written : IsWritten (λ v w. v ≡ w) EncodesBoolean (boolean_form (universal 1)) leaf_nest Always
-bool_written = boolean_written (universal 1) (omega arith)
+pub bool_written : IsWritten (λ v w. v ≡ w) EncodesBoolean (boolean_form boolean_tag) leaf_nest Always
+bool_written = boolean_written boolean_tag (omega arith)

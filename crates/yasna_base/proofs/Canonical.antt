@@ -9,6 +9,7 @@ use Rattle.yasna_base.specs.declared.tag.Tag.{Tag}
 use Rattle.yasna_base.specs.Canonical.{IsCanonicalMode, HoldsForm, definite_element, indefinite_element, canonical_element, leaf_nest, enclosed_form, enclosed_nest, Always, HasForm, IsWritten}
 use Rattle.yasna_base.specs.Digits.{IsBytes}
 use Rattle.yasna_base.specs.Element.{TakesDefinite, TakesIndefinite, end_of_contents, Definite, Indefinite, Framed, definite, indefinite, Element, Primitively, Enclosed}
+use Rattle.yasna_base.specs.Grammar.{Grammar, Form, Nest}
 use Rattle.yasna_base.specs.Identifier.{identifier}
 use Rattle.yasna_base.specs.Length.{shortest_length}
 use Rattle.yasna_base.proofs.Digits.{bytes_append}
@@ -144,7 +145,7 @@ primitively_written W Can contents t range bytes means one back = record {
   same = λ m v w e. (ap (λ u. canonical_element m t Primitive (contents u)) e, λ can. subst Can e can, refl);
 }
 
-module _ {A : Type 0} {C : BERMode → ℕ → A → List ℕ → Type 0} {form : BERMode → A → List ℕ} {nest : BERMode → A → ℕ}
+module _ {A : Type 0} {C : Grammar A} {form : Form A} {nest : Nest A}
     {Can : BERMode → A → Type 0} (x : HasForm C form nest Can) (t : Tag) (range : t.tag_number < 2 ^ 64) where
   enclosed_holds : (m o : BERMode) (n : ℕ) (v : A) → HoldsForm m o → Can m v → enclosed_nest nest m v ≤ n →
       length (enclosed_form form t m v) < 2 ^ 64 → Enclosed C t o n v (enclosed_form form t m v)
@@ -172,15 +173,14 @@ module _ {A : Type 0} {C : BERMode → ℕ → A → List ℕ → Type 0} {form 
     only = enclosed_only;
   }
 
-module _ {A : Type 0} {E : A → A → Type 0} {C : BERMode → ℕ → A → List ℕ → Type 0}
-    {form : BERMode → A → List ℕ} {nest : BERMode → A → ℕ} {Can : A → Type 0} (x : IsWritten E C form nest Can) (t : Tag) where
+module _ {A : Type 0} {E : A → A → Type 0} {C : Grammar A}
+    {form : Form A} {nest : Nest A} {Can : A → Type 0} (x : IsWritten E C form nest Can) (t : Tag) where
   enclosed_any : (n : ℕ) (v : A) (b : List ℕ) → Enclosed C t Ber n v b → Can v × (enclosed_nest nest Der v ≤ n)
   enclosed_any zero v b p = absurd p
   enclosed_any (suc n) v b p = let inner = x.any n v p.contents p.meaning in (inner.0, omega (arith, inner.1))
 
 -- an element around contents keeps the laws
-pub enclosed_written : {A : Type 0} {E : A → A → Type 0} {C : BERMode → ℕ → A → List ℕ → Type 0} {form : BERMode → A → List ℕ}
-    {nest : BERMode → A → ℕ} {Can : A → Type 0}
+pub enclosed_written : {A : Type 0} {E : A → A → Type 0} {C : Grammar A} {form : Form A} {nest : Nest A} {Can : A → Type 0}
     (t : Tag) → t.tag_number < 2 ^ 64 → IsWritten E C form nest Can → IsWritten E (Enclosed C t) (enclosed_form form t) (enclosed_nest nest) Can
 enclosed_written t range x = record {
   has = enclosed_has x.has t range;
@@ -189,8 +189,7 @@ enclosed_written t range x = record {
 }
 
 -- a type whose values stand for those of another keeps its laws
-pub written_along : {U A : Type 0} {E : A → A → Type 0} {B : BERMode → ℕ → A → List ℕ → Type 0} {form : BERMode → A → List ℕ}
-    {nest : BERMode → A → ℕ} {Can : A → Type 0} (f : U → A) →
+pub written_along : {U A : Type 0} {E : A → A → Type 0} {B : Grammar A} {form : Form A} {nest : Nest A} {Can : A → Type 0} (f : U → A) →
     IsWritten E B form nest Can →
     IsWritten (λ v w. E (f v) (f w)) (λ m n v b. B m n (f v) b) (λ m v. form m (f v)) (λ m v. nest m (f v)) (λ v. Can (f v))
 written_along f x = record {
@@ -200,8 +199,7 @@ written_along f x = record {
 }
 
 -- what keeps the laws keeps them where other words say which values can be written
-pub written_where : {A : Type 0} {E : A → A → Type 0} {B : BERMode → ℕ → A → List ℕ → Type 0} {form : BERMode → A → List ℕ}
-    {nest : BERMode → A → ℕ} {Can Can' : A → Type 0} →
+pub written_where : {A : Type 0} {E : A → A → Type 0} {B : Grammar A} {form : Form A} {nest : Nest A} {Can Can' : A → Type 0} →
     ((v : A) → Can v ↔ Can' v) → IsWritten E B form nest Can → IsWritten E B form nest Can'
 written_where same x = record {
   has = record {
@@ -214,13 +212,13 @@ written_where same x = record {
 }
 
 -- where every value can be written nothing is asked of one
-pub written_always : {A : Type 0} {E : A → A → Type 0} {B : BERMode → ℕ → A → List ℕ → Type 0} {form : BERMode → A → List ℕ}
-    {nest : BERMode → A → ℕ} {Can : A → Type 0} → ((v : A) → Can v) → IsWritten E B form nest Can → IsWritten E B form nest Always
+pub written_always : {A : Type 0} {E : A → A → Type 0} {B : Grammar A} {form : Form A}
+    {nest : Nest A} {Can : A → Type 0} → ((v : A) → Can v) → IsWritten E B form nest Can → IsWritten E B form nest Always
 written_always can x = written_where (λ v. (λ c. tt, λ always. can v)) x
 
 -- whatever is read can be written
-pub can_be_written : {A : Type 0} {E : A → A → Type 0} {B : BERMode → ℕ → A → List ℕ → Type 0} {form : BERMode → A → List ℕ}
-    {nest : BERMode → A → ℕ} {Can : A → Type 0} → IsWritten E B form nest Can → (m : BERMode) (n : ℕ) (v : A) (b : List ℕ) → B m n v b → Can v
+pub can_be_written : {A : Type 0} {E : A → A → Type 0} {B : Grammar A} {form : Form A}
+    {nest : Nest A} {Can : A → Type 0} → IsWritten E B form nest Can → (m : BERMode) (n : ℕ) (v : A) (b : List ℕ) → B m n v b → Can v
 can_be_written x Ber n v b h = (x.any n v b h).0
 can_be_written x Der n v b h = (x.has.only Der n v b tt h).1
 can_be_written x Cer n v b h = (x.has.only Cer n v b tt h).1
@@ -231,8 +229,7 @@ holds_own Ber h = absurd h
 holds_own Der h = tt
 holds_own Cer h = tt
 
-module _ {A : Type 0} {E : A → A → Type 0} {B : BERMode → ℕ → A → List ℕ → Type 0} {form : BERMode → A → List ℕ} {nest : BERMode → A → ℕ}
-    {Can : A → Type 0} (x : IsWritten E B form nest Can) where
+module _ {A : Type 0} {E : A → A → Type 0} {B : Grammar A} {form : Form A} {nest : Nest A} {Can : A → Type 0} (x : IsWritten E B form nest Can) where
   -- a type that keeps the laws is read in CER from its one form alone
   pub one_in_cer : (n : ℕ) (v : A) (s : List ℕ) → length s < 2 ^ 64 → B Cer n v s ↔ (Can v × (nest Cer v ≤ n) × (s ≡ form Cer v))
   one_in_cer n v s short = (

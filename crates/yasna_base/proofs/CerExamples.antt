@@ -5,16 +5,17 @@ use Rattle.yasna_base.specs.declared.tag.PCBit.TheVariants.{Constructed}
 use Rattle.yasna_base.specs.declared.tag.TagClass.TheVariants.{ContextSpecific}
 use Rattle.yasna_base.specs.Bits.{bits_tag, bits_form}
 use Rattle.yasna_base.specs.Canonical.{definite_element, indefinite_element, canonical_element, enclosed_form}
-use Rattle.yasna_base.specs.Cut.{CutsInto}
+use Rattle.yasna_base.specs.Segmented.{FallsInto}
 use Rattle.yasna_base.specs.Digits.{digits}
 use Rattle.yasna_base.specs.Identifier.{identifier, universal}
 use Rattle.yasna_base.specs.Length.{shortest_length}
 use Rattle.yasna_base.specs.Octets.{octets_tag, octets_form, octets_nest}
 use Rattle.yasna_base.specs.Raw.{raw_form}
 use Rattle.yasna_base.specs.Segments.{cut_up}
+use Rattle.yasna_base.specs.Sequence.{sequence_tag}
 
 -- the pair of 10 and true
-cer_pair : enclosed_form {A = Unit {0}} (λ m u. 2 ∷ 1 ∷ 10 ∷ 1 ∷ 1 ∷ 255 ∷ []) (universal 16) Cer tt ≡ 48 ∷ 128 ∷ 2 ∷ 1 ∷ 10 ∷ 1 ∷ 1 ∷ 255 ∷ 0 ∷ 0 ∷ []
+cer_pair : enclosed_form {A = Unit {0}} (λ m u. 2 ∷ 1 ∷ 10 ∷ 1 ∷ 1 ∷ 255 ∷ []) sequence_tag Cer tt ≡ 48 ∷ 128 ∷ 2 ∷ 1 ∷ 10 ∷ 1 ∷ 1 ∷ 255 ∷ 0 ∷ 0 ∷ []
 unfolding canonical_element indefinite_element identifier
 cer_pair = refl
 
@@ -54,13 +55,13 @@ unfolding cer_bits canonical_element definite_element indefinite_element identif
 cer_8000 = (refl, refl, refl)
 
 -- 1000 octets aren't cut, nor may the last segment be empty, or one before it be short
-not_cut : CutsInto Cer 1000 (replicate 1000 65 ∷ []) → ⊥
+not_cut : FallsInto Cer 1000 (replicate 1000 65 ∷ []) → ⊥
 not_cut x = omega (arith, x.1)
 
-not_empty_at_end : CutsInto Cer 1000 (replicate 1000 65 ∷ [] ∷ []) → ⊥
+not_empty_at_end : FallsInto Cer 1000 (replicate 1000 65 ∷ [] ∷ []) → ⊥
 not_empty_at_end x = omega (arith, x.0.1.0)
 
-not_short_before : CutsInto Cer 1000 ((65 ∷ []) ∷ replicate 1000 65 ∷ []) → ⊥
+not_short_before : FallsInto Cer 1000 ((65 ∷ []) ∷ replicate 1000 65 ∷ []) → ⊥
 not_short_before x = omega (arith, x.0.0)
 
 -- a raw element whose payload ends by the two zeros

@@ -4,21 +4,22 @@ use Rattle.yasna_base.specs.declared.mode.BERMode.{BERMode}
 use Rattle.yasna_base.specs.declared.tag.Tag.{Tag}
 use Rattle.yasna_base.specs.Choice.{EitherOf, AnyEither, SameEither}
 use Rattle.yasna_base.specs.Coding.{IsCoding}
+use Rattle.yasna_base.specs.Grammar.{Grammar, Members}
 use Rattle.yasna_base.specs.Identifier.{BeginsWithTag, StartsElement}
 use Rattle.yasna_base.proofs.Identifier.{begins_once, begins_with}
 
 -- members of S and of Q never begin the same bytes
-abbrev pub StandApart : (BERMode → ℕ → List ℕ → Type 0) → (BERMode → ℕ → List ℕ → Type 0) → Type 0
+abbrev pub StandApart : Members → Members → Type 0
 StandApart S Q = (m : BERMode) (n k : ℕ) (b c r s : List ℕ) → S m n b → Q m k c → b ++ r ≡ c ++ s → ⊥
 
 -- they don't where they begin with two tags
-pub apart_by_tags : {S Q : BERMode → ℕ → List ℕ → Type 0} (t u : Tag) → (t ≡ u → ⊥) → ((m : BERMode) (n : ℕ) (b : List ℕ) → S m n b → BeginsWithTag t b) →
+pub apart_by_tags : {S Q : Members} (t u : Tag) → (t ≡ u → ⊥) → ((m : BERMode) (n : ℕ) (b : List ℕ) → S m n b → BeginsWithTag t b) →
     ((m : BERMode) (n : ℕ) (b : List ℕ) → Q m n b → BeginsWithTag u b) → StandApart S Q
 apart_by_tags t u other x y m n k b c r s p q e =
     other (begins_once t u (c ++ s) (subst (λ z. BeginsWithTag t z) e (begins_with t b r (x m n b p))) (begins_with u c s (y m k c q)))
 
-module _ {A V : Type 0} {E : A → A → Type 0} {F : V → V → Type 0} {B : BERMode → ℕ → A → List ℕ → Type 0} {C : BERMode → ℕ → V → List ℕ → Type 0}
-    {S Q : BERMode → ℕ → List ℕ → Type 0} (x : IsCoding E B S) (y : IsCoding F C Q) (apart : StandApart S Q) where
+module _ {A V : Type 0} {E : A → A → Type 0} {F : V → V → Type 0} {B : Grammar A} {C : Grammar V}
+    {S Q : Members} (x : IsCoding E B S) (y : IsCoding F C Q) (apart : StandApart S Q) where
   either_reflexive : (v : A ⊎ V) → SameEither E F v v
   either_reflexive (inl v) = x.meaning.equal.reflexive v
   either_reflexive (inr v) = y.meaning.equal.reflexive v

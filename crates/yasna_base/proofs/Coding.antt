@@ -5,6 +5,7 @@ use Rattle.yasna_base.specs.declared.tag.PCBit.TheVariants.{Primitive, Construct
 use Rattle.yasna_base.specs.declared.tag.Tag.{Tag}
 use Rattle.yasna_base.specs.Coding.{IsSame, IsCoding, ArePartsCoding, IsContentsCoding, Any}
 use Rattle.yasna_base.specs.Element.{Primitively, Enclosed, AnyEnclosed}
+use Rattle.yasna_base.specs.Grammar.{Grammar, Members}
 use Rattle.yasna_base.specs.Identifier.{end_tag, BeginsWithTag, StartsElement}
 use Rattle.yasna_base.proofs.Element.{element_exact, primitive_exact, element_starts, framed_begins}
 use Rattle.yasna_base.proofs.Identifier.{not_end}
@@ -37,7 +38,7 @@ pub primitively_begins : {A : Type 0} (W : BERMode → A → List ℕ → Type 0
 primitively_begins W t m n b x = framed_begins m t Primitive x.1.contents b x.1.element.framed
 
 -- a type keeps the laws by any equivalence that follows from its own
-pub same_as : {A : Type 0} {E : A → A → Type 0} {B : BERMode → ℕ → A → List ℕ → Type 0} {S : BERMode → ℕ → List ℕ → Type 0} (F : A → A → Type 0) → IsSame F →
+pub same_as : {A : Type 0} {E : A → A → Type 0} {B : Grammar A} {S : Members} (F : A → A → Type 0) → IsSame F →
     ((v w : A) → E v w → F v w) → IsCoding E B S → IsCoding F B S
 same_as F equal says x = record {
   meaning = record {
@@ -51,12 +52,10 @@ same_as F equal says x = record {
 }
 
 -- the parts of a tuple may be contents
-pub parts_contents : {A : Type 0} {E : A → A → Type 0} {C : BERMode → ℕ → A → List ℕ → Type 0} {S : BERMode → ℕ → List ℕ → Type 0} →
-    ArePartsCoding E C S → IsContentsCoding E C S
+pub parts_contents : {A : Type 0} {E : A → A → Type 0} {C : Grammar A} {S : Members} → ArePartsCoding E C S → IsContentsCoding E C S
 parts_contents x = record { meaning = x.meaning; ends = λ m n k b c r s i j. x.alone m n k b c r s }
 
-module _ {A : Type 0} {E : A → A → Type 0} {C : BERMode → ℕ → A → List ℕ → Type 0} {S : BERMode → ℕ → List ℕ → Type 0} (x : IsContentsCoding E C S)
-    (t : Tag) where
+module _ {A : Type 0} {E : A → A → Type 0} {C : Grammar A} {S : Members} (x : IsContentsCoding E C S) (t : Tag) where
   enclosed_among : (m : BERMode) (n : ℕ) (v : A) (b : List ℕ) → Enclosed C t m n v b → AnyEnclosed S t m n b
   enclosed_among m zero v b p = p
   enclosed_among m (suc n) v b p = record { contents = p.contents; element = p.element; meaning = x.meaning.among m n v p.contents p.meaning }
@@ -88,7 +87,7 @@ module _ {A : Type 0} {E : A → A → Type 0} {C : BERMode → ℕ → A → Li
       { contents = p.contents; element = p.element; meaning = x.meaning.deeper m n k v p.contents (omega (arith, below)) p.meaning }
 
 -- an element around contents keeps the laws
-pub enclosed : {A : Type 0} {E : A → A → Type 0} {C : BERMode → ℕ → A → List ℕ → Type 0} {S : BERMode → ℕ → List ℕ → Type 0} (t : Tag) →
+pub enclosed : {A : Type 0} {E : A → A → Type 0} {C : Grammar A} {S : Members} (t : Tag) →
     (t ≡ end_tag → ⊥) → IsContentsCoding E C S → IsCoding E (Enclosed C t) (AnyEnclosed S t)
 enclosed t not_end x = record {
   meaning = record { equal = x.meaning.equal; among = enclosed_among x t; exact = enclosed_exact x t; deeper = enclosed_deeper x t };
@@ -97,7 +96,7 @@ enclosed t not_end x = record {
 }
 
 -- a type whose values stand for those of another keeps its laws
-pub along : {U A : Type 0} {E : A → A → Type 0} {B : BERMode → ℕ → A → List ℕ → Type 0} {S : BERMode → ℕ → List ℕ → Type 0} (f : U → A) →
+pub along : {U A : Type 0} {E : A → A → Type 0} {B : Grammar A} {S : Members} (f : U → A) →
     IsCoding E B S → IsCoding (λ v w. E (f v) (f w)) (λ m n v b. B m n (f v) b) S
 along f x = record {
   meaning = record {
@@ -115,7 +114,7 @@ along f x = record {
 }
 
 -- no encoding begins another, and equal encodings have equal values
-pub unambiguous : {A : Type 0} {E : A → A → Type 0} {B : BERMode → ℕ → A → List ℕ → Type 0} {S : BERMode → ℕ → List ℕ → Type 0} → IsCoding E B S →
+pub unambiguous : {A : Type 0} {E : A → A → Type 0} {B : Grammar A} {S : Members} → IsCoding E B S →
     (m : BERMode) (n k : ℕ) (v w : A) (b r : List ℕ) → B m n v b → B m k w (b ++ r) → E v w × (r ≡ [])
 unambiguous {B} x m n k v w b r p q =
     let same = x.alone m n k b (b ++ r) r [] (x.meaning.among m n v b p) (x.meaning.among m k w (b ++ r) q) (sym (append-nil (b ++ r))) in

@@ -5,12 +5,13 @@ use Rattle.yasna_base.specs.declared.mode.BERMode.{BERMode}
 use Rattle.yasna_base.specs.declared.mode.BERMode.TheVariants.{Ber, Der}
 use Rattle.yasna_base.specs.declared.tag.PCBit.TheVariants.{Primitive, Constructed}
 use Rattle.yasna_base.specs.declared.tag.TagClass.TheVariants.{ContextSpecific}
-use Rattle.yasna_base.specs.Boolean.{IsBoolean, EncodesBoolean, boolean_form}
+use Rattle.yasna_base.specs.Boolean.{IsBoolean, EncodesBoolean, boolean_form, boolean_tag}
 use Rattle.yasna_base.specs.Canonical.{definite_element, canonical_element, enclosed_form}
 use Rattle.yasna_base.specs.Digits.{IsBytes, digits, base128}
 use Rattle.yasna_base.specs.Element.{Element, indefinite, Primitively, Enclosed}
+use Rattle.yasna_base.specs.Grammar.{Grammar}
 use Rattle.yasna_base.specs.Identifier.{identifier, universal, begins}
-use Rattle.yasna_base.specs.Integer.{twos, IsMinimal, IsNumber, EncodesSigned, minimal_bytes, integer_form}
+use Rattle.yasna_base.specs.Integer.{twos, IsMinimal, IsNumber, EncodesSigned, minimal_bytes, integer_form, integer_tag}
 use Rattle.yasna_base.specs.Length.{shortest_length}
 use Rattle.yasna_base.specs.Sequence.{sequence_tag, PartOf, NoParts, part_form, nothing_form}
 use Rattle.yasna_base.proofs.Boolean.{bool_written}
@@ -20,16 +21,16 @@ use Rattle.yasna_base.proofs.Integer.{signed_written}
 use Rattle.std.proofs.Math.Utf8.{encode}
 use Rattle.std.specs.Char.Utf16.{utf16_chars}
 use Rattle.std.specs.Prelude.{codes}
-use Rattle.yasna_base.specs.Cut.{Cut, whole, in_pieces}
-use Rattle.yasna_base.specs.Octets.{octets_tag, octets_cutting, IsDeepOctets, EncodesOctets}
-use Rattle.yasna_base.specs.Bits.{BitString, bits_tag, bits_cutting, AreFullBeforeLast, IsBits, bits_form}
-use Rattle.yasna_base.specs.Text.{EncodesText, IsBmp, IsPairedBmp}
+use Rattle.yasna_base.specs.Segmented.{Segmented, whole, in_segments}
+use Rattle.yasna_base.specs.Octets.{octets_tag, octets_segmentation, IsDeepOctets, EncodesOctets}
+use Rattle.yasna_base.specs.Bits.{BitString, bits_tag, bits_segmentation, AreFullBeforeLast, IsBits, bits_form}
+use Rattle.yasna_base.specs.Text.{EncodesText, IsBmp, IsPairedBmp, utf8_tag}
 use Rattle.yasna_base.specs.Header.{uncounted}
 use Rattle.yasna_base.specs.Pieces.{Pieces}
 use Rattle.yasna_base.proofs.Octets.{octets_written}
 use Rattle.yasna_base.proofs.BitForm.{bits_has}
 use Rattle.yasna_base.proofs.Bits.{bits_once}
-use Rattle.yasna_base.proofs.Cut.{cut_of, cut_into, cut_deeper, cut_exact, cut_starts, deep_of, deep_at_zero, pieces_same}
+use Rattle.yasna_base.proofs.Segmented.{segmented_of, segmented_into, segmented_deeper, segmented_exact, segmented_starts, deep_of, deep_at_zero, pieces_same}
 
 identifier_31 : identifier (record { tag_class = ContextSpecific; tag_number = 31 }) Constructed ≡ 191 ∷ 31 ∷ []
 unfolding identifier base128 digits
@@ -83,11 +84,11 @@ byte_1 : IsBytes (1 ∷ [])
 byte_1 = search arith
 
 -- a SEQUENCE of an INTEGER and a BOOLEAN
-abbrev EncodesPair : BERMode → ℕ → ℤ × (Bool × Unit {0}) → List ℕ → Type 0
+abbrev EncodesPair : Grammar (ℤ × (Bool × Unit {0}))
 EncodesPair = Enclosed (PartOf (EncodesSigned w64) (PartOf EncodesBoolean NoParts)) sequence_tag
 
 -- the DER form of 10 and true
-pair_form : enclosed_form (part_form (integer_form (universal 2)) (part_form (boolean_form (universal 1)) nothing_form)) sequence_tag Der
+pair_form : enclosed_form (part_form (integer_form integer_tag) (part_form (boolean_form boolean_tag) nothing_form)) sequence_tag Der
     (pos 10, (Bool.true, tt)) ≡ 48 ∷ 6 ∷ 2 ∷ 1 ∷ 10 ∷ 1 ∷ 1 ∷ 255 ∷ []
 unfolding canonical_element definite_element identifier shortest_length minimal_bytes digits
 pair_form = refl
@@ -119,7 +120,7 @@ unfolding definite_element identifier shortest_length
 true_1 = record {
   level = omega arith;
   contents = 1 ∷ [];
-  element = record { in_range = omega arith; in_bytes = byte_1; framed = definite_is Ber (universal 1) Primitive (1 ∷ []) tt (omega arith) };
+  element = record { in_range = omega arith; in_bytes = byte_1; framed = definite_is Ber boolean_tag Primitive (1 ∷ []) tt (omega arith) };
   meaning = IsBoolean.says_true 1 (λ e. cc) (omega arith, tt) refl refl;
 }
 
@@ -130,19 +131,19 @@ not_true_1 n Bool.false x = let e = (bool_written.has.only Der n Bool.false (1 �
 not_true_1 n Bool.true x = let e = (bool_written.has.only Der n Bool.true (1 ∷ 1 ∷ 1 ∷ []) tt x).0 in absurd (cc)
 
 -- 127 in two bytes is an element
-two_bytes : Element Ber (universal 2) Primitive (0 ∷ 127 ∷ []) (definite_element (universal 2) Primitive (0 ∷ 127 ∷ []))
+two_bytes : Element Ber integer_tag Primitive (0 ∷ 127 ∷ []) (definite_element integer_tag Primitive (0 ∷ 127 ∷ []))
 two_bytes = record {
   in_range = omega arith;
   in_bytes = search arith;
-  framed = definite_is Ber (universal 2) Primitive (0 ∷ 127 ∷ []) tt (omega arith);
+  framed = definite_is Ber integer_tag Primitive (0 ∷ 127 ∷ []) tt (omega arith);
 }
 
 -- but no INTEGER in either mode
 not_127 : {A : Type 0} (f : A → ℤ) (InType : A → Type 0) (m : BERMode) (n : ℕ) (v : A) →
-    Primitively (IsNumber f InType) n m (universal 2) v (2 ∷ 2 ∷ 0 ∷ 127 ∷ []) → ⊥
+    Primitively (IsNumber f InType) n m integer_tag v (2 ∷ 2 ∷ 0 ∷ 127 ∷ []) → ⊥
 unfolding definite_element identifier shortest_length
 not_127 f InType m n v x =
-    let e = (primitive_exact m Ber (universal 2) (universal 2) Primitive x.contents (0 ∷ 127 ∷ []) _ _ [] [] x.element two_bytes refl).contents in
+    let e = (primitive_exact m Ber integer_tag integer_tag Primitive x.contents (0 ∷ 127 ∷ []) _ _ [] [] x.element two_bytes refl).contents in
     let minimal : IsMinimal (0 ∷ 127 ∷ []) = subst IsMinimal e x.meaning.integer.minimal in
     let h = minimal.0 refl in
     absurd (omega arith)
@@ -152,7 +153,7 @@ hello : (n : ℕ) → EncodesOctets Ber (suc (suc n)) (codes "Hello!") (36 ∷ 1
 unfolding canonical_element definite_element identifier shortest_length digits
 hello n =
     let form = (octets_written octets_tag (omega arith)).has.holds Der Ber (suc n) in
-    cut_of octets_cutting (suc n) Ber octets_tag (codes "Hello!") _ (in_pieces tt (4 ∷ 2 ∷ 72 ∷ 101 ∷ 4 ∷ 4 ∷ 108 ∷ 108 ∷ 111 ∷ 33 ∷ [])
+    segmented_of octets_segmentation (suc n) Ber octets_tag (codes "Hello!") _ (in_segments tt (4 ∷ 2 ∷ 72 ∷ 101 ∷ 4 ∷ 4 ∷ 108 ∷ 108 ∷ 111 ∷ 33 ∷ [])
     ((72 ∷ 101 ∷ []) ∷ (108 ∷ 108 ∷ 111 ∷ 33 ∷ []) ∷ [])
     (record { in_range = omega arith; in_bytes = search arith; framed = indefinite (record { taken = tt; joined = refl }) })
     (record {
@@ -172,10 +173,10 @@ hello_der : (n : ℕ) (v : List ℕ) → EncodesOctets Der n v (36 ∷ 6 ∷ 4 �
 unfolding canonical_element definite_element identifier
 hello_der n v x = let e = ((octets_written octets_tag (omega arith)).has.only Der n v _ tt x).0 in absurd (cc)
 
--- with one level the first piece is too deep
+-- with one level the first segment is too deep
 hello_deep : IsDeepOctets 1 Ber octets_tag (36 ∷ 128 ∷ 4 ∷ 2 ∷ 72 ∷ 101 ∷ 0 ∷ 0 ∷ [])
 unfolding identifier
-hello_deep = deep_of octets_cutting 0 Ber octets_tag _ (record {
+hello_deep = deep_of octets_segmentation 0 Ber octets_tag _ (record {
   taken = tt;
   contents = 4 ∷ 2 ∷ 72 ∷ 101 ∷ 0 ∷ 0 ∷ [];
   end = uncounted;
@@ -187,7 +188,7 @@ hello_deep = deep_of octets_cutting 0 Ber octets_tag _ (record {
     pieces = record { pieces = []; each = tt; joined = refl };
     more = tt;
     joined = refl;
-    deep = deep_at_zero octets_cutting Ber octets_tag _ (begins Primitive (2 ∷ 72 ∷ 101 ∷ 0 ∷ 0 ∷ []) refl);
+    deep = deep_at_zero octets_segmentation Ber octets_tag _ (begins Primitive (2 ∷ 72 ∷ 101 ∷ 0 ∷ 0 ∷ []) refl);
   };
 })
 
@@ -198,12 +199,12 @@ accent n =
     let form = (octets_written octets_tag (omega arith)).has.holds Der Ber (suc n) in
     record {
       octets = 195 ∷ 169 ∷ [];
-      string = cut_of octets_cutting (suc n) Ber (universal 12) (195 ∷ 169 ∷ []) _ (in_pieces tt (4 ∷ 1 ∷ 195 ∷ 4 ∷ 1 ∷ 169 ∷ [])
+      string = segmented_of octets_segmentation (suc n) Ber utf8_tag (195 ∷ 169 ∷ []) _ (in_segments tt (4 ∷ 1 ∷ 195 ∷ 4 ∷ 1 ∷ 169 ∷ [])
           ((195 ∷ []) ∷ (169 ∷ []) ∷ [])
           (record {
             in_range = omega arith;
             in_bytes = search arith;
-            framed = definite_is Ber (universal 12) Constructed (4 ∷ 1 ∷ 195 ∷ 4 ∷ 1 ∷ 169 ∷ []) tt (omega arith);
+            framed = definite_is Ber utf8_tag Constructed (4 ∷ 1 ∷ 195 ∷ 4 ∷ 1 ∷ 169 ∷ []) tt (omega arith);
           })
           (record {
             pieces = (4 ∷ 1 ∷ 195 ∷ []) ∷ (4 ∷ 1 ∷ 169 ∷ []) ∷ [];
@@ -235,7 +236,7 @@ bits_4_form n = (bits_has bits_tag (omega arith)).holds Der Ber (suc n) bits_4 t
 -- make twelve
 bits_12 : (n : ℕ) → IsBits (suc (suc n)) Ber bits_tag (record { bytes = 1 ∷ 240 ∷ []; count = 12 }) (35 ∷ 8 ∷ 3 ∷ 2 ∷ 0 ∷ 1 ∷ 3 ∷ 2 ∷ 4 ∷ 240 ∷ [])
 unfolding definite_element identifier shortest_length bits_8 bits_4
-bits_12 n = cut_of bits_cutting (suc n) Ber bits_tag _ _ (in_pieces tt (3 ∷ 2 ∷ 0 ∷ 1 ∷ 3 ∷ 2 ∷ 4 ∷ 240 ∷ []) (bits_8 ∷ bits_4 ∷ [])
+bits_12 n = segmented_of bits_segmentation (suc n) Ber bits_tag _ _ (in_segments tt (3 ∷ 2 ∷ 0 ∷ 1 ∷ 3 ∷ 2 ∷ 4 ∷ 240 ∷ []) (bits_8 ∷ bits_4 ∷ [])
     (record {
       in_range = omega arith;
       in_bytes = search arith;
@@ -264,20 +265,20 @@ turned_pieces n = record {
 }
 
 not_turned : (n : ℕ) (v : BitString) →
-    Cut bits_cutting (IsBits (suc n) Ber bits_tag) Ber bits_tag v (35 ∷ 8 ∷ 3 ∷ 2 ∷ 4 ∷ 240 ∷ 3 ∷ 2 ∷ 0 ∷ 1 ∷ []) → ⊥
+    Segmented bits_segmentation (IsBits (suc n) Ber bits_tag) Ber bits_tag v (35 ∷ 8 ∷ 3 ∷ 2 ∷ 4 ∷ 240 ∷ 3 ∷ 2 ∷ 0 ∷ 1 ∷ []) → ⊥
 unfolding bits_4
 not_turned n v (whole c x p a) = let e = (primitive_exact Ber Ber bits_tag bits_tag Constructed c _ _ _ [] [] x turned refl).bit in absurd (cc)
-not_turned n v (in_pieces h c vs x p j a) =
-    let starts = λ (u : BitString) (b : List ℕ). cut_starts bits_cutting (suc n) Ber bits_tag u b bits_once.piece in
-    let same = (pieces_same Ber bits_tag (cut_exact bits_once (suc n) (suc n) Ber bits_tag) starts starts vs (bits_4 ∷ bits_8 ∷ []) c _ _ _ [] [] x turned p
+not_turned n v (in_segments h c vs x p j a) =
+    let starts = λ (u : BitString) (b : List ℕ). segmented_starts bits_segmentation (suc n) Ber bits_tag u b bits_once.segment in
+    let same = (pieces_same Ber bits_tag (segmented_exact bits_once (suc n) (suc n) Ber bits_tag) starts starts vs (bits_4 ∷ bits_8 ∷ []) c _ _ _ [] [] x turned p
     (turned_pieces n) refl).0 in
     let full = (subst AreFullBeforeLast same j.full).0 in
     absurd (omega arith)
 
--- behind unused bits no piece may follow
+-- behind unused bits no segment may follow
 bits_end : (n : ℕ) (v : BitString) → IsBits n Ber bits_tag v (35 ∷ 8 ∷ 3 ∷ 2 ∷ 4 ∷ 240 ∷ 3 ∷ 2 ∷ 0 ∷ 1 ∷ []) → ⊥
 bits_end n v x =
-    not_turned n v (cut_into bits_cutting (suc n) Ber bits_tag v _ (cut_deeper bits_cutting n (suc (suc n)) Ber bits_tag v _ (omega arith) x))
+    not_turned n v (segmented_into bits_segmentation (suc n) Ber bits_tag v _ (segmented_deeper bits_segmentation n (suc (suc n)) Ber bits_tag v _ (omega arith) x))
 
 -- unused bits are written as zero
 bits_cleared : bits_form bits_tag Der (record { bytes = 255 ∷ []; count = 4 }) ≡ 3 ∷ 2 ∷ 4 ∷ 240 ∷ []

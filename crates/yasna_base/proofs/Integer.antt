@@ -14,7 +14,7 @@ use Rattle.yasna_base.specs.Coding.{IsCoding, Any}
 use Rattle.yasna_base.specs.Digits.{IsBytes, digits}
 use Rattle.yasna_base.specs.Element.{Primitively}
 use Rattle.yasna_base.specs.Identifier.{universal, end_tag}
-use Rattle.yasna_base.specs.Integer.{twos, distance, IsMinimal, IsInteger, IsNumber, IsSigned, IsUnsigned, EncodesSigned, EncodesUnsigned, unsigned_bytes, minimal_bytes, integer_form}
+use Rattle.yasna_base.specs.Integer.{twos, distance, IsMinimal, IsInteger, IsNumber, IsSigned, IsUnsigned, EncodesSigned, EncodesUnsigned, unsigned_bytes, minimal_bytes, integer_form, integer_tag}
 use Rattle.yasna_base.proofs.Canonical.{primitively_written}
 use Rattle.yasna_base.proofs.Coding.{primitively}
 use Rattle.yasna_base.proofs.Digits.{number_cons, digits_determined, digits_below, digits_some, digits_first, number_digits}
@@ -213,13 +213,13 @@ unsigned_under k t not_end = number_coding pos (λ u. u < 2 ^ k) (λ v u e. cc) 
 
 -- under INTEGER's tag
 pub signed_coding : (w : Width) → IsCoding (λ v w. v ≡ w) (EncodesSigned w) (Any (EncodesSigned w))
-signed_coding w = signed_under w (universal 2) (not_end 2 (λ e. omega arith))
+signed_coding w = signed_under w integer_tag (not_end 2 (λ e. omega arith))
 
 pub unsigned_coding : (k : ℕ) → IsCoding (λ v w. v ≡ w) (EncodesUnsigned k) (Any (EncodesUnsigned k))
-unsigned_coding k = unsigned_under k (universal 2) (not_end 2 (λ e. omega arith))
+unsigned_coding k = unsigned_under k integer_tag (not_end 2 (λ e. omega arith))
 
-pub signed_written : (w : Width) → IsWritten (λ v w. v ≡ w) (EncodesSigned w) (λ m v. integer_form (universal 2) m v) leaf_nest (FitsSigned w)
-signed_written w = number_written (λ z. z) (FitsSigned w) (universal 2) (omega arith)
+pub signed_written : (w : Width) → IsWritten (λ v w. v ≡ w) (EncodesSigned w) (λ m v. integer_form integer_tag m v) leaf_nest (FitsSigned w)
+signed_written w = number_written (λ z. z) (FitsSigned w) integer_tag (omega arith)
 
-pub unsigned_written : (k : ℕ) → IsWritten (λ v w. v ≡ w) (EncodesUnsigned k) (λ m v. integer_form (universal 2) m (pos v)) leaf_nest (λ u. u < 2 ^ k)
-unsigned_written k = number_written pos (λ u. u < 2 ^ k) (universal 2) (omega arith)
+pub unsigned_written : (k : ℕ) → IsWritten (λ v w. v ≡ w) (EncodesUnsigned k) (λ m v. integer_form integer_tag m (pos v)) leaf_nest (λ u. u < 2 ^ k)
+unsigned_written k = number_written pos (λ u. u < 2 ^ k) integer_tag (omega arith)

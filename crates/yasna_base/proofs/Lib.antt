@@ -21,8 +21,8 @@ pub mod Choice
 pub mod Header
 pub mod Pieces
 pub mod Segments
-pub mod Cut
-pub mod CutForm
+pub mod Segmented
+pub mod SegmentedForm
 pub mod Raw
 pub mod Order
 pub mod SetLaws
@@ -32,7 +32,7 @@ pub mod SetContents
 pub mod Octets
 pub mod Bits
 pub mod BitForm
-pub mod BitPieces
+pub mod BitSegments
 pub mod Texts
 pub mod Bmp
 pub mod Examples

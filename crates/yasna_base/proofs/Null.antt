@@ -5,7 +5,7 @@ use Rattle.yasna_base.specs.Canonical.{leaf_nest, Always, IsWritten}
 use Rattle.yasna_base.specs.Coding.{IsCoding, Any}
 use Rattle.yasna_base.specs.Element.{Primitively}
 use Rattle.yasna_base.specs.Identifier.{universal, end_tag}
-use Rattle.yasna_base.specs.Null.{IsNull, EncodesNull, null_form}
+use Rattle.yasna_base.specs.Null.{IsNull, EncodesNull, null_form, null_tag}
 use Rattle.yasna_base.proofs.Canonical.{primitively_written}
 use Rattle.yasna_base.proofs.Coding.{primitively}
 use Rattle.yasna_base.proofs.Identifier.{not_end}
@@ -21,7 +21,7 @@ null_written t range = primitively_written IsNull Always (λ v. []) t range (λ 
 
 -- under its own tag
 pub unit_coding : IsCoding (λ v w. v ≡ w) EncodesNull (Any EncodesNull)
-unit_coding = null_coding (universal 5) (not_end 5 (λ e. omega arith))
+unit_coding = null_coding null_tag (not_end 5 (λ e. omega arith))
 
-pub unit_written : IsWritten (λ v w. v ≡ w) EncodesNull (null_form (universal 5)) leaf_nest Always
-unit_written = null_written (universal 5) (omega arith)
+pub unit_written : IsWritten (λ v w. v ≡ w) EncodesNull (null_form null_tag) leaf_nest Always
+unit_written = null_written null_tag (omega arith)

@@ -3,9 +3,9 @@ use Rattle.std.proofs.Common.{◌≡◌, ◌∙◌, sym, arith, [], ◌∷◌, �
 use Rattle.yasna_base.specs.declared.tag.Tag.{Tag}
 use Rattle.yasna_base.specs.Coding.{IsCoding, Any}
 use Rattle.yasna_base.specs.Identifier.{end_tag}
-use Rattle.yasna_base.specs.Octets.{octets_cutting, IsOctets, octets_form, octets_nest, OctetsKeepLaws, octets_tag, EncodesOctets, EncodesVec}
-use Rattle.yasna_base.proofs.Cut.{CutsOnce, cut_coding, cut_keeps, cut_level}
-use Rattle.yasna_base.proofs.CutForm.{HasPieces, cut_has}
+use Rattle.yasna_base.specs.Octets.{octets_segmentation, IsOctets, octets_form, octets_nest, OctetsKeepLaws, octets_tag, EncodesOctets, EncodesVec}
+use Rattle.yasna_base.proofs.Segmented.{SegmentsOnce, segmented_coding, segmented_keeps, segmented_level}
+use Rattle.yasna_base.proofs.SegmentedForm.{HasSegments, segmented_has}
 use Rattle.yasna_base.proofs.Segments.{segments_are, segments_two, segments_bytes, segments_only, segments_over}
 use Rattle.yasna_base.specs.Segments.{AreSegments, segments}
 use Rattle.std.proofs.lemmas.List.{map-id}
@@ -22,12 +22,12 @@ use Rattle.yasna_base.proofs.Coding.{along}
 use Rattle.yasna_base.proofs.Canonical.{written_along}
 
 -- octets are cut in one way
-pub octets_once : CutsOnce octets_cutting
-octets_once = record { whole = λ m v w c x y. x ∙ sym y; join = λ m vs v w x y. x ∙ sym y; piece = not_end 4 (λ e. omega arith) }
+pub octets_once : SegmentsOnce octets_segmentation
+octets_once = record { whole = λ m v w c x y. x ∙ sym y; join = λ m vs v w x y. x ∙ sym y; segment = not_end 4 (λ e. omega arith) }
 
 -- OCTET STRING keeps the laws of reading
 pub octets_coding : (t : Tag) → (t ≡ end_tag → ⊥) → IsCoding (λ v w. v ≡ w) (λ m n v b. IsOctets n m t v b) (Any (λ m n v b. IsOctets n m t v b))
-octets_coding t not_end = cut_coding octets_once t not_end
+octets_coding t not_end = segmented_coding octets_once t not_end
 
 concat_bytes : (vs : List (List ℕ)) → AllByRecursion IsBytes vs → IsBytes (concat vs)
 concat_bytes [] h = tt
@@ -35,11 +35,11 @@ concat_bytes (v ∷ vs) h = bytes_append v (concat vs) h.0 (concat_bytes vs h.1)
 
 -- octets are bytes
 pub octets_bytes : (n : ℕ) (m : BERMode) (t : Tag) (v b : List ℕ) → IsOctets n m t v b → IsBytes v
-octets_bytes = cut_keeps octets_cutting IsBytes (λ m v c h e. subst IsBytes (sym e) h) (λ m vs v h e. subst IsBytes (sym e) (concat_bytes vs h))
+octets_bytes = segmented_keeps octets_segmentation IsBytes (λ m v c h e. subst IsBytes (sym e) h) (λ m vs v h e. subst IsBytes (sym e) (concat_bytes vs h))
 
 -- octets are cut in one way by CER, into segments of 1000
-pub octets_pieces : HasPieces octets_cutting IsBytes (λ v. v) (segments 1000)
-octets_pieces = record {
+pub octets_in_segments : HasSegments octets_segmentation IsBytes (λ v. v) (segments 1000)
+octets_in_segments = record {
   bytes = λ v can. can;
   means = λ m v can. refl;
   one = λ m v c h bytes e. (sym e, subst IsBytes (sym e) bytes);
@@ -65,8 +65,8 @@ octets_pieces = record {
 pub octets_written : (t : Tag) → t.tag_number < 2 ^ 64 →
     IsWritten (λ v w. v ≡ w) (λ m n v b. IsOctets n m t v b) (octets_form t) octets_nest IsBytes
 octets_written t range = record {
-  has = cut_has octets_pieces (omega arith) t range;
-  any = λ n v b x. (octets_bytes n Ber t v b x, cut_level octets_cutting n Ber t v b x);
+  has = segmented_has octets_in_segments (omega arith) t range;
+  any = λ n v b x. (octets_bytes n Ber t v b x, segmented_level octets_segmentation n Ber t v b x);
   same = λ m v w e. (ap (octets_form t m) e, λ can. subst IsBytes e can, ap (octets_nest m) e);
 }
 
@@ -75,7 +75,7 @@ octets_keep t not_end range = (octets_coding t not_end, octets_written t range)
 
 -- under its own tag, of vectors that are equal where their items are
 pub vec_coding : IsCoding (λ (v w : Vec ℕ Global). v.items ≡ w.items) EncodesVec (Any EncodesOctets)
-vec_coding = along (λ v. v.items) (octets_coding octets_tag octets_once.piece)
+vec_coding = along (λ v. v.items) (octets_coding octets_tag octets_once.segment)
 
 pub vec_written : IsWritten (λ (v w : Vec ℕ Global). v.items ≡ w.items) EncodesVec (λ m v. octets_form octets_tag m v.items)
     (λ m v. octets_nest m v.items) (λ v. IsBytes v.items)

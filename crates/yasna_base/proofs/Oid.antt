@@ -9,7 +9,7 @@ use Rattle.yasna_base.specs.Coding.{IsCoding, Any}
 use Rattle.yasna_base.specs.Digits.{IsBytes, base128}
 use Rattle.yasna_base.specs.Element.{Primitively}
 use Rattle.yasna_base.specs.Identifier.{universal, end_tag}
-use Rattle.yasna_base.specs.Oid.{AreFirstTwo, IsEncodableOid, subidentifiers, oid_contents, AreComponents, EncodesOid, oid_form}
+use Rattle.yasna_base.specs.Oid.{AreFirstTwo, IsEncodableOid, subidentifiers, oid_contents, AreComponents, EncodesOid, oid_form, oid_tag}
 use Rattle.yasna_base.proofs.Canonical.{primitively_written}
 use Rattle.yasna_base.proofs.Coding.{primitively}
 use Rattle.yasna_base.proofs.Digits.{base128_exact, base128_some, base128_bytes, bytes_append}
@@ -95,7 +95,7 @@ oid_written_under t range = primitively_written AreComponents IsEncodableOid oid
 
 -- under its own tag
 pub oid_coding : IsCoding (λ v w. v ≡ w) EncodesOid (Any EncodesOid)
-oid_coding = oid_under (universal 6) (not_end 6 (λ e. omega arith))
+oid_coding = oid_under oid_tag (not_end 6 (λ e. omega arith))
 
-pub oid_written : IsWritten (λ v w. v ≡ w) EncodesOid (oid_form (universal 6)) leaf_nest IsEncodableOid
-oid_written = oid_written_under (universal 6) (omega arith)
+pub oid_written : IsWritten (λ v w. v ≡ w) EncodesOid (oid_form oid_tag) leaf_nest IsEncodableOid
+oid_written = oid_written_under oid_tag (omega arith)

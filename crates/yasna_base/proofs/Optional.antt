@@ -6,6 +6,7 @@ use Rattle.yasna_base.specs.Canonical.{IsCanonicalMode, HoldsForm, IsWritten}
 use Rattle.yasna_base.specs.Coding.{IsMeaning, IsCoding, IsContentsCoding}
 use Rattle.yasna_base.specs.Digits.{IsBytes}
 use Rattle.yasna_base.specs.Element.{Enclosed, AnyEnclosed}
+use Rattle.yasna_base.specs.Grammar.{Grammar, Members, Form, Nest}
 use Rattle.yasna_base.specs.Identifier.{AtEnd, nothing}
 use Rattle.yasna_base.specs.Optional.{OptionOf, AnyOption, SameOption, option_form, option_nest, option_can}
 use Rattle.yasna_base.specs.Sequence.{sequence_tag, PartOf, AnyPart, AnyNothing, SamePart}
@@ -16,21 +17,20 @@ use Rattle.yasna_base.proofs.Lists.{append_same}
 use Rattle.yasna_base.proofs.Pieces.{starts_not_end}
 
 -- contents in Q that go up to an end never begin as members of S
-abbrev pub BeginsApart : (BERMode → ℕ → List ℕ → Type 0) → (BERMode → ℕ → List ℕ → Type 0) → Type 0
+abbrev pub BeginsApart : Members → Members → Type 0
 BeginsApart S Q = (m : BERMode) (n k : ℕ) (b c r s : List ℕ) → AtEnd s → S m n b → Q m k c → b ++ r ≡ c ++ s → ⊥
 
 -- they don't where nothing follows
-pub apart_from_nothing : {A : Type 0} {E : A → A → Type 0} {B : BERMode → ℕ → A → List ℕ → Type 0} {S : BERMode → ℕ → List ℕ → Type 0} → IsCoding E B S →
-    BeginsApart S AnyNothing
+pub apart_from_nothing : {A : Type 0} {E : A → A → Type 0} {B : Grammar A} {S : Members} → IsCoding E B S → BeginsApart S AnyNothing
 apart_from_nothing x m n k b c r s i p q e = starts_not_end b r s (x.opens m n b p) i (sym (e ∙ ap (λ z. z ++ s) q))
 
 -- nor where a part follows that never begins the same bytes
-pub apart_from_part : {S Q : BERMode → ℕ → List ℕ → Type 0} (R : BERMode → ℕ → List ℕ → Type 0) → StandApart S Q → BeginsApart S (AnyPart Q R)
+pub apart_from_part : {S Q : Members} (R : Members) → StandApart S Q → BeginsApart S (AnyPart Q R)
 apart_from_part R apart m n k b c r s i p q e =
     apart m n k b q.front r (q.rest ++ s) p q.here (e ∙ ap (λ z. z ++ s) q.joined ∙ append_assoc q.front q.rest s)
 
 -- nor where that part may be left out, and what follows it doesn't
-pub apart_from_option : {S Q R : BERMode → ℕ → List ℕ → Type 0} → StandApart S Q → BeginsApart S R → BeginsApart S (AnyPart (AnyOption Q) R)
+pub apart_from_option : {S Q R : Members} → StandApart S Q → BeginsApart S R → BeginsApart S (AnyPart (AnyOption Q) R)
 apart_from_option {S} {Q} {R} apart behind m n k b c r s i p q e = by_front q.here
   where
     by_front : AnyOption Q m k q.front → ⊥
@@ -46,8 +46,8 @@ whole_of front rest r other more s b c f g e =
     sym (append_assoc front rest r) ∙ sym (ap (λ z. z ++ r) f) ∙ e ∙ ap (λ z. z ++ s) g ∙ append_assoc other more s
 
 -- a part and contents behind it have one meaning, where the same bytes fall into them in one way
-parts_meaning : {A V : Type 0} {E : A → A → Type 0} {F : V → V → Type 0} {B : BERMode → ℕ → A → List ℕ → Type 0} {C : BERMode → ℕ → V → List ℕ → Type 0}
-    {S Q : BERMode → ℕ → List ℕ → Type 0} → IsMeaning E B S → IsMeaning F C Q →
+parts_meaning : {A V : Type 0} {E : A → A → Type 0} {F : V → V → Type 0} {B : Grammar A} {C : Grammar V}
+    {S Q : Members} → IsMeaning E B S → IsMeaning F C Q →
     ((m : BERMode) (n k : ℕ) (b : List ℕ) (p : AnyPart S Q m n b) (q : AnyPart S Q m k b) → (p.front ≡ q.front) × (p.rest ≡ q.rest)) →
     IsMeaning (SamePart E F) (PartOf B C) (AnyPart S Q)
 parts_meaning {E} {F} {B} {C} {S} {Q} x y once = record {
@@ -81,8 +81,8 @@ parts_meaning {E} {F} {B} {C} {S} {Q} x y once = record {
     }
 
 -- a part and contents behind it keep the laws of contents, where the same bytes fall into them in one way
-parts_coding : {A V : Type 0} {E : A → A → Type 0} {F : V → V → Type 0} {B : BERMode → ℕ → A → List ℕ → Type 0} {C : BERMode → ℕ → V → List ℕ → Type 0}
-    {S Q : BERMode → ℕ → List ℕ → Type 0} → IsMeaning E B S → IsMeaning F C Q →
+parts_coding : {A V : Type 0} {E : A → A → Type 0} {F : V → V → Type 0} {B : Grammar A} {C : Grammar V}
+    {S Q : Members} → IsMeaning E B S → IsMeaning F C Q →
     ((m : BERMode) (n k : ℕ) (b c r s : List ℕ) → AtEnd r → AtEnd s → (p : AnyPart S Q m n b) (q : AnyPart S Q m k c) → b ++ r ≡ c ++ s →
     (p.front ≡ q.front) × (p.rest ≡ q.rest)) → IsContentsCoding (SamePart E F) (PartOf B C) (AnyPart S Q)
 parts_coding x y once = record {
@@ -92,8 +92,8 @@ parts_coding x y once = record {
       p.joined ∙ ap₂ (λ y z. y ++ z) same.0 same.1 ∙ sym q.joined;
 }
 
-module _ {A V : Type 0} {E : A → A → Type 0} {F : V → V → Type 0} {B : BERMode → ℕ → A → List ℕ → Type 0} {C : BERMode → ℕ → V → List ℕ → Type 0}
-    {S Q : BERMode → ℕ → List ℕ → Type 0} (x : IsCoding E B S) (y : IsContentsCoding F C Q) where
+module _ {A V : Type 0} {E : A → A → Type 0} {F : V → V → Type 0} {B : Grammar A} {C : Grammar V}
+    {S Q : Members} (x : IsCoding E B S) (y : IsContentsCoding F C Q) where
   rests_same : (m : BERMode) (n k : ℕ) (front rest r other more s : List ℕ) → AtEnd r → AtEnd s → Q m n rest → Q m k more → front ≡ other →
       front ++ (rest ++ r) ≡ other ++ (more ++ s) → (front ≡ other) × (rest ≡ more)
   rests_same m n k front rest r other more s i j p q f e = (f, y.ends m n k rest more r s i j p q (behind front (rest ++ r) other (more ++ s) f e))
@@ -105,7 +105,7 @@ module _ {A V : Type 0} {E : A → A → Type 0} {F : V → V → Type 0} {B : B
       rests_same m n k p.front p.rest r q.front q.rest s i j p.more q.more
       (x.alone m n k p.front q.front (p.rest ++ r) (q.rest ++ s) p.here q.here whole) whole)
 
-module _ {A : Type 0} {E : A → A → Type 0} {B : BERMode → ℕ → A → List ℕ → Type 0} {S : BERMode → ℕ → List ℕ → Type 0} (x : IsCoding E B S) where
+module _ {A : Type 0} {E : A → A → Type 0} {B : Grammar A} {S : Members} (x : IsCoding E B S) where
   option_reflexive : (v : Option A) → SameOption E v v
   option_reflexive (Some v) = x.meaning.equal.reflexive v
   option_reflexive None = tt
@@ -148,8 +148,8 @@ module _ {A : Type 0} {E : A → A → Type 0} {B : BERMode → ℕ → A → Li
     deeper = option_deeper;
   }
 
-module _ {A V : Type 0} {E : A → A → Type 0} {F : V → V → Type 0} {B : BERMode → ℕ → A → List ℕ → Type 0} {C : BERMode → ℕ → V → List ℕ → Type 0}
-    {S Q : BERMode → ℕ → List ℕ → Type 0} (x : IsCoding E B S) (apart : BeginsApart S Q) (y : IsContentsCoding F C Q) where
+module _ {A V : Type 0} {E : A → A → Type 0} {F : V → V → Type 0} {B : Grammar A} {C : Grammar V}
+    {S Q : Members} (x : IsCoding E B S) (apart : BeginsApart S Q) (y : IsContentsCoding F C Q) where
   fronts_same : (m : BERMode) (n k : ℕ) (front rest r other more s : List ℕ) → AtEnd r → AtEnd s → AnyOption S m n front → AnyOption S m k other →
       Q m n rest → Q m k more → front ++ (rest ++ r) ≡ other ++ (more ++ s) → front ≡ other
   fronts_same m n k front rest r other more s i j (inl f) (inl g) p q e = x.alone m n k front other (rest ++ r) (more ++ s) f g e
@@ -167,12 +167,11 @@ module _ {A V : Type 0} {E : A → A → Type 0} {F : V → V → Type 0} {B : B
       (fronts_same m n k p.front p.rest r q.front q.rest s i j p.here q.here p.more q.more whole) whole)
 
 -- a type whose values stand for contents keeps the laws of reading as a SEQUENCE
-pub sequence : {U A : Type 0} {E : A → A → Type 0} {C : BERMode → ℕ → A → List ℕ → Type 0} {S : BERMode → ℕ → List ℕ → Type 0} (f : U → A) →
+pub sequence : {U A : Type 0} {E : A → A → Type 0} {C : Grammar A} {S : Members} (f : U → A) →
     IsContentsCoding E C S → IsCoding (λ v w. E (f v) (f w)) (λ m n v b. Enclosed C sequence_tag m n (f v) b) (AnyEnclosed S sequence_tag)
 sequence f x = along f (enclosed sequence_tag (not_end 16 (λ e. omega arith)) x)
 
-module _ {A : Type 0} {E : A → A → Type 0} {B : BERMode → ℕ → A → List ℕ → Type 0} {form : BERMode → A → List ℕ} {nest : BERMode → A → ℕ}
-    {Can : A → Type 0} (x : IsWritten E B form nest Can) where
+module _ {A : Type 0} {E : A → A → Type 0} {B : Grammar A} {form : Form A} {nest : Nest A} {Can : A → Type 0} (x : IsWritten E B form nest Can) where
   option_bytes : (m : BERMode) (v : Option A) → option_can Can v → length (option_form form m v) < 2 ^ 64 → IsBytes (option_form form m v)
   option_bytes m (Some v) can short = x.has.in_bytes m v can short
   option_bytes m None can short = tt

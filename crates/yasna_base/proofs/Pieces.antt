@@ -7,7 +7,7 @@ use Rattle.yasna_base.specs.Pieces.{Each, Pieces}
 use Rattle.yasna_base.proofs.Identifier.{begins_once, begins_some, begins_with}
 use Rattle.yasna_base.proofs.Lists.{append_same}
 use Rattle.std.proofs.lemmas.List.Folds.{concat-append}
-use Rattle.yasna_base.specs.Cut.{PiecesBefore}
+use Rattle.yasna_base.specs.Segmented.{PiecesBefore}
 
 -- where another tag stands contents aren't at their end
 pub tag_not_end : (t : Tag) (x : List ℕ) → (t ≡ end_tag → ⊥) → BeginsWithTag t x → AtEnd x → ⊥
@@ -18,7 +18,7 @@ tag_not_end t x not_end h (end i) = not_end (begins_once t end_tag x h i)
 pub starts_not_end : (b r x : List ℕ) → StartsElement b → AtEnd x → x ≡ b ++ r → ⊥
 starts_not_end b r x h i e = tag_not_end h.tag x h.not_end (subst (λ z. BeginsWithTag h.tag z) (sym e) (begins_with h.tag b r h.begins)) i
 
--- pieces bs and then x, and pieces cs and then y, are the same bytes: the pieces are the same, or one has a further piece
+-- pieces bs and then x, and pieces cs and then y, are the same bytes: the pieces are the same, or one has a further segment
 pub data Meet {A B : Type 0} (R : A → List ℕ → Type 0) (S : B → List ℕ → Type 0) (bs cs : List (List ℕ)) (x y : List ℕ) : Type 0 where
   together : bs ≡ cs → x ≡ y → Meet R S bs cs x y
   left_further : (v : A) (b r : List ℕ) (ds : List (List ℕ)) → bs ≡ cs ++ (b ∷ ds) → R v b → y ≡ b ++ r → Meet R S bs cs x y
@@ -53,7 +53,7 @@ each_meet alone (v ∷ vs) (w ∷ ws) (b ∷ bs) (c ∷ cs) x y p q e =
 abbrev pub NoFront : {A : Type 0} → (A → List ℕ → Type 0) → List ℕ → Type 0
 NoFront {A} R x = (v : A) (b r : List ℕ) → R v b → x ≡ b ++ r → ⊥
 
--- at their end there is no further piece
+-- at their end there is no further segment
 pub no_front_at_end : {A : Type 0} {R : A → List ℕ → Type 0} → ((v : A) (b : List ℕ) → R v b → StartsElement b) → (x : List ℕ) → AtEnd x → NoFront R x
 no_front_at_end starts x i v b r p e = starts_not_end b r x (starts v b p) i e
 

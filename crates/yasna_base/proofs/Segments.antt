@@ -78,13 +78,13 @@ segments_two k v some h =
     let x = segments_are k v some (omega (arith, h)) in
     two_of k (segments k v) x.each (subst (λ z. k < length z) (sym x.joined) h)
 
-cut_only : (k f : ℕ) (bs : List (List ℕ)) → 1 ≤ k → AreSegments k bs → length (concat bs) ≤ k + f → cut_up k f (concat bs) ≡ bs
-cut_only k f [] some h fits = absurd h
-cut_only k f (v ∷ []) some h fits =
+segmented_only : (k f : ℕ) (bs : List (List ℕ)) → 1 ≤ k → AreSegments k bs → length (concat bs) ≤ k + f → cut_up k f (concat bs) ≡ bs
+segmented_only k f [] some h fits = absurd h
+segmented_only k f (v ∷ []) some h fits =
     ap (cut_up k f) (append-nil v) ∙ cut_one k f v h.1
-cut_only k zero (v ∷ w ∷ vs) some h fits =
+segmented_only k zero (v ∷ w ∷ vs) some h fits =
     let i = segments_over k (v ∷ w ∷ vs) h (omega arith) in absurd (omega (arith, i, fits))
-cut_only k (suc f) (v ∷ w ∷ vs) some h fits =
+segmented_only k (suc f) (v ∷ w ∷ vs) some h fits =
     let i = segments_over k (v ∷ w ∷ vs) h (omega arith) in
     let j = length-append v (concat (w ∷ vs)) in
     let e = h.0 in
@@ -93,11 +93,11 @@ cut_only k (suc f) (v ∷ w ∷ vs) some h fits =
     (length-take-le k (concat (v ∷ w ∷ vs)) (omega (arith, i)) ∙ sym e) t in
     cut_more k f (concat (v ∷ w ∷ vs)) i
     ∙ ap₂ (λ x y. x ∷ cut_up k f y) same.0 same.1
-    ∙ ap (λ z. v ∷ z) (cut_only k f (w ∷ vs) some h.1 (omega (arith, j, fits)))
+    ∙ ap (λ z. v ∷ z) (segmented_only k f (w ∷ vs) some h.1 (omega (arith, j, fits)))
 
 -- bytes are cut into segments in one way
 pub segments_only : (k : ℕ) (bs : List (List ℕ)) (v : List ℕ) → 1 ≤ k → AreSegments k bs → concat bs ≡ v → bs ≡ segments k v
-segments_only k bs v some h e = subst (λ z. bs ≡ segments k z) e (sym (cut_only k (length (concat bs)) bs some h (omega arith)))
+segments_only k bs v some h e = subst (λ z. bs ≡ segments k z) e (sym (segmented_only k (length (concat bs)) bs some h (omega arith)))
 
 -- what fits a segment is the only one
 pub segments_one : (k : ℕ) (v : List ℕ) → length v ≤ k → segments k v ≡ v ∷ []

@@ -1,9 +1,9 @@
 -- The laws of parts, one after the other, and of a SEQUENCE of them.
 use Rattle.std.proofs.Common.{◌≡◌, ℕ, List, [], ◌++◌, refl, ap, ◌∙◌, sym, arith, length-append, append_assoc, subst, max}
-use Rattle.yasna_base.specs.declared.mode.BERMode.{BERMode}
 use Rattle.yasna_base.specs.Canonical.{enclosed_form, enclosed_nest, Always, IsWritten}
 use Rattle.yasna_base.specs.Coding.{IsCoding, ArePartsCoding}
 use Rattle.yasna_base.specs.Element.{Enclosed, AnyEnclosed}
+use Rattle.yasna_base.specs.Grammar.{Grammar, Members, Form, Nest}
 use Rattle.yasna_base.specs.Sequence.{sequence_tag, Then, PartOf, NoParts, AnyPart, AnyNothing, SamePart, SameNothing, part_form, part_nest, part_can, nothing_form, nothing_nest}
 use Rattle.yasna_base.proofs.Canonical.{enclosed_written, written_along}
 use Rattle.yasna_base.proofs.Coding.{parts_contents, enclosed, along}
@@ -33,8 +33,8 @@ then_same fronts rests b c r s x y e =
     (front, rests x.rest y.rest r s x.more y.more (append_same y.front (x.rest ++ r) (y.rest ++ s) (sym (ap (λ z. z ++ (x.rest ++ r)) front) ∙ whole)))
 
 -- a part and the parts behind it keep the laws of reading
-pub part : {A V : Type 0} {E : A → A → Type 0} {F : V → V → Type 0} {B : BERMode → ℕ → A → List ℕ → Type 0} {C : BERMode → ℕ → V → List ℕ → Type 0}
-    {S Q : BERMode → ℕ → List ℕ → Type 0} → IsCoding E B S → ArePartsCoding F C Q → ArePartsCoding (SamePart E F) (PartOf B C) (AnyPart S Q)
+pub part : {A V : Type 0} {E : A → A → Type 0} {F : V → V → Type 0} {B : Grammar A} {C : Grammar V}
+    {S Q : Members} → IsCoding E B S → ArePartsCoding F C Q → ArePartsCoding (SamePart E F) (PartOf B C) (AnyPart S Q)
 part {B} {C} x y =
     let first = x.meaning in
     let others = y.meaning in
@@ -77,7 +77,7 @@ part {B} {C} x y =
     }
 
 -- a type whose values stand for tuples keeps the laws of reading as a SEQUENCE
-pub tuple : {U A : Type 0} {E : A → A → Type 0} {C : BERMode → ℕ → A → List ℕ → Type 0} {S : BERMode → ℕ → List ℕ → Type 0} (f : U → A) →
+pub tuple : {U A : Type 0} {E : A → A → Type 0} {C : Grammar A} {S : Members} (f : U → A) →
     ArePartsCoding E C S → IsCoding (λ v w. E (f v) (f w)) (λ m n v b. Enclosed C sequence_tag m n (f v) b) (AnyEnclosed S sequence_tag)
 tuple f x = along f (enclosed sequence_tag (not_end 16 (λ e. omega arith)) (parts_contents x))
 
@@ -94,9 +94,8 @@ no_part_written = record {
 }
 
 -- a part and the parts behind it keep the laws of writing
-pub part_written : {A V : Type 0} {E : A → A → Type 0} {F : V → V → Type 0}
-    {B : BERMode → ℕ → A → List ℕ → Type 0} {C : BERMode → ℕ → V → List ℕ → Type 0}
-    {f : BERMode → A → List ℕ} {g : BERMode → V → List ℕ} {n : BERMode → A → ℕ} {o : BERMode → V → ℕ}
+pub part_written : {A V : Type 0} {E : A → A → Type 0} {F : V → V → Type 0} {B : Grammar A} {C : Grammar V}
+    {f : Form A} {g : Form V} {n : Nest A} {o : Nest V}
     {c : A → Type 0} {d : V → Type 0} → IsWritten E B f n c → IsWritten F C g o d →
     IsWritten (SamePart E F) (PartOf B C) (part_form f g) (part_nest n o) (part_can c d)
 part_written {f} {g} {n} {o} x y = record {
@@ -133,8 +132,7 @@ part_written {f} {g} {n} {o} x y = record {
 }
 
 -- a type whose values stand for tuples keeps the laws of writing as a SEQUENCE
-pub tuple_written : {U A : Type 0} {E : A → A → Type 0} {C : BERMode → ℕ → A → List ℕ → Type 0} {form : BERMode → A → List ℕ}
-    {nest : BERMode → A → ℕ} {Can : A → Type 0} (f : U → A) →
+pub tuple_written : {U A : Type 0} {E : A → A → Type 0} {C : Grammar A} {form : Form A} {nest : Nest A} {Can : A → Type 0} (f : U → A) →
     IsWritten E C form nest Can →
     IsWritten (λ v w. E (f v) (f w)) (λ m n v b. Enclosed C sequence_tag m n (f v) b) (λ m v. enclosed_form form sequence_tag m (f v))
     (λ m v. enclosed_nest nest m (f v)) (λ v. Can (f v))

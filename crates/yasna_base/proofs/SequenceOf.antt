@@ -7,6 +7,7 @@ use Rattle.yasna_base.specs.declared.tag.Tag.{Tag}
 use Rattle.yasna_base.specs.Canonical.{IsCanonicalMode, HoldsForm, enclosed_form, enclosed_nest, HasForm, IsWritten}
 use Rattle.yasna_base.specs.Coding.{IsSame, IsCoding, IsContentsCoding}
 use Rattle.yasna_base.specs.Digits.{IsBytes}
+use Rattle.yasna_base.specs.Grammar.{Grammar, Members, Form, Nest}
 use Rattle.yasna_base.specs.Identifier.{end_tag, nothing}
 use Rattle.yasna_base.specs.Pieces.{Each}
 use Rattle.yasna_base.specs.Sequence.{sequence_tag}
@@ -51,7 +52,7 @@ each_any f (v ∷ vs) [] p = absurd p
 each_any f (v ∷ vs) (b ∷ bs) p = let r = each_any f vs bs p.1 in (tt ∷ r.0, (f v b p.0, r.1))
 
 -- the elements of a list keep the laws of contents
-pub elements_contents : {A : Type 0} {E : A → A → Type 0} {B : BERMode → ℕ → A → List ℕ → Type 0} {S : BERMode → ℕ → List ℕ → Type 0} → IsCoding E B S →
+pub elements_contents : {A : Type 0} {E : A → A → Type 0} {B : Grammar A} {S : Members} → IsCoding E B S →
     IsContentsCoding (λ vs ws. Each E vs ws) (ElementsOf B) (AnyElements S)
 elements_contents {A} {E} {B} {S} x = record {
   meaning = record {
@@ -70,12 +71,12 @@ elements_contents {A} {E} {B} {S} x = record {
 }
 
 -- a list keeps the laws of reading
-pub list : {A : Type 0} {E : A → A → Type 0} {B : BERMode → ℕ → A → List ℕ → Type 0} {S : BERMode → ℕ → List ℕ → Type 0} (t : Tag) → (t ≡ end_tag → ⊥) →
+pub list : {A : Type 0} {E : A → A → Type 0} {B : Grammar A} {S : Members} (t : Tag) → (t ≡ end_tag → ⊥) →
     IsCoding E B S → IsCoding (λ vs ws. Each E vs ws) (IsListOf B t) (AnyListOf S t)
 list t not_end x = enclosed t not_end (elements_contents x)
 
 -- a type whose values stand for lists keeps the laws of reading as a SEQUENCE OF
-pub list_along : {U A : Type 0} {E : A → A → Type 0} {B : BERMode → ℕ → A → List ℕ → Type 0} {S : BERMode → ℕ → List ℕ → Type 0} (f : U → List A) →
+pub list_along : {U A : Type 0} {E : A → A → Type 0} {B : Grammar A} {S : Members} (f : U → List A) →
     IsCoding E B S → IsCoding (λ v w. Each E (f v) (f w)) (λ m n v b. IsListOf B sequence_tag m n (f v) b) (AnyListOf S sequence_tag)
 list_along f x = along f (list sequence_tag (not_end 16 (λ e. omega arith)) x)
 
@@ -84,8 +85,7 @@ pub forms_joined : {A : Type 0} (f : A → List ℕ) (vs : List A) → flat_map 
 forms_joined f [] = refl
 forms_joined f (v ∷ vs) = ap (λ c. f v ++ c) (forms_joined f vs)
 
-module _ {A : Type 0} {B : BERMode → ℕ → A → List ℕ → Type 0} {form : BERMode → A → List ℕ} {nest : BERMode → A → ℕ}
-    {Can : BERMode → A → Type 0} (x : HasForm B form nest Can) where
+module _ {A : Type 0} {B : Grammar A} {form : Form A} {nest : Nest A} {Can : BERMode → A → Type 0} (x : HasForm B form nest Can) where
   elements_bytes : (m : BERMode) (vs : List A) → AllByRecursion (Can m) vs → length (elements_form form m vs) < 2 ^ 64 → IsBytes (elements_form form m vs)
   elements_bytes m [] can short = tt
   elements_bytes m (v ∷ vs) can short =
@@ -125,8 +125,7 @@ module _ {A : Type 0} {B : BERMode → ℕ → A → List ℕ → Type 0} {form 
         (p.joined ∙ ap concat y.0 ∙ sym (forms_joined (form m) vs), y.1, y.2);
   }
 
-module _ {A : Type 0} {E : A → A → Type 0} {B : BERMode → ℕ → A → List ℕ → Type 0} {form : BERMode → A → List ℕ} {nest : BERMode → A → ℕ}
-    {Can : A → Type 0} (x : IsWritten E B form nest Can) where
+module _ {A : Type 0} {E : A → A → Type 0} {B : Grammar A} {form : Form A} {nest : Nest A} {Can : A → Type 0} (x : IsWritten E B form nest Can) where
   elements_any : (n : ℕ) (vs : List A) (bs : List (List ℕ)) → Each (B Ber n) vs bs → AllByRecursion Can vs × (elements_nest nest Der vs ≤ n)
   elements_any n [] [] p = (tt, omega arith)
   elements_any n [] (b ∷ bs) p = absurd p
@@ -155,8 +154,8 @@ module _ {A : Type 0} {E : A → A → Type 0} {B : BERMode → ℕ → A → Li
   }
 
 -- a type whose values stand for lists keeps the laws of writing as a SEQUENCE OF
-pub list_written : {U A : Type 0} {E : A → A → Type 0} {B : BERMode → ℕ → A → List ℕ → Type 0} {form : BERMode → A → List ℕ}
-    {nest : BERMode → A → ℕ} {Can : A → Type 0} (f : U → List A) → IsWritten E B form nest Can →
+pub list_written : {U A : Type 0} {E : A → A → Type 0} {B : Grammar A} {form : Form A}
+    {nest : Nest A} {Can : A → Type 0} (f : U → List A) → IsWritten E B form nest Can →
     IsWritten (λ v w. Each E (f v) (f w)) (λ m n v b. IsListOf B sequence_tag m n (f v) b) (λ m v. enclosed_form (elements_form form) sequence_tag m (f v))
     (λ m v. enclosed_nest (elements_nest nest) m (f v)) (λ v. AllByRecursion Can (f v))
 list_written f x = written_along f (enclosed_written sequence_tag (omega arith) (elements_written x))

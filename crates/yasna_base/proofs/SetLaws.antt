@@ -8,9 +8,9 @@ use Rattle.std.proofs.lemmas.Cmp.{nat_list_cmp_total}
 use Rattle.std.proofs.lemmas.List.Sorted.{ranks_by}
 use Rattle.std.proofs.lemmas.Map.Text.{is_eq-slice_cmp}
 use Rattle.std.proofs.lemmas.Slice.Eq.{bytes_eq-Decides}
-use Rattle.yasna_base.specs.declared.mode.BERMode.{BERMode}
 use Rattle.yasna_base.specs.declared.tag.Tag.{Tag}
 use Rattle.yasna_base.specs.Coding.{IsCoding, IsContentsCoding, Any}
+use Rattle.yasna_base.specs.Grammar.{Grammar, Members}
 use Rattle.yasna_base.specs.Identifier.{end_tag, class_number}
 use Rattle.yasna_base.specs.Order.{octets_cmp}
 use Rattle.yasna_base.specs.Pieces.{Each}
@@ -24,7 +24,7 @@ use Rattle.yasna_base.proofs.Raw.{raw_coding}
 use Rattle.yasna_base.proofs.SequenceOf.{each_any, elements_contents}
 
 -- the elements of a SET OF keep the laws of contents
-pub set_of_elements : {A : Type 0} {E : A → A → Type 0} {B : BERMode → ℕ → A → List ℕ → Type 0} {S : BERMode → ℕ → List ℕ → Type 0} → IsCoding E B S →
+pub set_of_elements : {A : Type 0} {E : A → A → Type 0} {B : Grammar A} {S : Members} → IsCoding E B S →
     IsContentsCoding (λ vs ws. Each E vs ws) (SetOfElements B) (AnySetOfElements S)
 set_of_elements {A} {E} {B} {S} x =
     let all = elements_contents x in
@@ -48,7 +48,7 @@ set_of_elements {A} {E} {B} {S} x =
     }
 
 -- a SET OF keeps the laws of reading
-pub set_of : {A : Type 0} {E : A → A → Type 0} {B : BERMode → ℕ → A → List ℕ → Type 0} {S : BERMode → ℕ → List ℕ → Type 0} (t : Tag) → (t ≡ end_tag → ⊥) →
+pub set_of : {A : Type 0} {E : A → A → Type 0} {B : Grammar A} {S : Members} (t : Tag) → (t ≡ end_tag → ⊥) →
     IsCoding E B S → IsCoding (λ vs ws. Each E vs ws) (IsSetOf B t) (AnySetOf S t)
 set_of t not_end x = enclosed t not_end (set_of_elements x)
 

@@ -13,6 +13,7 @@ use Rattle.yasna_base.specs.declared.tag.PCBit.TheVariants.{Constructed}
 use Rattle.yasna_base.specs.declared.tag.Tag.{Tag}
 use Rattle.yasna_base.specs.Canonical.{IsCanonicalMode, HoldsForm, canonical_element, HasForm, IsWritten}
 use Rattle.yasna_base.specs.Coding.{IsCoding}
+use Rattle.yasna_base.specs.Grammar.{Grammar, Members, TaggedGrammar, Form, Nest}
 use Rattle.yasna_base.specs.Identifier.{StartsElement}
 use Rattle.yasna_base.specs.Laws.{KeepsLaws}
 use Rattle.yasna_base.specs.Order.{octets_cmp, put_in, in_order}
@@ -82,7 +83,7 @@ parts_make m t bs parts b filled p e =
       around = e;
     }
 
-module _ {A : Type 0} (nest : BERMode → A → ℕ) (m : BERMode) (R : A → A → Ordering) where
+module _ {A : Type 0} (nest : Nest A) (m : BERMode) (R : A → A → Ordering) where
   put_nest : (v : A) (vs : List A) → elements_nest nest m (put_in R v vs) ≡ max (nest m v) (elements_nest nest m vs)
   put_nest v [] = refl
   put_nest v (w ∷ vs) = step (is_lt (R w v)) (put_nest v vs)
@@ -97,8 +98,7 @@ module _ {A : Type 0} (nest : BERMode → A → ℕ) (m : BERMode) (R : A → A 
   order_nest [] = refl
   order_nest (v ∷ vs) = put_nest v (in_order R vs) ∙ ap (λ n. max (nest m v) n) (order_nest vs)
 
-module _ {A : Type 0} {B : BERMode → ℕ → A → List ℕ → Type 0} {form : BERMode → A → List ℕ} {nest : BERMode → A → ℕ} {Can : A → Type 0}
-    (x : HasForm B form nest (λ m. Can)) where
+module _ {A : Type 0} {B : Grammar A} {form : Form A} {nest : Nest A} {Can : A → Type 0} (x : HasForm B form nest (λ m. Can)) where
   -- values in the order of their forms have one form as the elements of a SET OF
   set_of_elements_have : HasForm (SetOfElements B) (elements_form form) (elements_nest nest) (CanSetOf form Can)
   set_of_elements_have = record {
@@ -127,13 +127,12 @@ module _ {A : Type 0} {B : BERMode → ℕ → A → List ℕ → Type 0} {form 
   }
 
 -- a SET OF is a list in order
-as_list : {A : Type 0} (B : BERMode → ℕ → A → List ℕ → Type 0) (t : Tag) (m : BERMode) (n : ℕ) (vs : List A) (b : List ℕ) → IsSetOf B t m n vs b →
-    IsListOf B t m n vs b
+as_list : {A : Type 0} (B : Grammar A) (t : Tag) (m : BERMode) (n : ℕ) (vs : List A) (b : List ℕ) → IsSetOf B t m n vs b → IsListOf B t m n vs b
 as_list B t m zero vs b p = p
 as_list B t m (suc n) vs b p = record { contents = p.contents; element = p.element; meaning = p.meaning.elements }
 
-module _ {A : Type 0} {E : A → A → Type 0} {B : BERMode → ℕ → A → List ℕ → Type 0} {S : BERMode → ℕ → List ℕ → Type 0} {form : BERMode → A → List ℕ}
-    {nest : BERMode → A → ℕ} {Can : A → Type 0} (r : IsCoding E B S) (x : IsWritten E B form nest Can) (t : Tag) (range : t.tag_number < 2 ^ 64) where
+module _ {A : Type 0} {E : A → A → Type 0} {B : Grammar A} {S : Members} {form : Form A}
+    {nest : Nest A} {Can : A → Type 0} (r : IsCoding E B S) (x : IsWritten E B form nest Can) (t : Tag) (range : t.tag_number < 2 ^ 64) where
   element_starts : (m : BERMode) (n : ℕ) (v : A) (b : List ℕ) → B m n v b → StartsElement b
   element_starts m n v b p = r.opens m n b (r.meaning.among m n v b p)
 
@@ -194,16 +193,15 @@ module _ {A : Type 0} {E : A → A → Type 0} {B : BERMode → ℕ → A → Li
       }
 
 -- under any tag it keeps the laws of reading, where its elements do
-pub set_of_reading : {A : Type 0} {E : A → A → Type 0} {B : BERMode → ℕ → A → List ℕ → Type 0} {S : BERMode → ℕ → List ℕ → Type 0} → IsCoding E B S →
-    SetOfKeepsReadingLaws E B S
+pub set_of_reading : {A : Type 0} {E : A → A → Type 0} {B : Grammar A} {S : Members} → IsCoding E B S → SetOfKeepsReadingLaws E B S
 set_of_reading x = λ t not_end range. set_of t not_end x
 
 -- and those of writing
-pub set_of_writing : {A : Type 0} {E : A → A → Type 0} {B : BERMode → ℕ → A → List ℕ → Type 0} {S : BERMode → ℕ → List ℕ → Type 0} {form : BERMode → A → List ℕ}
-    {nest : BERMode → A → ℕ} {Can : A → Type 0} → IsCoding E B S → IsWritten E B form nest Can → SetOfKeepsWritingLaws E B form nest Can
+pub set_of_writing : {A : Type 0} {E : A → A → Type 0} {B : Grammar A} {S : Members} {form : Form A}
+    {nest : Nest A} {Can : A → Type 0} → IsCoding E B S → IsWritten E B form nest Can → SetOfKeepsWritingLaws E B form nest Can
 set_of_writing r x = λ t not_end range. set_of_written r x t range
 
 -- and both, where its elements keep them under any tag
-pub set_of_keeps : {A : Type 0} (B : ℕ → BERMode → Tag → A → List ℕ → Type 0) (form : Tag → BERMode → A → List ℕ) (nest : BERMode → A → ℕ) (Can : A → Type 0) →
+pub set_of_keeps : {A : Type 0} (B : TaggedGrammar A) (form : Tag → Form A) (nest : Nest A) (Can : A → Type 0) →
     KeepsLaws B form nest Can → SetOfKeepsLaws B form nest Can
 set_of_keeps B form nest Can x = λ u not_end range. let y = x u not_end range in (set_of_reading y.0, set_of_writing y.0 y.1)

@@ -21,6 +21,7 @@ use Rattle.yasna_base.specs.Digits.{IsBytes}
 use Rattle.yasna_base.specs.declared.tag.PCBit.{PCBit}
 use Rattle.yasna_base.specs.declared.tag.PCBit.TheVariants.{Primitive, Constructed}
 use Rattle.yasna_base.specs.Element.{TakesIndefinite, end_of_contents, Definite, definite, Indefinite, Enclosed}
+use Rattle.yasna_base.specs.Grammar.{Nest}
 use Rattle.yasna_base.specs.Identifier.{identifier, class_number, BeginsWithTag}
 use Rattle.yasna_base.specs.Length.{SpellsLength}
 use Rattle.yasna_base.specs.Order.{tag_cmp, octets_cmp, in_order}
@@ -125,7 +126,7 @@ raw_holds Cer Der n v b h x = absurd h
 raw_holds Cer Cer n v b h x = x
 
 -- within levels that are given nothing is said of how deep elements nest
-abbrev no_nest : BERMode → RawValue → ℕ
+abbrev no_nest : Nest RawValue
 no_nest m v = 0
 
 cer_bytes : (t : Tag) (p : PCBit) (c : List ℕ) → IsBytes c → length (raw_cer_form t p c) < 2 ^ 64 → IsBytes (raw_cer_form t p c)

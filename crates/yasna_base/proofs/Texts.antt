@@ -16,11 +16,11 @@ use Rattle.yasna_base.specs.Canonical.{IsCanonicalMode, IsWritten, Always}
 use Rattle.yasna_base.specs.Coding.{IsCoding, Any}
 use Rattle.yasna_base.specs.Digits.{IsBytes}
 use Rattle.yasna_base.specs.Identifier.{universal, end_tag}
-use Rattle.yasna_base.specs.Octets.{octets_cutting, octets_form, octets_nest}
-use Rattle.yasna_base.specs.Text.{IsTextIn, IsUtf8In, IsStringOf, utf8_form, utf8_nest, characters, EncodesText, EncodesString, TextKeepsLaws, InUtf8, InNumeric, InVisible, InIa5, InPrintable}
+use Rattle.yasna_base.specs.Octets.{octets_segmentation, octets_form, octets_nest}
+use Rattle.yasna_base.specs.Text.{IsTextIn, IsUtf8In, IsStringOf, utf8_form, utf8_nest, characters, EncodesText, EncodesString, TextKeepsLaws, InUtf8, InNumeric, InVisible, InIa5, InPrintable, utf8_tag}
 use Rattle.yasna_base.proofs.Canonical.{written_along, written_always}
 use Rattle.yasna_base.proofs.Coding.{equal_same, along}
-use Rattle.yasna_base.proofs.Cut.{cut_exact, cut_starts, cut_deeper, cut_level}
+use Rattle.yasna_base.proofs.Segmented.{segmented_exact, segmented_starts, segmented_deeper, segmented_level}
 use Rattle.yasna_base.proofs.Digits.{bytes_append}
 use Rattle.yasna_base.proofs.Identifier.{not_end}
 use Rattle.yasna_base.proofs.Octets.{octets_once, octets_bytes, octets_written}
@@ -35,13 +35,13 @@ string_coding K one t not_end = record {
     equal = equal_same;
     among = λ m n v b x. (v, x);
     exact = λ m n k v w b x y.
-        let same = (cut_exact octets_once n k m t x.octets y.octets b b [] [] x.string y.string refl).0 in
+        let same = (segmented_exact octets_once n k m t x.octets y.octets b b [] [] x.string y.string refl).0 in
         one m v w y.octets (subst (λ c. K m v c) same x.meaning) y.meaning;
     deeper = λ m n k v b below x. record
-        { octets = x.octets; string = cut_deeper octets_cutting n k m t x.octets b below x.string; meaning = x.meaning };
+        { octets = x.octets; string = segmented_deeper octets_segmentation n k m t x.octets b below x.string; meaning = x.meaning };
   };
-  opens = λ m n b x. cut_starts octets_cutting n m t x.1.octets b not_end x.1.string;
-  alone = λ m n k b c r s x y e. (cut_exact octets_once n k m t x.1.octets y.1.octets b c r s x.1.string y.1.string e).1;
+  opens = λ m n b x. segmented_starts octets_segmentation n m t x.1.octets b not_end x.1.string;
+  alone = λ m n k b c r s x y e. (segmented_exact octets_once n k m t x.1.octets y.1.octets b c r s x.1.string y.1.string e).1;
 }
 
 -- it keeps the laws of writing, where each value has octets of its own in each canonical mode
@@ -66,7 +66,7 @@ string_written K Can octets t range bytes means one back =
       };
       any = λ n v b x. (
         back Ber v x.octets (octets_bytes n Ber t x.octets b x.string) x.meaning,
-        cut_level octets_cutting n Ber t x.octets b x.string,
+        segmented_level octets_segmentation n Ber t x.octets b x.string,
       );
       same = λ m v w e. (ap (λ u. octets_form t m (octets u)) e, λ can. subst Can e can, ap (λ u. octets_nest m (octets u)) e);
     }
@@ -158,11 +158,11 @@ same_string s t e =
 
 -- under its own tag, of strings that are equal where their characters are
 pub text_coding : IsCoding (λ (v w : String Global). characters v ≡ characters w) EncodesString (Any EncodesText)
-text_coding = along characters (class_coding InUtf8 (universal 12) (not_end 12 (λ e. omega arith)))
+text_coding = along characters (class_coding InUtf8 utf8_tag (not_end 12 (λ e. omega arith)))
 
 pub text_written : IsWritten (λ (v w : String Global). characters v ≡ characters w) EncodesString
-    (λ m v. utf8_form (universal 12) m (characters v)) (λ m v. utf8_nest m (characters v)) Always
-text_written = written_always string_text (written_along characters (class_written InUtf8 (universal 12) (omega arith)))
+    (λ m v. utf8_form utf8_tag m (characters v)) (λ m v. utf8_nest m (characters v)) Always
+text_written = written_always string_text (written_along characters (class_written InUtf8 utf8_tag (omega arith)))
 
 -- classes of ASCII
 

@@ -5,6 +5,7 @@ use Rattle.std.specs.Int.Digits.{number_from_digits}
 use Rattle.yasna_base.specs.declared.mode.BERMode.{BERMode}
 use Rattle.yasna_base.specs.declared.tag.Tag.{Tag}
 use Rattle.yasna_base.specs.Digits.{IsBytes}
+use Rattle.yasna_base.specs.Grammar.{Form}
 use Rattle.yasna_base.specs.Integer.{twos, IsMinimal, integer_form}
 use Rattle.yasna_base.specs.Laws.{PrimitiveKeepsLaws}
 
@@ -40,7 +41,7 @@ unfoldable pub big_integer : List ℕ → Bool → ℤ
 big_integer b positive = signed_or_zero positive (without 0 b)
 
 -- the form of that number as an INTEGER
-abbrev pub big_integer_form : Tag → BERMode → BigInteger → List ℕ
+abbrev pub big_integer_form : Tag → Form BigInteger
 big_integer_form t m v = integer_form t m (big_integer v.bytes v.positive)
 
 -- v is canonical: the fewest bytes in two's complement, and their sign

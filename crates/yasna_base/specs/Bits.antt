@@ -6,8 +6,9 @@ use Rattle.yasna_base.specs.declared.mode.BERMode.TheVariants.{Ber, Der, Cer}
 use Rattle.yasna_base.specs.declared.tag.Tag.{Tag}
 use Rattle.yasna_base.specs.Canonical.{HasForm}
 use Rattle.yasna_base.specs.Coding.{IsCoding, Any}
-use Rattle.yasna_base.specs.Cut.{Cutting, IsCut, IsDeepCut, cut_form, cut_nest}
+use Rattle.yasna_base.specs.Segmented.{Segmentation, IsSegmented, IsDeepSegmented, segmented_form, segmented_nest}
 use Rattle.yasna_base.specs.Digits.{IsBytes}
+use Rattle.yasna_base.specs.Grammar.{TaggedGrammar, TaggedMembers, Form, Nest}
 use Rattle.yasna_base.specs.Identifier.{universal, end_tag}
 use Rattle.yasna_base.specs.Segments.{segments}
 
@@ -51,29 +52,29 @@ abbrev pub all_bits : List BitString → ℕ
 all_bits [] = 0
 all_bits (v ∷ vs) = v.count + all_bits vs
 
--- the bits of the pieces make the string, one after the other
+-- the bits of the segments make the string, one after the other
 pub record AreBitsJoined (m : BERMode) (vs : List BitString) (v : BitString) : Type 0 where
   pub full : AreFullBeforeLast vs
   pub bytes : v.bytes ≡ flat_map (λ (w : BitString). w.bytes) vs
   pub count : v.count ≡ all_bits vs
   pub in_range : v.count < 2 ^ 64
 
--- behind unused bits no piece may follow, nor behind more than 2 ^ 64 - 1 bits
+-- behind unused bits no segment may follow, nor behind more than 2 ^ 64 - 1 bits
 pub record MayFollow (vs : List BitString) : Type 0 where
   pub full : AllByRecursion IsFull vs
   pub in_range : all_bits vs < 2 ^ 64
 
 -- the count of unused bits is the thousandth octet of a segment
-abbrev pub bits_cutting : Cutting BitString
-bits_cutting = record { whole = AreTheBits; join = AreBitsJoined; more = MayFollow; piece = bits_tag; bytes = λ v. v.bytes; full = 999 }
+abbrev pub bits_segmentation : Segmentation BitString
+bits_segmentation = record { whole = AreTheBits; join = AreBitsJoined; more = MayFollow; segment = bits_tag; bytes = λ v. v.bytes; full = 999 }
 
 -- within n levels, b is the bit string v with the tag t
-abbrev pub IsBits : ℕ → BERMode → Tag → BitString → List ℕ → Type 0
-IsBits n m t v b = IsCut bits_cutting n m t v b
+abbrev pub IsBits : TaggedGrammar BitString
+IsBits n m t v b = IsSegmented bits_segmentation n m t v b
 
 -- reading a bit string with the tag t from s meets an element that no level is left for
-abbrev pub IsDeepBits : ℕ → BERMode → Tag → List ℕ → Type 0
-IsDeepBits n m t s = IsDeepCut bits_cutting n m t s
+abbrev pub IsDeepBits : TaggedMembers
+IsDeepBits n m t s = IsDeepSegmented bits_segmentation n m t s
 
 -- how many bits of the bytes are unused
 abbrev pub unused_bits : BitString → ℕ
@@ -100,12 +101,12 @@ abbrev pub bit_segments : BitString → List BitString
 bit_segments v = bit_pieces (segments 999 (padded (unused_bits v) v.bytes)) v.count
 
 -- a string of bits in a canonical mode: whole, or in those segments
-abbrev pub bits_form : Tag → BERMode → BitString → List ℕ
-bits_form t m v = cut_form bits_cutting bits_contents bit_segments t m v
+abbrev pub bits_form : Tag → Form BitString
+bits_form t m v = segmented_form bits_segmentation bits_contents bit_segments t m v
 
 -- how deep it nests
-abbrev pub bits_nest : BERMode → BitString → ℕ
-bits_nest m v = cut_nest bits_cutting m v
+abbrev pub bits_nest : Nest BitString
+bits_nest m v = segmented_nest bits_segmentation m v
 
 -- the bytes are as many as the bits need
 pub record CanBits (v : BitString) : Type 0 where

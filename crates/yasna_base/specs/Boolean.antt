@@ -5,10 +5,15 @@ use Rattle.yasna_base.specs.declared.mode.BERMode.TheVariants.{Ber, Der, Cer}
 use Rattle.yasna_base.specs.declared.tag.Tag.{Tag}
 use Rattle.yasna_base.specs.declared.tag.PCBit.TheVariants.{Primitive}
 use Rattle.yasna_base.specs.Digits.{IsBytes}
+use Rattle.yasna_base.specs.Grammar.{Grammar, Form}
 use Rattle.yasna_base.specs.Identifier.{universal}
 use Rattle.yasna_base.specs.Element.{Primitively}
 use Rattle.yasna_base.specs.Canonical.{canonical_element, Always}
 use Rattle.yasna_base.specs.Laws.{PrimitiveKeepsLaws}
+
+-- the tag of BOOLEAN
+abbrev pub boolean_tag : Tag
+boolean_tag = universal 1
 
 -- any byte but 0 is true in BER, 255 alone in DER and CER
 abbrev pub SaysTrue : BERMode → ℕ → Type 0
@@ -22,8 +27,8 @@ pub data IsBoolean (m : BERMode) (v : Bool) (c : List ℕ) : Type 0 where
   says_true : (x : ℕ) → SaysTrue m x → IsBytes (x ∷ []) → v ≡ Bool.true → c ≡ x ∷ [] → IsBoolean m v c
 
 -- the type's grammar under its own tag
-abbrev pub EncodesBoolean : BERMode → ℕ → Bool → List ℕ → Type 0
-EncodesBoolean m n v b = Primitively IsBoolean n m (universal 1) v b
+abbrev pub EncodesBoolean : Grammar Bool
+EncodesBoolean m n v b = Primitively IsBoolean n m boolean_tag v b
 
 -- the one byte that is written
 abbrev pub boolean_byte : Bool → ℕ
@@ -31,7 +36,7 @@ boolean_byte Bool.false = 0
 boolean_byte Bool.true = 255
 
 -- the form in a canonical mode
-abbrev pub boolean_form : Tag → BERMode → Bool → List ℕ
+abbrev pub boolean_form : Tag → Form Bool
 boolean_form t m v = canonical_element m t Primitive (boolean_byte v ∷ [])
 
 -- BOOLEAN keeps the laws under any tag

@@ -7,6 +7,7 @@ use Rattle.yasna_base.specs.declared.tag.PCBit.{PCBit}
 use Rattle.yasna_base.specs.declared.tag.PCBit.TheVariants.{Primitive, Constructed}
 use Rattle.yasna_base.specs.Digits.{IsBytes}
 use Rattle.yasna_base.specs.Element.{end_of_contents}
+use Rattle.yasna_base.specs.Grammar.{Grammar, Form, Nest}
 use Rattle.yasna_base.specs.Identifier.{identifier}
 use Rattle.yasna_base.specs.Length.{shortest_length}
 
@@ -41,15 +42,15 @@ canonical_element Cer t Constructed c = indefinite_element t c
 canonical_element m t Constructed c = definite_element t Constructed c
 
 -- a value with no parts of its own
-abbrev pub leaf_nest : {A : Type 0} → BERMode → A → ℕ
+abbrev pub leaf_nest : {A : Type 0} → Nest A
 leaf_nest m v = 1
 
 -- an element around contents
-abbrev pub enclosed_form : {A : Type 0} → (BERMode → A → List ℕ) → Tag → BERMode → A → List ℕ
+abbrev pub enclosed_form : {A : Type 0} → Form A → Tag → Form A
 enclosed_form form t m v = canonical_element m t Constructed (form m v)
 
 -- it nests one level deeper than what it holds
-abbrev pub enclosed_nest : {A : Type 0} → (BERMode → A → ℕ) → BERMode → A → ℕ
+abbrev pub enclosed_nest : {A : Type 0} → Nest A → Nest A
 enclosed_nest nest m v = 1 + nest m v
 
 -- every value can be written
@@ -57,8 +58,7 @@ abbrev pub Always : {A : Type 0} → A → Type 0
 Always v = Unit {0}
 
 -- Can m says which values can be written in the mode m, which may differ by mode
-pub record HasForm {A : Type 0} (B : BERMode → ℕ → A → List ℕ → Type 0) (form : BERMode → A → List ℕ) (nest : BERMode → A → ℕ)
-    (Can : BERMode → A → Type 0) : Type 0 where
+pub record HasForm {A : Type 0} (B : Grammar A) (form : Form A) (nest : Nest A) (Can : BERMode → A → Type 0) : Type 0 where
   -- the form is bytes
   pub in_bytes : (m : BERMode) (v : A) → Can m v → length (form m v) < 2 ^ 64 → IsBytes (form m v)
   -- the form is read, in its mode and in BER
@@ -67,8 +67,7 @@ pub record HasForm {A : Type 0} (B : BERMode → ℕ → A → List ℕ → Type
   pub only : (m : BERMode) (n : ℕ) (v : A) (b : List ℕ) → IsCanonicalMode m → B m n v b → (b ≡ form m v) × Can m v × (nest m v ≤ n)
 
 -- the laws of writing of a type: any mode can write what BER reads
-pub record IsWritten {A : Type 0} (E : A → A → Type 0) (B : BERMode → ℕ → A → List ℕ → Type 0) (form : BERMode → A → List ℕ) (nest : BERMode → A → ℕ)
-    (Can : A → Type 0) : Type 0 where
+pub record IsWritten {A : Type 0} (E : A → A → Type 0) (B : Grammar A) (form : Form A) (nest : Nest A) (Can : A → Type 0) : Type 0 where
   pub has : HasForm B form nest (λ m. Can)
   pub any : (n : ℕ) (v : A) (b : List ℕ) → B Ber n v b → Can v × (nest Der v ≤ n)
   -- equal values are written alike

@@ -2,6 +2,7 @@
 -- the bytes alone, and E says which values are equal.
 use Rattle.std.specs.Prelude.{◌≡◌, ℕ, ◌≤◌, List, ◌++◌}
 use Rattle.yasna_base.specs.declared.mode.BERMode.{BERMode}
+use Rattle.yasna_base.specs.Grammar.{Grammar, Members}
 use Rattle.yasna_base.specs.Identifier.{StartsElement, AtEnd}
 
 -- E is an equivalence
@@ -11,7 +12,7 @@ pub record IsSame {A : Type 0} (E : A → A → Type 0) : Type 0 where
   pub transitive : (u v w : A) → E u v → E v w → E u w
 
 -- what any bytes that mean values keep
-pub record IsMeaning {A : Type 0} (E : A → A → Type 0) (B : BERMode → ℕ → A → List ℕ → Type 0) (S : BERMode → ℕ → List ℕ → Type 0) : Type 0 where
+pub record IsMeaning {A : Type 0} (E : A → A → Type 0) (B : Grammar A) (S : Members) : Type 0 where
   pub equal : IsSame E
   -- an encoding of a value is among the encodings
   pub among : (m : BERMode) (n : ℕ) (v : A) (b : List ℕ) → B m n v b → S m n b
@@ -21,11 +22,11 @@ pub record IsMeaning {A : Type 0} (E : A → A → Type 0) (B : BERMode → ℕ 
   pub deeper : (m : BERMode) (n k : ℕ) (v : A) (b : List ℕ) → n ≤ k → B m n v b → B m k v b
 
 -- of two members of S, within any levels, neither begins the other
-abbrev pub NoneBeginsAnother : (BERMode → ℕ → List ℕ → Type 0) → Type 0
+abbrev pub NoneBeginsAnother : Members → Type 0
 NoneBeginsAnother S = (m : BERMode) (n k : ℕ) (b c r s : List ℕ) → S m n b → S m k c → b ++ r ≡ c ++ s → b ≡ c
 
 -- the laws of reading of a type
-pub record IsCoding {A : Type 0} (E : A → A → Type 0) (B : BERMode → ℕ → A → List ℕ → Type 0) (S : BERMode → ℕ → List ℕ → Type 0) : Type 0 where
+pub record IsCoding {A : Type 0} (E : A → A → Type 0) (B : Grammar A) (S : Members) : Type 0 where
   pub meaning : IsMeaning E B S
   -- an encoding begins with an identifier, which isn't that of the end of contents
   pub opens : (m : BERMode) (n : ℕ) (b : List ℕ) → S m n b → StartsElement b
@@ -33,15 +34,15 @@ pub record IsCoding {A : Type 0} (E : A → A → Type 0) (B : BERMode → ℕ �
   pub alone : NoneBeginsAnother S
 
 -- the same of the parts of a tuple, which may be empty
-pub record ArePartsCoding {A : Type 0} (E : A → A → Type 0) (C : BERMode → ℕ → A → List ℕ → Type 0) (S : BERMode → ℕ → List ℕ → Type 0) : Type 0 where
+pub record ArePartsCoding {A : Type 0} (E : A → A → Type 0) (C : Grammar A) (S : Members) : Type 0 where
   pub meaning : IsMeaning E C S
   pub alone : NoneBeginsAnother S
 
 -- the same of contents, which end where nothing is left or the end of contents stands
-pub record IsContentsCoding {A : Type 0} (E : A → A → Type 0) (C : BERMode → ℕ → A → List ℕ → Type 0) (S : BERMode → ℕ → List ℕ → Type 0) : Type 0 where
+pub record IsContentsCoding {A : Type 0} (E : A → A → Type 0) (C : Grammar A) (S : Members) : Type 0 where
   pub meaning : IsMeaning E C S
   pub ends : (m : BERMode) (n k : ℕ) (b c r s : List ℕ) → AtEnd r → AtEnd s → S m n b → S m k c → b ++ r ≡ c ++ s → b ≡ c
 
 -- what reading asks of the bytes alone, where that is just to stand for some value
-abbrev pub Any : {A : Type 0} → (BERMode → ℕ → A → List ℕ → Type 0) → BERMode → ℕ → List ℕ → Type 0
+abbrev pub Any : {A : Type 0} → Grammar A → Members
 Any {A} B m n b = (v : A) × B m n v b

@@ -6,6 +6,7 @@ use Rattle.yasna_base.specs.declared.tag.Tag.{Tag}
 use Rattle.yasna_base.specs.declared.tag.PCBit.{PCBit}
 use Rattle.yasna_base.specs.declared.tag.PCBit.TheVariants.{Primitive, Constructed}
 use Rattle.yasna_base.specs.Digits.{IsBytes}
+use Rattle.yasna_base.specs.Grammar.{Grammar, Members, TaggedGrammar}
 use Rattle.yasna_base.specs.Identifier.{identifier}
 use Rattle.yasna_base.specs.Length.{SpellsLength}
 
@@ -59,7 +60,7 @@ pub record IsPrimitive {A : Type 0} (W : A → List ℕ → Type 0) (n : ℕ) (m
   pub meaning : W v contents
 
 -- the same, where the meaning depends on the mode
-abbrev pub Primitively : {A : Type 0} → (BERMode → A → List ℕ → Type 0) → ℕ → BERMode → Tag → A → List ℕ → Type 0
+abbrev pub Primitively : {A : Type 0} → (BERMode → A → List ℕ → Type 0) → TaggedGrammar A
 Primitively W n m t v b = IsPrimitive (W m) n m t v b
 
 -- b is a constructed element around contents that say v by C
@@ -69,10 +70,10 @@ pub record Around {A : Type 0} (m : BERMode) (t : Tag) (C : A → List ℕ → T
   pub meaning : C v contents
 
 -- an element around contents that say v by C with one level less
-abbrev pub Enclosed : {A : Type 0} → (BERMode → ℕ → A → List ℕ → Type 0) → Tag → BERMode → ℕ → A → List ℕ → Type 0
+abbrev pub Enclosed : {A : Type 0} → Grammar A → Tag → Grammar A
 Enclosed C t m zero v b = ⊥
 Enclosed C t m (suc n) v b = Around m t (C m n) v b
 
 -- the same of bytes alone
-abbrev pub AnyEnclosed : (BERMode → ℕ → List ℕ → Type 0) → Tag → BERMode → ℕ → List ℕ → Type 0
+abbrev pub AnyEnclosed : Members → Tag → Members
 AnyEnclosed S t m n b = Enclosed {A = Unit {0}} (λ m n u c. S m n c) t m n tt b

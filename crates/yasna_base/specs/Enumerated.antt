@@ -1,15 +1,20 @@
 -- ENUMERATED: as INTEGER, but for its tag (X.690, 8.4).
-use Rattle.std.specs.Prelude.{ℕ, List, ℤ, FitsSigned}
+use Rattle.yasna_base.specs.declared.tag.Tag.{Tag}
+use Rattle.std.specs.Prelude.{ℤ, FitsSigned}
 use Rattle.std.specs.Int.{w64}
-use Rattle.yasna_base.specs.declared.mode.BERMode.{BERMode}
+use Rattle.yasna_base.specs.Grammar.{Grammar}
 use Rattle.yasna_base.specs.Identifier.{universal}
 use Rattle.yasna_base.specs.Element.{Primitively}
 use Rattle.yasna_base.specs.Integer.{IsSigned, integer_form}
 use Rattle.yasna_base.specs.Laws.{PrimitiveKeepsLaws}
 
+-- the tag of ENUMERATED
+abbrev pub enumerated_tag : Tag
+enumerated_tag = universal 10
+
 -- the type's grammar under its own tag
-abbrev pub EncodesEnumerated : BERMode → ℕ → ℤ → List ℕ → Type 0
-EncodesEnumerated m n v b = Primitively (IsSigned w64) n m (universal 10) v b
+abbrev pub EncodesEnumerated : Grammar ℤ
+EncodesEnumerated m n v b = Primitively (IsSigned w64) n m enumerated_tag v b
 
 -- ENUMERATED keeps the laws under any tag
 abbrev pub EnumeratedKeepsLaws : Type 0

@@ -22,13 +22,13 @@ kind_text Invalid = codes "Invalid"
 kind_text OutOfMemory = codes "OutOfMemory"
 
 -- neither too deep nor want of memory
-abbrev pub IsPlain : ASN1ErrorKind → Type 0
-IsPlain Eof = Unit {0}
-IsPlain Extra = Unit {0}
-IsPlain IntegerOverflow = Unit {0}
-IsPlain Invalid = Unit {0}
-IsPlain StackOverflow = ⊥
-IsPlain OutOfMemory = ⊥
+abbrev pub BlamesBytes : ASN1ErrorKind → Type 0
+BlamesBytes Eof = Unit {0}
+BlamesBytes Extra = Unit {0}
+BlamesBytes IntegerOverflow = Unit {0}
+BlamesBytes Invalid = Unit {0}
+BlamesBytes StackOverflow = ⊥
+BlamesBytes OutOfMemory = ⊥
 
 -- what a refusal prints
 abbrev pub error_text : ASN1Error → List ℕ

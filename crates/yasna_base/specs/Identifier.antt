@@ -8,7 +8,7 @@ use Rattle.yasna_base.specs.declared.tag.TagClass.TheVariants.{Universal, Applic
 use Rattle.yasna_base.specs.declared.tag.PCBit.{PCBit}
 use Rattle.yasna_base.specs.declared.tag.PCBit.TheVariants.{Primitive, Constructed}
 use Rattle.yasna_base.specs.Digits.{base128}
-use Rattle.yasna_base.specs.Error.{IsPlain}
+use Rattle.yasna_base.specs.Error.{BlamesBytes}
 
 -- the number that a class has in bits 8 and 7 of the first byte
 abbrev pub class_number : TagClass → ℕ
@@ -62,9 +62,9 @@ pub data AtEnd (s : List ℕ) : Type 0 where
 -- a number in base 128, not below 31, stands at the front
 abbrev pub NumberAt : List ℕ → Result (ℕ × Bor (List ℕ)) ASN1ErrorKind → Type 0
 NumberAt s (Ok x) = (31 ≤ x.0) × (s ≡ base128 x.0 ++ x.1.now)
-NumberAt s (Err k) = IsPlain k × ((n : ℕ) (r : List ℕ) → 31 ≤ n → n < 2 ^ 64 → s ≡ base128 n ++ r → ⊥)
+NumberAt s (Err k) = BlamesBytes k × ((n : ℕ) (r : List ℕ) → 31 ≤ n → n < 2 ^ 64 → s ≡ base128 n ++ r → ⊥)
 
 -- an identifier stands at the front
 abbrev pub IdentifierAt : List ℕ → Result (Tag × PCBit × Bor (List ℕ)) ASN1ErrorKind → Type 0
 IdentifierAt s (Ok x) = s ≡ identifier x.0 x.1 ++ x.2.now
-IdentifierAt s (Err k) = IsPlain k × ((t : Tag) (p : PCBit) (r : List ℕ) → t.tag_number < 2 ^ 64 → s ≡ identifier t p ++ r → ⊥)
+IdentifierAt s (Err k) = BlamesBytes k × ((t : Tag) (p : PCBit) (r : List ℕ) → t.tag_number < 2 ^ 64 → s ≡ identifier t p ++ r → ⊥)

@@ -7,10 +7,15 @@ use Rattle.yasna_base.specs.declared.mode.BERMode.{BERMode}
 use Rattle.yasna_base.specs.declared.tag.Tag.{Tag}
 use Rattle.yasna_base.specs.declared.tag.PCBit.TheVariants.{Primitive}
 use Rattle.yasna_base.specs.Digits.{IsBytes, digits}
+use Rattle.yasna_base.specs.Grammar.{Grammar, Form}
 use Rattle.yasna_base.specs.Identifier.{universal}
 use Rattle.yasna_base.specs.Element.{Primitively}
 use Rattle.yasna_base.specs.Canonical.{canonical_element}
 use Rattle.yasna_base.specs.Laws.{PrimitiveKeepsLaws}
+
+-- the tag of INTEGER
+abbrev pub integer_tag : Tag
+integer_tag = universal 2
 
 -- two's complement: the number read unsigned, less 256 ^ length where the first bit is set
 unfoldable pub twos : List ℕ → ℤ
@@ -51,12 +56,12 @@ abbrev pub IsUnsigned : ℕ → BERMode → ℕ → List ℕ → Type 0
 IsUnsigned k m v c = IsNumber pos (λ n. n < 2 ^ k) m v c
 
 -- the grammar of a signed type under INTEGER's tag
-abbrev pub EncodesSigned : Width → BERMode → ℕ → ℤ → List ℕ → Type 0
-EncodesSigned w m n v b = Primitively (IsSigned w) n m (universal 2) v b
+abbrev pub EncodesSigned : Width → Grammar ℤ
+EncodesSigned w m n v b = Primitively (IsSigned w) n m integer_tag v b
 
 -- the grammar of an unsigned type under INTEGER's tag
-abbrev pub EncodesUnsigned : ℕ → BERMode → ℕ → ℕ → List ℕ → Type 0
-EncodesUnsigned k m n v b = Primitively (IsUnsigned k) n m (universal 2) v b
+abbrev pub EncodesUnsigned : ℕ → Grammar ℕ
+EncodesUnsigned k m n v b = Primitively (IsUnsigned k) n m integer_tag v b
 
 -- digits, behind a zero where the first bit would be set
 abbrev pub unsigned_bytes : List ℕ → List ℕ
@@ -69,7 +74,7 @@ minimal_bytes (pos n) = unsigned_bytes (digits 256 n)
 minimal_bytes (negsuc n) = map (λ d. 255 - d) (unsigned_bytes (digits 256 n))
 
 -- the form in a canonical mode
-abbrev pub integer_form : Tag → BERMode → ℤ → List ℕ
+abbrev pub integer_form : Tag → Form ℤ
 integer_form t m z = canonical_element m t Primitive (minimal_bytes z)
 
 -- a signed type of each width keeps the laws under any tag

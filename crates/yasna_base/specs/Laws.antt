@@ -4,6 +4,7 @@ use Rattle.yasna_base.specs.declared.mode.BERMode.{BERMode}
 use Rattle.yasna_base.specs.declared.tag.Tag.{Tag}
 use Rattle.yasna_base.specs.declared.tag.PCBit.{PCBit}
 use Rattle.yasna_base.specs.declared.tag.PCBit.TheVariants.{Primitive}
+use Rattle.yasna_base.specs.Grammar.{TaggedGrammar, Form, Nest}
 use Rattle.yasna_base.specs.Identifier.{identifier, end_tag}
 use Rattle.yasna_base.specs.Length.{SpellsLength}
 use Rattle.yasna_base.specs.Element.{Element, Primitively}
@@ -29,13 +30,12 @@ PrimitiveElementsAreUnambiguous =
 
 -- A type, which B n m t v b says the bytes b to encode, keeps the laws of reading and of writing under any tag but that of
 -- the end of contents. Its values are equal only where they are one
-abbrev pub KeepsLaws : {A : Type 0} → (ℕ → BERMode → Tag → A → List ℕ → Type 0) → (Tag → BERMode → A → List ℕ) → (BERMode → A → ℕ) →
-    (A → Type 0) → Type 0
+abbrev pub KeepsLaws : {A : Type 0} → TaggedGrammar A → (Tag → Form A) → Nest A → (A → Type 0) → Type 0
 KeepsLaws B form nest Can =
     (t : Tag) → (t ≡ end_tag → ⊥) → t.tag_number < 2 ^ 64 →
     IsCoding (λ v w. v ≡ w) (λ m n v b. B n m t v b) (Any (λ m n v b. B n m t v b))
     × IsWritten (λ v w. v ≡ w) (λ m n v b. B n m t v b) (form t) nest Can
 
 -- the same of a type of primitive elements alone, whose contents say v by W
-abbrev pub PrimitiveKeepsLaws : {A : Type 0} → (BERMode → A → List ℕ → Type 0) → (Tag → BERMode → A → List ℕ) → (A → Type 0) → Type 0
+abbrev pub PrimitiveKeepsLaws : {A : Type 0} → (BERMode → A → List ℕ → Type 0) → (Tag → Form A) → (A → Type 0) → Type 0
 PrimitiveKeepsLaws W form Can = KeepsLaws (Primitively W) form leaf_nest Can

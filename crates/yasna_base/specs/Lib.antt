@@ -1,4 +1,5 @@
 pub mod Error
+pub mod Grammar
 pub mod Digits
 pub mod Base128
 pub mod Identifier
@@ -23,7 +24,7 @@ pub mod Choice
 pub mod Header
 pub mod Pieces
 pub mod Segments
-pub mod Cut
+pub mod Segmented
 pub mod Raw
 pub mod TaggedDerValue
 pub mod Order

@@ -3,21 +3,26 @@ use Rattle.std.specs.Prelude.{◌≡◌, ℕ, List, []}
 use Rattle.yasna_base.specs.declared.mode.BERMode.{BERMode}
 use Rattle.yasna_base.specs.declared.tag.Tag.{Tag}
 use Rattle.yasna_base.specs.declared.tag.PCBit.TheVariants.{Primitive}
+use Rattle.yasna_base.specs.Grammar.{Grammar, Form}
 use Rattle.yasna_base.specs.Identifier.{universal}
 use Rattle.yasna_base.specs.Element.{Primitively}
 use Rattle.yasna_base.specs.Canonical.{canonical_element, Always}
 use Rattle.yasna_base.specs.Laws.{PrimitiveKeepsLaws}
+
+-- the tag of NULL
+abbrev pub null_tag : Tag
+null_tag = universal 5
 
 -- no contents
 abbrev pub IsNull : BERMode → Unit {0} → List ℕ → Type 0
 IsNull m v c = c ≡ []
 
 -- the type's grammar under its own tag
-abbrev pub EncodesNull : BERMode → ℕ → Unit {0} → List ℕ → Type 0
-EncodesNull m n v b = Primitively IsNull n m (universal 5) v b
+abbrev pub EncodesNull : Grammar (Unit {0})
+EncodesNull m n v b = Primitively IsNull n m null_tag v b
 
 -- the form in a canonical mode
-abbrev pub null_form : Tag → BERMode → Unit {0} → List ℕ
+abbrev pub null_form : Tag → Form (Unit {0})
 null_form t m v = canonical_element m t Primitive []
 
 -- NULL keeps the laws under any tag

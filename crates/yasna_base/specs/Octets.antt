@@ -4,8 +4,9 @@ use Rattle.std.specs.Global.{Global}
 use Rattle.std.specs.List.{concat}
 use Rattle.yasna_base.specs.declared.mode.BERMode.{BERMode}
 use Rattle.yasna_base.specs.declared.tag.Tag.{Tag}
-use Rattle.yasna_base.specs.Cut.{Cutting, IsCut, IsDeepCut, cut_form, cut_nest}
+use Rattle.yasna_base.specs.Segmented.{Segmentation, IsSegmented, IsDeepSegmented, segmented_form, segmented_nest}
 use Rattle.yasna_base.specs.Digits.{IsBytes}
+use Rattle.yasna_base.specs.Grammar.{Grammar, TaggedGrammar, TaggedMembers, Form, Nest}
 use Rattle.yasna_base.specs.Identifier.{universal}
 use Rattle.yasna_base.specs.Laws.{KeepsLaws}
 use Rattle.yasna_base.specs.Segments.{segments}
@@ -18,37 +19,37 @@ octets_tag = universal 4
 abbrev pub AreTheOctets : BERMode → List ℕ → List ℕ → Type 0
 AreTheOctets m v c = v ≡ c
 
--- the octets of the pieces make the string, one after the other
+-- the octets of the segments make the string, one after the other
 abbrev pub AreOctetsJoined : BERMode → List (List ℕ) → List ℕ → Type 0
 AreOctetsJoined m vs v = v ≡ concat vs
 
--- a further piece may follow any
-abbrev pub octets_cutting : Cutting (List ℕ)
-octets_cutting = record { whole = AreTheOctets; join = AreOctetsJoined; more = λ vs. Unit {0}; piece = octets_tag; bytes = λ v. v; full = 1000 }
+-- a further segment may follow any
+abbrev pub octets_segmentation : Segmentation (List ℕ)
+octets_segmentation = record { whole = AreTheOctets; join = AreOctetsJoined; more = λ vs. Unit {0}; segment = octets_tag; bytes = λ v. v; full = 1000 }
 
 -- within n levels, b is the octet string v with the tag t
-abbrev pub IsOctets : ℕ → BERMode → Tag → List ℕ → List ℕ → Type 0
-IsOctets n m t v b = IsCut octets_cutting n m t v b
+abbrev pub IsOctets : TaggedGrammar (List ℕ)
+IsOctets n m t v b = IsSegmented octets_segmentation n m t v b
 
 -- reading an octet string with the tag t from s meets an element that no level is left for
-abbrev pub IsDeepOctets : ℕ → BERMode → Tag → List ℕ → Type 0
-IsDeepOctets n m t s = IsDeepCut octets_cutting n m t s
+abbrev pub IsDeepOctets : TaggedMembers
+IsDeepOctets n m t s = IsDeepSegmented octets_segmentation n m t s
 
 -- the type's grammar under its own tag
-abbrev pub EncodesOctets : BERMode → ℕ → List ℕ → List ℕ → Type 0
+abbrev pub EncodesOctets : Grammar (List ℕ)
 EncodesOctets m n v b = IsOctets n m octets_tag v b
 
 -- the same of the octets in a vector
-abbrev pub EncodesVec : BERMode → ℕ → Vec ℕ Global → List ℕ → Type 0
+abbrev pub EncodesVec : Grammar (Vec ℕ Global)
 EncodesVec m n v b = EncodesOctets m n v.items b
 
 -- octets in a canonical mode: whole, or in segments of 1000
-abbrev pub octets_form : Tag → BERMode → List ℕ → List ℕ
-octets_form t m v = cut_form octets_cutting (λ v. v) (segments 1000) t m v
+abbrev pub octets_form : Tag → Form (List ℕ)
+octets_form t m v = segmented_form octets_segmentation (λ v. v) (segments 1000) t m v
 
 -- how deep it nests
-abbrev pub octets_nest : BERMode → List ℕ → ℕ
-octets_nest m v = cut_nest octets_cutting m v
+abbrev pub octets_nest : Nest (List ℕ)
+octets_nest m v = segmented_nest octets_segmentation m v
 
 -- OCTET STRING keeps the laws under any tag
 abbrev pub OctetsKeepLaws : Type 0

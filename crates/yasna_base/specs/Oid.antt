@@ -7,8 +7,13 @@ use Rattle.yasna_base.specs.declared.tag.PCBit.TheVariants.{Primitive}
 use Rattle.yasna_base.specs.Canonical.{canonical_element}
 use Rattle.yasna_base.specs.Digits.{base128}
 use Rattle.yasna_base.specs.Element.{Primitively}
+use Rattle.yasna_base.specs.Grammar.{Grammar, Form}
 use Rattle.yasna_base.specs.Identifier.{universal}
 use Rattle.yasna_base.specs.Laws.{PrimitiveKeepsLaws}
+
+-- the tag of OBJECT IDENTIFIER
+abbrev pub oid_tag : Tag
+oid_tag = universal 6
 
 -- the first two components: there are three roots, and forty arcs below each of the first two; below the third they end
 -- where both components together pass 64 bits
@@ -39,11 +44,11 @@ pub record AreComponents (m : BERMode) (cs c : List ℕ) : Type 0 where
   pub contents : c ≡ oid_contents cs
 
 -- the type's grammar under its own tag
-abbrev pub EncodesOid : BERMode → ℕ → List ℕ → List ℕ → Type 0
-EncodesOid m n v b = Primitively AreComponents n m (universal 6) v b
+abbrev pub EncodesOid : Grammar (List ℕ)
+EncodesOid m n v b = Primitively AreComponents n m oid_tag v b
 
 -- the form in a canonical mode
-abbrev pub oid_form : Tag → BERMode → List ℕ → List ℕ
+abbrev pub oid_form : Tag → Form (List ℕ)
 oid_form t m cs = canonical_element m t Primitive (oid_contents cs)
 
 -- OBJECT IDENTIFIER keeps the laws under any tag

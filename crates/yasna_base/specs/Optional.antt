@@ -1,14 +1,14 @@
 -- OPTIONAL: a part of a SEQUENCE that may be left out (X.690, 8.9.3).
-use Rattle.std.specs.Prelude.{◌≡◌, ℕ, List, [], Option, Some, None, ◌⊎◌}
-use Rattle.yasna_base.specs.declared.mode.BERMode.{BERMode}
+use Rattle.std.specs.Prelude.{◌≡◌, [], Option, Some, None, ◌⊎◌}
+use Rattle.yasna_base.specs.Grammar.{Grammar, Members, Form, Nest}
 
 -- the part encodes a value, or it is left out and there is none
-abbrev pub OptionOf : {A : Type 0} → (BERMode → ℕ → A → List ℕ → Type 0) → BERMode → ℕ → Option A → List ℕ → Type 0
+abbrev pub OptionOf : {A : Type 0} → Grammar A → Grammar (Option A)
 OptionOf B m n (Some v) b = B m n v b
 OptionOf B m n None b = b ≡ []
 
 -- the same of bytes alone
-abbrev pub AnyOption : (BERMode → ℕ → List ℕ → Type 0) → BERMode → ℕ → List ℕ → Type 0
+abbrev pub AnyOption : Members → Members
 AnyOption S m n b = S m n b ⊎ (b ≡ [])
 
 -- values are equal where both are there and equal, or neither is
@@ -19,12 +19,12 @@ SameOption E None (Some w) = ⊥
 SameOption E None None = Unit {0}
 
 -- the form of the value, or nothing
-abbrev pub option_form : {A : Type 0} → (BERMode → A → List ℕ) → BERMode → Option A → List ℕ
+abbrev pub option_form : {A : Type 0} → Form A → Form (Option A)
 option_form f m (Some v) = f m v
 option_form f m None = []
 
 -- how deep that nests; nothing has no level
-abbrev pub option_nest : {A : Type 0} → (BERMode → A → ℕ) → BERMode → Option A → ℕ
+abbrev pub option_nest : {A : Type 0} → Nest A → Nest (Option A)
 option_nest f m (Some v) = f m v
 option_nest f m None = 0
 

@@ -7,9 +7,10 @@ use Rattle.yasna_base.specs.declared.tag.PCBit.TheVariants.{Primitive, Construct
 use Rattle.yasna_base.specs.declared.tag.Tag.{Tag}
 use Rattle.yasna_base.specs.Canonical.{canonical_element}
 use Rattle.yasna_base.specs.Coding.{IsCoding, Any}
-use Rattle.yasna_base.specs.Cut.{PiecesBefore}
+use Rattle.yasna_base.specs.Segmented.{PiecesBefore}
 use Rattle.yasna_base.specs.Digits.{IsBytes}
 use Rattle.yasna_base.specs.Element.{Definite, Indefinite, end_of_contents}
+use Rattle.yasna_base.specs.Grammar.{Form}
 use Rattle.yasna_base.specs.Header.{ContentsEnd, counted, uncounted, OpensAt}
 use Rattle.yasna_base.specs.Identifier.{identifier, end_tag, StartsElement}
 use Rattle.yasna_base.specs.Pieces.{Pieces}
@@ -79,7 +80,7 @@ raw_cer_form t Primitive c = canonical_element Cer t Primitive c
 raw_cer_form t Constructed c = identifier t Constructed ++ (128 ∷ c)
 
 -- the form of a raw element whose payload is written as it is
-abbrev pub raw_form : Tag → BERMode → RawValue → List ℕ
+abbrev pub raw_form : Tag → Form RawValue
 raw_form t Cer v = raw_cer_form t v.bit v.payload
 raw_form t m v = canonical_element m t v.bit v.payload
 

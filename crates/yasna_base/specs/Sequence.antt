@@ -1,7 +1,7 @@
 -- SEQUENCE of parts, each of a type of its own (X.690, 8.9).
 use Rattle.std.specs.Prelude.{◌≡◌, ℕ, max, List, [], ◌++◌}
-use Rattle.yasna_base.specs.declared.mode.BERMode.{BERMode}
 use Rattle.yasna_base.specs.declared.tag.Tag.{Tag}
+use Rattle.yasna_base.specs.Grammar.{Grammar, Members, Form, Nest}
 use Rattle.yasna_base.specs.Identifier.{universal}
 
 -- the type's own tag
@@ -17,20 +17,19 @@ pub record Then (R C : List ℕ → Type 0) (c : List ℕ) : Type 0 where
   pub more : C rest
 
 -- the parts of a tuple, as pairs that end in nothing
-abbrev pub PartOf : {A V : Type 0} → (BERMode → ℕ → A → List ℕ → Type 0) → (BERMode → ℕ → V → List ℕ → Type 0) →
-    BERMode → ℕ → A × V → List ℕ → Type 0
+abbrev pub PartOf : {A V : Type 0} → Grammar A → Grammar V → Grammar (A × V)
 PartOf B C m n v c = Then (B m n v.0) (C m n v.1) c
 
 -- behind the last part there are no bytes
-abbrev pub NoParts : BERMode → ℕ → Unit {0} → List ℕ → Type 0
+abbrev pub NoParts : Grammar (Unit {0})
 NoParts m n v c = c ≡ []
 
 -- the same of bytes alone
-abbrev pub AnyPart : (BERMode → ℕ → List ℕ → Type 0) → (BERMode → ℕ → List ℕ → Type 0) → BERMode → ℕ → List ℕ → Type 0
+abbrev pub AnyPart : Members → Members → Members
 AnyPart S Q m n c = Then (S m n) (Q m n) c
 
 -- no bytes, where there is no part
-abbrev pub AnyNothing : BERMode → ℕ → List ℕ → Type 0
+abbrev pub AnyNothing : Members
 AnyNothing m n c = c ≡ []
 
 -- parts are equal one by one
@@ -42,11 +41,11 @@ abbrev pub SameNothing : Unit {0} → Unit {0} → Type 0
 SameNothing v w = Unit {0}
 
 -- the forms of the parts, one after the other
-abbrev pub part_form : {A V : Type 0} → (BERMode → A → List ℕ) → (BERMode → V → List ℕ) → BERMode → A × V → List ℕ
+abbrev pub part_form : {A V : Type 0} → Form A → Form V → Form (A × V)
 part_form f g m v = f m v.0 ++ g m v.1
 
 -- parts nest as deep as the deepest
-abbrev pub part_nest : {A V : Type 0} → (BERMode → A → ℕ) → (BERMode → V → ℕ) → BERMode → A × V → ℕ
+abbrev pub part_nest : {A V : Type 0} → Nest A → Nest V → Nest (A × V)
 part_nest f g m v = max (f m v.0) (g m v.1)
 
 -- parts can be written where each can
@@ -54,9 +53,9 @@ abbrev pub part_can : {A V : Type 0} → (A → Type 0) → (V → Type 0) → A
 part_can c d v = c v.0 × d v.1
 
 -- no bytes are the form of no parts
-abbrev pub nothing_form : BERMode → Unit {0} → List ℕ
+abbrev pub nothing_form : Form (Unit {0})
 nothing_form m v = []
 
 -- they have no level
-abbrev pub nothing_nest : BERMode → Unit {0} → ℕ
+abbrev pub nothing_nest : Nest (Unit {0})
 nothing_nest m v = 0

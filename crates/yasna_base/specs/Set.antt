@@ -7,6 +7,7 @@ use Rattle.yasna_base.specs.declared.mode.BERMode.{BERMode}
 use Rattle.yasna_base.specs.declared.mode.BERMode.TheVariants.{Ber, Der, Cer}
 use Rattle.yasna_base.specs.declared.tag.Tag.{Tag}
 use Rattle.yasna_base.specs.Element.{Enclosed, AnyEnclosed}
+use Rattle.yasna_base.specs.Grammar.{Grammar, Members}
 use Rattle.yasna_base.specs.Identifier.{class_number, universal, BeginsWithTag}
 use Rattle.yasna_base.specs.Order.{tag_cmp, octets_cmp, in_order}
 use Rattle.yasna_base.specs.Raw.{RawValue, IsRaw}
@@ -23,20 +24,20 @@ AreInSetOfOrder Der bs = IsSorted octets_cmp bs
 AreInSetOfOrder Cer bs = IsSorted octets_cmp bs
 
 -- contents that encode these values by B, one after the other, in that order
-pub record SetOfElements {A : Type 0} (B : BERMode → ℕ → A → List ℕ → Type 0) (m : BERMode) (n : ℕ) (vs : List A) (c : List ℕ) : Type 0 where
+pub record SetOfElements {A : Type 0} (B : Grammar A) (m : BERMode) (n : ℕ) (vs : List A) (c : List ℕ) : Type 0 where
   pub elements : ElementsOf B m n vs c
   pub order : AreInSetOfOrder m elements.pieces
 
 -- the same of bytes alone
-abbrev pub AnySetOfElements : (BERMode → ℕ → List ℕ → Type 0) → BERMode → ℕ → List ℕ → Type 0
+abbrev pub AnySetOfElements : Members → Members
 AnySetOfElements S m n c = (us : List (Unit {0})) × SetOfElements {A = Unit {0}} (λ m n u b. S m n b) m n us c
 
 -- an element around them, with one level less inside
-abbrev pub IsSetOf : {A : Type 0} → (BERMode → ℕ → A → List ℕ → Type 0) → Tag → BERMode → ℕ → List A → List ℕ → Type 0
+abbrev pub IsSetOf : {A : Type 0} → Grammar A → Tag → Grammar (List A)
 IsSetOf B t = Enclosed (SetOfElements B) t
 
 -- the same of bytes alone
-abbrev pub AnySetOf : (BERMode → ℕ → List ℕ → Type 0) → Tag → BERMode → ℕ → List ℕ → Type 0
+abbrev pub AnySetOf : Members → Tag → Members
 AnySetOf S t = AnyEnclosed (AnySetOfElements S) t
 
 -- the order that a mode asks of the tags in a SET, of which some may be equal
@@ -51,7 +52,7 @@ pub record SetElements (m : BERMode) (n : ℕ) (vs : List RawValue) (c : List �
   pub order : AreInSetOrder m (map (λ (v : RawValue). v.tag) vs)
 
 -- an element around them, with one level less inside
-abbrev pub IsSet : Tag → BERMode → ℕ → List RawValue → List ℕ → Type 0
+abbrev pub IsSet : Tag → Grammar (List RawValue)
 IsSet t = Enclosed SetElements t
 
 -- c is what a SET OF of these parts holds, none of which is empty: the parts in order

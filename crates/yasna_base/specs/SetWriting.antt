@@ -9,6 +9,7 @@ use Rattle.yasna_base.specs.declared.tag.Tag.{Tag}
 use Rattle.yasna_base.specs.Canonical.{IsCanonicalMode, HoldsForm, canonical_element, enclosed_form, enclosed_nest, HasForm}
 use Rattle.yasna_base.specs.Coding.{IsCoding, Any}
 use Rattle.yasna_base.specs.Element.{AnyEnclosed}
+use Rattle.yasna_base.specs.Grammar.{Grammar, Members, TaggedGrammar, Form, Nest}
 use Rattle.yasna_base.specs.Identifier.{end_tag}
 use Rattle.yasna_base.specs.Order.{octets_cmp, in_order}
 use Rattle.yasna_base.specs.Pieces.{Each}
@@ -24,29 +25,29 @@ pub record MakeElement (Contents : List (List ℕ) → List ℕ → Type 0) (m :
   pub around : b ≡ canonical_element m t Constructed contents
 
 -- the form of each value
-abbrev pub forms : {A : Type 0} → (BERMode → A → List ℕ) → BERMode → List A → List (List ℕ)
+abbrev pub forms : {A : Type 0} → Form A → BERMode → List A → List (List ℕ)
 forms form m vs = map (form m) vs
 
 -- values in the order of their forms, those of one form as they stood
-abbrev pub in_form_order : {A : Type 0} → (BERMode → A → List ℕ) → BERMode → List A → List A
+abbrev pub in_form_order : {A : Type 0} → Form A → BERMode → List A → List A
 in_form_order form m vs = in_order (λ v w. octets_cmp (form m v) (form m w)) vs
 
 -- each value can be written, and their forms stand in the order that the mode asks of a SET OF
-pub record CanSetOf {A : Type 0} (form : BERMode → A → List ℕ) (Can : A → Type 0) (m : BERMode) (vs : List A) : Type 0 where
+pub record CanSetOf {A : Type 0} (form : Form A) (Can : A → Type 0) (m : BERMode) (vs : List A) : Type 0 where
   pub each : AllByRecursion Can vs
   pub order : AreInSetOfOrder m (forms form m vs)
 
 -- a SET OF these values, as they stand
-abbrev pub set_of_form : {A : Type 0} → (BERMode → A → List ℕ) → Tag → BERMode → List A → List ℕ
+abbrev pub set_of_form : {A : Type 0} → Form A → Tag → Form (List A)
 set_of_form form t = enclosed_form (elements_form form) t
 
 -- how deep it nests
-abbrev pub set_of_nest : {A : Type 0} → (BERMode → A → ℕ) → BERMode → List A → ℕ
+abbrev pub set_of_nest : {A : Type 0} → Nest A → Nest (List A)
 set_of_nest nest = enclosed_nest (elements_nest nest)
 
 -- The laws of writing of SET OF under the tag t, whose elements keep those of reading and of writing
-pub record SetOfIsWritten {A : Type 0} (E : A → A → Type 0) (B : BERMode → ℕ → A → List ℕ → Type 0) (form : BERMode → A → List ℕ)
-    (nest : BERMode → A → ℕ) (Can : A → Type 0) (t : Tag) : Type 0 where
+pub record SetOfIsWritten {A : Type 0} (E : A → A → Type 0) (B : Grammar A) (form : Form A)
+    (nest : Nest A) (Can : A → Type 0) (t : Tag) : Type 0 where
   -- values in the order of their forms have one form: it is read, in its mode and in BER, and a canonical mode reads nothing else
   pub has : HasForm (IsSetOf B t) (set_of_form form t) (set_of_nest nest) (CanSetOf form Can)
   -- any values that can be written can be put in that order, and nest as deep
@@ -66,25 +67,23 @@ pub record SetOfIsWritten {A : Type 0} (E : A → A → Type 0) (B : BERMode →
       IsPermutation (forms form m vs) parts → MakeElement SetOfContents m t parts b
 
 -- SET OF keeps the laws of reading under any tag, where its elements keep them
-abbrev pub SetOfKeepsReadingLaws : {A : Type 0} → (A → A → Type 0) → (BERMode → ℕ → A → List ℕ → Type 0) → (BERMode → ℕ → List ℕ → Type 0) → Type 0
+abbrev pub SetOfKeepsReadingLaws : {A : Type 0} → (A → A → Type 0) → Grammar A → Members → Type 0
 SetOfKeepsReadingLaws E B S =
     (t : Tag) → (t ≡ end_tag → ⊥) → t.tag_number < 2 ^ 64 → IsCoding (λ vs ws. Each E vs ws) (IsSetOf B t) (AnySetOf S t)
 
 -- and so it keeps those of writing
-abbrev pub SetOfKeepsWritingLaws : {A : Type 0} → (A → A → Type 0) → (BERMode → ℕ → A → List ℕ → Type 0) → (BERMode → A → List ℕ) →
-    (BERMode → A → ℕ) → (A → Type 0) → Type 0
+abbrev pub SetOfKeepsWritingLaws : {A : Type 0} → (A → A → Type 0) → Grammar A → Form A → Nest A → (A → Type 0) → Type 0
 SetOfKeepsWritingLaws E B form nest Can = (t : Tag) → (t ≡ end_tag → ⊥) → t.tag_number < 2 ^ 64 → SetOfIsWritten E B form nest Can t
 
 -- SET OF keeps both, where its elements, which B n m u v b says the bytes b to encode under the tag u, keep them under any tag
-abbrev pub SetOfKeepsLaws : {A : Type 0} → (ℕ → BERMode → Tag → A → List ℕ → Type 0) → (Tag → BERMode → A → List ℕ) → (BERMode → A → ℕ) →
-    (A → Type 0) → Type 0
+abbrev pub SetOfKeepsLaws : {A : Type 0} → TaggedGrammar A → (Tag → Form A) → Nest A → (A → Type 0) → Type 0
 SetOfKeepsLaws B form nest Can =
     (u : Tag) → (u ≡ end_tag → ⊥) → u.tag_number < 2 ^ 64 →
     SetOfKeepsReadingLaws (λ v w. v ≡ w) (λ m n v b. B n m u v b) (Any (λ m n v b. B n m u v b))
     × SetOfKeepsWritingLaws (λ v w. v ≡ w) (λ m n v b. B n m u v b) (form u) nest Can
 
 -- SET OF keeps the laws of reading under any tag, where its elements, of which B n m u v b says so under the tag u, have any tag
-abbrev pub SetOfKeepsReadingOf : {A : Type 0} → (ℕ → BERMode → Tag → A → List ℕ → Type 0) → Type 0
+abbrev pub SetOfKeepsReadingOf : {A : Type 0} → TaggedGrammar A → Type 0
 SetOfKeepsReadingOf B =
     (u : Tag) → (u ≡ end_tag → ⊥) → u.tag_number < 2 ^ 64 →
     SetOfKeepsReadingLaws (λ v w. v ≡ w) (λ m n v b. B n m u v b) (Any (λ m n v b. B n m u v b))
@@ -96,7 +95,7 @@ SetOfSetKeepsReadingLaws =
     SetOfKeepsReadingLaws (λ v w. v ≡ w) (IsSet u) (AnyEnclosed (Any SetElements) u)
 
 -- and where they are a SET OF such elements as B, E and S say
-abbrev pub SetOfSetOfKeepsReadingLaws : {A : Type 0} → (A → A → Type 0) → (BERMode → ℕ → A → List ℕ → Type 0) → (BERMode → ℕ → List ℕ → Type 0) → Type 0
+abbrev pub SetOfSetOfKeepsReadingLaws : {A : Type 0} → (A → A → Type 0) → Grammar A → Members → Type 0
 SetOfSetOfKeepsReadingLaws E B S =
     (u : Tag) → (u ≡ end_tag → ⊥) → u.tag_number < 2 ^ 64 →
     SetOfKeepsReadingLaws (λ vs ws. Each E vs ws) (IsSetOf B u) (AnySetOf S u)
@@ -106,7 +105,7 @@ abbrev pub SetOfRawKeepsReadingLaws : Type 0
 SetOfRawKeepsReadingLaws = SetOfKeepsReadingLaws (λ v w. v ≡ w) (λ m n v b. IsRaw n m v b) (Any (λ m n v b. IsRaw n m v b))
 
 -- the form of a raw element under its own tag
-abbrev pub own_form : BERMode → RawValue → List ℕ
+abbrev pub own_form : Form RawValue
 own_form m v = raw_form v.tag m v
 
 -- a raw element as a part of a SET
@@ -127,7 +126,7 @@ pub record CanSet (n : ℕ) (m : BERMode) (vs : List RawValue) : Type 0 where
   pub order : AreInSetOrder m (map (λ (v : RawValue). v.tag) vs)
 
 -- a SET of these elements, as they stand
-abbrev pub set_form : Tag → BERMode → List RawValue → List ℕ
+abbrev pub set_form : Tag → Form (List RawValue)
 set_form t = enclosed_form (elements_form own_form) t
 
 -- elements of one tag are one, or their number stands in the identifier's first byte

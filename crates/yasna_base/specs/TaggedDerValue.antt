@@ -5,8 +5,11 @@ use Rattle.yasna_base.specs.declared.models.tagged_der_value.TaggedDerValue.{Tag
 use Rattle.yasna_base.specs.declared.tag.PCBit.{PCBit}
 use Rattle.yasna_base.specs.declared.tag.PCBit.TheVariants.{Primitive}
 use Rattle.yasna_base.specs.declared.tag.Tag.{Tag}
+use Rattle.yasna_base.specs.Bits.{bits_tag}
 use Rattle.yasna_base.specs.Identifier.{universal}
+use Rattle.yasna_base.specs.Octets.{octets_tag}
 use Rattle.yasna_base.specs.Raw.{RawValue}
+use Rattle.yasna_base.specs.Text.{utf8_tag, printable_tag, ia5_tag}
 
 -- what such a value stands for
 abbrev pub raw_of : TaggedDerValue → RawValue
@@ -18,14 +21,14 @@ raw_value t p c = record { tag = t; bit = p; payload = c }
 
 -- a primitive element holds the octets b: those of an OCTET STRING, or of a BIT STRING with no unused bits
 pub data HoldsOctets (v : RawValue) (b : List ℕ) : Type 0 where
-  octet_string : v.tag ≡ universal 4 → v.bit ≡ Primitive → v.payload ≡ b → HoldsOctets v b
-  bit_string : v.tag ≡ universal 3 → v.bit ≡ Primitive → v.payload ≡ 0 ∷ b → HoldsOctets v b
+  octet_string : v.tag ≡ octets_tag → v.bit ≡ Primitive → v.payload ≡ b → HoldsOctets v b
+  bit_string : v.tag ≡ bits_tag → v.bit ≡ Primitive → v.payload ≡ 0 ∷ b → HoldsOctets v b
 
 -- the tags of the texts that are UTF-8 as they stand
 pub data IsTextTag (t : Tag) : Type 0 where
-  utf8_string : t ≡ universal 12 → IsTextTag t
-  printable_string : t ≡ universal 19 → IsTextTag t
-  ia5_string : t ≡ universal 22 → IsTextTag t
+  utf8_string : t ≡ utf8_tag → IsTextTag t
+  printable_string : t ≡ printable_tag → IsTextTag t
+  ia5_string : t ≡ ia5_tag → IsTextTag t
 
 -- a primitive element holds a text
 pub record HoldsText (v : RawValue) : Type 0 where

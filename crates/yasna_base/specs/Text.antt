@@ -9,9 +9,34 @@ use Rattle.std.specs.Str.{chars, encode_utf8_all}
 use Rattle.yasna_base.specs.declared.mode.BERMode.{BERMode}
 use Rattle.yasna_base.specs.declared.tag.Tag.{Tag}
 use Rattle.yasna_base.specs.Coding.{IsCoding, Any}
+use Rattle.yasna_base.specs.Grammar.{Grammar, Form, Nest}
 use Rattle.yasna_base.specs.Identifier.{universal, end_tag}
 use Rattle.yasna_base.specs.Laws.{KeepsLaws}
 use Rattle.yasna_base.specs.Octets.{IsOctets, octets_form, octets_nest}
+
+-- the tag of UTF8String
+abbrev pub utf8_tag : Tag
+utf8_tag = universal 12
+
+-- of NumericString
+abbrev pub numeric_tag : Tag
+numeric_tag = universal 18
+
+-- of PrintableString
+abbrev pub printable_tag : Tag
+printable_tag = universal 19
+
+-- of IA5String
+abbrev pub ia5_tag : Tag
+ia5_tag = universal 22
+
+-- of VisibleString
+abbrev pub visible_tag : Tag
+visible_tag = universal 26
+
+-- of BMPString
+abbrev pub bmp_tag : Tag
+bmp_tag = universal 30
 
 -- any character
 abbrev pub InUtf8 : ℕ → Type 0
@@ -82,19 +107,19 @@ abbrev pub bmp_octets : List ℕ → List ℕ
 bmp_octets text = flat_map unit_octets (flat_map encode_utf16 text)
 
 -- a text in UTF-8, in a canonical mode
-abbrev pub utf8_form : Tag → BERMode → List ℕ → List ℕ
+abbrev pub utf8_form : Tag → Form (List ℕ)
 utf8_form t m text = octets_form t m (encode_utf8_all text)
 
 -- a text in UTF-16, in a canonical mode
-abbrev pub bmp_form : Tag → BERMode → List ℕ → List ℕ
+abbrev pub bmp_form : Tag → Form (List ℕ)
 bmp_form t m text = octets_form t m (bmp_octets text)
 
 -- how deep they nest
-abbrev pub utf8_nest : BERMode → List ℕ → ℕ
+abbrev pub utf8_nest : Nest (List ℕ)
 utf8_nest m text = octets_nest m (encode_utf8_all text)
 
 -- how deep that nests
-abbrev pub bmp_nest : BERMode → List ℕ → ℕ
+abbrev pub bmp_nest : Nest (List ℕ)
 bmp_nest m text = octets_nest m (bmp_octets text)
 
 -- the characters of a string
@@ -102,11 +127,11 @@ abbrev pub characters : String Global → List ℕ
 characters s = chars (string_bytes s)
 
 -- the grammar of UTF8String under its own tag
-abbrev pub EncodesText : BERMode → ℕ → List ℕ → List ℕ → Type 0
-EncodesText m n v b = IsStringOf (IsUtf8In InUtf8) n m (universal 12) v b
+abbrev pub EncodesText : Grammar (List ℕ)
+EncodesText m n v b = IsStringOf (IsUtf8In InUtf8) n m utf8_tag v b
 
 -- the same of the characters of a string
-abbrev pub EncodesString : BERMode → ℕ → String Global → List ℕ → Type 0
+abbrev pub EncodesString : Grammar (String Global)
 EncodesString m n v b = EncodesText m n (characters v) b
 
 -- a class of text in UTF-8 keeps the laws under any tag

@@ -22,9 +22,9 @@ ghost use Rattle.yasna_base.specs.Null.{NullKeepsLaws};
 ghost use Rattle.yasna_base.specs.Integer.{IsSigned, integer_form, SignedKeepsLaws, UnsignedKeepsLaws};
 ghost use Rattle.yasna_base.specs.Enumerated.{EnumeratedKeepsLaws};
 ghost use Rattle.yasna_base.specs.BigInteger.{IsBigInteger, big_integer_form, CanBigInteger, BigIntegerKeepsLaws};
-ghost use Rattle.yasna_base.specs.Cut.{DeepIsNone};
-ghost use Rattle.yasna_base.specs.Octets.{IsOctets, octets_form, octets_nest, octets_cutting, OctetsKeepLaws};
-ghost use Rattle.yasna_base.specs.Bits.{IsBits, bits_cutting, BitsKeepLaws};
+ghost use Rattle.yasna_base.specs.Segmented.{DeepIsNone};
+ghost use Rattle.yasna_base.specs.Octets.{IsOctets, octets_form, octets_nest, octets_segmentation, OctetsKeepLaws};
+ghost use Rattle.yasna_base.specs.Bits.{IsBits, bits_segmentation, BitsKeepLaws};
 ghost use Rattle.yasna_base.specs.Text.{InUtf8, InNumeric, InPrintable, InVisible, InIa5, IsBmp, IsStringOf, IsUtf8In, TextKeepsLaws, BmpKeepsLaws};
 ghost use Rattle.yasna_base.specs.Oid.{OidKeepsLaws};
 ghost use Rattle.yasna_base.specs.OidText.{lacks_memory};
@@ -154,7 +154,7 @@ pub fn simple_types()
 {}
 
 /// The types of strings keep the laws of reading and of writing, as `simple_types` says them, however BER cuts a string
-/// into pieces; CER cuts one that is longer than 1000 octets into segments, in one way.
+/// into segments; CER cuts one that is longer than 1000 octets into segments, in one way.
 ///
 /// A bit string whose unused bits aren't zero has no form of its own: it is written as the canonical string of the same
 /// bits. A BMPString keeps the laws of writing where each surrogate has its partner; any other is only read, with U+FFFD
@@ -170,8 +170,8 @@ pub fn strings()
     ensures ia5 { TextKeepsLaws InIa5 }
     ensures visible { TextKeepsLaws InVisible }
     ensures bmp { BmpKeepsLaws }
-    ensures deep_octets { DeepIsNone octets_cutting }
-    ensures deep_bits { DeepIsNone bits_cutting }
+    ensures deep_octets { DeepIsNone octets_segmentation }
+    ensures deep_bits { DeepIsNone bits_segmentation }
 {}
 
 /// Raw elements keep the laws of reading, whatever their lengths and however deep they nest. Where reading one meets an

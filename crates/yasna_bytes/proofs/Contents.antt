@@ -13,7 +13,7 @@ use Rattle.yasna_base.proofs.Length.{spells_long}
 use Rattle.yasna_base.proofs.Element.{primitive_exact, definite_then, indefinite_then}
 use Rattle.yasna_base.proofs.Lists.{empty_is}
 use Rattle.yasna_bytes.specs.declared.bytes.header.Refusal.{Refusal}
-use Rattle.yasna_bytes.specs.Refusal.{IsPlain, IsTooDeep, Refuses}
+use Rattle.yasna_bytes.specs.Refusal.{BlamesBytes, IsTooDeep, Refuses}
 use Rattle.yasna_bytes.specs.Front.{Takes, Stands}
 use Rattle.yasna_bytes.specs.Header.{AreContents}
 use Rattle.yasna_bytes.specs.Contents.{MayWant, WantsMemory}
@@ -26,7 +26,7 @@ takes_begins m n t s c r x = element_begins m t Primitive x.member.contents x.fr
 
 -- contents that stand for no value, in a primitive element
 no_value : {A : Type 0} (W : A → List ℕ → Type 0) (m : BERMode) (n : ℕ) (t : Tag) (s c r : List ℕ) (e : Refusal) →
-    Takes (IsPrimitive AreContents n m t) s c r → ((v : A) → W v c → ⊥) → IsPlain e.kind → e.moved ≡ true →
+    Takes (IsPrimitive AreContents n m t) s c r → ((v : A) → W v c → ⊥) → BlamesBytes e.kind → e.moved ≡ true →
     Refuses (Stands (IsPrimitive W n m t) s) (IsTooDeep n t s) ⊥ t s e
 no_value W m n t s c r e x h k o =
     let y = x.member in
@@ -49,7 +49,7 @@ lacks_memory W M m n t s c r e x h k o = record {
 
 -- contents were read that weren't made a value
 pub not_taken : {A : Type 0} (W : A → List ℕ → Type 0) (M : ℕ → Tag → List ℕ → Type 0) (m : BERMode) (n : ℕ) (t : Tag) (s c r : List ℕ) (e : Refusal) →
-    Takes (IsPrimitive AreContents n m t) s c r → ((e.kind ≡ OutOfMemory) × MayWant M c) ⊎ (IsPlain e.kind × ((v : A) → W v c → ⊥)) → e.moved ≡ true →
+    Takes (IsPrimitive AreContents n m t) s c r → ((e.kind ≡ OutOfMemory) × MayWant M c) ⊎ (BlamesBytes e.kind × ((v : A) → W v c → ⊥)) → e.moved ≡ true →
     Refuses (Stands (IsPrimitive W n m t) s) (IsTooDeep n t s) (M n t s) t s e
 not_taken W M m n t s c r e x (inl h) o = lacks_memory W M m n t s c r e x h.1 h.0 o
 not_taken W M m n t s c r e x (inr h) o = may_want (Stands (IsPrimitive W n m t) s) (IsTooDeep n t s) (M n t s) t s e (no_value W m n t s c r e x h.1 h.0 o)

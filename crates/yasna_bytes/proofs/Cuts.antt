@@ -5,7 +5,7 @@ use Rattle.std.proofs.lemmas.List.{length-map, map-append}
 use Rattle.std.specs.List.{AllByRecursion}
 use Rattle.yasna_base.specs.declared.mode.BERMode.{BERMode}
 use Rattle.yasna_base.specs.declared.mode.BERMode.TheVariants.{Ber, Der, Cer}
-use Rattle.yasna_base.specs.Cut.{Cutting, CutsInto}
+use Rattle.yasna_base.specs.Segmented.{Segmentation, FallsInto}
 use Rattle.yasna_base.specs.Segments.{AreSegments}
 use Rattle.yasna_bytes.specs.declared.bytes.segments.cuts.Cuts.{Cuts}
 use Rattle.yasna_bytes.specs.Segments.{AreCut, AsksFor, further_cut}
@@ -15,7 +15,7 @@ both true b = (λ h. (refl, h), λ h. h.1)
 both false b = (λ h. absurd (cc), λ h. h.0)
 
 -- of no segments
-pub none_cut : {A : Type 0} (k : Cutting A) → AreCut k [] (record { some = false; full = true; even = false })
+pub none_cut : {A : Type 0} (k : Segmentation A) → AreCut k [] (record { some = false; full = true; even = false })
 none_cut k = record {
   some = (λ h. absurd (cc), λ h. absurd (omega (arith, h)));
   full = (λ h. tt, λ h. refl);
@@ -38,7 +38,7 @@ segments_end k (c ∷ d ∷ bs) b =
     let rest = segments_end k (d ∷ bs) b in
     (λ h. let i = rest.0 h.1 in ((h.0, i.0), i.1, i.2), λ h. (h.0.0, rest.1 (h.0.1, h.1, h.2)))
 
-module _ {A : Type 0} (k : Cutting A) (vs : List A) (c : Cuts) (w : A) (n : ℕ) (size : n ≡ length (k.bytes w)) (x : AreCut k vs c) where
+module _ {A : Type 0} (k : Segmentation A) (vs : List A) (c : Cuts) (w : A) (n : ℕ) (size : n ≡ length (k.bytes w)) (x : AreCut k vs c) where
   all : map k.bytes (vs ++ (w ∷ [])) ≡ map k.bytes vs ++ (k.bytes w ∷ [])
   all = map-append k.bytes vs (w ∷ [])
 
@@ -59,7 +59,7 @@ module _ {A : Type 0} (k : Cutting A) (vs : List A) (c : Cuts) (w : A) (n : ℕ)
         λ h. tests.1 (le-leb 1 n (omega (arith, size, h.0)), le-leb n k.full (omega (arith, size, h.1))),
       )
 
-  is_even : IsTrue (c.some && (c.full && (nat_le 1 n && nat_le n k.full))) ↔ CutsInto Cer k.full (map k.bytes (vs ++ (w ∷ [])))
+  is_even : IsTrue (c.some && (c.full && (nat_le 1 n && nat_le n k.full))) ↔ FallsInto Cer k.full (map k.bytes (vs ++ (w ∷ [])))
   is_even =
       let ends = segments_end k.full (map k.bytes vs) (k.bytes w) in
       let outer = both c.some (c.full && (nat_le 1 n && nat_le n k.full)) in
@@ -88,7 +88,7 @@ module _ {A : Type 0} (k : Cutting A) (vs : List A) (c : Cuts) (w : A) (n : ℕ)
   }
 
 -- a mode takes segments where it takes how they are cut
-pub asked_cut : {A : Type 0} (k : Cutting A) (m : BERMode) (vs : List A) (c : Cuts) → AreCut k vs c → AsksFor m c ↔ CutsInto m k.full (map k.bytes vs)
+pub asked_cut : {A : Type 0} (k : Segmentation A) (m : BERMode) (vs : List A) (c : Cuts) → AreCut k vs c → AsksFor m c ↔ FallsInto m k.full (map k.bytes vs)
 asked_cut k Ber vs c x = (λ h. tt, λ h. tt)
 asked_cut k Der vs c x = (λ h. tt, λ h. tt)
 asked_cut k Cer vs c x = x.even

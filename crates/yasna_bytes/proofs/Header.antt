@@ -13,7 +13,7 @@ use Rattle.yasna_base.proofs.Length.{length_exact, length_not_indefinite}
 use Rattle.yasna_base.proofs.Element.{definite_then, indefinite_then}
 use Rattle.yasna_base.proofs.Header.{opens_begins}
 use Rattle.yasna_bytes.specs.declared.bytes.header.Refusal.{Refusal}
-use Rattle.yasna_bytes.specs.Refusal.{IsPlain, IsTooDeep, Refuses}
+use Rattle.yasna_bytes.specs.Refusal.{BlamesBytes, IsTooDeep, Refuses}
 use Rattle.yasna_bytes.specs.Length.{Measures}
 use Rattle.yasna_bytes.specs.Front.{Takes, Stands}
 use Rattle.yasna_base.specs.Header.{ContentsEnd, counted, uncounted, Counts, OpensAt}
@@ -27,14 +27,14 @@ header_begins x = begins x.bit x.behind x.joined
 
 -- the identifier stands there within the levels, and no contents behind it
 pub wanted_refuses : (P : PCBit → Type 0) (m : BERMode) (n : ℕ) (t : Tag) (s : List ℕ) (e : Refusal) (p : PCBit) (y : List ℕ) → s ≡ identifier t p ++ y →
-    1 ≤ n → IsPlain e.kind → e.moved ≡ true → ((c : List ℕ) (f : ContentsEnd) → P p → Holds m p y c f → ⊥) → RefusesHeader P m n t s e
+    1 ≤ n → BlamesBytes e.kind → e.moved ≡ true → ((c : List ℕ) (f : ContentsEnd) → P p → Holds m p y c f → ⊥) → RefusesHeader P m n t s e
 wanted_refuses P m n t s e p y f l k o w = stood_refuses (HasHeader P m n t s) n t s e (begins p y f) l k o (λ x.
     let i = identifier_exact t t x.bit p x.behind y (sym x.joined ∙ f) in
     w x.contents x.end (subst P i.1 x.allowed) (subst (λ z. Holds m p z x.contents x.end) i.2 (subst (λ q. Holds m q x.behind x.contents x.end) i.1 x.holds)))
 
 -- an element with the tag stands there, and isn't constructed
 pub other_bit : (m : BERMode) (n : ℕ) (t : Tag) (q : PCBit) (s d : List ℕ) (o : ContentsEnd) (e : Refusal) → OpensAt m t q s d o → q ≡ Primitive → 1 ≤ n →
-    IsPlain e.kind → e.moved ≡ true → RefusesHeader OnlyConstructed m n t s e
+    BlamesBytes e.kind → e.moved ≡ true → RefusesHeader OnlyConstructed m n t s e
 other_bit m n t q s d (counted r) e x f l k v =
     wanted_refuses OnlyConstructed m n t s e q _ x.joined l k v (λ _ _ h _. let i : Constructed ≡ Primitive = sym h ∙ f in absurd (cc))
 other_bit m n t q s d uncounted e x f l k v =
@@ -151,7 +151,7 @@ takes_primitive m n t Constructed s c r l e x = absurd (cc)
 
 -- a constructed element stands where a primitive one is wanted
 pub other_primitive : {A : Type 0} (W : A → List ℕ → Type 0) (m : BERMode) (n : ℕ) (t : Tag) (q : PCBit) (s c : List ℕ) (f : ContentsEnd) (e : Refusal) →
-    1 ≤ n → q ≡ Constructed → OpensAt m t q s c f → IsPlain e.kind → e.moved ≡ true → Refuses (Stands (IsPrimitive W n m t) s) (IsTooDeep n t s) ⊥ t s e
+    1 ≤ n → q ≡ Constructed → OpensAt m t q s c f → BlamesBytes e.kind → e.moved ≡ true → Refuses (Stands (IsPrimitive W n m t) s) (IsTooDeep n t s) ⊥ t s e
 other_primitive W m n t q s c f e l i x k h = stood_refuses (Stands (IsPrimitive W n m t) s) n t s e (opens_begins m t q s c f x) l k h (λ w.
     let y = w.2 in
     let z = element_there m t Primitive y.member.contents y.front s w.1 y.member.element y.joined in

@@ -10,6 +10,6 @@ pub mod Contents
 pub mod Cuts
 pub mod Segments
 pub mod Ending
-pub mod Cut
+pub mod Segmented
 pub mod Text
 pub mod Integer

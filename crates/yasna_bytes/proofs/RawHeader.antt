@@ -12,7 +12,7 @@ use Rattle.yasna_base.proofs.Identifier.{identifier_exact, end_identifier, ident
 use Rattle.yasna_base.proofs.Pieces.{tag_not_end}
 use Rattle.yasna_bytes.specs.declared.bytes.header.Refusal.{Refusal}
 use Rattle.yasna_bytes.specs.Header.{Holds, HasHeader, AnyBit, EndsAt, contents_end}
-use Rattle.yasna_bytes.specs.Refusal.{IsPlain}
+use Rattle.yasna_bytes.specs.Refusal.{BlamesBytes}
 use Rattle.yasna_bytes.specs.Walk.{IsEndByte, NoHeader, NotOpened, IsOpened, TurnsTo, TurnOf, Stops}
 use Rattle.yasna_bytes.specs.declared.bytes.header.Opened.{Opened}
 use Rattle.yasna_bytes.specs.declared.bytes.walk.Turn.{Turn}
@@ -29,7 +29,7 @@ pub none_at_end : (m : BERMode) (n : ℕ) (s : List ℕ) → AtEnd s → NoHeade
 none_at_end m n s a t b ne h = tag_not_end t s ne (header_begins h) a
 
 -- at an end the refusal is unmoved
-pub end_refuses : (m : BERMode) (n : ℕ) (s : List ℕ) (e : Refusal) → AtEnd s → IsPlain e.kind → e.moved ≡ false → NotOpened m n s e
+pub end_refuses : (m : BERMode) (n : ℕ) (s : List ℕ) (e : Refusal) → AtEnd s → BlamesBytes e.kind → e.moved ≡ false → NotOpened m n s e
 end_refuses m n s e a k o = record {
   none = none_at_end m n s a;
   moved = (λ _. a, λ _. o);
@@ -49,7 +49,7 @@ level_refuses m n s e x z k o = record {
 
 -- an identifier stands there and no contents behind it
 pub contents_refuse : (m : BERMode) (n : ℕ) (s : List ℕ) (e : Refusal) (t : Tag) (p : PCBit) (y : List ℕ) → t.tag_number < 2 ^ 64 → (t ≡ end_tag → ⊥) →
-    s ≡ identifier t p ++ y → 1 ≤ n → IsPlain e.kind → e.moved ≡ true → ((c : List ℕ) (f : ContentsEnd) → Holds m p y c f → ⊥) → NotOpened m n s e
+    s ≡ identifier t p ++ y → 1 ≤ n → BlamesBytes e.kind → e.moved ≡ true → ((c : List ℕ) (f : ContentsEnd) → Holds m p y c f → ⊥) → NotOpened m n s e
 contents_refuse m n s e t p y b ne f l k o w = record {
   none = λ u _ _ h.
       let i = identifier_exact u t h.bit p h.behind y (sym h.joined ∙ f) in
@@ -73,7 +73,7 @@ pub stops_behind : (m : BERMode) (n : ℕ) (e : ContentsEnd) (s : List ℕ) (r :
 stops_behind m n e s r x f = stops m n e s r (λ y. let z = x.moved.1 (ends_at_end e s y) in absurd (cc)) x
 
 -- with a kind of its own where nothing is left or what looks like an end stands there
-pub stops_at_end : (m : BERMode) (n : ℕ) (e : ContentsEnd) (s : List ℕ) (k : ASN1ErrorKind) → (EndsAt e s → ⊥) → AtEnd s → IsPlain k → Stops m n e s k
+pub stops_at_end : (m : BERMode) (n : ℕ) (e : ContentsEnd) (s : List ℕ) (k : ASN1ErrorKind) → (EndsAt e s → ⊥) → AtEnd s → BlamesBytes k → Stops m n e s k
 stops_at_end m n e s k o a i = record {
   open_end = o;
   none = none_at_end m n s a;

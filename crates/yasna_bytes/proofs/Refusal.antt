@@ -6,18 +6,18 @@ use Rattle.yasna_base.specs.declared.tag.Tag.{Tag}
 use Rattle.yasna_base.specs.Identifier.{end_tag, BeginsWithTag, AtEnd, nothing as at_nothing, end as at_zeros}
 use Rattle.yasna_base.proofs.Identifier.{begins_once, begins_some}
 use Rattle.yasna_bytes.specs.declared.bytes.header.Refusal.{Refusal}
-use Rattle.yasna_bytes.specs.Refusal.{IsPlain, IsElsewhere, nothing, another, IsTooDeep, Refuses}
+use Rattle.yasna_bytes.specs.Refusal.{BlamesBytes, IsElsewhere, nothing, another, IsTooDeep, Refuses}
 
 -- a plain kind isn't of depth
-pub plain_not_deep : {k : ASN1ErrorKind} → IsPlain k → k ≡ StackOverflow → ⊥
+pub plain_not_deep : {k : ASN1ErrorKind} → BlamesBytes k → k ≡ StackOverflow → ⊥
 plain_not_deep {k} h e = rw e at h
 
 -- nor of memory
-pub plain_not_memory : {k : ASN1ErrorKind} → IsPlain k → k ≡ OutOfMemory → ⊥
+pub plain_not_memory : {k : ASN1ErrorKind} → BlamesBytes k → k ≡ OutOfMemory → ⊥
 plain_not_memory {k} h e = rw e at h
 
 -- a refusal that is neither of depth nor of memory is plain
-pub plain_of : (k : ASN1ErrorKind) → (k ≡ StackOverflow → ⊥) → (k ≡ OutOfMemory → ⊥) → IsPlain k
+pub plain_of : (k : ASN1ErrorKind) → (k ≡ StackOverflow → ⊥) → (k ≡ OutOfMemory → ⊥) → BlamesBytes k
 plain_of Eof d o = tt
 plain_of Extra d o = tt
 plain_of IntegerOverflow d o = tt
@@ -40,7 +40,7 @@ pub not_at_end : (t : Tag) (s : List ℕ) → (t ≡ end_tag → ⊥) → AtEnd 
 not_at_end t s n a b = begins_not_elsewhere b (at_end_elsewhere t s n a)
 
 -- nothing is left, or an element of another tag stands there, and so nothing that begins with the tag
-pub elsewhere_refuses : (N : Type 0) (n : ℕ) (t : Tag) (s : List ℕ) (e : Refusal) → (N → BeginsWithTag t s) → IsElsewhere t s → IsPlain e.kind →
+pub elsewhere_refuses : (N : Type 0) (n : ℕ) (t : Tag) (s : List ℕ) (e : Refusal) → (N → BeginsWithTag t s) → IsElsewhere t s → BlamesBytes e.kind →
     e.moved ≡ false → Refuses N (IsTooDeep n t s) ⊥ t s e
 elsewhere_refuses N n t s e has f k o = record {
   none = λ _ x. begins_not_elsewhere (has x) f;
@@ -62,7 +62,7 @@ deep_refuses N n t s e has b z k o = record {
 }
 
 -- the tag stands there within the levels, and nothing that is wanted does
-pub stood_refuses : (N : Type 0) (n : ℕ) (t : Tag) (s : List ℕ) (e : Refusal) → BeginsWithTag t s → 1 ≤ n → IsPlain e.kind → e.moved ≡ true → (N → ⊥) →
+pub stood_refuses : (N : Type 0) (n : ℕ) (t : Tag) (s : List ℕ) (e : Refusal) → BeginsWithTag t s → 1 ≤ n → BlamesBytes e.kind → e.moved ≡ true → (N → ⊥) →
     Refuses N (IsTooDeep n t s) ⊥ t s e
 stood_refuses N n t s e b l k o w = record {
   none = λ _. w;

@@ -5,20 +5,20 @@ use Rattle.std.specs.Prelude.{Ok, Err}
 use Rattle.yasna_base.specs.declared.error.ASN1ErrorKind.{ASN1ErrorKind}
 use Rattle.yasna_base.specs.declared.error.ASN1ErrorKind.TheVariants.{OutOfMemory}
 use Rattle.yasna_base.specs.declared.mode.BERMode.{BERMode}
-use Rattle.yasna_base.specs.Cut.{Cutting, IsCut, IsDeepCut}
+use Rattle.yasna_base.specs.Segmented.{Segmentation, IsSegmented, IsDeepSegmented}
 use Rattle.yasna_base.specs.Identifier.{AtEnd, BeginsWithTag}
 use Rattle.yasna_base.specs.Pieces.{Each}
-use Rattle.yasna_base.proofs.Cut.{CutsOnce, cut_begins, cut_starts, cut_exact, deep_begins, deep_not_cut}
+use Rattle.yasna_base.proofs.Segmented.{SegmentsOnce, segmented_begins, segmented_starts, segmented_exact, deep_begins, deep_not_segmented}
 use Rattle.yasna_base.proofs.Identifier.{begins_some, begins_with}
 use Rattle.yasna_base.proofs.Pieces.{NoFront, no_front_at_end, pieces_further, pieces_append, one_piece}
 use Rattle.yasna_bytes.specs.declared.bytes.header.Refusal.{Refusal}
-use Rattle.yasna_bytes.specs.Refusal.{IsPlain, IsElsewhere, nothing}
+use Rattle.yasna_bytes.specs.Refusal.{BlamesBytes, IsElsewhere, nothing}
 use Rattle.yasna_bytes.specs.declared.bytes.segments.cuts.Cuts.{Cuts}
 use Rattle.yasna_bytes.specs.Segments.{GoOn, HoldsBytes, Adds, further_cut, AreCut, LeadTo, EndAt, IsDeepWithin, TakesSegments, RefusesSegments, TakesString, RefusesString}
 use Rattle.yasna_bytes.proofs.Cuts.{none_cut, further_is_cut}
 use Rattle.yasna_bytes.proofs.Refusal.{plain_not_deep, at_end_elsewhere, begins_not_elsewhere}
 
--- pieces that say ws and then y go on where those that say vs stopped, or stop there
+-- segments that say ws and then y go on where those that say vs stopped, or stop there
 data GoesOn {A : Type 0} (R : A → List ℕ → Type 0) (vs ws : List A) (x y : List ℕ) : Type 0 where
   stops : vs ≡ ws → x ≡ y → GoesOn R vs ws x y
   goes : (w : A) (us : List A) (b r : List ℕ) → ws ≡ vs ++ (w ∷ us) → R w b → x ≡ b ++ r → GoesOn R vs ws x y
@@ -45,10 +45,10 @@ lead_more R c vs y v b r f p e = record {
   joined = f.joined ∙ ap (λ z. f.front ++ z) e ∙ sym (append_assoc f.front b r);
 }
 
-module _ {A : Type 0} {k : Cutting A} (once : CutsOnce k) (n : ℕ) (m : BERMode) (c : List ℕ) where
+module _ {A : Type 0} {k : Segmentation A} (once : SegmentsOnce k) (n : ℕ) (m : BERMode) (c : List ℕ) where
   -- a string isn't elsewhere
-  here : (v : A) (b r y : List ℕ) → IsCut k n m k.piece v b → y ≡ b ++ r → IsElsewhere k.piece y → ⊥
-  here v b r y p e = begins_not_elsewhere (subst (λ z. BeginsWithTag k.piece z) (sym e) (begins_with k.piece b r (cut_begins k n m k.piece v b p)))
+  here : (v : A) (b r y : List ℕ) → IsSegmented k n m k.segment v b → y ≡ b ++ r → IsElsewhere k.segment y → ⊥
+  here v b r y p e = begins_not_elsewhere (subst (λ z. BeginsWithTag k.segment z) (sym e) (begins_with k.segment b r (segmented_begins k n m k.segment v b p)))
 
   -- where segments that go on behind vs make no value, contents end nowhere but there
   pub record OneEnd (vs ws : List A) (y z : List ℕ) : Type 0 where
@@ -58,12 +58,12 @@ module _ {A : Type 0} {k : Cutting A} (once : CutsOnce k) (n : ℕ) (m : BERMode
     pub join : k.join m vs value
     pub at_end : AtEnd y
 
-  one_end : (vs : List A) (y : List ℕ) → LeadTo (IsCut k n m k.piece) c vs y →
-      ((w : A) (us : List A) (v : A) (b r : List ℕ) → IsCut k n m k.piece w b → y ≡ b ++ r → k.join m (vs ++ (w ∷ us)) v → ⊥) →
+  one_end : (vs : List A) (y : List ℕ) → LeadTo (IsSegmented k n m k.segment) c vs y →
+      ((w : A) (us : List A) (v : A) (b r : List ℕ) → IsSegmented k n m k.segment w b → y ≡ b ++ r → k.join m (vs ++ (w ∷ us)) v → ⊥) →
       (z : List ℕ) (e : EndAt k n m c z) → OneEnd vs e.values y z
   one_end vs y f none z e =
-      elim (leads_on (cut_exact once n n m k.piece) c vs e.values y z f e.lead
-      (no_front_at_end (λ v b. cut_starts k n m k.piece v b once.piece) z e.at_end)) [
+      elim (leads_on (segmented_exact once n n m k.segment) c vs e.values y z f e.lead
+      (no_front_at_end (λ v b. segmented_starts k n m k.segment v b once.segment) z e.at_end)) [
         | stops g h ↦
             record {
               same = sym h;
@@ -76,27 +76,27 @@ module _ {A : Type 0} {k : Cutting A} (once : CutsOnce k) (n : ℕ) (m : BERMode
       ]
 
   -- nor does too deep a segment stand elsewhere
-  one_deep : (vs : List A) (y : List ℕ) → LeadTo (IsCut k n m k.piece) c vs y →
-      ((w : A) (us : List A) (b r : List ℕ) → IsCut k n m k.piece w b → y ≡ b ++ r → k.more (vs ++ (w ∷ us)) → ⊥) →
-      IsDeepWithin k n m c → k.more vs × IsDeepCut k n m k.piece y
+  one_deep : (vs : List A) (y : List ℕ) → LeadTo (IsSegmented k n m k.segment) c vs y →
+      ((w : A) (us : List A) (b r : List ℕ) → IsSegmented k n m k.segment w b → y ≡ b ++ r → k.more (vs ++ (w ∷ us)) → ⊥) →
+      IsDeepWithin k n m c → k.more vs × IsDeepSegmented k n m k.segment y
   one_deep vs y f none d =
-      let g : LeadTo (IsCut k n m k.piece) c d.values d.rest = record { front = d.front; pieces = d.pieces; joined = d.joined } in
-      elim (leads_on (cut_exact once n n m k.piece) c vs d.values y d.rest f g (deep_not_cut once n m k.piece d.rest d.deep)) [
-        | stops h i ↦ (subst k.more (sym h) d.more, subst (IsDeepCut k n m k.piece) (sym i) d.deep)
+      let g : LeadTo (IsSegmented k n m k.segment) c d.values d.rest = record { front = d.front; pieces = d.pieces; joined = d.joined } in
+      elim (leads_on (segmented_exact once n n m k.segment) c vs d.values y d.rest f g (deep_not_segmented once n m k.segment d.rest d.deep)) [
+        | stops h i ↦ (subst k.more (sym h) d.more, subst (IsDeepSegmented k n m k.segment) (sym i) d.deep)
         | goes w us b r h p i ↦ absurd (none w us b r p i (subst k.more h d.more))
       ]
 
 -- segments were read as far as y, their bytes appended to out, x is known of them besides, and u says how they are cut
-pub record Reached {A T : Type 0} (k : Cutting A) (value : List ℕ → T → A) (n : ℕ) (m : BERMode) (c : List ℕ) (x : T) (u : Cuts)
+pub record Reached {A T : Type 0} (k : Segmentation A) (value : List ℕ → T → A) (n : ℕ) (m : BERMode) (c : List ℕ) (x : T) (u : Cuts)
     (y out out' : List ℕ) : Type 0 where
   pub values : List A
   pub bytes : List ℕ
-  pub lead : LeadTo (IsCut k n m k.piece) c values y
+  pub lead : LeadTo (IsSegmented k n m k.segment) c values y
   pub join : k.join m values (value bytes x)
   pub added : out' ≡ out ++ bytes
   pub cuts : AreCut k values u
 
-module _ {A T : Type 0} {k : Cutting A} {value : List ℕ → T → A} (once : CutsOnce k) (go_on : GoOn k) (n : ℕ) (m : BERMode) (c : List ℕ) where
+module _ {A T : Type 0} {k : Segmentation A} {value : List ℕ → T → A} (once : SegmentsOnce k) (go_on : GoOn k) (n : ℕ) (m : BERMode) (c : List ℕ) where
   -- reading begins with no segments
   pub reached_none : (x : T) (u : Cuts) (out : List ℕ) → u ≡ record { some = false; full = true; even = false } → k.join m [] (value [] x) →
       Reached k value n m c x u c out out
@@ -111,12 +111,12 @@ module _ {A T : Type 0} {k : Cutting A} {value : List ℕ → T → A} (once : C
 
   -- and goes on by a further one
   pub reached_more : HoldsBytes k value → (x z s : T) (u w : Cuts) (y r out out' out'' : List ℕ) → (h : Reached k value n m c x u y out out') →
-      k.more h.values → TakesString k value n m k.piece y out' s r out'' → Adds k value x s (Ok z) → w ≡ further_cut u k.full (length out'' - length out') →
+      k.more h.values → TakesString k value n m k.segment y out' s r out'' → Adds k value x s (Ok z) → w ≡ further_cut u k.full (length out'' - length out') →
       Reached k value n m c z w r out out''
   reached_more holds x z s u w y r out out' out'' h more t a e = record {
     values = h.values ++ (value t.bytes s ∷ []);
     bytes = h.bytes ++ t.bytes;
-    lead = lead_more (IsCut k n m k.piece) c h.values y (value t.bytes s) t.takes.front r h.lead t.takes.member t.takes.joined;
+    lead = lead_more (IsSegmented k n m k.segment) c h.values y (value t.bytes s) t.takes.front r h.lead t.takes.member t.takes.joined;
     join = a m h.values h.bytes t.bytes h.join more;
     added = t.added ∙ ap (λ q. q ++ t.bytes) h.added ∙ append_assoc out h.bytes t.bytes;
     cuts =
@@ -127,13 +127,13 @@ module _ {A T : Type 0} {k : Cutting A} {value : List ℕ → T → A} (once : C
   }
 
   -- fewer bytes are left behind it
-  pub reached_shorter : (s : T) (y r out out' : List ℕ) → TakesString k value n m k.piece y out s r out' → length r < length y
+  pub reached_shorter : (s : T) (y r out out' : List ℕ) → TakesString k value n m k.segment y out s r out' → length r < length y
   reached_shorter s y r out out' t =
-      let i = begins_some k.piece t.takes.front (cut_begins k n m k.piece (value t.bytes s) t.takes.front t.takes.member) in
+      let i = begins_some k.segment t.takes.front (segmented_begins k n m k.segment (value t.bytes s) t.takes.front t.takes.member) in
       omega (arith, ap length t.takes.joined, length-append t.takes.front r)
 
   -- reading stops where no segment stands
-  pub stops_elsewhere : (x : T) (u : Cuts) (y out out' : List ℕ) → Reached k value n m c x u y out out' → IsElsewhere k.piece y →
+  pub stops_elsewhere : (x : T) (u : Cuts) (y out out' : List ℕ) → Reached k value n m c x u y out out' → IsElsewhere k.segment y →
       TakesSegments k value n m c out x u y out'
   stops_elsewhere x u y out out' h f = record {
     values = h.values;
@@ -144,7 +144,7 @@ module _ {A T : Type 0} {k : Cutting A} {value : List ℕ → T → A} (once : C
     cuts = h.cuts;
     only = λ z e. let i = one_end once n m c h.values y h.lead (λ w us v b r p g _. here once n m c w b r y p g f) z e in (i.same, i.values);
     not_deep = λ d. begins_not_elsewhere
-        (deep_begins k n m k.piece y (one_deep once n m c h.values y h.lead (λ w us b r p g _. here once n m c w b r y p g f) d).1) f;
+        (deep_begins k n m k.segment y (one_deep once n m c h.values y h.lead (λ w us b r p g _. here once n m c w b r y p g f) d).1) f;
   }
 
   -- or where none may follow
@@ -163,12 +163,12 @@ module _ {A T : Type 0} {k : Cutting A} {value : List ℕ → T → A} (once : C
 
   -- a segment is refused
   pub segment_refused : (x : T) (u : Cuts) (y out out' : List ℕ) (e : Refusal) → (h : Reached k value n m c x u y out out') → k.more h.values →
-      RefusesString k n m k.piece y e → e.moved ≡ true → RefusesSegments k n m c e
+      RefusesString k n m k.segment y e → e.moved ≡ true → RefusesSegments k n m c e
   segment_refused x u y out out' e h more f o =
-      let there : IsElsewhere k.piece y → ⊥ = λ g. let i = f.moved.1 g in absurd (cc) in
-      let none : (e.kind ≡ OutOfMemory → ⊥) → NoFront (IsCut k n m k.piece) y = λ q w b r p g. f.none q (w, r, record { front = b; joined = g; member = p }) in
+      let there : IsElsewhere k.segment y → ⊥ = λ g. let i = f.moved.1 g in absurd (cc) in
+      let none : (e.kind ≡ OutOfMemory → ⊥) → NoFront (IsSegmented k n m k.segment) y = λ q w b r p g. f.none q (w, r, record { front = b; joined = g; member = p }) in
       record {
-        none = λ q z i. there (at_end_elsewhere k.piece y once.piece (one_end once n m c h.values y h.lead (λ w us v b r p g _. none q w b r p g) z i).at_end);
+        none = λ q z i. there (at_end_elsewhere k.segment y once.segment (one_end once n m c h.values y h.lead (λ w us v b r p g _. none q w b r p g) z i).at_end);
         moved = o;
         too_deep = λ i. record {
           values = h.values;
@@ -189,14 +189,14 @@ module _ {A T : Type 0} {k : Cutting A} {value : List ℕ → T → A} (once : C
 
   -- a segment was read of which too much is known with the others
   pub segment_too_much : (x s : T) (u : Cuts) (y r out out' out'' : List ℕ) (q : ASN1ErrorKind) (e : Refusal) → Reached k value n m c x u y out out' →
-      TakesString k value n m k.piece y out' s r out'' → Adds k value x s (Err q) → e.kind ≡ q → e.moved ≡ true → RefusesSegments k n m c e
+      TakesString k value n m k.segment y out' s r out'' → Adds k value x s (Err q) → e.kind ≡ q → e.moved ≡ true → RefusesSegments k n m c e
   segment_too_much x s u y r out out' out'' q e h t a f o =
       let w = value t.bytes s in
       let vs = h.values ++ (w ∷ []) in
-      let lead = lead_more (IsCut k n m k.piece) c h.values y w t.takes.front r h.lead t.takes.member t.takes.joined in
+      let lead = lead_more (IsSegmented k n m k.segment) c h.values y w t.takes.front r h.lead t.takes.member t.takes.joined in
       let none : (us : List A) → ((v : A) → k.join m (h.values ++ (w ∷ us)) v → ⊥) × (k.more (h.values ++ (w ∷ us)) → ⊥) =
       λ us. a.1 m h.values us h.bytes t.bytes h.join in
-      let plain : IsPlain e.kind = subst IsPlain (sym f) a.0 in
+      let plain : BlamesBytes e.kind = subst BlamesBytes (sym f) a.0 in
       record {
         none = λ _ z i. let j = one_end once n m c vs r lead (λ u us v b x p g l.
             (none (u ∷ us)).0 v (subst (λ ws. k.join m ws v) (append_assoc h.values (w ∷ []) (u ∷ us)) l)) z i in

@@ -11,12 +11,12 @@ use Rattle.yasna_base.specs.declared.error.ASN1ErrorKind.TheVariants.{OutOfMemor
 use Rattle.yasna_base.specs.declared.mode.BERMode.{BERMode}
 use Rattle.yasna_base.specs.declared.tag.PCBit.TheVariants.{Primitive, Constructed}
 use Rattle.yasna_base.specs.declared.tag.Tag.{Tag}
-use Rattle.yasna_base.specs.Cut.{piece_mode, whole, in_pieces}
+use Rattle.yasna_base.specs.Segmented.{segment_mode, whole, in_segments}
 use Rattle.yasna_base.specs.Identifier.{BeginsWithTag}
-use Rattle.yasna_base.specs.Octets.{octets_cutting, octets_tag, IsOctets, IsDeepOctets}
+use Rattle.yasna_base.specs.Octets.{octets_segmentation, octets_tag, IsOctets, IsDeepOctets}
 use Rattle.yasna_base.specs.Pieces.{Each}
 use Rattle.yasna_base.specs.Text.{InUtf8, InNumeric, InPrintable, InIa5, InVisible, IsUtf8In, IsStringOf, characters, units}
-use Rattle.yasna_base.proofs.Cut.{cut_zero, cut_into, cut_begins, cut_exact, deep_not_cut}
+use Rattle.yasna_base.proofs.Segmented.{segmented_zero, segmented_into, segmented_begins, segmented_exact, deep_not_segmented}
 use Rattle.yasna_base.proofs.Identifier.{begins_some, begins_with}
 use Rattle.yasna_base.proofs.Octets.{octets_once}
 use Rattle.yasna_base.proofs.Texts.{utf8_means, utf8_only, class_means, class_only, class_utf8, numeric_below, printable_below, ia5_below, visible_below}
@@ -25,37 +25,37 @@ use Rattle.yasna_bytes.specs.declared.bytes.text.Class.{Class}
 use Rattle.yasna_bytes.specs.declared.bytes.text.Class.TheVariants.{Utf8, Numeric, Printable, Ia5, Visible, Bmp}
 use Rattle.yasna_bytes.specs.Contents.{WantsMemory}
 use Rattle.yasna_bytes.specs.Front.{Takes, Stands}
-use Rattle.yasna_bytes.specs.Refusal.{IsPlain, Refuses}
+use Rattle.yasna_bytes.specs.Refusal.{BlamesBytes, Refuses}
 use Rattle.yasna_bytes.specs.Text.{Judges, SaysText, MayHold}
 use Rattle.yasna_bytes.proofs.Contents.{element_wants}
 use Rattle.yasna_bytes.proofs.Refusal.{plain_not_deep, plain_not_memory, begins_not_elsewhere, refuses_less}
 
--- no pieces but none at all make up nothing
+-- no segments but none at all make up nothing
 no_pieces : (n : ℕ) (m : BERMode) (vs bs : List (List ℕ)) → Each (IsOctets n m octets_tag) vs bs → concat bs ≡ [] → concat vs ≡ []
 no_pieces n m [] [] p e = refl
 no_pieces n m [] (b ∷ bs) p e = absurd p
 no_pieces n m (v ∷ vs) [] p e = absurd p
 no_pieces n m (v ∷ vs) (b ∷ bs) p e =
-    let i = begins_some octets_tag b (cut_begins octets_cutting n m octets_tag v b p.0) in
+    let i = begins_some octets_tag b (segmented_begins octets_segmentation n m octets_tag v b p.0) in
     absurd (omega (arith, ap length e, length-append b (concat bs)))
 
 -- a string with octets has contents
 octets_want : (n : ℕ) (m : BERMode) (t : Tag) (s v r : List ℕ) → Takes (IsOctets n m t) s v r → (v ≡ [] → ⊥) → WantsMemory n t s
-octets_want zero m t s v r x h = absurd (cut_zero octets_cutting m t v x.front x.member)
-octets_want (suc n) m t s v r x h = elim (cut_into octets_cutting n m t v x.front x.member) [
+octets_want zero m t s v r x h = absurd (segmented_zero octets_segmentation m t v x.front x.member)
+octets_want (suc n) m t s v r x h = elim (segmented_into octets_segmentation n m t v x.front x.member) [
   | whole c y w a ↦ element_wants (suc n) m t Primitive s c x.front r (omega arith) (λ e. h (w ∙ e)) y x.joined
-  | in_pieces g c vs y p j a ↦
-      element_wants (suc n) m t Constructed s c x.front r (omega arith) (λ e. h (j ∙ no_pieces n (piece_mode m) vs p.pieces p.each (sym p.joined ∙ e))) y
+  | in_segments g c vs y p j a ↦
+      element_wants (suc n) m t Constructed s c x.front r (omega arith) (λ e. h (j ∙ no_pieces n (segment_mode m) vs p.pieces p.each (sym p.joined ∙ e))) y
       x.joined
 ]
 
 octets_begin : (n : ℕ) (m : BERMode) (t : Tag) (s v r : List ℕ) → Takes (IsOctets n m t) s v r → BeginsWithTag t s
 octets_begin n m t s v r x =
-    subst (λ z. BeginsWithTag t z) (sym x.joined) (begins_with t x.front r (cut_begins octets_cutting n m t v x.front x.member))
+    subst (λ z. BeginsWithTag t z) (sym x.joined) (begins_with t x.front r (segmented_begins octets_segmentation n m t v x.front x.member))
 
 -- octets were read that say nothing, or for whose value there is no memory
 pub said_refused : {A : Type 0} (K : BERMode → A → List ℕ → Type 0) (n : ℕ) (m : BERMode) (t : Tag) (s o r : List ℕ) (e : Refusal) →
-    Takes (IsOctets n m t) s o r → ((e.kind ≡ OutOfMemory) × (o ≡ [] → ⊥)) ⊎ (IsPlain e.kind × ((v : A) → K m v o → ⊥)) → e.moved ≡ true →
+    Takes (IsOctets n m t) s o r → ((e.kind ≡ OutOfMemory) × (o ≡ [] → ⊥)) ⊎ (BlamesBytes e.kind × ((v : A) → K m v o → ⊥)) → e.moved ≡ true →
     Refuses (Stands (IsStringOf K n m t) s) (IsDeepOctets n m t s) (WantsMemory n t s) t s e
 said_refused K n m t s o r e x (inl h) f = record {
   none = λ q. absurd (q h.0);
@@ -67,11 +67,11 @@ said_refused K n m t s o r e x (inl h) f = record {
 said_refused K n m t s o r e x (inr h) f = record {
   none = λ _ w.
       let y = w.2.member in
-      let same = (cut_exact octets_once n n m t o y.octets x.front w.2.front r w.1 x.member y.string (sym x.joined ∙ w.2.joined)).0 in
+      let same = (segmented_exact octets_once n n m t o y.octets x.front w.2.front r w.1 x.member y.string (sym x.joined ∙ w.2.joined)).0 in
       h.1 w.0 (subst (K m w.0) (sym same) y.meaning);
   moved = (λ g. absurd (cc), λ g. absurd (begins_not_elsewhere (octets_begin n m t s o r x) g));
   too_deep = λ g. absurd (plain_not_deep h.0 g);
-  deep = λ _ d. absurd (deep_not_cut octets_once n m t s d o x.front r x.member x.joined);
+  deep = λ _ d. absurd (deep_not_segmented octets_once n m t s d o x.front r x.member x.joined);
   memory = λ g. absurd (plain_not_memory h.0 g);
 }
 

@@ -12,7 +12,7 @@ use Rattle.yasna_base.specs.declared.tag.PCBit.{PCBit}
 use Rattle.yasna_base.specs.declared.tag.Tag.{Tag}
 use Rattle.yasna_bytes.specs.Front.{Takes, SeenAt}
 use Rattle.yasna_bytes.specs.Header.{AreContents}
-use Rattle.yasna_bytes.specs.Refusal.{IsPlain, IsTooDeep}
+use Rattle.yasna_bytes.specs.Refusal.{BlamesBytes, IsTooDeep}
 use Rattle.yasna_bytes.specs.declared.bytes.header.Refusal.{Refusal}
 
 -- wherever c are the contents of a primitive element, memory may be wanting by M
@@ -22,7 +22,7 @@ MayWant M c = (n : ℕ) (m : BERMode) (t : Tag) (s r : List ℕ) → Takes (IsPr
 -- contents that are taken exactly where they say by W what the view of a value is, want of memory aside
 abbrev pub Decides : {V A : Type 0} → (A → List ℕ → Type 0) → (V → A) → (ℕ → Tag → List ℕ → Type 0) → List ℕ → Result V ASN1ErrorKind → Type 0
 Decides {V} {A} W view M c (Ok v) = W (view v) c
-Decides {V} {A} W view M c (Err k) = ((k ≡ OutOfMemory) × MayWant M c) ⊎ (IsPlain k × ((v : A) → W v c → ⊥))
+Decides {V} {A} W view M c (Err k) = ((k ≡ OutOfMemory) × MayWant M c) ⊎ (BlamesBytes k × ((v : A) → W v c → ⊥))
 
 -- a read that takes no memory
 abbrev pub Never : ℕ → Tag → List ℕ → Type 0

@@ -13,7 +13,7 @@ use Rattle.yasna_base.specs.declared.tag.PCBit.{PCBit}
 use Rattle.yasna_base.specs.declared.tag.PCBit.TheVariants.{Constructed}
 use Rattle.yasna_base.specs.declared.tag.Tag.{Tag}
 use Rattle.yasna_bytes.specs.Front.{Takes, Stands}
-use Rattle.yasna_bytes.specs.Refusal.{IsPlain, IsTooDeep, Refuses}
+use Rattle.yasna_bytes.specs.Refusal.{BlamesBytes, IsTooDeep, Refuses}
 use Rattle.yasna_bytes.specs.declared.bytes.header.Opened.{Opened}
 use Rattle.yasna_bytes.specs.declared.bytes.header.Refusal.{Refusal}
 
@@ -30,7 +30,7 @@ contents_end None = uncounted
 -- a length and contents, which are bytes, stand behind an identifier with the bit p
 abbrev pub ContentsAt : BERMode → PCBit → List ℕ → Result (Bor (List ℕ) × Option (Bor (List ℕ))) ASN1ErrorKind → Type 0
 ContentsAt m p y (Ok x) = IsBytes x.0.now × Holds m p y x.0.now (contents_end x.1)
-ContentsAt m p y (Err k) = IsPlain k × ((c : List ℕ) (f : ContentsEnd) → Holds m p y c f → ⊥)
+ContentsAt m p y (Err k) = BlamesBytes k × ((c : List ℕ) (f : ContentsEnd) → Holds m p y c f → ⊥)
 
 -- some header of the tag with a bit that P allows stands at the front, and a level is left for the element
 pub record HasHeader (P : PCBit → Type 0) (m : BERMode) (n : ℕ) (t : Tag) (s : List ℕ) : Type 0 where
@@ -82,4 +82,4 @@ EndsAt uncounted y = (z : List ℕ) × (y ≡ 0 ∷ 0 ∷ z)
 -- contents that were read as far as y end there, or don't
 abbrev pub ClosesAt : ContentsEnd → List ℕ → Result (Bor (List ℕ)) ASN1ErrorKind → Type 0
 ClosesAt a y (Ok r) = EndsBefore a y r.now
-ClosesAt a y (Err k) = IsPlain k × (EndsAt a y → ⊥)
+ClosesAt a y (Err k) = BlamesBytes k × (EndsAt a y → ⊥)

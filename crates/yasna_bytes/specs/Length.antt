@@ -6,7 +6,7 @@ use Rattle.yasna_base.specs.Length.{SpellsLength}
 use Rattle.yasna_base.specs.declared.error.ASN1ErrorKind.{ASN1ErrorKind}
 use Rattle.yasna_base.specs.declared.mode.BERMode.{BERMode}
 use Rattle.yasna_base.specs.declared.mode.BERMode.TheVariants.{Ber, Der, Cer}
-use Rattle.yasna_bytes.specs.Refusal.{IsPlain}
+use Rattle.yasna_bytes.specs.Refusal.{BlamesBytes}
 
 -- a length and what follows it, or what follows the byte of the indefinite form
 abbrev pub Measures : BERMode → List ℕ → Option ℕ → List ℕ → Type 0
@@ -28,4 +28,4 @@ pub record SpellsDigits (m : BERMode) (digits : List ℕ) (k : ℕ) : Type 0 whe
 -- a length, or the byte of the indefinite form, stands at the front
 abbrev pub LengthAt : BERMode → List ℕ → Result (Option ℕ × Bor (List ℕ)) ASN1ErrorKind → Type 0
 LengthAt m s (Ok x) = Measures m s x.0 x.1.now
-LengthAt m s (Err e) = IsPlain e × ((k : Option ℕ) (r : List ℕ) → Measures m s k r → ⊥)
+LengthAt m s (Err e) = BlamesBytes e × ((k : Option ℕ) (r : List ℕ) → Measures m s k r → ⊥)

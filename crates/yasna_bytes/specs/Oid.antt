@@ -5,7 +5,7 @@ use Rattle.yasna_base.specs.Digits.{base128}
 use Rattle.yasna_base.specs.Oid.{AreFirstTwo}
 use Rattle.yasna_base.specs.declared.error.ASN1ErrorKind.{ASN1ErrorKind}
 use Rattle.yasna_base.specs.declared.error.ASN1ErrorKind.TheVariants.{OutOfMemory}
-use Rattle.yasna_bytes.specs.Refusal.{IsPlain}
+use Rattle.yasna_bytes.specs.Refusal.{BlamesBytes}
 
 -- s are the numbers ks of 64 bits, in base 128
 pub record AreNumbers (ks s : List ℕ) : Type 0 where
@@ -15,7 +15,7 @@ pub record AreNumbers (ks s : List ℕ) : Type 0 where
 -- s are numbers, which were appended to old, or they aren't, or memory is wanting
 abbrev pub AppendsNumbers : List ℕ → List ℕ → List ℕ → Result (Unit {0}) ASN1ErrorKind → Type 0
 AppendsNumbers s old new (Ok _) = (ks : List ℕ) × AreNumbers ks s × (new ≡ old ++ ks)
-AppendsNumbers s old new (Err k) = (k ≡ OutOfMemory) ⊎ (IsPlain k × ((ks : List ℕ) → AreNumbers ks s → ⊥))
+AppendsNumbers s old new (Err k) = (k ≡ OutOfMemory) ⊎ (BlamesBytes k × ((ks : List ℕ) → AreNumbers ks s → ⊥))
 
 -- the first two components, which make the number, were appended to old
 pub record AppendedFirstTwo (number : ℕ) (old new : List ℕ) : Type 0 where

@@ -4,7 +4,7 @@ use Rattle.std.specs.Global.{Global}
 use Rattle.std.specs.List.{AllByRecursion}
 use Rattle.std.specs.Prelude.{◌≡◌, ◌⊎◌, ◌↔◌, ℕ, ◌≤◌, List, [], ◌∷◌, ◌++◌, length, map, false, true, ◌&&◌, nat_eq, nat_le, IsTrue, Result, Ok, Err, Vec}
 use Rattle.yasna_base.specs.Bits.{BitString, IsBits, IsDeepBits}
-use Rattle.yasna_base.specs.Cut.{Cutting, StaysWhole, CutsInto, IsCut, IsDeepCut, PiecesBefore}
+use Rattle.yasna_base.specs.Segmented.{Segmentation, StaysWhole, FallsInto, IsSegmented, IsDeepSegmented, PiecesBefore}
 use Rattle.yasna_base.specs.Identifier.{AtEnd}
 use Rattle.yasna_base.specs.Octets.{IsOctets, IsDeepOctets}
 use Rattle.yasna_base.specs.Pieces.{Pieces}
@@ -15,49 +15,49 @@ use Rattle.yasna_base.specs.declared.mode.BERMode.TheVariants.{Ber, Der, Cer}
 use Rattle.yasna_base.specs.declared.tag.Tag.{Tag}
 use Rattle.yasna_bytes.specs.Contents.{WantsMemory}
 use Rattle.yasna_bytes.specs.Front.{Takes, Stands, SeenAt}
-use Rattle.yasna_bytes.specs.Refusal.{IsPlain, Refuses}
+use Rattle.yasna_bytes.specs.Refusal.{BlamesBytes, Refuses}
 use Rattle.yasna_bytes.specs.declared.bytes.header.Refusal.{Refusal}
 use Rattle.yasna_bytes.specs.declared.bytes.segments.cuts.Cuts.{Cuts}
 
--- where pieces of such strings go on, they may
-pub record GoOn {A : Type 0} (k : Cutting A) : Type 0 where
+-- where segments of such strings go on, they may
+pub record GoOn {A : Type 0} (k : Segmentation A) : Type 0 where
   pub joined : (m : BERMode) (vs ws : List A) (w v : A) → k.join m (vs ++ (w ∷ ws)) v → k.more vs
   pub more : (vs ws : List A) (w : A) → k.more (vs ++ (w ∷ ws)) → k.more vs
 
 -- The contents of a primitive element are taken exactly where they say a value. value b x is the value of the bytes b of
 -- which x is known besides
-abbrev pub Says : {A T : Type 0} → Cutting A → (List ℕ → T → A) → BERMode → List ℕ → Result (T × Bor (List ℕ)) ASN1ErrorKind → Type 0
+abbrev pub Says : {A T : Type 0} → Segmentation A → (List ℕ → T → A) → BERMode → List ℕ → Result (T × Bor (List ℕ)) ASN1ErrorKind → Type 0
 Says {A} k value m c (Ok x) = k.whole m (value x.1.now x.0) c × (length x.1.now ≤ length c)
-Says {A} k value m c (Err e) = IsPlain e × ((v : A) → k.whole m v c → ⊥)
+Says {A} k value m c (Err e) = BlamesBytes e × ((v : A) → k.whole m v c → ⊥)
 
 -- the bytes of a value are those that it was made of
-abbrev pub HoldsBytes : {A T : Type 0} → Cutting A → (List ℕ → T → A) → Type 0
+abbrev pub HoldsBytes : {A T : Type 0} → Segmentation A → (List ℕ → T → A) → Type 0
 HoldsBytes {A} {T} k value = (b : List ℕ) (x : T) → k.bytes (value b x) ≡ b
 
 -- x is known of no segments
-abbrev pub IsOfNone : {A T : Type 0} → Cutting A → (List ℕ → T → A) → T → Type 0
+abbrev pub IsOfNone : {A T : Type 0} → Segmentation A → (List ℕ → T → A) → T → Type 0
 IsOfNone k value x = (m : BERMode) → k.join m [] (value [] x)
 
 -- What is known of segments of which x is known and one more of which y is, or that such segments neither make a value nor
 -- go on
-abbrev pub Adds : {A T : Type 0} → Cutting A → (List ℕ → T → A) → T → T → Result T ASN1ErrorKind → Type 0
+abbrev pub Adds : {A T : Type 0} → Segmentation A → (List ℕ → T → A) → T → T → Result T ASN1ErrorKind → Type 0
 Adds {A} k value x y (Ok z) =
     (m : BERMode) (vs : List A) (b c : List ℕ) → k.join m vs (value b x) → k.more vs → k.join m (vs ++ (value c y ∷ [])) (value (b ++ c) z)
 Adds {A} k value x y (Err e) =
-    IsPlain e × ((m : BERMode) (vs ws : List A) (b c : List ℕ) → k.join m vs (value b x) →
+    BlamesBytes e × ((m : BERMode) (vs ws : List A) (b c : List ℕ) → k.join m vs (value b x) →
     ((v : A) → k.join m (vs ++ (value c y ∷ ws)) v → ⊥) × (k.more (vs ++ (value c y ∷ ws)) → ⊥))
 
 -- the answer says whether a further segment may follow those of which x is known
-abbrev pub TellsWhetherMore : {A T : Type 0} → Cutting A → (List ℕ → T → A) → T → Type 0 → Type 0
+abbrev pub TellsWhetherMore : {A T : Type 0} → Segmentation A → (List ℕ → T → A) → T → Type 0 → Type 0
 TellsWhetherMore {A} k value x answer =
-    (n : ℕ) (m : BERMode) (vs : List A) (b c : List ℕ) → Pieces (IsCut k n m k.piece) vs c → k.join m vs (value b x) → answer ↔ k.more vs
+    (n : ℕ) (m : BERMode) (vs : List A) (b c : List ℕ) → Pieces (IsSegmented k n m k.segment) vs c → k.join m vs (value b x) → answer ↔ k.more vs
 
 -- the contents of a primitive element, whose bytes were appended to out, or why not
-abbrev pub WholeAt : {A T : Type 0} → Cutting A → (List ℕ → T → A) → BERMode → List ℕ → List ℕ → Result T ASN1ErrorKind → List ℕ → Type 0
+abbrev pub WholeAt : {A T : Type 0} → Segmentation A → (List ℕ → T → A) → BERMode → List ℕ → List ℕ → Result T ASN1ErrorKind → List ℕ → Type 0
 WholeAt k value m c out (Ok x) out' =
     (b : List ℕ) × k.whole m (value b x) c × StaysWhole m k.full (length (k.bytes (value b x))) × (out' ≡ out ++ b)
 WholeAt {A} k value m c out (Err e) out' =
-    ((e ≡ OutOfMemory) × (c ≡ [] → ⊥)) ⊎ (IsPlain e × ((v : A) → k.whole m v c → StaysWhole m k.full (length (k.bytes v)) → ⊥))
+    ((e ≡ OutOfMemory) × (c ≡ [] → ⊥)) ⊎ (BlamesBytes e × ((v : A) → k.whole m v c → StaysWhole m k.full (length (k.bytes v)) → ⊥))
 
 -- segments at the front of c say vs, and y is behind them
 pub record LeadTo {A : Type 0} (R : A → List ℕ → Type 0) (c : List ℕ) (vs : List A) (y : List ℕ) : Type 0 where
@@ -66,16 +66,16 @@ pub record LeadTo {A : Type 0} (R : A → List ℕ → Type 0) (c : List ℕ) (v
   pub joined : c ≡ front ++ y
 
 -- segments make up c as far as y, where contents may end
-pub record EndAt {A : Type 0} (k : Cutting A) (n : ℕ) (m : BERMode) (c y : List ℕ) : Type 0 where
+pub record EndAt {A : Type 0} (k : Segmentation A) (n : ℕ) (m : BERMode) (c y : List ℕ) : Type 0 where
   pub values : List A
   pub value : A
-  pub lead : LeadTo (IsCut k n m k.piece) c values y
+  pub lead : LeadTo (IsSegmented k n m k.segment) c values y
   pub join : k.join m values value
   pub at_end : AtEnd y
 
 -- reading segments from c meets one that no level is left for
-abbrev pub IsDeepWithin : {A : Type 0} → Cutting A → ℕ → BERMode → List ℕ → Type 0
-IsDeepWithin k n m c = PiecesBefore (IsCut k n m k.piece) k.more (IsDeepCut k n m k.piece) c
+abbrev pub IsDeepWithin : {A : Type 0} → Segmentation A → ℕ → BERMode → List ℕ → Type 0
+IsDeepWithin k n m c = PiecesBefore (IsSegmented k n m k.segment) k.more (IsDeepSegmented k n m k.segment) c
 
 -- how segments are cut that were cut as c says, and one of n bytes more, if k of them fill one
 abbrev pub further_cut : Cuts → ℕ → ℕ → Cuts
@@ -88,18 +88,18 @@ AsksFor Der c = Unit {0}
 AsksFor Cer c = IsTrue c.even
 
 -- c says how the segments of these values are cut
-pub record AreCut {A : Type 0} (k : Cutting A) (vs : List A) (c : Cuts) : Type 0 where
+pub record AreCut {A : Type 0} (k : Segmentation A) (vs : List A) (c : Cuts) : Type 0 where
   pub some : IsTrue c.some ↔ (1 ≤ length vs)
   pub full : IsTrue c.full ↔ AllByRecursion (λ b. length b ≡ k.full) (map k.bytes vs)
-  pub even : IsTrue c.even ↔ CutsInto Cer k.full (map k.bytes vs)
+  pub even : IsTrue c.even ↔ FallsInto Cer k.full (map k.bytes vs)
 
 -- segments were read as far as y, their bytes appended to out, x is known of them besides, and u says how they are cut: no others
 -- make up c
-pub record TakesSegments {A T : Type 0} (k : Cutting A) (value : List ℕ → T → A) (n : ℕ) (m : BERMode) (c out : List ℕ) (x : T) (u : Cuts)
+pub record TakesSegments {A T : Type 0} (k : Segmentation A) (value : List ℕ → T → A) (n : ℕ) (m : BERMode) (c out : List ℕ) (x : T) (u : Cuts)
     (y out' : List ℕ) : Type 0 where
   pub values : List A
   pub bytes : List ℕ
-  pub lead : LeadTo (IsCut k n m k.piece) c values y
+  pub lead : LeadTo (IsSegmented k n m k.segment) c values y
   pub join : k.join m values (value bytes x)
   pub added : out' ≡ out ++ bytes
   pub cuts : AreCut k values u
@@ -107,7 +107,7 @@ pub record TakesSegments {A T : Type 0} (k : Cutting A) (value : List ℕ → T 
   pub not_deep : IsDeepWithin k n m c → ⊥
 
 -- no segments make up c
-pub record RefusesSegments {A : Type 0} (k : Cutting A) (n : ℕ) (m : BERMode) (c : List ℕ) (e : Refusal) : Type 0 where
+pub record RefusesSegments {A : Type 0} (k : Segmentation A) (n : ℕ) (m : BERMode) (c : List ℕ) (e : Refusal) : Type 0 where
   pub none : (e.kind ≡ OutOfMemory → ⊥) → (z : List ℕ) → EndAt k n m c z → ⊥
   pub moved : e.moved ≡ true
   pub too_deep : e.kind ≡ StackOverflow → IsDeepWithin k n m c
@@ -115,31 +115,31 @@ pub record RefusesSegments {A : Type 0} (k : Cutting A) (n : ℕ) (m : BERMode) 
   pub not_empty : c ≡ [] → ⊥
 
 -- what reading segments answers, by its case
-abbrev pub SegmentsAt : {A T : Type 0} → Cutting A → (List ℕ → T → A) → ℕ → BERMode → List ℕ → List ℕ →
+abbrev pub SegmentsAt : {A T : Type 0} → Segmentation A → (List ℕ → T → A) → ℕ → BERMode → List ℕ → List ℕ →
     Result ((T × Cuts) × Bor (List ℕ)) Refusal → List ℕ → Type 0
 SegmentsAt k value n m c out (Ok x) out' = TakesSegments k value n m c out x.0.0 x.0.1 x.1.now out'
 SegmentsAt k value n m c out (Err e) out' = RefusesSegments k n m c e
 
 -- a string stands at the front of s, its bytes were appended to out, and x is known of it besides
-pub record TakesString {A T : Type 0} (k : Cutting A) (value : List ℕ → T → A) (n : ℕ) (m : BERMode) (t : Tag) (s out : List ℕ) (x : T)
+pub record TakesString {A T : Type 0} (k : Segmentation A) (value : List ℕ → T → A) (n : ℕ) (m : BERMode) (t : Tag) (s out : List ℕ) (x : T)
     (r out' : List ℕ) : Type 0 where
   pub bytes : List ℕ
-  pub takes : Takes (IsCut k n m t) s (value bytes x) r
+  pub takes : Takes (IsSegmented k n m t) s (value bytes x) r
   pub added : out' ≡ out ++ bytes
 
 -- no string does
-abbrev pub RefusesString : {A : Type 0} → Cutting A → ℕ → BERMode → Tag → List ℕ → Refusal → Type 0
-RefusesString k n m t s e = Refuses (Stands (IsCut k n m t) s) (IsDeepCut k n m t s) (WantsMemory n t s) t s e
+abbrev pub RefusesString : {A : Type 0} → Segmentation A → ℕ → BERMode → Tag → List ℕ → Refusal → Type 0
+RefusesString k n m t s e = Refuses (Stands (IsSegmented k n m t) s) (IsDeepSegmented k n m t s) (WantsMemory n t s) t s e
 
 -- what reading a string answers, by its case; where it is unmoved, nothing was appended
-abbrev pub StringAt : {A T : Type 0} → Cutting A → (List ℕ → T → A) → ℕ → BERMode → Tag → List ℕ → List ℕ → Result (T × Bor (List ℕ)) Refusal →
+abbrev pub StringAt : {A T : Type 0} → Segmentation A → (List ℕ → T → A) → ℕ → BERMode → Tag → List ℕ → List ℕ → Result (T × Bor (List ℕ)) Refusal →
     List ℕ → Type 0
 StringAt k value n m t s out (Ok x) out' = TakesString k value n m t s out x.0 x.1.now out'
 StringAt k value n m t s out (Err e) out' = RefusesString k n m t s e × (e.moved ≡ false → out' ≡ out)
 
 -- the same, where the bytes make up a vector of their own
-abbrev pub WithVecAt : {A T : Type 0} → Cutting A → (List ℕ → T → A) → ℕ → BERMode → Tag → List ℕ → Result ((Vec ℕ Global × T) × Bor (List ℕ)) Refusal → Type 0
-WithVecAt k value n m t s r = SeenAt (IsCut k n m t) (λ v. value v.0.items v.1) (IsDeepCut k n m t s) (WantsMemory n t s) t s r
+abbrev pub WithVecAt : {A T : Type 0} → Segmentation A → (List ℕ → T → A) → ℕ → BERMode → Tag → List ℕ → Result ((Vec ℕ Global × T) × Bor (List ℕ)) Refusal → Type 0
+WithVecAt k value n m t s r = SeenAt (IsSegmented k n m t) (λ v. value v.0.items v.1) (IsDeepSegmented k n m t s) (WantsMemory n t s) t s r
 
 -- the octet string in a vector's bytes, and the rest, or a refusal
 abbrev pub OctetsAt : ℕ → BERMode → Tag → List ℕ → Result (Vec ℕ Global × Bor (List ℕ)) Refusal → Type 0

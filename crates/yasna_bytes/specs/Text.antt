@@ -10,7 +10,7 @@ use Rattle.yasna_base.specs.declared.mode.BERMode.{BERMode}
 use Rattle.yasna_base.specs.declared.tag.Tag.{Tag}
 use Rattle.yasna_bytes.specs.Contents.{WantsMemory}
 use Rattle.yasna_bytes.specs.Front.{SeenAt}
-use Rattle.yasna_bytes.specs.Refusal.{IsPlain}
+use Rattle.yasna_bytes.specs.Refusal.{BlamesBytes}
 use Rattle.yasna_bytes.specs.declared.bytes.header.Refusal.{Refusal}
 use Rattle.yasna_bytes.specs.declared.bytes.text.Class.{Class}
 use Rattle.yasna_bytes.specs.declared.bytes.text.Class.TheVariants.{Utf8, Numeric, Printable, Ia5, Visible, Bmp}
@@ -18,7 +18,7 @@ use Rattle.yasna_bytes.specs.declared.bytes.text.Class.TheVariants.{Utf8, Numeri
 -- octets are taken exactly where they say by W what the view of a value is
 abbrev pub Judges : {V A : Type 0} → (A → List ℕ → Type 0) → (V → A) → List ℕ → Result V ASN1ErrorKind → Type 0
 Judges W view o (Ok v) = W (view v) o
-Judges {V} {A} W view o (Err k) = ((k ≡ OutOfMemory) × (o ≡ [] → ⊥)) ⊎ (IsPlain k × ((v : A) → W v o → ⊥))
+Judges {V} {A} W view o (Err k) = ((k ≡ OutOfMemory) × (o ≡ [] → ⊥)) ⊎ (BlamesBytes k × ((v : A) → W v o → ⊥))
 
 -- a string whose octets say by K what the view of a value is, and the rest, or a refusal
 abbrev pub SaidAt : {V A : Type 0} → (BERMode → A → List ℕ → Type 0) → (V → A) → ℕ → BERMode → Tag → List ℕ → Result (V × Bor (List ℕ)) Refusal → Type 0

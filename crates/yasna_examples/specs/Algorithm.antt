@@ -6,21 +6,22 @@ use Rattle.yasna.specs.Words.{raw_of}
 use Rattle.yasna.specs.base.declared.models.tagged_der_value.TaggedDerValue.{TaggedDerValue}
 use Rattle.yasna.proofs.Laws.{along, apart_from_nothing, no_part, oid_coding, option_before, part_before, parts_contents, raw_coding, sequence}
 use Rattle.yasna_examples.specs.declared.public_key.AlgorithmIdentifier.{AlgorithmIdentifier}
+use Rattle.yasna.specs.Words.{Grammar, Members}
 
 -- an element of any type
-abbrev pub EncodesAny : BERMode → ℕ → TaggedDerValue → List ℕ → Type 0
+abbrev pub EncodesAny : Grammar TaggedDerValue
 EncodesAny m n v b = IsRaw n m (raw_of v) b
 
 -- the same of bytes alone
-abbrev pub AnyElement : BERMode → ℕ → List ℕ → Type 0
+abbrev pub AnyElement : Members
 AnyElement = Any (λ m n v b. IsRaw n m v b)
 
 -- a SEQUENCE of a name and, where they are there, parameters of any type
-abbrev pub EncodesAlgorithm : BERMode → ℕ → AlgorithmIdentifier → List ℕ → Type 0
+abbrev pub EncodesAlgorithm : Grammar AlgorithmIdentifier
 EncodesAlgorithm m n v b = Enclosed (PartOf EncodesOid (PartOf (OptionOf EncodesAny) NoParts)) sequence_tag m n (v.algorithm, (v.parameters, tt)) b
 
 -- what that asks of the bytes alone
-abbrev pub AnyAlgorithm : BERMode → ℕ → List ℕ → Type 0
+abbrev pub AnyAlgorithm : Members
 AnyAlgorithm = AnyEnclosed (AnyPart (Any EncodesOid) (AnyPart (AnyOption AnyElement) AnyNothing)) sequence_tag
 
 -- a bit string has as many bytes as its bits need

@@ -2,7 +2,7 @@
 
 ghost use Rattle.std.specs.Prelude.{◌≡◌, ◌<◌, ◌^◌, ◌||◌, false, pos, FitsSigned};
 ghost use Rattle.std.specs.Int.{w64};
-ghost use Rattle.yasna.specs.Words.{EncodesBoolean, boolean_form, leaf_nest, enclosed_form, enclosed_nest, Always, Any, Enclosed};
+ghost use Rattle.yasna.specs.Words.{EncodesBoolean, boolean_form, leaf_nest, enclosed_form, enclosed_nest, Always, Any, Enclosed, boolean_tag, integer_tag};
 ghost use Rattle.yasna.specs.Words.{AnyEnclosed, universal, EncodesSigned, EncodesUnsigned, integer_form, sequence_tag, PartOf};
 ghost use Rattle.yasna.specs.Words.{NoParts, AnyPart, AnyNothing, SamePart, SameNothing, part_form, part_nest, part_can};
 ghost use Rattle.yasna.specs.Words.{nothing_form, nothing_nest, Decodes, Step, Done, IsFresh, part_of};
@@ -48,7 +48,7 @@ impl BERDecodable for Sample {
 }
 
 impl DEREncodable for Sample {
-    ghost form = { λ m v. enclosed_form (part_form (λ m v. integer_form (universal 2) m (pos v)) (part_form (boolean_form (universal 1)) (part_form (integer_form (universal 2)) nothing_form))) sequence_tag m (v.count, (v.last, (v.shift, tt))) };
+    ghost form = { λ m v. enclosed_form (part_form (λ m v. integer_form integer_tag m (pos v)) (part_form (boolean_form boolean_tag) (part_form (integer_form integer_tag) nothing_form))) sequence_tag m (v.count, (v.last, (v.shift, tt))) };
 
     ghost nest = { λ m v. enclosed_nest (part_nest leaf_nest (part_nest leaf_nest (part_nest leaf_nest nothing_nest))) m (v.count, (v.last, (v.shift, tt))) };
 

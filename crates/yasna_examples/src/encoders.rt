@@ -2,7 +2,7 @@
 ghost use Rattle.std.specs.Prelude.{◌≡◌, ◌<◌, ◌^◌, pos, true, reverse, FitsSigned};
 ghost use Rattle.std.specs.Int.{w64};
 ghost use Rattle.std.specs.List.{AllByRecursion};
-ghost use Rattle.yasna.specs.Words.{leaf_nest, enclosed_form, enclosed_nest, Any, universal, EncodesSigned, integer_form};
+ghost use Rattle.yasna.specs.Words.{leaf_nest, enclosed_form, enclosed_nest, Any, universal, EncodesSigned, integer_form, integer_tag};
 ghost use Rattle.yasna.specs.Words.{option_form, option_nest, option_can, Each, sequence_tag, IsListOf, AnyListOf, elements_form};
 ghost use Rattle.yasna.specs.Words.{elements_nest};
 ghost use Rattle.yasna.proofs.Laws.{list_along, list_written, signed_coding, signed_written};
@@ -41,7 +41,7 @@ impl BERDecodable for Trail {
 }
 
 impl DEREncodable for Trail {
-    ghost form = { λ m v. enclosed_form (elements_form (integer_form (universal 2))) sequence_tag m (reverse v.steps.items) };
+    ghost form = { λ m v. enclosed_form (elements_form (integer_form integer_tag)) sequence_tag m (reverse v.steps.items) };
 
     ghost nest = { λ m v. enclosed_nest (elements_nest leaf_nest) m (reverse v.steps.items) };
 
@@ -69,7 +69,7 @@ pub struct Serial {
 }
 
 impl DEREncodable for Serial {
-    ghost form = { λ m v. option_form (λ m n. integer_form (universal 2) m (pos n)) m v.number };
+    ghost form = { λ m v. option_form (λ m n. integer_form integer_tag m (pos n)) m v.number };
 
     ghost nest = { λ m v. option_nest leaf_nest m v.number };
 

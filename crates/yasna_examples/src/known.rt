@@ -1,7 +1,7 @@
 //! Calls whose closures are known: what they answer follows from what the calls of `yasna` promise.
 ghost use Rattle.std.specs.Prelude.{◌≡◌, ℤ, Bool, List, true, false, IfOk, IfErr, MatchResult};
 ghost use Rattle.std.specs.Int.{w64};
-ghost use Rattle.yasna.specs.Words.{Der, OutOfMemory, kind_of, universal, Any, EncodesBoolean, Decodes, Step, Done, IsFresh};
+ghost use Rattle.yasna.specs.Words.{Der, OutOfMemory, kind_of, universal, Any, EncodesBoolean, Decodes, Step, Done, IsFresh, integer_tag};
 ghost use Rattle.yasna.specs.Words.{part_of, EncodesSigned, integer_form};
 ghost use Rattle.yasna_examples.specs.Pair.{EncodesPair, AnyPair};
 ghost use Rattle.yasna_examples.specs.Numbers.{EncodesNumbers, AnyNumbers};
@@ -13,7 +13,7 @@ use yasna::{ASN1Result, BERDecodable, construct_der, parse_ber, parse_der};
 ///
 /// Refuses bytes that are the form of no such number, and no others.
 pub fn parsed_integer(alloc: Global, buf: &[u8]) -> ASN1Result<i64>
-    ensures number { IfOk result (λ v. EncodesSigned w64 Der 101 v buf.now × (buf.now ≡ integer_form (universal 2) Der v)) }
+    ensures number { IfOk result (λ v. EncodesSigned w64 Der 101 v buf.now × (buf.now ≡ integer_form integer_tag Der v)) }
     ensures refused { IfErr result (λ e. ((v : ℤ) → EncodesSigned w64 Der 101 v buf.now → ⊥) × (kind_of e ≡ OutOfMemory → ⊥)) }
 {
     parse_der(alloc, buf, |reader| reader.read_i64())
@@ -21,7 +21,7 @@ pub fn parsed_integer(alloc: Global, buf: &[u8]) -> ASN1Result<i64>
 
 /// The DER form of a number as an INTEGER, or `OutOfMemory`.
 pub fn constructed_integer(alloc: Global, number: i64) -> ASN1Result<Vec<u8>>
-    ensures form { IfOk result (λ bytes. bytes.items ≡ integer_form (universal 2) Der number) }
+    ensures form { IfOk result (λ bytes. bytes.items ≡ integer_form integer_tag Der number) }
     ensures memory { IfErr result (λ e. kind_of e ≡ OutOfMemory) }
 {
     construct_der(alloc, |writer| writer.write_i64(number))

@@ -4,7 +4,7 @@
 //! are written so: where lengths within them are indefinite, DER doesn't read what is written. And BER takes any bits
 //! where a BIT STRING has unused ones, while zeros are written there.
 ghost use Rattle.std.specs.Prelude.{◌≡◌, ◌↔◌, true, false, ◌||◌, ◌⊎◌, IfOk, IfErr, IsTrue};
-ghost use Rattle.yasna.specs.Words.{Invalid, OutOfMemory, Der, IsBits, IsDeepBits, bits_form, bits_nest, leaf_nest, enclosed_form};
+ghost use Rattle.yasna.specs.Words.{Invalid, OutOfMemory, Der, IsBits, IsDeepBits, bits_form, bits_nest, leaf_nest, enclosed_form, bits_tag, oid_tag};
 ghost use Rattle.yasna.specs.Words.{enclosed_nest, Always, Any, Enclosed, AnyEnclosed, kind_of, universal, EncodesOid};
 ghost use Rattle.yasna.specs.Words.{IsEncodableOid, oid_form, option_form, option_nest, option_can, IsRaw, raw_form, sequence_tag};
 ghost use Rattle.yasna.specs.Words.{PartOf, NoParts, AnyPart, AnyNothing, SamePart, SameNothing, part_form, part_nest, part_can};
@@ -58,7 +58,7 @@ impl BERDecodable for AlgorithmIdentifier {
 
 // Of parameters the outermost level is counted alone: they aren't looked into.
 impl DEREncodable for AlgorithmIdentifier {
-    ghost form = { λ m v. enclosed_form (part_form (oid_form (universal 6)) (part_form (option_form (λ m v. raw_form (raw_of v).tag m (raw_of v))) nothing_form)) sequence_tag m (v.algorithm, (v.parameters, tt)) };
+    ghost form = { λ m v. enclosed_form (part_form (oid_form oid_tag) (part_form (option_form (λ m v. raw_form (raw_of v).tag m (raw_of v))) nothing_form)) sequence_tag m (v.algorithm, (v.parameters, tt)) };
 
     ghost nest = { λ m v. enclosed_nest (part_nest leaf_nest (part_nest (option_nest leaf_nest) nothing_nest)) m (v.algorithm, (v.parameters, tt)) };
 
@@ -86,9 +86,9 @@ pub struct SubjectPublicKeyInfo {
 }
 
 impl BERDecodable for SubjectPublicKeyInfo {
-    ghost encodes = { λ m n v b. Enclosed (PartOf EncodesAlgorithm (PartOf (λ m n v b. IsBits n m (universal 3) (bits_in v) b) NoParts)) sequence_tag m n (v.algorithm, ((v.key, v.bits), tt)) b };
+    ghost encodes = { λ m n v b. Enclosed (PartOf EncodesAlgorithm (PartOf (λ m n v b. IsBits n m bits_tag (bits_in v) b) NoParts)) sequence_tag m n (v.algorithm, ((v.key, v.bits), tt)) b };
 
-    ghost elements = { AnyEnclosed (AnyPart AnyAlgorithm (AnyPart (Any (λ m n v b. IsBits n m (universal 3) v b)) AnyNothing)) sequence_tag };
+    ghost elements = { AnyEnclosed (AnyPart AnyAlgorithm (AnyPart (Any (λ m n v b. IsBits n m bits_tag v b)) AnyNothing)) sequence_tag };
 
     ghost asks_memory = { (true || (true || false)) };
 
@@ -98,7 +98,7 @@ impl BERDecodable for SubjectPublicKeyInfo {
         reader.read_sequence(
             |seq| -> ASN1Result<SubjectPublicKeyInfo>
                 requires { IsFresh (part_of seq.old) }
-                ensures { Step (Decodes true EncodesAlgorithm AnyAlgorithm) (λ algorithm. Step (ReadsSeen IsBits bits_in IsDeepBits WantsMemory (universal 3)) (λ bits. Done (record { algorithm = algorithm; key = bits.0; bits = bits.1 }))) (part_of seq.old) result (part_of seq.new) }
+                ensures { Step (Decodes true EncodesAlgorithm AnyAlgorithm) (λ algorithm. Step (ReadsSeen IsBits bits_in IsDeepBits WantsMemory bits_tag) (λ bits. Done (record { algorithm = algorithm; key = bits.0; bits = bits.1 }))) (part_of seq.old) result (part_of seq.new) }
             {
                 let algorithm = AlgorithmIdentifier::decode_ber(seq.next())?;
                 let (key, bits) = seq.next().read_bitvec_bytes()?;
@@ -116,7 +116,7 @@ impl BERDecodable for SubjectPublicKeyInfo {
 
 // What can be written has as many bytes as its bits need.
 impl DEREncodable for SubjectPublicKeyInfo {
-    ghost form = { λ m v. enclosed_form (part_form ⟦<AlgorithmIdentifier as DEREncodable>⟧.form (part_form (λ m v. bits_form (universal 3) m (bits_in v)) nothing_form)) sequence_tag m (v.algorithm, ((v.key, v.bits), tt)) };
+    ghost form = { λ m v. enclosed_form (part_form ⟦<AlgorithmIdentifier as DEREncodable>⟧.form (part_form (λ m v. bits_form bits_tag m (bits_in v)) nothing_form)) sequence_tag m (v.algorithm, ((v.key, v.bits), tt)) };
 
     ghost nest = { λ m v. enclosed_nest (part_nest ⟦<AlgorithmIdentifier as DEREncodable>⟧.nest (part_nest (λ m x. bits_nest m (bits_in x)) nothing_nest)) m (v.algorithm, ((v.key, v.bits), tt)) };
 

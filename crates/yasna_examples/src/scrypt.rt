@@ -1,6 +1,6 @@
 //! The parameters of scrypt (RFC 7914, 7.1), of which the last may be left out.
 ghost use Rattle.std.specs.Prelude.{◌≡◌, ◌<◌, ◌^◌, pos, true, false, ◌||◌};
-ghost use Rattle.yasna.specs.Words.{leaf_nest, enclosed_form, enclosed_nest, Always, Any, IsBytes, Enclosed, AnyEnclosed};
+ghost use Rattle.yasna.specs.Words.{leaf_nest, enclosed_form, enclosed_nest, Always, Any, IsBytes, Enclosed, AnyEnclosed, integer_tag};
 ghost use Rattle.yasna.specs.Words.{universal, EncodesUnsigned, integer_form, EncodesOctets, EncodesVec, octets_tag, octets_form};
 ghost use Rattle.yasna.specs.Words.{octets_nest, OptionOf, AnyOption, SameOption, option_form, option_nest, option_can};
 ghost use Rattle.yasna.specs.Words.{sequence_tag, PartOf, NoParts, AnyPart, AnyNothing, SamePart, SameNothing, part_form};
@@ -59,7 +59,7 @@ impl BERDecodable for ScryptParameters {
 }
 
 impl DEREncodable for ScryptParameters {
-    ghost form = { λ m v. enclosed_form (part_form (λ m s. octets_form octets_tag m s.items) (part_form (λ m n. integer_form (universal 2) m (pos n)) (part_form (λ m n. integer_form (universal 2) m (pos n)) (part_form (λ m n. integer_form (universal 2) m (pos n)) (part_form (option_form (λ m n. integer_form (universal 2) m (pos n))) nothing_form))))) sequence_tag m (v.salt, (v.cost, (v.block_size, (v.parallelization, (v.key_length, tt))))) };
+    ghost form = { λ m v. enclosed_form (part_form (λ m s. octets_form octets_tag m s.items) (part_form (λ m n. integer_form integer_tag m (pos n)) (part_form (λ m n. integer_form integer_tag m (pos n)) (part_form (λ m n. integer_form integer_tag m (pos n)) (part_form (option_form (λ m n. integer_form integer_tag m (pos n))) nothing_form))))) sequence_tag m (v.salt, (v.cost, (v.block_size, (v.parallelization, (v.key_length, tt))))) };
 
     ghost nest = { λ m v. enclosed_nest (part_nest (λ m s. octets_nest m s.items) (part_nest leaf_nest (part_nest leaf_nest (part_nest leaf_nest (part_nest (option_nest leaf_nest) nothing_nest))))) m (v.salt, (v.cost, (v.block_size, (v.parallelization, (v.key_length, tt))))) };
 

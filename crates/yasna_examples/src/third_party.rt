@@ -1,7 +1,7 @@
 //! Types of a crate of its own that are read step by step, with typed reads and with memory.
 ghost use Rattle.std.specs.Prelude.{IfOk, IfErr, ◌≡◌, ◌<◌, ◌^◌, true, false, ◌||◌, pos, FitsSigned};
 ghost use Rattle.std.specs.Int.{w64};
-ghost use Rattle.yasna.specs.Words.{universal, OutOfMemory, Ber, Der, kind_of, Any, IsBytes, EncodesOctets, EncodesVec};
+ghost use Rattle.yasna.specs.Words.{universal, OutOfMemory, Ber, Der, kind_of, Any, IsBytes, EncodesOctets, EncodesVec, boolean_tag, integer_tag, utf8_tag};
 ghost use Rattle.yasna.specs.Words.{octets_tag, octets_form, octets_nest, EncodesText, EncodesString, characters, utf8_form};
 ghost use Rattle.yasna.specs.Words.{utf8_nest, sequence_tag, PartOf, NoParts, AnyPart, AnyNothing, SamePart, SameNothing};
 ghost use Rattle.yasna.specs.Words.{Enclosed, AnyEnclosed, Primitively, EncodesBoolean, IsUnsigned, EncodesSigned};
@@ -37,7 +37,7 @@ impl BERDecodable for Version {
         reader.read_sequence(
             |seq| -> ASN1Result<Version>
                 requires { IsFresh (part_of seq.old) }
-                ensures { Step (Reads (Primitively (IsUnsigned 16)) NoLevel Never (universal 2)) (λ major. Step (Decodes false EncodesBoolean (Any EncodesBoolean)) (λ flag. Done (record { major = major; flag = flag }))) (part_of seq.old) result (part_of seq.new) }
+                ensures { Step (Reads (Primitively (IsUnsigned 16)) NoLevel Never integer_tag) (λ major. Step (Decodes false EncodesBoolean (Any EncodesBoolean)) (λ flag. Done (record { major = major; flag = flag }))) (part_of seq.old) result (part_of seq.new) }
             {
                 let major = seq.next().read_u16()?;
                 let flag = bool::decode_ber(seq.next())?;
@@ -50,7 +50,7 @@ impl BERDecodable for Version {
 }
 
 impl DEREncodable for Version {
-    ghost form = { λ m v. enclosed_form (part_form (λ m v. integer_form (universal 2) m (pos v)) (part_form (boolean_form (universal 1)) nothing_form)) sequence_tag m (v.major, (v.flag, tt)) };
+    ghost form = { λ m v. enclosed_form (part_form (λ m v. integer_form integer_tag m (pos v)) (part_form (boolean_form boolean_tag) nothing_form)) sequence_tag m (v.major, (v.flag, tt)) };
 
     ghost nest = { λ m v. enclosed_nest (part_nest leaf_nest (part_nest leaf_nest nothing_nest)) m (v.major, (v.flag, tt)) };
 
@@ -104,7 +104,7 @@ impl BERDecodable for Report {
 }
 
 impl DEREncodable for Report {
-    ghost form = { λ m v. enclosed_form (part_form (λ m s. utf8_form (universal 12) m (characters s)) (part_form (λ m r. octets_form octets_tag m r.items) (part_form (integer_form (universal 2)) nothing_form))) sequence_tag m (v.name, (v.raw, (v.number, tt))) };
+    ghost form = { λ m v. enclosed_form (part_form (λ m s. utf8_form utf8_tag m (characters s)) (part_form (λ m r. octets_form octets_tag m r.items) (part_form (integer_form integer_tag) nothing_form))) sequence_tag m (v.name, (v.raw, (v.number, tt))) };
 
     ghost nest = { λ m v. enclosed_nest (part_nest (λ m s. utf8_nest m (characters s)) (part_nest (λ m r. octets_nest m r.items) (part_nest leaf_nest nothing_nest))) m (v.name, (v.raw, (v.number, tt))) };
 

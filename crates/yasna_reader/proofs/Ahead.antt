@@ -5,6 +5,7 @@ use Rattle.yasna_base.specs.declared.error.ASN1Error.{ASN1Error}
 use Rattle.yasna_base.specs.declared.mode.BERMode.{BERMode}
 use Rattle.yasna_base.specs.declared.tag.Tag.{Tag}
 use Rattle.yasna_base.specs.Coding.{IsCoding}
+use Rattle.yasna_base.specs.Grammar.{Grammar, Members}
 use Rattle.yasna_base.specs.Identifier.{BeginsWithTag}
 use Rattle.yasna_base.proofs.Identifier.{begins_once, begins_with}
 use Rattle.yasna_reader.specs.Decodes.{KeptTells, Decodes}
@@ -17,7 +18,7 @@ pub looked : (s : Reading) (r x : Result Tag ASN1Error) → LooksAhead s.kept s.
 looked s r x h e f = subst (λ z. FindsTag s.left z) f (subst (λ z. LooksAhead z s.left r) e h)
 
 -- where no tag was found nothing stands that keeps the laws
-pub found_none : {A : Type 0} {E : A → A → Type 0} {B : BERMode → ℕ → A → List ℕ → Type 0} {S : BERMode → ℕ → List ℕ → Type 0} (asks : Bool) →
+pub found_none : {A : Type 0} {E : A → A → Type 0} {B : Grammar A} {S : Members} (asks : Bool) →
     IsCoding E B S → (s : Reading) → IsFresh s → (e : ASN1Error) → FindsTag s.left (Err e) → Decodes asks B S s (Err e) s
 found_none {S} asks laws s fresh e h = (
   record {

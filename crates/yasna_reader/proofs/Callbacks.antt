@@ -9,7 +9,7 @@ use Rattle.yasna_reader.specs.declared.callback.Outcome.{Outcome}
 use Rattle.yasna_reader.specs.declared.callback.Outcome.TheVariants.{Gave, Quiet, Failed}
 use Rattle.yasna_reader.specs.Callback.{ComesTo, Hands, Lent, at_cursor}
 use Rattle.yasna_reader.specs.Sequence.{place_in}
-use Rattle.yasna_reader.specs.State.{Reading}
+use Rattle.yasna_reader.specs.State.{Reading, Does}
 
 tagged_at : {A : Type 0} (c : Cursor) (t : Option Tag) (k : Option ASN1Error) (x : Result A ASN1Error) (m : Reading) (o : Outcome A) (s' : Reading) →
     ComesTo (at_cursor c) x m o s' → ComesTo (record (at_cursor c) { tag = t; kept = k }) x m o s'
@@ -55,18 +55,18 @@ quiet_leaves s t x m e s' k h =
     ∙ ap {A = Option ASN1Error} {B = Reading} (λ u. record s { kept = u }) (sym k)
 
 -- so where the tag waits again that waited, the reading is as it was
-pub waits_again : {A : Type 0} (P : Reading → Result A ASN1Error → Reading → Type 0) (s : Reading) (t : Option Tag) (e : ASN1Error) (z s' : Reading) →
+pub waits_again : {A : Type 0} (P : Does A) (s : Reading) (t : Option Tag) (e : ASN1Error) (z s' : Reading) →
     s.kept ≡ None → Hands P (record s { tag = t }) (Quiet e) z → s' ≡ record z { tag = s.tag } → Lent P (record s { tag = t }) s (Quiet e) s'
 waits_again P s t e z s' k h f = record { between = z; hands = h; state = f ∙ quiet_leaves s t h.own h.left e z k h.comes }
 
-behind : {A : Type 0} (P : Reading → Result A ASN1Error → Reading → Type 0) (z s : Reading) (o : Outcome A) (b s' : Reading) → z.left ≡ s.left →
+behind : {A : Type 0} (P : Does A) (z s : Reading) (o : Outcome A) (b s' : Reading) → z.left ≡ s.left →
     Hands P z o b → s' ≡ b → (taken : List ℕ) × (s.left ≡ taken ++ s'.left)
 behind P z s o b s' e h f =
     let t = taken_behind z h.own h.left o b h.comes in
     (t.0, sym e ∙ t.1 ∙ ap (λ (x : Reading). t.0 ++ x.left) (sym f))
 
 -- what is left of a reading that was lent stands behind what was taken
-pub lent_behind : {A : Type 0} (P : Reading → Result A ASN1Error → Reading → Type 0) (z s : Reading) (o : Outcome A) (s' : Reading) → z.left ≡ s.left →
+pub lent_behind : {A : Type 0} (P : Does A) (z s : Reading) (o : Outcome A) (s' : Reading) → z.left ≡ s.left →
     Lent P z s o s' → (taken : List ℕ) × (s.left ≡ taken ++ s'.left)
 lent_behind P z s (Gave v) s' e h = behind P z s (Gave v) h.between s' e h.hands h.state
 lent_behind P z s (Quiet d) s' e h = ([], ap (λ (x : Reading). x.left) (sym h.state))

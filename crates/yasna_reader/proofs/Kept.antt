@@ -4,14 +4,15 @@ use Rattle.std.specs.Prelude.{Result}
 use Rattle.yasna_base.specs.declared.error.ASN1Error.{ASN1Error}
 use Rattle.yasna_base.specs.declared.mode.BERMode.{BERMode}
 use Rattle.yasna_base.specs.declared.tag.Tag.{Tag}
+use Rattle.yasna_base.specs.Grammar.{TaggedGrammar, TaggedMembers}
 use Rattle.yasna_reader.specs.Decodes.{RepeatsKept}
 use Rattle.yasna_reader.specs.Primitive.{ReadsSeen, ReadsUnlessKept}
 use Rattle.yasna_reader.specs.Raw.{ReadsRaw, ReadsRawUnlessKept}
 use Rattle.yasna_reader.specs.Sequence.{ReadsParts, EntersUnlessKept}
-use Rattle.yasna_reader.specs.State.{Reading, tag_of}
+use Rattle.yasna_reader.specs.State.{Reading, tag_of, Does}
 
 -- of a primitive type, a string or a time
-pub seen_repeats_kept : {V A : Type 0} {B : ℕ → BERMode → Tag → A → List ℕ → Type 0} {view : V → A} {D : ℕ → BERMode → Tag → List ℕ → Type 0}
+pub seen_repeats_kept : {V A : Type 0} {B : TaggedGrammar A} {view : V → A} {D : TaggedMembers}
     {M : ℕ → Tag → List ℕ → Type 0} {tag : Tag} {s : Reading} {r : Result V ASN1Error} {s' : Reading} → ReadsSeen B view D M tag s r s' → RepeatsKept s r s'
 seen_repeats_kept {B} {view} {D} {M} {tag} {s} {r} {s'} h e k =
     subst (λ o. ReadsUnlessKept o (B s.levels s.mode (tag_of s tag)) view (D s.levels s.mode (tag_of s tag) s.left) (M s.levels (tag_of s tag) s.left)
@@ -23,6 +24,6 @@ pub raw_repeats_kept : {V A : Type 0} {B : ℕ → BERMode → A → List ℕ �
 raw_repeats_kept {B} {view} {s} {r} {s'} h e k = subst (λ o. ReadsRawUnlessKept o B view s r s') k h.reads
 
 -- of an element with parts
-pub parts_repeat_kept : {A : Type 0} {P : Reading → Result A ASN1Error → Reading → Type 0} {tag : Tag} {s : Reading} {r : Result A ASN1Error} {s' : Reading} →
+pub parts_repeat_kept : {A : Type 0} {P : Does A} {tag : Tag} {s : Reading} {r : Result A ASN1Error} {s' : Reading} →
     ReadsParts P tag s r s' → RepeatsKept s r s'
 parts_repeat_kept {P} {tag} {s} {r} {s'} h e k = subst (λ o. EntersUnlessKept o P (tag_of s tag) s r s') k h.enters

@@ -10,6 +10,7 @@ use Rattle.yasna_base.specs.declared.tag.Tag.{Tag}
 use Rattle.yasna_base.specs.Coding.{IsCoding}
 use Rattle.yasna_base.specs.Element.{Enclosed}
 use Rattle.yasna_base.specs.Error.{kind_of}
+use Rattle.yasna_base.specs.Grammar.{Grammar, Members}
 use Rattle.yasna_base.specs.Identifier.{end_tag, AtEnd}
 use Rattle.yasna_base.specs.Pieces.{Each, Pieces}
 use Rattle.yasna_base.specs.SequenceOf.{ElementsOf, AnyElements, IsListOf, AnyListOf}
@@ -20,7 +21,7 @@ use Rattle.yasna_reader.specs.declared.callback.Outcome.TheVariants.{Gave, Quiet
 use Rattle.yasna_reader.specs.Callback.{Fault, kept, before, own}
 use Rattle.yasna_reader.specs.Decodes.{Tells, KeptTells, Took, Decodes, TookContents, NotContents, DecodesContents}
 use Rattle.yasna_reader.specs.Parse.{unless_kept}
-use Rattle.yasna_bytes.specs.Refusal.{IsPlain}
+use Rattle.yasna_bytes.specs.Refusal.{BlamesBytes}
 use Rattle.yasna_reader.specs.Sequence.{place_in, ReadsParts}
 use Rattle.yasna_reader.specs.SequenceOf.{Idles, Turn, Turns, EndsList, Lists, Collects, items_of}
 use Rattle.yasna_reader.specs.State.{Reading, IsFresh}
@@ -34,7 +35,7 @@ pub place_unmoved : (c y : List ℕ) → length y ≡ length c → place_in c y 
 place_unmoved c y e = let n : length c - length y ≡ 0 = omega (arith, e) in ap (λ n. drop n c) n
 
 -- a vector's contents are those of its items
-seen_contents : {A : Type 0} (C : BERMode → ℕ → List A → List ℕ → Type 0) (S : BERMode → ℕ → List ℕ → Type 0) (s s' : Reading) (k : Option ASN1Error)
+seen_contents : {A : Type 0} (C : Grammar (List A)) (S : Members) (s s' : Reading) (k : Option ASN1Error)
     (r : Result (Vec A Global) ASN1Error) → DecodesContents true C S s (unless_kept k (items_of r)) s' →
     DecodesContents {A = Vec A Global} true (λ m n v c. C m n v.items c) S s (unless_kept k r) s'
 seen_contents C S s s' (Some e) r h = h
@@ -44,7 +45,7 @@ seen_contents C S s s' None (Ok v) h = record {
 }
 seen_contents C S s s' None (Err e) h = h
 
-module _ {F A : Type 0} {E : A → A → Type 0} {B : BERMode → ℕ → A → List ℕ → Type 0} {S : BERMode → ℕ → List ℕ → Type 0} (laws : IsCoding E B S) (asks : Bool)
+module _ {F A : Type 0} {E : A → A → Type 0} {B : Grammar A} {S : Members} (laws : IsCoding E B S) (asks : Bool)
     (C : F → Reading → Result A ASN1Error → F → Reading → Type 0)
     (says : (f : F) (s : Reading) (r : Result A ASN1Error) (f' : F) (s' : Reading) → IsFresh s → C f s r f' s' → Decodes asks B S s r s') where
   -- a callback that gave a value took an element that stands for it
@@ -120,7 +121,7 @@ module _ {F A : Type 0} {E : A → A → Type 0} {B : BERMode → ℕ → A → 
   fault_tells s e fresh (Err y) m d (own k b q w) =
       let g : y ≡ e = cc in (
         subst (Tells asks (S s.mode s.levels) s.left) g d.0.tells,
-        λ a. w (ap (λ (z : Reading). length z.left) (d.1 a).0) (subst (λ z. IsPlain (kind_of z)) g (d.1 a).1),
+        λ a. w (ap (λ (z : Reading). length z.left) (d.1 a).0) (subst (λ z. BlamesBytes (kind_of z)) g (d.1 a).1),
       )
 
   -- a callback that decodes takes something where it gives a value

@@ -9,6 +9,7 @@ use Rattle.yasna_base.specs.declared.tag.Tag.{Tag}
 use Rattle.yasna_base.specs.Coding.{IsCoding}
 use Rattle.yasna_base.specs.Element.{Enclosed, AnyEnclosed}
 use Rattle.yasna_base.specs.Error.{kind_of}
+use Rattle.yasna_base.specs.Grammar.{Grammar, Members}
 use Rattle.yasna_base.specs.Identifier.{AtEnd, end_tag}
 use Rattle.yasna_base.specs.Optional.{OptionOf, AnyOption}
 use Rattle.yasna_base.specs.Sequence.{PartOf, NoParts, AnyPart, AnyNothing}
@@ -20,9 +21,9 @@ use Rattle.yasna_reader.specs.Callback.{Fault, kept, before, own, Hands, UnlessK
 use Rattle.yasna_reader.specs.Decodes.{Tells, KeptTells, Took, NotTook, Decodes, TookContents, NotContents, DecodesContents, AndIn, Step, Done, Made}
 use Rattle.yasna_reader.specs.Optional.{ReadsOptional, optional}
 use Rattle.yasna_reader.specs.Parse.{unless_kept}
-use Rattle.yasna_bytes.specs.Refusal.{IsPlain}
+use Rattle.yasna_bytes.specs.Refusal.{BlamesBytes}
 use Rattle.yasna_reader.specs.Sequence.{ReadsParts, place_in}
-use Rattle.yasna_reader.specs.State.{Reading, IsFresh, untagged}
+use Rattle.yasna_reader.specs.State.{Reading, IsFresh, untagged, Does}
 use Rattle.yasna_reader.proofs.Listing.{place_unmoved}
 use Rattle.yasna_bytes.proofs.Refusal.{plain_not_memory}
 use Rattle.yasna_reader.proofs.Sequences.{element, place_behind, replaced}
@@ -44,26 +45,22 @@ pub record TookFirst {A : Type 0} (B : A → List ℕ → Type 0) (S Q : List �
   pub once : (front rest x : List ℕ) → s.left ≡ front ++ (rest ++ x) → AtEnd x → S front → Q rest → took.front ≡ front
 
 -- what reading the first part of contents does, behind which stands what Q says
-abbrev pub DecodesFirst : {A : Type 0} → Bool → (BERMode → ℕ → A → List ℕ → Type 0) → (BERMode → ℕ → List ℕ → Type 0) → (BERMode → ℕ → List ℕ → Type 0) →
-    Reading → Result A ASN1Error → Reading → Type 0
+abbrev pub DecodesFirst : {A : Type 0} → Bool → Grammar A → Members → Members → Does A
 DecodesFirst asks B S Q s (Ok v) s' = TookFirst (B s.mode s.levels) (S s.mode s.levels) (Q s.mode s.levels) s v s'
 DecodesFirst asks B S Q s (Err e) s' = NotContents asks (AnyPart S Q s.mode s.levels) s (first_failure s'.kept e)
 
 -- each run of N on a fresh reading decodes a first part
-pub record IsFirstDecoder {A : Type 0} (asks : Bool) (B : BERMode → ℕ → A → List ℕ → Type 0) (S Q : BERMode → ℕ → List ℕ → Type 0)
-    (N : Reading → Result A ASN1Error → Reading → Type 0) : Type 0 where
+pub record IsFirstDecoder {A : Type 0} (asks : Bool) (B : Grammar A) (S Q : Members) (N : Does A) : Type 0 where
   pub decodes : (s : Reading) (r : Result A ASN1Error) (s' : Reading) → IsFresh s → N s r s' → DecodesFirst asks B S Q s r s'
 
 -- each run of P on a fresh reading decodes contents that make a value
-pub record IsContentsDecoder {U A : Type 0} (asks : Bool) (C : BERMode → ℕ → A → List ℕ → Type 0) (S : BERMode → ℕ → List ℕ → Type 0) (make : A → U)
-    (P : Reading → Result U ASN1Error → Reading → Type 0) : Type 0 where
+pub record IsContentsDecoder {U A : Type 0} (asks : Bool) (C : Grammar A) (S : Members) (make : A → U) (P : Does U) : Type 0 where
   pub decodes : (s : Reading) (r : Result U ASN1Error) (s' : Reading) → IsFresh s → P s r s' →
       DecodesContents asks (Made C make) S s (unless_kept s'.kept r) s'
 
 -- contents of a first part and others
 
-module _ {A V U : Type 0} (B : BERMode → ℕ → A → List ℕ → Type 0) (S : BERMode → ℕ → List ℕ → Type 0) (p q : Bool)
-    (C : BERMode → ℕ → V → List ℕ → Type 0) (Q : BERMode → ℕ → List ℕ → Type 0) (make : A × V → U) where
+module _ {A V U : Type 0} (B : Grammar A) (S : Members) (p q : Bool) (C : Grammar V) (Q : Members) (make : A × V → U) where
   in_first : (s d x front rest : List ℕ) → s ≡ d ++ x → d ≡ front ++ rest → s ≡ front ++ (rest ++ x)
   in_first s d x front rest e f = e ∙ ap (λ z. z ++ x) f ∙ append_assoc front rest x
 
@@ -103,7 +100,7 @@ module _ {A V U : Type 0} (B : BERMode → ℕ → A → List ℕ → Type 0) (S
         memory = λ o. or_right p q (k.memory o);
       }
 
-  first_then : (K : A → Reading → Result U ASN1Error → Reading → Type 0) (s : Reading) → IsFresh s → (x : Result A ASN1Error) (m : Reading) →
+  first_then : (K : A → Does U) (s : Reading) → IsFresh s → (x : Result A ASN1Error) (m : Reading) →
       DecodesFirst p B S Q s x m → (r : Result U ASN1Error) (s' : Reading) →
       ((v : A) → IsFresh m → K v m r s' → DecodesContents q (Made C (λ w. make (v, w))) Q m (unless_kept s'.kept r) s') → AndIn K x m r s' →
       DecodesContents (p || q) (Made (PartOf B C) make) (AnyPart S Q) s (unless_kept s'.kept r) s'
@@ -117,9 +114,8 @@ module _ {A V U : Type 0} (B : BERMode → ℕ → A → List ℕ → Type 0) (S
       replaced D k.0 k.1 (subst (λ y. DecodesContents (p || q) (Made (PartOf B C) make) (AnyPart S Q) s y m) (sym (answered m.kept e)) N)
 
 -- a part, and where it stood or was left out, others
-pub then_by : {A V U : Type 0} {B : BERMode → ℕ → A → List ℕ → Type 0} {S : BERMode → ℕ → List ℕ → Type 0}
-    {N : Reading → Result A ASN1Error → Reading → Type 0} {p q : Bool} {C : BERMode → ℕ → V → List ℕ → Type 0} {Q : BERMode → ℕ → List ℕ → Type 0}
-    {make : A × V → U} {K : A → Reading → Result U ASN1Error → Reading → Type 0} → IsFirstDecoder p B S Q N →
+pub then_by : {A V U : Type 0} {B : Grammar A} {S : Members} {N : Does A} {p q : Bool} {C : Grammar V} {Q : Members}
+    {make : A × V → U} {K : A → Does U} → IsFirstDecoder p B S Q N →
     ((v : A) → IsContentsDecoder q C Q (λ w. make (v, w)) (K v)) → IsContentsDecoder (p || q) (PartOf B C) (AnyPart S Q) make (Step N K)
 then_by {B} {S} {p} {q} {C} {Q} {make} {K} first more = record {
   decodes = λ s r s' fresh h. first_then B S p q C Q make K s fresh h.0 h.1 (first.decodes s h.0 h.1 fresh h.2) r s'
@@ -140,8 +136,7 @@ end_by {make} = record {
 }
 
 -- a part that isn't left out
-module _ {A : Type 0} {E : A → A → Type 0} {B : BERMode → ℕ → A → List ℕ → Type 0} {S : BERMode → ℕ → List ℕ → Type 0} (laws : IsCoding E B S)
-    (asks : Bool) (Q : BERMode → ℕ → List ℕ → Type 0) where
+module _ {A : Type 0} {E : A → A → Type 0} {B : Grammar A} {S : Members} (laws : IsCoding E B S) (asks : Bool) (Q : Members) where
   no_first : (s : Reading) (e : ASN1Error) → Tells asks (S s.mode s.levels) s.left e → NotContents asks (AnyPart S Q s.mode s.levels) s e
   no_first s e t = record {
     none = λ o d x f i j. t.none o j.front (j.rest ++ x) (f ∙ ap (λ z. z ++ x) j.joined ∙ append_assoc j.front j.rest x) j.here;
@@ -162,8 +157,8 @@ module _ {A : Type 0} {E : A → A → Type 0} {B : BERMode → ℕ → A → Li
   first_part s (Err e) s' h = no_first_kept s s'.kept e h.0.tells h.0.kept
 
 -- a part that isn't left out is read as P says
-pub part_by : {A : Type 0} {E : A → A → Type 0} {asks : Bool} {B : BERMode → ℕ → A → List ℕ → Type 0} {S Q : BERMode → ℕ → List ℕ → Type 0}
-    {N : Reading → Result A ASN1Error → Reading → Type 0} → IsCoding E B S → IsDecoder asks B S N → IsFirstDecoder asks B S Q N
+pub part_by : {A : Type 0} {E : A → A → Type 0} {asks : Bool} {B : Grammar A} {S Q : Members}
+    {N : Does A} → IsCoding E B S → IsDecoder asks B S N → IsFirstDecoder asks B S Q N
 part_by {asks} {Q} laws decoder = record { decodes = λ s r s' fresh h. first_part laws asks Q s r s' (decoder.decodes s r s' fresh h) }
 
 -- contents in Q are all of s up to an end
@@ -175,12 +170,11 @@ pub record EndsWith (Q : List ℕ → Type 0) (s : List ℕ) : Type 0 where
   pub member : Q contents
 
 -- where contents in Q stand, a run of N that answers an Err is quiet
-pub record IsQuietBefore {A : Type 0} (N : Reading → Result A ASN1Error → Reading → Type 0) (Q : BERMode → ℕ → List ℕ → Type 0) : Type 0 where
-  pub quiet : (s : Reading) (e : ASN1Error) (s' : Reading) → IsFresh s → N s (Err e) s' → EndsWith (Q s.mode s.levels) s.left → (s' ≡ s) × IsPlain (kind_of e)
+pub record IsQuietBefore {A : Type 0} (N : Does A) (Q : Members) : Type 0 where
+  pub quiet : (s : Reading) (e : ASN1Error) (s' : Reading) → IsFresh s → N s (Err e) s' → EndsWith (Q s.mode s.levels) s.left → (s' ≡ s) × BlamesBytes (kind_of e)
 
 -- so where nothing follows, for whatever decodes
-pub quiet_at_end : {A : Type 0} {asks : Bool} {B : BERMode → ℕ → A → List ℕ → Type 0} {S : BERMode → ℕ → List ℕ → Type 0}
-    {N : Reading → Result A ASN1Error → Reading → Type 0} → IsDecoder asks B S N → IsQuietBefore N AnyNothing
+pub quiet_at_end : {A : Type 0} {asks : Bool} {B : Grammar A} {S : Members} {N : Does A} → IsDecoder asks B S N → IsQuietBefore N AnyNothing
 quiet_at_end decoder = record {
   quiet = λ s e s' fresh h x.
       (decoder.decodes s (Err e) s' fresh h).1 (subst AtEnd (sym (x.joined ∙ ap (λ z. z ++ x.rest) x.member)) x.ends);
@@ -190,8 +184,8 @@ moved_fresh : (s m : Reading) → IsFresh s → (r : List ℕ) → place_in s.le
 moved_fresh s m fresh r e = ap {A = List ℕ} {B = Reading} (λ z. record s { left = z; tag = None; kept = None }) e ∙ fresh_as s r fresh
 
 -- a part that may be left out
-module _ {A : Type 0} {E : A → A → Type 0} {B : BERMode → ℕ → A → List ℕ → Type 0} {S : BERMode → ℕ → List ℕ → Type 0} (laws : IsCoding E B S)
-    (asks : Bool) (Q : BERMode → ℕ → List ℕ → Type 0) (apart : BeginsApart S Q) (N : Reading → Result A ASN1Error → Reading → Type 0)
+module _ {A : Type 0} {E : A → A → Type 0} {B : Grammar A} {S : Members} (laws : IsCoding E B S)
+    (asks : Bool) (Q : Members) (apart : BeginsApart S Q) (N : Does A)
     (decoder : IsDecoder asks B S N) (before_others : IsQuietBefore N Q) (s : Reading) (fresh : IsFresh s) where
   took_left : (v : A) (m s' : Reading) (h : Took (B s.mode s.levels) s v m) → s' ≡ moved_as s m → s' ≡ record s { left = h.rest }
   took_left v m s' h e =
@@ -213,7 +207,7 @@ module _ {A : Type 0} {E : A → A → Type 0} {B : BERMode → ℕ → A → Li
       once front rest x f i (inr j) g =
           absurd (apart s.mode s.levels s.levels h.front rest h.rest x i among g (sym h.joined ∙ f ∙ ap (λ z. z ++ (rest ++ x)) j))
 
-  none_first : (e : ASN1Error) (m s' : Reading) → NotTook asks (S s.mode s.levels) s e m → IsPlain (kind_of e) → length m.left ≡ length s.left →
+  none_first : (e : ASN1Error) (m s' : Reading) → NotTook asks (S s.mode s.levels) s e m → BlamesBytes (kind_of e) → length m.left ≡ length s.left →
       s' ≡ moved_as s m → DecodesFirst asks (OptionOf B) (AnyOption S) Q s (Ok None) s'
   none_first e m s' h plain unmoved f = record {
     took = record {
@@ -273,7 +267,7 @@ module _ {A : Type 0} {E : A → A → Type 0} {B : BERMode → ℕ → A → Li
   fault_alone (Err d) m n h e (own k b f p) q =
       let w = before_others.quiet s d m fresh n q in
       let g : d ≡ e = cc in
-      p (ap (λ (z : Reading). length z.left) w.0) (subst (λ z. IsPlain (kind_of z)) g w.1)
+      p (ap (λ (z : Reading). length z.left) w.0) (subst (λ z. BlamesBytes (kind_of z)) g w.1)
 
   came_to : (o : Outcome A) (s' : Reading) → Hands N s o s' → DecodesFirst asks (OptionOf B) (AnyOption S) Q s (optional o) s'
   came_to (Gave v) s' h =
@@ -295,14 +289,14 @@ module _ {A : Type 0} {E : A → A → Type 0} {B : BERMode → ℕ → A → Li
       subst (λ x. DecodesFirst asks (OptionOf B) (AnyOption S) Q s x s') (sym k.2) (came_to k.0 s' (subst (λ z. Hands N z k.0 s') same k.1))
 
 -- a part that may be left out, where what follows never begins as it does
-pub option_by : {A : Type 0} {E : A → A → Type 0} {asks : Bool} {B : BERMode → ℕ → A → List ℕ → Type 0} {S Q : BERMode → ℕ → List ℕ → Type 0}
-    {N : Reading → Result A ASN1Error → Reading → Type 0} → IsCoding E B S → IsDecoder asks B S N → BeginsApart S Q → IsQuietBefore N Q →
+pub option_by : {A : Type 0} {E : A → A → Type 0} {asks : Bool} {B : Grammar A} {S Q : Members}
+    {N : Does A} → IsCoding E B S → IsDecoder asks B S N → BeginsApart S Q → IsQuietBefore N Q →
     IsFirstDecoder asks (OptionOf B) (AnyOption S) Q (ReadsOptional N)
 option_by {asks} {Q} {N} laws decoder apart quiet =
     record { decodes = λ s r s' fresh h. option_first laws asks Q apart N decoder quiet s fresh r s' h }
 
 made_contents : {U A : Type 0} (f : U → A) (make : A → U) → ((w : A) → f (make w) ≡ w) →
-    (asks : Bool) (C : BERMode → ℕ → A → List ℕ → Type 0) (S : BERMode → ℕ → List ℕ → Type 0) (s : Reading) (r : Result U ASN1Error) (s' : Reading) →
+    (asks : Bool) (C : Grammar A) (S : Members) (s : Reading) (r : Result U ASN1Error) (s' : Reading) →
     DecodesContents asks (Made C make) S s r s' → DecodesContents {A = U} asks (λ m n v c. C m n (f v) c) S s r s'
 made_contents f make back asks C S s (Ok v) s' h =
     let took = h.took in
@@ -319,8 +313,8 @@ made_contents f make back asks C S s (Ok v) s' h =
 made_contents f make back asks C S s (Err e) s' h = h
 
 -- an element around contents that are read up to their end and make a value
-pub contents_sequence : {U A : Type 0} {C : BERMode → ℕ → A → List ℕ → Type 0} {S : BERMode → ℕ → List ℕ → Type 0} {asks : Bool}
-    {P : Reading → Result U ASN1Error → Reading → Type 0} (f : U → A) (make : A → U) → ((w : A) → f (make w) ≡ w) →
+pub contents_sequence : {U A : Type 0} {C : Grammar A} {S : Members} {asks : Bool}
+    {P : Does U} (f : U → A) (make : A → U) → ((w : A) → f (make w) ≡ w) →
     IsContentsDecoder asks C S make P → (t : Tag) → (t ≡ end_tag → ⊥) → (s : Reading) → IsFresh s → (r : Result U ASN1Error) (s' : Reading) →
     ReadsParts P t s r s' → Decodes {A = U} asks (λ m n v b. Enclosed C t m n (f v) b) (AnyEnclosed S t) s r s'
 contents_sequence {C} {S} {asks} {P} f make back contents t not_end s fresh r s' h =

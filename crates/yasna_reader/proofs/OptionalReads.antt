@@ -5,18 +5,19 @@ use Rattle.yasna_base.specs.declared.error.ASN1Error.{ASN1Error}
 use Rattle.yasna_base.specs.declared.mode.BERMode.{BERMode}
 use Rattle.yasna_base.specs.declared.tag.Tag.{Tag}
 use Rattle.yasna_base.specs.Error.{kind_of}
+use Rattle.yasna_base.specs.Grammar.{Members, TaggedGrammar, TaggedMembers}
 use Rattle.yasna_base.specs.Identifier.{BeginsWithTag, AtEnd, end_tag, tag_or, begins}
 use Rattle.yasna_base.specs.Sequence.{AnyPart, AnyNothing}
 use Rattle.yasna_base.proofs.Identifier.{begins_with}
 use Rattle.yasna_bytes.specs.Contents.{Never, WantsMemory}
 use Rattle.yasna_reader.specs.Primitive.{RefusedAs, ReadsUnlessKept, ReadsSeen, Reads, NoLevel}
-use Rattle.yasna_bytes.specs.Refusal.{IsPlain, IsElsewhere, another}
+use Rattle.yasna_bytes.specs.Refusal.{BlamesBytes, IsElsewhere, another}
 use Rattle.yasna_reader.specs.State.{Reading, IsFresh, refusing, tag_of}
 use Rattle.yasna_reader.proofs.OptionalParts.{IsQuietBefore}
 use Rattle.yasna_bytes.proofs.Refusal.{plain_of, at_end_elsewhere, begins_not_elsewhere}
 
 -- contents in Q, up to an end, don't begin with the tag
-abbrev pub StartsElsewhere : Tag → (BERMode → ℕ → List ℕ → Type 0) → Type 0
+abbrev pub StartsElsewhere : Tag → Members → Type 0
 StartsElsewhere t Q = (m : BERMode) (n : ℕ) (c r : List ℕ) → AtEnd r → Q m n c → IsElsewhere t (c ++ r)
 
 -- so where nothing follows
@@ -24,17 +25,17 @@ pub nothing_elsewhere : (t : Tag) → (t ≡ end_tag → ⊥) → StartsElsewher
 nothing_elsewhere t not_end m n c r i q = subst (λ z. IsElsewhere t (z ++ r)) (sym q) (at_end_elsewhere t r not_end i)
 
 -- and where a part follows that begins with another
-pub part_elsewhere : {S : BERMode → ℕ → List ℕ → Type 0} (t u : Tag) (R : BERMode → ℕ → List ℕ → Type 0) → u.tag_number < 2 ^ 64 → (u ≡ t → ⊥) →
+pub part_elsewhere : {S : Members} (t u : Tag) (R : Members) → u.tag_number < 2 ^ 64 → (u ≡ t → ⊥) →
     ((m : BERMode) (n : ℕ) (b : List ℕ) → S m n b → BeginsWithTag u b) → StartsElsewhere t (AnyPart S R)
 part_elsewhere t u R range other starts m n c r i q =
     let front = begins_with u q.front q.rest (starts m n q.front q.here) in
     another u range other (begins_with u c r (subst (λ z. BeginsWithTag u z) (sym q.joined) front))
 
-module _ {V A : Type 0} (B : ℕ → BERMode → Tag → A → List ℕ → Type 0) (view : V → A) (D : ℕ → BERMode → Tag → List ℕ → Type 0)
+module _ {V A : Type 0} (B : TaggedGrammar A) (view : V → A) (D : TaggedMembers)
     (M : ℕ → Tag → List ℕ → Type 0) (t : Tag) (deep : (n : ℕ) (m : BERMode) (s : List ℕ) → D n m t s → BeginsWithTag t s)
     (memory : (n : ℕ) (s : List ℕ) → M n t s → BeginsWithTag t s) where
   refused_quiet : (s : Reading) (e : ASN1Error) (s' : Reading) →
-      RefusedAs (B s.levels s.mode t) (D s.levels s.mode t s.left) (M s.levels t s.left) t s e s' → IsElsewhere t s.left → (s' ≡ s) × IsPlain (kind_of e)
+      RefusedAs (B s.levels s.mode t) (D s.levels s.mode t s.left) (M s.levels t s.left) t s e s' → IsElsewhere t s.left → (s' ≡ s) × BlamesBytes (kind_of e)
   refused_quiet s e s' y other = (
     y.state ∙ ap (λ b. refusing b s e) (y.refuses.moved.1 other),
     plain_of (kind_of e) (λ i. begins_not_elsewhere (deep s.levels s.mode s.left (y.refuses.too_deep (y.kind ∙ i))) other)
@@ -50,19 +51,18 @@ module _ {V A : Type 0} (B : ℕ → BERMode → Tag → A → List ℕ → Type
       f.1 y
 
   -- a typed read is quiet where what follows begins with another tag
-  pub quiet_elsewhere : (Q : BERMode → ℕ → List ℕ → Type 0) → StartsElsewhere t Q → IsQuietBefore (ReadsSeen B view D M t) Q
+  pub quiet_elsewhere : (Q : Members) → StartsElsewhere t Q → IsQuietBefore (ReadsSeen B view D M t) Q
   quiet_elsewhere Q elsewhere = record {
     quiet = λ s e s' f x q. refused_quiet s e s' (fresh_refused s e s' f x)
         (subst (λ z. IsElsewhere t z) (sym q.joined) (elsewhere s.mode s.levels q.contents q.rest q.ends q.member));
   }
 
 -- so for a read that goes one level down and takes no memory
-pub leaf_quiet : {A : Type 0} (B : ℕ → BERMode → Tag → A → List ℕ → Type 0) (t : Tag) (Q : BERMode → ℕ → List ℕ → Type 0) → StartsElsewhere t Q →
-    IsQuietBefore (Reads B NoLevel Never t) Q
+pub leaf_quiet : {A : Type 0} (B : TaggedGrammar A) (t : Tag) (Q : Members) → StartsElsewhere t Q → IsQuietBefore (Reads B NoLevel Never t) Q
 leaf_quiet B t Q = quiet_elsewhere B (λ v. v) NoLevel Never t (λ n m s d. d.1) (λ n s x. absurd x) Q
 
 -- and for one that may want memory, where what lies too deep begins with the tag
-pub asking_quiet : {V A : Type 0} (B : ℕ → BERMode → Tag → A → List ℕ → Type 0) (view : V → A) (D : ℕ → BERMode → Tag → List ℕ → Type 0) (t : Tag)
-    (Q : BERMode → ℕ → List ℕ → Type 0) → ((n : ℕ) (m : BERMode) (s : List ℕ) → D n m t s → BeginsWithTag t s) → StartsElsewhere t Q →
+pub asking_quiet : {V A : Type 0} (B : TaggedGrammar A) (view : V → A) (D : TaggedMembers) (t : Tag)
+    (Q : Members) → ((n : ℕ) (m : BERMode) (s : List ℕ) → D n m t s → BeginsWithTag t s) → StartsElsewhere t Q →
     IsQuietBefore (ReadsSeen B view D WantsMemory t) Q
 asking_quiet B view D t Q deep = quiet_elsewhere B view D WantsMemory t deep (λ n s w. begins w.bit (w.size ∷ w.after) w.joined) Q

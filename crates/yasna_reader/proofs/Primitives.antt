@@ -5,6 +5,7 @@ use Rattle.yasna_base.specs.declared.error.ASN1Error.{ASN1Error}
 use Rattle.yasna_base.specs.declared.mode.BERMode.{BERMode}
 use Rattle.yasna_base.specs.declared.tag.Tag.{Tag}
 use Rattle.yasna_base.specs.Error.{kind_of}
+use Rattle.yasna_base.specs.Grammar.{Grammar, Members, TaggedGrammar, TaggedMembers}
 use Rattle.yasna_base.specs.Identifier.{BeginsWithTag, begins, end_tag, AtEnd, universal, tag_or}
 use Rattle.yasna_base.specs.Coding.{Any}
 use Rattle.yasna_base.proofs.Identifier.{not_end}
@@ -27,7 +28,7 @@ settled B view D M t s (Err x) (Err e) s' a b =
     record { refusal = x; kind = ap kind_of g; refuses = a; state = b.1 ∙ ap (refusing x.moved s) g }
 
 -- what was found with the fields of a reading was found for the reading
-pub at_view : {V A : Type 0} (B : ℕ → BERMode → Tag → A → List ℕ → Type 0) (view : V → A) (D : ℕ → BERMode → Tag → List ℕ → Type 0)
+pub at_view : {V A : Type 0} (B : TaggedGrammar A) (view : V → A) (D : TaggedMembers)
     (M : ℕ → Tag → List ℕ → Type 0) (tag u : Tag) (z s : Reading) (r : Result (V × Bor (List ℕ)) Refusal) → z ≡ s → u ≡ tag_of s tag →
     SeenAt (B z.levels z.mode u) view (D z.levels z.mode u z.left) (M z.levels u z.left) u z.left r → FrontOf B view D M tag s r
 at_view B view D M tag u z s r e f x =
@@ -36,7 +37,7 @@ at_view B view D M tag u z s r e f x =
     z.left r) e y
 
 -- what was found at the front, with the reading settled, is what a typed read does
-pub reads_front : {V A : Type 0} (B : ℕ → BERMode → Tag → A → List ℕ → Type 0) (view : V → A) (D : ℕ → BERMode → Tag → List ℕ → Type 0)
+pub reads_front : {V A : Type 0} (B : TaggedGrammar A) (view : V → A) (D : TaggedMembers)
     (M : ℕ → Tag → List ℕ → Type 0) (tag : Tag) (s : Reading) (f : Result (V × Bor (List ℕ)) Refusal) (r : Result V ASN1Error) (s' : Reading) →
     s.kept ≡ None → FrontOf B view D M tag s f → Settles s f r s' → ReadsSeen B view D M tag s r s'
 reads_front B view D M tag s f r s' e a b = record {
@@ -48,7 +49,7 @@ reads_front B view D M tag s f r s' e a b = record {
 }
 
 -- a typed read with a failure kept answers that failure
-pub reads_kept : {V A : Type 0} (B : ℕ → BERMode → Tag → A → List ℕ → Type 0) (view : V → A) (D : ℕ → BERMode → Tag → List ℕ → Type 0)
+pub reads_kept : {V A : Type 0} (B : TaggedGrammar A) (view : V → A) (D : TaggedMembers)
     (M : ℕ → Tag → List ℕ → Type 0) (tag : Tag) (s : Reading) (e : ASN1Error) (r : Result V ASN1Error) (s' : Reading) → s.kept ≡ Some e → r ≡ Err e →
     s' ≡ s → ReadsSeen B view D M tag s r s'
 reads_kept B view D M tag s e r s' k f g = record {
@@ -57,7 +58,7 @@ reads_kept B view D M tag s e r s' k f g = record {
       (tag_of s tag) s r s') (sym k) (f, g);
 }
 
-fresh : {V A : Type 0} (B : ℕ → BERMode → Tag → A → List ℕ → Type 0) (view : V → A) (D : ℕ → BERMode → Tag → List ℕ → Type 0)
+fresh : {V A : Type 0} (B : TaggedGrammar A) (view : V → A) (D : TaggedMembers)
     (M : ℕ → Tag → List ℕ → Type 0) (t : Tag) (s : Reading) (r : Result V ASN1Error) (s' : Reading) → IsFresh s → ReadsSeen B view D M t s r s' →
     ReadsUnlessKept None (B s.levels s.mode t) view (D s.levels s.mode t s.left) (M s.levels t s.left) t s r s'
 fresh B view D M t s r s' f x =
@@ -84,8 +85,8 @@ stays s e = ap (λ t. record s { tag = t }) (sym e)
 
 -- What a fresh reading decodes, where the encodings of a type are what a typed read takes, at an end nothing is too deep
 -- or wants memory, and asks says whether memory may be wanting.
-module _ {V A : Type 0} (asks : Bool) (B : ℕ → BERMode → Tag → A → List ℕ → Type 0) (view : V → A) (D : ℕ → BERMode → Tag → List ℕ → Type 0)
-    (M : ℕ → Tag → List ℕ → Type 0) (B' : BERMode → ℕ → V → List ℕ → Type 0) (S' : BERMode → ℕ → List ℕ → Type 0) (t : Tag) (other : t ≡ end_tag → ⊥)
+module _ {V A : Type 0} (asks : Bool) (B : TaggedGrammar A) (view : V → A) (D : TaggedMembers)
+    (M : ℕ → Tag → List ℕ → Type 0) (B' : Grammar V) (S' : Members) (t : Tag) (other : t ≡ end_tag → ⊥)
     (says : (m : BERMode) (n : ℕ) (v : V) (b : List ℕ) → B n m t (view v) b → B' m n v b)
     (asked : (m : BERMode) (n : ℕ) (b : List ℕ) → S' m n b → (v : A) × B n m t v b) (deep : (n : ℕ) (m : BERMode) (s : List ℕ) → AtEnd s → D n m t s → ⊥)
     (memory : (n : ℕ) (s : List ℕ) → AtEnd s → M n t s → ⊥) (may : (n : ℕ) (s : List ℕ) → M n t s → asks ≡ true) where
@@ -141,7 +142,7 @@ module _ {V A : Type 0} (asks : Bool) (B : ℕ → BERMode → Tag → A → Lis
   asked_decodes s r s' f x = decodes s r s' f (fresh B view D M t s r s' f x)
 
 -- a typed read under the type's own tag that goes one level down and takes no memory decodes
-pub leaf_decodes : {A : Type 0} (B : ℕ → BERMode → Tag → A → List ℕ → Type 0) (k : ℕ) → (k ≡ 0 → ⊥) → (s : Reading) (r : Result A ASN1Error) (s' : Reading) →
+pub leaf_decodes : {A : Type 0} (B : TaggedGrammar A) (k : ℕ) → (k ≡ 0 → ⊥) → (s : Reading) (r : Result A ASN1Error) (s' : Reading) →
     s.tag ≡ None → Reads B NoLevel Never (universal k) s r s' → s.kept ≡ None →
     Decodes false (λ m n v b. B n m (universal k) v b) (Any (λ m n v b. B n m (universal k) v b)) s r s'
 leaf_decodes B k h s r s' t x f =
@@ -149,7 +150,7 @@ leaf_decodes B k h s r s' t x f =
     (λ m n v b y. y) (λ m n b y. y) (λ n m z. no_level_at_end n m (universal k) z (not_end k h)) (λ _ _ _ y. y) (λ _ _ y. absurd y) s r s' (f, t) x
 
 -- so does one that may want memory, where what lies too deep begins with that tag
-pub asking_decodes : {V A : Type 0} (B : ℕ → BERMode → Tag → A → List ℕ → Type 0) (view : V → A) (D : ℕ → BERMode → Tag → List ℕ → Type 0) (k : ℕ) →
+pub asking_decodes : {V A : Type 0} (B : TaggedGrammar A) (view : V → A) (D : TaggedMembers) (k : ℕ) →
     (k ≡ 0 → ⊥) → ((n : ℕ) (m : BERMode) (s : List ℕ) → D n m (universal k) s → BeginsWithTag (universal k) s) → (s : Reading) (r : Result V ASN1Error)
     (s' : Reading) → s.tag ≡ None → ReadsSeen B view D WantsMemory (universal k) s r s' → s.kept ≡ None →
     Decodes true (λ m n v b. B n m (universal k) (view v) b) (Any (λ m n v b. B n m (universal k) v b)) s r s'

@@ -8,6 +8,7 @@ use Rattle.yasna_base.specs.declared.mode.BERMode.{BERMode}
 use Rattle.yasna_base.specs.declared.tag.Tag.{Tag}
 use Rattle.yasna_base.specs.declared.tag.PCBit.TheVariants.{Constructed}
 use Rattle.yasna_base.specs.Error.{kind_of, error_of}
+use Rattle.yasna_base.specs.Grammar.{Grammar, Members}
 use Rattle.yasna_base.specs.Identifier.{end_tag, tag_or}
 use Rattle.yasna_base.specs.Element.{Around, Enclosed, AnyEnclosed}
 use Rattle.yasna_base.proofs.Header.{opens_begins, header_of, end_behind}
@@ -18,13 +19,12 @@ use Rattle.yasna_bytes.specs.Header.{EndsAt, EndsBefore, RefusesHeader, OnlyCons
 use Rattle.yasna_reader.specs.Parse.{unless_kept}
 use Rattle.yasna_reader.specs.Sequence.{place_in, Fails, Left, Entered, NotEntered, EntersUnlessKept, ReadsParts}
 use Rattle.yasna_reader.specs.Decodes.{Tells, KeptTells, NotTook, IsQuietAtEnd, Decodes, NotContents, TookContents, DecodesContents}
-use Rattle.yasna_reader.specs.State.{Reading, IsFresh, inside, untagged, refusing, tag_of}
+use Rattle.yasna_reader.specs.State.{Reading, IsFresh, inside, untagged, refusing, tag_of, Does}
 use Rattle.yasna_bytes.proofs.Refusal.{plain_not_memory, plain_of, at_end_elsewhere, not_at_end}
 use Rattle.yasna_bytes.proofs.Ending.{closed, ends_at}
 use Rattle.yasna_bytes.proofs.Header.{element_header}
 
-module _ {A : Type 0} (P Q : Reading → Result A ASN1Error → Reading → Type 0)
-    (says : (s : Reading) (r : Result A ASN1Error) (s' : Reading) → IsFresh s → P s r s' → Q s r s') where
+module _ {A : Type 0} (P Q : Does A) (says : (s : Reading) (r : Result A ASN1Error) (s' : Reading) → IsFresh s → P s r s' → Q s r s') where
   entered : (k : Option ASN1Error) (t : Tag) (s : Reading) (r : Result A ASN1Error) (s' : Reading) → EntersUnlessKept k P t s r s' →
       EntersUnlessKept k Q t s r s'
   entered (Some e) t s r s' h = h
@@ -44,12 +44,12 @@ module _ {A : Type 0} (P Q : Reading → Result A ASN1Error → Reading → Type
   pub parts_map : (tag : Tag) (s : Reading) (r : Result A ASN1Error) (s' : Reading) → ReadsParts P tag s r s' → ReadsParts Q tag s r s'
   parts_map tag s r s' h = record { enters = entered s.kept (tag_of s tag) s r s' h.enters }
 
-pub around : {A : Type 0} (C : BERMode → ℕ → A → List ℕ → Type 0) (t : Tag) (m : BERMode) (n : ℕ) (v : A) (b : List ℕ) → 1 ≤ n → Around m t (C m (n - 1)) v b →
+pub around : {A : Type 0} (C : Grammar A) (t : Tag) (m : BERMode) (n : ℕ) (v : A) (b : List ℕ) → 1 ≤ n → Around m t (C m (n - 1)) v b →
     Enclosed C t m n v b
 around C t m zero v b l h = absurd (omega arith)
 around C t m (suc n) v b l h = let e : suc n - 1 ≡ n = omega arith in subst (λ k. Around m t (C m k) v b) e h
 
-pub within : {A : Type 0} (C : BERMode → ℕ → A → List ℕ → Type 0) (t : Tag) (m : BERMode) (n : ℕ) (v : A) (b : List ℕ) → Enclosed C t m n v b →
+pub within : {A : Type 0} (C : Grammar A) (t : Tag) (m : BERMode) (n : ℕ) (v : A) (b : List ℕ) → Enclosed C t m n v b →
     (1 ≤ n) × Around m t (C m (n - 1)) v b
 within C t m zero v b h = absurd h
 within C t m (suc n) v b h = let e : n ≡ suc n - 1 = omega arith in (omega arith, subst (λ k. Around m t (C m k) v b) e h)
@@ -64,8 +64,7 @@ place_behind b r =
 pub replaced : {X Y : Type 0} {r x : X} {s y : Y} (B : X → Y → Type 0) → r ≡ x → s ≡ y → B x y → B r s
 replaced {r} {y} B e f h = subst (λ z. B r z) (sym f) (subst (λ z. B z y) (sym e) h)
 
-module _ {A : Type 0} (asks : Bool) (C : BERMode → ℕ → A → List ℕ → Type 0) (S : BERMode → ℕ → List ℕ → Type 0) (t : Tag) (not_end : t ≡ end_tag → ⊥)
-    (s : Reading) (fresh : IsFresh s) where
+module _ {A : Type 0} (asks : Bool) (C : Grammar A) (S : Members) (t : Tag) (not_end : t ≡ end_tag → ⊥) (s : Reading) (fresh : IsFresh s) where
   tagless : (k : Option ASN1Error) → record (untagged s) { kept = k } ≡ record s { kept = k }
   tagless k = ap {A = Option Tag} {B = Reading} (λ u. record s { kept = k; tag = u }) (sym fresh.1)
 
@@ -153,8 +152,7 @@ module _ {A : Type 0} (asks : Bool) (C : BERMode → ℕ → A → List ℕ → 
       replaced (Decodes asks (Enclosed C t) (AnyEnclosed S t) s) h.answer h.state (refused_at h.refusal h.refuses T h.refusal.moved refl)
 
 -- an element whose contents are read up to their end
-pub element : {A : Type 0} (asks : Bool) (C : BERMode → ℕ → A → List ℕ → Type 0) (S : BERMode → ℕ → List ℕ → Type 0)
-    (P : Reading → Result A ASN1Error → Reading → Type 0) →
+pub element : {A : Type 0} (asks : Bool) (C : Grammar A) (S : Members) (P : Does A) →
     ((s : Reading) (x : Result A ASN1Error) (left : Reading) → IsFresh s → P s x left → DecodesContents asks C S s (unless_kept left.kept x) left) →
     (t : Tag) → (t ≡ end_tag → ⊥) → (s : Reading) → IsFresh s → (r : Result A ASN1Error) (s' : Reading) → ReadsParts P t s r s' →
     Decodes asks (Enclosed C t) (AnyEnclosed S t) s r s'

@@ -17,7 +17,7 @@ use Rattle.yasna_base.specs.Set.{AreInSetOrder, SetElements}
 use Rattle.yasna_base.proofs.Pieces.{NoFront, no_front_at_end, pieces_once, each_same}
 use Rattle.yasna_base.proofs.Raw.{raw_starts, raw_exact}
 use Rattle.yasna_reader.specs.declared.set.SetElement.{SetElement}
-use Rattle.yasna_reader.specs.Set.{AreInTagOrder, IsListed, IsSetList, ListsAll}
+use Rattle.yasna_reader.specs.Set.{ElementsAreInSetOrder, IsListed, IsSetList, ListsAll}
 use Rattle.yasna_reader.specs.SetLaws.{IsElementOf, IsSameElement, ListsAreOne, ListsAreSets, ListsSet, SetsAreListed, elements_bytes}
 use Rattle.yasna_reader.proofs.SetListing.{listed_alone}
 
@@ -38,12 +38,12 @@ ascend_by_keys key cmp l h k d a b =
     h k (key d) a (omega (arith, n, b))
 
 -- the tags of elements are in a mode's order exactly where those of their values are
-order_of_values : (m : BERMode) (l : List SetElement) (ts : List Tag) → map (λ (x : SetElement). x.tag) l ≡ ts → AreInTagOrder m l → AreInSetOrder m ts
+order_of_values : (m : BERMode) (l : List SetElement) (ts : List Tag) → map (λ (x : SetElement). x.tag) l ≡ ts → ElementsAreInSetOrder m l → AreInSetOrder m ts
 order_of_values Ber l ts e h = tt
 order_of_values Der l ts e h = subst (λ z. IsSorted tag_cmp z) e (keys_ascend (λ (x : SetElement). x.tag) tag_cmp l h)
 order_of_values Cer l ts e h = subst (λ z. IsSorted tag_cmp z) e (keys_ascend (λ (x : SetElement). x.tag) tag_cmp l h)
 
-order_of_elements : (m : BERMode) (l : List SetElement) (ts : List Tag) → map (λ (x : SetElement). x.tag) l ≡ ts → AreInSetOrder m ts → AreInTagOrder m l
+order_of_elements : (m : BERMode) (l : List SetElement) (ts : List Tag) → map (λ (x : SetElement). x.tag) l ≡ ts → AreInSetOrder m ts → ElementsAreInSetOrder m l
 order_of_elements Ber l ts e h = tt
 order_of_elements Der l ts e h = ascend_by_keys (λ (x : SetElement). x.tag) tag_cmp l (subst (λ z. IsSorted tag_cmp z) (sym e) h)
 order_of_elements Cer l ts e h = ascend_by_keys (λ (x : SetElement). x.tag) tag_cmp l (subst (λ z. IsSorted tag_cmp z) (sym e) h)
@@ -181,7 +181,7 @@ tags_of_same [] (y ∷ k) h = absurd h
 tags_of_same (x ∷ l) [] h = absurd h
 tags_of_same (x ∷ l) (y ∷ k) h = ap₂ (λ t ts. t ∷ ts) h.0.tag (tags_of_same l k h.1)
 
-pub order_of_same : (m : BERMode) (l k : List SetElement) → Each IsSameElement l k → AreInTagOrder m k → AreInTagOrder m l
+pub order_of_same : (m : BERMode) (l k : List SetElement) → Each IsSameElement l k → ElementsAreInSetOrder m k → ElementsAreInSetOrder m l
 order_of_same m l k h i =
     let ts = map (λ (x : SetElement). x.tag) k in
     order_of_elements m l ts (tags_of_same l k h) (order_of_values m k ts refl i)

@@ -5,6 +5,7 @@ use Rattle.std.specs.Prelude.{Result, Ok, Err}
 use Rattle.yasna_base.specs.declared.error.ASN1Error.{ASN1Error}
 use Rattle.yasna_base.specs.declared.mode.BERMode.{BERMode}
 use Rattle.yasna_base.specs.declared.tag.Tag.{Tag}
+use Rattle.yasna_base.specs.Grammar.{Grammar, Members}
 use Rattle.yasna_base.specs.Identifier.{end_tag}
 use Rattle.yasna_base.specs.Element.{Enclosed, AnyEnclosed}
 use Rattle.yasna_base.specs.Sequence.{PartOf, NoParts, AnyPart, AnyNothing}
@@ -13,10 +14,10 @@ use Rattle.yasna_base.proofs.Lists.{append_same}
 use Rattle.yasna_reader.specs.Parse.{unless_kept}
 use Rattle.yasna_reader.specs.Sequence.{ReadsParts}
 use Rattle.yasna_reader.specs.Decodes.{Tells, KeptTells, Took, NotTook, Decodes, DecodesParts, DecodesContents, AndIn, Step, Done, Made}
-use Rattle.yasna_reader.specs.State.{Reading, IsFresh}
+use Rattle.yasna_reader.specs.State.{Reading, IsFresh, Does}
 use Rattle.yasna_reader.proofs.Sequences.{replaced, element}
 
-module _ {A : Type 0} (asks : Bool) (C : BERMode → ℕ → A → List ℕ → Type 0) (S : BERMode → ℕ → List ℕ → Type 0) where
+module _ {A : Type 0} (asks : Bool) (C : Grammar A) (S : Members) where
   kept_contents : (k : Option ASN1Error) (s : Reading) (e : ASN1Error) (s' : Reading) → Tells asks (S s.mode s.levels) s.left e →
       KeptTells asks (S s.mode s.levels) s.left k → DecodesContents asks C S s (unless_kept k (Err e)) s'
   kept_contents None s e s' t h = record { none = λ q d x i j. t.none q d x i; memory = t.memory }
@@ -33,19 +34,18 @@ module _ {A : Type 0} (asks : Bool) (C : BERMode → ℕ → A → List ℕ → 
   alone_contents among alone s (Err e) s' fresh h = kept_contents s'.kept s e s' h.tells h.kept
 
 -- the parts of a tuple are contents that were read up to their end
-pub parts_read : {A : Type 0} {E : A → A → Type 0} {C : BERMode → ℕ → A → List ℕ → Type 0} {S : BERMode → ℕ → List ℕ → Type 0} → (asks : Bool) →
+pub parts_read : {A : Type 0} {E : A → A → Type 0} {C : Grammar A} {S : Members} → (asks : Bool) →
     ArePartsCoding E C S → (s : Reading) (r : Result A ASN1Error) (s' : Reading) → IsFresh s → DecodesParts asks C S s r s' →
     DecodesContents asks C S s (unless_kept s'.kept r) s'
 parts_read {C} {S} asks laws = alone_contents asks C S laws.meaning.among laws.alone
 
 -- an element around the parts of a tuple
-pub parts_element : {A : Type 0} {E : A → A → Type 0} {C : BERMode → ℕ → A → List ℕ → Type 0} {S : BERMode → ℕ → List ℕ → Type 0} → (asks : Bool) →
+pub parts_element : {A : Type 0} {E : A → A → Type 0} {C : Grammar A} {S : Members} → (asks : Bool) →
     ArePartsCoding E C S → (t : Tag) → (t ≡ end_tag → ⊥) → (s : Reading) → IsFresh s → (r : Result A ASN1Error) (s' : Reading) →
     ReadsParts (DecodesParts asks C S) t s r s' → Decodes asks (Enclosed C t) (AnyEnclosed S t) s r s'
 parts_element {C} {S} asks laws = element asks C S (DecodesParts asks C S) (parts_read asks laws)
 
-module _ {A V : Type 0} {E : A → A → Type 0} {B : BERMode → ℕ → A → List ℕ → Type 0} {S : BERMode → ℕ → List ℕ → Type 0} (laws : IsCoding E B S) (p q : Bool)
-    (C : BERMode → ℕ → V → List ℕ → Type 0) (Q : BERMode → ℕ → List ℕ → Type 0) where
+module _ {A V : Type 0} {E : A → A → Type 0} {B : Grammar A} {S : Members} (laws : IsCoding E B S) (p q : Bool) (C : Grammar V) (Q : Members) where
   tells_first : (m : BERMode) (n : ℕ) (s : List ℕ) (e : ASN1Error) → Tells p (S m n) s e → Tells (p || q) (AnyPart S Q m n) s e
   tells_first m n s e x = record {
     none = λ k b r i j. x.none k j.front (j.rest ++ r) (i ∙ ap (λ z. z ++ r) j.joined ∙ append_assoc j.front j.rest r) j.here;
@@ -114,7 +114,7 @@ module _ {A V : Type 0} {E : A → A → Type 0} {B : BERMode → ℕ → A → 
         record { front = x.front; rest = x.rest; joined = x.joined; stands = ((v, w), x.stands, k.stands.2); left = x.left }
     others s v m h (Err e) s' k = others_err s v m h e s' k
 
-    stepped : (K : A → Reading → Result U ASN1Error → Reading → Type 0) (s : Reading) → IsFresh s → (x : Result A ASN1Error) (m : Reading) →
+    stepped : (K : A → Does U) (s : Reading) → IsFresh s → (x : Result A ASN1Error) (m : Reading) →
         Decodes p B S s x m → (r : Result U ASN1Error) (s' : Reading) →
         ((v : A) → IsFresh m → K v m r s' → DecodesParts q (Made C (λ w. make (v, w))) Q m r s') → AndIn K x m r s' →
         DecodesParts (p || q) (Made (PartOf B C) make) (AnyPart S Q) s r s'
@@ -123,19 +123,16 @@ module _ {A V : Type 0} {E : A → A → Type 0} {B : BERMode → ℕ → A → 
     stepped K s fresh (Err e) m h r s' more k = replaced (DecodesParts (p || q) (Made (PartOf B C) make) (AnyPart S Q) s) k.0 k.1 (part_err s e m h.0)
 
 -- each run of N on a fresh reading decodes
-pub record IsDecoder {A : Type 0} (asks : Bool) (B : BERMode → ℕ → A → List ℕ → Type 0) (S : BERMode → ℕ → List ℕ → Type 0)
-    (N : Reading → Result A ASN1Error → Reading → Type 0) : Type 0 where
+pub record IsDecoder {A : Type 0} (asks : Bool) (B : Grammar A) (S : Members) (N : Does A) : Type 0 where
   pub decodes : (s : Reading) (r : Result A ASN1Error) (s' : Reading) → IsFresh s → N s r s' → Decodes asks B S s r s'
 
 -- each run of P on a fresh reading decodes parts that make a value
-pub record IsPartsDecoder {U A : Type 0} (asks : Bool) (C : BERMode → ℕ → A → List ℕ → Type 0) (S : BERMode → ℕ → List ℕ → Type 0) (make : A → U)
-    (P : Reading → Result U ASN1Error → Reading → Type 0) : Type 0 where
+pub record IsPartsDecoder {U A : Type 0} (asks : Bool) (C : Grammar A) (S : Members) (make : A → U) (P : Does U) : Type 0 where
   pub decodes : (s : Reading) (r : Result U ASN1Error) (s' : Reading) → IsFresh s → P s r s' → DecodesParts asks (Made C make) S s r s'
 
 -- a part, and where it stood, others
-pub step_by : {A V U : Type 0} {E : A → A → Type 0} {B : BERMode → ℕ → A → List ℕ → Type 0} {S : BERMode → ℕ → List ℕ → Type 0}
-    {N : Reading → Result A ASN1Error → Reading → Type 0} {p q : Bool} {C : BERMode → ℕ → V → List ℕ → Type 0} {Q : BERMode → ℕ → List ℕ → Type 0}
-    {make : A × V → U} {K : A → Reading → Result U ASN1Error → Reading → Type 0} → IsCoding E B S → IsDecoder p B S N →
+pub step_by : {A V U : Type 0} {E : A → A → Type 0} {B : Grammar A} {S : Members} {N : Does A} {p q : Bool} {C : Grammar V} {Q : Members}
+    {make : A × V → U} {K : A → Does U} → IsCoding E B S → IsDecoder p B S N →
     ((v : A) → IsPartsDecoder q C Q (λ w. make (v, w)) (K v)) → IsPartsDecoder (p || q) (PartOf B C) (AnyPart S Q) make (Step N K)
 step_by {p} {q} {C} {Q} {make} {K} laws first more =
     record {
@@ -153,11 +150,10 @@ pub done_by : {U : Type 0} {make : Unit {0} → U} → IsPartsDecoder false NoPa
 done_by {make} = record { decodes = λ s r s' fresh h. done make s r s' h }
 
 -- what decodes is a decoder
-pub decodes_by : {A : Type 0} {asks : Bool} {B : BERMode → ℕ → A → List ℕ → Type 0} {S : BERMode → ℕ → List ℕ → Type 0} → IsDecoder asks B S (Decodes asks B S)
+pub decodes_by : {A : Type 0} {asks : Bool} {B : Grammar A} {S : Members} → IsDecoder asks B S (Decodes asks B S)
 decodes_by = record { decodes = λ s r s' fresh h. h }
 
-module _ {A : Type 0} (asks : Bool) (B D : BERMode → ℕ → A → List ℕ → Type 0) (S : BERMode → ℕ → List ℕ → Type 0)
-    (says : (m : BERMode) (n : ℕ) (v : A) (b : List ℕ) → B m n v b → D m n v b) where
+module _ {A : Type 0} (asks : Bool) (B D : Grammar A) (S : Members) (says : (m : BERMode) (n : ℕ) (v : A) (b : List ℕ) → B m n v b → D m n v b) where
   -- what encodes by one relation, by another that follows from it
   pub decodes_map : (s : Reading) (r : Result A ASN1Error) (s' : Reading) → Decodes asks B S s r s' → Decodes asks D S s r s'
   decodes_map s (Ok v) s' h = record { front = h.front; rest = h.rest; joined = h.joined; stands = says s.mode s.levels v h.front h.stands; left = h.left }
@@ -170,8 +166,7 @@ seen f (Err e) = Err e
 
 -- What reads one way of a choice, where nothing of another way stands, reads the choice: its values stand by f for those of
 -- the choice.
-module _ {A U : Type 0} (asks more : Bool) (B : BERMode → ℕ → A → List ℕ → Type 0) (S : BERMode → ℕ → List ℕ → Type 0)
-    (D : BERMode → ℕ → U → List ℕ → Type 0) (T : BERMode → ℕ → List ℕ → Type 0) (f : A → U)
+module _ {A U : Type 0} (asks more : Bool) (B : Grammar A) (S : Members) (D : Grammar U) (T : Members) (f : A → U)
     (says : (m : BERMode) (n : ℕ) (v : A) (b : List ℕ) → B m n v b → D m n (f v) b) (up : asks ≡ true → more ≡ true) where
   chosen_tells : (m : BERMode) (n : ℕ) (s : List ℕ) → ((b r : List ℕ) → s ≡ b ++ r → T m n b → S m n b) → (e : ASN1Error) → Tells asks (S m n) s e →
       Tells more (T m n) s e
@@ -196,7 +191,7 @@ module _ {A U : Type 0} (asks more : Bool) (B : BERMode → ℕ → A → List �
   )
 
 made : {U A : Type 0} (f : U → A) (make : A → U) → ((w : A) → f (make w) ≡ w) →
-    (asks : Bool) (C : BERMode → ℕ → A → List ℕ → Type 0) (S : BERMode → ℕ → List ℕ → Type 0) (s : Reading) (r : Result U ASN1Error) (s' : Reading) →
+    (asks : Bool) (C : Grammar A) (S : Members) (s : Reading) (r : Result U ASN1Error) (s' : Reading) →
     DecodesParts asks (Made C make) S s r s' → DecodesParts {A = U} asks (λ m n v c. C m n (f v) c) S s r s'
 made f make back asks C S s (Ok v) s' h = record {
   front = h.front;
@@ -208,12 +203,12 @@ made f make back asks C S s (Ok v) s' h = record {
 made f make back asks C S s (Err e) s' h = h
 
 -- an element around what stands for a value is one that stands for the value
-pub enclosed_seen : {U A : Type 0} (f : U → A) (C : BERMode → ℕ → A → List ℕ → Type 0) (t : Tag) (m : BERMode) (n : ℕ) (v : U) (b : List ℕ) →
+pub enclosed_seen : {U A : Type 0} (f : U → A) (C : Grammar A) (t : Tag) (m : BERMode) (n : ℕ) (v : U) (b : List ℕ) →
     Enclosed {A = U} (λ m n v c. C m n (f v) c) t m n v b → Enclosed C t m n (f v) b
 enclosed_seen f C t m zero v b h = h
 enclosed_seen f C t m (suc n) v b h = record { contents = h.contents; element = h.element; meaning = h.meaning }
 
-last : {A U : Type 0} (asks : Bool) (C : BERMode → ℕ → A → List ℕ → Type 0) (S : BERMode → ℕ → List ℕ → Type 0) (make : A → U) (s : Reading)
+last : {A U : Type 0} (asks : Bool) (C : Grammar A) (S : Members) (make : A → U) (s : Reading)
     (x : Result A ASN1Error) (m : Reading) → DecodesParts asks C S s x m → (r : Result U ASN1Error) (s' : Reading) → AndIn (λ w. Done (make w)) x m r s' →
     DecodesParts asks (Made C make) S s r s'
 last asks C S make s (Ok w) m h r s' k = replaced (DecodesParts asks (Made C make) S s) k.0 k.1
@@ -221,8 +216,8 @@ last asks C S make s (Ok w) m h r s' k = replaced (DecodesParts asks (Made C mak
 last asks C S make s (Err e) m h r s' k = replaced (DecodesParts asks (Made C make) S s) k.0 k.1 h
 
 -- an element around parts that are read one by one and make a value
-pub steps_sequence : {U A : Type 0} {E : A → A → Type 0} {C : BERMode → ℕ → A → List ℕ → Type 0} {S : BERMode → ℕ → List ℕ → Type 0} {asks : Bool}
-    {P : Reading → Result U ASN1Error → Reading → Type 0} (f : U → A) (make : A → U) → ((w : A) → f (make w) ≡ w) → ArePartsCoding E C S →
+pub steps_sequence : {U A : Type 0} {E : A → A → Type 0} {C : Grammar A} {S : Members} {asks : Bool}
+    {P : Does U} (f : U → A) (make : A → U) → ((w : A) → f (make w) ≡ w) → ArePartsCoding E C S →
     IsPartsDecoder asks C S make P → (t : Tag) → (t ≡ end_tag → ⊥) → (s : Reading) → IsFresh s → (r : Result U ASN1Error) (s' : Reading) →
     ReadsParts P t s r s' → Decodes {A = U} asks (λ m n v b. Enclosed C t m n (f v) b) (AnyEnclosed S t) s r s'
 steps_sequence {C} {S} {asks} {P} f make back laws parts t not_end s fresh r s' h =

@@ -6,6 +6,7 @@ use Rattle.yasna_base.specs.declared.error.ASN1ErrorKind.{ASN1ErrorKind}
 use Rattle.yasna_base.specs.declared.error.ASN1ErrorKind.TheVariants.{Eof, Extra, IntegerOverflow, StackOverflow, Invalid, OutOfMemory}
 use Rattle.yasna_base.specs.declared.mode.BERMode.{BERMode}
 use Rattle.yasna_base.specs.Error.{kind_of}
+use Rattle.yasna_base.specs.Grammar.{Grammar, Members, Form, Nest}
 use Rattle.yasna_base.specs.Identifier.{AtEnd}
 use Rattle.yasna_base.specs.Coding.{IsCoding}
 use Rattle.yasna_base.specs.Canonical.{IsCanonicalMode, IsWritten}
@@ -17,8 +18,7 @@ use Rattle.yasna_bytes.proofs.Refusal.{plain_not_memory}
 kept_none : (f : ASN1Error) → ◌≡◌ {A = Option ASN1Error} (Some f) None → ⊥
 kept_none f e = cc
 
-module _ {A : Type 0} {E : A → A → Type 0} {B : BERMode → ℕ → A → List ℕ → Type 0} {S : BERMode → ℕ → List ℕ → Type 0} (asks : Bool) (laws : IsCoding E B S)
-    (m : BERMode) (s : List ℕ) where
+module _ {A : Type 0} {E : A → A → Type 0} {B : Grammar A} {S : Members} (asks : Bool) (laws : IsCoding E B S) (m : BERMode) (s : List ℕ) where
   all_read : (v : A) (front rest : List ℕ) → s ≡ front ++ rest → B m 101 v front → Decoded asks B S m s (ended (Ok v) rest)
   all_read v front [] joined stands = subst (λ z. B m 101 v z) (sym (joined ∙ append-nil front)) stands
   all_read v front (x ∷ rest) joined stands = record {
@@ -57,34 +57,34 @@ memory_or Invalid = inr (λ e. cc)
 memory_or OutOfMemory = inl refl
 
 -- bytes that encode a value are read as an equal one, unless memory is wanting
-pub exactly : {A : Type 0} {E : A → A → Type 0} {B : BERMode → ℕ → A → List ℕ → Type 0} {S : BERMode → ℕ → List ℕ → Type 0} (asks : Bool) → IsCoding E B S →
+pub exactly : {A : Type 0} {E : A → A → Type 0} {B : Grammar A} {S : Members} (asks : Bool) → IsCoding E B S →
     (m : BERMode) (s : List ℕ) (r : Result A ASN1Error) → Decoded asks B S m s r → (v : A) → B m 101 v s →
     MatchResult r (λ w. E w v) (λ e. kind_of e ≡ OutOfMemory)
 exactly asks laws m s (Ok w) h v k = laws.meaning.exact m 101 101 w v s h k
 exactly asks laws m s (Err e) h v k = elim (memory_or (kind_of e)) [ inl f ↦ f | inr f ↦ absurd (h.none f (laws.meaning.among m 101 v s k)) ]
 
 -- the same, where what is read stands for a value
-pub exactly_as : {U A : Type 0} {E : A → A → Type 0} {B : BERMode → ℕ → A → List ℕ → Type 0} {S : BERMode → ℕ → List ℕ → Type 0} (asks : Bool) (f : U → A) →
+pub exactly_as : {U A : Type 0} {E : A → A → Type 0} {B : Grammar A} {S : Members} (asks : Bool) (f : U → A) →
     IsCoding E B S → (m : BERMode) (s : List ℕ) (r : Result U ASN1Error) → Decoded {A = U} asks (λ m n u b. B m n (f u) b) S m s r → (v : A) → B m 101 v s →
     MatchResult r (λ u. E (f u) v) (λ e. kind_of e ≡ OutOfMemory)
 exactly_as asks f laws m s (Ok u) h v k = laws.meaning.exact m 101 101 (f u) v s h k
 exactly_as asks f laws m s (Err e) h v k = elim (memory_or (kind_of e)) [ inl q ↦ q | inr q ↦ absurd (h.none q (laws.meaning.among m 101 v s k)) ]
 
 -- what is read is encoded there
-pub reads_some : {A : Type 0} (asks : Bool) (B : BERMode → ℕ → A → List ℕ → Type 0) (S : BERMode → ℕ → List ℕ → Type 0) (m : BERMode) (s : List ℕ)
+pub reads_some : {A : Type 0} (asks : Bool) (B : Grammar A) (S : Members) (m : BERMode) (s : List ℕ)
     (r : Result A ASN1Error) → Decoded asks B S m s r → IfOk r (λ v. B m 101 v s)
 reads_some asks B S m s (Ok v) h = h
 reads_some asks B S m s (Err e) h = tt
 
 -- what is read in a canonical mode is the form of the value
-pub read_form : {A : Type 0} {E : A → A → Type 0} {B : BERMode → ℕ → A → List ℕ → Type 0} {form : BERMode → A → List ℕ} {nest : BERMode → A → ℕ}
-    {Can : A → Type 0} {S : BERMode → ℕ → List ℕ → Type 0} (asks : Bool) → IsCoding E B S → IsWritten E B form nest Can → (m : BERMode) → IsCanonicalMode m →
+pub read_form : {A : Type 0} {E : A → A → Type 0} {B : Grammar A} {form : Form A} {nest : Nest A}
+    {Can : A → Type 0} {S : Members} (asks : Bool) → IsCoding E B S → IsWritten E B form nest Can → (m : BERMode) → IsCanonicalMode m →
     (s : List ℕ) (r : Result A ASN1Error) → Decoded asks B S m s r → IfOk r (λ v. B m 101 v s × (s ≡ form m v))
 read_form asks laws x m canonical s (Ok v) h = (h, (x.has.only m 101 v s canonical h).0)
 read_form asks laws x m canonical s (Err e) h = tt
 
 -- what is refused encodes nothing, where reading wants no memory
-pub refuses_none : {A : Type 0} {E : A → A → Type 0} {B : BERMode → ℕ → A → List ℕ → Type 0} {S : BERMode → ℕ → List ℕ → Type 0} → IsCoding E B S →
+pub refuses_none : {A : Type 0} {E : A → A → Type 0} {B : Grammar A} {S : Members} → IsCoding E B S →
     (m : BERMode) (s : List ℕ) (r : Result A ASN1Error) → Decoded false B S m s r → IfErr r (λ e. ((v : A) → B m 101 v s → ⊥) × (kind_of e ≡ OutOfMemory → ⊥))
 refuses_none laws m s (Ok v) h = tt
 refuses_none laws m s (Err e) h = (λ v x. h.none (λ q. let f = h.memory q in cc) (laws.meaning.among m 101 v s x), λ q. let f = h.memory q in cc)

@@ -3,7 +3,7 @@ use Rattle.std.specs.Borrow.{Bor}
 use Rattle.std.specs.Prelude.{Err, List, Ok, Result, ℕ, ◌++◌, ◌≡◌}
 use Rattle.yasna_base.specs.declared.error.ASN1Error.{ASN1Error}
 use Rattle.yasna_reader.specs.Callback.{Lent, UnlessKept}
-use Rattle.yasna_reader.specs.State.{Reading}
+use Rattle.yasna_reader.specs.State.{Reading, Does}
 use Rattle.yasna_reader.specs.declared.callback.Outcome.{Outcome}
 use Rattle.yasna_reader.specs.declared.callback.Outcome.TheVariants.{Gave, Quiet, Failed}
 
@@ -20,5 +20,5 @@ Buffered before (Failed e) r after = r ≡ Err e
 
 -- the callback is handed the reading, and the bytes that it took are answered beside its value; where it is quiet, the
 -- reading is as it was
-abbrev pub ReadsBuffer : {A : Type 0} → (Reading → Result A ASN1Error → Reading → Type 0) → Reading → Result (A × Bor (List ℕ)) ASN1Error → Reading → Type 0
+abbrev pub ReadsBuffer : {A : Type 0} → Does A → Reading → Result (A × Bor (List ℕ)) ASN1Error → Reading → Type 0
 ReadsBuffer {A} P s r s' = UnlessKept s.kept s r s' ((o : Outcome A) × Lent P s s o s' × Buffered s.left o r s'.left)

@@ -3,9 +3,9 @@ use Rattle.std.specs.Prelude.{Err, List, None, Ok, Option, Result, Some, length,
 use Rattle.yasna_base.specs.Error.{error_of, kind_of}
 use Rattle.yasna_base.specs.declared.error.ASN1Error.{ASN1Error}
 use Rattle.yasna_base.specs.declared.error.ASN1ErrorKind.TheVariants.{Invalid}
-use Rattle.yasna_bytes.specs.Refusal.{IsPlain}
+use Rattle.yasna_bytes.specs.Refusal.{BlamesBytes}
 use Rattle.yasna_reader.specs.Sequence.{IsBefore, place_in}
-use Rattle.yasna_reader.specs.State.{Reading, failing}
+use Rattle.yasna_reader.specs.State.{Reading, failing, Does}
 use Rattle.yasna_bytes.specs.declared.bytes.cursor.Cursor.{Cursor}
 use Rattle.yasna_reader.specs.declared.callback.Outcome.{Outcome}
 use Rattle.yasna_reader.specs.declared.callback.Outcome.TheVariants.{Gave, Quiet, Failed}
@@ -23,17 +23,17 @@ IsUnmoved c m = length m.left ≡ length c
 pub data Fault {A : Type 0} (c : List ℕ) (x : Result A ASN1Error) (m : Reading) (e : ASN1Error) : Type 0 where
   kept : m.kept ≡ Some e → Fault c x m e
   before : m.kept ≡ None → IsBefore c m.left → e ≡ error_of Invalid → Fault c x m e
-  own : m.kept ≡ None → (IsBefore c m.left → ⊥) → x ≡ Err e → (IsUnmoved c m → IsPlain (kind_of e) → ⊥) → Fault c x m e
+  own : m.kept ≡ None → (IsBefore c m.left → ⊥) → x ≡ Err e → (IsUnmoved c m → BlamesBytes (kind_of e) → ⊥) → Fault c x m e
 
 -- What a callback came to that was handed s, answered x and left m, and what is left then. It gave a value; or its Err is
 -- quiet: it moved nothing, is neither of depth nor of memory, and left no failure; or a failure is kept
 abbrev pub ComesTo : {A : Type 0} → Reading → Result A ASN1Error → Reading → Outcome A → Reading → Type 0
 ComesTo s x m (Gave v) s' = (m.kept ≡ None) × (IsBefore s.left m.left → ⊥) × (x ≡ Ok v) × (s' ≡ moved_as s m)
-ComesTo s x m (Quiet e) s' = (m.kept ≡ None) × IsUnmoved s.left m × IsPlain (kind_of e) × (x ≡ Err e) × (s' ≡ moved_as s m)
+ComesTo s x m (Quiet e) s' = (m.kept ≡ None) × IsUnmoved s.left m × BlamesBytes (kind_of e) × (x ≡ Err e) × (s' ≡ moved_as s m)
 ComesTo s x m (Failed e) s' = Fault s.left x m e × (s' ≡ failing (moved_as s m) e)
 
 -- a callback that does what P says was handed s and came to o
-pub record Hands {A : Type 0} (P : Reading → Result A ASN1Error → Reading → Type 0) (s : Reading) (o : Outcome A) (s' : Reading) : Type 0 where
+pub record Hands {A : Type 0} (P : Does A) (s : Reading) (o : Outcome A) (s' : Reading) : Type 0 where
   pub own : Result A ASN1Error
   pub left : Reading
   pub says : P s own left
@@ -46,7 +46,7 @@ left_by (Quiet e) s z = s
 left_by (Failed e) s z = z
 
 -- a callback that does what P says was handed z in place of the reading s, and came to o
-pub record Lent {A : Type 0} (P : Reading → Result A ASN1Error → Reading → Type 0) (z s : Reading) (o : Outcome A) (s' : Reading) : Type 0 where
+pub record Lent {A : Type 0} (P : Does A) (z s : Reading) (o : Outcome A) (s' : Reading) : Type 0 where
   pub between : Reading
   pub hands : Hands P z o between
   pub state : s' ≡ left_by o s between

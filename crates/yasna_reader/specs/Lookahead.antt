@@ -4,12 +4,12 @@ use Rattle.yasna_base.specs.Error.{kind_of}
 use Rattle.yasna_base.specs.Identifier.{BeginsWithTag}
 use Rattle.yasna_base.specs.declared.error.ASN1Error.{ASN1Error}
 use Rattle.yasna_base.specs.declared.tag.Tag.{Tag}
-use Rattle.yasna_bytes.specs.Refusal.{IsPlain}
+use Rattle.yasna_bytes.specs.Refusal.{BlamesBytes}
 
 -- the tag with whose identifier s begins, or that s begins with none
 abbrev pub FindsTag : List ℕ → Result Tag ASN1Error → Type 0
 FindsTag s (Ok t) = BeginsWithTag t s
-FindsTag s (Err e) = IsPlain (kind_of e) × ((t : Tag) → t.tag_number < 2 ^ 64 → BeginsWithTag t s → ⊥)
+FindsTag s (Err e) = BlamesBytes (kind_of e) × ((t : Tag) → t.tag_number < 2 ^ 64 → BeginsWithTag t s → ⊥)
 
 -- a failure that is kept comes first
 abbrev pub LooksAhead : Option ASN1Error → List ℕ → Result Tag ASN1Error → Type 0

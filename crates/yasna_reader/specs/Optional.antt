@@ -6,7 +6,7 @@ use Rattle.yasna_base.specs.declared.error.ASN1ErrorKind.TheVariants.{Invalid}
 use Rattle.yasna_base.specs.declared.mode.BERMode.{BERMode}
 use Rattle.yasna_base.specs.declared.mode.BERMode.TheVariants.{Ber, Der, Cer}
 use Rattle.yasna_reader.specs.Callback.{Hands, UnlessKept}
-use Rattle.yasna_reader.specs.State.{Reading, failing_if, untagged}
+use Rattle.yasna_reader.specs.State.{Reading, failing_if, untagged, Does}
 use Rattle.yasna_reader.specs.declared.callback.Outcome.{Outcome}
 use Rattle.yasna_reader.specs.declared.callback.Outcome.TheVariants.{Gave, Quiet, Failed}
 
@@ -17,7 +17,7 @@ optional (Quiet e) = Ok None
 optional (Failed e) = Err e
 
 -- the callback is handed the reading
-abbrev pub ReadsOptional : {A : Type 0} → (Reading → Result A ASN1Error → Reading → Type 0) → Reading → Result (Option A) ASN1Error → Reading → Type 0
+abbrev pub ReadsOptional : {A : Type 0} → Does A → Does (Option A)
 ReadsOptional {A} P s r s' = UnlessKept s.kept s r s' ((o : Outcome A) × Hands P (untagged s) o s' × (r ≡ optional o))
 
 -- where a mode takes a value that is its default (X.690, 11.5)
@@ -28,26 +28,24 @@ TakesDefault Cer = ⊥
 
 -- the value v that a reading of which z is left gave, unless it equals the default d and the mode refuses that: then the
 -- refusal is kept where something moved
-abbrev pub UnlessDefault : {A : Type 0} → (A → A → Bool) → A → A → Bool → Reading → Result A ASN1Error → Reading → Type 0
+abbrev pub UnlessDefault : {A : Type 0} → (A → A → Bool) → A → A → Bool → Does A
 UnlessDefault eq d v moved z r s' =
     ((TakesDefault z.mode ⊎ (eq v d ≡ false)) × (r ≡ Ok v) × (s' ≡ z)) ⊎
     ((TakesDefault z.mode → ⊥) × (eq v d ≡ true) × (r ≡ Err (error_of Invalid)) × (s' ≡ failing_if moved z (error_of Invalid)))
 
 -- the default d for none; a value of a reading of n bytes that left z, unless the mode refuses it
-abbrev pub DefaultsTo : {A : Type 0} → (A → A → Bool) → A → ℕ → Outcome A → Reading → Result A ASN1Error → Reading → Type 0
+abbrev pub DefaultsTo : {A : Type 0} → (A → A → Bool) → A → ℕ → Outcome A → Does A
 DefaultsTo eq d n (Gave v) z r s' = UnlessDefault eq d v (nat_lt (length z.left) n) z r s'
 DefaultsTo eq d n (Quiet e) z r s' = (r ≡ Ok d) × (s' ≡ z)
 DefaultsTo eq d n (Failed e) z r s' = (r ≡ Err e) × (s' ≡ z)
 
 -- the callback is handed the reading, and what it comes to is put to the test
-pub record ReadsOrDefaults {A : Type 0} (P : Reading → Result A ASN1Error → Reading → Type 0) (eq : A → A → Bool) (d : A)
-    (s : Reading) (r : Result A ASN1Error) (s' : Reading) : Type 0 where
+pub record ReadsOrDefaults {A : Type 0} (P : Does A) (eq : A → A → Bool) (d : A) (s : Reading) (r : Result A ASN1Error) (s' : Reading) : Type 0 where
   pub outcome : Outcome A
   pub between : Reading
   pub hands : Hands P s outcome between
   pub defaults : DefaultsTo eq d (length s.left) outcome between r s'
 
 -- what read_default does: a failure that is kept comes first
-abbrev pub ReadsDefault : {A : Type 0} → (Reading → Result A ASN1Error → Reading → Type 0) → (A → A → Bool) → A →
-    Reading → Result A ASN1Error → Reading → Type 0
+abbrev pub ReadsDefault : {A : Type 0} → Does A → (A → A → Bool) → A → Does A
 ReadsDefault P eq d s r s' = UnlessKept s.kept s r s' (ReadsOrDefaults P eq d (untagged s) r s')

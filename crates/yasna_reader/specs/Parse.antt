@@ -4,7 +4,7 @@ use Rattle.yasna_base.specs.Error.{error_of}
 use Rattle.yasna_base.specs.declared.error.ASN1Error.{ASN1Error}
 use Rattle.yasna_base.specs.declared.error.ASN1ErrorKind.TheVariants.{Extra}
 use Rattle.yasna_base.specs.declared.mode.BERMode.{BERMode}
-use Rattle.yasna_reader.specs.State.{Reading, starts}
+use Rattle.yasna_reader.specs.State.{Reading, starts, Does}
 
 -- a kept failure is answered before anything else
 abbrev pub unless_kept : {A : Type 0} → Option ASN1Error → Result A ASN1Error → Result A ASN1Error
@@ -22,7 +22,7 @@ abbrev pub parsed : {A : Type 0} → Result A ASN1Error → Reading → Result A
 parsed r s = unless_kept s.kept (ended r s.left)
 
 -- a parse of s in the mode m: what P says of the reading that it starts with, and what is made of the answer
-pub record Parses {A : Type 0} (P : Reading → Result A ASN1Error → Reading → Type 0) (m : BERMode) (s : List ℕ) (r : Result A ASN1Error) : Type 0 where
+pub record Parses {A : Type 0} (P : Does A) (m : BERMode) (s : List ℕ) (r : Result A ASN1Error) : Type 0 where
   pub own : Result A ASN1Error
   pub left : Reading
   pub says : P (starts s m) own left

@@ -5,9 +5,10 @@ use Rattle.yasna_base.specs.Error.{error_of, kind_of}
 use Rattle.yasna_base.specs.declared.error.ASN1Error.{ASN1Error}
 use Rattle.yasna_base.specs.declared.mode.BERMode.{BERMode}
 use Rattle.yasna_base.specs.declared.tag.Tag.{Tag}
+use Rattle.yasna_base.specs.Grammar.{TaggedGrammar, TaggedMembers}
 use Rattle.yasna_bytes.specs.Front.{Takes, Stands, SeenAt}
 use Rattle.yasna_bytes.specs.Refusal.{IsTooDeep, Refuses}
-use Rattle.yasna_reader.specs.State.{Reading, refusing, tag_of, untagged}
+use Rattle.yasna_reader.specs.State.{Reading, refusing, tag_of, untagged, Does}
 use Rattle.yasna_bytes.specs.declared.bytes.header.Refusal.{Refusal}
 
 -- the refusal e of a read: what it says, and that it is kept where it moved
@@ -24,8 +25,7 @@ pub record ReadsFront {A : Type 0} (B : A → List ℕ → Type 0) (s : Reading)
   pub state : s' ≡ record (untagged s) { left = rest }
 
 -- a kept failure comes first, and leaves the reading as it was; view says what is seen of a value
-abbrev pub ReadsUnlessKept : {V A : Type 0} → Option ASN1Error → (A → List ℕ → Type 0) → (V → A) → Type 0 → Type 0 → Tag → Reading → Result V ASN1Error →
-    Reading → Type 0
+abbrev pub ReadsUnlessKept : {V A : Type 0} → Option ASN1Error → (A → List ℕ → Type 0) → (V → A) → Type 0 → Type 0 → Tag → Does V
 ReadsUnlessKept (Some e) B view D M t s r s' = (r ≡ Err e) × (s' ≡ s)
 ReadsUnlessKept None B view D M t s (Ok v) s' = ReadsFront B s (view v) s'
 ReadsUnlessKept None B view D M t s (Err e) s' = RefusedAs B D M t s e s'
@@ -36,7 +36,7 @@ Settles s (Ok x) r s' = (r ≡ Ok x.0) × (s' ≡ record (untagged s) { left = x
 Settles s (Err e) r s' = (r ≡ Err (error_of e.kind)) × (s' ≡ refusing e.moved s (error_of e.kind))
 
 -- What a typed read looks for. B: which fronts it takes; D: where they lie too deep; M: where memory may be wanting
-abbrev pub FrontOf : {V A : Type 0} → (ℕ → BERMode → Tag → A → List ℕ → Type 0) → (V → A) → (ℕ → BERMode → Tag → List ℕ → Type 0) →
+abbrev pub FrontOf : {V A : Type 0} → TaggedGrammar A → (V → A) → TaggedMembers →
     (ℕ → Tag → List ℕ → Type 0) → Tag → Reading → Result (V × Bor (List ℕ)) Refusal → Type 0
 FrontOf B view D M tag s r = SeenAt (B s.levels s.mode (tag_of s tag)) view (D s.levels s.mode (tag_of s tag) s.left) (M s.levels (tag_of s tag) s.left)
     (tag_of s tag) s.left r
@@ -45,16 +45,15 @@ FrontOf B view D M tag s r = SeenAt (B s.levels s.mode (tag_of s tag)) view (D s
 -- a front in B, which stands for what is seen of the value, and leaves the rest; an Err that isn't of memory says that no
 -- front is in B, whatever it stands for. It is unmoved exactly where nothing or another tag stands there: then the reading
 -- is as it was, the implicit tag too; and kept otherwise; of depth exactly where D holds; of memory only where M does
-pub record ReadsSeen {V A : Type 0} (B : ℕ → BERMode → Tag → A → List ℕ → Type 0) (view : V → A) (D : ℕ → BERMode → Tag → List ℕ → Type 0)
+pub record ReadsSeen {V A : Type 0} (B : TaggedGrammar A) (view : V → A) (D : TaggedMembers)
     (M : ℕ → Tag → List ℕ → Type 0) (tag : Tag) (s : Reading) (r : Result V ASN1Error) (s' : Reading) : Type 0 where
   pub reads : ReadsUnlessKept s.kept (B s.levels s.mode (tag_of s tag)) view (D s.levels s.mode (tag_of s tag) s.left) (M s.levels (tag_of s tag) s.left)
       (tag_of s tag) s r s'
 
 -- the same of values that are seen as they are
-abbrev pub Reads : {A : Type 0} → (ℕ → BERMode → Tag → A → List ℕ → Type 0) → (ℕ → BERMode → Tag → List ℕ → Type 0) → (ℕ → Tag → List ℕ → Type 0) → Tag →
-    Reading → Result A ASN1Error → Reading → Type 0
+abbrev pub Reads : {A : Type 0} → TaggedGrammar A → TaggedMembers → (ℕ → Tag → List ℕ → Type 0) → Tag → Does A
 Reads B D M tag s r s' = ReadsSeen B (λ v. v) D M tag s r s'
 
 -- depth of a read that goes one level down
-abbrev pub NoLevel : ℕ → BERMode → Tag → List ℕ → Type 0
+abbrev pub NoLevel : TaggedMembers
 NoLevel n m t s = IsTooDeep n t s

@@ -9,7 +9,7 @@ use Rattle.yasna_base.specs.declared.error.ASN1ErrorKind.TheVariants.{OutOfMemor
 use Rattle.yasna_base.specs.declared.mode.BERMode.{BERMode}
 use Rattle.yasna_bytes.specs.Front.{Stands, Takes}
 use Rattle.yasna_reader.specs.Primitive.{ReadsFront}
-use Rattle.yasna_reader.specs.State.{Reading, refusing}
+use Rattle.yasna_reader.specs.State.{Reading, refusing, Does}
 use Rattle.yasna_bytes.specs.declared.bytes.header.Refusal.{Refusal}
 
 -- the whole of a raw element
@@ -39,8 +39,7 @@ pub record RefusedRaw {A : Type 0} (B : ℕ → BERMode → A → List ℕ → T
   pub state : s' ≡ refusing refusal.moved s e
 
 -- a kept failure comes first
-abbrev pub ReadsRawUnlessKept : {V A : Type 0} → Option ASN1Error → (ℕ → BERMode → A → List ℕ → Type 0) → (V → A) → Reading → Result V ASN1Error → Reading →
-    Type 0
+abbrev pub ReadsRawUnlessKept : {V A : Type 0} → Option ASN1Error → (ℕ → BERMode → A → List ℕ → Type 0) → (V → A) → Does V
 ReadsRawUnlessKept (Some e) B view s r s' = (r ≡ Err e) × (s' ≡ s)
 ReadsRawUnlessKept None B view s (Ok v) s' = ReadsFront (B s.levels s.mode) s (view v) s'
 ReadsRawUnlessKept None B view s (Err e) s' = RefusedRaw B s e s'

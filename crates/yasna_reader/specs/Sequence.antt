@@ -9,8 +9,8 @@ use Rattle.yasna_base.specs.declared.tag.PCBit.TheVariants.{Constructed}
 use Rattle.yasna_base.specs.declared.tag.Tag.{Tag}
 use Rattle.yasna_base.specs.Header.{ContentsEnd, OpensAt}
 use Rattle.yasna_bytes.specs.Header.{OnlyConstructed, RefusesHeader, EndsAt, EndsBefore}
-use Rattle.yasna_bytes.specs.Refusal.{IsPlain}
-use Rattle.yasna_reader.specs.State.{Reading, failing, inside, refusing, tag_of, untagged}
+use Rattle.yasna_bytes.specs.Refusal.{BlamesBytes}
+use Rattle.yasna_reader.specs.State.{Reading, failing, inside, refusing, tag_of, untagged, Does}
 use Rattle.yasna_bytes.specs.declared.bytes.header.Refusal.{Refusal}
 use Rattle.yasna_reader.specs.declared.state.Parts.{Parts}
 
@@ -25,8 +25,7 @@ abbrev pub TakesParts : {F R : Type 0} → Once F (MutBor (Parts Reading) × Uni
 TakesParts g f tag s = TakesContents (λ z. FnOnceTakesAtMut g f (record { reader = z })) tag s
 
 -- f runs on the reading s, answers r and leaves s'
-abbrev pub Runs : {F A : Type 0} → Once F (MutBor (Parts Reading) × Unit {0}) (Result A ASN1Error × (MutBor (Parts Reading) × Unit {0})) → F → Reading →
-    Result A ASN1Error → Reading → Type 0
+abbrev pub Runs : {F A : Type 0} → Once F (MutBor (Parts Reading) × Unit {0}) (Result A ASN1Error × (MutBor (Parts Reading) × Unit {0})) → F → Does A
 Runs g f s r s' = FnOnceReturnsAtMut g f (record { reader = s }) r (record { reader = s' })
 
 -- the place that a callback left, as far from the end of the contents c as what it left is long
@@ -45,7 +44,7 @@ pub record Fails {A : Type 0} (e : ASN1Error) (s : Reading) (r : Result A ASN1Er
 -- contents end where a callback left n bytes of them, and r follows the element, or they don't end there
 abbrev pub ClosesFrom : ContentsEnd → List ℕ → ℕ → Result (Bor (List ℕ)) ASN1ErrorKind → Type 0
 ClosesFrom end c n (Ok r) = (n ≤ length c) × EndsBefore end (drop (length c - n) c) r.now
-ClosesFrom end c n (Err k) = IsPlain k × ((length c < n) ⊎ (EndsAt end (drop (length c - n) c) → ⊥))
+ClosesFrom end c n (Err k) = BlamesBytes k × ((length c < n) ⊎ (EndsAt end (drop (length c - n) c) → ⊥))
 
 -- contents end where the callback left them, and the rest is left
 pub record Closes {A : Type 0} (end : ContentsEnd) (c y : List ℕ) (v : A) (s : Reading) (r : Result A ASN1Error) (s' : Reading) : Type 0 where
@@ -58,19 +57,18 @@ pub record Closes {A : Type 0} (end : ContentsEnd) (c y : List ℕ) (v : A) (s :
 -- they don't end there
 pub record StaysOpen {A : Type 0} (end : ContentsEnd) (c y : List ℕ) (s : Reading) (r : Result A ASN1Error) (s' : Reading) : Type 0 where
   pub error : ASN1Error
-  pub plain : IsPlain (kind_of error)
+  pub plain : BlamesBytes (kind_of error)
   pub open_end : IsBefore c y ⊎ (EndsAt end (place_in c y) → ⊥)
   pub fails : Fails error s r s'
 
 -- what is made of a callback's answer: first the failure that it kept, then its own Err, then whether the contents end
-abbrev pub Left : {A : Type 0} → ContentsEnd → List ℕ → Option ASN1Error → List ℕ → Result A ASN1Error → Reading → Result A ASN1Error → Reading → Type 0
+abbrev pub Left : {A : Type 0} → ContentsEnd → List ℕ → Option ASN1Error → List ℕ → Result A ASN1Error → Does A
 Left end c (Some e) y x s r s' = Fails e s r s'
 Left end c None y (Err e) s r s' = Fails e s r s'
 Left end c None y (Ok v) s r s' = Closes end c y v s r s' ⊎ StaysOpen end c y s r s'
 
 -- the header of a constructed element stands there, and its contents were read as P says
-pub record Entered {A : Type 0} (P : Reading → Result A ASN1Error → Reading → Type 0) (t : Tag)
-    (s : Reading) (r : Result A ASN1Error) (s' : Reading) : Type 0 where
+pub record Entered {A : Type 0} (P : Does A) (t : Tag) (s : Reading) (r : Result A ASN1Error) (s' : Reading) : Type 0 where
   pub level : 1 ≤ s.levels
   pub contents : List ℕ
   pub end : ContentsEnd
@@ -88,12 +86,10 @@ pub record NotEntered {A : Type 0} (t : Tag) (s : Reading) (r : Result A ASN1Err
   pub state : s' ≡ refusing refusal.moved s (error_of refusal.kind)
 
 -- a kept failure comes first
-abbrev pub EntersUnlessKept : {A : Type 0} → Option ASN1Error → (Reading → Result A ASN1Error → Reading → Type 0) → Tag → Reading → Result A ASN1Error →
-    Reading → Type 0
+abbrev pub EntersUnlessKept : {A : Type 0} → Option ASN1Error → Does A → Tag → Does A
 EntersUnlessKept (Some e) P t s r s' = (r ≡ Err e) × (s' ≡ s)
 EntersUnlessKept None P t s r s' = Entered P t s r s' ⊎ NotEntered t s r s'
 
 -- a read of a constructed element whose contents are read as P says
-pub record ReadsParts {A : Type 0} (P : Reading → Result A ASN1Error → Reading → Type 0) (tag : Tag)
-    (s : Reading) (r : Result A ASN1Error) (s' : Reading) : Type 0 where
+pub record ReadsParts {A : Type 0} (P : Does A) (tag : Tag) (s : Reading) (r : Result A ASN1Error) (s' : Reading) : Type 0 where
   pub enters : EntersUnlessKept s.kept P (tag_of s tag) s r s'

@@ -8,7 +8,7 @@ use Rattle.yasna_base.specs.Error.{error_of, kind_of}
 use Rattle.yasna_base.specs.declared.error.ASN1Error.{ASN1Error}
 use Rattle.yasna_base.specs.declared.error.ASN1ErrorKind.TheVariants.{Invalid, OutOfMemory}
 use Rattle.yasna_reader.specs.Callback.{ComesTo, IsUnmoved}
-use Rattle.yasna_reader.specs.State.{Reading, failing}
+use Rattle.yasna_reader.specs.State.{Reading, failing, Does}
 use Rattle.yasna_reader.specs.declared.callback.Outcome.{Outcome}
 use Rattle.yasna_reader.specs.declared.callback.Outcome.TheVariants.{Gave, Quiet, Failed}
 
@@ -90,7 +90,7 @@ items_of (Ok v) = Ok v.items
 items_of (Err e) = Err e
 
 -- contents are read into a vector by such turns
-abbrev pub CollectsBy : {G A : Type 0} → (G → Reading → Outcome A → G → Reading → Type 0) → G → Reading → Result (Vec A Global) ASN1Error → Reading → Type 0
+abbrev pub CollectsBy : {G A : Type 0} → (G → Reading → Outcome A → G → Reading → Type 0) → G → Does (Vec A Global)
 CollectsBy T g s r s' = Lists T g s (items_of r) s' ⊎ LacksRoom T g s (items_of r) s'
 
 -- the same answer where nothing is gathered
@@ -106,11 +106,9 @@ pub record VisitsBy {G A : Type 0} (T : G → Reading → Outcome A → G → Re
   pub answer : r ≡ without_items items
 
 -- the elements are the callback's, in any order
-abbrev pub Collects : {F A : Type 0} → (F → Reading → Result A ASN1Error → F → Reading → Type 0) → F →
-    Reading → Result (Vec A Global) ASN1Error → Reading → Type 0
+abbrev pub Collects : {F A : Type 0} → (F → Reading → Result A ASN1Error → F → Reading → Type 0) → F → Does (Vec A Global)
 Collects C f = CollectsBy (Turn C) f
 
 -- what read_sequence_of does: its turns, for no vector
-abbrev pub Visits : {F A : Type 0} → (F → Reading → Result A ASN1Error → F → Reading → Type 0) → F →
-    Reading → Result (Unit {0}) ASN1Error → Reading → Type 0
+abbrev pub Visits : {F A : Type 0} → (F → Reading → Result A ASN1Error → F → Reading → Type 0) → F → Does (Unit {0})
 Visits C f = VisitsBy (Turn C) f

@@ -16,7 +16,7 @@ use Rattle.yasna_base.specs.declared.error.ASN1ErrorKind.TheVariants.{Invalid, O
 use Rattle.yasna_base.specs.declared.mode.BERMode.{BERMode}
 use Rattle.yasna_base.specs.declared.mode.BERMode.TheVariants.{Ber, Der, Cer}
 use Rattle.yasna_base.specs.declared.tag.Tag.{Tag}
-use Rattle.yasna_reader.specs.State.{Reading, failing, untagged}
+use Rattle.yasna_reader.specs.State.{Reading, failing, untagged, Does}
 use Rattle.yasna_bytes.specs.Front.{Stands}
 use Rattle.yasna_bytes.specs.Walk.{MeetsDeep}
 use Rattle.yasna_reader.specs.contracts.set.Chosen.{the_row}
@@ -41,10 +41,10 @@ pub record Listed (n : ℕ) (m : BERMode) (l : List SetElement) (c y : List ℕ)
   pub joined : c ≡ front ++ y
 
 -- the order that a mode asks of the tags in a SET, of which some may be equal
-abbrev pub AreInTagOrder : BERMode → List SetElement → Type 0
-AreInTagOrder Ber l = Unit {0}
-AreInTagOrder Der l = IsSortedByKey (λ (x : SetElement). x.tag) tag_cmp l
-AreInTagOrder Cer l = IsSortedByKey (λ (x : SetElement). x.tag) tag_cmp l
+abbrev pub ElementsAreInSetOrder : BERMode → List SetElement → Type 0
+ElementsAreInSetOrder Ber l = Unit {0}
+ElementsAreInSetOrder Der l = IsSortedByKey (λ (x : SetElement). x.tag) tag_cmp l
+ElementsAreInSetOrder Cer l = IsSortedByKey (λ (x : SetElement). x.tag) tag_cmp l
 
 -- raw elements stand from c on up to an end, and y is there
 pub record ListsAll (n : ℕ) (m : BERMode) (l : List SetElement) (c y : List ℕ) : Type 0 where
@@ -67,14 +67,14 @@ ElementsAt n m c (Err k) = NotListed n m c k
 -- the elements that a SET's callback is handed: all of them, in the order that the mode asks
 pub record IsSetList (n : ℕ) (m : BERMode) (l : List SetElement) (c y : List ℕ) : Type 0 where
   pub all : ListsAll n m l c y
-  pub order : AreInTagOrder m l
+  pub order : ElementsAreInSetOrder m l
 
 -- the elements are there, and their tags aren't in that order
 pub record IsDisordered (n : ℕ) (m : BERMode) (c : List ℕ) : Type 0 where
   pub list : List SetElement
   pub rest : List ℕ
   pub all : ListsAll n m list c rest
-  pub disorder : AreInTagOrder m list → ⊥
+  pub disorder : ElementsAreInSetOrder m list → ⊥
 
 -- why a callback isn't run
 abbrev pub NotSetList : ℕ → BERMode → List ℕ → ASN1ErrorKind → Type 0
@@ -123,7 +123,7 @@ pub record NotRunOnSet {A : Type 0} (s : Reading) (r : Result A ASN1Error) (s' :
 
 -- the contents of a SET are listed, and the callback is run on the list
 abbrev pub RunsOnSet : {F A : Type 0} → Once F (MutBor (Chosen Reading (Vec SetElement Global)) × Unit {0})
-    (Result A ASN1Error × (MutBor (Chosen Reading (Vec SetElement Global)) × Unit {0})) → F → Reading → Result A ASN1Error → Reading → Type 0
+    (Result A ASN1Error × (MutBor (Chosen Reading (Vec SetElement Global)) × Unit {0})) → F → Does A
 RunsOnSet g f s r s' = RanOnSet g f s r s' ⊎ NotRunOnSet s r s'
 
 -- the element's tag is one of these

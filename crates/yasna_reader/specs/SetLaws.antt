@@ -16,7 +16,7 @@ use Rattle.yasna_base.specs.declared.mode.BERMode.{BERMode}
 use Rattle.yasna_base.specs.declared.tag.PCBit.TheVariants.{Constructed}
 use Rattle.yasna_base.specs.declared.tag.Tag.{Tag}
 use Rattle.yasna_reader.specs.Set.{IsSetList, SetReading}
-use Rattle.yasna_reader.specs.State.{Reading, inside}
+use Rattle.yasna_reader.specs.State.{Reading, inside, Does}
 use Rattle.yasna_reader.specs.declared.set.SetElement.{SetElement}
 
 -- within n levels, x is an element of the raw value v: its tag, and bytes that encode it
@@ -91,7 +91,6 @@ RefusesSet {F} {A} g f t s e = (vs : List RawValue) (front rest : List ℕ) → 
     × ((v : A) → GaveOfAll x.own x.left v → ⊥)
 
 -- a read of a SET, whose elements f takes
-abbrev pub ReadsSet : {F A : Type 0} → Once F (MutBor SetReading × Unit {0}) (Result A ASN1Error × (MutBor SetReading × Unit {0})) → F →
-    Tag → Reading → Result A ASN1Error → Reading → Type 0
+abbrev pub ReadsSet : {F A : Type 0} → Once F (MutBor SetReading × Unit {0}) (Result A ASN1Error × (MutBor SetReading × Unit {0})) → F → Tag → Does A
 ReadsSet g f t s (Ok v) s' = TakesSet g f t s v s'
 ReadsSet g f t s (Err e) s' = RefusesSet g f t s e

@@ -10,7 +10,7 @@ use Rattle.yasna_base.specs.declared.error.ASN1ErrorKind.TheVariants.{Invalid}
 use Rattle.yasna_base.specs.declared.mode.BERMode.{BERMode}
 use Rattle.yasna_base.specs.declared.mode.BERMode.TheVariants.{Ber, Der, Cer}
 use Rattle.yasna_reader.specs.SequenceOf.{CollectsBy, Turn, VisitsBy}
-use Rattle.yasna_reader.specs.State.{Reading, failing}
+use Rattle.yasna_reader.specs.State.{Reading, failing, Does}
 use Rattle.yasna_reader.specs.declared.callback.Outcome.{Outcome}
 use Rattle.yasna_reader.specs.declared.callback.Outcome.TheVariants.{Gave, Quiet, Failed}
 use Rattle.yasna_reader.specs.declared.set_of.Order.{Order}
@@ -86,11 +86,9 @@ Ordered a c (Quiet e) s o n s' = (o ≡ Quiet e) × (s' ≡ s)
 Ordered a c (Failed e) s o n s' = (o ≡ Failed e) × (s' ≡ s)
 
 -- the elements are the callback's, and ascend where the order asks it in the mode
-abbrev pub CollectsInOrder : {F A : Type 0} → Order → (F → Reading → Result A ASN1Error → F → Reading → Type 0) → F →
-    Reading → Result (Vec A Global) ASN1Error → Reading → Type 0
+abbrev pub CollectsInOrder : {F A : Type 0} → Order → (F → Reading → Result A ASN1Error → F → Reading → Type 0) → F → Does (Vec A Global)
 CollectsInOrder o C f s = CollectsBy (TurnInOrder C) (record { callback = f; bound = bound_in o s.mode }) s
 
 -- what read_set_of does: such turns, for no vector
-abbrev pub VisitsInOrder : {F A : Type 0} → Order → (F → Reading → Result A ASN1Error → F → Reading → Type 0) → F →
-    Reading → Result (Unit {0}) ASN1Error → Reading → Type 0
+abbrev pub VisitsInOrder : {F A : Type 0} → Order → (F → Reading → Result A ASN1Error → F → Reading → Type 0) → F → Does (Unit {0})
 VisitsInOrder o C f s = VisitsBy (TurnInOrder C) (record { callback = f; bound = bound_in o s.mode }) s

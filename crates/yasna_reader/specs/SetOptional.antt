@@ -8,7 +8,7 @@ use Rattle.yasna_reader.specs.Callback.{Hands, answer_of}
 use Rattle.yasna_reader.specs.Optional.{UnlessDefault}
 use Rattle.yasna_reader.specs.Parse.{ended}
 use Rattle.yasna_reader.specs.Set.{NoneIsAmong, SetReading, TakesAmong}
-use Rattle.yasna_reader.specs.State.{Reading, failing, untagged}
+use Rattle.yasna_reader.specs.State.{Reading, failing, untagged, Does}
 use Rattle.yasna_reader.specs.declared.callback.Outcome.{Outcome}
 use Rattle.yasna_reader.specs.declared.set.SetElement.{SetElement}
 
@@ -23,8 +23,7 @@ keeping (Ok v) s = s
 keeping (Err e) s = failing s e
 
 -- a callback that does what P says is handed the reading of one element: it is to leave nothing, and what fails is kept
-pub record ReadsAlone {A : Type 0} (P : Reading → Result A ASN1Error → Reading → Type 0) (s : Reading) (r : Result A ASN1Error) (s' : Reading) :
-    Type 0 where
+pub record ReadsAlone {A : Type 0} (P : Does A) (s : Reading) (r : Result A ASN1Error) (s' : Reading) : Type 0 where
   pub outcome : Outcome A
   pub between : Reading
   pub hands : Hands P s outcome between
@@ -37,8 +36,7 @@ some (Ok v) = Ok (Some v)
 some (Err e) = Err e
 
 -- the first element that has one of the tags is taken out, and is read
-pub record ReadsTaken {A : Type 0} (P : Reading → Result A ASN1Error → Reading → Type 0) (ts : List Tag) (c : SetReading)
-    (r : Result (Option A) ASN1Error) (c' : SetReading) : Type 0 where
+pub record ReadsTaken {A : Type 0} (P : Does A) (ts : List Tag) (c : SetReading) (r : Result (Option A) ASN1Error) (c' : SetReading) : Type 0 where
   pub alone : Reading
   pub takes : TakesAmong ts c.list.items c.reader c'.list.items alone
   pub own : Result A ASN1Error
@@ -53,24 +51,22 @@ pub record ReadsNone {A : Type 0} (ts : List Tag) (c : SetReading) (r : Result (
   pub state : c'.reader ≡ untagged c.reader
 
 -- a failure that is kept comes first, and then nothing is taken
-abbrev pub ReadsChosenBy : {A : Type 0} → Option ASN1Error → (Reading → Result A ASN1Error → Reading → Type 0) → List Tag → SetReading →
-    Result (Option A) ASN1Error → SetReading → Type 0
+abbrev pub ReadsChosenBy : {A : Type 0} → Option ASN1Error → Does A → List Tag → SetReading → Result (Option A) ASN1Error → SetReading → Type 0
 ReadsChosenBy (Some e) P ts c r c' = (r ≡ Err e) × (c'.list.items ≡ c.list.items) × (c'.reader ≡ untagged c.reader)
 ReadsChosenBy None P ts c r c' = ReadsTaken P ts c r c' ⊎ ReadsNone ts c r c'
 
 -- a read of an element that has one of the tags and may be left out
-pub record ReadsChosen {A : Type 0} (P : Reading → Result A ASN1Error → Reading → Type 0) (ts : List Tag) (c : SetReading)
-    (r : Result (Option A) ASN1Error) (c' : SetReading) : Type 0 where
+pub record ReadsChosen {A : Type 0} (P : Does A) (ts : List Tag) (c : SetReading) (r : Result (Option A) ASN1Error) (c' : SetReading) : Type 0 where
   pub reads : ReadsChosenBy c.reader.kept P ts c r c'
 
 -- the default d for none; a value, unless the mode refuses it: an element was taken then, so that is kept
-abbrev pub DefaultsChosen : {A : Type 0} → (A → A → Bool) → A → Result (Option A) ASN1Error → Reading → Result A ASN1Error → Reading → Type 0
+abbrev pub DefaultsChosen : {A : Type 0} → (A → A → Bool) → A → Result (Option A) ASN1Error → Does A
 DefaultsChosen eq d (Ok (Some v)) z r z' = UnlessDefault eq d v true z r z'
 DefaultsChosen eq d (Ok None) z r z' = (r ≡ Ok d) × (z' ≡ z)
 DefaultsChosen eq d (Err e) z r z' = (r ≡ Err e) × (z' ≡ z)
 
 -- the same read, with the default d for none
-pub record ReadsChosenDefault {A : Type 0} (P : Reading → Result A ASN1Error → Reading → Type 0) (eq : A → A → Bool) (d : A) (ts : List Tag)
+pub record ReadsChosenDefault {A : Type 0} (P : Does A) (eq : A → A → Bool) (d : A) (ts : List Tag)
     (c : SetReading) (r : Result A ASN1Error) (c' : SetReading) : Type 0 where
   pub own : Result (Option A) ASN1Error
   pub between : SetReading

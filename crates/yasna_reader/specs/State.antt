@@ -1,6 +1,6 @@
 -- A reading as contracts see it, and what the parts of a constructed element lend.
 use Rattle.std.specs.Borrow.{Fml, Lends, MutBor, RattleType}
-use Rattle.std.specs.Prelude.{Bool, List, None, Option, Some, false, true, ℕ, ◌-◌, ◌≡◌}
+use Rattle.std.specs.Prelude.{Bool, List, None, Option, Result, Some, false, true, ℕ, ◌-◌, ◌≡◌}
 use Rattle.yasna_base.specs.declared.error.ASN1Error.{ASN1Error}
 use Rattle.yasna_base.specs.declared.mode.BERMode.{BERMode}
 use Rattle.yasna_base.specs.declared.tag.Tag.{Tag}
@@ -16,6 +16,10 @@ pub record Reading : Type 0 where
   pub levels : ℕ
   pub tag : Option Tag
   pub kept : Option ASN1Error
+
+-- what a read does: from which reading, with which answer, and what is left
+abbrev pub Does : Type 0 → Type 1
+Does A = Reading → Result A ASN1Error → Reading → Type 0
 
 -- no failure was kept, and no implicit tag waits
 abbrev pub IsFresh : Reading → Type 0

@@ -3,7 +3,7 @@ use Rattle.std.specs.Prelude.{Result, Some, ◌≡◌}
 use Rattle.yasna_base.specs.declared.error.ASN1Error.{ASN1Error}
 use Rattle.yasna_base.specs.declared.tag.Tag.{Tag}
 use Rattle.yasna_reader.specs.Callback.{Lent, UnlessKept, answer_of}
-use Rattle.yasna_reader.specs.State.{Reading, tag_of}
+use Rattle.yasna_reader.specs.State.{Reading, tag_of, Does}
 use Rattle.yasna_reader.specs.declared.callback.Outcome.{Outcome}
 
 -- the reading whose next element is to have the tag, or the one that waits already
@@ -12,5 +12,5 @@ tagging tag s = record s { tag = Some (tag_of s tag) }
 
 -- the callback is handed the reading under the tag, and what it comes to is answered; where it is quiet, the reading is as
 -- it was, with the tag that waited
-abbrev pub ReadsImplicitly : {A : Type 0} → (Reading → Result A ASN1Error → Reading → Type 0) → Tag → Reading → Result A ASN1Error → Reading → Type 0
+abbrev pub ReadsImplicitly : {A : Type 0} → Does A → Tag → Does A
 ReadsImplicitly {A} P tag s r s' = UnlessKept s.kept s r s' ((o : Outcome A) × Lent P (tagging tag s) s o s' × (r ≡ answer_of o))

@@ -2,7 +2,7 @@
 //!
 //! Of what the callback left only the failure counts that is kept there, and how many bytes are left.
 ghost use Rattle.std.specs.Prelude.{IsTrue, ◌↔◌, ◌≡◌, length};
-ghost use Rattle.yasna_bytes.specs.Refusal.{IsPlain};
+ghost use Rattle.yasna_bytes.specs.Refusal.{BlamesBytes};
 
 use crate::state::{BERReader, ReaderState};
 use yasna_base::error::{ASN1Error, ASN1ErrorKind, ASN1Result};
@@ -23,7 +23,7 @@ pub enum Outcome<T> {
 // Whether a kind is neither of depth nor of memory.
 #[inline(always)]
 fn is_plain(kind: ASN1ErrorKind) -> bool
-    ensures { IsTrue result ↔ IsPlain kind }
+    ensures { IsTrue result ↔ BlamesBytes kind }
 {
     match kind {
         ASN1ErrorKind::StackOverflow | ASN1ErrorKind::OutOfMemory => false,

@@ -1,5 +1,10 @@
 //! Reads of types of one primitive element: BOOLEAN, NULL, INTEGER, ENUMERATED and OBJECT IDENTIFIER (X.690, 8.2 to 8.4,
 //! 8.8 and 8.19).
+ghost use Rattle.yasna_base.specs.Boolean.{boolean_tag};
+ghost use Rattle.yasna_base.specs.Enumerated.{enumerated_tag};
+ghost use Rattle.yasna_base.specs.Integer.{integer_tag};
+ghost use Rattle.yasna_base.specs.Null.{null_tag};
+ghost use Rattle.yasna_base.specs.Oid.{oid_tag};
 
 use crate::state::ReaderState;
 use yasna_base::error::ASN1Result;
@@ -25,7 +30,7 @@ impl<'a> ReaderState<'a> {
     /// In DER and CER 255 alone is true (11.1). Other contents are `Invalid`.
     #[inline(always)]
     pub fn read_bool(&mut self) -> ASN1Result<bool>
-        ensures { Reads (Primitively IsBoolean) NoLevel Never TAG_BOOLEAN self.old result self.new }
+        ensures { Reads (Primitively IsBoolean) NoLevel Never boolean_tag self.old result self.new }
     {
         self.read_primitive::<bool>(TAG_BOOLEAN)
     }
@@ -33,7 +38,7 @@ impl<'a> ReaderState<'a> {
     /// Reads NULL (X.690, 8.8). It has no contents: any are `Invalid`.
     #[inline(always)]
     pub fn read_null(&mut self) -> ASN1Result<()>
-        ensures { Reads (Primitively IsNull) NoLevel Never TAG_NULL self.old result self.new }
+        ensures { Reads (Primitively IsNull) NoLevel Never null_tag self.old result self.new }
     {
         self.read_primitive::<()>(TAG_NULL)
     }
@@ -41,7 +46,7 @@ impl<'a> ReaderState<'a> {
     /// Reads ENUMERATED (X.690, 8.4): its number, as `read_i64` reads that of an INTEGER.
     #[inline(always)]
     pub fn read_enum(&mut self) -> ASN1Result<i64>
-        ensures { Reads (Primitively (IsSigned w64)) NoLevel Never TAG_ENUM self.old result self.new }
+        ensures { Reads (Primitively (IsSigned w64)) NoLevel Never enumerated_tag self.old result self.new }
     {
         self.read_primitive::<i64>(TAG_ENUM)
     }
@@ -51,7 +56,7 @@ impl<'a> ReaderState<'a> {
     /// Contents that aren't the fewest bytes of a number are `Invalid`, and a number outside the type is `IntegerOverflow`.
     #[inline(always)]
     pub fn read_i64(&mut self) -> ASN1Result<i64>
-        ensures { Reads (Primitively (IsSigned w64)) NoLevel Never TAG_INTEGER self.old result self.new }
+        ensures { Reads (Primitively (IsSigned w64)) NoLevel Never integer_tag self.old result self.new }
     {
         self.read_primitive::<i64>(TAG_INTEGER)
     }
@@ -59,7 +64,7 @@ impl<'a> ReaderState<'a> {
     /// Reads INTEGER (X.690, 8.3), as `read_i64` does: a number outside the type is `IntegerOverflow`.
     #[inline(always)]
     pub fn read_i32(&mut self) -> ASN1Result<i32>
-        ensures { Reads (Primitively (IsSigned w32)) NoLevel Never TAG_INTEGER self.old result self.new }
+        ensures { Reads (Primitively (IsSigned w32)) NoLevel Never integer_tag self.old result self.new }
     {
         self.read_primitive::<i32>(TAG_INTEGER)
     }
@@ -67,7 +72,7 @@ impl<'a> ReaderState<'a> {
     /// Reads INTEGER (X.690, 8.3), as `read_i64` does: a number outside the type is `IntegerOverflow`.
     #[inline(always)]
     pub fn read_i16(&mut self) -> ASN1Result<i16>
-        ensures { Reads (Primitively (IsSigned w16)) NoLevel Never TAG_INTEGER self.old result self.new }
+        ensures { Reads (Primitively (IsSigned w16)) NoLevel Never integer_tag self.old result self.new }
     {
         self.read_primitive::<i16>(TAG_INTEGER)
     }
@@ -75,7 +80,7 @@ impl<'a> ReaderState<'a> {
     /// Reads INTEGER (X.690, 8.3), as `read_i64` does: a number outside the type is `IntegerOverflow`.
     #[inline(always)]
     pub fn read_i8(&mut self) -> ASN1Result<i8>
-        ensures { Reads (Primitively (IsSigned w8)) NoLevel Never TAG_INTEGER self.old result self.new }
+        ensures { Reads (Primitively (IsSigned w8)) NoLevel Never integer_tag self.old result self.new }
     {
         self.read_primitive::<i8>(TAG_INTEGER)
     }
@@ -83,7 +88,7 @@ impl<'a> ReaderState<'a> {
     /// Reads INTEGER (X.690, 8.3), as `read_i64` does: a number outside the type is `IntegerOverflow`.
     #[inline(always)]
     pub fn read_u64(&mut self) -> ASN1Result<u64>
-        ensures { Reads (Primitively (IsUnsigned 64)) NoLevel Never TAG_INTEGER self.old result self.new }
+        ensures { Reads (Primitively (IsUnsigned 64)) NoLevel Never integer_tag self.old result self.new }
     {
         self.read_primitive::<u64>(TAG_INTEGER)
     }
@@ -91,7 +96,7 @@ impl<'a> ReaderState<'a> {
     /// Reads INTEGER (X.690, 8.3), as `read_i64` does: a number outside the type is `IntegerOverflow`.
     #[inline(always)]
     pub fn read_u32(&mut self) -> ASN1Result<u32>
-        ensures { Reads (Primitively (IsUnsigned 32)) NoLevel Never TAG_INTEGER self.old result self.new }
+        ensures { Reads (Primitively (IsUnsigned 32)) NoLevel Never integer_tag self.old result self.new }
     {
         self.read_primitive::<u32>(TAG_INTEGER)
     }
@@ -99,7 +104,7 @@ impl<'a> ReaderState<'a> {
     /// Reads INTEGER (X.690, 8.3), as `read_i64` does: a number outside the type is `IntegerOverflow`.
     #[inline(always)]
     pub fn read_u16(&mut self) -> ASN1Result<u16>
-        ensures { Reads (Primitively (IsUnsigned 16)) NoLevel Never TAG_INTEGER self.old result self.new }
+        ensures { Reads (Primitively (IsUnsigned 16)) NoLevel Never integer_tag self.old result self.new }
     {
         self.read_primitive::<u16>(TAG_INTEGER)
     }
@@ -107,7 +112,7 @@ impl<'a> ReaderState<'a> {
     /// Reads INTEGER (X.690, 8.3), as `read_i64` does: a number outside the type is `IntegerOverflow`.
     #[inline(always)]
     pub fn read_u8(&mut self) -> ASN1Result<u8>
-        ensures { Reads (Primitively (IsUnsigned 8)) NoLevel Never TAG_INTEGER self.old result self.new }
+        ensures { Reads (Primitively (IsUnsigned 8)) NoLevel Never integer_tag self.old result self.new }
     {
         self.read_primitive::<u8>(TAG_INTEGER)
     }
@@ -117,7 +122,7 @@ impl<'a> ReaderState<'a> {
     /// Contents that aren't the fewest bytes of a number are `Invalid`.
     #[inline(always)]
     pub fn read_bigint_bytes(&mut self) -> ASN1Result<(Vec<u8>, bool)>
-        ensures { ReadsSeen (Primitively IsBigInteger) big_integer_in NoLevel WantsMemory TAG_INTEGER self.old result self.new }
+        ensures { ReadsSeen (Primitively IsBigInteger) big_integer_in NoLevel WantsMemory integer_tag self.old result self.new }
     {
         self.read_primitive::<(Vec<u8>, bool)>(TAG_INTEGER)
     }
@@ -127,7 +132,7 @@ impl<'a> ReaderState<'a> {
     /// A subidentifier past 2^64-1 is `IntegerOverflow`. One that begins with 128 or has no end is `Invalid`, and so are empty contents.
     #[inline(always)]
     pub fn read_oid(&mut self) -> ASN1Result<ObjectIdentifier>
-        ensures { Reads (Primitively AreComponents) NoLevel WantsMemory TAG_OID self.old result self.new }
+        ensures { Reads (Primitively AreComponents) NoLevel WantsMemory oid_tag self.old result self.new }
     {
         self.read_primitive::<ObjectIdentifier>(TAG_OID)
     }

@@ -1,6 +1,7 @@
 //! Reads of constructed elements whose contents a callback reads (X.690, 8.9).
 ghost use Rattle.yasna_bytes.specs.Header.{contents_end};
 ghost use Rattle.yasna_reader.specs.Sequence.{ClosesFrom};
+ghost use Rattle.yasna_base.specs.Sequence.{sequence_tag};
 
 use crate::state::{BERReaderSeq, Parts, ReaderState};
 use yasna_base::error::{ASN1Error, ASN1ErrorKind, ASN1Result};
@@ -34,8 +35,8 @@ impl<'a> ReaderState<'a> {
     pub fn read_sequence<T: Drop, F>(&mut self, f: F) -> ASN1Result<T>
     where
         F: FnOnce(&mut BERReaderSeq<'a, '_>) -> ASN1Result<T>,
-        requires { TakesParts F.FnOnce f TAG_SEQUENCE self.old }
-        ensures { ReadsParts (Runs F.FnOnce f) TAG_SEQUENCE self.old result self.new }
+        requires { TakesParts F.FnOnce f sequence_tag self.old }
+        ensures { ReadsParts (Runs F.FnOnce f) sequence_tag self.old result self.new }
     {
         self.read_parts(TAG_SEQUENCE, f)
     }

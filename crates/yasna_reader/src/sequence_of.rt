@@ -1,4 +1,5 @@
 //! Reads of SEQUENCE OF, whose elements a callback reads one by one (X.690, 8.10).
+ghost use Rattle.yasna_base.specs.Sequence.{sequence_tag};
 
 use crate::callback::Outcome;
 use crate::set_of::{Order, first_bound};
@@ -25,8 +26,8 @@ impl<'a> ReaderState<'a> {
     pub fn read_sequence_of<F>(&mut self, f: F) -> ASN1Result<()>
     where
         F: FnMut(BERReader<'a, '_>) -> ASN1Result<()> + Drop,
-        requires { TakesContents (TakesTurns F.FnMut) TAG_SEQUENCE self.old }
-        ensures { ReadsParts (Visits (CalledAtMut F.FnMut) f) TAG_SEQUENCE self.old result self.new }
+        requires { TakesContents (TakesTurns F.FnMut) sequence_tag self.old }
+        ensures { ReadsParts (Visits (CalledAtMut F.FnMut) f) sequence_tag self.old result self.new }
     {
         self.read_list(TAG_SEQUENCE, Order::Any, f)
     }
@@ -39,8 +40,8 @@ impl<'a> ReaderState<'a> {
     pub fn collect_sequence_of<T: Drop, F>(&mut self, f: F) -> ASN1Result<Vec<T>>
     where
         F: FnMut(BERReader<'a, '_>) -> ASN1Result<T> + Drop,
-        requires { TakesContents (TakesTurns F.FnMut) TAG_SEQUENCE self.old }
-        ensures { ReadsParts (Collects (CalledAtMut F.FnMut) f) TAG_SEQUENCE self.old result self.new }
+        requires { TakesContents (TakesTurns F.FnMut) sequence_tag self.old }
+        ensures { ReadsParts (Collects (CalledAtMut F.FnMut) f) sequence_tag self.old result self.new }
     {
         self.collect_list(TAG_SEQUENCE, Order::Any, f)
     }

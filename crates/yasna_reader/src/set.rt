@@ -4,7 +4,8 @@ ghost use Rattle.std.specs.Fn.{FnOnceTakesAtMut, FnOnceReturnsAtMut};
 ghost use Rattle.std.specs.List.Sorted.{IsSortedByKey};
 ghost use Rattle.std.specs.Ordering.{is_lt};
 ghost use Rattle.yasna_base.specs.Order.{tag_cmp};
-ghost use Rattle.yasna_reader.specs.Set.{AreInTagOrder, ElementsAt, IsAmong, IsFirstAmong, NoneIsAmong, SetListAt, all_taken};
+ghost use Rattle.yasna_base.specs.Set.{set_tag};
+ghost use Rattle.yasna_reader.specs.Set.{ElementsAreInSetOrder, ElementsAt, IsAmong, IsFirstAmong, NoneIsAmong, SetListAt, all_taken};
 ghost use Rattle.yasna_reader.specs.declared.set.SetElement.{SetElement};
 
 use crate::state::ReaderState;
@@ -147,7 +148,7 @@ fn tags_ascend(list: &[SetElement<'_>]) -> bool
 
 // Whether elements are in the order that a mode asks (X.690, 9.3 and 10.3).
 fn is_in_order(mode: BERMode, list: &[SetElement<'_>]) -> bool
-    ensures { IsTrue result ↔ AreInTagOrder mode list.now }
+    ensures { IsTrue result ↔ ElementsAreInSetOrder mode list.now }
 {
     match mode {
         BERMode::Ber => true,
@@ -246,8 +247,8 @@ impl<'a> ReaderState<'a> {
     pub fn read_set<T: Drop, F>(&mut self, f: F) -> ASN1Result<T>
     where
         F: FnOnce(&mut BERReaderSet<'a, '_>) -> ASN1Result<T>,
-        requires { TakesContents (TakesElements F.FnOnce f) TAG_SET self.old }
-        ensures { ReadsParts (RunsOnSet F.FnOnce f) TAG_SET self.old result self.new }
+        requires { TakesContents (TakesElements F.FnOnce f) set_tag self.old }
+        ensures { ReadsParts (RunsOnSet F.FnOnce f) set_tag self.old result self.new }
     {
         if let Some(error) = self.kept {
             return Err(error);

@@ -1,6 +1,7 @@
 //! Reads of SET OF, whose elements ascend in DER and CER (X.690, 8.12 and 11.6).
 ghost use Rattle.std.specs.Prelude.{◌≡◌};
 ghost use Rattle.yasna_reader.specs.SetOf.{goes_before, bound_bytes, bound_in};
+ghost use Rattle.yasna_base.specs.Set.{set_tag};
 
 use crate::callback::Outcome;
 use crate::state::{BERReader, ReaderState};
@@ -58,8 +59,8 @@ impl<'a> ReaderState<'a> {
     pub fn read_set_of<F>(&mut self, f: F) -> ASN1Result<()>
     where
         F: FnMut(BERReader<'a, '_>) -> ASN1Result<()> + Drop,
-        requires { TakesContents (TakesTurns F.FnMut) TAG_SET self.old }
-        ensures { ReadsParts (VisitsInOrder Ascending (CalledAtMut F.FnMut) f) TAG_SET self.old result self.new }
+        requires { TakesContents (TakesTurns F.FnMut) set_tag self.old }
+        ensures { ReadsParts (VisitsInOrder Ascending (CalledAtMut F.FnMut) f) set_tag self.old result self.new }
     {
         self.read_list(TAG_SET, Order::Ascending, f)
     }
@@ -71,8 +72,8 @@ impl<'a> ReaderState<'a> {
     pub fn collect_set_of<T: Drop, F>(&mut self, f: F) -> ASN1Result<Vec<T>>
     where
         F: FnMut(BERReader<'a, '_>) -> ASN1Result<T> + Drop,
-        requires { TakesContents (TakesTurns F.FnMut) TAG_SET self.old }
-        ensures { ReadsParts (CollectsInOrder Ascending (CalledAtMut F.FnMut) f) TAG_SET self.old result self.new }
+        requires { TakesContents (TakesTurns F.FnMut) set_tag self.old }
+        ensures { ReadsParts (CollectsInOrder Ascending (CalledAtMut F.FnMut) f) set_tag self.old result self.new }
     {
         self.collect_list(TAG_SET, Order::Ascending, f)
     }

@@ -3,6 +3,9 @@
 //! In BER a string may be cut into segments, to be joined. Each segment is an element of its own, one level down, whose tag is
 //! universal 3 in a BIT STRING and universal 4 in any other, whatever the tag of the string. In CER one with more than 1000 octets of
 //! contents is cut so, into primitive segments of 1000.
+ghost use Rattle.yasna_base.specs.Bits.{bits_tag};
+ghost use Rattle.yasna_base.specs.Octets.{octets_tag};
+ghost use Rattle.yasna_base.specs.Text.{utf8_tag, numeric_tag, printable_tag, ia5_tag, visible_tag, bmp_tag};
 
 use crate::state::ReaderState;
 use yasna_base::error::ASN1Result;
@@ -27,7 +30,7 @@ impl<'a> ReaderState<'a> {
     #[inline(always)]
     #[tactic(auto, using(crate::proofs::Primitives::reads_front, crate::proofs::Primitives::reads_kept))]
     pub fn read_bytes(&mut self) -> ASN1Result<Vec<u8>>
-        ensures { ReadsSeen IsOctets (λ v. v.items) IsDeepOctets WantsMemory TAG_OCTETSTRING self.old result self.new }
+        ensures { ReadsSeen IsOctets (λ v. v.items) IsDeepOctets WantsMemory octets_tag self.old result self.new }
     {
         if let Some(error) = self.kept {
             return Err(error);
@@ -43,7 +46,7 @@ impl<'a> ReaderState<'a> {
     #[inline(always)]
     #[tactic(auto, using(crate::proofs::Primitives::reads_front, crate::proofs::Primitives::reads_kept))]
     pub fn read_bitvec_bytes(&mut self) -> ASN1Result<(Vec<u8>, usize)>
-        ensures { ReadsSeen IsBits bits_in IsDeepBits WantsMemory TAG_BITSTRING self.old result self.new }
+        ensures { ReadsSeen IsBits bits_in IsDeepBits WantsMemory bits_tag self.old result self.new }
     {
         if let Some(error) = self.kept {
             return Err(error);
@@ -55,7 +58,7 @@ impl<'a> ReaderState<'a> {
     /// Reads UTF8String (X.690, 8.23.10). Octets that aren't UTF-8 are `Invalid`, once all segments are joined.
     #[inline(always)]
     pub fn read_utf8string(&mut self) -> ASN1Result<String>
-        ensures { ReadsSeen (IsStringOf (IsUtf8In InUtf8)) characters IsDeepOctets WantsMemory TAG_UTF8STRING self.old result self.new }
+        ensures { ReadsSeen (IsStringOf (IsUtf8In InUtf8)) characters IsDeepOctets WantsMemory utf8_tag self.old result self.new }
     {
         self.read_said(TAG_UTF8STRING, Class::Utf8)
     }
@@ -63,7 +66,7 @@ impl<'a> ReaderState<'a> {
     /// Reads NumericString (X.680, 41): digits and space. Any other octet is `Invalid`.
     #[inline(always)]
     pub fn read_numeric_string(&mut self) -> ASN1Result<String>
-        ensures { ReadsSeen (IsStringOf (IsUtf8In InNumeric)) characters IsDeepOctets WantsMemory TAG_NUMERICSTRING self.old result self.new }
+        ensures { ReadsSeen (IsStringOf (IsUtf8In InNumeric)) characters IsDeepOctets WantsMemory numeric_tag self.old result self.new }
     {
         self.read_said(TAG_NUMERICSTRING, Class::Numeric)
     }
@@ -71,7 +74,7 @@ impl<'a> ReaderState<'a> {
     /// Reads PrintableString (X.680, 41): letters, digits, space and `'()+,-./:=?`. Any other octet is `Invalid`.
     #[inline(always)]
     pub fn read_printable_string(&mut self) -> ASN1Result<String>
-        ensures { ReadsSeen (IsStringOf (IsUtf8In InPrintable)) characters IsDeepOctets WantsMemory TAG_PRINTABLESTRING self.old result self.new }
+        ensures { ReadsSeen (IsStringOf (IsUtf8In InPrintable)) characters IsDeepOctets WantsMemory printable_tag self.old result self.new }
     {
         self.read_said(TAG_PRINTABLESTRING, Class::Printable)
     }
@@ -79,7 +82,7 @@ impl<'a> ReaderState<'a> {
     /// Reads IA5String (X.680, 41): the characters up to 127. Any other octet is `Invalid`.
     #[inline(always)]
     pub fn read_ia5_string(&mut self) -> ASN1Result<String>
-        ensures { ReadsSeen (IsStringOf (IsUtf8In InIa5)) characters IsDeepOctets WantsMemory TAG_IA5STRING self.old result self.new }
+        ensures { ReadsSeen (IsStringOf (IsUtf8In InIa5)) characters IsDeepOctets WantsMemory ia5_tag self.old result self.new }
     {
         self.read_said(TAG_IA5STRING, Class::Ia5)
     }
@@ -89,7 +92,7 @@ impl<'a> ReaderState<'a> {
     /// A surrogate without its partner is read as U+FFFD.
     #[inline(always)]
     pub fn read_bmp_string(&mut self) -> ASN1Result<String>
-        ensures { ReadsSeen (IsStringOf IsBmp) characters IsDeepOctets WantsMemory TAG_BMPSTRING self.old result self.new }
+        ensures { ReadsSeen (IsStringOf IsBmp) characters IsDeepOctets WantsMemory bmp_tag self.old result self.new }
     {
         self.read_said(TAG_BMPSTRING, Class::Bmp)
     }
@@ -97,7 +100,7 @@ impl<'a> ReaderState<'a> {
     /// Reads VisibleString (X.680, 41): the characters from space to `~`. Any other octet is `Invalid`.
     #[inline(always)]
     pub fn read_visible_string(&mut self) -> ASN1Result<String>
-        ensures { ReadsSeen (IsStringOf (IsUtf8In InVisible)) characters IsDeepOctets WantsMemory TAG_VISIBLESTRING self.old result self.new }
+        ensures { ReadsSeen (IsStringOf (IsUtf8In InVisible)) characters IsDeepOctets WantsMemory visible_tag self.old result self.new }
     {
         self.read_said(TAG_VISIBLESTRING, Class::Visible)
     }

@@ -4,10 +4,10 @@
 //! is longer than 1000 octets.
 ghost use Rattle.std.specs.Prelude.{IsTrue, ◌↔◌};
 ghost use Rattle.yasna_base.specs.Canonical.{IsCanonicalMode};
-ghost use Rattle.yasna_times.specs.GeneralizedTime.{SaysGeneralizedTime};
+ghost use Rattle.yasna_times.specs.GeneralizedTime.{SaysGeneralizedTime, generalized_time_tag};
 ghost use Rattle.yasna_times.specs.Models.{DateTime, utc_of, moment_of};
 ghost use Rattle.yasna_times.specs.Moment.{Moment};
-ghost use Rattle.yasna_times.specs.UtcTime.{SaysUtcTime};
+ghost use Rattle.yasna_times.specs.UtcTime.{SaysUtcTime, utc_time_tag};
 
 use crate::state::ReaderState;
 use std::alloc::Global;
@@ -116,7 +116,7 @@ impl<'a> ReaderState<'a> {
     /// In BER any text is taken that `UTCTime::parse` takes, in DER and CER the canonical one alone. Any other is `Invalid`.
     #[inline(always)]
     pub fn read_utctime(&mut self) -> ASN1Result<UTCTime>
-        ensures { ReadsSeen (IsStringOf SaysUtcTime) utc_of IsDeepOctets WantsMemory TAG_UTCTIME self.old result self.new }
+        ensures { ReadsSeen (IsStringOf SaysUtcTime) utc_of IsDeepOctets WantsMemory utc_time_tag self.old result self.new }
     {
         self.read_said(TAG_UTCTIME, UtcText)
     }
@@ -126,7 +126,7 @@ impl<'a> ReaderState<'a> {
     /// In BER any text is taken that `GeneralizedTime::parse` takes, in DER and CER the canonical one alone. Any other is `Invalid`.
     #[inline(always)]
     pub fn read_generalized_time(&mut self) -> ASN1Result<GeneralizedTime>
-        ensures { ReadsSeen (IsStringOf SaysGeneralizedTime) moment_of IsDeepOctets WantsMemory TAG_GENERALIZEDTIME self.old result self.new }
+        ensures { ReadsSeen (IsStringOf SaysGeneralizedTime) moment_of IsDeepOctets WantsMemory generalized_time_tag self.old result self.new }
     {
         self.read_said(TAG_GENERALIZEDTIME, GeneralText)
     }

@@ -7,12 +7,17 @@ use Rattle.yasna_base.specs.declared.tag.Tag.{Tag}
 use Rattle.yasna_base.specs.Canonical.{IsCanonicalMode}
 use Rattle.yasna_times.specs.Decimal.{AreDigits, IsRun, two_at, two_digits}
 use Rattle.yasna_times.specs.Fraction.{IsExact, IsTrimmed}
+use Rattle.yasna_base.specs.Grammar.{Grammar, Form, Nest}
 use Rattle.yasna_base.specs.Identifier.{universal}
 use Rattle.yasna_base.specs.Laws.{KeepsLaws}
 use Rattle.yasna_times.specs.Moment.{Moment, IsLess, moment_at, after_year}
 use Rattle.yasna_base.specs.Octets.{octets_form, octets_nest}
 use Rattle.yasna_base.specs.Text.{IsStringOf}
 use Rattle.yasna_times.specs.Zone.{IsZulu, IsAmount, IsOffset}
+
+-- the tag of GeneralizedTime
+abbrev pub generalized_time_tag : Tag
+generalized_time_tag = universal 24
 
 -- the year is 0 or later; none is later than 9999
 abbrev pub IsInYears : DateTime → Type 0
@@ -139,15 +144,15 @@ pub record SaysGeneralizedTime (m : BERMode) (v : Moment) (s : List ℕ) : Type 
   pub canonical : IsCanonicalMode m → s ≡ general_text v
 
 -- the type's grammar under its own tag
-abbrev pub EncodesGeneralizedTime : BERMode → ℕ → Moment → List ℕ → Type 0
-EncodesGeneralizedTime m n v b = IsStringOf SaysGeneralizedTime n m (universal 24) v b
+abbrev pub EncodesGeneralizedTime : Grammar Moment
+EncodesGeneralizedTime m n v b = IsStringOf SaysGeneralizedTime n m generalized_time_tag v b
 
 -- the form in a canonical mode
-abbrev pub generalized_time_form : Tag → BERMode → Moment → List ℕ
+abbrev pub generalized_time_form : Tag → Form Moment
 generalized_time_form t m v = octets_form t m (general_text v)
 
 -- how deep it nests
-abbrev pub generalized_time_nest : BERMode → Moment → ℕ
+abbrev pub generalized_time_nest : Nest Moment
 generalized_time_nest m v = octets_nest m (general_text v)
 
 -- GeneralizedTime keeps the laws under any tag

@@ -4,6 +4,7 @@ pub use Rattle.jiff.specs.Types.{DateTime}
 use Rattle.yasna_times.specs.declared.models.generalized_time.GeneralizedTime.{GeneralizedTime}
 use Rattle.yasna_times.specs.declared.models.utc_time.UTCTime.{UTCTime}
 use Rattle.yasna_base.specs.declared.mode.BERMode.{BERMode}
+use Rattle.yasna_base.specs.Grammar.{Grammar}
 use Rattle.yasna_times.specs.GeneralizedTime.{EncodesGeneralizedTime, general_text}
 use Rattle.yasna_times.specs.Moment.{Moment, IsLess, moment}
 use Rattle.yasna_times.specs.UtcTime.{EncodesUtcTime}
@@ -34,9 +35,9 @@ TimesAreMoments =
     (a b : GeneralizedTime) → moment_of a ≡ moment_of b → SameTime a b × (general_text (moment_of a) ≡ general_text (moment_of b))
 
 -- the types' grammars under their own tags
-abbrev pub EncodesUtc : BERMode → ℕ → UTCTime → List ℕ → Type 0
+abbrev pub EncodesUtc : Grammar UTCTime
 EncodesUtc m n v b = EncodesUtcTime m n (utc_of v) b
 
 -- the same of a GeneralizedTime
-abbrev pub EncodesGeneral : BERMode → ℕ → GeneralizedTime → List ℕ → Type 0
+abbrev pub EncodesGeneral : Grammar GeneralizedTime
 EncodesGeneral m n v b = EncodesGeneralizedTime m n (moment_of v) b

@@ -6,12 +6,17 @@ use Rattle.yasna_base.specs.declared.mode.BERMode.{BERMode}
 use Rattle.yasna_base.specs.declared.tag.Tag.{Tag}
 use Rattle.yasna_base.specs.Canonical.{IsCanonicalMode}
 use Rattle.yasna_times.specs.Decimal.{HasDigits, two_at, two_digits}
+use Rattle.yasna_base.specs.Grammar.{Grammar, Form, Nest}
 use Rattle.yasna_base.specs.Identifier.{universal}
 use Rattle.yasna_base.specs.Laws.{KeepsLaws}
 use Rattle.yasna_times.specs.Moment.{IsLess, moment_at, after_year}
 use Rattle.yasna_base.specs.Octets.{octets_form, octets_nest}
 use Rattle.yasna_base.specs.Text.{IsStringOf}
 use Rattle.yasna_times.specs.Zone.{IsZulu, IsHoursAndMinutes, IsOffset}
+
+-- the tag of UTCTime
+abbrev pub utc_time_tag : Tag
+utc_time_tag = universal 23
 
 -- a date-time to the second, in a year that two digits tell
 pub record IsUtcDateTime (dt : DateTime) : Type 0 where
@@ -68,15 +73,15 @@ pub record SaysUtcTime (m : BERMode) (utc : DateTime) (s : List ℕ) : Type 0 wh
   pub canonical : IsCanonicalMode m → s ≡ utc_text utc
 
 -- the type's grammar under its own tag
-abbrev pub EncodesUtcTime : BERMode → ℕ → DateTime → List ℕ → Type 0
-EncodesUtcTime m n v b = IsStringOf SaysUtcTime n m (universal 23) v b
+abbrev pub EncodesUtcTime : Grammar DateTime
+EncodesUtcTime m n v b = IsStringOf SaysUtcTime n m utc_time_tag v b
 
 -- the form in a canonical mode
-abbrev pub utc_time_form : Tag → BERMode → DateTime → List ℕ
+abbrev pub utc_time_form : Tag → Form DateTime
 utc_time_form t m utc = octets_form t m (utc_text utc)
 
 -- how deep it nests
-abbrev pub utc_time_nest : BERMode → DateTime → ℕ
+abbrev pub utc_time_nest : Nest DateTime
 utc_time_nest m utc = octets_nest m (utc_text utc)
 
 -- UTCTime keeps the laws under any tag

@@ -28,7 +28,7 @@ pub fn moments()
 {}
 
 /// Both times keep the laws of reading and of writing, as `simple_types` says them, however BER or CER cuts their texts
-/// into pieces.
+/// into segments.
 pub fn times()
     ensures utc { UtcTimeKeepsLaws }
     ensures general { GeneralizedTimeKeepsLaws }

@@ -8,9 +8,10 @@ use Rattle.yasna_tool.specs.Engine.{IfRefused}
 use Rattle.yasna_tool.specs.Kinds.{Recoded}
 use Rattle.yasna_tool.specs.declared.engine.RunFault.{RunFault}
 use Rattle.yasna_tool.specs.declared.engine.RunFault.TheVariants.{Refused, Device}
+use Rattle.yasna_base.specs.Grammar.{Grammar, Form}
 
 -- the form of a value, as view sees it, is what the bytes are recoded to
-pub recoded : {V A : Type 0} (B : BERMode → ℕ → A → List ℕ → Type 0) (view : V → A) (form : BERMode → A → List ℕ) (m : BERMode) (P : List ℕ → Type 0)
+pub recoded : {V A : Type 0} (B : Grammar A) (view : V → A) (form : Form A) (m : BERMode) (P : List ℕ → Type 0)
     (s : Option (List ℕ)) (r : Result (Unit {0}) RunFault) → OnOk r (IfSome s (λ b. (v : V) × B m 101 (view v) b × P (form Der (view v)))) →
     OnOk r (IfSome s (λ b. (out : List ℕ) × Recoded B form m b out × P out))
 recoded B view form m P None (Ok u) h = tt
@@ -18,7 +19,7 @@ recoded B view form m P (Some b) (Ok u) h = (form Der (view h.0), record { value
 recoded B view form m P s (Err e) h = h
 
 -- bytes of which reading asks more than they are encode no value, and are recoded to nothing
-pub not_recoded : {A : Type 0} {S : List ℕ → Type 0} (B : BERMode → ℕ → A → List ℕ → Type 0) (form : BERMode → A → List ℕ) (m : BERMode) →
+pub not_recoded : {A : Type 0} {S : List ℕ → Type 0} (B : Grammar A) (form : Form A) (m : BERMode) →
     ((v : A) (b : List ℕ) → B m 101 v b → S b) → (C : ASN1Error → Type 0) (End : Type 0) (s : Option (List ℕ)) (r : Result (Unit {0}) RunFault) →
     IfRefused r (λ e. C e → End × IfSome s (λ b. S b → ⊥)) → IfRefused r (λ e. C e → IfSome s (λ b. (out : List ℕ) → Recoded B form m b out → ⊥))
 not_recoded B form m among C End s (Ok u) h = tt

@@ -12,7 +12,7 @@ use Rattle.yasna_base.specs.declared.tag.PCBit.TheVariants.{Primitive}
 use Rattle.yasna_base.specs.declared.tag.Tag.{Tag}
 use Rattle.yasna_base.specs.Bits.{bits_tag, padded, unused_bits, bit_pieces}
 use Rattle.yasna_base.specs.Canonical.{canonical_element, definite_element, indefinite_element}
-use Rattle.yasna_base.specs.Cut.{Cutting, cut_form}
+use Rattle.yasna_base.specs.Segmented.{Segmentation, segmented_form}
 use Rattle.yasna_base.specs.Digits.{digits}
 use Rattle.yasna_base.specs.Identifier.{identifier}
 use Rattle.yasna_base.specs.Length.{shortest_length}
@@ -25,10 +25,10 @@ use Rattle.yasna_writer.specs.State.{Appended}
 use Rattle.yasna_writer.specs.View.{Written}
 use Rattle.yasna_writer.proofs.Padding.{contents_with}
 
--- what is cut is an element of indefinite length around its pieces
-pub goes_apart : {A : Type 0} (k : Cutting A) (contents : A → List ℕ) (pieces : A → List A) (t : Tag) (m : BERMode) (v : A) →
+-- what is cut is an element of indefinite length around its segments
+pub goes_apart : {A : Type 0} (k : Segmentation A) (contents : A → List ℕ) (pieces : A → List A) (t : Tag) (m : BERMode) (v : A) →
     is_cut m k.full (length (k.bytes v)) ≡ true →
-    indefinite_element t (flat_map (λ w. canonical_element Der k.piece Primitive (contents w)) (pieces v)) ≡ cut_form k contents pieces t m v
+    indefinite_element t (flat_map (λ w. canonical_element Der k.segment Primitive (contents w)) (pieces v)) ≡ segmented_form k contents pieces t m v
 unfolding canonical_element
 goes_apart k contents pieces t Ber v h = absurd (cc)
 goes_apart k contents pieces t Der v h = absurd (cc)
@@ -79,7 +79,7 @@ padded_drop u zero (x ∷ d) h = refl
 padded_drop u (suc n) (x ∷ []) h = absurd (omega (arith, h))
 padded_drop u (suc n) (x ∷ y ∷ ys) h = padded_drop u n (y ∷ ys) (omega (arith, h))
 
--- a piece in front of others is full
+-- a segment in front of others is full
 pieces_more : (b : List ℕ) (bs : List (List ℕ)) (k : ℕ) → 1 ≤ length bs →
     bit_pieces (b ∷ bs) k ≡ record { bytes = b; count = 8 * length b } ∷ bit_pieces bs (k - 8 * length b)
 pieces_more b [] k h = absurd (omega (arith, h))

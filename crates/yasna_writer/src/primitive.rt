@@ -7,13 +7,14 @@
 ghost use Rattle.std.specs.Prelude.{◌≡◌, ◌≤◌, ◌-◌, ◌∷◌, [], ◌++◌, drop, length, Some, Err, MatchResult, pos};
 ghost use Rattle.yasna_base.specs.declared.error.ASN1ErrorKind.TheVariants.{OutOfMemory};
 ghost use Rattle.yasna_base.specs.declared.tag.PCBit.TheVariants.{Primitive};
+ghost use Rattle.yasna_base.specs.Enumerated.{enumerated_tag};
 ghost use Rattle.yasna_base.specs.Error.{kind_of};
 ghost use Rattle.yasna_base.specs.Identifier.{universal, tag_or};
-ghost use Rattle.yasna_base.specs.Integer.{minimal_bytes, integer_form};
+ghost use Rattle.yasna_base.specs.Integer.{minimal_bytes, integer_form, integer_tag};
 ghost use Rattle.yasna_base.specs.BigInteger.{signed_number, big_integer};
 ghost use Rattle.yasna_base.specs.Canonical.{canonical_element};
-ghost use Rattle.yasna_base.specs.Boolean.{boolean_form};
-ghost use Rattle.yasna_base.specs.Null.{null_form};
+ghost use Rattle.yasna_base.specs.Boolean.{boolean_form, boolean_tag};
+ghost use Rattle.yasna_base.specs.Null.{null_form, null_tag};
 ghost use Rattle.yasna_writer.specs.State.{Appended};
 ghost use Rattle.yasna_writer.specs.View.{Wrote};
 
@@ -27,7 +28,7 @@ impl Writer {
     /// Writes a BOOLEAN: one byte, 255 for true (X.690, 8.2 and 11.1).
     #[inline(always)]
     pub fn write_bool(&mut self, val: bool) -> ASN1Result<()>
-        ensures { Wrote (boolean_form (tag_or self.old.tag (universal 1)) self.old.mode val) self.old self.new result }
+        ensures { Wrote (boolean_form (tag_or self.old.tag boolean_tag) self.old.mode val) self.old self.new result }
     {
         let byte = if val { 255 } else { 0 };
         self.write_byte(TAG_BOOLEAN, byte)
@@ -37,7 +38,7 @@ impl Writer {
     #[tactic(auto, using(crate::proofs::Primitives::short_element))]
     #[inline(always)]
     pub fn write_null(&mut self) -> ASN1Result<()>
-        ensures { Wrote (null_form (tag_or self.old.tag (universal 5)) self.old.mode tt) self.old self.new result }
+        ensures { Wrote (null_form (tag_or self.old.tag null_tag) self.old.mode tt) self.old self.new result }
     {
         if let Some(error) = self.kept() {
             return Err(error);
@@ -52,7 +53,7 @@ impl Writer {
     /// Writes an ENUMERATED, as an INTEGER but for its tag (X.690, 8.4).
     #[inline(always)]
     pub fn write_enum(&mut self, val: i64) -> ASN1Result<()>
-        ensures { Wrote (integer_form (tag_or self.old.tag (universal 10)) self.old.mode val) self.old self.new result }
+        ensures { Wrote (integer_form (tag_or self.old.tag enumerated_tag) self.old.mode val) self.old self.new result }
     {
         self.write_number(TAG_ENUM, val)
     }
@@ -60,7 +61,7 @@ impl Writer {
     /// Writes an INTEGER (X.690, 8.3).
     #[inline(always)]
     pub fn write_i64(&mut self, val: i64) -> ASN1Result<()>
-        ensures { Wrote (integer_form (tag_or self.old.tag (universal 2)) self.old.mode val) self.old self.new result }
+        ensures { Wrote (integer_form (tag_or self.old.tag integer_tag) self.old.mode val) self.old self.new result }
     {
         self.write_number(TAG_INTEGER, val)
     }
@@ -68,7 +69,7 @@ impl Writer {
     /// Writes an INTEGER (X.690, 8.3).
     #[inline(always)]
     pub fn write_i32(&mut self, val: i32) -> ASN1Result<()>
-        ensures { Wrote (integer_form (tag_or self.old.tag (universal 2)) self.old.mode val) self.old self.new result }
+        ensures { Wrote (integer_form (tag_or self.old.tag integer_tag) self.old.mode val) self.old self.new result }
     {
         self.write_i64(i64::from(val))
     }
@@ -76,7 +77,7 @@ impl Writer {
     /// Writes an INTEGER (X.690, 8.3).
     #[inline(always)]
     pub fn write_i16(&mut self, val: i16) -> ASN1Result<()>
-        ensures { Wrote (integer_form (tag_or self.old.tag (universal 2)) self.old.mode val) self.old self.new result }
+        ensures { Wrote (integer_form (tag_or self.old.tag integer_tag) self.old.mode val) self.old self.new result }
     {
         self.write_i64(i64::from(val))
     }
@@ -84,7 +85,7 @@ impl Writer {
     /// Writes an INTEGER (X.690, 8.3).
     #[inline(always)]
     pub fn write_i8(&mut self, val: i8) -> ASN1Result<()>
-        ensures { Wrote (integer_form (tag_or self.old.tag (universal 2)) self.old.mode val) self.old self.new result }
+        ensures { Wrote (integer_form (tag_or self.old.tag integer_tag) self.old.mode val) self.old self.new result }
     {
         self.write_i64(i64::from(val))
     }
@@ -93,7 +94,7 @@ impl Writer {
     #[tactic(auto, using(crate::proofs::BigEndian::be_unsigned))]
     #[inline(always)]
     pub fn write_u64(&mut self, val: u64) -> ASN1Result<()>
-        ensures { Wrote (integer_form (tag_or self.old.tag (universal 2)) self.old.mode (pos val)) self.old self.new result }
+        ensures { Wrote (integer_form (tag_or self.old.tag integer_tag) self.old.mode (pos val)) self.old self.new result }
     {
         match i64::try_from(val) {
             Ok(signed) => self.write_i64(signed),
@@ -104,7 +105,7 @@ impl Writer {
     /// Writes an INTEGER (X.690, 8.3).
     #[inline(always)]
     pub fn write_u32(&mut self, val: u32) -> ASN1Result<()>
-        ensures { Wrote (integer_form (tag_or self.old.tag (universal 2)) self.old.mode (pos val)) self.old self.new result }
+        ensures { Wrote (integer_form (tag_or self.old.tag integer_tag) self.old.mode (pos val)) self.old self.new result }
     {
         self.write_i64(i64::from(val))
     }
@@ -112,7 +113,7 @@ impl Writer {
     /// Writes an INTEGER (X.690, 8.3).
     #[inline(always)]
     pub fn write_u16(&mut self, val: u16) -> ASN1Result<()>
-        ensures { Wrote (integer_form (tag_or self.old.tag (universal 2)) self.old.mode (pos val)) self.old self.new result }
+        ensures { Wrote (integer_form (tag_or self.old.tag integer_tag) self.old.mode (pos val)) self.old self.new result }
     {
         self.write_i64(i64::from(val))
     }
@@ -120,7 +121,7 @@ impl Writer {
     /// Writes an INTEGER (X.690, 8.3).
     #[inline(always)]
     pub fn write_u8(&mut self, val: u8) -> ASN1Result<()>
-        ensures { Wrote (integer_form (tag_or self.old.tag (universal 2)) self.old.mode (pos val)) self.old self.new result }
+        ensures { Wrote (integer_form (tag_or self.old.tag integer_tag) self.old.mode (pos val)) self.old self.new result }
     {
         self.write_i64(i64::from(val))
     }
@@ -130,7 +131,7 @@ impl Writer {
     /// Zeros in front of `bytes` are dropped, and the rest is the number, highest byte first, less 256 to the power of
     /// its length where `positive` is false. Where nothing is left the number is 0. It is written in the fewest bytes.
     pub fn write_bigint_bytes(&mut self, bytes: &[u8], positive: bool) -> ASN1Result<()>
-        ensures { Wrote (integer_form (tag_or self.old.tag (universal 2)) self.old.mode (big_integer bytes.now positive)) self.old self.new result }
+        ensures { Wrote (integer_form (tag_or self.old.tag integer_tag) self.old.mode (big_integer bytes.now positive)) self.old self.new result }
     {
         let rest = without(0, bytes);
         if rest.is_empty() {

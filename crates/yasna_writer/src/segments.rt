@@ -4,6 +4,7 @@
 //! octets, or BIT STRINGs of 999 bytes behind their count of unused bits; the last part has what is left.
 ghost use Rattle.std.specs.Prelude.{◌≡◌, ◌≤◌, ◌<◌, ◌+◌, ◌*◌, length, [], ◌∷◌, ◌++◌};
 ghost use Rattle.yasna_base.specs.declared.tag.PCBit.TheVariants.{Primitive};
+ghost use Rattle.yasna_base.specs.Bits.{bits_tag};
 ghost use Rattle.yasna_base.specs.Canonical.{canonical_element, indefinite_element};
 ghost use Rattle.yasna_base.specs.Identifier.{universal, tag_or};
 ghost use Rattle.yasna_base.specs.Octets.{octets_form};
@@ -92,7 +93,7 @@ impl Writer {
         requires enough { len ≤ 8 * length bytes.now }
         requires least { 8 * length bytes.now < len + 8 }
         requires some { 1 ≤ length bytes.now }
-        ensures { Wrote (indefinite_element (tag_or self.old.tag (universal 3)) (in_bit_segments (record { bytes = bytes.now; count = len }))) self.old self.new result }
+        ensures { Wrote (indefinite_element (tag_or self.old.tag bits_tag) (in_bit_segments (record { bytes = bytes.now; count = len }))) self.old self.new result }
     {
         self.write_cut_bits(unused_bits(len), bytes)
     }
@@ -102,7 +103,7 @@ impl Writer {
     fn write_cut_bits(&mut self, unused: u8, bytes: &[u8]) -> ASN1Result<()>
         requires few { unused < 8 }
         requires some { 1 ≤ length bytes.now }
-        ensures { Wrote (indefinite_element (tag_or self.old.tag (universal 3)) (in_bit_segments (bits_with unused bytes.now))) self.old self.new result }
+        ensures { Wrote (indefinite_element (tag_or self.old.tag bits_tag) (in_bit_segments (bits_with unused bytes.now))) self.old self.new result }
     {
         self.begin_segments(TAG_BITSTRING, bytes.len())?;
         self.append_bit_segments(unused, bytes)?;
@@ -190,7 +191,7 @@ impl Writer {
     // Appends a BIT STRING with these contents.
     #[tactic(auto, unfolding(yasna_base::specs::Canonical::canonical_element, yasna_base::specs::Canonical::definite_element))]
     fn append_bit_string(&mut self, unused: u8, front: &[u8], last: u8) -> ASN1Result<()>
-        ensures { Appended (canonical_element self.old.mode (universal 3) Primitive (unused ∷ (front.now ++ last ∷ []))) self.old self.new result }
+        ensures { Appended (canonical_element self.old.mode bits_tag Primitive (unused ∷ (front.now ++ last ∷ []))) self.old self.new result }
     {
         let tag = TAG_BITSTRING;
         let length = front.len() + 2;

@@ -5,6 +5,7 @@ ghost use Rattle.std.specs.Fn.{FnOnceTakesAtMut};
 ghost use Rattle.yasna_base.specs.declared.tag.PCBit.TheVariants.{Constructed};
 ghost use Rattle.yasna_base.specs.Identifier.{universal, tag_or};
 ghost use Rattle.yasna_base.specs.Canonical.{canonical_element};
+ghost use Rattle.yasna_base.specs.Sequence.{sequence_tag};
 ghost use Rattle.yasna_writer.specs.View.{handed};
 ghost use Rattle.yasna_writer.specs.Construct.{Constructed as Ended};
 ghost use Rattle.yasna_writer.specs.State.{BeginsAt, EndsElement};
@@ -107,7 +108,7 @@ impl Writer {
         F: FnOnce(&mut DERWriterSeq) -> Result<T, E>,
     >(&mut self, f: F) -> Result<T, E>
         requires { self.old.kept ≡ None → FnOnceTakesAtMut F.FnOnce f (handed self.old) }
-        ensures { Encloses F.FnOnce E.from_gives f (canonical_element self.old.mode (tag_or self.old.tag (universal 16)) Constructed) self.old self.new result }
+        ensures { Encloses F.FnOnce E.from_gives f (canonical_element self.old.mode (tag_or self.old.tag sequence_tag) Constructed) self.old self.new result }
     {
         let tag = match self.fresh_tag(TAG_SEQUENCE) {
             Ok(tag) => tag,
@@ -129,7 +130,7 @@ impl Writer {
         F: FnOnce(&mut DERWriterSeq) -> Result<T, E>,
     >(&mut self, f: F) -> Result<T, E>
         requires { self.old.kept ≡ None → FnOnceTakesAtMut F.FnOnce f (handed self.old) }
-        ensures { Encloses F.FnOnce E.from_gives f (canonical_element self.old.mode (tag_or self.old.tag (universal 16)) Constructed) self.old self.new result }
+        ensures { Encloses F.FnOnce E.from_gives f (canonical_element self.old.mode (tag_or self.old.tag sequence_tag) Constructed) self.old self.new result }
     {
         self.write_sequence(f)
     }

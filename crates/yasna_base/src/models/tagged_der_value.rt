@@ -1,5 +1,8 @@
 //! Raw elements, whose contents aren't given a type.
 ghost use Rattle.std.specs.Prelude.{◌≡◌};
+ghost use Rattle.yasna_base.specs.Octets.{octets_tag};
+ghost use Rattle.yasna_base.specs.Sequence.{sequence_tag};
+ghost use Rattle.yasna_base.specs.Set.{set_tag};
 
 use crate::tag::{PCBit, Tag};
 use crate::tags::{
@@ -29,16 +32,16 @@ impl TaggedDerValue {
 
     /// An OCTET STRING of these octets.
     pub fn from_octetstring(bytes: Vec<u8>) -> TaggedDerValue
-        ensures { raw_of result ≡ raw_value (universal 4) Primitive bytes.items }
+        ensures { raw_of result ≡ raw_value octets_tag Primitive bytes.items }
     {
         TaggedDerValue::from_tag_pc_and_bytes(TAG_OCTETSTRING, PCBit::Primitive, bytes)
     }
 
     /// An element of these contents, constructed where the tag is that of a SEQUENCE or a SET.
     pub fn from_tag_and_bytes(tag: Tag, bytes: Vec<u8>) -> TaggedDerValue
-        ensures sequence { tag ≡ universal 16 → raw_of result ≡ raw_value tag Constructed bytes.items }
-        ensures set { tag ≡ universal 17 → raw_of result ≡ raw_value tag Constructed bytes.items }
-        ensures other { (tag ≡ universal 16 → ⊥) → (tag ≡ universal 17 → ⊥) → raw_of result ≡ raw_value tag Primitive bytes.items }
+        ensures sequence { tag ≡ sequence_tag → raw_of result ≡ raw_value tag Constructed bytes.items }
+        ensures set { tag ≡ set_tag → raw_of result ≡ raw_value tag Constructed bytes.items }
+        ensures other { (tag ≡ sequence_tag → ⊥) → (tag ≡ set_tag → ⊥) → raw_of result ≡ raw_value tag Primitive bytes.items }
     {
         let pcbit = match tag {
             TAG_SEQUENCE | TAG_SET => PCBit::Constructed,

@@ -1,7 +1,7 @@
 //! The header of an element: identifier, length, and the cut of the contents (X.690, 8.1 and 9.1).
 ghost use Rattle.std.specs.Prelude.{◌≡◌, IsTrue, ◌↔◌};
 ghost use Rattle.yasna_base.specs.Element.{TakesDefinite, TakesIndefinite};
-ghost use Rattle.yasna_bytes.specs.Refusal.{IsPlain};
+ghost use Rattle.yasna_bytes.specs.Refusal.{BlamesBytes};
 ghost use Rattle.yasna_base.specs.Header.{uncounted};
 ghost use Rattle.yasna_bytes.specs.Header.{ContentsAt, OpenedAt, ConstructedAt, PrimitiveAt, ClosesAt, contents_end};
 
@@ -84,7 +84,7 @@ fn is_tag(found: Tag, wanted: Tag) -> bool
 #[cold]
 #[inline(never)]
 fn length_fault(end: usize, rest: &[u8], size: usize) -> ASN1ErrorKind
-    ensures { IsPlain result }
+    ensures { BlamesBytes result }
 {
     let place = end.saturating_sub(rest.len());
     match size.checked_add(place) {
@@ -221,7 +221,7 @@ fn end_of_contents(s: &[u8]) -> Result<&[u8], ASN1ErrorKind>
 #[cold]
 #[inline(never)]
 fn end_fault(s: &[u8]) -> ASN1ErrorKind
-    ensures { IsPlain result }
+    ensures { BlamesBytes result }
 {
     match read_identifier(s) {
         Ok(_) => ASN1ErrorKind::Invalid,

@@ -1,7 +1,7 @@
 //! Lengths (X.690, 8.1.3, 9.1 and 10.1).
 ghost use Rattle.std.specs.Prelude.{◌≡◌, ℕ, ◌^◌, ◌<◌, ◌≤◌, ◌-◌, List, ◌∷◌, ◌++◌, length, drop, Some, MatchOption, IsTrue, ◌↔◌};
 ghost use Rattle.std.specs.Int.Digits.{number_from_digits};
-ghost use Rattle.yasna_bytes.specs.Refusal.{IsPlain};
+ghost use Rattle.yasna_bytes.specs.Refusal.{BlamesBytes};
 ghost use Rattle.yasna_bytes.specs.Length.{Measures, TakesSpelling, SpellsDigits, LengthAt};
 
 use yasna_base::error::ASN1ErrorKind;
@@ -84,7 +84,7 @@ fn long_size(first: u8, s: &[u8], mode: BERMode) -> Option<usize>
 #[inline(never)]
 fn long_fault(first: u8, s: &[u8]) -> ASN1ErrorKind
     requires { 128 < first }
-    ensures { IsPlain result }
+    ensures { BlamesBytes result }
 {
     match cut(s, usize::from(first - 128)) {
         Some((digits, _)) if first < 255 => match number_of(digits) {

@@ -2,8 +2,8 @@
 //!
 //! `string` reads any kind of string, whose own file holds its impl of `Tally`.
 ghost use Rattle.std.specs.Prelude.{◌≡◌, ℕ, ◌-◌, List, IsTrue, ◌↔◌, length};
-ghost use Rattle.yasna_base.specs.Cut.{Cutting};
-ghost use Rattle.yasna_base.proofs.Cut.{CutsOnce};
+ghost use Rattle.yasna_base.specs.Segmented.{Segmentation};
+ghost use Rattle.yasna_base.proofs.Segmented.{SegmentsOnce};
 ghost use Rattle.yasna_bytes.specs.Segments.{GoOn, Says, HoldsBytes, IsOfNone, Adds, TellsWhetherMore, WholeAt, SegmentsAt, StringAt, WithVecAt};
 
 mod bits;
@@ -13,7 +13,7 @@ mod octets;
 use crate::bytes::cursor::Cursor;
 use crate::bytes::header::{Refusal, close, open, refuse};
 pub use bits::bit_string;
-use cuts::{Cuts, rules_of_pieces, stays_whole, takes_cuts, takes_pieces};
+use cuts::{Cuts, may_segment, segment_rules, stays_whole, takes_cuts};
 pub use octets::octet_string;
 use std::alloc::Global;
 use yasna_base::error::ASN1ErrorKind;
@@ -25,46 +25,46 @@ pub trait Tally: Sized + Copy {
     // The values of such strings, and how the strings are cut.
     ghost Value: { Type 0 };
 
-    ghost cutting: { Cutting Value };
+    ghost segmentation: { Segmentation Value };
 
     // The value of bytes of which this is known besides.
     ghost value: { List ℕ → Self → Value };
 
     /// The tag of each segment.
     fn tag() -> Tag
-        ensures { result ≡ cutting.piece };
+        ensures { result ≡ segmentation.segment };
 
     /// How many bytes fill a segment of CER.
     fn full() -> usize
-        ensures { result ≡ cutting.full };
+        ensures { result ≡ segmentation.full };
 
     /// What is known of no segments.
     fn none() -> Self
-        ensures { IsOfNone cutting value result };
+        ensures { IsOfNone segmentation value result };
 
     /// What the contents of a primitive element say: what is known, and the bytes.
     fn of_contents(mode: BERMode, contents: &[u8]) -> Result<(Self, &[u8]), ASN1ErrorKind>
-        ensures { Says cutting value mode contents.now result };
+        ensures { Says segmentation value mode contents.now result };
 
     /// What is known of these segments and one more.
     fn with(self, segment: Self) -> Result<Self, ASN1ErrorKind>
-        ensures { Adds cutting value self segment result };
+        ensures { Adds segmentation value self segment result };
 
     /// Whether a further segment may follow.
     fn may_go_on(self) -> bool
-        ensures { TellsWhetherMore cutting value self (IsTrue result) };
+        ensures { TellsWhetherMore segmentation value self (IsTrue result) };
 
-    ghost holds: { HoldsBytes cutting value };
+    ghost holds: { HoldsBytes segmentation value };
 
-    ghost once: { CutsOnce cutting };
+    ghost once: { SegmentsOnce segmentation };
 
-    ghost go_on: { GoOn cutting };
+    ghost go_on: { GoOn segmentation };
 }
 
 // Appends what the contents of a primitive element say.
 #[inline(always)]
 fn whole<T: Tally>(out: &mut Vec<u8>, mode: BERMode, contents: &[u8]) -> Result<T, ASN1ErrorKind>
-    ensures { WholeAt T.cutting T.value mode contents.now out.old.items result out.new.items }
+    ensures { WholeAt T.segmentation T.value mode contents.now out.old.items result out.new.items }
 {
     match T::of_contents(mode, contents) {
         Ok((tally, bytes)) => {
@@ -96,7 +96,7 @@ fn element<'a, T: Tally>(
     cursor: Cursor<'a>,
     tag: Tag,
 ) -> Result<(T, &'a [u8]), Refusal>
-    ensures { StringAt T.cutting T.value cursor.entry.levels cursor.entry.mode tag cursor.entry.left.now out.old.items result out.new.items }
+    ensures { StringAt T.segmentation T.value cursor.entry.levels cursor.entry.mode tag cursor.entry.left.now out.old.items result out.new.items }
 {
     let opened = match open(cursor, tag) {
         Ok(opened) => opened,
@@ -114,12 +114,10 @@ fn element<'a, T: Tally>(
             }
         }
         PCBit::Constructed => {
-            if !takes_pieces(cursor.mode) {
+            if !may_segment(cursor.mode) {
                 return Err(refuse(ASN1ErrorKind::Invalid, true));
             }
-            let contents = cursor
-                .inside(&opened)
-                .ruled_by(rules_of_pieces(cursor.mode));
+            let contents = cursor.inside(&opened).ruled_by(segment_rules(cursor.mode));
             let ((tally, cuts), rest) = match segments::<T>(out, contents) {
                 Ok(taken) => taken,
                 Err(refusal) => return Err(refusal),
@@ -142,7 +140,7 @@ fn segments<'a, T: Tally>(
     out: &mut Vec<u8>,
     contents: Cursor<'a>,
 ) -> Result<((T, Cuts), &'a [u8]), Refusal>
-    ensures { SegmentsAt T.cutting T.value contents.entry.levels contents.entry.mode contents.entry.left.now out.old.items result out.new.items }
+    ensures { SegmentsAt T.segmentation T.value contents.entry.levels contents.entry.mode contents.entry.left.now out.old.items result out.new.items }
 {
     let mut place = contents;
     let mut tally = T::none();
@@ -175,7 +173,7 @@ pub fn string<'a, T: Tally + Drop>(
     cursor: Cursor<'a>,
     tag: Tag,
 ) -> Result<((Vec<u8>, T), &'a [u8]), Refusal>
-    ensures { WithVecAt T.cutting T.value cursor.entry.levels cursor.entry.mode tag cursor.entry.left.now result }
+    ensures { WithVecAt T.segmentation T.value cursor.entry.levels cursor.entry.mode tag cursor.entry.left.now result }
 {
     let mut bytes = Vec::new(alloc);
     match element::<T>(&mut bytes, cursor, tag) {

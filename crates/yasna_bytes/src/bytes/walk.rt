@@ -5,7 +5,7 @@
 ghost use Rattle.std.specs.Prelude.{IsTrue, ◌↔◌, ◌≡◌, ◌≤◌, ◌-◌, ◌++◌, length, take, drop, MatchOption, Err};
 ghost use Rattle.yasna_base.specs.Raw.{LooksInto, IsPayload};
 ghost use Rattle.yasna_bytes.specs.Header.{EndsAt, contents_end};
-ghost use Rattle.yasna_bytes.specs.Refusal.{IsPlain};
+ghost use Rattle.yasna_bytes.specs.Refusal.{BlamesBytes};
 ghost use Rattle.yasna_bytes.specs.Walk.{IsEndByte, AnyOpenedAt, EndsHere, TurnsTo, TurnOf, TakesEnd, IsWalked, WalksTo, FollowsAt, following, IsRest, HasRest, RawElementAt};
 
 use crate::bytes::cursor::Cursor;
@@ -104,7 +104,7 @@ fn ended<'a>(end: Option<&[u8]>, rest: &'a [u8]) -> Option<&'a [u8]>
 #[cold]
 #[inline(never)]
 fn end_fault(end: Option<&[u8]>, rest: &[u8]) -> ASN1ErrorKind
-    ensures { IsPlain result }
+    ensures { BlamesBytes result }
 {
     match end {
         Some(_) => ASN1ErrorKind::Invalid,

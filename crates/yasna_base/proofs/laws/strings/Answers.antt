@@ -2,7 +2,7 @@ use Rattle.yasna_base.specs.Text.{InUtf8, InNumeric, InPrintable, InVisible, InI
 use Rattle.yasna_base.proofs.BitForm.{bits_keep}
 use Rattle.yasna_base.proofs.Bits.{bits_once}
 use Rattle.yasna_base.proofs.Bmp.{bmp_keeps}
-use Rattle.yasna_base.proofs.Cut.{deep_not_cut}
+use Rattle.yasna_base.proofs.Segmented.{deep_not_segmented}
 use Rattle.yasna_base.proofs.Octets.{octets_once, octets_keep}
 use Rattle.yasna_base.proofs.Texts.{class_keeps}
 use Rattle.yasna_base.proofs.laws.strings.Goals as goal
@@ -32,7 +32,7 @@ pub returns-clause-bmp : goal.returns-clause-bmp
 returns-clause-bmp c = bmp_keeps
 
 pub returns-clause-deep_octets : goal.returns-clause-deep_octets
-returns-clause-deep_octets c = deep_not_cut octets_once
+returns-clause-deep_octets c = deep_not_segmented octets_once
 
 pub returns-clause-deep_bits : goal.returns-clause-deep_bits
-returns-clause-deep_bits c = deep_not_cut bits_once
+returns-clause-deep_bits c = deep_not_segmented bits_once

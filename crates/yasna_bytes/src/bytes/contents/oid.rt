@@ -5,7 +5,7 @@ ghost use Rattle.yasna_base.specs.declared.mode.BERMode.{BERMode};
 ghost use Rattle.yasna_base.specs.Oid.{AreFirstTwo, AreComponents};
 ghost use Rattle.yasna_bytes.specs.Contents.{Decides, WantsMemory};
 ghost use Rattle.yasna_bytes.specs.Oid.{AppendsFirst, AppendsNumbers};
-ghost use Rattle.yasna_bytes.specs.Refusal.{IsPlain};
+ghost use Rattle.yasna_bytes.specs.Refusal.{BlamesBytes};
 
 use crate::bytes::contents::Contents;
 use std::alloc::Global;
@@ -111,7 +111,7 @@ fn read_components(alloc: Global, contents: &[u8]) -> Result<ObjectIdentifier, A
 #[inline(never)]
 fn fault(contents: &[u8], kind: ASN1ErrorKind) -> ASN1ErrorKind
     ensures memory { kind ≡ OutOfMemory → result ≡ OutOfMemory }
-    ensures plain { IsPlain kind → IsPlain result }
+    ensures plain { BlamesBytes kind → BlamesBytes result }
 {
     match kind {
         ASN1ErrorKind::OutOfMemory => kind,

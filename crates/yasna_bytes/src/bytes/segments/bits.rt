@@ -3,7 +3,7 @@ ghost use Rattle.std.proofs.Common.{refl};
 ghost use Rattle.std.specs.Prelude.{◌≡◌, ◌∷◌, ◌+◌, ◌*◌, ◌-◌, ◌^◌, ◌≤◌, ◌<◌, length, IsTrue, ◌↔◌, MatchOption};
 ghost use Rattle.yasna_base.specs.declared.mode.BERMode.TheVariants.{Der};
 ghost use Rattle.yasna_base.proofs.Bits.{bits_once, joined_follow, follow_front};
-ghost use Rattle.yasna_base.specs.Bits.{BitString, IsPadded, bits_cutting};
+ghost use Rattle.yasna_base.specs.Bits.{BitString, IsPadded, bits_segmentation};
 ghost use Rattle.yasna_bytes.specs.Segments.{BitsAt};
 
 use crate::bytes::cursor::Cursor;
@@ -65,7 +65,7 @@ fn used_bits(bytes: usize, unused: u8) -> Option<usize>
 impl Tally for Bits {
     ghost Value = { BitString };
 
-    ghost cutting = { bits_cutting };
+    ghost segmentation = { bits_segmentation };
 
     ghost value = { λ b x. record { bytes = b; count = x.count } };
 

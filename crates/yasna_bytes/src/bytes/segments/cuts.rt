@@ -1,6 +1,6 @@
 //! How a string is cut into segments, as far as CER asks it (X.690, 9.2).
 ghost use Rattle.std.specs.Prelude.{◌≡◌, ◌↔◌, IsTrue, true, false};
-ghost use Rattle.yasna_base.specs.Cut.{StaysWhole, TakesPieces, piece_mode};
+ghost use Rattle.yasna_base.specs.Segmented.{StaysWhole, MaySegment, segment_mode};
 ghost use Rattle.yasna_bytes.specs.Segments.{further_cut, AsksFor};
 
 use yasna_base::mode::BERMode;
@@ -44,8 +44,8 @@ impl Cuts {
 
 /// Whether a mode takes strings in segments.
 #[inline(always)]
-pub fn takes_pieces(mode: BERMode) -> bool
-    ensures { IsTrue result ↔ TakesPieces mode }
+pub fn may_segment(mode: BERMode) -> bool
+    ensures { IsTrue result ↔ MaySegment mode }
 {
     match mode {
         BERMode::Ber => true,
@@ -56,8 +56,8 @@ pub fn takes_pieces(mode: BERMode) -> bool
 
 /// The rules of the segments: in CER they are strings of DER.
 #[inline(always)]
-pub fn rules_of_pieces(mode: BERMode) -> BERMode
-    ensures { result ≡ piece_mode mode }
+pub fn segment_rules(mode: BERMode) -> BERMode
+    ensures { result ≡ segment_mode mode }
 {
     match mode {
         BERMode::Ber => BERMode::Ber,

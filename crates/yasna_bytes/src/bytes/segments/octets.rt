@@ -2,7 +2,7 @@
 ghost use Rattle.std.proofs.Common.{refl};
 ghost use Rattle.std.specs.Prelude.{List, ℕ};
 ghost use Rattle.yasna_base.proofs.Octets.{octets_once};
-ghost use Rattle.yasna_base.specs.Octets.{octets_cutting};
+ghost use Rattle.yasna_base.specs.Octets.{octets_segmentation};
 ghost use Rattle.yasna_bytes.specs.Segments.{OctetsAt};
 
 use crate::bytes::cursor::Cursor;
@@ -21,7 +21,7 @@ pub struct Octets;
 impl Tally for Octets {
     ghost Value = { List ℕ };
 
-    ghost cutting = { octets_cutting };
+    ghost segmentation = { octets_segmentation };
 
     ghost value = { λ b x. b };
 

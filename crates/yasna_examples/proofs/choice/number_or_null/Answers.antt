@@ -1,6 +1,6 @@
 use Rattle.std.proofs.Common.{◌≡◌, rules, false, subst}
 use Rattle.std.specs.Prelude.{Some, Ok, Err}
-use Rattle.yasna.specs.Words.{universal, BeginsWithTag, Decodes}
+use Rattle.yasna.specs.Words.{universal, BeginsWithTag, Decodes, null_tag}
 use Rattle.yasna.proofs.Closures.{looked, found_none, seen}
 use Rattle.yasna_examples.specs.Items.{EncodesItem, AnyItem}
 use Rattle.yasna_examples.proofs.Items.{item_coding, no_number, null_read, number_read}
@@ -9,7 +9,7 @@ use Rattle.yasna_examples.proofs.choice.number_or_null.Goals as goal
 pub returns-in-Err-read_null : goal.returns-in-Err-read_null
 returns-in-Err-read_null c =
     let s = c.args.item.now in
-    let same : c.in-Ok.tag ≡ universal 5 = search rules in
+    let same : c.in-Ok.tag ≡ null_tag = search rules in
     let found = subst (λ t. BeginsWithTag t s.left) same (looked s c.lookahead_tag.result (Ok c.in-Ok.tag) c.lookahead_tag.ensures c.requires.0 c.in-Ok.is) in
     subst (λ z. Decodes false EncodesItem AnyItem s (seen no_number z) c.read_null.new.self) c.in-Err-read_null.is
     (null_read s c.requires found c.read_null.result c.read_null.new.self c.read_null.ensures)
@@ -17,7 +17,7 @@ returns-in-Err-read_null c =
 pub returns-in-Err-read_i64 : goal.returns-in-Err-read_i64
 returns-in-Err-read_i64 c =
     let s = c.args.item.now in
-    let other : c.in-Ok.tag ≡ universal 5 → ⊥ = search rules in
+    let other : c.in-Ok.tag ≡ null_tag → ⊥ = search rules in
     let found = looked s c.lookahead_tag.result (Ok c.in-Ok.tag) c.lookahead_tag.ensures c.requires.0 c.in-Ok.is in
     subst (λ z. Decodes false EncodesItem AnyItem s (seen Some z) c.read_i64.new.self) c.in-Err-read_i64.is
     (number_read c.in-Ok.tag s c.requires found other c.read_i64.result c.read_i64.new.self c.read_i64.ensures)

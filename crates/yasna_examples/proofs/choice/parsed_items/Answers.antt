@@ -1,5 +1,5 @@
 use Rattle.std.proofs.Common.{rules, true, arith}
-use Rattle.yasna.specs.Words.{Der, universal}
+use Rattle.yasna.specs.Words.{Der, universal, sequence_tag}
 use Rattle.yasna.proofs.Laws.{along, list, not_end}
 use Rattle.yasna.proofs.Closures.{decodes_by, parse_by, exactly_as, reads_some, same_items}
 use Rattle.yasna_examples.specs.Items.{EncodesItems, AnyItems}
@@ -10,7 +10,7 @@ pub returns : goal.returns
 returns c =
     let s = c.args.buf.now in
     let r = c.parse_der.result in
-    let laws = list (universal 16) (not_end 16 (λ e. omega arith)) item_coding in
+    let laws = list sequence_tag (not_end 16 (λ e. omega arith)) item_coding in
     let h = parse_by (along (λ v. v.items) laws) (decodes_by {asks = true}) c.parse_der.ensures (λ p q x h. search rules) in
     record {
       items = reads_some true (λ m n v b. EncodesItems m n v.items b) AnyItems Der s r h;

@@ -1,6 +1,6 @@
 use Rattle.std.proofs.Common.{rules, true, arith}
 use Rattle.std.specs.Int.{w64}
-use Rattle.yasna.specs.Words.{Der, universal}
+use Rattle.yasna.specs.Words.{Der, universal, sequence_tag}
 use Rattle.yasna.proofs.Laws.{along, list, not_end, signed_coding}
 use Rattle.yasna.proofs.Closures.{decodes_by, parse_by, exactly_as, reads_some, same_items}
 use Rattle.yasna_examples.specs.Numbers.{EncodesNumbers, AnyNumbers}
@@ -10,7 +10,7 @@ pub returns : goal.returns
 returns c =
     let s = c.args.buf.now in
     let r = c.parse_der.result in
-    let laws = list (universal 16) (not_end 16 (λ e. omega arith)) (signed_coding w64) in
+    let laws = list sequence_tag (not_end 16 (λ e. omega arith)) (signed_coding w64) in
     let h = parse_by (along (λ v. v.items) laws) (decodes_by {asks = true}) c.parse_der.ensures (λ p q x h. search rules) in
     record {
       numbers = reads_some true (λ m n v b. EncodesNumbers m n v.items b) AnyNumbers Der s r h;

@@ -12,6 +12,9 @@ use Rattle.yasna_tool.specs.Kinds.{EncodesIntegers, integers_form}
 use Rattle.yasna.proofs.Laws.{list_along, signed_coding}
 use Rattle.yasna_tool.proofs.Recoded.{recoded, not_recoded}
 use Rattle.yasna_tool.proofs.kind.run_kind.Goals as goal
+use Rattle.yasna_base.specs.Text.{utf8_tag}
+use Rattle.yasna_times.specs.GeneralizedTime.{generalized_time_tag}
+use Rattle.yasna_times.specs.UtcTime.{utc_time_tag}
 
 pub returns-in-Octets-clause-recoded : goal.returns-in-Octets-clause-recoded
 returns-in-Octets-clause-recoded g c =
@@ -29,40 +32,40 @@ returns-in-Octets-clause-none g c =
 pub returns-in-Text-clause-recoded : goal.returns-in-Text-clause-recoded
 returns-in-Text-clause-recoded g c =
     rw c.in-Text.is
-    (recoded EncodesText characters (utf8_form (universal 12)) c.args.mode
+    (recoded EncodesText characters (utf8_form utf8_tag) c.args.mode
     (Appends (g.W.Sink.contents c.args.writer.now) (g.W.Sink.contents c.run-in-Text.new.writer)) (g.R.Source.remaining c.args.reader.now)
     c.run-in-Text.result c.run-in-Text.ensures.ok)
 
 pub returns-in-Text-clause-none : goal.returns-in-Text-clause-none
 returns-in-Text-clause-none g c =
     rw c.in-Text.is
-    (not_recoded EncodesText (utf8_form (universal 12)) c.args.mode (λ v b x. (v, x)) _ _ (g.R.Source.remaining c.args.reader.now)
+    (not_recoded EncodesText (utf8_form utf8_tag) c.args.mode (λ v b x. (v, x)) _ _ (g.R.Source.remaining c.args.reader.now)
     c.run-in-Text.result c.run-in-Text.ensures.refused)
 
 pub returns-in-Utime-clause-recoded : goal.returns-in-Utime-clause-recoded
 returns-in-Utime-clause-recoded g c =
     rw c.in-Utime.is
-    (recoded EncodesUtcTime utc_of (utc_time_form (universal 23)) c.args.mode
+    (recoded EncodesUtcTime utc_of (utc_time_form utc_time_tag) c.args.mode
     (Appends (g.W.Sink.contents c.args.writer.now) (g.W.Sink.contents c.run-in-Utime.new.writer)) (g.R.Source.remaining c.args.reader.now)
     c.run-in-Utime.result c.run-in-Utime.ensures.ok)
 
 pub returns-in-Utime-clause-none : goal.returns-in-Utime-clause-none
 returns-in-Utime-clause-none g c =
     rw c.in-Utime.is
-    (not_recoded EncodesUtcTime (utc_time_form (universal 23)) c.args.mode (λ v b x. (v, x)) _ _ (g.R.Source.remaining c.args.reader.now)
+    (not_recoded EncodesUtcTime (utc_time_form utc_time_tag) c.args.mode (λ v b x. (v, x)) _ _ (g.R.Source.remaining c.args.reader.now)
     c.run-in-Utime.result c.run-in-Utime.ensures.refused)
 
 pub returns-in-Gtime-clause-recoded : goal.returns-in-Gtime-clause-recoded
 returns-in-Gtime-clause-recoded g c =
     rw c.in-Gtime.is
-    (recoded EncodesGeneralizedTime moment_of (generalized_time_form (universal 24)) c.args.mode
+    (recoded EncodesGeneralizedTime moment_of (generalized_time_form generalized_time_tag) c.args.mode
     (Appends (g.W.Sink.contents c.args.writer.now) (g.W.Sink.contents c.run-in-Gtime.new.writer)) (g.R.Source.remaining c.args.reader.now)
     c.run-in-Gtime.result c.run-in-Gtime.ensures.ok)
 
 pub returns-in-Gtime-clause-none : goal.returns-in-Gtime-clause-none
 returns-in-Gtime-clause-none g c =
     rw c.in-Gtime.is
-    (not_recoded EncodesGeneralizedTime (generalized_time_form (universal 24)) c.args.mode (λ v b x. (v, x)) _ _ (g.R.Source.remaining c.args.reader.now)
+    (not_recoded EncodesGeneralizedTime (generalized_time_form generalized_time_tag) c.args.mode (λ v b x. (v, x)) _ _ (g.R.Source.remaining c.args.reader.now)
     c.run-in-Gtime.result c.run-in-Gtime.ensures.refused)
 
 pub returns-in-Ints-clause-recoded : goal.returns-in-Ints-clause-recoded

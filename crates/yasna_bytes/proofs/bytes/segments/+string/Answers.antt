@@ -1,10 +1,10 @@
 use Rattle.std.proofs.Common.{rules, ◌-◌, ◌<◌, ◌∙◌, length, refl, sym, ap, ap₂, subst}
 use Rattle.yasna_base.specs.declared.tag.PCBit.TheVariants.{Constructed}
-use Rattle.yasna_base.specs.Cut.{piece_mode}
+use Rattle.yasna_base.specs.Segmented.{segment_mode}
 use Rattle.yasna_base.specs.Header.{OpensAt, counted}
 use Rattle.yasna_bytes.specs.Header.{contents_end}
 use Rattle.yasna_bytes.specs.Segments.{further_cut, TakesSegments, RefusesSegments, TakesString, RefusesString}
-use Rattle.yasna_bytes.proofs.Cut.{header_refused, whole_taken, whole_refused, uncut_refused, segments_refused, cuts_refused, unclosed_refused, closed_taken, taken_inside, as_well, refused_moved}
+use Rattle.yasna_bytes.proofs.Segmented.{header_refused, whole_taken, whole_refused, uncut_refused, segments_refused, cuts_refused, unclosed_refused, closed_taken, taken_inside, as_well, refused_moved}
 use Rattle.yasna_bytes.proofs.Header.{takes_primitive}
 use Rattle.yasna_bytes.proofs.Segments.{Reached, reached_none, reached_more, reached_shorter, stops_elsewhere, stops_full, segment_refused, segment_too_much}
 use Rattle.yasna_bytes.proofs.bytes.segments.+string.Goals as goal
@@ -12,7 +12,7 @@ use Rattle.yasna_bytes.proofs.bytes.segments.+string.Goals as goal
 pub element-returns-in-Err : goal.element-returns-in-Err
 element-returns-in-Err g t c =
     let p = c.args.cursor in
-    (header_refused g.T.Tally.cutting p.levels p.mode c.args.tag p.left.now c.in-Err.refusal (c.in-Err.ensures {u = tt}), λ _. refl {a = c.args.out.now.items})
+    (header_refused g.T.Tally.segmentation p.levels p.mode c.args.tag p.left.now c.in-Err.refusal (c.in-Err.ensures {u = tt}), λ _. refl {a = c.args.out.now.items})
 
 pub element-returns-in-Ok-whole : goal.element-returns-in-Ok-whole
 element-returns-in-Ok-whole g t c =
@@ -23,7 +23,7 @@ element-returns-in-Ok-whole g t c =
     let y = c.in-Ok-whole.ensures {u = tt} in
     record {
       bytes = y.0;
-      takes = whole_taken g.T.Tally.cutting p.levels p.mode c.args.tag p.left.now c.in-Ok.opened.within.now c.in-Some.after.now
+      takes = whole_taken g.T.Tally.segmentation p.levels p.mode c.args.tag p.left.now c.in-Ok.opened.within.now c.in-Some.after.now
           (g.T.Tally.value y.0 c.in-Ok-whole.tally) x y.1 y.2;
       added = y.3;
     }
@@ -35,17 +35,17 @@ element-returns-in-Err-whole g t c =
     let o : OpensAt p.mode c.args.tag c.in-Ok.opened.bit p.left.now c.in-Ok.opened.within.now (counted c.in-Some.after.now) = search rules in
     let x = takes_primitive p.mode p.levels c.args.tag c.in-Ok.opened.bit p.left.now c.in-Ok.opened.within.now c.in-Some.after.now w.0 c.in-Primitive.is o in
     rw c.refuse-in-Err-whole.ensures (refused_moved
-    (whole_refused g.T.Tally.cutting p.levels p.mode c.args.tag p.left.now c.in-Ok.opened.within.now c.in-Some.after.now _ x
+    (whole_refused g.T.Tally.segmentation p.levels p.mode c.args.tag p.left.now c.in-Ok.opened.within.now c.in-Some.after.now _ x
     (c.in-Err-whole.ensures {u = tt}) refl) refl)
 
-pub element-returns-then-not-takes_pieces : goal.element-returns-then-not-takes_pieces
-element-returns-then-not-takes_pieces g t c =
+pub element-returns-then-not-may_segment : goal.element-returns-then-not-may_segment
+element-returns-then-not-may_segment g t c =
     let p = c.args.cursor in
     let w = c.in-Ok.ensures {u = tt} in
     let o : OpensAt p.mode c.args.tag Constructed p.left.now c.in-Ok.opened.within.now (contents_end c.in-Ok.opened.after) = search rules in
-    rw c.refuse-then-not-takes_pieces.ensures (refused_moved
-    (uncut_refused g.T.Tally.cutting p.levels (p.levels - 1) w.0 refl p.mode c.args.tag p.left.now c.in-Ok.opened.within.now
-    (contents_end c.in-Ok.opened.after) o _ refl (λ h. let z = (c.if-not-takes_pieces.ensures {u = tt}).1 h in cc) tt) refl)
+    rw c.refuse-then-not-may_segment.ensures (refused_moved
+    (uncut_refused g.T.Tally.segmentation p.levels (p.levels - 1) w.0 refl p.mode c.args.tag p.left.now c.in-Ok.opened.within.now
+    (contents_end c.in-Ok.opened.after) o _ refl (λ h. let z = (c.if-not-may_segment.ensures {u = tt}).1 h in cc) tt) refl)
 
 pub element-returns-in-Err-segments : goal.element-returns-in-Err-segments
 element-returns-in-Err-segments g t c =
@@ -54,11 +54,11 @@ element-returns-in-Err-segments g t c =
     let o : OpensAt p.mode c.args.tag Constructed p.left.now c.in-Ok.opened.within.now (contents_end c.in-Ok.opened.after) = search rules in
     let i = c.inside.ensures in
     let q = c.ruled_by-contents.ensures in
-    let x = as_well {x = c.inside.result.levels} {y = piece_mode p.mode} {z = c.in-Ok.opened.within.now}
-    (λ n m s. RefusesSegments g.T.Tally.cutting n m s c.in-Err-segments.refusal) (q.levels) (q.mode ∙ c.rules_of_pieces.ensures)
+    let x = as_well {x = c.inside.result.levels} {y = segment_mode p.mode} {z = c.in-Ok.opened.within.now}
+    (λ n m s. RefusesSegments g.T.Tally.segmentation n m s c.in-Err-segments.refusal) (q.levels) (q.mode ∙ c.segment_rules.ensures)
     (q.left ∙ i.left) (c.in-Err-segments.ensures {u = tt}) in
-    refused_moved (segments_refused g.T.Tally.cutting p.levels c.inside.result.levels w.0 i.levels p.mode c.args.tag p.left.now c.in-Ok.opened.within.now
-    (contents_end c.in-Ok.opened.after) o _ x.moved ((c.if-not-takes_pieces.ensures {u = tt}).0 refl) x) x.moved
+    refused_moved (segments_refused g.T.Tally.segmentation p.levels c.inside.result.levels w.0 i.levels p.mode c.args.tag p.left.now c.in-Ok.opened.within.now
+    (contents_end c.in-Ok.opened.after) o _ x.moved ((c.if-not-may_segment.ensures {u = tt}).0 refl) x) x.moved
 
 pub element-returns-then-not-takes_cuts : goal.element-returns-then-not-takes_cuts
 element-returns-then-not-takes_cuts g t c =
@@ -67,10 +67,10 @@ element-returns-then-not-takes_cuts g t c =
     let o : OpensAt p.mode c.args.tag Constructed p.left.now c.in-Ok.opened.within.now (contents_end c.in-Ok.opened.after) = search rules in
     let i = c.inside.ensures in
     let q = c.ruled_by-contents.ensures in
-    let x = taken_inside {n = c.inside.result.levels} {c = c.in-Ok.opened.within.now} p.mode q.levels (q.mode ∙ c.rules_of_pieces.ensures)
+    let x = taken_inside {n = c.inside.result.levels} {c = c.in-Ok.opened.within.now} p.mode q.levels (q.mode ∙ c.segment_rules.ensures)
     (q.left ∙ i.left) (c.in-Ok-segments.ensures {u = tt}) in
     rw c.refuse-then-not-takes_cuts.ensures (refused_moved
-    (cuts_refused g.T.Tally.cutting p.levels c.inside.result.levels w.0 i.levels p.mode c.args.tag p.left.now c.in-Ok.opened.within.now
+    (cuts_refused g.T.Tally.segmentation p.levels c.inside.result.levels w.0 i.levels p.mode c.args.tag p.left.now c.in-Ok.opened.within.now
     (contents_end c.in-Ok.opened.after) o _ refl x tt (λ h. let z = (c.if-not-takes_cuts.ensures {u = tt}).1 h in cc)) refl)
 
 pub element-returns-in-Ok-close : goal.element-returns-in-Ok-close
@@ -81,10 +81,10 @@ element-returns-in-Ok-close g t c =
     let i = c.inside.ensures in
     let q = c.ruled_by-contents.ensures in
     let r = c.in-Ok-segments.taken in
-    let x = taken_inside {n = c.inside.result.levels} {c = c.in-Ok.opened.within.now} p.mode q.levels (q.mode ∙ c.rules_of_pieces.ensures)
+    let x = taken_inside {n = c.inside.result.levels} {c = c.in-Ok.opened.within.now} p.mode q.levels (q.mode ∙ c.segment_rules.ensures)
     (q.left ∙ i.left) (c.in-Ok-segments.ensures {u = tt}) in
-    closed_taken g.T.Tally.cutting g.T.Tally.value p.levels c.inside.result.levels w.0 i.levels p.mode c.args.tag p.left.now c.in-Ok.opened.within.now
-    (contents_end c.in-Ok.opened.after) o ((c.if-not-takes_pieces.ensures {u = tt}).0 refl) r.0.0 r.0.1 r.1.now c.in-Ok-close.after.now
+    closed_taken g.T.Tally.segmentation g.T.Tally.value p.levels c.inside.result.levels w.0 i.levels p.mode c.args.tag p.left.now c.in-Ok.opened.within.now
+    (contents_end c.in-Ok.opened.after) o ((c.if-not-may_segment.ensures {u = tt}).0 refl) r.0.0 r.0.1 r.1.now c.in-Ok-close.after.now
     c.args.out.now.items c.segments.new.out.items x ((c.if-not-takes_cuts.ensures {u = tt}).0 refl) (c.in-Ok-close.ensures {u = tt})
 
 pub element-returns-in-Err-close : goal.element-returns-in-Err-close
@@ -94,11 +94,11 @@ element-returns-in-Err-close g t c =
     let o : OpensAt p.mode c.args.tag Constructed p.left.now c.in-Ok.opened.within.now (contents_end c.in-Ok.opened.after) = search rules in
     let i = c.inside.ensures in
     let q = c.ruled_by-contents.ensures in
-    let x = taken_inside {n = c.inside.result.levels} {c = c.in-Ok.opened.within.now} p.mode q.levels (q.mode ∙ c.rules_of_pieces.ensures)
+    let x = taken_inside {n = c.inside.result.levels} {c = c.in-Ok.opened.within.now} p.mode q.levels (q.mode ∙ c.segment_rules.ensures)
     (q.left ∙ i.left) (c.in-Ok-segments.ensures {u = tt}) in
     let y = c.in-Err-close.ensures {u = tt} in
     rw c.refuse-in-Err-close.ensures (refused_moved
-    (unclosed_refused g.T.Tally.cutting p.levels c.inside.result.levels w.0 i.levels p.mode c.args.tag p.left.now c.in-Ok.opened.within.now
+    (unclosed_refused g.T.Tally.segmentation p.levels c.inside.result.levels w.0 i.levels p.mode c.args.tag p.left.now c.in-Ok.opened.within.now
     (contents_end c.in-Ok.opened.after) o _ refl x y.0 y.1) refl)
 
 pub segments-loop-out-init : goal.segments-loop-out-init
@@ -114,7 +114,7 @@ segments-loop-out-smaller g t c =
     let p = c.args.contents in
     let l = c.loop-out in
     let x = as_well {x = p.levels} {y = p.mode}
-    (λ n m t. TakesString g.T.Tally.cutting g.T.Tally.value n m t l.place.left.now l.out.items c.in-Ok.taken.0 c.in-Ok.taken.1.now
+    (λ n m t. TakesString g.T.Tally.segmentation g.T.Tally.value n m t l.place.left.now l.out.items c.in-Ok.taken.0 c.in-Ok.taken.1.now
     c.element.new.out.items) l.invariant.levels l.invariant.mode c.tag.ensures (c.in-Ok.ensures {u = tt}) in
     subst (λ z. length z < length l.place.left.now) (sym c.further-place.ensures.left) (reached_shorter (g.met.T.Tally.once) (g.met.T.Tally.go_on) p.levels
     p.mode p.left.now c.in-Ok.taken.0 l.place.left.now c.in-Ok.taken.1.now l.out.items c.element.new.out.items x)
@@ -125,19 +125,19 @@ segments-loop-out-preserved g t c =
     let l = c.loop-out in
     let h = l.invariant.reached in
     let x = as_well {x = p.levels} {y = p.mode}
-    (λ n m t. TakesString g.T.Tally.cutting g.T.Tally.value n m t l.place.left.now l.out.items c.in-Ok.taken.0 c.in-Ok.taken.1.now
+    (λ n m t. TakesString g.T.Tally.segmentation g.T.Tally.value n m t l.place.left.now l.out.items c.in-Ok.taken.0 c.in-Ok.taken.1.now
     c.element.new.out.items) l.invariant.levels l.invariant.mode c.tag.ensures (c.in-Ok.ensures {u = tt}) in
     let f = c.further-place.ensures in
     record {
       levels = f.levels ∙ l.invariant.levels;
       mode = f.mode ∙ l.invariant.mode;
-      reached = subst (λ z. Reached g.T.Tally.cutting g.T.Tally.value p.levels p.mode p.left.now c.in-Ok-with.all c.with-cuts.result z
+      reached = subst (λ z. Reached g.T.Tally.segmentation g.T.Tally.value p.levels p.mode p.left.now c.in-Ok-with.all c.with-cuts.result z
           c.args.out.now.items c.element.new.out.items) (sym f.left)
           (reached_more (g.met.T.Tally.once) (g.met.T.Tally.go_on) p.levels p.mode p.left.now (g.met.T.Tally.holds) l.tally c.in-Ok-with.all
           c.in-Ok.taken.0 l.cuts c.with-cuts.result l.place.left.now c.in-Ok.taken.1.now c.args.out.now.items l.out.items c.element.new.out.items h
           ((c.loop-out-test.ensures {u = tt} p.levels p.mode h.values h.bytes h.lead.front h.lead.pieces h.join).0 refl) x (c.in-Ok-with.ensures {u = tt})
           (c.with-cuts.ensures ∙ ap (λ j. further_cut l.cuts j (c.count.result - c.count-before.result)) c.full.ensures
-          ∙ ap₂ (λ i j. further_cut l.cuts g.T.Tally.cutting.full (i - j)) c.count.ensures c.count-before.ensures));
+          ∙ ap₂ (λ i j. further_cut l.cuts g.T.Tally.segmentation.full (i - j)) c.count.ensures c.count-before.ensures));
     }
 
 pub segments-returns-in-Err-with : goal.segments-returns-in-Err-with
@@ -145,7 +145,7 @@ segments-returns-in-Err-with g t c =
     let p = c.args.contents in
     let l = c.loop-out in
     let x = as_well {x = p.levels} {y = p.mode}
-    (λ n m t. TakesString g.T.Tally.cutting g.T.Tally.value n m t l.place.left.now l.out.items c.in-Ok.taken.0 c.in-Ok.taken.1.now
+    (λ n m t. TakesString g.T.Tally.segmentation g.T.Tally.value n m t l.place.left.now l.out.items c.in-Ok.taken.0 c.in-Ok.taken.1.now
     c.element.new.out.items) l.invariant.levels l.invariant.mode c.tag.ensures (c.in-Ok.ensures {u = tt}) in
     rw c.refuse.ensures (segment_too_much (g.met.T.Tally.once) (g.met.T.Tally.go_on) p.levels p.mode p.left.now l.tally c.in-Ok.taken.0 l.cuts
     l.place.left.now c.in-Ok.taken.1.now c.args.out.now.items l.out.items c.element.new.out.items c.in-Err-with.kind _ l.invariant.reached x
@@ -158,7 +158,7 @@ segments-returns-then-refusal g t c =
     let l = c.loop-out in
     let h = l.invariant.reached in
     let x = as_well {x = p.levels} {y = p.mode}
-    (λ n m t. RefusesString g.T.Tally.cutting n m t l.place.left.now c.in-Err.refusal) l.invariant.levels l.invariant.mode c.tag.ensures
+    (λ n m t. RefusesString g.T.Tally.segmentation n m t l.place.left.now c.in-Err.refusal) l.invariant.levels l.invariant.mode c.tag.ensures
     (c.in-Err.ensures {u = tt}).0 in
     segment_refused (g.met.T.Tally.once) (g.met.T.Tally.go_on) p.levels p.mode p.left.now l.tally l.cuts l.place.left.now c.args.out.now.items
     l.out.items c.in-Err.refusal h ((c.loop-out-test.ensures {u = tt} p.levels p.mode h.values h.bytes h.lead.front h.lead.pieces h.join).0 refl) x
@@ -169,9 +169,9 @@ segments-returns-in-Err g t c =
     let p = c.args.contents in
     let l = c.loop-out in
     let x = as_well {x = p.levels} {y = p.mode}
-    (λ n m t. RefusesString g.T.Tally.cutting n m t l.place.left.now c.in-Err.refusal) l.invariant.levels l.invariant.mode c.tag.ensures
+    (λ n m t. RefusesString g.T.Tally.segmentation n m t l.place.left.now c.in-Err.refusal) l.invariant.levels l.invariant.mode c.tag.ensures
     (c.in-Err.ensures {u = tt}).0 in
-    subst (λ o. TakesSegments g.T.Tally.cutting g.T.Tally.value p.levels p.mode p.left.now c.args.out.now.items l.tally l.cuts l.place.left.now o)
+    subst (λ o. TakesSegments g.T.Tally.segmentation g.T.Tally.value p.levels p.mode p.left.now c.args.out.now.items l.tally l.cuts l.place.left.now o)
     (sym ((c.in-Err.ensures {u = tt}).1 c.if-refusal.false))
     (stops_elsewhere (g.met.T.Tally.once) (g.met.T.Tally.go_on) p.levels p.mode p.left.now l.tally l.cuts l.place.left.now c.args.out.now.items
     l.out.items l.invariant.reached (x.moved.0 c.if-refusal.false))

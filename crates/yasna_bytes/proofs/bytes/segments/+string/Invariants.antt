@@ -12,7 +12,7 @@ abbrev pub invariant-segments-loop-out : goal.invariant-segments-loop-out
 invariant-segments-loop-out g l = record {
   levels : l.place.levels ≡ l.contents.levels;
   mode : l.place.mode ≡ l.contents.mode;
-  reached : Reached g.T.Tally.cutting g.T.Tally.value l.contents.levels l.contents.mode l.contents.left.now l.tally l.cuts l.place.left.now l.fn.out.items
+  reached : Reached g.T.Tally.segmentation g.T.Tally.value l.contents.levels l.contents.mode l.contents.left.now l.tally l.cuts l.place.left.now l.fn.out.items
       l.out.items;
 }
 

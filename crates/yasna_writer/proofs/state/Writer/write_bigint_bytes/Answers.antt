@@ -1,6 +1,6 @@
 use Rattle.std.proofs.Common.{ℤ, length, ap, sym, ◌∙◌, subst, arith}
 use Rattle.yasna_base.specs.Identifier.{universal, tag_or}
-use Rattle.yasna_base.specs.Integer.{integer_form}
+use Rattle.yasna_base.specs.Integer.{integer_form, integer_tag}
 use Rattle.std.specs.Prelude.{true}
 use Rattle.std.proofs.lemmas.Bool.{eqb-true, eqb-false}
 use Rattle.yasna_writer.specs.View.{Wrote}
@@ -12,7 +12,7 @@ pub returns-then-is_empty : goal.returns-then-is_empty
 returns-then-is_empty c =
     let empty = ap length (sym c.without-rest.ensures) ∙ eqb-true _ 0 (sym (c.if-is_empty.ensures {u = tt})) in
     let number = ap (signed_number true) c.without-rest.ensures ∙ big_none c.args.positive c.args.bytes.now empty in
-    subst (λ (z : ℤ). Wrote (integer_form (tag_or c.args.self.now.tag (universal 2)) c.args.self.now.mode z) c.args.self.now c.write_signed_bytes.new.self
+    subst (λ (z : ℤ). Wrote (integer_form (tag_or c.args.self.now.tag integer_tag) c.args.self.now.mode z) c.args.self.now c.write_signed_bytes.new.self
     c.write_signed_bytes.result) number c.write_signed_bytes.ensures
 
 pub returns : goal.returns
@@ -20,5 +20,5 @@ returns c =
     let some = eqb-false _ 0 (sym (c.if-is_empty.ensures {u = tt})) in
     let rest = ap length c.without-rest.ensures in
     let number = ap (signed_number c.args.positive) c.without-rest.ensures ∙ big_some c.args.positive c.args.bytes.now (omega arith) in
-    subst (λ (z : ℤ). Wrote (integer_form (tag_or c.args.self.now.tag (universal 2)) c.args.self.now.mode z) c.args.self.now c.write_signed_bytes-2.new.self
+    subst (λ (z : ℤ). Wrote (integer_form (tag_or c.args.self.now.tag integer_tag) c.args.self.now.mode z) c.args.self.now c.write_signed_bytes-2.new.self
     c.write_signed_bytes-2.result) number c.write_signed_bytes-2.ensures

@@ -1,6 +1,7 @@
 use Rattle.std.proofs.Common.{◌≡◌, None, refl, subst, ap, ◌∙◌}
 use Rattle.yasna_base.specs.declared.tag.Tag.{Tag}
 use Rattle.yasna_base.specs.Identifier.{universal, tag_or}
+use Rattle.yasna_base.specs.Sequence.{sequence_tag}
 use Rattle.yasna_writer.specs.View.{Written, handed}
 use Rattle.yasna_writer.specs.State.{BeginsAt}
 use Rattle.yasna_writer.proofs.Sequences.{ended_kept, ended_writes, ends_untagged}
@@ -10,7 +11,7 @@ pub returns : goal.returns
 returns g c =
     let old = c.args.self.now in
     let b = c.begin-beginning.result in
-    let t = tag_or old.tag (universal 16) in
+    let t = tag_or old.tag sequence_tag in
     let taken = c.in-Ok.ensures {u = tt} in
     let start : c.over-sequence.result ≡ handed old = c.over-sequence.ensures ∙ c.lend.ensures ∙ ap handed taken.2 in
     let between = c.begin-beginning.new.self in

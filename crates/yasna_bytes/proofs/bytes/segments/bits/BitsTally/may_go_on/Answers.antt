@@ -1,5 +1,5 @@
 use Rattle.std.proofs.Common.{rules, ◌≡◌, ◌%◌, nat_eq, IsTrue}
-use Rattle.yasna_base.proofs.BitPieces.{eight_may_follow, may_follow_eight}
+use Rattle.yasna_base.proofs.BitSegments.{eight_may_follow, may_follow_eight}
 use Rattle.yasna_bytes.proofs.bytes.segments.bits.BitsTally.may_go_on.Goals as goal
 
 pub returns : goal.returns

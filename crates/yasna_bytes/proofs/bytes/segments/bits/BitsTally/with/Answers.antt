@@ -1,4 +1,4 @@
-use Rattle.yasna_base.proofs.BitPieces.{joined_more, too_many_joined, too_many_follow}
+use Rattle.yasna_base.proofs.BitSegments.{joined_more, too_many_joined, too_many_follow}
 use Rattle.yasna_bytes.proofs.bytes.segments.bits.BitsTally.with.Goals as goal
 
 pub returns-in-Some : goal.returns-in-Some

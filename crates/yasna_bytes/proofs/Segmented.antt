@@ -4,18 +4,18 @@ use Rattle.yasna_base.specs.declared.error.ASN1ErrorKind.TheVariants.{OutOfMemor
 use Rattle.yasna_base.specs.declared.mode.BERMode.{BERMode}
 use Rattle.yasna_base.specs.declared.tag.Tag.{Tag}
 use Rattle.yasna_base.specs.declared.tag.PCBit.TheVariants.{Primitive, Constructed}
-use Rattle.yasna_base.specs.Cut.{TakesPieces, piece_mode, StaysWhole, CutsInto, Cutting, whole, in_pieces, IsCut, IsDeepCut}
+use Rattle.yasna_base.specs.Segmented.{MaySegment, segment_mode, StaysWhole, FallsInto, Segmentation, whole, in_segments, IsSegmented, IsDeepSegmented}
 use Rattle.yasna_base.specs.Element.{IsPrimitive}
 use Rattle.yasna_base.specs.Header.{ContentsEnd, OpensAt}
 use Rattle.yasna_base.specs.Identifier.{BeginsWithTag}
-use Rattle.yasna_base.proofs.Cut.{cut_zero, cut_of, cut_into, deep_at_zero, deep_of, deep_into, deep_zero_into}
+use Rattle.yasna_base.proofs.Segmented.{segmented_zero, segmented_of, segmented_into, deep_at_zero, deep_of, deep_into, deep_zero_into}
 use Rattle.yasna_base.proofs.Element.{primitive_exact}
 use Rattle.yasna_base.proofs.Header.{opens_begins, header_of, header_once, end_behind}
 use Rattle.yasna_base.proofs.Lists.{empty_is}
 use Rattle.yasna_bytes.specs.declared.bytes.header.Refusal.{Refusal}
 use Rattle.yasna_bytes.specs.Front.{Takes, Stands}
 use Rattle.yasna_bytes.specs.Header.{AnyBit, AreContents, HasHeader, RefusesHeader, EndsAt, EndsBefore}
-use Rattle.yasna_bytes.specs.Refusal.{IsPlain, IsTooDeep}
+use Rattle.yasna_bytes.specs.Refusal.{BlamesBytes, IsTooDeep}
 use Rattle.yasna_bytes.specs.declared.bytes.segments.cuts.Cuts.{Cuts}
 use Rattle.yasna_bytes.specs.Segments.{EndAt, IsDeepWithin, AsksFor, TakesSegments, RefusesSegments, TakesString, RefusesString}
 use Rattle.yasna_bytes.proofs.Contents.{takes_begins, copy_wants, opens_wants}
@@ -26,8 +26,8 @@ use Rattle.yasna_bytes.proofs.Refusal.{plain_not_deep, plain_not_memory, begins_
 use Rattle.yasna_bytes.proofs.Ending.{closed, ends_at}
 
 -- the wanted tag stands there, no string does, and it isn't too deep
-stood : {A : Type 0} (k : Cutting A) (n : ℕ) (m : BERMode) (t : Tag) (s : List ℕ) (e : Refusal) → BeginsWithTag t s → IsPlain e.kind → e.moved ≡ true →
-    (Stands (IsCut k n m t) s → ⊥) → (IsDeepCut k n m t s → ⊥) → RefusesString k n m t s e
+stood : {A : Type 0} (k : Segmentation A) (n : ℕ) (m : BERMode) (t : Tag) (s : List ℕ) (e : Refusal) → BeginsWithTag t s → BlamesBytes e.kind → e.moved ≡ true →
+    (Stands (IsSegmented k n m t) s → ⊥) → (IsDeepSegmented k n m t s → ⊥) → RefusesString k n m t s e
 stood k n m t s e b p o none deep = record {
   none = λ _. none;
   moved = (λ f. absurd (cc), λ f. absurd (begins_not_elsewhere b f));
@@ -37,26 +37,26 @@ stood k n m t s e b p o none deep = record {
 }
 
 -- a string has a header
-cut_header : {A : Type 0} (k : Cutting A) (n : ℕ) (m : BERMode) (t : Tag) (v : A) (b s r : List ℕ) → IsCut k n m t v b → s ≡ b ++ r → HasHeader AnyBit m n t s
-cut_header k zero m t v b s r x e = absurd (cut_zero k m t v b x)
-cut_header k (suc n) m t v b s r x e = elim (cut_into k n m t v b x) [
+segmented_header : {A : Type 0} (k : Segmentation A) (n : ℕ) (m : BERMode) (t : Tag) (v : A) (b s r : List ℕ) → IsSegmented k n m t v b → s ≡ b ++ r → HasHeader AnyBit m n t s
+segmented_header k zero m t v b s r x e = absurd (segmented_zero k m t v b x)
+segmented_header k (suc n) m t v b s r x e = elim (segmented_into k n m t v b x) [
   | whole c y w a ↦ element_header AnyBit m (suc n) t Primitive c b s r (omega arith) tt y e
-  | in_pieces h c vs y p j a ↦ element_header AnyBit m (suc n) t Constructed c b s r (omega arith) tt y e
+  | in_segments h c vs y p j a ↦ element_header AnyBit m (suc n) t Constructed c b s r (omega arith) tt y e
 ]
 
-deep_header : {A : Type 0} (k : Cutting A) (n : ℕ) (m : BERMode) (t : Tag) (s : List ℕ) → IsDeepCut k n m t s → IsTooDeep n t s ⊎ HasHeader AnyBit m n t s
+deep_header : {A : Type 0} (k : Segmentation A) (n : ℕ) (m : BERMode) (t : Tag) (s : List ℕ) → IsDeepSegmented k n m t s → IsTooDeep n t s ⊎ HasHeader AnyBit m n t s
 deep_header k zero m t s d = inl (refl, deep_zero_into k m t s d)
 deep_header k (suc n) m t s d = let x = deep_into k n m t s d in inr (opens_header m (suc n) t Constructed s x.contents x.end (omega arith) x.opens)
 
-too_deep : {A : Type 0} (k : Cutting A) (n : ℕ) (m : BERMode) (t : Tag) (s : List ℕ) → IsTooDeep n t s → IsDeepCut k n m t s
+too_deep : {A : Type 0} (k : Segmentation A) (n : ℕ) (m : BERMode) (t : Tag) (s : List ℕ) → IsTooDeep n t s → IsDeepSegmented k n m t s
 too_deep k zero m t s d = deep_at_zero k m t s d.1
 too_deep k (suc n) m t s d = let e = d.0 in absurd (omega arith)
 
 -- where no header stands, no string does
-pub header_refused : {A : Type 0} (k : Cutting A) (n : ℕ) (m : BERMode) (t : Tag) (s : List ℕ) (e : Refusal) → RefusesHeader AnyBit m n t s e →
+pub header_refused : {A : Type 0} (k : Segmentation A) (n : ℕ) (m : BERMode) (t : Tag) (s : List ℕ) (e : Refusal) → RefusesHeader AnyBit m n t s e →
     RefusesString k n m t s e
 header_refused k n m t s e x = record {
-  none = λ q w. x.none q (cut_header k n m t w.0 w.2.front s w.1 w.2.member w.2.joined);
+  none = λ q w. x.none q (segmented_header k n m t w.0 w.2.front s w.1 w.2.member w.2.joined);
   moved = x.moved;
   too_deep = λ f. too_deep k n m t s (x.too_deep f);
   deep = λ q d. elim (deep_header k n m t s d) [ inl f ↦ x.deep q f | inr h ↦ absurd (x.none q h) ];
@@ -64,32 +64,32 @@ header_refused k n m t s e x = record {
 }
 
 -- the contents of a primitive element say a value
-pub whole_taken : {A : Type 0} (k : Cutting A) (n : ℕ) (m : BERMode) (t : Tag) (s c r : List ℕ) (v : A) → Takes (IsPrimitive AreContents n m t) s c r →
-    k.whole m v c → StaysWhole m k.full (length (k.bytes v)) → Takes (IsCut k n m t) s v r
+pub whole_taken : {A : Type 0} (k : Segmentation A) (n : ℕ) (m : BERMode) (t : Tag) (s c r : List ℕ) (v : A) → Takes (IsPrimitive AreContents n m t) s c r →
+    k.whole m v c → StaysWhole m k.full (length (k.bytes v)) → Takes (IsSegmented k n m t) s v r
 whole_taken k zero m t s c r v x w a = let l = x.member.level in absurd (omega arith)
 whole_taken k (suc n) m t s c r v x w a = record {
   front = x.front;
   joined = x.joined;
-  member = cut_of k n m t v x.front (whole x.member.contents x.member.element (subst (k.whole m v) x.member.meaning w) a);
+  member = segmented_of k n m t v x.front (whole x.member.contents x.member.element (subst (k.whole m v) x.member.meaning w) a);
 }
 
 -- or say none
-whole_none : {A : Type 0} (k : Cutting A) (n : ℕ) (m : BERMode) (t : Tag) (s c r : List ℕ) → Takes (IsPrimitive AreContents n m t) s c r →
-    ((v : A) → k.whole m v c → StaysWhole m k.full (length (k.bytes v)) → ⊥) → Stands (IsCut k n m t) s → ⊥
-whole_none k zero m t s c r x h w = cut_zero k m t w.0 w.2.front w.2.member
+whole_none : {A : Type 0} (k : Segmentation A) (n : ℕ) (m : BERMode) (t : Tag) (s c r : List ℕ) → Takes (IsPrimitive AreContents n m t) s c r →
+    ((v : A) → k.whole m v c → StaysWhole m k.full (length (k.bytes v)) → ⊥) → Stands (IsSegmented k n m t) s → ⊥
+whole_none k zero m t s c r x h w = segmented_zero k m t w.0 w.2.front w.2.member
 whole_none {A} k (suc n) m t s c r x h w =
     let y = x.member in
     let f = sym x.joined ∙ w.2.joined in
-    elim (cut_into k n m t w.0 w.2.front w.2.member) [
+    elim (segmented_into k n m t w.0 w.2.front w.2.member) [
       | whole d z q a ↦
           let i = (primitive_exact m m t t Primitive y.contents d x.front w.2.front r w.1 y.element z f).contents in
           h w.0 (subst (k.whole m w.0) (sym (y.meaning ∙ i)) q) a
-      | in_pieces g d vs z p j a ↦ let i = (primitive_exact m m t t Constructed y.contents d x.front w.2.front r w.1 y.element z f).bit in absurd (cc)
+      | in_segments g d vs z p j a ↦ let i = (primitive_exact m m t t Constructed y.contents d x.front w.2.front r w.1 y.element z f).bit in absurd (cc)
     ]
 
 -- a primitive element isn't too deep
-whole_not_deep : {A : Type 0} (k : Cutting A) (n : ℕ) (m : BERMode) (t : Tag) (s c r : List ℕ) → Takes (IsPrimitive AreContents n m t) s c r →
-    IsDeepCut k n m t s → ⊥
+whole_not_deep : {A : Type 0} (k : Segmentation A) (n : ℕ) (m : BERMode) (t : Tag) (s c r : List ℕ) → Takes (IsPrimitive AreContents n m t) s c r →
+    IsDeepSegmented k n m t s → ⊥
 whole_not_deep k zero m t s c r x d = let l = x.member.level in omega arith
 whole_not_deep k (suc n) m t s c r x d =
     let y = deep_into k n m t s d in
@@ -97,8 +97,8 @@ whole_not_deep k (suc n) m t s c r x d =
     absurd (cc)
 
 -- the contents of a primitive element were refused
-pub whole_refused : {A : Type 0} (k : Cutting A) (n : ℕ) (m : BERMode) (t : Tag) (s c r : List ℕ) (e : Refusal) → Takes (IsPrimitive AreContents n m t) s c r →
-    ((e.kind ≡ OutOfMemory) × (c ≡ [] → ⊥)) ⊎ (IsPlain e.kind × ((v : A) → k.whole m v c → StaysWhole m k.full (length (k.bytes v)) → ⊥)) →
+pub whole_refused : {A : Type 0} (k : Segmentation A) (n : ℕ) (m : BERMode) (t : Tag) (s c r : List ℕ) (e : Refusal) → Takes (IsPrimitive AreContents n m t) s c r →
+    ((e.kind ≡ OutOfMemory) × (c ≡ [] → ⊥)) ⊎ (BlamesBytes e.kind × ((v : A) → k.whole m v c → StaysWhole m k.full (length (k.bytes v)) → ⊥)) →
     e.moved ≡ true → RefusesString k n m t s e
 whole_refused k n m t s c r e x (inl h) o = record {
   none = λ q. absurd (q h.0);
@@ -110,7 +110,7 @@ whole_refused k n m t s c r e x (inl h) o = record {
 whole_refused k n m t s c r e x (inr h) o =
     stood k n m t s e (takes_begins m n t s c r x) h.0 o (whole_none k n m t s c r x h.1) (whole_not_deep k n m t s c r x)
 
-module _ {A : Type 0} (k : Cutting A) (n j : ℕ) (more : 1 ≤ n) (less : j ≡ n - 1) (m : BERMode) (t : Tag) (s c : List ℕ) (end : ContentsEnd)
+module _ {A : Type 0} (k : Segmentation A) (n j : ℕ) (more : 1 ≤ n) (less : j ≡ n - 1) (m : BERMode) (t : Tag) (s c : List ℕ) (end : ContentsEnd)
     (o : OpensAt m t Constructed s c end) (e : Refusal) (moved : e.moved ≡ true) where
   level : suc j ≡ n
   level = omega arith
@@ -119,17 +119,17 @@ module _ {A : Type 0} (k : Cutting A) (n j : ℕ) (more : 1 ≤ n) (less : j ≡
   begun = opens_begins m t Constructed s c end o
 
   -- what segments stand there, where a string does
-  record InPieces (v : A) (r : List ℕ) : Type 0 where
-    taken : TakesPieces m
+  record InSegments (v : A) (r : List ℕ) : Type 0 where
+    taken : MaySegment m
     place : List ℕ
     ends : EndsBefore end place r
-    end_at : EndAt k j (piece_mode m) c place
-    cut : CutsInto m k.full (map k.bytes end_at.values)
+    end_at : EndAt k j (segment_mode m) c place
+    cut : FallsInto m k.full (map k.bytes end_at.values)
 
-  in_segments : (v : A) (r : List ℕ) → Takes (IsCut k n m t) s v r → InPieces v r
-  in_segments v r w = elim (cut_into k j m t v w.front (subst (λ z. IsCut k z m t v w.front) (sym level) w.member)) [
+  as_segments : (v : A) (r : List ℕ) → Takes (IsSegmented k n m t) s v r → InSegments v r
+  as_segments v r w = elim (segmented_into k j m t v w.front (subst (λ z. IsSegmented k z m t v w.front) (sym level) w.member)) [
     | whole d z q a ↦ let i = (header_of m t t Constructed Primitive s c d w.front r end o z w.joined).bit in absurd (cc)
-    | in_pieces h d vs z p q a ↦
+    | in_segments h d vs z p q a ↦
         let b = header_of m t t Constructed Constructed s c d w.front r end o z w.joined in
         record {
           taken = h;
@@ -146,48 +146,48 @@ module _ {A : Type 0} (k : Cutting A) (n j : ℕ) (more : 1 ≤ n) (less : j ≡
         }
   ]
 
-  deep_within : IsDeepCut k n m t s → TakesPieces m × IsDeepWithin k j (piece_mode m) c
+  deep_within : IsDeepSegmented k n m t s → MaySegment m × IsDeepWithin k j (segment_mode m) c
   deep_within d =
-      let y = deep_into k j m t s (subst (λ z. IsDeepCut k z m t s) (sym level) d) in
+      let y = deep_into k j m t s (subst (λ z. IsDeepSegmented k z m t s) (sym level) d) in
       let i = (header_once m t t Constructed Constructed s y.contents c y.end end y.opens o).contents in
-      (y.taken, subst (IsDeepWithin k j (piece_mode m)) i y.inside)
+      (y.taken, subst (IsDeepWithin k j (segment_mode m)) i y.inside)
 
   -- segments stand in a mode that takes none
-  pub uncut_refused : (TakesPieces m → ⊥) → IsPlain e.kind → RefusesString k n m t s e
-  uncut_refused h p = stood k n m t s e begun p moved (λ w. h (in_segments w.0 w.1 w.2).taken) (λ d. h (deep_within d).0)
+  pub uncut_refused : (MaySegment m → ⊥) → BlamesBytes e.kind → RefusesString k n m t s e
+  uncut_refused h p = stood k n m t s e begun p moved (λ w. h (as_segments w.0 w.1 w.2).taken) (λ d. h (deep_within d).0)
 
   -- segments were refused
-  pub segments_refused : TakesPieces m → RefusesSegments k j (piece_mode m) c e → RefusesString k n m t s e
+  pub segments_refused : MaySegment m → RefusesSegments k j (segment_mode m) c e → RefusesString k n m t s e
   segments_refused h x = record {
-    none = λ q w. let y = in_segments w.0 w.1 w.2 in x.none q y.place y.end_at;
+    none = λ q w. let y = as_segments w.0 w.1 w.2 in x.none q y.place y.end_at;
     moved = (λ f. absurd (cc), λ f. absurd (begins_not_elsewhere begun f));
-    too_deep = λ f. subst (λ z. IsDeepCut k z m t s) level
+    too_deep = λ f. subst (λ z. IsDeepSegmented k z m t s) level
         (deep_of k j m t s (record { taken = h; contents = c; end = end; opens = o; inside = x.too_deep f }));
     deep = λ q d. x.deep q (deep_within d).1;
     memory = λ _. opens_wants n m t Constructed s c end more x.not_empty o;
   }
 
-  module _ {T : Type 0} {value : List ℕ → T → A} {out out' y : List ℕ} {x : T} {u : Cuts} (h : TakesSegments k value j (piece_mode m) c out x u y out')
-      (p : IsPlain e.kind) where
+  module _ {T : Type 0} {value : List ℕ → T → A} {out out' y : List ℕ} {x : T} {u : Cuts} (h : TakesSegments k value j (segment_mode m) c out x u y out')
+      (p : BlamesBytes e.kind) where
     -- segments were read that the mode doesn't take as they are cut
     pub cuts_refused : (AsksFor m u → ⊥) → RefusesString k n m t s e
     cuts_refused f = stood k n m t s e begun p moved
         (λ w.
-        let z = in_segments w.0 w.1 w.2 in
+        let z = as_segments w.0 w.1 w.2 in
         let same = (h.only z.place z.end_at).1 in
-        f ((asked_cut k m h.values u h.cuts).1 (subst (λ vs. CutsInto m k.full (map k.bytes vs)) same z.cut)))
+        f ((asked_cut k m h.values u h.cuts).1 (subst (λ vs. FallsInto m k.full (map k.bytes vs)) same z.cut)))
         (λ d. h.not_deep (deep_within d).1)
 
     -- segments were read, and don't end where contents may
     pub unclosed_refused : (EndsAt end y → ⊥) → RefusesString k n m t s e
     unclosed_refused f = stood k n m t s e begun p moved
-        (λ w. let z = in_segments w.0 w.1 w.2 in f (subst (EndsAt end) (h.only z.place z.end_at).0 (ends_at end z.place w.1 z.ends)))
+        (λ w. let z = as_segments w.0 w.1 w.2 in f (subst (EndsAt end) (h.only z.place z.end_at).0 (ends_at end z.place w.1 z.ends)))
         (λ d. h.not_deep (deep_within d).1)
 
 -- segments were read, are cut as the mode asks, and end where contents may
-pub closed_taken : {A T : Type 0} (k : Cutting A) (value : List ℕ → T → A) (n j : ℕ) → 1 ≤ n → j ≡ n - 1 → (m : BERMode) (t : Tag) (s c : List ℕ)
-    (end : ContentsEnd) → OpensAt m t Constructed s c end → TakesPieces m → (x : T) (u : Cuts) (y r out out' : List ℕ) →
-    TakesSegments k value j (piece_mode m) c out x u y out' → AsksFor m u → EndsBefore end y r → TakesString k value n m t s out x r out'
+pub closed_taken : {A T : Type 0} (k : Segmentation A) (value : List ℕ → T → A) (n j : ℕ) → 1 ≤ n → j ≡ n - 1 → (m : BERMode) (t : Tag) (s c : List ℕ)
+    (end : ContentsEnd) → OpensAt m t Constructed s c end → MaySegment m → (x : T) (u : Cuts) (y r out out' : List ℕ) →
+    TakesSegments k value j (segment_mode m) c out x u y out' → AsksFor m u → EndsBefore end y r → TakesString k value n m t s out x r out'
 closed_taken k value n j l f m t s c end o h x u y r out out' z a e =
     let b = closed m t Constructed s c end o z.lead.front y r z.lead.joined e in
     record {
@@ -196,9 +196,9 @@ closed_taken k value n j l f m t s c end o h x u y r out out' z a e =
         front = b.bytes;
         joined = b.joined;
         member = let i : suc j ≡ n = omega arith in
-            subst (λ q. IsCut k q m t (value z.bytes x) b.bytes) i
-            (cut_of k j m t (value z.bytes x) b.bytes
-            (in_pieces h z.lead.front z.values b.element z.lead.pieces z.join ((asked_cut k m z.values u z.cuts).0 a)));
+            subst (λ q. IsSegmented k q m t (value z.bytes x) b.bytes) i
+            (segmented_of k j m t (value z.bytes x) b.bytes
+            (in_segments h z.lead.front z.values b.element z.lead.pieces z.join ((asked_cut k m z.values u z.cuts).0 a)));
       };
       added = z.added;
     }
@@ -207,11 +207,11 @@ closed_taken k value n j l f m t s c end o h x u y r out out' z a e =
 pub as_well : {X Y Z : Type 0} {r x : X} {s y : Y} {t z : Z} (B : X → Y → Z → Type 0) → r ≡ x → s ≡ y → t ≡ z → B r s t → B x y z
 as_well {r} {x} {s} {y} {t} B e f g h = subst (λ u. B x y u) g (subst (λ u. B x u t) f (subst (λ u. B u s t) e h))
 
--- segments that were read where the contents of an element begin, by the rules of its pieces
-pub taken_inside : {A T : Type 0} {k : Cutting A} {value : List ℕ → T → A} {n j : ℕ} {o : BERMode} {c s out y out' : List ℕ} {x : T} {u : Cuts} →
-    (m : BERMode) → j ≡ n → o ≡ piece_mode m → s ≡ c → TakesSegments k value j o s out x u y out' → TakesSegments k value n (piece_mode m) c out x u y out'
+-- segments that were read where the contents of an element begin, by the rules of its segments
+pub taken_inside : {A T : Type 0} {k : Segmentation A} {value : List ℕ → T → A} {n j : ℕ} {o : BERMode} {c s out y out' : List ℕ} {x : T} {u : Cuts} →
+    (m : BERMode) → j ≡ n → o ≡ segment_mode m → s ≡ c → TakesSegments k value j o s out x u y out' → TakesSegments k value n (segment_mode m) c out x u y out'
 taken_inside {k = k} {value = value} {n = n} {c = c} {out = out} {y = y} {out' = out'} {x = x} {u = u} m e f g h =
-    as_well {x = n} {y = piece_mode m} {z = c} (λ i q d. TakesSegments k value i q d out x u y out') e f g h
+    as_well {x = n} {y = segment_mode m} {z = c} (λ i q d. TakesSegments k value i q d out x u y out') e f g h
 
 -- what holds where a refusal didn't move holds of one that did
 pub refused_moved : {R : Type 0} {b : Bool} {o p : List ℕ} → R → b ≡ true → R × (b ≡ false → o ≡ p)

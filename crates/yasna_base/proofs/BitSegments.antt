@@ -4,11 +4,11 @@ use Rattle.std.proofs.lemmas.Grind.{flat_map-append}
 use Rattle.std.specs.List.{flat_map, AllByRecursion}
 use Rattle.yasna_base.specs.declared.mode.BERMode.{BERMode}
 use Rattle.yasna_base.specs.declared.tag.Tag.{Tag}
-use Rattle.yasna_base.specs.Bits.{BitString, IsFull, AreFullBeforeLast, all_bits, AreBitsJoined, MayFollow, bits_cutting, IsBits}
-use Rattle.yasna_base.specs.Cut.{piece_mode, whole, in_pieces, IsCut}
+use Rattle.yasna_base.specs.Bits.{BitString, IsFull, AreFullBeforeLast, all_bits, AreBitsJoined, MayFollow, bits_segmentation, IsBits}
+use Rattle.yasna_base.specs.Segmented.{segment_mode, whole, in_segments, IsSegmented}
 use Rattle.yasna_base.specs.Pieces.{Each}
 use Rattle.yasna_base.proofs.Bits.{full_before, all_bits_append}
-use Rattle.yasna_base.proofs.Cut.{cut_zero, cut_into}
+use Rattle.yasna_base.proofs.Segmented.{segmented_zero, segmented_into}
 
 -- the bits are all of the bytes but fewer than eight
 pub record IsFilled (v : BitString) : Type 0 where
@@ -38,12 +38,12 @@ each_filled R f (v ∷ vs) (b ∷ bs) p = (f v b p.0, each_filled R f vs bs p.1)
 
 -- so is any bit string
 pub bits_filled : (n : ℕ) (m : BERMode) (t : Tag) (v : BitString) (b : List ℕ) → IsBits n m t v b → IsFilled v
-bits_filled zero m t v b x = absurd (cut_zero bits_cutting m t v b x)
-bits_filled (suc n) m t v b x = elim (cut_into bits_cutting n m t v b x) [
+bits_filled zero m t v b x = absurd (segmented_zero bits_segmentation m t v b x)
+bits_filled (suc n) m t v b x = elim (segmented_into bits_segmentation n m t v b x) [
   | whole c y w a ↦ record { unused = w.unused; below = w.below; counted = w.counted }
-  | in_pieces h c vs y p j a ↦
+  | in_segments h c vs y p j a ↦
       let f = joined_filled vs j.full
-      (each_filled (IsCut bits_cutting n (piece_mode m) bits_cutting.piece) (bits_filled n (piece_mode m) bits_cutting.piece) vs p.pieces p.each) in
+      (each_filled (IsSegmented bits_segmentation n (segment_mode m) bits_segmentation.segment) (bits_filled n (segment_mode m) bits_segmentation.segment) vs p.pieces p.each) in
       let i = f.counted in
       let k = j.count in
       record { unused = f.unused; below = f.below; counted = omega (arith, ap length j.bytes) }
@@ -58,21 +58,21 @@ eight_of_full : (vs : List BitString) → AllByRecursion IsFull vs → all_bits 
 eight_of_full [] h = refl
 eight_of_full (v ∷ vs) h = let e = h.0 in omega (arith, eight_of_full vs h.1)
 
--- pieces may be followed where their bits make up whole bytes
+-- segments may be followed where their bits make up whole bytes
 pub eight_may_follow : (n : ℕ) (m : BERMode) (vs : List BitString) (v : BitString) (bs : List (List ℕ)) →
-    Each (IsCut bits_cutting n m bits_cutting.piece) vs bs → AreBitsJoined m vs v → v.count % 8 ≡ 0 → MayFollow vs
+    Each (IsSegmented bits_segmentation n m bits_segmentation.segment) vs bs → AreBitsJoined m vs v → v.count % 8 ≡ 0 → MayFollow vs
 eight_may_follow n m vs v bs p j e =
     let k = j.count in
     let l = j.in_range in
     record {
-      full = full_of_eight vs j.full (each_filled (IsCut bits_cutting n m bits_cutting.piece) (bits_filled n m bits_cutting.piece) vs bs p) (omega arith);
+      full = full_of_eight vs j.full (each_filled (IsSegmented bits_segmentation n m bits_segmentation.segment) (bits_filled n m bits_segmentation.segment) vs bs p) (omega arith);
       in_range = omega arith;
     }
 
 pub may_follow_eight : (m : BERMode) (vs : List BitString) (v : BitString) → AreBitsJoined m vs v → MayFollow vs → v.count % 8 ≡ 0
 may_follow_eight m vs v j h = let k = j.count in omega (arith, eight_of_full vs h.full)
 
--- a further piece behind those that may be followed
+-- a further segment behind those that may be followed
 pub joined_more : (m : BERMode) (vs : List BitString) (v w : BitString) (n : ℕ) → AreBitsJoined m vs v → MayFollow vs →
     v.count + w.count < 2 ^ 64 → n ≡ v.count + w.count →
     AreBitsJoined m (vs ++ (w ∷ [])) (record { bytes = v.bytes ++ w.bytes; count = n })
@@ -86,7 +86,7 @@ joined_more m vs v w n j h l e =
       in_range = omega arith;
     }
 
--- pieces of too many bits make no string, and aren't followed
+-- segments of too many bits make no string, and aren't followed
 pub too_many_joined : (m : BERMode) (vs ws : List BitString) (v w u : BitString) → (v.count + w.count < 2 ^ 64 → ⊥) → AreBitsJoined m vs v →
     AreBitsJoined m (vs ++ (w ∷ ws)) u → ⊥
 too_many_joined m vs ws v w u n j h =
