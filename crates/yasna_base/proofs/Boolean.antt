@@ -8,7 +8,7 @@ use Rattle.yasna_base.specs.Canonical.{IsCanonicalMode, leaf_nest, Always, IsWri
 use Rattle.yasna_base.specs.Coding.{IsCoding, Any}
 use Rattle.yasna_base.specs.Digits.{IsBytes}
 use Rattle.yasna_base.specs.Element.{Primitively}
-use Rattle.yasna_base.specs.Identifier.{universal, end_tag}
+use Rattle.yasna_base.specs.Identifier.{end_tag}
 use Rattle.yasna_base.proofs.Canonical.{primitively_written}
 use Rattle.yasna_base.proofs.Coding.{primitively}
 use Rattle.yasna_base.proofs.Identifier.{not_end}

@@ -7,7 +7,7 @@ use Rattle.yasna_base.specs.Bits.{bits_tag, bits_form}
 use Rattle.yasna_base.specs.Canonical.{definite_element, indefinite_element, canonical_element, enclosed_form}
 use Rattle.yasna_base.specs.Segmented.{FallsInto}
 use Rattle.yasna_base.specs.Digits.{digits}
-use Rattle.yasna_base.specs.Identifier.{identifier, universal}
+use Rattle.yasna_base.specs.Identifier.{identifier}
 use Rattle.yasna_base.specs.Length.{shortest_length}
 use Rattle.yasna_base.specs.Octets.{octets_tag, octets_form, octets_nest}
 use Rattle.yasna_base.specs.Raw.{raw_form}

@@ -18,6 +18,11 @@ pub apart_by_tags : {S Q : Members} (t u : Tag) → (t ≡ u → ⊥) → ((m : 
 apart_by_tags t u other x y m n k b c r s p q e =
     other (begins_once t u (c ++ s) (subst (λ z. BeginsWithTag t z) e (begins_with t b r (x m n b p))) (begins_with u c s (y m k c q)))
 
+-- what stands apart from two types stands apart from a CHOICE of them
+pub apart_from_either : {S Q R : Members} → StandApart S Q → StandApart S R → StandApart S (AnyEither Q R)
+apart_from_either one other m n k b c r s p (inl q) e = one m n k b c r s p q e
+apart_from_either one other m n k b c r s p (inr q) e = other m n k b c r s p q e
+
 module _ {A V : Type 0} {E : A → A → Type 0} {F : V → V → Type 0} {B : Grammar A} {C : Grammar V}
     {S Q : Members} (x : IsCoding E B S) (y : IsCoding F C Q) (apart : StandApart S Q) where
   either_reflexive : (v : A ⊎ V) → SameEither E F v v

@@ -5,7 +5,6 @@ use Rattle.std.specs.Prelude.{FitsSigned}
 use Rattle.yasna_base.specs.Canonical.{leaf_nest, IsWritten}
 use Rattle.yasna_base.specs.Coding.{IsCoding, Any}
 use Rattle.yasna_base.specs.Enumerated.{EncodesEnumerated, enumerated_tag}
-use Rattle.yasna_base.specs.Identifier.{universal}
 use Rattle.yasna_base.specs.Integer.{integer_form}
 use Rattle.yasna_base.proofs.Identifier.{not_end}
 use Rattle.yasna_base.proofs.Integer.{number_written, signed_under}

@@ -10,7 +10,7 @@ use Rattle.yasna_base.specs.Canonical.{definite_element, canonical_element, encl
 use Rattle.yasna_base.specs.Digits.{IsBytes, digits, base128}
 use Rattle.yasna_base.specs.Element.{Element, indefinite, Primitively, Enclosed}
 use Rattle.yasna_base.specs.Grammar.{Grammar}
-use Rattle.yasna_base.specs.Identifier.{identifier, universal, begins}
+use Rattle.yasna_base.specs.Identifier.{identifier, begins}
 use Rattle.yasna_base.specs.Integer.{twos, IsMinimal, IsNumber, EncodesSigned, minimal_bytes, integer_form, integer_tag}
 use Rattle.yasna_base.specs.Length.{shortest_length}
 use Rattle.yasna_base.specs.Sequence.{sequence_tag, PartOf, NoParts, part_form, nothing_form}

@@ -13,7 +13,7 @@ use Rattle.yasna_base.specs.Canonical.{leaf_nest, IsWritten}
 use Rattle.yasna_base.specs.Coding.{IsCoding, Any}
 use Rattle.yasna_base.specs.Digits.{IsBytes, digits}
 use Rattle.yasna_base.specs.Element.{Primitively}
-use Rattle.yasna_base.specs.Identifier.{universal, end_tag}
+use Rattle.yasna_base.specs.Identifier.{end_tag}
 use Rattle.yasna_base.specs.Integer.{twos, distance, IsMinimal, IsInteger, IsNumber, IsSigned, IsUnsigned, EncodesSigned, EncodesUnsigned, unsigned_bytes, minimal_bytes, integer_form, integer_tag}
 use Rattle.yasna_base.proofs.Canonical.{primitively_written}
 use Rattle.yasna_base.proofs.Coding.{primitively}

@@ -4,7 +4,7 @@ use Rattle.yasna_base.specs.declared.tag.Tag.{Tag}
 use Rattle.yasna_base.specs.Canonical.{leaf_nest, Always, IsWritten}
 use Rattle.yasna_base.specs.Coding.{IsCoding, Any}
 use Rattle.yasna_base.specs.Element.{Primitively}
-use Rattle.yasna_base.specs.Identifier.{universal, end_tag}
+use Rattle.yasna_base.specs.Identifier.{end_tag}
 use Rattle.yasna_base.specs.Null.{IsNull, EncodesNull, null_form, null_tag}
 use Rattle.yasna_base.proofs.Canonical.{primitively_written}
 use Rattle.yasna_base.proofs.Coding.{primitively}

@@ -8,7 +8,7 @@ use Rattle.yasna_base.specs.Canonical.{leaf_nest, IsWritten}
 use Rattle.yasna_base.specs.Coding.{IsCoding, Any}
 use Rattle.yasna_base.specs.Digits.{IsBytes, base128}
 use Rattle.yasna_base.specs.Element.{Primitively}
-use Rattle.yasna_base.specs.Identifier.{universal, end_tag}
+use Rattle.yasna_base.specs.Identifier.{end_tag}
 use Rattle.yasna_base.specs.Oid.{AreFirstTwo, IsEncodableOid, subidentifiers, oid_contents, AreComponents, EncodesOid, oid_form, oid_tag}
 use Rattle.yasna_base.proofs.Canonical.{primitively_written}
 use Rattle.yasna_base.proofs.Coding.{primitively}

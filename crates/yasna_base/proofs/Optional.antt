@@ -3,6 +3,7 @@ use Rattle.std.proofs.Common.{◌≡◌, ℕ, ◌^◌, ◌<◌, ◌≤◌, List,
 use Rattle.yasna_base.specs.declared.mode.BERMode.{BERMode}
 use Rattle.yasna_base.specs.declared.mode.BERMode.TheVariants.{Ber, Der}
 use Rattle.yasna_base.specs.Canonical.{IsCanonicalMode, HoldsForm, IsWritten}
+use Rattle.yasna_base.specs.Choice.{AnyEither}
 use Rattle.yasna_base.specs.Coding.{IsMeaning, IsCoding, IsContentsCoding}
 use Rattle.yasna_base.specs.Digits.{IsBytes}
 use Rattle.yasna_base.specs.Element.{Enclosed, AnyEnclosed}
@@ -36,6 +37,11 @@ apart_from_option {S} {Q} {R} apart behind m n k b c r s i p q e = by_front q.he
     by_front : AnyOption Q m k q.front → ⊥
     by_front (inl x) = apart m n k b q.front r (q.rest ++ s) p x (e ∙ ap (λ z. z ++ s) q.joined ∙ append_assoc q.front q.rest s)
     by_front (inr x) = behind m n k b q.rest r s i p q.more (e ∙ ap (λ z. z ++ s) (q.joined ∙ ap (λ z. z ++ q.rest) x))
+
+-- nor does a CHOICE of types as neither of which they begin
+pub either_begins_apart : {S Q R : Members} → BeginsApart S R → BeginsApart Q R → BeginsApart (AnyEither S Q) R
+either_begins_apart one other m n k b c r s i (inl p) q e = one m n k b c r s i p q e
+either_begins_apart one other m n k b c r s i (inr p) q e = other m n k b c r s i p q e
 
 -- what follows two fronts that are the same is the same
 behind : (front x other y : List ℕ) → front ≡ other → front ++ x ≡ other ++ y → x ≡ y
@@ -92,18 +98,36 @@ parts_coding x y once = record {
       p.joined ∙ ap₂ (λ y z. y ++ z) same.0 same.1 ∙ sym q.joined;
 }
 
-module _ {A V : Type 0} {E : A → A → Type 0} {F : V → V → Type 0} {B : Grammar A} {C : Grammar V}
-    {S Q : Members} (x : IsCoding E B S) (y : IsContentsCoding F C Q) where
-  rests_same : (m : BERMode) (n k : ℕ) (front rest r other more s : List ℕ) → AtEnd r → AtEnd s → Q m n rest → Q m k more → front ≡ other →
-      front ++ (rest ++ r) ≡ other ++ (more ++ s) → (front ≡ other) × (rest ≡ more)
-  rests_same m n k front rest r other more s i j p q f e = (f, y.ends m n k rest more r s i j p q (behind front (rest ++ r) other (more ++ s) f e))
+rests_same : {V : Type 0} {F : V → V → Type 0} {C : Grammar V} {Q : Members} → IsContentsCoding F C Q →
+    (m : BERMode) (n k : ℕ) (front rest r other more s : List ℕ) → AtEnd r → AtEnd s → Q m n rest → Q m k more → front ≡ other →
+    front ++ (rest ++ r) ≡ other ++ (more ++ s) → (front ≡ other) × (rest ≡ more)
+rests_same y m n k front rest r other more s i j p q f e = (f, y.ends m n k rest more r s i j p q (behind front (rest ++ r) other (more ++ s) f e))
 
-  -- a part and contents behind it keep the laws of contents
-  pub part_before : IsContentsCoding (SamePart E F) (PartOf B C) (AnyPart S Q)
-  part_before = parts_coding x.meaning y.meaning (λ m n k b c r s i j p q e.
+-- a part and contents behind it keep the laws of contents
+pub part_before : {A V : Type 0} {E : A → A → Type 0} {F : V → V → Type 0} {B : Grammar A} {C : Grammar V} {S Q : Members} →
+    IsCoding E B S → IsContentsCoding F C Q → IsContentsCoding (SamePart E F) (PartOf B C) (AnyPart S Q)
+part_before x y = parts_coding x.meaning y.meaning (λ m n k b c r s i j p q e.
+    let whole = whole_of p.front p.rest r q.front q.rest s b c p.joined q.joined e in
+    rests_same y m n k p.front p.rest r q.front q.rest s i j p.more q.more
+    (x.alone m n k p.front q.front (p.rest ++ r) (q.rest ++ s) p.here q.here whole) whole)
+
+module _ {A O V : Type 0} {E : A → A → Type 0} {G : O → O → Type 0} {F : V → V → Type 0} {B : Grammar A} {D : Grammar O} {C : Grammar V}
+    {S Q : Members} (x : IsCoding E B S) (meaning : IsMeaning G D (AnyOption S)) (apart : BeginsApart S Q) (y : IsContentsCoding F C Q) where
+  fronts_same : (m : BERMode) (n k : ℕ) (front rest r other more s : List ℕ) → AtEnd r → AtEnd s → AnyOption S m n front → AnyOption S m k other →
+      Q m n rest → Q m k more → front ++ (rest ++ r) ≡ other ++ (more ++ s) → front ≡ other
+  fronts_same m n k front rest r other more s i j (inl f) (inl g) p q e = x.alone m n k front other (rest ++ r) (more ++ s) f g e
+  fronts_same m n k front rest r other more s i j (inl f) (inr g) p q e =
+      absurd (apart m n k front more (rest ++ r) s j f q (e ∙ ap (λ z. z ++ (more ++ s)) g))
+  fronts_same m n k front rest r other more s i j (inr f) (inl g) p q e =
+      absurd (apart m k n other rest (more ++ s) r i g p (sym e ∙ ap (λ z. z ++ (rest ++ r)) f))
+  fronts_same m n k front rest r other more s i j (inr f) (inr g) p q e = f ∙ sym g
+
+  -- what may be left out, whatever that means, and contents behind it that never begin as it does keep the laws of contents
+  pub left_out_before : IsContentsCoding (SamePart G F) (PartOf D C) (AnyPart (AnyOption S) Q)
+  left_out_before = parts_coding meaning y.meaning (λ m n k b c r s i j p q e.
       let whole = whole_of p.front p.rest r q.front q.rest s b c p.joined q.joined e in
-      rests_same m n k p.front p.rest r q.front q.rest s i j p.more q.more
-      (x.alone m n k p.front q.front (p.rest ++ r) (q.rest ++ s) p.here q.here whole) whole)
+      rests_same y m n k p.front p.rest r q.front q.rest s i j p.more q.more
+      (fronts_same m n k p.front p.rest r q.front q.rest s i j p.here q.here p.more q.more whole) whole)
 
 module _ {A : Type 0} {E : A → A → Type 0} {B : Grammar A} {S : Members} (x : IsCoding E B S) where
   option_reflexive : (v : Option A) → SameOption E v v
@@ -127,7 +151,8 @@ module _ {A : Type 0} {E : A → A → Type 0} {B : Grammar A} {S : Members} (x 
   option_among m n (Some v) b p = inl (x.meaning.among m n v b p)
   option_among m n None b p = inr p
 
-  some_not_empty : (m : BERMode) (n : ℕ) (v : A) (b : List ℕ) → B m n v b → b ≡ [] → ⊥
+  -- no encoding is empty
+  pub some_not_empty : (m : BERMode) (n : ℕ) (v : A) (b : List ℕ) → B m n v b → b ≡ [] → ⊥
   some_not_empty m n v b p e = starts_not_end b [] [] (x.opens m n b (x.meaning.among m n v b p)) (nothing refl) (sym (ap (λ z. z ++ []) e))
 
   option_exact : (m : BERMode) (n k : ℕ) (v w : Option A) (b : List ℕ) → OptionOf B m n v b → OptionOf B m k w b → SameOption E v w
@@ -148,23 +173,11 @@ module _ {A : Type 0} {E : A → A → Type 0} {B : Grammar A} {S : Members} (x 
     deeper = option_deeper;
   }
 
-module _ {A V : Type 0} {E : A → A → Type 0} {F : V → V → Type 0} {B : Grammar A} {C : Grammar V}
-    {S Q : Members} (x : IsCoding E B S) (apart : BeginsApart S Q) (y : IsContentsCoding F C Q) where
-  fronts_same : (m : BERMode) (n k : ℕ) (front rest r other more s : List ℕ) → AtEnd r → AtEnd s → AnyOption S m n front → AnyOption S m k other →
-      Q m n rest → Q m k more → front ++ (rest ++ r) ≡ other ++ (more ++ s) → front ≡ other
-  fronts_same m n k front rest r other more s i j (inl f) (inl g) p q e = x.alone m n k front other (rest ++ r) (more ++ s) f g e
-  fronts_same m n k front rest r other more s i j (inl f) (inr g) p q e =
-      absurd (apart m n k front more (rest ++ r) s j f q (e ∙ ap (λ z. z ++ (more ++ s)) g))
-  fronts_same m n k front rest r other more s i j (inr f) (inl g) p q e =
-      absurd (apart m k n other rest (more ++ s) r i g p (sym e ∙ ap (λ z. z ++ (rest ++ r)) f))
-  fronts_same m n k front rest r other more s i j (inr f) (inr g) p q e = f ∙ sym g
-
-  -- a part that may be left out, and contents behind it that never begin as it does, keep the laws of contents
-  pub option_before : IsContentsCoding (SamePart (SameOption E) F) (PartOf (OptionOf B) C) (AnyPart (AnyOption S) Q)
-  option_before = parts_coding (option_meaning x) y.meaning (λ m n k b c r s i j p q e.
-      let whole = whole_of p.front p.rest r q.front q.rest s b c p.joined q.joined e in
-      rests_same x y m n k p.front p.rest r q.front q.rest s i j p.more q.more
-      (fronts_same m n k p.front p.rest r q.front q.rest s i j p.here q.here p.more q.more whole) whole)
+-- a part that may be left out, and contents behind it that never begin as it does, keep the laws of contents
+pub option_before : {A V : Type 0} {E : A → A → Type 0} {F : V → V → Type 0} {B : Grammar A} {C : Grammar V} {S Q : Members} →
+    IsCoding E B S → BeginsApart S Q → IsContentsCoding F C Q →
+    IsContentsCoding (SamePart (SameOption E) F) (PartOf (OptionOf B) C) (AnyPart (AnyOption S) Q)
+option_before x apart y = left_out_before x (option_meaning x) apart y
 
 -- a type whose values stand for contents keeps the laws of reading as a SEQUENCE
 pub sequence : {U A : Type 0} {E : A → A → Type 0} {C : Grammar A} {S : Members} (f : U → A) →

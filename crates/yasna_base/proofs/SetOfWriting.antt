@@ -1,12 +1,13 @@
 -- The laws of writing of SET OF.
-use Rattle.std.proofs.Common.{◌≡◌, ℕ, zero, suc, ◌+◌, ◌^◌, ◌<◌, Bool, true, false, max, List, [], ◌∷◌, length, map, refl, ap, ◌∙◌, sym, arith, subst}
+use Rattle.std.proofs.Common.{◌≡◌, ℕ, zero, suc, ◌+◌, ◌^◌, ◌<◌, ◌≤◌, Bool, true, false, List, [], ◌∷◌, length, map, refl, ap, ◌∙◌, sym, arith, subst}
 use Rattle.std.specs.List.{AllByRecursion, concat}
 use Rattle.std.specs.List.Sorted.{IsSorted, IsPermutation}
 use Rattle.std.specs.Ordering.{is_lt}
 use Rattle.std.specs.Prelude.{if◌then◌else◌}
 use Rattle.std.specs.declared.cmp.Ordering.{Ordering}
 use Rattle.std.proofs.lemmas.Cmp.{nat_list_cmp_total}
-use Rattle.std.proofs.lemmas.List.Sorted.{ranks_by}
+use Rattle.std.proofs.lemmas.List.Sorted.{ranks_by, IsPermutation-cons, IsPermutation-refl}
+use Rattle.std.proofs.lemmas.List.Sorted.{IsPermutation-swap, IsPermutation-sym, IsPermutation-trans}
 use Rattle.yasna_base.specs.declared.mode.BERMode.{BERMode}
 use Rattle.yasna_base.specs.declared.mode.BERMode.TheVariants.{Ber, Der, Cer}
 use Rattle.yasna_base.specs.declared.tag.PCBit.TheVariants.{Constructed}
@@ -40,7 +41,7 @@ each_filled f (v ∷ vs) [] p = absurd p
 each_filled f (v ∷ vs) (b ∷ bs) p = (starts_filled b (f v b p.0), each_filled f vs bs p.1)
 
 -- the order that a mode asks of forms is asked wherever they hold
-order_holds : (m o : BERMode) (bs : List (List ℕ)) → HoldsForm m o → AreInSetOfOrder m bs → AreInSetOfOrder o bs
+pub order_holds : (m o : BERMode) (bs : List (List ℕ)) → HoldsForm m o → AreInSetOfOrder m bs → AreInSetOfOrder o bs
 order_holds Ber o bs h x = absurd h
 order_holds Der Ber bs h x = tt
 order_holds Der Der bs h x = x
@@ -62,11 +63,11 @@ canonical_order Der bs h x = x
 canonical_order Cer bs h x = x
 
 -- encodings in order stand in the order that any mode asks
-octets_in_order : (m : BERMode) (bs : List (List ℕ)) → AreInSetOfOrder m (in_order octets_cmp bs)
+pub octets_in_order : (m : BERMode) (bs : List (List ℕ)) → AreInSetOfOrder m (in_order octets_cmp bs)
 octets_in_order m bs = any_order m (in_order octets_cmp bs) (sorted_order octets_cmp (ranks_by nat_list_cmp_total (λ (b : List ℕ). b)) bs)
 
 -- encodings that a canonical mode takes so are in order
-octets_ordered : (m : BERMode) (bs : List (List ℕ)) → IsCanonicalMode m → AreInSetOfOrder m bs → in_order octets_cmp bs ≡ bs
+pub octets_ordered : (m : BERMode) (bs : List (List ℕ)) → IsCanonicalMode m → AreInSetOfOrder m bs → in_order octets_cmp bs ≡ bs
 octets_ordered m bs h x =
     let o = ranks_by nat_list_cmp_total (λ (b : List ℕ). b) in
     in_order_rising octets_cmp o bs (rises_sorted octets_cmp o bs (canonical_order m bs h x))
@@ -83,24 +84,45 @@ parts_make m t bs parts b filled p e =
       around = e;
     }
 
-module _ {A : Type 0} (nest : Nest A) (m : BERMode) (R : A → A → Ordering) where
-  put_nest : (v : A) (vs : List A) → elements_nest nest m (put_in R v vs) ≡ max (nest m v) (elements_nest nest m vs)
-  put_nest v [] = refl
-  put_nest v (w ∷ vs) = step (is_lt (R w v)) (put_nest v vs)
+module _ {X : Type 0} (R : X → X → Ordering) where
+  put_in_moved : (x : X) (ys : List X) → IsPermutation (x ∷ ys) (put_in R x ys)
+  put_in_moved x [] = IsPermutation-refl (x ∷ [])
+  put_in_moved x (y ∷ ys) = step (is_lt (R y x)) (put_in_moved x ys)
     where
-      step : (b : Bool) → elements_nest nest m (put_in R v vs) ≡ max (nest m v) (elements_nest nest m vs) →
-          elements_nest nest m (if b then (w ∷ put_in R v vs) else (v ∷ (w ∷ vs))) ≡ max (nest m v) (max (nest m w) (elements_nest nest m vs))
-      step true e = omega (arith, e)
-      step false e = refl
+      step : (b : Bool) → IsPermutation (x ∷ ys) (put_in R x ys) → IsPermutation (x ∷ (y ∷ ys)) (if b then (y ∷ put_in R x ys) else (x ∷ (y ∷ ys)))
+      step true p =
+          IsPermutation-trans (x ∷ (y ∷ ys)) (y ∷ (x ∷ ys)) (y ∷ put_in R x ys)
+          (IsPermutation-swap (x ∷ (y ∷ ys)) (y ∷ (x ∷ ys)) 0 1 (omega arith) (omega arith) refl) (IsPermutation-cons y (x ∷ ys) (put_in R x ys) p)
+      step false p = IsPermutation-refl (x ∷ (y ∷ ys))
 
-  -- values in order nest as deep
-  order_nest : (vs : List A) → elements_nest nest m (in_order R vs) ≡ elements_nest nest m vs
-  order_nest [] = refl
-  order_nest (v ∷ vs) = put_nest v (in_order R vs) ∙ ap (λ n. max (nest m v) n) (order_nest vs)
+  -- a list put in order has the items of the list
+  pub in_order_moved : (xs : List X) → IsPermutation xs (in_order R xs)
+  in_order_moved [] = IsPermutation-refl []
+  in_order_moved (x ∷ xs) =
+      IsPermutation-trans (x ∷ xs) (x ∷ in_order R xs) (put_in R x (in_order R xs)) (IsPermutation-cons x xs (in_order R xs) (in_order_moved xs))
+      (put_in_moved x (in_order R xs))
 
-module _ {A : Type 0} {B : Grammar A} {form : Form A} {nest : Nest A} {Can : A → Type 0} (x : HasForm B form nest (λ m. Can)) where
+module _ {A : Type 0} (nest : Nest A) (m : BERMode) where
+  all_nest : (vs : List A) (n : ℕ) → elements_nest nest m vs ≤ n → AllByRecursion (λ v. nest m v ≤ n) vs
+  all_nest [] n h = tt
+  all_nest (v ∷ vs) n h = (omega (arith, h), all_nest vs n (omega (arith, h)))
+
+  nest_below : (vs : List A) (n : ℕ) → AllByRecursion (λ v. nest m v ≤ n) vs → elements_nest nest m vs ≤ n
+  nest_below [] n a = omega arith
+  nest_below (v ∷ vs) n a = omega (arith, a.0, nest_below vs n a.1)
+
+  nest_moved : (vs ws : List A) → IsPermutation vs ws → elements_nest nest m ws ≤ elements_nest nest m vs
+  nest_moved vs ws p =
+      let n = elements_nest nest m vs in
+      nest_below ws n (all_permuted (λ v. nest m v ≤ n) vs ws p (all_nest vs n (omega arith)))
+
+  -- values nest as deep in any order
+  pub nest_permuted : (vs ws : List A) → IsPermutation vs ws → elements_nest nest m ws ≡ elements_nest nest m vs
+  nest_permuted vs ws p = omega (arith, nest_moved vs ws p, nest_moved ws vs (IsPermutation-sym vs ws p))
+
+module _ {A : Type 0} {B : Grammar A} {form : Form A} {nest : Nest A} {Can : BERMode → A → Type 0} (x : HasForm B form nest Can) where
   -- values in the order of their forms have one form as the elements of a SET OF
-  set_of_elements_have : HasForm (SetOfElements B) (elements_form form) (elements_nest nest) (CanSetOf form Can)
+  pub set_of_elements_have : HasForm (SetOfElements B) (elements_form form) (elements_nest nest) (λ m. CanSetOf form (Can m) m)
   set_of_elements_have = record {
     in_bytes = λ m vs can short. (elements_have x).in_bytes m vs can.each short;
     holds = λ m o n vs h can level short. record {
@@ -115,19 +137,25 @@ module _ {A : Type 0} {B : Grammar A} {form : Form A} {nest : Nest A} {Can : A �
         );
   }
 
+module _ {A : Type 0} (form : Form A) (m : BERMode) where
   -- the forms of values in order are the forms in order
-  forms_in_order : (m : BERMode) (vs : List A) → forms form m (in_form_order form m vs) ≡ in_order octets_cmp (forms form m vs)
-  forms_in_order m vs = in_order_map (form m) octets_cmp vs
+  pub forms_in_order : (vs : List A) → forms form m (in_form_order form m vs) ≡ in_order octets_cmp (forms form m vs)
+  forms_in_order vs = in_order_map (form m) octets_cmp vs
 
   -- values can be put in the order of their forms
-  form_ordered : (m : BERMode) (vs : List A) → AllByRecursion Can vs → CanSetOf form Can m (in_form_order form m vs)
-  form_ordered m vs can = record {
+  pub form_ordered : {Can : A → Type 0} (vs : List A) → AllByRecursion Can vs → CanSetOf form Can m (in_form_order form m vs)
+  form_ordered {Can} vs can = record {
     each = all_order (λ v w. octets_cmp (form m v) (form m w)) (ranks_by nat_list_cmp_total (form m)) Can vs can;
-    order = subst (λ bs. AreInSetOfOrder m bs) (sym (forms_in_order m vs)) (octets_in_order m (forms form m vs));
+    order = subst (λ bs. AreInSetOfOrder m bs) (sym (forms_in_order vs)) (octets_in_order m (forms form m vs));
   }
 
+  -- the element around forms
+  pub around_forms : (t : Tag) (vs : List A) (bs : List (List ℕ)) → forms form m vs ≡ bs →
+      set_of_form form t m vs ≡ canonical_element m t Constructed (concat bs)
+  around_forms t vs bs e = ap (λ c. canonical_element m t Constructed c) (forms_joined (form m) vs ∙ ap concat e)
+
 -- a SET OF is a list in order
-as_list : {A : Type 0} (B : Grammar A) (t : Tag) (m : BERMode) (n : ℕ) (vs : List A) (b : List ℕ) → IsSetOf B t m n vs b → IsListOf B t m n vs b
+pub as_list : {A : Type 0} (B : Grammar A) (t : Tag) (m : BERMode) (n : ℕ) (vs : List A) (b : List ℕ) → IsSetOf B t m n vs b → IsListOf B t m n vs b
 as_list B t m zero vs b p = p
 as_list B t m (suc n) vs b p = record { contents = p.contents; element = p.element; meaning = p.meaning.elements }
 
@@ -154,30 +182,25 @@ module _ {A : Type 0} {E : A → A → Type 0} {B : Grammar A} {S : Members} {fo
   set_of_has : HasForm (IsSetOf B t) (set_of_form form t) (set_of_nest nest) (CanSetOf form Can)
   set_of_has = enclosed_has (set_of_elements_have x.has) t range
 
-  -- the element around forms in order
-  around_forms : (m : BERMode) (vs : List A) (bs : List (List ℕ)) → forms form m vs ≡ bs →
-      set_of_form form t m vs ≡ canonical_element m t Constructed (concat bs)
-  around_forms m vs bs e = ap (λ c. canonical_element m t Constructed c) (forms_joined (form m) vs ∙ ap concat e)
-
   set_of_made : (m : BERMode) (vs : List A) (parts : List (List ℕ)) → IsCanonicalMode m → AllByRecursion Can vs →
       length (set_of_form form t m (in_form_order form m vs)) < 2 ^ 64 → IsPermutation (forms form m vs) parts →
       MakeElement SetOfContents m t parts (set_of_form form t m (in_form_order form m vs))
   set_of_made m vs parts h can short p =
       let ws = in_form_order form m vs in
-      let ordered = forms_in_order x.has m vs in
+      let ordered = forms_in_order form m vs in
       let inner = short_contents m t Constructed (elements_form form m ws) short in
-      let filled = forms_filled m ws h (form_ordered x.has m vs can).each inner in
+      let filled = forms_filled m ws h (form_ordered form m vs can).each inner in
       let all = subst (λ bs. AllByRecursion (λ b. b ≡ [] → ⊥) bs) ordered filled in
       let o = ranks_by nat_list_cmp_total (λ (b : List ℕ). b) in
       parts_make m t (forms form m vs) parts (set_of_form form t m ws) (all_order_back octets_cmp o (λ b. b ≡ [] → ⊥) (forms form m vs) all) p
-      (around_forms m ws (in_order octets_cmp (forms form m vs)) ordered)
+      (around_forms form m t ws (in_order octets_cmp (forms form m vs)) ordered)
 
   set_of_again : (m : BERMode) (n : ℕ) (vs : List A) (b : List ℕ) (parts : List (List ℕ)) → IsCanonicalMode m → IsSetOf B t m n vs b →
       IsPermutation (forms form m vs) parts → MakeElement SetOfContents m t parts b
   set_of_again m n vs b parts h y p =
       let one = set_of_has.only m n vs b h y in
       parts_make m t (forms form m vs) parts b (read_filled m n vs b h y) p
-      (one.0 ∙ around_forms m vs (in_order octets_cmp (forms form m vs)) (sym (octets_ordered m (forms form m vs) h one.1.order)))
+      (one.0 ∙ around_forms form m t vs (in_order octets_cmp (forms form m vs)) (sym (octets_ordered m (forms form m vs) h one.1.order)))
 
   -- a SET OF keeps the laws of writing
   pub set_of_written : SetOfIsWritten E B form nest Can t
@@ -185,7 +208,11 @@ module _ {A : Type 0} {E : A → A → Type 0} {B : Grammar A} {S : Members} {fo
       let all = enclosed_written t range (elements_written x) in
       record {
         has = set_of_has;
-        ordered = λ m vs can. (form_ordered x.has m vs can, ap (λ n. 1 + n) (order_nest nest m (λ v w. octets_cmp (form m v) (form m w)) vs));
+        ordered = λ m vs can. (
+          form_ordered form m vs can,
+          ap (λ n. 1 + n)
+              (nest_permuted nest m vs (in_form_order form m vs) (in_order_moved (λ v w. octets_cmp (form m v) (form m w)) vs)),
+        );
         any = λ n vs b p. all.any n vs b (as_list B t Ber n vs b p);
         same = all.same;
         made = set_of_made;

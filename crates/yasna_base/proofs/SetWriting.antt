@@ -40,12 +40,13 @@ use Rattle.yasna_base.proofs.SequenceOf.{forms_joined, each_form, each_only, ele
 use Rattle.yasna_base.proofs.SetLaws.{octets_tie, tag_of_key}
 
 -- what a raw element says of its own tag and payload
-record OwnTag (v : RawValue) (b : List ℕ) : Type 0 where
+pub record OwnTag (v : RawValue) (b : List ℕ) : Type 0 where
   pub in_range : v.tag.tag_number < 2 ^ 64
   pub in_bytes : IsBytes v.payload
   pub begins : BeginsWithTag v.tag b
 
-raw_begins : (n : ℕ) (m : BERMode) (v : RawValue) (b : List ℕ) → IsRaw n m v b → OwnTag v b
+-- it begins with its tag, and its payload is bytes
+pub raw_begins : (n : ℕ) (m : BERMode) (v : RawValue) (b : List ℕ) → IsRaw n m v b → OwnTag v b
 raw_begins zero m v b x = absurd (raw_zero m v b x)
 raw_begins (suc n) m v b x =
     let y = raw_into n m v b x in
@@ -72,7 +73,7 @@ framed_only Cer v b h x (with_length d j) = cer_whole v.tag v.bit v.payload b d
 framed_only Cer v b h x (with_zeros c i j e) = cer_constructed v.tag v.bit c v.payload b i e
 
 -- a canonical mode takes a raw element in its form alone
-raw_only : (n : ℕ) (m : BERMode) (v : RawValue) (b : List ℕ) → IsCanonicalMode m → IsRaw n m v b → b ≡ own_form m v
+pub raw_only : (n : ℕ) (m : BERMode) (v : RawValue) (b : List ℕ) → IsCanonicalMode m → IsRaw n m v b → b ≡ own_form m v
 raw_only zero m v b h x = absurd (raw_zero m v b x)
 raw_only (suc n) m v b h x = let y = raw_into n m v b x in framed_only m v b h y y.framed
 
@@ -116,7 +117,7 @@ raw_cer_in_ber (suc n) v b x =
     raw_of n Ber v b (record { not_end = y.not_end; in_range = y.in_range; in_bytes = y.in_bytes; framed = cer_framed (raw_cer_in_ber n) v b y.framed })
 
 -- a raw element of a canonical mode is one wherever that mode's forms hold
-raw_holds : (m o : BERMode) (n : ℕ) (v : RawValue) (b : List ℕ) → HoldsForm m o → IsRaw n m v b → IsRaw n o v b
+pub raw_holds : (m o : BERMode) (n : ℕ) (v : RawValue) (b : List ℕ) → HoldsForm m o → IsRaw n m v b → IsRaw n o v b
 raw_holds Ber o n v b h x = absurd h
 raw_holds Der Ber n v b h x = raw_in_ber n v b x
 raw_holds Der Der n v b h x = x
@@ -134,7 +135,7 @@ cer_bytes t Primitive c bytes short = canonical_element_bytes Cer t Primitive c 
 cer_bytes t Constructed c bytes short = opening_bytes t c bytes
 
 -- the form of bytes is bytes
-own_bytes : (m : BERMode) (v : RawValue) → IsBytes v.payload → length (own_form m v) < 2 ^ 64 → IsBytes (own_form m v)
+pub own_bytes : (m : BERMode) (v : RawValue) → IsBytes v.payload → length (own_form m v) < 2 ^ 64 → IsBytes (own_form m v)
 own_bytes Ber v bytes short = canonical_element_bytes Ber v.tag v.bit v.payload bytes short
 own_bytes Der v bytes short = canonical_element_bytes Der v.tag v.bit v.payload bytes short
 own_bytes Cer v bytes short = cer_bytes v.tag v.bit v.payload bytes short

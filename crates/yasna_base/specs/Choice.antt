@@ -1,7 +1,8 @@
 -- CHOICE of two types (X.690, 8.13): an encoding is one of either.
 use Rattle.std.proofs.Common.{inl, inr}
 use Rattle.std.specs.Prelude.{◌⊎◌}
-use Rattle.yasna_base.specs.Grammar.{Grammar, Members}
+use Rattle.yasna_base.specs.Exact.{Fitting}
+use Rattle.yasna_base.specs.Grammar.{Grammar, Members, Form, Nest}
 
 -- b encodes a value of the first type by B, or one of the second by C
 abbrev pub EitherOf : {A V : Type 0} → Grammar A → Grammar V → Grammar (A ⊎ V)
@@ -18,3 +19,21 @@ SameEither E F (inl v) (inl w) = E v w
 SameEither E F (inl v) (inr w) = ⊥
 SameEither E F (inr v) (inl w) = ⊥
 SameEither E F (inr v) (inr w) = F v w
+
+-- the form of the value, as its own type writes it
+abbrev pub either_form : {A V : Type 0} → Form A → Form V → Form (A ⊎ V)
+either_form f g m (inl v) = f m v
+either_form f g m (inr w) = g m w
+
+abbrev pub either_nest : {A V : Type 0} → Nest A → Nest V → Nest (A ⊎ V)
+either_nest f g m (inl v) = f m v
+either_nest f g m (inr w) = g m w
+
+-- and it can be written where its own type says so
+abbrev pub either_can : {A V : Type 0} → (A → Type 0) → (V → Type 0) → A ⊎ V → Type 0
+either_can c d (inl v) = c v
+either_can c d (inr w) = d w
+
+abbrev pub either_fits : {A V : Type 0} → Fitting A → Fitting V → Fitting (A ⊎ V)
+either_fits F G m n (inl v) = F m n v
+either_fits F G m n (inr w) = G m n w

@@ -26,11 +26,16 @@ pub mod Pieces
 pub mod Segments
 pub mod Segmented
 pub mod Raw
+pub mod Exact
+pub mod Default
+pub mod Beginnings
 pub mod TaggedDerValue
 pub mod Order
 pub mod Set
 pub mod SetLaws
 pub mod SetWriting
+pub mod AnyOrder
+pub mod UnderTags
 pub mod Octets
 pub mod Bits
 pub mod Text

@@ -6,7 +6,6 @@ use Rattle.yasna_base.specs.declared.tag.PCBit.{PCBit}
 use Rattle.yasna_base.specs.declared.tag.PCBit.TheVariants.{Primitive}
 use Rattle.yasna_base.specs.declared.tag.Tag.{Tag}
 use Rattle.yasna_base.specs.Bits.{bits_tag}
-use Rattle.yasna_base.specs.Identifier.{universal}
 use Rattle.yasna_base.specs.Octets.{octets_tag}
 use Rattle.yasna_base.specs.Raw.{RawValue}
 use Rattle.yasna_base.specs.Text.{utf8_tag, printable_tag, ia5_tag}

@@ -1,5 +1,6 @@
 -- What reads of parts do that may be left out (X.690, 8.9.3 and 11.5).
 use Rattle.std.specs.Prelude.{Bool, Err, None, Ok, Option, Result, Some, false, length, nat_lt, true, ℕ, ◌≡◌, ◌⊎◌}
+pub use Rattle.yasna_base.specs.Default.{TakesDefault}
 use Rattle.yasna_base.specs.Error.{error_of}
 use Rattle.yasna_base.specs.declared.error.ASN1Error.{ASN1Error}
 use Rattle.yasna_base.specs.declared.error.ASN1ErrorKind.TheVariants.{Invalid}
@@ -19,12 +20,6 @@ optional (Failed e) = Err e
 -- the callback is handed the reading
 abbrev pub ReadsOptional : {A : Type 0} → Does A → Does (Option A)
 ReadsOptional {A} P s r s' = UnlessKept s.kept s r s' ((o : Outcome A) × Hands P (untagged s) o s' × (r ≡ optional o))
-
--- where a mode takes a value that is its default (X.690, 11.5)
-abbrev pub TakesDefault : BERMode → Type 0
-TakesDefault Ber = Unit {0}
-TakesDefault Der = ⊥
-TakesDefault Cer = ⊥
 
 -- the value v that a reading of which z is left gave, unless it equals the default d and the mode refuses that: then the
 -- refusal is kept where something moved
