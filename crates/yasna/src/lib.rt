@@ -52,6 +52,7 @@
 //! | Module | Holds |
 //! |---|---|
 //! | `traits` | what a type says that is read and written as a whole |
+//! | `exact` | types of which DER and CER alone have one form, and what is proved of them |
 //! | `whole` | whole inputs and outputs, and what is proved of them for every such type |
 //! | `models` | object identifiers, times and raw elements |
 //! | `law_functions` | what is proved of the grammar, of the times and of sets |
@@ -60,6 +61,7 @@
 #![tactic(auto)]
 
 mod borrowed;
+mod exact;
 pub mod law_functions;
 mod lists;
 pub mod models;
@@ -73,6 +75,7 @@ mod traits;
 mod tuples;
 mod whole;
 
+pub use exact::{DERExact, one_der_form};
 pub use sets::{set_of_is_read, set_of_is_written, set_of_sets_is_read};
 pub use traits::{BERDecodable, DERCanonical, DEREncodable};
 pub use tuples::{EncodableParts, TupleParts};

@@ -1,15 +1,18 @@
 //! Elements of any tag, whose contents aren't given a type (X.690, 8.1).
 ghost use Rattle.std.specs.Prelude.{◌≡◌, true};
+ghost use Rattle.yasna_base.specs.Canonical.{Always, leaf_nest};
 ghost use Rattle.yasna_base.specs.Coding.{Any};
 ghost use Rattle.yasna_base.specs.Raw.{IsRaw};
+ghost use Rattle.yasna_base.specs.SetWriting.{own_form};
 ghost use Rattle.yasna_base.specs.TaggedDerValue.{raw_of};
 ghost use Rattle.yasna_base.proofs.Coding.{along};
 ghost use Rattle.yasna_base.proofs.Raw.{raw_coding};
 
-use crate::traits::BERDecodable;
+use crate::traits::{BERDecodable, DEREncodable};
 use yasna_base::error::ASN1Result;
 use yasna_base::models::TaggedDerValue;
 use yasna_reader::BERReader;
+use yasna_writer::DERWriter;
 
 impl BERDecodable for TaggedDerValue {
     ghost encodes = { λ m n v b. IsRaw n m (raw_of v) b };
@@ -25,4 +28,17 @@ impl BERDecodable for TaggedDerValue {
     }
 
     ghost coding = { along raw_of raw_coding };
+}
+
+/// It is written as it came: what BER read with an indefinite length is no element of DER then. How deep it nests isn't counted.
+impl DEREncodable for TaggedDerValue {
+    ghost form = { λ m v. own_form m (raw_of v) };
+
+    ghost nest = { leaf_nest };
+
+    ghost encodable = { Always };
+
+    fn encode_der(&self, writer: DERWriter<'_>) -> ASN1Result<()> {
+        writer.write_tagged_der(self)
+    }
 }
