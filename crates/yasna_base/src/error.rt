@@ -1,6 +1,7 @@
 //! Refusals.
 ghost use Rattle.std.specs.Prelude.{◌≡◌};
 
+use std::alloc::{AllocError, AllocFailed};
 use std::error::Error;
 use std::fmt;
 
@@ -67,3 +68,27 @@ impl fmt::Display for ASN1Error {
 }
 
 impl Error for ASN1Error {}
+
+/// So `?` answers `OutOfMemory` where an allocation in a reading or a writing fails.
+impl From<AllocError> for ASN1Error {
+    ghost use Rattle.yasna_base.specs.Error.{error_of};
+    ghost use Rattle.yasna_base.specs.declared.error.ASN1ErrorKind.TheVariants.{OutOfMemory};
+
+    ghost from_gives = { λ _ e. e ≡ error_of OutOfMemory };
+
+    fn from(_refused: AllocError) -> ASN1Error {
+        ASN1Error::new(ASN1ErrorKind::OutOfMemory)
+    }
+}
+
+/// The same where the value comes back that had no room.
+impl<T: Drop> From<AllocFailed<T>> for ASN1Error {
+    ghost use Rattle.yasna_base.specs.Error.{error_of};
+    ghost use Rattle.yasna_base.specs.declared.error.ASN1ErrorKind.TheVariants.{OutOfMemory};
+
+    ghost from_gives = { λ _ e. e ≡ error_of OutOfMemory };
+
+    fn from(_refused: AllocFailed<T>) -> ASN1Error {
+        ASN1Error::from(AllocError)
+    }
+}
