@@ -2,7 +2,6 @@
 ghost use Rattle.std.specs.Str.{chars};
 ghost use Rattle.yasna_base.specs.Canonical.{Always};
 ghost use Rattle.yasna_base.specs.Digits.{IsBytes};
-ghost use Rattle.yasna_base.specs.Identifier.{universal};
 ghost use Rattle.yasna_base.specs.Octets.{octets_form, octets_nest, octets_tag};
 ghost use Rattle.yasna_base.specs.Text.{utf8_form, utf8_nest, utf8_tag};
 

@@ -2,7 +2,6 @@
 ghost use Rattle.std.specs.Prelude.{◌≡◌, true};
 ghost use Rattle.yasna_base.specs.Canonical.{leaf_nest};
 ghost use Rattle.yasna_base.specs.Coding.{Any};
-ghost use Rattle.yasna_base.specs.Identifier.{universal};
 ghost use Rattle.yasna_base.specs.Oid.{EncodesOid, IsEncodableOid, oid_form, oid_tag};
 ghost use Rattle.yasna_base.proofs.Oid.{oid_coding, oid_written};
 

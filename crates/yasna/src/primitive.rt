@@ -1,7 +1,6 @@
 //! BOOLEAN, NULL, and INTEGER as the number types of Rust that hold it (X.690, 8.2, 8.3 and 8.8).
 ghost use Rattle.std.specs.Prelude.{◌≡◌, ◌<◌, ◌^◌, false, pos, FitsSigned};
 ghost use Rattle.std.specs.Int.{w64, w32, w16};
-ghost use Rattle.yasna_base.specs.Identifier.{universal};
 ghost use Rattle.yasna_base.specs.Coding.{Any};
 ghost use Rattle.yasna_base.specs.Canonical.{leaf_nest, Always};
 ghost use Rattle.yasna_base.specs.Boolean.{EncodesBoolean, boolean_form, boolean_tag};

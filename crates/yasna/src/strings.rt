@@ -3,7 +3,6 @@ ghost use Rattle.std.specs.Prelude.{◌≡◌, true};
 ghost use Rattle.yasna_base.specs.Canonical.{Always};
 ghost use Rattle.yasna_base.specs.Coding.{Any};
 ghost use Rattle.yasna_base.specs.Digits.{IsBytes};
-ghost use Rattle.yasna_base.specs.Identifier.{universal};
 ghost use Rattle.yasna_base.specs.Octets.{EncodesOctets, EncodesVec, octets_form, octets_nest, octets_tag};
 ghost use Rattle.yasna_base.specs.Text.{EncodesText, EncodesString, utf8_form, utf8_nest, characters, utf8_tag};
 ghost use Rattle.yasna_base.proofs.Octets.{vec_coding, vec_written};

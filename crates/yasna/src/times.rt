@@ -3,7 +3,6 @@ ghost use Rattle.std.specs.Prelude.{◌≡◌, true};
 ghost use Rattle.yasna_base.specs.Canonical.{Always};
 ghost use Rattle.yasna_base.specs.Coding.{Any};
 ghost use Rattle.yasna_times.specs.GeneralizedTime.{EncodesGeneralizedTime, generalized_time_form, generalized_time_nest, generalized_time_tag};
-ghost use Rattle.yasna_base.specs.Identifier.{universal};
 ghost use Rattle.yasna_times.specs.Models.{EncodesUtc, EncodesGeneral, utc_of, moment_of};
 ghost use Rattle.yasna_times.specs.UtcTime.{EncodesUtcTime, utc_time_form, utc_time_nest, utc_time_tag};
 ghost use Rattle.yasna_times.proofs.TimeLaws.{utc_coding, utc_written, general_coding, general_written};

@@ -3,7 +3,7 @@
 ghost use Rattle.std.specs.Prelude.{◌≡◌, ◌<◌, ◌^◌, ◌||◌, false, pos, FitsSigned};
 ghost use Rattle.std.specs.Int.{w64};
 ghost use Rattle.yasna.specs.Words.{EncodesBoolean, boolean_form, leaf_nest, enclosed_form, enclosed_nest, Always, Any, Enclosed, boolean_tag, integer_tag};
-ghost use Rattle.yasna.specs.Words.{AnyEnclosed, universal, EncodesSigned, EncodesUnsigned, integer_form, sequence_tag, PartOf};
+ghost use Rattle.yasna.specs.Words.{AnyEnclosed, EncodesSigned, EncodesUnsigned, integer_form, sequence_tag, PartOf};
 ghost use Rattle.yasna.specs.Words.{NoParts, AnyPart, AnyNothing, SamePart, SameNothing, part_form, part_nest, part_can};
 ghost use Rattle.yasna.specs.Words.{nothing_form, nothing_nest, Decodes, Step, Done, IsFresh, part_of};
 ghost use Rattle.yasna.proofs.Laws.{part, no_part, tuple, bool_coding, signed_coding, unsigned_coding};

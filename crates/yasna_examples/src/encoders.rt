@@ -2,7 +2,7 @@
 ghost use Rattle.std.specs.Prelude.{◌≡◌, ◌<◌, ◌^◌, pos, true, reverse, FitsSigned};
 ghost use Rattle.std.specs.Int.{w64};
 ghost use Rattle.std.specs.List.{AllByRecursion};
-ghost use Rattle.yasna.specs.Words.{leaf_nest, enclosed_form, enclosed_nest, Any, universal, EncodesSigned, integer_form, integer_tag};
+ghost use Rattle.yasna.specs.Words.{leaf_nest, enclosed_form, enclosed_nest, Any, EncodesSigned, integer_form, integer_tag};
 ghost use Rattle.yasna.specs.Words.{option_form, option_nest, option_can, Each, sequence_tag, IsListOf, AnyListOf, elements_form};
 ghost use Rattle.yasna.specs.Words.{elements_nest};
 ghost use Rattle.yasna.proofs.Laws.{list_along, list_written, signed_coding, signed_written};

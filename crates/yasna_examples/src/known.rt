@@ -1,7 +1,7 @@
 //! Calls whose closures are known: what they answer follows from what the calls of `yasna` promise.
 ghost use Rattle.std.specs.Prelude.{◌≡◌, ℤ, Bool, List, true, false, IfOk, IfErr, MatchResult};
 ghost use Rattle.std.specs.Int.{w64};
-ghost use Rattle.yasna.specs.Words.{Der, OutOfMemory, kind_of, universal, Any, EncodesBoolean, Decodes, Step, Done, IsFresh, integer_tag};
+ghost use Rattle.yasna.specs.Words.{Der, OutOfMemory, kind_of, Any, EncodesBoolean, Decodes, Step, Done, IsFresh, integer_tag};
 ghost use Rattle.yasna.specs.Words.{part_of, EncodesSigned, integer_form};
 ghost use Rattle.yasna_examples.specs.Pair.{EncodesPair, AnyPair};
 ghost use Rattle.yasna_examples.specs.Numbers.{EncodesNumbers, AnyNumbers};

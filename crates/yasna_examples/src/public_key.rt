@@ -5,7 +5,7 @@
 //! where a BIT STRING has unused ones, while zeros are written there.
 ghost use Rattle.std.specs.Prelude.{◌≡◌, ◌↔◌, true, false, ◌||◌, ◌⊎◌, IfOk, IfErr, IsTrue};
 ghost use Rattle.yasna.specs.Words.{Invalid, OutOfMemory, Der, IsBits, IsDeepBits, bits_form, bits_nest, leaf_nest, enclosed_form, bits_tag, oid_tag};
-ghost use Rattle.yasna.specs.Words.{enclosed_nest, Always, Any, Enclosed, AnyEnclosed, kind_of, universal, EncodesOid};
+ghost use Rattle.yasna.specs.Words.{enclosed_nest, Always, Any, Enclosed, AnyEnclosed, kind_of, EncodesOid};
 ghost use Rattle.yasna.specs.Words.{IsEncodableOid, oid_form, option_form, option_nest, option_can, IsRaw, raw_form, sequence_tag};
 ghost use Rattle.yasna.specs.Words.{PartOf, NoParts, AnyPart, AnyNothing, SamePart, SameNothing, part_form, part_nest, part_can};
 ghost use Rattle.yasna.specs.Words.{nothing_form, nothing_nest, raw_of, WantsMemory, Decodes, Step, Done, ReadsOptional};

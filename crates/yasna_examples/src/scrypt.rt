@@ -1,7 +1,7 @@
 //! The parameters of scrypt (RFC 7914, 7.1), of which the last may be left out.
 ghost use Rattle.std.specs.Prelude.{◌≡◌, ◌<◌, ◌^◌, pos, true, false, ◌||◌};
 ghost use Rattle.yasna.specs.Words.{leaf_nest, enclosed_form, enclosed_nest, Always, Any, IsBytes, Enclosed, AnyEnclosed, integer_tag};
-ghost use Rattle.yasna.specs.Words.{universal, EncodesUnsigned, integer_form, EncodesOctets, EncodesVec, octets_tag, octets_form};
+ghost use Rattle.yasna.specs.Words.{EncodesUnsigned, integer_form, EncodesOctets, EncodesVec, octets_tag, octets_form};
 ghost use Rattle.yasna.specs.Words.{octets_nest, OptionOf, AnyOption, SameOption, option_form, option_nest, option_can};
 ghost use Rattle.yasna.specs.Words.{sequence_tag, PartOf, NoParts, AnyPart, AnyNothing, SamePart, SameNothing, part_form};
 ghost use Rattle.yasna.specs.Words.{part_nest, part_can, nothing_form, nothing_nest, Decodes, Step, Done, ReadsOptional, IsFresh};

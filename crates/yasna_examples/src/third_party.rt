@@ -1,7 +1,7 @@
 //! Types of a crate of its own that are read step by step, with typed reads and with memory.
 ghost use Rattle.std.specs.Prelude.{IfOk, IfErr, ◌≡◌, ◌<◌, ◌^◌, true, false, ◌||◌, pos, FitsSigned};
 ghost use Rattle.std.specs.Int.{w64};
-ghost use Rattle.yasna.specs.Words.{universal, OutOfMemory, Ber, Der, kind_of, Any, IsBytes, EncodesOctets, EncodesVec, boolean_tag, integer_tag, utf8_tag};
+ghost use Rattle.yasna.specs.Words.{OutOfMemory, Ber, Der, kind_of, Any, IsBytes, EncodesOctets, EncodesVec, boolean_tag, integer_tag, utf8_tag};
 ghost use Rattle.yasna.specs.Words.{octets_tag, octets_form, octets_nest, EncodesText, EncodesString, characters, utf8_form};
 ghost use Rattle.yasna.specs.Words.{utf8_nest, sequence_tag, PartOf, NoParts, AnyPart, AnyNothing, SamePart, SameNothing};
 ghost use Rattle.yasna.specs.Words.{Enclosed, AnyEnclosed, Primitively, EncodesBoolean, IsUnsigned, EncodesSigned};

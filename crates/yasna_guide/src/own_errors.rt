@@ -1,7 +1,7 @@
 //! Errors of one's own.
 
 use std::alloc::Global;
-use yasna::{ASN1Error, try_construct_der};
+use yasna::{ASN1Error, try_construct_der, try_parse_der};
 
 #[derive(Drop)]
 pub enum StoreError {
@@ -30,5 +30,12 @@ pub fn entries_to_der(
             }
             Ok(())
         })
+    })
+}
+
+pub fn entry_of_der(alloc: Global, store: &[i64], bytes: &[u8]) -> Result<i64, StoreError> {
+    try_parse_der(alloc, bytes, |reader| {
+        let place = reader.read_u16()?;
+        store.get(usize::from(place)).copied().ok_or(StoreError::NoSuchEntry)
     })
 }

@@ -2,6 +2,7 @@ pub mod Primitives
 pub mod RawReads
 pub mod Sequences
 pub mod Callbacks
+pub mod Following
 pub mod Kept
 pub mod Turning
 pub mod SetListing

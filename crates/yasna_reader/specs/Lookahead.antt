@@ -1,7 +1,7 @@
 -- What a look at the next tag answers.
 use Rattle.std.specs.Prelude.{Err, List, None, Ok, Option, Result, Some, ℕ, ◌<◌, ◌^◌, ◌≡◌}
 use Rattle.yasna_base.specs.Error.{kind_of}
-use Rattle.yasna_base.specs.Identifier.{BeginsWithTag}
+use Rattle.yasna_base.specs.Identifier.{AtEnd, BeginsWithTag}
 use Rattle.yasna_base.specs.declared.error.ASN1Error.{ASN1Error}
 use Rattle.yasna_base.specs.declared.tag.Tag.{Tag}
 use Rattle.yasna_bytes.specs.Refusal.{BlamesBytes}
@@ -15,3 +15,8 @@ FindsTag s (Err e) = BlamesBytes (kind_of e) × ((t : Tag) → t.tag_number < 2 
 abbrev pub LooksAhead : Option ASN1Error → List ℕ → Result Tag ASN1Error → Type 0
 LooksAhead (Some e) s r = r ≡ Err e
 LooksAhead None s r = FindsTag s r
+
+-- a failure is kept, or contents end here
+abbrev pub NothingFollows : Option ASN1Error → List ℕ → Type 0
+NothingFollows (Some e) s = Unit {0}
+NothingFollows None s = AtEnd s

@@ -1,5 +1,5 @@
 -- What a parse of a whole input does.
-use Rattle.std.specs.Prelude.{Err, List, None, Ok, Option, Result, Some, [], ℕ, ◌∷◌, ◌≡◌}
+use Rattle.std.specs.Prelude.{Err, IsErrAnd, List, None, Ok, Option, Result, Some, [], ℕ, ◌∷◌, ◌≡◌}
 use Rattle.yasna_base.specs.Error.{error_of}
 use Rattle.yasna_base.specs.declared.error.ASN1Error.{ASN1Error}
 use Rattle.yasna_base.specs.declared.error.ASN1ErrorKind.TheVariants.{Extra}
@@ -27,3 +27,22 @@ pub record Parses {A : Type 0} (P : Does A) (m : BERMode) (s : List ℕ) (r : Re
   pub left : Reading
   pub says : P (starts s m) own left
   pub answers : r ≡ parsed own left
+
+-- what such a parse answers where its callback, which answers errors of its own, gave the answer r and left s: from says what becomes of
+-- a refusal
+abbrev pub EndsParse : {A E : Type 0} → (ASN1Error → E → Type 0) → Option ASN1Error → Result A E → List ℕ → Result A E → Type 0
+EndsParse from (Some e) own s r = IsErrAnd r (λ f. from e f)
+EndsParse from None (Err f) s r = r ≡ Err f
+EndsParse from None (Ok v) [] r = r ≡ Ok v
+EndsParse from None (Ok v) (x ∷ s) r = IsErrAnd r (λ f. from (error_of Extra) f)
+
+abbrev pub IsParsed : {A E : Type 0} → (ASN1Error → E → Type 0) → Result A E → Reading → Result A E → Type 0
+IsParsed from own s r = EndsParse from s.kept own s.left r
+
+-- the same of a parse whose callback answers errors of its own
+pub record TryParses {A E : Type 0} (P : Reading → Result A E → Reading → Type 0) (from : ASN1Error → E → Type 0) (m : BERMode) (s : List ℕ)
+    (r : Result A E) : Type 0 where
+  pub own : Result A E
+  pub left : Reading
+  pub says : P (starts s m) own left
+  pub answers : IsParsed from own left r

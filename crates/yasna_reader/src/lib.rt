@@ -21,9 +21,11 @@
 //! | `optional` | reads of parts that may be left out |
 //! | `buffer` | reads that also answer the bytes they took |
 //! | `lookahead` | the next tag |
+//! | `at_end` | where contents end |
 //! | `laws` | what is proved of the readings that callbacks are handed |
 #![tactic(auto)]
 
+mod at_end;
 mod buffer;
 mod callback;
 pub mod laws;
@@ -42,6 +44,8 @@ mod strings;
 mod tagged;
 mod times;
 
-pub use parse::{parse_ber, parse_ber_general, parse_cer, parse_der};
+pub use parse::{
+    parse_ber, parse_ber_general, parse_cer, parse_der, try_parse_ber, try_parse_cer, try_parse_der,
+};
 pub use set::{BERReaderSet, Choose, Chosen, SetElement};
 pub use state::{BERReader, BERReaderSeq, Parts, ReaderState};

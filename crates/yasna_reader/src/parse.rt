@@ -2,7 +2,7 @@
 ghost use Rattle.yasna_base.specs.declared.mode.BERMode.TheVariants.{Ber, Der, Cer};
 ghost use Rattle.std.specs.Fn.{FnOnceTakesAtMut, FnOnceReturnsAtMut};
 ghost use Rattle.yasna_reader.specs.State.{starts};
-ghost use Rattle.yasna_reader.specs.Parse.{Parses};
+ghost use Rattle.yasna_reader.specs.Parse.{Parses, TryParses};
 
 use crate::state::{BERReader, ReaderState};
 use std::alloc::Global;
@@ -25,9 +25,7 @@ where
     requires { FnOnceTakesAtMut F.FnOnce callback (starts buf.now mode) }
     ensures { Parses (FnOnceReturnsAtMut F.FnOnce callback) mode buf.now result }
 {
-    let mut state = ReaderState::new(alloc, buf, mode);
-    let answer = callback(&mut state);
-    state.parsed(answer)
+    try_parse(alloc, buf, mode, callback)
 }
 
 /// Reads bytes by the basic encoding rules (X.690, clause 8), as `parse_ber_general` does.
@@ -63,24 +61,88 @@ where
     parse_ber_general(alloc, buf, BERMode::Cer, callback)
 }
 
+/// Reads bytes by the basic encoding rules (X.690, clause 8), where the callback may answer errors of its own.
+///
+/// Answers as `parse_ber_general` does, with the failures of the reading turned into `E`.
+#[inline(always)]
+pub fn try_parse_ber<'a, T: Drop, E: From<ASN1Error> + Drop, F>(
+    alloc: Global,
+    buf: &'a [u8],
+    callback: F,
+) -> Result<T, E>
+where
+    F: for<'b> FnOnce(BERReader<'a, 'b>) -> Result<T, E>,
+    requires { FnOnceTakesAtMut F.FnOnce callback (starts buf.now Ber) }
+    ensures { TryParses (FnOnceReturnsAtMut F.FnOnce callback) E.from_gives Ber buf.now result }
+{
+    try_parse(alloc, buf, BERMode::Ber, callback)
+}
+
+/// Reads bytes by the distinguished encoding rules (X.690, clause 10), as `try_parse_ber` does.
+#[inline(always)]
+pub fn try_parse_der<'a, T: Drop, E: From<ASN1Error> + Drop, F>(
+    alloc: Global,
+    buf: &'a [u8],
+    callback: F,
+) -> Result<T, E>
+where
+    F: for<'b> FnOnce(BERReader<'a, 'b>) -> Result<T, E>,
+    requires { FnOnceTakesAtMut F.FnOnce callback (starts buf.now Der) }
+    ensures { TryParses (FnOnceReturnsAtMut F.FnOnce callback) E.from_gives Der buf.now result }
+{
+    try_parse(alloc, buf, BERMode::Der, callback)
+}
+
+/// Reads bytes by the canonical encoding rules (X.690, clause 9), as `try_parse_ber` does.
+#[inline(always)]
+pub fn try_parse_cer<'a, T: Drop, E: From<ASN1Error> + Drop, F>(
+    alloc: Global,
+    buf: &'a [u8],
+    callback: F,
+) -> Result<T, E>
+where
+    F: for<'b> FnOnce(BERReader<'a, 'b>) -> Result<T, E>,
+    requires { FnOnceTakesAtMut F.FnOnce callback (starts buf.now Cer) }
+    ensures { TryParses (FnOnceReturnsAtMut F.FnOnce callback) E.from_gives Cer buf.now result }
+{
+    try_parse(alloc, buf, BERMode::Cer, callback)
+}
+
+// Reads bytes by these rules.
+#[inline(always)]
+fn try_parse<'a, T: Drop, E: From<ASN1Error> + Drop, F>(
+    alloc: Global,
+    buf: &'a [u8],
+    mode: BERMode,
+    callback: F,
+) -> Result<T, E>
+where
+    F: for<'b> FnOnce(BERReader<'a, 'b>) -> Result<T, E>,
+    requires { FnOnceTakesAtMut F.FnOnce callback (starts buf.now mode) }
+    ensures { TryParses (FnOnceReturnsAtMut F.FnOnce callback) E.from_gives mode buf.now result }
+{
+    let mut state = ReaderState::new(alloc, buf, mode);
+    let answer = callback(&mut state);
+    state.parsed(answer)
+}
+
 impl<'a> ReaderState<'a> {
-    ghost use Rattle.std.specs.Prelude.{◌≡◌};
-    ghost use Rattle.yasna_reader.specs.Parse.{parsed};
+    ghost use Rattle.yasna_reader.specs.Parse.{IsParsed};
 
     // What a parse answers where its callback gave this answer.
     #[inline(always)]
-    fn parsed<T: Drop>(&self, answer: ASN1Result<T>) -> ASN1Result<T>
-        ensures { result ≡ parsed answer self.now }
+    fn parsed<T: Drop, E: From<ASN1Error> + Drop>(&self, answer: Result<T, E>) -> Result<T, E>
+        ensures { IsParsed E.from_gives answer self.now result }
     {
         if let Some(error) = self.kept {
-            return Err(error);
+            return Err(E::from(error));
         }
         match answer {
             Ok(value) => {
                 if self.cursor.left.is_empty() {
                     Ok(value)
                 } else {
-                    Err(ASN1Error::new(ASN1ErrorKind::Extra))
+                    Err(E::from(ASN1Error::new(ASN1ErrorKind::Extra)))
                 }
             }
             Err(error) => Err(error),

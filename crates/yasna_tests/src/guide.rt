@@ -17,7 +17,7 @@ use yasna_guide::numbers::{
     Status, read_key, read_status, write_key, write_signature, write_status,
 };
 use yasna_guide::optional::{read_person, write_person};
-use yasna_guide::own_errors::{StoreError, entries_to_der};
+use yasna_guide::own_errors::{StoreError, entries_to_der, entry_of_der};
 use yasna_guide::sequence::{Point, point_from_ber, point_from_der, point_to_der};
 use yasna_guide::set_of::{read_values, write_values, write_values_as_they_stand};
 use yasna_guide::sets::{read_setting, write_setting};
@@ -331,5 +331,10 @@ fn errors(rt: HostRuntime) -> Result<(), Fail> {
     );
     let refused = entries_to_der(alloc, &store, &[2]);
     assert!(rt; matches!(refused, Err(StoreError::NoSuchEntry)));
+    assert!(rt; matches!(entry_of_der(alloc, &store, &[2, 1, 1]), Ok(6)));
+    let refused = entry_of_der(alloc, &store, &[2, 1, 2]);
+    assert!(rt; matches!(refused, Err(StoreError::NoSuchEntry)));
+    let refused = entry_of_der(alloc, &store, &[2, 1, 1, 0]);
+    assert!(rt; matches!(refused, Err(StoreError::Encoding(_))));
     Ok(())
 }

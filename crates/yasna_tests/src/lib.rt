@@ -6,7 +6,9 @@
 //! |---|---|
 //! | `algorithm`, `public_key` | keys and their algorithms, as types of one's own and by closures |
 //! | `buffer` | the bytes that a read took |
+//! | `at_end` | where contents end, and errors of reading closures |
 //! | `composed` | lists, tuples, raw elements and borrowed values |
+//! | `exact` | types that keep an element of any type as it came |
 //! | `guide` | the pieces of code of README.md and docs/GUIDE.md |
 //! | `known` | calls whose closures are known |
 //! | `oid` | object identifiers |
@@ -21,9 +23,13 @@
 #[cfg(test)]
 mod algorithm;
 #[cfg(test)]
+mod at_end;
+#[cfg(test)]
 mod buffer;
 #[cfg(test)]
 mod composed;
+#[cfg(test)]
+mod exact;
 #[cfg(test)]
 mod guide;
 #[cfg(test)]

@@ -5,7 +5,7 @@ ghost use Rattle.yasna_base.specs.declared.mode.BERMode.TheVariants.{Der};
 ghost use Rattle.yasna_base.specs.declared.tag.PCBit.TheVariants.{Primitive};
 ghost use Rattle.yasna_base.specs.Canonical.{canonical_element};
 ghost use Rattle.yasna_base.specs.Digits.{base128};
-ghost use Rattle.yasna_base.specs.Identifier.{universal, tag_or};
+ghost use Rattle.yasna_base.specs.Identifier.{tag_or};
 ghost use Rattle.yasna_base.specs.Oid.{IsEncodableOid, subidentifiers, oid_form, oid_tag};
 ghost use Rattle.yasna_writer.specs.View.{Wrote};
 

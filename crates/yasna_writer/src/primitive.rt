@@ -9,7 +9,7 @@ ghost use Rattle.yasna_base.specs.declared.error.ASN1ErrorKind.TheVariants.{OutO
 ghost use Rattle.yasna_base.specs.declared.tag.PCBit.TheVariants.{Primitive};
 ghost use Rattle.yasna_base.specs.Enumerated.{enumerated_tag};
 ghost use Rattle.yasna_base.specs.Error.{kind_of};
-ghost use Rattle.yasna_base.specs.Identifier.{universal, tag_or};
+ghost use Rattle.yasna_base.specs.Identifier.{tag_or};
 ghost use Rattle.yasna_base.specs.Integer.{minimal_bytes, integer_form, integer_tag};
 ghost use Rattle.yasna_base.specs.BigInteger.{signed_number, big_integer};
 ghost use Rattle.yasna_base.specs.Canonical.{canonical_element};

@@ -6,7 +6,7 @@ ghost use Rattle.std.specs.Prelude.{◌≡◌, ◌≤◌, ◌<◌, ◌+◌, ◌*
 ghost use Rattle.yasna_base.specs.declared.tag.PCBit.TheVariants.{Primitive};
 ghost use Rattle.yasna_base.specs.Bits.{bits_tag};
 ghost use Rattle.yasna_base.specs.Canonical.{canonical_element, indefinite_element};
-ghost use Rattle.yasna_base.specs.Identifier.{universal, tag_or};
+ghost use Rattle.yasna_base.specs.Identifier.{tag_or};
 ghost use Rattle.yasna_base.specs.Octets.{octets_form};
 ghost use Rattle.yasna_writer.specs.Header.{open_bytes};
 ghost use Rattle.yasna_writer.specs.Segments.{is_cut, octet_segment, in_octet_segments, bit_segment, in_bit_segments, bits_with};

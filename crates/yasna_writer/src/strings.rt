@@ -8,7 +8,7 @@ ghost use Rattle.std.specs.List.{AllByRecursion};
 ghost use Rattle.std.specs.Str.{chars};
 ghost use Rattle.yasna_base.specs.declared.tag.PCBit.TheVariants.{Primitive};
 ghost use Rattle.yasna_base.specs.Canonical.{canonical_element};
-ghost use Rattle.yasna_base.specs.Identifier.{universal, tag_or};
+ghost use Rattle.yasna_base.specs.Identifier.{tag_or};
 ghost use Rattle.yasna_base.specs.Octets.{octets_form, octets_tag};
 ghost use Rattle.yasna_base.specs.Bits.{bits_contents, bits_form, bits_tag};
 ghost use Rattle.yasna_base.specs.Text.{utf8_form, bmp_form, bmp_octets, InNumeric, InPrintable, InVisible, InIa5, utf8_tag, numeric_tag, printable_tag, ia5_tag, visible_tag, bmp_tag};

@@ -1,6 +1,6 @@
 //! UTCTime and GeneralizedTime: their canonical texts (X.690, 11.7 and 11.8).
 ghost use Rattle.yasna_times.specs.GeneralizedTime.{generalized_time_form, generalized_time_tag};
-ghost use Rattle.yasna_base.specs.Identifier.{universal, tag_or};
+ghost use Rattle.yasna_base.specs.Identifier.{tag_or};
 ghost use Rattle.yasna_times.specs.Models.{utc_of, moment_of};
 ghost use Rattle.yasna_times.specs.UtcTime.{utc_time_form, utc_time_tag};
 ghost use Rattle.yasna_writer.specs.View.{Wrote};

@@ -27,7 +27,6 @@ pub struct TaggedDerValue {
 impl TaggedDerValue {
     ghost use Rattle.std.specs.Prelude.{◌≡◌, ◌<◌, ℕ, List, IfOk, IfErr, MatchOption, length};
     ghost use Rattle.yasna_base.specs.declared.tag.PCBit.TheVariants.{Primitive, Constructed};
-    ghost use Rattle.yasna_base.specs.Identifier.{universal};
     ghost use Rattle.yasna_base.specs.TaggedDerValue.{raw_of, raw_value, HoldsOctets, HoldsText};
 
     /// An OCTET STRING of these octets.

@@ -1,0 +1,56 @@
+//! Where contents end (X.690, 8.1.5): nothing is left, or the end of contents stands there.
+ghost use Rattle.std.specs.Prelude.{IsTrue, ◌↔◌, ◌≡◌};
+ghost use Rattle.yasna_base.specs.Identifier.{AtEnd, end_tag};
+
+use crate::state::{Parts, ReaderState};
+use yasna_base::bytes::identifier::read_identifier;
+use yasna_base::tag::Tag;
+use yasna_base::tags::TAG_EOC;
+
+#[inline(always)]
+fn is_end(tag: Tag) -> bool
+    ensures { IsTrue result ↔ (tag ≡ end_tag) }
+{
+    tag == TAG_EOC
+}
+
+// Whether contents end in front of these bytes.
+#[inline(always)]
+#[tactic(auto, using(crate::proofs::Following::ends_by_tag, crate::proofs::Following::tag_at_end, crate::proofs::Following::empty_at_end))]
+fn end_here(s: &[u8]) -> bool
+    ensures { IsTrue result ↔ AtEnd s.now }
+{
+    match read_identifier(s) {
+        Ok((tag, _, _)) => is_end(tag),
+        Err(_) => s.is_empty(),
+    }
+}
+
+impl<'a> ReaderState<'a> {
+    ghost use Rattle.yasna_reader.specs.Lookahead.{NothingFollows};
+
+    #[inline(always)]
+    fn nothing_follows(&self) -> bool
+        ensures { IsTrue result ↔ NothingFollows self.now.kept self.now.left }
+    {
+        match self.kept {
+            Some(_) => true,
+            None => end_here(self.cursor.left),
+        }
+    }
+}
+
+impl<'a> Parts<ReaderState<'a>> {
+    ghost use Rattle.yasna_reader.specs.State.{part_of};
+    ghost use Rattle.yasna_reader.specs.Lookahead.{NothingFollows};
+
+    /// Whether no part follows: nothing is left, or the end of contents stands first. So it is where a failure is kept too, since then no
+    /// read takes anything: a loop until here ends.
+    #[inline(always)]
+    pub fn is_at_end(&self) -> bool
+        ensures { IsTrue result ↔ NothingFollows (part_of self.now).kept (part_of self.now).left }
+    {
+        let reader = &self.reader;
+        reader.nothing_follows()
+    }
+}

@@ -1,0 +1,87 @@
+//! Where contents end, errors of a reading closure's own, and memory that it asks for itself.
+
+use std::alloc::Global;
+use std::test::Fail;
+use yasna::{
+    ASN1Error, ASN1ErrorKind, ASN1Result, BERReader, parse_ber, parse_der, try_parse_ber,
+    try_parse_cer,
+};
+
+// A number, and whether it stands alone.
+fn number_alone(reader: BERReader) -> ASN1Result<(i64, bool)> {
+    reader.read_sequence(|parts| {
+        let number = parts.next().read_i64()?;
+        let alone = parts.is_at_end();
+        if !alone {
+            parts.next().read_null()?;
+        }
+        Ok((number, alone))
+    })
+}
+
+#[test]
+fn parts_end(rt: HostRuntime) -> Result<(), Fail> {
+    let alloc = rt.alloc();
+    let alone = parse_der(alloc, &[48, 3, 2, 1, 7], |reader| number_alone(reader))?;
+    assert_eq!(rt; alone, (7, true));
+    let followed = parse_der(alloc, &[48, 5, 2, 1, 7, 5, 0], |reader| number_alone(reader))?;
+    assert_eq!(rt; followed, (7, false));
+    let indefinite = [48, 128, 2, 1, 7, 0, 0];
+    let alone = parse_ber(alloc, &indefinite, |reader| number_alone(reader))?;
+    assert_eq!(rt; alone, (7, true));
+    Ok(())
+}
+
+#[test]
+fn kept_failures_end_parts(rt: HostRuntime) -> Result<(), Fail> {
+    let answer = parse_der(rt.alloc(), &[48, 6, 2, 2, 0, 7, 5, 0], |reader| {
+        reader.read_sequence(|parts| {
+            let _ = parts.next().read_i64();
+            Ok(parts.is_at_end())
+        })
+    });
+    assert_eq!(rt; answer.err().map(|error| error.kind()), Some(ASN1ErrorKind::Invalid));
+    Ok(())
+}
+
+#[derive(Drop)]
+enum Refused {
+    Large,
+    Encoding(ASN1Error),
+}
+
+impl From<ASN1Error> for Refused {
+    fn from(error: ASN1Error) -> Refused {
+        Refused::Encoding(error)
+    }
+}
+
+// A number below 100, kept in a vector.
+fn small(alloc: Global, reader: BERReader) -> Result<Vec<i64>, Refused> {
+    let number = reader.read_i64()?;
+    if number < 100 {
+        Ok(kept(alloc, number)?)
+    } else {
+        Err(Refused::Large)
+    }
+}
+
+fn kept(alloc: Global, number: i64) -> ASN1Result<Vec<i64>> {
+    let mut numbers = Vec::new(alloc);
+    numbers.push(number)?;
+    Ok(numbers)
+}
+
+#[test]
+fn readings_answer_their_own_errors(rt: HostRuntime) -> Result<(), Fail> {
+    let alloc = rt.alloc();
+    let read = try_parse_ber(alloc, &[2, 129, 1, 7], |reader| small(alloc, reader));
+    assert!(rt; matches!(read, Ok(_)));
+    let large = try_parse_ber(alloc, &[2, 1, 100], |reader| small(alloc, reader));
+    assert!(rt; matches!(large, Err(Refused::Large)));
+    let long = try_parse_cer(alloc, &[2, 129, 1, 7], |reader| small(alloc, reader));
+    assert!(rt; matches!(long, Err(Refused::Encoding(_))));
+    let left = try_parse_cer(alloc, &[2, 1, 7, 0], |reader| small(alloc, reader));
+    assert!(rt; matches!(left, Err(Refused::Encoding(_))));
+    Ok(())
+}
