@@ -14,6 +14,7 @@ pub use Rattle.yasna_base.specs.Grammar.{Grammar, Members, Form, Nest}
 -- the laws, and what a relation asks of bytes alone
 pub use Rattle.yasna_base.specs.Coding.{IsCoding, Any}
 pub use Rattle.yasna_base.specs.Canonical.{IsWritten, HasForm, Always, leaf_nest, enclosed_form, enclosed_nest, canonical_element}
+pub use Rattle.yasna_base.specs.Exact.{Fitting, IsExact, written_fits, enclosed_fits, part_fits, nothing_fits, option_fits, elements_fit, raw_fits}
 -- types of one primitive element
 pub use Rattle.yasna_base.specs.Element.{IsPrimitive, Primitively}
 pub use Rattle.yasna_base.specs.Boolean.{boolean_tag, IsBoolean, EncodesBoolean, boolean_form}
@@ -35,17 +36,23 @@ pub use Rattle.yasna_times.specs.UtcTime.{utc_time_tag, EncodesUtcTime, utc_time
 pub use Rattle.yasna_times.specs.GeneralizedTime.{generalized_time_tag, EncodesGeneralizedTime, generalized_time_form, generalized_time_nest}
 -- raw elements
 pub use Rattle.yasna_base.specs.Raw.{RawValue, IsRaw, IsDeepRaw, raw_form}
+pub use Rattle.yasna_base.specs.SetWriting.{own_form}
 pub use Rattle.yasna_base.specs.TaggedDerValue.{raw_of}
 -- types that are made of others
 pub use Rattle.yasna_base.specs.Element.{Enclosed, AnyEnclosed}
 pub use Rattle.yasna_base.specs.Sequence.{sequence_tag, PartOf, NoParts, AnyPart, AnyNothing, SamePart, SameNothing}
 pub use Rattle.yasna_base.specs.Sequence.{part_form, part_nest, part_can, nothing_form, nothing_nest}
 pub use Rattle.yasna_base.specs.Optional.{OptionOf, AnyOption, SameOption, option_form, option_nest, option_can}
+pub use Rattle.yasna_base.specs.Default.{DefaultOf, TellsDefault, default_form, default_nest, default_can, default_fits}
 pub use Rattle.yasna_base.specs.SequenceOf.{IsListOf, AnyListOf, elements_form, elements_nest}
 pub use Rattle.yasna_base.specs.Pieces.{Each}
 pub use Rattle.yasna_base.specs.Nested.{IsNested, AnyNested, SameNested}
-pub use Rattle.yasna_base.specs.Choice.{EitherOf, AnyEither, SameEither}
+pub use Rattle.yasna_base.specs.Choice.{EitherOf, AnyEither, SameEither, either_form, either_nest, either_can, either_fits}
+-- tags around a type, and in place of its own
+pub use Rattle.yasna_base.specs.UnderTags.{context, KeepsUnderTags, IsExactUnderTags}
+pub use Rattle.yasna_base.specs.Beginnings.{BeginsBy, ContentsBeginBy, CodingByTags, ContentsByTags}
 pub use Rattle.yasna_base.specs.Set.{set_tag, IsSet, IsSetOf, AnySetOf}
+pub use Rattle.yasna_base.specs.AnyOrder.{SameSetOf, InSomeOrder, sorted_set_of_form}
 -- what reads do
 pub use Rattle.yasna_reader.specs.State.{Reading, Does, IsFresh, part_of}
 pub use Rattle.yasna_reader.specs.Decodes.{Decodes, Step, Done}
