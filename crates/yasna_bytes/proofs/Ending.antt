@@ -8,7 +8,7 @@ use Rattle.yasna_base.specs.Element.{Element, definite, indefinite, end_of_conte
 use Rattle.yasna_base.specs.Header.{ContentsEnd, counted, uncounted, OpensAt}
 use Rattle.yasna_base.specs.Identifier.{identifier}
 use Rattle.yasna_base.proofs.Digits.{bytes_front}
-use Rattle.yasna_bytes.specs.Header.{EndsAt, EndsBefore}
+use Rattle.yasna_bytes.specs.Header.{EndsBefore}
 
 -- where contents end behind a header, an element stands
 pub record StandsBefore (m : BERMode) (t : Tag) (p : PCBit) (s d r : List ℕ) : Type 0 where
@@ -38,7 +38,3 @@ closed m t p s c uncounted x d y r e h = record {
     framed = indefinite (record { taken = x.taken; joined = refl });
   };
 }
-
-pub ends_at : (after : ContentsEnd) (y r : List ℕ) → EndsBefore after y r → EndsAt after y
-ends_at (counted a) y r h = h.0
-ends_at uncounted y r h = (r, h)

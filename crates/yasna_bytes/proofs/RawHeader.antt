@@ -11,7 +11,7 @@ use Rattle.yasna_base.specs.Identifier.{identifier, end_tag, begins, StartsEleme
 use Rattle.yasna_base.proofs.Identifier.{identifier_exact, end_identifier, identifier_short, zeros_at_end}
 use Rattle.yasna_base.proofs.Pieces.{tag_not_end}
 use Rattle.yasna_bytes.specs.declared.bytes.header.Refusal.{Refusal}
-use Rattle.yasna_bytes.specs.Header.{Holds, HasHeader, AnyBit, EndsAt, contents_end}
+use Rattle.yasna_bytes.specs.Header.{Holds, HasHeader, AnyBit, EndsBefore, NoEnd, contents_end}
 use Rattle.yasna_bytes.specs.Refusal.{BlamesBytes}
 use Rattle.yasna_bytes.specs.Walk.{IsEndByte, NoHeader, NotOpened, IsOpened, TurnsTo, TurnOf, Stops}
 use Rattle.yasna_bytes.specs.declared.bytes.header.Opened.{Opened}
@@ -60,22 +60,22 @@ contents_refuse m n s e t p y b ne f l k o w = record {
 }
 
 -- a walk stops where contents don't end and no header stands
-stops : (m : BERMode) (n : ℕ) (e : ContentsEnd) (s : List ℕ) (r : Refusal) → (EndsAt e s → ⊥) → NotOpened m n s r → Stops m n e s r.kind
-stops m n e s r o x = record { open_end = o; none = x.none; deep = x.deep; no_memory = x.no_memory }
+stops : (m : BERMode) (n : ℕ) (e : ContentsEnd) (s : List ℕ) (r : Refusal) → NoEnd e s → NotOpened m n s r → Stops m n e s r.kind
+stops m n e s r o x = record { no_end = o; none = x.none; deep = x.deep; no_memory = x.no_memory }
 
 -- where contents end, nothing is left or an end stands there
-ends_at_end : (e : ContentsEnd) (s : List ℕ) → EndsAt e s → AtEnd s
-ends_at_end (counted a) s x = nothing x
-ends_at_end uncounted s x = subst AtEnd (sym x.1) (zeros_at_end (0 ∷ x.0))
+pub ends_at_end : (e : ContentsEnd) (s r : List ℕ) → EndsBefore e s r → AtEnd s
+ends_at_end (counted z) s r x = nothing x.0
+ends_at_end uncounted s r x = subst AtEnd (sym x) (zeros_at_end (0 ∷ r))
 
 -- a walk stops where an element begins whose header doesn't stand there
 pub stops_behind : (m : BERMode) (n : ℕ) (e : ContentsEnd) (s : List ℕ) (r : Refusal) → NotOpened m n s r → r.moved ≡ true → Stops m n e s r.kind
-stops_behind m n e s r x f = stops m n e s r (λ y. let z = x.moved.1 (ends_at_end e s y) in absurd (cc)) x
+stops_behind m n e s r x f = stops m n e s r (λ a y. let z = x.moved.1 (ends_at_end e s a y) in absurd (cc)) x
 
 -- with a kind of its own where nothing is left or what looks like an end stands there
-pub stops_at_end : (m : BERMode) (n : ℕ) (e : ContentsEnd) (s : List ℕ) (k : ASN1ErrorKind) → (EndsAt e s → ⊥) → AtEnd s → BlamesBytes k → Stops m n e s k
+pub stops_at_end : (m : BERMode) (n : ℕ) (e : ContentsEnd) (s : List ℕ) (k : ASN1ErrorKind) → NoEnd e s → AtEnd s → BlamesBytes k → Stops m n e s k
 stops_at_end m n e s k o a i = record {
-  open_end = o;
+  no_end = o;
   none = none_at_end m n s a;
   deep = (λ d. absurd (plain_not_deep i d), λ d. absurd (starts_not_at_end s d.1 a));
   no_memory = plain_not_memory i;

@@ -14,16 +14,16 @@ use Rattle.yasna_base.proofs.Header.{opens_begins, header_of, header_once, end_b
 use Rattle.yasna_base.proofs.Lists.{empty_is}
 use Rattle.yasna_bytes.specs.declared.bytes.header.Refusal.{Refusal}
 use Rattle.yasna_bytes.specs.Front.{Takes, Stands}
-use Rattle.yasna_bytes.specs.Header.{AnyBit, AreContents, HasHeader, RefusesHeader, EndsAt, EndsBefore}
+use Rattle.yasna_bytes.specs.Header.{AnyBit, AreContents, HasHeader, RefusesHeader, EndsBefore, NoEnd}
 use Rattle.yasna_bytes.specs.Refusal.{BlamesBytes, IsTooDeep}
 use Rattle.yasna_bytes.specs.declared.bytes.segments.cuts.Cuts.{Cuts}
-use Rattle.yasna_bytes.specs.Segments.{EndAt, IsDeepWithin, AsksFor, TakesSegments, RefusesSegments, TakesString, RefusesString}
+use Rattle.yasna_bytes.specs.Segments.{MakeUpTo, IsDeepWithin, AsksFor, TakesSegments, RefusesSegments, TakesString, RefusesString}
 use Rattle.yasna_bytes.proofs.Contents.{takes_begins, copy_wants, opens_wants}
 use Rattle.yasna_bytes.proofs.Cuts.{asked_cut}
 use Rattle.yasna_bytes.proofs.Header.{element_header}
 use Rattle.yasna_bytes.proofs.RawHeader.{opens_header}
 use Rattle.yasna_bytes.proofs.Refusal.{plain_not_deep, plain_not_memory, begins_not_elsewhere}
-use Rattle.yasna_bytes.proofs.Ending.{closed, ends_at}
+use Rattle.yasna_bytes.proofs.Ending.{closed}
 
 -- the wanted tag stands there, no string does, and it isn't too deep
 stood : {A : Type 0} (k : Segmentation A) (n : ℕ) (m : BERMode) (t : Tag) (s : List ℕ) (e : Refusal) → BeginsWithTag t s → BlamesBytes e.kind → e.moved ≡ true →
@@ -123,8 +123,8 @@ module _ {A : Type 0} (k : Segmentation A) (n j : ℕ) (more : 1 ≤ n) (less : 
     taken : MaySegment m
     place : List ℕ
     ends : EndsBefore end place r
-    end_at : EndAt k j (segment_mode m) c place
-    cut : FallsInto m k.full (map k.bytes end_at.values)
+    made : MakeUpTo k j (segment_mode m) c place
+    cut : FallsInto m k.full (map k.bytes made.values)
 
   as_segments : (v : A) (r : List ℕ) → Takes (IsSegmented k n m t) s v r → InSegments v r
   as_segments v r w = elim (segmented_into k j m t v w.front (subst (λ z. IsSegmented k z m t v w.front) (sym level) w.member)) [
@@ -135,7 +135,7 @@ module _ {A : Type 0} (k : Segmentation A) (n j : ℕ) (more : 1 ≤ n) (less : 
           taken = h;
           place = b.behind;
           ends = b.ends;
-          end_at = record {
+          made = record {
             values = vs;
             value = v;
             lead = record { front = d; pieces = p; joined = b.joined };
@@ -159,7 +159,7 @@ module _ {A : Type 0} (k : Segmentation A) (n j : ℕ) (more : 1 ≤ n) (less : 
   -- segments were refused
   pub segments_refused : MaySegment m → RefusesSegments k j (segment_mode m) c e → RefusesString k n m t s e
   segments_refused h x = record {
-    none = λ q w. let y = as_segments w.0 w.1 w.2 in x.none q y.place y.end_at;
+    none = λ q w. let y = as_segments w.0 w.1 w.2 in x.none q y.place y.made;
     moved = (λ f. absurd (cc), λ f. absurd (begins_not_elsewhere begun f));
     too_deep = λ f. subst (λ z. IsDeepSegmented k z m t s) level
         (deep_of k j m t s (record { taken = h; contents = c; end = end; opens = o; inside = x.too_deep f }));
@@ -174,14 +174,14 @@ module _ {A : Type 0} (k : Segmentation A) (n j : ℕ) (more : 1 ≤ n) (less : 
     cuts_refused f = stood k n m t s e begun p moved
         (λ w.
         let z = as_segments w.0 w.1 w.2 in
-        let same = (h.only z.place z.end_at).1 in
+        let same = (h.only z.place z.made).1 in
         f ((asked_cut k m h.values u h.cuts).1 (subst (λ vs. FallsInto m k.full (map k.bytes vs)) same z.cut)))
         (λ d. h.not_deep (deep_within d).1)
 
     -- segments were read, and don't end where contents may
-    pub unclosed_refused : (EndsAt end y → ⊥) → RefusesString k n m t s e
+    pub unclosed_refused : NoEnd end y → RefusesString k n m t s e
     unclosed_refused f = stood k n m t s e begun p moved
-        (λ w. let z = as_segments w.0 w.1 w.2 in f (subst (EndsAt end) (h.only z.place z.end_at).0 (ends_at end z.place w.1 z.ends)))
+        (λ w. let z = as_segments w.0 w.1 w.2 in f w.1 (subst (λ q. EndsBefore end q w.1) (h.only z.place z.made).0 z.ends))
         (λ d. h.not_deep (deep_within d).1)
 
 -- segments were read, are cut as the mode asks, and end where contents may

@@ -14,7 +14,7 @@ use Rattle.yasna_base.proofs.Pieces.{NoFront, no_front_at_end, pieces_further, p
 use Rattle.yasna_bytes.specs.declared.bytes.header.Refusal.{Refusal}
 use Rattle.yasna_bytes.specs.Refusal.{BlamesBytes, IsElsewhere, nothing}
 use Rattle.yasna_bytes.specs.declared.bytes.segments.cuts.Cuts.{Cuts}
-use Rattle.yasna_bytes.specs.Segments.{GoOn, HoldsBytes, Adds, further_cut, AreCut, LeadTo, EndAt, IsDeepWithin, TakesSegments, RefusesSegments, TakesString, RefusesString}
+use Rattle.yasna_bytes.specs.Segments.{GoOn, HoldsBytes, Adds, further_cut, AreCut, LeadTo, MakeUpTo, IsDeepWithin, TakesSegments, RefusesSegments, TakesString, RefusesString}
 use Rattle.yasna_bytes.proofs.Cuts.{none_cut, further_is_cut}
 use Rattle.yasna_bytes.proofs.Refusal.{plain_not_deep, at_end_elsewhere, begins_not_elsewhere}
 
@@ -60,7 +60,7 @@ module _ {A : Type 0} {k : Segmentation A} (once : SegmentsOnce k) (n : ℕ) (m 
 
   one_end : (vs : List A) (y : List ℕ) → LeadTo (IsSegmented k n m k.segment) c vs y →
       ((w : A) (us : List A) (v : A) (b r : List ℕ) → IsSegmented k n m k.segment w b → y ≡ b ++ r → k.join m (vs ++ (w ∷ us)) v → ⊥) →
-      (z : List ℕ) (e : EndAt k n m c z) → OneEnd vs e.values y z
+      (z : List ℕ) (e : MakeUpTo k n m c z) → OneEnd vs e.values y z
   one_end vs y f none z e =
       elim (leads_on (segmented_exact once n n m k.segment) c vs e.values y z f e.lead
       (no_front_at_end (λ v b. segmented_starts k n m k.segment v b once.segment) z e.at_end)) [

@@ -14,8 +14,8 @@ use Rattle.yasna_base.specs.Raw.{LooksInto, LooksUpTo}
 use Rattle.yasna_base.specs.declared.tag.PCBit.{PCBit}
 use Rattle.yasna_base.specs.declared.tag.Tag.{Tag}
 use Rattle.yasna_base.proofs.Identifier.{identifier_some}
-use Rattle.yasna_bytes.specs.Header.{EndsAt, EndsBefore, contents_end}
-use Rattle.yasna_bytes.specs.Walk.{Passes, Enters, EndsHere, Stops, ClosesBefore, MeetsDeep, NotWalked, TakesEnd, IsWalked, following}
+use Rattle.yasna_bytes.specs.Header.{EndsBefore, NoEnd, contents_end}
+use Rattle.yasna_bytes.specs.Walk.{Passes, Enters, EndsWithin, Stops, ClosesBefore, MeetsDeep, NotWalked, TakesEnd, IsWalked, following}
 use Rattle.yasna_bytes.proofs.Walking.{before_here, before_first, left_closes, left_deep, passed_closes, passed_deep, entered, entered_more, entered_not_end, entered_deep, deep_entered, closed_stops, deep_stops, stops_deep}
 
 -- from s on the innermost elements end, one behind the other, and a follows the outermost
@@ -164,11 +164,11 @@ alike : (e : ContentsEnd) → AreAlike e e
 alike (counted a) = tt
 alike uncounted = tt
 
-alike_at : (e f : ContentsEnd) (s : List ℕ) → AreAlike e f → EndsAt f s → EndsAt e s
-alike_at (counted a) (counted b) s x y = y
-alike_at (counted a) uncounted s x y = absurd x
-alike_at uncounted (counted b) s x y = absurd x
-alike_at uncounted uncounted s x y = y
+alike_no_end : (e f : ContentsEnd) (s : List ℕ) → AreAlike e f → NoEnd e s → NoEnd f s
+alike_no_end (counted a) (counted b) s x o r y = o a (y.0, refl)
+alike_no_end (counted a) uncounted s x o r y = absurd x
+alike_no_end uncounted (counted b) s x o r y = absurd x
+alike_no_end uncounted uncounted s x o r y = o r y
 
 -- a mode walks contents that end in one way
 looks_not_taken : (m : BERMode) (p q : PCBit) → LooksInto m p → TakesIndefinite m q → ⊥
@@ -190,18 +190,18 @@ entered_alike : (m : BERMode) (n : ℕ) (e : ContentsEnd) (s c : List ℕ) (f : 
 entered_alike m n e s c f w x = one_way m w.0 x.bit e f w.1 w.2 (opens_taken m x.tag x.bit s c f x.opened.opens) x.looks
 
 -- where contents end, what is left and what follows them is what follows the element
-ends_before : (e f : ContentsEnd) (s r : List ℕ) → AreAlike e f → EndsHere e s r → EndsBefore f s (r ++ following f)
+ends_before : (e f : ContentsEnd) (s r : List ℕ) → AreAlike e f → EndsWithin e s r → EndsBefore f s (r ++ following f)
 ends_before (counted a) (counted b) s r x y = (y.0, ap (λ z. z ++ b) y.1)
 ends_before (counted a) uncounted s r x y = absurd x
 ends_before uncounted (counted b) s r x y = absurd x
 ends_before uncounted uncounted s r x y = y ∙ ap (λ z. 0 ∷ 0 ∷ z) (sym (append-nil r))
 
-pub ends_outermost : (o : Option (Bor (List ℕ))) (s : List ℕ) (a : Bor (List ℕ)) → EndsHere (contents_end o) s a.now →
+pub ends_outermost : (o : Option (Bor (List ℕ))) (s : List ℕ) (a : Bor (List ℕ)) → EndsWithin (contents_end o) s a.now →
     EndsBefore (contents_end o) s (unwrap_or o a).now
 ends_outermost (Some z) s a x = (x.0, refl)
 ends_outermost None s a x = x
 
-ends_front : (e : ContentsEnd) (s r : List ℕ) → EndsHere e s r → (p : List ℕ) × (s ≡ p ++ r)
+ends_front : (e : ContentsEnd) (s r : List ℕ) → EndsWithin e s r → (p : List ℕ) × (s ≡ p ++ r)
 ends_front (counted a) s r x = ([], x.0 ∙ sym x.1)
 ends_front uncounted s r x = (0 ∷ 0 ∷ [], x)
 
@@ -302,8 +302,8 @@ module _ {m : BERMode} {e : ContentsEnd} {n : ℕ} {s : List ℕ} {table : List 
   rest_is p x f = drop_front s (w.before ++ p) (x ++ w.after) (behind + length x) (joins p x f) (rest_counts x)
 
   module _ {o : BERMode} {j : ℕ} {h : List ℕ} (mode : o ≡ m) (levels : j ≡ k) (is : h ≡ r) where
-    ends_in : (a : List ℕ) → EndsHere e h a → EndsHere e r a
-    ends_in a x = subst (λ z. EndsHere e z a) is x
+    ends_in : (a : List ℕ) → EndsWithin e h a → EndsWithin e r a
+    ends_in a x = subst (λ z. EndsWithin e z a) is x
 
     passes_in : (a : List ℕ) → Passes o j h a → Passes m k r a
     passes_in a x = subst (λ z. Passes m k z a) is (subst (λ i. Passes m i h a) levels (subst (λ p. Passes p j h a) mode x))
@@ -311,7 +311,7 @@ module _ {m : BERMode} {e : ContentsEnd} {n : ℕ} {s : List ℕ} {table : List 
     enters_in : (c : List ℕ) (f : ContentsEnd) → Enters o j h c f → Enters m k r c f
     enters_in c f x = subst (λ z. Enters m k z c f) is (subst (λ i. Enters m i h c f) levels (subst (λ p. Enters p j h c f) mode x))
 
-    pub left_fits : (a : List ℕ) → EndsHere e h a → length a ≤ length r
+    pub left_fits : (a : List ℕ) → EndsWithin e h a → length a ≤ length r
     left_fits a x = let p = ends_front e r a (ends_in a x) in let i = length-append p.0 a in omega (arith, ap length p.1)
 
     pub passed_fits : (a : List ℕ) → Passes o j h a → length a < length r
@@ -340,7 +340,7 @@ module _ {m : BERMode} {e : ContentsEnd} {n : ℕ} {s : List ℕ} {table : List 
         (same_left m e [] k r a (subst (λ i. EndsBefore e i a) is x)))
 
     -- the element around goes on behind the innermost
-    pub left_keeps : (a u q : List ℕ) → (k ≡ n → ⊥) → EndsHere e h a → u ≡ drop (length s - (behind + length a)) s → q ≡ take (length u - get_or table k 0) u →
+    pub left_keeps : (a u q : List ℕ) → (k ≡ n → ⊥) → EndsWithin e h a → u ≡ drop (length s - (behind + length a)) s → q ≡ take (length u - get_or table k 0) u →
         (get_or table k 0 ≤ length u) × Walking m e n s table (get_or table k 0) (k + 1) q
     left_keeps a u q l x f g =
         let p = ends_front e r a (ends_in a x) in
@@ -369,7 +369,7 @@ module _ {m : BERMode} {e : ContentsEnd} {n : ℕ} {s : List ℕ} {table : List 
         let z' = subst (λ i. Walking m e n s table (get_or table k 0) i v) (sym (add-one k)) z in
         (omega (arith, ap length i, y.1.5), subst (λ i. Walking m e n s table (get_or table k 0) (k + 1) i) (sym i') z')
 
-    pub left_counts : (a u q : List ℕ) → (k ≡ n → ⊥) → EndsHere e h a → u ≡ drop (length s - (behind + length a)) s →
+    pub left_counts : (a u q : List ℕ) → (k ≡ n → ⊥) → EndsWithin e h a → u ≡ drop (length s - (behind + length a)) s →
         q ≡ take (length u - get_or table k 0) u → length q + get_or table k 0 ≡ behind + length a
     left_counts a u q l x f g =
         let p = ends_front e r a (ends_in a x) in
@@ -435,4 +435,4 @@ module _ {m : BERMode} {e : ContentsEnd} {n : ℕ} {s : List ℕ} {table : List 
         let z = subst (λ i. Stops m k e i x) is (subst (λ i. Stops m i e h x) levels (subst (λ p. Stops p j e h x) mode y)) in
         let u = encloses_alike e table k w.depth w.after w.inner w.around w.encloses in
         stopped_all m e n s w.inner w.around k r x w.same
-        (record { open_end = λ i. z.open_end (alike_at e w.inner r u i); none = z.none; deep = z.deep; no_memory = z.no_memory })
+        (record { no_end = alike_no_end e w.inner r u z.no_end; none = z.none; deep = z.deep; no_memory = z.no_memory })

@@ -8,17 +8,16 @@ use Rattle.yasna_base.specs.declared.error.ASN1ErrorKind.{ASN1ErrorKind}
 use Rattle.yasna_base.specs.declared.error.ASN1ErrorKind.TheVariants.{StackOverflow}
 use Rattle.yasna_base.specs.Element.{end_of_contents}
 use Rattle.yasna_base.specs.Header.{ContentsEnd, counted, uncounted, OpensAt}
-use Rattle.yasna_base.specs.Identifier.{end_tag, StartsElement, AtEnd, nothing}
+use Rattle.yasna_base.specs.Identifier.{end_tag, StartsElement}
 use Rattle.yasna_base.specs.Pieces.{Each, Pieces}
 use Rattle.yasna_base.specs.Raw.{RawValue, LooksInto, LooksUpTo, IsRaw, JoiningBefore, DeepRaw, IsDeepRaw, ContentsTo}
 use Rattle.yasna_base.proofs.Header.{header_once}
-use Rattle.yasna_base.proofs.Identifier.{zeros_at_end}
 use Rattle.yasna_base.proofs.Pieces.{starts_not_end}
 use Rattle.yasna_base.proofs.Raw.{raw_zero, raw_of, raw_into, deep_at_zero, deep_zero_into, deep_of, deep_into, raw_element, raw_starts, opens_raw, RawAt, raw_ends, opens_starts, deep_starts}
-use Rattle.yasna_bytes.specs.Header.{AnyBit, EndsAt, EndsBefore}
+use Rattle.yasna_bytes.specs.Header.{AnyBit, EndsBefore}
 use Rattle.yasna_bytes.specs.Walk.{NoHeader, HasNoLevel, Passes, Enters, Stops, ClosesBefore, MeetsDeep}
 use Rattle.yasna_bytes.proofs.Header.{element_header}
-use Rattle.yasna_bytes.proofs.RawHeader.{starts_not_at_end, opens_header, opens_range}
+use Rattle.yasna_bytes.proofs.RawHeader.{starts_not_at_end, ends_at_end, opens_header, opens_range}
 
 -- no element stands before what is said
 pub before_here : {R : RawValue → List ℕ → Type 0} {D : List ℕ → Type 0} (s : List ℕ) → D s → JoiningBefore R D s
@@ -67,15 +66,6 @@ each_first (v ∷ vs) (b ∷ bs) s r p e d = further v b (concat bs ++ r) p.0 (e
 
 pub before_first : {R : RawValue → List ℕ → Type 0} {D : List ℕ → Type 0} (s : List ℕ) → JoiningBefore R D s → First R D s
 before_first s x = each_first x.values x.pieces.pieces s x.rest x.pieces.each (x.joined ∙ ap (λ z. z ++ x.rest) x.pieces.joined) x.deep
-
--- where contents end is an end
-pub ends_at_end : (e : ContentsEnd) (s r : List ℕ) → EndsBefore e s r → AtEnd s
-ends_at_end (counted z) s r x = nothing x.0
-ends_at_end uncounted s r x = subst AtEnd (sym x) (zeros_at_end (0 ∷ r))
-
-pub ends_at : (e : ContentsEnd) (s r : List ℕ) → EndsBefore e s r → EndsAt e s
-ends_at (counted z) s r x = x.0
-ends_at uncounted s r x = (r, x)
 
 -- one thing follows an end
 pub ends_once : (e : ContentsEnd) (s r a : List ℕ) → EndsBefore e s r → EndsBefore e s a → r ≡ a
@@ -215,7 +205,7 @@ level_deep m n s x = subst (λ k. IsDeepRaw k m s) (sym x.0) (deep_at_zero m s x
 
 -- where a walk stops contents don't close
 pub closed_stops : (m : BERMode) (n : ℕ) (e : ContentsEnd) (s : List ℕ) (k : ASN1ErrorKind) → Stops m n e s k → (a : List ℕ) → ClosesBefore n m e s a → ⊥
-closed_stops m n e s k x a y = no_header m n s x.none (λ z. x.open_end (ends_at e s a z)) (before_first s y)
+closed_stops m n e s k x a y = no_header m n s x.none (x.no_end a) (before_first s y)
 
 -- and it is of depth where an element stands that no level is left for
 pub stops_deep : (m : BERMode) (n : ℕ) (e : ContentsEnd) (s : List ℕ) (k : ASN1ErrorKind) → Stops m n e s k → k ≡ StackOverflow → IsDeepRaw n m s

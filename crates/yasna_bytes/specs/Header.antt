@@ -1,6 +1,6 @@
 -- Headers at the front of bytes, and where contents end (X.690, 8.1).
 use Rattle.std.specs.Borrow.{Bor}
-use Rattle.std.specs.Prelude.{◌≡◌, ℕ, ◌≤◌, List, [], ◌∷◌, ◌++◌, length, Option, Some, None, Result, Ok, Err}
+use Rattle.std.specs.Prelude.{◌≡◌, ℕ, ◌≤◌, List, ◌∷◌, ◌++◌, length, Option, Some, None, Result, Ok, Err}
 use Rattle.yasna_base.specs.Digits.{IsBytes}
 use Rattle.yasna_base.specs.Element.{TakesDefinite, TakesIndefinite, IsPrimitive}
 pub use Rattle.yasna_base.specs.Header.{EndsBefore}
@@ -74,12 +74,11 @@ abbrev pub PrimitiveAt : ℕ → BERMode → Tag → List ℕ → Result (Bor (L
 PrimitiveAt n m t s (Ok x) = Takes (IsPrimitive AreContents n m t) s x.0.now x.1.now
 PrimitiveAt n m t s (Err e) = Refuses (Stands (IsPrimitive AreContents n m t) s) (IsTooDeep n t s) ⊥ t s e
 
--- y is where contents may end
-abbrev pub EndsAt : ContentsEnd → List ℕ → Type 0
-EndsAt (counted a) y = y ≡ []
-EndsAt uncounted y = (z : List ℕ) × (y ≡ 0 ∷ 0 ∷ z)
+-- contents that end so don't end at y
+abbrev pub NoEnd : ContentsEnd → List ℕ → Type 0
+NoEnd e y = (r : List ℕ) → EndsBefore e y r → ⊥
 
 -- contents that were read as far as y end there, or don't
 abbrev pub ClosesAt : ContentsEnd → List ℕ → Result (Bor (List ℕ)) ASN1ErrorKind → Type 0
 ClosesAt a y (Ok r) = EndsBefore a y r.now
-ClosesAt a y (Err k) = BlamesBytes k × (EndsAt a y → ⊥)
+ClosesAt a y (Err k) = BlamesBytes k × NoEnd a y

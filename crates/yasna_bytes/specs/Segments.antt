@@ -65,8 +65,8 @@ pub record LeadTo {A : Type 0} (R : A → List ℕ → Type 0) (c : List ℕ) (v
   pub pieces : Pieces R vs front
   pub joined : c ≡ front ++ y
 
--- segments make up c as far as y, where contents may end
-pub record EndAt {A : Type 0} (k : Segmentation A) (n : ℕ) (m : BERMode) (c y : List ℕ) : Type 0 where
+-- segments make up c as far as y, where nothing or an end of contents stands
+pub record MakeUpTo {A : Type 0} (k : Segmentation A) (n : ℕ) (m : BERMode) (c y : List ℕ) : Type 0 where
   pub values : List A
   pub value : A
   pub lead : LeadTo (IsSegmented k n m k.segment) c values y
@@ -103,12 +103,12 @@ pub record TakesSegments {A T : Type 0} (k : Segmentation A) (value : List ℕ �
   pub join : k.join m values (value bytes x)
   pub added : out' ≡ out ++ bytes
   pub cuts : AreCut k values u
-  pub only : (z : List ℕ) (e : EndAt k n m c z) → (z ≡ y) × (e.values ≡ values)
+  pub only : (z : List ℕ) (e : MakeUpTo k n m c z) → (z ≡ y) × (e.values ≡ values)
   pub not_deep : IsDeepWithin k n m c → ⊥
 
 -- no segments make up c
 pub record RefusesSegments {A : Type 0} (k : Segmentation A) (n : ℕ) (m : BERMode) (c : List ℕ) (e : Refusal) : Type 0 where
-  pub none : (e.kind ≡ OutOfMemory → ⊥) → (z : List ℕ) → EndAt k n m c z → ⊥
+  pub none : (e.kind ≡ OutOfMemory → ⊥) → (z : List ℕ) → MakeUpTo k n m c z → ⊥
   pub moved : e.moved ≡ true
   pub too_deep : e.kind ≡ StackOverflow → IsDeepWithin k n m c
   pub deep : (e.kind ≡ OutOfMemory → ⊥) → IsDeepWithin k n m c → e.kind ≡ StackOverflow

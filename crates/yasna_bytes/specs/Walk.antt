@@ -11,7 +11,7 @@ use Rattle.yasna_base.specs.declared.mode.BERMode.{BERMode}
 use Rattle.yasna_base.specs.declared.tag.PCBit.{PCBit}
 use Rattle.yasna_base.specs.declared.tag.Tag.{Tag}
 use Rattle.yasna_bytes.specs.Front.{Stands}
-use Rattle.yasna_bytes.specs.Header.{AnyBit, HasHeader, EndsAt, EndsBefore, contents_end}
+use Rattle.yasna_bytes.specs.Header.{AnyBit, HasHeader, NoEnd, EndsBefore, contents_end}
 use Rattle.yasna_bytes.specs.declared.bytes.header.Opened.{Opened}
 use Rattle.yasna_bytes.specs.declared.bytes.header.Refusal.{Refusal}
 use Rattle.yasna_bytes.specs.declared.bytes.walk.RawElement.{RawElement}
@@ -65,15 +65,15 @@ pub record Enters (m : BERMode) (n : ℕ) (s c : List ℕ) (e : ContentsEnd) : T
 
 -- neither the end of contents that end so stands there nor an element
 pub record Stops (m : BERMode) (n : ℕ) (e : ContentsEnd) (s : List ℕ) (k : ASN1ErrorKind) : Type 0 where
-  pub open_end : EndsAt e s → ⊥
+  pub no_end : NoEnd e s
   pub none : NoHeader m n s
   pub deep : k ≡ StackOverflow ↔ HasNoLevel n s
   pub no_memory : k ≡ OutOfMemory → ⊥
 
--- y is where contents end, and r are left of y behind that
-abbrev pub EndsHere : ContentsEnd → List ℕ → List ℕ → Type 0
-EndsHere (counted a) y r = (y ≡ []) × (r ≡ [])
-EndsHere uncounted y r = y ≡ 0 ∷ 0 ∷ r
+-- y is where contents end, and r are left of y behind that, without what follows contents whose length is counted
+abbrev pub EndsWithin : ContentsEnd → List ℕ → List ℕ → Type 0
+EndsWithin (counted a) y r = (y ≡ []) × (r ≡ [])
+EndsWithin uncounted y r = y ≡ 0 ∷ 0 ∷ r
 
 -- the contents behind a header are looked into, or the element is passed
 abbrev pub TurnsTo : BERMode → Opened → Turn → Type 0
@@ -83,7 +83,7 @@ TurnsTo m o (Entered x) = (x ≡ o) × LooksUpTo m x.bit (contents_end x.after)
 
 -- what stands at a place in contents that end so
 abbrev pub TurnOf : BERMode → ℕ → ContentsEnd → List ℕ → Result Turn ASN1ErrorKind → Type 0
-TurnOf m n e s (Ok (Left a)) = EndsHere e s a.now
+TurnOf m n e s (Ok (Left a)) = EndsWithin e s a.now
 TurnOf m n e s (Ok (Passed a)) = Passes m n s a.now
 TurnOf m n e s (Ok (Entered o)) = Enters m n s o.within.now (contents_end o.after)
 TurnOf m n e s (Err k) = Stops m n e s k

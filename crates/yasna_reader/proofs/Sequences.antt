@@ -15,13 +15,13 @@ use Rattle.yasna_base.proofs.Header.{opens_begins, header_of, end_behind}
 use Rattle.yasna_base.proofs.Lists.{append_same}
 use Rattle.yasna_bytes.specs.declared.bytes.header.Refusal.{Refusal}
 use Rattle.yasna_base.specs.Header.{ContentsEnd, OpensAt}
-use Rattle.yasna_bytes.specs.Header.{EndsAt, EndsBefore, RefusesHeader, OnlyConstructed}
+use Rattle.yasna_bytes.specs.Header.{EndsBefore, RefusesHeader, OnlyConstructed}
 use Rattle.yasna_reader.specs.Parse.{unless_kept}
 use Rattle.yasna_reader.specs.Sequence.{place_in, Fails, Left, Entered, NotEntered, EntersUnlessKept, ReadsParts}
 use Rattle.yasna_reader.specs.Decodes.{Tells, KeptTells, NotTook, IsQuietAtEnd, Decodes, NotContents, TookContents, DecodesContents}
 use Rattle.yasna_reader.specs.State.{Reading, IsFresh, inside, untagged, refusing, tag_of, Does}
 use Rattle.yasna_bytes.proofs.Refusal.{plain_not_memory, plain_of, at_end_elsewhere, not_at_end}
-use Rattle.yasna_bytes.proofs.Ending.{closed, ends_at}
+use Rattle.yasna_bytes.proofs.Ending.{closed}
 use Rattle.yasna_bytes.proofs.Header.{element_header}
 
 module _ {A : Type 0} (P Q : Does A) (says : (s : Reading) (r : Result A ASN1Error) (s' : Reading) → IsFresh s → P s r s' → Q s r s') where
@@ -115,9 +115,9 @@ module _ {A : Type 0} (asks : Bool) (C : Grammar A) (S : Members) (t : Tag) (not
   settled c after o l None (Ok v) left x r s' (inr h) = kept_failure c after o h.error (λ q d y u i j k.
       let f = x.ends d y i (end_behind after y u j) k in
       let g : x.took.rest ≡ y = append_same x.took.front x.took.rest y (sym x.took.joined ∙ i ∙ ap (λ z. z ++ y) f) in
-      elim h.open_end [
+      elim h.no_end [
         | inl before ↦ omega (arith, before, ap length x.took.joined, length-append x.took.front x.took.rest, ap (λ (z : Reading). length z.left) x.took.left)
-        | inr wrong ↦ wrong (subst (λ z. EndsAt after z) (sym (left_behind c left v x ∙ g)) (ends_at after y u j))
+        | inr wrong ↦ wrong u (subst (λ z. EndsBefore after z u) (sym (left_behind c left v x ∙ g)) j)
       ]) (λ q. absurd (plain_not_memory h.plain q)) r s' h.fails
 
   refused_at : (k : Refusal) → RefusesHeader OnlyConstructed s.mode s.levels t s.left k →

@@ -16,14 +16,14 @@ use Rattle.yasna_base.specs.Raw.{RawValue}
 use Rattle.yasna_base.specs.Set.{SetElements}
 use Rattle.yasna_base.proofs.Header.{header_of, end_behind}
 use Rattle.yasna_reader.specs.declared.set.SetElement.{SetElement}
-use Rattle.yasna_bytes.specs.Header.{EndsAt, OnlyConstructed}
+use Rattle.yasna_bytes.specs.Header.{OnlyConstructed}
 use Rattle.yasna_reader.specs.Sequence.{EntersUnlessKept, Left, ReadsParts, place_in}
 use Rattle.yasna_reader.specs.Set.{IsSetList, NotSetList, RunsOnSet, SetReading, all_taken}
 use Rattle.yasna_reader.specs.SetLaws.{GaveOfAll, IsElementOf, ReadsSet, RefusesSet, RunOnValues, TakesSet, elements_bytes}
 use Rattle.yasna_reader.specs.State.{Reading, inside, tag_of, untagged}
 use Rattle.yasna_bytes.proofs.Header.{element_header}
 use Rattle.yasna_reader.proofs.Sequences.{around, place_behind, within}
-use Rattle.yasna_bytes.proofs.Ending.{closed, ends_at}
+use Rattle.yasna_bytes.proofs.Ending.{closed}
 use Rattle.yasna_reader.proofs.SetLaws.{all_one, lists_are_one, lists_are_sets, order_of_same, same_bytes, sets_are_listed, values_of_same}
 
 module _ {F A : Type 0} (g : Once F (MutBor SetReading × Unit {0}) (Result A ASN1Error × (MutBor SetReading × Unit {0}))) (f : F) where
@@ -104,9 +104,9 @@ module _ {F A : Type 0} (g : Once F (MutBor SetReading × Unit {0}) (Result A AS
     not_refused d y j rest ends (Ok w) z m v i None n e s' (inl h) = let a = h.answer in absurd (cc)
     not_refused d y j rest ends (Ok w) z m v i None n e s' (inr h) =
         let at : place_in c z ≡ y = ap (λ u. place_in c u) m ∙ ap (λ u. place_in u y) j ∙ place_behind d y in
-        elim h.open_end [
+        elim h.no_end [
           | inl before ↦ omega (arith, before, ap length j, length-append d y, ap length m)
-          | inr wrong ↦ wrong (subst (λ u. EndsAt after u) (sym at) (ends_at after y rest ends))
+          | inr wrong ↦ wrong rest (subst (λ u. EndsBefore after u rest) (sym at) ends)
         ]
 
     -- where the contents are those of a SET, the callback was run on its elements

@@ -8,7 +8,7 @@ use Rattle.yasna_base.specs.declared.error.ASN1ErrorKind.{ASN1ErrorKind}
 use Rattle.yasna_base.specs.declared.tag.PCBit.TheVariants.{Constructed}
 use Rattle.yasna_base.specs.declared.tag.Tag.{Tag}
 use Rattle.yasna_base.specs.Header.{ContentsEnd, OpensAt}
-use Rattle.yasna_bytes.specs.Header.{OnlyConstructed, RefusesHeader, EndsAt, EndsBefore}
+use Rattle.yasna_bytes.specs.Header.{OnlyConstructed, RefusesHeader, EndsBefore, NoEnd}
 use Rattle.yasna_bytes.specs.Refusal.{BlamesBytes}
 use Rattle.yasna_reader.specs.State.{Reading, failing, inside, refusing, tag_of, untagged, Does}
 use Rattle.yasna_bytes.specs.declared.bytes.header.Refusal.{Refusal}
@@ -44,7 +44,7 @@ pub record Fails {A : Type 0} (e : ASN1Error) (s : Reading) (r : Result A ASN1Er
 -- contents end where a callback left n bytes of them, and r follows the element, or they don't end there
 abbrev pub ClosesFrom : ContentsEnd → List ℕ → ℕ → Result (Bor (List ℕ)) ASN1ErrorKind → Type 0
 ClosesFrom end c n (Ok r) = (n ≤ length c) × EndsBefore end (drop (length c - n) c) r.now
-ClosesFrom end c n (Err k) = BlamesBytes k × ((length c < n) ⊎ (EndsAt end (drop (length c - n) c) → ⊥))
+ClosesFrom end c n (Err k) = BlamesBytes k × ((length c < n) ⊎ NoEnd end (drop (length c - n) c))
 
 -- contents end where the callback left them, and the rest is left
 pub record Closes {A : Type 0} (end : ContentsEnd) (c y : List ℕ) (v : A) (s : Reading) (r : Result A ASN1Error) (s' : Reading) : Type 0 where
@@ -58,7 +58,7 @@ pub record Closes {A : Type 0} (end : ContentsEnd) (c y : List ℕ) (v : A) (s :
 pub record StaysOpen {A : Type 0} (end : ContentsEnd) (c y : List ℕ) (s : Reading) (r : Result A ASN1Error) (s' : Reading) : Type 0 where
   pub error : ASN1Error
   pub plain : BlamesBytes (kind_of error)
-  pub open_end : IsBefore c y ⊎ (EndsAt end (place_in c y) → ⊥)
+  pub no_end : IsBefore c y ⊎ NoEnd end (place_in c y)
   pub fails : Fails error s r s'
 
 -- what is made of a callback's answer: first the failure that it kept, then its own Err, then whether the contents end

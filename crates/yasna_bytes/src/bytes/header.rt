@@ -1,9 +1,9 @@
 //! The header of an element: identifier, length, and the cut of the contents (X.690, 8.1 and 9.1).
-ghost use Rattle.std.specs.Prelude.{◌≡◌, IsTrue, ◌↔◌};
+ghost use Rattle.std.specs.Prelude.{◌≡◌, IsTrue, ◌↔◌, MatchOption};
 ghost use Rattle.yasna_base.specs.Element.{TakesDefinite, TakesIndefinite};
 ghost use Rattle.yasna_bytes.specs.Refusal.{BlamesBytes};
 ghost use Rattle.yasna_base.specs.Header.{uncounted};
-ghost use Rattle.yasna_bytes.specs.Header.{ContentsAt, OpenedAt, ConstructedAt, PrimitiveAt, ClosesAt, contents_end};
+ghost use Rattle.yasna_bytes.specs.Header.{ContentsAt, OpenedAt, ConstructedAt, PrimitiveAt, EndsBefore, NoEnd, ClosesAt, contents_end};
 
 use crate::bytes::cursor::Cursor;
 use crate::bytes::length::{cut, read_length};
@@ -186,45 +186,44 @@ pub fn primitive(cursor: Cursor<'_>, tag: Tag) -> Result<(&[u8], &[u8]), Refusal
 pub fn close<'a>(after: Option<&'a [u8]>, rest: &'a [u8]) -> Result<&'a [u8], ASN1ErrorKind>
     ensures { ClosesAt (contents_end after.entry) rest.now result }
 {
-    let Some(after) = after else {
-        return end_of_contents(rest);
-    };
-    if rest.is_empty() {
-        Ok(after)
-    } else {
-        Err(ASN1ErrorKind::Extra)
+    match after {
+        Some(after) => {
+            if rest.is_empty() {
+                Ok(after)
+            } else {
+                Err(ASN1ErrorKind::Extra)
+            }
+        }
+        None => match end_of_contents(rest) {
+            Some(after) => Ok(after),
+            None => Err(end_of_contents_fault(rest)),
+        },
     }
 }
 
-// What follows the two zeros that end contents of indefinite length.
+/// What follows the end-of-contents octets (X.690, 8.1.5), where they stand at the front.
 #[inline(always)]
-fn end_of_contents(s: &[u8]) -> Result<&[u8], ASN1ErrorKind>
-    ensures { ClosesAt uncounted s.now result }
+pub fn end_of_contents(s: &[u8]) -> Option<&[u8]>
+    ensures { MatchOption result (NoEnd uncounted s.now) (λ after. EndsBefore uncounted s.now after.now) }
 {
-    let Some((first, rest)) = s.split_first() else {
-        return Err(ASN1ErrorKind::Eof);
-    };
-    if *first != 0 {
-        return Err(end_fault(s));
-    }
-    let Some((second, after)) = rest.split_first() else {
-        return Err(ASN1ErrorKind::Eof);
-    };
-    if *second == 0 {
-        Ok(after)
-    } else {
-        Err(ASN1ErrorKind::Invalid)
+    match s {
+        [0, 0, after @ ..] => Some(after),
+        _ => None,
     }
 }
 
-// Of what kind the refusal is where contents of indefinite length go on with something else.
+/// Of what kind the refusal is where they don't.
 #[cold]
 #[inline(never)]
-fn end_fault(s: &[u8]) -> ASN1ErrorKind
+pub fn end_of_contents_fault(s: &[u8]) -> ASN1ErrorKind
     ensures { BlamesBytes result }
 {
-    match read_identifier(s) {
-        Ok(_) => ASN1ErrorKind::Invalid,
-        Err(kind) => kind,
+    match s {
+        [] | [0] => ASN1ErrorKind::Eof,
+        [0, ..] => ASN1ErrorKind::Invalid,
+        _ => match read_identifier(s) {
+            Ok(_) => ASN1ErrorKind::Invalid,
+            Err(kind) => kind,
+        },
     }
 }

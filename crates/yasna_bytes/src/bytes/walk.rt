@@ -4,12 +4,14 @@
 //! bytes behind each element that it is in, and takes no memory.
 ghost use Rattle.std.specs.Prelude.{IsTrue, ◌↔◌, ◌≡◌, ◌≤◌, ◌-◌, ◌++◌, length, take, drop, MatchOption, Err};
 ghost use Rattle.yasna_base.specs.Raw.{LooksInto, IsPayload};
-ghost use Rattle.yasna_bytes.specs.Header.{EndsAt, contents_end};
+ghost use Rattle.yasna_bytes.specs.Header.{NoEnd, contents_end};
 ghost use Rattle.yasna_bytes.specs.Refusal.{BlamesBytes};
-ghost use Rattle.yasna_bytes.specs.Walk.{IsEndByte, AnyOpenedAt, EndsHere, TurnsTo, TurnOf, TakesEnd, IsWalked, WalksTo, FollowsAt, following, IsRest, HasRest, RawElementAt};
+ghost use Rattle.yasna_bytes.specs.Walk.{IsEndByte, AnyOpenedAt, EndsWithin, TurnsTo, TurnOf, TakesEnd, IsWalked, WalksTo, FollowsAt, following, IsRest, HasRest, RawElementAt};
 
 use crate::bytes::cursor::Cursor;
-use crate::bytes::header::{Opened, Refusal, contents, refuse};
+use crate::bytes::header::{
+    Opened, Refusal, contents, end_of_contents, end_of_contents_fault, refuse,
+};
 use yasna_base::bytes::identifier::read_identifier;
 use yasna_base::error::ASN1ErrorKind;
 use yasna_base::mode::BERMode;
@@ -86,32 +88,27 @@ fn open_any(cursor: Cursor<'_>) -> Result<(Tag, Opened<'_>), Refusal>
     }
 }
 
-// What is left of these bytes behind the end of contents that end here.
+// What is left of these bytes behind contents, where those end here.
 #[inline(always)]
-fn ended<'a>(end: Option<&[u8]>, rest: &'a [u8]) -> Option<&'a [u8]>
-    ensures { MatchOption result (EndsAt (contents_end end.entry) rest.now → ⊥) (λ a. EndsHere (contents_end end.entry) rest.now a.now) }
+fn left_behind<'a>(end: Option<&[u8]>, rest: &'a [u8]) -> Option<&'a [u8]>
+    ensures { MatchOption result (NoEnd (contents_end end.entry) rest.now) (λ a. EndsWithin (contents_end end.entry) rest.now a.now) }
 {
     match end {
         Some(_) => { if rest.is_empty() { Some(rest) } else { None } }
-        None => match rest {
-            [0, 0, after @ ..] => Some(after),
-            _ => None,
-        },
+        None => end_of_contents(rest),
     }
 }
 
-// Of what kind the refusal is where the end of contents, which isn't one, or nothing stands in an element.
+// Of what kind the refusal is where they don't, and nothing is left or the tag of the end-of-contents octets stands there:
+// within contents whose length is counted that tag is invalid.
 #[cold]
 #[inline(never)]
-fn end_fault(end: Option<&[u8]>, rest: &[u8]) -> ASN1ErrorKind
+fn stray_end_fault(end: Option<&[u8]>, rest: &[u8]) -> ASN1ErrorKind
     ensures { BlamesBytes result }
 {
     match end {
         Some(_) => ASN1ErrorKind::Invalid,
-        None => match rest {
-            [] | [0] => ASN1ErrorKind::Eof,
-            _ => ASN1ErrorKind::Invalid,
-        },
+        None => end_of_contents_fault(rest),
     }
 }
 
@@ -143,9 +140,9 @@ fn take_turn<'a>(cursor: Cursor<'a>, end: Option<&[u8]>) -> Result<Turn<'a>, ASN
             if refusal.moved {
                 return Err(refusal.kind);
             }
-            match ended(end, cursor.left) {
+            match left_behind(end, cursor.left) {
                 Some(after) => Ok(Turn::Left(after)),
-                None => Err(end_fault(end, cursor.left)),
+                None => Err(stray_end_fault(end, cursor.left)),
             }
         }
     }

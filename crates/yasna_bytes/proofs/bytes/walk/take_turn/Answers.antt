@@ -16,4 +16,4 @@ returns-in-None c =
     let w = c.in-Err.ensures {u = tt} in
     let a : AtEnd c.args.cursor.left.now = w.moved.0 c.if-refusal.false in
     stops_at_end c.args.cursor.mode c.args.cursor.levels (contents_end c.args.end) c.args.cursor.left.now _ (c.in-None.ensures {u = tt}) a
-    c.end_fault.ensures
+    c.stray_end_fault.ensures

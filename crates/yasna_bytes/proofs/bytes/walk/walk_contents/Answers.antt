@@ -1,6 +1,6 @@
 use Rattle.std.proofs.Common.{rules, ◌∙◌, ◌-◌, take, sym, ap, set, get_or, length-set, arith, refl, subst, ◌≡◌, ◌+◌, ◌≤◌, length}
 use Rattle.yasna_bytes.specs.Header.{EndsBefore, contents_end}
-use Rattle.yasna_bytes.specs.Walk.{Passes, Enters, EndsHere, Stops}
+use Rattle.yasna_bytes.specs.Walk.{Passes, Enters, EndsWithin, Stops}
 use Rattle.yasna_bytes.proofs.Table.{Walking, walking_start, left_fits, left_counts, passed_fits, entered_fits, ends_outermost, left_walked, left_keeps, passed_keeps, entered_keeps, not_walked}
 use Rattle.yasna_bytes.proofs.bytes.walk.walk_contents.Goals as goal
 
@@ -11,7 +11,7 @@ pub returns-then-levels-cursor : goal.returns-then-levels-cursor
 returns-then-levels-cursor c =
     let w = c.loop-after.invariant.1 in
     let b = c.within.ensures in
-    let x : EndsHere (contents_end c.args.end) c.within.result.left.now c.in-Ok-Left.after.now = search rules in
+    let x : EndsWithin (contents_end c.args.end) c.within.result.left.now c.in-Ok-Left.after.now = search rules in
     let y : EndsBefore (contents_end c.args.end) c.within.result.left.now c.unwrap_or.result.now =
     subst (λ a. EndsBefore (contents_end c.args.end) c.within.result.left.now a.now) (sym c.unwrap_or.ensures)
     (ends_outermost c.args.end c.within.result.left.now c.in-Ok-Left.after x) in
@@ -21,7 +21,7 @@ pub all_but-left-requires : goal.all_but-left-requires
 all_but-left-requires c =
     let w = c.loop-after.invariant.1 in
     let b = c.within.ensures in
-    let x : EndsHere (contents_end c.args.end) c.within.result.left.now c.in-Ok-Left.after.now = search rules in
+    let x : EndsWithin (contents_end c.args.end) c.within.result.left.now c.in-Ok-Left.after.now = search rules in
     let z = left_keeps w b.mode b.levels b.left c.in-Ok-Left.after.now c.last-rest.result.now _ c.if-levels-cursor.false x c.last-rest.ensures refl in
     subst (λ i. get_or c.loop-after.outer i 0 ≤ length c.last-rest.result.now) (sym c.from.ensures) z.0
 
@@ -29,7 +29,7 @@ pub loop-after-smaller-in-Ok-Left : goal.loop-after-smaller-in-Ok-Left
 loop-after-smaller-in-Ok-Left c =
     let w = c.loop-after.invariant.1 in
     let b = c.within.ensures in
-    let x : EndsHere (contents_end c.args.end) c.within.result.left.now c.in-Ok-Left.after.now = search rules in
+    let x : EndsWithin (contents_end c.args.end) c.within.result.left.now c.in-Ok-Left.after.now = search rules in
     let l = left_fits w b.mode b.levels b.left c.in-Ok-Left.after.now x in
     let f = subst (λ i. c.all_but-left.result.now ≡ take (length c.last-rest.result.now - get_or c.loop-after.outer i 0) c.last-rest.result.now) c.from.ensures
     c.all_but-left.ensures in
@@ -41,7 +41,7 @@ pub loop-after-preserved-in-Ok-Left : goal.loop-after-preserved-in-Ok-Left
 loop-after-preserved-in-Ok-Left c =
     let i = c.loop-after.invariant in
     let b = c.within.ensures in
-    let x : EndsHere (contents_end c.args.end) c.within.result.left.now c.in-Ok-Left.after.now = search rules in
+    let x : EndsWithin (contents_end c.args.end) c.within.result.left.now c.in-Ok-Left.after.now = search rules in
     let f = subst (λ i. c.all_but-left.result.now ≡ take (length c.last-rest.result.now - get_or c.loop-after.outer i 0) c.last-rest.result.now) c.from.ensures
     c.all_but-left.ensures in
     let z = left_keeps i.1 b.mode b.levels b.left c.in-Ok-Left.after.now c.last-rest.result.now c.all_but-left.result.now c.if-levels-cursor.false x
