@@ -1,5 +1,5 @@
 -- Headers at the front of bytes: what stands there as an identifier and a length were read or not.
-use Rattle.std.proofs.Common.{◌≡◌, ℕ, ◌^◌, ◌<◌, ◌≤◌, List, ◌∷◌, ◌++◌, length, length-append, append_assoc, Option, Some, None, true, refl, sym, ap, subst, ◌∙◌, arith}
+use Rattle.std.proofs.Common.{◌≡◌, ℕ, ◌^◌, ◌<◌, ◌≤◌, List, ◌∷◌, ◌++◌, length, length-append, append_assoc, Option, Some, None, Result, Ok, Err, true, refl, sym, ap, subst, ◌∙◌, arith}
 use Rattle.yasna_base.specs.declared.mode.BERMode.{BERMode}
 use Rattle.yasna_base.specs.declared.tag.Tag.{Tag}
 use Rattle.yasna_base.specs.declared.tag.PCBit.{PCBit}
@@ -12,25 +12,32 @@ use Rattle.yasna_base.proofs.Identifier.{identifier_exact}
 use Rattle.yasna_base.proofs.Length.{length_exact, length_not_indefinite}
 use Rattle.yasna_base.proofs.Element.{definite_then, indefinite_then}
 use Rattle.yasna_base.proofs.Header.{opens_begins}
+use Rattle.yasna_bytes.specs.declared.bytes.header.Opened.{Opened}
 use Rattle.yasna_bytes.specs.declared.bytes.header.Refusal.{Refusal}
 use Rattle.yasna_bytes.specs.Refusal.{BlamesBytes, IsTooDeep, Refuses}
 use Rattle.yasna_bytes.specs.Length.{Measures}
 use Rattle.yasna_bytes.specs.Front.{Takes, Stands}
 use Rattle.yasna_base.specs.Header.{ContentsEnd, counted, uncounted, Counts, OpensAt}
-use Rattle.yasna_bytes.specs.Header.{Holds, HasHeader, AnyBit, OnlyConstructed, RefusesHeader, AreContents}
+use Rattle.yasna_bytes.specs.Header.{contents_end, Holds, HeldBehind, NotHeld, too_deep, no_contents, BehindAt, OpenedAt, HasHeader, AnyBit, OnlyConstructed, RefusesHeader, AreContents}
 use Rattle.yasna_base.proofs.Digits.{bytes_behind, bytes_front}
-use Rattle.yasna_bytes.proofs.Refusal.{stood_refuses, refuses_less}
+use Rattle.yasna_bytes.proofs.Refusal.{deep_refuses, stood_refuses, refuses_less}
 
 -- a header that a refusal speaks of begins with its identifier
 pub header_begins : {P : PCBit → Type 0} {m : BERMode} {n : ℕ} {t : Tag} {s : List ℕ} → HasHeader P m n t s → BeginsWithTag t s
 header_begins x = begins x.bit x.behind x.joined
 
 -- the identifier stands there within the levels, and no contents behind it
-pub wanted_refuses : (P : PCBit → Type 0) (m : BERMode) (n : ℕ) (t : Tag) (s : List ℕ) (e : Refusal) (p : PCBit) (y : List ℕ) → s ≡ identifier t p ++ y →
+wanted_refuses : (P : PCBit → Type 0) (m : BERMode) (n : ℕ) (t : Tag) (s : List ℕ) (e : Refusal) (p : PCBit) (y : List ℕ) → s ≡ identifier t p ++ y →
     1 ≤ n → BlamesBytes e.kind → e.moved ≡ true → ((c : List ℕ) (f : ContentsEnd) → P p → Holds m p y c f → ⊥) → RefusesHeader P m n t s e
 wanted_refuses P m n t s e p y f l k o w = stood_refuses (HasHeader P m n t s) n t s e (begins p y f) l k o (λ x.
     let i = identifier_exact t t x.bit p x.behind y (sym x.joined ∙ f) in
     w x.contents x.end (subst P i.1 x.allowed) (subst (λ z. Holds m p z x.contents x.end) i.2 (subst (λ q. Holds m q x.behind x.contents x.end) i.1 x.holds)))
+
+-- the identifier stands there, and nothing behind it that is taken
+not_held_refuses : (m : BERMode) (n : ℕ) (t : Tag) (s : List ℕ) (e : Refusal) (p : PCBit) (y : List ℕ) → s ≡ identifier t p ++ y → e.moved ≡ true →
+    NotHeld m n p y e.kind → RefusesHeader AnyBit m n t s e
+not_held_refuses m n t s e p y f o (too_deep z k) = deep_refuses (HasHeader AnyBit m n t s) n t s e (λ x. x.level) (begins p y f) z k o
+not_held_refuses m n t s e p y f o (no_contents l k w) = wanted_refuses AnyBit m n t s e p y f l k o (λ c g _. w c g)
 
 -- an element with the tag stands there, and isn't constructed
 pub other_bit : (m : BERMode) (n : ℕ) (t : Tag) (q : PCBit) (s d : List ℕ) (o : ContentsEnd) (e : Refusal) → OpensAt m t q s d o → q ≡ Primitive → 1 ≤ n →
@@ -82,7 +89,7 @@ holds_bytes m p y c (counted r) b h = bytes_front c r (bytes_behind h.0 (c ++ r)
 holds_bytes m p y c uncounted b h = (subst IsBytes h.1 b).1
 
 -- an identifier, and contents behind it, are a header
-pub opened : (m : BERMode) (t : Tag) (p : PCBit) (s y c : List ℕ) (f : ContentsEnd) → t.tag_number < 2 ^ 64 → s ≡ identifier t p ++ y → IsBytes c →
+opened : (m : BERMode) (t : Tag) (p : PCBit) (s y c : List ℕ) (f : ContentsEnd) → t.tag_number < 2 ^ 64 → s ≡ identifier t p ++ y → IsBytes c →
     Holds m p y c f → OpensAt m t p s c f
 opened m t p s y c (counted r) i e b h = record {
   in_range = i;
@@ -93,6 +100,17 @@ opened m t p s y c (counted r) i e b h = record {
   joined = e ∙ ap (λ z. identifier t p ++ z) h.3;
 }
 opened m t p s y c uncounted i e b h = record { in_range = i; in_bytes = b; taken = h.0; joined = e ∙ ap (λ z. identifier t p ++ z) h.1 }
+
+pub held_opens : (m : BERMode) (n : ℕ) (t : Tag) (p : PCBit) (s y : List ℕ) (o : Opened) → t.tag_number < 2 ^ 64 → s ≡ identifier t p ++ y →
+    HeldBehind m n p y o → OpensAt m t o.bit s o.within.now (contents_end o.after)
+held_opens m n t p s y o i e h =
+    subst (λ q. OpensAt m t q s o.within.now (contents_end o.after)) (sym h.bit) (opened m t p s y o.within.now (contents_end o.after) i e h.in_bytes h.holds)
+
+-- where an identifier stands, its header does as what is behind it is taken
+pub behind_opens : (m : BERMode) (n : ℕ) (t : Tag) (s : List ℕ) (p : PCBit) (y : List ℕ) → t.tag_number < 2 ^ 64 → s ≡ identifier t p ++ y →
+    (r : Result Opened Refusal) → BehindAt m n p y r → OpenedAt m n t s r
+behind_opens m n t s p y i e (Ok o) h = (h.level, held_opens m n t p s y o i e h)
+behind_opens m n t s p y i e (Err r) h = not_held_refuses m n t s r p y e h.0 h.1
 
 -- the bytes behind an identifier, and the contents that they hold
 pub record HeaderThere (m : BERMode) (t : Tag) (p : PCBit) (s : List ℕ) : Type 0 where

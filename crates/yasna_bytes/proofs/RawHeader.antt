@@ -11,7 +11,7 @@ use Rattle.yasna_base.specs.Identifier.{identifier, end_tag, begins, StartsEleme
 use Rattle.yasna_base.proofs.Identifier.{identifier_exact, end_identifier, identifier_short, zeros_at_end}
 use Rattle.yasna_base.proofs.Pieces.{tag_not_end}
 use Rattle.yasna_bytes.specs.declared.bytes.header.Refusal.{Refusal}
-use Rattle.yasna_bytes.specs.Header.{Holds, HasHeader, AnyBit, EndsBefore, NoEnd, contents_end}
+use Rattle.yasna_bytes.specs.Header.{Holds, NotHeld, too_deep, no_contents, HasHeader, AnyBit, EndsBefore, NoEnd, contents_end}
 use Rattle.yasna_bytes.specs.Refusal.{BlamesBytes}
 use Rattle.yasna_bytes.specs.Walk.{IsEndByte, NoHeader, NotOpened, IsOpened, TurnsTo, TurnOf, Stops}
 use Rattle.yasna_bytes.specs.declared.bytes.header.Opened.{Opened}
@@ -38,7 +38,7 @@ end_refuses m n s e a k o = record {
 }
 
 -- an element stands there and no level is left
-pub level_refuses : (m : BERMode) (n : ℕ) (s : List ℕ) (e : Refusal) → StartsElement s → n ≡ 0 → e.kind ≡ StackOverflow → e.moved ≡ true →
+level_refuses : (m : BERMode) (n : ℕ) (s : List ℕ) (e : Refusal) → StartsElement s → n ≡ 0 → e.kind ≡ StackOverflow → e.moved ≡ true →
     NotOpened m n s e
 level_refuses m n s e x z k o = record {
   none = λ t b ne h. let l = h.level in absurd (omega arith);
@@ -48,7 +48,7 @@ level_refuses m n s e x z k o = record {
 }
 
 -- an identifier stands there and no contents behind it
-pub contents_refuse : (m : BERMode) (n : ℕ) (s : List ℕ) (e : Refusal) (t : Tag) (p : PCBit) (y : List ℕ) → t.tag_number < 2 ^ 64 → (t ≡ end_tag → ⊥) →
+contents_refuse : (m : BERMode) (n : ℕ) (s : List ℕ) (e : Refusal) (t : Tag) (p : PCBit) (y : List ℕ) → t.tag_number < 2 ^ 64 → (t ≡ end_tag → ⊥) →
     s ≡ identifier t p ++ y → 1 ≤ n → BlamesBytes e.kind → e.moved ≡ true → ((c : List ℕ) (f : ContentsEnd) → Holds m p y c f → ⊥) → NotOpened m n s e
 contents_refuse m n s e t p y b ne f l k o w = record {
   none = λ u _ _ h.
@@ -58,6 +58,13 @@ contents_refuse m n s e t p y b ne f l k o w = record {
   deep = (λ d. absurd (plain_not_deep k d), λ d. let z = d.0 in absurd (omega arith));
   no_memory = plain_not_memory k;
 }
+
+-- an identifier stands there, and nothing behind it that is taken
+pub not_held_opens : (m : BERMode) (n : ℕ) (s : List ℕ) (e : Refusal) (t : Tag) (p : PCBit) (y : List ℕ) → t.tag_number < 2 ^ 64 → (t ≡ end_tag → ⊥) →
+    s ≡ identifier t p ++ y → e.moved ≡ true → NotHeld m n p y e.kind → NotOpened m n s e
+not_held_opens m n s e t p y b ne f o (too_deep z k) =
+    level_refuses m n s e (record { tag = t; in_range = b; not_end = ne; begins = begins p y f }) z k o
+not_held_opens m n s e t p y b ne f o (no_contents l k w) = contents_refuse m n s e t p y b ne f l k o w
 
 -- a walk stops where contents don't end and no header stands
 stops : (m : BERMode) (n : ℕ) (e : ContentsEnd) (s : List ℕ) (r : Refusal) → NoEnd e s → NotOpened m n s r → Stops m n e s r.kind

@@ -1,6 +1,6 @@
 -- Headers at the front of bytes, and where contents end (X.690, 8.1).
 use Rattle.std.specs.Borrow.{Bor}
-use Rattle.std.specs.Prelude.{◌≡◌, ℕ, ◌≤◌, List, ◌∷◌, ◌++◌, length, Option, Some, None, Result, Ok, Err}
+use Rattle.std.specs.Prelude.{◌≡◌, ℕ, ◌≤◌, List, ◌∷◌, ◌++◌, length, Option, Some, None, Result, Ok, Err, true}
 use Rattle.yasna_base.specs.Digits.{IsBytes}
 use Rattle.yasna_base.specs.Element.{TakesDefinite, TakesIndefinite, IsPrimitive}
 pub use Rattle.yasna_base.specs.Header.{EndsBefore}
@@ -8,6 +8,7 @@ use Rattle.yasna_base.specs.Header.{ContentsEnd, counted, uncounted, OpensAt}
 use Rattle.yasna_base.specs.Identifier.{identifier}
 use Rattle.yasna_base.specs.Length.{SpellsLength}
 use Rattle.yasna_base.specs.declared.error.ASN1ErrorKind.{ASN1ErrorKind}
+use Rattle.yasna_base.specs.declared.error.ASN1ErrorKind.TheVariants.{StackOverflow}
 use Rattle.yasna_base.specs.declared.mode.BERMode.{BERMode}
 use Rattle.yasna_base.specs.declared.tag.PCBit.{PCBit}
 use Rattle.yasna_base.specs.declared.tag.PCBit.TheVariants.{Constructed}
@@ -31,6 +32,23 @@ contents_end None = uncounted
 abbrev pub ContentsAt : BERMode → PCBit → List ℕ → Result (Bor (List ℕ) × Option (Bor (List ℕ))) ASN1ErrorKind → Type 0
 ContentsAt m p y (Ok x) = IsBytes x.0.now × Holds m p y x.0.now (contents_end x.1)
 ContentsAt m p y (Err k) = BlamesBytes k × ((c : List ℕ) (f : ContentsEnd) → Holds m p y c f → ⊥)
+
+-- the contents behind an identifier with the bit p were cut off, and a level is left for the element
+pub record HeldBehind (m : BERMode) (n : ℕ) (p : PCBit) (y : List ℕ) (o : Opened) : Type 0 where
+  pub level : 1 ≤ n
+  pub bit : o.bit ≡ p
+  pub in_bytes : IsBytes o.within.now
+  pub holds : Holds m p y o.within.now (contents_end o.after)
+
+-- no level is left for the element, or no contents stand behind its identifier
+pub data NotHeld (m : BERMode) (n : ℕ) (p : PCBit) (y : List ℕ) (k : ASN1ErrorKind) : Type 0 where
+  too_deep : n ≡ 0 → k ≡ StackOverflow → NotHeld m n p y k
+  no_contents : 1 ≤ n → BlamesBytes k → ((c : List ℕ) (f : ContentsEnd) → Holds m p y c f → ⊥) → NotHeld m n p y k
+
+-- what stands behind the identifier of an element with the bit p
+abbrev pub BehindAt : BERMode → ℕ → PCBit → List ℕ → Result Opened Refusal → Type 0
+BehindAt m n p y (Ok o) = HeldBehind m n p y o
+BehindAt m n p y (Err e) = (e.moved ≡ true) × NotHeld m n p y e.kind
 
 -- some header of the tag with a bit that P allows stands at the front, and a level is left for the element
 pub record HasHeader (P : PCBit → Type 0) (m : BERMode) (n : ℕ) (t : Tag) (s : List ℕ) : Type 0 where

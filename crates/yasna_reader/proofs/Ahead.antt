@@ -2,7 +2,6 @@
 use Rattle.std.proofs.Common.{◌≡◌, List, ◌++◌, refl, sym, subst, Bool, arith}
 use Rattle.std.specs.Prelude.{ℕ, None, Result, Err}
 use Rattle.yasna_base.specs.declared.error.ASN1Error.{ASN1Error}
-use Rattle.yasna_base.specs.declared.mode.BERMode.{BERMode}
 use Rattle.yasna_base.specs.declared.tag.Tag.{Tag}
 use Rattle.yasna_base.specs.Coding.{IsCoding}
 use Rattle.yasna_base.specs.Grammar.{Grammar, Members}

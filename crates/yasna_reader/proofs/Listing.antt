@@ -5,7 +5,6 @@ use Rattle.std.specs.List.{concat}
 use Rattle.std.specs.Prelude.{Result, Ok, Err, Vec, MatchResult}
 use Rattle.yasna_base.specs.declared.error.ASN1Error.{ASN1Error}
 use Rattle.yasna_base.specs.declared.error.ASN1ErrorKind.TheVariants.{OutOfMemory}
-use Rattle.yasna_base.specs.declared.mode.BERMode.{BERMode}
 use Rattle.yasna_base.specs.declared.tag.Tag.{Tag}
 use Rattle.yasna_base.specs.Coding.{IsCoding}
 use Rattle.yasna_base.specs.Element.{Enclosed}

@@ -1,6 +1,5 @@
 -- What a read under an implicit tag of the caller's does.
-use Rattle.std.specs.Prelude.{Result, Some, ◌≡◌}
-use Rattle.yasna_base.specs.declared.error.ASN1Error.{ASN1Error}
+use Rattle.std.specs.Prelude.{Some, ◌≡◌}
 use Rattle.yasna_base.specs.declared.tag.Tag.{Tag}
 use Rattle.yasna_reader.specs.Callback.{Lent, UnlessKept, answer_of}
 use Rattle.yasna_reader.specs.State.{Reading, tag_of, Does}

@@ -3,7 +3,7 @@ ghost use Rattle.std.specs.Prelude.{◌≡◌, IsTrue, ◌↔◌, MatchOption};
 ghost use Rattle.yasna_base.specs.Element.{TakesDefinite, TakesIndefinite};
 ghost use Rattle.yasna_bytes.specs.Refusal.{BlamesBytes};
 ghost use Rattle.yasna_base.specs.Header.{uncounted};
-ghost use Rattle.yasna_bytes.specs.Header.{ContentsAt, OpenedAt, ConstructedAt, PrimitiveAt, EndsBefore, NoEnd, ClosesAt, contents_end};
+ghost use Rattle.yasna_bytes.specs.Header.{ContentsAt, BehindAt, OpenedAt, ConstructedAt, PrimitiveAt, EndsBefore, NoEnd, ClosesAt, contents_end};
 
 use crate::bytes::cursor::Cursor;
 use crate::bytes::length::{cut, read_length};
@@ -108,6 +108,18 @@ pub fn open(cursor: Cursor<'_>, tag: Tag) -> Result<Opened<'_>, Refusal>
     if !is_tag(found, tag) {
         return Err(refuse(ASN1ErrorKind::Invalid, false));
     }
+    open_behind(cursor, bit, rest)
+}
+
+/// Reads what follows the identifier of an element.
+#[inline(always)]
+pub fn open_behind<'a>(
+    cursor: Cursor<'a>,
+    bit: PCBit,
+    rest: &'a [u8],
+) -> Result<Opened<'a>, Refusal>
+    ensures { BehindAt cursor.entry.mode cursor.entry.levels bit rest.now result }
+{
     if cursor.levels == 0 {
         return Err(refuse(ASN1ErrorKind::StackOverflow, true));
     }
@@ -117,9 +129,9 @@ pub fn open(cursor: Cursor<'_>, tag: Tag) -> Result<Opened<'_>, Refusal>
     }
 }
 
-/// Reads a length, and cuts off the contents that it counts.
+// Reads a length, and cuts off the contents that it counts.
 #[inline(always)]
-pub fn contents(
+fn contents(
     s: &[u8],
     mode: BERMode,
     bit: PCBit,

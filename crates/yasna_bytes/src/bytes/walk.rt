@@ -10,7 +10,7 @@ ghost use Rattle.yasna_bytes.specs.Walk.{IsEndByte, AnyOpenedAt, EndsWithin, Tur
 
 use crate::bytes::cursor::Cursor;
 use crate::bytes::header::{
-    Opened, Refusal, contents, end_of_contents, end_of_contents_fault, refuse,
+    Opened, Refusal, end_of_contents, end_of_contents_fault, open_behind, refuse,
 };
 use yasna_base::bytes::identifier::read_identifier;
 use yasna_base::error::ASN1ErrorKind;
@@ -79,12 +79,9 @@ fn open_any(cursor: Cursor<'_>) -> Result<(Tag, Opened<'_>), Refusal>
         Ok(identifier) => identifier,
         Err(kind) => return Err(refuse(kind, true)),
     };
-    if cursor.levels == 0 {
-        return Err(refuse(ASN1ErrorKind::StackOverflow, true));
-    }
-    match contents(rest, cursor.mode, bit, cursor.end) {
-        Ok((within, after)) => Ok((tag, Opened { bit, within, after })),
-        Err(kind) => Err(refuse(kind, true)),
+    match open_behind(cursor, bit, rest) {
+        Ok(opened) => Ok((tag, opened)),
+        Err(refusal) => Err(refusal),
     }
 }
 

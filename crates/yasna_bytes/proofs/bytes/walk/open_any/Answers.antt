@@ -1,9 +1,8 @@
 use Rattle.std.proofs.Common.{rules, ◌≡◌, ◌<◌, ◌++◌, ◌^◌, length, refl, arith}
-use Rattle.yasna_base.specs.Identifier.{identifier, begins, nothing}
+use Rattle.yasna_base.specs.Identifier.{identifier, nothing}
 use Rattle.yasna_base.proofs.Lists.{empty_is}
-use Rattle.yasna_bytes.specs.Header.{contents_end}
-use Rattle.yasna_bytes.proofs.Header.{opened}
-use Rattle.yasna_bytes.proofs.RawHeader.{first_at_end, first_not_end, end_refuses, level_refuses, contents_refuse}
+use Rattle.yasna_bytes.proofs.Header.{held_opens}
+use Rattle.yasna_bytes.proofs.RawHeader.{first_at_end, first_not_end, end_refuses, not_held_opens}
 use Rattle.yasna_bytes.proofs.bytes.walk.open_any.Goals as goal
 
 pub returns-in_default : goal.returns-in_default
@@ -16,35 +15,24 @@ returns-then-is_end c =
     let a = first_at_end c.args.cursor.left.now c.in-len1-up.len_at_least (search rules) in
     rw c.refuse-then-is_end.ensures (end_refuses c.args.cursor.mode c.args.cursor.levels c.args.cursor.left.now _ a tt refl)
 
-pub returns-then-cursor-eq0 : goal.returns-then-cursor-eq0
-returns-then-cursor-eq0 c =
+pub returns-in-Ok-open_behind : goal.returns-in-Ok-open_behind
+returns-in-Ok-open_behind c =
     let s = c.args.cursor.left.now in
     let found = c.in-Ok.identifier in
     let e : s ≡ identifier found.0 found.1 ++ found.2.now = search rules in
-    let b : found.0.tag_number < 2 ^ 64 = search rules in
-    let n = first_not_end s found.2.now found.0 found.1 (λ f. let z = (c.if-is_end.ensures {u = tt}).1 f in cc) e in
-    rw c.refuse-then-cursor-eq0.ensures (level_refuses c.args.cursor.mode c.args.cursor.levels s _
-    (record { tag = found.0; in_range = b; not_end = n; begins = begins found.1 found.2.now e }) c.if-cursor-eq0.true refl refl)
-
-pub returns-in-Ok-contents : goal.returns-in-Ok-contents
-returns-in-Ok-contents c =
-    let s = c.args.cursor.left.now in
-    let found = c.in-Ok.identifier in
-    let e : s ≡ identifier found.0 found.1 ++ found.2.now = search rules in
-    let b : found.0.tag_number < 2 ^ 64 = search rules in
-    let w = c.in-Ok-contents.ensures {u = tt} in
+    let h = c.in-Ok-open_behind.ensures {u = tt} in
     record {
-      level = omega (arith, c.if-cursor-eq0.false);
+      level = h.level;
       not_end = first_not_end s found.2.now found.0 found.1 (λ f. let z = (c.if-is_end.ensures {u = tt}).1 f in cc) e;
-      opens = opened c.args.cursor.mode found.0 found.1 s found.2.now c.in-Ok-contents.within.now (contents_end c.in-Ok-contents.after) b e w.0 w.1;
+      opens = held_opens c.args.cursor.mode c.args.cursor.levels found.0 found.1 s found.2.now c.in-Ok-open_behind.opened (search rules) e h;
     }
 
-pub returns-in-Err-contents : goal.returns-in-Err-contents
-returns-in-Err-contents c =
+pub returns-in-Err-open_behind : goal.returns-in-Err-open_behind
+returns-in-Err-open_behind c =
     let s = c.args.cursor.left.now in
     let found = c.in-Ok.identifier in
     let e : s ≡ identifier found.0 found.1 ++ found.2.now = search rules in
     let b : found.0.tag_number < 2 ^ 64 = search rules in
-    let w = c.in-Err-contents.ensures {u = tt} in
-    rw c.refuse-in-Err-contents.ensures (contents_refuse c.args.cursor.mode c.args.cursor.levels s _ found.0 found.1 found.2.now b
-    (first_not_end s found.2.now found.0 found.1 (λ f. let z = (c.if-is_end.ensures {u = tt}).1 f in cc) e) e (omega arith) w.0 refl w.1)
+    let w = c.in-Err-open_behind.ensures {u = tt} in
+    not_held_opens c.args.cursor.mode c.args.cursor.levels s c.in-Err-open_behind.refusal found.0 found.1 found.2.now b
+    (first_not_end s found.2.now found.0 found.1 (λ f. let z = (c.if-is_end.ensures {u = tt}).1 f in cc) e) e w.0 w.1
