@@ -7,30 +7,30 @@ use Rattle.yasna_base.specs.Canonical.{canonical_element}
 use Rattle.yasna_writer.specs.declared.draft.Beginning.{Beginning}
 use Rattle.yasna_writer.specs.declared.draft.Entry.{Entry}
 use Rattle.yasna_writer.specs.declared.draft.Mark.{Mark}
-use Rattle.yasna_writer.specs.declared.draft.Mark.TheVariants.{Waits, Known, Open}
+use Rattle.yasna_writer.specs.declared.draft.Mark.TheVariants.{Waits, Definite, Indefinite}
 use Rattle.yasna_writer.specs.declared.draft.Waiting.{Waiting}
-use Rattle.yasna_writer.specs.Header.{header_bytes, open_bytes}
+use Rattle.yasna_writer.specs.Header.{header_bytes, indefinite_header}
 
 -- an element that isn't ended has no bytes yet
-abbrev pub mark_bytes : Mark → List ℕ
-mark_bytes (Waits w) = []
-mark_bytes (Known h) = header_bytes Constructed h
-mark_bytes (Open t) = open_bytes t
+abbrev pub header_of_mark : Mark → List ℕ
+header_of_mark (Waits w) = []
+header_of_mark (Definite h) = header_bytes Constructed h
+header_of_mark (Indefinite t) = indefinite_header t
 
 -- how many elements that aren't ended a mark stands for
 abbrev pub mark_waits : Mark → ℕ
 mark_waits (Waits w) = 1
-mark_waits (Known h) = 0
-mark_waits (Open t) = 0
+mark_waits (Definite h) = 0
+mark_waits (Indefinite t) = 0
 
 -- the header of an element with parts: of a length, or of indefinite length
-abbrev pub header_mark : Tag → Option ℕ → Mark
-header_mark t (Some n) = Known (record { tag = t; length = n })
-header_mark t None = Open t
+abbrev pub mark_of : Tag → Option ℕ → Mark
+mark_of t (Some n) = Definite (record { tag = t; length = n })
+mark_of t None = Indefinite t
 
 -- the header put into the bytes at its place
 abbrev pub with_entry : Entry → List ℕ → List ℕ
-with_entry e b = take e.place b ++ (mark_bytes e.mark ++ drop e.place b)
+with_entry e b = take e.place b ++ (header_of_mark e.mark ++ drop e.place b)
 
 -- the contents with each header at its place
 abbrev pub joined : List Entry → List ℕ → List ℕ
@@ -43,9 +43,9 @@ AreInOrder k [] n = k ≤ n
 AreInOrder k (e ∷ es) n = (k ≤ e.place) × AreInOrder e.place es n
 
 -- how many bytes the headers take
-abbrev pub heads_of : List Entry → ℕ
-heads_of [] = 0
-heads_of (e ∷ es) = length (mark_bytes e.mark) + heads_of es
+abbrev pub headers_length : List Entry → ℕ
+headers_length [] = 0
+headers_length (e ∷ es) = length (header_of_mark e.mark) + headers_length es
 
 -- how many elements aren't ended
 abbrev pub waits_of : List Entry → ℕ
@@ -55,22 +55,22 @@ waits_of (e ∷ es) = mark_waits e.mark + waits_of es
 -- an element that isn't ended knows how many bytes stand in front of it, where so many of them are headers, and how many
 -- such elements there are up to it
 abbrev pub KnowsPlace : ℕ → ℕ → ℕ → Mark → Type 0
-KnowsPlace heads waits place (Waits w) = (w.start ≡ place + heads) × (w.depth ≡ waits + 1)
-KnowsPlace heads waits place (Known h) = Unit {0}
-KnowsPlace heads waits place (Open t) = Unit {0}
+KnowsPlace headers waits place (Waits w) = (w.start ≡ place + headers) × (w.depth ≡ waits + 1)
+KnowsPlace headers waits place (Definite h) = Unit {0}
+KnowsPlace headers waits place (Indefinite t) = Unit {0}
 
 -- each element knows its place
 abbrev pub KnowPlaces : ℕ → ℕ → List Entry → Type 0
-KnowPlaces heads waits [] = Unit {0}
-KnowPlaces heads waits (e ∷ es) = KnowsPlace heads waits e.place e.mark × KnowPlaces (heads + length (mark_bytes e.mark)) (waits + mark_waits e.mark) es
+KnowPlaces headers waits [] = Unit {0}
+KnowPlaces headers waits (e ∷ es) = KnowsPlace headers waits e.place e.mark × KnowPlaces (headers + length (header_of_mark e.mark)) (waits + mark_waits e.mark) es
 
 -- entries over n bytes of contents, counted
-pub record AreEntries (es : List Entry) (n heads waits : ℕ) : Type 0 where
+pub record AreEntries (es : List Entry) (n headers waits : ℕ) : Type 0 where
   pub ordered : AreInOrder 0 es n
-  pub counted : heads ≡ heads_of es
+  pub counted : headers ≡ headers_length es
   pub waiting : waits ≡ waits_of es
   pub placed : KnowPlaces 0 0 es
-  pub few : heads < 2 ^ 63
+  pub few : headers < 2 ^ 63
 
 -- at a place the element waits that began there, with no other behind it
 pub record IsInnermost (es : List Entry) (waits : ℕ) (b : Beginning) (place : ℕ) : Type 0 where

@@ -14,10 +14,10 @@ abbrev pub header_bytes : PCBit → Header → List ℕ
 header_bytes p h = identifier h.tag p ++ shortest_length h.length
 
 -- where the length is indefinite
-abbrev pub open_bytes : Tag → List ℕ
-open_bytes t = identifier t Constructed ++ (128 ∷ [])
+abbrev pub indefinite_header : Tag → List ℕ
+indefinite_header t = identifier t Constructed ++ (128 ∷ [])
 
 -- what stands in front of a payload that is written as it is
 abbrev pub raw_header : BERMode → PCBit → Header → List ℕ
-raw_header Cer Constructed h = open_bytes h.tag
+raw_header Cer Constructed h = indefinite_header h.tag
 raw_header m p h = header_bytes p h

@@ -1,4 +1,4 @@
-//! Calls that begin a writing and end it.
+//! Calls of users that begin a writing and end it, in DER (X.690, clause 10) or in CER (clause 9).
 ghost use Rattle.std.specs.Prelude.{◌≡◌, Result};
 ghost use Rattle.std.specs.Fn.{FnOnceTakesAtMut, FnOnceReturnsAtMut};
 ghost use Rattle.yasna_base.specs.declared.error.ASN1Error.{ASN1Error};
@@ -94,5 +94,5 @@ pub fn try_construct_der_seq<
 {
     let mut sequence = DERWriterSeq::over(Writer::new(alloc, BERMode::Der));
     let own = f(&mut sequence);
-    sequence.finish(own)
+    sequence.inner.finish(own)
 }

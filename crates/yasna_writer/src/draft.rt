@@ -1,5 +1,7 @@
 //! Contents, and the headers of elements with parts, which stand apart from them until all is joined.
 //!
+//! A `Writer` holds one, and alone calls it.
+//!
 //! Where an element with parts begins, an entry with no bytes marks its place; where it ends, the entry takes its
 //! header. So contents are only appended to, no header is ever moved, and how deep elements nest costs nothing. In CER the header
 //! counts no length, and two zeros are appended first (X.690, 8.1.3.6 and 9.1).
@@ -9,12 +11,12 @@ ghost use Rattle.yasna_base.specs.declared.error.ASN1ErrorKind.TheVariants.{OutO
 ghost use Rattle.yasna_base.specs.declared.mode.BERMode.TheVariants.{Cer};
 ghost use Rattle.yasna_base.specs.Digits.{base128};
 ghost use Rattle.std.specs.List.{flat_map};
-ghost use Rattle.yasna_writer.specs.Header.{header_bytes, open_bytes};
-ghost use Rattle.yasna_writer.specs.Draft.{mark_bytes, mark_waits, header_mark, with_entry, joined, AreInOrder, IsInnermost, with_element};
+ghost use Rattle.yasna_writer.specs.Header.{header_bytes, indefinite_header};
+ghost use Rattle.yasna_writer.specs.Draft.{header_of_mark, mark_waits, mark_of, with_entry, joined, AreInOrder, IsInnermost, with_element};
 
-use crate::header::{Header, append_header, append_open, header_length};
-use crate::identifier::{append, identifier_length};
-use crate::oid::append_subidentifiers;
+use crate::header::{Header, header_length, push_header, push_indefinite_header};
+use crate::identifier::{identifier_length, push_bytes};
+use crate::oid::push_subidentifiers;
 use std::alloc::{AllocError, Global};
 use std::marker::Model;
 use std::mem;
@@ -33,9 +35,9 @@ pub(crate) struct Waiting {
 #[derive(Clone, Copy)]
 pub(crate) enum Mark {
     Waits(Waiting),
-    Known(Header),
+    Definite(Header),
     // The header is that of indefinite length.
-    Open(Tag),
+    Indefinite(Tag),
 }
 
 // A place in the contents at which an element with parts begins.
@@ -63,7 +65,7 @@ pub(crate) struct Draft {
     // Contents, which are only appended to.
     contents: Vec<u8>,
     // How many bytes the headers take.
-    heads: usize,
+    headers: usize,
     // Where headers belong, by their places.
     entries: Vec<Entry>,
     // How many elements aren't ended.
@@ -78,7 +80,7 @@ impl Model for Draft {
 
     ghost view = { λ d. joined d.entries.items d.contents.items };
 
-    ghost invariant = { λ d. AreEntries d.entries.items (length d.contents.items) d.heads d.waits };
+    ghost invariant = { λ d. AreEntries d.entries.items (length d.contents.items) d.headers d.waits };
 }
 
 // Whether the element that began there is the innermost that isn't ended, and at which place.
@@ -99,55 +101,55 @@ fn innermost(entries: &[Entry], waits: usize, beginning: Beginning) -> Option<us
 }
 
 // Appends the contents with each header at its place.
-fn append_joined(out: &mut Vec<u8>, contents: &[u8], entries: &[Entry]) -> Result<(), AllocError>
+fn push_joined(out: &mut Vec<u8>, contents: &[u8], entries: &[Entry]) -> Result<(), AllocError>
     requires { AreInOrder 0 entries.now (length contents.now) }
     ensures { OnOk result (out.new.items ≡ out.old.items ++ joined entries.now contents.now) }
 {
     let mut from = 0;
     let mut rest = entries;
     while let Some((entry, tail)) = rest.split_first() {
-        append(out, &contents[from..entry.place])?;
-        append_mark(out, entry.mark)?;
+        push_bytes(out, &contents[from..entry.place])?;
+        push_header_of_mark(out, entry.mark)?;
         from = entry.place;
         rest = tail;
     }
-    append(out, &contents[from..])
+    push_bytes(out, &contents[from..])
 }
 
 // Appends a header that is known.
 #[inline(always)]
-fn append_mark(out: &mut Vec<u8>, mark: Mark) -> Result<(), AllocError>
-    ensures { OnOk result (out.new.items ≡ out.old.items ++ mark_bytes mark) }
+fn push_header_of_mark(out: &mut Vec<u8>, mark: Mark) -> Result<(), AllocError>
+    ensures { OnOk result (out.new.items ≡ out.old.items ++ header_of_mark mark) }
 {
     match mark {
         Mark::Waits(_) => Ok(()),
-        Mark::Known(header) => append_header(out, header, PCBit::Constructed),
-        Mark::Open(tag) => append_open(out, tag),
+        Mark::Definite(header) => push_header(out, header, PCBit::Constructed),
+        Mark::Indefinite(tag) => push_indefinite_header(out, tag),
     }
 }
 
 // The header of an element with parts: of this length, or of indefinite length.
 #[inline(always)]
-fn header_of(tag: Tag, length: Option<usize>) -> Mark
-    ensures mark { result ≡ header_mark tag length }
+fn mark_of(tag: Tag, length: Option<usize>) -> Mark
+    ensures mark { result ≡ mark_of tag length }
     ensures ended { mark_waits result ≡ 0 }
 {
     match length {
-        Some(length) => Mark::Known(Header { tag, length }),
-        None => Mark::Open(tag),
+        Some(length) => Mark::Definite(Header { tag, length }),
+        None => Mark::Indefinite(tag),
     }
 }
 
 // How many bytes a header takes.
 #[inline(always)]
 fn mark_length(mark: Mark) -> usize
-    ensures octets { result ≡ count (mark_bytes mark) }
+    ensures octets { result ≡ count (header_of_mark mark) }
     ensures few { result ≤ 20 }
 {
     match mark {
         Mark::Waits(_) => 0,
-        Mark::Known(header) => header_length(header.tag, header.length),
-        Mark::Open(tag) => identifier_length(tag) + 1,
+        Mark::Definite(header) => header_length(header.tag, header.length),
+        Mark::Indefinite(tag) => identifier_length(tag) + 1,
     }
 }
 
@@ -160,7 +162,7 @@ impl Draft {
         Draft {
             contents: Vec::new(alloc),
             entries: Vec::new(alloc),
-            heads: 0,
+            headers: 0,
             waits: 0,
         }
     }
@@ -176,7 +178,7 @@ impl Draft {
     {
         Draft {
             contents: mem::replace(&mut self.contents, Vec::new(alloc)),
-            heads: mem::replace(&mut self.heads, 0),
+            headers: mem::replace(&mut self.headers, 0),
             entries: mem::replace(&mut self.entries, Vec::new(alloc)),
             waits: mem::replace(&mut self.waits, 0),
         }
@@ -187,7 +189,7 @@ impl Draft {
     pub(crate) fn put_back(&mut self, taken: Draft)
         ensures { self.new ≡ taken }
     {
-        self.heads = taken.heads;
+        self.headers = taken.headers;
         self.contents = taken.contents;
         self.waits = taken.waits;
         self.entries = taken.entries;
@@ -198,50 +200,54 @@ impl Draft {
     pub(crate) fn len(&self) -> usize
         ensures { result ≡ length self.now }
     {
-        self.contents.len() + self.heads
+        self.contents.len() + self.headers
     }
 
     // Appends bytes.
     #[tactic(auto, using(crate::proofs::Drafts::joined_append))]
     #[inline(always)]
-    pub(crate) fn append(&mut self, bytes: &[u8]) -> Result<(), AllocError>
+    pub(crate) fn add(&mut self, bytes: &[u8]) -> Result<(), AllocError>
         ensures { OnOk result (self.new ≡ self.old ++ bytes.now) }
     {
-        append(&mut self.contents, bytes)
+        push_bytes(&mut self.contents, bytes)
     }
 
     // Appends the header of an element whose contents follow.
     #[tactic(auto, using(crate::proofs::Drafts::joined_append))]
     #[inline(always)]
-    pub(crate) fn append_opening(&mut self, header: Header, pc: PCBit) -> Result<(), AllocError>
-        ensures { OnOk result (self.new ≡ self.old ++ header_bytes pc header) }
+    pub(crate) fn add_header(&mut self, header: Header, bit: PCBit) -> Result<(), AllocError>
+        ensures { OnOk result (self.new ≡ self.old ++ header_bytes bit header) }
     {
-        append_opening(&mut self.contents, header, pc)
+        push_header_with_room(&mut self.contents, header, bit)
     }
 
     // Appends the header of an element of indefinite length, and makes room for so many bytes behind it.
     #[tactic(auto, using(crate::proofs::Drafts::joined_append))]
-    pub(crate) fn append_open(&mut self, tag: Tag, length: usize) -> Result<(), AllocError>
-        ensures { OnOk result (self.new ≡ self.old ++ open_bytes tag) }
+    pub(crate) fn add_indefinite_header(
+        &mut self,
+        tag: Tag,
+        length: usize,
+    ) -> Result<(), AllocError>
+        ensures { OnOk result (self.new ≡ self.old ++ indefinite_header tag) }
     {
-        append_roomy(&mut self.contents, tag, length)
+        reserve_and_push_indefinite_header(&mut self.contents, tag, length)
     }
 
     // Appends numbers in base 128.
     #[tactic(auto, using(crate::proofs::Drafts::joined_append))]
-    pub(crate) fn append_subidentifiers(
+    pub(crate) fn add_subidentifiers(
         &mut self,
         first: u64,
         further: &[u64],
     ) -> Result<(), AllocError>
         ensures { OnOk result (self.new ≡ self.old ++ (base128 first ++ flat_map base128 further.now)) }
     {
-        append_subidentifiers(&mut self.contents, first, further)
+        push_subidentifiers(&mut self.contents, first, further)
     }
 
     // Marks where an element with parts begins. Where there is no memory for the mark, its end does without.
     #[inline(always)]
-    pub(crate) fn begin(&mut self, tag: Tag, mode: BERMode) -> Beginning
+    pub(crate) fn mark_beginning(&mut self, tag: Tag, mode: BERMode) -> Beginning
         ensures same { self.new ≡ self.old }
         ensures start { result.start ≡ length self.old }
         ensures tagged { result.tag ≡ tag }
@@ -269,7 +275,7 @@ impl Draft {
     // Makes what stands from a beginning on an element, or answers `Invalid` where fewer bytes are left than there were,
     // or `OutOfMemory`.
     #[inline(always)]
-    pub(crate) fn end(&mut self, alloc: Global, beginning: Beginning) -> ASN1Result<()>
+    pub(crate) fn enclose(&mut self, alloc: Global, beginning: Beginning) -> ASN1Result<()>
         ensures { MatchResult result (λ _. (beginning.start ≤ length self.old) × (self.new ≡ with_element beginning.mode beginning.tag beginning.start self.old)) (λ e. (kind_of e ≡ OutOfMemory) ⊎ ((kind_of e ≡ Invalid) × (length self.old < beginning.start))) }
     {
         let all = self.len();
@@ -277,14 +283,20 @@ impl Draft {
             return Err(ASN1Error::new(ASN1ErrorKind::Invalid));
         }
         if let BERMode::Cer = beginning.mode {
-            return self.end_open(alloc, beginning.entry, beginning.start, beginning.tag);
+            return self.enclose_in_cer(alloc, beginning.entry, beginning.start, beginning.tag);
         }
-        self.put(alloc, beginning, Some(all - beginning.start))
+        self.place_header(alloc, beginning, Some(all - beginning.start))
     }
 
     // The same in CER: two zeros end the contents, whose length isn't counted (X.690, 9.1).
     #[inline(never)]
-    fn end_open(&mut self, alloc: Global, entry: usize, start: usize, tag: Tag) -> ASN1Result<()>
+    fn enclose_in_cer(
+        &mut self,
+        alloc: Global,
+        entry: usize,
+        start: usize,
+        tag: Tag,
+    ) -> ASN1Result<()>
         requires { start ≤ length self.old }
         ensures { MatchResult result (λ _. self.new ≡ with_element Cer tag start self.old) (λ e. kind_of e ≡ OutOfMemory) }
     {
@@ -295,28 +307,33 @@ impl Draft {
             tag,
             mode,
         };
-        match self.append(&[0, 0]) {
-            Ok(()) => self.put(alloc, beginning, None),
+        match self.add(&[0, 0]) {
+            Ok(()) => self.place_header(alloc, beginning, None),
             Err(_) => Err(ASN1Error::new(ASN1ErrorKind::OutOfMemory)),
         }
     }
 
     // Puts a header where an element began, of this length or of indefinite length, or lacks memory.
     #[inline(always)]
-    fn put(&mut self, alloc: Global, beginning: Beginning, length: Option<usize>) -> ASN1Result<()>
+    fn place_header(
+        &mut self,
+        alloc: Global,
+        beginning: Beginning,
+        length: Option<usize>,
+    ) -> ASN1Result<()>
         requires { beginning.start ≤ count self.old }
-        ensures { MatchResult result (λ _. self.new ≡ with_entry (record { place = beginning.start; mark = header_mark beginning.tag length }) self.old) (λ e. kind_of e ≡ OutOfMemory) }
+        ensures { MatchResult result (λ _. self.new ≡ with_entry (record { place = beginning.start; mark = mark_of beginning.tag length }) self.old) (λ e. kind_of e ≡ OutOfMemory) }
     {
         let Some(place) = innermost(&self.entries, self.waits, beginning) else {
-            return self.put_apart(alloc, beginning.start, header_of(beginning.tag, length));
+            return self.place_header_apart(alloc, beginning.start, mark_of(beginning.tag, length));
         };
-        let mark = header_of(beginning.tag, length);
-        let heads = self.heads + mark_length(mark);
-        if heads > usize::MAX / 2 {
+        let mark = mark_of(beginning.tag, length);
+        let headers = self.headers + mark_length(mark);
+        if headers > usize::MAX / 2 {
             return Err(ASN1Error::new(ASN1ErrorKind::OutOfMemory));
         }
         self.entries[beginning.entry] = Entry { place, mark };
-        self.heads = heads;
+        self.headers = headers;
         self.waits -= 1;
         Ok(())
     }
@@ -324,12 +341,12 @@ impl Draft {
     // The same where the element has no entry, or others that aren't ended stand behind it: all is joined, so that the
     // element's start is a place in the contents.
     #[cold]
-    fn put_apart(&mut self, alloc: Global, place: usize, mark: Mark) -> ASN1Result<()>
+    fn place_header_apart(&mut self, alloc: Global, place: usize, mark: Mark) -> ASN1Result<()>
         requires reached { place ≤ length self.old }
         requires header { mark_waits mark ≡ 0 }
         ensures { MatchResult result (λ _. self.new ≡ with_entry (record { place = place; mark = mark }) self.old) (λ e. kind_of e ≡ OutOfMemory) }
     {
-        match self.marked(alloc, place, mark) {
+        match self.joined_with(alloc, place, mark) {
             Ok(draft) => {
                 *self = draft;
                 Ok(())
@@ -339,25 +356,25 @@ impl Draft {
     }
 
     // The bytes with a header at a place.
-    fn marked(&mut self, alloc: Global, place: usize, mark: Mark) -> Result<Draft, AllocError>
+    fn joined_with(&mut self, alloc: Global, place: usize, mark: Mark) -> Result<Draft, AllocError>
         requires reached { place ≤ length self.old }
         requires header { mark_waits mark ≡ 0 }
         ensures { IfOk result (λ draft. draft ≡ with_entry (record { place = place; mark = mark }) self.old) }
     {
-        let contents = self.take_bytes(alloc)?;
+        let contents = self.take_joined(alloc)?;
         let mut entries = Vec::new(alloc);
         entries.push(Entry { place, mark })?;
         Ok(Draft {
             contents,
             entries,
-            heads: mark_length(mark),
+            headers: mark_length(mark),
             waits: 0,
         })
     }
 
     // Takes out the contents with each header at its place. Where there is no header they are the contents themselves.
     #[inline(always)]
-    pub(crate) fn take_bytes(&mut self, alloc: Global) -> Result<Vec<u8>, AllocError>
+    pub(crate) fn take_joined(&mut self, alloc: Global) -> Result<Vec<u8>, AllocError>
         ensures { IfOk result (λ v. v.items ≡ self.old) }
     {
         if self.entries.is_empty() {
@@ -378,38 +395,42 @@ fn join(
     ensures { IfOk result (λ v. v.items ≡ joined entries.now contents.now) }
 {
     let mut out = Vec::with_capacity(alloc, length)?;
-    append_joined(&mut out, contents, entries)?;
+    push_joined(&mut out, contents, entries)?;
     Ok(out)
 }
 
 // Appends the header of an element whose contents follow.
 #[inline(always)]
-fn append_opening(out: &mut Vec<u8>, header: Header, pc: PCBit) -> Result<(), AllocError>
-    ensures items { OnOk result (out.new.items ≡ out.old.items ++ header_bytes pc header) }
+fn push_header_with_room(out: &mut Vec<u8>, header: Header, bit: PCBit) -> Result<(), AllocError>
+    ensures items { OnOk result (out.new.items ≡ out.old.items ++ header_bytes bit header) }
     ensures grows { vec_len out.old ≤ vec_len out.new }
 {
     if header.length < 128 {
-        return append_header(out, header, pc);
+        return push_header(out, header, bit);
     }
-    append_long_opening(out, header, pc)
+    reserve_and_push_header(out, header, bit)
 }
 
 // The same where the contents are long: room is made for all of it first.
 #[inline(never)]
-fn append_long_opening(out: &mut Vec<u8>, header: Header, pc: PCBit) -> Result<(), AllocError>
-    ensures items { OnOk result (out.new.items ≡ out.old.items ++ header_bytes pc header) }
+fn reserve_and_push_header(out: &mut Vec<u8>, header: Header, bit: PCBit) -> Result<(), AllocError>
+    ensures items { OnOk result (out.new.items ≡ out.old.items ++ header_bytes bit header) }
     ensures grows { vec_len out.old ≤ vec_len out.new }
 {
     let room = header_length(header.tag, header.length);
     out.reserve(header.length.saturating_add(room))?;
-    append_header(out, header, pc)
+    push_header(out, header, bit)
 }
 
 // Appends the header of an element of indefinite length, and makes room for so many bytes behind it.
-fn append_roomy(out: &mut Vec<u8>, tag: Tag, length: usize) -> Result<(), AllocError>
-    ensures items { OnOk result (out.new.items ≡ out.old.items ++ open_bytes tag) }
+fn reserve_and_push_indefinite_header(
+    out: &mut Vec<u8>,
+    tag: Tag,
+    length: usize,
+) -> Result<(), AllocError>
+    ensures items { OnOk result (out.new.items ≡ out.old.items ++ indefinite_header tag) }
     ensures grows { vec_len out.old ≤ vec_len out.new }
 {
     out.reserve(length.saturating_add(header_length(tag, 0)))?;
-    append_open(out, tag)
+    push_indefinite_header(out, tag)
 }

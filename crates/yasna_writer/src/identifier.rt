@@ -1,4 +1,4 @@
-//! Identifier octets (X.690, 8.1.2).
+//! Identifier octets (X.690, 8.1.2), for `header`, and numbers in base 128, of which `oid` has some too.
 ghost use Rattle.std.specs.Prelude.{◌≡◌, ◌<◌, ◌≤◌, ◌+◌, ◌*◌, ◌++◌, length, OnOk, vec_len};
 ghost use Rattle.yasna_base.specs.Identifier.{identifier, class_number, bit_number, leading_byte};
 ghost use Rattle.yasna_base.specs.Digits.{base128};
@@ -10,7 +10,7 @@ use yasna_base::{PCBit, Tag, TagClass};
 
 // Appends bytes.
 #[inline(always)]
-pub(crate) fn append(out: &mut Vec<u8>, bytes: &[u8]) -> Result<(), AllocError>
+pub(crate) fn push_bytes(out: &mut Vec<u8>, bytes: &[u8]) -> Result<(), AllocError>
     ensures items { OnOk result (out.new.items ≡ out.old.items ++ bytes.now) }
     ensures grows { vec_len out.old ≤ vec_len out.new }
 {
@@ -32,10 +32,10 @@ fn class_bits(class: TagClass) -> u8
 
 // The bit's place in the first byte.
 #[inline(always)]
-fn constructed_bit(pc: PCBit) -> u8
-    ensures { result ≡ 32 * bit_number pc }
+fn constructed_bit(bit: PCBit) -> u8
+    ensures { result ≡ 32 * bit_number bit }
 {
-    match pc {
+    match bit {
         PCBit::Primitive => 0,
         PCBit::Constructed => 32,
     }
@@ -43,11 +43,11 @@ fn constructed_bit(pc: PCBit) -> u8
 
 // The one byte of an identifier whose number is below 31.
 #[inline(always)]
-pub(crate) fn leading(tag: Tag, pc: PCBit) -> u8
+pub(crate) fn leading(tag: Tag, bit: PCBit) -> u8
     requires { tag.tag_number < 31 }
-    ensures { result ≡ leading_byte tag pc tag.tag_number }
+    ensures { result ≡ leading_byte tag bit tag.tag_number }
 {
-    class_bits(tag.tag_class) + constructed_bit(pc) + tag.tag_number as u8
+    class_bits(tag.tag_class) + constructed_bit(bit) + tag.tag_number as u8
 }
 
 // How many bytes a number takes in base 128.
@@ -71,28 +71,31 @@ fn base128_byte(more: bool, number: u64) -> u8
 
 // Appends a number in base 128, with 128 added to all its digits, or to all but the last.
 #[tactic(auto, using(crate::proofs::Identifiers::base128_digits_small, crate::proofs::Identifiers::base128_digits_step))]
-pub(crate) fn append_base128(out: &mut Vec<u8>, number: u64, more: bool) -> Result<(), AllocError>
+pub(crate) fn push_base128(out: &mut Vec<u8>, number: u64, more: bool) -> Result<(), AllocError>
     ensures items { OnOk result (out.new.items ≡ out.old.items ++ base128_digits more number) }
     ensures grows { vec_len out.old ≤ vec_len out.new }
 {
     if number >= 128 {
-        append_base128(out, number / 128, true)?;
-        return append(out, &[base128_byte(more, number)]);
+        push_base128(out, number / 128, true)?;
+        return push_bytes(out, &[base128_byte(more, number)]);
     }
-    append(out, &[base128_byte(more, number)])
+    push_bytes(out, &[base128_byte(more, number)])
 }
 
 // Appends the identifier of a tag.
 #[tactic(auto, using(yasna_base::proofs::Identifier::identifier_short, yasna_base::proofs::Identifier::identifier_long), unfolding(crate::specs::Identifier::base128_digits))]
-pub(crate) fn append_identifier(out: &mut Vec<u8>, tag: Tag, pc: PCBit) -> Result<(), AllocError>
-    ensures items { OnOk result (out.new.items ≡ out.old.items ++ identifier tag pc) }
+pub(crate) fn push_identifier(out: &mut Vec<u8>, tag: Tag, bit: PCBit) -> Result<(), AllocError>
+    ensures items { OnOk result (out.new.items ≡ out.old.items ++ identifier tag bit) }
     ensures grows { vec_len out.old ≤ vec_len out.new }
 {
     if tag.tag_number < 31 {
-        return append(out, &[leading(tag, pc)]);
+        return push_bytes(out, &[leading(tag, bit)]);
     }
-    append(out, &[class_bits(tag.tag_class) + constructed_bit(pc) + 31])?;
-    append_base128(out, tag.tag_number, false)
+    push_bytes(
+        out,
+        &[class_bits(tag.tag_class) + constructed_bit(bit) + 31],
+    )?;
+    push_base128(out, tag.tag_number, false)
 }
 
 // How many bytes the identifier of a constructed element takes.

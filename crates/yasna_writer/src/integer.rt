@@ -1,4 +1,4 @@
-//! The fewest bytes of a number, highest first (X.690, 8.3).
+//! The fewest bytes of a number, highest first (X.690, 8.3.2), for `primitive` and `length`.
 ghost use Rattle.std.specs.Prelude.{◌≡◌, ◌-◌, ◌*◌, ◌^◌, ◌<◌, ◌≤◌};
 ghost use Rattle.yasna_base.specs.BigInteger.{without};
 ghost use Rattle.yasna_writer.specs.Integer.{sign_byte, needs_sign, sign_front};

@@ -2,6 +2,10 @@
 //!
 //! A writing begins in `construct_der` and its kin, or `construct_cer`, which hand a writer to a closure and answer the bytes that it wrote.
 //!
+//! Names tell the layers apart. Users call `write_..`, which answers a failure that is kept, and else takes the implicit tag. It calls
+//! `append_..` of the writer, which keeps want of memory, and that `add_..` of its draft. `push_..` puts bytes behind those of a vector.
+//! A header is identifier and length octets (X.690, 8.1.2 and 8.1.3), an indefinite one those of indefinite length (8.1.3.6).
+//!
 //! | Module | Holds |
 //! |---|---|
 //! | `construct` | the calls that begin a writing and end it |
@@ -18,7 +22,7 @@
 //! | `tagged_part` | the parts of a SET, in the order of their tags |
 //! | `tagged` | the writes of elements under tags of the caller's |
 //! | `draft` | contents, the headers that aren't among them yet, and how they are joined |
-//! | `header` | the header of an element with parts |
+//! | `header` | the header of an element |
 //! | `identifier`, `length` | identifier and length octets |
 //! | `integer` | the fewest bytes of a number |
 #![tactic(auto)]

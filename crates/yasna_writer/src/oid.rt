@@ -1,4 +1,4 @@
-//! OBJECT IDENTIFIER (X.690, 8.19): a write of its own, since its contents are made of numbers as they are appended.
+//! OBJECT IDENTIFIER (X.690, 8.19): a call of users, whose contents are made of numbers as they are appended.
 ghost use Rattle.std.specs.List.{flat_map};
 ghost use Rattle.std.specs.Prelude.{◌≡◌, ◌≤◌, ◌*◌, ◌∷◌, ◌++◌, length, OnOk, vec_len};
 ghost use Rattle.yasna_base.specs.declared.mode.BERMode.TheVariants.{Der};
@@ -10,7 +10,7 @@ ghost use Rattle.yasna_base.specs.Oid.{IsEncodableOid, subidentifiers, oid_form,
 ghost use Rattle.yasna_writer.specs.View.{Wrote};
 
 use crate::header::Header;
-use crate::identifier::{append, append_base128, base128_length};
+use crate::identifier::{base128_length, push_base128, push_bytes};
 use crate::state::Writer;
 use std::alloc::AllocError;
 use yasna_base::models::ObjectIdentifier;
@@ -33,32 +33,32 @@ fn numbers_length(numbers: &[u64]) -> usize
 // Appends a number in base 128, of up to three bytes at once.
 #[tactic(auto, using(crate::proofs::Identifiers::base128_small, crate::proofs::Identifiers::base128_two, crate::proofs::Identifiers::base128_three), unfolding(crate::specs::Identifier::base128_digits))]
 #[inline(always)]
-fn append_number(out: &mut Vec<u8>, number: u64) -> Result<(), AllocError>
+fn push_number(out: &mut Vec<u8>, number: u64) -> Result<(), AllocError>
     ensures items { OnOk result (out.new.items ≡ out.old.items ++ base128 number) }
     ensures grows { vec_len out.old ≤ vec_len out.new }
 {
     if number < 128 {
-        return append(out, &[number as u8]);
+        return push_bytes(out, &[number as u8]);
     }
     let low = (number % 128) as u8;
     if number < 16384 {
-        return append(out, &[128 + (number / 128) as u8, low]);
+        return push_bytes(out, &[128 + (number / 128) as u8, low]);
     }
     if number < 2097152 {
         let middle = (number / 128 % 128) as u8;
-        return append(out, &[128 + (number / 128 / 128) as u8, 128 + middle, low]);
+        return push_bytes(out, &[128 + (number / 128 / 128) as u8, 128 + middle, low]);
     }
-    append_base128(out, number, false)
+    push_base128(out, number, false)
 }
 
 // Appends numbers in base 128.
 #[inline(always)]
-fn append_numbers(out: &mut Vec<u8>, numbers: &[u64]) -> Result<(), AllocError>
+fn push_numbers(out: &mut Vec<u8>, numbers: &[u64]) -> Result<(), AllocError>
     ensures items { OnOk result (out.new.items ≡ out.old.items ++ flat_map base128 numbers.now) }
     ensures grows { vec_len out.old ≤ vec_len out.new }
 {
     for number in numbers {
-        append_number(out, *number)?;
+        push_number(out, *number)?;
     }
     Ok(())
 }
@@ -72,7 +72,7 @@ fn contents_length(first: u64, further: &[u64]) -> usize
 }
 
 // Appends these subidentifiers.
-pub(crate) fn append_subidentifiers(
+pub(crate) fn push_subidentifiers(
     out: &mut Vec<u8>,
     first: u64,
     further: &[u64],
@@ -80,8 +80,8 @@ pub(crate) fn append_subidentifiers(
     ensures items { OnOk result (out.new.items ≡ out.old.items ++ (base128 first ++ flat_map base128 further.now)) }
     ensures grows { vec_len out.old ≤ vec_len out.new }
 {
-    append_number(out, first)?;
-    append_numbers(out, further)
+    push_number(out, first)?;
+    push_numbers(out, further)
 }
 
 // What the first two components make, and the further components.
@@ -106,7 +106,7 @@ impl Writer {
         let tag = self.take_tag(TAG_OID);
         let (first, further) = subidentifiers(oid.components());
         let length = contents_length(first, further);
-        self.append_opening(Header { tag, length }, PCBit::Primitive)?;
+        self.append_header(Header { tag, length }, PCBit::Primitive)?;
         self.append_subidentifiers(first, further)
     }
 }

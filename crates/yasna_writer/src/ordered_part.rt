@@ -1,4 +1,4 @@
-//! The parts of a SET OF, in the order of their bytes (X.690, 11.6).
+//! The parts of a SET OF, in the order of their bytes (X.690, 11.6), for `set`.
 ghost use Rattle.std.specs.Prelude.{◌≡◌};
 ghost use Rattle.yasna_base.specs.Order.{octets_cmp};
 ghost use Rattle.yasna_writer.specs.Front.{IsFirstEight};

@@ -1,4 +1,4 @@
-//! Elements without parts: BOOLEAN, INTEGER, NULL, ENUMERATED (X.690, 8.2 to 8.4 and 8.8).
+//! Elements without parts: BOOLEAN, INTEGER, ENUMERATED and NULL (X.690, 8.2 to 8.4 and 8.8), calls of users.
 //!
 //! Each write takes the implicit tag if there is one, and else the type's own. A failure that is kept is answered, and
 //! nothing is written. Besides, each answers `OutOfMemory` where there is no memory for the element, and keeps it.

@@ -1,4 +1,4 @@
-//! Raw elements, whose contents are written as they are.
+//! Raw elements, whose contents are written as they are (X.690, 8.1): calls of users.
 ghost use Rattle.yasna_base.specs.Identifier.{tag_or};
 ghost use Rattle.yasna_base.specs.Raw.{raw_form};
 ghost use Rattle.yasna_base.specs.TaggedDerValue.{raw_of};
@@ -31,12 +31,13 @@ impl Writer {
 
     // Appends what stands in front of a payload that is written as it is, or keeps want of memory.
     #[inline(always)]
-    fn append_raw_header(&mut self, header: Header, pc: PCBit) -> ASN1Result<()>
-        ensures { Appended (raw_header self.old.mode pc header) self.old self.new result }
+    fn append_raw_header(&mut self, header: Header, bit: PCBit) -> ASN1Result<()>
+        ensures { Appended (raw_header self.old.mode bit header) self.old self.new result }
     {
-        match (self.mode(), pc) {
-            (BERMode::Cer, PCBit::Constructed) => self.append_open(header.tag, header.length),
-            _ => self.append_opening(header, pc),
+        let Header { tag, length } = header;
+        match (self.mode(), bit) {
+            (BERMode::Cer, PCBit::Constructed) => self.append_indefinite_header(tag, length),
+            _ => self.append_header(header, bit),
         }
     }
 

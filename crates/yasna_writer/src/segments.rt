@@ -1,4 +1,4 @@
-//! Strings in segments, as CER asks where they are long (X.690, 9.2).
+//! Strings in segments, as CER asks where they are long (X.690, 9.2). `strings` and `times` call it.
 //!
 //! A string of more than 1000 octets is a constructed element of indefinite length. Its parts are primitive: OCTET STRINGs of 1000
 //! octets, or BIT STRINGs of 999 bytes behind their count of unused bits; the last part has what is left.
@@ -8,7 +8,7 @@ ghost use Rattle.yasna_base.specs.Bits.{bits_tag};
 ghost use Rattle.yasna_base.specs.Canonical.{canonical_element, indefinite_element};
 ghost use Rattle.yasna_base.specs.Identifier.{tag_or};
 ghost use Rattle.yasna_base.specs.Octets.{octets_form};
-ghost use Rattle.yasna_writer.specs.Header.{open_bytes};
+ghost use Rattle.yasna_writer.specs.Header.{indefinite_header};
 ghost use Rattle.yasna_writer.specs.Segments.{is_cut, octet_segment, in_octet_segments, bit_segment, in_bit_segments, bits_with};
 ghost use Rattle.yasna_writer.specs.State.{Appended};
 ghost use Rattle.yasna_writer.specs.View.{Wrote};
@@ -82,7 +82,7 @@ impl Writer {
     fn write_octet_segments(&mut self, own: Tag, octets: &[u8]) -> ASN1Result<()>
         ensures { Wrote (indefinite_element (tag_or self.old.tag own) (in_octet_segments octets.now)) self.old self.new result }
     {
-        self.begin_segments(own, octets.len())?;
+        self.write_segments_header(own, octets.len())?;
         self.append_octet_segments(octets)?;
         self.append(&[0, 0])
     }
@@ -105,20 +105,20 @@ impl Writer {
         requires some { 1 ≤ length bytes.now }
         ensures { Wrote (indefinite_element (tag_or self.old.tag bits_tag) (in_bit_segments (bits_with unused bytes.now))) self.old self.new result }
     {
-        self.begin_segments(TAG_BITSTRING, bytes.len())?;
+        self.write_segments_header(TAG_BITSTRING, bytes.len())?;
         self.append_bit_segments(unused, bytes)?;
         self.append(&[0, 0])
     }
 
     // Writes the header of an element around segments of so many bytes, and makes room for them.
-    fn begin_segments(&mut self, own: Tag, length: usize) -> ASN1Result<()>
-        ensures { Wrote (open_bytes (tag_or self.old.tag own)) self.old self.new result }
+    fn write_segments_header(&mut self, own: Tag, length: usize) -> ASN1Result<()>
+        ensures { Wrote (indefinite_header (tag_or self.old.tag own)) self.old self.new result }
     {
         if let Some(error) = self.kept() {
             return Err(error);
         }
         let tag = self.take_tag(own);
-        self.append_open(tag, room(length))
+        self.append_indefinite_header(tag, room(length))
     }
 
     // Appends octets in segments.
@@ -195,7 +195,7 @@ impl Writer {
     {
         let tag = TAG_BITSTRING;
         let length = front.len() + 2;
-        self.append_opening(Header { tag, length }, PCBit::Primitive)?;
+        self.append_header(Header { tag, length }, PCBit::Primitive)?;
         self.append_bits(unused, front, last)
     }
 }

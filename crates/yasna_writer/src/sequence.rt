@@ -1,4 +1,4 @@
-//! Elements with parts (X.690, 8.9). Their length is counted in DER (10.1), and indefinite in CER (9.1).
+//! SEQUENCE and SEQUENCE OF (X.690, 8.9 and 8.10), calls of users. The length is counted in DER (10.1), and indefinite in CER (9.1).
 ghost use Rattle.std.specs.Prelude.{◌≡◌, None};
 ghost use Rattle.std.specs.Borrow.{sem};
 ghost use Rattle.std.specs.Fn.{FnOnceTakesAtMut};
@@ -7,15 +7,12 @@ ghost use Rattle.yasna_base.specs.Identifier.{tag_or};
 ghost use Rattle.yasna_base.specs.Canonical.{canonical_element};
 ghost use Rattle.yasna_base.specs.Sequence.{sequence_tag};
 ghost use Rattle.yasna_writer.specs.View.{handed};
-ghost use Rattle.yasna_writer.specs.Construct.{Constructed as Ended};
-ghost use Rattle.yasna_writer.specs.State.{BeginsAt, EndsElement};
 ghost use Rattle.yasna_writer.specs.Sequence.{Encloses, LendsNext};
 
-use crate::draft::Beginning;
 use crate::state::{DERWriter, Writer};
 use std::marker::Model;
+use yasna_base::ASN1Error;
 use yasna_base::tags::TAG_SEQUENCE;
-use yasna_base::{ASN1Error, Tag};
 
 /// What a closure writes the parts of a sequence to, one after the other.
 ///
@@ -29,7 +26,7 @@ use yasna_base::{ASN1Error, Tag};
 /// ```
 #[derive(Drop)]
 pub struct DERWriterSeq {
-    inner: Writer,
+    pub(crate) inner: Writer,
 }
 
 impl Model for DERWriterSeq {
@@ -47,41 +44,6 @@ impl DERWriterSeq {
         ensures { result ≡ inner }
     {
         DERWriterSeq { inner }
-    }
-
-    // What the writing of these parts answers, where the closure answered `own`.
-    #[inline(always)]
-    pub(crate) fn finish<E: From<ASN1Error> + Drop>(
-        &mut self,
-        own: Result<(), E>,
-    ) -> Result<Vec<u8>, E>
-        ensures { Ended E.from_gives self.old own result }
-    {
-        self.inner.finish(own)
-    }
-
-    // What was written.
-    #[inline(always)]
-    fn into_inner(self) -> Writer
-        ensures { result ≡ self }
-    {
-        self.inner
-    }
-
-    // Begins the element around the parts.
-    #[inline(always)]
-    fn begin(&mut self, tag: Tag) -> Beginning
-        ensures { BeginsAt tag self.old self.new result }
-    {
-        self.inner.begin(tag)
-    }
-
-    // Ends the element around the parts.
-    #[inline(always)]
-    fn end(&mut self, beginning: Beginning)
-        ensures { EndsElement beginning self.old self.new }
-    {
-        self.inner.end(beginning);
     }
 
     /// The writer of the next part.
@@ -115,10 +77,10 @@ impl Writer {
             Err(error) => return Err(E::from(error)),
         };
         let mut sequence = DERWriterSeq::over(self.lend());
-        let beginning = sequence.begin(tag);
+        let beginning = sequence.inner.begin(tag);
         let own = f(&mut sequence);
-        sequence.end(beginning);
-        self.take_back(sequence.into_inner());
+        sequence.inner.end(beginning);
+        self.take_back(sequence.inner);
         self.settle(own)
     }
 

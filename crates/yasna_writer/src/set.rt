@@ -1,5 +1,5 @@
-//! Sets (X.690, 8.11, 8.12, 9.3, 10.3 and 11.6): their parts are written apart from each other, and then put in order. So parts of
-//! CER are ordered by the bytes that they have in CER.
+//! SET and SET OF (X.690, 8.11, 8.12, 9.3, 10.3 and 11.6), calls of users: their parts are written apart from each other, and then put
+//! in order. So parts of CER are ordered by the bytes that they have in CER.
 ghost use Rattle.std.specs.Prelude.{◌≡◌, ◌++◌, [], None, IsTrue, ◌↔◌, IfOk, MatchOption, MatchResult};
 ghost use Rattle.std.specs.Borrow.{sem};
 ghost use Rattle.std.specs.Fn.{FnOnceTakesAtMut};

@@ -1,4 +1,4 @@
-//! The writer.
+//! The writer: a draft, the implicit tag that waits, and the failure that is kept. The writes of all other modules are built on it.
 ghost use Rattle.std.specs.Prelude.{◌≡◌, ◌++◌, length, Ok, Err, Some, None, MatchResult};
 ghost use Rattle.yasna_base.specs.Error.{kind_of};
 ghost use Rattle.yasna_base.specs.declared.error.ASN1ErrorKind.TheVariants.{OutOfMemory};
@@ -10,7 +10,7 @@ ghost use Rattle.yasna_writer.specs.View.{Written, begun, handed};
 ghost use Rattle.yasna_base.specs.Identifier.{tag_or};
 ghost use Rattle.yasna_writer.specs.Construct.{Constructed};
 ghost use Rattle.yasna_writer.specs.Sequence.{AnswersKept};
-ghost use Rattle.yasna_writer.specs.Header.{header_bytes, open_bytes};
+ghost use Rattle.yasna_writer.specs.Header.{header_bytes, indefinite_header};
 ghost use Rattle.yasna_writer.specs.Parts.{no_parts};
 ghost use Rattle.yasna_writer.specs.State.{Appended, TakesTag, BeginsAt, EndsElement};
 ghost use Rattle.yasna_writer.specs.Tagged.{tagging, LeftBehind};
@@ -149,7 +149,7 @@ impl Writer {
     pub(crate) fn append(&mut self, bytes: &[u8]) -> ASN1Result<()>
         ensures { Appended bytes.now self.old self.new result }
     {
-        match self.draft.append(bytes) {
+        match self.draft.add(bytes) {
             Ok(()) => Ok(()),
             Err(_) => Err(self.lack_memory()),
         }
@@ -157,20 +157,20 @@ impl Writer {
 
     // Appends the header of an element whose contents follow, or keeps want of memory.
     #[inline(always)]
-    pub(crate) fn append_opening(&mut self, header: Header, pc: PCBit) -> ASN1Result<()>
-        ensures { Appended (header_bytes pc header) self.old self.new result }
+    pub(crate) fn append_header(&mut self, header: Header, bit: PCBit) -> ASN1Result<()>
+        ensures { Appended (header_bytes bit header) self.old self.new result }
     {
-        match self.draft.append_opening(header, pc) {
+        match self.draft.add_header(header, bit) {
             Ok(()) => Ok(()),
             Err(_) => Err(self.lack_memory()),
         }
     }
 
     // Appends the header of an element of indefinite length, with room for so many bytes behind it, or keeps want of memory.
-    pub(crate) fn append_open(&mut self, tag: Tag, length: usize) -> ASN1Result<()>
-        ensures { Appended (open_bytes tag) self.old self.new result }
+    pub(crate) fn append_indefinite_header(&mut self, tag: Tag, length: usize) -> ASN1Result<()>
+        ensures { Appended (indefinite_header tag) self.old self.new result }
     {
-        match self.draft.append_open(tag, length) {
+        match self.draft.add_indefinite_header(tag, length) {
             Ok(()) => Ok(()),
             Err(_) => Err(self.lack_memory()),
         }
@@ -184,7 +184,7 @@ impl Writer {
         let Some(length) = front.len().checked_add(rest.len()) else {
             return Err(self.lack_memory());
         };
-        self.append_opening(Header { tag, length }, PCBit::Primitive)?;
+        self.append_header(Header { tag, length }, PCBit::Primitive)?;
         self.append(front)?;
         self.append(rest)
     }
@@ -193,7 +193,7 @@ impl Writer {
     pub(crate) fn append_subidentifiers(&mut self, first: u64, further: &[u64]) -> ASN1Result<()>
         ensures { Appended (base128 first ++ flat_map base128 further.now) self.old self.new result }
     {
-        match self.draft.append_subidentifiers(first, further) {
+        match self.draft.add_subidentifiers(first, further) {
             Ok(()) => Ok(()),
             Err(_) => Err(self.lack_memory()),
         }
@@ -213,9 +213,9 @@ impl Writer {
         if let Err(error) = own {
             return Err(error);
         }
-        match self.draft.take_bytes(self.alloc) {
+        match self.take_bytes() {
             Ok(bytes) => Ok(bytes),
-            Err(_) => Err(E::from(ASN1Error::new(ASN1ErrorKind::OutOfMemory))),
+            Err(error) => Err(E::from(error)),
         }
     }
 
@@ -235,7 +235,7 @@ impl Writer {
     pub(crate) fn take_bytes(&mut self) -> ASN1Result<Vec<u8>>
         ensures { MatchResult result (λ v. v.items ≡ self.old.bytes) (λ e. kind_of e ≡ OutOfMemory) }
     {
-        match self.draft.take_bytes(self.alloc) {
+        match self.draft.take_joined(self.alloc) {
             Ok(bytes) => Ok(bytes),
             Err(_) => Err(ASN1Error::new(ASN1ErrorKind::OutOfMemory)),
         }
@@ -273,7 +273,7 @@ impl Writer {
     pub(crate) fn begin(&mut self, tag: Tag) -> Beginning
         ensures { BeginsAt tag self.old self.new result }
     {
-        self.draft.begin(tag, self.mode)
+        self.draft.mark_beginning(tag, self.mode)
     }
 
     // Ends it over what is left from its beginning on, by the rules that it began with, or keeps why that fails.
@@ -284,7 +284,7 @@ impl Writer {
         if self.kept.is_none() {
             self.mode = beginning.mode;
             self.tag = None;
-            if let Err(error) = self.draft.end(self.alloc, beginning) {
+            if let Err(error) = self.draft.enclose(self.alloc, beginning) {
                 self.kept = Some(error);
             }
         }

@@ -1,4 +1,4 @@
-//! Strings: OCTET STRING, BIT STRING and texts (X.690, 8.6, 8.7, 8.23 and 11.2).
+//! Strings: BIT STRING, OCTET STRING and texts (X.690, 8.6, 8.7, 8.23 and 11.2), calls of users.
 //!
 //! Each is written as one primitive element, but in CER as segments where it is long (`segments`). Each write takes the implicit tag
 //! if there is one, and else the type's own. A failure that is kept is answered, and nothing is written. Besides, each answers
@@ -126,7 +126,7 @@ impl Writer {
         requires { length ≡ count (bmp_octets (chars string.now)) }
         ensures { Wrote (canonical_element self.old.mode (tag_or self.old.tag bmp_tag) Primitive (bmp_octets (chars string.now))) self.old self.new result }
     {
-        self.begin_contents(TAG_BMPSTRING, length)?;
+        self.write_header(TAG_BMPSTRING, length)?;
         self.append_bmp(string)
     }
 
@@ -164,20 +164,20 @@ impl Writer {
     pub(crate) fn write_contents(&mut self, own: Tag, contents: &[u8]) -> ASN1Result<()>
         ensures { Wrote (canonical_element self.old.mode (tag_or self.old.tag own) Primitive contents.now) self.old self.new result }
     {
-        self.begin_contents(own, contents.len())?;
+        self.write_header(own, contents.len())?;
         self.append(contents)
     }
 
     // Writes the header of an element with so many bytes of contents.
     #[inline(always)]
-    pub(crate) fn begin_contents(&mut self, own: Tag, length: usize) -> ASN1Result<()>
+    pub(crate) fn write_header(&mut self, own: Tag, length: usize) -> ASN1Result<()>
         ensures { Wrote (header_bytes Primitive (record { tag = tag_or self.old.tag own; length = length })) self.old self.new result }
     {
         if let Some(error) = self.kept() {
             return Err(error);
         }
         let tag = self.take_tag(own);
-        self.append_opening(Header { tag, length }, PCBit::Primitive)
+        self.append_header(Header { tag, length }, PCBit::Primitive)
     }
 
     // Writes a BIT STRING, whose contents are the count of unused bits, and the bytes.
@@ -185,7 +185,7 @@ impl Writer {
     fn write_bits(&mut self, unused: u8, front: &[u8], last: u8) -> ASN1Result<()>
         ensures { Wrote (canonical_element self.old.mode (tag_or self.old.tag bits_tag) Primitive (unused ∷ (front.now ++ last ∷ []))) self.old self.new result }
     {
-        self.begin_contents(TAG_BITSTRING, front.len() + 2)?;
+        self.write_header(TAG_BITSTRING, front.len() + 2)?;
         self.append_bits(unused, front, last)
     }
 

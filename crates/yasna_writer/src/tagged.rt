@@ -1,4 +1,5 @@
-//! Elements under a tag of the caller's (X.690, 8.14). The length of an explicit one is counted in DER, and indefinite in CER.
+//! Elements under a tag of the caller's (X.690, 8.14), calls of users. The length of an explicit one is counted in DER, and indefinite
+//! in CER.
 ghost use Rattle.std.specs.Prelude.{◌≡◌, None};
 ghost use Rattle.std.specs.Fn.{FnOnceTakesAtMut};
 ghost use Rattle.yasna_base.specs.declared.tag.PCBit.TheVariants.{Constructed};

@@ -1,4 +1,4 @@
-//! The parts of a SET, in the order of their tags (X.690, 10.3; X.680, 8.6).
+//! The parts of a SET, in the order of their tags (X.690, 10.3; X.680, 8.6), for `set`.
 ghost use Rattle.std.specs.Prelude.{◌≡◌, [], drop, if◌then◌else◌, nat_lt, OnOk, MatchOption};
 ghost use Rattle.yasna_base.specs.Order.{in_order};
 ghost use Rattle.yasna_base.specs.Set.{HasItsTag, part_cmp};

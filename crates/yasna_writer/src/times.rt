@@ -1,4 +1,4 @@
-//! UTCTime and GeneralizedTime: their canonical texts (X.690, 11.7 and 11.8).
+//! UTCTime and GeneralizedTime: their canonical texts (X.690, 11.7 and 11.8), calls of users.
 ghost use Rattle.yasna_times.specs.GeneralizedTime.{generalized_time_form, generalized_time_tag};
 ghost use Rattle.yasna_base.specs.Identifier.{tag_or};
 ghost use Rattle.yasna_times.specs.Models.{utc_of, moment_of};

@@ -8,6 +8,6 @@ returns c =
       arith,
       c.len.ensures,
       ap length c.self.view_is,
-      entries_length c.self.inside.entries.items c.self.inside.contents.items c.self.inside.heads
+      entries_length c.self.inside.entries.items c.self.inside.contents.items c.self.inside.headers
           c.self.inside.waits c.self.invariant,
     )

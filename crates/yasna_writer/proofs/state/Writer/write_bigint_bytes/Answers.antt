@@ -1,5 +1,5 @@
 use Rattle.std.proofs.Common.{ℤ, length, ap, sym, ◌∙◌, subst, arith}
-use Rattle.yasna_base.specs.Identifier.{universal, tag_or}
+use Rattle.yasna_base.specs.Identifier.{tag_or}
 use Rattle.yasna_base.specs.Integer.{integer_form, integer_tag}
 use Rattle.std.specs.Prelude.{true}
 use Rattle.std.proofs.lemmas.Bool.{eqb-true, eqb-false}

@@ -1,6 +1,6 @@
 use Rattle.std.proofs.Common.{ℕ, List, sym, subst}
 use Rattle.yasna_base.specs.Bits.{bits_segmentation, bits_contents, bit_segments, bits_tag}
-use Rattle.yasna_base.specs.Identifier.{universal, tag_or}
+use Rattle.yasna_base.specs.Identifier.{tag_or}
 use Rattle.yasna_writer.specs.View.{Wrote}
 use Rattle.yasna_writer.proofs.SegmentSteps.{goes_apart}
 use Rattle.yasna_writer.proofs.state.Writer.write_bitvec_bytes.Goals as goal

@@ -1,7 +1,7 @@
 use Rattle.std.proofs.Common.{◌∷◌, [], ◌++◌, List, ap, ap₂, ◌∙◌}
 use Rattle.yasna_writer.specs.declared.draft.Entry.{Entry}
 use Rattle.yasna_writer.specs.Draft.{joined}
-use Rattle.yasna_writer.proofs.draft.Draft.marked.Goals as goal
+use Rattle.yasna_writer.proofs.draft.Draft.joined_with.Goals as goal
 
 pub returns : goal.returns
 returns c =

@@ -4,7 +4,7 @@ use Rattle.yasna_writer.specs.declared.draft.Mark.TheVariants.{Waits}
 use Rattle.yasna_writer.specs.declared.draft.Waiting.{Waiting}
 use Rattle.yasna_writer.specs.Draft.{joined, AreEntries}
 use Rattle.yasna_writer.proofs.Drafts.{entries_begin, entries_length, joined_begin, waits_few}
-use Rattle.yasna_writer.proofs.draft.Draft.begin.Goals as goal
+use Rattle.yasna_writer.proofs.draft.Draft.mark_beginning.Goals as goal
 
 pub overflow_add-depth : goal.overflow_add-depth
 overflow_add-depth c =
@@ -23,9 +23,9 @@ invariant_of-self c =
     let w : Waiting = record { start = c.len-start.result; depth = d.waits + 1 } in
     let x : Entry = record { place = c.len-place.result; mark = Waits w } in
     let pushed = c.push.ensures.items ∙ ap (λ t. cond t (d.entries.items ++ (x ∷ [])) d.entries.items) (sym ((c.if-is_ok.ensures {u = tt}).value)) in
-    let long = entries_length d.entries.items d.contents.items d.heads d.waits c.self.invariant in
-    subst (λ (es : List Entry). AreEntries es (length d.contents.items) d.heads (d.waits + 1)) (sym pushed)
-    (entries_begin d.entries.items c.len-place.result (length d.contents.items) d.heads d.waits w c.self.invariant
+    let long = entries_length d.entries.items d.contents.items d.headers d.waits c.self.invariant in
+    subst (λ (es : List Entry). AreEntries es (length d.contents.items) d.headers (d.waits + 1)) (sym pushed)
+    (entries_begin d.entries.items c.len-place.result (length d.contents.items) d.headers d.waits w c.self.invariant
     (omega (arith, c.len-place.ensures, d.contents.ok.0))
     (omega (arith, c.len-start.ensures, ap length c.self.view_is, long)) (omega arith))
 

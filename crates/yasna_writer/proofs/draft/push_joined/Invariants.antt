@@ -1,6 +1,6 @@
 use Rattle.std.proofs.Common.{◌≡◌, ◌++◌, length, drop}
 use Rattle.yasna_writer.specs.Draft.{joined, AreInOrder}
-use Rattle.yasna_writer.proofs.draft.append_joined.Given as goal
+use Rattle.yasna_writer.proofs.draft.push_joined.Given as goal
 
 abbrev pub invariant-loop-entry : goal.invariant-loop-entry
 invariant-loop-entry l = record {

@@ -2,13 +2,13 @@ use Rattle.std.proofs.Common.{◌-◌, inl, ◌∙◌, arith}
 use Rattle.std.proofs.lemmas.Result.{MatchResult-weaker}
 use Rattle.yasna_writer.specs.declared.header.Header.{Header}
 use Rattle.yasna_writer.proofs.Drafts.{apart}
-use Rattle.yasna_writer.proofs.draft.Draft.end.Goals as goal
+use Rattle.yasna_writer.proofs.draft.Draft.enclose.Goals as goal
 
 pub returns : goal.returns
 returns c =
     let b = c.args.beginning in
     let h : Header = record { tag = b.tag; length = c.len-all.result - b.start } in
-    MatchResult-weaker c.put.result c.put.ensures
+    MatchResult-weaker c.place_header.result c.place_header.ensures
     (λ _ e. (
       omega (arith, c.if-all-beginning.false, c.len-all.ensures),
       e ∙ apart b.mode h b.start c.args.self.now c.in_default.not-Cer (omega (arith, c.if-all-beginning.false, c.len-all.ensures)),
