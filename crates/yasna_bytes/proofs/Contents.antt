@@ -18,11 +18,11 @@ use Rattle.yasna_bytes.specs.Front.{Takes, Stands}
 use Rattle.yasna_bytes.specs.Header.{AreContents}
 use Rattle.yasna_bytes.specs.Contents.{MayWant, WantsMemory}
 use Rattle.yasna_bytes.proofs.Refusal.{begins_not_elsewhere, stood_refuses, refuses_less, may_want}
-use Rattle.yasna_bytes.proofs.Header.{element_begins}
+use Rattle.yasna_bytes.proofs.Header.{begins_before}
 
 -- a front that is a primitive element begins with the tag
 pub takes_begins : (m : BERMode) (n : ℕ) (t : Tag) (s c r : List ℕ) → Takes (IsPrimitive AreContents n m t) s c r → BeginsWithTag t s
-takes_begins m n t s c r x = element_begins m t Primitive x.member.contents x.front s r x.member.element x.joined
+takes_begins m n t s c r x = begins_before m t Primitive x.member.contents x.front s r x.member.element x.joined
 
 -- contents that stand for no value, in a primitive element
 no_value : {A : Type 0} (W : A → List ℕ → Type 0) (m : BERMode) (n : ℕ) (t : Tag) (s c r : List ℕ) (e : Refusal) →

@@ -18,7 +18,7 @@ use Rattle.yasna_bytes.specs.Refusal.{BlamesBytes, IsTooDeep, Refuses}
 use Rattle.yasna_bytes.specs.Length.{Measures}
 use Rattle.yasna_bytes.specs.Front.{Takes, Stands}
 use Rattle.yasna_base.specs.Header.{ContentsEnd, counted, uncounted, Counts, OpensAt}
-use Rattle.yasna_bytes.specs.Header.{contents_end, Holds, HeldBehind, NotHeld, too_deep, no_contents, BehindAt, OpenedAt, HasHeader, AnyBit, OnlyConstructed, RefusesHeader, AreContents}
+use Rattle.yasna_bytes.specs.Header.{contents_end, Holds, HeldBehind, NotHeld, no_level, no_contents, BehindAt, OpenedAt, HasHeader, AnyBit, OnlyConstructed, RefusesHeader, AreContents}
 use Rattle.yasna_base.proofs.Digits.{bytes_behind, bytes_front}
 use Rattle.yasna_bytes.proofs.Refusal.{deep_refuses, stood_refuses, refuses_less}
 
@@ -36,7 +36,7 @@ wanted_refuses P m n t s e p y f l k o w = stood_refuses (HasHeader P m n t s) n
 -- the identifier stands there, and nothing behind it that is taken
 not_held_refuses : (m : BERMode) (n : ℕ) (t : Tag) (s : List ℕ) (e : Refusal) (p : PCBit) (y : List ℕ) → s ≡ identifier t p ++ y → e.moved ≡ true →
     NotHeld m n p y e.kind → RefusesHeader AnyBit m n t s e
-not_held_refuses m n t s e p y f o (too_deep z k) = deep_refuses (HasHeader AnyBit m n t s) n t s e (λ x. x.level) (begins p y f) z k o
+not_held_refuses m n t s e p y f o (no_level z k) = deep_refuses (HasHeader AnyBit m n t s) n t s e (λ x. x.level) (begins p y f) z k o
 not_held_refuses m n t s e p y f o (no_contents l k w) = wanted_refuses AnyBit m n t s e p y f l k o (λ c g _. w c g)
 
 -- an element with the tag stands there, and isn't constructed
@@ -138,8 +138,8 @@ element_header P m n t p c b s r l a x e =
     record { level = l; bit = p; allowed = a; behind = h.behind; joined = h.joined; contents = h.contents; end = h.end; holds = h.holds }
 
 -- and begins with the tag
-pub element_begins : (m : BERMode) (t : Tag) (p : PCBit) (c b s r : List ℕ) → Element m t p c b → s ≡ b ++ r → BeginsWithTag t s
-element_begins m t p c b s r x e = let h = element_there m t p c b s r x e in begins p h.behind h.joined
+pub begins_before : (m : BERMode) (t : Tag) (p : PCBit) (c b s r : List ℕ) → Element m t p c b → s ≡ b ++ r → BeginsWithTag t s
+begins_before m t p c b s r x e = let h = element_there m t p c b s r x e in begins p h.behind h.joined
 
 -- where no header stands, no primitive element does
 pub header_refuses : {A : Type 0} (W : A → List ℕ → Type 0) (m : BERMode) (n : ℕ) (t : Tag) (s : List ℕ) (e : Refusal) → RefusesHeader AnyBit m n t s e →

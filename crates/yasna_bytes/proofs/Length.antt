@@ -100,13 +100,13 @@ pub none_measured : (m : BERMode) (x : ℕ) (y : List ℕ) → (x ≡ 128 → �
 none_measured m x y n f None r w = let e : x ≡ 128 = cc in n e
 none_measured m x y n f (Some k) r w = f k r w
 
-first : (k n : ℕ) (ds : List ℕ) → 0 < length ds → k ≡ number_from_digits_after 256 n ds → n * 256 ≤ k
-first k n [] h e = absurd (omega arith)
-first k n (d ∷ ds) h e = let g = number_after_ge 256 (n * 256 + d) ds (omega arith) in omega arith
+at_least_first : (k n : ℕ) (ds : List ℕ) → 0 < length ds → k ≡ number_from_digits_after 256 n ds → n * 256 ≤ k
+at_least_first k n [] h e = absurd (omega arith)
+at_least_first k n (d ∷ ds) h e = let g = number_after_ge 256 (n * 256 + d) ds (omega arith) in omega arith
 
 -- a number is at least 256 times what its first digits are, where another follows them
 pub grown : (ds : List ℕ) (i : ℕ) → i < length ds → number_from_digits 256 (take i ds) * 256 ≤ number_from_digits 256 ds
 grown ds i h =
     let e : number_from_digits 256 ds ≡ number_from_digits_after 256 (number_from_digits 256 (take i ds)) (drop i ds) =
     ap (λ z. number_from_digits 256 z) (sym (take-append-drop i ds)) ∙ number_after_append 256 0 (take i ds) (drop i ds) in
-    first (number_from_digits 256 ds) (number_from_digits 256 (take i ds)) (drop i ds) (omega (arith, length-drop i ds)) e
+    at_least_first (number_from_digits 256 ds) (number_from_digits 256 (take i ds)) (drop i ds) (omega (arith, length-drop i ds)) e

@@ -3,8 +3,8 @@ pub mod Length
 pub mod Header
 pub mod Oid
 pub mod RawHeader
-pub mod Walking
-pub mod Table
+pub mod WalkSteps
+pub mod WalkEnds
 pub mod RawElement
 pub mod Contents
 pub mod Cuts

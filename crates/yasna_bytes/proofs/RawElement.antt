@@ -10,7 +10,7 @@ use Rattle.yasna_base.proofs.Raw.{raw_of, raw_into, opens_raw, raw_ends, opens_s
 use Rattle.yasna_bytes.specs.declared.bytes.header.Refusal.{Refusal}
 use Rattle.yasna_bytes.specs.Walk.{NotOpened, IsOpened, Enters, NotWalked, HasRest, IsRest, RefusesRaw}
 use Rattle.yasna_bytes.proofs.RawHeader.{starts_not_at_end}
-use Rattle.yasna_bytes.proofs.Walking.{closes_to, raw_within, no_raw, deep_no_header, level_deep, entered_deep, deep_entered}
+use Rattle.yasna_bytes.proofs.WalkSteps.{closes_to, raw_within, no_raw, deep_no_header, level_deep, entered_deep, deep_entered}
 
 -- no header was read
 pub not_opened : (m : BERMode) (n : ℕ) (s : List ℕ) (e : Refusal) → NotOpened m n s e → RefusesRaw m n s e

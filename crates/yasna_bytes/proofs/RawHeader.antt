@@ -11,7 +11,7 @@ use Rattle.yasna_base.specs.Identifier.{identifier, end_tag, begins, StartsEleme
 use Rattle.yasna_base.proofs.Identifier.{identifier_exact, end_identifier, identifier_short, zeros_at_end}
 use Rattle.yasna_base.proofs.Pieces.{tag_not_end}
 use Rattle.yasna_bytes.specs.declared.bytes.header.Refusal.{Refusal}
-use Rattle.yasna_bytes.specs.Header.{Holds, NotHeld, too_deep, no_contents, HasHeader, AnyBit, EndsBefore, NoEnd, contents_end}
+use Rattle.yasna_bytes.specs.Header.{Holds, NotHeld, no_level, no_contents, HasHeader, AnyBit, EndsBefore, NoEnd, contents_end}
 use Rattle.yasna_bytes.specs.Refusal.{BlamesBytes}
 use Rattle.yasna_bytes.specs.Walk.{IsEndByte, NoHeader, NotOpened, IsOpened, TurnsTo, TurnOf, Stops}
 use Rattle.yasna_bytes.specs.declared.bytes.header.Opened.{Opened}
@@ -62,13 +62,13 @@ contents_refuse m n s e t p y b ne f l k o w = record {
 -- an identifier stands there, and nothing behind it that is taken
 pub not_held_opens : (m : BERMode) (n : ℕ) (s : List ℕ) (e : Refusal) (t : Tag) (p : PCBit) (y : List ℕ) → t.tag_number < 2 ^ 64 → (t ≡ end_tag → ⊥) →
     s ≡ identifier t p ++ y → e.moved ≡ true → NotHeld m n p y e.kind → NotOpened m n s e
-not_held_opens m n s e t p y b ne f o (too_deep z k) =
+not_held_opens m n s e t p y b ne f o (no_level z k) =
     level_refuses m n s e (record { tag = t; in_range = b; not_end = ne; begins = begins p y f }) z k o
 not_held_opens m n s e t p y b ne f o (no_contents l k w) = contents_refuse m n s e t p y b ne f l k o w
 
 -- a walk stops where contents don't end and no header stands
-stops : (m : BERMode) (n : ℕ) (e : ContentsEnd) (s : List ℕ) (r : Refusal) → NoEnd e s → NotOpened m n s r → Stops m n e s r.kind
-stops m n e s r o x = record { no_end = o; none = x.none; deep = x.deep; no_memory = x.no_memory }
+stops_by : (m : BERMode) (n : ℕ) (e : ContentsEnd) (s : List ℕ) (r : Refusal) → NoEnd e s → NotOpened m n s r → Stops m n e s r.kind
+stops_by m n e s r o x = record { no_end = o; none = x.none; deep = x.deep; no_memory = x.no_memory }
 
 -- where contents end, nothing is left or an end stands there
 pub ends_at_end : (e : ContentsEnd) (s r : List ℕ) → EndsBefore e s r → AtEnd s
@@ -77,7 +77,7 @@ ends_at_end uncounted s r x = subst AtEnd (sym x) (zeros_at_end (0 ∷ r))
 
 -- a walk stops where an element begins whose header doesn't stand there
 pub stops_behind : (m : BERMode) (n : ℕ) (e : ContentsEnd) (s : List ℕ) (r : Refusal) → NotOpened m n s r → r.moved ≡ true → Stops m n e s r.kind
-stops_behind m n e s r x f = stops m n e s r (λ a y. let z = x.moved.1 (ends_at_end e s a y) in absurd (cc)) x
+stops_behind m n e s r x f = stops_by m n e s r (λ a y. let z = x.moved.1 (ends_at_end e s a y) in absurd (cc)) x
 
 -- with a kind of its own where nothing is left or what looks like an end stands there
 pub stops_at_end : (m : BERMode) (n : ℕ) (e : ContentsEnd) (s : List ℕ) (k : ASN1ErrorKind) → NoEnd e s → AtEnd s → BlamesBytes k → Stops m n e s k

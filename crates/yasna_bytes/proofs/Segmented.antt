@@ -48,9 +48,9 @@ deep_header : {A : Type 0} (k : Segmentation A) (n : ℕ) (m : BERMode) (t : Tag
 deep_header k zero m t s d = inl (refl, deep_zero_into k m t s d)
 deep_header k (suc n) m t s d = let x = deep_into k n m t s d in inr (opens_header m (suc n) t Constructed s x.contents x.end (omega arith) x.opens)
 
-too_deep : {A : Type 0} (k : Segmentation A) (n : ℕ) (m : BERMode) (t : Tag) (s : List ℕ) → IsTooDeep n t s → IsDeepSegmented k n m t s
-too_deep k zero m t s d = deep_at_zero k m t s d.1
-too_deep k (suc n) m t s d = let e = d.0 in absurd (omega arith)
+too_deep_segmented : {A : Type 0} (k : Segmentation A) (n : ℕ) (m : BERMode) (t : Tag) (s : List ℕ) → IsTooDeep n t s → IsDeepSegmented k n m t s
+too_deep_segmented k zero m t s d = deep_at_zero k m t s d.1
+too_deep_segmented k (suc n) m t s d = let e = d.0 in absurd (omega arith)
 
 -- where no header stands, no string does
 pub header_refused : {A : Type 0} (k : Segmentation A) (n : ℕ) (m : BERMode) (t : Tag) (s : List ℕ) (e : Refusal) → RefusesHeader AnyBit m n t s e →
@@ -58,7 +58,7 @@ pub header_refused : {A : Type 0} (k : Segmentation A) (n : ℕ) (m : BERMode) (
 header_refused k n m t s e x = record {
   none = λ q w. x.none q (segmented_header k n m t w.0 w.2.front s w.1 w.2.member w.2.joined);
   moved = x.moved;
-  too_deep = λ f. too_deep k n m t s (x.too_deep f);
+  too_deep = λ f. too_deep_segmented k n m t s (x.too_deep f);
   deep = λ q d. elim (deep_header k n m t s d) [ inl f ↦ x.deep q f | inr h ↦ absurd (x.none q h) ];
   memory = λ f. absurd (x.memory f);
 }

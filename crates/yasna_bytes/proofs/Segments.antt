@@ -47,8 +47,8 @@ lead_more R c vs y v b r f p e = record {
 
 module _ {A : Type 0} {k : Segmentation A} (once : SegmentsOnce k) (n : ℕ) (m : BERMode) (c : List ℕ) where
   -- a string isn't elsewhere
-  here : (v : A) (b r y : List ℕ) → IsSegmented k n m k.segment v b → y ≡ b ++ r → IsElsewhere k.segment y → ⊥
-  here v b r y p e = begins_not_elsewhere (subst (λ z. BeginsWithTag k.segment z) (sym e) (begins_with k.segment b r (segmented_begins k n m k.segment v b p)))
+  segment_not_elsewhere : (v : A) (b r y : List ℕ) → IsSegmented k n m k.segment v b → y ≡ b ++ r → IsElsewhere k.segment y → ⊥
+  segment_not_elsewhere v b r y p e = begins_not_elsewhere (subst (λ z. BeginsWithTag k.segment z) (sym e) (begins_with k.segment b r (segmented_begins k n m k.segment v b p)))
 
   -- where segments that go on behind vs make no value, contents end nowhere but there
   pub record OneEnd (vs ws : List A) (y z : List ℕ) : Type 0 where
@@ -142,9 +142,9 @@ module _ {A T : Type 0} {k : Segmentation A} {value : List ℕ → T → A} (onc
     join = h.join;
     added = h.added;
     cuts = h.cuts;
-    only = λ z e. let i = one_end once n m c h.values y h.lead (λ w us v b r p g _. here once n m c w b r y p g f) z e in (i.same, i.values);
+    only = λ z e. let i = one_end once n m c h.values y h.lead (λ w us v b r p g _. segment_not_elsewhere once n m c w b r y p g f) z e in (i.same, i.values);
     not_deep = λ d. begins_not_elsewhere
-        (deep_begins k n m k.segment y (one_deep once n m c h.values y h.lead (λ w us b r p g _. here once n m c w b r y p g f) d).1) f;
+        (deep_begins k n m k.segment y (one_deep once n m c h.values y h.lead (λ w us b r p g _. segment_not_elsewhere once n m c w b r y p g f) d).1) f;
   }
 
   -- or where none may follow

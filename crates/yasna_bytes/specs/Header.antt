@@ -42,7 +42,7 @@ pub record HeldBehind (m : BERMode) (n : ℕ) (p : PCBit) (y : List ℕ) (o : Op
 
 -- no level is left for the element, or no contents stand behind its identifier
 pub data NotHeld (m : BERMode) (n : ℕ) (p : PCBit) (y : List ℕ) (k : ASN1ErrorKind) : Type 0 where
-  too_deep : n ≡ 0 → k ≡ StackOverflow → NotHeld m n p y k
+  no_level : n ≡ 0 → k ≡ StackOverflow → NotHeld m n p y k
   no_contents : 1 ≤ n → BlamesBytes k → ((c : List ℕ) (f : ContentsEnd) → Holds m p y c f → ⊥) → NotHeld m n p y k
 
 -- what stands behind the identifier of an element with the bit p

@@ -2,7 +2,7 @@ use Rattle.std.proofs.Common.{◌-◌, refl}
 use Rattle.yasna_base.specs.Raw.{IsRaw}
 use Rattle.yasna_bytes.specs.Header.{contents_end}
 use Rattle.yasna_bytes.proofs.RawElement.{not_opened, not_followed, to_rest, followed_rest, followed}
-use Rattle.yasna_bytes.proofs.Table.{opens_taken}
+use Rattle.yasna_bytes.proofs.WalkEnds.{opens_taken}
 use Rattle.yasna_bytes.proofs.bytes.walk.raw_element.Goals as goal
 
 pub follow-requires-clause-taken : goal.follow-requires-clause-taken

@@ -1,7 +1,7 @@
 use Rattle.std.proofs.Common.{rules, ◌∙◌, ◌-◌, take, sym, ap, set, get_or, length-set, arith, refl, subst, ◌≡◌, ◌+◌, ◌≤◌, length}
 use Rattle.yasna_bytes.specs.Header.{EndsBefore, contents_end}
 use Rattle.yasna_bytes.specs.Walk.{Passes, Enters, EndsWithin, Stops}
-use Rattle.yasna_bytes.proofs.Table.{Walking, walking_start, left_fits, left_counts, passed_fits, entered_fits, ends_outermost, left_walked, left_keeps, passed_keeps, entered_keeps, not_walked}
+use Rattle.yasna_bytes.proofs.WalkEnds.{Walking, walking_start, left_fits, left_counts, passed_fits, entered_fits, ends_outermost, left_walked, left_keeps, passed_keeps, entered_keeps, not_walked}
 use Rattle.yasna_bytes.proofs.bytes.walk.walk_contents.Goals as goal
 
 pub loop-after-init : goal.loop-after-init

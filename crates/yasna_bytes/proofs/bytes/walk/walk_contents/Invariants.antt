@@ -1,6 +1,6 @@
 use Rattle.std.proofs.Common.{◌≡◌, ◌+◌, ◌-◌, ◌*◌, length}
 use Rattle.yasna_bytes.specs.Header.{contents_end}
-use Rattle.yasna_bytes.proofs.Table.{Walking}
+use Rattle.yasna_bytes.proofs.WalkEnds.{Walking}
 use Rattle.yasna_bytes.proofs.bytes.walk.walk_contents.Given as goal
 
 abbrev pub invariant-loop-after : goal.invariant-loop-after

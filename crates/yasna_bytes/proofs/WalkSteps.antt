@@ -107,14 +107,14 @@ data Behind (P : List ℕ → Type 0) (m : BERMode) (n : ℕ) (p : PCBit) (s c :
   at_once : P s → Behind P m n p s c e
   later : (r : List ℕ) → ContentsTo (IsRaw n m) m p c e r → JoiningBefore (IsRaw (suc n) m) P r → Behind P m n p s c e
 
-behind : {P : List ℕ → Type 0} (m : BERMode) (n : ℕ) (t : Tag) (p : PCBit) (s c : List ℕ) (e : ContentsEnd) → OpensAt m t p s c e →
+first_behind : {P : List ℕ → Type 0} (m : BERMode) (n : ℕ) (t : Tag) (p : PCBit) (s c : List ℕ) (e : ContentsEnd) → OpensAt m t p s c e →
     First (IsRaw (suc n) m) P s → Behind P m n p s c e
-behind m n t p s c e o (here d) = at_once d
-behind m n t p s c e o (further v b r x f y) = later r (opens_raw m t p s c e v b r o (raw_into n m v b x) f).inside y
+first_behind m n t p s c e o (here d) = at_once d
+first_behind m n t p s c e o (further v b r x f y) = later r (opens_raw m t p s c e v b r o (raw_into n m v b x) f).inside y
 
 -- contents don't end where an element stands
-starts_not_ends : (e : ContentsEnd) (s r : List ℕ) → StartsElement s → EndsBefore e s r → ⊥
-starts_not_ends e s r x y = starts_not_at_end s x (ends_at_end e s r y)
+starts_no_end : (e : ContentsEnd) (s r : List ℕ) → StartsElement s → EndsBefore e s r → ⊥
+starts_no_end e s r x y = starts_not_at_end s x (ends_at_end e s r y)
 
 -- what is said behind elements from a place on, where an element of one header stands that isn't looked into
 module _ (m : BERMode) (n : ℕ) (s r : List ℕ) (x : Passes m (suc n) s r) where
@@ -124,7 +124,7 @@ module _ (m : BERMode) (n : ℕ) (s r : List ℕ) (x : Passes m (suc n) s r) whe
 
   passed : {P : List ℕ → Type 0} → (P s → ⊥) → JoiningBefore (IsRaw (suc n) m) P s ↔ JoiningBefore (IsRaw (suc n) m) P r
   passed not_here = (
-    λ y. past not_here (behind m n x.tag x.bit s x.contents (counted r) x.opened.opens (before_first s y)),
+    λ y. past not_here (first_behind m n x.tag x.bit s x.contents (counted r) x.opened.opens (before_first s y)),
     λ y. let w = raw_within m x.tag x.bit s x.contents (counted r) r x.opened.not_end x.opened.opens (refl, λ l. absurd (x.closed l)) in
         more_raw m n w.0 s r w.1 y,
   )
@@ -133,7 +133,7 @@ module _ (m : BERMode) (n : ℕ) (s r : List ℕ) (x : Passes m (suc n) s r) whe
   passed_starts = opens_starts m x.tag x.bit s x.contents (counted r) x.opened.not_end x.opened.opens
 
   pub passed_closes : (e : ContentsEnd) (a : List ℕ) → ClosesBefore (suc n) m e s a ↔ ClosesBefore (suc n) m e r a
-  passed_closes e a = passed (starts_not_ends e s a passed_starts)
+  passed_closes e a = passed (starts_no_end e s a passed_starts)
 
   passed_not_deep : DeepRaw (IsRaw n m) (IsDeepRaw n m) m s → ⊥
   passed_not_deep y =
@@ -151,7 +151,7 @@ module _ (m : BERMode) (n : ℕ) (s c : List ℕ) (f : ContentsEnd) (x : Enters 
 
   pub entered : {P : List ℕ → Type 0} → JoiningBefore (IsRaw (suc n) m) P s →
       P s ⊎ ((r : List ℕ) × ClosesBefore n m f c r × JoiningBefore (IsRaw (suc n) m) P r)
-  entered y = enter (behind m n x.tag x.bit s c f x.opened.opens (before_first s y))
+  entered y = enter (first_behind m n x.tag x.bit s c f x.opened.opens (before_first s y))
 
   pub entered_more : {P : List ℕ → Type 0} (r : List ℕ) → ClosesBefore n m f c r → JoiningBefore (IsRaw (suc n) m) P r → JoiningBefore (IsRaw (suc n) m) P s
   entered_more r w y =
@@ -159,7 +159,7 @@ module _ (m : BERMode) (n : ℕ) (s c : List ℕ) (f : ContentsEnd) (x : Enters 
       more_raw m n v.0 s r v.1 y
 
   pub entered_not_end : (e : ContentsEnd) (a : List ℕ) → EndsBefore e s a → ⊥
-  entered_not_end e a = starts_not_ends e s a (opens_starts m x.tag x.bit s c f x.opened.not_end x.opened.opens)
+  entered_not_end e a = starts_no_end e s a (opens_starts m x.tag x.bit s c f x.opened.not_end x.opened.opens)
 
   pub entered_deep : IsDeepRaw (suc n) m s → MeetsDeep n m c
   entered_deep d =
@@ -177,7 +177,7 @@ left_closes m n e s r a x (here y) = ends_once e s a r y x
 left_closes m n e s r a x (further v b q p f y) = absurd (starts_not_end b q s (raw_starts n m v b p) (ends_at_end e s r x) f)
 
 pub left_deep : (m : BERMode) (n : ℕ) (e : ContentsEnd) (s r : List ℕ) → EndsBefore e s r → First (IsRaw n m) (IsDeepRaw n m) s → ⊥
-left_deep m n e s r x (here d) = starts_not_ends e s r (deep_starts n m s d) x
+left_deep m n e s r x (here d) = starts_no_end e s r (deep_starts n m s d) x
 left_deep m n e s r x (further v b q p f y) = starts_not_end b q s (raw_starts n m v b p) (ends_at_end e s r x) f
 
 -- no element stands where no header does

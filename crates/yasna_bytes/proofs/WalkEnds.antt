@@ -16,7 +16,7 @@ use Rattle.yasna_base.specs.declared.tag.Tag.{Tag}
 use Rattle.yasna_base.proofs.Identifier.{identifier_some}
 use Rattle.yasna_bytes.specs.Header.{EndsBefore, NoEnd, contents_end}
 use Rattle.yasna_bytes.specs.Walk.{Passes, Enters, EndsWithin, Stops, ClosesBefore, MeetsDeep, NotWalked, TakesEnd, IsWalked, following}
-use Rattle.yasna_bytes.proofs.Walking.{before_here, before_first, left_closes, left_deep, passed_closes, passed_deep, entered, entered_more, entered_not_end, entered_deep, deep_entered, closed_stops, deep_stops, stops_deep}
+use Rattle.yasna_bytes.proofs.WalkSteps.{before_here, before_first, left_closes, left_deep, passed_closes, passed_deep, entered, entered_more, entered_not_end, entered_deep, deep_entered, closed_stops, deep_stops, stops_deep}
 
 -- from s on the innermost elements end, one behind the other, and a follows the outermost
 abbrev pub AllClose : BERMode → List ContentsEnd → ℕ → List ℕ → List ℕ → Type 0
@@ -90,25 +90,25 @@ module _ (m : BERMode) (e : ContentsEnd) (es : List ContentsEnd) (n : ℕ) (s c 
   close_around : (a : List ℕ) → AllClose m (f ∷ (e ∷ es)) n c a → AllClose m (e ∷ es) (suc n) s a
   close_around a y = (y.2.0, entered_more m n s c f x y.0 y.1 y.2.1, y.2.2)
 
-  deep_within : AnyDeep m (e ∷ es) (suc n) s → AnyDeep m (f ∷ (e ∷ es)) n c
-  deep_within (inl d) = elim (entered m n s c f x d) [
+  any_deep_within : AnyDeep m (e ∷ es) (suc n) s → AnyDeep m (f ∷ (e ∷ es)) n c
+  any_deep_within (inl d) = elim (entered m n s c f x d) [
     | inl y ↦ inl (entered_deep m n s c f x y)
     | inr z ↦ inr (z.0, z.1, inl z.2)
   ]
-  deep_within (inr y) = elim (entered m n s c f x y.1) [
+  any_deep_within (inr y) = elim (entered m n s c f x y.1) [
     | inl d ↦ absurd (entered_not_end m n s c f x e y.0 d)
     | inr z ↦ inr (z.0, z.1, inr (y.0, z.2, y.2))
   ]
 
-  deep_around : AnyDeep m (f ∷ (e ∷ es)) n c → AnyDeep m (e ∷ es) (suc n) s
-  deep_around (inl d) = inl (before_here s (deep_entered m n s c f x d))
-  deep_around (inr y) = elim y.2 [
+  any_deep_around : AnyDeep m (f ∷ (e ∷ es)) n c → AnyDeep m (e ∷ es) (suc n) s
+  any_deep_around (inl d) = inl (before_here s (deep_entered m n s c f x d))
+  any_deep_around (inr y) = elim y.2 [
     | inl d ↦ inl (entered_more m n s c f x y.0 y.1 d)
     | inr z ↦ inr (z.0, entered_more m n s c f x y.0 y.1 z.1, z.2)
   ]
 
   same_entered : Same m (e ∷ es) (suc n) s (f ∷ (e ∷ es)) n c
-  same_entered = record { closes = λ a. (close_within a, close_around a); deep = (deep_within, deep_around) }
+  same_entered = record { closes = λ a. (close_within a, close_around a); deep = (any_deep_within, any_deep_around) }
 
 -- the walk stops: no element around ends
 stopped_closes : (m : BERMode) (e : ContentsEnd) (es : List ContentsEnd) (n : ℕ) (s : List ℕ) (k : ASN1ErrorKind) → Stops m n e s k → (a : List ℕ) →
