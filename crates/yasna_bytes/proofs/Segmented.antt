@@ -17,7 +17,7 @@ use Rattle.yasna_bytes.specs.Front.{Takes, Stands}
 use Rattle.yasna_bytes.specs.Header.{AnyBit, AreContents, HasHeader, RefusesHeader, EndsBefore, NoEnd}
 use Rattle.yasna_bytes.specs.Refusal.{BlamesBytes, IsTooDeep}
 use Rattle.yasna_bytes.specs.declared.bytes.segments.cuts.Cuts.{Cuts}
-use Rattle.yasna_bytes.specs.Segments.{MakeUpTo, IsDeepWithin, AsksFor, TakesSegments, RefusesSegments, TakesString, RefusesString}
+use Rattle.yasna_bytes.specs.Segments.{MakeUpTo, IsDeepWithin, AsksFor, SegmentsRead, TakesSegments, Appends, RefusesSegments, TakesString, RefusesString}
 use Rattle.yasna_bytes.proofs.Contents.{takes_begins, copy_wants, opens_wants}
 use Rattle.yasna_bytes.proofs.Cuts.{asked_cut}
 use Rattle.yasna_bytes.proofs.Header.{element_header}
@@ -167,15 +167,15 @@ module _ {A : Type 0} (k : Segmentation A) (n j : ℕ) (more : 1 ≤ n) (less : 
     memory = λ _. opens_wants n m t Constructed s c end more x.not_empty o;
   }
 
-  module _ {T : Type 0} {value : List ℕ → T → A} {out out' y : List ℕ} {x : T} {u : Cuts} (h : TakesSegments k value j (segment_mode m) c out x u y out')
+  module _ {T : Type 0} {value : List ℕ → T → A} {y : List ℕ} {x : SegmentsRead A T} (h : TakesSegments k value j (segment_mode m) c x y)
       (p : BlamesBytes e.kind) where
     -- segments were read that the mode doesn't take as they are cut
-    pub cuts_refused : (AsksFor m u → ⊥) → RefusesString k n m t s e
+    pub cuts_refused : (AsksFor m x.cuts → ⊥) → RefusesString k n m t s e
     cuts_refused f = stood k n m t s e begun p moved
         (λ w.
         let z = as_segments w.0 w.1 w.2 in
         let same = (h.only z.place z.made).1 in
-        f ((asked_cut k m h.values u h.cuts).1 (subst (λ vs. FallsInto m k.full (map k.bytes vs)) same z.cut)))
+        f ((asked_cut k m x.values x.cuts h.read.cut).1 (subst (λ vs. FallsInto m k.full (map k.bytes vs)) same z.cut)))
         (λ d. h.not_deep (deep_within d).1)
 
     -- segments were read, and don't end where contents may
@@ -187,18 +187,19 @@ module _ {A : Type 0} (k : Segmentation A) (n j : ℕ) (more : 1 ≤ n) (less : 
 -- segments were read, are cut as the mode asks, and end where contents may
 pub closed_taken : {A T : Type 0} (k : Segmentation A) (value : List ℕ → T → A) (n j : ℕ) → 1 ≤ n → j ≡ n - 1 → (m : BERMode) (t : Tag) (s c : List ℕ)
     (end : ContentsEnd) → OpensAt m t Constructed s c end → MaySegment m → (x : T) (u : Cuts) (y r out out' : List ℕ) →
-    TakesSegments k value j (segment_mode m) c out x u y out' → AsksFor m u → EndsBefore end y r → TakesString k value n m t s out x r out'
+    Appends (λ q. TakesSegments k value j (segment_mode m) c q y) x u out out' → AsksFor m u → EndsBefore end y r → TakesString k value n m t s out x r out'
 closed_taken k value n j l f m t s c end o h x u y r out out' z a e =
-    let b = closed m t Constructed s c end o z.lead.front y r z.lead.joined e in
+    let i = z.holds.read in
+    let b = closed m t Constructed s c end o i.lead.front y r i.lead.joined e in
     record {
       bytes = z.bytes;
       takes = record {
         front = b.bytes;
         joined = b.joined;
-        member = let i : suc j ≡ n = omega arith in
-            subst (λ q. IsSegmented k q m t (value z.bytes x) b.bytes) i
+        member = let g : suc j ≡ n = omega arith in
+            subst (λ q. IsSegmented k q m t (value z.bytes x) b.bytes) g
             (segmented_of k j m t (value z.bytes x) b.bytes
-            (in_segments h z.lead.front z.values b.element z.lead.pieces z.join ((asked_cut k m z.values u z.cuts).0 a)));
+            (in_segments h i.lead.front z.values b.element i.lead.pieces i.join ((asked_cut k m z.values u i.cut).0 a)));
       };
       added = z.added;
     }
@@ -209,9 +210,10 @@ as_well {r} {x} {s} {y} {t} B e f g h = subst (λ u. B x y u) g (subst (λ u. B 
 
 -- segments that were read where the contents of an element begin, by the rules of its segments
 pub taken_inside : {A T : Type 0} {k : Segmentation A} {value : List ℕ → T → A} {n j : ℕ} {o : BERMode} {c s out y out' : List ℕ} {x : T} {u : Cuts} →
-    (m : BERMode) → j ≡ n → o ≡ segment_mode m → s ≡ c → TakesSegments k value j o s out x u y out' → TakesSegments k value n (segment_mode m) c out x u y out'
+    (m : BERMode) → j ≡ n → o ≡ segment_mode m → s ≡ c → Appends (λ q. TakesSegments k value j o s q y) x u out out' →
+    Appends (λ q. TakesSegments k value n (segment_mode m) c q y) x u out out'
 taken_inside {k = k} {value = value} {n = n} {c = c} {out = out} {y = y} {out' = out'} {x = x} {u = u} m e f g h =
-    as_well {x = n} {y = segment_mode m} {z = c} (λ i q d. TakesSegments k value i q d out x u y out') e f g h
+    as_well {x = n} {y = segment_mode m} {z = c} (λ i o d. Appends (λ q. TakesSegments k value i o d q y) x u out out') e f g h
 
 -- what holds where a refusal didn't move holds of one that did
 pub refused_moved : {R : Type 0} {b : Bool} {o p : List ℕ} → R → b ≡ true → R × (b ≡ false → o ≡ p)

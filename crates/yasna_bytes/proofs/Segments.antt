@@ -14,7 +14,7 @@ use Rattle.yasna_base.proofs.Pieces.{NoFront, no_front_at_end, pieces_further, p
 use Rattle.yasna_bytes.specs.declared.bytes.header.Refusal.{Refusal}
 use Rattle.yasna_bytes.specs.Refusal.{BlamesBytes, IsElsewhere, nothing}
 use Rattle.yasna_bytes.specs.declared.bytes.segments.cuts.Cuts.{Cuts}
-use Rattle.yasna_bytes.specs.Segments.{GoOn, HoldsBytes, Adds, further_cut, AreCut, LeadTo, MakeUpTo, IsDeepWithin, TakesSegments, RefusesSegments, TakesString, RefusesString}
+use Rattle.yasna_bytes.specs.Segments.{GoOn, HoldsBytes, Adds, further_cut, AreCut, LeadTo, MakeUpTo, IsDeepWithin, SegmentsRead, ReadsUpTo, TakesSegments, Appends, RefusesSegments, TakesString, RefusesString}
 use Rattle.yasna_bytes.proofs.Cuts.{none_cut, further_is_cut}
 use Rattle.yasna_bytes.proofs.Refusal.{plain_not_deep, at_end_elsewhere, begins_not_elsewhere}
 
@@ -86,15 +86,9 @@ module _ {A : Type 0} {k : Segmentation A} (once : SegmentsOnce k) (n : ℕ) (m 
         | goes w us b r h p i ↦ absurd (none w us b r p i (subst k.more h d.more))
       ]
 
--- segments were read as far as y, their bytes appended to out, x is known of them besides, and u says how they are cut
-pub record Reached {A T : Type 0} (k : Segmentation A) (value : List ℕ → T → A) (n : ℕ) (m : BERMode) (c : List ℕ) (x : T) (u : Cuts)
-    (y out out' : List ℕ) : Type 0 where
-  pub values : List A
-  pub bytes : List ℕ
-  pub lead : LeadTo (IsSegmented k n m k.segment) c values y
-  pub join : k.join m values (value bytes x)
-  pub added : out' ≡ out ++ bytes
-  pub cuts : AreCut k values u
+-- segments were read as far as y, and their bytes appended to out
+abbrev pub Reached : {A T : Type 0} → Segmentation A → (List ℕ → T → A) → ℕ → BERMode → List ℕ → T → Cuts → List ℕ → List ℕ → List ℕ → Type 0
+Reached k value n m c x u y out out' = Appends (λ s. ReadsUpTo k value n m c s y) x u out out'
 
 module _ {A T : Type 0} {k : Segmentation A} {value : List ℕ → T → A} (once : SegmentsOnce k) (go_on : GoOn k) (n : ℕ) (m : BERMode) (c : List ℕ) where
   -- reading begins with no segments
@@ -103,10 +97,12 @@ module _ {A T : Type 0} {k : Segmentation A} {value : List ℕ → T → A} (onc
   reached_none x u out e j = record {
     values = [];
     bytes = [];
-    lead = record { front = []; pieces = record { pieces = []; each = tt; joined = refl }; joined = refl };
-    join = j;
+    holds = record {
+      lead = record { front = []; pieces = record { pieces = []; each = tt; joined = refl }; joined = refl };
+      join = j;
+      cut = subst (AreCut k []) (sym e) (none_cut k);
+    };
     added = sym (append-nil out);
-    cuts = subst (AreCut k []) (sym e) (none_cut k);
   }
 
   -- and goes on by a further one
@@ -116,14 +112,16 @@ module _ {A T : Type 0} {k : Segmentation A} {value : List ℕ → T → A} (onc
   reached_more holds x z s u w y r out out' out'' h more t a e = record {
     values = h.values ++ (value t.bytes s ∷ []);
     bytes = h.bytes ++ t.bytes;
-    lead = lead_more (IsSegmented k n m k.segment) c h.values y (value t.bytes s) t.takes.front r h.lead t.takes.member t.takes.joined;
-    join = a m h.values h.bytes t.bytes h.join more;
+    holds = record {
+      lead = lead_more (IsSegmented k n m k.segment) c h.values y (value t.bytes s) t.takes.front r h.holds.lead t.takes.member t.takes.joined;
+      join = a m h.values h.bytes t.bytes h.holds.join more;
+      cut =
+          let size : length out'' - length out' ≡ length (k.bytes (value t.bytes s)) =
+          omega (arith, ap length t.added, length-append out' t.bytes, ap length (holds t.bytes s)) in
+          subst (AreCut k (h.values ++ (value t.bytes s ∷ []))) (sym e)
+          (further_is_cut k h.values u (value t.bytes s) (length out'' - length out') size h.holds.cut);
+    };
     added = t.added ∙ ap (λ q. q ++ t.bytes) h.added ∙ append_assoc out h.bytes t.bytes;
-    cuts =
-        let size : length out'' - length out' ≡ length (k.bytes (value t.bytes s)) =
-        omega (arith, ap length t.added, length-append out' t.bytes, ap length (holds t.bytes s)) in
-        subst (AreCut k (h.values ++ (value t.bytes s ∷ []))) (sym e)
-        (further_is_cut k h.values u (value t.bytes s) (length out'' - length out') size h.cuts);
   }
 
   -- fewer bytes are left behind it
@@ -133,45 +131,33 @@ module _ {A T : Type 0} {k : Segmentation A} {value : List ℕ → T → A} (onc
       omega (arith, ap length t.takes.joined, length-append t.takes.front r)
 
   -- reading stops where no segment stands
-  pub stops_elsewhere : (x : T) (u : Cuts) (y out out' : List ℕ) → Reached k value n m c x u y out out' → IsElsewhere k.segment y →
-      TakesSegments k value n m c out x u y out'
-  stops_elsewhere x u y out out' h f = record {
-    values = h.values;
-    bytes = h.bytes;
-    lead = h.lead;
-    join = h.join;
-    added = h.added;
-    cuts = h.cuts;
-    only = λ z e. let i = one_end once n m c h.values y h.lead (λ w us v b r p g _. segment_not_elsewhere once n m c w b r y p g f) z e in (i.same, i.values);
+  pub stops_elsewhere : (s : SegmentsRead A T) (y : List ℕ) → ReadsUpTo k value n m c s y → IsElsewhere k.segment y → TakesSegments k value n m c s y
+  stops_elsewhere s y h f = record {
+    read = h;
+    only = λ z e. let i = one_end once n m c s.values y h.lead (λ w us v b r p g _. segment_not_elsewhere once n m c w b r y p g f) z e in (i.same, i.values);
     not_deep = λ d. begins_not_elsewhere
-        (deep_begins k n m k.segment y (one_deep once n m c h.values y h.lead (λ w us b r p g _. segment_not_elsewhere once n m c w b r y p g f) d).1) f;
+        (deep_begins k n m k.segment y (one_deep once n m c s.values y h.lead (λ w us b r p g _. segment_not_elsewhere once n m c w b r y p g f) d).1) f;
   }
 
   -- or where none may follow
-  pub stops_full : (x : T) (u : Cuts) (y out out' : List ℕ) → (h : Reached k value n m c x u y out out') → (k.more h.values → ⊥) →
-      TakesSegments k value n m c out x u y out'
-  stops_full x u y out out' h f = record {
-    values = h.values;
-    bytes = h.bytes;
-    lead = h.lead;
-    join = h.join;
-    added = h.added;
-    cuts = h.cuts;
-    only = λ z e. let i = one_end once n m c h.values y h.lead (λ w us v b r p g j. f (go_on.joined m h.values us w v j)) z e in (i.same, i.values);
-    not_deep = λ d. f (one_deep once n m c h.values y h.lead (λ w us b r p g j. f (go_on.more h.values us w j)) d).0;
+  pub stops_full : (s : SegmentsRead A T) (y : List ℕ) → ReadsUpTo k value n m c s y → (k.more s.values → ⊥) → TakesSegments k value n m c s y
+  stops_full s y h f = record {
+    read = h;
+    only = λ z e. let i = one_end once n m c s.values y h.lead (λ w us v b r p g j. f (go_on.joined m s.values us w v j)) z e in (i.same, i.values);
+    not_deep = λ d. f (one_deep once n m c s.values y h.lead (λ w us b r p g j. f (go_on.more s.values us w j)) d).0;
   }
 
   -- a segment is refused
-  pub segment_refused : (x : T) (u : Cuts) (y out out' : List ℕ) (e : Refusal) → (h : Reached k value n m c x u y out out') → k.more h.values →
-      RefusesString k n m k.segment y e → e.moved ≡ true → RefusesSegments k n m c e
-  segment_refused x u y out out' e h more f o =
+  pub segment_refused : (s : SegmentsRead A T) (y : List ℕ) (e : Refusal) → ReadsUpTo k value n m c s y → k.more s.values → RefusesString k n m k.segment y e →
+      e.moved ≡ true → RefusesSegments k n m c e
+  segment_refused s y e h more f o =
       let there : IsElsewhere k.segment y → ⊥ = λ g. let i = f.moved.1 g in absurd (cc) in
       let none : (e.kind ≡ OutOfMemory → ⊥) → NoFront (IsSegmented k n m k.segment) y = λ q w b r p g. f.none q (w, r, record { front = b; joined = g; member = p }) in
       record {
-        none = λ q z i. there (at_end_elsewhere k.segment y once.segment (one_end once n m c h.values y h.lead (λ w us v b r p g _. none q w b r p g) z i).at_end);
+        none = λ q z i. there (at_end_elsewhere k.segment y once.segment (one_end once n m c s.values y h.lead (λ w us v b r p g _. none q w b r p g) z i).at_end);
         moved = o;
         too_deep = λ i. record {
-          values = h.values;
+          values = s.values;
           front = h.lead.front;
           rest = y;
           pieces = h.lead.pieces;
@@ -179,7 +165,7 @@ module _ {A T : Type 0} {k : Segmentation A} {value : List ℕ → T → A} (onc
           joined = h.lead.joined;
           deep = f.too_deep i;
         };
-        deep = λ q d. f.deep q (one_deep once n m c h.values y h.lead (λ w us b r p g _. none q w b r p g) d).1;
+        deep = λ q d. f.deep q (one_deep once n m c s.values y h.lead (λ w us b r p g _. none q w b r p g) d).1;
         not_empty = λ i. there (nothing (no_rest h.lead.front y (sym h.lead.joined ∙ i)));
       }
     where
@@ -193,9 +179,9 @@ module _ {A T : Type 0} {k : Segmentation A} {value : List ℕ → T → A} (onc
   segment_too_much x s u y r out out' out'' q e h t a f o =
       let w = value t.bytes s in
       let vs = h.values ++ (w ∷ []) in
-      let lead = lead_more (IsSegmented k n m k.segment) c h.values y w t.takes.front r h.lead t.takes.member t.takes.joined in
+      let lead = lead_more (IsSegmented k n m k.segment) c h.values y w t.takes.front r h.holds.lead t.takes.member t.takes.joined in
       let none : (us : List A) → ((v : A) → k.join m (h.values ++ (w ∷ us)) v → ⊥) × (k.more (h.values ++ (w ∷ us)) → ⊥) =
-      λ us. a.1 m h.values us h.bytes t.bytes h.join in
+      λ us. a.1 m h.values us h.bytes t.bytes h.holds.join in
       let plain : BlamesBytes e.kind = subst BlamesBytes (sym f) a.0 in
       record {
         none = λ _ z i. let j = one_end once n m c vs r lead (λ u us v b x p g l.
@@ -206,5 +192,5 @@ module _ {A T : Type 0} {k : Segmentation A} {value : List ℕ → T → A} (onc
         deep = λ _ d. absurd ((none []).1 (one_deep once n m c vs r lead (λ u us b x p g l.
             (none (u ∷ us)).1 (subst k.more (append_assoc h.values (w ∷ []) (u ∷ us)) l)) d).0);
         not_empty = λ i. let j = reached_shorter s y r out' out'' t in
-            omega (arith, ap length i, ap length h.lead.joined, length-append h.lead.front y);
+            omega (arith, ap length i, ap length h.holds.lead.joined, length-append h.holds.lead.front y);
       }

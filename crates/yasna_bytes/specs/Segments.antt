@@ -93,18 +93,36 @@ pub record AreCut {A : Type 0} (k : Segmentation A) (vs : List A) (c : Cuts) : T
   pub full : IsTrue c.full ↔ AllByRecursion (λ b. length b ≡ k.full) (map k.bytes vs)
   pub even : IsTrue c.even ↔ FallsInto Cer k.full (map k.bytes vs)
 
--- segments were read as far as y, their bytes appended to out, x is known of them besides, and u says how they are cut: no others
--- make up c
-pub record TakesSegments {A T : Type 0} (k : Segmentation A) (value : List ℕ → T → A) (n : ℕ) (m : BERMode) (c out : List ℕ) (x : T) (u : Cuts)
-    (y out' : List ℕ) : Type 0 where
+-- Segments of a constructed string, read one after the other (X.690, 8.6.4 and 8.7.3). values: what the contents octets of
+-- each segment say. bytes: the octets of the values, one behind the other. known: what is known besides of the value that the
+-- segments make up. cuts: how long they are
+pub record SegmentsRead (A T : Type 0) : Type 0 where
   pub values : List A
   pub bytes : List ℕ
-  pub lead : LeadTo (IsSegmented k n m k.segment) c values y
-  pub join : k.join m values (value bytes x)
-  pub added : out' ≡ out ++ bytes
-  pub cuts : AreCut k values u
-  pub only : (z : List ℕ) (e : MakeUpTo k n m c z) → (z ≡ y) × (e.values ≡ values)
+  pub known : T
+  pub cuts : Cuts
+
+-- Such segments stand at the front of c, and y is behind them. lead: they are encodings of the segment's type. join: their
+-- contents octets, joined in order, say a value. cut: they are as long as is said
+pub record ReadsUpTo {A T : Type 0} (k : Segmentation A) (value : List ℕ → T → A) (n : ℕ) (m : BERMode) (c : List ℕ) (x : SegmentsRead A T)
+    (y : List ℕ) : Type 0 where
+  pub lead : LeadTo (IsSegmented k n m k.segment) c x.values y
+  pub join : k.join m x.values (value x.bytes x.known)
+  pub cut : AreCut k x.values x.cuts
+
+-- The same, and none follows. only: no others make up c. not_deep: none lies too deep
+pub record TakesSegments {A T : Type 0} (k : Segmentation A) (value : List ℕ → T → A) (n : ℕ) (m : BERMode) (c : List ℕ) (x : SegmentsRead A T)
+    (y : List ℕ) : Type 0 where
+  pub read : ReadsUpTo k value n m c x y
+  pub only : (z : List ℕ) (e : MakeUpTo k n m c z) → (z ≡ y) × (e.values ≡ x.values)
   pub not_deep : IsDeepWithin k n m c → ⊥
+
+-- P holds of segments of which x and u are what is known and how they are cut, and their bytes were appended to out
+pub record Appends {A T : Type 0} (P : SegmentsRead A T → Type 0) (x : T) (u : Cuts) (out out' : List ℕ) : Type 0 where
+  pub values : List A
+  pub bytes : List ℕ
+  pub holds : P (record { values = values; bytes = bytes; known = x; cuts = u })
+  pub added : out' ≡ out ++ bytes
 
 -- no segments make up c
 pub record RefusesSegments {A : Type 0} (k : Segmentation A) (n : ℕ) (m : BERMode) (c : List ℕ) (e : Refusal) : Type 0 where
@@ -117,7 +135,7 @@ pub record RefusesSegments {A : Type 0} (k : Segmentation A) (n : ℕ) (m : BERM
 -- what reading segments answers, by its case
 abbrev pub SegmentsAt : {A T : Type 0} → Segmentation A → (List ℕ → T → A) → ℕ → BERMode → List ℕ → List ℕ →
     Result ((T × Cuts) × Bor (List ℕ)) Refusal → List ℕ → Type 0
-SegmentsAt k value n m c out (Ok x) out' = TakesSegments k value n m c out x.0.0 x.0.1 x.1.now out'
+SegmentsAt k value n m c out (Ok x) out' = Appends (λ s. TakesSegments k value n m c s x.1.now) x.0.0 x.0.1 out out'
 SegmentsAt k value n m c out (Err e) out' = RefusesSegments k n m c e
 
 -- a string stands at the front of s, its bytes were appended to out, and x is known of it besides

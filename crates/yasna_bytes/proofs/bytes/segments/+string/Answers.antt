@@ -3,7 +3,7 @@ use Rattle.yasna_base.specs.declared.tag.PCBit.TheVariants.{Constructed}
 use Rattle.yasna_base.specs.Segmented.{segment_mode}
 use Rattle.yasna_base.specs.Header.{OpensAt, counted}
 use Rattle.yasna_bytes.specs.Header.{contents_end}
-use Rattle.yasna_bytes.specs.Segments.{further_cut, TakesSegments, RefusesSegments, TakesString, RefusesString}
+use Rattle.yasna_bytes.specs.Segments.{further_cut, RefusesSegments, TakesString, RefusesString}
 use Rattle.yasna_bytes.proofs.Segmented.{header_refused, whole_taken, whole_refused, uncut_refused, segments_refused, cuts_refused, unclosed_refused, closed_taken, taken_inside, as_well, refused_moved}
 use Rattle.yasna_bytes.proofs.Header.{takes_primitive}
 use Rattle.yasna_bytes.proofs.Segments.{Reached, reached_none, reached_more, reached_shorter, stops_elsewhere, stops_full, segment_refused, segment_too_much}
@@ -71,7 +71,7 @@ element-returns-then-not-takes_cuts g t c =
     (q.left ∙ i.left) (c.in-Ok-segments.ensures {u = tt}) in
     rw c.refuse-then-not-takes_cuts.ensures (refused_moved
     (cuts_refused g.T.Tally.segmentation p.levels c.inside.result.levels w.0 i.levels p.mode c.args.tag p.left.now c.in-Ok.opened.within.now
-    (contents_end c.in-Ok.opened.after) o _ refl x tt (λ h. let z = (c.if-not-takes_cuts.ensures {u = tt}).1 h in cc)) refl)
+    (contents_end c.in-Ok.opened.after) o _ refl x.holds tt (λ h. let z = (c.if-not-takes_cuts.ensures {u = tt}).1 h in cc)) refl)
 
 pub element-returns-in-Ok-close : goal.element-returns-in-Ok-close
 element-returns-in-Ok-close g t c =
@@ -99,7 +99,7 @@ element-returns-in-Err-close g t c =
     let y = c.in-Err-close.ensures {u = tt} in
     rw c.refuse-in-Err-close.ensures (refused_moved
     (unclosed_refused g.T.Tally.segmentation p.levels c.inside.result.levels w.0 i.levels p.mode c.args.tag p.left.now c.in-Ok.opened.within.now
-    (contents_end c.in-Ok.opened.after) o _ refl x y.0 y.1) refl)
+    (contents_end c.in-Ok.opened.after) o _ refl x.holds y.0 y.1) refl)
 
 pub segments-loop-out-init : goal.segments-loop-out-init
 segments-loop-out-init g t c = record {
@@ -135,7 +135,7 @@ segments-loop-out-preserved g t c =
           c.args.out.now.items c.element.new.out.items) (sym f.left)
           (reached_more (g.met.T.Tally.once) (g.met.T.Tally.go_on) p.levels p.mode p.left.now (g.met.T.Tally.holds) l.tally c.in-Ok-with.all
           c.in-Ok.taken.0 l.cuts c.with-cuts.result l.place.left.now c.in-Ok.taken.1.now c.args.out.now.items l.out.items c.element.new.out.items h
-          ((c.loop-out-test.ensures {u = tt} p.levels p.mode h.values h.bytes h.lead.front h.lead.pieces h.join).0 refl) x (c.in-Ok-with.ensures {u = tt})
+          ((c.loop-out-test.ensures {u = tt} p.levels p.mode h.values h.bytes h.holds.lead.front h.holds.lead.pieces h.holds.join).0 refl) x (c.in-Ok-with.ensures {u = tt})
           (c.with-cuts.ensures ∙ ap (λ j. further_cut l.cuts j (c.count.result - c.count-before.result)) c.full.ensures
           ∙ ap₂ (λ i j. further_cut l.cuts g.T.Tally.segmentation.full (i - j)) c.count.ensures c.count-before.ensures));
     }
@@ -160,8 +160,8 @@ segments-returns-then-refusal g t c =
     let x = as_well {x = p.levels} {y = p.mode}
     (λ n m t. RefusesString g.T.Tally.segmentation n m t l.place.left.now c.in-Err.refusal) l.invariant.levels l.invariant.mode c.tag.ensures
     (c.in-Err.ensures {u = tt}).0 in
-    segment_refused (g.met.T.Tally.once) (g.met.T.Tally.go_on) p.levels p.mode p.left.now l.tally l.cuts l.place.left.now c.args.out.now.items
-    l.out.items c.in-Err.refusal h ((c.loop-out-test.ensures {u = tt} p.levels p.mode h.values h.bytes h.lead.front h.lead.pieces h.join).0 refl) x
+    segment_refused (g.met.T.Tally.once) (g.met.T.Tally.go_on) p.levels p.mode p.left.now _ l.place.left.now c.in-Err.refusal h.holds
+    ((c.loop-out-test.ensures {u = tt} p.levels p.mode h.values h.bytes h.holds.lead.front h.holds.lead.pieces h.holds.join).0 refl) x
     c.if-refusal.true
 
 pub segments-returns-in-Err : goal.segments-returns-in-Err
@@ -171,16 +171,24 @@ segments-returns-in-Err g t c =
     let x = as_well {x = p.levels} {y = p.mode}
     (λ n m t. RefusesString g.T.Tally.segmentation n m t l.place.left.now c.in-Err.refusal) l.invariant.levels l.invariant.mode c.tag.ensures
     (c.in-Err.ensures {u = tt}).0 in
-    subst (λ o. TakesSegments g.T.Tally.segmentation g.T.Tally.value p.levels p.mode p.left.now c.args.out.now.items l.tally l.cuts l.place.left.now o)
-    (sym ((c.in-Err.ensures {u = tt}).1 c.if-refusal.false))
-    (stops_elsewhere (g.met.T.Tally.once) (g.met.T.Tally.go_on) p.levels p.mode p.left.now l.tally l.cuts l.place.left.now c.args.out.now.items
-    l.out.items l.invariant.reached (x.moved.0 c.if-refusal.false))
+    let h = l.invariant.reached in
+    record {
+      values = h.values;
+      bytes = h.bytes;
+      holds = stops_elsewhere (g.met.T.Tally.once) (g.met.T.Tally.go_on) p.levels p.mode p.left.now _ l.place.left.now h.holds
+          (x.moved.0 c.if-refusal.false);
+      added = (c.in-Err.ensures {u = tt}).1 c.if-refusal.false ∙ h.added;
+    }
 
 pub segments-returns : goal.segments-returns
 segments-returns g t c =
     let p = c.args.contents in
     let l = c.loop-out in
     let h = l.invariant.reached in
-    stops_full (g.met.T.Tally.once) (g.met.T.Tally.go_on) p.levels p.mode p.left.now l.tally l.cuts l.place.left.now c.args.out.now.items
-    l.out.items h
-    (λ f. let z = (c.loop-out-test.ensures {u = tt} p.levels p.mode h.values h.bytes h.lead.front h.lead.pieces h.join).1 f in cc)
+    record {
+      values = h.values;
+      bytes = h.bytes;
+      holds = stops_full (g.met.T.Tally.once) (g.met.T.Tally.go_on) p.levels p.mode p.left.now _ l.place.left.now h.holds (λ f.
+          let z = (c.loop-out-test.ensures {u = tt} p.levels p.mode h.values h.bytes h.holds.lead.front h.holds.lead.pieces h.holds.join).1 f in cc);
+      added = h.added;
+    }
