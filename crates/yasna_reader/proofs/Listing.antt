@@ -22,7 +22,7 @@ use Rattle.yasna_reader.specs.Decodes.{Tells, KeptTells, Took, Decodes, TookCont
 use Rattle.yasna_reader.specs.Parse.{unless_kept}
 use Rattle.yasna_bytes.specs.Refusal.{BlamesBytes}
 use Rattle.yasna_reader.specs.Sequence.{place_in, ReadsParts}
-use Rattle.yasna_reader.specs.SequenceOf.{Idles, Turn, Turns, EndsList, Lists, Collects, items_of}
+use Rattle.yasna_reader.specs.SequenceOf.{Idles, ListTurn, Turns, EndsList, Lists, Collects, items_of}
 use Rattle.yasna_reader.specs.State.{Reading, IsFresh}
 use Rattle.yasna_bytes.proofs.Refusal.{plain_not_memory}
 use Rattle.yasna_reader.proofs.Sequences.{place_behind, element}
@@ -61,7 +61,7 @@ module _ {F A : Type 0} {E : A → A → Type 0} {B : Grammar A} {S : Members} (
         left = at ∙ ap (λ (c : List ℕ). record s { left = c; tag = None; kept = None }) place ∙ fresh_as s k.rest fresh;
       }
 
-  took_turn : (f : F) (s : Reading) (v : A) (f' : F) (s' : Reading) → IsFresh s → Turn C f s (Gave v) f' s' → Took (B s.mode s.levels) s v s'
+  took_turn : (f : F) (s : Reading) (v : A) (f' : F) (s' : Reading) → IsFresh s → ListTurn C f s (Gave v) f' s' → Took (B s.mode s.levels) s v s'
   took_turn f s v f' s' fresh t = took_as s v t.own t.left s' fresh (says f s t.own f' t.left fresh t.called) t.comes.0.2 t.comes.0.3
 
   -- what turns took: elements that stand for the values
@@ -71,7 +71,7 @@ module _ {F A : Type 0} {E : A → A → Type 0} {B : Grammar A} {S : Members} (
     pieces : Pieces (B s.mode s.levels) vs front
     same : s' ≡ record s { left = s'.left }
 
-  ran : (vs : List A) (f : F) (s : Reading) (f' : F) (s' : Reading) → IsFresh s → Turns (Turn C) f s vs f' s' → Ran vs s s'
+  ran : (vs : List A) (f : F) (s : Reading) (f' : F) (s' : Reading) → IsFresh s → Turns (ListTurn C) f s vs f' s' → Ran vs s s'
   ran [] f s f' s' fresh t = record {
     front = [];
     joined = ap (λ (z : Reading). z.left) (sym t.1);
@@ -94,14 +94,14 @@ module _ {F A : Type 0} {E : A → A → Type 0} {B : Grammar A} {S : Members} (
   ran_fresh vs s s' fresh x = (ap (λ (z : Reading). z.kept) x.same ∙ fresh.0, ap (λ (z : Reading). z.tag) x.same ∙ fresh.1)
 
   -- where a turn is quiet no element stands
-  quiet_none : (f : F) (s : Reading) (e : ASN1Error) (f' : F) (s' : Reading) → IsFresh s → Turn C f s (Quiet e) f' s' →
+  quiet_none : (f : F) (s : Reading) (e : ASN1Error) (f' : F) (s' : Reading) → IsFresh s → ListTurn C f s (Quiet e) f' s' →
       (b r : List ℕ) → s.left ≡ b ++ r → S s.mode s.levels b → ⊥
   quiet_none f s e f' s' fresh t =
       let d = subst (λ z. Decodes asks B S s z t.left) t.comes.3 (says f s t.own f' t.left fresh t.called) in
       d.0.tells.none (λ q. plain_not_memory t.comes.2 q)
 
   -- and nothing is moved
-  quiet_same : (f : F) (s : Reading) (e : ASN1Error) (f' : F) (s' : Reading) → IsFresh s → Turn C f s (Quiet e) f' s' → s' ≡ s
+  quiet_same : (f : F) (s : Reading) (e : ASN1Error) (f' : F) (s' : Reading) → IsFresh s → ListTurn C f s (Quiet e) f' s' → s' ≡ s
   quiet_same f s e f' s' fresh t =
       t.comes.4 ∙ ap (λ (c : List ℕ). record s { left = c; tag = None; kept = None }) (place_unmoved s.left t.left.left t.comes.1) ∙ fresh_as s s.left fresh
 
@@ -132,7 +132,7 @@ module _ {F A : Type 0} {E : A → A → Type 0} {B : Grammar A} {S : Members} (
       omega (arith, begins_some o.tag k.front o.begins, i.unmoved, ap length k.joined, length-append k.front k.rest, ap (λ (z : Reading). length z.left) k.left)
 
   -- what a failure says that ends a list
-  failed_tells : (f : F) (s : Reading) (e : ASN1Error) (f' : F) (s' : Reading) → IsFresh s → Turn C f s (Failed e) f' s' →
+  failed_tells : (f : F) (s : Reading) (e : ASN1Error) (f' : F) (s' : Reading) → IsFresh s → ListTurn C f s (Failed e) f' s' →
       Tells asks (S s.mode s.levels) s.left e × (AtEnd s.left → ⊥) × (s'.kept ≡ Some e)
   failed_tells f s e f' s' fresh t = elim t.comes [
     | inl c ↦ let d = fault_tells s e fresh t.own t.left (says f s t.own f' t.left fresh t.called) c.0 in (d.0, d.1, ap (λ (z : Reading). z.kept) c.1)
@@ -154,7 +154,7 @@ module _ {F A : Type 0} {E : A → A → Type 0} {B : Grammar A} {S : Members} (
         (k.1.joined ∙ ap concat w.0 ∙ sym x.pieces.joined, w.1)
 
     listed_by : (s : Reading) → IsFresh s → (vs : List A) (h : F) (place : Reading) → Ran vs s place → (o : Outcome A) (h' : F) (s' : Reading) →
-        Turn C h place o h' s' → (xs : Result (List A) ASN1Error) → EndsList vs o xs →
+        ListTurn C h place o h' s' → (xs : Result (List A) ASN1Error) → EndsList vs o xs →
         DecodesContents a (ElementsOf B) (AnyElements S) s (unless_kept s'.kept xs) s'
     listed_by s fresh vs h place x (Gave v) h' s' t xs ends = absurd ends
     listed_by s fresh vs h place x (Quiet e) h' s' t xs ends =
@@ -178,7 +178,7 @@ module _ {F A : Type 0} {E : A → A → Type 0} {B : Grammar A} {S : Members} (
         subst (λ z. DecodesContents a (ElementsOf B) (AnyElements S) s (unless_kept z xs) s') (sym f.2) D
 
     -- contents that a list's turns read
-    pub listed : (f : F) (s : Reading) → IsFresh s → (xs : Result (List A) ASN1Error) (s' : Reading) → Lists (Turn C) f s xs s' →
+    pub listed : (f : F) (s : Reading) → IsFresh s → (xs : Result (List A) ASN1Error) (s' : Reading) → Lists (ListTurn C) f s xs s' →
         DecodesContents a (ElementsOf B) (AnyElements S) s (unless_kept s'.kept xs) s'
     listed f s fresh xs s' x =
         listed_by s fresh x.values x.reached x.place (ran x.values f s x.reached x.place fresh x.turns) x.last x.after s' x.turn xs x.ends

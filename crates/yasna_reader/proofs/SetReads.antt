@@ -1,7 +1,5 @@
 -- What a read of a SET takes is a SET, and from every SET the callback is run.
 use Rattle.std.proofs.Common.{◌≡◌, ℕ, ◌-◌, ◌≤◌, inl, inr, List, [], ◌∷◌, ◌++◌, length, Option, Some, None, refl, sym, ap, ap₂, subst, ◌∙◌, length-append, arith}
-use Rattle.std.specs.Borrow.{MutBor}
-use Rattle.std.specs.Fn.{Once}
 use Rattle.std.specs.Prelude.{Result, Ok, Err}
 use Rattle.yasna_base.specs.declared.error.ASN1Error.{ASN1Error}
 use Rattle.yasna_base.specs.declared.error.ASN1ErrorKind.{ASN1ErrorKind}
@@ -18,7 +16,7 @@ use Rattle.yasna_base.proofs.Header.{header_of, end_behind}
 use Rattle.yasna_reader.specs.declared.set.SetElement.{SetElement}
 use Rattle.yasna_bytes.specs.Header.{OnlyConstructed}
 use Rattle.yasna_reader.specs.Sequence.{EntersUnlessKept, Left, ReadsParts, place_in}
-use Rattle.yasna_reader.specs.Set.{IsSetList, NotSetList, RunsOnSet, SetReading, all_taken}
+use Rattle.yasna_reader.specs.Set.{IsSetList, NotSetList, RunsOnSet, SetCallback, all_taken}
 use Rattle.yasna_reader.specs.SetLaws.{GaveOfAll, IsElementOf, ReadsSet, RefusesSet, RunOnValues, TakesSet, elements_bytes}
 use Rattle.yasna_reader.specs.State.{Reading, inside, tag_of, untagged}
 use Rattle.yasna_bytes.proofs.Header.{element_header}
@@ -26,7 +24,7 @@ use Rattle.yasna_reader.proofs.Sequences.{around, place_behind, within}
 use Rattle.yasna_bytes.proofs.Ending.{closed}
 use Rattle.yasna_reader.proofs.SetLaws.{all_one, lists_are_one, lists_are_sets, order_of_same, same_bytes, sets_are_listed, values_of_same}
 
-module _ {F A : Type 0} (g : Once F (MutBor SetReading × Unit {0}) (Result A ASN1Error × (MutBor SetReading × Unit {0}))) (f : F) where
+module _ {F A : Type 0} (g : SetCallback F A) (f : F) where
   all_gave : (own : Result A ASN1Error) (l : List SetElement) (v : A) → Ok v ≡ all_taken own l → (own ≡ Ok v) × (l ≡ [])
   all_gave (Err e) l v h = absurd (cc)
   all_gave (Ok w) [] v h = (sym h, refl)
@@ -47,15 +45,16 @@ module _ {F A : Type 0} (g : Once F (MutBor SetReading × Unit {0}) (Result A AS
   gave_from : (s : Reading) (c : List ℕ) (v : A) (own : Result A ASN1Error) (left : Reading) → RunsOnSet g f (inside s c) own left → own ≡ Ok v →
       left.kept ≡ None → GaveFrom s c v left
   gave_from s c v own left (inl x) e k =
-      let w = (lists_are_sets (s.levels - 1) s.mode x.list.items c x.rest).0 x.lists in
-      let a = all_gave x.own x.others.items v (sym e ∙ x.answer) in
+      let l = x.found.list in
+      let w = (lists_are_sets (s.levels - 1) s.mode l.items c x.found.rest).0 x.found.lists in
+      let a = all_gave x.run.own x.run.left.list.items v (sym e ∙ x.answer) in
       record {
         values = w.0;
-        front = elements_bytes x.list.items;
-        rest = x.rest;
+        front = elements_bytes l.items;
+        rest = x.found.rest;
         joined = w.1.joined;
         contents = w.1.contents;
-        run = record { list = x.list; each = w.1.each; own = x.own; left = record { reader = x.left; list = x.others }; called = x.called };
+        run = record { list = l; each = w.1.each; own = x.run.own; left = x.run.left; called = x.run.called };
         elements = refl;
         gave = record { answer = a.0; all = a.1; unkept = sym (ap (λ (z : Reading). z.kept) x.state) ∙ k };
         place = ap (λ (z : Reading). z.left) x.state;
@@ -117,15 +116,16 @@ module _ {F A : Type 0} (g : Once F (MutBor SetReading × Unit {0}) (Result A AS
         Left after c k left.left own (untagged s) (Err e) s' → (kind_of e ≡ OutOfMemory → ⊥) →
         (x : RunOnValues g f s vs) × Element s.mode t Constructed (elements_bytes x.list.items) front × ((v : A) → GaveOfAll x.own x.left v → ⊥)
     run_as vs d y l each front element p j rest ends own left (inl x) k i e s' h q =
-        let same = lists_are_one (s.levels - 1) s.mode x.list.items l c x.rest y x.lists p in (
+        let found = x.found.list.items in
+        let same = lists_are_one (s.levels - 1) s.mode found l c x.found.rest y x.found.lists p in (
           record {
-            list = x.list;
-            each = values_of_same (s.levels - 1) s.mode x.list.items l vs same.0 each;
-            own = x.own;
-            left = record { reader = x.left; list = x.others };
-            called = x.called;
+            list = x.found.list;
+            each = values_of_same (s.levels - 1) s.mode found l vs same.0 each;
+            own = x.run.own;
+            left = x.run.left;
+            called = x.run.called;
           },
-          subst (λ z. Element s.mode t Constructed z front) (sym (same_bytes x.list.items l same.0)) element,
+          subst (λ z. Element s.mode t Constructed z front) (sym (same_bytes found l same.0)) element,
           λ v gave.
               not_refused d y j rest ends own left.left (ap (λ (z : Reading). z.left) x.state ∙ same.1) v
               (x.answer ∙ ap₂ (λ a b. all_taken a b) gave.answer gave.all) k (sym i ∙ ap (λ (z : Reading). z.kept) x.state ∙ gave.unkept) e s' h,

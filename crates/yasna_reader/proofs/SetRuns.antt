@@ -5,31 +5,24 @@ use Rattle.std.specs.Fn.{Once, FnOnceTakesAtMut, FnOnceReturnsAtMut}
 use Rattle.std.specs.Global.{Global}
 use Rattle.std.specs.Prelude.{Result, Vec}
 use Rattle.yasna_base.specs.declared.error.ASN1Error.{ASN1Error}
-use Rattle.yasna_reader.specs.declared.set.Chosen.{Chosen}
 use Rattle.yasna_reader.specs.declared.set.SetElement.{SetElement}
-use Rattle.yasna_reader.specs.Set.{IsSetList, RunsOnSet, TakesElements, all_taken, emptied}
+use Rattle.yasna_reader.specs.Set.{IsSetList, RunsOnSet, SetCallback, SetReading, TakesElements, all_taken, emptied}
 use Rattle.yasna_reader.specs.State.{Reading}
 
 -- what it is handed it takes
-pub takes_set : {F R : Type 0} (g : Once F (MutBor (Chosen Reading (Vec SetElement Global)) × Unit {0}) R) (f : F) (s : Reading)
+pub takes_set : {F R : Type 0} (g : Once F (MutBor SetReading × Unit {0}) R) (f : F) (s : Reading)
     (l : Vec SetElement Global) (y : List ℕ) (z : Reading) → TakesElements g f s → IsSetList s.levels s.mode l.items s.left y → z ≡ emptied s →
     FnOnceTakesAtMut g f (record { reader = z; list = l })
 takes_set g f s l y z takes h e p k = takes l y h p (k ∙ ap (λ (w : Reading). record { reader = w; list = l }) e)
 
 -- what came of it
-pub ran_on_set : {F A : Type 0} (g : Once F (MutBor (Chosen Reading (Vec SetElement Global)) × Unit {0})
-    (Result A ASN1Error × (MutBor (Chosen Reading (Vec SetElement Global)) × Unit {0}))) (f : F) (s : Reading) (l : Vec SetElement Global) (y : List ℕ)
-    (z : Reading) (own : Result A ASN1Error) (n : Chosen Reading (Vec SetElement Global)) (r : Result A ASN1Error) (s' : Reading) →
+pub ran_on_set : {F A : Type 0} (g : SetCallback F A) (f : F) (s : Reading) (l : Vec SetElement Global) (y : List ℕ)
+    (z : Reading) (own : Result A ASN1Error) (n : SetReading) (r : Result A ASN1Error) (s' : Reading) →
     IsSetList s.levels s.mode l.items s.left y → z ≡ emptied s → FnOnceReturnsAtMut g f (record { reader = z; list = l }) own n →
     r ≡ all_taken own n.list.items → s' ≡ record s { left = y; kept = n.reader.kept } → RunsOnSet g f s r s'
 ran_on_set g f s l y z own n r s' h e c a b = inl (record {
-  list = l;
-  rest = y;
-  lists = h;
-  own = own;
-  left = n.reader;
-  others = n.list;
-  called = subst (λ (w : Reading). FnOnceReturnsAtMut g f (record { reader = w; list = l }) own n) e c;
+  found = record { list = l; rest = y; lists = h };
+  run = record { own = own; left = n; called = subst (λ (w : Reading). FnOnceReturnsAtMut g f (record { reader = w; list = l }) own n) e c };
   answer = a;
   state = b;
 })

@@ -11,8 +11,8 @@ use Rattle.yasna_reader.specs.declared.callback.Outcome.TheVariants.{Gave, Quiet
 use Rattle.yasna_bytes.specs.declared.bytes.cursor.Cursor.{Cursor}
 use Rattle.yasna_reader.specs.Callback.{at_cursor}
 use Rattle.yasna_reader.specs.Sequence.{ReadsParts}
-use Rattle.yasna_reader.specs.SequenceOf.{TakesTurn, TakesTurns, TurnsOut, Turn, Turns, Lists, Collects, Visits, items_of}
-use Rattle.yasna_reader.specs.SetOf.{Bounded, Follows, FallsBelow, GivesInOrder, TurnInOrder, Ordered, CollectsInOrder, VisitsInOrder}
+use Rattle.yasna_reader.specs.SequenceOf.{TakesTurn, TakesTurns, TurnsOut, ListTurn, Turns, Lists, Collects, Visits, items_of}
+use Rattle.yasna_reader.specs.SetOf.{Bounded, Follows, FallsBelow, GivesInOrder, TurnInOrder, failed, fell, Ordered, CollectsInOrder, VisitsInOrder}
 use Rattle.yasna_reader.specs.declared.set_of.Order.TheVariants.{Any}
 use Rattle.yasna_reader.specs.State.{Reading, IsFresh}
 use Rattle.yasna_bytes.specs.Walk.{IsRest}
@@ -78,7 +78,7 @@ more_so_far C g s vs v h m g' s' fresh a b =
 
 -- turns of a list whose elements ascend are turns of its callback
 plain_turns : {F A : Type 0} (C : F → Reading → Result A ASN1Error → F → Reading → Type 0) (vs : List A) (g : Bounded F) (s : Reading) (h : Bounded F)
-    (m : Reading) → Turns (TurnInOrder C) g s vs h m → Turns (Turn C) g.callback s vs h.callback m
+    (m : Reading) → Turns (TurnInOrder C) g s vs h m → Turns (ListTurn C) g.callback s vs h.callback m
 plain_turns C [] g s h m t = (ap (λ (z : Bounded _). z.callback) t.0, t.1)
 plain_turns C (v ∷ vs) g s h m t = (t.0.callback, t.1, t.2.turn, plain_turns C vs t.0 t.1 h m t.3)
 
@@ -87,11 +87,11 @@ pub takes_turn : {F A : Type 0} (g : Mut F (MutBor Reading × Unit {0}) (Result 
     (vs : List A) (h : Bounded F) (m : Reading) → TakesTurns g s → SoFar (TurnInOrder (CalledAtMut g)) b s vs h m → TakesTurn g h.callback m
 takes_turn g b s vs h m may so =
     subst (λ z. TakesTurn g h.callback z) (sym so.same) (may b.callback h.callback vs so.front m.left so.joined
-    (subst (λ z. Turns (Turn (CalledAtMut g)) b.callback s vs h.callback z) so.same (plain_turns (CalledAtMut g) vs b s h m so.turns)))
+    (subst (λ z. Turns (ListTurn (CalledAtMut g)) b.callback s vs h.callback z) so.same (plain_turns (CalledAtMut g) vs b s h m so.turns)))
 
 -- what is left behind a turn stands behind what it took
 pub turn_rest : {F A : Type 0} (C : F → Reading → Result A ASN1Error → F → Reading → Type 0) (f : F) (s : Reading) (o : Outcome A) (f' : F)
-    (s' : Reading) → Turn C f s o f' s' → IsRest s.left s'.left
+    (s' : Reading) → ListTurn C f s o f' s' → IsRest s.left s'.left
 turn_rest C f s (Gave v) f' s' t = taken_behind s t.own t.left (Gave v) s' t.comes.0
 turn_rest C f s (Quiet e) f' s' t = taken_behind s t.own t.left (Quiet e) s' t.comes
 turn_rest C f s (Failed e) f' s' t = elim t.comes [
@@ -103,7 +103,7 @@ turn_rest C f s (Failed e) f' s' t = elim t.comes [
 
 -- what was made of a turn
 pub turned_in_order : {F A : Type 0} (C : F → Reading → Result A ASN1Error → F → Reading → Type 0) (g g' : Bounded F) (s : Reading) (o : Outcome A)
-    (m : Reading) (r : Outcome A) (s' : Reading) → Turn C g.callback s o g'.callback m → Ordered g.bound s.left o m r g'.bound s' →
+    (m : Reading) (r : Outcome A) (s' : Reading) → ListTurn C g.callback s o g'.callback m → Ordered g.bound s.left o m r g'.bound s' →
     TurnInOrder C g s r g' s'
 turned_in_order C g g' s (Gave v) m r s' t (b, e, inl h) =
     subst (λ z. TurnInOrder C g s z g' s') (sym h.1) (subst (λ z. GivesInOrder C g s v g' z) (sym h.2) (record {
@@ -113,7 +113,7 @@ turned_in_order C g g' s (Gave v) m r s' t (b, e, inl h) =
       follows = h.0;
     }))
 turned_in_order C g g' s (Gave v) m r s' t (b, e, inr h) =
-    subst (λ z. TurnInOrder C g s z g' s') (sym h.1) (inr (record {
+    subst (λ z. TurnInOrder C g s z g' s') (sym h.1) (fell (record {
       value = v;
       between = m;
       turn = t;
@@ -124,9 +124,9 @@ turned_in_order C g g' s (Gave v) m r s' t (b, e, inr h) =
       state = h.2;
     }))
 turned_in_order C g g' s (Quiet e) m r s' t h =
-    subst (λ z. TurnInOrder C g s z g' s') (sym h.0) (subst (λ z. Turn C g.callback s (Quiet e) g'.callback z) (sym h.1) t)
+    subst (λ z. TurnInOrder C g s z g' s') (sym h.0) (subst (λ z. ListTurn C g.callback s (Quiet e) g'.callback z) (sym h.1) t)
 turned_in_order C g g' s (Failed e) m r s' t h =
-    subst (λ z. TurnInOrder C g s z g' s') (sym h.0) (inl (subst (λ z. Turn C g.callback s (Failed e) g'.callback z) (sym h.1) t))
+    subst (λ z. TurnInOrder C g s z g' s') (sym h.0) (failed (subst (λ z. ListTurn C g.callback s (Failed e) g'.callback z) (sym h.1) t))
 
 -- without a bound, turns are just those of the callback
 module _ {F A : Type 0} (C : F → Reading → Result A ASN1Error → F → Reading → Type 0) where
@@ -139,21 +139,21 @@ module _ {F A : Type 0} (C : F → Reading → Result A ASN1Error → F → Read
   none_falls (Some a) b e h = absurd (cc)
 
   turns_any : (vs : List A) (g : Bounded F) (s : Reading) (h : Bounded F) (m : Reading) → g.bound ≡ None → Turns (TurnInOrder C) g s vs h m →
-      Turns (Turn C) g.callback s vs h.callback m × (h.bound ≡ None)
+      Turns (ListTurn C) g.callback s vs h.callback m × (h.bound ≡ None)
   turns_any [] g s h m e t = ((ap (λ (z : Bounded F). z.callback) t.0, t.1), ap (λ (z : Bounded F). z.bound) t.0 ∙ e)
   turns_any (v ∷ vs) g s h m e t =
       let w = turns_any vs t.0 t.1 h m (unbounded g.bound t.0.bound t.2.element e t.2.follows) t.3 in
       ((t.0.callback, t.1, t.2.turn, w.0), w.1)
 
   turn_any : (g : Bounded F) (s : Reading) (o : Outcome A) (g' : Bounded F) (s' : Reading) → g.bound ≡ None → TurnInOrder C g s o g' s' →
-      Turn C g.callback s o g'.callback s'
+      ListTurn C g.callback s o g'.callback s'
   turn_any g s (Gave v) g' s' e t = t.turn
   turn_any g s (Quiet k) g' s' e t = t
-  turn_any g s (Failed k) g' s' e (inl t) = t
-  turn_any g s (Failed k) g' s' e (inr t) = absurd (none_falls g.bound t.element e t.falls)
+  turn_any g s (Failed k) g' s' e (failed t) = t
+  turn_any g s (Failed k) g' s' e (fell t) = absurd (none_falls g.bound t.element e t.falls)
 
   lists_any : (f : F) (s : Reading) (r : Result (List A) ASN1Error) (s' : Reading) → Lists (TurnInOrder C) (record { callback = f; bound = None }) s r s' →
-      Lists (Turn C) f s r s'
+      Lists (ListTurn C) f s r s'
   lists_any f s r s' h =
       let w = turns_any h.values (record { callback = f; bound = None }) s h.reached h.place refl h.turns in
       record {

@@ -21,12 +21,13 @@ optional (Failed e) = Err e
 abbrev pub ReadsOptional : {A : Type 0} → Does A → Does (Option A)
 ReadsOptional {A} P s r s' = UnlessKept s.kept s r s' ((o : Outcome A) × Hands P (untagged s) o s' × (r ≡ optional o))
 
--- the value v that a reading of which z is left gave, unless it equals the default d and the mode refuses that: then the
--- refusal is kept where something moved
-abbrev pub UnlessDefault : {A : Type 0} → (A → A → Bool) → A → A → Bool → Does A
-UnlessDefault eq d v moved z r s' =
-    ((TakesDefault z.mode ⊎ (eq v d ≡ false)) × (r ≡ Ok v) × (s' ≡ z)) ⊎
-    ((TakesDefault z.mode → ⊥) × (eq v d ≡ true) × (r ≡ Err (error_of Invalid)) × (s' ≡ failing_if moved z (error_of Invalid)))
+-- What is made of the value v that a reading of which z is left gave, where the default is d (X.690, 11.5). It is taken where
+-- the mode takes a value that is its default, or it isn't the default; and refused where it equals the default and the mode
+-- doesn't take that: the refusal is kept where something moved
+pub data UnlessDefault {A : Type 0} (eq : A → A → Bool) (d v : A) (moved : Bool) (z : Reading) (r : Result A ASN1Error) (s' : Reading) : Type 0 where
+  taken : (TakesDefault z.mode ⊎ (eq v d ≡ false)) → r ≡ Ok v → s' ≡ z → UnlessDefault eq d v moved z r s'
+  equal : (TakesDefault z.mode → ⊥) → eq v d ≡ true → r ≡ Err (error_of Invalid) → s' ≡ failing_if moved z (error_of Invalid) →
+      UnlessDefault eq d v moved z r s'
 
 -- the default d for none; a value of a reading of n bytes that left z, unless the mode refuses it
 abbrev pub DefaultsTo : {A : Type 0} → (A → A → Bool) → A → ℕ → Outcome A → Does A

@@ -33,7 +33,7 @@ TurnsOut s x m (Quiet e) s' = ComesTo s x m (Quiet e) s'
 TurnsOut s x m (Failed e) s' = ComesTo s x m (Failed e) s' ⊎ Idles s x m e s'
 
 -- a turn of f on the reading s
-pub record Turn {F A : Type 0} (C : F → Reading → Result A ASN1Error → F → Reading → Type 0) (f : F) (s : Reading) (o : Outcome A) (f' : F)
+pub record ListTurn {F A : Type 0} (C : F → Reading → Result A ASN1Error → F → Reading → Type 0) (f : F) (s : Reading) (o : Outcome A) (f' : F)
     (s' : Reading) : Type 0 where
   pub own : Result A ASN1Error
   pub left : Reading
@@ -50,7 +50,7 @@ Turns {G} T g s (v ∷ vs) g' s' = (h : G) × (m : Reading) × T g s (Gave v) h 
 -- and on the reading that the turn before left
 abbrev pub TakesTurns : {F A : Type 0} → Mut F (MutBor Reading × Unit {0}) (Result A ASN1Error × (MutBor Reading × Unit {0})) → Reading → Type 0
 TakesTurns {F} {A} g s =
-    (f h : F) (vs : List A) (front rest : List ℕ) → s.left ≡ front ++ rest → Turns (Turn (CalledAtMut g)) f s vs h (record s { left = rest }) →
+    (f h : F) (vs : List A) (front rest : List ℕ) → s.left ≡ front ++ rest → Turns (ListTurn (CalledAtMut g)) f s vs h (record s { left = rest }) →
     TakesTurn g h (record s { left = rest })
 
 -- what is answered where the turn behind these values came to that
@@ -107,8 +107,8 @@ pub record VisitsBy {G A : Type 0} (T : G → Reading → Outcome A → G → Re
 
 -- the elements are the callback's, in any order
 abbrev pub Collects : {F A : Type 0} → (F → Reading → Result A ASN1Error → F → Reading → Type 0) → F → Does (Vec A Global)
-Collects C f = CollectsBy (Turn C) f
+Collects C f = CollectsBy (ListTurn C) f
 
 -- what read_sequence_of does: its turns, for no vector
 abbrev pub Visits : {F A : Type 0} → (F → Reading → Result A ASN1Error → F → Reading → Type 0) → F → Does (Unit {0})
-Visits C f = VisitsBy (Turn C) f
+Visits C f = VisitsBy (ListTurn C) f

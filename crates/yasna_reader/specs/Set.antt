@@ -27,6 +27,10 @@ use Rattle.yasna_reader.specs.declared.set.SetElement.{SetElement}
 abbrev pub SetReading : Type 0
 SetReading = Chosen Reading (Vec SetElement Global)
 
+-- what is known of a callback that takes the elements of a SET: where it may be called, and what it answers and leaves
+abbrev pub SetCallback : Type 0 → Type 0 → Type 1
+SetCallback F A = Once F (MutBor SetReading × Unit {0}) (Result A ASN1Error × (MutBor SetReading × Unit {0}))
+
 -- within n levels, b is a raw element, and x what was listed of it: its tag and these very bytes
 pub record IsListed (n : ℕ) (m : BERMode) (x : SetElement) (b : List ℕ) : Type 0 where
   pub value : RawValue
@@ -90,7 +94,7 @@ abbrev pub emptied : Reading → Reading
 emptied s = record s { left = []; tag = None; kept = None }
 
 -- f may be called on the elements that stand in the contents s
-abbrev pub TakesElements : {F R : Type 0} → Once F (MutBor (Chosen Reading (Vec SetElement Global)) × Unit {0}) R → F → Reading → Type 0
+abbrev pub TakesElements : {F R : Type 0} → Once F (MutBor SetReading × Unit {0}) R → F → Reading → Type 0
 TakesElements g f s = (l : Vec SetElement Global) (y : List ℕ) → IsSetList s.levels s.mode l.items s.left y →
     FnOnceTakesAtMut g f (record { reader = emptied s; list = l })
 
@@ -100,19 +104,29 @@ all_taken (Err e) l = Err e
 all_taken (Ok v) [] = Ok v
 all_taken (Ok v) (x ∷ l) = Err (error_of Invalid)
 
--- the callback ran on the elements; what it left keeps its failure
-pub record RanOnSet {F A : Type 0} (g : Once F (MutBor (Chosen Reading (Vec SetElement Global)) × Unit {0})
-    (Result A ASN1Error × (MutBor (Chosen Reading (Vec SetElement Global)) × Unit {0}))) (f : F) (s : Reading) (r : Result A ASN1Error) (s' : Reading) :
-    Type 0 where
+-- the elements that a callback is handed of the contents s: all that stand there up to an end, in the order that the mode
+-- asks (X.690, 9.3 and 10.3)
+pub record FoundSet (s : Reading) : Type 0 where
   pub list : Vec SetElement Global
   pub rest : List ℕ
   pub lists : IsSetList s.levels s.mode list.items s.left rest
+
+-- the callback f was called on this, answered its own answer, and left that
+pub record CalledOnSet {F A : Type 0} (g : SetCallback F A) (f : F) (handed : SetReading) : Type 0 where
   pub own : Result A ASN1Error
-  pub left : Reading
-  pub others : Vec SetElement Global
-  pub called : FnOnceReturnsAtMut g f (record { reader = emptied s; list = list }) own (record { reader = left; list = others })
-  pub answer : r ≡ all_taken own others.items
-  pub state : s' ≡ record s { left = rest; kept = left.kept }
+  pub left : SetReading
+  pub called : FnOnceReturnsAtMut g f handed own left
+
+-- the callback ran on the elements of the contents s (X.690, 8.11)
+pub record RanOnSet {F A : Type 0} (g : SetCallback F A) (f : F) (s : Reading) (r : Result A ASN1Error) (s' : Reading) : Type 0 where
+  -- the elements stand there
+  pub found : FoundSet s
+  -- it was handed them, none of which is being read
+  pub run : CalledOnSet g f (record { reader = emptied s; list = found.list })
+  -- it is to take all of them
+  pub answer : r ≡ all_taken run.own run.left.list.items
+  -- what is behind them is left, and the failure that it kept is kept
+  pub state : s' ≡ record s { left = found.rest; kept = run.left.reader.kept }
 
 -- it didn't
 pub record NotRunOnSet {A : Type 0} (s : Reading) (r : Result A ASN1Error) (s' : Reading) : Type 0 where
@@ -122,8 +136,7 @@ pub record NotRunOnSet {A : Type 0} (s : Reading) (r : Result A ASN1Error) (s' :
   pub state : s' ≡ failing s (error_of kind)
 
 -- the contents of a SET are listed, and the callback is run on the list
-abbrev pub RunsOnSet : {F A : Type 0} → Once F (MutBor (Chosen Reading (Vec SetElement Global)) × Unit {0})
-    (Result A ASN1Error × (MutBor (Chosen Reading (Vec SetElement Global)) × Unit {0})) → F → Does A
+abbrev pub RunsOnSet : {F A : Type 0} → SetCallback F A → F → Does A
 RunsOnSet g f s r s' = RanOnSet g f s r s' ⊎ NotRunOnSet s r s'
 
 -- the element's tag is one of these

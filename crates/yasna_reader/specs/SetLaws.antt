@@ -1,6 +1,5 @@
 -- What holds of the elements that a SET's callback is handed, as the laws of this crate say it.
-use Rattle.std.specs.Borrow.{MutBor}
-use Rattle.std.specs.Fn.{Once, FnOnceReturnsAtMut}
+use Rattle.std.specs.Fn.{FnOnceReturnsAtMut}
 use Rattle.std.specs.Global.{Global}
 use Rattle.std.specs.List.{concat}
 use Rattle.std.specs.Prelude.{Err, List, None, Ok, Result, Vec, [], map, ℕ, ◌++◌, ◌-◌, ◌≡◌, ◌↔◌}
@@ -15,7 +14,7 @@ use Rattle.yasna_base.specs.declared.error.ASN1ErrorKind.TheVariants.{OutOfMemor
 use Rattle.yasna_base.specs.declared.mode.BERMode.{BERMode}
 use Rattle.yasna_base.specs.declared.tag.PCBit.TheVariants.{Constructed}
 use Rattle.yasna_base.specs.declared.tag.Tag.{Tag}
-use Rattle.yasna_reader.specs.Set.{IsSetList, SetReading}
+use Rattle.yasna_reader.specs.Set.{IsSetList, SetCallback, SetReading}
 use Rattle.yasna_reader.specs.State.{Reading, inside, Does}
 use Rattle.yasna_reader.specs.declared.set.SetElement.{SetElement}
 
@@ -54,7 +53,7 @@ abbrev pub ListsAreOne : Type 0
 ListsAreOne = (n : ℕ) (m : BERMode) (l k : List SetElement) (c y z : List ℕ) → IsSetList n m l c y → IsSetList n m k c z → Each IsSameElement l k × (y ≡ z)
 
 -- f was run on the elements of the raw values vs, at the level inside a SET that s reads, and came to this
-pub record RunOnValues {F A : Type 0} (g : Once F (MutBor SetReading × Unit {0}) (Result A ASN1Error × (MutBor SetReading × Unit {0}))) (f : F)
+pub record RunOnValues {F A : Type 0} (g : SetCallback F A) (f : F)
     (s : Reading) (vs : List RawValue) : Type 0 where
   pub list : Vec SetElement Global
   pub each : Each (IsElementOf (s.levels - 1) s.mode) list.items vs
@@ -70,7 +69,7 @@ pub record GaveOfAll {A : Type 0} (r : Result A ASN1Error) (left : SetReading) (
 
 -- a SET of these values stands at the front of s, f gave v from its elements, whose bytes are the contents of that SET, and
 -- the rest is left
-pub record TakesSet {F A : Type 0} (g : Once F (MutBor SetReading × Unit {0}) (Result A ASN1Error × (MutBor SetReading × Unit {0}))) (f : F)
+pub record TakesSet {F A : Type 0} (g : SetCallback F A) (f : F)
     (t : Tag) (s : Reading) (v : A) (s' : Reading) : Type 0 where
   pub values : List RawValue
   pub front : List ℕ
@@ -84,13 +83,13 @@ pub record TakesSet {F A : Type 0} (g : Once F (MutBor SetReading × Unit {0}) (
 
 -- where a SET stands at the front of s, f was run on its elements, whose bytes are its contents, and gave no value from them,
 -- or e is of memory
-abbrev pub RefusesSet : {F A : Type 0} → Once F (MutBor SetReading × Unit {0}) (Result A ASN1Error × (MutBor SetReading × Unit {0})) → F →
+abbrev pub RefusesSet : {F A : Type 0} → SetCallback F A → F →
     Tag → Reading → ASN1Error → Type 0
 RefusesSet {F} {A} g f t s e = (vs : List RawValue) (front rest : List ℕ) → (kind_of e ≡ OutOfMemory → ⊥) → s.left ≡ front ++ rest →
     IsSet t s.mode s.levels vs front → (x : RunOnValues g f s vs) × Element s.mode t Constructed (elements_bytes x.list.items) front
     × ((v : A) → GaveOfAll x.own x.left v → ⊥)
 
 -- a read of a SET, whose elements f takes
-abbrev pub ReadsSet : {F A : Type 0} → Once F (MutBor SetReading × Unit {0}) (Result A ASN1Error × (MutBor SetReading × Unit {0})) → F → Tag → Does A
+abbrev pub ReadsSet : {F A : Type 0} → SetCallback F A → F → Tag → Does A
 ReadsSet g f t s (Ok v) s' = TakesSet g f t s v s'
 ReadsSet g f t s (Err e) s' = RefusesSet g f t s e

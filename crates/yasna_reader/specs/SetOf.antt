@@ -9,7 +9,7 @@ use Rattle.yasna_base.specs.declared.error.ASN1Error.{ASN1Error}
 use Rattle.yasna_base.specs.declared.error.ASN1ErrorKind.TheVariants.{Invalid}
 use Rattle.yasna_base.specs.declared.mode.BERMode.{BERMode}
 use Rattle.yasna_base.specs.declared.mode.BERMode.TheVariants.{Ber, Der, Cer}
-use Rattle.yasna_reader.specs.SequenceOf.{CollectsBy, Turn, VisitsBy}
+use Rattle.yasna_reader.specs.SequenceOf.{CollectsBy, ListTurn, VisitsBy}
 use Rattle.yasna_reader.specs.State.{Reading, failing, Does}
 use Rattle.yasna_reader.specs.declared.callback.Outcome.{Outcome}
 use Rattle.yasna_reader.specs.declared.callback.Outcome.TheVariants.{Gave, Quiet, Failed}
@@ -54,7 +54,7 @@ Follows (Some a) b n = (goes_before b a ≡ false) × (n ≡ Some b)
 -- a turn gave a value, and took an element that may stand behind those before
 pub record GivesInOrder {F A : Type 0} (C : F → Reading → Result A ASN1Error → F → Reading → Type 0) (g : Bounded F) (s : Reading) (v : A)
     (g' : Bounded F) (s' : Reading) : Type 0 where
-  pub turn : Turn C g.callback s (Gave v) g'.callback s'
+  pub turn : ListTurn C g.callback s (Gave v) g'.callback s'
   pub element : List ℕ
   pub joined : s.left ≡ element ++ s'.left
   pub follows : Follows g.bound element g'.bound
@@ -64,19 +64,25 @@ pub record Falls {F A : Type 0} (C : F → Reading → Result A ASN1Error → F 
     (g' : Bounded F) (s' : Reading) : Type 0 where
   pub value : A
   pub between : Reading
-  pub turn : Turn C g.callback s (Gave value) g'.callback between
+  pub turn : ListTurn C g.callback s (Gave value) g'.callback between
   pub element : List ℕ
   pub joined : s.left ≡ element ++ between.left
   pub falls : FallsBelow g.bound element
   pub invalid : e ≡ error_of Invalid
   pub state : s' ≡ failing between e
 
--- a turn of a list whose elements ascend where there is a bound
+-- why a turn of such a list fails: the callback's own turn does, or its element falls
+pub data FailsInOrder {F A : Type 0} (C : F → Reading → Result A ASN1Error → F → Reading → Type 0) (g : Bounded F) (s : Reading) (e : ASN1Error)
+    (g' : Bounded F) (s' : Reading) : Type 0 where
+  failed : ListTurn C g.callback s (Failed e) g'.callback s' → FailsInOrder C g s e g' s'
+  fell : Falls C g s e g' s' → FailsInOrder C g s e g' s'
+
+-- a turn of a list whose elements ascend where there is a bound (X.690, 11.6), by what it comes to
 abbrev pub TurnInOrder : {F A : Type 0} → (F → Reading → Result A ASN1Error → F → Reading → Type 0) → Bounded F → Reading → Outcome A → Bounded F →
     Reading → Type 0
 TurnInOrder C g s (Gave v) g' s' = GivesInOrder C g s v g' s'
-TurnInOrder C g s (Quiet e) g' s' = Turn C g.callback s (Quiet e) g'.callback s'
-TurnInOrder C g s (Failed e) g' s' = Turn C g.callback s (Failed e) g'.callback s' ⊎ Falls C g s e g' s'
+TurnInOrder C g s (Quiet e) g' s' = ListTurn C g.callback s (Quiet e) g'.callback s'
+TurnInOrder C g s (Failed e) g' s' = FailsInOrder C g s e g' s'
 
 -- what is made of a turn that came to o, began with the bytes c and left s, where the bound is a
 abbrev pub Ordered : {A : Type 0} → Option (List ℕ) → List ℕ → Outcome A → Reading → Outcome A → Option (List ℕ) → Reading → Type 0

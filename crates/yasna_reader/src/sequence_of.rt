@@ -13,7 +13,7 @@ impl<'a> ReaderState<'a> {
     ghost use Rattle.std.specs.Fn.{CalledAtMut};
     ghost use Rattle.yasna_reader.specs.Callback.{at_cursor};
     ghost use Rattle.yasna_reader.specs.Sequence.{TakesContents, ReadsParts};
-    ghost use Rattle.yasna_reader.specs.SequenceOf.{TakesTurn, TakesTurns, Turn, TurnsOut, Collects, Visits};
+    ghost use Rattle.yasna_reader.specs.SequenceOf.{TakesTurn, TakesTurns, ListTurn, TurnsOut, Collects, Visits};
     ghost use Rattle.yasna_reader.specs.SetOf.{CollectsInOrder, VisitsInOrder, TurnInOrder, bounded};
     ghost use Rattle.yasna_reader.specs.State.{IsFresh};
 
@@ -155,7 +155,7 @@ impl<'a> ReaderState<'a> {
     where
         F: FnMut(BERReader<'a, '_>) -> ASN1Result<T>,
         requires { TakesTurn F.FnMut f.old self.old }
-        ensures { Turn (CalledAtMut F.FnMut) f.old self.old result f.new self.new }
+        ensures { ListTurn (CalledAtMut F.FnMut) f.old self.old result f.new self.new }
     {
         let before = self.cursor;
         let answer = f(self);
