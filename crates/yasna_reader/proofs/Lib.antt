@@ -16,3 +16,6 @@ pub mod OptionalReads
 pub mod Ahead
 pub mod Listing
 pub mod Whole
+pub mod ByTags
+pub mod UnderTags
+pub mod Handed

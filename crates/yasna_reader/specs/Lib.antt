@@ -14,3 +14,4 @@ pub mod Decodes
 pub mod Set
 pub mod SetOptional
 pub mod SetLaws
+pub mod ByTags
