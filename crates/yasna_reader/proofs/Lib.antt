@@ -19,3 +19,4 @@ pub mod Whole
 pub mod ByTags
 pub mod UnderTags
 pub mod Handed
+pub mod DefaultParts
