@@ -20,3 +20,4 @@ pub mod ByTags
 pub mod UnderTags
 pub mod Handed
 pub mod DefaultParts
+pub mod PartsByTags
