@@ -21,3 +21,4 @@ pub mod UnderTags
 pub mod Handed
 pub mod DefaultParts
 pub mod PartsByTags
+pub mod Choices
