@@ -22,7 +22,7 @@ use Rattle.yasna_reader.specs.declared.callback.Outcome.{Outcome}
 use Rattle.yasna_reader.specs.declared.callback.Outcome.TheVariants.{Gave, Quiet, Failed}
 use Rattle.yasna_reader.specs.Callback.{Hands, UnlessKept}
 use Rattle.yasna_reader.specs.Decodes.{NotContents}
-use Rattle.yasna_reader.specs.Optional.{optional, ReadsOptional, DefaultsTo, ReadsOrDefaults, ReadsDefault}
+use Rattle.yasna_reader.specs.Optional.{optional, ReadsOptional, taken, equal, DefaultsTo, ReadsOrDefaults, ReadsDefault}
 use Rattle.yasna_reader.specs.State.{Reading, IsFresh, untagged, failing_if, Does}
 use Rattle.yasna_reader.proofs.OptionalParts.{first_failure, TookFirst, DecodesFirst, IsFirstDecoder, IsQuietBefore, option_by}
 use Rattle.yasna_reader.proofs.Sequences.{replaced}
@@ -136,14 +136,14 @@ module _ {A : Type 0} {E : A → A → Type 0} {B : Grammar A} {S : Members} (la
   by_outcome : (o : Outcome A) (z : Reading) → DecodesFirst asks (OptionOf B) (AnyOption S) Q s (optional o) z →
       (r : Result A ASN1Error) (s' : Reading) →
       DefaultsTo eq d (length s.left) o z r s' → DecodesFirst asks (DefaultOf is B) (Any (DefaultOf is B)) Q s r s'
-  by_outcome (Gave v) z h r s' (inl x) =
+  by_outcome (Gave v) z h r s' (taken may answer state) =
       let mode = ap (λ (z : Reading). z.mode) h.took.left in
-      replaced (DecodesFirst asks (DefaultOf is B) (Any (DefaultOf is B)) Q s) x.1 x.2
-      (some_first v z h (elim x.0 [ inl may ↦ inl (subst TakesDefault mode may) | inr not ↦ inr (tests v ∙ not) ]))
-  by_outcome (Gave v) z h r s' (inr x) =
+      replaced (DecodesFirst asks (DefaultOf is B) (Any (DefaultOf is B)) Q s) answer state
+      (some_first v z h (elim may [ inl takes ↦ inl (subst TakesDefault mode takes) | inr other ↦ inr (tests v ∙ other) ]))
+  by_outcome (Gave v) z h r s' (equal not same answer state) =
       let mode = ap (λ (z : Reading). z.mode) h.took.left in
-      let N = refused_first v z h (λ may. x.0 (subst TakesDefault (sym mode) may)) (tests v ∙ x.1) in
-      replaced (DecodesFirst asks (DefaultOf is B) (Any (DefaultOf is B)) Q s) x.2 x.3
+      let N = refused_first v z h (λ may. not (subst TakesDefault (sym mode) may)) (tests v ∙ same) in
+      replaced (DecodesFirst asks (DefaultOf is B) (Any (DefaultOf is B)) Q s) answer state
       (subst (NotContents asks (AnyPart (Any (DefaultOf is B)) Q s.mode s.levels) s)
       (sym (first_as (nat_lt (length z.left) (length s.left)) z (error_of Invalid) (unkept (Some v) z h))) N)
   by_outcome (Quiet e) z h r s' x = replaced (DecodesFirst asks (DefaultOf is B) (Any (DefaultOf is B)) Q s) x.0 x.1 (none_first z h)
