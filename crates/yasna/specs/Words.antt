@@ -7,7 +7,7 @@ pub use Rattle.yasna_base.specs.declared.tag.Tag.{Tag}
 pub use Rattle.yasna_base.specs.declared.error.ASN1Error.{ASN1Error}
 pub use Rattle.yasna_base.specs.declared.error.ASN1ErrorKind.TheVariants.{Eof, Extra, IntegerOverflow, StackOverflow, Invalid, OutOfMemory}
 pub use Rattle.yasna_base.specs.Error.{kind_of, error_of}
-pub use Rattle.yasna_base.specs.Identifier.{universal, BeginsWithTag, AtEnd}
+pub use Rattle.yasna_base.specs.Identifier.{universal, BeginsWithTag, AtEnd, context}
 pub use Rattle.yasna_base.specs.Digits.{IsBytes}
 -- the types of relations, forms and nests
 pub use Rattle.yasna_base.specs.Grammar.{Grammar, Members, Form, Nest}
@@ -49,7 +49,7 @@ pub use Rattle.yasna_base.specs.Pieces.{Each}
 pub use Rattle.yasna_base.specs.Nested.{IsNested, AnyNested, SameNested}
 pub use Rattle.yasna_base.specs.Choice.{EitherOf, AnyEither, SameEither, either_form, either_nest, either_can, either_fits}
 -- tags around a type, and in place of its own
-pub use Rattle.yasna_base.specs.UnderTags.{context, KeepsUnderTags, IsExactUnderTags}
+pub use Rattle.yasna_base.specs.UnderTags.{KeepsUnderTags, IsExactUnderTags}
 pub use Rattle.yasna_base.specs.Beginnings.{BeginsBy, ContentsBeginBy, CodingByTags, ContentsByTags}
 pub use Rattle.yasna_base.specs.Set.{set_tag, IsSet, IsSetOf, AnySetOf}
 pub use Rattle.yasna_base.specs.AnyOrder.{SameSetOf, InSomeOrder, sorted_set_of_form}

@@ -8,8 +8,7 @@ use Rattle.yasna_base.specs.Coding.{IsCoding, IsContentsCoding}
 use Rattle.yasna_base.specs.Element.{Enclosed, AnyEnclosed}
 use Rattle.yasna_base.specs.Exact.{Fitting, IsExact, enclosed_fits}
 use Rattle.yasna_base.specs.Grammar.{Grammar, Members, Form, Nest}
-use Rattle.yasna_base.specs.Identifier.{class_number, end_tag, BeginsWithTag}
-use Rattle.yasna_base.specs.UnderTags.{context}
+use Rattle.yasna_base.specs.Identifier.{class_number, end_tag, BeginsWithTag, context}
 use Rattle.yasna_base.proofs.Canonical.{enclosed_written}
 use Rattle.yasna_base.proofs.Coding.{enclosed}
 use Rattle.yasna_base.proofs.Element.{element_begins}

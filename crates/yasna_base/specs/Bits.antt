@@ -9,7 +9,7 @@ use Rattle.yasna_base.specs.Coding.{IsCoding, Any}
 use Rattle.yasna_base.specs.Segmented.{Segmentation, IsSegmented, IsDeepSegmented, segmented_form, segmented_nest}
 use Rattle.yasna_base.specs.Digits.{IsBytes}
 use Rattle.yasna_base.specs.Grammar.{TaggedGrammar, TaggedMembers, Form, Nest}
-use Rattle.yasna_base.specs.Identifier.{universal, end_tag}
+use Rattle.yasna_base.specs.Identifier.{universal, AnyTag}
 use Rattle.yasna_base.specs.Segments.{segments}
 
 -- the type's own tag
@@ -134,4 +134,4 @@ pub record BitLaws (t : Tag) : Type 0 where
 
 -- BIT STRING keeps these laws under any tag
 abbrev pub BitsKeepLaws : Type 0
-BitsKeepLaws = (t : Tag) → (t ≡ end_tag → ⊥) → t.tag_number < 2 ^ 64 → BitLaws t
+BitsKeepLaws = AnyTag (λ t. BitLaws t)

@@ -39,9 +39,17 @@ abbrev pub tag_or : Option Tag → Tag → Tag
 tag_or None own = own
 tag_or (Some tag) own = tag
 
+-- the tag that X.680 writes as its number in brackets, with no class
+abbrev pub context : ℕ → Tag
+context number = record { tag_class = ContextSpecific; tag_number = number }
+
 -- the tag of the two zeros that end contents of indefinite length
 abbrev pub end_tag : Tag
 end_tag = universal 0
+
+-- P holds of any tag but that of the end of contents, with a number of 64 bits
+abbrev pub AnyTag : (Tag → Type 0) → Type 0
+AnyTag P = (t : Tag) → (t ≡ end_tag → ⊥) → t.tag_number < 2 ^ 64 → P t
 
 -- s begins with an identifier of the tag t
 pub data BeginsWithTag (t : Tag) (s : List ℕ) : Type 0 where

@@ -1,11 +1,11 @@
 -- What holds of the grammar, as the laws of this crate say it.
-use Rattle.std.specs.Prelude.{◌≡◌, ℕ, ◌^◌, ◌<◌, List, ◌++◌}
+use Rattle.std.specs.Prelude.{◌≡◌, ℕ, List, ◌++◌}
 use Rattle.yasna_base.specs.declared.mode.BERMode.{BERMode}
 use Rattle.yasna_base.specs.declared.tag.Tag.{Tag}
 use Rattle.yasna_base.specs.declared.tag.PCBit.{PCBit}
 use Rattle.yasna_base.specs.declared.tag.PCBit.TheVariants.{Primitive}
 use Rattle.yasna_base.specs.Grammar.{TaggedGrammar, Form, Nest}
-use Rattle.yasna_base.specs.Identifier.{identifier, end_tag}
+use Rattle.yasna_base.specs.Identifier.{identifier, AnyTag}
 use Rattle.yasna_base.specs.Length.{SpellsLength}
 use Rattle.yasna_base.specs.Element.{Element, Primitively}
 use Rattle.yasna_base.specs.Coding.{IsCoding, Any}
@@ -32,9 +32,8 @@ PrimitiveElementsAreUnambiguous =
 -- the end of contents. Its values are equal only where they are one
 abbrev pub KeepsLaws : {A : Type 0} → TaggedGrammar A → (Tag → Form A) → Nest A → (A → Type 0) → Type 0
 KeepsLaws B form nest Can =
-    (t : Tag) → (t ≡ end_tag → ⊥) → t.tag_number < 2 ^ 64 →
-    IsCoding (λ v w. v ≡ w) (λ m n v b. B n m t v b) (Any (λ m n v b. B n m t v b))
-    × IsWritten (λ v w. v ≡ w) (λ m n v b. B n m t v b) (form t) nest Can
+    AnyTag (λ t. IsCoding (λ v w. v ≡ w) (λ m n v b. B n m t v b) (Any (λ m n v b. B n m t v b))
+    × IsWritten (λ v w. v ≡ w) (λ m n v b. B n m t v b) (form t) nest Can)
 
 -- the same of a type of primitive elements alone, whose contents say v by W
 abbrev pub PrimitiveKeepsLaws : {A : Type 0} → (BERMode → A → List ℕ → Type 0) → (Tag → Form A) → (A → Type 0) → Type 0

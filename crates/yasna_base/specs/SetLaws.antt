@@ -1,17 +1,17 @@
 -- What holds of sets, as the laws of this crate say it.
-use Rattle.std.specs.Prelude.{◌≡◌, ℕ, ◌^◌, ◌<◌, List}
+use Rattle.std.specs.Prelude.{◌≡◌, ℕ, List}
 use Rattle.std.specs.List.{Contains}
 use Rattle.std.specs.List.Sorted.{IsPermutation}
 use Rattle.yasna_base.specs.declared.tag.Tag.{Tag}
 use Rattle.yasna_base.specs.Coding.{IsCoding, Any}
 use Rattle.yasna_base.specs.Element.{AnyEnclosed}
-use Rattle.yasna_base.specs.Identifier.{end_tag, BeginsWithTag}
+use Rattle.yasna_base.specs.Identifier.{BeginsWithTag, AnyTag}
 use Rattle.yasna_base.specs.Order.{octets_cmp, in_order}
 use Rattle.yasna_base.specs.Set.{SetElements, IsSet, SetPart, part_cmp, SetContents}
 
 -- SET keeps the laws of reading under any tag
 abbrev pub SetKeepsReadingLaws : Type 0
-SetKeepsReadingLaws = (t : Tag) → (t ≡ end_tag → ⊥) → t.tag_number < 2 ^ 64 → IsCoding (λ v w. v ≡ w) (IsSet t) (AnyEnclosed (Any SetElements) t)
+SetKeepsReadingLaws = AnyTag (λ t. IsCoding (λ v w. v ≡ w) (IsSet t) (AnyEnclosed (Any SetElements) t))
 
 -- parts that stood otherwise are put in the same order of a SET OF
 abbrev pub SetOfOrderIsOne : Type 0

@@ -10,7 +10,7 @@ use Rattle.yasna_base.specs.Canonical.{IsCanonicalMode, HoldsForm, canonical_ele
 use Rattle.yasna_base.specs.Coding.{IsCoding, Any}
 use Rattle.yasna_base.specs.Element.{AnyEnclosed}
 use Rattle.yasna_base.specs.Grammar.{Grammar, Members, TaggedGrammar, Form, Nest}
-use Rattle.yasna_base.specs.Identifier.{end_tag}
+use Rattle.yasna_base.specs.Identifier.{AnyTag}
 use Rattle.yasna_base.specs.Order.{octets_cmp, in_order}
 use Rattle.yasna_base.specs.Pieces.{Each}
 use Rattle.yasna_base.specs.Raw.{RawValue, IsRaw, raw_form}
@@ -69,36 +69,32 @@ pub record SetOfIsWritten {A : Type 0} (E : A → A → Type 0) (B : Grammar A) 
 -- SET OF keeps the laws of reading under any tag, where its elements keep them
 abbrev pub SetOfKeepsReadingLaws : {A : Type 0} → (A → A → Type 0) → Grammar A → Members → Type 0
 SetOfKeepsReadingLaws E B S =
-    (t : Tag) → (t ≡ end_tag → ⊥) → t.tag_number < 2 ^ 64 → IsCoding (λ vs ws. Each E vs ws) (IsSetOf B t) (AnySetOf S t)
+    AnyTag (λ t. IsCoding (λ vs ws. Each E vs ws) (IsSetOf B t) (AnySetOf S t))
 
 -- and so it keeps those of writing
 abbrev pub SetOfKeepsWritingLaws : {A : Type 0} → (A → A → Type 0) → Grammar A → Form A → Nest A → (A → Type 0) → Type 0
-SetOfKeepsWritingLaws E B form nest Can = (t : Tag) → (t ≡ end_tag → ⊥) → t.tag_number < 2 ^ 64 → SetOfIsWritten E B form nest Can t
+SetOfKeepsWritingLaws E B form nest Can = AnyTag (λ t. SetOfIsWritten E B form nest Can t)
 
 -- SET OF keeps both, where its elements, which B n m u v b says the bytes b to encode under the tag u, keep them under any tag
 abbrev pub SetOfKeepsLaws : {A : Type 0} → TaggedGrammar A → (Tag → Form A) → Nest A → (A → Type 0) → Type 0
 SetOfKeepsLaws B form nest Can =
-    (u : Tag) → (u ≡ end_tag → ⊥) → u.tag_number < 2 ^ 64 →
-    SetOfKeepsReadingLaws (λ v w. v ≡ w) (λ m n v b. B n m u v b) (Any (λ m n v b. B n m u v b))
-    × SetOfKeepsWritingLaws (λ v w. v ≡ w) (λ m n v b. B n m u v b) (form u) nest Can
+    AnyTag (λ u. SetOfKeepsReadingLaws (λ v w. v ≡ w) (λ m n v b. B n m u v b) (Any (λ m n v b. B n m u v b))
+    × SetOfKeepsWritingLaws (λ v w. v ≡ w) (λ m n v b. B n m u v b) (form u) nest Can)
 
 -- SET OF keeps the laws of reading under any tag, where its elements, of which B n m u v b says so under the tag u, have any tag
 abbrev pub SetOfKeepsReadingOf : {A : Type 0} → TaggedGrammar A → Type 0
 SetOfKeepsReadingOf B =
-    (u : Tag) → (u ≡ end_tag → ⊥) → u.tag_number < 2 ^ 64 →
-    SetOfKeepsReadingLaws (λ v w. v ≡ w) (λ m n v b. B n m u v b) (Any (λ m n v b. B n m u v b))
+    AnyTag (λ u. SetOfKeepsReadingLaws (λ v w. v ≡ w) (λ m n v b. B n m u v b) (Any (λ m n v b. B n m u v b)))
 
 -- the same where its elements are a SET
 abbrev pub SetOfSetKeepsReadingLaws : Type 0
 SetOfSetKeepsReadingLaws =
-    (u : Tag) → (u ≡ end_tag → ⊥) → u.tag_number < 2 ^ 64 →
-    SetOfKeepsReadingLaws (λ v w. v ≡ w) (IsSet u) (AnyEnclosed (Any SetElements) u)
+    AnyTag (λ u. SetOfKeepsReadingLaws (λ v w. v ≡ w) (IsSet u) (AnyEnclosed (Any SetElements) u))
 
 -- and where they are a SET OF such elements as B, E and S say
 abbrev pub SetOfSetOfKeepsReadingLaws : {A : Type 0} → (A → A → Type 0) → Grammar A → Members → Type 0
 SetOfSetOfKeepsReadingLaws E B S =
-    (u : Tag) → (u ≡ end_tag → ⊥) → u.tag_number < 2 ^ 64 →
-    SetOfKeepsReadingLaws (λ vs ws. Each E vs ws) (IsSetOf B u) (AnySetOf S u)
+    AnyTag (λ u. SetOfKeepsReadingLaws (λ vs ws. Each E vs ws) (IsSetOf B u) (AnySetOf S u))
 
 -- SET OF raw elements keeps the laws of reading
 abbrev pub SetOfRawKeepsReadingLaws : Type 0
@@ -157,4 +153,4 @@ pub record SetIsWritten (t : Tag) (n : ℕ) : Type 0 where
 
 -- SET keeps the laws of writing under any tag
 abbrev pub SetKeepsWritingLaws : Type 0
-SetKeepsWritingLaws = (t : Tag) → (t ≡ end_tag → ⊥) → t.tag_number < 2 ^ 64 → (n : ℕ) → SetIsWritten t n
+SetKeepsWritingLaws = AnyTag (λ t. (n : ℕ) → SetIsWritten t n)

@@ -1,5 +1,5 @@
 -- Character strings (X.680, 41; X.690, 8.23). A text is the list of its characters.
-use Rattle.std.specs.Prelude.{◌≡◌, ◌⊎◌, ℕ, ◌+◌, ◌*◌, ◌/◌, ◌%◌, ◌^◌, ◌<◌, ◌≤◌, List, [], ◌∷◌, length, map, codes, Some, String, string_bytes}
+use Rattle.std.specs.Prelude.{◌≡◌, ◌⊎◌, ℕ, ◌+◌, ◌*◌, ◌/◌, ◌%◌, ◌≤◌, List, [], ◌∷◌, length, map, codes, Some, String, string_bytes}
 use Rattle.std.specs.Char.{IsScalar}
 use Rattle.std.specs.Char.Escape.{encode_utf16}
 use Rattle.std.specs.Char.Utf16.{utf16_chars, utf16_lossy_chars}
@@ -10,7 +10,7 @@ use Rattle.yasna_base.specs.declared.mode.BERMode.{BERMode}
 use Rattle.yasna_base.specs.declared.tag.Tag.{Tag}
 use Rattle.yasna_base.specs.Coding.{IsCoding, Any}
 use Rattle.yasna_base.specs.Grammar.{Grammar, Form, Nest}
-use Rattle.yasna_base.specs.Identifier.{universal, end_tag}
+use Rattle.yasna_base.specs.Identifier.{universal, AnyTag}
 use Rattle.yasna_base.specs.Laws.{KeepsLaws}
 use Rattle.yasna_base.specs.Octets.{IsOctets, octets_form, octets_nest}
 
@@ -140,7 +140,6 @@ TextKeepsLaws In = KeepsLaws (IsStringOf (IsUtf8In In)) utf8_form utf8_nest (IsT
 
 -- BMPString keeps the laws of reading under any tag; where each surrogate has its partner, it keeps those of writing
 pub record BmpKeepsLaws : Type 0 where
-  pub reading : (t : Tag) → (t ≡ end_tag → ⊥) → t.tag_number < 2 ^ 64 →
-      IsCoding (λ v w. v ≡ w) (λ m n v b. IsStringOf IsBmp n m t v b) (Any (λ m n v b. IsStringOf IsBmp n m t v b))
+  pub reading : AnyTag (λ t. IsCoding (λ v w. v ≡ w) (λ m n v b. IsStringOf IsBmp n m t v b) (Any (λ m n v b. IsStringOf IsBmp n m t v b)))
   pub paired : KeepsLaws (IsStringOf IsPairedBmp) bmp_form bmp_nest (IsTextIn InUtf8)
   pub spells : (m : BERMode) (text v : List ℕ) → IsPairedBmp m text v → IsBmp m text v
