@@ -27,20 +27,20 @@ use Rattle.yasna_reader.specs.Raw.{ReadsRaw}
 use Rattle.yasna_bytes.specs.Contents.{Never, WantsMemory}
 use Rattle.yasna_bytes.specs.Segments.{bits_in}
 use Rattle.yasna_reader.specs.State.{Reading, IsFresh, starts, part_of, Does}
-use Rattle.yasna_reader.proofs.Listing.{collects}
+use Rattle.yasna_reader.proofs.ListDecoding.{collects}
 use Rattle.yasna_reader.proofs.OptionalParts.{IsContentsDecoder, contents_sequence}
 use Rattle.yasna_reader.proofs.Sequences.{parts_map}
 use Rattle.yasna_reader.proofs.Tuples.{IsDecoder, IsPartsDecoder, steps_sequence}
-use Rattle.yasna_reader.proofs.Whole.{whole}
+use Rattle.yasna_reader.proofs.WholeInputs.{whole}
 use Rattle.yasna_reader.proofs.RawReads.{raw_decodes}
 use Rattle.yasna_reader.proofs.Primitives.{leaf_decodes, asking_decodes}
 pub use Rattle.yasna_reader.proofs.Tuples.{decodes_by, done_by, step_by, seen, chosen}
 pub use Rattle.yasna_reader.proofs.OptionalParts.{then_by, end_by, part_by, option_by, quiet_at_end}
 pub use Rattle.yasna_reader.proofs.OptionalReads.{nothing_elsewhere, part_elsewhere, leaf_quiet, asking_quiet}
-pub use Rattle.yasna_reader.proofs.Ahead.{looked, found_none, found_other}
+pub use Rattle.yasna_reader.proofs.NextTag.{looked, found_none, found_other}
 pub use Rattle.yasna_reader.proofs.Kept.{seen_repeats_kept, raw_repeats_kept, parts_repeat_kept}
-pub use Rattle.yasna_reader.proofs.Whole.{read_form, refuses_none, exactly_as, reads_some}
-pub use Rattle.yasna_reader.proofs.Listing.{same_items}
+pub use Rattle.yasna_reader.proofs.WholeInputs.{read_form, refuses_none, exactly_as, reads_some}
+pub use Rattle.yasna_reader.proofs.ListDecoding.{same_items}
 
 -- a typed read from what equals s
 pub reads_at : {V A : Type 0} {B : TaggedGrammar A} {view : V → A} {D : TaggedMembers}

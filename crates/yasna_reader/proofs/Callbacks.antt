@@ -41,17 +41,15 @@ pub taken_from : {A : Type 0} (c : List ℕ) (mode : BERMode) (n : ℕ) (x : Res
     ComesTo (record { left = c; mode = mode; levels = n; tag = None; kept = None }) x m o s' → (taken : List ℕ) × (c ≡ taken ++ s'.left)
 taken_from c mode n x m o s' h = taken_behind (record { left = c; mode = mode; levels = n; tag = None; kept = None }) x m o s' h
 
--- the place of an unmoved reading is the old one
-unmoved : (c y : List ℕ) → length y ≡ length c → place_in c y ≡ c
-unmoved c y e =
-    let f : length c - length y ≡ 0 = omega (arith, e) in
-    ap (λ n. drop n c) f
+-- a place that didn't move is where it was
+pub place_unmoved : (c y : List ℕ) → length y ≡ length c → place_in c y ≡ c
+place_unmoved c y e = let n : length c - length y ≡ 0 = omega (arith, e) in ap (λ n. drop n c) n
 
 -- a quiet callback left the reading as it was, but for the implicit tag that was handed to it
 quiet_leaves : {A : Type 0} (s : Reading) (t : Option Tag) (x : Result A ASN1Error) (m : Reading) (e : ASN1Error) (s' : Reading) → s.kept ≡ None →
     ComesTo (record s { tag = t }) x m (Quiet e) s' → record s' { tag = s.tag } ≡ s
 quiet_leaves s t x m e s' k h =
-    ap (λ (z : Reading). record z { tag = s.tag }) h.4 ∙ ap {A = List ℕ} {B = Reading} (λ l. record s { left = l; kept = None }) (unmoved s.left m.left h.1)
+    ap (λ (z : Reading). record z { tag = s.tag }) h.4 ∙ ap {A = List ℕ} {B = Reading} (λ l. record s { left = l; kept = None }) (place_unmoved s.left m.left h.1)
     ∙ ap {A = Option ASN1Error} {B = Reading} (λ u. record s { kept = u }) (sym k)
 
 -- so where the tag waits again that waited, the reading is as it was

@@ -4,7 +4,7 @@ pub mod Sequences
 pub mod Callbacks
 pub mod Following
 pub mod Kept
-pub mod Turning
+pub mod ListTurns
 pub mod SetListing
 pub mod SetRuns
 pub mod SetReads
@@ -13,9 +13,9 @@ pub mod SetLaws
 pub mod Tuples
 pub mod OptionalParts
 pub mod OptionalReads
-pub mod Ahead
-pub mod Listing
-pub mod Whole
+pub mod NextTag
+pub mod ListDecoding
+pub mod WholeInputs
 pub mod ByTags
 pub mod UnderTags
 pub mod Handed

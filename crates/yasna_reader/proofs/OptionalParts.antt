@@ -23,11 +23,11 @@ use Rattle.yasna_reader.specs.Parse.{unless_kept}
 use Rattle.yasna_bytes.specs.Refusal.{BlamesBytes}
 use Rattle.yasna_reader.specs.Sequence.{ReadsParts, place_in}
 use Rattle.yasna_reader.specs.State.{Reading, IsFresh, untagged, Does}
-use Rattle.yasna_reader.proofs.Listing.{place_unmoved}
+use Rattle.yasna_reader.proofs.Callbacks.{place_unmoved}
 use Rattle.yasna_bytes.proofs.Refusal.{plain_not_memory}
 use Rattle.yasna_reader.proofs.Sequences.{element, place_behind, replaced}
 use Rattle.yasna_reader.proofs.Tuples.{IsDecoder, decodes_map, enclosed_seen}
-use Rattle.yasna_reader.proofs.Turning.{fresh_as}
+use Rattle.yasna_reader.proofs.ListTurns.{fresh_as}
 
 -- the failure that was kept, or else the answer's own
 abbrev pub first_failure : Option ASN1Error → ASN1Error → ASN1Error
@@ -121,8 +121,8 @@ then_by {B} {S} {p} {q} {C} {Q} {make} {K} first more = record {
       (λ v now k. (more v).decodes h.1 r s' now k) h.3;
 }
 
-ended : {U : Type 0} (make : Unit {0} → U) (s : Reading) → DecodesContents false (Made NoParts make) AnyNothing s (Ok (make tt)) s
-ended make s = record {
+no_more_parts : {U : Type 0} (make : Unit {0} → U) (s : Reading) → DecodesContents false (Made NoParts make) AnyNothing s (Ok (make tt)) s
+no_more_parts make s = record {
   took = record { front = []; rest = s.left; joined = refl; stands = (tt, refl, refl); left = refl };
   ends = λ d x e i j. j;
 }
@@ -131,7 +131,7 @@ ended make s = record {
 pub end_by : {U : Type 0} {make : Unit {0} → U} → IsContentsDecoder false NoParts AnyNothing make (Done (make tt))
 end_by {make} = record {
   decodes = λ s r s' fresh h. replaced (λ x z. DecodesContents false (Made NoParts make) AnyNothing s (unless_kept z.kept x) z) h.0 h.1
-      (subst (λ k. DecodesContents false (Made NoParts make) AnyNothing s (unless_kept k (Ok (make tt))) s) (sym fresh.0) (ended make s));
+      (subst (λ k. DecodesContents false (Made NoParts make) AnyNothing s (unless_kept k (Ok (make tt))) s) (sym fresh.0) (no_more_parts make s));
 }
 
 -- a part that isn't left out
@@ -243,13 +243,13 @@ module _ {A : Type 0} {E : A → A → Type 0} {B : Grammar A} {S : Members} (la
   took_further : (v : A) (m : Reading) → Took (B s.mode s.levels) s v m → length s.left < length m.left → ⊥
   took_further v m h b = omega (arith, b, ap length h.joined, length-append h.front h.rest, ap (λ (z : Reading). length z.left) h.left)
 
-  fault_tells : (x : Result A ASN1Error) (m : Reading) → Decodes asks B S s x m → (e : ASN1Error) → Fault s.left x m e → Tells asks (S s.mode s.levels) s.left e
-  fault_tells (Ok v) m h e (kept k) = let u = took_unkept v m h in absurd (cc)
-  fault_tells (Ok v) m h e (before k b f) = absurd (took_further v m h b)
-  fault_tells (Ok v) m h e (own k b f p) = absurd (cc)
-  fault_tells (Err d) m h e (kept k) = subst (λ z. KeptTells asks (S s.mode s.levels) s.left z) k h.0.kept
-  fault_tells (Err d) m h e (before k b f) = absurd (omega (arith, b, h.0.further))
-  fault_tells (Err d) m h e (own k b f p) = let g : d ≡ e = cc in subst (λ z. Tells asks (S s.mode s.levels) s.left z) g h.0.tells
+  option_fault_tells : (x : Result A ASN1Error) (m : Reading) → Decodes asks B S s x m → (e : ASN1Error) → Fault s.left x m e → Tells asks (S s.mode s.levels) s.left e
+  option_fault_tells (Ok v) m h e (kept k) = let u = took_unkept v m h in absurd (cc)
+  option_fault_tells (Ok v) m h e (before k b f) = absurd (took_further v m h b)
+  option_fault_tells (Ok v) m h e (own k b f p) = absurd (cc)
+  option_fault_tells (Err d) m h e (kept k) = subst (λ z. KeptTells asks (S s.mode s.levels) s.left z) k h.0.kept
+  option_fault_tells (Err d) m h e (before k b f) = absurd (omega (arith, b, h.0.further))
+  option_fault_tells (Err d) m h e (own k b f p) = let g : d ≡ e = cc in subst (λ z. Tells asks (S s.mode s.levels) s.left z) g h.0.tells
 
   fault_alone : (x : Result A ASN1Error) (m : Reading) → N s x m → Decodes asks B S s x m → (e : ASN1Error) → Fault s.left x m e →
       EndsWith (Q s.mode s.levels) s.left → ⊥
@@ -278,7 +278,7 @@ module _ {A : Type 0} {E : A → A → Type 0} {B : Grammar A} {S : Members} (la
       none_first e h.left s' x.0 h.comes.2 h.comes.1 h.comes.4
   came_to (Failed e) s' h =
       let d = decoder.decodes s h.own h.left fresh h.says in
-      let F = fails_first e (fault_tells h.own h.left d e h.comes.0) (fault_alone h.own h.left h.says d e h.comes.0) in
+      let F = fails_first e (option_fault_tells h.own h.left d e h.comes.0) (fault_alone h.own h.left h.says d e h.comes.0) in
       subst (λ (z : Reading). NotContents asks (AnyPart (AnyOption S) Q s.mode s.levels) s (first_failure z.kept e)) (sym h.comes.1) F
 
   option_first : (r : Result (Option A) ASN1Error) (s' : Reading) → ReadsOptional N s r s' → DecodesFirst asks (OptionOf B) (AnyOption S) Q s r s'

@@ -107,8 +107,8 @@ module _ {V A : Type 0} (asks : Bool) (B : TaggedGrammar A) (view : V → A) (D 
     (says : (m : BERMode) (n : ℕ) (v : V) (b : List ℕ) → B n m t (view v) b → B' m n v b)
     (asked : (m : BERMode) (n : ℕ) (b : List ℕ) → S' m n b → (v : A) × B n m t v b) (deep : (n : ℕ) (m : BERMode) (s : List ℕ) → AtEnd s → D n m t s → ⊥)
     (memory : (n : ℕ) (s : List ℕ) → AtEnd s → M n t s → ⊥) (may : (n : ℕ) (s : List ℕ) → M n t s → asks ≡ true) where
-  took : (s : Reading) (v : V) (s' : Reading) → s.tag ≡ None → ReadsFront (B s.levels s.mode t) s (view v) s' → Took (B' s.mode s.levels) s v s'
-  took s v s' f y = record {
+  typed_took : (s : Reading) (v : V) (s' : Reading) → s.tag ≡ None → ReadsFront (B s.levels s.mode t) s (view v) s' → Took (B' s.mode s.levels) s v s'
+  typed_took s v s' f y = record {
     front = y.takes.front;
     rest = y.rest;
     joined = y.takes.joined;
@@ -124,14 +124,14 @@ module _ {V A : Type 0} (asks : Bool) (B : TaggedGrammar A) (view : V → A) (D 
     memory = λ i. may s.levels s.left (y.refuses.memory (y.kind ∙ i));
   }
 
-  tagless : (b : Bool) (s : Reading) (e : ASN1Error) → s.tag ≡ None →
+  refusing_untagged : (b : Bool) (s : Reading) (e : ASN1Error) → s.tag ≡ None →
       refusing b s e ≡ record s { left = (refusing b s e).left; kept = (refusing b s e).kept }
-  tagless true s e f = ap {B = Reading} (λ u. record s { kept = Some e; tag = u }) (sym f)
-  tagless false s e f = refl
+  refusing_untagged true s e f = ap {B = Reading} (λ u. record s { kept = Some e; tag = u }) (sym f)
+  refusing_untagged false s e f = refl
 
-  refused : (s : Reading) (e : ASN1Error) (s' : Reading) → IsFresh s →
+  typed_refused : (s : Reading) (e : ASN1Error) (s' : Reading) → IsFresh s →
       RefusedAs (B s.levels s.mode t) (D s.levels s.mode t s.left) (M s.levels t s.left) t s e s' → NotTook asks (S' s.mode s.levels) s e s'
-  refused s e s' f y =
+  typed_refused s e s' f y =
       let i = ap (λ z. length z.left) y.state in
       let j = ap length (left_as y.refusal.moved s e) in
       record {
@@ -139,7 +139,7 @@ module _ {V A : Type 0} (asks : Bool) (B : TaggedGrammar A) (view : V → A) (D 
         kept = subst (λ z. KeptTells asks (S' s.mode s.levels) s.left z.kept) (sym y.state)
             (kept_as asks (S' s.mode s.levels) y.refusal.moved s e f.0 (tells s e s' y));
         further = omega arith;
-        same = subst (λ z. z ≡ record s { left = z.left; kept = z.kept }) (sym y.state) (tagless y.refusal.moved s e f.1);
+        same = subst (λ z. z ≡ record s { left = z.left; kept = z.kept }) (sym y.state) (refusing_untagged y.refusal.moved s e f.1);
       }
 
   quiet : (s : Reading) (e : ASN1Error) (s' : Reading) →
@@ -151,8 +151,8 @@ module _ {V A : Type 0} (asks : Bool) (B : TaggedGrammar A) (view : V → A) (D 
 
   -- such a read decodes
   pub asked_decodes : (s : Reading) (r : Result V ASN1Error) (s' : Reading) → IsFresh s → ReadsSeen B view D M t s r s' → Decodes asks B' S' s r s'
-  asked_decodes s (Ok v) s' f x = took s v s' f.1 (fresh_took B view D M t s v s' f x)
-  asked_decodes s (Err e) s' f x = let y = fresh_refused B view D M t s e s' f x in (refused s e s' f y, quiet s e s' y)
+  asked_decodes s (Ok v) s' f x = typed_took s v s' f.1 (fresh_took B view D M t s v s' f x)
+  asked_decodes s (Err e) s' f x = let y = fresh_refused B view D M t s e s' f x in (typed_refused s e s' f y, quiet s e s' y)
 
 -- a typed read under the type's own tag that goes one level down and takes no memory decodes
 pub leaf_decodes : {A : Type 0} (B : TaggedGrammar A) (k : ℕ) → (k ≡ 0 → ⊥) → (s : Reading) (r : Result A ASN1Error) (s' : Reading) →

@@ -25,11 +25,11 @@ use Rattle.yasna_bytes.proofs.Ending.{closed}
 use Rattle.yasna_bytes.proofs.Header.{element_header}
 
 module _ {A : Type 0} (P Q : Does A) (says : (s : Reading) (r : Result A ASN1Error) (s' : Reading) → IsFresh s → P s r s' → Q s r s') where
-  entered : (k : Option ASN1Error) (t : Tag) (s : Reading) (r : Result A ASN1Error) (s' : Reading) → EntersUnlessKept k P t s r s' →
+  enters_map : (k : Option ASN1Error) (t : Tag) (s : Reading) (r : Result A ASN1Error) (s' : Reading) → EntersUnlessKept k P t s r s' →
       EntersUnlessKept k Q t s r s'
-  entered (Some e) t s r s' h = h
-  entered None t s r s' (inr x) = inr x
-  entered None t s r s' (inl x) = inl (record {
+  enters_map (Some e) t s r s' h = h
+  enters_map None t s r s' (inr x) = inr x
+  enters_map None t s r s' (inl x) = inl (record {
     level = x.level;
     contents = x.contents;
     end = x.end;
@@ -42,7 +42,7 @@ module _ {A : Type 0} (P Q : Does A) (says : (s : Reading) (r : Result A ASN1Err
 
   -- where contents are read as P says, and so as Q says
   pub parts_map : (tag : Tag) (s : Reading) (r : Result A ASN1Error) (s' : Reading) → ReadsParts P tag s r s' → ReadsParts Q tag s r s'
-  parts_map tag s r s' h = record { enters = entered s.kept (tag_of s tag) s r s' h.enters }
+  parts_map tag s r s' h = record { enters = enters_map s.kept (tag_of s tag) s r s' h.enters }
 
 pub around : {A : Type 0} (C : Grammar A) (t : Tag) (m : BERMode) (n : ℕ) (v : A) (b : List ℕ) → 1 ≤ n → Around m t (C m (n - 1)) v b →
     Enclosed C t m n v b
@@ -65,8 +65,8 @@ pub replaced : {X Y : Type 0} {r x : X} {s y : Y} (B : X → Y → Type 0) → r
 replaced {r} {y} B e f h = subst (λ z. B r z) (sym f) (subst (λ z. B z y) (sym e) h)
 
 module _ {A : Type 0} (asks : Bool) (C : Grammar A) (S : Members) (t : Tag) (not_end : t ≡ end_tag → ⊥) (s : Reading) (fresh : IsFresh s) where
-  tagless : (k : Option ASN1Error) → record (untagged s) { kept = k } ≡ record s { kept = k }
-  tagless k = ap {A = Option Tag} {B = Reading} (λ u. record s { kept = k; tag = u }) (sym fresh.1)
+  untagged_fresh : (k : Option ASN1Error) → record (untagged s) { kept = k } ≡ record s { kept = k }
+  untagged_fresh k = ap {A = Option Tag} {B = Reading} (λ u. record s { kept = k; tag = u }) (sym fresh.1)
 
   -- an answer that was kept, where no front of the contents is what they are to be
   kept_failure : (c : List ℕ) (after : ContentsEnd) → OpensAt s.mode t Constructed s.left c after → (e : ASN1Error) →
@@ -82,7 +82,7 @@ module _ {A : Type 0} (asks : Bool) (C : Grammar A) (S : Members) (t : Tag) (not
         memory = memory;
       } in
       replaced (Decodes asks (Enclosed C t) (AnyEnclosed S t) s) h.answer h.state (
-        record { tells = T; kept = T; further = omega arith; same = tagless (Some e) },
+        record { tells = T; kept = T; further = omega arith; same = untagged_fresh (Some e) },
         λ i. absurd
             (not_at_end t s.left not_end i (opens_begins s.mode t Constructed s.left c after o)),
       )
@@ -97,12 +97,12 @@ module _ {A : Type 0} (asks : Bool) (C : Grammar A) (S : Members) (t : Tag) (not
   left_behind c left v x = ap (λ (z : Reading). place_in c z.left) x.took.left ∙ ap (λ z. place_in z x.took.rest) x.took.joined ∙
       place_behind x.took.front x.took.rest
 
-  settled : (c : List ℕ) (after : ContentsEnd) → OpensAt s.mode t Constructed s.left c after → 1 ≤ s.levels →
+  left_decodes : (c : List ℕ) (after : ContentsEnd) → OpensAt s.mode t Constructed s.left c after → 1 ≤ s.levels →
       (k : Option ASN1Error) (own : Result A ASN1Error) (left : Reading) → DecodesContents asks C S (inside s c) (unless_kept k own) left →
       (r : Result A ASN1Error) (s' : Reading) → Left after c k left.left own (untagged s) r s' → Decodes asks (Enclosed C t) (AnyEnclosed S t) s r s'
-  settled c after o l (Some e) own left x r s' h = contents_failure c after o e x r s' h
-  settled c after o l None (Err e) left x r s' h = contents_failure c after o e x r s' h
-  settled c after o l None (Ok v) left x r s' (inl h) =
+  left_decodes c after o l (Some e) own left x r s' h = contents_failure c after o e x r s' h
+  left_decodes c after o l None (Err e) left x r s' h = contents_failure c after o e x r s' h
+  left_decodes c after o l None (Ok v) left x r s' (inl h) =
       let at = left_behind c left v x in
       let w = closed s.mode t Constructed s.left c after o x.took.front x.took.rest h.rest x.took.joined (subst (λ z. EndsBefore after z h.rest) at h.ends) in
       replaced (Decodes asks (Enclosed C t) (AnyEnclosed S t) s) h.answer h.state (record {
@@ -112,7 +112,7 @@ module _ {A : Type 0} (asks : Bool) (C : Grammar A) (S : Members) (t : Tag) (not
         stands = around C t s.mode s.levels v w.bytes l (record { contents = x.took.front; element = w.element; meaning = x.took.stands });
         left = ap (λ u. record s { left = h.rest; tag = u }) (sym fresh.1);
       })
-  settled c after o l None (Ok v) left x r s' (inr h) = kept_failure c after o h.error (λ q d y u i j k.
+  left_decodes c after o l None (Ok v) left x r s' (inr h) = kept_failure c after o h.error (λ q d y u i j k.
       let f = x.ends d y i (end_behind after y u j) k in
       let g : x.took.rest ≡ y = append_same x.took.front x.took.rest y (sym x.took.joined ∙ i ∙ ap (λ z. z ++ y) f) in
       elim h.no_end [
@@ -125,7 +125,7 @@ module _ {A : Type 0} (asks : Bool) (C : Grammar A) (S : Members) (t : Tag) (not
       NotTook asks (AnyEnclosed S t s.mode s.levels) s (error_of k.kind) (refusing w s (error_of k.kind)) ×
       IsQuietAtEnd s (error_of k.kind) (refusing w s (error_of k.kind))
   refused_at k h T true e = (
-    record { tells = T; kept = T; further = omega arith; same = tagless (Some (error_of k.kind)) },
+    record { tells = T; kept = T; further = omega arith; same = untagged_fresh (Some (error_of k.kind)) },
     λ i. absurd
         (let f = h.moved.1 (at_end_elsewhere t s.left not_end i) in let g = sym e ∙ f in cc),
   )
@@ -139,8 +139,8 @@ module _ {A : Type 0} (asks : Bool) (C : Grammar A) (S : Members) (t : Tag) (not
     λ i. (refl, plain_of k.kind (λ f. not_at_end t s.left not_end i (h.too_deep f).1) h.memory),
   )
 
-  refused : (r : Result A ASN1Error) (s' : Reading) → NotEntered t s r s' → Decodes asks (Enclosed C t) (AnyEnclosed S t) s r s'
-  refused r s' h =
+  not_entered_decodes : (r : Result A ASN1Error) (s' : Reading) → NotEntered t s r s' → Decodes asks (Enclosed C t) (AnyEnclosed S t) s r s'
+  not_entered_decodes r s' h =
       let e : ASN1Error = error_of h.refusal.kind in
       let T : Tells asks (AnyEnclosed S t s.mode s.levels) s.left e = record {
         none = λ q b v i j.
@@ -160,7 +160,7 @@ element asks C S P says t not_end s fresh r s' h =
     let k : Entered P t s r s' ⊎ NotEntered t s r s' =
     subst (λ u. EntersUnlessKept None P (tag_or u t) s r s') fresh.1 (subst (λ z. EntersUnlessKept z P (tag_of s t) s r s') fresh.0 h.enters) in
     elim k [
-      | inl x ↦ settled asks C S t not_end s fresh x.contents x.end x.opens x.level x.left.kept x.own x.left
+      | inl x ↦ left_decodes asks C S t not_end s fresh x.contents x.end x.opens x.level x.left.kept x.own x.left
           (says (inside s x.contents) x.own x.left (refl, refl) x.says) r s' x.closed
-      | inr x ↦ refused asks C S t not_end s fresh r s' x
+      | inr x ↦ not_entered_decodes asks C S t not_end s fresh r s' x
     ]

@@ -62,12 +62,12 @@ module _ {F A : Type 0} (g : SetCallback F A) (f : F) where
   gave_from s c v own left (inr x) e k = let h = sym x.answer ∙ e in absurd (cc)
 
   module _ (t : Tag) (s : Reading) (c : List ℕ) (after : ContentsEnd) (opens : OpensAt s.mode t Constructed s.left c after) where
-    took : 1 ≤ s.levels → (own : Result A ASN1Error) (left : Reading) → RunsOnSet g f (inside s c) own left → (k : Option ASN1Error) → left.kept ≡ k →
+    set_took : 1 ≤ s.levels → (own : Result A ASN1Error) (left : Reading) → RunsOnSet g f (inside s c) own left → (k : Option ASN1Error) → left.kept ≡ k →
         (v : A) (s' : Reading) → Left after c k left.left own (untagged s) (Ok v) s' → TakesSet g f t s v s'
-    took l own left x (Some e) i v s' h = let a = h.answer in absurd (cc)
-    took l (Err e) left x None i v s' h = let a = h.answer in absurd (cc)
-    took l (Ok w) left x None i v s' (inr h) = let a = h.fails.answer in absurd (cc)
-    took l (Ok w) left x None i v s' (inl h) =
+    set_took l own left x (Some e) i v s' h = let a = h.answer in absurd (cc)
+    set_took l (Err e) left x None i v s' h = let a = h.answer in absurd (cc)
+    set_took l (Ok w) left x None i v s' (inr h) = let a = h.fails.answer in absurd (cc)
+    set_took l (Ok w) left x None i v s' (inl h) =
         let q = gave_from s c v (Ok w) left x (sym h.answer) i in
         let at : place_in c left.left ≡ q.rest = ap (λ z. place_in c z) q.place ∙ ap (λ z. place_in z q.rest) q.joined ∙ place_behind q.front q.rest in
         let y = closed s.mode t Constructed s.left c after opens q.front q.rest h.rest q.joined (subst (λ z. EndsBefore after z h.rest) at h.ends) in
@@ -134,9 +134,9 @@ module _ {F A : Type 0} (g : SetCallback F A) (f : F) where
         let m = kept_is left.left own (error_of x.kind) k (sym i ∙ ap (λ (z : Reading). z.kept) x.state) e s' h in
         absurd (not_run l y p x.kind (λ n. q (ap kind_of m ∙ n)) x.why)
 
-    refused : (own : Result A ASN1Error) (left : Reading) → RunsOnSet g f (inside s c) own left → (k : Option ASN1Error) → left.kept ≡ k → (e : ASN1Error)
+    set_refused : (own : Result A ASN1Error) (left : Reading) → RunsOnSet g f (inside s c) own left → (k : Option ASN1Error) → left.kept ≡ k → (e : ASN1Error)
         (s' : Reading) → Left after c k left.left own (untagged s) (Err e) s' → RefusesSet g f t s e
-    refused own left x k i e s' h = λ vs front rest q j p.
+    set_refused own left x k i e s' h = λ vs front rest q j p.
         let w = (within SetElements t s.mode s.levels vs front p).1 in
         let b = header_of s.mode t t Constructed Constructed s.left c w.contents front rest after opens w.element j in
         let z = sets_are_listed (s.levels - 1) s.mode vs w.contents c b.behind w.meaning b.joined (end_behind after b.behind rest b.ends) in
@@ -144,11 +144,11 @@ module _ {F A : Type 0} (g : SetCallback F A) (f : F) where
         ((lists_are_sets (s.levels - 1) s.mode z.0 c b.behind).1 (vs, z.2)) b.joined rest b.ends own left x k i e
         s' h q
 
-  entered : (t : Tag) (s : Reading) (r : Result A ASN1Error) (s' : Reading) → EntersUnlessKept None (RunsOnSet g f) t s r s' → ReadsSet g f t s r s'
-  entered t s (Ok v) s' (inl x) = took t s x.contents x.end x.opens x.level x.own x.left x.says x.left.kept refl v s' x.closed
-  entered t s (Err e) s' (inl x) = refused t s x.contents x.end x.opens x.own x.left x.says x.left.kept refl e s' x.closed
-  entered t s (Ok v) s' (inr x) = let h = x.answer in absurd (cc)
-  entered t s (Err e) s' (inr x) = λ vs front rest q j p.
+  set_entered : (t : Tag) (s : Reading) (r : Result A ASN1Error) (s' : Reading) → EntersUnlessKept None (RunsOnSet g f) t s r s' → ReadsSet g f t s r s'
+  set_entered t s (Ok v) s' (inl x) = set_took t s x.contents x.end x.opens x.level x.own x.left x.says x.left.kept refl v s' x.closed
+  set_entered t s (Err e) s' (inl x) = set_refused t s x.contents x.end x.opens x.own x.left x.says x.left.kept refl e s' x.closed
+  set_entered t s (Ok v) s' (inr x) = let h = x.answer in absurd (cc)
+  set_entered t s (Err e) s' (inr x) = λ vs front rest q j p.
       let w = within SetElements t s.mode s.levels vs front p in
       absurd (x.refuses.none (λ m. x.refuses.memory m)
       (element_header OnlyConstructed s.mode s.levels t Constructed w.1.contents front s.left rest w.0 refl w.1.element j))
@@ -156,4 +156,4 @@ module _ {F A : Type 0} (g : SetCallback F A) (f : F) where
   -- what a read of a SET does
   pub reads_set : (tag : Tag) (s : Reading) (r : Result A ASN1Error) (s' : Reading) → ReadsParts (RunsOnSet g f) tag s r s' → s.kept ≡ None →
       ReadsSet g f (tag_of s tag) s r s'
-  reads_set tag s r s' h k = entered (tag_of s tag) s r s' (subst (λ z. EntersUnlessKept z (RunsOnSet g f) (tag_of s tag) s r s') k h.enters)
+  reads_set tag s r s' h k = set_entered (tag_of s tag) s r s' (subst (λ z. EntersUnlessKept z (RunsOnSet g f) (tag_of s tag) s r s') k h.enters)

@@ -22,7 +22,7 @@ impl<'a> ReaderState<'a> {
     /// It is called until its Err moves nothing; the list is to end there. `StackOverflow` and `OutOfMemory` end no list:
     /// they are kept. Where the callback answers Ok and took nothing, that is `Invalid`, and kept.
     #[inline(always)]
-    #[tactic(auto, using(crate::proofs::Turning::visits_any))]
+    #[tactic(auto, using(crate::proofs::ListTurns::visits_any))]
     pub fn read_sequence_of<F>(&mut self, f: F) -> ASN1Result<()>
     where
         F: FnMut(BERReader<'a, '_>) -> ASN1Result<()> + Drop,
@@ -36,7 +36,7 @@ impl<'a> ReaderState<'a> {
     ///
     /// Answers `OutOfMemory` besides, and keeps it, where there is no memory for the vector.
     #[inline(always)]
-    #[tactic(auto, using(crate::proofs::Turning::collects_any))]
+    #[tactic(auto, using(crate::proofs::ListTurns::collects_any))]
     pub fn collect_sequence_of<T: Drop, F>(&mut self, f: F) -> ASN1Result<Vec<T>>
     where
         F: FnMut(BERReader<'a, '_>) -> ASN1Result<T> + Drop,

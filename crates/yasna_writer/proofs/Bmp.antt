@@ -27,8 +27,9 @@ octets_of_one c h = ap (λ us. flat_map unit_octets (us ++ [])) (one_unit c h)
 pub octets_of_two : (c : ℕ) → 65536 ≤ c → length (bmp_octets (c ∷ [])) ≡ 4
 octets_of_two c h = ap (λ us. length (flat_map unit_octets (us ++ []))) (two_units c h)
 
-pub octets_more : (cs ds : List ℕ) → bmp_octets (cs ++ ds) ≡ bmp_octets cs ++ bmp_octets ds
-octets_more cs ds =
+-- the octets of texts one after the other stand so
+pub octets_joined : (cs ds : List ℕ) → bmp_octets (cs ++ ds) ≡ bmp_octets cs ++ bmp_octets ds
+octets_joined cs ds =
     ap (flat_map unit_octets) (flat_map-append encode_utf16 cs ds) ∙ flat_map-append unit_octets (flat_map encode_utf16 cs) (flat_map encode_utf16 ds)
 
 -- what is left begins with the character at hand
@@ -36,7 +37,7 @@ pub octets_left :
     (cs : List ℕ) (n c : ℕ) → (n < length cs) × (c ≡ get_or cs n c)
     → bmp_octets (drop n cs) ≡ bmp_octets (c ∷ []) ++ bmp_octets (drop (n + 1) cs)
 octets_left cs n c h =
-    at_drop_more bmp_octets cs n c h.0 ∙ ap (λ x. bmp_octets (x ∷ drop (n + 1) cs)) (sym h.1) ∙ octets_more (c ∷ []) (drop (n + 1) cs)
+    at_drop_more bmp_octets cs n c h.0 ∙ ap (λ x. bmp_octets (x ∷ drop (n + 1) cs)) (sym h.1) ∙ octets_joined (c ∷ []) (drop (n + 1) cs)
 
 units_counted :
     (c k : ℕ) → (c < 65536 → k ≡ 1) → (65536 ≤ c → k ≡ 2) → (c < 65536) ⊎ (65536 ≤ c) → length (bmp_octets (c ∷ [])) ≡ 2 * k
@@ -68,7 +69,7 @@ octets_bound (c ∷ cs) =
       octets_bound cs,
       character_bound c (cases_lt c 65536),
       length-encode c,
-      ap length (octets_more (c ∷ []) cs),
+      ap length (octets_joined (c ∷ []) cs),
       length-append (bmp_octets (c ∷ [])) (bmp_octets cs),
       length-append (encode_utf8 c) (encode_utf8_all cs),
     )

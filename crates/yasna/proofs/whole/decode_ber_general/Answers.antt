@@ -1,7 +1,7 @@
 use Rattle.std.proofs.Common.{rules}
 use Rattle.yasna_reader.specs.State.{starts}
 use Rattle.yasna_reader.specs.Decodes.{Decodes}
-use Rattle.yasna_reader.proofs.Whole.{whole, exactly}
+use Rattle.yasna_reader.proofs.WholeInputs.{whole, exactly}
 use Rattle.yasna.proofs.whole.decode_ber_general.Goals as goal
 
 pub returns : goal.returns

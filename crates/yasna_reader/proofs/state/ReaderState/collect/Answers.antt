@@ -5,7 +5,7 @@ use Rattle.yasna_base.specs.declared.error.ASN1ErrorKind.TheVariants.{OutOfMemor
 use Rattle.yasna_reader.specs.declared.callback.Outcome.TheVariants.{Quiet, Failed}
 use Rattle.yasna_reader.specs.SequenceOf.{items_of}
 use Rattle.yasna_reader.specs.SetOf.{TurnInOrder, bound_in, bound_bytes}
-use Rattle.yasna_reader.proofs.Turning.{SoFar, more_so_far, takes_turn}
+use Rattle.yasna_reader.proofs.ListTurns.{SoFar, more_so_far, takes_turn}
 use Rattle.yasna_reader.proofs.state.ReaderState.collect.Goals as goal
 
 pub turn_in_order-requires : goal.turn_in_order-requires

@@ -1,6 +1,6 @@
 use Rattle.std.proofs.Common.{rules}
 use Rattle.std.specs.Fn.{CalledAtMut}
-use Rattle.yasna_reader.proofs.Turning.{turned_at}
+use Rattle.yasna_reader.proofs.ListTurns.{turned_at}
 use Rattle.yasna_reader.proofs.state.ReaderState.turn.Goals as goal
 
 pub returns : goal.returns

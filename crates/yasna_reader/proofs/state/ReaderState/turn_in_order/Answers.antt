@@ -2,7 +2,7 @@ use Rattle.std.proofs.Common.{ap, subst, ◌∙◌}
 use Rattle.std.specs.Fn.{CalledAtMut}
 use Rattle.yasna_reader.specs.State.{Reading}
 use Rattle.yasna_reader.specs.SetOf.{Ordered, bound_bytes}
-use Rattle.yasna_reader.proofs.Turning.{turn_rest, turned_in_order}
+use Rattle.yasna_reader.proofs.ListTurns.{turn_rest, turned_in_order}
 use Rattle.yasna_reader.proofs.state.ReaderState.turn_in_order.Goals as goal
 
 pub in_order-requires : goal.in_order-requires

@@ -2,7 +2,7 @@ use Rattle.std.proofs.Common.{Ok, Err, [], ◌∷◌, ◌++◌, refl}
 use Rattle.std.specs.Fn.{CalledAtMut}
 use Rattle.yasna_reader.specs.declared.callback.Outcome.TheVariants.{Quiet, Failed}
 use Rattle.yasna_reader.specs.SetOf.{bound_in, bound_bytes}
-use Rattle.yasna_reader.proofs.Turning.{more_so_far, takes_turn}
+use Rattle.yasna_reader.proofs.ListTurns.{more_so_far, takes_turn}
 use Rattle.yasna_reader.proofs.state.ReaderState.visit.Goals as goal
 
 pub turn_in_order-requires : goal.turn_in_order-requires

@@ -1,7 +1,7 @@
 use Rattle.std.proofs.Common.{List, length}
 use Rattle.std.specs.Fn.{CalledAtMut}
 use Rattle.yasna_reader.specs.SetOf.{TurnInOrder, bound_in, bound_bytes}
-use Rattle.yasna_reader.proofs.Turning.{SoFar}
+use Rattle.yasna_reader.proofs.ListTurns.{SoFar}
 use Rattle.yasna_reader.proofs.state.ReaderState.visit.Given as goal
 
 abbrev pub invariant-loop-f : goal.invariant-loop-f

@@ -38,15 +38,15 @@ module _ {A : Type 0} {E : A → A → Type 0} {B : Grammar A} {S : Members} (as
     quiet = λ i. absurd (kept_none f (quiet i).0);
   }
 
-  settled : (own : Result A ASN1Error) (left : Reading) → Decodes asks B S (starts s m) own left → Decoded asks B S m s (parsed own left)
-  settled (Ok v) left h =
+  parsed_decodes : (own : Result A ASN1Error) (left : Reading) → Decodes asks B S (starts s m) own left → Decoded asks B S m s (parsed own left)
+  parsed_decodes (Ok v) left h =
       subst (λ (z : Reading). Decoded asks B S m s (unless_kept z.kept (ended (Ok v) z.left))) (sym h.left) (all_read v h.front h.rest h.joined h.stands)
-  settled (Err e) left h = not_read left.kept e h.0.tells h.0.kept (λ i. (ap (λ (z : Reading). z.kept) (h.1 i).0, plain_not_memory (h.1 i).1))
+  parsed_decodes (Err e) left h = not_read left.kept e h.0.tells h.0.kept (λ i. (ap (λ (z : Reading). z.kept) (h.1 i).0, plain_not_memory (h.1 i).1))
 
   -- whole bytes, by what the callback does to a reading of them
   pub whole : (own : Result A ASN1Error) (left : Reading) → Decodes asks B S (starts s m) own left → (r : Result A ASN1Error) → r ≡ parsed own left →
       Decoded asks B S m s r
-  whole own left h r e = subst (λ z. Decoded asks B S m s z) (sym e) (settled own left h)
+  whole own left h r e = subst (λ z. Decoded asks B S m s z) (sym e) (parsed_decodes own left h)
 
 memory_or : (k : ASN1ErrorKind) → (k ≡ OutOfMemory) ⊎ (k ≡ OutOfMemory → ⊥)
 memory_or Eof = inr (λ e. cc)

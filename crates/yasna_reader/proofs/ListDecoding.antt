@@ -25,13 +25,10 @@ use Rattle.yasna_reader.specs.Sequence.{place_in, ReadsParts}
 use Rattle.yasna_reader.specs.SequenceOf.{Idles, ListTurn, Turns, EndsList, Lists, Collects, items_of}
 use Rattle.yasna_reader.specs.State.{Reading, IsFresh}
 use Rattle.yasna_bytes.proofs.Refusal.{plain_not_memory}
+use Rattle.yasna_reader.proofs.Callbacks.{place_unmoved}
 use Rattle.yasna_reader.proofs.Sequences.{place_behind, element}
 use Rattle.yasna_reader.proofs.Tuples.{decodes_map, enclosed_seen}
-use Rattle.yasna_reader.proofs.Turning.{fresh_as}
-
--- a place that didn't move is where it was
-pub place_unmoved : (c y : List ℕ) → length y ≡ length c → place_in c y ≡ c
-place_unmoved c y e = let n : length c - length y ≡ 0 = omega (arith, e) in ap (λ n. drop n c) n
+use Rattle.yasna_reader.proofs.ListTurns.{fresh_as}
 
 -- a vector's contents are those of its items
 seen_contents : {A : Type 0} (C : Grammar (List A)) (S : Members) (s s' : Reading) (k : Option ASN1Error)
@@ -106,18 +103,18 @@ module _ {F A : Type 0} {E : A → A → Type 0} {B : Grammar A} {S : Members} (
       t.comes.4 ∙ ap (λ (c : List ℕ). record s { left = c; tag = None; kept = None }) (place_unmoved s.left t.left.left t.comes.1) ∙ fresh_as s s.left fresh
 
   -- what a failure says that a callback left
-  fault_tells : (s : Reading) (e : ASN1Error) → IsFresh s → (x : Result A ASN1Error) (m : Reading) → Decodes asks B S s x m → Fault s.left x m e →
+  turn_fault_tells : (s : Reading) (e : ASN1Error) → IsFresh s → (x : Result A ASN1Error) (m : Reading) → Decodes asks B S s x m → Fault s.left x m e →
       Tells asks (S s.mode s.levels) s.left e × (AtEnd s.left → ⊥)
-  fault_tells s e fresh (Ok v) m d (kept k) = let g = sym k ∙ ap (λ (z : Reading). z.kept) d.left ∙ fresh.0 in absurd (cc)
-  fault_tells s e fresh (Ok v) m d (before k b q) =
+  turn_fault_tells s e fresh (Ok v) m d (kept k) = let g = sym k ∙ ap (λ (z : Reading). z.kept) d.left ∙ fresh.0 in absurd (cc)
+  turn_fault_tells s e fresh (Ok v) m d (before k b q) =
       absurd (omega (arith, b, ap length d.joined, length-append d.front d.rest, ap (λ (z : Reading). length z.left) d.left))
-  fault_tells s e fresh (Ok v) m d (own k b q w) = absurd (cc)
-  fault_tells s e fresh (Err y) m d (kept k) = (
+  turn_fault_tells s e fresh (Ok v) m d (own k b q w) = absurd (cc)
+  turn_fault_tells s e fresh (Err y) m d (kept k) = (
     subst (KeptTells asks (S s.mode s.levels) s.left) k d.0.kept,
     λ a. let g = sym k ∙ ap (λ (z : Reading). z.kept) (d.1 a).0 ∙ fresh.0 in absurd (cc),
   )
-  fault_tells s e fresh (Err y) m d (before k b q) = let l = d.0.further in absurd (omega (arith, b, l))
-  fault_tells s e fresh (Err y) m d (own k b q w) =
+  turn_fault_tells s e fresh (Err y) m d (before k b q) = let l = d.0.further in absurd (omega (arith, b, l))
+  turn_fault_tells s e fresh (Err y) m d (own k b q w) =
       let g : y ≡ e = cc in (
         subst (Tells asks (S s.mode s.levels) s.left) g d.0.tells,
         λ a. w (ap (λ (z : Reading). length z.left) (d.1 a).0) (subst (λ z. BlamesBytes (kind_of z)) g (d.1 a).1),
@@ -135,7 +132,7 @@ module _ {F A : Type 0} {E : A → A → Type 0} {B : Grammar A} {S : Members} (
   failed_tells : (f : F) (s : Reading) (e : ASN1Error) (f' : F) (s' : Reading) → IsFresh s → ListTurn C f s (Failed e) f' s' →
       Tells asks (S s.mode s.levels) s.left e × (AtEnd s.left → ⊥) × (s'.kept ≡ Some e)
   failed_tells f s e f' s' fresh t = elim t.comes [
-    | inl c ↦ let d = fault_tells s e fresh t.own t.left (says f s t.own f' t.left fresh t.called) c.0 in (d.0, d.1, ap (λ (z : Reading). z.kept) c.1)
+    | inl c ↦ let d = turn_fault_tells s e fresh t.own t.left (says f s t.own f' t.left fresh t.called) c.0 in (d.0, d.1, ap (λ (z : Reading). z.kept) c.1)
     | inr i ↦ absurd (not_idle f s e f' s' t.own t.left fresh t.called i)
   ]
 
