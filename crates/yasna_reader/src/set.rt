@@ -1,11 +1,12 @@
-//! Reads of SET, whose elements a callback takes by their tags (X.690, 8.11 and 10.3).
+//! Reads of SET, whose elements a callback takes by their tags (X.690, 8.11, 9.3 and 10.3): `read_set`, which users call on a reader,
+//! and the elements that their callback is handed.
 ghost use Rattle.std.specs.Prelude.{IsTrue, ◌↔◌, ◌≡◌, MatchOption};
 ghost use Rattle.std.specs.Fn.{FnOnceTakesAtMut, FnOnceReturnsAtMut};
 ghost use Rattle.std.specs.List.Sorted.{IsSortedByKey};
 ghost use Rattle.std.specs.Ordering.{is_lt};
 ghost use Rattle.yasna_base.specs.Order.{tag_cmp};
 ghost use Rattle.yasna_base.specs.Set.{set_tag};
-ghost use Rattle.yasna_reader.specs.Set.{ElementsAreInSetOrder, ElementsAt, IsAmong, IsFirstAmong, NoneIsAmong, SetListAt, all_taken};
+ghost use Rattle.yasna_reader.specs.Set.{ElementsAreInSetOrder, ElementsAt, IsAmong, IsFirstAmong, NoneIsAmong, all_taken};
 ghost use Rattle.yasna_reader.specs.declared.set.SetElement.{SetElement};
 
 use crate::state::ReaderState;
@@ -189,25 +190,6 @@ fn list_elements<'a>(
     }
 }
 
-// The same, in the order that the mode asks.
-fn list_set<'a>(
-    alloc: Global,
-    cursor: Cursor<'a>,
-) -> Result<(Vec<SetElement<'a>>, &'a [u8]), ASN1ErrorKind>
-    ensures { SetListAt cursor.entry.levels cursor.entry.mode cursor.entry.left.now result }
-{
-    match list_elements(alloc, cursor) {
-        Ok((list, rest)) => {
-            if is_in_order(cursor.mode, &list) {
-                Ok((list, rest))
-            } else {
-                Err(ASN1ErrorKind::Invalid)
-            }
-        }
-        Err(kind) => Err(kind),
-    }
-}
-
 // What is answered where a callback left these elements.
 fn answer_of_all<T: Drop>(answer: ASN1Result<T>, others: &[SetElement<'_>]) -> ASN1Result<T>
     ensures { result ≡ all_taken answer others.now }
@@ -272,7 +254,7 @@ impl<'a> ReaderState<'a> {
         requires takes { TakesElements F.FnOnce f self.old }
         ensures { RunsOnSet F.FnOnce f self.old result self.new }
     {
-        match self.set_list() {
+        match self.list_set() {
             Ok((list, rest)) => {
                 let mut set = Chosen {
                     reader: self.emptied(),
@@ -287,11 +269,21 @@ impl<'a> ReaderState<'a> {
         }
     }
 
-    // The elements that stand here, and what is left behind them.
-    fn set_list(&self) -> Result<(Vec<SetElement<'a>>, &'a [u8]), ASN1ErrorKind>
+    // The elements that stand here, where they are in the order that the mode asks, and what is left behind them.
+    fn list_set(&self) -> Result<(Vec<SetElement<'a>>, &'a [u8]), ASN1ErrorKind>
         ensures { SetListAt self.now.levels self.now.mode self.now.left result }
     {
-        list_set(self.alloc, self.cursor)
+        let cursor = self.cursor;
+        match list_elements(self.alloc, cursor) {
+            Ok((list, rest)) => {
+                if is_in_order(cursor.mode, &list) {
+                    Ok((list, rest))
+                } else {
+                    Err(ASN1ErrorKind::Invalid)
+                }
+            }
+            Err(kind) => Err(kind),
+        }
     }
 
     // A reading like this one, of nothing.
