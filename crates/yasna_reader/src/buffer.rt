@@ -1,4 +1,5 @@
-//! Reads that also answer the bytes they took.
+//! Reads that also answer the bytes they took, as a signature over an element wants them: `read_with_buffer` of a reader and of
+//! a SEQUENCE's parts, which users call.
 
 use crate::callback::Outcome;
 use crate::state::{BERReader, BERReaderSeq, Parts, ReaderState};

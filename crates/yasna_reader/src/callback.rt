@@ -1,4 +1,5 @@
-//! What becomes of a reading that a callback is handed.
+//! What becomes of a reading that a callback is handed. The calls around callbacks use it: `optional`, `set_optional`, `tagged`,
+//! `buffer` and `sequence_of`.
 //!
 //! Of what the callback left only the failure counts that is kept there, and how many bytes are left.
 ghost use Rattle.std.specs.Prelude.{IsTrue, ◌↔◌, ◌≡◌, length};

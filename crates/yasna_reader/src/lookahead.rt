@@ -1,4 +1,4 @@
-//! The next tag, by which a CHOICE is read.
+//! The next tag (X.690, 8.1.2), by which users read a CHOICE (8.13) or tell whether a part is there.
 
 use crate::state::ReaderState;
 use yasna_base::bytes::identifier::read_identifier;

@@ -1,4 +1,5 @@
-//! Reads of parts that may be left out: OPTIONAL and DEFAULT.
+//! Reads of parts of a SEQUENCE that may be left out: OPTIONAL and DEFAULT (X.690, 8.9.3 and 11.5). Users call them on the parts
+//! that a callback is handed; `set_optional` shares the test of a value against its default.
 ghost use Rattle.std.specs.Prelude.{IsTrue, ◌↔◌};
 ghost use Rattle.yasna_reader.specs.Optional.{TakesDefault};
 

@@ -1,4 +1,4 @@
-//! Parses of whole inputs.
+//! Parses of whole inputs, where users begin: one element that a callback reads, and nothing behind it (X.690, 8 to 11).
 ghost use Rattle.yasna_base.specs.declared.mode.BERMode.TheVariants.{Ber, Der, Cer};
 ghost use Rattle.std.specs.Fn.{FnOnceTakesAtMut, FnOnceReturnsAtMut};
 ghost use Rattle.yasna_reader.specs.State.{starts};

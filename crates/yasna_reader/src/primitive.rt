@@ -1,5 +1,5 @@
 //! Reads of types of one primitive element: BOOLEAN, NULL, INTEGER, ENUMERATED and OBJECT IDENTIFIER (X.690, 8.2 to 8.4,
-//! 8.8 and 8.19).
+//! 8.8 and 8.19). Users call them on a reader.
 ghost use Rattle.yasna_base.specs.Boolean.{boolean_tag};
 ghost use Rattle.yasna_base.specs.Enumerated.{enumerated_tag};
 ghost use Rattle.yasna_base.specs.Integer.{integer_tag};

@@ -1,4 +1,5 @@
-//! Reads of raw elements, whose contents aren't given a type.
+//! Reads of raw elements (X.690, 8.1), whose contents aren't given a type: of any element, kept as it came. Users call them on a
+//! reader.
 ghost use Rattle.std.specs.Prelude.{ℕ, List, IfOk};
 ghost use Rattle.yasna_base.specs.declared.mode.BERMode.{BERMode};
 ghost use Rattle.yasna_base.specs.Raw.{RawValue, IsRaw};

@@ -1,4 +1,5 @@
-//! Reads of constructed elements whose contents a callback reads (X.690, 8.9).
+//! Reads of constructed elements whose contents a callback reads (X.690, 8.1.3 to 8.1.5 and 8.9): `read_sequence`, which users call,
+//! and how an element is entered and left, which lists, sets and tagged elements share.
 ghost use Rattle.yasna_bytes.specs.Header.{contents_end};
 ghost use Rattle.yasna_reader.specs.Sequence.{ClosesFrom};
 ghost use Rattle.yasna_base.specs.Sequence.{sequence_tag};

@@ -1,4 +1,5 @@
-//! Reads of SEQUENCE OF, whose elements a callback reads one by one (X.690, 8.10).
+//! Reads of SEQUENCE OF, whose elements a callback reads one by one (X.690, 8.10). Users call them on a reader; `set_of` shares the
+//! turns of the callback.
 ghost use Rattle.yasna_base.specs.Sequence.{sequence_tag};
 
 use crate::callback::Outcome;

@@ -1,4 +1,5 @@
-//! Reads of SET OF, whose elements ascend in DER and CER (X.690, 8.12 and 11.6).
+//! Reads of SET OF, whose elements ascend in DER and CER (X.690, 8.12 and 11.6): `read_set_of` and `collect_set_of`, which users call,
+//! and the order of elements, which `sequence_of` asks after each turn.
 ghost use Rattle.std.specs.Prelude.{◌≡◌};
 ghost use Rattle.yasna_reader.specs.SetOf.{goes_before, bound_bytes, bound_in};
 ghost use Rattle.yasna_base.specs.Set.{set_tag};

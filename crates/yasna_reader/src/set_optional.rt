@@ -1,4 +1,5 @@
-//! Reads of a SET's elements that may be left out: OPTIONAL and DEFAULT.
+//! Reads of a SET's elements that may be left out: OPTIONAL and DEFAULT (X.690, 8.11.3 and 11.5). Users call them on the elements
+//! that the callback of `read_set` is handed.
 
 use crate::callback::Outcome;
 use crate::set::{Choose, Chosen, SetElement};

@@ -1,4 +1,5 @@
-//! The state of a reading, and what the calls on it share.
+//! The state of a reading: what is left, the tag that waits (X.690, 8.14) and the failure that was kept; and what the calls on it
+//! share. Each other module adds reads to it.
 ghost use Rattle.std.specs.Prelude.{◌≡◌};
 
 use std::alloc::Global;

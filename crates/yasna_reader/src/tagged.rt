@@ -1,4 +1,4 @@
-//! Reads under tags of the caller's (X.690, 8.14).
+//! Reads under tags of the caller's, explicit and implicit (X.690, 8.14). Users call them on a reader.
 
 use crate::callback::Outcome;
 use crate::state::{BERReader, ReaderState};
