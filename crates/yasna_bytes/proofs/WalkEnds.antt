@@ -234,26 +234,56 @@ drop_front s x y k e f =
     let j : length s - k ≡ length x = omega arith in
     ap (λ n. drop n s) j ∙ ap (λ z. drop (length x) z) e ∙ drop-append_seam x y
 
--- the innermost of d + 1 elements ends by f, those around it by fs, and r follows it within the outermost, which ends by e;
--- k levels are left in the innermost, and the table says how many bytes follow each around it, by how many are left in what
--- that one contains
+-- the element that ends by inner is the outermost one, which ends by e
+pub record IsOutermost (e : ContentsEnd) (after : List ℕ) (inner : ContentsEnd) (around : List ContentsEnd) : Type 0 where
+  pub same : inner ≡ e
+  pub alone : around ≡ []
+  -- nothing follows its contents within the outermost one
+  pub nothing : after ≡ []
+
+-- the element that ends by inner, with k levels left in its contents, stands in the next one around it, of which Encloses holds
+pub record IsEnclosed (Encloses : List ℕ → ContentsEnd → List ContentsEnd → Type 0) (e : ContentsEnd) (table : List ℕ) (k : ℕ) (after : List ℕ)
+    (inner : ContentsEnd) (around : List ContentsEnd) : Type 0 where
+  pub alike : AreAlike e inner
+  -- how the next one around it ends, and those around that one
+  pub next : ContentsEnd
+  pub further : List ContentsEnd
+  pub ends : around ≡ next ∷ further
+  -- what follows the next one's contents within the outermost one
+  pub left : List ℕ
+  -- behind the element's contents stand its end of contents, if it has one, and what is left in the next one
+  pub follows : after ≡ following inner ++ left
+  -- the table says, by the levels left in the element's contents, how many bytes follow the next one's
+  pub counted : length left ≡ get_or table k 0
+  pub outside : Encloses left next further
+
+-- the innermost of depth + 1 elements ends by inner, those around it by around, and after follows its contents within the outermost
+-- one, which ends by e; k levels are left in its contents
 abbrev pub EnclosesContents : ContentsEnd → List ℕ → ℕ → ℕ → List ℕ → ContentsEnd → List ContentsEnd → Type 0
-EnclosesContents e table k zero r f fs = (f ≡ e) × (fs ≡ []) × (r ≡ [])
-EnclosesContents e table k (suc d) r f fs =
-    AreAlike e f × ((g : ContentsEnd) × (gs : List ContentsEnd) × (q : List ℕ) × (fs ≡ g ∷ gs) × (r ≡ following f ++ q) × (length q ≡ get_or table k 0)
-    × EnclosesContents e table (suc k) d q g gs)
+EnclosesContents e table k zero after inner around = IsOutermost e after inner around
+EnclosesContents e table k (suc depth) after inner around =
+    IsEnclosed (λ left next further. EnclosesContents e table (suc k) depth left next further) e table k after inner around
 
 encloses_alike : (e : ContentsEnd) (table : List ℕ) (k d : ℕ) (r : List ℕ) (f : ContentsEnd) (fs : List ContentsEnd) → EnclosesContents e table k d r f fs →
     AreAlike e f
-encloses_alike e table k zero r f fs x = subst (λ z. AreAlike e z) (sym x.0) (alike e)
-encloses_alike e table k (suc d) r f fs x = x.0
+encloses_alike e table k zero r f fs x = subst (λ z. AreAlike e z) (sym x.same) (alike e)
+encloses_alike e table k (suc d) r f fs x = x.alike
 
 encloses_other : (e : ContentsEnd) (table : List ℕ) (i k d b : ℕ) (r : List ℕ) (f : ContentsEnd) (fs : List ContentsEnd) → i < k →
     EnclosesContents e table k d r f fs → EnclosesContents e (set table i b) k d r f fs
 encloses_other e table i k zero b r f fs l x = x
-encloses_other e table i k (suc d) b r f fs l (a, (g, gs, q, j, h, n, x)) =
+encloses_other e table i k (suc d) b r f fs l x =
     let o = get_or-set_other table i k b 0 (λ z. omega (arith, z)) in
-    (a, (g, gs, q, j, h, n ∙ sym o, encloses_other e table i (suc k) d b q g gs (omega arith) x))
+    record {
+      alike = x.alike;
+      next = x.next;
+      further = x.further;
+      ends = x.ends;
+      left = x.left;
+      follows = x.follows;
+      counted = x.counted ∙ sym o;
+      outside = encloses_other e table i (suc k) d b x.left x.next x.further (omega arith) x.outside;
+    }
 
 -- a place in a walk, of which r is left in the innermost element, and what follows that within the outermost
 pub record Walking (m : BERMode) (e : ContentsEnd) (n : ℕ) (s : List ℕ) (table : List ℕ) (behind k : ℕ) (r : List ℕ) : Type 0 where
@@ -278,7 +308,7 @@ walking_start m e n s table = record {
   around = [];
   joined = sym (append-nil s);
   counts = refl;
-  encloses = (refl, refl, refl);
+  encloses = record { same = refl; alone = refl; nothing = refl };
   same = same_start m (e ∷ []) n s;
 }
 
@@ -334,8 +364,8 @@ module _ {m : BERMode} {e : ContentsEnd} {n : ℕ} {s : List ℕ} {table : List 
     left_walked a z x =
         let i : w.depth ≡ 0 = omega (arith, w.deep, z) in
         let y = subst (λ d. EnclosesContents e table k d w.after w.inner w.around) i w.encloses in
-        let b = subst (λ f. Same m (e ∷ []) n s (f ∷ w.around) k r) y.0 w.same in
-        let c = subst (λ fs. Same m (e ∷ []) n s (e ∷ fs) k r) y.1 b in
+        let b = subst (λ f. Same m (e ∷ []) n s (f ∷ w.around) k r) y.same w.same in
+        let c = subst (λ fs. Same m (e ∷ []) n s (e ∷ fs) k r) y.alone b in
         walked m e n (suc k) s a (same_then m (e ∷ []) (e ∷ []) [] n k (suc k) s r a c
         (same_left m e [] k r a (subst (λ i. EndsBefore e i a) is x)))
 
@@ -345,13 +375,13 @@ module _ {m : BERMode} {e : ContentsEnd} {n : ℕ} {s : List ℕ} {table : List 
     left_keeps a u q l x f g =
         let p = ends_front e r a (ends_in a x) in
         let y = subst (λ d. EnclosesContents e table k d w.after w.inner w.around) (less_is w.depth (omega (arith, w.deep, l))) w.encloses in
-        let o = y.1.0 in
-        let gs = y.1.1 in
-        let t = y.1.2 in
+        let o = y.next in
+        let gs = y.further in
+        let t = y.left in
         let v = a ++ following w.inner in
-        let i : u ≡ v ++ t = f ∙ rest_is p.0 a p.1 ∙ ap (λ i. a ++ i) y.1.4 ∙ sym (append_assoc a (following w.inner) t) in
-        let i' : q ≡ v = g ∙ take_front u v t (get_or table k 0) i y.1.5 in
-        let b = subst (λ fs. Same m (e ∷ []) n s (w.inner ∷ fs) k r) y.1.3 w.same in
+        let i : u ≡ v ++ t = f ∙ rest_is p.0 a p.1 ∙ ap (λ i. a ++ i) y.follows ∙ sym (append_assoc a (following w.inner) t) in
+        let i' : q ≡ v = g ∙ take_front u v t (get_or table k 0) i y.counted in
+        let b = subst (λ fs. Same m (e ∷ []) n s (w.inner ∷ fs) k r) y.ends w.same in
         let z : Walking m e n s table (get_or table k 0) (suc k) v = record {
           depth = w.depth - 1;
           deep = omega (arith, w.deep, l);
@@ -360,14 +390,14 @@ module _ {m : BERMode} {e : ContentsEnd} {n : ℕ} {s : List ℕ} {table : List 
           inner = o;
           around = gs;
           joined = joins p.0 a p.1 ∙ ap (λ i. (w.before ++ p.0) ++ i) (sym (rest_is p.0 a p.1) ∙ sym f ∙ i);
-          counts = y.1.5;
-          encloses = y.1.6;
+          counts = y.counted;
+          encloses = y.outside;
           same = same_then m (e ∷ []) (w.inner ∷ (o ∷ gs)) (o ∷ gs) n k (suc k) s r v b
-              (same_left m w.inner (o ∷ gs) k r v (ends_before e w.inner r a y.0 (ends_in a x)));
+              (same_left m w.inner (o ∷ gs) k r v (ends_before e w.inner r a y.alike (ends_in a x)));
         } in
         let c = length-append v t in
         let z' = subst (λ i. Walking m e n s table (get_or table k 0) i v) (sym (add-one k)) z in
-        (omega (arith, ap length i, y.1.5), subst (λ i. Walking m e n s table (get_or table k 0) (k + 1) i) (sym i') z')
+        (omega (arith, ap length i, y.counted), subst (λ i. Walking m e n s table (get_or table k 0) (k + 1) i) (sym i') z')
 
     pub left_counts : (a u q : List ℕ) → (k ≡ n → ⊥) → EndsWithin e h a → u ≡ drop (length s - (behind + length a)) s →
         q ≡ take (length u - get_or table k 0) u → length q + get_or table k 0 ≡ behind + length a
@@ -404,18 +434,16 @@ module _ {m : BERMode} {e : ContentsEnd} {n : ℕ} {s : List ℕ} {table : List 
         let below : k - 1 < length table = omega (arith, y.opened.level, w.deep, l) in
         let up : k ≡ suc (k - 1) = omega (arith, y.opened.level) in
         let outside = encloses_other e table (k - 1) k w.depth behind w.after w.inner w.around (omega (arith, y.opened.level)) w.encloses in
-        let inside : EnclosesContents e v (k - 1) (suc w.depth) (following f ++ w.after) f (w.inner ∷ w.around) = (
-          entered_alike m k e r c f u y,
-          (
-            w.inner,
-            w.around,
-            w.after,
-            refl,
-            refl,
-            w.counts ∙ sym (get_or-set_same table (k - 1) behind 0 below),
-            subst (λ i. EnclosesContents e v i w.depth w.after w.inner w.around) up outside,
-          ),
-        ) in
+        let inside : EnclosesContents e v (k - 1) (suc w.depth) (following f ++ w.after) f (w.inner ∷ w.around) = record {
+          alike = entered_alike m k e r c f u y;
+          next = w.inner;
+          further = w.around;
+          ends = refl;
+          left = w.after;
+          follows = refl;
+          counted = w.counts ∙ sym (get_or-set_same table (k - 1) behind 0 below);
+          outside = subst (λ i. EnclosesContents e v i w.depth w.after w.inner w.around) up outside;
+        } in
         record {
           depth = suc w.depth;
           deep = omega (arith, w.deep, y.opened.level);
