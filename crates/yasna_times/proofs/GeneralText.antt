@@ -45,8 +45,8 @@ general_text_ascii m h =
 abbrev text_with : Moment → List ℕ → List ℕ
 text_with m f = clock_digits m ++ (point_digits f ++ 90 ∷ [])
 
-clock_there : (m : Moment) (f : List ℕ) → IsShort m → HasDigits (text_with m f) 0 14
-clock_there m f h =
+clock_digits_there : (m : Moment) (f : List ℕ) → IsShort m → HasDigits (text_with m f) 0 14
+clock_digits_there m f h =
     let tail = point_digits f ++ 90 ∷ [] in
     let years = unsigned_abs m.date.year % 100 in
     two_before (unsigned_abs m.date.year / 100) (two_digits years ++ (after_year m ++ tail)) 12 (century_short m.date)
@@ -68,7 +68,7 @@ has_layout m [] given h d =
       layout =
           record {
             ends = inr (inr refl);
-            clock = record { order = omega arith; inside = omega (arith, text_length m []); digits = clock_there m [] h; stops = λ lt e. omega (arith, e) };
+            clock = record { order = omega arith; inside = omega (arith, text_length m []); digits = clock_digits_there m [] h; stops = λ lt e. omega (arith, e) };
             part = IsPart.none refl;
             at_end = IsZone.zulu (record { letter = refl; ends = refl }) refl;
           };
@@ -90,7 +90,7 @@ has_layout m (c ∷ cs) given h d =
       layout =
           record {
             ends = inr (inr refl);
-            clock = record { order = omega arith; inside = omega (arith, whole); digits = clock_there m f h; stops = λ lt e. omega (arith, e) };
+            clock = record { order = omega arith; inside = omega (arith, whole); digits = clock_digits_there m f h; stops = λ lt e. omega (arith, e) };
             part =
                 IsPart.some (inl refl) (omega (arith, some))
                 (record {

@@ -5,9 +5,9 @@ use Rattle.yasna_times.specs.Decimal.{two_at}
 use Rattle.yasna_times.specs.Fraction.{IsExact}
 use Rattle.yasna_times.specs.GeneralizedTime.{IsGeneralClock, IsGeneralReading, IsGeneralText, IsLayout, is_leap, part_digits, second_of, unit_of}
 use Rattle.yasna_times.specs.Moment.{Moment, moment_at}
-use Rattle.yasna_times.proofs.Exact.{exact_is}
-use Rattle.yasna_times.proofs.Moment.{clock_is, less_is, second_kept}
-use Rattle.yasna_times.proofs.Places.{layout_is}
+use Rattle.yasna_times.proofs.ExactFraction.{exact_is}
+use Rattle.yasna_times.proofs.Moment.{clock_is, one_utc, second_kept}
+use Rattle.yasna_times.proofs.OneLayout.{layout_is}
 
 pub general_clock_is : (s : List ℕ) (end seconds : ℕ) (a b : DateTime) → IsGeneralClock s end seconds a → IsGeneralClock s end seconds b → a ≡ b
 general_clock_is s end seconds a b x y = clock_is a b _ _ _ _ _ _ _ x.date y.date x.time y.time
@@ -15,7 +15,7 @@ general_clock_is s end seconds a b x y = clock_is a b _ _ _ _ _ _ _ x.date y.dat
 pub reading_is : (s : List ℕ) (end seconds : ℕ) (offset : ℤ) (a b : DateTime) → IsGeneralReading s end seconds offset a →
     IsGeneralReading s end seconds offset b → a ≡ b
 reading_is s end seconds offset a b x y =
-    less_is x.local y.local a b offset offset (general_clock_is s end seconds x.local y.local x.clock y.clock) refl x.less y.less
+    one_utc x.local y.local a b offset offset (general_clock_is s end seconds x.local y.local x.clock y.clock) refl x.less y.less
 
 -- what a text says, by a layout of it and what its fraction comes to
 pub record SaysAt (s : List ℕ) (end seconds : ℕ) (offset : ℤ) (g : List ℕ) (m : Moment) : Type 0 where

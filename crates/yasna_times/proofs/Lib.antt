@@ -1,13 +1,13 @@
 pub mod Decimal
 pub mod Fraction
-pub mod Exact
+pub mod ExactFraction
 pub mod Zone
-pub mod Places
+pub mod OneLayout
 pub mod Moment
 pub mod UtcTime
 pub mod GeneralizedTime
 pub mod GeneralText
 pub mod Times
-pub mod Behind
-pub mod Values
+pub mod PointDigits
+pub mod OneMoment
 pub mod TimeLaws

@@ -26,8 +26,8 @@ clock_is a b year month day hour minute second nano d e t u =
     same_datetime a b (civil_nanos-parts a ∙ (cc) ∙ sym (civil_nanos-parts b))
 
 -- and so are those less by one offset than one local date-time
-pub less_is : (l r a b : DateTime) (z y : ℤ) → l ≡ r → z ≡ y → IsLess l z a → IsLess r y b → a ≡ b
-less_is l r a b z y e f p q = same_datetime a b (p ∙ ap (λ x. civil_nanos x -ℤ nanos_of_seconds z) e ∙ ap (λ x. civil_nanos r -ℤ nanos_of_seconds x) f ∙ sym q)
+pub one_utc : (l r a b : DateTime) (z y : ℤ) → l ≡ r → z ≡ y → IsLess l z a → IsLess r y b → a ≡ b
+one_utc l r a b z y e f p q = same_datetime a b (p ∙ ap (λ x. civil_nanos x -ℤ nanos_of_seconds z) e ∙ ap (λ x. civil_nanos r -ℤ nanos_of_seconds x) f ∙ sym q)
 
 -- a date-time less nothing
 pub less_none : (dt : DateTime) → IsLess dt (pos 0) dt

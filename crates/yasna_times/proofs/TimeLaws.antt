@@ -6,7 +6,6 @@ use Rattle.yasna_base.specs.declared.tag.Tag.{Tag}
 use Rattle.yasna_base.specs.Canonical.{Always, IsWritten}
 use Rattle.yasna_base.specs.Coding.{IsCoding, Any}
 use Rattle.yasna_times.specs.GeneralizedTime.{IsGeneralMoment, SaysGeneralizedTime, EncodesGeneralizedTime, GeneralizedTimeKeepsLaws, general_text, generalized_time_form, generalized_time_nest, generalized_time_tag}
-use Rattle.yasna_base.specs.Identifier.{universal}
 use Rattle.yasna_times.specs.Models.{utc_of, moment_of, EncodesUtc, EncodesGeneral}
 use Rattle.yasna_base.specs.Text.{IsStringOf}
 use Rattle.yasna_times.specs.UtcTime.{IsUtcDateTime, SaysUtcTime, EncodesUtcTime, UtcTimeKeepsLaws, utc_text, utc_time_form, utc_time_nest, utc_time_tag}

@@ -11,7 +11,7 @@ use Rattle.yasna_times.specs.Decimal.{HasDigits, IsRun}
 use Rattle.yasna_times.specs.Moment.{IsLess, moment_at, after_year}
 use Rattle.yasna_times.specs.UtcTime.{IsUtcZone, IsUtcClock, IsUtcText, IsUtcDateTime, HasUtcTime, SaysUtcTime, utc_year, utc_text}
 use Rattle.yasna_times.proofs.Decimal.{run_is, two_spelled, two_before, ascii_two, ascii_cons, ascii_bytes}
-use Rattle.yasna_times.proofs.Moment.{clock_is, less_is, less_none, IsShort, month_short, day_short, after_year_ascii, after_year_digits}
+use Rattle.yasna_times.proofs.Moment.{clock_is, one_utc, less_none, IsShort, month_short, day_short, after_year_ascii, after_year_digits}
 use Rattle.yasna_times.proofs.Zone.{utc_zone_head, utc_zone_is}
 
 -- the digits of a text end with its clock
@@ -42,7 +42,7 @@ has_utc s utc p local offset r c z t =
 pub utc_text_is : (s : List ℕ) (a b : DateTime) → IsUtcText s a → IsUtcText s b → a ≡ b
 utc_text_is s a b t u =
     let r = utc_run s b u in
-    less_is t.local u.local a b t.offset u.offset
+    one_utc t.local u.local a b t.offset u.offset
     (utc_clock_is s u.end t.local u.local (clock_there s a u.end r t) u.clock)
     (utc_zone_is s u.end t.offset u.offset (zone_there s a u.end r t) u.zone)
     t.less u.less

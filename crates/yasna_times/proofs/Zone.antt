@@ -10,11 +10,11 @@ pub is_sign : (sign n : ℕ) (z : ℤ) → IsOffset sign n z → (sign ≡ 43) �
 is_sign sign n z (IsOffset.plus e f) = inl e
 is_sign sign n z (IsOffset.minus e f) = inr e
 
-pub signed_is : (sign n k : ℕ) (z y : ℤ) → n ≡ k → IsOffset sign n z → IsOffset sign k y → z ≡ y
-signed_is sign n k z y e (IsOffset.plus a b) (IsOffset.plus c d) = cc
-signed_is sign n k z y e (IsOffset.plus a b) (IsOffset.minus c d) = absurd (omega arith)
-signed_is sign n k z y e (IsOffset.minus a b) (IsOffset.plus c d) = absurd (omega arith)
-signed_is sign n k z y e (IsOffset.minus a b) (IsOffset.minus c d) = cc
+pub one_offset : (sign n k : ℕ) (z y : ℤ) → n ≡ k → IsOffset sign n z → IsOffset sign k y → z ≡ y
+one_offset sign n k z y e (IsOffset.plus a b) (IsOffset.plus c d) = cc
+one_offset sign n k z y e (IsOffset.plus a b) (IsOffset.minus c d) = absurd (omega arith)
+one_offset sign n k z y e (IsOffset.minus a b) (IsOffset.plus c d) = absurd (omega arith)
+one_offset sign n k z y e (IsOffset.minus a b) (IsOffset.minus c d) = cc
 
 -- the byte at i, which stands, is no digit
 pub record IsHead (s : List ℕ) (i : ℕ) : Type 0 where
@@ -43,7 +43,7 @@ pub utc_zone_is : (s : List ℕ) (i : ℕ) (z y : ℤ) → IsUtcZone s i z → I
 utc_zone_is s i z y (IsUtcZone.zulu a e) (IsUtcZone.zulu b f) = e ∙ sym f
 utc_zone_is s i z y (IsUtcZone.zulu a e) (IsUtcZone.signed n b c) = absurd (zulu_unsigned s i n y a c)
 utc_zone_is s i z y (IsUtcZone.signed n a b) (IsUtcZone.zulu c e) = absurd (zulu_unsigned s i n z c b)
-utc_zone_is s i z y (IsUtcZone.signed n a b) (IsUtcZone.signed k c d) = signed_is (get_or s i 0) n k z y (a.is ∙ sym c.is) b d
+utc_zone_is s i z y (IsUtcZone.signed n a b) (IsUtcZone.signed k c d) = one_offset (get_or s i 0) n k z y (a.is ∙ sym c.is) b d
 
 -- where the time ends by neither Z nor a sign before these hours and minutes there is no zone
 pub no_utc_zone : (s : List ℕ) (i n : ℕ) → (IsZulu s i → ⊥) → IsHoursAndMinutes s (i + 1) n → ((z : ℤ) → IsOffset (get_or s i 0) n z → ⊥) →
@@ -97,7 +97,7 @@ zone_is s given i z y (IsZone.zulu a e) (IsZone.zulu b f) = e ∙ sym f
 zone_is s given i z y (IsZone.zulu a e) (IsZone.signed k b c) = absurd (zulu_unsigned s i k y a c)
 zone_is s given i z y (IsZone.signed n a b) (IsZone.local_time f m) = absurd (omega (arith, amount_inside s (i + 1) n a))
 zone_is s given i z y (IsZone.signed n a b) (IsZone.zulu c e) = absurd (zulu_unsigned s i n z c b)
-zone_is s given i z y (IsZone.signed n a b) (IsZone.signed k c d) = signed_is (get_or s i 0) n k z y (amount_is s (i + 1) n k a c) b d
+zone_is s given i z y (IsZone.signed n a b) (IsZone.signed k c d) = one_offset (get_or s i 0) n k z y (amount_is s (i + 1) n k a c) b d
 
 -- no hours and minutes, no zone
 pub no_amount_zone : (s : List ℕ) (given : Option ℤ) (i : ℕ) → (i ≡ length s → ⊥) → (IsZulu s i → ⊥) → ((n : ℕ) → IsAmount s (i + 1) n → ⊥) →

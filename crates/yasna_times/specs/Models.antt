@@ -3,7 +3,6 @@ use Rattle.std.specs.Prelude.{◌≡◌, ℕ, List, ℤ, false}
 pub use Rattle.jiff.specs.Types.{DateTime}
 use Rattle.yasna_times.specs.declared.models.generalized_time.GeneralizedTime.{GeneralizedTime}
 use Rattle.yasna_times.specs.declared.models.utc_time.UTCTime.{UTCTime}
-use Rattle.yasna_base.specs.declared.mode.BERMode.{BERMode}
 use Rattle.yasna_base.specs.Grammar.{Grammar}
 use Rattle.yasna_times.specs.GeneralizedTime.{EncodesGeneralizedTime, general_text}
 use Rattle.yasna_times.specs.Moment.{Moment, IsLess, moment}

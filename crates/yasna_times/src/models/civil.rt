@@ -1,4 +1,4 @@
-//! Local date-times in UTC.
+//! Local date-times in UTC, for `utc_time` and `generalized_time` (X.680, 46 and 47).
 ghost use Rattle.std.specs.Prelude.{◌≡◌, ◌<◌, pos, MatchOption};
 ghost use Rattle.jiff.specs.Types.{DateTime as Plain};
 ghost use Rattle.jiff.specs.Words.{IsHms};

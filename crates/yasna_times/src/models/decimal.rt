@@ -1,4 +1,4 @@
-//! Decimal digits in ASCII.
+//! Decimal digits in ASCII, of which the texts of both times are made (X.680, 46 and 47).
 ghost use Rattle.std.specs.Prelude.{◌≡◌, ◌+◌, ◌/◌, ◌%◌, ◌<◌, ◌≤◌, ◌↔◌, IsTrue, pos, length};
 ghost use Rattle.yasna_times.specs.Decimal.{HasDigits, IsRun, two_at};
 

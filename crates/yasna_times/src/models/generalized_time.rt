@@ -1,4 +1,4 @@
-//! GeneralizedTime (X.680, 46; X.690, 11.7).
+//! GeneralizedTime (X.680, 46; X.690, 11.7). Users make and read it; readers and writers of times call it.
 ghost use Rattle.std.specs.Prelude.{◌≡◌, ◌↔◌, ◌<◌, ◌≤◌, ◌++◌, [], ℕ, ℤ, Option, None, Some, IfOk, IfErr, IsTrue, List, OnOk, MatchOption, length, string_bytes};
 ghost use Rattle.yasna_times.specs.Decimal.{AreDigits};
 ghost use Rattle.yasna_times.specs.Fraction.{IsTrimmed, nine_digits, trimmed};

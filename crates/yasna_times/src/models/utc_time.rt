@@ -1,4 +1,4 @@
-//! UTCTime (X.680, 47; X.690, 11.8).
+//! UTCTime (X.680, 47; X.690, 11.8). Users make and read it; readers and writers of times call it.
 ghost use Rattle.std.specs.Prelude.{◌≡◌, ◌↔◌, ◌⊎◌, ◌/◌, ◌%◌, ◌<◌, ◌≤◌, pos, IsTrue, IfOk, MatchOption, length, string_bytes, unsigned_abs};
 ghost use Rattle.jiff.specs.Types.{DateTime as Plain};
 ghost use Rattle.yasna_times.specs.Decimal.{HasDigits, two_at};

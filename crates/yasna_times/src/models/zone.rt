@@ -1,4 +1,4 @@
-//! The zone at the end of a time.
+//! The zone at the end of a text, for `utc_time` and `generalized_time` (X.680, 46 and 47).
 ghost use Rattle.std.specs.Prelude.{◌≡◌, ◌↔◌, ℕ, ◌+◌, ◌*◌, ◌<◌, ◌≤◌, ℤ, pos, neg_ℤ, IsTrue, MatchOption, length, ◌≤ℤ◌};
 ghost use Rattle.yasna_times.specs.GeneralizedTime.{IsZone};
 ghost use Rattle.yasna_times.specs.UtcTime.{IsUtcZone};

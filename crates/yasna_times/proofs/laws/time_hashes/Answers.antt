@@ -1,6 +1,6 @@
 use Rattle.std.proofs.Common.{ap}
 use Rattle.jiff.specs.Words.{civil_nanos}
-use Rattle.yasna_times.proofs.Values.{same_moment}
+use Rattle.yasna_times.proofs.OneMoment.{same_moment}
 use Rattle.yasna_times.proofs.laws.time_hashes.Goals as goal
 
 pub returns-clause-general_moments : goal.returns-clause-general_moments

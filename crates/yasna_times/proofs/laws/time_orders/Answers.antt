@@ -5,7 +5,7 @@ use Rattle.std.proofs.lemmas.Slice.Eq.{bytes_eq-Decides}
 use Rattle.jiff.proofs.Family.{same_datetime}
 use Rattle.jiff.specs.Words.{civil_nanos}
 use Rattle.yasna_times.specs.Moment.{moment}
-use Rattle.yasna_times.proofs.Values.{same_moment}
+use Rattle.yasna_times.proofs.OneMoment.{same_moment}
 use Rattle.yasna_times.proofs.laws.time_orders.Goals as goal
 
 pub returns-clause-utc_equality : goal.returns-clause-utc_equality

@@ -1,4 +1,4 @@
-//! The clock of a GeneralizedTime's text.
+//! The clock of a GeneralizedTime's text: date, hour, minute or not, second or not (X.680, 46).
 ghost use Rattle.std.specs.Prelude.{◌≡◌, ◌↔◌, ◌+◌, ◌*◌, ◌<◌, ◌≤◌, pos, true, IsTrue, MatchOption, length};
 ghost use Rattle.jiff.specs.Types.{DateTime as Plain};
 ghost use Rattle.yasna_times.specs.Decimal.{HasDigits, two_at};

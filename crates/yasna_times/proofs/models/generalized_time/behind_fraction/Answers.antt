@@ -1,5 +1,5 @@
 use Rattle.std.proofs.Common.{◌≡◌, ◌∙◌, ◌++◌, ◌∷◌, List, ℕ, ap, sym}
-use Rattle.yasna_times.proofs.Behind.{not_empty, point_before, digits_behind}
+use Rattle.yasna_times.proofs.PointDigits.{length_positive, point_before, digits_behind}
 use Rattle.yasna_base.proofs.Lists.{append_same}
 use Rattle.yasna_times.proofs.models.generalized_time.behind_fraction.Goals as goal
 
@@ -8,7 +8,7 @@ returns-in_default c =
     λ r e.
     let first = c.args.first.now in
     let sub_nano = c.args.sub_nano.now in
-    let more = not_empty first c.if-is_empty.ensures in
+    let more = length_positive first c.if-is_empty.ensures in
     c.in_default.ensures ((first ++ sub_nano) ++ r)
     (e ∙ ap (λ x. x ++ r) (point_before first sub_nano more) ∙ ap (λ x. x ++ ((first ++ sub_nano) ++ r)) (sym c.as_slice.ensures))
 
@@ -17,7 +17,7 @@ returns-in_default-behind c =
     λ r e.
     let first = c.args.first.now in
     let sub_nano = c.args.sub_nano.now in
-    let more = not_empty first c.if-is_empty.ensures in
+    let more = length_positive first c.if-is_empty.ensures in
     let digits : List ℕ = c.in-Some.digits.now in
     let point : c.args.bytes.now ≡ 46 ∷ digits = c.in-Some.ensures ∙ ap (λ x. x ++ digits) c.as_slice.ensures in
     c.in_default-behind.ensures (sub_nano ++ r) (digits_behind c.args.bytes.now digits first sub_nano r more point e)
@@ -27,7 +27,7 @@ returns-in-None c =
     λ r e.
     let first = c.args.first.now in
     let sub_nano = c.args.sub_nano.now in
-    let more = not_empty first c.if-is_empty.ensures in
+    let more = length_positive first c.if-is_empty.ensures in
     let digits : List ℕ = c.in-Some.digits.now in
     let rest : List ℕ = c.in-Some-behind.rest.now in
     let point : c.args.bytes.now ≡ 46 ∷ digits = c.in-Some.ensures ∙ ap (λ x. x ++ digits) c.as_slice.ensures in

@@ -1,7 +1,7 @@
 use Rattle.std.proofs.Common.{inl, inr}
 use Rattle.yasna_times.specs.Zone.{seconds_of}
 use Rattle.yasna_times.specs.GeneralizedTime.{IsClockEnd}
-use Rattle.yasna_times.proofs.Places.{EndsPart, no_empty_part, no_zone_there, part_found}
+use Rattle.yasna_times.proofs.OneLayout.{EndsPart, no_empty_part, no_zone_there, part_found}
 use Rattle.yasna_times.proofs.models.generalized_time.layout.Layout.of.Goals as goal
 use Rattle.yasna_times.proofs.models.generalized_time.layout.Layout.of.Goals.{else-clock_end-ne10-via-then-clock_end-ne10+then-clock_end-ne12+else-clock_end-ne14, else-clock_end-ne10-via-then-clock_end-ne10+else-clock_end-ne12, else-clock_end-ne10-via-else-clock_end-ne10}
 

@@ -1,11 +1,11 @@
--- What stands behind the parts of a canonical text.
+-- The point of a fraction and its digits, in front of others.
 use Rattle.std.proofs.Common.{◌≡◌, ◌<◌, ◌==◌, ℕ, false, List, [], ◌∷◌, ◌++◌, length, append_assoc, arith, refl, sym, ap, ◌∙◌}
 use Rattle.yasna_times.specs.GeneralizedTime.{point_digits}
 use Rattle.yasna_base.proofs.Lists.{append_same}
 
-pub not_empty : (l : List ℕ) → false ≡ (length l == 0) → 0 < length l
-not_empty [] e = absurd cc
-not_empty (c ∷ l) e = omega arith
+pub length_positive : (l : List ℕ) → false ≡ (length l == 0) → 0 < length l
+length_positive [] e = absurd cc
+length_positive (c ∷ l) e = omega arith
 
 pub point_before : (a b : List ℕ) → 0 < length a → point_digits (a ++ b) ≡ 46 ∷ (a ++ b)
 point_before [] b h = absurd (omega arith)

@@ -16,14 +16,14 @@ no_digit : (c : ℕ) (a : List ℕ) → c ≡ 48 → ((i : ℕ) → 48 ≡ digit
 no_digit c a e h zero = sym e
 no_digit c a e h (suc i) = h i
 
-one_digit : (c : ℕ) (a : List ℕ) → ((i : ℕ) → 48 ≡ digit_at a i) → (i : ℕ) → digit_at (c ∷ []) i ≡ digit_at (c ∷ a) i
-one_digit c a h zero = refl
-one_digit c a h (suc i) = h i
+single_digit : (c : ℕ) (a : List ℕ) → ((i : ℕ) → 48 ≡ digit_at a i) → (i : ℕ) → digit_at (c ∷ []) i ≡ digit_at (c ∷ a) i
+single_digit c a h zero = refl
+single_digit c a h (suc i) = h i
 
 cons_digit : (c : ℕ) (a t : List ℕ) → ((i : ℕ) → digit_at t i ≡ digit_at a i) → (i : ℕ) → digit_at (trimmed_cons c t) i ≡ digit_at (c ∷ a) i
 cons_digit c a (d ∷ t) h zero = refl
 cons_digit c a (d ∷ t) h (suc i) = h i
-cons_digit c a [] h i = by_zero c (λ t. digit_at t i ≡ digit_at (c ∷ a) i) (λ e. no_digit c a e h i) (λ ne. one_digit c a h i)
+cons_digit c a [] h i = by_zero c (λ t. digit_at t i ≡ digit_at (c ∷ a) i) (λ e. no_digit c a e h i) (λ ne. single_digit c a h i)
 
 -- zeros at the end are no digits
 trimmed_digit : (a : List ℕ) (i : ℕ) → digit_at (trimmed a) i ≡ digit_at a i
