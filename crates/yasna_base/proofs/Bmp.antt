@@ -52,10 +52,10 @@ units_below (x ∷ y ∷ v) h = let i = h.0 in let j = h.1.0 in (omega arith, un
 
 -- one unit or two
 
-one_unit : (c : ℕ) → c < 65536 → encode_utf16 c ≡ c ∷ []
+pub one_unit : (c : ℕ) → c < 65536 → encode_utf16 c ≡ c ∷ []
 one_unit c h = rw (lt-ltb c 65536 h) refl
 
-two_units : (c : ℕ) → 65536 ≤ c → encode_utf16 c ≡ (0xD800 + (c - 65536) / 1024) ∷ (0xDC00 + (c - 65536) % 1024) ∷ []
+pub two_units : (c : ℕ) → 65536 ≤ c → encode_utf16 c ≡ (0xD800 + (c - 65536) / 1024) ∷ (0xDC00 + (c - 65536) % 1024) ∷ []
 two_units c h = rw (le-ltb c 65536 h) refl
 
 -- a high surrogate and a low one

@@ -84,8 +84,8 @@ byte_1 : IsBytes (1 ∷ [])
 byte_1 = search arith
 
 -- a SEQUENCE of an INTEGER and a BOOLEAN
-abbrev EncodesPair : Grammar (ℤ × (Bool × Unit {0}))
-EncodesPair = Enclosed (PartOf (EncodesSigned w64) (PartOf EncodesBoolean NoParts)) sequence_tag
+abbrev EncodesTwoParts : Grammar (ℤ × (Bool × Unit {0}))
+EncodesTwoParts = Enclosed (PartOf (EncodesSigned w64) (PartOf EncodesBoolean NoParts)) sequence_tag
 
 -- the DER form of 10 and true
 pair_form : enclosed_form (part_form (integer_form integer_tag) (part_form (boolean_form boolean_tag) nothing_form)) sequence_tag Der
@@ -94,7 +94,7 @@ unfolding canonical_element definite_element identifier shortest_length minimal_
 pair_form = refl
 
 -- the same in an element of indefinite length, which BER reads
-pair_indefinite : EncodesPair Ber 101 (pos 10, (Bool.true, tt)) (48 ∷ 128 ∷ 2 ∷ 1 ∷ 10 ∷ 1 ∷ 1 ∷ 255 ∷ 0 ∷ 0 ∷ [])
+pair_indefinite : EncodesTwoParts Ber 101 (pos 10, (Bool.true, tt)) (48 ∷ 128 ∷ 2 ∷ 1 ∷ 10 ∷ 1 ∷ 1 ∷ 255 ∷ 0 ∷ 0 ∷ [])
 unfolding canonical_element definite_element identifier shortest_length minimal_bytes digits
 pair_indefinite = record {
   contents = 2 ∷ 1 ∷ 10 ∷ 1 ∷ 1 ∷ 255 ∷ [];

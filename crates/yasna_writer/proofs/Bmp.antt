@@ -1,21 +1,16 @@
 -- A text in UTF-16, character by character.
-use Rattle.std.proofs.Common.{◌≡◌, ℕ, ◌+◌, ◌-◌, ◌*◌, ◌/◌, ◌%◌, ◌<◌, ◌≤◌, ◌⊎◌, inl, inr, List, [], ◌∷◌, ◌++◌, length, length-append, append-nil, append_assoc, get_or, drop, refl, sym, ap, ◌∙◌, arith}
+use Rattle.std.proofs.Common.{◌≡◌, ℕ, ◌+◌, ◌*◌, ◌<◌, ◌≤◌, ◌⊎◌, inl, inr, List, [], ◌∷◌, ◌++◌, length, length-append, append-nil, append_assoc, get_or, drop, refl, sym, ap, ◌∙◌, arith}
 use Rattle.std.specs.Char.{len_utf8, encode_utf8}
 use Rattle.std.specs.Char.Escape.{encode_utf16}
 use Rattle.std.specs.List.{flat_map}
 use Rattle.std.specs.Str.{encode_utf8_all}
-use Rattle.std.proofs.lemmas.Bool.{lt-ltb, le-ltb, cases_lt}
+use Rattle.std.proofs.lemmas.Bool.{le-ltb, cases_lt}
 use Rattle.std.proofs.lemmas.Grind.{flat_map-append}
 use Rattle.std.proofs.lemmas.List.{at_drop_more, at_drop_all}
 use Rattle.std.proofs.lemmas.Str.{length-encode, len_utf8_bounds}
 use Rattle.yasna_base.specs.Text.{unit_octets, bmp_octets}
+use Rattle.yasna_base.proofs.Bmp.{one_unit, two_units}
 use Rattle.yasna_writer.specs.View.{Written}
-
-pub one_unit : (c : ℕ) → c < 65536 → encode_utf16 c ≡ c ∷ []
-one_unit c h = rw (lt-ltb c 65536 h) refl
-
-pub two_units : (c : ℕ) → 65536 ≤ c → encode_utf16 c ≡ (55296 + (c - 65536) / 1024) ∷ (56320 + (c - 65536) % 1024) ∷ []
-two_units c h = rw (le-ltb c 65536 h) refl
 
 longest_character : (c : ℕ) → 65536 ≤ c → len_utf8 c ≡ 4
 longest_character c h = rw (le-ltb c 128 (omega arith)) (rw (le-ltb c 2048 (omega arith)) (rw (le-ltb c 65536 h) refl))
@@ -27,9 +22,8 @@ octets_of_one c h = ap (λ us. flat_map unit_octets (us ++ [])) (one_unit c h)
 pub octets_of_two : (c : ℕ) → 65536 ≤ c → length (bmp_octets (c ∷ [])) ≡ 4
 octets_of_two c h = ap (λ us. length (flat_map unit_octets (us ++ []))) (two_units c h)
 
--- the octets of texts one after the other stand so
-pub octets_joined : (cs ds : List ℕ) → bmp_octets (cs ++ ds) ≡ bmp_octets cs ++ bmp_octets ds
-octets_joined cs ds =
+pub bmp_octets_append : (cs ds : List ℕ) → bmp_octets (cs ++ ds) ≡ bmp_octets cs ++ bmp_octets ds
+bmp_octets_append cs ds =
     ap (flat_map unit_octets) (flat_map-append encode_utf16 cs ds) ∙ flat_map-append unit_octets (flat_map encode_utf16 cs) (flat_map encode_utf16 ds)
 
 -- what is left begins with the character at hand
@@ -37,7 +31,7 @@ pub octets_left :
     (cs : List ℕ) (n c : ℕ) → (n < length cs) × (c ≡ get_or cs n c)
     → bmp_octets (drop n cs) ≡ bmp_octets (c ∷ []) ++ bmp_octets (drop (n + 1) cs)
 octets_left cs n c h =
-    at_drop_more bmp_octets cs n c h.0 ∙ ap (λ x. bmp_octets (x ∷ drop (n + 1) cs)) (sym h.1) ∙ octets_joined (c ∷ []) (drop (n + 1) cs)
+    at_drop_more bmp_octets cs n c h.0 ∙ ap (λ x. bmp_octets (x ∷ drop (n + 1) cs)) (sym h.1) ∙ bmp_octets_append (c ∷ []) (drop (n + 1) cs)
 
 units_counted :
     (c k : ℕ) → (c < 65536 → k ≡ 1) → (65536 ≤ c → k ≡ 2) → (c < 65536) ⊎ (65536 ≤ c) → length (bmp_octets (c ∷ [])) ≡ 2 * k
@@ -69,7 +63,7 @@ octets_bound (c ∷ cs) =
       octets_bound cs,
       character_bound c (cases_lt c 65536),
       length-encode c,
-      ap length (octets_joined (c ∷ []) cs),
+      ap length (bmp_octets_append (c ∷ []) cs),
       length-append (bmp_octets (c ∷ [])) (bmp_octets cs),
       length-append (encode_utf8 c) (encode_utf8_all cs),
     )

@@ -226,13 +226,13 @@ pub record TakesEntry (k : Mark) (start : ℕ) (es : List Entry) (n headers wait
   pub joins : joined es c ≡ with_entry (record { place = start; mark = k }) b
 
 -- where no element waits behind it
-pub ended :
+pub entry_ended :
     (front back : List Entry) (w : Waiting) (k : Mark) (place headers more waits : ℕ) (c : List ℕ)
     → AreEntries (front ++ ((record { place = place; mark = Waits w }) ∷ back)) (length c) headers (waits + 1) → w.depth ≡ waits + 1
     → mark_waits k ≡ 0 → more ≡ headers + length (header_of_mark k) → more < 2 ^ 63
     → TakesEntry k w.start (front ++ ((record { place = place; mark = k }) ∷ back)) (length c) more waits c
     (joined (front ++ ((record { place = place; mark = Waits w }) ∷ back)) c)
-ended front back w k place headers more waits c a d z m few =
+entry_ended front back w k place headers more waits c a d z m few =
     let x : Entry = record { place = place; mark = Waits w } in
     let y : Entry = record { place = place; mark = k } in
     let o = order_split 0 front x back (length c) a.ordered in
@@ -284,7 +284,7 @@ takes es b k place headers more waits c a i z m few =
     let some : waits ≡ (waits - 1) + 1 = omega (arith, waits_some es b place (length c) headers waits a i) in
     let old = subst (λ j. AreEntries (front ++ (x ∷ back)) (length c) headers j) some
     (subst (λ (zs : List Entry). AreEntries zs (length c) headers waits) split a) in
-    let new = ended front back w k place headers more (waits - 1) c old (i.inner ∙ some) z m few in
+    let new = entry_ended front back w k place headers more (waits - 1) c old (i.inner ∙ some) z m few in
     let whole : set es b.entry y ≡ front ++ (y ∷ back) = ap (λ z. set z b.entry y) split ∙ set_at front x back y b.entry there in
     let known = subst (λ (zs : List Entry). TakesEntry k w.start (front ++ (y ∷ back)) (length c) more (waits - 1) c (joined zs c)) (sym split) new in
     subst (λ n. TakesEntry k n (set es b.entry y) (length c) more (waits - 1) c (joined es c)) i.start

@@ -20,15 +20,15 @@ use Rattle.yasna_writer.proofs.BigEndian.{be_bytes, be_number}
 use Rattle.yasna_writer.proofs.Without.{without_cases, without_bytes, without_first}
 
 -- a sign byte in front changes nothing
-pub sign_more : (positive : Bool) (b : List ℕ) → signed_number positive (sign_byte positive ∷ b) ≡ signed_number positive b
-sign_more true b = let e = number_cons 256 0 b in ap pos (omega arith)
-sign_more false b = let e = number_cons 256 255 b in let p = pow-suc 256 (length b) in omega (arith, ints)
+pub sign_byte_more : (positive : Bool) (b : List ℕ) → signed_number positive (sign_byte positive ∷ b) ≡ signed_number positive b
+sign_byte_more true b = let e = number_cons 256 0 b in ap pos (omega arith)
+sign_byte_more false b = let e = number_cons 256 255 b in let p = pow-suc 256 (length b) in omega (arith, ints)
 
 -- nor does it where it is left out
 pub sign_without : (positive : Bool) (b : List ℕ) → signed_number positive (without (sign_byte positive) b) ≡ signed_number positive b
 sign_without positive [] = refl
 sign_without positive (y ∷ ys) = elim (without_cases (sign_byte positive) y ys) [
-  | inl p ↦ ap (signed_number positive) p.1 ∙ sign_without positive ys ∙ sym (sign_more positive ys) ∙ ap (λ z. signed_number positive (z ∷ ys)) (sym p.0)
+  | inl p ↦ ap (signed_number positive) p.1 ∙ sign_without positive ys ∙ sym (sign_byte_more positive ys) ∙ ap (λ z. signed_number positive (z ∷ ys)) (sym p.0)
   | inr p ↦ ap (signed_number positive) p.1
 ]
 
@@ -40,8 +40,8 @@ small_minimal : (x : ℕ) (xs : List ℕ) → (x ≡ 0 → ⊥) → (x ≡ 255 �
 small_minimal x [] f g = tt
 small_minimal x (y ∷ ys) f g = (λ e. absurd (f e), λ e. absurd (g e))
 
-positive_integer : (x : ℕ) (xs : List ℕ) → IsBytes (x ∷ xs) → (x ≡ 0 → ⊥) → IsInteger (signed_number true (x ∷ xs)) (signed true (x ∷ xs))
-positive_integer x xs h f = elim (cases_lt x 128) [
+positive_bytes : (x : ℕ) (xs : List ℕ) → IsBytes (x ∷ xs) → (x ≡ 0 → ⊥) → IsInteger (signed_number true (x ∷ xs)) (signed true (x ∷ xs))
+positive_bytes x xs h f = elim (cases_lt x 128) [
   | inl l ↦
       let whole = ap (λ t. cond t (0 ∷ []) [] ++ (x ∷ xs)) (lt-leb 128 x l) in
       subst (IsInteger (signed_number true (x ∷ xs))) (sym whole)
@@ -52,19 +52,19 @@ positive_integer x xs h f = elim (cases_lt x 128) [
       (record {
         in_bytes = (omega arith, h);
         minimal = (λ e. g, λ e. absurd (omega (arith, e)));
-        number = twos_positive 0 (x ∷ xs) (omega arith) ∙ sign_more true (x ∷ xs);
+        number = twos_positive 0 (x ∷ xs) (omega arith) ∙ sign_byte_more true (x ∷ xs);
       })
 ]
 
-negative_integer : (x : ℕ) (xs : List ℕ) → IsBytes (x ∷ xs) → (x ≡ 255 → ⊥) → IsInteger (signed_number false (x ∷ xs)) (signed false (x ∷ xs))
-negative_integer x xs h f = elim (cases_lt x 128) [
+negative_bytes : (x : ℕ) (xs : List ℕ) → IsBytes (x ∷ xs) → (x ≡ 255 → ⊥) → IsInteger (signed_number false (x ∷ xs)) (signed false (x ∷ xs))
+negative_bytes x xs h f = elim (cases_lt x 128) [
   | inl l ↦
       let whole = ap (λ t. cond t (255 ∷ []) [] ++ (x ∷ xs)) (lt-ltb x 128 l) in
       subst (IsInteger (signed_number false (x ∷ xs))) (sym whole)
       (record {
         in_bytes = (omega arith, h);
         minimal = (λ e. absurd (omega (arith, e)), λ e. l);
-        number = twos_negative 255 (x ∷ xs) (omega arith) ∙ sign_more false (x ∷ xs);
+        number = twos_negative 255 (x ∷ xs) (omega arith) ∙ sign_byte_more false (x ∷ xs);
       })
   | inr g ↦
       let whole = ap (λ t. cond t (255 ∷ []) [] ++ (x ∷ xs)) (le-ltb x 128 g) in
@@ -77,8 +77,8 @@ signed_integer :
     → IsInteger (signed_number positive c) (signed positive c)
 signed_integer true [] h f = record { in_bytes = (omega arith, tt); minimal = tt; number = twos_positive 0 [] (omega arith) }
 signed_integer false [] h f = record { in_bytes = (omega arith, tt); minimal = tt; number = twos_negative 255 [] (omega arith) }
-signed_integer true (x ∷ xs) h f = positive_integer x xs h (f x xs refl)
-signed_integer false (x ∷ xs) h f = negative_integer x xs h (f x xs refl)
+signed_integer true (x ∷ xs) h f = positive_bytes x xs h (f x xs refl)
+signed_integer false (x ∷ xs) h f = negative_bytes x xs h (f x xs refl)
 
 -- bytes without sign bytes in front, and one where it is needed, are the fewest
 pub signed_bytes :

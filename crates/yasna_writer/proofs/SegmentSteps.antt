@@ -149,9 +149,9 @@ unfolding canonical_element
 last_segment m bytes front last u byte few split = ap (definite_element bits_tag Primitive) (sym (contents_with bytes front last u byte few split))
 
 -- where a segment was appended, what is left completes the same
-pub goes_on : (w mid new : Written) (rest next piece : List ℕ) → new ≡ record mid { bytes = mid.bytes ++ piece } → rest ≡ piece ++ next →
+pub segment_appended : (w mid new : Written) (rest next piece : List ℕ) → new ≡ record mid { bytes = mid.bytes ++ piece } → rest ≡ piece ++ next →
     record mid { bytes = mid.bytes ++ rest } ≡ w → record new { bytes = new.bytes ++ next } ≡ w
-goes_on w mid new rest next piece e f done =
+segment_appended w mid new rest next piece e f done =
     ap (λ (z : Written). record z { bytes = z.bytes ++ next }) e
     ∙ ap (λ x. record mid { bytes = x }) (append_assoc mid.bytes piece next ∙ ap (λ x. mid.bytes ++ x) (sym f))
     ∙ done

@@ -1,6 +1,6 @@
 use Rattle.std.proofs.Common.{◌++◌, length, sym, ap, ap₂, ◌∙◌, arith, length-drop}
 use Rattle.yasna_writer.specs.Segments.{bit_segment, in_bit_segments, bits_with}
-use Rattle.yasna_writer.proofs.SegmentSteps.{bits_more, bits_one, goes_on, goes_out}
+use Rattle.yasna_writer.proofs.SegmentSteps.{bits_more, bits_one, segment_appended, goes_out}
 use Rattle.yasna_writer.proofs.state.Writer.append_bit_segments.Goals as goal
 
 pub loop-rest-preserved : goal.loop-rest-preserved
@@ -11,7 +11,7 @@ loop-rest-preserved c =
     record {
       some = omega (arith, c.loop-rest-test.true, ap length s.back, length-drop 999 rest);
       done =
-          goes_on _ c.loop-rest.self c.append_full_bits.new.self (in_bit_segments (bits_with u rest)) _ _ (c.in_ok-append_full_bits.ensures {u = tt})
+          segment_appended _ c.loop-rest.self c.append_full_bits.new.self (in_bit_segments (bits_with u rest)) _ _ (c.in_ok-append_full_bits.ensures {u = tt})
           (bits_more u rest c.requires.few (omega (arith, c.loop-rest-test.true))
           ∙ ap₂ (λ x y. bit_segment (bits_with 0 x) ++ in_bit_segments (bits_with u y)) (sym s.front) (sym s.back)) c.loop-rest.invariant.done;
     }
