@@ -10,8 +10,8 @@ use Rattle.yasna_writer.specs.View.{Written, bytes_of}
 abbrev pub LacksMemory : {E : Type 0} → (ASN1Error → E → Type 0) → E → Type 0
 LacksMemory from e = (k : ASN1Error) × (kind_of k ≡ OutOfMemory) × from k e
 
--- the answer of a writing that a closure left as w and answered by own: the failure kept, else the closure's Err,
--- else just the bytes, or want of memory
+-- what is answered where a closure answered own and left the writing as w: the failure that w keeps, else the closure's Err, else
+-- the bytes of w, or want of memory; from says what an error type makes of a failure of the writing
 abbrev pub Constructed : {E : Type 0} → (ASN1Error → E → Type 0) → Written → Result (Unit {0}) E → Result (Vec ℕ Global) E → Type 0
 Constructed from w own result =
     MatchOption w.kept

@@ -7,10 +7,13 @@ use Rattle.yasna_base.specs.Set.{SetPart}
 use Rattle.yasna_writer.specs.declared.ordered_part.OrderedPart.{OrderedPart}
 use Rattle.yasna_writer.specs.declared.tagged_part.TaggedPart.{TaggedPart}
 
--- the bytes of each part, the canonical mode of what is written, and the failure that later calls answer
+-- the parts of a set, as they are written
 pub record WrittenParts : Type 0 where
+  -- the bytes of each part
   pub parts : List (List ℕ)
+  -- the canonical mode of what is written
   pub mode : BERMode
+  -- the failure that later calls answer
   pub kept : Option ASN1Error
 
 -- a set that begins

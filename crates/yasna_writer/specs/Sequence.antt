@@ -13,15 +13,20 @@ abbrev pub AnswersKept : {T E : Type 0} → (ASN1Error → E → Type 0) → Opt
 AnswersKept from None own result = result ≡ own
 AnswersKept from (Some k) own result = IsErrAnd result (λ e. from k e)
 
--- the closure f ran behind the bytes that stood; where nothing failed, form of what it appended was written, and its
--- own answer is handed on, an Err too
+-- the closure f ran behind the bytes that stood, and the element around what it wrote ended
 pub record WroteAround {F T E : Type 0} (g : Once F (MutBor Written × Unit {0}) (Result T E × (MutBor Written × Unit {0}))) (from : ASN1Error → E → Type 0)
     (f : F) (form : List ℕ → List ℕ) (old new : Written) (result : Result T E) : Type 0 where
+  -- the closure's answer
   pub own : Result T E
+  -- the writing as it left it
   pub left : Written
+  -- it was handed the bytes that stood, with no tag
   pub ran : FnOnceReturnsAtMut g f (handed old) own left
+  -- which failure is kept, if one is
   pub kept : KeptAtEnd (length old.bytes) left new.kept
+  -- that failure is answered, else the closure's answer, an Err too
   pub answers : AnswersKept from new.kept own result
+  -- where none is kept, form of what the closure appended was written
   pub bytes : new.kept ≡ None → (c : List ℕ) → left.bytes ≡ old.bytes ++ c → new ≡ holding old (old.bytes ++ form c)
 
 -- a kept failure is answered and stays, and the closure doesn't run

@@ -41,14 +41,18 @@ abbrev pub parts_unless_kept : Option ASN1Error → List (List ℕ) → List (Li
 parts_unless_kept None ps = ps
 parts_unless_kept (Some k) ps = []
 
--- a writing with nothing in it begins, in this mode and where this was kept
+-- the writing of a part begins
 pub record BeginsPart (mode : BERMode) (kept : Option ASN1Error) (w : Written) : Type 0 where
+  -- it keeps the failure of the parts before, if there is one, or want of memory
   pub keeps : KeptAtPart kept w.kept
+  -- there is nothing in it, and it is in this mode
   pub fresh : w ≡ record { bytes = []; mode = mode; tag = None; kept = w.kept }
 
--- that of a part, behind those before
+-- the same, behind the parts before
 pub record BeginsNext (mode : BERMode) (begun : Bool) (old : List (Vec ℕ Global)) (last : Written) (new : List (Vec ℕ Global)) (w : Written) : Type 0 where
+  -- a part begins
   pub begins : BeginsPart mode last.kept w
+  -- what was the last part stands with those before it, unless a failure is kept
   pub before : bytes_each new ≡ parts_unless_kept w.kept (bytes_each old ++ last_part begun last.bytes)
 
 -- s ends with the part that is behind r at last
@@ -76,7 +80,7 @@ abbrev pub contents_in : PartOrder → List (List ℕ) → List ℕ → Type 0
 contents_in Bytes = SetOfContents
 contents_in Tags = SetContents
 
--- the contents that the parts make were written by form
+-- no failure was kept, the parts make contents, and form of these was written
 abbrev pub WritesParts : (List (List ℕ) → List ℕ → Type 0) → (List ℕ → List ℕ) → WrittenParts → Written → Written → Type 0
 WritesParts Contents form left old new = (left.kept ≡ None) × (c : List ℕ) × Contents left.parts c × (new ≡ holding old (old.bytes ++ form c))
 
@@ -84,15 +88,19 @@ WritesParts Contents form left old new = (left.kept ≡ None) × (c : List ℕ) 
 abbrev pub EndsSet : (List (List ℕ) → List ℕ → Type 0) → (List ℕ → List ℕ) → WrittenParts → Written → Written → Type 0
 EndsSet Contents form left old new = MatchOption new.kept (WritesParts Contents form left old new) (λ k. FailsAtSet Contents left k)
 
--- the closure f ran and wrote parts; where nothing failed, form of the contents that they make was written, and its own
--- answer is handed on, an Err too
+-- the closure f ran and wrote parts, and the set of them was written
 pub record WroteSet {F T E : Type 0} (g : Once F (MutBor WrittenParts × Unit {0}) (Result T E × (MutBor WrittenParts × Unit {0})))
     (from : ASN1Error → E → Type 0)
     (f : F) (Contents : List (List ℕ) → List ℕ → Type 0) (form : List ℕ → List ℕ) (old new : Written) (result : Result T E) : Type 0 where
+  -- the closure's answer
   pub own : Result T E
+  -- the parts that it left
   pub left : WrittenParts
+  -- it was handed no parts
   pub ran : FnOnceReturnsAtMut g f (no_parts old.mode) own left
+  -- form of the contents that the parts make was written, or a failure is kept
   pub ends : EndsSet Contents form left old new
+  -- that failure is answered, else the closure's answer, an Err too
   pub answers : AnswersKept from new.kept own result
 
 -- what such a call does: a failure that is kept comes first

@@ -33,12 +33,18 @@ TakesTag own old new result =
 
 -- an element begins behind the bytes that stand, under this tag
 pub record BeginsAt (tag : Tag) (old new : Written) (b : Beginning) : Type 0 where
+  -- it is to be written by the rules of the writing
   pub mode : b.mode ≡ old.mode
+  -- under the tag
   pub tagged : b.tag ≡ tag
+  -- behind all bytes
   pub start : b.start ≡ length old.bytes
+  -- nothing is written yet
   pub same : new ≡ old
 
 -- an element ends, in the mode that it began with, around what is left from its beginning on, or a failure is kept
 pub record EndsElement (b : Beginning) (left new : Written) : Type 0 where
+  -- which failure is kept, if one is
   pub kept : KeptAtEnd b.start left new.kept
+  -- where none is, the bytes from the beginning on became the contents of the element, and no tag waits
   pub bytes : new.kept ≡ None → new ≡ record { bytes = with_element b.mode b.tag b.start left.bytes; mode = b.mode; tag = None; kept = None }

@@ -24,13 +24,18 @@ pub record LeftBehind (n : ℕ) (left new : Written) : Type 0 where
   pub kept : KeptBehind n left new.kept
   pub same : new ≡ record left { tag = None; kept = new.kept }
 
--- the closure f ran with the tag, and what it left is what there is
+-- the closure f ran with the tag, and nothing was written but what it wrote
 pub record WroteTagged {F T E : Type 0} (g : Once F (MutBor Written × Unit {0}) (Result T E × (MutBor Written × Unit {0}))) (from : ASN1Error → E → Type 0)
     (f : F) (tag : Tag) (old new : Written) (result : Result T E) : Type 0 where
+  -- the closure's answer
   pub own : Result T E
+  -- the writing as it left it
   pub left : Written
+  -- it was handed the writing with the tag
   pub ran : FnOnceReturnsAtMut g f (tagging tag old) own left
+  -- what it left is what there is, but for the tag and a failure
   pub behind : LeftBehind (length old.bytes) left new
+  -- a failure that is kept is answered, else the closure's answer, an Err too
   pub answers : AnswersKept from new.kept own result
 
 -- what such a call does: a failure that is kept comes first

@@ -8,12 +8,15 @@ use Rattle.yasna_base.specs.declared.mode.BERMode.TheVariants.{Der}
 use Rattle.yasna_base.specs.declared.tag.Tag.{Tag}
 use Rattle.yasna_base.specs.Error.{kind_of}
 
--- the bytes so far, the canonical mode of what is written, the implicit tag that the next element takes, and the
--- failure that later calls answer
+-- a writing
 pub record Written : Type 0 where
+  -- the bytes so far
   pub bytes : List ℕ
+  -- the canonical mode of what is written
   pub mode : BERMode
+  -- the implicit tag that the next element takes
   pub tag : Option Tag
+  -- the failure that later calls answer
   pub kept : Option ASN1Error
 
 -- the writing with these bytes, with no implicit tag and no failure
@@ -40,19 +43,19 @@ Wrote bs old new r =
     (MatchResult r (λ _. new ≡ holding old (old.bytes ++ bs)) (λ e. (kind_of e ≡ OutOfMemory) × (new.kept ≡ Some e)))
     (λ k. (r ≡ Err k) × (new.kept ≡ Some k))
 
--- a writing that lacks memory: what it keeps, if anything, is want of memory; else the bytes before still stand
+-- a write answered e, want of memory: either that is kept, or nothing is kept and the bytes before still stand, with others behind
 abbrev pub RanOut : Written → Written → ASN1Error → Type 0
 RanOut old new e = (kind_of e ≡ OutOfMemory) × MatchOption new.kept ((c : List ℕ) × (new.bytes ≡ old.bytes ++ c)) (λ k. kind_of k ≡ OutOfMemory)
 
--- what a value of a type is asked for, which may want memory of its own: a kept failure stays, whatever is answered; else Ok
--- appended bs, and Err is want of memory, kept or not
+-- what `encode_der` of a type does, which may want memory of its own: a kept failure stays, whatever is answered; else Ok
+-- appended bs under the tag, which is used up, and Err is want of memory, kept or not
 abbrev pub Writes : List ℕ → Written → Written → Result (Unit {0}) ASN1Error → Type 0
 Writes bs old new r =
     MatchOption old.kept
     (MatchResult r (λ _. new ≡ holding old (old.bytes ++ bs)) (λ e. RanOut old new e))
     (λ k. new.kept ≡ Some k)
 
--- the same of parts, of which there may be none: then nothing is written, and an implicit tag still waits
+-- what parts of an element do: the same, but that an implicit tag may still wait, as it does where there is no part
 abbrev pub WroteParts : List ℕ → Written → Written → Result (Unit {0}) ASN1Error → Type 0
 WroteParts bs old new r =
     MatchOption old.kept
