@@ -11,7 +11,7 @@ use Rattle.yasna_writer.specs.declared.draft.Mark.TheVariants.{Waits, Definite, 
 use Rattle.yasna_writer.specs.declared.draft.Waiting.{Waiting}
 use Rattle.yasna_writer.specs.Header.{header_bytes, indefinite_header}
 
--- an element that isn't ended has no bytes yet
+-- the header of a mark; an element that isn't ended has none yet
 abbrev pub header_of_mark : Mark → List ℕ
 header_of_mark (Waits w) = []
 header_of_mark (Definite h) = header_bytes Constructed h
@@ -23,7 +23,7 @@ mark_waits (Waits w) = 1
 mark_waits (Definite h) = 0
 mark_waits (Indefinite t) = 0
 
--- the header of an element with parts: of a length, or of indefinite length
+-- the mark of an element with parts that is ended: its header, of a length or of indefinite length
 abbrev pub mark_of : Tag → Option ℕ → Mark
 mark_of t (Some n) = Definite (record { tag = t; length = n })
 mark_of t None = Indefinite t

@@ -9,15 +9,15 @@ use Rattle.yasna_base.specs.Identifier.{identifier}
 use Rattle.yasna_base.specs.Length.{shortest_length}
 use Rattle.yasna_writer.specs.declared.header.Header.{Header}
 
--- the bytes of a header
+-- the bytes of a header: identifier octets, and length octets in the definite form
 abbrev pub header_bytes : PCBit → Header → List ℕ
-header_bytes p h = identifier h.tag p ++ shortest_length h.length
+header_bytes bit h = identifier h.tag bit ++ shortest_length h.length
 
--- where the length is indefinite
+-- the bytes of one whose length octet is in the indefinite form (X.690, 8.1.3.6)
 abbrev pub indefinite_header : Tag → List ℕ
 indefinite_header t = identifier t Constructed ++ (128 ∷ [])
 
 -- what stands in front of a payload that is written as it is
 abbrev pub raw_header : BERMode → PCBit → Header → List ℕ
 raw_header Cer Constructed h = indefinite_header h.tag
-raw_header m p h = header_bytes p h
+raw_header m bit h = header_bytes bit h

@@ -128,7 +128,7 @@ fn push_header_of_mark(out: &mut Vec<u8>, mark: Mark) -> Result<(), AllocError>
     }
 }
 
-// The header of an element with parts: of this length, or of indefinite length.
+// The mark of an element with parts that is ended: its header, of this length or of indefinite length.
 #[inline(always)]
 fn mark_of(tag: Tag, length: Option<usize>) -> Mark
     ensures mark { result ≡ mark_of tag length }
