@@ -22,3 +22,4 @@ pub mod Handed
 pub mod DefaultParts
 pub mod PartsByTags
 pub mod Choices
+pub mod SetOfReads

@@ -166,3 +166,8 @@ module _ {A : Type 0} {t : Tag} {P N : Does A} (under : DoesUnder t P N) where
         subst (λ z. DecodesByTags ts asks B S s z s') (sym x.2)
         (record { decodes = lent_decodes (plain_by value) s fresh x.0 s' x.1; quiet = lent_quiet value s fresh x.0 s' x.1 });
   }
+
+-- what does as P says does under the tag what P does
+pub does_as : {A : Type 0} {t : Tag} {P R N : Does A} → ((s : Reading) (r : Result A ASN1Error) (s' : Reading) → R s r s' → P s r s') → DoesUnder t P N →
+    DoesUnder t R N
+does_as {t} says under = record { does = λ s r m fresh h. under.does s r m fresh (says (record s { tag = Some t }) r m h) }
