@@ -108,7 +108,7 @@ guide=crates/yasna_guide/src
 examples=crates/yasna_examples/src
 files=$(find "$guide" "$examples" crates/yasna_examples/proofs -name '*.rt' -o -name '*.antt')
 for document in README.md docs/GUIDE.md docs/CONTRACTS.md \
-    crates/yasna/src/lib.rt crates/yasna/src/traits.rt \
+    crates/yasna/src/lib.rt crates/yasna/src/shapes.rt \
     crates/yasna_reader/src/state.rt crates/yasna_reader/src/set.rt \
     crates/yasna_writer/src/state.rt crates/yasna_writer/src/sequence.rt crates/yasna_writer/src/set.rt; do
     lines_of "$document" > "$work/lines"

@@ -53,6 +53,7 @@
 //! |---|---|
 //! | `traits` | what a type says that is read and written as a whole |
 //! | `exact` | types of which DER and CER alone have one form, and what is proved of them |
+//! | `shapes` | types that are read and written as another is, as a struct by the tuple of its fields |
 //! | `whole` | whole inputs and outputs, and what is proved of them for every such type |
 //! | `models` | object identifiers, times and raw elements |
 //! | `law_functions` | what is proved of the grammar, of the times and of sets |
@@ -69,6 +70,7 @@ mod oid;
 mod primitive;
 mod raw;
 mod sets;
+mod shapes;
 mod strings;
 mod times;
 mod traits;
@@ -77,6 +79,7 @@ mod whole;
 
 pub use exact::{DERExact, one_der_form};
 pub use sets::{set_of_is_read, set_of_is_written, set_of_sets_is_read};
+pub use shapes::{EncodeShape, FromShape, Shaped};
 pub use traits::{BERDecodable, DERCanonical, DEREncodable};
 pub use tuples::{EncodableParts, TupleParts};
 pub use whole::{

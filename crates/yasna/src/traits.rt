@@ -18,28 +18,7 @@ use yasna_writer::DERWriter;
 
 /// A type that is read from BER, DER and CER.
 ///
-/// A struct that is a SEQUENCE of its fields hands everything to the tuple of them:
-///
-/// ```rust
-/// impl BERDecodable for Measurement {
-///     ghost encodes = { λ m n v b. ⟦<(i64, bool) as BERDecodable>⟧.encodes m n (v.number, v.valid) b };
-///
-///     ghost elements = { ⟦<(i64, bool) as BERDecodable>⟧.elements };
-///
-///     ghost asks_memory = { ⟦<(i64, bool) as BERDecodable>⟧.asks_memory };
-///
-///     ghost same = { λ v w. ⟦<(i64, bool) as BERDecodable>⟧.same (v.number, v.valid) (w.number, w.valid) };
-///
-///     fn decode_ber(reader: BERReader) -> ASN1Result<Measurement> {
-///         match <(i64, bool)>::decode_ber(reader) {
-///             Ok((number, valid)) => Ok(Measurement { number, valid }),
-///             Err(error) => Err(error),
-///         }
-///     }
-///
-///     ghost coding = { tuple (λ v. (v.number, (v.valid, tt))) (part (signed_coding w64) (part bool_coding no_part)) };
-/// }
-/// ```
+/// A struct that is a SEQUENCE of its fields gets it from the tuple of them, by `Shaped` and `FromShape`.
 pub trait BERDecodable: Sized + Drop {
     // Which bytes encode a value, in a mode within a number of levels.
     ghost encodes: { Grammar Self };
@@ -72,19 +51,7 @@ pub trait BERDecodable: Sized + Drop {
 
 /// A type that is written in DER and CER, by one `encode_der`.
 ///
-/// ```rust
-/// impl DEREncodable for Measurement {
-///     ghost form = { λ m v. ⟦<(i64, bool) as DEREncodable>⟧.form m (v.number, v.valid) };
-///
-///     ghost nest = { λ m v. ⟦<(i64, bool) as DEREncodable>⟧.nest m (v.number, v.valid) };
-///
-///     ghost encodable = { λ v. ⟦<(i64, bool) as DEREncodable>⟧.encodable (v.number, v.valid) };
-///
-///     fn encode_der(&self, writer: DERWriter<'_>) -> ASN1Result<()> {
-///         (self.number, self.valid).encode_der(writer)
-///     }
-/// }
-/// ```
+/// A struct gets it from its shape, by `EncodeShape`.
 pub trait DEREncodable {
     // The form of a value in a canonical mode.
     ghost form: { Form Self };
@@ -104,27 +71,9 @@ pub trait DEREncodable {
         ensures { Writes (form writer.old.mode self.now) writer.old writer.new result };
 }
 
-impl<'a, T: DEREncodable> DEREncodable for &'a T {
-    ghost form = { λ m v. T.form m v.now };
-
-    ghost nest = { λ m v. T.nest m v.now };
-
-    ghost encodable = { λ v. T.encodable v.now };
-
-    fn encode_der(&self, writer: DERWriter<'_>) -> ASN1Result<()> {
-        T::encode_der(*self, writer)
-    }
-}
-
 /// A type that is read from DER and CER exactly where its one form there stands, which BER reads too.
 ///
-/// It has no function: an impl proves the law.
-///
-/// ```rust
-/// impl DERCanonical for Measurement {
-///     ghost written = { tuple_written (λ v. (v.number, (v.valid, tt))) (part_written (signed_written w64) (part_written bool_written no_part_written)) };
-/// }
-/// ```
+/// It has no function: an impl proves the law. A type with a shape that has it has it too, where it is read and written as its shape.
 pub trait DERCanonical: BERDecodable + DEREncodable {
     // The form is read, in its mode and in BER; a canonical mode reads nothing else; what BER reads can be written;
     // equal values are written alike.
