@@ -28,7 +28,7 @@ use Rattle.yasna_reader.specs.Primitive.{ReadsSeen, Reads, NoLevel}
 use Rattle.yasna_reader.specs.Sequence.{NotEntered, EntersUnlessKept, ReadsParts}
 use Rattle.yasna_reader.specs.SequenceOf.{Collects}
 use Rattle.yasna_reader.specs.State.{Reading, IsFresh, refusing, tag_of, Does}
-use Rattle.yasna_reader.proofs.Listing.{collects}
+use Rattle.yasna_reader.proofs.ListDecoding.{collects}
 use Rattle.yasna_reader.proofs.OptionalParts.{IsQuietBefore, IsContentsDecoder, contents_sequence}
 use Rattle.yasna_reader.proofs.OptionalReads.{StartsElsewhere, leaf_quiet, asking_quiet}
 use Rattle.yasna_reader.proofs.Primitives.{asked_decodes, no_level_at_end}

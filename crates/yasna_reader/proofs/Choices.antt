@@ -16,7 +16,7 @@ use Rattle.yasna_bytes.specs.Refusal.{IsElsewhere}
 use Rattle.yasna_reader.specs.ByTags.{AreElsewhere, QuietElsewhere, DecodesByTags}
 use Rattle.yasna_reader.specs.Lookahead.{FindsTag}
 use Rattle.yasna_reader.specs.State.{Reading, IsFresh}
-use Rattle.yasna_reader.proofs.Ahead.{found_none, found_other}
+use Rattle.yasna_reader.proofs.NextTag.{found_none, found_other}
 use Rattle.yasna_reader.proofs.PartsByTags.{differs_from}
 use Rattle.yasna_reader.proofs.Tuples.{seen, chosen}
 

@@ -16,7 +16,7 @@ use Rattle.yasna_reader.specs.State.{Reading, IsFresh, failing}
 use Rattle.yasna_reader.proofs.ByTags.{IsDecoderByTags}
 use Rattle.yasna_reader.proofs.Sequences.{place_behind}
 use Rattle.yasna_reader.proofs.Tuples.{IsDecoder}
-use Rattle.yasna_reader.proofs.Turning.{fresh_as}
+use Rattle.yasna_reader.proofs.ListTurns.{fresh_as}
 
 module _ {A : Type 0} (asks : Bool) (B : Grammar A) (S : Members) (s : Reading) (fresh : IsFresh s) where
   -- what is left behind a value that was taken

@@ -36,7 +36,7 @@ use Rattle.yasna_reader.specs.SetOf.{Bounded, bound_in, goes_before, FallsBelow,
 use Rattle.yasna_reader.specs.State.{Reading, IsFresh, Does}
 use Rattle.yasna_reader.proofs.ByTags.{IsDecoderByTags, parts_quiet}
 use Rattle.yasna_reader.proofs.Handed.{left_behind}
-use Rattle.yasna_reader.proofs.Listing.{listed, place_unmoved}
+use Rattle.yasna_reader.proofs.ListDecoding.{listed, place_unmoved}
 use Rattle.yasna_reader.proofs.Sequences.{element}
 use Rattle.yasna_reader.proofs.Tuples.{IsDecoder, decodes_map, enclosed_seen}
 
