@@ -23,6 +23,7 @@ ghost use Rattle.yasna_base.proofs.Oid.{oid_written};
 ghost use Rattle.yasna_base.proofs.Texts.{text_written};
 ghost use Rattle.yasna_times.proofs.TimeLaws.{utc_written, general_written};
 
+use crate::shapes::{EncodeShape, FromShape};
 use crate::traits::{BERDecodable, DEREncodable};
 use yasna_base::models::{ObjectIdentifier, TaggedDerValue};
 use yasna_times::models::{GeneralizedTime, UTCTime};
@@ -151,4 +152,13 @@ impl<T: DERExact> DERExact for Vec<T> {
     ghost fits = { λ m n v. enclosed_fits (elements_fit T.fits) m n v.items };
 
     ghost exact = { list_exact (λ v. v.items) T.exact };
+}
+
+impl<T: FromShape + EncodeShape + Drop> DERExact for T
+where
+    T::Shape: DERExact,
+{
+    ghost fits = { λ m n v. T.Shape.fits m n (T.shape_of v) };
+
+    ghost exact = { exact_along T.shape_of T.Shape.exact };
 }
