@@ -16,9 +16,10 @@ use Rattle.yasna_bytes.specs.declared.bytes.header.Opened.{Opened}
 use Rattle.yasna_bytes.specs.declared.bytes.header.Refusal.{Refusal}
 use Rattle.yasna_bytes.specs.Refusal.{BlamesBytes, IsTooDeep, Refuses}
 use Rattle.yasna_bytes.specs.Length.{Measures}
+use Rattle.yasna_bytes.specs.Opening.{Opening}
 use Rattle.yasna_bytes.specs.Front.{Takes, Stands}
 use Rattle.yasna_base.specs.Header.{ContentsEnd, counted, uncounted, Counts, OpensAt}
-use Rattle.yasna_bytes.specs.Header.{contents_end, Holds, HeldBehind, NotHeld, no_level, no_contents, BehindAt, OpenedAt, HasHeader, AnyBit, OnlyConstructed, RefusesHeader, AreContents}
+use Rattle.yasna_bytes.specs.Header.{Holds, HoldsContents, NotHeld, no_level, no_contents, BehindAt, OpenedAt, HasHeader, AnyBit, OnlyConstructed, RefusesHeader, AreContents}
 use Rattle.yasna_base.proofs.Digits.{bytes_behind, bytes_front}
 use Rattle.yasna_bytes.proofs.Refusal.{deep_refuses, stood_refuses, refuses_less}
 
@@ -88,6 +89,13 @@ pub holds_bytes : (m : BERMode) (p : PCBit) (y c : List ℕ) (f : ContentsEnd) �
 holds_bytes m p y c (counted r) b h = bytes_front c r (bytes_behind h.0 (c ++ r) (subst IsBytes h.3 b))
 holds_bytes m p y c uncounted b h = (subst IsBytes h.1 b).1
 
+-- an element's bit and contents are seen as they are
+pub seen_bit : {i o : Opening} {p : PCBit} → i ≡ o → i.bit ≡ p → o.bit ≡ p
+seen_bit f g = sym (ap (λ (z : Opening). z.bit) f) ∙ g
+
+pub seen_within : {i o : Opening} → i ≡ o → i.within ≡ o.within
+seen_within f = ap (λ (z : Opening). z.within) f
+
 -- an identifier, and contents behind it, are a header
 opened : (m : BERMode) (t : Tag) (p : PCBit) (s y c : List ℕ) (f : ContentsEnd) → t.tag_number < 2 ^ 64 → s ≡ identifier t p ++ y → IsBytes c →
     Holds m p y c f → OpensAt m t p s c f
@@ -101,15 +109,15 @@ opened m t p s y c (counted r) i e b h = record {
 }
 opened m t p s y c uncounted i e b h = record { in_range = i; in_bytes = b; taken = h.0; joined = e ∙ ap (λ z. identifier t p ++ z) h.1 }
 
-pub held_opens : (m : BERMode) (n : ℕ) (t : Tag) (p : PCBit) (s y : List ℕ) (o : Opened) → t.tag_number < 2 ^ 64 → s ≡ identifier t p ++ y →
-    HeldBehind m n p y o → OpensAt m t o.bit s o.within.now (contents_end o.after)
-held_opens m n t p s y o i e h =
-    subst (λ q. OpensAt m t q s o.within.now (contents_end o.after)) (sym h.bit) (opened m t p s y o.within.now (contents_end o.after) i e h.in_bytes h.holds)
+pub held_opens : (m : BERMode) (t : Tag) (p : PCBit) (s y : List ℕ) (o : Opened) → t.tag_number < 2 ^ 64 → s ≡ identifier t p ++ y →
+    HoldsContents m p y o → OpensAt m t o.bit s o.within o.end
+held_opens m t p s y o i e h =
+    subst (λ q. OpensAt m t q s o.within o.end) (sym h.bit) (opened m t p s y o.within o.end i e h.in_bytes h.holds)
 
 -- where an identifier stands, its header does as what is behind it is taken
 pub behind_opens : (m : BERMode) (n : ℕ) (t : Tag) (s : List ℕ) (p : PCBit) (y : List ℕ) → t.tag_number < 2 ^ 64 → s ≡ identifier t p ++ y →
     (r : Result Opened Refusal) → BehindAt m n p y r → OpenedAt m n t s r
-behind_opens m n t s p y i e (Ok o) h = (h.level, held_opens m n t p s y o i e h)
+behind_opens m n t s p y i e (Ok o) h = (h.0, held_opens m t p s y o i e h.1)
 behind_opens m n t s p y i e (Err r) h = not_held_refuses m n t s r p y e h.0 h.1
 
 -- the bytes behind an identifier, and the contents that they hold

@@ -11,7 +11,7 @@ use Rattle.yasna_base.specs.Identifier.{identifier, end_tag, begins, StartsEleme
 use Rattle.yasna_base.proofs.Identifier.{identifier_exact, end_identifier, identifier_short, zeros_at_end}
 use Rattle.yasna_base.proofs.Pieces.{tag_not_end}
 use Rattle.yasna_bytes.specs.declared.bytes.header.Refusal.{Refusal}
-use Rattle.yasna_bytes.specs.Header.{Holds, NotHeld, no_level, no_contents, HasHeader, AnyBit, EndsBefore, NoEnd, contents_end}
+use Rattle.yasna_bytes.specs.Header.{Holds, NotHeld, no_level, no_contents, HasHeader, AnyBit, EndsBefore, NoEnd}
 use Rattle.yasna_bytes.specs.Refusal.{BlamesBytes}
 use Rattle.yasna_bytes.specs.Walk.{IsEndByte, NoHeader, NotOpened, IsOpened, TurnsTo, TurnOf, Stops}
 use Rattle.yasna_bytes.specs.declared.bytes.header.Opened.{Opened}
@@ -104,19 +104,19 @@ first_not_end s r t Constructed n e f = n (inr (ap (λ b. get_or b 0 0) (e ∙ a
 
 -- what a walk does with a header
 pub turns_to : (m : BERMode) (n : ℕ) (e : ContentsEnd) (s : List ℕ) (u : Tag) (o : Opened) (t : Turn) →
-    IsOpened m n s u o.bit o.within.now (contents_end o.after) → TurnsTo m o t → TurnOf m n e s (Ok t)
+    IsOpened m n s u o.bit o.within o.end → TurnsTo m o t → TurnOf m n e s (Ok t)
 turns_to m n e s u o (Left a) x y = absurd y
 turns_to m n e s u o (Passed a) x y = record {
   tag = u;
   bit = o.bit;
-  contents = o.within.now;
-  opened = subst (λ z. IsOpened m n s u o.bit o.within.now z) y.0 x;
+  contents = o.within;
+  opened = subst (λ z. IsOpened m n s u o.bit o.within z) y.0 x;
   closed = y.1;
 }
 turns_to m n e s u o (Entered i) x y = record {
   tag = u;
   bit = i.bit;
-  opened = subst (λ (z : Opened). IsOpened m n s u z.bit z.within.now (contents_end z.after)) (sym y.0) x;
+  opened = subst (λ (z : Opened). IsOpened m n s u z.bit z.within z.end) (sym y.0) x;
   looks = y.1;
 }
 

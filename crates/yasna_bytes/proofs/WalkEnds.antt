@@ -1,7 +1,6 @@
 -- The table of a walk: the ends of the elements that it is in, and what is found from a place in them.
-use Rattle.std.proofs.Common.{◌≡◌, ◌↔◌, ◌⊎◌, inl, inr, ℕ, zero, suc, ◌+◌, ◌-◌, ◌<◌, ◌≤◌, List, [], ◌∷◌, ◌++◌, length, length-append, length-take, append_assoc, append-nil, take, drop, get_or, Option, Some, None, unwrap_or, refl, sym, ap, set, add-one, ◌∙◌, arith, subst}
+use Rattle.std.proofs.Common.{◌≡◌, ◌↔◌, ◌⊎◌, inl, inr, ℕ, zero, suc, ◌+◌, ◌-◌, ◌<◌, ◌≤◌, List, [], ◌∷◌, ◌++◌, length, length-append, length-take, append_assoc, append-nil, take, drop, get_or, refl, sym, ap, set, add-one, ◌∙◌, arith, subst}
 use Rattle.std.proofs.Math.Seq.{take-append_seam, drop-append_seam}
-use Rattle.std.specs.Borrow.{Bor}
 use Rattle.std.proofs.lemmas.List.{get_or-set_same, get_or-set_other}
 use Rattle.yasna_base.specs.declared.mode.BERMode.{BERMode}
 use Rattle.yasna_base.specs.declared.mode.BERMode.TheVariants.{Ber, Der, Cer}
@@ -14,8 +13,8 @@ use Rattle.yasna_base.specs.Raw.{LooksInto, LooksUpTo}
 use Rattle.yasna_base.specs.declared.tag.PCBit.{PCBit}
 use Rattle.yasna_base.specs.declared.tag.Tag.{Tag}
 use Rattle.yasna_base.proofs.Identifier.{identifier_some}
-use Rattle.yasna_bytes.specs.Header.{EndsBefore, NoEnd, contents_end}
-use Rattle.yasna_bytes.specs.Walk.{Passes, Enters, EndsWithin, Stops, ClosesBefore, MeetsDeep, NotWalked, TakesEnd, IsWalked, following}
+use Rattle.yasna_bytes.specs.Header.{EndsBefore, NoEnd}
+use Rattle.yasna_bytes.specs.Walk.{Passes, Enters, EndsWithin, Stops, ClosesBefore, MeetsDeep, NotWalked, TakesEnd, IsWalked, following, follows}
 use Rattle.yasna_bytes.proofs.WalkSteps.{before_here, before_first, left_closes, left_deep, passed_closes, passed_deep, entered, entered_more, entered_not_end, entered_deep, deep_entered, closed_stops, deep_stops, stops_deep}
 
 -- from s on the innermost elements end, one behind the other, and a follows the outermost
@@ -196,10 +195,9 @@ ends_before (counted a) uncounted s r x y = absurd x
 ends_before uncounted (counted b) s r x y = absurd x
 ends_before uncounted uncounted s r x y = y ∙ ap (λ z. 0 ∷ 0 ∷ z) (sym (append-nil r))
 
-pub ends_outermost : (o : Option (Bor (List ℕ))) (s : List ℕ) (a : Bor (List ℕ)) → EndsWithin (contents_end o) s a.now →
-    EndsBefore (contents_end o) s (unwrap_or o a).now
-ends_outermost (Some z) s a x = (x.0, refl)
-ends_outermost None s a x = x
+pub ends_outermost : (e : ContentsEnd) (s r : List ℕ) → EndsWithin e s r → EndsBefore e s (follows e r)
+ends_outermost (counted z) s r x = (x.0, refl)
+ends_outermost uncounted s r x = x
 
 ends_front : (e : ContentsEnd) (s r : List ℕ) → EndsWithin e s r → (p : List ℕ) × (s ≡ p ++ r)
 ends_front (counted a) s r x = ([], x.0 ∙ sym x.1)

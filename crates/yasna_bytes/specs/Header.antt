@@ -1,6 +1,6 @@
 -- Headers at the front of bytes, and where contents end (X.690, 8.1).
 use Rattle.std.specs.Borrow.{Bor}
-use Rattle.std.specs.Prelude.{◌≡◌, ℕ, ◌≤◌, List, ◌∷◌, ◌++◌, length, Option, Some, None, Result, Ok, Err, true}
+use Rattle.std.specs.Prelude.{◌≡◌, ℕ, ◌≤◌, List, ◌∷◌, ◌++◌, length, Result, Ok, Err, true}
 use Rattle.yasna_base.specs.Digits.{IsBytes}
 use Rattle.yasna_base.specs.Element.{TakesDefinite, TakesIndefinite, IsPrimitive}
 pub use Rattle.yasna_base.specs.Header.{EndsBefore}
@@ -23,22 +23,16 @@ abbrev pub Holds : BERMode → PCBit → List ℕ → List ℕ → ContentsEnd �
 Holds m p y c (counted r) = (l : List ℕ) × TakesDefinite m p × SpellsLength m (length c) l × (y ≡ l ++ (c ++ r))
 Holds m p y c uncounted = TakesIndefinite m p × (y ≡ 128 ∷ c)
 
--- what follows an element that was cut off, if anything was
-abbrev pub contents_end : Option (Bor (List ℕ)) → ContentsEnd
-contents_end (Some a) = counted a.now
-contents_end None = uncounted
-
 -- a length and contents, which are bytes, stand behind an identifier with the bit p
-abbrev pub ContentsAt : BERMode → PCBit → List ℕ → Result (Bor (List ℕ) × Option (Bor (List ℕ))) ASN1ErrorKind → Type 0
-ContentsAt m p y (Ok x) = IsBytes x.0.now × Holds m p y x.0.now (contents_end x.1)
-ContentsAt m p y (Err k) = BlamesBytes k × ((c : List ℕ) (f : ContentsEnd) → Holds m p y c f → ⊥)
-
--- the contents behind an identifier with the bit p were cut off, and a level is left for the element
-pub record HeldBehind (m : BERMode) (n : ℕ) (p : PCBit) (y : List ℕ) (o : Opened) : Type 0 where
-  pub level : 1 ≤ n
+pub record HoldsContents (m : BERMode) (p : PCBit) (y : List ℕ) (o : Opened) : Type 0 where
   pub bit : o.bit ≡ p
-  pub in_bytes : IsBytes o.within.now
-  pub holds : Holds m p y o.within.now (contents_end o.after)
+  pub in_bytes : IsBytes o.within
+  pub holds : Holds m p y o.within o.end
+
+-- the same, or none do
+abbrev pub ContentsAt : BERMode → PCBit → List ℕ → Result Opened ASN1ErrorKind → Type 0
+ContentsAt m p y (Ok o) = HoldsContents m p y o
+ContentsAt m p y (Err k) = BlamesBytes k × ((c : List ℕ) (f : ContentsEnd) → Holds m p y c f → ⊥)
 
 -- no level is left for the element, or no contents stand behind its identifier
 pub data NotHeld (m : BERMode) (n : ℕ) (p : PCBit) (y : List ℕ) (k : ASN1ErrorKind) : Type 0 where
@@ -47,7 +41,7 @@ pub data NotHeld (m : BERMode) (n : ℕ) (p : PCBit) (y : List ℕ) (k : ASN1Err
 
 -- what stands behind the identifier of an element with the bit p
 abbrev pub BehindAt : BERMode → ℕ → PCBit → List ℕ → Result Opened Refusal → Type 0
-BehindAt m n p y (Ok o) = HeldBehind m n p y o
+BehindAt m n p y (Ok o) = (1 ≤ n) × HoldsContents m p y o
 BehindAt m n p y (Err e) = (e.moved ≡ true) × NotHeld m n p y e.kind
 
 -- some header of the tag with a bit that P allows stands at the front, and a level is left for the element
@@ -75,12 +69,12 @@ RefusesHeader P m n t s e = Refuses (HasHeader P m n t s) (IsTooDeep n t s) ⊥ 
 
 -- a header of the tag stands at the front, and a level is left for the element
 abbrev pub OpenedAt : BERMode → ℕ → Tag → List ℕ → Result Opened Refusal → Type 0
-OpenedAt m n t s (Ok o) = (1 ≤ n) × OpensAt m t o.bit s o.within.now (contents_end o.after)
+OpenedAt m n t s (Ok o) = (1 ≤ n) × OpensAt m t o.bit s o.within o.end
 OpenedAt m n t s (Err e) = RefusesHeader AnyBit m n t s e
 
 -- the same of a constructed element
 abbrev pub ConstructedAt : BERMode → ℕ → Tag → List ℕ → Result Opened Refusal → Type 0
-ConstructedAt m n t s (Ok o) = (1 ≤ n) × OpensAt m t Constructed s o.within.now (contents_end o.after)
+ConstructedAt m n t s (Ok o) = (1 ≤ n) × OpensAt m t Constructed s o.within o.end
 ConstructedAt m n t s (Err e) = RefusesHeader OnlyConstructed m n t s e
 
 -- the contents v themselves are what is asked for

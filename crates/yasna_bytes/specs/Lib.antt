@@ -1,6 +1,7 @@
 pub mod Refusal
 pub mod Length
 pub mod Front
+pub mod Opening
 pub mod Header
 pub mod Oid
 pub mod Contents

@@ -11,7 +11,7 @@ use Rattle.yasna_base.specs.declared.mode.BERMode.{BERMode}
 use Rattle.yasna_base.specs.declared.tag.PCBit.{PCBit}
 use Rattle.yasna_base.specs.declared.tag.Tag.{Tag}
 use Rattle.yasna_bytes.specs.Front.{Stands}
-use Rattle.yasna_bytes.specs.Header.{AnyBit, HasHeader, NoEnd, EndsBefore, contents_end}
+use Rattle.yasna_bytes.specs.Header.{AnyBit, HasHeader, NoEnd, EndsBefore}
 use Rattle.yasna_bytes.specs.declared.bytes.header.Opened.{Opened}
 use Rattle.yasna_bytes.specs.declared.bytes.header.Refusal.{Refusal}
 use Rattle.yasna_bytes.specs.declared.bytes.walk.RawElement.{RawElement}
@@ -45,7 +45,7 @@ pub record IsOpened (m : BERMode) (n : ℕ) (s : List ℕ) (t : Tag) (p : PCBit)
 
 -- what reading such a header answers, by its case
 abbrev pub AnyOpenedAt : BERMode → ℕ → List ℕ → Result (Tag × Opened) Refusal → Type 0
-AnyOpenedAt m n s (Ok x) = IsOpened m n s x.0 x.1.bit x.1.within.now (contents_end x.1.after)
+AnyOpenedAt m n s (Ok x) = IsOpened m n s x.0 x.1.bit x.1.within x.1.end
 AnyOpenedAt m n s (Err e) = NotOpened m n s e
 
 -- an element isn't looked into, and r follows it
@@ -78,14 +78,14 @@ EndsWithin uncounted y r = y ≡ 0 ∷ 0 ∷ r
 -- the contents behind a header are looked into, or the element is passed
 abbrev pub TurnsTo : BERMode → Opened → Turn → Type 0
 TurnsTo m o (Left a) = ⊥
-TurnsTo m o (Passed a) = (contents_end o.after ≡ counted a.now) × (LooksInto m o.bit → ⊥)
-TurnsTo m o (Entered x) = (x ≡ o) × LooksUpTo m x.bit (contents_end x.after)
+TurnsTo m o (Passed a) = (o.end ≡ counted a.now) × (LooksInto m o.bit → ⊥)
+TurnsTo m o (Entered x) = (x ≡ o) × LooksUpTo m x.bit x.end
 
 -- what stands at a place in contents that end so
 abbrev pub TurnOf : BERMode → ℕ → ContentsEnd → List ℕ → Result Turn ASN1ErrorKind → Type 0
 TurnOf m n e s (Ok (Left a)) = EndsWithin e s a.now
 TurnOf m n e s (Ok (Passed a)) = Passes m n s a.now
-TurnOf m n e s (Ok (Entered o)) = Enters m n s o.within.now (contents_end o.after)
+TurnOf m n e s (Ok (Entered o)) = Enters m n s o.within o.end
 TurnOf m n e s (Err k) = Stops m n e s k
 
 -- raw elements within n levels stand from s on to the end of contents that end so, and a follows
@@ -120,6 +120,11 @@ IsWalked m e = (p : PCBit) × TakesEnd m p e × LooksUpTo m p e
 abbrev pub following : ContentsEnd → List ℕ
 following (counted a) = a
 following uncounted = []
+
+-- what follows an element whose contents end before r of the bytes that were given
+abbrev pub follows : ContentsEnd → List ℕ → List ℕ
+follows (counted a) r = a
+follows uncounted r = r
 
 -- an element whose header was read ends, or its contents, which are looked into, don't
 abbrev pub FollowsAt : BERMode → ℕ → PCBit → List ℕ → ContentsEnd → Result (Bor (List ℕ)) ASN1ErrorKind → Type 0

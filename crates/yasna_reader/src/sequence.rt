@@ -1,6 +1,5 @@
 //! Reads of constructed elements whose contents a callback reads (X.690, 8.1.3 to 8.1.5 and 8.9): `read_sequence`, which users call,
 //! and how an element is entered and left, which lists, sets and tagged elements share.
-ghost use Rattle.yasna_bytes.specs.Header.{contents_end};
 ghost use Rattle.yasna_reader.specs.Sequence.{ClosesFrom};
 ghost use Rattle.yasna_base.specs.Sequence.{sequence_tag};
 
@@ -13,18 +12,18 @@ use yasna_bytes::bytes::header::{Opened, Refusal, close, constructed};
 // What follows an element of which a callback left this many bytes to be read.
 #[inline(always)]
 fn close_from<'a>(opened: &Opened<'a>, remaining: usize) -> Result<&'a [u8], ASN1ErrorKind>
-    ensures { ClosesFrom (contents_end opened.now.after) opened.now.within.now remaining result }
+    ensures { ClosesFrom opened.now.end opened.now.within remaining result }
 {
     let within = opened.within;
     if within.len() < remaining {
         return Err(ASN1ErrorKind::Invalid);
     }
-    close(opened.after, &within[within.len() - remaining..])
+    close(opened, &within[within.len() - remaining..])
 }
 
 impl<'a> ReaderState<'a> {
     ghost use Rattle.std.specs.Prelude.{◌≡◌, ◌≤◌};
-    ghost use Rattle.yasna_bytes.specs.Header.{contents_end, ConstructedAt};
+    ghost use Rattle.yasna_bytes.specs.Header.{ConstructedAt};
     ghost use Rattle.yasna_reader.specs.State.{inside, untagged, tag_of};
     ghost use Rattle.yasna_reader.specs.Sequence.{Fails, Left, TakesParts, Runs, ReadsParts};
 
@@ -77,7 +76,7 @@ impl<'a> ReaderState<'a> {
     #[inline(always)]
     pub(crate) fn within(&self, opened: &Opened<'a>) -> ReaderState<'a>
         requires { 1 ≤ self.now.levels }
-        ensures { result ≡ inside self.now opened.now.within.now }
+        ensures { result ≡ inside self.now opened.now.within }
     {
         ReaderState {
             cursor: self.cursor.inside(opened),
@@ -95,7 +94,7 @@ impl<'a> ReaderState<'a> {
         answer: ASN1Result<T>,
         left: &ReaderState<'a>,
     ) -> ASN1Result<T>
-        ensures { Left (contents_end opened.now.after) opened.now.within.now left.now.kept left.now.left answer (untagged self.old) result self.new }
+        ensures { Left opened.now.end opened.now.within left.now.kept left.now.left answer (untagged self.old) result self.new }
     {
         // Mostly none waits: a branch is cheaper than the store.
         if self.tag.is_some() {

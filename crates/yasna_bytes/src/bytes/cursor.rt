@@ -1,7 +1,7 @@
 //! A place in an input's bytes.
 ghost use Rattle.std.specs.Prelude.{◌≡◌, ◌-◌, ◌≤◌, length};
 
-use crate::bytes::header::Opened;
+use crate::bytes::header::{ContentsEnd, Opened};
 use yasna_base::mode::BERMode;
 
 // How many levels of elements a reading goes down.
@@ -44,13 +44,13 @@ impl<'a> Cursor<'a> {
     #[inline(always)]
     pub fn inside(self, opened: &Opened<'a>) -> Cursor<'a>
         requires { 1 ≤ self.levels }
-        ensures left { result.left.now ≡ opened.now.within.now }
+        ensures left { result.left.now ≡ opened.now.within }
         ensures mode { result.mode ≡ self.entry.mode }
         ensures levels { result.levels ≡ self.entry.levels - 1 }
     {
-        let end = match opened.after {
-            Some(after) => self.end.saturating_sub(after.len()),
-            None => self.end,
+        let end = match opened.end {
+            ContentsEnd::Definite(after) => self.end.saturating_sub(after.len()),
+            ContentsEnd::Indefinite => self.end,
         };
         Cursor {
             left: opened.within,

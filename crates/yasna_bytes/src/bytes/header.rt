@@ -3,10 +3,11 @@ ghost use Rattle.std.specs.Prelude.{◌≡◌, IsTrue, ◌↔◌, MatchOption};
 ghost use Rattle.yasna_base.specs.Element.{TakesDefinite, TakesIndefinite};
 ghost use Rattle.yasna_bytes.specs.Refusal.{BlamesBytes};
 ghost use Rattle.yasna_base.specs.Header.{uncounted};
-ghost use Rattle.yasna_bytes.specs.Header.{ContentsAt, BehindAt, OpenedAt, ConstructedAt, PrimitiveAt, EndsBefore, NoEnd, ClosesAt, contents_end};
+ghost use Rattle.yasna_bytes.specs.Header.{ContentsAt, BehindAt, OpenedAt, ConstructedAt, PrimitiveAt, EndsBefore, NoEnd, ClosesAt};
 
 use crate::bytes::cursor::Cursor;
 use crate::bytes::length::{cut, read_length};
+use std::marker::Model;
 use yasna_base::bytes::identifier::read_identifier;
 use yasna_base::error::ASN1ErrorKind;
 use yasna_base::mode::BERMode;
@@ -21,6 +22,15 @@ pub struct Refusal {
     pub moved: bool,
 }
 
+/// Where the contents of an element end, by the form of its length (X.690, 8.1.3).
+#[derive(Clone, Copy)]
+pub enum ContentsEnd<'a> {
+    /// The length is counted, and these bytes follow the contents.
+    Definite(&'a [u8]),
+    /// The end-of-contents octets end them.
+    Indefinite,
+}
+
 /// An element whose header was read.
 #[derive(Drop)]
 pub struct Opened<'a> {
@@ -28,8 +38,16 @@ pub struct Opened<'a> {
     pub bit: PCBit,
     /// The contents, or where their length is indefinite all bytes that are left.
     pub within: &'a [u8],
-    /// What follows the contents, where their length is definite.
-    pub after: Option<&'a [u8]>,
+    /// Where the contents end.
+    pub end: ContentsEnd<'a>,
+}
+
+impl<'a> Model for Opened<'a> {
+    ghost use Rattle.yasna_bytes.specs.Opening.{Opening, opening};
+
+    ghost Value = { Opening };
+
+    ghost view = { λ o. opening o.bit o.within.now o.end };
 }
 
 /// The refusal of this kind.
@@ -124,35 +142,32 @@ pub fn open_behind<'a>(
         return Err(refuse(ASN1ErrorKind::StackOverflow, true));
     }
     match contents(rest, cursor.mode, bit, cursor.end) {
-        Ok((within, after)) => Ok(Opened { bit, within, after }),
+        Ok(opened) => Ok(opened),
         Err(kind) => Err(refuse(kind, true)),
     }
 }
 
 // Reads a length, and cuts off the contents that it counts.
 #[inline(always)]
-fn contents(
-    s: &[u8],
-    mode: BERMode,
-    bit: PCBit,
-    end: usize,
-) -> Result<(&[u8], Option<&[u8]>), ASN1ErrorKind>
+fn contents(s: &[u8], mode: BERMode, bit: PCBit, end: usize) -> Result<Opened<'_>, ASN1ErrorKind>
     ensures { ContentsAt mode bit s.now result }
 {
     match read_length(s, mode) {
         Ok((Some(size), rest)) => match cut(rest, size) {
             Some((within, after)) => {
                 if takes_definite(mode, bit) {
-                    Ok((within, Some(after)))
+                    let end = ContentsEnd::Definite(after);
+                    Ok(Opened { bit, within, end })
                 } else {
                     Err(ASN1ErrorKind::Invalid)
                 }
             }
             None => Err(length_fault(end, rest, size)),
         },
-        Ok((None, rest)) => {
+        Ok((None, within)) => {
             if takes_indefinite(mode, bit) {
-                Ok((rest, None))
+                let end = ContentsEnd::Indefinite;
+                Ok(Opened { bit, within, end })
             } else {
                 Err(ASN1ErrorKind::Invalid)
             }
@@ -182,10 +197,10 @@ pub fn primitive(cursor: Cursor<'_>, tag: Tag) -> Result<(&[u8], &[u8]), Refusal
 {
     match open(cursor, tag) {
         Ok(opened) => match opened.bit {
-            PCBit::Primitive => match opened.after {
-                Some(after) => Ok((opened.within, after)),
+            PCBit::Primitive => match opened.end {
+                ContentsEnd::Definite(after) => Ok((opened.within, after)),
                 // No mode takes the indefinite form there.
-                None => Err(refuse(ASN1ErrorKind::Invalid, true)),
+                ContentsEnd::Indefinite => Err(refuse(ASN1ErrorKind::Invalid, true)),
             },
             PCBit::Constructed => Err(refuse(ASN1ErrorKind::Invalid, true)),
         },
@@ -195,18 +210,18 @@ pub fn primitive(cursor: Cursor<'_>, tag: Tag) -> Result<(&[u8], &[u8]), Refusal
 
 /// What follows an element whose contents were read as far as `rest`, where they end there.
 #[inline(always)]
-pub fn close<'a>(after: Option<&'a [u8]>, rest: &'a [u8]) -> Result<&'a [u8], ASN1ErrorKind>
-    ensures { ClosesAt (contents_end after.entry) rest.now result }
+pub fn close<'a>(opened: &Opened<'a>, rest: &'a [u8]) -> Result<&'a [u8], ASN1ErrorKind>
+    ensures { ClosesAt opened.now.end rest.now result }
 {
-    match after {
-        Some(after) => {
+    match opened.end {
+        ContentsEnd::Definite(after) => {
             if rest.is_empty() {
                 Ok(after)
             } else {
                 Err(ASN1ErrorKind::Extra)
             }
         }
-        None => match end_of_contents(rest) {
+        ContentsEnd::Indefinite => match end_of_contents(rest) {
             Some(after) => Ok(after),
             None => Err(end_of_contents_fault(rest)),
         },

@@ -11,7 +11,7 @@ mod cuts;
 mod octets;
 
 use crate::bytes::cursor::Cursor;
-use crate::bytes::header::{Refusal, close, open, refuse};
+use crate::bytes::header::{ContentsEnd, Refusal, close, open, refuse};
 pub use bits::bit_string;
 use cuts::{Cuts, may_segment, segment_rules, stays_whole, takes_cuts};
 pub use octets::octet_string;
@@ -104,7 +104,7 @@ fn element<'a, T: Tally>(
     };
     match opened.bit {
         PCBit::Primitive => {
-            let Some(after) = opened.after else {
+            let ContentsEnd::Definite(after) = opened.end else {
                 // No mode takes the indefinite form there.
                 return Err(refuse(ASN1ErrorKind::Invalid, true));
             };
@@ -125,7 +125,7 @@ fn element<'a, T: Tally>(
             if !takes_cuts(cursor.mode, cuts) {
                 return Err(refuse(ASN1ErrorKind::Invalid, true));
             }
-            match close(opened.after, rest) {
+            match close(&opened, rest) {
                 Ok(after) => Ok((tally, after)),
                 Err(kind) => Err(refuse(kind, true)),
             }

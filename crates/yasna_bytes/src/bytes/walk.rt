@@ -4,13 +4,13 @@
 //! bytes behind each element that it is in, and takes no memory.
 ghost use Rattle.std.specs.Prelude.{IsTrue, ◌↔◌, ◌≡◌, ◌≤◌, ◌-◌, ◌++◌, length, take, drop, MatchOption, Err};
 ghost use Rattle.yasna_base.specs.Raw.{LooksInto, IsPayload};
-ghost use Rattle.yasna_bytes.specs.Header.{NoEnd, contents_end};
+ghost use Rattle.yasna_bytes.specs.Header.{NoEnd};
 ghost use Rattle.yasna_bytes.specs.Refusal.{BlamesBytes};
-ghost use Rattle.yasna_bytes.specs.Walk.{IsEndByte, AnyOpenedAt, EndsWithin, TurnsTo, TurnOf, TakesEnd, IsWalked, WalksTo, FollowsAt, following, IsRest, HasRest, RawElementAt};
+ghost use Rattle.yasna_bytes.specs.Walk.{IsEndByte, AnyOpenedAt, EndsWithin, TurnsTo, TurnOf, TakesEnd, IsWalked, WalksTo, FollowsAt, following, follows, IsRest, HasRest, RawElementAt};
 
 use crate::bytes::cursor::Cursor;
 use crate::bytes::header::{
-    Opened, Refusal, end_of_contents, end_of_contents_fault, open_behind, refuse,
+    ContentsEnd, Opened, Refusal, end_of_contents, end_of_contents_fault, open_behind, refuse,
 };
 use yasna_base::bytes::identifier::read_identifier;
 use yasna_base::error::ASN1ErrorKind;
@@ -87,12 +87,12 @@ fn open_any(cursor: Cursor<'_>) -> Result<(Tag, Opened<'_>), Refusal>
 
 // What is left of these bytes behind contents, where those end here.
 #[inline(always)]
-fn left_behind<'a>(end: Option<&[u8]>, rest: &'a [u8]) -> Option<&'a [u8]>
-    ensures { MatchOption result (NoEnd (contents_end end.entry) rest.now) (λ a. EndsWithin (contents_end end.entry) rest.now a.now) }
+fn left_behind<'a>(opened: &Opened<'_>, rest: &'a [u8]) -> Option<&'a [u8]>
+    ensures { MatchOption result (NoEnd opened.now.end rest.now) (λ a. EndsWithin opened.now.end rest.now a.now) }
 {
-    match end {
-        Some(_) => { if rest.is_empty() { Some(rest) } else { None } }
-        None => end_of_contents(rest),
+    match opened.end {
+        ContentsEnd::Definite(_) => { if rest.is_empty() { Some(rest) } else { None } }
+        ContentsEnd::Indefinite => end_of_contents(rest),
     }
 }
 
@@ -100,12 +100,12 @@ fn left_behind<'a>(end: Option<&[u8]>, rest: &'a [u8]) -> Option<&'a [u8]>
 // within contents whose length is counted that tag is invalid.
 #[cold]
 #[inline(never)]
-fn stray_end_fault(end: Option<&[u8]>, rest: &[u8]) -> ASN1ErrorKind
+fn stray_end_fault(opened: &Opened<'_>, rest: &[u8]) -> ASN1ErrorKind
     ensures { BlamesBytes result }
 {
-    match end {
-        Some(_) => ASN1ErrorKind::Invalid,
-        None => end_of_contents_fault(rest),
+    match opened.end {
+        ContentsEnd::Definite(_) => ASN1ErrorKind::Invalid,
+        ContentsEnd::Indefinite => end_of_contents_fault(rest),
     }
 }
 
@@ -114,9 +114,9 @@ fn stray_end_fault(end: Option<&[u8]>, rest: &[u8]) -> ASN1ErrorKind
 fn pass_or_enter<'a>(mode: BERMode, opened: Opened<'a>) -> Turn<'a>
     ensures { TurnsTo mode opened.entry result }
 {
-    match opened.after {
-        None => Turn::Entered(opened),
-        Some(after) => {
+    match opened.end {
+        ContentsEnd::Indefinite => Turn::Entered(opened),
+        ContentsEnd::Definite(after) => {
             if looks_into(mode, opened.bit) {
                 Turn::Entered(opened)
             } else {
@@ -126,10 +126,10 @@ fn pass_or_enter<'a>(mode: BERMode, opened: Opened<'a>) -> Turn<'a>
     }
 }
 
-// One step of a walk in an element that ends so.
+// One step of a walk in an element that ends as the outermost does.
 #[inline(always)]
-fn take_turn<'a>(cursor: Cursor<'a>, end: Option<&[u8]>) -> Result<Turn<'a>, ASN1ErrorKind>
-    ensures { TurnOf cursor.entry.mode cursor.entry.levels (contents_end end.entry) cursor.entry.left.now result }
+fn take_turn<'a>(cursor: Cursor<'a>, outermost: &Opened<'_>) -> Result<Turn<'a>, ASN1ErrorKind>
+    ensures { TurnOf cursor.entry.mode cursor.entry.levels outermost.now.end cursor.entry.left.now result }
 {
     match open_any(cursor) {
         Ok((_, opened)) => Ok(pass_or_enter(cursor.mode, opened)),
@@ -137,9 +137,9 @@ fn take_turn<'a>(cursor: Cursor<'a>, end: Option<&[u8]>) -> Result<Turn<'a>, ASN
             if refusal.moved {
                 return Err(refusal.kind);
             }
-            match left_behind(end, cursor.left) {
+            match left_behind(outermost, cursor.left) {
                 Some(after) => Ok(Turn::Left(after)),
-                None => Err(stray_end_fault(end, cursor.left)),
+                None => Err(stray_end_fault(outermost, cursor.left)),
             }
         }
     }
@@ -166,11 +166,22 @@ fn last(s: &[u8], count: usize) -> &[u8]
 // How many bytes follow an element within the contents around it, none where its length is indefinite.
 #[inline(always)]
 fn count_following(opened: &Opened<'_>) -> usize
-    ensures { result ≡ length (following (contents_end opened.now.after)) }
+    ensures { result ≡ length (following opened.now.end) }
 {
-    match opened.after {
-        Some(after) => after.len(),
-        None => 0,
+    match opened.end {
+        ContentsEnd::Definite(after) => after.len(),
+        ContentsEnd::Indefinite => 0,
+    }
+}
+
+// What follows an element whose contents end before these bytes of those that were given.
+#[inline(always)]
+fn followed_by<'a>(opened: &Opened<'a>, after: &'a [u8]) -> &'a [u8]
+    ensures { result.now ≡ follows opened.now.end after.now }
+{
+    match opened.end {
+        ContentsEnd::Definite(after) => after,
+        ContentsEnd::Indefinite => after,
     }
 }
 
@@ -183,13 +194,13 @@ fn stopped<'a>(kind: ASN1ErrorKind) -> Result<&'a [u8], ASN1ErrorKind>
     Err(kind)
 }
 
-// Walks over the elements that stand from here on in contents that end so, and answers what follows. A mode walks either
+// Walks over the elements that stand from here on in the contents of one, and answers what follows it. A mode walks either
 // contents whose length is counted or those whose length is indefinite, so contents within end in the same way.
 #[inline(always)]
-fn walk_contents<'a>(cursor: Cursor<'a>, end: Option<&'a [u8]>) -> Result<&'a [u8], ASN1ErrorKind>
+fn walk_contents<'a>(cursor: Cursor<'a>, outermost: &Opened<'a>) -> Result<&'a [u8], ASN1ErrorKind>
     requires shallow { cursor.levels ≤ 100 }
-    requires walked { IsWalked cursor.mode (contents_end end) }
-    ensures { WalksTo cursor.entry.mode cursor.entry.levels (contents_end end.entry) cursor.entry.left.now result }
+    requires walked { IsWalked cursor.mode outermost.now.end }
+    ensures { WalksTo cursor.entry.mode cursor.entry.levels outermost.now.end cursor.entry.left.now result }
 {
     // How many bytes of the outermost contents follow the innermost element; and those around it, each at the number of levels
     // that are left one element further in.
@@ -198,10 +209,10 @@ fn walk_contents<'a>(cursor: Cursor<'a>, end: Option<&'a [u8]>) -> Result<&'a [u
     let mut left = cursor.left;
     let mut levels = cursor.levels;
     loop {
-        match take_turn(cursor.within(left, behind, levels), end) {
+        match take_turn(cursor.within(left, behind, levels), outermost) {
             Ok(Turn::Left(after)) => {
                 if levels == cursor.levels {
-                    return Ok(end.unwrap_or(after));
+                    return Ok(followed_by(outermost, after));
                 }
                 let rest = last(cursor.left, behind + after.len());
                 behind = outer[usize::from(levels)];
@@ -222,15 +233,15 @@ fn walk_contents<'a>(cursor: Cursor<'a>, end: Option<&'a [u8]>) -> Result<&'a [u
 
 // The same, by a loop for each mode: that asks for none at each step.
 #[inline(never)]
-fn walk<'a>(cursor: Cursor<'a>, end: Option<&'a [u8]>) -> Result<&'a [u8], ASN1ErrorKind>
+fn walk<'a>(cursor: Cursor<'a>, outermost: &Opened<'a>) -> Result<&'a [u8], ASN1ErrorKind>
     requires shallow { cursor.levels ≤ 100 }
-    requires walked { IsWalked cursor.mode (contents_end end) }
-    ensures { WalksTo cursor.entry.mode cursor.entry.levels (contents_end end.entry) cursor.entry.left.now result }
+    requires walked { IsWalked cursor.mode outermost.now.end }
+    ensures { WalksTo cursor.entry.mode cursor.entry.levels outermost.now.end cursor.entry.left.now result }
 {
     match cursor.mode {
-        BERMode::Ber => walk_contents(cursor.ruled_by(BERMode::Ber), end),
-        BERMode::Der => walk_contents(cursor.ruled_by(BERMode::Der), end),
-        BERMode::Cer => walk_contents(cursor.ruled_by(BERMode::Cer), end),
+        BERMode::Ber => walk_contents(cursor.ruled_by(BERMode::Ber), outermost),
+        BERMode::Der => walk_contents(cursor.ruled_by(BERMode::Der), outermost),
+        BERMode::Cer => walk_contents(cursor.ruled_by(BERMode::Cer), outermost),
     }
 }
 
@@ -238,15 +249,15 @@ fn walk<'a>(cursor: Cursor<'a>, end: Option<&'a [u8]>) -> Result<&'a [u8], ASN1E
 #[inline(always)]
 fn follow<'a>(cursor: Cursor<'a>, opened: &Opened<'a>) -> Result<&'a [u8], ASN1ErrorKind>
     requires level { 1 ≤ cursor.levels }
-    requires taken { TakesEnd cursor.mode opened.now.bit (contents_end opened.now.after) }
-    ensures { FollowsAt cursor.entry.mode (cursor.entry.levels - 1) opened.now.bit opened.now.within.now (contents_end opened.now.after) result }
+    requires taken { TakesEnd cursor.mode opened.now.bit opened.now.end }
+    ensures { FollowsAt cursor.entry.mode (cursor.entry.levels - 1) opened.now.bit opened.now.within opened.now.end result }
 {
-    if let Some(after) = opened.after {
+    if let ContentsEnd::Definite(after) = opened.end {
         if !looks_into(cursor.mode, opened.bit) {
             return Ok(after);
         }
     }
-    walk(cursor.inside(opened), opened.after)
+    walk(cursor.inside(opened), opened)
 }
 
 /// The bytes in front of the last ones.
@@ -261,12 +272,12 @@ pub fn in_front<'a>(s: &'a [u8], rest: &[u8]) -> &'a [u8]
 // What follows the length of an element that ends before `rest`.
 #[inline(always)]
 fn payload<'a>(opened: &Opened<'a>, rest: &[u8]) -> &'a [u8]
-    requires { HasRest (contents_end opened.now.after) opened.now.within.now rest.now }
-    ensures { IsPayload opened.now.within.now (contents_end opened.now.after) rest.now result.now }
+    requires { HasRest opened.now.end opened.now.within rest.now }
+    ensures { IsPayload opened.now.within opened.now.end rest.now result.now }
 {
-    match opened.after {
-        Some(_) => opened.within,
-        None => in_front(opened.within, rest),
+    match opened.end {
+        ContentsEnd::Definite(_) => opened.within,
+        ContentsEnd::Indefinite => in_front(opened.within, rest),
     }
 }
 

@@ -1,14 +1,14 @@
 use Rattle.std.proofs.Common.{refl}
-use Rattle.yasna_bytes.specs.Header.{OnlyConstructed, contents_end}
-use Rattle.yasna_bytes.proofs.Header.{other_bit, any_refuses}
+use Rattle.yasna_bytes.specs.Header.{OnlyConstructed}
+use Rattle.yasna_bytes.proofs.Header.{seen_bit, other_bit, any_refuses}
 use Rattle.yasna_bytes.proofs.bytes.header.constructed.Goals as goal
 
 pub returns-in-Primitive : goal.returns-in-Primitive
 returns-in-Primitive c =
     let w = c.in-Ok.ensures {u = tt} in
     let p = c.args.cursor in
-    rw c.refuse.ensures (other_bit p.mode p.levels c.args.tag c.in-Ok.opened.bit p.left.now c.in-Ok.opened.within.now (contents_end c.in-Ok.opened.after) _ w.1
-    c.in-Primitive.is w.0 tt refl)
+    rw c.refuse.ensures (other_bit p.mode p.levels c.args.tag c.in-Ok.opened.bit p.left.now c.in-Ok.opened.within c.in-Ok.opened.end _ w.1
+    (seen_bit c.opened.view_is c.in-Primitive.is) w.0 tt refl)
 
 pub returns-in-Err : goal.returns-in-Err
 returns-in-Err c = let p = c.args.cursor in any_refuses OnlyConstructed p.mode p.levels c.args.tag p.left.now c.in-Err.refusal (c.in-Err.ensures {u = tt})

@@ -13,7 +13,11 @@ returns-then-takes_definite c =
     let h : Holds c.args.mode c.args.bit c.args.s.now c.in-Some.within.now (counted c.in-Some.after.now) =
     holds_counted c.args.mode c.args.bit c.args.s.now c.in-Ok-Some-default.rest.now c.in-Some.within.now c.in-Some.after.now c.in-Ok-Some-default.size w x.1
     x.0 ((c.if-takes_definite.ensures {u = tt}).0 refl) in
-    (holds_bytes c.args.mode c.args.bit c.args.s.now c.in-Some.within.now (counted c.in-Some.after.now) (slice_bytes c.args.s.now c.type_inv.s) h, h)
+    record {
+      bit = refl;
+      in_bytes = holds_bytes c.args.mode c.args.bit c.args.s.now c.in-Some.within.now (counted c.in-Some.after.now) (slice_bytes c.args.s.now c.type_inv.s) h;
+      holds = h;
+    }
 
 pub returns-else-takes_definite : goal.returns-else-takes_definite
 returns-else-takes_definite c =
@@ -25,9 +29,13 @@ returns-else-takes_definite c =
 
 pub returns-then-takes_indefinite : goal.returns-then-takes_indefinite
 returns-then-takes_indefinite c =
-    let w : c.args.s.now ≡ 128 ∷ c.in-Ok-None-default.rest.now = search rules in
-    let h : Holds c.args.mode c.args.bit c.args.s.now c.in-Ok-None-default.rest.now uncounted = ((c.if-takes_indefinite.ensures {u = tt}).0 refl, w) in
-    (holds_bytes c.args.mode c.args.bit c.args.s.now c.in-Ok-None-default.rest.now uncounted (slice_bytes c.args.s.now c.type_inv.s) h, h)
+    let w : c.args.s.now ≡ 128 ∷ c.in-Ok-None-default.within.now = search rules in
+    let h : Holds c.args.mode c.args.bit c.args.s.now c.in-Ok-None-default.within.now uncounted = ((c.if-takes_indefinite.ensures {u = tt}).0 refl, w) in
+    record {
+      bit = refl;
+      in_bytes = holds_bytes c.args.mode c.args.bit c.args.s.now c.in-Ok-None-default.within.now uncounted (slice_bytes c.args.s.now c.type_inv.s) h;
+      holds = h;
+    }
 
 pub returns-in-None : goal.returns-in-None
 returns-in-None c =
@@ -36,8 +44,8 @@ returns-in-None c =
 
 pub returns-else-takes_indefinite : goal.returns-else-takes_indefinite
 returns-else-takes_indefinite c =
-    let w : c.args.s.now ≡ 128 ∷ c.in-Ok-None-default.rest.now = search rules in
-    (tt, holds_closed c.args.mode c.args.bit c.args.s.now c.in-Ok-None-default.rest.now w (λ h. let z = (c.if-takes_indefinite.ensures {u = tt}).1 h in cc))
+    let w : c.args.s.now ≡ 128 ∷ c.in-Ok-None-default.within.now = search rules in
+    (tt, holds_closed c.args.mode c.args.bit c.args.s.now c.in-Ok-None-default.within.now w (λ h. let z = (c.if-takes_indefinite.ensures {u = tt}).1 h in cc))
 
 pub returns-in-Err : goal.returns-in-Err
 returns-in-Err c = let w = c.in-Err.ensures {u = tt} in (w.0, holds_none c.args.mode c.args.bit c.args.s.now w.1)

@@ -1,11 +1,13 @@
 use Rattle.std.proofs.Common.{rules, ◌-◌, ◌<◌, ◌∙◌, length, refl, sym, ap, ap₂, subst}
 use Rattle.yasna_base.specs.declared.tag.PCBit.TheVariants.{Constructed}
 use Rattle.yasna_base.specs.Segmented.{segment_mode}
+use Rattle.yasna_base.specs.Element.{IsPrimitive}
 use Rattle.yasna_base.specs.Header.{OpensAt, counted}
-use Rattle.yasna_bytes.specs.Header.{contents_end}
+use Rattle.yasna_bytes.specs.Front.{Takes}
+use Rattle.yasna_bytes.specs.Header.{AreContents}
 use Rattle.yasna_bytes.specs.Segments.{further_cut, RefusesSegments, TakesString, RefusesString}
 use Rattle.yasna_bytes.proofs.Segmented.{header_refused, whole_taken, whole_refused, uncut_refused, segments_refused, cuts_refused, unclosed_refused, closed_taken, taken_inside, as_well, refused_moved}
-use Rattle.yasna_bytes.proofs.Header.{takes_primitive}
+use Rattle.yasna_bytes.proofs.Header.{seen_bit, seen_within, takes_primitive}
 use Rattle.yasna_bytes.proofs.Segments.{Reached, reached_none, reached_more, reached_shorter, stops_elsewhere, stops_full, segment_refused, segment_too_much}
 use Rattle.yasna_bytes.proofs.bytes.segments.+string.Goals as goal
 
@@ -18,12 +20,13 @@ pub element-returns-in-Ok-whole : goal.element-returns-in-Ok-whole
 element-returns-in-Ok-whole g t c =
     let p = c.args.cursor in
     let w = c.in-Ok.ensures {u = tt} in
-    let o : OpensAt p.mode c.args.tag c.in-Ok.opened.bit p.left.now c.in-Ok.opened.within.now (counted c.in-Some.after.now) = search rules in
-    let x = takes_primitive p.mode p.levels c.args.tag c.in-Ok.opened.bit p.left.now c.in-Ok.opened.within.now c.in-Some.after.now w.0 c.in-Primitive.is o in
+    let o : OpensAt p.mode c.args.tag c.in-Ok.opened.bit p.left.now c.in-Ok.opened.within (counted c.in-Definite.after.now) = search rules in
+    let x = subst (λ z. Takes (IsPrimitive AreContents p.levels p.mode c.args.tag) p.left.now z c.in-Definite.after.now)
+    (sym (seen_within c.opened.view_is)) (takes_primitive p.mode p.levels c.args.tag c.in-Ok.opened.bit p.left.now c.in-Ok.opened.within c.in-Definite.after.now w.0 (seen_bit c.opened.view_is c.in-Primitive.is) o) in
     let y = c.in-Ok-whole.ensures {u = tt} in
     record {
       bytes = y.0;
-      takes = whole_taken g.T.Tally.segmentation p.levels p.mode c.args.tag p.left.now c.in-Ok.opened.within.now c.in-Some.after.now
+      takes = whole_taken g.T.Tally.segmentation p.levels p.mode c.args.tag p.left.now c.opened.inside.within.now c.in-Definite.after.now
           (g.T.Tally.value y.0 c.in-Ok-whole.tally) x y.1 y.2;
       added = y.3;
     }
@@ -32,74 +35,75 @@ pub element-returns-in-Err-whole : goal.element-returns-in-Err-whole
 element-returns-in-Err-whole g t c =
     let p = c.args.cursor in
     let w = c.in-Ok.ensures {u = tt} in
-    let o : OpensAt p.mode c.args.tag c.in-Ok.opened.bit p.left.now c.in-Ok.opened.within.now (counted c.in-Some.after.now) = search rules in
-    let x = takes_primitive p.mode p.levels c.args.tag c.in-Ok.opened.bit p.left.now c.in-Ok.opened.within.now c.in-Some.after.now w.0 c.in-Primitive.is o in
+    let o : OpensAt p.mode c.args.tag c.in-Ok.opened.bit p.left.now c.in-Ok.opened.within (counted c.in-Definite.after.now) = search rules in
+    let x = subst (λ z. Takes (IsPrimitive AreContents p.levels p.mode c.args.tag) p.left.now z c.in-Definite.after.now)
+    (sym (seen_within c.opened.view_is)) (takes_primitive p.mode p.levels c.args.tag c.in-Ok.opened.bit p.left.now c.in-Ok.opened.within c.in-Definite.after.now w.0 (seen_bit c.opened.view_is c.in-Primitive.is) o) in
     rw c.refuse-in-Err-whole.ensures (refused_moved
-    (whole_refused g.T.Tally.segmentation p.levels p.mode c.args.tag p.left.now c.in-Ok.opened.within.now c.in-Some.after.now _ x
+    (whole_refused g.T.Tally.segmentation p.levels p.mode c.args.tag p.left.now c.opened.inside.within.now c.in-Definite.after.now _ x
     (c.in-Err-whole.ensures {u = tt}) refl) refl)
 
 pub element-returns-then-not-may_segment : goal.element-returns-then-not-may_segment
 element-returns-then-not-may_segment g t c =
     let p = c.args.cursor in
     let w = c.in-Ok.ensures {u = tt} in
-    let o : OpensAt p.mode c.args.tag Constructed p.left.now c.in-Ok.opened.within.now (contents_end c.in-Ok.opened.after) = search rules in
+    let o : OpensAt p.mode c.args.tag Constructed p.left.now c.in-Ok.opened.within c.in-Ok.opened.end = search rules in
     rw c.refuse-then-not-may_segment.ensures (refused_moved
-    (uncut_refused g.T.Tally.segmentation p.levels (p.levels - 1) w.0 refl p.mode c.args.tag p.left.now c.in-Ok.opened.within.now
-    (contents_end c.in-Ok.opened.after) o _ refl (λ h. let z = (c.if-not-may_segment.ensures {u = tt}).1 h in cc) tt) refl)
+    (uncut_refused g.T.Tally.segmentation p.levels (p.levels - 1) w.0 refl p.mode c.args.tag p.left.now c.in-Ok.opened.within
+    c.in-Ok.opened.end o _ refl (λ h. let z = (c.if-not-may_segment.ensures {u = tt}).1 h in cc) tt) refl)
 
 pub element-returns-in-Err-segments : goal.element-returns-in-Err-segments
 element-returns-in-Err-segments g t c =
     let p = c.args.cursor in
     let w = c.in-Ok.ensures {u = tt} in
-    let o : OpensAt p.mode c.args.tag Constructed p.left.now c.in-Ok.opened.within.now (contents_end c.in-Ok.opened.after) = search rules in
+    let o : OpensAt p.mode c.args.tag Constructed p.left.now c.in-Ok.opened.within c.in-Ok.opened.end = search rules in
     let i = c.inside.ensures in
     let q = c.ruled_by-contents.ensures in
-    let x = as_well {x = c.inside.result.levels} {y = segment_mode p.mode} {z = c.in-Ok.opened.within.now}
+    let x = as_well {x = c.inside.result.levels} {y = segment_mode p.mode} {z = c.in-Ok.opened.within}
     (λ n m s. RefusesSegments g.T.Tally.segmentation n m s c.in-Err-segments.refusal) (q.levels) (q.mode ∙ c.segment_rules.ensures)
     (q.left ∙ i.left) (c.in-Err-segments.ensures {u = tt}) in
-    refused_moved (segments_refused g.T.Tally.segmentation p.levels c.inside.result.levels w.0 i.levels p.mode c.args.tag p.left.now c.in-Ok.opened.within.now
-    (contents_end c.in-Ok.opened.after) o _ x.moved ((c.if-not-may_segment.ensures {u = tt}).0 refl) x) x.moved
+    refused_moved (segments_refused g.T.Tally.segmentation p.levels c.inside.result.levels w.0 i.levels p.mode c.args.tag p.left.now c.in-Ok.opened.within
+    c.in-Ok.opened.end o _ x.moved ((c.if-not-may_segment.ensures {u = tt}).0 refl) x) x.moved
 
 pub element-returns-then-not-takes_cuts : goal.element-returns-then-not-takes_cuts
 element-returns-then-not-takes_cuts g t c =
     let p = c.args.cursor in
     let w = c.in-Ok.ensures {u = tt} in
-    let o : OpensAt p.mode c.args.tag Constructed p.left.now c.in-Ok.opened.within.now (contents_end c.in-Ok.opened.after) = search rules in
+    let o : OpensAt p.mode c.args.tag Constructed p.left.now c.in-Ok.opened.within c.in-Ok.opened.end = search rules in
     let i = c.inside.ensures in
     let q = c.ruled_by-contents.ensures in
-    let x = taken_inside {n = c.inside.result.levels} {c = c.in-Ok.opened.within.now} p.mode q.levels (q.mode ∙ c.segment_rules.ensures)
+    let x = taken_inside {n = c.inside.result.levels} {c = c.in-Ok.opened.within} p.mode q.levels (q.mode ∙ c.segment_rules.ensures)
     (q.left ∙ i.left) (c.in-Ok-segments.ensures {u = tt}) in
     rw c.refuse-then-not-takes_cuts.ensures (refused_moved
-    (cuts_refused g.T.Tally.segmentation p.levels c.inside.result.levels w.0 i.levels p.mode c.args.tag p.left.now c.in-Ok.opened.within.now
-    (contents_end c.in-Ok.opened.after) o _ refl x.holds tt (λ h. let z = (c.if-not-takes_cuts.ensures {u = tt}).1 h in cc)) refl)
+    (cuts_refused g.T.Tally.segmentation p.levels c.inside.result.levels w.0 i.levels p.mode c.args.tag p.left.now c.in-Ok.opened.within
+    c.in-Ok.opened.end o _ refl x.holds tt (λ h. let z = (c.if-not-takes_cuts.ensures {u = tt}).1 h in cc)) refl)
 
 pub element-returns-in-Ok-close : goal.element-returns-in-Ok-close
 element-returns-in-Ok-close g t c =
     let p = c.args.cursor in
     let w = c.in-Ok.ensures {u = tt} in
-    let o : OpensAt p.mode c.args.tag Constructed p.left.now c.in-Ok.opened.within.now (contents_end c.in-Ok.opened.after) = search rules in
+    let o : OpensAt p.mode c.args.tag Constructed p.left.now c.in-Ok.opened.within c.in-Ok.opened.end = search rules in
     let i = c.inside.ensures in
     let q = c.ruled_by-contents.ensures in
     let r = c.in-Ok-segments.taken in
-    let x = taken_inside {n = c.inside.result.levels} {c = c.in-Ok.opened.within.now} p.mode q.levels (q.mode ∙ c.segment_rules.ensures)
+    let x = taken_inside {n = c.inside.result.levels} {c = c.in-Ok.opened.within} p.mode q.levels (q.mode ∙ c.segment_rules.ensures)
     (q.left ∙ i.left) (c.in-Ok-segments.ensures {u = tt}) in
-    closed_taken g.T.Tally.segmentation g.T.Tally.value p.levels c.inside.result.levels w.0 i.levels p.mode c.args.tag p.left.now c.in-Ok.opened.within.now
-    (contents_end c.in-Ok.opened.after) o ((c.if-not-may_segment.ensures {u = tt}).0 refl) r.0.0 r.0.1 r.1.now c.in-Ok-close.after.now
+    closed_taken g.T.Tally.segmentation g.T.Tally.value p.levels c.inside.result.levels w.0 i.levels p.mode c.args.tag p.left.now c.in-Ok.opened.within
+    c.in-Ok.opened.end o ((c.if-not-may_segment.ensures {u = tt}).0 refl) r.0.0 r.0.1 r.1.now c.in-Ok-close.after.now
     c.args.out.now.items c.segments.new.out.items x ((c.if-not-takes_cuts.ensures {u = tt}).0 refl) (c.in-Ok-close.ensures {u = tt})
 
 pub element-returns-in-Err-close : goal.element-returns-in-Err-close
 element-returns-in-Err-close g t c =
     let p = c.args.cursor in
     let w = c.in-Ok.ensures {u = tt} in
-    let o : OpensAt p.mode c.args.tag Constructed p.left.now c.in-Ok.opened.within.now (contents_end c.in-Ok.opened.after) = search rules in
+    let o : OpensAt p.mode c.args.tag Constructed p.left.now c.in-Ok.opened.within c.in-Ok.opened.end = search rules in
     let i = c.inside.ensures in
     let q = c.ruled_by-contents.ensures in
-    let x = taken_inside {n = c.inside.result.levels} {c = c.in-Ok.opened.within.now} p.mode q.levels (q.mode ∙ c.segment_rules.ensures)
+    let x = taken_inside {n = c.inside.result.levels} {c = c.in-Ok.opened.within} p.mode q.levels (q.mode ∙ c.segment_rules.ensures)
     (q.left ∙ i.left) (c.in-Ok-segments.ensures {u = tt}) in
     let y = c.in-Err-close.ensures {u = tt} in
     rw c.refuse-in-Err-close.ensures (refused_moved
-    (unclosed_refused g.T.Tally.segmentation p.levels c.inside.result.levels w.0 i.levels p.mode c.args.tag p.left.now c.in-Ok.opened.within.now
-    (contents_end c.in-Ok.opened.after) o _ refl x.holds y.0 y.1) refl)
+    (unclosed_refused g.T.Tally.segmentation p.levels c.inside.result.levels w.0 i.levels p.mode c.args.tag p.left.now c.in-Ok.opened.within
+    c.in-Ok.opened.end o _ refl x.holds y.0 y.1) refl)
 
 pub segments-loop-out-init : goal.segments-loop-out-init
 segments-loop-out-init g t c = record {

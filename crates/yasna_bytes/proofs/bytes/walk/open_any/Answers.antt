@@ -22,9 +22,9 @@ returns-in-Ok-open_behind c =
     let e : s ≡ identifier found.0 found.1 ++ found.2.now = search rules in
     let h = c.in-Ok-open_behind.ensures {u = tt} in
     record {
-      level = h.level;
+      level = h.0;
       not_end = first_not_end s found.2.now found.0 found.1 (λ f. let z = (c.if-is_end.ensures {u = tt}).1 f in cc) e;
-      opens = held_opens c.args.cursor.mode c.args.cursor.levels found.0 found.1 s found.2.now c.in-Ok-open_behind.opened (search rules) e h;
+      opens = held_opens c.args.cursor.mode found.0 found.1 s found.2.now c.in-Ok-open_behind.opened (search rules) e h.1;
     }
 
 pub returns-in-Err-open_behind : goal.returns-in-Err-open_behind

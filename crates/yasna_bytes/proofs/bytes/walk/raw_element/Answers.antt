@@ -1,7 +1,7 @@
-use Rattle.std.proofs.Common.{◌-◌, refl}
+use Rattle.std.proofs.Common.{◌-◌, refl, subst}
 use Rattle.yasna_base.specs.Raw.{IsRaw}
-use Rattle.yasna_bytes.specs.Header.{contents_end}
 use Rattle.yasna_bytes.proofs.RawElement.{not_opened, not_followed, to_rest, followed_rest, followed}
+use Rattle.yasna_bytes.proofs.Header.{seen_bit}
 use Rattle.yasna_bytes.proofs.WalkEnds.{opens_taken}
 use Rattle.yasna_bytes.proofs.bytes.walk.raw_element.Goals as goal
 
@@ -9,19 +9,19 @@ pub follow-requires-clause-taken : goal.follow-requires-clause-taken
 follow-requires-clause-taken c =
     let o = c.in-Ok.opened in
     let x = c.in-Ok.ensures {u = tt} in
-    opens_taken c.args.cursor.mode c.in-Ok.tag o.bit c.args.cursor.left.now o.within.now (contents_end o.after) x.opens
+    opens_taken c.args.cursor.mode c.in-Ok.tag o.bit c.args.cursor.left.now o.within o.end x.opens
 
 pub payload-requires : goal.payload-requires
 payload-requires c =
     let p = c.args.cursor in
     let o = c.in-Ok.opened in
-    to_rest (IsRaw (p.levels - 1) p.mode) p.mode o.bit o.within.now (contents_end o.after) c.in-Ok-follow.rest.now (c.in-Ok-follow.ensures {u = tt})
+    to_rest (IsRaw (p.levels - 1) p.mode) p.mode o.bit o.within o.end c.in-Ok-follow.rest.now (c.in-Ok-follow.ensures {u = tt})
 
 pub in_front-requires : goal.in_front-requires
 in_front-requires c =
     let p = c.args.cursor in
     let o = c.in-Ok.opened in
-    followed_rest p.mode p.levels c.in-Ok.tag o.bit p.left.now o.within.now (contents_end o.after) c.in-Ok-follow.rest.now (c.in-Ok.ensures {u = tt})
+    followed_rest p.mode p.levels c.in-Ok.tag o.bit p.left.now o.within o.end c.in-Ok-follow.rest.now (c.in-Ok.ensures {u = tt})
     (c.in-Ok-follow.ensures {u = tt})
 
 pub returns-in-Ok-follow : goal.returns-in-Ok-follow
@@ -29,8 +29,9 @@ returns-in-Ok-follow c =
     let p = c.args.cursor in
     let o = c.in-Ok.opened in
     record {
-      raw = followed p.mode p.levels c.in-Ok.tag o.bit p.left.now o.within.now (contents_end o.after) c.in-Ok-follow.rest.now c.payload.result.now
-          c.in_front.result.now (c.in-Ok.ensures {u = tt}) (c.in-Ok-follow.ensures {u = tt}) c.payload.ensures c.in_front.ensures;
+      raw = subst (λ q. IsRaw p.levels p.mode (record { tag = c.in-Ok.tag; bit = q; payload = c.payload.result.now }) c.in_front.result.now)
+          (seen_bit c.opened.view_is refl) (followed p.mode p.levels c.in-Ok.tag o.bit p.left.now o.within o.end c.in-Ok-follow.rest.now c.payload.result.now
+          c.in_front.result.now (c.in-Ok.ensures {u = tt}) (c.in-Ok-follow.ensures {u = tt}) c.payload.ensures c.in_front.ensures);
       joined = c.in_front.ensures;
     }
 
@@ -40,7 +41,7 @@ returns-in-Err-follow c =
     let o = c.in-Ok.opened in
     let w = c.in-Err-follow.ensures {u = tt} in
     rw c.refuse.ensures
-    (not_followed p.mode p.levels c.in-Ok.tag o.bit p.left.now o.within.now (contents_end o.after) _ (c.in-Ok.ensures {u = tt}) w.0 w.1 refl)
+    (not_followed p.mode p.levels c.in-Ok.tag o.bit p.left.now o.within o.end _ (c.in-Ok.ensures {u = tt}) w.0 w.1 refl)
 
 pub returns-in-Err : goal.returns-in-Err
 returns-in-Err c = not_opened c.args.cursor.mode c.args.cursor.levels c.args.cursor.left.now c.in-Err.refusal (c.in-Err.ensures {u = tt})

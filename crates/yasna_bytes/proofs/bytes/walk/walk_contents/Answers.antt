@@ -1,27 +1,28 @@
 use Rattle.std.proofs.Common.{rules, ◌∙◌, ◌-◌, take, sym, ap, set, get_or, length-set, arith, refl, subst, ◌≡◌, ◌+◌, ◌≤◌, length}
-use Rattle.yasna_bytes.specs.Header.{EndsBefore, contents_end}
+use Rattle.yasna_bytes.specs.Header.{EndsBefore}
 use Rattle.yasna_bytes.specs.Walk.{Passes, Enters, EndsWithin, Stops}
+use Rattle.yasna_bytes.proofs.Header.{seen_within}
 use Rattle.yasna_bytes.proofs.WalkEnds.{Walking, walking_start, left_fits, left_counts, passed_fits, entered_fits, ends_outermost, left_walked, left_keeps, passed_keeps, entered_keeps, not_walked}
 use Rattle.yasna_bytes.proofs.bytes.walk.walk_contents.Goals as goal
 
 pub loop-after-init : goal.loop-after-init
-loop-after-init c = (refl, walking_start c.args.cursor.mode (contents_end c.args.end) c.args.cursor.levels c.args.cursor.left.now _)
+loop-after-init c = (refl, walking_start c.args.cursor.mode c.args.outermost.now.end c.args.cursor.levels c.args.cursor.left.now _)
 
 pub returns-then-levels-cursor : goal.returns-then-levels-cursor
 returns-then-levels-cursor c =
     let w = c.loop-after.invariant.1 in
     let b = c.within.ensures in
-    let x : EndsWithin (contents_end c.args.end) c.within.result.left.now c.in-Ok-Left.after.now = search rules in
-    let y : EndsBefore (contents_end c.args.end) c.within.result.left.now c.unwrap_or.result.now =
-    subst (λ a. EndsBefore (contents_end c.args.end) c.within.result.left.now a.now) (sym c.unwrap_or.ensures)
-    (ends_outermost c.args.end c.within.result.left.now c.in-Ok-Left.after x) in
-    left_walked w b.mode b.levels b.left c.unwrap_or.result.now c.if-levels-cursor.true y
+    let x : EndsWithin c.args.outermost.now.end c.within.result.left.now c.in-Ok-Left.after.now = search rules in
+    let y : EndsBefore c.args.outermost.now.end c.within.result.left.now c.followed_by.result.now =
+    subst (λ a. EndsBefore c.args.outermost.now.end c.within.result.left.now a) (sym c.followed_by.ensures)
+    (ends_outermost c.args.outermost.now.end c.within.result.left.now c.in-Ok-Left.after.now x) in
+    left_walked w b.mode b.levels b.left c.followed_by.result.now c.if-levels-cursor.true y
 
 pub all_but-left-requires : goal.all_but-left-requires
 all_but-left-requires c =
     let w = c.loop-after.invariant.1 in
     let b = c.within.ensures in
-    let x : EndsWithin (contents_end c.args.end) c.within.result.left.now c.in-Ok-Left.after.now = search rules in
+    let x : EndsWithin c.args.outermost.now.end c.within.result.left.now c.in-Ok-Left.after.now = search rules in
     let z = left_keeps w b.mode b.levels b.left c.in-Ok-Left.after.now c.last-rest.result.now _ c.if-levels-cursor.false x c.last-rest.ensures refl in
     subst (λ i. get_or c.loop-after.outer i 0 ≤ length c.last-rest.result.now) (sym c.from.ensures) z.0
 
@@ -29,7 +30,7 @@ pub loop-after-smaller-in-Ok-Left : goal.loop-after-smaller-in-Ok-Left
 loop-after-smaller-in-Ok-Left c =
     let w = c.loop-after.invariant.1 in
     let b = c.within.ensures in
-    let x : EndsWithin (contents_end c.args.end) c.within.result.left.now c.in-Ok-Left.after.now = search rules in
+    let x : EndsWithin c.args.outermost.now.end c.within.result.left.now c.in-Ok-Left.after.now = search rules in
     let l = left_fits w b.mode b.levels b.left c.in-Ok-Left.after.now x in
     let f = subst (λ i. c.all_but-left.result.now ≡ take (length c.last-rest.result.now - get_or c.loop-after.outer i 0) c.last-rest.result.now) c.from.ensures
     c.all_but-left.ensures in
@@ -41,13 +42,13 @@ pub loop-after-preserved-in-Ok-Left : goal.loop-after-preserved-in-Ok-Left
 loop-after-preserved-in-Ok-Left c =
     let i = c.loop-after.invariant in
     let b = c.within.ensures in
-    let x : EndsWithin (contents_end c.args.end) c.within.result.left.now c.in-Ok-Left.after.now = search rules in
+    let x : EndsWithin c.args.outermost.now.end c.within.result.left.now c.in-Ok-Left.after.now = search rules in
     let f = subst (λ i. c.all_but-left.result.now ≡ take (length c.last-rest.result.now - get_or c.loop-after.outer i 0) c.last-rest.result.now) c.from.ensures
     c.all_but-left.ensures in
     let z = left_keeps i.1 b.mode b.levels b.left c.in-Ok-Left.after.now c.last-rest.result.now c.all_but-left.result.now c.if-levels-cursor.false x
     c.last-rest.ensures f in (
       i.0,
-      subst (λ i. Walking c.args.cursor.mode (contents_end c.args.end) c.args.cursor.levels c.args.cursor.left.now c.loop-after.outer
+      subst (λ i. Walking c.args.cursor.mode c.args.outermost.now.end c.args.cursor.levels c.args.cursor.left.now c.loop-after.outer
           (get_or c.loop-after.outer i 0) (c.loop-after.levels + 1) c.all_but-left.result.now) (sym c.from.ensures) z.1,
     )
 
@@ -69,33 +70,36 @@ pub loop-after-smaller : goal.loop-after-smaller
 loop-after-smaller c =
     let w = c.loop-after.invariant.1 in
     let b = c.within.ensures in
-    let x : Enters c.within.result.mode c.within.result.levels c.within.result.left.now c.in-Ok-Entered.opened.within.now
-    (contents_end c.in-Ok-Entered.opened.after) = search rules in
-    let f = contents_end c.in-Ok-Entered.opened.after in
+    let x : Enters c.within.result.mode c.within.result.levels c.within.result.left.now c.in-Ok-Entered.opened.within
+    c.in-Ok-Entered.opened.end = search rules in
+    let f = c.in-Ok-Entered.opened.end in
     let g = c.count_following-behind.ensures in
-    let l = entered_fits w b.mode b.levels b.left c.in-Ok-Entered.opened.within.now f x in
-    omega (arith, l, g, w.deep, b.levels, x.opened.level)
+    let l = entered_fits w b.mode b.levels b.left c.in-Ok-Entered.opened.within f x in
+    omega (arith, l, g, w.deep, b.levels, x.opened.level, ap length (seen_within c.opened.view_is))
 
 pub loop-after-preserved : goal.loop-after-preserved
 loop-after-preserved c =
     let i = c.loop-after.invariant in
     let b = c.within.ensures in
-    let x : Enters c.within.result.mode c.within.result.levels c.within.result.left.now c.in-Ok-Entered.opened.within.now
-    (contents_end c.in-Ok-Entered.opened.after) = search rules in
-    let f = contents_end c.in-Ok-Entered.opened.after in
+    let x : Enters c.within.result.mode c.within.result.levels c.within.result.left.now c.in-Ok-Entered.opened.within
+    c.in-Ok-Entered.opened.end = search rules in
+    let f = c.in-Ok-Entered.opened.end in
     let g = c.count_following-behind.ensures in
-    let z = entered_keeps i.1 b.mode b.levels b.left c.in-Ok-Entered.opened.within.now f c.requires.walked (omega (arith, i.0, c.requires.shallow)) x in (
+    let z = entered_keeps i.1 b.mode b.levels b.left c.in-Ok-Entered.opened.within f c.requires.walked (omega (arith, i.0, c.requires.shallow)) x in (
       length-set c.loop-after.outer c.from-in-Ok-Entered.result c.loop-after.behind ∙ i.0,
-      subst (λ j. Walking c.args.cursor.mode (contents_end c.args.end) c.args.cursor.levels c.args.cursor.left.now
+      subst (λ r. Walking c.args.cursor.mode c.args.outermost.now.end c.args.cursor.levels c.args.cursor.left.now
+          (set c.loop-after.outer c.from-in-Ok-Entered.result c.loop-after.behind) (c.loop-after.behind + c.count_following-behind.result)
+          (c.loop-after.levels - 1) r) (sym (seen_within c.opened.view_is))
+          (subst (λ j. Walking c.args.cursor.mode c.args.outermost.now.end c.args.cursor.levels c.args.cursor.left.now
           (set c.loop-after.outer j c.loop-after.behind) (c.loop-after.behind + c.count_following-behind.result) (c.loop-after.levels - 1)
-          c.in-Ok-Entered.opened.within.now) (sym c.from-in-Ok-Entered.ensures)
-          (subst (λ k. Walking c.args.cursor.mode (contents_end c.args.end) c.args.cursor.levels c.args.cursor.left.now
+          c.in-Ok-Entered.opened.within) (sym c.from-in-Ok-Entered.ensures)
+          (subst (λ k. Walking c.args.cursor.mode c.args.outermost.now.end c.args.cursor.levels c.args.cursor.left.now
           (set c.loop-after.outer (c.loop-after.levels - 1) c.loop-after.behind) (c.loop-after.behind + k) (c.loop-after.levels - 1)
-          c.in-Ok-Entered.opened.within.now) (sym g) z),
+          c.in-Ok-Entered.opened.within) (sym g) z)),
     )
 
 pub returns-in-Err : goal.returns-in-Err
 returns-in-Err c =
     let b = c.within.ensures in
-    let x : Stops c.within.result.mode c.within.result.levels (contents_end c.args.end) c.within.result.left.now c.in-Err.kind = search rules in
+    let x : Stops c.within.result.mode c.within.result.levels c.args.outermost.now.end c.within.result.left.now c.in-Err.kind = search rules in
     rw c.stopped.ensures (not_walked c.loop-after.invariant.1 b.mode b.levels b.left c.in-Err.kind x)

@@ -1,12 +1,11 @@
 use Rattle.std.proofs.Common.{◌≡◌, ◌+◌, ◌-◌, ◌*◌, length}
-use Rattle.yasna_bytes.specs.Header.{contents_end}
 use Rattle.yasna_bytes.proofs.WalkEnds.{Walking}
 use Rattle.yasna_bytes.proofs.bytes.walk.walk_contents.Given as goal
 
 abbrev pub invariant-loop-after : goal.invariant-loop-after
 invariant-loop-after l =
     (length l.outer ≡ 100)
-    × Walking l.fn.cursor.mode (contents_end l.fn.end) l.fn.cursor.levels l.fn.cursor.left.now l.outer l.behind l.levels l.left
+    × Walking l.fn.cursor.mode l.fn.outermost.end l.fn.cursor.levels l.fn.cursor.left.now l.outer l.behind l.levels l.left
 
 abbrev pub decreases-loop-after : goal.decreases-loop-after
 decreases-loop-after l = 2 * (length l.left + l.behind) + (l.fn.cursor.levels - l.levels)

@@ -1,6 +1,5 @@
 use Rattle.std.proofs.Common.{◌≡◌, None, rules, refl, sym, ap, subst}
 use Rattle.yasna_reader.specs.Set.{TakesElements}
-use Rattle.yasna_bytes.specs.Header.{contents_end}
 use Rattle.yasna_reader.specs.State.{Reading}
 use Rattle.yasna_reader.proofs.state.ReaderState.read_set.Goals as goal
 
@@ -13,6 +12,6 @@ run_on_set-answer-requires g c κs =
       (
         (ap (λ (z : Reading). z.kept) e, ap (λ (z : Reading). z.tag) e),
         subst (TakesElements g.F.FnOnce c.args.f) (sym e)
-            (c.requires c.in-Ok.opened.within.now (contents_end c.in-Ok.opened.after) k o.0 o.1),
+            (c.requires c.in-Ok.opened.within c.in-Ok.opened.end k o.0 o.1),
       ),
     )
