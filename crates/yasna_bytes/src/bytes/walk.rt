@@ -257,7 +257,13 @@ fn follow<'a>(cursor: Cursor<'a>, opened: &Opened<'a>) -> Result<&'a [u8], ASN1E
             return Ok(after);
         }
     }
-    walk(cursor.inside(opened), opened)
+    // A copy, so that an element that isn't walked need not lie in memory.
+    let outermost = Opened {
+        bit: opened.bit,
+        within: opened.within,
+        end: opened.end,
+    };
+    walk(cursor.inside(opened), &outermost)
 }
 
 /// The bytes in front of the last ones.

@@ -12,7 +12,8 @@ returns-in-Definite c =
     let w = c.in-Ok.ensures {u = tt} in
     let o : OpensAt p.mode c.args.tag c.in-Ok.opened.bit p.left.now c.in-Ok.opened.within (counted c.in-Definite.after.now) = search rules in
     subst (λ z. Takes (IsPrimitive AreContents p.levels p.mode c.args.tag) p.left.now z c.in-Definite.after.now) (sym (seen_within c.opened.view_is))
-    (takes_primitive p.mode p.levels c.args.tag c.in-Ok.opened.bit p.left.now c.in-Ok.opened.within c.in-Definite.after.now w.0 (seen_bit c.opened.view_is c.in-Primitive.is) o)
+    (takes_primitive p.mode p.levels c.args.tag c.in-Ok.opened.bit p.left.now c.in-Ok.opened.within c.in-Definite.after.now w.0
+    (seen_bit c.opened.view_is c.in-Primitive.is) o)
 
 pub returns-in-Constructed : goal.returns-in-Constructed
 returns-in-Constructed c =

@@ -22,7 +22,8 @@ element-returns-in-Ok-whole g t c =
     let w = c.in-Ok.ensures {u = tt} in
     let o : OpensAt p.mode c.args.tag c.in-Ok.opened.bit p.left.now c.in-Ok.opened.within (counted c.in-Definite.after.now) = search rules in
     let x = subst (λ z. Takes (IsPrimitive AreContents p.levels p.mode c.args.tag) p.left.now z c.in-Definite.after.now)
-    (sym (seen_within c.opened.view_is)) (takes_primitive p.mode p.levels c.args.tag c.in-Ok.opened.bit p.left.now c.in-Ok.opened.within c.in-Definite.after.now w.0 (seen_bit c.opened.view_is c.in-Primitive.is) o) in
+    (sym (seen_within c.opened.view_is)) (takes_primitive p.mode p.levels c.args.tag c.in-Ok.opened.bit p.left.now c.in-Ok.opened.within
+    c.in-Definite.after.now w.0 (seen_bit c.opened.view_is c.in-Primitive.is) o) in
     let y = c.in-Ok-whole.ensures {u = tt} in
     record {
       bytes = y.0;
@@ -37,7 +38,8 @@ element-returns-in-Err-whole g t c =
     let w = c.in-Ok.ensures {u = tt} in
     let o : OpensAt p.mode c.args.tag c.in-Ok.opened.bit p.left.now c.in-Ok.opened.within (counted c.in-Definite.after.now) = search rules in
     let x = subst (λ z. Takes (IsPrimitive AreContents p.levels p.mode c.args.tag) p.left.now z c.in-Definite.after.now)
-    (sym (seen_within c.opened.view_is)) (takes_primitive p.mode p.levels c.args.tag c.in-Ok.opened.bit p.left.now c.in-Ok.opened.within c.in-Definite.after.now w.0 (seen_bit c.opened.view_is c.in-Primitive.is) o) in
+    (sym (seen_within c.opened.view_is)) (takes_primitive p.mode p.levels c.args.tag c.in-Ok.opened.bit p.left.now c.in-Ok.opened.within
+    c.in-Definite.after.now w.0 (seen_bit c.opened.view_is c.in-Primitive.is) o) in
     rw c.refuse-in-Err-whole.ensures (refused_moved
     (whole_refused g.T.Tally.segmentation p.levels p.mode c.args.tag p.left.now c.opened.inside.within.now c.in-Definite.after.now _ x
     (c.in-Err-whole.ensures {u = tt}) refl) refl)
