@@ -173,9 +173,20 @@ pub record Chooses (l : List SetElement) (s : Reading) (ts : List Tag) (r : Resu
     Type 0 where
   pub chooses : ChoosesBy s.kept ts l s r l' s'
 
--- r lends the reading of an element that was chosen as C says: what it is in the end is what is left of the reading
+-- A choice from z as C says, whose answer r lends the reading, left n once what was lent ended as w
+pub record LentChoice {S L : Type 0} (C : L → S → Result (Unit {0}) ASN1Error → L → S → Type 0) (z : Chosen S L) (r : Result (MutBor S) ASN1Error)
+    (n : Chosen S L) (w : S) : Type 0 where
+  -- what is left of the loan is the reading of what is left
+  pub reader : n.reader ≡ w
+  -- the element was taken out of the list, and its reading was lent
+  pub chose : MatchResult r (λ x. C z.list z.reader (Ok tt) n.list x.now) (λ e. Unit {0})
+
+-- such a choice, which answered an Err and lent nothing, left n
+abbrev pub LentNone : {S L : Type 0} → (L → S → Result (Unit {0}) ASN1Error → L → S → Type 0) → Chosen S L → Result (MutBor S) ASN1Error → Chosen S L →
+    Type 0
+LentNone C z r n = MatchResult r (λ x. Unit {0}) (λ e. C z.list z.reader (Err e) n.list n.reader)
+
+-- r lends the reading of an element that was chosen as C says (X.690, 8.11), or is the Err of the choice
 abbrev pub LendsChosen : (S L : RattleType) → (L.Denot → S.Denot → Result (Unit {0}) ASN1Error → L.Denot → S.Denot → Type 0) →
     MutBor (Chosen S.Denot L.Denot) → Result (MutBor S.Denot) ASN1Error → Fml
-LendsChosen S L C s r = LendsSoOk (the_row S L) S s r
-    (λ n w. (n.reader ≡ w) × MatchResult r (λ x. C s.now.list s.now.reader (Ok tt) n.list x.now) (λ e. Unit {0}))
-    (λ n. MatchResult r (λ x. Unit {0}) (λ e. C s.now.list s.now.reader (Err e) n.list n.reader))
+LendsChosen S L C s r = LendsSoOk (the_row S L) S s r (LentChoice C s.now r) (LentNone C s.now r)
