@@ -1,5 +1,5 @@
 -- What is read through a closure, by what the closure's calls do.
-use Rattle.std.proofs.Common.{◌≡◌, ℕ, List, Bool, true, false, refl, subst, arith}
+use Rattle.std.proofs.Common.{◌≡◌, ℕ, List, [], ◌∷◌, Bool, true, false, refl, subst, arith}
 use Rattle.std.specs.Global.{Global}
 use Rattle.std.specs.Prelude.{Result, Vec}
 use Rattle.std.specs.Borrow.{MutBor}
@@ -8,7 +8,9 @@ use Rattle.yasna_base.specs.declared.error.ASN1Error.{ASN1Error}
 use Rattle.yasna_base.specs.declared.mode.BERMode.{BERMode}
 use Rattle.yasna_base.specs.declared.tag.Tag.{Tag}
 use Rattle.yasna_base.specs.Grammar.{Grammar, Members, TaggedGrammar, TaggedMembers}
-use Rattle.yasna_base.specs.Identifier.{universal}
+use Rattle.yasna_base.specs.Identifier.{universal, end_tag}
+use Rattle.yasna_base.specs.AnyOrder.{InSomeOrder}
+use Rattle.yasna_base.specs.Set.{set_tag, IsSetOf, AnySetOf}
 use Rattle.yasna_base.specs.Coding.{IsCoding, ArePartsCoding, Any}
 use Rattle.yasna_base.specs.Sequence.{sequence_tag}
 use Rattle.yasna_base.specs.SequenceOf.{IsListOf, AnyListOf}
@@ -21,6 +23,10 @@ use Rattle.yasna_reader.specs.declared.state.Parts.{Parts}
 use Rattle.yasna_reader.specs.Parse.{Parses}
 use Rattle.yasna_reader.specs.Sequence.{Runs, ReadsParts}
 use Rattle.yasna_reader.specs.SequenceOf.{Collects}
+use Rattle.yasna_reader.specs.SetOf.{CollectsInOrder}
+use Rattle.yasna_reader.specs.declared.set_of.Order.TheVariants.{Ascending}
+use Rattle.yasna_reader.specs.ByTags.{DecodesByTags}
+use Rattle.yasna_reader.specs.Tagged.{ReadsImplicitly}
 use Rattle.yasna_reader.specs.Decodes.{Decodes, Decoded}
 use Rattle.yasna_reader.specs.Primitive.{ReadsSeen, Reads, NoLevel}
 use Rattle.yasna_reader.specs.Raw.{ReadsRaw}
@@ -28,6 +34,10 @@ use Rattle.yasna_bytes.specs.Contents.{Never, WantsMemory}
 use Rattle.yasna_bytes.specs.Segments.{bits_in}
 use Rattle.yasna_reader.specs.State.{Reading, IsFresh, starts, part_of, Does}
 use Rattle.yasna_reader.proofs.ListDecoding.{collects}
+use Rattle.yasna_reader.proofs.ByTags.{IsDecoderByTags, tagged_by_tag}
+use Rattle.yasna_reader.proofs.PartsByTags.{IsPartsDecoderByTags}
+use Rattle.yasna_reader.proofs.UnderTags.{DoesUnder, does_as, implicit_by_tag}
+use Rattle.yasna_reader.proofs.SetOfReads.{set_of_by_tag, any_set_of_by_tag}
 use Rattle.yasna_reader.proofs.OptionalParts.{IsContentsDecoder, contents_sequence}
 use Rattle.yasna_reader.proofs.Sequences.{parts_map}
 use Rattle.yasna_reader.proofs.Tuples.{IsDecoder, IsPartsDecoder, steps_sequence}
@@ -41,6 +51,13 @@ pub use Rattle.yasna_reader.proofs.NextTag.{looked, found_none, found_other}
 pub use Rattle.yasna_reader.proofs.Kept.{seen_repeats_kept, raw_repeats_kept, parts_repeat_kept}
 pub use Rattle.yasna_reader.proofs.WholeInputs.{read_form, refuses_none, exactly_as, reads_some}
 pub use Rattle.yasna_reader.proofs.ListDecoding.{same_items}
+pub use Rattle.yasna_reader.proofs.ByTags.{decodes_by_tags, plain_by, leaf_by_tag, leaf_with_memory_by_tag, asking_by_tag, bits_by_tag}
+pub use Rattle.yasna_reader.proofs.ByTags.{string_by_tag, sequence_by_tag, list_by_tag}
+pub use Rattle.yasna_reader.proofs.DefaultParts.{default_by}
+pub use Rattle.yasna_reader.proofs.PartsByTags.{part_by_tags, option_by_tags, default_by_tags, end_by_tags, starts_elsewhere, in_range_by}
+pub use Rattle.yasna_reader.proofs.PartsByTags.{quiet_before}
+pub use Rattle.yasna_reader.proofs.Choices.{the_choice, first_of, others_of, chosen_by_tags, found_none_by_tags}
+pub use Rattle.yasna_reader.proofs.UnderTags.{seen_under, parts_under, implicit_under}
 
 -- a typed read from what equals s
 pub reads_at : {V A : Type 0} {B : TaggedGrammar A} {view : V → A} {D : TaggedMembers}
@@ -135,3 +152,50 @@ pub list_by : {F A : Type 0} {g : Mut F (MutBor Reading × Unit {0}) (Result A A
 list_by {g} {f} {asks} {N} {s} {r} {s'} laws value fresh h says =
     collects laws asks (CalledAtMut g) (λ h z x h' z' now k. value.decodes z x z' now (by_call N says h h' z x z' k)) sequence_tag
     (not_end 16 (λ e. omega arith)) f s fresh r s' h
+
+-- an element under an EXPLICIT tag whose closure reads the one inside
+pub tagged_by : {F A : Type 0} {g : Once F (MutBor Reading × Unit {0}) (Result A ASN1Error × (MutBor Reading × Unit {0}))} {f : F}
+    {E : A → A → Type 0} {asks : Bool} {B : Grammar A} {S : Members} {N : Does A} {t : Tag} {s : Reading} {r : Result A ASN1Error} {s' : Reading} →
+    (t ≡ end_tag → ⊥) → IsCoding E B S → IsDecoder asks B S N → IsFresh s → ReadsParts (FnOnceReturnsAtMut g f) t s r s' →
+    ((p q : MutBor Reading) (x : Result A ASN1Error) → g.post f (p, tt) (x, (q, tt)) → N p.now x q.now) →
+    DecodesByTags (t ∷ []) asks (Enclosed B t) (AnyEnclosed S t) s r s'
+tagged_by {N} {t} {s} {r} {s'} not_end laws value fresh h says =
+    (tagged_by_tag t not_end laws value).decodes s r s' fresh (parts_map _ N (λ x y z i k. by_run N says x y z k) t s r s' h)
+
+-- one under an IMPLICIT tag whose closure does as P says, which does under the tag what N does
+pub implicit_by : {F A : Type 0} (g : Once F (MutBor Reading × Unit {0}) (Result A ASN1Error × (MutBor Reading × Unit {0}))) {f : F}
+    {ts : List Tag} {asks : Bool} {B : Grammar A} {S : Members} {P N : Does A} {t : Tag} {s : Reading} {r : Result A ASN1Error} {s' : Reading} →
+    DoesUnder t P N → IsDecoderByTags ts asks B S N → IsFresh s → ReadsImplicitly (FnOnceReturnsAtMut g f) t s r s' →
+    ((p q : MutBor Reading) (x : Result A ASN1Error) → g.post f (p, tt) (x, (q, tt)) → P p.now x q.now) →
+    DecodesByTags ts asks B S s r s'
+implicit_by g {P = P} {t = t} {s = s} {r = r} {s' = s'} under value fresh h says =
+    (implicit_by_tag (does_as (by_run P says) under) value).decodes s r s' fresh h
+
+-- a SEQUENCE whose closure reads parts that tags tell apart
+pub parts_by : {U A F : Type 0} {g : Once F (MutBor (Parts Reading) × Unit {0}) (Result U ASN1Error × (MutBor (Parts Reading) × Unit {0}))}
+    {f : F} {ts : List Tag} {asks : Bool} {C : Grammar A} {S : Members}
+    {P : Does U} {s : Reading} {r : Result U ASN1Error} {s' : Reading} (parts : U → A) (make : A → U) →
+    ((w : A) → parts (make w) ≡ w) → IsPartsDecoderByTags ts asks C S make P → IsFresh s → ReadsParts (Runs g f) sequence_tag s r s' →
+    ((p q : MutBor (Parts Reading)) (x : Result U ASN1Error) → g.post f (p, tt) (x, (q, tt)) → P (part_of p.now) x (part_of q.now)) →
+    Decodes {A = U} asks (λ m n v b. Enclosed C sequence_tag m n (parts v) b) (AnyEnclosed S sequence_tag) s r s'
+parts_by parts make back reads = contents_by parts make back reads.contents
+
+-- a SET OF whose closure reads one element a turn, as it stands
+pub set_of_by : {F A : Type 0} {g : Mut F (MutBor Reading × Unit {0}) (Result A ASN1Error × (MutBor Reading × Unit {0}))} {f : F}
+    {E : A → A → Type 0} {asks : Bool} {B : Grammar A} {S : Members}
+    {N : Does A} {s : Reading} {r : Result (Vec A Global) ASN1Error} {s' : Reading} → IsCoding E B S →
+    IsDecoder asks B S N → IsFresh s → ReadsParts (CollectsInOrder Ascending (CalledAtMut g) f) set_tag s r s' →
+    ((f f' : F) (p q : MutBor Reading) (x : Result A ASN1Error) → Called g f (p, tt) (x, (q, tt)) f' → N p.now x q.now) →
+    DecodesByTags {A = Vec A Global} (set_tag ∷ []) true (λ m n v b. IsSetOf B set_tag m n v.items b) (AnySetOf S set_tag) s r s'
+set_of_by {g} {f} {N} {s} {r} {s'} laws value fresh h says =
+    (set_of_by_tag (CalledAtMut g) f set_tag (not_end 17 (λ e. omega arith)) laws value (by_call N says)).decodes s r s' fresh h
+
+-- and in no order
+pub any_set_of_by : {F A : Type 0} {g : Mut F (MutBor Reading × Unit {0}) (Result A ASN1Error × (MutBor Reading × Unit {0}))} {f : F}
+    {E : A → A → Type 0} {asks : Bool} {B : Grammar A} {S : Members}
+    {N : Does A} {s : Reading} {r : Result (Vec A Global) ASN1Error} {s' : Reading} → IsCoding E B S →
+    IsDecoder asks B S N → IsFresh s → ReadsParts (CollectsInOrder Ascending (CalledAtMut g) f) set_tag s r s' →
+    ((f f' : F) (p q : MutBor Reading) (x : Result A ASN1Error) → Called g f (p, tt) (x, (q, tt)) f' → N p.now x q.now) →
+    DecodesByTags {A = Vec A Global} (set_tag ∷ []) true (λ m n v b. InSomeOrder (IsSetOf B set_tag) m n v.items b) (AnySetOf S set_tag) s r s'
+any_set_of_by {g} {f} {N} {s} {r} {s'} laws value fresh h says =
+    (any_set_of_by_tag (CalledAtMut g) f set_tag (not_end 17 (λ e. omega arith)) laws value (by_call N says)).decodes s r s' fresh h

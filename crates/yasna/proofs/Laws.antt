@@ -17,6 +17,15 @@ pub use Rattle.yasna_base.proofs.Beginnings.{stand_apart, begins_apart, choice_w
 pub use Rattle.yasna_base.proofs.AnyOrder.{any_set_of, any_set_of_written, any_set_of_exact, set_along, set_written}
 pub use Rattle.yasna_base.proofs.Exact.{written_exact, exact_can, no_part_exact, part_exact, enclosed_exact, exact_along, tuple_exact, option_exact, list_exact, raw_keeps_exact, bits_exact, bit_string_exact}
 pub use Rattle.yasna_base.proofs.Identifier.{not_end}
+pub use Rattle.yasna_base.proofs.Beginnings.{tags_differ, begins_by_tag, primitive_by_tag, segmented_by_tag, enclosed_by_tag, either_by_tags}
+pub use Rattle.yasna_base.proofs.Beginnings.{choice_with_tags, end_with_tags, part_with_tags, option_with_tags}
+pub use Rattle.yasna_reader.proofs.DefaultParts.{default_part_before, default_part_with_tags}
+pub use Rattle.yasna_base.proofs.Default.{default_alike, default_written}
+pub use Rattle.yasna_base.proofs.ChoiceWriting.{choice_written}
+pub use Rattle.yasna_base.proofs.ExplicitTags.{context_not_end, contexts_differ, tagged, tagged_written}
+pub use Rattle.yasna_base.proofs.Octets.{octets_coding, octets_written}
+pub use Rattle.yasna_base.proofs.Integer.{signed_under}
+pub use Rattle.yasna_base.proofs.AnyOrder.{any_set_of, any_set_of_written, set_along, set_written, sorted_form_made}
 pub use Rattle.yasna_base.proofs.SequenceOf.{list, list_along, list_written}
 pub use Rattle.yasna_base.proofs.SetOfWriting.{set_of_reading}
 pub use Rattle.yasna_base.proofs.Nested.{nested_coding, nested_list, any_nested_list}

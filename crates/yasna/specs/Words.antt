@@ -7,7 +7,7 @@ pub use Rattle.yasna_base.specs.declared.tag.Tag.{Tag}
 pub use Rattle.yasna_base.specs.declared.error.ASN1Error.{ASN1Error}
 pub use Rattle.yasna_base.specs.declared.error.ASN1ErrorKind.TheVariants.{Eof, Extra, IntegerOverflow, StackOverflow, Invalid, OutOfMemory}
 pub use Rattle.yasna_base.specs.Error.{kind_of, error_of}
-pub use Rattle.yasna_base.specs.Identifier.{universal, BeginsWithTag, AtEnd, context}
+pub use Rattle.yasna_base.specs.Identifier.{universal, context, end_tag, BeginsWithTag, AtEnd}
 pub use Rattle.yasna_base.specs.Digits.{IsBytes}
 -- the types of relations, forms and nests
 pub use Rattle.yasna_base.specs.Grammar.{Grammar, Members, Form, Nest}
@@ -24,7 +24,7 @@ pub use Rattle.yasna_base.specs.BigInteger.{BigInteger, IsBigInteger, CanBigInte
 pub use Rattle.yasna_base.specs.Enumerated.{enumerated_tag, EncodesEnumerated}
 pub use Rattle.yasna_base.specs.Oid.{oid_tag, EncodesOid, IsEncodableOid, oid_form}
 -- strings
-pub use Rattle.yasna_base.specs.Octets.{EncodesOctets, EncodesVec, octets_tag, octets_form, octets_nest, IsOctets, IsDeepOctets}
+pub use Rattle.yasna_base.specs.Octets.{EncodesOctets, EncodesVec, octets_tag, octets_form, octets_nest, IsOctets, IsDeepOctets, octets_segmentation}
 pub use Rattle.yasna_base.specs.Bits.{bits_tag, BitString, IsBits, IsDeepBits, CanBits, AreCanonicalBits, bits_form, bits_nest}
 pub use Rattle.yasna_bytes.specs.Segments.{bits_in}
 pub use Rattle.yasna_base.specs.Text.{utf8_tag, numeric_tag, printable_tag, ia5_tag, visible_tag, bmp_tag}
@@ -51,11 +51,13 @@ pub use Rattle.yasna_base.specs.Choice.{EitherOf, AnyEither, SameEither, either_
 -- tags around a type, and in place of its own
 pub use Rattle.yasna_base.specs.UnderTags.{KeepsUnderTags, IsExactUnderTags}
 pub use Rattle.yasna_base.specs.Beginnings.{BeginsBy, ContentsBeginBy, CodingByTags, ContentsByTags}
-pub use Rattle.yasna_base.specs.Set.{set_tag, IsSet, IsSetOf, AnySetOf}
+pub use Rattle.yasna_base.specs.Set.{set_tag, IsSet, IsSetOf, AnySetOf, AnySetOfElements}
 pub use Rattle.yasna_base.specs.AnyOrder.{SameSetOf, InSomeOrder, sorted_set_of_form}
+pub use Rattle.yasna_base.specs.SetWriting.{set_of_nest}
 -- what reads do
 pub use Rattle.yasna_reader.specs.State.{Reading, Does, IsFresh, part_of}
 pub use Rattle.yasna_reader.specs.Decodes.{Decodes, Step, Done}
+pub use Rattle.yasna_reader.specs.ByTags.{DecodesByTags}
 pub use Rattle.yasna_reader.specs.Primitive.{Reads, ReadsSeen, NoLevel}
 pub use Rattle.yasna_reader.specs.Raw.{ReadsRaw}
 pub use Rattle.yasna_reader.specs.Optional.{ReadsOptional, ReadsDefault}
