@@ -8,7 +8,7 @@ use Rattle.yasna_tool.specs.Engine.{IfRefused}
 use Rattle.yasna_tool.specs.Kinds.{Recoded}
 use Rattle.yasna_tool.specs.declared.engine.RunFault.{RunFault}
 use Rattle.yasna_tool.specs.declared.engine.RunFault.TheVariants.{Refused, Device}
-use Rattle.yasna_base.specs.Grammar.{Grammar, Form}
+use Rattle.yasna.specs.base.Grammar.{Grammar, Form}
 
 -- the form of a value, as view sees it, is what the bytes are recoded to
 pub recoded : {V A : Type 0} (B : Grammar A) (view : V → A) (form : Form A) (m : BERMode) (P : List ℕ → Type 0)

@@ -6,8 +6,8 @@ abbrev pub one_more : ℕ → ℕ
 one_more n = min (n + 1) (2 ^ 64 - 1)
 
 -- an Err counts
-abbrev pub CountsErr : {A E : Type 0} → ℕ → ℕ → Result A E → Type 0
-CountsErr old new r = MatchResult r (λ _. new ≡ old) (λ _. new ≡ one_more old)
+abbrev pub CountsFailure : {A E : Type 0} → ℕ → ℕ → Result A E → Type 0
+CountsFailure old new r = MatchResult r (λ _. new ≡ old) (λ _. new ≡ one_more old)
 
 -- an Err counts, and so does `Ok(0)` where there were bytes to take
 abbrev pub CountsWrite : {E : Type 0} → ℕ → ℕ → Result ℕ E → List ℕ → Type 0

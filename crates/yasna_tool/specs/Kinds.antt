@@ -18,14 +18,14 @@ use Rattle.yasna.specs.base.SequenceOf.{IsListOf, elements_form}
 use Rattle.yasna.specs.base.Text.{EncodesText, utf8_form}
 use Rattle.yasna_tool.specs.declared.kind.Kind.{Kind}
 use Rattle.yasna_tool.specs.declared.kind.Kind.TheVariants as kind
-use Rattle.yasna_base.specs.Boolean.{boolean_tag}
-use Rattle.yasna_base.specs.Grammar.{Grammar, Form}
-use Rattle.yasna_base.specs.Integer.{integer_tag}
-use Rattle.yasna_base.specs.Null.{null_tag}
-use Rattle.yasna_base.specs.Oid.{oid_tag}
-use Rattle.yasna_base.specs.Text.{utf8_tag}
-use Rattle.yasna_times.specs.GeneralizedTime.{generalized_time_tag}
-use Rattle.yasna_times.specs.UtcTime.{utc_time_tag}
+use Rattle.yasna.specs.base.Boolean.{boolean_tag}
+use Rattle.yasna.specs.base.Grammar.{Grammar, Form}
+use Rattle.yasna.specs.base.Integer.{integer_tag}
+use Rattle.yasna.specs.base.Null.{null_tag}
+use Rattle.yasna.specs.base.Oid.{oid_tag}
+use Rattle.yasna.specs.base.Text.{utf8_tag}
+use Rattle.yasna.specs.time.GeneralizedTime.{generalized_time_tag}
+use Rattle.yasna.specs.time.UtcTime.{utc_time_tag}
 
 -- s encodes a value in the mode m, and out is its DER form
 pub record Recoded {A : Type 0} (B : Grammar A) (form : Form A) (m : BERMode) (s out : List ℕ) : Type 0 where

@@ -6,7 +6,7 @@ ghost use Rattle.std.specs.Prelude.{◌≡◌, ℕ, Bool, List, Option, OnOk, tr
 ghost use Rattle.std.specs.Io.{ReadsAtMost, WritesAtMost};
 ghost use Rattle.std.specs.Io.KnownBytes.{ReadConsumes, WriteAppends, Keeps};
 ghost use Rattle.yasna_tool.specs.Ends.{end_of, failure_count, is_flushed};
-ghost use Rattle.yasna_tool.specs.Failures.{one_more, CountsErr, CountsWrite};
+ghost use Rattle.yasna_tool.specs.Failures.{one_more, CountsFailure, CountsWrite};
 
 mod flushed;
 
@@ -26,7 +26,7 @@ pub trait Source {
     fn pull(&mut self, buffer: &mut [u8]) -> io::Result<usize>
         ensures bound { ReadsAtMost result buffer.new }
         ensures bytes { ReadConsumes (remaining self.old) (remaining self.new) result buffer.new }
-        ensures count { CountsErr (failed self.old) (failed self.new) result };
+        ensures count { CountsFailure (failed self.old) (failed self.new) result };
 
     /// How many pulls failed, at most `u64::MAX`.
     fn failures(&self) -> u64
@@ -54,7 +54,7 @@ pub trait Sink {
     /// Sends on what was taken.
     fn flush(&mut self) -> io::Result<()>
         ensures bytes { Keeps (contents self.old) (contents self.new) }
-        ensures count { CountsErr (failed self.old) (failed self.new) result }
+        ensures count { CountsFailure (failed self.old) (failed self.new) result }
         ensures flushed { OnOk result (flushed self.new ≡ true) };
 
     /// How many pushes and flushes failed, at most `u64::MAX`.

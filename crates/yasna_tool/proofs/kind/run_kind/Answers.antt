@@ -12,9 +12,9 @@ use Rattle.yasna_tool.specs.Kinds.{EncodesIntegers, integers_form}
 use Rattle.yasna.proofs.Laws.{list_along, signed_coding}
 use Rattle.yasna_tool.proofs.Recoded.{recoded, not_recoded}
 use Rattle.yasna_tool.proofs.kind.run_kind.Goals as goal
-use Rattle.yasna_base.specs.Text.{utf8_tag}
-use Rattle.yasna_times.specs.GeneralizedTime.{generalized_time_tag}
-use Rattle.yasna_times.specs.UtcTime.{utc_time_tag}
+use Rattle.yasna.specs.base.Text.{utf8_tag}
+use Rattle.yasna.specs.time.GeneralizedTime.{generalized_time_tag}
+use Rattle.yasna.specs.time.UtcTime.{utc_time_tag}
 
 pub returns-in-Octets-clause-recoded : goal.returns-in-Octets-clause-recoded
 returns-in-Octets-clause-recoded g c =
