@@ -31,12 +31,13 @@ use Rattle.yasna_reader.specs.declared.set_of.Order.TheVariants.{Ascending}
 use Rattle.yasna_reader.specs.Decodes.{Decodes, NotContents, DecodesContents}
 use Rattle.yasna_reader.specs.Parse.{unless_kept}
 use Rattle.yasna_reader.specs.Sequence.{ReadsParts}
-use Rattle.yasna_reader.specs.SequenceOf.{Turn, Turns, EndsList, items_of}
-use Rattle.yasna_reader.specs.SetOf.{Bounded, bound_in, goes_before, FallsBelow, Follows, Falls, TurnInOrder, CollectsInOrder}
+use Rattle.yasna_reader.specs.SequenceOf.{ListTurn, Turns, EndsList, items_of}
+use Rattle.yasna_reader.specs.SetOf.{Bounded, bound_in, goes_before, FallsBelow, Follows, Falls, failed, fell, TurnInOrder, CollectsInOrder}
 use Rattle.yasna_reader.specs.State.{Reading, IsFresh, Does}
 use Rattle.yasna_reader.proofs.ByTags.{IsDecoderByTags, parts_quiet}
+use Rattle.yasna_reader.proofs.Callbacks.{place_unmoved}
 use Rattle.yasna_reader.proofs.Handed.{left_behind}
-use Rattle.yasna_reader.proofs.ListDecoding.{listed, place_unmoved}
+use Rattle.yasna_reader.proofs.ListDecoding.{listed}
 use Rattle.yasna_reader.proofs.Sequences.{element}
 use Rattle.yasna_reader.proofs.Tuples.{IsDecoder, decodes_map, enclosed_seen}
 
@@ -130,14 +131,14 @@ module _ {F A : Type 0} {E : A → A → Type 0} {B : Grammar A} {S : Members} (
     joined : s.left ≡ concat pieces ++ s'.left
     same : s' ≡ record s { left = s'.left }
     follow : FollowAll g.bound pieces g'.bound
-    turns : Turns (Turn C) g.callback s vs g'.callback s'
+    turns : Turns (ListTurn C) g.callback s vs g'.callback s'
 
   -- a turn that gave a value took an element that stands for it
   record Given (s : Reading) (v : A) (b : List ℕ) (s' : Reading) : Type 0 where
     stands : B s.mode s.levels v b
     left : s' ≡ record s { left = s'.left }
 
-  given : (f : F) (s : Reading) (v : A) (f' : F) (s' : Reading) (b : List ℕ) → IsFresh s → Turn C f s (Gave v) f' s' → s.left ≡ b ++ s'.left →
+  given : (f : F) (s : Reading) (v : A) (f' : F) (s' : Reading) (b : List ℕ) → IsFresh s → ListTurn C f s (Gave v) f' s' → s.left ≡ b ++ s'.left →
       Given s v b s'
   given f s v f' s' b fresh t e =
       let d = subst (λ z. Decodes asks B S s z t.left) t.comes.0.2 (says f s t.own f' t.left fresh t.called) in
@@ -246,7 +247,7 @@ module _ {F A : Type 0} {E : A → A → Type 0} {B : Grammar A} {S : Members} (
           (subst (AreInSetOfOrder m) w.all p.order)
 
   plain : (g : Bounded F) (s : Reading) → IsFresh s → g.bound ≡ bound_in Ascending s.mode → (vs : List A) (h : Bounded F) (place : Reading) →
-      InOrder g vs s h place → (o : Outcome A) (h' : Bounded F) (s' : Reading) → Turn C h.callback place o h'.callback s' →
+      InOrder g vs s h place → (o : Outcome A) (h' : Bounded F) (s' : Reading) → ListTurn C h.callback place o h'.callback s' →
       (xs : Result (List A) ASN1Error) → EndsList vs o xs →
       ((ws : List A) → unless_kept s'.kept xs ≡ Ok ws → (ws ≡ vs) × (place.left ≡ s'.left)) →
       DecodesContents true (SetOfElements B) (AnySetOfElements S) s (unless_kept s'.kept xs) s'
@@ -275,14 +276,14 @@ module _ {F A : Type 0} {E : A → A → Type 0} {B : Grammar A} {S : Members} (
       let g : Ok vs ≡ Ok ws = sym (ap₂ unless_kept none ends) ∙ f in
       let left = ap (λ (z : Reading). z.left) t.comes.4 ∙ place_unmoved place.left t.left.left t.comes.1 in
       ((cc), sym left))
-  ended_by g s fresh bound vs h place x (Failed e) h' s' (inl t) xs ends =
+  ended_by g s fresh bound vs h place x (Failed e) h' s' (failed t) xs ends =
       plain g s fresh bound vs h place x (Failed e) h' s' t xs ends (λ ws f. absurd (not_ok s'.kept ws (ap (λ z. unless_kept s'.kept z)
       (sym ends) ∙ f)))
     where
       not_ok : (k : Option ASN1Error) (ws : List A) → unless_kept k (Err e) ≡ Ok ws → ⊥
       not_ok (Some d) ws f = absurd (cc)
       not_ok None ws f = absurd (cc)
-  ended_by g s fresh bound vs h place x (Failed e) h' s' (inr f) xs ends =
+  ended_by g s fresh bound vs h place x (Failed e) h' s' (fell f) xs ends =
       let D = falls_none g s fresh bound vs h place x e h' s' f in
       let k : s'.kept ≡ Some e = ap (λ (z : Reading). z.kept) f.state in
       subst (λ z. DecodesContents true (SetOfElements B) (AnySetOfElements S) s (unless_kept z xs) s') (sym k) D
