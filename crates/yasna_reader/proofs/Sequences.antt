@@ -13,11 +13,12 @@ use Rattle.yasna_base.specs.Identifier.{end_tag, tag_or}
 use Rattle.yasna_base.specs.Element.{Around, Enclosed, AnyEnclosed}
 use Rattle.yasna_base.proofs.Header.{opens_begins, header_of, end_behind}
 use Rattle.yasna_base.proofs.Lists.{append_same}
+use Rattle.yasna_bytes.specs.Opening.{Opening}
 use Rattle.yasna_bytes.specs.declared.bytes.header.Refusal.{Refusal}
 use Rattle.yasna_base.specs.Header.{ContentsEnd, OpensAt}
 use Rattle.yasna_bytes.specs.Header.{EndsBefore, RefusesHeader, OnlyConstructed}
 use Rattle.yasna_reader.specs.Parse.{unless_kept}
-use Rattle.yasna_reader.specs.Sequence.{place_in, Fails, Left, Entered, NotEntered, EntersUnlessKept, ReadsParts}
+use Rattle.yasna_reader.specs.Sequence.{place_in, Fails, Left, Entered, NotEntered, EntersUnlessKept, ReadsParts, StepsIn, StaysOut, kept, refused, TakesContents}
 use Rattle.yasna_reader.specs.Decodes.{Tells, KeptTells, NotTook, IsQuietAtEnd, Decodes, NotContents, TookContents, DecodesContents}
 use Rattle.yasna_reader.specs.State.{Reading, IsFresh, inside, untagged, refusing, tag_of, Does}
 use Rattle.yasna_bytes.proofs.Refusal.{plain_not_memory, plain_of, at_end_elsewhere, not_at_end}
@@ -43,6 +44,42 @@ module _ {A : Type 0} (P Q : Does A) (says : (s : Reading) (r : Result A ASN1Err
   -- where contents are read as P says, and so as Q says
   pub parts_map : (tag : Tag) (s : Reading) (r : Result A ASN1Error) (s' : Reading) → ReadsParts P tag s r s' → ReadsParts Q tag s r s'
   parts_map tag s r s' h = record { enters = enters_map s.kept (tag_of s tag) s r s' h.enters }
+
+-- an element that was stepped into, whose contents were read as P says, and which was left
+pub stepped_in : {A : Type 0} (P : Does A) (tag : Tag) (s : Reading) (o : Opening) (z m : Reading) (own : Result A ASN1Error) (left : Reading)
+    (r : Result A ASN1Error) (s' : Reading) → StepsIn (tag_of s tag) s o z × (m ≡ s) → P z own left →
+    Left o.end o.within left.kept left.left own (untagged m) r s' → ReadsParts P tag s r s'
+stepped_in P tag s o z m own left r s' h p l = record {
+  enters = subst (λ k. EntersUnlessKept k P (tag_of s tag) s r s') (sym h.0.unkept) (inl (record {
+    level = h.0.level;
+    contents = o.within;
+    end = o.end;
+    opens = h.0.opens;
+    own = own;
+    left = left;
+    says = subst (λ w. P w own left) h.0.contents p;
+    closed = subst (λ w. Left o.end o.within left.kept left.left own (untagged w) r s') h.1 l;
+  }));
+}
+
+-- one that wasn't
+pub stayed_out : {A : Type 0} (P : Does A) (tag : Tag) (s : Reading) (e : ASN1Error) (s' : Reading) → StaysOut (tag_of s tag) s e s' →
+    ReadsParts P tag s (Err e) s'
+stayed_out P tag s e s' (kept k m) = record { enters = subst (λ o. EntersUnlessKept o P (tag_of s tag) s (Err e) s') (sym k) (refl, m) }
+stayed_out P tag s e s' (refused k h) = record {
+  enters = subst (λ o. EntersUnlessKept o P (tag_of s tag) s (Err e) s') (sym k) (inr (record {
+    refusal = h.refusal;
+    refuses = h.refuses;
+    answer = let i = h.answer in let j : e ≡ error_of h.refusal.kind = cc in ap Err j;
+    state = h.state;
+  }));
+}
+
+-- what holds of the contents of such an element holds of what was stepped into
+pub takes_inside : (P : Reading → Type 0) (tag : Tag) (s : Reading) (o : Opening) (z m : Reading) → TakesContents P tag s →
+    StepsIn (tag_of s tag) s o z × (m ≡ s) → P z
+takes_inside P tag s o z m takes h =
+    subst P (sym h.0.contents) (takes o.within o.end h.0.unkept h.0.level h.0.opens)
 
 pub around : {A : Type 0} (C : Grammar A) (t : Tag) (m : BERMode) (n : ℕ) (v : A) (b : List ℕ) → 1 ≤ n → Around m t (C m (n - 1)) v b →
     Enclosed C t m n v b

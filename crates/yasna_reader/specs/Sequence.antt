@@ -9,6 +9,7 @@ use Rattle.yasna_base.specs.declared.tag.PCBit.TheVariants.{Constructed}
 use Rattle.yasna_base.specs.declared.tag.Tag.{Tag}
 use Rattle.yasna_base.specs.Header.{ContentsEnd, OpensAt}
 use Rattle.yasna_bytes.specs.Header.{OnlyConstructed, RefusesHeader, EndsBefore, NoEnd}
+use Rattle.yasna_bytes.specs.Opening.{Opening}
 use Rattle.yasna_bytes.specs.Refusal.{BlamesBytes}
 use Rattle.yasna_reader.specs.State.{Reading, failing, inside, refusing, tag_of, untagged, Does}
 use Rattle.yasna_bytes.specs.declared.bytes.header.Refusal.{Refusal}
@@ -84,6 +85,23 @@ pub record NotEntered {A : Type 0} (t : Tag) (s : Reading) (r : Result A ASN1Err
   pub refuses : RefusesHeader OnlyConstructed s.mode s.levels t s.left refusal
   pub answer : r ≡ Err (error_of refusal.kind)
   pub state : s' ≡ refusing refusal.moved s (error_of refusal.kind)
+
+-- no failure was kept, the header of a constructed element with the tag stands there, and z is the reading of its contents
+pub record StepsIn (t : Tag) (s : Reading) (o : Opening) (z : Reading) : Type 0 where
+  pub unkept : s.kept ≡ None
+  pub level : 1 ≤ s.levels
+  pub opens : OpensAt s.mode t Constructed s.left o.within o.end
+  pub contents : z ≡ inside s o.within
+
+-- why there is no stepping in: a failure was kept, and nothing moves; or no such header stands there
+pub data StaysOut (t : Tag) (s : Reading) (e : ASN1Error) (s' : Reading) : Type 0 where
+  kept : s.kept ≡ Some e → s' ≡ s → StaysOut t s e s'
+  refused : s.kept ≡ None → NotEntered {A = Unit {0}} t s (Err e) s' → StaysOut t s e s'
+
+-- what stepping into such an element answers, by its case
+abbrev pub StepsAt : Tag → Reading → Result (Opening × Reading) ASN1Error → Reading → Type 0
+StepsAt t s (Ok x) s' = StepsIn t s x.0 x.1 × (s' ≡ s)
+StepsAt t s (Err e) s' = StaysOut t s e s'
 
 -- a kept failure comes first
 abbrev pub EntersUnlessKept : {A : Type 0} → Option ASN1Error → Does A → Tag → Does A

@@ -25,7 +25,7 @@ impl<'a> ReaderState<'a> {
     ghost use Rattle.std.specs.Prelude.{◌≡◌, ◌≤◌};
     ghost use Rattle.yasna_bytes.specs.Header.{ConstructedAt};
     ghost use Rattle.yasna_reader.specs.State.{inside, untagged, tag_of};
-    ghost use Rattle.yasna_reader.specs.Sequence.{Fails, Left, TakesParts, Runs, ReadsParts};
+    ghost use Rattle.yasna_reader.specs.Sequence.{Fails, Left, TakesParts, Runs, ReadsParts, StepsAt};
 
     /// Reads a SEQUENCE (X.690, 8.9), whose parts the callback reads.
     ///
@@ -43,22 +43,32 @@ impl<'a> ReaderState<'a> {
 
     // Reads a constructed element of this tag, or of the implicit one.
     #[inline(always)]
+    #[tactic(auto, using(crate::proofs::Sequences::stepped_in, crate::proofs::Sequences::stayed_out, crate::proofs::Sequences::takes_inside))]
     fn read_parts<T: Drop, F>(&mut self, tag: Tag, f: F) -> ASN1Result<T>
     where
         F: FnOnce(&mut BERReaderSeq<'a, '_>) -> ASN1Result<T>,
         requires { TakesParts F.FnOnce f tag self.old }
         ensures { ReadsParts (Runs F.FnOnce f) tag self.old result self.new }
     {
+        let (opened, reader) = self.step_in(tag)?;
+        let mut parts = Parts { reader };
+        let answer = f(&mut parts);
+        self.leave(&opened, answer, &parts.reader)
+    }
+
+    // The header of a constructed element of this tag, or of the implicit one, and the reading of its contents. A failure that
+    // was kept comes first.
+    #[inline(always)]
+    pub(crate) fn step_in(&mut self, tag: Tag) -> ASN1Result<(Opened<'a>, ReaderState<'a>)>
+        ensures { StepsAt (tag_of self.old tag) self.old result self.new }
+    {
         if let Some(error) = self.kept {
             return Err(error);
         }
         match self.enter(tag) {
             Ok(opened) => {
-                let mut parts = Parts {
-                    reader: self.within(&opened),
-                };
-                let answer = f(&mut parts);
-                self.leave(&opened, answer, &parts.reader)
+                let contents = self.within(&opened);
+                Ok((opened, contents))
             }
             Err(refusal) => self.settle(Err(refusal)),
         }

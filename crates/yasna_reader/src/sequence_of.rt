@@ -49,27 +49,21 @@ impl<'a> ReaderState<'a> {
 
     // Reads a list under this tag, or the implicit one.
     #[inline(always)]
+    #[tactic(auto, using(crate::proofs::Sequences::stepped_in, crate::proofs::Sequences::stayed_out, crate::proofs::Sequences::takes_inside))]
     pub(crate) fn read_list<F>(&mut self, tag: Tag, order: Order, f: F) -> ASN1Result<()>
     where
         F: FnMut(BERReader<'a, '_>) -> ASN1Result<()> + Drop,
         requires { TakesContents (TakesTurns F.FnMut) tag self.old }
         ensures { ReadsParts (VisitsInOrder order (CalledAtMut F.FnMut) f) tag self.old result self.new }
     {
-        if let Some(error) = self.kept {
-            return Err(error);
-        }
-        match self.enter(tag) {
-            Ok(opened) => {
-                let mut contents = self.within(&opened);
-                let answer = contents.visit(order, f);
-                self.leave(&opened, answer, &contents)
-            }
-            Err(refusal) => self.settle(Err(refusal)),
-        }
+        let (opened, mut contents) = self.step_in(tag)?;
+        let answer = contents.visit(order, f);
+        self.leave(&opened, answer, &contents)
     }
 
     // Reads such a list into a vector.
     #[inline(always)]
+    #[tactic(auto, using(crate::proofs::Sequences::stepped_in, crate::proofs::Sequences::stayed_out, crate::proofs::Sequences::takes_inside))]
     pub(crate) fn collect_list<T: Drop, F>(
         &mut self,
         tag: Tag,
@@ -81,17 +75,9 @@ impl<'a> ReaderState<'a> {
         requires { TakesContents (TakesTurns F.FnMut) tag self.old }
         ensures { ReadsParts (CollectsInOrder order (CalledAtMut F.FnMut) f) tag self.old result self.new }
     {
-        if let Some(error) = self.kept {
-            return Err(error);
-        }
-        match self.enter(tag) {
-            Ok(opened) => {
-                let mut contents = self.within(&opened);
-                let answer = contents.collect(order, f);
-                self.leave(&opened, answer, &contents)
-            }
-            Err(refusal) => self.settle(Err(refusal)),
-        }
+        let (opened, mut contents) = self.step_in(tag)?;
+        let answer = contents.collect(order, f);
+        self.leave(&opened, answer, &contents)
     }
 
     // Calls a callback until it gives no value.

@@ -226,23 +226,16 @@ impl<'a> ReaderState<'a> {
     /// tags don't fall (10.3 and 9.3), else `Invalid`. The callback is to take all of them, else `Invalid`. What goes wrong in it is
     /// kept, whatever it answers: later calls answer it.
     #[inline(always)]
+    #[tactic(auto, using(crate::proofs::Sequences::stepped_in, crate::proofs::Sequences::stayed_out))]
     pub fn read_set<T: Drop, F>(&mut self, f: F) -> ASN1Result<T>
     where
         F: FnOnce(&mut BERReaderSet<'a, '_>) -> ASN1Result<T>,
         requires { TakesContents (TakesElements F.FnOnce f) set_tag self.old }
         ensures { ReadsParts (RunsOnSet F.FnOnce f) set_tag self.old result self.new }
     {
-        if let Some(error) = self.kept {
-            return Err(error);
-        }
-        match self.enter(TAG_SET) {
-            Ok(opened) => {
-                let mut contents = self.within(&opened);
-                let answer = contents.run_on_set(f);
-                self.leave(&opened, answer, &contents)
-            }
-            Err(refusal) => self.settle(Err(refusal)),
-        }
+        let (opened, mut contents) = self.step_in(TAG_SET)?;
+        let answer = contents.run_on_set(f);
+        self.leave(&opened, answer, &contents)
     }
 
     // Runs a callback on the elements that stand here.

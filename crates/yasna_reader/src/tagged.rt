@@ -16,23 +16,16 @@ impl<'a> ReaderState<'a> {
     /// An implicit tag that waits stands in place of this one. What goes wrong in the callback is kept, whatever it
     /// answers.
     #[inline(always)]
+    #[tactic(auto, using(crate::proofs::Sequences::stepped_in, crate::proofs::Sequences::stayed_out, crate::proofs::Sequences::takes_inside))]
     pub fn read_tagged<T: Drop, F>(&mut self, tag: Tag, f: F) -> ASN1Result<T>
     where
         F: FnOnce(BERReader<'a, '_>) -> ASN1Result<T>,
         requires { TakesContents (FnOnceTakesAtMut F.FnOnce f) tag self.old }
         ensures { ReadsParts (FnOnceReturnsAtMut F.FnOnce f) tag self.old result self.new }
     {
-        if let Some(error) = self.kept {
-            return Err(error);
-        }
-        match self.enter(tag) {
-            Ok(opened) => {
-                let mut contents = self.within(&opened);
-                let answer = f(&mut contents);
-                self.leave(&opened, answer, &contents)
-            }
-            Err(refusal) => self.settle(Err(refusal)),
-        }
+        let (opened, mut contents) = self.step_in(tag)?;
+        let answer = f(&mut contents);
+        self.leave(&opened, answer, &contents)
     }
 
     /// Lets this tag stand in place of that of the next element that the callback reads, implicit tagging (X.690, 8.14).
