@@ -81,7 +81,7 @@ pub use exact::{DERExact, one_der_form};
 pub use sets::{set_of_is_read, set_of_is_written, set_of_sets_is_read};
 pub use shapes::{EncodeShape, FromShape, Shaped};
 pub use traits::{BERDecodable, DERCanonical, DEREncodable};
-pub use tuples::{EncodableParts, TupleParts};
+pub use tuples::{EncodableParts, InSequence, TupleParts};
 pub use whole::{
     decode_ber, decode_ber_general, decode_cer, decode_der, encode_cer, encode_der, one_form,
     one_form_cer,

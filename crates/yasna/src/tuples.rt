@@ -16,6 +16,7 @@ ghost use Rattle.yasna_reader.specs.Decodes.{Decodes, DecodesParts, RepeatsKept}
 
 mod others;
 
+use crate::shapes::{FromShape, Shaped};
 use crate::traits::{BERDecodable, DERCanonical, DEREncodable};
 use yasna_base::error::ASN1Result;
 use yasna_reader::{BERReader, BERReaderSeq};
@@ -154,23 +155,45 @@ fn write_long_tuple<
     write_tuple(&(a, (b, (c, (d, (e, (f, others)))))), writer)
 }
 
-impl<A: BERDecodable, B: BERDecodable> BERDecodable for (A, B) {
-    ghost encodes = { λ m n v b. Enclosed (PartOf A.encodes (PartOf B.encodes NoParts)) sequence_tag m n (v.0, (v.1, tt)) b };
+/// A SEQUENCE of these parts, which are pairs that end in `()`.
+#[derive(Drop)]
+pub struct InSequence<W> {
+    /// The parts.
+    pub parts: W,
+}
 
-    ghost elements = { AnyEnclosed (AnyPart A.elements (AnyPart B.elements AnyNothing)) sequence_tag };
+impl<W: TupleParts> BERDecodable for InSequence<W> {
+    ghost encodes = { λ m n v b. Enclosed W.parts sequence_tag m n v.parts b };
 
-    ghost asks_memory = { (A.asks_memory || (B.asks_memory || false)) };
+    ghost elements = { AnyEnclosed W.any_parts sequence_tag };
 
-    ghost same = { λ v w. SamePart A.same (SamePart B.same SameNothing) (v.0, (v.1, tt)) (w.0, (w.1, tt)) };
+    ghost asks_memory = { W.parts_ask };
 
-    fn decode_ber(reader: BERReader) -> ASN1Result<(A, B)> {
-        match read_tuple::<(A, (B, ()))>(reader) {
-            Ok((a, (b, ()))) => Ok((a, b)),
+    ghost same = { λ v w. W.same_parts v.parts w.parts };
+
+    #[inline(always)]
+    fn decode_ber(reader: BERReader) -> ASN1Result<InSequence<W>> {
+        match read_tuple(reader) {
+            Ok(parts) => Ok(InSequence { parts }),
             Err(error) => Err(error),
         }
     }
 
-    ghost coding = { tuple (λ v. (v.0, (v.1, tt))) (part A.coding (part B.coding no_part)) };
+    ghost coding = { tuple (λ v. v.parts) W.lawful };
+}
+
+impl<A, B> Shaped for (A, B) {
+    type Shape = InSequence<(A, (B, ()))>;
+
+    ghost shape_of = { λ v. record { parts = (v.0, (v.1, tt)) } };
+}
+
+impl<A, B> FromShape for (A, B) {
+    #[inline(always)]
+    fn from_shape(shape: Self::Shape) -> (A, B) {
+        let (a, (b, ())) = shape.parts;
+        (a, b)
+    }
 }
 
 impl<A: DEREncodable, B: DEREncodable> DEREncodable for (A, B) {
