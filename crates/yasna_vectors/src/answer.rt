@@ -2,6 +2,7 @@
 ghost use Rattle.std.specs.Prelude.{◌≡◌, ◌++◌, OnOk, string_bytes};
 ghost use Rattle.hex.specs.Hex.{encode_lower};
 
+use crate::discarding::Discarding;
 use crate::line::Case;
 use crate::list::List;
 use crate::nest::Nest;
@@ -15,12 +16,11 @@ use crate::set::Set;
 use crate::set_of::SetOf;
 use crate::set_optional::OptionalSet;
 use crate::strings::Strings;
-use crate::swallow::Swallow;
 use crate::tagged::Tagging;
 use crate::times::{Generalized, Utc};
 use crate::{
-    buffer, composed, length, list, mode, oid, reading, refusal, segments, set_any, swallowed, tag,
-    thrown, times, tree, whole, writing,
+    buffer, composed, kept_failures, length, list, mode, oid, reading, refusal, refusing_closures,
+    segments, set_any, tag, times, tree, whole, writing,
 };
 use std::alloc::{AllocError, Global};
 use yasna::{ASN1ErrorKind, ASN1Result, DERWriter};
@@ -75,7 +75,7 @@ fn raw_answer(alloc: Global, case: &Case) -> Answer {
 
 // The same of families whose callbacks throw away or make refusals.
 fn failing_answer(alloc: Global, case: &Case) -> Answer {
-    reading::answer::<Swallow>(alloc, case).or_else(|| swallowed::answer(alloc, case))
+    reading::answer::<Discarding>(alloc, case).or_else(|| kept_failures::answer(alloc, case))
 }
 
 // The same of families that read types as a whole, and of the modes that they are read in.
@@ -89,7 +89,7 @@ fn whole_answer(alloc: Global, case: &Case) -> Answer {
 // The same of families that write.
 fn writing_answer(alloc: Global, case: &Case) -> Answer {
     writing::answer(alloc, case)
-        .or_else(|| thrown::answer(alloc, case))
+        .or_else(|| refusing_closures::answer(alloc, case))
         .or_else(|| length::answer(alloc, case))
 }
 

@@ -30,15 +30,15 @@
 //! | `fuzz`, `mutation`, `random` | calls on random input, and how it is made |
 //! | `answer` | answers as text, and the list of families |
 //! | `reading` | how a call of a family that reads is made |
-//! | `primitive`, `strings`, `oid`, `times`, `sequence`, `optional`, `list`, `tagged`, `nest`, `recursion`, `raw`, `set_of`, `set`, `set_optional`, `swallow` | the families that read |
+//! | `primitive`, `strings`, `oid`, `times`, `sequence`, `optional`, `list`, `tagged`, `nest`, `recursion`, `raw`, `set_of`, `set`, `set_optional`, `discarding` | the families that read |
 //! | `set_any` | sets of any elements |
 //! | `tree` | elements of many types, as deep as they stand |
 //! | `buffer` | reads with the bytes that they took |
-//! | `swallowed` | failures that callbacks throw away, call in call |
+//! | `kept_failures` | failures that callbacks throw away, call in call |
 //! | `whole` | types that are read and written as a whole |
 //! | `composed` | lists and tuples that are |
 //! | `writing`, `length` | calls that write |
-//! | `thrown` | writes whose closures refuse, call in call |
+//! | `refusing_closures` | writes whose closures refuse, call in call |
 //! | `segments` | octet strings of any length |
 //! | `tag`, `refusal`, `mode` | tags, the texts of refusals, the mode that a callback sees |
 #![tactic(auto)]
@@ -46,9 +46,11 @@
 mod answer;
 mod buffer;
 mod composed;
+mod discarding;
 mod forms;
 mod fuzz;
 mod hostile;
+mod kept_failures;
 mod length;
 mod line;
 mod list;
@@ -64,6 +66,7 @@ mod raw;
 mod reading;
 mod recursion;
 mod refusal;
+mod refusing_closures;
 mod run;
 mod segments;
 mod sequence;
@@ -72,12 +75,9 @@ mod set_any;
 mod set_of;
 mod set_optional;
 mod strings;
-mod swallow;
-mod swallowed;
 mod tag;
 mod tagged;
 mod task;
-mod thrown;
 mod times;
 mod tree;
 mod whole;

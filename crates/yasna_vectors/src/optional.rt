@@ -24,7 +24,7 @@ pub enum Optional {
     Three,
     Refused,
     Memory,
-    Thrown,
+    Discarded,
 }
 
 /// The parts.
@@ -35,7 +35,7 @@ pub enum OptionalParts {
     Three(Option<Vec<u8>>, Option<i64>, Option<()>),
     Refused(Option<i64>, i64),
     Memory(i64),
-    Thrown(Option<bool>, i64),
+    Discarded(Option<bool>, i64),
 }
 
 impl Family for Optional {
@@ -48,7 +48,7 @@ impl Family for Optional {
             "seq_opts" => Some(Optional::Three),
             "opt_err" => Some(Optional::Refused),
             "opt_memory" => Some(Optional::Memory),
-            "swallow1" => Some(Optional::Thrown),
+            "swallow1" => Some(Optional::Discarded),
             _ => None,
         }
     }
@@ -77,11 +77,11 @@ impl Family for Optional {
                 });
                 Ok(OptionalParts::Memory(seq.next().read_i64()?))
             }
-            Optional::Thrown => {
+            Optional::Discarded => {
                 let flag = seq.read_optional(|reader| reader.read_bool())?;
                 let _ = seq.next().read_bytes();
                 let number = seq.next().read_i64()?;
-                Ok(OptionalParts::Thrown(flag, number))
+                Ok(OptionalParts::Discarded(flag, number))
             }
         })
     }
@@ -121,7 +121,7 @@ impl Shown for OptionalParts {
                 write!(text, ",{number}")?;
             }
             OptionalParts::Memory(number) => write!(text, "{number}")?,
-            OptionalParts::Thrown(flag, number) => {
+            OptionalParts::Discarded(flag, number) => {
                 show_part(flag, text)?;
                 write!(text, ",{number}")?;
             }
@@ -158,7 +158,7 @@ impl Value for OptionalParts {
             OptionalParts::Refused(_, number) | OptionalParts::Memory(number) => {
                 seq.next().write_i64(*number)
             }
-            OptionalParts::Thrown(flag, number) => {
+            OptionalParts::Discarded(flag, number) => {
                 if let Some(flag) = flag {
                     seq.next().write_bool(*flag)?;
                 }

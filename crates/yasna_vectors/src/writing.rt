@@ -53,7 +53,7 @@ enum Written {
     Nested(Nested),
     Nothing,
     Refused(i64),
-    Thrown(i64),
+    Discarded(i64),
 }
 
 /// The error type of a caller of its own.
@@ -141,7 +141,7 @@ fn value(alloc: Global, name: &str, arg: &str) -> Option<Result<Written, AllocEr
         }),
         "nothing" => Written::Nothing,
         "refused" => Written::Refused(arg.parse().ok()?),
-        "thrown" => Written::Thrown(arg.parse().ok()?),
+        "thrown" => Written::Discarded(arg.parse().ok()?),
         _ => return None,
     };
     Some(Ok(value))
@@ -160,7 +160,7 @@ impl Shown for Written {
             Written::Nested(nested) => nested.show(text),
             Written::Nothing => text.push_str("()"),
             Written::Refused(number) => write!(text, "{number}"),
-            Written::Thrown(number) => write!(text, "{number}"),
+            Written::Discarded(number) => write!(text, "{number}"),
         }
     }
 }
@@ -178,7 +178,7 @@ impl Value for Written {
             Written::Nested(nested) => nested.write(writer),
             Written::Nothing => Ok(()),
             Written::Refused(number) => write_refused(writer, *number),
-            Written::Thrown(number) => {
+            Written::Discarded(number) => {
                 let _ = write_refused(writer, *number);
                 Ok(())
             }

@@ -102,8 +102,8 @@ struct Callback<B> {
 
 impl<B: Body> Callback<B> {
     // What the callback answers behind an answer that it throws away.
-    fn answer<T: Drop>(self, thrown: ASN1Result<T>, answers: &mut Answers) -> ASN1Result<i64> {
-        answers.note(kind_of(thrown));
+    fn answer<T: Drop>(self, discarded: ASN1Result<T>, answers: &mut Answers) -> ASN1Result<i64> {
+        answers.note(kind_of(discarded));
         if self.replaces {
             return Err(ASN1Error::new(ASN1ErrorKind::Extra));
         }
@@ -112,8 +112,8 @@ impl<B: Body> Callback<B> {
 
     // What the callback answers on a reader.
     fn read(self, reader: BERReader, answers: &mut Answers) -> ASN1Result<i64> {
-        let thrown = self.body.read(reader, answers);
-        self.answer(thrown, answers)
+        let discarded = self.body.read(reader, answers);
+        self.answer(discarded, answers)
     }
 
     // The same, behind a call on the parts of a sequence.
@@ -128,11 +128,11 @@ impl<B: Body> Callback<B> {
             Call::Default => kind_of(seq.read_default(10, |part| self.read(part, answers))),
             _ => kind_of(seq.read_with_buffer(|parts| self.read(parts.next(), answers))),
         };
-        let thrown: ASN1Result<()> = match refusal {
+        let discarded: ASN1Result<()> = match refusal {
             Some(kind) => Err(ASN1Error::new(kind)),
             None => Ok(()),
         };
-        self.answer(thrown, answers)
+        self.answer(discarded, answers)
     }
 }
 

@@ -22,7 +22,7 @@ use yasna::{ASN1Error, ASN1ErrorKind, ASN1Result, BERReader, DERWriter};
 
 /// A call whose callback throws an answer away, or makes a refusal.
 #[derive(Clone, Copy)]
-pub enum Swallow {
+pub enum Discarding {
     Refuse,
     Drop,
     Replace,
@@ -40,57 +40,57 @@ pub enum Swallow {
 #[derive(Clone, Copy)]
 pub struct Left(Option<i64>);
 
-impl Family for Swallow {
+impl Family for Discarding {
     type Value = Left;
 
-    fn named(name: &str) -> Option<Swallow> {
+    fn named(name: &str) -> Option<Discarding> {
         Some(match name {
-            "seq_err" => Swallow::Refuse,
-            "seq_drop" => Swallow::Drop,
-            "seq_replace" => Swallow::Replace,
-            "swallow2" => Swallow::Sequence,
-            "swallow3" => Swallow::SequenceThenInteger,
-            "swallow4" => Swallow::IntegerThenSequence,
-            "swallow_err" => Swallow::Refused,
-            "swallow_drop" => Swallow::Dropped,
-            "swallow_deep" => Swallow::Deep,
-            "replace_bool" => Swallow::ReplaceBool,
-            "replace_i8" => Swallow::ReplaceI8,
+            "seq_err" => Discarding::Refuse,
+            "seq_drop" => Discarding::Drop,
+            "seq_replace" => Discarding::Replace,
+            "swallow2" => Discarding::Sequence,
+            "swallow3" => Discarding::SequenceThenInteger,
+            "swallow4" => Discarding::IntegerThenSequence,
+            "swallow_err" => Discarding::Refused,
+            "swallow_drop" => Discarding::Dropped,
+            "swallow_deep" => Discarding::Deep,
+            "replace_bool" => Discarding::ReplaceBool,
+            "replace_i8" => Discarding::ReplaceI8,
             _ => return None,
         })
     }
 
     fn read(self, reader: BERReader) -> ASN1Result<Left> {
-        let thrown_away = match self {
-            Swallow::Refuse => return refusing(reader),
-            Swallow::Drop => return dropping(reader),
-            Swallow::Replace => return replacing(reader),
-            Swallow::SequenceThenInteger => return reader.read_sequence(|seq| {
+        let discarded = match self {
+            Discarding::Refuse => return refusing(reader),
+            Discarding::Drop => return dropping(reader),
+            Discarding::Replace => return replacing(reader),
+            Discarding::SequenceThenInteger => return reader.read_sequence(|seq| {
                 let _ = seq.next().read_sequence(|inner| inner.next().read_i64());
                 seq.next().read_i64().map(|number| Left(Some(number)))
             }),
-            Swallow::IntegerThenSequence => return reader.read_sequence(|seq| {
+            Discarding::IntegerThenSequence => return reader.read_sequence(|seq| {
                 let _ = seq.next().read_i64();
                 seq.next()
                     .read_sequence(|inner| inner.next().read_i64())
                     .map(|number| Left(Some(number)))
             }),
-            Swallow::ReplaceBool => {
+            Discarding::ReplaceBool => {
                 let _ = reader.read_bool();
                 return Err(ASN1Error::new(ASN1ErrorKind::Extra));
             }
-            Swallow::ReplaceI8 => {
+            Discarding::ReplaceI8 => {
                 let _ = reader.read_i8();
                 return Err(ASN1Error::new(ASN1ErrorKind::Extra));
             }
-            Swallow::Sequence => reader
+            Discarding::Sequence => reader
                 .read_sequence(|seq| seq.next().read_i64())
                 .map(|_| Left(None)),
-            Swallow::Refused => refusing(reader),
-            Swallow::Dropped => dropping(reader),
-            Swallow::Deep => Nest(101).read(reader).map(|_| Left(None)),
+            Discarding::Refused => refusing(reader),
+            Discarding::Dropped => dropping(reader),
+            Discarding::Deep => Nest(101).read(reader).map(|_| Left(None)),
         };
-        let _ = thrown_away;
+        let _ = discarded;
         Ok(Left(None))
     }
 }
