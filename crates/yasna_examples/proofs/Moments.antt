@@ -10,12 +10,12 @@ use Rattle.yasna.specs.time.Models.{DateTime, IsTimeAt}
 use Rattle.yasna.specs.time.Moment.{IsLess, moment, moment_at}
 use Rattle.yasna.specs.time.UtcTime.{IsUtcDateTime}
 use Rattle.yasna.proofs.time.Fraction.{trimmed_is}
-use Rattle.yasna.proofs.time.Moment.{less_is, less_none}
+use Rattle.yasna.proofs.time.Moment.{one_utc, less_none}
 use Rattle.yasna_examples.specs.Times.{to_the_second, with_second_59, four_digits, with_tenths}
 
 -- a date-time less nothing is itself
 pub less_nothing : (a b : DateTime) → IsLess a (pos 0) b → b ≡ a
-less_nothing a b h = less_is a a b a (pos 0) (pos 0) refl refl h (less_none a)
+less_nothing a b h = one_utc a a b a (pos 0) (pos 0) refl refl h (less_none a)
 
 -- a date-time of a UTCTime is in the years of a GeneralizedTime
 pub in_years : (dt : DateTime) → IsUtcDateTime dt → IsInYears dt
