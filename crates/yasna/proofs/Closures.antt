@@ -1,7 +1,7 @@
 -- What is read through a closure, by what the closure's calls do.
 use Rattle.std.proofs.Common.{◌≡◌, ℕ, List, [], ◌∷◌, Bool, true, false, refl, subst, arith}
 use Rattle.std.specs.Global.{Global}
-use Rattle.std.specs.Prelude.{Result, Vec}
+use Rattle.std.specs.Prelude.{Result, Vec, Option, Some, None}
 use Rattle.std.specs.Borrow.{MutBor}
 use Rattle.std.specs.Fn.{Once, Mut, Called, FnOnceReturnsAtMut, CalledAtMut}
 use Rattle.yasna_base.specs.declared.error.ASN1Error.{ASN1Error}
@@ -20,6 +20,8 @@ use Rattle.yasna_base.specs.Octets.{octets_segmentation, IsDeepOctets}
 use Rattle.yasna_base.proofs.Segmented.{deep_begins}
 use Rattle.yasna_base.proofs.Identifier.{not_end}
 use Rattle.yasna_reader.specs.declared.state.Parts.{Parts}
+use Rattle.yasna_reader.specs.Callback.{UnlessKept}
+use Rattle.yasna_reader.specs.Optional.{ReadsDefault, ReadsOrDefaults}
 use Rattle.yasna_reader.specs.Parse.{Parses}
 use Rattle.yasna_reader.specs.Sequence.{Runs, ReadsParts}
 use Rattle.yasna_reader.specs.SequenceOf.{Collects}
@@ -32,7 +34,7 @@ use Rattle.yasna_reader.specs.Primitive.{ReadsSeen, Reads, NoLevel}
 use Rattle.yasna_reader.specs.Raw.{ReadsRaw}
 use Rattle.yasna_bytes.specs.Contents.{Never, WantsMemory}
 use Rattle.yasna_bytes.specs.Segments.{bits_in}
-use Rattle.yasna_reader.specs.State.{Reading, IsFresh, starts, part_of, Does}
+use Rattle.yasna_reader.specs.State.{Reading, IsFresh, untagged, starts, part_of, Does}
 use Rattle.yasna_reader.proofs.ListDecoding.{collects}
 use Rattle.yasna_reader.proofs.ByTags.{IsDecoderByTags, tagged_by_tag}
 use Rattle.yasna_reader.proofs.PartsByTags.{IsPartsDecoderByTags}
@@ -199,3 +201,24 @@ pub any_set_of_by : {F A : Type 0} {g : Mut F (MutBor Reading × Unit {0}) (Resu
     DecodesByTags {A = Vec A Global} (set_tag ∷ []) true (λ m n v b. InSomeOrder (IsSetOf B set_tag) m n v.items b) (AnySetOf S set_tag) s r s'
 any_set_of_by {g} {f} {N} {s} {r} {s'} laws value fresh h says =
     (any_set_of_by_tag (CalledAtMut g) f set_tag (not_end 17 (λ e. omega arith)) laws value (by_call N says)).decodes s r s' fresh h
+
+-- a part with a default whose closure's calls do what N says
+pub reads_default_by : {F A : Type 0} (g : Once F (MutBor Reading × Unit {0}) (Result A ASN1Error × (MutBor Reading × Unit {0}))) (f : F) (N : Does A)
+    (eq : A → A → Bool) (d : A) (s : Reading) (r : Result A ASN1Error) (s' : Reading) → ReadsDefault (FnOnceReturnsAtMut g f) eq d s r s' →
+    ((p q : MutBor Reading) (x : Result A ASN1Error) → g.post f (p, tt) (x, (q, tt)) → N p.now x q.now) → ReadsDefault N eq d s r s'
+reads_default_by {A} g f N eq d s r s' h says = by_kept s.kept h
+  where
+    by_kept : (k : Option ASN1Error) → UnlessKept k s r s' (ReadsOrDefaults (FnOnceReturnsAtMut g f) eq d (untagged s) r s') →
+        UnlessKept k s r s' (ReadsOrDefaults N eq d (untagged s) r s')
+    by_kept (Some e) x = x
+    by_kept None x = record {
+      outcome = x.outcome;
+      between = x.between;
+      hands = record {
+        own = x.hands.own;
+        left = x.hands.left;
+        says = by_run N says (untagged s) x.hands.own x.hands.left x.hands.says;
+        comes = x.hands.comes;
+      };
+      defaults = x.defaults;
+    }

@@ -4,3 +4,4 @@ pub mod Items
 pub mod Times
 pub mod Algorithm
 pub mod Branches
+pub mod Tickets

@@ -10,6 +10,7 @@
 //! | `encoders` | types of one's own that are written by other means than one call: one wants memory of its own, one may write nothing |
 //! | `exact` | the section of docs/GUIDE.md on what is proved of values as a whole |
 //! | `known` | calls whose closures are known: their exact results follow from the contracts of `yasna` |
+//! | `parts` | a type whose parts are left out, tagged, chosen, and in any order |
 //! | `public_key`, `scrypt` | types of one's own of which a part may be left out, read by closures |
 //! | `records` | types of one's own of three, five and seven parts, each read and written as a tuple |
 //! | `strings` | the section of docs/GUIDE.md on strings, with no contract; the others stand in `yasna_guide` |
@@ -24,6 +25,7 @@ mod choice;
 mod encoders;
 mod exact;
 mod known;
+mod parts;
 mod public_key;
 mod records;
 mod scrypt;
@@ -38,6 +40,7 @@ pub use choice::parsed_items;
 pub use encoders::{Serial, Trail};
 pub use exact::reencoded;
 pub use known::{constructed_integer, parsed_integer, parsed_numbers, parsed_pair, third_number};
+pub use parts::{Kind, Ticket};
 pub use public_key::{AlgorithmIdentifier, SubjectPublicKeyInfo, encoded_key};
 pub use records::{DirectoryEntry, DomainParameters, RequestHeader};
 pub use scrypt::ScryptParameters;
