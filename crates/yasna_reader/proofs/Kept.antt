@@ -6,20 +6,22 @@ use Rattle.yasna_base.specs.declared.mode.BERMode.{BERMode}
 use Rattle.yasna_base.specs.declared.tag.Tag.{Tag}
 use Rattle.yasna_base.specs.Grammar.{TaggedGrammar, TaggedMembers}
 use Rattle.yasna_reader.specs.Decodes.{RepeatsKept}
-use Rattle.yasna_reader.specs.Primitive.{ReadsSeen}
-use Rattle.yasna_reader.specs.Raw.{ReadsRaw}
+use Rattle.yasna_reader.specs.Primitive.{ReadsSeen, ReadsUnlessKept}
+use Rattle.yasna_reader.specs.Raw.{ReadsRaw, ReadsRawUnlessKept}
 use Rattle.yasna_reader.specs.Sequence.{ReadsParts, EntersUnlessKept}
 use Rattle.yasna_reader.specs.State.{Reading, tag_of, Does}
 
 -- of a primitive type, a string or a time
 pub seen_repeats_kept : {V A : Type 0} {B : TaggedGrammar A} {view : V → A} {D : TaggedMembers}
     {M : ℕ → Tag → List ℕ → Type 0} {tag : Tag} {s : Reading} {r : Result V ASN1Error} {s' : Reading} → ReadsSeen B view D M tag s r s' → RepeatsKept s r s'
-seen_repeats_kept h = h.kept
+seen_repeats_kept {B} {view} {D} {M} {tag} {s} {r} {s'} h e k =
+    subst (λ o. ReadsUnlessKept o (B s.levels s.mode (tag_of s tag)) view (D s.levels s.mode (tag_of s tag) s.left) (M s.levels (tag_of s tag) s.left)
+    (tag_of s tag) s r s') k h.reads
 
 -- of a raw element
 pub raw_repeats_kept : {V A : Type 0} {B : ℕ → BERMode → A → List ℕ → Type 0} {view : V → A} {s : Reading} {r : Result V ASN1Error} {s' : Reading} →
     ReadsRaw B view s r s' → RepeatsKept s r s'
-raw_repeats_kept h = h.kept
+raw_repeats_kept {B} {view} {s} {r} {s'} h e k = subst (λ o. ReadsRawUnlessKept o B view s r s') k h.reads
 
 -- of an element with parts
 pub parts_repeat_kept : {A : Type 0} {P : Does A} {tag : Tag} {s : Reading} {r : Result A ASN1Error} {s' : Reading} →

@@ -1,19 +1,19 @@
 -- Typed reads of parts that may be left out: they are quiet where what follows begins with another tag.
 use Rattle.std.proofs.Common.{◌≡◌, ℕ, ◌^◌, ◌<◌, List, ◌∷◌, ◌++◌, sym, ap, subst, ◌∙◌}
+use Rattle.std.specs.Prelude.{Err}
 use Rattle.yasna_base.specs.declared.error.ASN1Error.{ASN1Error}
 use Rattle.yasna_base.specs.declared.mode.BERMode.{BERMode}
 use Rattle.yasna_base.specs.declared.tag.Tag.{Tag}
 use Rattle.yasna_base.specs.Error.{kind_of}
 use Rattle.yasna_base.specs.Grammar.{Members, TaggedGrammar, TaggedMembers}
-use Rattle.yasna_base.specs.Identifier.{BeginsWithTag, AtEnd, end_tag, begins}
+use Rattle.yasna_base.specs.Identifier.{BeginsWithTag, AtEnd, end_tag, tag_or, begins}
 use Rattle.yasna_base.specs.Sequence.{AnyPart, AnyNothing}
 use Rattle.yasna_base.proofs.Identifier.{begins_with}
 use Rattle.yasna_bytes.specs.Contents.{Never, WantsMemory}
-use Rattle.yasna_reader.specs.Primitive.{RefusedAs, ReadsSeen, Reads, NoLevel}
+use Rattle.yasna_reader.specs.Primitive.{RefusedAs, ReadsUnlessKept, ReadsSeen, Reads, NoLevel}
 use Rattle.yasna_bytes.specs.Refusal.{BlamesBytes, IsElsewhere, another}
-use Rattle.yasna_reader.specs.State.{Reading, refusing}
+use Rattle.yasna_reader.specs.State.{Reading, IsFresh, refusing, tag_of}
 use Rattle.yasna_reader.proofs.OptionalParts.{IsQuietBefore}
-use Rattle.yasna_reader.proofs.Primitives.{fresh_refused}
 use Rattle.yasna_bytes.proofs.Refusal.{plain_of, at_end_elsewhere, begins_not_elsewhere}
 
 -- contents in Q, up to an end, don't begin with the tag
@@ -42,10 +42,18 @@ module _ {V A : Type 0} (B : TaggedGrammar A) (view : V → A) (D : TaggedMember
         (λ i. begins_not_elsewhere (memory s.levels s.left (y.refuses.memory (y.kind ∙ i))) other),
   )
 
+  fresh_refused : (s : Reading) (e : ASN1Error) (s' : Reading) → IsFresh s → ReadsSeen B view D M t s (Err e) s' →
+      RefusedAs (B s.levels s.mode t) (D s.levels s.mode t s.left) (M s.levels t s.left) t s e s'
+  fresh_refused s e s' f x =
+      let y = subst (λ k. ReadsUnlessKept k (B s.levels s.mode (tag_of s t)) view (D s.levels s.mode (tag_of s t) s.left) (M s.levels (tag_of s t) s.left)
+      (tag_of s t) s (Err e) s') f.0 x.reads in
+      subst (λ u. RefusedAs (B s.levels s.mode (tag_or u t)) (D s.levels s.mode (tag_or u t) s.left) (M s.levels (tag_or u t) s.left) (tag_or u t) s e s')
+      f.1 y
+
   -- a typed read is quiet where what follows begins with another tag
   pub quiet_elsewhere : (Q : Members) → StartsElsewhere t Q → IsQuietBefore (ReadsSeen B view D M t) Q
   quiet_elsewhere Q elsewhere = record {
-    quiet = λ s e s' f x q. refused_quiet s e s' (fresh_refused B view D M t s e s' f x)
+    quiet = λ s e s' f x q. refused_quiet s e s' (fresh_refused s e s' f x)
         (subst (λ z. IsElsewhere t z) (sym q.joined) (elsewhere s.mode s.levels q.contents q.rest q.ends q.member));
   }
 

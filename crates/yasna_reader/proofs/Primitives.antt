@@ -13,51 +13,39 @@ use Rattle.yasna_bytes.specs.declared.bytes.header.Refusal.{Refusal}
 use Rattle.yasna_reader.specs.State.{Reading, IsFresh, untagged, refusing, tag_of}
 use Rattle.yasna_bytes.specs.Front.{Takes, SeenAt}
 use Rattle.yasna_bytes.specs.Contents.{Never, WantsMemory}
-use Rattle.yasna_reader.specs.Primitive.{RefusedAs, ReadsFront, Settles, FrontOf, ReadsSeen, Reads, NoLevel}
+use Rattle.yasna_reader.specs.Primitive.{RefusedAs, ReadsFront, ReadsUnlessKept, Settles, FrontOf, ReadsSeen, Reads, NoLevel}
 use Rattle.yasna_reader.specs.Decodes.{Tells, KeptTells, Took, NotTook, IsQuietAtEnd, Decodes}
 use Rattle.yasna_bytes.proofs.Refusal.{plain_of, at_end_elsewhere, not_at_end}
 
--- what is seen in front of a reading
-abbrev SeenBy : {V A : Type 0} → TaggedGrammar A → (V → A) → TaggedMembers → (ℕ → Tag → List ℕ → Type 0) → Tag → Reading →
-    Result (V × Bor (List ℕ)) Refusal → Type 0
-SeenBy B view D M u z r = SeenAt (B z.levels z.mode u) view (D z.levels z.mode u z.left) (M z.levels u z.left) u z.left r
+settled : {V A : Type 0} (B : A → List ℕ → Type 0) (view : V → A) (D M : Type 0) (t : Tag) (s : Reading) (f : Result (V × Bor (List ℕ)) Refusal)
+    (r : Result V ASN1Error) (s' : Reading) → SeenAt B view D M t s.left f → Settles s f r s' → ReadsUnlessKept None B view D M t s r s'
+settled B view D M t s (Ok x) (Ok v) s' a b =
+    record { rest = x.1.now; takes = let e : x.0 ≡ v = cc (b.0) in subst (λ z. Takes B s.left (view z) x.1.now) e a; state = b.1 }
+settled B view D M t s (Ok x) (Err e) s' a b = let f = b.0 in absurd (cc)
+settled B view D M t s (Err x) (Ok v) s' a b = let f = b.0 in absurd (cc)
+settled B view D M t s (Err x) (Err e) s' a b =
+    let g : record { kind = x.kind } ≡ e = let f = b.0 in cc in
+    record { refusal = x; kind = ap kind_of g; refuses = a; state = b.1 ∙ ap (refusing x.moved s) g }
 
 -- what was found with the fields of a reading was found for the reading
 pub at_view : {V A : Type 0} (B : TaggedGrammar A) (view : V → A) (D : TaggedMembers)
     (M : ℕ → Tag → List ℕ → Type 0) (tag u : Tag) (z s : Reading) (r : Result (V × Bor (List ℕ)) Refusal) → z ≡ s → u ≡ tag_of s tag →
     SeenAt (B z.levels z.mode u) view (D z.levels z.mode u z.left) (M z.levels u z.left) u z.left r → FrontOf B view D M tag s r
 at_view B view D M tag u z s r e f x =
-    let w : SeenBy B view D M (tag_of s tag) s r = subst (λ y. SeenBy B view D M (tag_of s tag) y r) e (subst (λ t. SeenBy B view D M t z r) f x) in
-    record {
-      takes = λ x g. subst (λ y. SeenBy B view D M (tag_of s tag) s y) g w;
-      refuses = λ k g. subst (λ y. SeenBy B view D M (tag_of s tag) s y) g w;
-    }
-
-module _ {V A : Type 0} (B : TaggedGrammar A) (view : V → A) (D : TaggedMembers) (M : ℕ → Tag → List ℕ → Type 0) (tag : Tag) (s : Reading) where
-  front_taken : (f : Result (V × Bor (List ℕ)) Refusal) (r : Result V ASN1Error) (s' : Reading) → FrontOf B view D M tag s f → Settles s f r s' →
-      (v : V) → r ≡ Ok v → ReadsFront (B s.levels s.mode (tag_of s tag)) s (view v) s'
-  front_taken (Ok x) r s' a b v g =
-      let i = b.0 in
-      let e : x.0 ≡ v = cc in
-      record { rest = x.1.now; takes = subst (λ z. Takes (B s.levels s.mode (tag_of s tag)) s.left (view z) x.1.now) e (a.takes x refl); state = b.1 }
-  front_taken (Err k) r s' a b v g = let i = b.0 in absurd (cc)
-
-  front_refused : (f : Result (V × Bor (List ℕ)) Refusal) (r : Result V ASN1Error) (s' : Reading) → FrontOf B view D M tag s f → Settles s f r s' →
-      (e : ASN1Error) → r ≡ Err e →
-      RefusedAs (B s.levels s.mode (tag_of s tag)) (D s.levels s.mode (tag_of s tag) s.left) (M s.levels (tag_of s tag) s.left) (tag_of s tag) s e s'
-  front_refused (Ok x) r s' a b e g = let i = b.0 in absurd (cc)
-  front_refused (Err k) r s' a b e g =
-      let i : record { kind = k.kind } ≡ e = let f = b.0 in cc in
-      record { refusal = k; kind = ap kind_of i; refuses = a.refuses k refl; state = b.1 ∙ ap (refusing k.moved s) i }
+    let y = subst (λ u. SeenAt (B z.levels z.mode u) view (D z.levels z.mode u z.left) (M z.levels u z.left) u z.left r) f x in
+    subst (λ z. SeenAt (B z.levels z.mode (tag_of s tag)) view (D z.levels z.mode (tag_of s tag) z.left) (M z.levels (tag_of s tag) z.left) (tag_of s tag)
+    z.left r) e y
 
 -- what was found at the front, with the reading settled, is what a typed read does
 pub reads_front : {V A : Type 0} (B : TaggedGrammar A) (view : V → A) (D : TaggedMembers)
     (M : ℕ → Tag → List ℕ → Type 0) (tag : Tag) (s : Reading) (f : Result (V × Bor (List ℕ)) Refusal) (r : Result V ASN1Error) (s' : Reading) →
     s.kept ≡ None → FrontOf B view D M tag s f → Settles s f r s' → ReadsSeen B view D M tag s r s'
-reads_front B view D M tag s f r s' none a b = record {
-  kept = λ e k. absurd (cc);
-  took = λ _. front_taken B view D M tag s f r s' a b;
-  refused = λ _. front_refused B view D M tag s f r s' a b;
+reads_front B view D M tag s f r s' e a b = record {
+  reads = subst
+      (λ k. ReadsUnlessKept k (B s.levels s.mode (tag_of s tag)) view (D s.levels s.mode (tag_of s tag) s.left) (M s.levels (tag_of s tag) s.left)
+      (tag_of s tag) s r s') (sym e)
+      (settled (B s.levels s.mode (tag_of s tag)) view (D s.levels s.mode (tag_of s tag) s.left) (M s.levels (tag_of s tag) s.left) (tag_of s tag) s f r s'
+      a b);
 }
 
 -- a typed read with a failure kept answers that failure
@@ -65,24 +53,19 @@ pub reads_kept : {V A : Type 0} (B : TaggedGrammar A) (view : V → A) (D : Tagg
     (M : ℕ → Tag → List ℕ → Type 0) (tag : Tag) (s : Reading) (e : ASN1Error) (r : Result V ASN1Error) (s' : Reading) → s.kept ≡ Some e → r ≡ Err e →
     s' ≡ s → ReadsSeen B view D M tag s r s'
 reads_kept B view D M tag s e r s' k f g = record {
-  kept = λ d h. (let i : e ≡ d = cc in f ∙ ap Err i, g);
-  took = λ n v h. absurd (cc);
-  refused = λ n d h. absurd (cc);
+  reads = subst
+      (λ k. ReadsUnlessKept k (B s.levels s.mode (tag_of s tag)) view (D s.levels s.mode (tag_of s tag) s.left) (M s.levels (tag_of s tag) s.left)
+      (tag_of s tag) s r s') (sym k) (f, g);
 }
 
--- a fresh reading takes a front under the type's own tag
-fresh_took : {V A : Type 0} (B : TaggedGrammar A) (view : V → A) (D : TaggedMembers)
-    (M : ℕ → Tag → List ℕ → Type 0) (t : Tag) (s : Reading) (v : V) (s' : Reading) → IsFresh s → ReadsSeen B view D M t s (Ok v) s' →
-    ReadsFront (B s.levels s.mode t) s (view v) s'
-fresh_took B view D M t s v s' f x = subst (λ u. ReadsFront (B s.levels s.mode (tag_or u t)) s (view v) s') f.1 (x.took f.0 v refl)
-
--- and refuses others
-pub fresh_refused : {V A : Type 0} (B : TaggedGrammar A) (view : V → A) (D : TaggedMembers)
-    (M : ℕ → Tag → List ℕ → Type 0) (t : Tag) (s : Reading) (e : ASN1Error) (s' : Reading) → IsFresh s → ReadsSeen B view D M t s (Err e) s' →
-    RefusedAs (B s.levels s.mode t) (D s.levels s.mode t s.left) (M s.levels t s.left) t s e s'
-fresh_refused B view D M t s e s' f x = subst
-    (λ u. RefusedAs (B s.levels s.mode (tag_or u t)) (D s.levels s.mode (tag_or u t) s.left) (M s.levels (tag_or u t) s.left) (tag_or u t) s e s') f.1
-    (x.refused f.0 e refl)
+fresh : {V A : Type 0} (B : TaggedGrammar A) (view : V → A) (D : TaggedMembers)
+    (M : ℕ → Tag → List ℕ → Type 0) (t : Tag) (s : Reading) (r : Result V ASN1Error) (s' : Reading) → IsFresh s → ReadsSeen B view D M t s r s' →
+    ReadsUnlessKept None (B s.levels s.mode t) view (D s.levels s.mode t s.left) (M s.levels t s.left) t s r s'
+fresh B view D M t s r s' f x =
+    let y = subst (λ k. ReadsUnlessKept k (B s.levels s.mode (tag_of s t)) view (D s.levels s.mode (tag_of s t) s.left) (M s.levels (tag_of s t) s.left)
+    (tag_of s t) s r s') f.0 x.reads in
+    subst (λ u. ReadsUnlessKept None (B s.levels s.mode (tag_or u t)) view (D s.levels s.mode (tag_or u t) s.left) (M s.levels (tag_or u t) s.left)
+    (tag_or u t) s r s') f.1 y
 
 -- nothing is too deep at an end
 pub no_level_at_end : (n : ℕ) (m : BERMode) (t : Tag) (s : List ℕ) → (t ≡ end_tag → ⊥) → AtEnd s → NoLevel n m t s → ⊥
@@ -149,10 +132,14 @@ module _ {V A : Type 0} (asks : Bool) (B : TaggedGrammar A) (view : V → A) (D 
     plain_of (kind_of e) (λ i. deep s.levels s.mode s.left a (y.refuses.too_deep (y.kind ∙ i))) (λ i. memory s.levels s.left a (y.refuses.memory (y.kind ∙ i))),
   )
 
+  decodes : (s : Reading) (r : Result V ASN1Error) (s' : Reading) → IsFresh s →
+      ReadsUnlessKept None (B s.levels s.mode t) view (D s.levels s.mode t s.left) (M s.levels t s.left) t s r s' → Decodes asks B' S' s r s'
+  decodes s (Ok v) s' f y = typed_took s v s' f.1 y
+  decodes s (Err e) s' f y = (typed_refused s e s' f y, quiet s e s' y)
+
   -- such a read decodes
   pub asked_decodes : (s : Reading) (r : Result V ASN1Error) (s' : Reading) → IsFresh s → ReadsSeen B view D M t s r s' → Decodes asks B' S' s r s'
-  asked_decodes s (Ok v) s' f x = typed_took s v s' f.1 (fresh_took B view D M t s v s' f x)
-  asked_decodes s (Err e) s' f x = let y = fresh_refused B view D M t s e s' f x in (typed_refused s e s' f y, quiet s e s' y)
+  asked_decodes s r s' f x = decodes s r s' f (fresh B view D M t s r s' f x)
 
 -- a typed read under the type's own tag that goes one level down and takes no memory decodes
 pub leaf_decodes : {A : Type 0} (B : TaggedGrammar A) (k : ℕ) → (k ≡ 0 → ⊥) → (s : Reading) (r : Result A ASN1Error) (s' : Reading) →

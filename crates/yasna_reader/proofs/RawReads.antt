@@ -15,8 +15,8 @@ use Rattle.yasna_bytes.specs.declared.bytes.header.Refusal.{Refusal}
 use Rattle.yasna_bytes.specs.declared.bytes.walk.RawElement.{RawElement}
 use Rattle.yasna_bytes.specs.Front.{Takes, Stands}
 use Rattle.yasna_reader.specs.Decodes.{Tells, KeptTells, NotTook, IsQuietAtEnd, Decodes}
-use Rattle.yasna_reader.specs.Primitive.{ReadsFront, Settles}
-use Rattle.yasna_reader.specs.Raw.{RefusesCopy, CopiedAt, RefusedRaw, ReadsRaw}
+use Rattle.yasna_reader.specs.Primitive.{Settles}
+use Rattle.yasna_reader.specs.Raw.{RefusesCopy, CopiedAt, RefusedRaw, ReadsRawUnlessKept, ReadsRaw}
 use Rattle.yasna_reader.specs.State.{Reading, IsFresh, refusing}
 use Rattle.yasna_bytes.specs.Walk.{RefusesRaw, TakesRaw, element_of}
 use Rattle.yasna_bytes.proofs.RawHeader.{starts_not_at_end}
@@ -58,40 +58,26 @@ lacks_copy N n m s e x r y k f =
       memory = λ _. (raw_level n m (element_of x) x.bytes.now y.raw, i);
     }
 
-module _ {V A : Type 0} (B : ℕ → BERMode → A → List ℕ → Type 0) (view : V → A) (s : Reading) where
-  raw_taken : (f : Result (V × Bor (List ℕ)) Refusal) (r : Result V ASN1Error) (s' : Reading) → CopiedAt B view s.levels s.mode s.left f →
-      Settles s f r s' → (v : V) → r ≡ Ok v → ReadsFront (B s.levels s.mode) s (view v) s'
-  raw_taken (Ok x) r s' a b v g =
-      let i = b.0 in
-      let e : x.0 ≡ v = cc in
-      record { rest = x.1.now; takes = subst (λ z. Takes (B s.levels s.mode) s.left (view z) x.1.now) e a; state = b.1 }
-  raw_taken (Err k) r s' a b v g = let i = b.0 in absurd (cc)
-
-  raw_refused : (f : Result (V × Bor (List ℕ)) Refusal) (r : Result V ASN1Error) (s' : Reading) → CopiedAt B view s.levels s.mode s.left f →
-      Settles s f r s' → (e : ASN1Error) → r ≡ Err e → RefusedRaw B s e s'
-  raw_refused (Ok x) r s' a b e g = let i = b.0 in absurd (cc)
-  raw_refused (Err k) r s' a b e g =
-      let i : record { kind = k.kind } ≡ e = let f = b.0 in cc in
-      record { refusal = k; kind = ap kind_of i; refuses = a; state = b.1 ∙ ap (refusing k.moved s) i }
+settled_raw : {V A : Type 0} (B : ℕ → BERMode → A → List ℕ → Type 0) (view : V → A) (s : Reading) (f : Result (V × Bor (List ℕ)) Refusal)
+    (r : Result V ASN1Error) (s' : Reading) → CopiedAt B view s.levels s.mode s.left f → Settles s f r s' → ReadsRawUnlessKept None B view s r s'
+settled_raw B view s (Ok x) (Ok v) s' a b =
+    record { rest = x.1.now; takes = let e : x.0 ≡ v = cc (b.0) in subst (λ z. Takes (B s.levels s.mode) s.left (view z) x.1.now) e a; state = b.1 }
+settled_raw B view s (Ok x) (Err e) s' a b = let f = b.0 in absurd (cc)
+settled_raw B view s (Err x) (Ok v) s' a b = let f = b.0 in absurd (cc)
+settled_raw B view s (Err x) (Err e) s' a b =
+    let g : record { kind = x.kind } ≡ e = let f = b.0 in cc in
+    record { refusal = x; kind = ap kind_of g; refuses = a; state = b.1 ∙ ap (refusing x.moved s) g }
 
 -- what was found at the front, with the reading settled, is what a read does
 pub reads_raw : {V A : Type 0} (B : ℕ → BERMode → A → List ℕ → Type 0) (view : V → A) (s : Reading) (f : Result (V × Bor (List ℕ)) Refusal)
     (r : Result V ASN1Error) (s' : Reading) → s.kept ≡ None → CopiedAt B view s.levels s.mode s.left f → Settles s f r s' →
     ReadsRaw B view s r s'
-reads_raw B view s f r s' none a b = record {
-  kept = λ e k. absurd (cc);
-  took = λ _. raw_taken B view s f r s' a b;
-  refused = λ _. raw_refused B view s f r s' a b;
-}
+reads_raw B view s f r s' e a b = record { reads = subst (λ k. ReadsRawUnlessKept k B view s r s') (sym e) (settled_raw B view s f r s' a b) }
 
 -- with a failure kept a read answers that failure
 pub reads_raw_kept : {V A : Type 0} (B : ℕ → BERMode → A → List ℕ → Type 0) (view : V → A) (s : Reading) (e : ASN1Error) (r : Result V ASN1Error)
     (s' : Reading) → s.kept ≡ Some e → r ≡ Err e → s' ≡ s → ReadsRaw B view s r s'
-reads_raw_kept B view s e r s' k f g = record {
-  kept = λ d h. (let i : e ≡ d = cc in f ∙ ap Err i, g);
-  took = λ n v h. absurd (cc);
-  refused = λ n d h. absurd (cc);
-}
+reads_raw_kept B view s e r s' k f g = record { reads = subst (λ k. ReadsRawUnlessKept k B view s r s') (sym k) (f, g) }
 
 -- What a fresh reading decodes by a read of a raw element, of which B says what is copied
 module _ {V A : Type 0} (B : ℕ → BERMode → A → List ℕ → Type 0) (view : V → A) (s : Reading) (fresh : IsFresh s) where
@@ -126,17 +112,18 @@ module _ {V A : Type 0} (B : ℕ → BERMode → A → List ℕ → Type 0) (vie
     ),
   )
 
+  decodes_unkept : (r : Result V ASN1Error) (s' : Reading) → ReadsRawUnlessKept None B view s r s' →
+      Decodes true (λ m n v b. B n m (view v) b) (Any (λ m n v b. B n m v b)) s r s'
+  decodes_unkept (Ok v) s' x = record {
+    front = x.takes.front;
+    rest = x.rest;
+    joined = x.takes.joined;
+    stands = x.takes.member;
+    left = x.state ∙ ap {A = Option Tag} {B = Reading} (λ u. record s { left = x.rest; tag = u }) (sym fresh.1);
+  }
+  decodes_unkept (Err e) s' x =
+      subst (λ z. NotTook true (Any (λ m n v b. B n m v b) s.mode s.levels) s e z × IsQuietAtEnd s e z) (sym x.state) (refused_as e s' x x.refusal.moved refl)
+
   pub raw_decodes : (r : Result V ASN1Error) (s' : Reading) → ReadsRaw B view s r s' →
       Decodes true (λ m n v b. B n m (view v) b) (Any (λ m n v b. B n m v b)) s r s'
-  raw_decodes (Ok v) s' h =
-      let x = h.took fresh.0 v refl in
-      record {
-        front = x.takes.front;
-        rest = x.rest;
-        joined = x.takes.joined;
-        stands = x.takes.member;
-        left = x.state ∙ ap {A = Option Tag} {B = Reading} (λ u. record s { left = x.rest; tag = u }) (sym fresh.1);
-      }
-  raw_decodes (Err e) s' h =
-      let x = h.refused fresh.0 e refl in
-      subst (λ z. NotTook true (Any (λ m n v b. B n m v b) s.mode s.levels) s e z × IsQuietAtEnd s e z) (sym x.state) (refused_as e s' x x.refusal.moved refl)
+  raw_decodes r s' x = decodes_unkept r s' (subst (λ k. ReadsRawUnlessKept k B view s r s') fresh.0 x.reads)

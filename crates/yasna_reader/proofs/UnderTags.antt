@@ -1,6 +1,5 @@
 -- Reads under IMPLICIT tags (X.690, 8.14.3): a read that a tag waits for does what the read of a type with that tag does.
 use Rattle.std.proofs.Common.{◌≡◌, ℕ, List, Option, Some, None, Result, Ok, Err, Bool, true, false, inl, inr, sym, ap, subst, ◌∙◌}
-use Rattle.std.proofs.lemmas.Option.{none-some}
 use Rattle.yasna_base.specs.declared.error.ASN1Error.{ASN1Error}
 use Rattle.yasna_base.specs.declared.tag.Tag.{Tag}
 use Rattle.yasna_base.specs.Grammar.{Grammar, Members, TaggedGrammar, TaggedMembers}
@@ -9,7 +8,7 @@ use Rattle.yasna_reader.specs.declared.callback.Outcome.{Outcome}
 use Rattle.yasna_reader.specs.declared.callback.Outcome.TheVariants.{Gave, Quiet, Failed}
 use Rattle.yasna_reader.specs.ByTags.{DecodesByTags}
 use Rattle.yasna_reader.specs.Callback.{Fault, kept, before, own, ComesTo, Hands, Lent, UnlessKept, answer_of}
-use Rattle.yasna_reader.specs.Primitive.{ReadsFront, RefusedAs, ReadsSeen}
+use Rattle.yasna_reader.specs.Primitive.{ReadsUnlessKept, ReadsSeen}
 use Rattle.yasna_reader.specs.Sequence.{Left, EntersUnlessKept, ReadsParts}
 use Rattle.yasna_reader.specs.State.{Reading, IsFresh, untagged, refusing, tag_of, Does}
 use Rattle.yasna_reader.specs.Tagged.{tagging, ReadsImplicitly}
@@ -29,27 +28,26 @@ refuses_so : (t : Tag) (s : Reading) (e : ASN1Error) (m : Reading) (moved : Bool
 refuses_so t s e m true fresh h = ap untagged h
 refuses_so t s e m false fresh h = ap untagged h ∙ stays s fresh
 
--- a typed read
+-- what is read from what equals a fresh reading with its own tag
 module _ {V A : Type 0} (B : TaggedGrammar A) (view : V → A) (D : TaggedMembers) (M : ℕ → Tag → List ℕ → Type 0) (own t : Tag) where
-  took_so : (s : Reading) (v : V) (m : Reading) → ReadsFront (B s.levels s.mode t) (record s { tag = Some t }) (view v) m →
-      ReadsFront (B s.levels s.mode t) s (view v) (untagged m)
-  took_so s v m h = record { rest = h.rest; takes = h.takes; state = ap untagged h.state }
-
-  refused_so : (s : Reading) (e : ASN1Error) (m : Reading) → IsFresh s →
-      RefusedAs (B s.levels s.mode t) (D s.levels s.mode t s.left) (M s.levels t s.left) t (record s { tag = Some t }) e m →
-      RefusedAs (B s.levels s.mode t) (D s.levels s.mode t s.left) (M s.levels t s.left) t s e (untagged m)
-  refused_so s e m fresh h =
+  seen_so : (s : Reading) (r : Result V ASN1Error) (m : Reading) → IsFresh s →
+      ReadsUnlessKept None (B s.levels s.mode t) view (D s.levels s.mode t s.left) (M s.levels t s.left) t (record s { tag = Some t }) r m →
+      ReadsUnlessKept None (B s.levels s.mode t) view (D s.levels s.mode t s.left) (M s.levels t s.left) t s r (untagged m)
+  seen_so s (Ok v) m fresh h = record { rest = h.rest; takes = h.takes; state = ap untagged h.state }
+  seen_so s (Err e) m fresh h =
       record { refusal = h.refusal; kind = h.kind; refuses = h.refuses; state = refuses_so t s e m h.refusal.moved fresh h.state }
 
+  -- a typed read
   pub seen_under : DoesUnder t (ReadsSeen B view D M own) (ReadsSeen B view D M t)
   seen_under = record {
-    does = λ s r m fresh h. record {
-      kept = λ e k. absurd (none-some e (sym fresh.0 ∙ k));
-      took = λ n v e. subst (λ (o : Option Tag). ReadsFront (B s.levels s.mode (tag_or o t)) s (view v) (untagged m)) (sym fresh.1)
-          (took_so s v m (h.took n v e));
-      refused = λ n e f. subst (λ (o : Option Tag). RefusedAs (B s.levels s.mode (tag_or o t)) (D s.levels s.mode (tag_or o t) s.left)
-          (M s.levels (tag_or o t) s.left) (tag_or o t) s e (untagged m)) (sym fresh.1) (refused_so s e m fresh (h.refused n e f));
-    };
+    does = λ s r m fresh h.
+        let U = λ (k : Option ASN1Error) (u : Tag) (z : Reading) (w : Reading).
+        ReadsUnlessKept k (B s.levels s.mode u) view (D s.levels s.mode u s.left) (M s.levels u s.left) u z r w in
+        record {
+          reads = subst (λ k. U k (tag_of s t) s (untagged m)) (sym fresh.0)
+              (subst (λ (o : Option Tag). U None (tag_or o t) s (untagged m)) (sym fresh.1)
+              (seen_so s r m fresh (subst (λ k. U k t (record s { tag = Some t }) m) fresh.0 h.reads)));
+        };
   }
 
 module _ {A : Type 0} (P : Does A) (own t : Tag) where

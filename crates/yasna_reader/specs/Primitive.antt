@@ -1,13 +1,12 @@
 -- What a typed read does to a reading.
 use Rattle.std.specs.Borrow.{Bor}
-use Rattle.std.specs.Prelude.{Err, List, None, Ok, Result, ℕ, ◌≡◌}
+use Rattle.std.specs.Prelude.{Err, List, None, Ok, Option, Result, Some, ℕ, ◌≡◌}
 use Rattle.yasna_base.specs.Error.{error_of, kind_of}
 use Rattle.yasna_base.specs.declared.error.ASN1Error.{ASN1Error}
 use Rattle.yasna_base.specs.declared.tag.Tag.{Tag}
 use Rattle.yasna_base.specs.Grammar.{TaggedGrammar, TaggedMembers}
-use Rattle.yasna_bytes.specs.Front.{Takes, Stands}
+use Rattle.yasna_bytes.specs.Front.{Takes, Stands, SeenAt}
 use Rattle.yasna_bytes.specs.Refusal.{IsTooDeep, Refuses}
-use Rattle.yasna_reader.specs.Decodes.{RepeatsKept}
 use Rattle.yasna_reader.specs.State.{Reading, refusing, tag_of, untagged, Does}
 use Rattle.yasna_bytes.specs.declared.bytes.header.Refusal.{Refusal}
 
@@ -24,35 +23,31 @@ pub record ReadsFront {A : Type 0} (B : A → List ℕ → Type 0) (s : Reading)
   pub takes : Takes B s.left v rest
   pub state : s' ≡ record (untagged s) { left = rest }
 
+-- a kept failure comes first, and leaves the reading as it was; view says what is seen of a value
+abbrev pub ReadsUnlessKept : {V A : Type 0} → Option ASN1Error → (A → List ℕ → Type 0) → (V → A) → Type 0 → Type 0 → Tag → Does V
+ReadsUnlessKept (Some e) B view D M t s r s' = (r ≡ Err e) × (s' ≡ s)
+ReadsUnlessKept None B view D M t s (Ok v) s' = ReadsFront B s (view v) s'
+ReadsUnlessKept None B view D M t s (Err e) s' = RefusedAs B D M t s e s'
+
 -- what a front that was looked for does to a reading
 abbrev pub Settles : {A : Type 0} → Reading → Result (A × Bor (List ℕ)) Refusal → Result A ASN1Error → Reading → Type 0
 Settles s (Ok x) r s' = (r ≡ Ok x.0) × (s' ≡ record (untagged s) { left = x.1.now })
 Settles s (Err e) r s' = (r ≡ Err (error_of e.kind)) × (s' ≡ refusing e.moved s (error_of e.kind))
 
--- What a typed read finds in front of a reading. B: which fronts it takes; D: where they lie too deep; M: where memory may
--- be wanting; each under the tag of the next element, which is the implicit one or the type's own (X.690, 8.14)
-pub record FrontOf {V A : Type 0} (B : TaggedGrammar A) (view : V → A) (D : TaggedMembers)
-    (M : ℕ → Tag → List ℕ → Type 0) (tag : Tag) (s : Reading) (f : Result (V × Bor (List ℕ)) Refusal) : Type 0 where
-  -- a front in B stands for what is seen of the value that is answered, and the rest is answered beside it
-  pub takes : (x : V × Bor (List ℕ)) → f ≡ Ok x → Takes (B s.levels s.mode (tag_of s tag)) s.left (view x.0) x.1.now
-  -- no front is in B, and why
-  pub refuses : (e : Refusal) → f ≡ Err e →
-      Refuses (Stands (B s.levels s.mode (tag_of s tag)) s.left) (D s.levels s.mode (tag_of s tag) s.left) (M s.levels (tag_of s tag) s.left) (tag_of s tag)
-      s.left e
+-- What a typed read looks for. B: which fronts it takes; D: where they lie too deep; M: where memory may be wanting
+abbrev pub FrontOf : {V A : Type 0} → TaggedGrammar A → (V → A) → TaggedMembers →
+    (ℕ → Tag → List ℕ → Type 0) → Tag → Reading → Result (V × Bor (List ℕ)) Refusal → Type 0
+FrontOf B view D M tag s r = SeenAt (B s.levels s.mode (tag_of s tag)) view (D s.levels s.mode (tag_of s tag) s.left) (M s.levels (tag_of s tag) s.left)
+    (tag_of s tag) s.left r
 
--- A typed read of values of which view says what is seen. B: which fronts it takes; D: where they lie too deep; M: where
--- memory may be wanting; each under the tag of the next element, which is the implicit one or the type's own (X.690, 8.14)
+-- A typed read of values of which view says what is seen: with a failure kept that failure, and nothing moved; else Ok takes
+-- a front in B, which stands for what is seen of the value, and leaves the rest; an Err that isn't of memory says that no
+-- front is in B, whatever it stands for. It is unmoved exactly where nothing or another tag stands there: then the reading
+-- is as it was, the implicit tag too; and kept otherwise; of depth exactly where D holds; of memory only where M does
 pub record ReadsSeen {V A : Type 0} (B : TaggedGrammar A) (view : V → A) (D : TaggedMembers)
     (M : ℕ → Tag → List ℕ → Type 0) (tag : Tag) (s : Reading) (r : Result V ASN1Error) (s' : Reading) : Type 0 where
-  -- a failure that was kept is answered, and nothing moves
-  pub kept : RepeatsKept s r s'
-  -- else Ok v takes a front in B, which is an encoding of what is seen of v, and leaves the rest
-  pub took : s.kept ≡ None → (v : V) → r ≡ Ok v → ReadsFront (B s.levels s.mode (tag_of s tag)) s (view v) s'
-  -- And an Err that isn't of memory says that no front is in B, whatever it stands for. It is unmoved exactly where nothing or
-  -- another tag stands there: then the reading is as it was, the implicit tag too; and kept otherwise; of depth exactly where D
-  -- holds; of memory only where M does
-  pub refused : s.kept ≡ None → (e : ASN1Error) → r ≡ Err e →
-      RefusedAs (B s.levels s.mode (tag_of s tag)) (D s.levels s.mode (tag_of s tag) s.left) (M s.levels (tag_of s tag) s.left) (tag_of s tag) s e s'
+  pub reads : ReadsUnlessKept s.kept (B s.levels s.mode (tag_of s tag)) view (D s.levels s.mode (tag_of s tag) s.left) (M s.levels (tag_of s tag) s.left)
+      (tag_of s tag) s r s'
 
 -- the same of values that are seen as they are
 abbrev pub Reads : {A : Type 0} → TaggedGrammar A → TaggedMembers → (ℕ → Tag → List ℕ → Type 0) → Tag → Does A

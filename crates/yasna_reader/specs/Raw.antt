@@ -1,6 +1,6 @@
 -- What a read of a raw element does to a reading.
 use Rattle.std.specs.Borrow.{Bor}
-use Rattle.std.specs.Prelude.{Err, List, None, Ok, Result, false, ℕ, ◌≡◌, ◌↔◌, ◌≤◌}
+use Rattle.std.specs.Prelude.{Err, List, None, Ok, Option, Result, Some, false, ℕ, ◌≡◌, ◌↔◌, ◌≤◌}
 use Rattle.yasna_base.specs.Error.{kind_of}
 use Rattle.yasna_base.specs.Identifier.{StartsElement, AtEnd}
 use Rattle.yasna_base.specs.Raw.{RawValue, IsRaw, IsDeepRaw}
@@ -8,9 +8,8 @@ use Rattle.yasna_base.specs.declared.error.ASN1Error.{ASN1Error}
 use Rattle.yasna_base.specs.declared.error.ASN1ErrorKind.TheVariants.{OutOfMemory, StackOverflow}
 use Rattle.yasna_base.specs.declared.mode.BERMode.{BERMode}
 use Rattle.yasna_bytes.specs.Front.{Stands, Takes}
-use Rattle.yasna_reader.specs.Decodes.{RepeatsKept}
 use Rattle.yasna_reader.specs.Primitive.{ReadsFront}
-use Rattle.yasna_reader.specs.State.{Reading, refusing}
+use Rattle.yasna_reader.specs.State.{Reading, refusing, Does}
 use Rattle.yasna_bytes.specs.declared.bytes.header.Refusal.{Refusal}
 
 -- the whole of a raw element
@@ -39,14 +38,17 @@ pub record RefusedRaw {A : Type 0} (B : ℕ → BERMode → A → List ℕ → T
   pub refuses : RefusesCopy (Stands (B s.levels s.mode) s.left) s.levels s.mode s.left refusal
   pub state : s' ≡ refusing refusal.moved s e
 
--- A read of a raw element, whatever implicit tag waits (X.690, 8.1), where view says what is seen of a value
+-- a kept failure comes first
+abbrev pub ReadsRawUnlessKept : {V A : Type 0} → Option ASN1Error → (ℕ → BERMode → A → List ℕ → Type 0) → (V → A) → Does V
+ReadsRawUnlessKept (Some e) B view s r s' = (r ≡ Err e) × (s' ≡ s)
+ReadsRawUnlessKept None B view s (Ok v) s' = ReadsFront (B s.levels s.mode) s (view v) s'
+ReadsRawUnlessKept None B view s (Err e) s' = RefusedRaw B s e s'
+
+-- A read of a raw element, whatever implicit tag waits, where view says what is seen of a value: with a failure kept that
+-- failure, and nothing moved; else Ok takes a front in B, which stands for what is seen of the value, and leaves the rest;
+-- an Err that isn't of memory says that no front is in B. It is unmoved exactly where nothing is left or an identifier of
+-- the end of contents stands there: then the reading is as it was; and kept otherwise; of depth exactly where the elements nest too deep; of memory only
+-- where a level is left and another identifier stands there
 pub record ReadsRaw {V A : Type 0} (B : ℕ → BERMode → A → List ℕ → Type 0) (view : V → A) (s : Reading) (r : Result V ASN1Error) (s' : Reading) :
     Type 0 where
-  -- a failure that was kept is answered, and nothing moves
-  pub kept : RepeatsKept s r s'
-  -- else Ok v takes a front in B, which stands for what is seen of v, and leaves the rest
-  pub took : s.kept ≡ None → (v : V) → r ≡ Ok v → ReadsFront (B s.levels s.mode) s (view v) s'
-  -- And an Err that isn't of memory says that no front is in B. It is unmoved exactly where nothing is left or an identifier of
-  -- the end of contents stands there: then the reading is as it was; and kept otherwise; of depth exactly where the elements
-  -- nest too deep; of memory only where a level is left and another identifier stands there
-  pub refused : s.kept ≡ None → (e : ASN1Error) → r ≡ Err e → RefusedRaw B s e s'
+  pub reads : ReadsRawUnlessKept s.kept B view s r s'
