@@ -36,6 +36,9 @@ pub fn entries_to_der(
 pub fn entry_of_der(alloc: Global, store: &[i64], bytes: &[u8]) -> Result<i64, StoreError> {
     try_parse_der(alloc, bytes, |reader| {
         let place = reader.read_u16()?;
-        store.get(usize::from(place)).copied().ok_or(StoreError::NoSuchEntry)
+        store
+            .get(usize::from(place))
+            .copied()
+            .ok_or(StoreError::NoSuchEntry)
     })
 }

@@ -24,7 +24,11 @@ fn parts_end(rt: HostRuntime) -> Result<(), Fail> {
     let alloc = rt.alloc();
     let alone = parse_der(alloc, &[48, 3, 2, 1, 7], |reader| number_alone(reader))?;
     assert_eq!(rt; alone, (7, true));
-    let followed = parse_der(alloc, &[48, 5, 2, 1, 7, 5, 0], |reader| number_alone(reader))?;
+    let followed = parse_der(
+        alloc,
+        &[48, 5, 2, 1, 7, 5, 0],
+        |reader| number_alone(reader),
+    )?;
     assert_eq!(rt; followed, (7, false));
     let indefinite = [48, 128, 2, 1, 7, 0, 0];
     let alone = parse_ber(alloc, &indefinite, |reader| number_alone(reader))?;
@@ -40,7 +44,10 @@ fn kept_failures_end_parts(rt: HostRuntime) -> Result<(), Fail> {
             Ok(parts.is_at_end())
         })
     });
-    assert_eq!(rt; answer.err().map(|error| error.kind()), Some(ASN1ErrorKind::Invalid));
+    assert_eq!(rt;
+        answer.err().map(|error| error.kind()),
+        Some(ASN1ErrorKind::Invalid)
+    );
     Ok(())
 }
 

@@ -4,7 +4,9 @@ ghost use Rattle.std.specs.Prelude.{◌≡◌, ℕ, IfOk};
 use std::alloc::Global;
 use std::test::Fail;
 use yasna::models::TaggedDerValue;
-use yasna::{ASN1ErrorKind, ASN1Result, DERExact, decode_der, encode_cer, encode_der, one_der_form};
+use yasna::{
+    ASN1ErrorKind, ASN1Result, DERExact, decode_der, encode_cer, encode_der, one_der_form,
+};
 
 // What DER read is written again as the same bytes.
 fn written_again<T: DERExact>(alloc: Global, bytes: &[u8]) -> ASN1Result<Vec<u8>>
@@ -22,7 +24,10 @@ fn elements_come_back(rt: HostRuntime) -> Result<(), Fail> {
     let again = written_again::<Vec<TaggedDerValue>>(alloc, &elements)?;
     assert_eq!(rt; again.as_slice(), elements.as_slice());
     let long = written_again::<Vec<TaggedDerValue>>(alloc, &[48, 4, 2, 129, 1, 7]);
-    assert_eq!(rt; long.err().map(|error| error.kind()), Some(ASN1ErrorKind::Invalid));
+    assert_eq!(rt;
+        long.err().map(|error| error.kind()),
+        Some(ASN1ErrorKind::Invalid)
+    );
     Ok(())
 }
 
@@ -30,8 +35,14 @@ fn elements_come_back(rt: HostRuntime) -> Result<(), Fail> {
 fn elements_are_written_as_they_came(rt: HostRuntime) -> Result<(), Fail> {
     let alloc = rt.alloc();
     let element: TaggedDerValue = decode_der(alloc, &[160, 3, 2, 1, 7])?;
-    assert_eq!(rt; encode_der(alloc, &element)?.as_slice(), [160, 3, 2, 1, 7].as_slice());
+    assert_eq!(rt;
+        encode_der(alloc, &element)?.as_slice(),
+        [160, 3, 2, 1, 7].as_slice()
+    );
     let number: TaggedDerValue = decode_der(alloc, &[2, 1, 7])?;
-    assert_eq!(rt; encode_cer(alloc, &number)?.as_slice(), [2, 1, 7].as_slice());
+    assert_eq!(rt;
+        encode_cer(alloc, &number)?.as_slice(),
+        [2, 1, 7].as_slice()
+    );
     Ok(())
 }
