@@ -2,7 +2,7 @@
 use Rattle.std.proofs.Common.{◌≡◌, ℕ, List, ◌++◌, refl, ap, sym, inl, inr, false, arith}
 use Rattle.std.specs.Prelude.{ℤ, Option, Some, None, Result}
 use Rattle.std.specs.Int.{w64}
-use Rattle.yasna.specs.Words.{BERMode, Tag, SameEither, IsCoding, Any, Primitively, universal, BeginsWithTag, IsSigned, integer_tag, null_tag}
+use Rattle.yasna.specs.Words.{BERMode, Tag, SameEither, IsCoding, Any, Primitively, BeginsWithTag, IsSigned, integer_tag, null_tag}
 use Rattle.yasna.specs.Words.{EncodesSigned, IsNull, EncodesNull, ASN1Error, Never, Decodes, Reads, NoLevel, Reading, IsFresh}
 use Rattle.yasna.proofs.Laws.{along, apart_by_tags, choice, equal_same, primitively_begins, same_as, signed_coding, unit_coding}
 use Rattle.yasna.proofs.Closures.{chosen, found_other, leaf_by, seen}

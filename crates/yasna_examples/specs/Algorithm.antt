@@ -1,6 +1,6 @@
 -- AlgorithmIdentifier (RFC 5280, 4.1.1.2): a name, and any element, which may be left out.
-use Rattle.std.specs.Prelude.{◌≡◌, ℕ, ◌+◌, ◌*◌, ◌<◌, ◌≤◌, List, length}
-use Rattle.yasna.specs.Words.{BERMode, BitString, IsCoding, Any, Enclosed, AnyEnclosed, EncodesOid, OptionOf, AnyOption}
+use Rattle.std.specs.Prelude.{◌≡◌, ◌+◌, ◌*◌, ◌<◌, ◌≤◌, length}
+use Rattle.yasna.specs.Words.{BitString, IsCoding, Any, Enclosed, AnyEnclosed, EncodesOid, OptionOf, AnyOption}
 use Rattle.yasna.specs.Words.{SameOption, IsRaw, sequence_tag, PartOf, NoParts, AnyPart, AnyNothing, SamePart, SameNothing}
 use Rattle.yasna.specs.Words.{raw_of}
 use Rattle.yasna.specs.base.declared.models.tagged_der_value.TaggedDerValue.{TaggedDerValue}

@@ -1,8 +1,8 @@
 -- A SEQUENCE OF a CHOICE of INTEGER and NULL.
 use Rattle.std.proofs.Common.{inl, inr}
-use Rattle.std.specs.Prelude.{ℕ, List, ℤ, Option, Some, None, ◌⊎◌}
+use Rattle.std.specs.Prelude.{List, ℤ, Option, Some, None, ◌⊎◌}
 use Rattle.std.specs.Int.{w64}
-use Rattle.yasna.specs.Words.{BERMode, EitherOf, AnyEither, Any, EncodesSigned, EncodesNull, sequence_tag, IsListOf, AnyListOf}
+use Rattle.yasna.specs.Words.{EitherOf, AnyEither, Any, EncodesSigned, EncodesNull, sequence_tag, IsListOf, AnyListOf}
 use Rattle.yasna.specs.Words.{Grammar, Members}
 
 -- a number is an INTEGER, and none a NULL

@@ -1,7 +1,7 @@
 -- A SEQUENCE OF INTEGER.
-use Rattle.std.specs.Prelude.{ℕ, List, ℤ}
+use Rattle.std.specs.Prelude.{List, ℤ}
 use Rattle.std.specs.Int.{w64}
-use Rattle.yasna.specs.Words.{BERMode, Any, EncodesSigned, sequence_tag, IsListOf, AnyListOf}
+use Rattle.yasna.specs.Words.{Any, EncodesSigned, sequence_tag, IsListOf, AnyListOf}
 use Rattle.yasna.specs.Words.{Grammar, Members}
 
 -- the bytes encode these numbers, in order

@@ -1,7 +1,7 @@
 -- A SEQUENCE of an INTEGER and a BOOLEAN.
-use Rattle.std.specs.Prelude.{ℕ, List, ℤ, Bool}
+use Rattle.std.specs.Prelude.{ℤ, Bool}
 use Rattle.std.specs.Int.{w64}
-use Rattle.yasna.specs.Words.{BERMode, EncodesBoolean, Any, Enclosed, AnyEnclosed, EncodesSigned, sequence_tag, PartOf, NoParts}
+use Rattle.yasna.specs.Words.{EncodesBoolean, Any, Enclosed, AnyEnclosed, EncodesSigned, sequence_tag, PartOf, NoParts}
 use Rattle.yasna.specs.Words.{AnyPart, AnyNothing}
 use Rattle.yasna.specs.Words.{Grammar, Members}
 

@@ -1,6 +1,6 @@
 use Rattle.std.proofs.Common.{◌≡◌, rules, false, subst}
 use Rattle.std.specs.Prelude.{Some, Ok, Err}
-use Rattle.yasna.specs.Words.{universal, BeginsWithTag, Decodes, null_tag}
+use Rattle.yasna.specs.Words.{BeginsWithTag, Decodes, null_tag}
 use Rattle.yasna.proofs.Closures.{looked, found_none, seen}
 use Rattle.yasna_examples.specs.Items.{EncodesItem, AnyItem}
 use Rattle.yasna_examples.proofs.Items.{item_coding, no_number, null_read, number_read}

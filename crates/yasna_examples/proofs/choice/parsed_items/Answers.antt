@@ -1,5 +1,5 @@
 use Rattle.std.proofs.Common.{rules, true, arith}
-use Rattle.yasna.specs.Words.{Der, universal, sequence_tag}
+use Rattle.yasna.specs.Words.{Der, sequence_tag}
 use Rattle.yasna.proofs.Laws.{along, list, not_end}
 use Rattle.yasna.proofs.Closures.{decodes_by, parse_by, exactly_as, reads_some, same_items}
 use Rattle.yasna_examples.specs.Items.{EncodesItems, AnyItems}

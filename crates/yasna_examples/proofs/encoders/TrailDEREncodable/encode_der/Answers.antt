@@ -1,6 +1,6 @@
 use Rattle.std.proofs.Common.{rules, ◌≡◌, ◌∙◌, ◌++◌, ℤ, List, reverse, take, drop, length, ap, arith, subst}
 use Rattle.std.proofs.lemmas.Grind.{common_steps}
-use Rattle.yasna.specs.Words.{enclosed_form, universal, integer_form, sequence_tag, elements_form, Writes, integer_tag}
+use Rattle.yasna.specs.Words.{enclosed_form, integer_form, sequence_tag, elements_form, Writes, integer_tag}
 use Rattle.yasna_examples.proofs.encoders.TrailDEREncodable.encode_der.Goals as goal
 
 pub returns : goal.returns
