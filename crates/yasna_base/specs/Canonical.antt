@@ -29,7 +29,7 @@ HoldsForm Cer Cer = Unit {0}
 
 -- identifier, length of the fewest bytes, contents
 unfoldable pub definite_element : Tag → PCBit → List ℕ → List ℕ
-definite_element t p c = identifier t p ++ (shortest_length (length c) ++ c)
+definite_element t bit c = identifier t bit ++ (shortest_length (length c) ++ c)
 
 -- identifier, 128, contents, two zeros
 unfoldable pub indefinite_element : Tag → List ℕ → List ℕ

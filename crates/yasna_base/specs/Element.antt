@@ -12,8 +12,8 @@ use Rattle.yasna_base.specs.Length.{SpellsLength}
 
 -- where a mode takes a length before the contents (X.690, 9.1 and 10.1)
 abbrev pub TakesDefinite : BERMode → PCBit → Type 0
-TakesDefinite Ber p = Unit {0}
-TakesDefinite Der p = Unit {0}
+TakesDefinite Ber bit = Unit {0}
+TakesDefinite Der bit = Unit {0}
 TakesDefinite Cer Primitive = Unit {0}
 TakesDefinite Cer Constructed = ⊥
 
@@ -21,7 +21,7 @@ TakesDefinite Cer Constructed = ⊥
 abbrev pub TakesIndefinite : BERMode → PCBit → Type 0
 TakesIndefinite Ber Constructed = Unit {0}
 TakesIndefinite Ber Primitive = ⊥
-TakesIndefinite Der p = ⊥
+TakesIndefinite Der bit = ⊥
 TakesIndefinite Cer Constructed = Unit {0}
 TakesIndefinite Cer Primitive = ⊥
 
@@ -30,27 +30,27 @@ abbrev pub end_of_contents : List ℕ
 end_of_contents = 0 ∷ 0 ∷ []
 
 -- b is identifier, length, and the contents c
-pub record Definite (m : BERMode) (t : Tag) (p : PCBit) (c b : List ℕ) : Type 0 where
-  pub taken : TakesDefinite m p
+pub record Definite (m : BERMode) (t : Tag) (bit : PCBit) (c b : List ℕ) : Type 0 where
+  pub taken : TakesDefinite m bit
   pub l : List ℕ
   pub spelled : SpellsLength m (length c) l
-  pub joined : b ≡ identifier t p ++ (l ++ c)
+  pub joined : b ≡ identifier t bit ++ (l ++ c)
 
 -- b is identifier, 128, the contents c, and two zeros
-pub record Indefinite (m : BERMode) (t : Tag) (p : PCBit) (c b : List ℕ) : Type 0 where
-  pub taken : TakesIndefinite m p
-  pub joined : b ≡ identifier t p ++ (128 ∷ (c ++ end_of_contents))
+pub record Indefinite (m : BERMode) (t : Tag) (bit : PCBit) (c b : List ℕ) : Type 0 where
+  pub taken : TakesIndefinite m bit
+  pub joined : b ≡ identifier t bit ++ (128 ∷ (c ++ end_of_contents))
 
 -- b is one or the other
-pub data Framed (m : BERMode) (t : Tag) (p : PCBit) (c b : List ℕ) : Type 0 where
-  definite : Definite m t p c b → Framed m t p c b
-  indefinite : Indefinite m t p c b → Framed m t p c b
+pub data Framed (m : BERMode) (t : Tag) (bit : PCBit) (c b : List ℕ) : Type 0 where
+  definite : Definite m t bit c b → Framed m t bit c b
+  indefinite : Indefinite m t bit c b → Framed m t bit c b
 
 -- b is an element with this tag, this bit and the contents c: a tag number of 64 bits, and contents that are bytes
-pub record Element (m : BERMode) (t : Tag) (p : PCBit) (c b : List ℕ) : Type 0 where
+pub record Element (m : BERMode) (t : Tag) (bit : PCBit) (c b : List ℕ) : Type 0 where
   pub in_range : t.tag_number < 2 ^ 64
   pub in_bytes : IsBytes c
-  pub framed : Framed m t p c b
+  pub framed : Framed m t bit c b
 
 -- within n levels, b is a primitive element whose contents say v by W
 pub record IsPrimitive {A : Type 0} (W : A → List ℕ → Type 0) (n : ℕ) (m : BERMode) (t : Tag) (v : A) (b : List ℕ) : Type 0 where

@@ -13,26 +13,26 @@ pub data ContentsEnd : Type 0 where
   counted : List ℕ → ContentsEnd
   uncounted : ContentsEnd
 
--- the identifier of t with p, a length, the contents c that it counts, and r
-pub record Counts (m : BERMode) (t : Tag) (p : PCBit) (s c r : List ℕ) : Type 0 where
+-- the identifier of t with this bit, a length, the contents c that it counts, and r
+pub record Counts (m : BERMode) (t : Tag) (bit : PCBit) (s c r : List ℕ) : Type 0 where
   pub in_range : t.tag_number < 2 ^ 64
   pub in_bytes : IsBytes c
-  pub taken : TakesDefinite m p
+  pub taken : TakesDefinite m bit
   pub l : List ℕ
   pub spelled : SpellsLength m (length c) l
-  pub joined : s ≡ identifier t p ++ (l ++ (c ++ r))
+  pub joined : s ≡ identifier t bit ++ (l ++ (c ++ r))
 
 -- the identifier, 128, and c
-pub record Leaves (m : BERMode) (t : Tag) (p : PCBit) (s c : List ℕ) : Type 0 where
+pub record Leaves (m : BERMode) (t : Tag) (bit : PCBit) (s c : List ℕ) : Type 0 where
   pub in_range : t.tag_number < 2 ^ 64
   pub in_bytes : IsBytes c
-  pub taken : TakesIndefinite m p
-  pub joined : s ≡ identifier t p ++ (128 ∷ c)
+  pub taken : TakesIndefinite m bit
+  pub joined : s ≡ identifier t bit ++ (128 ∷ c)
 
 -- a header stands at the front, and behind it c: the contents, or where their length is indefinite all that is left
 abbrev pub OpensAt : BERMode → Tag → PCBit → List ℕ → List ℕ → ContentsEnd → Type 0
-OpensAt m t p s c (counted r) = Counts m t p s c r
-OpensAt m t p s c uncounted = Leaves m t p s c
+OpensAt m t bit s c (counted r) = Counts m t bit s c r
+OpensAt m t bit s c uncounted = Leaves m t bit s c
 
 -- y is where contents end, and r follows the element
 abbrev pub EndsBefore : ContentsEnd → List ℕ → List ℕ → Type 0

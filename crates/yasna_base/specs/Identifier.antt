@@ -24,11 +24,11 @@ bit_number Constructed = 1
 
 -- the first byte, with the number's place in its five low bits
 abbrev pub leading_byte : Tag → PCBit → ℕ → ℕ
-leading_byte t p low = 64 * class_number t.tag_class + 32 * bit_number p + low
+leading_byte t bit low = 64 * class_number t.tag_class + 32 * bit_number bit + low
 
 -- a number below 31 stands in the first byte, and any other behind it in base 128
 unfoldable pub identifier : Tag → PCBit → List ℕ
-identifier t p = if nat_lt t.tag_number 31 then (leading_byte t p t.tag_number ∷ []) else (leading_byte t p 31 ∷ base128 t.tag_number)
+identifier t bit = if nat_lt t.tag_number 31 then (leading_byte t bit t.tag_number ∷ []) else (leading_byte t bit 31 ∷ base128 t.tag_number)
 
 -- a tag of X.680's own types
 abbrev pub universal : ℕ → Tag
@@ -53,7 +53,7 @@ AnyTag P = (t : Tag) → (t ≡ end_tag → ⊥) → t.tag_number < 2 ^ 64 → P
 
 -- s begins with an identifier of the tag t
 pub data BeginsWithTag (t : Tag) (s : List ℕ) : Type 0 where
-  begins : (p : PCBit) (r : List ℕ) → s ≡ identifier t p ++ r → BeginsWithTag t s
+  begins : (bit : PCBit) (r : List ℕ) → s ≡ identifier t bit ++ r → BeginsWithTag t s
 
 -- s begins with an identifier, which isn't that of the end of contents
 pub record StartsElement (s : List ℕ) : Type 0 where
@@ -75,4 +75,4 @@ NumberAt s (Err k) = BlamesBytes k × ((n : ℕ) (r : List ℕ) → 31 ≤ n →
 -- an identifier stands at the front
 abbrev pub IdentifierAt : List ℕ → Result (Tag × PCBit × Bor (List ℕ)) ASN1ErrorKind → Type 0
 IdentifierAt s (Ok x) = s ≡ identifier x.0 x.1 ++ x.2.now
-IdentifierAt s (Err k) = BlamesBytes k × ((t : Tag) (p : PCBit) (r : List ℕ) → t.tag_number < 2 ^ 64 → s ≡ identifier t p ++ r → ⊥)
+IdentifierAt s (Err k) = BlamesBytes k × ((t : Tag) (bit : PCBit) (r : List ℕ) → t.tag_number < 2 ^ 64 → s ≡ identifier t bit ++ r → ⊥)

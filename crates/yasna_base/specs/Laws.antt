@@ -14,7 +14,7 @@ use Rattle.yasna_base.specs.Canonical.{leaf_nest, IsWritten}
 -- no identifier begins another, and it tells the tag and the bit
 abbrev pub IdentifiersAreUnambiguous : Type 0
 IdentifiersAreUnambiguous =
-    (t u : Tag) (p q : PCBit) (r s : List ℕ) → identifier t p ++ r ≡ identifier u q ++ s → (t ≡ u) × (p ≡ q) × (r ≡ s)
+    (t u : Tag) (bit other : PCBit) (r s : List ℕ) → identifier t bit ++ r ≡ identifier u other ++ s → (t ≡ u) × (bit ≡ other) × (r ≡ s)
 
 -- in one mode no spelling of a length begins another, and it tells the length
 abbrev pub LengthsAreUnambiguous : Type 0

@@ -23,15 +23,15 @@ pub record RawValue : Type 0 where
 
 -- where a mode looks into contents whose length is counted
 abbrev pub LooksInto : BERMode → PCBit → Type 0
-LooksInto Ber p = ⊥
+LooksInto Ber bit = ⊥
 LooksInto Der Primitive = ⊥
 LooksInto Der Constructed = Unit {0}
-LooksInto Cer p = ⊥
+LooksInto Cer bit = ⊥
 
 -- where it looks into contents that end so
 abbrev pub LooksUpTo : BERMode → PCBit → ContentsEnd → Type 0
-LooksUpTo m p (counted r) = LooksInto m p
-LooksUpTo m p uncounted = Unit {0}
+LooksUpTo m bit (counted r) = LooksInto m bit
+LooksUpTo m bit uncounted = Unit {0}
 
 -- c is a joining of pieces by R
 abbrev pub IsJoining : {A : Type 0} → (A → List ℕ → Type 0) → List ℕ → Type 0
@@ -94,10 +94,10 @@ TooDeepIsNotRaw = (n : ℕ) (m : BERMode) (v : RawValue) (s b r : List ℕ) → 
 
 -- the element whose contents c a header opens ends before r
 abbrev pub ContentsTo : (RawValue → List ℕ → Type 0) → BERMode → PCBit → List ℕ → ContentsEnd → List ℕ → Type 0
-ContentsTo R m p c (counted z) r = (r ≡ z) × (LooksInto m p → IsJoining R c)
-ContentsTo R m p c uncounted r = (d : List ℕ) × IsJoining R d × (c ≡ d ++ (0 ∷ 0 ∷ r))
+ContentsTo R m bit c (counted z) r = (r ≡ z) × (LooksInto m bit → IsJoining R c)
+ContentsTo R m bit c uncounted r = (d : List ℕ) × IsJoining R d × (c ≡ d ++ (0 ∷ 0 ∷ r))
 
--- p is the payload of that element
+-- payload is the payload of that element
 abbrev pub IsPayload : List ℕ → ContentsEnd → List ℕ → List ℕ → Type 0
-IsPayload c (counted z) r p = p ≡ c
-IsPayload c uncounted r p = c ≡ p ++ r
+IsPayload c (counted z) r payload = payload ≡ c
+IsPayload c uncounted r payload = c ≡ payload ++ r

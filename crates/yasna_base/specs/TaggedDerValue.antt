@@ -16,7 +16,7 @@ raw_of v = record { tag = v.tag; bit = v.pcbit; payload = v.value.items }
 
 -- a raw element of its three parts
 abbrev pub raw_value : Tag → PCBit → List ℕ → RawValue
-raw_value t p c = record { tag = t; bit = p; payload = c }
+raw_value t bit c = record { tag = t; bit = bit; payload = c }
 
 -- a primitive element holds the octets b: those of an OCTET STRING, or of a BIT STRING with no unused bits
 pub data HoldsOctets (v : RawValue) (b : List ℕ) : Type 0 where

@@ -18,31 +18,31 @@ use Rattle.yasna_bytes.specs.Refusal.{BlamesBytes, IsTooDeep, Refuses}
 use Rattle.yasna_bytes.specs.declared.bytes.header.Opened.{Opened}
 use Rattle.yasna_bytes.specs.declared.bytes.header.Refusal.{Refusal}
 
--- behind an identifier with the bit p, a length, the contents c that it counts, and r; or the byte of the indefinite form and c
+-- behind an identifier with this bit, a length, the contents c that it counts, and r; or the byte of the indefinite form and c
 abbrev pub Holds : BERMode → PCBit → List ℕ → List ℕ → ContentsEnd → Type 0
-Holds m p y c (counted r) = (l : List ℕ) × TakesDefinite m p × SpellsLength m (length c) l × (y ≡ l ++ (c ++ r))
-Holds m p y c uncounted = TakesIndefinite m p × (y ≡ 128 ∷ c)
+Holds m bit y c (counted r) = (l : List ℕ) × TakesDefinite m bit × SpellsLength m (length c) l × (y ≡ l ++ (c ++ r))
+Holds m bit y c uncounted = TakesIndefinite m bit × (y ≡ 128 ∷ c)
 
--- a length and contents, which are bytes, stand behind an identifier with the bit p
-pub record HoldsContents (m : BERMode) (p : PCBit) (y : List ℕ) (o : Opened) : Type 0 where
-  pub bit : o.bit ≡ p
+-- a length and contents, which are bytes, stand behind an identifier with this bit
+pub record HoldsContents (m : BERMode) (asked : PCBit) (y : List ℕ) (o : Opened) : Type 0 where
+  pub bit : o.bit ≡ asked
   pub in_bytes : IsBytes o.within
-  pub holds : Holds m p y o.within o.end
+  pub holds : Holds m asked y o.within o.end
 
 -- the same, or none do
 abbrev pub ContentsAt : BERMode → PCBit → List ℕ → Result Opened ASN1ErrorKind → Type 0
-ContentsAt m p y (Ok o) = HoldsContents m p y o
-ContentsAt m p y (Err k) = BlamesBytes k × ((c : List ℕ) (f : ContentsEnd) → Holds m p y c f → ⊥)
+ContentsAt m bit y (Ok o) = HoldsContents m bit y o
+ContentsAt m bit y (Err k) = BlamesBytes k × ((c : List ℕ) (f : ContentsEnd) → Holds m bit y c f → ⊥)
 
 -- no level is left for the element, or no contents stand behind its identifier
-pub data NotHeld (m : BERMode) (n : ℕ) (p : PCBit) (y : List ℕ) (k : ASN1ErrorKind) : Type 0 where
-  no_level : n ≡ 0 → k ≡ StackOverflow → NotHeld m n p y k
-  no_contents : 1 ≤ n → BlamesBytes k → ((c : List ℕ) (f : ContentsEnd) → Holds m p y c f → ⊥) → NotHeld m n p y k
+pub data NotHeld (m : BERMode) (n : ℕ) (bit : PCBit) (y : List ℕ) (k : ASN1ErrorKind) : Type 0 where
+  no_level : n ≡ 0 → k ≡ StackOverflow → NotHeld m n bit y k
+  no_contents : 1 ≤ n → BlamesBytes k → ((c : List ℕ) (f : ContentsEnd) → Holds m bit y c f → ⊥) → NotHeld m n bit y k
 
--- what stands behind the identifier of an element with the bit p
+-- what stands behind the identifier of an element with this bit
 abbrev pub BehindAt : BERMode → ℕ → PCBit → List ℕ → Result Opened Refusal → Type 0
-BehindAt m n p y (Ok o) = (1 ≤ n) × HoldsContents m p y o
-BehindAt m n p y (Err e) = (e.moved ≡ true) × NotHeld m n p y e.kind
+BehindAt m n bit y (Ok o) = (1 ≤ n) × HoldsContents m bit y o
+BehindAt m n bit y (Err e) = (e.moved ≡ true) × NotHeld m n bit y e.kind
 
 -- some header of the tag with a bit that P allows stands at the front, and a level is left for the element
 pub record HasHeader (P : PCBit → Type 0) (m : BERMode) (n : ℕ) (t : Tag) (s : List ℕ) : Type 0 where
@@ -57,11 +57,11 @@ pub record HasHeader (P : PCBit → Type 0) (m : BERMode) (n : ℕ) (t : Tag) (s
 
 -- the bit may be either
 abbrev pub AnyBit : PCBit → Type 0
-AnyBit p = Unit {0}
+AnyBit bit = Unit {0}
 
 -- the element is to be constructed
 abbrev pub OnlyConstructed : PCBit → Type 0
-OnlyConstructed p = p ≡ Constructed
+OnlyConstructed bit = bit ≡ Constructed
 
 -- no such header stands there
 abbrev pub RefusesHeader : (PCBit → Type 0) → BERMode → ℕ → Tag → List ℕ → Refusal → Type 0

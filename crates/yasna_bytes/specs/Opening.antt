@@ -18,4 +18,4 @@ end_found Indefinite = uncounted
 
 -- what is seen of an element whose header was read
 abbrev pub opening : PCBit → List ℕ → EndFound → Opening
-opening p c e = record { bit = p; within = c; end = end_found e }
+opening bit c e = record { bit = bit; within = c; end = end_found e }

@@ -38,10 +38,10 @@ pub record NotOpened (m : BERMode) (n : ℕ) (s : List ℕ) (e : Refusal) : Type
   pub no_memory : e.kind ≡ OutOfMemory → ⊥
 
 -- the header of an element stands at the front, and a level is left for it
-pub record IsOpened (m : BERMode) (n : ℕ) (s : List ℕ) (t : Tag) (p : PCBit) (c : List ℕ) (e : ContentsEnd) : Type 0 where
+pub record IsOpened (m : BERMode) (n : ℕ) (s : List ℕ) (t : Tag) (bit : PCBit) (c : List ℕ) (e : ContentsEnd) : Type 0 where
   pub level : 1 ≤ n
   pub not_end : t ≡ end_tag → ⊥
-  pub opens : OpensAt m t p s c e
+  pub opens : OpensAt m t bit s c e
 
 -- what reading such a header answers, by its case
 abbrev pub AnyOpenedAt : BERMode → ℕ → List ℕ → Result (Tag × Opened) Refusal → Type 0
@@ -109,12 +109,12 @@ WalksTo m n e s (Err k) = NotWalked m n e s k
 
 -- where a mode takes contents that end so
 abbrev pub TakesEnd : BERMode → PCBit → ContentsEnd → Type 0
-TakesEnd m p (counted a) = Unit {0}
-TakesEnd m p uncounted = TakesIndefinite m p
+TakesEnd m bit (counted a) = Unit {0}
+TakesEnd m bit uncounted = TakesIndefinite m bit
 
 -- where it takes and walks them in some elements
 abbrev pub IsWalked : BERMode → ContentsEnd → Type 0
-IsWalked m e = (p : PCBit) × TakesEnd m p e × LooksUpTo m p e
+IsWalked m e = (bit : PCBit) × TakesEnd m bit e × LooksUpTo m bit e
 
 -- what follows contents within those around them, where their length is counted
 abbrev pub following : ContentsEnd → List ℕ
@@ -128,8 +128,8 @@ follows uncounted r = r
 
 -- an element whose header was read ends, or its contents, which are looked into, don't
 abbrev pub FollowsAt : BERMode → ℕ → PCBit → List ℕ → ContentsEnd → Result (Bor (List ℕ)) ASN1ErrorKind → Type 0
-FollowsAt m n p c e (Ok r) = ContentsTo (IsRaw n m) m p c e r.now
-FollowsAt m n p c e (Err k) = LooksUpTo m p e × NotWalked m n e c k
+FollowsAt m n bit c e (Ok r) = ContentsTo (IsRaw n m) m bit c e r.now
+FollowsAt m n bit c e (Err k) = LooksUpTo m bit e × NotWalked m n e c k
 
 -- r are the last of s
 abbrev pub IsRest : List ℕ → List ℕ → Type 0
