@@ -34,7 +34,7 @@ abbrev pub first_failure : Option ASN1Error → ASN1Error → ASN1Error
 first_failure (Some f) e = f
 first_failure None e = e
 
-answered : {A : Type 0} (k : Option ASN1Error) (e : ASN1Error) → unless_kept {A = A} k (Err e) ≡ Err (first_failure k e)
+pub answered : {A : Type 0} (k : Option ASN1Error) (e : ASN1Error) → unless_kept {A = A} k (Err e) ≡ Err (first_failure k e)
 answered (Some f) e = refl
 answered None e = refl
 

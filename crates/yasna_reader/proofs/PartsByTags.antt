@@ -81,7 +81,7 @@ quiet_before {ts} {us} {Q} value none x range = record {
 }
 
 -- at an end only the end's own tag stands
-end_in_range : (s : List ℕ) (u : Tag) → AtEnd s → BeginsWithTag u s → u.tag_number < 2 ^ 64
+pub end_in_range : (s : List ℕ) (u : Tag) → AtEnd s → BeginsWithTag u s → u.tag_number < 2 ^ 64
 end_in_range s u (at_nothing e) b = absurd (omega (arith, begins_some u s b, ap length e))
 end_in_range s u (at_zeros i) b =
     let same = begins_once u end_tag s b i in
@@ -109,14 +109,14 @@ front_in_range x m n b r u p i =
     let o = x.opens m n b p in
     subst (λ (t : Tag). t.tag_number < 2 ^ 64) (begins_once o.tag u (b ++ r) (begins_with o.tag b r o.begins) i) o.in_range
 
-part_in_range : {A : Type 0} {E : A → A → Type 0} {B : Grammar A} {S : Members} (Q : Members) → IsCoding E B S → BeginInRange (AnyPart S Q)
+pub part_in_range : {A : Type 0} {E : A → A → Type 0} {B : Grammar A} {S : Members} (Q : Members) → IsCoding E B S → BeginInRange (AnyPart S Q)
 part_in_range Q x = record {
   at = λ m n c s u i p b.
       front_in_range x m n p.front (p.rest ++ s) u p.here
       (subst (λ z. BeginsWithTag u z) (ap (λ z. z ++ s) p.joined ∙ append_assoc p.front p.rest s) b);
 }
 
-left_out_in_range : {A : Type 0} {E : A → A → Type 0} {B : Grammar A} {S Q : Members} → IsCoding E B S → BeginInRange Q →
+pub left_out_in_range : {A : Type 0} {E : A → A → Type 0} {B : Grammar A} {S Q : Members} → IsCoding E B S → BeginInRange Q →
     BeginInRange (AnyPart (AnyOption S) Q)
 left_out_in_range {S} {Q} x y = record {
   at = λ m n c s u i p b.
