@@ -1,0 +1,155 @@
+-- That types which are made as the notation says keep its laws.
+use Rattle.std.proofs.Common.{◌≡◌, ◌∷◌, [], ◌<◌, ◌^◌, ℕ, List, Bool, true, Some, None, Vec, String, FitsSigned, pos, ap, arith}
+use Rattle.std.specs.Global.{Global}
+use Rattle.std.specs.Int.{Width}
+use Rattle.std.specs.List.{AllByRecursion}
+use Rattle.yasna_base.specs.declared.mode.BERMode.{BERMode}
+use Rattle.yasna_base.specs.declared.tag.Tag.{Tag}
+use Rattle.yasna_base.specs.declared.tag.TagClass.TheVariants.{Application}
+use Rattle.yasna_times.specs.declared.models.generalized_time.GeneralizedTime.{GeneralizedTime}
+use Rattle.yasna_times.specs.declared.models.utc_time.UTCTime.{UTCTime}
+use Rattle.yasna_base.specs.BigInteger.{IsBigInteger, CanBigInteger, big_integer_form}
+use Rattle.yasna_base.specs.Bits.{bits_segmentation, IsBits}
+use Rattle.yasna_base.specs.Boolean.{IsBoolean, boolean_form}
+use Rattle.yasna_base.specs.Canonical.{Always, leaf_nest}
+use Rattle.yasna_base.specs.Coding.{Any}
+use Rattle.yasna_base.specs.Digits.{IsBytes}
+use Rattle.yasna_base.specs.Element.{Primitively}
+use Rattle.yasna_base.specs.Exact.{Fitting, IsExact, written_fits}
+use Rattle.yasna_base.specs.Grammar.{Grammar, Members, Form}
+use Rattle.yasna_base.specs.Identifier.{class_number, end_tag, BeginsWithTag, tag_or}
+use Rattle.yasna_base.specs.Integer.{IsSigned, IsUnsigned, integer_form}
+use Rattle.yasna_base.specs.Null.{IsNull, null_form}
+use Rattle.yasna_base.specs.Octets.{IsOctets, octets_segmentation, octets_form, octets_nest}
+use Rattle.yasna_base.specs.Oid.{AreComponents, IsEncodableOid, oid_form}
+use Rattle.yasna_base.specs.Text.{IsStringOf, IsUtf8In, InUtf8, characters, utf8_form, utf8_nest}
+use Rattle.yasna_base.specs.UnderTags.{IsExactUnderTags}
+use Rattle.yasna_base.proofs.Beginnings.{begins_by_tag}
+use Rattle.yasna_base.proofs.BigInteger.{big_integer_coding, big_integer_written}
+use Rattle.yasna_base.proofs.Boolean.{boolean_coding, boolean_written}
+use Rattle.yasna_base.proofs.Canonical.{written_along, written_where, written_always}
+use Rattle.yasna_base.proofs.Coding.{along}
+use Rattle.yasna_base.proofs.Exact.{exact_along, written_exact}
+use Rattle.yasna_base.proofs.Integer.{signed_under, unsigned_under, number_written}
+use Rattle.yasna_base.proofs.Null.{null_coding, null_written}
+use Rattle.yasna_base.proofs.Octets.{octets_coding, octets_written}
+use Rattle.yasna_base.proofs.Oid.{oid_under, oid_written_under}
+use Rattle.yasna_base.proofs.Segmented.{segmented_begins}
+use Rattle.yasna_base.proofs.Texts.{class_coding, class_written, string_text}
+use Rattle.yasna_times.specs.GeneralizedTime.{SaysGeneralizedTime, generalized_time_form, generalized_time_nest}
+use Rattle.yasna_times.specs.Models.{utc_of, moment_of}
+use Rattle.yasna_times.specs.UtcTime.{SaysUtcTime, utc_time_form, utc_time_nest}
+use Rattle.yasna_times.proofs.TimeLaws.{utc_time_keeps, generalized_time_keeps}
+use Rattle.yasna_times.proofs.Times.{general_moment}
+use Rattle.yasna_notation.specs.Notation.{IsNotation, KeepsUnderTags}
+
+module _ {A : Type 0} {E : A → A → Type 0} {B : Tag → Grammar A} {S : Tag → Members} {form : Tag → Form A} {Fits : Fitting A} {Can : A → Type 0}
+    (own : Tag) (laws : IsExactUnderTags E B S form Fits Can)
+    (begins : (t : Tag) (m : BERMode) (n : ℕ) (b : List ℕ) → S t m n b → BeginsWithTag t b) where
+  at : (t : Tag) → (t ≡ end_tag → ⊥) → t.tag_number < 2 ^ 64 → IsNotation true (t ∷ []) E (B t) (S t) (form t) Fits Can
+  at t not_end range = let x = laws t not_end range in record { coding = x.0; begins = λ _. begins_by_tag t (begins t); exact = x.1 }
+
+  -- a type that keeps its laws under any tag keeps them under its own
+  pub under_own : (own ≡ end_tag → ⊥) → own.tag_number < 2 ^ 64 → IsNotation true (own ∷ []) E (B own) (S own) (form own) Fits Can
+  under_own not_end range = at own not_end range
+
+  -- and where another tag stands in place of that
+  pub under_others : KeepsUnderTags E (λ u. B (tag_or u own)) (λ u. S (tag_or u own)) (λ u. form (tag_or u own)) Fits Can
+  under_others t not_end range = at t not_end range
+
+-- values of which something is seen keep the laws of what is seen
+pub seen_laws : {U A : Type 0} {B : Tag → Grammar A} {S : Tag → Members} {form : Tag → Form A} {Fits : Fitting A} {Can : A → Type 0} (view : U → A) →
+    IsExactUnderTags (λ v w. v ≡ w) B S form Fits Can →
+    IsExactUnderTags (λ v w. view v ≡ view w) (λ t m n v b. B t m n (view v) b) S (λ t m v. form t m (view v)) (λ m n v. Fits m n (view v))
+    (λ v. Can (view v))
+seen_laws view laws t not_end range = let x = laws t not_end range in (along view x.0, exact_along view x.1)
+
+-- primitive types
+pub boolean_laws : IsExactUnderTags (λ v w. v ≡ w) (λ t m n v b. Primitively IsBoolean n m t v b) (λ t. Any (λ m n v b. Primitively IsBoolean n m t v b))
+    boolean_form (written_fits leaf_nest Always) Always
+boolean_laws t not_end range = (boolean_coding t not_end, written_exact (boolean_written t range))
+
+pub null_laws : IsExactUnderTags (λ v w. v ≡ w) (λ t m n v b. Primitively IsNull n m t v b) (λ t. Any (λ m n v b. Primitively IsNull n m t v b))
+    null_form (written_fits leaf_nest Always) Always
+null_laws t not_end range = (null_coding t not_end, written_exact (null_written t range))
+
+pub signed_laws : (w : Width) → IsExactUnderTags (λ v u. v ≡ u) (λ t m n v b. Primitively (IsSigned w) n m t v b)
+    (λ t. Any (λ m n v b. Primitively (IsSigned w) n m t v b)) integer_form (written_fits leaf_nest (FitsSigned w)) (FitsSigned w)
+signed_laws w t not_end range = (signed_under w t not_end, written_exact (number_written (λ z. z) (FitsSigned w) t range))
+
+pub unsigned_laws : (k : ℕ) → IsExactUnderTags (λ v u. v ≡ u) (λ t m n v b. Primitively (IsUnsigned k) n m t v b)
+    (λ t. Any (λ m n v b. Primitively (IsUnsigned k) n m t v b)) (λ t m v. integer_form t m (pos v)) (written_fits leaf_nest (λ u. u < 2 ^ k))
+    (λ u. u < 2 ^ k)
+unsigned_laws k t not_end range = (unsigned_under k t not_end, written_exact (number_written pos (λ u. u < 2 ^ k) t range))
+
+pub oid_laws : IsExactUnderTags (λ v w. v ≡ w) (λ t m n v b. Primitively AreComponents n m t v b)
+    (λ t. Any (λ m n v b. Primitively AreComponents n m t v b)) oid_form (written_fits leaf_nest IsEncodableOid) IsEncodableOid
+oid_laws t not_end range = (oid_under t not_end, written_exact (oid_written_under t range))
+
+pub big_integer_laws : IsExactUnderTags (λ v w. v ≡ w) (λ t m n v b. Primitively IsBigInteger n m t v b)
+    (λ t. Any (λ m n v b. Primitively IsBigInteger n m t v b)) big_integer_form (written_fits leaf_nest CanBigInteger) CanBigInteger
+big_integer_laws t not_end range = (big_integer_coding t not_end, written_exact (big_integer_written t range))
+
+-- strings
+abbrev pub items_of : Vec ℕ Global → List ℕ
+items_of v = v.items
+
+pub octets_laws : IsExactUnderTags (λ v w. v ≡ w) (λ t m n v b. IsOctets n m t v b) (λ t. Any (λ m n v b. IsOctets n m t v b)) octets_form
+    (written_fits octets_nest IsBytes) IsBytes
+octets_laws t not_end range = (octets_coding t not_end, written_exact (octets_written t range))
+
+pub octets_begin : (t : Tag) (m : BERMode) (n : ℕ) (b : List ℕ) → Any (λ m n v b. IsOctets n m t v b) m n b → BeginsWithTag t b
+octets_begin t m n b p = segmented_begins octets_segmentation n m t p.0 b p.1
+
+pub bits_begin : (t : Tag) (m : BERMode) (n : ℕ) (b : List ℕ) → Any (λ m n v b. IsBits n m t v b) m n b → BeginsWithTag t b
+bits_begin t m n b p = segmented_begins bits_segmentation n m t p.0 b p.1
+
+pub string_begins : {A : Type 0} (K : BERMode → A → List ℕ → Type 0) (t : Tag) (m : BERMode) (n : ℕ) (b : List ℕ) →
+    Any (λ m n v b. IsStringOf K n m t v b) m n b → BeginsWithTag t b
+string_begins K t m n b p = segmented_begins octets_segmentation n m t p.1.octets b p.1.string
+
+pub text_begins : (In : ℕ → Type 0) (t : Tag) (m : BERMode) (n : ℕ) (b : List ℕ) →
+    Any (λ m n v b. IsStringOf (IsUtf8In In) n m t v b) m n b → BeginsWithTag t b
+text_begins In = string_begins (IsUtf8In In)
+
+pub text_laws : IsExactUnderTags (λ v w. characters v ≡ characters w) (λ t m n v b. IsStringOf (IsUtf8In InUtf8) n m t (characters v) b)
+    (λ t. Any (λ m n v b. IsStringOf (IsUtf8In InUtf8) n m t v b)) (λ t m v. utf8_form t m (characters v))
+    (written_fits (λ m v. utf8_nest m (characters v)) Always) Always
+text_laws t not_end range = (
+  along characters (class_coding InUtf8 t not_end),
+  written_exact (written_always string_text (written_along characters (class_written InUtf8 t range))),
+)
+
+pub class_laws : (In : ℕ → Type 0) → IsExactUnderTags (λ v w. characters v ≡ characters w)
+    (λ t m n v b. IsStringOf (IsUtf8In In) n m t (characters v) b) (λ t. Any (λ m n v b. IsStringOf (IsUtf8In In) n m t v b))
+    (λ t m v. utf8_form t m (characters v)) (written_fits (λ m v. utf8_nest m (characters v)) (λ v. AllByRecursion In (characters v)))
+    (λ v. AllByRecursion In (characters v))
+class_laws In t not_end range = (
+  along characters (class_coding In t not_end),
+  written_exact (written_where (λ (v : String Global).
+  (λ can. can.in_class, λ can. record { characters = (string_text v).characters; in_class = can }))
+  (written_along characters (class_written In t range))),
+)
+
+-- times
+pub utc_laws : IsExactUnderTags (λ v w. utc_of v ≡ utc_of w) (λ t m n v b. IsStringOf SaysUtcTime n m t (utc_of v) b)
+    (λ t. Any (λ m n v b. IsStringOf SaysUtcTime n m t v b)) (λ t m v. utc_time_form t m (utc_of v))
+    (written_fits (λ m v. utc_time_nest m (utc_of v)) Always) Always
+utc_laws t not_end range =
+    let x = utc_time_keeps t not_end range in
+    (along utc_of x.0, written_exact (written_where (λ (v : UTCTime). (λ can. tt, λ can. v.in_range)) (written_along utc_of x.1)))
+
+pub general_laws : IsExactUnderTags (λ v w. moment_of v ≡ moment_of w) (λ t m n v b. IsStringOf SaysGeneralizedTime n m t (moment_of v) b)
+    (λ t. Any (λ m n v b. IsStringOf SaysGeneralizedTime n m t v b)) (λ t m v. generalized_time_form t m (moment_of v))
+    (written_fits (λ m v. generalized_time_nest m (moment_of v)) Always) Always
+general_laws t not_end range =
+    let x = generalized_time_keeps t not_end range in
+    (along moment_of x.0, written_exact (written_where (λ (v : GeneralizedTime). (λ can. tt, λ can. general_moment v)) (written_along moment_of x.1)))
+
+-- the tag that a module writes as [APPLICATION number]
+abbrev pub application : ℕ → Tag
+application number = record { tag_class = Application; tag_number = number }
+
+-- a tag of that class isn't that of the end of contents
+pub application_not_end : (k : ℕ) → application k ≡ end_tag → ⊥
+application_not_end k e = let c = ap (λ (t : Tag). class_number t.tag_class) e in absurd (omega arith)

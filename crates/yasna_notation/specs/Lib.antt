@@ -1,0 +1,2 @@
+pub mod Notation
+pub mod Laws

@@ -1,0 +1,20 @@
+//! Types as the notation of ASN.1 writes them (X.680): a message is a type made of types, and is read and written with no further code.
+//!
+//! | Module | Holds |
+//! |---|---|
+//! | `notation` | what a notation says: which bytes stand for which values, how they are read and written, and their laws |
+//! | `tag_names` | the tags that a module writes, as types |
+//! | `simple` | BOOLEAN, INTEGER, ENUMERATED, NULL, OBJECT IDENTIFIER |
+//! | `strings`, `times` | strings and times |
+#![tactic(auto)]
+
+mod notation;
+mod simple;
+mod strings;
+mod tag_names;
+mod times;
+
+pub use notation::Notation;
+pub use simple::{BigInteger, Enumerated};
+pub use strings::{BitString, Ia5String, NumericString, PrintableString, VisibleString};
+pub use tag_names::{Application, Context, TagName};

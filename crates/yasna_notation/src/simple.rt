@@ -1,0 +1,401 @@
+//! BOOLEAN, INTEGER, ENUMERATED, NULL and OBJECT IDENTIFIER (X.690, 8.2 to 8.4, 8.8 and 8.19).
+ghost use Rattle.std.specs.Prelude.{◌≡◌, ◌<◌, ◌^◌, ◌∷◌, [], true, false, pos, FitsSigned};
+ghost use Rattle.std.specs.Int.{w64, w32};
+ghost use Rattle.std.proofs.Common.{arith};
+ghost use Rattle.yasna_base.specs.BigInteger.{IsBigInteger, CanBigInteger, big_integer_form};
+ghost use Rattle.yasna_base.specs.Boolean.{IsBoolean, boolean_tag, boolean_form};
+ghost use Rattle.yasna_base.specs.Canonical.{Always, leaf_nest};
+ghost use Rattle.yasna_base.specs.Coding.{Any};
+ghost use Rattle.yasna_base.specs.Element.{Primitively};
+ghost use Rattle.yasna_base.specs.Enumerated.{enumerated_tag};
+ghost use Rattle.yasna_base.specs.Exact.{written_fits};
+ghost use Rattle.yasna_base.specs.Identifier.{tag_or};
+ghost use Rattle.yasna_base.specs.Integer.{IsSigned, IsUnsigned, integer_tag, integer_form};
+ghost use Rattle.yasna_base.specs.Null.{IsNull, null_tag, null_form};
+ghost use Rattle.yasna_base.specs.Oid.{AreComponents, IsEncodableOid, oid_tag, oid_form};
+ghost use Rattle.yasna_base.proofs.Coding.{primitively_begins};
+ghost use Rattle.yasna_base.proofs.Identifier.{not_end};
+ghost use Rattle.yasna_bytes.specs.Contents.{big_integer_in};
+ghost use Rattle.yasna_notation.specs.Laws.{under_own, under_others, seen_laws, boolean_laws, null_laws, signed_laws, unsigned_laws, oid_laws, big_integer_laws};
+
+use crate::notation::Notation;
+use yasna_base::models::ObjectIdentifier;
+use yasna_base::tags::{TAG_BOOLEAN, TAG_ENUM, TAG_INTEGER, TAG_NULL, TAG_OID};
+use yasna_base::{ASN1Result, Tag};
+use yasna_reader::BERReader;
+use yasna_writer::DERWriter;
+
+impl Notation for bool {
+    type Value = bool;
+
+    ghost tags = { boolean_tag ∷ [] };
+
+    ghost under = { λ u m n v b. Primitively IsBoolean n m (tag_or u boolean_tag) v b };
+
+    ghost any_under = { λ u. Any (λ m n v b. Primitively IsBoolean n m (tag_or u boolean_tag) v b) };
+
+    ghost asks_memory = { false };
+
+    ghost same = { λ v w. v ≡ w };
+
+    ghost form_under = { λ u. boolean_form (tag_or u boolean_tag) };
+
+    ghost nest = { leaf_nest };
+
+    ghost can = { Always };
+
+    ghost fits = { written_fits leaf_nest Always };
+
+    #[inline(always)]
+    fn has_tag(tag: Tag) -> bool {
+        tag == TAG_BOOLEAN
+    }
+
+    #[inline(always)]
+    fn read(reader: BERReader) -> ASN1Result<bool> {
+        reader.read_bool()
+    }
+
+    #[inline(always)]
+    fn write(value: &bool, writer: DERWriter<'_>) -> ASN1Result<()> {
+        writer.write_bool(*value)
+    }
+
+    ghost laws = { λ _. under_own boolean_tag boolean_laws (primitively_begins IsBoolean) (not_end 1 (λ e. omega arith)) (omega arith) };
+
+    ghost others = { λ _ _. under_others boolean_tag boolean_laws (primitively_begins IsBoolean) };
+}
+
+impl Notation for () {
+    type Value = ();
+
+    ghost tags = { null_tag ∷ [] };
+
+    ghost under = { λ u m n v b. Primitively IsNull n m (tag_or u null_tag) v b };
+
+    ghost any_under = { λ u. Any (λ m n v b. Primitively IsNull n m (tag_or u null_tag) v b) };
+
+    ghost asks_memory = { false };
+
+    ghost same = { λ v w. v ≡ w };
+
+    ghost form_under = { λ u. null_form (tag_or u null_tag) };
+
+    ghost nest = { leaf_nest };
+
+    ghost can = { Always };
+
+    ghost fits = { written_fits leaf_nest Always };
+
+    #[inline(always)]
+    fn has_tag(tag: Tag) -> bool {
+        tag == TAG_NULL
+    }
+
+    #[inline(always)]
+    fn read(reader: BERReader) -> ASN1Result<()> {
+        reader.read_null()
+    }
+
+    #[inline(always)]
+    fn write(_value: &(), writer: DERWriter<'_>) -> ASN1Result<()> {
+        writer.write_null()
+    }
+
+    ghost laws = { λ _. under_own null_tag null_laws (primitively_begins IsNull) (not_end 5 (λ e. omega arith)) (omega arith) };
+
+    ghost others = { λ _ _. under_others null_tag null_laws (primitively_begins IsNull) };
+}
+
+impl Notation for i64 {
+    type Value = i64;
+
+    ghost tags = { integer_tag ∷ [] };
+
+    ghost under = { λ u m n v b. Primitively (IsSigned w64) n m (tag_or u integer_tag) v b };
+
+    ghost any_under = { λ u. Any (λ m n v b. Primitively (IsSigned w64) n m (tag_or u integer_tag) v b) };
+
+    ghost asks_memory = { false };
+
+    ghost same = { λ v w. v ≡ w };
+
+    ghost form_under = { λ u. integer_form (tag_or u integer_tag) };
+
+    ghost nest = { leaf_nest };
+
+    ghost can = { FitsSigned w64 };
+
+    ghost fits = { written_fits leaf_nest (FitsSigned w64) };
+
+    #[inline(always)]
+    fn has_tag(tag: Tag) -> bool {
+        tag == TAG_INTEGER
+    }
+
+    #[inline(always)]
+    fn read(reader: BERReader) -> ASN1Result<i64> {
+        reader.read_i64()
+    }
+
+    #[inline(always)]
+    fn write(value: &i64, writer: DERWriter<'_>) -> ASN1Result<()> {
+        writer.write_i64(*value)
+    }
+
+    ghost laws = { λ _. under_own integer_tag (signed_laws w64) (primitively_begins (IsSigned w64)) (not_end 2 (λ e. omega arith)) (omega arith) };
+
+    ghost others = { λ _ _. under_others integer_tag (signed_laws w64) (primitively_begins (IsSigned w64)) };
+}
+
+impl Notation for i32 {
+    type Value = i32;
+
+    ghost tags = { integer_tag ∷ [] };
+
+    ghost under = { λ u m n v b. Primitively (IsSigned w32) n m (tag_or u integer_tag) v b };
+
+    ghost any_under = { λ u. Any (λ m n v b. Primitively (IsSigned w32) n m (tag_or u integer_tag) v b) };
+
+    ghost asks_memory = { false };
+
+    ghost same = { λ v w. v ≡ w };
+
+    ghost form_under = { λ u. integer_form (tag_or u integer_tag) };
+
+    ghost nest = { leaf_nest };
+
+    ghost can = { FitsSigned w32 };
+
+    ghost fits = { written_fits leaf_nest (FitsSigned w32) };
+
+    #[inline(always)]
+    fn has_tag(tag: Tag) -> bool {
+        tag == TAG_INTEGER
+    }
+
+    #[inline(always)]
+    fn read(reader: BERReader) -> ASN1Result<i32> {
+        reader.read_i32()
+    }
+
+    #[inline(always)]
+    fn write(value: &i32, writer: DERWriter<'_>) -> ASN1Result<()> {
+        writer.write_i32(*value)
+    }
+
+    ghost laws = { λ _. under_own integer_tag (signed_laws w32) (primitively_begins (IsSigned w32)) (not_end 2 (λ e. omega arith)) (omega arith) };
+
+    ghost others = { λ _ _. under_others integer_tag (signed_laws w32) (primitively_begins (IsSigned w32)) };
+}
+
+impl Notation for u64 {
+    type Value = u64;
+
+    ghost tags = { integer_tag ∷ [] };
+
+    ghost under = { λ u m n v b. Primitively (IsUnsigned 64) n m (tag_or u integer_tag) v b };
+
+    ghost any_under = { λ u. Any (λ m n v b. Primitively (IsUnsigned 64) n m (tag_or u integer_tag) v b) };
+
+    ghost asks_memory = { false };
+
+    ghost same = { λ v w. v ≡ w };
+
+    ghost form_under = { λ u m v. integer_form (tag_or u integer_tag) m (pos v) };
+
+    ghost nest = { leaf_nest };
+
+    ghost can = { λ n. n < 2 ^ 64 };
+
+    ghost fits = { written_fits leaf_nest (λ n. n < 2 ^ 64) };
+
+    #[inline(always)]
+    fn has_tag(tag: Tag) -> bool {
+        tag == TAG_INTEGER
+    }
+
+    #[inline(always)]
+    fn read(reader: BERReader) -> ASN1Result<u64> {
+        reader.read_u64()
+    }
+
+    #[inline(always)]
+    fn write(value: &u64, writer: DERWriter<'_>) -> ASN1Result<()> {
+        writer.write_u64(*value)
+    }
+
+    ghost laws = { λ _. under_own integer_tag (unsigned_laws 64) (primitively_begins (IsUnsigned 64)) (not_end 2 (λ e. omega arith)) (omega arith) };
+
+    ghost others = { λ _ _. under_others integer_tag (unsigned_laws 64) (primitively_begins (IsUnsigned 64)) };
+}
+
+impl Notation for u32 {
+    type Value = u32;
+
+    ghost tags = { integer_tag ∷ [] };
+
+    ghost under = { λ u m n v b. Primitively (IsUnsigned 32) n m (tag_or u integer_tag) v b };
+
+    ghost any_under = { λ u. Any (λ m n v b. Primitively (IsUnsigned 32) n m (tag_or u integer_tag) v b) };
+
+    ghost asks_memory = { false };
+
+    ghost same = { λ v w. v ≡ w };
+
+    ghost form_under = { λ u m v. integer_form (tag_or u integer_tag) m (pos v) };
+
+    ghost nest = { leaf_nest };
+
+    ghost can = { λ n. n < 2 ^ 32 };
+
+    ghost fits = { written_fits leaf_nest (λ n. n < 2 ^ 32) };
+
+    #[inline(always)]
+    fn has_tag(tag: Tag) -> bool {
+        tag == TAG_INTEGER
+    }
+
+    #[inline(always)]
+    fn read(reader: BERReader) -> ASN1Result<u32> {
+        reader.read_u32()
+    }
+
+    #[inline(always)]
+    fn write(value: &u32, writer: DERWriter<'_>) -> ASN1Result<()> {
+        writer.write_u32(*value)
+    }
+
+    ghost laws = { λ _. under_own integer_tag (unsigned_laws 32) (primitively_begins (IsUnsigned 32)) (not_end 2 (λ e. omega arith)) (omega arith) };
+
+    ghost others = { λ _ _. under_others integer_tag (unsigned_laws 32) (primitively_begins (IsUnsigned 32)) };
+}
+
+/// ENUMERATED, as its number.
+pub struct Enumerated;
+
+impl Notation for Enumerated {
+    type Value = i64;
+
+    ghost tags = { enumerated_tag ∷ [] };
+
+    ghost under = { λ u m n v b. Primitively (IsSigned w64) n m (tag_or u enumerated_tag) v b };
+
+    ghost any_under = { λ u. Any (λ m n v b. Primitively (IsSigned w64) n m (tag_or u enumerated_tag) v b) };
+
+    ghost asks_memory = { false };
+
+    ghost same = { λ v w. v ≡ w };
+
+    ghost form_under = { λ u. integer_form (tag_or u enumerated_tag) };
+
+    ghost nest = { leaf_nest };
+
+    ghost can = { FitsSigned w64 };
+
+    ghost fits = { written_fits leaf_nest (FitsSigned w64) };
+
+    #[inline(always)]
+    fn has_tag(tag: Tag) -> bool {
+        tag == TAG_ENUM
+    }
+
+    #[inline(always)]
+    fn read(reader: BERReader) -> ASN1Result<i64> {
+        reader.read_enum()
+    }
+
+    #[inline(always)]
+    fn write(value: &i64, writer: DERWriter<'_>) -> ASN1Result<()> {
+        writer.write_enum(*value)
+    }
+
+    ghost laws = { λ _. under_own enumerated_tag (signed_laws w64) (primitively_begins (IsSigned w64)) (not_end 10 (λ e. omega arith)) (omega arith) };
+
+    ghost others = { λ _ _. under_others enumerated_tag (signed_laws w64) (primitively_begins (IsSigned w64)) };
+}
+
+impl Notation for ObjectIdentifier {
+    type Value = ObjectIdentifier;
+
+    ghost tags = { oid_tag ∷ [] };
+
+    ghost under = { λ u m n v b. Primitively AreComponents n m (tag_or u oid_tag) v b };
+
+    ghost any_under = { λ u. Any (λ m n v b. Primitively AreComponents n m (tag_or u oid_tag) v b) };
+
+    ghost asks_memory = { true };
+
+    ghost same = { λ v w. v ≡ w };
+
+    ghost form_under = { λ u. oid_form (tag_or u oid_tag) };
+
+    ghost nest = { leaf_nest };
+
+    ghost can = { IsEncodableOid };
+
+    ghost fits = { written_fits leaf_nest IsEncodableOid };
+
+    #[inline(always)]
+    fn has_tag(tag: Tag) -> bool {
+        tag == TAG_OID
+    }
+
+    #[inline(always)]
+    fn read(reader: BERReader) -> ASN1Result<ObjectIdentifier> {
+        reader.read_oid()
+    }
+
+    #[inline(always)]
+    fn write(value: &ObjectIdentifier, writer: DERWriter<'_>) -> ASN1Result<()> {
+        writer.write_oid(value)
+    }
+
+    ghost laws = { λ _. under_own oid_tag oid_laws (primitively_begins AreComponents) (not_end 6 (λ e. omega arith)) (omega arith) };
+
+    ghost others = { λ _ _. under_others oid_tag oid_laws (primitively_begins AreComponents) };
+}
+
+/// INTEGER of any size: its contents in two's complement, and whether it isn't negative.
+pub struct BigInteger;
+
+impl Notation for BigInteger {
+    type Value = (Vec<u8>, bool);
+
+    ghost tags = { integer_tag ∷ [] };
+
+    ghost under = { λ u m n v b. Primitively IsBigInteger n m (tag_or u integer_tag) (big_integer_in v) b };
+
+    ghost any_under = { λ u. Any (λ m n v b. Primitively IsBigInteger n m (tag_or u integer_tag) v b) };
+
+    ghost asks_memory = { true };
+
+    ghost same = { λ v w. big_integer_in v ≡ big_integer_in w };
+
+    ghost form_under = { λ u m v. big_integer_form (tag_or u integer_tag) m (big_integer_in v) };
+
+    ghost nest = { leaf_nest };
+
+    ghost can = { λ v. CanBigInteger (big_integer_in v) };
+
+    ghost fits = { λ m n v. written_fits leaf_nest CanBigInteger m n (big_integer_in v) };
+
+    #[inline(always)]
+    fn has_tag(tag: Tag) -> bool {
+        tag == TAG_INTEGER
+    }
+
+    #[inline(always)]
+    fn read(reader: BERReader) -> ASN1Result<(Vec<u8>, bool)> {
+        reader.read_bigint_bytes()
+    }
+
+    #[inline(always)]
+    fn write(value: &(Vec<u8>, bool), writer: DERWriter<'_>) -> ASN1Result<()> {
+        writer.write_bigint_bytes(value.0.as_slice(), value.1)
+    }
+
+    ghost laws = { λ _. under_own integer_tag (seen_laws big_integer_in big_integer_laws) (primitively_begins IsBigInteger) (not_end 2 (λ e. omega arith)) (omega arith) };
+
+    ghost others = { λ _ _. under_others integer_tag (seen_laws big_integer_in big_integer_laws) (primitively_begins IsBigInteger) };
+}

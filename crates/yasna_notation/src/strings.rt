@@ -1,0 +1,325 @@
+//! OCTET STRING, BIT STRING and character strings (X.690, 8.6, 8.7 and 8.23).
+ghost use Rattle.std.specs.Prelude.{◌≡◌, ◌∷◌, [], true};
+ghost use Rattle.std.specs.List.{AllByRecursion};
+ghost use Rattle.std.proofs.Common.{arith};
+ghost use Rattle.yasna_base.specs.Bits.{IsBits, CanBits, AreCanonicalBits, bits_tag, bits_form, bits_nest};
+ghost use Rattle.yasna_base.specs.Canonical.{Always};
+ghost use Rattle.yasna_base.specs.Coding.{Any};
+ghost use Rattle.yasna_base.specs.Digits.{IsBytes};
+ghost use Rattle.yasna_base.specs.Exact.{written_fits};
+ghost use Rattle.yasna_base.specs.Identifier.{tag_or};
+ghost use Rattle.yasna_base.specs.Octets.{IsOctets, octets_tag, octets_form, octets_nest};
+ghost use Rattle.yasna_base.specs.Text.{IsStringOf, IsUtf8In, InUtf8, InPrintable, InIa5, InNumeric, InVisible, characters, utf8_form, utf8_nest};
+ghost use Rattle.yasna_base.specs.Text.{utf8_tag, printable_tag, ia5_tag, numeric_tag, visible_tag};
+ghost use Rattle.yasna_base.proofs.Identifier.{not_end};
+ghost use Rattle.yasna_base.proofs.UnderTags.{bits_under_tags};
+ghost use Rattle.yasna_bytes.specs.Segments.{bits_in};
+ghost use Rattle.yasna_notation.specs.Laws.{under_own, under_others, seen_laws, items_of, octets_laws, octets_begin, bits_begin, text_begins, text_laws, class_laws};
+
+use crate::notation::Notation;
+use yasna_base::tags::{TAG_BITSTRING, TAG_IA5STRING, TAG_NUMERICSTRING, TAG_OCTETSTRING, TAG_PRINTABLESTRING, TAG_UTF8STRING, TAG_VISIBLESTRING};
+use yasna_base::{ASN1Result, Tag};
+use yasna_reader::BERReader;
+use yasna_writer::DERWriter;
+
+impl Notation for Vec<u8> {
+    type Value = Vec<u8>;
+
+    ghost tags = { octets_tag ∷ [] };
+
+    ghost under = { λ u m n v b. IsOctets n m (tag_or u octets_tag) (items_of v) b };
+
+    ghost any_under = { λ u. Any (λ m n v b. IsOctets n m (tag_or u octets_tag) v b) };
+
+    ghost asks_memory = { true };
+
+    ghost same = { λ v w. items_of v ≡ items_of w };
+
+    ghost form_under = { λ u m v. octets_form (tag_or u octets_tag) m v.items };
+
+    ghost nest = { λ m v. octets_nest m v.items };
+
+    ghost can = { λ v. IsBytes v.items };
+
+    ghost fits = { λ m n v. written_fits octets_nest IsBytes m n v.items };
+
+    #[inline(always)]
+    fn has_tag(tag: Tag) -> bool {
+        tag == TAG_OCTETSTRING
+    }
+
+    #[inline(always)]
+    fn read(reader: BERReader) -> ASN1Result<Vec<u8>> {
+        reader.read_bytes()
+    }
+
+    #[inline(always)]
+    fn write(value: &Vec<u8>, writer: DERWriter<'_>) -> ASN1Result<()> {
+        writer.write_bytes(value.as_slice())
+    }
+
+    ghost laws = { λ _. under_own octets_tag (seen_laws items_of octets_laws) (octets_begin) (not_end 4 (λ e. omega arith)) (omega arith) };
+
+    ghost others = { λ _ _. under_others octets_tag (seen_laws items_of octets_laws) (octets_begin) };
+}
+
+/// BIT STRING: its bytes, the first bit of a byte being its highest, and how many bits there are.
+pub struct BitString;
+
+impl Notation for BitString {
+    type Value = (Vec<u8>, usize);
+
+    ghost tags = { bits_tag ∷ [] };
+
+    ghost under = { λ u m n v b. IsBits n m (tag_or u bits_tag) (bits_in v) b };
+
+    ghost any_under = { λ u. Any (λ m n v b. IsBits n m (tag_or u bits_tag) v b) };
+
+    ghost asks_memory = { true };
+
+    ghost same = { λ v w. bits_in v ≡ bits_in w };
+
+    ghost form_under = { λ u m v. bits_form (tag_or u bits_tag) m (bits_in v) };
+
+    ghost nest = { λ m v. bits_nest m (bits_in v) };
+
+    ghost can = { λ v. CanBits (bits_in v) };
+
+    ghost fits = { λ m n v. written_fits bits_nest AreCanonicalBits m n (bits_in v) };
+
+    #[inline(always)]
+    fn has_tag(tag: Tag) -> bool {
+        tag == TAG_BITSTRING
+    }
+
+    #[inline(always)]
+    fn read(reader: BERReader) -> ASN1Result<(Vec<u8>, usize)> {
+        reader.read_bitvec_bytes()
+    }
+
+    #[inline(always)]
+    fn write(value: &(Vec<u8>, usize), writer: DERWriter<'_>) -> ASN1Result<()> {
+        writer.write_bitvec_bytes(value.0.as_slice(), value.1)
+    }
+
+    ghost laws = { λ _. under_own bits_tag (seen_laws bits_in bits_under_tags) (bits_begin) (not_end 3 (λ e. omega arith)) (omega arith) };
+
+    ghost others = { λ _ _. under_others bits_tag (seen_laws bits_in bits_under_tags) (bits_begin) };
+}
+
+impl Notation for String {
+    type Value = String;
+
+    ghost tags = { utf8_tag ∷ [] };
+
+    ghost under = { λ u m n v b. IsStringOf (IsUtf8In InUtf8) n m (tag_or u utf8_tag) (characters v) b };
+
+    ghost any_under = { λ u. Any (λ m n v b. IsStringOf (IsUtf8In InUtf8) n m (tag_or u utf8_tag) v b) };
+
+    ghost asks_memory = { true };
+
+    ghost same = { λ v w. characters v ≡ characters w };
+
+    ghost form_under = { λ u m v. utf8_form (tag_or u utf8_tag) m (characters v) };
+
+    ghost nest = { λ m v. utf8_nest m (characters v) };
+
+    ghost can = { Always };
+
+    ghost fits = { written_fits (λ m v. utf8_nest m (characters v)) Always };
+
+    #[inline(always)]
+    fn has_tag(tag: Tag) -> bool {
+        tag == TAG_UTF8STRING
+    }
+
+    #[inline(always)]
+    fn read(reader: BERReader) -> ASN1Result<String> {
+        reader.read_utf8string()
+    }
+
+    #[inline(always)]
+    fn write(value: &String, writer: DERWriter<'_>) -> ASN1Result<()> {
+        writer.write_utf8string(value.as_str())
+    }
+
+    ghost laws = { λ _. under_own utf8_tag text_laws (text_begins InUtf8) (not_end 12 (λ e. omega arith)) (omega arith) };
+
+    ghost others = { λ _ _. under_others utf8_tag text_laws (text_begins InUtf8) };
+}
+
+/// PrintableString (X.680, 41): a text of its characters.
+pub struct PrintableString;
+
+impl Notation for PrintableString {
+    type Value = String;
+
+    ghost tags = { printable_tag ∷ [] };
+
+    ghost under = { λ u m n v b. IsStringOf (IsUtf8In InPrintable) n m (tag_or u printable_tag) (characters v) b };
+
+    ghost any_under = { λ u. Any (λ m n v b. IsStringOf (IsUtf8In InPrintable) n m (tag_or u printable_tag) v b) };
+
+    ghost asks_memory = { true };
+
+    ghost same = { λ v w. characters v ≡ characters w };
+
+    ghost form_under = { λ u m v. utf8_form (tag_or u printable_tag) m (characters v) };
+
+    ghost nest = { λ m v. utf8_nest m (characters v) };
+
+    ghost can = { λ v. AllByRecursion InPrintable (characters v) };
+
+    ghost fits = { written_fits (λ m v. utf8_nest m (characters v)) (λ v. AllByRecursion InPrintable (characters v)) };
+
+    #[inline(always)]
+    fn has_tag(tag: Tag) -> bool {
+        tag == TAG_PRINTABLESTRING
+    }
+
+    #[inline(always)]
+    fn read(reader: BERReader) -> ASN1Result<String> {
+        reader.read_printable_string()
+    }
+
+    #[inline(always)]
+    fn write(value: &String, writer: DERWriter<'_>) -> ASN1Result<()> {
+        writer.write_printable_string(value.as_str())
+    }
+
+    ghost laws = { λ _. under_own printable_tag (class_laws InPrintable) (text_begins InPrintable) (not_end 19 (λ e. omega arith)) (omega arith) };
+
+    ghost others = { λ _ _. under_others printable_tag (class_laws InPrintable) (text_begins InPrintable) };
+}
+
+/// IA5String (X.680, 41): a text of its characters.
+pub struct Ia5String;
+
+impl Notation for Ia5String {
+    type Value = String;
+
+    ghost tags = { ia5_tag ∷ [] };
+
+    ghost under = { λ u m n v b. IsStringOf (IsUtf8In InIa5) n m (tag_or u ia5_tag) (characters v) b };
+
+    ghost any_under = { λ u. Any (λ m n v b. IsStringOf (IsUtf8In InIa5) n m (tag_or u ia5_tag) v b) };
+
+    ghost asks_memory = { true };
+
+    ghost same = { λ v w. characters v ≡ characters w };
+
+    ghost form_under = { λ u m v. utf8_form (tag_or u ia5_tag) m (characters v) };
+
+    ghost nest = { λ m v. utf8_nest m (characters v) };
+
+    ghost can = { λ v. AllByRecursion InIa5 (characters v) };
+
+    ghost fits = { written_fits (λ m v. utf8_nest m (characters v)) (λ v. AllByRecursion InIa5 (characters v)) };
+
+    #[inline(always)]
+    fn has_tag(tag: Tag) -> bool {
+        tag == TAG_IA5STRING
+    }
+
+    #[inline(always)]
+    fn read(reader: BERReader) -> ASN1Result<String> {
+        reader.read_ia5_string()
+    }
+
+    #[inline(always)]
+    fn write(value: &String, writer: DERWriter<'_>) -> ASN1Result<()> {
+        writer.write_ia5_string(value.as_str())
+    }
+
+    ghost laws = { λ _. under_own ia5_tag (class_laws InIa5) (text_begins InIa5) (not_end 22 (λ e. omega arith)) (omega arith) };
+
+    ghost others = { λ _ _. under_others ia5_tag (class_laws InIa5) (text_begins InIa5) };
+}
+
+/// NumericString (X.680, 41): a text of its characters.
+pub struct NumericString;
+
+impl Notation for NumericString {
+    type Value = String;
+
+    ghost tags = { numeric_tag ∷ [] };
+
+    ghost under = { λ u m n v b. IsStringOf (IsUtf8In InNumeric) n m (tag_or u numeric_tag) (characters v) b };
+
+    ghost any_under = { λ u. Any (λ m n v b. IsStringOf (IsUtf8In InNumeric) n m (tag_or u numeric_tag) v b) };
+
+    ghost asks_memory = { true };
+
+    ghost same = { λ v w. characters v ≡ characters w };
+
+    ghost form_under = { λ u m v. utf8_form (tag_or u numeric_tag) m (characters v) };
+
+    ghost nest = { λ m v. utf8_nest m (characters v) };
+
+    ghost can = { λ v. AllByRecursion InNumeric (characters v) };
+
+    ghost fits = { written_fits (λ m v. utf8_nest m (characters v)) (λ v. AllByRecursion InNumeric (characters v)) };
+
+    #[inline(always)]
+    fn has_tag(tag: Tag) -> bool {
+        tag == TAG_NUMERICSTRING
+    }
+
+    #[inline(always)]
+    fn read(reader: BERReader) -> ASN1Result<String> {
+        reader.read_numeric_string()
+    }
+
+    #[inline(always)]
+    fn write(value: &String, writer: DERWriter<'_>) -> ASN1Result<()> {
+        writer.write_numeric_string(value.as_str())
+    }
+
+    ghost laws = { λ _. under_own numeric_tag (class_laws InNumeric) (text_begins InNumeric) (not_end 18 (λ e. omega arith)) (omega arith) };
+
+    ghost others = { λ _ _. under_others numeric_tag (class_laws InNumeric) (text_begins InNumeric) };
+}
+
+/// VisibleString (X.680, 41): a text of its characters.
+pub struct VisibleString;
+
+impl Notation for VisibleString {
+    type Value = String;
+
+    ghost tags = { visible_tag ∷ [] };
+
+    ghost under = { λ u m n v b. IsStringOf (IsUtf8In InVisible) n m (tag_or u visible_tag) (characters v) b };
+
+    ghost any_under = { λ u. Any (λ m n v b. IsStringOf (IsUtf8In InVisible) n m (tag_or u visible_tag) v b) };
+
+    ghost asks_memory = { true };
+
+    ghost same = { λ v w. characters v ≡ characters w };
+
+    ghost form_under = { λ u m v. utf8_form (tag_or u visible_tag) m (characters v) };
+
+    ghost nest = { λ m v. utf8_nest m (characters v) };
+
+    ghost can = { λ v. AllByRecursion InVisible (characters v) };
+
+    ghost fits = { written_fits (λ m v. utf8_nest m (characters v)) (λ v. AllByRecursion InVisible (characters v)) };
+
+    #[inline(always)]
+    fn has_tag(tag: Tag) -> bool {
+        tag == TAG_VISIBLESTRING
+    }
+
+    #[inline(always)]
+    fn read(reader: BERReader) -> ASN1Result<String> {
+        reader.read_visible_string()
+    }
+
+    #[inline(always)]
+    fn write(value: &String, writer: DERWriter<'_>) -> ASN1Result<()> {
+        writer.write_visible_string(value.as_str())
+    }
+
+    ghost laws = { λ _. under_own visible_tag (class_laws InVisible) (text_begins InVisible) (not_end 26 (λ e. omega arith)) (omega arith) };
+
+    ghost others = { λ _ _. under_others visible_tag (class_laws InVisible) (text_begins InVisible) };
+}

@@ -1,0 +1,102 @@
+//! UTCTime and GeneralizedTime (X.690, 8.25).
+ghost use Rattle.std.specs.Prelude.{◌≡◌, ◌∷◌, [], true};
+ghost use Rattle.std.proofs.Common.{arith};
+ghost use Rattle.yasna_base.specs.Canonical.{Always};
+ghost use Rattle.yasna_base.specs.Coding.{Any};
+ghost use Rattle.yasna_base.specs.Exact.{written_fits};
+ghost use Rattle.yasna_base.specs.Identifier.{tag_or};
+ghost use Rattle.yasna_base.specs.Text.{IsStringOf};
+ghost use Rattle.yasna_base.proofs.Identifier.{not_end};
+ghost use Rattle.yasna_times.specs.Models.{utc_of, moment_of};
+ghost use Rattle.yasna_times.specs.UtcTime.{SaysUtcTime, utc_time_tag, utc_time_form, utc_time_nest};
+ghost use Rattle.yasna_times.specs.GeneralizedTime.{SaysGeneralizedTime, generalized_time_tag, generalized_time_form, generalized_time_nest};
+ghost use Rattle.yasna_notation.specs.Laws.{under_own, under_others, string_begins, utc_laws, general_laws};
+
+use crate::notation::Notation;
+use yasna_base::tags::{TAG_GENERALIZEDTIME, TAG_UTCTIME};
+use yasna_base::{ASN1Result, Tag};
+use yasna_reader::BERReader;
+use yasna_times::models::{GeneralizedTime, UTCTime};
+use yasna_writer::DERWriter;
+
+impl Notation for UTCTime {
+    type Value = UTCTime;
+
+    ghost tags = { utc_time_tag ∷ [] };
+
+    ghost under = { λ u m n v b. IsStringOf SaysUtcTime n m (tag_or u utc_time_tag) (utc_of v) b };
+
+    ghost any_under = { λ u. Any (λ m n v b. IsStringOf SaysUtcTime n m (tag_or u utc_time_tag) v b) };
+
+    ghost asks_memory = { true };
+
+    ghost same = { λ v w. utc_of v ≡ utc_of w };
+
+    ghost form_under = { λ u m v. utc_time_form (tag_or u utc_time_tag) m (utc_of v) };
+
+    ghost nest = { λ m v. utc_time_nest m (utc_of v) };
+
+    ghost can = { Always };
+
+    ghost fits = { written_fits (λ m v. utc_time_nest m (utc_of v)) Always };
+
+    #[inline(always)]
+    fn has_tag(tag: Tag) -> bool {
+        tag == TAG_UTCTIME
+    }
+
+    #[inline(always)]
+    fn read(reader: BERReader) -> ASN1Result<UTCTime> {
+        reader.read_utctime()
+    }
+
+    #[inline(always)]
+    fn write(value: &UTCTime, writer: DERWriter<'_>) -> ASN1Result<()> {
+        writer.write_utctime(value)
+    }
+
+    ghost laws = { λ _. under_own utc_time_tag utc_laws (string_begins SaysUtcTime) (not_end 23 (λ e. omega arith)) (omega arith) };
+
+    ghost others = { λ _ _. under_others utc_time_tag utc_laws (string_begins SaysUtcTime) };
+}
+
+impl Notation for GeneralizedTime {
+    type Value = GeneralizedTime;
+
+    ghost tags = { generalized_time_tag ∷ [] };
+
+    ghost under = { λ u m n v b. IsStringOf SaysGeneralizedTime n m (tag_or u generalized_time_tag) (moment_of v) b };
+
+    ghost any_under = { λ u. Any (λ m n v b. IsStringOf SaysGeneralizedTime n m (tag_or u generalized_time_tag) v b) };
+
+    ghost asks_memory = { true };
+
+    ghost same = { λ v w. moment_of v ≡ moment_of w };
+
+    ghost form_under = { λ u m v. generalized_time_form (tag_or u generalized_time_tag) m (moment_of v) };
+
+    ghost nest = { λ m v. generalized_time_nest m (moment_of v) };
+
+    ghost can = { Always };
+
+    ghost fits = { written_fits (λ m v. generalized_time_nest m (moment_of v)) Always };
+
+    #[inline(always)]
+    fn has_tag(tag: Tag) -> bool {
+        tag == TAG_GENERALIZEDTIME
+    }
+
+    #[inline(always)]
+    fn read(reader: BERReader) -> ASN1Result<GeneralizedTime> {
+        reader.read_generalized_time()
+    }
+
+    #[inline(always)]
+    fn write(value: &GeneralizedTime, writer: DERWriter<'_>) -> ASN1Result<()> {
+        writer.write_generalized_time(value)
+    }
+
+    ghost laws = { λ _. under_own generalized_time_tag general_laws (string_begins SaysGeneralizedTime) (not_end 24 (λ e. omega arith)) (omega arith) };
+
+    ghost others = { λ _ _. under_others generalized_time_tag general_laws (string_begins SaysGeneralizedTime) };
+}
