@@ -1,2 +1,5 @@
 pub mod Calls
 pub mod OneTag
+pub mod Enclosing
+pub mod Contents
+pub mod Standing

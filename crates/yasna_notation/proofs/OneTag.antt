@@ -4,15 +4,20 @@ use Rattle.yasna_base.specs.declared.error.ASN1Error.{ASN1Error}
 use Rattle.yasna_base.specs.declared.mode.BERMode.{BERMode}
 use Rattle.yasna_base.specs.declared.tag.Tag.{Tag}
 use Rattle.yasna_base.specs.Coding.{Any}
+use Rattle.yasna_base.specs.declared.models.tagged_der_value.TaggedDerValue.{TaggedDerValue}
 use Rattle.yasna_base.specs.Grammar.{Grammar, Members, TaggedGrammar, TaggedMembers}
 use Rattle.yasna_base.specs.Identifier.{BeginsWithTag, end_tag, tag_or}
+use Rattle.yasna_base.specs.Raw.{IsRaw}
+use Rattle.yasna_base.specs.TaggedDerValue.{raw_of}
 use Rattle.yasna_bytes.specs.Contents.{Never, WantsMemory}
 use Rattle.yasna_reader.specs.ByTags.{DecodesByTags}
 use Rattle.yasna_reader.specs.Decodes.{RepeatsKept}
 use Rattle.yasna_reader.specs.Primitive.{ReadsSeen, Reads, NoLevel}
+use Rattle.yasna_reader.specs.Raw.{ReadsRaw}
 use Rattle.yasna_reader.specs.State.{Reading, IsFresh, untagged, Does}
 use Rattle.yasna_reader.proofs.ByTags.{IsDecoderByTags, leaf_by_tag, asking_by_tag}
-use Rattle.yasna_reader.proofs.Kept.{seen_repeats_kept}
+use Rattle.yasna_reader.proofs.Kept.{seen_repeats_kept, raw_repeats_kept}
+use Rattle.yasna_reader.proofs.RawReads.{raw_decodes}
 use Rattle.yasna_reader.proofs.UnderTags.{DoesUnder, seen_under}
 use Rattle.yasna_notation.specs.Notation.{DecodesAs, ReadsAs}
 
@@ -49,3 +54,12 @@ pub asking_read : {V A : Type 0} (B : TaggedGrammar A) (view : V → A) (D : Tag
 asking_read B view D own not_end deep s r s' h =
     one_tag_read (λ t. ReadsSeen B view D WantsMemory t) own not_end (λ t other. asking_by_tag B view D t other (deep t))
     (λ t. seen_under B view D WantsMemory own t) s r s' (seen_repeats_kept h) h
+
+-- a read of an element of any tag
+pub any_read : (s : Reading) (r : Result TaggedDerValue ASN1Error) (s' : Reading) → ReadsRaw IsRaw raw_of s r s' →
+    ReadsAs false [] false true (λ u m n v b. IsRaw n m (raw_of v) b) (λ u. Any (λ m n v b. IsRaw n m v b)) s r s'
+any_read s r s' h = record {
+  alone = λ fresh. record { decodes = raw_decodes IsRaw raw_of s fresh r s' h; quiet = λ e. absurd (cc) };
+  replaced = λ e t other kept waits. absurd (cc);
+  repeats = raw_repeats_kept h;
+}

@@ -1,5 +1,7 @@
 -- That types which are made as the notation says keep its laws.
-use Rattle.std.proofs.Common.{◌≡◌, ◌∷◌, [], ◌<◌, ◌^◌, ℕ, List, Bool, true, Some, None, Vec, String, FitsSigned, pos, ap, arith}
+use Rattle.std.proofs.Common.{◌≡◌, ◌∷◌, [], ◌<◌, ◌^◌, ℕ, List, Bool, true, false, Option, Some, None, Vec, String, FitsSigned, pos, ap, arith}
+use Rattle.std.proofs.lemmas.Bool.{and_parts}
+use Rattle.std.specs.Prelude.{◌&&◌}
 use Rattle.std.specs.Global.{Global}
 use Rattle.std.specs.Int.{Width}
 use Rattle.std.specs.List.{AllByRecursion}
@@ -11,17 +13,21 @@ use Rattle.yasna_times.specs.declared.models.utc_time.UTCTime.{UTCTime}
 use Rattle.yasna_base.specs.BigInteger.{IsBigInteger, CanBigInteger, big_integer_form}
 use Rattle.yasna_base.specs.Bits.{bits_segmentation, IsBits}
 use Rattle.yasna_base.specs.Boolean.{IsBoolean, boolean_form}
-use Rattle.yasna_base.specs.Canonical.{Always, leaf_nest}
+use Rattle.yasna_base.specs.Canonical.{Always, leaf_nest, enclosed_form}
 use Rattle.yasna_base.specs.Coding.{Any}
 use Rattle.yasna_base.specs.Digits.{IsBytes}
-use Rattle.yasna_base.specs.Element.{Primitively}
-use Rattle.yasna_base.specs.Exact.{Fitting, IsExact, written_fits}
+use Rattle.yasna_base.specs.Element.{Primitively, Enclosed, AnyEnclosed}
+use Rattle.yasna_base.specs.Exact.{Fitting, written_fits, enclosed_fits, elements_fit, raw_fits}
 use Rattle.yasna_base.specs.Grammar.{Grammar, Members, Form}
 use Rattle.yasna_base.specs.Identifier.{class_number, end_tag, BeginsWithTag, tag_or}
 use Rattle.yasna_base.specs.Integer.{IsSigned, IsUnsigned, integer_form}
 use Rattle.yasna_base.specs.Null.{IsNull, null_form}
 use Rattle.yasna_base.specs.Octets.{IsOctets, octets_segmentation, octets_form, octets_nest}
 use Rattle.yasna_base.specs.Oid.{AreComponents, IsEncodableOid, oid_form}
+use Rattle.yasna_base.specs.Pieces.{Each}
+use Rattle.yasna_base.specs.Raw.{IsRaw, raw_form}
+use Rattle.yasna_base.specs.SequenceOf.{IsListOf, AnyListOf, elements_form}
+use Rattle.yasna_base.specs.TaggedDerValue.{raw_of}
 use Rattle.yasna_base.specs.Text.{IsStringOf, IsUtf8In, InUtf8, characters, utf8_form, utf8_nest}
 use Rattle.yasna_base.specs.UnderTags.{IsExactUnderTags}
 use Rattle.yasna_base.proofs.Beginnings.{begins_by_tag}
@@ -29,13 +35,15 @@ use Rattle.yasna_base.proofs.BigInteger.{big_integer_coding, big_integer_written
 use Rattle.yasna_base.proofs.Boolean.{boolean_coding, boolean_written}
 use Rattle.yasna_base.proofs.Canonical.{written_along, written_where, written_always}
 use Rattle.yasna_base.proofs.Coding.{along}
-use Rattle.yasna_base.proofs.Exact.{exact_along, written_exact}
+use Rattle.yasna_base.proofs.Exact.{exact_along, written_exact, raw_keeps_exact}
 use Rattle.yasna_base.proofs.Integer.{signed_under, unsigned_under, number_written}
 use Rattle.yasna_base.proofs.Null.{null_coding, null_written}
 use Rattle.yasna_base.proofs.Octets.{octets_coding, octets_written}
 use Rattle.yasna_base.proofs.Oid.{oid_under, oid_written_under}
+use Rattle.yasna_base.proofs.Raw.{raw_coding}
 use Rattle.yasna_base.proofs.Segmented.{segmented_begins}
 use Rattle.yasna_base.proofs.Texts.{class_coding, class_written, string_text}
+use Rattle.yasna_base.proofs.UnderTags.{tagged_exact_under_tags, list_exact_under_tags}
 use Rattle.yasna_times.specs.GeneralizedTime.{SaysGeneralizedTime, generalized_time_form, generalized_time_nest}
 use Rattle.yasna_times.specs.Models.{utc_of, moment_of}
 use Rattle.yasna_times.specs.UtcTime.{SaysUtcTime, utc_time_form, utc_time_nest}
@@ -153,3 +161,48 @@ application number = record { tag_class = Application; tag_number = number }
 -- a tag of that class isn't that of the end of contents
 pub application_not_end : (k : ℕ) → application k ≡ end_tag → ⊥
 application_not_end k e = let c = ap (λ (t : Tag). class_number t.tag_class) e in absurd (omega arith)
+
+-- an element of any tag
+pub any_laws : IsNotation false [] (λ v w. raw_of v ≡ raw_of w) (λ m n v b. IsRaw n m (raw_of v) b) (Any (λ m n v b. IsRaw n m v b))
+    (λ m v. raw_form (raw_of v).tag m (raw_of v)) (λ m n v. raw_fits m n (raw_of v)) Always
+any_laws = record { coding = along raw_of raw_coding; begins = λ e. absurd (cc); exact = exact_along raw_of raw_keeps_exact }
+
+-- nothing is asked where no other tag may stand
+pub never_retagged : {P : Type 0} → false ≡ true → P
+never_retagged e = absurd (cc)
+
+-- an EXPLICIT tag
+pub explicit_laws : {A : Type 0} {told : Bool} {ts : List Tag} {E : A → A → Type 0} {B : Grammar A} {S : Members} {form : Form A} {Fits : Fitting A}
+    {Can : A → Type 0} → IsNotation told ts E B S form Fits Can →
+    IsExactUnderTags E (λ t. Enclosed B t) (λ t. AnyEnclosed S t) (λ t. enclosed_form form t) (enclosed_fits Fits) Can
+explicit_laws x = tagged_exact_under_tags x.coding x.exact
+
+-- a SEQUENCE OF
+pub list_laws : {A : Type 0} {told : Bool} {ts : List Tag} {E : A → A → Type 0} {B : Grammar A} {S : Members} {form : Form A} {Fits : Fitting A}
+    {Can : A → Type 0} → IsNotation told ts E B S form Fits Can →
+    IsExactUnderTags (λ (v w : Vec A Global). Each E v.items w.items) (λ t m n (v : Vec A Global) b. IsListOf B t m n v.items b) (λ t. AnyListOf S t)
+    (λ t m (v : Vec A Global). enclosed_form (elements_form form) t m v.items)
+    (λ m n (v : Vec A Global). enclosed_fits (elements_fit Fits) m n v.items) (λ (v : Vec A Global). AllByRecursion Can v.items)
+list_laws {A} x = list_exact_under_tags (λ (v : Vec A Global). v.items) x.coding x.exact
+
+-- a tag in place of the type's own
+module _ {A : Type 0} {E : A → A → Type 0} (B : Option Tag → Grammar A) (S : Option Tag → Members) (form : Option Tag → Form A) {Fits : Fitting A}
+    {Can : A → Type 0} {apart retagged : Bool} (own : Tag) (laws : apart ≡ true → retagged ≡ true → KeepsUnderTags E B S form Fits Can)
+    (all : retagged && apart ≡ true) where
+  pub implicit_laws : (own ≡ end_tag → ⊥) → own.tag_number < 2 ^ 64 →
+      IsNotation true (own ∷ []) E (B (Some own)) (S (Some own)) (form (Some own)) Fits Can
+  implicit_laws not_end range = let x = and_parts retagged apart all in laws x.1 x.0 own not_end range
+
+  pub implicit_others : KeepsUnderTags E (λ u. B (Some (tag_or u own))) (λ u. S (Some (tag_or u own))) (λ u. form (Some (tag_or u own))) Fits Can
+  implicit_others t not_end range = let x = and_parts retagged apart all in laws x.1 x.0 t not_end range
+
+-- a type whose values stand for those of another
+pub defined_laws : {U A : Type 0} {told : Bool} {ts : List Tag} {E : A → A → Type 0} {B : Grammar A} {S : Members} {form : Form A} {Fits : Fitting A}
+    {Can : A → Type 0} (f : U → A) → IsNotation told ts E B S form Fits Can →
+    IsNotation told ts (λ v w. E (f v) (f w)) (λ m n v b. B m n (f v) b) S (λ m v. form m (f v)) (λ m n v. Fits m n (f v)) (λ v. Can (f v))
+defined_laws f x = record { coding = along f x.coding; begins = x.begins; exact = exact_along f x.exact }
+
+pub defined_others : {U A : Type 0} {E : A → A → Type 0} (B : Option Tag → Grammar A) (S : Option Tag → Members) (form : Option Tag → Form A)
+    {Fits : Fitting A} {Can : A → Type 0} (f : U → A) → KeepsUnderTags E B S form Fits Can →
+    KeepsUnderTags (λ v w. E (f v) (f w)) (λ u m n v b. B u m n (f v) b) S (λ u m v. form u m (f v)) (λ m n v. Fits m n (f v)) (λ v. Can (f v))
+defined_others B S form f x t not_end range = defined_laws f (x t not_end range)

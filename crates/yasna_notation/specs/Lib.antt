@@ -1,2 +1,3 @@
 pub mod Notation
 pub mod Laws
+pub mod Parts

@@ -8,13 +8,26 @@
 //! | `strings`, `times` | strings and times |
 #![tactic(auto)]
 
+mod any;
+mod defined;
+mod explicit_tags;
+mod implicit_tags;
+mod lists;
 mod notation;
+mod parts;
+mod sequences;
 mod simple;
 mod strings;
 mod tag_names;
 mod times;
 
+pub use defined::Defined;
+pub use explicit_tags::Explicit;
+pub use implicit_tags::Implicit;
+pub use lists::SequenceOf;
 pub use notation::Notation;
+pub use parts::{Optional, Parts};
+pub use sequences::Sequence;
 pub use simple::{BigInteger, Enumerated};
 pub use strings::{BitString, Ia5String, NumericString, PrintableString, VisibleString};
 pub use tag_names::{Application, Context, TagName};

@@ -1,0 +1,132 @@
+-- What reading parts does that are made as the notation says: the first, and those behind it.
+use Rattle.std.proofs.Common.{◌≡◌, ◌||◌, ◌&&◌, ◌∷◌, List, Bool, true, false, Option, Some, None, Result, Ok, Err, refl, sym, subst}
+use Rattle.std.proofs.lemmas.Bool.{and_parts}
+use Rattle.std.specs.Borrow.{MutBor}
+use Rattle.std.specs.Fn.{Once, FnOnceReturnsAtMut}
+use Rattle.yasna_base.specs.declared.error.ASN1Error.{ASN1Error}
+use Rattle.yasna_base.specs.declared.tag.Tag.{Tag}
+use Rattle.yasna_base.specs.Beginnings.{share_none}
+use Rattle.yasna_base.specs.Coding.{IsCoding}
+use Rattle.yasna_base.specs.Exact.{Fitting}
+use Rattle.yasna_base.specs.Grammar.{Grammar, Members, Form}
+use Rattle.yasna_base.specs.Identifier.{end_tag}
+use Rattle.yasna_base.specs.Optional.{OptionOf, AnyOption}
+use Rattle.yasna_base.specs.Sequence.{PartOf, NoParts, AnyPart, AnyNothing}
+use Rattle.yasna_base.proofs.Beginnings.{begins_apart}
+use Rattle.yasna_reader.specs.declared.callback.Outcome.{Outcome}
+use Rattle.yasna_reader.specs.Callback.{Hands, UnlessKept}
+use Rattle.yasna_reader.specs.Decodes.{DecodesContents, AndIn, Made}
+use Rattle.yasna_reader.specs.Optional.{ReadsOptional, optional}
+use Rattle.yasna_reader.specs.Parse.{unless_kept}
+use Rattle.yasna_reader.specs.State.{Reading, IsFresh, untagged, Does}
+use Rattle.yasna_reader.proofs.ByTags.{IsDecoderByTags, plain_by}
+use Rattle.yasna_reader.proofs.OptionalParts.{IsFirstDecoder, IsContentsDecoder, then_by, part_by, option_by, end_by}
+use Rattle.yasna_reader.proofs.PartsByTags.{quiet_before}
+use Rattle.yasna_notation.specs.Notation.{IsNotation, ReadsAs}
+use Rattle.yasna_notation.specs.Parts.{AreParts, ReadsContents, all_told, is_told}
+use Rattle.yasna_notation.proofs.Calls.{by_run}
+use Rattle.yasna_notation.proofs.Enclosing.{value_by}
+
+-- a value before what was read behind it
+abbrev pub paired : {A V : Type 0} → A → Result V ASN1Error → Result (A × V) ASN1Error
+paired v (Ok w) = Ok (v, w)
+paired v (Err e) = Err e
+
+itself : {A : Type 0} (asks : Bool) (C : Grammar A) (S : Members) (s : Reading) (r : Result A ASN1Error) (s' : Reading) →
+    DecodesContents asks (Made C (λ w. w)) S s r s' → DecodesContents asks C S s r s'
+itself asks C S s (Ok v) s' h =
+    let k = h.took in
+    record {
+      took = record {
+        front = k.front;
+        rest = k.rest;
+        joined = k.joined;
+        stands = subst (λ w. C s.mode s.levels w k.front) (sym k.stands.2) k.stands.1;
+        left = k.left;
+      };
+      ends = h.ends;
+    }
+itself asks C S s (Err e) s' h = h
+
+-- where there are no parts
+pub nothing_read : (s : Reading) → IsFresh s → ReadsContents false NoParts AnyNothing s (Ok tt) s
+nothing_read s fresh =
+    itself false NoParts AnyNothing s (unless_kept s.kept (Ok tt)) s ((end_by {make = λ w. w}).decodes s (Ok tt) s fresh (refl, refl))
+
+module _ {A V : Type 0} {p : Bool} {B : Grammar A} {S Q : Members} {N : Does A} (q : Bool) (C : Grammar V) (first : IsFirstDecoder p B S Q N) where
+  made : (v : A) (s : Reading) (k : Option ASN1Error) (y : Result V ASN1Error) (s' : Reading) → DecodesContents q C Q s (unless_kept k y) s' →
+      DecodesContents q (Made C (λ w. (v, w))) Q s (unless_kept k (paired v y)) s'
+  made v s (Some f) (Ok w) s' h = h
+  made v s (Some f) (Err e) s' h = h
+  made v s None (Ok w) s' h =
+      let k = h.took in
+      record { took = record { front = k.front; rest = k.rest; joined = k.joined; stands = (w, k.stands, refl); left = k.left }; ends = h.ends }
+  made v s None (Err e) s' h = h
+
+  -- what stands behind a value was read, and the value is put before it
+  abbrev Behind : A → Does (A × V)
+  Behind v s r s' = (y : Result V ASN1Error) × ReadsContents q C Q s y s' × (r ≡ paired v y)
+
+  behind_by : (v : A) → IsContentsDecoder q C Q (λ w. (v, w)) (Behind v)
+  behind_by v = record {
+    decodes = λ s r s' fresh h.
+        subst (λ z. DecodesContents q (Made C (λ w. (v, w))) Q s (unless_kept s'.kept z) s') (sym h.2) (made v s s'.kept h.0 s' h.1);
+  }
+
+  both : (s : Reading) → IsFresh s → (x : Result A ASN1Error) (m : Reading) → N s x m → (r : Result (A × V) ASN1Error) (s' : Reading) →
+      AndIn Behind x m r s' → ReadsContents (p || q) (PartOf B C) (AnyPart S Q) s r s'
+  both s fresh x m n r s' k =
+      itself (p || q) (PartOf B C) (AnyPart S Q) s (unless_kept s'.kept r) s' ((then_by {make = λ w. w} first behind_by).decodes s r s' fresh (x, m, n, k))
+
+  -- where the first fails, so do they
+  pub first_failed : (s : Reading) → IsFresh s → (x : Result A ASN1Error) (m : Reading) → N s x m → (e : ASN1Error) → x ≡ Err e →
+      ReadsContents (p || q) (PartOf B C) (AnyPart S Q) s (Err e) m
+  first_failed s fresh x m n e is = both s fresh (Err e) m (subst (λ z. N s z m) is n) (Err e) m (refl, refl)
+
+  -- where it is read, they are what is read behind it
+  pub first_read : (s : Reading) → IsFresh s → (x : Result A ASN1Error) (m : Reading) → N s x m → (v : A) → x ≡ Ok v →
+      (y : Result V ASN1Error) (s' : Reading) → ReadsContents q C Q m y s' → ReadsContents (p || q) (PartOf B C) (AnyPart S Q) s (paired v y) s'
+  first_read s fresh x m n v is y s' h = both s fresh (Ok v) m (subst (λ z. N s z m) is n) (paired v y) s' (y, h, refl)
+
+-- a part that is there
+pub required_by : {A : Type 0} {told : Bool} {ts : List Tag} {retagged asks : Bool} {E : A → A → Type 0} {B : Option Tag → Grammar A}
+    {S : Option Tag → Members} {Q : Members} → IsCoding E (B None) (S None) →
+    IsFirstDecoder asks (B None) (S None) Q (ReadsAs told ts retagged asks B S)
+required_by laws = part_by laws value_by
+
+-- what reads a value of a type that is told by tags decodes by them
+told_by : {A : Type 0} {told : Bool} {ts : List Tag} {retagged asks : Bool} {B : Option Tag → Grammar A} {S : Option Tag → Members} → told ≡ true →
+    IsDecoderByTags ts asks (B None) (S None) (ReadsAs told ts retagged asks B S)
+told_by is = record { decodes = λ s r s' fresh h. let d = h.alone fresh in record { decodes = d.decodes; quiet = d.quiet is } }
+
+-- a part that may be left out is read as the closure's calls read it
+pub optional_called : {A F : Type 0} (g : Once F (MutBor Reading × Unit {0}) (Result A ASN1Error × (MutBor Reading × Unit {0}))) (f : F) (N : Does A)
+    (s : Reading) (r : Result (Option A) ASN1Error) (s' : Reading) → ReadsOptional (FnOnceReturnsAtMut g f) s r s' →
+    ((p q : MutBor Reading) (x : Result A ASN1Error) → g.post f (p, tt) (x, (q, tt)) → N p.now x q.now) → ReadsOptional N s r s'
+optional_called {A} g f N s r s' h says = by_kept s.kept h
+  where
+    by_kept : (k : Option ASN1Error) →
+        UnlessKept k s r s' ((o : Outcome A) × Hands (FnOnceReturnsAtMut g f) (untagged s) o s' × (r ≡ optional o)) →
+        UnlessKept k s r s' ((o : Outcome A) × Hands N (untagged s) o s' × (r ≡ optional o))
+    by_kept (Some e) x = x
+    by_kept None x = (
+      x.0,
+      record { own = x.1.own; left = x.1.left; says = by_run N says (untagged s) x.1.own x.1.left x.1.says; comes = x.1.comes },
+      x.2,
+    )
+
+-- where tags tell it from what stands behind it
+pub option_first : {A V : Type 0} {told others : Bool} {ts us : List Tag} {retagged asks : Bool} {E : A → A → Type 0} {G : V → V → Type 0}
+    {B : Option Tag → Grammar A} {S : Option Tag → Members} {C : Grammar V} {Q : Members} {form : Form A} {forms : Form V} {Fits : Fitting A}
+    {Fit : Fitting V} {Can : A → Type 0} {Could : V → Type 0} {a b : Bool} →
+    (a ≡ true → IsNotation told ts E (B None) (S None) form Fits Can) → (b ≡ true → AreParts others us G C Q forms Fit Could) →
+    all_told told others (share_none ts (end_tag ∷ us)) (a && b) ≡ true →
+    IsFirstDecoder asks (OptionOf (B None)) (AnyOption (S None)) Q (ReadsOptional (ReadsAs told ts retagged asks B S))
+option_first {told = told} {others = others} {ts = ts} {us = us} {a = a} {b = b} first rest e =
+    let t = is_told told others (share_none ts (end_tag ∷ us)) (a && b) e in
+    let z = and_parts a b t.all_apart in
+    let x = first z.0 in
+    let y = rest z.1 in
+    let value = told_by t.first_told in
+    let begins = y.begins t.others_told in
+    option_by x.coding (plain_by value) (begins_apart (x.begins t.first_told) begins t.none_shared) (quiet_before value t.none_shared begins y.in_range)

@@ -1,0 +1,9 @@
+use Rattle.std.proofs.Common.{rules}
+use Rattle.yasna_notation.proofs.Enclosing.{explicit_read}
+use Rattle.yasna_notation.proofs.explicit_tags.ExplicitNotation.read.Goals as goal
+
+pub returns : goal.returns
+returns g c =
+    let n = g.N.Notation in
+    explicit_read {told = n.told} {ts = n.tags} {retagged = n.retagged} {asks = n.asks_memory} {B = n.under} {S = n.any_under}
+    (g.met.N.Notation.laws c.requires).coding g.met.T.TagName.not_end c.read_tagged.ensures c.tag.ensures (λ p q x h. search rules)

@@ -1,0 +1,10 @@
+use Rattle.std.proofs.Common.{rules}
+use Rattle.std.proofs.lemmas.Bool.{and_parts}
+use Rattle.yasna_notation.proofs.Enclosing.{implicit_read}
+use Rattle.yasna_notation.proofs.implicit_tags.ImplicitNotation.read.Goals as goal
+
+pub returns : goal.returns
+returns g c =
+    let n = g.N.Notation in
+    implicit_read {told = n.told} {ts = n.tags} {asks = n.asks_memory} {B = n.under} {S = n.any_under} _ _
+    (and_parts n.retagged n.apart c.requires).0 g.met.T.TagName.not_end c.read_tagged_implicit.ensures c.tag.ensures (λ p q x h. search rules)

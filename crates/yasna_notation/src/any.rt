@@ -1,0 +1,61 @@
+//! An element of any tag, whose contents aren't given a type (ANY of X.208; X.690, 8.1).
+ghost use Rattle.std.specs.Prelude.{◌≡◌, [], true, false};
+ghost use Rattle.yasna_base.specs.Canonical.{Always, leaf_nest};
+ghost use Rattle.yasna_base.specs.Coding.{Any};
+ghost use Rattle.yasna_base.specs.Exact.{raw_fits};
+ghost use Rattle.yasna_base.specs.Identifier.{tag_or};
+ghost use Rattle.yasna_base.specs.Raw.{IsRaw, raw_form};
+ghost use Rattle.yasna_base.specs.TaggedDerValue.{raw_of};
+ghost use Rattle.yasna_notation.specs.Laws.{any_laws, never_retagged};
+
+use crate::notation::Notation;
+use yasna_base::models::TaggedDerValue;
+use yasna_base::{ASN1Result, Tag};
+use yasna_reader::BERReader;
+use yasna_writer::DERWriter;
+
+/// It is written as it came: what BER read with an indefinite length is no element of DER then. How deep it nests isn't counted.
+impl Notation for TaggedDerValue {
+    type Value = TaggedDerValue;
+
+    ghost told = { false };
+
+    ghost tags = { [] };
+
+    ghost retagged = { false };
+
+    ghost under = { λ u m n v b. IsRaw n m (raw_of v) b };
+
+    ghost any_under = { λ u. Any (λ m n v b. IsRaw n m v b) };
+
+    ghost asks_memory = { true };
+
+    ghost same = { λ v w. raw_of v ≡ raw_of w };
+
+    ghost form_under = { λ u m v. raw_form (tag_or u (raw_of v).tag) m (raw_of v) };
+
+    ghost nest = { leaf_nest };
+
+    ghost can = { Always };
+
+    ghost fits = { λ m n v. raw_fits m n (raw_of v) };
+
+    #[inline(always)]
+    fn has_tag(_tag: Tag) -> bool {
+        false
+    }
+
+    #[inline(always)]
+    fn read(reader: BERReader) -> ASN1Result<TaggedDerValue> {
+        reader.read_tagged_der()
+    }
+
+    #[inline(always)]
+    fn write(value: &TaggedDerValue, writer: DERWriter<'_>) -> ASN1Result<()> {
+        writer.write_tagged_der(value)
+    }
+
+    ghost laws = { λ _. any_laws };
+
+    ghost others = { λ _ e. never_retagged e };
+}

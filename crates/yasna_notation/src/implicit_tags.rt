@@ -1,0 +1,60 @@
+//! IMPLICIT tags: a tag in place of the type's own (X.690, 8.14).
+ghost use Rattle.std.specs.Prelude.{◌≡◌, ◌∷◌, ◌&&◌, [], Some, true};
+ghost use Rattle.yasna_base.specs.Identifier.{tag_or};
+ghost use Rattle.yasna_notation.specs.Laws.{implicit_laws, implicit_others};
+
+use crate::notation::Notation;
+use crate::tag_names::TagName;
+use std::marker::PhantomData;
+use yasna_base::{ASN1Result, Tag};
+use yasna_reader::BERReader;
+use yasna_writer::DERWriter;
+
+/// `[T] IMPLICIT N`, as `Implicit<Context<0>, i64>` of `[0] IMPLICIT INTEGER`. `N` is a type with a tag of its own.
+pub struct Implicit<T, N> {
+    tag: PhantomData<T>,
+    of: PhantomData<N>,
+}
+
+impl<T: TagName, N: Notation> Notation for Implicit<T, N> {
+    type Value = N::Value;
+
+    ghost tags = { T.tag ∷ [] };
+
+    ghost apart = { (N.retagged && N.apart) };
+
+    ghost under = { λ u. N.under (Some (tag_or u T.tag)) };
+
+    ghost any_under = { λ u. N.any_under (Some (tag_or u T.tag)) };
+
+    ghost asks_memory = { N.asks_memory };
+
+    ghost same = { N.same };
+
+    ghost form_under = { λ u. N.form_under (Some (tag_or u T.tag)) };
+
+    ghost nest = { N.nest };
+
+    ghost can = { N.can };
+
+    ghost fits = { N.fits };
+
+    #[inline(always)]
+    fn has_tag(tag: Tag) -> bool {
+        tag == T::tag()
+    }
+
+    #[inline(always)]
+    fn read(reader: BERReader) -> ASN1Result<N::Value> {
+        reader.read_tagged_implicit(T::tag(), |inner| N::read(inner))
+    }
+
+    #[inline(always)]
+    fn write(value: &N::Value, writer: DERWriter<'_>) -> ASN1Result<()> {
+        writer.write_tagged_implicit(T::tag(), |inner| N::write(value, inner))
+    }
+
+    ghost laws = { λ a. implicit_laws N.under N.any_under N.form_under T.tag N.others a T.not_end T.in_range };
+
+    ghost others = { λ a _. implicit_others N.under N.any_under N.form_under T.tag N.others a };
+}

@@ -1,0 +1,88 @@
+//! SEQUENCE OF (X.690, 8.10).
+ghost use Rattle.std.specs.Prelude.{◌≡◌, ◌∷◌, [], None, true};
+ghost use Rattle.std.specs.List.{AllByRecursion};
+ghost use Rattle.yasna_base.specs.Canonical.{enclosed_form, enclosed_nest};
+ghost use Rattle.yasna_base.specs.Exact.{enclosed_fits, elements_fit};
+ghost use Rattle.yasna_base.specs.Identifier.{tag_or};
+ghost use Rattle.yasna_base.specs.Pieces.{Each};
+ghost use Rattle.yasna_base.specs.Sequence.{sequence_tag};
+ghost use Rattle.yasna_base.specs.SequenceOf.{IsListOf, AnyListOf, elements_form, elements_nest, AnyElements};
+ghost use Rattle.yasna_base.proofs.ExplicitTags.{enclosed_begins};
+ghost use Rattle.yasna_base.proofs.Identifier.{not_end};
+ghost use Rattle.std.proofs.Common.{arith};
+ghost use Rattle.yasna_writer.specs.View.{Writes, WroteParts};
+ghost use Rattle.yasna_notation.specs.Laws.{under_own, under_others, list_laws};
+
+use crate::notation::Notation;
+use std::marker::PhantomData;
+use yasna_base::tags::TAG_SEQUENCE;
+use yasna_base::{ASN1Result, Tag};
+use yasna_reader::BERReader;
+use yasna_writer::{DERWriter, DERWriterSeq};
+
+/// `SEQUENCE OF N`.
+pub struct SequenceOf<N> {
+    of: PhantomData<N>,
+}
+
+impl<N: Notation> Notation for SequenceOf<N> {
+    type Value = Vec<N::Value>;
+
+    ghost tags = { sequence_tag ∷ [] };
+
+    ghost apart = { N.apart };
+
+    ghost under = { λ u m n v b. IsListOf (N.under None) (tag_or u sequence_tag) m n v.items b };
+
+    ghost any_under = { λ u. AnyListOf (N.any_under None) (tag_or u sequence_tag) };
+
+    ghost asks_memory = { true };
+
+    ghost same = { λ v w. Each N.same v.items w.items };
+
+    ghost form_under = { λ u m v. enclosed_form (elements_form (N.form_under None)) (tag_or u sequence_tag) m v.items };
+
+    ghost nest = { λ m v. enclosed_nest (elements_nest N.nest) m v.items };
+
+    ghost can = { λ v. AllByRecursion N.can v.items };
+
+    ghost fits = { λ m n v. enclosed_fits (elements_fit N.fits) m n v.items };
+
+    #[inline(always)]
+    fn has_tag(tag: Tag) -> bool {
+        tag == TAG_SEQUENCE
+    }
+
+    #[inline(always)]
+    fn read(reader: BERReader) -> ASN1Result<Vec<N::Value>> {
+        reader.collect_sequence_of(|item| N::read(item))
+    }
+
+    #[inline(always)]
+    fn write(value: &Vec<N::Value>, writer: DERWriter<'_>) -> ASN1Result<()> {
+        write_list::<N>(value.as_slice(), writer)
+    }
+
+    ghost laws = { λ a. under_own sequence_tag (list_laws (N.laws a)) (enclosed_begins (AnyElements (N.any_under None))) (not_end 16 (λ e. omega arith)) (omega arith) };
+
+    ghost others = { λ a _. under_others sequence_tag (list_laws (N.laws a)) (enclosed_begins (AnyElements (N.any_under None))) };
+}
+
+// Writes a SEQUENCE OF these items.
+fn write_list<N: Notation>(items: &[N::Value], writer: DERWriter<'_>) -> ASN1Result<()>
+    requires { AllByRecursion N.can items.now }
+    ensures { Writes (enclosed_form (elements_form (N.form_under None)) (tag_or writer.old.tag sequence_tag) writer.old.mode items.now) writer.old writer.new result }
+{
+    writer.write_sequence_of(|seq| write_items::<N>(items, seq))
+}
+
+// Writes items, one after the other.
+fn write_items<N: Notation>(items: &[N::Value], seq: &mut DERWriterSeq) -> ASN1Result<()>
+    requires { AllByRecursion N.can items.now }
+    ensures { WroteParts (elements_form (N.form_under None) seq.old.mode items.now) seq.old seq.new result }
+{
+    for item in items {
+        N::write(item, seq.next())?;
+    }
+    Ok(())
+}

@@ -1,0 +1,216 @@
+//! What a SEQUENCE holds: parts that are there, may be left out, or are a default where they are (X.690, 8.9).
+ghost use Rattle.std.specs.Prelude.{◌≡◌, ◌∷◌, ◌++◌, ◌||◌, ◌&&◌, [], Bool, List, None, true, false};
+ghost use Rattle.yasna_base.specs.declared.tag.Tag.{Tag};
+ghost use Rattle.yasna_base.specs.Beginnings.{share_none};
+ghost use Rattle.yasna_base.specs.Canonical.{Always};
+ghost use Rattle.yasna_base.specs.Exact.{Fitting, part_fits, nothing_fits, option_fits};
+ghost use Rattle.yasna_base.specs.Grammar.{Grammar, Members, Form, Nest};
+ghost use Rattle.yasna_base.specs.Identifier.{end_tag};
+ghost use Rattle.yasna_base.specs.Optional.{OptionOf, AnyOption, SameOption, option_form, option_nest, option_can};
+ghost use Rattle.yasna_base.specs.Sequence.{PartOf, NoParts, AnyPart, AnyNothing, SamePart, SameNothing, part_form, part_nest, part_can, nothing_form, nothing_nest};
+ghost use Rattle.yasna_reader.specs.State.{IsFresh, part_of};
+ghost use Rattle.yasna_writer.specs.View.{WroteParts};
+ghost use Rattle.yasna_notation.specs.Parts.{ReadsContents, AreParts, no_parts, part_laws, option_laws, all_told};
+
+use crate::notation::Notation;
+use std::marker::PhantomData;
+use yasna_base::ASN1Result;
+use yasna_reader::BERReaderSeq;
+use yasna_writer::DERWriterSeq;
+
+/// The parts of a SEQUENCE, as pairs that end in `()`: `(i64, (Optional<bool>, ()))` of an INTEGER and a BOOLEAN OPTIONAL.
+pub trait Parts {
+    /// What their values are in Rust: pairs that end in `()` too.
+    type Values: Drop;
+
+    // Whether it is told by which tags they begin, up to the first that is always there, and these.
+    ghost told: { Bool };
+
+    ghost tags: { List Tag };
+
+    // Whether what has to be told apart in them is, by tags.
+    ghost apart: { Bool };
+
+    // Which contents encode the values.
+    ghost parts: { Grammar Self.Values };
+
+    // What that asks of the bytes alone.
+    ghost any_parts: { Members };
+
+    // Whether reading them may want memory.
+    ghost asks_memory: { Bool };
+
+    // Which values are equal.
+    ghost same: { Self.Values → Self.Values → Type 0 };
+
+    // The forms, one after the other.
+    ghost form: { Form Self.Values };
+
+    ghost nest: { Nest Self.Values };
+
+    ghost can: { Self.Values → Type 0 };
+
+    ghost fits: { Fitting Self.Values };
+
+    /// Reads the parts up to the end of the contents.
+    fn read_parts(seq: &mut BERReaderSeq) -> ASN1Result<Self::Values>
+        requires apart { apart ≡ true }
+        requires fresh { IsFresh (part_of seq.old) }
+        ensures { ReadsContents asks_memory parts any_parts (part_of seq.old) result (part_of seq.new) };
+
+    /// Writes the parts.
+    fn write_parts(values: &Self::Values, seq: &mut DERWriterSeq) -> ASN1Result<()>
+        requires { can values.now }
+        ensures { WroteParts (form seq.old.mode values.now) seq.old seq.new result };
+
+    // The laws of reading and of a canonical mode.
+    ghost laws: { apart ≡ true → AreParts told tags same parts any_parts form fits can };
+}
+
+impl Parts for () {
+    type Values = ();
+
+    ghost told = { true };
+
+    ghost tags = { [] };
+
+    ghost apart = { true };
+
+    ghost parts = { NoParts };
+
+    ghost any_parts = { AnyNothing };
+
+    ghost asks_memory = { false };
+
+    ghost same = { SameNothing };
+
+    ghost form = { nothing_form };
+
+    ghost nest = { nothing_nest };
+
+    ghost can = { Always };
+
+    ghost fits = { nothing_fits };
+
+    #[inline(always)]
+    fn read_parts(_seq: &mut BERReaderSeq) -> ASN1Result<()> {
+        Ok(())
+    }
+
+    #[inline(always)]
+    fn write_parts(_values: &(), _seq: &mut DERWriterSeq) -> ASN1Result<()> {
+        Ok(())
+    }
+
+    ghost laws = { λ _. no_parts };
+}
+
+impl<A: Notation, W: Parts> Parts for (A, W) {
+    type Values = (A::Value, W::Values);
+
+    ghost told = { A.told };
+
+    ghost tags = { A.tags };
+
+    ghost apart = { (A.apart && W.apart) };
+
+    ghost parts = { PartOf (A.under None) W.parts };
+
+    ghost any_parts = { AnyPart (A.any_under None) W.any_parts };
+
+    ghost asks_memory = { (A.asks_memory || W.asks_memory) };
+
+    ghost same = { SamePart A.same W.same };
+
+    ghost form = { part_form (A.form_under None) W.form };
+
+    ghost nest = { part_nest A.nest W.nest };
+
+    ghost can = { part_can A.can W.can };
+
+    ghost fits = { part_fits A.fits W.fits };
+
+    #[inline(always)]
+    fn read_parts(seq: &mut BERReaderSeq) -> ASN1Result<(A::Value, W::Values)> {
+        match A::read(seq.next()) {
+            Ok(first) => match W::read_parts(seq) {
+                Ok(others) => Ok((first, others)),
+                Err(error) => Err(error),
+            },
+            Err(error) => Err(error),
+        }
+    }
+
+    #[inline(always)]
+    fn write_parts(values: &(A::Value, W::Values), seq: &mut DERWriterSeq) -> ASN1Result<()> {
+        A::write(&values.0, seq.next())?;
+        W::write_parts(&values.1, seq)
+    }
+
+    ghost laws = { λ a. part_laws A.laws W.laws a };
+}
+
+/// `N OPTIONAL`: a part that may be left out.
+pub struct Optional<N> {
+    of: PhantomData<N>,
+}
+
+impl<A: Notation, W: Parts> Parts for (Optional<A>, W) {
+    type Values = (Option<A::Value>, W::Values);
+
+    ghost told = { true };
+
+    ghost tags = { A.tags ++ W.tags };
+
+    ghost apart = { all_told A.told W.told (share_none A.tags (end_tag ∷ W.tags)) (A.apart && W.apart) };
+
+    ghost parts = { PartOf (OptionOf (A.under None)) W.parts };
+
+    ghost any_parts = { AnyPart (AnyOption (A.any_under None)) W.any_parts };
+
+    ghost asks_memory = { (A.asks_memory || W.asks_memory) };
+
+    ghost same = { SamePart (SameOption A.same) W.same };
+
+    ghost form = { part_form (option_form (A.form_under None)) W.form };
+
+    ghost nest = { part_nest (option_nest A.nest) W.nest };
+
+    ghost can = { part_can (option_can A.can) W.can };
+
+    ghost fits = { part_fits (option_fits A.fits) W.fits };
+
+    #[inline(always)]
+    fn read_parts(seq: &mut BERReaderSeq) -> ASN1Result<(Option<A::Value>, W::Values)> {
+        match seq.read_optional(|part| A::read(part)) {
+            Ok(first) => match W::read_parts(seq) {
+                Ok(others) => Ok((first, others)),
+                Err(error) => Err(error),
+            },
+            Err(error) => Err(error),
+        }
+    }
+
+    #[inline(always)]
+    fn write_parts(
+        values: &(Option<A::Value>, W::Values),
+        seq: &mut DERWriterSeq,
+    ) -> ASN1Result<()> {
+        write_optional::<A>(&values.0, seq)?;
+        W::write_parts(&values.1, seq)
+    }
+
+    ghost laws = { λ a. option_laws A.laws W.laws a };
+}
+
+// Writes a part that may be left out.
+#[inline(always)]
+fn write_optional<A: Notation>(value: &Option<A::Value>, seq: &mut DERWriterSeq) -> ASN1Result<()>
+    requires { option_can A.can value.now }
+    ensures { WroteParts (option_form (A.form_under None) seq.old.mode value.now) seq.old seq.new result }
+{
+    match value {
+        Some(part) => A::write(part, seq.next()),
+        None => Ok(()),
+    }
+}
