@@ -6,7 +6,8 @@ use Rattle.std.specs.Fn.{Once, FnOnceReturnsAtMut}
 use Rattle.yasna_base.specs.declared.error.ASN1Error.{ASN1Error}
 use Rattle.yasna_base.specs.declared.tag.Tag.{Tag}
 use Rattle.yasna_base.specs.Beginnings.{share_none}
-use Rattle.yasna_base.specs.Coding.{IsCoding}
+use Rattle.yasna_base.specs.Coding.{IsCoding, Any}
+use Rattle.yasna_base.specs.Default.{TellsDefault, DefaultOf}
 use Rattle.yasna_base.specs.Exact.{Fitting}
 use Rattle.yasna_base.specs.Grammar.{Grammar, Members, Form}
 use Rattle.yasna_base.specs.Identifier.{end_tag}
@@ -16,10 +17,11 @@ use Rattle.yasna_base.proofs.Beginnings.{begins_apart}
 use Rattle.yasna_reader.specs.declared.callback.Outcome.{Outcome}
 use Rattle.yasna_reader.specs.Callback.{Hands, UnlessKept}
 use Rattle.yasna_reader.specs.Decodes.{DecodesContents, AndIn, Made}
-use Rattle.yasna_reader.specs.Optional.{ReadsOptional, optional}
+use Rattle.yasna_reader.specs.Optional.{ReadsOptional, ReadsDefault, ReadsOrDefaults, optional}
 use Rattle.yasna_reader.specs.Parse.{unless_kept}
 use Rattle.yasna_reader.specs.State.{Reading, IsFresh, untagged, Does}
 use Rattle.yasna_reader.proofs.ByTags.{IsDecoderByTags, plain_by}
+use Rattle.yasna_reader.proofs.DefaultParts.{default_by}
 use Rattle.yasna_reader.proofs.OptionalParts.{IsFirstDecoder, IsContentsDecoder, then_by, part_by, option_by, end_by}
 use Rattle.yasna_reader.proofs.PartsByTags.{quiet_before}
 use Rattle.yasna_notation.specs.Notation.{IsNotation, ReadsAs}
@@ -130,3 +132,42 @@ option_first {told = told} {others = others} {ts = ts} {us = us} {a = a} {b = b}
     let value = told_by t.first_told in
     let begins = y.begins t.others_told in
     option_by x.coding (plain_by value) (begins_apart (x.begins t.first_told) begins t.none_shared) (quiet_before value t.none_shared begins y.in_range)
+
+-- a part with a default is read as the closure's calls read it
+pub default_called : {A F : Type 0} (g : Once F (MutBor Reading × Unit {0}) (Result A ASN1Error × (MutBor Reading × Unit {0}))) (f : F) (N : Does A)
+    (eq : A → A → Bool) (d : A) (s : Reading) (r : Result A ASN1Error) (s' : Reading) → ReadsDefault (FnOnceReturnsAtMut g f) eq d s r s' →
+    ((p q : MutBor Reading) (x : Result A ASN1Error) → g.post f (p, tt) (x, (q, tt)) → N p.now x q.now) → ReadsDefault N eq d s r s'
+default_called {A} g f N eq d s r s' h says = by_kept s.kept h
+  where
+    by_kept : (k : Option ASN1Error) → UnlessKept k s r s' (ReadsOrDefaults (FnOnceReturnsAtMut g f) eq d (untagged s) r s') →
+        UnlessKept k s r s' (ReadsOrDefaults N eq d (untagged s) r s')
+    by_kept (Some e) x = x
+    by_kept None x = record {
+      outcome = x.outcome;
+      between = x.between;
+      hands = record {
+        own = x.hands.own;
+        left = x.hands.left;
+        says = by_run N says (untagged s) x.hands.own x.hands.left x.hands.says;
+        comes = x.hands.comes;
+      };
+      defaults = x.defaults;
+    }
+
+-- where tags tell it from what stands behind it
+pub default_first : {A V : Type 0} {told others : Bool} {ts us : List Tag} {retagged asks : Bool} {E : A → A → Type 0} {G : V → V → Type 0}
+    {B : Option Tag → Grammar A} {S : Option Tag → Members} {C : Grammar V} {Q : Members} {form : Form A} {forms : Form V} {Fits : Fitting A}
+    {Fit : Fitting V} {Can : A → Type 0} {Could : V → Type 0} {a b : Bool} (is : A → Bool) (eq : A → A → Bool) (d : A) → TellsDefault E is d →
+    ((v : A) → is v ≡ eq v d) →
+    (a ≡ true → IsNotation told ts E (B None) (S None) form Fits Can) → (b ≡ true → AreParts others us G C Q forms Fit Could) →
+    all_told told others (share_none ts (end_tag ∷ us)) (a && b) ≡ true →
+    IsFirstDecoder asks (DefaultOf is (B None)) (Any (DefaultOf is (B None))) Q (ReadsDefault (ReadsAs told ts retagged asks B S) eq d)
+default_first {told = told} {others = others} {ts = ts} {us = us} {a = a} {b = b} is eq d tells tests first rest e =
+    let t = is_told told others (share_none ts (end_tag ∷ us)) (a && b) e in
+    let z = and_parts a b t.all_apart in
+    let x = first z.0 in
+    let y = rest z.1 in
+    let value = told_by t.first_told in
+    let begins = y.begins t.others_told in
+    default_by is eq d tells tests x.coding (plain_by value) (begins_apart (x.begins t.first_told) begins t.none_shared)
+    (quiet_before value t.none_shared begins y.in_range)

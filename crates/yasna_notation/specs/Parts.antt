@@ -6,7 +6,8 @@ use Rattle.yasna_base.specs.declared.error.ASN1Error.{ASN1Error}
 use Rattle.yasna_base.specs.declared.tag.Tag.{Tag}
 use Rattle.yasna_base.specs.Beginnings.{share_none, ContentsBeginBy}
 use Rattle.yasna_base.specs.Canonical.{Always, enclosed_form}
-use Rattle.yasna_base.specs.Coding.{IsContentsCoding}
+use Rattle.yasna_base.specs.Coding.{IsContentsCoding, Any}
+use Rattle.yasna_base.specs.Default.{TellsDefault, DefaultOf, default_form, default_can, default_fits}
 use Rattle.yasna_base.specs.Exact.{Fitting, IsExact, enclosed_fits, part_fits, nothing_fits, option_fits}
 use Rattle.yasna_base.specs.Element.{Enclosed, AnyEnclosed}
 use Rattle.yasna_base.specs.Grammar.{Grammar, Members, Form}
@@ -16,12 +17,14 @@ use Rattle.yasna_base.specs.Sequence.{PartOf, NoParts, AnyPart, AnyNothing, Same
 use Rattle.yasna_base.specs.UnderTags.{IsExactUnderTags}
 use Rattle.yasna_base.proofs.Beginnings.{begins_apart, nothing_by_tags, part_by_tags, left_out_by_tags}
 use Rattle.yasna_base.proofs.Coding.{enclosed, parts_contents}
+use Rattle.yasna_base.proofs.Default.{default_alike, default_exact}
 use Rattle.yasna_base.proofs.Exact.{enclosed_exact, no_part_exact, part_exact, option_exact}
 use Rattle.yasna_base.proofs.Optional.{part_before, option_before}
 use Rattle.yasna_base.proofs.Sequence.{no_part}
 use Rattle.yasna_reader.specs.Decodes.{DecodesContents}
 use Rattle.yasna_reader.specs.Parse.{unless_kept}
 use Rattle.yasna_reader.specs.State.{Reading}
+use Rattle.yasna_reader.proofs.DefaultParts.{default_part_with_tags, less}
 use Rattle.yasna_reader.proofs.PartsByTags.{BeginInRange, end_in_range, part_in_range, left_out_in_range}
 use Rattle.yasna_notation.specs.Notation.{IsNotation}
 
@@ -96,6 +99,30 @@ module _ {A V : Type 0} {told others : Bool} {ts us : List Tag} {E : A → A →
         begins = λ _. left_out_by_tags begins behind;
         in_range = left_out_in_range x.coding y.in_range;
         exact = part_exact (option_exact x.exact) y.exact;
+      }
+
+module _ {A V : Type 0} {told others : Bool} {ts us : List Tag} {E : A → A → Type 0} {F : V → V → Type 0} {B : Grammar A} {C : Grammar V}
+    {S Q : Members} {f : Form A} {g : Form V} {P : Fitting A} {R : Fitting V} {c : A → Type 0} {d : V → Type 0} {a b : Bool} where
+  -- one that is a default where it is left out, and others
+  pub default_laws : (is : A → Bool) (default : A) → TellsDefault E is default → (a ≡ true → IsNotation told ts E B S f P c) →
+      (b ≡ true → AreParts others us F C Q g R d) → all_told told others (share_none ts (end_tag ∷ us)) (a && b) ≡ true →
+      AreParts true (ts ++ us) (SamePart E F) (PartOf (DefaultOf is B) C) (AnyPart (Any (DefaultOf is B)) Q) (part_form (default_form is f) g)
+      (part_fits (default_fits is P) R) (part_can (default_can is c) d)
+  default_laws is default tells first rest e =
+      let t = is_told told others (share_none ts (end_tag ∷ us)) (a && b) e in
+      let z = and_parts a b t.all_apart in
+      let x = first z.0 in
+      let y = rest z.1 in
+      let begins = x.begins t.first_told in
+      let behind = y.begins t.others_told in
+      let k = default_part_with_tags is default tells (record { coding = x.coding; begins = begins })
+      (record { coding = y.coding; begins = behind }) t.none_shared in
+      let range = left_out_in_range x.coding y.in_range in
+      record {
+        coding = k.coding;
+        begins = λ _. k.begins;
+        in_range = record { at = λ m n c s u i b. range.at m n c s u i (less Q is x.coding m n c b) };
+        exact = part_exact (default_exact is (default_alike is default tells x.coding.meaning.equal) x.exact) y.exact;
       }
 
 -- a SEQUENCE of parts

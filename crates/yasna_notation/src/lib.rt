@@ -9,6 +9,8 @@
 #![tactic(auto)]
 
 mod any;
+mod choices;
+mod defaults;
 mod defined;
 mod explicit_tags;
 mod implicit_tags;
@@ -21,12 +23,14 @@ mod strings;
 mod tag_names;
 mod times;
 
+pub use choices::{Alternatives, Choice, Either};
+pub use defaults::{Default, DefaultValue};
 pub use defined::Defined;
 pub use explicit_tags::Explicit;
 pub use implicit_tags::Implicit;
 pub use lists::SequenceOf;
 pub use notation::Notation;
-pub use parts::{Optional, Parts};
+pub use parts::{Optional, Parts, PartsBy};
 pub use sequences::Sequence;
 pub use simple::{BigInteger, Enumerated};
 pub use strings::{BitString, Ia5String, NumericString, PrintableString, VisibleString};

@@ -214,3 +214,45 @@ fn write_optional<A: Notation>(value: &Option<A::Value>, seq: &mut DERWriterSeq)
         None => Ok(()),
     }
 }
+
+/// Parts whose values stand apart, as the fields of a struct: `R` is references to them, as pairs that end in `()`.
+pub trait PartsBy<R>: Parts {
+    // The values.
+    ghost held: { R → Self.Values };
+
+    /// Writes the parts.
+    fn write_each(fields: R, seq: &mut DERWriterSeq) -> ASN1Result<()>
+        requires { Self.can (held fields) }
+        ensures { WroteParts (Self.form seq.old.mode (held fields)) seq.old seq.new result };
+}
+
+impl PartsBy<()> for () {
+    ghost held = { λ r. tt };
+
+    #[inline(always)]
+    fn write_each(_fields: (), _seq: &mut DERWriterSeq) -> ASN1Result<()> {
+        Ok(())
+    }
+}
+
+impl<'a, A: Notation, R: Drop, W: PartsBy<R>> PartsBy<(&'a A::Value, R)> for (A, W) {
+    ghost held = { λ r. (r.0.now, W.held r.1) };
+
+    #[inline(always)]
+    fn write_each(fields: (&'a A::Value, R), seq: &mut DERWriterSeq) -> ASN1Result<()> {
+        A::write(fields.0, seq.next())?;
+        W::write_each(fields.1, seq)
+    }
+}
+
+impl<'a, A: Notation, R: Drop, W: PartsBy<R>> PartsBy<(&'a Option<A::Value>, R)>
+    for (Optional<A>, W)
+{
+    ghost held = { λ r. (r.0.now, W.held r.1) };
+
+    #[inline(always)]
+    fn write_each(fields: (&'a Option<A::Value>, R), seq: &mut DERWriterSeq) -> ASN1Result<()> {
+        write_optional::<A>(fields.0, seq)?;
+        W::write_each(fields.1, seq)
+    }
+}

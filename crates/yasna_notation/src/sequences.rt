@@ -8,11 +8,12 @@ ghost use Rattle.yasna_base.specs.Identifier.{tag_or};
 ghost use Rattle.yasna_base.specs.Sequence.{sequence_tag};
 ghost use Rattle.yasna_base.proofs.ExplicitTags.{enclosed_begins};
 ghost use Rattle.yasna_base.proofs.Identifier.{not_end};
+ghost use Rattle.yasna_writer.specs.View.{Writes};
 ghost use Rattle.yasna_notation.specs.Laws.{under_own, under_others};
 ghost use Rattle.yasna_notation.specs.Parts.{sequence_laws};
 
 use crate::notation::Notation;
-use crate::parts::Parts;
+use crate::parts::{Parts, PartsBy};
 use std::marker::PhantomData;
 use yasna_base::tags::TAG_SEQUENCE;
 use yasna_base::{ASN1Result, Tag};
@@ -65,4 +66,17 @@ impl<P: Parts> Notation for Sequence<P> {
     ghost laws = { λ a. under_own sequence_tag (sequence_laws (P.laws a)) (enclosed_begins P.any_parts) (not_end 16 (λ e. omega arith)) (omega arith) };
 
     ghost others = { λ a _. under_others sequence_tag (sequence_laws (P.laws a)) (enclosed_begins P.any_parts) };
+}
+
+impl<P> Sequence<P> {
+    /// Writes a SEQUENCE of these fields: references to them, as pairs that end in `()`.
+    #[inline(always)]
+    pub fn write_fields<R: Drop>(fields: R, writer: DERWriter<'_>) -> ASN1Result<()>
+    where
+        P: PartsBy<R>,
+        requires { P.can (P.held fields) }
+        ensures { Writes (enclosed_form P.form (tag_or writer.old.tag sequence_tag) writer.old.mode (P.held fields)) writer.old writer.new result }
+    {
+        writer.write_sequence(|seq| P::write_each(fields, seq))
+    }
 }

@@ -1,0 +1,55 @@
+use Rattle.std.proofs.Common.{rules, subst, Ok, Err}
+use Rattle.yasna_reader.specs.Optional.{ReadsDefault}
+use Rattle.yasna_reader.specs.State.{part_of}
+use Rattle.yasna_notation.specs.Notation.{ReadsAs}
+use Rattle.yasna_notation.specs.Parts.{ReadsContents}
+use Rattle.yasna_notation.proofs.Contents.{default_first, default_called, first_read, first_failed}
+use Rattle.yasna_notation.proofs.defaults.Tuple2DefaultParts.read_parts.Goals as goal
+
+pub returns-in-Ok-read_parts : goal.returns-in-Ok-read_parts
+returns-in-Ok-read_parts g c =
+    let n = g.A.Notation in
+    let d = g.D.DefaultValue in
+    let w = g.W.Parts in
+    let s = part_of c.args.seq.now in
+    let m = part_of c.read_default.new.self in
+    let N = ReadsAs n.told n.tags n.retagged n.asks_memory n.under n.any_under in
+    let first = default_first {retagged = n.retagged} {asks = n.asks_memory} {B = n.under} {S = n.any_under} d.is g.A.Value.PartialEq.eq d.default
+        g.met.D.DefaultValue.tells g.met.D.DefaultValue.tests g.met.A.Notation.laws g.met.W.Parts.laws c.requires.apart in
+    let read = subst (λ v. ReadsDefault N _ v s c.read_default.result m) c.default.ensures
+        (default_called _ _ N _ c.default.result s c.read_default.result m c.read_default.ensures (λ p q x h. search rules)) in
+    let left = part_of c.read_parts.new.seq in
+    first_read w.asks_memory w.parts first s c.requires.fresh c.read_default.result m read c.in-Ok.first c.in-Ok.is
+    (Ok c.in-Ok-read_parts.others) left
+    (subst (λ z. ReadsContents w.asks_memory w.parts w.any_parts m z left) c.in-Ok-read_parts.is c.read_parts.ensures)
+
+pub returns-in-Err-read_parts : goal.returns-in-Err-read_parts
+returns-in-Err-read_parts g c =
+    let n = g.A.Notation in
+    let d = g.D.DefaultValue in
+    let w = g.W.Parts in
+    let s = part_of c.args.seq.now in
+    let m = part_of c.read_default.new.self in
+    let N = ReadsAs n.told n.tags n.retagged n.asks_memory n.under n.any_under in
+    let first = default_first {retagged = n.retagged} {asks = n.asks_memory} {B = n.under} {S = n.any_under} d.is g.A.Value.PartialEq.eq d.default
+        g.met.D.DefaultValue.tells g.met.D.DefaultValue.tests g.met.A.Notation.laws g.met.W.Parts.laws c.requires.apart in
+    let read = subst (λ v. ReadsDefault N _ v s c.read_default.result m) c.default.ensures
+        (default_called _ _ N _ c.default.result s c.read_default.result m c.read_default.ensures (λ p q x h. search rules)) in
+    let left = part_of c.read_parts.new.seq in
+    first_read w.asks_memory w.parts first s c.requires.fresh c.read_default.result m read c.in-Ok.first c.in-Ok.is
+    (Err c.in-Err-read_parts.error) left
+    (subst (λ z. ReadsContents w.asks_memory w.parts w.any_parts m z left) c.in-Err-read_parts.is c.read_parts.ensures)
+
+pub returns-in-Err : goal.returns-in-Err
+returns-in-Err g c =
+    let n = g.A.Notation in
+    let d = g.D.DefaultValue in
+    let w = g.W.Parts in
+    let s = part_of c.args.seq.now in
+    let m = part_of c.read_default.new.self in
+    let N = ReadsAs n.told n.tags n.retagged n.asks_memory n.under n.any_under in
+    let first = default_first {retagged = n.retagged} {asks = n.asks_memory} {B = n.under} {S = n.any_under} d.is g.A.Value.PartialEq.eq d.default
+        g.met.D.DefaultValue.tells g.met.D.DefaultValue.tests g.met.A.Notation.laws g.met.W.Parts.laws c.requires.apart in
+    let read = subst (λ v. ReadsDefault N _ v s c.read_default.result m) c.default.ensures
+        (default_called _ _ N _ c.default.result s c.read_default.result m c.read_default.ensures (λ p q x h. search rules)) in
+    first_failed w.asks_memory w.parts first s c.requires.fresh c.read_default.result m read c.in-Err.error c.in-Err.is

@@ -1,0 +1,56 @@
+-- What the types of a CHOICE keep that are made as the notation says, and what reading one does of which the tag was found.
+use Rattle.std.proofs.Common.{◌≡◌, ◌++◌, List, Bool, true, Result, inl, inr, refl}
+use Rattle.std.proofs.lemmas.Bool.{and_parts}
+use Rattle.std.specs.Prelude.{◌⊎◌, ◌&&◌}
+use Rattle.yasna_base.specs.declared.error.ASN1Error.{ASN1Error}
+use Rattle.yasna_base.specs.declared.tag.Tag.{Tag}
+use Rattle.yasna_base.specs.Beginnings.{share_none}
+use Rattle.yasna_base.specs.Choice.{EitherOf, AnyEither, SameEither, either_form, either_can, either_fits}
+use Rattle.yasna_base.specs.Exact.{Fitting}
+use Rattle.yasna_base.specs.Grammar.{Grammar, Members, Form}
+use Rattle.yasna_base.specs.Identifier.{BeginsWithTag}
+use Rattle.yasna_base.proofs.Beginnings.{choice_with_tags}
+use Rattle.yasna_base.proofs.ChoiceWriting.{choice_exact}
+use Rattle.yasna_reader.specs.ByTags.{DecodesByTags}
+use Rattle.yasna_reader.specs.Decodes.{RepeatsKept}
+use Rattle.yasna_reader.specs.State.{Reading, IsFresh}
+use Rattle.yasna_notation.specs.declared.choices.Either.{Either}
+use Rattle.yasna_notation.specs.declared.choices.Either.TheVariants.{First, Second}
+use Rattle.yasna_notation.specs.Laws.{defined_laws}
+use Rattle.yasna_notation.specs.Notation.{IsNotation}
+
+-- what reading a value does where the tag t was found
+pub record ReadsFound {A : Type 0} (ts : List Tag) (asks : Bool) (B : Grammar A) (S : Members) (t : Tag) (s : Reading) (r : Result A ASN1Error)
+    (s' : Reading) :
+    Type 0 where
+  pub decodes : IsFresh s → BeginsWithTag t s.left → DecodesByTags ts asks B S s r s'
+  pub repeats : RepeatsKept s r s'
+
+-- a value of one of two types
+abbrev pub sides : {A V : Type 0} → Either A V → A ⊎ V
+sides (First v) = inl v
+sides (Second w) = inr w
+
+module _ {A : Type 0} {told : Bool} {ts : List Tag} {E : A → A → Type 0} {B : Grammar A} {S : Members} {f : Form A} {P : Fitting A} {c : A → Type 0}
+    {a : Bool} where
+  -- the last type
+  pub last_laws : (a ≡ true → IsNotation told ts E B S f P c) → told && a ≡ true → IsNotation true ts E B S f P c
+  last_laws laws e =
+      let y = and_parts told a e in
+      let x = laws y.1 in
+      record { coding = x.coding; begins = λ _. x.begins y.0; exact = x.exact }
+
+  -- a type, and others by other tags
+  pub either_laws : {V : Type 0} {us : List Tag} {F : V → V → Type 0} {C : Grammar V} {Q : Members} {g : Form V} {R : Fitting V} {d : V → Type 0} {b : Bool} →
+      (a ≡ true → IsNotation told ts E B S f P c) → (b ≡ true → IsNotation true us F C Q g R d) →
+      told && (share_none ts us && (a && b)) ≡ true →
+      IsNotation true (ts ++ us) (λ v w. SameEither E F (sides v) (sides w)) (λ m n v b. EitherOf B C m n (sides v) b) (AnyEither S Q)
+      (λ m v. either_form f g m (sides v)) (λ m n v. either_fits P R m n (sides v)) (λ v. either_can c d (sides v))
+  either_laws {us = us} {b = b} first rest e =
+      let u = and_parts told (share_none ts us && (a && b)) e in
+      let w = and_parts (share_none ts us) (a && b) u.1 in
+      let z = and_parts a b w.1 in
+      let x = first z.0 in
+      let y = rest z.1 in
+      let k = choice_with_tags (record { coding = x.coding; begins = x.begins u.0 }) (record { coding = y.coding; begins = y.begins refl }) w.0 in
+      defined_laws sides (record { coding = k.coding; begins = λ _. k.begins; exact = choice_exact x.exact y.exact })

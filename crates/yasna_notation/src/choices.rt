@@ -1,0 +1,223 @@
+//! CHOICE (X.690, 8.13): the next tag tells which of the types stands there.
+ghost use Rattle.std.specs.Prelude.{◌≡◌, ◌++◌, ◌||◌, ◌&&◌, Bool, List, Option, None, true, false};
+ghost use Rattle.std.specs.List.{list_any};
+ghost use Rattle.yasna_base.specs.declared.tag.Tag.{Tag};
+ghost use Rattle.yasna_base.specs.Beginnings.{is_tag, share_none};
+ghost use Rattle.yasna_base.specs.Choice.{EitherOf, AnyEither, SameEither, either_form, either_nest, either_can, either_fits};
+ghost use Rattle.yasna_base.specs.Exact.{Fitting};
+ghost use Rattle.yasna_base.specs.Grammar.{Grammar, Members, Form, Nest};
+ghost use Rattle.yasna_writer.specs.View.{Writes};
+ghost use Rattle.yasna_notation.specs.Notation.{IsNotation};
+ghost use Rattle.yasna_notation.specs.Choices.{ReadsFound, sides, last_laws, either_laws};
+ghost use Rattle.yasna_notation.specs.Laws.{never_retagged};
+
+use crate::notation::Notation;
+use std::marker::PhantomData;
+use yasna_base::{ASN1Result, Tag};
+use yasna_reader::BERReader;
+use yasna_writer::DERWriter;
+
+/// A value of the first of two types, or of the second.
+#[derive(Drop)]
+pub enum Either<A, B> {
+    First(A),
+    Second(B),
+}
+
+/// The types of a CHOICE, as pairs that end in a type alone: `(i64, (bool, ((),)))` of an INTEGER, a BOOLEAN and a NULL.
+pub trait Alternatives {
+    /// What its values are in Rust.
+    type Value: Drop;
+
+    // The tags that encodings begin with.
+    ghost tags: { List Tag };
+
+    // Whether tags tell the types apart, and what has to be told apart inside them.
+    ghost apart: { Bool };
+
+    // Which bytes encode a value, in a mode within a number of levels.
+    ghost encodes: { Grammar Self.Value };
+
+    // What that asks of the bytes alone.
+    ghost elements: { Members };
+
+    // Whether reading a value may want memory.
+    ghost asks_memory: { Bool };
+
+    // Which values are equal.
+    ghost same: { Self.Value → Self.Value → Type 0 };
+
+    // The form of a value in a canonical mode, where this tag stands in place of the next.
+    ghost form_under: { Option Tag → Form Self.Value };
+
+    ghost nest: { Nest Self.Value };
+
+    ghost can: { Self.Value → Type 0 };
+
+    ghost fits: { Fitting Self.Value };
+
+    /// Whether this is one of the tags by which encodings begin.
+    fn has_tag(tag: Tag) -> bool
+        ensures { result ≡ list_any (is_tag tag) tags };
+
+    /// Reads a value of which this tag was found.
+    fn read_found(tag: Tag, reader: BERReader) -> ASN1Result<Self::Value>
+        requires { apart ≡ true }
+        ensures { ReadsFound tags asks_memory encodes elements tag reader.old result reader.new };
+
+    /// Writes a value.
+    fn write(value: &Self::Value, writer: DERWriter<'_>) -> ASN1Result<()>
+        requires { can value.now }
+        ensures { Writes (form_under writer.old.tag writer.old.mode value.now) writer.old writer.new result };
+
+    // The laws of reading and of a canonical mode.
+    ghost laws: { apart ≡ true → IsNotation true tags same encodes elements (form_under None) fits can };
+}
+
+impl<A: Notation> Alternatives for (A,) {
+    type Value = A::Value;
+
+    ghost tags = { A.tags };
+
+    ghost apart = { (A.told && A.apart) };
+
+    ghost encodes = { A.under None };
+
+    ghost elements = { A.any_under None };
+
+    ghost asks_memory = { A.asks_memory };
+
+    ghost same = { A.same };
+
+    ghost form_under = { A.form_under };
+
+    ghost nest = { A.nest };
+
+    ghost can = { A.can };
+
+    ghost fits = { A.fits };
+
+    #[inline(always)]
+    fn has_tag(tag: Tag) -> bool {
+        A::has_tag(tag)
+    }
+
+    #[inline(always)]
+    fn read_found(_tag: Tag, reader: BERReader) -> ASN1Result<A::Value> {
+        A::read(reader)
+    }
+
+    #[inline(always)]
+    fn write(value: &A::Value, writer: DERWriter<'_>) -> ASN1Result<()> {
+        A::write(value, writer)
+    }
+
+    ghost laws = { λ a. last_laws A.laws a };
+}
+
+impl<A: Notation, W: Alternatives> Alternatives for (A, W) {
+    type Value = Either<A::Value, W::Value>;
+
+    ghost tags = { A.tags ++ W.tags };
+
+    ghost apart = { (A.told && (share_none A.tags W.tags && (A.apart && W.apart))) };
+
+    ghost encodes = { λ m n v b. EitherOf (A.under None) W.encodes m n (sides v) b };
+
+    ghost elements = { AnyEither (A.any_under None) W.elements };
+
+    ghost asks_memory = { (A.asks_memory || W.asks_memory) };
+
+    ghost same = { λ v w. SameEither A.same W.same (sides v) (sides w) };
+
+    ghost form_under = { λ u m v. either_form (A.form_under u) (W.form_under u) m (sides v) };
+
+    ghost nest = { λ m v. either_nest A.nest W.nest m (sides v) };
+
+    ghost can = { λ v. either_can A.can W.can (sides v) };
+
+    ghost fits = { λ m n v. either_fits A.fits W.fits m n (sides v) };
+
+    #[inline(always)]
+    fn has_tag(tag: Tag) -> bool {
+        A::has_tag(tag) || W::has_tag(tag)
+    }
+
+    #[inline(always)]
+    fn read_found(tag: Tag, reader: BERReader) -> ASN1Result<Either<A::Value, W::Value>> {
+        if A::has_tag(tag) {
+            match A::read(reader) {
+                Ok(value) => Ok(Either::First(value)),
+                Err(error) => Err(error),
+            }
+        } else {
+            match W::read_found(tag, reader) {
+                Ok(other) => Ok(Either::Second(other)),
+                Err(error) => Err(error),
+            }
+        }
+    }
+
+    #[inline(always)]
+    fn write(value: &Either<A::Value, W::Value>, writer: DERWriter<'_>) -> ASN1Result<()> {
+        match value {
+            Either::First(first) => A::write(first, writer),
+            Either::Second(second) => W::write(second, writer),
+        }
+    }
+
+    ghost laws = { λ a. either_laws A.laws W.laws a };
+}
+
+/// `CHOICE { A }`, as `Choice<(i64, (bool, ((),)))>`. No other tag stands in place of its own.
+pub struct Choice<A> {
+    of: PhantomData<A>,
+}
+
+impl<A: Alternatives> Notation for Choice<A> {
+    type Value = A::Value;
+
+    ghost tags = { A.tags };
+
+    ghost retagged = { false };
+
+    ghost apart = { A.apart };
+
+    ghost under = { λ u. A.encodes };
+
+    ghost any_under = { λ u. A.elements };
+
+    ghost asks_memory = { A.asks_memory };
+
+    ghost same = { A.same };
+
+    ghost form_under = { A.form_under };
+
+    ghost nest = { A.nest };
+
+    ghost can = { A.can };
+
+    ghost fits = { A.fits };
+
+    #[inline(always)]
+    fn has_tag(tag: Tag) -> bool {
+        A::has_tag(tag)
+    }
+
+    #[inline(always)]
+    fn read(reader: BERReader) -> ASN1Result<A::Value> {
+        match reader.lookahead_tag() {
+            Ok(tag) => A::read_found(tag, reader),
+            Err(error) => Err(error),
+        }
+    }
+
+    #[inline(always)]
+    fn write(value: &A::Value, writer: DERWriter<'_>) -> ASN1Result<()> {
+        A::write(value, writer)
+    }
+
+    ghost laws = { A.laws };
+
+    ghost others = { λ _ e. never_retagged e };
+}

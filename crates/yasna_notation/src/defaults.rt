@@ -1,0 +1,123 @@
+//! DEFAULT: a part that is left out where it is the default (X.690, 8.9.3 and 11.5).
+ghost use Rattle.std.specs.Prelude.{◌≡◌, ◌++◌, ◌∷◌, ◌||◌, ◌&&◌, Bool, None, true};
+ghost use Rattle.yasna_base.specs.Beginnings.{share_none};
+ghost use Rattle.yasna_base.specs.Coding.{Any};
+ghost use Rattle.yasna_base.specs.Default.{TellsDefault, DefaultOf, default_form, default_nest, default_can, default_fits};
+ghost use Rattle.yasna_base.specs.Exact.{part_fits};
+ghost use Rattle.yasna_base.specs.Identifier.{end_tag};
+ghost use Rattle.yasna_base.specs.Sequence.{PartOf, AnyPart, SamePart, part_form, part_nest, part_can};
+ghost use Rattle.yasna_writer.specs.View.{WroteParts};
+ghost use Rattle.yasna_notation.specs.Parts.{all_told, default_laws};
+
+use crate::notation::Notation;
+use crate::parts::{Parts, PartsBy};
+use std::marker::PhantomData;
+use yasna_base::ASN1Result;
+use yasna_reader::BERReaderSeq;
+use yasna_writer::DERWriterSeq;
+
+/// The value that stands where a part of this notation is left out.
+pub trait DefaultValue<N: Notation>
+where
+    N::Value: Eq,
+{
+    // The value.
+    ghost default: { N.Value };
+
+    // The test for it.
+    ghost is: { N.Value → Bool };
+
+    /// The value.
+    fn default() -> N::Value
+        ensures { result ≡ default };
+
+    // The test passes the values that equal it, and is that of `==`.
+    ghost tells: { TellsDefault N.same is default };
+
+    ghost tests: { (v : N.Value) → is v ≡ N.Value.eq v default };
+}
+
+/// `N DEFAULT D`.
+pub struct Default<N, D> {
+    of: PhantomData<N>,
+    value: PhantomData<D>,
+}
+
+impl<A: Notation, D: DefaultValue<A>, W: Parts> Parts for (Default<A, D>, W)
+where
+    A::Value: Eq,
+{
+    type Values = (A::Value, W::Values);
+
+    ghost told = { true };
+
+    ghost tags = { A.tags ++ W.tags };
+
+    ghost apart = { all_told A.told W.told (share_none A.tags (end_tag ∷ W.tags)) (A.apart && W.apart) };
+
+    ghost parts = { PartOf (DefaultOf D.is (A.under None)) W.parts };
+
+    ghost any_parts = { AnyPart (Any (DefaultOf D.is (A.under None))) W.any_parts };
+
+    ghost asks_memory = { (A.asks_memory || W.asks_memory) };
+
+    ghost same = { SamePart A.same W.same };
+
+    ghost form = { part_form (default_form D.is (A.form_under None)) W.form };
+
+    ghost nest = { part_nest (default_nest D.is A.nest) W.nest };
+
+    ghost can = { part_can (default_can D.is A.can) W.can };
+
+    ghost fits = { part_fits (default_fits D.is A.fits) W.fits };
+
+    #[inline(always)]
+    fn read_parts(seq: &mut BERReaderSeq) -> ASN1Result<(A::Value, W::Values)> {
+        match seq.read_default(D::default(), |part| A::read(part)) {
+            Ok(first) => match W::read_parts(seq) {
+                Ok(others) => Ok((first, others)),
+                Err(error) => Err(error),
+            },
+            Err(error) => Err(error),
+        }
+    }
+
+    #[inline(always)]
+    fn write_parts(values: &(A::Value, W::Values), seq: &mut DERWriterSeq) -> ASN1Result<()> {
+        write_unless_default::<A, D>(&values.0, seq)?;
+        W::write_parts(&values.1, seq)
+    }
+
+    ghost laws = { λ a. default_laws D.is D.default D.tells A.laws W.laws a };
+}
+
+impl<'a, A: Notation, D: DefaultValue<A>, R: Drop, W: PartsBy<R>> PartsBy<(&'a A::Value, R)>
+    for (Default<A, D>, W)
+where
+    A::Value: Eq,
+{
+    ghost held = { λ r. (r.0.now, W.held r.1) };
+
+    #[inline(always)]
+    fn write_each(fields: (&'a A::Value, R), seq: &mut DERWriterSeq) -> ASN1Result<()> {
+        write_unless_default::<A, D>(fields.0, seq)?;
+        W::write_each(fields.1, seq)
+    }
+}
+
+// Writes a part, unless it is the default.
+#[inline(always)]
+fn write_unless_default<A: Notation, D: DefaultValue<A>>(
+    value: &A::Value,
+    seq: &mut DERWriterSeq,
+) -> ASN1Result<()>
+where
+    A::Value: Eq,
+    requires { default_can D.is A.can value.now }
+    ensures { WroteParts (default_form D.is (A.form_under None) seq.old.mode value.now) seq.old seq.new result }
+{
+    if *value == D::default() {
+        return Ok(());
+    }
+    A::write(value, seq.next())
+}
