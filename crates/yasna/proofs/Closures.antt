@@ -102,7 +102,7 @@ pub raw_by : {V A : Type 0} (B : ℕ → BERMode → A → List ℕ → Type 0) 
 raw_by B view = record { decodes = λ s r s' fresh x. raw_decodes B view s fresh r s' x }
 
 -- a run of f does what each of its calls does
-by_run : {F T R : Type 0} {g : Once F (MutBor T × Unit {0}) (R × (MutBor T × Unit {0}))} {f : F} (P : T → R → T → Type 0) →
+pub by_run : {F T R : Type 0} {g : Once F (MutBor T × Unit {0}) (R × (MutBor T × Unit {0}))} {f : F} (P : T → R → T → Type 0) →
     ((p q : MutBor T) (r : R) → g.post f (p, tt) (r, (q, tt)) → P p.now r q.now) → (s : T) (r : R) (s' : T) → FnOnceReturnsAtMut g f s r s' → P s r s'
 by_run P says s r s' h = subst (λ z. P z r s') h.shows (subst (λ z. P h.shown.now r z) h.leaves (says h.shown h.left r h.met))
 
@@ -139,7 +139,7 @@ contents_by {P} {s} {r} {s'} parts make back reads fresh h says =
     (parts_map _ P (λ x y z i k. by_run (λ u y w. P (part_of u) y (part_of w)) says (record { reader = x }) y (record { reader = z }) k) sequence_tag s r s' h)
 
 -- a call of f does what each of its calls does
-by_call : {F T R : Type 0} {g : Mut F (MutBor T × Unit {0}) (R × (MutBor T × Unit {0}))} (P : T → R → T → Type 0) →
+pub by_call : {F T R : Type 0} {g : Mut F (MutBor T × Unit {0}) (R × (MutBor T × Unit {0}))} (P : T → R → T → Type 0) →
     ((f f' : F) (p q : MutBor T) (r : R) → Called g f (p, tt) (r, (q, tt)) f' → P p.now r q.now) → (f f' : F) (s : T) (r : R) (s' : T) →
     CalledAtMut g f s r f' s' → P s r s'
 by_call P says f f' s r s' h = subst (λ z. P z r s') h.shows (subst (λ z. P h.shown.now r z) h.leaves (says f f' h.shown h.left r h.called))

@@ -26,7 +26,7 @@ use Rattle.yasna_reader.proofs.OptionalParts.{IsFirstDecoder, IsContentsDecoder,
 use Rattle.yasna_reader.proofs.PartsByTags.{quiet_before}
 use Rattle.yasna_notation.specs.Notation.{IsNotation, ReadsAs}
 use Rattle.yasna_notation.specs.Parts.{AreParts, ReadsContents, all_told, is_told}
-use Rattle.yasna_notation.proofs.Calls.{by_run}
+use Rattle.yasna.proofs.Closures.{by_run}
 use Rattle.yasna_notation.proofs.Enclosing.{value_by}
 
 -- a value before what was read behind it

@@ -28,7 +28,7 @@ use Rattle.yasna_reader.proofs.Tuples.{IsDecoder}
 use Rattle.yasna_reader.proofs.UnderTags.{DoesUnder, parts_under, implicit_under, implicit_by_tag, does_as}
 use Rattle.yasna_notation.specs.Notation.{ReadsAs}
 use Rattle.yasna_notation.specs.Parts.{ReadsContents}
-use Rattle.yasna_notation.proofs.Calls.{by_run, by_call}
+use Rattle.yasna.proofs.Closures.{by_run, by_call}
 use Rattle.yasna_notation.proofs.OneTag.{one_tag_read}
 
 -- a kept failure is answered where a tag is to stand in place of another

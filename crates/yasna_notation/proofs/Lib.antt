@@ -1,4 +1,3 @@
-pub mod Calls
 pub mod OneTag
 pub mod Enclosing
 pub mod Contents
