@@ -14,15 +14,16 @@ use Rattle.yasna_base.specs.Identifier.{end_tag}
 use Rattle.yasna_base.specs.Optional.{OptionOf, AnyOption}
 use Rattle.yasna_base.specs.Sequence.{PartOf, NoParts, AnyPart, AnyNothing}
 use Rattle.yasna_base.proofs.Beginnings.{begins_apart}
+use Rattle.yasna_base.proofs.Optional.{apart_from_nothing}
 use Rattle.yasna_reader.specs.declared.callback.Outcome.{Outcome}
 use Rattle.yasna_reader.specs.Callback.{Hands, UnlessKept}
-use Rattle.yasna_reader.specs.Decodes.{DecodesContents, AndIn, Made}
+use Rattle.yasna_reader.specs.Decodes.{DecodesContents, AndIn, Done, Made}
 use Rattle.yasna_reader.specs.Optional.{ReadsOptional, ReadsDefault, ReadsOrDefaults, optional}
 use Rattle.yasna_reader.specs.Parse.{unless_kept}
 use Rattle.yasna_reader.specs.State.{Reading, IsFresh, untagged, Does}
 use Rattle.yasna_reader.proofs.ByTags.{IsDecoderByTags, plain_by}
 use Rattle.yasna_reader.proofs.DefaultParts.{default_by}
-use Rattle.yasna_reader.proofs.OptionalParts.{IsFirstDecoder, IsContentsDecoder, then_by, part_by, option_by, end_by}
+use Rattle.yasna_reader.proofs.OptionalParts.{IsFirstDecoder, IsContentsDecoder, then_by, part_by, option_by, quiet_at_end, end_by}
 use Rattle.yasna_reader.proofs.PartsByTags.{quiet_before}
 use Rattle.yasna_notation.specs.Notation.{IsNotation, ReadsAs}
 use Rattle.yasna_notation.specs.Parts.{AreParts, ReadsContents, all_told, is_told}
@@ -171,3 +172,34 @@ default_first {told = told} {others = others} {ts = ts} {us = us} {a = a} {b = b
     let begins = y.begins t.others_told in
     default_by is eq d tells tests x.coding (plain_by value) (begins_apart (x.begins t.first_told) begins t.none_shared)
     (quiet_before value t.none_shared begins y.in_range)
+
+-- a part at the end that may be left out
+pub last_read : {A : Type 0} {E : A → A → Type 0} (told : Bool) (ts : List Tag) (retagged asks : Bool) (B : Option Tag → Grammar A)
+    (S : Option Tag → Members) → IsCoding E (B None) (S None) → (s : Reading) → IsFresh s → (r : Result (Option A) ASN1Error) (s' : Reading) →
+    ReadsOptional (ReadsAs told ts retagged asks B S) s r s' →
+    ReadsContents (asks || false) (λ m n v c. PartOf (OptionOf (B None)) NoParts m n (v, tt) c) (AnyPart (AnyOption (S None)) AnyNothing) s r s'
+last_read {A} told ts retagged asks B S laws s fresh r s' h =
+    alone (unless_kept s'.kept r)
+    ((then_by {make = λ (w : Option A × Unit {0}). w.0} (option_by laws value_by (apart_from_nothing laws) (quiet_at_end value_by)) (λ v. end_by)).decodes
+    s r s' fresh (r, s', h, done r))
+  where
+    done : (x : Result (Option A) ASN1Error) → AndIn (λ v. Done v) x s' x s'
+    done (Ok v) = (refl, refl)
+    done (Err e) = (refl, refl)
+
+    alone : (x : Result (Option A) ASN1Error) →
+        DecodesContents (asks || false) (Made (PartOf (OptionOf (B None)) NoParts) (λ w. w.0)) (AnyPart (AnyOption (S None)) AnyNothing) s x s' →
+        DecodesContents (asks || false) (λ m n v c. PartOf (OptionOf (B None)) NoParts m n (v, tt) c) (AnyPart (AnyOption (S None)) AnyNothing) s x s'
+    alone (Ok v) k =
+        let y = k.took in
+        record {
+          took = record {
+            front = y.front;
+            rest = y.rest;
+            joined = y.joined;
+            stands = subst (λ z. PartOf (OptionOf (B None)) NoParts s.mode s.levels (z, tt) y.front) (sym y.stands.2) y.stands.1;
+            left = y.left;
+          };
+          ends = k.ends;
+        }
+    alone (Err e) k = k

@@ -1,5 +1,5 @@
 -- What reads of elements around others do, by what the closures' calls do.
-use Rattle.std.proofs.Common.{◌≡◌, List, [], ◌∷◌, Bool, true, Option, Some, None, Result, Vec, refl, sym, ap, subst, arith}
+use Rattle.std.proofs.Common.{◌≡◌, ◌<◌, ◌^◌, List, [], ◌∷◌, Bool, true, Option, Some, None, Result, Vec, refl, sym, ap, subst, arith}
 use Rattle.std.specs.Borrow.{MutBor}
 use Rattle.std.specs.Fn.{Once, Mut, Called, FnOnceReturnsAtMut, CalledAtMut}
 use Rattle.std.specs.Global.{Global}
@@ -21,7 +21,7 @@ use Rattle.yasna_reader.specs.Sequence.{Runs, ReadsParts}
 use Rattle.yasna_reader.specs.SequenceOf.{Collects}
 use Rattle.yasna_reader.specs.State.{Reading, IsFresh, part_of, untagged, Does}
 use Rattle.yasna_reader.specs.Tagged.{tagging, ReadsImplicitly}
-use Rattle.yasna_reader.proofs.ByTags.{tagged_by_tag, list_by_tag, decodes_by_tags, parts_quiet}
+use Rattle.yasna_reader.proofs.ByTags.{tagged_by_tag, list_by_tag, decodes_by_tags, parts_quiet, IsDecoderByTags}
 use Rattle.yasna_reader.proofs.Kept.{parts_repeat_kept}
 use Rattle.yasna_reader.proofs.Sequences.{element, parts_map}
 use Rattle.yasna_reader.proofs.Tuples.{IsDecoder}
@@ -29,7 +29,7 @@ use Rattle.yasna_reader.proofs.UnderTags.{DoesUnder, parts_under, implicit_under
 use Rattle.yasna_notation.specs.Notation.{ReadsAs}
 use Rattle.yasna_notation.specs.Parts.{ReadsContents}
 use Rattle.yasna.proofs.Closures.{by_run, by_call}
-use Rattle.yasna_notation.proofs.OneTag.{one_tag_read}
+use Rattle.yasna_notation.proofs.OneTag.{by_tags, one_tag_read}
 
 -- a kept failure is answered where a tag is to stand in place of another
 implicit_repeats_kept : {A : Type 0} (P : Does A) (t : Tag) (s : Reading) (r : Result A ASN1Error) (s' : Reading) → ReadsImplicitly P t s r s' →
@@ -44,11 +44,11 @@ module _ {A : Type 0} {told : Bool} {ts : List Tag} {retagged asks : Bool} {B : 
   value_by = record { decodes = λ s r s' fresh h. (h.alone fresh).decodes }
 
   -- where a tag waits it decodes by that
-  replaced_under : retagged ≡ true → (t : Tag) → (t ≡ end_tag → ⊥) →
+  replaced_under : retagged ≡ true → (t : Tag) → (t ≡ end_tag → ⊥) → t.tag_number < 2 ^ 64 →
       DoesUnder t (ReadsAs told ts retagged asks B S) (DecodesByTags (t ∷ []) asks (B (Some t)) (S (Some t)))
-  replaced_under may t not = record {
+  replaced_under may t not range = record {
     does = λ s r m fresh h.
-        let d = h.replaced may t not fresh.0 refl in
+        let d = h.replaced may t not range fresh.0 refl in
         let same : untagged s ≡ s = ap {A = Option Tag} {B = Reading} (λ u. record s { tag = u }) (sym fresh.1) in
         subst (λ z. DecodesByTags (t ∷ []) asks (B (Some t)) (S (Some t)) z r (untagged m)) same
         (record { decodes = d.decodes; quiet = d.quiet refl });
@@ -80,16 +80,24 @@ module _ {A : Type 0} {told : Bool} {ts : List Tag} {retagged asks : Bool} {B : 
 
   -- one in place of whose tag another stands
   pub implicit_read : {F : Type 0} (g : Once F (MutBor Reading × Unit {0}) (Result A ASN1Error × (MutBor Reading × Unit {0}))) (f : F) {own t : Tag}
-      {s : Reading} {r : Result A ASN1Error} {s' : Reading} → retagged ≡ true → (own ≡ end_tag → ⊥) →
+      {s : Reading} {r : Result A ASN1Error} {s' : Reading} → retagged ≡ true → (own ≡ end_tag → ⊥) → own.tag_number < 2 ^ 64 →
       ReadsImplicitly (FnOnceReturnsAtMut g f) t s r s' → t ≡ own →
       ((p q : MutBor Reading) (x : Result A ASN1Error) → g.post f (p, tt) (x, (q, tt)) → ReadsAs told ts retagged asks B S p.now x q.now) →
       ReadsAs true (own ∷ []) true asks (λ u. B (Some (tag_or u own))) (λ u. S (Some (tag_or u own))) s r s'
-  implicit_read g f {own = own} {s = s} {r = r} {s' = s'} may other by is says =
+  implicit_read g f {own = own} {s = s} {r = r} {s' = s'} may other in_range by is says =
       let h = subst (λ u. ReadsImplicitly (FnOnceReturnsAtMut g f) u s r s') is by in
       let R = FnOnceReturnsAtMut g f in
-      one_tag_read {B = λ t. B (Some t)} {S = λ t. S (Some t)} (ReadsImplicitly R) own other
-      (λ t not. implicit_by_tag (does_as (by_run (ReadsAs told ts retagged asks B S) says) (replaced_under may t not)) decodes_by_tags)
-      (implicit_under R own) s r s' (implicit_repeats_kept R own s r s' h) h
+      let does : (t : Tag) → (t ≡ end_tag → ⊥) → t.tag_number < 2 ^ 64 → IsDecoderByTags (t ∷ []) asks (B (Some t)) (S (Some t)) (ReadsImplicitly R t) =
+          λ t not range. implicit_by_tag (does_as (by_run (ReadsAs told ts retagged asks B S) says) (replaced_under may t not range))
+          decodes_by_tags in
+      record {
+        alone = λ fresh. by_tags ((does own other in_range).decodes s r s' fresh h);
+        replaced = λ _ t not range kept waits. by_tags
+            ((does t not range).decodes (untagged s) r (untagged s') (kept, refl)
+            ((implicit_under R own t).does (untagged s) r s' (kept, refl)
+            (subst (λ (u : Option Tag). ReadsImplicitly R own (record s { tag = u }) r s') waits h)));
+        repeats = implicit_repeats_kept R own s r s' h;
+      }
 
 -- an element around parts that are read up to their end
 pub sequence_read : {A F : Type 0} {g : Once F (MutBor (Parts Reading) × Unit {0}) (Result A ASN1Error × (MutBor (Parts Reading) × Unit {0}))} {f : F}

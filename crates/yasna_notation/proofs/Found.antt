@@ -158,7 +158,7 @@ module _ {A : Type 0} {ts : List Tag} {asks : Bool} {B : Grammar A} {S : Members
       ReadsFound ts asks B S t s r s' → ReadsAs true ts false asks (λ u. B) (λ u. S) s r s'
   choice_read t x r s' looks is h = record {
     alone = λ fresh. let d = h.decodes fresh (looked s x (Ok t) looks fresh.0 is) in record { decodes = d.decodes; quiet = λ _. d.quiet };
-    replaced = λ e u not kept waits. absurd (cc);
+    replaced = λ e u not range kept waits. absurd (cc);
     repeats = h.repeats;
   }
 
@@ -169,6 +169,6 @@ module _ {A : Type 0} {ts : List Tag} {asks : Bool} {B : Grammar A} {S : Members
     alone = λ fresh.
         let d = found_none_by_tags ts asks laws s fresh e (looked s x (Err e) looks fresh.0 is) in
         record { decodes = d.decodes; quiet = λ _. d.quiet };
-    replaced = λ f u not kept waits. absurd (cc);
+    replaced = λ f u not range kept waits. absurd (cc);
     repeats = λ k kept. let f = subst (λ z. LooksAhead z s.left x) kept looks in let same : e ≡ k = cc in (ap (λ z. Err z) same, refl);
   }

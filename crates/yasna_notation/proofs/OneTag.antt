@@ -21,7 +21,8 @@ use Rattle.yasna_reader.proofs.RawReads.{raw_decodes}
 use Rattle.yasna_reader.proofs.UnderTags.{DoesUnder, seen_under}
 use Rattle.yasna_notation.specs.Notation.{DecodesAs, ReadsAs}
 
-by_tags : {A : Type 0} {ts : List Tag} {asks : Bool} {B : Grammar A} {S : Members} {s : Reading} {r : Result A ASN1Error} {s' : Reading} →
+-- what decodes by tags
+pub by_tags : {A : Type 0} {ts : List Tag} {asks : Bool} {B : Grammar A} {S : Members} {s : Reading} {r : Result A ASN1Error} {s' : Reading} →
     DecodesByTags ts asks B S s r s' → DecodesAs true ts asks B S s r s'
 by_tags x = record { decodes = x.decodes; quiet = λ _. x.quiet }
 
@@ -32,7 +33,7 @@ pub one_tag_read : {A : Type 0} {asks : Bool} {B : Tag → Grammar A} {S : Tag �
     ReadsAs true (own ∷ []) true asks (λ u. B (tag_or u own)) (λ u. S (tag_or u own)) s r s'
 one_tag_read {A} N own not_end decodes under s r s' repeats h = record {
   alone = λ fresh. by_tags ((decodes own not_end).decodes s r s' fresh h);
-  replaced = λ _ t other kept waits. by_tags
+  replaced = λ _ t other range kept waits. by_tags
       ((decodes t other).decodes (untagged s) r (untagged s') (kept, refl)
       ((under t).does (untagged s) r s' (kept, refl) (subst (λ (u : Option Tag). N own (record s { tag = u }) r s') waits h)));
   repeats = repeats;
@@ -60,6 +61,6 @@ pub any_read : (s : Reading) (r : Result TaggedDerValue ASN1Error) (s' : Reading
     ReadsAs false [] false true (λ u m n v b. IsRaw n m (raw_of v) b) (λ u. Any (λ m n v b. IsRaw n m v b)) s r s'
 any_read s r s' h = record {
   alone = λ fresh. record { decodes = raw_decodes IsRaw raw_of s fresh r s' h; quiet = λ e. absurd (cc) };
-  replaced = λ e t other kept waits. absurd (cc);
+  replaced = λ e t other range kept waits. absurd (cc);
   repeats = raw_repeats_kept h;
 }

@@ -33,8 +33,8 @@ module _ {U A : Type 0} (f : U → A) (told : Bool) (ts : List Tag) (retagged as
       ReadsAs told ts retagged asks (λ t m n w b. B t m n (f w) b) S s (Ok u) s'
   stands_for u v s' is h = record {
     alone = λ fresh. decodes_for f told ts asks (B None) (S None) s u v s' is (h.alone fresh);
-    replaced = λ may t not kept waits.
-        decodes_for f true (t ∷ []) asks (B (Some t)) (S (Some t)) (untagged s) u v (untagged s') is (h.replaced may t not kept waits);
+    replaced = λ may t not range kept waits.
+        decodes_for f true (t ∷ []) asks (B (Some t)) (S (Some t)) (untagged s) u v (untagged s') is (h.replaced may t not range kept waits);
     repeats = λ e kept. absurd (let x = (h.repeats e kept).0 in cc);
   }
 
@@ -43,8 +43,8 @@ module _ {U A : Type 0} (f : U → A) (told : Bool) (ts : List Tag) (retagged as
       ReadsAs {A = U} told ts retagged asks (λ t m n w b. B t m n (f w) b) S s (Err e) s'
   stands_for_none e s' h = record {
     alone = λ fresh. fails_for f told ts asks (B None) (S None) s e s' (h.alone fresh);
-    replaced = λ may t not kept waits.
-        fails_for f true (t ∷ []) asks (B (Some t)) (S (Some t)) (untagged s) e (untagged s') (h.replaced may t not kept waits);
+    replaced = λ may t not range kept waits.
+        fails_for f true (t ∷ []) asks (B (Some t)) (S (Some t)) (untagged s) e (untagged s') (h.replaced may t not range kept waits);
     repeats = λ d kept.
         let x = h.repeats d kept in
         let same : e ≡ d = let y = x.0 in cc in

@@ -2,3 +2,4 @@ pub mod Notation
 pub mod Laws
 pub mod Parts
 pub mod Choices
+pub mod Bounded

@@ -1,5 +1,5 @@
 -- What a type keeps that is made as the notation of ASN.1 says (X.680), and what reading it does.
-use Rattle.std.specs.Prelude.{◌≡◌, List, [], ◌∷◌, Bool, true, Option, Some, None, Result}
+use Rattle.std.specs.Prelude.{◌≡◌, ◌<◌, ◌^◌, List, [], ◌∷◌, Bool, true, Option, Some, None, Result}
 use Rattle.yasna_base.specs.declared.error.ASN1Error.{ASN1Error}
 use Rattle.yasna_base.specs.declared.tag.Tag.{Tag}
 use Rattle.yasna_base.specs.Beginnings.{BeginsBy}
@@ -37,6 +37,6 @@ pub record ReadsAs {A : Type 0} (told : Bool) (ts : List Tag) (retagged asks : B
   -- where none waits
   pub alone : IsFresh s → DecodesAs told ts asks (B None) (S None) s r s'
   -- where one waits that may stand in place of the type's own, it is used up
-  pub replaced : retagged ≡ true → (t : Tag) → (t ≡ end_tag → ⊥) → s.kept ≡ None → s.tag ≡ Some t →
+  pub replaced : retagged ≡ true → (t : Tag) → (t ≡ end_tag → ⊥) → t.tag_number < 2 ^ 64 → s.kept ≡ None → s.tag ≡ Some t →
       DecodesAs true (t ∷ []) asks (B (Some t)) (S (Some t)) (untagged s) r (untagged s')
   pub repeats : RepeatsKept s r s'

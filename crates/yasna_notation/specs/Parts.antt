@@ -1,7 +1,8 @@
 -- What parts of a SEQUENCE keep that are made as the notation says, and what reading them does.
-use Rattle.std.proofs.Common.{◌≡◌, ◌<◌, ◌^◌, ◌∷◌, ◌++◌, ◌||◌, [], ℕ, List, Bool, true, false, not, Option, Some, None, Result, subst}
-use Rattle.std.proofs.lemmas.Bool.{and_parts}
-use Rattle.std.specs.Prelude.{◌&&◌}
+use Rattle.std.proofs.Common.{◌≡◌, ◌<◌, ◌^◌, ◌∷◌, ◌++◌, ◌||◌, [], ℕ, List, Bool, true, false, not, Option, Some, None, Result, subst, refl}
+use Rattle.std.proofs.lemmas.Bool.{and_parts, eq-eqb, eqb-true}
+use Rattle.std.specs.Prelude.{◌&&◌, nat_eq}
+use Rattle.std.specs.Bool.{beq}
 use Rattle.yasna_base.specs.declared.error.ASN1Error.{ASN1Error}
 use Rattle.yasna_base.specs.declared.tag.Tag.{Tag}
 use Rattle.yasna_base.specs.Beginnings.{share_none, ContentsBeginBy}
@@ -18,8 +19,8 @@ use Rattle.yasna_base.specs.UnderTags.{IsExactUnderTags}
 use Rattle.yasna_base.proofs.Beginnings.{begins_apart, nothing_by_tags, part_by_tags, left_out_by_tags}
 use Rattle.yasna_base.proofs.Coding.{enclosed, parts_contents}
 use Rattle.yasna_base.proofs.Default.{default_alike, default_exact}
-use Rattle.yasna_base.proofs.Exact.{enclosed_exact, no_part_exact, part_exact, option_exact}
-use Rattle.yasna_base.proofs.Optional.{part_before, option_before}
+use Rattle.yasna_base.proofs.Exact.{enclosed_exact, exact_along, no_part_exact, part_exact, option_exact}
+use Rattle.yasna_base.proofs.Optional.{part_before, option_before, apart_from_nothing}
 use Rattle.yasna_base.proofs.Sequence.{no_part}
 use Rattle.yasna_reader.specs.Decodes.{DecodesContents}
 use Rattle.yasna_reader.specs.Parse.{unless_kept}
@@ -125,8 +126,52 @@ module _ {A V : Type 0} {told others : Bool} {ts us : List Tag} {E : A → A →
         exact = part_exact (default_exact is (default_alike is default tells x.coding.meaning.equal) x.exact) y.exact;
       }
 
+-- contents whose values stand for those of others keep the laws
+contents_along : {U A : Type 0} {E : A → A → Type 0} {C : Grammar A} {S : Members} (f : U → A) → IsContentsCoding E C S →
+    IsContentsCoding (λ v w. E (f v) (f w)) (λ m n v c. C m n (f v) c) S
+contents_along f x = record {
+  meaning = record {
+    equal = record {
+      reflexive = λ v. x.meaning.equal.reflexive (f v);
+      symmetric = λ v w. x.meaning.equal.symmetric (f v) (f w);
+      transitive = λ u v w. x.meaning.equal.transitive (f u) (f v) (f w);
+    };
+    among = λ m n v. x.meaning.among m n (f v);
+    exact = λ m n k v w. x.meaning.exact m n k (f v) (f w);
+    deeper = λ m n k v. x.meaning.deeper m n k (f v);
+  };
+  ends = x.ends;
+}
+
+-- a part at the end that may be left out
+pub last_part_laws : {A : Type 0} {told : Bool} {ts : List Tag} {E : A → A → Type 0} {B : Grammar A} {S : Members} {f : Form A} {P : Fitting A}
+    {c : A → Type 0} → IsNotation told ts E B S f P c →
+    AreParts told (ts ++ []) (λ v w. SamePart (SameOption E) SameNothing (v, tt) (w, tt)) (λ m n v c. PartOf (OptionOf B) NoParts m n (v, tt) c)
+    (AnyPart (AnyOption S) AnyNothing) (λ m v. part_form (option_form f) nothing_form m (v, tt))
+    (λ m n v. part_fits (option_fits P) nothing_fits m n (v, tt)) (λ v. part_can (option_can c) Always (v, tt {0}))
+last_part_laws {A} x =
+    let alone : Option A → Option A × Unit {0} = λ v. (v, tt) in
+    record {
+      coding = contents_along alone (option_before x.coding (apart_from_nothing x.coding) (parts_contents no_part));
+      begins = λ t. left_out_by_tags (x.begins t) nothing_by_tags;
+      in_range = left_out_in_range x.coding no_parts.in_range;
+      exact = exact_along alone (part_exact (option_exact x.exact) no_part_exact);
+    }
+
 -- a SEQUENCE of parts
 pub sequence_laws : {A : Type 0} {told : Bool} {ts : List Tag} {E : A → A → Type 0} {C : Grammar A} {S : Members} {form : Form A} {Fits : Fitting A}
     {Can : A → Type 0} → AreParts told ts E C S form Fits Can →
     IsExactUnderTags E (λ t. Enclosed C t) (λ t. AnyEnclosed S t) (λ t. enclosed_form form t) (enclosed_fits Fits) Can
 sequence_laws x t not_end range = (enclosed t not_end x.coding, enclosed_exact t range x.exact)
+
+-- the defaults FALSE and n
+pub tells_false : TellsDefault (λ v w. v ≡ w) not false
+tells_false true = (λ e. absurd (cc), λ e. absurd (cc))
+tells_false false = (λ e. refl, λ e. refl)
+
+pub tests_false : (v : Bool) → not v ≡ beq v false
+tests_false true = refl
+tests_false false = refl
+
+pub tells_number : (n : ℕ) → TellsDefault (λ v w. v ≡ w) (λ v. nat_eq v n) n
+tells_number n v = (λ e. eqb-true v n e, λ e. eq-eqb v n e)

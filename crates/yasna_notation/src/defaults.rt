@@ -1,5 +1,5 @@
 //! DEFAULT: a part that is left out where it is the default (X.690, 8.9.3 and 11.5).
-ghost use Rattle.std.specs.Prelude.{◌≡◌, ◌++◌, ◌∷◌, ◌||◌, ◌&&◌, Bool, None, true};
+ghost use Rattle.std.specs.Prelude.{◌≡◌, ◌++◌, ◌∷◌, ◌||◌, ◌&&◌, Bool, None, true, false, not, nat_eq, refl};
 ghost use Rattle.yasna_base.specs.Beginnings.{share_none};
 ghost use Rattle.yasna_base.specs.Coding.{Any};
 ghost use Rattle.yasna_base.specs.Default.{TellsDefault, DefaultOf, default_form, default_nest, default_can, default_fits};
@@ -7,10 +7,13 @@ ghost use Rattle.yasna_base.specs.Exact.{part_fits};
 ghost use Rattle.yasna_base.specs.Identifier.{end_tag};
 ghost use Rattle.yasna_base.specs.Sequence.{PartOf, AnyPart, SamePart, part_form, part_nest, part_can};
 ghost use Rattle.yasna_writer.specs.View.{WroteParts};
-ghost use Rattle.yasna_notation.specs.Parts.{all_told, default_laws};
+ghost use Rattle.yasna_notation.specs.Parts.{all_told, default_laws, tells_false, tests_false, tells_number};
 
+use crate::bounded::{Bound, Bounded};
+use crate::explicit_tags::Explicit;
 use crate::notation::Notation;
 use crate::parts::{Parts, PartsBy};
+use crate::tag_names::TagName;
 use std::marker::PhantomData;
 use yasna_base::ASN1Result;
 use yasna_reader::BERReaderSeq;
@@ -35,6 +38,74 @@ where
     ghost tells: { TellsDefault N.same is default };
 
     ghost tests: { (v : N.Value) → is v ≡ N.Value.eq v default };
+}
+
+/// `DEFAULT FALSE`.
+pub struct False;
+
+impl DefaultValue<bool> for False {
+    ghost default = { false };
+
+    ghost is = { not };
+
+    #[inline(always)]
+    fn default() -> bool {
+        false
+    }
+
+    ghost tells = { tells_false };
+
+    ghost tests = { tests_false };
+}
+
+/// `DEFAULT N`, of an INTEGER that isn't negative.
+pub struct Number<const N: u64>;
+
+impl<const N: u64> DefaultValue<u64> for Number<N> {
+    ghost default = { N };
+
+    ghost is = { λ v. nat_eq v N };
+
+    #[inline(always)]
+    fn default() -> u64 {
+        N
+    }
+
+    ghost tells = { tells_number N };
+
+    ghost tests = { λ v. refl };
+}
+
+impl<T: TagName, const N: u64> DefaultValue<Explicit<T, u64>> for Number<N> {
+    ghost default = { N };
+
+    ghost is = { λ v. nat_eq v N };
+
+    #[inline(always)]
+    fn default() -> u64 {
+        N
+    }
+
+    ghost tells = { tells_number N };
+
+    ghost tests = { λ v. refl };
+}
+
+impl<T: TagName, C: Bound<u64>, const N: u64> DefaultValue<Explicit<T, Bounded<u64, C>>>
+    for Number<N>
+{
+    ghost default = { N };
+
+    ghost is = { λ v. nat_eq v N };
+
+    #[inline(always)]
+    fn default() -> u64 {
+        N
+    }
+
+    ghost tells = { tells_number N };
+
+    ghost tests = { λ v. refl };
 }
 
 /// `N DEFAULT D`.

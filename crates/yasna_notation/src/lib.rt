@@ -9,11 +9,13 @@
 #![tactic(auto)]
 
 mod any;
+mod bounded;
 mod choices;
 mod defaults;
 mod defined;
 mod explicit_tags;
 mod implicit_tags;
+mod last;
 mod lists;
 mod notation;
 mod noted;
@@ -24,11 +26,13 @@ mod strings;
 mod tag_names;
 mod times;
 
+pub use bounded::{AtMost, Bound, Bounded, NotEmpty, Size};
 pub use choices::{Alternatives, Choice, Either};
-pub use defaults::{Default, DefaultValue};
+pub use defaults::{Default, DefaultValue, False, Number};
 pub use defined::Defined;
 pub use explicit_tags::Explicit;
 pub use implicit_tags::Implicit;
+pub use last::Last;
 pub use lists::SequenceOf;
 pub use notation::Notation;
 pub use noted::Noted;

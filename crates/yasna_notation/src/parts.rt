@@ -205,7 +205,7 @@ impl<A: Notation, W: Parts> Parts for (Optional<A>, W) {
 
 // Writes a part that may be left out.
 #[inline(always)]
-fn write_optional<A: Notation>(value: &Option<A::Value>, seq: &mut DERWriterSeq) -> ASN1Result<()>
+pub(crate) fn write_optional<A: Notation>(value: &Option<A::Value>, seq: &mut DERWriterSeq) -> ASN1Result<()>
     requires { option_can A.can value.now }
     ensures { WroteParts (option_form (A.form_under None) seq.old.mode value.now) seq.old seq.new result }
 {

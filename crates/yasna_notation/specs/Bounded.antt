@@ -1,0 +1,69 @@
+-- Types of which some values alone are taken (X.680, 49 to 51).
+use Rattle.std.proofs.Common.{◌≡◌, ◌∷◌, [], ℕ, List, Bool, true, Option, length, suc, refl, sym, ap, ◌∙◌}
+use Rattle.yasna_base.specs.declared.tag.Tag.{Tag}
+use Rattle.yasna_base.specs.Coding.{IsCoding, Any}
+use Rattle.yasna_base.specs.Exact.{Fitting, IsExact}
+use Rattle.yasna_base.specs.Grammar.{Grammar, Members, Form}
+use Rattle.yasna_base.specs.Pieces.{Each}
+use Rattle.yasna_notation.specs.Notation.{IsNotation, KeepsUnderTags}
+
+-- b encodes a value by B, and the test passes it
+abbrev pub Within : {A : Type 0} → (A → Bool) → Grammar A → Grammar A
+Within passes B m n v b = B m n v b × (passes v ≡ true)
+
+module _ {A : Type 0} {E : A → A → Type 0} (passes : A → Bool) (alike : (v w : A) → E v w → passes v ≡ passes w) where
+  within_coding : {B : Grammar A} {S : Members} → IsCoding E B S → IsCoding E (Within passes B) (Any (Within passes B))
+  within_coding x = record {
+    meaning = record {
+      equal = x.meaning.equal;
+      among = λ m n v b p. (v, p);
+      exact = λ m n k v w b p q. x.meaning.exact m n k v w b p.0 q.0;
+      deeper = λ m n k v b le p. (x.meaning.deeper m n k v b le p.0, p.1);
+    };
+    opens = λ m n b p. x.opens m n b (x.meaning.among m n p.0 b p.1.0);
+    alone = λ m n k b c r s p q. x.alone m n k b c r s (x.meaning.among m n p.0 b p.1.0) (x.meaning.among m k q.0 c q.1.0);
+  }
+
+  within_exact : {B : Grammar A} {form : Form A} {Fits : Fitting A} {Can : A → Type 0} → IsExact E B form Fits Can →
+      IsExact E (Within passes B) form (λ m n v. Fits m n v × (passes v ≡ true)) (λ v. Can v × (passes v ≡ true))
+  within_exact x = record {
+    in_bytes = λ m n v f short. x.in_bytes m n v f.0 short;
+    holds = λ m o n v h f short. (x.holds m o n v h f.0 short, f.1);
+    only = λ m n v b h p. let y = x.only m n v b h p.0 in (y.0, (y.1, p.1));
+    can = λ m n v f. (x.can m n v f.0, f.1);
+    same = λ m v w e.
+        let y = x.same m v w e in
+        let other = sym (alike v w e) in
+        (y.0, (λ c. (y.1 c.0, other ∙ c.1)), (λ n f. (y.2 n f.0, other ∙ f.1)));
+  }
+
+  -- they keep the laws
+  pub within_laws : {told : Bool} {ts : List Tag} {B : Grammar A} {S : Members} {form : Form A} {Fits : Fitting A} {Can : A → Type 0} →
+      IsNotation told ts E B S form Fits Can →
+      IsNotation told ts E (Within passes B) (Any (Within passes B)) form (λ m n v. Fits m n v × (passes v ≡ true)) (λ v. Can v × (passes v ≡ true))
+  within_laws x = record {
+    coding = within_coding x.coding;
+    begins = λ t. let y = x.begins t in record { at = λ m n b p. y.at m n b (x.coding.meaning.among m n p.0 b p.1.0) };
+    exact = within_exact x.exact;
+  }
+
+-- under other tags too
+pub within_others : {A : Type 0} {E : A → A → Type 0} (B : Option Tag → Grammar A) (S : Option Tag → Members) (form : Option Tag → Form A)
+    {Fits : Fitting A} {Can : A → Type 0} (passes : A → Bool) → ((v w : A) → E v w → passes v ≡ passes w) → KeepsUnderTags E B S form Fits Can →
+    KeepsUnderTags E (λ u. Within passes (B u)) (λ u. Any (Within passes (B u))) form (λ m n v. Fits m n v × (passes v ≡ true))
+    (λ v. Can v × (passes v ≡ true))
+within_others B S form passes alike x t not_end range = within_laws passes alike (x t not_end range)
+
+each_length : {A : Type 0} (E : A → A → Type 0) (vs ws : List A) → Each E vs ws → length vs ≡ length ws
+each_length E [] [] e = refl
+each_length E [] (w ∷ ws) e = absurd e
+each_length E (v ∷ vs) [] e = absurd e
+each_length E (v ∷ vs) (w ∷ ws) e = ap suc (each_length E vs ws e.1)
+
+-- lists whose items are equal one by one have one size
+pub sizes_alike : {A : Type 0} (E : A → A → Type 0) (test : ℕ → Bool) (vs ws : List A) → Each E vs ws → test (length vs) ≡ test (length ws)
+sizes_alike E test vs ws e = ap test (each_length E vs ws e)
+
+-- what is the same passes a test alike
+pub passes_alike : {A : Type 0} (test : A → Bool) {v w : A} → v ≡ w → test v ≡ test w
+passes_alike test e = ap test e

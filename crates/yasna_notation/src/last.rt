@@ -1,0 +1,67 @@
+//! A part at the end that may be left out, of a type that no tag need tell (X.690, 8.9.3).
+ghost use Rattle.std.specs.Prelude.{◌≡◌, ◌++◌, ◌||◌, [], None, false};
+ghost use Rattle.yasna_base.specs.Canonical.{Always};
+ghost use Rattle.yasna_base.specs.Exact.{part_fits, nothing_fits, option_fits};
+ghost use Rattle.yasna_base.specs.Optional.{OptionOf, AnyOption, SameOption, option_form, option_nest, option_can};
+ghost use Rattle.yasna_base.specs.Sequence.{PartOf, NoParts, AnyPart, AnyNothing, SamePart, SameNothing, part_form, part_nest, part_can, nothing_form, nothing_nest};
+ghost use Rattle.yasna_writer.specs.View.{WroteParts};
+ghost use Rattle.yasna_notation.specs.Parts.{last_part_laws};
+
+use crate::notation::Notation;
+use crate::parts::{Parts, PartsBy, write_optional};
+use std::marker::PhantomData;
+use yasna_base::ASN1Result;
+use yasna_reader::BERReaderSeq;
+use yasna_writer::DERWriterSeq;
+
+/// `N OPTIONAL` at the end of a SEQUENCE, as `(ObjectIdentifier, Last<TaggedDerValue>)` of an OBJECT IDENTIFIER and an ANY OPTIONAL.
+pub struct Last<N> {
+    of: PhantomData<N>,
+}
+
+impl<A: Notation> Parts for Last<A> {
+    type Values = Option<A::Value>;
+
+    ghost told = { A.told };
+
+    ghost tags = { A.tags ++ [] };
+
+    ghost apart = { A.apart };
+
+    ghost parts = { λ m n v c. PartOf (OptionOf (A.under None)) NoParts m n (v, tt) c };
+
+    ghost any_parts = { AnyPart (AnyOption (A.any_under None)) AnyNothing };
+
+    ghost asks_memory = { (A.asks_memory || false) };
+
+    ghost same = { λ v w. SamePart (SameOption A.same) SameNothing (v, tt) (w, tt) };
+
+    ghost form = { λ m v. part_form (option_form (A.form_under None)) nothing_form m (v, tt) };
+
+    ghost nest = { λ m v. part_nest (option_nest A.nest) nothing_nest m (v, tt) };
+
+    ghost can = { λ v. part_can (option_can A.can) Always (v, tt {0}) };
+
+    ghost fits = { λ m n v. part_fits (option_fits A.fits) nothing_fits m n (v, tt) };
+
+    #[inline(always)]
+    fn read_parts(seq: &mut BERReaderSeq) -> ASN1Result<Option<A::Value>> {
+        seq.read_optional(|part| A::read(part))
+    }
+
+    #[inline(always)]
+    fn write_parts(values: &Option<A::Value>, seq: &mut DERWriterSeq) -> ASN1Result<()> {
+        write_optional::<A>(values, seq)
+    }
+
+    ghost laws = { λ a. last_part_laws (A.laws a) };
+}
+
+impl<'a, A: Notation> PartsBy<&'a Option<A::Value>> for Last<A> {
+    ghost held = { λ r. r.now };
+
+    #[inline(always)]
+    fn write_each(fields: &'a Option<A::Value>, seq: &mut DERWriterSeq) -> ASN1Result<()> {
+        write_optional::<A>(fields, seq)
+    }
+}
