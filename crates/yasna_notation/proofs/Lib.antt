@@ -3,3 +3,4 @@ pub mod OneTag
 pub mod Enclosing
 pub mod Contents
 pub mod Standing
+pub mod SetParts

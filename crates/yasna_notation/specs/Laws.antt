@@ -1,5 +1,5 @@
 -- That types which are made as the notation says keep its laws.
-use Rattle.std.proofs.Common.{◌≡◌, ◌∷◌, ◌++◌, [], ◌<◌, ◌^◌, ℕ, List, Bool, true, false, Option, Some, None, Vec, String, FitsSigned, length, pos, refl, ap, arith}
+use Rattle.std.proofs.Common.{◌≡◌, ◌∷◌, ◌++◌, [], ◌<◌, ◌^◌, ℕ, List, Bool, true, false, Option, Some, Vec, String, FitsSigned, length, pos, refl, ap, arith}
 use Rattle.std.proofs.lemmas.Bool.{and_parts}
 use Rattle.std.specs.Prelude.{◌&&◌, if◌then◌else◌}
 use Rattle.std.specs.Global.{Global}

@@ -1,3 +1,4 @@
 pub mod Notation
 pub mod Laws
 pub mod Parts
+pub mod Sets
