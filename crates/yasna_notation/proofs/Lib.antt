@@ -4,3 +4,4 @@ pub mod Contents
 pub mod Standing
 pub mod Found
 pub mod Bounding
+pub mod SetParts

@@ -1,6 +1,8 @@
 -- Types of which some values alone are taken (X.680, 49 to 51).
 use Rattle.std.proofs.Common.{◌≡◌, ◌∷◌, [], ℕ, List, Bool, true, Option, length, suc, refl, sym, ap, ◌∙◌}
+use Rattle.std.proofs.lemmas.List.Sorted.{length_permutation}
 use Rattle.yasna_base.specs.declared.tag.Tag.{Tag}
+use Rattle.yasna_base.specs.AnyOrder.{SameSetOf}
 use Rattle.yasna_base.specs.Coding.{IsCoding, Any}
 use Rattle.yasna_base.specs.Exact.{Fitting, IsExact}
 use Rattle.yasna_base.specs.Grammar.{Grammar, Members, Form}
@@ -63,6 +65,10 @@ each_length E (v ∷ vs) (w ∷ ws) e = ap suc (each_length E vs ws e.1)
 -- lists whose items are equal one by one have one size
 pub sizes_alike : {A : Type 0} (E : A → A → Type 0) (test : ℕ → Bool) (vs ws : List A) → Each E vs ws → test (length vs) ≡ test (length ws)
 sizes_alike E test vs ws e = ap test (each_length E vs ws e)
+
+-- and so have lists whose items are in some order
+pub set_sizes_alike : {A : Type 0} (E : A → A → Type 0) (test : ℕ → Bool) (vs ws : List A) → SameSetOf E vs ws → test (length vs) ≡ test (length ws)
+set_sizes_alike E test vs ws e = ap test (sym (length_permutation vs e.items e.moved) ∙ each_length E e.items ws e.each)
 
 -- what is the same passes a test alike
 pub passes_alike : {A : Type 0} (test : A → Bool) {v w : A} → v ≡ w → test v ≡ test w

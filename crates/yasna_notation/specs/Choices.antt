@@ -1,8 +1,9 @@
 -- What the types of a CHOICE keep that are made as the notation says, and what reading one does of which the tag was found.
-use Rattle.std.proofs.Common.{◌≡◌, ◌++◌, List, Bool, true, Result, inl, inr, refl}
+use Rattle.std.proofs.Common.{◌≡◌, ◌++◌, [], List, Bool, true, Result, inl, inr, refl}
 use Rattle.std.proofs.lemmas.Bool.{and_parts}
 use Rattle.std.specs.Prelude.{◌⊎◌, ◌&&◌}
 use Rattle.yasna_base.specs.declared.error.ASN1Error.{ASN1Error}
+use Rattle.yasna_base.specs.declared.mode.BERMode.{BERMode}
 use Rattle.yasna_base.specs.declared.tag.Tag.{Tag}
 use Rattle.yasna_base.specs.Beginnings.{share_none}
 use Rattle.yasna_base.specs.Choice.{EitherOf, AnyEither, SameEither, either_form, either_can, either_fits}
@@ -54,3 +55,9 @@ module _ {A : Type 0} {told : Bool} {ts : List Tag} {E : A → A → Type 0} {B 
       let y = rest z.1 in
       let k = choice_with_tags (record { coding = x.coding; begins = x.begins u.0 }) (record { coding = y.coding; begins = y.begins refl }) w.0 in
       defined_laws sides (record { coding = k.coding; begins = λ _. k.begins; exact = choice_exact x.exact y.exact })
+
+-- no form is empty, where none of either type is
+pub either_filled : {A V : Type 0} (f : Form A) (g : Form V) (m : BERMode) → ((v : A) → f m v ≡ [] → ⊥) → ((w : V) → g m w ≡ [] → ⊥) →
+    (v : Either A V) → either_form f g m (sides v) ≡ [] → ⊥
+either_filled f g m first second (First v) e = first v e
+either_filled f g m first second (Second w) e = second w e

@@ -1,31 +1,37 @@
 -- That types which are made as the notation says keep its laws.
-use Rattle.std.proofs.Common.{◌≡◌, ◌∷◌, [], ◌<◌, ◌^◌, ℕ, List, Bool, true, false, Option, Some, None, Vec, String, FitsSigned, pos, ap, arith}
+use Rattle.std.proofs.Common.{◌≡◌, ◌∷◌, ◌++◌, [], ◌<◌, ◌^◌, ℕ, List, Bool, true, false, Option, Some, Vec, String, FitsSigned, length, pos, refl, ap, arith}
 use Rattle.std.proofs.lemmas.Bool.{and_parts}
-use Rattle.std.specs.Prelude.{◌&&◌}
+use Rattle.std.specs.Prelude.{◌&&◌, if◌then◌else◌}
 use Rattle.std.specs.Global.{Global}
 use Rattle.std.specs.Int.{Width}
 use Rattle.std.specs.List.{AllByRecursion}
+use Rattle.std.specs.Str.{encode_utf8_all}
 use Rattle.yasna_base.specs.declared.mode.BERMode.{BERMode}
+use Rattle.yasna_base.specs.declared.mode.BERMode.TheVariants.{Ber, Der, Cer}
+use Rattle.yasna_base.specs.declared.tag.PCBit.{PCBit}
+use Rattle.yasna_base.specs.declared.tag.PCBit.TheVariants.{Primitive, Constructed}
 use Rattle.yasna_base.specs.declared.tag.Tag.{Tag}
 use Rattle.yasna_base.specs.declared.tag.TagClass.TheVariants.{Application}
 use Rattle.yasna_times.specs.declared.models.generalized_time.GeneralizedTime.{GeneralizedTime}
 use Rattle.yasna_times.specs.declared.models.utc_time.UTCTime.{UTCTime}
 use Rattle.yasna_base.specs.BigInteger.{IsBigInteger, CanBigInteger, big_integer_form}
-use Rattle.yasna_base.specs.Bits.{bits_segmentation, IsBits}
+use Rattle.yasna_base.specs.Bits.{BitString, bits_segmentation, IsBits, bits_contents, bit_segments, bits_form}
 use Rattle.yasna_base.specs.Boolean.{IsBoolean, boolean_form}
-use Rattle.yasna_base.specs.Canonical.{Always, leaf_nest, enclosed_form}
+use Rattle.yasna_base.specs.Canonical.{Always, leaf_nest, enclosed_form, definite_element, indefinite_element, canonical_element}
 use Rattle.yasna_base.specs.Coding.{Any}
 use Rattle.yasna_base.specs.Digits.{IsBytes}
 use Rattle.yasna_base.specs.Element.{Primitively, Enclosed, AnyEnclosed}
 use Rattle.yasna_base.specs.Exact.{Fitting, written_fits, enclosed_fits, elements_fit, raw_fits}
 use Rattle.yasna_base.specs.Grammar.{Grammar, Members, Form}
-use Rattle.yasna_base.specs.Identifier.{class_number, end_tag, BeginsWithTag, tag_or}
+use Rattle.yasna_base.specs.Identifier.{class_number, identifier, end_tag, BeginsWithTag, begins, tag_or}
 use Rattle.yasna_base.specs.Integer.{IsSigned, IsUnsigned, integer_form}
 use Rattle.yasna_base.specs.Null.{IsNull, null_form}
 use Rattle.yasna_base.specs.Octets.{IsOctets, octets_segmentation, octets_form, octets_nest}
 use Rattle.yasna_base.specs.Oid.{AreComponents, IsEncodableOid, oid_form}
 use Rattle.yasna_base.specs.Pieces.{Each}
-use Rattle.yasna_base.specs.Raw.{IsRaw, raw_form}
+use Rattle.yasna_base.specs.Raw.{RawValue, IsRaw, raw_cer_form, raw_form}
+use Rattle.yasna_base.specs.Segmented.{Segmentation, segmented_form}
+use Rattle.yasna_base.specs.Segments.{segments}
 use Rattle.yasna_base.specs.SequenceOf.{IsListOf, AnyListOf, elements_form}
 use Rattle.yasna_base.specs.TaggedDerValue.{raw_of}
 use Rattle.yasna_base.specs.Text.{IsStringOf, IsUtf8In, InUtf8, characters, utf8_form, utf8_nest}
@@ -36,6 +42,7 @@ use Rattle.yasna_base.proofs.Boolean.{boolean_coding, boolean_written}
 use Rattle.yasna_base.proofs.Canonical.{written_along, written_where, written_always}
 use Rattle.yasna_base.proofs.Coding.{along}
 use Rattle.yasna_base.proofs.Exact.{exact_along, written_exact, raw_keeps_exact}
+use Rattle.yasna_base.proofs.Identifier.{begins_some}
 use Rattle.yasna_base.proofs.Integer.{signed_under, unsigned_under, number_written}
 use Rattle.yasna_base.proofs.Null.{null_coding, null_written}
 use Rattle.yasna_base.proofs.Octets.{octets_coding, octets_written}
@@ -135,8 +142,8 @@ pub class_laws : (In : ℕ → Type 0) → IsExactUnderTags (λ v w. characters 
 class_laws In t not_end range = (
   along characters (class_coding In t not_end),
   written_exact (written_where (λ (v : String Global).
-  (λ can. can.in_class, λ can. record { characters = (string_text v).characters; in_class = can }))
-  (written_along characters (class_written In t range))),
+      (λ can. can.in_class, λ can. record { characters = (string_text v).characters; in_class = can }))
+      (written_along characters (class_written In t range))),
 )
 
 -- times
@@ -206,3 +213,45 @@ pub defined_others : {U A : Type 0} {E : A → A → Type 0} (B : Option Tag →
     {Fits : Fitting A} {Can : A → Type 0} (f : U → A) → KeepsUnderTags E B S form Fits Can →
     KeepsUnderTags (λ v w. E (f v) (f w)) (λ u m n v b. B u m n (f v) b) S (λ u m v. form u m (f v)) (λ m n v. Fits m n (f v)) (λ v. Can (f v))
 defined_others B S form f x t not_end range = defined_laws f (x t not_end range)
+
+-- what begins with an identifier isn't empty
+begun_filled : (t : Tag) (bit : PCBit) (r : List ℕ) → identifier t bit ++ r ≡ [] → ⊥
+begun_filled t bit r e = omega (arith, begins_some t (identifier t bit ++ r) (begins bit r refl), ap length e)
+
+-- so no element is, as a canonical mode writes it
+pub element_filled : (m : BERMode) (t : Tag) (bit : PCBit) (c : List ℕ) → canonical_element m t bit c ≡ [] → ⊥
+unfolding canonical_element definite_element indefinite_element
+element_filled m t Primitive c e = begun_filled t Primitive _ e
+element_filled Ber t Constructed c e = begun_filled t Constructed _ e
+element_filled Der t Constructed c e = begun_filled t Constructed _ e
+element_filled Cer t Constructed c e = begun_filled t Constructed _ e
+
+-- nor a string, whole or cut
+whole_or_cut_filled : (b : Bool) (x y : List ℕ) → (x ≡ [] → ⊥) → (y ≡ [] → ⊥) → (if b then x else y) ≡ [] → ⊥
+whole_or_cut_filled true x y p q = p
+whole_or_cut_filled false x y p q = q
+
+string_filled : {A : Type 0} (k : Segmentation A) (contents : A → List ℕ) (cut : A → List A) (t : Tag) (m : BERMode) (v : A) →
+    segmented_form k contents cut t m v ≡ [] → ⊥
+string_filled k contents cut t Ber v = element_filled _ _ _ _
+string_filled k contents cut t Der v = element_filled _ _ _ _
+string_filled k contents cut t Cer v = whole_or_cut_filled _ _ _ (element_filled _ _ _ _) (element_filled _ _ _ _)
+
+pub octets_filled : (t : Tag) (m : BERMode) (v : List ℕ) → octets_form t m v ≡ [] → ⊥
+octets_filled = string_filled octets_segmentation (λ v. v) (segments 1000)
+
+pub bits_filled : (t : Tag) (m : BERMode) (v : BitString) → bits_form t m v ≡ [] → ⊥
+bits_filled = string_filled bits_segmentation bits_contents bit_segments
+
+pub text_filled : (t : Tag) (m : BERMode) (v : List ℕ) → utf8_form t m v ≡ [] → ⊥
+text_filled t m v = octets_filled t m (encode_utf8_all v)
+
+-- nor an element of any tag
+pub raw_filled : (t : Tag) (m : BERMode) (v : RawValue) → raw_form t m v ≡ [] → ⊥
+raw_filled t Ber v = element_filled _ _ _ _
+raw_filled t Der v = element_filled _ _ _ _
+raw_filled t Cer v = by_bit v.bit
+  where
+    by_bit : (bit : PCBit) → raw_cer_form t bit v.payload ≡ [] → ⊥
+    by_bit Primitive = element_filled _ _ _ _
+    by_bit Constructed = begun_filled t Constructed _

@@ -3,3 +3,4 @@ pub mod Laws
 pub mod Parts
 pub mod Choices
 pub mod Bounded
+pub mod Sets

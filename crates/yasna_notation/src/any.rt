@@ -6,7 +6,7 @@ ghost use Rattle.yasna_base.specs.Exact.{raw_fits};
 ghost use Rattle.yasna_base.specs.Identifier.{tag_or};
 ghost use Rattle.yasna_base.specs.Raw.{IsRaw, raw_form};
 ghost use Rattle.yasna_base.specs.TaggedDerValue.{raw_of};
-ghost use Rattle.yasna_notation.specs.Laws.{any_laws, never_retagged};
+ghost use Rattle.yasna_notation.specs.Laws.{any_laws, never_retagged, raw_filled};
 
 use crate::notation::Notation;
 use yasna_base::models::TaggedDerValue;
@@ -58,4 +58,6 @@ impl Notation for TaggedDerValue {
     ghost laws = { λ _. any_laws };
 
     ghost others = { λ _ e. never_retagged e };
+
+    ghost filled = { λ u m v. raw_filled (tag_or u (raw_of v).tag) m (raw_of v) };
 }

@@ -1,10 +1,11 @@
 //! Types of which a module takes some values alone (X.680, 49 to 51): those that a bound lets pass.
 ghost use Rattle.std.specs.Prelude.{◌≡◌, ◌<◌, ◌≤◌, Bool, List, Option, None, true, length, nat_lt, nat_eq, not};
 ghost use Rattle.yasna_base.specs.Coding.{Any};
-ghost use Rattle.yasna_notation.specs.Bounded.{Within, within_laws, within_others, sizes_alike, passes_alike};
+ghost use Rattle.yasna_notation.specs.Bounded.{Within, within_laws, within_others, sizes_alike, set_sizes_alike, passes_alike};
 
 use crate::lists::SequenceOf;
 use crate::notation::Notation;
+use crate::set_lists::SetOf;
 use std::marker::PhantomData;
 use yasna_base::{ASN1Error, ASN1ErrorKind, ASN1Result, Tag};
 use yasna_reader::BERReader;
@@ -83,9 +84,11 @@ impl<N: Notation, C: Bound<N>> Notation for Bounded<N, C> {
     ghost laws = { λ a. within_laws C.passes C.alike (N.laws a) };
 
     ghost others = { λ a b. within_others N.under N.any_under N.form_under C.passes C.alike (N.others a b) };
+
+    ghost filled = { N.filled };
 }
 
-/// `SIZE (1..MAX)` of a SEQUENCE OF.
+/// `SIZE (1..MAX)` of a SEQUENCE OF or a SET OF.
 pub struct NotEmpty;
 
 impl<N: Notation> Bound<SequenceOf<N>> for NotEmpty {
@@ -97,6 +100,17 @@ impl<N: Notation> Bound<SequenceOf<N>> for NotEmpty {
     }
 
     ghost alike = { λ v w e. sizes_alike N.same (nat_lt 0) v.items w.items e };
+}
+
+impl<N: Notation> Bound<SetOf<N>> for NotEmpty {
+    ghost passes = { λ v. nat_lt 0 (length v.items) };
+
+    #[inline(always)]
+    fn lets(value: &Vec<N::Value>) -> bool {
+        !value.is_empty()
+    }
+
+    ghost alike = { λ v w e. set_sizes_alike N.same (nat_lt 0) v.items w.items e };
 }
 
 /// `(0..MAX)` of an INTEGER that isn't negative.

@@ -1,6 +1,7 @@
 //! CHOICE (X.690, 8.13): the next tag tells which of the types stands there.
-ghost use Rattle.std.specs.Prelude.{◌≡◌, ◌++◌, ◌||◌, ◌&&◌, Bool, List, Option, None, true, false};
+ghost use Rattle.std.specs.Prelude.{◌≡◌, ◌++◌, ◌||◌, ◌&&◌, [], Bool, List, Option, None, true, false};
 ghost use Rattle.std.specs.List.{list_any};
+ghost use Rattle.yasna_base.specs.declared.mode.BERMode.{BERMode};
 ghost use Rattle.yasna_base.specs.declared.tag.Tag.{Tag};
 ghost use Rattle.yasna_base.specs.Beginnings.{is_tag, share_none};
 ghost use Rattle.yasna_base.specs.Choice.{EitherOf, AnyEither, SameEither, either_form, either_nest, either_can, either_fits};
@@ -8,7 +9,7 @@ ghost use Rattle.yasna_base.specs.Exact.{Fitting};
 ghost use Rattle.yasna_base.specs.Grammar.{Grammar, Members, Form, Nest};
 ghost use Rattle.yasna_writer.specs.View.{Writes};
 ghost use Rattle.yasna_notation.specs.Notation.{IsNotation};
-ghost use Rattle.yasna_notation.specs.Choices.{ReadsFound, sides, last_laws, either_laws};
+ghost use Rattle.yasna_notation.specs.Choices.{ReadsFound, sides, last_laws, either_laws, either_filled};
 ghost use Rattle.yasna_notation.specs.Laws.{never_retagged};
 
 use crate::notation::Notation;
@@ -72,6 +73,9 @@ pub trait Alternatives {
 
     // The laws of reading and of a canonical mode.
     ghost laws: { apart ≡ true → IsNotation true tags same encodes elements (form_under None) fits can };
+
+    // No form is empty.
+    ghost filled: { (u : Option Tag) (m : BERMode) (v : Self.Value) → form_under u m v ≡ [] → ⊥ };
 }
 
 impl<A: Notation> Alternatives for (A,) {
@@ -113,6 +117,8 @@ impl<A: Notation> Alternatives for (A,) {
     }
 
     ghost laws = { λ a. last_laws A.laws a };
+
+    ghost filled = { A.filled };
 }
 
 impl<A: Notation, W: Alternatives> Alternatives for (A, W) {
@@ -167,6 +173,8 @@ impl<A: Notation, W: Alternatives> Alternatives for (A, W) {
     }
 
     ghost laws = { λ a. either_laws A.laws W.laws a };
+
+    ghost filled = { λ u m v. either_filled (A.form_under u) (W.form_under u) m (A.filled u m) (W.filled u m) v };
 }
 
 /// `CHOICE { A }`, as `Choice<(i64, (bool, ((),)))>`. No other tag stands in place of its own.
@@ -220,4 +228,6 @@ impl<A: Alternatives> Notation for Choice<A> {
     ghost laws = { A.laws };
 
     ghost others = { λ _ e. never_retagged e };
+
+    ghost filled = { A.filled };
 }

@@ -77,4 +77,6 @@ impl<T: Defined> Notation for T {
     ghost laws = { λ _. defined_laws T.value_of (T.Notation.laws T.apart) };
 
     ghost others = { λ _ a. defined_others T.Notation.under T.Notation.any_under T.Notation.form_under T.value_of (T.Notation.others T.apart a) };
+
+    ghost filled = { λ u m v. T.Notation.filled u m (T.value_of v) };
 }

@@ -5,7 +5,7 @@ ghost use Rattle.yasna_base.specs.Element.{Enclosed, AnyEnclosed};
 ghost use Rattle.yasna_base.specs.Exact.{enclosed_fits};
 ghost use Rattle.yasna_base.specs.Identifier.{tag_or};
 ghost use Rattle.yasna_base.proofs.ExplicitTags.{enclosed_begins};
-ghost use Rattle.yasna_notation.specs.Laws.{under_own, under_others, explicit_laws};
+ghost use Rattle.yasna_notation.specs.Laws.{under_own, under_others, explicit_laws, element_filled};
 
 use crate::notation::Notation;
 use crate::tag_names::TagName;
@@ -61,4 +61,6 @@ impl<T: TagName, N: Notation> Notation for Explicit<T, N> {
     ghost laws = { λ a. under_own T.tag (explicit_laws (N.laws a)) (enclosed_begins (N.any_under None)) T.not_end T.in_range };
 
     ghost others = { λ a _. under_others T.tag (explicit_laws (N.laws a)) (enclosed_begins (N.any_under None)) };
+
+    ghost filled = { λ u m v. element_filled _ _ _ _ };
 }

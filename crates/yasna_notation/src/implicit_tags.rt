@@ -57,4 +57,6 @@ impl<T: TagName, N: Notation> Notation for Implicit<T, N> {
     ghost laws = { λ a. implicit_laws N.under N.any_under N.form_under T.tag N.others a T.not_end T.in_range };
 
     ghost others = { λ a _. implicit_others N.under N.any_under N.form_under T.tag N.others a };
+
+    ghost filled = { λ u. N.filled (Some (tag_or u T.tag)) };
 }

@@ -11,7 +11,7 @@ ghost use Rattle.yasna_base.proofs.ExplicitTags.{enclosed_begins};
 ghost use Rattle.yasna_base.proofs.Identifier.{not_end};
 ghost use Rattle.std.proofs.Common.{arith};
 ghost use Rattle.yasna_writer.specs.View.{Writes, WroteParts};
-ghost use Rattle.yasna_notation.specs.Laws.{under_own, under_others, list_laws};
+ghost use Rattle.yasna_notation.specs.Laws.{under_own, under_others, list_laws, element_filled};
 
 use crate::notation::Notation;
 use std::marker::PhantomData;
@@ -66,6 +66,8 @@ impl<N: Notation> Notation for SequenceOf<N> {
     ghost laws = { λ a. under_own sequence_tag (list_laws (N.laws a)) (enclosed_begins (AnyElements (N.any_under None))) (not_end 16 (λ e. omega arith)) (omega arith) };
 
     ghost others = { λ a _. under_others sequence_tag (list_laws (N.laws a)) (enclosed_begins (AnyElements (N.any_under None))) };
+
+    ghost filled = { λ u m v. element_filled _ _ _ _ };
 }
 
 // Writes a SEQUENCE OF these items.

@@ -1,6 +1,7 @@
 //! What a notation says: which bytes stand for which values, how they are read and written, and the laws of both.
-ghost use Rattle.std.specs.Prelude.{◌≡◌, Bool, List, Option, None, true};
+ghost use Rattle.std.specs.Prelude.{◌≡◌, Bool, List, [], Option, None, true};
 ghost use Rattle.std.specs.List.{list_any};
+ghost use Rattle.yasna_base.specs.declared.mode.BERMode.{BERMode};
 ghost use Rattle.yasna_base.specs.declared.tag.Tag.{Tag};
 ghost use Rattle.yasna_base.specs.Beginnings.{is_tag};
 ghost use Rattle.yasna_base.specs.Exact.{Fitting};
@@ -73,4 +74,7 @@ pub trait Notation {
     ghost laws: { apart ≡ true → IsNotation told tags same (under None) (any_under None) (form_under None) fits can };
 
     ghost others: { apart ≡ true → retagged ≡ true → KeepsUnderTags same under any_under form_under fits can };
+
+    // No form is empty.
+    ghost filled: { (u : Option Tag) (m : BERMode) (v : Self.Value) → form_under u m v ≡ [] → ⊥ };
 }

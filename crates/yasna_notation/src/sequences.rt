@@ -9,7 +9,7 @@ ghost use Rattle.yasna_base.specs.Sequence.{sequence_tag};
 ghost use Rattle.yasna_base.proofs.ExplicitTags.{enclosed_begins};
 ghost use Rattle.yasna_base.proofs.Identifier.{not_end};
 ghost use Rattle.yasna_writer.specs.View.{Writes};
-ghost use Rattle.yasna_notation.specs.Laws.{under_own, under_others};
+ghost use Rattle.yasna_notation.specs.Laws.{under_own, under_others, element_filled};
 ghost use Rattle.yasna_notation.specs.Parts.{sequence_laws};
 
 use crate::notation::Notation;
@@ -66,6 +66,8 @@ impl<P: Parts> Notation for Sequence<P> {
     ghost laws = { λ a. under_own sequence_tag (sequence_laws (P.laws a)) (enclosed_begins P.any_parts) (not_end 16 (λ e. omega arith)) (omega arith) };
 
     ghost others = { λ a _. under_others sequence_tag (sequence_laws (P.laws a)) (enclosed_begins P.any_parts) };
+
+    ghost filled = { λ u m v. element_filled _ _ _ _ };
 }
 
 impl<P> Sequence<P> {

@@ -16,7 +16,7 @@ ghost use Rattle.yasna_base.specs.Oid.{AreComponents, IsEncodableOid, oid_tag, o
 ghost use Rattle.yasna_base.proofs.Coding.{primitively_begins};
 ghost use Rattle.yasna_base.proofs.Identifier.{not_end};
 ghost use Rattle.yasna_bytes.specs.Contents.{big_integer_in};
-ghost use Rattle.yasna_notation.specs.Laws.{under_own, under_others, seen_laws, boolean_laws, null_laws, signed_laws, unsigned_laws, oid_laws, big_integer_laws};
+ghost use Rattle.yasna_notation.specs.Laws.{under_own, under_others, seen_laws, boolean_laws, null_laws, signed_laws, unsigned_laws, oid_laws, big_integer_laws, element_filled};
 
 use crate::notation::Notation;
 use yasna_base::models::ObjectIdentifier;
@@ -64,6 +64,8 @@ impl Notation for bool {
     ghost laws = { λ _. under_own boolean_tag boolean_laws (primitively_begins IsBoolean) (not_end 1 (λ e. omega arith)) (omega arith) };
 
     ghost others = { λ _ _. under_others boolean_tag boolean_laws (primitively_begins IsBoolean) };
+
+    ghost filled = { λ u m v. element_filled _ _ _ _ };
 }
 
 impl Notation for () {
@@ -105,6 +107,8 @@ impl Notation for () {
     ghost laws = { λ _. under_own null_tag null_laws (primitively_begins IsNull) (not_end 5 (λ e. omega arith)) (omega arith) };
 
     ghost others = { λ _ _. under_others null_tag null_laws (primitively_begins IsNull) };
+
+    ghost filled = { λ u m v. element_filled _ _ _ _ };
 }
 
 impl Notation for i64 {
@@ -146,6 +150,8 @@ impl Notation for i64 {
     ghost laws = { λ _. under_own integer_tag (signed_laws w64) (primitively_begins (IsSigned w64)) (not_end 2 (λ e. omega arith)) (omega arith) };
 
     ghost others = { λ _ _. under_others integer_tag (signed_laws w64) (primitively_begins (IsSigned w64)) };
+
+    ghost filled = { λ u m v. element_filled _ _ _ _ };
 }
 
 impl Notation for i32 {
@@ -187,6 +193,8 @@ impl Notation for i32 {
     ghost laws = { λ _. under_own integer_tag (signed_laws w32) (primitively_begins (IsSigned w32)) (not_end 2 (λ e. omega arith)) (omega arith) };
 
     ghost others = { λ _ _. under_others integer_tag (signed_laws w32) (primitively_begins (IsSigned w32)) };
+
+    ghost filled = { λ u m v. element_filled _ _ _ _ };
 }
 
 impl Notation for u64 {
@@ -228,6 +236,8 @@ impl Notation for u64 {
     ghost laws = { λ _. under_own integer_tag (unsigned_laws 64) (primitively_begins (IsUnsigned 64)) (not_end 2 (λ e. omega arith)) (omega arith) };
 
     ghost others = { λ _ _. under_others integer_tag (unsigned_laws 64) (primitively_begins (IsUnsigned 64)) };
+
+    ghost filled = { λ u m v. element_filled _ _ _ _ };
 }
 
 impl Notation for u32 {
@@ -269,6 +279,8 @@ impl Notation for u32 {
     ghost laws = { λ _. under_own integer_tag (unsigned_laws 32) (primitively_begins (IsUnsigned 32)) (not_end 2 (λ e. omega arith)) (omega arith) };
 
     ghost others = { λ _ _. under_others integer_tag (unsigned_laws 32) (primitively_begins (IsUnsigned 32)) };
+
+    ghost filled = { λ u m v. element_filled _ _ _ _ };
 }
 
 /// ENUMERATED, as its number.
@@ -313,6 +325,8 @@ impl Notation for Enumerated {
     ghost laws = { λ _. under_own enumerated_tag (signed_laws w64) (primitively_begins (IsSigned w64)) (not_end 10 (λ e. omega arith)) (omega arith) };
 
     ghost others = { λ _ _. under_others enumerated_tag (signed_laws w64) (primitively_begins (IsSigned w64)) };
+
+    ghost filled = { λ u m v. element_filled _ _ _ _ };
 }
 
 impl Notation for ObjectIdentifier {
@@ -354,6 +368,8 @@ impl Notation for ObjectIdentifier {
     ghost laws = { λ _. under_own oid_tag oid_laws (primitively_begins AreComponents) (not_end 6 (λ e. omega arith)) (omega arith) };
 
     ghost others = { λ _ _. under_others oid_tag oid_laws (primitively_begins AreComponents) };
+
+    ghost filled = { λ u m v. element_filled _ _ _ _ };
 }
 
 /// INTEGER of any size: its contents in two's complement, and whether it isn't negative.
@@ -398,4 +414,6 @@ impl Notation for BigInteger {
     ghost laws = { λ _. under_own integer_tag (seen_laws big_integer_in big_integer_laws) (primitively_begins IsBigInteger) (not_end 2 (λ e. omega arith)) (omega arith) };
 
     ghost others = { λ _ _. under_others integer_tag (seen_laws big_integer_in big_integer_laws) (primitively_begins IsBigInteger) };
+
+    ghost filled = { λ u m v. element_filled _ _ _ _ };
 }

@@ -15,9 +15,13 @@ ghost use Rattle.yasna_base.proofs.Identifier.{not_end};
 ghost use Rattle.yasna_base.proofs.UnderTags.{bits_under_tags};
 ghost use Rattle.yasna_bytes.specs.Segments.{bits_in};
 ghost use Rattle.yasna_notation.specs.Laws.{under_own, under_others, seen_laws, items_of, octets_laws, octets_begin, bits_begin, text_begins, text_laws, class_laws};
+ghost use Rattle.yasna_notation.specs.Laws.{octets_filled, bits_filled, text_filled};
 
 use crate::notation::Notation;
-use yasna_base::tags::{TAG_BITSTRING, TAG_IA5STRING, TAG_NUMERICSTRING, TAG_OCTETSTRING, TAG_PRINTABLESTRING, TAG_UTF8STRING, TAG_VISIBLESTRING};
+use yasna_base::tags::{
+    TAG_BITSTRING, TAG_IA5STRING, TAG_NUMERICSTRING, TAG_OCTETSTRING, TAG_PRINTABLESTRING,
+    TAG_UTF8STRING, TAG_VISIBLESTRING,
+};
 use yasna_base::{ASN1Result, Tag};
 use yasna_reader::BERReader;
 use yasna_writer::DERWriter;
@@ -61,6 +65,8 @@ impl Notation for Vec<u8> {
     ghost laws = { λ _. under_own octets_tag (seen_laws items_of octets_laws) (octets_begin) (not_end 4 (λ e. omega arith)) (omega arith) };
 
     ghost others = { λ _ _. under_others octets_tag (seen_laws items_of octets_laws) (octets_begin) };
+
+    ghost filled = { λ u m v. octets_filled (tag_or u octets_tag) m v.items };
 }
 
 /// BIT STRING: its bytes, the first bit of a byte being its highest, and how many bits there are.
@@ -105,6 +111,8 @@ impl Notation for BitString {
     ghost laws = { λ _. under_own bits_tag (seen_laws bits_in bits_under_tags) (bits_begin) (not_end 3 (λ e. omega arith)) (omega arith) };
 
     ghost others = { λ _ _. under_others bits_tag (seen_laws bits_in bits_under_tags) (bits_begin) };
+
+    ghost filled = { λ u m v. bits_filled (tag_or u bits_tag) m (bits_in v) };
 }
 
 impl Notation for String {
@@ -146,6 +154,8 @@ impl Notation for String {
     ghost laws = { λ _. under_own utf8_tag text_laws (text_begins InUtf8) (not_end 12 (λ e. omega arith)) (omega arith) };
 
     ghost others = { λ _ _. under_others utf8_tag text_laws (text_begins InUtf8) };
+
+    ghost filled = { λ u m v. text_filled (tag_or u utf8_tag) m (characters v) };
 }
 
 /// PrintableString (X.680, 41): a text of its characters.
@@ -190,6 +200,8 @@ impl Notation for PrintableString {
     ghost laws = { λ _. under_own printable_tag (class_laws InPrintable) (text_begins InPrintable) (not_end 19 (λ e. omega arith)) (omega arith) };
 
     ghost others = { λ _ _. under_others printable_tag (class_laws InPrintable) (text_begins InPrintable) };
+
+    ghost filled = { λ u m v. text_filled (tag_or u printable_tag) m (characters v) };
 }
 
 /// IA5String (X.680, 41): a text of its characters.
@@ -234,6 +246,8 @@ impl Notation for Ia5String {
     ghost laws = { λ _. under_own ia5_tag (class_laws InIa5) (text_begins InIa5) (not_end 22 (λ e. omega arith)) (omega arith) };
 
     ghost others = { λ _ _. under_others ia5_tag (class_laws InIa5) (text_begins InIa5) };
+
+    ghost filled = { λ u m v. text_filled (tag_or u ia5_tag) m (characters v) };
 }
 
 /// NumericString (X.680, 41): a text of its characters.
@@ -278,6 +292,8 @@ impl Notation for NumericString {
     ghost laws = { λ _. under_own numeric_tag (class_laws InNumeric) (text_begins InNumeric) (not_end 18 (λ e. omega arith)) (omega arith) };
 
     ghost others = { λ _ _. under_others numeric_tag (class_laws InNumeric) (text_begins InNumeric) };
+
+    ghost filled = { λ u m v. text_filled (tag_or u numeric_tag) m (characters v) };
 }
 
 /// VisibleString (X.680, 41): a text of its characters.
@@ -322,4 +338,6 @@ impl Notation for VisibleString {
     ghost laws = { λ _. under_own visible_tag (class_laws InVisible) (text_begins InVisible) (not_end 26 (λ e. omega arith)) (omega arith) };
 
     ghost others = { λ _ _. under_others visible_tag (class_laws InVisible) (text_begins InVisible) };
+
+    ghost filled = { λ u m v. text_filled (tag_or u visible_tag) m (characters v) };
 }

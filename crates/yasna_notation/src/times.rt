@@ -8,9 +8,9 @@ ghost use Rattle.yasna_base.specs.Identifier.{tag_or};
 ghost use Rattle.yasna_base.specs.Text.{IsStringOf};
 ghost use Rattle.yasna_base.proofs.Identifier.{not_end};
 ghost use Rattle.yasna_times.specs.Models.{utc_of, moment_of};
-ghost use Rattle.yasna_times.specs.UtcTime.{SaysUtcTime, utc_time_tag, utc_time_form, utc_time_nest};
-ghost use Rattle.yasna_times.specs.GeneralizedTime.{SaysGeneralizedTime, generalized_time_tag, generalized_time_form, generalized_time_nest};
-ghost use Rattle.yasna_notation.specs.Laws.{under_own, under_others, string_begins, utc_laws, general_laws};
+ghost use Rattle.yasna_times.specs.UtcTime.{SaysUtcTime, utc_time_tag, utc_text, utc_time_form, utc_time_nest};
+ghost use Rattle.yasna_times.specs.GeneralizedTime.{SaysGeneralizedTime, generalized_time_tag, general_text, generalized_time_form, generalized_time_nest};
+ghost use Rattle.yasna_notation.specs.Laws.{under_own, under_others, string_begins, utc_laws, general_laws, octets_filled};
 
 use crate::notation::Notation;
 use yasna_base::tags::{TAG_GENERALIZEDTIME, TAG_UTCTIME};
@@ -58,6 +58,8 @@ impl Notation for UTCTime {
     ghost laws = { λ _. under_own utc_time_tag utc_laws (string_begins SaysUtcTime) (not_end 23 (λ e. omega arith)) (omega arith) };
 
     ghost others = { λ _ _. under_others utc_time_tag utc_laws (string_begins SaysUtcTime) };
+
+    ghost filled = { λ u m v. octets_filled (tag_or u utc_time_tag) m (utc_text (utc_of v)) };
 }
 
 impl Notation for GeneralizedTime {
@@ -99,4 +101,6 @@ impl Notation for GeneralizedTime {
     ghost laws = { λ _. under_own generalized_time_tag general_laws (string_begins SaysGeneralizedTime) (not_end 24 (λ e. omega arith)) (omega arith) };
 
     ghost others = { λ _ _. under_others generalized_time_tag general_laws (string_begins SaysGeneralizedTime) };
+
+    ghost filled = { λ u m v. octets_filled (tag_or u generalized_time_tag) m (general_text (moment_of v)) };
 }

@@ -1,0 +1,172 @@
+-- What reads and writes of a SET OF do, whose values stand in no order.
+use Rattle.std.proofs.Common.{◌≡◌, List, [], ◌∷◌, ◌++◌, Bool, true, Option, Some, None, Result, Ok, Err, Vec, ℕ, inl, inr, refl, sym, ap, subst, ◌∙◌, arith}
+use Rattle.std.specs.Borrow.{MutBor}
+use Rattle.std.specs.Fn.{Once, Mut, Called, CalledAtMut}
+use Rattle.std.specs.Global.{Global}
+use Rattle.std.specs.List.{AllByRecursion, concat}
+use Rattle.std.specs.Prelude.{MatchOption, MatchResult, IsErrAnd}
+use Rattle.yasna_base.specs.declared.error.ASN1Error.{ASN1Error}
+use Rattle.yasna_base.specs.declared.mode.BERMode.{BERMode}
+use Rattle.yasna_base.specs.declared.tag.PCBit.TheVariants.{Constructed}
+use Rattle.yasna_base.specs.declared.tag.Tag.{Tag}
+use Rattle.yasna_base.specs.AnyOrder.{InSomeOrder, sorted_set_of_form}
+use Rattle.yasna_base.specs.Canonical.{canonical_element}
+use Rattle.yasna_base.specs.Coding.{IsCoding}
+use Rattle.yasna_base.specs.Error.{kind_of}
+use Rattle.yasna_base.specs.Grammar.{Grammar, Members, Form}
+use Rattle.yasna_base.specs.Identifier.{tag_or}
+use Rattle.yasna_base.specs.Null.{null_form}
+use Rattle.yasna_base.specs.Order.{octets_cmp, in_order}
+use Rattle.yasna_base.specs.Set.{set_tag, IsSetOf, AnySetOf, SetOfContents}
+use Rattle.yasna_base.specs.SetWriting.{forms, in_form_order}
+use Rattle.yasna_base.proofs.Identifier.{not_end}
+use Rattle.yasna_base.proofs.SetOfWriting.{around_forms, forms_in_order}
+use Rattle.yasna_reader.specs.declared.set_of.Order.TheVariants.{Ascending}
+use Rattle.yasna_reader.specs.Sequence.{ReadsParts}
+use Rattle.yasna_reader.specs.SetOf.{CollectsInOrder}
+use Rattle.yasna_reader.specs.State.{Reading}
+use Rattle.yasna_reader.proofs.Kept.{parts_repeat_kept}
+use Rattle.yasna_reader.proofs.SetOfReads.{any_set_of_by_tag}
+use Rattle.yasna_reader.proofs.UnderTags.{parts_under}
+use Rattle.yasna_writer.specs.Parts.{WrittenParts, no_parts}
+use Rattle.yasna_writer.specs.Sequence.{AnswersKept, AnswersOnly}
+use Rattle.yasna_writer.specs.Set.{KeptAtPart, BeginsPart, parts_unless_kept, FailsAtSet, WritesParts, WroteSet, WritesSet}
+use Rattle.yasna_writer.specs.View.{Written, holding, Writes, Wrote, RanOut}
+use Rattle.yasna_notation.specs.Laws.{element_filled}
+use Rattle.yasna_notation.specs.Notation.{ReadsAs}
+use Rattle.yasna_notation.specs.Sets.{IsFilled, IsWantOfMemory, WroteElement, MadeParts, WroteElements}
+use Rattle.yasna.proofs.Closures.{by_run, by_call}
+use Rattle.yasna_notation.proofs.Enclosing.{value_by}
+use Rattle.yasna_notation.proofs.OneTag.{one_tag_read}
+
+module _ {A : Type 0} {told : Bool} {ts : List Tag} {retagged asks : Bool} {B : Option Tag → Grammar A} {S : Option Tag → Members} where
+  -- a SET OF elements that are read so
+  pub set_of_read : {F : Type 0} {E : A → A → Type 0} {g : Mut F (MutBor Reading × Unit {0}) (Result A ASN1Error × (MutBor Reading × Unit {0}))} {f : F}
+      {s : Reading} {r : Result (Vec A Global) ASN1Error} {s' : Reading} → IsCoding E (B None) (S None) →
+      ReadsParts (CollectsInOrder Ascending (CalledAtMut g) f) set_tag s r s' →
+      ((f f' : F) (p q : MutBor Reading) (x : Result A ASN1Error) → Called g f (p, tt) (x, (q, tt)) f' → ReadsAs told ts retagged asks B S p.now x q.now) →
+      ReadsAs {A = Vec A Global} true (set_tag ∷ []) true true (λ u m n v b. InSomeOrder (IsSetOf (B None) (tag_or u set_tag)) m n v.items b)
+      (λ u. AnySetOf (S None) (tag_or u set_tag)) s r s'
+  set_of_read {g = g} {f = f} {s = s} {r = r} {s' = s'} laws h says =
+      one_tag_read (ReadsParts (CollectsInOrder Ascending (CalledAtMut g) f)) set_tag (not_end 17 (λ e. omega arith))
+      (λ t not. any_set_of_by_tag (CalledAtMut g) f t not laws value_by (by_call (ReadsAs told ts retagged asks B S) says))
+      (parts_under (CollectsInOrder Ascending (CalledAtMut g) f) set_tag) s r s' (parts_repeat_kept h) h
+
+null_behind : (s : List ℕ) (t : Tag) (m : BERMode) → IsFilled (s ++ null_form t m tt)
+null_behind [] t m e = element_filled _ _ _ _ e
+null_behind (x ∷ s) t m e = absurd (cc)
+
+-- where there is no memory, a NULL behind what was written
+pub after_null : (b c : List ℕ) (t : Tag) (m : BERMode) (old mid new : Written) (e : ASN1Error) (u : Unit {0}) → Writes c old mid (Err e) →
+    Wrote (null_form t m tt) mid new (Ok u) → WroteElement b old new (Err e)
+after_null b c t m old mid new e u h k = go old.kept mid.kept h k
+  where
+    go : (o i : Option ASN1Error) →
+        MatchOption o (IsWantOfMemory e × MatchOption i ((d : List ℕ) × (mid.bytes ≡ old.bytes ++ d)) IsWantOfMemory) (λ k. i ≡ Some k) →
+        MatchOption i (new ≡ holding mid (mid.bytes ++ null_form t m tt)) (λ k. (Ok u ≡ Err k) × (new.kept ≡ Some k)) →
+        MatchOption o (MatchOption new.kept (IsWantOfMemory e × IsFilled new.bytes) IsWantOfMemory) (λ k. new.kept ≡ Some k)
+    go None None h k =
+        subst (λ (w : Written). MatchOption w.kept (IsWantOfMemory e × IsFilled w.bytes) IsWantOfMemory) (sym k) (h.0, null_behind mid.bytes t m)
+    go None (Some d) h k = let x = k.0 in absurd (cc)
+    go (Some d) None h k = absurd (cc)
+    go (Some d) (Some i) h k = let x = k.0 in absurd (cc)
+
+all_append : {X : Type 0} (P : X → Type 0) (xs ys : List X) → AllByRecursion P xs → AllByRecursion P ys → AllByRecursion P (xs ++ ys)
+all_append P [] ys a b = b
+all_append P (x ∷ xs) ys a b = (a.0, all_append P xs ys a.1 b)
+
+-- a part behind others, where there is no memory
+part_added : (ps : List (List ℕ)) (s : WrittenParts) (b : List ℕ) (o k i : Option ASN1Error) (e : ASN1Error) → AllByRecursion IsFilled ps →
+    MatchOption o (s.parts ≡ ps) IsWantOfMemory → KeptAtPart o k →
+    MatchOption k (MatchOption i (IsWantOfMemory e × IsFilled b) IsWantOfMemory) (λ k. i ≡ Some k) →
+    MatchOption i (IsWantOfMemory e × AllByRecursion IsFilled (parts_unless_kept k s.parts ++ (b ∷ []))) IsWantOfMemory
+part_added ps s b None None None e filled h n x =
+    (x.0, all_append IsFilled s.parts (b ∷ []) (subst (λ z. AllByRecursion IsFilled z) (sym h) filled) (x.1, tt))
+part_added ps s b (Some o) None None e filled h n x = absurd (cc)
+part_added ps s b o None (Some i) e filled h n x = x
+part_added ps s b o (Some k) None e filled h n x = absurd (cc)
+part_added ps s b None (Some k) (Some i) e filled h (inl n) x = absurd (cc)
+part_added ps s b None (Some k) (Some i) e filled h (inr n) x = let y : i ≡ k = cc in ap kind_of y ∙ n.1
+part_added ps s b (Some o) (Some k) (Some i) e filled h (inl n) x = let y : i ≡ o = cc in ap kind_of y ∙ h
+part_added ps s b (Some o) (Some k) (Some i) e filled h (inr n) x = let y = n.0 in absurd (cc)
+
+pub part_failed : (ps these : List (List ℕ)) (b : List ℕ) (m : BERMode) (s : WrittenParts) (w w' : Written) (e : ASN1Error)
+    (r : Result (Unit {0}) ASN1Error) → AllByRecursion IsFilled ps → WroteElements ps s (Ok tt) → BeginsPart m s.kept w →
+    WroteElement b w w' (Err e) → IsErrAnd r (λ k. k ≡ e) →
+    WroteElements these (record { parts = parts_unless_kept w.kept s.parts ++ (w'.bytes ∷ []); mode = s.mode; kept = w'.kept }) r
+part_failed ps these b m s w w' e (Ok u) filled h begins x is = absurd is
+part_failed ps these b m s w w' e (Err k) filled h begins x is =
+    subst (λ z. MatchOption w'.kept (IsWantOfMemory z × AllByRecursion IsFilled (parts_unless_kept w.kept s.parts ++ (w'.bytes ∷ []))) IsWantOfMemory)
+    (sym is) (part_added ps s w'.bytes s.kept w.kept w'.kept e filled h begins.keeps x)
+
+-- no form is empty
+pub forms_filled : {A : Type 0} (form : Form A) (m : BERMode) → ((v : A) → IsFilled (form m v)) → (vs : List A) →
+    AllByRecursion IsFilled (forms form m vs)
+forms_filled form m filled [] = tt
+forms_filled form m filled (v ∷ vs) = (filled v, forms_filled form m filled vs)
+
+module _ {A : Type 0} (form : Form A) (t : Tag) (vs : List A) (filled : (m : BERMode) (v : A) → IsFilled (form m v)) (m : BERMode) where
+  -- the contents that the forms make are those of the form of all
+  made : (ps : List (List ℕ)) (c : List ℕ) → ps ≡ forms form m vs → SetOfContents ps c →
+      canonical_element m t Constructed c ≡ sorted_set_of_form form t m vs
+  made ps c is x =
+      ap (λ z. canonical_element m t Constructed z) (x.joined ∙ ap (λ z. concat (in_order octets_cmp z)) is) ∙
+      sym (around_forms form m t (in_form_order form m vs) (in_order octets_cmp (forms form m vs)) (forms_in_order form m vs))
+
+  all_filled : (ps : List (List ℕ)) (own : Result (Unit {0}) ASN1Error) → MadeParts (forms form m vs) ps own → AllByRecursion IsFilled ps
+  all_filled ps (Ok u) x = subst (λ z. AllByRecursion IsFilled z) (sym x) (forms_filled form m (filled m) vs)
+  all_filled ps (Err e) x = x.1
+
+  module _ (left : WrittenParts) (own : Result (Unit {0}) ASN1Error) (x : WroteElements (forms form m vs) left own) where
+    -- the parts, where a failure is kept or none is
+    left_so : {k : Option ASN1Error} → left.kept ≡ k → MatchOption k (MadeParts (forms form m vs) left.parts own) IsWantOfMemory
+    left_so e = subst (λ z. MatchOption z (MadeParts (forms form m vs) left.parts own) IsWantOfMemory) e x
+
+    -- what is kept at the end is want of memory
+    kept_kind : (k : ASN1Error) → FailsAtSet SetOfContents left k → IsWantOfMemory k
+    kept_kind k (inl is) = left_so is
+    kept_kind k (inr (none, inl lacks)) = lacks
+    kept_kind k (inr (none, inr fails)) =
+        let filled = all_filled left.parts own (left_so none) in
+        absurd (fails.1 (concat (in_order octets_cmp left.parts)) (record { filled = filled; joined = refl }))
+
+    -- where nothing is kept, the closure's answer is that of the call
+    answered : (old new : Written) (r : Result (Unit {0}) ASN1Error) (c : List ℕ) → MadeParts (forms form m vs) left.parts r →
+        SetOfContents left.parts c → new ≡ holding old (old.bytes ++ canonical_element m t Constructed c) →
+        MatchResult r (λ _. new ≡ holding old (old.bytes ++ sorted_set_of_form form t m vs))
+        (λ e. IsWantOfMemory e × ((c : List ℕ) × (new.bytes ≡ old.bytes ++ c)))
+    answered old new (Ok u) c y z is = is ∙ ap (λ z. holding old (old.bytes ++ z)) (made left.parts c y z)
+    answered old new (Err e) c y z is = (y.0, (canonical_element m t Constructed c, ap (λ (w : Written). w.bytes) is))
+
+    at_end : (from : ASN1Error → ASN1Error → Type 0) → ((k e : ASN1Error) → from k e → e ≡ k) → (old new : Written) (k : Option ASN1Error)
+        (r : Result (Unit {0}) ASN1Error) →
+        MatchOption k (WritesParts SetOfContents (canonical_element m t Constructed) left old new) (λ k. FailsAtSet SetOfContents left k) →
+        AnswersKept from k own r →
+        MatchResult r (λ _. new ≡ holding old (old.bytes ++ sorted_set_of_form form t m vs))
+        (λ e. IsWantOfMemory e × MatchOption k ((c : List ℕ) × (new.bytes ≡ old.bytes ++ c)) IsWantOfMemory)
+    at_end from same old new None r ends answers =
+        answered old new r ends.1 (subst (λ u. MadeParts (forms form m vs) left.parts u) (sym answers) (left_so ends.0)) ends.2 ends.3
+    at_end from same old new (Some k) (Ok u) ends answers = absurd answers
+    at_end from same old new (Some k) (Err e) ends answers = let kind = kept_kind k ends in (ap kind_of (same k e answers) ∙ kind, kind)
+
+-- a set of what a closure writes as parts is a SET OF these values
+pub set_written : {A F : Type 0} (g : Once F (MutBor WrittenParts × Unit {0}) (Result (Unit {0}) ASN1Error × (MutBor WrittenParts × Unit {0})))
+    (from : ASN1Error → ASN1Error → Type 0) (f : F) (form : Form A) (t : Tag) (vs : List A) → ((m : BERMode) (v : A) → IsFilled (form m v)) →
+    ((k e : ASN1Error) → from k e → e ≡ k) →
+    ((p q : MutBor WrittenParts) (r : Result (Unit {0}) ASN1Error) → p.now ≡ no_parts p.now.mode → g.post f (p, tt) (r, (q, tt)) →
+    WroteElements (forms form p.now.mode vs) q.now r) → (old new : Written) (r : Result (Unit {0}) ASN1Error) →
+    WritesSet g from f SetOfContents (canonical_element old.mode t Constructed) old new r → Writes (sorted_set_of_form form t old.mode vs) old new r
+set_written {A} {F} g from f form t vs filled same says old new r h = go old.kept h
+  where
+    m : BERMode
+    m = old.mode
+
+    go : (k : Option ASN1Error) →
+        MatchOption k (WroteSet g from f SetOfContents (canonical_element m t Constructed) old new r) (λ k. AnswersOnly from k new r) →
+        MatchOption k (MatchResult r (λ _. new ≡ holding old (old.bytes ++ sorted_set_of_form form t m vs)) (λ e. RanOut old new e))
+        (λ k. new.kept ≡ Some k)
+    go (Some k) h = h.0
+    go None h =
+        let x = by_run {g = g} {f = f} (λ s u s'. s ≡ no_parts s.mode → WroteElements (forms form s.mode vs) s' u)
+        (λ p q u post begins. says p q u begins post) (no_parts m) h.own h.left h.ran refl in
+        at_end form t vs filled m h.left h.own x from same old new new.kept r h.ends h.answers
