@@ -14,6 +14,7 @@ ghost use Rattle.yasna_writer.specs.View.{Writes, WroteParts};
 ghost use Rattle.yasna_reader.specs.State.{IsFresh, part_of};
 ghost use Rattle.yasna_reader.specs.Decodes.{Decodes, DecodesParts, RepeatsKept};
 
+mod exact;
 mod others;
 
 use crate::shapes::{FromShape, Shaped};
