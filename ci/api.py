@@ -1,4 +1,4 @@
-"""What ci/api.sh prints and compares. It begins at the public items of the crate yasna, and follows each `pub use` to what it names.
+"""What ci/api.sh prints and compares. It begins at the public items of the crates that users name, and follows each `pub use` to what it names.
 
 The sources are read line by line, as they are formatted: an item's parts are indented under it.
 """
@@ -11,13 +11,13 @@ from dataclasses import dataclass
 from pathlib import Path
 
 PAGE = Path("docs/API.md")
-TOP = "yasna"
+TOPS = ("yasna", "yasna_notation")
 TYPES = ("struct", "enum", "type", "trait")
 DECLARATIONS = TYPES + ("fn", "const")
 INDENT = "    "
-INTRODUCTION = """# The calls and types of `yasna`
+INTRODUCTION = """# The calls and types of `yasna` and `yasna_notation`
 
-What a user of the crate `yasna` reaches: each public item as it is declared, and the first sentence of its comment. `sh ci/api.sh` prints
+What a user of these crates reaches: each public item as it is declared, and the first sentence of its comment. `sh ci/api.sh` prints
 this page from the sources, where the rest of each comment stands, and the contract."""
 
 
@@ -148,9 +148,10 @@ def first_sentence(comment):
 
 @functools.cache
 def library():
-    """The crates that a user of yasna is handed items of."""
-    listed = re.search(rf"^{TOP}: (.*)$", Path("crates.txt").read_text(encoding="utf-8"), re.MULTILINE)
-    return [TOP] + listed.group(1).split()
+    """The crates that users are handed items of."""
+    crates = Path("crates.txt").read_text(encoding="utf-8")
+    below = [re.search(rf"^{top}: (.*)$", crates, re.MULTILINE).group(1).split() for top in TOPS]
+    return list(dict.fromkeys([*TOPS, *itertools.chain.from_iterable(below)]))
 
 
 @functools.cache
@@ -365,7 +366,8 @@ def main(words):
         print("usage: sh ci/api.sh [check]", file=sys.stderr)
         sys.exit(2)
     page = Page()
-    page.section(TOP, module(TOP, ()))
+    for top in TOPS:
+        page.section(top, module(top, ()))
     if page.lacking:
         sys.exit("no comment for readers (///): " + ", ".join(page.lacking))
     printed = "\n".join(page.lines) + "\n"

@@ -1,5 +1,5 @@
 #!/bin/sh
-# What a user of the crate yasna reaches, from the sources: each public item as it is declared, and the first sentence of its comment.
+# What a user of the crates yasna and yasna_notation reaches, from the sources: each public item as it is declared, and the first sentence of its comment.
 #
 #   sh ci/api.sh > docs/API.md     prints the page
 #   sh ci/api.sh check             compares it with docs/API.md, and says which line differs first

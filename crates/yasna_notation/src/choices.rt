@@ -21,7 +21,9 @@ use yasna_writer::DERWriter;
 /// A value of the first of two types, or of the second.
 #[derive(Drop)]
 pub enum Either<A, B> {
+    /// One of the first type.
     First(A),
+    /// One of the second.
     Second(B),
 }
 
