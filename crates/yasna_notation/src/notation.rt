@@ -21,6 +21,9 @@ pub trait Notation {
     /// What its values are in Rust.
     type Value: Drop;
 
+    /// The types that it is made of. No code uses it: each impl has to name the types that come with its own.
+    type Inner;
+
     // Whether it is told by which tags its encodings begin, and these.
     ghost told: { Bool } = { true };
 

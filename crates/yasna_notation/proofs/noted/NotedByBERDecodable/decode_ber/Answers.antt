@@ -1,10 +1,10 @@
 use Rattle.std.proofs.Common.{None, subst}
 use Rattle.yasna_reader.specs.Decodes.{Decodes}
-use Rattle.yasna_notation.proofs.noted.NotedBERDecodable.decode_ber.Goals as goal
+use Rattle.yasna_notation.proofs.noted.NotedByBERDecodable.decode_ber.Goals as goal
 
 pub returns-in-Err-clause-decodes : goal.returns-in-Err-clause-decodes
 returns-in-Err-clause-decodes g c kept =
-    let n = g.T.Notation.Notation in
+    let n = g.N.Notation in
     let s = c.args.reader.now in
     let left = c.read.new.reader in
     subst
