@@ -1,11 +1,11 @@
 -- What reading does of a type of which some values alone are taken.
-use Rattle.std.proofs.Common.{◌≡◌, ◌∷◌, ◌++◌, [], ℕ, ◌≤◌, List, Bool, true, false, Option, Some, None, Ok, Err, inl, inr, refl, sym, ap, subst, ◌∙◌, length, length-append, arith}
+use Rattle.std.proofs.Common.{◌≡◌, ◌∷◌, ◌++◌, [], ℕ, List, Bool, true, false, Option, Some, None, Ok, Err, inl, inr, refl, sym, ap, subst, ◌∙◌, length, length-append, arith}
 use Rattle.yasna_base.specs.declared.error.ASN1Error.{ASN1Error}
-use Rattle.yasna_base.specs.declared.error.ASN1ErrorKind.TheVariants.{Invalid, OutOfMemory}
+use Rattle.yasna_base.specs.declared.error.ASN1ErrorKind.TheVariants.{Invalid}
 use Rattle.yasna_base.specs.declared.tag.Tag.{Tag}
 use Rattle.yasna_base.specs.Beginnings.{BeginsWithOne}
 use Rattle.yasna_base.specs.Coding.{Any}
-use Rattle.yasna_base.specs.Error.{kind_of, error_of}
+use Rattle.yasna_base.specs.Error.{error_of}
 use Rattle.yasna_base.specs.Exact.{Fitting}
 use Rattle.yasna_base.specs.Grammar.{Grammar, Members, Form}
 use Rattle.yasna_base.proofs.Identifier.{begins_with}

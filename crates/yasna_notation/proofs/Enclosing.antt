@@ -88,8 +88,8 @@ module _ {A : Type 0} {told : Bool} {ts : List Tag} {retagged asks : Bool} {B : 
       let h = subst (λ u. ReadsImplicitly (FnOnceReturnsAtMut g f) u s r s') is by in
       let R = FnOnceReturnsAtMut g f in
       let does : (t : Tag) → (t ≡ end_tag → ⊥) → t.tag_number < 2 ^ 64 → IsDecoderByTags (t ∷ []) asks (B (Some t)) (S (Some t)) (ReadsImplicitly R t) =
-          λ t not range. implicit_by_tag (does_as (by_run (ReadsAs told ts retagged asks B S) says) (replaced_under may t not range))
-          decodes_by_tags in
+      λ t not range. implicit_by_tag (does_as (by_run (ReadsAs told ts retagged asks B S) says) (replaced_under may t not range))
+      decodes_by_tags in
       record {
         alone = λ fresh. by_tags ((does own other in_range).decodes s r s' fresh h);
         replaced = λ _ t not range kept waits. by_tags

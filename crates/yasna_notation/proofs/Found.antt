@@ -1,5 +1,5 @@
 -- What reading a CHOICE does by the tag that was found.
-use Rattle.std.proofs.Common.{◌≡◌, ◌++◌, ◌||◌, ◌∷◌, [], List, Bool, true, false, not, Option, Some, None, Result, Ok, Err, inl, inr, refl, sym, ap, ap₂, subst, append-nil, ℕ}
+use Rattle.std.proofs.Common.{◌≡◌, ◌++◌, ◌||◌, ◌∷◌, [], List, Bool, true, false, not, Option, None, Result, Ok, Err, inl, inr, refl, sym, ap, ap₂, subst, append-nil, ℕ}
 use Rattle.std.proofs.lemmas.Bool.{and_parts, and_from, or_left, or_right, eq-eqb, eqb-true}
 use Rattle.std.specs.List.{list_any}
 use Rattle.std.specs.Prelude.{◌⊎◌, ◌&&◌, nat_eq}
@@ -13,15 +13,13 @@ use Rattle.yasna_base.specs.Grammar.{Grammar, Members, Form}
 use Rattle.yasna_base.specs.Identifier.{BeginsWithTag, class_number}
 use Rattle.yasna_base.proofs.Beginnings.{tell_apart}
 use Rattle.yasna_base.proofs.Identifier.{class_same, begins_with}
-use Rattle.yasna_reader.specs.ByTags.{DecodesByTags}
 use Rattle.yasna_reader.specs.Decodes.{RepeatsKept}
 use Rattle.yasna_reader.specs.Lookahead.{LooksAhead}
-use Rattle.yasna_reader.specs.State.{Reading, IsFresh}
+use Rattle.yasna_reader.specs.State.{Reading}
 use Rattle.yasna_reader.proofs.Choices.{OnlyOf, the_choice, others_of, are_among, chosen_by_tags, found_none_by_tags}
 use Rattle.yasna_reader.proofs.NextTag.{looked}
 use Rattle.yasna_reader.proofs.PartsByTags.{differs_from}
 use Rattle.yasna_reader.proofs.Tuples.{seen}
-use Rattle.yasna_notation.specs.declared.choices.Either.{Either}
 use Rattle.yasna_notation.specs.declared.choices.Either.TheVariants.{First, Second}
 use Rattle.yasna_notation.specs.Choices.{ReadsFound, sides}
 use Rattle.yasna_notation.specs.Notation.{IsNotation, ReadsAs}

@@ -1,5 +1,5 @@
 -- What reads do of a type of one tag, under its own and under one that waits.
-use Rattle.std.proofs.Common.{◌≡◌, ℕ, List, [], ◌∷◌, Bool, true, false, Option, Some, None, Result, subst, refl}
+use Rattle.std.proofs.Common.{◌≡◌, ℕ, List, [], ◌∷◌, Bool, true, false, Option, Result, subst, refl}
 use Rattle.yasna_base.specs.declared.error.ASN1Error.{ASN1Error}
 use Rattle.yasna_base.specs.declared.mode.BERMode.{BERMode}
 use Rattle.yasna_base.specs.declared.tag.Tag.{Tag}
@@ -14,7 +14,7 @@ use Rattle.yasna_reader.specs.ByTags.{DecodesByTags}
 use Rattle.yasna_reader.specs.Decodes.{RepeatsKept}
 use Rattle.yasna_reader.specs.Primitive.{ReadsSeen, Reads, NoLevel}
 use Rattle.yasna_reader.specs.Raw.{ReadsRaw}
-use Rattle.yasna_reader.specs.State.{Reading, IsFresh, untagged, Does}
+use Rattle.yasna_reader.specs.State.{Reading, untagged, Does}
 use Rattle.yasna_reader.proofs.ByTags.{IsDecoderByTags, leaf_by_tag, asking_by_tag}
 use Rattle.yasna_reader.proofs.Kept.{seen_repeats_kept, raw_repeats_kept}
 use Rattle.yasna_reader.proofs.RawReads.{raw_decodes}

@@ -92,8 +92,7 @@ impl<T: TagName, const N: u64> DefaultValue<Explicit<T, u64>> for Number<N> {
 }
 
 impl<T: TagName, C: Bound<u64>, const N: u64> DefaultValue<Explicit<T, Bounded<u64, C>>>
-    for Number<N>
-{
+    for Number<N> {
     ghost default = { N };
 
     ghost is = { λ v. nat_eq v N };

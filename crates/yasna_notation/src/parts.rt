@@ -214,7 +214,10 @@ impl<A: Notation, W: Parts> Parts for (Optional<A>, W) {
 
 // Writes a part that may be left out.
 #[inline(always)]
-pub(crate) fn write_optional<A: Notation>(value: &Option<A::Value>, seq: &mut DERWriterSeq) -> ASN1Result<()>
+pub(crate) fn write_optional<A: Notation>(
+    value: &Option<A::Value>,
+    seq: &mut DERWriterSeq,
+) -> ASN1Result<()>
     requires { option_can A.can value.now }
     ensures { WroteParts (option_form (A.form_under None) seq.old.mode value.now) seq.old seq.new result }
 {
@@ -255,8 +258,7 @@ impl<'a, A: Notation, R: Drop, W: PartsBy<R>> PartsBy<(&'a A::Value, R)> for (A,
 }
 
 impl<'a, A: Notation, R: Drop, W: PartsBy<R>> PartsBy<(&'a Option<A::Value>, R)>
-    for (Optional<A>, W)
-{
+    for (Optional<A>, W) {
     ghost held = { λ r. (r.0.now, W.held r.1) };
 
     #[inline(always)]

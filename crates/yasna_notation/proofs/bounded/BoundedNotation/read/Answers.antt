@@ -1,4 +1,4 @@
-use Rattle.std.proofs.Common.{Ok, Err, sym, subst, ◌∙◌}
+use Rattle.std.proofs.Common.{Err, sym, subst, ◌∙◌}
 use Rattle.yasna_base.specs.Coding.{Any}
 use Rattle.yasna_notation.specs.Bounded.{Within}
 use Rattle.yasna_notation.specs.Notation.{ReadsAs}

@@ -15,9 +15,9 @@ returns-in-Ok-read_parts g c =
     let m = part_of c.read_default.new.self in
     let N = ReadsAs n.told n.tags n.retagged n.asks_memory n.under n.any_under in
     let first = default_first {retagged = n.retagged} {asks = n.asks_memory} {B = n.under} {S = n.any_under} d.is g.A.Value.PartialEq.eq d.default
-        g.met.D.DefaultValue.tells g.met.D.DefaultValue.tests g.met.A.Notation.laws g.met.W.Parts.laws c.requires.apart in
+    g.met.D.DefaultValue.tells g.met.D.DefaultValue.tests g.met.A.Notation.laws g.met.W.Parts.laws c.requires.apart in
     let read = subst (λ v. ReadsDefault N _ v s c.read_default.result m) c.default.ensures
-        (default_called _ _ N _ c.default.result s c.read_default.result m c.read_default.ensures (λ p q x h. search rules)) in
+    (default_called _ _ N _ c.default.result s c.read_default.result m c.read_default.ensures (λ p q x h. search rules)) in
     let left = part_of c.read_parts.new.seq in
     first_read w.asks_memory w.parts first s c.requires.fresh c.read_default.result m read c.in-Ok.first c.in-Ok.is
     (Ok c.in-Ok-read_parts.others) left
@@ -32,9 +32,9 @@ returns-in-Err-read_parts g c =
     let m = part_of c.read_default.new.self in
     let N = ReadsAs n.told n.tags n.retagged n.asks_memory n.under n.any_under in
     let first = default_first {retagged = n.retagged} {asks = n.asks_memory} {B = n.under} {S = n.any_under} d.is g.A.Value.PartialEq.eq d.default
-        g.met.D.DefaultValue.tells g.met.D.DefaultValue.tests g.met.A.Notation.laws g.met.W.Parts.laws c.requires.apart in
+    g.met.D.DefaultValue.tells g.met.D.DefaultValue.tests g.met.A.Notation.laws g.met.W.Parts.laws c.requires.apart in
     let read = subst (λ v. ReadsDefault N _ v s c.read_default.result m) c.default.ensures
-        (default_called _ _ N _ c.default.result s c.read_default.result m c.read_default.ensures (λ p q x h. search rules)) in
+    (default_called _ _ N _ c.default.result s c.read_default.result m c.read_default.ensures (λ p q x h. search rules)) in
     let left = part_of c.read_parts.new.seq in
     first_read w.asks_memory w.parts first s c.requires.fresh c.read_default.result m read c.in-Ok.first c.in-Ok.is
     (Err c.in-Err-read_parts.error) left
@@ -49,7 +49,7 @@ returns-in-Err g c =
     let m = part_of c.read_default.new.self in
     let N = ReadsAs n.told n.tags n.retagged n.asks_memory n.under n.any_under in
     let first = default_first {retagged = n.retagged} {asks = n.asks_memory} {B = n.under} {S = n.any_under} d.is g.A.Value.PartialEq.eq d.default
-        g.met.D.DefaultValue.tells g.met.D.DefaultValue.tests g.met.A.Notation.laws g.met.W.Parts.laws c.requires.apart in
+    g.met.D.DefaultValue.tells g.met.D.DefaultValue.tests g.met.A.Notation.laws g.met.W.Parts.laws c.requires.apart in
     let read = subst (λ v. ReadsDefault N _ v s c.read_default.result m) c.default.ensures
-        (default_called _ _ N _ c.default.result s c.read_default.result m c.read_default.ensures (λ p q x h. search rules)) in
+    (default_called _ _ N _ c.default.result s c.read_default.result m c.read_default.ensures (λ p q x h. search rules)) in
     first_failed w.asks_memory w.parts first s c.requires.fresh c.read_default.result m read c.in-Err.error c.in-Err.is

@@ -1,4 +1,4 @@
-use Rattle.std.proofs.Common.{Ok, Err, subst}
+use Rattle.std.proofs.Common.{subst}
 use Rattle.yasna_notation.specs.Notation.{ReadsAs}
 use Rattle.yasna_notation.proofs.Standing.{stands_for, stands_for_none}
 use Rattle.yasna_notation.proofs.defined.AnyNotation.read.Goals as goal

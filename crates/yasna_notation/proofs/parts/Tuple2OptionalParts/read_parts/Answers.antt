@@ -12,9 +12,9 @@ returns-in-Ok-read_parts g c =
     let s = part_of c.args.seq.now in
     let m = part_of c.read_optional.new.self in
     let first = option_first {retagged = n.retagged} {asks = n.asks_memory} {B = n.under} {S = n.any_under} g.met.A.Notation.laws g.met.W.Parts.laws
-        c.requires.apart in
+    c.requires.apart in
     let read = optional_called _ _ (ReadsAs n.told n.tags n.retagged n.asks_memory n.under n.any_under) s c.read_optional.result m
-        c.read_optional.ensures (λ p q x h. search rules) in
+    c.read_optional.ensures (λ p q x h. search rules) in
     let left = part_of c.read_parts.new.seq in
     first_read w.asks_memory w.parts first s c.requires.fresh c.read_optional.result m read c.in-Ok.first c.in-Ok.is
     (Ok c.in-Ok-read_parts.others) left
@@ -27,9 +27,9 @@ returns-in-Err-read_parts g c =
     let s = part_of c.args.seq.now in
     let m = part_of c.read_optional.new.self in
     let first = option_first {retagged = n.retagged} {asks = n.asks_memory} {B = n.under} {S = n.any_under} g.met.A.Notation.laws g.met.W.Parts.laws
-        c.requires.apart in
+    c.requires.apart in
     let read = optional_called _ _ (ReadsAs n.told n.tags n.retagged n.asks_memory n.under n.any_under) s c.read_optional.result m
-        c.read_optional.ensures (λ p q x h. search rules) in
+    c.read_optional.ensures (λ p q x h. search rules) in
     let left = part_of c.read_parts.new.seq in
     first_read w.asks_memory w.parts first s c.requires.fresh c.read_optional.result m read c.in-Ok.first c.in-Ok.is
     (Err c.in-Err-read_parts.error) left
@@ -42,7 +42,7 @@ returns-in-Err g c =
     let s = part_of c.args.seq.now in
     let m = part_of c.read_optional.new.self in
     let first = option_first {retagged = n.retagged} {asks = n.asks_memory} {B = n.under} {S = n.any_under} g.met.A.Notation.laws g.met.W.Parts.laws
-        c.requires.apart in
+    c.requires.apart in
     let read = optional_called _ _ (ReadsAs n.told n.tags n.retagged n.asks_memory n.under n.any_under) s c.read_optional.result m
-        c.read_optional.ensures (λ p q x h. search rules) in
+    c.read_optional.ensures (λ p q x h. search rules) in
     first_failed w.asks_memory w.parts first s c.requires.fresh c.read_optional.result m read c.in-Err.error c.in-Err.is
