@@ -1,0 +1,133 @@
+//! What is said behind a line, and in which encoding rules the whole is.
+
+use std::fmt;
+use yasna_base::mode::BERMode;
+
+/// Why an element is in some encoding rules and not in others.
+#[derive(Clone, Copy)]
+pub enum Remark {
+    /// The length takes more octets than it needs (X.690, 10.1).
+    LongLength,
+    /// The length is indefinite (X.690, 10.1).
+    Indefinite,
+    /// A string is cut into segments (X.690, 10.2).
+    Segments,
+    /// A TRUE isn't all ones (X.690, 11.1).
+    Truth,
+    /// The unused bits of a BIT STRING aren't zeros (X.690, 11.2.1).
+    Padding,
+    /// A SET OF isn't in the order of its elements' octets (X.690, 11.6).
+    Order,
+    /// A time isn't in its one form (X.690, 11.7 and 11.8).
+    Time,
+    /// A time is in no known zone (X.690, 11.7.1).
+    Local,
+    /// A type that has no parts is constructed.
+    HasParts,
+    /// A type that has parts is primitive.
+    HasNoParts,
+    /// A segment isn't of the type that it is to be.
+    Segment,
+    /// A BOOLEAN isn't one octet.
+    Boolean,
+    /// A number has no octets or nine equal bits in front.
+    Number,
+    /// A NULL has contents.
+    Null,
+    /// A BIT STRING has no count of unused bits, or one that doesn't fit.
+    Bits,
+    /// A component of an object identifier is missing, cut off or not in the fewest octets.
+    Components,
+    /// A text has a character that its type hasn't.
+    Characters,
+    /// A text is no time.
+    NoTime,
+}
+
+impl Remark {
+    fn text(self) -> &'static str {
+        match self {
+            Remark::LongLength => "not DER: the length isn't the shortest",
+            Remark::Indefinite => "not DER: indefinite length",
+            Remark::Segments => "not DER: cut into segments",
+            Remark::Truth => "not DER: TRUE isn't FF",
+            Remark::Padding => "not DER: unused bits aren't zeros",
+            Remark::Order => "not DER: a SET OF out of order",
+            Remark::Time => "not DER: the time isn't canonical",
+            Remark::Local => "not DER: local time",
+            Remark::HasParts => "not BER: the type isn't constructed",
+            Remark::HasNoParts => "not BER: the type is constructed",
+            Remark::Segment => "not BER: a segment of another type",
+            Remark::Boolean => "not BER: a BOOLEAN is one octet",
+            Remark::Number => "not BER: a number in too many octets or none",
+            Remark::Null => "not BER: a NULL is empty",
+            Remark::Bits => "not BER: no count of unused bits that fits",
+            Remark::Components => "not BER: a component in too many octets or none",
+            Remark::Characters => "not BER: a character that the type hasn't",
+            Remark::NoTime => "not BER: no time",
+        }
+    }
+
+    // Whether what is so isn't in these rules.
+    fn excludes(self, mode: BERMode) -> bool {
+        match self {
+            Remark::Indefinite | Remark::Segments => mode == BERMode::Der,
+            Remark::LongLength
+            | Remark::Truth
+            | Remark::Padding
+            | Remark::Order
+            | Remark::Time
+            | Remark::Local => mode != BERMode::Ber,
+            _ => true,
+        }
+    }
+}
+
+impl fmt::Display for Remark {
+    fn fmt<W: fmt::Write>(&self, f: &mut fmt::Formatter<W>) -> fmt::Result {
+        f.write_str(self.text())
+    }
+}
+
+/// In which encoding rules elements are, as far as can be told without a schema.
+#[derive(Clone, Copy)]
+pub struct Verdict {
+    ber: bool,
+    der: bool,
+    cer: bool,
+}
+
+impl Verdict {
+    /// That of no elements.
+    pub fn new() -> Verdict {
+        Verdict {
+            ber: true,
+            der: true,
+            cer: true,
+        }
+    }
+
+    /// Less the rules that this excludes.
+    pub fn note(&mut self, remark: Remark) {
+        self.ber = self.ber && !remark.excludes(BERMode::Ber);
+        self.der = self.der && !remark.excludes(BERMode::Der);
+        self.cer = self.cer && !remark.excludes(BERMode::Cer);
+    }
+
+    /// Less CER.
+    pub fn exclude_cer(&mut self) {
+        self.cer = false;
+    }
+}
+
+impl fmt::Display for Verdict {
+    fn fmt<W: fmt::Write>(&self, f: &mut fmt::Formatter<W>) -> fmt::Result {
+        f.write_str(match (self.ber, self.der, self.cer) {
+            (false, _, _) => "none",
+            (true, false, false) => "BER",
+            (true, true, false) => "BER, DER",
+            (true, false, true) => "BER, CER",
+            (true, true, true) => "BER, DER, CER",
+        })
+    }
+}

@@ -1,0 +1,99 @@
+//! An input from its text to its lines.
+
+use crate::arguments::Options;
+use crate::fault::{Expected, Fault};
+use crate::input::{Block, Form, PemReader, decode_hex, form_of};
+use crate::listing::list_input;
+use crate::printer::Printer;
+use crate::value::{Style, write_quoted};
+use std::io::Write;
+use yasna_base::error::ASN1ErrorKind;
+use yasna_base::mode::BERMode;
+
+// Lists the elements of bytes, and in which encoding rules they are.
+fn show_bytes<W: Write>(
+    out: &mut W,
+    mode: BERMode,
+    style: Style<'_>,
+    bytes: &[u8],
+) -> Result<(), Fault> {
+    let mut printer = Printer::new(out, style);
+    list_input(bytes, mode, &mut printer)?;
+    printer.finish()
+}
+
+fn show_block<W: Write>(
+    out: &mut W,
+    mode: BERMode,
+    style: Style<'_>,
+    block: &Block<'_>,
+) -> Result<(), Fault> {
+    let count = block.bytes.len();
+    write!(out, "input: PEM ")?;
+    write_quoted(out, block.label)?;
+    writeln!(out, ", {count} bytes")?;
+    show_bytes(out, mode, style, block.bytes.as_slice())
+}
+
+fn missing(offset: usize, expected: Expected) -> Fault {
+    Fault::Broken {
+        offset,
+        kind: ASN1ErrorKind::Eof,
+        expected,
+    }
+}
+
+fn show_blocks<W: Write>(
+    out: &mut W,
+    mode: BERMode,
+    style: Style<'_>,
+    input: &[u8],
+) -> Result<(), Fault> {
+    let mut reader = PemReader::new(style.alloc);
+    let mut offset: usize = 0;
+    let mut is_any = false;
+    for line in input.split(|octet| *octet == b'\n') {
+        offset = offset.saturating_add(line.len());
+        if let Some(block) = reader.push(line, offset)? {
+            show_block(out, mode, style, &block)?;
+            is_any = true;
+        }
+        offset = offset.saturating_add(1);
+    }
+    if reader.is_open() {
+        return Err(missing(input.len(), Expected::BlockEnd));
+    }
+    if is_any {
+        Ok(())
+    } else {
+        Err(missing(input.len(), Expected::Block))
+    }
+}
+
+/// Lists the elements of an input.
+pub fn show<W: Write>(
+    out: &mut W,
+    options: &Options<'_>,
+    style: Style<'_>,
+    input: &[u8],
+) -> Result<(), Fault> {
+    let mode = options.mode;
+    let form = match options.form {
+        Some(form) => form,
+        None => form_of(input),
+    };
+    match form {
+        Form::Pem => show_blocks(out, mode, style, input),
+        Form::Hex => {
+            let bytes = decode_hex(style.alloc, input)?;
+            let count = bytes.len();
+            writeln!(out, "input: hexadecimal, {count} bytes")?;
+            show_bytes(out, mode, style, bytes.as_slice())
+        }
+        Form::Bytes => {
+            let count = input.len();
+            writeln!(out, "input: {count} bytes")?;
+            show_bytes(out, mode, style, input)
+        }
+    }
+}
