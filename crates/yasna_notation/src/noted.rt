@@ -71,8 +71,7 @@ impl<T, N, V, I> NotedBy<T, N, V, I> {
 }
 
 impl<T: Defined<Notation = N>, N: Notation<Value = V, Inner = I>, V: Drop, I> BERDecodable
-    for NotedBy<T, N, V, I>
-{
+    for NotedBy<T, N, V, I> {
     ghost encodes = { λ m n v b. N.under None m n (T.value_of v.value) b };
 
     ghost elements = { N.any_under None };
@@ -93,8 +92,7 @@ impl<T: Defined<Notation = N>, N: Notation<Value = V, Inner = I>, V: Drop, I> BE
 }
 
 impl<T: Defined<Notation = N>, N: Notation<Value = V, Inner = I>, V: Drop, I> DEREncodable
-    for NotedBy<T, N, V, I>
-{
+    for NotedBy<T, N, V, I> {
     ghost form = { λ m v. N.form_under None m (T.value_of v.value) };
 
     ghost nest = { λ m v. N.nest m (T.value_of v.value) };
@@ -108,8 +106,7 @@ impl<T: Defined<Notation = N>, N: Notation<Value = V, Inner = I>, V: Drop, I> DE
 }
 
 impl<T: Defined<Notation = N>, N: Notation<Value = V, Inner = I>, V: Drop, I> DERExact
-    for NotedBy<T, N, V, I>
-{
+    for NotedBy<T, N, V, I> {
     ghost fits = { λ m n v. N.fits m n (T.value_of v.value) };
 
     ghost exact = { exact_along (λ v. T.value_of v.value) (N.laws T.apart).exact };
