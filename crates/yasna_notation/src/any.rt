@@ -18,6 +18,8 @@ use yasna_writer::DERWriter;
 impl Notation for TaggedDerValue {
     type Value = TaggedDerValue;
 
+    type Inner = ();
+
     ghost told = { false };
 
     ghost tags = { [] };

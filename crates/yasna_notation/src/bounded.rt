@@ -33,6 +33,8 @@ pub struct Bounded<N, C> {
 impl<N: Notation, C: Bound<N>> Notation for Bounded<N, C> {
     type Value = N::Value;
 
+    type Inner = N::Inner;
+
     ghost told = { N.told };
 
     ghost tags = { N.tags };

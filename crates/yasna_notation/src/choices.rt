@@ -32,6 +32,9 @@ pub trait Alternatives {
     /// What its values are in Rust.
     type Value: Drop;
 
+    /// The types of values that stand inside its own, which the type of its own doesn't name: bounds name them.
+    type Inner;
+
     // The tags that encodings begin with.
     ghost tags: { List Tag };
 
@@ -83,6 +86,8 @@ pub trait Alternatives {
 impl<A: Notation> Alternatives for (A,) {
     type Value = A::Value;
 
+    type Inner = A::Inner;
+
     ghost tags = { A.tags };
 
     ghost apart = { (A.told && A.apart) };
@@ -125,6 +130,8 @@ impl<A: Notation> Alternatives for (A,) {
 
 impl<A: Notation, W: Alternatives> Alternatives for (A, W) {
     type Value = Either<A::Value, W::Value>;
+
+    type Inner = (A::Inner, W::Inner);
 
     ghost tags = { A.tags ++ W.tags };
 
@@ -186,6 +193,8 @@ pub struct Choice<A> {
 
 impl<A: Alternatives> Notation for Choice<A> {
     type Value = A::Value;
+
+    type Inner = A::Inner;
 
     ghost tags = { A.tags };
 

@@ -120,6 +120,8 @@ where
 {
     type Values = (A::Value, W::Values);
 
+    type Inner = (A::Inner, W::Inner);
+
     ghost told = { true };
 
     ghost tags = { A.tags ++ W.tags };

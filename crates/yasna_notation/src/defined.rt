@@ -32,6 +32,8 @@ pub trait Defined: Sized + Drop {
 impl<T: Defined> Notation for T {
     type Value = T;
 
+    type Inner = (<T::Notation as Notation>::Value, <T::Notation as Notation>::Inner);
+
     ghost told = { T.Notation.told };
 
     ghost tags = { T.Notation.tags };

@@ -23,6 +23,8 @@ pub struct Explicit<T, N> {
 impl<T: TagName, N: Notation> Notation for Explicit<T, N> {
     type Value = N::Value;
 
+    type Inner = N::Inner;
+
     ghost tags = { T.tag ∷ [] };
 
     ghost apart = { N.apart };

@@ -19,6 +19,8 @@ pub struct Implicit<T, N> {
 impl<T: TagName, N: Notation> Notation for Implicit<T, N> {
     type Value = N::Value;
 
+    type Inner = N::Inner;
+
     ghost tags = { T.tag ∷ [] };
 
     ghost apart = { (N.retagged && N.apart) };

@@ -22,6 +22,8 @@ pub struct Last<N> {
 impl<A: Notation> Parts for Last<A> {
     type Values = Option<A::Value>;
 
+    type Inner = A::Inner;
+
     ghost told = { A.told };
 
     ghost tags = { A.tags ++ [] };

@@ -28,6 +28,8 @@ pub struct SequenceOf<N> {
 impl<N: Notation> Notation for SequenceOf<N> {
     type Value = Vec<N::Value>;
 
+    type Inner = N::Inner;
+
     ghost tags = { sequence_tag ∷ [] };
 
     ghost apart = { N.apart };

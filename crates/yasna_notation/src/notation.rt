@@ -21,6 +21,9 @@ pub trait Notation {
     /// What its values are in Rust.
     type Value: Drop;
 
+    /// The types of values that stand inside its own, which the type of its own doesn't name: bounds name them.
+    type Inner;
+
     // Whether it is told by which tags its encodings begin, and these.
     ghost told: { Bool } = { true };
 

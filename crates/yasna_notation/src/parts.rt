@@ -23,6 +23,9 @@ pub trait Parts {
     /// What their values are in Rust: pairs that end in `()` too.
     type Values: Drop;
 
+    /// The types of values that stand inside its own, which the type of its own doesn't name: bounds name them.
+    type Inner;
+
     // Whether it is told by which tags they begin, up to the first that is always there, and these.
     ghost told: { Bool };
 
@@ -70,6 +73,8 @@ pub trait Parts {
 impl Parts for () {
     type Values = ();
 
+    type Inner = ();
+
     ghost told = { true };
 
     ghost tags = { [] };
@@ -107,6 +112,8 @@ impl Parts for () {
 
 impl<A: Notation, W: Parts> Parts for (A, W) {
     type Values = (A::Value, W::Values);
+
+    type Inner = (A::Inner, W::Inner);
 
     ghost told = { A.told };
 
@@ -157,6 +164,8 @@ pub struct Optional<N> {
 
 impl<A: Notation, W: Parts> Parts for (Optional<A>, W) {
     type Values = (Option<A::Value>, W::Values);
+
+    type Inner = (A::Inner, W::Inner);
 
     ghost told = { true };
 

@@ -28,6 +28,8 @@ pub struct Sequence<P> {
 impl<P: Parts> Notation for Sequence<P> {
     type Value = P::Values;
 
+    type Inner = P::Inner;
+
     ghost tags = { sequence_tag ∷ [] };
 
     ghost apart = { P.apart };

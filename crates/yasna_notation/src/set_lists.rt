@@ -29,6 +29,8 @@ pub struct SetOf<N> {
 impl<N: Notation> Notation for SetOf<N> {
     type Value = Vec<N::Value>;
 
+    type Inner = N::Inner;
+
     ghost tags = { set_tag ∷ [] };
 
     ghost apart = { N.apart };

@@ -28,6 +28,8 @@ use yasna_writer::DERWriter;
 impl Notation for bool {
     type Value = bool;
 
+    type Inner = ();
+
     ghost tags = { boolean_tag ∷ [] };
 
     ghost under = { λ u m n v b. Primitively IsBoolean n m (tag_or u boolean_tag) v b };
@@ -70,6 +72,8 @@ impl Notation for bool {
 
 impl Notation for () {
     type Value = ();
+
+    type Inner = ();
 
     ghost tags = { null_tag ∷ [] };
 
@@ -114,6 +118,8 @@ impl Notation for () {
 impl Notation for i64 {
     type Value = i64;
 
+    type Inner = ();
+
     ghost tags = { integer_tag ∷ [] };
 
     ghost under = { λ u m n v b. Primitively (IsSigned w64) n m (tag_or u integer_tag) v b };
@@ -156,6 +162,8 @@ impl Notation for i64 {
 
 impl Notation for i32 {
     type Value = i32;
+
+    type Inner = ();
 
     ghost tags = { integer_tag ∷ [] };
 
@@ -200,6 +208,8 @@ impl Notation for i32 {
 impl Notation for u64 {
     type Value = u64;
 
+    type Inner = ();
+
     ghost tags = { integer_tag ∷ [] };
 
     ghost under = { λ u m n v b. Primitively (IsUnsigned 64) n m (tag_or u integer_tag) v b };
@@ -242,6 +252,8 @@ impl Notation for u64 {
 
 impl Notation for u32 {
     type Value = u32;
+
+    type Inner = ();
 
     ghost tags = { integer_tag ∷ [] };
 
@@ -289,6 +301,8 @@ pub struct Enumerated;
 impl Notation for Enumerated {
     type Value = i64;
 
+    type Inner = ();
+
     ghost tags = { enumerated_tag ∷ [] };
 
     ghost under = { λ u m n v b. Primitively (IsSigned w64) n m (tag_or u enumerated_tag) v b };
@@ -331,6 +345,8 @@ impl Notation for Enumerated {
 
 impl Notation for ObjectIdentifier {
     type Value = ObjectIdentifier;
+
+    type Inner = ();
 
     ghost tags = { oid_tag ∷ [] };
 
@@ -377,6 +393,8 @@ pub struct BigInteger;
 
 impl Notation for BigInteger {
     type Value = (Vec<u8>, bool);
+
+    type Inner = ();
 
     ghost tags = { integer_tag ∷ [] };
 

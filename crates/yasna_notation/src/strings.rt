@@ -29,6 +29,8 @@ use yasna_writer::DERWriter;
 impl Notation for Vec<u8> {
     type Value = Vec<u8>;
 
+    type Inner = ();
+
     ghost tags = { octets_tag ∷ [] };
 
     ghost under = { λ u m n v b. IsOctets n m (tag_or u octets_tag) (items_of v) b };
@@ -75,6 +77,8 @@ pub struct BitString;
 impl Notation for BitString {
     type Value = (Vec<u8>, usize);
 
+    type Inner = ();
+
     ghost tags = { bits_tag ∷ [] };
 
     ghost under = { λ u m n v b. IsBits n m (tag_or u bits_tag) (bits_in v) b };
@@ -117,6 +121,8 @@ impl Notation for BitString {
 
 impl Notation for String {
     type Value = String;
+
+    type Inner = ();
 
     ghost tags = { utf8_tag ∷ [] };
 
@@ -164,6 +170,8 @@ pub struct PrintableString;
 impl Notation for PrintableString {
     type Value = String;
 
+    type Inner = ();
+
     ghost tags = { printable_tag ∷ [] };
 
     ghost under = { λ u m n v b. IsStringOf (IsUtf8In InPrintable) n m (tag_or u printable_tag) (characters v) b };
@@ -209,6 +217,8 @@ pub struct Ia5String;
 
 impl Notation for Ia5String {
     type Value = String;
+
+    type Inner = ();
 
     ghost tags = { ia5_tag ∷ [] };
 
@@ -256,6 +266,8 @@ pub struct NumericString;
 impl Notation for NumericString {
     type Value = String;
 
+    type Inner = ();
+
     ghost tags = { numeric_tag ∷ [] };
 
     ghost under = { λ u m n v b. IsStringOf (IsUtf8In InNumeric) n m (tag_or u numeric_tag) (characters v) b };
@@ -301,6 +313,8 @@ pub struct VisibleString;
 
 impl Notation for VisibleString {
     type Value = String;
+
+    type Inner = ();
 
     ghost tags = { visible_tag ∷ [] };
 

@@ -22,6 +22,8 @@ use yasna_writer::DERWriter;
 impl Notation for UTCTime {
     type Value = UTCTime;
 
+    type Inner = ();
+
     ghost tags = { utc_time_tag ∷ [] };
 
     ghost under = { λ u m n v b. IsStringOf SaysUtcTime n m (tag_or u utc_time_tag) (utc_of v) b };
@@ -64,6 +66,8 @@ impl Notation for UTCTime {
 
 impl Notation for GeneralizedTime {
     type Value = GeneralizedTime;
+
+    type Inner = ();
 
     ghost tags = { generalized_time_tag ∷ [] };
 
