@@ -49,11 +49,17 @@ impl Defined for Validity {
     ghost value_of = { λ v. (v.not_before, (v.not_after, tt)) };
 
     fn from_value((not_before, (not_after, ())): (Time, (Time, ()))) -> Validity {
-        Validity { not_before, not_after }
+        Validity {
+            not_before,
+            not_after,
+        }
     }
 
     fn write_value(&self, writer: DERWriter<'_>) -> ASN1Result<()> {
-        Sequence::<(Time, (Time, ()))>::write_fields((&self.not_before, (&self.not_after, ())), writer)
+        Sequence::<(Time, (Time, ()))>::write_fields(
+            (&self.not_before, (&self.not_after, ())),
+            writer,
+        )
     }
 
     ghost apart = { refl };
