@@ -32,7 +32,7 @@ pub trait Alternatives {
     /// What its values are in Rust.
     type Value: Drop;
 
-    /// The types that it is made of. No code uses it: each impl has to name the types that come with its own.
+    /// The types of values that stand inside its own, which the type of its own doesn't name: bounds name them.
     type Inner;
 
     // The tags that encodings begin with.

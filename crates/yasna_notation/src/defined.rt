@@ -33,11 +33,8 @@ impl<T: Defined> Notation for T {
     type Value = T;
 
     type Inner = (
-        T::Notation,
-        (
-            <T::Notation as Notation>::Value,
-            <T::Notation as Notation>::Inner,
-        ),
+        <T::Notation as Notation>::Value,
+        <T::Notation as Notation>::Inner,
     );
 
     ghost told = { T.Notation.told };

@@ -36,7 +36,7 @@ pub use implicit_tags::Implicit;
 pub use last::Last;
 pub use lists::SequenceOf;
 pub use notation::Notation;
-pub use noted::{Noted, NotedBy};
+pub use noted::Noted;
 pub use parts::{Optional, Parts, PartsBy};
 pub use sequences::Sequence;
 pub use set_lists::SetOf;

@@ -23,7 +23,7 @@ pub trait Parts {
     /// What their values are in Rust: pairs that end in `()` too.
     type Values: Drop;
 
-    /// The types that it is made of. No code uses it: each impl has to name the types that come with its own.
+    /// The types of values that stand inside its own, which the type of its own doesn't name: bounds name them.
     type Inner;
 
     // Whether it is told by which tags they begin, up to the first that is always there, and these.

@@ -1,0 +1,72 @@
+//! Extensions (RFC 5280, 4.1).
+//!
+//! ```text
+//! Extensions ::= SEQUENCE SIZE (1..MAX) OF Extension
+//!
+//! Extension ::= SEQUENCE {
+//!     extnID     OBJECT IDENTIFIER,
+//!     critical   BOOLEAN DEFAULT FALSE,
+//!     extnValue  OCTET STRING }
+//! ```
+ghost use Rattle.std.specs.Prelude.{◌≡◌, refl};
+
+use yasna::models::ObjectIdentifier;
+use yasna::{ASN1Result, DERWriter};
+use yasna_notation::{Bounded, Default, Defined, False, NotEmpty, Notation, Sequence, SequenceOf};
+
+type ExtensionParts = (ObjectIdentifier, (Default<bool, False>, (Vec<u8>, ())));
+
+/// An extension: its name, whether one who doesn't know it has to refuse, and the octets that hold its value.
+#[derive(Drop)]
+pub struct Extension {
+    pub extn_id: ObjectIdentifier,
+    pub critical: bool,
+    pub extn_value: Vec<u8>,
+}
+
+impl Defined for Extension {
+    type Notation = Sequence<ExtensionParts>;
+
+    ghost value_of = { λ v. (v.extn_id, (v.critical, (v.extn_value, tt))) };
+
+    fn from_value(
+        (extn_id, (critical, (extn_value, ()))): (ObjectIdentifier, (bool, (Vec<u8>, ()))),
+    ) -> Extension {
+        Extension {
+            extn_id,
+            critical,
+            extn_value,
+        }
+    }
+
+    fn write_value(&self, writer: DERWriter<'_>) -> ASN1Result<()> {
+        Sequence::<ExtensionParts>::write_fields(
+            (&self.extn_id, (&self.critical, (&self.extn_value, ()))),
+            writer,
+        )
+    }
+
+    ghost apart = { refl };
+}
+
+/// Extensions, as a certificate, a revocation list or an entry of one has them.
+#[derive(Drop)]
+pub struct Extensions {
+    pub extensions: Vec<Extension>,
+}
+
+impl Defined for Extensions {
+    type Notation = Bounded<SequenceOf<Extension>, NotEmpty>;
+
+    ghost value_of = { λ v. v.extensions };
+
+    fn from_value(extensions: Vec<Extension>) -> Extensions {
+        Extensions { extensions }
+    }
+
+    fn write_value(&self, writer: DERWriter<'_>) -> ASN1Result<()> {
+        <Bounded<SequenceOf<Extension>, NotEmpty> as Notation>::write(&self.extensions, writer)
+    }
+
+    ghost apart = { refl };
+}

@@ -1,0 +1,12 @@
+use Rattle.std.proofs.Common.{None, subst}
+use Rattle.yasna_reader.specs.Decodes.{Decodes}
+use Rattle.yasna_notation.proofs.noted.NotedBERDecodable.decode_ber.Goals as goal
+
+pub returns-in-Err-clause-decodes : goal.returns-in-Err-clause-decodes
+returns-in-Err-clause-decodes g c kept =
+    let n = g.T.Notation.Notation in
+    let s = c.args.reader.now in
+    let left = c.read.new.reader in
+    subst
+        (λ r. Decodes n.asks_memory (λ m k v b. n.under None m k (g.T.Defined.value_of v) b) (n.any_under None) s r left)
+        c.in-Err.is (c.read.ensures.alone (kept, c.requires)).decodes
