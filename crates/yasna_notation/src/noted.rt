@@ -1,5 +1,5 @@
 //! Types that a module defines have the traits, by a shape of their own.
-ghost use Rattle.std.specs.Prelude.{◌≡◌, None, refl};
+ghost use Rattle.std.specs.Prelude.{◌≡◌, None};
 ghost use Rattle.yasna_base.proofs.Coding.{along};
 ghost use Rattle.yasna_base.proofs.Exact.{exact_along};
 
