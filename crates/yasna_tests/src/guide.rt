@@ -9,6 +9,7 @@ use yasna_guide::any::{read_algorithm, write_algorithm};
 use yasna_guide::choice::{Name, read_name, write_name};
 use yasna_guide::defaults::{BasicConstraints, read_constraints, write_constraints};
 use yasna_guide::errors::reason;
+use yasna_guide::extensions::{extension_from_ber, rewritten_extension};
 use yasna_guide::first::{decode_report, encode_report};
 use yasna_guide::implicit::{read_accuracy, write_accuracy};
 use yasna_guide::kept::number_or_zero;
@@ -336,5 +337,23 @@ fn errors(rt: HostRuntime) -> Result<(), Fail> {
     assert!(rt; matches!(refused, Err(StoreError::NoSuchEntry)));
     let refused = entry_of_der(alloc, &store, &[2, 1, 1, 0]);
     assert!(rt; matches!(refused, Err(StoreError::Encoding(_))));
+    Ok(())
+}
+
+#[test]
+fn extensions(rt: HostRuntime) -> Result<(), Fail> {
+    let alloc = rt.alloc();
+    let form = [48, 12, 6, 3, 85, 29, 19, 1, 1, 255, 4, 2, 48, 0];
+    assert_eq!(rt;
+        rewritten_extension(alloc, &form)?.as_slice(),
+        form.as_slice()
+    );
+    let extension = extension_from_ber(alloc, &form)?;
+    assert!(rt; extension.critical);
+    assert_eq!(rt; extension.value.as_slice(), [48, 0].as_slice());
+    // FALSE is left out in DER, and may stand there in BER
+    let written = [48, 12, 6, 3, 85, 29, 19, 1, 1, 0, 4, 2, 48, 0];
+    assert!(rt; !extension_from_ber(alloc, &written)?.critical);
+    assert!(rt; rewritten_extension(alloc, &written).is_err());
     Ok(())
 }
