@@ -1,10 +1,11 @@
 -- That types which are made as the notation says keep the laws of writing, by which what BER reads is written anew in DER.
-use Rattle.std.proofs.Common.{◌≡◌, ℕ, List, Bool, true, Option, Some, Vec, String}
+use Rattle.std.proofs.Common.{◌≡◌, ℕ, List, Bool, true, Option, Some, Vec, String, sym, ◌∙◌}
 use Rattle.std.proofs.lemmas.Bool.{and_parts}
 use Rattle.std.specs.Prelude.{◌&&◌}
 use Rattle.std.specs.Global.{Global}
 use Rattle.std.specs.List.{AllByRecursion}
 use Rattle.yasna_base.specs.declared.tag.Tag.{Tag}
+use Rattle.yasna_base.specs.AnyOrder.{SameSetOf, InSomeOrder, sorted_set_of_form}
 use Rattle.yasna_base.specs.Canonical.{Always, IsWritten, enclosed_form, enclosed_nest}
 use Rattle.yasna_base.specs.Choice.{EitherOf, SameEither, either_form, either_nest, either_can}
 use Rattle.yasna_base.specs.Default.{TellsDefault, DefaultOf, default_form, default_nest, default_can}
@@ -13,14 +14,17 @@ use Rattle.yasna_base.specs.Grammar.{Grammar, Members, Form, Nest}
 use Rattle.yasna_base.specs.Identifier.{AnyTag}
 use Rattle.yasna_base.specs.Optional.{OptionOf, SameOption, option_form, option_nest, option_can}
 use Rattle.yasna_base.specs.Pieces.{Each}
-use Rattle.yasna_base.specs.Sequence.{PartOf, SamePart, part_form, part_nest, part_can}
+use Rattle.yasna_base.specs.Sequence.{PartOf, NoParts, SamePart, SameNothing, part_form, part_nest, part_can, nothing_form, nothing_nest}
 use Rattle.yasna_base.specs.SequenceOf.{IsListOf, elements_form, elements_nest}
+use Rattle.yasna_base.specs.Set.{IsSetOf}
+use Rattle.yasna_base.specs.SetWriting.{set_of_nest}
 use Rattle.yasna_base.specs.Text.{IsStringOf, IsUtf8In, InUtf8, characters, utf8_form, utf8_nest}
+use Rattle.yasna_base.proofs.AnyOrder.{any_set_of_written}
 use Rattle.yasna_base.proofs.Canonical.{written_along, written_where, written_always, enclosed_written}
 use Rattle.yasna_base.proofs.ChoiceWriting.{choice_written}
 use Rattle.yasna_base.proofs.Default.{default_alike, default_written}
 use Rattle.yasna_base.proofs.Optional.{option_written}
-use Rattle.yasna_base.proofs.Sequence.{part_written}
+use Rattle.yasna_base.proofs.Sequence.{no_part_written, part_written}
 use Rattle.yasna_base.proofs.SequenceOf.{elements_written}
 use Rattle.yasna_base.proofs.Texts.{class_written, string_text}
 use Rattle.yasna_times.specs.declared.models.generalized_time.GeneralizedTime.{GeneralizedTime}
@@ -30,6 +34,7 @@ use Rattle.yasna_times.specs.Models.{utc_of, moment_of}
 use Rattle.yasna_times.specs.UtcTime.{SaysUtcTime, utc_time_form, utc_time_nest}
 use Rattle.yasna_times.proofs.TimeLaws.{utc_time_keeps, generalized_time_keeps}
 use Rattle.yasna_times.proofs.Times.{general_moment}
+use Rattle.yasna_notation.specs.Bounded.{Within}
 use Rattle.yasna_notation.specs.Choices.{sides}
 use Rattle.yasna_notation.specs.Notation.{IsNotation}
 use Rattle.yasna_notation.specs.Parts.{all_told, is_told}
@@ -68,6 +73,32 @@ pub list_under : {A : Type 0} {E : A → A → Type 0} {B : Grammar A} {form : F
     (λ (v : Vec A Global). AllByRecursion Can v.items)
 list_under {A} laws t not_end range = written_along (λ (v : Vec A Global). v.items) (enclosed_written t range (elements_written laws))
 
+-- a SET OF
+pub set_of_under : {A : Type 0} {E : A → A → Type 0} {B : Grammar A} {form : Form A} {nest : Nest A} {Can : A → Type 0} → IsWritten E B form nest Can →
+    IsWrittenUnderTags (λ (v w : Vec A Global). SameSetOf E v.items w.items) (λ t m n (v : Vec A Global) b. InSomeOrder (IsSetOf B t) m n v.items b)
+    (λ t m (v : Vec A Global). sorted_set_of_form form t m v.items) (λ m (v : Vec A Global). set_of_nest nest m v.items)
+    (λ (v : Vec A Global). AllByRecursion Can v.items)
+set_of_under {A} laws t not_end range = written_along (λ (v : Vec A Global). v.items) (any_set_of_written t range laws)
+
+module _ {A : Type 0} {E : A → A → Type 0} (passes : A → Bool) (alike : (v w : A) → E v w → passes v ≡ passes w) where
+  -- the values within a bound
+  pub within_written : {B : Grammar A} {form : Form A} {nest : Nest A} {Can : A → Type 0} → IsWritten E B form nest Can →
+      IsWritten E (Within passes B) form nest (λ v. Can v × (passes v ≡ true))
+  within_written x = record {
+    has = record {
+      in_bytes = λ m v can short. x.has.in_bytes m v can.0 short;
+      holds = λ m o n v h can level short. (x.has.holds m o n v h can.0 level short, can.1);
+      only = λ m n v b h p. let y = x.has.only m n v b h p.0 in (y.0, (y.1, p.1), y.2);
+    };
+    any = λ n v b p. let y = x.any n v b p.0 in ((y.0, p.1), y.1);
+    same = λ m v w e. let y = x.same m v w e in (y.0, λ can. (y.1 can.0, sym (alike v w e) ∙ can.1), y.2);
+  }
+
+  pub within_under : (B : Option Tag → Grammar A) (form : Option Tag → Form A) {nest : Nest A} {Can : A → Type 0} →
+      IsWrittenUnderTags E (λ t. B (Some t)) (λ t. form (Some t)) nest Can →
+      IsWrittenUnderTags E (λ t. Within passes (B (Some t))) (λ t. form (Some t)) nest (λ v. Can v × (passes v ≡ true))
+  within_under B form laws t not_end range = within_written (laws t not_end range)
+
 -- a tag in place of the type's own
 module _ {A : Type 0} {E : A → A → Type 0} (B : Option Tag → Grammar A) (form : Option Tag → Form A) {nest : Nest A} {Can : A → Type 0}
     {apart retagged : Bool}
@@ -105,6 +136,15 @@ module _ {A V : Type 0} {E : A → A → Type 0} {F : V → V → Type 0} {B : G
       let x = and_parts told (none && (a && b)) all in
       let z = and_parts a b (and_parts none (a && b) x.1).1 in
       written_along sides (choice_written (first z.0) (rest z.1))
+
+-- a part at the end that may be left out
+pub last_part_writes : {A : Type 0} {E : A → A → Type 0} {B : Grammar A} {f : Form A} {k : Nest A} {c : A → Type 0} → IsWritten E B f k c →
+    IsWritten (λ v w. SamePart (SameOption E) SameNothing (v, tt) (w, tt)) (λ m n v b. PartOf (OptionOf B) NoParts m n (v, tt) b)
+    (λ m v. part_form (option_form f) nothing_form m (v, tt)) (λ m v. part_nest (option_nest k) nothing_nest m (v, tt))
+    (λ v. part_can (option_can c) Always (v, tt {0}))
+last_part_writes {A} laws =
+    let alone : Option A → Option A × Unit {0} = λ v. (v, tt) in
+    written_along alone (part_written (option_written laws) no_part_written)
 
 -- the last type of a CHOICE
 pub last_writes : {A : Type 0} {E : A → A → Type 0} {B : Grammar A} {form : Form A} {nest : Nest A} {Can : A → Type 0} {a : Bool} →

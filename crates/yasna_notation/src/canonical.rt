@@ -14,6 +14,7 @@ ghost use Rattle.yasna_base.specs.Null.{null_tag};
 ghost use Rattle.yasna_base.specs.Octets.{octets_tag};
 ghost use Rattle.yasna_base.specs.Oid.{oid_tag};
 ghost use Rattle.yasna_base.specs.Sequence.{sequence_tag};
+ghost use Rattle.yasna_base.specs.Set.{set_tag};
 ghost use Rattle.yasna_base.specs.Text.{InUtf8, InPrintable, InIa5, InNumeric, InVisible};
 ghost use Rattle.yasna_base.specs.Text.{utf8_tag, printable_tag, ia5_tag, numeric_tag, visible_tag};
 ghost use Rattle.yasna_base.proofs.BigInteger.{big_integer_written};
@@ -29,19 +30,22 @@ ghost use Rattle.yasna_base.proofs.Sequence.{no_part_written};
 ghost use Rattle.yasna_bytes.specs.Contents.{big_integer_in};
 ghost use Rattle.yasna_times.specs.UtcTime.{utc_time_tag};
 ghost use Rattle.yasna_times.specs.GeneralizedTime.{generalized_time_tag};
-ghost use Rattle.yasna_notation.specs.Canonical.{text_under, class_under, utc_under, general_under, list_under, implicit_under, part_writes, option_writes, default_writes, either_writes, last_writes, defined_under};
+ghost use Rattle.yasna_notation.specs.Canonical.{text_under, class_under, utc_under, general_under, list_under, set_of_under, within_written, within_under, implicit_under, part_writes, option_writes, default_writes, last_part_writes, either_writes, last_writes, defined_under};
 ghost use Rattle.yasna_notation.specs.Laws.{items_of, never_retagged};
 
+use crate::bounded::{Bound, Bounded};
 use crate::choices::{Alternatives, Choice};
 use crate::defaults::{Default, DefaultValue};
 use crate::defined::Defined;
 use crate::explicit_tags::Explicit;
 use crate::implicit_tags::Implicit;
+use crate::last::Last;
 use crate::lists::SequenceOf;
 use crate::notation::Notation;
 use crate::noted::Noted;
 use crate::parts::{Optional, Parts};
 use crate::sequences::Sequence;
+use crate::set_lists::SetOf;
 use crate::simple::{BigInteger, Enumerated};
 use crate::strings::{Ia5String, NumericString, PrintableString, VisibleString};
 use crate::tag_names::TagName;
@@ -189,6 +193,18 @@ impl<N: CanonicalNotation> CanonicalNotation for SequenceOf<N> {
     ghost written_under = { λ a _. list_under (N.written a) };
 }
 
+impl<N: CanonicalNotation> CanonicalNotation for SetOf<N> {
+    ghost written = { λ a. set_of_under (N.written a) set_tag (not_end 17 (λ e. omega arith)) (omega arith) };
+
+    ghost written_under = { λ a _. set_of_under (N.written a) };
+}
+
+impl<N: CanonicalNotation, C: Bound<N>> CanonicalNotation for Bounded<N, C> {
+    ghost written = { λ a. within_written C.passes C.alike (N.written a) };
+
+    ghost written_under = { λ a b. within_under C.passes C.alike N.under N.form_under (N.written_under a b) };
+}
+
 impl CanonicalParts for () {
     ghost written = { λ _. no_part_written };
 }
@@ -207,6 +223,10 @@ where
     A::Value: Eq,
 {
     ghost written = { λ a. default_writes A.written W.written D.is D.default D.tells A.told W.told (share_none A.tags (end_tag ∷ W.tags)) A.laws a };
+}
+
+impl<A: CanonicalNotation> CanonicalParts for Last<A> {
+    ghost written = { λ a. last_part_writes (A.written a) };
 }
 
 impl<P: CanonicalParts> CanonicalNotation for Sequence<P> {
