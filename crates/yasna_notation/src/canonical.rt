@@ -42,7 +42,7 @@ use crate::implicit_tags::Implicit;
 use crate::last::Last;
 use crate::lists::SequenceOf;
 use crate::notation::Notation;
-use crate::noted::NotedBy;
+use crate::noted::Noted;
 use crate::parts::{Optional, Parts};
 use crate::sequences::Sequence;
 use crate::set_lists::SetOf;
@@ -258,8 +258,9 @@ where
     ghost written_under = { λ _ e. defined_under T.Notation.under T.Notation.form_under T.value_of (T.Notation.written_under T.apart e) };
 }
 
-impl<T: Defined<Notation = N>, N: CanonicalNotation<Value = V, Inner = I>, V: Drop, I> DERCanonical
-    for NotedBy<T, N, V, I>
+impl<T: Defined> DERCanonical for Noted<T>
+where
+    T::Notation: CanonicalNotation,
 {
-    ghost written = { written_along (λ v. T.value_of v.value) (N.written T.apart) };
+    ghost written = { written_along (λ v. T.value_of v.value) (T.Notation.written T.apart) };
 }
