@@ -4,3 +4,4 @@ pub mod Parts
 pub mod Choices
 pub mod Bounded
 pub mod Sets
+pub mod Canonical

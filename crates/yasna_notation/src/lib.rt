@@ -6,10 +6,12 @@
 //! | `tag_names` | the tags that a module writes, as types |
 //! | `simple` | BOOLEAN, INTEGER, ENUMERATED, NULL, OBJECT IDENTIFIER |
 //! | `strings`, `times` | strings and times |
+//! | `canonical` | notations of which BER too is written anew |
 #![tactic(auto)]
 
 mod any;
 mod bounded;
+mod canonical;
 mod choices;
 mod defaults;
 mod defined;
@@ -28,6 +30,7 @@ mod tag_names;
 mod times;
 
 pub use bounded::{AtMost, Bound, Bounded, NotEmpty, Size};
+pub use canonical::{CanonicalAlternatives, CanonicalNotation, CanonicalParts};
 pub use choices::{Alternatives, Choice, Either};
 pub use defaults::{Default, DefaultValue, False, Number};
 pub use defined::Defined;

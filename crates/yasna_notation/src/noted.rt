@@ -10,25 +10,12 @@ use yasna_base::ASN1Result;
 use yasna_reader::BERReader;
 use yasna_writer::DERWriter;
 
-/// A value of a type that a module defines: the shape by which that type has the traits.
+/// A value of a type that a module defines, which has the traits: what is decoded and encoded as a whole.
 ///
 /// ```rust
-/// impl Shaped for Certificate {
-///     type Shape = Noted<Certificate>;
-///
-///     ghost shape_of = { λ v. record { value = v } };
-/// }
-///
-/// impl FromShape for Certificate {
-///     fn from_shape(shape: Noted<Certificate>) -> Certificate {
-///         shape.into_value()
-///     }
-/// }
-///
-/// impl EncodeShape for Certificate {
-///     fn encode_shape(&self, writer: DERWriter<'_>) -> ASN1Result<()> {
-///         self.write_value(writer)
-///     }
+/// pub fn extension_from_ber(alloc: Global, bytes: &[u8]) -> ASN1Result<Extension> {
+///     let noted: Noted<Extension> = decode_ber(alloc, bytes)?;
+///     Ok(noted.into_value())
 /// }
 /// ```
 #[derive(Drop)]

@@ -8,5 +8,5 @@ returns-in-Err-clause-decodes g c kept =
     let s = c.args.reader.now in
     let left = c.read.new.reader in
     subst
-        (λ r. Decodes n.asks_memory (λ m k v b. n.under None m k (g.T.Defined.value_of v) b) (n.any_under None) s r left)
-        c.in-Err.is (c.read.ensures.alone (kept, c.requires)).decodes
+    (λ r. Decodes n.asks_memory (λ m k v b. n.under None m k (g.T.Defined.value_of v) b) (n.any_under None) s r left)
+    c.in-Err.is (c.read.ensures.alone (kept, c.requires)).decodes
