@@ -15,7 +15,7 @@ use Rattle.yasna_reader.specs.ByTags.{AreElsewhere}
 use Rattle.yasna_reader.specs.Decodes.{Tells, KeptTells, Took}
 use Rattle.yasna_reader.specs.State.{Reading, IsFresh, untagged}
 use Rattle.yasna_notation.specs.Bounded.{Within}
-use Rattle.yasna_notation.specs.Notation.{IsNotation, KeepsUnderTags, DecodesAs, ReadsAs}
+use Rattle.yasna_notation.specs.Notation.{IsNotation, IsNotationUnderTags, DecodesAs, ReadsAs}
 
 -- what begins with one of some tags doesn't begin elsewhere
 not_elsewhere : (ts : List Tag) (b r : List ℕ) → BeginsWithOne ts b → AreElsewhere ts (b ++ r) → ⊥
@@ -92,7 +92,7 @@ module _ {A : Type 0} {E : A → A → Type 0} {B : Grammar A} {S : Members} {fo
 
 module _ {A : Type 0} {E : A → A → Type 0} (B : Option Tag → Grammar A) (S : Option Tag → Members) (form : Option Tag → Form A) {Fits : Fitting A}
     {Can : A → Type 0} (passes : A → Bool) (alike : (v w : A) → E v w → passes v ≡ passes w) (told : Bool) (ts : List Tag) (retagged asks : Bool)
-    (x : IsNotation told ts E (B None) (S None) (form None) Fits Can) (y : retagged ≡ true → KeepsUnderTags E B S form Fits Can) (s : Reading) where
+    (x : IsNotation told ts E (B None) (S None) (form None) Fits Can) (y : retagged ≡ true → IsNotationUnderTags E B S form Fits Can) (s : Reading) where
   -- a value that passes
   pub read_within : (v : A) (s' : Reading) → passes v ≡ true → ReadsAs told ts retagged asks B S s (Ok v) s' →
       ReadsAs told ts retagged asks (λ u. Within passes (B u)) (λ u. Any (Within passes (B u))) s (Ok v) s'

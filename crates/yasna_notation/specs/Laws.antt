@@ -56,7 +56,7 @@ use Rattle.yasna_times.specs.Models.{utc_of, moment_of}
 use Rattle.yasna_times.specs.UtcTime.{SaysUtcTime, utc_time_form, utc_time_nest}
 use Rattle.yasna_times.proofs.TimeLaws.{utc_time_keeps, generalized_time_keeps}
 use Rattle.yasna_times.proofs.Times.{general_moment}
-use Rattle.yasna_notation.specs.Notation.{IsNotation, KeepsUnderTags}
+use Rattle.yasna_notation.specs.Notation.{IsNotation, IsNotationUnderTags}
 
 module _ {A : Type 0} {E : A → A → Type 0} {B : Tag → Grammar A} {S : Tag → Members} {form : Tag → Form A} {Fits : Fitting A} {Can : A → Type 0}
     (own : Tag) (laws : IsExactUnderTags E B S form Fits Can)
@@ -69,7 +69,7 @@ module _ {A : Type 0} {E : A → A → Type 0} {B : Tag → Grammar A} {S : Tag 
   under_own not_end range = at own not_end range
 
   -- and where another tag stands in place of that
-  pub under_others : KeepsUnderTags E (λ u. B (tag_or u own)) (λ u. S (tag_or u own)) (λ u. form (tag_or u own)) Fits Can
+  pub under_others : IsNotationUnderTags E (λ u. B (tag_or u own)) (λ u. S (tag_or u own)) (λ u. form (tag_or u own)) Fits Can
   under_others t not_end range = at t not_end range
 
 -- values of which something is seen keep the laws of what is seen
@@ -106,8 +106,8 @@ pub big_integer_laws : IsExactUnderTags (λ v w. v ≡ w) (λ t m n v b. Primiti
 big_integer_laws t not_end range = (big_integer_coding t not_end, written_exact (big_integer_written t range))
 
 -- strings
-abbrev pub items_of : Vec ℕ Global → List ℕ
-items_of v = v.items
+abbrev pub octets_of : Vec ℕ Global → List ℕ
+octets_of v = v.items
 
 pub octets_laws : IsExactUnderTags (λ v w. v ≡ w) (λ t m n v b. IsOctets n m t v b) (λ t. Any (λ m n v b. IsOctets n m t v b)) octets_form
     (written_fits octets_nest IsBytes) IsBytes
@@ -194,13 +194,13 @@ list_laws {A} x = list_exact_under_tags (λ (v : Vec A Global). v.items) x.codin
 
 -- a tag in place of the type's own
 module _ {A : Type 0} {E : A → A → Type 0} (B : Option Tag → Grammar A) (S : Option Tag → Members) (form : Option Tag → Form A) {Fits : Fitting A}
-    {Can : A → Type 0} {apart retagged : Bool} (own : Tag) (laws : apart ≡ true → retagged ≡ true → KeepsUnderTags E B S form Fits Can)
+    {Can : A → Type 0} {apart retagged : Bool} (own : Tag) (laws : apart ≡ true → retagged ≡ true → IsNotationUnderTags E B S form Fits Can)
     (all : retagged && apart ≡ true) where
   pub implicit_laws : (own ≡ end_tag → ⊥) → own.tag_number < 2 ^ 64 →
       IsNotation true (own ∷ []) E (B (Some own)) (S (Some own)) (form (Some own)) Fits Can
   implicit_laws not_end range = let x = and_parts retagged apart all in laws x.1 x.0 own not_end range
 
-  pub implicit_others : KeepsUnderTags E (λ u. B (Some (tag_or u own))) (λ u. S (Some (tag_or u own))) (λ u. form (Some (tag_or u own))) Fits Can
+  pub implicit_others : IsNotationUnderTags E (λ u. B (Some (tag_or u own))) (λ u. S (Some (tag_or u own))) (λ u. form (Some (tag_or u own))) Fits Can
   implicit_others t not_end range = let x = and_parts retagged apart all in laws x.1 x.0 t not_end range
 
 -- a type whose values stand for those of another
@@ -210,8 +210,8 @@ pub defined_laws : {U A : Type 0} {told : Bool} {ts : List Tag} {E : A → A →
 defined_laws f x = record { coding = along f x.coding; begins = x.begins; exact = exact_along f x.exact }
 
 pub defined_others : {U A : Type 0} {E : A → A → Type 0} (B : Option Tag → Grammar A) (S : Option Tag → Members) (form : Option Tag → Form A)
-    {Fits : Fitting A} {Can : A → Type 0} (f : U → A) → KeepsUnderTags E B S form Fits Can →
-    KeepsUnderTags (λ v w. E (f v) (f w)) (λ u m n v b. B u m n (f v) b) S (λ u m v. form u m (f v)) (λ m n v. Fits m n (f v)) (λ v. Can (f v))
+    {Fits : Fitting A} {Can : A → Type 0} (f : U → A) → IsNotationUnderTags E B S form Fits Can →
+    IsNotationUnderTags (λ v w. E (f v) (f w)) (λ u m n v b. B u m n (f v) b) S (λ u m v. form u m (f v)) (λ m n v. Fits m n (f v)) (λ v. Can (f v))
 defined_others B S form f x t not_end range = defined_laws f (x t not_end range)
 
 -- what begins with an identifier isn't empty

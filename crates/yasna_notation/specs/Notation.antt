@@ -19,9 +19,9 @@ pub record IsNotation {A : Type 0} (told : Bool) (ts : List Tag) (E : A → A �
   pub exact : IsExact E B form Fits Can
 
 -- the same under any tag but that of the end of contents: B u is the grammar where the tag u stands in place of the type's own
-abbrev pub KeepsUnderTags : {A : Type 0} → (A → A → Type 0) → (Option Tag → Grammar A) → (Option Tag → Members) → (Option Tag → Form A) → Fitting A →
+abbrev pub IsNotationUnderTags : {A : Type 0} → (A → A → Type 0) → (Option Tag → Grammar A) → (Option Tag → Members) → (Option Tag → Form A) → Fitting A →
     (A → Type 0) → Type 0
-KeepsUnderTags E B S form Fits Can = AnyTag (λ t. IsNotation true (t ∷ []) E (B (Some t)) (S (Some t)) (form (Some t)) Fits Can)
+IsNotationUnderTags E B S form Fits Can = AnyTag (λ t. IsNotation true (t ∷ []) E (B (Some t)) (S (Some t)) (form (Some t)) Fits Can)
 
 -- what reading a value does; where its tags are told and none of them stands, it moves and keeps nothing
 pub record DecodesAs {A : Type 0} (told : Bool) (ts : List Tag) (asks : Bool) (B : Grammar A) (S : Members) (s : Reading) (r : Result A ASN1Error)

@@ -31,7 +31,7 @@ ghost use Rattle.yasna_bytes.specs.Contents.{big_integer_in};
 ghost use Rattle.yasna_times.specs.UtcTime.{utc_time_tag};
 ghost use Rattle.yasna_times.specs.GeneralizedTime.{generalized_time_tag};
 ghost use Rattle.yasna_notation.specs.Canonical.{text_under, class_under, utc_under, general_under, list_under, set_of_under, within_written, within_under, implicit_under, part_writes, option_writes, default_writes, last_part_writes, either_writes, last_writes, defined_under};
-ghost use Rattle.yasna_notation.specs.Laws.{items_of, never_retagged};
+ghost use Rattle.yasna_notation.specs.Laws.{octets_of, never_retagged};
 
 use crate::bounded::{Bound, Bounded};
 use crate::choices::{Alternatives, Choice};
@@ -128,9 +128,9 @@ impl CanonicalNotation for BigInteger {
 }
 
 impl CanonicalNotation for Vec<u8> {
-    ghost written = { λ _. written_along items_of (octets_written octets_tag (omega arith)) };
+    ghost written = { λ _. written_along octets_of (octets_written octets_tag (omega arith)) };
 
-    ghost written_under = { λ _ _ t _ range. written_along items_of (octets_written t range) };
+    ghost written_under = { λ _ _ t _ range. written_along octets_of (octets_written t range) };
 }
 
 impl CanonicalNotation for String {

@@ -7,7 +7,7 @@ ghost use Rattle.yasna_base.specs.Beginnings.{is_tag};
 ghost use Rattle.yasna_base.specs.Exact.{Fitting};
 ghost use Rattle.yasna_base.specs.Grammar.{Grammar, Members, Form, Nest};
 ghost use Rattle.yasna_writer.specs.View.{Writes};
-ghost use Rattle.yasna_notation.specs.Notation.{IsNotation, KeepsUnderTags, ReadsAs};
+ghost use Rattle.yasna_notation.specs.Notation.{IsNotation, IsNotationUnderTags, ReadsAs};
 
 use yasna_base::{ASN1Result, Tag};
 use yasna_reader::BERReader;
@@ -76,7 +76,7 @@ pub trait Notation {
     // The laws of reading and of a canonical mode, under the type's own tag and under others.
     ghost laws: { apart ≡ true → IsNotation told tags same (under None) (any_under None) (form_under None) fits can };
 
-    ghost others: { apart ≡ true → retagged ≡ true → KeepsUnderTags same under any_under form_under fits can };
+    ghost others: { apart ≡ true → retagged ≡ true → IsNotationUnderTags same under any_under form_under fits can };
 
     // No form is empty.
     ghost filled: { (u : Option Tag) (m : BERMode) (v : Self.Value) → form_under u m v ≡ [] → ⊥ };

@@ -14,7 +14,7 @@ ghost use Rattle.yasna_base.specs.Text.{utf8_tag, printable_tag, ia5_tag, numeri
 ghost use Rattle.yasna_base.proofs.Identifier.{not_end};
 ghost use Rattle.yasna_base.proofs.UnderTags.{bits_under_tags};
 ghost use Rattle.yasna_bytes.specs.Segments.{bits_in};
-ghost use Rattle.yasna_notation.specs.Laws.{under_own, under_others, seen_laws, items_of, octets_laws, octets_begin, bits_begin, text_begins, text_laws, class_laws};
+ghost use Rattle.yasna_notation.specs.Laws.{under_own, under_others, seen_laws, octets_of, octets_laws, octets_begin, bits_begin, text_begins, text_laws, class_laws};
 ghost use Rattle.yasna_notation.specs.Laws.{octets_filled, bits_filled, text_filled};
 
 use crate::notation::Notation;
@@ -33,13 +33,13 @@ impl Notation for Vec<u8> {
 
     ghost tags = { octets_tag ∷ [] };
 
-    ghost under = { λ u m n v b. IsOctets n m (tag_or u octets_tag) (items_of v) b };
+    ghost under = { λ u m n v b. IsOctets n m (tag_or u octets_tag) (octets_of v) b };
 
     ghost any_under = { λ u. Any (λ m n v b. IsOctets n m (tag_or u octets_tag) v b) };
 
     ghost asks_memory = { true };
 
-    ghost same = { λ v w. items_of v ≡ items_of w };
+    ghost same = { λ v w. octets_of v ≡ octets_of w };
 
     ghost form_under = { λ u m v. octets_form (tag_or u octets_tag) m v.items };
 
@@ -64,9 +64,9 @@ impl Notation for Vec<u8> {
         writer.write_bytes(value.as_slice())
     }
 
-    ghost laws = { λ _. under_own octets_tag (seen_laws items_of octets_laws) (octets_begin) (not_end 4 (λ e. omega arith)) (omega arith) };
+    ghost laws = { λ _. under_own octets_tag (seen_laws octets_of octets_laws) (octets_begin) (not_end 4 (λ e. omega arith)) (omega arith) };
 
-    ghost others = { λ _ _. under_others octets_tag (seen_laws items_of octets_laws) (octets_begin) };
+    ghost others = { λ _ _. under_others octets_tag (seen_laws octets_of octets_laws) (octets_begin) };
 
     ghost filled = { λ u m v. octets_filled (tag_or u octets_tag) m v.items };
 }
