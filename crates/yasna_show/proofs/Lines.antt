@@ -12,7 +12,7 @@ use Rattle.yasna_base.specs.Header.{OpensAt, counted, uncounted}
 use Rattle.yasna_base.specs.Identifier.{identifier, end_tag}
 use Rattle.yasna_base.proofs.Digits.{bytes_front}
 use Rattle.yasna_base.proofs.Identifier.{identifier_some}
-use Rattle.yasna_show.specs.Listing.{Line, Hears, with_length, with_zeros, Below, ListsElement, ListsCount, ListsOne, Lists}
+use Rattle.yasna_show.specs.Listing.{Line, Hears, with_length, with_zeros, Below, ListsElement, ListsCount, ListsOne, ListsBytes}
 
 -- nothing was told
 pub hears_none : (a : Option (List Line)) → Hears a a []
@@ -27,25 +27,25 @@ hears_more (Some zs) (Some us) None xs ys p q = absurd q
 hears_more (Some zs) (Some us) (Some vs) xs ys p q = q ∙ ap (λ l. l ++ ys) p ∙ append_assoc zs xs ys
 
 -- no elements are listed by no lines
-pub lists_none : (n : ℕ) (m : BERMode) (w : Bool) (o : ℕ) → Lists n m w o [] []
+pub lists_none : (n : ℕ) (m : BERMode) (w : Bool) (o : ℕ) → ListsBytes n m w o [] []
 unfolding ListsCount
 lists_none n m w o = (zero, (refl, refl))
 
 -- elements and one more
-pub lists_more : (n : ℕ) (m : BERMode) (w : Bool) (o : ℕ) (s b : List ℕ) (ls ks : List Line) → Lists n m w o s ls → ListsOne n m w (o + length s) b ks →
-    Lists n m w o (s ++ b) (ls ++ ks)
+pub lists_more : (n : ℕ) (m : BERMode) (w : Bool) (o : ℕ) (s b : List ℕ) (ls ks : List Line) → ListsBytes n m w o s ls → ListsOne n m w (o + length s) b ks →
+    ListsBytes n m w o (s ++ b) (ls ++ ks)
 unfolding ListsCount
 lists_more n m w o s b ls ks x y =
     (suc (x.0), record { front = s; last = b; lines = ls; more = ks; before = x.1; one = y; joined = refl; told = refl })
 
 -- an element with a level left lists what stands in it with one level less
-pub one_over : (n k : ℕ) (m : BERMode) (w : Bool) (o : ℕ) (b : List ℕ) (ls : List Line) → k + 1 ≡ n → ListsElement (λ v. Lists k m v) m n w o b ls →
+pub one_over : (n k : ℕ) (m : BERMode) (w : Bool) (o : ℕ) (b : List ℕ) (ls : List Line) → k + 1 ≡ n → ListsElement (λ v. ListsBytes k m v) m n w o b ls →
     ListsOne n m w o b ls
 unfolding ListsOne
 one_over zero k m w o b ls e x = absurd (omega (arith, e))
 one_over (suc n) k m w o b ls e x =
     let j : k ≡ n = omega (arith, e) in
-    subst (λ z. ListsElement (λ v. Lists z m v) m (suc n) w o b ls) j x
+    subst (λ z. ListsElement (λ v. ListsBytes z m v) m (suc n) w o b ls) j x
 
 -- b is at the front of s, r behind it, and lines list it
 pub record Told (n : ℕ) (m : BERMode) (w : Bool) (o : ℕ) (s r : List ℕ) (ls : List Line) : Type 0 where
@@ -69,7 +69,7 @@ longer i y h = omega (arith, h, length-append i y)
 -- an element whose contents are counted is listed by its line and those of what stands in it
 pub counted_told : (m : BERMode) (n k : ℕ) (w : Bool) (line : Line) (s c r : List ℕ) (below : List Line) → k + 1 ≡ n → line.depth + n ≡ 101 →
     line.within ≡ w → (line.tag ≡ end_tag → ⊥) → OpensAt m line.tag line.bit s c (counted r) → line.header + (length c + length r) ≡ length s →
-    line.size ≡ Some (length c) → Below (λ v. Lists k m v) w line.tag line.bit (line.offset + line.header) c below →
+    line.size ≡ Some (length c) → Below (λ v. ListsBytes k m v) w line.tag line.bit (line.offset + line.header) c below →
     Told n m w line.offset s r (line ∷ below)
 counted_told m n k w line s c r below e d i ne x h z y =
     let b = identifier line.tag line.bit ++ (x.l ++ c) in
@@ -94,8 +94,8 @@ counted_told m n k w line s c r below e d i ne x h z y =
       });
     }
 
-below_of : (m : BERMode) (k : ℕ) (w : Bool) (t : Tag) (bit : PCBit) (o : ℕ) (c : List ℕ) (ls : List Line) → TakesIndefinite m bit → Lists k m w o c ls →
-    Below (λ v. Lists k m v) w t bit o c ls
+below_of : (m : BERMode) (k : ℕ) (w : Bool) (t : Tag) (bit : PCBit) (o : ℕ) (c : List ℕ) (ls : List Line) → TakesIndefinite m bit → ListsBytes k m w o c ls →
+    Below (λ v. ListsBytes k m v) w t bit o c ls
 below_of m k w t Constructed o c ls x y = y
 below_of Ber k w t Primitive o c ls x y = absurd x
 below_of Der k w t Primitive o c ls x y = absurd x
@@ -104,7 +104,7 @@ below_of Cer k w t Primitive o c ls x y = absurd x
 -- and one whose contents aren't, where two zeros end them
 pub uncounted_told : (m : BERMode) (n k : ℕ) (w : Bool) (line : Line) (s d c r : List ℕ) (below : List Line) → k + 1 ≡ n → line.depth + n ≡ 101 →
     line.within ≡ w → (line.tag ≡ end_tag → ⊥) → OpensAt m line.tag line.bit s d uncounted → line.header + length d ≡ length s →
-    line.size ≡ None → d ≡ c ++ (0 ∷ 0 ∷ r) → Lists k m w (line.offset + line.header) c below → Told n m w line.offset s r (line ∷ below)
+    line.size ≡ None → d ≡ c ++ (0 ∷ 0 ∷ r) → ListsBytes k m w (line.offset + line.header) c below → Told n m w line.offset s r (line ∷ below)
 uncounted_told m n k w line s d c r below e f i ne x h z g y =
     let b = identifier line.tag line.bit ++ (128 ∷ (c ++ end_of_contents)) in
     let j : s ≡ b ++ r = x.joined ∙ ap (λ u. identifier line.tag line.bit ++ (128 ∷ u)) g ∙ regroup_zeros (identifier line.tag line.bit) c r in

@@ -12,7 +12,7 @@ use Rattle.yasna_base.specs.Raw.{with_length as raw_with_length, with_zeros as r
 use Rattle.yasna_base.proofs.Digits.{bytes_append}
 use Rattle.yasna_base.proofs.Pieces.{no_pieces, one_piece, pieces_append}
 use Rattle.yasna_base.proofs.Raw.{raw_of}
-use Rattle.yasna_show.specs.Listing.{Line, HasHeader, with_length, with_zeros, Below, ListsElement, ListsCount, ListsOne, Lists}
+use Rattle.yasna_show.specs.Listing.{Line, IsHeaded, with_length, with_zeros, Below, ListsElement, ListsCount, ListsOne, ListsBytes}
 
 count_raw : (One : ℕ → List ℕ → List Line → Type 0) (R : RawValue → List ℕ → Type 0) →
     ((o : ℕ) (b : List ℕ) (ls : List Line) → One o b ls → (v : RawValue) × R v b) → (k o : ℕ) (s : List ℕ) (ls : List Line) →
@@ -43,7 +43,7 @@ zeros_joined R I f Cer w t Primitive o c ls x l = absurd l
 
 element_raw : (R : RawValue → List ℕ → Type 0) (I : Bool → ℕ → List ℕ → List Line → Type 0) →
     ((v : Bool) (o : ℕ) (c : List ℕ) (ls : List Line) → I v o c ls → IsJoining R c) → (m : BERMode) (n : ℕ) (w : Bool) (o : ℕ) (b : List ℕ) (ls : List Line) →
-    (x : ListsElement I m n w o b ls) → HasHeader m x.line.tag x.line.bit x.contents b x.line.header x.line.size → (v : RawValue) × RawOver R m v b
+    (x : ListsElement I m n w o b ls) → IsHeaded m x.line.tag x.line.bit x.contents b x.line.header x.line.size → (v : RawValue) × RawOver R m v b
 element_raw R I f m n w o b ls x (with_length d h e) = (
   record { tag = x.line.tag; bit = x.line.bit; payload = x.contents },
   record {
@@ -68,10 +68,10 @@ pub one_raw : (n : ℕ) (m : BERMode) (w : Bool) (o : ℕ) (b : List ℕ) (ls : 
 unfolding ListsOne
 one_raw zero m w o b ls x = absurd x
 one_raw (suc n) m w o b ls x =
-    let y = element_raw (IsRaw n m) (λ v. Lists n m v)
+    let y = element_raw (IsRaw n m) (λ v. ListsBytes n m v)
     (λ v p c ks z. count_raw (ListsOne n m v) (IsRaw n m) (one_raw n m v) z.0 p c ks z.1) m (suc n) w o b ls x x.header in
     (y.0, raw_of n m y.0 b y.1)
 
 -- elements that lines list are raw elements, one after the other
-pub lists_raw : (n : ℕ) (m : BERMode) (w : Bool) (o : ℕ) (s : List ℕ) (ls : List Line) → Lists n m w o s ls → IsJoining (IsRaw n m) s
+pub lists_raw : (n : ℕ) (m : BERMode) (w : Bool) (o : ℕ) (s : List ℕ) (ls : List Line) → ListsBytes n m w o s ls → IsJoining (IsRaw n m) s
 lists_raw n m w o s ls x = count_raw (ListsOne n m w) (IsRaw n m) (one_raw n m w) x.0 o s ls x.1

@@ -5,7 +5,7 @@ use Rattle.yasna_base.specs.Header.{OpensAt, counted, uncounted}
 use Rattle.yasna_base.specs.declared.tag.PCBit.TheVariants.{Primitive}
 use Rattle.yasna_bytes.specs.Opening.{end_found}
 use Rattle.yasna_bytes.specs.Walk.{following}
-use Rattle.yasna_show.specs.Listing.{Line, Hears, Below, InString, octets, bits, Lists, ListsOne}
+use Rattle.yasna_show.specs.Listing.{Line, Hears, Below, InString, octets, bits, ListsBytes, ListsOne}
 use Rattle.yasna_show.specs.Reading.{line_of, counted_length, OpensItem, StandsInString, in_octets, in_bits, IsFurther, EndsAt, ContentsHeard, ElementHeard, BelowHeard}
 use Rattle.yasna_show.specs.declared.listing.item.Item.{Item}
 use Rattle.yasna_show.specs.declared.listing.item.Opened.{Opened}
@@ -19,7 +19,7 @@ pub record Reached (rules : Rules) (p q : Place) (old new : Option (List Line)) 
   pub lines : List Line
   pub further : IsFurther p bytes q
   pub hears : Hears old new lines
-  pub lists : Lists rules.levels rules.mode rules.is_within p.offset bytes lines
+  pub lists : ListsBytes rules.levels rules.mode rules.is_within p.offset bytes lines
 
 pub reached_none : (rules : Rules) (p : Place) (a : Option (List Line)) → Reached rules p p a a
 reached_none rules p a = record {
@@ -47,15 +47,12 @@ pub reached_end : (rules : Rules) (p q r : Place) (w : Bool) (a b : Option (List
 reached_end rules p q r w a b x y =
     record { bytes = x.bytes; lines = x.lines; end = q; further = x.further; ends = y; hears = x.hears; lists = x.lists }
 
-pub element_shorter : (rules : Rules) (p q : Place) (a b : Option (List Line)) → ElementHeard rules p q a b → length q.left.now < length p.left.now
-element_shorter rules p q a b x = omega (arith, x.some, ap length x.further.joined ∙ length-append x.bytes q.left.now)
-
 -- counted contents were told to their end
 pub told_whole : (rules : Rules) (p q : Place) (a b : Option (List Line)) → (x : ContentsHeard rules p true q a b) →
-    Lists rules.levels rules.mode rules.is_within p.offset p.left.now x.lines
+    ListsBytes rules.levels rules.mode rules.is_within p.offset p.left.now x.lines
 told_whole rules p q a b x =
     let e : p.left.now ≡ x.bytes = x.further.joined ∙ ap (λ z. x.bytes ++ z) (x.ends.0) ∙ append-nil x.bytes in
-    subst (λ z. Lists rules.levels rules.mode rules.is_within p.offset z x.lines) (sym e) x.lists
+    subst (λ z. ListsBytes rules.levels rules.mode rules.is_within p.offset z x.lines) (sym e) x.lists
 
 -- what follows holds of an answer too
 pub if_ok : {A E : Type 0} (r : Result A E) (P Q : A → Type 0) → ((x : A) → P x → Q x) → IfOk r P → IfOk r Q
@@ -96,9 +93,9 @@ element_uncounted rules inner p i q o a b d x e h f g j k l y =
     subst (λ z. o.item.header + (length o.item.contents.now + length (following z)) ≡ length p.left.now) e x.header in
     let counts : o.item.size ≡ None = x.counts ∙ ap (λ z. counted_length z (length o.item.contents.now)) e in
     let ends : o.item.contents.now ≡ y.bytes ++ (0 ∷ 0 ∷ q.left.now) = sym k ∙ y.further.joined ∙ ap (λ z. y.bytes ++ z) y.ends.joined in
-    let lists = subst (λ z. Lists inner.levels inner.mode rules.is_within z y.bytes y.lines) l
-    (subst (λ z. Lists inner.levels inner.mode z i.offset y.bytes y.lines) j y.lists) in
-    let same = subst (λ z. Lists inner.levels z rules.is_within (o.item.offset + o.item.header) y.bytes y.lines) f lists in
+    let lists = subst (λ z. ListsBytes inner.levels inner.mode rules.is_within z y.bytes y.lines) l
+    (subst (λ z. ListsBytes inner.levels inner.mode z i.offset y.bytes y.lines) j y.lists) in
+    let same = subst (λ z. ListsBytes inner.levels z rules.is_within (o.item.offset + o.item.header) y.bytes y.lines) f lists in
     let t = uncounted_told rules.mode rules.levels inner.levels rules.is_within (line_of o.item) p.left.now o.item.contents.now y.bytes q.left.now y.lines g
     x.depth x.within x.not_end opens (omega (arith, fits)) counts ends same in
     record {
@@ -129,7 +126,7 @@ nothing_told rules i a l e = record {
   hears = hears_none a;
   levels = rules.levels - 1;
   deeper = omega (arith, l);
-  below = subst (λ z. Below (λ v. Lists (rules.levels - 1) rules.mode v) rules.is_within i.tag z (i.offset + i.header) i.contents.now []) (sym e) (inl refl);
+  below = subst (λ z. Below (λ v. ListsBytes (rules.levels - 1) rules.mode v) rules.is_within i.tag z (i.offset + i.header) i.contents.now []) (sym e) (inl refl);
 }
 
 string_lists : (I : ℕ → List ℕ → List Line → Type 0) (i : Item) (p : Place) (ls : List Line) → StandsInString i p → I p.offset p.left.now ls →
@@ -141,14 +138,14 @@ string_lists I i p ls (in_bits t c o) x = bits p.left.now t c (subst (λ z. I z 
 pub string_told : (rules inner : Rules) (i : Item) (p q : Place) (a b : Option (List Line)) → i.bit ≡ Primitive → inner.mode ≡ rules.mode →
     inner.levels + 1 ≡ rules.levels → inner.is_within ≡ true → StandsInString i p → ContentsHeard inner p true q a b → BelowHeard rules i a b
 string_told rules inner i p q a b e f g w s y =
-    let one = subst (λ z. Lists inner.levels z inner.is_within p.offset p.left.now y.lines) f (told_whole inner p q a b y) in
-    let two = subst (λ z. Lists inner.levels rules.mode z p.offset p.left.now y.lines) w one in
-    let three = string_lists (Lists inner.levels rules.mode true) i p y.lines s two in
+    let one = subst (λ z. ListsBytes inner.levels z inner.is_within p.offset p.left.now y.lines) f (told_whole inner p q a b y) in
+    let two = subst (λ z. ListsBytes inner.levels rules.mode z p.offset p.left.now y.lines) w one in
+    let three = string_lists (ListsBytes inner.levels rules.mode true) i p y.lines s two in
     record {
       lines = y.lines;
       hears = y.hears;
       levels = inner.levels;
       deeper = g;
-      below = subst (λ z. Below (λ v. Lists inner.levels rules.mode v) rules.is_within i.tag z (i.offset + i.header) i.contents.now y.lines) (sym e)
+      below = subst (λ z. Below (λ v. ListsBytes inner.levels rules.mode v) rules.is_within i.tag z (i.offset + i.header) i.contents.now y.lines) (sym e)
           (inr three);
     }

@@ -27,9 +27,9 @@ Hears (Some xs) None ls = ⊥
 Hears (Some xs) (Some ys) ls = ys ≡ xs ++ ls
 
 -- b is an element with the contents c and h octets in front of them, and len is how many they are where they are counted
-pub data HasHeader (m : BERMode) (t : Tag) (bit : PCBit) (c b : List ℕ) (h : ℕ) (len : Option ℕ) : Type 0 where
-  with_length : Definite m t bit c b → h + length c ≡ length b → len ≡ Some (length c) → HasHeader m t bit c b h len
-  with_zeros : Indefinite m t bit c b → h + length c + 2 ≡ length b → len ≡ None → HasHeader m t bit c b h len
+pub data IsHeaded (m : BERMode) (t : Tag) (bit : PCBit) (c b : List ℕ) (h : ℕ) (len : Option ℕ) : Type 0 where
+  with_length : Definite m t bit c b → h + length c ≡ length b → len ≡ Some (length c) → IsHeaded m t bit c b h len
+  with_zeros : Indefinite m t bit c b → h + length c + 2 ≡ length b → len ≡ None → IsHeaded m t bit c b h len
 
 -- lines list what stands in the contents c of a string, which begin at o: for a BIT STRING behind the count of unused bits, which is none
 pub data InString (Inner : ℕ → List ℕ → List Line → Type 0) (t : Tag) (o : ℕ) (c : List ℕ) (ls : List Line) : Type 0 where
@@ -53,7 +53,7 @@ pub record ListsElement (Inner : Bool → ℕ → List ℕ → List Line → Typ
   pub in_range : line.tag.tag_number < 2 ^ 64
   pub contents : List ℕ
   pub in_bytes : IsBytes contents
-  pub header : HasHeader m line.tag line.bit contents b line.header line.size
+  pub header : IsHeaded m line.tag line.bit contents b line.header line.size
   pub inner : Below Inner w line.tag line.bit (o + line.header) contents below
 
 -- lines list a front of s by Before, and behind it a last piece by One
@@ -73,14 +73,14 @@ ListsCount One zero o s ls = (s ≡ []) × (ls ≡ [])
 ListsCount One (suc k) o s ls = Continues (ListsCount One k) One o s ls
 
 -- the same of any count
-abbrev pub ListsAll : (One : ℕ → List ℕ → List Line → Type 0) → ℕ → List ℕ → List Line → Type 0
-ListsAll One o s ls = (k : ℕ) × ListsCount One k o s ls
+abbrev pub ListsEach : (One : ℕ → List ℕ → List Line → Type 0) → ℕ → List ℕ → List Line → Type 0
+ListsEach One o s ls = (k : ℕ) × ListsCount One k o s ls
 
 -- within n levels, lines list the element b, which begins at o
 unfoldable pub ListsOne : ℕ → BERMode → Bool → ℕ → List ℕ → List Line → Type 0
 ListsOne zero m w o b ls = ⊥
-ListsOne (suc n) m w o b ls = ListsElement (λ v. ListsAll (ListsOne n m v)) m (suc n) w o b ls
+ListsOne (suc n) m w o b ls = ListsElement (λ v. ListsEach (ListsOne n m v)) m (suc n) w o b ls
 
 -- within n levels, lines list the elements that s is, one after the other, of which the first begins at o
-abbrev pub Lists : ℕ → BERMode → Bool → ℕ → List ℕ → List Line → Type 0
-Lists n m w o s ls = ListsAll (ListsOne n m w) o s ls
+abbrev pub ListsBytes : ℕ → BERMode → Bool → ℕ → List ℕ → List Line → Type 0
+ListsBytes n m w o s ls = ListsEach (ListsOne n m w) o s ls

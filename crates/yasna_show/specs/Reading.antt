@@ -6,7 +6,7 @@ use Rattle.yasna_base.specs.Identifier.{end_tag}
 use Rattle.yasna_base.specs.Octets.{octets_tag}
 use Rattle.yasna_bytes.specs.Opening.{end_found}
 use Rattle.yasna_bytes.specs.Walk.{following}
-use Rattle.yasna_show.specs.Listing.{Line, Hears, Below, Lists, ListsOne}
+use Rattle.yasna_show.specs.Listing.{Line, Hears, Below, ListsBytes, ListsOne}
 use Rattle.yasna_show.specs.declared.listing.item.Item.{Item}
 use Rattle.yasna_show.specs.declared.listing.item.Opened.{Opened}
 use Rattle.yasna_show.specs.declared.listing.place.Place.{Place}
@@ -55,7 +55,7 @@ pub record ContentsHeard (rules : Rules) (p : Place) (is_counted : Bool) (q : Pl
   pub further : IsFurther p bytes end
   pub ends : EndsAt is_counted end q
   pub hears : Hears old new lines
-  pub lists : Lists rules.levels rules.mode rules.is_within p.offset bytes lines
+  pub lists : ListsBytes rules.levels rules.mode rules.is_within p.offset bytes lines
 
 -- the element at p was told, and q is behind it
 pub record ElementHeard (rules : Rules) (p q : Place) (old new : Option (List Line)) : Type 0 where
@@ -72,4 +72,4 @@ pub record BelowHeard (rules : Rules) (i : Item) (old new : Option (List Line)) 
   pub hears : Hears old new lines
   pub levels : ℕ
   pub deeper : levels + 1 ≡ rules.levels
-  pub below : Below (λ v. Lists levels rules.mode v) rules.is_within i.tag i.bit (i.offset + i.header) i.contents.now lines
+  pub below : Below (λ v. ListsBytes levels rules.mode v) rules.is_within i.tag i.bit (i.offset + i.header) i.contents.now lines

@@ -1,7 +1,7 @@
 //! Elements one after the other, each told to a listener before what stands in it (X.690, 8.1).
 ghost use Rattle.std.specs.Prelude.{◌≡◌, ◌+◌, ◌-◌, ◌^◌, ◌<◌, ◌≤◌, ℕ, List, [], ◌∷◌, Option, length, false, true, IfOk, OnOk, MatchOption, ⊤};
 ghost use Rattle.yasna_base.specs.Raw.{IsRaw, IsJoining};
-ghost use Rattle.yasna_show.specs.Listing.{Line, Hears, Lists};
+ghost use Rattle.yasna_show.specs.Listing.{Line, Hears, ListsBytes};
 ghost use Rattle.yasna_show.specs.Reading.{line_of, IsFurther, OpensItem, ContentsHeard, ElementHeard, BelowHeard, StandsInString, EndsAt};
 
 mod header;
@@ -146,7 +146,7 @@ pub fn list_element<'a, L: Listener>(
 
 /// Tells of the elements of an input, which are one or more.
 pub fn list_input<L: Listener>(input: &[u8], mode: BERMode, listener: &mut L) -> Result<(), Fault>
-    ensures lines { OnOk result ((ls : List Line) × Hears (L.heard listener.old) (L.heard listener.new) ls × Lists 101 mode false 0 input.now ls) }
+    ensures lines { OnOk result ((ls : List Line) × Hears (L.heard listener.old) (L.heard listener.new) ls × ListsBytes 101 mode false 0 input.now ls) }
     ensures raw { OnOk result (IsJoining (IsRaw 101 mode) input.now) }
     ensures some { OnOk result (1 ≤ length input.now) }
 {
