@@ -9,7 +9,6 @@
 //! | `name` | names |
 //! | `attribute` | attributes |
 //! | `extension` | extensions |
-//! | `whole` | what of these is decoded and encoded as a whole |
 #![tactic(auto)]
 
 mod algorithm;
@@ -17,11 +16,9 @@ mod attribute;
 mod extension;
 mod name;
 mod time;
-mod whole;
 
 pub use algorithm::{AlgorithmIdentifier, SubjectPublicKeyInfo};
 pub use attribute::Attribute;
 pub use extension::{Extension, Extensions};
 pub use name::{AttributeTypeAndValue, Name, RelativeDistinguishedName};
 pub use time::{Time, Validity};
-pub use whole::each_has_one_form;
