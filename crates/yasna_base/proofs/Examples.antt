@@ -25,7 +25,7 @@ use Rattle.yasna_base.specs.Segmented.{Segmented, whole, in_segments}
 use Rattle.yasna_base.specs.Octets.{octets_tag, octets_segmentation, IsDeepOctets, EncodesOctets}
 use Rattle.yasna_base.specs.Bits.{BitString, bits_tag, bits_segmentation, AreFullBeforeLast, IsBits, bits_form}
 use Rattle.yasna_base.specs.Text.{EncodesText, IsBmp, IsPairedBmp, utf8_tag}
-use Rattle.yasna_base.specs.Header.{uncounted}
+use Rattle.yasna_base.specs.Header.{indefinite_end}
 use Rattle.yasna_base.specs.Pieces.{Pieces}
 use Rattle.yasna_base.proofs.Octets.{octets_written}
 use Rattle.yasna_base.proofs.BitForm.{bits_has}
@@ -179,7 +179,7 @@ unfolding identifier
 hello_deep = deep_of octets_segmentation 0 Ber octets_tag _ (record {
   taken = tt;
   contents = 4 ∷ 2 ∷ 72 ∷ 101 ∷ 0 ∷ 0 ∷ [];
-  end = uncounted;
+  end = indefinite_end;
   opens = record { in_range = omega arith; in_bytes = search arith; taken = tt; joined = refl };
   inside = record {
     values = [];

@@ -6,7 +6,7 @@ use Rattle.yasna_base.specs.declared.tag.Tag.{Tag}
 use Rattle.yasna_base.specs.Coding.{IsCoding, Any}
 use Rattle.yasna_base.specs.Digits.{IsBytes}
 use Rattle.yasna_base.specs.Element.{Element, definite, indefinite, end_of_contents}
-use Rattle.yasna_base.specs.Header.{ContentsEnd, counted, uncounted, OpensAt}
+use Rattle.yasna_base.specs.Header.{ContentsEnd, definite_end, indefinite_end, OpensAt}
 use Rattle.yasna_base.specs.Identifier.{identifier, end_tag, begins, StartsElement, AtEnd, nothing}
 use Rattle.yasna_base.specs.Pieces.{Pieces}
 use Rattle.yasna_base.specs.Raw.{RawValue, LooksInto, LooksUpTo, IsJoining, RawFramed, with_length, with_zeros, RawOver, IsRaw, JoiningBefore, DeepRaw, IsDeepRaw, ContentsTo, IsPayload}
@@ -141,17 +141,17 @@ pub record OpensRaw (R : RawValue → List ℕ → Type 0) (m : BERMode) (t : Ta
 
 opens_framed : {R : RawValue → List ℕ → Type 0} (m : BERMode) (t : Tag) (p : PCBit) (s c : List ℕ) (e : ContentsEnd) (v : RawValue) (b r : List ℕ) →
     OpensAt m t p s c e → RawFramed R m v b → s ≡ b ++ r → OpensRaw R m t p c e v r
-opens_framed {R} m t p s c (counted z) v b r x (with_length d j) f =
+opens_framed {R} m t p s c (definite_end z) v b r x (with_length d j) f =
     let i = counted_header m m t v.tag p v.bit (length c) x.l v.payload b (c ++ z) r x.spelled (definite d) (sym x.joined ∙ f) in
     let k = fronts_same c v.payload z r i.count i.behind in
     record { tag = i.tag; bit = i.bit; inside = (sym k.1, λ l. subst (λ y. IsJoining R y) (sym k.0) (j (subst (λ q. LooksInto m q) i.bit l))) }
-opens_framed m t p s c (counted z) v b r x (with_zeros y d j g) f =
+opens_framed m t p s c (definite_end z) v b r x (with_zeros y d j g) f =
     let i = counted_header m m t v.tag p v.bit (length c) x.l y b (c ++ z) r x.spelled (indefinite d) (sym x.joined ∙ f) in
     absurd (definite_not_indefinite m m v.tag v.tag v.bit v.bit y y b b r r i.element d refl)
-opens_framed m t p s c uncounted v b r x (with_length d j) f =
+opens_framed m t p s c indefinite_end v b r x (with_length d j) f =
     let i = uncounted_header m t v.tag p v.bit v.payload b c r (definite d) (sym x.joined ∙ f) in
     absurd (definite_not_indefinite m m v.tag v.tag v.bit v.bit v.payload v.payload b b r r d i.element refl)
-opens_framed m t p s c uncounted v b r x (with_zeros y d j g) f =
+opens_framed m t p s c indefinite_end v b r x (with_zeros y d j g) f =
     let i = uncounted_header m t v.tag p v.bit y b c r (indefinite d) (sym x.joined ∙ f) in
     record { tag = i.tag; bit = i.bit; inside = (y, j, i.behind) }
 
@@ -169,7 +169,7 @@ pub record RawAt (R : RawValue → List ℕ → Type 0) (m : BERMode) (v : RawVa
 -- a header whose contents end before r begins a raw element that does
 pub raw_ends : {R : RawValue → List ℕ → Type 0} (m : BERMode) (t : Tag) (p : PCBit) (s c : List ℕ) (e : ContentsEnd) (r y : List ℕ) → (t ≡ end_tag → ⊥) →
     OpensAt m t p s c e → ContentsTo R m p c e r → IsPayload c e r y → RawAt R m (record { tag = t; bit = p; payload = y }) s r
-raw_ends {R} m t p s c (counted z) r y n x w f = record {
+raw_ends {R} m t p s c (definite_end z) r y n x w f = record {
   bytes = identifier t p ++ (x.l ++ y);
   raw = record {
     not_end = n;
@@ -180,7 +180,7 @@ raw_ends {R} m t p s c (counted z) r y n x w f = record {
   };
   joined = x.joined ∙ ap₂ (λ a k. identifier t p ++ (x.l ++ (a ++ k))) (sym f) (sym w.0) ∙ simp append_assoc;
 }
-raw_ends m t p s c uncounted r y n x w f =
+raw_ends m t p s c indefinite_end r y n x w f =
     let g : y ++ r ≡ (w.0 ++ end_of_contents) ++ r = sym f ∙ w.2 ∙ simp append_assoc in
     let e = (append_before y (w.0 ++ end_of_contents) r g) in
     record {
@@ -196,8 +196,8 @@ raw_ends m t p s c uncounted r y n x w f =
 
 -- a header begins with its identifier
 pub opens_starts : (m : BERMode) (t : Tag) (p : PCBit) (s c : List ℕ) (e : ContentsEnd) → (t ≡ end_tag → ⊥) → OpensAt m t p s c e → StartsElement s
-opens_starts m t p s c (counted z) n x = record { tag = t; in_range = x.in_range; not_end = n; begins = begins p _ x.joined }
-opens_starts m t p s c uncounted n x = record { tag = t; in_range = x.in_range; not_end = n; begins = begins p _ x.joined }
+opens_starts m t p s c (definite_end z) n x = record { tag = t; in_range = x.in_range; not_end = n; begins = begins p _ x.joined }
+opens_starts m t p s c indefinite_end n x = record { tag = t; in_range = x.in_range; not_end = n; begins = begins p _ x.joined }
 
 -- what starts an element stands nowhere but behind all pieces
 deep_inside : {R : RawValue → List ℕ → Type 0} {D : List ℕ → Type 0} (m : BERMode) →
@@ -213,9 +213,9 @@ deep_not_to : {R : RawValue → List ℕ → Type 0} {D : List ℕ → Type 0} (
     ((v w : RawValue) (b c r s : List ℕ) → R v b → R w c → b ++ r ≡ c ++ s → b ≡ c) → ((v : RawValue) (b : List ℕ) → R v b → StartsElement b) →
     ((x : List ℕ) → D x → StartsElement x) → ((x : List ℕ) → D x → NoFront R x) → (p : PCBit) (c : List ℕ) (e : ContentsEnd) (r : List ℕ) →
     LooksUpTo m p e → JoiningBefore R D c → ContentsTo R m p c e r → ⊥
-deep_not_to m alone starts first apart p c (counted z) r l x w =
+deep_not_to m alone starts first apart p c (definite_end z) r l x w =
     let j = w.1 l in deep_inside m alone starts first apart j.0 c c [] j.1 (nothing refl) x (sym (append-nil c))
-deep_not_to m alone starts first apart p c uncounted r l x w =
+deep_not_to m alone starts first apart p c indefinite_end r l x w =
     deep_inside m alone starts first apart w.1.0 w.0 c (0 ∷ 0 ∷ r) w.1.1 (zeros_at_end (0 ∷ r)) x w.2
 
 -- what is too deep begins with an identifier, which isn't that of the end of contents

@@ -8,10 +8,10 @@ use Rattle.yasna_base.specs.declared.mode.BERMode.{BERMode}
 use Rattle.yasna_base.specs.declared.tag.PCBit.{PCBit}
 use Rattle.yasna_base.specs.declared.tag.Tag.{Tag}
 
--- what follows contents whose length is counted, or that it isn't counted
+-- how contents end: their length is definite and this follows them, or it is indefinite
 pub data ContentsEnd : Type 0 where
-  counted : List ℕ → ContentsEnd
-  uncounted : ContentsEnd
+  definite_end : List ℕ → ContentsEnd
+  indefinite_end : ContentsEnd
 
 -- the identifier of t with this bit, a length, the contents c that it counts, and r
 pub record Counts (m : BERMode) (t : Tag) (bit : PCBit) (s c r : List ℕ) : Type 0 where
@@ -31,10 +31,10 @@ pub record Leaves (m : BERMode) (t : Tag) (bit : PCBit) (s c : List ℕ) : Type 
 
 -- a header stands at the front, and behind it c: the contents, or where their length is indefinite all that is left
 abbrev pub OpensAt : BERMode → Tag → PCBit → List ℕ → List ℕ → ContentsEnd → Type 0
-OpensAt m t bit s c (counted r) = Counts m t bit s c r
-OpensAt m t bit s c uncounted = Leaves m t bit s c
+OpensAt m t bit s c (definite_end r) = Counts m t bit s c r
+OpensAt m t bit s c indefinite_end = Leaves m t bit s c
 
 -- y is where contents end, and r follows the element
 abbrev pub EndsBefore : ContentsEnd → List ℕ → List ℕ → Type 0
-EndsBefore (counted a) y r = (y ≡ []) × (r ≡ a)
-EndsBefore uncounted y r = y ≡ 0 ∷ 0 ∷ r
+EndsBefore (definite_end a) y r = (y ≡ []) × (r ≡ a)
+EndsBefore indefinite_end y r = y ≡ 0 ∷ 0 ∷ r

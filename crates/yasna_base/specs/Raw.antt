@@ -11,7 +11,7 @@ use Rattle.yasna_base.specs.Segmented.{PiecesBefore}
 use Rattle.yasna_base.specs.Digits.{IsBytes}
 use Rattle.yasna_base.specs.Element.{Definite, Indefinite, end_of_contents}
 use Rattle.yasna_base.specs.Grammar.{Form}
-use Rattle.yasna_base.specs.Header.{ContentsEnd, counted, uncounted, OpensAt}
+use Rattle.yasna_base.specs.Header.{ContentsEnd, definite_end, indefinite_end, OpensAt}
 use Rattle.yasna_base.specs.Identifier.{identifier, end_tag, StartsElement}
 use Rattle.yasna_base.specs.Pieces.{Pieces}
 
@@ -30,8 +30,8 @@ LooksInto Cer bit = ⊥
 
 -- where it looks into contents that end so
 abbrev pub LooksUpTo : BERMode → PCBit → ContentsEnd → Type 0
-LooksUpTo m bit (counted r) = LooksInto m bit
-LooksUpTo m bit uncounted = Unit {0}
+LooksUpTo m bit (definite_end r) = LooksInto m bit
+LooksUpTo m bit indefinite_end = Unit {0}
 
 -- c is a joining of pieces by R
 abbrev pub IsJoining : {A : Type 0} → (A → List ℕ → Type 0) → List ℕ → Type 0
@@ -94,10 +94,10 @@ TooDeepIsNotRaw = (n : ℕ) (m : BERMode) (v : RawValue) (s b r : List ℕ) → 
 
 -- the element whose contents c a header opens ends before r
 abbrev pub ContentsTo : (RawValue → List ℕ → Type 0) → BERMode → PCBit → List ℕ → ContentsEnd → List ℕ → Type 0
-ContentsTo R m bit c (counted z) r = (r ≡ z) × (LooksInto m bit → IsJoining R c)
-ContentsTo R m bit c uncounted r = (d : List ℕ) × IsJoining R d × (c ≡ d ++ (0 ∷ 0 ∷ r))
+ContentsTo R m bit c (definite_end z) r = (r ≡ z) × (LooksInto m bit → IsJoining R c)
+ContentsTo R m bit c indefinite_end r = (d : List ℕ) × IsJoining R d × (c ≡ d ++ (0 ∷ 0 ∷ r))
 
 -- payload is the payload of that element
 abbrev pub IsPayload : List ℕ → ContentsEnd → List ℕ → List ℕ → Type 0
-IsPayload c (counted z) r payload = payload ≡ c
-IsPayload c uncounted r payload = c ≡ payload ++ r
+IsPayload c (definite_end z) r payload = payload ≡ c
+IsPayload c indefinite_end r payload = c ≡ payload ++ r

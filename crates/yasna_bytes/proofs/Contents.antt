@@ -8,7 +8,7 @@ use Rattle.yasna_base.specs.declared.tag.PCBit.TheVariants.{Primitive}
 use Rattle.yasna_base.specs.Identifier.{identifier, BeginsWithTag}
 use Rattle.yasna_base.specs.Length.{IsLongLength, one_byte, counted}
 use Rattle.yasna_base.specs.Element.{Element, definite, indefinite, IsPrimitive}
-use Rattle.yasna_base.specs.Header.{ContentsEnd, counted as counted_to, uncounted, OpensAt}
+use Rattle.yasna_base.specs.Header.{ContentsEnd, definite_end, indefinite_end, OpensAt}
 use Rattle.yasna_base.proofs.Length.{spells_long}
 use Rattle.yasna_base.proofs.Element.{primitive_exact, definite_then, indefinite_then}
 use Rattle.yasna_base.proofs.Lists.{empty_is}
@@ -77,7 +77,7 @@ long_first k l h (counted ds i j b n e) = (128 + length ds, ds, e, λ z. omega a
 
 -- behind the identifier of an element with contents a byte other than 0 stands
 pub opens_wants : (n : ℕ) (m : BERMode) (t : Tag) (p : PCBit) (s c : List ℕ) (e : ContentsEnd) → 1 ≤ n → (c ≡ [] → ⊥) → OpensAt m t p s c e → WantsMemory n t s
-opens_wants n m t p s c (counted_to r) l h x =
+opens_wants n m t p s c (definite_end r) l h x =
     let f = long_first (length c) x.l (let i : length c ≡ 0 → ⊥ = λ i. h (empty_is c i) in omega (arith, i)) (spells_long m (length c) x.l x.spelled) in
     record {
       level = l;
@@ -87,12 +87,12 @@ opens_wants n m t p s c (counted_to r) l h x =
       not_empty = f.3;
       joined = x.joined ∙ ap (λ z. identifier t p ++ (z ++ (c ++ r))) f.2;
     }
-opens_wants n m t p s c uncounted l h x = record { level = l; bit = p; size = 128; after = c; not_empty = λ z. omega arith; joined = x.joined }
+opens_wants n m t p s c indefinite_end l h x = record { level = l; bit = p; size = 128; after = c; not_empty = λ z. omega arith; joined = x.joined }
 
 -- so it does where an element has contents
 pub element_wants : (n : ℕ) (m : BERMode) (t : Tag) (p : PCBit) (s c b r : List ℕ) → 1 ≤ n → (c ≡ [] → ⊥) → Element m t p c b → s ≡ b ++ r → WantsMemory n t s
 element_wants n m t p s c b r l h x e = elim x.framed [
-  | definite y ↦ opens_wants n m t p s c (counted_to r) l h (record {
+  | definite y ↦ opens_wants n m t p s c (definite_end r) l h (record {
     in_range = x.in_range;
     in_bytes = x.in_bytes;
     taken = y.taken;

@@ -5,7 +5,7 @@ use Rattle.yasna_base.specs.declared.tag.Tag.{Tag}
 use Rattle.yasna_base.specs.declared.tag.PCBit.{PCBit}
 use Rattle.yasna_base.specs.Digits.{IsBytes}
 use Rattle.yasna_base.specs.Element.{Element, definite, indefinite, end_of_contents}
-use Rattle.yasna_base.specs.Header.{ContentsEnd, counted, uncounted, OpensAt}
+use Rattle.yasna_base.specs.Header.{ContentsEnd, definite_end, indefinite_end, OpensAt}
 use Rattle.yasna_base.specs.Identifier.{identifier}
 use Rattle.yasna_base.proofs.Digits.{bytes_front}
 use Rattle.yasna_bytes.specs.Header.{EndsBefore}
@@ -18,7 +18,7 @@ pub record StandsBefore (m : BERMode) (t : Tag) (p : PCBit) (s d r : List ℕ) :
 
 pub closed : (m : BERMode) (t : Tag) (p : PCBit) (s c : List ℕ) (after : ContentsEnd) → OpensAt m t p s c after → (d y r : List ℕ) → c ≡ d ++ y →
     EndsBefore after y r → StandsBefore m t p s d r
-closed m t p s c (counted a) x d y r e h =
+closed m t p s c (definite_end a) x d y r e h =
     let f : c ≡ d = e ∙ ap (λ z. d ++ z) h.0 ∙ append-nil d in
     record {
       bytes = identifier t p ++ (x.l ++ d);
@@ -29,7 +29,7 @@ closed m t p s c (counted a) x d y r e h =
         framed = definite (record { taken = x.taken; l = x.l; spelled = rw (← f) x.spelled; joined = refl });
       };
     }
-closed m t p s c uncounted x d y r e h = record {
+closed m t p s c indefinite_end x d y r e h = record {
   bytes = identifier t p ++ (128 ∷ (d ++ end_of_contents));
   joined = x.joined ∙ ap (λ z. identifier t p ++ (128 ∷ z)) (e ∙ ap (λ z. d ++ z) h) ∙ simp append_assoc;
   element = record {

@@ -18,7 +18,7 @@ use Rattle.yasna_bytes.specs.Refusal.{BlamesBytes, IsTooDeep, Refuses}
 use Rattle.yasna_bytes.specs.Length.{Measures}
 use Rattle.yasna_bytes.specs.Opening.{Opening}
 use Rattle.yasna_bytes.specs.Front.{Takes, Stands}
-use Rattle.yasna_base.specs.Header.{ContentsEnd, counted, uncounted, Counts, OpensAt}
+use Rattle.yasna_base.specs.Header.{ContentsEnd, definite_end, indefinite_end, Counts, OpensAt}
 use Rattle.yasna_bytes.specs.Header.{Holds, HoldsContents, NotHeld, no_level, no_contents, BehindAt, OpenedAt, HasHeader, AnyBit, OnlyConstructed, RefusesHeader, AreContents}
 use Rattle.yasna_base.proofs.Digits.{bytes_behind, bytes_front}
 use Rattle.yasna_bytes.proofs.Refusal.{deep_refuses, stood_refuses, refuses_less}
@@ -43,9 +43,9 @@ not_held_refuses m n t s e p y f o (no_contents l k w) = wanted_refuses AnyBit m
 -- an element with the tag stands there, and isn't constructed
 pub other_bit : (m : BERMode) (n : ℕ) (t : Tag) (q : PCBit) (s d : List ℕ) (o : ContentsEnd) (e : Refusal) → OpensAt m t q s d o → q ≡ Primitive → 1 ≤ n →
     BlamesBytes e.kind → e.moved ≡ true → RefusesHeader OnlyConstructed m n t s e
-other_bit m n t q s d (counted r) e x f l k v =
+other_bit m n t q s d (definite_end r) e x f l k v =
     wanted_refuses OnlyConstructed m n t s e q _ x.joined l k v (λ _ _ h _. let i : Constructed ≡ Primitive = sym h ∙ f in absurd (cc))
-other_bit m n t q s d uncounted e x f l k v =
+other_bit m n t q s d indefinite_end e x f l k v =
     wanted_refuses OnlyConstructed m n t s e q _ x.joined l k v (λ _ _ h _. let i : Constructed ≡ Primitive = sym h ∙ f in absurd (cc))
 
 -- where no header stands, none with a certain bit does
@@ -56,38 +56,38 @@ any_refuses P m n t s e x = refuses_less (HasHeader AnyBit m n t s) (HasHeader P
 -- no contents stand where no length does
 pub holds_none : (m : BERMode) (p : PCBit) (y : List ℕ) → ((k : Option ℕ) (r : List ℕ) → Measures m y k r → ⊥) → (c : List ℕ) (f : ContentsEnd) →
     Holds m p y c f → ⊥
-holds_none m p y f c (counted r) h = f (Some (length c)) (c ++ r) (h.0, h.2, h.3)
-holds_none m p y f c uncounted h = f None c h.1
+holds_none m p y f c (definite_end r) h = f (Some (length c)) (c ++ r) (h.0, h.2, h.3)
+holds_none m p y f c indefinite_end h = f None c h.1
 
 -- nor where fewer bytes are left than the length says
 pub holds_short : (m : BERMode) (p : PCBit) (y z : List ℕ) (k : ℕ) → Measures m y (Some k) z → length z < k → (c : List ℕ) (f : ContentsEnd) →
     Holds m p y c f → ⊥
-holds_short m p y z k w l c (counted r) h =
+holds_short m p y z k w l c (definite_end r) h =
     let e = length_exact m m k (length c) w.0 h.0 z (c ++ r) w.1 h.2 (sym w.2 ∙ h.3) in
     let n = ap length e.2 ∙ length-append c r in
     omega (arith, e.0, n)
-holds_short m p y z k w l c uncounted h = length_not_indefinite m k w.0 z c w.1 (sym w.2 ∙ h.1)
+holds_short m p y z k w l c indefinite_end h = length_not_indefinite m k w.0 z c w.1 (sym w.2 ∙ h.1)
 
 -- nor where the length is indefinite and may not be
 pub holds_closed : (m : BERMode) (p : PCBit) (y z : List ℕ) → y ≡ 128 ∷ z → (TakesIndefinite m p → ⊥) → (c : List ℕ) (f : ContentsEnd) → Holds m p y c f → ⊥
-holds_closed m p y z e f c (counted r) h = length_not_indefinite m (length c) h.0 (c ++ r) z h.2 (sym h.3 ∙ e)
-holds_closed m p y z e f c uncounted h = f h.0
+holds_closed m p y z e f c (definite_end r) h = length_not_indefinite m (length c) h.0 (c ++ r) z h.2 (sym h.3 ∙ e)
+holds_closed m p y z e f c indefinite_end h = f h.0
 
 -- nor where the contents are counted and may not be
 pub holds_uncounted : (m : BERMode) (p : PCBit) (y z : List ℕ) (k : ℕ) → Measures m y (Some k) z → (TakesDefinite m p → ⊥) → (c : List ℕ) (f : ContentsEnd) →
     Holds m p y c f → ⊥
-holds_uncounted m p y z k w t c (counted r) h = t h.1
-holds_uncounted m p y z k w t c uncounted h = length_not_indefinite m k w.0 z c w.1 (sym w.2 ∙ h.1)
+holds_uncounted m p y z k w t c (definite_end r) h = t h.1
+holds_uncounted m p y z k w t c indefinite_end h = length_not_indefinite m k w.0 z c w.1 (sym w.2 ∙ h.1)
 
 -- contents stand where as many bytes follow a length
 pub holds_counted : (m : BERMode) (p : PCBit) (y z c r : List ℕ) (k : ℕ) → Measures m y (Some k) z → z ≡ c ++ r → length c ≡ k → TakesDefinite m p →
-    Holds m p y c (counted r)
+    Holds m p y c (definite_end r)
 holds_counted m p y z c r k w f h i = (w.0, i, subst (λ j. SpellsLength m j w.0) (sym h) w.1, w.2 ∙ ap (λ b. w.0 ++ b) f)
 
 -- contents of bytes are bytes
 pub holds_bytes : (m : BERMode) (p : PCBit) (y c : List ℕ) (f : ContentsEnd) → IsBytes y → Holds m p y c f → IsBytes c
-holds_bytes m p y c (counted r) b h = bytes_front c r (bytes_behind h.0 (c ++ r) (subst IsBytes h.3 b))
-holds_bytes m p y c uncounted b h = (subst IsBytes h.1 b).1
+holds_bytes m p y c (definite_end r) b h = bytes_front c r (bytes_behind h.0 (c ++ r) (subst IsBytes h.3 b))
+holds_bytes m p y c indefinite_end b h = (subst IsBytes h.1 b).1
 
 -- an element's bit and contents are seen as they are
 pub seen_bit : {i o : Opening} {p : PCBit} → i ≡ o → i.bit ≡ p → o.bit ≡ p
@@ -99,7 +99,7 @@ seen_within f = ap (λ (z : Opening). z.within) f
 -- an identifier, and contents behind it, are a header
 opened : (m : BERMode) (t : Tag) (p : PCBit) (s y c : List ℕ) (f : ContentsEnd) → t.tag_number < 2 ^ 64 → s ≡ identifier t p ++ y → IsBytes c →
     Holds m p y c f → OpensAt m t p s c f
-opened m t p s y c (counted r) i e b h = record {
+opened m t p s y c (definite_end r) i e b h = record {
   in_range = i;
   in_bytes = b;
   taken = h.1;
@@ -107,7 +107,7 @@ opened m t p s y c (counted r) i e b h = record {
   spelled = h.2;
   joined = e ∙ ap (λ z. identifier t p ++ z) h.3;
 }
-opened m t p s y c uncounted i e b h = record { in_range = i; in_bytes = b; taken = h.0; joined = e ∙ ap (λ z. identifier t p ++ z) h.1 }
+opened m t p s y c indefinite_end i e b h = record { in_range = i; in_bytes = b; taken = h.0; joined = e ∙ ap (λ z. identifier t p ++ z) h.1 }
 
 pub held_opens : (m : BERMode) (t : Tag) (p : PCBit) (s y : List ℕ) (o : Opened) → t.tag_number < 2 ^ 64 → s ≡ identifier t p ++ y →
     HoldsContents m p y o → OpensAt m t o.bit s o.within o.end
@@ -130,9 +130,9 @@ pub record HeaderThere (m : BERMode) (t : Tag) (p : PCBit) (s : List ℕ) : Type
 
 framed_there : (m : BERMode) (t : Tag) (p : PCBit) (c b s r : List ℕ) → Framed m t p c b → s ≡ b ++ r → HeaderThere m t p s
 framed_there m t p c b s r (definite x) e =
-    record { behind = x.l ++ (c ++ r); joined = e ∙ definite_then x r; contents = c; end = counted r; holds = (x.l, x.taken, x.spelled, refl) }
+    record { behind = x.l ++ (c ++ r); joined = e ∙ definite_then x r; contents = c; end = definite_end r; holds = (x.l, x.taken, x.spelled, refl) }
 framed_there m t p c b s r (indefinite x) e =
-    record { behind = 128 ∷ (c ++ (0 ∷ 0 ∷ r)); joined = e ∙ indefinite_then x r; contents = c ++ (0 ∷ 0 ∷ r); end = uncounted; holds = (x.taken, refl) }
+    record { behind = 128 ∷ (c ++ (0 ∷ 0 ∷ r)); joined = e ∙ indefinite_then x r; contents = c ++ (0 ∷ 0 ∷ r); end = indefinite_end; holds = (x.taken, refl) }
 
 -- an element begins with its header
 pub element_there : (m : BERMode) (t : Tag) (p : PCBit) (c b s r : List ℕ) → Element m t p c b → s ≡ b ++ r → HeaderThere m t p s
@@ -165,7 +165,7 @@ counts_element m t p s c r x = record {
 }
 
 -- the contents of a primitive element were read
-pub takes_primitive : (m : BERMode) (n : ℕ) (t : Tag) (q : PCBit) (s c r : List ℕ) → 1 ≤ n → q ≡ Primitive → OpensAt m t q s c (counted r) →
+pub takes_primitive : (m : BERMode) (n : ℕ) (t : Tag) (q : PCBit) (s c r : List ℕ) → 1 ≤ n → q ≡ Primitive → OpensAt m t q s c (definite_end r) →
     Takes (IsPrimitive AreContents n m t) s c r
 takes_primitive m n t Primitive s c r l e x =
     record {
@@ -185,5 +185,5 @@ other_primitive W m n t q s c f e l i x k h = stood_refuses (Stands (IsPrimitive
   where
     differ : (m : BERMode) (t : Tag) (q : PCBit) (s c : List ℕ) (f : ContentsEnd) → OpensAt m t q s c f → (y : List ℕ) → s ≡ identifier t Primitive ++ y →
         q ≡ Constructed → ⊥
-    differ m t q s c (counted r) x y e i = let j = (identifier_exact t t q Primitive _ y (sym x.joined ∙ e)).1 in cc
-    differ m t q s c uncounted x y e i = let j = (identifier_exact t t q Primitive _ y (sym x.joined ∙ e)).1 in cc
+    differ m t q s c (definite_end r) x y e i = let j = (identifier_exact t t q Primitive _ y (sym x.joined ∙ e)).1 in cc
+    differ m t q s c indefinite_end x y e i = let j = (identifier_exact t t q Primitive _ y (sym x.joined ∙ e)).1 in cc

@@ -3,7 +3,7 @@ use Rattle.std.proofs.Common.{◌≡◌, ℕ, zero, suc, ◌-◌, List, [], ◌�
 use Rattle.yasna_base.specs.declared.mode.BERMode.{BERMode}
 use Rattle.yasna_base.specs.declared.tag.PCBit.{PCBit}
 use Rattle.yasna_base.specs.declared.tag.Tag.{Tag}
-use Rattle.yasna_base.specs.Header.{ContentsEnd, counted, uncounted}
+use Rattle.yasna_base.specs.Header.{ContentsEnd, definite_end, indefinite_end}
 use Rattle.yasna_base.specs.Raw.{RawValue, LooksUpTo, IsRaw, ContentsTo, IsPayload}
 use Rattle.yasna_base.proofs.Lists.{append_before}
 use Rattle.yasna_base.proofs.Raw.{raw_of, raw_into, opens_raw, raw_ends, opens_starts}
@@ -40,8 +40,8 @@ not_followed m (suc n) t p s c f e o l x g =
 
 -- r are the last of the contents that end before r
 pub to_rest : (R : RawValue → List ℕ → Type 0) (m : BERMode) (p : PCBit) (c : List ℕ) (e : ContentsEnd) (r : List ℕ) → ContentsTo R m p c e r → HasRest e c r
-to_rest R m p c (counted z) r w = tt
-to_rest R m p c uncounted r w = (w.0 ++ (0 ∷ 0 ∷ []), w.2 ∙ sym (append_assoc w.0 (0 ∷ 0 ∷ []) r))
+to_rest R m p c (definite_end z) r w = tt
+to_rest R m p c indefinite_end r w = (w.0 ++ (0 ∷ 0 ∷ []), w.2 ∙ sym (append_assoc w.0 (0 ∷ 0 ∷ []) r))
 
 -- r follows some bytes of an element that ends before r
 pub followed_rest : (m : BERMode) (n : ℕ) (t : Tag) (p : PCBit) (s c : List ℕ) (e : ContentsEnd) (r : List ℕ) → IsOpened m n s t p c e →

@@ -6,7 +6,7 @@ use Rattle.yasna_base.specs.declared.tag.PCBit.TheVariants.{Primitive, Construct
 use Rattle.yasna_base.specs.declared.tag.Tag.{Tag}
 use Rattle.yasna_base.specs.declared.error.ASN1ErrorKind.{ASN1ErrorKind}
 use Rattle.yasna_base.specs.declared.error.ASN1ErrorKind.TheVariants.{StackOverflow}
-use Rattle.yasna_base.specs.Header.{ContentsEnd, counted, uncounted, OpensAt}
+use Rattle.yasna_base.specs.Header.{ContentsEnd, definite_end, indefinite_end, OpensAt}
 use Rattle.yasna_base.specs.Identifier.{identifier, end_tag, begins, StartsElement, AtEnd, nothing, end}
 use Rattle.yasna_base.proofs.Identifier.{identifier_exact, end_identifier, identifier_short, zeros_at_end}
 use Rattle.yasna_base.proofs.Pieces.{tag_not_end}
@@ -72,8 +72,8 @@ stops_by m n e s r o x = record { no_end = o; none = x.none; deep = x.deep; no_m
 
 -- where contents end, nothing is left or an end stands there
 pub ends_at_end : (e : ContentsEnd) (s r : List ℕ) → EndsBefore e s r → AtEnd s
-ends_at_end (counted z) s r x = nothing x.0
-ends_at_end uncounted s r x = subst AtEnd (sym x) (zeros_at_end (0 ∷ r))
+ends_at_end (definite_end z) s r x = nothing x.0
+ends_at_end indefinite_end s r x = subst AtEnd (sym x) (zeros_at_end (0 ∷ r))
 
 -- a walk stops where an element begins whose header doesn't stand there
 pub stops_behind : (m : BERMode) (n : ℕ) (e : ContentsEnd) (s : List ℕ) (r : Refusal) → NotOpened m n s r → r.moved ≡ true → Stops m n e s r.kind
@@ -122,19 +122,19 @@ turns_to m n e s u o (Entered i) x y = record {
 
 -- a header of a tag stands there
 pub opens_header : (m : BERMode) (n : ℕ) (t : Tag) (p : PCBit) (s c : List ℕ) (e : ContentsEnd) → 1 ≤ n → OpensAt m t p s c e → HasHeader AnyBit m n t s
-opens_header m n t p s c (counted r) l x = record {
+opens_header m n t p s c (definite_end r) l x = record {
   level = l;
   bit = p;
   allowed = tt;
   behind = x.l ++ (c ++ r);
   joined = x.joined;
   contents = c;
-  end = counted r;
+  end = definite_end r;
   holds = (x.l, x.taken, x.spelled, refl);
 }
-opens_header m n t p s c uncounted l x =
-    record { level = l; bit = p; allowed = tt; behind = 128 ∷ c; joined = x.joined; contents = c; end = uncounted; holds = (x.taken, refl) }
+opens_header m n t p s c indefinite_end l x =
+    record { level = l; bit = p; allowed = tt; behind = 128 ∷ c; joined = x.joined; contents = c; end = indefinite_end; holds = (x.taken, refl) }
 
 pub opens_range : (m : BERMode) (t : Tag) (p : PCBit) (s c : List ℕ) (e : ContentsEnd) → OpensAt m t p s c e → t.tag_number < 2 ^ 64
-opens_range m t p s c (counted r) x = x.in_range
-opens_range m t p s c uncounted x = x.in_range
+opens_range m t p s c (definite_end r) x = x.in_range
+opens_range m t p s c indefinite_end x = x.in_range

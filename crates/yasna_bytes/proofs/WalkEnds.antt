@@ -6,7 +6,7 @@ use Rattle.yasna_base.specs.declared.mode.BERMode.{BERMode}
 use Rattle.yasna_base.specs.declared.mode.BERMode.TheVariants.{Ber, Der, Cer}
 use Rattle.yasna_base.specs.declared.error.ASN1ErrorKind.{ASN1ErrorKind}
 use Rattle.yasna_base.specs.declared.error.ASN1ErrorKind.TheVariants.{StackOverflow}
-use Rattle.yasna_base.specs.Header.{ContentsEnd, counted, uncounted, OpensAt}
+use Rattle.yasna_base.specs.Header.{ContentsEnd, definite_end, indefinite_end, OpensAt}
 use Rattle.yasna_base.specs.Element.{TakesIndefinite}
 use Rattle.yasna_base.specs.Identifier.{identifier}
 use Rattle.yasna_base.specs.Raw.{LooksInto, LooksUpTo}
@@ -154,20 +154,20 @@ stopped_all m e n s f fs j r k x y = record {
 
 -- both are counted, or neither is
 abbrev pub AreAlike : ContentsEnd → ContentsEnd → Type 0
-AreAlike (counted a) (counted b) = Unit {0}
-AreAlike (counted a) uncounted = ⊥
-AreAlike uncounted (counted b) = ⊥
-AreAlike uncounted uncounted = Unit {0}
+AreAlike (definite_end a) (definite_end b) = Unit {0}
+AreAlike (definite_end a) indefinite_end = ⊥
+AreAlike indefinite_end (definite_end b) = ⊥
+AreAlike indefinite_end indefinite_end = Unit {0}
 
 alike : (e : ContentsEnd) → AreAlike e e
-alike (counted a) = tt
-alike uncounted = tt
+alike (definite_end a) = tt
+alike indefinite_end = tt
 
 alike_no_end : (e f : ContentsEnd) (s : List ℕ) → AreAlike e f → NoEnd e s → NoEnd f s
-alike_no_end (counted a) (counted b) s x o r y = o a (y.0, refl)
-alike_no_end (counted a) uncounted s x o r y = absurd x
-alike_no_end uncounted (counted b) s x o r y = absurd x
-alike_no_end uncounted uncounted s x o r y = o r y
+alike_no_end (definite_end a) (definite_end b) s x o r y = o a (y.0, refl)
+alike_no_end (definite_end a) indefinite_end s x o r y = absurd x
+alike_no_end indefinite_end (definite_end b) s x o r y = absurd x
+alike_no_end indefinite_end indefinite_end s x o r y = o r y
 
 -- a mode walks contents that end in one way
 looks_not_taken : (m : BERMode) (p q : PCBit) → LooksInto m p → TakesIndefinite m q → ⊥
@@ -176,40 +176,40 @@ looks_not_taken Der p q x y = y
 looks_not_taken Cer p q x y = absurd x
 
 one_way : (m : BERMode) (p q : PCBit) (e f : ContentsEnd) → TakesEnd m p e → LooksUpTo m p e → TakesEnd m q f → LooksUpTo m q f → AreAlike e f
-one_way m p q (counted a) (counted b) t x u y = tt
-one_way m p q (counted a) uncounted t x u y = absurd (looks_not_taken m p q x u)
-one_way m p q uncounted (counted b) t x u y = absurd (looks_not_taken m q p y t)
-one_way m p q uncounted uncounted t x u y = tt
+one_way m p q (definite_end a) (definite_end b) t x u y = tt
+one_way m p q (definite_end a) indefinite_end t x u y = absurd (looks_not_taken m p q x u)
+one_way m p q indefinite_end (definite_end b) t x u y = absurd (looks_not_taken m q p y t)
+one_way m p q indefinite_end indefinite_end t x u y = tt
 
 pub opens_taken : (m : BERMode) (t : Tag) (p : PCBit) (s c : List ℕ) (e : ContentsEnd) → OpensAt m t p s c e → TakesEnd m p e
-opens_taken m t p s c (counted r) x = tt
-opens_taken m t p s c uncounted x = x.taken
+opens_taken m t p s c (definite_end r) x = tt
+opens_taken m t p s c indefinite_end x = x.taken
 
 entered_alike : (m : BERMode) (n : ℕ) (e : ContentsEnd) (s c : List ℕ) (f : ContentsEnd) → IsWalked m e → Enters m n s c f → AreAlike e f
 entered_alike m n e s c f w x = one_way m w.0 x.bit e f w.1 w.2 (opens_taken m x.tag x.bit s c f x.opened.opens) x.looks
 
 -- where contents end, what is left and what follows them is what follows the element
 ends_before : (e f : ContentsEnd) (s r : List ℕ) → AreAlike e f → EndsWithin e s r → EndsBefore f s (r ++ following f)
-ends_before (counted a) (counted b) s r x y = (y.0, ap (λ z. z ++ b) y.1)
-ends_before (counted a) uncounted s r x y = absurd x
-ends_before uncounted (counted b) s r x y = absurd x
-ends_before uncounted uncounted s r x y = y ∙ ap (λ z. 0 ∷ 0 ∷ z) (sym (append-nil r))
+ends_before (definite_end a) (definite_end b) s r x y = (y.0, ap (λ z. z ++ b) y.1)
+ends_before (definite_end a) indefinite_end s r x y = absurd x
+ends_before indefinite_end (definite_end b) s r x y = absurd x
+ends_before indefinite_end indefinite_end s r x y = y ∙ ap (λ z. 0 ∷ 0 ∷ z) (sym (append-nil r))
 
 pub ends_outermost : (e : ContentsEnd) (s r : List ℕ) → EndsWithin e s r → EndsBefore e s (follows e r)
-ends_outermost (counted z) s r x = (x.0, refl)
-ends_outermost uncounted s r x = x
+ends_outermost (definite_end z) s r x = (x.0, refl)
+ends_outermost indefinite_end s r x = x
 
 ends_front : (e : ContentsEnd) (s r : List ℕ) → EndsWithin e s r → (p : List ℕ) × (s ≡ p ++ r)
-ends_front (counted a) s r x = ([], x.0 ∙ sym x.1)
-ends_front uncounted s r x = (0 ∷ 0 ∷ [], x)
+ends_front (definite_end a) s r x = ([], x.0 ∙ sym x.1)
+ends_front indefinite_end s r x = (0 ∷ 0 ∷ [], x)
 
 -- a header of a byte at least stands in front of contents
 opens_front : (m : BERMode) (t : Tag) (p : PCBit) (s c : List ℕ) (f : ContentsEnd) → OpensAt m t p s c f →
     (h : List ℕ) × (1 ≤ length h) × (s ≡ h ++ (c ++ following f))
-opens_front m t p s c (counted r) x =
+opens_front m t p s c (definite_end r) x =
     let i = length-append (identifier t p) x.l in
     (identifier t p ++ x.l, omega (arith, identifier_some t p), x.joined ∙ sym (append_assoc (identifier t p) x.l (c ++ r)))
-opens_front m t p s c uncounted x =
+opens_front m t p s c indefinite_end x =
     let h = identifier t p ++ (128 ∷ []) in
     let i = length-append (identifier t p) (128 ∷ []) in (
       h,
@@ -345,7 +345,7 @@ module _ {m : BERMode} {e : ContentsEnd} {n : ℕ} {s : List ℕ} {table : List 
     pub passed_fits : (a : List ℕ) → Passes o j h a → length a < length r
     passed_fits a x =
         let y = passes_in a x in
-        let p = opens_front m y.tag y.bit r y.contents (counted a) y.opened.opens in
+        let p = opens_front m y.tag y.bit r y.contents (definite_end a) y.opened.opens in
         let i = length-append p.0 (y.contents ++ a) in
         let i' = length-append y.contents a in
         omega (arith, p.1, ap length p.2)
@@ -408,7 +408,7 @@ module _ {m : BERMode} {e : ContentsEnd} {n : ℕ} {s : List ℕ} {table : List 
     pub passed_keeps : (a : List ℕ) → Passes o j h a → Walking m e n s table behind k a
     passed_keeps a x =
         let y = passes_in a x in
-        let p = opens_front m y.tag y.bit r y.contents (counted a) y.opened.opens in
+        let p = opens_front m y.tag y.bit r y.contents (definite_end a) y.opened.opens in
         record {
           depth = w.depth;
           deep = w.deep;

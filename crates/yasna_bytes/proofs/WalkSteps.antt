@@ -7,7 +7,7 @@ use Rattle.yasna_base.specs.declared.tag.Tag.{Tag}
 use Rattle.yasna_base.specs.declared.error.ASN1ErrorKind.{ASN1ErrorKind}
 use Rattle.yasna_base.specs.declared.error.ASN1ErrorKind.TheVariants.{StackOverflow}
 use Rattle.yasna_base.specs.Element.{end_of_contents}
-use Rattle.yasna_base.specs.Header.{ContentsEnd, counted, uncounted, OpensAt}
+use Rattle.yasna_base.specs.Header.{ContentsEnd, definite_end, indefinite_end, OpensAt}
 use Rattle.yasna_base.specs.Identifier.{end_tag, StartsElement}
 use Rattle.yasna_base.specs.Pieces.{Each, Pieces}
 use Rattle.yasna_base.specs.Raw.{RawValue, LooksInto, LooksUpTo, IsRaw, JoiningBefore, DeepRaw, IsDeepRaw, ContentsTo}
@@ -69,32 +69,32 @@ before_first s x = each_first x.values x.pieces.pieces s x.rest x.pieces.each (x
 
 -- one thing follows an end
 pub ends_once : (e : ContentsEnd) (s r a : List ℕ) → EndsBefore e s r → EndsBefore e s a → r ≡ a
-ends_once (counted z) s r a x y = x.1 ∙ sym y.1
-ends_once uncounted s r a x y = let e = sym x ∙ y in cc
+ends_once (definite_end z) s r a x y = x.1 ∙ sym y.1
+ends_once indefinite_end s r a x y = let e = sym x ∙ y in cc
 
 -- contents that are looked into end where the element does
 pub closes_to : {R : RawValue → List ℕ → Type 0} (m : BERMode) (p : PCBit) (c : List ℕ) (e : ContentsEnd) (r : List ℕ) → LooksUpTo m p e →
     ContentsTo R m p c e r → JoiningBefore R (λ q. EndsBefore e q r) c
-closes_to m p c (counted z) r l w =
+closes_to m p c (definite_end z) r l w =
     let j = w.1 l in
     record { values = j.0; front = c; rest = []; pieces = j.1; more = tt; joined = sym (append-nil c); deep = (refl, w.0) }
-closes_to m p c uncounted r l w =
+closes_to m p c indefinite_end r l w =
     record { values = w.1.0; front = w.0; rest = 0 ∷ 0 ∷ r; pieces = w.1.1; more = tt; joined = w.2; deep = refl }
 
 pub to_closes : {R : RawValue → List ℕ → Type 0} (m : BERMode) (p : PCBit) (c : List ℕ) (e : ContentsEnd) (r : List ℕ) →
     JoiningBefore R (λ q. EndsBefore e q r) c → ContentsTo R m p c e r
-to_closes {R} m p c (counted z) r x =
+to_closes {R} m p c (definite_end z) r x =
     let f = x.joined ∙ ap (λ z. x.front ++ z) x.deep.0 ∙ append-nil x.front in
     (x.deep.1, λ _. (x.values, subst (λ z. Pieces R x.values z) (sym f) x.pieces))
-to_closes m p c uncounted r x = (x.front, (x.values, x.pieces), x.joined ∙ ap (λ z. x.front ++ z) x.deep)
+to_closes m p c indefinite_end r x = (x.front, (x.values, x.pieces), x.joined ∙ ap (λ z. x.front ++ z) x.deep)
 
 -- a header whose contents end before r begins some raw element that does
 pub raw_within : {R : RawValue → List ℕ → Type 0} (m : BERMode) (t : Tag) (p : PCBit) (s c : List ℕ) (e : ContentsEnd) (r : List ℕ) → (t ≡ end_tag → ⊥) →
     OpensAt m t p s c e → ContentsTo R m p c e r → (v : RawValue) × RawAt R m v s r
-raw_within m t p s c (counted z) r n x w = (record { tag = t; bit = p; payload = c }, raw_ends m t p s c (counted z) r c n x w refl)
-raw_within m t p s c uncounted r n x w = (
+raw_within m t p s c (definite_end z) r n x w = (record { tag = t; bit = p; payload = c }, raw_ends m t p s c (definite_end z) r c n x w refl)
+raw_within m t p s c indefinite_end r n x w = (
   record { tag = t; bit = p; payload = w.0 ++ end_of_contents },
-  raw_ends m t p s c uncounted r (w.0 ++ end_of_contents) n x w (w.2 ∙ sym (append_assoc w.0 end_of_contents r)),
+  raw_ends m t p s c indefinite_end r (w.0 ++ end_of_contents) n x w (w.2 ∙ sym (append_assoc w.0 end_of_contents r)),
 )
 
 -- a raw element within the levels stands in front
@@ -118,26 +118,26 @@ starts_no_end e s r x y = starts_not_at_end s x (ends_at_end e s r y)
 
 -- what is said behind elements from a place on, where an element of one header stands that isn't looked into
 module _ (m : BERMode) (n : ℕ) (s r : List ℕ) (x : Passes m (suc n) s r) where
-  past : {P : List ℕ → Type 0} → (P s → ⊥) → Behind P m n x.bit s x.contents (counted r) → JoiningBefore (IsRaw (suc n) m) P r
+  past : {P : List ℕ → Type 0} → (P s → ⊥) → Behind P m n x.bit s x.contents (definite_end r) → JoiningBefore (IsRaw (suc n) m) P r
   past not_here (at_once d) = absurd (not_here d)
   past {P} not_here (later q w y) = subst (λ z. JoiningBefore (IsRaw (suc n) m) P z) w.0 y
 
   passed : {P : List ℕ → Type 0} → (P s → ⊥) → JoiningBefore (IsRaw (suc n) m) P s ↔ JoiningBefore (IsRaw (suc n) m) P r
   passed not_here = (
-    λ y. past not_here (first_behind m n x.tag x.bit s x.contents (counted r) x.opened.opens (before_first s y)),
-    λ y. let w = raw_within m x.tag x.bit s x.contents (counted r) r x.opened.not_end x.opened.opens (refl, λ l. absurd (x.closed l)) in
+    λ y. past not_here (first_behind m n x.tag x.bit s x.contents (definite_end r) x.opened.opens (before_first s y)),
+    λ y. let w = raw_within m x.tag x.bit s x.contents (definite_end r) r x.opened.not_end x.opened.opens (refl, λ l. absurd (x.closed l)) in
         more_raw m n w.0 s r w.1 y,
   )
 
   passed_starts : StartsElement s
-  passed_starts = opens_starts m x.tag x.bit s x.contents (counted r) x.opened.not_end x.opened.opens
+  passed_starts = opens_starts m x.tag x.bit s x.contents (definite_end r) x.opened.not_end x.opened.opens
 
   pub passed_closes : (e : ContentsEnd) (a : List ℕ) → ClosesBefore (suc n) m e s a ↔ ClosesBefore (suc n) m e r a
   passed_closes e a = passed (starts_no_end e s a passed_starts)
 
   passed_not_deep : DeepRaw (IsRaw n m) (IsDeepRaw n m) m s → ⊥
   passed_not_deep y =
-      let i = header_once m y.tag x.tag y.bit x.bit s y.contents x.contents y.end (counted r) y.opens x.opened.opens in
+      let i = header_once m y.tag x.tag y.bit x.bit s y.contents x.contents y.end (definite_end r) y.opens x.opened.opens in
       x.closed (subst (λ p. LooksInto m p) i.bit (subst (λ e. LooksUpTo m y.bit e) i.end y.looks))
 
   pub passed_deep : MeetsDeep (suc n) m s ↔ MeetsDeep (suc n) m r

@@ -4,7 +4,7 @@ use Rattle.std.specs.Prelude.{◌≡◌, ℕ, ◌≤◌, List, ◌∷◌, ◌++�
 use Rattle.yasna_base.specs.Digits.{IsBytes}
 use Rattle.yasna_base.specs.Element.{TakesDefinite, TakesIndefinite, IsPrimitive}
 pub use Rattle.yasna_base.specs.Header.{EndsBefore}
-use Rattle.yasna_base.specs.Header.{ContentsEnd, counted, uncounted, OpensAt}
+use Rattle.yasna_base.specs.Header.{ContentsEnd, definite_end, indefinite_end, OpensAt}
 use Rattle.yasna_base.specs.Identifier.{identifier}
 use Rattle.yasna_base.specs.Length.{SpellsLength}
 use Rattle.yasna_base.specs.declared.error.ASN1ErrorKind.{ASN1ErrorKind}
@@ -20,8 +20,8 @@ use Rattle.yasna_bytes.specs.declared.bytes.header.Refusal.{Refusal}
 
 -- behind an identifier with this bit, a length, the contents c that it counts, and r; or the byte of the indefinite form and c
 abbrev pub Holds : BERMode → PCBit → List ℕ → List ℕ → ContentsEnd → Type 0
-Holds m bit y c (counted r) = (l : List ℕ) × TakesDefinite m bit × SpellsLength m (length c) l × (y ≡ l ++ (c ++ r))
-Holds m bit y c uncounted = TakesIndefinite m bit × (y ≡ 128 ∷ c)
+Holds m bit y c (definite_end r) = (l : List ℕ) × TakesDefinite m bit × SpellsLength m (length c) l × (y ≡ l ++ (c ++ r))
+Holds m bit y c indefinite_end = TakesIndefinite m bit × (y ≡ 128 ∷ c)
 
 -- a length and contents, which are bytes, stand behind an identifier with this bit
 pub record HoldsContents (m : BERMode) (asked : PCBit) (y : List ℕ) (o : Opened) : Type 0 where

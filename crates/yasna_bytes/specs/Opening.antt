@@ -1,6 +1,6 @@
 -- An element whose header was read, as contracts see it.
 use Rattle.std.specs.Prelude.{ℕ, List}
-use Rattle.yasna_base.specs.Header.{ContentsEnd, counted, uncounted}
+use Rattle.yasna_base.specs.Header.{ContentsEnd, definite_end, indefinite_end}
 use Rattle.yasna_base.specs.declared.tag.PCBit.{PCBit}
 use Rattle.yasna_bytes.specs.declared.bytes.header.ContentsEnd.{ContentsEnd as EndFound}
 use Rattle.yasna_bytes.specs.declared.bytes.header.ContentsEnd.TheVariants.{Definite, Indefinite}
@@ -13,8 +13,8 @@ pub record Opening : Type 0 where
 
 -- where contents end whose length has this form
 abbrev pub end_found : EndFound → ContentsEnd
-end_found (Definite a) = counted a.now
-end_found Indefinite = uncounted
+end_found (Definite a) = definite_end a.now
+end_found Indefinite = indefinite_end
 
 -- what is seen of an element whose header was read
 abbrev pub opening : PCBit → List ℕ → EndFound → Opening

@@ -2,7 +2,7 @@
 use Rattle.std.specs.Borrow.{Bor}
 use Rattle.std.specs.Prelude.{◌≡◌, ◌↔◌, ◌⊎◌, ℕ, ◌^◌, ◌<◌, ◌≤◌, List, [], ◌∷◌, ◌++◌, Result, Ok, Err, false}
 use Rattle.yasna_base.specs.Element.{TakesIndefinite}
-use Rattle.yasna_base.specs.Header.{ContentsEnd, counted, uncounted, OpensAt}
+use Rattle.yasna_base.specs.Header.{ContentsEnd, definite_end, indefinite_end, OpensAt}
 use Rattle.yasna_base.specs.Identifier.{end_tag, StartsElement, AtEnd}
 use Rattle.yasna_base.specs.Raw.{RawValue, LooksInto, LooksUpTo, IsRaw, JoiningBefore, IsDeepRaw, ContentsTo}
 use Rattle.yasna_base.specs.declared.error.ASN1ErrorKind.{ASN1ErrorKind}
@@ -53,7 +53,7 @@ pub record Passes (m : BERMode) (n : ℕ) (s r : List ℕ) : Type 0 where
   pub tag : Tag
   pub bit : PCBit
   pub contents : List ℕ
-  pub opened : IsOpened m n s tag bit contents (counted r)
+  pub opened : IsOpened m n s tag bit contents (definite_end r)
   pub closed : LooksInto m bit → ⊥
 
 -- an element is looked into, and c are its contents
@@ -72,13 +72,13 @@ pub record Stops (m : BERMode) (n : ℕ) (e : ContentsEnd) (s : List ℕ) (k : A
 
 -- y is where contents end, and r are left of y behind that, without what follows contents whose length is counted
 abbrev pub EndsWithin : ContentsEnd → List ℕ → List ℕ → Type 0
-EndsWithin (counted a) y r = (y ≡ []) × (r ≡ [])
-EndsWithin uncounted y r = y ≡ 0 ∷ 0 ∷ r
+EndsWithin (definite_end a) y r = (y ≡ []) × (r ≡ [])
+EndsWithin indefinite_end y r = y ≡ 0 ∷ 0 ∷ r
 
 -- the contents behind a header are looked into, or the element is passed
 abbrev pub TurnsTo : BERMode → Opened → Turn → Type 0
 TurnsTo m o (Left a) = ⊥
-TurnsTo m o (Passed a) = (o.end ≡ counted a.now) × (LooksInto m o.bit → ⊥)
+TurnsTo m o (Passed a) = (o.end ≡ definite_end a.now) × (LooksInto m o.bit → ⊥)
 TurnsTo m o (Entered x) = (x ≡ o) × LooksUpTo m x.bit x.end
 
 -- what stands at a place in contents that end so
@@ -109,8 +109,8 @@ WalksTo m n e s (Err k) = NotWalked m n e s k
 
 -- where a mode takes contents that end so
 abbrev pub TakesEnd : BERMode → PCBit → ContentsEnd → Type 0
-TakesEnd m bit (counted a) = Unit {0}
-TakesEnd m bit uncounted = TakesIndefinite m bit
+TakesEnd m bit (definite_end a) = Unit {0}
+TakesEnd m bit indefinite_end = TakesIndefinite m bit
 
 -- where it takes and walks them in some elements
 abbrev pub IsWalked : BERMode → ContentsEnd → Type 0
@@ -118,13 +118,13 @@ IsWalked m e = (bit : PCBit) × TakesEnd m bit e × LooksUpTo m bit e
 
 -- what follows contents within those around them, where their length is counted
 abbrev pub following : ContentsEnd → List ℕ
-following (counted a) = a
-following uncounted = []
+following (definite_end a) = a
+following indefinite_end = []
 
 -- what follows an element whose contents end before r of the bytes that were given
 abbrev pub follows : ContentsEnd → List ℕ → List ℕ
-follows (counted a) r = a
-follows uncounted r = r
+follows (definite_end a) r = a
+follows indefinite_end r = r
 
 -- an element whose header was read ends, or its contents, which are looked into, don't
 abbrev pub FollowsAt : BERMode → ℕ → PCBit → List ℕ → ContentsEnd → Result (Bor (List ℕ)) ASN1ErrorKind → Type 0
@@ -137,8 +137,8 @@ IsRest s r = (b : List ℕ) × (s ≡ b ++ r)
 
 -- where the length of the contents c isn't counted, r are the last of them
 abbrev pub HasRest : ContentsEnd → List ℕ → List ℕ → Type 0
-HasRest (counted z) c r = Unit {0}
-HasRest uncounted c r = IsRest c r
+HasRest (definite_end z) c r = Unit {0}
+HasRest indefinite_end c r = IsRest c r
 
 -- the raw element that was found
 abbrev pub element_of : RawElement → RawValue

@@ -8,7 +8,7 @@ use Rattle.yasna_base.specs.declared.tag.PCBit.TheVariants.{Primitive, Construct
 use Rattle.yasna_base.specs.declared.tag.Tag.{Tag}
 use Rattle.yasna_base.specs.Element.{TakesIndefinite, end_of_contents}
 use Rattle.yasna_base.specs.Digits.{IsBytes}
-use Rattle.yasna_base.specs.Header.{OpensAt, counted, uncounted}
+use Rattle.yasna_base.specs.Header.{OpensAt, definite_end, indefinite_end}
 use Rattle.yasna_base.specs.Identifier.{identifier, end_tag}
 use Rattle.yasna_base.proofs.Digits.{bytes_front}
 use Rattle.yasna_base.proofs.Identifier.{identifier_some}
@@ -68,7 +68,7 @@ longer i y h = omega (arith, h, length-append i y)
 
 -- an element whose contents are counted is listed by its line and those of what stands in it
 pub counted_told : (m : BERMode) (n k : ℕ) (w : Bool) (line : Line) (s c r : List ℕ) (below : List Line) → k + 1 ≡ n → line.depth + n ≡ 101 →
-    line.within ≡ w → (line.tag ≡ end_tag → ⊥) → OpensAt m line.tag line.bit s c (counted r) → line.header + (length c + length r) ≡ length s →
+    line.within ≡ w → (line.tag ≡ end_tag → ⊥) → OpensAt m line.tag line.bit s c (definite_end r) → line.header + (length c + length r) ≡ length s →
     line.size ≡ Some (length c) → Below (λ v. ListsBytes k m v) w line.tag line.bit (line.offset + line.header) c below →
     Told n m w line.offset s r (line ∷ below)
 counted_told m n k w line s c r below e d i ne x h z y =
@@ -103,7 +103,7 @@ below_of Cer k w t Primitive o c ls x y = absurd x
 
 -- and one whose contents aren't, where two zeros end them
 pub uncounted_told : (m : BERMode) (n k : ℕ) (w : Bool) (line : Line) (s d c r : List ℕ) (below : List Line) → k + 1 ≡ n → line.depth + n ≡ 101 →
-    line.within ≡ w → (line.tag ≡ end_tag → ⊥) → OpensAt m line.tag line.bit s d uncounted → line.header + length d ≡ length s →
+    line.within ≡ w → (line.tag ≡ end_tag → ⊥) → OpensAt m line.tag line.bit s d indefinite_end → line.header + length d ≡ length s →
     line.size ≡ None → d ≡ c ++ (0 ∷ 0 ∷ r) → ListsBytes k m w (line.offset + line.header) c below → Told n m w line.offset s r (line ∷ below)
 uncounted_told m n k w line s d c r below e f i ne x h z g y =
     let b = identifier line.tag line.bit ++ (128 ∷ (c ++ end_of_contents)) in

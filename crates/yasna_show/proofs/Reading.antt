@@ -1,7 +1,7 @@
 -- What was told of elements so far.
 use Rattle.std.proofs.Common.{◌≡◌, ◌+◌, ◌-◌, ◌<◌, ◌≤◌, ℕ, Bool, true, false, List, [], ◌∷◌, ◌++◌, length, Some, None, Ok, Err, inl, inr, refl, sym, ap, ◌∙◌, subst, append-nil, append_assoc, length-append, arith}
 use Rattle.std.specs.Prelude.{Option, Result, IfOk}
-use Rattle.yasna_base.specs.Header.{OpensAt, counted, uncounted}
+use Rattle.yasna_base.specs.Header.{OpensAt, definite_end, indefinite_end}
 use Rattle.yasna_base.specs.declared.tag.PCBit.TheVariants.{Primitive}
 use Rattle.yasna_bytes.specs.Opening.{end_found}
 use Rattle.yasna_bytes.specs.Walk.{following}
@@ -61,7 +61,7 @@ if_ok (Err e) P Q f p = tt
 
 -- the element whose contents are counted was told, and what stands in it
 pub element_counted : (rules : Rules) (p q : Place) (o : Opened) (a b d : Option (List Line)) (r : List ℕ) → OpensItem rules p o →
-    end_found o.end ≡ counted r → Hears a b (line_of o.item ∷ []) → BelowHeard rules o.item b d → q.left.now ≡ r →
+    end_found o.end ≡ definite_end r → Hears a b (line_of o.item ∷ []) → BelowHeard rules o.item b d → q.left.now ≡ r →
     q.offset + length r ≡ p.offset + length p.left.now → ElementHeard rules p q a d
 element_counted rules p q o a b d r x e h y i j =
     let opens = subst (λ z. OpensAt rules.mode o.item.tag o.item.bit p.left.now o.item.contents.now z) e x.opens in
@@ -84,7 +84,7 @@ element_counted rules p q o a b d r x e h y i j =
 
 -- and the one whose contents aren't
 pub element_uncounted : (rules inner : Rules) (p i q : Place) (o : Opened) (a b d : Option (List Line)) → OpensItem rules p o →
-    end_found o.end ≡ uncounted → Hears a b (line_of o.item ∷ []) → inner.mode ≡ rules.mode → inner.levels + 1 ≡ rules.levels →
+    end_found o.end ≡ indefinite_end → Hears a b (line_of o.item ∷ []) → inner.mode ≡ rules.mode → inner.levels + 1 ≡ rules.levels →
     inner.is_within ≡ rules.is_within → i.left.now ≡ o.item.contents.now → i.offset ≡ o.item.offset + o.item.header →
     ContentsHeard inner i false q b d → ElementHeard rules p q a d
 element_uncounted rules inner p i q o a b d x e h f g j k l y =

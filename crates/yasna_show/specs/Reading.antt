@@ -1,7 +1,7 @@
 -- What the reading of elements answers.
 use Rattle.std.specs.Prelude.{◌≡◌, ℕ, ◌+◌, ◌≤◌, Bool, true, false, List, [], ◌∷◌, ◌++◌, length, Option, Some, None}
 use Rattle.yasna_base.specs.Bits.{bits_tag}
-use Rattle.yasna_base.specs.Header.{ContentsEnd, counted, uncounted, OpensAt}
+use Rattle.yasna_base.specs.Header.{ContentsEnd, definite_end, indefinite_end, OpensAt}
 use Rattle.yasna_base.specs.Identifier.{end_tag}
 use Rattle.yasna_base.specs.Octets.{octets_tag}
 use Rattle.yasna_bytes.specs.Opening.{end_found}
@@ -18,8 +18,8 @@ line_of i = record { offset = i.offset; header = i.header; size = i.size; depth 
 
 -- how many octets contents take that end so, where they are counted
 abbrev pub counted_length : ContentsEnd → ℕ → Option ℕ
-counted_length (counted r) k = Some k
-counted_length uncounted k = None
+counted_length (definite_end r) k = Some k
+counted_length indefinite_end k = None
 
 -- the header of an element stands at a place
 pub record OpensItem (rules : Rules) (p : Place) (o : Opened) : Type 0 where

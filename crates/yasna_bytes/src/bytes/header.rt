@@ -2,7 +2,7 @@
 ghost use Rattle.std.specs.Prelude.{◌≡◌, IsTrue, ◌↔◌, MatchOption};
 ghost use Rattle.yasna_base.specs.Element.{TakesDefinite, TakesIndefinite};
 ghost use Rattle.yasna_bytes.specs.Refusal.{BlamesBytes};
-ghost use Rattle.yasna_base.specs.Header.{uncounted};
+ghost use Rattle.yasna_base.specs.Header.{indefinite_end};
 ghost use Rattle.yasna_bytes.specs.Header.{ContentsAt, BehindAt, OpenedAt, ConstructedAt, PrimitiveAt, EndsBefore, NoEnd, ClosesAt};
 
 use crate::bytes::cursor::Cursor;
@@ -231,7 +231,7 @@ pub fn close<'a>(opened: &Opened<'a>, rest: &'a [u8]) -> Result<&'a [u8], ASN1Er
 /// What follows the end-of-contents octets (X.690, 8.1.5), where they stand at the front.
 #[inline(always)]
 pub fn end_of_contents(s: &[u8]) -> Option<&[u8]>
-    ensures { MatchOption result (NoEnd uncounted s.now) (λ after. EndsBefore uncounted s.now after.now) }
+    ensures { MatchOption result (NoEnd indefinite_end s.now) (λ after. EndsBefore indefinite_end s.now after.now) }
 {
     match s {
         [0, 0, after @ ..] => Some(after),

@@ -1,6 +1,6 @@
 use Rattle.std.proofs.Common.{rules, ◌≡◌, ◌∷◌, Some, refl}
 use Rattle.yasna_bytes.specs.Length.{Measures}
-use Rattle.yasna_base.specs.Header.{counted, uncounted}
+use Rattle.yasna_base.specs.Header.{definite_end, indefinite_end}
 use Rattle.yasna_bytes.specs.Header.{Holds}
 use Rattle.yasna_base.proofs.Digits.{slice_bytes}
 use Rattle.yasna_bytes.proofs.Header.{holds_counted, holds_uncounted, holds_none, holds_short, holds_closed, holds_bytes}
@@ -10,12 +10,13 @@ pub returns-then-takes_definite : goal.returns-then-takes_definite
 returns-then-takes_definite c =
     let w : Measures c.args.mode c.args.s.now (Some c.in-Ok-Some-default.size) c.in-Ok-Some-default.rest.now = search rules in
     let x = c.in-Some.ensures {u = tt} in
-    let h : Holds c.args.mode c.args.bit c.args.s.now c.in-Some.within.now (counted c.in-Some.after.now) =
+    let h : Holds c.args.mode c.args.bit c.args.s.now c.in-Some.within.now (definite_end c.in-Some.after.now) =
     holds_counted c.args.mode c.args.bit c.args.s.now c.in-Ok-Some-default.rest.now c.in-Some.within.now c.in-Some.after.now c.in-Ok-Some-default.size w x.1
     x.0 ((c.if-takes_definite.ensures {u = tt}).0 refl) in
     record {
       bit = refl;
-      in_bytes = holds_bytes c.args.mode c.args.bit c.args.s.now c.in-Some.within.now (counted c.in-Some.after.now) (slice_bytes c.args.s.now c.type_inv.s) h;
+      in_bytes = holds_bytes c.args.mode c.args.bit c.args.s.now c.in-Some.within.now (definite_end c.in-Some.after.now)
+          (slice_bytes c.args.s.now c.type_inv.s) h;
       holds = h;
     }
 
@@ -30,10 +31,10 @@ returns-else-takes_definite c =
 pub returns-then-takes_indefinite : goal.returns-then-takes_indefinite
 returns-then-takes_indefinite c =
     let w : c.args.s.now ≡ 128 ∷ c.in-Ok-None-default.within.now = search rules in
-    let h : Holds c.args.mode c.args.bit c.args.s.now c.in-Ok-None-default.within.now uncounted = ((c.if-takes_indefinite.ensures {u = tt}).0 refl, w) in
+    let h : Holds c.args.mode c.args.bit c.args.s.now c.in-Ok-None-default.within.now indefinite_end = ((c.if-takes_indefinite.ensures {u = tt}).0 refl, w) in
     record {
       bit = refl;
-      in_bytes = holds_bytes c.args.mode c.args.bit c.args.s.now c.in-Ok-None-default.within.now uncounted (slice_bytes c.args.s.now c.type_inv.s) h;
+      in_bytes = holds_bytes c.args.mode c.args.bit c.args.s.now c.in-Ok-None-default.within.now indefinite_end (slice_bytes c.args.s.now c.type_inv.s) h;
       holds = h;
     }
 

@@ -1,6 +1,6 @@
 use Rattle.std.proofs.Common.{rules, refl, sym, subst}
 use Rattle.yasna_base.specs.Element.{IsPrimitive}
-use Rattle.yasna_base.specs.Header.{OpensAt, counted}
+use Rattle.yasna_base.specs.Header.{OpensAt, definite_end}
 use Rattle.yasna_bytes.specs.Front.{Takes}
 use Rattle.yasna_bytes.specs.Header.{AreContents}
 use Rattle.yasna_bytes.proofs.Header.{seen_bit, seen_within, header_refuses, takes_primitive, other_primitive}
@@ -10,7 +10,7 @@ pub returns-in-Definite : goal.returns-in-Definite
 returns-in-Definite c =
     let p = c.args.cursor in
     let w = c.in-Ok.ensures {u = tt} in
-    let o : OpensAt p.mode c.args.tag c.in-Ok.opened.bit p.left.now c.in-Ok.opened.within (counted c.in-Definite.after.now) = search rules in
+    let o : OpensAt p.mode c.args.tag c.in-Ok.opened.bit p.left.now c.in-Ok.opened.within (definite_end c.in-Definite.after.now) = search rules in
     subst (λ z. Takes (IsPrimitive AreContents p.levels p.mode c.args.tag) p.left.now z c.in-Definite.after.now) (sym (seen_within c.opened.view_is))
     (takes_primitive p.mode p.levels c.args.tag c.in-Ok.opened.bit p.left.now c.in-Ok.opened.within c.in-Definite.after.now w.0
     (seen_bit c.opened.view_is c.in-Primitive.is) o)

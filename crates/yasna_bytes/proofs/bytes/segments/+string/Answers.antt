@@ -2,7 +2,7 @@ use Rattle.std.proofs.Common.{rules, ◌-◌, ◌<◌, ◌∙◌, length, refl, 
 use Rattle.yasna_base.specs.declared.tag.PCBit.TheVariants.{Constructed}
 use Rattle.yasna_base.specs.Segmented.{segment_mode}
 use Rattle.yasna_base.specs.Element.{IsPrimitive}
-use Rattle.yasna_base.specs.Header.{OpensAt, counted}
+use Rattle.yasna_base.specs.Header.{OpensAt, definite_end}
 use Rattle.yasna_bytes.specs.Front.{Takes}
 use Rattle.yasna_bytes.specs.Header.{AreContents}
 use Rattle.yasna_bytes.specs.Segments.{further_cut, RefusesSegments, TakesString, RefusesString}
@@ -20,7 +20,7 @@ pub element-returns-in-Ok-whole : goal.element-returns-in-Ok-whole
 element-returns-in-Ok-whole g t c =
     let p = c.args.cursor in
     let w = c.in-Ok.ensures {u = tt} in
-    let o : OpensAt p.mode c.args.tag c.in-Ok.opened.bit p.left.now c.in-Ok.opened.within (counted c.in-Definite.after.now) = search rules in
+    let o : OpensAt p.mode c.args.tag c.in-Ok.opened.bit p.left.now c.in-Ok.opened.within (definite_end c.in-Definite.after.now) = search rules in
     let x = subst (λ z. Takes (IsPrimitive AreContents p.levels p.mode c.args.tag) p.left.now z c.in-Definite.after.now)
     (sym (seen_within c.opened.view_is)) (takes_primitive p.mode p.levels c.args.tag c.in-Ok.opened.bit p.left.now c.in-Ok.opened.within
     c.in-Definite.after.now w.0 (seen_bit c.opened.view_is c.in-Primitive.is) o) in
@@ -36,7 +36,7 @@ pub element-returns-in-Err-whole : goal.element-returns-in-Err-whole
 element-returns-in-Err-whole g t c =
     let p = c.args.cursor in
     let w = c.in-Ok.ensures {u = tt} in
-    let o : OpensAt p.mode c.args.tag c.in-Ok.opened.bit p.left.now c.in-Ok.opened.within (counted c.in-Definite.after.now) = search rules in
+    let o : OpensAt p.mode c.args.tag c.in-Ok.opened.bit p.left.now c.in-Ok.opened.within (definite_end c.in-Definite.after.now) = search rules in
     let x = subst (λ z. Takes (IsPrimitive AreContents p.levels p.mode c.args.tag) p.left.now z c.in-Definite.after.now)
     (sym (seen_within c.opened.view_is)) (takes_primitive p.mode p.levels c.args.tag c.in-Ok.opened.bit p.left.now c.in-Ok.opened.within
     c.in-Definite.after.now w.0 (seen_bit c.opened.view_is c.in-Primitive.is) o) in
