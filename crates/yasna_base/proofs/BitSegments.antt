@@ -43,7 +43,8 @@ bits_filled (suc n) m t v b x = elim (segmented_into bits_segmentation n m t v b
   | whole c y w a ↦ record { unused = w.unused; below = w.below; counted = w.counted }
   | in_segments h c vs y p j a ↦
       let f = joined_filled vs j.full
-      (each_filled (IsSegmented bits_segmentation n (segment_mode m) bits_segmentation.segment) (bits_filled n (segment_mode m) bits_segmentation.segment) vs p.pieces p.each) in
+      (each_filled (IsSegmented bits_segmentation n (segment_mode m) bits_segmentation.segment)
+      (bits_filled n (segment_mode m) bits_segmentation.segment) vs p.pieces p.each) in
       let i = f.counted in
       let k = j.count in
       record { unused = f.unused; below = f.below; counted = omega (arith, ap length j.bytes) }
@@ -65,7 +66,8 @@ eight_may_follow n m vs v bs p j e =
     let k = j.count in
     let l = j.in_range in
     record {
-      full = full_of_eight vs j.full (each_filled (IsSegmented bits_segmentation n m bits_segmentation.segment) (bits_filled n m bits_segmentation.segment) vs bs p) (omega arith);
+      full = full_of_eight vs j.full (each_filled (IsSegmented bits_segmentation n m bits_segmentation.segment)
+          (bits_filled n m bits_segmentation.segment) vs bs p) (omega arith);
       in_range = omega arith;
     }
 

@@ -270,7 +270,8 @@ unfolding bits_4
 not_turned n v (whole c x p a) = let e = (primitive_exact Ber Ber bits_tag bits_tag Constructed c _ _ _ [] [] x turned refl).bit in absurd (cc)
 not_turned n v (in_segments h c vs x p j a) =
     let starts = λ (u : BitString) (b : List ℕ). segmented_starts bits_segmentation (suc n) Ber bits_tag u b bits_once.segment in
-    let same = (pieces_same Ber bits_tag (segmented_exact bits_once (suc n) (suc n) Ber bits_tag) starts starts vs (bits_4 ∷ bits_8 ∷ []) c _ _ _ [] [] x turned p
+    let same = (pieces_same Ber bits_tag (segmented_exact bits_once (suc n) (suc n) Ber bits_tag) starts starts vs (bits_4 ∷ bits_8 ∷ []) c _ _ _ [] [] x
+    turned p
     (turned_pieces n) refl).0 in
     let full = (subst AreFullBeforeLast same j.full).0 in
     absurd (omega arith)
@@ -278,7 +279,8 @@ not_turned n v (in_segments h c vs x p j a) =
 -- behind unused bits no segment may follow
 bits_end : (n : ℕ) (v : BitString) → IsBits n Ber bits_tag v (35 ∷ 8 ∷ 3 ∷ 2 ∷ 4 ∷ 240 ∷ 3 ∷ 2 ∷ 0 ∷ 1 ∷ []) → ⊥
 bits_end n v x =
-    not_turned n v (segmented_into bits_segmentation (suc n) Ber bits_tag v _ (segmented_deeper bits_segmentation n (suc (suc n)) Ber bits_tag v _ (omega arith) x))
+    not_turned n v (segmented_into bits_segmentation (suc n) Ber bits_tag v _ (segmented_deeper bits_segmentation n (suc (suc n)) Ber bits_tag v _
+    (omega arith) x))
 
 -- unused bits are written as zero
 bits_cleared : bits_form bits_tag Der (record { bytes = 255 ∷ []; count = 4 }) ≡ 3 ∷ 2 ∷ 4 ∷ 240 ∷ []

@@ -27,7 +27,8 @@ unfolding IsSegmented
 segmented_zero k m t v b x = x
 
 -- a level more holds what is whole or in segments of the levels below
-pub segmented_of : {A : Type 0} (k : Segmentation A) (n : ℕ) (m : BERMode) (t : Tag) (v : A) (b : List ℕ) → Segmented k (IsSegmented k n (segment_mode m) k.segment) m t v b →
+pub segmented_of : {A : Type 0} (k : Segmentation A) (n : ℕ) (m : BERMode) (t : Tag) (v : A) (b : List ℕ) →
+    Segmented k (IsSegmented k n (segment_mode m) k.segment) m t v b →
     IsSegmented k (suc n) m t v b
 unfolding IsSegmented
 segmented_of k n m t v b x = x
@@ -59,7 +60,8 @@ unfolding IsDeepSegmented
 deep_into k n m t s x = x
 
 -- a string begins with its tag
-segmented_first : {A : Type 0} (k : Segmentation A) {R : A → List ℕ → Type 0} (m : BERMode) (t : Tag) (v : A) (b : List ℕ) → Segmented k R m t v b → BeginsWithTag t b
+segmented_first : {A : Type 0} (k : Segmentation A) {R : A → List ℕ → Type 0} (m : BERMode) (t : Tag) (v : A) (b : List ℕ) → Segmented k R m t v b →
+    BeginsWithTag t b
 segmented_first k m t v b (whole c x p a) = element_begins m t Primitive c b x
 segmented_first k m t v b (in_segments h c vs x p j a) = element_begins m t Constructed c b x
 
@@ -84,11 +86,13 @@ segmented_wider k m t f v b (whole c x p a) = whole c x p a
 segmented_wider k m t f v b (in_segments h c vs x p j a) = in_segments h c vs x (pieces_wider f vs c p) j a
 
 -- a string within some levels is one within more
-pub segmented_deeper : {A : Type 0} (k : Segmentation A) (n j : ℕ) (m : BERMode) (t : Tag) (v : A) (b : List ℕ) → n ≤ j → IsSegmented k n m t v b → IsSegmented k j m t v b
+pub segmented_deeper : {A : Type 0} (k : Segmentation A) (n j : ℕ) (m : BERMode) (t : Tag) (v : A) (b : List ℕ) → n ≤ j → IsSegmented k n m t v b →
+    IsSegmented k j m t v b
 segmented_deeper k zero j m t v b below x = absurd (segmented_zero k m t v b x)
 segmented_deeper k (suc n) zero m t v b below x = absurd (omega (arith, below))
 segmented_deeper k (suc n) (suc j) m t v b below x =
-    segmented_of k j m t v b (segmented_wider k m t (λ w c. segmented_deeper k n j (segment_mode m) k.segment w c (omega (arith, below))) v b (segmented_into k n m t v b x))
+    segmented_of k j m t v b (segmented_wider k m t (λ w c. segmented_deeper k n j (segment_mode m) k.segment w c (omega (arith, below))) v b
+    (segmented_into k n m t v b x))
 
 -- what is too deep begins with the wanted tag
 pub deep_begins : {A : Type 0} (k : Segmentation A) (n : ℕ) (m : BERMode) (t : Tag) (s : List ℕ) → IsDeepSegmented k n m t s → BeginsWithTag t s
@@ -193,7 +197,8 @@ segmented_level k zero m t v b x = absurd (segmented_zero k m t v b x)
 segmented_level k (suc n) m t v b x = omega arith
 
 -- the contents of a primitive element are a string where a level is left
-pub segmented_whole : {A : Type 0} (k : Segmentation A) (n : ℕ) (m : BERMode) (t : Tag) (v : A) (c b : List ℕ) → 1 ≤ n → Element m t Primitive c b → k.whole m v c →
+pub segmented_whole : {A : Type 0} (k : Segmentation A) (n : ℕ) (m : BERMode) (t : Tag) (v : A) (c b : List ℕ) → 1 ≤ n → Element m t Primitive c b →
+    k.whole m v c →
     StaysWhole m k.full (length (k.bytes v)) → IsSegmented k n m t v b
 segmented_whole k zero m t v c b level x p a = absurd (omega (arith, level))
 segmented_whole k (suc n) m t v c b level x p a = segmented_of k n m t v b (whole c x p a)

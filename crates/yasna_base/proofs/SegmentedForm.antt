@@ -149,7 +149,8 @@ module _ {A : Type 0} {k : Segmentation A} {Can : A → Type 0} {contents : A �
         (x.means (segment_mode o) w c) (taken.whole k.full (length (k.bytes w)))) (segments v) cut.1 fits)
         (x.join (segment_mode o) v can long) (taken.into k.full (map k.bytes (segments v)) cut.0))
 
-    form_holds : (m o : BERMode) (n : ℕ) (v : A) → HoldsForm m o → Can v → segmented_nest k m v ≤ n → length (segmented_form k contents segments t m v) < 2 ^ 64 →
+    form_holds : (m o : BERMode) (n : ℕ) (v : A) → HoldsForm m o → Can v → segmented_nest k m v ≤ n →
+        length (segmented_form k contents segments t m v) < 2 ^ 64 →
         IsSegmented k n o t v (segmented_form k contents segments t m v)
     form_holds m o n v h can level short = elim (stays_or_not m k.full (length (k.bytes v))) [
       | inl i ↦

@@ -37,14 +37,16 @@ stood k n m t s e b p o none deep = record {
 }
 
 -- a string has a header
-segmented_header : {A : Type 0} (k : Segmentation A) (n : ℕ) (m : BERMode) (t : Tag) (v : A) (b s r : List ℕ) → IsSegmented k n m t v b → s ≡ b ++ r → HasHeader AnyBit m n t s
+segmented_header : {A : Type 0} (k : Segmentation A) (n : ℕ) (m : BERMode) (t : Tag) (v : A) (b s r : List ℕ) → IsSegmented k n m t v b → s ≡ b ++ r →
+    HasHeader AnyBit m n t s
 segmented_header k zero m t v b s r x e = absurd (segmented_zero k m t v b x)
 segmented_header k (suc n) m t v b s r x e = elim (segmented_into k n m t v b x) [
   | whole c y w a ↦ element_header AnyBit m (suc n) t Primitive c b s r (omega arith) tt y e
   | in_segments h c vs y p j a ↦ element_header AnyBit m (suc n) t Constructed c b s r (omega arith) tt y e
 ]
 
-deep_header : {A : Type 0} (k : Segmentation A) (n : ℕ) (m : BERMode) (t : Tag) (s : List ℕ) → IsDeepSegmented k n m t s → IsTooDeep n t s ⊎ HasHeader AnyBit m n t s
+deep_header : {A : Type 0} (k : Segmentation A) (n : ℕ) (m : BERMode) (t : Tag) (s : List ℕ) → IsDeepSegmented k n m t s →
+    IsTooDeep n t s ⊎ HasHeader AnyBit m n t s
 deep_header k zero m t s d = inl (refl, deep_zero_into k m t s d)
 deep_header k (suc n) m t s d = let x = deep_into k n m t s d in inr (opens_header m (suc n) t Constructed s x.contents x.end (omega arith) x.opens)
 
@@ -97,7 +99,8 @@ whole_not_deep k (suc n) m t s c r x d =
     absurd (cc)
 
 -- the contents of a primitive element were refused
-pub whole_refused : {A : Type 0} (k : Segmentation A) (n : ℕ) (m : BERMode) (t : Tag) (s c r : List ℕ) (e : Refusal) → Takes (IsPrimitive AreContents n m t) s c r →
+pub whole_refused : {A : Type 0} (k : Segmentation A) (n : ℕ) (m : BERMode) (t : Tag) (s c r : List ℕ) (e : Refusal) →
+    Takes (IsPrimitive AreContents n m t) s c r →
     ((e.kind ≡ OutOfMemory) × (c ≡ [] → ⊥)) ⊎ (BlamesBytes e.kind × ((v : A) → k.whole m v c → StaysWhole m k.full (length (k.bytes v)) → ⊥)) →
     e.moved ≡ true → RefusesString k n m t s e
 whole_refused k n m t s c r e x (inl h) o = record {

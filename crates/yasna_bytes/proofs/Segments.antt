@@ -48,7 +48,8 @@ lead_more R c vs y v b r f p e = record {
 module _ {A : Type 0} {k : Segmentation A} (once : SegmentsOnce k) (n : ℕ) (m : BERMode) (c : List ℕ) where
   -- a string isn't elsewhere
   segment_not_elsewhere : (v : A) (b r y : List ℕ) → IsSegmented k n m k.segment v b → y ≡ b ++ r → IsElsewhere k.segment y → ⊥
-  segment_not_elsewhere v b r y p e = begins_not_elsewhere (subst (λ z. BeginsWithTag k.segment z) (sym e) (begins_with k.segment b r (segmented_begins k n m k.segment v b p)))
+  segment_not_elsewhere v b r y p e = begins_not_elsewhere (subst (λ z. BeginsWithTag k.segment z) (sym e)
+      (begins_with k.segment b r (segmented_begins k n m k.segment v b p)))
 
   -- where segments that go on behind vs make no value, contents end nowhere but there
   pub record OneEnd (vs ws : List A) (y z : List ℕ) : Type 0 where
@@ -152,9 +153,11 @@ module _ {A T : Type 0} {k : Segmentation A} {value : List ℕ → T → A} (onc
       e.moved ≡ true → RefusesSegments k n m c e
   segment_refused s y e h more f o =
       let there : IsElsewhere k.segment y → ⊥ = λ g. let i = f.moved.1 g in absurd (cc) in
-      let none : (e.kind ≡ OutOfMemory → ⊥) → NoFront (IsSegmented k n m k.segment) y = λ q w b r p g. f.none q (w, r, record { front = b; joined = g; member = p }) in
+      let none : (e.kind ≡ OutOfMemory → ⊥) → NoFront (IsSegmented k n m k.segment) y =
+      λ q w b r p g. f.none q (w, r, record { front = b; joined = g; member = p }) in
       record {
-        none = λ q z i. there (at_end_elsewhere k.segment y once.segment (one_end once n m c s.values y h.lead (λ w us v b r p g _. none q w b r p g) z i).at_end);
+        none = λ q z i. there (at_end_elsewhere k.segment y once.segment (one_end once n m c s.values y h.lead
+            (λ w us v b r p g _. none q w b r p g) z i).at_end);
         moved = o;
         too_deep = λ i. record {
           values = s.values;

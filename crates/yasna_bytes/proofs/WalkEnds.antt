@@ -368,7 +368,8 @@ module _ {m : BERMode} {e : ContentsEnd} {n : ℕ} {s : List ℕ} {table : List 
         (same_left m e [] k r a (subst (λ i. EndsBefore e i a) is x)))
 
     -- the element around goes on behind the innermost
-    pub left_keeps : (a u q : List ℕ) → (k ≡ n → ⊥) → EndsWithin e h a → u ≡ drop (length s - (behind + length a)) s → q ≡ take (length u - get_or table k 0) u →
+    pub left_keeps : (a u q : List ℕ) → (k ≡ n → ⊥) → EndsWithin e h a → u ≡ drop (length s - (behind + length a)) s →
+        q ≡ take (length u - get_or table k 0) u →
         (get_or table k 0 ≤ length u) × Walking m e n s table (get_or table k 0) (k + 1) q
     left_keeps a u q l x f g =
         let p = ends_front e r a (ends_in a x) in

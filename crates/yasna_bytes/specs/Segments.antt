@@ -156,7 +156,8 @@ StringAt k value n m t s out (Ok x) out' = TakesString k value n m t s out x.0 x
 StringAt k value n m t s out (Err e) out' = RefusesString k n m t s e × (e.moved ≡ false → out' ≡ out)
 
 -- the same, where the bytes make up a vector of their own
-abbrev pub WithVecAt : {A T : Type 0} → Segmentation A → (List ℕ → T → A) → ℕ → BERMode → Tag → List ℕ → Result ((Vec ℕ Global × T) × Bor (List ℕ)) Refusal → Type 0
+abbrev pub WithVecAt : {A T : Type 0} → Segmentation A → (List ℕ → T → A) → ℕ → BERMode → Tag → List ℕ →
+    Result ((Vec ℕ Global × T) × Bor (List ℕ)) Refusal → Type 0
 WithVecAt k value n m t s r = SeenAt (IsSegmented k n m t) (λ v. value v.0.items v.1) (IsDeepSegmented k n m t s) (WantsMemory n t s) t s r
 
 -- the octet string in a vector's bytes, and the rest, or a refusal

@@ -67,10 +67,12 @@ abbrev pub parts_of : Ticket → ℕ × (Option (Vec ℕ Global) × (ℤ × (Kin
 parts_of v = (v.version, (v.note, (v.serial, (v.kind, (v.marks, tt)))))
 
 abbrev pub Parts : Grammar (ℕ × (Option (Vec ℕ Global) × (ℤ × (Kind × (Vec ℤ Global × Unit {0})))))
-Parts = PartOf (DefaultOf is_first EncodesVersion) (PartOf (OptionOf EncodesNote) (PartOf (EncodesSigned w64) (PartOf EncodesKind (PartOf EncodesMarks NoParts))))
+Parts = PartOf (DefaultOf is_first EncodesVersion) (PartOf (OptionOf EncodesNote)
+    (PartOf (EncodesSigned w64) (PartOf EncodesKind (PartOf EncodesMarks NoParts))))
 
 abbrev pub AnyParts : Members
-AnyParts = AnyPart (Any (DefaultOf is_first EncodesVersion)) (AnyPart (AnyOption AnyNote) (AnyPart (Any (EncodesSigned w64)) (AnyPart AnyKind (AnyPart AnyMarks AnyNothing))))
+AnyParts = AnyPart (Any (DefaultOf is_first EncodesVersion)) (AnyPart (AnyOption AnyNote)
+    (AnyPart (Any (EncodesSigned w64)) (AnyPart AnyKind (AnyPart AnyMarks AnyNothing))))
 
 abbrev pub SameParts : ℕ × (Option (Vec ℕ Global) × (ℤ × (Kind × (Vec ℤ Global × Unit {0})))) →
     ℕ × (Option (Vec ℕ Global) × (ℤ × (Kind × (Vec ℤ Global × Unit {0})))) → Type 0

@@ -24,7 +24,8 @@ not_elsewhere (t ∷ ts) b r (inl x) a = begins_not_elsewhere (begins_with t b r
 not_elsewhere (t ∷ ts) b r (inr x) a = not_elsewhere ts b r x a.1
 
 module _ {A : Type 0} {E : A → A → Type 0} {B : Grammar A} {S : Members} {form : Form A} {Fits : Fitting A} {Can : A → Type 0} (passes : A → Bool)
-    (alike : (v w : A) → E v w → passes v ≡ passes w) (told : Bool) (ts : List Tag) (asks : Bool) (x : IsNotation told ts E B S form Fits Can) (s : Reading) where
+    (alike : (v w : A) → E v w → passes v ≡ passes w) (told : Bool) (ts : List Tag) (asks : Bool) (x : IsNotation told ts E B S form Fits Can)
+    (s : Reading) where
   tells_within : (l : List ℕ) (e : ASN1Error) → Tells asks (S s.mode s.levels) l e → Tells asks (Any (Within passes B) s.mode s.levels) l e
   tells_within l e h = record {
     none = λ q b r i k. h.none q b r i (x.coding.meaning.among s.mode s.levels k.0 b k.1.0);

@@ -55,7 +55,8 @@ module _ {A : Type 0} {told : Bool} {ts : List Tag} {retagged asks : Bool} {B : 
   }
 
   -- an element of another tag around one that is read so
-  pub explicit_read : {F : Type 0} {E : A → A → Type 0} {g : Once F (MutBor Reading × Unit {0}) (Result A ASN1Error × (MutBor Reading × Unit {0}))} {f : F} {own t : Tag}
+  pub explicit_read : {F : Type 0} {E : A → A → Type 0} {g : Once F (MutBor Reading × Unit {0}) (Result A ASN1Error × (MutBor Reading × Unit {0}))} {f : F}
+      {own t : Tag}
       {s : Reading} {r : Result A ASN1Error} {s' : Reading} → IsCoding E (B None) (S None) → (own ≡ end_tag → ⊥) →
       ReadsParts (FnOnceReturnsAtMut g f) t s r s' → t ≡ own →
       ((p q : MutBor Reading) (x : Result A ASN1Error) → g.post f (p, tt) (x, (q, tt)) → ReadsAs told ts retagged asks B S p.now x q.now) →

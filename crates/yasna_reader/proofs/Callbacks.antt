@@ -49,7 +49,8 @@ place_unmoved c y e = let n : length c - length y ≡ 0 = omega (arith, e) in ap
 quiet_leaves : {A : Type 0} (s : Reading) (t : Option Tag) (x : Result A ASN1Error) (m : Reading) (e : ASN1Error) (s' : Reading) → s.kept ≡ None →
     ComesTo (record s { tag = t }) x m (Quiet e) s' → record s' { tag = s.tag } ≡ s
 quiet_leaves s t x m e s' k h =
-    ap (λ (z : Reading). record z { tag = s.tag }) h.4 ∙ ap {A = List ℕ} {B = Reading} (λ l. record s { left = l; kept = None }) (place_unmoved s.left m.left h.1)
+    ap (λ (z : Reading). record z { tag = s.tag }) h.4 ∙ ap {A = List ℕ} {B = Reading} (λ l. record s { left = l; kept = None })
+    (place_unmoved s.left m.left h.1)
     ∙ ap {A = Option ASN1Error} {B = Reading} (λ u. record s { kept = u }) (sym k)
 
 -- so where the tag waits again that waited, the reading is as it was

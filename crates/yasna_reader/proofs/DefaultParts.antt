@@ -155,7 +155,8 @@ module _ {A : Type 0} {E : A → A → Type 0} {B : Grammar A} {S : Members} (la
   default_first {N} option r s' h =
       let same : untagged s ≡ s = ap {A = Option Tag} {B = Reading} (λ t. record s { tag = t }) (sym fresh.1) in
       let x = subst (λ z. ReadsOrDefaults N eq d z r s') same (subst (λ k. UnlessKept k s r s' (ReadsOrDefaults N eq d (untagged s) r s')) fresh.0 h) in
-      let y = subst (λ k. UnlessKept k s (optional x.outcome) x.between ((o : Outcome A) × Hands N (untagged s) o x.between × (optional x.outcome ≡ optional o)))
+      let y = subst (λ k. UnlessKept k s (optional x.outcome) x.between ((o : Outcome A) × Hands N (untagged s) o x.between
+      × (optional x.outcome ≡ optional o)))
       (sym fresh.0) (x.outcome, subst (λ z. Hands N z x.outcome x.between) (sym same) x.hands, refl) in
       by_outcome x.outcome x.between (option.decodes s (optional x.outcome) x.between fresh y) r s' x.defaults
 

@@ -170,7 +170,8 @@ pub record EndsWith (Q : List ℕ → Type 0) (s : List ℕ) : Type 0 where
 
 -- where contents in Q stand, a run of N that answers an Err is quiet
 pub record IsQuietBefore {A : Type 0} (N : Does A) (Q : Members) : Type 0 where
-  pub quiet : (s : Reading) (e : ASN1Error) (s' : Reading) → IsFresh s → N s (Err e) s' → EndsWith (Q s.mode s.levels) s.left → (s' ≡ s) × BlamesBytes (kind_of e)
+  pub quiet : (s : Reading) (e : ASN1Error) (s' : Reading) → IsFresh s → N s (Err e) s' → EndsWith (Q s.mode s.levels) s.left →
+      (s' ≡ s) × BlamesBytes (kind_of e)
 
 -- so where nothing follows, for whatever decodes
 pub quiet_at_end : {A : Type 0} {asks : Bool} {B : Grammar A} {S : Members} {N : Does A} → IsDecoder asks B S N → IsQuietBefore N AnyNothing
@@ -243,7 +244,8 @@ module _ {A : Type 0} {E : A → A → Type 0} {B : Grammar A} {S : Members} (la
   took_further : (v : A) (m : Reading) → Took (B s.mode s.levels) s v m → length s.left < length m.left → ⊥
   took_further v m h b = omega (arith, b, ap length h.joined, length-append h.front h.rest, ap (λ (z : Reading). length z.left) h.left)
 
-  option_fault_tells : (x : Result A ASN1Error) (m : Reading) → Decodes asks B S s x m → (e : ASN1Error) → Fault s.left x m e → Tells asks (S s.mode s.levels) s.left e
+  option_fault_tells : (x : Result A ASN1Error) (m : Reading) → Decodes asks B S s x m → (e : ASN1Error) → Fault s.left x m e →
+      Tells asks (S s.mode s.levels) s.left e
   option_fault_tells (Ok v) m h e (kept k) = let u = took_unkept v m h in absurd (cc)
   option_fault_tells (Ok v) m h e (before k b f) = absurd (took_further v m h b)
   option_fault_tells (Ok v) m h e (own k b f p) = absurd (cc)

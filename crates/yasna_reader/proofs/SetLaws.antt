@@ -43,7 +43,8 @@ order_of_values Ber l ts e h = tt
 order_of_values Der l ts e h = subst (λ z. IsSorted tag_cmp z) e (keys_ascend (λ (x : SetElement). x.tag) tag_cmp l h)
 order_of_values Cer l ts e h = subst (λ z. IsSorted tag_cmp z) e (keys_ascend (λ (x : SetElement). x.tag) tag_cmp l h)
 
-order_of_elements : (m : BERMode) (l : List SetElement) (ts : List Tag) → map (λ (x : SetElement). x.tag) l ≡ ts → AreInSetOrder m ts → ElementsAreInSetOrder m l
+order_of_elements : (m : BERMode) (l : List SetElement) (ts : List Tag) → map (λ (x : SetElement). x.tag) l ≡ ts → AreInSetOrder m ts →
+    ElementsAreInSetOrder m l
 order_of_elements Ber l ts e h = tt
 order_of_elements Der l ts e h = ascend_by_keys (λ (x : SetElement). x.tag) tag_cmp l (subst (λ z. IsSorted tag_cmp z) (sym e) h)
 order_of_elements Cer l ts e h = ascend_by_keys (λ (x : SetElement). x.tag) tag_cmp l (subst (λ z. IsSorted tag_cmp z) (sym e) h)

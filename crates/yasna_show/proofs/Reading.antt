@@ -126,7 +126,8 @@ nothing_told rules i a l e = record {
   hears = hears_none a;
   levels = rules.levels - 1;
   deeper = omega (arith, l);
-  below = subst (λ z. Below (λ v. ListsBytes (rules.levels - 1) rules.mode v) rules.is_within i.tag z (i.offset + i.header) i.contents.now []) (sym e) (inl refl);
+  below = subst (λ z. Below (λ v. ListsBytes (rules.levels - 1) rules.mode v) rules.is_within i.tag z (i.offset + i.header) i.contents.now []) (sym e)
+      (inl refl);
 }
 
 string_lists : (I : ℕ → List ℕ → List Line → Type 0) (i : Item) (p : Place) (ls : List Line) → StandsInString i p → I p.offset p.left.now ls →

@@ -68,7 +68,12 @@ has_layout m [] given h d =
       layout =
           record {
             ends = inr (inr refl);
-            clock = record { order = omega arith; inside = omega (arith, text_length m []); digits = clock_digits_there m [] h; stops = λ lt e. omega (arith, e) };
+            clock = record {
+              order = omega arith;
+              inside = omega (arith, text_length m []);
+              digits = clock_digits_there m [] h;
+              stops = λ lt e. omega (arith, e);
+            };
             part = IsPart.none refl;
             at_end = IsZone.zulu (record { letter = refl; ends = refl }) refl;
           };

@@ -149,7 +149,8 @@ waits_few (h ∷ hs) = omega (arith, waits_few hs, waits_one h.mark)
     waits_one (Definite h) = omega arith
     waits_one (Indefinite t) = omega arith
 
-know_append : (a b c d : ℕ) (hs is : List Entry) → KnowPlaces a b hs → KnowPlaces c d is → c ≡ a + headers_length hs → d ≡ b + waits_of hs → KnowPlaces a b (hs ++ is)
+know_append : (a b c d : ℕ) (hs is : List Entry) → KnowPlaces a b hs → KnowPlaces c d is → c ≡ a + headers_length hs → d ≡ b + waits_of hs →
+    KnowPlaces a b (hs ++ is)
 know_append a b c d [] is k l e f =
     let p : c ≡ a = omega arith in
     let q : d ≡ b = omega arith in

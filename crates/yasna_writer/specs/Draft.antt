@@ -62,7 +62,8 @@ KnowsPlace headers waits place (Indefinite t) = Unit {0}
 -- each element knows its place
 abbrev pub KnowPlaces : ℕ → ℕ → List Entry → Type 0
 KnowPlaces headers waits [] = Unit {0}
-KnowPlaces headers waits (e ∷ es) = KnowsPlace headers waits e.place e.mark × KnowPlaces (headers + length (header_of_mark e.mark)) (waits + mark_waits e.mark) es
+KnowPlaces headers waits (e ∷ es) = KnowsPlace headers waits e.place e.mark × KnowPlaces (headers + length (header_of_mark e.mark))
+    (waits + mark_waits e.mark) es
 
 -- entries over n bytes of contents, counted
 pub record AreEntries (es : List Entry) (n headers waits : ℕ) : Type 0 where

@@ -57,7 +57,11 @@ pub record BeginsNext (mode : BERMode) (begun : Bool) (old : List (Vec ℕ Globa
 
 -- s ends with the part that is behind r at last
 abbrev pub LendsPart : MutBor WrittenParts → MutBor Written → Fml
-LendsPart s r = Lends the_row writer_row s r (λ w. record { parts = parts_unless_kept r.now.kept s.now.parts ++ (w.bytes ∷ []); mode = s.now.mode; kept = w.kept })
+LendsPart s r = Lends the_row writer_row s r (λ w. record {
+  parts = parts_unless_kept r.now.kept s.now.parts ++ (w.bytes ∷ []);
+  mode = s.now.mode;
+  kept = w.kept;
+})
 
 -- these parts of a SET begin with their tags, and are ps
 abbrev pub AreTagged : List (List ℕ) → List SetPart → Type 0

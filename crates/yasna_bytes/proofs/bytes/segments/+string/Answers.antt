@@ -13,8 +13,10 @@ use Rattle.yasna_bytes.proofs.bytes.segments.+string.Goals as goal
 
 pub element-returns-in-Err : goal.element-returns-in-Err
 element-returns-in-Err g t c =
-    let p = c.args.cursor in
-    (header_refused g.T.Tally.segmentation p.levels p.mode c.args.tag p.left.now c.in-Err.refusal (c.in-Err.ensures {u = tt}), λ _. refl {a = c.args.out.now.items})
+    let p = c.args.cursor in (
+      header_refused g.T.Tally.segmentation p.levels p.mode c.args.tag p.left.now c.in-Err.refusal (c.in-Err.ensures {u = tt}),
+      λ _. refl {a = c.args.out.now.items},
+    )
 
 pub element-returns-in-Ok-whole : goal.element-returns-in-Ok-whole
 element-returns-in-Ok-whole g t c =
@@ -141,7 +143,8 @@ segments-loop-out-preserved g t c =
           c.args.out.now.items c.element.new.out.items) (sym f.left)
           (reached_more (g.met.T.Tally.once) (g.met.T.Tally.go_on) p.levels p.mode p.left.now (g.met.T.Tally.holds) l.tally c.in-Ok-with.all
           c.in-Ok.taken.0 l.cuts c.with-cuts.result l.place.left.now c.in-Ok.taken.1.now c.args.out.now.items l.out.items c.element.new.out.items h
-          ((c.loop-out-test.ensures {u = tt} p.levels p.mode h.values h.bytes h.holds.lead.front h.holds.lead.pieces h.holds.join).0 refl) x (c.in-Ok-with.ensures {u = tt})
+          ((c.loop-out-test.ensures {u = tt} p.levels p.mode h.values h.bytes h.holds.lead.front h.holds.lead.pieces h.holds.join).0 refl) x
+          (c.in-Ok-with.ensures {u = tt})
           (c.with-cuts.ensures ∙ ap (λ j. further_cut l.cuts j (c.count.result - c.count-before.result)) c.full.ensures
           ∙ ap₂ (λ i j. further_cut l.cuts g.T.Tally.segmentation.full (i - j)) c.count.ensures c.count-before.ensures));
     }

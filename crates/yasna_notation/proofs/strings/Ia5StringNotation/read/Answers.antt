@@ -8,5 +8,6 @@ use Rattle.yasna_notation.proofs.strings.Ia5StringNotation.read.Goals as goal
 
 pub returns : goal.returns
 returns c =
-    asking_read (IsStringOf (IsUtf8In InIa5)) characters IsDeepOctets ia5_tag (not_end 22 (λ e. omega arith)) (λ t n m s. deep_begins octets_segmentation n m t s) c.args.reader.now
+    asking_read (IsStringOf (IsUtf8In InIa5)) characters IsDeepOctets ia5_tag (not_end 22 (λ e. omega arith))
+    (λ t n m s. deep_begins octets_segmentation n m t s) c.args.reader.now
     c.read_ia5_string.result c.read_ia5_string.new.self c.read_ia5_string.ensures

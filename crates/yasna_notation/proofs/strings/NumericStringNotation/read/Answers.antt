@@ -8,5 +8,6 @@ use Rattle.yasna_notation.proofs.strings.NumericStringNotation.read.Goals as goa
 
 pub returns : goal.returns
 returns c =
-    asking_read (IsStringOf (IsUtf8In InNumeric)) characters IsDeepOctets numeric_tag (not_end 18 (λ e. omega arith)) (λ t n m s. deep_begins octets_segmentation n m t s) c.args.reader.now
+    asking_read (IsStringOf (IsUtf8In InNumeric)) characters IsDeepOctets numeric_tag (not_end 18 (λ e. omega arith))
+    (λ t n m s. deep_begins octets_segmentation n m t s) c.args.reader.now
     c.read_numeric_string.result c.read_numeric_string.new.self c.read_numeric_string.ensures

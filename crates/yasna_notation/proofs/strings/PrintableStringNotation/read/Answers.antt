@@ -8,5 +8,6 @@ use Rattle.yasna_notation.proofs.strings.PrintableStringNotation.read.Goals as g
 
 pub returns : goal.returns
 returns c =
-    asking_read (IsStringOf (IsUtf8In InPrintable)) characters IsDeepOctets printable_tag (not_end 19 (λ e. omega arith)) (λ t n m s. deep_begins octets_segmentation n m t s) c.args.reader.now
+    asking_read (IsStringOf (IsUtf8In InPrintable)) characters IsDeepOctets printable_tag (not_end 19 (λ e. omega arith))
+    (λ t n m s. deep_begins octets_segmentation n m t s) c.args.reader.now
     c.read_printable_string.result c.read_printable_string.new.self c.read_printable_string.ensures

@@ -8,5 +8,6 @@ use Rattle.yasna_notation.proofs.strings.StringNotation.read.Goals as goal
 
 pub returns : goal.returns
 returns c =
-    asking_read (IsStringOf (IsUtf8In InUtf8)) characters IsDeepOctets utf8_tag (not_end 12 (λ e. omega arith)) (λ t n m s. deep_begins octets_segmentation n m t s) c.args.reader.now
+    asking_read (IsStringOf (IsUtf8In InUtf8)) characters IsDeepOctets utf8_tag (not_end 12 (λ e. omega arith))
+    (λ t n m s. deep_begins octets_segmentation n m t s) c.args.reader.now
     c.read_utf8string.result c.read_utf8string.new.self c.read_utf8string.ensures

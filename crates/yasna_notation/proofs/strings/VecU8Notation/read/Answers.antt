@@ -8,5 +8,6 @@ use Rattle.yasna_notation.proofs.strings.VecU8Notation.read.Goals as goal
 
 pub returns : goal.returns
 returns c =
-    asking_read (IsOctets) octets_of IsDeepOctets octets_tag (not_end 4 (λ e. omega arith)) (λ t n m s. deep_begins octets_segmentation n m t s) c.args.reader.now
+    asking_read (IsOctets) octets_of IsDeepOctets octets_tag (not_end 4 (λ e. omega arith))
+    (λ t n m s. deep_begins octets_segmentation n m t s) c.args.reader.now
     c.read_bytes.result c.read_bytes.new.self c.read_bytes.ensures

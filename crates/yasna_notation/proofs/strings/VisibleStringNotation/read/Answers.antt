@@ -8,5 +8,6 @@ use Rattle.yasna_notation.proofs.strings.VisibleStringNotation.read.Goals as goa
 
 pub returns : goal.returns
 returns c =
-    asking_read (IsStringOf (IsUtf8In InVisible)) characters IsDeepOctets visible_tag (not_end 26 (λ e. omega arith)) (λ t n m s. deep_begins octets_segmentation n m t s) c.args.reader.now
+    asking_read (IsStringOf (IsUtf8In InVisible)) characters IsDeepOctets visible_tag (not_end 26 (λ e. omega arith))
+    (λ t n m s. deep_begins octets_segmentation n m t s) c.args.reader.now
     c.read_visible_string.result c.read_visible_string.new.self c.read_visible_string.ensures

@@ -10,5 +10,6 @@ use Rattle.yasna_notation.proofs.times.GeneralizedTimeNotation.read.Goals as goa
 
 pub returns : goal.returns
 returns c =
-    asking_read (IsStringOf SaysGeneralizedTime) moment_of IsDeepOctets generalized_time_tag (not_end 24 (λ e. omega arith)) (λ t n m s. deep_begins octets_segmentation n m t s) c.args.reader.now
+    asking_read (IsStringOf SaysGeneralizedTime) moment_of IsDeepOctets generalized_time_tag (not_end 24 (λ e. omega arith))
+    (λ t n m s. deep_begins octets_segmentation n m t s) c.args.reader.now
     c.read_generalized_time.result c.read_generalized_time.new.self c.read_generalized_time.ensures

@@ -10,5 +10,6 @@ use Rattle.yasna_notation.proofs.times.UTCTimeNotation.read.Goals as goal
 
 pub returns : goal.returns
 returns c =
-    asking_read (IsStringOf SaysUtcTime) utc_of IsDeepOctets utc_time_tag (not_end 23 (λ e. omega arith)) (λ t n m s. deep_begins octets_segmentation n m t s) c.args.reader.now
+    asking_read (IsStringOf SaysUtcTime) utc_of IsDeepOctets utc_time_tag (not_end 23 (λ e. omega arith))
+    (λ t n m s. deep_begins octets_segmentation n m t s) c.args.reader.now
     c.read_utctime.result c.read_utctime.new.self c.read_utctime.ensures
