@@ -11,6 +11,7 @@ pub mod any;
 pub mod choice;
 pub mod defaults;
 pub mod errors;
+pub mod extensions;
 pub mod first;
 pub mod implicit;
 pub mod kept;

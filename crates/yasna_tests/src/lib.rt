@@ -11,7 +11,6 @@
 //! | `exact` | types that keep an element of any type as it came |
 //! | `guide` | the pieces of code of README.md and docs/GUIDE.md |
 //! | `known` | calls whose closures are known |
-//! | `messages` | types of `x509` and `snmp`, which are made of types |
 //! | `oid` | object identifiers |
 //! | `records`, `scrypt`, `third_party` | types of one's own |
 //! | `sets` | sets, read and written by closures |
@@ -35,8 +34,6 @@ mod exact;
 mod guide;
 #[cfg(test)]
 mod known;
-#[cfg(test)]
-mod messages;
 #[cfg(test)]
 mod oid;
 #[cfg(test)]
