@@ -40,20 +40,20 @@ abbrev pub EncodesLimit : Grammar ℤ
 EncodesLimit m n v b = Primitively (IsSigned w64) n m (context 2) v b
 
 -- which of the three types a kind is of
-abbrev pub as_either : Kind → Unit {0} ⊎ (Bool ⊎ ℤ)
-as_either Open = inl tt
-as_either (Sealed v) = inr (inl v)
-as_either (Limited v) = inr (inr v)
+abbrev pub kind_as_either : Kind → Unit {0} ⊎ (Bool ⊎ ℤ)
+kind_as_either Open = inl tt
+kind_as_either (Sealed v) = inr (inl v)
+kind_as_either (Limited v) = inr (inr v)
 
 -- CHOICE { open NULL, sealed BOOLEAN, limited [2] IMPLICIT INTEGER }
 abbrev pub EncodesKind : Grammar Kind
-EncodesKind m n v b = EitherOf EncodesNull (EitherOf EncodesBoolean EncodesLimit) m n (as_either v) b
+EncodesKind m n v b = EitherOf EncodesNull (EitherOf EncodesBoolean EncodesLimit) m n (kind_as_either v) b
 
 abbrev pub AnyKind : Members
 AnyKind = AnyEither (Any EncodesNull) (AnyEither (Any EncodesBoolean) (Any EncodesLimit))
 
 abbrev pub SameKind : Kind → Kind → Type 0
-SameKind v w = SameEither (λ x y. x ≡ y) (SameEither (λ x y. x ≡ y) (λ x y. x ≡ y)) (as_either v) (as_either w)
+SameKind v w = SameEither (λ x y. x ≡ y) (SameEither (λ x y. x ≡ y) (λ x y. x ≡ y)) (kind_as_either v) (kind_as_either w)
 
 -- SET OF INTEGER, in any order
 abbrev pub EncodesMarks : Grammar (Vec ℤ Global)
@@ -63,8 +63,8 @@ abbrev pub AnyMarks : Members
 AnyMarks = AnySetOf (Any (EncodesSigned w64)) set_tag
 
 -- the parts in their order
-abbrev pub parts_of : Ticket → ℕ × (Option (Vec ℕ Global) × (ℤ × (Kind × (Vec ℤ Global × Unit {0}))))
-parts_of v = (v.version, (v.note, (v.serial, (v.kind, (v.marks, tt)))))
+abbrev pub ticket_parts : Ticket → ℕ × (Option (Vec ℕ Global) × (ℤ × (Kind × (Vec ℤ Global × Unit {0}))))
+ticket_parts v = (v.version, (v.note, (v.serial, (v.kind, (v.marks, tt)))))
 
 abbrev pub Parts : Grammar (ℕ × (Option (Vec ℕ Global) × (ℤ × (Kind × (Vec ℤ Global × Unit {0})))))
 Parts = PartOf (DefaultOf is_first EncodesVersion) (PartOf (OptionOf EncodesNote)
@@ -111,7 +111,7 @@ limit_with_tags = record { coding = signed_under w64 (context 2) (context_not_en
 pub kind_with_tags : CodingByTags (null_tag ∷ boolean_tag ∷ context 2 ∷ []) SameKind EncodesKind AnyKind
 kind_with_tags =
     let x = choice_with_tags null_with_tags (choice_with_tags sealed_with_tags limit_with_tags refl) refl in
-    record { coding = along as_either x.coding; begins = x.begins }
+    record { coding = along kind_as_either x.coding; begins = x.begins }
 
 pub marks_with_tags : CodingByTags (set_tag ∷ []) (λ v w. SameSetOf (λ x y. x ≡ y) v.items w.items) EncodesMarks AnyMarks
 marks_with_tags = record {
@@ -129,9 +129,9 @@ parts_with_tags =
     (part_with_tags marks_with_tags end_with_tags))) refl) refl
 
 -- the ticket keeps the laws of reading
-pub ticket_coding : IsCoding (λ v w. SameParts (parts_of v) (parts_of w)) (λ m n v b. Enclosed Parts sequence_tag m n (parts_of v) b)
+pub ticket_coding : IsCoding (λ v w. SameParts (ticket_parts v) (ticket_parts w)) (λ m n v b. Enclosed Parts sequence_tag m n (ticket_parts v) b)
     (AnyEnclosed AnyParts sequence_tag)
-ticket_coding = sequence parts_of parts_with_tags.coding
+ticket_coding = sequence ticket_parts parts_with_tags.coding
 
 -- what is read behind the note
 abbrev pub ReadsRest : ℕ → Option (Vec ℕ Global) → Does Ticket

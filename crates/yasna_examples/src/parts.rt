@@ -13,7 +13,7 @@ ghost use Rattle.std.specs.Int.{w64};
 ghost use Rattle.yasna.specs.Words.{Any, Enclosed, AnyEnclosed, EncodesSigned, context, set_tag, sequence_tag, null_tag, boolean_tag};
 ghost use Rattle.yasna.specs.Words.{Decodes, DecodesByTags, Step, Done, ReadsOptional, ReadsDefault, IsFresh, part_of};
 ghost use Rattle.yasna_examples.specs.Tickets.{EncodesVersion, AnyVersion, EncodesNote, AnyNote, EncodesLimit, EncodesKind, AnyKind, EncodesMarks, AnyMarks};
-ghost use Rattle.yasna_examples.specs.Tickets.{Parts, AnyParts, SameParts, parts_of, ReadsRest, ticket_coding};
+ghost use Rattle.yasna_examples.specs.Tickets.{Parts, AnyParts, SameParts, ticket_parts, ReadsRest, ticket_coding};
 
 use yasna::tags::{TAG_BOOLEAN, TAG_NULL};
 use yasna::{ASN1Result, BERDecodable, BERReader, BERReaderSeq, Tag};
@@ -114,13 +114,13 @@ fn read_rest(seq: &mut BERReaderSeq, version: u64, note: Option<Vec<u8>>) -> ASN
 }
 
 impl BERDecodable for Ticket {
-    ghost encodes = { λ m n v b. Enclosed Parts sequence_tag m n (parts_of v) b };
+    ghost encodes = { λ m n v b. Enclosed Parts sequence_tag m n (ticket_parts v) b };
 
     ghost elements = { AnyEnclosed AnyParts sequence_tag };
 
     ghost asks_memory = { (false || (true || (false || (false || (true || false))))) };
 
-    ghost same = { λ v w. SameParts (parts_of v) (parts_of w) };
+    ghost same = { λ v w. SameParts (ticket_parts v) (ticket_parts w) };
 
     fn decode_ber(reader: BERReader) -> ASN1Result<Ticket> {
         reader.read_sequence(

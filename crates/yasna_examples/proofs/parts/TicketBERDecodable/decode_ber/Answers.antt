@@ -1,12 +1,12 @@
 use Rattle.std.proofs.Common.{◌∷◌, [], rules, refl, true, false, nat_eq}
 use Rattle.yasna.specs.Words.{null_tag, boolean_tag, set_tag, context}
 use Rattle.yasna.proofs.Closures.{parts_by, part_by_tags, option_by_tags, default_by_tags, end_by_tags, decodes_by, decodes_by_tags, plain_by, parts_repeat_kept}
-use Rattle.yasna_examples.specs.Tickets.{parts_of, is_first, tells_first, version_with_tags, note_with_tags, serial_with_tags, kind_with_tags, marks_with_tags}
+use Rattle.yasna_examples.specs.Tickets.{ticket_parts, is_first, tells_first, version_with_tags, note_with_tags, serial_with_tags, kind_with_tags, marks_with_tags}
 use Rattle.yasna_examples.proofs.parts.TicketBERDecodable.decode_ber.Goals as goal
 
 pub returns-clause-decodes : goal.returns-clause-decodes
 returns-clause-decodes c kept =
-    parts_by parts_of
+    parts_by ticket_parts
     (λ w. record { version = w.0; note = w.1.0; serial = w.1.1.0; kind = w.1.1.1.0; marks = w.1.1.1.1.0 })
     (λ w. refl)
     (default_by_tags is_first nat_eq 1 tells_first (λ v. refl) version_with_tags (decodes_by_tags {asks = false}) refl (λ version.
