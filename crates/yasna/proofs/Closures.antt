@@ -89,13 +89,6 @@ bits_by = record {
       asking_decodes IsBits bits_in IsDeepBits 3 (λ e. omega arith) (λ n m z. deep_begins bits_segmentation n m bits_tag z) s r s' fresh.1 x fresh.0;
 }
 
--- and a read of one element whose contents are copied
-pub leaf_with_memory_by : {V A : Type 0} (B : TaggedGrammar A) (view : V → A) (k : ℕ) → (k ≡ 0 → ⊥) →
-    IsDecoder true (λ m n v b. B n m (universal k) (view v) b) (Any (λ m n v b. B n m (universal k) v b))
-    (ReadsSeen B view NoLevel WantsMemory (universal k))
-leaf_with_memory_by B view k h =
-    record { decodes = λ s r s' fresh x. asking_decodes B view NoLevel k h (λ n m z d. d.1) s r s' fresh.1 x fresh.0 }
-
 -- and a read of an element of any tag, of which B says what is copied
 pub raw_by : {V A : Type 0} (B : ℕ → BERMode → A → List ℕ → Type 0) (view : V → A) →
     IsDecoder true (λ m n v b. B n m (view v) b) (Any (λ m n v b. B n m v b)) (ReadsRaw B view)

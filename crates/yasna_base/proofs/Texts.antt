@@ -3,7 +3,7 @@ use Rattle.std.proofs.Common.{◌≡◌, ℕ, ◌^◌, ◌<◌, List, [], ◌∷
 use Rattle.std.proofs.Common.{lt-ltb, le-ltb}
 use Rattle.std.proofs.Math.Utf8.{scalar, scalars, scalar_cases, encode, encodes}
 use Rattle.std.proofs.lemmas.Bool.{cases_lt, eq-eqb}
-use Rattle.std.proofs.lemmas.Str.{encodes_same, encodes-chars, chars-encodes, scalars-chars, encodes-IsAscii, chars-IsAscii, IsUtf8-from_ascii, IsUtf8-string_bytes, chars_from_encodes}
+use Rattle.std.proofs.lemmas.Str.{encodes_same, encodes-chars, chars-encodes, scalars-chars, encodes-IsAscii, chars-IsAscii, IsUtf8-from_ascii, IsUtf8-string_bytes}
 use Rattle.std.specs.Char.{IsScalar, IsNotAsciiAlphanumeric}
 use Rattle.std.specs.Global.{Global}
 use Rattle.std.specs.List.{AllByRecursion, list_any, Contains}
@@ -147,15 +147,6 @@ utf8_only In m text v x =
 pub string_text : (s : String Global) → IsTextIn InUtf8 (characters s)
 string_text s = (utf8_means Ber (string_bytes s) (IsUtf8-string_bytes s)).is_text
 
--- a string whose bytes are a text in UTF-8 is that text
-pub string_is : (s : String Global) (text : List ℕ) → string_bytes s ≡ encode_utf8_all text → characters s ≡ text
-string_is s text e = sym (chars_from_encodes text (string_bytes s) (IsUtf8-string_bytes s) (sym e))
-
--- strings with the same characters have the same bytes
-pub same_string : (s t : String Global) → characters s ≡ characters t → string_bytes s ≡ string_bytes t
-same_string s t e =
-    sym (encodes-chars (string_bytes s) (IsUtf8-string_bytes s)) ∙ ap encode_utf8_all e ∙ encodes-chars (string_bytes t) (IsUtf8-string_bytes t)
-
 -- under its own tag, of strings that are equal where their characters are
 pub text_coding : IsCoding (λ (v w : String Global). characters v ≡ characters w) EncodesString (Any EncodesText)
 text_coding = along characters (class_coding InUtf8 utf8_tag (not_end 12 (λ e. omega arith)))
@@ -274,7 +265,3 @@ pub printable_mark : (c : ℕ) (result : Bool) → IsNotAsciiAlphanumeric c → 
 printable_mark c result other e =
     let mark = contains_is (codes " '()+,-./:=?") c result e in
     (λ yes. inr (inr (mark.0 yes)), printable_only c (IsTrue result) other mark.1)
-
--- bytes in UTF-8 are written as they are
-pub utf8_form_is : (t : Tag) (m : BERMode) (bs : List ℕ) → IsUtf8 bs → utf8_form t m (chars bs) ≡ octets_form t m bs
-utf8_form_is t m bs u = ap (octets_form t m) (encodes-chars bs u)
