@@ -1,9 +1,9 @@
 -- Tags tell the types of a CHOICE apart, and parts that may be left out from what stands behind them.
 use Rattle.std.proofs.Common.{◌≡◌, ℕ, List, [], ◌∷◌, ◌++◌, Bool, true, false, true≢false, not, ◌||◌}
-use Rattle.std.proofs.Common.{◌⊎◌, inl, inr, length, refl, ap, ap₂, ◌∙◌, sym, arith, subst}
-use Rattle.std.specs.List.{list_any, AllByRecursion}
+use Rattle.std.proofs.Common.{◌⊎◌, inl, inr, length, refl, ap, ◌∙◌, sym, arith, subst}
+use Rattle.std.specs.List.{list_any}
 use Rattle.std.specs.Prelude.{nat_eq}
-use Rattle.std.proofs.lemmas.Bool.{eq-eqb, eqb-true, and_from, and_parts}
+use Rattle.std.proofs.lemmas.Bool.{eq-eqb, and_from, and_parts}
 use Rattle.yasna_base.specs.declared.mode.BERMode.{BERMode}
 use Rattle.yasna_base.specs.declared.tag.Tag.{Tag}
 use Rattle.yasna_base.specs.Beginnings.{BeginsWithOne, BeginsBy, ContentsBeginBy, is_tag, share_none, CodingByTags, ContentsByTags}
@@ -23,7 +23,7 @@ use Rattle.yasna_base.proofs.Choice.{StandApart, choice}
 use Rattle.yasna_base.proofs.Coding.{primitively_begins, parts_contents}
 use Rattle.yasna_base.proofs.Segmented.{segmented_begins}
 use Rattle.yasna_base.proofs.Default.{default_before}
-use Rattle.yasna_base.proofs.Identifier.{class_same, begins_once, begins_some, begins_with}
+use Rattle.yasna_base.proofs.Identifier.{begins_once, begins_some, begins_with}
 use Rattle.yasna_base.proofs.Optional.{BeginsApart, part_before, option_before}
 use Rattle.yasna_base.proofs.Sequence.{no_part}
 
@@ -35,30 +35,9 @@ is_itself t u e =
     and_from (nat_eq (class_number t.tag_class) (class_number u.tag_class)) (nat_eq t.tag_number u.tag_number)
     (eq-eqb (class_number t.tag_class) (class_number u.tag_class) c) (eq-eqb t.tag_number u.tag_number n)
 
--- and nothing else
-only_itself : (t u : Tag) → is_tag t u ≡ true → t ≡ u
-only_itself t u e =
-    let y = and_parts (nat_eq (class_number t.tag_class) (class_number u.tag_class)) (nat_eq t.tag_number u.tag_number) e in
-    let c = class_same t.tag_class u.tag_class (eqb-true (class_number t.tag_class) (class_number u.tag_class) y.0) in
-    let n = eqb-true t.tag_number u.tag_number y.1 in
-    ap₂ (λ d k. record { tag_class = d; tag_number = k }) c n
-
 -- tags that the test tells apart differ
 pub tags_differ : (t u : Tag) → is_tag t u ≡ false → t ≡ u → ⊥
 tags_differ t u e f = true≢false (sym (is_itself t u f) ∙ e)
-
--- tags that differ one by one aren't shared
-pub differ_share_none : (ts us : List Tag) → AllByRecursion (λ t. AllByRecursion (λ u. t ≡ u → ⊥) us) ts → share_none ts us ≡ true
-differ_share_none [] us h = refl
-differ_share_none (t ∷ ts) us h = and_from (not (list_any (is_tag t) us)) (share_none ts us) (ap not (absent us h.0)) (differ_share_none ts us h.1)
-  where
-    other : (b : Bool) → (b ≡ true → ⊥) → b ≡ false
-    other true f = absurd (f refl)
-    other false f = refl
-
-    absent : (vs : List Tag) → AllByRecursion (λ u. t ≡ u → ⊥) vs → list_any (is_tag t) vs ≡ false
-    absent [] a = refl
-    absent (v ∷ vs) a = ap₂ (λ x y. x || y) (other (is_tag t v) (λ e. a.0 (only_itself t v e))) (absent vs a.1)
 
 found : (t : Tag) (us : List Tag) (s : List ℕ) → BeginsWithTag t s → BeginsWithOne us s → list_any (is_tag t) us ≡ true
 found t [] s x y = absurd y

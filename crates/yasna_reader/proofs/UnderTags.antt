@@ -11,7 +11,7 @@ use Rattle.yasna_reader.specs.Callback.{Fault, kept, before, own, ComesTo, Hands
 use Rattle.yasna_reader.specs.Primitive.{ReadsUnlessKept, ReadsSeen}
 use Rattle.yasna_reader.specs.Sequence.{Left, EntersUnlessKept, ReadsParts}
 use Rattle.yasna_reader.specs.State.{Reading, IsFresh, untagged, refusing, tag_of, Does}
-use Rattle.yasna_reader.specs.Tagged.{tagging, ReadsImplicitly}
+use Rattle.yasna_reader.specs.Tagged.{reading_under, ReadsImplicitly}
 use Rattle.yasna_reader.proofs.ByTags.{IsDecoderByTags, plain_by}
 use Rattle.yasna_reader.proofs.Handed.{lent_decodes, lent_quiet}
 
@@ -117,7 +117,7 @@ module _ {A : Type 0} (P : Does A) (own t : Tag) where
         (λ k. UnlessKept k (record s { tag = Some t }) r m ((o : Outcome A) × Lent P (record s { tag = Some t })
         (record s { tag = Some t }) o m × (r ≡ answer_of o)))
         fresh.0 h in
-        subst (λ k. UnlessKept k s r (untagged m) ((o : Outcome A) × Lent P (tagging t s) s o (untagged m) × (r ≡ answer_of o))) (sym fresh.0)
+        subst (λ k. UnlessKept k s r (untagged m) ((o : Outcome A) × Lent P (reading_under t s) s o (untagged m) × (r ≡ answer_of o))) (sym fresh.0)
         (subst (λ (u : Option Tag). (o : Outcome A) × Lent P (record s { tag = Some (tag_or u t) }) s o (untagged m) × (r ≡ answer_of o))
         (sym fresh.1)
         (implicitly_so s r m fresh x));
@@ -152,7 +152,7 @@ module _ {A : Type 0} {t : Tag} {P N : Does A} (under : DoesUnder t P N) where
       (o : Outcome A) × Lent N s s o s' × (r ≡ answer_of o)
   implicitly s fresh r s' h =
       let x = subst (λ (u : Option Tag). (o : Outcome A) × Lent P (record s { tag = Some (tag_or u t) }) s o s' × (r ≡ answer_of o)) fresh.1
-      (subst (λ k. UnlessKept k s r s' ((o : Outcome A) × Lent P (tagging t s) s o s' × (r ≡ answer_of o))) fresh.0 h) in
+      (subst (λ k. UnlessKept k s r s' ((o : Outcome A) × Lent P (reading_under t s) s o s' × (r ≡ answer_of o))) fresh.0 h) in
       (x.0, lent_under s fresh x.0 s' x.1, x.2)
 
   -- a read under an IMPLICIT tag decodes as the read does of a type with that tag

@@ -6,10 +6,10 @@ use Rattle.yasna_reader.specs.State.{Reading, tag_of, Does}
 use Rattle.yasna_reader.specs.declared.callback.Outcome.{Outcome}
 
 -- the reading whose next element is to have the tag, or the one that waits already
-abbrev pub tagging : Tag → Reading → Reading
-tagging tag s = record s { tag = Some (tag_of s tag) }
+abbrev pub reading_under : Tag → Reading → Reading
+reading_under tag s = record s { tag = Some (tag_of s tag) }
 
 -- the callback is handed the reading under the tag, and what it comes to is answered; where it is quiet, the reading is as
 -- it was, with the tag that waited
 abbrev pub ReadsImplicitly : {A : Type 0} → Does A → Tag → Does A
-ReadsImplicitly {A} P tag s r s' = UnlessKept s.kept s r s' ((o : Outcome A) × Lent P (tagging tag s) s o s' × (r ≡ answer_of o))
+ReadsImplicitly {A} P tag s r s' = UnlessKept s.kept s r s' ((o : Outcome A) × Lent P (reading_under tag s) s o s' × (r ≡ answer_of o))

@@ -9,7 +9,7 @@ impl<'a> ReaderState<'a> {
     ghost use Rattle.std.specs.Prelude.{None, ◌≡◌};
     ghost use Rattle.std.specs.Fn.{FnOnceTakesAtMut, FnOnceReturnsAtMut};
     ghost use Rattle.yasna_reader.specs.Sequence.{TakesContents, ReadsParts};
-    ghost use Rattle.yasna_reader.specs.Tagged.{ReadsImplicitly, tagging};
+    ghost use Rattle.yasna_reader.specs.Tagged.{ReadsImplicitly, reading_under};
 
     /// Reads a constructed element of this tag, explicit tagging (X.690, 8.14): the callback reads the element inside.
     ///
@@ -37,7 +37,7 @@ impl<'a> ReaderState<'a> {
     pub fn read_tagged_implicit<T: Drop, F>(&mut self, tag: Tag, f: F) -> ASN1Result<T>
     where
         F: FnOnce(BERReader<'a, '_>) -> ASN1Result<T>,
-        requires { self.old.kept ≡ None → FnOnceTakesAtMut F.FnOnce f (tagging tag self.old) }
+        requires { self.old.kept ≡ None → FnOnceTakesAtMut F.FnOnce f (reading_under tag self.old) }
         ensures { ReadsImplicitly (FnOnceReturnsAtMut F.FnOnce f) tag self.old result self.new }
     {
         if let Some(error) = self.kept {

@@ -11,7 +11,7 @@ use Rattle.yasna_base.specs.declared.mode.BERMode.{BERMode}
 use Rattle.yasna_base.specs.Canonical.{IsCanonicalMode}
 use Rattle.yasna_base.specs.Digits.{IsBytes}
 use Rattle.yasna_times.specs.Decimal.{AreDigits, HasDigits, two_at, two_digits}
-use Rattle.yasna_times.specs.Fraction.{IsExact}
+use Rattle.yasna_times.specs.Fraction.{IsReducedFraction}
 use Rattle.yasna_times.specs.GeneralizedTime.{IsPart, IsZone, IsLayout, IsGeneralClock, IsGeneralText, IsGeneralMoment, SaysGeneralizedTime, is_leap, part_digits, point_digits, clock_digits, general_text}
 use Rattle.yasna_times.specs.Moment.{Moment, moment_at, after_year}
 use Rattle.yasna_base.specs.Text.{IsDigit}
@@ -169,14 +169,14 @@ unfolding date_time
 general_text_says m h given =
     let l = has_layout m m.fraction given (short m h) h.digits in
     let second = two_spelled m.second (omega (arith, h.second)) in
-    let exact : IsExact 1 m.fraction 0 m.fraction = record { equation = omega arith; below = omega arith; digits = h.digits; trimmed = h.trimmed } in
+    let exact : IsReducedFraction 1 m.fraction 0 m.fraction = record { equation = omega arith; below = omega arith; digits = h.digits; trimmed = h.trimmed } in
     record {
       end = 14;
       zone = l.zone;
       offset = pos 0;
       layout = l.layout;
       seconds = 0;
-      exact = subst (λ (ds : List ℕ). IsExact 1 ds 0 m.fraction) (sym l.digits) exact;
+      exact = subst (λ (ds : List ℕ). IsReducedFraction 1 ds 0 m.fraction) (sym l.digits) exact;
       utc = date_time m h;
       reading = record { local = date_time m h; clock = text_clock m h; less = less_none (date_time m h); in_years = h.in_years; whole = λ e. refl };
       is = ap (λ (s : ℕ). record { date = m.date; hour = m.hour; minute = m.minute; second = s; fraction = m.fraction })

@@ -2,7 +2,7 @@
 use Rattle.std.proofs.Common.{◌≡◌, ℕ, List, ℤ, pos, refl, sym, ◌∙◌, ap, subst, Option, Bool, true, false, ◌==◌, if◌then◌else◌, ◌%◌}
 use Rattle.jiff.specs.Types.{DateTime}
 use Rattle.yasna_times.specs.Decimal.{two_at}
-use Rattle.yasna_times.specs.Fraction.{IsExact}
+use Rattle.yasna_times.specs.Fraction.{IsReducedFraction}
 use Rattle.yasna_times.specs.GeneralizedTime.{IsGeneralClock, IsGeneralReading, IsGeneralText, IsLayout, is_leap, part_digits, second_of, unit_of}
 use Rattle.yasna_times.specs.Moment.{Moment, moment_at}
 use Rattle.yasna_times.proofs.ExactFraction.{exact_is}
@@ -24,11 +24,11 @@ pub record SaysAt (s : List ℕ) (end seconds : ℕ) (offset : ℤ) (g : List �
   pub is : m ≡ moment_at utc (is_leap s end) g
 
 pub says_at : (s : List ℕ) (given : Option ℤ) (end zone : ℕ) (offset : ℤ) (seconds : ℕ) (g : List ℕ) (m : Moment) → IsLayout s given end zone offset →
-    IsExact (unit_of end) (part_digits s end zone) seconds g → IsGeneralText s given m → SaysAt s end seconds offset g m
+    IsReducedFraction (unit_of end) (part_digits s end zone) seconds g → IsGeneralText s given m → SaysAt s end seconds offset g m
 says_at s given end zone offset seconds g m l x t =
     let w = layout_is s given end zone t.end t.zone offset t.offset l t.layout in
-    let x₁ = subst (λ (p : ℕ). IsExact (unit_of p) (part_digits s p t.zone) t.seconds m.fraction) w.same_end t.exact in
-    let x₂ = subst (λ (f : ℕ). IsExact (unit_of end) (part_digits s end f) t.seconds m.fraction) w.same_zone x₁ in
+    let x₁ = subst (λ (p : ℕ). IsReducedFraction (unit_of p) (part_digits s p t.zone) t.seconds m.fraction) w.same_end t.exact in
+    let x₂ = subst (λ (f : ℕ). IsReducedFraction (unit_of end) (part_digits s end f) t.seconds m.fraction) w.same_zone x₁ in
     let k = exact_is (unit_of end) (part_digits s end zone) t.seconds seconds m.fraction g x₂ x in
     let r₁ = subst (λ (p : ℕ). IsGeneralReading s p t.seconds t.offset t.utc) w.same_end t.reading in
     let r₂ = subst (λ (n : ℕ). IsGeneralReading s end n t.offset t.utc) k.0 r₁ in

@@ -6,7 +6,7 @@ use Rattle.yasna_base.specs.declared.mode.BERMode.{BERMode}
 use Rattle.yasna_base.specs.declared.tag.Tag.{Tag}
 use Rattle.yasna_base.specs.Canonical.{IsCanonicalMode}
 use Rattle.yasna_times.specs.Decimal.{AreDigits, IsRun, two_at, two_digits}
-use Rattle.yasna_times.specs.Fraction.{IsExact, IsTrimmed}
+use Rattle.yasna_times.specs.Fraction.{IsReducedFraction, IsTrimmed}
 use Rattle.yasna_base.specs.Grammar.{Grammar, Form, Nest}
 use Rattle.yasna_base.specs.Identifier.{universal}
 use Rattle.yasna_base.specs.Laws.{KeepsLaws}
@@ -101,7 +101,7 @@ pub record IsGeneralText (s : List ℕ) (given : Option ℤ) (m : Moment) : Type
   pub offset : ℤ
   pub layout : IsLayout s given end zone offset
   pub seconds : ℕ
-  pub exact : IsExact (unit_of end) (part_digits s end zone) seconds m.fraction
+  pub exact : IsReducedFraction (unit_of end) (part_digits s end zone) seconds m.fraction
   pub utc : DateTime
   pub reading : IsGeneralReading s end seconds offset utc
   pub is : m ≡ moment_at utc (is_leap s end) m.fraction

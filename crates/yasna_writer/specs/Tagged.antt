@@ -11,8 +11,8 @@ use Rattle.yasna_writer.specs.View.{Written}
 use Rattle.yasna_writer.specs.Sequence.{AnswersKept, AnswersOnly}
 
 -- the writing whose next element has the tag, or the one that waits already
-abbrev pub tagging : Tag → Written → Written
-tagging tag w = record w { tag = Some (tag_or w.tag tag) }
+abbrev pub writing_under : Tag → Written → Written
+writing_under tag w = record w { tag = Some (tag_or w.tag tag) }
 
 -- what is kept where a closure left this writing of one with n bytes: the failure that it kept, or that bytes are missing
 abbrev pub KeptBehind : ℕ → Written → Option ASN1Error → Type 0
@@ -32,7 +32,7 @@ pub record WroteTagged {F T E : Type 0} (g : Once F (MutBor Written × Unit {0})
   -- the writing as it left it
   pub left : Written
   -- it was handed the writing with the tag
-  pub ran : FnOnceReturnsAtMut g f (tagging tag old) own left
+  pub ran : FnOnceReturnsAtMut g f (writing_under tag old) own left
   -- what it left is what there is, but for the tag and a failure
   pub behind : LeftBehind (length old.bytes) left new
   -- a failure that is kept is answered, else the closure's answer, an Err too

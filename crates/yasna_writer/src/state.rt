@@ -13,7 +13,7 @@ ghost use Rattle.yasna_writer.specs.Sequence.{AnswersKept};
 ghost use Rattle.yasna_writer.specs.Header.{header_bytes, indefinite_header};
 ghost use Rattle.yasna_writer.specs.Parts.{no_parts};
 ghost use Rattle.yasna_writer.specs.State.{Appended, TakesTag, BeginsAt, EndsElement};
-ghost use Rattle.yasna_writer.specs.Tagged.{tagging, LeftBehind};
+ghost use Rattle.yasna_writer.specs.Tagged.{writing_under, LeftBehind};
 
 use crate::draft::{Beginning, Draft};
 use crate::header::Header;
@@ -293,7 +293,7 @@ impl Writer {
     // Lets this tag wait for the next element, where none does, and answers how many bytes there are.
     #[inline(always)]
     pub(crate) fn tag_next(&mut self, tag: Tag) -> usize
-        ensures tagged { self.new ≡ tagging tag self.old }
+        ensures tagged { self.new ≡ writing_under tag self.old }
         ensures start { result ≡ length self.old.bytes }
     {
         if self.tag.is_none() {

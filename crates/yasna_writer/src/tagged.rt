@@ -7,7 +7,7 @@ ghost use Rattle.yasna_base.specs.Identifier.{tag_or};
 ghost use Rattle.yasna_base.specs.Canonical.{canonical_element};
 ghost use Rattle.yasna_writer.specs.View.{handed};
 ghost use Rattle.yasna_writer.specs.Sequence.{Encloses};
-ghost use Rattle.yasna_writer.specs.Tagged.{tagging, WritesTagged};
+ghost use Rattle.yasna_writer.specs.Tagged.{writing_under, WritesTagged};
 
 use crate::state::{DERWriter, Writer};
 use yasna_base::{ASN1Error, Tag};
@@ -45,7 +45,7 @@ impl Writer {
         E: From<ASN1Error> + Drop,
         F: FnOnce(DERWriter<'_>) -> Result<T, E>,
     >(&mut self, tag: Tag, f: F) -> Result<T, E>
-        requires { self.old.kept ≡ None → FnOnceTakesAtMut F.FnOnce f (tagging tag self.old) }
+        requires { self.old.kept ≡ None → FnOnceTakesAtMut F.FnOnce f (writing_under tag self.old) }
         ensures { WritesTagged F.FnOnce E.from_gives f tag self.old self.new result }
     {
         if let Some(error) = self.kept() {

@@ -1,6 +1,6 @@
 use Rattle.std.proofs.Common.{◌∙◌, ◌++◌, ℕ, List, pos, ◌≤ℤ◌, refl, sym, subst}
 use Rattle.jiff.specs.Types.{Date}
-use Rattle.yasna_times.specs.Fraction.{IsExact, trimmed, nine_digits}
+use Rattle.yasna_times.specs.Fraction.{IsReducedFraction, trimmed, nine_digits}
 use Rattle.yasna_times.specs.GeneralizedTime.{IsGeneralText, is_leap, part_digits}
 use Rattle.yasna_times.specs.Moment.{moment_at}
 use Rattle.yasna_times.specs.Zone.{seconds_of}
@@ -18,8 +18,8 @@ returns-in_default-reading-clause-exact c =
     let l = c.in-Some.layout in
     let f = c.in_ok-fraction.fraction in
     let g : List ℕ = trimmed (nine_digits f.nanosecond ++ f.sub_nano.items) in
-    let x₁ = subst (λ (ds : List ℕ). IsExact c.unit.result ds f.seconds g) c.part-digits.ensures c.in_ok-fraction.ensures.exact in
-    let x₂ = subst (λ (u : ℕ). IsExact u (part_digits s l.clock_end l.zone_at) f.seconds g) c.unit.ensures.value x₁ in
+    let x₁ = subst (λ (ds : List ℕ). IsReducedFraction c.unit.result ds f.seconds g) c.part-digits.ensures c.in_ok-fraction.ensures.exact in
+    let x₂ = subst (λ (u : ℕ). IsReducedFraction u (part_digits s l.clock_end l.zone_at) f.seconds g) c.unit.ensures.value x₁ in
     let r = says_at s (seconds_of c.args.given) l.clock_end l.zone_at l.offset.seconds f.seconds g m c.in-Some.ensures.exact x₂ t in
     c.in_default-reading.ensures r.utc r.reading
 
@@ -47,8 +47,8 @@ returns-clause-exact c =
     let a = c.at_nanosecond.ensures in
     let utc = c.in-Some-reading.utc in
     let leap = is_leap s l.clock_end in
-    let x₁ = subst (λ (ds : List ℕ). IsExact c.unit.result ds f.seconds g) c.part-digits.ensures c.in_ok-fraction.ensures.exact in
-    let x₂ = subst (λ (u : ℕ). IsExact u (part_digits s l.clock_end l.zone_at) f.seconds g) c.unit.ensures.value x₁ in
+    let x₁ = subst (λ (ds : List ℕ). IsReducedFraction c.unit.result ds f.seconds g) c.part-digits.ensures c.in_ok-fraction.ensures.exact in
+    let x₂ = subst (λ (u : ℕ). IsReducedFraction u (part_digits s l.clock_end l.zone_at) f.seconds g) c.unit.ensures.value x₁ in
     let t : IsGeneralText s (seconds_of c.args.given) (moment_at utc leap g) =
     record {
       end = l.clock_end;
