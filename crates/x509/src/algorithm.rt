@@ -1,19 +1,25 @@
-//! Algorithms, and public keys with them (RFC 5280, 4.1.1.2 and 4.1.2.7).
+//! Algorithms (RFC 5280, 4.1.1.2).
 //!
 //! ```text
 //! AlgorithmIdentifier ::= SEQUENCE {
 //!     algorithm   OBJECT IDENTIFIER,
 //!     parameters  ANY DEFINED BY algorithm OPTIONAL }
-//!
-//! SubjectPublicKeyInfo ::= SEQUENCE {
-//!     algorithm         AlgorithmIdentifier,
-//!     subjectPublicKey  BIT STRING }
 //! ```
 ghost use Rattle.std.specs.Prelude.{◌≡◌, refl};
+ghost use Rattle.yasna_notation.specs.Laws.{standing_keeps, element_filled};
+ghost use Rattle.yasna_notation.specs.Making.{in_sequence, part};
+ghost use Rattle.yasna_notation.specs.Notation.{stands_for};
+ghost use Rattle.yasna_notation.specs.Parts.{last_part_laws};
+ghost use Rattle.yasna_notation.specs.contracts.simple.ObjectIdentifierNotation.TheImpl.Laws.{keeps-law as oid};
+ghost use Rattle.yasna_notation.specs.contracts.any.TaggedDerValueNotation.TheImpl.Laws.{keeps-law as any};
 
 use yasna::models::{ObjectIdentifier, TaggedDerValue};
-use yasna::{ASN1Result, DERWriter};
-use yasna_notation::{BitString, Defined, Last, Sequence};
+use yasna::{ASN1Result, BERReader, DERWriter, Tag};
+use yasna_notation::{Last, Message, Notation, Sequence, StandsFor, read_as};
+
+type Parts = (ObjectIdentifier, Last<TaggedDerValue>);
+
+type Fields = (ObjectIdentifier, Option<TaggedDerValue>);
 
 /// An algorithm, with its parameters as they came.
 #[derive(Drop)]
@@ -22,57 +28,42 @@ pub struct AlgorithmIdentifier {
     pub parameters: Option<TaggedDerValue>,
 }
 
-impl Defined for AlgorithmIdentifier {
-    type Notation = Sequence<(ObjectIdentifier, Last<TaggedDerValue>)>;
-
+impl StandsFor<Fields> for AlgorithmIdentifier {
     ghost value_of = { λ v. (v.algorithm, v.parameters) };
 
-    fn from_value(
-        (algorithm, parameters): (ObjectIdentifier, Option<TaggedDerValue>),
-    ) -> AlgorithmIdentifier {
+    fn from_value((algorithm, parameters): Fields) -> AlgorithmIdentifier {
         AlgorithmIdentifier {
             algorithm,
             parameters,
         }
     }
-
-    fn write_value(&self, writer: DERWriter<'_>) -> ASN1Result<()> {
-        Sequence::<(ObjectIdentifier, Last<TaggedDerValue>)>::write_fields(
-            (&self.algorithm, &self.parameters),
-            writer,
-        )
-    }
-
-    ghost apart = { refl };
 }
 
-/// A public key: its bits, as octets and a count, and the algorithm that it is for.
-#[derive(Drop)]
-pub struct SubjectPublicKeyInfo {
-    pub algorithm: AlgorithmIdentifier,
-    pub subject_public_key: (Vec<u8>, usize),
+impl Notation for AlgorithmIdentifier {
+    type Value = AlgorithmIdentifier;
+
+    type Inner = ();
+
+    ghost means = { stands_for ⟦<AlgorithmIdentifier as StandsFor<Fields>>⟧.value_of ⟦<Sequence<Parts> as Notation>⟧.means };
+
+    fn has_tag(tag: Tag) -> bool {
+        <Sequence<Parts> as Notation>::has_tag(tag)
+    }
+
+    fn read(reader: BERReader) -> ASN1Result<AlgorithmIdentifier> {
+        read_as::<Sequence<Parts>, AlgorithmIdentifier>(reader)
+    }
+
+    fn write(value: &AlgorithmIdentifier, writer: DERWriter<'_>) -> ASN1Result<()> {
+        Sequence::<Parts>::write_fields((&value.algorithm, &value.parameters), writer)
+    }
+
+    ghost keeps = { λ _. standing_keeps ⟦<AlgorithmIdentifier as StandsFor<Fields>>⟧.value_of (in_sequence
+        (part (oid refl).own (last_part_laws (any refl).own))) };
+
+    ghost filled = { λ u m v. element_filled _ _ _ _ };
 }
 
-impl Defined for SubjectPublicKeyInfo {
-    type Notation = Sequence<(AlgorithmIdentifier, (BitString, ()))>;
-
-    ghost value_of = { λ v. (v.algorithm, (v.subject_public_key, tt)) };
-
-    fn from_value(
-        (algorithm, (subject_public_key, ())): (AlgorithmIdentifier, ((Vec<u8>, usize), ())),
-    ) -> SubjectPublicKeyInfo {
-        SubjectPublicKeyInfo {
-            algorithm,
-            subject_public_key,
-        }
-    }
-
-    fn write_value(&self, writer: DERWriter<'_>) -> ASN1Result<()> {
-        Sequence::<(AlgorithmIdentifier, (BitString, ()))>::write_fields(
-            (&self.algorithm, (&self.subject_public_key, ())),
-            writer,
-        )
-    }
-
-    ghost apart = { refl };
+impl Message for AlgorithmIdentifier {
+    ghost told_apart = { refl };
 }

@@ -1,8 +1,6 @@
 //! Extensions (RFC 5280, 4.1).
 //!
 //! ```text
-//! Extensions ::= SEQUENCE SIZE (1..MAX) OF Extension
-//!
 //! Extension ::= SEQUENCE {
 //!     extnID     OBJECT IDENTIFIER,
 //!     critical   BOOLEAN DEFAULT FALSE,
@@ -12,9 +10,9 @@ ghost use Rattle.std.specs.Prelude.{◌≡◌, refl};
 
 use yasna::models::ObjectIdentifier;
 use yasna::{ASN1Result, DERWriter};
-use yasna_notation::{Bounded, Default, Defined, False, NotEmpty, Notation, Sequence, SequenceOf};
+use yasna_notation::{Default, Defined, False, Sequence};
 
-type ExtensionParts = (ObjectIdentifier, (Default<bool, False>, (Vec<u8>, ())));
+type Parts = (ObjectIdentifier, (Default<bool, False>, (Vec<u8>, ())));
 
 /// An extension: its name, whether one who doesn't know it has to refuse, and the octets that hold its value.
 #[derive(Drop)]
@@ -25,7 +23,7 @@ pub struct Extension {
 }
 
 impl Defined for Extension {
-    type Notation = Sequence<ExtensionParts>;
+    type Notation = Sequence<Parts>;
 
     ghost value_of = { λ v. (v.extn_id, (v.critical, (v.extn_value, tt))) };
 
@@ -40,32 +38,10 @@ impl Defined for Extension {
     }
 
     fn write_value(&self, writer: DERWriter<'_>) -> ASN1Result<()> {
-        Sequence::<ExtensionParts>::write_fields(
+        Sequence::<Parts>::write_fields(
             (&self.extn_id, (&self.critical, (&self.extn_value, ()))),
             writer,
         )
-    }
-
-    ghost apart = { refl };
-}
-
-/// Extensions, as a certificate, a revocation list or an entry of one has them.
-#[derive(Drop)]
-pub struct Extensions {
-    pub extensions: Vec<Extension>,
-}
-
-impl Defined for Extensions {
-    type Notation = Bounded<SequenceOf<Extension>, NotEmpty>;
-
-    ghost value_of = { λ v. v.extensions };
-
-    fn from_value(extensions: Vec<Extension>) -> Extensions {
-        Extensions { extensions }
-    }
-
-    fn write_value(&self, writer: DERWriter<'_>) -> ASN1Result<()> {
-        <Bounded<SequenceOf<Extension>, NotEmpty> as Notation>::write(&self.extensions, writer)
     }
 
     ghost apart = { refl };

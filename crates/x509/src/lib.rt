@@ -1,24 +1,45 @@
-//! Parts of certificates (RFC 5280): times, algorithms, public keys, names, attributes and extensions. A certificate isn't here yet.
+//! Certificates and revocation lists (RFC 5280).
 //!
-//! Each type names its notation. `yasna_notation::Noted` of it has the traits, so `decode_der` reads a `Noted<Name>`.
+//! Each type is a notation of its own. `yasna_notation::Noted` of it has the traits, so `decode_der` reads a `Noted<Certificate>`.
 //!
 //! | Module | Holds |
 //! |---|---|
-//! | `time` | times, and from when until when a certificate holds |
-//! | `algorithm` | algorithms, and public keys with them |
+//! | `time`, `validity` | times, and from when until when a certificate holds |
+//! | `algorithm`, `public_key` | algorithms, and public keys with them |
 //! | `name` | names |
 //! | `attribute` | attributes |
-//! | `extension` | extensions |
+//! | `extension`, `extensions` | an extension, and all of a certificate or a list |
+//! | `tbs_certificate`, `certificate` | certificates, and what is signed of them |
+//! | `revoked_certificate`, `tbs_cert_list`, `certificate_list` | revocation lists, their entries, and what is signed of them |
+//! | `signed` | certificates and lists with the bytes that are signed |
 #![tactic(auto)]
 
 mod algorithm;
 mod attribute;
+mod certificate;
+mod certificate_list;
 mod extension;
+mod extensions;
 mod name;
+mod public_key;
+mod revoked_certificate;
+mod signed;
+mod tbs_cert_list;
+mod tbs_certificate;
 mod time;
+mod validity;
 
-pub use algorithm::{AlgorithmIdentifier, SubjectPublicKeyInfo};
+pub use algorithm::AlgorithmIdentifier;
 pub use attribute::Attribute;
-pub use extension::{Extension, Extensions};
+pub use certificate::Certificate;
+pub use certificate_list::CertificateList;
+pub use extension::Extension;
+pub use extensions::Extensions;
 pub use name::{AttributeTypeAndValue, Name, RelativeDistinguishedName};
-pub use time::{Time, Validity};
+pub use public_key::SubjectPublicKeyInfo;
+pub use revoked_certificate::RevokedCertificate;
+pub use signed::{Signed, read_signed_certificate, read_signed_list};
+pub use tbs_cert_list::TbsCertList;
+pub use tbs_certificate::TbsCertificate;
+pub use time::Time;
+pub use validity::Validity;

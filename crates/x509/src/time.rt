@@ -35,32 +35,3 @@ impl Defined for Time {
 
     ghost apart = { refl };
 }
-
-/// From when until when a certificate holds.
-#[derive(Drop)]
-pub struct Validity {
-    pub not_before: Time,
-    pub not_after: Time,
-}
-
-impl Defined for Validity {
-    type Notation = Sequence<(Time, (Time, ()))>;
-
-    ghost value_of = { λ v. (v.not_before, (v.not_after, tt)) };
-
-    fn from_value((not_before, (not_after, ())): (Time, (Time, ()))) -> Validity {
-        Validity {
-            not_before,
-            not_after,
-        }
-    }
-
-    fn write_value(&self, writer: DERWriter<'_>) -> ASN1Result<()> {
-        Sequence::<(Time, (Time, ()))>::write_fields(
-            (&self.not_before, (&self.not_after, ())),
-            writer,
-        )
-    }
-
-    ghost apart = { refl };
-}

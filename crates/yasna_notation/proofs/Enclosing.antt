@@ -20,7 +20,7 @@ use Rattle.yasna_reader.specs.Decodes.{RepeatsKept}
 use Rattle.yasna_reader.specs.Sequence.{Runs, ReadsParts}
 use Rattle.yasna_reader.specs.SequenceOf.{Collects}
 use Rattle.yasna_reader.specs.State.{Reading, IsFresh, part_of, untagged, Does}
-use Rattle.yasna_reader.specs.Tagged.{tagging, ReadsImplicitly}
+use Rattle.yasna_reader.specs.Tagged.{reading_under, ReadsImplicitly}
 use Rattle.yasna_reader.proofs.ByTags.{tagged_by_tag, list_by_tag, decodes_by_tags, parts_quiet, IsDecoderByTags}
 use Rattle.yasna_reader.proofs.Kept.{parts_repeat_kept}
 use Rattle.yasna_reader.proofs.Sequences.{element, parts_map}
@@ -35,7 +35,7 @@ use Rattle.yasna_notation.proofs.OneTag.{by_tags, one_tag_read}
 implicit_repeats_kept : {A : Type 0} (P : Does A) (t : Tag) (s : Reading) (r : Result A ASN1Error) (s' : Reading) → ReadsImplicitly P t s r s' →
     RepeatsKept s r s'
 implicit_repeats_kept {A} P t s r s' h e kept =
-    subst (λ k. UnlessKept k s r s' ((o : Outcome A) × Lent P (tagging t s) s o s' × (r ≡ answer_of o))) kept h
+    subst (λ k. UnlessKept k s r s' ((o : Outcome A) × Lent P (reading_under t s) s o s' × (r ≡ answer_of o))) kept h
 
 module _ {A : Type 0} {told : Bool} {ts : List Tag} {retagged asks : Bool} {B : Option Tag → Grammar A}
     {S : Option Tag → Members} where

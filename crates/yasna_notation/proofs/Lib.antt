@@ -5,3 +5,4 @@ pub mod Standing
 pub mod Found
 pub mod Bounding
 pub mod SetParts
+pub mod FirstBytes

@@ -7,7 +7,7 @@ use Rattle.yasna_base.specs.Coding.{IsCoding, Any}
 use Rattle.yasna_base.specs.Exact.{Fitting, IsExact}
 use Rattle.yasna_base.specs.Grammar.{Grammar, Members, Form}
 use Rattle.yasna_base.specs.Pieces.{Each}
-use Rattle.yasna_notation.specs.Notation.{IsNotation, IsNotationUnderTags}
+use Rattle.yasna_notation.specs.Notation.{IsNotation, Keeps}
 
 -- b encodes a value by B, and the test passes it
 abbrev pub Within : {A : Type 0} → (A → Bool) → Grammar A → Grammar A
@@ -50,11 +50,15 @@ module _ {A : Type 0} {E : A → A → Type 0} (passes : A → Bool) (alike : (v
   }
 
 -- under other tags too
-pub within_others : {A : Type 0} {E : A → A → Type 0} (B : Option Tag → Grammar A) (S : Option Tag → Members) (form : Option Tag → Form A)
-    {Fits : Fitting A} {Can : A → Type 0} (passes : A → Bool) → ((v w : A) → E v w → passes v ≡ passes w) → IsNotationUnderTags E B S form Fits Can →
-    IsNotationUnderTags E (λ u. Within passes (B u)) (λ u. Any (Within passes (B u))) form (λ m n v. Fits m n v × (passes v ≡ true))
+pub within_keeps : {A : Type 0} {told : Bool} {ts : List Tag} {retagged : Bool} {E : A → A → Type 0} {B : Option Tag → Grammar A}
+    {S : Option Tag → Members} {form : Option Tag → Form A} {Fits : Fitting A} {Can : A → Type 0} (passes : A → Bool) →
+    ((v w : A) → E v w → passes v ≡ passes w) → Keeps told ts retagged E B S form Fits Can →
+    Keeps told ts retagged E (λ u. Within passes (B u)) (λ u. Any (Within passes (B u))) form (λ m n v. Fits m n v × (passes v ≡ true))
     (λ v. Can v × (passes v ≡ true))
-within_others B S form passes alike x t not_end range = within_laws passes alike (x t not_end range)
+within_keeps passes alike x = record {
+  own = within_laws passes alike x.own;
+  others = λ r t not_end range. within_laws passes alike (x.others r t not_end range);
+}
 
 each_length : {A : Type 0} (E : A → A → Type 0) (vs ws : List A) → Each E vs ws → length vs ≡ length ws
 each_length E [] [] e = refl

@@ -1,5 +1,5 @@
 -- That types which are made as the notation says keep the laws of writing, by which what BER reads is written anew in DER.
-use Rattle.std.proofs.Common.{◌≡◌, ℕ, List, Bool, true, Option, Some, Vec, String, sym, ◌∙◌}
+use Rattle.std.proofs.Common.{◌≡◌, ◌<◌, ◌^◌, ℕ, List, Bool, true, false, Option, Some, None, Vec, String, sym, ◌∙◌}
 use Rattle.std.proofs.lemmas.Bool.{and_parts}
 use Rattle.std.specs.Prelude.{◌&&◌}
 use Rattle.std.specs.Global.{Global}
@@ -11,7 +11,7 @@ use Rattle.yasna_base.specs.Choice.{EitherOf, SameEither, either_form, either_ne
 use Rattle.yasna_base.specs.Default.{TellsDefault, DefaultOf, default_form, default_nest, default_can}
 use Rattle.yasna_base.specs.Exact.{Fitting}
 use Rattle.yasna_base.specs.Grammar.{Grammar, Members, Form, Nest}
-use Rattle.yasna_base.specs.Identifier.{AnyTag}
+use Rattle.yasna_base.specs.Identifier.{AnyTag, end_tag, tag_or}
 use Rattle.yasna_base.specs.Optional.{OptionOf, SameOption, option_form, option_nest, option_can}
 use Rattle.yasna_base.specs.Pieces.{Each}
 use Rattle.yasna_base.specs.Sequence.{PartOf, NoParts, SamePart, SameNothing, part_form, part_nest, part_can, nothing_form, nothing_nest}
@@ -36,12 +36,19 @@ use Rattle.yasna_times.proofs.TimeLaws.{utc_time_keeps, generalized_time_keeps}
 use Rattle.yasna_times.proofs.Times.{general_moment}
 use Rattle.yasna_notation.specs.Bounded.{Within}
 use Rattle.yasna_notation.specs.Choices.{sides}
-use Rattle.yasna_notation.specs.Notation.{IsNotation}
+use Rattle.yasna_notation.specs.Laws.{never_retagged}
+use Rattle.yasna_notation.specs.Notation.{IsNotation, IsWrittenAs}
 use Rattle.yasna_notation.specs.Parts.{all_told, is_told}
 
 -- a type keeps the laws of writing under any tag but that of the end of contents
 abbrev pub IsWrittenUnderTags : {A : Type 0} → (A → A → Type 0) → (Tag → Grammar A) → (Tag → Form A) → Nest A → (A → Type 0) → Type 0
 IsWrittenUnderTags E B form nest Can = AnyTag (λ t. IsWritten E (B t) (form t) nest Can)
+
+-- so it keeps them under its own, and where another tag stands in place of that
+pub element_written : {A : Type 0} {E : A → A → Type 0} {B : Tag → Grammar A} {form : Tag → Form A} {nest : Nest A} {Can : A → Type 0} (own : Tag) →
+    IsWrittenUnderTags E B form nest Can → (own ≡ end_tag → ⊥) → own.tag_number < 2 ^ 64 →
+    IsWrittenAs true E (λ u. B (tag_or u own)) (λ u. form (tag_or u own)) nest Can
+element_written own laws not_end range = record { own = laws own not_end range; others = λ _. laws }
 
 -- strings of any character, and of those of a class
 pub text_under : IsWrittenUnderTags (λ v w. characters v ≡ characters w) (λ t m n v b. IsStringOf (IsUtf8In InUtf8) n m t (characters v) b)
@@ -94,17 +101,19 @@ module _ {A : Type 0} {E : A → A → Type 0} (passes : A → Bool) (alike : (v
     same = λ m v w e. let y = x.same m v w e in (y.0, λ can. (y.1 can.0, sym (alike v w e) ∙ can.1), y.2);
   }
 
-  pub within_under : (B : Option Tag → Grammar A) (form : Option Tag → Form A) {nest : Nest A} {Can : A → Type 0} →
-      IsWrittenUnderTags E (λ t. B (Some t)) (λ t. form (Some t)) nest Can →
-      IsWrittenUnderTags E (λ t. Within passes (B (Some t))) (λ t. form (Some t)) nest (λ v. Can v × (passes v ≡ true))
-  within_under B form laws t not_end range = within_written (laws t not_end range)
+  pub bounded_written : {retagged : Bool} {B : Option Tag → Grammar A} {form : Option Tag → Form A} {nest : Nest A} {Can : A → Type 0} →
+      IsWrittenAs retagged E B form nest Can →
+      IsWrittenAs retagged E (λ u. Within passes (B u)) form nest (λ v. Can v × (passes v ≡ true))
+  bounded_written x = record { own = within_written x.own; others = λ e t not_end range. within_written (x.others e t not_end range) }
 
 -- a tag in place of the type's own
-module _ {A : Type 0} {E : A → A → Type 0} (B : Option Tag → Grammar A) (form : Option Tag → Form A) {nest : Nest A} {Can : A → Type 0}
-    {apart retagged : Bool}
-    (laws : apart ≡ true → retagged ≡ true → IsWrittenUnderTags E (λ t. B (Some t)) (λ t. form (Some t)) nest Can) where
-  pub implicit_under : retagged && apart ≡ true → IsWrittenUnderTags E (λ t. B (Some t)) (λ t. form (Some t)) nest Can
-  implicit_under all = let x = and_parts retagged apart all in laws x.1 x.0
+pub implicit_written : {A : Type 0} {E : A → A → Type 0} {B : Option Tag → Grammar A} {form : Option Tag → Form A} {nest : Nest A} {Can : A → Type 0}
+    {apart retagged : Bool} (own : Tag) → (apart ≡ true → IsWrittenAs retagged E B form nest Can) → retagged && apart ≡ true →
+    (own ≡ end_tag → ⊥) → own.tag_number < 2 ^ 64 →
+    IsWrittenAs true E (λ u. B (Some (tag_or u own))) (λ u. form (Some (tag_or u own))) nest Can
+implicit_written {E = E} {B = B} {form = form} {apart = apart} {retagged = retagged} own laws all =
+    let x = and_parts retagged apart all in
+    element_written {E = E} {B = λ t. B (Some t)} {form = λ t. form (Some t)} own ((laws x.1).others x.0)
 
 module _ {A V : Type 0} {E : A → A → Type 0} {F : V → V → Type 0} {B : Grammar A} {C : Grammar V} {f : Form A} {g : Form V} {k : Nest A} {l : Nest V}
     {c : A → Type 0} {d : V → Type 0} {a b : Bool} (first : a ≡ true → IsWritten E B f k c) (rest : b ≡ true → IsWritten F C g l d) where
@@ -152,7 +161,12 @@ pub last_writes : {A : Type 0} {E : A → A → Type 0} {B : Grammar A} {form : 
 last_writes {a = a} laws told all = laws (and_parts told a all).1
 
 -- a type whose values stand for those of another
-pub defined_under : {U A : Type 0} {E : A → A → Type 0} (B : Option Tag → Grammar A) (form : Option Tag → Form A) {nest : Nest A} {Can : A → Type 0}
-    (f : U → A) → IsWrittenUnderTags E (λ t. B (Some t)) (λ t. form (Some t)) nest Can →
-    IsWrittenUnderTags (λ v w. E (f v) (f w)) (λ t m n v b. B (Some t) m n (f v) b) (λ t m v. form (Some t) m (f v)) (λ m v. nest m (f v)) (λ v. Can (f v))
-defined_under B form f laws t not_end range = written_along f (laws t not_end range)
+pub standing_written : {U A : Type 0} {retagged : Bool} {E : A → A → Type 0} {B : Option Tag → Grammar A} {form : Option Tag → Form A} {nest : Nest A}
+    {Can : A → Type 0} (f : U → A) → IsWrittenAs retagged E B form nest Can →
+    IsWrittenAs retagged (λ v w. E (f v) (f w)) (λ u m n v b. B u m n (f v) b) (λ u m v. form u m (f v)) (λ m v. nest m (f v)) (λ v. Can (f v))
+standing_written f x = record { own = written_along f x.own; others = λ e t not_end range. written_along f (x.others e t not_end range) }
+
+-- a type with no tag of its own
+pub choice_written_as : {A : Type 0} {E : A → A → Type 0} {B : Grammar A} (form : Option Tag → Form A) {nest : Nest A} {Can : A → Type 0} →
+    IsWritten E B (form None) nest Can → IsWrittenAs false E (λ u. B) form nest Can
+choice_written_as form x = record { own = x; others = λ e. never_retagged e }

@@ -56,7 +56,7 @@ use Rattle.yasna_times.specs.Models.{utc_of, moment_of}
 use Rattle.yasna_times.specs.UtcTime.{SaysUtcTime, utc_time_form, utc_time_nest}
 use Rattle.yasna_times.proofs.TimeLaws.{utc_time_keeps, generalized_time_keeps}
 use Rattle.yasna_times.proofs.Times.{general_moment}
-use Rattle.yasna_notation.specs.Notation.{IsNotation, IsNotationUnderTags}
+use Rattle.yasna_notation.specs.Notation.{IsNotation, IsNotationUnderTags, Keeps}
 
 module _ {A : Type 0} {E : A → A → Type 0} {B : Tag → Grammar A} {S : Tag → Members} {form : Tag → Form A} {Fits : Fitting A} {Can : A → Type 0}
     (own : Tag) (laws : IsExactUnderTags E B S form Fits Can)
@@ -64,13 +64,10 @@ module _ {A : Type 0} {E : A → A → Type 0} {B : Tag → Grammar A} {S : Tag 
   at : (t : Tag) → (t ≡ end_tag → ⊥) → t.tag_number < 2 ^ 64 → IsNotation true (t ∷ []) E (B t) (S t) (form t) Fits Can
   at t not_end range = let x = laws t not_end range in record { coding = x.0; begins = λ _. begins_by_tag t (begins t); exact = x.1 }
 
-  -- a type that keeps its laws under any tag keeps them under its own
-  pub under_own : (own ≡ end_tag → ⊥) → own.tag_number < 2 ^ 64 → IsNotation true (own ∷ []) E (B own) (S own) (form own) Fits Can
-  under_own not_end range = at own not_end range
-
-  -- and where another tag stands in place of that
-  pub under_others : IsNotationUnderTags E (λ u. B (tag_or u own)) (λ u. S (tag_or u own)) (λ u. form (tag_or u own)) Fits Can
-  under_others t not_end range = at t not_end range
+  -- a type that keeps its laws under any tag keeps them under its own, and where another tag stands in place of that
+  pub element_keeps : (own ≡ end_tag → ⊥) → own.tag_number < 2 ^ 64 →
+      Keeps true (own ∷ []) true E (λ u. B (tag_or u own)) (λ u. S (tag_or u own)) (λ u. form (tag_or u own)) Fits Can
+  element_keeps not_end range = record { own = at own not_end range; others = λ _ t e r. at t e r }
 
 -- values of which something is seen keep the laws of what is seen
 pub seen_laws : {U A : Type 0} {B : Tag → Grammar A} {S : Tag → Members} {form : Tag → Form A} {Fits : Fitting A} {Can : A → Type 0} (view : U → A) →
@@ -193,15 +190,15 @@ pub list_laws : {A : Type 0} {told : Bool} {ts : List Tag} {E : A → A → Type
 list_laws {A} x = list_exact_under_tags (λ (v : Vec A Global). v.items) x.coding x.exact
 
 -- a tag in place of the type's own
-module _ {A : Type 0} {E : A → A → Type 0} (B : Option Tag → Grammar A) (S : Option Tag → Members) (form : Option Tag → Form A) {Fits : Fitting A}
-    {Can : A → Type 0} {apart retagged : Bool} (own : Tag) (laws : apart ≡ true → retagged ≡ true → IsNotationUnderTags E B S form Fits Can)
-    (all : retagged && apart ≡ true) where
-  pub implicit_laws : (own ≡ end_tag → ⊥) → own.tag_number < 2 ^ 64 →
-      IsNotation true (own ∷ []) E (B (Some own)) (S (Some own)) (form (Some own)) Fits Can
-  implicit_laws not_end range = let x = and_parts retagged apart all in laws x.1 x.0 own not_end range
+module _ {A : Type 0} {told : Bool} {ts : List Tag} {E : A → A → Type 0} {B : Option Tag → Grammar A} {S : Option Tag → Members}
+    {form : Option Tag → Form A} {Fits : Fitting A} {Can : A → Type 0} {apart retagged : Bool} (own : Tag)
+    (keeps : apart ≡ true → Keeps told ts retagged E B S form Fits Can) (all : retagged && apart ≡ true) where
+  under : IsNotationUnderTags E B S form Fits Can
+  under = let x = and_parts retagged apart all in (keeps x.1).others x.0
 
-  pub implicit_others : IsNotationUnderTags E (λ u. B (Some (tag_or u own))) (λ u. S (Some (tag_or u own))) (λ u. form (Some (tag_or u own))) Fits Can
-  implicit_others t not_end range = let x = and_parts retagged apart all in laws x.1 x.0 t not_end range
+  pub implicit_keeps : (own ≡ end_tag → ⊥) → own.tag_number < 2 ^ 64 →
+      Keeps true (own ∷ []) true E (λ u. B (Some (tag_or u own))) (λ u. S (Some (tag_or u own))) (λ u. form (Some (tag_or u own))) Fits Can
+  implicit_keeps not_end range = record { own = under own not_end range; others = λ _. under }
 
 -- a type whose values stand for those of another
 pub defined_laws : {U A : Type 0} {told : Bool} {ts : List Tag} {E : A → A → Type 0} {B : Grammar A} {S : Members} {form : Form A} {Fits : Fitting A}
@@ -209,10 +206,12 @@ pub defined_laws : {U A : Type 0} {told : Bool} {ts : List Tag} {E : A → A →
     IsNotation told ts (λ v w. E (f v) (f w)) (λ m n v b. B m n (f v) b) S (λ m v. form m (f v)) (λ m n v. Fits m n (f v)) (λ v. Can (f v))
 defined_laws f x = record { coding = along f x.coding; begins = x.begins; exact = exact_along f x.exact }
 
-pub defined_others : {U A : Type 0} {E : A → A → Type 0} (B : Option Tag → Grammar A) (S : Option Tag → Members) (form : Option Tag → Form A)
-    {Fits : Fitting A} {Can : A → Type 0} (f : U → A) → IsNotationUnderTags E B S form Fits Can →
-    IsNotationUnderTags (λ v w. E (f v) (f w)) (λ u m n v b. B u m n (f v) b) S (λ u m v. form u m (f v)) (λ m n v. Fits m n (f v)) (λ v. Can (f v))
-defined_others B S form f x t not_end range = defined_laws f (x t not_end range)
+pub standing_keeps : {U A : Type 0} {told : Bool} {ts : List Tag} {retagged : Bool} {E : A → A → Type 0} {B : Option Tag → Grammar A}
+    {S : Option Tag → Members} {form : Option Tag → Form A} {Fits : Fitting A} {Can : A → Type 0} (f : U → A) →
+    Keeps told ts retagged E B S form Fits Can →
+    Keeps told ts retagged (λ v w. E (f v) (f w)) (λ u m n v b. B u m n (f v) b) S (λ u m v. form u m (f v)) (λ m n v. Fits m n (f v))
+    (λ v. Can (f v))
+standing_keeps f x = record { own = defined_laws f x.own; others = λ r t not_end range. defined_laws f (x.others r t not_end range) }
 
 -- what begins with an identifier isn't empty
 begun_filled : (t : Tag) (bit : PCBit) (r : List ℕ) → identifier t bit ++ r ≡ [] → ⊥

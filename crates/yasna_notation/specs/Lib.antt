@@ -1,7 +1,10 @@
 pub mod Notation
 pub mod Laws
+pub mod Making
 pub mod Parts
 pub mod Choices
 pub mod Bounded
 pub mod Sets
 pub mod Canonical
+pub mod Writing
+pub mod FirstBytes

@@ -20,27 +20,19 @@ impl Notation for TaggedDerValue {
 
     type Inner = ();
 
-    ghost told = { false };
-
-    ghost tags = { [] };
-
-    ghost retagged = { false };
-
-    ghost under = { λ u m n v b. IsRaw n m (raw_of v) b };
-
-    ghost any_under = { λ u. Any (λ m n v b. IsRaw n m v b) };
-
-    ghost asks_memory = { true };
-
-    ghost same = { λ v w. raw_of v ≡ raw_of w };
-
-    ghost form_under = { λ u m v. raw_form (tag_or u (raw_of v).tag) m (raw_of v) };
-
-    ghost nest = { leaf_nest };
-
-    ghost can = { Always };
-
-    ghost fits = { λ m n v. raw_fits m n (raw_of v) };
+    ghost means = { record {
+      told = false;
+      tags = [];
+      retagged = false;
+      under = λ u m n v b. IsRaw n m (raw_of v) b;
+      any_under = λ u. Any (λ m n v b. IsRaw n m v b);
+      asks_memory = true;
+      same = λ v w. raw_of v ≡ raw_of w;
+      form_under = λ u m v. raw_form (tag_or u (raw_of v).tag) m (raw_of v);
+      nest = leaf_nest;
+      can = Always;
+      fits = λ m n v. raw_fits m n (raw_of v);
+    } };
 
     #[inline(always)]
     fn has_tag(_tag: Tag) -> bool {
@@ -57,9 +49,7 @@ impl Notation for TaggedDerValue {
         writer.write_tagged_der(value)
     }
 
-    ghost laws = { λ _. any_laws };
-
-    ghost others = { λ _ e. never_retagged e };
+    ghost keeps = { λ _. record { own = any_laws; others = λ e. never_retagged e } };
 
     ghost filled = { λ u m v. raw_filled (tag_or u (raw_of v).tag) m (raw_of v) };
 }

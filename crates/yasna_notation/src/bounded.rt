@@ -1,7 +1,7 @@
 //! Types of which a module takes some values alone (X.680, 49 to 51): those that a bound lets pass.
 ghost use Rattle.std.specs.Prelude.{◌≡◌, ◌<◌, ◌≤◌, Bool, List, Option, None, true, length, nat_lt, nat_eq, not};
 ghost use Rattle.yasna_base.specs.Coding.{Any};
-ghost use Rattle.yasna_notation.specs.Bounded.{Within, within_laws, within_others, sizes_alike, set_sizes_alike, passes_alike};
+ghost use Rattle.yasna_notation.specs.Bounded.{Within, within_keeps, sizes_alike, set_sizes_alike, passes_alike};
 
 use crate::lists::SequenceOf;
 use crate::notation::Notation;
@@ -21,7 +21,7 @@ pub trait Bound<N: Notation> {
         ensures { result ≡ passes value.now };
 
     // Of equal values it lets pass all or none.
-    ghost alike: { (v w : N.Value) → N.same v w → passes v ≡ passes w };
+    ghost alike: { (v w : N.Value) → N.means.same v w → passes v ≡ passes w };
 }
 
 /// `N (C)`: the values that the bound `C` lets pass. Others are refused as `Invalid`.
@@ -35,29 +35,21 @@ impl<N: Notation, C: Bound<N>> Notation for Bounded<N, C> {
 
     type Inner = N::Inner;
 
-    ghost told = { N.told };
-
-    ghost tags = { N.tags };
-
-    ghost retagged = { N.retagged };
+    ghost means = { record {
+      told = N.means.told;
+      tags = N.means.tags;
+      retagged = N.means.retagged;
+      under = λ u. Within C.passes (N.means.under u);
+      any_under = λ u. Any (Within C.passes (N.means.under u));
+      asks_memory = N.means.asks_memory;
+      same = N.means.same;
+      form_under = N.means.form_under;
+      nest = N.means.nest;
+      can = λ v. N.means.can v × (C.passes v ≡ true);
+      fits = λ m n v. N.means.fits m n v × (C.passes v ≡ true);
+    } };
 
     ghost apart = { N.apart };
-
-    ghost under = { λ u. Within C.passes (N.under u) };
-
-    ghost any_under = { λ u. Any (Within C.passes (N.under u)) };
-
-    ghost asks_memory = { N.asks_memory };
-
-    ghost same = { N.same };
-
-    ghost form_under = { N.form_under };
-
-    ghost nest = { N.nest };
-
-    ghost can = { λ v. N.can v × (C.passes v ≡ true) };
-
-    ghost fits = { λ m n v. N.fits m n v × (C.passes v ≡ true) };
 
     #[inline(always)]
     fn has_tag(tag: Tag) -> bool {
@@ -83,9 +75,7 @@ impl<N: Notation, C: Bound<N>> Notation for Bounded<N, C> {
         N::write(value, writer)
     }
 
-    ghost laws = { λ a. within_laws C.passes C.alike (N.laws a) };
-
-    ghost others = { λ a b. within_others N.under N.any_under N.form_under C.passes C.alike (N.others a b) };
+    ghost keeps = { λ a. within_keeps C.passes C.alike (N.keeps a) };
 
     ghost filled = { N.filled };
 }
@@ -101,7 +91,7 @@ impl<N: Notation> Bound<SequenceOf<N>> for NotEmpty {
         !value.is_empty()
     }
 
-    ghost alike = { λ v w e. sizes_alike N.same (nat_lt 0) v.items w.items e };
+    ghost alike = { λ v w e. sizes_alike N.means.same (nat_lt 0) v.items w.items e };
 }
 
 impl<N: Notation> Bound<SetOf<N>> for NotEmpty {
@@ -112,7 +102,7 @@ impl<N: Notation> Bound<SetOf<N>> for NotEmpty {
         !value.is_empty()
     }
 
-    ghost alike = { λ v w e. set_sizes_alike N.same (nat_lt 0) v.items w.items e };
+    ghost alike = { λ v w e. set_sizes_alike N.means.same (nat_lt 0) v.items w.items e };
 }
 
 /// `(0..MAX)` of an INTEGER that isn't negative.

@@ -88,25 +88,25 @@ impl<A: Notation> Alternatives for (A,) {
 
     type Inner = A::Inner;
 
-    ghost tags = { A.tags };
+    ghost tags = { A.means.tags };
 
-    ghost apart = { (A.told && A.apart) };
+    ghost apart = { (A.means.told && A.apart) };
 
-    ghost encodes = { A.under None };
+    ghost encodes = { A.means.under None };
 
-    ghost elements = { A.any_under None };
+    ghost elements = { A.means.any_under None };
 
-    ghost asks_memory = { A.asks_memory };
+    ghost asks_memory = { A.means.asks_memory };
 
-    ghost same = { A.same };
+    ghost same = { A.means.same };
 
-    ghost form_under = { A.form_under };
+    ghost form_under = { A.means.form_under };
 
-    ghost nest = { A.nest };
+    ghost nest = { A.means.nest };
 
-    ghost can = { A.can };
+    ghost can = { A.means.can };
 
-    ghost fits = { A.fits };
+    ghost fits = { A.means.fits };
 
     #[inline(always)]
     fn has_tag(tag: Tag) -> bool {
@@ -123,7 +123,7 @@ impl<A: Notation> Alternatives for (A,) {
         A::write(value, writer)
     }
 
-    ghost laws = { λ a. last_laws A.laws a };
+    ghost laws = { λ a. last_laws (λ b. (A.keeps b).own) a };
 
     ghost filled = { A.filled };
 }
@@ -133,25 +133,25 @@ impl<A: Notation, W: Alternatives> Alternatives for (A, W) {
 
     type Inner = (A::Inner, W::Inner);
 
-    ghost tags = { A.tags ++ W.tags };
+    ghost tags = { A.means.tags ++ W.tags };
 
-    ghost apart = { (A.told && (share_none A.tags W.tags && (A.apart && W.apart))) };
+    ghost apart = { (A.means.told && (share_none A.means.tags W.tags && (A.apart && W.apart))) };
 
-    ghost encodes = { λ m n v b. EitherOf (A.under None) W.encodes m n (sides v) b };
+    ghost encodes = { λ m n v b. EitherOf (A.means.under None) W.encodes m n (sides v) b };
 
-    ghost elements = { AnyEither (A.any_under None) W.elements };
+    ghost elements = { AnyEither (A.means.any_under None) W.elements };
 
-    ghost asks_memory = { (A.asks_memory || W.asks_memory) };
+    ghost asks_memory = { (A.means.asks_memory || W.asks_memory) };
 
-    ghost same = { λ v w. SameEither A.same W.same (sides v) (sides w) };
+    ghost same = { λ v w. SameEither A.means.same W.same (sides v) (sides w) };
 
-    ghost form_under = { λ u m v. either_form (A.form_under u) (W.form_under u) m (sides v) };
+    ghost form_under = { λ u m v. either_form (A.means.form_under u) (W.form_under u) m (sides v) };
 
-    ghost nest = { λ m v. either_nest A.nest W.nest m (sides v) };
+    ghost nest = { λ m v. either_nest A.means.nest W.nest m (sides v) };
 
-    ghost can = { λ v. either_can A.can W.can (sides v) };
+    ghost can = { λ v. either_can A.means.can W.can (sides v) };
 
-    ghost fits = { λ m n v. either_fits A.fits W.fits m n (sides v) };
+    ghost fits = { λ m n v. either_fits A.means.fits W.fits m n (sides v) };
 
     #[inline(always)]
     fn has_tag(tag: Tag) -> bool {
@@ -181,9 +181,9 @@ impl<A: Notation, W: Alternatives> Alternatives for (A, W) {
         }
     }
 
-    ghost laws = { λ a. either_laws A.laws W.laws a };
+    ghost laws = { λ a. either_laws (λ b. (A.keeps b).own) W.laws a };
 
-    ghost filled = { λ u m v. either_filled (A.form_under u) (W.form_under u) m (A.filled u m) (W.filled u m) v };
+    ghost filled = { λ u m v. either_filled (A.means.form_under u) (W.form_under u) m (A.filled u m) (W.filled u m) v };
 }
 
 /// `CHOICE { A }`, as `Choice<(i64, (bool, ((),)))>`. No other tag stands in place of its own.
@@ -196,27 +196,21 @@ impl<A: Alternatives> Notation for Choice<A> {
 
     type Inner = A::Inner;
 
-    ghost tags = { A.tags };
-
-    ghost retagged = { false };
+    ghost means = { record {
+      told = true;
+      tags = A.tags;
+      retagged = false;
+      under = λ u. A.encodes;
+      any_under = λ u. A.elements;
+      asks_memory = A.asks_memory;
+      same = A.same;
+      form_under = A.form_under;
+      nest = A.nest;
+      can = A.can;
+      fits = A.fits;
+    } };
 
     ghost apart = { A.apart };
-
-    ghost under = { λ u. A.encodes };
-
-    ghost any_under = { λ u. A.elements };
-
-    ghost asks_memory = { A.asks_memory };
-
-    ghost same = { A.same };
-
-    ghost form_under = { A.form_under };
-
-    ghost nest = { A.nest };
-
-    ghost can = { A.can };
-
-    ghost fits = { A.fits };
 
     #[inline(always)]
     fn has_tag(tag: Tag) -> bool {
@@ -236,9 +230,7 @@ impl<A: Alternatives> Notation for Choice<A> {
         A::write(value, writer)
     }
 
-    ghost laws = { A.laws };
-
-    ghost others = { λ _ e. never_retagged e };
+    ghost keeps = { λ a. record { own = A.laws a; others = λ e. never_retagged e } };
 
     ghost filled = { A.filled };
 }

@@ -35,7 +35,7 @@ where
         ensures { result ≡ default };
 
     // The test passes the values that equal it, and is that of `==`.
-    ghost tells: { TellsDefault N.same is default };
+    ghost tells: { TellsDefault N.means.same is default };
 
     ghost tests: { (v : N.Value) → is v ≡ N.Value.eq v default };
 }
@@ -123,25 +123,25 @@ where
 
     ghost told = { true };
 
-    ghost tags = { A.tags ++ W.tags };
+    ghost tags = { A.means.tags ++ W.tags };
 
-    ghost apart = { all_told A.told W.told (share_none A.tags (end_tag ∷ W.tags)) (A.apart && W.apart) };
+    ghost apart = { all_told A.means.told W.told (share_none A.means.tags (end_tag ∷ W.tags)) (A.apart && W.apart) };
 
-    ghost parts = { PartOf (DefaultOf D.is (A.under None)) W.parts };
+    ghost parts = { PartOf (DefaultOf D.is (A.means.under None)) W.parts };
 
-    ghost any_parts = { AnyPart (Any (DefaultOf D.is (A.under None))) W.any_parts };
+    ghost any_parts = { AnyPart (Any (DefaultOf D.is (A.means.under None))) W.any_parts };
 
-    ghost asks_memory = { (A.asks_memory || W.asks_memory) };
+    ghost asks_memory = { (A.means.asks_memory || W.asks_memory) };
 
-    ghost same = { SamePart A.same W.same };
+    ghost same = { SamePart A.means.same W.same };
 
-    ghost form = { part_form (default_form D.is (A.form_under None)) W.form };
+    ghost form = { part_form (default_form D.is (A.means.form_under None)) W.form };
 
-    ghost nest = { part_nest (default_nest D.is A.nest) W.nest };
+    ghost nest = { part_nest (default_nest D.is A.means.nest) W.nest };
 
-    ghost can = { part_can (default_can D.is A.can) W.can };
+    ghost can = { part_can (default_can D.is A.means.can) W.can };
 
-    ghost fits = { part_fits (default_fits D.is A.fits) W.fits };
+    ghost fits = { part_fits (default_fits D.is A.means.fits) W.fits };
 
     #[inline(always)]
     fn read_parts(seq: &mut BERReaderSeq) -> ASN1Result<(A::Value, W::Values)> {
@@ -160,7 +160,7 @@ where
         W::write_parts(&values.1, seq)
     }
 
-    ghost laws = { λ a. default_laws D.is D.default D.tells A.laws W.laws a };
+    ghost laws = { λ a. default_laws D.is D.default D.tells (λ b. (A.keeps b).own) W.laws a };
 }
 
 impl<'a, A: Notation, D: DefaultValue<A>, R: Drop, W: PartsBy<R>> PartsBy<(&'a A::Value, R)>
@@ -185,8 +185,8 @@ fn write_unless_default<A: Notation, D: DefaultValue<A>>(
 ) -> ASN1Result<()>
 where
     A::Value: Eq,
-    requires { default_can D.is A.can value.now }
-    ensures { WroteParts (default_form D.is (A.form_under None) seq.old.mode value.now) seq.old seq.new result }
+    requires { default_can D.is A.means.can value.now }
+    ensures { WroteParts (default_form D.is (A.means.form_under None) seq.old.mode value.now) seq.old seq.new result }
 {
     if *value == D::default() {
         return Ok(());

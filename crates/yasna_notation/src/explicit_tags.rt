@@ -5,7 +5,7 @@ ghost use Rattle.yasna_base.specs.Element.{Enclosed, AnyEnclosed};
 ghost use Rattle.yasna_base.specs.Exact.{enclosed_fits};
 ghost use Rattle.yasna_base.specs.Identifier.{tag_or};
 ghost use Rattle.yasna_base.proofs.ExplicitTags.{enclosed_begins};
-ghost use Rattle.yasna_notation.specs.Laws.{under_own, under_others, explicit_laws, element_filled};
+ghost use Rattle.yasna_notation.specs.Laws.{element_keeps, explicit_laws, element_filled};
 
 use crate::notation::Notation;
 use crate::tag_names::TagName;
@@ -25,25 +25,21 @@ impl<T: TagName, N: Notation> Notation for Explicit<T, N> {
 
     type Inner = N::Inner;
 
-    ghost tags = { T.tag ∷ [] };
+    ghost means = { record {
+      told = true;
+      tags = T.tag ∷ [];
+      retagged = true;
+      under = λ u. Enclosed (N.means.under None) (tag_or u T.tag);
+      any_under = λ u. AnyEnclosed (N.means.any_under None) (tag_or u T.tag);
+      asks_memory = N.means.asks_memory;
+      same = N.means.same;
+      form_under = λ u. enclosed_form (N.means.form_under None) (tag_or u T.tag);
+      nest = enclosed_nest N.means.nest;
+      can = N.means.can;
+      fits = enclosed_fits N.means.fits;
+    } };
 
     ghost apart = { N.apart };
-
-    ghost under = { λ u. Enclosed (N.under None) (tag_or u T.tag) };
-
-    ghost any_under = { λ u. AnyEnclosed (N.any_under None) (tag_or u T.tag) };
-
-    ghost asks_memory = { N.asks_memory };
-
-    ghost same = { N.same };
-
-    ghost form_under = { λ u. enclosed_form (N.form_under None) (tag_or u T.tag) };
-
-    ghost nest = { enclosed_nest N.nest };
-
-    ghost can = { N.can };
-
-    ghost fits = { enclosed_fits N.fits };
 
     #[inline(always)]
     fn has_tag(tag: Tag) -> bool {
@@ -60,9 +56,7 @@ impl<T: TagName, N: Notation> Notation for Explicit<T, N> {
         writer.write_tagged(T::tag(), |inner| N::write(value, inner))
     }
 
-    ghost laws = { λ a. under_own T.tag (explicit_laws (N.laws a)) (enclosed_begins (N.any_under None)) T.not_end T.in_range };
-
-    ghost others = { λ a _. under_others T.tag (explicit_laws (N.laws a)) (enclosed_begins (N.any_under None)) };
+    ghost keeps = { λ a. element_keeps T.tag (explicit_laws (N.keeps a).own) (enclosed_begins (N.means.any_under None)) T.not_end T.in_range };
 
     ghost filled = { λ u m v. element_filled _ _ _ _ };
 }

@@ -1,7 +1,7 @@
 //! IMPLICIT tags: a tag in place of the type's own (X.690, 8.14).
 ghost use Rattle.std.specs.Prelude.{◌≡◌, ◌∷◌, ◌&&◌, [], Some, true};
 ghost use Rattle.yasna_base.specs.Identifier.{tag_or};
-ghost use Rattle.yasna_notation.specs.Laws.{implicit_laws, implicit_others};
+ghost use Rattle.yasna_notation.specs.Laws.{implicit_keeps};
 
 use crate::notation::Notation;
 use crate::tag_names::TagName;
@@ -21,25 +21,21 @@ impl<T: TagName, N: Notation> Notation for Implicit<T, N> {
 
     type Inner = N::Inner;
 
-    ghost tags = { T.tag ∷ [] };
+    ghost means = { record {
+      told = true;
+      tags = T.tag ∷ [];
+      retagged = true;
+      under = λ u. N.means.under (Some (tag_or u T.tag));
+      any_under = λ u. N.means.any_under (Some (tag_or u T.tag));
+      asks_memory = N.means.asks_memory;
+      same = N.means.same;
+      form_under = λ u. N.means.form_under (Some (tag_or u T.tag));
+      nest = N.means.nest;
+      can = N.means.can;
+      fits = N.means.fits;
+    } };
 
-    ghost apart = { (N.retagged && N.apart) };
-
-    ghost under = { λ u. N.under (Some (tag_or u T.tag)) };
-
-    ghost any_under = { λ u. N.any_under (Some (tag_or u T.tag)) };
-
-    ghost asks_memory = { N.asks_memory };
-
-    ghost same = { N.same };
-
-    ghost form_under = { λ u. N.form_under (Some (tag_or u T.tag)) };
-
-    ghost nest = { N.nest };
-
-    ghost can = { N.can };
-
-    ghost fits = { N.fits };
+    ghost apart = { (N.means.retagged && N.apart) };
 
     #[inline(always)]
     fn has_tag(tag: Tag) -> bool {
@@ -56,9 +52,7 @@ impl<T: TagName, N: Notation> Notation for Implicit<T, N> {
         writer.write_tagged_implicit(T::tag(), |inner| N::write(value, inner))
     }
 
-    ghost laws = { λ a. implicit_laws N.under N.any_under N.form_under T.tag N.others a T.not_end T.in_range };
-
-    ghost others = { λ a _. implicit_others N.under N.any_under N.form_under T.tag N.others a };
+    ghost keeps = { λ a. implicit_keeps T.tag (λ b. N.keeps b) a T.not_end T.in_range };
 
     ghost filled = { λ u. N.filled (Some (tag_or u T.tag)) };
 }

@@ -24,27 +24,27 @@ impl<A: Notation> Parts for Last<A> {
 
     type Inner = A::Inner;
 
-    ghost told = { A.told };
+    ghost told = { A.means.told };
 
-    ghost tags = { A.tags ++ [] };
+    ghost tags = { A.means.tags ++ [] };
 
     ghost apart = { A.apart };
 
-    ghost parts = { λ m n v c. PartOf (OptionOf (A.under None)) NoParts m n (v, tt) c };
+    ghost parts = { λ m n v c. PartOf (OptionOf (A.means.under None)) NoParts m n (v, tt) c };
 
-    ghost any_parts = { AnyPart (AnyOption (A.any_under None)) AnyNothing };
+    ghost any_parts = { AnyPart (AnyOption (A.means.any_under None)) AnyNothing };
 
-    ghost asks_memory = { (A.asks_memory || false) };
+    ghost asks_memory = { (A.means.asks_memory || false) };
 
-    ghost same = { λ v w. SamePart (SameOption A.same) SameNothing (v, tt) (w, tt) };
+    ghost same = { λ v w. SamePart (SameOption A.means.same) SameNothing (v, tt) (w, tt) };
 
-    ghost form = { λ m v. part_form (option_form (A.form_under None)) nothing_form m (v, tt) };
+    ghost form = { λ m v. part_form (option_form (A.means.form_under None)) nothing_form m (v, tt) };
 
-    ghost nest = { λ m v. part_nest (option_nest A.nest) nothing_nest m (v, tt) };
+    ghost nest = { λ m v. part_nest (option_nest A.means.nest) nothing_nest m (v, tt) };
 
-    ghost can = { λ v. part_can (option_can A.can) Always (v, tt {0}) };
+    ghost can = { λ v. part_can (option_can A.means.can) Always (v, tt {0}) };
 
-    ghost fits = { λ m n v. part_fits (option_fits A.fits) nothing_fits m n (v, tt) };
+    ghost fits = { λ m n v. part_fits (option_fits A.means.fits) nothing_fits m n (v, tt) };
 
     #[inline(always)]
     fn read_parts(seq: &mut BERReaderSeq) -> ASN1Result<Option<A::Value>> {
@@ -56,7 +56,7 @@ impl<A: Notation> Parts for Last<A> {
         write_optional::<A>(values, seq)
     }
 
-    ghost laws = { λ a. last_part_laws (A.laws a) };
+    ghost laws = { λ a. last_part_laws (A.keeps a).own };
 }
 
 impl<'a, A: Notation> PartsBy<&'a Option<A::Value>> for Last<A> {

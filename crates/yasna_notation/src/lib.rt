@@ -6,6 +6,7 @@
 //! | `tag_names` | the tags that a module writes, as types |
 //! | `simple` | BOOLEAN, INTEGER, ENUMERATED, NULL, OBJECT IDENTIFIER |
 //! | `strings`, `times` | strings and times |
+//! | `first_bytes` | the bytes of a SEQUENCE's first part |
 //! | `canonical` | notations of which BER too is written anew |
 #![tactic(auto)]
 
@@ -16,9 +17,11 @@ mod choices;
 mod defaults;
 mod defined;
 mod explicit_tags;
+mod first_bytes;
 mod implicit_tags;
 mod last;
 mod lists;
+mod messages;
 mod notation;
 mod noted;
 mod parts;
@@ -35,9 +38,11 @@ pub use choices::{Alternatives, Choice, Either};
 pub use defaults::{Default, DefaultValue, False, Number};
 pub use defined::Defined;
 pub use explicit_tags::Explicit;
+pub use first_bytes::{WithFirst, read_parts_with_first};
 pub use implicit_tags::Implicit;
 pub use last::Last;
 pub use lists::SequenceOf;
+pub use messages::{Message, StandsFor, read_as};
 pub use notation::Notation;
 pub use noted::Noted;
 pub use parts::{Optional, Parts, PartsBy};

@@ -11,7 +11,8 @@ ghost use Rattle.yasna_base.proofs.ExplicitTags.{enclosed_begins};
 ghost use Rattle.yasna_base.proofs.Identifier.{not_end};
 ghost use Rattle.std.proofs.Common.{arith};
 ghost use Rattle.yasna_writer.specs.View.{Writes, WroteParts};
-ghost use Rattle.yasna_notation.specs.Laws.{under_own, under_others, list_laws, element_filled};
+ghost use Rattle.yasna_notation.specs.Making.{in_sequence_of};
+ghost use Rattle.yasna_notation.specs.Laws.{element_keeps, list_laws, element_filled};
 
 use crate::notation::Notation;
 use std::marker::PhantomData;
@@ -30,25 +31,21 @@ impl<N: Notation> Notation for SequenceOf<N> {
 
     type Inner = N::Inner;
 
-    ghost tags = { sequence_tag ∷ [] };
+    ghost means = { record {
+      told = true;
+      tags = sequence_tag ∷ [];
+      retagged = true;
+      under = λ u m n v b. IsListOf (N.means.under None) (tag_or u sequence_tag) m n v.items b;
+      any_under = λ u. AnyListOf (N.means.any_under None) (tag_or u sequence_tag);
+      asks_memory = true;
+      same = λ v w. Each N.means.same v.items w.items;
+      form_under = λ u m v. enclosed_form (elements_form (N.means.form_under None)) (tag_or u sequence_tag) m v.items;
+      nest = λ m v. enclosed_nest (elements_nest N.means.nest) m v.items;
+      can = λ v. AllByRecursion N.means.can v.items;
+      fits = λ m n v. enclosed_fits (elements_fit N.means.fits) m n v.items;
+    } };
 
     ghost apart = { N.apart };
-
-    ghost under = { λ u m n v b. IsListOf (N.under None) (tag_or u sequence_tag) m n v.items b };
-
-    ghost any_under = { λ u. AnyListOf (N.any_under None) (tag_or u sequence_tag) };
-
-    ghost asks_memory = { true };
-
-    ghost same = { λ v w. Each N.same v.items w.items };
-
-    ghost form_under = { λ u m v. enclosed_form (elements_form (N.form_under None)) (tag_or u sequence_tag) m v.items };
-
-    ghost nest = { λ m v. enclosed_nest (elements_nest N.nest) m v.items };
-
-    ghost can = { λ v. AllByRecursion N.can v.items };
-
-    ghost fits = { λ m n v. enclosed_fits (elements_fit N.fits) m n v.items };
 
     #[inline(always)]
     fn has_tag(tag: Tag) -> bool {
@@ -65,25 +62,23 @@ impl<N: Notation> Notation for SequenceOf<N> {
         write_list::<N>(value.as_slice(), writer)
     }
 
-    ghost laws = { λ a. under_own sequence_tag (list_laws (N.laws a)) (enclosed_begins (AnyElements (N.any_under None))) (not_end 16 (λ e. omega arith)) (omega arith) };
-
-    ghost others = { λ a _. under_others sequence_tag (list_laws (N.laws a)) (enclosed_begins (AnyElements (N.any_under None))) };
+    ghost keeps = { λ a. in_sequence_of (N.keeps a).own };
 
     ghost filled = { λ u m v. element_filled _ _ _ _ };
 }
 
 // Writes a SEQUENCE OF these items.
 fn write_list<N: Notation>(items: &[N::Value], writer: DERWriter<'_>) -> ASN1Result<()>
-    requires { AllByRecursion N.can items.now }
-    ensures { Writes (enclosed_form (elements_form (N.form_under None)) (tag_or writer.old.tag sequence_tag) writer.old.mode items.now) writer.old writer.new result }
+    requires { AllByRecursion N.means.can items.now }
+    ensures { Writes (enclosed_form (elements_form (N.means.form_under None)) (tag_or writer.old.tag sequence_tag) writer.old.mode items.now) writer.old writer.new result }
 {
     writer.write_sequence_of(|seq| write_items::<N>(items, seq))
 }
 
 // Writes items, one after the other.
 fn write_items<N: Notation>(items: &[N::Value], seq: &mut DERWriterSeq) -> ASN1Result<()>
-    requires { AllByRecursion N.can items.now }
-    ensures { WroteParts (elements_form (N.form_under None) seq.old.mode items.now) seq.old seq.new result }
+    requires { AllByRecursion N.means.can items.now }
+    ensures { WroteParts (elements_form (N.means.form_under None) seq.old.mode items.now) seq.old seq.new result }
 {
     for item in items {
         N::write(item, seq.next())?;

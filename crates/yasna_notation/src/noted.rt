@@ -3,7 +3,7 @@ ghost use Rattle.std.specs.Prelude.{◌≡◌, None};
 ghost use Rattle.yasna_base.proofs.Coding.{along};
 ghost use Rattle.yasna_base.proofs.Exact.{exact_along};
 
-use crate::defined::Defined;
+use crate::messages::Message;
 use crate::notation::Notation;
 use yasna::{BERDecodable, DEREncodable, DERExact};
 use yasna_base::ASN1Result;
@@ -35,14 +35,14 @@ impl<T> Noted<T> {
     }
 }
 
-impl<T: Defined> BERDecodable for Noted<T> {
-    ghost encodes = { λ m n v b. T.Notation.under None m n (T.value_of v.value) b };
+impl<T: Message> BERDecodable for Noted<T> {
+    ghost encodes = { λ m n v b. T.means.under None m n v.value b };
 
-    ghost elements = { T.Notation.any_under None };
+    ghost elements = { T.means.any_under None };
 
-    ghost asks_memory = { T.Notation.asks_memory };
+    ghost asks_memory = { T.means.asks_memory };
 
-    ghost same = { λ v w. T.Notation.same (T.value_of v.value) (T.value_of w.value) };
+    ghost same = { λ v w. T.means.same v.value w.value };
 
     #[inline(always)]
     fn decode_ber(reader: BERReader) -> ASN1Result<Noted<T>> {
@@ -52,24 +52,24 @@ impl<T: Defined> BERDecodable for Noted<T> {
         }
     }
 
-    ghost coding = { along (λ v. T.value_of v.value) (T.Notation.laws T.apart).coding };
+    ghost coding = { along (λ v. v.value) (T.keeps T.told_apart).own.coding };
 }
 
-impl<T: Defined> DEREncodable for Noted<T> {
-    ghost form = { λ m v. T.Notation.form_under None m (T.value_of v.value) };
+impl<T: Message> DEREncodable for Noted<T> {
+    ghost form = { λ m v. T.means.form_under None m v.value };
 
-    ghost nest = { λ m v. T.Notation.nest m (T.value_of v.value) };
+    ghost nest = { λ m v. T.means.nest m v.value };
 
-    ghost encodable = { λ v. T.Notation.can (T.value_of v.value) };
+    ghost encodable = { λ v. T.means.can v.value };
 
     #[inline(always)]
     fn encode_der(&self, writer: DERWriter<'_>) -> ASN1Result<()> {
-        self.value.write_value(writer)
+        <T as Notation>::write(&self.value, writer)
     }
 }
 
-impl<T: Defined> DERExact for Noted<T> {
-    ghost fits = { λ m n v. T.Notation.fits m n (T.value_of v.value) };
+impl<T: Message> DERExact for Noted<T> {
+    ghost fits = { λ m n v. T.means.fits m n v.value };
 
-    ghost exact = { exact_along (λ v. T.value_of v.value) (T.Notation.laws T.apart).exact };
+    ghost exact = { exact_along (λ v. v.value) (T.keeps T.told_apart).own.exact };
 }

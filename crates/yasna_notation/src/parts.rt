@@ -115,27 +115,27 @@ impl<A: Notation, W: Parts> Parts for (A, W) {
 
     type Inner = (A::Inner, W::Inner);
 
-    ghost told = { A.told };
+    ghost told = { A.means.told };
 
-    ghost tags = { A.tags };
+    ghost tags = { A.means.tags };
 
     ghost apart = { (A.apart && W.apart) };
 
-    ghost parts = { PartOf (A.under None) W.parts };
+    ghost parts = { PartOf (A.means.under None) W.parts };
 
-    ghost any_parts = { AnyPart (A.any_under None) W.any_parts };
+    ghost any_parts = { AnyPart (A.means.any_under None) W.any_parts };
 
-    ghost asks_memory = { (A.asks_memory || W.asks_memory) };
+    ghost asks_memory = { (A.means.asks_memory || W.asks_memory) };
 
-    ghost same = { SamePart A.same W.same };
+    ghost same = { SamePart A.means.same W.same };
 
-    ghost form = { part_form (A.form_under None) W.form };
+    ghost form = { part_form (A.means.form_under None) W.form };
 
-    ghost nest = { part_nest A.nest W.nest };
+    ghost nest = { part_nest A.means.nest W.nest };
 
-    ghost can = { part_can A.can W.can };
+    ghost can = { part_can A.means.can W.can };
 
-    ghost fits = { part_fits A.fits W.fits };
+    ghost fits = { part_fits A.means.fits W.fits };
 
     #[inline(always)]
     fn read_parts(seq: &mut BERReaderSeq) -> ASN1Result<(A::Value, W::Values)> {
@@ -154,7 +154,7 @@ impl<A: Notation, W: Parts> Parts for (A, W) {
         W::write_parts(&values.1, seq)
     }
 
-    ghost laws = { λ a. part_laws A.laws W.laws a };
+    ghost laws = { λ a. part_laws (λ b. (A.keeps b).own) W.laws a };
 }
 
 /// `N OPTIONAL`: a part that may be left out.
@@ -169,25 +169,25 @@ impl<A: Notation, W: Parts> Parts for (Optional<A>, W) {
 
     ghost told = { true };
 
-    ghost tags = { A.tags ++ W.tags };
+    ghost tags = { A.means.tags ++ W.tags };
 
-    ghost apart = { all_told A.told W.told (share_none A.tags (end_tag ∷ W.tags)) (A.apart && W.apart) };
+    ghost apart = { all_told A.means.told W.told (share_none A.means.tags (end_tag ∷ W.tags)) (A.apart && W.apart) };
 
-    ghost parts = { PartOf (OptionOf (A.under None)) W.parts };
+    ghost parts = { PartOf (OptionOf (A.means.under None)) W.parts };
 
-    ghost any_parts = { AnyPart (AnyOption (A.any_under None)) W.any_parts };
+    ghost any_parts = { AnyPart (AnyOption (A.means.any_under None)) W.any_parts };
 
-    ghost asks_memory = { (A.asks_memory || W.asks_memory) };
+    ghost asks_memory = { (A.means.asks_memory || W.asks_memory) };
 
-    ghost same = { SamePart (SameOption A.same) W.same };
+    ghost same = { SamePart (SameOption A.means.same) W.same };
 
-    ghost form = { part_form (option_form (A.form_under None)) W.form };
+    ghost form = { part_form (option_form (A.means.form_under None)) W.form };
 
-    ghost nest = { part_nest (option_nest A.nest) W.nest };
+    ghost nest = { part_nest (option_nest A.means.nest) W.nest };
 
-    ghost can = { part_can (option_can A.can) W.can };
+    ghost can = { part_can (option_can A.means.can) W.can };
 
-    ghost fits = { part_fits (option_fits A.fits) W.fits };
+    ghost fits = { part_fits (option_fits A.means.fits) W.fits };
 
     #[inline(always)]
     fn read_parts(seq: &mut BERReaderSeq) -> ASN1Result<(Option<A::Value>, W::Values)> {
@@ -209,7 +209,7 @@ impl<A: Notation, W: Parts> Parts for (Optional<A>, W) {
         W::write_parts(&values.1, seq)
     }
 
-    ghost laws = { λ a. option_laws A.laws W.laws a };
+    ghost laws = { λ a. option_laws (λ b. (A.keeps b).own) W.laws a };
 }
 
 // Writes a part that may be left out.
@@ -218,8 +218,8 @@ pub(crate) fn write_optional<A: Notation>(
     value: &Option<A::Value>,
     seq: &mut DERWriterSeq,
 ) -> ASN1Result<()>
-    requires { option_can A.can value.now }
-    ensures { WroteParts (option_form (A.form_under None) seq.old.mode value.now) seq.old seq.new result }
+    requires { option_can A.means.can value.now }
+    ensures { WroteParts (option_form (A.means.form_under None) seq.old.mode value.now) seq.old seq.new result }
 {
     match value {
         Some(part) => A::write(part, seq.next()),

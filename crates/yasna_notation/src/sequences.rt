@@ -9,7 +9,8 @@ ghost use Rattle.yasna_base.specs.Sequence.{sequence_tag};
 ghost use Rattle.yasna_base.proofs.ExplicitTags.{enclosed_begins};
 ghost use Rattle.yasna_base.proofs.Identifier.{not_end};
 ghost use Rattle.yasna_writer.specs.View.{Writes};
-ghost use Rattle.yasna_notation.specs.Laws.{under_own, under_others, element_filled};
+ghost use Rattle.yasna_notation.specs.Making.{in_sequence};
+ghost use Rattle.yasna_notation.specs.Laws.{element_keeps, element_filled};
 ghost use Rattle.yasna_notation.specs.Parts.{sequence_laws};
 
 use crate::notation::Notation;
@@ -30,25 +31,21 @@ impl<P: Parts> Notation for Sequence<P> {
 
     type Inner = P::Inner;
 
-    ghost tags = { sequence_tag ∷ [] };
+    ghost means = { record {
+      told = true;
+      tags = sequence_tag ∷ [];
+      retagged = true;
+      under = λ u. Enclosed P.parts (tag_or u sequence_tag);
+      any_under = λ u. AnyEnclosed P.any_parts (tag_or u sequence_tag);
+      asks_memory = P.asks_memory;
+      same = P.same;
+      form_under = λ u. enclosed_form P.form (tag_or u sequence_tag);
+      nest = enclosed_nest P.nest;
+      can = P.can;
+      fits = enclosed_fits P.fits;
+    } };
 
     ghost apart = { P.apart };
-
-    ghost under = { λ u. Enclosed P.parts (tag_or u sequence_tag) };
-
-    ghost any_under = { λ u. AnyEnclosed P.any_parts (tag_or u sequence_tag) };
-
-    ghost asks_memory = { P.asks_memory };
-
-    ghost same = { P.same };
-
-    ghost form_under = { λ u. enclosed_form P.form (tag_or u sequence_tag) };
-
-    ghost nest = { enclosed_nest P.nest };
-
-    ghost can = { P.can };
-
-    ghost fits = { enclosed_fits P.fits };
 
     #[inline(always)]
     fn has_tag(tag: Tag) -> bool {
@@ -65,9 +62,7 @@ impl<P: Parts> Notation for Sequence<P> {
         writer.write_sequence(|seq| P::write_parts(value, seq))
     }
 
-    ghost laws = { λ a. under_own sequence_tag (sequence_laws (P.laws a)) (enclosed_begins P.any_parts) (not_end 16 (λ e. omega arith)) (omega arith) };
-
-    ghost others = { λ a _. under_others sequence_tag (sequence_laws (P.laws a)) (enclosed_begins P.any_parts) };
+    ghost keeps = { λ a. in_sequence (P.laws a) };
 
     ghost filled = { λ u m v. element_filled _ _ _ _ };
 }

@@ -11,7 +11,8 @@ ghost use Rattle.yasna_base.proofs.ExplicitTags.{enclosed_begins};
 ghost use Rattle.yasna_base.proofs.Identifier.{not_end};
 ghost use Rattle.yasna_writer.specs.Parts.{no_parts};
 ghost use Rattle.yasna_writer.specs.View.{Writes};
-ghost use Rattle.yasna_notation.specs.Laws.{under_own, under_others, element_filled};
+ghost use Rattle.yasna_notation.specs.Making.{in_set_of};
+ghost use Rattle.yasna_notation.specs.Laws.{element_keeps, element_filled};
 ghost use Rattle.yasna_notation.specs.Sets.{set_of_laws, LacksAtMost, WroteElement, WroteElements};
 
 use crate::notation::Notation;
@@ -31,25 +32,21 @@ impl<N: Notation> Notation for SetOf<N> {
 
     type Inner = N::Inner;
 
-    ghost tags = { set_tag ∷ [] };
+    ghost means = { record {
+      told = true;
+      tags = set_tag ∷ [];
+      retagged = true;
+      under = λ u m n v b. InSomeOrder (IsSetOf (N.means.under None) (tag_or u set_tag)) m n v.items b;
+      any_under = λ u. AnySetOf (N.means.any_under None) (tag_or u set_tag);
+      asks_memory = true;
+      same = λ v w. SameSetOf N.means.same v.items w.items;
+      form_under = λ u m v. sorted_set_of_form (N.means.form_under None) (tag_or u set_tag) m v.items;
+      nest = λ m v. set_of_nest N.means.nest m v.items;
+      can = λ v. AllByRecursion N.means.can v.items;
+      fits = λ m n v. enclosed_fits (elements_fit N.means.fits) m n v.items;
+    } };
 
     ghost apart = { N.apart };
-
-    ghost under = { λ u m n v b. InSomeOrder (IsSetOf (N.under None) (tag_or u set_tag)) m n v.items b };
-
-    ghost any_under = { λ u. AnySetOf (N.any_under None) (tag_or u set_tag) };
-
-    ghost asks_memory = { true };
-
-    ghost same = { λ v w. SameSetOf N.same v.items w.items };
-
-    ghost form_under = { λ u m v. sorted_set_of_form (N.form_under None) (tag_or u set_tag) m v.items };
-
-    ghost nest = { λ m v. set_of_nest N.nest m v.items };
-
-    ghost can = { λ v. AllByRecursion N.can v.items };
-
-    ghost fits = { λ m n v. enclosed_fits (elements_fit N.fits) m n v.items };
 
     #[inline(always)]
     fn has_tag(tag: Tag) -> bool {
@@ -66,26 +63,24 @@ impl<N: Notation> Notation for SetOf<N> {
         write_set::<N>(value.as_slice(), writer)
     }
 
-    ghost laws = { λ a. under_own set_tag (set_of_laws (N.laws a)) (enclosed_begins (AnySetOfElements (N.any_under None))) (not_end 17 (λ e. omega arith)) (omega arith) };
-
-    ghost others = { λ a _. under_others set_tag (set_of_laws (N.laws a)) (enclosed_begins (AnySetOfElements (N.any_under None))) };
+    ghost keeps = { λ a. in_set_of (N.keeps a).own };
 
     ghost filled = { λ u m v. element_filled _ _ _ _ };
 }
 
 // Writes a SET OF these items.
 fn write_set<N: Notation>(items: &[N::Value], writer: DERWriter<'_>) -> ASN1Result<()>
-    requires { AllByRecursion N.can items.now }
-    ensures { Writes (sorted_set_of_form (N.form_under None) (tag_or writer.old.tag set_tag) writer.old.mode items.now) writer.old writer.new result }
+    requires { AllByRecursion N.means.can items.now }
+    ensures { Writes (sorted_set_of_form (N.means.form_under None) (tag_or writer.old.tag set_tag) writer.old.mode items.now) writer.old writer.new result }
 {
     writer.write_set_of(|set| write_elements::<N>(items, set))
 }
 
 // Writes items as the parts of a set.
 fn write_elements<N: Notation>(items: &[N::Value], set: &mut DERWriterSet) -> ASN1Result<()>
-    requires can { AllByRecursion N.can items.now }
+    requires can { AllByRecursion N.means.can items.now }
     requires begins { set.old ≡ no_parts set.old.mode }
-    ensures { WroteElements (forms (N.form_under None) set.old.mode items.now) set.new result }
+    ensures { WroteElements (forms (N.means.form_under None) set.old.mode items.now) set.new result }
 {
     for item in items {
         write_element::<N>(item, set.next())?;
@@ -96,10 +91,10 @@ fn write_elements<N: Notation>(items: &[N::Value], set: &mut DERWriterSet) -> AS
 // Writes an item as a part that begins. A set refuses an empty part: where there is no memory and that isn't kept, a NULL is left, so
 // that want of memory is what is answered.
 fn write_element<N: Notation>(item: &N::Value, writer: DERWriter<'_>) -> ASN1Result<()>
-    requires can { N.can item.now }
+    requires can { N.means.can item.now }
     requires begins { (writer.old.bytes ≡ []) × (writer.old.tag ≡ None) }
     requires kept { LacksAtMost writer.old.kept }
-    ensures { WroteElement (N.form_under None writer.old.mode item.now) writer.old writer.new result }
+    ensures { WroteElement (N.means.form_under None writer.old.mode item.now) writer.old writer.new result }
 {
     match N::write(item, writer) {
         Ok(()) => Ok(()),

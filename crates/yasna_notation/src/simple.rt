@@ -16,7 +16,7 @@ ghost use Rattle.yasna_base.specs.Oid.{AreComponents, IsEncodableOid, oid_tag, o
 ghost use Rattle.yasna_base.proofs.Coding.{primitively_begins};
 ghost use Rattle.yasna_base.proofs.Identifier.{not_end};
 ghost use Rattle.yasna_bytes.specs.Contents.{big_integer_in};
-ghost use Rattle.yasna_notation.specs.Laws.{under_own, under_others, seen_laws, boolean_laws, null_laws, signed_laws, unsigned_laws, oid_laws, big_integer_laws, element_filled};
+ghost use Rattle.yasna_notation.specs.Laws.{element_keeps, seen_laws, boolean_laws, null_laws, signed_laws, unsigned_laws, oid_laws, big_integer_laws, element_filled};
 
 use crate::notation::Notation;
 use yasna_base::models::ObjectIdentifier;
@@ -30,23 +30,19 @@ impl Notation for bool {
 
     type Inner = ();
 
-    ghost tags = { boolean_tag ∷ [] };
-
-    ghost under = { λ u m n v b. Primitively IsBoolean n m (tag_or u boolean_tag) v b };
-
-    ghost any_under = { λ u. Any (λ m n v b. Primitively IsBoolean n m (tag_or u boolean_tag) v b) };
-
-    ghost asks_memory = { false };
-
-    ghost same = { λ v w. v ≡ w };
-
-    ghost form_under = { λ u. boolean_form (tag_or u boolean_tag) };
-
-    ghost nest = { leaf_nest };
-
-    ghost can = { Always };
-
-    ghost fits = { written_fits leaf_nest Always };
+    ghost means = { record {
+      told = true;
+      tags = boolean_tag ∷ [];
+      retagged = true;
+      under = λ u m n v b. Primitively IsBoolean n m (tag_or u boolean_tag) v b;
+      any_under = λ u. Any (λ m n v b. Primitively IsBoolean n m (tag_or u boolean_tag) v b);
+      asks_memory = false;
+      same = λ v w. v ≡ w;
+      form_under = λ u. boolean_form (tag_or u boolean_tag);
+      nest = leaf_nest;
+      can = Always;
+      fits = written_fits leaf_nest Always;
+    } };
 
     #[inline(always)]
     fn has_tag(tag: Tag) -> bool {
@@ -63,9 +59,7 @@ impl Notation for bool {
         writer.write_bool(*value)
     }
 
-    ghost laws = { λ _. under_own boolean_tag boolean_laws (primitively_begins IsBoolean) (not_end 1 (λ e. omega arith)) (omega arith) };
-
-    ghost others = { λ _ _. under_others boolean_tag boolean_laws (primitively_begins IsBoolean) };
+    ghost keeps = { λ _. element_keeps boolean_tag boolean_laws (primitively_begins IsBoolean) (not_end 1 (λ e. omega arith)) (omega arith) };
 
     ghost filled = { λ u m v. element_filled _ _ _ _ };
 }
@@ -75,23 +69,19 @@ impl Notation for () {
 
     type Inner = ();
 
-    ghost tags = { null_tag ∷ [] };
-
-    ghost under = { λ u m n v b. Primitively IsNull n m (tag_or u null_tag) v b };
-
-    ghost any_under = { λ u. Any (λ m n v b. Primitively IsNull n m (tag_or u null_tag) v b) };
-
-    ghost asks_memory = { false };
-
-    ghost same = { λ v w. v ≡ w };
-
-    ghost form_under = { λ u. null_form (tag_or u null_tag) };
-
-    ghost nest = { leaf_nest };
-
-    ghost can = { Always };
-
-    ghost fits = { written_fits leaf_nest Always };
+    ghost means = { record {
+      told = true;
+      tags = null_tag ∷ [];
+      retagged = true;
+      under = λ u m n v b. Primitively IsNull n m (tag_or u null_tag) v b;
+      any_under = λ u. Any (λ m n v b. Primitively IsNull n m (tag_or u null_tag) v b);
+      asks_memory = false;
+      same = λ v w. v ≡ w;
+      form_under = λ u. null_form (tag_or u null_tag);
+      nest = leaf_nest;
+      can = Always;
+      fits = written_fits leaf_nest Always;
+    } };
 
     #[inline(always)]
     fn has_tag(tag: Tag) -> bool {
@@ -108,9 +98,7 @@ impl Notation for () {
         writer.write_null()
     }
 
-    ghost laws = { λ _. under_own null_tag null_laws (primitively_begins IsNull) (not_end 5 (λ e. omega arith)) (omega arith) };
-
-    ghost others = { λ _ _. under_others null_tag null_laws (primitively_begins IsNull) };
+    ghost keeps = { λ _. element_keeps null_tag null_laws (primitively_begins IsNull) (not_end 5 (λ e. omega arith)) (omega arith) };
 
     ghost filled = { λ u m v. element_filled _ _ _ _ };
 }
@@ -120,23 +108,19 @@ impl Notation for i64 {
 
     type Inner = ();
 
-    ghost tags = { integer_tag ∷ [] };
-
-    ghost under = { λ u m n v b. Primitively (IsSigned w64) n m (tag_or u integer_tag) v b };
-
-    ghost any_under = { λ u. Any (λ m n v b. Primitively (IsSigned w64) n m (tag_or u integer_tag) v b) };
-
-    ghost asks_memory = { false };
-
-    ghost same = { λ v w. v ≡ w };
-
-    ghost form_under = { λ u. integer_form (tag_or u integer_tag) };
-
-    ghost nest = { leaf_nest };
-
-    ghost can = { FitsSigned w64 };
-
-    ghost fits = { written_fits leaf_nest (FitsSigned w64) };
+    ghost means = { record {
+      told = true;
+      tags = integer_tag ∷ [];
+      retagged = true;
+      under = λ u m n v b. Primitively (IsSigned w64) n m (tag_or u integer_tag) v b;
+      any_under = λ u. Any (λ m n v b. Primitively (IsSigned w64) n m (tag_or u integer_tag) v b);
+      asks_memory = false;
+      same = λ v w. v ≡ w;
+      form_under = λ u. integer_form (tag_or u integer_tag);
+      nest = leaf_nest;
+      can = FitsSigned w64;
+      fits = written_fits leaf_nest (FitsSigned w64);
+    } };
 
     #[inline(always)]
     fn has_tag(tag: Tag) -> bool {
@@ -153,9 +137,7 @@ impl Notation for i64 {
         writer.write_i64(*value)
     }
 
-    ghost laws = { λ _. under_own integer_tag (signed_laws w64) (primitively_begins (IsSigned w64)) (not_end 2 (λ e. omega arith)) (omega arith) };
-
-    ghost others = { λ _ _. under_others integer_tag (signed_laws w64) (primitively_begins (IsSigned w64)) };
+    ghost keeps = { λ _. element_keeps integer_tag (signed_laws w64) (primitively_begins (IsSigned w64)) (not_end 2 (λ e. omega arith)) (omega arith) };
 
     ghost filled = { λ u m v. element_filled _ _ _ _ };
 }
@@ -165,23 +147,19 @@ impl Notation for i32 {
 
     type Inner = ();
 
-    ghost tags = { integer_tag ∷ [] };
-
-    ghost under = { λ u m n v b. Primitively (IsSigned w32) n m (tag_or u integer_tag) v b };
-
-    ghost any_under = { λ u. Any (λ m n v b. Primitively (IsSigned w32) n m (tag_or u integer_tag) v b) };
-
-    ghost asks_memory = { false };
-
-    ghost same = { λ v w. v ≡ w };
-
-    ghost form_under = { λ u. integer_form (tag_or u integer_tag) };
-
-    ghost nest = { leaf_nest };
-
-    ghost can = { FitsSigned w32 };
-
-    ghost fits = { written_fits leaf_nest (FitsSigned w32) };
+    ghost means = { record {
+      told = true;
+      tags = integer_tag ∷ [];
+      retagged = true;
+      under = λ u m n v b. Primitively (IsSigned w32) n m (tag_or u integer_tag) v b;
+      any_under = λ u. Any (λ m n v b. Primitively (IsSigned w32) n m (tag_or u integer_tag) v b);
+      asks_memory = false;
+      same = λ v w. v ≡ w;
+      form_under = λ u. integer_form (tag_or u integer_tag);
+      nest = leaf_nest;
+      can = FitsSigned w32;
+      fits = written_fits leaf_nest (FitsSigned w32);
+    } };
 
     #[inline(always)]
     fn has_tag(tag: Tag) -> bool {
@@ -198,9 +176,7 @@ impl Notation for i32 {
         writer.write_i32(*value)
     }
 
-    ghost laws = { λ _. under_own integer_tag (signed_laws w32) (primitively_begins (IsSigned w32)) (not_end 2 (λ e. omega arith)) (omega arith) };
-
-    ghost others = { λ _ _. under_others integer_tag (signed_laws w32) (primitively_begins (IsSigned w32)) };
+    ghost keeps = { λ _. element_keeps integer_tag (signed_laws w32) (primitively_begins (IsSigned w32)) (not_end 2 (λ e. omega arith)) (omega arith) };
 
     ghost filled = { λ u m v. element_filled _ _ _ _ };
 }
@@ -210,23 +186,19 @@ impl Notation for u64 {
 
     type Inner = ();
 
-    ghost tags = { integer_tag ∷ [] };
-
-    ghost under = { λ u m n v b. Primitively (IsUnsigned 64) n m (tag_or u integer_tag) v b };
-
-    ghost any_under = { λ u. Any (λ m n v b. Primitively (IsUnsigned 64) n m (tag_or u integer_tag) v b) };
-
-    ghost asks_memory = { false };
-
-    ghost same = { λ v w. v ≡ w };
-
-    ghost form_under = { λ u m v. integer_form (tag_or u integer_tag) m (pos v) };
-
-    ghost nest = { leaf_nest };
-
-    ghost can = { λ n. n < 2 ^ 64 };
-
-    ghost fits = { written_fits leaf_nest (λ n. n < 2 ^ 64) };
+    ghost means = { record {
+      told = true;
+      tags = integer_tag ∷ [];
+      retagged = true;
+      under = λ u m n v b. Primitively (IsUnsigned 64) n m (tag_or u integer_tag) v b;
+      any_under = λ u. Any (λ m n v b. Primitively (IsUnsigned 64) n m (tag_or u integer_tag) v b);
+      asks_memory = false;
+      same = λ v w. v ≡ w;
+      form_under = λ u m v. integer_form (tag_or u integer_tag) m (pos v);
+      nest = leaf_nest;
+      can = λ n. n < 2 ^ 64;
+      fits = written_fits leaf_nest (λ n. n < 2 ^ 64);
+    } };
 
     #[inline(always)]
     fn has_tag(tag: Tag) -> bool {
@@ -243,9 +215,7 @@ impl Notation for u64 {
         writer.write_u64(*value)
     }
 
-    ghost laws = { λ _. under_own integer_tag (unsigned_laws 64) (primitively_begins (IsUnsigned 64)) (not_end 2 (λ e. omega arith)) (omega arith) };
-
-    ghost others = { λ _ _. under_others integer_tag (unsigned_laws 64) (primitively_begins (IsUnsigned 64)) };
+    ghost keeps = { λ _. element_keeps integer_tag (unsigned_laws 64) (primitively_begins (IsUnsigned 64)) (not_end 2 (λ e. omega arith)) (omega arith) };
 
     ghost filled = { λ u m v. element_filled _ _ _ _ };
 }
@@ -255,23 +225,19 @@ impl Notation for u32 {
 
     type Inner = ();
 
-    ghost tags = { integer_tag ∷ [] };
-
-    ghost under = { λ u m n v b. Primitively (IsUnsigned 32) n m (tag_or u integer_tag) v b };
-
-    ghost any_under = { λ u. Any (λ m n v b. Primitively (IsUnsigned 32) n m (tag_or u integer_tag) v b) };
-
-    ghost asks_memory = { false };
-
-    ghost same = { λ v w. v ≡ w };
-
-    ghost form_under = { λ u m v. integer_form (tag_or u integer_tag) m (pos v) };
-
-    ghost nest = { leaf_nest };
-
-    ghost can = { λ n. n < 2 ^ 32 };
-
-    ghost fits = { written_fits leaf_nest (λ n. n < 2 ^ 32) };
+    ghost means = { record {
+      told = true;
+      tags = integer_tag ∷ [];
+      retagged = true;
+      under = λ u m n v b. Primitively (IsUnsigned 32) n m (tag_or u integer_tag) v b;
+      any_under = λ u. Any (λ m n v b. Primitively (IsUnsigned 32) n m (tag_or u integer_tag) v b);
+      asks_memory = false;
+      same = λ v w. v ≡ w;
+      form_under = λ u m v. integer_form (tag_or u integer_tag) m (pos v);
+      nest = leaf_nest;
+      can = λ n. n < 2 ^ 32;
+      fits = written_fits leaf_nest (λ n. n < 2 ^ 32);
+    } };
 
     #[inline(always)]
     fn has_tag(tag: Tag) -> bool {
@@ -288,9 +254,7 @@ impl Notation for u32 {
         writer.write_u32(*value)
     }
 
-    ghost laws = { λ _. under_own integer_tag (unsigned_laws 32) (primitively_begins (IsUnsigned 32)) (not_end 2 (λ e. omega arith)) (omega arith) };
-
-    ghost others = { λ _ _. under_others integer_tag (unsigned_laws 32) (primitively_begins (IsUnsigned 32)) };
+    ghost keeps = { λ _. element_keeps integer_tag (unsigned_laws 32) (primitively_begins (IsUnsigned 32)) (not_end 2 (λ e. omega arith)) (omega arith) };
 
     ghost filled = { λ u m v. element_filled _ _ _ _ };
 }
@@ -303,23 +267,19 @@ impl Notation for Enumerated {
 
     type Inner = ();
 
-    ghost tags = { enumerated_tag ∷ [] };
-
-    ghost under = { λ u m n v b. Primitively (IsSigned w64) n m (tag_or u enumerated_tag) v b };
-
-    ghost any_under = { λ u. Any (λ m n v b. Primitively (IsSigned w64) n m (tag_or u enumerated_tag) v b) };
-
-    ghost asks_memory = { false };
-
-    ghost same = { λ v w. v ≡ w };
-
-    ghost form_under = { λ u. integer_form (tag_or u enumerated_tag) };
-
-    ghost nest = { leaf_nest };
-
-    ghost can = { FitsSigned w64 };
-
-    ghost fits = { written_fits leaf_nest (FitsSigned w64) };
+    ghost means = { record {
+      told = true;
+      tags = enumerated_tag ∷ [];
+      retagged = true;
+      under = λ u m n v b. Primitively (IsSigned w64) n m (tag_or u enumerated_tag) v b;
+      any_under = λ u. Any (λ m n v b. Primitively (IsSigned w64) n m (tag_or u enumerated_tag) v b);
+      asks_memory = false;
+      same = λ v w. v ≡ w;
+      form_under = λ u. integer_form (tag_or u enumerated_tag);
+      nest = leaf_nest;
+      can = FitsSigned w64;
+      fits = written_fits leaf_nest (FitsSigned w64);
+    } };
 
     #[inline(always)]
     fn has_tag(tag: Tag) -> bool {
@@ -336,9 +296,7 @@ impl Notation for Enumerated {
         writer.write_enum(*value)
     }
 
-    ghost laws = { λ _. under_own enumerated_tag (signed_laws w64) (primitively_begins (IsSigned w64)) (not_end 10 (λ e. omega arith)) (omega arith) };
-
-    ghost others = { λ _ _. under_others enumerated_tag (signed_laws w64) (primitively_begins (IsSigned w64)) };
+    ghost keeps = { λ _. element_keeps enumerated_tag (signed_laws w64) (primitively_begins (IsSigned w64)) (not_end 10 (λ e. omega arith)) (omega arith) };
 
     ghost filled = { λ u m v. element_filled _ _ _ _ };
 }
@@ -348,23 +306,19 @@ impl Notation for ObjectIdentifier {
 
     type Inner = ();
 
-    ghost tags = { oid_tag ∷ [] };
-
-    ghost under = { λ u m n v b. Primitively AreComponents n m (tag_or u oid_tag) v b };
-
-    ghost any_under = { λ u. Any (λ m n v b. Primitively AreComponents n m (tag_or u oid_tag) v b) };
-
-    ghost asks_memory = { true };
-
-    ghost same = { λ v w. v ≡ w };
-
-    ghost form_under = { λ u. oid_form (tag_or u oid_tag) };
-
-    ghost nest = { leaf_nest };
-
-    ghost can = { IsEncodableOid };
-
-    ghost fits = { written_fits leaf_nest IsEncodableOid };
+    ghost means = { record {
+      told = true;
+      tags = oid_tag ∷ [];
+      retagged = true;
+      under = λ u m n v b. Primitively AreComponents n m (tag_or u oid_tag) v b;
+      any_under = λ u. Any (λ m n v b. Primitively AreComponents n m (tag_or u oid_tag) v b);
+      asks_memory = true;
+      same = λ v w. v ≡ w;
+      form_under = λ u. oid_form (tag_or u oid_tag);
+      nest = leaf_nest;
+      can = IsEncodableOid;
+      fits = written_fits leaf_nest IsEncodableOid;
+    } };
 
     #[inline(always)]
     fn has_tag(tag: Tag) -> bool {
@@ -381,9 +335,7 @@ impl Notation for ObjectIdentifier {
         writer.write_oid(value)
     }
 
-    ghost laws = { λ _. under_own oid_tag oid_laws (primitively_begins AreComponents) (not_end 6 (λ e. omega arith)) (omega arith) };
-
-    ghost others = { λ _ _. under_others oid_tag oid_laws (primitively_begins AreComponents) };
+    ghost keeps = { λ _. element_keeps oid_tag oid_laws (primitively_begins AreComponents) (not_end 6 (λ e. omega arith)) (omega arith) };
 
     ghost filled = { λ u m v. element_filled _ _ _ _ };
 }
@@ -396,23 +348,19 @@ impl Notation for BigInteger {
 
     type Inner = ();
 
-    ghost tags = { integer_tag ∷ [] };
-
-    ghost under = { λ u m n v b. Primitively IsBigInteger n m (tag_or u integer_tag) (big_integer_in v) b };
-
-    ghost any_under = { λ u. Any (λ m n v b. Primitively IsBigInteger n m (tag_or u integer_tag) v b) };
-
-    ghost asks_memory = { true };
-
-    ghost same = { λ v w. big_integer_in v ≡ big_integer_in w };
-
-    ghost form_under = { λ u m v. big_integer_form (tag_or u integer_tag) m (big_integer_in v) };
-
-    ghost nest = { leaf_nest };
-
-    ghost can = { λ v. CanBigInteger (big_integer_in v) };
-
-    ghost fits = { λ m n v. written_fits leaf_nest CanBigInteger m n (big_integer_in v) };
+    ghost means = { record {
+      told = true;
+      tags = integer_tag ∷ [];
+      retagged = true;
+      under = λ u m n v b. Primitively IsBigInteger n m (tag_or u integer_tag) (big_integer_in v) b;
+      any_under = λ u. Any (λ m n v b. Primitively IsBigInteger n m (tag_or u integer_tag) v b);
+      asks_memory = true;
+      same = λ v w. big_integer_in v ≡ big_integer_in w;
+      form_under = λ u m v. big_integer_form (tag_or u integer_tag) m (big_integer_in v);
+      nest = leaf_nest;
+      can = λ v. CanBigInteger (big_integer_in v);
+      fits = λ m n v. written_fits leaf_nest CanBigInteger m n (big_integer_in v);
+    } };
 
     #[inline(always)]
     fn has_tag(tag: Tag) -> bool {
@@ -429,9 +377,7 @@ impl Notation for BigInteger {
         writer.write_bigint_bytes(value.0.as_slice(), value.1)
     }
 
-    ghost laws = { λ _. under_own integer_tag (seen_laws big_integer_in big_integer_laws) (primitively_begins IsBigInteger) (not_end 2 (λ e. omega arith)) (omega arith) };
-
-    ghost others = { λ _ _. under_others integer_tag (seen_laws big_integer_in big_integer_laws) (primitively_begins IsBigInteger) };
+    ghost keeps = { λ _. element_keeps integer_tag (seen_laws big_integer_in big_integer_laws) (primitively_begins IsBigInteger) (not_end 2 (λ e. omega arith)) (omega arith) };
 
     ghost filled = { λ u m v. element_filled _ _ _ _ };
 }

@@ -14,7 +14,7 @@ ghost use Rattle.yasna_base.specs.Text.{utf8_tag, printable_tag, ia5_tag, numeri
 ghost use Rattle.yasna_base.proofs.Identifier.{not_end};
 ghost use Rattle.yasna_base.proofs.UnderTags.{bits_under_tags};
 ghost use Rattle.yasna_bytes.specs.Segments.{bits_in};
-ghost use Rattle.yasna_notation.specs.Laws.{under_own, under_others, seen_laws, octets_of, octets_laws, octets_begin, bits_begin, text_begins, text_laws, class_laws};
+ghost use Rattle.yasna_notation.specs.Laws.{element_keeps, seen_laws, octets_of, octets_laws, octets_begin, bits_begin, text_begins, text_laws, class_laws};
 ghost use Rattle.yasna_notation.specs.Laws.{octets_filled, bits_filled, text_filled};
 
 use crate::notation::Notation;
@@ -31,23 +31,19 @@ impl Notation for Vec<u8> {
 
     type Inner = ();
 
-    ghost tags = { octets_tag ∷ [] };
-
-    ghost under = { λ u m n v b. IsOctets n m (tag_or u octets_tag) (octets_of v) b };
-
-    ghost any_under = { λ u. Any (λ m n v b. IsOctets n m (tag_or u octets_tag) v b) };
-
-    ghost asks_memory = { true };
-
-    ghost same = { λ v w. octets_of v ≡ octets_of w };
-
-    ghost form_under = { λ u m v. octets_form (tag_or u octets_tag) m v.items };
-
-    ghost nest = { λ m v. octets_nest m v.items };
-
-    ghost can = { λ v. IsBytes v.items };
-
-    ghost fits = { λ m n v. written_fits octets_nest IsBytes m n v.items };
+    ghost means = { record {
+      told = true;
+      tags = octets_tag ∷ [];
+      retagged = true;
+      under = λ u m n v b. IsOctets n m (tag_or u octets_tag) (octets_of v) b;
+      any_under = λ u. Any (λ m n v b. IsOctets n m (tag_or u octets_tag) v b);
+      asks_memory = true;
+      same = λ v w. octets_of v ≡ octets_of w;
+      form_under = λ u m v. octets_form (tag_or u octets_tag) m v.items;
+      nest = λ m v. octets_nest m v.items;
+      can = λ v. IsBytes v.items;
+      fits = λ m n v. written_fits octets_nest IsBytes m n v.items;
+    } };
 
     #[inline(always)]
     fn has_tag(tag: Tag) -> bool {
@@ -64,9 +60,7 @@ impl Notation for Vec<u8> {
         writer.write_bytes(value.as_slice())
     }
 
-    ghost laws = { λ _. under_own octets_tag (seen_laws octets_of octets_laws) (octets_begin) (not_end 4 (λ e. omega arith)) (omega arith) };
-
-    ghost others = { λ _ _. under_others octets_tag (seen_laws octets_of octets_laws) (octets_begin) };
+    ghost keeps = { λ _. element_keeps octets_tag (seen_laws octets_of octets_laws) (octets_begin) (not_end 4 (λ e. omega arith)) (omega arith) };
 
     ghost filled = { λ u m v. octets_filled (tag_or u octets_tag) m v.items };
 }
@@ -79,23 +73,19 @@ impl Notation for BitString {
 
     type Inner = ();
 
-    ghost tags = { bits_tag ∷ [] };
-
-    ghost under = { λ u m n v b. IsBits n m (tag_or u bits_tag) (bits_in v) b };
-
-    ghost any_under = { λ u. Any (λ m n v b. IsBits n m (tag_or u bits_tag) v b) };
-
-    ghost asks_memory = { true };
-
-    ghost same = { λ v w. bits_in v ≡ bits_in w };
-
-    ghost form_under = { λ u m v. bits_form (tag_or u bits_tag) m (bits_in v) };
-
-    ghost nest = { λ m v. bits_nest m (bits_in v) };
-
-    ghost can = { λ v. CanBits (bits_in v) };
-
-    ghost fits = { λ m n v. written_fits bits_nest AreCanonicalBits m n (bits_in v) };
+    ghost means = { record {
+      told = true;
+      tags = bits_tag ∷ [];
+      retagged = true;
+      under = λ u m n v b. IsBits n m (tag_or u bits_tag) (bits_in v) b;
+      any_under = λ u. Any (λ m n v b. IsBits n m (tag_or u bits_tag) v b);
+      asks_memory = true;
+      same = λ v w. bits_in v ≡ bits_in w;
+      form_under = λ u m v. bits_form (tag_or u bits_tag) m (bits_in v);
+      nest = λ m v. bits_nest m (bits_in v);
+      can = λ v. CanBits (bits_in v);
+      fits = λ m n v. written_fits bits_nest AreCanonicalBits m n (bits_in v);
+    } };
 
     #[inline(always)]
     fn has_tag(tag: Tag) -> bool {
@@ -112,9 +102,7 @@ impl Notation for BitString {
         writer.write_bitvec_bytes(value.0.as_slice(), value.1)
     }
 
-    ghost laws = { λ _. under_own bits_tag (seen_laws bits_in bits_under_tags) (bits_begin) (not_end 3 (λ e. omega arith)) (omega arith) };
-
-    ghost others = { λ _ _. under_others bits_tag (seen_laws bits_in bits_under_tags) (bits_begin) };
+    ghost keeps = { λ _. element_keeps bits_tag (seen_laws bits_in bits_under_tags) (bits_begin) (not_end 3 (λ e. omega arith)) (omega arith) };
 
     ghost filled = { λ u m v. bits_filled (tag_or u bits_tag) m (bits_in v) };
 }
@@ -124,23 +112,19 @@ impl Notation for String {
 
     type Inner = ();
 
-    ghost tags = { utf8_tag ∷ [] };
-
-    ghost under = { λ u m n v b. IsStringOf (IsUtf8In InUtf8) n m (tag_or u utf8_tag) (characters v) b };
-
-    ghost any_under = { λ u. Any (λ m n v b. IsStringOf (IsUtf8In InUtf8) n m (tag_or u utf8_tag) v b) };
-
-    ghost asks_memory = { true };
-
-    ghost same = { λ v w. characters v ≡ characters w };
-
-    ghost form_under = { λ u m v. utf8_form (tag_or u utf8_tag) m (characters v) };
-
-    ghost nest = { λ m v. utf8_nest m (characters v) };
-
-    ghost can = { Always };
-
-    ghost fits = { written_fits (λ m v. utf8_nest m (characters v)) Always };
+    ghost means = { record {
+      told = true;
+      tags = utf8_tag ∷ [];
+      retagged = true;
+      under = λ u m n v b. IsStringOf (IsUtf8In InUtf8) n m (tag_or u utf8_tag) (characters v) b;
+      any_under = λ u. Any (λ m n v b. IsStringOf (IsUtf8In InUtf8) n m (tag_or u utf8_tag) v b);
+      asks_memory = true;
+      same = λ v w. characters v ≡ characters w;
+      form_under = λ u m v. utf8_form (tag_or u utf8_tag) m (characters v);
+      nest = λ m v. utf8_nest m (characters v);
+      can = Always;
+      fits = written_fits (λ m v. utf8_nest m (characters v)) Always;
+    } };
 
     #[inline(always)]
     fn has_tag(tag: Tag) -> bool {
@@ -157,9 +141,7 @@ impl Notation for String {
         writer.write_utf8string(value.as_str())
     }
 
-    ghost laws = { λ _. under_own utf8_tag text_laws (text_begins InUtf8) (not_end 12 (λ e. omega arith)) (omega arith) };
-
-    ghost others = { λ _ _. under_others utf8_tag text_laws (text_begins InUtf8) };
+    ghost keeps = { λ _. element_keeps utf8_tag text_laws (text_begins InUtf8) (not_end 12 (λ e. omega arith)) (omega arith) };
 
     ghost filled = { λ u m v. text_filled (tag_or u utf8_tag) m (characters v) };
 }
@@ -172,23 +154,19 @@ impl Notation for PrintableString {
 
     type Inner = ();
 
-    ghost tags = { printable_tag ∷ [] };
-
-    ghost under = { λ u m n v b. IsStringOf (IsUtf8In InPrintable) n m (tag_or u printable_tag) (characters v) b };
-
-    ghost any_under = { λ u. Any (λ m n v b. IsStringOf (IsUtf8In InPrintable) n m (tag_or u printable_tag) v b) };
-
-    ghost asks_memory = { true };
-
-    ghost same = { λ v w. characters v ≡ characters w };
-
-    ghost form_under = { λ u m v. utf8_form (tag_or u printable_tag) m (characters v) };
-
-    ghost nest = { λ m v. utf8_nest m (characters v) };
-
-    ghost can = { λ v. AllByRecursion InPrintable (characters v) };
-
-    ghost fits = { written_fits (λ m v. utf8_nest m (characters v)) (λ v. AllByRecursion InPrintable (characters v)) };
+    ghost means = { record {
+      told = true;
+      tags = printable_tag ∷ [];
+      retagged = true;
+      under = λ u m n v b. IsStringOf (IsUtf8In InPrintable) n m (tag_or u printable_tag) (characters v) b;
+      any_under = λ u. Any (λ m n v b. IsStringOf (IsUtf8In InPrintable) n m (tag_or u printable_tag) v b);
+      asks_memory = true;
+      same = λ v w. characters v ≡ characters w;
+      form_under = λ u m v. utf8_form (tag_or u printable_tag) m (characters v);
+      nest = λ m v. utf8_nest m (characters v);
+      can = λ v. AllByRecursion InPrintable (characters v);
+      fits = written_fits (λ m v. utf8_nest m (characters v)) (λ v. AllByRecursion InPrintable (characters v));
+    } };
 
     #[inline(always)]
     fn has_tag(tag: Tag) -> bool {
@@ -205,9 +183,7 @@ impl Notation for PrintableString {
         writer.write_printable_string(value.as_str())
     }
 
-    ghost laws = { λ _. under_own printable_tag (class_laws InPrintable) (text_begins InPrintable) (not_end 19 (λ e. omega arith)) (omega arith) };
-
-    ghost others = { λ _ _. under_others printable_tag (class_laws InPrintable) (text_begins InPrintable) };
+    ghost keeps = { λ _. element_keeps printable_tag (class_laws InPrintable) (text_begins InPrintable) (not_end 19 (λ e. omega arith)) (omega arith) };
 
     ghost filled = { λ u m v. text_filled (tag_or u printable_tag) m (characters v) };
 }
@@ -220,23 +196,19 @@ impl Notation for Ia5String {
 
     type Inner = ();
 
-    ghost tags = { ia5_tag ∷ [] };
-
-    ghost under = { λ u m n v b. IsStringOf (IsUtf8In InIa5) n m (tag_or u ia5_tag) (characters v) b };
-
-    ghost any_under = { λ u. Any (λ m n v b. IsStringOf (IsUtf8In InIa5) n m (tag_or u ia5_tag) v b) };
-
-    ghost asks_memory = { true };
-
-    ghost same = { λ v w. characters v ≡ characters w };
-
-    ghost form_under = { λ u m v. utf8_form (tag_or u ia5_tag) m (characters v) };
-
-    ghost nest = { λ m v. utf8_nest m (characters v) };
-
-    ghost can = { λ v. AllByRecursion InIa5 (characters v) };
-
-    ghost fits = { written_fits (λ m v. utf8_nest m (characters v)) (λ v. AllByRecursion InIa5 (characters v)) };
+    ghost means = { record {
+      told = true;
+      tags = ia5_tag ∷ [];
+      retagged = true;
+      under = λ u m n v b. IsStringOf (IsUtf8In InIa5) n m (tag_or u ia5_tag) (characters v) b;
+      any_under = λ u. Any (λ m n v b. IsStringOf (IsUtf8In InIa5) n m (tag_or u ia5_tag) v b);
+      asks_memory = true;
+      same = λ v w. characters v ≡ characters w;
+      form_under = λ u m v. utf8_form (tag_or u ia5_tag) m (characters v);
+      nest = λ m v. utf8_nest m (characters v);
+      can = λ v. AllByRecursion InIa5 (characters v);
+      fits = written_fits (λ m v. utf8_nest m (characters v)) (λ v. AllByRecursion InIa5 (characters v));
+    } };
 
     #[inline(always)]
     fn has_tag(tag: Tag) -> bool {
@@ -253,9 +225,7 @@ impl Notation for Ia5String {
         writer.write_ia5_string(value.as_str())
     }
 
-    ghost laws = { λ _. under_own ia5_tag (class_laws InIa5) (text_begins InIa5) (not_end 22 (λ e. omega arith)) (omega arith) };
-
-    ghost others = { λ _ _. under_others ia5_tag (class_laws InIa5) (text_begins InIa5) };
+    ghost keeps = { λ _. element_keeps ia5_tag (class_laws InIa5) (text_begins InIa5) (not_end 22 (λ e. omega arith)) (omega arith) };
 
     ghost filled = { λ u m v. text_filled (tag_or u ia5_tag) m (characters v) };
 }
@@ -268,23 +238,19 @@ impl Notation for NumericString {
 
     type Inner = ();
 
-    ghost tags = { numeric_tag ∷ [] };
-
-    ghost under = { λ u m n v b. IsStringOf (IsUtf8In InNumeric) n m (tag_or u numeric_tag) (characters v) b };
-
-    ghost any_under = { λ u. Any (λ m n v b. IsStringOf (IsUtf8In InNumeric) n m (tag_or u numeric_tag) v b) };
-
-    ghost asks_memory = { true };
-
-    ghost same = { λ v w. characters v ≡ characters w };
-
-    ghost form_under = { λ u m v. utf8_form (tag_or u numeric_tag) m (characters v) };
-
-    ghost nest = { λ m v. utf8_nest m (characters v) };
-
-    ghost can = { λ v. AllByRecursion InNumeric (characters v) };
-
-    ghost fits = { written_fits (λ m v. utf8_nest m (characters v)) (λ v. AllByRecursion InNumeric (characters v)) };
+    ghost means = { record {
+      told = true;
+      tags = numeric_tag ∷ [];
+      retagged = true;
+      under = λ u m n v b. IsStringOf (IsUtf8In InNumeric) n m (tag_or u numeric_tag) (characters v) b;
+      any_under = λ u. Any (λ m n v b. IsStringOf (IsUtf8In InNumeric) n m (tag_or u numeric_tag) v b);
+      asks_memory = true;
+      same = λ v w. characters v ≡ characters w;
+      form_under = λ u m v. utf8_form (tag_or u numeric_tag) m (characters v);
+      nest = λ m v. utf8_nest m (characters v);
+      can = λ v. AllByRecursion InNumeric (characters v);
+      fits = written_fits (λ m v. utf8_nest m (characters v)) (λ v. AllByRecursion InNumeric (characters v));
+    } };
 
     #[inline(always)]
     fn has_tag(tag: Tag) -> bool {
@@ -301,9 +267,7 @@ impl Notation for NumericString {
         writer.write_numeric_string(value.as_str())
     }
 
-    ghost laws = { λ _. under_own numeric_tag (class_laws InNumeric) (text_begins InNumeric) (not_end 18 (λ e. omega arith)) (omega arith) };
-
-    ghost others = { λ _ _. under_others numeric_tag (class_laws InNumeric) (text_begins InNumeric) };
+    ghost keeps = { λ _. element_keeps numeric_tag (class_laws InNumeric) (text_begins InNumeric) (not_end 18 (λ e. omega arith)) (omega arith) };
 
     ghost filled = { λ u m v. text_filled (tag_or u numeric_tag) m (characters v) };
 }
@@ -316,23 +280,19 @@ impl Notation for VisibleString {
 
     type Inner = ();
 
-    ghost tags = { visible_tag ∷ [] };
-
-    ghost under = { λ u m n v b. IsStringOf (IsUtf8In InVisible) n m (tag_or u visible_tag) (characters v) b };
-
-    ghost any_under = { λ u. Any (λ m n v b. IsStringOf (IsUtf8In InVisible) n m (tag_or u visible_tag) v b) };
-
-    ghost asks_memory = { true };
-
-    ghost same = { λ v w. characters v ≡ characters w };
-
-    ghost form_under = { λ u m v. utf8_form (tag_or u visible_tag) m (characters v) };
-
-    ghost nest = { λ m v. utf8_nest m (characters v) };
-
-    ghost can = { λ v. AllByRecursion InVisible (characters v) };
-
-    ghost fits = { written_fits (λ m v. utf8_nest m (characters v)) (λ v. AllByRecursion InVisible (characters v)) };
+    ghost means = { record {
+      told = true;
+      tags = visible_tag ∷ [];
+      retagged = true;
+      under = λ u m n v b. IsStringOf (IsUtf8In InVisible) n m (tag_or u visible_tag) (characters v) b;
+      any_under = λ u. Any (λ m n v b. IsStringOf (IsUtf8In InVisible) n m (tag_or u visible_tag) v b);
+      asks_memory = true;
+      same = λ v w. characters v ≡ characters w;
+      form_under = λ u m v. utf8_form (tag_or u visible_tag) m (characters v);
+      nest = λ m v. utf8_nest m (characters v);
+      can = λ v. AllByRecursion InVisible (characters v);
+      fits = written_fits (λ m v. utf8_nest m (characters v)) (λ v. AllByRecursion InVisible (characters v));
+    } };
 
     #[inline(always)]
     fn has_tag(tag: Tag) -> bool {
@@ -349,9 +309,7 @@ impl Notation for VisibleString {
         writer.write_visible_string(value.as_str())
     }
 
-    ghost laws = { λ _. under_own visible_tag (class_laws InVisible) (text_begins InVisible) (not_end 26 (λ e. omega arith)) (omega arith) };
-
-    ghost others = { λ _ _. under_others visible_tag (class_laws InVisible) (text_begins InVisible) };
+    ghost keeps = { λ _. element_keeps visible_tag (class_laws InVisible) (text_begins InVisible) (not_end 26 (λ e. omega arith)) (omega arith) };
 
     ghost filled = { λ u m v. text_filled (tag_or u visible_tag) m (characters v) };
 }

@@ -10,7 +10,7 @@ ghost use Rattle.yasna_base.proofs.Identifier.{not_end};
 ghost use Rattle.yasna_times.specs.Models.{utc_of, moment_of};
 ghost use Rattle.yasna_times.specs.UtcTime.{SaysUtcTime, utc_time_tag, utc_text, utc_time_form, utc_time_nest};
 ghost use Rattle.yasna_times.specs.GeneralizedTime.{SaysGeneralizedTime, generalized_time_tag, general_text, generalized_time_form, generalized_time_nest};
-ghost use Rattle.yasna_notation.specs.Laws.{under_own, under_others, string_begins, utc_laws, general_laws, octets_filled};
+ghost use Rattle.yasna_notation.specs.Laws.{element_keeps, string_begins, utc_laws, general_laws, octets_filled};
 
 use crate::notation::Notation;
 use yasna_base::tags::{TAG_GENERALIZEDTIME, TAG_UTCTIME};
@@ -24,23 +24,19 @@ impl Notation for UTCTime {
 
     type Inner = ();
 
-    ghost tags = { utc_time_tag ∷ [] };
-
-    ghost under = { λ u m n v b. IsStringOf SaysUtcTime n m (tag_or u utc_time_tag) (utc_of v) b };
-
-    ghost any_under = { λ u. Any (λ m n v b. IsStringOf SaysUtcTime n m (tag_or u utc_time_tag) v b) };
-
-    ghost asks_memory = { true };
-
-    ghost same = { λ v w. utc_of v ≡ utc_of w };
-
-    ghost form_under = { λ u m v. utc_time_form (tag_or u utc_time_tag) m (utc_of v) };
-
-    ghost nest = { λ m v. utc_time_nest m (utc_of v) };
-
-    ghost can = { Always };
-
-    ghost fits = { written_fits (λ m v. utc_time_nest m (utc_of v)) Always };
+    ghost means = { record {
+      told = true;
+      tags = utc_time_tag ∷ [];
+      retagged = true;
+      under = λ u m n v b. IsStringOf SaysUtcTime n m (tag_or u utc_time_tag) (utc_of v) b;
+      any_under = λ u. Any (λ m n v b. IsStringOf SaysUtcTime n m (tag_or u utc_time_tag) v b);
+      asks_memory = true;
+      same = λ v w. utc_of v ≡ utc_of w;
+      form_under = λ u m v. utc_time_form (tag_or u utc_time_tag) m (utc_of v);
+      nest = λ m v. utc_time_nest m (utc_of v);
+      can = Always;
+      fits = written_fits (λ m v. utc_time_nest m (utc_of v)) Always;
+    } };
 
     #[inline(always)]
     fn has_tag(tag: Tag) -> bool {
@@ -57,9 +53,7 @@ impl Notation for UTCTime {
         writer.write_utctime(value)
     }
 
-    ghost laws = { λ _. under_own utc_time_tag utc_laws (string_begins SaysUtcTime) (not_end 23 (λ e. omega arith)) (omega arith) };
-
-    ghost others = { λ _ _. under_others utc_time_tag utc_laws (string_begins SaysUtcTime) };
+    ghost keeps = { λ _. element_keeps utc_time_tag utc_laws (string_begins SaysUtcTime) (not_end 23 (λ e. omega arith)) (omega arith) };
 
     ghost filled = { λ u m v. octets_filled (tag_or u utc_time_tag) m (utc_text (utc_of v)) };
 }
@@ -69,23 +63,19 @@ impl Notation for GeneralizedTime {
 
     type Inner = ();
 
-    ghost tags = { generalized_time_tag ∷ [] };
-
-    ghost under = { λ u m n v b. IsStringOf SaysGeneralizedTime n m (tag_or u generalized_time_tag) (moment_of v) b };
-
-    ghost any_under = { λ u. Any (λ m n v b. IsStringOf SaysGeneralizedTime n m (tag_or u generalized_time_tag) v b) };
-
-    ghost asks_memory = { true };
-
-    ghost same = { λ v w. moment_of v ≡ moment_of w };
-
-    ghost form_under = { λ u m v. generalized_time_form (tag_or u generalized_time_tag) m (moment_of v) };
-
-    ghost nest = { λ m v. generalized_time_nest m (moment_of v) };
-
-    ghost can = { Always };
-
-    ghost fits = { written_fits (λ m v. generalized_time_nest m (moment_of v)) Always };
+    ghost means = { record {
+      told = true;
+      tags = generalized_time_tag ∷ [];
+      retagged = true;
+      under = λ u m n v b. IsStringOf SaysGeneralizedTime n m (tag_or u generalized_time_tag) (moment_of v) b;
+      any_under = λ u. Any (λ m n v b. IsStringOf SaysGeneralizedTime n m (tag_or u generalized_time_tag) v b);
+      asks_memory = true;
+      same = λ v w. moment_of v ≡ moment_of w;
+      form_under = λ u m v. generalized_time_form (tag_or u generalized_time_tag) m (moment_of v);
+      nest = λ m v. generalized_time_nest m (moment_of v);
+      can = Always;
+      fits = written_fits (λ m v. generalized_time_nest m (moment_of v)) Always;
+    } };
 
     #[inline(always)]
     fn has_tag(tag: Tag) -> bool {
@@ -102,9 +92,7 @@ impl Notation for GeneralizedTime {
         writer.write_generalized_time(value)
     }
 
-    ghost laws = { λ _. under_own generalized_time_tag general_laws (string_begins SaysGeneralizedTime) (not_end 24 (λ e. omega arith)) (omega arith) };
-
-    ghost others = { λ _ _. under_others generalized_time_tag general_laws (string_begins SaysGeneralizedTime) };
+    ghost keeps = { λ _. element_keeps generalized_time_tag general_laws (string_begins SaysGeneralizedTime) (not_end 24 (λ e. omega arith)) (omega arith) };
 
     ghost filled = { λ u m v. octets_filled (tag_or u generalized_time_tag) m (general_text (moment_of v)) };
 }

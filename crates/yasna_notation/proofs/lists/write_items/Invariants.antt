@@ -5,4 +5,5 @@ use Rattle.yasna_writer.specs.View.{WroteParts}
 use Rattle.yasna_notation.proofs.lists.write_items.Given as goal
 
 abbrev pub invariant-loop-item : goal.invariant-loop-item
-invariant-loop-item g l = WroteParts (elements_form (g.N.Notation.form_under None) l.initial.seq.mode (take l.item-index l.items)) l.initial.seq l.seq (Ok tt)
+invariant-loop-item g l = WroteParts (elements_form (g.N.Notation.means.form_under None) l.initial.seq.mode (take l.item-index l.items)) l.initial.seq l.seq
+    (Ok tt)

@@ -7,7 +7,7 @@ use Rattle.yasna_notation.proofs.set_lists.write_elements.Goals as goal
 
 pub returns-in_err-write_element : goal.returns-in_err-write_element
 returns-in_err-write_element g c =
-    let form = g.N.Notation.form_under None in
+    let form = g.N.Notation.means.form_under None in
     let s = c.loop-item.set in
     let w = c.next.result.now in
     let left = c.write_element.new.writer in

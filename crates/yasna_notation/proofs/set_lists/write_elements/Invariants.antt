@@ -7,4 +7,4 @@ use Rattle.yasna_notation.proofs.set_lists.write_elements.Given as goal
 abbrev pub invariant-loop-item : goal.invariant-loop-item
 invariant-loop-item g l =
     (l.set.mode ≡ l.initial.set.mode)
-    × WroteElements (forms (g.N.Notation.form_under None) l.initial.set.mode (take l.item-index l.items)) l.set (Ok tt)
+    × WroteElements (forms (g.N.Notation.means.form_under None) l.initial.set.mode (take l.item-index l.items)) l.set (Ok tt)

@@ -7,35 +7,35 @@ use Rattle.yasna_notation.proofs.bounded.BoundedNotation.read.Goals as goal
 
 pub returns-then-lets : goal.returns-then-lets
 returns-then-lets g c =
-    let n = g.N.Notation in
+    let n = g.N.Notation.means in
     let b = g.C.Bound in
     let s = c.args.reader.now in
     let left = c.read.new.reader in
-    let laws = g.met.N.Notation.laws c.requires in
+    let laws = (g.met.N.Notation.keeps c.requires).own in
     read_within n.under n.any_under n.form_under b.passes g.met.C.Bound.alike n.told n.tags n.retagged n.asks_memory laws
-    (g.met.N.Notation.others c.requires) s c.in-Ok.value left (sym c.lets.ensures ∙ c.if-lets.true)
+    (g.met.N.Notation.keeps c.requires).others s c.in-Ok.value left (sym c.lets.ensures ∙ c.if-lets.true)
     (subst (λ r. ReadsAs n.told n.tags n.retagged n.asks_memory n.under n.any_under s r left) c.in-Ok.is c.read.ensures)
 
 pub returns-else-lets : goal.returns-else-lets
 returns-else-lets g c =
-    let n = g.N.Notation in
+    let n = g.N.Notation.means in
     let b = g.C.Bound in
     let s = c.args.reader.now in
     let left = c.read.new.reader in
-    let laws = g.met.N.Notation.laws c.requires in
+    let laws = (g.met.N.Notation.keeps c.requires).own in
     subst (λ e. ReadsAs n.told n.tags n.retagged n.asks_memory (λ u. Within b.passes (n.under u)) (λ u. Any (Within b.passes (n.under u))) s (Err e) left)
     (sym c.new.ensures)
     (read_outside n.under n.any_under n.form_under b.passes g.met.C.Bound.alike n.told n.tags n.retagged n.asks_memory laws
-    (g.met.N.Notation.others c.requires) s c.in-Ok.value left (sym c.lets.ensures ∙ c.if-lets.false)
+    (g.met.N.Notation.keeps c.requires).others s c.in-Ok.value left (sym c.lets.ensures ∙ c.if-lets.false)
     (subst (λ r. ReadsAs n.told n.tags n.retagged n.asks_memory n.under n.any_under s r left) c.in-Ok.is c.read.ensures))
 
 pub returns-in-Err : goal.returns-in-Err
 returns-in-Err g c =
-    let n = g.N.Notation in
+    let n = g.N.Notation.means in
     let b = g.C.Bound in
     let s = c.args.reader.now in
     let left = c.read.new.reader in
-    let laws = g.met.N.Notation.laws c.requires in
+    let laws = (g.met.N.Notation.keeps c.requires).own in
     read_none n.under n.any_under n.form_under b.passes g.met.C.Bound.alike n.told n.tags n.retagged n.asks_memory laws
-    (g.met.N.Notation.others c.requires) s c.in-Err.error left
+    (g.met.N.Notation.keeps c.requires).others s c.in-Err.error left
     (subst (λ r. ReadsAs n.told n.tags n.retagged n.asks_memory n.under n.any_under s r left) c.in-Err.is c.read.ensures)

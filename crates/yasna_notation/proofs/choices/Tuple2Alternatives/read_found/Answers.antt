@@ -8,48 +8,50 @@ use Rattle.yasna_notation.proofs.choices.Tuple2Alternatives.read_found.Goals as 
 
 pub returns-in-Ok : goal.returns-in-Ok
 returns-in-Ok g c =
-    let n = g.A.Notation in
+    let n = g.A.Notation.means in
     let w = g.W.Alternatives in
     let s = c.args.reader.now in
     let left = c.read.new.reader in
     let is = sym c.has_tag.ensures ∙ c.if-has_tag.true in
-    subst (λ x. ReadsFound (n.tags ++ w.tags) (n.asks_memory || w.asks_memory) (λ m n v b. EitherOf (g.A.Notation.under None) w.encodes m n (sides v) b)
+    subst (λ x. ReadsFound (n.tags ++ w.tags) (n.asks_memory || w.asks_memory) (λ m n v b. EitherOf (g.A.Notation.means.under None) w.encodes m n (sides v) b)
     (AnyEither (n.any_under None) w.elements) c.args.tag s (seen First x) left) c.in-Ok.is
-    (first_found n.told n.tags w.tags n.asks_memory w.asks_memory n.under n.any_under w.encodes w.elements n.apart w.apart c.requires c.args.tag s n.retagged
+    (first_found n.told n.tags w.tags n.asks_memory w.asks_memory n.under n.any_under w.encodes w.elements g.A.Notation.apart w.apart c.requires c.args.tag
+    s n.retagged
     g.met.W.Alternatives.laws c.read.result left is c.read.ensures)
 
 pub returns-in-Err : goal.returns-in-Err
 returns-in-Err g c =
-    let n = g.A.Notation in
+    let n = g.A.Notation.means in
     let w = g.W.Alternatives in
     let s = c.args.reader.now in
     let left = c.read.new.reader in
     let is = sym c.has_tag.ensures ∙ c.if-has_tag.true in
-    subst (λ x. ReadsFound (n.tags ++ w.tags) (n.asks_memory || w.asks_memory) (λ m n v b. EitherOf (g.A.Notation.under None) w.encodes m n (sides v) b)
+    subst (λ x. ReadsFound (n.tags ++ w.tags) (n.asks_memory || w.asks_memory) (λ m n v b. EitherOf (g.A.Notation.means.under None) w.encodes m n (sides v) b)
     (AnyEither (n.any_under None) w.elements) c.args.tag s (seen First x) left) c.in-Err.is
-    (first_found n.told n.tags w.tags n.asks_memory w.asks_memory n.under n.any_under w.encodes w.elements n.apart w.apart c.requires c.args.tag s n.retagged
+    (first_found n.told n.tags w.tags n.asks_memory w.asks_memory n.under n.any_under w.encodes w.elements g.A.Notation.apart w.apart c.requires c.args.tag
+    s n.retagged
     g.met.W.Alternatives.laws c.read.result left is c.read.ensures)
 
 pub returns-in-Ok-read_found : goal.returns-in-Ok-read_found
 returns-in-Ok-read_found g c =
-    let n = g.A.Notation in
+    let n = g.A.Notation.means in
     let w = g.W.Alternatives in
     let s = c.args.reader.now in
     let left = c.read_found.new.reader in
     let is = sym c.has_tag.ensures ∙ c.if-has_tag.false in
-    subst (λ x. ReadsFound (n.tags ++ w.tags) (n.asks_memory || w.asks_memory) (λ m n v b. EitherOf (g.A.Notation.under None) w.encodes m n (sides v) b)
+    subst (λ x. ReadsFound (n.tags ++ w.tags) (n.asks_memory || w.asks_memory) (λ m n v b. EitherOf (g.A.Notation.means.under None) w.encodes m n (sides v) b)
     (AnyEither (n.any_under None) w.elements) c.args.tag s (seen Second x) left) c.in-Ok-read_found.is
-    (other_found n.told n.tags w.tags n.asks_memory w.asks_memory n.under n.any_under w.encodes w.elements n.apart w.apart c.requires c.args.tag s
-    g.met.A.Notation.laws c.read_found.result left is c.read_found.ensures)
+    (other_found n.told n.tags w.tags n.asks_memory w.asks_memory n.under n.any_under w.encodes w.elements g.A.Notation.apart w.apart c.requires c.args.tag s
+    (λ b. (g.met.A.Notation.keeps b).own) c.read_found.result left is c.read_found.ensures)
 
 pub returns-in-Err-read_found : goal.returns-in-Err-read_found
 returns-in-Err-read_found g c =
-    let n = g.A.Notation in
+    let n = g.A.Notation.means in
     let w = g.W.Alternatives in
     let s = c.args.reader.now in
     let left = c.read_found.new.reader in
     let is = sym c.has_tag.ensures ∙ c.if-has_tag.false in
-    subst (λ x. ReadsFound (n.tags ++ w.tags) (n.asks_memory || w.asks_memory) (λ m n v b. EitherOf (g.A.Notation.under None) w.encodes m n (sides v) b)
+    subst (λ x. ReadsFound (n.tags ++ w.tags) (n.asks_memory || w.asks_memory) (λ m n v b. EitherOf (g.A.Notation.means.under None) w.encodes m n (sides v) b)
     (AnyEither (n.any_under None) w.elements) c.args.tag s (seen Second x) left) c.in-Err-read_found.is
-    (other_found n.told n.tags w.tags n.asks_memory w.asks_memory n.under n.any_under w.encodes w.elements n.apart w.apart c.requires c.args.tag s
-    g.met.A.Notation.laws c.read_found.result left is c.read_found.ensures)
+    (other_found n.told n.tags w.tags n.asks_memory w.asks_memory n.under n.any_under w.encodes w.elements g.A.Notation.apart w.apart c.requires c.args.tag s
+    (λ b. (g.met.A.Notation.keeps b).own) c.read_found.result left is c.read_found.ensures)

@@ -8,14 +8,14 @@ use Rattle.yasna_notation.proofs.defaults.Tuple2DefaultParts.read_parts.Goals as
 
 pub returns-in-Ok-read_parts : goal.returns-in-Ok-read_parts
 returns-in-Ok-read_parts g c =
-    let n = g.A.Notation in
+    let n = g.A.Notation.means in
     let d = g.D.DefaultValue in
     let w = g.W.Parts in
     let s = part_of c.args.seq.now in
     let m = part_of c.read_default.new.self in
     let N = ReadsAs n.told n.tags n.retagged n.asks_memory n.under n.any_under in
     let first = default_first {retagged = n.retagged} {asks = n.asks_memory} {B = n.under} {S = n.any_under} d.is g.A.Value.PartialEq.eq d.default
-    g.met.D.DefaultValue.tells g.met.D.DefaultValue.tests g.met.A.Notation.laws g.met.W.Parts.laws c.requires.apart in
+    g.met.D.DefaultValue.tells g.met.D.DefaultValue.tests (λ b. (g.met.A.Notation.keeps b).own) g.met.W.Parts.laws c.requires.apart in
     let read = subst (λ v. ReadsDefault N _ v s c.read_default.result m) c.default.ensures
     (default_called _ _ N _ c.default.result s c.read_default.result m c.read_default.ensures (λ p q x h. search rules)) in
     let left = part_of c.read_parts.new.seq in
@@ -25,14 +25,14 @@ returns-in-Ok-read_parts g c =
 
 pub returns-in-Err-read_parts : goal.returns-in-Err-read_parts
 returns-in-Err-read_parts g c =
-    let n = g.A.Notation in
+    let n = g.A.Notation.means in
     let d = g.D.DefaultValue in
     let w = g.W.Parts in
     let s = part_of c.args.seq.now in
     let m = part_of c.read_default.new.self in
     let N = ReadsAs n.told n.tags n.retagged n.asks_memory n.under n.any_under in
     let first = default_first {retagged = n.retagged} {asks = n.asks_memory} {B = n.under} {S = n.any_under} d.is g.A.Value.PartialEq.eq d.default
-    g.met.D.DefaultValue.tells g.met.D.DefaultValue.tests g.met.A.Notation.laws g.met.W.Parts.laws c.requires.apart in
+    g.met.D.DefaultValue.tells g.met.D.DefaultValue.tests (λ b. (g.met.A.Notation.keeps b).own) g.met.W.Parts.laws c.requires.apart in
     let read = subst (λ v. ReadsDefault N _ v s c.read_default.result m) c.default.ensures
     (default_called _ _ N _ c.default.result s c.read_default.result m c.read_default.ensures (λ p q x h. search rules)) in
     let left = part_of c.read_parts.new.seq in
@@ -42,14 +42,14 @@ returns-in-Err-read_parts g c =
 
 pub returns-in-Err : goal.returns-in-Err
 returns-in-Err g c =
-    let n = g.A.Notation in
+    let n = g.A.Notation.means in
     let d = g.D.DefaultValue in
     let w = g.W.Parts in
     let s = part_of c.args.seq.now in
     let m = part_of c.read_default.new.self in
     let N = ReadsAs n.told n.tags n.retagged n.asks_memory n.under n.any_under in
     let first = default_first {retagged = n.retagged} {asks = n.asks_memory} {B = n.under} {S = n.any_under} d.is g.A.Value.PartialEq.eq d.default
-    g.met.D.DefaultValue.tells g.met.D.DefaultValue.tests g.met.A.Notation.laws g.met.W.Parts.laws c.requires.apart in
+    g.met.D.DefaultValue.tells g.met.D.DefaultValue.tests (λ b. (g.met.A.Notation.keeps b).own) g.met.W.Parts.laws c.requires.apart in
     let read = subst (λ v. ReadsDefault N _ v s c.read_default.result m) c.default.ensures
     (default_called _ _ N _ c.default.result s c.read_default.result m c.read_default.ensures (λ p q x h. search rules)) in
     first_failed w.asks_memory w.parts first s c.requires.fresh c.read_default.result m read c.in-Err.error c.in-Err.is

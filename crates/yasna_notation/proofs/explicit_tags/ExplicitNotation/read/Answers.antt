@@ -4,6 +4,6 @@ use Rattle.yasna_notation.proofs.explicit_tags.ExplicitNotation.read.Goals as go
 
 pub returns : goal.returns
 returns g c =
-    let n = g.N.Notation in
+    let n = g.N.Notation.means in
     explicit_read {told = n.told} {ts = n.tags} {retagged = n.retagged} {asks = n.asks_memory} {B = n.under} {S = n.any_under}
-    (g.met.N.Notation.laws c.requires).coding g.met.T.TagName.not_end c.read_tagged.ensures c.tag.ensures (λ p q x h. search rules)
+    (g.met.N.Notation.keeps c.requires).own.coding g.met.T.TagName.not_end c.read_tagged.ensures c.tag.ensures (λ p q x h. search rules)

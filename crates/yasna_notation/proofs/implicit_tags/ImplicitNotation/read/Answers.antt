@@ -5,7 +5,7 @@ use Rattle.yasna_notation.proofs.implicit_tags.ImplicitNotation.read.Goals as go
 
 pub returns : goal.returns
 returns g c =
-    let n = g.N.Notation in
+    let n = g.N.Notation.means in
     implicit_read {told = n.told} {ts = n.tags} {asks = n.asks_memory} {B = n.under} {S = n.any_under} _ _
-    (and_parts n.retagged n.apart c.requires).0 g.met.T.TagName.not_end g.met.T.TagName.in_range c.read_tagged_implicit.ensures c.tag.ensures
+    (and_parts n.retagged g.N.Notation.apart c.requires).0 g.met.T.TagName.not_end g.met.T.TagName.in_range c.read_tagged_implicit.ensures c.tag.ensures
     (λ p q x h. search rules)

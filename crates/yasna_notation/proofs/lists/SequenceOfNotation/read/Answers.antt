@@ -4,6 +4,6 @@ use Rattle.yasna_notation.proofs.lists.SequenceOfNotation.read.Goals as goal
 
 pub returns : goal.returns
 returns g c =
-    let n = g.N.Notation in
+    let n = g.N.Notation.means in
     list_read {told = n.told} {ts = n.tags} {retagged = n.retagged} {asks = n.asks_memory} {B = n.under} {S = n.any_under}
-    (g.met.N.Notation.laws c.requires).coding c.collect_sequence_of.ensures (λ f f' p q x h. search rules)
+    (g.met.N.Notation.keeps c.requires).own.coding c.collect_sequence_of.ensures (λ f f' p q x h. search rules)

@@ -7,11 +7,12 @@ use Rattle.yasna_notation.proofs.parts.Tuple2OptionalParts.read_parts.Goals as g
 
 pub returns-in-Ok-read_parts : goal.returns-in-Ok-read_parts
 returns-in-Ok-read_parts g c =
-    let n = g.A.Notation in
+    let n = g.A.Notation.means in
     let w = g.W.Parts in
     let s = part_of c.args.seq.now in
     let m = part_of c.read_optional.new.self in
-    let first = option_first {retagged = n.retagged} {asks = n.asks_memory} {B = n.under} {S = n.any_under} g.met.A.Notation.laws g.met.W.Parts.laws
+    let first = option_first {retagged = n.retagged} {asks = n.asks_memory} {B = n.under} {S = n.any_under}
+    (λ b. (g.met.A.Notation.keeps b).own) g.met.W.Parts.laws
     c.requires.apart in
     let read = optional_called _ _ (ReadsAs n.told n.tags n.retagged n.asks_memory n.under n.any_under) s c.read_optional.result m
     c.read_optional.ensures (λ p q x h. search rules) in
@@ -22,11 +23,12 @@ returns-in-Ok-read_parts g c =
 
 pub returns-in-Err-read_parts : goal.returns-in-Err-read_parts
 returns-in-Err-read_parts g c =
-    let n = g.A.Notation in
+    let n = g.A.Notation.means in
     let w = g.W.Parts in
     let s = part_of c.args.seq.now in
     let m = part_of c.read_optional.new.self in
-    let first = option_first {retagged = n.retagged} {asks = n.asks_memory} {B = n.under} {S = n.any_under} g.met.A.Notation.laws g.met.W.Parts.laws
+    let first = option_first {retagged = n.retagged} {asks = n.asks_memory} {B = n.under} {S = n.any_under}
+    (λ b. (g.met.A.Notation.keeps b).own) g.met.W.Parts.laws
     c.requires.apart in
     let read = optional_called _ _ (ReadsAs n.told n.tags n.retagged n.asks_memory n.under n.any_under) s c.read_optional.result m
     c.read_optional.ensures (λ p q x h. search rules) in
@@ -37,11 +39,12 @@ returns-in-Err-read_parts g c =
 
 pub returns-in-Err : goal.returns-in-Err
 returns-in-Err g c =
-    let n = g.A.Notation in
+    let n = g.A.Notation.means in
     let w = g.W.Parts in
     let s = part_of c.args.seq.now in
     let m = part_of c.read_optional.new.self in
-    let first = option_first {retagged = n.retagged} {asks = n.asks_memory} {B = n.under} {S = n.any_under} g.met.A.Notation.laws g.met.W.Parts.laws
+    let first = option_first {retagged = n.retagged} {asks = n.asks_memory} {B = n.under} {S = n.any_under}
+    (λ b. (g.met.A.Notation.keeps b).own) g.met.W.Parts.laws
     c.requires.apart in
     let read = optional_called _ _ (ReadsAs n.told n.tags n.retagged n.asks_memory n.under n.any_under) s c.read_optional.result m
     c.read_optional.ensures (λ p q x h. search rules) in

@@ -8,12 +8,12 @@ use Rattle.yasna_notation.proofs.parts.Tuple2Parts.read_parts.Goals as goal
 
 pub returns-in-Ok-read_parts : goal.returns-in-Ok-read_parts
 returns-in-Ok-read_parts g c =
-    let n = g.A.Notation in
+    let n = g.A.Notation.means in
     let w = g.W.Parts in
     let s = part_of c.args.seq.now in
     let m = c.read.new.reader in
     let first = required_by {told = n.told} {ts = n.tags} {retagged = n.retagged} {asks = n.asks_memory} {B = n.under} {S = n.any_under}
-    {Q = w.any_parts} (g.met.A.Notation.laws (and_parts n.apart w.apart c.requires.apart).0).coding in
+    {Q = w.any_parts} (g.met.A.Notation.keeps (and_parts g.A.Notation.apart w.apart c.requires.apart).0).own.coding in
     let left = part_of c.read_parts.new.seq in
     first_read w.asks_memory w.parts first s c.requires.fresh c.read.result m
     (subst (λ z. ReadsAs n.told n.tags n.retagged n.asks_memory n.under n.any_under z c.read.result m) c.next.ensures.value c.read.ensures)
@@ -22,12 +22,12 @@ returns-in-Ok-read_parts g c =
 
 pub returns-in-Err-read_parts : goal.returns-in-Err-read_parts
 returns-in-Err-read_parts g c =
-    let n = g.A.Notation in
+    let n = g.A.Notation.means in
     let w = g.W.Parts in
     let s = part_of c.args.seq.now in
     let m = c.read.new.reader in
     let first = required_by {told = n.told} {ts = n.tags} {retagged = n.retagged} {asks = n.asks_memory} {B = n.under} {S = n.any_under}
-    {Q = w.any_parts} (g.met.A.Notation.laws (and_parts n.apart w.apart c.requires.apart).0).coding in
+    {Q = w.any_parts} (g.met.A.Notation.keeps (and_parts g.A.Notation.apart w.apart c.requires.apart).0).own.coding in
     let left = part_of c.read_parts.new.seq in
     first_read w.asks_memory w.parts first s c.requires.fresh c.read.result m
     (subst (λ z. ReadsAs n.told n.tags n.retagged n.asks_memory n.under n.any_under z c.read.result m) c.next.ensures.value c.read.ensures)

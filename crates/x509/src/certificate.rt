@@ -1,0 +1,87 @@
+//! Certificates (RFC 5280, 4.1).
+//!
+//! ```text
+//! Certificate ::= SEQUENCE {
+//!     tbsCertificate      TBSCertificate,
+//!     signatureAlgorithm  AlgorithmIdentifier,
+//!     signatureValue      BIT STRING }
+//! ```
+ghost use Rattle.std.specs.Prelude.{◌≡◌, refl};
+ghost use Rattle.yasna_notation.specs.Laws.{standing_keeps, element_filled};
+ghost use Rattle.yasna_notation.specs.Making.{in_sequence, part};
+ghost use Rattle.yasna_notation.specs.Notation.{stands_for};
+ghost use Rattle.yasna_notation.specs.Parts.{no_parts};
+ghost use Rattle.yasna_notation.specs.contracts.strings.BitStringNotation.TheImpl.Laws.{keeps-law as bits};
+ghost use Rattle.x509.specs.contracts.algorithm.AlgorithmIdentifierNotation.TheImpl.Laws.{keeps-law as algorithm};
+ghost use Rattle.x509.specs.contracts.tbs_certificate.TbsCertificateNotation.TheImpl.Laws.{keeps-law as tbs};
+
+use crate::algorithm::AlgorithmIdentifier;
+use crate::tbs_certificate::TbsCertificate;
+use yasna::{ASN1Result, BERReader, DERWriter, Tag};
+use yasna_notation::{BitString, Message, Notation, Sequence, StandsFor, read_as};
+
+type Parts = (TbsCertificate, (AlgorithmIdentifier, (BitString, ())));
+
+type Fields = (
+    TbsCertificate,
+    (AlgorithmIdentifier, ((Vec<u8>, usize), ())),
+);
+
+/// A certificate.
+#[derive(Drop)]
+pub struct Certificate {
+    pub tbs_certificate: TbsCertificate,
+    pub signature_algorithm: AlgorithmIdentifier,
+    /// The bits of the signature, as octets and a count.
+    pub signature_value: (Vec<u8>, usize),
+}
+
+impl StandsFor<Fields> for Certificate {
+    ghost value_of = { λ v. (v.tbs_certificate, (v.signature_algorithm, (v.signature_value, tt))) };
+
+    fn from_value(fields: Fields) -> Certificate {
+        let (tbs_certificate, others) = fields;
+        let (signature_algorithm, others) = others;
+        let (signature_value, ()) = others;
+        Certificate {
+            tbs_certificate,
+            signature_algorithm,
+            signature_value,
+        }
+    }
+}
+
+impl Notation for Certificate {
+    type Value = Certificate;
+
+    type Inner = ();
+
+    ghost means = { stands_for ⟦<Certificate as StandsFor<Fields>>⟧.value_of ⟦<Sequence<Parts> as Notation>⟧.means };
+
+    fn has_tag(tag: Tag) -> bool {
+        <Sequence<Parts> as Notation>::has_tag(tag)
+    }
+
+    fn read(reader: BERReader) -> ASN1Result<Certificate> {
+        read_as::<Sequence<Parts>, Certificate>(reader)
+    }
+
+    fn write(value: &Certificate, writer: DERWriter<'_>) -> ASN1Result<()> {
+        Sequence::<Parts>::write_fields(
+            (
+                &value.tbs_certificate,
+                (&value.signature_algorithm, (&value.signature_value, ())),
+            ),
+            writer,
+        )
+    }
+
+    ghost keeps = { λ _. standing_keeps ⟦<Certificate as StandsFor<Fields>>⟧.value_of
+        (in_sequence (part (tbs refl).own (part (algorithm refl).own (part (bits refl).own no_parts)))) };
+
+    ghost filled = { λ u m v. element_filled _ _ _ _ };
+}
+
+impl Message for Certificate {
+    ghost told_apart = { refl };
+}

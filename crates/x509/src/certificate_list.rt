@@ -1,0 +1,84 @@
+//! Revocation lists (RFC 5280, 5.1).
+//!
+//! ```text
+//! CertificateList ::= SEQUENCE {
+//!     tbsCertList         TBSCertList,
+//!     signatureAlgorithm  AlgorithmIdentifier,
+//!     signatureValue      BIT STRING }
+//! ```
+ghost use Rattle.std.specs.Prelude.{◌≡◌, refl};
+ghost use Rattle.yasna_notation.specs.Laws.{standing_keeps, element_filled};
+ghost use Rattle.yasna_notation.specs.Making.{in_sequence, part};
+ghost use Rattle.yasna_notation.specs.Notation.{stands_for};
+ghost use Rattle.yasna_notation.specs.Parts.{no_parts};
+ghost use Rattle.yasna_notation.specs.contracts.strings.BitStringNotation.TheImpl.Laws.{keeps-law as bits};
+ghost use Rattle.x509.specs.contracts.algorithm.AlgorithmIdentifierNotation.TheImpl.Laws.{keeps-law as algorithm};
+ghost use Rattle.x509.specs.contracts.tbs_cert_list.TbsCertListNotation.TheImpl.Laws.{keeps-law as tbs_list};
+
+use crate::algorithm::AlgorithmIdentifier;
+use crate::tbs_cert_list::TbsCertList;
+use yasna::{ASN1Result, BERReader, DERWriter, Tag};
+use yasna_notation::{BitString, Message, Notation, Sequence, StandsFor, read_as};
+
+type Parts = (TbsCertList, (AlgorithmIdentifier, (BitString, ())));
+
+type Fields = (TbsCertList, (AlgorithmIdentifier, ((Vec<u8>, usize), ())));
+
+/// A revocation list.
+#[derive(Drop)]
+pub struct CertificateList {
+    pub tbs_cert_list: TbsCertList,
+    pub signature_algorithm: AlgorithmIdentifier,
+    /// The bits of the signature, as octets and a count.
+    pub signature_value: (Vec<u8>, usize),
+}
+
+impl StandsFor<Fields> for CertificateList {
+    ghost value_of = { λ v. (v.tbs_cert_list, (v.signature_algorithm, (v.signature_value, tt))) };
+
+    fn from_value(fields: Fields) -> CertificateList {
+        let (tbs_cert_list, others) = fields;
+        let (signature_algorithm, others) = others;
+        let (signature_value, ()) = others;
+        CertificateList {
+            tbs_cert_list,
+            signature_algorithm,
+            signature_value,
+        }
+    }
+}
+
+impl Notation for CertificateList {
+    type Value = CertificateList;
+
+    type Inner = ();
+
+    ghost means = { stands_for ⟦<CertificateList as StandsFor<Fields>>⟧.value_of ⟦<Sequence<Parts> as Notation>⟧.means };
+
+    fn has_tag(tag: Tag) -> bool {
+        <Sequence<Parts> as Notation>::has_tag(tag)
+    }
+
+    fn read(reader: BERReader) -> ASN1Result<CertificateList> {
+        read_as::<Sequence<Parts>, CertificateList>(reader)
+    }
+
+    fn write(value: &CertificateList, writer: DERWriter<'_>) -> ASN1Result<()> {
+        Sequence::<Parts>::write_fields(
+            (
+                &value.tbs_cert_list,
+                (&value.signature_algorithm, (&value.signature_value, ())),
+            ),
+            writer,
+        )
+    }
+
+    ghost keeps = { λ _. standing_keeps ⟦<CertificateList as StandsFor<Fields>>⟧.value_of
+        (in_sequence (part (tbs_list refl).own (part (algorithm refl).own (part (bits refl).own no_parts)))) };
+
+    ghost filled = { λ u m v. element_filled _ _ _ _ };
+}
+
+impl Message for CertificateList {
+    ghost told_apart = { refl };
+}

@@ -1,0 +1,65 @@
+//! Extensions of a certificate, of a revocation list, or of an entry of one (RFC 5280, 4.1).
+//!
+//! ```text
+//! Extensions ::= SEQUENCE SIZE (1..MAX) OF Extension
+//! ```
+ghost use Rattle.std.specs.Prelude.{◌≡◌, false, not, refl};
+ghost use Rattle.yasna_notation.specs.Laws.{standing_keeps, element_filled};
+ghost use Rattle.yasna_notation.specs.Making.{in_sequence, in_sequence_of, not_empty, part, default_part};
+ghost use Rattle.yasna_notation.specs.Notation.{stands_for};
+ghost use Rattle.yasna_notation.specs.Parts.{no_parts, tells_false};
+ghost use Rattle.yasna_notation.specs.contracts.simple.ObjectIdentifierNotation.TheImpl.Laws.{keeps-law as oid};
+ghost use Rattle.yasna_notation.specs.contracts.simple.BoolNotation.TheImpl.Laws.{keeps-law as flag};
+ghost use Rattle.yasna_notation.specs.contracts.strings.VecU8Notation.TheImpl.Laws.{keeps-law as octets};
+
+use crate::extension::Extension;
+use yasna::{ASN1Result, BERReader, DERWriter, Tag};
+use yasna_notation::{
+    Bounded, Defined, Message, NotEmpty, Notation, SequenceOf, StandsFor, read_as,
+};
+
+type List = Bounded<SequenceOf<Extension>, NotEmpty>;
+
+/// Extensions, one or more.
+#[derive(Drop)]
+pub struct Extensions {
+    pub extensions: Vec<Extension>,
+}
+
+impl StandsFor<Vec<Extension>> for Extensions {
+    ghost value_of = { λ v. v.extensions };
+
+    fn from_value(extensions: Vec<Extension>) -> Extensions {
+        Extensions { extensions }
+    }
+}
+
+impl Notation for Extensions {
+    type Value = Extensions;
+
+    type Inner = ();
+
+    ghost means = { stands_for ⟦<Extensions as StandsFor<Vec<Extension>>>⟧.value_of ⟦<List as Notation>⟧.means };
+
+    fn has_tag(tag: Tag) -> bool {
+        <List as Notation>::has_tag(tag)
+    }
+
+    fn read(reader: BERReader) -> ASN1Result<Extensions> {
+        read_as::<List, Extensions>(reader)
+    }
+
+    fn write(value: &Extensions, writer: DERWriter<'_>) -> ASN1Result<()> {
+        <List as Notation>::write(&value.extensions, writer)
+    }
+
+    ghost keeps = { λ _. standing_keeps ⟦<Extensions as StandsFor<Vec<Extension>>>⟧.value_of
+        (not_empty (in_sequence_of (standing_keeps ⟦<Extension as Defined>⟧.value_of
+        (in_sequence (part (oid refl).own (default_part not false tells_false refl (flag refl).own (part (octets refl).own no_parts))))).own)) };
+
+    ghost filled = { λ u m v. element_filled _ _ _ _ };
+}
+
+impl Message for Extensions {
+    ghost told_apart = { refl };
+}

@@ -1,0 +1,71 @@
+//! Public keys (RFC 5280, 4.1.2.7).
+//!
+//! ```text
+//! SubjectPublicKeyInfo ::= SEQUENCE {
+//!     algorithm         AlgorithmIdentifier,
+//!     subjectPublicKey  BIT STRING }
+//! ```
+ghost use Rattle.std.specs.Prelude.{◌≡◌, refl};
+ghost use Rattle.yasna_notation.specs.Laws.{standing_keeps, element_filled};
+ghost use Rattle.yasna_notation.specs.Making.{in_sequence, part};
+ghost use Rattle.yasna_notation.specs.Notation.{stands_for};
+ghost use Rattle.yasna_notation.specs.Parts.{no_parts};
+ghost use Rattle.yasna_notation.specs.contracts.strings.BitStringNotation.TheImpl.Laws.{keeps-law as bits};
+ghost use Rattle.x509.specs.contracts.algorithm.AlgorithmIdentifierNotation.TheImpl.Laws.{keeps-law as algorithm};
+
+use crate::algorithm::AlgorithmIdentifier;
+use yasna::{ASN1Result, BERReader, DERWriter, Tag};
+use yasna_notation::{BitString, Message, Notation, Sequence, StandsFor, read_as};
+
+type Parts = (AlgorithmIdentifier, (BitString, ()));
+
+type Fields = (AlgorithmIdentifier, ((Vec<u8>, usize), ()));
+
+/// A public key: its bits, as octets and a count, and the algorithm that it is for.
+#[derive(Drop)]
+pub struct SubjectPublicKeyInfo {
+    pub algorithm: AlgorithmIdentifier,
+    pub subject_public_key: (Vec<u8>, usize),
+}
+
+impl StandsFor<Fields> for SubjectPublicKeyInfo {
+    ghost value_of = { λ v. (v.algorithm, (v.subject_public_key, tt)) };
+
+    fn from_value(fields: Fields) -> SubjectPublicKeyInfo {
+        let (algorithm, others) = fields;
+        let (subject_public_key, ()) = others;
+        SubjectPublicKeyInfo {
+            algorithm,
+            subject_public_key,
+        }
+    }
+}
+
+impl Notation for SubjectPublicKeyInfo {
+    type Value = SubjectPublicKeyInfo;
+
+    type Inner = ();
+
+    ghost means = { stands_for ⟦<SubjectPublicKeyInfo as StandsFor<Fields>>⟧.value_of ⟦<Sequence<Parts> as Notation>⟧.means };
+
+    fn has_tag(tag: Tag) -> bool {
+        <Sequence<Parts> as Notation>::has_tag(tag)
+    }
+
+    fn read(reader: BERReader) -> ASN1Result<SubjectPublicKeyInfo> {
+        read_as::<Sequence<Parts>, SubjectPublicKeyInfo>(reader)
+    }
+
+    fn write(value: &SubjectPublicKeyInfo, writer: DERWriter<'_>) -> ASN1Result<()> {
+        Sequence::<Parts>::write_fields((&value.algorithm, (&value.subject_public_key, ())), writer)
+    }
+
+    ghost keeps = { λ _. standing_keeps ⟦<SubjectPublicKeyInfo as StandsFor<Fields>>⟧.value_of (in_sequence (part (algorithm refl).own
+        (part (bits refl).own no_parts))) };
+
+    ghost filled = { λ u m v. element_filled _ _ _ _ };
+}
+
+impl Message for SubjectPublicKeyInfo {
+    ghost told_apart = { refl };
+}

@@ -1,0 +1,89 @@
+//! Entries of a revocation list (RFC 5280, 5.1).
+//!
+//! ```text
+//! SEQUENCE {
+//!     userCertificate     CertificateSerialNumber,
+//!     revocationDate      Time,
+//!     crlEntryExtensions  Extensions OPTIONAL }
+//! ```
+ghost use Rattle.std.specs.Prelude.{◌≡◌, refl};
+ghost use Rattle.yasna_notation.specs.Laws.{standing_keeps, element_filled};
+ghost use Rattle.yasna_notation.specs.Making.{in_sequence, in_choice, alternative, part};
+ghost use Rattle.yasna_notation.specs.Notation.{stands_for};
+ghost use Rattle.yasna_notation.specs.Parts.{last_part_laws};
+ghost use Rattle.yasna_notation.specs.contracts.simple.BigIntegerNotation.TheImpl.Laws.{keeps-law as big};
+ghost use Rattle.yasna_notation.specs.contracts.times.UTCTimeNotation.TheImpl.Laws.{keeps-law as utc};
+ghost use Rattle.yasna_notation.specs.contracts.times.GeneralizedTimeNotation.TheImpl.Laws.{keeps-law as general};
+ghost use Rattle.x509.specs.contracts.extensions.ExtensionsNotation.TheImpl.Laws.{keeps-law as extensions};
+
+use crate::extensions::Extensions;
+use crate::time::Time;
+use yasna::models::{GeneralizedTime, UTCTime};
+use yasna::{ASN1Result, BERReader, DERWriter, Tag};
+use yasna_notation::{
+    BigInteger, Choice, Defined, Last, Message, Notation, Sequence, StandsFor, read_as,
+};
+
+type Parts = (BigInteger, (Time, Last<Extensions>));
+
+type Fields = ((Vec<u8>, bool), (Time, Option<Extensions>));
+
+/// A certificate that was revoked.
+#[derive(Drop)]
+pub struct RevokedCertificate {
+    /// Its octets in two's complement, the highest first, and whether it isn't negative.
+    pub user_certificate: (Vec<u8>, bool),
+    pub revocation_date: Time,
+    pub crl_entry_extensions: Option<Extensions>,
+}
+
+impl StandsFor<Fields> for RevokedCertificate {
+    ghost value_of = { λ v. (v.user_certificate, (v.revocation_date, v.crl_entry_extensions)) };
+
+    fn from_value(fields: Fields) -> RevokedCertificate {
+        let (user_certificate, others) = fields;
+        let (revocation_date, crl_entry_extensions) = others;
+        RevokedCertificate {
+            user_certificate,
+            revocation_date,
+            crl_entry_extensions,
+        }
+    }
+}
+
+impl Notation for RevokedCertificate {
+    type Value = RevokedCertificate;
+
+    type Inner = ();
+
+    ghost means = { stands_for ⟦<RevokedCertificate as StandsFor<Fields>>⟧.value_of ⟦<Sequence<Parts> as Notation>⟧.means };
+
+    fn has_tag(tag: Tag) -> bool {
+        <Sequence<Parts> as Notation>::has_tag(tag)
+    }
+
+    fn read(reader: BERReader) -> ASN1Result<RevokedCertificate> {
+        read_as::<Sequence<Parts>, RevokedCertificate>(reader)
+    }
+
+    fn write(value: &RevokedCertificate, writer: DERWriter<'_>) -> ASN1Result<()> {
+        Sequence::<Parts>::write_fields(
+            (
+                &value.user_certificate,
+                (&value.revocation_date, &value.crl_entry_extensions),
+            ),
+            writer,
+        )
+    }
+
+    ghost keeps = { λ _. standing_keeps ⟦<RevokedCertificate as StandsFor<Fields>>⟧.value_of
+        (in_sequence (part (big refl).own (part (standing_keeps ⟦<Time as Defined>⟧.value_of
+        (in_choice ⟦<Choice<(UTCTime, (GeneralizedTime,))> as Notation>⟧.means.form_under (alternative (utc refl).own refl (general refl).own))).own
+        (last_part_laws (extensions refl).own)))) };
+
+    ghost filled = { λ u m v. element_filled _ _ _ _ };
+}
+
+impl Message for RevokedCertificate {
+    ghost told_apart = { refl };
+}

@@ -1,0 +1,148 @@
+//! What is signed of a revocation list (RFC 5280, 5.1).
+//!
+//! ```text
+//! TBSCertList ::= SEQUENCE {
+//!     version              Version OPTIONAL,
+//!     signature            AlgorithmIdentifier,
+//!     issuer               Name,
+//!     thisUpdate           Time,
+//!     nextUpdate           Time OPTIONAL,
+//!     revokedCertificates  SEQUENCE OF SEQUENCE { .. } OPTIONAL,
+//!     crlExtensions        [0] EXPLICIT Extensions OPTIONAL }
+//! ```
+ghost use Rattle.std.specs.Prelude.{◌≡◌, refl};
+ghost use Rattle.yasna_notation.specs.Laws.{standing_keeps, element_filled};
+ghost use Rattle.yasna_notation.specs.Making.{in_sequence, in_sequence_of, in_choice, alternative, part, optional_part, in_explicit, at_most};
+ghost use Rattle.yasna_notation.specs.Notation.{stands_for};
+ghost use Rattle.yasna_notation.specs.Parts.{no_parts};
+ghost use Rattle.std.proofs.Common.{arith};
+ghost use Rattle.yasna_notation.specs.contracts.simple.U64Notation.TheImpl.Laws.{keeps-law as number};
+ghost use Rattle.yasna_notation.specs.contracts.times.UTCTimeNotation.TheImpl.Laws.{keeps-law as utc};
+ghost use Rattle.yasna_notation.specs.contracts.times.GeneralizedTimeNotation.TheImpl.Laws.{keeps-law as general};
+ghost use Rattle.x509.specs.contracts.algorithm.AlgorithmIdentifierNotation.TheImpl.Laws.{keeps-law as algorithm};
+ghost use Rattle.x509.specs.contracts.name.NameNotation.TheImpl.Laws.{keeps-law as name};
+ghost use Rattle.x509.specs.contracts.extensions.ExtensionsNotation.TheImpl.Laws.{keeps-law as extensions};
+ghost use Rattle.x509.specs.contracts.revoked_certificate.RevokedCertificateNotation.TheImpl.Laws.{keeps-law as revoked};
+
+use crate::algorithm::AlgorithmIdentifier;
+use crate::extensions::Extensions;
+use crate::name::Name;
+use crate::revoked_certificate::RevokedCertificate;
+use crate::time::Time;
+use yasna::models::{GeneralizedTime, UTCTime};
+use yasna::{ASN1Result, BERReader, DERWriter, Tag};
+use yasna_notation::{
+    AtMost, Bounded, Choice, Context, Defined, Explicit, Message, Notation, Optional, Sequence,
+    SequenceOf, StandsFor, read_as,
+};
+
+type Revoked = Optional<SequenceOf<RevokedCertificate>>;
+
+type CrlExtensions = Optional<Explicit<Context<0>, Extensions>>;
+
+type Updates = (Time, (Optional<Time>, (Revoked, (CrlExtensions, ()))));
+
+type Parts = (
+    Optional<Bounded<u64, AtMost<1>>>,
+    (AlgorithmIdentifier, (Name, Updates)),
+);
+
+type UpdateFields = (
+    Time,
+    (
+        Option<Time>,
+        (Option<Vec<RevokedCertificate>>, (Option<Extensions>, ())),
+    ),
+);
+
+type Fields = (Option<u64>, (AlgorithmIdentifier, (Name, UpdateFields)));
+
+/// What is signed of a revocation list.
+#[derive(Drop)]
+pub struct TbsCertList {
+    /// 1 for v2; v1 has none.
+    pub version: Option<u64>,
+    /// The algorithm of the signature.
+    pub signature: AlgorithmIdentifier,
+    pub issuer: Name,
+    pub this_update: Time,
+    pub next_update: Option<Time>,
+    pub revoked_certificates: Option<Vec<RevokedCertificate>>,
+    pub crl_extensions: Option<Extensions>,
+}
+
+impl StandsFor<Fields> for TbsCertList {
+    ghost value_of = { λ v. (v.version, (v.signature, (v.issuer, (v.this_update, (v.next_update, (v.revoked_certificates, (v.crl_extensions, tt))))))) };
+
+    fn from_value(fields: Fields) -> TbsCertList {
+        let (version, others) = fields;
+        let (signature, others) = others;
+        let (issuer, others) = others;
+        let (this_update, others) = others;
+        let (next_update, others) = others;
+        let (revoked_certificates, others) = others;
+        let (crl_extensions, ()) = others;
+        TbsCertList {
+            version,
+            signature,
+            issuer,
+            this_update,
+            next_update,
+            revoked_certificates,
+            crl_extensions,
+        }
+    }
+}
+
+impl Notation for TbsCertList {
+    type Value = TbsCertList;
+
+    type Inner = ();
+
+    ghost means = { stands_for ⟦<TbsCertList as StandsFor<Fields>>⟧.value_of ⟦<Sequence<Parts> as Notation>⟧.means };
+
+    fn has_tag(tag: Tag) -> bool {
+        <Sequence<Parts> as Notation>::has_tag(tag)
+    }
+
+    fn read(reader: BERReader) -> ASN1Result<TbsCertList> {
+        read_as::<Sequence<Parts>, TbsCertList>(reader)
+    }
+
+    fn write(value: &TbsCertList, writer: DERWriter<'_>) -> ASN1Result<()> {
+        Sequence::<Parts>::write_fields(
+            (
+                &value.version,
+                (
+                    &value.signature,
+                    (
+                        &value.issuer,
+                        (
+                            &value.this_update,
+                            (
+                                &value.next_update,
+                                (&value.revoked_certificates, (&value.crl_extensions, ())),
+                            ),
+                        ),
+                    ),
+                ),
+            ),
+            writer,
+        )
+    }
+
+    ghost keeps = { λ _. standing_keeps ⟦<TbsCertList as StandsFor<Fields>>⟧.value_of
+        (in_sequence (optional_part refl (at_most 1 (number refl)).own (part (algorithm refl).own (part (name refl).own (part (standing_keeps
+        ⟦<Time as Defined>⟧.value_of
+        (in_choice ⟦<Choice<(UTCTime, (GeneralizedTime,))> as Notation>⟧.means.form_under (alternative (utc refl).own refl (general refl).own))).own
+        (optional_part refl (standing_keeps ⟦<Time as Defined>⟧.value_of
+        (in_choice ⟦<Choice<(UTCTime, (GeneralizedTime,))> as Notation>⟧.means.form_under (alternative (utc refl).own refl (general refl).own))).own
+        (optional_part refl (in_sequence_of (revoked refl).own).own
+        (optional_part refl (in_explicit 0 (omega arith) (extensions refl).own).own no_parts)))))))) };
+
+    ghost filled = { λ u m v. element_filled _ _ _ _ };
+}
+
+impl Message for TbsCertList {
+    ghost told_apart = { refl };
+}

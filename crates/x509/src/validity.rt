@@ -1,0 +1,72 @@
+//! From when until when a certificate holds (RFC 5280, 4.1.2.5).
+//!
+//! ```text
+//! Validity ::= SEQUENCE { notBefore Time, notAfter Time }
+//! ```
+ghost use Rattle.std.specs.Prelude.{◌≡◌, refl};
+ghost use Rattle.yasna_notation.specs.Laws.{standing_keeps, element_filled};
+ghost use Rattle.yasna_notation.specs.Making.{in_sequence, in_choice, alternative, part};
+ghost use Rattle.yasna_notation.specs.Notation.{stands_for};
+ghost use Rattle.yasna_notation.specs.Parts.{no_parts};
+ghost use Rattle.yasna_notation.specs.contracts.times.UTCTimeNotation.TheImpl.Laws.{keeps-law as utc};
+ghost use Rattle.yasna_notation.specs.contracts.times.GeneralizedTimeNotation.TheImpl.Laws.{keeps-law as general};
+
+use crate::time::Time;
+use yasna::models::{GeneralizedTime, UTCTime};
+use yasna::{ASN1Result, BERReader, DERWriter, Tag};
+use yasna_notation::{Choice, Defined, Message, Notation, Sequence, StandsFor, read_as};
+
+type Parts = (Time, (Time, ()));
+
+type Fields = (Time, (Time, ()));
+
+/// From when until when a certificate holds.
+#[derive(Drop)]
+pub struct Validity {
+    pub not_before: Time,
+    pub not_after: Time,
+}
+
+impl StandsFor<Fields> for Validity {
+    ghost value_of = { λ v. (v.not_before, (v.not_after, tt)) };
+
+    fn from_value(fields: Fields) -> Validity {
+        let (not_before, others) = fields;
+        let (not_after, ()) = others;
+        Validity {
+            not_before,
+            not_after,
+        }
+    }
+}
+
+impl Notation for Validity {
+    type Value = Validity;
+
+    type Inner = ();
+
+    ghost means = { stands_for ⟦<Validity as StandsFor<Fields>>⟧.value_of ⟦<Sequence<Parts> as Notation>⟧.means };
+
+    fn has_tag(tag: Tag) -> bool {
+        <Sequence<Parts> as Notation>::has_tag(tag)
+    }
+
+    fn read(reader: BERReader) -> ASN1Result<Validity> {
+        read_as::<Sequence<Parts>, Validity>(reader)
+    }
+
+    fn write(value: &Validity, writer: DERWriter<'_>) -> ASN1Result<()> {
+        Sequence::<Parts>::write_fields((&value.not_before, (&value.not_after, ())), writer)
+    }
+
+    ghost keeps = { λ _. standing_keeps ⟦<Validity as StandsFor<Fields>>⟧.value_of (in_sequence (part (standing_keeps ⟦<Time as Defined>⟧.value_of
+        (in_choice ⟦<Choice<(UTCTime, (GeneralizedTime,))> as Notation>⟧.means.form_under (alternative (utc refl).own refl (general refl).own))).own
+        (part (standing_keeps ⟦<Time as Defined>⟧.value_of (in_choice ⟦<Choice<(UTCTime, (GeneralizedTime,))> as Notation>⟧.means.form_under
+        (alternative (utc refl).own refl (general refl).own))).own no_parts))) };
+
+    ghost filled = { λ u m v. element_filled _ _ _ _ };
+}
+
+impl Message for Validity {
+    ghost told_apart = { refl };
+}

@@ -1,0 +1,136 @@
+-- The laws of a type that a module makes of others, from theirs.
+use Rattle.std.proofs.Common.{◌≡◌, ◌∷◌, ◌++◌, [], ◌<◌, ◌^◌, ℕ, List, Bool, true, false, not, Option, Some, None, Vec, length, refl, sym, subst, arith}
+use Rattle.std.specs.Prelude.{◌&&◌, nat_lt}
+use Rattle.std.specs.Global.{Global}
+use Rattle.std.specs.List.{AllByRecursion}
+use Rattle.yasna_base.specs.declared.tag.Tag.{Tag}
+use Rattle.yasna_base.specs.AnyOrder.{SameSetOf, InSomeOrder, sorted_set_of_form}
+use Rattle.yasna_base.specs.Beginnings.{share_none}
+use Rattle.yasna_base.specs.Canonical.{enclosed_form}
+use Rattle.yasna_base.specs.Choice.{EitherOf, AnyEither, SameEither, either_form, either_can, either_fits}
+use Rattle.yasna_base.specs.Coding.{Any}
+use Rattle.yasna_base.specs.Default.{TellsDefault, DefaultOf, default_form, default_can, default_fits}
+use Rattle.yasna_base.specs.Element.{Enclosed, AnyEnclosed}
+use Rattle.yasna_base.specs.Exact.{Fitting, enclosed_fits, part_fits, option_fits, elements_fit}
+use Rattle.yasna_base.specs.Grammar.{Grammar, Members, Form}
+use Rattle.yasna_base.specs.Identifier.{end_tag}
+pub use Rattle.yasna_base.specs.Identifier.{context, tag_or}
+use Rattle.yasna_base.specs.Optional.{OptionOf, AnyOption, SameOption, option_form, option_can}
+use Rattle.yasna_base.specs.Pieces.{Each}
+use Rattle.yasna_base.specs.Sequence.{PartOf, AnyPart, SamePart, part_form, part_can, sequence_tag}
+use Rattle.yasna_base.specs.SequenceOf.{IsListOf, AnyListOf, AnyElements, elements_form}
+use Rattle.yasna_base.specs.Set.{IsSetOf, AnySetOf, AnySetOfElements, set_tag}
+use Rattle.yasna_base.proofs.ExplicitTags.{context_not_end, enclosed_begins}
+use Rattle.yasna_base.proofs.Identifier.{not_end}
+use Rattle.yasna_notation.specs.Bounded.{Within, within_keeps, passes_alike, sizes_alike}
+use Rattle.yasna_notation.specs.Choices.{sides, either_laws, either_filled}
+pub use Rattle.yasna_notation.specs.Laws.{application}
+use Rattle.yasna_notation.specs.Laws.{application_not_end, element_keeps, list_laws, explicit_laws, implicit_keeps, never_retagged}
+use Rattle.yasna_notation.specs.Notation.{IsNotation, Keeps, IsFilled}
+use Rattle.yasna_notation.specs.Parts.{AreParts, all_told, part_laws, option_laws, default_laws, sequence_laws}
+use Rattle.yasna_notation.specs.Sets.{set_of_laws}
+
+module _ {A V : Type 0} {told others : Bool} {ts us : List Tag} {E : A → A → Type 0} {F : V → V → Type 0} {B : Grammar A} {C : Grammar V}
+    {S Q : Members} {f : Form A} {g : Form V} {P : Fitting A} {R : Fitting V} {c : A → Type 0} {d : V → Type 0} where
+  -- a part that is there, and others
+  pub part : IsNotation told ts E B S f P c → AreParts others us F C Q g R d →
+      AreParts told ts (SamePart E F) (PartOf B C) (AnyPart S Q) (part_form f g) (part_fits P R) (part_can c d)
+  part first rest = part_laws {a = true} {b = true} (λ _. first) (λ _. rest) refl
+
+module _ {A V : Type 0} {ts us : List Tag} {E : A → A → Type 0} {F : V → V → Type 0} {B : Grammar A} {C : Grammar V}
+    {S Q : Members} {f : Form A} {g : Form V} {P : Fitting A} {R : Fitting V} {c : A → Type 0} {d : V → Type 0} where
+  -- one that may be left out, where tags tell it from the others
+  pub optional_part : share_none ts (end_tag ∷ us) ≡ true → IsNotation true ts E B S f P c → AreParts true us F C Q g R d →
+      AreParts true (ts ++ us) (SamePart (SameOption E) F) (PartOf (OptionOf B) C) (AnyPart (AnyOption S) Q) (part_form (option_form f) g)
+      (part_fits (option_fits P) R) (part_can (option_can c) d)
+  optional_part apart first rest = option_laws {a = true} {b = true} (λ _. first) (λ _. rest)
+      (subst (λ z. all_told true true z (true && true) ≡ true) (sym apart) refl)
+
+  -- one that is a default where it is left out
+  pub default_part : (is : A → Bool) (default : A) → TellsDefault E is default → share_none ts (end_tag ∷ us) ≡ true →
+      IsNotation true ts E B S f P c → AreParts true us F C Q g R d →
+      AreParts true (ts ++ us) (SamePart E F) (PartOf (DefaultOf is B) C) (AnyPart (Any (DefaultOf is B)) Q) (part_form (default_form is f) g)
+      (part_fits (default_fits is P) R) (part_can (default_can is c) d)
+  default_part is default tells apart first rest = default_laws {a = true} {b = true} is default tells (λ _. first) (λ _. rest)
+      (subst (λ z. all_told true true z (true && true) ≡ true) (sym apart) refl)
+
+-- a SEQUENCE of parts
+pub in_sequence : {A : Type 0} {told : Bool} {ts : List Tag} {E : A → A → Type 0} {C : Grammar A} {S : Members} {form : Form A} {Fits : Fitting A}
+    {Can : A → Type 0} → AreParts told ts E C S form Fits Can →
+    Keeps true (sequence_tag ∷ []) true E (λ u. Enclosed C (tag_or u sequence_tag)) (λ u. AnyEnclosed S (tag_or u sequence_tag))
+    (λ u. enclosed_form form (tag_or u sequence_tag)) (enclosed_fits Fits) Can
+in_sequence {S = S} x = element_keeps sequence_tag (sequence_laws x) (enclosed_begins S) (not_end 16 (λ e. omega arith)) (omega arith)
+
+-- a SEQUENCE OF
+pub in_sequence_of : {A : Type 0} {told : Bool} {ts : List Tag} {E : A → A → Type 0} {B : Grammar A} {S : Members} {form : Form A}
+    {Fits : Fitting A} {Can : A → Type 0} → IsNotation told ts E B S form Fits Can →
+    Keeps true (sequence_tag ∷ []) true (λ (v w : Vec A Global). Each E v.items w.items)
+    (λ u m n (v : Vec A Global) b. IsListOf B (tag_or u sequence_tag) m n v.items b) (λ u. AnyListOf S (tag_or u sequence_tag))
+    (λ u m (v : Vec A Global). enclosed_form (elements_form form) (tag_or u sequence_tag) m v.items)
+    (λ m n (v : Vec A Global). enclosed_fits (elements_fit Fits) m n v.items) (λ (v : Vec A Global). AllByRecursion Can v.items)
+in_sequence_of {S = S} x =
+    element_keeps sequence_tag (list_laws x) (enclosed_begins (AnyElements S)) (not_end 16 (λ e. omega arith)) (omega arith)
+
+-- a SET OF
+pub in_set_of : {A : Type 0} {told : Bool} {ts : List Tag} {E : A → A → Type 0} {B : Grammar A} {S : Members} {form : Form A}
+    {Fits : Fitting A} {Can : A → Type 0} → IsNotation told ts E B S form Fits Can →
+    Keeps true (set_tag ∷ []) true (λ (v w : Vec A Global). SameSetOf E v.items w.items)
+    (λ u m n (v : Vec A Global) b. InSomeOrder (IsSetOf B (tag_or u set_tag)) m n v.items b) (λ u. AnySetOf S (tag_or u set_tag))
+    (λ u m (v : Vec A Global). sorted_set_of_form form (tag_or u set_tag) m v.items)
+    (λ m n (v : Vec A Global). enclosed_fits (elements_fit Fits) m n v.items) (λ (v : Vec A Global). AllByRecursion Can v.items)
+in_set_of {S = S} x =
+    element_keeps set_tag (set_of_laws x) (enclosed_begins (AnySetOfElements S)) (not_end 17 (λ e. omega arith)) (omega arith)
+
+-- under [k] EXPLICIT
+pub in_explicit : {A : Type 0} {told : Bool} {ts : List Tag} {E : A → A → Type 0} {B : Grammar A} {S : Members} {form : Form A} {Fits : Fitting A}
+    {Can : A → Type 0} (k : ℕ) → k < 2 ^ 64 → IsNotation told ts E B S form Fits Can →
+    Keeps true (context k ∷ []) true E (λ u. Enclosed B (tag_or u (context k))) (λ u. AnyEnclosed S (tag_or u (context k)))
+    (λ u. enclosed_form form (tag_or u (context k))) (enclosed_fits Fits) Can
+in_explicit {S = S} k range x = element_keeps (context k) (explicit_laws x) (enclosed_begins S) (context_not_end k) range
+
+-- under [k] IMPLICIT
+pub in_implicit : {A : Type 0} {told : Bool} {ts : List Tag} {E : A → A → Type 0} {B : Option Tag → Grammar A} {S : Option Tag → Members}
+    {form : Option Tag → Form A} {Fits : Fitting A} {Can : A → Type 0} (k : ℕ) → k < 2 ^ 64 → Keeps told ts true E B S form Fits Can →
+    Keeps true (context k ∷ []) true E (λ u. B (Some (tag_or u (context k)))) (λ u. S (Some (tag_or u (context k))))
+    (λ u. form (Some (tag_or u (context k)))) Fits Can
+in_implicit k range x = implicit_keeps {apart = true} {retagged = true} (context k) (λ _. x) refl (context_not_end k) range
+
+-- under [APPLICATION k] IMPLICIT
+pub in_application : {A : Type 0} {told : Bool} {ts : List Tag} {E : A → A → Type 0} {B : Option Tag → Grammar A} {S : Option Tag → Members}
+    {form : Option Tag → Form A} {Fits : Fitting A} {Can : A → Type 0} (k : ℕ) → k < 2 ^ 64 → Keeps told ts true E B S form Fits Can →
+    Keeps true (application k ∷ []) true E (λ u. B (Some (tag_or u (application k)))) (λ u. S (Some (tag_or u (application k))))
+    (λ u. form (Some (tag_or u (application k)))) Fits Can
+in_application k range x = implicit_keeps {apart = true} {retagged = true} (application k) (λ _. x) refl (application_not_end k) range
+
+-- a CHOICE: the last of its types, and one before others
+module _ {A : Type 0} {ts : List Tag} {E : A → A → Type 0} {B : Grammar A} {S : Members} {f : Form A} {P : Fitting A} {c : A → Type 0}
+    (first : IsNotation true ts E B S f P c) where
+  pub alternative : {V : Type 0} {us : List Tag} {F : V → V → Type 0} {C : Grammar V} {Q : Members} {g : Form V} {R : Fitting V} {d : V → Type 0} →
+      share_none ts us ≡ true → IsNotation true us F C Q g R d →
+      IsNotation true (ts ++ us) (λ v w. SameEither E F (sides v) (sides w)) (λ m n v b. EitherOf B C m n (sides v) b) (AnyEither S Q)
+      (λ m v. either_form f g m (sides v)) (λ m n v. either_fits P R m n (sides v)) (λ v. either_can c d (sides v))
+  alternative apart rest =
+      either_laws {told = true} {a = true} {b = true} (λ _. first) (λ _. rest)
+      (subst (λ z. true && (z && (true && true)) ≡ true) (sym apart) refl)
+
+pub alternative_filled : {A V : Type 0} {f : Form A} {g : Form V} → IsFilled f → IsFilled g → IsFilled (λ m v. either_form f g m (sides v))
+alternative_filled {f = f} {g = g} first rest m v = either_filled f g m (first m) (rest m) v
+
+pub in_choice : {A : Type 0} {ts : List Tag} {E : A → A → Type 0} {B : Grammar A} {S : Members} (form : Option Tag → Form A) {Fits : Fitting A}
+    {Can : A → Type 0} → IsNotation true ts E B S (form None) Fits Can → Keeps true ts false E (λ u. B) (λ u. S) form Fits Can
+in_choice form x = record { own = x; others = λ e. never_retagged e }
+
+-- a SEQUENCE OF or an INTEGER within bounds
+pub not_empty : {A : Type 0} {told : Bool} {ts : List Tag} {retagged : Bool} {E : A → A → Type 0} {B : Option Tag → Grammar (Vec A Global)}
+    {S : Option Tag → Members} {form : Option Tag → Form (Vec A Global)} {Fits : Fitting (Vec A Global)} {Can : Vec A Global → Type 0} →
+    Keeps told ts retagged (λ v w. Each E v.items w.items) B S form Fits Can →
+    Keeps told ts retagged (λ v w. Each E v.items w.items) (λ u. Within (λ v. nat_lt 0 (length v.items)) (B u))
+    (λ u. Any (Within (λ v. nat_lt 0 (length v.items)) (B u))) form (λ m n v. Fits m n v × (nat_lt 0 (length v.items) ≡ true))
+    (λ v. Can v × (nat_lt 0 (length v.items) ≡ true))
+not_empty {E = E} x = within_keeps (λ v. nat_lt 0 (length v.items)) (λ v w e. sizes_alike E (nat_lt 0) v.items w.items e) x
+
+pub at_most : {told : Bool} {ts : List Tag} {retagged : Bool} {B : Option Tag → Grammar ℕ} {S : Option Tag → Members} {form : Option Tag → Form ℕ}
+    {Fits : Fitting ℕ} {Can : ℕ → Type 0} (k : ℕ) → Keeps told ts retagged (λ v w. v ≡ w) B S form Fits Can →
+    Keeps told ts retagged (λ v w. v ≡ w) (λ u. Within (λ v. not (nat_lt k v)) (B u)) (λ u. Any (Within (λ v. not (nat_lt k v)) (B u))) form
+    (λ m n v. Fits m n v × (not (nat_lt k v) ≡ true)) (λ v. Can v × (not (nat_lt k v) ≡ true))
+at_most k x = within_keeps (λ v. not (nat_lt k v)) (λ v w e. passes_alike (λ n. not (nat_lt k n)) e) x

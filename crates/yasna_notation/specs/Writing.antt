@@ -1,0 +1,84 @@
+-- The laws of writing of a type that a module makes of others, from theirs.
+use Rattle.std.proofs.Common.{◌≡◌, ◌<◌, ◌^◌, ℕ, Bool, true, not, Option, Some, Vec, refl, arith}
+use Rattle.std.specs.Prelude.{nat_lt}
+use Rattle.std.specs.Global.{Global}
+use Rattle.std.specs.List.{AllByRecursion}
+use Rattle.yasna_base.specs.declared.tag.Tag.{Tag}
+use Rattle.yasna_base.specs.AnyOrder.{SameSetOf, InSomeOrder, sorted_set_of_form}
+use Rattle.yasna_base.specs.Canonical.{IsWritten, enclosed_form, enclosed_nest}
+use Rattle.yasna_base.specs.Choice.{EitherOf, SameEither, either_form, either_nest, either_can}
+use Rattle.yasna_base.specs.Element.{Enclosed}
+use Rattle.yasna_base.specs.Grammar.{Grammar, Form, Nest}
+use Rattle.yasna_base.specs.Identifier.{context, tag_or}
+use Rattle.yasna_base.specs.Optional.{OptionOf, SameOption, option_form, option_nest, option_can}
+use Rattle.yasna_base.specs.Pieces.{Each}
+use Rattle.yasna_base.specs.Sequence.{PartOf, SamePart, part_form, part_nest, part_can, sequence_tag}
+use Rattle.yasna_base.specs.SequenceOf.{IsListOf, elements_form, elements_nest}
+use Rattle.yasna_base.specs.Set.{IsSetOf, set_tag}
+use Rattle.yasna_base.specs.SetWriting.{set_of_nest}
+use Rattle.yasna_base.proofs.Canonical.{written_along, enclosed_written}
+use Rattle.yasna_base.proofs.ChoiceWriting.{choice_written}
+use Rattle.yasna_base.proofs.ExplicitTags.{context_not_end, tagged_written}
+use Rattle.yasna_base.proofs.Identifier.{not_end}
+use Rattle.yasna_base.proofs.Optional.{option_written}
+pub use Rattle.yasna_base.proofs.Sequence.{part_written, no_part_written}
+use Rattle.yasna_notation.specs.Bounded.{Within, passes_alike}
+use Rattle.yasna_notation.specs.Canonical.{element_written, list_under, set_of_under, bounded_written, implicit_written}
+use Rattle.yasna_notation.specs.Choices.{sides}
+use Rattle.yasna_notation.specs.Laws.{application, application_not_end}
+use Rattle.yasna_notation.specs.Notation.{IsWrittenAs}
+
+module _ {A V : Type 0} {E : A → A → Type 0} {F : V → V → Type 0} {B : Grammar A} {C : Grammar V} {f : Form A} {g : Form V} {k : Nest A} {l : Nest V}
+    {c : A → Type 0} {d : V → Type 0} (first : IsWritten E B f k c) (rest : IsWritten F C g l d) where
+  -- a part that may be left out, and others; `part_written` is that of one that is there
+  pub optional_written : IsWritten (SamePart (SameOption E) F) (PartOf (OptionOf B) C) (part_form (option_form f) g) (part_nest (option_nest k) l)
+      (part_can (option_can c) d)
+  optional_written = part_written (option_written first) rest
+
+  -- a type of a CHOICE, and others
+  pub alternative_written : IsWritten (λ v w. SameEither E F (sides v) (sides w)) (λ m n v b. EitherOf B C m n (sides v) b)
+      (λ m v. either_form f g m (sides v)) (λ m v. either_nest k l m (sides v)) (λ v. either_can c d (sides v))
+  alternative_written = written_along sides (choice_written first rest)
+
+module _ {A : Type 0} {E : A → A → Type 0} {B : Grammar A} {form : Form A} {nest : Nest A} {Can : A → Type 0} (x : IsWritten E B form nest Can) where
+  -- a SEQUENCE of parts
+  pub sequence_written : IsWrittenAs true E (λ u. Enclosed B (tag_or u sequence_tag)) (λ u. enclosed_form form (tag_or u sequence_tag))
+      (enclosed_nest nest) Can
+  sequence_written = element_written sequence_tag (λ t _ range. enclosed_written t range x) (not_end 16 (λ e. omega arith)) (omega arith)
+
+  -- a SEQUENCE OF
+  pub sequence_of_written : IsWrittenAs true (λ (v w : Vec A Global). Each E v.items w.items)
+      (λ u m n (v : Vec A Global) b. IsListOf B (tag_or u sequence_tag) m n v.items b)
+      (λ u m (v : Vec A Global). enclosed_form (elements_form form) (tag_or u sequence_tag) m v.items)
+      (λ m (v : Vec A Global). enclosed_nest (elements_nest nest) m v.items) (λ (v : Vec A Global). AllByRecursion Can v.items)
+  sequence_of_written = element_written sequence_tag (list_under x) (not_end 16 (λ e. omega arith)) (omega arith)
+
+  -- a SET OF
+  pub set_of_written : IsWrittenAs true (λ (v w : Vec A Global). SameSetOf E v.items w.items)
+      (λ u m n (v : Vec A Global) b. InSomeOrder (IsSetOf B (tag_or u set_tag)) m n v.items b)
+      (λ u m (v : Vec A Global). sorted_set_of_form form (tag_or u set_tag) m v.items)
+      (λ m (v : Vec A Global). set_of_nest nest m v.items) (λ (v : Vec A Global). AllByRecursion Can v.items)
+  set_of_written = element_written set_tag (set_of_under x) (not_end 17 (λ e. omega arith)) (omega arith)
+
+  -- under [k] EXPLICIT
+  pub explicit_written : (k : ℕ) → k < 2 ^ 64 → IsWrittenAs true E (λ u. Enclosed B (tag_or u (context k)))
+      (λ u. enclosed_form form (tag_or u (context k))) (enclosed_nest nest) Can
+  explicit_written k range = element_written (context k) (λ t _ fits. tagged_written t fits x) (context_not_end k) range
+
+-- under [k] IMPLICIT
+pub under_context : {A : Type 0} {E : A → A → Type 0} {B : Option Tag → Grammar A} {form : Option Tag → Form A} {nest : Nest A} {Can : A → Type 0}
+    (k : ℕ) → k < 2 ^ 64 → IsWrittenAs true E B form nest Can →
+    IsWrittenAs true E (λ u. B (Some (tag_or u (context k)))) (λ u. form (Some (tag_or u (context k)))) nest Can
+under_context k range x = implicit_written {apart = true} (context k) (λ _. x) refl (context_not_end k) range
+
+-- under [APPLICATION k] IMPLICIT
+pub under_application : {A : Type 0} {E : A → A → Type 0} {B : Option Tag → Grammar A} {form : Option Tag → Form A} {nest : Nest A} {Can : A → Type 0}
+    (k : ℕ) → k < 2 ^ 64 → IsWrittenAs true E B form nest Can →
+    IsWrittenAs true E (λ u. B (Some (tag_or u (application k)))) (λ u. form (Some (tag_or u (application k)))) nest Can
+under_application k range x = implicit_written {apart = true} (application k) (λ _. x) refl (application_not_end k) range
+
+-- an INTEGER within a bound
+pub at_most_written : {retagged : Bool} {B : Option Tag → Grammar ℕ} {form : Option Tag → Form ℕ} {nest : Nest ℕ} {Can : ℕ → Type 0} (k : ℕ) →
+    IsWrittenAs retagged (λ v w. v ≡ w) B form nest Can →
+    IsWrittenAs retagged (λ v w. v ≡ w) (λ u. Within (λ v. not (nat_lt k v)) (B u)) form nest (λ v. Can v × (not (nat_lt k v) ≡ true))
+at_most_written k x = bounded_written (λ v. not (nat_lt k v)) (λ v w e. passes_alike (λ n. not (nat_lt k n)) e) x

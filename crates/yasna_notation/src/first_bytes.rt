@@ -1,0 +1,57 @@
+//! The bytes of a SEQUENCE's first part, as who verifies a signature over it wants them.
+ghost use Rattle.std.specs.Prelude.{◌≡◌, ◌||◌, ◌&&◌, None, true};
+ghost use Rattle.yasna_base.specs.Sequence.{AnyPart};
+ghost use Rattle.yasna_reader.specs.State.{IsFresh, part_of};
+ghost use Rattle.yasna_notation.specs.FirstBytes.{PartsWithFirst};
+ghost use Rattle.yasna_notation.specs.Parts.{ReadsContents};
+
+use crate::notation::Notation;
+use crate::parts::Parts;
+use yasna_base::ASN1Result;
+use yasna_reader::BERReaderSeq;
+
+/// The values of a SEQUENCE's parts, and the bytes of the first.
+#[derive(Drop)]
+pub struct WithFirst<'a, V, W> {
+    /// The value of the first part.
+    pub first: V,
+    /// The values of the others.
+    pub others: W,
+    /// The bytes that the first part was read from: the input's own.
+    pub first_bytes: &'a [u8],
+}
+
+/// Reads parts up to the end of the contents, as `<(A, W)>::read_parts` does, and answers the bytes of the first beside its value.
+///
+/// What a SEQUENCE is read by is a function of types that are named, since the bytes borrow from the input:
+///
+/// ```rust
+/// fn read_parts<'a>(seq: &mut BERReaderSeq<'a, '_>) -> ASN1Result<WithFirst<'a, Body, (Signature, ())>> {
+///     read_parts_with_first::<Body, (Signature, ())>(seq)
+/// }
+///
+/// pub fn read_signed<'a>(reader: BERReader<'a, '_>) -> ASN1Result<WithFirst<'a, Body, (Signature, ())>> {
+///     reader.read_sequence(read_parts)
+/// }
+/// ```
+#[inline(always)]
+pub fn read_parts_with_first<'a, A: Notation, W: Parts>(
+    seq: &mut BERReaderSeq<'a, '_>,
+) -> ASN1Result<WithFirst<'a, A::Value, W::Values>>
+    requires apart { (A.apart && W.apart) ≡ true }
+    requires fresh { IsFresh (part_of seq.old) }
+    ensures { ReadsContents (A.means.asks_memory || W.asks_memory) (PartsWithFirst (A.means.under None) W.parts)
+        (AnyPart (A.means.any_under None) W.any_parts) (part_of seq.old) result (part_of seq.new) }
+{
+    match seq.next().read_with_buffer(|first| A::read(first)) {
+        Ok(first) => match W::read_parts(seq) {
+            Ok(others) => Ok(WithFirst {
+                first: first.0,
+                others,
+                first_bytes: first.1,
+            }),
+            Err(error) => Err(error),
+        },
+        Err(error) => Err(error),
+    }
+}
