@@ -1,15 +1,22 @@
-//! Values of variables of the Simple Network Management Protocol, SNMPv1 (RFC 1157) and SNMPv2c (RFC 1901 and RFC 3416).
+//! Messages of the Simple Network Management Protocol, SNMPv1 (RFC 1157) and SNMPv2c (RFC 1901 and RFC 3416).
+//!
+//! Each type is a notation of its own. `yasna_notation::Noted` of it has the traits, `DERCanonical` too: so `decode_ber` reads a
+//! `Noted<v2c::SnmpMessage>`, and `encode_der` writes it in its one form.
 //!
 //! | Module | Holds |
 //! |---|---|
-//! | `syntax` | the values of variables |
-//! | `bounds` | how many octets may stand in a string |
+//! | `v1` | messages of SNMPv1 |
+//! | `v2c` | messages of SNMPv2c |
+//! | `simple_syntax`, `application_syntax` | values of variables, of types of ASN.1's own and of those that SNMP adds |
+//! | `bounds` | how many octets or parts there may be, and which number a version is |
 #![tactic(auto)]
 
+mod application_syntax;
 mod bounds;
-mod syntax;
+mod simple_syntax;
+pub mod v1;
+pub mod v2c;
 
-pub use bounds::SizeAtMost;
-pub use syntax::{
-    ApplicationSyntax, Counter32, Counter64, IpAddress, Opaque, SimpleSyntax, TimeTicks, Unsigned32,
-};
+pub use application_syntax::ApplicationSyntax;
+pub use bounds::{Exactly, SizeAtMost};
+pub use simple_syntax::SimpleSyntax;

@@ -1,0 +1,68 @@
+//! Attributes, one or more (RFC 5652, 5.3 and 6.1).
+//!
+//! ```text
+//! SignedAttributes ::= SET SIZE (1..MAX) OF Attribute
+//!
+//! UnsignedAttributes ::= SET SIZE (1..MAX) OF Attribute
+//!
+//! UnprotectedAttributes ::= SET SIZE (1..MAX) OF Attribute
+//! ```
+ghost use Rattle.std.specs.Prelude.{◌≡◌, length, nat_lt, refl};
+ghost use Rattle.yasna_notation.specs.Bounded.{within_keeps, set_sizes_alike};
+ghost use Rattle.yasna_notation.specs.Laws.{standing_keeps, element_filled};
+ghost use Rattle.yasna_notation.specs.Making.{in_sequence, in_set_of, part};
+ghost use Rattle.yasna_notation.specs.Notation.{stands_for};
+ghost use Rattle.yasna_notation.specs.Parts.{no_parts};
+ghost use Rattle.yasna_notation.specs.contracts.simple.ObjectIdentifierNotation.TheImpl.Laws.{keeps-law as oid};
+ghost use Rattle.yasna_notation.specs.contracts.any.TaggedDerValueNotation.TheImpl.Laws.{keeps-law as any};
+
+use x509::Attribute;
+use yasna::{ASN1Result, BERReader, DERWriter, Tag};
+use yasna_notation::{Bounded, Defined, Message, NotEmpty, Notation, SetOf, StandsFor, read_as};
+
+type Set = Bounded<SetOf<Attribute>, NotEmpty>;
+
+/// Attributes, one or more. The digest of a signer's signed attributes is that of their DER encoding as these, not under `[0]`.
+#[derive(Drop)]
+pub struct Attributes {
+    pub attributes: Vec<Attribute>,
+}
+
+impl StandsFor<Vec<Attribute>> for Attributes {
+    ghost value_of = { λ v. v.attributes };
+
+    fn from_value(attributes: Vec<Attribute>) -> Attributes {
+        Attributes { attributes }
+    }
+}
+
+impl Notation for Attributes {
+    type Value = Attributes;
+
+    type Inner = ();
+
+    ghost means = { stands_for ⟦<Attributes as StandsFor<Vec<Attribute>>>⟧.value_of ⟦<Set as Notation>⟧.means };
+
+    fn has_tag(tag: Tag) -> bool {
+        <Set as Notation>::has_tag(tag)
+    }
+
+    fn read(reader: BERReader) -> ASN1Result<Attributes> {
+        read_as::<Set, Attributes>(reader)
+    }
+
+    fn write(value: &Attributes, writer: DERWriter<'_>) -> ASN1Result<()> {
+        <Set as Notation>::write(&value.attributes, writer)
+    }
+
+    ghost keeps = { λ _. standing_keeps ⟦<Attributes as StandsFor<Vec<Attribute>>>⟧.value_of
+        (within_keeps (λ v. nat_lt 0 (length v.items)) (λ v w e. set_sizes_alike _ (nat_lt 0) v.items w.items e)
+        (in_set_of (standing_keeps ⟦<Attribute as Defined>⟧.value_of
+        (in_sequence (part (oid refl).own (part (in_set_of (any refl).own).own no_parts)))).own)) };
+
+    ghost filled = { λ u m v. element_filled _ _ _ _ };
+}
+
+impl Message for Attributes {
+    ghost told_apart = { refl };
+}

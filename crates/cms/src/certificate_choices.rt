@@ -1,0 +1,143 @@
+//! Certificates of this format and of others (RFC 5652, 10.2.2).
+//!
+//! ```text
+//! CertificateChoices ::= CHOICE {
+//!     certificate          Certificate,
+//!     extendedCertificate  [0] IMPLICIT ExtendedCertificate,
+//!     v1AttrCert           [1] IMPLICIT AttributeCertificateV1,
+//!     v2AttrCert           [2] IMPLICIT AttributeCertificateV2,
+//!     other                [3] IMPLICIT OtherCertificateFormat }
+//!
+//! OtherCertificateFormat ::= SEQUENCE {
+//!     otherCertFormat  OBJECT IDENTIFIER,
+//!     otherCert        ANY DEFINED BY otherCertFormat }
+//! ```
+//!
+//! Those of the other formats are SEQUENCEs too. Their parts are kept as they came.
+ghost use Rattle.std.specs.Prelude.{◌≡◌, refl};
+ghost use Rattle.std.proofs.Common.{arith};
+ghost use Rattle.yasna_notation.specs.Choices.{either_filled};
+ghost use Rattle.yasna_notation.specs.Laws.{standing_keeps, element_filled};
+ghost use Rattle.yasna_notation.specs.Making.{in_sequence_of, in_choice, in_implicit, alternative};
+ghost use Rattle.yasna_notation.specs.Notation.{stands_for};
+ghost use Rattle.yasna_notation.specs.contracts.any.TaggedDerValueNotation.TheImpl.Laws.{keeps-law as any};
+ghost use Rattle.x509.specs.contracts.certificate.CertificateNotation.TheImpl.Laws.{keeps-law as certificate};
+ghost use Rattle.yasna_notation.specs.declared.choices.Either.TheVariants.{First, Second};
+ghost use Rattle.cms.specs.declared.certificate_choices.CertificateChoices.TheVariants.{Certificate as Plain};
+ghost use Rattle.cms.specs.declared.certificate_choices.CertificateChoices.TheVariants.{ExtendedCertificate, V1AttrCert, V2AttrCert, Other};
+
+use x509::Certificate;
+use yasna::models::TaggedDerValue;
+use yasna::{ASN1Result, BERReader, DERWriter, Tag};
+use yasna_notation::{
+    Alternatives, Choice, Context, Either, Implicit, Message, Notation, SequenceOf, StandsFor,
+    read_as,
+};
+
+type Extended = Implicit<Context<0>, SequenceOf<TaggedDerValue>>;
+
+type V1 = Implicit<Context<1>, SequenceOf<TaggedDerValue>>;
+
+type V2 = Implicit<Context<2>, SequenceOf<TaggedDerValue>>;
+
+type OtherFormat = Implicit<Context<3>, SequenceOf<TaggedDerValue>>;
+
+type LastFormats = (V2, (OtherFormat,));
+
+type AttributeFormats = (V1, LastFormats);
+
+type Formats = (Extended, AttributeFormats);
+
+type Types = (Certificate, Formats);
+
+type Kept = Vec<TaggedDerValue>;
+
+type Value = Either<Certificate, Either<Kept, Either<Kept, Either<Kept, Kept>>>>;
+
+/// A certificate, or the parts of one of another format as they came.
+#[derive(Drop)]
+pub enum CertificateChoices {
+    Certificate(Certificate),
+    ExtendedCertificate(Vec<TaggedDerValue>),
+    V1AttrCert(Vec<TaggedDerValue>),
+    V2AttrCert(Vec<TaggedDerValue>),
+    Other(Vec<TaggedDerValue>),
+}
+
+impl StandsFor<Value> for CertificateChoices {
+    ghost value_of = { λ v. elim v [
+      | Plain c ↦ First c
+      | ExtendedCertificate p ↦ Second (First p)
+      | V1AttrCert p ↦ Second (Second (First p))
+      | V2AttrCert p ↦ Second (Second (Second (First p)))
+      | Other p ↦ Second (Second (Second (Second p)))
+    ] };
+
+    fn from_value(value: Value) -> CertificateChoices {
+        let others = match value {
+            Either::First(certificate) => return CertificateChoices::Certificate(certificate),
+            Either::Second(others) => others,
+        };
+        let others = match others {
+            Either::First(parts) => return CertificateChoices::ExtendedCertificate(parts),
+            Either::Second(others) => others,
+        };
+        let others = match others {
+            Either::First(parts) => return CertificateChoices::V1AttrCert(parts),
+            Either::Second(others) => others,
+        };
+        match others {
+            Either::First(parts) => CertificateChoices::V2AttrCert(parts),
+            Either::Second(parts) => CertificateChoices::Other(parts),
+        }
+    }
+}
+
+impl Notation for CertificateChoices {
+    type Value = CertificateChoices;
+
+    type Inner = ();
+
+    ghost means = { stands_for ⟦<CertificateChoices as StandsFor<Value>>⟧.value_of ⟦<Choice<Types> as Notation>⟧.means };
+
+    fn has_tag(tag: Tag) -> bool {
+        <Choice<Types> as Notation>::has_tag(tag)
+    }
+
+    fn read(reader: BERReader) -> ASN1Result<CertificateChoices> {
+        read_as::<Choice<Types>, CertificateChoices>(reader)
+    }
+
+    fn write(value: &CertificateChoices, writer: DERWriter<'_>) -> ASN1Result<()> {
+        match value {
+            CertificateChoices::Certificate(certificate) => <Certificate as Notation>::write(
+                certificate,
+                writer,
+            ),
+            CertificateChoices::ExtendedCertificate(parts) => Extended::write(parts, writer),
+            CertificateChoices::V1AttrCert(parts) => V1::write(parts, writer),
+            CertificateChoices::V2AttrCert(parts) => V2::write(parts, writer),
+            CertificateChoices::Other(parts) => OtherFormat::write(parts, writer),
+        }
+    }
+
+    ghost keeps = { λ _. standing_keeps ⟦<CertificateChoices as StandsFor<Value>>⟧.value_of
+        (in_choice ⟦<Choice<Types> as Notation>⟧.means.form_under
+        (alternative (certificate refl).own refl
+        (alternative (in_implicit 0 (omega arith) (in_sequence_of (any refl).own)).own refl
+        (alternative (in_implicit 1 (omega arith) (in_sequence_of (any refl).own)).own refl
+        (alternative (in_implicit 2 (omega arith) (in_sequence_of (any refl).own)).own refl
+        (in_implicit 3 (omega arith) (in_sequence_of (any refl).own)).own))))) };
+
+    ghost filled = { λ u m v.
+        either_filled (⟦<Certificate as Notation>⟧.means.form_under u) (⟦<Formats as Alternatives>⟧.form_under u) m (λ c. element_filled _ _ _ _)
+        (either_filled (⟦<Extended as Notation>⟧.means.form_under u) (⟦<AttributeFormats as Alternatives>⟧.form_under u) m
+        (λ p. element_filled _ _ _ _)
+        (either_filled (⟦<V1 as Notation>⟧.means.form_under u) (⟦<LastFormats as Alternatives>⟧.form_under u) m (λ p. element_filled _ _ _ _)
+        (either_filled (⟦<V2 as Notation>⟧.means.form_under u) (⟦<OtherFormat as Notation>⟧.means.form_under u) m
+        (λ p. element_filled _ _ _ _) (λ p. element_filled _ _ _ _)))) (⟦<CertificateChoices as StandsFor<Value>>⟧.value_of v) };
+}
+
+impl Message for CertificateChoices {
+    ghost told_apart = { refl };
+}

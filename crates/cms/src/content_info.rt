@@ -1,0 +1,76 @@
+//! Contents of any type (RFC 5652, 3).
+//!
+//! ```text
+//! ContentInfo ::= SEQUENCE {
+//!     contentType  ContentType,
+//!     content      [0] EXPLICIT ANY DEFINED BY contentType }
+//!
+//! ContentType ::= OBJECT IDENTIFIER
+//! ```
+ghost use Rattle.std.specs.Prelude.{◌≡◌, refl};
+ghost use Rattle.std.proofs.Common.{arith};
+ghost use Rattle.yasna_notation.specs.Laws.{standing_keeps, element_filled};
+ghost use Rattle.yasna_notation.specs.Making.{in_sequence, part, in_explicit};
+ghost use Rattle.yasna_notation.specs.Notation.{stands_for};
+ghost use Rattle.yasna_notation.specs.Parts.{no_parts};
+ghost use Rattle.yasna_notation.specs.contracts.simple.ObjectIdentifierNotation.TheImpl.Laws.{keeps-law as oid};
+ghost use Rattle.yasna_notation.specs.contracts.any.TaggedDerValueNotation.TheImpl.Laws.{keeps-law as any};
+
+use yasna::models::{ObjectIdentifier, TaggedDerValue};
+use yasna::{ASN1Result, BERReader, DERWriter, Tag};
+use yasna_notation::{Context, Explicit, Message, Notation, Sequence, StandsFor, read_as};
+
+type Content = Explicit<Context<0>, TaggedDerValue>;
+
+type Parts = (ObjectIdentifier, (Content, ()));
+
+type Fields = (ObjectIdentifier, (TaggedDerValue, ()));
+
+/// Contents, as they came, and their type.
+#[derive(Drop)]
+pub struct ContentInfo {
+    pub content_type: ObjectIdentifier,
+    pub content: TaggedDerValue,
+}
+
+impl StandsFor<Fields> for ContentInfo {
+    ghost value_of = { λ v. (v.content_type, (v.content, tt)) };
+
+    fn from_value(fields: Fields) -> ContentInfo {
+        let (content_type, others) = fields;
+        let (content, ()) = others;
+        ContentInfo {
+            content_type,
+            content,
+        }
+    }
+}
+
+impl Notation for ContentInfo {
+    type Value = ContentInfo;
+
+    type Inner = ();
+
+    ghost means = { stands_for ⟦<ContentInfo as StandsFor<Fields>>⟧.value_of ⟦<Sequence<Parts> as Notation>⟧.means };
+
+    fn has_tag(tag: Tag) -> bool {
+        <Sequence<Parts> as Notation>::has_tag(tag)
+    }
+
+    fn read(reader: BERReader) -> ASN1Result<ContentInfo> {
+        read_as::<Sequence<Parts>, ContentInfo>(reader)
+    }
+
+    fn write(value: &ContentInfo, writer: DERWriter<'_>) -> ASN1Result<()> {
+        Sequence::<Parts>::write_fields((&value.content_type, (&value.content, ())), writer)
+    }
+
+    ghost keeps = { λ _. standing_keeps ⟦<ContentInfo as StandsFor<Fields>>⟧.value_of
+        (in_sequence (part (oid refl).own (part (in_explicit 0 (omega arith) (any refl).own).own no_parts))) };
+
+    ghost filled = { λ u m v. element_filled _ _ _ _ };
+}
+
+impl Message for ContentInfo {
+    ghost told_apart = { refl };
+}

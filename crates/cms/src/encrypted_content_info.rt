@@ -1,0 +1,103 @@
+//! What is encrypted (RFC 5652, 6.1).
+//!
+//! ```text
+//! EncryptedContentInfo ::= SEQUENCE {
+//!     contentType                 ContentType,
+//!     contentEncryptionAlgorithm  ContentEncryptionAlgorithmIdentifier,
+//!     encryptedContent            [0] IMPLICIT EncryptedContent OPTIONAL }
+//!
+//! ContentType ::= OBJECT IDENTIFIER
+//!
+//! ContentEncryptionAlgorithmIdentifier ::= AlgorithmIdentifier
+//!
+//! EncryptedContent ::= OCTET STRING
+//! ```
+ghost use Rattle.std.specs.Prelude.{◌≡◌, refl};
+ghost use Rattle.std.proofs.Common.{arith};
+ghost use Rattle.yasna_notation.specs.Laws.{standing_keeps, element_filled};
+ghost use Rattle.yasna_notation.specs.Making.{in_sequence, part, optional_part, in_implicit};
+ghost use Rattle.yasna_notation.specs.Notation.{stands_for};
+ghost use Rattle.yasna_notation.specs.Parts.{no_parts};
+ghost use Rattle.yasna_notation.specs.contracts.simple.ObjectIdentifierNotation.TheImpl.Laws.{keeps-law as oid};
+ghost use Rattle.yasna_notation.specs.contracts.strings.VecU8Notation.TheImpl.Laws.{keeps-law as octets};
+ghost use Rattle.x509.specs.contracts.algorithm.AlgorithmIdentifierNotation.TheImpl.Laws.{keeps-law as algorithm};
+
+use x509::AlgorithmIdentifier;
+use yasna::models::ObjectIdentifier;
+use yasna::{ASN1Result, BERReader, DERWriter, Tag};
+use yasna_notation::{
+    Context, Implicit, Message, Notation, Optional, Sequence, StandsFor, read_as,
+};
+
+type EncryptedContent = Optional<Implicit<Context<0>, Vec<u8>>>;
+
+type Parts = (
+    ObjectIdentifier,
+    (AlgorithmIdentifier, (EncryptedContent, ())),
+);
+
+type Fields = (
+    ObjectIdentifier,
+    (AlgorithmIdentifier, (Option<Vec<u8>>, ())),
+);
+
+/// What is encrypted: its type, the algorithm, and the octets that came of it, unless they stand elsewhere.
+#[derive(Drop)]
+pub struct EncryptedContentInfo {
+    pub content_type: ObjectIdentifier,
+    pub content_encryption_algorithm: AlgorithmIdentifier,
+    pub encrypted_content: Option<Vec<u8>>,
+}
+
+impl StandsFor<Fields> for EncryptedContentInfo {
+    ghost value_of = { λ v. (v.content_type, (v.content_encryption_algorithm, (v.encrypted_content, tt))) };
+
+    fn from_value(fields: Fields) -> EncryptedContentInfo {
+        let (content_type, others) = fields;
+        let (content_encryption_algorithm, others) = others;
+        let (encrypted_content, ()) = others;
+        EncryptedContentInfo {
+            content_type,
+            content_encryption_algorithm,
+            encrypted_content,
+        }
+    }
+}
+
+impl Notation for EncryptedContentInfo {
+    type Value = EncryptedContentInfo;
+
+    type Inner = ();
+
+    ghost means = { stands_for ⟦<EncryptedContentInfo as StandsFor<Fields>>⟧.value_of ⟦<Sequence<Parts> as Notation>⟧.means };
+
+    fn has_tag(tag: Tag) -> bool {
+        <Sequence<Parts> as Notation>::has_tag(tag)
+    }
+
+    fn read(reader: BERReader) -> ASN1Result<EncryptedContentInfo> {
+        read_as::<Sequence<Parts>, EncryptedContentInfo>(reader)
+    }
+
+    fn write(value: &EncryptedContentInfo, writer: DERWriter<'_>) -> ASN1Result<()> {
+        Sequence::<Parts>::write_fields(
+            (
+                &value.content_type,
+                (
+                    &value.content_encryption_algorithm,
+                    (&value.encrypted_content, ()),
+                ),
+            ),
+            writer,
+        )
+    }
+
+    ghost keeps = { λ _. standing_keeps ⟦<EncryptedContentInfo as StandsFor<Fields>>⟧.value_of
+        (in_sequence (part (oid refl).own (part (algorithm refl).own (optional_part refl (in_implicit 0 (omega arith) (octets refl)).own no_parts)))) };
+
+    ghost filled = { λ u m v. element_filled _ _ _ _ };
+}
+
+impl Message for EncryptedContentInfo {
+    ghost told_apart = { refl };
+}

@@ -1,0 +1,134 @@
+//! Encrypted contents, for some who receive them (RFC 5652, 6.1).
+//!
+//! ```text
+//! EnvelopedData ::= SEQUENCE {
+//!     version               CMSVersion,
+//!     originatorInfo        [0] IMPLICIT OriginatorInfo OPTIONAL,
+//!     recipientInfos        RecipientInfos,
+//!     encryptedContentInfo  EncryptedContentInfo,
+//!     unprotectedAttrs      [1] IMPLICIT UnprotectedAttributes OPTIONAL }
+//!
+//! CMSVersion ::= INTEGER { v0(0), v1(1), v2(2), v3(3), v4(4), v5(5) }
+//!
+//! RecipientInfos ::= SET SIZE (1..MAX) OF RecipientInfo
+//! ```
+//!
+//! An OriginatorInfo is a SEQUENCE. Its parts are kept as they came, and so is each RecipientInfo.
+ghost use Rattle.std.specs.Prelude.{◌≡◌, length, nat_lt, refl};
+ghost use Rattle.std.proofs.Common.{arith};
+ghost use Rattle.yasna_notation.specs.Bounded.{within_keeps, set_sizes_alike};
+ghost use Rattle.yasna_notation.specs.Laws.{standing_keeps, element_filled};
+ghost use Rattle.yasna_notation.specs.Making.{in_sequence, in_sequence_of, in_set_of, part, optional_part, in_implicit, at_most};
+ghost use Rattle.yasna_notation.specs.Notation.{stands_for};
+ghost use Rattle.yasna_notation.specs.Parts.{no_parts};
+ghost use Rattle.yasna_notation.specs.contracts.simple.U64Notation.TheImpl.Laws.{keeps-law as number};
+ghost use Rattle.yasna_notation.specs.contracts.any.TaggedDerValueNotation.TheImpl.Laws.{keeps-law as any};
+ghost use Rattle.cms.specs.contracts.encrypted_content_info.EncryptedContentInfoNotation.TheImpl.Laws.{keeps-law as encrypted};
+ghost use Rattle.cms.specs.contracts.attributes.AttributesNotation.TheImpl.Laws.{keeps-law as attributes};
+
+use crate::attributes::Attributes;
+use crate::encrypted_content_info::EncryptedContentInfo;
+use yasna::models::TaggedDerValue;
+use yasna::{ASN1Result, BERReader, DERWriter, Tag};
+use yasna_notation::{
+    AtMost, Bounded, Context, Implicit, Message, NotEmpty, Notation, Optional, Sequence,
+    SequenceOf, SetOf, StandsFor, read_as,
+};
+
+type Version = Bounded<u64, AtMost<5>>;
+
+type OriginatorInfo = Optional<Implicit<Context<0>, SequenceOf<TaggedDerValue>>>;
+
+type RecipientInfos = Bounded<SetOf<TaggedDerValue>, NotEmpty>;
+
+type UnprotectedAttributes = Optional<Implicit<Context<1>, Attributes>>;
+
+type Ends = (EncryptedContentInfo, (UnprotectedAttributes, ()));
+
+type Parts = (Version, (OriginatorInfo, (RecipientInfos, Ends)));
+
+type EndFields = (EncryptedContentInfo, (Option<Attributes>, ()));
+
+type Fields = (
+    u64,
+    (
+        Option<Vec<TaggedDerValue>>,
+        (Vec<TaggedDerValue>, EndFields),
+    ),
+);
+
+/// Encrypted contents, and for each who receives them what gives the key.
+#[derive(Drop)]
+pub struct EnvelopedData {
+    /// From 0 to 5.
+    pub version: u64,
+    pub originator_info: Option<Vec<TaggedDerValue>>,
+    pub recipient_infos: Vec<TaggedDerValue>,
+    pub encrypted_content_info: EncryptedContentInfo,
+    pub unprotected_attrs: Option<Attributes>,
+}
+
+impl StandsFor<Fields> for EnvelopedData {
+    ghost value_of = { λ v. (v.version, (v.originator_info, (v.recipient_infos, (v.encrypted_content_info, (v.unprotected_attrs, tt))))) };
+
+    fn from_value(fields: Fields) -> EnvelopedData {
+        let (version, others) = fields;
+        let (originator_info, others) = others;
+        let (recipient_infos, others) = others;
+        let (encrypted_content_info, others) = others;
+        let (unprotected_attrs, ()) = others;
+        EnvelopedData {
+            version,
+            originator_info,
+            recipient_infos,
+            encrypted_content_info,
+            unprotected_attrs,
+        }
+    }
+}
+
+impl Notation for EnvelopedData {
+    type Value = EnvelopedData;
+
+    type Inner = ();
+
+    ghost means = { stands_for ⟦<EnvelopedData as StandsFor<Fields>>⟧.value_of ⟦<Sequence<Parts> as Notation>⟧.means };
+
+    fn has_tag(tag: Tag) -> bool {
+        <Sequence<Parts> as Notation>::has_tag(tag)
+    }
+
+    fn read(reader: BERReader) -> ASN1Result<EnvelopedData> {
+        read_as::<Sequence<Parts>, EnvelopedData>(reader)
+    }
+
+    fn write(value: &EnvelopedData, writer: DERWriter<'_>) -> ASN1Result<()> {
+        Sequence::<Parts>::write_fields(
+            (
+                &value.version,
+                (
+                    &value.originator_info,
+                    (
+                        &value.recipient_infos,
+                        (
+                            &value.encrypted_content_info,
+                            (&value.unprotected_attrs, ()),
+                        ),
+                    ),
+                ),
+            ),
+            writer,
+        )
+    }
+
+    ghost keeps = { λ _. standing_keeps ⟦<EnvelopedData as StandsFor<Fields>>⟧.value_of
+        (in_sequence (part (at_most 5 (number refl)).own (optional_part refl (in_implicit 0 (omega arith) (in_sequence_of (any refl).own)).own
+        (part (within_keeps (λ v. nat_lt 0 (length v.items)) (λ v w e. set_sizes_alike _ (nat_lt 0) v.items w.items e) (in_set_of (any refl).own)).own
+        (part (encrypted refl).own (optional_part refl (in_implicit 1 (omega arith) (attributes refl)).own no_parts)))))) };
+
+    ghost filled = { λ u m v. element_filled _ _ _ _ };
+}
+
+impl Message for EnvelopedData {
+    ghost told_apart = { refl };
+}

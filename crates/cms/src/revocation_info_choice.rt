@@ -1,0 +1,89 @@
+//! Revocation lists of this format and of others (RFC 5652, 10.2.1).
+//!
+//! ```text
+//! RevocationInfoChoice ::= CHOICE {
+//!     crl    CertificateList,
+//!     other  [1] IMPLICIT OtherRevocationInfoFormat }
+//!
+//! OtherRevocationInfoFormat ::= SEQUENCE {
+//!     otherRevInfoFormat  OBJECT IDENTIFIER,
+//!     otherRevInfo        ANY DEFINED BY otherRevInfoFormat }
+//! ```
+//!
+//! The parts of one of another format are kept as they came.
+ghost use Rattle.std.specs.Prelude.{◌≡◌, refl};
+ghost use Rattle.std.proofs.Common.{arith};
+ghost use Rattle.yasna_notation.specs.Choices.{either_filled};
+ghost use Rattle.yasna_notation.specs.Laws.{standing_keeps, element_filled};
+ghost use Rattle.yasna_notation.specs.Making.{in_sequence_of, in_choice, in_implicit, alternative};
+ghost use Rattle.yasna_notation.specs.Notation.{stands_for};
+ghost use Rattle.yasna_notation.specs.contracts.any.TaggedDerValueNotation.TheImpl.Laws.{keeps-law as any};
+ghost use Rattle.x509.specs.contracts.certificate_list.CertificateListNotation.TheImpl.Laws.{keeps-law as list};
+ghost use Rattle.yasna_notation.specs.declared.choices.Either.TheVariants.{First, Second};
+ghost use Rattle.cms.specs.declared.revocation_info_choice.RevocationInfoChoice.TheVariants.{Crl, Other};
+
+use x509::CertificateList;
+use yasna::models::TaggedDerValue;
+use yasna::{ASN1Result, BERReader, DERWriter, Tag};
+use yasna_notation::{
+    Choice, Context, Either, Implicit, Message, Notation, SequenceOf, StandsFor, read_as,
+};
+
+type OtherFormat = Implicit<Context<1>, SequenceOf<TaggedDerValue>>;
+
+type Types = (CertificateList, (OtherFormat,));
+
+type Value = Either<CertificateList, Vec<TaggedDerValue>>;
+
+/// A revocation list, or the parts of what another format has for one as they came.
+#[derive(Drop)]
+pub enum RevocationInfoChoice {
+    Crl(CertificateList),
+    Other(Vec<TaggedDerValue>),
+}
+
+impl StandsFor<Value> for RevocationInfoChoice {
+    ghost value_of = { λ v. elim v [ Crl c ↦ First c | Other p ↦ Second p ] };
+
+    fn from_value(value: Value) -> RevocationInfoChoice {
+        match value {
+            Either::First(list) => RevocationInfoChoice::Crl(list),
+            Either::Second(parts) => RevocationInfoChoice::Other(parts),
+        }
+    }
+}
+
+impl Notation for RevocationInfoChoice {
+    type Value = RevocationInfoChoice;
+
+    type Inner = ();
+
+    ghost means = { stands_for ⟦<RevocationInfoChoice as StandsFor<Value>>⟧.value_of ⟦<Choice<Types> as Notation>⟧.means };
+
+    fn has_tag(tag: Tag) -> bool {
+        <Choice<Types> as Notation>::has_tag(tag)
+    }
+
+    fn read(reader: BERReader) -> ASN1Result<RevocationInfoChoice> {
+        read_as::<Choice<Types>, RevocationInfoChoice>(reader)
+    }
+
+    fn write(value: &RevocationInfoChoice, writer: DERWriter<'_>) -> ASN1Result<()> {
+        match value {
+            RevocationInfoChoice::Crl(list) => <CertificateList as Notation>::write(list, writer),
+            RevocationInfoChoice::Other(parts) => OtherFormat::write(parts, writer),
+        }
+    }
+
+    ghost keeps = { λ _. standing_keeps ⟦<RevocationInfoChoice as StandsFor<Value>>⟧.value_of
+        (in_choice ⟦<Choice<Types> as Notation>⟧.means.form_under
+        (alternative (list refl).own refl (in_implicit 1 (omega arith) (in_sequence_of (any refl).own)).own)) };
+
+    ghost filled = { λ u m v.
+        either_filled (⟦<CertificateList as Notation>⟧.means.form_under u) (⟦<OtherFormat as Notation>⟧.means.form_under u) m
+        (λ c. element_filled _ _ _ _) (λ p. element_filled _ _ _ _) (⟦<RevocationInfoChoice as StandsFor<Value>>⟧.value_of v) };
+}
+
+impl Message for RevocationInfoChoice {
+    ghost told_apart = { refl };
+}

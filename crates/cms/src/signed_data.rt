@@ -1,0 +1,150 @@
+//! Signed contents (RFC 5652, 5.1).
+//!
+//! ```text
+//! SignedData ::= SEQUENCE {
+//!     version           CMSVersion,
+//!     digestAlgorithms  DigestAlgorithmIdentifiers,
+//!     encapContentInfo  EncapsulatedContentInfo,
+//!     certificates      [0] IMPLICIT CertificateSet OPTIONAL,
+//!     crls              [1] IMPLICIT RevocationInfoChoices OPTIONAL,
+//!     signerInfos       SignerInfos }
+//!
+//! CMSVersion ::= INTEGER { v0(0), v1(1), v2(2), v3(3), v4(4), v5(5) }
+//!
+//! DigestAlgorithmIdentifiers ::= SET OF DigestAlgorithmIdentifier
+//!
+//! CertificateSet ::= SET OF CertificateChoices
+//!
+//! RevocationInfoChoices ::= SET OF RevocationInfoChoice
+//!
+//! SignerInfos ::= SET OF SignerInfo
+//! ```
+ghost use Rattle.std.specs.Prelude.{◌≡◌, refl};
+ghost use Rattle.std.proofs.Common.{arith};
+ghost use Rattle.yasna_notation.specs.Laws.{standing_keeps, element_filled};
+ghost use Rattle.yasna_notation.specs.Making.{in_sequence, in_set_of, part, optional_part, in_implicit, at_most};
+ghost use Rattle.yasna_notation.specs.Notation.{stands_for};
+ghost use Rattle.yasna_notation.specs.Parts.{no_parts};
+ghost use Rattle.yasna_notation.specs.contracts.simple.U64Notation.TheImpl.Laws.{keeps-law as number};
+ghost use Rattle.x509.specs.contracts.algorithm.AlgorithmIdentifierNotation.TheImpl.Laws.{keeps-law as algorithm};
+ghost use Rattle.cms.specs.contracts.encapsulated_content_info.EncapsulatedContentInfoNotation.TheImpl.Laws.{keeps-law as encapsulated};
+ghost use Rattle.cms.specs.contracts.certificate_choices.CertificateChoicesNotation.TheImpl.Laws.{keeps-law as certificates};
+ghost use Rattle.cms.specs.contracts.revocation_info_choice.RevocationInfoChoiceNotation.TheImpl.Laws.{keeps-law as revocation};
+ghost use Rattle.cms.specs.contracts.signer_info.SignerInfoNotation.TheImpl.Laws.{keeps-law as signer_info};
+
+use crate::certificate_choices::CertificateChoices;
+use crate::encapsulated_content_info::EncapsulatedContentInfo;
+use crate::revocation_info_choice::RevocationInfoChoice;
+use crate::signer_info::SignerInfo;
+use x509::AlgorithmIdentifier;
+use yasna::{ASN1Result, BERReader, DERWriter, Tag};
+use yasna_notation::{
+    AtMost, Bounded, Context, Implicit, Message, Notation, Optional, Sequence, SetOf, StandsFor,
+    read_as,
+};
+
+type Version = Bounded<u64, AtMost<5>>;
+
+type CertificateSet = Optional<Implicit<Context<0>, SetOf<CertificateChoices>>>;
+
+type RevocationInfoChoices = Optional<Implicit<Context<1>, SetOf<RevocationInfoChoice>>>;
+
+type Ends = (
+    CertificateSet,
+    (RevocationInfoChoices, (SetOf<SignerInfo>, ())),
+);
+
+type Content = (SetOf<AlgorithmIdentifier>, (EncapsulatedContentInfo, Ends));
+
+type Parts = (Version, Content);
+
+type EndFields = (
+    Option<Vec<CertificateChoices>>,
+    (Option<Vec<RevocationInfoChoice>>, (Vec<SignerInfo>, ())),
+);
+
+type ContentFields = (
+    Vec<AlgorithmIdentifier>,
+    (EncapsulatedContentInfo, EndFields),
+);
+
+type Fields = (u64, ContentFields);
+
+/// Signed contents, with what their signers gave.
+#[derive(Drop)]
+pub struct SignedData {
+    /// From 0 to 5.
+    pub version: u64,
+    pub digest_algorithms: Vec<AlgorithmIdentifier>,
+    pub encap_content_info: EncapsulatedContentInfo,
+    pub certificates: Option<Vec<CertificateChoices>>,
+    pub crls: Option<Vec<RevocationInfoChoice>>,
+    pub signer_infos: Vec<SignerInfo>,
+}
+
+impl StandsFor<Fields> for SignedData {
+    ghost value_of = { λ v. (v.version, (v.digest_algorithms, (v.encap_content_info, (v.certificates, (v.crls, (v.signer_infos, tt)))))) };
+
+    fn from_value(fields: Fields) -> SignedData {
+        let (version, others) = fields;
+        let (digest_algorithms, others) = others;
+        let (encap_content_info, others) = others;
+        let (certificates, others) = others;
+        let (crls, others) = others;
+        let (signer_infos, ()) = others;
+        SignedData {
+            version,
+            digest_algorithms,
+            encap_content_info,
+            certificates,
+            crls,
+            signer_infos,
+        }
+    }
+}
+
+impl Notation for SignedData {
+    type Value = SignedData;
+
+    type Inner = ();
+
+    ghost means = { stands_for ⟦<SignedData as StandsFor<Fields>>⟧.value_of ⟦<Sequence<Parts> as Notation>⟧.means };
+
+    fn has_tag(tag: Tag) -> bool {
+        <Sequence<Parts> as Notation>::has_tag(tag)
+    }
+
+    fn read(reader: BERReader) -> ASN1Result<SignedData> {
+        read_as::<Sequence<Parts>, SignedData>(reader)
+    }
+
+    fn write(value: &SignedData, writer: DERWriter<'_>) -> ASN1Result<()> {
+        Sequence::<Parts>::write_fields(
+            (
+                &value.version,
+                (
+                    &value.digest_algorithms,
+                    (
+                        &value.encap_content_info,
+                        (
+                            &value.certificates,
+                            (&value.crls, (&value.signer_infos, ())),
+                        ),
+                    ),
+                ),
+            ),
+            writer,
+        )
+    }
+
+    ghost keeps = { λ _. standing_keeps ⟦<SignedData as StandsFor<Fields>>⟧.value_of
+        (in_sequence (part (at_most 5 (number refl)).own (part (in_set_of (algorithm refl).own).own (part (encapsulated refl).own
+        (optional_part refl (in_implicit 0 (omega arith) (in_set_of (certificates refl).own)).own
+        (optional_part refl (in_implicit 1 (omega arith) (in_set_of (revocation refl).own)).own (part (in_set_of (signer_info refl).own).own no_parts))))))) };
+
+    ghost filled = { λ u m v. element_filled _ _ _ _ };
+}
+
+impl Message for SignedData {
+    ghost told_apart = { refl };
+}

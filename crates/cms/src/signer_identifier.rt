@@ -1,0 +1,83 @@
+//! Which certificate is a signer's (RFC 5652, 5.3).
+//!
+//! ```text
+//! SignerIdentifier ::= CHOICE {
+//!     issuerAndSerialNumber  IssuerAndSerialNumber,
+//!     subjectKeyIdentifier   [0] IMPLICIT SubjectKeyIdentifier }
+//!
+//! SubjectKeyIdentifier ::= OCTET STRING
+//! ```
+ghost use Rattle.std.specs.Prelude.{◌≡◌, refl};
+ghost use Rattle.std.proofs.Common.{arith};
+ghost use Rattle.yasna_notation.specs.Choices.{either_filled};
+ghost use Rattle.yasna_notation.specs.Laws.{standing_keeps, element_filled, octets_filled};
+ghost use Rattle.yasna_notation.specs.Making.{in_choice, in_implicit, alternative};
+ghost use Rattle.yasna_notation.specs.Notation.{stands_for};
+ghost use Rattle.cms.specs.contracts.issuer_and_serial_number.IssuerAndSerialNumberNotation.TheImpl.Laws.{keeps-law as issuer_serial};
+ghost use Rattle.yasna_notation.specs.contracts.strings.VecU8Notation.TheImpl.Laws.{keeps-law as octets};
+ghost use Rattle.yasna_notation.specs.declared.choices.Either.TheVariants.{First, Second};
+ghost use Rattle.cms.specs.declared.signer_identifier.SignerIdentifier.TheVariants.{IssuerAndSerialNumber as ByNumber, SubjectKeyIdentifier as ByKey};
+
+use crate::issuer_and_serial_number::IssuerAndSerialNumber;
+use yasna::{ASN1Result, BERReader, DERWriter, Tag};
+use yasna_notation::{Choice, Context, Either, Implicit, Message, Notation, StandsFor, read_as};
+
+type KeyIdentifier = Implicit<Context<0>, Vec<u8>>;
+
+type Types = (IssuerAndSerialNumber, (KeyIdentifier,));
+
+type Value = Either<IssuerAndSerialNumber, Vec<u8>>;
+
+/// Which certificate is a signer's: by its issuer and number, or by its key.
+#[derive(Drop)]
+pub enum SignerIdentifier {
+    IssuerAndSerialNumber(IssuerAndSerialNumber),
+    SubjectKeyIdentifier(Vec<u8>),
+}
+
+impl StandsFor<Value> for SignerIdentifier {
+    ghost value_of = { λ v. elim v [ ByNumber i ↦ First i | ByKey k ↦ Second k ] };
+
+    fn from_value(value: Value) -> SignerIdentifier {
+        match value {
+            Either::First(certificate) => SignerIdentifier::IssuerAndSerialNumber(certificate),
+            Either::Second(key) => SignerIdentifier::SubjectKeyIdentifier(key),
+        }
+    }
+}
+
+impl Notation for SignerIdentifier {
+    type Value = SignerIdentifier;
+
+    type Inner = ();
+
+    ghost means = { stands_for ⟦<SignerIdentifier as StandsFor<Value>>⟧.value_of ⟦<Choice<Types> as Notation>⟧.means };
+
+    fn has_tag(tag: Tag) -> bool {
+        <Choice<Types> as Notation>::has_tag(tag)
+    }
+
+    fn read(reader: BERReader) -> ASN1Result<SignerIdentifier> {
+        read_as::<Choice<Types>, SignerIdentifier>(reader)
+    }
+
+    fn write(value: &SignerIdentifier, writer: DERWriter<'_>) -> ASN1Result<()> {
+        match value {
+            SignerIdentifier::IssuerAndSerialNumber(certificate) =>
+                <IssuerAndSerialNumber as Notation>::write(certificate, writer),
+            SignerIdentifier::SubjectKeyIdentifier(key) => KeyIdentifier::write(key, writer),
+        }
+    }
+
+    ghost keeps = { λ _. standing_keeps ⟦<SignerIdentifier as StandsFor<Value>>⟧.value_of
+        (in_choice ⟦<Choice<Types> as Notation>⟧.means.form_under
+        (alternative (issuer_serial refl).own refl (in_implicit 0 (omega arith) (octets refl)).own)) };
+
+    ghost filled = { λ u m v.
+        either_filled (⟦<IssuerAndSerialNumber as Notation>⟧.means.form_under u) (⟦<KeyIdentifier as Notation>⟧.means.form_under u) m
+        (λ i. element_filled _ _ _ _) (λ k. octets_filled _ m k.items) (⟦<SignerIdentifier as StandsFor<Value>>⟧.value_of v) };
+}
+
+impl Message for SignerIdentifier {
+    ghost told_apart = { refl };
+}

@@ -1,0 +1,142 @@
+//! What a signer gives (RFC 5652, 5.3).
+//!
+//! ```text
+//! SignerInfo ::= SEQUENCE {
+//!     version             CMSVersion,
+//!     sid                 SignerIdentifier,
+//!     digestAlgorithm     DigestAlgorithmIdentifier,
+//!     signedAttrs         [0] IMPLICIT SignedAttributes OPTIONAL,
+//!     signatureAlgorithm  SignatureAlgorithmIdentifier,
+//!     signature           SignatureValue,
+//!     unsignedAttrs       [1] IMPLICIT UnsignedAttributes OPTIONAL }
+//!
+//! CMSVersion ::= INTEGER { v0(0), v1(1), v2(2), v3(3), v4(4), v5(5) }
+//!
+//! DigestAlgorithmIdentifier ::= AlgorithmIdentifier
+//!
+//! SignatureAlgorithmIdentifier ::= AlgorithmIdentifier
+//!
+//! SignatureValue ::= OCTET STRING
+//! ```
+ghost use Rattle.std.specs.Prelude.{◌≡◌, refl};
+ghost use Rattle.std.proofs.Common.{arith};
+ghost use Rattle.yasna_notation.specs.Laws.{standing_keeps, element_filled};
+ghost use Rattle.yasna_notation.specs.Making.{in_sequence, part, optional_part, in_implicit, at_most};
+ghost use Rattle.yasna_notation.specs.Notation.{stands_for};
+ghost use Rattle.yasna_notation.specs.Parts.{no_parts};
+ghost use Rattle.yasna_notation.specs.contracts.simple.U64Notation.TheImpl.Laws.{keeps-law as number};
+ghost use Rattle.yasna_notation.specs.contracts.strings.VecU8Notation.TheImpl.Laws.{keeps-law as octets};
+ghost use Rattle.x509.specs.contracts.algorithm.AlgorithmIdentifierNotation.TheImpl.Laws.{keeps-law as algorithm};
+ghost use Rattle.cms.specs.contracts.signer_identifier.SignerIdentifierNotation.TheImpl.Laws.{keeps-law as signer};
+ghost use Rattle.cms.specs.contracts.attributes.AttributesNotation.TheImpl.Laws.{keeps-law as attributes};
+
+use crate::attributes::Attributes;
+use crate::signer_identifier::SignerIdentifier;
+use x509::AlgorithmIdentifier;
+use yasna::{ASN1Result, BERReader, DERWriter, Tag};
+use yasna_notation::{
+    AtMost, Bounded, Context, Implicit, Message, Notation, Optional, Sequence, StandsFor, read_as,
+};
+
+type Version = Bounded<u64, AtMost<5>>;
+
+type SignedAttributes = Optional<Implicit<Context<0>, Attributes>>;
+
+type UnsignedAttributes = Optional<Implicit<Context<1>, Attributes>>;
+
+type Ends = (AlgorithmIdentifier, (Vec<u8>, (UnsignedAttributes, ())));
+
+type Digest = (AlgorithmIdentifier, (SignedAttributes, Ends));
+
+type Parts = (Version, (SignerIdentifier, Digest));
+
+type EndFields = (AlgorithmIdentifier, (Vec<u8>, (Option<Attributes>, ())));
+
+type DigestFields = (AlgorithmIdentifier, (Option<Attributes>, EndFields));
+
+type Fields = (u64, (SignerIdentifier, DigestFields));
+
+/// What a signer gives: the signature, and how it was made.
+#[derive(Drop)]
+pub struct SignerInfo {
+    /// 1 where the signer's certificate is named by issuer and number, 3 where it is by its key.
+    pub version: u64,
+    pub sid: SignerIdentifier,
+    pub digest_algorithm: AlgorithmIdentifier,
+    pub signed_attrs: Option<Attributes>,
+    pub signature_algorithm: AlgorithmIdentifier,
+    pub signature: Vec<u8>,
+    pub unsigned_attrs: Option<Attributes>,
+}
+
+impl StandsFor<Fields> for SignerInfo {
+    ghost value_of = { λ v. (v.version, (v.sid, (v.digest_algorithm, (v.signed_attrs, (v.signature_algorithm, (v.signature, (v.unsigned_attrs, tt))))))) };
+
+    fn from_value(fields: Fields) -> SignerInfo {
+        let (version, others) = fields;
+        let (sid, others) = others;
+        let (digest_algorithm, others) = others;
+        let (signed_attrs, others) = others;
+        let (signature_algorithm, others) = others;
+        let (signature, others) = others;
+        let (unsigned_attrs, ()) = others;
+        SignerInfo {
+            version,
+            sid,
+            digest_algorithm,
+            signed_attrs,
+            signature_algorithm,
+            signature,
+            unsigned_attrs,
+        }
+    }
+}
+
+impl Notation for SignerInfo {
+    type Value = SignerInfo;
+
+    type Inner = ();
+
+    ghost means = { stands_for ⟦<SignerInfo as StandsFor<Fields>>⟧.value_of ⟦<Sequence<Parts> as Notation>⟧.means };
+
+    fn has_tag(tag: Tag) -> bool {
+        <Sequence<Parts> as Notation>::has_tag(tag)
+    }
+
+    fn read(reader: BERReader) -> ASN1Result<SignerInfo> {
+        read_as::<Sequence<Parts>, SignerInfo>(reader)
+    }
+
+    fn write(value: &SignerInfo, writer: DERWriter<'_>) -> ASN1Result<()> {
+        Sequence::<Parts>::write_fields(
+            (
+                &value.version,
+                (
+                    &value.sid,
+                    (
+                        &value.digest_algorithm,
+                        (
+                            &value.signed_attrs,
+                            (
+                                &value.signature_algorithm,
+                                (&value.signature, (&value.unsigned_attrs, ())),
+                            ),
+                        ),
+                    ),
+                ),
+            ),
+            writer,
+        )
+    }
+
+    ghost keeps = { λ _. standing_keeps ⟦<SignerInfo as StandsFor<Fields>>⟧.value_of
+        (in_sequence (part (at_most 5 (number refl)).own (part (signer refl).own (part (algorithm refl).own
+        (optional_part refl (in_implicit 0 (omega arith) (attributes refl)).own (part (algorithm refl).own (part (octets refl).own
+        (optional_part refl (in_implicit 1 (omega arith) (attributes refl)).own no_parts)))))))) };
+
+    ghost filled = { λ u m v. element_filled _ _ _ _ };
+}
+
+impl Message for SignerInfo {
+    ghost told_apart = { refl };
+}

@@ -1,0 +1,132 @@
+//! Private keys, with their public keys or without (RFC 5958, 2).
+//!
+//! ```text
+//! OneAsymmetricKey ::= SEQUENCE {
+//!     version              Version,
+//!     privateKeyAlgorithm  PrivateKeyAlgorithmIdentifier,
+//!     privateKey           PrivateKey,
+//!     attributes           [0] IMPLICIT Attributes OPTIONAL,
+//!     publicKey            [1] IMPLICIT PublicKey OPTIONAL }
+//!
+//! Version ::= INTEGER { v1(0), v2(1) } (v1, .., v2)
+//!
+//! PrivateKeyAlgorithmIdentifier ::= AlgorithmIdentifier
+//!
+//! PrivateKey ::= OCTET STRING
+//!
+//! PublicKey ::= BIT STRING
+//!
+//! Attributes ::= SET OF Attribute
+//! ```
+//!
+//! That v2 stands where there is a public key, and v1 where there is none, is no rule of the notation.
+ghost use Rattle.std.specs.Prelude.{◌≡◌, refl};
+ghost use Rattle.std.proofs.Common.{arith};
+ghost use Rattle.yasna_notation.specs.Laws.{standing_keeps, element_filled};
+ghost use Rattle.yasna_notation.specs.Making.{in_sequence, in_set_of, part, optional_part, in_implicit, at_most};
+ghost use Rattle.yasna_notation.specs.Notation.{stands_for};
+ghost use Rattle.yasna_notation.specs.Parts.{no_parts};
+ghost use Rattle.yasna_notation.specs.contracts.simple.U64Notation.TheImpl.Laws.{keeps-law as number};
+ghost use Rattle.yasna_notation.specs.contracts.simple.ObjectIdentifierNotation.TheImpl.Laws.{keeps-law as oid};
+ghost use Rattle.yasna_notation.specs.contracts.any.TaggedDerValueNotation.TheImpl.Laws.{keeps-law as any};
+ghost use Rattle.yasna_notation.specs.contracts.strings.VecU8Notation.TheImpl.Laws.{keeps-law as octets};
+ghost use Rattle.yasna_notation.specs.contracts.strings.BitStringNotation.TheImpl.Laws.{keeps-law as bits};
+ghost use Rattle.x509.specs.contracts.algorithm.AlgorithmIdentifierNotation.TheImpl.Laws.{keeps-law as algorithm};
+
+use x509::{AlgorithmIdentifier, Attribute};
+use yasna::{ASN1Result, BERReader, DERWriter, Tag};
+use yasna_notation::{
+    AtMost, BitString, Bounded, Context, Defined, Implicit, Message, Notation, Optional, Sequence,
+    SetOf, StandsFor, read_as,
+};
+
+type Version = Bounded<u64, AtMost<1>>;
+
+type Attributes = Optional<Implicit<Context<0>, SetOf<Attribute>>>;
+
+type PublicKey = Optional<Implicit<Context<1>, BitString>>;
+
+type Ends = (Attributes, (PublicKey, ()));
+
+type Parts = (Version, (AlgorithmIdentifier, (Vec<u8>, Ends)));
+
+type EndFields = (Option<Vec<Attribute>>, (Option<(Vec<u8>, usize)>, ()));
+
+type Fields = (u64, (AlgorithmIdentifier, (Vec<u8>, EndFields)));
+
+/// A private key, and maybe its public key.
+#[derive(Drop)]
+pub struct OneAsymmetricKey {
+    /// 0 for v1, 1 for v2.
+    pub version: u64,
+    /// The algorithm that the key is for.
+    pub private_key_algorithm: AlgorithmIdentifier,
+    /// The octets that hold the key, as its algorithm says.
+    pub private_key: Vec<u8>,
+    pub attributes: Option<Vec<Attribute>>,
+    /// The bits of the public key, as octets and a count.
+    pub public_key: Option<(Vec<u8>, usize)>,
+}
+
+impl StandsFor<Fields> for OneAsymmetricKey {
+    ghost value_of = { λ v. (v.version, (v.private_key_algorithm, (v.private_key, (v.attributes, (v.public_key, tt))))) };
+
+    fn from_value(fields: Fields) -> OneAsymmetricKey {
+        let (version, others) = fields;
+        let (private_key_algorithm, others) = others;
+        let (private_key, others) = others;
+        let (attributes, others) = others;
+        let (public_key, ()) = others;
+        OneAsymmetricKey {
+            version,
+            private_key_algorithm,
+            private_key,
+            attributes,
+            public_key,
+        }
+    }
+}
+
+impl Notation for OneAsymmetricKey {
+    type Value = OneAsymmetricKey;
+
+    type Inner = ();
+
+    ghost means = { stands_for ⟦<OneAsymmetricKey as StandsFor<Fields>>⟧.value_of ⟦<Sequence<Parts> as Notation>⟧.means };
+
+    fn has_tag(tag: Tag) -> bool {
+        <Sequence<Parts> as Notation>::has_tag(tag)
+    }
+
+    fn read(reader: BERReader) -> ASN1Result<OneAsymmetricKey> {
+        read_as::<Sequence<Parts>, OneAsymmetricKey>(reader)
+    }
+
+    fn write(value: &OneAsymmetricKey, writer: DERWriter<'_>) -> ASN1Result<()> {
+        Sequence::<Parts>::write_fields(
+            (
+                &value.version,
+                (
+                    &value.private_key_algorithm,
+                    (
+                        &value.private_key,
+                        (&value.attributes, (&value.public_key, ())),
+                    ),
+                ),
+            ),
+            writer,
+        )
+    }
+
+    ghost keeps = { λ _. standing_keeps ⟦<OneAsymmetricKey as StandsFor<Fields>>⟧.value_of
+        (in_sequence (part (at_most 1 (number refl)).own (part (algorithm refl).own (part (octets refl).own
+        (optional_part refl (in_implicit 0 (omega arith) (in_set_of (standing_keeps ⟦<Attribute as Defined>⟧.value_of
+        (in_sequence (part (oid refl).own (part (in_set_of (any refl).own).own no_parts)))).own)).own
+        (optional_part refl (in_implicit 1 (omega arith) (bits refl)).own no_parts)))))) };
+
+    ghost filled = { λ u m v. element_filled _ _ _ _ };
+}
+
+impl Message for OneAsymmetricKey {
+    ghost told_apart = { refl };
+}

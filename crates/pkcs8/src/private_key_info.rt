@@ -1,0 +1,111 @@
+//! Private keys (RFC 5208, 5).
+//!
+//! ```text
+//! PrivateKeyInfo ::= SEQUENCE {
+//!     version              Version,
+//!     privateKeyAlgorithm  AlgorithmIdentifier,
+//!     privateKey           OCTET STRING,
+//!     attributes           [0] IMPLICIT Attributes OPTIONAL }
+//!
+//! Version ::= INTEGER { v1(0) }
+//!
+//! Attributes ::= SET OF Attribute
+//! ```
+ghost use Rattle.std.specs.Prelude.{◌≡◌, refl};
+ghost use Rattle.std.proofs.Common.{arith};
+ghost use Rattle.yasna_notation.specs.Laws.{standing_keeps, element_filled};
+ghost use Rattle.yasna_notation.specs.Making.{in_sequence, in_set_of, part, optional_part, in_implicit, at_most};
+ghost use Rattle.yasna_notation.specs.Notation.{stands_for};
+ghost use Rattle.yasna_notation.specs.Parts.{no_parts};
+ghost use Rattle.yasna_notation.specs.contracts.simple.U64Notation.TheImpl.Laws.{keeps-law as number};
+ghost use Rattle.yasna_notation.specs.contracts.simple.ObjectIdentifierNotation.TheImpl.Laws.{keeps-law as oid};
+ghost use Rattle.yasna_notation.specs.contracts.any.TaggedDerValueNotation.TheImpl.Laws.{keeps-law as any};
+ghost use Rattle.yasna_notation.specs.contracts.strings.VecU8Notation.TheImpl.Laws.{keeps-law as octets};
+ghost use Rattle.x509.specs.contracts.algorithm.AlgorithmIdentifierNotation.TheImpl.Laws.{keeps-law as algorithm};
+
+use x509::{AlgorithmIdentifier, Attribute};
+use yasna::{ASN1Result, BERReader, DERWriter, Tag};
+use yasna_notation::{
+    AtMost, Bounded, Context, Defined, Implicit, Message, Notation, Optional, Sequence, SetOf,
+    StandsFor, read_as,
+};
+
+type Version = Bounded<u64, AtMost<0>>;
+
+type Attributes = Optional<Implicit<Context<0>, SetOf<Attribute>>>;
+
+type Parts = (Version, (AlgorithmIdentifier, (Vec<u8>, (Attributes, ()))));
+
+type Fields = (
+    u64,
+    (AlgorithmIdentifier, (Vec<u8>, (Option<Vec<Attribute>>, ()))),
+);
+
+/// A private key.
+#[derive(Drop)]
+pub struct PrivateKeyInfo {
+    /// 0, for v1.
+    pub version: u64,
+    /// The algorithm that the key is for.
+    pub private_key_algorithm: AlgorithmIdentifier,
+    /// The octets that hold the key, as its algorithm says.
+    pub private_key: Vec<u8>,
+    pub attributes: Option<Vec<Attribute>>,
+}
+
+impl StandsFor<Fields> for PrivateKeyInfo {
+    ghost value_of = { λ v. (v.version, (v.private_key_algorithm, (v.private_key, (v.attributes, tt)))) };
+
+    fn from_value(fields: Fields) -> PrivateKeyInfo {
+        let (version, others) = fields;
+        let (private_key_algorithm, others) = others;
+        let (private_key, others) = others;
+        let (attributes, ()) = others;
+        PrivateKeyInfo {
+            version,
+            private_key_algorithm,
+            private_key,
+            attributes,
+        }
+    }
+}
+
+impl Notation for PrivateKeyInfo {
+    type Value = PrivateKeyInfo;
+
+    type Inner = ();
+
+    ghost means = { stands_for ⟦<PrivateKeyInfo as StandsFor<Fields>>⟧.value_of ⟦<Sequence<Parts> as Notation>⟧.means };
+
+    fn has_tag(tag: Tag) -> bool {
+        <Sequence<Parts> as Notation>::has_tag(tag)
+    }
+
+    fn read(reader: BERReader) -> ASN1Result<PrivateKeyInfo> {
+        read_as::<Sequence<Parts>, PrivateKeyInfo>(reader)
+    }
+
+    fn write(value: &PrivateKeyInfo, writer: DERWriter<'_>) -> ASN1Result<()> {
+        Sequence::<Parts>::write_fields(
+            (
+                &value.version,
+                (
+                    &value.private_key_algorithm,
+                    (&value.private_key, (&value.attributes, ())),
+                ),
+            ),
+            writer,
+        )
+    }
+
+    ghost keeps = { λ _. standing_keeps ⟦<PrivateKeyInfo as StandsFor<Fields>>⟧.value_of
+        (in_sequence (part (at_most 0 (number refl)).own (part (algorithm refl).own (part (octets refl).own
+        (optional_part refl (in_implicit 0 (omega arith) (in_set_of (standing_keeps ⟦<Attribute as Defined>⟧.value_of
+        (in_sequence (part (oid refl).own (part (in_set_of (any refl).own).own no_parts)))).own)).own no_parts))))) };
+
+    ghost filled = { λ u m v. element_filled _ _ _ _ };
+}
+
+impl Message for PrivateKeyInfo {
+    ghost told_apart = { refl };
+}

@@ -1,0 +1,169 @@
+//! Values of types that SNMP adds (RFC 3416, 3).
+//!
+//! ```text
+//! ApplicationSyntax ::= CHOICE {
+//!     ipAddress-value         IpAddress,
+//!     counter-value           Counter32,
+//!     timeticks-value         TimeTicks,
+//!     arbitrary-value         Opaque,
+//!     big-counter-value       Counter64,
+//!     unsigned-integer-value  Unsigned32 }
+//!
+//! IpAddress  ::= [APPLICATION 0] IMPLICIT OCTET STRING (SIZE (4))
+//! Counter32  ::= [APPLICATION 1] IMPLICIT INTEGER (0..4294967295)
+//! Unsigned32 ::= [APPLICATION 2] IMPLICIT INTEGER (0..4294967295)
+//! Gauge32    ::= Unsigned32
+//! TimeTicks  ::= [APPLICATION 3] IMPLICIT INTEGER (0..4294967295)
+//! Opaque     ::= [APPLICATION 4] IMPLICIT OCTET STRING
+//! Counter64  ::= [APPLICATION 6] IMPLICIT INTEGER (0..18446744073709551615)
+//! ```
+ghost use Rattle.std.specs.Prelude.{◌≡◌, Some, length, nat_eq, refl};
+ghost use Rattle.std.proofs.Common.{arith};
+ghost use Rattle.yasna_notation.specs.Bounded.{within_keeps, passes_alike};
+ghost use Rattle.yasna_notation.specs.Canonical.{bounded_written, standing_written, choice_written_as};
+ghost use Rattle.yasna_notation.specs.Laws.{standing_keeps};
+ghost use Rattle.yasna_notation.specs.Making.{alternative, alternative_filled, in_application, in_choice};
+ghost use Rattle.yasna_notation.specs.Making.{application, tag_or};
+ghost use Rattle.yasna_notation.specs.Notation.{stands_for};
+ghost use Rattle.yasna_notation.specs.Writing.{alternative_written, under_application};
+ghost use Rattle.yasna_notation.specs.contracts.simple.U32Notation.TheImpl.Laws.{keeps-law as count32, filled-law as count32_filled};
+ghost use Rattle.yasna_notation.specs.contracts.canonical.U32CanonicalNotation.TheImpl.Laws.{written-law as count32_written};
+ghost use Rattle.yasna_notation.specs.contracts.simple.U64Notation.TheImpl.Laws.{keeps-law as count64, filled-law as count64_filled};
+ghost use Rattle.yasna_notation.specs.contracts.canonical.U64CanonicalNotation.TheImpl.Laws.{written-law as count64_written};
+ghost use Rattle.yasna_notation.specs.contracts.strings.VecU8Notation.TheImpl.Laws.{keeps-law as octets, filled-law as octets_filled};
+ghost use Rattle.yasna_notation.specs.contracts.canonical.VecU8CanonicalNotation.TheImpl.Laws.{written-law as octets_written};
+ghost use Rattle.yasna_notation.specs.declared.choices.Either.TheVariants.{First, Second};
+ghost use Rattle.snmp.specs.declared.application_syntax.ApplicationSyntax.TheVariants.{IpAddressValue, CounterValue, TimeTicksValue, ArbitraryValue, BigCounterValue, UnsignedIntegerValue};
+
+use yasna::{ASN1Result, BERReader, DERWriter, Tag};
+use yasna_notation::{
+    Application, Bounded, CanonicalNotation, Choice, Either, Implicit, Message, Notation, Size,
+    StandsFor, read_as,
+};
+
+type IpAddress = Implicit<Application<0>, Bounded<Vec<u8>, Size<4>>>;
+
+type Counter32 = Implicit<Application<1>, u32>;
+
+type TimeTicks = Implicit<Application<3>, u32>;
+
+type Opaque = Implicit<Application<4>, Vec<u8>>;
+
+type Counter64 = Implicit<Application<6>, u64>;
+
+type Unsigned32 = Implicit<Application<2>, u32>;
+
+type Types = (
+    IpAddress,
+    (Counter32, (TimeTicks, (Opaque, (Counter64, (Unsigned32,))))),
+);
+
+type Sides = Either<Vec<u8>, Either<u32, Either<u32, Either<Vec<u8>, Either<u64, u32>>>>>;
+
+/// A value of a type that SNMP adds.
+#[derive(Drop)]
+pub enum ApplicationSyntax {
+    IpAddressValue(Vec<u8>),
+    CounterValue(u32),
+    /// Hundredths of a second.
+    TimeTicksValue(u32),
+    ArbitraryValue(Vec<u8>),
+    BigCounterValue(u64),
+    UnsignedIntegerValue(u32),
+}
+
+impl StandsFor<Sides> for ApplicationSyntax {
+    ghost value_of = { λ v. elim v [
+      | IpAddressValue x ↦ First x
+      | CounterValue x ↦ Second (First x)
+      | TimeTicksValue x ↦ Second (Second (First x))
+      | ArbitraryValue x ↦ Second (Second (Second (First x)))
+      | BigCounterValue x ↦ Second (Second (Second (Second (First x))))
+      | UnsignedIntegerValue x ↦ Second (Second (Second (Second (Second x))))
+    ] };
+
+    fn from_value(value: Sides) -> ApplicationSyntax {
+        let others = match value {
+            Either::First(value) => return ApplicationSyntax::IpAddressValue(value),
+            Either::Second(others) => others,
+        };
+        let others = match others {
+            Either::First(value) => return ApplicationSyntax::CounterValue(value),
+            Either::Second(others) => others,
+        };
+        let others = match others {
+            Either::First(value) => return ApplicationSyntax::TimeTicksValue(value),
+            Either::Second(others) => others,
+        };
+        let others = match others {
+            Either::First(value) => return ApplicationSyntax::ArbitraryValue(value),
+            Either::Second(others) => others,
+        };
+        match others {
+            Either::First(value) => ApplicationSyntax::BigCounterValue(value),
+            Either::Second(value) => ApplicationSyntax::UnsignedIntegerValue(value),
+        }
+    }
+}
+
+impl Notation for ApplicationSyntax {
+    type Value = ApplicationSyntax;
+
+    type Inner = ();
+
+    ghost means = { stands_for ⟦<ApplicationSyntax as StandsFor<Sides>>⟧.value_of ⟦<Choice<Types> as Notation>⟧.means };
+
+    fn has_tag(tag: Tag) -> bool {
+        <Choice<Types> as Notation>::has_tag(tag)
+    }
+
+    fn read(reader: BERReader) -> ASN1Result<ApplicationSyntax> {
+        read_as::<Choice<Types>, ApplicationSyntax>(reader)
+    }
+
+    fn write(value: &ApplicationSyntax, writer: DERWriter<'_>) -> ASN1Result<()> {
+        match value {
+            ApplicationSyntax::IpAddressValue(value) => <IpAddress as Notation>::write(
+                value, writer,
+            ),
+            ApplicationSyntax::CounterValue(value) => <Counter32 as Notation>::write(value, writer),
+            ApplicationSyntax::TimeTicksValue(value) => <TimeTicks as Notation>::write(
+                value, writer,
+            ),
+            ApplicationSyntax::ArbitraryValue(value) => <Opaque as Notation>::write(value, writer),
+            ApplicationSyntax::BigCounterValue(value) => <Counter64 as Notation>::write(
+                value, writer,
+            ),
+            ApplicationSyntax::UnsignedIntegerValue(value) => <Unsigned32 as Notation>::write(
+                value, writer,
+            ),
+        }
+    }
+
+    ghost keeps = { λ _. standing_keeps ⟦<ApplicationSyntax as StandsFor<Sides>>⟧.value_of (in_choice ⟦<Choice<Types> as Notation>⟧.means.form_under
+        (alternative (in_application 0 (omega arith) (within_keeps (λ v. nat_eq (length v.items) 4)
+        (λ v w e. passes_alike (λ s. nat_eq (length s) 4) e) (octets refl))).own refl
+        (alternative (in_application 1 (omega arith) (count32 refl)).own refl (alternative (in_application 3 (omega arith) (count32 refl)).own refl
+        (alternative (in_application 4 (omega arith) (octets refl)).own refl
+        (alternative (in_application 6 (omega arith) (count64 refl)).own refl (in_application 2 (omega arith) (count32 refl)).own)))))) };
+
+    ghost filled = { λ u m v.
+        alternative_filled (octets_filled (Some (tag_or u (application 0)))) (alternative_filled (count32_filled (Some (tag_or u (application 1))))
+        (alternative_filled (count32_filled (Some (tag_or u (application 3)))) (alternative_filled (octets_filled (Some (tag_or u (application 4))))
+        (alternative_filled (count64_filled (Some (tag_or u (application 6)))) (count32_filled (Some (tag_or u (application 2)))))))) m (⟦<ApplicationSyntax as StandsFor<Sides>>⟧.value_of v) };
+}
+
+impl Message for ApplicationSyntax {
+    ghost told_apart = { refl };
+}
+
+impl CanonicalNotation for ApplicationSyntax {
+    ghost written = { λ _. standing_written ⟦<ApplicationSyntax as StandsFor<Sides>>⟧.value_of (choice_written_as ⟦<Choice<Types> as Notation>⟧.means.form_under
+        (alternative_written (under_application 0 (omega arith) (bounded_written (λ v. nat_eq (length v.items) 4)
+        (λ v w e. passes_alike (λ s. nat_eq (length s) 4) e) (octets_written refl))).own
+        (alternative_written (under_application 1 (omega arith) (count32_written refl)).own
+        (alternative_written (under_application 3 (omega arith) (count32_written refl)).own
+        (alternative_written (under_application 4 (omega arith) (octets_written refl)).own
+        (alternative_written (under_application 6 (omega arith) (count64_written refl)).own
+        (under_application 2 (omega arith) (count32_written refl)).own)))))) };
+}

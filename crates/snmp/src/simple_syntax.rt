@@ -1,0 +1,108 @@
+//! Values of types of ASN.1's own (RFC 3416, 3).
+//!
+//! ```text
+//! SimpleSyntax ::= CHOICE {
+//!     integer-value   INTEGER (-2147483648..2147483647),
+//!     string-value    OCTET STRING (SIZE (0..65535)),
+//!     objectID-value  OBJECT IDENTIFIER }
+//! ```
+ghost use Rattle.std.specs.Prelude.{◌≡◌, length, nat_lt, not, refl};
+ghost use Rattle.yasna_notation.specs.Bounded.{within_keeps, passes_alike};
+ghost use Rattle.yasna_notation.specs.Canonical.{bounded_written, standing_written, choice_written_as};
+ghost use Rattle.yasna_notation.specs.Laws.{standing_keeps};
+ghost use Rattle.yasna_notation.specs.Making.{alternative, alternative_filled, in_choice};
+ghost use Rattle.yasna_notation.specs.Notation.{stands_for};
+ghost use Rattle.yasna_notation.specs.Writing.{alternative_written};
+ghost use Rattle.yasna_notation.specs.contracts.simple.I32Notation.TheImpl.Laws.{keeps-law as int32, filled-law as int32_filled};
+ghost use Rattle.yasna_notation.specs.contracts.canonical.I32CanonicalNotation.TheImpl.Laws.{written-law as int32_written};
+ghost use Rattle.yasna_notation.specs.contracts.strings.VecU8Notation.TheImpl.Laws.{keeps-law as octets, filled-law as octets_filled};
+ghost use Rattle.yasna_notation.specs.contracts.canonical.VecU8CanonicalNotation.TheImpl.Laws.{written-law as octets_written};
+ghost use Rattle.yasna_notation.specs.contracts.simple.ObjectIdentifierNotation.TheImpl.Laws.{keeps-law as oid, filled-law as oid_filled};
+ghost use Rattle.yasna_notation.specs.contracts.canonical.ObjectIdentifierCanonicalNotation.TheImpl.Laws.{written-law as oid_written};
+ghost use Rattle.yasna_notation.specs.declared.choices.Either.TheVariants.{First, Second};
+ghost use Rattle.snmp.specs.declared.simple_syntax.SimpleSyntax.TheVariants.{IntegerValue, StringValue, ObjectIdValue};
+
+use crate::bounds::SizeAtMost;
+use yasna::models::ObjectIdentifier;
+use yasna::{ASN1Result, BERReader, DERWriter, Tag};
+use yasna_notation::{
+    Bounded, CanonicalNotation, Choice, Either, Message, Notation, StandsFor, read_as,
+};
+
+type StringNotation = Bounded<Vec<u8>, SizeAtMost<65535>>;
+
+type Types = (i32, (StringNotation, (ObjectIdentifier,)));
+
+type Sides = Either<i32, Either<Vec<u8>, ObjectIdentifier>>;
+
+/// A value of a type of ASN.1's own.
+#[derive(Drop)]
+pub enum SimpleSyntax {
+    IntegerValue(i32),
+    StringValue(Vec<u8>),
+    ObjectIdValue(ObjectIdentifier),
+}
+
+impl StandsFor<Sides> for SimpleSyntax {
+    ghost value_of = { λ v. elim v [
+      | IntegerValue x ↦ First x
+      | StringValue x ↦ Second (First x)
+      | ObjectIdValue x ↦ Second (Second x)
+    ] };
+
+    fn from_value(value: Sides) -> SimpleSyntax {
+        let others = match value {
+            Either::First(value) => return SimpleSyntax::IntegerValue(value),
+            Either::Second(others) => others,
+        };
+        match others {
+            Either::First(value) => SimpleSyntax::StringValue(value),
+            Either::Second(value) => SimpleSyntax::ObjectIdValue(value),
+        }
+    }
+}
+
+impl Notation for SimpleSyntax {
+    type Value = SimpleSyntax;
+
+    type Inner = ();
+
+    ghost means = { stands_for ⟦<SimpleSyntax as StandsFor<Sides>>⟧.value_of ⟦<Choice<Types> as Notation>⟧.means };
+
+    fn has_tag(tag: Tag) -> bool {
+        <Choice<Types> as Notation>::has_tag(tag)
+    }
+
+    fn read(reader: BERReader) -> ASN1Result<SimpleSyntax> {
+        read_as::<Choice<Types>, SimpleSyntax>(reader)
+    }
+
+    fn write(value: &SimpleSyntax, writer: DERWriter<'_>) -> ASN1Result<()> {
+        match value {
+            SimpleSyntax::IntegerValue(value) => <i32 as Notation>::write(value, writer),
+            SimpleSyntax::StringValue(value) => <StringNotation as Notation>::write(value, writer),
+            SimpleSyntax::ObjectIdValue(value) => <ObjectIdentifier as Notation>::write(
+                value, writer,
+            ),
+        }
+    }
+
+    ghost keeps = { λ _. standing_keeps ⟦<SimpleSyntax as StandsFor<Sides>>⟧.value_of (in_choice ⟦<Choice<Types> as Notation>⟧.means.form_under
+        (alternative (int32 refl).own refl
+        (alternative (within_keeps (λ v. not (nat_lt 65535 (length v.items)))
+        (λ v w e. passes_alike (λ s. not (nat_lt 65535 (length s))) e) (octets refl)).own refl (oid refl).own))) };
+
+    ghost filled = { λ u m v.
+        alternative_filled (int32_filled u) (alternative_filled (octets_filled u) (oid_filled u)) m (⟦<SimpleSyntax as StandsFor<Sides>>⟧.value_of v) };
+}
+
+impl Message for SimpleSyntax {
+    ghost told_apart = { refl };
+}
+
+impl CanonicalNotation for SimpleSyntax {
+    ghost written = { λ _. standing_written ⟦<SimpleSyntax as StandsFor<Sides>>⟧.value_of (choice_written_as ⟦<Choice<Types> as Notation>⟧.means.form_under
+        (alternative_written (int32_written refl).own
+        (alternative_written (bounded_written (λ v. not (nat_lt 65535 (length v.items)))
+        (λ v w e. passes_alike (λ s. not (nat_lt 65535 (length s))) e) (octets_written refl)).own (oid_written refl).own))) };
+}

@@ -1,0 +1,98 @@
+//! Messages of SNMPv1 (RFC 1157, 4).
+//!
+//! ```text
+//! Message ::= SEQUENCE {
+//!     version    INTEGER { version-1(0) },
+//!     community  OCTET STRING,
+//!     data       ANY }
+//! ```
+//!
+//! The data is a protocol data unit.
+ghost use Rattle.std.specs.Prelude.{◌≡◌, nat_eq, refl};
+ghost use Rattle.yasna_notation.specs.Bounded.{within_keeps, passes_alike};
+ghost use Rattle.yasna_notation.specs.Canonical.{bounded_written, standing_written};
+ghost use Rattle.yasna_notation.specs.Laws.{standing_keeps, element_filled};
+ghost use Rattle.yasna_notation.specs.Making.{in_sequence, part};
+ghost use Rattle.yasna_notation.specs.Notation.{stands_for};
+ghost use Rattle.yasna_notation.specs.Parts.{no_parts};
+ghost use Rattle.yasna_notation.specs.Writing.{no_part_written, part_written, sequence_written};
+ghost use Rattle.yasna_notation.specs.contracts.simple.U64Notation.TheImpl.Laws.{keeps-law as count64};
+ghost use Rattle.yasna_notation.specs.contracts.canonical.U64CanonicalNotation.TheImpl.Laws.{written-law as count64_written};
+ghost use Rattle.yasna_notation.specs.contracts.strings.VecU8Notation.TheImpl.Laws.{keeps-law as octets};
+ghost use Rattle.yasna_notation.specs.contracts.canonical.VecU8CanonicalNotation.TheImpl.Laws.{written-law as octets_written};
+ghost use Rattle.snmp.specs.contracts.v1.pdus.PdusNotation.TheImpl.Laws.{keeps-law as pdus1};
+ghost use Rattle.snmp.specs.contracts.v1.pdus.PdusCanonicalNotation.TheImpl.Laws.{written-law as pdus1_written};
+
+use crate::bounds::Exactly;
+use crate::v1::pdus::Pdus;
+use yasna::{ASN1Result, BERReader, DERWriter, Tag};
+use yasna_notation::{Bounded, CanonicalNotation, Message, Notation, Sequence, StandsFor, read_as};
+
+type Version = Bounded<u64, Exactly<0>>;
+
+type Parts = (Version, (Vec<u8>, (Pdus, ())));
+
+type Fields = (u64, (Vec<u8>, (Pdus, ())));
+
+/// A message of SNMPv1.
+#[derive(Drop)]
+pub struct SnmpMessage {
+    /// 0.
+    pub version: u64,
+    pub community: Vec<u8>,
+    pub data: Pdus,
+}
+
+impl StandsFor<Fields> for SnmpMessage {
+    ghost value_of = { λ v. (v.version, (v.community, (v.data, tt))) };
+
+    fn from_value(fields: Fields) -> SnmpMessage {
+        let (version, others) = fields;
+        let (community, others) = others;
+        let (data, ()) = others;
+        SnmpMessage {
+            version,
+            community,
+            data,
+        }
+    }
+}
+
+impl Notation for SnmpMessage {
+    type Value = SnmpMessage;
+
+    type Inner = ();
+
+    ghost means = { stands_for ⟦<SnmpMessage as StandsFor<Fields>>⟧.value_of ⟦<Sequence<Parts> as Notation>⟧.means };
+
+    fn has_tag(tag: Tag) -> bool {
+        <Sequence<Parts> as Notation>::has_tag(tag)
+    }
+
+    fn read(reader: BERReader) -> ASN1Result<SnmpMessage> {
+        read_as::<Sequence<Parts>, SnmpMessage>(reader)
+    }
+
+    fn write(value: &SnmpMessage, writer: DERWriter<'_>) -> ASN1Result<()> {
+        Sequence::<Parts>::write_fields(
+            (&value.version, (&value.community, (&value.data, ()))),
+            writer,
+        )
+    }
+
+    ghost keeps = { λ _. standing_keeps ⟦<SnmpMessage as StandsFor<Fields>>⟧.value_of (in_sequence
+        (part (within_keeps (λ v. nat_eq v 0) (λ v w e. passes_alike (λ k. nat_eq k 0) e) (count64 refl)).own (part (octets refl).own
+        (part (pdus1 refl).own no_parts)))) };
+
+    ghost filled = { λ u m v. element_filled _ _ _ _ };
+}
+
+impl Message for SnmpMessage {
+    ghost told_apart = { refl };
+}
+
+impl CanonicalNotation for SnmpMessage {
+    ghost written = { λ _. standing_written ⟦<SnmpMessage as StandsFor<Fields>>⟧.value_of (sequence_written
+        (part_written (bounded_written (λ v. nat_eq v 0) (λ v w e. passes_alike (λ k. nat_eq k 0) e) (count64_written refl)).own
+        (part_written (octets_written refl).own (part_written (pdus1_written refl).own no_part_written)))) };
+}

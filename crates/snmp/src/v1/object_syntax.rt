@@ -1,0 +1,208 @@
+//! Values of variables of SNMPv1 (RFC 1155, 3.2.3).
+//!
+//! ```text
+//! SimpleSyntax ::= CHOICE {
+//!     number  INTEGER,
+//!     string  OCTET STRING,
+//!     object  OBJECT IDENTIFIER,
+//!     empty   NULL }
+//!
+//! ApplicationSyntax ::= CHOICE {
+//!     address    NetworkAddress,
+//!     counter    [APPLICATION 1] IMPLICIT INTEGER (0..4294967295),
+//!     gauge      [APPLICATION 2] IMPLICIT INTEGER (0..4294967295),
+//!     ticks      [APPLICATION 3] IMPLICIT INTEGER (0..4294967295),
+//!     arbitrary  [APPLICATION 4] IMPLICIT OCTET STRING }
+//!
+//! NetworkAddress ::= CHOICE { internet [APPLICATION 0] IMPLICIT OCTET STRING (SIZE (4)) }
+//! ```
+//!
+//! A number that 64 bits don't hold is refused.
+ghost use Rattle.std.specs.Prelude.{◌≡◌, Some, length, nat_eq, refl};
+ghost use Rattle.std.proofs.Common.{arith};
+ghost use Rattle.yasna_notation.specs.Bounded.{within_keeps, passes_alike};
+ghost use Rattle.yasna_notation.specs.Canonical.{bounded_written, standing_written, choice_written_as};
+ghost use Rattle.yasna_notation.specs.Laws.{standing_keeps};
+ghost use Rattle.yasna_notation.specs.Making.{alternative, alternative_filled, in_application, in_choice};
+ghost use Rattle.yasna_notation.specs.Making.{application, tag_or};
+ghost use Rattle.yasna_notation.specs.Notation.{stands_for};
+ghost use Rattle.yasna_notation.specs.Writing.{alternative_written, under_application};
+ghost use Rattle.yasna_notation.specs.contracts.simple.U32Notation.TheImpl.Laws.{keeps-law as count32, filled-law as count32_filled};
+ghost use Rattle.yasna_notation.specs.contracts.canonical.U32CanonicalNotation.TheImpl.Laws.{written-law as count32_written};
+ghost use Rattle.yasna_notation.specs.contracts.simple.I64Notation.TheImpl.Laws.{keeps-law as int64, filled-law as int64_filled};
+ghost use Rattle.yasna_notation.specs.contracts.canonical.I64CanonicalNotation.TheImpl.Laws.{written-law as int64_written};
+ghost use Rattle.yasna_notation.specs.contracts.simple.UnitNotation.TheImpl.Laws.{keeps-law as null, filled-law as null_filled};
+ghost use Rattle.yasna_notation.specs.contracts.canonical.UnitCanonicalNotation.TheImpl.Laws.{written-law as null_written};
+ghost use Rattle.yasna_notation.specs.contracts.strings.VecU8Notation.TheImpl.Laws.{keeps-law as octets, filled-law as octets_filled};
+ghost use Rattle.yasna_notation.specs.contracts.canonical.VecU8CanonicalNotation.TheImpl.Laws.{written-law as octets_written};
+ghost use Rattle.yasna_notation.specs.contracts.simple.ObjectIdentifierNotation.TheImpl.Laws.{keeps-law as oid, filled-law as oid_filled};
+ghost use Rattle.yasna_notation.specs.contracts.canonical.ObjectIdentifierCanonicalNotation.TheImpl.Laws.{written-law as oid_written};
+ghost use Rattle.yasna_notation.specs.declared.choices.Either.TheVariants.{First, Second};
+ghost use Rattle.snmp.specs.declared.v1.object_syntax.ObjectSyntax.TheVariants.{Number, String, Object, Empty, Address, Counter, Gauge, Ticks, Arbitrary};
+
+use yasna::models::ObjectIdentifier;
+use yasna::{ASN1Result, BERReader, DERWriter, Tag};
+use yasna_notation::{
+    Application, Bounded, CanonicalNotation, Choice, Either, Implicit, Message, Notation, Size,
+    StandsFor, read_as,
+};
+
+type NetworkAddress = Implicit<Application<0>, Bounded<Vec<u8>, Size<4>>>;
+
+type Counter = Implicit<Application<1>, u32>;
+
+type Gauge = Implicit<Application<2>, u32>;
+
+type TimeTicks = Implicit<Application<3>, u32>;
+
+type Opaque = Implicit<Application<4>, Vec<u8>>;
+
+type Types = (
+    i64,
+    (
+        Vec<u8>,
+        (
+            ObjectIdentifier,
+            (
+                (),
+                (NetworkAddress, (Counter, (Gauge, (TimeTicks, (Opaque,))))),
+            ),
+        ),
+    ),
+);
+
+type Sides = Either<
+    i64,
+    Either<
+        Vec<u8>,
+        Either<
+            ObjectIdentifier,
+            Either<(), Either<Vec<u8>, Either<u32, Either<u32, Either<u32, Vec<u8>>>>>>,
+        >,
+    >,
+>;
+
+/// A value of a variable.
+#[derive(Drop)]
+pub enum ObjectSyntax {
+    Number(i64),
+    String(Vec<u8>),
+    Object(ObjectIdentifier),
+    /// As in what asks for values.
+    Empty,
+    /// Four octets.
+    Address(Vec<u8>),
+    Counter(u32),
+    Gauge(u32),
+    /// Hundredths of a second.
+    Ticks(u32),
+    Arbitrary(Vec<u8>),
+}
+
+impl StandsFor<Sides> for ObjectSyntax {
+    ghost value_of = { λ v. elim v [
+      | Number x ↦ First x
+      | String x ↦ Second (First x)
+      | Object x ↦ Second (Second (First x))
+      | Empty ↦ Second (Second (Second (First tt)))
+      | Address x ↦ Second (Second (Second (Second (First x))))
+      | Counter x ↦ Second (Second (Second (Second (Second (First x)))))
+      | Gauge x ↦ Second (Second (Second (Second (Second (Second (First x))))))
+      | Ticks x ↦ Second (Second (Second (Second (Second (Second (Second (First x)))))))
+      | Arbitrary x ↦ Second (Second (Second (Second (Second (Second (Second (Second x)))))))
+    ] };
+
+    fn from_value(value: Sides) -> ObjectSyntax {
+        let others = match value {
+            Either::First(value) => return ObjectSyntax::Number(value),
+            Either::Second(others) => others,
+        };
+        let others = match others {
+            Either::First(value) => return ObjectSyntax::String(value),
+            Either::Second(others) => others,
+        };
+        let others = match others {
+            Either::First(value) => return ObjectSyntax::Object(value),
+            Either::Second(others) => others,
+        };
+        let others = match others {
+            Either::First(()) => return ObjectSyntax::Empty,
+            Either::Second(others) => others,
+        };
+        let others = match others {
+            Either::First(value) => return ObjectSyntax::Address(value),
+            Either::Second(others) => others,
+        };
+        let others = match others {
+            Either::First(value) => return ObjectSyntax::Counter(value),
+            Either::Second(others) => others,
+        };
+        let others = match others {
+            Either::First(value) => return ObjectSyntax::Gauge(value),
+            Either::Second(others) => others,
+        };
+        match others {
+            Either::First(value) => ObjectSyntax::Ticks(value),
+            Either::Second(value) => ObjectSyntax::Arbitrary(value),
+        }
+    }
+}
+
+impl Notation for ObjectSyntax {
+    type Value = ObjectSyntax;
+
+    type Inner = ();
+
+    ghost means = { stands_for ⟦<ObjectSyntax as StandsFor<Sides>>⟧.value_of ⟦<Choice<Types> as Notation>⟧.means };
+
+    fn has_tag(tag: Tag) -> bool {
+        <Choice<Types> as Notation>::has_tag(tag)
+    }
+
+    fn read(reader: BERReader) -> ASN1Result<ObjectSyntax> {
+        read_as::<Choice<Types>, ObjectSyntax>(reader)
+    }
+
+    fn write(value: &ObjectSyntax, writer: DERWriter<'_>) -> ASN1Result<()> {
+        match value {
+            ObjectSyntax::Number(value) => <i64 as Notation>::write(value, writer),
+            ObjectSyntax::String(value) => <Vec<u8> as Notation>::write(value, writer),
+            ObjectSyntax::Object(value) => <ObjectIdentifier as Notation>::write(value, writer),
+            ObjectSyntax::Empty => <() as Notation>::write(&(), writer),
+            ObjectSyntax::Address(value) => <NetworkAddress as Notation>::write(value, writer),
+            ObjectSyntax::Counter(value) => <Counter as Notation>::write(value, writer),
+            ObjectSyntax::Gauge(value) => <Gauge as Notation>::write(value, writer),
+            ObjectSyntax::Ticks(value) => <TimeTicks as Notation>::write(value, writer),
+            ObjectSyntax::Arbitrary(value) => <Opaque as Notation>::write(value, writer),
+        }
+    }
+
+    ghost keeps = { λ _. standing_keeps ⟦<ObjectSyntax as StandsFor<Sides>>⟧.value_of (in_choice ⟦<Choice<Types> as Notation>⟧.means.form_under
+        (alternative (int64 refl).own refl (alternative (octets refl).own refl (alternative (oid refl).own refl (alternative (null refl).own refl
+        (alternative (in_application 0 (omega arith) (within_keeps (λ v. nat_eq (length v.items) 4)
+        (λ v w e. passes_alike (λ s. nat_eq (length s) 4) e) (octets refl))).own refl
+        (alternative (in_application 1 (omega arith) (count32 refl)).own refl (alternative (in_application 2 (omega arith) (count32 refl)).own refl
+        (alternative (in_application 3 (omega arith) (count32 refl)).own refl (in_application 4 (omega arith) (octets refl)).own))))))))) };
+
+    ghost filled = { λ u m v.
+        alternative_filled (int64_filled u) (alternative_filled (octets_filled u) (alternative_filled (oid_filled u) (alternative_filled (null_filled u)
+        (alternative_filled (octets_filled (Some (tag_or u (application 0)))) (alternative_filled (count32_filled (Some (tag_or u (application 1))))
+        (alternative_filled (count32_filled (Some (tag_or u (application 2))))
+        (alternative_filled (count32_filled (Some (tag_or u (application 3)))) (octets_filled (Some (tag_or u (application 4))))))))))) m (⟦<ObjectSyntax as StandsFor<Sides>>⟧.value_of v) };
+}
+
+impl Message for ObjectSyntax {
+    ghost told_apart = { refl };
+}
+
+impl CanonicalNotation for ObjectSyntax {
+    ghost written = { λ _. standing_written ⟦<ObjectSyntax as StandsFor<Sides>>⟧.value_of (choice_written_as ⟦<Choice<Types> as Notation>⟧.means.form_under
+        (alternative_written (int64_written refl).own (alternative_written (octets_written refl).own (alternative_written (oid_written refl).own
+        (alternative_written (null_written refl).own
+        (alternative_written (under_application 0 (omega arith) (bounded_written (λ v. nat_eq (length v.items) 4)
+        (λ v w e. passes_alike (λ s. nat_eq (length s) 4) e) (octets_written refl))).own
+        (alternative_written (under_application 1 (omega arith) (count32_written refl)).own
+        (alternative_written (under_application 2 (omega arith) (count32_written refl)).own
+        (alternative_written (under_application 3 (omega arith) (count32_written refl)).own
+        (under_application 4 (omega arith) (octets_written refl)).own))))))))) };
+}

@@ -1,0 +1,106 @@
+//! What most protocol data units of SNMPv1 hold (RFC 1157, 4.1.2).
+//!
+//! ```text
+//! PDU ::= SEQUENCE {
+//!     request-id         INTEGER,
+//!     error-status       INTEGER { noError(0), .., genErr(5) },
+//!     error-index        INTEGER,
+//!     variable-bindings  VarBindList }
+//!
+//! VarBindList ::= SEQUENCE OF VarBind
+//! ```
+ghost use Rattle.std.specs.Prelude.{◌≡◌, refl};
+ghost use Rattle.yasna_notation.specs.Canonical.{standing_written};
+ghost use Rattle.yasna_notation.specs.Laws.{standing_keeps, element_filled};
+ghost use Rattle.yasna_notation.specs.Making.{in_sequence, in_sequence_of, part};
+ghost use Rattle.yasna_notation.specs.Notation.{stands_for};
+ghost use Rattle.yasna_notation.specs.Parts.{no_parts};
+ghost use Rattle.yasna_notation.specs.Writing.{no_part_written, part_written, sequence_of_written, sequence_written};
+ghost use Rattle.snmp.specs.contracts.v1.var_bind.VarBindNotation.TheImpl.Laws.{keeps-law as binding1};
+ghost use Rattle.snmp.specs.contracts.v1.var_bind.VarBindCanonicalNotation.TheImpl.Laws.{written-law as binding1_written};
+ghost use Rattle.yasna_notation.specs.contracts.simple.I64Notation.TheImpl.Laws.{keeps-law as int64};
+ghost use Rattle.yasna_notation.specs.contracts.canonical.I64CanonicalNotation.TheImpl.Laws.{written-law as int64_written};
+
+use crate::v1::var_bind::VarBind;
+use yasna::{ASN1Result, BERReader, DERWriter, Tag};
+use yasna_notation::{
+    CanonicalNotation, Message, Notation, Sequence, SequenceOf, StandsFor, read_as,
+};
+
+type VarBindList = SequenceOf<VarBind>;
+
+type Parts = (i64, (i64, (i64, (VarBindList, ()))));
+
+type Fields = (i64, (i64, (i64, (Vec<VarBind>, ()))));
+
+/// What most protocol data units hold.
+#[derive(Drop)]
+pub struct Pdu {
+    pub request_id: i64,
+    /// 0 where there was no error.
+    pub error_status: i64,
+    /// Which variable is at fault, from 1; 0 where none is.
+    pub error_index: i64,
+    pub variable_bindings: Vec<VarBind>,
+}
+
+impl StandsFor<Fields> for Pdu {
+    ghost value_of = { λ v. (v.request_id, (v.error_status, (v.error_index, (v.variable_bindings, tt)))) };
+
+    fn from_value(fields: Fields) -> Pdu {
+        let (request_id, others) = fields;
+        let (error_status, others) = others;
+        let (error_index, others) = others;
+        let (variable_bindings, ()) = others;
+        Pdu {
+            request_id,
+            error_status,
+            error_index,
+            variable_bindings,
+        }
+    }
+}
+
+impl Notation for Pdu {
+    type Value = Pdu;
+
+    type Inner = ();
+
+    ghost means = { stands_for ⟦<Pdu as StandsFor<Fields>>⟧.value_of ⟦<Sequence<Parts> as Notation>⟧.means };
+
+    fn has_tag(tag: Tag) -> bool {
+        <Sequence<Parts> as Notation>::has_tag(tag)
+    }
+
+    fn read(reader: BERReader) -> ASN1Result<Pdu> {
+        read_as::<Sequence<Parts>, Pdu>(reader)
+    }
+
+    fn write(value: &Pdu, writer: DERWriter<'_>) -> ASN1Result<()> {
+        Sequence::<Parts>::write_fields(
+            (
+                &value.request_id,
+                (
+                    &value.error_status,
+                    (&value.error_index, (&value.variable_bindings, ())),
+                ),
+            ),
+            writer,
+        )
+    }
+
+    ghost keeps = { λ _. standing_keeps ⟦<Pdu as StandsFor<Fields>>⟧.value_of (in_sequence
+        (part (int64 refl).own (part (int64 refl).own (part (int64 refl).own (part (in_sequence_of (binding1 refl).own).own no_parts))))) };
+
+    ghost filled = { λ u m v. element_filled _ _ _ _ };
+}
+
+impl Message for Pdu {
+    ghost told_apart = { refl };
+}
+
+impl CanonicalNotation for Pdu {
+    ghost written = { λ _. standing_written ⟦<Pdu as StandsFor<Fields>>⟧.value_of (sequence_written
+        (part_written (int64_written refl).own (part_written (int64_written refl).own (part_written (int64_written refl).own
+        (part_written (sequence_of_written (binding1_written refl).own).own no_part_written))))) };
+}

@@ -1,0 +1,138 @@
+//! Protocol data units of SNMPv1 (RFC 1157, 4.1).
+//!
+//! ```text
+//! PDUs ::= CHOICE {
+//!     get-request       [0] IMPLICIT PDU,
+//!     get-next-request  [1] IMPLICIT PDU,
+//!     get-response      [2] IMPLICIT PDU,
+//!     set-request       [3] IMPLICIT PDU,
+//!     trap              [4] IMPLICIT Trap-PDU }
+//! ```
+ghost use Rattle.std.specs.Prelude.{◌≡◌, Some, refl};
+ghost use Rattle.std.proofs.Common.{arith};
+ghost use Rattle.yasna_notation.specs.Canonical.{standing_written, choice_written_as};
+ghost use Rattle.yasna_notation.specs.Laws.{standing_keeps};
+ghost use Rattle.yasna_notation.specs.Making.{alternative, alternative_filled, in_choice, in_implicit};
+ghost use Rattle.yasna_notation.specs.Making.{context, tag_or};
+ghost use Rattle.yasna_notation.specs.Notation.{stands_for};
+ghost use Rattle.yasna_notation.specs.Writing.{alternative_written, under_context};
+ghost use Rattle.snmp.specs.contracts.v1.pdu.PduNotation.TheImpl.Laws.{keeps-law as pdu1, filled-law as pdu1_filled};
+ghost use Rattle.snmp.specs.contracts.v1.pdu.PduCanonicalNotation.TheImpl.Laws.{written-law as pdu1_written};
+ghost use Rattle.snmp.specs.contracts.v1.trap_pdu.TrapPduNotation.TheImpl.Laws.{keeps-law as trap, filled-law as trap_filled};
+ghost use Rattle.snmp.specs.contracts.v1.trap_pdu.TrapPduCanonicalNotation.TheImpl.Laws.{written-law as trap_written};
+ghost use Rattle.yasna_notation.specs.declared.choices.Either.TheVariants.{First, Second};
+ghost use Rattle.snmp.specs.declared.v1.pdus.Pdus.TheVariants.{GetRequest, GetNextRequest, GetResponse, SetRequest, Trap};
+
+use crate::v1::pdu::Pdu;
+use crate::v1::trap_pdu::TrapPdu;
+use yasna::{ASN1Result, BERReader, DERWriter, Tag};
+use yasna_notation::{
+    CanonicalNotation, Choice, Context, Either, Implicit, Message, Notation, StandsFor, read_as,
+};
+
+type GetRequestPdu = Implicit<Context<0>, Pdu>;
+
+type GetNextRequestPdu = Implicit<Context<1>, Pdu>;
+
+type GetResponsePdu = Implicit<Context<2>, Pdu>;
+
+type SetRequestPdu = Implicit<Context<3>, Pdu>;
+
+type Trap = Implicit<Context<4>, TrapPdu>;
+
+type Types = (
+    GetRequestPdu,
+    (
+        GetNextRequestPdu,
+        (GetResponsePdu, (SetRequestPdu, (Trap,))),
+    ),
+);
+
+type Sides = Either<Pdu, Either<Pdu, Either<Pdu, Either<Pdu, TrapPdu>>>>;
+
+/// A protocol data unit.
+#[derive(Drop)]
+pub enum Pdus {
+    GetRequest(Pdu),
+    GetNextRequest(Pdu),
+    GetResponse(Pdu),
+    SetRequest(Pdu),
+    Trap(TrapPdu),
+}
+
+impl StandsFor<Sides> for Pdus {
+    ghost value_of = { λ v. elim v [
+      | GetRequest x ↦ First x
+      | GetNextRequest x ↦ Second (First x)
+      | GetResponse x ↦ Second (Second (First x))
+      | SetRequest x ↦ Second (Second (Second (First x)))
+      | Trap x ↦ Second (Second (Second (Second x)))
+    ] };
+
+    fn from_value(value: Sides) -> Pdus {
+        let others = match value {
+            Either::First(value) => return Pdus::GetRequest(value),
+            Either::Second(others) => others,
+        };
+        let others = match others {
+            Either::First(value) => return Pdus::GetNextRequest(value),
+            Either::Second(others) => others,
+        };
+        let others = match others {
+            Either::First(value) => return Pdus::GetResponse(value),
+            Either::Second(others) => others,
+        };
+        match others {
+            Either::First(value) => Pdus::SetRequest(value),
+            Either::Second(value) => Pdus::Trap(value),
+        }
+    }
+}
+
+impl Notation for Pdus {
+    type Value = Pdus;
+
+    type Inner = ();
+
+    ghost means = { stands_for ⟦<Pdus as StandsFor<Sides>>⟧.value_of ⟦<Choice<Types> as Notation>⟧.means };
+
+    fn has_tag(tag: Tag) -> bool {
+        <Choice<Types> as Notation>::has_tag(tag)
+    }
+
+    fn read(reader: BERReader) -> ASN1Result<Pdus> {
+        read_as::<Choice<Types>, Pdus>(reader)
+    }
+
+    fn write(value: &Pdus, writer: DERWriter<'_>) -> ASN1Result<()> {
+        match value {
+            Pdus::GetRequest(value) => <GetRequestPdu as Notation>::write(value, writer),
+            Pdus::GetNextRequest(value) => <GetNextRequestPdu as Notation>::write(value, writer),
+            Pdus::GetResponse(value) => <GetResponsePdu as Notation>::write(value, writer),
+            Pdus::SetRequest(value) => <SetRequestPdu as Notation>::write(value, writer),
+            Pdus::Trap(value) => <Trap as Notation>::write(value, writer),
+        }
+    }
+
+    ghost keeps = { λ _. standing_keeps ⟦<Pdus as StandsFor<Sides>>⟧.value_of (in_choice ⟦<Choice<Types> as Notation>⟧.means.form_under
+        (alternative (in_implicit 0 (omega arith) (pdu1 refl)).own refl (alternative (in_implicit 1 (omega arith) (pdu1 refl)).own refl
+        (alternative (in_implicit 2 (omega arith) (pdu1 refl)).own refl
+        (alternative (in_implicit 3 (omega arith) (pdu1 refl)).own refl (in_implicit 4 (omega arith) (trap refl)).own))))) };
+
+    ghost filled = { λ u m v.
+        alternative_filled (pdu1_filled (Some (tag_or u (context 0)))) (alternative_filled (pdu1_filled (Some (tag_or u (context 1))))
+        (alternative_filled (pdu1_filled (Some (tag_or u (context 2))))
+        (alternative_filled (pdu1_filled (Some (tag_or u (context 3)))) (trap_filled (Some (tag_or u (context 4))))))) m (⟦<Pdus as StandsFor<Sides>>⟧.value_of v) };
+}
+
+impl Message for Pdus {
+    ghost told_apart = { refl };
+}
+
+impl CanonicalNotation for Pdus {
+    ghost written = { λ _. standing_written ⟦<Pdus as StandsFor<Sides>>⟧.value_of (choice_written_as ⟦<Choice<Types> as Notation>⟧.means.form_under
+        (alternative_written (under_context 0 (omega arith) (pdu1_written refl)).own
+        (alternative_written (under_context 1 (omega arith) (pdu1_written refl)).own
+        (alternative_written (under_context 2 (omega arith) (pdu1_written refl)).own
+        (alternative_written (under_context 3 (omega arith) (pdu1_written refl)).own (under_context 4 (omega arith) (trap_written refl)).own))))) };
+}

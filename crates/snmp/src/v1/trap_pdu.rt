@@ -1,0 +1,146 @@
+//! What a trap of SNMPv1 holds (RFC 1157, 4.1.6).
+//!
+//! ```text
+//! Trap-PDU ::= [4] IMPLICIT SEQUENCE {
+//!     enterprise         OBJECT IDENTIFIER,
+//!     agent-addr         NetworkAddress,
+//!     generic-trap       INTEGER { coldStart(0), .., enterpriseSpecific(6) },
+//!     specific-trap      INTEGER,
+//!     time-stamp         TimeTicks,
+//!     variable-bindings  VarBindList }
+//! ```
+ghost use Rattle.std.specs.Prelude.{◌≡◌, length, nat_eq, refl};
+ghost use Rattle.std.proofs.Common.{arith};
+ghost use Rattle.yasna_notation.specs.Bounded.{within_keeps, passes_alike};
+ghost use Rattle.yasna_notation.specs.Canonical.{bounded_written, standing_written};
+ghost use Rattle.yasna_notation.specs.Laws.{standing_keeps, element_filled};
+ghost use Rattle.yasna_notation.specs.Making.{in_application, in_sequence, in_sequence_of, part};
+ghost use Rattle.yasna_notation.specs.Notation.{stands_for};
+ghost use Rattle.yasna_notation.specs.Parts.{no_parts};
+ghost use Rattle.yasna_notation.specs.Writing.{no_part_written, part_written, sequence_of_written, sequence_written, under_application};
+ghost use Rattle.snmp.specs.contracts.v1.var_bind.VarBindNotation.TheImpl.Laws.{keeps-law as binding1};
+ghost use Rattle.snmp.specs.contracts.v1.var_bind.VarBindCanonicalNotation.TheImpl.Laws.{written-law as binding1_written};
+ghost use Rattle.yasna_notation.specs.contracts.simple.U32Notation.TheImpl.Laws.{keeps-law as count32};
+ghost use Rattle.yasna_notation.specs.contracts.canonical.U32CanonicalNotation.TheImpl.Laws.{written-law as count32_written};
+ghost use Rattle.yasna_notation.specs.contracts.simple.I64Notation.TheImpl.Laws.{keeps-law as int64};
+ghost use Rattle.yasna_notation.specs.contracts.canonical.I64CanonicalNotation.TheImpl.Laws.{written-law as int64_written};
+ghost use Rattle.yasna_notation.specs.contracts.strings.VecU8Notation.TheImpl.Laws.{keeps-law as octets};
+ghost use Rattle.yasna_notation.specs.contracts.canonical.VecU8CanonicalNotation.TheImpl.Laws.{written-law as octets_written};
+ghost use Rattle.yasna_notation.specs.contracts.simple.ObjectIdentifierNotation.TheImpl.Laws.{keeps-law as oid};
+ghost use Rattle.yasna_notation.specs.contracts.canonical.ObjectIdentifierCanonicalNotation.TheImpl.Laws.{written-law as oid_written};
+
+use crate::v1::var_bind::VarBind;
+use yasna::models::ObjectIdentifier;
+use yasna::{ASN1Result, BERReader, DERWriter, Tag};
+use yasna_notation::{
+    Application, Bounded, CanonicalNotation, Implicit, Message, Notation, Sequence, SequenceOf,
+    Size, StandsFor, read_as,
+};
+
+type NetworkAddress = Implicit<Application<0>, Bounded<Vec<u8>, Size<4>>>;
+
+type TimeTicks = Implicit<Application<3>, u32>;
+
+type VarBindList = SequenceOf<VarBind>;
+
+type Parts = (
+    ObjectIdentifier,
+    (NetworkAddress, (i64, (i64, (TimeTicks, (VarBindList, ()))))),
+);
+
+type Fields = (
+    ObjectIdentifier,
+    (Vec<u8>, (i64, (i64, (u32, (Vec<VarBind>, ()))))),
+);
+
+/// What a trap holds.
+#[derive(Drop)]
+pub struct TrapPdu {
+    pub enterprise: ObjectIdentifier,
+    /// Four octets.
+    pub agent_addr: Vec<u8>,
+    pub generic_trap: i64,
+    pub specific_trap: i64,
+    /// Hundredths of a second.
+    pub time_stamp: u32,
+    pub variable_bindings: Vec<VarBind>,
+}
+
+impl StandsFor<Fields> for TrapPdu {
+    ghost value_of = { λ v. (v.enterprise, (v.agent_addr, (v.generic_trap, (v.specific_trap, (v.time_stamp, (v.variable_bindings, tt)))))) };
+
+    fn from_value(fields: Fields) -> TrapPdu {
+        let (enterprise, others) = fields;
+        let (agent_addr, others) = others;
+        let (generic_trap, others) = others;
+        let (specific_trap, others) = others;
+        let (time_stamp, others) = others;
+        let (variable_bindings, ()) = others;
+        TrapPdu {
+            enterprise,
+            agent_addr,
+            generic_trap,
+            specific_trap,
+            time_stamp,
+            variable_bindings,
+        }
+    }
+}
+
+impl Notation for TrapPdu {
+    type Value = TrapPdu;
+
+    type Inner = ();
+
+    ghost means = { stands_for ⟦<TrapPdu as StandsFor<Fields>>⟧.value_of ⟦<Sequence<Parts> as Notation>⟧.means };
+
+    fn has_tag(tag: Tag) -> bool {
+        <Sequence<Parts> as Notation>::has_tag(tag)
+    }
+
+    fn read(reader: BERReader) -> ASN1Result<TrapPdu> {
+        read_as::<Sequence<Parts>, TrapPdu>(reader)
+    }
+
+    fn write(value: &TrapPdu, writer: DERWriter<'_>) -> ASN1Result<()> {
+        Sequence::<Parts>::write_fields(
+            (
+                &value.enterprise,
+                (
+                    &value.agent_addr,
+                    (
+                        &value.generic_trap,
+                        (
+                            &value.specific_trap,
+                            (&value.time_stamp, (&value.variable_bindings, ())),
+                        ),
+                    ),
+                ),
+            ),
+            writer,
+        )
+    }
+
+    ghost keeps = { λ _. standing_keeps ⟦<TrapPdu as StandsFor<Fields>>⟧.value_of (in_sequence
+        (part (oid refl).own
+        (part (in_application 0 (omega arith) (within_keeps (λ v. nat_eq (length v.items) 4)
+        (λ v w e. passes_alike (λ s. nat_eq (length s) 4) e) (octets refl))).own
+        (part (int64 refl).own (part (int64 refl).own (part (in_application 3 (omega arith) (count32 refl)).own
+        (part (in_sequence_of (binding1 refl).own).own no_parts))))))) };
+
+    ghost filled = { λ u m v. element_filled _ _ _ _ };
+}
+
+impl Message for TrapPdu {
+    ghost told_apart = { refl };
+}
+
+impl CanonicalNotation for TrapPdu {
+    ghost written = { λ _. standing_written ⟦<TrapPdu as StandsFor<Fields>>⟧.value_of (sequence_written
+        (part_written (oid_written refl).own
+        (part_written (under_application 0 (omega arith) (bounded_written (λ v. nat_eq (length v.items) 4)
+        (λ v w e. passes_alike (λ s. nat_eq (length s) 4) e) (octets_written refl))).own
+        (part_written (int64_written refl).own (part_written (int64_written refl).own
+        (part_written (under_application 3 (omega arith) (count32_written refl)).own
+        (part_written (sequence_of_written (binding1_written refl).own).own no_part_written))))))) };
+}

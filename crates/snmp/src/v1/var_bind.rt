@@ -1,0 +1,78 @@
+//! Variables with their values (RFC 1157, 4.1.1).
+//!
+//! ```text
+//! VarBind ::= SEQUENCE { name ObjectName, value ObjectSyntax }
+//!
+//! ObjectName ::= OBJECT IDENTIFIER
+//! ```
+ghost use Rattle.std.specs.Prelude.{◌≡◌, refl};
+ghost use Rattle.yasna_notation.specs.Canonical.{standing_written};
+ghost use Rattle.yasna_notation.specs.Laws.{standing_keeps, element_filled};
+ghost use Rattle.yasna_notation.specs.Making.{in_sequence, part};
+ghost use Rattle.yasna_notation.specs.Notation.{stands_for};
+ghost use Rattle.yasna_notation.specs.Parts.{no_parts};
+ghost use Rattle.yasna_notation.specs.Writing.{no_part_written, part_written, sequence_written};
+ghost use Rattle.snmp.specs.contracts.v1.object_syntax.ObjectSyntaxNotation.TheImpl.Laws.{keeps-law as object_syntax};
+ghost use Rattle.snmp.specs.contracts.v1.object_syntax.ObjectSyntaxCanonicalNotation.TheImpl.Laws.{written-law as object_syntax_written};
+ghost use Rattle.yasna_notation.specs.contracts.simple.ObjectIdentifierNotation.TheImpl.Laws.{keeps-law as oid};
+ghost use Rattle.yasna_notation.specs.contracts.canonical.ObjectIdentifierCanonicalNotation.TheImpl.Laws.{written-law as oid_written};
+
+use crate::v1::object_syntax::ObjectSyntax;
+use yasna::models::ObjectIdentifier;
+use yasna::{ASN1Result, BERReader, DERWriter, Tag};
+use yasna_notation::{CanonicalNotation, Message, Notation, Sequence, StandsFor, read_as};
+
+type Parts = (ObjectIdentifier, (ObjectSyntax, ()));
+
+type Fields = (ObjectIdentifier, (ObjectSyntax, ()));
+
+/// A variable, and its value.
+#[derive(Drop)]
+pub struct VarBind {
+    pub name: ObjectIdentifier,
+    pub value: ObjectSyntax,
+}
+
+impl StandsFor<Fields> for VarBind {
+    ghost value_of = { λ v. (v.name, (v.value, tt)) };
+
+    fn from_value(fields: Fields) -> VarBind {
+        let (name, others) = fields;
+        let (value, ()) = others;
+        VarBind { name, value }
+    }
+}
+
+impl Notation for VarBind {
+    type Value = VarBind;
+
+    type Inner = ();
+
+    ghost means = { stands_for ⟦<VarBind as StandsFor<Fields>>⟧.value_of ⟦<Sequence<Parts> as Notation>⟧.means };
+
+    fn has_tag(tag: Tag) -> bool {
+        <Sequence<Parts> as Notation>::has_tag(tag)
+    }
+
+    fn read(reader: BERReader) -> ASN1Result<VarBind> {
+        read_as::<Sequence<Parts>, VarBind>(reader)
+    }
+
+    fn write(value: &VarBind, writer: DERWriter<'_>) -> ASN1Result<()> {
+        Sequence::<Parts>::write_fields((&value.name, (&value.value, ())), writer)
+    }
+
+    ghost keeps = { λ _. standing_keeps ⟦<VarBind as StandsFor<Fields>>⟧.value_of (in_sequence
+        (part (oid refl).own (part (object_syntax refl).own no_parts))) };
+
+    ghost filled = { λ u m v. element_filled _ _ _ _ };
+}
+
+impl Message for VarBind {
+    ghost told_apart = { refl };
+}
+
+impl CanonicalNotation for VarBind {
+    ghost written = { λ _. standing_written ⟦<VarBind as StandsFor<Fields>>⟧.value_of (sequence_written
+        (part_written (oid_written refl).own (part_written (object_syntax_written refl).own no_part_written))) };
+}

@@ -1,0 +1,152 @@
+//! What is bound to a variable (RFC 3416, 3).
+//!
+//! ```text
+//! CHOICE {
+//!     value           ObjectSyntax,
+//!     unSpecified     NULL,
+//!     noSuchObject    [0] IMPLICIT NULL,
+//!     noSuchInstance  [1] IMPLICIT NULL,
+//!     endOfMibView    [2] IMPLICIT NULL }
+//!
+//! ObjectSyntax ::= CHOICE {
+//!     simple            SimpleSyntax,
+//!     application-wide  ApplicationSyntax }
+//! ```
+ghost use Rattle.std.specs.Prelude.{◌≡◌, Some, refl};
+ghost use Rattle.std.proofs.Common.{arith};
+ghost use Rattle.yasna_notation.specs.Canonical.{standing_written, choice_written_as};
+ghost use Rattle.yasna_notation.specs.Laws.{standing_keeps};
+ghost use Rattle.yasna_notation.specs.Making.{alternative, alternative_filled, in_choice, in_implicit};
+ghost use Rattle.yasna_notation.specs.Making.{context, tag_or};
+ghost use Rattle.yasna_notation.specs.Notation.{stands_for};
+ghost use Rattle.yasna_notation.specs.Writing.{alternative_written, under_context};
+ghost use Rattle.snmp.specs.contracts.application_syntax.ApplicationSyntaxNotation.TheImpl.Laws.{keeps-law as application_wide, filled-law as application_wide_filled};
+ghost use Rattle.snmp.specs.contracts.application_syntax.ApplicationSyntaxCanonicalNotation.TheImpl.Laws.{written-law as application_wide_written};
+ghost use Rattle.yasna_notation.specs.contracts.simple.UnitNotation.TheImpl.Laws.{keeps-law as null, filled-law as null_filled};
+ghost use Rattle.yasna_notation.specs.contracts.canonical.UnitCanonicalNotation.TheImpl.Laws.{written-law as null_written};
+ghost use Rattle.snmp.specs.contracts.simple_syntax.SimpleSyntaxNotation.TheImpl.Laws.{keeps-law as simple, filled-law as simple_filled};
+ghost use Rattle.snmp.specs.contracts.simple_syntax.SimpleSyntaxCanonicalNotation.TheImpl.Laws.{written-law as simple_written};
+ghost use Rattle.yasna_notation.specs.declared.choices.Either.TheVariants.{First, Second};
+ghost use Rattle.snmp.specs.declared.v2c.bound_value.BoundValue.TheVariants.{Simple, ApplicationWide, Unspecified, NoSuchObject, NoSuchInstance, EndOfMibView};
+
+use crate::application_syntax::ApplicationSyntax;
+use crate::simple_syntax::SimpleSyntax;
+use yasna::{ASN1Result, BERReader, DERWriter, Tag};
+use yasna_notation::{
+    CanonicalNotation, Choice, Context, Either, Implicit, Message, Notation, StandsFor, read_as,
+};
+
+type NoSuchObject = Implicit<Context<0>, ()>;
+
+type NoSuchInstance = Implicit<Context<1>, ()>;
+
+type EndOfMibView = Implicit<Context<2>, ()>;
+
+type Types = (
+    SimpleSyntax,
+    (
+        ApplicationSyntax,
+        ((), (NoSuchObject, (NoSuchInstance, (EndOfMibView,)))),
+    ),
+);
+
+type Sides = Either<
+    SimpleSyntax,
+    Either<ApplicationSyntax, Either<(), Either<(), Either<(), ()>>>>,
+>;
+
+/// What is bound to a variable: a value, or why there is none.
+#[derive(Drop)]
+pub enum BoundValue {
+    Simple(SimpleSyntax),
+    ApplicationWide(ApplicationSyntax),
+    /// As in what asks for values.
+    Unspecified,
+    NoSuchObject,
+    NoSuchInstance,
+    EndOfMibView,
+}
+
+impl StandsFor<Sides> for BoundValue {
+    ghost value_of = { λ v. elim v [
+      | Simple x ↦ First x
+      | ApplicationWide x ↦ Second (First x)
+      | Unspecified ↦ Second (Second (First tt))
+      | NoSuchObject ↦ Second (Second (Second (First tt)))
+      | NoSuchInstance ↦ Second (Second (Second (Second (First tt))))
+      | EndOfMibView ↦ Second (Second (Second (Second (Second tt))))
+    ] };
+
+    fn from_value(value: Sides) -> BoundValue {
+        let others = match value {
+            Either::First(value) => return BoundValue::Simple(value),
+            Either::Second(others) => others,
+        };
+        let others = match others {
+            Either::First(value) => return BoundValue::ApplicationWide(value),
+            Either::Second(others) => others,
+        };
+        let others = match others {
+            Either::First(()) => return BoundValue::Unspecified,
+            Either::Second(others) => others,
+        };
+        let others = match others {
+            Either::First(()) => return BoundValue::NoSuchObject,
+            Either::Second(others) => others,
+        };
+        match others {
+            Either::First(()) => BoundValue::NoSuchInstance,
+            Either::Second(()) => BoundValue::EndOfMibView,
+        }
+    }
+}
+
+impl Notation for BoundValue {
+    type Value = BoundValue;
+
+    type Inner = ();
+
+    ghost means = { stands_for ⟦<BoundValue as StandsFor<Sides>>⟧.value_of ⟦<Choice<Types> as Notation>⟧.means };
+
+    fn has_tag(tag: Tag) -> bool {
+        <Choice<Types> as Notation>::has_tag(tag)
+    }
+
+    fn read(reader: BERReader) -> ASN1Result<BoundValue> {
+        read_as::<Choice<Types>, BoundValue>(reader)
+    }
+
+    fn write(value: &BoundValue, writer: DERWriter<'_>) -> ASN1Result<()> {
+        match value {
+            BoundValue::Simple(value) => <SimpleSyntax as Notation>::write(value, writer),
+            BoundValue::ApplicationWide(value) => <ApplicationSyntax as Notation>::write(
+                value, writer,
+            ),
+            BoundValue::Unspecified => <() as Notation>::write(&(), writer),
+            BoundValue::NoSuchObject => <NoSuchObject as Notation>::write(&(), writer),
+            BoundValue::NoSuchInstance => <NoSuchInstance as Notation>::write(&(), writer),
+            BoundValue::EndOfMibView => <EndOfMibView as Notation>::write(&(), writer),
+        }
+    }
+
+    ghost keeps = { λ _. standing_keeps ⟦<BoundValue as StandsFor<Sides>>⟧.value_of (in_choice ⟦<Choice<Types> as Notation>⟧.means.form_under
+        (alternative (simple refl).own refl (alternative (application_wide refl).own refl (alternative (null refl).own refl
+        (alternative (in_implicit 0 (omega arith) (null refl)).own refl
+        (alternative (in_implicit 1 (omega arith) (null refl)).own refl (in_implicit 2 (omega arith) (null refl)).own)))))) };
+
+    ghost filled = { λ u m v.
+        alternative_filled (simple_filled u) (alternative_filled (application_wide_filled u) (alternative_filled (null_filled u)
+        (alternative_filled (null_filled (Some (tag_or u (context 0))))
+        (alternative_filled (null_filled (Some (tag_or u (context 1)))) (null_filled (Some (tag_or u (context 2)))))))) m (⟦<BoundValue as StandsFor<Sides>>⟧.value_of v) };
+}
+
+impl Message for BoundValue {
+    ghost told_apart = { refl };
+}
+
+impl CanonicalNotation for BoundValue {
+    ghost written = { λ _. standing_written ⟦<BoundValue as StandsFor<Sides>>⟧.value_of (choice_written_as ⟦<Choice<Types> as Notation>⟧.means.form_under
+        (alternative_written (simple_written refl).own (alternative_written (application_wide_written refl).own
+        (alternative_written (null_written refl).own (alternative_written (under_context 0 (omega arith) (null_written refl)).own
+        (alternative_written (under_context 1 (omega arith) (null_written refl)).own (under_context 2 (omega arith) (null_written refl)).own)))))) };
+}

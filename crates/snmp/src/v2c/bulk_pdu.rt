@@ -1,0 +1,119 @@
+//! What asks for many values at once (RFC 3416, 3).
+//!
+//! ```text
+//! BulkPDU ::= SEQUENCE {
+//!     request-id         INTEGER (-214783648..214783647),
+//!     non-repeaters      INTEGER (0..max-bindings),
+//!     max-repetitions    INTEGER (0..max-bindings),
+//!     variable-bindings  VarBindList }
+//! ```
+//!
+//! The bounds of `request-id` lack a digit in the RFC: programs send numbers of 32 bits, and these are taken.
+ghost use Rattle.std.specs.Prelude.{◌≡◌, length, nat_lt, not, refl};
+ghost use Rattle.yasna_notation.specs.Bounded.{within_keeps, sizes_alike};
+ghost use Rattle.yasna_notation.specs.Canonical.{bounded_written, standing_written};
+ghost use Rattle.yasna_notation.specs.Laws.{standing_keeps, element_filled};
+ghost use Rattle.yasna_notation.specs.Making.{at_most, in_sequence, in_sequence_of, part};
+ghost use Rattle.yasna_notation.specs.Notation.{stands_for};
+ghost use Rattle.yasna_notation.specs.Parts.{no_parts};
+ghost use Rattle.yasna_notation.specs.Writing.{at_most_written, no_part_written, part_written, sequence_of_written, sequence_written};
+ghost use Rattle.snmp.specs.contracts.v2c.var_bind.VarBindNotation.TheImpl.Laws.{keeps-law as binding};
+ghost use Rattle.snmp.specs.contracts.v2c.var_bind.VarBindCanonicalNotation.TheImpl.Laws.{written-law as binding_written};
+ghost use Rattle.yasna_notation.specs.contracts.simple.U64Notation.TheImpl.Laws.{keeps-law as count64};
+ghost use Rattle.yasna_notation.specs.contracts.canonical.U64CanonicalNotation.TheImpl.Laws.{written-law as count64_written};
+ghost use Rattle.yasna_notation.specs.contracts.simple.I32Notation.TheImpl.Laws.{keeps-law as int32};
+ghost use Rattle.yasna_notation.specs.contracts.canonical.I32CanonicalNotation.TheImpl.Laws.{written-law as int32_written};
+
+use crate::bounds::SizeAtMost;
+use crate::v2c::var_bind::VarBind;
+use yasna::{ASN1Result, BERReader, DERWriter, Tag};
+use yasna_notation::{
+    AtMost, Bounded, CanonicalNotation, Message, Notation, Sequence, SequenceOf, StandsFor, read_as,
+};
+
+type Repeaters = Bounded<u64, AtMost<2147483647>>;
+
+type Repetitions = Bounded<u64, AtMost<2147483647>>;
+
+type VarBindList = Bounded<SequenceOf<VarBind>, SizeAtMost<2147483647>>;
+
+type Parts = (i32, (Repeaters, (Repetitions, (VarBindList, ()))));
+
+type Fields = (i32, (u64, (u64, (Vec<VarBind>, ()))));
+
+/// What asks for many values at once.
+#[derive(Drop)]
+pub struct BulkPdu {
+    pub request_id: i32,
+    /// Of how many variables one value is asked for.
+    pub non_repeaters: u64,
+    /// How many values are asked for of each of the others.
+    pub max_repetitions: u64,
+    pub variable_bindings: Vec<VarBind>,
+}
+
+impl StandsFor<Fields> for BulkPdu {
+    ghost value_of = { λ v. (v.request_id, (v.non_repeaters, (v.max_repetitions, (v.variable_bindings, tt)))) };
+
+    fn from_value(fields: Fields) -> BulkPdu {
+        let (request_id, others) = fields;
+        let (non_repeaters, others) = others;
+        let (max_repetitions, others) = others;
+        let (variable_bindings, ()) = others;
+        BulkPdu {
+            request_id,
+            non_repeaters,
+            max_repetitions,
+            variable_bindings,
+        }
+    }
+}
+
+impl Notation for BulkPdu {
+    type Value = BulkPdu;
+
+    type Inner = ();
+
+    ghost means = { stands_for ⟦<BulkPdu as StandsFor<Fields>>⟧.value_of ⟦<Sequence<Parts> as Notation>⟧.means };
+
+    fn has_tag(tag: Tag) -> bool {
+        <Sequence<Parts> as Notation>::has_tag(tag)
+    }
+
+    fn read(reader: BERReader) -> ASN1Result<BulkPdu> {
+        read_as::<Sequence<Parts>, BulkPdu>(reader)
+    }
+
+    fn write(value: &BulkPdu, writer: DERWriter<'_>) -> ASN1Result<()> {
+        Sequence::<Parts>::write_fields(
+            (
+                &value.request_id,
+                (
+                    &value.non_repeaters,
+                    (&value.max_repetitions, (&value.variable_bindings, ())),
+                ),
+            ),
+            writer,
+        )
+    }
+
+    ghost keeps = { λ _. standing_keeps ⟦<BulkPdu as StandsFor<Fields>>⟧.value_of (in_sequence
+        (part (int32 refl).own (part (at_most 2147483647 (count64 refl)).own (part (at_most 2147483647 (count64 refl)).own
+        (part (within_keeps (λ v. not (nat_lt 2147483647 (length v.items)))
+        (λ v w e. sizes_alike _ (λ k. not (nat_lt 2147483647 k)) v.items w.items e) (in_sequence_of (binding refl).own)).own no_parts))))) };
+
+    ghost filled = { λ u m v. element_filled _ _ _ _ };
+}
+
+impl Message for BulkPdu {
+    ghost told_apart = { refl };
+}
+
+impl CanonicalNotation for BulkPdu {
+    ghost written = { λ _. standing_written ⟦<BulkPdu as StandsFor<Fields>>⟧.value_of (sequence_written
+        (part_written (int32_written refl).own (part_written (at_most_written 2147483647 (count64_written refl)).own
+        (part_written (at_most_written 2147483647 (count64_written refl)).own
+        (part_written (bounded_written (λ v. not (nat_lt 2147483647 (length v.items)))
+        (λ v w e. sizes_alike _ (λ k. not (nat_lt 2147483647 k)) v.items w.items e)
+        (sequence_of_written (binding_written refl).own)).own no_part_written))))) };
+}

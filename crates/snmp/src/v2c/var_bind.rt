@@ -1,0 +1,78 @@
+//! Variables with what is bound to them (RFC 3416, 3).
+//!
+//! ```text
+//! VarBind ::= SEQUENCE { name ObjectName, CHOICE { .. } }
+//!
+//! ObjectName ::= OBJECT IDENTIFIER
+//! ```
+ghost use Rattle.std.specs.Prelude.{◌≡◌, refl};
+ghost use Rattle.yasna_notation.specs.Canonical.{standing_written};
+ghost use Rattle.yasna_notation.specs.Laws.{standing_keeps, element_filled};
+ghost use Rattle.yasna_notation.specs.Making.{in_sequence, part};
+ghost use Rattle.yasna_notation.specs.Notation.{stands_for};
+ghost use Rattle.yasna_notation.specs.Parts.{no_parts};
+ghost use Rattle.yasna_notation.specs.Writing.{no_part_written, part_written, sequence_written};
+ghost use Rattle.yasna_notation.specs.contracts.simple.ObjectIdentifierNotation.TheImpl.Laws.{keeps-law as oid};
+ghost use Rattle.yasna_notation.specs.contracts.canonical.ObjectIdentifierCanonicalNotation.TheImpl.Laws.{written-law as oid_written};
+ghost use Rattle.snmp.specs.contracts.v2c.bound_value.BoundValueNotation.TheImpl.Laws.{keeps-law as value};
+ghost use Rattle.snmp.specs.contracts.v2c.bound_value.BoundValueCanonicalNotation.TheImpl.Laws.{written-law as value_written};
+
+use crate::v2c::bound_value::BoundValue;
+use yasna::models::ObjectIdentifier;
+use yasna::{ASN1Result, BERReader, DERWriter, Tag};
+use yasna_notation::{CanonicalNotation, Message, Notation, Sequence, StandsFor, read_as};
+
+type Parts = (ObjectIdentifier, (BoundValue, ()));
+
+type Fields = (ObjectIdentifier, (BoundValue, ()));
+
+/// A variable, and what is bound to it.
+#[derive(Drop)]
+pub struct VarBind {
+    pub name: ObjectIdentifier,
+    pub value: BoundValue,
+}
+
+impl StandsFor<Fields> for VarBind {
+    ghost value_of = { λ v. (v.name, (v.value, tt)) };
+
+    fn from_value(fields: Fields) -> VarBind {
+        let (name, others) = fields;
+        let (value, ()) = others;
+        VarBind { name, value }
+    }
+}
+
+impl Notation for VarBind {
+    type Value = VarBind;
+
+    type Inner = ();
+
+    ghost means = { stands_for ⟦<VarBind as StandsFor<Fields>>⟧.value_of ⟦<Sequence<Parts> as Notation>⟧.means };
+
+    fn has_tag(tag: Tag) -> bool {
+        <Sequence<Parts> as Notation>::has_tag(tag)
+    }
+
+    fn read(reader: BERReader) -> ASN1Result<VarBind> {
+        read_as::<Sequence<Parts>, VarBind>(reader)
+    }
+
+    fn write(value: &VarBind, writer: DERWriter<'_>) -> ASN1Result<()> {
+        Sequence::<Parts>::write_fields((&value.name, (&value.value, ())), writer)
+    }
+
+    ghost keeps = { λ _. standing_keeps ⟦<VarBind as StandsFor<Fields>>⟧.value_of (in_sequence
+        (part (oid refl).own (part (value refl).own no_parts))) };
+
+    ghost filled = { λ u m v. element_filled _ _ _ _ };
+}
+
+impl Message for VarBind {
+    ghost told_apart = { refl };
+}
+
+impl CanonicalNotation for VarBind {
+    ghost written = { λ _. standing_written ⟦<VarBind as StandsFor<Fields>>⟧.value_of (sequence_written
+        (part_written (oid_written refl).own (part_written (value_written refl).own no_part_written))) };
+}
