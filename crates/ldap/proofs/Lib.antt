@@ -1,0 +1,2 @@
+pub mod FilterReading
+pub mod FilterWriting

@@ -1,0 +1,23 @@
+use Rattle.std.proofs.Common.{None, take, subst, rules, ◌≡◌}
+use Rattle.std.specs.Prelude.{IsErrAnd}
+use Rattle.yasna_base.specs.SetWriting.{forms}
+use Rattle.yasna_notation.specs.Sets.{WroteElement}
+use Rattle.yasna_notation.proofs.SetParts.{forms_filled, part_failed}
+use Rattle.ldap.specs.Filters.{the_filter}
+use Rattle.ldap.specs.TheFilter.{the_filter_filled}
+use Rattle.ldap.proofs.filter_writing.write_elements.Goals as goal
+
+pub returns-in_err-write : goal.returns-in_err-write
+returns-in_err-write g c =
+    let form = the_filter.form_under None in
+    let s = c.loop-item.set in
+    let w = c.next.result.now in
+    let left = c.write.new.arg3 in
+    let m = c.args.set.now.mode in
+    let before = take c.loop-item.item-index c.args.items.now in
+    part_failed (forms form m before) (forms form m c.args.items.now) (form w.mode c.item-item.result) s.mode s w left
+    c.in_err-write.field-0.0 c.from_residual.result
+    (forms_filled form m (the_filter_filled None m) before) c.loop-item.invariant.1 c.next.ensures.value
+    (subst (λ r. WroteElement (form w.mode c.item-item.result) w left r) c.in_err-write.was
+    (c.requires.writes _ _ _ _ _ c.write.result c.write.ensures))
+    (let x : IsErrAnd c.from_residual.result (λ e. e ≡ c.in_err-write.field-0.0) = search rules in x)

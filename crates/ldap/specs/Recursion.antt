@@ -1,0 +1,68 @@
+-- What a type means that stands within itself. A step says what it means, from what the values mean that stand one level further in.
+use Rattle.std.proofs.Common.{◌≡◌, ◌<◌, ℕ, zero, suc, List, [], true, false, Option, None}
+use Rattle.yasna_base.specs.declared.mode.BERMode.{BERMode}
+use Rattle.yasna_base.specs.declared.tag.Tag.{Tag}
+use Rattle.yasna_notation.specs.Notation.{Meaning, KeepsMeaning}
+
+-- what means nothing yet
+abbrev pub nothing_yet : {A : Type 0} → Meaning A
+nothing_yet = record {
+  told = true;
+  tags = [];
+  retagged = false;
+  under = λ u m n v b. ⊥;
+  any_under = λ u m n b. ⊥;
+  asks_memory = true;
+  same = λ v w. Unit {0};
+  form_under = λ u m v. [];
+  nest = λ m v. 0;
+  can = λ v. ⊥;
+  fits = λ m n v. ⊥;
+}
+
+-- so many steps
+abbrev pub after_steps : {A : Type 0} → (Meaning A → Meaning A) → ℕ → Meaning A
+after_steps step zero = nothing_yet
+after_steps step (suc k) = step (after_steps step k)
+
+-- What it means: within n levels a value has as many steps as there may be in them, and its form as many as it is deep. Values are equal
+-- where they are after any number of steps.
+abbrev pub means_within : {A : Type 0} → (Meaning A → Meaning A) → (A → ℕ) → Meaning A
+means_within step depth = record {
+  told = true;
+  tags = (step nothing_yet).tags;
+  retagged = false;
+  under = λ u m n v b. (after_steps step (suc n)).under u m n v b;
+  any_under = λ u m n b. (after_steps step (suc n)).any_under u m n b;
+  asks_memory = true;
+  same = λ v w. (k : ℕ) → (after_steps step k).same v w;
+  form_under = λ u m v. (after_steps step (suc (depth v))).form_under u m v;
+  nest = λ m v. (after_steps step (suc (depth v))).nest m v;
+  can = λ v. (k : ℕ) × (after_steps step k).can v;
+  fits = λ m n v. (after_steps step (suc n)).fits m n v;
+}
+
+-- What is made of a meaning: at no level it asks for nothing of that, at others for what is one level less, and the form of a value is
+-- made of those of values that are less deep than the value's top.
+pub record Follows {A V : Type 0} (depth : A → ℕ) (top : V → ℕ) (make : Meaning A → Meaning V) : Type 1 where
+  pub flat : (x y : Meaning A) (u : Option Tag) (m : BERMode) (v : V) (b : List ℕ) → (make x).under u m 0 v b → (make y).under u m 0 v b
+  pub any_flat : (x y : Meaning A) (u : Option Tag) (m : BERMode) (b : List ℕ) → (make x).any_under u m 0 b → (make y).any_under u m 0 b
+  pub fits_flat : (x y : Meaning A) (m : BERMode) (v : V) → (make x).fits m 0 v → (make y).fits m 0 v
+  pub within : (x y : Meaning A) (u : Option Tag) (m : BERMode) (n : ℕ) → ((v : A) (b : List ℕ) → x.under None m n v b → y.under None m n v b) →
+      (v : V) (b : List ℕ) → (make x).under u m (suc n) v b → (make y).under u m (suc n) v b
+  pub any_within : (x y : Meaning A) (u : Option Tag) (m : BERMode) (n : ℕ) → ((v : A) (b : List ℕ) → x.under None m n v b → y.under None m n v b) →
+      ((b : List ℕ) → x.any_under None m n b → y.any_under None m n b) →
+      (b : List ℕ) → (make x).any_under u m (suc n) b → (make y).any_under u m (suc n) b
+  pub fits_within : (x y : Meaning A) (m : BERMode) (n : ℕ) → ((v : A) → x.fits m n v → y.fits m n v) →
+      (v : V) → (make x).fits m (suc n) v → (make y).fits m (suc n) v
+  pub can_within : (x y : Meaning A) → ((v : A) → x.can v → y.can v) → (v : V) → (make x).can v → (make y).can v
+  pub same_within : (x y : Meaning A) → ((v w : A) → x.same v w → y.same v w) → (v w : V) → (make x).same v w → (make y).same v w
+  pub form_within : (x y : Meaning A) (u : Option Tag) (m : BERMode) (v : V) →
+      ((w : A) → depth w < top v → x.form_under None m w ≡ y.form_under None m w) → (make x).form_under u m v ≡ (make y).form_under u m v
+
+-- what a step keeps
+pub record IsStep {A : Type 0} (step : Meaning A → Meaning A) (depth : A → ℕ) : Type 1 where
+  pub keeps : (x : Meaning A) → KeepsMeaning x → KeepsMeaning (step x)
+  pub told : (x : Meaning A) → (step x).told ≡ true
+  pub tags : (x : Meaning A) → (step x).tags ≡ (step nothing_yet).tags
+  pub follows : Follows depth depth step

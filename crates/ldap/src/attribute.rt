@@ -1,0 +1,73 @@
+//! Attributes (RFC 4511, 4.1.7).
+//!
+//! ```text
+//! Attribute ::= PartialAttribute(WITH COMPONENTS {
+//!     ...,
+//!     vals (SIZE (1..MAX)) })
+//! ```
+ghost use Rattle.std.specs.Prelude.{◌≡◌, refl};
+ghost use Rattle.yasna_notation.specs.Laws.{standing_keeps, element_filled};
+ghost use Rattle.yasna_notation.specs.Making.{in_sequence, in_set_of, part};
+ghost use Rattle.yasna_notation.specs.Notation.{stands_for};
+ghost use Rattle.yasna_notation.specs.Parts.{no_parts};
+ghost use Rattle.ldap.specs.Making.{set_not_empty};
+ghost use Rattle.yasna_notation.specs.contracts.strings.VecU8Notation.TheImpl.Laws.{keeps-law as octets};
+
+use yasna::{ASN1Result, BERReader, DERWriter, Tag};
+use yasna_notation::{Bounded, Message, NotEmpty, Notation, Sequence, SetOf, StandsFor, read_as};
+
+type Parts = (Vec<u8>, (Bounded<SetOf<Vec<u8>>, NotEmpty>, ()));
+
+type Fields = (Vec<u8>, (Vec<Vec<u8>>, ()));
+
+/// An attribute, with one value or more.
+#[derive(Drop)]
+pub struct Attribute {
+    /// The name of the attribute, with its options, in UTF-8.
+    pub attribute_type: Vec<u8>,
+    /// Its values. They stand in no order.
+    pub vals: Vec<Vec<u8>>,
+}
+
+impl StandsFor<Fields> for Attribute {
+    ghost value_of = { λ v. (v.attribute_type, (v.vals, tt)) };
+
+    fn from_value(fields: Fields) -> Attribute {
+        let (attribute_type, others) = fields;
+        let (vals, ()) = others;
+        Attribute {
+            attribute_type,
+            vals,
+        }
+    }
+}
+
+impl Notation for Attribute {
+    type Value = Attribute;
+
+    type Inner = ();
+
+    ghost means = { stands_for ⟦<Attribute as StandsFor<Fields>>⟧.value_of ⟦<Sequence<Parts> as Notation>⟧.means };
+
+    fn has_tag(tag: Tag) -> bool {
+        <Sequence<Parts> as Notation>::has_tag(tag)
+    }
+
+    fn read(reader: BERReader) -> ASN1Result<Attribute> {
+        read_as::<Sequence<Parts>, Attribute>(reader)
+    }
+
+    fn write(value: &Attribute, writer: DERWriter<'_>) -> ASN1Result<()> {
+        Sequence::<Parts>::write_fields((&value.attribute_type, (&value.vals, ())), writer)
+    }
+
+    ghost keeps = { λ _. standing_keeps ⟦<Attribute as StandsFor<Fields>>⟧.value_of
+        (in_sequence (part (octets refl).own (part (set_not_empty (in_set_of (octets
+        refl).own)).own no_parts))) };
+
+    ghost filled = { λ u m v. element_filled _ _ _ _ };
+}
+
+impl Message for Attribute {
+    ghost told_apart = { refl };
+}

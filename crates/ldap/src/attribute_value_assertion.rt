@@ -1,0 +1,77 @@
+//! Assertions of a value of an attribute (RFC 4511, 4.1.6).
+//!
+//! ```text
+//! AttributeValueAssertion ::= SEQUENCE {
+//!     attributeDesc   AttributeDescription,
+//!     assertionValue  AssertionValue }
+//!
+//! AttributeDescription ::= LDAPString
+//! AssertionValue       ::= OCTET STRING
+//! LDAPString           ::= OCTET STRING
+//! ```
+ghost use Rattle.std.specs.Prelude.{◌≡◌, refl};
+ghost use Rattle.yasna_notation.specs.Laws.{standing_keeps, element_filled};
+ghost use Rattle.yasna_notation.specs.Making.{in_sequence, part};
+ghost use Rattle.yasna_notation.specs.Notation.{stands_for};
+ghost use Rattle.yasna_notation.specs.Parts.{no_parts};
+ghost use Rattle.yasna_notation.specs.contracts.strings.VecU8Notation.TheImpl.Laws.{keeps-law as octets};
+
+use yasna::{ASN1Result, BERReader, DERWriter, Tag};
+use yasna_notation::{Message, Notation, Sequence, StandsFor, read_as};
+
+type Parts = (Vec<u8>, (Vec<u8>, ()));
+
+type Fields = (Vec<u8>, (Vec<u8>, ()));
+
+/// An assertion of a value of an attribute.
+#[derive(Drop)]
+pub struct AttributeValueAssertion {
+    /// The name of the attribute, with its options, in UTF-8.
+    pub attribute_desc: Vec<u8>,
+    pub assertion_value: Vec<u8>,
+}
+
+impl StandsFor<Fields> for AttributeValueAssertion {
+    ghost value_of = { λ v. (v.attribute_desc, (v.assertion_value, tt)) };
+
+    fn from_value(fields: Fields) -> AttributeValueAssertion {
+        let (attribute_desc, others) = fields;
+        let (assertion_value, ()) = others;
+        AttributeValueAssertion {
+            attribute_desc,
+            assertion_value,
+        }
+    }
+}
+
+impl Notation for AttributeValueAssertion {
+    type Value = AttributeValueAssertion;
+
+    type Inner = ();
+
+    ghost means = { stands_for ⟦<AttributeValueAssertion as StandsFor<Fields>>⟧.value_of ⟦<Sequence<Parts> as Notation>⟧.means };
+
+    fn has_tag(tag: Tag) -> bool {
+        <Sequence<Parts> as Notation>::has_tag(tag)
+    }
+
+    fn read(reader: BERReader) -> ASN1Result<AttributeValueAssertion> {
+        read_as::<Sequence<Parts>, AttributeValueAssertion>(reader)
+    }
+
+    fn write(value: &AttributeValueAssertion, writer: DERWriter<'_>) -> ASN1Result<()> {
+        Sequence::<Parts>::write_fields(
+            (&value.attribute_desc, (&value.assertion_value, ())),
+            writer,
+        )
+    }
+
+    ghost keeps = { λ _. standing_keeps ⟦<AttributeValueAssertion as StandsFor<Fields>>⟧.value_of
+        (in_sequence (part (octets refl).own (part (octets refl).own no_parts))) };
+
+    ghost filled = { λ u m v. element_filled _ _ _ _ };
+}
+
+impl Message for AttributeValueAssertion {
+    ghost told_apart = { refl };
+}

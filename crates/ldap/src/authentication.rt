@@ -1,0 +1,49 @@
+//! How one who binds shows who they are (RFC 4511, 4.2).
+//!
+//! ```text
+//! AuthenticationChoice ::= CHOICE {
+//!     simple  [0] OCTET STRING,
+//!     sasl    [3] SaslCredentials,
+//!     ... }
+//! ```
+ghost use Rattle.std.specs.Prelude.{◌≡◌, refl};
+ghost use Rattle.yasna_notation.specs.declared.choices.Either.TheVariants.{First, Second};
+ghost use Rattle.ldap.specs.declared.authentication.AuthenticationChoice.TheVariants.{Simple, Sasl};
+
+use crate::sasl_credentials::SaslCredentials;
+use yasna::{ASN1Result, DERWriter};
+use yasna_notation::{Choice, Context, Defined, Either, Implicit, Notation};
+
+type SimpleNotation = Implicit<Context<0>, Vec<u8>>;
+
+type SaslNotation = Implicit<Context<3>, SaslCredentials>;
+
+/// How one who binds shows who they are.
+#[derive(Drop)]
+pub enum AuthenticationChoice {
+    /// By a password.
+    Simple(Vec<u8>),
+    Sasl(SaslCredentials),
+}
+
+impl Defined for AuthenticationChoice {
+    type Notation = Choice<(SimpleNotation, (SaslNotation,))>;
+
+    ghost value_of = { λ v. elim v [ Simple s ↦ First s | Sasl c ↦ Second c ] };
+
+    fn from_value(value: Either<Vec<u8>, SaslCredentials>) -> AuthenticationChoice {
+        match value {
+            Either::First(password) => AuthenticationChoice::Simple(password),
+            Either::Second(credentials) => AuthenticationChoice::Sasl(credentials),
+        }
+    }
+
+    fn write_value(&self, writer: DERWriter<'_>) -> ASN1Result<()> {
+        match self {
+            AuthenticationChoice::Simple(password) => SimpleNotation::write(password, writer),
+            AuthenticationChoice::Sasl(credentials) => SaslNotation::write(credentials, writer),
+        }
+    }
+
+    ghost apart = { refl };
+}

@@ -1,0 +1,100 @@
+//! Requests to bind: who asks from then on (RFC 4511, 4.2).
+//!
+//! ```text
+//! BindRequest ::= [APPLICATION 0] SEQUENCE {
+//!     version         INTEGER (1 .. 127),
+//!     name            LDAPDN,
+//!     authentication  AuthenticationChoice }
+//!
+//! LDAPDN     ::= LDAPString
+//! LDAPString ::= OCTET STRING
+//! ```
+ghost use Rattle.std.specs.Prelude.{◌≡◌, refl};
+ghost use Rattle.std.proofs.Common.{arith};
+ghost use Rattle.yasna_notation.specs.Laws.{standing_keeps, element_filled};
+ghost use Rattle.yasna_notation.specs.Making.{in_sequence, in_choice, alternative, in_implicit, part};
+ghost use Rattle.yasna_notation.specs.Notation.{stands_for};
+ghost use Rattle.yasna_notation.specs.Parts.{no_parts};
+ghost use Rattle.ldap.specs.Making.{in_application, in_bound, from_to};
+ghost use Rattle.yasna_notation.specs.contracts.strings.VecU8Notation.TheImpl.Laws.{keeps-law as octets};
+ghost use Rattle.yasna_notation.specs.contracts.simple.U64Notation.TheImpl.Laws.{keeps-law as number};
+ghost use Rattle.ldap.specs.contracts.sasl_credentials.SaslCredentialsNotation.TheImpl.Laws.{keeps-law as sasl};
+
+use crate::authentication::AuthenticationChoice;
+use crate::bounds::FromTo;
+use crate::sasl_credentials::SaslCredentials;
+use crate::tagged::write_tagged_fields;
+use yasna::{ASN1Result, BERReader, DERWriter, Tag};
+use yasna_notation::{
+    Application, Bounded, Choice, Context, Defined, Implicit, Message, Notation, Sequence,
+    StandsFor, read_as,
+};
+
+type Parts = (
+    Bounded<u64, FromTo<1, 127>>,
+    (Vec<u8>, (AuthenticationChoice, ())),
+);
+
+type Fields = (u64, (Vec<u8>, (AuthenticationChoice, ())));
+
+type Notated = Implicit<Application<0>, Sequence<Parts>>;
+
+/// A request to bind.
+#[derive(Drop)]
+pub struct BindRequest {
+    /// Of the protocol: 3.
+    pub version: u64,
+    /// Of who binds, in UTF-8; empty for nobody.
+    pub name: Vec<u8>,
+    pub authentication: AuthenticationChoice,
+}
+
+impl StandsFor<Fields> for BindRequest {
+    ghost value_of = { λ v. (v.version, (v.name, (v.authentication, tt))) };
+
+    fn from_value(fields: Fields) -> BindRequest {
+        let (version, others) = fields;
+        let (name, others) = others;
+        let (authentication, ()) = others;
+        BindRequest {
+            version,
+            name,
+            authentication,
+        }
+    }
+}
+
+impl Notation for BindRequest {
+    type Value = BindRequest;
+
+    type Inner = ();
+
+    ghost means = { stands_for ⟦<BindRequest as StandsFor<Fields>>⟧.value_of ⟦<Notated as Notation>⟧.means };
+
+    fn has_tag(tag: Tag) -> bool {
+        <Notated as Notation>::has_tag(tag)
+    }
+
+    fn read(reader: BERReader) -> ASN1Result<BindRequest> {
+        read_as::<Notated, BindRequest>(reader)
+    }
+
+    fn write(value: &BindRequest, writer: DERWriter<'_>) -> ASN1Result<()> {
+        write_tagged_fields::<Application<0>, Parts, _>(
+            (&value.version, (&value.name, (&value.authentication, ()))),
+            writer,
+        )
+    }
+
+    ghost keeps = { λ _. standing_keeps ⟦<BindRequest as StandsFor<Fields>>⟧.value_of
+        (in_application 0 (omega arith) (in_sequence (part (in_bound (from_to 1 127) (number
+        refl)).own (part (octets refl).own (part (standing_keeps ⟦<AuthenticationChoice as Defined>⟧.value_of (in_choice ⟦<Choice<(Implicit<Context<0>,
+      Vec<u8>>, (Implicit<Context<3>, SaslCredentials>,))> as Notation>⟧.means.form_under (alternative (in_implicit 0 (omega arith) (octets refl)).own refl
+        (in_implicit 3 (omega arith) (sasl refl)).own))).own no_parts))))) };
+
+    ghost filled = { λ u m v. element_filled _ _ _ _ };
+}
+
+impl Message for BindRequest {
+    ghost told_apart = { refl };
+}

@@ -1,0 +1,103 @@
+//! Responses to requests to bind (RFC 4511, 4.2.2).
+//!
+//! ```text
+//! BindResponse ::= [APPLICATION 1] SEQUENCE {
+//!     COMPONENTS OF LDAPResult,
+//!     serverSaslCreds  [7] OCTET STRING OPTIONAL }
+//! ```
+ghost use Rattle.std.specs.Prelude.{◌≡◌, refl};
+ghost use Rattle.std.proofs.Common.{arith};
+ghost use Rattle.yasna_notation.specs.Laws.{standing_keeps, element_filled};
+ghost use Rattle.yasna_notation.specs.Making.{in_sequence, in_sequence_of, part, optional_part, in_implicit, not_empty};
+ghost use Rattle.yasna_notation.specs.Notation.{stands_for};
+ghost use Rattle.yasna_notation.specs.Parts.{no_parts};
+ghost use Rattle.ldap.specs.Making.{in_application, in_bound, from_zero};
+ghost use Rattle.yasna_notation.specs.contracts.strings.VecU8Notation.TheImpl.Laws.{keeps-law as octets};
+ghost use Rattle.yasna_notation.specs.contracts.simple.EnumeratedNotation.TheImpl.Laws.{keeps-law as enumerated};
+
+use crate::bounds::FromZero;
+use crate::ldap_result::LdapResult;
+use crate::tagged::write_tagged_fields;
+use yasna::{ASN1Result, BERReader, DERWriter, Tag};
+use yasna_notation::{
+    Application, Bounded, Context, Enumerated, Implicit, Message, NotEmpty, Notation, Optional,
+    Sequence, SequenceOf, StandsFor, read_as,
+};
+
+type Referral = Implicit<Context<3>, Bounded<SequenceOf<Vec<u8>>, NotEmpty>>;
+
+type ServerSaslCreds = Implicit<Context<7>, Vec<u8>>;
+
+type Ends = (Optional<Referral>, (Optional<ServerSaslCreds>, ()));
+
+type Parts = (Bounded<Enumerated, FromZero>, (Vec<u8>, (Vec<u8>, Ends)));
+
+type EndFields = (Option<Vec<Vec<u8>>>, (Option<Vec<u8>>, ()));
+
+type Fields = (i64, (Vec<u8>, (Vec<u8>, EndFields)));
+
+type Notated = Implicit<Application<1>, Sequence<Parts>>;
+
+/// What became of a request to bind.
+#[derive(Drop)]
+pub struct BindResponse {
+    pub result: LdapResult,
+    /// What the mechanism gives to who binds.
+    pub server_sasl_creds: Option<Vec<u8>>,
+}
+
+impl StandsFor<Fields> for BindResponse {
+    ghost value_of = { λ v. (v.result.result_code, (v.result.matched_dn, (v.result.diagnostic_message, (v.result.referral, (v.server_sasl_creds, tt))))) };
+
+    fn from_value(fields: Fields) -> BindResponse {
+        let (result_code, others) = fields;
+        let (matched_dn, others) = others;
+        let (diagnostic_message, others) = others;
+        let (referral, others) = others;
+        let (server_sasl_creds, ()) = others;
+        let outcome = LdapResult {
+            result_code,
+            matched_dn,
+            diagnostic_message,
+            referral,
+        };
+        BindResponse {
+            result: outcome,
+            server_sasl_creds,
+        }
+    }
+}
+
+impl Notation for BindResponse {
+    type Value = BindResponse;
+
+    type Inner = ();
+
+    ghost means = { stands_for ⟦<BindResponse as StandsFor<Fields>>⟧.value_of ⟦<Notated as Notation>⟧.means };
+
+    fn has_tag(tag: Tag) -> bool {
+        <Notated as Notation>::has_tag(tag)
+    }
+
+    fn read(reader: BERReader) -> ASN1Result<BindResponse> {
+        read_as::<Notated, BindResponse>(reader)
+    }
+
+    fn write(value: &BindResponse, writer: DERWriter<'_>) -> ASN1Result<()> {
+        let outcome = &value.result;
+        let ends = (&outcome.referral, (&value.server_sasl_creds, ()));
+        let strings = (&outcome.matched_dn, (&outcome.diagnostic_message, ends));
+        write_tagged_fields::<Application<1>, Parts, _>((&outcome.result_code, strings), writer)
+    }
+
+    ghost keeps = { λ _. standing_keeps ⟦<BindResponse as StandsFor<Fields>>⟧.value_of
+        (in_application 1 (omega arith) (in_sequence (part (in_bound from_zero (enumerated
+        refl)).own (part (octets refl).own (part (octets refl).own (optional_part refl (in_implicit 3 (omega arith) (not_empty (in_sequence_of (octets
+        refl).own))).own (optional_part refl (in_implicit 7 (omega arith) (octets refl)).own no_parts))))))) };
+
+    ghost filled = { λ u m v. element_filled _ _ _ _ };
+}
+
+impl Message for BindResponse {
+    ghost told_apart = { refl };
+}

@@ -1,0 +1,85 @@
+//! Controls of a message (RFC 4511, 4.1.11).
+//!
+//! ```text
+//! Control ::= SEQUENCE {
+//!     controlType   LDAPOID,
+//!     criticality   BOOLEAN DEFAULT FALSE,
+//!     controlValue  OCTET STRING OPTIONAL }
+//!
+//! LDAPOID ::= OCTET STRING
+//! ```
+ghost use Rattle.std.specs.Prelude.{◌≡◌, false, not, refl};
+ghost use Rattle.yasna_notation.specs.Laws.{standing_keeps, element_filled};
+ghost use Rattle.yasna_notation.specs.Making.{in_sequence, part, optional_part, default_part};
+ghost use Rattle.yasna_notation.specs.Notation.{stands_for};
+ghost use Rattle.yasna_notation.specs.Parts.{no_parts, tells_false};
+ghost use Rattle.yasna_notation.specs.contracts.strings.VecU8Notation.TheImpl.Laws.{keeps-law as octets};
+ghost use Rattle.yasna_notation.specs.contracts.simple.BoolNotation.TheImpl.Laws.{keeps-law as flag};
+
+use yasna::{ASN1Result, BERReader, DERWriter, Tag};
+use yasna_notation::{Default, False, Message, Notation, Optional, Sequence, StandsFor, read_as};
+
+type Parts = (Vec<u8>, (Default<bool, False>, (Optional<Vec<u8>>, ())));
+
+type Fields = (Vec<u8>, (bool, (Option<Vec<u8>>, ())));
+
+/// A control: how its operation is extended.
+#[derive(Drop)]
+pub struct Control {
+    /// An object identifier in the digits and points of its text.
+    pub control_type: Vec<u8>,
+    /// Whether one who doesn't know the control refuses the operation.
+    pub criticality: bool,
+    pub control_value: Option<Vec<u8>>,
+}
+
+impl StandsFor<Fields> for Control {
+    ghost value_of = { λ v. (v.control_type, (v.criticality, (v.control_value, tt))) };
+
+    fn from_value(fields: Fields) -> Control {
+        let (control_type, others) = fields;
+        let (criticality, others) = others;
+        let (control_value, ()) = others;
+        Control {
+            control_type,
+            criticality,
+            control_value,
+        }
+    }
+}
+
+impl Notation for Control {
+    type Value = Control;
+
+    type Inner = ();
+
+    ghost means = { stands_for ⟦<Control as StandsFor<Fields>>⟧.value_of ⟦<Sequence<Parts> as Notation>⟧.means };
+
+    fn has_tag(tag: Tag) -> bool {
+        <Sequence<Parts> as Notation>::has_tag(tag)
+    }
+
+    fn read(reader: BERReader) -> ASN1Result<Control> {
+        read_as::<Sequence<Parts>, Control>(reader)
+    }
+
+    fn write(value: &Control, writer: DERWriter<'_>) -> ASN1Result<()> {
+        Sequence::<Parts>::write_fields(
+            (
+                &value.control_type,
+                (&value.criticality, (&value.control_value, ())),
+            ),
+            writer,
+        )
+    }
+
+    ghost keeps = { λ _. standing_keeps ⟦<Control as StandsFor<Fields>>⟧.value_of
+        (in_sequence (part (octets refl).own (default_part not false tells_false refl (flag refl).own
+        (optional_part refl (octets refl).own no_parts)))) };
+
+    ghost filled = { λ u m v. element_filled _ _ _ _ };
+}
+
+impl Message for Control {
+    ghost told_apart = { refl };
+}

@@ -1,0 +1,169 @@
+//! Filters that are not made of others (RFC 4511, 4.5.1.7).
+//!
+//! ```text
+//! CHOICE {
+//!     equalityMatch    [3] AttributeValueAssertion,
+//!     substrings       [4] SubstringFilter,
+//!     greaterOrEqual   [5] AttributeValueAssertion,
+//!     lessOrEqual      [6] AttributeValueAssertion,
+//!     present          [7] AttributeDescription,
+//!     approxMatch      [8] AttributeValueAssertion,
+//!     extensibleMatch  [9] MatchingRuleAssertion }
+//!
+//! AttributeDescription ::= LDAPString
+//! LDAPString           ::= OCTET STRING
+//! ```
+ghost use Rattle.std.specs.Prelude.{◌≡◌, [], refl};
+ghost use Rattle.std.proofs.Common.{arith};
+ghost use Rattle.yasna_notation.specs.Laws.{standing_keeps, element_filled};
+ghost use Rattle.yasna_notation.specs.Making.{in_choice, alternative, in_implicit};
+ghost use Rattle.yasna_notation.specs.Notation.{stands_for};
+ghost use Rattle.yasna_notation.specs.Laws.{octets_filled};
+ghost use Rattle.yasna_notation.specs.declared.choices.Either.TheVariants.{First, Second};
+ghost use Rattle.ldap.specs.declared.filter_item.FilterItem.TheVariants.{EqualityMatch, Substrings, GreaterOrEqual, LessOrEqual, Present, ApproxMatch, ExtensibleMatch};
+ghost use Rattle.yasna_notation.specs.contracts.strings.VecU8Notation.TheImpl.Laws.{keeps-law as octets};
+ghost use Rattle.ldap.specs.contracts.attribute_value_assertion.AttributeValueAssertionNotation.TheImpl.Laws.{keeps-law as assertion};
+ghost use Rattle.ldap.specs.contracts.substring_filter.SubstringFilterNotation.TheImpl.Laws.{keeps-law as substring_filter};
+ghost use Rattle.ldap.specs.contracts.matching_rule_assertion.MatchingRuleAssertionNotation.TheImpl.Laws.{keeps-law as matching};
+
+use crate::attribute_value_assertion::AttributeValueAssertion;
+use crate::matching_rule_assertion::MatchingRuleAssertion;
+use crate::substring_filter::SubstringFilter;
+use yasna::{ASN1Result, BERReader, DERWriter, Tag};
+use yasna_notation::{Choice, Context, Either, Implicit, Message, Notation, StandsFor, read_as};
+
+type EqualityMatchNotation = Implicit<Context<3>, AttributeValueAssertion>;
+
+type SubstringsNotation = Implicit<Context<4>, SubstringFilter>;
+
+type GreaterOrEqualNotation = Implicit<Context<5>, AttributeValueAssertion>;
+
+type LessOrEqualNotation = Implicit<Context<6>, AttributeValueAssertion>;
+
+type PresentNotation = Implicit<Context<7>, Vec<u8>>;
+
+type ApproxMatchNotation = Implicit<Context<8>, AttributeValueAssertion>;
+
+type ExtensibleMatchNotation = Implicit<Context<9>, MatchingRuleAssertion>;
+
+type Later = (
+    PresentNotation,
+    (ApproxMatchNotation, (ExtensibleMatchNotation,)),
+);
+
+type Notated = Choice<
+    (
+        EqualityMatchNotation,
+        (
+            SubstringsNotation,
+            (GreaterOrEqualNotation, (LessOrEqualNotation, Later)),
+        ),
+    ),
+>;
+
+type LaterFields = Either<Vec<u8>, Either<AttributeValueAssertion, MatchingRuleAssertion>>;
+
+type EarlierFields = Either<AttributeValueAssertion, Either<AttributeValueAssertion, LaterFields>>;
+
+type Fields = Either<AttributeValueAssertion, Either<SubstringFilter, EarlierFields>>;
+
+/// A filter that isn't made of others: what it asks of an attribute.
+#[derive(Drop)]
+pub enum FilterItem {
+    EqualityMatch(AttributeValueAssertion),
+    Substrings(SubstringFilter),
+    GreaterOrEqual(AttributeValueAssertion),
+    LessOrEqual(AttributeValueAssertion),
+    /// The attribute of this name is there.
+    Present(Vec<u8>),
+    ApproxMatch(AttributeValueAssertion),
+    ExtensibleMatch(MatchingRuleAssertion),
+}
+
+impl StandsFor<Fields> for FilterItem {
+    ghost value_of = { λ v. elim v [
+      | EqualityMatch o ↦ First o
+      | Substrings o ↦ Second (First o)
+      | GreaterOrEqual o ↦ Second (Second (First o))
+      | LessOrEqual o ↦ Second (Second (Second (First o)))
+      | Present o ↦ Second (Second (Second (Second (First o))))
+      | ApproxMatch o ↦ Second (Second (Second (Second (Second (First o)))))
+      | ExtensibleMatch o ↦ Second (Second (Second (Second (Second (Second o)))))
+    ] };
+
+    fn from_value(value: Fields) -> FilterItem {
+        let others = match value {
+            Either::First(asked) => return FilterItem::EqualityMatch(asked),
+            Either::Second(others) => others,
+        };
+        let others = match others {
+            Either::First(asked) => return FilterItem::Substrings(asked),
+            Either::Second(others) => others,
+        };
+        let others = match others {
+            Either::First(asked) => return FilterItem::GreaterOrEqual(asked),
+            Either::Second(others) => others,
+        };
+        let others = match others {
+            Either::First(asked) => return FilterItem::LessOrEqual(asked),
+            Either::Second(others) => others,
+        };
+        let others = match others {
+            Either::First(asked) => return FilterItem::Present(asked),
+            Either::Second(others) => others,
+        };
+        match others {
+            Either::First(asked) => FilterItem::ApproxMatch(asked),
+            Either::Second(asked) => FilterItem::ExtensibleMatch(asked),
+        }
+    }
+}
+
+impl Notation for FilterItem {
+    type Value = FilterItem;
+
+    type Inner = ();
+
+    ghost means = { stands_for ⟦<FilterItem as StandsFor<Fields>>⟧.value_of ⟦<Notated as Notation>⟧.means };
+
+    fn has_tag(tag: Tag) -> bool {
+        <Notated as Notation>::has_tag(tag)
+    }
+
+    fn read(reader: BERReader) -> ASN1Result<FilterItem> {
+        read_as::<Notated, FilterItem>(reader)
+    }
+
+    fn write(value: &FilterItem, writer: DERWriter<'_>) -> ASN1Result<()> {
+        match value {
+            FilterItem::EqualityMatch(asked) => EqualityMatchNotation::write(asked, writer),
+            FilterItem::Substrings(asked) => SubstringsNotation::write(asked, writer),
+            FilterItem::GreaterOrEqual(asked) => GreaterOrEqualNotation::write(asked, writer),
+            FilterItem::LessOrEqual(asked) => LessOrEqualNotation::write(asked, writer),
+            FilterItem::Present(asked) => PresentNotation::write(asked, writer),
+            FilterItem::ApproxMatch(asked) => ApproxMatchNotation::write(asked, writer),
+            FilterItem::ExtensibleMatch(asked) => ExtensibleMatchNotation::write(asked, writer),
+        }
+    }
+
+    ghost keeps = { λ _. standing_keeps ⟦<FilterItem as StandsFor<Fields>>⟧.value_of
+        (in_choice ⟦<Notated as Notation>⟧.means.form_under (alternative (in_implicit 3 (omega
+        arith) (assertion refl)).own refl (alternative (in_implicit 4 (omega arith) (substring_filter refl)).own refl (alternative (in_implicit 5 (omega
+        arith) (assertion refl)).own refl (alternative (in_implicit 6 (omega arith) (assertion refl)).own refl (alternative (in_implicit 7 (omega arith)
+        (octets refl)).own refl (alternative (in_implicit 8 (omega arith) (assertion refl)).own refl (in_implicit 9 (omega arith) (matching refl)).own))))))) };
+
+    ghost filled = { λ u m v. elim v as (λ k. ⟦<Notated as Notation>⟧.means.form_under u m (⟦<FilterItem as StandsFor<Fields>>⟧.value_of k) ≡ [] → ⊥) [
+      | EqualityMatch o ↦
+          element_filled _ _ _ _
+      | Substrings o ↦ element_filled _ _ _ _
+      | GreaterOrEqual o ↦ element_filled _ _ _ _
+      | LessOrEqual o ↦ element_filled _ _ _ _
+      | Present o ↦ octets_filled _ m o.items
+      | ApproxMatch o ↦ element_filled _ _ _ _
+      | ExtensibleMatch o ↦ element_filled _ _ _ _
+    ] };
+}
+
+impl Message for FilterItem {
+    ghost told_apart = { refl };
+}

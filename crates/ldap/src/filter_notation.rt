@@ -1,0 +1,42 @@
+//! Filters as a notation of their own (RFC 4511, 4.5.1.7). Within one level less stand the filters within one.
+ghost use Rattle.std.specs.Prelude.{◌≡◌, refl};
+ghost use Rattle.ldap.specs.Filters.{the_filter};
+ghost use Rattle.ldap.specs.TheFilter.{the_filter_keeps, the_filter_filled};
+
+use crate::filter::Filter;
+use crate::filter_item::FilterItem;
+use crate::filter_reading::{is_context, read_filter};
+use crate::filter_writing::write_filter;
+use yasna::{ASN1Result, BERReader, DERWriter, Tag};
+use yasna_notation::{Message, Notation};
+
+impl Notation for Filter {
+    type Value = Filter;
+
+    type Inner = ();
+
+    ghost means = { the_filter };
+
+    fn has_tag(tag: Tag) -> bool {
+        is_context(tag, 0)
+            || is_context(tag, 1)
+            || is_context(tag, 2)
+            || <FilterItem as Notation>::has_tag(tag)
+    }
+
+    fn read(reader: BERReader) -> ASN1Result<Filter> {
+        read_filter(reader)
+    }
+
+    fn write(value: &Filter, writer: DERWriter<'_>) -> ASN1Result<()> {
+        write_filter(value, writer)
+    }
+
+    ghost keeps = { λ _. the_filter_keeps };
+
+    ghost filled = { the_filter_filled };
+}
+
+impl Message for Filter {
+    ghost told_apart = { refl };
+}

@@ -1,0 +1,232 @@
+//! How filters are read (RFC 4511, 4.5.1.7): a closure reads the filters within one.
+ghost use Rattle.std.specs.Prelude.{◌≡◌, ◌∷◌, [], suc, MatchResult};
+ghost use Rattle.std.specs.List.{list_any};
+ghost use Rattle.yasna_base.specs.Beginnings.{is_tag};
+ghost use Rattle.yasna_base.specs.Identifier.{context};
+ghost use Rattle.yasna_base.specs.Error.{kind_of};
+ghost use Rattle.yasna_base.specs.Set.{set_tag};
+ghost use Rattle.yasna_base.specs.declared.error.ASN1ErrorKind.TheVariants.{OutOfMemory};
+ghost use Rattle.yasna_notation.specs.Notation.{ReadsMeaning};
+ghost use Rattle.ldap.specs.Filters.{the_filter, boxed_means, list_means, group_means, negated_means, whole, behind_and, behind_or, Found, parts_of};
+ghost use Rattle.ldap.specs.Reading.{TakesFewer, ReadsAll};
+
+use crate::filter::Filter;
+use crate::filter_item::FilterItem;
+use std::alloc::Global;
+use yasna::{ASN1Error, ASN1ErrorKind, ASN1Result, BERReader, Tag};
+use yasna_notation::{Either, Notation};
+
+// What a filter is made of.
+pub(crate) type Parted = Either<Vec<Filter>, BehindAnd>;
+
+type BehindAnd = Either<Vec<Filter>, BehindOr>;
+
+type BehindOr = Either<Box<Filter>, FilterItem>;
+
+// Reads filters, one or more, as a SET OF them.
+fn read_items<F>(reader: BERReader, f: F) -> ASN1Result<Vec<Filter>>
+where
+    F: FnMut(BERReader) -> ASN1Result<Filter> + Drop,
+    requires takes { TakesFewer F.FnMut reader.old.levels }
+    requires reads { ReadsAll F.FnMut the_filter }
+    ensures { ReadsMeaning (list_means set_tag the_filter) reader.old result reader.new }
+{
+    match reader.collect_set_of(f) {
+        Ok(items) => {
+            if items.is_empty() {
+                Err(ASN1Error::new(ASN1ErrorKind::Invalid))
+            } else {
+                Ok(items)
+            }
+        }
+        Err(error) => Err(error),
+    }
+}
+
+// Reads them where the tag [number] stands in place of that of the SET OF.
+fn read_group<F>(number: u64, reader: BERReader, f: F) -> ASN1Result<Vec<Filter>>
+where
+    F: FnMut(BERReader) -> ASN1Result<Filter> + Drop,
+    requires takes { TakesFewer F.FnMut reader.old.levels }
+    requires reads { ReadsAll F.FnMut the_filter }
+    ensures { ReadsMeaning (group_means number the_filter) reader.old result reader.new }
+{
+    reader.read_tagged_implicit(Tag::context(number), |inner| read_items(inner, f))
+}
+
+// What allocates the parts of an item.
+fn allocator_of_item(item: &FilterItem) -> Global {
+    match item {
+        FilterItem::EqualityMatch(asked) => *asked.attribute_desc.allocator(),
+        FilterItem::Substrings(asked) => *asked.attribute_type.allocator(),
+        FilterItem::GreaterOrEqual(asked) => *asked.attribute_desc.allocator(),
+        FilterItem::LessOrEqual(asked) => *asked.attribute_desc.allocator(),
+        FilterItem::Present(asked) => *asked.allocator(),
+        FilterItem::ApproxMatch(asked) => *asked.attribute_desc.allocator(),
+        FilterItem::ExtensibleMatch(asked) => *asked.match_value.allocator(),
+    }
+}
+
+// What allocates the parts of a filter.
+fn allocator_of(filter: &Filter) -> Global {
+    match filter {
+        Filter::And(filters) => *filters.allocator(),
+        Filter::Or(filters) => *filters.allocator(),
+        Filter::Not(negated) => *Box::allocator(negated),
+        Filter::Item(item) => allocator_of_item(item),
+    }
+}
+
+// Puts a filter into a box.
+fn boxed(filter: Filter) -> ASN1Result<Box<Filter>>
+    ensures { MatchResult result (λ b. b.value ≡ filter) (λ e. kind_of e ≡ OutOfMemory) }
+{
+    let alloc = allocator_of(&filter);
+    match Box::new(alloc, filter) {
+        Ok(room) => Ok(room),
+        Err(_) => Err(ASN1Error::new(ASN1ErrorKind::OutOfMemory)),
+    }
+}
+
+// Reads a filter into a box.
+fn read_boxed<F>(reader: BERReader, f: F) -> ASN1Result<Box<Filter>>
+where
+    F: FnMut(BERReader) -> ASN1Result<Filter> + Drop,
+    requires takes { TakesFewer F.FnMut (suc reader.old.levels) }
+    requires reads { ReadsAll F.FnMut the_filter }
+    ensures { ReadsMeaning (boxed_means the_filter) reader.old result reader.new }
+{
+    let mut read = f;
+    match read(reader) {
+        Ok(filter) => boxed(filter),
+        Err(error) => Err(error),
+    }
+}
+
+// Reads a filter that another turns.
+fn read_negated<F>(reader: BERReader, f: F) -> ASN1Result<Box<Filter>>
+where
+    F: FnMut(BERReader) -> ASN1Result<Filter> + Drop,
+    requires takes { TakesFewer F.FnMut reader.old.levels }
+    requires reads { ReadsAll F.FnMut the_filter }
+    ensures { ReadsMeaning (negated_means the_filter) reader.old result reader.new }
+{
+    reader.read_tagged(Tag::context(2), |inner| read_boxed(inner, f))
+}
+
+// Whether this tag is [number].
+pub(crate) fn is_context(tag: Tag, number: u64) -> bool
+    ensures { result ≡ list_any (is_tag tag) (context number ∷ []) }
+{
+    tag == Tag::context(number)
+}
+
+// Reads what stands behind `or` in the CHOICE, of which this tag was found.
+fn read_behind_or<F>(tag: Tag, reader: BERReader, f: F) -> ASN1Result<BehindOr>
+where
+    F: FnMut(BERReader) -> ASN1Result<Filter> + Drop,
+    requires takes { TakesFewer F.FnMut reader.old.levels }
+    requires reads { ReadsAll F.FnMut the_filter }
+    ensures { Found behind_or tag reader.old result reader.new }
+{
+    if is_context(tag, 2) {
+        match read_negated(reader, f) {
+            Ok(first) => Ok(Either::First(first)),
+            Err(error) => Err(error),
+        }
+    } else {
+        match <FilterItem as Notation>::read(reader) {
+            Ok(other) => Ok(Either::Second(other)),
+            Err(error) => Err(error),
+        }
+    }
+}
+
+// Reads what stands behind `and`.
+fn read_behind_and<F>(tag: Tag, reader: BERReader, f: F) -> ASN1Result<BehindAnd>
+where
+    F: FnMut(BERReader) -> ASN1Result<Filter> + Drop,
+    requires takes { TakesFewer F.FnMut reader.old.levels }
+    requires reads { ReadsAll F.FnMut the_filter }
+    ensures { Found behind_and tag reader.old result reader.new }
+{
+    if is_context(tag, 1) {
+        match read_group(1, reader, f) {
+            Ok(first) => Ok(Either::First(first)),
+            Err(error) => Err(error),
+        }
+    } else {
+        match read_behind_or(tag, reader, f) {
+            Ok(other) => Ok(Either::Second(other)),
+            Err(error) => Err(error),
+        }
+    }
+}
+
+// Reads any.
+fn read_found<F>(tag: Tag, reader: BERReader, f: F) -> ASN1Result<Parted>
+where
+    F: FnMut(BERReader) -> ASN1Result<Filter> + Drop,
+    requires takes { TakesFewer F.FnMut reader.old.levels }
+    requires reads { ReadsAll F.FnMut the_filter }
+    ensures { Found whole tag reader.old result reader.new }
+{
+    if is_context(tag, 0) {
+        match read_group(0, reader, f) {
+            Ok(first) => Ok(Either::First(first)),
+            Err(error) => Err(error),
+        }
+    } else {
+        match read_behind_and(tag, reader, f) {
+            Ok(other) => Ok(Either::Second(other)),
+            Err(error) => Err(error),
+        }
+    }
+}
+
+// Reads what a filter is made of.
+fn read_parted<F>(reader: BERReader, f: F) -> ASN1Result<Parted>
+where
+    F: FnMut(BERReader) -> ASN1Result<Filter> + Drop,
+    requires takes { TakesFewer F.FnMut reader.old.levels }
+    requires reads { ReadsAll F.FnMut the_filter }
+    ensures { ReadsMeaning whole reader.old result reader.new }
+{
+    match reader.lookahead_tag() {
+        Ok(tag) => read_found(tag, reader, f),
+        Err(error) => Err(error),
+    }
+}
+
+// Makes a filter of it.
+fn from_parts(parts: Parted) -> Filter
+    ensures { parts_of result ≡ parts }
+{
+    let others = match parts {
+        Either::First(filters) => return Filter::And(filters),
+        Either::Second(others) => others,
+    };
+    let others = match others {
+        Either::First(filters) => return Filter::Or(filters),
+        Either::Second(others) => others,
+    };
+    match others {
+        Either::First(negated) => Filter::Not(negated),
+        Either::Second(item) => Filter::Item(item),
+    }
+}
+
+/// Reads a filter.
+pub(crate) fn read_filter(reader: BERReader) -> ASN1Result<Filter>
+    ensures { ReadsMeaning the_filter reader.old result reader.new }
+{
+    match read_parted(
+        reader,
+        |item| -> ASN1Result<Filter>
+            ensures { ReadsMeaning the_filter item.old result item.new }
+        { read_filter(item) },
+    ) {
+        Ok(parts) => Ok(from_parts(parts)),
+        Err(error) => Err(error),
+    }
+}

@@ -1,0 +1,98 @@
+//! Messages (RFC 4511, 4.1.1).
+//!
+//! ```text
+//! LDAPMessage ::= SEQUENCE {
+//!     messageID   MessageID,
+//!     protocolOp  CHOICE { .. },
+//!     controls    [0] Controls OPTIONAL }
+//!
+//! MessageID ::= INTEGER (0 .. maxInt)
+//! Controls  ::= SEQUENCE OF control Control
+//!
+//! maxInt INTEGER ::= 2147483647
+//! ```
+ghost use Rattle.std.specs.Prelude.{◌≡◌, refl};
+ghost use Rattle.std.proofs.Common.{arith};
+ghost use Rattle.yasna_notation.specs.Laws.{standing_keeps, element_filled};
+ghost use Rattle.yasna_notation.specs.Making.{in_sequence, in_sequence_of, part, optional_part, in_implicit, at_most};
+ghost use Rattle.yasna_notation.specs.Notation.{stands_for};
+ghost use Rattle.yasna_notation.specs.Parts.{no_parts};
+ghost use Rattle.yasna_notation.specs.contracts.simple.U64Notation.TheImpl.Laws.{keeps-law as number};
+ghost use Rattle.ldap.specs.contracts.protocol_op.ProtocolOpNotation.TheImpl.Laws.{keeps-law as operation};
+ghost use Rattle.ldap.specs.contracts.control.ControlNotation.TheImpl.Laws.{keeps-law as control};
+
+use crate::control::Control;
+use crate::protocol_op::ProtocolOp;
+use yasna::{ASN1Result, BERReader, DERWriter, Tag};
+use yasna_notation::{
+    AtMost, Bounded, Context, Implicit, Message, Notation, Optional, Sequence, SequenceOf,
+    StandsFor, read_as,
+};
+
+type MessageId = Bounded<u64, AtMost<2147483647>>;
+
+type Controls = Implicit<Context<0>, SequenceOf<Control>>;
+
+type Parts = (MessageId, (ProtocolOp, (Optional<Controls>, ())));
+
+type Fields = (u64, (ProtocolOp, (Option<Vec<Control>>, ())));
+
+/// A message.
+#[derive(Drop)]
+pub struct LdapMessage {
+    /// Answers bear that of their request.
+    pub message_id: u64,
+    pub protocol_op: ProtocolOp,
+    pub controls: Option<Vec<Control>>,
+}
+
+impl StandsFor<Fields> for LdapMessage {
+    ghost value_of = { λ v. (v.message_id, (v.protocol_op, (v.controls, tt))) };
+
+    fn from_value(fields: Fields) -> LdapMessage {
+        let (message_id, others) = fields;
+        let (protocol_op, others) = others;
+        let (controls, ()) = others;
+        LdapMessage {
+            message_id,
+            protocol_op,
+            controls,
+        }
+    }
+}
+
+impl Notation for LdapMessage {
+    type Value = LdapMessage;
+
+    type Inner = ();
+
+    ghost means = { stands_for ⟦<LdapMessage as StandsFor<Fields>>⟧.value_of ⟦<Sequence<Parts> as Notation>⟧.means };
+
+    fn has_tag(tag: Tag) -> bool {
+        <Sequence<Parts> as Notation>::has_tag(tag)
+    }
+
+    fn read(reader: BERReader) -> ASN1Result<LdapMessage> {
+        read_as::<Sequence<Parts>, LdapMessage>(reader)
+    }
+
+    fn write(value: &LdapMessage, writer: DERWriter<'_>) -> ASN1Result<()> {
+        Sequence::<Parts>::write_fields(
+            (
+                &value.message_id,
+                (&value.protocol_op, (&value.controls, ())),
+            ),
+            writer,
+        )
+    }
+
+    ghost keeps = { λ _. standing_keeps ⟦<LdapMessage as StandsFor<Fields>>⟧.value_of
+        (in_sequence (part (at_most 2147483647 (number refl)).own (part (operation refl).own
+        (optional_part refl (in_implicit 0 (omega arith) (in_sequence_of (control refl).own)).own no_parts)))) };
+
+    ghost filled = { λ u m v. element_filled _ _ _ _ };
+}
+
+impl Message for LdapMessage {
+    ghost told_apart = { refl };
+}

@@ -1,0 +1,108 @@
+//! Results of operations (RFC 4511, 4.1.9 and 4.1.10).
+//!
+//! ```text
+//! LDAPResult ::= SEQUENCE {
+//!     resultCode         ENUMERATED { success(0), operationsError(1), .. other(80), ... },
+//!     matchedDN          LDAPDN,
+//!     diagnosticMessage  LDAPString,
+//!     referral           [3] Referral OPTIONAL }
+//!
+//! Referral   ::= SEQUENCE SIZE (1..MAX) OF uri URI
+//! URI        ::= LDAPString
+//! LDAPDN     ::= LDAPString
+//! LDAPString ::= OCTET STRING
+//! ```
+ghost use Rattle.std.specs.Prelude.{◌≡◌, refl};
+ghost use Rattle.std.proofs.Common.{arith};
+ghost use Rattle.yasna_notation.specs.Laws.{standing_keeps, element_filled};
+ghost use Rattle.yasna_notation.specs.Making.{in_sequence, in_sequence_of, part, optional_part, in_implicit, not_empty};
+ghost use Rattle.yasna_notation.specs.Notation.{stands_for};
+ghost use Rattle.yasna_notation.specs.Parts.{no_parts};
+ghost use Rattle.ldap.specs.Making.{in_bound, from_zero};
+ghost use Rattle.yasna_notation.specs.contracts.strings.VecU8Notation.TheImpl.Laws.{keeps-law as octets};
+ghost use Rattle.yasna_notation.specs.contracts.simple.EnumeratedNotation.TheImpl.Laws.{keeps-law as enumerated};
+
+use crate::bounds::FromZero;
+use yasna::{ASN1Result, BERReader, DERWriter, Tag};
+use yasna_notation::{
+    Bounded, Context, Enumerated, Implicit, Message, NotEmpty, Notation, Optional, Sequence,
+    SequenceOf, StandsFor, read_as,
+};
+
+type Referral = Implicit<Context<3>, Bounded<SequenceOf<Vec<u8>>, NotEmpty>>;
+
+type Parts = (
+    Bounded<Enumerated, FromZero>,
+    (Vec<u8>, (Vec<u8>, (Optional<Referral>, ()))),
+);
+
+type Fields = (i64, (Vec<u8>, (Vec<u8>, (Option<Vec<Vec<u8>>>, ()))));
+
+/// What became of an operation.
+#[derive(Drop)]
+pub struct LdapResult {
+    /// 0 for success.
+    pub result_code: i64,
+    /// The name of the last entry that was found, in UTF-8.
+    pub matched_dn: Vec<u8>,
+    /// What to show to people, in UTF-8.
+    pub diagnostic_message: Vec<u8>,
+    /// URIs of other servers.
+    pub referral: Option<Vec<Vec<u8>>>,
+}
+
+impl StandsFor<Fields> for LdapResult {
+    ghost value_of = { λ v. (v.result_code, (v.matched_dn, (v.diagnostic_message, (v.referral, tt)))) };
+
+    fn from_value(fields: Fields) -> LdapResult {
+        let (result_code, others) = fields;
+        let (matched_dn, others) = others;
+        let (diagnostic_message, others) = others;
+        let (referral, ()) = others;
+        LdapResult {
+            result_code,
+            matched_dn,
+            diagnostic_message,
+            referral,
+        }
+    }
+}
+
+impl Notation for LdapResult {
+    type Value = LdapResult;
+
+    type Inner = ();
+
+    ghost means = { stands_for ⟦<LdapResult as StandsFor<Fields>>⟧.value_of ⟦<Sequence<Parts> as Notation>⟧.means };
+
+    fn has_tag(tag: Tag) -> bool {
+        <Sequence<Parts> as Notation>::has_tag(tag)
+    }
+
+    fn read(reader: BERReader) -> ASN1Result<LdapResult> {
+        read_as::<Sequence<Parts>, LdapResult>(reader)
+    }
+
+    fn write(value: &LdapResult, writer: DERWriter<'_>) -> ASN1Result<()> {
+        Sequence::<Parts>::write_fields(
+            (
+                &value.result_code,
+                (
+                    &value.matched_dn,
+                    (&value.diagnostic_message, (&value.referral, ())),
+                ),
+            ),
+            writer,
+        )
+    }
+
+    ghost keeps = { λ _. standing_keeps ⟦<LdapResult as StandsFor<Fields>>⟧.value_of
+        (in_sequence (part (in_bound from_zero (enumerated refl)).own (part (octets refl).own
+        (part (octets refl).own (optional_part refl (in_implicit 3 (omega arith) (not_empty (in_sequence_of (octets refl).own))).own no_parts))))) };
+
+    ghost filled = { λ u m v. element_filled _ _ _ _ };
+}
+
+impl Message for LdapResult {
+    ghost told_apart = { refl };
+}

@@ -1,0 +1,73 @@
+//! Messages of the Lightweight Directory Access Protocol (RFC 4511): those by which a client binds, searches and unbinds.
+//!
+//! Each type is a notation of its own. `yasna_notation::Noted` of it has the traits, so `decode_ber` reads a `Noted<LdapMessage>`.
+//!
+//! The protocol takes the definite lengths of BER alone, OCTET STRINGs in one piece, and TRUE as 255 (RFC 4511, 5.1). `encode_der` writes
+//! them so, but `decode_ber` reads all of BER.
+//!
+//! | Module | Holds |
+//! |---|---|
+//! | `ldap_message`, `protocol_op` | messages, and the operations in them |
+//! | `control` | controls |
+//! | `ldap_result` | results of operations |
+//! | `bind_request`, `authentication`, `sasl_credentials` | requests to bind, and how one shows who they are |
+//! | `bind_response`, `unbind_request` | responses to them, and requests to end a session |
+//! | `search_request` | requests to search |
+//! | `filter`, `filter_item` | filters, and those that aren't made of others |
+//! | `filter_reading`, `filter_writing`, `filter_notation` | how filters are read and written, and their laws |
+//! | `substring`, `substring_filter`, `matching_rule_assertion`, `attribute_value_assertion` | what filters ask |
+//! | `search_result_entry`, `search_result_done`, `search_result_reference` | what a search answers |
+//! | `partial_attribute`, `attribute` | attributes |
+//! | `bounds` | which numbers a module takes |
+//! | `tagged` | how fields are written under a tag |
+#![tactic(auto)]
+
+mod attribute;
+mod attribute_value_assertion;
+mod authentication;
+mod bind_request;
+mod bind_response;
+mod bounds;
+mod control;
+mod filter;
+mod filter_item;
+mod filter_notation;
+mod filter_reading;
+mod filter_writing;
+mod ldap_message;
+mod ldap_result;
+mod matching_rule_assertion;
+mod partial_attribute;
+mod protocol_op;
+mod sasl_credentials;
+mod search_request;
+mod search_result_done;
+mod search_result_entry;
+mod search_result_reference;
+mod substring;
+mod substring_filter;
+mod tagged;
+mod unbind_request;
+
+pub use attribute::Attribute;
+pub use attribute_value_assertion::AttributeValueAssertion;
+pub use authentication::AuthenticationChoice;
+pub use bind_request::BindRequest;
+pub use bind_response::BindResponse;
+pub use bounds::{FromTo, FromZero, UpTo};
+pub use control::Control;
+pub use filter::Filter;
+pub use filter_item::FilterItem;
+pub use ldap_message::LdapMessage;
+pub use ldap_result::LdapResult;
+pub use matching_rule_assertion::{MatchingRuleAssertion, Unset};
+pub use partial_attribute::PartialAttribute;
+pub use protocol_op::ProtocolOp;
+pub use sasl_credentials::SaslCredentials;
+pub use search_request::SearchRequest;
+pub use search_result_done::SearchResultDone;
+pub use search_result_entry::SearchResultEntry;
+pub use search_result_reference::SearchResultReference;
+pub use substring::Substring;
+pub use substring_filter::SubstringFilter;
+pub use unbind_request::UnbindRequest;

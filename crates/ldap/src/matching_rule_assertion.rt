@@ -1,0 +1,132 @@
+//! Assertions by a matching rule (RFC 4511, 4.5.1.7.7).
+//!
+//! ```text
+//! MatchingRuleAssertion ::= SEQUENCE {
+//!     matchingRule  [1] MatchingRuleId OPTIONAL,
+//!     type          [2] AttributeDescription OPTIONAL,
+//!     matchValue    [3] AssertionValue,
+//!     dnAttributes  [4] BOOLEAN DEFAULT FALSE }
+//!
+//! MatchingRuleId       ::= LDAPString
+//! AttributeDescription ::= LDAPString
+//! AssertionValue       ::= OCTET STRING
+//! LDAPString           ::= OCTET STRING
+//! ```
+ghost use Rattle.std.specs.Prelude.{◌≡◌, false, not, refl};
+ghost use Rattle.std.proofs.Common.{arith};
+ghost use Rattle.yasna_notation.specs.Laws.{standing_keeps, element_filled};
+ghost use Rattle.yasna_notation.specs.Making.{in_sequence, in_implicit, part, optional_part, default_part};
+ghost use Rattle.yasna_notation.specs.Notation.{stands_for};
+ghost use Rattle.yasna_notation.specs.Parts.{no_parts, tells_false, tests_false};
+ghost use Rattle.yasna_notation.specs.contracts.strings.VecU8Notation.TheImpl.Laws.{keeps-law as octets};
+ghost use Rattle.yasna_notation.specs.contracts.simple.BoolNotation.TheImpl.Laws.{keeps-law as flag};
+
+use yasna::{ASN1Result, BERReader, DERWriter, Tag};
+use yasna_notation::{
+    Context, Default, DefaultValue, Implicit, Message, Notation, Optional, Sequence, StandsFor,
+    read_as,
+};
+
+type MatchingRule = Optional<Implicit<Context<1>, Vec<u8>>>;
+
+type AttributeType = Optional<Implicit<Context<2>, Vec<u8>>>;
+
+type DnFlag = Implicit<Context<4>, bool>;
+
+type Ends = (Implicit<Context<3>, Vec<u8>>, (Default<DnFlag, Unset>, ()));
+
+/// `DEFAULT FALSE` of a BOOLEAN under a tag.
+pub struct Unset;
+
+impl DefaultValue<DnFlag> for Unset {
+    ghost default = { false };
+
+    ghost is = { not };
+
+    fn default() -> bool {
+        false
+    }
+
+    ghost tells = { tells_false };
+
+    ghost tests = { tests_false };
+}
+
+type Parts = (
+    MatchingRule,
+    (
+        AttributeType,
+        (Implicit<Context<3>, Vec<u8>>, (Default<DnFlag, Unset>, ())),
+    ),
+);
+
+type Fields = (Option<Vec<u8>>, (Option<Vec<u8>>, (Vec<u8>, (bool, ()))));
+
+/// An assertion by a matching rule.
+#[derive(Drop)]
+pub struct MatchingRuleAssertion {
+    /// The rule, by its name or its object identifier.
+    pub matching_rule: Option<Vec<u8>>,
+    /// The name of the attribute; all that have the rule, where it is left out.
+    pub attribute_type: Option<Vec<u8>>,
+    pub match_value: Vec<u8>,
+    /// Whether the attributes of the entry's name are looked at too.
+    pub dn_attributes: bool,
+}
+
+impl StandsFor<Fields> for MatchingRuleAssertion {
+    ghost value_of = { λ v. (v.matching_rule, (v.attribute_type, (v.match_value, (v.dn_attributes, tt)))) };
+
+    fn from_value(fields: Fields) -> MatchingRuleAssertion {
+        let (matching_rule, others) = fields;
+        let (attribute_type, others) = others;
+        let (match_value, others) = others;
+        let (dn_attributes, ()) = others;
+        MatchingRuleAssertion {
+            matching_rule,
+            attribute_type,
+            match_value,
+            dn_attributes,
+        }
+    }
+}
+
+impl Notation for MatchingRuleAssertion {
+    type Value = MatchingRuleAssertion;
+
+    type Inner = ();
+
+    ghost means = { stands_for ⟦<MatchingRuleAssertion as StandsFor<Fields>>⟧.value_of ⟦<Sequence<Parts> as Notation>⟧.means };
+
+    fn has_tag(tag: Tag) -> bool {
+        <Sequence<Parts> as Notation>::has_tag(tag)
+    }
+
+    fn read(reader: BERReader) -> ASN1Result<MatchingRuleAssertion> {
+        read_as::<Sequence<Parts>, MatchingRuleAssertion>(reader)
+    }
+
+    fn write(value: &MatchingRuleAssertion, writer: DERWriter<'_>) -> ASN1Result<()> {
+        Sequence::<Parts>::write_fields(
+            (
+                &value.matching_rule,
+                (
+                    &value.attribute_type,
+                    (&value.match_value, (&value.dn_attributes, ())),
+                ),
+            ),
+            writer,
+        )
+    }
+
+    ghost keeps = { λ _. standing_keeps ⟦<MatchingRuleAssertion as StandsFor<Fields>>⟧.value_of
+        (in_sequence (optional_part refl (in_implicit 1 (omega arith) (octets
+        refl)).own (optional_part refl (in_implicit 2 (omega arith) (octets refl)).own (part (in_implicit 3 (omega arith) (octets refl)).own (default_part not
+        false tells_false refl (in_implicit 4 (omega arith) (flag refl)).own no_parts))))) };
+
+    ghost filled = { λ u m v. element_filled _ _ _ _ };
+}
+
+impl Message for MatchingRuleAssertion {
+    ghost told_apart = { refl };
+}

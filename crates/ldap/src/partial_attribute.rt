@@ -1,0 +1,76 @@
+//! Attributes, of which the values may be left out (RFC 4511, 4.1.7).
+//!
+//! ```text
+//! PartialAttribute ::= SEQUENCE {
+//!     type  AttributeDescription,
+//!     vals  SET OF value AttributeValue }
+//!
+//! AttributeDescription ::= LDAPString
+//! AttributeValue       ::= OCTET STRING
+//! LDAPString           ::= OCTET STRING
+//! ```
+ghost use Rattle.std.specs.Prelude.{◌≡◌, refl};
+ghost use Rattle.yasna_notation.specs.Laws.{standing_keeps, element_filled};
+ghost use Rattle.yasna_notation.specs.Making.{in_sequence, in_set_of, part};
+ghost use Rattle.yasna_notation.specs.Notation.{stands_for};
+ghost use Rattle.yasna_notation.specs.Parts.{no_parts};
+ghost use Rattle.yasna_notation.specs.contracts.strings.VecU8Notation.TheImpl.Laws.{keeps-law as octets};
+
+use yasna::{ASN1Result, BERReader, DERWriter, Tag};
+use yasna_notation::{Message, Notation, Sequence, SetOf, StandsFor, read_as};
+
+type Parts = (Vec<u8>, (SetOf<Vec<u8>>, ()));
+
+type Fields = (Vec<u8>, (Vec<Vec<u8>>, ()));
+
+/// An attribute, with values or none.
+#[derive(Drop)]
+pub struct PartialAttribute {
+    /// The name of the attribute, with its options, in UTF-8.
+    pub attribute_type: Vec<u8>,
+    /// Its values. They stand in no order.
+    pub vals: Vec<Vec<u8>>,
+}
+
+impl StandsFor<Fields> for PartialAttribute {
+    ghost value_of = { λ v. (v.attribute_type, (v.vals, tt)) };
+
+    fn from_value(fields: Fields) -> PartialAttribute {
+        let (attribute_type, others) = fields;
+        let (vals, ()) = others;
+        PartialAttribute {
+            attribute_type,
+            vals,
+        }
+    }
+}
+
+impl Notation for PartialAttribute {
+    type Value = PartialAttribute;
+
+    type Inner = ();
+
+    ghost means = { stands_for ⟦<PartialAttribute as StandsFor<Fields>>⟧.value_of ⟦<Sequence<Parts> as Notation>⟧.means };
+
+    fn has_tag(tag: Tag) -> bool {
+        <Sequence<Parts> as Notation>::has_tag(tag)
+    }
+
+    fn read(reader: BERReader) -> ASN1Result<PartialAttribute> {
+        read_as::<Sequence<Parts>, PartialAttribute>(reader)
+    }
+
+    fn write(value: &PartialAttribute, writer: DERWriter<'_>) -> ASN1Result<()> {
+        Sequence::<Parts>::write_fields((&value.attribute_type, (&value.vals, ())), writer)
+    }
+
+    ghost keeps = { λ _. standing_keeps ⟦<PartialAttribute as StandsFor<Fields>>⟧.value_of
+        (in_sequence (part (octets refl).own (part (in_set_of (octets refl).own).own
+        no_parts))) };
+
+    ghost filled = { λ u m v. element_filled _ _ _ _ };
+}
+
+impl Message for PartialAttribute {
+    ghost told_apart = { refl };
+}

@@ -1,0 +1,155 @@
+//! Operations (RFC 4511, 4.1.1).
+//!
+//! ```text
+//! CHOICE {
+//!     bindRequest            BindRequest,
+//!     bindResponse           BindResponse,
+//!     unbindRequest          UnbindRequest,
+//!     searchRequest          SearchRequest,
+//!     searchResultEntry      SearchResultEntry,
+//!     searchResultDone       SearchResultDone,
+//!     searchResultReference  SearchResultReference,
+//!     .. }
+//! ```
+ghost use Rattle.std.specs.Prelude.{◌≡◌, [], refl};
+ghost use Rattle.yasna_notation.specs.Laws.{standing_keeps, element_filled};
+ghost use Rattle.yasna_notation.specs.Making.{in_choice, alternative};
+ghost use Rattle.yasna_notation.specs.Notation.{stands_for};
+ghost use Rattle.yasna_notation.specs.declared.choices.Either.TheVariants.{First, Second};
+ghost use Rattle.ldap.specs.declared.protocol_op.ProtocolOp.TheVariants.{BindRequest, BindResponse, UnbindRequest, SearchRequest, SearchResultEntry, SearchResultDone, SearchResultReference};
+ghost use Rattle.ldap.specs.contracts.bind_request.BindRequestNotation.TheImpl.Laws.{keeps-law as bind_request_keeps};
+ghost use Rattle.ldap.specs.contracts.bind_response.BindResponseNotation.TheImpl.Laws.{keeps-law as bind_response_keeps};
+ghost use Rattle.ldap.specs.contracts.unbind_request.UnbindRequestNotation.TheImpl.Laws.{keeps-law as unbind_request_keeps};
+ghost use Rattle.ldap.specs.contracts.search_request.SearchRequestNotation.TheImpl.Laws.{keeps-law as search_request_keeps};
+ghost use Rattle.ldap.specs.contracts.search_result_entry.SearchResultEntryNotation.TheImpl.Laws.{keeps-law as search_result_entry_keeps};
+ghost use Rattle.ldap.specs.contracts.search_result_done.SearchResultDoneNotation.TheImpl.Laws.{keeps-law as search_result_done_keeps};
+ghost use Rattle.ldap.specs.contracts.search_result_reference.SearchResultReferenceNotation.TheImpl.Laws.{keeps-law as search_result_reference_keeps};
+
+use crate::bind_request::BindRequest;
+use crate::bind_response::BindResponse;
+use crate::search_request::SearchRequest;
+use crate::search_result_done::SearchResultDone;
+use crate::search_result_entry::SearchResultEntry;
+use crate::search_result_reference::SearchResultReference;
+use crate::unbind_request::UnbindRequest;
+use yasna::{ASN1Result, BERReader, DERWriter, Tag};
+use yasna_notation::{Choice, Either, Message, Notation, StandsFor, read_as};
+
+type Results = (
+    SearchRequest,
+    (
+        SearchResultEntry,
+        (SearchResultDone, (SearchResultReference,)),
+    ),
+);
+
+type Notated = Choice<(BindRequest, (BindResponse, (UnbindRequest, Results)))>;
+
+type LaterFields = Either<
+    SearchRequest,
+    Either<SearchResultEntry, Either<SearchResultDone, SearchResultReference>>,
+>;
+
+type Fields = Either<BindRequest, Either<BindResponse, Either<UnbindRequest, LaterFields>>>;
+
+/// What stands in a message: a request, or a part of the answer to one.
+#[derive(Drop)]
+pub enum ProtocolOp {
+    BindRequest(BindRequest),
+    BindResponse(BindResponse),
+    UnbindRequest(UnbindRequest),
+    SearchRequest(SearchRequest),
+    SearchResultEntry(SearchResultEntry),
+    SearchResultDone(SearchResultDone),
+    SearchResultReference(SearchResultReference),
+}
+
+impl StandsFor<Fields> for ProtocolOp {
+    ghost value_of = { λ v. elim v [
+      | BindRequest o ↦ First o
+      | BindResponse o ↦ Second (First o)
+      | UnbindRequest o ↦ Second (Second (First o))
+      | SearchRequest o ↦ Second (Second (Second (First o)))
+      | SearchResultEntry o ↦ Second (Second (Second (Second (First o))))
+      | SearchResultDone o ↦ Second (Second (Second (Second (Second (First o)))))
+      | SearchResultReference o ↦ Second (Second (Second (Second (Second (Second o)))))
+    ] };
+
+    fn from_value(value: Fields) -> ProtocolOp {
+        let others = match value {
+            Either::First(operation) => return ProtocolOp::BindRequest(operation),
+            Either::Second(others) => others,
+        };
+        let others = match others {
+            Either::First(operation) => return ProtocolOp::BindResponse(operation),
+            Either::Second(others) => others,
+        };
+        let others = match others {
+            Either::First(operation) => return ProtocolOp::UnbindRequest(operation),
+            Either::Second(others) => others,
+        };
+        let others = match others {
+            Either::First(operation) => return ProtocolOp::SearchRequest(operation),
+            Either::Second(others) => others,
+        };
+        let others = match others {
+            Either::First(operation) => return ProtocolOp::SearchResultEntry(operation),
+            Either::Second(others) => others,
+        };
+        match others {
+            Either::First(operation) => ProtocolOp::SearchResultDone(operation),
+            Either::Second(operation) => ProtocolOp::SearchResultReference(operation),
+        }
+    }
+}
+
+impl Notation for ProtocolOp {
+    type Value = ProtocolOp;
+
+    type Inner = ();
+
+    ghost means = { stands_for ⟦<ProtocolOp as StandsFor<Fields>>⟧.value_of ⟦<Notated as Notation>⟧.means };
+
+    fn has_tag(tag: Tag) -> bool {
+        <Notated as Notation>::has_tag(tag)
+    }
+
+    fn read(reader: BERReader) -> ASN1Result<ProtocolOp> {
+        read_as::<Notated, ProtocolOp>(reader)
+    }
+
+    fn write(value: &ProtocolOp, writer: DERWriter<'_>) -> ASN1Result<()> {
+        match value {
+            ProtocolOp::BindRequest(operation) => BindRequest::write(operation, writer),
+            ProtocolOp::BindResponse(operation) => BindResponse::write(operation, writer),
+            ProtocolOp::UnbindRequest(operation) => UnbindRequest::write(operation, writer),
+            ProtocolOp::SearchRequest(operation) => SearchRequest::write(operation, writer),
+            ProtocolOp::SearchResultEntry(operation) => SearchResultEntry::write(operation, writer),
+            ProtocolOp::SearchResultDone(operation) => SearchResultDone::write(operation, writer),
+            ProtocolOp::SearchResultReference(operation) => SearchResultReference::write(
+                operation, writer,
+            ),
+        }
+    }
+
+    ghost keeps = { λ _. standing_keeps ⟦<ProtocolOp as StandsFor<Fields>>⟧.value_of
+        (in_choice ⟦<Notated as Notation>⟧.means.form_under (alternative (bind_request_keeps
+        refl).own refl (alternative (bind_response_keeps refl).own refl (alternative (unbind_request_keeps refl).own refl (alternative (search_request_keeps
+        refl).own refl (alternative (search_result_entry_keeps refl).own refl (alternative (search_result_done_keeps refl).own refl
+        (search_result_reference_keeps refl).own))))))) };
+
+    ghost filled = { λ u m v. elim v as (λ k. ⟦<Notated as Notation>⟧.means.form_under u m (⟦<ProtocolOp as StandsFor<Fields>>⟧.value_of k) ≡ [] → ⊥) [
+      | BindRequest o ↦
+          element_filled _ _ _ _
+      | BindResponse o ↦ element_filled _ _ _ _
+      | UnbindRequest o ↦ element_filled _ _ _ _
+      | SearchRequest o ↦ element_filled _ _ _ _
+      | SearchResultEntry o ↦ element_filled _ _ _ _
+      | SearchResultDone o ↦ element_filled _ _ _ _
+      | SearchResultReference o ↦ element_filled _ _ _ _
+    ] };
+}
+
+impl Message for ProtocolOp {
+    ghost told_apart = { refl };
+}

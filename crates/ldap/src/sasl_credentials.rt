@@ -1,0 +1,73 @@
+//! Credentials of the Simple Authentication and Security Layer (RFC 4511, 4.2).
+//!
+//! ```text
+//! SaslCredentials ::= SEQUENCE {
+//!     mechanism    LDAPString,
+//!     credentials  OCTET STRING OPTIONAL }
+//!
+//! LDAPString ::= OCTET STRING
+//! ```
+ghost use Rattle.std.specs.Prelude.{◌≡◌, refl};
+ghost use Rattle.yasna_notation.specs.Laws.{standing_keeps, element_filled};
+ghost use Rattle.yasna_notation.specs.Making.{in_sequence, part, optional_part};
+ghost use Rattle.yasna_notation.specs.Notation.{stands_for};
+ghost use Rattle.yasna_notation.specs.Parts.{no_parts};
+ghost use Rattle.yasna_notation.specs.contracts.strings.VecU8Notation.TheImpl.Laws.{keeps-law as octets};
+
+use yasna::{ASN1Result, BERReader, DERWriter, Tag};
+use yasna_notation::{Message, Notation, Optional, Sequence, StandsFor, read_as};
+
+type Parts = (Vec<u8>, (Optional<Vec<u8>>, ()));
+
+type Fields = (Vec<u8>, (Option<Vec<u8>>, ()));
+
+/// What a mechanism is given of who asks.
+#[derive(Drop)]
+pub struct SaslCredentials {
+    /// The name of the mechanism.
+    pub mechanism: Vec<u8>,
+    pub credentials: Option<Vec<u8>>,
+}
+
+impl StandsFor<Fields> for SaslCredentials {
+    ghost value_of = { λ v. (v.mechanism, (v.credentials, tt)) };
+
+    fn from_value(fields: Fields) -> SaslCredentials {
+        let (mechanism, others) = fields;
+        let (credentials, ()) = others;
+        SaslCredentials {
+            mechanism,
+            credentials,
+        }
+    }
+}
+
+impl Notation for SaslCredentials {
+    type Value = SaslCredentials;
+
+    type Inner = ();
+
+    ghost means = { stands_for ⟦<SaslCredentials as StandsFor<Fields>>⟧.value_of ⟦<Sequence<Parts> as Notation>⟧.means };
+
+    fn has_tag(tag: Tag) -> bool {
+        <Sequence<Parts> as Notation>::has_tag(tag)
+    }
+
+    fn read(reader: BERReader) -> ASN1Result<SaslCredentials> {
+        read_as::<Sequence<Parts>, SaslCredentials>(reader)
+    }
+
+    fn write(value: &SaslCredentials, writer: DERWriter<'_>) -> ASN1Result<()> {
+        Sequence::<Parts>::write_fields((&value.mechanism, (&value.credentials, ())), writer)
+    }
+
+    ghost keeps = { λ _. standing_keeps ⟦<SaslCredentials as StandsFor<Fields>>⟧.value_of
+        (in_sequence (part (octets refl).own (optional_part refl (octets refl).own
+        no_parts))) };
+
+    ghost filled = { λ u m v. element_filled _ _ _ _ };
+}
+
+impl Message for SaslCredentials {
+    ghost told_apart = { refl };
+}

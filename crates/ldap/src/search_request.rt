@@ -1,0 +1,155 @@
+//! Requests to search (RFC 4511, 4.5.1).
+//!
+//! ```text
+//! SearchRequest ::= [APPLICATION 3] SEQUENCE {
+//!     baseObject    LDAPDN,
+//!     scope         ENUMERATED { baseObject(0), singleLevel(1), wholeSubtree(2), ... },
+//!     derefAliases  ENUMERATED {
+//!         neverDerefAliases(0), derefInSearching(1), derefFindingBaseObj(2), derefAlways(3) },
+//!     sizeLimit     INTEGER (0 .. maxInt),
+//!     timeLimit     INTEGER (0 .. maxInt),
+//!     typesOnly     BOOLEAN,
+//!     filter        Filter,
+//!     attributes    AttributeSelection }
+//!
+//! AttributeSelection ::= SEQUENCE OF selector LDAPString
+//! LDAPDN             ::= LDAPString
+//! LDAPString         ::= OCTET STRING
+//!
+//! maxInt INTEGER ::= 2147483647
+//! ```
+ghost use Rattle.std.specs.Prelude.{◌≡◌, pos, refl};
+ghost use Rattle.std.proofs.Common.{arith};
+ghost use Rattle.yasna_notation.specs.Laws.{standing_keeps, element_filled};
+ghost use Rattle.yasna_notation.specs.Making.{in_sequence, in_sequence_of, part, at_most};
+ghost use Rattle.yasna_notation.specs.Notation.{stands_for};
+ghost use Rattle.yasna_notation.specs.Parts.{no_parts};
+ghost use Rattle.ldap.specs.Making.{in_application, in_bound, up_to};
+ghost use Rattle.yasna_notation.specs.contracts.strings.VecU8Notation.TheImpl.Laws.{keeps-law as octets};
+ghost use Rattle.yasna_notation.specs.contracts.simple.EnumeratedNotation.TheImpl.Laws.{keeps-law as enumerated};
+ghost use Rattle.yasna_notation.specs.contracts.simple.U64Notation.TheImpl.Laws.{keeps-law as number};
+ghost use Rattle.yasna_notation.specs.contracts.simple.BoolNotation.TheImpl.Laws.{keeps-law as flag};
+ghost use Rattle.ldap.specs.contracts.filter_notation.FilterNotation.TheImpl.Laws.{keeps-law as filter};
+
+use crate::bounds::UpTo;
+use crate::filter::Filter;
+use crate::tagged::write_tagged_fields;
+use yasna::{ASN1Result, BERReader, DERWriter, Tag};
+use yasna_notation::{
+    Application, AtMost, Bounded, Enumerated, Implicit, Message, Notation, Sequence, SequenceOf,
+    StandsFor, read_as,
+};
+
+type MaxInt = Bounded<u64, AtMost<2147483647>>;
+
+type Ends = (bool, (Filter, (SequenceOf<Vec<u8>>, ())));
+
+type Limits = (MaxInt, (MaxInt, Ends));
+
+type Parts = (
+    Vec<u8>,
+    (
+        Bounded<Enumerated, UpTo<2>>,
+        (Bounded<Enumerated, UpTo<3>>, Limits),
+    ),
+);
+
+type EndFields = (bool, (Filter, (Vec<Vec<u8>>, ())));
+
+type Fields = (Vec<u8>, (i64, (i64, (u64, (u64, EndFields)))));
+
+type Notated = Implicit<Application<3>, Sequence<Parts>>;
+
+/// A request to search.
+#[derive(Drop)]
+pub struct SearchRequest {
+    /// The name of the entry where the search begins, in UTF-8.
+    pub base_object: Vec<u8>,
+    /// 0 for that entry alone, 1 for those right below it, 2 for all from it on.
+    pub scope: i64,
+    /// Which aliases are followed: 0 for none, 1 below that entry, 2 at it, 3 for all.
+    pub deref_aliases: i64,
+    /// How many entries are wanted at most; 0 for any number.
+    pub size_limit: u64,
+    /// How many seconds the search may take; 0 for any.
+    pub time_limit: u64,
+    /// Whether the values of attributes are left out.
+    pub types_only: bool,
+    pub filter: Filter,
+    /// The names of the attributes that are wanted.
+    pub attributes: Vec<Vec<u8>>,
+}
+
+impl StandsFor<Fields> for SearchRequest {
+    ghost value_of = { λ v. (v.base_object, (v.scope, (v.deref_aliases, (v.size_limit, (v.time_limit, (v.types_only, (v.filter, (v.attributes, tt)))))))) };
+
+    fn from_value(fields: Fields) -> SearchRequest {
+        let (base_object, others) = fields;
+        let (scope, others) = others;
+        let (deref_aliases, others) = others;
+        let (size_limit, others) = others;
+        let (time_limit, others) = others;
+        let (types_only, others) = others;
+        let (filter, others) = others;
+        let (attributes, ()) = others;
+        SearchRequest {
+            base_object,
+            scope,
+            deref_aliases,
+            size_limit,
+            time_limit,
+            types_only,
+            filter,
+            attributes,
+        }
+    }
+}
+
+impl Notation for SearchRequest {
+    type Value = SearchRequest;
+
+    type Inner = ();
+
+    ghost means = { stands_for ⟦<SearchRequest as StandsFor<Fields>>⟧.value_of ⟦<Notated as Notation>⟧.means };
+
+    fn has_tag(tag: Tag) -> bool {
+        <Notated as Notation>::has_tag(tag)
+    }
+
+    fn read(reader: BERReader) -> ASN1Result<SearchRequest> {
+        read_as::<Notated, SearchRequest>(reader)
+    }
+
+    fn write(value: &SearchRequest, writer: DERWriter<'_>) -> ASN1Result<()> {
+        write_tagged_fields::<Application<3>, Parts, _>(
+            (
+                &value.base_object,
+                (
+                    &value.scope,
+                    (
+                        &value.deref_aliases,
+                        (
+                            &value.size_limit,
+                            (
+                                &value.time_limit,
+                                (&value.types_only, (&value.filter, (&value.attributes, ()))),
+                            ),
+                        ),
+                    ),
+                ),
+            ),
+            writer,
+        )
+    }
+
+    ghost keeps = { λ _. standing_keeps ⟦<SearchRequest as StandsFor<Fields>>⟧.value_of
+        (in_application 3 (omega arith) (in_sequence (part (octets refl).own (part (in_bound
+        (up_to (pos 2)) (enumerated refl)).own (part (in_bound (up_to (pos 3)) (enumerated refl)).own (part (at_most 2147483647 (number refl)).own (part
+        (at_most 2147483647 (number refl)).own (part (flag refl).own (part (filter refl).own (part (in_sequence_of (octets refl).own).own no_parts)))))))))) };
+
+    ghost filled = { λ u m v. element_filled _ _ _ _ };
+}
+
+impl Message for SearchRequest {
+    ghost told_apart = { refl };
+}

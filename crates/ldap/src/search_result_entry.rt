@@ -1,0 +1,87 @@
+//! Entries that a search finds (RFC 4511, 4.5.2).
+//!
+//! ```text
+//! SearchResultEntry ::= [APPLICATION 4] SEQUENCE {
+//!     objectName  LDAPDN,
+//!     attributes  PartialAttributeList }
+//!
+//! PartialAttributeList ::= SEQUENCE OF partialAttribute PartialAttribute
+//! LDAPDN               ::= LDAPString
+//! LDAPString           ::= OCTET STRING
+//! ```
+ghost use Rattle.std.specs.Prelude.{◌≡◌, refl};
+ghost use Rattle.std.proofs.Common.{arith};
+ghost use Rattle.yasna_notation.specs.Laws.{standing_keeps, element_filled};
+ghost use Rattle.yasna_notation.specs.Making.{in_sequence, in_sequence_of, part};
+ghost use Rattle.yasna_notation.specs.Notation.{stands_for};
+ghost use Rattle.yasna_notation.specs.Parts.{no_parts};
+ghost use Rattle.ldap.specs.Making.{in_application};
+ghost use Rattle.yasna_notation.specs.contracts.strings.VecU8Notation.TheImpl.Laws.{keeps-law as octets};
+ghost use Rattle.ldap.specs.contracts.partial_attribute.PartialAttributeNotation.TheImpl.Laws.{keeps-law as attribute};
+
+use crate::partial_attribute::PartialAttribute;
+use crate::tagged::write_tagged_fields;
+use yasna::{ASN1Result, BERReader, DERWriter, Tag};
+use yasna_notation::{
+    Application, Implicit, Message, Notation, Sequence, SequenceOf, StandsFor, read_as,
+};
+
+type Parts = (Vec<u8>, (SequenceOf<PartialAttribute>, ()));
+
+type Fields = (Vec<u8>, (Vec<PartialAttribute>, ()));
+
+type Notated = Implicit<Application<4>, Sequence<Parts>>;
+
+/// An entry that a search finds.
+#[derive(Drop)]
+pub struct SearchResultEntry {
+    /// The name of the entry, in UTF-8.
+    pub object_name: Vec<u8>,
+    pub attributes: Vec<PartialAttribute>,
+}
+
+impl StandsFor<Fields> for SearchResultEntry {
+    ghost value_of = { λ v. (v.object_name, (v.attributes, tt)) };
+
+    fn from_value(fields: Fields) -> SearchResultEntry {
+        let (object_name, others) = fields;
+        let (attributes, ()) = others;
+        SearchResultEntry {
+            object_name,
+            attributes,
+        }
+    }
+}
+
+impl Notation for SearchResultEntry {
+    type Value = SearchResultEntry;
+
+    type Inner = ();
+
+    ghost means = { stands_for ⟦<SearchResultEntry as StandsFor<Fields>>⟧.value_of ⟦<Notated as Notation>⟧.means };
+
+    fn has_tag(tag: Tag) -> bool {
+        <Notated as Notation>::has_tag(tag)
+    }
+
+    fn read(reader: BERReader) -> ASN1Result<SearchResultEntry> {
+        read_as::<Notated, SearchResultEntry>(reader)
+    }
+
+    fn write(value: &SearchResultEntry, writer: DERWriter<'_>) -> ASN1Result<()> {
+        write_tagged_fields::<Application<4>, Parts, _>(
+            (&value.object_name, (&value.attributes, ())),
+            writer,
+        )
+    }
+
+    ghost keeps = { λ _. standing_keeps ⟦<SearchResultEntry as StandsFor<Fields>>⟧.value_of
+        (in_application 4 (omega arith) (in_sequence (part (octets refl).own (part
+        (in_sequence_of (attribute refl).own).own no_parts)))) };
+
+    ghost filled = { λ u m v. element_filled _ _ _ _ };
+}
+
+impl Message for SearchResultEntry {
+    ghost told_apart = { refl };
+}

@@ -1,0 +1,66 @@
+//! Other servers where a search may go on (RFC 4511, 4.5.2).
+//!
+//! ```text
+//! SearchResultReference ::= [APPLICATION 19] SEQUENCE SIZE (1..MAX) OF uri URI
+//!
+//! URI        ::= LDAPString
+//! LDAPString ::= OCTET STRING
+//! ```
+ghost use Rattle.std.specs.Prelude.{◌≡◌, refl};
+ghost use Rattle.std.proofs.Common.{arith};
+ghost use Rattle.yasna_notation.specs.Laws.{standing_keeps, element_filled};
+ghost use Rattle.yasna_notation.specs.Making.{in_sequence_of, not_empty};
+ghost use Rattle.yasna_notation.specs.Notation.{stands_for};
+ghost use Rattle.ldap.specs.Making.{in_application};
+ghost use Rattle.yasna_notation.specs.contracts.strings.VecU8Notation.TheImpl.Laws.{keeps-law as octets};
+
+use yasna::{ASN1Result, BERReader, DERWriter, Tag};
+use yasna_notation::{
+    Application, Bounded, Implicit, Message, NotEmpty, Notation, SequenceOf, StandsFor, read_as,
+};
+
+type Notated = Implicit<Application<19>, Bounded<SequenceOf<Vec<u8>>, NotEmpty>>;
+
+/// Other servers where a search may go on, one or more.
+#[derive(Drop)]
+pub struct SearchResultReference {
+    pub uris: Vec<Vec<u8>>,
+}
+
+impl StandsFor<Vec<Vec<u8>>> for SearchResultReference {
+    ghost value_of = { λ v. v.uris };
+
+    fn from_value(uris: Vec<Vec<u8>>) -> SearchResultReference {
+        SearchResultReference { uris }
+    }
+}
+
+impl Notation for SearchResultReference {
+    type Value = SearchResultReference;
+
+    type Inner = ();
+
+    ghost means = { stands_for ⟦<SearchResultReference as StandsFor<Vec<Vec<u8>>>>⟧.value_of ⟦<Notated as Notation>⟧.means };
+
+    fn has_tag(tag: Tag) -> bool {
+        <Notated as Notation>::has_tag(tag)
+    }
+
+    fn read(reader: BERReader) -> ASN1Result<SearchResultReference> {
+        read_as::<Notated, SearchResultReference>(reader)
+    }
+
+    fn write(value: &SearchResultReference, writer: DERWriter<'_>) -> ASN1Result<()> {
+        Notated::write(&value.uris, writer)
+    }
+
+    ghost keeps = { λ _. standing_keeps ⟦<SearchResultReference as StandsFor<Vec<Vec<u8>>>>⟧.value_of
+        (in_application 19 (omega arith) (not_empty (in_sequence_of (octets
+        refl).own))) };
+
+    ghost filled = { λ u m v. element_filled _ _ _ _ };
+}
+
+impl Message for SearchResultReference {
+    ghost told_apart = { refl };
+}

@@ -1,0 +1,82 @@
+//! Filters by parts of a string (RFC 4511, 4.5.1.7.2).
+//!
+//! ```text
+//! SubstringFilter ::= SEQUENCE {
+//!     type        AttributeDescription,
+//!     substrings  SEQUENCE SIZE (1..MAX) OF substring CHOICE { .. } }
+//!
+//! AttributeDescription ::= LDAPString
+//! LDAPString           ::= OCTET STRING
+//! ```
+ghost use Rattle.std.specs.Prelude.{◌≡◌, refl};
+ghost use Rattle.std.proofs.Common.{arith};
+ghost use Rattle.yasna_notation.specs.Laws.{standing_keeps, element_filled};
+ghost use Rattle.yasna_notation.specs.Making.{in_sequence, in_sequence_of, in_choice, alternative, in_implicit, not_empty, part};
+ghost use Rattle.yasna_notation.specs.Notation.{stands_for};
+ghost use Rattle.yasna_notation.specs.Parts.{no_parts};
+ghost use Rattle.yasna_notation.specs.contracts.strings.VecU8Notation.TheImpl.Laws.{keeps-law as octets};
+
+use crate::substring::Substring;
+use yasna::{ASN1Result, BERReader, DERWriter, Tag};
+use yasna_notation::{
+    Bounded, Choice, Context, Defined, Implicit, Message, NotEmpty, Notation, Sequence, SequenceOf,
+    StandsFor, read_as,
+};
+
+type Parts = (Vec<u8>, (Bounded<SequenceOf<Substring>, NotEmpty>, ()));
+
+type Fields = (Vec<u8>, (Vec<Substring>, ()));
+
+/// A filter by parts of a string.
+#[derive(Drop)]
+pub struct SubstringFilter {
+    /// The name of the attribute, with its options, in UTF-8.
+    pub attribute_type: Vec<u8>,
+    /// One or more, in their order.
+    pub substrings: Vec<Substring>,
+}
+
+impl StandsFor<Fields> for SubstringFilter {
+    ghost value_of = { λ v. (v.attribute_type, (v.substrings, tt)) };
+
+    fn from_value(fields: Fields) -> SubstringFilter {
+        let (attribute_type, others) = fields;
+        let (substrings, ()) = others;
+        SubstringFilter {
+            attribute_type,
+            substrings,
+        }
+    }
+}
+
+impl Notation for SubstringFilter {
+    type Value = SubstringFilter;
+
+    type Inner = ();
+
+    ghost means = { stands_for ⟦<SubstringFilter as StandsFor<Fields>>⟧.value_of ⟦<Sequence<Parts> as Notation>⟧.means };
+
+    fn has_tag(tag: Tag) -> bool {
+        <Sequence<Parts> as Notation>::has_tag(tag)
+    }
+
+    fn read(reader: BERReader) -> ASN1Result<SubstringFilter> {
+        read_as::<Sequence<Parts>, SubstringFilter>(reader)
+    }
+
+    fn write(value: &SubstringFilter, writer: DERWriter<'_>) -> ASN1Result<()> {
+        Sequence::<Parts>::write_fields((&value.attribute_type, (&value.substrings, ())), writer)
+    }
+
+    ghost keeps = { λ _. standing_keeps ⟦<SubstringFilter as StandsFor<Fields>>⟧.value_of
+        (in_sequence (part (octets refl).own (part (not_empty (in_sequence_of (standing_keeps
+        ⟦<Substring as Defined>⟧.value_of (in_choice ⟦<Choice<(Implicit<Context<0>, Vec<u8>>, (Implicit<Context<1>, Vec<u8>>, (Implicit<Context<2>,
+      Vec<u8>>,)))> as Notation>⟧.means.form_under (alternative (in_implicit 0 (omega arith) (octets refl)).own refl (alternative (in_implicit 1 (omega
+        arith) (octets refl)).own refl (in_implicit 2 (omega arith) (octets refl)).own)))).own)).own no_parts))) };
+
+    ghost filled = { λ u m v. element_filled _ _ _ _ };
+}
+
+impl Message for SubstringFilter {
+    ghost told_apart = { refl };
+}

@@ -1,0 +1,18 @@
+//! How the fields of a SEQUENCE are written where another tag stands in place of its own (X.690, 8.14).
+ghost use Rattle.yasna_base.specs.Canonical.{enclosed_form};
+ghost use Rattle.yasna_base.specs.Identifier.{tag_or};
+ghost use Rattle.yasna.specs.Words.{Writes};
+
+use yasna::{ASN1Result, DERWriter};
+use yasna_notation::{PartsBy, Sequence, TagName};
+
+// Writes a SEQUENCE of these fields under the tag `T`: references to them, as pairs that end in `()`.
+pub(crate) fn write_tagged_fields<T: TagName, P: PartsBy<R>, R: Drop>(
+    fields: R,
+    writer: DERWriter<'_>,
+) -> ASN1Result<()>
+    requires { P.can (P.held fields) }
+    ensures { Writes (enclosed_form P.form (tag_or writer.old.tag T.tag) writer.old.mode (P.held fields)) writer.old writer.new result }
+{
+    writer.write_tagged_implicit(T::tag(), |inner| Sequence::<P>::write_fields(fields, inner))
+}

@@ -1,0 +1,57 @@
+//! Requests to end a session (RFC 4511, 4.3).
+//!
+//! ```text
+//! UnbindRequest ::= [APPLICATION 2] NULL
+//! ```
+ghost use Rattle.std.specs.Prelude.{◌≡◌, refl};
+ghost use Rattle.std.proofs.Common.{arith};
+ghost use Rattle.yasna_notation.specs.Laws.{standing_keeps, element_filled};
+ghost use Rattle.yasna_notation.specs.Notation.{stands_for};
+ghost use Rattle.ldap.specs.Making.{in_application};
+ghost use Rattle.yasna_notation.specs.contracts.simple.UnitNotation.TheImpl.Laws.{keeps-law as null};
+
+use yasna::{ASN1Result, BERReader, DERWriter, Tag};
+use yasna_notation::{Application, Implicit, Message, Notation, StandsFor, read_as};
+
+type Notated = Implicit<Application<2>, ()>;
+
+/// A request to end the session. It has no response.
+#[derive(Drop)]
+pub struct UnbindRequest;
+
+impl StandsFor<()> for UnbindRequest {
+    ghost value_of = { λ v. tt };
+
+    fn from_value(_value: ()) -> UnbindRequest {
+        UnbindRequest
+    }
+}
+
+impl Notation for UnbindRequest {
+    type Value = UnbindRequest;
+
+    type Inner = ();
+
+    ghost means = { stands_for ⟦<UnbindRequest as StandsFor<()>>⟧.value_of ⟦<Notated as Notation>⟧.means };
+
+    fn has_tag(tag: Tag) -> bool {
+        <Notated as Notation>::has_tag(tag)
+    }
+
+    fn read(reader: BERReader) -> ASN1Result<UnbindRequest> {
+        read_as::<Notated, UnbindRequest>(reader)
+    }
+
+    fn write(_value: &UnbindRequest, writer: DERWriter<'_>) -> ASN1Result<()> {
+        Notated::write(&(), writer)
+    }
+
+    ghost keeps = { λ _. standing_keeps ⟦<UnbindRequest as StandsFor<()>>⟧.value_of
+        (in_application 2 (omega arith) (null refl)) };
+
+    ghost filled = { λ u m v. element_filled _ _ _ _ };
+}
+
+impl Message for UnbindRequest {
+    ghost told_apart = { refl };
+}
