@@ -1,6 +1,6 @@
 #!/bin/sh
 # What the documents show: each block of Rust or of antt in them, and in the comments on what the library hands out, stands in one of
-# the proved crates yasna_guide and yasna_examples, line for line, but for how far the block is indented as a whole. And a module of
+# the proved crates yasna_guide, yasna_examples, x509 and ldap, line for line, but for how far the block is indented as a whole. And a module of
 # them that a document shows is the document's blocks, one behind the other, and nothing else: so who copies them has all that is needed.
 # Each block of GUIDE.md is a module of its own, with what it uses.
 set -eu
@@ -49,7 +49,7 @@ BEGIN {
             inside = 0
             blocks++
             k = most_that_fit()
-            if (size == 0 || k < size) fail(begin + k ": no file of yasna_guide or yasna_examples goes on with " block[k + 1])
+            if (size == 0 || k < size) fail(begin + k ": no file of yasna_guide, yasna_examples, x509 or ldap goes on with " block[k + 1])
         } else if (inside) {
             block[++size] = line
         } else if (line == "```rust" || line == "```antt") {
@@ -106,7 +106,9 @@ is_whole() {
 
 guide=crates/yasna_guide/src
 examples=crates/yasna_examples/src
-files=$(find "$guide" "$examples" crates/yasna_examples/proofs -name '*.rt' -o -name '*.antt')
+types=crates/x509/src
+filters=crates/ldap/src
+files=$(find "$guide" "$examples" "$types" "$filters" crates/yasna_examples/proofs -name '*.rt' -o -name '*.antt')
 for document in README.md docs/GUIDE.md docs/CONTRACTS.md \
     crates/yasna/src/lib.rt crates/yasna/src/shapes.rt \
     crates/yasna_reader/src/state.rt crates/yasna_reader/src/set.rt \
@@ -120,7 +122,7 @@ for document in README.md docs/GUIDE.md docs/CONTRACTS.md \
 done
 
 is_whole README.md "$guide/first.rt"
-set -- $(find "$guide" -name '*.rt' ! -name lib.rt ! -name first.rt | sort) "$examples/strings.rt" "$examples/exact.rt"
+set -- $(find "$guide" -name '*.rt' ! -name lib.rt ! -name first.rt | sort) "$examples/strings.rt" "$examples/exact.rt" "$types/time.rt" "$types/extension.rt" "$types/extensions.rt" "$filters/filter.rt" "$filters/filter_notation.rt"
 is_whole docs/GUIDE.md "$@"
 if [ "$(grep -c '^```rust$' docs/GUIDE.md)" -ne $# ]; then
     echo "docs/GUIDE.md: a block that is not a module of its own" >&2

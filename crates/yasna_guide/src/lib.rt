@@ -11,7 +11,6 @@ pub mod any;
 pub mod choice;
 pub mod defaults;
 pub mod errors;
-pub mod extensions;
 pub mod first;
 pub mod implicit;
 pub mod kept;

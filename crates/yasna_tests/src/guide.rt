@@ -9,11 +9,11 @@ use yasna_guide::any::{read_algorithm, write_algorithm};
 use yasna_guide::choice::{Name, read_name, write_name};
 use yasna_guide::defaults::{BasicConstraints, read_constraints, write_constraints};
 use yasna_guide::errors::reason;
-use yasna_guide::extensions::{extension_from_ber, rewritten_extension};
 use yasna_guide::first::{decode_report, encode_report};
 use yasna_guide::implicit::{read_accuracy, write_accuracy};
 use yasna_guide::kept::number_or_zero;
 use yasna_guide::lists::{highest, read_names, write_names};
+use yasna_guide::messages::{extension_from_ber, rewritten_extension};
 use yasna_guide::numbers::{
     Status, read_key, read_status, write_key, write_signature, write_status,
 };
@@ -350,7 +350,7 @@ fn extensions(rt: HostRuntime) -> Result<(), Fail> {
     );
     let extension = extension_from_ber(alloc, &form)?;
     assert!(rt; extension.critical);
-    assert_eq!(rt; extension.value.as_slice(), [48, 0].as_slice());
+    assert_eq!(rt; extension.extn_value.as_slice(), [48, 0].as_slice());
     // FALSE is left out in DER, and may stand there in BER
     let written = [48, 12, 6, 3, 85, 29, 19, 1, 1, 0, 4, 2, 48, 0];
     assert!(rt; !extension_from_ber(alloc, &written)?.critical);

@@ -1,0 +1,164 @@
+//! Certificates and revocation lists (RFC 5280), as OpenSSL 3.0.19 made them: the bytes that they were come back.
+
+use crate::messages::rewritten;
+use std::alloc::Global;
+use std::test::Fail;
+use x509::{Certificate, CertificateList, read_signed_certificate, read_signed_list};
+use yasna::{
+    ASN1Error, ASN1ErrorKind, ASN1Result, BERDecodable, DEREncodable, DERExact, decode_ber,
+    decode_der, parse_der,
+};
+use yasna_notation::Noted;
+
+// `openssl req -x509` with a key on P-256 and extensions: v3.
+const AUTHORITY: &str =
+    "308201b83082015ea003020102020800f1e2d3c4b5a697300a06082a8648ce3d040302303f310b3009060355040613024e4c\
+    31143012060355040a0c0b4578616d706c65204f7267311a301806035504030c114578616d706c6520417574686f72697479\
+    3020170d3236313132353038303435375a180f32303531303731373038303435375a303f310b3009060355040613024e4c31\
+    143012060355040a0c0b4578616d706c65204f7267311a301806035504030c114578616d706c6520417574686f7269747930\
+    59301306072a8648ce3d020106082a8648ce3d03010703420004b49db5bd057563983b5df2da4f9b2cc3d7ca5b3ab154989b\
+    9ebd8498c429ca3be4b490aa64bf04be28a7582b2105743992a610be655b356aab6677db4f077e31a3423040300f0603551d\
+    130101ff040530030101ff300e0603551d0f0101ff040403020106301d0603551d0e041604146ebabfcc06afddd7c785d460\
+    1a2db969bd747754300a06082a8648ce3d04030203480030450221009d556b5dc9837ef3f3e8759189d972f0f1f492a7f213\
+    234a85045fb06368403602206ec0dad2f0edcdb3cefb0267341dec7bf01444054bf49e1430fafd90fe454a00";
+
+// `openssl x509 -req` with no extensions: v1.
+const LEAF: &str =
+    "308201053081ad020105300a06082a8648ce3d040302303f310b3009060355040613024e4c31143012060355040a0c0b4578\
+    616d706c65204f7267311a301806035504030c114578616d706c6520417574686f72697479301e170d323631313235303830\
+    3435375a170d3237313132353038303435375a300f310d300b06035504030c046c656166302a300506032b65700321006f90\
+    df22420d4519c963cdab5980f30545cd52e22df4af153c57187f928326f7300a06082a8648ce3d040302034700304402204b\
+    db17a817dcca992ac9cdda5ea9d0a48280bb4d1d2576f31e3f7656ad3ae60602206f4b99d6c1a1cccacbe282e0167f6f0052\
+    5aea00ae45bc7ab0b74852d15acff1";
+
+// `openssl ca -gencrl` after one `-revoke`: v2, with an entry that has extensions.
+const REVOKED: &str =
+    "3082011c3081c3020101300a06082a8648ce3d040302303f310b3009060355040613024e4c31143012060355040a0c0b4578\
+    616d706c65204f7267311a301806035504030c114578616d706c6520417574686f72697479170d3236313132353038303435\
+    375a170d3236313232353038303435375a30223020020106170d3236313132353038303435375a300c300a0603551d150403\
+    0a0101a02f302d301f0603551d230418301680146ebabfcc06afddd7c785d4601a2db969bd747754300a0603551d14040302\
+    0101300a06082a8648ce3d04030203480030450220223b31a996765ce918e9f9f9dffafceab29055f1d2fadc0d56c878afca\
+    9a5fec022100a81803f202b500c5c834aaa800b28f39ce5dee989da5d8ce30caf15364b11fc9";
+
+// AUTHORITY with both unique identifiers put in by hand.
+const UNIQUE: &str =
+    "308201c130820167a003020102020800f1e2d3c4b5a697300a06082a8648ce3d040302303f310b3009060355040613024e4c\
+    31143012060355040a0c0b4578616d706c65204f7267311a301806035504030c114578616d706c6520417574686f72697479\
+    3020170d3236313132353038303435375a180f32303531303731373038303435375a303f310b3009060355040613024e4c31\
+    143012060355040a0c0b4578616d706c65204f7267311a301806035504030c114578616d706c6520417574686f7269747930\
+    59301306072a8648ce3d020106082a8648ce3d03010703420004b49db5bd057563983b5df2da4f9b2cc3d7ca5b3ab154989b\
+    9ebd8498c429ca3be4b490aa64bf04be28a7582b2105743992a610be655b356aab6677db4f077e31810304abc082020055a3\
+    423040300f0603551d130101ff040530030101ff300e0603551d0f0101ff040403020106301d0603551d0e041604146ebabf\
+    cc06afddd7c785d4601a2db969bd747754300a06082a8648ce3d04030203480030450221009d556b5dc9837ef3f3e8759189\
+    d972f0f1f492a7f213234a85045fb06368403602206ec0dad2f0edcdb3cefb0267341dec7bf01444054bf49e1430fafd90fe\
+    454a00";
+
+// LEAF with its version put in by hand, which is the default.
+const WRITTEN_OUT: &str =
+    "3082010a3081b2a003020100020105300a06082a8648ce3d040302303f310b3009060355040613024e4c3114301206035504\
+    0a0c0b4578616d706c65204f7267311a301806035504030c114578616d706c6520417574686f72697479301e170d32363131\
+    32353038303435375a170d3237313132353038303435375a300f310d300b06035504030c046c656166302a300506032b6570\
+    0321006f90df22420d4519c963cdab5980f30545cd52e22df4af153c57187f928326f7300a06082a8648ce3d040302034700\
+    304402204bdb17a817dcca992ac9cdda5ea9d0a48280bb4d1d2576f31e3f7656ad3ae60602206f4b99d6c1a1cccacbe282e0\
+    167f6f00525aea00ae45bc7ab0b74852d15acff1";
+
+// LEAF with the number 3 put in by hand, which is that of no version.
+const NO_VERSION: &str =
+    "3082010a3081b2a003020103020105300a06082a8648ce3d040302303f310b3009060355040613024e4c3114301206035504\
+    0a0c0b4578616d706c65204f7267311a301806035504030c114578616d706c6520417574686f72697479301e170d32363131\
+    32353038303435375a170d3237313132353038303435375a300f310d300b06035504030c046c656166302a300506032b6570\
+    0321006f90df22420d4519c963cdab5980f30545cd52e22df4af153c57187f928326f7300a06082a8648ce3d040302034700\
+    304402204bdb17a817dcca992ac9cdda5ea9d0a48280bb4d1d2576f31e3f7656ad3ae60602206f4b99d6c1a1cccacbe282e0\
+    167f6f00525aea00ae45bc7ab0b74852d15acff1";
+
+pub fn bytes_of(alloc: Global, text: &str) -> ASN1Result<Vec<u8>> {
+    match hex::decode(alloc, text) {
+        Ok(bytes) => Ok(bytes),
+        Err(_) => Err(ASN1Error::new(ASN1ErrorKind::OutOfMemory)),
+    }
+}
+
+fn comes_back<T: BERDecodable + DEREncodable + DERExact>(
+    alloc: Global,
+    text: &str,
+) -> ASN1Result<bool> {
+    let bytes = bytes_of(alloc, text)?;
+    let form = rewritten::<T>(alloc, &bytes)?;
+    Ok(form.as_slice() == bytes.as_slice())
+}
+
+fn certificate(alloc: Global, text: &str) -> ASN1Result<Certificate> {
+    let bytes = bytes_of(alloc, text)?;
+    let noted: Noted<Certificate> = decode_ber(alloc, &bytes)?;
+    Ok(noted.into_value())
+}
+
+#[test]
+fn certificates_come_back(rt: HostRuntime) -> Result<(), Fail> {
+    let alloc = rt.alloc();
+    assert!(rt; comes_back::<Noted<Certificate>>(alloc, AUTHORITY)?);
+    assert!(rt; comes_back::<Noted<Certificate>>(alloc, LEAF)?);
+    assert!(rt; comes_back::<Noted<Certificate>>(alloc, UNIQUE)?);
+    // a default that is written out is none of DER
+    assert!(rt; comes_back::<Noted<Certificate>>(alloc, WRITTEN_OUT).is_err());
+    assert!(rt; comes_back::<Noted<CertificateList>>(alloc, LEAF).is_err());
+    Ok(())
+}
+
+#[test]
+fn what_certificates_say(rt: HostRuntime) -> Result<(), Fail> {
+    let alloc = rt.alloc();
+    let authority = certificate(alloc, AUTHORITY)?.tbs_certificate;
+    assert_eq!(rt; authority.version, 2);
+    let (serial, is_positive) = &authority.serial_number;
+    assert_eq!(rt;
+        serial.as_slice(),
+        [0, 241, 226, 211, 196, 181, 166, 151].as_slice()
+    );
+    assert!(rt; *is_positive);
+    let unique = certificate(alloc, UNIQUE)?.tbs_certificate;
+    match unique.issuer_unique_id {
+        Some((octets, bits)) => {
+            assert_eq!(rt; octets.as_slice(), [171, 192].as_slice());
+            assert_eq!(rt; bits, 12);
+        }
+        None => assert!(rt; false),
+    }
+    // BER takes a default that is written out
+    assert_eq!(rt; certificate(alloc, LEAF)?.tbs_certificate.version, 0);
+    assert_eq!(rt; certificate(alloc, WRITTEN_OUT)?.tbs_certificate.version, 0);
+    // no version has the number 3
+    match certificate(alloc, NO_VERSION) {
+        Ok(_) => assert!(rt; false),
+        Err(error) => assert_eq!(rt; error.kind(), ASN1ErrorKind::Invalid),
+    }
+    Ok(())
+}
+
+#[test]
+fn revocation_lists_come_back(rt: HostRuntime) -> Result<(), Fail> {
+    let alloc = rt.alloc();
+    assert!(rt; comes_back::<Noted<CertificateList>>(alloc, REVOKED)?);
+    let bytes = bytes_of(alloc, REVOKED)?;
+    let list: Noted<CertificateList> = decode_der(alloc, &bytes)?;
+    let list = list.into_value().tbs_cert_list;
+    assert_eq!(rt; list.version, Some(1));
+    match list.revoked_certificates {
+        Some(revoked) => assert_eq!(rt; revoked.len(), 1),
+        None => assert!(rt; false),
+    }
+    Ok(())
+}
+
+#[test]
+fn what_is_signed(rt: HostRuntime) -> Result<(), Fail> {
+    let alloc = rt.alloc();
+    let bytes = bytes_of(alloc, AUTHORITY)?;
+    let signed = parse_der(alloc, &bytes, |reader| read_signed_certificate(reader))?;
+    assert_eq!(rt; bytes.get(4..358), Some(signed.signed_bytes));
+    assert_eq!(rt; signed.value.tbs_certificate.version, 2);
+    let bytes = bytes_of(alloc, REVOKED)?;
+    let signed = parse_der(alloc, &bytes, |reader| read_signed_list(reader))?;
+    assert_eq!(rt; bytes.get(4..202), Some(signed.signed_bytes));
+    Ok(())
+}

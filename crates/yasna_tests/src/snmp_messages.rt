@@ -1,0 +1,102 @@
+//! Messages of SNMPv1 and SNMPv2c (RFC 1157, RFC 1901 and RFC 3416), made by hand as programs of net-snmp send them.
+
+use crate::certificates::bytes_of;
+use snmp::{ApplicationSyntax, SimpleSyntax, v1, v2c};
+use std::alloc::Global;
+use std::test::Fail;
+use yasna::{
+    ASN1Result, BERDecodable, DERCanonical, DEREncodable, decode_ber, decode_der, encode_der,
+    one_form,
+};
+use yasna_notation::Noted;
+
+// A get-request of SNMPv1, for sysDescr.0.
+const GET: &str =
+    "302602010004067075626c6963a019020101020100020100300e300c06082b060102010101000500";
+
+// A trap of SNMPv1, with two variables.
+const TRAP: &str =
+    "304c02010004067075626c6963a43f06072b06010401bf084004c0000201020106020101430230393024300e06082b060102\
+    0101030043023039301206082b060102010101000406726f75746572";
+
+// A response of SNMPv2c: ticks, a text, a count of 64 bits, and two that are not there.
+const RESPONSE: &str =
+    "306f02010104067075626c6963a2620204012345670201000201003054301106082b06010201010300430500ffffffff3011\
+    06082b0601020101010004054c696e75783017060a2b060102010202010a01460900ffffffffffffffff300b06072b060102\
+    0163008000300606022b078200";
+
+// A get-bulk-request of SNMPv2c.
+const BULK: &str =
+    "302602010104067075626c6963a5190201ff02010002010a300e300c06082b060102010101000500";
+
+// The same question as GET, of SNMPv2c, in BER: of an indefinite length, and a length that is not the shortest.
+const LONG: &str =
+    "308002010104067075626c6963a08119020101020100020100300e300c06082b0601020101010005000000";
+
+// A message that says that it is of version 3.
+const VERSION_3: &str =
+    "302602010304067075626c6963a019020101020100020100300e300c06082b060102010101000500";
+
+fn comes_back<T: BERDecodable + DEREncodable + DERCanonical>(
+    alloc: Global,
+    text: &str,
+) -> ASN1Result<bool> {
+    one_form::<T>();
+    let bytes = bytes_of(alloc, text)?;
+    let value: T = decode_der(alloc, &bytes)?;
+    let form = encode_der(alloc, &value)?;
+    Ok(form.as_slice() == bytes.as_slice())
+}
+
+#[test]
+fn messages_come_back(rt: HostRuntime) -> Result<(), Fail> {
+    let alloc = rt.alloc();
+    assert!(rt; comes_back::<Noted<v1::SnmpMessage>>(alloc, GET)?);
+    assert!(rt; comes_back::<Noted<v1::SnmpMessage>>(alloc, TRAP)?);
+    assert!(rt; comes_back::<Noted<v2c::SnmpMessage>>(alloc, RESPONSE)?);
+    assert!(rt; comes_back::<Noted<v2c::SnmpMessage>>(alloc, BULK)?);
+    // each version has its own messages
+    assert!(rt; comes_back::<Noted<v1::SnmpMessage>>(alloc, BULK).is_err());
+    assert!(rt; comes_back::<Noted<v2c::SnmpMessage>>(alloc, GET).is_err());
+    assert!(rt; comes_back::<Noted<v1::SnmpMessage>>(alloc, VERSION_3).is_err());
+    Ok(())
+}
+
+#[test]
+fn what_a_response_says(rt: HostRuntime) -> Result<(), Fail> {
+    let alloc = rt.alloc();
+    let bytes = bytes_of(alloc, RESPONSE)?;
+    let noted: Noted<v2c::SnmpMessage> = decode_ber(alloc, &bytes)?;
+    let message = noted.into_value();
+    assert_eq!(rt; message.community.as_slice(), b"public".as_slice());
+    let v2c::Pdus::Response(pdu) = message.data else {
+        assert!(rt; false);
+        return Ok(());
+    };
+    assert_eq!(rt; pdu.request_id, 19088743);
+    let mut kinds = [0; 5];
+    for (kind, binding) in kinds.iter_mut().zip(&pdu.variable_bindings) {
+        *kind = match &binding.value {
+            v2c::BoundValue::ApplicationWide(ApplicationSyntax::TimeTicksValue(4294967295)) => 1,
+            v2c::BoundValue::Simple(SimpleSyntax::StringValue(text)) => text.len(),
+            v2c::BoundValue::ApplicationWide(ApplicationSyntax::BigCounterValue(u64::MAX)) => 3,
+            v2c::BoundValue::NoSuchObject => 4,
+            v2c::BoundValue::EndOfMibView => 6,
+            _ => 0,
+        };
+    }
+    assert_eq!(rt; kinds, [1, 5, 3, 4, 6]);
+    Ok(())
+}
+
+#[test]
+fn what_ber_reads_is_written_anew(rt: HostRuntime) -> Result<(), Fail> {
+    let alloc = rt.alloc();
+    one_form::<Noted<v2c::SnmpMessage>>();
+    let bytes = bytes_of(alloc, LONG)?;
+    let noted: Noted<v2c::SnmpMessage> = decode_ber(alloc, &bytes)?;
+    let form = encode_der(alloc, &noted)?;
+    assert_eq!(rt; form.len(), 40);
+    assert!(rt; decode_der::<Noted<v2c::SnmpMessage>>(alloc, &bytes).is_err());
+    Ok(())
+}
