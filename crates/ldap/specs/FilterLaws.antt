@@ -1,5 +1,5 @@
 -- What a filter means keeps the laws.
-use Rattle.std.proofs.Common.{◌≡◌, ◌∷◌, ◌++◌, [], ◌<◌, ℕ, suc, List, true, Option, None, Box, map, inl, inr, refl, sym, ap, ap₂, subst, ◌∙◌, arith}
+use Rattle.std.proofs.Common.{◌≡◌, ◌∷◌, ◌++◌, [], ◌<◌, ◌+◌, ℕ, suc, max, List, true, Option, None, Box, map, inl, inr, refl, sym, ap, ap₂, subst, ◌∙◌, arith}
 use Rattle.std.specs.Global.{Global}
 use Rattle.std.specs.List.{AllByRecursion, concat}
 use Rattle.std.specs.Prelude.{◌⊎◌}
@@ -9,9 +9,10 @@ use Rattle.yasna_base.specs.declared.tag.Tag.{Tag}
 use Rattle.yasna_base.specs.AnyOrder.{sorted_set_of_form}
 use Rattle.yasna_base.specs.Beginnings.{share_none}
 use Rattle.yasna_base.specs.Canonical.{canonical_element}
-use Rattle.yasna_base.specs.Grammar.{Grammar, Form}
+use Rattle.yasna_base.specs.Grammar.{Grammar, Form, Nest}
 use Rattle.yasna_base.specs.Identifier.{context, tag_or}
 use Rattle.yasna_base.specs.Order.{octets_cmp, in_order}
+use Rattle.yasna_base.specs.SequenceOf.{elements_nest}
 use Rattle.yasna_base.specs.Set.{IsSetOf}
 use Rattle.yasna_base.specs.SetWriting.{forms, in_form_order}
 use Rattle.yasna_base.proofs.Pieces.{each_wider}
@@ -52,6 +53,11 @@ forms_alike depth f g [] h = refl
 forms_alike depth f g (v ∷ vs) h =
     ap₂ (λ b bs. b ∷ bs) (h v (omega arith)) (forms_alike depth f g vs (λ w lt. h w (omega (arith, lt))))
 
+nests_alike : {A : Type 0} (depth : A → ℕ) (f g : Nest A) (m : BERMode) (vs : List A) →
+    ((w : A) → depth w < suc (largest (map depth vs)) → f m w ≡ g m w) → elements_nest f m vs ≡ elements_nest g m vs
+nests_alike depth f g m [] h = refl
+nests_alike depth f g m (v ∷ vs) h = ap₂ max (h v (omega arith)) (nests_alike depth f g m vs (λ w lt. h w (omega (arith, lt))))
+
 sorted_is : {A : Type 0} (form : Form A) (t : Tag) (m : BERMode) (vs : List A) →
     sorted_set_of_form form t m vs ≡ canonical_element m t Constructed (concat (in_order octets_cmp (forms form m vs)))
 sorted_is form t m vs = around_forms form m t (in_form_order form m vs) (in_order octets_cmp (forms form m vs)) (forms_in_order form m vs)
@@ -88,6 +94,7 @@ group_follows depth k = record {
       sorted_is (x.form_under None) t m v.items ∙
       ap (λ bs. canonical_element m t Constructed (concat (in_order octets_cmp bs)))
       (forms_alike depth (x.form_under None m) (y.form_under None m) v.items h) ∙ sym (sorted_is (y.form_under None) t m v.items);
+  nest_within = λ x y m v h. ap (λ k. 1 + k) (nests_alike depth x.nest y.nest m v.items h);
 }
 
 negated_follows : {A : Type 0} (depth : A → ℕ) → Follows depth (λ v. suc (depth v.value)) (negated_means {A = A})
@@ -101,6 +108,7 @@ negated_follows depth = record {
   can_within = λ x y f v p. f v.value p;
   same_within = λ x y f v w e. f v.value w.value e;
   form_within = λ x y u m v h. ap (λ c. canonical_element m (tag_or u (context 2)) Constructed c) (h v.value (omega arith));
+  nest_within = λ x y m v h. ap (λ k. 1 + k) (h v.value (omega arith));
 }
 
 -- what is made of nothing within
@@ -115,6 +123,7 @@ alone_follows depth item = record {
   can_within = λ x y f v p. p;
   same_within = λ x y f v w e. e;
   form_within = λ x y u m v h. refl;
+  nest_within = λ x y m v h. refl;
 }
 
 module _ {A V W : Type 0} {depth : A → ℕ} {p : V → ℕ} {q : W → ℕ} {f : Meaning A → Meaning V} {g : Meaning A → Meaning W} (a : Follows depth p f)
@@ -156,6 +165,11 @@ module _ {A V W : Type 0} {depth : A → ℕ} {p : V → ℕ} {q : W → ℕ} {f
   form_either x y u m (First v) h = a.form_within x y u m v h
   form_either x y u m (Second v) h = b.form_within x y u m v h
 
+  nest_either : (x y : Meaning A) (m : BERMode) (v : Either V W) → ((w : A) → depth w < either_top p q v → x.nest m w ≡ y.nest m w) →
+      (either_means (f x) (g x)).nest m v ≡ (either_means (f y) (g y)).nest m v
+  nest_either x y m (First v) h = a.nest_within x y m v h
+  nest_either x y m (Second v) h = b.nest_within x y m v h
+
   any_either : (x y : Meaning A) (m : BERMode) (n : ℕ) → ((v : A) (c : List ℕ) → x.under None m n v c → y.under None m n v c) →
       ((c : List ℕ) → x.any_under None m n c → y.any_under None m n c) → (c : List ℕ) →
       (f x).any_under None m (suc n) c ⊎ (g x).any_under None m (suc n) c → (f y).any_under None m (suc n) c ⊎ (g y).any_under None m (suc n) c
@@ -178,6 +192,7 @@ module _ {A V W : Type 0} {depth : A → ℕ} {p : V → ℕ} {q : W → ℕ} {f
     can_within = can_either;
     same_within = same_either;
     form_within = form_either;
+    nest_within = nest_either;
   }
 
 -- what stands for what is made so
@@ -193,6 +208,7 @@ standing_follows {depth = depth} view top f a is = record {
   can_within = λ x y h v z. a.can_within x y h (view v) z;
   same_within = λ x y h v w e. a.same_within x y h (view v) (view w) e;
   form_within = λ x y u m v h. a.form_within x y u m (view v) (λ w lt. h w (subst (λ k. depth w < k) (sym (is v)) lt));
+  nest_within = λ x y m v h. a.nest_within x y m (view v) (λ w lt. h w (subst (λ k. depth w < k) (sym (is v)) lt));
 }
 
 pub top_is : (d : Filter-F Filter) → one_deeper (map-Filter Filter ℕ depth_of d) ≡ parted_top (parted d)

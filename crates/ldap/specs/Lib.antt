@@ -1,8 +1,10 @@
 pub mod Making
 pub mod Recursion
 pub mod RecursionLaws
+pub mod RecursionWriting
 pub mod Filters
 pub mod FilterLaws
+pub mod FilterWriting
 pub mod TheFilter
 pub mod Reading
 pub mod Writing

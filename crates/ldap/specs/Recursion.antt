@@ -42,8 +42,8 @@ means_within step depth = record {
   fits = λ m n v. (after_steps step (suc n)).fits m n v;
 }
 
--- What is made of a meaning: at no level it asks for nothing of that, at others for what is one level less, and the form of a value is
--- made of those of values that are less deep than the value's top.
+-- What is made of a meaning: at no level it asks for nothing of that, at others for what is one level less. The form of a value, and how
+-- deep that nests, is made of those of values that are less deep than the value's top.
 pub record Follows {A V : Type 0} (depth : A → ℕ) (top : V → ℕ) (make : Meaning A → Meaning V) : Type 1 where
   pub flat : (x y : Meaning A) (u : Option Tag) (m : BERMode) (v : V) (b : List ℕ) → (make x).under u m 0 v b → (make y).under u m 0 v b
   pub any_flat : (x y : Meaning A) (u : Option Tag) (m : BERMode) (b : List ℕ) → (make x).any_under u m 0 b → (make y).any_under u m 0 b
@@ -59,6 +59,8 @@ pub record Follows {A V : Type 0} (depth : A → ℕ) (top : V → ℕ) (make : 
   pub same_within : (x y : Meaning A) → ((v w : A) → x.same v w → y.same v w) → (v w : V) → (make x).same v w → (make y).same v w
   pub form_within : (x y : Meaning A) (u : Option Tag) (m : BERMode) (v : V) →
       ((w : A) → depth w < top v → x.form_under None m w ≡ y.form_under None m w) → (make x).form_under u m v ≡ (make y).form_under u m v
+  pub nest_within : (x y : Meaning A) (m : BERMode) (v : V) → ((w : A) → depth w < top v → x.nest m w ≡ y.nest m w) →
+      (make x).nest m v ≡ (make y).nest m v
 
 -- what a step keeps
 pub record IsStep {A : Type 0} (step : Meaning A → Meaning A) (depth : A → ℕ) : Type 1 where

@@ -39,7 +39,7 @@ module _ {A : Type 0} {step : Meaning A → Meaning A} {depth : A → ℕ} (s : 
   keeps_after (suc k) = s.keeps (after_steps step k) (keeps_after k)
 
   -- more steps than there are levels change nothing
-  under_any : (n j k : ℕ) (u : Option Tag) (m : BERMode) (v : A) (b : List ℕ) → n < k → (after_steps step j).under u m n v b →
+  pub under_any : (n j k : ℕ) (u : Option Tag) (m : BERMode) (v : A) (b : List ℕ) → n < k → (after_steps step j).under u m n v b →
       (after_steps step k).under u m n v b
   under_any n zero k u m v b lt p = absurd p
   under_any n (suc j) zero u m v b lt p = absurd (omega (arith, lt))
@@ -71,7 +71,7 @@ module _ {A : Type 0} {step : Meaning A → Meaning A} {depth : A → ℕ} (s : 
       s.follows.same_within (after_steps step k) (after_steps step j) (λ x y d. same_less j k x y (omega (arith, le)) d) v w e
 
   -- so are forms, of values that are less deep
-  form_any : (j k : ℕ) (u : Option Tag) (m : BERMode) (v : A) → depth v < j → depth v < k →
+  pub form_any : (j k : ℕ) (u : Option Tag) (m : BERMode) (v : A) → depth v < j → depth v < k →
       (after_steps step j).form_under u m v ≡ (after_steps step k).form_under u m v
   form_any zero k u m v lt le = absurd (omega (arith, lt))
   form_any (suc j) zero u m v lt le = absurd (omega (arith, le))

@@ -12,9 +12,15 @@ ghost use Rattle.yasna_notation.specs.Notation.{stands_for};
 ghost use Rattle.yasna_notation.specs.Parts.{no_parts};
 ghost use Rattle.ldap.specs.Making.{set_not_empty};
 ghost use Rattle.yasna_notation.specs.contracts.strings.VecU8Notation.TheImpl.Laws.{keeps-law as octets};
+ghost use Rattle.yasna_notation.specs.Canonical.{standing_written};
+ghost use Rattle.yasna_notation.specs.Writing.{sequence_written, set_of_written, part_written, no_part_written};
+ghost use Rattle.ldap.specs.Making.{filled_set_written};
+ghost use Rattle.yasna_notation.specs.contracts.canonical.VecU8CanonicalNotation.TheImpl.Laws.{written-law as octets_written};
 
 use yasna::{ASN1Result, BERReader, DERWriter, Tag};
-use yasna_notation::{Bounded, Message, NotEmpty, Notation, Sequence, SetOf, StandsFor, read_as};
+use yasna_notation::{
+    Bounded, CanonicalNotation, Message, NotEmpty, Notation, Sequence, SetOf, StandsFor, read_as,
+};
 
 type Parts = (Vec<u8>, (Bounded<SetOf<Vec<u8>>, NotEmpty>, ()));
 
@@ -70,4 +76,9 @@ impl Notation for Attribute {
 
 impl Message for Attribute {
     ghost told_apart = { refl };
+}
+
+impl CanonicalNotation for Attribute {
+    ghost written = { λ _. standing_written ⟦<Attribute as StandsFor<Fields>>⟧.value_of (sequence_written (part_written (octets_written refl).own
+        (part_written (filled_set_written (set_of_written (octets_written refl).own)).own no_part_written))) };
 }

@@ -12,13 +12,19 @@
 ghost use Rattle.std.specs.Prelude.{◌≡◌, refl};
 ghost use Rattle.std.proofs.Common.{arith};
 ghost use Rattle.yasna_notation.specs.Laws.{standing_keeps, element_filled};
-ghost use Rattle.yasna_notation.specs.Making.{in_sequence, in_choice, alternative, in_implicit, part};
+ghost use Rattle.yasna_notation.specs.Making.{in_application, in_sequence, in_choice, alternative, in_implicit, part};
 ghost use Rattle.yasna_notation.specs.Notation.{stands_for};
 ghost use Rattle.yasna_notation.specs.Parts.{no_parts};
-ghost use Rattle.ldap.specs.Making.{in_application, in_bound, from_to};
+ghost use Rattle.ldap.specs.Making.{in_bound, from_to};
 ghost use Rattle.yasna_notation.specs.contracts.strings.VecU8Notation.TheImpl.Laws.{keeps-law as octets};
 ghost use Rattle.yasna_notation.specs.contracts.simple.U64Notation.TheImpl.Laws.{keeps-law as number};
 ghost use Rattle.ldap.specs.contracts.sasl_credentials.SaslCredentialsNotation.TheImpl.Laws.{keeps-law as sasl};
+ghost use Rattle.yasna_notation.specs.Canonical.{standing_written, choice_written_as};
+ghost use Rattle.yasna_notation.specs.Writing.{sequence_written, alternative_written, under_context, under_application, part_written, no_part_written};
+ghost use Rattle.ldap.specs.Making.{bound_written};
+ghost use Rattle.ldap.specs.contracts.sasl_credentials.SaslCredentialsCanonicalNotation.TheImpl.Laws.{written-law as sasl_written};
+ghost use Rattle.yasna_notation.specs.contracts.canonical.U64CanonicalNotation.TheImpl.Laws.{written-law as number_written};
+ghost use Rattle.yasna_notation.specs.contracts.canonical.VecU8CanonicalNotation.TheImpl.Laws.{written-law as octets_written};
 
 use crate::authentication::AuthenticationChoice;
 use crate::bounds::FromTo;
@@ -26,8 +32,8 @@ use crate::sasl_credentials::SaslCredentials;
 use crate::tagged::write_tagged_fields;
 use yasna::{ASN1Result, BERReader, DERWriter, Tag};
 use yasna_notation::{
-    Application, Bounded, Choice, Context, Defined, Implicit, Message, Notation, Sequence,
-    StandsFor, read_as,
+    Application, Bounded, CanonicalNotation, Choice, Context, Defined, Implicit, Message, Notation,
+    Sequence, StandsFor, read_as,
 };
 
 type Parts = (
@@ -97,4 +103,12 @@ impl Notation for BindRequest {
 
 impl Message for BindRequest {
     ghost told_apart = { refl };
+}
+
+impl CanonicalNotation for BindRequest {
+    ghost written = { λ _. standing_written ⟦<BindRequest as StandsFor<Fields>>⟧.value_of (under_application 0 (omega arith) (sequence_written
+        (part_written (bound_written (from_to 1 127) (number_written refl)).own (part_written (octets_written refl).own (part_written
+        (standing_written ⟦<AuthenticationChoice as Defined>⟧.value_of (choice_written_as ⟦<Choice<(Implicit<Context<0>, Vec<u8>>,
+        (Implicit<Context<3>, SaslCredentials>,))> as Notation>⟧.means.form_under (alternative_written (under_context 0 (omega arith) (octets_written
+        refl)).own (under_context 3 (omega arith) (sasl_written refl)).own))).own no_part_written))))) };
 }

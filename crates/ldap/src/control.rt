@@ -15,9 +15,16 @@ ghost use Rattle.yasna_notation.specs.Notation.{stands_for};
 ghost use Rattle.yasna_notation.specs.Parts.{no_parts, tells_false};
 ghost use Rattle.yasna_notation.specs.contracts.strings.VecU8Notation.TheImpl.Laws.{keeps-law as octets};
 ghost use Rattle.yasna_notation.specs.contracts.simple.BoolNotation.TheImpl.Laws.{keeps-law as flag};
+ghost use Rattle.yasna_notation.specs.Canonical.{standing_written};
+ghost use Rattle.yasna_notation.specs.Writing.{sequence_written, part_written, optional_written, no_part_written};
+ghost use Rattle.ldap.specs.Making.{unset_written};
+ghost use Rattle.yasna_notation.specs.contracts.canonical.BoolCanonicalNotation.TheImpl.Laws.{written-law as flag_written};
+ghost use Rattle.yasna_notation.specs.contracts.canonical.VecU8CanonicalNotation.TheImpl.Laws.{written-law as octets_written};
 
 use yasna::{ASN1Result, BERReader, DERWriter, Tag};
-use yasna_notation::{Default, False, Message, Notation, Optional, Sequence, StandsFor, read_as};
+use yasna_notation::{
+    CanonicalNotation, Default, False, Message, Notation, Optional, Sequence, StandsFor, read_as,
+};
 
 type Parts = (Vec<u8>, (Default<bool, False>, (Optional<Vec<u8>>, ())));
 
@@ -82,4 +89,9 @@ impl Notation for Control {
 
 impl Message for Control {
     ghost told_apart = { refl };
+}
+
+impl CanonicalNotation for Control {
+    ghost written = { λ _. standing_written ⟦<Control as StandsFor<Fields>>⟧.value_of (sequence_written (part_written (octets_written refl).own
+        (unset_written (flag_written refl).own (optional_written (octets_written refl).own no_part_written)))) };
 }

@@ -25,12 +25,20 @@ ghost use Rattle.yasna_notation.specs.contracts.strings.VecU8Notation.TheImpl.La
 ghost use Rattle.ldap.specs.contracts.attribute_value_assertion.AttributeValueAssertionNotation.TheImpl.Laws.{keeps-law as assertion};
 ghost use Rattle.ldap.specs.contracts.substring_filter.SubstringFilterNotation.TheImpl.Laws.{keeps-law as substring_filter};
 ghost use Rattle.ldap.specs.contracts.matching_rule_assertion.MatchingRuleAssertionNotation.TheImpl.Laws.{keeps-law as matching};
+ghost use Rattle.yasna_notation.specs.Canonical.{standing_written, choice_written_as};
+ghost use Rattle.yasna_notation.specs.Writing.{alternative_written, under_context};
+ghost use Rattle.ldap.specs.contracts.attribute_value_assertion.AttributeValueAssertionCanonicalNotation.TheImpl.Laws.{written-law as assertion_written};
+ghost use Rattle.ldap.specs.contracts.matching_rule_assertion.MatchingRuleAssertionCanonicalNotation.TheImpl.Laws.{written-law as matching_written};
+ghost use Rattle.ldap.specs.contracts.substring_filter.SubstringFilterCanonicalNotation.TheImpl.Laws.{written-law as substring_filter_written};
+ghost use Rattle.yasna_notation.specs.contracts.canonical.VecU8CanonicalNotation.TheImpl.Laws.{written-law as octets_written};
 
 use crate::attribute_value_assertion::AttributeValueAssertion;
 use crate::matching_rule_assertion::MatchingRuleAssertion;
 use crate::substring_filter::SubstringFilter;
 use yasna::{ASN1Result, BERReader, DERWriter, Tag};
-use yasna_notation::{Choice, Context, Either, Implicit, Message, Notation, StandsFor, read_as};
+use yasna_notation::{
+    CanonicalNotation, Choice, Context, Either, Implicit, Message, Notation, StandsFor, read_as,
+};
 
 type EqualityMatchNotation = Implicit<Context<3>, AttributeValueAssertion>;
 
@@ -166,4 +174,13 @@ impl Notation for FilterItem {
 
 impl Message for FilterItem {
     ghost told_apart = { refl };
+}
+
+impl CanonicalNotation for FilterItem {
+    ghost written = { λ _. standing_written ⟦<FilterItem as StandsFor<Fields>>⟧.value_of (choice_written_as ⟦<Notated as Notation>⟧.means.form_under
+        (alternative_written (under_context 3 (omega arith) (assertion_written refl)).own (alternative_written (under_context 4 (omega arith)
+        (substring_filter_written refl)).own (alternative_written (under_context 5 (omega arith) (assertion_written refl)).own (alternative_written
+        (under_context 6 (omega arith) (assertion_written refl)).own (alternative_written (under_context 7 (omega arith) (octets_written refl)).own
+        (alternative_written (under_context 8 (omega arith) (assertion_written refl)).own (under_context 9 (omega arith) (matching_written
+        refl)).own))))))) };
 }

@@ -1,14 +1,14 @@
 //! Filters as a notation of their own (RFC 4511, 4.5.1.7). Within one level less stand the filters within one.
 ghost use Rattle.std.specs.Prelude.{◌≡◌, refl};
 ghost use Rattle.ldap.specs.Filters.{the_filter};
-ghost use Rattle.ldap.specs.TheFilter.{the_filter_keeps, the_filter_filled};
+ghost use Rattle.ldap.specs.TheFilter.{the_filter_keeps, the_filter_filled, the_filter_written};
 
 use crate::filter::Filter;
 use crate::filter_item::FilterItem;
 use crate::filter_reading::{is_context, read_filter};
 use crate::filter_writing::write_filter;
 use yasna::{ASN1Result, BERReader, DERWriter, Tag};
-use yasna_notation::{Message, Notation};
+use yasna_notation::{CanonicalNotation, Message, Notation};
 
 impl Notation for Filter {
     type Value = Filter;
@@ -39,4 +39,8 @@ impl Notation for Filter {
 
 impl Message for Filter {
     ghost told_apart = { refl };
+}
+
+impl CanonicalNotation for Filter {
+    ghost written = { λ _. the_filter_written };
 }

@@ -20,13 +20,18 @@ ghost use Rattle.yasna_notation.specs.Parts.{no_parts};
 ghost use Rattle.yasna_notation.specs.contracts.simple.U64Notation.TheImpl.Laws.{keeps-law as number};
 ghost use Rattle.ldap.specs.contracts.protocol_op.ProtocolOpNotation.TheImpl.Laws.{keeps-law as operation};
 ghost use Rattle.ldap.specs.contracts.control.ControlNotation.TheImpl.Laws.{keeps-law as control};
+ghost use Rattle.yasna_notation.specs.Canonical.{standing_written};
+ghost use Rattle.yasna_notation.specs.Writing.{sequence_written, sequence_of_written, under_context, part_written, optional_written, no_part_written, at_most_written};
+ghost use Rattle.ldap.specs.contracts.control.ControlCanonicalNotation.TheImpl.Laws.{written-law as control_written};
+ghost use Rattle.ldap.specs.contracts.protocol_op.ProtocolOpCanonicalNotation.TheImpl.Laws.{written-law as operation_written};
+ghost use Rattle.yasna_notation.specs.contracts.canonical.U64CanonicalNotation.TheImpl.Laws.{written-law as number_written};
 
 use crate::control::Control;
 use crate::protocol_op::ProtocolOp;
 use yasna::{ASN1Result, BERReader, DERWriter, Tag};
 use yasna_notation::{
-    AtMost, Bounded, Context, Implicit, Message, Notation, Optional, Sequence, SequenceOf,
-    StandsFor, read_as,
+    AtMost, Bounded, CanonicalNotation, Context, Implicit, Message, Notation, Optional, Sequence,
+    SequenceOf, StandsFor, read_as,
 };
 
 type MessageId = Bounded<u64, AtMost<2147483647>>;
@@ -95,4 +100,10 @@ impl Notation for LdapMessage {
 
 impl Message for LdapMessage {
     ghost told_apart = { refl };
+}
+
+impl CanonicalNotation for LdapMessage {
+    ghost written = { λ _. standing_written ⟦<LdapMessage as StandsFor<Fields>>⟧.value_of (sequence_written (part_written (at_most_written 2147483647
+        (number_written refl)).own (part_written (operation_written refl).own (optional_written (under_context 0 (omega arith) (sequence_of_written
+        (control_written refl).own)).own no_part_written)))) };
 }

@@ -21,12 +21,17 @@ ghost use Rattle.yasna_notation.specs.Parts.{no_parts};
 ghost use Rattle.ldap.specs.Making.{in_bound, from_zero};
 ghost use Rattle.yasna_notation.specs.contracts.strings.VecU8Notation.TheImpl.Laws.{keeps-law as octets};
 ghost use Rattle.yasna_notation.specs.contracts.simple.EnumeratedNotation.TheImpl.Laws.{keeps-law as enumerated};
+ghost use Rattle.yasna_notation.specs.Canonical.{standing_written};
+ghost use Rattle.yasna_notation.specs.Writing.{sequence_written, sequence_of_written, under_context, part_written, optional_written, no_part_written};
+ghost use Rattle.ldap.specs.Making.{bound_written, filled_list_written};
+ghost use Rattle.yasna_notation.specs.contracts.canonical.EnumeratedCanonicalNotation.TheImpl.Laws.{written-law as enumerated_written};
+ghost use Rattle.yasna_notation.specs.contracts.canonical.VecU8CanonicalNotation.TheImpl.Laws.{written-law as octets_written};
 
 use crate::bounds::FromZero;
 use yasna::{ASN1Result, BERReader, DERWriter, Tag};
 use yasna_notation::{
-    Bounded, Context, Enumerated, Implicit, Message, NotEmpty, Notation, Optional, Sequence,
-    SequenceOf, StandsFor, read_as,
+    Bounded, CanonicalNotation, Context, Enumerated, Implicit, Message, NotEmpty, Notation,
+    Optional, Sequence, SequenceOf, StandsFor, read_as,
 };
 
 type Referral = Implicit<Context<3>, Bounded<SequenceOf<Vec<u8>>, NotEmpty>>;
@@ -105,4 +110,10 @@ impl Notation for LdapResult {
 
 impl Message for LdapResult {
     ghost told_apart = { refl };
+}
+
+impl CanonicalNotation for LdapResult {
+    ghost written = { λ _. standing_written ⟦<LdapResult as StandsFor<Fields>>⟧.value_of (sequence_written (part_written (bound_written from_zero
+        (enumerated_written refl)).own (part_written (octets_written refl).own (part_written (octets_written refl).own (optional_written
+        (under_context 3 (omega arith) (filled_list_written (sequence_of_written (octets_written refl).own))).own no_part_written))))) };
 }

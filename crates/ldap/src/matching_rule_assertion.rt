@@ -20,11 +20,16 @@ ghost use Rattle.yasna_notation.specs.Notation.{stands_for};
 ghost use Rattle.yasna_notation.specs.Parts.{no_parts, tells_false, tests_false};
 ghost use Rattle.yasna_notation.specs.contracts.strings.VecU8Notation.TheImpl.Laws.{keeps-law as octets};
 ghost use Rattle.yasna_notation.specs.contracts.simple.BoolNotation.TheImpl.Laws.{keeps-law as flag};
+ghost use Rattle.yasna_notation.specs.Canonical.{standing_written};
+ghost use Rattle.yasna_notation.specs.Writing.{sequence_written, under_context, part_written, optional_written, no_part_written};
+ghost use Rattle.ldap.specs.Making.{unset_written};
+ghost use Rattle.yasna_notation.specs.contracts.canonical.BoolCanonicalNotation.TheImpl.Laws.{written-law as flag_written};
+ghost use Rattle.yasna_notation.specs.contracts.canonical.VecU8CanonicalNotation.TheImpl.Laws.{written-law as octets_written};
 
 use yasna::{ASN1Result, BERReader, DERWriter, Tag};
 use yasna_notation::{
-    Context, Default, DefaultValue, Implicit, Message, Notation, Optional, Sequence, StandsFor,
-    read_as,
+    CanonicalNotation, Context, Default, DefaultValue, Implicit, Message, Notation, Optional,
+    Sequence, StandsFor, read_as,
 };
 
 type MatchingRule = Optional<Implicit<Context<1>, Vec<u8>>>;
@@ -129,4 +134,11 @@ impl Notation for MatchingRuleAssertion {
 
 impl Message for MatchingRuleAssertion {
     ghost told_apart = { refl };
+}
+
+impl CanonicalNotation for MatchingRuleAssertion {
+    ghost written = { λ _. standing_written ⟦<MatchingRuleAssertion as StandsFor<Fields>>⟧.value_of (sequence_written (optional_written (under_context
+        1 (omega arith) (octets_written refl)).own (optional_written (under_context 2 (omega arith) (octets_written refl)).own (part_written
+        (under_context 3 (omega arith) (octets_written refl)).own (unset_written (under_context 4 (omega arith) (flag_written refl)).own
+        no_part_written))))) };
 }

@@ -15,9 +15,12 @@ ghost use Rattle.yasna_notation.specs.Making.{in_sequence, in_set_of, part};
 ghost use Rattle.yasna_notation.specs.Notation.{stands_for};
 ghost use Rattle.yasna_notation.specs.Parts.{no_parts};
 ghost use Rattle.yasna_notation.specs.contracts.strings.VecU8Notation.TheImpl.Laws.{keeps-law as octets};
+ghost use Rattle.yasna_notation.specs.Canonical.{standing_written};
+ghost use Rattle.yasna_notation.specs.Writing.{sequence_written, set_of_written, part_written, no_part_written};
+ghost use Rattle.yasna_notation.specs.contracts.canonical.VecU8CanonicalNotation.TheImpl.Laws.{written-law as octets_written};
 
 use yasna::{ASN1Result, BERReader, DERWriter, Tag};
-use yasna_notation::{Message, Notation, Sequence, SetOf, StandsFor, read_as};
+use yasna_notation::{CanonicalNotation, Message, Notation, Sequence, SetOf, StandsFor, read_as};
 
 type Parts = (Vec<u8>, (SetOf<Vec<u8>>, ()));
 
@@ -73,4 +76,9 @@ impl Notation for PartialAttribute {
 
 impl Message for PartialAttribute {
     ghost told_apart = { refl };
+}
+
+impl CanonicalNotation for PartialAttribute {
+    ghost written = { λ _. standing_written ⟦<PartialAttribute as StandsFor<Fields>>⟧.value_of (sequence_written (part_written (octets_written
+        refl).own (part_written (set_of_written (octets_written refl).own).own no_part_written))) };
 }

@@ -24,6 +24,15 @@ ghost use Rattle.ldap.specs.contracts.search_request.SearchRequestNotation.TheIm
 ghost use Rattle.ldap.specs.contracts.search_result_entry.SearchResultEntryNotation.TheImpl.Laws.{keeps-law as search_result_entry_keeps};
 ghost use Rattle.ldap.specs.contracts.search_result_done.SearchResultDoneNotation.TheImpl.Laws.{keeps-law as search_result_done_keeps};
 ghost use Rattle.ldap.specs.contracts.search_result_reference.SearchResultReferenceNotation.TheImpl.Laws.{keeps-law as search_result_reference_keeps};
+ghost use Rattle.yasna_notation.specs.Canonical.{standing_written, choice_written_as};
+ghost use Rattle.yasna_notation.specs.Writing.{alternative_written};
+ghost use Rattle.ldap.specs.contracts.bind_request.BindRequestCanonicalNotation.TheImpl.Laws.{written-law as bind_request_written};
+ghost use Rattle.ldap.specs.contracts.bind_response.BindResponseCanonicalNotation.TheImpl.Laws.{written-law as bind_response_written};
+ghost use Rattle.ldap.specs.contracts.search_request.SearchRequestCanonicalNotation.TheImpl.Laws.{written-law as search_request_written};
+ghost use Rattle.ldap.specs.contracts.search_result_done.SearchResultDoneCanonicalNotation.TheImpl.Laws.{written-law as search_result_done_written};
+ghost use Rattle.ldap.specs.contracts.search_result_entry.SearchResultEntryCanonicalNotation.TheImpl.Laws.{written-law as search_result_entry_written};
+ghost use Rattle.ldap.specs.contracts.search_result_reference.SearchResultReferenceCanonicalNotation.TheImpl.Laws.{written-law as search_result_reference_written};
+ghost use Rattle.ldap.specs.contracts.unbind_request.UnbindRequestCanonicalNotation.TheImpl.Laws.{written-law as unbind_request_written};
 
 use crate::bind_request::BindRequest;
 use crate::bind_response::BindResponse;
@@ -33,7 +42,7 @@ use crate::search_result_entry::SearchResultEntry;
 use crate::search_result_reference::SearchResultReference;
 use crate::unbind_request::UnbindRequest;
 use yasna::{ASN1Result, BERReader, DERWriter, Tag};
-use yasna_notation::{Choice, Either, Message, Notation, StandsFor, read_as};
+use yasna_notation::{CanonicalNotation, Choice, Either, Message, Notation, StandsFor, read_as};
 
 type Results = (
     SearchRequest,
@@ -152,4 +161,11 @@ impl Notation for ProtocolOp {
 
 impl Message for ProtocolOp {
     ghost told_apart = { refl };
+}
+
+impl CanonicalNotation for ProtocolOp {
+    ghost written = { λ _. standing_written ⟦<ProtocolOp as StandsFor<Fields>>⟧.value_of (choice_written_as ⟦<Notated as Notation>⟧.means.form_under
+        (alternative_written (bind_request_written refl).own (alternative_written (bind_response_written refl).own (alternative_written
+        (unbind_request_written refl).own (alternative_written (search_request_written refl).own (alternative_written (search_result_entry_written
+        refl).own (alternative_written (search_result_done_written refl).own (search_result_reference_written refl).own))))))) };
 }

@@ -13,9 +13,14 @@ ghost use Rattle.yasna_notation.specs.Making.{in_sequence, part, optional_part};
 ghost use Rattle.yasna_notation.specs.Notation.{stands_for};
 ghost use Rattle.yasna_notation.specs.Parts.{no_parts};
 ghost use Rattle.yasna_notation.specs.contracts.strings.VecU8Notation.TheImpl.Laws.{keeps-law as octets};
+ghost use Rattle.yasna_notation.specs.Canonical.{standing_written};
+ghost use Rattle.yasna_notation.specs.Writing.{sequence_written, part_written, optional_written, no_part_written};
+ghost use Rattle.yasna_notation.specs.contracts.canonical.VecU8CanonicalNotation.TheImpl.Laws.{written-law as octets_written};
 
 use yasna::{ASN1Result, BERReader, DERWriter, Tag};
-use yasna_notation::{Message, Notation, Optional, Sequence, StandsFor, read_as};
+use yasna_notation::{
+    CanonicalNotation, Message, Notation, Optional, Sequence, StandsFor, read_as,
+};
 
 type Parts = (Vec<u8>, (Optional<Vec<u8>>, ()));
 
@@ -70,4 +75,9 @@ impl Notation for SaslCredentials {
 
 impl Message for SaslCredentials {
     ghost told_apart = { refl };
+}
+
+impl CanonicalNotation for SaslCredentials {
+    ghost written = { λ _. standing_written ⟦<SaslCredentials as StandsFor<Fields>>⟧.value_of (sequence_written (part_written (octets_written
+        refl).own (optional_written (octets_written refl).own no_part_written))) };
 }

@@ -21,23 +21,31 @@
 ghost use Rattle.std.specs.Prelude.{◌≡◌, pos, refl};
 ghost use Rattle.std.proofs.Common.{arith};
 ghost use Rattle.yasna_notation.specs.Laws.{standing_keeps, element_filled};
-ghost use Rattle.yasna_notation.specs.Making.{in_sequence, in_sequence_of, part, at_most};
+ghost use Rattle.yasna_notation.specs.Making.{in_application, in_sequence, in_sequence_of, part, at_most};
 ghost use Rattle.yasna_notation.specs.Notation.{stands_for};
 ghost use Rattle.yasna_notation.specs.Parts.{no_parts};
-ghost use Rattle.ldap.specs.Making.{in_application, in_bound, up_to};
+ghost use Rattle.ldap.specs.Making.{in_bound, up_to};
 ghost use Rattle.yasna_notation.specs.contracts.strings.VecU8Notation.TheImpl.Laws.{keeps-law as octets};
 ghost use Rattle.yasna_notation.specs.contracts.simple.EnumeratedNotation.TheImpl.Laws.{keeps-law as enumerated};
 ghost use Rattle.yasna_notation.specs.contracts.simple.U64Notation.TheImpl.Laws.{keeps-law as number};
 ghost use Rattle.yasna_notation.specs.contracts.simple.BoolNotation.TheImpl.Laws.{keeps-law as flag};
 ghost use Rattle.ldap.specs.contracts.filter_notation.FilterNotation.TheImpl.Laws.{keeps-law as filter};
+ghost use Rattle.yasna_notation.specs.Canonical.{standing_written};
+ghost use Rattle.yasna_notation.specs.Writing.{sequence_written, sequence_of_written, under_application, part_written, no_part_written, at_most_written};
+ghost use Rattle.ldap.specs.Making.{bound_written};
+ghost use Rattle.ldap.specs.contracts.filter_notation.FilterCanonicalNotation.TheImpl.Laws.{written-law as filter_written};
+ghost use Rattle.yasna_notation.specs.contracts.canonical.BoolCanonicalNotation.TheImpl.Laws.{written-law as flag_written};
+ghost use Rattle.yasna_notation.specs.contracts.canonical.EnumeratedCanonicalNotation.TheImpl.Laws.{written-law as enumerated_written};
+ghost use Rattle.yasna_notation.specs.contracts.canonical.U64CanonicalNotation.TheImpl.Laws.{written-law as number_written};
+ghost use Rattle.yasna_notation.specs.contracts.canonical.VecU8CanonicalNotation.TheImpl.Laws.{written-law as octets_written};
 
 use crate::bounds::UpTo;
 use crate::filter::Filter;
 use crate::tagged::write_tagged_fields;
 use yasna::{ASN1Result, BERReader, DERWriter, Tag};
 use yasna_notation::{
-    Application, AtMost, Bounded, Enumerated, Implicit, Message, Notation, Sequence, SequenceOf,
-    StandsFor, read_as,
+    Application, AtMost, Bounded, CanonicalNotation, Enumerated, Implicit, Message, Notation,
+    Sequence, SequenceOf, StandsFor, read_as,
 };
 
 type MaxInt = Bounded<u64, AtMost<2147483647>>;
@@ -152,4 +160,12 @@ impl Notation for SearchRequest {
 
 impl Message for SearchRequest {
     ghost told_apart = { refl };
+}
+
+impl CanonicalNotation for SearchRequest {
+    ghost written = { λ _. standing_written ⟦<SearchRequest as StandsFor<Fields>>⟧.value_of (under_application 3 (omega arith) (sequence_written
+        (part_written (octets_written refl).own (part_written (bound_written (up_to (pos 2)) (enumerated_written refl)).own (part_written
+        (bound_written (up_to (pos 3)) (enumerated_written refl)).own (part_written (at_most_written 2147483647 (number_written refl)).own
+        (part_written (at_most_written 2147483647 (number_written refl)).own (part_written (flag_written refl).own (part_written (filter_written
+        refl).own (part_written (sequence_of_written (octets_written refl).own).own no_part_written)))))))))) };
 }

@@ -6,13 +6,18 @@
 ghost use Rattle.std.specs.Prelude.{◌≡◌, refl};
 ghost use Rattle.std.proofs.Common.{arith};
 ghost use Rattle.yasna_notation.specs.Laws.{standing_keeps, element_filled};
+ghost use Rattle.yasna_notation.specs.Making.{in_application};
 ghost use Rattle.yasna_notation.specs.Notation.{stands_for};
-ghost use Rattle.ldap.specs.Making.{in_application};
 ghost use Rattle.ldap.specs.contracts.ldap_result.LdapResultNotation.TheImpl.Laws.{keeps-law as result};
+ghost use Rattle.yasna_notation.specs.Canonical.{standing_written};
+ghost use Rattle.yasna_notation.specs.Writing.{under_application};
+ghost use Rattle.ldap.specs.contracts.ldap_result.LdapResultCanonicalNotation.TheImpl.Laws.{written-law as result_written};
 
 use crate::ldap_result::LdapResult;
 use yasna::{ASN1Result, BERReader, DERWriter, Tag};
-use yasna_notation::{Application, Implicit, Message, Notation, StandsFor, read_as};
+use yasna_notation::{
+    Application, CanonicalNotation, Implicit, Message, Notation, StandsFor, read_as,
+};
 
 type Notated = Implicit<Application<5>, LdapResult>;
 
@@ -57,4 +62,9 @@ impl Notation for SearchResultDone {
 
 impl Message for SearchResultDone {
     ghost told_apart = { refl };
+}
+
+impl CanonicalNotation for SearchResultDone {
+    ghost written = { λ _. standing_written ⟦<SearchResultDone as StandsFor<LdapResult>>⟧.value_of (under_application 5 (omega arith) (result_written
+        refl)) };
 }

@@ -12,18 +12,22 @@
 ghost use Rattle.std.specs.Prelude.{◌≡◌, refl};
 ghost use Rattle.std.proofs.Common.{arith};
 ghost use Rattle.yasna_notation.specs.Laws.{standing_keeps, element_filled};
-ghost use Rattle.yasna_notation.specs.Making.{in_sequence, in_sequence_of, part};
+ghost use Rattle.yasna_notation.specs.Making.{in_application, in_sequence, in_sequence_of, part};
 ghost use Rattle.yasna_notation.specs.Notation.{stands_for};
 ghost use Rattle.yasna_notation.specs.Parts.{no_parts};
-ghost use Rattle.ldap.specs.Making.{in_application};
 ghost use Rattle.yasna_notation.specs.contracts.strings.VecU8Notation.TheImpl.Laws.{keeps-law as octets};
 ghost use Rattle.ldap.specs.contracts.partial_attribute.PartialAttributeNotation.TheImpl.Laws.{keeps-law as attribute};
+ghost use Rattle.yasna_notation.specs.Canonical.{standing_written};
+ghost use Rattle.yasna_notation.specs.Writing.{sequence_written, sequence_of_written, under_application, part_written, no_part_written};
+ghost use Rattle.ldap.specs.contracts.partial_attribute.PartialAttributeCanonicalNotation.TheImpl.Laws.{written-law as attribute_written};
+ghost use Rattle.yasna_notation.specs.contracts.canonical.VecU8CanonicalNotation.TheImpl.Laws.{written-law as octets_written};
 
 use crate::partial_attribute::PartialAttribute;
 use crate::tagged::write_tagged_fields;
 use yasna::{ASN1Result, BERReader, DERWriter, Tag};
 use yasna_notation::{
-    Application, Implicit, Message, Notation, Sequence, SequenceOf, StandsFor, read_as,
+    Application, CanonicalNotation, Implicit, Message, Notation, Sequence, SequenceOf, StandsFor,
+    read_as,
 };
 
 type Parts = (Vec<u8>, (SequenceOf<PartialAttribute>, ()));
@@ -84,4 +88,9 @@ impl Notation for SearchResultEntry {
 
 impl Message for SearchResultEntry {
     ghost told_apart = { refl };
+}
+
+impl CanonicalNotation for SearchResultEntry {
+    ghost written = { λ _. standing_written ⟦<SearchResultEntry as StandsFor<Fields>>⟧.value_of (under_application 4 (omega arith) (sequence_written
+        (part_written (octets_written refl).own (part_written (sequence_of_written (attribute_written refl).own).own no_part_written)))) };
 }

@@ -9,14 +9,18 @@
 ghost use Rattle.std.specs.Prelude.{◌≡◌, refl};
 ghost use Rattle.std.proofs.Common.{arith};
 ghost use Rattle.yasna_notation.specs.Laws.{standing_keeps, element_filled};
-ghost use Rattle.yasna_notation.specs.Making.{in_sequence_of, not_empty};
+ghost use Rattle.yasna_notation.specs.Making.{in_application, in_sequence_of, not_empty};
 ghost use Rattle.yasna_notation.specs.Notation.{stands_for};
-ghost use Rattle.ldap.specs.Making.{in_application};
 ghost use Rattle.yasna_notation.specs.contracts.strings.VecU8Notation.TheImpl.Laws.{keeps-law as octets};
+ghost use Rattle.yasna_notation.specs.Canonical.{standing_written};
+ghost use Rattle.yasna_notation.specs.Writing.{sequence_of_written, under_application};
+ghost use Rattle.ldap.specs.Making.{filled_list_written};
+ghost use Rattle.yasna_notation.specs.contracts.canonical.VecU8CanonicalNotation.TheImpl.Laws.{written-law as octets_written};
 
 use yasna::{ASN1Result, BERReader, DERWriter, Tag};
 use yasna_notation::{
-    Application, Bounded, Implicit, Message, NotEmpty, Notation, SequenceOf, StandsFor, read_as,
+    Application, Bounded, CanonicalNotation, Implicit, Message, NotEmpty, Notation, SequenceOf,
+    StandsFor, read_as,
 };
 
 type Notated = Implicit<Application<19>, Bounded<SequenceOf<Vec<u8>>, NotEmpty>>;
@@ -63,4 +67,9 @@ impl Notation for SearchResultReference {
 
 impl Message for SearchResultReference {
     ghost told_apart = { refl };
+}
+
+impl CanonicalNotation for SearchResultReference {
+    ghost written = { λ _. standing_written ⟦<SearchResultReference as StandsFor<Vec<Vec<u8>>>>⟧.value_of (under_application 19 (omega arith)
+        (filled_list_written (sequence_of_written (octets_written refl).own))) };
 }

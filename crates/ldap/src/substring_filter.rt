@@ -15,12 +15,16 @@ ghost use Rattle.yasna_notation.specs.Making.{in_sequence, in_sequence_of, in_ch
 ghost use Rattle.yasna_notation.specs.Notation.{stands_for};
 ghost use Rattle.yasna_notation.specs.Parts.{no_parts};
 ghost use Rattle.yasna_notation.specs.contracts.strings.VecU8Notation.TheImpl.Laws.{keeps-law as octets};
+ghost use Rattle.yasna_notation.specs.Canonical.{standing_written, choice_written_as};
+ghost use Rattle.yasna_notation.specs.Writing.{sequence_written, sequence_of_written, alternative_written, under_context, part_written, no_part_written};
+ghost use Rattle.ldap.specs.Making.{filled_list_written};
+ghost use Rattle.yasna_notation.specs.contracts.canonical.VecU8CanonicalNotation.TheImpl.Laws.{written-law as octets_written};
 
 use crate::substring::Substring;
 use yasna::{ASN1Result, BERReader, DERWriter, Tag};
 use yasna_notation::{
-    Bounded, Choice, Context, Defined, Implicit, Message, NotEmpty, Notation, Sequence, SequenceOf,
-    StandsFor, read_as,
+    Bounded, CanonicalNotation, Choice, Context, Defined, Implicit, Message, NotEmpty, Notation,
+    Sequence, SequenceOf, StandsFor, read_as,
 };
 
 type Parts = (Vec<u8>, (Bounded<SequenceOf<Substring>, NotEmpty>, ()));
@@ -79,4 +83,12 @@ impl Notation for SubstringFilter {
 
 impl Message for SubstringFilter {
     ghost told_apart = { refl };
+}
+
+impl CanonicalNotation for SubstringFilter {
+    ghost written = { λ _. standing_written ⟦<SubstringFilter as StandsFor<Fields>>⟧.value_of (sequence_written (part_written (octets_written
+        refl).own (part_written (filled_list_written (sequence_of_written (standing_written ⟦<Substring as Defined>⟧.value_of (choice_written_as
+        ⟦<Choice<(Implicit<Context<0>, Vec<u8>>, (Implicit<Context<1>, Vec<u8>>, (Implicit<Context<2>, Vec<u8>>,)))> as Notation>⟧.means.form_under
+        (alternative_written (under_context 0 (omega arith) (octets_written refl)).own (alternative_written (under_context 1 (omega arith)
+        (octets_written refl)).own (under_context 2 (omega arith) (octets_written refl)).own)))).own)).own no_part_written))) };
 }

@@ -6,12 +6,17 @@
 ghost use Rattle.std.specs.Prelude.{◌≡◌, refl};
 ghost use Rattle.std.proofs.Common.{arith};
 ghost use Rattle.yasna_notation.specs.Laws.{standing_keeps, element_filled};
+ghost use Rattle.yasna_notation.specs.Making.{in_application};
 ghost use Rattle.yasna_notation.specs.Notation.{stands_for};
-ghost use Rattle.ldap.specs.Making.{in_application};
 ghost use Rattle.yasna_notation.specs.contracts.simple.UnitNotation.TheImpl.Laws.{keeps-law as null};
+ghost use Rattle.yasna_notation.specs.Canonical.{standing_written};
+ghost use Rattle.yasna_notation.specs.Writing.{under_application};
+ghost use Rattle.yasna_notation.specs.contracts.canonical.UnitCanonicalNotation.TheImpl.Laws.{written-law as null_written};
 
 use yasna::{ASN1Result, BERReader, DERWriter, Tag};
-use yasna_notation::{Application, Implicit, Message, Notation, StandsFor, read_as};
+use yasna_notation::{
+    Application, CanonicalNotation, Implicit, Message, Notation, StandsFor, read_as,
+};
 
 type Notated = Implicit<Application<2>, ()>;
 
@@ -54,4 +59,8 @@ impl Notation for UnbindRequest {
 
 impl Message for UnbindRequest {
     ghost told_apart = { refl };
+}
+
+impl CanonicalNotation for UnbindRequest {
+    ghost written = { λ _. standing_written ⟦<UnbindRequest as StandsFor<()>>⟧.value_of (under_application 2 (omega arith) (null_written refl)) };
 }
