@@ -5,7 +5,7 @@ use crate::messages::rewritten;
 use ldap::{Filter, FilterItem, LdapMessage, ProtocolOp};
 use std::alloc::Global;
 use std::test::Fail;
-use yasna::{ASN1Result, decode_ber, decode_der};
+use yasna::{ASN1Result, decode_ber, decode_der, encode_der, one_form};
 use yasna_notation::Noted;
 
 // Messages in DER.
@@ -150,6 +150,13 @@ fn is_refused(alloc: Global, text: &str) -> ASN1Result<bool> {
     Ok(decode_ber::<Noted<LdapMessage>>(alloc, &bytes).is_err())
 }
 
+fn written_anew(alloc: Global, text: &str) -> ASN1Result<Vec<u8>> {
+    one_form::<Noted<LdapMessage>>();
+    let bytes = bytes_of(alloc, text)?;
+    let message: Noted<LdapMessage> = decode_ber(alloc, &bytes)?;
+    encode_der(alloc, &message)
+}
+
 #[test]
 fn messages_come_back(rt: HostRuntime) -> Result<(), Fail> {
     for text in TAKEN {
@@ -167,11 +174,11 @@ fn others_are_refused(rt: HostRuntime) -> Result<(), Fail> {
 }
 
 #[test]
-fn what_is_no_der_is_read_in_ber(rt: HostRuntime) -> Result<(), Fail> {
+fn what_ber_reads_is_written_anew(rt: HostRuntime) -> Result<(), Fail> {
     let alloc = rt.alloc();
-    for (text, _) in LONGER {
+    for (text, form) in LONGER {
+        assert!(rt; written_anew(alloc, text)? == bytes_of(alloc, form)?);
         let bytes = bytes_of(alloc, text)?;
-        assert!(rt; decode_ber::<Noted<LdapMessage>>(alloc, &bytes).is_ok());
         assert!(rt; decode_der::<Noted<LdapMessage>>(alloc, &bytes).is_err());
     }
     for (_, form) in LONGER {
