@@ -25,6 +25,7 @@ type Set = Bounded<SetOf<Attribute>, NotEmpty>;
 /// Attributes, one or more. The digest of a signer's signed attributes is that of their DER encoding as these, not under `[0]`.
 #[derive(Drop)]
 pub struct Attributes {
+    /// One or more. They stand in no order.
     pub attributes: Vec<Attribute>,
 }
 

@@ -63,6 +63,7 @@ pub struct EnvelopedData {
     /// From 0 to 5.
     pub version: u64,
     pub originator_info: Option<Vec<TaggedDerValue>>,
+    /// One or more. They stand in no order.
     pub recipient_infos: Vec<TaggedDerValue>,
     pub encrypted_content_info: EncryptedContentInfo,
     pub unprotected_attrs: Option<Attributes>,

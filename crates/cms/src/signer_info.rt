@@ -59,7 +59,7 @@ type Fields = (u64, (SignerIdentifier, DigestFields));
 /// What a signer gives: the signature, and how it was made.
 #[derive(Drop)]
 pub struct SignerInfo {
-    /// 1 where the signer's certificate is named by issuer and number, 3 where it is by its key.
+    /// From 0 to 5: 1 where the signer's certificate is named by issuer and number, 3 where it is by its key.
     pub version: u64,
     pub sid: SignerIdentifier,
     pub digest_algorithm: AlgorithmIdentifier,

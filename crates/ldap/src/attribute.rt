@@ -31,7 +31,7 @@ type Fields = (Vec<u8>, (Vec<Vec<u8>>, ()));
 pub struct Attribute {
     /// The name of the attribute, with its options, in UTF-8.
     pub attribute_type: Vec<u8>,
-    /// Its values. They stand in no order.
+    /// Its values, one or more. They stand in no order.
     pub vals: Vec<Vec<u8>>,
 }
 

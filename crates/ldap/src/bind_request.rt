@@ -48,7 +48,7 @@ type Notated = Implicit<Application<0>, Sequence<Parts>>;
 /// A request to bind.
 #[derive(Drop)]
 pub struct BindRequest {
-    /// Of the protocol: 3.
+    /// Of the protocol, from 1 to 127: 3 today.
     pub version: u64,
     /// Of who binds, in UTF-8; empty for nobody.
     pub name: Vec<u8>,

@@ -45,7 +45,7 @@ type Fields = (u64, (ProtocolOp, (Option<Vec<Control>>, ())));
 /// A message.
 #[derive(Drop)]
 pub struct LdapMessage {
-    /// Answers bear that of their request.
+    /// Up to 2147483647. Answers bear that of their request.
     pub message_id: u64,
     pub protocol_op: ProtocolOp,
     pub controls: Option<Vec<Control>>,

@@ -46,13 +46,13 @@ type Fields = (i64, (Vec<u8>, (Vec<u8>, (Option<Vec<Vec<u8>>>, ()))));
 /// What became of an operation.
 #[derive(Drop)]
 pub struct LdapResult {
-    /// 0 for success.
+    /// 0 for success; never negative.
     pub result_code: i64,
     /// The name of the last entry that was found, in UTF-8.
     pub matched_dn: Vec<u8>,
     /// What to show to people, in UTF-8.
     pub diagnostic_message: Vec<u8>,
-    /// URIs of other servers.
+    /// URIs of other servers, one or more.
     pub referral: Option<Vec<Vec<u8>>>,
 }
 

@@ -77,9 +77,9 @@ pub struct SearchRequest {
     pub scope: i64,
     /// Which aliases are followed: 0 for none, 1 below that entry, 2 at it, 3 for all.
     pub deref_aliases: i64,
-    /// How many entries are wanted at most; 0 for any number.
+    /// How many entries are wanted at most, up to 2147483647; 0 for any number.
     pub size_limit: u64,
-    /// How many seconds the search may take; 0 for any.
+    /// How many seconds the search may take, up to 2147483647; 0 for any.
     pub time_limit: u64,
     /// Whether the values of attributes are left out.
     pub types_only: bool,

@@ -28,6 +28,7 @@ type Notated = Implicit<Application<19>, Bounded<SequenceOf<Vec<u8>>, NotEmpty>>
 /// Other servers where a search may go on, one or more.
 #[derive(Drop)]
 pub struct SearchResultReference {
+    /// One or more.
     pub uris: Vec<Vec<u8>>,
 }
 

@@ -63,6 +63,7 @@ type Sides = Either<Vec<u8>, Either<u32, Either<u32, Either<Vec<u8>, Either<u64,
 /// A value of a type that SNMP adds.
 #[derive(Drop)]
 pub enum ApplicationSyntax {
+    /// Four octets.
     IpAddressValue(Vec<u8>),
     CounterValue(u32),
     /// Hundredths of a second.

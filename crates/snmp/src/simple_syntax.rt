@@ -39,6 +39,7 @@ type Sides = Either<i32, Either<Vec<u8>, ObjectIdentifier>>;
 #[derive(Drop)]
 pub enum SimpleSyntax {
     IntegerValue(i32),
+    /// 65535 octets at most.
     StringValue(Vec<u8>),
     ObjectIdValue(ObjectIdentifier),
 }

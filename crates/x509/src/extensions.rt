@@ -23,6 +23,7 @@ type List = Bounded<SequenceOf<Extension>, NotEmpty>;
 /// Extensions, one or more.
 #[derive(Drop)]
 pub struct Extensions {
+    /// One or more.
     pub extensions: Vec<Extension>,
 }
 

@@ -61,6 +61,7 @@ impl Defined for AttributeTypeAndValue {
 /// A part of a name: one attribute, or several that stand for one level together.
 #[derive(Drop)]
 pub struct RelativeDistinguishedName {
+    /// One or more. They stand in no order.
     pub attributes: Vec<AttributeTypeAndValue>,
 }
 

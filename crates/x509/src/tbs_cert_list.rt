@@ -2,7 +2,7 @@
 //!
 //! ```text
 //! TBSCertList ::= SEQUENCE {
-//!     version              Version OPTIONAL,
+//!     version              Version OPTIONAL, -- v2, where it is there
 //!     signature            AlgorithmIdentifier,
 //!     issuer               Name,
 //!     thisUpdate           Time,
@@ -10,9 +10,10 @@
 //!     revokedCertificates  SEQUENCE OF SEQUENCE { .. } OPTIONAL,
 //!     crlExtensions        [0] EXPLICIT Extensions OPTIONAL }
 //! ```
-ghost use Rattle.std.specs.Prelude.{◌≡◌, refl};
+ghost use Rattle.std.specs.Prelude.{◌≡◌, nat_eq, refl};
+ghost use Rattle.yasna_notation.specs.Bounded.{within_keeps, passes_alike};
 ghost use Rattle.yasna_notation.specs.Laws.{standing_keeps, element_filled};
-ghost use Rattle.yasna_notation.specs.Making.{in_sequence, in_sequence_of, in_choice, alternative, part, optional_part, in_explicit, at_most};
+ghost use Rattle.yasna_notation.specs.Making.{in_sequence, in_sequence_of, in_choice, alternative, part, optional_part, in_explicit};
 ghost use Rattle.yasna_notation.specs.Notation.{stands_for};
 ghost use Rattle.yasna_notation.specs.Parts.{no_parts};
 ghost use Rattle.std.proofs.Common.{arith};
@@ -32,7 +33,7 @@ use crate::time::Time;
 use yasna::models::{GeneralizedTime, UTCTime};
 use yasna::{ASN1Result, BERReader, DERWriter, Tag};
 use yasna_notation::{
-    AtMost, Bounded, Choice, Context, Defined, Explicit, Message, Notation, Optional, Sequence,
+    Bound, Bounded, Choice, Context, Defined, Explicit, Message, Notation, Optional, Sequence,
     SequenceOf, StandsFor, read_as,
 };
 
@@ -43,7 +44,7 @@ type CrlExtensions = Optional<Explicit<Context<0>, Extensions>>;
 type Updates = (Time, (Optional<Time>, (Revoked, (CrlExtensions, ()))));
 
 type Parts = (
-    Optional<Bounded<u64, AtMost<1>>>,
+    Optional<Bounded<u64, V2>>,
     (AlgorithmIdentifier, (Name, Updates)),
 );
 
@@ -57,10 +58,22 @@ type UpdateFields = (
 
 type Fields = (Option<u64>, (AlgorithmIdentifier, (Name, UpdateFields)));
 
+struct V2;
+
+impl Bound<u64> for V2 {
+    ghost passes = { λ v. nat_eq v 1 };
+
+    fn lets(value: &u64) -> bool {
+        *value == 1
+    }
+
+    ghost alike = { λ v w e. passes_alike (λ n. nat_eq n 1) e };
+}
+
 /// What is signed of a revocation list.
 #[derive(Drop)]
 pub struct TbsCertList {
-    /// 1 for v2; v1 has none.
+    /// 1, for v2, and no other; v1 has none.
     pub version: Option<u64>,
     /// The algorithm of the signature.
     pub signature: AlgorithmIdentifier,
@@ -132,7 +145,7 @@ impl Notation for TbsCertList {
     }
 
     ghost keeps = { λ _. standing_keeps ⟦<TbsCertList as StandsFor<Fields>>⟧.value_of
-        (in_sequence (optional_part refl (at_most 1 (number refl)).own (part (algorithm refl).own (part (name refl).own (part (standing_keeps
+        (in_sequence (optional_part refl (within_keeps (λ v. nat_eq v 1) (λ v w e. passes_alike (λ n. nat_eq n 1) e) (number refl)).own (part (algorithm refl).own (part (name refl).own (part (standing_keeps
         ⟦<Time as Defined>⟧.value_of
         (in_choice ⟦<Choice<(UTCTime, (GeneralizedTime,))> as Notation>⟧.means.form_under (alternative (utc refl).own refl (general refl).own))).own
         (optional_part refl (standing_keeps ⟦<Time as Defined>⟧.value_of

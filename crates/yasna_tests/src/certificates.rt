@@ -147,6 +147,12 @@ fn revocation_lists_come_back(rt: HostRuntime) -> Result<(), Fail> {
         Some(revoked) => assert_eq!(rt; revoked.len(), 1),
         None => assert!(rt; false),
     }
+    // it names version 2 or none
+    let mut older = bytes_of(alloc, REVOKED)?;
+    if let Some(version) = older.get_mut(9) {
+        *version = 0;
+    }
+    assert!(rt; decode_ber::<Noted<CertificateList>>(alloc, &older).is_err());
     Ok(())
 }
 

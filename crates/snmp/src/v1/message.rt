@@ -37,7 +37,7 @@ type Fields = (u64, (Vec<u8>, (Pdus, ())));
 /// A message of SNMPv1.
 #[derive(Drop)]
 pub struct SnmpMessage {
-    /// 0.
+    /// 0, for version 1.
     pub version: u64,
     pub community: Vec<u8>,
     pub data: Pdus,

@@ -45,10 +45,11 @@ type Fields = (i32, (u64, (u64, (Vec<VarBind>, ()))));
 #[derive(Drop)]
 pub struct BulkPdu {
     pub request_id: i32,
-    /// Of how many variables one value is asked for.
+    /// Of how many variables one value is asked for: 2147483647 at most.
     pub non_repeaters: u64,
-    /// How many values are asked for of each of the others.
+    /// How many values are asked for of each of the others: 2147483647 at most.
     pub max_repetitions: u64,
+    /// 2147483647 at most.
     pub variable_bindings: Vec<VarBind>,
 }
 

@@ -37,7 +37,7 @@ type Fields = (u64, (Vec<u8>, (Pdus, ())));
 /// A message of SNMPv2c.
 #[derive(Drop)]
 pub struct SnmpMessage {
-    /// 1.
+    /// 1, for version 2c.
     pub version: u64,
     pub community: Vec<u8>,
     pub data: Pdus,

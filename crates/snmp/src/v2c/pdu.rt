@@ -49,8 +49,9 @@ pub struct Pdu {
     pub request_id: i32,
     /// 0 where there was no error.
     pub error_status: i32,
-    /// Which variable is at fault, from 1; 0 where none is.
+    /// Which variable is at fault, from 1 to 2147483647; 0 where none is.
     pub error_index: u64,
+    /// 2147483647 at most.
     pub variable_bindings: Vec<VarBind>,
 }
 
