@@ -7,19 +7,14 @@
 //! | `algorithm`, `public_key` | keys and their algorithms, as types of one's own and by closures |
 //! | `buffer` | the bytes that a read took |
 //! | `at_end` | where contents end, and errors of reading closures |
-//! | `certificates` | certificates and revocation lists of `x509` |
 //! | `composed` | lists, tuples, raw elements and borrowed values |
 //! | `exact` | types that keep an element of any type as it came |
 //! | `guide` | the pieces of code of README.md and docs/GUIDE.md |
-//! | `keys` | private keys, and signed and enveloped contents, of `pkcs8` and `cms` |
 //! | `known` | calls whose closures are known |
-//! | `ldap_messages` | messages of `ldap` |
-//! | `messages` | types of `x509` and `snmp`, which are made of types |
 //! | `oid` | object identifiers |
 //! | `records`, `scrypt`, `third_party` | types of one's own |
 //! | `sets` | sets, read and written by closures |
 //! | `set_writing` | the order of a SET's parts, and broken ones |
-//! | `snmp_messages` | messages of `snmp` |
 //! | `times` | both times |
 //! | `tree` | a type that refers to itself, and elements as deep as they may nest |
 //! | `writing` | long tags, exchanged writers, strings whose contents come in pieces |
@@ -32,21 +27,13 @@ mod at_end;
 #[cfg(test)]
 mod buffer;
 #[cfg(test)]
-mod certificates;
-#[cfg(test)]
 mod composed;
 #[cfg(test)]
 mod exact;
 #[cfg(test)]
 mod guide;
 #[cfg(test)]
-mod keys;
-#[cfg(test)]
 mod known;
-#[cfg(test)]
-mod ldap_messages;
-#[cfg(test)]
-mod messages;
 #[cfg(test)]
 mod oid;
 #[cfg(test)]
@@ -59,8 +46,6 @@ mod scrypt;
 mod set_writing;
 #[cfg(test)]
 mod sets;
-#[cfg(test)]
-mod snmp_messages;
 #[cfg(test)]
 mod third_party;
 #[cfg(test)]

@@ -3,10 +3,13 @@
 use crate::messages::rewritten;
 use std::alloc::Global;
 use std::test::Fail;
-use x509::{Certificate, CertificateList, read_signed_certificate, read_signed_list};
+use x509::{
+    Certificate, CertificateList, Signed, TbsCertList, TbsCertificate, read_signed_certificate,
+    read_signed_list,
+};
 use yasna::{
-    ASN1Error, ASN1ErrorKind, ASN1Result, BERDecodable, DEREncodable, DERExact, decode_ber,
-    decode_der, parse_der,
+    ASN1Error, ASN1ErrorKind, ASN1Result, BERDecodable, BERReader, DEREncodable, DERExact,
+    decode_ber, decode_der, parse_der,
 };
 use yasna_notation::Noted;
 
@@ -105,6 +108,22 @@ fn certificates_come_back(rt: HostRuntime) -> Result<(), Fail> {
     Ok(())
 }
 
+// Whether it has the issuer's number of UNIQUE.
+fn has_issuer_id(certificate: &TbsCertificate) -> bool {
+    match &certificate.issuer_unique_id {
+        Some((octets, bits)) => octets.as_slice() == [171, 192].as_slice() && *bits == 12,
+        None => false,
+    }
+}
+
+// How many certificates it revokes.
+fn revoked(list: &TbsCertList) -> Option<usize> {
+    match &list.revoked_certificates {
+        Some(certificates) => Some(certificates.len()),
+        None => None,
+    }
+}
+
 #[test]
 fn what_certificates_say(rt: HostRuntime) -> Result<(), Fail> {
     let alloc = rt.alloc();
@@ -117,21 +136,16 @@ fn what_certificates_say(rt: HostRuntime) -> Result<(), Fail> {
     );
     assert!(rt; *is_positive);
     let unique = certificate(alloc, UNIQUE)?.tbs_certificate;
-    match unique.issuer_unique_id {
-        Some((octets, bits)) => {
-            assert_eq!(rt; octets.as_slice(), [171, 192].as_slice());
-            assert_eq!(rt; bits, 12);
-        }
-        None => assert!(rt; false),
-    }
+    assert!(rt; has_issuer_id(&unique));
     // BER takes a default that is written out
     assert_eq!(rt; certificate(alloc, LEAF)?.tbs_certificate.version, 0);
     assert_eq!(rt; certificate(alloc, WRITTEN_OUT)?.tbs_certificate.version, 0);
     // no version has the number 3
-    match certificate(alloc, NO_VERSION) {
-        Ok(_) => assert!(rt; false),
-        Err(error) => assert_eq!(rt; error.kind(), ASN1ErrorKind::Invalid),
-    }
+    let refused = certificate(alloc, NO_VERSION);
+    assert_eq!(rt;
+        refused.err().map(|error| error.kind()),
+        Some(ASN1ErrorKind::Invalid)
+    );
     Ok(())
 }
 
@@ -143,10 +157,7 @@ fn revocation_lists_come_back(rt: HostRuntime) -> Result<(), Fail> {
     let list: Noted<CertificateList> = decode_der(alloc, &bytes)?;
     let list = list.into_value().tbs_cert_list;
     assert_eq!(rt; list.version, Some(1));
-    match list.revoked_certificates {
-        Some(revoked) => assert_eq!(rt; revoked.len(), 1),
-        None => assert!(rt; false),
-    }
+    assert_eq!(rt; revoked(&list), Some(1));
     // it names version 2 or none
     let mut older = bytes_of(alloc, REVOKED)?;
     if let Some(version) = older.get_mut(9) {
@@ -156,15 +167,24 @@ fn revocation_lists_come_back(rt: HostRuntime) -> Result<(), Fail> {
     Ok(())
 }
 
+// A closure that hands on what it borrows, or a function of another crate by its name, is not proved.
+fn signed_certificate<'a>(reader: BERReader<'a, '_>) -> ASN1Result<Signed<'a, Certificate>> {
+    read_signed_certificate(reader)
+}
+
+fn signed_list<'a>(reader: BERReader<'a, '_>) -> ASN1Result<Signed<'a, CertificateList>> {
+    read_signed_list(reader)
+}
+
 #[test]
 fn what_is_signed(rt: HostRuntime) -> Result<(), Fail> {
     let alloc = rt.alloc();
     let bytes = bytes_of(alloc, AUTHORITY)?;
-    let signed = parse_der(alloc, &bytes, |reader| read_signed_certificate(reader))?;
+    let signed = parse_der(alloc, &bytes, signed_certificate)?;
     assert_eq!(rt; bytes.get(4..358), Some(signed.signed_bytes));
     assert_eq!(rt; signed.value.tbs_certificate.version, 2);
     let bytes = bytes_of(alloc, REVOKED)?;
-    let signed = parse_der(alloc, &bytes, |reader| read_signed_list(reader))?;
+    let signed = parse_der(alloc, &bytes, signed_list)?;
     assert_eq!(rt; bytes.get(4..202), Some(signed.signed_bytes));
     Ok(())
 }

@@ -192,24 +192,39 @@ fn what_a_search_asks(rt: HostRuntime) -> Result<(), Fail> {
     let alloc = rt.alloc();
     let bytes = bytes_of(alloc, TAKEN[17])?;
     let noted: Noted<LdapMessage> = decode_ber(alloc, &bytes)?;
-    let ProtocolOp::SearchRequest(request) = noted.into_value().protocol_op else {
-        assert!(rt; false);
-        return Ok(());
-    };
-    let Filter::And(filters) = request.filter else {
-        assert!(rt; false);
-        return Ok(());
-    };
-    assert_eq!(rt; filters.len(), 2);
-    let mut has_not = false;
-    let mut has_equal = false;
-    for filter in &filters {
-        match filter {
-            Filter::Not(_) => has_not = true,
-            Filter::Item(FilterItem::EqualityMatch(_)) => has_equal = true,
-            _ => {}
+    assert!(rt; asks_for_both(&noted.into_value().protocol_op));
+    Ok(())
+}
+
+// Whether it asks for what isn't one thing and equals another.
+fn asks_for_both(operation: &ProtocolOp) -> bool {
+    match operation {
+        ProtocolOp::SearchRequest(request) => has_both(&request.filter),
+        _ => false,
+    }
+}
+
+fn has_both(filter: &Filter) -> bool {
+    match filter {
+        Filter::And(filters) => filters.len() == 2 && has_not(filters) && has_equality(filters),
+        _ => false,
+    }
+}
+
+fn has_not(filters: &[Filter]) -> bool {
+    for filter in filters {
+        if let Filter::Not(_) = filter {
+            return true;
         }
     }
-    assert_eq!(rt; (has_not, has_equal), (true, true));
-    Ok(())
+    false
+}
+
+fn has_equality(filters: &[Filter]) -> bool {
+    for filter in filters {
+        if let Filter::Item(FilterItem::EqualityMatch(_)) = filter {
+            return true;
+        }
+    }
+    false
 }

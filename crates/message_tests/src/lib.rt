@@ -1,0 +1,21 @@
+//! Tests of messages: what other programs made comes back as the same bytes.
+//!
+//! | Module | Holds |
+//! |---|---|
+//! | `certificates` | certificates and revocation lists of `x509` |
+//! | `keys` | private keys, and signed and enveloped contents, of `pkcs8` and `cms` |
+//! | `ldap_messages` | messages of `ldap` |
+//! | `messages` | types of `x509` and `snmp`, which are made of types |
+//! | `snmp_messages` | messages of `snmp` |
+#![tactic(auto)]
+
+#[cfg(test)]
+mod certificates;
+#[cfg(test)]
+mod keys;
+#[cfg(test)]
+mod ldap_messages;
+#[cfg(test)]
+mod messages;
+#[cfg(test)]
+mod snmp_messages;
