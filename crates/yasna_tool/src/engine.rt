@@ -108,6 +108,8 @@ pub fn run<T: DERCanonical, R: Source, W: Sink>(
 {
     let bytes = read_all(alloc, reader)?;
     let value: T = decode_ber_general(alloc, bytes.as_slice(), mode)?;
+    // the input is gone before its form is made, so memory holds the value and one of them
+    drop(bytes);
     let form = encode_der(alloc, &value)?;
     write_all(writer, form.as_slice())
 }
