@@ -6,6 +6,8 @@ mod by_hand;
 mod certificates;
 mod inputs;
 mod measure;
+mod messages;
+mod options;
 mod port;
 mod raw;
 mod reading;
@@ -31,7 +33,9 @@ fn main() -> ExitCode {
         .chain(sets::cases())
         .chain(raw::cases())
         .chain(strings::cases())
-        .chain(times::cases());
+        .chain(times::cases())
+        .chain(messages::cases())
+        .chain(options::cases());
     for case in cases {
         if case.name.contains(&wanted) {
             agree &= measure::print_row(case, rounds);

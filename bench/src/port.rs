@@ -32,6 +32,15 @@ mod linked {
             -> u64;
         pub fn yasna_read_set_of(bytes: *const u8, length: usize, der: bool) -> u64;
         pub fn yasna_write_set_of(numbers: *const i64, length: usize) -> u64;
+        pub fn yasna_ten_explicit(bytes: *const u8, length: usize) -> u64;
+        pub fn yasna_ten_implicit(bytes: *const u8, length: usize) -> u64;
+        pub fn yasna_ten_explicit_looped(bytes: *const u8, length: usize) -> u64;
+        pub fn yasna_ten_implicit_looped(bytes: *const u8, length: usize) -> u64;
+        pub fn yasna_read_text(bytes: *const u8, length: usize) -> u64;
+        pub fn yasna_read_bmp(bytes: *const u8, length: usize) -> u64;
+        pub fn yasna_write_bmp(bytes: *const u8, length: usize) -> u64;
+        pub fn yasna_read_certificates(bytes: *const u8, length: usize) -> u64;
+        pub fn yasna_rewrite_certificates(bytes: *const u8, length: usize) -> u64;
         pub fn yasna_read_raw(bytes: *const u8, length: usize, count: usize, der: bool) -> u64;
         pub fn yasna_parse_utc_times(texts: *const u8, length: usize) -> u64;
         pub fn yasna_parse_generalized_times(texts: *const u8, length: usize) -> u64;
@@ -182,4 +191,40 @@ pub fn read_generalized_times(bytes: &[u8], count: usize, der: bool) -> u64 {
 
 pub fn write_generalized_times(text: &[u8], count: usize) -> u64 {
     unsafe { linked::yasna_write_generalized_times(text.as_ptr(), text.len(), count) }
+}
+
+pub fn read_certificates(bytes: &[u8]) -> u64 {
+    unsafe { linked::yasna_read_certificates(bytes.as_ptr(), bytes.len()) }
+}
+
+pub fn rewrite_certificates(bytes: &[u8]) -> u64 {
+    unsafe { linked::yasna_rewrite_certificates(bytes.as_ptr(), bytes.len()) }
+}
+
+pub fn ten_explicit(bytes: &[u8]) -> u64 {
+    unsafe { linked::yasna_ten_explicit(bytes.as_ptr(), bytes.len()) }
+}
+
+pub fn ten_implicit(bytes: &[u8]) -> u64 {
+    unsafe { linked::yasna_ten_implicit(bytes.as_ptr(), bytes.len()) }
+}
+
+pub fn ten_explicit_looped(bytes: &[u8]) -> u64 {
+    unsafe { linked::yasna_ten_explicit_looped(bytes.as_ptr(), bytes.len()) }
+}
+
+pub fn ten_implicit_looped(bytes: &[u8]) -> u64 {
+    unsafe { linked::yasna_ten_implicit_looped(bytes.as_ptr(), bytes.len()) }
+}
+
+pub fn read_text(bytes: &[u8]) -> u64 {
+    unsafe { linked::yasna_read_text(bytes.as_ptr(), bytes.len()) }
+}
+
+pub fn read_bmp(bytes: &[u8]) -> u64 {
+    unsafe { linked::yasna_read_bmp(bytes.as_ptr(), bytes.len()) }
+}
+
+pub fn write_bmp(text: &str) -> u64 {
+    unsafe { linked::yasna_write_bmp(text.as_ptr(), text.len()) }
 }

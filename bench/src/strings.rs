@@ -24,6 +24,10 @@ pub fn cases() -> Vec<Case> {
         write_texts(),
         read_identifiers(),
         write_identifiers(),
+        read_text("UTF8String of 1 MiB read, two bytes a character", "ä"),
+        read_text("UTF8String of 1 MiB read, three bytes a character", "中"),
+        read_bmp(),
+        write_bmp(),
     ]
 }
 
@@ -194,6 +198,49 @@ fn write_identifiers() -> Case {
                 writer.write_sequence(|seq| {
                     (0..TEXTS).for_each(|_| seq.next().write_oid(black_box(&identifier)))
                 })
+            }))
+        })
+}
+
+// 1 MiB of this character.
+fn long_text(character: &str) -> &'static str {
+    Box::leak(character.repeat((1 << 20) / character.len()).into_boxed_str())
+}
+
+fn read_text(name: &'static str, character: &str) -> Case {
+    let text = long_text(character);
+    let bytes = kept(construct_der(|writer| writer.write_utf8string(text)));
+    Case::new(name, 10)
+        .with(Port, move || port::read_text(black_box(bytes)))
+        .with(Upstream, move || {
+            let read = yasna::parse_der(black_box(bytes), |reader| reader.read_utf8string());
+            read.map_or(REFUSED, |text| black_box(text).len() as u64)
+        })
+        .with(Asn1, move || {
+            let read = asn1::parse_single::<asn1::Utf8String>(black_box(bytes));
+            read.map_or(REFUSED, |text| black_box(text.as_str().to_owned()).len() as u64)
+        })
+}
+
+fn read_bmp() -> Case {
+    let bytes = kept(construct_der(|writer| {
+        writer.write_bmp_string(long_text("中"))
+    }));
+    Case::new("BMPString of 1 MiB of UTF-8 read", 10)
+        .with(Port, move || port::read_bmp(black_box(bytes)))
+        .with(Upstream, move || {
+            let read = yasna::parse_der(black_box(bytes), |reader| reader.read_bmp_string());
+            read.map_or(REFUSED, |text| black_box(text).len() as u64)
+        })
+}
+
+fn write_bmp() -> Case {
+    let text = long_text("中");
+    Case::new("BMPString of 1 MiB of UTF-8 written", 10)
+        .with(Port, move || port::write_bmp(black_box(text)))
+        .with(Upstream, move || {
+            length(construct_der(|writer| {
+                writer.write_bmp_string(black_box(text))
             }))
         })
 }

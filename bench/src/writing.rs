@@ -19,6 +19,8 @@ pub fn cases() -> Vec<Case> {
         pairs_cer(),
         nested_pairs("20k pairs inside 100 sequences", 100),
         nest("1 MiB in 50 sequences", inputs::big_contents(), 50, 2),
+        nest("a level at depth 1", kept(vec![10]), 1, 20_000),
+        nest("a level at depth 10", kept(vec![10]), 10, 2000).by_parts(10),
         nest("a level at depth 100", kept(vec![10]), 100, 200).by_parts(100),
         nest("a level at depth 5000", kept(vec![10]), 5000, 4).by_parts(5000),
     ]

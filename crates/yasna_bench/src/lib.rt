@@ -6,16 +6,20 @@
 //! | Module | Holds |
 //! |---|---|
 //! | `reading` | calls that read numbers, pairs and nests |
+//! | `options` | calls that read parts that may be left out |
 //! | `writing` | calls that write them |
 //! | `sets` | calls that read and write SET OF |
 //! | `raw` | calls that read raw elements |
 //! | `strings`, `oid` | calls that read and write octet strings, texts and object identifiers |
 //! | `times` | calls that parse, print, read and write both times |
+//! | `messages` | calls that read and write certificates |
 #![tactic(auto)]
 
 ghost use Rattle.std.specs.Prelude.{◌≡◌, ◌-◌, ◌^◌, MatchResult};
 
+mod messages;
 mod oid;
+mod options;
 mod raw;
 mod reading;
 mod sets;

@@ -5,7 +5,7 @@ use crate::{answered, length, mixed};
 use std::alloc::Global;
 use yasna::{
     ASN1Result, BERReaderSeq, DERWriterSeq, construct_cer, construct_der, parse_ber_general,
-    parse_cer,
+    parse_cer, parse_der,
 };
 
 /// The length of an octet string that is read.
@@ -71,4 +71,30 @@ fn write_texts(seq: &mut DERWriterSeq, text: &str, count: usize) -> ASN1Result<(
         seq.next().write_utf8string(text)?;
     }
     Ok(())
+}
+
+/// The length of a UTF8String that is read.
+#[unsafe(no_mangle)]
+pub extern "C" fn yasna_read_text(alloc: Global, bytes: &[u8]) -> u64 {
+    text_length(parse_der(alloc, bytes, |reader| reader.read_utf8string()))
+}
+
+/// The length in UTF-8 of a BMPString that is read.
+#[unsafe(no_mangle)]
+pub extern "C" fn yasna_read_bmp(alloc: Global, bytes: &[u8]) -> u64 {
+    text_length(parse_der(alloc, bytes, |reader| reader.read_bmp_string()))
+}
+
+// The length that a call answers of a text that it read.
+fn text_length(read: ASN1Result<String>) -> u64 {
+    answered(read.map(|text| text.len() as u64))
+}
+
+/// The length of this text as a BMPString; none where it isn't UTF-8.
+#[unsafe(no_mangle)]
+pub extern "C" fn yasna_write_bmp(alloc: Global, text: &[u8]) -> u64 {
+    let Ok(text) = str::from_utf8(text) else {
+        return crate::REFUSED;
+    };
+    length(construct_der(alloc, |writer| writer.write_bmp_string(text)))
 }

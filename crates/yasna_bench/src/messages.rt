@@ -1,0 +1,39 @@
+//! Calls that read and write certificates, as the types of `x509`.
+
+use crate::{answered, length, mixed};
+use std::alloc::Global;
+use x509::Certificate;
+use yasna::{ASN1Result, decode_der, encode_der, one_der_form};
+use yasna_notation::Noted;
+
+type Certificates = Vec<Noted<Certificate>>;
+
+/// The checksum of how many bits the signatures have of the certificates of a SEQUENCE OF.
+#[unsafe(no_mangle)]
+pub extern "C" fn yasna_read_certificates(alloc: Global, bytes: &[u8]) -> u64 {
+    let read: ASN1Result<Certificates> = decode_der(alloc, bytes);
+    answered(read.map(bits_checksum))
+}
+
+// The checksum of a list.
+fn bits_checksum(certificates: Certificates) -> u64 {
+    let mut checksum = 0;
+    for certificate in certificates {
+        let (_, bits) = certificate.into_value().signature_value;
+        checksum = mixed(checksum, (bits as u64).cast_signed());
+    }
+    checksum
+}
+
+/// The length of the certificates of a SEQUENCE OF, which are read and written again.
+#[unsafe(no_mangle)]
+pub extern "C" fn yasna_rewrite_certificates(alloc: Global, bytes: &[u8]) -> u64 {
+    length(rewritten(alloc, bytes))
+}
+
+// Those certificates, written again.
+fn rewritten(alloc: Global, bytes: &[u8]) -> ASN1Result<Vec<u8>> {
+    one_der_form::<Certificates>();
+    let certificates: Certificates = decode_der(alloc, bytes)?;
+    encode_der(alloc, &certificates)
+}

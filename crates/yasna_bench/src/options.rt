@@ -1,0 +1,112 @@
+//! Calls that read ten parts that may be left out, each under a tag of its own.
+ghost use Rattle.std.specs.Prelude.{◌≤◌};
+
+use crate::{answered, mixed};
+use std::alloc::Global;
+use yasna::{ASN1Result, BERReaderSeq, Tag, parse_der};
+
+/// The checksum of ten numbers under explicit tags, by calls that are written one behind the other.
+#[unsafe(no_mangle)]
+pub extern "C" fn yasna_ten_explicit(alloc: Global, bytes: &[u8]) -> u64 {
+    answered(parse_der(alloc, bytes, |reader| {
+        reader.read_sequence(|parts| {
+            let first = five_explicit(parts, 0)?;
+            let second = five_explicit(parts, 5)?;
+            Ok(mixed(first, second.cast_signed()))
+        })
+    }))
+}
+
+// Five of them, from this tag on.
+#[inline(always)]
+fn five_explicit(parts: &mut BERReaderSeq, tag: u64) -> ASN1Result<u64>
+    requires { tag ≤ 5 }
+{
+    let mut checksum = mixed(0, explicit(parts, tag)?);
+    checksum = mixed(checksum, explicit(parts, tag + 1)?);
+    checksum = mixed(checksum, explicit(parts, tag + 2)?);
+    checksum = mixed(checksum, explicit(parts, tag + 3)?);
+    Ok(mixed(checksum, explicit(parts, tag + 4)?))
+}
+
+/// The same under implicit tags.
+#[unsafe(no_mangle)]
+pub extern "C" fn yasna_ten_implicit(alloc: Global, bytes: &[u8]) -> u64 {
+    answered(parse_der(alloc, bytes, |reader| {
+        reader.read_sequence(|parts| {
+            let first = five_implicit(parts, 0)?;
+            let second = five_implicit(parts, 5)?;
+            Ok(mixed(first, second.cast_signed()))
+        })
+    }))
+}
+
+// Five of them, from this tag on.
+#[inline(always)]
+fn five_implicit(parts: &mut BERReaderSeq, tag: u64) -> ASN1Result<u64>
+    requires { tag ≤ 5 }
+{
+    let mut checksum = mixed(0, implicit(parts, tag)?);
+    checksum = mixed(checksum, implicit(parts, tag + 1)?);
+    checksum = mixed(checksum, implicit(parts, tag + 2)?);
+    checksum = mixed(checksum, implicit(parts, tag + 3)?);
+    Ok(mixed(checksum, implicit(parts, tag + 4)?))
+}
+
+/// The checksum of ten numbers under explicit tags, by one call in a loop.
+#[unsafe(no_mangle)]
+pub extern "C" fn yasna_ten_explicit_looped(alloc: Global, bytes: &[u8]) -> u64 {
+    answered(parse_der(
+        alloc,
+        bytes,
+        |reader| reader.read_sequence(|parts| explicit_looped(parts)),
+    ))
+}
+
+// All ten.
+fn explicit_looped(parts: &mut BERReaderSeq) -> ASN1Result<u64> {
+    let mut checksum = 0;
+    for tag in 0..10 {
+        checksum = mixed(checksum, explicit(parts, tag)?);
+    }
+    Ok(checksum)
+}
+
+/// The same under implicit tags.
+#[unsafe(no_mangle)]
+pub extern "C" fn yasna_ten_implicit_looped(alloc: Global, bytes: &[u8]) -> u64 {
+    answered(parse_der(
+        alloc,
+        bytes,
+        |reader| reader.read_sequence(|parts| implicit_looped(parts)),
+    ))
+}
+
+// All ten.
+fn implicit_looped(parts: &mut BERReaderSeq) -> ASN1Result<u64> {
+    let mut checksum = 0;
+    for tag in 0..10 {
+        checksum = mixed(checksum, implicit(parts, tag)?);
+    }
+    Ok(checksum)
+}
+
+// A number under this explicit tag, or none, which counts as 0.
+#[inline(always)]
+fn explicit(parts: &mut BERReaderSeq, tag: u64) -> ASN1Result<i64> {
+    let part = parts.read_optional(|part| part.read_tagged(
+        Tag::context(tag),
+        |number| number.read_i64(),
+    ))?;
+    Ok(part.unwrap_or(0))
+}
+
+// A number under this implicit tag, or none, which counts as 0.
+#[inline(always)]
+fn implicit(parts: &mut BERReaderSeq, tag: u64) -> ASN1Result<i64> {
+    let part = parts.read_optional(|part| part.read_tagged_implicit(
+        Tag::context(tag),
+        |number| number.read_i64(),
+    ))?;
+    Ok(part.unwrap_or(0))
+}
