@@ -1,9 +1,9 @@
 //! The arguments.
 
-use crate::input::Form;
 use clap::{Arg, ArgAction, ArgMatches, Command, Error};
 use std::alloc::{AllocError, Global};
 use yasna_base::mode::BERMode;
+use yasna_lines::Form;
 
 /// What the arguments ask for.
 #[derive(Clone, Copy)]
@@ -60,12 +60,14 @@ const FLAGS: [Flag; 6] = [
     },
 ];
 
-fn flag_of<'a>(alloc: Global, flag: &Flag) -> Result<Arg<'a>, AllocError> {
-    let (one, other) = flag.others;
-    let arg = Arg::new(alloc, flag.name)
+fn switch<'a>(alloc: Global, flag: &Flag) -> Arg<'a> {
+    Arg::new(alloc, flag.name)
         .long(flag.name)
         .action(ArgAction::SetTrue)
-        .help(flag.help);
+}
+
+fn without_others<'a>(arg: Arg<'a>, flag: &Flag) -> Result<Arg<'a>, AllocError> {
+    let (one, other) = flag.others;
     arg.conflicts_with(one)?.conflicts_with(other)
 }
 
@@ -74,7 +76,8 @@ fn with_flag<'a>(
     command: Command<'a>,
     flag: &Flag,
 ) -> Result<Command<'a>, AllocError> {
-    command.arg(flag_of(alloc, flag)?)
+    let arg = switch(alloc, flag).help(flag.help);
+    command.arg(without_others(arg, flag)?)
 }
 
 fn with_width<'a>(alloc: Global, command: Command<'a>) -> Result<Command<'a>, AllocError> {
@@ -102,10 +105,13 @@ fn with_flags<'a>(alloc: Global, command: Command<'a>) -> Result<Command<'a>, Al
     Ok(command)
 }
 
+fn described<'a>(command: Command<'a>) -> Command<'a> {
+    command.about("Lists the elements of ASN.1 bytes, a line an element")
+}
+
 fn named<'a>(alloc: Global) -> Result<Command<'a>, AllocError> {
-    Command::new(alloc, "asn1show")
-        .about("Lists the elements of ASN.1 bytes, a line an element")
-        .bin_name("asn1show")
+    let command = Command::new(alloc, "asn1show");
+    described(command).bin_name("asn1show")
 }
 
 fn command<'a>(alloc: Global) -> Result<Command<'a>, AllocError> {

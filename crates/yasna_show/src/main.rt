@@ -1,44 +1,28 @@
 //! `yasna_show` lists the elements of ASN.1 bytes, a line an element.
 //!
-//! | Module | Holds |
-//! |---|---|
-//! | `listing` | the walk over the elements, and what is proved of it |
-//! | `fault` | why a run ends before its input does |
-//! | `input` | bytes from hexadecimal text and PEM |
-//! | `kind` | the kinds of X.680's own types |
-//! | `value` | what primitive elements say |
-//! | `sets` | the order of a SET OF, and how CER cuts strings |
-//! | `remark` | what is said behind a line, and in which encoding rules the whole is |
-//! | `names` | names of types and of object identifiers |
-//! | `printer` | the lines |
-//! | `arguments` | what the words of the command line ask for |
-//! | `tool` | an input from its text to its lines |
+//! `arguments` holds what the words of the command line ask for. The lines are those of the crate `yasna_lines`.
 #![tactic(auto)]
 
 mod arguments;
-mod fault;
-mod input;
-mod kind;
-mod listing;
-mod names;
-mod printer;
-mod remark;
-mod sets;
-#[cfg(test)]
-mod tests;
-mod tool;
-mod value;
 
 use arguments::{Options, options_of};
-use fault::Fault;
-use names::Names;
 use std::io::{BufWriter, Read, Write};
 use std::process::ExitCode;
 use std::{env, fs, io};
-use value::Style;
+use yasna_listing::fault::Fault;
+
+// The status where the input is broken.
+const BROKEN: u8 = 1;
 
 // The status where a read or a write failed, or there was no memory.
 const DEVICE: u8 = 3;
+
+fn status_of(fault: &Fault) -> u8 {
+    match fault {
+        Fault::Broken { .. } => BROKEN,
+        Fault::Memory | Fault::Output => DEVICE,
+    }
+}
 
 fn read(rt: &HostRuntime, file: Option<&str>) -> io::Result<Vec<u8>> {
     let Some(path) = file else {
@@ -50,14 +34,14 @@ fn read(rt: &HostRuntime, file: Option<&str>) -> io::Result<Vec<u8>> {
 }
 
 fn show(rt: &HostRuntime, options: &Options<'_>, input: &[u8]) -> Result<(), Fault> {
-    let names = Names::new(rt.alloc())?;
-    let style = Style {
-        alloc: rt.alloc(),
-        names: &names,
-        width: options.width,
-    };
+    let Options {
+        mode,
+        form,
+        width,
+        ..
+    } = *options;
     let mut out = BufWriter::new(rt.alloc(), rt.stdout())?;
-    let shown = tool::show(&mut out, options, style, input);
+    let shown = yasna_lines::show(rt.alloc(), &mut out, mode, form, width, input);
     out.flush()?;
     shown
 }
@@ -77,7 +61,7 @@ fn run(rt: &HostRuntime, options: &Options<'_>) -> u8 {
         Ok(()) => 0,
         Err(fault) => {
             let _ = writeln!(errors, "{name}: {fault}");
-            fault.status()
+            status_of(&fault)
         }
     }
 }

@@ -11,6 +11,7 @@
 //! | `exact` | types that keep an element of any type as it came |
 //! | `guide` | the pieces of code of README.md and docs/GUIDE.md |
 //! | `known` | calls whose closures are known |
+//! | `lines` | the lines that tell of the elements of any input |
 //! | `oid` | object identifiers |
 //! | `records`, `scrypt`, `third_party` | types of one's own |
 //! | `sets` | sets, read and written by closures |
@@ -34,6 +35,8 @@ mod exact;
 mod guide;
 #[cfg(test)]
 mod known;
+#[cfg(test)]
+mod lines;
 #[cfg(test)]
 mod oid;
 #[cfg(test)]

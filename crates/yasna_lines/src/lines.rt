@@ -1,0 +1,130 @@
+//! An input from its text to its lines.
+ghost use Rattle.std.specs.Prelude.{◌≡◌, ◌≤◌, length, OnOk, Some};
+ghost use Rattle.yasna_base.specs.Raw.{IsRaw, IsJoining};
+ghost use Rattle.yasna_lines.specs.declared.input.Form.TheVariants.{Bytes};
+
+use crate::input::{Block, Form, PemReader, decode_hex, form_of};
+use crate::names::Names;
+use crate::printer::Printer;
+use crate::value::{Style, write_quoted};
+use std::alloc::Global;
+use std::io::Write;
+use yasna_base::error::ASN1ErrorKind;
+use yasna_base::mode::BERMode;
+use yasna_listing::fault::{Expected, Fault};
+use yasna_listing::listing::list_input;
+
+// Lists the elements of bytes, and in which encoding rules they are.
+fn show_bytes<W: Write>(
+    out: &mut W,
+    mode: BERMode,
+    style: Style<'_>,
+    bytes: &[u8],
+) -> Result<(), Fault>
+    ensures raw { OnOk result (IsJoining (IsRaw 101 mode) bytes.now) }
+    ensures some { OnOk result (1 ≤ length bytes.now) }
+{
+    let mut printer = Printer::new(out, style);
+    list_input(bytes, mode, &mut printer)?;
+    printer.finish()
+}
+
+fn show_block<W: Write>(
+    out: &mut W,
+    mode: BERMode,
+    style: Style<'_>,
+    block: &Block<'_>,
+) -> Result<(), Fault> {
+    let count = block.bytes.len();
+    write!(out, "input: PEM ")?;
+    write_quoted(out, block.label)?;
+    writeln!(out, ", {count} bytes")?;
+    show_bytes(out, mode, style, block.bytes.as_slice())
+}
+
+fn missing(offset: usize, expected: Expected) -> Fault {
+    Fault::Broken {
+        offset,
+        kind: ASN1ErrorKind::Eof,
+        expected,
+    }
+}
+
+fn show_blocks<W: Write>(
+    out: &mut W,
+    mode: BERMode,
+    style: Style<'_>,
+    input: &[u8],
+) -> Result<(), Fault> {
+    let mut reader = PemReader::new(style.alloc);
+    let mut offset: usize = 0;
+    let mut is_any = false;
+    for line in input.split(|octet| *octet == b'\n') {
+        offset = offset.saturating_add(line.len());
+        if let Some(block) = reader.push(line, offset)? {
+            show_block(out, mode, style, &block)?;
+            is_any = true;
+        }
+        offset = offset.saturating_add(1);
+    }
+    if reader.is_open() {
+        return Err(missing(input.len(), Expected::BlockEnd));
+    }
+    if is_any {
+        Ok(())
+    } else {
+        Err(missing(input.len(), Expected::Block))
+    }
+}
+
+// Lists the elements of an input of this form.
+fn show_form<W: Write>(
+    out: &mut W,
+    mode: BERMode,
+    form: Form,
+    style: Style<'_>,
+    input: &[u8],
+) -> Result<(), Fault>
+    ensures raw { OnOk result (form ≡ Bytes → IsJoining (IsRaw 101 mode) input.now) }
+    ensures some { OnOk result (form ≡ Bytes → 1 ≤ length input.now) }
+{
+    match form {
+        Form::Pem => show_blocks(out, mode, style, input),
+        Form::Hex => {
+            let bytes = decode_hex(style.alloc, input)?;
+            let count = bytes.len();
+            writeln!(out, "input: hexadecimal, {count} bytes")?;
+            show_bytes(out, mode, style, bytes.as_slice())
+        }
+        Form::Bytes => {
+            let count = input.len();
+            writeln!(out, "input: {count} bytes")?;
+            show_bytes(out, mode, style, input)
+        }
+    }
+}
+
+/// Lists the elements of an input by the rules of a mode, with at most `width` hexadecimal digits of a value. Where no form is given,
+/// what stands there tells it.
+pub fn show<W: Write>(
+    alloc: Global,
+    out: &mut W,
+    mode: BERMode,
+    form: Option<Form>,
+    width: usize,
+    input: &[u8],
+) -> Result<(), Fault>
+    ensures raw { OnOk result (form ≡ Some Bytes → IsJoining (IsRaw 101 mode) input.now) }
+    ensures some { OnOk result (form ≡ Some Bytes → 1 ≤ length input.now) }
+{
+    let names = Names::new(alloc)?;
+    let style = Style {
+        alloc,
+        names: &names,
+        width,
+    };
+    match form {
+        Some(form) => show_form(out, mode, form, style, input),
+        None => show_form(out, mode, form_of(input), style, input),
+    }
+}

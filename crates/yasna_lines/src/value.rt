@@ -1,0 +1,156 @@
+//! What primitive elements say.
+
+mod arcs;
+mod number;
+mod octets;
+mod text;
+mod time;
+
+use crate::kind::{Characters, Kind};
+use crate::names::Names;
+use crate::remark::Remark;
+use arcs::{are_components, write_oid, write_relative};
+use number::write_integer;
+use octets::{are_bits, is_padding_clear, write_bits, write_octets};
+use std::alloc::Global;
+use std::io::Write;
+use std::str;
+pub use text::write_quoted;
+use text::{are_wide, write_utf8, write_wide};
+use time::{write_generalized_time, write_utc_time};
+use yasna_base::text::{is_ia5, is_numeric, is_printable, is_visible};
+use yasna_listing::fault::Fault;
+
+/// How values are written.
+#[derive(Clone, Copy)]
+pub struct Style<'n> {
+    /// Where memory comes from.
+    pub alloc: Global,
+    /// The names of object identifiers.
+    pub names: &'n Names,
+    /// How many hexadecimal digits are written of a value.
+    pub width: usize,
+}
+
+// The remark, where this isn't so.
+fn unless(is_so: bool, remark: Remark) -> Option<Remark> {
+    if is_so { None } else { Some(remark) }
+}
+
+fn write_boolean<W: Write>(out: &mut W, contents: &[u8]) -> Result<Option<Remark>, Fault> {
+    match contents {
+        [0] => write!(out, "FALSE")?,
+        [value] => {
+            write!(out, "TRUE")?;
+            return Ok(unless(*value == 255, Remark::Truth));
+        }
+        _ => return Ok(Some(Remark::Boolean)),
+    }
+    Ok(None)
+}
+
+// Whether contents are those of a number in two's complement (X.690, 8.3.2).
+fn are_number(contents: &[u8]) -> bool {
+    match contents {
+        [] => false,
+        [0, second, ..] => *second >= 128,
+        [255, second, ..] => *second < 128,
+        _ => true,
+    }
+}
+
+// Whether octets are a text of these characters.
+fn are_characters(characters: Characters, octets: &[u8]) -> bool {
+    match characters {
+        Characters::Utf8 => str::from_utf8(octets).is_ok(),
+        Characters::Numeric => is_numeric(octets),
+        Characters::Printable => is_printable(octets),
+        Characters::Ia5 => is_ia5(octets),
+        Characters::Visible => is_visible(octets),
+        Characters::Bmp => are_wide(octets, 2),
+        Characters::Universal => are_wide(octets, 4),
+        Characters::Other => true,
+    }
+}
+
+fn write_text<W: Write>(
+    out: &mut W,
+    characters: Characters,
+    octets: &[u8],
+) -> Result<Option<Remark>, Fault> {
+    match characters {
+        Characters::Utf8 => write_utf8(out, octets)?,
+        Characters::Bmp => write_wide(out, octets, 2)?,
+        Characters::Universal => write_wide(out, octets, 4)?,
+        _ => write_quoted(out, octets)?,
+    }
+    Ok(unless(are_characters(characters, octets), Remark::Characters))
+}
+
+fn write_bit_string<W: Write>(
+    out: &mut W,
+    style: Style<'_>,
+    contents: &[u8],
+) -> Result<Option<Remark>, Fault> {
+    write_bits(out, style.alloc, contents, style.width)?;
+    if are_bits(contents) {
+        return Ok(unless(is_padding_clear(contents), Remark::Padding));
+    }
+    Ok(Some(Remark::Bits))
+}
+
+/// Writes what the contents of a primitive element of this kind say, and tells what is wrong with them.
+pub fn write_value<W: Write>(
+    out: &mut W,
+    style: Style<'_>,
+    kind: Kind,
+    contents: &[u8],
+) -> Result<Option<Remark>, Fault> {
+    let Style {
+        alloc,
+        names,
+        width,
+    } = style;
+    match kind {
+        Kind::Boolean => write_boolean(out, contents),
+        Kind::Integer => {
+            write_integer_or_octets(out, style, contents)?;
+            Ok(unless(are_number(contents), Remark::Number))
+        }
+        Kind::Bits => write_bit_string(out, style, contents),
+        Kind::Null => Ok(unless(contents.is_empty(), Remark::Null)),
+        Kind::Oid => {
+            write_oid(out, alloc, names, contents)?;
+            Ok(unless(are_components(contents), Remark::Components))
+        }
+        Kind::Relative => {
+            write_relative(out, alloc, contents)?;
+            Ok(unless(are_components(contents), Remark::Components))
+        }
+        Kind::Text(characters) => write_text(out, characters, contents),
+        Kind::UtcTime => write_utc_time(out, contents),
+        Kind::GeneralizedTime => write_generalized_time(out, alloc, contents),
+        Kind::Octets | Kind::Real | Kind::Unknown => {
+            write_octets(out, alloc, contents, width)?;
+            Ok(None)
+        }
+        Kind::Set | Kind::Parts => {
+            write_octets(out, alloc, contents, width)?;
+            Ok(Some(Remark::HasNoParts))
+        }
+    }
+}
+
+// A number of more octets is written in hexadecimal: to write it in decimal would take long.
+const LONGEST_DECIMAL: usize = 2048;
+
+fn write_integer_or_octets<W: Write>(
+    out: &mut W,
+    style: Style<'_>,
+    contents: &[u8],
+) -> Result<(), Fault> {
+    if contents.len() > LONGEST_DECIMAL {
+        return write_octets(out, style.alloc, contents, style.width);
+    }
+    write_integer(out, style.alloc, contents)
+}

@@ -1,0 +1,97 @@
+//! Object identifiers with their dots (X.690, 8.19 and 8.20).
+
+use crate::names::Names;
+use crate::value::number::write_base128;
+use std::alloc::Global;
+use std::io::Write;
+use yasna_base::bytes::base128::read_base128;
+use yasna_listing::fault::Fault;
+
+// A longer component is told by its size alone: to write it in decimal would take long.
+const LONGEST_COMPONENT: usize = 64;
+
+// A longer identifier has no name.
+const LONGEST_NAMED: usize = 32;
+
+/// Whether contents are one or more components, each in the fewest octets.
+pub fn are_components(contents: &[u8]) -> bool {
+    let is_last_whole = contents.last().copied().unwrap_or(128) < 128;
+    is_last_whole
+        && contents
+            .split_inclusive(|octet| *octet < 128)
+            .all(|component| component.first() != Some(&128))
+}
+
+fn write_component<W: Write>(out: &mut W, alloc: Global, component: &[u8]) -> Result<(), Fault> {
+    match read_base128(component) {
+        Ok((number, [])) => write!(out, "{number}")?,
+        _ if component.len() > LONGEST_COMPONENT => {
+            let size = component.len();
+            write!(out, "({size} octets)")?;
+        }
+        _ => write_base128(out, alloc, component)?,
+    }
+    Ok(())
+}
+
+// The first two components stand in one.
+fn write_first<W: Write>(out: &mut W, first: &[u8]) -> Result<(), Fault> {
+    match read_base128(first) {
+        Ok((number, _)) if number < 40 => write!(out, "0.{number}")?,
+        Ok((number, _)) if number < 80 => {
+            let second = number - 40;
+            write!(out, "1.{second}")?;
+        }
+        Ok((number, _)) => {
+            let second = number.saturating_sub(80);
+            write!(out, "2.{second}")?;
+        }
+        Err(_) => {
+            let size = first.len();
+            write!(out, "2.({size} octets)")?;
+        }
+    }
+    Ok(())
+}
+
+/// Writes components with dots between them.
+pub fn write_relative<W: Write>(out: &mut W, alloc: Global, contents: &[u8]) -> Result<(), Fault> {
+    for (number, component) in contents.split_inclusive(|octet| *octet < 128).enumerate() {
+        if number > 0 {
+            write!(out, ".")?;
+        }
+        write_component(out, alloc, component)?;
+    }
+    Ok(())
+}
+
+fn write_absolute<W: Write>(out: &mut W, alloc: Global, contents: &[u8]) -> Result<(), Fault> {
+    for (number, component) in contents.split_inclusive(|octet| *octet < 128).enumerate() {
+        if number == 0 {
+            write_first(out, component)?;
+        } else {
+            write!(out, ".")?;
+            write_component(out, alloc, component)?;
+        }
+    }
+    Ok(())
+}
+
+/// Writes an object identifier, and its usual name where it has one.
+pub fn write_oid<W: Write>(
+    out: &mut W,
+    alloc: Global,
+    names: &Names,
+    contents: &[u8],
+) -> Result<(), Fault> {
+    if contents.len() > LONGEST_NAMED {
+        return write_absolute(out, alloc, contents);
+    }
+    let mut text = Vec::new(alloc);
+    write_absolute(&mut text, alloc, contents)?;
+    out.write_all(text.as_slice())?;
+    if let Some(name) = names.find(text.as_slice()) {
+        write!(out, " {name}")?;
+    }
+    Ok(())
+}

@@ -1,0 +1,60 @@
+//! Octets and bits in hexadecimal, as X.680 writes them.
+
+use std::alloc::Global;
+use std::io::Write;
+use yasna_listing::fault::Fault;
+
+// So many octets are turned into text at once.
+const PIECE: usize = 64;
+
+/// Writes octets in hexadecimal, cut to so many digits.
+pub fn write_octets<W: Write>(
+    out: &mut W,
+    alloc: Global,
+    octets: &[u8],
+    width: usize,
+) -> Result<(), Fault> {
+    let shown = octets.get(..width / 2).unwrap_or(octets);
+    write!(out, "'")?;
+    for piece in shown.chunks(PIECE) {
+        let digits = hex::encode_upper(alloc, piece)?;
+        out.write_all(digits.as_bytes())?;
+    }
+    let cut = if shown.len() < octets.len() { ".." } else { "" };
+    write!(out, "{cut}'H")?;
+    Ok(())
+}
+
+/// Writes the contents of a BIT STRING: its octets, and how many bits of the last are unused.
+pub fn write_bits<W: Write>(
+    out: &mut W,
+    alloc: Global,
+    contents: &[u8],
+    width: usize,
+) -> Result<(), Fault> {
+    let Some((unused, octets)) = contents.split_first() else {
+        return write_octets(out, alloc, contents, width);
+    };
+    write_octets(out, alloc, octets, width)?;
+    if *unused > 0 {
+        write!(out, " less {unused} bits")?;
+    }
+    Ok(())
+}
+
+/// Whether contents are those of a BIT STRING: a count of unused bits, and octets that have as many.
+pub fn are_bits(contents: &[u8]) -> bool {
+    match contents {
+        [] => false,
+        [unused] => *unused == 0,
+        [unused, ..] => *unused < 8,
+    }
+}
+
+/// Whether the unused bits of a BIT STRING are zeros.
+pub fn is_padding_clear(contents: &[u8]) -> bool {
+    match contents {
+        [unused, .., last] if *unused < 8 => last.trailing_zeros() >= u32::from(*unused),
+        _ => true,
+    }
+}

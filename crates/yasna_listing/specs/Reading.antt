@@ -1,0 +1,75 @@
+-- What the reading of elements answers.
+use Rattle.std.specs.Prelude.{◌≡◌, ℕ, ◌+◌, ◌≤◌, Bool, true, false, List, [], ◌∷◌, ◌++◌, length, Option, Some, None}
+use Rattle.yasna_base.specs.Bits.{bits_tag}
+use Rattle.yasna_base.specs.Header.{ContentsEnd, definite_end, indefinite_end, OpensAt}
+use Rattle.yasna_base.specs.Identifier.{end_tag}
+use Rattle.yasna_base.specs.Octets.{octets_tag}
+use Rattle.yasna_bytes.specs.Opening.{end_found}
+use Rattle.yasna_bytes.specs.Walk.{following}
+use Rattle.yasna_listing.specs.Listing.{Line, Hears, Below, ListsBytes, ListsOne}
+use Rattle.yasna_listing.specs.declared.listing.item.Item.{Item}
+use Rattle.yasna_listing.specs.declared.listing.item.Opened.{Opened}
+use Rattle.yasna_listing.specs.declared.listing.place.Place.{Place}
+use Rattle.yasna_listing.specs.declared.listing.place.Rules.{Rules}
+
+-- the line of an element whose header was read
+abbrev pub line_of : Item → Line
+line_of i = record { offset = i.offset; header = i.header; size = i.size; depth = i.depth; within = i.is_within; tag = i.tag; bit = i.bit }
+
+-- how many octets contents take that end so, where they are counted
+abbrev pub counted_length : ContentsEnd → ℕ → Option ℕ
+counted_length (definite_end r) k = Some k
+counted_length indefinite_end k = None
+
+-- the header of an element stands at a place
+pub record OpensItem (rules : Rules) (p : Place) (o : Opened) : Type 0 where
+  pub level : 1 ≤ rules.levels
+  pub not_end : o.item.tag ≡ end_tag → ⊥
+  pub opens : OpensAt rules.mode o.item.tag o.item.bit p.left.now o.item.contents.now (end_found o.end)
+  pub offset : o.item.offset ≡ p.offset
+  pub header : o.item.header + (length o.item.contents.now + length (following (end_found o.end))) ≡ length p.left.now
+  pub counts : o.item.size ≡ counted_length (end_found o.end) (length o.item.contents.now)
+  pub depth : o.item.depth + rules.levels ≡ 101
+  pub within : o.item.is_within ≡ rules.is_within
+
+-- the elements in a string would begin at p
+pub data StandsInString (i : Item) (p : Place) : Type 0 where
+  in_octets : i.tag ≡ octets_tag → p.left.now ≡ i.contents.now → p.offset ≡ i.offset + i.header → StandsInString i p
+  in_bits : i.tag ≡ bits_tag → i.contents.now ≡ 0 ∷ p.left.now → p.offset ≡ i.offset + i.header + 1 → StandsInString i p
+
+-- behind these bytes is the place q
+pub record IsFurther (p : Place) (b : List ℕ) (q : Place) : Type 0 where
+  pub joined : p.left.now ≡ b ++ q.left.now
+  pub offset : q.offset ≡ p.offset + length b
+
+-- contents end at p, and q is behind that
+abbrev pub EndsAt : Bool → Place → Place → Type 0
+EndsAt true p q = (p.left.now ≡ []) × (q.left.now ≡ []) × (q.offset ≡ p.offset)
+EndsAt false p q = IsFurther p (0 ∷ 0 ∷ []) q
+
+-- the elements from p to the end of contents were told, and q is behind that
+pub record ContentsHeard (rules : Rules) (p : Place) (is_counted : Bool) (q : Place) (old new : Option (List Line)) : Type 0 where
+  pub bytes : List ℕ
+  pub lines : List Line
+  pub end : Place
+  pub further : IsFurther p bytes end
+  pub ends : EndsAt is_counted end q
+  pub hears : Hears old new lines
+  pub lists : ListsBytes rules.levels rules.mode rules.is_within p.offset bytes lines
+
+-- the element at p was told, and q is behind it
+pub record ElementHeard (rules : Rules) (p q : Place) (old new : Option (List Line)) : Type 0 where
+  pub bytes : List ℕ
+  pub lines : List Line
+  pub some : 1 ≤ length bytes
+  pub further : IsFurther p bytes q
+  pub hears : Hears old new lines
+  pub lists : ListsOne rules.levels rules.mode rules.is_within p.offset bytes lines
+
+-- what stands in the contents of an element was told
+pub record BelowHeard (rules : Rules) (i : Item) (old new : Option (List Line)) : Type 0 where
+  pub lines : List Line
+  pub hears : Hears old new lines
+  pub levels : ℕ
+  pub deeper : levels + 1 ≡ rules.levels
+  pub below : Below (λ v. ListsBytes levels rules.mode v) rules.is_within i.tag i.bit (i.offset + i.header) i.contents.now lines

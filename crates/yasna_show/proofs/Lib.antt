@@ -1,4 +1,0 @@
-pub mod Lines
-pub mod Reading
-pub mod Raw
-pub mod Front

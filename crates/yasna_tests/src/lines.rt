@@ -1,0 +1,286 @@
+//! The lines of `yasna_lines`, remarks and refusals. The offsets, depths, lengths and tags of the key are those that `openssl asn1parse -i` prints of it.
+
+use std::alloc::Global;
+use std::process::Abort;
+use std::test::Fail;
+use yasna::BERMode;
+use yasna_lines::{Form, show};
+use yasna_listing::fault::Fault;
+
+// What was written, and what ended the run if something did.
+#[derive(Drop)]
+struct Told {
+    output: Vec<u8>,
+    fault: Option<Fault>,
+}
+
+fn shown(alloc: Global, mode: BERMode, form: Option<Form>, input: &[u8]) -> Result<Told, Fail> {
+    let mut output = Vec::new(alloc);
+    let fault = show(alloc, &mut output, mode, form, 16, input).err();
+    Ok(Told { output, fault })
+}
+
+const KEY: &str = "A key:
+-----BEGIN PUBLIC KEY-----
+MFkwEwYHKoZIzj0CAQYIKoZIzj0DAQcDQgAE+CJBf22HZggwwIIlf8bcFqqlxl5w
+FAS09q/vMsaZpxQqACy4ath3ntPoBK/7vwBscMw1CWqWcv/YJyVHQlaC7A==
+-----END PUBLIC KEY-----
+";
+
+const KEY_LINES: &str = "input: PEM \"PUBLIC KEY\", 91 bytes
+      0  2+89       SEQUENCE
+      2  2+19         SEQUENCE
+      4  2+7            OBJECT IDENTIFIER 1.2.840.10045.2.1 ecPublicKey
+     13  2+8            OBJECT IDENTIFIER 1.2.840.10045.3.1.7 prime256v1
+     23  2+66         BIT STRING '04F822417F6D8766..'H
+rules: BER, DER
+";
+
+#[test]
+fn key(rt: HostRuntime) -> Result<(), Fail> {
+    let told = shown(rt.alloc(), BERMode::Der, None, KEY.as_bytes())?;
+    assert!(rt; told.fault.is_none());
+    assert_eq!(rt; std::str::from_utf8(told.output.as_slice())?, KEY_LINES);
+    Ok(())
+}
+
+// Hexadecimal input, and the one line that is printed of it, with the rules.
+const LINES: [(&str, &str, &str); 19] = [
+    ("0101FF", "2+1        BOOLEAN TRUE", "BER, DER, CER"),
+    (
+        "010101",
+        "2+1        BOOLEAN TRUE -- not DER: TRUE isn't FF",
+        "BER",
+    ),
+    ("0202FF7F", "2+2        INTEGER -129", "BER, DER, CER"),
+    (
+        "0209010000000000000000",
+        "2+9        INTEGER 18446744073709551616",
+        "BER, DER, CER",
+    ),
+    (
+        "0209FF0000000000000000",
+        "2+9        INTEGER -18446744073709551616",
+        "BER, DER, CER",
+    ),
+    (
+        "0202007F",
+        "2+2        INTEGER 127 -- not BER: a number in too many octets or none",
+        "none",
+    ),
+    (
+        "028101 05",
+        "3+1        INTEGER 5 -- not DER: the length isn't the shortest",
+        "BER",
+    ),
+    (
+        "0303 04 A5 F0",
+        "2+3        BIT STRING 'A5F0'H less 4 bits",
+        "BER, DER, CER",
+    ),
+    (
+        "0302 04 A5",
+        "2+2        BIT STRING 'A5'H less 4 bits -- not DER: unused bits aren't zeros",
+        "BER",
+    ),
+    (
+        "0603550403",
+        "2+3        OBJECT IDENTIFIER 2.5.4.3 commonName",
+        "BER, DER, CER",
+    ),
+    (
+        "0C07 41 07 E2 80 AE 22 7F",
+        "2+7        UTF8String \"A\\u{7}\\u{202E}\\\"\\u{7F}\"",
+        "BER, DER, CER",
+    ),
+    (
+        "1302 41 2A",
+        "2+2        PrintableString \"A*\" -- not BER: a character that the type hasn't",
+        "none",
+    ),
+    (
+        "1E04 0041 D800",
+        "2+4        BMPString \"A\\u{D800}\" -- not BER: a character that the type hasn't",
+        "none",
+    ),
+    (
+        "170B 38323031303231323030 5A",
+        "2+11       UTCTime 1982-01-02T12:00:00Z -- not DER: the time isn't canonical",
+        "BER",
+    ),
+    (
+        "1813 31393835313130363231303832392E3732345A",
+        "2+19       GeneralizedTime 1985-11-06T21:08:29.724000000Z",
+        "BER, DER, CER",
+    ),
+    (
+        "180E 3139383531313036323130383239",
+        "2+14       GeneralizedTime 1985-11-06T21:08:29 -- not DER: local time",
+        "BER",
+    ),
+    ("0500", "2+0        NULL", "BER, DER, CER"),
+    (
+        "8505 0102030405",
+        "2+5        [5] '0102030405'H",
+        "BER, DER, CER",
+    ),
+    ("3000", "2+0        SEQUENCE", "BER, DER"),
+];
+
+#[test]
+fn lines(rt: HostRuntime) -> Result<(), Fail> {
+    for (input, line, rules) in &LINES {
+        let told = shown(rt.alloc(), BERMode::Ber, None, input.as_bytes())?;
+        let output = std::str::from_utf8(told.output.as_slice())?;
+        let mut rows = output.lines().skip(1);
+        assert_eq!(rt;
+            rows.next().unwrap_or("").trim_start().strip_prefix("0  "),
+            Some(*line),
+            "{input}"
+        );
+        assert_eq!(rt;
+            rows.next().unwrap_or("").strip_prefix("rules: "),
+            Some(*rules),
+            "{input}"
+        );
+    }
+    Ok(())
+}
+
+// An element of indefinite length around a SET OF out of order, a string in segments, and a string that holds an element.
+const NESTED: &str = "3080 3106 020102 020101 2480 0401AA 0401BB 0000 0403 020105 0000";
+
+const NESTED_LINES: &str = "input: hexadecimal, 27 bytes
+      0  2+indef    SEQUENCE -- not DER: indefinite length
+      2  2+6          SET -- not DER: a SET OF out of order
+      4  2+1            INTEGER 2
+      7  2+1            INTEGER 1
+     10  2+indef      OCTET STRING -- not DER: indefinite length -- not DER: cut into segments
+     12  2+1            OCTET STRING 'AA'H
+     15  2+1            OCTET STRING 'BB'H
+     20  2+3          OCTET STRING '020105'H
+     22  2+1      >     INTEGER 5
+rules: BER
+";
+
+#[test]
+fn nested(rt: HostRuntime) -> Result<(), Fail> {
+    let told = shown(rt.alloc(), BERMode::Ber, None, NESTED.as_bytes())?;
+    assert!(rt; told.fault.is_none());
+    assert_eq!(rt; std::str::from_utf8(told.output.as_slice())?, NESTED_LINES);
+    Ok(())
+}
+
+// Broken input, and what is said of it.
+const BROKEN: [(BERMode, &str, &str); 9] = [
+    (
+        BERMode::Ber,
+        "3003 020101 02",
+        "offset 5: Eof: expected length octets",
+    ),
+    (
+        BERMode::Ber,
+        "3005 020101",
+        "offset 0: Eof: expected 5 octets of contents, of which 3 are there",
+    ),
+    (
+        BERMode::Ber,
+        "3080 020101",
+        "offset 5: Eof: expected an element",
+    ),
+    (
+        BERMode::Ber,
+        "3002 0000",
+        "offset 2: Invalid: expected an element, no end of contents",
+    ),
+    (
+        BERMode::Ber,
+        "1F 1E 00",
+        "offset 0: Invalid: expected a tag number of 31 or more in the fewest octets",
+    ),
+    (
+        BERMode::Der,
+        "3080 0000",
+        "offset 0: Invalid: expected a length that is counted",
+    ),
+    (
+        BERMode::Der,
+        "028101 05",
+        "offset 0: Invalid: expected a length in the fewest octets",
+    ),
+    (
+        BERMode::Cer,
+        "3000",
+        "offset 0: Invalid: expected a constructed element of indefinite length",
+    ),
+    (
+        BERMode::Ber,
+        "030",
+        "offset 3: Invalid: expected pairs of hexadecimal digits",
+    ),
+];
+
+fn judge(
+    rt: &(impl AllocGlobal + Abort),
+    mode: BERMode,
+    input: &str,
+    said: &str,
+) -> Result<(), Fail> {
+    let told = shown(rt.alloc(), mode, Some(Form::Hex), input.as_bytes())?;
+    let fault = told.fault.ok_or("a fault")?;
+    assert!(rt; matches!(fault, Fault::Broken { .. }), "{input}");
+    let text = fault.to_string(rt.alloc())?;
+    assert_eq!(rt; text.as_str(), said, "{input}");
+    Ok(())
+}
+
+#[test]
+fn broken(rt: HostRuntime) -> Result<(), Fail> {
+    for (mode, input, said) in &BROKEN {
+        judge(&rt, *mode, input, said)?;
+    }
+    Ok(())
+}
+
+/// A hundred and one elements may nest, and no more.
+#[test]
+fn deep(rt: HostRuntime) -> Result<(), Fail> {
+    let mut input = String::new(rt.alloc());
+    for _ in 0..100 {
+        input.push_str("3080")?;
+    }
+    let whole = format!(in rt.alloc(); "{}0500{}", input, "0000".repeat(rt.alloc(), 100)?)?;
+    let told_whole = shown(rt.alloc(), BERMode::Ber, Some(Form::Hex), whole.as_bytes())?;
+    assert!(rt; told_whole.fault.is_none());
+    input.push_str("30803080")?;
+    judge(
+        &rt,
+        BERMode::Ber,
+        input.as_str(),
+        "offset 202: StackOverflow: expected at most 101 levels of elements",
+    )
+}
+
+// What is said first of an input whose form isn't given.
+const FORMS: [(&[u8], &str); 3] = [
+    (b"30 00\n", "input: hexadecimal, 2 bytes"),
+    (b"0\x00", "input: 2 bytes"),
+    (b"\x04\x14\n-----BEGIN X-----\n", "input: 21 bytes"),
+];
+
+#[test]
+fn forms(rt: HostRuntime) -> Result<(), Fail> {
+    for (input, first) in &FORMS {
+        let told = shown(rt.alloc(), BERMode::Ber, None, input)?;
+        let output = std::str::from_utf8(told.output.as_slice())?;
+        assert_eq!(rt; output.lines().next(), Some(*first));
+    }
+    let told = shown(rt.alloc(), BERMode::Ber, None, b"text\n-----BEGIN X-----\n")?;
+    let fault = told.fault.ok_or("a fault")?;
+    let text = fault.to_string(rt.alloc())?;
+    assert_eq!(rt;
+        text.as_str(),
+        "offset 23: Eof: expected a line that ends the block of PEM"
+    );
+    Ok(())
+}
