@@ -1,5 +1,6 @@
 //! AlgorithmIdentifier, with parameters of several types and without, and keys with it.
 
+use crate::checks::{gives, refuses};
 use crate::public_key::{ED25519, RSA};
 use std::alloc::Global;
 use std::process::Abort;
@@ -18,8 +19,7 @@ fn is_form(
     let read: AlgorithmIdentifier = decode_der(alloc, form)?;
     assert_eq!(rt; read.algorithm.components().as_slice(), name);
     assert!(rt; read.algorithm.is_encodable());
-    let written = encode_der(alloc, &read)?;
-    assert_eq!(rt; written.as_slice(), form);
+    gives(rt, encode_der(alloc, &read), form)?;
     Ok(read.parameters)
 }
 
@@ -59,16 +59,13 @@ fn kept_as_they_came(rt: HostRuntime) -> Result<(), Fail> {
     let other = [48, 128, 6, 3, 43, 101, 112, 48, 128, 2, 1, 7, 0, 0, 0, 0];
     let read: AlgorithmIdentifier = decode_ber(alloc, &other)?;
     assert!(rt; read.algorithm.is_encodable());
-    let written = encode_der(alloc, &read)?;
-    assert_eq!(rt;
-        written.as_slice(),
-        [48, 12, 6, 3, 43, 101, 112, 48, 5, 2, 1, 7, 0, 0].as_slice()
-    );
+    gives(
+        &rt,
+        encode_der(alloc, &read),
+        &[48, 12, 6, 3, 43, 101, 112, 48, 5, 2, 1, 7, 0, 0],
+    )?;
     let refused: ASN1Result<AlgorithmIdentifier> = decode_der(alloc, &other);
-    assert_eq!(rt;
-        refused.err().map(|error| error.kind()),
-        Some(ASN1ErrorKind::Invalid)
-    );
+    refuses(&rt, refused, ASN1ErrorKind::Invalid);
     Ok(())
 }
 
@@ -80,18 +77,12 @@ fn broken_parameters(rt: HostRuntime) -> Result<(), Fail> {
         alloc,
         &[48, 7, 6, 3, 43, 101, 112, 4, 9],
     );
-    assert_eq!(rt;
-        broken.err().map(|error| error.kind()),
-        Some(ASN1ErrorKind::Eof)
-    );
+    refuses(&rt, broken, ASN1ErrorKind::Eof);
     let more: ASN1Result<AlgorithmIdentifier> = decode_ber(
         alloc,
         &[48, 9, 6, 3, 43, 101, 112, 5, 0, 5, 0],
     );
-    assert_eq!(rt;
-        more.err().map(|error| error.kind()),
-        Some(ASN1ErrorKind::Extra)
-    );
+    refuses(&rt, more, ASN1ErrorKind::Extra);
     Ok(())
 }
 
@@ -104,8 +95,7 @@ fn is_form_of_key(
 ) -> Result<SubjectPublicKeyInfo, Fail> {
     let key: SubjectPublicKeyInfo = decode_der(alloc, form)?;
     assert_eq!(rt; key.bits, bits);
-    let written = encoded_key(alloc, &key)?;
-    assert_eq!(rt; written.as_slice(), form);
+    gives(rt, encoded_key(alloc, &key), form)?;
     Ok(key)
 }
 
@@ -125,10 +115,6 @@ fn too_many_bits(rt: HostRuntime) -> Result<(), Fail> {
     let alloc = rt.alloc();
     let mut key: SubjectPublicKeyInfo = decode_der(alloc, &ED25519)?;
     key.bits = 257;
-    let refused = encoded_key(alloc, &key);
-    assert_eq!(rt;
-        refused.err().map(|error| error.kind()),
-        Some(ASN1ErrorKind::Invalid)
-    );
+    refuses(&rt, encoded_key(alloc, &key), ASN1ErrorKind::Invalid);
     Ok(())
 }

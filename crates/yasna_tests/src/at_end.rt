@@ -1,5 +1,6 @@
 //! Where contents end, errors of a reading closure's own, and memory that it asks for itself.
 
+use crate::checks::refuses;
 use std::alloc::Global;
 use std::test::Fail;
 use yasna::{
@@ -21,17 +22,23 @@ fn number_alone(reader: BERReader) -> ASN1Result<(i64, bool)> {
 
 #[test]
 fn parts_end(rt: HostRuntime) -> Result<(), Fail> {
-    let alloc = rt.alloc();
-    let alone = parse_der(alloc, &[48, 3, 2, 1, 7], |reader| number_alone(reader))?;
+    let alone = parse_der(rt.alloc(), &[48, 3, 2, 1, 7], |reader| number_alone(reader))?;
     assert_eq!(rt; alone, (7, true));
-    let followed = parse_der(
-        alloc,
-        &[48, 5, 2, 1, 7, 5, 0],
-        |reader| number_alone(reader),
-    )?;
+    Ok(())
+}
+
+#[test]
+fn parts_go_on(rt: HostRuntime) -> Result<(), Fail> {
+    let form = [48, 5, 2, 1, 7, 5, 0];
+    let followed = parse_der(rt.alloc(), &form, |reader| number_alone(reader))?;
     assert_eq!(rt; followed, (7, false));
-    let indefinite = [48, 128, 2, 1, 7, 0, 0];
-    let alone = parse_ber(alloc, &indefinite, |reader| number_alone(reader))?;
+    Ok(())
+}
+
+#[test]
+fn parts_end_by_two_zeros(rt: HostRuntime) -> Result<(), Fail> {
+    let form = [48, 128, 2, 1, 7, 0, 0];
+    let alone = parse_ber(rt.alloc(), &form, |reader| number_alone(reader))?;
     assert_eq!(rt; alone, (7, true));
     Ok(())
 }
@@ -44,10 +51,7 @@ fn kept_failures_end_parts(rt: HostRuntime) -> Result<(), Fail> {
             Ok(parts.is_at_end())
         })
     });
-    assert_eq!(rt;
-        answer.err().map(|error| error.kind()),
-        Some(ASN1ErrorKind::Invalid)
-    );
+    refuses(&rt, answer, ASN1ErrorKind::Invalid);
     Ok(())
 }
 
@@ -80,15 +84,19 @@ fn kept(alloc: Global, number: i64) -> ASN1Result<Vec<i64>> {
 }
 
 #[test]
-fn readings_answer_their_own_errors(rt: HostRuntime) -> Result<(), Fail> {
+fn readings_answer_their_own_errors(rt: HostRuntime) {
     let alloc = rt.alloc();
     let read = try_parse_ber(alloc, &[2, 129, 1, 7], |reader| small(alloc, reader));
     assert!(rt; matches!(read, Ok(_)));
     let large = try_parse_ber(alloc, &[2, 1, 100], |reader| small(alloc, reader));
     assert!(rt; matches!(large, Err(Refused::Large)));
+}
+
+#[test]
+fn refusals_become_their_own_errors(rt: HostRuntime) {
+    let alloc = rt.alloc();
     let long = try_parse_cer(alloc, &[2, 129, 1, 7], |reader| small(alloc, reader));
     assert!(rt; matches!(long, Err(Refused::Encoding(_))));
     let left = try_parse_cer(alloc, &[2, 1, 7, 0], |reader| small(alloc, reader));
     assert!(rt; matches!(left, Err(Refused::Encoding(_))));
-    Ok(())
 }

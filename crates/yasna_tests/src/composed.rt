@@ -1,5 +1,6 @@
 //! Lists, tuples, raw elements and borrowed values, each impl once at types of its own.
 
+use crate::checks::{gives, refuses};
 use std::alloc::Global;
 use std::process::Abort;
 use std::test::Fail;
@@ -15,15 +16,11 @@ fn is_form_of<T: DERCanonical>(rt: &impl Abort, alloc: Global, count: u8) -> Res
     for number in 0..count {
         bytes.extend_from_slice(&[2, 1, number])?;
     }
-    let written = normalized::<T>(alloc, &bytes)?;
-    assert_eq!(rt; written.as_slice(), bytes.as_slice());
+    gives(rt, normalized::<T>(alloc, &bytes), &bytes)?;
     let other = count.saturating_add(1);
     bytes.extend_from_slice(&[2, 1, other])?;
     let refused: ASN1Result<T> = decode_ber(alloc, &bytes);
-    assert_eq!(rt;
-        refused.err().map(|error| error.kind()),
-        Some(ASN1ErrorKind::Extra)
-    );
+    refuses(rt, refused, ASN1ErrorKind::Extra);
     Ok(())
 }
 
@@ -55,8 +52,7 @@ fn holds_tens<T: DERCanonical>(rt: &impl Abort, alloc: Global, count: u8) -> Res
     for _ in 0..count {
         bytes.extend_from_slice(&[2, 1, 10])?;
     }
-    let written = normalized::<T>(alloc, &bytes)?;
-    assert_eq!(rt; written.as_slice(), bytes.as_slice());
+    gives(rt, normalized::<T>(alloc, &bytes), &bytes)?;
     assert!(rt; decode_der::<T>(alloc, &bytes).is_ok());
     Ok(())
 }
@@ -80,19 +76,16 @@ fn lists(rt: HostRuntime) -> Result<(), Fail> {
     let alloc = rt.alloc();
     is_form_of::<Vec<i64>>(&rt, alloc, 0)?;
     is_form_of::<Vec<u32>>(&rt, alloc, 5)?;
-    let nested = normalized::<Vec<(Vec<u8>, Vec<bool>)>>(
-        alloc,
-        &[48, 128, 48, 128, 4, 1, 9, 48, 3, 1, 1, 7, 0, 0, 0, 0],
+    gives(
+        &rt,
+        normalized::<Vec<(Vec<u8>, Vec<bool>)>>(
+            alloc,
+            &[48, 128, 48, 128, 4, 1, 9, 48, 3, 1, 1, 7, 0, 0, 0, 0],
+        ),
+        &[48, 10, 48, 8, 4, 1, 9, 48, 3, 1, 1, 255],
     )?;
-    assert_eq!(rt;
-        nested.as_slice(),
-        [48, 10, 48, 8, 4, 1, 9, 48, 3, 1, 1, 255].as_slice()
-    );
     let broken: ASN1Result<Vec<i64>> = decode_ber(alloc, &[48, 128, 2, 1, 10, 5, 0, 0, 0]);
-    assert_eq!(rt;
-        broken.err().map(|error| error.kind()),
-        Some(ASN1ErrorKind::Invalid)
-    );
+    refuses(&rt, broken, ASN1ErrorKind::Invalid);
     Ok(())
 }
 
@@ -103,23 +96,14 @@ fn ends(rt: HostRuntime) -> Result<(), Fail> {
     let list: Vec<i64> = decode_ber(alloc, &[48, 128, 2, 1, 10, 2, 1, 11, 0, 0])?;
     assert_eq!(rt; list.as_slice(), [10, 11].as_slice());
     let broken: ASN1Result<Vec<i64>> = decode_ber(alloc, &[48, 5, 2, 1, 10, 2, 0]);
-    assert_eq!(rt;
-        broken.err().map(|error| error.kind()),
-        Some(ASN1ErrorKind::Invalid)
-    );
+    refuses(&rt, broken, ASN1ErrorKind::Invalid);
     let cut: ASN1Result<Vec<i64>> = decode_ber(alloc, &[48, 128, 2, 1, 10]);
-    assert_eq!(rt;
-        cut.err().map(|error| error.kind()),
-        Some(ASN1ErrorKind::Eof)
-    );
+    refuses(&rt, cut, ASN1ErrorKind::Eof);
     let unread: ASN1Result<(i64, i64)> = decode_ber(
         alloc,
         &[48, 128, 2, 1, 1, 2, 1, 2, 2, 1, 3, 0, 0],
     );
-    assert_eq!(rt;
-        unread.err().map(|error| error.kind()),
-        Some(ASN1ErrorKind::Invalid)
-    );
+    refuses(&rt, unread, ASN1ErrorKind::Invalid);
     Ok(())
 }
 
@@ -139,26 +123,27 @@ fn raw_elements(rt: HostRuntime) -> Result<(), Fail> {
 fn borrowed(rt: HostRuntime) -> Result<(), Fail> {
     let alloc = rt.alloc();
     let ten: &i64 = &10;
-    assert_eq!(rt; encode_der(alloc, &ten)?.as_slice(), [2, 1, 10].as_slice());
+    gives(&rt, encode_der(alloc, &ten), &[2, 1, 10])?;
     let flags: &[bool] = &[true, false];
-    let list = encode_der(alloc, &flags)?;
-    assert_eq!(rt; list.as_slice(), [48, 6, 1, 1, 255, 1, 1, 0].as_slice());
+    gives(&rt, encode_der(alloc, &flags), &[48, 6, 1, 1, 255, 1, 1, 0])?;
     let numbers: &[i64] = &[10, -129];
-    let list = encode_der(alloc, &numbers)?;
-    assert_eq!(rt;
-        list.as_slice(),
-        [48, 7, 2, 1, 10, 2, 2, 255, 127].as_slice()
-    );
+    gives(
+        &rt,
+        encode_der(alloc, &numbers),
+        &[48, 7, 2, 1, 10, 2, 2, 255, 127],
+    )?;
     let octets: &[u8] = b"Hello!".as_slice();
-    assert_eq!(rt;
-        encode_der(alloc, &octets)?.as_slice(),
-        [4, 6, 72, 101, 108, 108, 111, 33].as_slice()
-    );
+    gives(
+        &rt,
+        encode_der(alloc, &octets),
+        &[4, 6, 72, 101, 108, 108, 111, 33],
+    )?;
     let text = "Hello!";
-    assert_eq!(rt;
-        encode_der(alloc, &text)?.as_slice(),
-        [12, 6, 72, 101, 108, 108, 111, 33].as_slice()
-    );
+    gives(
+        &rt,
+        encode_der(alloc, &text),
+        &[12, 6, 72, 101, 108, 108, 111, 33],
+    )?;
     Ok(())
 }
 

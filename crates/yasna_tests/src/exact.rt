@@ -1,6 +1,7 @@
 //! Types that keep an element of any type as it came: DER reads them from one form alone.
 ghost use Rattle.std.specs.Prelude.{◌≡◌, ℕ, IfOk};
 
+use crate::checks::{gives, refuses};
 use std::alloc::Global;
 use std::test::Fail;
 use yasna::models::TaggedDerValue;
@@ -21,12 +22,15 @@ fn written_again<T: DERExact>(alloc: Global, bytes: &[u8]) -> ASN1Result<Vec<u8>
 fn elements_come_back(rt: HostRuntime) -> Result<(), Fail> {
     let alloc = rt.alloc();
     let elements = [48, 9, 2, 1, 7, 160, 4, 12, 2, 195, 169];
-    let again = written_again::<Vec<TaggedDerValue>>(alloc, &elements)?;
-    assert_eq!(rt; again.as_slice(), elements.as_slice());
-    let long = written_again::<Vec<TaggedDerValue>>(alloc, &[48, 4, 2, 129, 1, 7]);
-    assert_eq!(rt;
-        long.err().map(|error| error.kind()),
-        Some(ASN1ErrorKind::Invalid)
+    gives(
+        &rt,
+        written_again::<Vec<TaggedDerValue>>(alloc, &elements),
+        &elements,
+    )?;
+    refuses(
+        &rt,
+        written_again::<Vec<TaggedDerValue>>(alloc, &[48, 4, 2, 129, 1, 7]),
+        ASN1ErrorKind::Invalid,
     );
     Ok(())
 }
@@ -35,14 +39,8 @@ fn elements_come_back(rt: HostRuntime) -> Result<(), Fail> {
 fn elements_are_written_as_they_came(rt: HostRuntime) -> Result<(), Fail> {
     let alloc = rt.alloc();
     let element: TaggedDerValue = decode_der(alloc, &[160, 3, 2, 1, 7])?;
-    assert_eq!(rt;
-        encode_der(alloc, &element)?.as_slice(),
-        [160, 3, 2, 1, 7].as_slice()
-    );
+    gives(&rt, encode_der(alloc, &element), &[160, 3, 2, 1, 7])?;
     let number: TaggedDerValue = decode_der(alloc, &[2, 1, 7])?;
-    assert_eq!(rt;
-        encode_cer(alloc, &number)?.as_slice(),
-        [2, 1, 7].as_slice()
-    );
+    gives(&rt, encode_cer(alloc, &number), &[2, 1, 7])?;
     Ok(())
 }

@@ -1,5 +1,7 @@
 //! The pieces of README.md and docs/GUIDE.md, each once on bytes.
 
+use crate::checks::{gives, refuses};
+use std::alloc::Global;
 use std::process::Abort;
 use std::test::Fail;
 use yasna::{ASN1Error, ASN1ErrorKind, ASN1Result, construct_der, parse_ber, parse_der};
@@ -7,7 +9,7 @@ use yasna_examples::{read_directory_string, read_ldap_string, reencoded, write_d
 use yasna_guide::alternatives::{Id, read_id};
 use yasna_guide::any::{read_algorithm, write_algorithm};
 use yasna_guide::choice::{Name, read_name, write_name};
-use yasna_guide::defaults::{BasicConstraints, read_constraints, write_constraints};
+use yasna_guide::defaults::{read_constraints, write_constraints};
 use yasna_guide::errors::reason;
 use yasna_guide::first::{decode_report, encode_report};
 use yasna_guide::implicit::{read_accuracy, write_accuracy};
@@ -27,10 +29,6 @@ use yasna_guide::tagged::{read_encrypted, write_encrypted};
 use yasna_guide::times::{Time, read_time, time_of_text, write_time};
 use yasna_guide::whole::{read_table, write_flag};
 
-fn kind_of<T: Drop>(answer: ASN1Result<T>) -> Option<ASN1ErrorKind> {
-    answer.err().map(|error| error.kind())
-}
-
 #[test]
 fn reports(rt: HostRuntime) -> Result<(), Fail> {
     let alloc = rt.alloc();
@@ -49,106 +47,117 @@ fn reports(rt: HostRuntime) -> Result<(), Fail> {
 fn points(rt: HostRuntime) -> Result<(), Fail> {
     let alloc = rt.alloc();
     let form = [48, 7, 2, 1, 10, 2, 2, 255, 127];
-    let bytes = point_to_der(alloc, Point { x: 10, y: -129 })?;
-    assert_eq!(rt; bytes.as_slice(), form.as_slice());
+    gives(&rt, point_to_der(alloc, Point { x: 10, y: -129 }), &form)?;
     let point = point_from_der(alloc, &form)?;
     assert_eq!(rt; (point.x, point.y), (10, -129));
     let indefinite = [48, 128, 2, 1, 10, 2, 2, 255, 127, 0, 0];
     let point = point_from_ber(alloc, &indefinite)?;
     assert_eq!(rt; (point.x, point.y), (10, -129));
-    let refused = point_from_der(alloc, &indefinite);
-    assert_eq!(rt; kind_of(refused), Some(ASN1ErrorKind::Invalid));
+    refuses(
+        &rt,
+        point_from_der(alloc, &indefinite),
+        ASN1ErrorKind::Invalid,
+    );
     Ok(())
 }
 
 #[test]
 fn values_as_a_whole(rt: HostRuntime) -> Result<(), Fail> {
-    let alloc = rt.alloc();
-    let table = read_table(alloc, &[48, 128, 48, 6, 12, 1, 97, 1, 1, 1, 0, 0])?;
+    let form = [48, 128, 48, 6, 12, 1, 97, 1, 1, 1, 0, 0];
+    let table = read_table(rt.alloc(), &form)?;
     let [(name, flag)] = table.as_slice() else {
         assert!(rt; false, "one row");
         return Ok(());
     };
     assert_eq!(rt; name.as_str(), "a");
     assert!(rt; *flag);
-    let bytes = write_flag(alloc, "a", true)?;
-    assert_eq!(rt; bytes.as_slice(), [48, 6, 12, 1, 97, 1, 1, 255].as_slice());
-    let again = reencoded::<(String, bool)>(alloc, &bytes)?;
-    assert_eq!(rt; again.as_slice(), bytes.as_slice());
-    let other = reencoded::<(String, bool)>(alloc, &[48, 6, 12, 1, 97, 1, 1, 1]);
-    assert_eq!(rt; kind_of(other), Some(ASN1ErrorKind::Invalid));
     Ok(())
 }
 
 #[test]
-fn options(rt: HostRuntime) -> Result<(), Fail> {
+fn values_come_back(rt: HostRuntime) -> Result<(), Fail> {
     let alloc = rt.alloc();
-    let form = [48, 6, 12, 1, 97, 2, 1, 10];
-    let person = parse_der(alloc, &form, |reader| read_person(reader))?;
-    assert_eq!(rt; person.age, Some(10));
-    let written = construct_der(alloc, |writer| write_person(&person, writer))?;
-    assert_eq!(rt; written.as_slice(), form.as_slice());
-    let ageless = [48, 3, 12, 1, 97];
-    let person = parse_der(alloc, &ageless, |reader| read_person(reader))?;
-    assert_eq!(rt; person.age, None);
-    let written = construct_der(alloc, |writer| write_person(&person, writer))?;
-    assert_eq!(rt; written.as_slice(), ageless.as_slice());
-    // an age that is there and broken isn't taken for none
-    let broken = parse_der(
-        alloc,
-        &[48, 6, 12, 1, 97, 2, 1],
-        |reader| read_person(reader),
-    );
-    assert_eq!(rt; kind_of(broken), Some(ASN1ErrorKind::Eof));
+    let form = [48, 6, 12, 1, 97, 1, 1, 255];
+    gives(&rt, write_flag(alloc, "a", true), &form)?;
+    gives(&rt, reencoded::<(String, bool)>(alloc, &form), &form)?;
+    let other = reencoded::<(String, bool)>(alloc, &[48, 6, 12, 1, 97, 1, 1, 1]);
+    refuses(&rt, other, ASN1ErrorKind::Invalid);
     Ok(())
+}
+
+// A person is read from its form, and written in it.
+fn has_age(rt: &impl Abort, alloc: Global, form: &[u8], age: Option<u16>) -> Result<(), Fail> {
+    let person = parse_der(alloc, form, |reader| read_person(reader))?;
+    assert_eq!(rt; person.age, age);
+    let written = construct_der(alloc, |writer| write_person(&person, writer));
+    gives(rt, written, form)
+}
+
+#[test]
+fn options(rt: HostRuntime) -> Result<(), Fail> {
+    has_age(&rt, rt.alloc(), &[48, 6, 12, 1, 97, 2, 1, 10], Some(10))?;
+    has_age(&rt, rt.alloc(), &[48, 3, 12, 1, 97], None)?;
+    // an age that is there and broken isn't taken for none
+    let broken = [48, 6, 12, 1, 97, 2, 1];
+    let refused = parse_der(rt.alloc(), &broken, |reader| read_person(reader));
+    refuses(&rt, refused, ASN1ErrorKind::Eof);
+    Ok(())
+}
+
+// Constraints are read from their form, and written in it.
+fn has_constraints(
+    rt: &impl Abort,
+    alloc: Global,
+    form: &[u8],
+    is_authority: bool,
+    path_length: Option<u64>,
+) -> Result<(), Fail> {
+    let read = parse_der(alloc, form, |reader| read_constraints(reader))?;
+    assert_eq!(rt; read.is_authority, is_authority);
+    assert_eq!(rt; read.path_length, path_length);
+    let written = construct_der(alloc, |writer| write_constraints(read, writer));
+    gives(rt, written, form)
 }
 
 #[test]
 fn defaults(rt: HostRuntime) -> Result<(), Fail> {
     let alloc = rt.alloc();
-    for (form, is_authority, path_length) in [
-        ([48, 0].as_slice(), false, None),
-        ([48, 6, 1, 1, 255, 2, 1, 3].as_slice(), true, Some(3)),
-    ] {
-        let read = parse_der(alloc, form, |reader| read_constraints(reader))?;
-        assert_eq!(rt; read.is_authority, is_authority);
-        assert_eq!(rt; read.path_length, path_length);
-        let written = construct_der(alloc, |writer| {
-            write_constraints(
-                BasicConstraints {
-                    is_authority,
-                    path_length,
-                },
-                writer,
-            )
-        })?;
-        assert_eq!(rt; written.as_slice(), form);
-    }
+    has_constraints(&rt, alloc, &[48, 0], false, None)?;
+    has_constraints(&rt, alloc, &[48, 6, 1, 1, 255, 2, 1, 3], true, Some(3))
+}
+
+#[test]
+fn defaults_that_stand_there(rt: HostRuntime) -> Result<(), Fail> {
+    let alloc = rt.alloc();
     let said = [48, 3, 1, 1, 0];
     let read = parse_ber(alloc, &said, |reader| read_constraints(reader))?;
     assert!(rt; !read.is_authority);
     let refused = parse_der(alloc, &said, |reader| read_constraints(reader));
-    assert_eq!(rt; kind_of(refused), Some(ASN1ErrorKind::Invalid));
+    refuses(&rt, refused, ASN1ErrorKind::Invalid);
     Ok(())
+}
+
+// A name is read from its form, and written in it.
+fn is_name(rt: &impl Abort, alloc: Global, form: &[u8]) -> Result<(), Fail> {
+    let name = parse_der(alloc, form, |reader| read_name(reader))?;
+    let written = construct_der(alloc, |writer| write_name(&name, writer));
+    gives(rt, written, form)
 }
 
 #[test]
 fn choices(rt: HostRuntime) -> Result<(), Fail> {
-    let alloc = rt.alloc();
-    for form in [
-        [129, 3, 97, 64, 98].as_slice(),
-        [130, 3, 97, 46, 98].as_slice(),
-        [135, 4, 127, 0, 0, 1].as_slice(),
-    ] {
-        let name = parse_der(alloc, form, |reader| read_name(reader))?;
-        let written = construct_der(alloc, |writer| write_name(&name, writer))?;
-        assert_eq!(rt; written.as_slice(), form);
-    }
-    let other = parse_der(alloc, &[136, 1, 42], |reader| read_name(reader));
-    assert_eq!(rt; kind_of(other), Some(ASN1ErrorKind::Invalid));
-    let name = Name::Mail("é".to_string(alloc)?);
-    let refused = construct_der(alloc, |writer| write_name(&name, writer));
-    assert_eq!(rt; kind_of(refused), Some(ASN1ErrorKind::Invalid));
+    is_name(&rt, rt.alloc(), &[129, 3, 97, 64, 98])?;
+    is_name(&rt, rt.alloc(), &[130, 3, 97, 46, 98])?;
+    is_name(&rt, rt.alloc(), &[135, 4, 127, 0, 0, 1])
+}
+
+#[test]
+fn other_choices(rt: HostRuntime) -> Result<(), Fail> {
+    let other = parse_der(rt.alloc(), &[136, 1, 42], |reader| read_name(reader));
+    refuses(&rt, other, ASN1ErrorKind::Invalid);
+    let name = Name::Mail("é".to_string(rt.alloc())?);
+    let written = construct_der(rt.alloc(), |writer| write_name(&name, writer));
+    refuses(&rt, written, ASN1ErrorKind::Invalid);
     Ok(())
 }
 
@@ -162,8 +171,11 @@ fn explicit_tags(rt: HostRuntime) -> Result<(), Fail> {
         let data = parse_der(alloc, form, |reader| read_encrypted(reader))?;
         assert_eq!(rt; data.etype, 18);
         assert_eq!(rt; data.cipher.as_slice(), [7].as_slice());
-        let written = construct_der(alloc, |writer| write_encrypted(&data, writer))?;
-        assert_eq!(rt; written.as_slice(), form);
+        gives(
+            &rt,
+            construct_der(alloc, |writer| write_encrypted(&data, writer)),
+            form,
+        )?;
     }
     Ok(())
 }
@@ -182,8 +194,11 @@ fn implicit_tags(rt: HostRuntime) -> Result<(), Fail> {
         let accuracy = parse_der(alloc, form, |reader| read_accuracy(reader))?;
         assert_eq!(rt; accuracy.seconds, seconds);
         assert_eq!(rt; accuracy.micros, micros);
-        let written = construct_der(alloc, |writer| write_accuracy(accuracy, writer))?;
-        assert_eq!(rt; written.as_slice(), form);
+        gives(
+            &rt,
+            construct_der(alloc, |writer| write_accuracy(accuracy, writer)),
+            form,
+        )?;
     }
     Ok(())
 }
@@ -194,8 +209,11 @@ fn lists(rt: HostRuntime) -> Result<(), Fail> {
     let form = [48, 7, 12, 1, 97, 12, 2, 98, 99];
     let names = parse_der(alloc, &form, |reader| read_names(reader))?;
     assert_eq!(rt; names.len(), 2);
-    let written = construct_der(alloc, |writer| write_names(&names, writer))?;
-    assert_eq!(rt; written.as_slice(), form.as_slice());
+    gives(
+        &rt,
+        construct_der(alloc, |writer| write_names(&names, writer)),
+        &form,
+    )?;
     let numbers = [48, 9, 2, 1, 255, 2, 1, 7, 2, 1, 3];
     let found = parse_der(alloc, &numbers, |reader| highest(reader))?;
     assert_eq!(rt; found, Some(7));
@@ -205,38 +223,37 @@ fn lists(rt: HostRuntime) -> Result<(), Fail> {
 #[test]
 fn sets(rt: HostRuntime) -> Result<(), Fail> {
     let alloc = rt.alloc();
-    let setting = parse_ber(
-        alloc,
-        &[49, 9, 12, 1, 97, 1, 1, 0, 2, 1, 10],
-        |reader| read_setting(reader),
-    )?;
+    let form = [49, 9, 12, 1, 97, 1, 1, 0, 2, 1, 10];
+    let setting = parse_ber(alloc, &form, |reader| read_setting(reader))?;
     assert_eq!(rt; setting.number, 10);
     assert!(rt; !setting.enabled);
     let note = setting.note.as_ref().map(|note| note.as_str());
     assert_eq!(rt; note, Some("a"));
+    let written = construct_der(alloc, |writer| write_setting(&setting, writer));
+    gives(&rt, written, &[49, 9, 1, 1, 0, 2, 1, 10, 12, 1, 97])
+}
+
+#[test]
+fn defaults_in_sets(rt: HostRuntime) -> Result<(), Fail> {
+    let alloc = rt.alloc();
     let plain = parse_der(alloc, &[49, 3, 2, 1, 10], |reader| read_setting(reader))?;
     assert!(rt; plain.enabled);
     assert!(rt; plain.note.is_none());
-    let written = construct_der(alloc, |writer| write_setting(&setting, writer))?;
-    let in_order = [49, 9, 1, 1, 0, 2, 1, 10, 12, 1, 97];
-    assert_eq!(rt; written.as_slice(), in_order.as_slice());
-    let said = parse_der(
-        alloc,
-        &[49, 6, 1, 1, 255, 2, 1, 10],
-        |reader| read_setting(reader),
-    );
-    assert_eq!(rt; kind_of(said), Some(ASN1ErrorKind::Invalid));
-    let ascending = [49, 7, 4, 1, 98, 4, 2, 97, 97];
-    let values = parse_ber(
-        alloc,
-        &[49, 7, 4, 2, 97, 97, 4, 1, 98],
-        |reader| read_values(reader),
-    )?;
-    let written = construct_der(alloc, |writer| write_values(&values, writer))?;
-    assert_eq!(rt; written.as_slice(), ascending.as_slice());
-    let kept = construct_der(alloc, |writer| write_values_as_they_stand(&values, writer))?;
-    assert_eq!(rt; kept.as_slice(), [49, 7, 4, 2, 97, 97, 4, 1, 98].as_slice());
+    let said = [49, 6, 1, 1, 255, 2, 1, 10];
+    let refused = parse_der(alloc, &said, |reader| read_setting(reader));
+    refuses(&rt, refused, ASN1ErrorKind::Invalid);
     Ok(())
+}
+
+#[test]
+fn sets_of_values(rt: HostRuntime) -> Result<(), Fail> {
+    let alloc = rt.alloc();
+    let falling = [49, 7, 4, 2, 97, 97, 4, 1, 98];
+    let values = parse_ber(alloc, &falling, |reader| read_values(reader))?;
+    let written = construct_der(alloc, |writer| write_values(&values, writer));
+    gives(&rt, written, &[49, 7, 4, 1, 98, 4, 2, 97, 97])?;
+    let kept = construct_der(alloc, |writer| write_values_as_they_stand(&values, writer));
+    gives(&rt, kept, &falling)
 }
 
 #[test]
@@ -247,8 +264,11 @@ fn raw_elements(rt: HostRuntime) -> Result<(), Fail> {
         [48, 13, 6, 9, 42, 134, 72, 134, 247, 13, 1, 1, 1, 5, 0].as_slice(),
     ] {
         let algorithm = parse_der(alloc, form, |reader| read_algorithm(reader))?;
-        let written = construct_der(alloc, |writer| write_algorithm(&algorithm, writer))?;
-        assert_eq!(rt; written.as_slice(), form);
+        gives(
+            &rt,
+            construct_der(alloc, |writer| write_algorithm(&algorithm, writer)),
+            form,
+        )?;
     }
     let signed = [48, 9, 48, 3, 2, 1, 10, 3, 2, 0, 7];
     let signed = parse_der(alloc, &signed, read_signed)?;
@@ -263,8 +283,11 @@ fn strings(rt: HostRuntime) -> Result<(), Fail> {
     let alloc = rt.alloc();
     for form in [[19, 2, 97, 98].as_slice(), [12, 2, 195, 169].as_slice()] {
         let text = parse_der(alloc, form, |reader| read_directory_string(reader))?;
-        let written = construct_der(alloc, |writer| write_directory_string(&text, writer))?;
-        assert_eq!(rt; written.as_slice(), form);
+        gives(
+            &rt,
+            construct_der(alloc, |writer| write_directory_string(&text, writer)),
+            form,
+        )?;
     }
     let text = parse_ber(alloc, &[4, 2, 195, 169], |reader| read_ldap_string(reader))?;
     assert_eq!(rt; text.as_str(), "é");
@@ -290,23 +313,32 @@ fn times(rt: HostRuntime) -> Result<(), Fail> {
 }
 
 #[test]
-fn numbers(rt: HostRuntime) -> Result<(), Fail> {
+fn statuses(rt: HostRuntime) -> Result<(), Fail> {
     let alloc = rt.alloc();
     let malformed = parse_der(alloc, &[10, 1, 1], |reader| read_status(reader))?;
     assert!(rt; matches!(malformed, Status::Malformed));
-    let written = construct_der(alloc, |writer| write_status(malformed, writer))?;
-    assert_eq!(rt; written.as_slice(), [10, 1, 1].as_slice());
+    let written = construct_der(alloc, |writer| write_status(malformed, writer));
+    gives(&rt, written, &[10, 1, 1])?;
     let unknown = parse_der(alloc, &[10, 1, 2], |reader| read_status(reader));
-    assert_eq!(rt; kind_of(unknown), Some(ASN1ErrorKind::Invalid));
+    refuses(&rt, unknown, ASN1ErrorKind::Invalid);
+    Ok(())
+}
+
+#[test]
+fn numbers(rt: HostRuntime) -> Result<(), Fail> {
+    let alloc = rt.alloc();
     let form = [48, 9, 2, 2, 0, 255, 2, 3, 1, 0, 1];
     let key = parse_der(alloc, &form, |reader| read_key(reader))?;
     assert_eq!(rt; key.modulus.as_slice(), [0, 255].as_slice());
     assert_eq!(rt; key.exponent, 65537);
-    let written = construct_der(alloc, |writer| write_key(&key, writer))?;
-    assert_eq!(rt; written.as_slice(), form.as_slice());
-    let signature = construct_der(alloc, |writer| write_signature(&[7, 9], writer))?;
-    assert_eq!(rt; signature.as_slice(), [3, 3, 0, 7, 9].as_slice());
-    Ok(())
+    let written = construct_der(alloc, |writer| write_key(&key, writer));
+    gives(&rt, written, &form)
+}
+
+#[test]
+fn signatures(rt: HostRuntime) -> Result<(), Fail> {
+    let written = construct_der(rt.alloc(), |writer| write_signature(&[7, 9], writer));
+    gives(&rt, written, &[3, 3, 0, 7, 9])
 }
 
 #[test]
@@ -314,46 +346,66 @@ fn errors(rt: HostRuntime) -> Result<(), Fail> {
     let alloc = rt.alloc();
     let cut = ASN1Error::new(ASN1ErrorKind::Eof);
     assert_eq!(rt; reason(cut), "an element is cut off or missing");
+    assert_eq!(rt; number_or_zero(alloc, &[48, 3, 2, 1, 7])?, 7);
+    assert_eq!(rt; number_or_zero(alloc, &[48, 0])?, 0);
+    let kept = number_or_zero(alloc, &[48, 4, 2, 2, 0, 7]);
+    refuses(&rt, kept, ASN1ErrorKind::Invalid);
+    Ok(())
+}
+
+#[test]
+fn alternatives(rt: HostRuntime) -> Result<(), Fail> {
+    let alloc = rt.alloc();
     let number = parse_der(alloc, &[2, 1, 7], |reader| read_id(reader))?;
     assert!(rt; matches!(number, Id::Number(7)));
     let name = parse_der(alloc, &[12, 1, 97], |reader| read_id(reader))?;
     assert!(rt; matches!(name, Id::Name(_)));
     let broken = parse_der(alloc, &[2, 2, 0, 7], |reader| read_id(reader));
-    assert_eq!(rt; kind_of(broken), Some(ASN1ErrorKind::Invalid));
-    assert_eq!(rt; number_or_zero(alloc, &[48, 3, 2, 1, 7])?, 7);
-    assert_eq!(rt; number_or_zero(alloc, &[48, 0])?, 0);
-    let kept = number_or_zero(alloc, &[48, 4, 2, 2, 0, 7]);
-    assert_eq!(rt; kind_of(kept), Some(ASN1ErrorKind::Invalid));
-    let store = [5, 6];
-    let written = entries_to_der(alloc, &store, &[1]);
+    refuses(&rt, broken, ASN1ErrorKind::Invalid);
+    Ok(())
+}
+
+const STORE: [i64; 2] = [5, 6];
+
+#[test]
+fn writing_closures_have_errors_of_their_own(rt: HostRuntime) {
+    let written = entries_to_der(rt.alloc(), &STORE, &[1]);
     assert_eq!(rt;
         written.ok().as_ref().map(|bytes| bytes.as_slice()),
         Some([48, 3, 2, 1, 6].as_slice())
     );
-    let refused = entries_to_der(alloc, &store, &[2]);
+    let refused = entries_to_der(rt.alloc(), &STORE, &[2]);
     assert!(rt; matches!(refused, Err(StoreError::NoSuchEntry)));
-    assert!(rt; matches!(entry_of_der(alloc, &store, &[2, 1, 1]), Ok(6)));
-    let refused = entry_of_der(alloc, &store, &[2, 1, 2]);
+}
+
+#[test]
+fn reading_closures_have_errors_of_their_own(rt: HostRuntime) {
+    let alloc = rt.alloc();
+    assert!(rt; matches!(entry_of_der(alloc, &STORE, &[2, 1, 1]), Ok(6)));
+    let refused = entry_of_der(alloc, &STORE, &[2, 1, 2]);
     assert!(rt; matches!(refused, Err(StoreError::NoSuchEntry)));
-    let refused = entry_of_der(alloc, &store, &[2, 1, 1, 0]);
+    let refused = entry_of_der(alloc, &STORE, &[2, 1, 1, 0]);
     assert!(rt; matches!(refused, Err(StoreError::Encoding(_))));
+}
+
+// An extension that isn't critical may say so in BER.
+const SAYS_FALSE: [u8; 14] = [48, 12, 6, 3, 85, 29, 19, 1, 1, 0, 4, 2, 48, 0];
+
+#[test]
+fn extensions(rt: HostRuntime) -> Result<(), Fail> {
+    let form = [48, 12, 6, 3, 85, 29, 19, 1, 1, 255, 4, 2, 48, 0];
+    gives(&rt, rewritten_extension(rt.alloc(), &form), &form)?;
+    let extension = extension_from_ber(rt.alloc(), &form)?;
+    assert!(rt; extension.critical);
+    assert_eq!(rt; extension.extn_value.as_slice(), [48, 0].as_slice());
     Ok(())
 }
 
 #[test]
-fn extensions(rt: HostRuntime) -> Result<(), Fail> {
-    let alloc = rt.alloc();
-    let form = [48, 12, 6, 3, 85, 29, 19, 1, 1, 255, 4, 2, 48, 0];
-    assert_eq!(rt;
-        rewritten_extension(alloc, &form)?.as_slice(),
-        form.as_slice()
-    );
-    let extension = extension_from_ber(alloc, &form)?;
-    assert!(rt; extension.critical);
-    assert_eq!(rt; extension.extn_value.as_slice(), [48, 0].as_slice());
-    // FALSE is left out in DER, and may stand there in BER
-    let written = [48, 12, 6, 3, 85, 29, 19, 1, 1, 0, 4, 2, 48, 0];
-    assert!(rt; !extension_from_ber(alloc, &written)?.critical);
-    assert!(rt; rewritten_extension(alloc, &written).is_err());
+fn extensions_leave_false_out(rt: HostRuntime) -> Result<(), Fail> {
+    let extension = extension_from_ber(rt.alloc(), &SAYS_FALSE)?;
+    assert!(rt; !extension.critical);
+    let rewritten = rewritten_extension(rt.alloc(), &SAYS_FALSE);
+    refuses(&rt, rewritten, ASN1ErrorKind::Invalid);
     Ok(())
 }

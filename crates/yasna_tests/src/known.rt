@@ -1,5 +1,6 @@
 //! Calls whose closures are known, and a list of a CHOICE.
 
+use crate::checks::{gives, refuses};
 use std::test::Fail;
 use yasna::{ASN1ErrorKind, ASN1Result, construct_der};
 use yasna_examples::{
@@ -12,10 +13,10 @@ fn integers(rt: HostRuntime) -> Result<(), Fail> {
     let bytes = constructed_integer(alloc, -129)?;
     assert_eq!(rt; bytes.as_slice(), [2, 2, 255, 127].as_slice());
     assert_eq!(rt; parsed_integer(alloc, &bytes)?, -129);
-    let refused = parsed_integer(alloc, &[10, 1, 13]);
-    assert_eq!(rt;
-        refused.err().map(|error| error.kind()),
-        Some(ASN1ErrorKind::Invalid)
+    refuses(
+        &rt,
+        parsed_integer(alloc, &[10, 1, 13]),
+        ASN1ErrorKind::Invalid,
     );
     Ok(())
 }
@@ -25,10 +26,10 @@ fn pairs(rt: HostRuntime) -> Result<(), Fail> {
     let alloc = rt.alloc();
     let pair = parsed_pair(alloc, &[48, 6, 2, 1, 10, 1, 1, 255])?;
     assert_eq!(rt; pair, (10, true));
-    let refused = parsed_pair(alloc, &[48, 6, 2, 1, 10, 1, 1, 1]);
-    assert_eq!(rt;
-        refused.err().map(|error| error.kind()),
-        Some(ASN1ErrorKind::Invalid)
+    refuses(
+        &rt,
+        parsed_pair(alloc, &[48, 6, 2, 1, 10, 1, 1, 1]),
+        ASN1ErrorKind::Invalid,
     );
     Ok(())
 }
@@ -36,14 +37,17 @@ fn pairs(rt: HostRuntime) -> Result<(), Fail> {
 #[test]
 fn numbers(rt: HostRuntime) -> Result<(), Fail> {
     let alloc = rt.alloc();
-    let numbers = parsed_numbers(alloc, &[48, 7, 2, 1, 10, 2, 2, 255, 127])?;
-    assert_eq!(rt; numbers.as_slice(), [10, -129].as_slice());
+    gives(
+        &rt,
+        parsed_numbers(alloc, &[48, 7, 2, 1, 10, 2, 2, 255, 127]),
+        &[10, -129],
+    )?;
     let none = parsed_numbers(alloc, &[48, 0])?;
     assert!(rt; none.is_empty());
-    let refused = parsed_numbers(alloc, &[48, 5, 2, 1, 10, 5, 0]);
-    assert_eq!(rt;
-        refused.err().map(|error| error.kind()),
-        Some(ASN1ErrorKind::Extra)
+    refuses(
+        &rt,
+        parsed_numbers(alloc, &[48, 5, 2, 1, 10, 5, 0]),
+        ASN1ErrorKind::Extra,
     );
     Ok(())
 }
@@ -68,12 +72,15 @@ fn many_numbers(rt: HostRuntime) -> Result<(), Fail> {
 #[test]
 fn items(rt: HostRuntime) -> Result<(), Fail> {
     let alloc = rt.alloc();
-    let items = parsed_items(alloc, &[48, 5, 2, 1, 10, 5, 0])?;
-    assert_eq!(rt; items.as_slice(), [Some(10), None].as_slice());
-    let refused = parsed_items(alloc, &[48, 3, 1, 1, 255]);
-    assert_eq!(rt;
-        refused.err().map(|error| error.kind()),
-        Some(ASN1ErrorKind::Extra)
+    gives(
+        &rt,
+        parsed_items(alloc, &[48, 5, 2, 1, 10, 5, 0]),
+        &[Some(10), None],
+    )?;
+    refuses(
+        &rt,
+        parsed_items(alloc, &[48, 3, 1, 1, 255]),
+        ASN1ErrorKind::Extra,
     );
     Ok(())
 }
@@ -85,15 +92,13 @@ fn third_of_three(rt: HostRuntime) -> Result<(), Fail> {
     assert_eq!(rt; third, 12);
     // the first has nine bytes
     let long = [48, 17, 2, 9, 1, 0, 0, 0, 0, 0, 0, 0, 0, 2, 1, 11, 2, 1, 12];
-    assert_eq!(rt;
-        third_number(alloc, &long).err().map(|error| error.kind()),
-        Some(ASN1ErrorKind::IntegerOverflow)
+    refuses(
+        &rt,
+        third_number(alloc, &long),
+        ASN1ErrorKind::IntegerOverflow,
     );
     // the second is a BOOLEAN, and so is what the third is read from
     let other = [48, 9, 2, 1, 10, 1, 1, 255, 2, 1, 12];
-    assert_eq!(rt;
-        third_number(alloc, &other).err().map(|error| error.kind()),
-        Some(ASN1ErrorKind::Invalid)
-    );
+    refuses(&rt, third_number(alloc, &other), ASN1ErrorKind::Invalid);
     Ok(())
 }

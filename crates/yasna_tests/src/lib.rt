@@ -7,6 +7,7 @@
 //! | `algorithm`, `public_key` | keys and their algorithms, as types of one's own and by closures |
 //! | `buffer` | the bytes that a read took |
 //! | `at_end` | where contents end, and errors of reading closures |
+//! | `checks` | none: it holds what many of them check |
 //! | `composed` | lists, tuples, raw elements and borrowed values |
 //! | `exact` | types that keep an element of any type as it came |
 //! | `guide` | the pieces of code of README.md and docs/GUIDE.md |
@@ -27,6 +28,8 @@ mod algorithm;
 mod at_end;
 #[cfg(test)]
 mod buffer;
+#[cfg(test)]
+mod checks;
 #[cfg(test)]
 mod composed;
 #[cfg(test)]

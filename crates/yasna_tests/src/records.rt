@@ -1,5 +1,6 @@
 //! Types of three, five and seven parts, each from its form and from another encoding.
 
+use crate::checks::{gives, refuses};
 use std::alloc::Global;
 use std::process::Abort;
 use std::test::Fail;
@@ -14,15 +15,10 @@ fn is_form_of<T: DERCanonical>(
     other: &[u8],
 ) -> Result<T, Fail> {
     let value: T = decode_der(alloc, form)?;
-    let written = normalized::<T>(alloc, form)?;
-    assert_eq!(rt; written.as_slice(), form);
-    let written = normalized::<T>(alloc, other)?;
-    assert_eq!(rt; written.as_slice(), form);
+    gives(rt, normalized::<T>(alloc, form), form)?;
+    gives(rt, normalized::<T>(alloc, other), form)?;
     let refused: ASN1Result<T> = decode_der(alloc, other);
-    assert_eq!(rt;
-        refused.err().map(|error| error.kind()),
-        Some(ASN1ErrorKind::Invalid)
-    );
+    refuses(rt, refused, ASN1ErrorKind::Invalid);
     Ok(value)
 }
 
@@ -34,15 +30,9 @@ fn has_all_parts<T: DERCanonical>(
     alloc: Global,
 ) -> Result<(), Fail> {
     let refused: ASN1Result<T> = decode_der(alloc, short);
-    assert_eq!(rt;
-        refused.err().map(|error| error.kind()),
-        Some(ASN1ErrorKind::Eof)
-    );
+    refuses(rt, refused, ASN1ErrorKind::Eof);
     let refused: ASN1Result<T> = decode_der(alloc, long);
-    assert_eq!(rt;
-        refused.err().map(|error| error.kind()),
-        Some(ASN1ErrorKind::Extra)
-    );
+    refuses(rt, refused, ASN1ErrorKind::Extra);
     Ok(())
 }
 

@@ -1,5 +1,6 @@
 //! The parameters of scrypt, from real bytes, with the last part and without.
 
+use crate::checks::{gives, refuses};
 use std::test::Fail;
 use yasna::{ASN1ErrorKind, ASN1Result, decode_ber, decode_der};
 use yasna_examples::{ScryptParameters, normalized};
@@ -23,8 +24,11 @@ fn with_length(rt: HostRuntime) -> Result<(), Fail> {
     assert_eq!(rt; read.block_size, 8);
     assert_eq!(rt; read.parallelization, 1);
     assert_eq!(rt; read.key_length, Some(32));
-    let written = normalized::<ScryptParameters>(alloc, &WITH_LENGTH)?;
-    assert_eq!(rt; written.as_slice(), WITH_LENGTH.as_slice());
+    gives(
+        &rt,
+        normalized::<ScryptParameters>(alloc, &WITH_LENGTH),
+        &WITH_LENGTH,
+    )?;
     Ok(())
 }
 
@@ -34,14 +38,20 @@ fn without_length(rt: HostRuntime) -> Result<(), Fail> {
     let read: ScryptParameters = decode_der(alloc, &WITHOUT_LENGTH)?;
     assert_eq!(rt; read.parallelization, 1);
     assert_eq!(rt; read.key_length, None);
-    let written = normalized::<ScryptParameters>(alloc, &WITHOUT_LENGTH)?;
-    assert_eq!(rt; written.as_slice(), WITHOUT_LENGTH.as_slice());
+    gives(
+        &rt,
+        normalized::<ScryptParameters>(alloc, &WITHOUT_LENGTH),
+        &WITHOUT_LENGTH,
+    )?;
     // Of indefinite length, with a length in two bytes.
     let other = [
         48, 128, 4, 129, 5, 77, 111, 117, 115, 101, 2, 3, 16, 0, 0, 2, 1, 8, 2, 1, 1, 0, 0,
     ];
-    let written = normalized::<ScryptParameters>(alloc, &other)?;
-    assert_eq!(rt; written.as_slice(), WITHOUT_LENGTH.as_slice());
+    gives(
+        &rt,
+        normalized::<ScryptParameters>(alloc, &other),
+        &WITHOUT_LENGTH,
+    )?;
     Ok(())
 }
 
@@ -62,7 +72,7 @@ fn refused_lengths(rt: HostRuntime) -> Result<(), Fail> {
         bytes.extend_from_slice(tail)?;
         bytes.extend_from_slice(&[0, 0])?;
         let refused: ASN1Result<ScryptParameters> = decode_ber(alloc, &bytes);
-        assert_eq!(rt; refused.err().map(|error| error.kind()), Some(kind));
+        refuses(&rt, refused, kind);
     }
     Ok(())
 }

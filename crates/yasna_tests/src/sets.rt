@@ -1,9 +1,13 @@
 //! Sets, read and written by closures.
 
+use crate::checks::{gives, refuses};
 use std::process::Abort;
 use std::test::Fail;
 use yasna::tags::{TAG_BOOLEAN, TAG_INTEGER, TAG_NULL};
-use yasna::{ASN1Error, ASN1ErrorKind, ASN1Result, BERReader, construct_der, parse_ber, parse_der};
+use yasna::{
+    ASN1Error, ASN1ErrorKind, ASN1Result, BERReader, BERReaderSet, construct_der, parse_ber,
+    parse_der,
+};
 
 // SET OF INTEGER, of 11 and 10.
 const FALLING: [u8; 8] = [49, 6, 2, 1, 11, 2, 1, 10];
@@ -28,28 +32,41 @@ fn all_read(reader: BERReader) -> ASN1Result<()> {
     })
 }
 
-fn number_and_flag(reader: BERReader) -> ASN1Result<(i64, bool)> {
-    reader.read_set(|set| {
-        let flag = set.next(&[TAG_BOOLEAN])?.read_bool()?;
-        let number = set.next(&[TAG_NULL, TAG_INTEGER])?.read_i64()?;
-        Ok((number, flag))
-    })
+fn next_flag(set: &mut BERReaderSet) -> ASN1Result<bool> {
+    set.next(&[TAG_BOOLEAN])?.read_bool()
 }
 
-fn kind_of<T: Drop>(answer: ASN1Result<T>) -> Option<ASN1ErrorKind> {
-    answer.err().map(|error| error.kind())
+fn next_number(set: &mut BERReaderSet) -> ASN1Result<i64> {
+    set.next(&[TAG_NULL, TAG_INTEGER])?.read_i64()
+}
+
+fn number_and_flag(reader: BERReader) -> ASN1Result<(i64, bool)> {
+    reader.read_set(|set| {
+        let flag = next_flag(set)?;
+        let number = next_number(set)?;
+        Ok((number, flag))
+    })
 }
 
 #[test]
 fn lists_in_order(rt: HostRuntime) -> Result<(), Fail> {
     let alloc = rt.alloc();
-    let falling = parse_ber(alloc, &FALLING, |reader| numbers(reader))?;
-    assert_eq!(rt; falling.as_slice(), [11, 10].as_slice());
-    let ascending = parse_der(alloc, &ASCENDING, |reader| numbers(reader))?;
-    assert_eq!(rt; ascending.as_slice(), [10, 11].as_slice());
+    gives(
+        &rt,
+        parse_ber(alloc, &FALLING, |reader| numbers(reader)),
+        &[11, 10],
+    )?;
+    gives(
+        &rt,
+        parse_der(alloc, &ASCENDING, |reader| numbers(reader)),
+        &[10, 11],
+    )?;
     parse_der(alloc, &ASCENDING, |reader| all_read(reader))?;
-    let refused = parse_der(alloc, &FALLING, |reader| all_read(reader));
-    assert_eq!(rt; kind_of(refused), Some(ASN1ErrorKind::Invalid));
+    refuses(
+        &rt,
+        parse_der(alloc, &FALLING, |reader| all_read(reader)),
+        ASN1ErrorKind::Invalid,
+    );
     Ok(())
 }
 
@@ -61,15 +78,15 @@ fn lists_written(rt: HostRuntime) -> Result<(), Fail> {
             parts.next().write_i64(11)?;
             parts.next().write_i64(10)
         })
-    })?;
-    assert_eq!(rt; written.as_slice(), ASCENDING.as_slice());
+    });
+    gives(&rt, written, &ASCENDING)?;
     let empty = construct_der(alloc, |writer| {
         writer.write_set_of(|parts| {
             parts.next();
             parts.next().write_i64(10)
         })
     });
-    assert_eq!(rt; kind_of(empty), Some(ASN1ErrorKind::Invalid));
+    refuses(&rt, empty, ASN1ErrorKind::Invalid);
     Ok(())
 }
 
@@ -79,10 +96,16 @@ fn elements_by_tags(rt: HostRuntime) -> Result<(), Fail> {
     let (number, flag) = parse_ber(alloc, &MIXED, |reader| number_and_flag(reader))?;
     assert_eq!(rt; number, 10);
     assert!(rt; flag);
-    let falling = parse_der(alloc, &MIXED, |reader| number_and_flag(reader));
-    assert_eq!(rt; kind_of(falling), Some(ASN1ErrorKind::Invalid));
-    let lacking = parse_der(alloc, &SINGLE, |reader| number_and_flag(reader));
-    assert_eq!(rt; kind_of(lacking), Some(ASN1ErrorKind::Invalid));
+    refuses(
+        &rt,
+        parse_der(alloc, &MIXED, |reader| number_and_flag(reader)),
+        ASN1ErrorKind::Invalid,
+    );
+    refuses(
+        &rt,
+        parse_der(alloc, &SINGLE, |reader| number_and_flag(reader)),
+        ASN1ErrorKind::Invalid,
+    );
     Ok(())
 }
 
@@ -120,15 +143,18 @@ fn element_that_equals_its_default(rt: HostRuntime) -> Result<(), Fail> {
     let (flag, _) = parse_ber(alloc, &MIXED, |reader| flag_and_number(reader))?;
     assert!(rt; flag);
     let sorted = [49, 6, 1, 1, 255, 2, 1, 10];
-    let refused = parse_der(alloc, &sorted, |reader| flag_and_number(reader));
-    assert_eq!(rt; kind_of(refused), Some(ASN1ErrorKind::Invalid));
+    refuses(
+        &rt,
+        parse_der(alloc, &sorted, |reader| flag_and_number(reader)),
+        ASN1ErrorKind::Invalid,
+    );
     let kept = parse_der(alloc, &sorted, |reader| {
         reader.read_set(|set| {
             let _ = set.read_default(&[TAG_BOOLEAN], true, |element| element.read_bool());
             set.next(&[TAG_INTEGER])?.read_i64()
         })
     });
-    assert_eq!(rt; kind_of(kept), Some(ASN1ErrorKind::Invalid));
+    refuses(&rt, kept, ASN1ErrorKind::Invalid);
     Ok(())
 }
 
@@ -138,11 +164,11 @@ fn element_that_is_not_read(rt: HostRuntime) -> Result<(), Fail> {
     let unread = parse_ber(alloc, &SINGLE, |reader| {
         reader.read_set(|set| set.read_optional(&[TAG_INTEGER], |_| -> ASN1Result<()> { Ok(()) }))
     });
-    assert_eq!(rt; kind_of(unread), Some(ASN1ErrorKind::Extra));
+    refuses(&rt, unread, ASN1ErrorKind::Extra);
     let another = parse_ber(alloc, &SINGLE, |reader| {
         reader.read_set(|set| set.read_optional(&[TAG_INTEGER], |element| element.read_bool()))
     });
-    assert_eq!(rt; kind_of(another), Some(ASN1ErrorKind::Invalid));
+    refuses(&rt, another, ASN1ErrorKind::Invalid);
     Ok(())
 }
 
@@ -156,7 +182,7 @@ fn element_that_lacks_memory(rt: HostRuntime) -> Result<(), Fail> {
             })
         })
     });
-    assert_eq!(rt; kind_of(answered), Some(ASN1ErrorKind::OutOfMemory));
+    refuses(&rt, answered, ASN1ErrorKind::OutOfMemory);
     let kept = parse_ber(alloc, &SINGLE, |reader| {
         let _ = reader.read_set(|set| {
             let _ = set.read_optional(&[TAG_INTEGER], |_| -> ASN1Result<i64> {
@@ -166,6 +192,6 @@ fn element_that_lacks_memory(rt: HostRuntime) -> Result<(), Fail> {
         });
         Ok(())
     });
-    assert_eq!(rt; kind_of(kept), Some(ASN1ErrorKind::OutOfMemory));
+    refuses(&rt, kept, ASN1ErrorKind::OutOfMemory);
     Ok(())
 }

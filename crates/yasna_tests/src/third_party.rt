@@ -1,5 +1,6 @@
 //! Types that are read and written as a tuple or step by step, each on bytes.
 
+use crate::checks::{gives, refuses};
 use std::test::Fail;
 use yasna::{
     ASN1ErrorKind, EncodableParts, construct_der, decode_ber, decode_cer, decode_der, encode_cer,
@@ -15,8 +16,7 @@ fn measurements(rt: HostRuntime) -> Result<(), Fail> {
     let read: Measurement = decode_ber(alloc, &[48, 128, 2, 1, 10, 1, 1, 1, 0, 0])?;
     assert_eq!(rt; read.number, 10);
     assert!(rt; read.valid);
-    let bytes = encode_der(alloc, &read)?;
-    assert_eq!(rt; bytes.as_slice(), [48, 6, 2, 1, 10, 1, 1, 255].as_slice());
+    gives(&rt, encode_der(alloc, &read), &[48, 6, 2, 1, 10, 1, 1, 255])?;
     Ok(())
 }
 
@@ -50,10 +50,10 @@ fn in_cer(rt: HostRuntime) -> Result<(), Fail> {
     let read: Version = decode_cer(alloc, &bytes)?;
     assert_eq!(rt; read.major, 300);
     assert!(rt; !read.flag);
-    let refused = decode_cer::<Version>(alloc, &[48, 7, 2, 2, 1, 44, 1, 1, 0]);
-    assert_eq!(rt;
-        refused.err().map(|error| error.kind()),
-        Some(ASN1ErrorKind::Invalid)
+    refuses(
+        &rt,
+        decode_cer::<Version>(alloc, &[48, 7, 2, 2, 1, 44, 1, 1, 0]),
+        ASN1ErrorKind::Invalid,
     );
     Ok(())
 }
@@ -75,10 +75,10 @@ fn samples(rt: HostRuntime) -> Result<(), Fail> {
     assert_eq!(rt; read.count, 300);
     assert!(rt; read.last);
     assert_eq!(rt; read.shift, -129);
-    let refused = decode_der::<Sample>(alloc, &[48, 6, 2, 1, 10, 1, 1, 255]);
-    assert_eq!(rt;
-        refused.err().map(|error| error.kind()),
-        Some(ASN1ErrorKind::Eof)
+    refuses(
+        &rt,
+        decode_der::<Sample>(alloc, &[48, 6, 2, 1, 10, 1, 1, 255]),
+        ASN1ErrorKind::Eof,
     );
     Ok(())
 }
@@ -97,12 +97,11 @@ fn reports(rt: HostRuntime) -> Result<(), Fail> {
     assert_eq!(rt; read.number, -129);
     let pieces = [48, 14, 44, 6, 4, 1, 195, 4, 1, 169, 4, 0, 2, 2, 255, 127];
     let form = [48, 10, 12, 2, 195, 169, 4, 0, 2, 2, 255, 127];
-    let bytes = normalized_report(alloc, &pieces)?;
-    assert_eq!(rt; bytes.as_slice(), form.as_slice());
-    let refused = decode_der::<Report>(alloc, &pieces);
-    assert_eq!(rt;
-        refused.err().map(|error| error.kind()),
-        Some(ASN1ErrorKind::Invalid)
+    gives(&rt, normalized_report(alloc, &pieces), &form)?;
+    refuses(
+        &rt,
+        decode_der::<Report>(alloc, &pieces),
+        ASN1ErrorKind::Invalid,
     );
     Ok(())
 }
@@ -114,8 +113,7 @@ fn trails(rt: HostRuntime) -> Result<(), Fail> {
         steps: vec![in alloc; 300, 2, -1]?,
     };
     let form = [48, 10, 2, 1, 255, 2, 1, 2, 2, 2, 1, 44];
-    let bytes = encode_der(alloc, &trail)?;
-    assert_eq!(rt; bytes.as_slice(), form.as_slice());
+    gives(&rt, encode_der(alloc, &trail), &form)?;
     let read: Trail = decode_der(alloc, &form)?;
     assert_eq!(rt; read.steps.as_slice(), [300, 2, -1].as_slice());
     Ok(())
@@ -128,12 +126,12 @@ fn serials(rt: HostRuntime) -> Result<(), Fail> {
     assert!(rt; encode_der(alloc, &left_out)?.is_empty());
     let bytes = construct_der(alloc, |writer| {
         writer.write_sequence(|parts| (&left_out, (true, ())).write_parts(parts))
-    })?;
-    assert_eq!(rt; bytes.as_slice(), [48, 3, 1, 1, 255].as_slice());
+    });
+    gives(&rt, bytes, &[48, 3, 1, 1, 255])?;
     let given = Serial { number: Some(10) };
     let bytes = construct_der(alloc, |writer| {
         writer.write_sequence(|parts| (&given, (true, ())).write_parts(parts))
-    })?;
-    assert_eq!(rt; bytes.as_slice(), [48, 6, 2, 1, 10, 1, 1, 255].as_slice());
+    });
+    gives(&rt, bytes, &[48, 6, 2, 1, 10, 1, 1, 255])?;
     Ok(())
 }

@@ -1,5 +1,6 @@
 //! Trees, and elements as deep as they may nest, by a type that refers to itself and by functions that call themselves.
 
+use crate::checks::refuses;
 use std::alloc::{AllocError, Global};
 use std::process::Abort;
 use std::test::Fail;
@@ -94,9 +95,6 @@ fn trees(rt: HostRuntime) -> Result<(), Fail> {
     };
     assert_eq!(rt; sizes, (0, 1));
     let refused: ASN1Result<Tree> = decode_der(alloc, &[48, 4, 48, 2, 5, 0]);
-    assert_eq!(rt;
-        refused.err().map(|error| error.kind()),
-        Some(ASN1ErrorKind::Extra)
-    );
+    refuses(&rt, refused, ASN1ErrorKind::Extra);
     Ok(())
 }
