@@ -1,0 +1,85 @@
+-- Elements that were read and written in DER, as the walk answers them.
+use Rattle.std.specs.Borrow.{Bor}
+use Rattle.std.specs.Global.{Global}
+use Rattle.std.specs.Prelude.{◌≡◌, ℕ, List, ◌++◌, map, Result, Ok, Err, Vec}
+use Rattle.std.specs.List.{concat}
+use Rattle.yasna_base.specs.Canonical.{canonical_element}
+use Rattle.yasna_base.specs.Header.{ContentsEnd, EndsBefore}
+use Rattle.yasna_base.specs.Order.{octets_cmp, in_order}
+use Rattle.yasna_base.specs.Pieces.{Pieces}
+use Rattle.yasna_base.specs.Set.{set_tag}
+use Rattle.yasna_base.specs.declared.mode.BERMode.{BERMode}
+use Rattle.yasna_base.specs.declared.mode.BERMode.TheVariants.{Der}
+use Rattle.yasna_base.specs.declared.tag.PCBit.TheVariants.{Constructed}
+use Rattle.yasna_base.specs.declared.tag.Tag.{Tag}
+use Rattle.asn1der.specs.Tree.{Tree, tag_of, AreOneTag, HasTree, der_form}
+use Rattle.asn1der.specs.declared.fault.Fault.{Fault}
+use Rattle.asn1der.specs.declared.fault.Fault.TheVariants.{Memory}
+use Rattle.asn1der.specs.declared.part.Part.{Part}
+
+-- the tag of each part
+abbrev pub part_tags : List Part → List Tag
+part_tags ps = map (λ (p : Part). p.tag) ps
+
+-- the bytes of each
+abbrev pub part_bytes : List Part → List (List ℕ)
+part_bytes ps = map (λ (p : Part). p.bytes.items) ps
+
+-- within n levels, b is an element, and p that element in DER with its tag
+pub record IsPartOf (n : ℕ) (m : BERMode) (b : List ℕ) (p : Part) : Type 0 where
+  pub tree : Tree n
+  pub read : HasTree n m tree b
+  pub tag : p.tag ≡ tag_of n tree
+  pub form : p.bytes.items ≡ der_form n tree
+
+-- within n levels, c is elements one after the other, and ps those elements in DER
+pub record ArePartsOf (n : ℕ) (m : BERMode) (c : List ℕ) (ps : List Part) : Type 0 where
+  pub trees : List (Tree n)
+  pub read : Pieces (HasTree n m) trees c
+  pub tags : part_tags ps ≡ map (tag_of n) trees
+  pub forms : part_bytes ps ≡ map (der_form n) trees
+
+-- an element stands at the front of s, p is that element in DER, and r follows it
+pub record TakesPart (n : ℕ) (m : BERMode) (s : List ℕ) (p : Part) (r : List ℕ) : Type 0 where
+  pub front : List ℕ
+  pub joined : s ≡ front ++ r
+  pub part : IsPartOf n m front p
+
+-- elements stand at the front of s up to where contents end, ps are those elements in DER, and r follows the end
+pub record TakesParts (n : ℕ) (m : BERMode) (s : List ℕ) (end : ContentsEnd) (ps : List Part) (r : List ℕ) : Type 0 where
+  pub front : List ℕ
+  pub rest : List ℕ
+  pub joined : s ≡ front ++ rest
+  pub ends : EndsBefore end rest r
+  pub parts : ArePartsOf n m front ps
+
+-- cs are the bytes bs of elements with the tags ts, as they stand in DER within one with the tag t: those of a SET whose elements have one
+-- tag ascend, any others stand as they stood (X.690, 11.6)
+pub data ArePutInOrder (t : Tag) (ts : List Tag) (bs cs : List (List ℕ)) : Type 0 where
+  ascending : t ≡ set_tag → AreOneTag ts → cs ≡ in_order octets_cmp bs → ArePutInOrder t ts bs cs
+  as_they_stood : (t ≡ set_tag → AreOneTag ts → ⊥) → cs ≡ bs → ArePutInOrder t ts bs cs
+
+-- p is the constructed element in DER with the tag t around these
+pub record Encloses (t : Tag) (ps : List Part) (p : Part) : Type 0 where
+  pub tag : p.tag ≡ t
+  pub inner : List (List ℕ)
+  pub order : ArePutInOrder t (part_tags ps) (part_bytes ps) inner
+  pub bytes : p.bytes.items ≡ canonical_element Der t Constructed (concat inner)
+
+-- no element stands at the front of s
+abbrev pub NoTreeAt : ℕ → BERMode → List ℕ → Type 0
+NoTreeAt n m s = (v : Tree n) (b r : List ℕ) → HasTree n m v b → s ≡ b ++ r → ⊥
+
+-- no elements stand at the front of s up to where contents end
+abbrev pub NoTreesTo : ℕ → BERMode → List ℕ → ContentsEnd → Type 0
+NoTreesTo n m s end = (vs : List (Tree n)) (front rest r : List ℕ) → Pieces (HasTree n m) vs front → s ≡ front ++ rest → EndsBefore end rest r → ⊥
+
+-- an element in DER, and what follows it in BER, or why there is none
+abbrev pub PartAt : ℕ → BERMode → List ℕ → Result (Part × Bor (List ℕ)) Fault → Type 0
+PartAt n m s (Ok x) = TakesPart n m s x.0 x.1.now
+PartAt n m s (Err e) = (e ≡ Memory → ⊥) → NoTreeAt n m s
+
+-- the same of elements up to the end of contents
+abbrev pub PartsAt : ℕ → BERMode → List ℕ → ContentsEnd → Result (Vec Part Global × Bor (List ℕ)) Fault → Type 0
+PartsAt n m s end (Ok x) = TakesParts n m s end x.0.items x.1.now
+PartsAt n m s end (Err e) = (e ≡ Memory → ⊥) → NoTreesTo n m s end

@@ -1,0 +1,89 @@
+//! Where the form in DER can't be told with no schema.
+ghost use Rattle.std.specs.Prelude.{◌≡◌, ◌↔◌, IsTrue, None};
+ghost use Rattle.yasna_base.specs.Set.{set_tag};
+ghost use Rattle.yasna_base.specs.declared.tag.TagClass.TheVariants.{Universal};
+ghost use Rattle.asn1der.specs.Doubt.{Meets};
+ghost use Rattle.asn1der.specs.Parts.{part_tags};
+ghost use Rattle.asn1der.specs.Tree.{AreOneTag};
+
+use crate::part::Part;
+use crate::set_order::have_one_tag;
+use std::fmt;
+use yasna_base::tag::{Tag, TagClass};
+use yasna_base::tags::TAG_SET;
+
+/// What a schema would decide.
+#[derive(Clone, Copy, PartialEq, Eq, Debug)]
+pub enum Doubt {
+    /// A constructed element whose tag isn't universal may be a string in segments (X.690, 8.14.3 and 10.2).
+    Segments,
+    /// A SET whose elements have several tags is ordered by them, but a SET OF by its bytes (X.690, 10.3 and 11.6).
+    Order,
+}
+
+impl fmt::Display for Doubt {
+    fn fmt<W: fmt::Write>(&self, f: &mut fmt::Formatter<W>) -> fmt::Result {
+        match self {
+            Doubt::Segments => write!(f, "it may be a string in segments"),
+            Doubt::Order => write!(f, "a SET with several tags may be out of order"),
+        }
+    }
+}
+
+// The first place, where one is known: elements within another are met before it ends.
+fn earlier(known: Option<usize>, offset: usize) -> Option<usize>
+    ensures { result ≡ None → ⊥ }
+{
+    match known {
+        Some(place) if place < offset => known,
+        _ => Some(offset),
+    }
+}
+
+/// Where the first doubt of each kind is, counted from the input's first byte.
+#[derive(Clone, Copy, PartialEq, Eq, Debug)]
+pub struct Doubts {
+    segments: Option<usize>,
+    order: Option<usize>,
+}
+
+impl Doubts {
+    /// No doubt.
+    pub fn none() -> Doubts
+        ensures segments { result.segments ≡ None }
+        ensures order { result.order ≡ None }
+    {
+        Doubts {
+            segments: None,
+            order: None,
+        }
+    }
+
+    /// Where the first doubt of this kind is.
+    pub fn first(&self, doubt: Doubt) -> Option<usize> {
+        match doubt {
+            Doubt::Segments => self.segments,
+            Doubt::Order => self.order,
+        }
+    }
+
+    /// Whether there is any.
+    pub fn are_any(&self) -> bool
+        ensures { IsTrue result ↔ ((self.now.segments ≡ None) × (self.now.order ≡ None) → ⊥) }
+    {
+        self.segments.is_some() || self.order.is_some()
+    }
+
+    /// Takes what is in doubt about the constructed element that begins here, has this tag and is around these.
+    pub fn note(&mut self, offset: usize, tag: Tag, parts: &[Part])
+        ensures segments { Meets self.old.segments self.new.segments (tag.tag_class ≡ Universal) }
+        ensures order { Meets self.old.order self.new.order (tag ≡ set_tag → AreOneTag (part_tags parts.now)) }
+    {
+        if tag.tag_class != TagClass::Universal {
+            self.segments = earlier(self.segments, offset);
+        }
+        if tag == TAG_SET && !have_one_tag(parts) {
+            self.order = earlier(self.order, offset);
+        }
+    }
+}
