@@ -1,7 +1,8 @@
 //! Certificates and revocation lists (RFC 5280), as OpenSSL 3.0.19 made them: the bytes that they were come back.
 
-use crate::messages::rewritten;
+use crate::messages::{comes_back, is_refused};
 use std::alloc::Global;
+use std::process::Abort;
 use std::test::Fail;
 use x509::{
     Certificate, CertificateList, Signed, TbsCertList, TbsCertificate, read_signed_certificate,
@@ -9,7 +10,7 @@ use x509::{
 };
 use yasna::{
     ASN1Error, ASN1ErrorKind, ASN1Result, BERDecodable, BERReader, DEREncodable, DERExact,
-    decode_ber, decode_der, parse_der,
+    decode_ber, parse_der,
 };
 use yasna_notation::Noted;
 
@@ -81,13 +82,23 @@ pub fn bytes_of(alloc: Global, text: &str) -> ASN1Result<Vec<u8>> {
     }
 }
 
-fn comes_back<T: BERDecodable + DEREncodable + DERExact>(
+fn text_comes_back<T: BERDecodable + DEREncodable + DERExact>(
+    rt: &impl Abort,
     alloc: Global,
     text: &str,
-) -> ASN1Result<bool> {
+) -> Result<(), Fail> {
     let bytes = bytes_of(alloc, text)?;
-    let form = rewritten::<T>(alloc, &bytes)?;
-    Ok(form.as_slice() == bytes.as_slice())
+    comes_back::<T>(rt, alloc, &bytes)
+}
+
+fn text_is_refused<T: BERDecodable + DEREncodable + DERExact>(
+    rt: &impl Abort,
+    alloc: Global,
+    text: &str,
+) -> Result<(), Fail> {
+    let bytes = bytes_of(alloc, text)?;
+    is_refused::<T>(rt, alloc, &bytes);
+    Ok(())
 }
 
 fn certificate(alloc: Global, text: &str) -> ASN1Result<Certificate> {
@@ -99,13 +110,12 @@ fn certificate(alloc: Global, text: &str) -> ASN1Result<Certificate> {
 #[test]
 fn certificates_come_back(rt: HostRuntime) -> Result<(), Fail> {
     let alloc = rt.alloc();
-    assert!(rt; comes_back::<Noted<Certificate>>(alloc, AUTHORITY)?);
-    assert!(rt; comes_back::<Noted<Certificate>>(alloc, LEAF)?);
-    assert!(rt; comes_back::<Noted<Certificate>>(alloc, UNIQUE)?);
+    text_comes_back::<Noted<Certificate>>(&rt, alloc, AUTHORITY)?;
+    text_comes_back::<Noted<Certificate>>(&rt, alloc, LEAF)?;
+    text_comes_back::<Noted<Certificate>>(&rt, alloc, UNIQUE)?;
     // a default that is written out is none of DER
-    assert!(rt; comes_back::<Noted<Certificate>>(alloc, WRITTEN_OUT).is_err());
-    assert!(rt; comes_back::<Noted<CertificateList>>(alloc, LEAF).is_err());
-    Ok(())
+    text_is_refused::<Noted<Certificate>>(&rt, alloc, WRITTEN_OUT)?;
+    text_is_refused::<Noted<CertificateList>>(&rt, alloc, LEAF)
 }
 
 // Whether it has the issuer's number of UNIQUE.
@@ -124,10 +134,7 @@ fn revoked(list: &TbsCertList) -> Option<usize> {
     }
 }
 
-#[test]
-fn what_certificates_say(rt: HostRuntime) -> Result<(), Fail> {
-    let alloc = rt.alloc();
-    let authority = certificate(alloc, AUTHORITY)?.tbs_certificate;
+fn says_what_the_authority_is(rt: &impl Abort, authority: &TbsCertificate) {
     assert_eq!(rt; authority.version, 2);
     let (serial, is_positive) = &authority.serial_number;
     assert_eq!(rt;
@@ -135,13 +142,34 @@ fn what_certificates_say(rt: HostRuntime) -> Result<(), Fail> {
         [0, 241, 226, 211, 196, 181, 166, 151].as_slice()
     );
     assert!(rt; *is_positive);
-    let unique = certificate(alloc, UNIQUE)?.tbs_certificate;
-    assert!(rt; has_issuer_id(&unique));
+}
+
+#[test]
+fn what_certificates_say(rt: HostRuntime) -> Result<(), Fail> {
+    let authority = certificate(rt.alloc(), AUTHORITY)?;
+    says_what_the_authority_is(&rt, &authority.tbs_certificate);
+    Ok(())
+}
+
+#[test]
+fn unique_identifiers(rt: HostRuntime) -> Result<(), Fail> {
+    let unique = certificate(rt.alloc(), UNIQUE)?;
+    assert!(rt; has_issuer_id(&unique.tbs_certificate));
+    Ok(())
+}
+
+fn version_of(alloc: Global, text: &str) -> ASN1Result<u64> {
+    let certificate = certificate(alloc, text)?;
+    Ok(certificate.tbs_certificate.version)
+}
+
+#[test]
+fn versions(rt: HostRuntime) -> Result<(), Fail> {
     // BER takes a default that is written out
-    assert_eq!(rt; certificate(alloc, LEAF)?.tbs_certificate.version, 0);
-    assert_eq!(rt; certificate(alloc, WRITTEN_OUT)?.tbs_certificate.version, 0);
+    assert_eq!(rt; version_of(rt.alloc(), LEAF)?, 0);
+    assert_eq!(rt; version_of(rt.alloc(), WRITTEN_OUT)?, 0);
     // no version has the number 3
-    let refused = certificate(alloc, NO_VERSION);
+    let refused = version_of(rt.alloc(), NO_VERSION);
     assert_eq!(rt;
         refused.err().map(|error| error.kind()),
         Some(ASN1ErrorKind::Invalid)
@@ -151,19 +179,31 @@ fn what_certificates_say(rt: HostRuntime) -> Result<(), Fail> {
 
 #[test]
 fn revocation_lists_come_back(rt: HostRuntime) -> Result<(), Fail> {
-    let alloc = rt.alloc();
-    assert!(rt; comes_back::<Noted<CertificateList>>(alloc, REVOKED)?);
-    let bytes = bytes_of(alloc, REVOKED)?;
-    let list: Noted<CertificateList> = decode_der(alloc, &bytes)?;
-    let list = list.into_value().tbs_cert_list;
-    assert_eq!(rt; list.version, Some(1));
-    assert_eq!(rt; revoked(&list), Some(1));
-    // it names version 2 or none
-    let mut older = bytes_of(alloc, REVOKED)?;
+    text_comes_back::<Noted<CertificateList>>(&rt, rt.alloc(), REVOKED)
+}
+
+fn list_of(alloc: Global, bytes: &[u8]) -> ASN1Result<CertificateList> {
+    let noted: Noted<CertificateList> = decode_ber(alloc, bytes)?;
+    Ok(noted.into_value())
+}
+
+#[test]
+fn what_revocation_lists_say(rt: HostRuntime) -> Result<(), Fail> {
+    let bytes = bytes_of(rt.alloc(), REVOKED)?;
+    let list = list_of(rt.alloc(), &bytes)?;
+    assert_eq!(rt; list.tbs_cert_list.version, Some(1));
+    assert_eq!(rt; revoked(&list.tbs_cert_list), Some(1));
+    Ok(())
+}
+
+// It names version 2 or none.
+#[test]
+fn older_revocation_lists(rt: HostRuntime) -> Result<(), Fail> {
+    let mut older = bytes_of(rt.alloc(), REVOKED)?;
     if let Some(version) = older.get_mut(9) {
         *version = 0;
     }
-    assert!(rt; decode_ber::<Noted<CertificateList>>(alloc, &older).is_err());
+    assert!(rt; list_of(rt.alloc(), &older).is_err());
     Ok(())
 }
 
@@ -177,14 +217,18 @@ fn signed_list<'a>(reader: BERReader<'a, '_>) -> ASN1Result<Signed<'a, Certifica
 }
 
 #[test]
-fn what_is_signed(rt: HostRuntime) -> Result<(), Fail> {
-    let alloc = rt.alloc();
-    let bytes = bytes_of(alloc, AUTHORITY)?;
-    let signed = parse_der(alloc, &bytes, signed_certificate)?;
+fn what_is_signed_of_certificates(rt: HostRuntime) -> Result<(), Fail> {
+    let bytes = bytes_of(rt.alloc(), AUTHORITY)?;
+    let signed = parse_der(rt.alloc(), &bytes, signed_certificate)?;
     assert_eq!(rt; bytes.get(4..358), Some(signed.signed_bytes));
     assert_eq!(rt; signed.value.tbs_certificate.version, 2);
-    let bytes = bytes_of(alloc, REVOKED)?;
-    let signed = parse_der(alloc, &bytes, signed_list)?;
+    Ok(())
+}
+
+#[test]
+fn what_is_signed_of_lists(rt: HostRuntime) -> Result<(), Fail> {
+    let bytes = bytes_of(rt.alloc(), REVOKED)?;
+    let signed = parse_der(rt.alloc(), &bytes, signed_list)?;
     assert_eq!(rt; bytes.get(4..202), Some(signed.signed_bytes));
     Ok(())
 }

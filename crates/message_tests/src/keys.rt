@@ -1,16 +1,14 @@
 //! Private keys (RFC 5208 and RFC 5958), and contents that are signed or enveloped (RFC 5652).
 
 use crate::certificates::bytes_of;
-use crate::messages::rewritten;
+use crate::messages::{comes_back, is_refused};
 use cms::{ContentInfo, EnvelopedData, SignedData};
 use pkcs8::{OneAsymmetricKey, PrivateKeyInfo};
 use std::alloc::Global;
+use std::process::Abort;
 use std::test::Fail;
 use yasna::tags::TAG_SEQUENCE;
-use yasna::{
-    ASN1Error, ASN1ErrorKind, ASN1Result, BERDecodable, DEREncodable, DERExact, decode_ber,
-    decode_der,
-};
+use yasna::{ASN1Error, ASN1ErrorKind, ASN1Result, decode_ber, decode_der};
 use yasna_notation::Noted;
 
 // `openssl genpkey -algorithm ED25519 -outform DER`.
@@ -57,14 +55,6 @@ const STREAMED: &str =
     d9509c246f649e5063e3efccdadbb11fad5f76f4fb52486bd4f602203e573c6c16b26b172e4432cc1dbaf67b1b92003c7955\
     be7c22257c7b79e3b99f000000000000";
 
-fn comes_back<T: BERDecodable + DEREncodable + DERExact>(
-    alloc: Global,
-    bytes: &[u8],
-) -> ASN1Result<bool> {
-    let form = rewritten::<T>(alloc, bytes)?;
-    Ok(form.as_slice() == bytes)
-}
-
 // The content of a ContentInfo, which ends it: what stands behind so many octets.
 fn content_of(bytes: &[u8], header: usize) -> ASN1Result<&[u8]> {
     match bytes.get(header..) {
@@ -83,54 +73,92 @@ fn public_size(key: &OneAsymmetricKey) -> Option<(usize, usize)> {
 
 #[test]
 fn private_keys_come_back(rt: HostRuntime) -> Result<(), Fail> {
-    let alloc = rt.alloc();
-    let key = bytes_of(alloc, ED25519)?;
-    assert!(rt; comes_back::<Noted<PrivateKeyInfo>>(alloc, &key)?);
-    assert!(rt; comes_back::<Noted<OneAsymmetricKey>>(alloc, &key)?);
-    let with_public = bytes_of(alloc, WITH_PUBLIC_KEY)?;
-    assert!(rt; comes_back::<Noted<OneAsymmetricKey>>(alloc, &with_public)?);
-    assert!(rt; comes_back::<Noted<PrivateKeyInfo>>(alloc, &with_public).is_err());
-    let noted: Noted<OneAsymmetricKey> = decode_der(alloc, &with_public)?;
-    let key = noted.into_value();
+    let key = bytes_of(rt.alloc(), ED25519)?;
+    comes_back::<Noted<PrivateKeyInfo>>(&rt, rt.alloc(), &key)?;
+    comes_back::<Noted<OneAsymmetricKey>>(&rt, rt.alloc(), &key)
+}
+
+#[test]
+fn keys_with_public_keys_come_back(rt: HostRuntime) -> Result<(), Fail> {
+    let key = bytes_of(rt.alloc(), WITH_PUBLIC_KEY)?;
+    comes_back::<Noted<OneAsymmetricKey>>(&rt, rt.alloc(), &key)?;
+    is_refused::<Noted<PrivateKeyInfo>>(&rt, rt.alloc(), &key);
+    Ok(())
+}
+
+fn key_of(alloc: Global, text: &str) -> ASN1Result<OneAsymmetricKey> {
+    let bytes = bytes_of(alloc, text)?;
+    let noted: Noted<OneAsymmetricKey> = decode_ber(alloc, &bytes)?;
+    Ok(noted.into_value())
+}
+
+#[test]
+fn what_keys_say(rt: HostRuntime) -> Result<(), Fail> {
+    let key = key_of(rt.alloc(), WITH_PUBLIC_KEY)?;
     assert_eq!(rt; key.version, 1);
     assert_eq!(rt; public_size(&key), Some((32, 256)));
-    let newer = bytes_of(alloc, VERSION_3)?;
-    let refused = decode_ber::<Noted<OneAsymmetricKey>>(alloc, &newer);
-    assert_eq!(rt;
-        refused.err().map(|error| error.kind()),
-        Some(ASN1ErrorKind::Invalid)
-    );
     Ok(())
 }
 
 #[test]
+fn newer_keys(rt: HostRuntime) {
+    let newer = key_of(rt.alloc(), VERSION_3);
+    assert_eq!(rt;
+        newer.err().map(|error| error.kind()),
+        Some(ASN1ErrorKind::Invalid)
+    );
+}
+
+#[test]
 fn signed_contents_come_back(rt: HostRuntime) -> Result<(), Fail> {
-    let alloc = rt.alloc();
-    let bytes = bytes_of(alloc, SIGNED)?;
-    assert!(rt; comes_back::<Noted<ContentInfo>>(alloc, &bytes)?);
-    let content = content_of(&bytes, 19)?;
-    assert!(rt; comes_back::<Noted<SignedData>>(alloc, content)?);
-    let noted: Noted<SignedData> = decode_der(alloc, content)?;
-    let data = noted.into_value();
+    let bytes = bytes_of(rt.alloc(), SIGNED)?;
+    comes_back::<Noted<ContentInfo>>(&rt, rt.alloc(), &bytes)?;
+    comes_back::<Noted<SignedData>>(&rt, rt.alloc(), content_of(&bytes, 19)?)
+}
+
+fn signed_data(alloc: Global, text: &str) -> ASN1Result<SignedData> {
+    let bytes = bytes_of(alloc, text)?;
+    let noted: Noted<SignedData> = decode_der(alloc, content_of(&bytes, 19)?)?;
+    Ok(noted.into_value())
+}
+
+#[test]
+fn what_signed_contents_say(rt: HostRuntime) -> Result<(), Fail> {
+    let data = signed_data(rt.alloc(), SIGNED)?;
     assert_eq!(rt; data.version, 3);
     assert_eq!(rt; data.signer_infos.len(), 1);
-    // where it was streamed, BER alone reads it, and the same content
-    let streamed = bytes_of(alloc, STREAMED)?;
-    assert!(rt; decode_der::<Noted<ContentInfo>>(alloc, &streamed).is_err());
-    let noted: Noted<ContentInfo> = decode_ber(alloc, &streamed)?;
-    assert_eq!(rt; noted.into_value().content.tag(), TAG_SEQUENCE);
+    Ok(())
+}
+
+// Where it was streamed, BER alone reads it.
+#[test]
+fn streamed_contents(rt: HostRuntime) -> Result<(), Fail> {
+    let bytes = bytes_of(rt.alloc(), STREAMED)?;
+    is_refused::<Noted<ContentInfo>>(&rt, rt.alloc(), &bytes);
+    let noted: Noted<ContentInfo> = decode_ber(rt.alloc(), &bytes)?;
+    assert_eq!(rt; noted.value.content.tag(), TAG_SEQUENCE);
     Ok(())
 }
 
 #[test]
 fn enveloped_contents_come_back(rt: HostRuntime) -> Result<(), Fail> {
-    let alloc = rt.alloc();
-    let bytes = bytes_of(alloc, ENVELOPED)?;
-    assert!(rt; comes_back::<Noted<ContentInfo>>(alloc, &bytes)?);
+    let bytes = bytes_of(rt.alloc(), ENVELOPED)?;
+    comes_back::<Noted<ContentInfo>>(&rt, rt.alloc(), &bytes)?;
     let content = content_of(&bytes, 19)?;
-    assert!(rt; comes_back::<Noted<EnvelopedData>>(alloc, content)?);
-    let noted: Noted<EnvelopedData> = decode_der(alloc, content)?;
-    assert_eq!(rt; noted.into_value().recipient_infos.len(), 1);
-    assert!(rt; comes_back::<Noted<SignedData>>(alloc, content).is_err());
+    comes_back::<Noted<EnvelopedData>>(&rt, rt.alloc(), content)?;
+    is_refused::<Noted<SignedData>>(&rt, rt.alloc(), content);
+    Ok(())
+}
+
+fn enveloped_data(alloc: Global, text: &str) -> ASN1Result<EnvelopedData> {
+    let bytes = bytes_of(alloc, text)?;
+    let noted: Noted<EnvelopedData> = decode_der(alloc, content_of(&bytes, 19)?)?;
+    Ok(noted.into_value())
+}
+
+#[test]
+fn what_enveloped_contents_say(rt: HostRuntime) -> Result<(), Fail> {
+    let data = enveloped_data(rt.alloc(), ENVELOPED)?;
+    assert_eq!(rt; data.recipient_infos.len(), 1);
     Ok(())
 }

@@ -1,9 +1,10 @@
 //! Messages of LDAP (RFC 4511), made by hand.
 
 use crate::certificates::bytes_of;
-use crate::messages::rewritten;
+use crate::messages::comes_back;
 use ldap::{Filter, FilterItem, LdapMessage, ProtocolOp};
 use std::alloc::Global;
+use std::process::Abort;
 use std::test::Fail;
 use yasna::{ASN1Result, decode_ber, decode_der, encode_der, one_form};
 use yasna_notation::Noted;
@@ -139,28 +140,42 @@ const LONGER: [(&str, &str); 5] = [
     ),
 ];
 
-fn comes_back(alloc: Global, text: &str) -> ASN1Result<bool> {
+fn text_comes_back(rt: &impl Abort, alloc: Global, text: &str) -> Result<(), Fail> {
     let bytes = bytes_of(alloc, text)?;
-    let form = rewritten::<Noted<LdapMessage>>(alloc, &bytes)?;
-    Ok(form.as_slice() == bytes.as_slice())
+    comes_back::<Noted<LdapMessage>>(rt, alloc, &bytes)
 }
 
-fn is_refused(alloc: Global, text: &str) -> ASN1Result<bool> {
+fn is_refused(rt: &impl Abort, alloc: Global, text: &str) -> Result<(), Fail> {
     let bytes = bytes_of(alloc, text)?;
-    Ok(decode_ber::<Noted<LdapMessage>>(alloc, &bytes).is_err())
+    assert!(rt;
+        decode_ber::<Noted<LdapMessage>>(alloc, &bytes).is_err(),
+        "{text}"
+    );
+    Ok(())
 }
 
-fn written_anew(alloc: Global, text: &str) -> ASN1Result<Vec<u8>> {
+fn written_anew(alloc: Global, bytes: &[u8]) -> ASN1Result<Vec<u8>> {
     one_form::<Noted<LdapMessage>>();
-    let bytes = bytes_of(alloc, text)?;
-    let message: Noted<LdapMessage> = decode_ber(alloc, &bytes)?;
+    let message: Noted<LdapMessage> = decode_ber(alloc, bytes)?;
     encode_der(alloc, &message)
+}
+
+fn has_form(rt: &impl Abort, alloc: Global, text: &str, form: &str) -> Result<(), Fail> {
+    let bytes = bytes_of(alloc, text)?;
+    let form = bytes_of(alloc, form)?;
+    let written = written_anew(alloc, &bytes)?;
+    assert_eq!(rt; written.as_slice(), form.as_slice(), "{text}");
+    assert!(rt;
+        decode_der::<Noted<LdapMessage>>(alloc, &bytes).is_err(),
+        "{text}"
+    );
+    Ok(())
 }
 
 #[test]
 fn messages_come_back(rt: HostRuntime) -> Result<(), Fail> {
     for text in TAKEN {
-        assert!(rt; comes_back(rt.alloc(), text)?);
+        text_comes_back(&rt, rt.alloc(), text)?;
     }
     Ok(())
 }
@@ -168,31 +183,30 @@ fn messages_come_back(rt: HostRuntime) -> Result<(), Fail> {
 #[test]
 fn others_are_refused(rt: HostRuntime) -> Result<(), Fail> {
     for text in REFUSED {
-        assert!(rt; is_refused(rt.alloc(), text)?);
+        is_refused(&rt, rt.alloc(), text)?;
     }
     Ok(())
 }
 
 #[test]
 fn what_ber_reads_is_written_anew(rt: HostRuntime) -> Result<(), Fail> {
-    let alloc = rt.alloc();
     for (text, form) in LONGER {
-        assert!(rt; written_anew(alloc, text)? == bytes_of(alloc, form)?);
-        let bytes = bytes_of(alloc, text)?;
-        assert!(rt; decode_der::<Noted<LdapMessage>>(alloc, &bytes).is_err());
-    }
-    for (_, form) in LONGER {
-        assert!(rt; comes_back(alloc, form)?);
+        has_form(&rt, rt.alloc(), text, form)?;
+        text_comes_back(&rt, rt.alloc(), form)?;
     }
     Ok(())
 }
 
+fn message_of(alloc: Global, text: &str) -> ASN1Result<LdapMessage> {
+    let bytes = bytes_of(alloc, text)?;
+    let noted: Noted<LdapMessage> = decode_ber(alloc, &bytes)?;
+    Ok(noted.into_value())
+}
+
 #[test]
 fn what_a_search_asks(rt: HostRuntime) -> Result<(), Fail> {
-    let alloc = rt.alloc();
-    let bytes = bytes_of(alloc, TAKEN[17])?;
-    let noted: Noted<LdapMessage> = decode_ber(alloc, &bytes)?;
-    assert!(rt; asks_for_both(&noted.into_value().protocol_op));
+    let message = message_of(rt.alloc(), TAKEN[17])?;
+    assert!(rt; asks_for_both(&message.protocol_op));
     Ok(())
 }
 

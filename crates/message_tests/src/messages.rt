@@ -2,6 +2,7 @@
 
 use snmp::{ApplicationSyntax, SimpleSyntax};
 use std::alloc::Global;
+use std::process::Abort;
 use std::test::Fail;
 use x509::{AlgorithmIdentifier, Attribute, Extensions, Name, SubjectPublicKeyInfo, Validity};
 use yasna::{
@@ -18,62 +19,73 @@ pub fn rewritten<T: BERDecodable + DEREncodable + DERExact>(
     encode_der(alloc, &value)
 }
 
+/// The bytes are the form of a value of this type: they come back.
+pub fn comes_back<T: BERDecodable + DEREncodable + DERExact>(
+    rt: &impl Abort,
+    alloc: Global,
+    bytes: &[u8],
+) -> Result<(), Fail> {
+    let form = rewritten::<T>(alloc, bytes)?;
+    assert_eq!(rt; form.as_slice(), bytes);
+    Ok(())
+}
+
+/// They are the form of none.
+pub fn is_refused<T: BERDecodable + DEREncodable + DERExact>(
+    rt: &impl Abort,
+    alloc: Global,
+    bytes: &[u8],
+) {
+    assert!(rt; rewritten::<T>(alloc, bytes).is_err());
+}
+
 #[test]
 fn algorithms(rt: HostRuntime) -> Result<(), Fail> {
-    let alloc = rt.alloc();
     let rsa = [48, 13, 6, 9, 42, 134, 72, 134, 247, 13, 1, 1, 1, 5, 0];
-    let form = rewritten::<Noted<AlgorithmIdentifier>>(alloc, &rsa)?;
-    assert_eq!(rt; form.as_slice(), rsa.as_slice());
+    comes_back::<Noted<AlgorithmIdentifier>>(&rt, rt.alloc(), &rsa)?;
     let key = [48, 11, 48, 5, 6, 3, 43, 101, 112, 3, 2, 0, 170];
-    let form = rewritten::<Noted<SubjectPublicKeyInfo>>(alloc, &key)?;
-    assert_eq!(rt; form.as_slice(), key.as_slice());
-    Ok(())
+    comes_back::<Noted<SubjectPublicKeyInfo>>(&rt, rt.alloc(), &key)
 }
 
 #[test]
 fn names(rt: HostRuntime) -> Result<(), Fail> {
-    let alloc = rt.alloc();
     let name = [48, 12, 49, 10, 48, 8, 6, 3, 85, 4, 3, 12, 1, 97];
-    let form = rewritten::<Noted<Name>>(alloc, &name)?;
-    assert_eq!(rt; form.as_slice(), name.as_slice());
+    comes_back::<Noted<Name>>(&rt, rt.alloc(), &name)?;
     let attribute = [48, 10, 6, 3, 85, 4, 3, 49, 3, 12, 1, 97];
-    let form = rewritten::<Noted<Attribute>>(alloc, &attribute)?;
-    assert_eq!(rt; form.as_slice(), attribute.as_slice());
+    comes_back::<Noted<Attribute>>(&rt, rt.alloc(), &attribute)?;
     // a part of a name has one attribute at least
-    assert!(rt; rewritten::<Noted<Name>>(alloc, &[48, 2, 49, 0]).is_err());
+    is_refused::<Noted<Name>>(&rt, rt.alloc(), &[48, 2, 49, 0]);
     Ok(())
 }
 
 #[test]
 fn validities(rt: HostRuntime) -> Result<(), Fail> {
-    let alloc = rt.alloc();
     let validity = [
         48, 32, 23, 13, 50, 53, 48, 49, 48, 49, 48, 48, 48, 48, 48, 48, 90, 24, 15, 50, 48, 53, 48,
         48, 49, 48, 49, 48, 48, 48, 48, 48, 48, 90,
     ];
-    let form = rewritten::<Noted<Validity>>(alloc, &validity)?;
-    assert_eq!(rt; form.as_slice(), validity.as_slice());
-    Ok(())
+    comes_back::<Noted<Validity>>(&rt, rt.alloc(), &validity)
 }
 
 #[test]
 fn lists_of_extensions(rt: HostRuntime) -> Result<(), Fail> {
-    let alloc = rt.alloc();
     let list = [48, 14, 48, 12, 6, 3, 85, 29, 19, 1, 1, 255, 4, 2, 48, 0];
-    let form = rewritten::<Noted<Extensions>>(alloc, &list)?;
-    assert_eq!(rt; form.as_slice(), list.as_slice());
-    assert!(rt; rewritten::<Noted<Extensions>>(alloc, &[48, 0]).is_err());
+    comes_back::<Noted<Extensions>>(&rt, rt.alloc(), &list)?;
+    is_refused::<Noted<Extensions>>(&rt, rt.alloc(), &[48, 0]);
     Ok(())
 }
 
 #[test]
 fn values_of_variables(rt: HostRuntime) -> Result<(), Fail> {
-    let alloc = rt.alloc();
     let simple: [&[u8]; 3] = [&[2, 1, 5], &[4, 1, 97], &[6, 3, 85, 4, 3]];
     for bytes in simple {
-        let form = rewritten::<Noted<SimpleSyntax>>(alloc, bytes)?;
-        assert_eq!(rt; form.as_slice(), bytes);
+        comes_back::<Noted<SimpleSyntax>>(&rt, rt.alloc(), bytes)?;
     }
+    Ok(())
+}
+
+#[test]
+fn values_of_applications(rt: HostRuntime) -> Result<(), Fail> {
     let added: [&[u8]; 6] = [
         &[64, 4, 127, 0, 0, 1],
         &[65, 1, 7],
@@ -83,10 +95,9 @@ fn values_of_variables(rt: HostRuntime) -> Result<(), Fail> {
         &[70, 1, 7],
     ];
     for bytes in added {
-        let form = rewritten::<Noted<ApplicationSyntax>>(alloc, bytes)?;
-        assert_eq!(rt; form.as_slice(), bytes);
+        comes_back::<Noted<ApplicationSyntax>>(&rt, rt.alloc(), bytes)?;
     }
     // an address has four octets
-    assert!(rt; rewritten::<Noted<ApplicationSyntax>>(alloc, &[64, 3, 127, 0, 0]).is_err());
+    is_refused::<Noted<ApplicationSyntax>>(&rt, rt.alloc(), &[64, 3, 127, 0, 0]);
     Ok(())
 }

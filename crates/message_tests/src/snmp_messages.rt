@@ -3,6 +3,7 @@
 use crate::certificates::bytes_of;
 use snmp::{ApplicationSyntax, SimpleSyntax, v1, v2c};
 use std::alloc::Global;
+use std::process::Abort;
 use std::test::Fail;
 use yasna::{
     ASN1Result, BERDecodable, DERCanonical, DEREncodable, decode_ber, decode_der, encode_der,
@@ -38,28 +39,38 @@ const VERSION_3: &str =
     "302602010304067075626c6963a019020101020100020100300e300c06082b060102010101000500";
 
 fn comes_back<T: BERDecodable + DEREncodable + DERCanonical>(
+    rt: &impl Abort,
     alloc: Global,
     text: &str,
-) -> ASN1Result<bool> {
+) -> Result<(), Fail> {
     one_form::<T>();
     let bytes = bytes_of(alloc, text)?;
     let value: T = decode_der(alloc, &bytes)?;
     let form = encode_der(alloc, &value)?;
-    Ok(form.as_slice() == bytes.as_slice())
+    assert_eq!(rt; form.as_slice(), bytes.as_slice());
+    Ok(())
+}
+
+fn is_refused<T: BERDecodable>(rt: &impl Abort, alloc: Global, text: &str) -> Result<(), Fail> {
+    let bytes = bytes_of(alloc, text)?;
+    assert!(rt; decode_ber::<T>(alloc, &bytes).is_err());
+    Ok(())
 }
 
 #[test]
 fn messages_come_back(rt: HostRuntime) -> Result<(), Fail> {
-    let alloc = rt.alloc();
-    assert!(rt; comes_back::<Noted<v1::SnmpMessage>>(alloc, GET)?);
-    assert!(rt; comes_back::<Noted<v1::SnmpMessage>>(alloc, TRAP)?);
-    assert!(rt; comes_back::<Noted<v2c::SnmpMessage>>(alloc, RESPONSE)?);
-    assert!(rt; comes_back::<Noted<v2c::SnmpMessage>>(alloc, BULK)?);
-    // each version has its own messages
-    assert!(rt; comes_back::<Noted<v1::SnmpMessage>>(alloc, BULK).is_err());
-    assert!(rt; comes_back::<Noted<v2c::SnmpMessage>>(alloc, GET).is_err());
-    assert!(rt; comes_back::<Noted<v1::SnmpMessage>>(alloc, VERSION_3).is_err());
-    Ok(())
+    comes_back::<Noted<v1::SnmpMessage>>(&rt, rt.alloc(), GET)?;
+    comes_back::<Noted<v1::SnmpMessage>>(&rt, rt.alloc(), TRAP)?;
+    comes_back::<Noted<v2c::SnmpMessage>>(&rt, rt.alloc(), RESPONSE)?;
+    comes_back::<Noted<v2c::SnmpMessage>>(&rt, rt.alloc(), BULK)
+}
+
+// Each version has its own messages.
+#[test]
+fn messages_of_other_versions(rt: HostRuntime) -> Result<(), Fail> {
+    is_refused::<Noted<v1::SnmpMessage>>(&rt, rt.alloc(), BULK)?;
+    is_refused::<Noted<v2c::SnmpMessage>>(&rt, rt.alloc(), GET)?;
+    is_refused::<Noted<v1::SnmpMessage>>(&rt, rt.alloc(), VERSION_3)
 }
 
 // Whether it has the number and the values of RESPONSE.
@@ -92,25 +103,31 @@ fn kind_of(value: &v2c::BoundValue) -> usize {
     }
 }
 
+fn message_of(alloc: Global, text: &str) -> ASN1Result<v2c::SnmpMessage> {
+    let bytes = bytes_of(alloc, text)?;
+    let noted: Noted<v2c::SnmpMessage> = decode_ber(alloc, &bytes)?;
+    Ok(noted.into_value())
+}
+
 #[test]
 fn what_a_response_says(rt: HostRuntime) -> Result<(), Fail> {
-    let alloc = rt.alloc();
-    let bytes = bytes_of(alloc, RESPONSE)?;
-    let noted: Noted<v2c::SnmpMessage> = decode_ber(alloc, &bytes)?;
-    let message = noted.into_value();
+    let message = message_of(rt.alloc(), RESPONSE)?;
     assert_eq!(rt; message.community.as_slice(), b"public".as_slice());
     assert!(rt; is_response(&message.data));
     Ok(())
 }
 
+fn written_anew(alloc: Global, bytes: &[u8]) -> ASN1Result<Vec<u8>> {
+    one_form::<Noted<v2c::SnmpMessage>>();
+    let noted: Noted<v2c::SnmpMessage> = decode_ber(alloc, bytes)?;
+    encode_der(alloc, &noted)
+}
+
 #[test]
 fn what_ber_reads_is_written_anew(rt: HostRuntime) -> Result<(), Fail> {
-    let alloc = rt.alloc();
-    one_form::<Noted<v2c::SnmpMessage>>();
-    let bytes = bytes_of(alloc, LONG)?;
-    let noted: Noted<v2c::SnmpMessage> = decode_ber(alloc, &bytes)?;
-    let form = encode_der(alloc, &noted)?;
+    let bytes = bytes_of(rt.alloc(), LONG)?;
+    let form = written_anew(rt.alloc(), &bytes)?;
     assert_eq!(rt; form.len(), 40);
-    assert!(rt; decode_der::<Noted<v2c::SnmpMessage>>(alloc, &bytes).is_err());
+    assert!(rt; decode_der::<Noted<v2c::SnmpMessage>>(rt.alloc(), &bytes).is_err());
     Ok(())
 }
