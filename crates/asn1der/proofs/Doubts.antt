@@ -14,9 +14,9 @@ use Rattle.yasna_base.specs.declared.tag.TagClass.TheVariants.{Universal}
 use Rattle.yasna_base.proofs.Header.{opens_begins, header_of, end_behind}
 use Rattle.asn1der.specs.Doubt.{IsNoString, IsNoSet, IsSureBranch, IsSure, Meets, MeetsDoubts, MeetsAt, MeetsTo, AreTheDoubts}
 use Rattle.asn1der.specs.Kind.{IsOfKind}
-use Rattle.asn1der.specs.Parts.{part_tags, TakesPart, TakesParts}
+use Rattle.asn1der.specs.Parts.{part_tags, TakesPart, TakesPartsTo}
 use Rattle.asn1der.specs.Tags.{IsOtherTag}
-use Rattle.asn1der.specs.Tree.{Branch, boolean, bits, string, primitive, set_of, constructed, Tree, branch_tag, tag_of, AreOneTag, HasBranch, HasTree}
+use Rattle.asn1der.specs.Tree.{Branch, boolean, bits, string, primitive, set_of, constructed, Tree, branch_tag, tree_tag, AreOneTag, HasBranch, HasTree}
 use Rattle.asn1der.specs.declared.doubt.Doubts.{Doubts}
 use Rattle.asn1der.specs.declared.kind.Kind.{Kind}
 use Rattle.asn1der.specs.declared.kind.Kind.TheVariants.{Other}
@@ -66,7 +66,7 @@ unfolding Tree HasTree IsSure
 sure_primitive G zero m t s c end v b r opens x e = absurd x
 sure_primitive G (suc j) m t s c end v b r opens x e = go v x
   where
-    go : (w : Branch (Tree j)) → HasBranch (HasTree j m) (tag_of j) (suc j) m w b → IsSureBranch G (IsSure G j) w
+    go : (w : Branch (Tree j)) → HasBranch (HasTree j m) (tree_tag j) (suc j) m w b → IsSureBranch G (IsSure G j) w
     go (boolean u) y = tt
     go (bits u) y = tt
     go (string u d) y = tt
@@ -81,8 +81,8 @@ OfAll k m d end r P = (vs : List (Tree k)) (front rest : List ℕ) → Pieces (H
 -- what was met in a constructed element, and then about itself
 met_around : (G : Tag → Type 0) (Q : Type 0) (k : ℕ) (m : BERMode) (t : Tag) (s d r : List ℕ) (end : ContentsEnd) (old mid new : Option ℕ) → IsOtherTag t →
     OpensAt m t Constructed s d end → OfAll k m d end r (λ vs. Meets old mid (AllByRecursion (IsSure G k) vs)) → Meets mid new Q →
-    OfAll k m d end r (λ vs. t ≡ set_tag → AreOneTag (map (tag_of k) vs) → Q) →
-    OfAll k m d end r (λ vs. (t ≡ set_tag → AreOneTag (map (tag_of k) vs) → ⊥) → Q ↔ G t) →
+    OfAll k m d end r (λ vs. t ≡ set_tag → AreOneTag (map (tree_tag k) vs) → Q) →
+    OfAll k m d end r (λ vs. (t ≡ set_tag → AreOneTag (map (tree_tag k) vs) → ⊥) → Q ↔ G t) →
     (v : Tree (suc k)) (b : List ℕ) → HasTree (suc k) m v b → s ≡ b ++ r → Meets old new (IsSure G (suc k) v)
 unfolding Tree HasTree IsSure
 met_around G Q k m t s d r end old mid new is opens inside here set other v b x e =
@@ -90,7 +90,7 @@ met_around G Q k m t s d r end old mid new is opens inside here set other v b x 
     let h = opens_begins m t Constructed s d end opens in
     go v x (root_kind (suc k) m Other t s b r root is h e) (root_tag (suc k) m t s b r root h e)
   where
-    go : (w : Branch (Tree k)) → HasBranch (HasTree k m) (tag_of k) (suc k) m w b → branch_kind w ≡ Other → branch_tag w ≡ t →
+    go : (w : Branch (Tree k)) → HasBranch (HasTree k m) (tree_tag k) (suc k) m w b → branch_kind w ≡ Other → branch_tag w ≡ t →
         Meets old new (IsSureBranch G (IsSure G k) w)
     go (primitive u c) y f g = let h = (header_of m t u Constructed Primitive s d c b r end opens y.1 e).bit in absurd (cc)
     go (set_of vs) y f g =
@@ -108,16 +108,16 @@ met_around G Q k m t s d r end old mid new is opens inside here set other v b x 
     go w y f g = absurd (cc)
 
 -- the elements that were taken are those that stand there
-taken_trees : (k : ℕ) (m : BERMode) (d : List ℕ) (end : ContentsEnd) (ps : List Part) (r : List ℕ) → (x : TakesParts k m d end ps r) →
-    OfAll k m d end r (λ vs. part_tags ps ≡ map (tag_of k) vs)
+taken_trees : (k : ℕ) (m : BERMode) (d : List ℕ) (end : ContentsEnd) (ps : List Part) (r : List ℕ) → (x : TakesPartsTo k m d end ps r) →
+    OfAll k m d end r (λ vs. part_tags ps ≡ map (tree_tag k) vs)
 taken_trees k m d end ps r x vs front rest p e ends =
     let same = trees_end k m x.parts.trees vs x.front front x.rest rest x.parts.read p (end_behind end x.rest r x.ends) (end_behind end rest r ends)
     (sym x.joined ∙ e) in
-    x.parts.tags ∙ ap (map (tag_of k)) same
+    x.parts.tags ∙ ap (map (tree_tag k)) same
 
 -- the doubts about a constructed element
 around_meets : (k : ℕ) (m : BERMode) (t : Tag) (s d r : List ℕ) (end : ContentsEnd) (ps : List Part) (old mid new : Doubts) → IsOtherTag t →
-    OpensAt m t Constructed s d end → TakesParts k m d end ps r → MeetsTo k m d end r old mid → Meets mid.segments new.segments (t.tag_class ≡ Universal) →
+    OpensAt m t Constructed s d end → TakesPartsTo k m d end ps r → MeetsTo k m d end r old mid → Meets mid.segments new.segments (t.tag_class ≡ Universal) →
     Meets mid.order new.order (t ≡ set_tag → AreOneTag (part_tags ps)) → MeetsAt (suc k) m s r old new
 around_meets k m t s d r end ps old mid new is opens x inside segments order v b y e =
     let tags = taken_trees k m d end ps r x in
@@ -134,11 +134,11 @@ around_meets k m t s d r end ps old mid new is opens x inside segments order v b
 
 -- elements were taken, and the doubts about them met
 abbrev pub Inside : ℕ → List Part → List ℕ → Doubts → Doubts → BERMode → List ℕ → ContentsEnd → Type 0
-Inside k ps r old mid m d end = TakesParts k m d end ps r × MeetsTo k m d end r old mid
+Inside k ps r old mid m d end = TakesPartsTo k m d end ps r × MeetsTo k m d end r old mid
 
 -- the same, where the contents are read at a place of their own
 pub constructed_meets : (n k : ℕ) (m m' : BERMode) (t : Tag) (s d d' r : List ℕ) (end end' : ContentsEnd) (ps qs : List Part) (old mid new : Doubts) → m' ≡ m →
-    1 ≤ n → k ≡ n - 1 → d' ≡ d → end' ≡ end → qs ≡ ps → IsOtherTag t → OpensAt m t Constructed s d end → TakesParts k m' d' end' ps r →
+    1 ≤ n → k ≡ n - 1 → d' ≡ d → end' ≡ end → qs ≡ ps → IsOtherTag t → OpensAt m t Constructed s d end → TakesPartsTo k m' d' end' ps r →
     MeetsTo k m' d' end' r old mid → Meets mid.segments new.segments (t.tag_class ≡ Universal) →
     Meets mid.order new.order (t ≡ set_tag → AreOneTag (part_tags qs)) → MeetsAt n m s r old new
 constructed_meets n k m m' t s d d' r end end' ps qs old mid new f level less g h i is opens x inside segments order =
@@ -219,7 +219,7 @@ walked_end n m s y r end ps a b x ends vs front rest p e stops =
     subst (λ us. MeetsDoubts n us a b) same x.met
 
 -- where nothing was in doubt before, the doubts are those about the input
-pub are_the_doubts : (s r : List ℕ) (ps : List Part) (a b : Doubts) → TakesParts 101 Ber s (definite_end []) ps r → MeetsTo 101 Ber s (definite_end []) r a b →
+pub are_the_doubts : (s r : List ℕ) (ps : List Part) (a b : Doubts) → TakesPartsTo 101 Ber s (definite_end []) ps r → MeetsTo 101 Ber s (definite_end []) r a b →
     a.segments ≡ None → a.order ≡ None → AreTheDoubts s b
 are_the_doubts s r ps a b x met e f = record {
   segments = λ vs p. let y = (met vs s [] p (sym (append-nil s)) (refl, x.ends.1)).segments in (λ g. (y.0 g).1, λ h. y.1 (e, h));

@@ -19,7 +19,7 @@ use Rattle.yasna_base.proofs.Pieces.{no_front_at_end, pieces_once, pieces_end, e
 use Rattle.yasna_base.proofs.Segmented.{segmented_begins, segmented_exact}
 use Rattle.asn1der.specs.Kind.{IsOfKind}
 use Rattle.asn1der.specs.Tags.{IsStringTag, IsOtherTag}
-use Rattle.asn1der.specs.Tree.{Branch, boolean, bits, string, primitive, set_of, constructed, Tree, branch_tag, tag_of, AreOneTag, HasBranch, HasTree}
+use Rattle.asn1der.specs.Tree.{Branch, boolean, bits, string, primitive, set_of, constructed, Tree, branch_tag, tree_tag, AreOneTag, HasBranch, HasTree}
 use Rattle.asn1der.specs.declared.kind.Kind.{Kind}
 use Rattle.asn1der.specs.declared.kind.Kind.TheVariants.{EndOfContents, Boolean, Bits, Octets, Other}
 use Rattle.asn1der.proofs.Forms.{string_small}
@@ -210,22 +210,22 @@ module _ {A : Type 0} (R : A → List ℕ → Type 0) (mark : A → Tag) (n : �
 pub tree_starts : (n : ℕ) (m : BERMode) (v : Tree n) (b : List ℕ) → HasTree n m v b → StartsElement b
 unfolding Tree HasTree
 tree_starts zero m v b x = absurd x
-tree_starts (suc n) m v b x = branch_starts (HasTree n m) (tag_of n) (suc n) m v b x
+tree_starts (suc n) m v b x = branch_starts (HasTree n m) (tree_tag n) (suc n) m v b x
 
 -- bytes have one tree, and no element begins another
 pub tree_exact : (n : ℕ) (m : BERMode) (v w : Tree n) (b c r s : List ℕ) → HasTree n m v b → HasTree n m w c → b ++ r ≡ c ++ s → (v ≡ w) × (b ≡ c)
 unfolding Tree HasTree
 tree_exact zero m v w b c r s x y e = absurd x
 tree_exact (suc n) m v w b c r s x y e =
-    branch_exact (HasTree n m) (tag_of n) (suc n) m (tree_exact n m) (tree_starts n m) v w b c r s x y e
+    branch_exact (HasTree n m) (tree_tag n) (suc n) m (tree_exact n m) (tree_starts n m) v w b c r s x y e
 
 -- contents have one list of trees
 pub trees_exact : (n : ℕ) (m : BERMode) (vs ws : List (Tree n)) (c : List ℕ) → Pieces (HasTree n m) vs c → Pieces (HasTree n m) ws c → vs ≡ ws
-trees_exact n m = members_exact (HasTree n m) (tag_of n) n m (tree_exact n m) (tree_starts n m)
+trees_exact n m = members_exact (HasTree n m) (tree_tag n) n m (tree_exact n m) (tree_starts n m)
 
 -- and where they end, but one
 pub trees_end : (n : ℕ) (m : BERMode) (vs ws : List (Tree n)) (c d x y : List ℕ) → Pieces (HasTree n m) vs c → Pieces (HasTree n m) ws d → AtEnd x → AtEnd y →
     c ++ x ≡ d ++ y → vs ≡ ws
 trees_end n m vs ws c d x y p q i j e =
-    let same = members_end (HasTree n m) (tag_of n) n m (tree_exact n m) (tree_starts n m) vs ws c d x y p q i j e in
+    let same = members_end (HasTree n m) (tree_tag n) n m (tree_exact n m) (tree_starts n m) vs ws c d x y p q i j e in
     trees_exact n m vs ws d (subst (λ z. Pieces (HasTree n m) vs z) same p) q

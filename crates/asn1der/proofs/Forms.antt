@@ -21,7 +21,7 @@ use Rattle.yasna_base.proofs.Octets.{octets_written}
 use Rattle.yasna_base.proofs.Order.{in_order_map, all_permuted}
 use Rattle.yasna_base.proofs.SetOfWriting.{in_order_moved, octets_in_order, octets_ordered}
 use Rattle.asn1der.specs.Tags.{IsStringTag}
-use Rattle.asn1der.specs.Tree.{Branch, boolean, bits, string, primitive, set_of, constructed, Tree, branch_tag, tag_of, AreOneTag, HasBranch, HasTree, branch_form, der_form, SameBranch, SameTree}
+use Rattle.asn1der.specs.Tree.{Branch, boolean, bits, string, primitive, set_of, constructed, Tree, branch_tag, tree_tag, AreOneTag, HasBranch, HasTree, branch_form, der_form, SameBranch, SameTree}
 
 -- a string's tag has a small number
 pub string_small : (t : Tag) → IsStringTag t → (4 ≤ t.tag_number) × (t.tag_number < 2 ^ 64)
@@ -212,12 +212,12 @@ module _ {A : Type 0} (R : BERMode → A → List ℕ → Type 0) (E : A → A �
 
 -- the same of trees
 abbrev pub Canonical : (n : ℕ) → Tree n → Type 0
-Canonical n v = CanonicalOne (HasTree n) (SameTree n) (der_form n) (tag_of n) v
+Canonical n v = CanonicalOne (HasTree n) (SameTree n) (der_form n) (tree_tag n) v
 
 -- an element in BER has a canonical form
 pub canonical : (n : ℕ) (v : Tree n) (b : List ℕ) → HasTree n Ber v b → length (der_form n v) < 2 ^ 64 → Canonical n v
-unfolding Tree HasTree SameTree der_form tag_of
+unfolding Tree HasTree SameTree der_form tree_tag
 canonical zero v b x short = absurd x
 canonical (suc n) v b x short =
-    let y = branch_canonical (HasTree n) (SameTree n) (der_form n) (tag_of n) (canonical n) (suc n) (omega arith) v b x short in
+    let y = branch_canonical (HasTree n) (SameTree n) (der_form n) (tree_tag n) (canonical n) (suc n) (omega arith) v b x short in
     record { tree = y.tree; read = y.read; same = y.same; form = y.form; tag = y.tag; in_bytes = y.in_bytes }

@@ -20,21 +20,21 @@ use Rattle.yasna_base.proofs.Pieces.{no_pieces, one_piece, pieces_append}
 use Rattle.yasna_base.proofs.Segmented.{segmented_begins, segmented_level}
 use Rattle.yasna_bytes.specs.Front.{Takes}
 use Rattle.yasna_bytes.proofs.Ending.{closed}
-use Rattle.asn1der.specs.Parts.{part_tags, part_bytes, IsPartOf, ArePartsOf, TakesPart, TakesParts, ArePutInOrder, ascending, as_they_stood, Encloses}
+use Rattle.asn1der.specs.Parts.{part_tags, part_bytes, IsPartOf, ArePartsOf, TakesPart, TakesPartsTo, ArePutInOrder, ascending, as_they_stood, IsPartAround}
 use Rattle.asn1der.specs.Tags.{IsStringTag, IsOtherTag}
-use Rattle.asn1der.specs.Tree.{Branch, boolean, bits, string, primitive, set_of, constructed, Tree, branch_tag, tag_of, AreOneTag, HasBranch, HasTree, branch_form, der_form}
+use Rattle.asn1der.specs.Tree.{Branch, boolean, bits, string, primitive, set_of, constructed, Tree, branch_tag, tree_tag, AreOneTag, HasBranch, HasTree, branch_form, der_form}
 use Rattle.asn1der.specs.declared.part.Part.{Part}
 
 -- an element around those a level further in
-branch_part : (n : ℕ) (m : BERMode) (b : List ℕ) (v : Branch (Tree n)) → HasBranch (HasTree n m) (tag_of n) (suc n) m v b → (p : Part) →
+branch_part : (n : ℕ) (m : BERMode) (b : List ℕ) (v : Branch (Tree n)) → HasBranch (HasTree n m) (tree_tag n) (suc n) m v b → (p : Part) →
     p.tag ≡ branch_tag v → p.bytes.items ≡ branch_form (der_form n) v → IsPartOf (suc n) m b p
-unfolding Tree HasTree tag_of der_form
+unfolding Tree HasTree tree_tag der_form
 branch_part n m b v x p t f = record { tree = v; read = x; tag = t; form = f }
 
-part_at : (n k : ℕ) → suc k ≡ n → (m : BERMode) (b : List ℕ) (v : Branch (Tree k)) → HasBranch (HasTree k m) (tag_of k) n m v b → (p : Part) →
+part_at : (n k : ℕ) → suc k ≡ n → (m : BERMode) (b : List ℕ) (v : Branch (Tree k)) → HasBranch (HasTree k m) (tree_tag k) n m v b → (p : Part) →
     p.tag ≡ branch_tag v → p.bytes.items ≡ branch_form (der_form k) v → IsPartOf n m b p
 part_at n k e m b v x p t f =
-    subst (λ z. IsPartOf z m b p) e (branch_part k m b v (subst (λ z. HasBranch (HasTree k m) (tag_of k) z m v b) (sym e) x) p t f)
+    subst (λ z. IsPartOf z m b p) e (branch_part k m b v (subst (λ z. HasBranch (HasTree k m) (tree_tag k) z m v b) (sym e) x) p t f)
 
 one_less : (n : ℕ) → 1 ≤ n → (k : ℕ) × (suc k ≡ n)
 one_less zero h = absurd (omega (arith, h))
@@ -95,7 +95,7 @@ unfoldable pub more_parts : (n : ℕ) (m : BERMode) (c b : List ℕ) (ps : List 
 more_parts n m c b ps p x y = record {
   trees = x.trees ++ (y.tree ∷ []);
   read = pieces_append x.trees (y.tree ∷ []) c b x.read (one_piece y.tree b y.read);
-  tags = maps_end (λ (q : Part). q.tag) (tag_of n) ps x.trees p y.tree x.tags y.tag;
+  tags = maps_end (λ (q : Part). q.tag) (tree_tag n) ps x.trees p y.tree x.tags y.tag;
   forms = maps_end (λ (q : Part). q.bytes.items) (der_form n) ps x.trees p y.tree x.forms y.form;
 }
 
@@ -143,7 +143,7 @@ around_order k n e t c b ps p cs h x y i f (as_they_stood o j) =
 
 -- any other constructed element, whose contents end so
 pub constructed_part : (k n : ℕ) → suc k ≡ n → (t : Tag) (s d r : List ℕ) (end : ContentsEnd) (ps : List Part) (p : Part) → IsOtherTag t →
-    OpensAt Ber t Constructed s d end → TakesParts k Ber d end ps r → Encloses t ps p → TakesPart n Ber s p r
+    OpensAt Ber t Constructed s d end → TakesPartsTo k Ber d end ps r → IsPartAround t ps p → TakesPart n Ber s p r
 constructed_part k n e t s d r end ps p h x y z =
     let w = closed Ber t Constructed s d end x y.front y.rest r y.joined y.ends in
     record {
@@ -205,12 +205,12 @@ contents_empty bytes c count u enough unused n e =
 
 -- the same as `constructed_part`, where the contents are read at a place of their own
 pub constructed_taken : (n k : ℕ) (m m' : BERMode) (t : Tag) (s d d' r : List ℕ) (end end' : ContentsEnd) (ps : List Part) (p : Part) → m ≡ Ber → m' ≡ m →
-    1 ≤ n → k ≡ n - 1 → d' ≡ d → end' ≡ end → IsOtherTag t → OpensAt m t Constructed s d end → TakesParts k m' d' end' ps r → Encloses t ps p →
+    1 ≤ n → k ≡ n - 1 → d' ≡ d → end' ≡ end → IsOtherTag t → OpensAt m t Constructed s d end → TakesPartsTo k m' d' end' ps r → IsPartAround t ps p →
     TakesPart n m s p r
 constructed_taken n k m m' t s d d' r end end' ps p f g level less h i other opens takes encloses =
-    let one = subst (λ z. TakesParts k z d' end' ps r) (g ∙ f) takes in
-    let two = subst (λ z. TakesParts k Ber z end' ps r) h one in
-    let three = subst (λ z. TakesParts k Ber d z ps r) i two in
+    let one = subst (λ z. TakesPartsTo k z d' end' ps r) (g ∙ f) takes in
+    let two = subst (λ z. TakesPartsTo k Ber z end' ps r) h one in
+    let three = subst (λ z. TakesPartsTo k Ber d z ps r) i two in
     let above = subst (λ z. OpensAt z t Constructed s d end) f opens in
     subst (λ z. TakesPart n z s p r) (sym f) (constructed_part k n (omega (arith, level, less)) t s d r end ps p other above three encloses)
 
@@ -225,7 +225,7 @@ branch_some R tag n m (constructed t vs) b x = begins_some t b (element_begins m
 tree_some : (n : ℕ) (m : BERMode) (v : Tree n) (b : List ℕ) → HasTree n m v b → 1 ≤ length b
 unfolding Tree HasTree
 tree_some zero m v b x = absurd x
-tree_some (suc n) m v b x = branch_some (HasTree n m) (tag_of n) (suc n) m v b x
+tree_some (suc n) m v b x = branch_some (HasTree n m) (tree_tag n) (suc n) m v b x
 
 -- fewer bytes are left behind an element
 pub taken_shorter : (n : ℕ) (m : BERMode) (s : List ℕ) (p : Part) (r q : List ℕ) → TakesPart n m s p r → q ≡ r → length q < length s

@@ -16,7 +16,7 @@ use Rattle.yasna_base.specs.declared.tag.Tag.{Tag}
 use Rattle.yasna_base.proofs.Identifier.{not_end}
 use Rattle.yasna_base.proofs.Raw.{raw_of}
 use Rattle.yasna_base.proofs.Segmented.{segmented_into}
-use Rattle.asn1der.specs.Tree.{Branch, boolean, bits, string, primitive, set_of, constructed, Tree, tag_of, IsAround, HasBranch, HasTree}
+use Rattle.asn1der.specs.Tree.{Branch, boolean, bits, string, primitive, set_of, constructed, Tree, tree_tag, IsAround, HasBranch, HasTree}
 use Rattle.asn1der.proofs.Forms.{string_small}
 
 module _ (S : RawValue → List ℕ → Type 0) where
@@ -75,5 +75,5 @@ pub tree_raw : (n : ℕ) (v : Tree n) (b : List ℕ) → HasTree n Der v b → (
 unfolding Tree HasTree
 tree_raw zero v b x = absurd x
 tree_raw (suc n) v b x =
-    let y = branch_raw (IsRaw n Der) (HasTree n Der) (tag_of n) (tree_raw n) n v b x in
+    let y = branch_raw (IsRaw n Der) (HasTree n Der) (tree_tag n) (tree_raw n) n v b x in
     (y.0, raw_of n Der y.0 b y.1)

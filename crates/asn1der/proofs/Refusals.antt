@@ -25,7 +25,7 @@ use Rattle.asn1der.specs.Conversion.{Converts}
 use Rattle.asn1der.specs.Kind.{IsOfKind}
 use Rattle.asn1der.specs.Parts.{NoTreeAt, NoTreesTo}
 use Rattle.asn1der.specs.Tags.{IsStringTag, IsOtherTag}
-use Rattle.asn1der.specs.Tree.{Branch, boolean, bits, string, primitive, set_of, constructed, Tree, branch_tag, tag_of, HasBranch, HasTree}
+use Rattle.asn1der.specs.Tree.{Branch, boolean, bits, string, primitive, set_of, constructed, Tree, branch_tag, tree_tag, HasBranch, HasTree}
 use Rattle.asn1der.specs.declared.kind.Kind.{Kind}
 use Rattle.asn1der.specs.declared.kind.Kind.TheVariants.{Boolean, Bits, Octets, Other}
 use Rattle.asn1der.specs.declared.part.Part.{Part}
@@ -37,7 +37,7 @@ pub record Root (n : ℕ) (m : BERMode) (b : List ℕ) : Type 0 where
   pub k : ℕ
   pub level : suc k ≡ n
   pub branch : Branch (Tree k)
-  pub has : HasBranch (HasTree k m) (tag_of k) n m branch b
+  pub has : HasBranch (HasTree k m) (tree_tag k) n m branch b
 
 pub tree_root : (n : ℕ) (m : BERMode) (v : Tree n) (b : List ℕ) → HasTree n m v b → Root n m b
 unfolding Tree HasTree
@@ -46,13 +46,13 @@ tree_root (suc k) m v b x = record { k = k; level = refl; branch = v; has = x }
 
 pub root_tag : (n : ℕ) (m : BERMode) (t : Tag) (s b r : List ℕ) (x : Root n m b) → BeginsWithTag t s → s ≡ b ++ r → branch_tag x.branch ≡ t
 root_tag n m t s b r x h e =
-    let i = begins_with (branch_tag x.branch) b r (branch_begins (HasTree x.k m) (tag_of x.k) n m x.branch b x.has) in
+    let i = begins_with (branch_tag x.branch) b r (branch_begins (HasTree x.k m) (tree_tag x.k) n m x.branch b x.has) in
     begins_once (branch_tag x.branch) t s (subst (λ z. BeginsWithTag (branch_tag x.branch) z) (sym e) i) h
 
 pub root_kind : (n : ℕ) (m : BERMode) (k : Kind) (t : Tag) (s b r : List ℕ) (x : Root n m b) → IsOfKind k t → BeginsWithTag t s → s ≡ b ++ r →
     branch_kind x.branch ≡ k
 root_kind n m k t s b r x h i e =
-    let is = branch_is_of_kind (HasTree x.k m) (tag_of x.k) n m x.branch b x.has in
+    let is = branch_is_of_kind (HasTree x.k m) (tree_tag x.k) n m x.branch b x.has in
     kinds_once (branch_kind x.branch) k t (subst (λ u. IsOfKind (branch_kind x.branch) u) (root_tag n m t s b r x i e) is) h
 
 -- where no BOOLEAN stands behind its tag
@@ -61,7 +61,7 @@ no_boolean n m s h none v b r x e =
     let y = tree_root n m v b x in
     go y.k y.branch y.has (root_kind n m Boolean boolean_tag s b r y refl h e)
   where
-    go : (k : ℕ) (w : Branch (Tree k)) → HasBranch (HasTree k m) (tag_of k) n m w b → branch_kind w ≡ Boolean → ⊥
+    go : (k : ℕ) (w : Branch (Tree k)) → HasBranch (HasTree k m) (tree_tag k) n m w b → branch_kind w ≡ Boolean → ⊥
     go k (boolean u) i f = none (u, r, record { front = b; joined = e; member = i })
     go k w i f = absurd (cc)
 
@@ -71,7 +71,7 @@ no_bits n m s h none v b r x e =
     let y = tree_root n m v b x in
     go y.k y.branch y.has (root_kind n m Bits bits_tag s b r y refl h e)
   where
-    go : (k : ℕ) (w : Branch (Tree k)) → HasBranch (HasTree k m) (tag_of k) n m w b → branch_kind w ≡ Bits → ⊥
+    go : (k : ℕ) (w : Branch (Tree k)) → HasBranch (HasTree k m) (tree_tag k) n m w b → branch_kind w ≡ Bits → ⊥
     go k (bits u) i f = none (u, r, record { front = b; joined = e; member = i })
     go k w i f = absurd (cc)
 
@@ -81,7 +81,7 @@ no_string n m t s is h none v b r x e =
     let y = tree_root n m v b x in
     go y.k y.branch y.has (root_kind n m Octets t s b r y is h e) (root_tag n m t s b r y h e)
   where
-    go : (k : ℕ) (w : Branch (Tree k)) → HasBranch (HasTree k m) (tag_of k) n m w b → branch_kind w ≡ Octets → branch_tag w ≡ t → ⊥
+    go : (k : ℕ) (w : Branch (Tree k)) → HasBranch (HasTree k m) (tree_tag k) n m w b → branch_kind w ≡ Octets → branch_tag w ≡ t → ⊥
     go k (string u c) i f g = none (c, r, record { front = b; joined = e; member = subst (λ z. IsOctets n m z c b) g i.1 })
     go k w i f g = absurd (cc)
 
@@ -104,7 +104,7 @@ pub no_header : (n : ℕ) (m : BERMode) (t : Tag) (bit : PCBit) (s y : List ℕ)
 no_header n m t bit s y is j none v b r x e =
     let z = tree_root n m v b x in
     let k = root_kind n m Other t s b r z is (begins bit y j) e in
-    let o = other_element (HasTree z.k m) (tag_of z.k) n m z.branch b z.has k in
+    let o = other_element (HasTree z.k m) (tree_tag z.k) n m z.branch b z.has k in
     let h = element_there m (branch_tag z.branch) o.bit o.contents b s r o.element e in
     let i = identifier_exact (branch_tag z.branch) t o.bit bit h.behind y (sym h.joined ∙ j) in
     none h.contents h.end (subst (λ p. Holds m p y h.contents h.end) i.1 (subst (λ a. Holds m o.bit a h.contents h.end) i.2 h.holds))
@@ -143,7 +143,7 @@ no_constructed n k m t s d end level is opens none v b r x e =
     let y = tree_root n m v b x in
     go y.k y.branch y.has (omega (arith, level, y.level)) (root_kind n m Other t s b r y is (opens_begins m t Constructed s d end opens) e)
   where
-    go : (j : ℕ) (w : Branch (Tree j)) → HasBranch (HasTree j m) (tag_of j) n m w b → k ≡ j → branch_kind w ≡ Other → ⊥
+    go : (j : ℕ) (w : Branch (Tree j)) → HasBranch (HasTree j m) (tree_tag j) n m w b → k ≡ j → branch_kind w ≡ Other → ⊥
     go j (primitive u c) i l f = let h = (header_of m t u Constructed Primitive s d c b r end opens i.1 e).bit in absurd (cc)
     go j (set_of vs) i l f =
         let h = header_of m t set_tag Constructed Constructed s d i.contents b r end opens i.element e in

@@ -6,8 +6,8 @@ use Rattle.yasna_base.specs.Pieces.{Each, Pieces}
 use Rattle.yasna_base.specs.Raw.{IsRaw, IsJoining}
 use Rattle.yasna_base.specs.declared.mode.BERMode.TheVariants.{Ber, Der}
 use Rattle.asn1der.specs.Conversion.{Converts, SaysTheSame}
-use Rattle.asn1der.specs.Parts.{part_bytes, TakesParts}
-use Rattle.asn1der.specs.Tree.{Tree, tag_of, HasTree, der_form, SameTree}
+use Rattle.asn1der.specs.Parts.{part_bytes, TakesPartsTo}
+use Rattle.asn1der.specs.Tree.{Tree, tree_tag, HasTree, der_form, SameTree}
 use Rattle.asn1der.specs.declared.part.Part.{Part}
 use Rattle.asn1der.proofs.Exact.{trees_exact}
 use Rattle.asn1der.proofs.Forms.{CanonicalEach, canonical_each, all_canonical, canonical}
@@ -27,7 +27,7 @@ some_each E (v ∷ vs) [] p h = absurd p
 some_each E (v ∷ vs) (w ∷ ws) p h = omega arith
 
 -- an input that was read to its end was converted
-pub converts : (s r d : List ℕ) (ps : List Part) → TakesParts 101 Ber s (definite_end []) ps r → 1 ≤ length s → d ≡ concat (part_bytes ps) → Converts s d
+pub converts : (s r d : List ℕ) (ps : List Part) → TakesPartsTo 101 Ber s (definite_end []) ps r → 1 ≤ length s → d ≡ concat (part_bytes ps) → Converts s d
 converts s r d ps x some e =
     let whole : s ≡ x.front = x.joined ∙ ap (λ z. x.front ++ z) (x.ends.0) ∙ append-nil x.front in
     let read = subst (λ z. Pieces (HasTree 101 Ber) x.parts.trees z) (sym whole) x.parts.read in
@@ -40,12 +40,12 @@ converts s r d ps x some e =
 
 -- what is written is canonical
 abbrev Written : List (Tree 101) → Type 0
-Written vs = CanonicalEach (HasTree 101) (SameTree 101) (der_form 101) (tag_of 101) vs
+Written vs = CanonicalEach (HasTree 101) (SameTree 101) (der_form 101) (tree_tag 101) vs
 
 written : (s d : List ℕ) → (x : Converts s d) → length d < 2 ^ 64 → Written x.trees
 written s d x short =
-    canonical_each (HasTree 101) (SameTree 101) (der_form 101) (tag_of 101) x.trees
-    (all_canonical (HasTree 101) (SameTree 101) (der_form 101) (tag_of 101) (canonical 101) x.trees x.read.pieces x.read.each)
+    canonical_each (HasTree 101) (SameTree 101) (der_form 101) (tree_tag 101) x.trees
+    (all_canonical (HasTree 101) (SameTree 101) (der_form 101) (tree_tag 101) (canonical 101) x.trees x.read.pieces x.read.each)
     (subst (λ z. length z < 2 ^ 64) x.written short)
 
 -- it says the same

@@ -12,7 +12,7 @@ use Rattle.yasna_base.specs.declared.mode.BERMode.{BERMode}
 use Rattle.yasna_base.specs.declared.mode.BERMode.TheVariants.{Der}
 use Rattle.yasna_base.specs.declared.tag.PCBit.TheVariants.{Constructed}
 use Rattle.yasna_base.specs.declared.tag.Tag.{Tag}
-use Rattle.asn1der.specs.Tree.{Tree, tag_of, AreOneTag, HasTree, der_form}
+use Rattle.asn1der.specs.Tree.{Tree, tree_tag, AreOneTag, HasTree, der_form}
 use Rattle.asn1der.specs.declared.fault.Fault.{Fault}
 use Rattle.asn1der.specs.declared.fault.Fault.TheVariants.{Memory}
 use Rattle.asn1der.specs.declared.part.Part.{Part}
@@ -29,14 +29,14 @@ part_bytes ps = map (λ (p : Part). p.bytes.items) ps
 pub record IsPartOf (n : ℕ) (m : BERMode) (b : List ℕ) (p : Part) : Type 0 where
   pub tree : Tree n
   pub read : HasTree n m tree b
-  pub tag : p.tag ≡ tag_of n tree
+  pub tag : p.tag ≡ tree_tag n tree
   pub form : p.bytes.items ≡ der_form n tree
 
 -- within n levels, c is elements one after the other, and ps those elements in DER
 pub record ArePartsOf (n : ℕ) (m : BERMode) (c : List ℕ) (ps : List Part) : Type 0 where
   pub trees : List (Tree n)
   pub read : Pieces (HasTree n m) trees c
-  pub tags : part_tags ps ≡ map (tag_of n) trees
+  pub tags : part_tags ps ≡ map (tree_tag n) trees
   pub forms : part_bytes ps ≡ map (der_form n) trees
 
 -- an element stands at the front of s, p is that element in DER, and r follows it
@@ -46,7 +46,7 @@ pub record TakesPart (n : ℕ) (m : BERMode) (s : List ℕ) (p : Part) (r : List
   pub part : IsPartOf n m front p
 
 -- elements stand at the front of s up to where contents end, ps are those elements in DER, and r follows the end
-pub record TakesParts (n : ℕ) (m : BERMode) (s : List ℕ) (end : ContentsEnd) (ps : List Part) (r : List ℕ) : Type 0 where
+pub record TakesPartsTo (n : ℕ) (m : BERMode) (s : List ℕ) (end : ContentsEnd) (ps : List Part) (r : List ℕ) : Type 0 where
   pub front : List ℕ
   pub rest : List ℕ
   pub joined : s ≡ front ++ rest
@@ -60,7 +60,7 @@ pub data ArePutInOrder (t : Tag) (ts : List Tag) (bs cs : List (List ℕ)) : Typ
   as_they_stood : (t ≡ set_tag → AreOneTag ts → ⊥) → cs ≡ bs → ArePutInOrder t ts bs cs
 
 -- p is the constructed element in DER with the tag t around these
-pub record Encloses (t : Tag) (ps : List Part) (p : Part) : Type 0 where
+pub record IsPartAround (t : Tag) (ps : List Part) (p : Part) : Type 0 where
   pub tag : p.tag ≡ t
   pub inner : List (List ℕ)
   pub order : ArePutInOrder t (part_tags ps) (part_bytes ps) inner
@@ -81,5 +81,5 @@ PartAt n m s (Err e) = (e ≡ Memory → ⊥) → NoTreeAt n m s
 
 -- the same of elements up to the end of contents
 abbrev pub PartsAt : ℕ → BERMode → List ℕ → ContentsEnd → Result (Vec Part Global × Bor (List ℕ)) Fault → Type 0
-PartsAt n m s end (Ok x) = TakesParts n m s end x.0.items x.1.now
+PartsAt n m s end (Ok x) = TakesPartsTo n m s end x.0.items x.1.now
 PartsAt n m s end (Err e) = (e ≡ Memory → ⊥) → NoTreesTo n m s end

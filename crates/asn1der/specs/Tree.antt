@@ -41,10 +41,10 @@ branch_tag (set_of vs) = set_tag
 branch_tag (constructed t vs) = t
 
 -- the tag of a tree
-unfoldable pub tag_of : (n : ℕ) → Tree n → Tag
+unfoldable pub tree_tag : (n : ℕ) → Tree n → Tag
 unfolding Tree
-tag_of zero v = absurd v
-tag_of (suc n) v = branch_tag v
+tree_tag zero v = absurd v
+tree_tag (suc n) v = branch_tag v
 
 -- all of these are one
 abbrev pub AreOneTag : List Tag → Type 0
@@ -80,7 +80,7 @@ HasBranch R tag n m (constructed t vs) b = IsOtherTag t × IsAround (IsOtherCont
 unfoldable pub HasTree : (n : ℕ) → BERMode → Tree n → List ℕ → Type 0
 unfolding Tree
 HasTree zero m v b = ⊥
-HasTree (suc n) m v b = HasBranch (HasTree n m) (tag_of n) (suc n) m v b
+HasTree (suc n) m v b = HasBranch (HasTree n m) (tree_tag n) (suc n) m v b
 
 -- the element in DER, where f writes those within it
 abbrev pub branch_form : {A : Type 0} → (A → List ℕ) → Branch A → List ℕ

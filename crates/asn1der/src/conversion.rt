@@ -15,7 +15,7 @@ ghost use Rattle.yasna_base.specs.Identifier.{BeginsWithTag};
 ghost use Rattle.yasna_base.specs.Raw.{IsRaw, IsJoining};
 ghost use Rattle.yasna_base.specs.declared.tag.PCBit.TheVariants.{Primitive, Constructed};
 ghost use Rattle.asn1der.specs.Doubt.{MeetsAt, MeetsTo, AreTheDoubts};
-ghost use Rattle.asn1der.specs.Parts.{Encloses, PartAt, PartsAt};
+ghost use Rattle.asn1der.specs.Parts.{IsPartAround, PartAt, PartsAt};
 ghost use Rattle.asn1der.specs.declared.fault.Fault.TheVariants.{Memory};
 ghost use Rattle.asn1der.specs.Tags.{IsOtherTag, IsStringTag};
 
@@ -160,7 +160,7 @@ fn convert_primitive<'a>(
 
 // The constructed element with this tag around these.
 fn enclose(alloc: Global, tag: Tag, parts: Vec<Part>) -> Result<Part, Fault>
-    ensures part { IfOk result (λ p. Encloses tag parts.items p) }
+    ensures part { IfOk result (λ p. IsPartAround tag parts.items p) }
     ensures memory { IfErr result (λ e. e ≡ Memory) }
 {
     let mut inner = parts;

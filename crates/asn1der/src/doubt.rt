@@ -3,6 +3,7 @@ ghost use Rattle.std.specs.Prelude.{◌≡◌, ◌↔◌, IsTrue, None};
 ghost use Rattle.yasna_base.specs.Set.{set_tag};
 ghost use Rattle.yasna_base.specs.declared.tag.TagClass.TheVariants.{Universal};
 ghost use Rattle.asn1der.specs.Doubt.{Meets};
+ghost use Rattle.asn1der.specs.declared.doubt.Doubt.TheVariants.{Segments, Order};
 ghost use Rattle.asn1der.specs.Parts.{part_tags};
 ghost use Rattle.asn1der.specs.Tree.{AreOneTag};
 
@@ -60,7 +61,10 @@ impl Doubts {
     }
 
     /// Where the first doubt of this kind is.
-    pub fn first(&self, doubt: Doubt) -> Option<usize> {
+    pub fn first(&self, doubt: Doubt) -> Option<usize>
+        ensures segments { doubt ≡ Segments → result ≡ self.now.segments }
+        ensures order { doubt ≡ Order → result ≡ self.now.order }
+    {
         match doubt {
             Doubt::Segments => self.segments,
             Doubt::Order => self.order,

@@ -1,5 +1,5 @@
 //! Why there is no output.
-ghost use Rattle.std.specs.Prelude.{◌≡◌, ◌↔◌};
+ghost use Rattle.std.specs.Prelude.{◌≡◌, ◌↔◌, ◌-◌, length};
 ghost use Rattle.yasna_base.specs.declared.error.ASN1ErrorKind.TheVariants.{OutOfMemory};
 ghost use Rattle.asn1der.specs.declared.fault.Fault.TheVariants.{Memory};
 
@@ -23,7 +23,9 @@ pub enum Fault {
 }
 
 /// Where this place is, counted from the input's first byte.
-pub fn offset_of(cursor: Cursor<'_>) -> usize {
+pub fn offset_of(cursor: Cursor<'_>) -> usize
+    ensures { result ≡ cursor.entry.end - length cursor.entry.left.now }
+{
     cursor.end.saturating_sub(cursor.left.len())
 }
 

@@ -3,7 +3,7 @@ use Rattle.yasna_base.specs.Header.{definite_end}
 use Rattle.yasna_base.specs.declared.mode.BERMode.{BERMode}
 use Rattle.yasna_base.specs.declared.mode.BERMode.TheVariants.{Ber}
 use Rattle.asn1der.specs.Conversion.{Converts}
-use Rattle.asn1der.specs.Parts.{TakesParts, NoTreesTo, part_bytes}
+use Rattle.asn1der.specs.Parts.{TakesPartsTo, NoTreesTo, part_bytes}
 use Rattle.std.specs.List.{concat}
 use Rattle.asn1der.proofs.Doubts.{Inside, are_the_doubts}
 use Rattle.asn1der.proofs.Parts.{joined_parts}
@@ -16,9 +16,9 @@ form c =
     let start = c.start-start in
     let ps = c.in-Ok.taken.0.items in
     let rest = c.in-Ok.taken.1.now in
-    let one = subst (λ n. TakesParts n start.result.mode start.result.left.now (definite_end []) ps rest) start.ensures.levels c.in-Ok.ensures.parts in
-    let two = subst (λ (m : BERMode). TakesParts 101 m start.result.left.now (definite_end []) ps rest) start.ensures.mode one in
-    let three = subst (λ s. TakesParts 101 Ber s (definite_end []) ps rest) start.ensures.left two in
+    let one = subst (λ n. TakesPartsTo n start.result.mode start.result.left.now (definite_end []) ps rest) start.ensures.levels c.in-Ok.ensures.parts in
+    let two = subst (λ (m : BERMode). TakesPartsTo 101 m start.result.left.now (definite_end []) ps rest) start.ensures.mode one in
+    let three = subst (λ s. TakesPartsTo 101 Ber s (definite_end []) ps rest) start.ensures.left two in
     let some : 1 ≤ length c.args.input.now = search rules in
     let joins = c.in_ok-bytes.ensures.bytes ∙ joined_parts c.deref.result.now ∙ ap (λ ps. concat (part_bytes ps)) c.deref.ensures.value in
     converts c.args.input.now rest c.in_ok-bytes.bytes.items ps three some joins

@@ -3,7 +3,7 @@ use Rattle.std.specs.List.{concat}
 use Rattle.yasna_base.specs.Canonical.{canonical_element}
 use Rattle.yasna_base.specs.declared.mode.BERMode.TheVariants.{Der}
 use Rattle.yasna_base.specs.declared.tag.PCBit.TheVariants.{Constructed}
-use Rattle.asn1der.specs.Parts.{part_bytes, Encloses}
+use Rattle.asn1der.specs.Parts.{part_bytes, IsPartAround}
 use Rattle.asn1der.proofs.Parts.{if_ok_both, joined_parts}
 use Rattle.asn1der.proofs.conversion.enclose.Goals as goal
 
@@ -14,7 +14,7 @@ returns-clause-part c =
     let joins : contents ≡ concat (part_bytes inner) =
     c.in_ok-contents.ensures.bytes ∙ joined_parts c.deref.result.now ∙ ap (λ ps. concat (part_bytes ps)) c.deref.ensures.value in
     if_ok_both c.element.result (λ p. p.tag ≡ c.args.tag) (λ p. p.bytes.items ≡ canonical_element Der c.args.tag Constructed contents)
-    (λ p. Encloses c.args.tag c.args.parts.items p)
+    (λ p. IsPartAround c.args.tag c.args.parts.items p)
     (λ p t b. record {
       tag = t;
       inner = part_bytes inner;
