@@ -92,8 +92,9 @@ pub use yasna_base::tag::{PCBit, Tag, TagClass};
 pub use yasna_base::tags;
 pub use yasna_base::text::{is_numeric_text, is_printable_text, is_visible_text};
 pub use yasna_reader::{
-    BERReader, BERReaderSeq, BERReaderSet, parse_ber, parse_ber_general, parse_cer, parse_der,
-    try_parse_ber, try_parse_cer, try_parse_der,
+    BERReader, BERReaderSeq, BERReaderSet, Located, parse_ber, parse_ber_general,
+    parse_ber_located, parse_cer, parse_cer_located, parse_der, parse_der_located, try_parse_ber,
+    try_parse_cer, try_parse_der,
 };
 pub use yasna_writer::{
     DERWriter, DERWriterSeq, DERWriterSet, construct_cer, construct_der, construct_der_seq,

@@ -15,6 +15,7 @@ pub mod first;
 pub mod implicit;
 pub mod kept;
 pub mod lists;
+pub mod located;
 pub mod messages;
 pub mod numbers;
 pub mod optional;

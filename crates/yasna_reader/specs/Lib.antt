@@ -9,6 +9,7 @@ pub mod Lookahead
 pub mod SequenceOf
 pub mod SetOf
 pub mod Parse
+pub mod Located
 pub mod Raw
 pub mod Decodes
 pub mod Set

@@ -84,10 +84,12 @@ impl<'a> ReaderState<'a> {
     {
         let all = before.left.len();
         let remaining = self.cursor.left.len();
+        let place = self.place();
         self.cursor = before;
         self.cursor.left = &before.left[all.saturating_sub(remaining)..];
         self.tag = None;
         if let Some(error) = self.kept {
+            self.stand_at(place, self.deeper);
             return Outcome::Failed(error);
         }
         if all < remaining {

@@ -6,6 +6,7 @@
 //! | Module | Holds |
 //! |---|---|
 //! | `parse` | parses of whole inputs |
+//! | `located` | the same, which say where they failed |
 //! | `state` | the state of a reading, and what the calls on it share |
 //! | `primitive` | reads of BOOLEAN, NULL, INTEGER, ENUMERATED and OBJECT IDENTIFIER |
 //! | `strings` | reads of OCTET STRING, BIT STRING and character strings |
@@ -16,6 +17,7 @@
 //! | `set_of` | reads of lists whose elements ascend in DER and CER |
 //! | `set` | reads of sets, whose elements a callback takes by their tags |
 //! | `set_optional` | reads of elements of a set that may be left out |
+//! | `place` | where in the input a reading stands |
 //! | `callback` | what becomes of a reading that a callback is handed |
 //! | `tagged` | reads under tags of the caller's |
 //! | `optional` | reads of parts that may be left out |
@@ -29,9 +31,11 @@ mod at_end;
 mod buffer;
 mod callback;
 pub mod laws;
+mod located;
 mod lookahead;
 mod optional;
 mod parse;
+mod place;
 mod primitive;
 mod raw;
 mod sequence;
@@ -44,6 +48,7 @@ mod strings;
 mod tagged;
 mod times;
 
+pub use located::{Located, parse_ber_located, parse_cer_located, parse_der_located};
 pub use parse::{
     parse_ber, parse_ber_general, parse_cer, parse_der, try_parse_ber, try_parse_cer, try_parse_der,
 };

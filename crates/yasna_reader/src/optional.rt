@@ -24,10 +24,11 @@ impl<'a> ReaderState<'a> {
     ghost use Rattle.std.specs.Prelude.{length};
     ghost use Rattle.yasna_reader.specs.Optional.{DefaultsTo, UnlessDefault};
 
-    // A value that was read where this is the default. Where it is refused, that is kept if something moved.
+    // A value that was read at this place where this is the default. Where it is refused, that is kept if something moved.
     #[inline(always)]
     pub(crate) fn unless_default<T: Eq + Drop>(
         &mut self,
+        place: usize,
         value: T,
         default: T,
         moved: bool,
@@ -39,6 +40,7 @@ impl<'a> ReaderState<'a> {
         }
         let error = ASN1Error::new(ASN1ErrorKind::Invalid);
         if moved {
+            self.stand_at(place, 0);
             self.kept = Some(error);
         }
         Err(error)
@@ -57,7 +59,8 @@ impl<'a> ReaderState<'a> {
         match outcome {
             Outcome::Gave(value) => {
                 let moved = self.cursor.left.len() < before;
-                self.unless_default(value, default, moved)
+                let place = self.place_before(before);
+                self.unless_default(place, value, default, moved)
             }
             Outcome::Quiet(_) => Ok(default),
             Outcome::Failed(error) => Err(error),

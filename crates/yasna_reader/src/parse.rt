@@ -131,7 +131,10 @@ impl<'a> ReaderState<'a> {
 
     // What a parse answers where its callback gave this answer.
     #[inline(always)]
-    fn parsed<T: Drop, E: From<ASN1Error> + Drop>(&self, answer: Result<T, E>) -> Result<T, E>
+    pub(crate) fn parsed<T: Drop, E: From<ASN1Error> + Drop>(
+        &self,
+        answer: Result<T, E>,
+    ) -> Result<T, E>
         ensures { IsParsed E.from_gives answer self.now result }
     {
         if let Some(error) = self.kept {

@@ -92,6 +92,7 @@ impl<'a> ReaderState<'a> {
             cursor: self.cursor.inside(opened),
             tag: None,
             kept: None,
+            deeper: 0,
             alloc: self.alloc,
         }
     }
@@ -111,7 +112,7 @@ impl<'a> ReaderState<'a> {
             self.tag = None;
         }
         if let Some(error) = left.kept {
-            return self.fail(error);
+            return self.fail_within(error, left);
         }
         match answer {
             Ok(value) => match close_from(opened, left.cursor.left.len()) {
@@ -119,10 +120,19 @@ impl<'a> ReaderState<'a> {
                     self.cursor.left = rest;
                     Ok(value)
                 }
-                Err(kind) => self.fail(ASN1Error::new(kind)),
+                Err(kind) => self.fail_within(ASN1Error::new(kind), left),
             },
-            Err(error) => self.fail(error),
+            Err(error) => self.fail_within(error, left),
         }
+    }
+
+    // Keeps a failure, which was found where the reading of an element's contents stands, and answers it.
+    #[inline(always)]
+    fn fail_within<T>(&mut self, error: ASN1Error, contents: &ReaderState<'a>) -> ASN1Result<T>
+        ensures { Fails error self.old result self.new }
+    {
+        self.stand_at(contents.place(), contents.deeper.saturating_add(1));
+        self.fail(error)
     }
 
     // Keeps a failure, and answers it.

@@ -255,7 +255,7 @@ impl<'a> ReaderState<'a> {
                 };
                 let answer = run(f, &mut set);
                 let Chosen { reader, list } = set;
-                self.pass(rest, &reader);
+                self.pass(rest, &reader, answer.is_err());
                 answer_of_all(answer, &list)
             }
             Err(kind) => self.fail(ASN1Error::new(kind)),
@@ -287,16 +287,20 @@ impl<'a> ReaderState<'a> {
             cursor: self.cursor.further(&[]),
             tag: None,
             kept: None,
+            deeper: 0,
             alloc: self.alloc,
         }
     }
 
-    // Goes on with this rest, and keeps the failure that was kept there.
-    fn pass(&mut self, rest: &'a [u8], reader: &ReaderState<'a>)
+    // Goes on with this rest, and keeps the failure that was kept there. If that reading failed, it is told where.
+    fn pass(&mut self, rest: &'a [u8], reader: &ReaderState<'a>, failed: bool)
         ensures { self.new ≡ record self.old { left = rest.now; kept = reader.now.kept } }
     {
         self.cursor.left = rest;
         self.kept = reader.kept;
+        if failed || self.kept.is_some() {
+            self.stand_at(reader.place(), reader.deeper);
+        }
     }
 
     fn untag(&mut self)

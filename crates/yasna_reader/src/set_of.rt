@@ -96,6 +96,7 @@ impl<'a> ReaderState<'a> {
                 Some(least) => {
                     let element = in_front(before, self.cursor.left);
                     if goes_before(element, least) {
+                        self.stand_at(self.place_before(before.len()), 0);
                         return self.failed(ASN1Error::new(ASN1ErrorKind::Invalid));
                     }
                     *bound = Some(element);

@@ -41,7 +41,7 @@ impl<'a> ReaderState<'a> {
         ensures { DefaultsChosen T.eq default answer self.old result self.new }
     {
         match answer {
-            Ok(Some(value)) => self.unless_default(value, default, true),
+            Ok(Some(value)) => self.unless_default(self.place(), value, default, true),
             Ok(None) => Ok(default),
             Err(error) => Err(error),
         }

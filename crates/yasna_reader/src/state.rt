@@ -19,6 +19,8 @@ pub struct ReaderState<'a> {
     // the implicit tag of the next element
     pub(crate) tag: Option<Tag>,
     pub(crate) kept: Option<ASN1Error>,
+    // how many elements there are around the failure that was kept, besides those around this reading
+    pub(crate) deeper: u8,
     pub(crate) alloc: Global,
 }
 
@@ -50,6 +52,7 @@ impl<'a> ReaderState<'a> {
             cursor: Cursor::start(buf, mode),
             tag: None,
             kept: None,
+            deeper: 0,
             alloc,
         }
     }

@@ -15,6 +15,7 @@ use yasna_guide::first::{decode_report, encode_report};
 use yasna_guide::implicit::{read_accuracy, write_accuracy};
 use yasna_guide::kept::number_or_zero;
 use yasna_guide::lists::{highest, read_names, write_names};
+use yasna_guide::located::table_located;
 use yasna_guide::messages::{extension_from_ber, rewritten_extension};
 use yasna_guide::numbers::{
     Status, read_key, read_status, write_key, write_signature, write_status,
@@ -386,6 +387,20 @@ fn reading_closures_have_errors_of_their_own(rt: HostRuntime) {
     assert!(rt; matches!(refused, Err(StoreError::NoSuchEntry)));
     let refused = entry_of_der(alloc, &STORE, &[2, 1, 1, 0]);
     assert!(rt; matches!(refused, Err(StoreError::Encoding(_))));
+}
+
+#[test]
+fn failures_are_located(rt: HostRuntime) -> Result<(), Fail> {
+    let broken = [48, 8, 48, 6, 2, 1, 1, 2, 2, 0];
+    let Err(found) = table_located(rt.alloc(), &broken) else {
+        return Ok(assert!(rt; false, "read"));
+    };
+    let line = format!(in rt.alloc(); "{found}")?;
+    assert_eq!(rt;
+        line.as_str(),
+        "ASN1Error { kind: Eof } at offset 7, depth 2"
+    );
+    Ok(())
 }
 
 // An extension that isn't critical may say so in BER.

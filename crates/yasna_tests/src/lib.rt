@@ -13,6 +13,7 @@
 //! | `guide` | the pieces of code of README.md and docs/GUIDE.md |
 //! | `known` | calls whose closures are known |
 //! | `lines` | the lines that tell of the elements of any input |
+//! | `located` | where a parse failed |
 //! | `oid` | object identifiers |
 //! | `records`, `scrypt`, `third_party` | types of one's own |
 //! | `sets` | sets, read and written by closures |
@@ -40,6 +41,8 @@ mod guide;
 mod known;
 #[cfg(test)]
 mod lines;
+#[cfg(test)]
+mod located;
 #[cfg(test)]
 mod oid;
 #[cfg(test)]
