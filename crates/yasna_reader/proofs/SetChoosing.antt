@@ -1,7 +1,6 @@
 -- An element of a SET that is chosen by its tag.
 use Rattle.std.proofs.Common.{◌≡◌, ℕ, ◌+◌, ◌<◌, ◌≤◌, List, length, Some, None, refl, sym, subst}
 use Rattle.std.proofs.lemmas.List.Elements.{AllWithin-more, AllWithin-upto, at_read}
-use Rattle.std.proofs.lemmas.List.{get_or_default}
 use Rattle.std.specs.List.{AllWithin, remove}
 use Rattle.std.specs.Prelude.{Result, Ok, Err, slice_index_or}
 use Rattle.yasna_base.specs.declared.error.ASN1Error.{ASN1Error}
@@ -13,24 +12,14 @@ use Rattle.yasna_reader.specs.Set.{Chooses, ChoosesBy, IsAmong, IsFirstAmong, No
 use Rattle.yasna_reader.specs.State.{Reading, untagged}
 
 -- one element more has none of the tags
-among_more : (ts : List Tag) (l : List SetElement) (i : ℕ) (x : SetElement) → AllWithin (λ x. IsAmong ts x → ⊥) l 0 i → i < length l →
+pub among_more : (ts : List Tag) (l : List SetElement) (i : ℕ) (x : SetElement) → AllWithin (λ x. IsAmong ts x → ⊥) l 0 i → i < length l →
     x ≡ slice_index_or l i x → (IsAmong ts x → ⊥) → AllWithin (λ x. IsAmong ts x → ⊥) l 0 (i + 1)
 among_more ts l i x h inside e f = AllWithin-more (λ x. IsAmong ts x → ⊥) l 0 i h (at_read l (λ x. IsAmong ts x → ⊥) i x inside e f)
 
 -- the first that has one
-among_here : (ts : List Tag) (l : List SetElement) (i : ℕ) (x : SetElement) → AllWithin (λ x. IsAmong ts x → ⊥) l 0 i → i < length l →
+pub among_here : (ts : List Tag) (l : List SetElement) (i : ℕ) (x : SetElement) → AllWithin (λ x. IsAmong ts x → ⊥) l 0 i → i < length l →
     x ≡ slice_index_or l i x → IsAmong ts x → IsFirstAmong ts l i
 among_here ts l i x h inside e f = record { inside = inside; before = h; here = at_read l (IsAmong ts) i x inside e f }
-
--- the same of an element that was read from the list
-pub among_more_at : (ts : List Tag) (l : List SetElement) (i : ℕ) (d : SetElement) → AllWithin (λ x. IsAmong ts x → ⊥) l 0 i → i < length l →
-    (IsAmong ts (slice_index_or l i d) → ⊥) → AllWithin (λ x. IsAmong ts x → ⊥) l 0 (i + 1)
-among_more_at ts l i d h inside f =
-    among_more ts l i (slice_index_or l i d) h inside (get_or_default l i d (slice_index_or l i d) inside) f
-
-pub among_here_at : (ts : List Tag) (l : List SetElement) (i : ℕ) (d : SetElement) → AllWithin (λ x. IsAmong ts x → ⊥) l 0 i → i < length l →
-    IsAmong ts (slice_index_or l i d) → IsFirstAmong ts l i
-among_here_at ts l i d h inside f = among_here ts l i (slice_index_or l i d) h inside (get_or_default l i d (slice_index_or l i d) inside) f
 
 -- there is no further one
 pub among_end : (ts : List Tag) (l : List SetElement) (i : ℕ) → length l ≤ i → AllWithin (λ x. IsAmong ts x → ⊥) l 0 i → NoneIsAmong ts l

@@ -5,6 +5,7 @@ use Rattle.std.specs.Global.{Global}
 use Rattle.std.specs.List.{AllWithin, Contains, HoldsAt, remove}
 use Rattle.std.specs.List.Sorted.{IsSortedByKey}
 use Rattle.std.specs.Prelude.{Err, List, MatchResult, None, Ok, Option, Result, Some, Vec, [], length, ℕ, ◌++◌, ◌<◌, ◌∷◌, ◌≡◌, ◌⊎◌}
+use Rattle.std.specs.declared.collections.VecDeque.{VecDeque}
 use Rattle.yasna_base.specs.Error.{error_of}
 use Rattle.yasna_base.specs.Identifier.{AtEnd}
 use Rattle.yasna_base.specs.Order.{tag_cmp}
@@ -25,7 +26,7 @@ use Rattle.yasna_reader.specs.declared.set.SetElement.{SetElement}
 
 -- the reading of a SET: that of one element after the other, and the elements that are left
 abbrev pub SetReading : Type 0
-SetReading = Chosen Reading (Vec SetElement Global)
+SetReading = Chosen Reading (VecDeque SetElement Global)
 
 -- what is known of a callback that takes the elements of a SET: where it may be called, and what it answers and leaves
 abbrev pub SetCallback : Type 0 → Type 0 → Type 1
@@ -85,7 +86,7 @@ abbrev pub NotSetList : ℕ → BERMode → List ℕ → ASN1ErrorKind → Type 
 NotSetList n m c k = NotListed n m c k ⊎ (IsDisordered n m c × (k ≡ Invalid))
 
 -- what listing those of a SET answers, by its case
-abbrev pub SetListAt : ℕ → BERMode → List ℕ → Result (Vec SetElement Global × Bor (List ℕ)) ASN1ErrorKind → Type 0
+abbrev pub SetListAt : ℕ → BERMode → List ℕ → Result (VecDeque SetElement Global × Bor (List ℕ)) ASN1ErrorKind → Type 0
 SetListAt n m c (Ok x) = IsSetList n m x.0.items c x.1.now
 SetListAt n m c (Err k) = NotSetList n m c k
 
@@ -95,7 +96,7 @@ emptied s = record s { left = []; tag = None; kept = None }
 
 -- f may be called on the elements that stand in the contents s
 abbrev pub TakesElements : {F R : Type 0} → Once F (MutBor SetReading × Unit {0}) R → F → Reading → Type 0
-TakesElements g f s = (l : Vec SetElement Global) (y : List ℕ) → IsSetList s.levels s.mode l.items s.left y →
+TakesElements g f s = (l : VecDeque SetElement Global) (y : List ℕ) → IsSetList s.levels s.mode l.items s.left y →
     FnOnceTakesAtMut g f (record { reader = emptied s; list = l })
 
 -- a callback is to take all elements
@@ -107,7 +108,7 @@ all_taken (Ok v) (x ∷ l) = Err (error_of Invalid)
 -- the elements that a callback is handed of the contents s: all that stand there up to an end, in the order that the mode
 -- asks (X.690, 9.3 and 10.3)
 pub record FoundSet (s : Reading) : Type 0 where
-  pub list : Vec SetElement Global
+  pub list : VecDeque SetElement Global
   pub rest : List ℕ
   pub lists : IsSetList s.levels s.mode list.items s.left rest
 

@@ -2,7 +2,8 @@
 use Rattle.std.specs.Fn.{FnOnceReturnsAtMut}
 use Rattle.std.specs.Global.{Global}
 use Rattle.std.specs.List.{concat}
-use Rattle.std.specs.Prelude.{Err, List, None, Ok, Result, Vec, [], map, ℕ, ◌++◌, ◌-◌, ◌≡◌, ◌↔◌}
+use Rattle.std.specs.Prelude.{Err, List, None, Ok, Result, [], map, ℕ, ◌++◌, ◌-◌, ◌≡◌, ◌↔◌}
+use Rattle.std.specs.declared.collections.VecDeque.{VecDeque}
 use Rattle.yasna_base.specs.Error.{kind_of}
 use Rattle.yasna_base.specs.Element.{Element}
 use Rattle.yasna_base.specs.Identifier.{AtEnd}
@@ -55,7 +56,7 @@ ListsAreOne = (n : ℕ) (m : BERMode) (l k : List SetElement) (c y z : List ℕ)
 -- f was run on the elements of the raw values vs, at the level inside a SET that s reads, and came to this
 pub record RunOnValues {F A : Type 0} (g : SetCallback F A) (f : F)
     (s : Reading) (vs : List RawValue) : Type 0 where
-  pub list : Vec SetElement Global
+  pub list : VecDeque SetElement Global
   pub each : Each (IsElementOf (s.levels - 1) s.mode) list.items vs
   pub own : Result A ASN1Error
   pub left : SetReading

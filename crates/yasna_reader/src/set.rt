@@ -1,9 +1,11 @@
 //! Reads of SET, whose elements a callback takes by their tags (X.690, 8.11, 9.3 and 10.3): `read_set`, which users call on a reader,
 //! and the elements that their callback is handed.
-ghost use Rattle.std.specs.Prelude.{IsTrue, ◌↔◌, ◌≡◌, MatchOption};
+ghost use Rattle.std.specs.Prelude.{IsTrue, ◌↔◌, ◌≡◌, ◌<◌, MatchOption, slice_index_or};
 ghost use Rattle.std.specs.Fn.{FnOnceTakesAtMut, FnOnceReturnsAtMut};
+ghost use Rattle.std.specs.List.{remove};
 ghost use Rattle.std.specs.List.Sorted.{IsSortedByKey};
 ghost use Rattle.std.specs.Ordering.{is_lt};
+ghost use Rattle.std.specs.VecDeque.{deque_len};
 ghost use Rattle.yasna_base.specs.Order.{tag_cmp};
 ghost use Rattle.yasna_base.specs.Set.{set_tag};
 ghost use Rattle.yasna_reader.specs.Set.{ElementsAreInSetOrder, ElementsAt, IsAmong, IsFirstAmong, NoneIsAmong, all_taken};
@@ -11,6 +13,7 @@ ghost use Rattle.yasna_reader.specs.declared.set.SetElement.{SetElement};
 
 use crate::state::ReaderState;
 use std::alloc::Global;
+use std::collections::VecDeque;
 use yasna_base::error::{ASN1Error, ASN1ErrorKind, ASN1Result};
 use yasna_base::mode::BERMode;
 use yasna_base::tag::Tag;
@@ -80,12 +83,12 @@ impl<S, L: Choose<S>> Chosen<S, L> {
 ///     })
 /// }
 /// ```
-pub type BERReaderSet<'a, 'b> = Chosen<ReaderState<'a>, Vec<SetElement<'a>>>;
+pub type BERReaderSet<'a, 'b> = Chosen<ReaderState<'a>, VecDeque<SetElement<'a>>>;
 
 // Where the first element stands that has one of these tags.
-#[tactic(auto, using(crate::proofs::SetChoosing::among_more_at, crate::proofs::SetChoosing::among_here_at, crate::proofs::SetChoosing::among_end))]
-fn first_among(list: &[SetElement<'_>], tags: &[Tag]) -> Option<usize>
-    ensures { MatchOption result (NoneIsAmong tags.now list.now) (λ i. IsFirstAmong tags.now list.now i) }
+#[tactic(auto, using(crate::proofs::SetChoosing::among_more, crate::proofs::SetChoosing::among_here, crate::proofs::SetChoosing::among_end))]
+fn first_among(list: &VecDeque<SetElement<'_>>, tags: &[Tag]) -> Option<usize>
+    ensures { MatchOption result (NoneIsAmong tags.now list.now.items) (λ i. IsFirstAmong tags.now list.now.items i) }
 {
     let mut place = 0;
     while place < list.len() {
@@ -103,7 +106,28 @@ fn is_among(tags: &[Tag], element: &SetElement<'_>) -> bool
     tags.contains(&element.tag)
 }
 
-impl<'a> Choose<ReaderState<'a>> for Vec<SetElement<'a>> {
+// Takes the element that stands at this place.
+#[inline(always)]
+fn take<'a>(list: &mut VecDeque<SetElement<'a>>, place: usize) -> SetElement<'a>
+    requires { place < deque_len list.old }
+    ensures { (result ≡ slice_index_or list.old.items place result) × (list.new.items ≡ remove list.old.items place) }
+{
+    if place == 0 {
+        return list.pop_front().unwrap();
+    }
+    take_behind(list, place)
+}
+
+// The same of one that isn't in front: those on its shorter side move.
+#[inline(never)]
+fn take_behind<'a>(list: &mut VecDeque<SetElement<'a>>, place: usize) -> SetElement<'a>
+    requires { place < deque_len list.old }
+    ensures { (result ≡ slice_index_or list.old.items place result) × (list.new.items ≡ remove list.old.items place) }
+{
+    list.remove(place).unwrap()
+}
+
+impl<'a> Choose<ReaderState<'a>> for VecDeque<SetElement<'a>> {
     ghost use Rattle.yasna_reader.specs.Set.{Chooses};
 
     ghost chooses = { λ l s ts r k t. Chooses l.items s ts r k.items t };
@@ -116,7 +140,7 @@ impl<'a> Choose<ReaderState<'a>> for Vec<SetElement<'a>> {
         }
         match first_among(self, tags) {
             Some(place) => {
-                let element = self.remove(place);
+                let element = take(self, place);
                 state.turn_to(element);
                 Ok(())
             }
@@ -191,12 +215,12 @@ fn list_elements<'a>(
 }
 
 // What is answered where a callback left these elements.
-fn answer_of_all<T: Drop>(answer: ASN1Result<T>, others: &[SetElement<'_>]) -> ASN1Result<T>
-    ensures { result ≡ all_taken answer others.now }
+fn answer_of_all<T: Drop>(answer: ASN1Result<T>, others: &VecDeque<SetElement<'_>>) -> ASN1Result<T>
+    ensures { result ≡ all_taken answer others.now.items }
 {
     match answer {
-        Ok(value) => match others {
-            [] => Ok(value),
+        Ok(value) => match others.front() {
+            None => Ok(value),
             _ => Err(ASN1Error::new(ASN1ErrorKind::Invalid)),
         },
         Err(error) => Err(error),
@@ -263,14 +287,14 @@ impl<'a> ReaderState<'a> {
     }
 
     // The elements that stand here, where they are in the order that the mode asks, and what is left behind them.
-    fn list_set(&self) -> Result<(Vec<SetElement<'a>>, &'a [u8]), ASN1ErrorKind>
+    fn list_set(&self) -> Result<(VecDeque<SetElement<'a>>, &'a [u8]), ASN1ErrorKind>
         ensures { SetListAt self.now.levels self.now.mode self.now.left result }
     {
         let cursor = self.cursor;
         match list_elements(self.alloc, cursor) {
             Ok((list, rest)) => {
                 if is_in_order(cursor.mode, &list) {
-                    Ok((list, rest))
+                    Ok((VecDeque::from_vec(list), rest))
                 } else {
                     Err(ASN1ErrorKind::Invalid)
                 }
@@ -318,7 +342,7 @@ impl<'a> ReaderState<'a> {
     }
 }
 
-impl<'a> Chosen<ReaderState<'a>, Vec<SetElement<'a>>> {
+impl<'a> Chosen<ReaderState<'a>, VecDeque<SetElement<'a>>> {
     ghost use Rattle.std.specs.Prelude.{◌≡◌};
 
     /// By which rules the elements are read.

@@ -4,6 +4,7 @@
 use crate::callback::Outcome;
 use crate::set::{Choose, Chosen, SetElement};
 use crate::state::{BERReader, ReaderState};
+use std::collections::VecDeque;
 use yasna_base::error::{ASN1Error, ASN1ErrorKind, ASN1Result};
 use yasna_base::tag::Tag;
 
@@ -48,7 +49,7 @@ impl<'a> ReaderState<'a> {
     }
 }
 
-impl<'a> Chosen<ReaderState<'a>, Vec<SetElement<'a>>> {
+impl<'a> Chosen<ReaderState<'a>, VecDeque<SetElement<'a>>> {
     ghost use Rattle.std.specs.Fn.{FnOnceReturnsAtMut};
     ghost use Rattle.yasna_reader.specs.SetOptional.{ReadsChosen, ReadsChosenDefault, TakesChosen};
 

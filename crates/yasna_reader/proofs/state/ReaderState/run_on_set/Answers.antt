@@ -1,5 +1,3 @@
-use Rattle.std.proofs.Common.{ap, ◌∙◌}
-use Rattle.yasna_reader.specs.Set.{all_taken}
 use Rattle.yasna_reader.proofs.SetRuns.{takes_set, ran_on_set}
 use Rattle.yasna_reader.proofs.state.ReaderState.run_on_set.Goals as goal
 
@@ -12,4 +10,4 @@ pub returns-in-Ok : goal.returns-in-Ok
 returns-in-Ok g c =
     ran_on_set g.F.FnOnce c.args.f c.args.self.now c.in-Ok.list c.in-Ok.rest.now c.emptied.result c.run-answer.result _ c.answer_of_all.result
     c.pass.new.self (c.in-Ok.ensures {u = tt}) c.emptied.ensures c.run-answer.ensures
-    (c.answer_of_all.ensures ∙ ap (all_taken c.run-answer.result) c.deref.ensures.value) c.pass.ensures
+    c.answer_of_all.ensures c.pass.ensures
