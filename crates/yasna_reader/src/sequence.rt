@@ -114,15 +114,15 @@ impl<'a> ReaderState<'a> {
         if let Some(error) = left.kept {
             return self.fail_within(error, left);
         }
-        match answer {
-            Ok(value) => match close_from(opened, left.cursor.left.len()) {
-                Ok(rest) => {
-                    self.cursor.left = rest;
-                    Ok(value)
-                }
-                Err(kind) => self.fail_within(ASN1Error::new(kind), left),
-            },
-            Err(error) => self.fail_within(error, left),
+        if let Err(error) = answer {
+            return self.fail_within(error, left);
+        }
+        match close_from(opened, left.cursor.left.len()) {
+            Ok(rest) => {
+                self.cursor.left = rest;
+                answer
+            }
+            Err(kind) => self.fail_within(ASN1Error::new(kind), left),
         }
     }
 

@@ -279,7 +279,7 @@ impl<'a> ReaderState<'a> {
                 };
                 let answer = run(f, &mut set);
                 let Chosen { reader, list } = set;
-                self.pass(rest, &reader, answer.is_err());
+                self.pass(rest, &reader, &list, answer.is_err());
                 answer_of_all(answer, &list)
             }
             Err(kind) => self.fail(ASN1Error::new(kind)),
@@ -316,14 +316,23 @@ impl<'a> ReaderState<'a> {
         }
     }
 
-    // Goes on with this rest, and keeps the failure that was kept there. If that reading failed, it is told where.
-    fn pass(&mut self, rest: &'a [u8], reader: &ReaderState<'a>, failed: bool)
+    // Goes on with this rest, and keeps the failure that was kept there. A failure stands where that reading does, or at the first of the
+    // elements that are left.
+    fn pass(
+        &mut self,
+        rest: &'a [u8],
+        reader: &ReaderState<'a>,
+        others: &VecDeque<SetElement<'a>>,
+        failed: bool,
+    )
         ensures { self.new ≡ record self.old { left = rest.now; kept = reader.now.kept } }
     {
         self.cursor.left = rest;
         self.kept = reader.kept;
         if failed || self.kept.is_some() {
             self.stand_at(reader.place(), reader.deeper);
+        } else if let Some(first) = others.front() {
+            self.stand_at(first.end.saturating_sub(first.bytes.len()), 0);
         }
     }
 
