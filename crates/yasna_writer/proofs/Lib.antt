@@ -1,5 +1,5 @@
 pub mod Appends
-pub mod Bmp
+pub mod Bmps
 pub mod BigEndian
 pub mod Drafts
 pub mod Fronts

@@ -3,6 +3,7 @@ pub mod Front
 pub mod Identifier
 pub mod Header
 pub mod Integer
+pub mod Bmp
 pub mod Segments
 pub mod Draft
 pub mod State

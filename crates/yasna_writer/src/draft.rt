@@ -11,9 +11,12 @@ ghost use Rattle.yasna_base.specs.declared.error.ASN1ErrorKind.TheVariants.{OutO
 ghost use Rattle.yasna_base.specs.declared.mode.BERMode.TheVariants.{Cer};
 ghost use Rattle.yasna_base.specs.Digits.{base128};
 ghost use Rattle.std.specs.List.{flat_map};
+ghost use Rattle.std.specs.Str.{chars};
+ghost use Rattle.yasna_base.specs.Text.{bmp_octets};
 ghost use Rattle.yasna_writer.specs.Header.{header_bytes, indefinite_header};
 ghost use Rattle.yasna_writer.specs.Draft.{header_of_mark, mark_waits, mark_of, with_entry, joined, AreInOrder, IsInnermost, with_element};
 
+use crate::bmp::push_bmp;
 use crate::header::{Header, header_length, push_header, push_indefinite_header};
 use crate::identifier::{identifier_length, push_bytes};
 use crate::oid::push_subidentifiers;
@@ -243,6 +246,14 @@ impl Draft {
         ensures { OnOk result (self.new ≡ self.old ++ (base128 first ++ flat_map base128 further.now)) }
     {
         push_subidentifiers(&mut self.contents, first, further)
+    }
+
+    // Appends a text in UTF-16.
+    #[tactic(auto, using(crate::proofs::Drafts::joined_append))]
+    pub(crate) fn add_bmp(&mut self, string: &str) -> Result<(), AllocError>
+        ensures { OnOk result (self.new ≡ self.old ++ bmp_octets (chars string.now)) }
+    {
+        push_bmp(&mut self.contents, string)
     }
 
     // Marks where an element with parts begins. Where there is no memory for the mark, its end does without.

@@ -27,6 +27,7 @@
 //! | `integer` | the fewest bytes of a number |
 #![tactic(auto)]
 
+mod bmp;
 mod construct;
 mod draft;
 mod header;

@@ -5,6 +5,8 @@ ghost use Rattle.yasna_base.specs.declared.error.ASN1ErrorKind.TheVariants.{OutO
 ghost use Rattle.yasna_base.specs.Canonical.{canonical_element};
 ghost use Rattle.yasna_base.specs.Digits.{base128};
 ghost use Rattle.std.specs.List.{flat_map};
+ghost use Rattle.std.specs.Str.{chars};
+ghost use Rattle.yasna_base.specs.Text.{bmp_octets};
 ghost use Rattle.yasna_base.specs.declared.tag.PCBit.TheVariants.{Primitive};
 ghost use Rattle.yasna_writer.specs.View.{Written, begun, handed};
 ghost use Rattle.yasna_base.specs.Identifier.{tag_or};
@@ -194,6 +196,16 @@ impl Writer {
         ensures { Appended (base128 first ++ flat_map base128 further.now) self.old self.new result }
     {
         match self.draft.add_subidentifiers(first, further) {
+            Ok(()) => Ok(()),
+            Err(_) => Err(self.lack_memory()),
+        }
+    }
+
+    // Appends a text in UTF-16, or keeps want of memory.
+    pub(crate) fn append_bmp(&mut self, string: &str) -> ASN1Result<()>
+        ensures { Appended (bmp_octets (chars string.now)) self.old self.new result }
+    {
+        match self.draft.add_bmp(string) {
             Ok(()) => Ok(()),
             Err(_) => Err(self.lack_memory()),
         }

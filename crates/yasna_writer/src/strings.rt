@@ -3,7 +3,7 @@
 //! Each is written as one primitive element, but in CER as segments where it is long (`segments`). Each write takes the implicit tag
 //! if there is one, and else the type's own. A failure that is kept is answered, and nothing is written. Besides, each answers
 //! `OutOfMemory` where there is no memory for the element, and keeps it.
-ghost use Rattle.std.specs.Prelude.{[], ◌∷◌, ◌≡◌, ◌≤◌, ◌<◌, ◌+◌, ◌-◌, ◌*◌, ◌%◌, ◌++◌, length, length as count, IfOk};
+ghost use Rattle.std.specs.Prelude.{[], ◌∷◌, ◌≡◌, ◌≤◌, ◌<◌, ◌+◌, ◌-◌, ◌*◌, ◌%◌, ◌++◌, length, length as count};
 ghost use Rattle.std.specs.List.{AllByRecursion};
 ghost use Rattle.std.specs.Str.{chars};
 ghost use Rattle.yasna_base.specs.declared.tag.PCBit.TheVariants.{Primitive};
@@ -16,15 +16,15 @@ ghost use Rattle.yasna_writer.specs.Header.{header_bytes};
 ghost use Rattle.yasna_writer.specs.State.{Appended};
 ghost use Rattle.yasna_writer.specs.View.{Wrote};
 
+use crate::bmp::{bmp_bytes, bmp_length};
 use crate::header::Header;
 use crate::segments::{FULL_BITS, FULL_OCTETS};
 use crate::state::Writer;
-use std::alloc::Global;
 use yasna_base::tags::{
     TAG_BITSTRING, TAG_BMPSTRING, TAG_IA5STRING, TAG_NUMERICSTRING, TAG_OCTETSTRING,
     TAG_PRINTABLESTRING, TAG_UTF8STRING, TAG_VISIBLESTRING,
 };
-use yasna_base::{ASN1Result, BERMode, PCBit, Tag};
+use yasna_base::{ASN1Result, PCBit, Tag};
 
 impl Writer {
     /// Writes an OCTET STRING (X.690, 8.7).
@@ -107,7 +107,7 @@ impl Writer {
     {
         let length = bmp_length(string);
         if self.cuts(length, FULL_OCTETS) {
-            return self.write_cut_bmp(string);
+            return self.write_cut_bmp(string, length);
         }
         self.write_whole_bmp(string, length)
     }
@@ -132,13 +132,13 @@ impl Writer {
 
     // Writes a text in UTF-16, which is made apart, in segments.
     #[cold]
-    fn write_cut_bmp(&mut self, string: &str) -> ASN1Result<()>
+    fn write_cut_bmp(&mut self, string: &str, length: usize) -> ASN1Result<()>
         ensures { Wrote (bmp_form (tag_or self.old.tag bmp_tag) self.old.mode (chars string.now)) self.old self.new result }
     {
         if let Some(error) = self.kept() {
             return Err(error);
         }
-        match bmp_bytes(self.alloc(), string) {
+        match bmp_bytes(self.alloc(), string, length) {
             Ok(octets) => self.write_octets(TAG_BMPSTRING, octets.as_slice()),
             Err(_) => Err(self.lack_memory()),
         }
@@ -198,38 +198,6 @@ impl Writer {
         self.append(front)?;
         self.append(&[last])
     }
-
-    // Appends a text in UTF-16.
-    fn append_bmp(&mut self, string: &str) -> ASN1Result<()>
-        ensures { Appended (bmp_octets (chars string.now)) self.old self.new result }
-    {
-        for c in string.chars() {
-            self.append_units(c)?;
-        }
-        Ok(())
-    }
-
-    // Appends the units of a character.
-    fn append_units(&mut self, c: char) -> ASN1Result<()>
-        ensures { Appended (bmp_octets (c ∷ [])) self.old self.new result }
-    {
-        let mut pair = [0; 2];
-        let units = c.encode_utf16(&mut pair);
-        self.append(&units[0].to_be_bytes())?;
-        if units.len() == 1 {
-            return Ok(());
-        }
-        self.append(&units[1].to_be_bytes())
-    }
-}
-
-// A text in UTF-16, or want of memory.
-fn bmp_bytes(alloc: Global, string: &str) -> ASN1Result<Vec<u8>>
-    ensures { IfOk result (λ octets. octets.items ≡ bmp_octets (chars string.now)) }
-{
-    let mut text = Writer::new(alloc, BERMode::Der);
-    text.append_bmp(string)?;
-    text.take_bytes()
 }
 
 // How many bits of the last byte a BIT STRING of so many bits leaves over.
@@ -237,15 +205,4 @@ pub(crate) fn unused_bits(len: usize) -> u8
     ensures { result ≡ (8 - len % 8) % 8 }
 {
     ((8 - len % 8) % 8) as u8
-}
-
-// How many bytes a text takes in UTF-16.
-fn bmp_length(string: &str) -> usize
-    ensures { result ≡ length (bmp_octets (chars string.now)) }
-{
-    let mut length = 0;
-    for c in string.chars() {
-        length += 2 * c.len_utf16();
-    }
-    length
 }
