@@ -7,7 +7,7 @@ use Rattle.std.specs.Char.Utf16.{utf16_lossy_chars}
 use Rattle.std.specs.Str.{chars, encode_utf8_all, IsUtf8}
 use Rattle.std.specs.Prelude.{Result, Ok, Err, MatchResult}
 use Rattle.yasna_base.specs.declared.error.ASN1ErrorKind.{ASN1ErrorKind}
-use Rattle.yasna_base.specs.declared.error.ASN1ErrorKind.TheVariants.{OutOfMemory}
+use Rattle.yasna_base.specs.declared.error.ASN1ErrorKind.TheVariants.{OutOfMemory, Invalid}
 use Rattle.yasna_base.specs.declared.mode.BERMode.{BERMode}
 use Rattle.yasna_base.specs.declared.tag.PCBit.TheVariants.{Primitive, Constructed}
 use Rattle.yasna_base.specs.declared.tag.Tag.{Tag}
@@ -26,7 +26,7 @@ use Rattle.yasna_bytes.specs.declared.bytes.text.Class.TheVariants.{Utf8, Numeri
 use Rattle.yasna_bytes.specs.Contents.{WantsMemory}
 use Rattle.yasna_bytes.specs.Front.{Takes, Stands}
 use Rattle.yasna_bytes.specs.Refusal.{BlamesBytes, Refuses}
-use Rattle.yasna_bytes.specs.Text.{Judges, SaysText, MayHold}
+use Rattle.yasna_bytes.specs.Text.{Judges, SaysText, MayHold, Utf8At}
 use Rattle.yasna_bytes.proofs.Contents.{element_wants}
 use Rattle.yasna_bytes.proofs.Refusal.{plain_not_deep, plain_not_memory, begins_not_elsewhere, refuses_less}
 
@@ -111,6 +111,19 @@ class_in_utf8 Printable m text o h x = (utf8_only InPrintable m text o x).0
 class_in_utf8 Ia5 m text o h x = (utf8_only InIa5 m text o x).0
 class_in_utf8 Visible m text o h x = (utf8_only InVisible m text o x).0
 class_in_utf8 Bmp m text o h x = absurd (h refl)
+
+-- octets that the class may not hold spell no text
+pub class_refused : (k : Class) (m : BERMode) (o : List ℕ) → (MayHold k o → ⊥) → Judges (SaysText k m) characters o (Err Invalid)
+class_refused k m o h = inr (tt, λ v x. h (class_holds k m v o x))
+
+-- what a string spells whose bytes the octets are
+pub utf8_judged : (k : Class) (m : BERMode) (o : List ℕ) (r : Result (String Global) ASN1ErrorKind) → (k ≡ Bmp → ⊥) → MayHold k o → Utf8At o r →
+    Judges (SaysText k m) characters o r
+utf8_judged k m o (Ok text) h i e =
+    let u : IsUtf8 o = subst IsUtf8 e (IsUtf8-string_bytes text) in
+    subst (λ b. SaysText k m (chars b) o) (sym e) (class_spells k m o h i u)
+utf8_judged k m o (Err f) h i (inl x) = inl x
+utf8_judged k m o (Err f) h i (inr x) = inr (x.0, λ v y. x.1 (class_in_utf8 k m v o h y))
 
 -- the characters of a string that is made of some
 pub made_of : (s : String Global) (text : List ℕ) → string_bytes s ≡ encode_utf8_all text → text ≡ characters s

@@ -2,16 +2,18 @@
 use Rattle.std.specs.Borrow.{Bor}
 use Rattle.std.specs.Global.{Global}
 use Rattle.std.specs.List.{AllByRecursion}
-use Rattle.std.specs.Prelude.{◌≡◌, ◌⊎◌, ◌↔◌, ℕ, ◌≤◌, List, [], ◌∷◌, ◌++◌, length, map, false, true, ◌&&◌, nat_eq, nat_le, IsTrue, Result, Ok, Err, Vec}
+use Rattle.std.specs.Prelude.{◌≡◌, ◌⊎◌, ◌↔◌, ℕ, ◌≤◌, List, [], ◌∷◌, ◌++◌, length, map, false, true, ◌&&◌, nat_eq, nat_le, IsTrue, Option, Some, None, Result, Ok, Err, Vec}
 use Rattle.yasna_base.specs.Bits.{BitString, IsBits, IsDeepBits}
 use Rattle.yasna_base.specs.Segmented.{Segmentation, StaysWhole, FallsInto, IsSegmented, IsDeepSegmented, PiecesBefore}
+use Rattle.yasna_base.specs.Header.{ContentsEnd, OpensAt}
 use Rattle.yasna_base.specs.Identifier.{AtEnd}
-use Rattle.yasna_base.specs.Octets.{IsOctets, IsDeepOctets}
+use Rattle.yasna_base.specs.Octets.{octets_segmentation, IsOctets, IsDeepOctets}
 use Rattle.yasna_base.specs.Pieces.{Pieces}
 use Rattle.yasna_base.specs.declared.error.ASN1ErrorKind.{ASN1ErrorKind}
 use Rattle.yasna_base.specs.declared.error.ASN1ErrorKind.TheVariants.{OutOfMemory, StackOverflow}
 use Rattle.yasna_base.specs.declared.mode.BERMode.{BERMode}
 use Rattle.yasna_base.specs.declared.mode.BERMode.TheVariants.{Ber, Der, Cer}
+use Rattle.yasna_base.specs.declared.tag.PCBit.TheVariants.{Constructed}
 use Rattle.yasna_base.specs.declared.tag.Tag.{Tag}
 use Rattle.yasna_bytes.specs.Contents.{WantsMemory}
 use Rattle.yasna_bytes.specs.Front.{Takes, Stands, SeenAt}
@@ -163,6 +165,12 @@ WithVecAt k value n m t s r = SeenAt (IsSegmented k n m t) (λ v. value v.0.item
 -- the octet string in a vector's bytes, and the rest, or a refusal
 abbrev pub OctetsAt : ℕ → BERMode → Tag → List ℕ → Result (Vec ℕ Global × Bor (List ℕ)) Refusal → Type 0
 OctetsAt n m t s r = SeenAt (IsOctets n m t) (λ v. v.items) (IsDeepOctets n m t s) (WantsMemory n t s) t s r
+
+-- the octets of a string in one primitive element where they stand, and the rest, or the header of a constructed one
+abbrev pub WholeOctetsAt : ℕ → BERMode → Tag → List ℕ → Result (Option (Bor (List ℕ) × Bor (List ℕ))) Refusal → Type 0
+WholeOctetsAt n m t s (Ok (Some x)) = Takes (IsOctets n m t) s x.0.now x.1.now
+WholeOctetsAt n m t s (Ok None) = (c : List ℕ) × (e : ContentsEnd) × OpensAt m t Constructed s c e
+WholeOctetsAt n m t s (Err e) = RefusesString octets_segmentation n m t s e
 
 -- the bit string in a vector's bytes and the count of its bits
 abbrev pub bits_in : Vec ℕ Global × ℕ → BitString

@@ -1,7 +1,9 @@
 -- What reading a string does whose octets say a value, as those of a character string do (X.690, 8.23).
 use Rattle.std.specs.Borrow.{Bor}
+use Rattle.std.specs.Global.{Global}
 use Rattle.std.specs.List.{AllByRecursion}
-use Rattle.std.specs.Prelude.{◌≡◌, ◌⊎◌, ℕ, ◌%◌, List, [], length, Result, Ok, Err}
+use Rattle.std.specs.Prelude.{◌≡◌, ◌⊎◌, ℕ, ◌%◌, List, [], length, Result, Ok, Err, String, string_bytes}
+use Rattle.std.specs.Str.{IsUtf8}
 use Rattle.yasna_base.specs.Octets.{IsDeepOctets}
 use Rattle.yasna_base.specs.Text.{InUtf8, InNumeric, InPrintable, InIa5, InVisible, IsUtf8In, IsBmp, IsStringOf}
 use Rattle.yasna_base.specs.declared.error.ASN1ErrorKind.{ASN1ErrorKind}
@@ -32,6 +34,11 @@ SaysText Printable m text o = IsUtf8In InPrintable m text o
 SaysText Ia5 m text o = IsUtf8In InIa5 m text o
 SaysText Visible m text o = IsUtf8In InVisible m text o
 SaysText Bmp m text o = IsBmp m text o
+
+-- octets are a string's bytes where they are UTF-8
+abbrev pub Utf8At : List ℕ → Result (String Global) ASN1ErrorKind → Type 0
+Utf8At o (Ok text) = string_bytes text ≡ o
+Utf8At o (Err k) = ((k ≡ OutOfMemory) × (o ≡ [] → ⊥)) ⊎ (BlamesBytes k × (IsUtf8 o → ⊥))
 
 -- what the class asks of each octet, or of their number
 abbrev pub MayHold : Class → List ℕ → Type 0

@@ -47,9 +47,8 @@ impl Judge for UtcText {
         self,
         _alloc: Global,
         mode: BERMode,
-        octets: Vec<u8>,
+        text: &[u8],
     ) -> Result<UTCTime, ASN1ErrorKind> {
-        let text = octets.as_slice();
         let utc = match UTCTime::parse(text) {
             Some(utc) => utc,
             None => return Err(ASN1ErrorKind::Invalid),
@@ -83,9 +82,8 @@ impl Judge for GeneralText {
         self,
         alloc: Global,
         mode: BERMode,
-        octets: Vec<u8>,
+        text: &[u8],
     ) -> Result<GeneralizedTime, ASN1ErrorKind> {
-        let text = octets.as_slice();
         if text.is_empty() {
             return Err(ASN1ErrorKind::Invalid);
         }

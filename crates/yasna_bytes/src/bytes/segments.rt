@@ -14,7 +14,7 @@ use crate::bytes::cursor::Cursor;
 use crate::bytes::header::{ContentsEnd, Refusal, close, open, refuse};
 pub use bits::bit_string;
 use cuts::{Cuts, may_segment, segment_rules, stays_whole, takes_cuts};
-pub use octets::octet_string;
+pub use octets::{octet_string, whole_octets};
 use std::alloc::Global;
 use yasna_base::error::ASN1ErrorKind;
 use yasna_base::mode::BERMode;

@@ -1,16 +1,17 @@
 //! Strings whose octets say a value: character strings (X.680, 41; X.690, 8.23).
 //!
-//! The octets of all segments are joined first, and then judged.
+//! The octets of one primitive element are judged where they stand. Those of segments are joined first.
 ghost use Rattle.std.specs.Prelude.{◌≡◌, ℕ, List, [], IsTrue, ◌↔◌, IfOk, MatchResult};
 ghost use Rattle.std.specs.Char.Utf16.{utf16_lossy_chars};
 ghost use Rattle.yasna_base.specs.Text.{characters, units};
 ghost use Rattle.yasna_base.specs.declared.error.ASN1ErrorKind.TheVariants.{OutOfMemory};
 ghost use Rattle.yasna_base.specs.declared.mode.BERMode.{BERMode};
-ghost use Rattle.yasna_bytes.specs.Text.{Judges, SaidAt, SaysText, MayHold};
+ghost use Rattle.yasna_bytes.specs.Text.{Judges, SaidAt, SaysText, MayHold, Utf8At};
 
 use crate::bytes::cursor::Cursor;
 use crate::bytes::header::{Refusal, refuse};
-use crate::bytes::segments::octet_string;
+use crate::bytes::segments::{octet_string, whole_octets};
+use simdutf8::basic::from_utf8;
 use std::alloc::{AllocError, Global};
 use yasna_base::error::ASN1ErrorKind;
 use yasna_base::mode::BERMode;
@@ -33,9 +34,22 @@ pub trait Judge: Sized + Copy {
         self,
         alloc: Global,
         mode: BERMode,
+        octets: &[u8],
+    ) -> Result<Self::Value, ASN1ErrorKind>
+        ensures { Judges (says self mode) view octets.now result };
+
+    /// The same of octets that were joined from segments, in memory that the value may keep.
+    #[inline(always)]
+    fn judge_joined(
+        self,
+        alloc: Global,
+        mode: BERMode,
         octets: Vec<u8>,
     ) -> Result<Self::Value, ASN1ErrorKind>
-        ensures { Judges (says self mode) view octets.items result };
+        ensures { Judges (says self mode) view octets.items result }
+    {
+        self.judge(alloc, mode, octets.as_slice())
+    }
 }
 
 /// The string with this tag at the front, as its octets are judged, and the rest.
@@ -48,12 +62,33 @@ pub fn string_of<'a, J: Judge>(
 ) -> Result<(J::Value, &'a [u8]), Refusal>
     ensures { SaidAt (J.says judge) J.view cursor.entry.levels cursor.entry.mode tag cursor.entry.left.now result }
 {
-    match octet_string(alloc, cursor, tag) {
-        Ok((octets, rest)) => match judge.judge(alloc, cursor.mode, octets) {
+    match whole_octets(cursor, tag) {
+        Ok(Some((octets, rest))) => match judge.judge(alloc, cursor.mode, octets) {
             Ok(value) => Ok((value, rest)),
             Err(kind) => Err(refuse(kind, true)),
         },
+        Ok(None) => joined_of(alloc, cursor, tag, judge),
         Err(refusal) => Err(refusal),
+    }
+}
+
+// The same, with the octets joined in any case.
+#[inline(never)]
+fn joined_of<'a, J: Judge>(
+    alloc: Global,
+    cursor: Cursor<'a>,
+    tag: Tag,
+    judge: J,
+) -> Result<(J::Value, &'a [u8]), Refusal>
+    ensures { SaidAt (J.says judge) J.view cursor.entry.levels cursor.entry.mode tag cursor.entry.left.now result }
+{
+    let (octets, rest) = match octet_string(alloc, cursor, tag) {
+        Ok(string) => string,
+        Err(refusal) => return Err(refusal),
+    };
+    match judge.judge_joined(alloc, cursor.mode, octets) {
+        Ok(value) => Ok((value, rest)),
+        Err(kind) => Err(refuse(kind, true)),
     }
 }
 
@@ -118,6 +153,34 @@ fn utf16_text(alloc: Global, octets: &[u8]) -> Result<String, ASN1ErrorKind>
     }
 }
 
+// The text in UTF-8, in a copy of the octets.
+#[inline(always)]
+fn utf8_text(alloc: Global, octets: &[u8]) -> Result<String, ASN1ErrorKind>
+    ensures { Utf8At octets.now result }
+{
+    if octets.is_empty() {
+        return Ok(String::new(alloc));
+    }
+    let Ok(text) = from_utf8(octets) else {
+        return Err(ASN1ErrorKind::Invalid);
+    };
+    match String::from_str(alloc, text) {
+        Ok(text) => Ok(text),
+        Err(_) => Err(ASN1ErrorKind::OutOfMemory),
+    }
+}
+
+// The same, in the octets' own memory.
+#[inline(always)]
+fn joined_text(octets: Vec<u8>) -> Result<String, ASN1ErrorKind>
+    ensures { Utf8At octets.items result }
+{
+    match String::from_utf8(octets) {
+        Ok(text) => Ok(text),
+        Err(_) => Err(ASN1ErrorKind::Invalid),
+    }
+}
+
 impl Judge for Class {
     type Value = String;
 
@@ -128,7 +191,18 @@ impl Judge for Class {
     ghost says = { SaysText };
 
     #[inline(always)]
-    fn judge(
+    fn judge(self, alloc: Global, _mode: BERMode, octets: &[u8]) -> Result<String, ASN1ErrorKind> {
+        if !self.may_hold(octets) {
+            return Err(ASN1ErrorKind::Invalid);
+        }
+        match self {
+            Class::Bmp => utf16_text(alloc, octets),
+            _ => utf8_text(alloc, octets),
+        }
+    }
+
+    #[inline(always)]
+    fn judge_joined(
         self,
         alloc: Global,
         _mode: BERMode,
@@ -139,10 +213,7 @@ impl Judge for Class {
         }
         match self {
             Class::Bmp => utf16_text(alloc, octets.as_slice()),
-            _ => match String::from_utf8(octets) {
-                Ok(text) => Ok(text),
-                Err(_) => Err(ASN1ErrorKind::Invalid),
-            },
+            _ => joined_text(octets),
         }
     }
 }

@@ -3,15 +3,16 @@ ghost use Rattle.std.proofs.Common.{refl};
 ghost use Rattle.std.specs.Prelude.{List, ℕ};
 ghost use Rattle.yasna_base.proofs.Octets.{octets_once};
 ghost use Rattle.yasna_base.specs.Octets.{octets_segmentation};
-ghost use Rattle.yasna_bytes.specs.Segments.{OctetsAt};
+ghost use Rattle.yasna_bytes.specs.Segments.{OctetsAt, WholeOctetsAt};
 
 use crate::bytes::cursor::Cursor;
-use crate::bytes::header::Refusal;
+use crate::bytes::header::{ContentsEnd, Refusal, open, refuse};
+use crate::bytes::segments::cuts::stays_whole;
 use crate::bytes::segments::{Tally, string};
 use std::alloc::Global;
 use yasna_base::error::ASN1ErrorKind;
 use yasna_base::mode::BERMode;
-use yasna_base::tag::Tag;
+use yasna_base::tag::{PCBit, Tag};
 use yasna_base::tags::TAG_OCTETSTRING;
 
 /// Octets: nothing is known besides the bytes.
@@ -74,5 +75,29 @@ pub fn octet_string<'a>(
     match string::<Octets>(alloc, cursor, tag) {
         Ok(((bytes, _), rest)) => Ok((bytes, rest)),
         Err(refusal) => Err(refusal),
+    }
+}
+
+/// The octets of a string with this tag at the front where they stand, and the rest; `None` if the string is constructed.
+#[inline(always)]
+pub fn whole_octets(cursor: Cursor<'_>, tag: Tag) -> Result<Option<(&[u8], &[u8])>, Refusal>
+    ensures { WholeOctetsAt cursor.entry.levels cursor.entry.mode tag cursor.entry.left.now result }
+{
+    let opened = match open(cursor, tag) {
+        Ok(opened) => opened,
+        Err(refusal) => return Err(refusal),
+    };
+    match opened.bit {
+        PCBit::Primitive => {
+            let ContentsEnd::Definite(after) = opened.end else {
+                // No mode takes the indefinite form there.
+                return Err(refuse(ASN1ErrorKind::Invalid, true));
+            };
+            if !stays_whole(cursor.mode, Octets::full(), opened.within.len()) {
+                return Err(refuse(ASN1ErrorKind::Invalid, true));
+            }
+            Ok(Some((opened.within, after)))
+        }
+        PCBit::Constructed => Ok(None),
     }
 }

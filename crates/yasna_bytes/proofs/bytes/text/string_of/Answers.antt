@@ -7,8 +7,8 @@ use Rattle.yasna_bytes.proofs.bytes.text.string_of.Goals as goal
 pub returns-in-Err-judge : goal.returns-in-Err-judge
 returns-in-Err-judge g c =
     let p = c.args.cursor in
-    rw c.refuse.ensures (said_refused (g.J.Judge.says c.args.judge) p.levels p.mode c.args.tag p.left.now c.in-Ok.octets.items c.in-Ok.rest.now _
-    (c.in-Ok.ensures {u = tt}) (c.in-Err-judge.ensures {u = tt}) refl)
+    rw c.refuse.ensures (said_refused (g.J.Judge.says c.args.judge) p.levels p.mode c.args.tag p.left.now c.in-Ok-Some.octets.now c.in-Ok-Some.rest.now _
+    (rw c.in-Ok-Some.field-0-is at (c.in-Ok-Some.ensures {u = tt})) (c.in-Err-judge.ensures {u = tt}) refl)
 
 pub returns-in-Err : goal.returns-in-Err
 returns-in-Err g c =

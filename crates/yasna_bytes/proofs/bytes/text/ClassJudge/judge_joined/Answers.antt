@@ -1,0 +1,18 @@
+use Rattle.std.proofs.Common.{refl}
+use Rattle.yasna_bytes.proofs.Text.{class_refused, utf8_judged, bmp_judged}
+use Rattle.yasna_bytes.proofs.bytes.text.ClassJudge.judge_joined.Goals as goal
+
+pub returns-then-not-may_hold : goal.returns-then-not-may_hold
+returns-then-not-may_hold c =
+    class_refused c.args.self c.args._mode c.args.octets.items
+    (λ h. let z = (c.if-not-may_hold.ensures {u = tt}).1 (rw c.as_slice.ensures.value h) in cc)
+
+pub returns-in-Bmp : goal.returns-in-Bmp
+returns-in-Bmp c =
+    let h = rw c.as_slice.ensures.value at ((c.if-not-may_hold.ensures {u = tt}).0 refl) in
+    bmp_judged c.args.self c.args._mode c.args.octets.items c.utf16_text.result c.in-Bmp.is h (rw c.as_slice-in-Bmp.ensures.value at c.utf16_text.ensures)
+
+pub returns-in_default : goal.returns-in_default
+returns-in_default c =
+    let h = rw c.as_slice.ensures.value at ((c.if-not-may_hold.ensures {u = tt}).0 refl) in
+    utf8_judged c.args.self c.args._mode c.args.octets.items c.joined_text.result c.in_default.not-Bmp h c.joined_text.ensures
