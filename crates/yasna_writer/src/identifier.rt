@@ -14,7 +14,24 @@ pub(crate) fn push_bytes(out: &mut Vec<u8>, bytes: &[u8]) -> Result<(), AllocErr
     ensures items { OnOk result (out.new.items ≡ out.old.items ++ bytes.now) }
     ensures grows { vec_len out.old ≤ vec_len out.new }
 {
+    if bytes.len() > out.capacity() - out.len() {
+        make_room(out, bytes.len())?;
+    }
     out.extend_from_slice(bytes)
+}
+
+// Makes room for so many bytes more. The first room is for 24: few allocators have a smaller block, and a small element fits with
+// its header.
+#[cold]
+#[inline(never)]
+fn make_room(out: &mut Vec<u8>, more: usize) -> Result<(), AllocError>
+    ensures items { out.new.items ≡ out.old.items }
+    ensures len { vec_len out.new ≡ vec_len out.old }
+{
+    if out.capacity() == 0 && more < 24 {
+        return out.reserve(24);
+    }
+    out.reserve(more)
 }
 
 // The class's place in the first byte.
