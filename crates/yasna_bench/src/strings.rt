@@ -2,6 +2,7 @@
 
 use crate::reading::mode;
 use crate::{answered, length, mixed};
+use simdutf8::basic::from_utf8;
 use std::alloc::Global;
 use yasna::{
     ASN1Result, BERReaderSeq, DERWriterSeq, construct_cer, construct_der, parse_ber_general,
@@ -56,7 +57,7 @@ fn texts(seq: &mut BERReaderSeq, count: usize) -> ASN1Result<u64> {
 /// The length of a SEQUENCE of this text, so many times; none where it isn't UTF-8.
 #[unsafe(no_mangle)]
 pub extern "C" fn yasna_write_texts(alloc: Global, text: &[u8], count: usize) -> u64 {
-    let Ok(text) = str::from_utf8(text) else {
+    let Ok(text) = from_utf8(text) else {
         return crate::REFUSED;
     };
     length(construct_der(
@@ -93,7 +94,7 @@ fn text_length(read: ASN1Result<String>) -> u64 {
 /// The length of this text as a BMPString; none where it isn't UTF-8.
 #[unsafe(no_mangle)]
 pub extern "C" fn yasna_write_bmp(alloc: Global, text: &[u8]) -> u64 {
-    let Ok(text) = str::from_utf8(text) else {
+    let Ok(text) = from_utf8(text) else {
         return crate::REFUSED;
     };
     length(construct_der(alloc, |writer| writer.write_bmp_string(text)))
