@@ -43,12 +43,7 @@ impl Judge for UtcText {
     ghost says = { λ _. SaysUtcTime };
 
     #[inline(always)]
-    fn judge(
-        self,
-        _alloc: Global,
-        mode: BERMode,
-        text: &[u8],
-    ) -> Result<UTCTime, ASN1ErrorKind> {
+    fn judge(self, _alloc: Global, mode: BERMode, text: &[u8]) -> Result<UTCTime, ASN1ErrorKind> {
         let utc = match UTCTime::parse(text) {
             Some(utc) => utc,
             None => return Err(ASN1ErrorKind::Invalid),

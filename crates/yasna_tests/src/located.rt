@@ -222,7 +222,12 @@ fn elements_of_a_set_fail_where_they_begin(rt: HostRuntime) -> Result<(), Fail> 
     let number = [49, 6, 2, 1, 7, 12, 1, 65];
     assert!(rt; setting(rt.alloc(), &number) == Ok(7));
     let left = [49, 8, 2, 1, 7, 5, 0, 12, 1, 65];
-    fails(&rt, setting(rt.alloc(), &left), ASN1ErrorKind::Invalid, (5, 1));
+    fails(
+        &rt,
+        setting(rt.alloc(), &left),
+        ASN1ErrorKind::Invalid,
+        (5, 1),
+    );
     let padded = [49, 7, 2, 2, 0, 7, 12, 1, 65];
     fails(
         &rt,
