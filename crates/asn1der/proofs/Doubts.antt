@@ -219,8 +219,8 @@ walked_end n m s y r end ps a b x ends vs front rest p e stops =
     subst (λ us. MeetsDoubts n us a b) same x.met
 
 -- where nothing was in doubt before, the doubts are those about the input
-pub are_the_doubts : (s r : List ℕ) (ps : List Part) (a b : Doubts) → TakesPartsTo 101 Ber s (definite_end []) ps r → MeetsTo 101 Ber s (definite_end []) r a b →
-    a.segments ≡ None → a.order ≡ None → AreTheDoubts s b
+pub are_the_doubts : (s r : List ℕ) (ps : List Part) (a b : Doubts) → TakesPartsTo 101 Ber s (definite_end []) ps r →
+    MeetsTo 101 Ber s (definite_end []) r a b → a.segments ≡ None → a.order ≡ None → AreTheDoubts s b
 are_the_doubts s r ps a b x met e f = record {
   segments = λ vs p. let y = (met vs s [] p (sym (append-nil s)) (refl, x.ends.1)).segments in (λ g. (y.0 g).1, λ h. y.1 (e, h));
   order = λ vs p. let y = (met vs s [] p (sym (append-nil s)) (refl, x.ends.1)).order in (λ g. (y.0 g).1, λ h. y.1 (f, h));
