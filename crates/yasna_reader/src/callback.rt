@@ -35,7 +35,8 @@ fn is_plain(kind: ASN1ErrorKind) -> bool
 impl<'a> ReaderState<'a> {
     ghost use Rattle.std.specs.Prelude.{None, length, ◌≡◌};
     ghost use Rattle.std.specs.Fn.{FnOnceTakesAtMut, FnOnceReturnsAtMut};
-    ghost use Rattle.yasna_reader.specs.Callback.{ComesTo, Hands, Lent, FailsAs, at_cursor};
+    ghost use Rattle.yasna_reader.specs.Callback.{ComesTo, Hands, Lent, FailsAs, at_cursor, moved_as};
+    ghost use Rattle.yasna_reader.specs.State.{failing};
 
     // Hands this reading to a callback, and takes it back.
     #[inline(always)]
@@ -75,6 +76,7 @@ impl<'a> ReaderState<'a> {
 
     // What a callback came to that began here and gave this answer. The reading goes on where the callback left it.
     #[inline(always)]
+    #[tactic(auto, using(crate::proofs::Callbacks::place_unmoved))]
     pub(crate) fn take_back<T: Drop>(
         &mut self,
         before: Cursor<'a>,
@@ -82,28 +84,78 @@ impl<'a> ReaderState<'a> {
     ) -> Outcome<T>
         ensures { ComesTo (at_cursor before.entry) answer self.old result self.new }
     {
-        let all = before.left.len();
-        let remaining = self.cursor.left.len();
-        let place = self.place();
-        self.cursor = before;
-        self.cursor.left = &before.left[all.saturating_sub(remaining)..];
-        self.tag = None;
         if let Some(error) = self.kept {
-            self.stand_at(place, self.deeper);
+            self.take_back_failed(before);
             return Outcome::Failed(error);
         }
+        let all = before.left.len();
+        let remaining = self.cursor.left.len();
         if all < remaining {
-            return self.failed(ASN1Error::new(ASN1ErrorKind::Invalid));
+            return self.fail_back(before, ASN1Error::new(ASN1ErrorKind::Invalid));
         }
         match answer {
-            Ok(value) => Outcome::Gave(value),
+            Ok(value) => {
+                self.go_on(before);
+                Outcome::Gave(value)
+            }
             Err(error) => {
                 if remaining == all && is_plain(error.kind()) {
+                    self.go_back(before);
                     return Outcome::Quiet(error);
                 }
-                self.failed(error)
+                self.fail_back(before, error)
             }
         }
+    }
+
+    // Goes back to where a callback began.
+    #[inline(always)]
+    fn go_back(&mut self, before: Cursor<'a>)
+        ensures { self.new ≡ record (at_cursor before.entry) { kept = self.old.kept } }
+    {
+        self.cursor = before;
+        self.tag = None;
+    }
+
+    // Goes on where a callback left this reading that began there.
+    #[inline(always)]
+    fn go_on(&mut self, before: Cursor<'a>)
+        ensures { self.new ≡ record (moved_as (at_cursor before.entry) self.old) { kept = self.old.kept } }
+    {
+        let all = before.left.len();
+        let remaining = self.cursor.left.len();
+        self.go_back(before);
+        self.cursor.left = &before.left[all.saturating_sub(remaining)..];
+    }
+
+    // The same where it keeps a failure: the place at which that was found stays.
+    #[cold]
+    #[inline(never)]
+    fn take_back_failed(&mut self, before: Cursor<'a>)
+        ensures { self.new ≡ record (moved_as (at_cursor before.entry) self.old) { kept = self.old.kept } }
+    {
+        let place = self.place();
+        self.go_on(before);
+        self.stand_at(place, self.deeper);
+    }
+
+    // What a callback came to where this failure is found behind it.
+    #[inline(always)]
+    fn fail_back<T>(&mut self, before: Cursor<'a>, error: ASN1Error) -> Outcome<T>
+        ensures { FailsAs error (moved_as (at_cursor before.entry) self.old) result self.new }
+    {
+        self.keep_there(before, error);
+        Outcome::Failed(error)
+    }
+
+    // Keeps a failure that is found where it left this reading.
+    #[cold]
+    #[inline(never)]
+    fn keep_there(&mut self, before: Cursor<'a>, error: ASN1Error)
+        ensures { self.new ≡ failing (moved_as (at_cursor before.entry) self.old) error }
+    {
+        self.go_on(before);
+        self.kept = Some(error);
     }
 
     // Keeps a failure.

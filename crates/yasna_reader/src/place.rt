@@ -4,9 +4,11 @@
 //! may lie deeper than its own contents, and hands that place on with the failure.
 
 use crate::state::ReaderState;
+use yasna_base::error::ASN1Error;
 
 impl<'a> ReaderState<'a> {
     ghost use Rattle.std.specs.Prelude.{◌≡◌};
+    ghost use Rattle.yasna_reader.specs.State.{failing};
 
     // The place, counted from the input's first byte.
     #[inline(always)]
@@ -27,5 +29,15 @@ impl<'a> ReaderState<'a> {
     {
         self.cursor.end = place.saturating_add(self.cursor.left.len());
         self.deeper = deeper;
+    }
+
+    // Keeps a failure that was found where the reading of an element's contents stands.
+    #[cold]
+    #[inline(never)]
+    pub(crate) fn keep_from(&mut self, error: ASN1Error, contents: &ReaderState<'a>)
+        ensures { self.new ≡ failing self.old error }
+    {
+        self.stand_at(contents.place(), contents.deeper.saturating_add(1));
+        self.kept = Some(error);
     }
 }

@@ -131,8 +131,8 @@ impl<'a> ReaderState<'a> {
     fn fail_within<T>(&mut self, error: ASN1Error, contents: &ReaderState<'a>) -> ASN1Result<T>
         ensures { Fails error self.old result self.new }
     {
-        self.stand_at(contents.place(), contents.deeper.saturating_add(1));
-        self.fail(error)
+        self.keep_from(error, contents);
+        Err(error)
     }
 
     // Keeps a failure, and answers it.
