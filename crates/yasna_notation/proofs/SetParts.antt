@@ -34,7 +34,7 @@ use Rattle.yasna_writer.specs.Set.{KeptAtPart, BeginsPart, parts_unless_kept, Fa
 use Rattle.yasna_writer.specs.View.{Written, holding, Writes, Wrote, RanOut}
 use Rattle.yasna_notation.specs.Laws.{element_filled}
 use Rattle.yasna_notation.specs.Notation.{ReadsAs}
-use Rattle.yasna_notation.specs.Sets.{IsFilled, IsWantOfMemory, WroteElement, MadeParts, WroteElements}
+use Rattle.yasna_notation.specs.Sets.{HasOctets, IsWantOfMemory, WroteElement, MadeParts, WroteElements}
 use Rattle.yasna.proofs.Closures.{by_run, by_call}
 use Rattle.yasna_notation.proofs.Enclosing.{value_by}
 use Rattle.yasna_notation.proofs.OneTag.{one_tag_read}
@@ -52,7 +52,7 @@ module _ {A : Type 0} {told : Bool} {ts : List Tag} {retagged asks : Bool} {B : 
       (λ t not. any_set_of_by_tag (CalledAtMut g) f t not laws value_by (by_call (ReadsAs told ts retagged asks B S) says))
       (parts_under (CollectsInOrder Ascending (CalledAtMut g) f) set_tag) s r s' (parts_repeat_kept h) h
 
-null_behind : (s : List ℕ) (t : Tag) (m : BERMode) → IsFilled (s ++ null_form t m tt)
+null_behind : (s : List ℕ) (t : Tag) (m : BERMode) → HasOctets (s ++ null_form t m tt)
 null_behind [] t m e = element_filled _ _ _ _ e
 null_behind (x ∷ s) t m e = absurd (cc)
 
@@ -64,9 +64,9 @@ after_null b c t m old mid new e u h k = go old.kept mid.kept h k
     go : (o i : Option ASN1Error) →
         MatchOption o (IsWantOfMemory e × MatchOption i ((d : List ℕ) × (mid.bytes ≡ old.bytes ++ d)) IsWantOfMemory) (λ k. i ≡ Some k) →
         MatchOption i (new ≡ holding mid (mid.bytes ++ null_form t m tt)) (λ k. (Ok u ≡ Err k) × (new.kept ≡ Some k)) →
-        MatchOption o (MatchOption new.kept (IsWantOfMemory e × IsFilled new.bytes) IsWantOfMemory) (λ k. new.kept ≡ Some k)
+        MatchOption o (MatchOption new.kept (IsWantOfMemory e × HasOctets new.bytes) IsWantOfMemory) (λ k. new.kept ≡ Some k)
     go None None h k =
-        subst (λ (w : Written). MatchOption w.kept (IsWantOfMemory e × IsFilled w.bytes) IsWantOfMemory) (sym k) (h.0, null_behind mid.bytes t m)
+        subst (λ (w : Written). MatchOption w.kept (IsWantOfMemory e × HasOctets w.bytes) IsWantOfMemory) (sym k) (h.0, null_behind mid.bytes t m)
     go None (Some d) h k = let x = k.0 in absurd (cc)
     go (Some d) None h k = absurd (cc)
     go (Some d) (Some i) h k = let x = k.0 in absurd (cc)
@@ -76,12 +76,12 @@ all_append P [] ys a b = b
 all_append P (x ∷ xs) ys a b = (a.0, all_append P xs ys a.1 b)
 
 -- a part behind others, where there is no memory
-part_added : (ps : List (List ℕ)) (s : WrittenParts) (b : List ℕ) (o k i : Option ASN1Error) (e : ASN1Error) → AllByRecursion IsFilled ps →
+part_added : (ps : List (List ℕ)) (s : WrittenParts) (b : List ℕ) (o k i : Option ASN1Error) (e : ASN1Error) → AllByRecursion HasOctets ps →
     MatchOption o (s.parts ≡ ps) IsWantOfMemory → KeptAtPart o k →
-    MatchOption k (MatchOption i (IsWantOfMemory e × IsFilled b) IsWantOfMemory) (λ k. i ≡ Some k) →
-    MatchOption i (IsWantOfMemory e × AllByRecursion IsFilled (parts_unless_kept k s.parts ++ (b ∷ []))) IsWantOfMemory
+    MatchOption k (MatchOption i (IsWantOfMemory e × HasOctets b) IsWantOfMemory) (λ k. i ≡ Some k) →
+    MatchOption i (IsWantOfMemory e × AllByRecursion HasOctets (parts_unless_kept k s.parts ++ (b ∷ []))) IsWantOfMemory
 part_added ps s b None None None e filled h n x =
-    (x.0, all_append IsFilled s.parts (b ∷ []) (subst (λ z. AllByRecursion IsFilled z) (sym h) filled) (x.1, tt))
+    (x.0, all_append HasOctets s.parts (b ∷ []) (subst (λ z. AllByRecursion HasOctets z) (sym h) filled) (x.1, tt))
 part_added ps s b (Some o) None None e filled h n x = absurd (cc)
 part_added ps s b o None (Some i) e filled h n x = x
 part_added ps s b o (Some k) None e filled h n x = absurd (cc)
@@ -91,21 +91,21 @@ part_added ps s b (Some o) (Some k) (Some i) e filled h (inl n) x = let y : i �
 part_added ps s b (Some o) (Some k) (Some i) e filled h (inr n) x = let y = n.0 in absurd (cc)
 
 pub part_failed : (ps these : List (List ℕ)) (b : List ℕ) (m : BERMode) (s : WrittenParts) (w w' : Written) (e : ASN1Error)
-    (r : Result (Unit {0}) ASN1Error) → AllByRecursion IsFilled ps → WroteElements ps s (Ok tt) → BeginsPart m s.kept w →
+    (r : Result (Unit {0}) ASN1Error) → AllByRecursion HasOctets ps → WroteElements ps s (Ok tt) → BeginsPart m s.kept w →
     WroteElement b w w' (Err e) → IsErrAnd r (λ k. k ≡ e) →
     WroteElements these (record { parts = parts_unless_kept w.kept s.parts ++ (w'.bytes ∷ []); mode = s.mode; kept = w'.kept }) r
 part_failed ps these b m s w w' e (Ok u) filled h begins x is = absurd is
 part_failed ps these b m s w w' e (Err k) filled h begins x is =
-    subst (λ z. MatchOption w'.kept (IsWantOfMemory z × AllByRecursion IsFilled (parts_unless_kept w.kept s.parts ++ (w'.bytes ∷ []))) IsWantOfMemory)
+    subst (λ z. MatchOption w'.kept (IsWantOfMemory z × AllByRecursion HasOctets (parts_unless_kept w.kept s.parts ++ (w'.bytes ∷ []))) IsWantOfMemory)
     (sym is) (part_added ps s w'.bytes s.kept w.kept w'.kept e filled h begins.keeps x)
 
 -- no form is empty
-pub forms_filled : {A : Type 0} (form : Form A) (m : BERMode) → ((v : A) → IsFilled (form m v)) → (vs : List A) →
-    AllByRecursion IsFilled (forms form m vs)
+pub forms_filled : {A : Type 0} (form : Form A) (m : BERMode) → ((v : A) → HasOctets (form m v)) → (vs : List A) →
+    AllByRecursion HasOctets (forms form m vs)
 forms_filled form m filled [] = tt
 forms_filled form m filled (v ∷ vs) = (filled v, forms_filled form m filled vs)
 
-module _ {A : Type 0} (form : Form A) (t : Tag) (vs : List A) (filled : (m : BERMode) (v : A) → IsFilled (form m v)) (m : BERMode) where
+module _ {A : Type 0} (form : Form A) (t : Tag) (vs : List A) (filled : (m : BERMode) (v : A) → HasOctets (form m v)) (m : BERMode) where
   -- the contents that the forms make are those of the form of all
   made : (ps : List (List ℕ)) (c : List ℕ) → ps ≡ forms form m vs → SetOfContents ps c →
       canonical_element m t Constructed c ≡ sorted_set_of_form form t m vs
@@ -113,8 +113,8 @@ module _ {A : Type 0} (form : Form A) (t : Tag) (vs : List A) (filled : (m : BER
       ap (λ z. canonical_element m t Constructed z) (x.joined ∙ ap (λ z. concat (in_order octets_cmp z)) is) ∙
       sym (around_forms form m t (in_form_order form m vs) (in_order octets_cmp (forms form m vs)) (forms_in_order form m vs))
 
-  all_filled : (ps : List (List ℕ)) (own : Result (Unit {0}) ASN1Error) → MadeParts (forms form m vs) ps own → AllByRecursion IsFilled ps
-  all_filled ps (Ok u) x = subst (λ z. AllByRecursion IsFilled z) (sym x) (forms_filled form m (filled m) vs)
+  all_filled : (ps : List (List ℕ)) (own : Result (Unit {0}) ASN1Error) → MadeParts (forms form m vs) ps own → AllByRecursion HasOctets ps
+  all_filled ps (Ok u) x = subst (λ z. AllByRecursion HasOctets z) (sym x) (forms_filled form m (filled m) vs)
   all_filled ps (Err e) x = x.1
 
   module _ (left : WrittenParts) (own : Result (Unit {0}) ASN1Error) (x : WroteElements (forms form m vs) left own) where
@@ -151,7 +151,7 @@ module _ {A : Type 0} (form : Form A) (t : Tag) (vs : List A) (filled : (m : BER
 
 -- a set of what a closure writes as parts is a SET OF these values
 pub set_written : {A F : Type 0} (g : Once F (MutBor WrittenParts × Unit {0}) (Result (Unit {0}) ASN1Error × (MutBor WrittenParts × Unit {0})))
-    (from : ASN1Error → ASN1Error → Type 0) (f : F) (form : Form A) (t : Tag) (vs : List A) → ((m : BERMode) (v : A) → IsFilled (form m v)) →
+    (from : ASN1Error → ASN1Error → Type 0) (f : F) (form : Form A) (t : Tag) (vs : List A) → ((m : BERMode) (v : A) → HasOctets (form m v)) →
     ((k e : ASN1Error) → from k e → e ≡ k) →
     ((p q : MutBor WrittenParts) (r : Result (Unit {0}) ASN1Error) → p.now ≡ no_parts p.now.mode → g.post f (p, tt) (r, (q, tt)) →
     WroteElements (forms form p.now.mode vs) q.now r) → (old new : Written) (r : Result (Unit {0}) ASN1Error) →

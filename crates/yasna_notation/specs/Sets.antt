@@ -30,8 +30,8 @@ set_of_laws {A} x t not_end range =
     (along items (any_set_of t not_end x.coding), exact_along items (any_set_of_exact t range x.exact))
 
 -- what holds bytes
-abbrev pub IsFilled : List ℕ → Type 0
-IsFilled b = b ≡ [] → ⊥
+abbrev pub HasOctets : List ℕ → Type 0
+HasOctets b = b ≡ [] → ⊥
 
 -- a failure for want of memory
 abbrev pub IsWantOfMemory : ASN1Error → Type 0
@@ -45,12 +45,12 @@ LacksAtMost kept = MatchOption kept (Unit {0}) IsWantOfMemory
 abbrev pub WroteElement : List ℕ → Written → Written → Result (Unit {0}) ASN1Error → Type 0
 WroteElement b old new result =
     MatchOption old.kept
-    (MatchOption new.kept (MatchResult result (λ _. new.bytes ≡ b) (λ e. IsWantOfMemory e × IsFilled new.bytes)) IsWantOfMemory)
+    (MatchOption new.kept (MatchResult result (λ _. new.bytes ≡ b) (λ e. IsWantOfMemory e × HasOctets new.bytes)) IsWantOfMemory)
     (λ k. new.kept ≡ Some k)
 
 -- the parts are these, or there is no memory, and no part is empty
 abbrev pub MadeParts : List (List ℕ) → List (List ℕ) → Result (Unit {0}) ASN1Error → Type 0
-MadeParts these parts result = MatchResult result (λ _. parts ≡ these) (λ e. IsWantOfMemory e × AllByRecursion IsFilled parts)
+MadeParts these parts result = MatchResult result (λ _. parts ≡ these) (λ e. IsWantOfMemory e × AllByRecursion HasOctets parts)
 
 -- so a set was left, unless want of memory is kept
 abbrev pub WroteElements : List (List ℕ) → WrittenParts → Result (Unit {0}) ASN1Error → Type 0
