@@ -85,7 +85,7 @@ impl<'a> ReaderState<'a> {
         ensures { ComesTo (at_cursor before.entry) answer self.old result self.new }
     {
         if let Some(error) = self.kept {
-            self.take_back_failed(before);
+            self.go_on_failed(before);
             return Outcome::Failed(error);
         }
         let all = before.left.len();
@@ -129,9 +129,8 @@ impl<'a> ReaderState<'a> {
     }
 
     // The same where it keeps a failure: the place at which that was found stays.
-    #[cold]
-    #[inline(never)]
-    fn take_back_failed(&mut self, before: Cursor<'a>)
+    #[inline(always)]
+    fn go_on_failed(&mut self, before: Cursor<'a>)
         ensures { self.new ≡ record (moved_as (at_cursor before.entry) self.old) { kept = self.old.kept } }
     {
         let place = self.place();
@@ -144,18 +143,8 @@ impl<'a> ReaderState<'a> {
     fn fail_back<T>(&mut self, before: Cursor<'a>, error: ASN1Error) -> Outcome<T>
         ensures { FailsAs error (moved_as (at_cursor before.entry) self.old) result self.new }
     {
-        self.keep_there(before, error);
-        Outcome::Failed(error)
-    }
-
-    // Keeps a failure that is found where it left this reading.
-    #[cold]
-    #[inline(never)]
-    fn keep_there(&mut self, before: Cursor<'a>, error: ASN1Error)
-        ensures { self.new ≡ failing (moved_as (at_cursor before.entry) self.old) error }
-    {
         self.go_on(before);
-        self.kept = Some(error);
+        self.failed(error)
     }
 
     // Keeps a failure.

@@ -4,11 +4,9 @@
 //! may lie deeper than its own contents, and hands that place on with the failure.
 
 use crate::state::ReaderState;
-use yasna_base::error::ASN1Error;
 
 impl<'a> ReaderState<'a> {
     ghost use Rattle.std.specs.Prelude.{◌≡◌};
-    ghost use Rattle.yasna_reader.specs.State.{failing};
 
     // The place, counted from the input's first byte.
     #[inline(always)]
@@ -19,7 +17,7 @@ impl<'a> ReaderState<'a> {
     // The place in front of so many of the bytes up to where the contents end.
     #[inline(always)]
     pub(crate) fn place_before(&self, left: usize) -> usize {
-        self.cursor.end.saturating_sub(left)
+        place_up_to(self.cursor.end, left)
     }
 
     // Stands at the place at which a failure was found, with so many elements more around it than around this reading.
@@ -31,13 +29,19 @@ impl<'a> ReaderState<'a> {
         self.deeper = deeper;
     }
 
-    // Keeps a failure that was found where the reading of an element's contents stands.
-    #[cold]
-    #[inline(never)]
-    pub(crate) fn keep_from(&mut self, error: ASN1Error, contents: &ReaderState<'a>)
-        ensures { self.new ≡ failing self.old error }
+    // Stands where a failure was found in the contents of an element.
+    #[inline(always)]
+    pub(crate) fn stand_within(&mut self, contents: &ReaderState<'a>)
+        ensures { self.new ≡ self.old }
     {
         self.stand_at(contents.place(), contents.deeper.saturating_add(1));
-        self.kept = Some(error);
     }
+}
+
+// The place in front of so many of the bytes up to this end. It is asked for where something failed, and takes no reference to a
+// reading: one whose reads are inlined may stand in registers.
+#[cold]
+#[inline(never)]
+fn place_up_to(end: usize, left: usize) -> usize {
+    end.saturating_sub(left)
 }

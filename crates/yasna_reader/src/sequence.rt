@@ -131,8 +131,8 @@ impl<'a> ReaderState<'a> {
     fn fail_within<T>(&mut self, error: ASN1Error, contents: &ReaderState<'a>) -> ASN1Result<T>
         ensures { Fails error self.old result self.new }
     {
-        self.keep_from(error, contents);
-        Err(error)
+        self.stand_within(contents);
+        self.fail(error)
     }
 
     // Keeps a failure, and answers it.
