@@ -1,5 +1,5 @@
 -- What a writing has at the end of an element with parts.
-use Rattle.std.proofs.Common.{◌≡◌, ℕ, List, ◌++◌, length, take, drop, None, sym, ap, ap₂, subst, ◌∙◌}
+use Rattle.std.proofs.Common.{◌≡◌, ℕ, List, ◌++◌, length, take, drop, None, ap, ap₂, subst, ◌∙◌}
 use Rattle.std.proofs.Math.Seq.{take-append_seam, drop-append_seam}
 use Rattle.yasna_base.specs.declared.mode.BERMode.{BERMode}
 use Rattle.yasna_base.specs.declared.tag.Tag.{Tag}
@@ -36,10 +36,3 @@ module _ (t : Tag) (old between left new : Written) (b : Beginning) (begun : Beg
       ends.bytes none
       ∙ ap (λ x. holding (record old { mode = b.mode }) x) (element_at_seam b.mode b.tag t b.start old.bytes c left.bytes begun.start begun.tagged e)
       ∙ ap (λ (m : BERMode). holding (record old { mode = m }) (old.bytes ++ canonical_element m t Constructed c)) begun.mode
-
--- an implicit tag that waits at the end is dropped
-pub ends_untagged : (b : Beginning) (left ended new : Written) → EndsElement b left ended → new ≡ record ended { tag = None } → EndsElement b left new
-ends_untagged b left ended new e same = record {
-  kept = subst (λ (k : Option ASN1Error). KeptAtEnd b.start left k) (sym (ap (λ (w : Written). w.kept) same)) e.kept;
-  bytes = λ none. same ∙ ap (λ (w : Written). record w { tag = None }) (e.bytes (sym (ap (λ (w : Written). w.kept) same) ∙ none));
-}

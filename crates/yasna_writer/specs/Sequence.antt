@@ -1,12 +1,10 @@
--- What a call does that writes an element around what a closure writes, and what the closure is lent.
+-- What a call does that writes an element around what a closure writes.
 use Rattle.std.specs.Prelude.{◌≡◌, ℕ, List, ◌++◌, length, Option, Some, None, Result, MatchOption, IsErrAnd}
-use Rattle.std.specs.Borrow.{Lends, MutBor, Fml}
+use Rattle.std.specs.Borrow.{MutBor}
 use Rattle.std.specs.Fn.{Once, FnOnceReturnsAtMut}
 use Rattle.yasna_base.specs.declared.error.ASN1Error.{ASN1Error}
 use Rattle.yasna_writer.specs.View.{Written, holding, handed}
 use Rattle.yasna_writer.specs.State.{KeptAtEnd}
-use Rattle.yasna_writer.specs.contracts.sequence.DERWriterSeq.{the_row}
-use Rattle.yasna_writer.specs.contracts.state.Writer.{the_row as writer_row}
 
 -- a kept failure wins over a closure's own answer
 abbrev pub AnswersKept : {T E : Type 0} → (ASN1Error → E → Type 0) → Option ASN1Error → Result T E → Result T E → Type 0
@@ -38,7 +36,3 @@ abbrev pub Encloses :
     {F T E : Type 0} → Once F (MutBor Written × Unit {0}) (Result T E × (MutBor Written × Unit {0})) → (ASN1Error → E → Type 0) → F → (List ℕ → List ℕ)
     → Written → Written → Result T E → Type 0
 Encloses g from f form old new result = MatchOption old.kept (WroteAround g from f form old new result) (λ k. AnswersOnly from k new result)
-
--- s ends as the last value behind r
-abbrev pub LendsNext : MutBor Written → MutBor Written → Fml
-LendsNext s r = Lends the_row writer_row s r (λ w. w)

@@ -92,7 +92,5 @@ pub fn try_construct_der_seq<
     requires { FnOnceTakesAtMut F.FnOnce f empty_writing }
     ensures { (own : Result (Unit {0}) E) × (left : Written) × FnOnceReturnsAtMut F.FnOnce f empty_writing own left × Constructed E.from_gives left own result }
 {
-    let mut sequence = DERWriterSeq::over(Writer::new(alloc, BERMode::Der));
-    let own = f(&mut sequence);
-    sequence.inner.finish(own)
+    construct_by(alloc, BERMode::Der, f)
 }

@@ -170,34 +170,6 @@ impl Draft {
         }
     }
 
-    // Takes all out, and leaves nothing.
-    //
-    // Each part is moved by itself, here and where all is put back: a processor waits where it loads at once what it has just stored in
-    // two pieces.
-    #[inline(always)]
-    pub(crate) fn take(&mut self, alloc: Global) -> Draft
-        ensures taken { result ≡ self.old }
-        ensures empty { self.new ≡ [] }
-    {
-        Draft {
-            contents: mem::replace(&mut self.contents, Vec::new(alloc)),
-            headers: mem::replace(&mut self.headers, 0),
-            entries: mem::replace(&mut self.entries, Vec::new(alloc)),
-            waits: mem::replace(&mut self.waits, 0),
-        }
-    }
-
-    // Puts all of another in the place of what was here.
-    #[inline(always)]
-    pub(crate) fn put_back(&mut self, taken: Draft)
-        ensures { self.new ≡ taken }
-    {
-        self.headers = taken.headers;
-        self.contents = taken.contents;
-        self.waits = taken.waits;
-        self.entries = taken.entries;
-    }
-
     // How many bytes there are.
     #[inline(always)]
     pub(crate) fn len(&self) -> usize

@@ -1,16 +1,14 @@
 //! SEQUENCE and SEQUENCE OF (X.690, 8.9 and 8.10), calls of users. The length is counted in DER (10.1), and indefinite in CER (9.1).
 ghost use Rattle.std.specs.Prelude.{◌≡◌, None};
-ghost use Rattle.std.specs.Borrow.{sem};
 ghost use Rattle.std.specs.Fn.{FnOnceTakesAtMut};
 ghost use Rattle.yasna_base.specs.declared.tag.PCBit.TheVariants.{Constructed};
 ghost use Rattle.yasna_base.specs.Identifier.{tag_or};
 ghost use Rattle.yasna_base.specs.Canonical.{canonical_element};
 ghost use Rattle.yasna_base.specs.Sequence.{sequence_tag};
 ghost use Rattle.yasna_writer.specs.View.{handed};
-ghost use Rattle.yasna_writer.specs.Sequence.{Encloses, LendsNext};
+ghost use Rattle.yasna_writer.specs.Sequence.{Encloses};
 
 use crate::state::{DERWriter, Writer};
-use std::marker::Model;
 use yasna_base::ASN1Error;
 use yasna_base::tags::TAG_SEQUENCE;
 
@@ -24,46 +22,26 @@ use yasna_base::tags::TAG_SEQUENCE;
 ///     })
 /// }
 /// ```
-#[derive(Drop)]
-pub struct DERWriterSeq {
-    pub(crate) inner: Writer,
-}
+pub type DERWriterSeq = Writer;
 
-impl Model for DERWriterSeq {
-    ghost use Rattle.yasna_writer.specs.View.{Written};
-
-    ghost Value = { Written };
-
-    ghost view = { λ s. s.inner };
-}
-
-impl DERWriterSeq {
-    // The parts that are written behind what a writer holds.
-    #[inline(always)]
-    pub(crate) fn over(inner: Writer) -> DERWriterSeq
-        ensures { result ≡ inner }
-    {
-        DERWriterSeq { inner }
-    }
-
+impl Writer {
     /// The writer of the next part.
     #[inline(always)]
     pub fn next(&mut self) -> DERWriter<'_>
-        ensures* lends { sem 𝓛 (LendsNext self.entry result) }
+        ensures same_reference { result.ghost_name ≡ self.entry.ghost_name }
         ensures value { result.now ≡ record self.old { tag = None } }
     {
-        self.inner.untag();
-        &mut self.inner
+        self.untag();
+        self
     }
-}
 
-impl Writer {
     /// Writes a SEQUENCE (X.690, 8.9): its contents are what the closure writes.
     ///
     /// A failure that is kept is answered, and the closure doesn't run. Else the closure's answer is handed on, and
     /// where it is an `Err` of its own, the element still ends over what was written so far and the writing goes on.
     /// Where a write of the closure failed, or there is no memory for the header (`OutOfMemory`), or the closure left
     /// fewer bytes than there were (`Invalid`), that failure is answered instead and kept.
+    #[inline(always)]
     pub fn write_sequence<
         T: Drop,
         E: From<ASN1Error> + Drop,
@@ -72,16 +50,7 @@ impl Writer {
         requires { self.old.kept ≡ None → FnOnceTakesAtMut F.FnOnce f (handed self.old) }
         ensures { Encloses F.FnOnce E.from_gives f (canonical_element self.old.mode (tag_or self.old.tag sequence_tag) Constructed) self.old self.new result }
     {
-        let tag = match self.fresh_tag(TAG_SEQUENCE) {
-            Ok(tag) => tag,
-            Err(error) => return Err(E::from(error)),
-        };
-        let mut sequence = DERWriterSeq::over(self.lend());
-        let beginning = sequence.inner.begin(tag);
-        let own = f(&mut sequence);
-        sequence.inner.end(beginning);
-        self.take_back(sequence.inner);
-        self.settle(own)
+        self.write_tagged(TAG_SEQUENCE, f)
     }
 
     /// Writes a SEQUENCE OF (X.690, 8.10), as `write_sequence` writes a SEQUENCE.

@@ -8,7 +8,7 @@ ghost use Rattle.std.specs.List.{flat_map};
 ghost use Rattle.std.specs.Str.{chars};
 ghost use Rattle.yasna_base.specs.Text.{bmp_octets};
 ghost use Rattle.yasna_base.specs.declared.tag.PCBit.TheVariants.{Primitive};
-ghost use Rattle.yasna_writer.specs.View.{Written, begun, handed};
+ghost use Rattle.yasna_writer.specs.View.{Written, begun};
 ghost use Rattle.yasna_base.specs.Identifier.{tag_or};
 ghost use Rattle.yasna_writer.specs.Construct.{Constructed};
 ghost use Rattle.yasna_writer.specs.Sequence.{AnswersKept};
@@ -76,20 +76,6 @@ impl Writer {
             kept: None,
             alloc,
             mode,
-        }
-    }
-
-    // Hands out the bytes, to be written on by another writer.
-    #[inline(always)]
-    pub(crate) fn lend(&mut self) -> Writer
-        ensures { result ≡ handed self.old }
-    {
-        Writer {
-            draft: self.draft.take(self.alloc),
-            tag: None,
-            kept: None,
-            alloc: self.alloc,
-            mode: self.mode,
         }
     }
 
@@ -323,17 +309,6 @@ impl Writer {
         if self.kept.is_none() && self.draft.len() < start {
             self.kept = Some(ASN1Error::new(ASN1ErrorKind::Invalid));
         }
-    }
-
-    // Takes the bytes back that were handed out, and the failure.
-    #[inline(always)]
-    pub(crate) fn take_back(&mut self, left: Writer)
-        ensures { self.new ≡ record left { tag = None } }
-    {
-        self.draft.put_back(left.draft);
-        self.tag = None;
-        self.kept = left.kept;
-        self.mode = left.mode;
     }
 
     // What a call with a closure answers, where the closure answered `own`.
