@@ -283,6 +283,8 @@ class Page:
     def __init__(self):
         self.lines = INTRODUCTION.split("\n")
         self.lacking = []
+        # By what name the page has shown a type first.
+        self.names = {}
 
     def text(self, line):
         self.lines += ["", line]
@@ -306,8 +308,12 @@ class Page:
         return lines
 
     def declared(self, home, item):
-        """A type or a trait, and what a type has."""
+        """A type or a trait, and what a type has, where no other name of it stands before."""
         self.block(self.entry_with_members(item, self.entry(item)))
+        name = self.names.setdefault((home.crate, declared_type(item)), item.name)
+        if name != item.name:
+            self.text(f"Its calls are those of `{name}`.")
+            return
         implementations = list(impls_of(home, item)) if item.kind != "trait" else []
         self.calls(home, [(holder, each) for holder, trait, each in implementations if not trait])
         self.traits(home, item, [each for _, trait, each in implementations if trait and trait not in own_traits()])

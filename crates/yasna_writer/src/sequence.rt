@@ -25,7 +25,7 @@ use yasna_base::tags::TAG_SEQUENCE;
 pub type DERWriterSeq = Writer;
 
 impl Writer {
-    /// The writer of the next part.
+    /// The writer of the next part, which is this one with no implicit tag.
     #[inline(always)]
     pub fn next(&mut self) -> DERWriter<'_>
         ensures same_reference { result.ghost_name ≡ self.entry.ghost_name }
