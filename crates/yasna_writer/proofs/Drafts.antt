@@ -1,8 +1,10 @@
 -- Headers and contents joined, and elements that begin and end among them.
 use Rattle.std.proofs.Common.{◌≡◌, ℕ, ◌+◌, ◌-◌, ◌^◌, ◌<◌, ◌≤◌, List, [], ◌∷◌, ◌++◌, length, take, drop, refl, sym, subst, ap, ap₂, ◌∙◌, arith, append_assoc, length-append, length-take, length-drop}
-use Rattle.std.proofs.lemmas.List.{take-append-le, drop-append-le, take-take, drop-take, take-append-drop, set_at}
+use Rattle.std.proofs.lemmas.List.{take-append-le, drop-append-le, take-take, drop-take, take-append-drop, set_at, length-set}
 use Rattle.std.proofs.Math.Seq.{take-append_seam, drop-append_seam}
 use Rattle.std.specs.Prelude.{slice_range, set}
+use Rattle.smallvec.specs.SmallVec.{SmallVec, with_items}
+use Rattle.smallvec.proofs.SmallVecLemmas.{items-with_items}
 use Rattle.yasna_base.specs.declared.tag.Tag.{Tag}
 use Rattle.yasna_base.specs.declared.tag.PCBit.TheVariants.{Constructed}
 use Rattle.yasna_base.specs.Identifier.{identifier}
@@ -261,6 +263,10 @@ entry_ended front back w k place headers more waits c a d z m few =
           ∙ ap₂ (λ x z. x ++ (header_of_mark k ++ z)) (sym (ap₂ take (sym begins) old ∙ take-append_seam head rest))
           (sym (ap₂ drop (sym begins) old ∙ drop-append_seam head rest));
     }
+
+-- an entry that was set among those that stand in a vector
+pub entry_set : (v : SmallVec Entry) (es : List Entry) (i : ℕ) (x : Entry) → es ≡ v.items → (with_items v (set es i x)).items ≡ set v.items i x
+entry_set v es i x e = ap (λ (zs : List Entry). (with_items v (set zs i x)).items) e ∙ items-with_items v (set v.items i x) (length-set v.items i x)
 
 -- some element waits where one is the innermost
 pub waits_some : (es : List Entry) (b : Beginning) (place n headers waits : ℕ) → AreEntries es n headers waits → IsInnermost es waits b place → 1 ≤ waits

@@ -20,7 +20,9 @@ use crate::bmp::push_bmp;
 use crate::header::{Header, header_length, push_header, push_indefinite_header};
 use crate::identifier::{identifier_length, push_bytes};
 use crate::oid::push_subidentifiers;
+use smallvec::SmallVec;
 use std::alloc::{AllocError, Global};
+use std::default::MadeWith;
 use std::marker::Model;
 use std::mem;
 use yasna_base::{ASN1Error, ASN1ErrorKind, ASN1Result, BERMode, PCBit, Tag};
@@ -50,6 +52,14 @@ pub(crate) struct Entry {
     mark: Mark,
 }
 
+// What stands where there is room for an entry.
+impl MadeWith<Global> for Entry {
+    fn made_with(_alloc: Global) -> Entry {
+        let mark = Mark::Waits(Waiting { start: 0, depth: 0 });
+        Entry { place: 0, mark }
+    }
+}
+
 // Where an element with parts begins, as the call that writes it remembers it.
 #[derive(Clone, Copy)]
 pub(crate) struct Beginning {
@@ -70,7 +80,7 @@ pub(crate) struct Draft {
     // How many bytes the headers take.
     headers: usize,
     // Where headers belong, by their places.
-    entries: Vec<Entry>,
+    entries: SmallVec<Entry, 4, Global>,
     // How many elements aren't ended.
     waits: usize,
 }
@@ -164,7 +174,7 @@ impl Draft {
     {
         Draft {
             contents: Vec::new(alloc),
-            entries: Vec::new(alloc),
+            entries: SmallVec::new(alloc),
             headers: 0,
             waits: 0,
         }
@@ -228,7 +238,7 @@ impl Draft {
         push_bmp(&mut self.contents, string)
     }
 
-    // Marks where an element with parts begins. Where there is no memory for the mark, its end does without.
+    // Marks where an element with parts begins. Where there is no memory for the mark, or no number for its depth, its end does without.
     #[inline(always)]
     pub(crate) fn mark_beginning(&mut self, tag: Tag, mode: BERMode) -> Beginning
         ensures same { self.new ≡ self.old }
@@ -244,12 +254,14 @@ impl Draft {
             tag,
             mode,
         };
-        let depth = self.waits + 1;
+        let Some(depth) = self.waits.checked_add(1) else {
+            return beginning;
+        };
         let entry = Entry {
             place,
             mark: Mark::Waits(Waiting { start, depth }),
         };
-        if self.entries.push(entry).is_ok() {
+        if let Ok(()) = self.entries.push(entry) {
             self.waits = depth;
         }
         beginning
@@ -345,7 +357,7 @@ impl Draft {
         ensures { IfOk result (λ draft. draft ≡ with_entry (record { place = place; mark = mark }) self.old) }
     {
         let contents = self.take_joined(alloc)?;
-        let mut entries = Vec::new(alloc);
+        let mut entries = SmallVec::new(alloc);
         entries.push(Entry { place, mark })?;
         Ok(Draft {
             contents,

@@ -6,5 +6,5 @@ use Rattle.yasna_writer.proofs.draft.Draft.joined_with.Goals as goal
 pub returns : goal.returns
 returns c =
     let x : Entry = record { place = c.args.place; mark = c.args.mark } in
-    let whole = (c.in_ok-push.ensures {u = tt}).items ∙ ap (λ (es : List Entry). es ++ (x ∷ [])) c.new-entries.ensures.items in
+    let whole = (c.in_ok-push.ensures {u = tt}).ok ∙ ap (λ (es : List Entry). es ++ (x ∷ [])) c.new-entries.ensures.items in
     ap₂ joined whole (c.in_ok-contents.ensures {u = tt})
