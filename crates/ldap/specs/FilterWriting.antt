@@ -1,5 +1,5 @@
 -- What a filter means keeps the laws of writing.
-use Rattle.std.proofs.Common.{◌<◌, ◌^◌, None, Box, arith}
+use Rattle.std.proofs.Common.{None, Box, arith}
 use Rattle.std.specs.Global.{Global}
 use Rattle.yasna_base.specs.Canonical.{IsWritten}
 use Rattle.yasna_notation.specs.Canonical.{standing_written, choice_written_as}

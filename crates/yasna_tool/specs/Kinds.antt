@@ -3,7 +3,6 @@ use Rattle.std.specs.Prelude.{◌≡◌, ℕ, List, Bool, ℤ}
 use Rattle.std.specs.Int.{w64}
 use Rattle.yasna.specs.base.declared.mode.BERMode.{BERMode}
 use Rattle.yasna.specs.base.declared.mode.BERMode.TheVariants.{Der}
-use Rattle.yasna.specs.base.Identifier.{universal}
 use Rattle.yasna.specs.base.Element.{Enclosed}
 use Rattle.yasna.specs.base.Canonical.{enclosed_form}
 use Rattle.yasna.specs.base.Boolean.{EncodesBoolean, boolean_form}

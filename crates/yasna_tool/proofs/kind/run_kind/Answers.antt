@@ -2,7 +2,6 @@ use Rattle.std.proofs.Common.{Vec, List, ℕ, ℤ}
 use Rattle.std.specs.Global.{Global}
 use Rattle.std.specs.Int.{w64}
 use Rattle.std.specs.Io.KnownBytes.{Appends}
-use Rattle.yasna.specs.base.Identifier.{universal}
 use Rattle.yasna.specs.time.GeneralizedTime.{EncodesGeneralizedTime, generalized_time_form}
 use Rattle.yasna.specs.time.Models.{utc_of, moment_of}
 use Rattle.yasna.specs.time.UtcTime.{EncodesUtcTime, utc_time_form}
