@@ -1,11 +1,13 @@
 -- Strings whose octets say a value, and texts.
-use Rattle.std.proofs.Common.{◌≡◌, ◌⊎◌, inl, inr, ℕ, zero, suc, ◌<◌, List, [], ◌∷◌, length, true, refl, sym, ap, subst, ◌∙◌, length-append, arith, String, string_bytes}
-use Rattle.std.proofs.lemmas.Str.{chars_from_encodes, IsUtf8-string_bytes}
+use Rattle.std.proofs.Common.{◌⊎◌, inl, inr, ℕ, zero, suc, ◌<◌, ◌≤◌, List, [], ◌∷◌, length, true, refl, sym, ap, subst, ◌∙◌, length-append, arith, map, get_or, take, drop, take_all, ◌+◌, ◌-◌, ◌*◌, ◌≡◌, unwrap_or, String, string_bytes}
+use Rattle.std.proofs.lemmas.Bool.{lt-leb, le-leb, lt-ltb, le-ltb}
+use Rattle.std.proofs.lemmas.Str.{chars_from_encodes, IsUtf8-string_bytes, utf16_chars_lone, utf16_chars_pair}
 use Rattle.std.specs.Global.{Global}
 use Rattle.std.specs.List.{concat, AllByRecursion}
-use Rattle.std.specs.Char.Utf16.{utf16_lossy_chars}
+use Rattle.std.specs.Char.Utf16.{utf16_lossy_chars, lone_unit_char, surrogate_pair_char}
 use Rattle.std.specs.Str.{chars, encode_utf8_all, IsUtf8}
-use Rattle.std.specs.Prelude.{Result, Ok, Err, MatchResult}
+use Rattle.std.specs.Prelude.{Option, Some, None, IsSome, Result, Ok, Err, MatchResult}
+use Rattle.std.specs.Option.{SomeIff}
 use Rattle.yasna_base.specs.declared.error.ASN1ErrorKind.{ASN1ErrorKind}
 use Rattle.yasna_base.specs.declared.error.ASN1ErrorKind.TheVariants.{OutOfMemory, Invalid}
 use Rattle.yasna_base.specs.declared.mode.BERMode.{BERMode}
@@ -128,6 +130,41 @@ utf8_judged k m o (Err f) h i (inr x) = inr (x.0, λ v y. x.1 (class_in_utf8 k m
 -- the characters of a string that is made of some
 pub made_of : (s : String Global) (text : List ℕ) → string_bytes s ≡ encode_utf8_all text → text ≡ characters s
 made_of s text e = chars_from_encodes text (string_bytes s) (IsUtf8-string_bytes s) (sym e)
+
+-- the units are a pair of surrogates
+abbrev ArePair : ℕ → ℕ → Type 0
+ArePair u v = (0xD800 ≤ u) × (u < 0xDC00) × (0xDC00 ≤ v) × (v < 0xE000)
+
+-- a unit that has no partner, and is no surrogate, is its own character; a surrogate stands for U+FFFD
+spelled_alone : (u : ℕ) (us : List ℕ) → (ArePair u (get_or us 0 0) → ⊥) → utf16_lossy_chars (u ∷ us) ≡ unwrap_or (lone_unit_char u) 0xFFFD ∷ utf16_lossy_chars us
+spelled_alone u us apart = ap (λ cs. map (λ o. unwrap_or o 0xFFFD) cs) (utf16_chars_lone u us apart)
+
+pub spelled_itself : (u : ℕ) (us : List ℕ) → (u < 0xD800) ⊎ (0xE000 ≤ u) → utf16_lossy_chars (u ∷ us) ≡ u ∷ utf16_lossy_chars us
+spelled_itself u us (inl below) = spelled_alone u us (λ p. omega (arith, below, p.0)) ∙ rw (lt-leb 0xD800 u below)
+spelled_itself u us (inr from) = spelled_alone u us (λ p. omega (arith, from, p.1)) ∙ rw (le-leb 0xD800 u (omega (arith, from)), le-ltb u 0xE000 from)
+
+pub spelled_unpaired : (u : ℕ) (us : List ℕ) → 0xD800 ≤ u → u < 0xE000 → (ArePair u (get_or us 0 0) → ⊥) →
+    utf16_lossy_chars (u ∷ us) ≡ 0xFFFD ∷ utf16_lossy_chars us
+spelled_unpaired u us from below apart = spelled_alone u us apart ∙ rw (le-leb 0xD800 u from, lt-ltb u 0xE000 below)
+
+pub spelled_pair : (u v : ℕ) (us : List ℕ) → ArePair u v → utf16_lossy_chars (u ∷ v ∷ us) ≡ surrogate_pair_char u v ∷ utf16_lossy_chars us
+spelled_pair u v us pair = ap (λ cs. map (λ o. unwrap_or o 0xFFFD) cs) (utf16_chars_pair u v us pair)
+
+-- the first of units, and those behind it
+pub units_first : (o : List ℕ) → 2 ≤ length o → units o ≡ (256 * get_or o 0 0 + get_or o 1 0) ∷ units (take (length o - 2) (drop 2 o))
+units_first [] l = absurd (omega (arith, l))
+units_first (x ∷ []) l = absurd (omega (arith, l))
+units_first (x ∷ y ∷ o) l = ap (λ z. (256 * x + y) ∷ units z) (sym (take_all (length (x ∷ y ∷ o) - 2) o (omega arith)))
+
+pub units_none : (o : List ℕ) → length o < 2 → units o ≡ []
+units_none [] l = refl
+units_none (x ∷ []) l = refl
+units_none (x ∷ y ∷ o) l = absurd (omega (arith, l))
+
+-- a value that is there
+pub value_or : (r : Option ℕ) (P : Type 0) (v d : ℕ) → SomeIff r P v → IsSome r → unwrap_or r d ≡ v
+value_or None P v d s i = cc
+value_or (Some x) P v d s i = s.1
 
 -- what units of UTF-16 spell
 pub bmp_judged : (k : Class) (m : BERMode) (o : List ℕ) (r : Result (String Global) ASN1ErrorKind) → k ≡ Bmp → MayHold k o →

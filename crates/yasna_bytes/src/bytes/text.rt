@@ -1,8 +1,9 @@
 //! Strings whose octets say a value: character strings (X.680, 41; X.690, 8.23).
 //!
 //! The octets of one primitive element are judged where they stand. Those of segments are joined first.
-ghost use Rattle.std.specs.Prelude.{◌≡◌, ℕ, List, [], IsTrue, ◌↔◌, IfOk, MatchResult};
+ghost use Rattle.std.specs.Prelude.{◌≡◌, ◌≤◌, ◌<◌, ◌+◌, ◌*◌, ℕ, List, [], ◌∷◌, length, IsTrue, ◌↔◌, IfOk, MatchResult, string_bytes};
 ghost use Rattle.std.specs.Char.Utf16.{utf16_lossy_chars};
+ghost use Rattle.std.specs.Str.{encode_utf8_all};
 ghost use Rattle.yasna_base.specs.Text.{characters, units};
 ghost use Rattle.yasna_base.specs.declared.error.ASN1ErrorKind.TheVariants.{OutOfMemory};
 ghost use Rattle.yasna_base.specs.declared.mode.BERMode.{BERMode};
@@ -123,20 +124,60 @@ impl Class {
     }
 }
 
-// The units of UTF-16 that the octets are, the high octet of each first.
-fn units_of(alloc: Global, octets: &[u8]) -> Result<Vec<u16>, AllocError>
-    ensures { IfOk result (λ all. all.items ≡ units octets.now) }
+// A unit of UTF-16, its high octet first.
+#[inline(always)]
+fn unit_of(high: u8, low: u8) -> u16
+    ensures { result ≡ 256 * high + low }
 {
-    let mut all = Vec::with_capacity(alloc, octets.len() / 2)?;
-    let mut rest = octets;
-    while let [high, low, after @ ..] = rest {
-        all.push(u16::from(*high) * 256 + u16::from(*low))?;
-        rest = after;
+    u16::from(high) * 256 + u16::from(low)
+}
+
+// The character at the front of UTF-16, this unit and the octets behind it, and the octets behind the character.
+#[inline(always)]
+fn character_of(unit: u16, behind: &[u8]) -> (char, &[u8])
+    ensures spelled { utf16_lossy_chars (unit ∷ units behind.now) ≡ result.0 ∷ utf16_lossy_chars (units result.1.now) }
+    ensures shorter { length result.1.now ≤ length behind.now }
+{
+    match char::from_u32(u32::from(unit)) {
+        Some(character) => (character, behind),
+        None => character_of_surrogate(unit, behind),
     }
-    Ok(all)
+}
+
+// The same of a surrogate: with its partner it is a character, and without one it is U+FFFD.
+#[inline(never)]
+fn character_of_surrogate(unit: u16, behind: &[u8]) -> (char, &[u8])
+    requires { (0xD800 ≤ unit) × (unit < 0xE000) }
+    ensures spelled { utf16_lossy_chars (unit ∷ units behind.now) ≡ result.0 ∷ utf16_lossy_chars (units result.1.now) }
+    ensures shorter { length result.1.now ≤ length behind.now }
+{
+    if let [high, low, rest @ ..] = behind {
+        let partner = unit_of(*high, *low);
+        if unit < 0xDC00 && 0xDC00 <= partner && partner < 0xE000 {
+            let code = 0x1_0000
+                + (u32::from(unit) - 0xD800) * 0x400
+                + (u32::from(partner) - 0xDC00);
+            return (char::from_u32(code).unwrap_or('\u{FFFD}'), rest);
+        }
+    }
+    ('\u{FFFD}', behind)
 }
 
 // The text in UTF-16, with U+FFFD for each surrogate that has no partner.
+fn text_of_units(alloc: Global, octets: &[u8]) -> Result<String, AllocError>
+    ensures { IfOk result (λ text. string_bytes text ≡ encode_utf8_all (utf16_lossy_chars (units octets.now))) }
+{
+    let mut text = String::with_capacity(alloc, octets.len() / 2)?;
+    let mut rest = octets;
+    while let [high, low, behind @ ..] = rest {
+        let (character, after) = character_of(unit_of(*high, *low), behind);
+        text.push(character)?;
+        rest = after;
+    }
+    Ok(text)
+}
+
+// The same for a refusal of strings.
 #[inline(never)]
 fn utf16_text(alloc: Global, octets: &[u8]) -> Result<String, ASN1ErrorKind>
     ensures { MatchResult result (λ text. characters text ≡ utf16_lossy_chars (units octets.now)) (λ kind. (kind ≡ OutOfMemory) × (octets.now ≡ [] → ⊥)) }
@@ -144,10 +185,7 @@ fn utf16_text(alloc: Global, octets: &[u8]) -> Result<String, ASN1ErrorKind>
     if octets.is_empty() {
         return Ok(String::new(alloc));
     }
-    let Ok(all) = units_of(alloc, octets) else {
-        return Err(ASN1ErrorKind::OutOfMemory);
-    };
-    match String::from_utf16_lossy(alloc, all.as_slice()) {
+    match text_of_units(alloc, octets) {
         Ok(text) => Ok(text),
         Err(_) => Err(ASN1ErrorKind::OutOfMemory),
     }
