@@ -141,16 +141,6 @@ pub waits_of_append : (hs is : List Entry) → waits_of (hs ++ is) ≡ waits_of 
 waits_of_append [] is = omega arith
 waits_of_append (h ∷ hs) is = omega (arith, waits_of_append hs is)
 
--- there are no more elements that wait than entries
-pub waits_few : (hs : List Entry) → waits_of hs ≤ length hs
-waits_few [] = omega arith
-waits_few (h ∷ hs) = omega (arith, waits_few hs, waits_one h.mark)
-  where
-    waits_one : (m : Mark) → mark_waits m ≤ 1
-    waits_one (Waits w) = omega arith
-    waits_one (Definite h) = omega arith
-    waits_one (Indefinite t) = omega arith
-
 know_append : (a b c d : ℕ) (hs is : List Entry) → KnowPlaces a b hs → KnowPlaces c d is → c ≡ a + headers_length hs → d ≡ b + waits_of hs →
     KnowPlaces a b (hs ++ is)
 know_append a b c d [] is k l e f =

@@ -121,12 +121,23 @@ fn push_joined(out: &mut Vec<u8>, contents: &[u8], entries: &[Entry]) -> Result<
     let mut from = 0;
     let mut rest = entries;
     while let Some((entry, tail)) = rest.split_first() {
-        push_bytes(out, &contents[from..entry.place])?;
+        push_piece(out, &contents[from..entry.place])?;
         push_header_of_mark(out, entry.mark)?;
         from = entry.place;
         rest = tail;
     }
     push_bytes(out, &contents[from..])
+}
+
+// Appends a piece of the contents. Where headers stand side by side it is empty.
+#[inline(always)]
+fn push_piece(out: &mut Vec<u8>, piece: &[u8]) -> Result<(), AllocError>
+    ensures { OnOk result (out.new.items ≡ out.old.items ++ piece.now) }
+{
+    if piece.is_empty() {
+        return Ok(());
+    }
+    push_bytes(out, piece)
 }
 
 // Appends a header that is known.
@@ -372,26 +383,43 @@ impl Draft {
     pub(crate) fn take_joined(&mut self, alloc: Global) -> Result<Vec<u8>, AllocError>
         ensures { IfOk result (λ v. v.items ≡ self.old) }
     {
-        if self.entries.is_empty() {
-            return Ok(mem::replace(&mut self.contents, Vec::new(alloc)));
+        if !self.entries.is_empty() {
+            let length = self.len();
+            let joined = join(alloc, &mut self.contents, &self.entries, length);
+            self.entries.clear();
+            self.headers = 0;
+            self.waits = 0;
+            joined?;
         }
-        join(alloc, &self.contents, &self.entries, self.len())
+        Ok(mem::replace(&mut self.contents, Vec::new(alloc)))
     }
 }
 
-// The contents with each header at its place, `length` bytes in all.
+// Contents of so few bytes are joined by way of the stack, so that their own memory is enough where headers fit in it.
+const FEW: usize = 128;
+
+// Puts each header at its place in the contents, `length` bytes in all.
 fn join(
     alloc: Global,
-    contents: &[u8],
+    contents: &mut Vec<u8>,
     entries: &[Entry],
     length: usize,
-) -> Result<Vec<u8>, AllocError>
-    requires { AreInOrder 0 entries.now (count contents.now) }
-    ensures { IfOk result (λ v. v.items ≡ joined entries.now contents.now) }
+) -> Result<(), AllocError>
+    requires { AreInOrder 0 entries.now (count contents.old.items) }
+    ensures { OnOk result (contents.new.items ≡ joined entries.now contents.old.items) }
 {
+    if contents.len() <= FEW {
+        let few = contents.len();
+        let mut copy = [0; FEW];
+        copy[..few].copy_from_slice(contents);
+        contents.clear();
+        contents.reserve(length)?;
+        return push_joined(contents, &copy[..few], entries);
+    }
     let mut out = Vec::with_capacity(alloc, length)?;
     push_joined(&mut out, contents, entries)?;
-    Ok(out)
+    *contents = out;
+    Ok(())
 }
 
 // Appends the header of an element whose contents follow.

@@ -30,4 +30,5 @@ returns c =
     c.self.invariant i c.mark_of-mark.ensures.ended (ap (λ n. d.headers + n) c.mark_length.ensures.octets) (omega (arith, c.if-headers.false)) in
     let y : Entry = record { place = c.in-Some.place; mark = c.mark_of-mark.result } in
     let written = entry_set d.entries c.deref_mut.result.now b.entry y c.deref_mut.ensures.value in
-    ap (λ (es : List Entry). joined es d.contents.items) written ∙ taken.joins ∙ ap₂ (λ m v. with_entry (record { place = b.start; mark = m }) v) c.mark_of-mark.ensures.mark c.self.view_is
+    ap (λ (es : List Entry). joined es d.contents.items) written ∙ taken.joins
+    ∙ ap₂ (λ m v. with_entry (record { place = b.start; mark = m }) v) c.mark_of-mark.ensures.mark c.self.view_is
