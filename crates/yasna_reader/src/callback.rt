@@ -133,7 +133,7 @@ impl<'a> ReaderState<'a> {
     fn go_on_failed(&mut self, before: Cursor<'a>)
         ensures { self.new ≡ record (moved_as (at_cursor before.entry) self.old) { kept = self.old.kept } }
     {
-        let place = self.place();
+        let place = self.place_of_failure();
         self.go_on(before);
         self.stand_at(place, self.deeper);
     }

@@ -17,7 +17,13 @@ impl<'a> ReaderState<'a> {
     // The place in front of so many of the bytes up to where the contents end.
     #[inline(always)]
     pub(crate) fn place_before(&self, left: usize) -> usize {
-        place_up_to(self.cursor.end, left)
+        self.cursor.end.saturating_sub(left)
+    }
+
+    // The place where something failed.
+    #[inline(always)]
+    pub(crate) fn place_of_failure(&self) -> usize {
+        place_up_to(self.cursor.end, self.cursor.left.len())
     }
 
     // Stands at the place at which a failure was found, with so many elements more around it than around this reading.
@@ -34,7 +40,10 @@ impl<'a> ReaderState<'a> {
     pub(crate) fn stand_within(&mut self, contents: &ReaderState<'a>)
         ensures { self.new ≡ self.old }
     {
-        self.stand_at(contents.place(), contents.deeper.saturating_add(1));
+        self.stand_at(
+            contents.place_of_failure(),
+            contents.deeper.saturating_add(1),
+        );
     }
 }
 

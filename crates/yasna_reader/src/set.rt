@@ -330,7 +330,7 @@ impl<'a> ReaderState<'a> {
         self.cursor.left = rest;
         self.kept = reader.kept;
         if failed || self.kept.is_some() {
-            self.stand_at(reader.place(), reader.deeper);
+            self.stand_at(reader.place_of_failure(), reader.deeper);
         } else if let Some(first) = others.front() {
             self.stand_at(first.end.saturating_sub(first.bytes.len()), 0);
         }
