@@ -47,9 +47,9 @@ module _ {A : Type 0} (P Q : Does A) (says : (s : Reading) (r : Result A ASN1Err
 
 -- an element that was stepped into, whose contents were read as P says, and which was left
 pub stepped_in : {A : Type 0} (P : Does A) (tag : Tag) (s : Reading) (o : Opening) (z m : Reading) (own : Result A ASN1Error) (left : Reading)
-    (r : Result A ASN1Error) (s' : Reading) → StepsIn (tag_of s tag) s o z × (m ≡ s) → P z own left →
+    (r : Result A ASN1Error) (s' : Reading) → StepsIn (tag_of s tag) s o × (m ≡ s) → z ≡ inside m o.within → P z own left →
     Left o.end o.within left.kept left.left own (untagged m) r s' → ReadsParts P tag s r s'
-stepped_in P tag s o z m own left r s' h p l = record {
+stepped_in P tag s o z m own left r s' h e p l = record {
   enters = subst (λ k. EntersUnlessKept k P (tag_of s tag) s r s') (sym h.0.unkept) (inl (record {
     level = h.0.level;
     contents = o.within;
@@ -57,7 +57,7 @@ stepped_in P tag s o z m own left r s' h p l = record {
     opens = h.0.opens;
     own = own;
     left = left;
-    says = subst (λ w. P w own left) h.0.contents p;
+    says = subst (λ w. P w own left) (e ∙ ap (λ k. inside k o.within) h.1) p;
     closed = subst (λ w. Left o.end o.within left.kept left.left own (untagged w) r s') h.1 l;
   }));
 }
@@ -77,9 +77,9 @@ stayed_out P tag s e s' (refused k h) = record {
 
 -- what holds of the contents of such an element holds of what was stepped into
 pub takes_inside : (P : Reading → Type 0) (tag : Tag) (s : Reading) (o : Opening) (z m : Reading) → TakesContents P tag s →
-    StepsIn (tag_of s tag) s o z × (m ≡ s) → P z
-takes_inside P tag s o z m takes h =
-    subst P (sym h.0.contents) (takes o.within o.end h.0.unkept h.0.level h.0.opens)
+    StepsIn (tag_of s tag) s o × (m ≡ s) → z ≡ inside m o.within → P z
+takes_inside P tag s o z m takes h e =
+    subst P (sym (e ∙ ap (λ k. inside k o.within) h.1)) (takes o.within o.end h.0.unkept h.0.level h.0.opens)
 
 pub around : {A : Type 0} (C : Grammar A) (t : Tag) (m : BERMode) (n : ℕ) (v : A) (b : List ℕ) → 1 ≤ n → Around m t (C m (n - 1)) v b →
     Enclosed C t m n v b

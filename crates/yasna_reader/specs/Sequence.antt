@@ -87,11 +87,10 @@ pub record NotEntered {A : Type 0} (t : Tag) (s : Reading) (r : Result A ASN1Err
   pub state : s' ≡ refusing refusal.moved s (error_of refusal.kind)
 
 -- no failure was kept, the header of a constructed element with the tag stands there, and z is the reading of its contents
-pub record StepsIn (t : Tag) (s : Reading) (o : Opening) (z : Reading) : Type 0 where
+pub record StepsIn (t : Tag) (s : Reading) (o : Opening) : Type 0 where
   pub unkept : s.kept ≡ None
   pub level : 1 ≤ s.levels
   pub opens : OpensAt s.mode t Constructed s.left o.within o.end
-  pub contents : z ≡ inside s o.within
 
 -- why there is no stepping in: a failure was kept, and nothing moves; or no such header stands there
 pub data StaysOut (t : Tag) (s : Reading) (e : ASN1Error) (s' : Reading) : Type 0 where
@@ -99,8 +98,8 @@ pub data StaysOut (t : Tag) (s : Reading) (e : ASN1Error) (s' : Reading) : Type 
   refused : s.kept ≡ None → NotEntered {A = Unit {0}} t s (Err e) s' → StaysOut t s e s'
 
 -- what stepping into such an element answers, by its case
-abbrev pub StepsAt : Tag → Reading → Result (Opening × Reading) ASN1Error → Reading → Type 0
-StepsAt t s (Ok x) s' = StepsIn t s x.0 x.1 × (s' ≡ s)
+abbrev pub StepsAt : Tag → Reading → Result Opening ASN1Error → Reading → Type 0
+StepsAt t s (Ok o) s' = StepsIn t s o × (s' ≡ s)
 StepsAt t s (Err e) s' = StaysOut t s e s'
 
 -- a kept failure comes first

@@ -50,26 +50,25 @@ impl<'a> ReaderState<'a> {
         requires { TakesParts F.FnOnce f tag self.old }
         ensures { ReadsParts (Runs F.FnOnce f) tag self.old result self.new }
     {
-        let (opened, reader) = self.step_in(tag)?;
-        let mut parts = Parts { reader };
+        let opened = self.step_in(tag)?;
+        let mut parts = Parts {
+            reader: self.within(&opened),
+        };
         let answer = f(&mut parts);
         self.leave(&opened, answer, &parts.reader)
     }
 
-    // The header of a constructed element of this tag, or of the implicit one, and the reading of its contents. A failure that
-    // was kept comes first.
+    // The header of a constructed element of this tag, or of the implicit one, whose contents are to be read. A failure that was
+    // kept comes first.
     #[inline(always)]
-    pub(crate) fn step_in(&mut self, tag: Tag) -> ASN1Result<(Opened<'a>, ReaderState<'a>)>
+    pub(crate) fn step_in(&mut self, tag: Tag) -> ASN1Result<Opened<'a>>
         ensures { StepsAt (tag_of self.old tag) self.old result self.new }
     {
         if let Some(error) = self.kept {
             return Err(error);
         }
         match self.enter(tag) {
-            Ok(opened) => {
-                let contents = self.within(&opened);
-                Ok((opened, contents))
-            }
+            Ok(opened) => Ok(opened),
             Err(refusal) => self.settle(Err(refusal)),
         }
     }

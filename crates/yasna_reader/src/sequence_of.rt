@@ -56,7 +56,8 @@ impl<'a> ReaderState<'a> {
         requires { TakesContents (TakesTurns F.FnMut) tag self.old }
         ensures { ReadsParts (VisitsInOrder order (CalledAtMut F.FnMut) f) tag self.old result self.new }
     {
-        let (opened, mut contents) = self.step_in(tag)?;
+        let opened = self.step_in(tag)?;
+        let mut contents = self.within(&opened);
         let answer = contents.visit(order, f);
         self.leave(&opened, answer, &contents)
     }
@@ -75,7 +76,8 @@ impl<'a> ReaderState<'a> {
         requires { TakesContents (TakesTurns F.FnMut) tag self.old }
         ensures { ReadsParts (CollectsInOrder order (CalledAtMut F.FnMut) f) tag self.old result self.new }
     {
-        let (opened, mut contents) = self.step_in(tag)?;
+        let opened = self.step_in(tag)?;
+        let mut contents = self.within(&opened);
         let answer = contents.collect(order, f);
         self.leave(&opened, answer, &contents)
     }

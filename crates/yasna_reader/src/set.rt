@@ -257,7 +257,8 @@ impl<'a> ReaderState<'a> {
         requires { TakesContents (TakesElements F.FnOnce f) set_tag self.old }
         ensures { ReadsParts (RunsOnSet F.FnOnce f) set_tag self.old result self.new }
     {
-        let (opened, mut contents) = self.step_in(TAG_SET)?;
+        let opened = self.step_in(TAG_SET)?;
+        let mut contents = self.within(&opened);
         let answer = contents.run_on_set(f);
         self.leave(&opened, answer, &contents)
     }

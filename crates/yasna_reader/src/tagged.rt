@@ -23,7 +23,8 @@ impl<'a> ReaderState<'a> {
         requires { TakesContents (FnOnceTakesAtMut F.FnOnce f) tag self.old }
         ensures { ReadsParts (FnOnceReturnsAtMut F.FnOnce f) tag self.old result self.new }
     {
-        let (opened, mut contents) = self.step_in(tag)?;
+        let opened = self.step_in(tag)?;
+        let mut contents = self.within(&opened);
         let answer = f(&mut contents);
         self.leave(&opened, answer, &contents)
     }

@@ -7,10 +7,11 @@ use Rattle.yasna_reader.proofs.state.ReaderState.read_set.Goals as goal
 
 pub run_on_set-answer-requires : goal.run_on_set-answer-requires
 run_on_set-answer-requires g c κs =
-    let h = c.in_ok-opened.ensures {u = tt} in (
+    let h = c.in_ok-opened.ensures {u = tt} in
+    let e = c.within-contents.ensures in (
       (refl, tt),
       (
-        (ap (λ (z : Reading). z.kept) h.0.contents, ap (λ (z : Reading). z.tag) h.0.contents),
-        takes_inside (TakesElements g.F.FnOnce c.args.f) set_tag c.args.self.now c.in_ok-opened.opened c.in_ok-opened.contents c.step_in.new.self c.requires h,
+        (ap (λ (z : Reading). z.kept) e, ap (λ (z : Reading). z.tag) e),
+        takes_inside (TakesElements g.F.FnOnce c.args.f) set_tag c.args.self.now c.in_ok-opened.opened c.within-contents.result c.step_in.new.self c.requires h e,
       ),
     )
