@@ -66,7 +66,7 @@ impl<'a> Parts<ReaderState<'a>> {
         requires { (part_of self.old).kept ≡ None → FnOnceTakesAtMut F.FnOnce f (record { reader = untagged (part_of self.old) }) }
         ensures { ReadsBuffer (Runs F.FnOnce f) (untagged (part_of self.old)) result (part_of self.new) }
     {
-        self.reader.tag = None;
+        self.reader.untag();
         if let Some(error) = self.reader.kept {
             return Err(error);
         }

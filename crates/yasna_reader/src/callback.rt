@@ -114,7 +114,7 @@ impl<'a> ReaderState<'a> {
         ensures { self.new ≡ record (at_cursor before.entry) { kept = self.old.kept } }
     {
         self.cursor = before;
-        self.tag = None;
+        self.untag();
     }
 
     // Goes on where a callback left this reading that began there.

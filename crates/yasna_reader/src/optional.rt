@@ -89,7 +89,7 @@ impl<'a> Parts<ReaderState<'a>> {
         if let Some(error) = reader.kept {
             return Err(error);
         }
-        reader.tag = None;
+        reader.untag();
         match reader.hand(f) {
             Outcome::Gave(value) => Ok(Some(value)),
             Outcome::Quiet(_) => Ok(None),
@@ -111,7 +111,7 @@ impl<'a> Parts<ReaderState<'a>> {
         if let Some(error) = reader.kept {
             return Err(error);
         }
-        reader.tag = None;
+        reader.untag();
         let before = reader.cursor.left.len();
         let outcome = reader.hand(f);
         reader.or_default(before, outcome, default)

@@ -106,10 +106,7 @@ impl<'a> ReaderState<'a> {
     ) -> ASN1Result<T>
         ensures { Left opened.now.end opened.now.within left.now.kept left.now.left answer (untagged self.old) result self.new }
     {
-        // Mostly none waits: a branch is cheaper than the store.
-        if self.tag.is_some() {
-            self.tag = None;
-        }
+        self.untag();
         if let Some(error) = left.kept {
             return self.fail_within(error, left);
         }

@@ -337,12 +337,6 @@ impl<'a> ReaderState<'a> {
         }
     }
 
-    fn untag(&mut self)
-        ensures { self.new ≡ untagged self.old }
-    {
-        self.tag = None;
-    }
-
     // Goes on with an element of a SET.
     fn turn_to(&mut self, element: SetElement<'a>)
         ensures { self.new ≡ record self.old { left = element.entry.bytes.now; tag = None } }

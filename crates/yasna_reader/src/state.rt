@@ -34,7 +34,7 @@ impl<'a> Model for ReaderState<'a> {
 
 impl<'a> ReaderState<'a> {
     ghost use Rattle.std.specs.Prelude.{◌≡◌};
-    ghost use Rattle.yasna_reader.specs.State.{starts, tag_of};
+    ghost use Rattle.yasna_reader.specs.State.{starts, tag_of, untagged};
     ghost use Rattle.yasna_reader.specs.Primitive.{Settles};
 
     /// By which rules this reading reads.
@@ -65,6 +65,16 @@ impl<'a> ReaderState<'a> {
         match self.tag {
             Some(implicit) => implicit,
             None => tag,
+        }
+    }
+
+    // Lets no implicit tag wait. Mostly none does: a branch is cheaper than the store.
+    #[inline(always)]
+    pub(crate) fn untag(&mut self)
+        ensures { self.new ≡ untagged self.old }
+    {
+        if self.tag.is_some() {
+            self.tag = None;
         }
     }
 
