@@ -122,15 +122,23 @@ fn five_implicit(parts: &mut BERReaderSeq, tag: u64) -> ASN1Result<u64> {
     Ok(mixed(checksum, implicit(parts, tag + 4)?))
 }
 
+// The callback is this loop's own.
 fn explicit_looped(parts: &mut BERReaderSeq) -> ASN1Result<u64> {
     (0..PARTS).try_fold(0, |checksum, tag| {
-        Ok(mixed(checksum, explicit(parts, tag)?))
+        let part = parts.read_optional(|part| {
+            part.read_tagged(Tag::context(tag), |number| number.read_i64())
+        })?;
+        Ok(mixed(checksum, part.unwrap_or(0)))
     })
 }
 
+// The callback is this loop's own.
 fn implicit_looped(parts: &mut BERReaderSeq) -> ASN1Result<u64> {
     (0..PARTS).try_fold(0, |checksum, tag| {
-        Ok(mixed(checksum, implicit(parts, tag)?))
+        let part = parts.read_optional(|part| {
+            part.read_tagged_implicit(Tag::context(tag), |number| number.read_i64())
+        })?;
+        Ok(mixed(checksum, part.unwrap_or(0)))
     })
 }
 
