@@ -3,24 +3,30 @@
 use crate::{answered, length, mixed};
 use std::alloc::Global;
 use x509::Certificate;
-use yasna::{ASN1Result, decode_der, encode_der, one_der_form};
-use yasna_notation::Noted;
+use yasna::{ASN1Result, decode_der, encode_der, one_der_form, parse_der};
+use yasna_notation::{Notation, Noted};
 
 type Certificates = Vec<Noted<Certificate>>;
 
 /// The checksum of how many bits the signatures have of the certificates of a SEQUENCE OF.
 #[unsafe(no_mangle)]
 pub extern "C" fn yasna_read_certificates(alloc: Global, bytes: &[u8]) -> u64 {
-    let read: ASN1Result<Certificates> = decode_der(alloc, bytes);
-    answered(read.map(bits_checksum))
+    answered(read(alloc, bytes).map(|certificates| bits_checksum(&certificates)))
+}
+
+// Those certificates.
+fn read(alloc: Global, bytes: &[u8]) -> ASN1Result<Vec<Certificate>> {
+    parse_der(alloc, bytes, |reader| {
+        reader.collect_sequence_of(|item| Certificate::read(item))
+    })
 }
 
 // The checksum of a list.
-fn bits_checksum(certificates: Certificates) -> u64 {
+fn bits_checksum(certificates: &[Certificate]) -> u64 {
     let mut checksum = 0;
     for certificate in certificates {
-        let (_, bits) = certificate.into_value().signature_value;
-        checksum = mixed(checksum, (bits as u64).cast_signed());
+        let (_, bits) = &certificate.signature_value;
+        checksum = mixed(checksum, (*bits as u64).cast_signed());
     }
     checksum
 }
