@@ -62,7 +62,7 @@ impl<'a> ReaderState<'a> {
         requires may { FnOnceTakesAtMut F.FnOnce f (record self.old { tag = tag }) }
         ensures { Lent (FnOnceReturnsAtMut F.FnOnce f) (record self.old { tag = tag }) self.old result self.new }
     {
-        let waiting = self.tag;
+        let waiting = self.waiting();
         self.tag = tag;
         match self.hand(f) {
             Outcome::Gave(value) => Outcome::Gave(value),
@@ -71,6 +71,26 @@ impl<'a> ReaderState<'a> {
                 Outcome::Quiet(error)
             }
             Outcome::Failed(error) => Outcome::Failed(error),
+        }
+    }
+
+    // The tag that waits, field by field: a copy of the whole would hold what stands between its fields too, and be read back
+    // from memory.
+    #[inline(always)]
+    fn waiting(&self) -> Option<Tag>
+        ensures { result ≡ self.now.tag }
+    {
+        match self.tag {
+            Some(
+                Tag {
+                    tag_class,
+                    tag_number,
+                },
+            ) => Some(Tag {
+                tag_class,
+                tag_number,
+            }),
+            None => None,
         }
     }
 
