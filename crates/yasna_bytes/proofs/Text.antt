@@ -136,7 +136,8 @@ abbrev ArePair : ℕ → ℕ → Type 0
 ArePair u v = (0xD800 ≤ u) × (u < 0xDC00) × (0xDC00 ≤ v) × (v < 0xE000)
 
 -- a unit that has no partner, and is no surrogate, is its own character; a surrogate stands for U+FFFD
-spelled_alone : (u : ℕ) (us : List ℕ) → (ArePair u (get_or us 0 0) → ⊥) → utf16_lossy_chars (u ∷ us) ≡ unwrap_or (lone_unit_char u) 0xFFFD ∷ utf16_lossy_chars us
+spelled_alone : (u : ℕ) (us : List ℕ) → (ArePair u (get_or us 0 0) → ⊥) →
+    utf16_lossy_chars (u ∷ us) ≡ unwrap_or (lone_unit_char u) 0xFFFD ∷ utf16_lossy_chars us
 spelled_alone u us apart = ap (λ cs. map (λ o. unwrap_or o 0xFFFD) cs) (utf16_chars_lone u us apart)
 
 pub spelled_itself : (u : ℕ) (us : List ℕ) → (u < 0xD800) ⊎ (0xE000 ≤ u) → utf16_lossy_chars (u ∷ us) ≡ u ∷ utf16_lossy_chars us

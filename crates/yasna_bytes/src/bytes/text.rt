@@ -177,7 +177,7 @@ fn text_of_units(alloc: Global, octets: &[u8]) -> Result<String, AllocError>
     Ok(text)
 }
 
-// The same for a refusal of strings.
+// The same, or that there is no memory for it. An empty text asks for none.
 #[inline(never)]
 fn utf16_text(alloc: Global, octets: &[u8]) -> Result<String, ASN1ErrorKind>
     ensures { MatchResult result (λ text. characters text ≡ utf16_lossy_chars (units octets.now)) (λ kind. (kind ≡ OutOfMemory) × (octets.now ≡ [] → ⊥)) }

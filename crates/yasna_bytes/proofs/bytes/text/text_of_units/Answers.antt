@@ -9,5 +9,6 @@ pub returns : goal.returns
 unfolding utf16_chars
 returns c =
     let none = units_none c.loop-rest.rest.now (omega (arith, c.in_default.len_below)) in
-    sym (append-nil (string_bytes c.loop-rest.text))
-    ∙ subst (λ us. string_bytes c.loop-rest.text ++ encode_utf8_all (utf16_lossy_chars us) ≡ encode_utf8_all (utf16_lossy_chars (units c.args.octets.now))) none c.loop-rest.invariant
+    let written = string_bytes c.loop-rest.text in
+    let whole = encode_utf8_all (utf16_lossy_chars (units c.args.octets.now)) in
+    sym (append-nil written) ∙ subst (λ us. written ++ encode_utf8_all (utf16_lossy_chars us) ≡ whole) none c.loop-rest.invariant

@@ -8,10 +8,11 @@ use Rattle.yasna_reader.proofs.state.ReaderState.read_set.Goals as goal
 pub run_on_set-answer-requires : goal.run_on_set-answer-requires
 run_on_set-answer-requires g c κs =
     let h = c.in_ok-opened.ensures {u = tt} in
-    let e = c.within-contents.ensures in (
+    let e = c.within-contents.ensures in
+    let inside = c.within-contents.result in (
       (refl, tt),
       (
         (ap (λ (z : Reading). z.kept) e, ap (λ (z : Reading). z.tag) e),
-        takes_inside (TakesElements g.F.FnOnce c.args.f) set_tag c.args.self.now c.in_ok-opened.opened c.within-contents.result c.step_in.new.self c.requires h e,
+        takes_inside (TakesElements g.F.FnOnce c.args.f) set_tag c.args.self.now c.in_ok-opened.opened inside c.step_in.new.self c.requires h e,
       ),
     )
