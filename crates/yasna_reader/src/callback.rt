@@ -32,6 +32,25 @@ fn is_plain(kind: ASN1ErrorKind) -> bool
     }
 }
 
+// The same tag, field by field: a copy of the whole holds what stands between its fields too, and is read back from memory.
+#[inline(always)]
+fn by_fields(tag: Option<Tag>) -> Option<Tag>
+    ensures { result ≡ tag }
+{
+    match tag {
+        Some(
+            Tag {
+                tag_class,
+                tag_number,
+            },
+        ) => Some(Tag {
+            tag_class,
+            tag_number,
+        }),
+        None => None,
+    }
+}
+
 impl<'a> ReaderState<'a> {
     ghost use Rattle.std.specs.Prelude.{None, length, ◌≡◌};
     ghost use Rattle.std.specs.Fn.{FnOnceTakesAtMut, FnOnceReturnsAtMut};
@@ -62,8 +81,8 @@ impl<'a> ReaderState<'a> {
         requires may { FnOnceTakesAtMut F.FnOnce f (record self.old { tag = tag }) }
         ensures { Lent (FnOnceReturnsAtMut F.FnOnce f) (record self.old { tag = tag }) self.old result self.new }
     {
-        let waiting = self.waiting();
-        self.tag = tag;
+        let waiting = by_fields(self.tag);
+        self.tag = by_fields(tag);
         match self.hand(f) {
             Outcome::Gave(value) => Outcome::Gave(value),
             Outcome::Quiet(error) => {
@@ -71,26 +90,6 @@ impl<'a> ReaderState<'a> {
                 Outcome::Quiet(error)
             }
             Outcome::Failed(error) => Outcome::Failed(error),
-        }
-    }
-
-    // The tag that waits, field by field: a copy of the whole would hold what stands between its fields too, and be read back
-    // from memory.
-    #[inline(always)]
-    fn waiting(&self) -> Option<Tag>
-        ensures { result ≡ self.now.tag }
-    {
-        match self.tag {
-            Some(
-                Tag {
-                    tag_class,
-                    tag_number,
-                },
-            ) => Some(Tag {
-                tag_class,
-                tag_number,
-            }),
-            None => None,
         }
     }
 

@@ -63,7 +63,15 @@ impl<'a> ReaderState<'a> {
         ensures { result ≡ tag_of self.now tag }
     {
         match self.tag {
-            Some(implicit) => implicit,
+            Some(
+                Tag {
+                    tag_class,
+                    tag_number,
+                },
+            ) => Tag {
+                tag_class,
+                tag_number,
+            },
             None => tag,
         }
     }
