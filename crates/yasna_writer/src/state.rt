@@ -107,18 +107,31 @@ impl Writer {
         ensures tag { result ≡ tag_or self.old.tag own }
         ensures taken { self.new ≡ record self.old { tag = None } }
     {
-        match self.tag.take() {
+        match self.tag {
             None => own,
-            Some(tag) => tag,
+            Some(
+                Tag {
+                    tag_class,
+                    tag_number,
+                },
+            ) => {
+                self.tag = None;
+                Tag {
+                    tag_class,
+                    tag_number,
+                }
+            }
         }
     }
 
-    // Drops the implicit tag.
+    // Drops the implicit tag. Mostly none waits: a branch is cheaper than the store.
     #[inline(always)]
     pub(crate) fn untag(&mut self)
         ensures { self.new ≡ record self.old { tag = None } }
     {
-        self.tag = None;
+        if self.tag.is_some() {
+            self.tag = None;
+        }
     }
 
     // Keeps want of memory.
@@ -164,7 +177,7 @@ impl Writer {
         }
     }
 
-    // Appends an element without parts, whose contents are two pieces, or keeps want of memory.
+    // Appends an element without parts, whose contents are two pieces, or keeps want of memory. Mostly the first is empty.
     #[tactic(auto, unfolding(yasna_base::specs::Canonical::canonical_element, yasna_base::specs::Canonical::definite_element))]
     pub(crate) fn append_primitive(&mut self, tag: Tag, front: &[u8], rest: &[u8]) -> ASN1Result<()>
         ensures { Appended (canonical_element self.old.mode tag Primitive (front.now ++ rest.now)) self.old self.new result }
@@ -173,7 +186,9 @@ impl Writer {
             return Err(self.lack_memory());
         };
         self.append_header(Header { tag, length }, PCBit::Primitive)?;
-        self.append(front)?;
+        if !front.is_empty() {
+            self.append(front)?;
+        }
         self.append(rest)
     }
 
@@ -281,7 +296,7 @@ impl Writer {
     {
         if self.kept.is_none() {
             self.mode = beginning.mode;
-            self.tag = None;
+            self.untag();
             if let Err(error) = self.draft.enclose(self.alloc, beginning) {
                 self.kept = Some(error);
             }
