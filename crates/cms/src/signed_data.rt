@@ -119,19 +119,14 @@ impl Notation for SignedData {
     }
 
     fn write(value: &SignedData, writer: DERWriter<'_>) -> ASN1Result<()> {
+        let ends = (
+            &value.certificates,
+            (&value.crls, (&value.signer_infos, ())),
+        );
         Sequence::<Parts>::write_fields(
             (
                 &value.version,
-                (
-                    &value.digest_algorithms,
-                    (
-                        &value.encap_content_info,
-                        (
-                            &value.certificates,
-                            (&value.crls, (&value.signer_infos, ())),
-                        ),
-                    ),
-                ),
+                (&value.digest_algorithms, (&value.encap_content_info, ends)),
             ),
             writer,
         )

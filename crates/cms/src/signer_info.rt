@@ -108,21 +108,16 @@ impl Notation for SignerInfo {
     }
 
     fn write(value: &SignerInfo, writer: DERWriter<'_>) -> ASN1Result<()> {
+        let ends = (
+            &value.signature_algorithm,
+            (&value.signature, (&value.unsigned_attrs, ())),
+        );
         Sequence::<Parts>::write_fields(
             (
                 &value.version,
                 (
                     &value.sid,
-                    (
-                        &value.digest_algorithm,
-                        (
-                            &value.signed_attrs,
-                            (
-                                &value.signature_algorithm,
-                                (&value.signature, (&value.unsigned_attrs, ())),
-                            ),
-                        ),
-                    ),
+                    (&value.digest_algorithm, (&value.signed_attrs, ends)),
                 ),
             ),
             writer,

@@ -123,21 +123,16 @@ impl Notation for TbsCertList {
     }
 
     fn write(value: &TbsCertList, writer: DERWriter<'_>) -> ASN1Result<()> {
+        let ends = (
+            &value.next_update,
+            (&value.revoked_certificates, (&value.crl_extensions, ())),
+        );
         Sequence::<Parts>::write_fields(
             (
                 &value.version,
                 (
                     &value.signature,
-                    (
-                        &value.issuer,
-                        (
-                            &value.this_update,
-                            (
-                                &value.next_update,
-                                (&value.revoked_certificates, (&value.crl_extensions, ())),
-                            ),
-                        ),
-                    ),
+                    (&value.issuer, (&value.this_update, ends)),
                 ),
             ),
             writer,

@@ -139,30 +139,20 @@ impl Notation for TbsCertificate {
     }
 
     fn write(value: &TbsCertificate, writer: DERWriter<'_>) -> ASN1Result<()> {
+        let ends = (
+            &value.issuer_unique_id,
+            (&value.subject_unique_id, (&value.extensions, ())),
+        );
+        let keys = (
+            &value.validity,
+            (&value.subject, (&value.subject_public_key_info, ends)),
+        );
         Sequence::<Parts>::write_fields(
             (
                 &value.version,
                 (
                     &value.serial_number,
-                    (
-                        &value.signature,
-                        (
-                            &value.issuer,
-                            (
-                                &value.validity,
-                                (
-                                    &value.subject,
-                                    (
-                                        &value.subject_public_key_info,
-                                        (
-                                            &value.issuer_unique_id,
-                                            (&value.subject_unique_id, (&value.extensions, ())),
-                                        ),
-                                    ),
-                                ),
-                            ),
-                        ),
-                    ),
+                    (&value.signature, (&value.issuer, keys)),
                 ),
             ),
             writer,

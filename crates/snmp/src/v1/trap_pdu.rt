@@ -103,19 +103,14 @@ impl Notation for TrapPdu {
     }
 
     fn write(value: &TrapPdu, writer: DERWriter<'_>) -> ASN1Result<()> {
+        let ends = (
+            &value.specific_trap,
+            (&value.time_stamp, (&value.variable_bindings, ())),
+        );
         Sequence::<Parts>::write_fields(
             (
                 &value.enterprise,
-                (
-                    &value.agent_addr,
-                    (
-                        &value.generic_trap,
-                        (
-                            &value.specific_trap,
-                            (&value.time_stamp, (&value.variable_bindings, ())),
-                        ),
-                    ),
-                ),
+                (&value.agent_addr, (&value.generic_trap, ends)),
             ),
             writer,
         )
