@@ -1,5 +1,5 @@
 -- What a callback that was handed a reading came to.
-use Rattle.std.proofs.Common.{◌≡◌, ℕ, ◌-◌, List, [], ◌++◌, length, take, drop, take-append-drop, Option, None, sym, ap, subst, ◌∙◌, arith}
+use Rattle.std.proofs.Common.{◌≡◌, inl, inr, ℕ, ◌-◌, List, [], ◌++◌, length, take, drop, take-append-drop, Option, Some, None, sym, ap, subst, ◌∙◌, arith}
 use Rattle.std.specs.Prelude.{Result}
 use Rattle.yasna_base.specs.declared.error.ASN1Error.{ASN1Error}
 use Rattle.yasna_base.specs.declared.mode.BERMode.{BERMode}
@@ -7,9 +7,15 @@ use Rattle.yasna_base.specs.declared.tag.Tag.{Tag}
 use Rattle.yasna_bytes.specs.declared.bytes.cursor.Cursor.{Cursor}
 use Rattle.yasna_reader.specs.declared.callback.Outcome.{Outcome}
 use Rattle.yasna_reader.specs.declared.callback.Outcome.TheVariants.{Gave, Quiet, Failed}
-use Rattle.yasna_reader.specs.Callback.{ComesTo, Hands, Lent, at_cursor}
+use Rattle.yasna_reader.specs.Callback.{ComesTo, Barred, Hands, Lent, at_cursor, kept, before}
 use Rattle.yasna_reader.specs.Sequence.{place_in}
 use Rattle.yasna_reader.specs.State.{Reading, Does}
+
+-- where there is no going on, that is what a callback came to
+pub barred_fails : {A : Type 0} (s : Reading) (x : Result A ASN1Error) (m : Reading) (e : ASN1Error) (s' : Reading) → Barred s m (Some e) s' →
+    ComesTo s x m (Failed e) s'
+barred_fails s x m e s' (inl k, f) = (kept k, f)
+barred_fails s x m e s' (inr h, f) = (before h.0 h.1 h.2, f)
 
 tagged_at : {A : Type 0} (c : Cursor) (t : Option Tag) (k : Option ASN1Error) (x : Result A ASN1Error) (m : Reading) (o : Outcome A) (s' : Reading) →
     ComesTo (at_cursor c) x m o s' → ComesTo (record (at_cursor c) { tag = t; kept = k }) x m o s'

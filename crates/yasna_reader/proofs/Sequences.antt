@@ -75,6 +75,24 @@ stayed_out P tag s e s' (refused k h) = record {
   }));
 }
 
+-- contents that end, or don't, do so whatever value was read of them
+pub closed_with : {A : Type 0} (end : ContentsEnd) (c : List ℕ) (k : Option ASN1Error) (y : List ℕ) (v : A) (u : Unit {0}) (s s' : Reading) →
+    Left {A = Unit {0}} end c k y (Ok tt) s (Ok u) s' → Left end c k y (Ok v) s (Ok v) s'
+closed_with end c (Some e) y v u s s' h = let f = h.answer in absurd (cc)
+closed_with end c None y v u s s' (inl h) = inl (record { rest = h.rest; forward = h.forward; ends = h.ends; answer = refl; state = h.state })
+closed_with end c None y v u s s' (inr h) = let f = h.fails.answer in absurd (cc)
+
+pub not_closed_with : {A : Type 0} (end : ContentsEnd) (c : List ℕ) (k : Option ASN1Error) (y : List ℕ) (v : A) (e : ASN1Error) (s s' : Reading) →
+    Left {A = Unit {0}} end c k y (Ok tt) s (Err e) s' → Left {A = A} end c k y (Ok v) s (Err e) s'
+not_closed_with end c (Some d) y v e s s' h = record { answer = let f = h.answer in let g : e ≡ d = cc in ap Err g; state = h.state }
+not_closed_with end c None y v e s s' (inl h) = let f = h.answer in absurd (cc)
+not_closed_with end c None y v e s s' (inr h) = inr (record {
+  error = h.error;
+  plain = h.plain;
+  no_end = h.no_end;
+  fails = record { answer = let f = h.fails.answer in let g : e ≡ h.error = cc in ap Err g; state = h.fails.state };
+})
+
 -- what holds of the contents of such an element holds of what was stepped into
 pub takes_inside : (P : Reading → Type 0) (tag : Tag) (s : Reading) (o : Opening) (z m : Reading) → TakesContents P tag s →
     StepsIn (tag_of s tag) s o × (m ≡ s) → z ≡ inside m o.within → P z

@@ -1,5 +1,5 @@
 -- What becomes of a reading that a callback is handed.
-use Rattle.std.specs.Prelude.{Err, List, None, Ok, Option, Result, Some, length, ℕ, ◌≡◌}
+use Rattle.std.specs.Prelude.{Err, List, None, Ok, Option, Result, Some, length, ℕ, ◌≡◌, ◌⊎◌}
 use Rattle.yasna_base.specs.Error.{error_of, kind_of}
 use Rattle.yasna_base.specs.declared.error.ASN1Error.{ASN1Error}
 use Rattle.yasna_base.specs.declared.error.ASN1ErrorKind.TheVariants.{Invalid}
@@ -24,6 +24,12 @@ pub data Fault {A : Type 0} (c : List ℕ) (x : Result A ASN1Error) (m : Reading
   kept : m.kept ≡ Some e → Fault c x m e
   before : m.kept ≡ None → IsBefore c m.left → e ≡ error_of Invalid → Fault c x m e
   own : m.kept ≡ None → (IsBefore c m.left → ⊥) → x ≡ Err e → (IsUnmoved c m → BlamesBytes (kind_of e) → ⊥) → Fault c x m e
+
+-- whether there is no going on where a callback left m that was handed s, whatever it answered: a failure was kept, or the place
+-- isn't the old one or further on; that is kept
+abbrev pub Barred : Reading → Reading → Option ASN1Error → Reading → Type 0
+Barred s m None s' = (m.kept ≡ None) × (IsBefore s.left m.left → ⊥) × (s' ≡ m)
+Barred s m (Some e) s' = ((m.kept ≡ Some e) ⊎ ((m.kept ≡ None) × IsBefore s.left m.left × (e ≡ error_of Invalid))) × (s' ≡ failing (moved_as s m) e)
 
 -- What a callback came to that was handed s, answered x and left m, and what is left then. It gave a value; or its Err is
 -- quiet: it moved nothing, is neither of depth nor of memory, and left no failure; or a failure is kept

@@ -54,7 +54,7 @@ fn by_fields(tag: Option<Tag>) -> Option<Tag>
 impl<'a> ReaderState<'a> {
     ghost use Rattle.std.specs.Prelude.{None, length, ◌≡◌};
     ghost use Rattle.std.specs.Fn.{FnOnceTakesAtMut, FnOnceReturnsAtMut};
-    ghost use Rattle.yasna_reader.specs.Callback.{ComesTo, Hands, Lent, FailsAs, at_cursor, moved_as};
+    ghost use Rattle.yasna_reader.specs.Callback.{ComesTo, Barred, Hands, Lent, FailsAs, at_cursor, moved_as};
     ghost use Rattle.yasna_reader.specs.State.{failing};
 
     // Hands this reading to a callback, and takes it back.
@@ -93,9 +93,10 @@ impl<'a> ReaderState<'a> {
         }
     }
 
-    // What a callback came to that began here and gave this answer. The reading goes on where the callback left it.
+    // What a callback came to that began here and gave this answer, which is looked at first, as `leave` does. The reading goes on
+    // where the callback left it.
     #[inline(always)]
-    #[tactic(auto, using(crate::proofs::Callbacks::place_unmoved))]
+    #[tactic(auto, using(crate::proofs::Callbacks::place_unmoved, crate::proofs::Callbacks::barred_fails))]
     pub(crate) fn take_back<T: Drop>(
         &mut self,
         before: Cursor<'a>,
@@ -103,28 +104,44 @@ impl<'a> ReaderState<'a> {
     ) -> Outcome<T>
         ensures { ComesTo (at_cursor before.entry) answer self.old result self.new }
     {
+        match answer {
+            Ok(value) => match self.barred(before) {
+                Some(error) => Outcome::Failed(error),
+                None => {
+                    self.go_on(before);
+                    Outcome::Gave(value)
+                }
+            },
+            Err(error) => match self.barred(before) {
+                Some(kept) => Outcome::Failed(kept),
+                None => {
+                    if self.cursor.left.len() == before.left.len() && is_plain(error.kind()) {
+                        self.go_back(before);
+                        return Outcome::Quiet(error);
+                    }
+                    self.fail_back(before, error)
+                }
+            },
+        }
+    }
+
+    // Why there is no going on where a callback left this reading that began there, whatever it answered: a failure that it kept,
+    // or a place before. That is kept.
+    #[inline(always)]
+    fn barred(&mut self, before: Cursor<'a>) -> Option<ASN1Error>
+        ensures { Barred (at_cursor before.entry) self.old result self.new }
+    {
         if let Some(error) = self.kept {
             self.go_on_failed(before);
-            return Outcome::Failed(error);
+            return Some(error);
         }
-        let all = before.left.len();
-        let remaining = self.cursor.left.len();
-        if all < remaining {
-            return self.fail_back(before, ASN1Error::new(ASN1ErrorKind::Invalid));
+        if before.left.len() < self.cursor.left.len() {
+            let error = ASN1Error::new(ASN1ErrorKind::Invalid);
+            self.go_on(before);
+            self.kept = Some(error);
+            return Some(error);
         }
-        match answer {
-            Ok(value) => {
-                self.go_on(before);
-                Outcome::Gave(value)
-            }
-            Err(error) => {
-                if remaining == all && is_plain(error.kind()) {
-                    self.go_back(before);
-                    return Outcome::Quiet(error);
-                }
-                self.fail_back(before, error)
-            }
-        }
+        None
     }
 
     // Goes back to where a callback began.

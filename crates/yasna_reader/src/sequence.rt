@@ -22,7 +22,7 @@ fn close_from<'a>(opened: &Opened<'a>, remaining: usize) -> Result<&'a [u8], ASN
 }
 
 impl<'a> ReaderState<'a> {
-    ghost use Rattle.std.specs.Prelude.{◌≡◌, ◌≤◌};
+    ghost use Rattle.std.specs.Prelude.{◌≡◌, ◌≤◌, Ok};
     ghost use Rattle.yasna_bytes.specs.Header.{ConstructedAt};
     ghost use Rattle.yasna_reader.specs.State.{inside, untagged, tag_of};
     ghost use Rattle.yasna_reader.specs.Sequence.{Fails, Left, TakesParts, Runs, ReadsParts, StepsAt};
@@ -96,8 +96,10 @@ impl<'a> ReaderState<'a> {
         }
     }
 
-    // What is made of a callback's answer, where it left the contents of an element like this.
+    // What is made of a callback's answer, where it left the contents of an element like this. A failure that was kept there comes
+    // first; but the answer is looked at first, since a value that waits for other tests is moved by way of memory.
     #[inline(always)]
+    #[tactic(auto, using(crate::proofs::Sequences::closed_with, crate::proofs::Sequences::not_closed_with))]
     pub(crate) fn leave<T: Drop>(
         &mut self,
         opened: &Opened<'a>,
@@ -106,17 +108,31 @@ impl<'a> ReaderState<'a> {
     ) -> ASN1Result<T>
         ensures { Left opened.now.end opened.now.within left.now.kept left.now.left answer (untagged self.old) result self.new }
     {
+        match answer {
+            Ok(value) => match self.close(opened, left) {
+                Ok(()) => Ok(value),
+                Err(error) => Err(error),
+            },
+            Err(error) => {
+                self.untag();
+                self.fail_within(left.kept.unwrap_or(error), left)
+            }
+        }
+    }
+
+    // Goes on behind an element whose contents a callback read, and left like this.
+    #[inline(always)]
+    fn close(&mut self, opened: &Opened<'a>, left: &ReaderState<'a>) -> ASN1Result<()>
+        ensures { Left opened.now.end opened.now.within left.now.kept left.now.left (Ok tt) (untagged self.old) result self.new }
+    {
         self.untag();
         if let Some(error) = left.kept {
-            return self.fail_within(error, left);
-        }
-        if let Err(error) = answer {
             return self.fail_within(error, left);
         }
         match close_from(opened, left.cursor.left.len()) {
             Ok(rest) => {
                 self.cursor.left = rest;
-                answer
+                Ok(())
             }
             Err(kind) => self.fail_within(ASN1Error::new(kind), left),
         }
