@@ -15,7 +15,7 @@ use Rattle.yasna_bytes.specs.declared.bytes.header.Refusal.{Refusal}
 use Rattle.yasna_bytes.specs.declared.bytes.walk.RawElement.{RawElement}
 use Rattle.yasna_bytes.specs.Front.{Takes, Stands}
 use Rattle.yasna_reader.specs.Decodes.{Tells, KeptTells, NotTook, IsQuietAtEnd, Decodes}
-use Rattle.yasna_reader.specs.Primitive.{Settles}
+use Rattle.yasna_reader.specs.Primitive.{Settles, ReadsFront}
 use Rattle.yasna_reader.specs.Raw.{RefusesCopy, CopiedAt, RefusedRaw, ReadsRawUnlessKept, ReadsRaw}
 use Rattle.yasna_reader.specs.State.{Reading, IsFresh, refusing}
 use Rattle.yasna_bytes.specs.Walk.{RefusesRaw, TakesRaw, element_of}
@@ -78,6 +78,23 @@ reads_raw B view s f r s' e a b = record { reads = subst (λ k. ReadsRawUnlessKe
 pub reads_raw_kept : {V A : Type 0} (B : ℕ → BERMode → A → List ℕ → Type 0) (view : V → A) (s : Reading) (e : ASN1Error) (r : Result V ASN1Error)
     (s' : Reading) → s.kept ≡ Some e → r ≡ Err e → s' ≡ s → ReadsRaw B view s r s'
 reads_raw_kept B view s e r s' k f g = record { reads = subst (λ k. ReadsRawUnlessKept k B view s r s') (sym k) (f, g) }
+
+-- a value that says what another does is read where that is
+pub reads_raw_as : {V W A : Type 0} (B : ℕ → BERMode → A → List ℕ → Type 0) (view : V → A) (shown : W → A) (s : Reading) (v : V) (w : W)
+    (s' : Reading) → shown w ≡ view v → ReadsRaw B view s (Ok v) s' → ReadsRaw B shown s (Ok w) s'
+reads_raw_as B view shown s v w s' e h = record { reads = by_kept s.kept h.reads }
+  where
+    by_kept : (k : Option ASN1Error) → ReadsRawUnlessKept k B view s (Ok v) s' → ReadsRawUnlessKept k B shown s (Ok w) s'
+    by_kept (Some d) r = let f = r.0 in absurd (cc)
+    by_kept None r = subst (λ z. ReadsFront (B s.levels s.mode) s z s') (sym e) r
+
+pub refuses_raw_as : {V W A : Type 0} (B : ℕ → BERMode → A → List ℕ → Type 0) (view : V → A) (shown : W → A) (s : Reading) (e : ASN1Error)
+    (s' : Reading) → ReadsRaw B view s (Err e) s' → ReadsRaw B shown s (Err e) s'
+refuses_raw_as B view shown s e s' h = record { reads = by_kept s.kept h.reads }
+  where
+    by_kept : (k : Option ASN1Error) → ReadsRawUnlessKept k B view s (Err e) s' → ReadsRawUnlessKept k B shown s (Err e) s'
+    by_kept (Some d) r = let f = r.0 in let g : e ≡ d = cc in (ap Err g, r.1)
+    by_kept None r = r
 
 -- What a fresh reading decodes by a read of a raw element, of which B says what is copied
 module _ {V A : Type 0} (B : ℕ → BERMode → A → List ℕ → Type 0) (view : V → A) (s : Reading) (fresh : IsFresh s) where

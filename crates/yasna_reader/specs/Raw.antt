@@ -4,6 +4,8 @@ use Rattle.std.specs.Prelude.{Err, List, None, Ok, Option, Result, Some, false, 
 use Rattle.yasna_base.specs.Error.{kind_of}
 use Rattle.yasna_base.specs.Identifier.{StartsElement, AtEnd}
 use Rattle.yasna_base.specs.Raw.{RawValue, IsRaw, IsDeepRaw}
+use Rattle.yasna_base.specs.TaggedDerValue.{raw_value}
+use Rattle.yasna_reader.specs.declared.raw.Pieces.{Pieces}
 use Rattle.yasna_base.specs.declared.error.ASN1Error.{ASN1Error}
 use Rattle.yasna_base.specs.declared.error.ASN1ErrorKind.TheVariants.{OutOfMemory, StackOverflow}
 use Rattle.yasna_base.specs.declared.mode.BERMode.{BERMode}
@@ -11,6 +13,10 @@ use Rattle.yasna_bytes.specs.Front.{Stands, Takes}
 use Rattle.yasna_reader.specs.Primitive.{ReadsFront}
 use Rattle.yasna_reader.specs.State.{Reading, refusing, Does}
 use Rattle.yasna_bytes.specs.declared.bytes.header.Refusal.{Refusal}
+
+-- the value that pieces of one say
+abbrev pub value_of_pieces : Pieces → RawValue
+value_of_pieces p = raw_value (record { tag_class = p.class; tag_number = p.number }) p.bit p.payload.items
 
 -- the whole of a raw element
 pub record IsWhole (n : ℕ) (m : BERMode) (v b : List ℕ) : Type 0 where

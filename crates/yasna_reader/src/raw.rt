@@ -1,15 +1,17 @@
 //! Reads of raw elements (X.690, 8.1), whose contents aren't given a type: of any element, kept as it came. Users call them on a
 //! reader.
-ghost use Rattle.std.specs.Prelude.{ℕ, List, IfOk};
+ghost use Rattle.std.specs.Prelude.{ℕ, List, IfOk, ◌≡◌};
 ghost use Rattle.yasna_base.specs.declared.mode.BERMode.{BERMode};
 ghost use Rattle.yasna_base.specs.Raw.{RawValue, IsRaw};
-ghost use Rattle.yasna_reader.specs.Raw.{IsWhole, CopiedAt};
+ghost use Rattle.yasna_base.specs.TaggedDerValue.{raw_of};
+ghost use Rattle.yasna_reader.specs.Raw.{IsWhole, CopiedAt, value_of_pieces};
 ghost use Rattle.yasna_bytes.specs.Walk.{element_of};
 
 use crate::state::ReaderState;
 use std::alloc::{AllocError, Global};
 use yasna_base::error::{ASN1ErrorKind, ASN1Result};
 use yasna_base::models::TaggedDerValue;
+use yasna_base::tag::{PCBit, Tag, TagClass};
 use yasna_bytes::bytes::cursor::Cursor;
 use yasna_bytes::bytes::header::{Refusal, refuse};
 use yasna_bytes::bytes::walk::{RawElement, raw_element};
@@ -29,19 +31,46 @@ trait Copied: Sized {
     ghost element: { (n : ℕ) (m : BERMode) (v : Seen) (b : List ℕ) → copies n m v b → (x : RawValue) × IsRaw n m x b };
 }
 
-/// Its tag, its bit and its payload.
-impl Copied for TaggedDerValue {
-    ghost use Rattle.yasna_base.specs.TaggedDerValue.{raw_of};
+// Its tag, its bit and its payload, one beside the other: a `TaggedDerValue` is moved with what stands between its fields, as words
+// that overlap, which stalls the processor.
+#[derive(Drop)]
+struct Pieces {
+    class: TagClass,
+    number: u64,
+    bit: PCBit,
+    payload: Vec<u8>,
+}
 
+impl Pieces {
+    // The value.
+    #[inline(always)]
+    fn value(self) -> TaggedDerValue
+        ensures { raw_of result ≡ value_of_pieces self }
+    {
+        let tag = Tag {
+            tag_class: self.class,
+            tag_number: self.number,
+        };
+        TaggedDerValue::from_tag_pc_and_bytes(tag, self.bit, self.payload)
+    }
+}
+
+impl Copied for Pieces {
     ghost Seen = { RawValue };
 
-    ghost view = { raw_of };
+    ghost view = { value_of_pieces };
 
     ghost copies = { IsRaw };
 
-    fn of_element(alloc: Global, element: &RawElement<'_>) -> Result<TaggedDerValue, AllocError> {
+    #[inline(always)]
+    fn of_element(alloc: Global, element: &RawElement<'_>) -> Result<Pieces, AllocError> {
         let payload = Vec::from_slice(alloc, element.payload)?;
-        Ok(TaggedDerValue::from_tag_pc_and_bytes(element.tag, element.bit, payload))
+        Ok(Pieces {
+            class: element.tag.tag_class,
+            number: element.tag.tag_number,
+            bit: element.bit,
+            payload,
+        })
     }
 
     ghost element = { λ n m v b x. (v, x) };
@@ -86,10 +115,14 @@ impl<'a> ReaderState<'a> {
     /// In DER constructed contents are to be elements one after the other, in BER and CER those of indefinite length; levels
     /// are counted in them too. What values they are isn't looked at. An implicit tag is ignored, and used up. Where an end of
     /// contents stands, the answer is `Invalid` and nothing is kept.
+    #[tactic(auto, using(crate::proofs::RawReads::reads_raw_as, crate::proofs::RawReads::refuses_raw_as))]
     pub fn read_tagged_der(&mut self) -> ASN1Result<TaggedDerValue>
         ensures { ReadsRaw IsRaw raw_of self.old result self.new }
     {
-        self.read_raw::<TaggedDerValue>()
+        match self.read_raw::<Pieces>() {
+            Ok(pieces) => Ok(pieces.value()),
+            Err(error) => Err(error),
+        }
     }
 
     /// Reads the same element as a whole: its bytes from the identifier on, with the two zeros that end contents of

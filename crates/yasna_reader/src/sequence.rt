@@ -108,15 +108,16 @@ impl<'a> ReaderState<'a> {
     ) -> ASN1Result<T>
         ensures { Left opened.now.end opened.now.within left.now.kept left.now.left answer (untagged self.old) result self.new }
     {
-        match answer {
-            Ok(value) => match self.close(opened, left) {
-                Ok(()) => Ok(value),
-                Err(error) => Err(error),
-            },
+        let closed = match &answer {
+            Ok(_) => self.close(opened, left),
             Err(error) => {
                 self.untag();
-                self.fail_within(left.kept.unwrap_or(error), left)
+                self.fail_within(left.kept.unwrap_or(*error), left)
             }
+        };
+        match closed {
+            Ok(()) => answer,
+            Err(error) => Err(error),
         }
     }
 
