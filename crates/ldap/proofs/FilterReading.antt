@@ -32,7 +32,7 @@ use Rattle.yasna_notation.proofs.Found.{first_found, other_found, last_found}
 use Rattle.ldap.specs.contracts.filter_item.FilterItemNotation.TheImpl.Laws.{keeps-law as item_keeps}
 use Rattle.ldap.specs.declared.filter.Filter.{Filter}
 use Rattle.ldap.specs.declared.filter_item.FilterItem.{FilterItem}
-use Rattle.ldap.specs.Filters.{Parted, parts_of, the_filter, item_means, group_means, negated_means, boxed_means, filter_step, Found, behind_or, behind_and, whole}
+use Rattle.ldap.specs.Filters.{Parted, parted_of, the_filter, item_means, group_means, negated_means, boxed_means, filter_step, Found, behind_or, behind_and, whole}
 use Rattle.ldap.specs.Making.{set_not_empty}
 use Rattle.ldap.specs.RecursionLaws.{folded_under, unfolded_any}
 use Rattle.ldap.specs.TheFilter.{the_filter_keeps, the_step}
@@ -248,14 +248,14 @@ boxed_not_read s e s' h =
     stands_for_none (λ (v : Box Filter Global). v.value) true the_filter.tags false true the_filter.under the_filter.any_under s e s' h
 
 -- a filter that is made of what was read
-pub made_read : (s : Reading) (f : Filter) (v : Parted) (s' : Reading) → parts_of f ≡ v → ReadsMeaning whole s (Ok v) s' →
+pub made_read : (s : Reading) (f : Filter) (v : Parted) (s' : Reading) → parted_of f ≡ v → ReadsMeaning whole s (Ok v) s' →
     ReadsMeaning the_filter s (Ok f) s'
 made_read s f v s' is h =
-    filter_read s (Ok f) s' (stands_for parts_of true whole.tags false true whole.under whole.any_under s f v s' is h)
+    filter_read s (Ok f) s' (stands_for parted_of true whole.tags false true whole.under whole.any_under s f v s' is h)
 
 pub made_not_read : (s : Reading) (e : ASN1Error) (s' : Reading) → ReadsMeaning whole s (Err e) s' → ReadsMeaning the_filter s (Err e) s'
 made_not_read s e s' h =
-    filter_read s (Err e) s' (stands_for_none parts_of true whole.tags false true whole.under whole.any_under s e s' h)
+    filter_read s (Err e) s' (stands_for_none parted_of true whole.tags false true whole.under whole.any_under s e s' h)
 
 pub whole_coding : IsCoding whole.same (whole.under None) (whole.any_under None)
 whole_coding = (alternative (group_laws 0 (omega arith)) refl behind_and_laws).coding

@@ -8,21 +8,21 @@ use Rattle.ldap.specs.declared.filter.Filter.{Filter}
 use Rattle.ldap.specs.declared.filter.Filter.TheOpen.Filter-F.{And as AndOf, Or as OrOf, Not as NotOf}
 use Rattle.ldap.specs.declared.filter.Filter.TheVariants.{And, Or, Not, rolls-And, rolls-Or, rolls-Not}
 use Rattle.ldap.specs.declared.filter.Filter.TheViews.{out-roll-Filter}
-use Rattle.ldap.specs.Filters.{Parted, parted, parts_of, depth_of, parted_top, the_filter, whole}
+use Rattle.ldap.specs.Filters.{Parted, parted, parted_of, depth_of, parted_top, the_filter, whole}
 use Rattle.ldap.specs.FilterLaws.{depth_is}
 use Rattle.ldap.specs.RecursionLaws.{unfolded_can, unfolded_form}
 use Rattle.ldap.specs.TheFilter.{the_step}
 
-pub in_and : (v : Filter) (fs : Vec Filter Global) → v ≡ And fs → parts_of v ≡ First fs
-in_and v fs e = ap (λ z. parts_of z) (e ∙ sym (rolls-And fs)) ∙ ap (λ z. parted z) (out-roll-Filter (AndOf fs))
+pub in_and : (v : Filter) (fs : Vec Filter Global) → v ≡ And fs → parted_of v ≡ First fs
+in_and v fs e = ap (λ z. parted_of z) (e ∙ sym (rolls-And fs)) ∙ ap (λ z. parted z) (out-roll-Filter (AndOf fs))
 
-pub in_or : (v : Filter) (fs : Vec Filter Global) → v ≡ Or fs → parts_of v ≡ Second (First fs)
-in_or v fs e = ap (λ z. parts_of z) (e ∙ sym (rolls-Or fs)) ∙ ap (λ z. parted z) (out-roll-Filter (OrOf fs))
+pub in_or : (v : Filter) (fs : Vec Filter Global) → v ≡ Or fs → parted_of v ≡ Second (First fs)
+in_or v fs e = ap (λ z. parted_of z) (e ∙ sym (rolls-Or fs)) ∙ ap (λ z. parted z) (out-roll-Filter (OrOf fs))
 
-pub in_not : (v : Filter) (f : Box Filter Global) → v ≡ Not f → parts_of v ≡ Second (Second (First f))
-in_not v f e = ap (λ z. parts_of z) (e ∙ sym (rolls-Not f)) ∙ ap (λ z. parted z) (out-roll-Filter (NotOf f))
+pub in_not : (v : Filter) (f : Box Filter Global) → v ≡ Not f → parted_of v ≡ Second (Second (First f))
+in_not v f e = ap (λ z. parted_of z) (e ∙ sym (rolls-Not f)) ∙ ap (λ z. parted z) (out-roll-Filter (NotOf f))
 
-module _ (v : Filter) (p : Parted) (is : parts_of v ≡ p) where
+module _ (v : Filter) (p : Parted) (is : parted_of v ≡ p) where
   pub parts_can : the_filter.can v → whole.can p
   parts_can c = subst (λ z. whole.can z) is (unfolded_can the_step v c)
 

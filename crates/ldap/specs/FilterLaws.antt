@@ -28,9 +28,9 @@ use Rattle.ldap.specs.declared.filter.Filter.TheOpen.{Filter-F}
 use Rattle.ldap.specs.declared.filter.Filter.TheOpen.Filter-F.{And, Or, Not, Item}
 use Rattle.ldap.specs.declared.filter.Filter.TheViews.{out-Filter}
 use Rattle.ldap.specs.declared.filter_item.FilterItem.{FilterItem}
-use Rattle.ldap.specs.Filters.{Parted, parted, parts_of, largest, one_deeper, depth_of, group_means, negated_means, either_means, parted_means, filter_step, filter_means, group_top, either_top, parted_top}
+use Rattle.ldap.specs.Filters.{Parted, parted, parted_of, largest, one_deeper, depth_of, group_means, negated_means, either_means, parted_means, filter_step, filter_means, group_top, either_top, parted_top}
 use Rattle.ldap.specs.Making.{set_not_empty}
-use Rattle.ldap.specs.Recursion.{after_steps, Follows, IsStep}
+use Rattle.ldap.specs.Recursion.{after_steps, FollowsDepth, IsStep}
 use Rattle.ldap.specs.RecursionLaws.{means_keeps}
 
 all_map : {A : Type 0} {P Q : A → Type 0} → ((v : A) → P v → Q v) → (vs : List A) → AllByRecursion P vs → AllByRecursion Q vs
@@ -62,7 +62,7 @@ sorted_is : {A : Type 0} (form : Form A) (t : Tag) (m : BERMode) (vs : List A) �
     sorted_set_of_form form t m vs ≡ canonical_element m t Constructed (concat (in_order octets_cmp (forms form m vs)))
 sorted_is form t m vs = around_forms form m t (in_form_order form m vs) (in_order octets_cmp (forms form m vs)) (forms_in_order form m vs)
 
-group_follows : {A : Type 0} (depth : A → ℕ) (k : ℕ) → Follows depth (group_top depth) (group_means k)
+group_follows : {A : Type 0} (depth : A → ℕ) (k : ℕ) → FollowsDepth depth (group_top depth) (group_means k)
 group_follows depth k = record {
   flat = λ x y u m v b p. absurd p.0.encoded;
   any_flat = λ x y u m b p. absurd p.1.0.encoded;
@@ -97,7 +97,7 @@ group_follows depth k = record {
   nest_within = λ x y m v h. ap (λ k. 1 + k) (nests_alike depth x.nest y.nest m v.items h);
 }
 
-negated_follows : {A : Type 0} (depth : A → ℕ) → Follows depth (λ v. suc (depth v.value)) (negated_means {A = A})
+negated_follows : {A : Type 0} (depth : A → ℕ) → FollowsDepth depth (λ v. suc (depth v.value)) (negated_means {A = A})
 negated_follows depth = record {
   flat = λ x y u m v b p. absurd p;
   any_flat = λ x y u m b p. absurd p;
@@ -112,7 +112,7 @@ negated_follows depth = record {
 }
 
 -- what is made of nothing within
-alone_follows : {A V : Type 0} (depth : A → ℕ) (item : Meaning V) → Follows depth (λ i. 0) (λ x. item)
+alone_follows : {A V : Type 0} (depth : A → ℕ) (item : Meaning V) → FollowsDepth depth (λ i. 0) (λ x. item)
 alone_follows depth item = record {
   flat = λ x y u m v b p. p;
   any_flat = λ x y u m b p. p;
@@ -126,8 +126,8 @@ alone_follows depth item = record {
   nest_within = λ x y m v h. refl;
 }
 
-module _ {A V W : Type 0} {depth : A → ℕ} {p : V → ℕ} {q : W → ℕ} {f : Meaning A → Meaning V} {g : Meaning A → Meaning W} (a : Follows depth p f)
-    (b : Follows depth q g) where
+module _ {A V W : Type 0} {depth : A → ℕ} {p : V → ℕ} {q : W → ℕ} {f : Meaning A → Meaning V} {g : Meaning A → Meaning W} (a : FollowsDepth depth p f)
+    (b : FollowsDepth depth q g) where
   flat_either : (x y : Meaning A) (u : Option Tag) (m : BERMode) (v : Either V W) (c : List ℕ) → (either_means (f x) (g x)).under u m 0 v c →
       (either_means (f y) (g y)).under u m 0 v c
   flat_either x y u m (First v) c z = a.flat x y None m v c z
@@ -181,7 +181,7 @@ module _ {A V W : Type 0} {depth : A → ℕ} {p : V → ℕ} {q : W → ℕ} {f
   any_flat_either x y m c (inl z) = inl (a.any_flat x y None m c z)
   any_flat_either x y m c (inr z) = inr (b.any_flat x y None m c z)
 
-  either_follows : Follows depth (either_top p q) (λ x. either_means (f x) (g x))
+  either_follows : FollowsDepth depth (either_top p q) (λ x. either_means (f x) (g x))
   either_follows = record {
     flat = flat_either;
     any_flat = λ x y u m c z. any_flat_either x y m c z;
@@ -196,8 +196,8 @@ module _ {A V W : Type 0} {depth : A → ℕ} {p : V → ℕ} {q : W → ℕ} {f
   }
 
 -- what stands for what is made so
-standing_follows : {A U V : Type 0} {depth : A → ℕ} {p : V → ℕ} (view : U → V) (top : U → ℕ) (f : Meaning A → Meaning V) → Follows depth p f →
-    ((v : U) → top v ≡ p (view v)) → Follows depth top (λ x. stands_for view (f x))
+standing_follows : {A U V : Type 0} {depth : A → ℕ} {p : V → ℕ} (view : U → V) (top : U → ℕ) (f : Meaning A → Meaning V) → FollowsDepth depth p f →
+    ((v : U) → top v ≡ p (view v)) → FollowsDepth depth top (λ x. stands_for view (f x))
 standing_follows {depth = depth} view top f a is = record {
   flat = λ x y u m v b z. a.flat x y u m (view v) b z;
   any_flat = λ x y u m b z. a.any_flat x y u m b z;
@@ -217,12 +217,12 @@ top_is (Or fs) = refl
 top_is (Not f) = refl
 top_is (Item i) = refl
 
-pub depth_is : (v : Filter) → depth_of v ≡ parted_top (parts_of v)
+pub depth_is : (v : Filter) → depth_of v ≡ parted_top (parted_of v)
 depth_is v = fold_out-Filter ℕ one_deeper v ∙ top_is (out-Filter v)
 
-step_follows : (item : Meaning FilterItem) → Follows depth_of depth_of (filter_step item)
+step_follows : (item : Meaning FilterItem) → FollowsDepth depth_of depth_of (filter_step item)
 step_follows item =
-    standing_follows parts_of depth_of (parted_means item)
+    standing_follows parted_of depth_of (parted_means item)
     (either_follows (group_follows depth_of 0) (either_follows (group_follows depth_of 1)
     (either_follows (negated_follows depth_of) (alone_follows depth_of item))))
     depth_is
@@ -233,7 +233,7 @@ module _ (item : Meaning FilterItem)
     (second : share_none (context 1 ∷ []) ((context 2 ∷ []) ++ item.tags) ≡ true) (third : share_none (context 2 ∷ []) item.tags ≡ true) where
   step_keeps : (x : Meaning Filter) → KeepsMeaning x → KeepsMeaning (filter_step item x)
   step_keeps x k =
-      standing_keeps parts_of
+      standing_keeps parted_of
       (in_choice (parted_means item x).form_under
       (alternative (in_implicit 0 (omega arith) (set_not_empty (in_set_of k.own))).own first
       (alternative (in_implicit 1 (omega arith) (set_not_empty (in_set_of k.own))).own second
@@ -254,7 +254,7 @@ parted_filled item filled x u m (Second (Second (First f))) = element_filled _ _
 parted_filled item filled x u m (Second (Second (Second i))) = filled u m i
 
 pub filter_filled : (item : Meaning FilterItem) → IsFilledForm item → IsFilledForm (filter_means item)
-filter_filled item filled u m v = parted_filled item filled (after_steps (filter_step item) (depth_of v)) u m (parts_of v)
+filter_filled item filled u m v = parted_filled item filled (after_steps (filter_step item) (depth_of v)) u m (parted_of v)
 
 -- values within are less deep
 pub each_less : (P : Filter → Type 0) (Can : Filter → Type 0) (vs : List Filter) → AllByRecursion Can vs →

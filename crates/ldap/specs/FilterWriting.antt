@@ -7,7 +7,7 @@ use Rattle.yasna_notation.specs.Notation.{Meaning, IsWrittenMeaning}
 use Rattle.yasna_notation.specs.Writing.{set_of_written, under_context, explicit_written, alternative_written}
 use Rattle.ldap.specs.declared.filter.Filter.{Filter}
 use Rattle.ldap.specs.declared.filter_item.FilterItem.{FilterItem}
-use Rattle.ldap.specs.Filters.{parts_of, depth_of, parted_means, filter_step, filter_means}
+use Rattle.ldap.specs.Filters.{parted_of, depth_of, parted_means, filter_step, filter_means}
 use Rattle.ldap.specs.Making.{filled_set_written}
 use Rattle.ldap.specs.Recursion.{IsStep}
 use Rattle.ldap.specs.RecursionWriting.{means_written}
@@ -15,7 +15,7 @@ use Rattle.ldap.specs.RecursionWriting.{means_written}
 module _ (item : Meaning FilterItem) (laws : IsWritten item.same (item.under None) (item.form_under None) item.nest item.can) where
   step_written : (x : Meaning Filter) → IsWrittenMeaning x → IsWrittenMeaning (filter_step item x)
   step_written x k =
-      standing_written parts_of
+      standing_written parted_of
       (choice_written_as (parted_means item x).form_under
       (alternative_written (under_context 0 (omega arith) (filled_set_written (set_of_written k.own))).own
       (alternative_written (under_context 1 (omega arith) (filled_set_written (set_of_written k.own))).own

@@ -39,8 +39,8 @@ parted (Or fs) = Second (First fs)
 parted (Not f) = Second (Second (First f))
 parted (Item i) = Second (Second (Second i))
 
-abbrev pub parts_of : Filter → Parted
-parts_of v = parted (out-Filter v)
+abbrev pub parted_of : Filter → Parted
+parted_of v = parted (out-Filter v)
 
 -- how deep it is
 abbrev pub largest : List ℕ → ℕ
@@ -118,7 +118,7 @@ abbrev pub parted_means : Meaning FilterItem → Meaning Filter → Meaning Part
 parted_means item x = either_means (group_means 0 x) (either_means (group_means 1 x) (either_means (negated_means x) item))
 
 abbrev pub filter_step : Meaning FilterItem → Meaning Filter → Meaning Filter
-filter_step item x = stands_for parts_of (parted_means item x)
+filter_step item x = stands_for parted_of (parted_means item x)
 
 -- how deep what stands within may be: less than this
 abbrev pub group_top : {A : Type 0} → (A → ℕ) → Vec A Global → ℕ

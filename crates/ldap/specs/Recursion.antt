@@ -44,7 +44,7 @@ means_within step depth = record {
 
 -- What is made of a meaning: at no level it asks for nothing of that, at others for what is one level less. The form of a value, and how
 -- deep that nests, is made of those of values that are less deep than the value's top.
-pub record Follows {A V : Type 0} (depth : A → ℕ) (top : V → ℕ) (make : Meaning A → Meaning V) : Type 1 where
+pub record FollowsDepth {A V : Type 0} (depth : A → ℕ) (top : V → ℕ) (make : Meaning A → Meaning V) : Type 1 where
   pub flat : (x y : Meaning A) (u : Option Tag) (m : BERMode) (v : V) (b : List ℕ) → (make x).under u m 0 v b → (make y).under u m 0 v b
   pub any_flat : (x y : Meaning A) (u : Option Tag) (m : BERMode) (b : List ℕ) → (make x).any_under u m 0 b → (make y).any_under u m 0 b
   pub fits_flat : (x y : Meaning A) (m : BERMode) (v : V) → (make x).fits m 0 v → (make y).fits m 0 v
@@ -67,4 +67,4 @@ pub record IsStep {A : Type 0} (step : Meaning A → Meaning A) (depth : A → �
   pub keeps : (x : Meaning A) → KeepsMeaning x → KeepsMeaning (step x)
   pub told : (x : Meaning A) → (step x).told ≡ true
   pub tags : (x : Meaning A) → (step x).tags ≡ (step nothing_yet).tags
-  pub follows : Follows depth depth step
+  pub follows : FollowsDepth depth depth step

@@ -7,7 +7,7 @@ ghost use Rattle.yasna_base.specs.Error.{kind_of};
 ghost use Rattle.yasna_base.specs.Set.{set_tag};
 ghost use Rattle.yasna_base.specs.declared.error.ASN1ErrorKind.TheVariants.{OutOfMemory};
 ghost use Rattle.yasna_notation.specs.Notation.{ReadsMeaning};
-ghost use Rattle.ldap.specs.Filters.{the_filter, boxed_means, list_means, group_means, negated_means, whole, behind_and, behind_or, Found, parts_of};
+ghost use Rattle.ldap.specs.Filters.{the_filter, boxed_means, list_means, group_means, negated_means, whole, behind_and, behind_or, Found, parted_of};
 ghost use Rattle.ldap.specs.Reading.{TakesFewer, ReadsAll};
 
 use crate::filter::Filter;
@@ -200,7 +200,7 @@ where
 
 // Makes a filter of it.
 fn from_parts(parts: Parted) -> Filter
-    ensures { parts_of result ≡ parts }
+    ensures { parted_of result ≡ parts }
 {
     let others = match parts {
         Either::First(filters) => return Filter::And(filters),
