@@ -57,7 +57,8 @@ impl<'a> ReaderState<'a> {
         }
     }
 
-    // The tag that the next element is to have, where its type's own is this one.
+    // The tag that the next element is to have, where its type's own is this one. The one that waits is made anew, so that what stands
+    // between its fields isn't read back from memory.
     #[inline(always)]
     pub(crate) fn wanted(&self, tag: Tag) -> Tag
         ensures { result ≡ tag_of self.now tag }

@@ -101,7 +101,8 @@ impl Writer {
         self.alloc
     }
 
-    // Takes the implicit tag, or else a type's own.
+    // Takes the implicit tag, or else a type's own. The one that waits is made anew, so that what stands between its fields isn't read
+    // back from memory.
     #[inline(always)]
     pub(crate) fn take_tag(&mut self, own: Tag) -> Tag
         ensures tag { result ≡ tag_or self.old.tag own }
