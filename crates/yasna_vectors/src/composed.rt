@@ -19,23 +19,27 @@ type Twelve = (i64, i64, i64, i64, i64, i64, i64, i64, i64, i64, i64, i64);
 /// What a call of this family answers.
 pub fn answer(alloc: Global, case: &Case) -> Answer {
     let mode = case.mode?;
-    let bytes = match case.bytes(alloc)? {
-        Ok(bytes) => bytes,
-        Err(lack) => return Some(Err(lack)),
-    };
-    Some(match case.call {
-        "d:ints" => decoded::<Vec<i64>>(alloc, mode, &bytes),
-        "d:vvi" => decoded::<Vec<Vec<i64>>>(alloc, mode, &bytes),
-        "d:vbytes" => decoded::<Vec<Vec<u8>>>(alloc, mode, &bytes),
-        "d:vtext" => decoded::<Vec<String>>(alloc, mode, &bytes),
-        "d:vpair" => decoded::<Vec<(i64, bool)>>(alloc, mode, &bytes),
-        "d:t1n" => decoded::<Nested>(alloc, mode, &bytes),
-        "d:t3" => decoded::<(u16, (), Vec<u8>)>(alloc, mode, &bytes),
-        "tup1" => decoded::<(i64,)>(alloc, mode, &bytes),
-        "tup3" => decoded::<(i64, i64, i64)>(alloc, mode, &bytes),
-        "tup12" => decoded::<Twelve>(alloc, mode, &bytes),
-        "d:tdv" => raw::<TaggedDerValue>(alloc, mode, &bytes),
-        "d:vtdv" => raw::<Vec<TaggedDerValue>>(alloc, mode, &bytes),
+    match case.bytes(alloc)? {
+        Ok(bytes) => answer_on(alloc, mode, case.call, &bytes),
+        Err(lack) => Some(Err(lack)),
+    }
+}
+
+// What a call of this name answers on these bytes.
+fn answer_on(alloc: Global, mode: BERMode, call: &str, bytes: &[u8]) -> Answer {
+    Some(match call {
+        "d:ints" => decoded::<Vec<i64>>(alloc, mode, bytes),
+        "d:vvi" => decoded::<Vec<Vec<i64>>>(alloc, mode, bytes),
+        "d:vbytes" => decoded::<Vec<Vec<u8>>>(alloc, mode, bytes),
+        "d:vtext" => decoded::<Vec<String>>(alloc, mode, bytes),
+        "d:vpair" => decoded::<Vec<(i64, bool)>>(alloc, mode, bytes),
+        "d:t1n" => decoded::<Nested>(alloc, mode, bytes),
+        "d:t3" => decoded::<(u16, (), Vec<u8>)>(alloc, mode, bytes),
+        "tup1" => decoded::<(i64,)>(alloc, mode, bytes),
+        "tup3" => decoded::<(i64, i64, i64)>(alloc, mode, bytes),
+        "tup12" => decoded::<Twelve>(alloc, mode, bytes),
+        "d:tdv" => raw::<TaggedDerValue>(alloc, mode, bytes),
+        "d:vtdv" => raw::<Vec<TaggedDerValue>>(alloc, mode, bytes),
         _ => return None,
     })
 }

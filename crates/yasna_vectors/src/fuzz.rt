@@ -228,32 +228,65 @@ fn fault(
     let ber = answered(alloc, BERMode::Ber, call, bytes)?;
     let der = answered(alloc, BERMode::Der, call, bytes)?;
     let cer = answered(alloc, BERMode::Cer, call, bytes)?;
-    if is_none(ber.as_str()) || is_none(der.as_str()) || is_none(cer.as_str()) {
-        return Ok(Some("an answer that is none"));
-    }
-    if let Some(form) = form_of(der.as_str()) {
-        *accepted = accepted.saturating_add(1);
-        if ber.as_str() != der.as_str() {
-            return Ok(Some("BER answers otherwise than DER"));
-        }
-        if kind != Kind::Lenient && form != bytes {
-            return Ok(Some("DER took what is not the form"));
-        }
-    }
-    if let Some(form) = form_of(cer.as_str()) {
-        *accepted = accepted.saturating_add(1);
-        if value_of(ber.as_str()) != value_of(cer.as_str()) {
-            return Ok(Some("BER answers otherwise than CER"));
-        }
-        if kind != Kind::Lenient && form != bytes {
-            return Ok(Some("CER took what is not the form"));
-        }
-    }
-    let Some(form) = form_of(ber.as_str()) else {
-        return Ok(None);
+    let answers = Answers {
+        ber: ber.as_str(),
+        der: der.as_str(),
+        cer: cer.as_str(),
     };
-    *accepted = accepted.saturating_add(1);
-    form_fault(alloc, kind, call, ber.as_str(), form)
+    if let Some(fault) = fault_among(kind, bytes, answers, accepted) {
+        return Ok(Some(fault));
+    }
+    match form_of(ber.as_str()) {
+        Some(form) => form_fault(alloc, kind, call, ber.as_str(), form),
+        None => Ok(None),
+    }
+}
+
+// What a call answers on the same bytes in each mode.
+#[derive(Clone, Copy)]
+struct Answers<'a> {
+    ber: &'a str,
+    der: &'a str,
+    cer: &'a str,
+}
+
+// What is wrong among them.
+fn fault_among(
+    kind: Kind,
+    bytes: &str,
+    answers: Answers<'_>,
+    accepted: &mut u64,
+) -> Option<&'static str> {
+    if is_none(answers.ber) || is_none(answers.der) || is_none(answers.cer) {
+        return Some("an answer that is none");
+    }
+    count_accepted(answers.ber, accepted);
+    count_accepted(answers.der, accepted);
+    count_accepted(answers.cer, accepted);
+    if let Some(form) = form_of(answers.der) {
+        if answers.ber != answers.der {
+            return Some("BER answers otherwise than DER");
+        }
+        if kind != Kind::Lenient && form != bytes {
+            return Some("DER took what is not the form");
+        }
+    }
+    if let Some(form) = form_of(answers.cer) {
+        if value_of(answers.ber) != value_of(answers.cer) {
+            return Some("BER answers otherwise than CER");
+        }
+        if kind != Kind::Lenient && form != bytes {
+            return Some("CER took what is not the form");
+        }
+    }
+    None
+}
+
+// Counts an answer that shows a value.
+fn count_accepted(answer: &str, accepted: &mut u64) {
+    if form_of(answer).is_some() {
+        *accepted = accepted.saturating_add(1);
+    }
 }
 
 // What is wrong with a call's answers on the form that is written of the value in this answer.

@@ -183,12 +183,28 @@ pub fn answer(alloc: Global, case: &Case) -> Answer {
     if calls == "parse" {
         return parsed(alloc, case, Integer, replaces);
     }
-    let Some((outer, inner)) = calls.split_once('.') else {
-        let body = enclosing(Call::named(calls)?, Integer, replaces);
-        return parsed(alloc, case, body, replaces);
-    };
-    let body = enclosing(Call::named(inner)?, Integer, replaces);
-    let body = enclosing(Call::named(outer)?, body, replaces);
+    match calls.split_once('.') {
+        Some((outer, inner)) => {
+            parsed_within(
+                alloc,
+                case,
+                Call::named(outer)?,
+                Call::named(inner)?,
+                replaces,
+            )
+        }
+        None => parsed(
+            alloc,
+            case,
+            enclosing(Call::named(calls)?, Integer, replaces),
+            replaces,
+        ),
+    }
+}
+
+// What a parse answers whose callback is a call, around another one.
+fn parsed_within(alloc: Global, case: &Case, outer: Call, inner: Call, replaces: bool) -> Answer {
+    let body = enclosing(outer, enclosing(inner, Integer, replaces), replaces);
     parsed(alloc, case, body, replaces)
 }
 

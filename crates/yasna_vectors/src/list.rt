@@ -150,11 +150,15 @@ pub fn answer(alloc: Global, case: &Case) -> Answer {
     if case.call != "seqof_many" {
         return None;
     }
-    let count = case.arg.parse().ok()?;
-    Some(match collected(alloc, mode, count) {
+    Some(many(alloc, mode, case.arg.parse().ok()?))
+}
+
+// The same for so many numbers.
+fn many(alloc: Global, mode: BERMode, count: i64) -> Result<String, AllocError> {
+    match collected(alloc, mode, count) {
         Ok((items, bytes)) => format!(in alloc; "ok {items} {bytes}"),
         Err(error) => refused(alloc, error.kind()),
-    })
+    }
 }
 
 // How many numbers are collected of so many that are written, and in how many bytes.

@@ -55,19 +55,27 @@ pub fn answer(alloc: Global, case: &Case) -> Answer {
     if case.call != "tree" {
         return None;
     }
-    let bytes = match case.bytes(alloc)? {
-        Ok(bytes) => bytes,
-        Err(lack) => return Some(Err(lack)),
-    };
-    let read = parse_ber_general(alloc, &bytes, mode, |reader| read_tree(alloc, reader));
-    Some(match read {
-        Ok(tree) => written(
-            alloc,
-            &tree,
-            construct_in(alloc, mode, |writer| tree.write(writer)),
-        ),
+    match case.bytes(alloc)? {
+        Ok(bytes) => Some(answer_on(alloc, mode, &bytes)),
+        Err(lack) => Some(Err(lack)),
+    }
+}
+
+// What it answers on these bytes.
+fn answer_on(alloc: Global, mode: BERMode, bytes: &[u8]) -> Result<String, AllocError> {
+    match parsed(alloc, mode, bytes) {
+        Ok(tree) => written(alloc, &tree, form_of(alloc, mode, &tree)),
         Err(error) => refused(alloc, error.kind()),
-    })
+    }
+}
+
+fn parsed(alloc: Global, mode: BERMode, bytes: &[u8]) -> ASN1Result<Tree> {
+    parse_ber_general(alloc, bytes, mode, |reader| read_tree(alloc, reader))
+}
+
+// What is written of a tree.
+fn form_of(alloc: Global, mode: BERMode, tree: &Tree) -> ASN1Result<Vec<u8>> {
+    construct_in(alloc, mode, |writer| tree.write(writer))
 }
 
 // Reads an element by its tag.

@@ -19,28 +19,32 @@ type Deep = (bool, (i64, (bool, ())));
 pub fn answer(alloc: Global, case: &Case) -> Answer {
     let mode = case.mode?;
     let name = case.call.strip_prefix("d:")?;
-    let bytes = match case.bytes(alloc)? {
-        Ok(bytes) => bytes,
-        Err(lack) => return Some(Err(lack)),
-    };
+    match case.bytes(alloc)? {
+        Ok(bytes) => answer_on(alloc, mode, name, &bytes),
+        Err(lack) => Some(Err(lack)),
+    }
+}
+
+// What decoding the type of this name answers on these bytes.
+fn answer_on(alloc: Global, mode: BERMode, name: &str, bytes: &[u8]) -> Answer {
     Some(match name {
-        "null" => decoded::<()>(alloc, mode, &bytes),
-        "bool" => decoded::<bool>(alloc, mode, &bytes),
-        "int" => decoded::<i64>(alloc, mode, &bytes),
-        "i32" => decoded::<i32>(alloc, mode, &bytes),
-        "i16" => decoded::<i16>(alloc, mode, &bytes),
-        "u64" => decoded::<u64>(alloc, mode, &bytes),
-        "u32" => decoded::<u32>(alloc, mode, &bytes),
-        "u16" => decoded::<u16>(alloc, mode, &bytes),
-        "pair" => decoded::<(i64, bool)>(alloc, mode, &bytes),
-        "pairs" => decoded::<Pairs>(alloc, mode, &bytes),
-        "deep" => decoded::<Deep>(alloc, mode, &bytes),
-        "octets" => decoded::<Vec<u8>>(alloc, mode, &bytes),
-        "text" => decoded::<String>(alloc, mode, &bytes),
-        "oid" => decoded::<ObjectIdentifier>(alloc, mode, &bytes),
-        "utime" => decoded::<UTCTime>(alloc, mode, &bytes),
-        "gtime" => decoded::<GeneralizedTime>(alloc, mode, &bytes),
-        "named" => decoded::<(String, Vec<u8>)>(alloc, mode, &bytes),
+        "null" => decoded::<()>(alloc, mode, bytes),
+        "bool" => decoded::<bool>(alloc, mode, bytes),
+        "int" => decoded::<i64>(alloc, mode, bytes),
+        "i32" => decoded::<i32>(alloc, mode, bytes),
+        "i16" => decoded::<i16>(alloc, mode, bytes),
+        "u64" => decoded::<u64>(alloc, mode, bytes),
+        "u32" => decoded::<u32>(alloc, mode, bytes),
+        "u16" => decoded::<u16>(alloc, mode, bytes),
+        "pair" => decoded::<(i64, bool)>(alloc, mode, bytes),
+        "pairs" => decoded::<Pairs>(alloc, mode, bytes),
+        "deep" => decoded::<Deep>(alloc, mode, bytes),
+        "octets" => decoded::<Vec<u8>>(alloc, mode, bytes),
+        "text" => decoded::<String>(alloc, mode, bytes),
+        "oid" => decoded::<ObjectIdentifier>(alloc, mode, bytes),
+        "utime" => decoded::<UTCTime>(alloc, mode, bytes),
+        "gtime" => decoded::<GeneralizedTime>(alloc, mode, bytes),
+        "named" => decoded::<(String, Vec<u8>)>(alloc, mode, bytes),
         _ => return None,
     })
 }

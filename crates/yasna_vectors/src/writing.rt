@@ -134,7 +134,12 @@ fn value(alloc: Global, name: &str, arg: &str) -> Option<Result<Written, AllocEr
         let elements = elements(alloc, arg)?;
         return Some(elements.map(|elements| Written::Elements(AnyElements(elements))));
     }
-    let value = match name {
+    Some(Ok(small_value(name, arg)?))
+}
+
+// The value of another name, for which no memory is asked.
+fn small_value(name: &str, arg: &str) -> Option<Written> {
+    Some(match name {
         "nest" => Written::Nested(Nested {
             depth: arg.parse().ok()?,
             number: 10,
@@ -143,8 +148,7 @@ fn value(alloc: Global, name: &str, arg: &str) -> Option<Result<Written, AllocEr
         "refused" => Written::Refused(arg.parse().ok()?),
         "thrown" => Written::Discarded(arg.parse().ok()?),
         _ => return None,
-    };
-    Some(Ok(value))
+    })
 }
 
 impl Shown for Written {
