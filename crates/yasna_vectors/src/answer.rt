@@ -215,14 +215,19 @@ pub fn written<V: Shown>(
         Err(error) => return refused(alloc, error.kind()),
     };
     let mut text = String::with_capacity(alloc, ROOM)?;
+    show_written(value, form.as_slice(), &mut text)?;
+    Ok(text)
+}
+
+// Appends `ok`, a value and what was written of it.
+fn show_written<V: Shown>(value: &V, form: &[u8], text: &mut String) -> Result<(), AllocError> {
     text.push_str("ok ")?;
-    value.show(&mut text)?;
+    value.show(text)?;
     text.push(' ')?;
     if form.is_empty() {
-        text.push('-')?;
+        return text.push('-');
     }
-    show_bytes(form.as_slice(), &mut text)?;
-    Ok(text)
+    show_bytes(form, text)
 }
 
 /// The answer of a refusal.

@@ -176,14 +176,16 @@ fn at_length(text: &str) -> (&str, &str) {
     text.split_at_checked(place).unwrap_or((text, ""))
 }
 
+// Whether the first two hexadecimal digits end in five bits that are set: the number stands in the bytes behind (X.690, 8.1.2.4).
+fn is_long(text: &[u8]) -> bool {
+    let odd = [b'1', b'3', b'5', b'7', b'9', b'b', b'd', b'f'];
+    text.first().is_some_and(|digit| odd.contains(digit)) && text.get(1) == Some(&b'f')
+}
+
 // How many hexadecimal digits the first identifier of a text has (X.690, 8.1.2): two, and in the long form those of each
 // byte from 128 on behind, and of the one that follows these.
 fn identifier_digits(text: &str) -> usize {
-    let is_long = matches!(
-        text.get(..2),
-        Some("1f" | "3f" | "5f" | "7f" | "9f" | "bf" | "df" | "ff")
-    );
-    if !is_long {
+    if !is_long(text.as_bytes()) {
         return 2;
     }
     let mut digits = 4usize;

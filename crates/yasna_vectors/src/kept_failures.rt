@@ -145,29 +145,45 @@ struct Around<B> {
 
 impl<B: Body> Body for Around<B> {
     fn read(self, reader: BERReader, answers: &mut Answers) -> ASN1Result<i64> {
+        match self.call {
+            Call::SequenceOf | Call::Collect => self.read_items(reader, answers),
+            Call::Tagged | Call::TaggedImplicit => self.read_tagged(reader, answers),
+            _ => self.read_parts(reader, answers),
+        }
+    }
+}
+
+impl<B: Body> Around<B> {
+    // A call on a list.
+    fn read_items(self, reader: BERReader, answers: &mut Answers) -> ASN1Result<i64> {
+        let callback = self.callback;
+        if let Call::SequenceOf = self.call {
+            reader.read_sequence_of(|item| callback.read(item, answers).map(|_| ()))?;
+        } else {
+            reader.collect_sequence_of(|item| callback.read(item, answers))?;
+        }
+        Ok(10)
+    }
+
+    // A call under a tag.
+    fn read_tagged(self, reader: BERReader, answers: &mut Answers) -> ASN1Result<i64> {
+        let callback = self.callback;
+        let tag = Tag::context(3);
+        if let Call::Tagged = self.call {
+            return reader.read_tagged(tag, |inner| callback.read(inner, answers));
+        }
+        reader.read_tagged_implicit(tag, |inner| callback.read(inner, answers))
+    }
+
+    // A call on a sequence, or on an element with its bytes.
+    fn read_parts(self, reader: BERReader, answers: &mut Answers) -> ASN1Result<i64> {
         let callback = self.callback;
         match self.call {
             Call::Sequence => reader.read_sequence(|seq| callback.read(seq.next(), answers)),
-            Call::SequenceOf => {
-                reader.read_sequence_of(|item| callback.read(item, answers).map(|_| ()))?;
-                Ok(10)
-            }
-            Call::Collect => {
-                reader.collect_sequence_of(|item| callback.read(item, answers))?;
-                Ok(10)
-            }
-            Call::Tagged => {
-                reader.read_tagged(Tag::context(3), |inner| callback.read(inner, answers))
-            }
-            Call::TaggedImplicit => {
-                reader.read_tagged_implicit(Tag::context(3), |inner| callback.read(inner, answers))
-            }
             Call::Buffer => reader
                 .read_with_buffer(|inner| callback.read(inner, answers))
                 .map(|both| both.0),
-            Call::PartsBuffer | Call::Optional | Call::Default => {
-                reader.read_sequence(|seq| callback.read_parts(self.call, seq, answers))
-            }
+            _ => reader.read_sequence(|seq| callback.read_parts(self.call, seq, answers)),
         }
     }
 }

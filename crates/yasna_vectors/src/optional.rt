@@ -54,37 +54,47 @@ impl Family for Optional {
     }
 
     fn read(self, reader: BERReader) -> ASN1Result<OptionalParts> {
-        reader.read_sequence(|seq| match self {
+        reader.read_sequence(|seq| self.read_parts(seq))
+    }
+}
+
+impl Optional {
+    // Reads the parts.
+    fn read_parts(self, seq: &mut BERReaderSeq) -> ASN1Result<OptionalParts> {
+        match self {
             Optional::Integer => {
                 let number = seq.read_optional(|reader| reader.read_i64())?;
-                let flag = seq.next().read_bool()?;
-                Ok(OptionalParts::Integer(number, flag))
+                Ok(OptionalParts::Integer(number, seq.next().read_bool()?))
             }
             Optional::Default => {
                 let number = seq.read_default(10, |reader| reader.read_i64())?;
-                let flag = seq.next().read_bool()?;
-                Ok(OptionalParts::Default(number, flag))
+                Ok(OptionalParts::Default(number, seq.next().read_bool()?))
             }
             Optional::Three => read_three(seq),
             Optional::Refused => {
                 let refused = seq.read_optional(|_| Err(ASN1Error::new(ASN1ErrorKind::Invalid)))?;
-                let number = seq.next().read_i64()?;
-                Ok(OptionalParts::Refused(refused, number))
+                Ok(OptionalParts::Refused(refused, seq.next().read_i64()?))
             }
-            Optional::Memory => {
-                let _ = seq.read_optional(|_| -> ASN1Result<i64> {
-                    Err(ASN1Error::new(ASN1ErrorKind::OutOfMemory))
-                });
-                Ok(OptionalParts::Memory(seq.next().read_i64()?))
-            }
-            Optional::Discarded => {
-                let flag = seq.read_optional(|reader| reader.read_bool())?;
-                let _ = seq.next().read_bytes();
-                let number = seq.next().read_i64()?;
-                Ok(OptionalParts::Discarded(flag, number))
-            }
-        })
+            Optional::Memory => read_behind_lack(seq),
+            Optional::Discarded => read_behind_refusal(seq),
+        }
     }
+}
+
+// Reads a number behind a part whose callback says that there is no memory.
+fn read_behind_lack(seq: &mut BERReaderSeq) -> ASN1Result<OptionalParts> {
+    let _ = seq.read_optional(|_| -> ASN1Result<i64> {
+        Err(ASN1Error::new(ASN1ErrorKind::OutOfMemory))
+    });
+    Ok(OptionalParts::Memory(seq.next().read_i64()?))
+}
+
+// Reads a number behind a part whose refusal is thrown away.
+fn read_behind_refusal(seq: &mut BERReaderSeq) -> ASN1Result<OptionalParts> {
+    let flag = seq.read_optional(|reader| reader.read_bool())?;
+    let _ = seq.next().read_bytes();
+    let number = seq.next().read_i64()?;
+    Ok(OptionalParts::Discarded(flag, number))
 }
 
 // Reads three parts, each of which may be absent.

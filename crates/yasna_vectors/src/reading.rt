@@ -30,30 +30,42 @@ pub fn answer<F: Family>(alloc: Global, case: &Case) -> Answer {
         Some(name) => Some(Primitive::named(name)?),
         None => None,
     };
-    let bytes = match case.bytes(alloc)? {
-        Ok(bytes) => bytes,
-        Err(lack) => return Some(Err(lack)),
+    let both = Both {
+        first: call,
+        second,
     };
-    let read = match mode {
-        BERMode::Ber => parse_ber(alloc, &bytes, |reader| call.read(reader)),
-        BERMode::Der => parse_der(alloc, &bytes, |reader| call.read(reader)),
-        BERMode::Cer => parse_cer(alloc, &bytes, |reader| call.read(reader)),
-    };
-    match read {
-        Ok(value) => Some(written(
-            alloc,
-            &value,
-            construct_in(alloc, mode, |writer| value.write(writer)),
-        )),
-        Err(error) if case.marked || second.is_some() => {
-            let both = Both {
-                first: call,
-                second,
-            };
-            marked(alloc, mode, both, &bytes, error.kind())
-        }
+    match case.bytes(alloc)? {
+        Ok(bytes) => answer_on(alloc, mode, both, case.marked || second.is_some(), &bytes),
+        Err(lack) => Some(Err(lack)),
+    }
+}
+
+// What it answers on these bytes, where it may be asked whether a refusal is kept.
+fn answer_on<F: Family>(
+    alloc: Global,
+    mode: BERMode,
+    both: Both<F>,
+    marks: bool,
+    bytes: &[u8],
+) -> Answer {
+    match parsed(alloc, mode, both.first, bytes) {
+        Ok(value) => Some(written(alloc, &value, form_of(alloc, mode, &value))),
+        Err(error) if marks => marked(alloc, mode, both, bytes, error.kind()),
         Err(error) => Some(refused(alloc, error.kind())),
     }
+}
+
+fn parsed<F: Family>(alloc: Global, mode: BERMode, call: F, bytes: &[u8]) -> ASN1Result<F::Value> {
+    match mode {
+        BERMode::Ber => parse_ber(alloc, bytes, |reader| call.read(reader)),
+        BERMode::Der => parse_der(alloc, bytes, |reader| call.read(reader)),
+        BERMode::Cer => parse_cer(alloc, bytes, |reader| call.read(reader)),
+    }
+}
+
+// What is written of a value.
+fn form_of<V: Value>(alloc: Global, mode: BERMode, value: &V) -> ASN1Result<Vec<u8>> {
+    construct_in(alloc, mode, |writer| value.write(writer))
 }
 
 // Two calls, one after the other; the same one twice where no second is named.

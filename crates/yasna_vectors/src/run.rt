@@ -86,10 +86,14 @@ fn check_line(alloc: Global, line: &str, text: &mut String) -> Result<Verdict, A
         return Ok(Verdict::NoLine);
     };
     let came = came?;
-    if is_answer(came.as_str(), parsed.wanted) {
+    compare(line, parsed.wanted, came.as_str(), text)
+}
+
+// Compares what came with what a line wants, and appends both where they differ.
+fn compare(line: &str, wanted: &str, came: &str, text: &mut String) -> Result<Verdict, AllocError> {
+    if is_answer(came, wanted) {
         return Ok(Verdict::Right);
     }
-    let came = came.as_str();
     writeln!(text, "{line}\n    came {came}")?;
     Ok(Verdict::Wrong)
 }
