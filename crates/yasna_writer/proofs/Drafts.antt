@@ -1,8 +1,8 @@
 -- Headers and contents joined, and elements that begin and end among them.
 use Rattle.std.proofs.Common.{◌≡◌, ℕ, ◌+◌, ◌-◌, ◌^◌, ◌<◌, ◌≤◌, List, [], ◌∷◌, ◌++◌, length, take, drop, refl, sym, subst, ap, ap₂, ◌∙◌, arith, append_assoc, length-append, length-take, length-drop}
-use Rattle.std.proofs.lemmas.List.{take-append-le, drop-append-le, take-take, drop-take, take-append-drop, set_at, length-set}
+use Rattle.std.proofs.lemmas.List.{take-append-le, drop-append-le, take-take, take-append-drop, set_at, length-set}
 use Rattle.std.proofs.Math.Seq.{take-append_seam, drop-append_seam}
-use Rattle.std.specs.Prelude.{slice_range, set}
+use Rattle.std.specs.Prelude.{set}
 use Rattle.smallvec.specs.SmallVec.{SmallVec, with_items}
 use Rattle.smallvec.proofs.SmallVecLemmas.{items-with_items}
 use Rattle.yasna_base.specs.declared.tag.Tag.{Tag}
@@ -19,7 +19,6 @@ use Rattle.yasna_writer.specs.declared.draft.Mark.{Mark}
 use Rattle.yasna_writer.specs.declared.draft.Mark.TheVariants.{Waits, Definite, Indefinite}
 use Rattle.yasna_writer.specs.declared.draft.Waiting.{Waiting}
 use Rattle.yasna_writer.specs.Header.{indefinite_header}
-use Rattle.yasna_writer.proofs.Appends.{appended_two}
 use Rattle.yasna_writer.specs.declared.draft.Entry.{Entry}
 use Rattle.yasna_writer.specs.Draft.{header_of_mark, mark_waits, with_entry, joined, AreInOrder, headers_length, waits_of, KnowsPlace, KnowPlaces, AreEntries, IsInnermost, with_element}
 
@@ -76,38 +75,6 @@ joined_front k (g ∷ hs) c o =
     let j = joined hs c in
     let le : g.place ≤ length j = omega (arith, joined_length hs c, order_within g.place hs (length c) o.1) in
     front_of_entry k g j o.0 le ∙ joined_front k hs c (order_from k g.place hs (length c) o.0 o.1)
-
-rest_of : (k p : ℕ) → k ≤ p → p ≡ k + (p - k)
-rest_of k p h = omega arith
-
--- from a place on, up to the first header, that header, and what is behind it
-pub joined_step :
-    (k : ℕ) (h : Entry) (hs : List Entry) (c : List ℕ) → AreInOrder k (h ∷ hs) (length c)
-    → drop k (joined (h ∷ hs) c) ≡ slice_range c k h.place ++ (header_of_mark h.mark ++ drop h.place (joined hs c))
-joined_step k h hs c o =
-    let j = joined hs c in
-    let p = h.place in
-    let within = order_within p hs (length c) o.1 in
-    let there : k ≤ length (take p j) = omega (arith, length-take p j, joined_length hs c) in
-    let front = ap (drop k) (joined_front p hs c o.1) ∙ ap (λ n. drop k (take n c)) (rest_of k p o.0) ∙ drop-take k (p - k) c in
-    drop-append-le k (take p j) (header_of_mark h.mark ++ drop p j) there ∙ ap (λ x. x ++ (header_of_mark h.mark ++ drop p j)) front
-
--- what the order says of the first header and of those behind it
-pub order_step :
-    (k n : ℕ) (rest : List Entry) (h : Entry) (hs : List Entry) → rest ≡ h ∷ hs → AreInOrder k rest n
-    → (k ≤ h.place) × (h.place ≤ n) × AreInOrder h.place hs n
-order_step k n rest h hs e o =
-    let r = subst (λ (xs : List Entry). AreInOrder k xs n) e o in
-    (r.0, order_within h.place hs n r.1, r.1)
-
--- a turn of the joining
-pub joined_turn :
-    (k : ℕ) (rest : List Entry) (h : Entry) (hs : List Entry) (c whole out one two : List ℕ) → rest ≡ h ∷ hs → AreInOrder k rest (length c)
-    → whole ≡ out ++ drop k (joined rest c) → one ≡ out ++ slice_range c k h.place → two ≡ one ++ header_of_mark h.mark
-    → whole ≡ two ++ drop h.place (joined hs c)
-joined_turn k rest h hs c whole out one two e o w p q =
-    let there = ap (λ r. drop k (joined r c)) e ∙ joined_step k h hs c (subst (λ (xs : List Entry). AreInOrder k xs (length c)) e o) in
-    w ∙ ap (λ x. out ++ x) there ∙ sym (appended_two out one two (slice_range c k h.place) (header_of_mark h.mark) (drop h.place (joined hs c)) p q)
 
 -- headers in front of a place, one at it, and those behind it are in order
 pub order_around :

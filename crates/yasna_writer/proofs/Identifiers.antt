@@ -1,5 +1,6 @@
 -- Digits in base 128, one step at a time.
-use Rattle.std.proofs.Common.{take, get_or, ◌≡◌, ℕ, zero, suc, ◌+◌, ◌/◌, ◌%◌, ◌^◌, ◌<◌, ◌≤◌, List, [], ◌∷◌, ◌++◌, length, map, refl, sym, ap, ◌∙◌, arith, length-append, mod-eq_of_lt}
+use Rattle.std.proofs.Common.{take, get_or, inl, inr, ◌≡◌, ℕ, zero, suc, ◌+◌, ◌/◌, ◌%◌, ◌^◌, ◌<◌, ◌≤◌, List, [], ◌∷◌, ◌++◌, length, map, refl, sym, ap, ◌∙◌, arith, length-append, mod-eq_of_lt}
+use Rattle.std.proofs.lemmas.Bool.{cases_lt}
 use Rattle.std.proofs.lemmas.List.{map-append}
 use Rattle.std.proofs.lemmas.Int.Digits.{digits_of_step}
 use Rattle.std.proofs.Math.Nat.{le-div_iff_mul-le}
@@ -75,6 +76,17 @@ pub base128_digits_step : (more : Bool) (k : ℕ) → 128 ≤ k → base128_digi
 unfolding base128_digits
 base128_digits_step true k h = ap (map (λ d. 128 + d)) (digits_step 128 k (omega arith) h) ∙ map-append (λ d. 128 + d) (digits 128 (k / 128)) (k % 128 ∷ [])
 base128_digits_step false k h = base128_step k h
+
+pub base128_digits_longer : (more : Bool) (k : ℕ) → 128 ≤ k → length (base128_digits more k) ≡ length (base128_digits true (k / 128)) + 1
+base128_digits_longer more k h =
+    omega (arith, ap length (base128_digits_step more k h), length-append (base128_digits true (k / 128)) (base128_byte more k ∷ []))
+
+-- one digit at least, and one more than the quotient has
+pub base128_digits_some : (more : Bool) (k : ℕ) → 1 ≤ length (base128_digits more k)
+base128_digits_some more k = elim (cases_lt k 128) [
+  | inl l ↦ omega (arith, ap length (base128_digits_small more k l))
+  | inr l ↦ omega (arith, base128_digits_longer more k l)
+]
 
 -- a number of two bytes
 pub base128_two : (k : ℕ) → 128 ≤ k → k < 16384 → base128 k ≡ (128 + k / 128) ∷ k % 128 ∷ []

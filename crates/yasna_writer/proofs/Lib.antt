@@ -4,9 +4,11 @@ pub mod BigEndian
 pub mod Drafts
 pub mod Fronts
 pub mod Identifiers
+pub mod Joins
 pub mod Integers
 pub mod Padding
 pub mod Primitives
+pub mod Puts
 pub mod RawElements
 pub mod SegmentSteps
 pub mod Sequences

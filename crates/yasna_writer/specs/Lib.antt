@@ -1,6 +1,7 @@
 pub mod View
 pub mod Front
 pub mod Identifier
+pub mod Put
 pub mod Header
 pub mod Integer
 pub mod Bmp

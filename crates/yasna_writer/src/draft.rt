@@ -19,6 +19,7 @@ ghost use Rattle.yasna_writer.specs.Draft.{header_of_mark, mark_waits, mark_of, 
 use crate::bmp::push_bmp;
 use crate::header::{Header, header_length, push_header, push_indefinite_header};
 use crate::identifier::{identifier_length, push_bytes};
+use crate::join::join;
 use crate::oid::push_subidentifiers;
 use smallvec::SmallVec;
 use std::alloc::{AllocError, Global};
@@ -48,8 +49,8 @@ pub(crate) enum Mark {
 // A place in the contents at which an element with parts begins.
 #[derive(Clone, Copy)]
 pub(crate) struct Entry {
-    place: usize,
-    mark: Mark,
+    pub(crate) place: usize,
+    pub(crate) mark: Mark,
 }
 
 // What stands where there is room for an entry.
@@ -110,45 +111,6 @@ fn innermost(entries: &[Entry], waits: usize, beginning: Beginning) -> Option<us
             Some(entry.place)
         }
         _ => None,
-    }
-}
-
-// Appends the contents with each header at its place.
-fn push_joined(out: &mut Vec<u8>, contents: &[u8], entries: &[Entry]) -> Result<(), AllocError>
-    requires { AreInOrder 0 entries.now (length contents.now) }
-    ensures { OnOk result (out.new.items ≡ out.old.items ++ joined entries.now contents.now) }
-{
-    let mut from = 0;
-    let mut rest = entries;
-    while let Some((entry, tail)) = rest.split_first() {
-        push_piece(out, &contents[from..entry.place])?;
-        push_header_of_mark(out, entry.mark)?;
-        from = entry.place;
-        rest = tail;
-    }
-    push_bytes(out, &contents[from..])
-}
-
-// Appends a piece of the contents. Where headers stand side by side it is empty.
-#[inline(always)]
-fn push_piece(out: &mut Vec<u8>, piece: &[u8]) -> Result<(), AllocError>
-    ensures { OnOk result (out.new.items ≡ out.old.items ++ piece.now) }
-{
-    if piece.is_empty() {
-        return Ok(());
-    }
-    push_bytes(out, piece)
-}
-
-// Appends a header that is known.
-#[inline(always)]
-fn push_header_of_mark(out: &mut Vec<u8>, mark: Mark) -> Result<(), AllocError>
-    ensures { OnOk result (out.new.items ≡ out.old.items ++ header_of_mark mark) }
-{
-    match mark {
-        Mark::Waits(_) => Ok(()),
-        Mark::Definite(header) => push_header(out, header, PCBit::Constructed),
-        Mark::Indefinite(tag) => push_indefinite_header(out, tag),
     }
 }
 
@@ -384,8 +346,7 @@ impl Draft {
         ensures { IfOk result (λ v. v.items ≡ self.old) }
     {
         if !self.entries.is_empty() {
-            let length = self.len();
-            let joined = join(alloc, &mut self.contents, &self.entries, length);
+            let joined = join(&mut self.contents, &self.entries, self.headers);
             self.entries.clear();
             self.headers = 0;
             self.waits = 0;
@@ -393,33 +354,6 @@ impl Draft {
         }
         Ok(mem::replace(&mut self.contents, Vec::new(alloc)))
     }
-}
-
-// Contents of so few bytes are joined by way of the stack, so that their own memory is enough where headers fit in it.
-const FEW: usize = 128;
-
-// Puts each header at its place in the contents, `length` bytes in all.
-fn join(
-    alloc: Global,
-    contents: &mut Vec<u8>,
-    entries: &[Entry],
-    length: usize,
-) -> Result<(), AllocError>
-    requires { AreInOrder 0 entries.now (count contents.old.items) }
-    ensures { OnOk result (contents.new.items ≡ joined entries.now contents.old.items) }
-{
-    if contents.len() <= FEW {
-        let few = contents.len();
-        let mut copy = [0; FEW];
-        copy[..few].copy_from_slice(contents);
-        contents.clear();
-        contents.reserve(length)?;
-        return push_joined(contents, &copy[..few], entries);
-    }
-    let mut out = Vec::with_capacity(alloc, length)?;
-    push_joined(&mut out, contents, entries)?;
-    *contents = out;
-    Ok(())
 }
 
 // Appends the header of an element whose contents follow.

@@ -2,9 +2,12 @@
 ghost use Rattle.std.specs.Prelude.{◌≡◌, ◌≤◌, ◌++◌, length as count, OnOk, vec_len};
 ghost use Rattle.yasna_base.specs.declared.tag.PCBit.TheVariants.{Constructed};
 ghost use Rattle.yasna_writer.specs.Header.{header_bytes, indefinite_header};
+ghost use Rattle.yasna_writer.specs.Put.{PutBefore};
 
-use crate::identifier::{identifier_length, leading, push_bytes, push_identifier};
-use crate::length::{length_length, push_length};
+use crate::identifier::{
+    identifier_length, leading, push_bytes, push_identifier, put_bytes, put_identifier,
+};
+use crate::length::{length_length, push_length, put_length};
 use std::alloc::AllocError;
 use yasna_base::{PCBit, Tag};
 
@@ -71,4 +74,44 @@ fn push_any_indefinite_header(out: &mut Vec<u8>, tag: Tag) -> Result<(), AllocEr
 {
     push_identifier(out, tag, PCBit::Constructed)?;
     push_bytes(out, &[128])
+}
+
+// Writes the header of an element with parts in front of a place, and answers where it begins.
+#[tactic(auto, using(yasna_base::proofs::Identifier::identifier_short, yasna_base::proofs::Length::short_length))]
+#[inline(always)]
+pub(crate) fn put_header(out: &mut [u8], end: usize, header: Header) -> usize
+    requires room { count (header_bytes Constructed header) ≤ end }
+    requires within { end ≤ count out.old }
+    ensures put { PutBefore (header_bytes Constructed header) end out.old out.new result }
+    ensures len { count out.new ≡ count out.old }
+{
+    let Header { tag, length } = header;
+    if tag.tag_number < 31 && length < 128 {
+        return put_bytes(out, end, &[leading(tag, PCBit::Constructed), length as u8]);
+    }
+    put_any_header(out, end, tag, length)
+}
+
+// The same with any header.
+#[inline(never)]
+fn put_any_header(out: &mut [u8], end: usize, tag: Tag, length: usize) -> usize
+    requires room { count (header_bytes Constructed (record { tag = tag; length = length })) ≤ end }
+    requires within { end ≤ count out.old }
+    ensures put { PutBefore (header_bytes Constructed (record { tag = tag; length = length })) end out.old out.new result }
+    ensures len { count out.new ≡ count out.old }
+{
+    let start = put_length(out, end, length);
+    put_identifier(out, start, tag, PCBit::Constructed)
+}
+
+// The same where the length is indefinite.
+#[inline(never)]
+pub(crate) fn put_indefinite_header(out: &mut [u8], end: usize, tag: Tag) -> usize
+    requires room { count (indefinite_header tag) ≤ end }
+    requires within { end ≤ count out.old }
+    ensures put { PutBefore (indefinite_header tag) end out.old out.new result }
+    ensures len { count out.new ≡ count out.old }
+{
+    let start = put_bytes(out, end, &[128]);
+    put_identifier(out, start, tag, PCBit::Constructed)
 }

@@ -4,6 +4,7 @@ ghost use Rattle.yasna_base.specs.Identifier.{identifier, class_number, bit_numb
 ghost use Rattle.yasna_base.specs.Digits.{base128};
 ghost use Rattle.yasna_base.specs.declared.tag.PCBit.TheVariants.{Constructed};
 ghost use Rattle.yasna_writer.specs.Identifier.{base128_digits, base128_byte};
+ghost use Rattle.yasna_writer.specs.Put.{PutBefore};
 
 use std::alloc::AllocError;
 use yasna_base::{PCBit, Tag, TagClass};
@@ -32,6 +33,19 @@ fn make_room(out: &mut Vec<u8>, more: usize) -> Result<(), AllocError>
         return out.reserve(24);
     }
     out.reserve(more)
+}
+
+// Writes bytes in front of a place, over those that stand there, and answers where the first of them stands.
+#[inline(always)]
+pub(crate) fn put_bytes(out: &mut [u8], end: usize, bytes: &[u8]) -> usize
+    requires room { length bytes.now ≤ end }
+    requires within { end ≤ length out.old }
+    ensures put { PutBefore bytes.now end out.old out.new result }
+    ensures len { length out.new ≡ length out.old }
+{
+    let start = end - bytes.len();
+    out[start..end].copy_from_slice(bytes);
+    start
 }
 
 // The class's place in the first byte.
@@ -97,6 +111,40 @@ pub(crate) fn push_base128(out: &mut Vec<u8>, number: u64, more: bool) -> Result
         return push_bytes(out, &[base128_byte(more, number)]);
     }
     push_bytes(out, &[base128_byte(more, number)])
+}
+
+// Writes a number in base 128 in front of a place, with 128 added to all its digits, or to all but the last.
+#[tactic(auto, using(crate::proofs::Identifiers::base128_digits_small))]
+fn put_base128(out: &mut [u8], end: usize, number: u64, more: bool) -> usize
+    requires room { length (base128_digits more number) ≤ end }
+    requires within { end ≤ length out.old }
+    ensures put { PutBefore (base128_digits more number) end out.old out.new result }
+    ensures len { length out.new ≡ length out.old }
+{
+    let last = put_bytes(out, end, &[base128_byte(more, number)]);
+    if number < 128 {
+        return last;
+    }
+    put_base128(out, last, number / 128, true)
+}
+
+// Writes the identifier of a tag in front of a place.
+#[tactic(auto, using(yasna_base::proofs::Identifier::identifier_short, yasna_base::proofs::Identifier::identifier_long), unfolding(crate::specs::Identifier::base128_digits))]
+pub(crate) fn put_identifier(out: &mut [u8], end: usize, tag: Tag, bit: PCBit) -> usize
+    requires room { length (identifier tag bit) ≤ end }
+    requires within { end ≤ length out.old }
+    ensures put { PutBefore (identifier tag bit) end out.old out.new result }
+    ensures len { length out.new ≡ length out.old }
+{
+    if tag.tag_number < 31 {
+        return put_bytes(out, end, &[leading(tag, bit)]);
+    }
+    let digits = put_base128(out, end, tag.tag_number, false);
+    put_bytes(
+        out,
+        digits,
+        &[class_bits(tag.tag_class) + constructed_bit(bit) + 31],
+    )
 }
 
 // Appends the identifier of a tag.

@@ -1,8 +1,9 @@
 //! Length octets, the fewest (X.690, 8.1.3 and 10.1), for `header`.
 ghost use Rattle.std.specs.Prelude.{◌≡◌, ◌≤◌, ◌++◌, length as count, OnOk, vec_len};
 ghost use Rattle.yasna_base.specs.Length.{shortest_length};
+ghost use Rattle.yasna_writer.specs.Put.{PutBefore};
 
-use crate::identifier::push_bytes;
+use crate::identifier::{push_bytes, put_bytes};
 use crate::integer::without;
 use std::alloc::AllocError;
 
@@ -19,6 +20,23 @@ pub(crate) fn push_length(out: &mut Vec<u8>, length: usize) -> Result<(), AllocE
     let digits = without(0, &bytes);
     push_bytes(out, &[128 + digits.len() as u8])?;
     push_bytes(out, digits)
+}
+
+// Writes a length in the fewest bytes in front of a place.
+#[tactic(auto, using(yasna_base::proofs::Length::short_length, crate::proofs::BigEndian::length_without, crate::proofs::BigEndian::without_at_most))]
+pub(crate) fn put_length(out: &mut [u8], end: usize, length: usize) -> usize
+    requires room { count (shortest_length length) ≤ end }
+    requires within { end ≤ count out.old }
+    ensures put { PutBefore (shortest_length length) end out.old out.new result }
+    ensures len { count out.new ≡ count out.old }
+{
+    if length < 128 {
+        return put_bytes(out, end, &[length as u8]);
+    }
+    let bytes = length.to_be_bytes();
+    let digits = without(0, &bytes);
+    let start = put_bytes(out, end, digits);
+    put_bytes(out, start, &[128 + digits.len() as u8])
 }
 
 // How many bytes a length takes.

@@ -21,7 +21,8 @@
 //! | `ordered_part` | the parts of a SET OF, in the order of their bytes |
 //! | `tagged_part` | the parts of a SET, in the order of their tags |
 //! | `tagged` | the writes of elements under tags of the caller's |
-//! | `draft` | contents, the headers that aren't among them yet, and how they are joined |
+//! | `draft` | contents, and the headers that aren't among them yet |
+//! | `join` | the joining |
 //! | `header` | the header of an element |
 //! | `identifier`, `length` | identifier and length octets |
 //! | `integer` | the fewest bytes of a number |
@@ -33,6 +34,7 @@ mod draft;
 mod header;
 mod identifier;
 mod integer;
+mod join;
 mod length;
 mod oid;
 mod ordered_part;

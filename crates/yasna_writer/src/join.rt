@@ -1,0 +1,105 @@
+//! Contents and headers joined where the contents stand, from the last header to the first, for `draft`.
+//!
+//! Room for all headers is made behind the contents. Then each piece of the contents moves up to its place, once, and the header in front
+//! of it is written there. So no second copy of the bytes is needed.
+ghost use Rattle.std.specs.Prelude.{◌≡◌, ◌≤◌, ◌<◌, ◌+◌, ◌^◌, length as count, take, slice_range, OnOk};
+ghost use Rattle.yasna_writer.specs.Draft.{header_of_mark, headers_length, joined, AreInOrder};
+ghost use Rattle.yasna_writer.specs.Put.{PutBefore};
+
+use crate::draft::{Entry, Mark};
+use crate::header::{put_header, put_indefinite_header};
+use crate::identifier::put_bytes;
+use std::alloc::AllocError;
+
+// Puts each header at its place in the contents, where the headers take so many bytes.
+pub(crate) fn join(
+    contents: &mut Vec<u8>,
+    entries: &[Entry],
+    headers: usize,
+) -> Result<(), AllocError>
+    requires ordered { AreInOrder 0 entries.now (count contents.old.items) }
+    requires counted { headers ≡ headers_length entries.now }
+    requires few { headers < 2 ^ 63 }
+    ensures { OnOk result (contents.new.items ≡ joined entries.now contents.old.items) }
+{
+    let length = contents.len();
+    contents.resize(length + headers, 0)?;
+    place_headers(contents, entries, length);
+    Ok(())
+}
+
+// The same where there is room for all headers behind the contents, which are so long.
+fn place_headers(bytes: &mut [u8], entries: &[Entry], length: usize)
+    requires ordered { AreInOrder 0 entries.now length }
+    requires room { count bytes.old ≡ length + headers_length entries.now }
+    ensures { bytes.new ≡ joined entries.now (take length bytes.old) }
+{
+    let mut from = length;
+    let mut to = bytes.len();
+    let mut rest = entries;
+    while let Some((entry, front)) = rest.split_last() {
+        let piece = move_up(bytes, entry.place, from, to);
+        to = put_mark(bytes, piece, entry.mark);
+        from = entry.place;
+        rest = front;
+    }
+}
+
+// Writes a header that is known in front of a place.
+#[inline(always)]
+fn put_mark(out: &mut [u8], end: usize, mark: Mark) -> usize
+    requires room { count (header_of_mark mark) ≤ end }
+    requires within { end ≤ count out.old }
+    ensures put { PutBefore (header_of_mark mark) end out.old out.new result }
+    ensures len { count out.new ≡ count out.old }
+{
+    match mark {
+        Mark::Waits(_) => end,
+        Mark::Definite(header) => put_header(out, end, header),
+        Mark::Indefinite(tag) => put_indefinite_header(out, end, tag),
+    }
+}
+
+// Pieces up to so many bytes are moved byte by byte, longer ones by way of the stack, so many bytes at a time.
+const FEW: usize = 16;
+
+const MANY: usize = 256;
+
+// Moves the bytes between two places up, so that they end in front of `to`, and answers where the first of them stands.
+#[inline(always)]
+fn move_up(bytes: &mut [u8], start: usize, end: usize, to: usize) -> usize
+    requires piece { start ≤ end }
+    requires up { end ≤ to }
+    requires within { to ≤ count bytes.old }
+    ensures put { PutBefore (slice_range bytes.old start end) to bytes.old bytes.new result }
+    ensures len { count bytes.new ≡ count bytes.old }
+{
+    let length = end - start;
+    if length > FEW {
+        return move_many_up(bytes, start, end, to);
+    }
+    let place = to - length;
+    bytes.copy_within(start..end, place);
+    place
+}
+
+// The same where they are many.
+#[inline(never)]
+fn move_many_up(bytes: &mut [u8], start: usize, end: usize, to: usize) -> usize
+    requires piece { start ≤ end }
+    requires up { end ≤ to }
+    requires within { to ≤ count bytes.old }
+    ensures put { PutBefore (slice_range bytes.old start end) to bytes.old bytes.new result }
+    ensures len { count bytes.new ≡ count bytes.old }
+{
+    let mut copy = [0; MANY];
+    let mut from = end;
+    let mut place = to;
+    while start < from {
+        let length = (from - start).min(MANY);
+        copy[..length].copy_from_slice(&bytes[from - length..from]);
+        from -= length;
+        place = put_bytes(bytes, place, &copy[..length]);
+    }
+    place
+}
