@@ -5,7 +5,7 @@
 //! Where an element with parts begins, an entry with no bytes marks its place; where it ends, the entry takes its
 //! header. So contents are only appended to, no header is ever moved, and how deep elements nest costs nothing. In CER the header
 //! counts no length, and two zeros are appended first (X.690, 8.1.3.6 and 9.1).
-ghost use Rattle.std.specs.Prelude.{◌≡◌, ◌≤◌, ◌<◌, ◌+◌, ◌++◌, ◌⊎◌, [], length, length as count, vec_len, IfOk, OnOk, IfSome, MatchResult};
+ghost use Rattle.std.specs.Prelude.{◌≡◌, ◌≤◌, ◌<◌, ◌+◌, List, ◌∷◌, ◌++◌, ◌⊎◌, [], length, length as count, vec_len, IfOk, OnOk, IfSome, MatchResult};
 ghost use Rattle.yasna_base.specs.Error.{kind_of};
 ghost use Rattle.yasna_base.specs.declared.error.ASN1ErrorKind.TheVariants.{OutOfMemory, Invalid};
 ghost use Rattle.yasna_base.specs.declared.mode.BERMode.TheVariants.{Cer};
@@ -13,12 +13,16 @@ ghost use Rattle.yasna_base.specs.Digits.{base128};
 ghost use Rattle.std.specs.List.{flat_map};
 ghost use Rattle.std.specs.Str.{chars};
 ghost use Rattle.yasna_base.specs.Text.{bmp_octets};
-ghost use Rattle.yasna_writer.specs.Header.{header_bytes, indefinite_header};
-ghost use Rattle.yasna_writer.specs.Draft.{header_of_mark, mark_waits, mark_of, with_entry, joined, AreInOrder, IsInnermost, with_element};
+ghost use Rattle.yasna_writer.specs.Header.{header_bytes, indefinite_header, parts_header};
+ghost use Rattle.yasna_writer.specs.declared.header.PartsHeader.{PartsHeader};
+ghost use Rattle.yasna_writer.specs.Draft.{IsInnermost, MarksHeader, with_header, with_element};
+ghost use Rattle.yasna_writer.specs.declared.draft.Mark.TheVariants.{Waits};
 
 use crate::bmp::push_bmp;
-use crate::header::{Header, header_length, push_header, push_indefinite_header};
-use crate::identifier::{identifier_length, push_bytes};
+use crate::header::{
+    Header, PartsHeader, header_length, parts_header_length, push_header, push_indefinite_header,
+};
+use crate::identifier::push_bytes;
 use crate::join::join;
 use crate::oid::push_subidentifiers;
 use smallvec::SmallVec;
@@ -26,24 +30,31 @@ use std::alloc::{AllocError, Global};
 use std::default::MadeWith;
 use std::marker::Model;
 use std::mem;
-use yasna_base::{ASN1Error, ASN1ErrorKind, ASN1Result, BERMode, PCBit, Tag};
+use yasna_base::{ASN1Error, ASN1ErrorKind, ASN1Result, BERMode, PCBit, Tag, TagClass};
 
-// What an element that isn't ended knows of its place.
-#[derive(Clone, Copy)]
-pub(crate) struct Waiting {
-    // How many bytes stand in front of it, those of headers too.
-    start: usize,
-    // How many elements aren't ended, it and those around it.
-    depth: usize,
-}
-
-// An element with parts that isn't ended, or the header of one that is.
+// What an entry knows of its element. It takes eight bytes.
 #[derive(Clone, Copy)]
 pub(crate) enum Mark {
-    Waits(Waiting),
-    Definite(Header),
-    // The header is that of indefinite length.
-    Indefinite(Tag),
+    // The element isn't ended.
+    Waits {
+        // How many elements aren't ended, it and those around it.
+        depth: u16,
+        // How many bytes the headers in front of it take.
+        headers: u32,
+    },
+    // Its header.
+    Definite {
+        class: TagClass,
+        number: u16,
+        length: u32,
+    },
+    // The length is indefinite.
+    Indefinite {
+        class: TagClass,
+        number: u16,
+    },
+    // The number of the tag or the length is too large for an entry. The header stands in a list, at this place.
+    Elsewhere(u32),
 }
 
 // A place in the contents at which an element with parts begins.
@@ -56,7 +67,10 @@ pub(crate) struct Entry {
 // What stands where there is room for an entry.
 impl MadeWith<Global> for Entry {
     fn made_with(_alloc: Global) -> Entry {
-        let mark = Mark::Waits(Waiting { start: 0, depth: 0 });
+        let mark = Mark::Waits {
+            depth: 0,
+            headers: 0,
+        };
         Entry { place: 0, mark }
     }
 }
@@ -82,8 +96,10 @@ pub(crate) struct Draft {
     headers: usize,
     // Where headers belong, by their places.
     entries: SmallVec<Entry, 4, Global>,
-    // How many elements aren't ended.
-    waits: usize,
+    // How many elements with an entry aren't ended.
+    waits: u16,
+    // The headers that are too large for an entry.
+    large: Vec<PartsHeader>,
 }
 
 impl Model for Draft {
@@ -92,14 +108,14 @@ impl Model for Draft {
 
     ghost Value = { List ℕ };
 
-    ghost view = { λ d. joined d.entries.items d.contents.items };
+    ghost view = { λ d. joined d.large.items d.entries.items d.contents.items };
 
-    ghost invariant = { λ d. AreEntries d.entries.items (length d.contents.items) d.headers d.waits };
+    ghost invariant = { λ d. AreEntries d.large.items d.entries.items (length d.contents.items) d.headers d.waits };
 }
 
-// Whether the element that began there is the innermost that isn't ended, and at which place.
+// At which place the element waits that began there, if it is the innermost that isn't ended.
 #[inline(always)]
-fn innermost(entries: &[Entry], waits: usize, beginning: Beginning) -> Option<usize>
+fn innermost(entries: &[Entry], waits: u16, beginning: Beginning) -> Option<usize>
     ensures { IfSome result (λ place. IsInnermost entries.now waits beginning place) }
 {
     if beginning.entry >= entries.len() {
@@ -107,35 +123,70 @@ fn innermost(entries: &[Entry], waits: usize, beginning: Beginning) -> Option<us
     }
     let entry = entries[beginning.entry];
     match entry.mark {
-        Mark::Waits(waiting) if waiting.depth == waits && waiting.start == beginning.start => {
-            Some(entry.place)
-        }
+        Mark::Waits { depth, headers }
+            if depth == waits
+                && entry.place <= beginning.start
+                && headers as usize == beginning.start - entry.place => { Some(entry.place) }
         _ => None,
     }
 }
 
-// The mark of an element with parts that is ended: its header, of this length or of indefinite length.
+// The mark of an element that begins, with so many that aren't ended around it, and so many bytes of headers in front of it.
 #[inline(always)]
-fn mark_of(tag: Tag, length: Option<usize>) -> Mark
-    ensures mark { result ≡ mark_of tag length }
-    ensures ended { mark_waits result ≡ 0 }
+fn waiting_mark(waits: u16, headers: usize) -> Option<Mark>
+    ensures { IfSome result (λ m. (waits + 1 < 65536) × (m ≡ Waits (waits + 1) headers)) }
 {
-    match length {
-        Some(length) => Mark::Definite(Header { tag, length }),
-        None => Mark::Indefinite(tag),
+    let depth = waits.checked_add(1)?;
+    let headers = u32::try_from(headers).ok()?;
+    Some(Mark::Waits { depth, headers })
+}
+
+// The mark of a header whose numbers are small enough for an entry.
+#[inline(always)]
+fn small_mark(header: PartsHeader) -> Option<Mark>
+    ensures { IfSome result (λ m. (ls : List PartsHeader) → MarksHeader header ls m) }
+{
+    match header {
+        PartsHeader::Counted(Header { tag, length }) => {
+            let number = u16::try_from(tag.tag_number).ok()?;
+            let length = u32::try_from(length).ok()?;
+            let class = tag.tag_class;
+            Some(Mark::Definite {
+                class,
+                number,
+                length,
+            })
+        }
+        PartsHeader::Endless(tag) => {
+            let number = u16::try_from(tag.tag_number).ok()?;
+            let class = tag.tag_class;
+            Some(Mark::Indefinite { class, number })
+        }
     }
 }
 
-// How many bytes a header takes.
+// The mark of a header, which is listed if it is too large for an entry.
 #[inline(always)]
-fn mark_length(mark: Mark) -> usize
-    ensures octets { result ≡ count (header_of_mark mark) }
-    ensures few { result ≤ 20 }
+fn mark_of(large: &mut Vec<PartsHeader>, header: PartsHeader) -> Result<Mark, AllocError>
+    ensures { MatchResult result (λ m. (more : List PartsHeader) × (large.new.items ≡ large.old.items ++ more) × MarksHeader header large.new.items m) (λ _. large.new.items ≡ large.old.items) }
 {
-    match mark {
-        Mark::Waits(_) => 0,
-        Mark::Definite(header) => header_length(header.tag, header.length),
-        Mark::Indefinite(tag) => identifier_length(tag) + 1,
+    match small_mark(header) {
+        Some(mark) => Ok(mark),
+        None => list_header(large, header),
+    }
+}
+
+// Lists a header.
+#[cold]
+fn list_header(large: &mut Vec<PartsHeader>, header: PartsHeader) -> Result<Mark, AllocError>
+    ensures { MatchResult result (λ m. (large.new.items ≡ large.old.items ++ (header ∷ [])) × MarksHeader header large.new.items m) (λ _. large.new.items ≡ large.old.items) }
+{
+    let Ok(index) = u32::try_from(large.len()) else {
+        return Err(AllocError);
+    };
+    match large.push(header) {
+        Ok(()) => Ok(Mark::Elsewhere(index)),
+        Err(_) => Err(AllocError),
     }
 }
 
@@ -147,9 +198,10 @@ impl Draft {
     {
         Draft {
             contents: Vec::new(alloc),
-            entries: SmallVec::new(alloc),
             headers: 0,
+            entries: SmallVec::new(alloc),
             waits: 0,
+            large: Vec::new(alloc),
         }
     }
 
@@ -211,7 +263,8 @@ impl Draft {
         push_bmp(&mut self.contents, string)
     }
 
-    // Marks where an element with parts begins. Where there is no memory for the mark, or no number for its depth, its end does without.
+    // Marks where an element with parts begins. Where there is no memory for the mark, or it can't hold its numbers, its end
+    // does without.
     #[inline(always)]
     pub(crate) fn mark_beginning(&mut self, tag: Tag, mode: BERMode) -> Beginning
         ensures same { self.new ≡ self.old }
@@ -227,15 +280,11 @@ impl Draft {
             tag,
             mode,
         };
-        let Some(depth) = self.waits.checked_add(1) else {
+        let Some(mark) = waiting_mark(self.waits, self.headers) else {
             return beginning;
         };
-        let entry = Entry {
-            place,
-            mark: Mark::Waits(Waiting { start, depth }),
-        };
-        if let Ok(()) = self.entries.push(entry) {
-            self.waits = depth;
+        if let Ok(()) = self.entries.push(Entry { place, mark }) {
+            self.waits += 1;
         }
         beginning
     }
@@ -253,7 +302,11 @@ impl Draft {
         if let BERMode::Cer = beginning.mode {
             return self.enclose_in_cer(alloc, beginning.entry, beginning.start, beginning.tag);
         }
-        self.place_header(alloc, beginning, Some(all - beginning.start))
+        let header = Header {
+            tag: beginning.tag,
+            length: all - beginning.start,
+        };
+        self.place_header(alloc, beginning, PartsHeader::Counted(header))
     }
 
     // The same in CER: two zeros end the contents, whose length isn't counted (X.690, 9.1).
@@ -276,30 +329,32 @@ impl Draft {
             mode,
         };
         match self.add(&[0, 0]) {
-            Ok(()) => self.place_header(alloc, beginning, None),
+            Ok(()) => self.place_header(alloc, beginning, PartsHeader::Endless(tag)),
             Err(_) => Err(ASN1Error::new(ASN1ErrorKind::OutOfMemory)),
         }
     }
 
-    // Puts a header where an element began, of this length or of indefinite length, or lacks memory.
+    // Puts a header where an element began, or lacks memory.
     #[inline(always)]
     fn place_header(
         &mut self,
         alloc: Global,
         beginning: Beginning,
-        length: Option<usize>,
+        header: PartsHeader,
     ) -> ASN1Result<()>
         requires { beginning.start ≤ count self.old }
-        ensures { MatchResult result (λ _. self.new ≡ with_entry (record { place = beginning.start; mark = mark_of beginning.tag length }) self.old) (λ e. kind_of e ≡ OutOfMemory) }
+        ensures { MatchResult result (λ _. self.new ≡ with_header beginning.start (parts_header header) self.old) (λ e. kind_of e ≡ OutOfMemory) }
     {
         let Some(place) = innermost(&self.entries, self.waits, beginning) else {
-            return self.place_header_apart(alloc, beginning.start, mark_of(beginning.tag, length));
+            return self.place_header_apart(alloc, beginning.start, header);
         };
-        let mark = mark_of(beginning.tag, length);
-        let headers = self.headers + mark_length(mark);
+        let headers = self.headers + parts_header_length(header);
         if headers > usize::MAX / 2 {
             return Err(ASN1Error::new(ASN1ErrorKind::OutOfMemory));
         }
+        let Ok(mark) = mark_of(&mut self.large, header) else {
+            return Err(ASN1Error::new(ASN1ErrorKind::OutOfMemory));
+        };
         self.entries[beginning.entry] = Entry { place, mark };
         self.headers = headers;
         self.waits -= 1;
@@ -309,12 +364,16 @@ impl Draft {
     // The same where the element has no entry, or others that aren't ended stand behind it: all is joined, so that the
     // element's start is a place in the contents.
     #[cold]
-    fn place_header_apart(&mut self, alloc: Global, place: usize, mark: Mark) -> ASN1Result<()>
-        requires reached { place ≤ length self.old }
-        requires header { mark_waits mark ≡ 0 }
-        ensures { MatchResult result (λ _. self.new ≡ with_entry (record { place = place; mark = mark }) self.old) (λ e. kind_of e ≡ OutOfMemory) }
+    fn place_header_apart(
+        &mut self,
+        alloc: Global,
+        start: usize,
+        header: PartsHeader,
+    ) -> ASN1Result<()>
+        requires { start ≤ length self.old }
+        ensures { MatchResult result (λ _. self.new ≡ with_header start (parts_header header) self.old) (λ e. kind_of e ≡ OutOfMemory) }
     {
-        match self.joined_with(alloc, place, mark) {
+        match self.joined_with(alloc, start, header) {
             Ok(draft) => {
                 *self = draft;
                 Ok(())
@@ -324,19 +383,26 @@ impl Draft {
     }
 
     // The bytes with a header at a place.
-    fn joined_with(&mut self, alloc: Global, place: usize, mark: Mark) -> Result<Draft, AllocError>
-        requires reached { place ≤ length self.old }
-        requires header { mark_waits mark ≡ 0 }
-        ensures { IfOk result (λ draft. draft ≡ with_entry (record { place = place; mark = mark }) self.old) }
+    fn joined_with(
+        &mut self,
+        alloc: Global,
+        place: usize,
+        header: PartsHeader,
+    ) -> Result<Draft, AllocError>
+        requires { place ≤ length self.old }
+        ensures { IfOk result (λ draft. draft ≡ with_header place (parts_header header) self.old) }
     {
         let contents = self.take_joined(alloc)?;
+        let mut large = Vec::new(alloc);
+        let mark = mark_of(&mut large, header)?;
         let mut entries = SmallVec::new(alloc);
         entries.push(Entry { place, mark })?;
         Ok(Draft {
             contents,
+            headers: parts_header_length(header),
             entries,
-            headers: mark_length(mark),
             waits: 0,
+            large,
         })
     }
 
@@ -346,8 +412,9 @@ impl Draft {
         ensures { IfOk result (λ v. v.items ≡ self.old) }
     {
         if !self.entries.is_empty() {
-            let joined = join(&mut self.contents, &self.entries, self.headers);
+            let joined = join(&mut self.contents, &self.entries, &self.large, self.headers);
             self.entries.clear();
+            self.large.clear();
             self.headers = 0;
             self.waits = 0;
             joined?;

@@ -1,7 +1,7 @@
 //! The header of an element: identifier and length octets (X.690, 8.1.2 and 8.1.3). `draft` calls it.
 ghost use Rattle.std.specs.Prelude.{◌≡◌, ◌≤◌, ◌++◌, length as count, OnOk, vec_len};
 ghost use Rattle.yasna_base.specs.declared.tag.PCBit.TheVariants.{Constructed};
-ghost use Rattle.yasna_writer.specs.Header.{header_bytes, indefinite_header};
+ghost use Rattle.yasna_writer.specs.Header.{header_bytes, indefinite_header, parts_header};
 ghost use Rattle.yasna_writer.specs.Put.{PutBefore};
 
 use crate::identifier::{
@@ -18,6 +18,15 @@ pub(crate) struct Header {
     pub(crate) tag: Tag,
     // How long the element's contents are, with the headers of its parts.
     pub(crate) length: usize,
+}
+
+// The header of an element with parts that is ended.
+#[derive(Clone, Copy)]
+pub(crate) enum PartsHeader {
+    // Its length is counted.
+    Counted(Header),
+    // Its length is indefinite.
+    Endless(Tag),
 }
 
 // Appends a header. Where the tag's number is below 31 and the contents are short, that is two bytes.
@@ -76,7 +85,33 @@ fn push_any_indefinite_header(out: &mut Vec<u8>, tag: Tag) -> Result<(), AllocEr
     push_bytes(out, &[128])
 }
 
+// How many bytes the header of an element with parts takes.
+#[inline(always)]
+pub(crate) fn parts_header_length(header: PartsHeader) -> usize
+    ensures octets { result ≡ count (parts_header header) }
+    ensures few { result ≤ 20 }
+{
+    match header {
+        PartsHeader::Counted(header) => header_length(header.tag, header.length),
+        PartsHeader::Endless(tag) => identifier_length(tag) + 1,
+    }
+}
+
 // Writes the header of an element with parts in front of a place, and answers where it begins.
+#[inline(always)]
+pub(crate) fn put_parts_header(out: &mut [u8], end: usize, header: PartsHeader) -> usize
+    requires room { count (parts_header header) ≤ end }
+    requires within { end ≤ count out.old }
+    ensures put { PutBefore (parts_header header) end out.old out.new result }
+    ensures len { count out.new ≡ count out.old }
+{
+    match header {
+        PartsHeader::Counted(header) => put_header(out, end, header),
+        PartsHeader::Endless(tag) => put_indefinite_header(out, end, tag),
+    }
+}
+
+// The same of one whose length is counted.
 #[tactic(auto, using(yasna_base::proofs::Identifier::identifier_short, yasna_base::proofs::Length::short_length))]
 #[inline(always)]
 pub(crate) fn put_header(out: &mut [u8], end: usize, header: Header) -> usize

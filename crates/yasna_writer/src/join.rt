@@ -2,61 +2,96 @@
 //!
 //! Room for all headers is made behind the contents. Then each piece of the contents moves up to its place, once, and the header in front
 //! of it is written there. So no second copy of the bytes is needed.
-ghost use Rattle.std.specs.Prelude.{◌≡◌, ◌≤◌, ◌<◌, ◌+◌, ◌^◌, length as count, take, slice_range, OnOk};
-ghost use Rattle.yasna_writer.specs.Draft.{header_of_mark, headers_length, joined, AreInOrder};
+ghost use Rattle.std.specs.Prelude.{◌≡◌, ◌≤◌, ◌<◌, ◌+◌, ◌^◌, length as count, take, slice_range, slice_get, OnOk};
+ghost use Rattle.yasna_writer.specs.Draft.{listed_header, header_of_mark, headers_length, joined, AreInOrder};
 ghost use Rattle.yasna_writer.specs.Put.{PutBefore};
 
 use crate::draft::{Entry, Mark};
-use crate::header::{put_header, put_indefinite_header};
+use crate::header::{Header, PartsHeader, put_header, put_indefinite_header, put_parts_header};
 use crate::identifier::put_bytes;
 use std::alloc::AllocError;
+use yasna_base::Tag;
 
-// Puts each header at its place in the contents, where the headers take so many bytes.
+// Puts each header at its place in the contents, where the headers take so many bytes, and those that are too large for an entry stand
+// in a list.
 pub(crate) fn join(
     contents: &mut Vec<u8>,
     entries: &[Entry],
+    large: &[PartsHeader],
     headers: usize,
 ) -> Result<(), AllocError>
     requires ordered { AreInOrder 0 entries.now (count contents.old.items) }
-    requires counted { headers ≡ headers_length entries.now }
+    requires counted { headers ≡ headers_length large.now entries.now }
     requires few { headers < 2 ^ 63 }
-    ensures { OnOk result (contents.new.items ≡ joined entries.now contents.old.items) }
+    ensures { OnOk result (contents.new.items ≡ joined large.now entries.now contents.old.items) }
 {
     let length = contents.len();
     contents.resize(length + headers, 0)?;
-    place_headers(contents, entries, length);
+    place_headers(contents, entries, large, length);
     Ok(())
 }
 
 // The same where there is room for all headers behind the contents, which are so long.
-fn place_headers(bytes: &mut [u8], entries: &[Entry], length: usize)
+fn place_headers(bytes: &mut [u8], entries: &[Entry], large: &[PartsHeader], length: usize)
     requires ordered { AreInOrder 0 entries.now length }
-    requires room { count bytes.old ≡ length + headers_length entries.now }
-    ensures { bytes.new ≡ joined entries.now (take length bytes.old) }
+    requires room { count bytes.old ≡ length + headers_length large.now entries.now }
+    ensures { bytes.new ≡ joined large.now entries.now (take length bytes.old) }
 {
     let mut from = length;
     let mut to = bytes.len();
     let mut rest = entries;
     while let Some((entry, front)) = rest.split_last() {
         let piece = move_up(bytes, entry.place, from, to);
-        to = put_mark(bytes, piece, entry.mark);
+        to = put_mark(bytes, piece, entry.mark, large);
         from = entry.place;
         rest = front;
     }
 }
 
-// Writes a header that is known in front of a place.
+// Writes the header of a mark in front of a place.
 #[inline(always)]
-fn put_mark(out: &mut [u8], end: usize, mark: Mark) -> usize
-    requires room { count (header_of_mark mark) ≤ end }
+fn put_mark(out: &mut [u8], end: usize, mark: Mark, large: &[PartsHeader]) -> usize
+    requires room { count (header_of_mark large.now mark) ≤ end }
     requires within { end ≤ count out.old }
-    ensures put { PutBefore (header_of_mark mark) end out.old out.new result }
+    ensures put { PutBefore (header_of_mark large.now mark) end out.old out.new result }
     ensures len { count out.new ≡ count out.old }
 {
     match mark {
-        Mark::Waits(_) => end,
-        Mark::Definite(header) => put_header(out, end, header),
-        Mark::Indefinite(tag) => put_indefinite_header(out, end, tag),
+        Mark::Waits { .. } => end,
+        Mark::Definite {
+            class,
+            number,
+            length,
+        } => {
+            let tag = Tag {
+                tag_class: class,
+                tag_number: number as u64,
+            };
+            let length = length as usize;
+            put_header(out, end, Header { tag, length })
+        }
+        Mark::Indefinite { class, number } => {
+            let tag = Tag {
+                tag_class: class,
+                tag_number: number as u64,
+            };
+            put_indefinite_header(out, end, tag)
+        }
+        Mark::Elsewhere(index) => put_listed(out, end, large, index as usize),
+    }
+}
+
+// Writes a header that stands in a list in front of a place.
+#[cold]
+fn put_listed(out: &mut [u8], end: usize, large: &[PartsHeader], index: usize) -> usize
+    requires room { count (listed_header (slice_get large.now index)) ≤ end }
+    requires within { end ≤ count out.old }
+    ensures put { PutBefore (listed_header (slice_get large.now index)) end out.old out.new result }
+    ensures len { count out.new ≡ count out.old }
+{
+    match large.get(index) {
+        Some(header) => put_parts_header(out, end, *header),
+        None => end,
     }
 }
 

@@ -1,7 +1,7 @@
 use Rattle.std.proofs.Common.{ap, ◌∙◌}
 use Rattle.std.proofs.lemmas.Result.{MatchResult-weaker}
-use Rattle.yasna_writer.specs.declared.draft.Mark.TheVariants.{Indefinite}
-use Rattle.yasna_writer.specs.Draft.{with_entry}
+use Rattle.yasna_writer.specs.Header.{indefinite_header}
+use Rattle.yasna_writer.specs.Draft.{with_header}
 use Rattle.yasna_writer.proofs.Drafts.{indefinite_apart}
 use Rattle.yasna_writer.proofs.draft.Draft.enclose_in_cer.Goals as goal
 
@@ -10,5 +10,5 @@ returns-in-Ok c =
     let t = c.args.tag in
     let n = c.args.start in
     MatchResult-weaker c.place_header.result c.place_header.ensures
-    (λ _ e. e ∙ ap (with_entry (record { place = n; mark = Indefinite t })) (c.in-Ok.ensures {u = tt}) ∙ indefinite_apart t n c.args.self.now c.requires)
+    (λ _ e. e ∙ ap (with_header n (indefinite_header t)) (c.in-Ok.ensures {u = tt}) ∙ indefinite_apart t n c.args.self.now c.requires)
     (λ k f. f)

@@ -4,10 +4,10 @@ use Rattle.yasna_writer.proofs.draft.Draft.len.Goals as goal
 
 pub returns : goal.returns
 returns c =
+    let d = c.self.inside in
     omega (
       arith,
       c.len.ensures,
       ap length c.self.view_is,
-      entries_length c.self.inside.entries.items c.self.inside.contents.items c.self.inside.headers
-          c.self.inside.waits c.self.invariant,
+      entries_length d.large.items d.entries.items d.contents.items d.headers d.waits c.self.invariant,
     )
