@@ -86,26 +86,21 @@ fn broken_parameters(rt: HostRuntime) -> Result<(), Fail> {
     Ok(())
 }
 
-// A key is read from its form, and written in it.
-fn is_form_of_key(
-    rt: &impl Abort,
-    alloc: Global,
-    form: &[u8],
-    bits: usize,
-) -> Result<SubjectPublicKeyInfo, Fail> {
+// A key is read from its form, and written in it. Answers whether its algorithm has parameters.
+fn is_form_of_key(rt: &impl Abort, alloc: Global, form: &[u8], bits: usize) -> Result<bool, Fail> {
     let key: SubjectPublicKeyInfo = decode_der(alloc, form)?;
     assert_eq!(rt; key.bits, bits);
     gives(rt, encoded_key(alloc, &key), form)?;
-    Ok(key)
+    Ok(key.algorithm.parameters.is_some())
 }
 
 #[test]
 fn keys(rt: HostRuntime) -> Result<(), Fail> {
     let alloc = rt.alloc();
     let ed25519 = is_form_of_key(&rt, alloc, &ED25519, 256)?;
-    assert!(rt; ed25519.algorithm.parameters.is_none());
+    assert!(rt; !ed25519);
     let rsa = is_form_of_key(&rt, alloc, &RSA, 64)?;
-    assert!(rt; rsa.algorithm.parameters.is_some());
+    assert!(rt; rsa);
     Ok(())
 }
 

@@ -23,3 +23,13 @@ pub fn refuses<T: Drop>(rt: &impl Abort, answer: ASN1Result<T>, kind: ASN1ErrorK
         Err(error) => assert_eq!(rt; error.kind(), kind),
     }
 }
+
+/// The text is this one.
+pub fn is_text(rt: &impl Abort, found: &str, text: &str) {
+    assert_eq!(rt; found, text);
+}
+
+/// The items are these.
+pub fn are_items<T: PartialEq + Debug>(rt: &impl Abort, found: &[T], items: &[T]) {
+    assert_eq!(rt; found, items);
+}

@@ -1,7 +1,7 @@
 //! Lists, tuples, raw elements and borrowed values, each impl once at types of its own.
 
 use crate::checks::{gives, refuses};
-use std::alloc::Global;
+use std::alloc::{AllocError, Global};
 use std::process::Abort;
 use std::test::Fail;
 use yasna::models::TaggedDerValue;
@@ -10,72 +10,134 @@ use yasna::{
 };
 use yasna_examples::normalized;
 
-// A SEQUENCE of so many INTEGERs, 0, 1 and so on, is a value of this type, and its form.
-fn is_form_of<T: DERCanonical>(rt: &impl Abort, alloc: Global, count: u8) -> Result<(), Fail> {
-    let mut bytes = Vec::from_slice(alloc, &[48, count.saturating_mul(3)])?;
-    for number in 0..count {
-        bytes.extend_from_slice(&[2, 1, number])?;
+// The INTEGERs of a SEQUENCE.
+#[derive(Clone, Copy)]
+enum Numbers {
+    /// 0, 1 and so on.
+    Rising,
+    /// 10 each.
+    Tens,
+}
+
+fn number_at(numbers: Numbers, place: u8) -> u8 {
+    match numbers {
+        Numbers::Rising => place,
+        Numbers::Tens => 10,
     }
-    gives(rt, normalized::<T>(alloc, &bytes), &bytes)?;
-    let other = count.saturating_add(1);
-    bytes.extend_from_slice(&[2, 1, other])?;
-    let refused: ASN1Result<T> = decode_ber(alloc, &bytes);
-    refuses(rt, refused, ASN1ErrorKind::Extra);
+}
+
+// A SEQUENCE of so many INTEGERs.
+fn sequence(alloc: Global, numbers: Numbers, count: u8) -> Result<Vec<u8>, AllocError> {
+    let mut bytes = Vec::from_slice(alloc, &[48, count.saturating_mul(3)])?;
+    for place in 0..count {
+        bytes.extend_from_slice(&[2, 1, number_at(numbers, place)])?;
+    }
+    Ok(bytes)
+}
+
+// The bytes are a value of this type in BER and DER, and its form.
+fn is_form<T: DERCanonical>(rt: &impl Abort, alloc: Global, bytes: &[u8]) -> Result<(), Fail> {
+    gives(rt, normalized::<T>(alloc, bytes), bytes)?;
+    assert!(rt; decode_der::<T>(alloc, bytes).is_ok());
     Ok(())
+}
+
+// A SEQUENCE of so many INTEGERs is a value of this type, and its form, and nothing may follow it.
+fn is_form_of<T: DERCanonical>(
+    rt: &impl Abort,
+    alloc: Global,
+    numbers: Numbers,
+    count: u8,
+) -> Result<(), Fail> {
+    let mut bytes = sequence(alloc, numbers, count)?;
+    is_form::<T>(rt, alloc, &bytes)?;
+    bytes.extend_from_slice(&[2, 1, count.saturating_add(1)])?;
+    refuses(rt, decode_ber::<T>(alloc, &bytes), ASN1ErrorKind::Extra);
+    Ok(())
+}
+
+fn two(rt: &impl Abort, alloc: Global, numbers: Numbers) -> Result<(), Fail> {
+    is_form_of::<(i64, i64)>(rt, alloc, numbers, 2)
+}
+
+fn four(rt: &impl Abort, alloc: Global, numbers: Numbers) -> Result<(), Fail> {
+    is_form_of::<(i64, i64, i64, i64)>(rt, alloc, numbers, 4)
+}
+
+fn six(rt: &impl Abort, alloc: Global, numbers: Numbers) -> Result<(), Fail> {
+    is_form_of::<(i64, i64, i64, i64, i64, i64)>(rt, alloc, numbers, 6)
+}
+
+fn eight(rt: &impl Abort, alloc: Global, numbers: Numbers) -> Result<(), Fail> {
+    is_form_of::<(i64, i64, i64, i64, i64, i64, i64, i64)>(rt, alloc, numbers, 8)
+}
+
+fn nine(rt: &impl Abort, alloc: Global, numbers: Numbers) -> Result<(), Fail> {
+    is_form_of::<(i64, i64, i64, i64, i64, i64, i64, i64, i64)>(rt, alloc, numbers, 9)
+}
+
+fn ten(rt: &impl Abort, alloc: Global, numbers: Numbers) -> Result<(), Fail> {
+    is_form_of::<(i64, i64, i64, i64, i64, i64, i64, i64, i64, i64)>(rt, alloc, numbers, 10)
+}
+
+fn eleven(rt: &impl Abort, alloc: Global, numbers: Numbers) -> Result<(), Fail> {
+    is_form_of::<(i64, i64, i64, i64, i64, i64, i64, i64, i64, i64, i64)>(rt, alloc, numbers, 11)
 }
 
 #[test]
 fn tuples_to_six(rt: HostRuntime) -> Result<(), Fail> {
     let alloc = rt.alloc();
-    is_form_of::<(i64,)>(&rt, alloc, 1)?;
-    is_form_of::<(i64, i64)>(&rt, alloc, 2)?;
-    is_form_of::<(i64, i64, u16)>(&rt, alloc, 3)?;
-    is_form_of::<(i64, i64, i64, i64)>(&rt, alloc, 4)?;
-    is_form_of::<(i64, i64, u64, i64, i64)>(&rt, alloc, 5)?;
-    is_form_of::<(i64, i64, i64, i64, i64, i64)>(&rt, alloc, 6)
+    is_form_of::<(i64,)>(&rt, alloc, Numbers::Rising, 1)?;
+    two(&rt, alloc, Numbers::Rising)?;
+    is_form_of::<(i64, i64, u16)>(&rt, alloc, Numbers::Rising, 3)?;
+    four(&rt, alloc, Numbers::Rising)?;
+    is_form_of::<(i64, i64, u64, i64, i64)>(&rt, alloc, Numbers::Rising, 5)?;
+    six(&rt, alloc, Numbers::Rising)
+}
+
+fn seven_with_a_short_one(rt: &impl Abort, alloc: Global) -> Result<(), Fail> {
+    is_form_of::<(i64, i64, i64, i64, i64, i64, i16)>(rt, alloc, Numbers::Rising, 7)
+}
+
+fn twelve_with_a_short_one(rt: &impl Abort, alloc: Global) -> Result<(), Fail> {
+    is_form_of::<(i64, i64, i64, i64, i64, i64, i64, i64, i64, i64, i64, i32)>(
+        rt,
+        alloc,
+        Numbers::Rising,
+        12,
+    )
 }
 
 #[test]
 fn tuples_to_twelve(rt: HostRuntime) -> Result<(), Fail> {
     let alloc = rt.alloc();
-    is_form_of::<(i64, i64, i64, i64, i64, i64, i16)>(&rt, alloc, 7)?;
-    is_form_of::<(i64, i64, i64, i64, i64, i64, i64, i64)>(&rt, alloc, 8)?;
-    is_form_of::<(i64, i64, i64, i64, i64, i64, i64, i64, i64)>(&rt, alloc, 9)?;
-    is_form_of::<(i64, i64, i64, i64, i64, i64, i64, i64, i64, i64)>(&rt, alloc, 10)?;
-    is_form_of::<(i64, i64, i64, i64, i64, i64, i64, i64, i64, i64, i64)>(&rt, alloc, 11)?;
-    is_form_of::<(i64, i64, i64, i64, i64, i64, i64, i64, i64, i64, i64, i32)>(&rt, alloc, 12)
-}
-
-// A SEQUENCE of so many INTEGERs 10 is a value of this type in BER and DER, and its form.
-fn holds_tens<T: DERCanonical>(rt: &impl Abort, alloc: Global, count: u8) -> Result<(), Fail> {
-    let mut bytes = Vec::from_slice(alloc, &[48, count.saturating_mul(3)])?;
-    for _ in 0..count {
-        bytes.extend_from_slice(&[2, 1, 10])?;
-    }
-    gives(rt, normalized::<T>(alloc, &bytes), &bytes)?;
-    assert!(rt; decode_der::<T>(alloc, &bytes).is_ok());
-    Ok(())
+    seven_with_a_short_one(&rt, alloc)?;
+    eight(&rt, alloc, Numbers::Rising)?;
+    nine(&rt, alloc, Numbers::Rising)?;
+    ten(&rt, alloc, Numbers::Rising)?;
+    eleven(&rt, alloc, Numbers::Rising)?;
+    twelve_with_a_short_one(&rt, alloc)
 }
 
 #[test]
 fn tens(rt: HostRuntime) -> Result<(), Fail> {
     let alloc = rt.alloc();
-    holds_tens::<(i64, i64)>(&rt, alloc, 2)?;
-    holds_tens::<(i64, i64, i64, i64)>(&rt, alloc, 4)?;
-    holds_tens::<(i64, i64, i64, i64, i64)>(&rt, alloc, 5)?;
-    holds_tens::<(i64, i64, i64, i64, i64, i64)>(&rt, alloc, 6)?;
-    holds_tens::<(i64, i64, i64, i64, i64, i64, i64)>(&rt, alloc, 7)?;
-    holds_tens::<(i64, i64, i64, i64, i64, i64, i64, i64)>(&rt, alloc, 8)?;
-    holds_tens::<(i64, i64, i64, i64, i64, i64, i64, i64, i64)>(&rt, alloc, 9)?;
-    holds_tens::<(i64, i64, i64, i64, i64, i64, i64, i64, i64, i64)>(&rt, alloc, 10)?;
-    holds_tens::<(i64, i64, i64, i64, i64, i64, i64, i64, i64, i64, i64)>(&rt, alloc, 11)
+    two(&rt, alloc, Numbers::Tens)?;
+    four(&rt, alloc, Numbers::Tens)?;
+    is_form_of::<(i64, i64, i64, i64, i64)>(&rt, alloc, Numbers::Tens, 5)?;
+    six(&rt, alloc, Numbers::Tens)?;
+    is_form_of::<(i64, i64, i64, i64, i64, i64, i64)>(&rt, alloc, Numbers::Tens, 7)?;
+    eight(&rt, alloc, Numbers::Tens)?;
+    nine(&rt, alloc, Numbers::Tens)?;
+    ten(&rt, alloc, Numbers::Tens)?;
+    eleven(&rt, alloc, Numbers::Tens)
 }
 
 #[test]
 fn lists(rt: HostRuntime) -> Result<(), Fail> {
     let alloc = rt.alloc();
-    is_form_of::<Vec<i64>>(&rt, alloc, 0)?;
-    is_form_of::<Vec<u32>>(&rt, alloc, 5)?;
+    is_form_of::<Vec<i64>>(&rt, alloc, Numbers::Rising, 0)?;
+    is_form_of::<Vec<u32>>(&rt, alloc, Numbers::Rising, 5)?;
     gives(
         &rt,
         normalized::<Vec<(Vec<u8>, Vec<bool>)>>(

@@ -1,6 +1,6 @@
 //! The pieces of README.md and docs/GUIDE.md, each once on bytes.
 
-use crate::checks::{gives, refuses};
+use crate::checks::{are_items, gives, is_text, refuses};
 use std::alloc::Global;
 use std::process::Abort;
 use std::test::Fail;
@@ -24,24 +24,23 @@ use yasna_guide::optional::{read_person, write_person};
 use yasna_guide::own_errors::{StoreError, entries_to_der, entry_of_der};
 use yasna_guide::sequence::{Point, point_from_ber, point_from_der, point_to_der};
 use yasna_guide::set_of::{read_values, write_values, write_values_as_they_stand};
-use yasna_guide::sets::{read_setting, write_setting};
-use yasna_guide::signed::read_signed;
+use yasna_guide::sets::{Setting, read_setting, write_setting};
+use yasna_guide::signed::{Signed, read_signed};
 use yasna_guide::tagged::{read_encrypted, write_encrypted};
 use yasna_guide::times::{Time, read_time, time_of_text, write_time};
 use yasna_guide::whole::{read_table, write_flag};
 
+// A report is read from its form, and written in it.
+fn is_report(rt: &impl Abort, alloc: Global, form: &[u8]) -> Result<(), Fail> {
+    let report = decode_report(alloc, form)?;
+    assert_eq!(rt; report.readings.is_empty(), report.battery.is_some());
+    gives(rt, encode_report(alloc, &report), form)
+}
+
 #[test]
 fn reports(rt: HostRuntime) -> Result<(), Fail> {
-    let alloc = rt.alloc();
-    for form in [
-        [48, 6, 48, 4, 2, 2, 255, 127].as_slice(),
-        [48, 7, 48, 0, 160, 3, 2, 1, 90].as_slice(),
-    ] {
-        let report = decode_report(alloc, form)?;
-        assert_eq!(rt; report.readings.is_empty(), report.battery.is_some());
-        assert_eq!(rt; encode_report(alloc, &report)?.as_slice(), form);
-    }
-    Ok(())
+    is_report(&rt, rt.alloc(), &[48, 6, 48, 4, 2, 2, 255, 127])?;
+    is_report(&rt, rt.alloc(), &[48, 7, 48, 0, 160, 3, 2, 1, 90])
 }
 
 #[test]
@@ -162,63 +161,75 @@ fn other_choices(rt: HostRuntime) -> Result<(), Fail> {
     Ok(())
 }
 
+// Encrypted data is read from its form, and written in it.
+fn is_encrypted(rt: &impl Abort, alloc: Global, form: &[u8]) -> Result<(), Fail> {
+    let data = parse_der(alloc, form, |reader| read_encrypted(reader))?;
+    assert_eq!(rt; data.etype, 18);
+    are_items(rt, &data.cipher, &[7]);
+    let written = construct_der(alloc, |writer| write_encrypted(&data, writer));
+    gives(rt, written, form)
+}
+
 #[test]
 fn explicit_tags(rt: HostRuntime) -> Result<(), Fail> {
-    let alloc = rt.alloc();
-    for form in [
-        [48, 10, 160, 3, 2, 1, 18, 162, 3, 4, 1, 7].as_slice(),
-        [48, 15, 160, 3, 2, 1, 18, 161, 3, 2, 1, 5, 162, 3, 4, 1, 7].as_slice(),
-    ] {
-        let data = parse_der(alloc, form, |reader| read_encrypted(reader))?;
-        assert_eq!(rt; data.etype, 18);
-        assert_eq!(rt; data.cipher.as_slice(), [7].as_slice());
-        gives(
-            &rt,
-            construct_der(alloc, |writer| write_encrypted(&data, writer)),
-            form,
-        )?;
-    }
-    Ok(())
+    let form = [48, 10, 160, 3, 2, 1, 18, 162, 3, 4, 1, 7];
+    is_encrypted(&rt, rt.alloc(), &form)?;
+    let with_version = [48, 15, 160, 3, 2, 1, 18, 161, 3, 2, 1, 5, 162, 3, 4, 1, 7];
+    is_encrypted(&rt, rt.alloc(), &with_version)
+}
+
+// An accuracy is read from its form, and written in it.
+fn has_accuracy(
+    rt: &impl Abort,
+    alloc: Global,
+    form: &[u8],
+    seconds: Option<u64>,
+    micros: Option<u16>,
+) -> Result<(), Fail> {
+    let accuracy = parse_der(alloc, form, |reader| read_accuracy(reader))?;
+    assert_eq!(rt; accuracy.seconds, seconds);
+    assert_eq!(rt; accuracy.micros, micros);
+    let written = construct_der(alloc, |writer| write_accuracy(accuracy, writer));
+    gives(rt, written, form)
 }
 
 #[test]
 fn implicit_tags(rt: HostRuntime) -> Result<(), Fail> {
     let alloc = rt.alloc();
-    for (form, seconds, micros) in [
-        ([48, 3, 2, 1, 60].as_slice(), Some(60), None),
-        (
-            [48, 7, 128, 1, 1, 129, 2, 1, 244].as_slice(),
-            None,
-            Some(500),
-        ),
-    ] {
-        let accuracy = parse_der(alloc, form, |reader| read_accuracy(reader))?;
-        assert_eq!(rt; accuracy.seconds, seconds);
-        assert_eq!(rt; accuracy.micros, micros);
-        gives(
-            &rt,
-            construct_der(alloc, |writer| write_accuracy(accuracy, writer)),
-            form,
-        )?;
-    }
-    Ok(())
+    has_accuracy(&rt, alloc, &[48, 3, 2, 1, 60], Some(60), None)?;
+    let micros = [48, 7, 128, 1, 1, 129, 2, 1, 244];
+    has_accuracy(&rt, alloc, &micros, None, Some(500))
+}
+
+// Two names are read from their form, and written in it.
+fn are_names(rt: &impl Abort, alloc: Global, form: &[u8]) -> Result<(), Fail> {
+    let names = parse_der(alloc, form, |reader| read_names(reader))?;
+    assert_eq!(rt; names.len(), 2);
+    let written = construct_der(alloc, |writer| write_names(&names, writer));
+    gives(rt, written, form)
 }
 
 #[test]
 fn lists(rt: HostRuntime) -> Result<(), Fail> {
-    let alloc = rt.alloc();
-    let form = [48, 7, 12, 1, 97, 12, 2, 98, 99];
-    let names = parse_der(alloc, &form, |reader| read_names(reader))?;
-    assert_eq!(rt; names.len(), 2);
-    gives(
-        &rt,
-        construct_der(alloc, |writer| write_names(&names, writer)),
-        &form,
-    )?;
+    are_names(&rt, rt.alloc(), &[48, 7, 12, 1, 97, 12, 2, 98, 99])?;
     let numbers = [48, 9, 2, 1, 255, 2, 1, 7, 2, 1, 3];
-    let found = parse_der(alloc, &numbers, |reader| highest(reader))?;
+    let found = parse_der(rt.alloc(), &numbers, |reader| highest(reader))?;
     assert_eq!(rt; found, Some(7));
     Ok(())
+}
+
+fn der_setting(alloc: Global, bytes: &[u8]) -> ASN1Result<Setting> {
+    parse_der(alloc, bytes, |reader| read_setting(reader))
+}
+
+// Ten, not enabled, with the note "a".
+fn is_noted_ten(rt: &impl Abort, setting: &Setting) {
+    assert_eq!(rt; setting.number, 10);
+    assert!(rt; !setting.enabled);
+    match &setting.note {
+        Some(note) => is_text(rt, note.as_str(), "a"),
+        None => assert!(rt; false, "no note"),
+    }
 }
 
 #[test]
@@ -226,23 +237,18 @@ fn sets(rt: HostRuntime) -> Result<(), Fail> {
     let alloc = rt.alloc();
     let form = [49, 9, 12, 1, 97, 1, 1, 0, 2, 1, 10];
     let setting = parse_ber(alloc, &form, |reader| read_setting(reader))?;
-    assert_eq!(rt; setting.number, 10);
-    assert!(rt; !setting.enabled);
-    let note = setting.note.as_ref().map(|note| note.as_str());
-    assert_eq!(rt; note, Some("a"));
+    is_noted_ten(&rt, &setting);
     let written = construct_der(alloc, |writer| write_setting(&setting, writer));
     gives(&rt, written, &[49, 9, 1, 1, 0, 2, 1, 10, 12, 1, 97])
 }
 
 #[test]
 fn defaults_in_sets(rt: HostRuntime) -> Result<(), Fail> {
-    let alloc = rt.alloc();
-    let plain = parse_der(alloc, &[49, 3, 2, 1, 10], |reader| read_setting(reader))?;
+    let plain = der_setting(rt.alloc(), &[49, 3, 2, 1, 10])?;
     assert!(rt; plain.enabled);
     assert!(rt; plain.note.is_none());
     let said = [49, 6, 1, 1, 255, 2, 1, 10];
-    let refused = parse_der(alloc, &said, |reader| read_setting(reader));
-    refuses(&rt, refused, ASN1ErrorKind::Invalid);
+    refuses(&rt, der_setting(rt.alloc(), &said), ASN1ErrorKind::Invalid);
     Ok(())
 }
 
@@ -257,58 +263,80 @@ fn sets_of_values(rt: HostRuntime) -> Result<(), Fail> {
     gives(&rt, kept, &falling)
 }
 
+// An algorithm is read from its form, and written in it.
+fn is_algorithm(rt: &impl Abort, alloc: Global, form: &[u8]) -> Result<(), Fail> {
+    let algorithm = parse_der(alloc, form, |reader| read_algorithm(reader))?;
+    let written = construct_der(alloc, |writer| write_algorithm(&algorithm, writer));
+    gives(rt, written, form)
+}
+
+// What is signed has the serial number 10, and the signature 7.
+fn is_signed_ten(rt: &impl Abort, signed: &Signed<'_>) {
+    assert_eq!(rt; signed.serial, 10);
+    are_items(rt, signed.signed_bytes, &[48, 3, 2, 1, 10]);
+    are_items(rt, &signed.signature, &[7]);
+}
+
 #[test]
 fn raw_elements(rt: HostRuntime) -> Result<(), Fail> {
     let alloc = rt.alloc();
-    for form in [
-        [48, 5, 6, 3, 43, 101, 112].as_slice(),
-        [48, 13, 6, 9, 42, 134, 72, 134, 247, 13, 1, 1, 1, 5, 0].as_slice(),
-    ] {
-        let algorithm = parse_der(alloc, form, |reader| read_algorithm(reader))?;
-        gives(
-            &rt,
-            construct_der(alloc, |writer| write_algorithm(&algorithm, writer)),
-            form,
-        )?;
-    }
+    is_algorithm(&rt, alloc, &[48, 5, 6, 3, 43, 101, 112])?;
+    let rsa = [48, 13, 6, 9, 42, 134, 72, 134, 247, 13, 1, 1, 1, 5, 0];
+    is_algorithm(&rt, alloc, &rsa)?;
     let signed = [48, 9, 48, 3, 2, 1, 10, 3, 2, 0, 7];
     let signed = parse_der(alloc, &signed, read_signed)?;
-    assert_eq!(rt; signed.serial, 10);
-    assert_eq!(rt; signed.signed_bytes, [48, 3, 2, 1, 10].as_slice());
-    assert_eq!(rt; signed.signature.as_slice(), [7].as_slice());
+    is_signed_ten(&rt, &signed);
     Ok(())
+}
+
+// A text is read from its form, and written in it.
+fn is_directory_string(rt: &impl Abort, alloc: Global, form: &[u8]) -> Result<(), Fail> {
+    let text = parse_der(alloc, form, |reader| read_directory_string(reader))?;
+    let written = construct_der(alloc, |writer| write_directory_string(&text, writer));
+    gives(rt, written, form)
 }
 
 #[test]
 fn strings(rt: HostRuntime) -> Result<(), Fail> {
     let alloc = rt.alloc();
-    for form in [[19, 2, 97, 98].as_slice(), [12, 2, 195, 169].as_slice()] {
-        let text = parse_der(alloc, form, |reader| read_directory_string(reader))?;
-        gives(
-            &rt,
-            construct_der(alloc, |writer| write_directory_string(&text, writer)),
-            form,
-        )?;
-    }
+    is_directory_string(&rt, alloc, &[19, 2, 97, 98])?;
+    is_directory_string(&rt, alloc, &[12, 2, 195, 169])?;
     let text = parse_ber(alloc, &[4, 2, 195, 169], |reader| read_ldap_string(reader))?;
-    assert_eq!(rt; text.as_str(), "é");
+    is_text(&rt, text.as_str(), "é");
     Ok(())
+}
+
+fn form_of_time(alloc: Global, time: &Time) -> ASN1Result<Vec<u8>> {
+    construct_der(alloc, |writer| write_time(time, writer))
+}
+
+// The form has this tag and this text, and is read as a UTCTime where the tag is that of one.
+fn is_form_of_time(
+    rt: &impl Abort,
+    alloc: Global,
+    form: &[u8],
+    text: &str,
+    tag: u8,
+) -> Result<(), Fail> {
+    assert_eq!(rt; form.first(), Some(&tag));
+    assert_eq!(rt; form.get(2..), Some(text.as_bytes()));
+    let read = parse_der(alloc, form, |reader| read_time(reader))?;
+    assert_eq!(rt; matches!(read, Time::Utc(_)), tag == 23);
+    Ok(())
+}
+
+// The text is that of a time whose form has this tag.
+fn is_time(rt: &impl Abort, alloc: Global, text: &str, tag: u8) -> Result<(), Fail> {
+    let time = time_of_text(alloc, text)?.ok_or("a time")?;
+    let form = form_of_time(alloc, &time)?;
+    is_form_of_time(rt, alloc, &form, text, tag)
 }
 
 #[test]
 fn times(rt: HostRuntime) -> Result<(), Fail> {
     let alloc = rt.alloc();
-    for (text, tag) in [("820102120000Z", 23), ("19820102120000.5Z", 24)] {
-        let Some(time) = time_of_text(alloc, text)? else {
-            assert!(rt; false, "no time");
-            return Ok(());
-        };
-        let written = construct_der(alloc, |writer| write_time(&time, writer))?;
-        assert_eq!(rt; written.first(), Some(&tag));
-        assert_eq!(rt; written.get(2..), Some(text.as_bytes()));
-        let read = parse_der(alloc, &written, |reader| read_time(reader))?;
-        assert_eq!(rt; matches!(read, Time::Utc(_)), tag == 23);
-    }
+    is_time(&rt, alloc, "820102120000Z", 23)?;
+    is_time(&rt, alloc, "19820102120000.5Z", 24)?;
     assert!(rt; time_of_text(alloc, "820132120000Z")?.is_none());
     Ok(())
 }
@@ -342,27 +370,34 @@ fn signatures(rt: HostRuntime) -> Result<(), Fail> {
     gives(&rt, written, &[3, 3, 0, 7, 9])
 }
 
+// These bytes hold this number, or none that is taken for zero.
+fn holds_number(rt: &impl Abort, alloc: Global, bytes: &[u8], number: i64) -> Result<(), Fail> {
+    let found = number_or_zero(alloc, bytes)?;
+    assert_eq!(rt; found, number);
+    Ok(())
+}
+
 #[test]
 fn errors(rt: HostRuntime) -> Result<(), Fail> {
-    let alloc = rt.alloc();
     let cut = ASN1Error::new(ASN1ErrorKind::Eof);
-    assert_eq!(rt; reason(cut), "an element is cut off or missing");
-    assert_eq!(rt; number_or_zero(alloc, &[48, 3, 2, 1, 7])?, 7);
-    assert_eq!(rt; number_or_zero(alloc, &[48, 0])?, 0);
-    let kept = number_or_zero(alloc, &[48, 4, 2, 2, 0, 7]);
+    is_text(&rt, reason(cut), "an element is cut off or missing");
+    holds_number(&rt, rt.alloc(), &[48, 3, 2, 1, 7], 7)?;
+    holds_number(&rt, rt.alloc(), &[48, 0], 0)?;
+    let kept = number_or_zero(rt.alloc(), &[48, 4, 2, 2, 0, 7]);
     refuses(&rt, kept, ASN1ErrorKind::Invalid);
     Ok(())
+}
+
+fn der_id(alloc: Global, bytes: &[u8]) -> ASN1Result<Id> {
+    parse_der(alloc, bytes, |reader| read_id(reader))
 }
 
 #[test]
 fn alternatives(rt: HostRuntime) -> Result<(), Fail> {
     let alloc = rt.alloc();
-    let number = parse_der(alloc, &[2, 1, 7], |reader| read_id(reader))?;
-    assert!(rt; matches!(number, Id::Number(7)));
-    let name = parse_der(alloc, &[12, 1, 97], |reader| read_id(reader))?;
-    assert!(rt; matches!(name, Id::Name(_)));
-    let broken = parse_der(alloc, &[2, 2, 0, 7], |reader| read_id(reader));
-    refuses(&rt, broken, ASN1ErrorKind::Invalid);
+    assert!(rt; matches!(der_id(alloc, &[2, 1, 7]), Ok(Id::Number(7))));
+    assert!(rt; matches!(der_id(alloc, &[12, 1, 97]), Ok(Id::Name(_))));
+    refuses(&rt, der_id(alloc, &[2, 2, 0, 7]), ASN1ErrorKind::Invalid);
     Ok(())
 }
 

@@ -1,6 +1,7 @@
 //! Calls whose closures are known, and a list of a CHOICE.
 
 use crate::checks::{gives, refuses};
+use std::alloc::Global;
 use std::test::Fail;
 use yasna::{ASN1ErrorKind, ASN1Result, construct_der};
 use yasna_examples::{
@@ -10,9 +11,9 @@ use yasna_examples::{
 #[test]
 fn integers(rt: HostRuntime) -> Result<(), Fail> {
     let alloc = rt.alloc();
-    let bytes = constructed_integer(alloc, -129)?;
-    assert_eq!(rt; bytes.as_slice(), [2, 2, 255, 127].as_slice());
-    assert_eq!(rt; parsed_integer(alloc, &bytes)?, -129);
+    let form = [2, 2, 255, 127];
+    gives(&rt, constructed_integer(alloc, -129), &form)?;
+    assert_eq!(rt; parsed_integer(alloc, &form)?, -129);
     refuses(
         &rt,
         parsed_integer(alloc, &[10, 1, 13]),
@@ -52,18 +53,25 @@ fn numbers(rt: HostRuntime) -> Result<(), Fail> {
     Ok(())
 }
 
-#[test]
-fn many_numbers(rt: HostRuntime) -> Result<(), Fail> {
-    let alloc = rt.alloc();
-    let bytes = construct_der(alloc, |writer| {
+// 0, 1 and so on to 99,999.
+fn form_of_many(alloc: Global) -> ASN1Result<Vec<u8>> {
+    construct_der(alloc, |writer| {
         writer.write_sequence_of(|list| -> ASN1Result<()> {
             for number in 0..100_000i64 {
                 list.next().write_i64(number)?;
             }
             Ok(())
         })
-    })?;
-    let numbers = parsed_numbers(alloc, &bytes)?;
+    })
+}
+
+fn many(alloc: Global) -> ASN1Result<Vec<i64>> {
+    parsed_numbers(alloc, &form_of_many(alloc)?)
+}
+
+#[test]
+fn many_numbers(rt: HostRuntime) -> Result<(), Fail> {
+    let numbers = many(rt.alloc())?;
     assert_eq!(rt; numbers.len(), 100_000);
     assert_eq!(rt; numbers.as_slice().last(), Some(&99_999));
     Ok(())

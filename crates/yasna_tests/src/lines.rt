@@ -1,6 +1,7 @@
 //! The lines of `yasna_lines`, remarks and refusals. The offsets, depths, lengths and tags of the key are those that `openssl asn1parse -i` prints of it.
 
-use std::alloc::Global;
+use crate::checks::is_text;
+use std::alloc::{AllocError, Global};
 use std::process::Abort;
 use std::test::Fail;
 use yasna::BERMode;
@@ -36,12 +37,22 @@ const KEY_LINES: &str = "input: PEM \"PUBLIC KEY\", 91 bytes
 rules: BER, DER
 ";
 
+// The input is taken whole, and this is written of it.
+fn is_told(
+    rt: &(impl AllocGlobal + Abort),
+    mode: BERMode,
+    input: &str,
+    lines: &str,
+) -> Result<(), Fail> {
+    let told = shown(rt.alloc(), mode, None, input.as_bytes())?;
+    assert!(rt; told.fault.is_none());
+    is_text(rt, std::str::from_utf8(told.output.as_slice())?, lines);
+    Ok(())
+}
+
 #[test]
 fn key(rt: HostRuntime) -> Result<(), Fail> {
-    let told = shown(rt.alloc(), BERMode::Der, None, KEY.as_bytes())?;
-    assert!(rt; told.fault.is_none());
-    assert_eq!(rt; std::str::from_utf8(told.output.as_slice())?, KEY_LINES);
-    Ok(())
+    is_told(&rt, BERMode::Der, KEY, KEY_LINES)
 }
 
 // Hexadecimal input, and the one line that is printed of it, with the rules.
@@ -127,22 +138,31 @@ const LINES: [(&str, &str, &str); 19] = [
     ("3000", "2+0        SEQUENCE", "BER, DER"),
 ];
 
+// Behind the first row stands this line, and behind it the rules.
+fn has_line(rt: &impl Abort, output: &str, input: &str, line: &str, rules: &str) {
+    let mut rows = output.lines().skip(1);
+    let first = rows.next().unwrap_or("").trim_start();
+    assert_eq!(rt; first.strip_prefix("0  "), Some(line), "{input}");
+    let second = rows.next().unwrap_or("");
+    assert_eq!(rt; second.strip_prefix("rules: "), Some(rules), "{input}");
+}
+
+fn is_line_of(
+    rt: &(impl AllocGlobal + Abort),
+    input: &str,
+    line: &str,
+    rules: &str,
+) -> Result<(), Fail> {
+    let told = shown(rt.alloc(), BERMode::Ber, None, input.as_bytes())?;
+    let output = std::str::from_utf8(told.output.as_slice())?;
+    has_line(rt, output, input, line, rules);
+    Ok(())
+}
+
 #[test]
 fn lines(rt: HostRuntime) -> Result<(), Fail> {
     for (input, line, rules) in &LINES {
-        let told = shown(rt.alloc(), BERMode::Ber, None, input.as_bytes())?;
-        let output = std::str::from_utf8(told.output.as_slice())?;
-        let mut rows = output.lines().skip(1);
-        assert_eq!(rt;
-            rows.next().unwrap_or("").trim_start().strip_prefix("0  "),
-            Some(*line),
-            "{input}"
-        );
-        assert_eq!(rt;
-            rows.next().unwrap_or("").strip_prefix("rules: "),
-            Some(*rules),
-            "{input}"
-        );
+        is_line_of(&rt, input, line, rules)?;
     }
     Ok(())
 }
@@ -165,10 +185,7 @@ rules: BER
 
 #[test]
 fn nested(rt: HostRuntime) -> Result<(), Fail> {
-    let told = shown(rt.alloc(), BERMode::Ber, None, NESTED.as_bytes())?;
-    assert!(rt; told.fault.is_none());
-    assert_eq!(rt; std::str::from_utf8(told.output.as_slice())?, NESTED_LINES);
-    Ok(())
+    is_told(&rt, BERMode::Ber, NESTED, NESTED_LINES)
 }
 
 // Broken input, and what is said of it.
@@ -220,18 +237,33 @@ const BROKEN: [(BERMode, &str, &str); 9] = [
     ),
 ];
 
+// What ended the run.
+fn fault_of(alloc: Global, mode: BERMode, form: Option<Form>, input: &[u8]) -> Result<Fault, Fail> {
+    let told = shown(alloc, mode, form, input)?;
+    Ok(told.fault.ok_or("a fault")?)
+}
+
+// This is said of a fault.
+fn says(
+    rt: &(impl AllocGlobal + Abort),
+    fault: &Fault,
+    input: &str,
+    said: &str,
+) -> Result<(), Fail> {
+    let text = fault.to_string(rt.alloc())?;
+    assert_eq!(rt; text.as_str(), said, "{input}");
+    Ok(())
+}
+
 fn judge(
     rt: &(impl AllocGlobal + Abort),
     mode: BERMode,
     input: &str,
     said: &str,
 ) -> Result<(), Fail> {
-    let told = shown(rt.alloc(), mode, Some(Form::Hex), input.as_bytes())?;
-    let fault = told.fault.ok_or("a fault")?;
+    let fault = fault_of(rt.alloc(), mode, Some(Form::Hex), input.as_bytes())?;
     assert!(rt; matches!(fault, Fault::Broken { .. }), "{input}");
-    let text = fault.to_string(rt.alloc())?;
-    assert_eq!(rt; text.as_str(), said, "{input}");
-    Ok(())
+    says(rt, &fault, input, said)
 }
 
 #[test]
@@ -242,21 +274,42 @@ fn broken(rt: HostRuntime) -> Result<(), Fail> {
     Ok(())
 }
 
+// Hexadecimal input of a hundred elements that begin.
+fn hundred_beginnings(alloc: Global) -> Result<String, AllocError> {
+    "3080".repeat(alloc, 100)
+}
+
+// The same around a NULL, with their ends.
+fn hundred_and_one(alloc: Global) -> Result<String, AllocError> {
+    let mut input = hundred_beginnings(alloc)?;
+    input.push_str("0500")?;
+    for _ in 0..100 {
+        input.push_str("0000")?;
+    }
+    Ok(input)
+}
+
+// The same and two more that begin.
+fn hundred_and_two(alloc: Global) -> Result<String, AllocError> {
+    let mut input = hundred_beginnings(alloc)?;
+    input.push_str("30803080")?;
+    Ok(input)
+}
+
+fn has_no_fault(rt: &(impl AllocGlobal + Abort), input: &str) -> Result<(), Fail> {
+    let told = shown(rt.alloc(), BERMode::Ber, Some(Form::Hex), input.as_bytes())?;
+    assert!(rt; told.fault.is_none());
+    Ok(())
+}
+
 /// A hundred and one elements may nest, and no more.
 #[test]
 fn deep(rt: HostRuntime) -> Result<(), Fail> {
-    let mut input = String::new(rt.alloc());
-    for _ in 0..100 {
-        input.push_str("3080")?;
-    }
-    let whole = format!(in rt.alloc(); "{}0500{}", input, "0000".repeat(rt.alloc(), 100)?)?;
-    let told_whole = shown(rt.alloc(), BERMode::Ber, Some(Form::Hex), whole.as_bytes())?;
-    assert!(rt; told_whole.fault.is_none());
-    input.push_str("30803080")?;
+    has_no_fault(&rt, hundred_and_one(rt.alloc())?.as_str())?;
     judge(
         &rt,
         BERMode::Ber,
-        input.as_str(),
+        hundred_and_two(rt.alloc())?.as_str(),
         "offset 202: StackOverflow: expected at most 101 levels of elements",
     )
 }
@@ -268,19 +321,24 @@ const FORMS: [(&[u8], &str); 3] = [
     (b"\x04\x14\n-----BEGIN X-----\n", "input: 21 bytes"),
 ];
 
+fn begins_with(rt: &(impl AllocGlobal + Abort), input: &[u8], first: &str) -> Result<(), Fail> {
+    let told = shown(rt.alloc(), BERMode::Ber, None, input)?;
+    let output = std::str::from_utf8(told.output.as_slice())?;
+    assert_eq!(rt; output.lines().next(), Some(first));
+    Ok(())
+}
+
 #[test]
 fn forms(rt: HostRuntime) -> Result<(), Fail> {
     for (input, first) in &FORMS {
-        let told = shown(rt.alloc(), BERMode::Ber, None, input)?;
-        let output = std::str::from_utf8(told.output.as_slice())?;
-        assert_eq!(rt; output.lines().next(), Some(*first));
+        begins_with(&rt, input, first)?;
     }
-    let told = shown(rt.alloc(), BERMode::Ber, None, b"text\n-----BEGIN X-----\n")?;
-    let fault = told.fault.ok_or("a fault")?;
-    let text = fault.to_string(rt.alloc())?;
-    assert_eq!(rt;
-        text.as_str(),
-        "offset 23: Eof: expected a line that ends the block of PEM"
-    );
-    Ok(())
+    let input = "text\n-----BEGIN X-----\n";
+    let fault = fault_of(rt.alloc(), BERMode::Ber, None, input.as_bytes())?;
+    says(
+        &rt,
+        &fault,
+        input,
+        "offset 23: Eof: expected a line that ends the block of PEM",
+    )
 }

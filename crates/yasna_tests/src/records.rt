@@ -1,6 +1,6 @@
 //! Types of three, five and seven parts, each from its form and from another encoding.
 
-use crate::checks::{gives, refuses};
+use crate::checks::{are_items, gives, is_text, refuses};
 use std::alloc::Global;
 use std::process::Abort;
 use std::test::Fail;
@@ -36,7 +36,13 @@ fn has_all_parts<T: DERCanonical>(
     Ok(())
 }
 
-// Its prime is the greatest below 2 ^ 64.
+// The prime is the greatest below 2 ^ 64.
+fn are_parameters(rt: &impl Abort, read: &DomainParameters) {
+    assert_eq!(rt; read.prime, 18_446_744_073_709_551_557);
+    assert_eq!(rt; read.subprime, 11);
+    assert_eq!(rt; read.base, 4);
+}
+
 #[test]
 fn domain_parameters(rt: HostRuntime) -> Result<(), Fail> {
     let alloc = rt.alloc();
@@ -46,16 +52,21 @@ fn domain_parameters(rt: HostRuntime) -> Result<(), Fail> {
     let other = [
         48, 128, 2, 9, 0, 255, 255, 255, 255, 255, 255, 255, 197, 2, 1, 11, 2, 1, 4, 0, 0,
     ];
-    let read = is_form_of::<DomainParameters>(&rt, alloc, &form, &other)?;
-    assert_eq!(rt; read.prime, 18_446_744_073_709_551_557);
-    assert_eq!(rt; read.subprime, 11);
-    assert_eq!(rt; read.base, 4);
+    are_parameters(&rt, &is_form_of(&rt, alloc, &form, &other)?);
     has_all_parts::<DomainParameters>(
         &rt,
         &[48, 6, 2, 1, 23, 2, 1, 11],
         &[48, 12, 2, 1, 23, 2, 1, 11, 2, 1, 4, 2, 1, 4],
         alloc,
     )
+}
+
+fn is_header(rt: &impl Abort, read: &RequestHeader) {
+    assert_eq!(rt; read.version, 0);
+    are_items(rt, &read.community, b"public");
+    assert_eq!(rt; read.request, 641);
+    assert_eq!(rt; read.status, 2);
+    assert_eq!(rt; read.index, 7);
 }
 
 #[test]
@@ -69,12 +80,7 @@ fn request_headers(rt: HostRuntime) -> Result<(), Fail> {
         48, 128, 2, 1, 0, 36, 128, 4, 2, 112, 117, 4, 4, 98, 108, 105, 99, 0, 0, 2, 2, 2, 129, 2,
         1, 2, 2, 129, 1, 7, 0, 0,
     ];
-    let read = is_form_of::<RequestHeader>(&rt, alloc, &form, &other)?;
-    assert_eq!(rt; read.version, 0);
-    assert_eq!(rt; read.community.as_slice(), b"public".as_slice());
-    assert_eq!(rt; read.request, 641);
-    assert_eq!(rt; read.status, 2);
-    assert_eq!(rt; read.index, 7);
+    is_header(&rt, &is_form_of(&rt, alloc, &form, &other)?);
     has_all_parts::<RequestHeader>(
         &rt,
         &[48, 11, 2, 1, 0, 4, 0, 2, 1, 1, 2, 1, 0],
@@ -95,17 +101,26 @@ const OTHER_ENTRY: [u8; 61] = [
     1, 10, 1, 1, 1, 0, 0, 1, 1, 9, 0, 0,
 ];
 
-#[test]
-fn directory_entries(rt: HostRuntime) -> Result<(), Fail> {
-    let alloc = rt.alloc();
-    let read = is_form_of::<DirectoryEntry>(&rt, alloc, &ENTRY, &OTHER_ENTRY)?;
-    assert_eq!(rt; read.name.as_str(), "é");
-    assert_eq!(rt; read.class.components().as_slice(), [2, 5, 6, 6].as_slice());
-    assert_eq!(rt; read.made.text().as_slice(), b"820102120000Z".as_slice());
-    assert_eq!(rt; read.versions.as_slice(), [1, -129].as_slice());
-    assert_eq!(rt; read.picture.as_slice(), [72, 101].as_slice());
+// What it says of a name.
+fn is_named(rt: &impl Abort, read: &DirectoryEntry) {
+    is_text(rt, read.name.as_str(), "é");
+    are_items(rt, read.class.components().as_slice(), &[2, 5, 6, 6]);
+    are_items(rt, read.made.text().as_slice(), b"820102120000Z");
+}
+
+// What else it says.
+fn is_described(rt: &impl Abort, read: &DirectoryEntry) {
+    are_items(rt, &read.versions, &[1, -129]);
+    are_items(rt, &read.picture, &[72, 101]);
     assert_eq!(rt; read.measurement.number, 10);
     assert!(rt; read.measurement.valid);
     assert!(rt; read.in_use);
+}
+
+#[test]
+fn directory_entries(rt: HostRuntime) -> Result<(), Fail> {
+    let read = is_form_of::<DirectoryEntry>(&rt, rt.alloc(), &ENTRY, &OTHER_ENTRY)?;
+    is_named(&rt, &read);
+    is_described(&rt, &read);
     Ok(())
 }

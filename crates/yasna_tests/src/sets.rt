@@ -1,6 +1,7 @@
 //! Sets, read and written by closures.
 
 use crate::checks::{gives, refuses};
+use std::alloc::Global;
 use std::process::Abort;
 use std::test::Fail;
 use yasna::tags::{TAG_BOOLEAN, TAG_INTEGER, TAG_NULL};
@@ -118,23 +119,29 @@ fn flag_and_number(reader: BERReader) -> ASN1Result<(bool, Option<i64>)> {
     })
 }
 
+fn der_flag_and_number(alloc: Global, bytes: &[u8]) -> ASN1Result<(bool, Option<i64>)> {
+    parse_der(alloc, bytes, |reader| flag_and_number(reader))
+}
+
+// The bytes hold this flag and this number.
+fn holds(
+    rt: &impl Abort,
+    alloc: Global,
+    bytes: &[u8],
+    flag: bool,
+    number: Option<i64>,
+) -> Result<(), Fail> {
+    let found = der_flag_and_number(alloc, bytes)?;
+    assert_eq!(rt; found, (flag, number));
+    Ok(())
+}
+
 #[test]
 fn elements_left_out(rt: HostRuntime) -> Result<(), Fail> {
-    let alloc = rt.alloc();
-    let (flag, number) = parse_der(
-        alloc,
-        &[49, 6, 1, 1, 0, 2, 1, 10],
-        |reader| flag_and_number(reader),
-    )?;
-    assert!(rt; !flag);
-    assert_eq!(rt; number, Some(10));
-    let (flag, number) = parse_der(alloc, &SINGLE, |reader| flag_and_number(reader))?;
-    assert!(rt; flag);
-    assert_eq!(rt; number, Some(10));
-    let (flag, number) = parse_der(alloc, &[49, 0], |reader| flag_and_number(reader))?;
-    assert!(rt; flag);
-    assert_eq!(rt; number, None);
-    Ok(())
+    let both = [49, 6, 1, 1, 0, 2, 1, 10];
+    holds(&rt, rt.alloc(), &both, false, Some(10))?;
+    holds(&rt, rt.alloc(), &SINGLE, true, Some(10))?;
+    holds(&rt, rt.alloc(), &[49, 0], true, None)
 }
 
 #[test]
@@ -145,7 +152,7 @@ fn element_that_equals_its_default(rt: HostRuntime) -> Result<(), Fail> {
     let sorted = [49, 6, 1, 1, 255, 2, 1, 10];
     refuses(
         &rt,
-        parse_der(alloc, &sorted, |reader| flag_and_number(reader)),
+        der_flag_and_number(alloc, &sorted),
         ASN1ErrorKind::Invalid,
     );
     let kept = parse_der(alloc, &sorted, |reader| {

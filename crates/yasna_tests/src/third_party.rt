@@ -1,10 +1,12 @@
 //! Types that are read and written as a tuple or step by step, each on bytes.
 
-use crate::checks::{gives, refuses};
+use crate::checks::{are_items, gives, is_text, refuses};
+use std::alloc::Global;
+use std::process::Abort;
 use std::test::Fail;
 use yasna::{
-    ASN1ErrorKind, EncodableParts, construct_der, decode_ber, decode_cer, decode_der, encode_cer,
-    encode_der,
+    ASN1ErrorKind, ASN1Result, EncodableParts, construct_der, decode_ber, decode_cer, decode_der,
+    encode_cer, encode_der,
 };
 use yasna_examples::{
     Measurement, Report, Sample, Serial, Trail, Version, encoded_report, normalized_report,
@@ -20,61 +22,58 @@ fn measurements(rt: HostRuntime) -> Result<(), Fail> {
     Ok(())
 }
 
+const VERSION: Version = Version {
+    major: 300,
+    flag: false,
+};
+
+const VERSION_FORM: [u8; 9] = [48, 7, 2, 2, 1, 44, 1, 1, 0];
+
+fn is_version(rt: &impl Abort, read: &Version) {
+    assert_eq!(rt; read.major, 300);
+    assert!(rt; !read.flag);
+}
+
 #[test]
 fn versions(rt: HostRuntime) -> Result<(), Fail> {
     let alloc = rt.alloc();
-    let version = Version {
-        major: 300,
-        flag: false,
-    };
-    let bytes = encode_der(alloc, &version)?;
-    assert_eq!(rt; bytes.as_slice(), [48, 7, 2, 2, 1, 44, 1, 1, 0].as_slice());
-    let read: Version = decode_der(alloc, &bytes)?;
-    assert_eq!(rt; read.major, 300);
-    assert!(rt; !read.flag);
+    gives(&rt, encode_der(alloc, &VERSION), &VERSION_FORM)?;
+    is_version(&rt, &decode_der(alloc, &VERSION_FORM)?);
     Ok(())
 }
 
 #[test]
 fn in_cer(rt: HostRuntime) -> Result<(), Fail> {
     let alloc = rt.alloc();
-    let version = Version {
-        major: 300,
-        flag: false,
-    };
-    let bytes = encode_cer(alloc, &version)?;
-    assert_eq!(rt;
-        bytes.as_slice(),
-        [48, 128, 2, 2, 1, 44, 1, 1, 0, 0, 0].as_slice()
-    );
-    let read: Version = decode_cer(alloc, &bytes)?;
-    assert_eq!(rt; read.major, 300);
-    assert!(rt; !read.flag);
+    let form = [48, 128, 2, 2, 1, 44, 1, 1, 0, 0, 0];
+    gives(&rt, encode_cer(alloc, &VERSION), &form)?;
+    is_version(&rt, &decode_cer(alloc, &form)?);
     refuses(
         &rt,
-        decode_cer::<Version>(alloc, &[48, 7, 2, 2, 1, 44, 1, 1, 0]),
+        decode_cer::<Version>(alloc, &VERSION_FORM),
         ASN1ErrorKind::Invalid,
     );
     Ok(())
 }
 
-#[test]
-fn samples(rt: HostRuntime) -> Result<(), Fail> {
-    let alloc = rt.alloc();
-    let sample = Sample {
-        count: 300,
-        last: true,
-        shift: -129,
-    };
-    let bytes = encode_der(alloc, &sample)?;
-    assert_eq!(rt;
-        bytes.as_slice(),
-        [48, 11, 2, 2, 1, 44, 1, 1, 255, 2, 2, 255, 127].as_slice()
-    );
-    let read: Sample = decode_der(alloc, &bytes)?;
+const SAMPLE: Sample = Sample {
+    count: 300,
+    last: true,
+    shift: -129,
+};
+
+fn is_sample(rt: &impl Abort, read: &Sample) {
     assert_eq!(rt; read.count, 300);
     assert!(rt; read.last);
     assert_eq!(rt; read.shift, -129);
+}
+
+#[test]
+fn samples(rt: HostRuntime) -> Result<(), Fail> {
+    let alloc = rt.alloc();
+    let form = [48, 11, 2, 2, 1, 44, 1, 1, 255, 2, 2, 255, 127];
+    gives(&rt, encode_der(alloc, &SAMPLE), &form)?;
+    is_sample(&rt, &decode_der(alloc, &form)?);
     refuses(
         &rt,
         decode_der::<Sample>(alloc, &[48, 6, 2, 1, 10, 1, 1, 255]),
@@ -83,18 +82,24 @@ fn samples(rt: HostRuntime) -> Result<(), Fail> {
     Ok(())
 }
 
+fn form_of_report(alloc: Global) -> ASN1Result<Vec<u8>> {
+    let name = "é".to_string(alloc)?;
+    let raw = vec![in alloc; 72, 101]?;
+    encoded_report(alloc, name, raw, -129)
+}
+
+fn is_report(rt: &impl Abort, read: &Report) {
+    is_text(rt, read.name.as_str(), "é");
+    are_items(rt, &read.raw, &[72, 101]);
+    assert_eq!(rt; read.number, -129);
+}
+
 #[test]
 fn reports(rt: HostRuntime) -> Result<(), Fail> {
     let alloc = rt.alloc();
-    let name = "é".to_string(alloc)?;
-    let raw = vec![in alloc; 72, 101]?;
-    let bytes = encoded_report(alloc, name, raw, -129)?;
     let form = [48, 12, 12, 2, 195, 169, 4, 2, 72, 101, 2, 2, 255, 127];
-    assert_eq!(rt; bytes.as_slice(), form.as_slice());
-    let read: Report = decode_der(alloc, &bytes)?;
-    assert_eq!(rt; read.name.as_str(), "é");
-    assert_eq!(rt; read.raw.as_slice(), [72, 101].as_slice());
-    assert_eq!(rt; read.number, -129);
+    gives(&rt, form_of_report(alloc), &form)?;
+    is_report(&rt, &decode_der(alloc, &form)?);
     let pieces = [48, 14, 44, 6, 4, 1, 195, 4, 1, 169, 4, 0, 2, 2, 255, 127];
     let form = [48, 10, 12, 2, 195, 169, 4, 0, 2, 2, 255, 127];
     gives(&rt, normalized_report(alloc, &pieces), &form)?;
@@ -106,16 +111,17 @@ fn reports(rt: HostRuntime) -> Result<(), Fail> {
     Ok(())
 }
 
+fn form_of_trail(alloc: Global) -> ASN1Result<Vec<u8>> {
+    let steps = vec![in alloc; 300, 2, -1]?;
+    encode_der(alloc, &Trail { steps })
+}
+
 #[test]
 fn trails(rt: HostRuntime) -> Result<(), Fail> {
-    let alloc = rt.alloc();
-    let trail = Trail {
-        steps: vec![in alloc; 300, 2, -1]?,
-    };
     let form = [48, 10, 2, 1, 255, 2, 1, 2, 2, 2, 1, 44];
-    gives(&rt, encode_der(alloc, &trail), &form)?;
-    let read: Trail = decode_der(alloc, &form)?;
-    assert_eq!(rt; read.steps.as_slice(), [300, 2, -1].as_slice());
+    gives(&rt, form_of_trail(rt.alloc()), &form)?;
+    let read: Trail = decode_der(rt.alloc(), &form)?;
+    are_items(&rt, &read.steps, &[300, 2, -1]);
     Ok(())
 }
 

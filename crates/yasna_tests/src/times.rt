@@ -1,5 +1,6 @@
 //! Both times, each call once, and what no contract says of their orders, hashes and copies.
 
+use crate::checks::{are_items, is_text};
 use std::alloc::Global;
 use std::cmp::Ordering;
 use std::hash::{BuildHasher, BuildHasherDefault, FoldHasher, Hash};
@@ -29,18 +30,14 @@ fn is_shown_as(
     time: &GeneralizedTime,
     text: &str,
 ) -> Result<(), Fail> {
-    let shown = time.to_string(alloc)?;
-    assert_eq!(rt; shown.as_str(), text);
-    let bytes = time.to_bytes(alloc)?;
-    assert_eq!(rt; bytes.as_slice(), text.as_bytes());
+    is_text(rt, time.to_string(alloc)?.as_str(), text);
+    are_items(rt, &time.to_bytes(alloc)?, text.as_bytes());
     Ok(())
 }
 
 fn utc_is_shown_as(rt: &impl Abort, alloc: Global, time: &UTCTime, text: &str) -> Result<(), Fail> {
-    let shown = time.to_string(alloc)?;
-    assert_eq!(rt; shown.as_str(), text);
-    let bytes = time.to_bytes(alloc)?;
-    assert_eq!(rt; bytes.as_slice(), text.as_bytes());
+    is_text(rt, time.to_string(alloc)?.as_str(), text);
+    are_items(rt, &time.to_bytes(alloc)?, text.as_bytes());
     Ok(())
 }
 
