@@ -1,5 +1,5 @@
 -- The header of an element: identifier and length (X.690, 8.1.2 and 8.1.3).
-use Rattle.std.specs.Prelude.{ℕ, List, [], ◌∷◌, ◌++◌}
+use Rattle.std.specs.Prelude.{ℕ, List, [], ◌∷◌, ◌++◌, Option, Some, None}
 use Rattle.yasna_base.specs.declared.mode.BERMode.{BERMode}
 use Rattle.yasna_base.specs.declared.mode.BERMode.TheVariants.{Cer}
 use Rattle.yasna_base.specs.declared.tag.PCBit.{PCBit}
@@ -23,6 +23,11 @@ indefinite_header t = identifier t Constructed ++ (128 ∷ [])
 abbrev pub parts_header : PartsHeader → List ℕ
 parts_header (Counted h) = header_bytes Constructed h
 parts_header (Endless t) = indefinite_header t
+
+-- the header of an element with parts: of a length, or of indefinite length
+abbrev pub header_of : Tag → Option ℕ → PartsHeader
+header_of t (Some n) = Counted (record { tag = t; length = n })
+header_of t None = Endless t
 
 -- what stands in front of a payload that is written as it is
 abbrev pub raw_header : BERMode → PCBit → Header → List ℕ

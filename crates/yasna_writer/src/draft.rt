@@ -13,14 +13,15 @@ ghost use Rattle.yasna_base.specs.Digits.{base128};
 ghost use Rattle.std.specs.List.{flat_map};
 ghost use Rattle.std.specs.Str.{chars};
 ghost use Rattle.yasna_base.specs.Text.{bmp_octets};
-ghost use Rattle.yasna_writer.specs.Header.{header_bytes, indefinite_header, parts_header};
+ghost use Rattle.yasna_writer.specs.Header.{header_bytes, indefinite_header, parts_header, header_of};
 ghost use Rattle.yasna_writer.specs.declared.header.PartsHeader.{PartsHeader};
 ghost use Rattle.yasna_writer.specs.Draft.{IsInnermost, MarksHeader, with_header, with_element};
 ghost use Rattle.yasna_writer.specs.declared.draft.Mark.TheVariants.{Waits};
 
 use crate::bmp::push_bmp;
 use crate::header::{
-    Header, PartsHeader, header_length, parts_header_length, push_header, push_indefinite_header,
+    Header, PartsHeader, header_length, parts_header, parts_header_length, push_header,
+    push_indefinite_header,
 };
 use crate::identifier::push_bytes;
 use crate::join::join;
@@ -143,36 +144,36 @@ fn waiting_mark(waits: u16, headers: usize) -> Option<Mark>
 
 // The mark of a header whose numbers are small enough for an entry.
 #[inline(always)]
-fn small_mark(header: PartsHeader) -> Option<Mark>
-    ensures { IfSome result (λ m. (ls : List PartsHeader) → MarksHeader header ls m) }
+fn small_mark(tag: Tag, length: Option<usize>) -> Option<Mark>
+    ensures { IfSome result (λ m. (ls : List PartsHeader) → MarksHeader (header_of tag length) ls m) }
 {
-    match header {
-        PartsHeader::Counted(Header { tag, length }) => {
-            let number = u16::try_from(tag.tag_number).ok()?;
+    let class = tag.tag_class;
+    let number = u16::try_from(tag.tag_number).ok()?;
+    match length {
+        Some(length) => {
             let length = u32::try_from(length).ok()?;
-            let class = tag.tag_class;
             Some(Mark::Definite {
                 class,
                 number,
                 length,
             })
         }
-        PartsHeader::Endless(tag) => {
-            let number = u16::try_from(tag.tag_number).ok()?;
-            let class = tag.tag_class;
-            Some(Mark::Indefinite { class, number })
-        }
+        None => Some(Mark::Indefinite { class, number }),
     }
 }
 
 // The mark of a header, which is listed if it is too large for an entry.
 #[inline(always)]
-fn mark_of(large: &mut Vec<PartsHeader>, header: PartsHeader) -> Result<Mark, AllocError>
-    ensures { MatchResult result (λ m. (more : List PartsHeader) × (large.new.items ≡ large.old.items ++ more) × MarksHeader header large.new.items m) (λ _. large.new.items ≡ large.old.items) }
+fn mark_of(
+    large: &mut Vec<PartsHeader>,
+    tag: Tag,
+    length: Option<usize>,
+) -> Result<Mark, AllocError>
+    ensures { MatchResult result (λ m. (more : List PartsHeader) × (large.new.items ≡ large.old.items ++ more) × MarksHeader (header_of tag length) large.new.items m) (λ _. large.new.items ≡ large.old.items) }
 {
-    match small_mark(header) {
+    match small_mark(tag, length) {
         Some(mark) => Ok(mark),
-        None => list_header(large, header),
+        None => list_header(large, parts_header(tag, length)),
     }
 }
 
@@ -302,11 +303,7 @@ impl Draft {
         if let BERMode::Cer = beginning.mode {
             return self.enclose_in_cer(alloc, beginning.entry, beginning.start, beginning.tag);
         }
-        let header = Header {
-            tag: beginning.tag,
-            length: all - beginning.start,
-        };
-        self.place_header(alloc, beginning, PartsHeader::Counted(header))
+        self.place_header(alloc, beginning, Some(all - beginning.start))
     }
 
     // The same in CER: two zeros end the contents, whose length isn't counted (X.690, 9.1).
@@ -329,30 +326,30 @@ impl Draft {
             mode,
         };
         match self.add(&[0, 0]) {
-            Ok(()) => self.place_header(alloc, beginning, PartsHeader::Endless(tag)),
+            Ok(()) => self.place_header(alloc, beginning, None),
             Err(_) => Err(ASN1Error::new(ASN1ErrorKind::OutOfMemory)),
         }
     }
 
-    // Puts a header where an element began, or lacks memory.
+    // Puts a header where an element began, of this length or of indefinite length, or lacks memory.
     #[inline(always)]
     fn place_header(
         &mut self,
         alloc: Global,
         beginning: Beginning,
-        header: PartsHeader,
+        length: Option<usize>,
     ) -> ASN1Result<()>
         requires { beginning.start ≤ count self.old }
-        ensures { MatchResult result (λ _. self.new ≡ with_header beginning.start (parts_header header) self.old) (λ e. kind_of e ≡ OutOfMemory) }
+        ensures { MatchResult result (λ _. self.new ≡ with_header beginning.start (parts_header (header_of beginning.tag length)) self.old) (λ e. kind_of e ≡ OutOfMemory) }
     {
         let Some(place) = innermost(&self.entries, self.waits, beginning) else {
-            return self.place_header_apart(alloc, beginning.start, header);
+            return self.place_header_apart(alloc, beginning.start, beginning.tag, length);
         };
-        let headers = self.headers + parts_header_length(header);
+        let headers = self.headers + parts_header_length(beginning.tag, length);
         if headers > usize::MAX / 2 {
             return Err(ASN1Error::new(ASN1ErrorKind::OutOfMemory));
         }
-        let Ok(mark) = mark_of(&mut self.large, header) else {
+        let Ok(mark) = mark_of(&mut self.large, beginning.tag, length) else {
             return Err(ASN1Error::new(ASN1ErrorKind::OutOfMemory));
         };
         self.entries[beginning.entry] = Entry { place, mark };
@@ -368,12 +365,13 @@ impl Draft {
         &mut self,
         alloc: Global,
         start: usize,
-        header: PartsHeader,
+        tag: Tag,
+        length: Option<usize>,
     ) -> ASN1Result<()>
-        requires { start ≤ length self.old }
-        ensures { MatchResult result (λ _. self.new ≡ with_header start (parts_header header) self.old) (λ e. kind_of e ≡ OutOfMemory) }
+        requires { start ≤ count self.old }
+        ensures { MatchResult result (λ _. self.new ≡ with_header start (parts_header (header_of tag length)) self.old) (λ e. kind_of e ≡ OutOfMemory) }
     {
-        match self.joined_with(alloc, start, header) {
+        match self.joined_with(alloc, start, tag, length) {
             Ok(draft) => {
                 *self = draft;
                 Ok(())
@@ -387,19 +385,20 @@ impl Draft {
         &mut self,
         alloc: Global,
         place: usize,
-        header: PartsHeader,
+        tag: Tag,
+        length: Option<usize>,
     ) -> Result<Draft, AllocError>
-        requires { place ≤ length self.old }
-        ensures { IfOk result (λ draft. draft ≡ with_header place (parts_header header) self.old) }
+        requires { place ≤ count self.old }
+        ensures { IfOk result (λ draft. draft ≡ with_header place (parts_header (header_of tag length)) self.old) }
     {
         let contents = self.take_joined(alloc)?;
         let mut large = Vec::new(alloc);
-        let mark = mark_of(&mut large, header)?;
+        let mark = mark_of(&mut large, tag, length)?;
         let mut entries = SmallVec::new(alloc);
         entries.push(Entry { place, mark })?;
         Ok(Draft {
             contents,
-            headers: parts_header_length(header),
+            headers: parts_header_length(tag, length),
             entries,
             waits: 0,
             large,

@@ -1,7 +1,7 @@
 //! The header of an element: identifier and length octets (X.690, 8.1.2 and 8.1.3). `draft` calls it.
 ghost use Rattle.std.specs.Prelude.{◌≡◌, ◌≤◌, ◌++◌, length as count, OnOk, vec_len};
 ghost use Rattle.yasna_base.specs.declared.tag.PCBit.TheVariants.{Constructed};
-ghost use Rattle.yasna_writer.specs.Header.{header_bytes, indefinite_header, parts_header};
+ghost use Rattle.yasna_writer.specs.Header.{header_bytes, indefinite_header, parts_header, header_of};
 ghost use Rattle.yasna_writer.specs.Put.{PutBefore};
 
 use crate::identifier::{
@@ -85,15 +85,26 @@ fn push_any_indefinite_header(out: &mut Vec<u8>, tag: Tag) -> Result<(), AllocEr
     push_bytes(out, &[128])
 }
 
-// How many bytes the header of an element with parts takes.
+// The header of an element with parts that is ended, of this length or of indefinite length.
 #[inline(always)]
-pub(crate) fn parts_header_length(header: PartsHeader) -> usize
-    ensures octets { result ≡ count (parts_header header) }
+pub(crate) fn parts_header(tag: Tag, length: Option<usize>) -> PartsHeader
+    ensures { result ≡ header_of tag length }
+{
+    match length {
+        Some(length) => PartsHeader::Counted(Header { tag, length }),
+        None => PartsHeader::Endless(tag),
+    }
+}
+
+// How many bytes that header takes. It isn't made for this: it is large, and would be moved by way of memory.
+#[inline(always)]
+pub(crate) fn parts_header_length(tag: Tag, length: Option<usize>) -> usize
+    ensures octets { result ≡ count (parts_header (header_of tag length)) }
     ensures few { result ≤ 20 }
 {
-    match header {
-        PartsHeader::Counted(header) => header_length(header.tag, header.length),
-        PartsHeader::Endless(tag) => identifier_length(tag) + 1,
+    match length {
+        Some(length) => header_length(tag, length),
+        None => identifier_length(tag) + 1,
     }
 }
 

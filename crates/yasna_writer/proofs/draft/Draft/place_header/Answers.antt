@@ -1,7 +1,7 @@
 use Rattle.std.proofs.Common.{◌+◌, ◌-◌, List, subst, sym, ap, ◌∙◌, length, arith}
 use Rattle.yasna_writer.specs.declared.draft.Entry.{Entry}
 use Rattle.yasna_writer.specs.declared.header.PartsHeader.{PartsHeader}
-use Rattle.yasna_writer.specs.Header.{parts_header}
+use Rattle.yasna_writer.specs.Header.{parts_header, header_of}
 use Rattle.yasna_writer.specs.Draft.{AreEntries, IsInnermost, joined, with_header}
 use Rattle.yasna_writer.proofs.Drafts.{takes, entry_set, waits_some}
 use Rattle.yasna_writer.proofs.draft.Draft.place_header.Goals as goal
@@ -28,7 +28,7 @@ invariant_of-self-2 c =
     let written = entry_set d.entries c.deref_mut.result.now b.entry y c.deref_mut.ensures.value in
     subst (λ (es : List Entry). AreEntries c.mark_of.new.large.items es (length d.contents.items) (d.headers + c.parts_header_length.result) (d.waits - 1))
     (sym written)
-    (takes d.large.items c.mark_of.new.large.items k.0 d.entries.items b c.args.header c.in-Ok.mark c.in-Some.place d.headers
+    (takes d.large.items c.mark_of.new.large.items k.0 d.entries.items b (header_of b.tag c.args.length) c.in-Ok.mark c.in-Some.place d.headers
     (d.headers + c.parts_header_length.result) d.waits d.contents.items c.self.invariant i k.1 k.2
     (ap (λ n. d.headers + n) c.parts_header_length.ensures.octets) (omega (arith, c.if-headers.false))).entries
 
@@ -40,8 +40,8 @@ returns c =
     let k = c.in-Ok.ensures {u = tt} in
     let y : Entry = record { place = c.in-Some.place; mark = c.in-Ok.mark } in
     let written = entry_set d.entries c.deref_mut.result.now b.entry y c.deref_mut.ensures.value in
-    let taken = takes d.large.items c.mark_of.new.large.items k.0 d.entries.items b c.args.header c.in-Ok.mark c.in-Some.place d.headers
+    let taken = takes d.large.items c.mark_of.new.large.items k.0 d.entries.items b (header_of b.tag c.args.length) c.in-Ok.mark c.in-Some.place d.headers
     (d.headers + c.parts_header_length.result) d.waits d.contents.items c.self.invariant i k.1 k.2
     (ap (λ n. d.headers + n) c.parts_header_length.ensures.octets) (omega (arith, c.if-headers.false)) in
     ap (λ (es : List Entry). joined c.mark_of.new.large.items es d.contents.items) written ∙ taken.joins
-    ∙ ap (λ v. with_header b.start (parts_header c.args.header) v) c.self.view_is
+    ∙ ap (λ v. with_header b.start (parts_header (header_of b.tag c.args.length)) v) c.self.view_is
