@@ -1,5 +1,5 @@
 -- A primitive element that is one append.
-use Rattle.std.proofs.Common.{◌≡◌, ℕ, ◌<◌, List, [], ◌∷◌, ◌++◌, length, get_or, drop, refl, None, Some, ap, ap₂, sym, ◌∙◌, arith, append_assoc}
+use Rattle.std.proofs.Common.{◌≡◌, ℕ, ◌<◌, ◌≤◌, ◌-◌, List, [], ◌∷◌, ◌++◌, length, length-drop, get_or, drop, refl, None, Some, ap, ap₂, sym, ◌∙◌, arith, append_assoc}
 use Rattle.std.specs.Prelude.{Result, MatchResult, Option}
 use Rattle.std.proofs.lemmas.Result.{MatchResult-weaker}
 use Rattle.yasna_base.specs.declared.error.ASN1Error.{ASN1Error}
@@ -49,9 +49,10 @@ appended_both w mid new r xs ys e h =
     (λ _ f. f ∙ ap (λ (v : Written). record v { bytes = v.bytes ++ ys }) e ∙ ap (λ x. record w { bytes = x }) (append_assoc w.bytes xs ys)) (λ k f. f)
 
 -- eight bytes one by one
-pub eight_bytes :
-    (b : List ℕ) → length b ≡ 8
-    → b ≡ get_or b 0 0 ∷ get_or b 1 0 ∷ get_or b 2 0 ∷ get_or b 3 0 ∷ get_or b 4 0 ∷ get_or b 5 0 ∷ get_or b 6 0 ∷ get_or b 7 0 ∷ []
+abbrev pub singly : List ℕ → List ℕ
+singly b = get_or b 0 0 ∷ get_or b 1 0 ∷ get_or b 2 0 ∷ get_or b 3 0 ∷ get_or b 4 0 ∷ get_or b 5 0 ∷ get_or b 6 0 ∷ get_or b 7 0 ∷ []
+
+eight_bytes : (b : List ℕ) → length b ≡ 8 → b ≡ singly b
 eight_bytes (a ∷ b ∷ c ∷ d ∷ e ∷ f ∷ g ∷ h ∷ []) l = refl
 eight_bytes (a ∷ b ∷ c ∷ d ∷ e ∷ f ∷ g ∷ h ∷ i ∷ x) l = absurd (omega arith)
 eight_bytes [] l = absurd (omega arith)
@@ -65,12 +66,15 @@ eight_bytes (a ∷ b ∷ c ∷ d ∷ e ∷ f ∷ g ∷ []) l = absurd (omega ari
 
 -- what one append leaves of identifier, length and the last bytes
 pub appended_last :
-    (w new : Written) (r : Result (Unit {0}) ASN1Error) (P : ASN1Error → Type 0) (t : Tag) (first from k : ℕ) (b c : List ℕ) → t.tag_number < 31
-    → first ≡ leading_byte t Primitive t.tag_number → k ≡ length c → k < 128 → drop from b ≡ c
-    → MatchResult r (λ _. new ≡ record w { bytes = w.bytes ++ (first ∷ k ∷ c) }) P
-    → MatchResult r (λ _. new ≡ record w { bytes = w.bytes ++ canonical_element w.mode t Primitive (drop from b) }) P
-appended_last w new r P t first from k b c h f l s d m =
+    (w new : Written) (r : Result (Unit {0}) ASN1Error) (P : ASN1Error → Type 0) (t : Tag) (first count k : ℕ) (b : List ℕ) → length b ≡ 8 → k ≤ 8
+    → count ≡ k → t.tag_number < 31 → first ≡ leading_byte t Primitive t.tag_number
+    → MatchResult r (λ _. new ≡ record w { bytes = w.bytes ++ (first ∷ k ∷ drop (8 - k) (singly b)) }) P
+    → MatchResult r (λ _. new ≡ record w { bytes = w.bytes ++ canonical_element w.mode t Primitive (drop (8 - count) b) }) P
+appended_last w new r P t first count k b eight few e h f m =
+    let last = drop (8 - k) (singly b) in
+    let some : k ≡ length last = omega (arith, length-drop (8 - k) (singly b)) in
+    let same : last ≡ drop (8 - count) b = ap₂ (λ n x. drop (8 - n) x) (sym e) (sym (eight_bytes b eight)) in
     MatchResult-weaker r m
-    (λ _ e. e ∙ ap (λ x. record w { bytes = w.bytes ++ x })
-    (short_bytes w.mode t first k c h (omega arith) f l ∙ ap (canonical_element w.mode t Primitive) (sym d)))
-    (λ e i. i)
+    (λ _ i. i ∙ ap (λ x. record w { bytes = w.bytes ++ x })
+    (short_bytes w.mode t first k last h (omega arith) f some ∙ ap (canonical_element w.mode t Primitive) same))
+    (λ _ i. i)
