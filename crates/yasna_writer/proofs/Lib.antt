@@ -3,6 +3,7 @@ pub mod Bmps
 pub mod BigEndian
 pub mod Drafts
 pub mod Fronts
+pub mod Headers
 pub mod Identifiers
 pub mod Joins
 pub mod Integers

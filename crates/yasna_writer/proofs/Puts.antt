@@ -1,6 +1,6 @@
 -- Octets that are written in front of others.
-use Rattle.std.proofs.Common.{◌≡◌, ℕ, ◌≤◌, List, ◌++◌, length, take, drop, sym, subst, ap, ap₂, ◌∙◌, arith, append_assoc, length-append, length-take, length-drop}
-use Rattle.std.proofs.lemmas.List.{take-append-le, take-take, drop_at}
+use Rattle.std.proofs.Common.{◌≡◌, ℕ, ◌≤◌, List, ◌++◌, length, take, drop, sym, subst, ap, ap₂, ◌∙◌, arith, append_assoc, append-nil, length-append, length-take, length-drop}
+use Rattle.std.proofs.lemmas.List.{take-append-le, take-take, drop_at, drop_all}
 use Rattle.yasna_writer.specs.Put.{PutBefore}
 
 -- where a place is within the bytes, what stands in front of it is as long as it says
@@ -51,3 +51,8 @@ pub put_then :
     → a ++ b ≡ c → PutBefore c end old new start
 put_then a b c end old one new middle start p q within e =
     subst (λ x. PutBefore x end old new start) e (put_both a b end old one new middle start p q within)
+
+-- what stands from the first octet on, where they end all
+pub put_last : (octets : List ℕ) (end : ℕ) (old new : List ℕ) (start : ℕ) → PutBefore octets end old new start → length old ≡ end → drop start new ≡ octets
+put_last octets end old new start p e =
+    put_back octets end old new start p (omega arith) ∙ ap (λ x. octets ++ x) (drop_all end old (omega arith)) ∙ append-nil octets

@@ -4,10 +4,8 @@ ghost use Rattle.yasna_base.specs.declared.tag.PCBit.TheVariants.{Constructed};
 ghost use Rattle.yasna_writer.specs.Header.{header_bytes, indefinite_header, parts_header, header_of};
 ghost use Rattle.yasna_writer.specs.Put.{PutBefore};
 
-use crate::identifier::{
-    identifier_length, leading, push_bytes, push_identifier, put_bytes, put_identifier,
-};
-use crate::length::{length_length, push_length, put_length};
+use crate::identifier::{identifier_length, leading, push_bytes, put_bytes, put_identifier};
+use crate::length::{length_length, put_length};
 use std::alloc::AllocError;
 use yasna_base::{PCBit, Tag};
 
@@ -43,14 +41,19 @@ pub(crate) fn push_header(out: &mut Vec<u8>, header: Header, bit: PCBit) -> Resu
     push_any_header(out, tag, length, bit)
 }
 
-// Appends any header.
+// The longest header takes so many bytes: eleven of an identifier, and nine of a length.
+const LONGEST: usize = 20;
+
+// Appends any header, which is put together on the stack.
+#[tactic(auto, using(crate::proofs::Headers::header_at_most, crate::proofs::Puts::put_last))]
 #[inline(never)]
 fn push_any_header(out: &mut Vec<u8>, tag: Tag, length: usize, bit: PCBit) -> Result<(), AllocError>
     ensures items { OnOk result (out.new.items ≡ out.old.items ++ header_bytes bit (record { tag = tag; length = length })) }
     ensures grows { vec_len out.old ≤ vec_len out.new }
 {
-    push_identifier(out, tag, bit)?;
-    push_length(out, length)
+    let mut header = [0; LONGEST];
+    let start = put_any_header(&mut header, LONGEST, tag, length, bit);
+    push_bytes(out, &header[start..])
 }
 
 // How many bytes the header of an element takes.
@@ -76,13 +79,15 @@ pub(crate) fn push_indefinite_header(out: &mut Vec<u8>, tag: Tag) -> Result<(), 
 }
 
 // The same with any identifier.
+#[tactic(auto, using(crate::proofs::Headers::indefinite_header_at_most, crate::proofs::Puts::put_last))]
 #[inline(never)]
 fn push_any_indefinite_header(out: &mut Vec<u8>, tag: Tag) -> Result<(), AllocError>
     ensures items { OnOk result (out.new.items ≡ out.old.items ++ indefinite_header tag) }
     ensures grows { vec_len out.old ≤ vec_len out.new }
 {
-    push_identifier(out, tag, PCBit::Constructed)?;
-    push_bytes(out, &[128])
+    let mut header = [0; LONGEST];
+    let start = put_indefinite_header(&mut header, LONGEST, tag);
+    push_bytes(out, &header[start..])
 }
 
 // The header of an element with parts that is ended, of this length or of indefinite length.
@@ -135,22 +140,22 @@ pub(crate) fn put_header(out: &mut [u8], end: usize, header: Header) -> usize
     if tag.tag_number < 31 && length < 128 {
         return put_bytes(out, end, &[leading(tag, PCBit::Constructed), length as u8]);
     }
-    put_any_header(out, end, tag, length)
+    put_any_header(out, end, tag, length, PCBit::Constructed)
 }
 
-// The same with any header.
+// Writes any header in front of a place.
 #[inline(never)]
-fn put_any_header(out: &mut [u8], end: usize, tag: Tag, length: usize) -> usize
-    requires room { count (header_bytes Constructed (record { tag = tag; length = length })) ≤ end }
+fn put_any_header(out: &mut [u8], end: usize, tag: Tag, length: usize, bit: PCBit) -> usize
+    requires room { count (header_bytes bit (record { tag = tag; length = length })) ≤ end }
     requires within { end ≤ count out.old }
-    ensures put { PutBefore (header_bytes Constructed (record { tag = tag; length = length })) end out.old out.new result }
+    ensures put { PutBefore (header_bytes bit (record { tag = tag; length = length })) end out.old out.new result }
     ensures len { count out.new ≡ count out.old }
 {
     let start = put_length(out, end, length);
-    put_identifier(out, start, tag, PCBit::Constructed)
+    put_identifier(out, start, tag, bit)
 }
 
-// The same where the length is indefinite.
+// Writes the header of an element of indefinite length in front of a place.
 #[inline(never)]
 pub(crate) fn put_indefinite_header(out: &mut [u8], end: usize, tag: Tag) -> usize
     requires room { count (indefinite_header tag) ≤ end }

@@ -81,6 +81,9 @@ pub(crate) fn leading(tag: Tag, bit: PCBit) -> u8
     class_bits(tag.tag_class) + constructed_bit(bit) + tag.tag_number as u8
 }
 
+// A number of 64 bits takes so many bytes in base 128 at most.
+const LONGEST_NUMBER: usize = 10;
+
 // How many bytes a number takes in base 128.
 #[tactic(auto, using(crate::proofs::Identifiers::base128_length_small, crate::proofs::Identifiers::base128_length_step, crate::proofs::Identifiers::base128_length_at_most))]
 pub(crate) fn base128_length(number: u64) -> usize
@@ -100,19 +103,6 @@ fn base128_byte(more: bool, number: u64) -> u8
     if more { 128 + digit } else { digit }
 }
 
-// Appends a number in base 128, with 128 added to all its digits, or to all but the last.
-#[tactic(auto, using(crate::proofs::Identifiers::base128_digits_small, crate::proofs::Identifiers::base128_digits_step))]
-pub(crate) fn push_base128(out: &mut Vec<u8>, number: u64, more: bool) -> Result<(), AllocError>
-    ensures items { OnOk result (out.new.items ≡ out.old.items ++ base128_digits more number) }
-    ensures grows { vec_len out.old ≤ vec_len out.new }
-{
-    if number >= 128 {
-        push_base128(out, number / 128, true)?;
-        return push_bytes(out, &[base128_byte(more, number)]);
-    }
-    push_bytes(out, &[base128_byte(more, number)])
-}
-
 // Writes a number in base 128 in front of a place, with 128 added to all its digits, or to all but the last.
 #[tactic(auto, using(crate::proofs::Identifiers::base128_digits_small))]
 fn put_base128(out: &mut [u8], end: usize, number: u64, more: bool) -> usize
@@ -126,6 +116,17 @@ fn put_base128(out: &mut [u8], end: usize, number: u64, more: bool) -> usize
         return last;
     }
     put_base128(out, last, number / 128, true)
+}
+
+// Appends a number in base 128, which is put together on the stack.
+#[tactic(auto, using(crate::proofs::Identifiers::base128_length_at_most, crate::proofs::Puts::put_last), unfolding(crate::specs::Identifier::base128_digits))]
+pub(crate) fn push_base128(out: &mut Vec<u8>, number: u64) -> Result<(), AllocError>
+    ensures items { OnOk result (out.new.items ≡ out.old.items ++ base128 number) }
+    ensures grows { vec_len out.old ≤ vec_len out.new }
+{
+    let mut digits = [0; LONGEST_NUMBER];
+    let start = put_base128(&mut digits, LONGEST_NUMBER, number, false);
+    push_bytes(out, &digits[start..])
 }
 
 // Writes the identifier of a tag in front of a place.
@@ -145,22 +146,6 @@ pub(crate) fn put_identifier(out: &mut [u8], end: usize, tag: Tag, bit: PCBit) -
         digits,
         &[class_bits(tag.tag_class) + constructed_bit(bit) + 31],
     )
-}
-
-// Appends the identifier of a tag.
-#[tactic(auto, using(yasna_base::proofs::Identifier::identifier_short, yasna_base::proofs::Identifier::identifier_long), unfolding(crate::specs::Identifier::base128_digits))]
-pub(crate) fn push_identifier(out: &mut Vec<u8>, tag: Tag, bit: PCBit) -> Result<(), AllocError>
-    ensures items { OnOk result (out.new.items ≡ out.old.items ++ identifier tag bit) }
-    ensures grows { vec_len out.old ≤ vec_len out.new }
-{
-    if tag.tag_number < 31 {
-        return push_bytes(out, &[leading(tag, bit)]);
-    }
-    push_bytes(
-        out,
-        &[class_bits(tag.tag_class) + constructed_bit(bit) + 31],
-    )?;
-    push_base128(out, tag.tag_number, false)
 }
 
 // How many bytes the identifier of a constructed element takes.

@@ -1,26 +1,10 @@
 //! Length octets, the fewest (X.690, 8.1.3 and 10.1), for `header`.
-ghost use Rattle.std.specs.Prelude.{◌≡◌, ◌≤◌, ◌++◌, length as count, OnOk, vec_len};
+ghost use Rattle.std.specs.Prelude.{◌≡◌, ◌≤◌, length as count};
 ghost use Rattle.yasna_base.specs.Length.{shortest_length};
 ghost use Rattle.yasna_writer.specs.Put.{PutBefore};
 
-use crate::identifier::{push_bytes, put_bytes};
+use crate::identifier::put_bytes;
 use crate::integer::without;
-use std::alloc::AllocError;
-
-// Appends a length in the fewest bytes.
-#[tactic(auto, using(yasna_base::proofs::Length::short_length, crate::proofs::BigEndian::length_without, crate::proofs::BigEndian::without_at_most))]
-pub(crate) fn push_length(out: &mut Vec<u8>, length: usize) -> Result<(), AllocError>
-    ensures items { OnOk result (out.new.items ≡ out.old.items ++ shortest_length length) }
-    ensures grows { vec_len out.old ≤ vec_len out.new }
-{
-    if length < 128 {
-        return push_bytes(out, &[length as u8]);
-    }
-    let bytes = length.to_be_bytes();
-    let digits = without(0, &bytes);
-    push_bytes(out, &[128 + digits.len() as u8])?;
-    push_bytes(out, digits)
-}
 
 // Writes a length in the fewest bytes in front of a place.
 #[tactic(auto, using(yasna_base::proofs::Length::short_length, crate::proofs::BigEndian::length_without, crate::proofs::BigEndian::without_at_most))]

@@ -48,7 +48,7 @@ fn push_number(out: &mut Vec<u8>, number: u64) -> Result<(), AllocError>
         let middle = (number / 128 % 128) as u8;
         return push_bytes(out, &[128 + (number / 128 / 128) as u8, 128 + middle, low]);
     }
-    push_base128(out, number, false)
+    push_base128(out, number)
 }
 
 // Appends numbers in base 128.
