@@ -1,0 +1,5 @@
+use Rattle.std.proofs.Common.{rules}
+use Rattle.yasna_writer.proofs.state.Writer.write_printable_string.Goals as goal
+
+pub returns : goal.returns
+returns c = search rules
