@@ -66,15 +66,23 @@ eight_bytes (a ∷ b ∷ c ∷ d ∷ e ∷ f ∷ g ∷ []) l = absurd (omega ari
 
 -- what one append leaves of identifier, length and the last bytes
 pub appended_last :
+    (w new : Written) (r : Result (Unit {0}) ASN1Error) (P : ASN1Error → Type 0) (t : Tag) (first from k : ℕ) (b c : List ℕ) → t.tag_number < 31
+    → first ≡ leading_byte t Primitive t.tag_number → k ≡ length c → k < 128 → drop from b ≡ c
+    → MatchResult r (λ _. new ≡ record w { bytes = w.bytes ++ (first ∷ k ∷ c) }) P
+    → MatchResult r (λ _. new ≡ record w { bytes = w.bytes ++ canonical_element w.mode t Primitive (drop from b) }) P
+appended_last w new r P t first from k b c h f l s d m =
+    MatchResult-weaker r m
+    (λ _ e. e ∙ ap (λ x. record w { bytes = w.bytes ++ x })
+    (short_bytes w.mode t first k c h (omega arith) f l ∙ ap (canonical_element w.mode t Primitive) (sym d)))
+    (λ e i. i)
+
+-- the same where the last bytes are `k` of eight, one by one
+pub appended_few :
     (w new : Written) (r : Result (Unit {0}) ASN1Error) (P : ASN1Error → Type 0) (t : Tag) (first count k : ℕ) (b : List ℕ) → length b ≡ 8 → k ≤ 8
     → count ≡ k → t.tag_number < 31 → first ≡ leading_byte t Primitive t.tag_number
     → MatchResult r (λ _. new ≡ record w { bytes = w.bytes ++ (first ∷ k ∷ drop (8 - k) (singly b)) }) P
     → MatchResult r (λ _. new ≡ record w { bytes = w.bytes ++ canonical_element w.mode t Primitive (drop (8 - count) b) }) P
-appended_last w new r P t first count k b eight few e h f m =
+appended_few w new r P t first count k b eight few e h f m =
     let last = drop (8 - k) (singly b) in
-    let some : k ≡ length last = omega (arith, length-drop (8 - k) (singly b)) in
-    let same : last ≡ drop (8 - count) b = ap₂ (λ n x. drop (8 - n) x) (sym e) (sym (eight_bytes b eight)) in
-    MatchResult-weaker r m
-    (λ _ i. i ∙ ap (λ x. record w { bytes = w.bytes ++ x })
-    (short_bytes w.mode t first k last h (omega arith) f some ∙ ap (canonical_element w.mode t Primitive) same))
-    (λ _ i. i)
+    appended_last w new r P t first (8 - count) k b last h f (omega (arith, length-drop (8 - k) (singly b))) (omega arith)
+    (ap₂ (λ n x. drop (8 - n) x) e (eight_bytes b eight)) m

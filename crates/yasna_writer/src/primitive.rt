@@ -179,7 +179,7 @@ impl Writer {
         self.append_last(tag, val.to_be_bytes(), octets(val))
     }
 
-    // Appends an element whose contents are so many of the last bytes. Each count has an append of its own, whose length is known.
+    // Appends an element whose contents are so many of the last bytes. Two to four of them are appended as an array of fixed size.
     #[inline(always)]
     fn append_last(&mut self, tag: Tag, bytes: [u8; 8], count: usize) -> ASN1Result<()>
         requires some { 1 ≤ count }
@@ -190,16 +190,11 @@ impl Writer {
             return self.append_primitive(tag, &[], &bytes[8 - count..]);
         }
         let first = leading(tag, PCBit::Primitive);
-        let [a, b, c, d, e, f, g, h] = bytes;
         match count {
-            1 => self.append(&[first, 1, h]),
-            2 => self.append(&[first, 2, g, h]),
-            3 => self.append(&[first, 3, f, g, h]),
-            4 => self.append(&[first, 4, e, f, g, h]),
-            5 => self.append(&[first, 5, d, e, f, g, h]),
-            6 => self.append(&[first, 6, c, d, e, f, g, h]),
-            7 => self.append(&[first, 7, b, c, d, e, f, g, h]),
-            _ => self.append(&[first, 8, a, b, c, d, e, f, g, h]),
+            2 => self.append(&[first, 2, bytes[6], bytes[7]]),
+            3 => self.append(&[first, 3, bytes[5], bytes[6], bytes[7]]),
+            4 => self.append(&[first, 4, bytes[4], bytes[5], bytes[6], bytes[7]]),
+            _ => self.append(&headed(first, bytes, 8 - count)[8 - count..]),
         }
     }
 
@@ -221,4 +216,19 @@ impl Writer {
         let rest = without(sign_byte(positive), bytes);
         self.write_pieces(own, sign_front(positive, rest), rest)
     }
+}
+
+// From a place on: a byte, the count of the bytes from there on, and those bytes.
+#[inline(always)]
+fn headed(first: u8, bytes: [u8; 8], from: usize) -> [u8; 10]
+    requires { from ≤ 8 }
+    ensures all { length result ≡ 10 }
+    ensures last { drop from result ≡ first ∷ (8 - from) ∷ drop from bytes }
+{
+    let mut all = [
+        0, 0, bytes[0], bytes[1], bytes[2], bytes[3], bytes[4], bytes[5], bytes[6], bytes[7],
+    ];
+    all[from + 1] = (8 - from) as u8;
+    all[from] = first;
+    all
 }
