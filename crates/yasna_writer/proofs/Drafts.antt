@@ -2,7 +2,7 @@
 use Rattle.std.proofs.Common.{◌≡◌, ℕ, suc, ◌+◌, ◌-◌, ◌^◌, ◌<◌, ◌≤◌, List, [], ◌∷◌, ◌++◌, length, take, drop, zero, refl, sym, subst, ap, ap₂, ◌∙◌, arith, append_assoc, length-append, length-take, length-drop}
 use Rattle.std.proofs.lemmas.List.{take-append-le, drop-append-le, take-take, take-append-drop, set_at, length-set}
 use Rattle.std.proofs.Math.Seq.{take-append_seam, drop-append_seam}
-use Rattle.std.specs.Prelude.{set, slice_get}
+use Rattle.std.specs.Prelude.{set, slice_get, Some}
 use Rattle.smallvec.specs.SmallVec.{SmallVec, with_items}
 use Rattle.smallvec.proofs.SmallVecLemmas.{items-with_items}
 use Rattle.yasna_base.specs.declared.tag.Tag.{Tag}
@@ -389,3 +389,18 @@ unfolding canonical_element indefinite_element
 indefinite_apart t place b within =
     ap₂ (λ x y. x ++ (indefinite_header t ++ y)) (take-append-le place b end_of_contents within) (drop-append-le place b end_of_contents within)
     ∙ ap (λ x. take place b ++ x) (append_assoc (identifier t Constructed) (128 ∷ []) (drop place b ++ end_of_contents))
+
+drop_get : (es : List Entry) (i : ℕ) (e : Entry) → slice_get es i ≡ Some e → drop i es ≡ e ∷ drop (i + 1) es
+drop_get [] i e g = absurd (cc)
+drop_get (x ∷ es) zero e g = let same : x ≡ e = cc g in ap (λ z. z ∷ es) same
+drop_get (x ∷ es) (suc i) e g = let n : suc (i + 1) ≡ suc i + 1 = omega arith in drop_get es i e g ∙ ap (λ k. e ∷ drop k (x ∷ es)) n
+
+-- an entry that waits at a place, where the element that ends began
+pub innermost_at :
+    (es : List Entry) (b : Beginning) (e : Entry) (waits headers : ℕ) → slice_get es b.entry ≡ Some e → e.mark ≡ Waits waits headers → e.place ≤ b.start
+    → headers ≡ b.start - e.place → IsInnermost es waits b e.place
+innermost_at es b e waits headers g m le h = record {
+  headers = headers;
+  there = drop_get es b.entry e g ∙ ap (λ k. (record { place = e.place; mark = k }) ∷ drop (b.entry + 1) es) m;
+  start = omega (arith, h);
+}

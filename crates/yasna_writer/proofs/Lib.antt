@@ -1,4 +1,5 @@
 pub mod Appends
+pub mod Blocks
 pub mod Bmps
 pub mod BigEndian
 pub mod Drafts

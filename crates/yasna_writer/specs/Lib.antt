@@ -7,6 +7,7 @@ pub mod Integer
 pub mod Bmp
 pub mod Segments
 pub mod Draft
+pub mod Entries
 pub mod State
 pub mod Construct
 pub mod Sequence

@@ -19,6 +19,7 @@ ghost use Rattle.yasna_writer.specs.Draft.{IsInnermost, MarksHeader, with_header
 ghost use Rattle.yasna_writer.specs.declared.draft.Mark.TheVariants.{Waits};
 
 use crate::bmp::push_bmp;
+use crate::entries::Entries;
 use crate::header::{
     Header, PartsHeader, header_length, parts_header, parts_header_length, push_header,
     push_indefinite_header,
@@ -26,7 +27,6 @@ use crate::header::{
 use crate::identifier::push_bytes;
 use crate::join::join;
 use crate::oid::push_subidentifiers;
-use smallvec::SmallVec;
 use std::alloc::{AllocError, Global};
 use std::default::MadeWith;
 use std::marker::Model;
@@ -96,7 +96,7 @@ pub(crate) struct Draft {
     // How many bytes the headers take.
     headers: usize,
     // Where headers belong, by their places.
-    entries: SmallVec<Entry, 4, Global>,
+    entries: Entries,
     // How many elements with an entry aren't ended.
     waits: u16,
     // The headers that are too large for an entry.
@@ -109,20 +109,17 @@ impl Model for Draft {
 
     ghost Value = { List ℕ };
 
-    ghost view = { λ d. joined d.large.items d.entries.items d.contents.items };
+    ghost view = { λ d. joined d.large.items d.entries d.contents.items };
 
-    ghost invariant = { λ d. AreEntries d.large.items d.entries.items (length d.contents.items) d.headers d.waits };
+    ghost invariant = { λ d. AreEntries d.large.items d.entries (length d.contents.items) d.headers d.waits };
 }
 
 // At which place the element waits that began there, if it is the innermost that isn't ended.
 #[inline(always)]
-fn innermost(entries: &[Entry], waits: u16, beginning: Beginning) -> Option<usize>
+fn innermost(entries: &Entries, waits: u16, beginning: Beginning) -> Option<usize>
     ensures { IfSome result (λ place. IsInnermost entries.now waits beginning place) }
 {
-    if beginning.entry >= entries.len() {
-        return None;
-    }
-    let entry = entries[beginning.entry];
+    let entry = entries.get(beginning.entry)?;
     match entry.mark {
         Mark::Waits { depth, headers }
             if depth == waits
@@ -200,7 +197,7 @@ impl Draft {
         Draft {
             contents: Vec::new(alloc),
             headers: 0,
-            entries: SmallVec::new(alloc),
+            entries: Entries::new(alloc),
             waits: 0,
             large: Vec::new(alloc),
         }
@@ -267,7 +264,7 @@ impl Draft {
     // Marks where an element with parts begins. Where there is no memory for the mark, or it can't hold its numbers, its end
     // does without.
     #[inline(always)]
-    pub(crate) fn mark_beginning(&mut self, tag: Tag, mode: BERMode) -> Beginning
+    pub(crate) fn mark_beginning(&mut self, alloc: Global, tag: Tag, mode: BERMode) -> Beginning
         ensures same { self.new ≡ self.old }
         ensures start { result.start ≡ length self.old }
         ensures tagged { result.tag ≡ tag }
@@ -284,7 +281,7 @@ impl Draft {
         let Some(mark) = waiting_mark(self.waits, self.headers) else {
             return beginning;
         };
-        if let Ok(()) = self.entries.push(Entry { place, mark }) {
+        if let Ok(()) = self.entries.push(alloc, Entry { place, mark }) {
             self.waits += 1;
         }
         beginning
@@ -352,7 +349,7 @@ impl Draft {
         let Ok(mark) = mark_of(&mut self.large, beginning.tag, length) else {
             return Err(ASN1Error::new(ASN1ErrorKind::OutOfMemory));
         };
-        self.entries[beginning.entry] = Entry { place, mark };
+        self.entries.set(beginning.entry, Entry { place, mark });
         self.headers = headers;
         self.waits -= 1;
         Ok(())
@@ -394,8 +391,8 @@ impl Draft {
         let contents = self.take_joined(alloc)?;
         let mut large = Vec::new(alloc);
         let mark = mark_of(&mut large, tag, length)?;
-        let mut entries = SmallVec::new(alloc);
-        entries.push(Entry { place, mark })?;
+        let mut entries = Entries::new(alloc);
+        entries.push(alloc, Entry { place, mark })?;
         Ok(Draft {
             contents,
             headers: parts_header_length(tag, length),
@@ -410,8 +407,13 @@ impl Draft {
     pub(crate) fn take_joined(&mut self, alloc: Global) -> Result<Vec<u8>, AllocError>
         ensures { IfOk result (λ v. v.items ≡ self.old) }
     {
-        if !self.entries.is_empty() {
-            let joined = join(&mut self.contents, &self.entries, &self.large, self.headers);
+        if self.entries.len() > 0 {
+            let joined = join(
+                &mut self.contents,
+                &mut self.entries,
+                &self.large,
+                self.headers,
+            );
             self.entries.clear();
             self.large.clear();
             self.headers = 0;

@@ -6,24 +6,25 @@ ghost use Rattle.std.specs.Prelude.{◌≡◌, ◌≤◌, ◌<◌, ◌+◌, ◌^
 ghost use Rattle.yasna_writer.specs.Draft.{listed_header, header_of_mark, headers_length, joined, AreInOrder};
 ghost use Rattle.yasna_writer.specs.Put.{PutBefore};
 
-use crate::draft::{Entry, Mark};
+use crate::draft::Mark;
+use crate::entries::Entries;
 use crate::header::{Header, PartsHeader, put_header, put_indefinite_header, put_parts_header};
 use crate::identifier::put_bytes;
 use std::alloc::AllocError;
 use yasna_base::Tag;
 
-// Puts each header at its place in the contents, where the headers take so many bytes, and those that are too large for an entry stand
+// Puts each header at its place in the contents, and takes its entry out, where the headers take so many bytes, and those that are too large for an entry stand
 // in a list.
 pub(crate) fn join(
     contents: &mut Vec<u8>,
-    entries: &[Entry],
+    entries: &mut Entries,
     large: &[PartsHeader],
     headers: usize,
 ) -> Result<(), AllocError>
-    requires ordered { AreInOrder 0 entries.now (count contents.old.items) }
-    requires counted { headers ≡ headers_length large.now entries.now }
+    requires ordered { AreInOrder 0 entries.old (count contents.old.items) }
+    requires counted { headers ≡ headers_length large.now entries.old }
     requires few { headers < 2 ^ 63 }
-    ensures { OnOk result (contents.new.items ≡ joined large.now entries.now contents.old.items) }
+    ensures { OnOk result (contents.new.items ≡ joined large.now entries.old contents.old.items) }
 {
     let length = contents.len();
     contents.resize(length + headers, 0)?;
@@ -32,19 +33,17 @@ pub(crate) fn join(
 }
 
 // The same where there is room for all headers behind the contents, which are so long.
-fn place_headers(bytes: &mut [u8], entries: &[Entry], large: &[PartsHeader], length: usize)
-    requires ordered { AreInOrder 0 entries.now length }
-    requires room { count bytes.old ≡ length + headers_length large.now entries.now }
-    ensures { bytes.new ≡ joined large.now entries.now (take length bytes.old) }
+fn place_headers(bytes: &mut [u8], entries: &mut Entries, large: &[PartsHeader], length: usize)
+    requires ordered { AreInOrder 0 entries.old length }
+    requires room { count bytes.old ≡ length + headers_length large.now entries.old }
+    ensures { bytes.new ≡ joined large.now entries.old (take length bytes.old) }
 {
     let mut from = length;
     let mut to = bytes.len();
-    let mut rest = entries;
-    while let Some((entry, front)) = rest.split_last() {
+    while let Some(entry) = entries.pop() {
         let piece = move_up(bytes, entry.place, from, to);
         to = put_mark(bytes, piece, entry.mark, large);
         from = entry.place;
-        rest = front;
     }
 }
 

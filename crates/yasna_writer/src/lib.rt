@@ -31,6 +31,7 @@
 mod bmp;
 mod construct;
 mod draft;
+mod entries;
 mod header;
 mod identifier;
 mod integer;

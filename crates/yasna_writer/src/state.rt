@@ -287,7 +287,7 @@ impl Writer {
     pub(crate) fn begin(&mut self, tag: Tag) -> Beginning
         ensures { BeginsAt tag self.old self.new result }
     {
-        self.draft.mark_beginning(tag, self.mode)
+        self.draft.mark_beginning(self.alloc, tag, self.mode)
     }
 
     // Ends it over what is left from its beginning on, by the rules that it began with, or keeps why that fails.

@@ -7,21 +7,21 @@ use Rattle.yasna_writer.proofs.join.place_headers.Goals as goal
 pub move_up-piece-requires-clause-piece : goal.move_up-piece-requires-clause-piece
 move_up-piece-requires-clause-piece c =
     let i = c.loop-entry.invariant in
-    (places_last _ _ _ _ _ _ (c.in-Some.ensures {u = tt}).cases.0 i.ordered i.room).behind
+    (places_last _ _ _ _ _ _ (c.in-Some.ensures {u = tt}) i.ordered i.room).behind
 
 pub put_mark-to-requires-clause-room : goal.put_mark-to-requires-clause-room
 put_mark-to-requires-clause-room c =
     let i = c.loop-entry.invariant in
-    let l = places_last _ _ _ _ _ _ (c.in-Some.ensures {u = tt}).cases.0 i.ordered i.room in
-    let long = length-between c.loop-entry.bytes c.in-Some.entry.now.place c.loop-entry.from (omega (arith, i.within, l.room, l.behind)) in
+    let l = places_last _ _ _ _ _ _ (c.in-Some.ensures {u = tt}) i.ordered i.room in
+    let long = length-between c.loop-entry.bytes c.in-Some.entry.place c.loop-entry.from (omega (arith, i.within, l.room, l.behind)) in
     omega (arith, l.room, l.behind, long, c.move_up-piece.ensures.put.place)
 
 pub loop-entry-preserved : goal.loop-entry-preserved
 loop-entry-preserved c =
     let i = c.loop-entry.invariant in
-    let s = (c.in-Some.ensures {u = tt}).cases.0 in
+    let s = (c.in-Some.ensures {u = tt}) in
     let l = places_last _ _ _ _ _ _ s i.ordered i.room in
-    let long = length-between c.loop-entry.bytes c.in-Some.entry.now.place c.loop-entry.from (omega (arith, i.within, l.room, l.behind)) in
+    let long = length-between c.loop-entry.bytes c.in-Some.entry.place c.loop-entry.from (omega (arith, i.within, l.room, l.behind)) in
     let p = put_both _ _ _ _ _ _ _ _ c.move_up-piece.ensures.put c.put_mark-to.ensures.put i.within in
     record {
       ordered = l.ordered;

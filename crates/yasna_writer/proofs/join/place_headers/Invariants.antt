@@ -4,11 +4,11 @@ use Rattle.yasna_writer.proofs.join.place_headers.Given as goal
 
 abbrev pub invariant-loop-entry : goal.invariant-loop-entry
 invariant-loop-entry l = record {
-  ordered : AreInOrder 0 l.rest l.from;
-  room : l.to ≡ l.from + headers_length l.large l.rest;
+  ordered : AreInOrder 0 l.entries l.from;
+  room : l.to ≡ l.from + headers_length l.large l.entries;
   within : l.to ≤ length l.bytes;
-  joins : joined l.large l.entries (take l.length l.fn.bytes) ≡ joined l.large l.rest (take l.from l.bytes) ++ drop l.to l.bytes;
+  joins : joined l.large l.fn.entries (take l.length l.fn.bytes) ≡ joined l.large l.entries (take l.from l.bytes) ++ drop l.to l.bytes;
 }
 
 abbrev pub decreases-loop-entry : goal.decreases-loop-entry
-decreases-loop-entry l = length l.rest
+decreases-loop-entry l = length l.entries

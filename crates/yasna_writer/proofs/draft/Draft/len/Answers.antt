@@ -9,5 +9,5 @@ returns c =
       arith,
       c.len.ensures,
       ap length c.self.view_is,
-      entries_length d.large.items d.entries.items d.contents.items d.headers d.waits c.self.invariant,
+      entries_length d.large.items d.entries d.contents.items d.headers d.waits c.self.invariant,
     )

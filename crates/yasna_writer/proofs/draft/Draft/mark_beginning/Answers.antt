@@ -7,17 +7,17 @@ use Rattle.yasna_writer.proofs.draft.Draft.mark_beginning.Goals as goal
 pub invariant_of-self : goal.invariant_of-self
 invariant_of-self c =
     let d = c.self.inside in
-    let pushed = (c.in-Ok.ensures {u = tt}).ok in
+    let pushed = (c.in-Ok.ensures {u = tt}) in
     let place : c.len-place.result ≡ length d.contents.items = omega (arith, c.len-place.ensures) in
     subst (λ (es : List Entry). AreEntries d.large.items es (length d.contents.items) d.headers (d.waits + 1)) (sym pushed)
-    (entries_begin d.large.items d.entries.items c.in-Some.mark c.len-place.result (length d.contents.items) d.headers d.waits c.self.invariant place
+    (entries_begin d.large.items d.entries c.in-Some.mark c.len-place.result (length d.contents.items) d.headers d.waits c.self.invariant place
     (c.in-Some.ensures {u = tt}).1)
 
 pub returns-in-Ok-clause-same : goal.returns-in-Ok-clause-same
 returns-in-Ok-clause-same c =
     let d = c.self.inside in
-    let pushed = (c.in-Ok.ensures {u = tt}).ok in
+    let pushed = (c.in-Ok.ensures {u = tt}) in
     ap (λ (es : List Entry). joined d.large.items es d.contents.items) pushed
-    ∙ joined_begin d.large.items d.entries.items c.in-Some.mark c.len-place.result d.contents.items
+    ∙ joined_begin d.large.items d.entries c.in-Some.mark c.len-place.result d.contents.items
     (ap (header_of_mark d.large.items) (c.in-Some.ensures {u = tt}).1)
     ∙ c.self.view_is

@@ -2,33 +2,33 @@ use Rattle.std.proofs.Common.{◌+◌, ◌-◌, List, subst, sym, ap, ◌∙◌,
 use Rattle.yasna_writer.specs.declared.draft.Entry.{Entry}
 use Rattle.yasna_writer.specs.declared.header.PartsHeader.{PartsHeader}
 use Rattle.yasna_writer.specs.Header.{parts_header, header_of}
-use Rattle.yasna_writer.specs.Draft.{AreEntries, IsInnermost, joined, with_header}
-use Rattle.yasna_writer.proofs.Drafts.{takes, entry_set, waits_some}
+use Rattle.yasna_writer.specs.Draft.{AreEntries, joined, with_header}
+use Rattle.yasna_writer.proofs.Drafts.{takes, waits_some}
 use Rattle.yasna_writer.proofs.draft.Draft.place_header.Goals as goal
 
 pub overflow_sub-self : goal.overflow_sub-self
 overflow_sub-self c =
     let d = c.self.inside in
-    let i = subst (λ (es : List Entry). IsInnermost es d.waits c.args.beginning c.in-Some.place) c.deref.ensures (c.in-Some.ensures {u = tt}) in
-    waits_some d.large.items d.entries.items c.args.beginning c.in-Some.place (length d.contents.items) d.headers d.waits c.self.invariant i
+    let i = c.in-Some.ensures {u = tt} in
+    waits_some d.large.items d.entries c.args.beginning c.in-Some.place (length d.contents.items) d.headers d.waits c.self.invariant i
 
 pub invariant_of-self : goal.invariant_of-self
 invariant_of-self c =
     let d = c.self.inside in
-    subst (λ (ls : List PartsHeader). AreEntries ls d.entries.items (length d.contents.items) d.headers d.waits)
+    subst (λ (ls : List PartsHeader). AreEntries ls d.entries (length d.contents.items) d.headers d.waits)
     (sym (c.in_default-mark_of.ensures {u = tt})) c.self.invariant
 
 pub invariant_of-self-2 : goal.invariant_of-self-2
 invariant_of-self-2 c =
     let d = c.self.inside in
     let b = c.args.beginning in
-    let i = subst (λ (es : List Entry). IsInnermost es d.waits b c.in-Some.place) c.deref.ensures (c.in-Some.ensures {u = tt}) in
+    let i = c.in-Some.ensures {u = tt} in
     let k = c.in-Ok.ensures {u = tt} in
     let y : Entry = record { place = c.in-Some.place; mark = c.in-Ok.mark } in
-    let written = entry_set d.entries c.deref_mut.result.now b.entry y c.deref_mut.ensures.value in
+    let written = c.set.ensures in
     subst (λ (es : List Entry). AreEntries c.mark_of.new.large.items es (length d.contents.items) (d.headers + c.parts_header_length.result) (d.waits - 1))
     (sym written)
-    (takes d.large.items c.mark_of.new.large.items k.0 d.entries.items b (header_of b.tag c.args.length) c.in-Ok.mark c.in-Some.place d.headers
+    (takes d.large.items c.mark_of.new.large.items k.0 d.entries b (header_of b.tag c.args.length) c.in-Ok.mark c.in-Some.place d.headers
     (d.headers + c.parts_header_length.result) d.waits d.contents.items c.self.invariant i k.1 k.2
     (ap (λ n. d.headers + n) c.parts_header_length.ensures.octets) (omega (arith, c.if-headers.false))).entries
 
@@ -36,11 +36,11 @@ pub returns : goal.returns
 returns c =
     let d = c.self.inside in
     let b = c.args.beginning in
-    let i = subst (λ (es : List Entry). IsInnermost es d.waits b c.in-Some.place) c.deref.ensures (c.in-Some.ensures {u = tt}) in
+    let i = c.in-Some.ensures {u = tt} in
     let k = c.in-Ok.ensures {u = tt} in
     let y : Entry = record { place = c.in-Some.place; mark = c.in-Ok.mark } in
-    let written = entry_set d.entries c.deref_mut.result.now b.entry y c.deref_mut.ensures.value in
-    let taken = takes d.large.items c.mark_of.new.large.items k.0 d.entries.items b (header_of b.tag c.args.length) c.in-Ok.mark c.in-Some.place d.headers
+    let written = c.set.ensures in
+    let taken = takes d.large.items c.mark_of.new.large.items k.0 d.entries b (header_of b.tag c.args.length) c.in-Ok.mark c.in-Some.place d.headers
     (d.headers + c.parts_header_length.result) d.waits d.contents.items c.self.invariant i k.1 k.2
     (ap (λ n. d.headers + n) c.parts_header_length.ensures.octets) (omega (arith, c.if-headers.false)) in
     ap (λ (es : List Entry). joined c.mark_of.new.large.items es d.contents.items) written ∙ taken.joins

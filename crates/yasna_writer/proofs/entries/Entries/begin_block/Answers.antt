@@ -1,0 +1,15 @@
+use Rattle.std.proofs.Common.{◌+◌, refl, ◌∙◌, arith}
+use Rattle.yasna_writer.proofs.Blocks.{begun, begun_view}
+use Rattle.yasna_writer.proofs.entries.Entries.begin_block.Goals as goal
+
+pub invariant_of-self-2 : goal.invariant_of-self-2
+invariant_of-self-2 c =
+    let s = c.self.inside in
+    begun s.full.items c.put_behind.new.full.items s.before (s.before + 4096) s.last.items c.put_behind.new.last.items c.put_behind.new.last.items
+    c.self.invariant (c.in_ok-put_behind.ensures {u = tt}) (omega (arith, c.len.ensures.value, c.if-len-ne-BLOCK.false)) refl
+    (omega (arith, c.if-before.false))
+
+pub returns : goal.returns
+returns c =
+    let s = c.self.inside in
+    begun_view s.full.items c.put_behind.new.full.items s.last.items c.put_behind.new.last.items (c.in_ok-put_behind.ensures {u = tt}) ∙ c.self.view_is
