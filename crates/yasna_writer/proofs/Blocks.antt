@@ -145,7 +145,7 @@ popped full rest b before last left a e =
 pub popped_view :
     (full rest : List (Vec Entry Global)) (b : Vec Entry Global) (last left now : List Entry) (o : Option Entry) → AreFull full → full ≡ rest ++ (b ∷ [])
     → b.items ≡ left ++ option_to_list o → (0 < length b.items → IsSome o) → length last ≡ 0 → in_blocks full ++ last ≡ now
-    → MatchOption o (now ≡ []) (λ x. now ≡ (in_blocks rest ++ left) ++ (x ∷ []))
+    → MatchOption o ((now ≡ []) × (in_blocks rest ++ left ≡ [])) (λ x. now ≡ (in_blocks rest ++ left) ++ (x ∷ []))
 popped_view full rest b [] left now None f e i some none v =
     let g = are_full_front rest (b ∷ []) (subst AreFull e f) in absurd (cc (some (omega (arith, g.1.0))))
 popped_view full rest b [] left now (Some x) f e i some none v =

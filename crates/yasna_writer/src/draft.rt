@@ -408,17 +408,15 @@ impl Draft {
         ensures { IfOk result (λ v. v.items ≡ self.old) }
     {
         if self.entries.len() > 0 {
-            let joined = join(
+            join(
                 &mut self.contents,
                 &mut self.entries,
                 &self.large,
                 self.headers,
-            );
-            self.entries.clear();
+            )?;
             self.large.clear();
             self.headers = 0;
             self.waits = 0;
-            joined?;
         }
         Ok(mem::replace(&mut self.contents, Vec::new(alloc)))
     }

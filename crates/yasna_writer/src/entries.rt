@@ -115,7 +115,7 @@ impl Entries {
     // Takes out the last entry.
     #[inline(always)]
     pub(crate) fn pop(&mut self) -> Option<Entry>
-        ensures { MatchOption result (self.old ≡ []) (λ e. self.old ≡ self.new ++ (e ∷ [])) }
+        ensures { MatchOption result ((self.old ≡ []) × (self.new ≡ [])) (λ e. self.old ≡ self.new ++ (e ∷ [])) }
     {
         if let Some(entry) = self.last.pop() {
             return Some(entry);
@@ -123,15 +123,6 @@ impl Entries {
         self.last = SmallVec::from_vec(self.full.pop()?);
         self.before -= BLOCK;
         self.last.pop()
-    }
-
-    // Drops all.
-    pub(crate) fn clear(&mut self)
-        ensures { self.new ≡ [] }
-    {
-        self.full.clear();
-        self.before = 0;
-        self.last.clear();
     }
 }
 

@@ -2,7 +2,7 @@
 //!
 //! Room for all headers is made behind the contents. Then each piece of the contents moves up to its place, once, and the header in front
 //! of it is written there. So no second copy of the bytes is needed.
-ghost use Rattle.std.specs.Prelude.{◌≡◌, ◌≤◌, ◌<◌, ◌+◌, ◌^◌, length as count, take, slice_range, slice_get, OnOk};
+ghost use Rattle.std.specs.Prelude.{◌≡◌, ◌≤◌, ◌<◌, ◌+◌, ◌^◌, length as count, take, slice_range, slice_get, MatchResult, []};
 ghost use Rattle.yasna_writer.specs.Draft.{listed_header, header_of_mark, headers_length, joined, AreInOrder};
 ghost use Rattle.yasna_writer.specs.Put.{PutBefore};
 
@@ -24,7 +24,7 @@ pub(crate) fn join(
     requires ordered { AreInOrder 0 entries.old (count contents.old.items) }
     requires counted { headers ≡ headers_length large.now entries.old }
     requires few { headers < 2 ^ 63 }
-    ensures { OnOk result (contents.new.items ≡ joined large.now entries.old contents.old.items) }
+    ensures { MatchResult result (λ _. (contents.new.items ≡ joined large.now entries.old contents.old.items) × (entries.new ≡ [])) (λ _. (contents.new.items ≡ contents.old.items) × (entries.new ≡ entries.old)) }
 {
     let length = contents.len();
     contents.resize(length + headers, 0)?;
@@ -36,7 +36,8 @@ pub(crate) fn join(
 fn place_headers(bytes: &mut [u8], entries: &mut Entries, large: &[PartsHeader], length: usize)
     requires ordered { AreInOrder 0 entries.old length }
     requires room { count bytes.old ≡ length + headers_length large.now entries.old }
-    ensures { bytes.new ≡ joined large.now entries.old (take length bytes.old) }
+    ensures joins { bytes.new ≡ joined large.now entries.old (take length bytes.old) }
+    ensures taken { entries.new ≡ [] }
 {
     let mut from = length;
     let mut to = bytes.len();
