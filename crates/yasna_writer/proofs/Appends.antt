@@ -6,7 +6,3 @@ use Rattle.std.proofs.lemmas.Result.{on_ok_weaker}
 pub append_then :
     {T E : Type 0} (r : Result T E) (old mid new xs ys zs : List ℕ) → mid ≡ old ++ xs → OnOk r (new ≡ mid ++ ys) → zs ≡ xs ++ ys → OnOk r (new ≡ old ++ zs)
 append_then r old mid new xs ys zs p q e = on_ok_weaker r (λ f. f ∙ ap (λ z. z ++ ys) p ∙ append_assoc old xs ys ∙ ap (λ z. old ++ z) (sym e)) q
-
--- what two appends leave in front of more
-pub appended_two : (old one two xs ys more : List ℕ) → one ≡ old ++ xs → two ≡ one ++ ys → two ++ more ≡ old ++ (xs ++ (ys ++ more))
-appended_two old one two xs ys more p q = ap (λ a. a ++ more) (q ∙ ap (λ a. a ++ ys) p) ∙ simp append_assoc

@@ -20,7 +20,7 @@ use Rattle.yasna_writer.specs.declared.draft.Mark.TheVariants.{Waits, Definite, 
 use Rattle.yasna_writer.specs.declared.draft.Beginning.{Beginning}
 use Rattle.yasna_writer.specs.declared.draft.Entry.{Entry}
 use Rattle.yasna_writer.specs.Header.{header_bytes, indefinite_header, parts_header}
-use Rattle.yasna_writer.specs.Draft.{listed_header, header_of_mark, IsListed, AreListed, MarksHeader, with_header, mark_waits, waits_of, joined, AreInOrder, headers_length, KnowsPlace, KnowPlaces, AreEntries, IsInnermost, with_element}
+use Rattle.yasna_writer.specs.Draft.{listed_header, header_of_mark, FindsHeader, FindHeaders, MarksHeader, with_header, mark_waits, waits_of, joined, AreInOrder, headers_length, KnowsPlace, KnowPlaces, AreEntries, IsInnermost, with_element}
 
 -- places stay in order where the contents grow
 pub order_more : (k : ℕ) (es : List Entry) (m n : ℕ) → AreInOrder k es m → m ≤ n → AreInOrder k es n
@@ -104,11 +104,11 @@ pub order_split :
 order_split k [] e is n o = o
 order_split k (g ∷ es) e is n o = let r = order_split g.place es e is n o.1 in ((o.0, r.0), r.1)
 
-listed_append : (n : ℕ) (es is : List Entry) → AreListed n es → AreListed n is → AreListed n (es ++ is)
+listed_append : (n : ℕ) (es is : List Entry) → FindHeaders n es → FindHeaders n is → FindHeaders n (es ++ is)
 listed_append n [] is l m = m
 listed_append n (e ∷ es) is l m = (l.0, listed_append n es is l.1 m)
 
-listed_split : (n : ℕ) (es is : List Entry) → AreListed n (es ++ is) → AreListed n es × AreListed n is
+listed_split : (n : ℕ) (es is : List Entry) → FindHeaders n (es ++ is) → FindHeaders n es × FindHeaders n is
 listed_split n [] is l = (tt, l)
 listed_split n (e ∷ es) is l = let r = listed_split n es is l.1 in ((l.0, r.0), r.1)
 
@@ -158,33 +158,33 @@ front_of_list [] more i h = absurd (omega arith)
 front_of_list (l ∷ ls) more zero h = refl
 front_of_list (l ∷ ls) more (suc i) h = front_of_list ls more i (omega arith)
 
-is_listed_more : (m n : ℕ) (k : Mark) → IsListed m k → m ≤ n → IsListed n k
+is_listed_more : (m n : ℕ) (k : Mark) → FindsHeader m k → m ≤ n → FindsHeader n k
 is_listed_more m n (Waits d b) l le = tt
 is_listed_more m n (Definite c a b) l le = tt
 is_listed_more m n (Indefinite c a) l le = tt
 is_listed_more m n (Elsewhere i) l le = omega (arith, l)
 
-listed_more : (m n : ℕ) (es : List Entry) → AreListed m es → m ≤ n → AreListed n es
+listed_more : (m n : ℕ) (es : List Entry) → FindHeaders m es → m ≤ n → FindHeaders n es
 listed_more m n [] l le = tt
 listed_more m n (e ∷ es) l le = (is_listed_more m n e.mark l.0 le, listed_more m n es l.1 le)
 
 -- where further headers are listed behind the others, no entry changes its own
 module _ (ls more : List PartsHeader) where
-  header_more : (m : Mark) → IsListed (length ls) m → header_of_mark (ls ++ more) m ≡ header_of_mark ls m
+  header_more : (m : Mark) → FindsHeader (length ls) m → header_of_mark (ls ++ more) m ≡ header_of_mark ls m
   header_more (Waits d b) l = refl
   header_more (Definite c a b) l = refl
   header_more (Indefinite c a) l = refl
   header_more (Elsewhere i) l = ap listed_header (front_of_list ls more i l)
 
-  headers_more : (es : List Entry) → AreListed (length ls) es → headers_length (ls ++ more) es ≡ headers_length ls es
+  headers_more : (es : List Entry) → FindHeaders (length ls) es → headers_length (ls ++ more) es ≡ headers_length ls es
   headers_more [] l = refl
   headers_more (e ∷ es) l = omega (arith, ap length (header_more e.mark l.0), headers_more es l.1)
 
-  joined_more : (es : List Entry) (c : List ℕ) → AreListed (length ls) es → joined (ls ++ more) es c ≡ joined ls es c
+  joined_more : (es : List Entry) (c : List ℕ) → FindHeaders (length ls) es → joined (ls ++ more) es c ≡ joined ls es c
   joined_more [] c l = refl
   joined_more (e ∷ es) c l = ap₂ (with_header e.place) (header_more e.mark l.0) (joined_more es c l.1)
 
-  known_listed : (a b : ℕ) (es : List Entry) → AreListed (length ls) es → KnowPlaces ls a b es → KnowPlaces (ls ++ more) a b es
+  known_listed : (a b : ℕ) (es : List Entry) → FindHeaders (length ls) es → KnowPlaces ls a b es → KnowPlaces (ls ++ more) a b es
   known_listed a b [] l k = tt
   known_listed a b (e ∷ es) l k = (
     k.0,

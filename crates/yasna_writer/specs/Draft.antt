@@ -24,11 +24,11 @@ header_of_mark ls (Indefinite c n) = indefinite_header (record { tag_class = c; 
 header_of_mark ls (Elsewhere i) = listed_header (slice_get ls i)
 
 -- a mark's header stands in a list of so many, if it stands in one
-abbrev pub IsListed : ℕ → Mark → Type 0
-IsListed n (Waits d b) = Unit {0}
-IsListed n (Definite c m l) = Unit {0}
-IsListed n (Indefinite c m) = Unit {0}
-IsListed n (Elsewhere i) = i < n
+abbrev pub FindsHeader : ℕ → Mark → Type 0
+FindsHeader n (Waits d b) = Unit {0}
+FindsHeader n (Definite c m l) = Unit {0}
+FindsHeader n (Indefinite c m) = Unit {0}
+FindsHeader n (Elsewhere i) = i < n
 
 -- how many elements that aren't ended a mark stands for
 abbrev pub mark_waits : Mark → ℕ
@@ -40,7 +40,7 @@ mark_waits (Elsewhere i) = 0
 -- it is the mark of a header
 pub record MarksHeader (h : PartsHeader) (ls : List PartsHeader) (m : Mark) : Type 0 where
   pub header : header_of_mark ls m ≡ parts_header h
-  pub listed : IsListed (length ls) m
+  pub listed : FindsHeader (length ls) m
   pub ended : mark_waits m ≡ 0
 
 -- a header put into the bytes at a place
@@ -58,9 +58,9 @@ AreInOrder k [] n = k ≤ n
 AreInOrder k (e ∷ es) n = (k ≤ e.place) × AreInOrder e.place es n
 
 -- each header that stands in a list of so many
-abbrev pub AreListed : ℕ → List Entry → Type 0
-AreListed n [] = Unit {0}
-AreListed n (e ∷ es) = IsListed n e.mark × AreListed n es
+abbrev pub FindHeaders : ℕ → List Entry → Type 0
+FindHeaders n [] = Unit {0}
+FindHeaders n (e ∷ es) = FindsHeader n e.mark × FindHeaders n es
 
 -- how many bytes the headers take
 abbrev pub headers_length : List PartsHeader → List Entry → ℕ
@@ -88,7 +88,7 @@ KnowPlaces ls headers waits (e ∷ es) = KnowsPlace headers waits e.mark
 -- entries over n bytes of contents, counted
 pub record AreEntries (ls : List PartsHeader) (es : List Entry) (n headers waits : ℕ) : Type 0 where
   pub ordered : AreInOrder 0 es n
-  pub listed : AreListed (length ls) es
+  pub listed : FindHeaders (length ls) es
   pub counted : headers ≡ headers_length ls es
   pub waiting : waits ≡ waits_of es
   pub placed : KnowPlaces ls 0 0 es

@@ -13,8 +13,8 @@ use crate::identifier::put_bytes;
 use std::alloc::AllocError;
 use yasna_base::Tag;
 
-// Puts each header at its place in the contents, and takes its entry out, where the headers take so many bytes, and those that are too large for an entry stand
-// in a list.
+// Puts each header at its place in the contents, and takes its entry out. The headers take so many bytes, and those that are too large
+// for an entry stand in a list.
 pub(crate) fn join(
     contents: &mut Vec<u8>,
     entries: &mut Entries,

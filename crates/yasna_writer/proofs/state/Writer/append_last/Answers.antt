@@ -7,17 +7,20 @@ use Rattle.yasna_writer.proofs.state.Writer.append_last.Goals as goal
 pub returns-in-2 : goal.returns-in-2
 returns-in-2 c =
     let eight : length c.args.bytes ≡ 8 = search rules in
-    appended_few _ _ c.append.result _ c.args.tag _ _ 2 c.args.bytes eight (omega arith) c.in-2.is c.if-tag-ge31.false c.leading-first.ensures c.append.ensures
+    appended_few _ _ c.append.result _ c.args.tag _ _ 2 c.args.bytes eight (omega arith) c.in-2.is c.if-tag-ge31.false c.leading-first.ensures
+    c.append.ensures
 
 pub returns-in-3 : goal.returns-in-3
 returns-in-3 c =
     let eight : length c.args.bytes ≡ 8 = search rules in
-    appended_few _ _ c.append-in-3.result _ c.args.tag _ _ 3 c.args.bytes eight (omega arith) c.in-3.is c.if-tag-ge31.false c.leading-first.ensures c.append-in-3.ensures
+    appended_few _ _ c.append-in-3.result _ c.args.tag _ _ 3 c.args.bytes eight (omega arith) c.in-3.is c.if-tag-ge31.false c.leading-first.ensures
+    c.append-in-3.ensures
 
 pub returns-in-4 : goal.returns-in-4
 returns-in-4 c =
     let eight : length c.args.bytes ≡ 8 = search rules in
-    appended_few _ _ c.append-in-4.result _ c.args.tag _ _ 4 c.args.bytes eight (omega arith) c.in-4.is c.if-tag-ge31.false c.leading-first.ensures c.append-in-4.ensures
+    appended_few _ _ c.append-in-4.result _ c.args.tag _ _ 4 c.args.bytes eight (omega arith) c.in-4.is c.if-tag-ge31.false c.leading-first.ensures
+    c.append-in-4.ensures
 
 pub returns-in_default : goal.returns-in_default
 returns-in_default c =
