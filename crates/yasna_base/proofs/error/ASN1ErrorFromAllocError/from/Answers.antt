@@ -1,0 +1,5 @@
+use Rattle.std.proofs.Common.{rules}
+use Rattle.yasna_base.proofs.error.ASN1ErrorFromAllocError.from.Goals as goal
+
+pub returns : goal.returns
+returns c = search rules

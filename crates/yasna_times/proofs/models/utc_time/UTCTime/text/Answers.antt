@@ -1,0 +1,5 @@
+use Rattle.std.proofs.Common.{rules}
+use Rattle.yasna_times.proofs.models.utc_time.UTCTime.text.Goals as goal
+
+pub returns : goal.returns
+returns c = search rules
