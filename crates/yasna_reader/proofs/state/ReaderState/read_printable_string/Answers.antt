@@ -1,0 +1,5 @@
+use Rattle.std.proofs.Common.{rules}
+use Rattle.yasna_reader.proofs.state.ReaderState.read_printable_string.Goals as goal
+
+pub returns : goal.returns
+returns c = search rules
