@@ -1,4 +1,4 @@
-use Rattle.std.proofs.Common.{subst}
+use Rattle.std.proofs.Common.{subst, rules}
 use Rattle.yasna_base.specs.Raw.{IsRaw, IsJoining}
 use Rattle.yasna_listing.proofs.Raw.{lists_raw}
 use Rattle.yasna_listing.proofs.Reading.{told_whole}
@@ -14,3 +14,6 @@ returns-in-Ok-clause-raw g c =
     let one = subst (λ n. IsJoining (IsRaw n r.mode) p.left.now) c.start.ensures.levels y in
     let two = subst (λ m. IsJoining (IsRaw 101 m) p.left.now) c.start.ensures.mode one in
     subst (λ s. IsJoining (IsRaw 101 c.args.mode) s) c.start-2.ensures.left two
+
+pub returns-in-Ok-clause-some : goal.returns-in-Ok-clause-some
+returns-in-Ok-clause-some g c = search rules
