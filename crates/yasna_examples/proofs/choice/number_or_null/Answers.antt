@@ -27,3 +27,6 @@ returns-in-Err c =
     let s = c.args.item.now in
     found_none false item_coding s c.requires c.in-Err.error
     (looked s c.lookahead_tag.result (Err c.in-Err.error) c.lookahead_tag.ensures c.requires.0 c.in-Err.is)
+
+pub returns-in-Ok-read_null : goal.returns-in-Ok-read_null
+returns-in-Ok-read_null c = search rules
