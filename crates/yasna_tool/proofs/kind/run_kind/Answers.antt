@@ -1,4 +1,4 @@
-use Rattle.std.proofs.Common.{Vec, List, ℕ, ℤ}
+use Rattle.std.proofs.Common.{Vec, List, ℕ, ℤ, rules}
 use Rattle.std.specs.Global.{Global}
 use Rattle.std.specs.Int.{w64}
 use Rattle.std.specs.Io.KnownBytes.{Appends}
@@ -79,3 +79,9 @@ returns-in-Ints-clause-none g c =
     rw c.in-Ints.is
     (not_recoded EncodesIntegers integers_form c.args.mode ((list_along (λ (v : List ℤ). v) (signed_coding w64)).meaning.among c.args.mode 101) _ _
     (g.R.Source.remaining c.args.reader.now) c.run-in-Ints.result c.run-in-Ints.ensures.refused)
+
+pub returns-in-Pair-clause-recoded : goal.returns-in-Pair-clause-recoded
+returns-in-Pair-clause-recoded g c = search rules
+
+pub returns-in-Pair-clause-none : goal.returns-in-Pair-clause-none
+returns-in-Pair-clause-none g c = search rules

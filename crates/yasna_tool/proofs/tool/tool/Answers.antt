@@ -1,0 +1,8 @@
+use Rattle.std.proofs.Common.{rules}
+use Rattle.yasna_tool.proofs.tool.tool.Goals as goal
+
+pub returns-in-Err-Refused-clause-not_taken : goal.returns-in-Err-Refused-clause-not_taken
+returns-in-Err-Refused-clause-not_taken g c = search rules
+
+pub returns-in-Err-Refused-clause-usage : goal.returns-in-Err-Refused-clause-usage
+returns-in-Err-Refused-clause-usage g c = search rules
