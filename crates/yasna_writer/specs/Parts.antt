@@ -6,6 +6,7 @@ use Rattle.yasna_base.specs.declared.mode.BERMode.{BERMode}
 use Rattle.yasna_base.specs.Set.{SetPart}
 use Rattle.yasna_writer.specs.declared.ordered_part.OrderedPart.{OrderedPart}
 use Rattle.yasna_writer.specs.declared.tagged_part.TaggedPart.{TaggedPart}
+use Rattle.yasna_writer.specs.View.{Written}
 
 -- the parts of a set, as they are written
 pub record WrittenParts : Type 0 where
@@ -19,6 +20,10 @@ pub record WrittenParts : Type 0 where
 -- a set that begins
 abbrev pub no_parts : BERMode → WrittenParts
 no_parts m = record { parts = []; mode = m; kept = None }
+
+-- a set whose only part is this writing
+abbrev pub only_part : Written → WrittenParts
+only_part w = record { parts = w.bytes ∷ []; mode = w.mode; kept = w.kept }
 
 -- the bytes of each part
 abbrev pub bytes_each : List (Vec ℕ Global) → List (List ℕ)

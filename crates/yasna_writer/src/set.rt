@@ -1,6 +1,6 @@
 //! SET and SET OF (X.690, 8.11, 8.12, 9.3, 10.3 and 11.6), calls of users: their parts are written apart from each other, and then put
 //! in order. So parts of CER are ordered by the bytes that they have in CER.
-ghost use Rattle.std.specs.Prelude.{◌≡◌, ◌++◌, [], None, IsTrue, ◌↔◌, IfOk, MatchOption, MatchResult};
+ghost use Rattle.std.specs.Prelude.{◌≡◌, ◌++◌, ◌∷◌, [], None, IsTrue, ◌↔◌, IfOk, MatchOption, MatchResult};
 ghost use Rattle.std.specs.Borrow.{sem};
 ghost use Rattle.std.specs.Fn.{FnOnceTakesAtMut};
 ghost use Rattle.std.specs.List.{AllByRecursion, flat_map};
@@ -11,7 +11,7 @@ ghost use Rattle.yasna_base.specs.Error.{kind_of};
 ghost use Rattle.yasna_base.specs.Identifier.{tag_or};
 ghost use Rattle.yasna_base.specs.Order.{octets_cmp, in_order};
 ghost use Rattle.yasna_base.specs.Set.{set_tag, SetOfContents, SetContents};
-ghost use Rattle.yasna_writer.specs.Parts.{no_parts, bytes_each, ordered_bytes};
+ghost use Rattle.yasna_writer.specs.Parts.{no_parts, only_part, bytes_each, ordered_bytes};
 ghost use Rattle.yasna_writer.specs.Set.{Pushes, LacksParts, EndsPart, BeginsPart, BeginsNext, LendsPart, FailsAtSet, EndsSet, WritesSet, contents_in};
 ghost use Rattle.yasna_writer.specs.State.{Appended};
 ghost use Rattle.yasna_writer.specs.View.{holding, handed};
@@ -115,6 +115,20 @@ fn are_filled(parts: &[Vec<u8>]) -> bool
     ensures { IsTrue result ↔ AllByRecursion (λ v. v.items ≡ [] → ⊥) parts.now }
 {
     parts.iter().all(|part| is_filled(part))
+}
+
+// Takes out the bytes of the only part of a SET OF, or answers why there are none.
+fn filled_bytes(part: &mut Writer) -> ASN1Result<Vec<u8>>
+    ensures { MatchResult result (λ v. (part.old.kept ≡ None) × SetOfContents (part.old.bytes ∷ []) (flat_map (λ w. w.items) (v ∷ []))) (λ e. FailsAtSet SetOfContents (only_part part.old) e) }
+{
+    if let Some(error) = part.kept() {
+        return Err(error);
+    }
+    let bytes = part.take_bytes()?;
+    if bytes.is_empty() {
+        return Err(ASN1Error::new(ASN1ErrorKind::Invalid));
+    }
+    Ok(bytes)
 }
 
 // The parts as they stand, each behind the number of its first bytes.
@@ -228,11 +242,25 @@ impl Writer {
         }
     }
 
+    // Writes a SET OF around its only part, which needs no order, or keeps why it can't.
+    fn end_set_of_one(&mut self, tag: Tag, part: &mut Writer)
+        requires { self.old ≡ handed self.old }
+        ensures { EndsSet SetOfContents (canonical_element self.old.mode tag Constructed) (only_part part.old) self.old self.new }
+    {
+        match filled_bytes(part) {
+            Ok(bytes) => self.write_parts(tag, &[bytes]),
+            Err(error) => self.keep(error),
+        }
+    }
+
     // Writes a SET OF around the parts, or keeps why it can't.
-    fn end_set_of(&mut self, tag: Tag, set: DERWriterSet)
+    fn end_set_of(&mut self, tag: Tag, mut set: DERWriterSet)
         requires { self.old ≡ handed self.old }
         ensures { EndsSet SetOfContents (canonical_element self.old.mode tag Constructed) set self.old self.new }
     {
+        if set.begun && set.parts.is_empty() {
+            return self.end_set_of_one(tag, &mut set.last);
+        }
         match set.into_set_of() {
             Ok(parts) => self.write_parts(tag, &parts),
             Err(error) => self.keep(error),
