@@ -86,8 +86,8 @@ impl Entries {
     pub(crate) fn push(&mut self, alloc: Global, entry: Entry) -> Result<(), AllocError>
         ensures { MatchResult result (λ _. self.new ≡ self.old ++ (entry ∷ [])) (λ _. self.new ≡ self.old) }
     {
-        if self.last.len() == BLOCK {
-            self.begin_block(alloc)?;
+        if self.last.len() == self.last.capacity() {
+            self.make_room(alloc)?;
         }
         match self.last.push(entry) {
             Ok(()) => Ok(()),
@@ -95,8 +95,23 @@ impl Entries {
         }
     }
 
-    // Begins another block, where the last one is full.
+    // Makes room for an entry. The first block takes four times as much at each step, and each further one all that it may hold.
+    #[cold]
     #[inline(never)]
+    fn make_room(&mut self, alloc: Global) -> Result<(), AllocError>
+        ensures { self.new ≡ self.old }
+    {
+        let length = self.last.len();
+        if length == BLOCK {
+            return self.begin_block(alloc);
+        }
+        if self.before == 0 {
+            return self.last.reserve(length.saturating_mul(3));
+        }
+        self.last.reserve(BLOCK.saturating_sub(length))
+    }
+
+    // Begins another block, where the last one is full.
     fn begin_block(&mut self, alloc: Global) -> Result<(), AllocError>
         ensures { self.new ≡ self.old }
     {
