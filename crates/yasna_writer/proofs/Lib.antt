@@ -8,6 +8,7 @@ pub mod Headers
 pub mod Identifiers
 pub mod Joins
 pub mod Integers
+pub mod Lengths
 pub mod Padding
 pub mod Primitives
 pub mod Puts

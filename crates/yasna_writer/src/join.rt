@@ -3,6 +3,8 @@
 //! Room for all headers is made behind the contents. Then each piece of the contents moves up to its place, once, and the header in front
 //! of it is written there. So no second copy of the bytes is needed.
 ghost use Rattle.std.specs.Prelude.{◌≡◌, ◌≤◌, ◌<◌, ◌+◌, ◌^◌, length as count, take, slice_range, slice_get, MatchResult, []};
+ghost use Rattle.yasna_base.specs.declared.tag.PCBit.TheVariants.{Constructed};
+ghost use Rattle.yasna_writer.specs.Header.{header_bytes};
 ghost use Rattle.yasna_writer.specs.Draft.{listed_header, header_of_mark, headers_length, joined, AreInOrder};
 ghost use Rattle.yasna_writer.specs.Put.{PutBefore};
 
@@ -11,7 +13,7 @@ use crate::entries::Entries;
 use crate::header::{Header, PartsHeader, put_header, put_indefinite_header, put_parts_header};
 use crate::identifier::put_bytes;
 use std::alloc::AllocError;
-use yasna_base::Tag;
+use yasna_base::{Tag, TagClass};
 
 // Puts each header at its place in the contents, and takes its entry out. The headers take so many bytes, and those that are too large
 // for an entry stand in a list.
@@ -27,7 +29,7 @@ pub(crate) fn join(
     ensures { MatchResult result (λ _. (contents.new.items ≡ joined large.now entries.old contents.old.items) × (entries.new ≡ [])) (λ _. (contents.new.items ≡ contents.old.items) × (entries.new ≡ entries.old)) }
 {
     let length = contents.len();
-    contents.resize(length + headers, 0)?;
+    make_room(contents, headers)?;
     place_headers(contents, entries, large, length);
     Ok(())
 }
@@ -48,9 +50,40 @@ fn place_headers(bytes: &mut [u8], entries: &mut Entries, large: &[PartsHeader],
     }
 }
 
-// Writes the header of a mark in front of a place.
+// Makes room for headers that take so many bytes behind the contents. For one short header these are two bytes, which are appended
+// with no loop.
+#[inline(always)]
+fn make_room(contents: &mut Vec<u8>, headers: usize) -> Result<(), AllocError>
+    requires { count contents.old.items + headers < 2 ^ 64 }
+    ensures { MatchResult result (λ _. (count contents.new.items ≡ count contents.old.items + headers) × (take (count contents.old.items) contents.new.items ≡ contents.old.items)) (λ _. contents.new.items ≡ contents.old.items) }
+{
+    if headers == 2 {
+        return contents.extend_from_slice(&[0, 0]);
+    }
+    contents.resize(contents.len() + headers, 0)
+}
+
+// Writes the header of a mark in front of a place. Mostly its length is counted: one branch is cheaper than a jump for each kind.
 #[inline(always)]
 fn put_mark(out: &mut [u8], end: usize, mark: Mark, large: &[PartsHeader]) -> usize
+    requires room { count (header_of_mark large.now mark) ≤ end }
+    requires within { end ≤ count out.old }
+    ensures put { PutBefore (header_of_mark large.now mark) end out.old out.new result }
+    ensures len { count out.new ≡ count out.old }
+{
+    match mark {
+        Mark::Definite {
+            class,
+            number,
+            length,
+        } => put_definite(out, end, class, number, length),
+        _ => put_any_mark(out, end, mark, large),
+    }
+}
+
+// The same of a mark of any kind.
+#[inline(never)]
+fn put_any_mark(out: &mut [u8], end: usize, mark: Mark, large: &[PartsHeader]) -> usize
     requires room { count (header_of_mark large.now mark) ≤ end }
     requires within { end ≤ count out.old }
     ensures put { PutBefore (header_of_mark large.now mark) end out.old out.new result }
@@ -62,14 +95,7 @@ fn put_mark(out: &mut [u8], end: usize, mark: Mark, large: &[PartsHeader]) -> us
             class,
             number,
             length,
-        } => {
-            let tag = Tag {
-                tag_class: class,
-                tag_number: number as u64,
-            };
-            let length = length as usize;
-            put_header(out, end, Header { tag, length })
-        }
+        } => put_definite(out, end, class, number, length),
         Mark::Indefinite { class, number } => {
             let tag = Tag {
                 tag_class: class,
@@ -79,6 +105,22 @@ fn put_mark(out: &mut [u8], end: usize, mark: Mark, large: &[PartsHeader]) -> us
         }
         Mark::Elsewhere(index) => put_listed(out, end, large, index as usize),
     }
+}
+
+// Writes a header whose length is counted in front of a place.
+#[inline(always)]
+fn put_definite(out: &mut [u8], end: usize, class: TagClass, number: u16, length: u32) -> usize
+    requires room { count (header_bytes Constructed (record { tag = record { tag_class = class; tag_number = number }; length = length })) ≤ end }
+    requires within { end ≤ count out.old }
+    ensures put { PutBefore (header_bytes Constructed (record { tag = record { tag_class = class; tag_number = number }; length = length })) end out.old out.new result }
+    ensures len { count out.new ≡ count out.old }
+{
+    let tag = Tag {
+        tag_class: class,
+        tag_number: number as u64,
+    };
+    let length = length as usize;
+    put_header(out, end, Header { tag, length })
 }
 
 // Writes a header that stands in a list in front of a place.

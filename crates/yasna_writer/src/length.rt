@@ -7,7 +7,8 @@ use crate::identifier::put_bytes;
 use crate::integer::without;
 
 // Writes a length in the fewest bytes in front of a place.
-#[tactic(auto, using(yasna_base::proofs::Length::short_length, crate::proofs::BigEndian::length_without, crate::proofs::BigEndian::without_at_most))]
+#[tactic(auto, using(yasna_base::proofs::Length::short_length, crate::proofs::Lengths::length_in_two, crate::proofs::Lengths::length_in_three))]
+#[inline(always)]
 pub(crate) fn put_length(out: &mut [u8], end: usize, length: usize) -> usize
     requires room { count (shortest_length length) ≤ end }
     requires within { end ≤ count out.old }
@@ -17,6 +18,25 @@ pub(crate) fn put_length(out: &mut [u8], end: usize, length: usize) -> usize
     if length < 128 {
         return put_bytes(out, end, &[length as u8]);
     }
+    if length < 256 {
+        return put_bytes(out, end, &[129, length as u8]);
+    }
+    if length < 65536 {
+        return put_bytes(out, end, &[130, (length / 256) as u8, (length % 256) as u8]);
+    }
+    put_long_length(out, end, length)
+}
+
+// The same of one that takes four bytes or more.
+#[tactic(auto, using(crate::proofs::BigEndian::length_without, crate::proofs::BigEndian::without_at_most))]
+#[inline(never)]
+fn put_long_length(out: &mut [u8], end: usize, length: usize) -> usize
+    requires long { 128 ≤ length }
+    requires room { count (shortest_length length) ≤ end }
+    requires within { end ≤ count out.old }
+    ensures put { PutBefore (shortest_length length) end out.old out.new result }
+    ensures len { count out.new ≡ count out.old }
+{
     let bytes = length.to_be_bytes();
     let digits = without(0, &bytes);
     let start = put_bytes(out, end, digits);
