@@ -86,7 +86,8 @@ module _ (ls : List PartsHeader) where
       let le = order_within e.place is (length c) i in
       let here = order_within g.place es e.place o.1 in
       ap (with_header g.place h) (joined_around g.place es e is c o.1 i)
-      ∙ with_header_append g.place h (joined ls es front) (header_of_mark ls e.mark ++ drop e.place (joined ls is c)) (omega (arith, joined_length es front, length-take e.place c))
+      ∙ with_header_append g.place h (joined ls es front) (header_of_mark ls e.mark ++ drop e.place (joined ls is c))
+      (omega (arith, joined_length es front, length-take e.place c))
 
   pub headers_length_append : (es is : List Entry) → headers_length ls (es ++ is) ≡ headers_length ls es + headers_length ls is
   headers_length_append [] is = omega arith

@@ -18,8 +18,8 @@ pub record PlacesLast (ls : List PartsHeader) (front : List Entry) (e : Entry) (
   pub room : to ≡ (e.place + headers_length ls front) + ((from - e.place) + length (header_of_mark ls e.mark))
 
 pub places_last :
-    (ls : List PartsHeader) (rest front : List Entry) (e : Entry) (from to : ℕ) → rest ≡ front ++ (e ∷ []) → AreInOrder 0 rest from → to ≡ from + headers_length ls rest
-    → PlacesLast ls front e from to
+    (ls : List PartsHeader) (rest front : List Entry) (e : Entry) (from to : ℕ) → rest ≡ front ++ (e ∷ []) → AreInOrder 0 rest from
+    → to ≡ from + headers_length ls rest → PlacesLast ls front e from to
 places_last ls rest front e from to s o r =
     let split = order_split 0 front e [] from (subst (λ (es : List Entry). AreInOrder 0 es from) s o) in
     record {
@@ -30,7 +30,8 @@ places_last ls rest front e from to s o r =
 
 -- a piece and the header in front of it were put
 pub placed_last :
-    (ls : List PartsHeader) (rest front : List Entry) (e : Entry) (from to start : ℕ) (old new : List ℕ) → rest ≡ front ++ (e ∷ []) → PlacesLast ls front e from to → to ≤ length old
+    (ls : List PartsHeader) (rest front : List Entry) (e : Entry) (from to start : ℕ) (old new : List ℕ) → rest ≡ front ++ (e ∷ [])
+    → PlacesLast ls front e from to → to ≤ length old
     → PutBefore (header_of_mark ls e.mark ++ slice_range old e.place from) to old new start
     → joined ls rest (take from old) ++ drop to old ≡ joined ls front (take e.place new) ++ drop start new
 placed_last ls rest front e from to start old new s l within p =

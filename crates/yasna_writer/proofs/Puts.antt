@@ -8,13 +8,17 @@ front_length : (n : ℕ) (b : List ℕ) → n ≤ length b → length (take n b)
 front_length n b h = omega (arith, length-take n b)
 
 -- what stands in front of the first octet stays
-pub put_front : (octets : List ℕ) (end : ℕ) (old new : List ℕ) (start k : ℕ) → PutBefore octets end old new start → end ≤ length old → k ≤ start → take k new ≡ take k old
+pub put_front :
+    (octets : List ℕ) (end : ℕ) (old new : List ℕ) (start k : ℕ) → PutBefore octets end old new start → end ≤ length old → k ≤ start
+    → take k new ≡ take k old
 put_front octets end old new start k p within le =
     let there : length (take start old) ≡ start = front_length start old (omega (arith, p.place)) in
     ap (take k) p.bytes ∙ take-append-le k (take start old) (octets ++ drop end old) (omega (arith, there)) ∙ take-take k start old le
 
 -- and from it on there are the octets and what stood behind
-pub put_back : (octets : List ℕ) (end : ℕ) (old new : List ℕ) (start : ℕ) → PutBefore octets end old new start → end ≤ length old → drop start new ≡ octets ++ drop end old
+pub put_back :
+    (octets : List ℕ) (end : ℕ) (old new : List ℕ) (start : ℕ) → PutBefore octets end old new start → end ≤ length old
+    → drop start new ≡ octets ++ drop end old
 put_back octets end old new start p within =
     let there : length (take start old) ≡ start = front_length start old (omega (arith, p.place)) in
     ap (drop start) p.bytes ∙ drop_at (take start old) (octets ++ drop end old) start there

@@ -95,28 +95,20 @@ impl Entries {
         }
     }
 
-    // Makes room for an entry. The first block takes four times as much at each step, and each further one all that it may hold.
+    // Makes room for an entry: in the first block for four times as many at each step, in each further one for all that it may hold,
+    // and in another block where the last one is full.
     #[cold]
     #[inline(never)]
     fn make_room(&mut self, alloc: Global) -> Result<(), AllocError>
         ensures { self.new ≡ self.old }
     {
         let length = self.last.len();
-        if length == BLOCK {
-            return self.begin_block(alloc);
-        }
-        if self.before == 0 {
-            return self.last.reserve(length.saturating_mul(3));
-        }
-        self.last.reserve(BLOCK.saturating_sub(length))
-    }
-
-    // Begins another block, where the last one is full.
-    fn begin_block(&mut self, alloc: Global) -> Result<(), AllocError>
-        ensures { self.new ≡ self.old }
-    {
-        if self.last.len() != BLOCK {
-            return Ok(());
+        if length != BLOCK {
+            let more = match self.before {
+                0 => length.saturating_mul(3),
+                _ => BLOCK.saturating_sub(length),
+            };
+            return self.last.reserve(more);
         }
         let before = self.before + BLOCK;
         if before > usize::MAX / 2 {

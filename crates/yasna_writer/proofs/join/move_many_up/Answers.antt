@@ -26,4 +26,5 @@ loop-from-preserved c =
 pub returns-clause-put : goal.returns-clause-put
 returns-clause-put c =
     let there : c.loop-from.from ≡ c.args.start = omega (arith, c.loop-from.invariant.left, c.loop-from-test.false) in
-    subst (λ n. PutBefore (slice_range c.args.bytes.now n c.args.end) c.args.to c.args.bytes.now c.loop-from.bytes c.loop-from.place) there c.loop-from.invariant.put
+    subst (λ n. PutBefore (slice_range c.args.bytes.now n c.args.end) c.args.to c.args.bytes.now c.loop-from.bytes c.loop-from.place) there
+    c.loop-from.invariant.put

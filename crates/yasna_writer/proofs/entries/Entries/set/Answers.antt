@@ -24,5 +24,6 @@ returns-in-None c =
     ap (λ z. in_blocks z ++ s.last.items) same
     ∙ ap (λ z. z ++ s.last.items) c.set_in.ensures.put
     ∙ ap (λ z. set (in_blocks z) c.args.index c.args.entry ++ s.last.items) c.deref_mut-in-None.ensures.value
-    ∙ sym (set-append_left (in_blocks s.full.items) s.last.items c.args.index c.args.entry (omega (arith, c.self.invariant.counted, c.in-None.ensures {u = tt})))
+    ∙ sym (set-append_left (in_blocks s.full.items) s.last.items c.args.index c.args.entry
+    (omega (arith, c.self.invariant.counted, c.in-None.ensures {u = tt})))
     ∙ ap (λ z. set z c.args.index c.args.entry) c.self.view_is

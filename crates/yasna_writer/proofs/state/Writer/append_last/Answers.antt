@@ -31,5 +31,6 @@ returns-in_default c =
     let some = length-drop n b in
     let r = c.headed.result in
     let all = ap (λ k. take (k - n) (drop n r)) (sym c.headed.ensures.all) ∙ take_rest r n ∙ c.headed.ensures.last in
-    appended_last _ _ c.append-in_default.result _ c.args.tag _ n (8 - n) b (drop n b) c.if-tag-ge31.false c.leading-first.ensures (omega arith) (omega arith) refl
+    appended_last _ _ c.append-in_default.result _ c.args.tag _ n (8 - n) b (drop n b) c.if-tag-ge31.false c.leading-first.ensures (omega arith)
+    (omega arith) refl
     (MatchResult-weaker c.append-in_default.result c.append-in_default.ensures (λ _ f. f ∙ ap (λ x. record w { bytes = w.bytes ++ x }) all) (λ e f. f))

@@ -1,12 +1,12 @@
 use Rattle.std.proofs.Common.{◌+◌, refl, ◌∙◌, arith}
 use Rattle.yasna_writer.proofs.Blocks.{begun, begun_view}
-use Rattle.yasna_writer.proofs.entries.Entries.begin_block.Goals as goal
+use Rattle.yasna_writer.proofs.entries.Entries.make_room.Goals as goal
 
 pub invariant_of-self-2 : goal.invariant_of-self-2
 invariant_of-self-2 c =
     let s = c.self.inside in
     begun s.full.items c.put_behind.new.full.items s.before (s.before + 4096) s.last.items c.put_behind.new.last.items c.put_behind.new.last.items
-    c.self.invariant (c.in_ok-put_behind.ensures {u = tt}) (omega (arith, c.len.ensures.value, c.if-len-ne-BLOCK.false)) refl
+    c.self.invariant (c.in_ok-put_behind.ensures {u = tt}) (omega (arith, c.len-length.ensures.value, c.if-length-ne-BLOCK.false)) refl
     (omega (arith, c.if-before.false))
 
 pub returns : goal.returns
