@@ -57,10 +57,8 @@ where
 
     #[inline(always)]
     fn decode_ber(reader: BERReader) -> ASN1Result<T> {
-        match T::Shape::decode_ber(reader) {
-            Ok(shape) => Ok(T::from_shape(shape)),
-            Err(error) => Err(error),
-        }
+        let shape = T::Shape::decode_ber(reader)?;
+        Ok(T::from_shape(shape))
     }
 
     ghost coding = { along T.shape_of T.Shape.coding };

@@ -72,13 +72,9 @@ impl<A: BERDecodable, W: TupleParts> TupleParts for (A, W) {
     ghost same_parts = { SamePart A.same W.same_parts };
 
     fn read_parts(seq: &mut BERReaderSeq) -> ASN1Result<(A, W)> {
-        match A::decode_ber(seq.next()) {
-            Ok(first) => match W::read_parts(seq) {
-                Ok(others) => Ok((first, others)),
-                Err(error) => Err(error),
-            },
-            Err(error) => Err(error),
-        }
+        let first = A::decode_ber(seq.next())?;
+        let others = W::read_parts(seq)?;
+        Ok((first, others))
     }
 
     ghost lawful = { part A.coding W.lawful };
@@ -174,10 +170,8 @@ impl<W: TupleParts> BERDecodable for InSequence<W> {
 
     #[inline(always)]
     fn decode_ber(reader: BERReader) -> ASN1Result<InSequence<W>> {
-        match read_tuple(reader) {
-            Ok(parts) => Ok(InSequence { parts }),
-            Err(error) => Err(error),
-        }
+        let parts = read_tuple(reader)?;
+        Ok(InSequence { parts })
     }
 
     ghost coding = { tuple (λ v. v.parts) W.lawful };

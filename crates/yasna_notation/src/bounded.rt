@@ -58,16 +58,11 @@ impl<N: Notation, C: Bound<N>> Notation for Bounded<N, C> {
 
     #[inline(always)]
     fn read(reader: BERReader) -> ASN1Result<N::Value> {
-        match N::read(reader) {
-            Ok(value) => {
-                if C::lets(&value) {
-                    Ok(value)
-                } else {
-                    Err(ASN1Error::new(ASN1ErrorKind::Invalid))
-                }
-            }
-            Err(error) => Err(error),
+        let value = N::read(reader)?;
+        if !C::lets(&value) {
+            return Err(ASN1Error::new(ASN1ErrorKind::Invalid));
         }
+        Ok(value)
     }
 
     #[inline(always)]

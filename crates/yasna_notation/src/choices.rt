@@ -161,16 +161,11 @@ impl<A: Notation, W: Alternatives> Alternatives for (A, W) {
     #[inline(always)]
     fn read_found(tag: Tag, reader: BERReader) -> ASN1Result<Either<A::Value, W::Value>> {
         if A::has_tag(tag) {
-            match A::read(reader) {
-                Ok(value) => Ok(Either::First(value)),
-                Err(error) => Err(error),
-            }
-        } else {
-            match W::read_found(tag, reader) {
-                Ok(other) => Ok(Either::Second(other)),
-                Err(error) => Err(error),
-            }
+            let value = A::read(reader)?;
+            return Ok(Either::First(value));
         }
+        let other = W::read_found(tag, reader)?;
+        Ok(Either::Second(other))
     }
 
     #[inline(always)]
@@ -219,10 +214,8 @@ impl<A: Alternatives> Notation for Choice<A> {
 
     #[inline(always)]
     fn read(reader: BERReader) -> ASN1Result<A::Value> {
-        match reader.lookahead_tag() {
-            Ok(tag) => A::read_found(tag, reader),
-            Err(error) => Err(error),
-        }
+        let tag = reader.lookahead_tag()?;
+        A::read_found(tag, reader)
     }
 
     #[inline(always)]

@@ -145,13 +145,9 @@ where
 
     #[inline(always)]
     fn read_parts(seq: &mut BERReaderSeq) -> ASN1Result<(A::Value, W::Values)> {
-        match seq.read_default(D::default(), |part| A::read(part)) {
-            Ok(first) => match W::read_parts(seq) {
-                Ok(others) => Ok((first, others)),
-                Err(error) => Err(error),
-            },
-            Err(error) => Err(error),
-        }
+        let first = seq.read_default(D::default(), |part| A::read(part))?;
+        let others = W::read_parts(seq)?;
+        Ok((first, others))
     }
 
     #[inline(always)]

@@ -48,10 +48,8 @@ impl<T: Defined> Notation for T {
 
     #[inline(always)]
     fn read(reader: BERReader) -> ASN1Result<T> {
-        match T::Notation::read(reader) {
-            Ok(value) => Ok(T::from_value(value)),
-            Err(error) => Err(error),
-        }
+        let value = T::Notation::read(reader)?;
+        Ok(T::from_value(value))
     }
 
     #[inline(always)]

@@ -43,15 +43,11 @@ pub fn read_parts_with_first<'a, A: Notation, W: Parts>(
     ensures { ReadsContents (A.means.asks_memory || W.asks_memory) (PartsWithFirst (A.means.under None) W.parts)
         (AnyPart (A.means.any_under None) W.any_parts) (part_of seq.old) result (part_of seq.new) }
 {
-    match seq.next().read_with_buffer(|first| A::read(first)) {
-        Ok(first) => match W::read_parts(seq) {
-            Ok(others) => Ok(WithFirst {
-                first: first.0,
-                others,
-                first_bytes: first.1,
-            }),
-            Err(error) => Err(error),
-        },
-        Err(error) => Err(error),
-    }
+    let (first, first_bytes) = seq.next().read_with_buffer(|first| A::read(first))?;
+    let others = W::read_parts(seq)?;
+    Ok(WithFirst {
+        first,
+        others,
+        first_bytes,
+    })
 }

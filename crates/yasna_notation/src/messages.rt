@@ -28,8 +28,6 @@ pub fn read_as<N: Notation, T: StandsFor<N::Value>>(reader: BERReader) -> ASN1Re
     requires { N.apart ≡ true }
     ensures { ReadsMeaning (stands_for T.value_of N.means) reader.old result reader.new }
 {
-    match N::read(reader) {
-        Ok(value) => Ok(T::from_value(value)),
-        Err(error) => Err(error),
-    }
+    let value = N::read(reader)?;
+    Ok(T::from_value(value))
 }

@@ -46,10 +46,8 @@ impl<T: Message> BERDecodable for Noted<T> {
 
     #[inline(always)]
     fn decode_ber(reader: BERReader) -> ASN1Result<Noted<T>> {
-        match <T as Notation>::read(reader) {
-            Ok(value) => Ok(Noted { value }),
-            Err(error) => Err(error),
-        }
+        let value = <T as Notation>::read(reader)?;
+        Ok(Noted { value })
     }
 
     ghost coding = { along (λ v. v.value) (T.keeps T.told_apart).own.coding };

@@ -139,13 +139,9 @@ impl<A: Notation, W: Parts> Parts for (A, W) {
 
     #[inline(always)]
     fn read_parts(seq: &mut BERReaderSeq) -> ASN1Result<(A::Value, W::Values)> {
-        match A::read(seq.next()) {
-            Ok(first) => match W::read_parts(seq) {
-                Ok(others) => Ok((first, others)),
-                Err(error) => Err(error),
-            },
-            Err(error) => Err(error),
-        }
+        let first = A::read(seq.next())?;
+        let others = W::read_parts(seq)?;
+        Ok((first, others))
     }
 
     #[inline(always)]
@@ -191,13 +187,9 @@ impl<A: Notation, W: Parts> Parts for (Optional<A>, W) {
 
     #[inline(always)]
     fn read_parts(seq: &mut BERReaderSeq) -> ASN1Result<(Option<A::Value>, W::Values)> {
-        match seq.read_optional(|part| A::read(part)) {
-            Ok(first) => match W::read_parts(seq) {
-                Ok(others) => Ok((first, others)),
-                Err(error) => Err(error),
-            },
-            Err(error) => Err(error),
-        }
+        let first = seq.read_optional(|part| A::read(part))?;
+        let others = W::read_parts(seq)?;
+        Ok((first, others))
     }
 
     #[inline(always)]

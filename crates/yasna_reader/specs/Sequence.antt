@@ -68,6 +68,11 @@ Left end c (Some e) y x s r s' = Fails e s r s'
 Left end c None y (Err e) s r s' = Fails e s r s'
 Left end c None y (Ok v) s r s' = Closes end c y v s r s' ⊎ StaysOpen end c y s r s'
 
+-- what is answered where a callback answered x and its element was left so
+abbrev pub after_leaving : {A : Type 0} → Result A ASN1Error → Result (Unit {0}) ASN1Error → Result A ASN1Error
+after_leaving x (Ok u) = x
+after_leaving x (Err e) = Err e
+
 -- the header of a constructed element stands there, and its contents were read as P says
 pub record Entered {A : Type 0} (P : Does A) (t : Tag) (s : Reading) (r : Result A ASN1Error) (s' : Reading) : Type 0 where
   pub level : 1 ≤ s.levels

@@ -20,13 +20,12 @@ impl<'a> ReaderState<'a> {
         requires { (taken : List ℕ) × (before.now ≡ taken ++ self.now.left) }
         ensures { Buffered before.now outcome result self.now.left }
     {
-        match outcome {
-            Outcome::Gave(value) => {
-                let taken = before.len() - self.cursor.left.len();
-                Ok((value, &before[..taken]))
-            }
-            Outcome::Quiet(error) | Outcome::Failed(error) => Err(error),
-        }
+        let value = match outcome {
+            Outcome::Gave(value) => value,
+            Outcome::Quiet(error) | Outcome::Failed(error) => return Err(error),
+        };
+        let taken = before.len() - self.cursor.left.len();
+        Ok((value, &before[..taken]))
     }
 
     /// Reads what the callback reads, and answers the bytes that it took beside its value.

@@ -52,7 +52,7 @@ fn by_fields(tag: Option<Tag>) -> Option<Tag>
 }
 
 impl<'a> ReaderState<'a> {
-    ghost use Rattle.std.specs.Prelude.{None, length, ◌≡◌};
+    ghost use Rattle.std.specs.Prelude.{Err, None, length, ◌≡◌};
     ghost use Rattle.std.specs.Fn.{FnOnceTakesAtMut, FnOnceReturnsAtMut};
     ghost use Rattle.yasna_reader.specs.Callback.{ComesTo, Barred, Hands, Lent, FailsAs, at_cursor, moved_as};
     ghost use Rattle.yasna_reader.specs.State.{failing};
@@ -83,14 +83,11 @@ impl<'a> ReaderState<'a> {
     {
         let waiting = by_fields(self.tag);
         self.tag = by_fields(tag);
-        match self.hand(f) {
-            Outcome::Gave(value) => Outcome::Gave(value),
-            Outcome::Quiet(error) => {
-                self.tag = waiting;
-                Outcome::Quiet(error)
-            }
-            Outcome::Failed(error) => Outcome::Failed(error),
+        let outcome = self.hand(f);
+        if let Outcome::Quiet(_) = outcome {
+            self.tag = waiting;
         }
+        outcome
     }
 
     // What a callback came to that began here and gave this answer, which is looked at first, as `leave` does. The reading goes on
@@ -104,25 +101,31 @@ impl<'a> ReaderState<'a> {
     ) -> Outcome<T>
         ensures { ComesTo (at_cursor before.entry) answer self.old result self.new }
     {
-        match answer {
-            Ok(value) => match self.barred(before) {
-                Some(error) => Outcome::Failed(error),
-                None => {
-                    self.go_on(before);
-                    Outcome::Gave(value)
-                }
-            },
-            Err(error) => match self.barred(before) {
-                Some(kept) => Outcome::Failed(kept),
-                None => {
-                    if self.cursor.left.len() == before.left.len() && is_plain(error.kind()) {
-                        self.go_back(before);
-                        return Outcome::Quiet(error);
-                    }
-                    self.fail_back(before, error)
-                }
-            },
+        let value = match answer {
+            Ok(value) => value,
+            Err(error) => return self.take_back_failed(before, error),
+        };
+        if let Some(error) = self.barred(before) {
+            return Outcome::Failed(error);
         }
+        self.go_on(before);
+        Outcome::Gave(value)
+    }
+
+    // The same where it answered an Err.
+    #[inline(always)]
+    #[tactic(auto, using(crate::proofs::Callbacks::place_unmoved, crate::proofs::Callbacks::barred_fails))]
+    fn take_back_failed<T>(&mut self, before: Cursor<'a>, error: ASN1Error) -> Outcome<T>
+        ensures { ComesTo (at_cursor before.entry) (Err error) self.old result self.new }
+    {
+        if let Some(kept) = self.barred(before) {
+            return Outcome::Failed(kept);
+        }
+        if self.cursor.left.len() == before.left.len() && is_plain(error.kind()) {
+            self.go_back(before);
+            return Outcome::Quiet(error);
+        }
+        self.fail_back(before, error)
     }
 
     // Why there is no going on where a callback left this reading that began there, whatever it answered: a failure that it kept,

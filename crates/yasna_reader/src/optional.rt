@@ -56,15 +56,14 @@ impl<'a> ReaderState<'a> {
     ) -> ASN1Result<T>
         ensures { DefaultsTo T.eq default before outcome self.old result self.new }
     {
-        match outcome {
-            Outcome::Gave(value) => {
-                let moved = self.cursor.left.len() < before;
-                let place = self.place_before(before);
-                self.unless_default(place, value, default, moved)
-            }
-            Outcome::Quiet(_) => Ok(default),
-            Outcome::Failed(error) => Err(error),
-        }
+        let value = match outcome {
+            Outcome::Gave(value) => value,
+            Outcome::Quiet(_) => return Ok(default),
+            Outcome::Failed(error) => return Err(error),
+        };
+        let moved = self.cursor.left.len() < before;
+        let place = self.place_before(before);
+        self.unless_default(place, value, default, moved)
     }
 }
 
@@ -90,11 +89,12 @@ impl<'a> Parts<ReaderState<'a>> {
             return Err(error);
         }
         reader.untag();
-        match reader.hand(f) {
-            Outcome::Gave(value) => Ok(Some(value)),
-            Outcome::Quiet(_) => Ok(None),
-            Outcome::Failed(error) => Err(error),
-        }
+        let value = match reader.hand(f) {
+            Outcome::Gave(value) => value,
+            Outcome::Quiet(_) => return Ok(None),
+            Outcome::Failed(error) => return Err(error),
+        };
+        Ok(Some(value))
     }
 
     /// Reads a part that is the default where it is left out, as `read_optional` does.

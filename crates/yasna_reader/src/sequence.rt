@@ -25,7 +25,7 @@ impl<'a> ReaderState<'a> {
     ghost use Rattle.std.specs.Prelude.{◌≡◌, ◌≤◌, Ok};
     ghost use Rattle.yasna_bytes.specs.Header.{ConstructedAt};
     ghost use Rattle.yasna_reader.specs.State.{inside, untagged, tag_of};
-    ghost use Rattle.yasna_reader.specs.Sequence.{Fails, Left, TakesParts, Runs, ReadsParts, StepsAt};
+    ghost use Rattle.yasna_reader.specs.Sequence.{Fails, Left, TakesParts, Runs, ReadsParts, StepsAt, after_leaving};
 
     /// Reads a SEQUENCE (X.690, 8.9), whose parts the callback reads.
     ///
@@ -55,7 +55,8 @@ impl<'a> ReaderState<'a> {
             reader: self.within(&opened),
         };
         let answer = f(&mut parts);
-        self.leave(&opened, answer, &parts.reader)
+        self.leave(&opened, &answer, &parts.reader)?;
+        answer
     }
 
     // The header of a constructed element of this tag, or of the implicit one, whose contents are to be read. A failure that was
@@ -96,28 +97,24 @@ impl<'a> ReaderState<'a> {
         }
     }
 
-    // What is made of a callback's answer, where it left the contents of an element like this. A failure that was kept there comes
-    // first; but the answer is looked at first, since a value that waits for other tests is moved by way of memory.
+    // Goes on behind an element of whose contents a callback answered this, and left like this. A failure that was kept there comes
+    // first. The answer is looked at where it is: a value that waits for other tests is moved by way of memory.
     #[inline(always)]
     #[tactic(auto, using(crate::proofs::Sequences::closed_with, crate::proofs::Sequences::not_closed_with))]
-    pub(crate) fn leave<T: Drop>(
+    pub(crate) fn leave<T>(
         &mut self,
         opened: &Opened<'a>,
-        answer: ASN1Result<T>,
+        answer: &ASN1Result<T>,
         left: &ReaderState<'a>,
-    ) -> ASN1Result<T>
-        ensures { Left opened.now.end opened.now.within left.now.kept left.now.left answer (untagged self.old) result self.new }
+    ) -> ASN1Result<()>
+        ensures { Left opened.now.end opened.now.within left.now.kept left.now.left answer.now (untagged self.old) (after_leaving answer.now result) self.new }
     {
-        let closed = match &answer {
+        match answer {
             Ok(_) => self.close(opened, left),
             Err(error) => {
                 self.untag();
                 self.fail_within(left.kept.unwrap_or(*error), left)
             }
-        };
-        match closed {
-            Ok(()) => answer,
-            Err(error) => Err(error),
         }
     }
 

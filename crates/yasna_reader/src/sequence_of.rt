@@ -59,7 +59,8 @@ impl<'a> ReaderState<'a> {
         let opened = self.step_in(tag)?;
         let mut contents = self.within(&opened);
         let answer = contents.visit(order, f);
-        self.leave(&opened, answer, &contents)
+        self.leave(&opened, &answer, &contents)?;
+        answer
     }
 
     // Reads such a list into a vector.
@@ -79,7 +80,8 @@ impl<'a> ReaderState<'a> {
         let opened = self.step_in(tag)?;
         let mut contents = self.within(&opened);
         let answer = contents.collect(order, f);
-        self.leave(&opened, answer, &contents)
+        self.leave(&opened, &answer, &contents)?;
+        answer
     }
 
     // Calls a callback until it gives no value.
@@ -156,15 +158,12 @@ impl<'a> ReaderState<'a> {
     fn take_turn<T: Drop>(&mut self, before: Cursor<'a>, answer: ASN1Result<T>) -> Outcome<T>
         ensures { TurnsOut (at_cursor before.entry) answer self.old result self.new }
     {
-        match self.take_back(before, answer) {
-            Outcome::Gave(value) => {
-                if self.cursor.left.len() < before.left.len() {
-                    return Outcome::Gave(value);
-                }
-                self.failed(ASN1Error::new(ASN1ErrorKind::Invalid))
-            }
-            Outcome::Quiet(error) => Outcome::Quiet(error),
-            Outcome::Failed(error) => Outcome::Failed(error),
+        let outcome = self.take_back(before, answer);
+        if let Outcome::Gave(_) = outcome
+            && before.left.len() <= self.cursor.left.len()
+        {
+            return self.failed(ASN1Error::new(ASN1ErrorKind::Invalid));
         }
+        outcome
     }
 }

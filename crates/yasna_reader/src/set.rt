@@ -260,7 +260,8 @@ impl<'a> ReaderState<'a> {
         let opened = self.step_in(TAG_SET)?;
         let mut contents = self.within(&opened);
         let answer = contents.run_on_set(f);
-        self.leave(&opened, answer, &contents)
+        self.leave(&opened, &answer, &contents)?;
+        answer
     }
 
     // Runs a callback on the elements that stand here.

@@ -90,21 +90,14 @@ impl<'a> ReaderState<'a> {
         requires { IsRest before.now self.old.left }
         ensures { Ordered (bound_bytes bound.old) before.now outcome self.old result (bound_bytes bound.new) self.new }
     {
-        match outcome {
-            Outcome::Gave(value) => match *bound {
-                None => Outcome::Gave(value),
-                Some(least) => {
-                    let element = in_front(before, self.cursor.left);
-                    if goes_before(element, least) {
-                        self.stand_at(self.place_before(before.len()), 0);
-                        return self.failed(ASN1Error::new(ASN1ErrorKind::Invalid));
-                    }
-                    *bound = Some(element);
-                    Outcome::Gave(value)
-                }
-            },
-            Outcome::Quiet(error) => Outcome::Quiet(error),
-            Outcome::Failed(error) => Outcome::Failed(error),
+        if let (Outcome::Gave(_), Some(least)) = (&outcome, *bound) {
+            let element = in_front(before, self.cursor.left);
+            if goes_before(element, least) {
+                self.stand_at(self.place_before(before.len()), 0);
+                return self.failed(ASN1Error::new(ASN1ErrorKind::Invalid));
+            }
+            *bound = Some(element);
         }
+        outcome
     }
 }

@@ -26,7 +26,8 @@ impl<'a> ReaderState<'a> {
         let opened = self.step_in(tag)?;
         let mut contents = self.within(&opened);
         let answer = f(&mut contents);
-        self.leave(&opened, answer, &contents)
+        self.leave(&opened, &answer, &contents)?;
+        answer
     }
 
     /// Lets this tag stand in place of that of the next element that the callback reads, implicit tagging (X.690, 8.14).
@@ -44,9 +45,10 @@ impl<'a> ReaderState<'a> {
         if let Some(error) = self.kept {
             return Err(error);
         }
-        match self.hand_under(Some(self.wanted(tag)), f) {
-            Outcome::Gave(value) => Ok(value),
-            Outcome::Quiet(error) | Outcome::Failed(error) => Err(error),
-        }
+        let value = match self.hand_under(Some(self.wanted(tag)), f) {
+            Outcome::Gave(value) => value,
+            Outcome::Quiet(error) | Outcome::Failed(error) => return Err(error),
+        };
+        Ok(value)
     }
 }

@@ -1,23 +1,23 @@
-use Rattle.std.proofs.Common.{Err, sym, subst, ◌∙◌}
+use Rattle.std.proofs.Common.{◌≡◌, Err, rules, sym, subst, ◌∙◌}
 use Rattle.yasna_base.specs.Coding.{Any}
 use Rattle.yasna_notation.specs.Bounded.{Within}
 use Rattle.yasna_notation.specs.Notation.{ReadsAs}
 use Rattle.yasna_notation.proofs.Bounding.{read_within, read_outside, read_none}
 use Rattle.yasna_notation.proofs.bounded.BoundedNotation.read.Goals as goal
 
-pub returns-then-lets : goal.returns-then-lets
-returns-then-lets g c =
+pub returns : goal.returns
+returns g c =
     let n = g.N.Notation.means in
     let b = g.C.Bound in
     let s = c.args.reader.now in
     let left = c.read.new.reader in
     let laws = (g.met.N.Notation.keeps c.requires).own in
     read_within n.under n.any_under n.form_under b.passes g.met.C.Bound.alike n.told n.tags n.retagged n.asks_memory laws
-    (g.met.N.Notation.keeps c.requires).others s c.in-Ok.value left (sym c.lets.ensures ∙ c.if-lets.true)
-    (subst (λ r. ReadsAs n.told n.tags n.retagged n.asks_memory n.under n.any_under s r left) c.in-Ok.is c.read.ensures)
+    (g.met.N.Notation.keeps c.requires).others s c.in_ok-value.value left (sym c.lets.ensures ∙ c.if-not-lets.false)
+    (subst (λ r. ReadsAs n.told n.tags n.retagged n.asks_memory n.under n.any_under s r left) c.in_ok-value.was c.read.ensures)
 
-pub returns-else-lets : goal.returns-else-lets
-returns-else-lets g c =
+pub returns-then-not-lets : goal.returns-then-not-lets
+returns-then-not-lets g c =
     let n = g.N.Notation.means in
     let b = g.C.Bound in
     let s = c.args.reader.now in
@@ -26,16 +26,17 @@ returns-else-lets g c =
     subst (λ e. ReadsAs n.told n.tags n.retagged n.asks_memory (λ u. Within b.passes (n.under u)) (λ u. Any (Within b.passes (n.under u))) s (Err e) left)
     (sym c.new.ensures)
     (read_outside n.under n.any_under n.form_under b.passes g.met.C.Bound.alike n.told n.tags n.retagged n.asks_memory laws
-    (g.met.N.Notation.keeps c.requires).others s c.in-Ok.value left (sym c.lets.ensures ∙ c.if-lets.false)
-    (subst (λ r. ReadsAs n.told n.tags n.retagged n.asks_memory n.under n.any_under s r left) c.in-Ok.is c.read.ensures))
+    (g.met.N.Notation.keeps c.requires).others s c.in_ok-value.value left (sym c.lets.ensures ∙ c.if-not-lets.true)
+    (subst (λ r. ReadsAs n.told n.tags n.retagged n.asks_memory n.under n.any_under s r left) c.in_ok-value.was c.read.ensures))
 
-pub returns-in-Err : goal.returns-in-Err
-returns-in-Err g c =
+pub returns-in_err-value : goal.returns-in_err-value
+returns-in_err-value g c =
     let n = g.N.Notation.means in
     let b = g.C.Bound in
     let s = c.args.reader.now in
     let left = c.read.new.reader in
     let laws = (g.met.N.Notation.keeps c.requires).own in
-    read_none n.under n.any_under n.form_under b.passes g.met.C.Bound.alike n.told n.tags n.retagged n.asks_memory laws
-    (g.met.N.Notation.keeps c.requires).others s c.in-Err.error left
-    (subst (λ r. ReadsAs n.told n.tags n.retagged n.asks_memory n.under n.any_under s r left) c.in-Err.is c.read.ensures)
+    let is : c.from_residual.result ≡ Err c.in_err-value.field-0.0 = search rules in
+    rw is (read_none n.under n.any_under n.form_under b.passes g.met.C.Bound.alike n.told n.tags n.retagged n.asks_memory laws
+    (g.met.N.Notation.keeps c.requires).others s c.in_err-value.field-0.0 left
+    (subst (λ r. ReadsAs n.told n.tags n.retagged n.asks_memory n.under n.any_under s r left) c.in_err-value.was c.read.ensures))
