@@ -92,6 +92,17 @@ fn lists_written(rt: HostRuntime) -> Result<(), Fail> {
 }
 
 #[test]
+fn only_part_empty(rt: HostRuntime) {
+    let written = construct_der(rt.alloc(), |writer| {
+        writer.write_set_of(|parts| {
+            parts.next();
+            Ok(())
+        })
+    });
+    refuses(&rt, written, ASN1ErrorKind::Invalid);
+}
+
+#[test]
 fn elements_by_tags(rt: HostRuntime) -> Result<(), Fail> {
     let alloc = rt.alloc();
     let (number, flag) = parse_ber(alloc, &MIXED, |reader| number_and_flag(reader))?;
