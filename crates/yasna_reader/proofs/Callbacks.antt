@@ -1,5 +1,5 @@
 -- What a callback that was handed a reading came to.
-use Rattle.std.proofs.Common.{◌≡◌, inl, inr, ℕ, ◌-◌, List, [], ◌++◌, length, take, drop, take-append-drop, Option, Some, None, sym, ap, subst, ◌∙◌, arith}
+use Rattle.std.proofs.Common.{◌≡◌, inl, inr, ℕ, ◌-◌, List, [], ◌++◌, length, take, drop, take-append-drop, Option, Some, None, Err, sym, ap, subst, ◌∙◌, arith}
 use Rattle.std.specs.Prelude.{Result}
 use Rattle.yasna_base.specs.declared.error.ASN1Error.{ASN1Error}
 use Rattle.yasna_base.specs.declared.mode.BERMode.{BERMode}
@@ -7,7 +7,7 @@ use Rattle.yasna_base.specs.declared.tag.Tag.{Tag}
 use Rattle.yasna_bytes.specs.declared.bytes.cursor.Cursor.{Cursor}
 use Rattle.yasna_reader.specs.declared.callback.Outcome.{Outcome}
 use Rattle.yasna_reader.specs.declared.callback.Outcome.TheVariants.{Gave, Quiet, Failed}
-use Rattle.yasna_reader.specs.Callback.{ComesTo, Barred, Hands, Lent, at_cursor, kept, before}
+use Rattle.yasna_reader.specs.Callback.{ComesTo, Barred, Hands, Lent, Fault, WithSome, at_cursor, kept, before, own}
 use Rattle.yasna_reader.specs.Sequence.{place_in}
 use Rattle.yasna_reader.specs.State.{Reading, Does}
 
@@ -16,6 +16,18 @@ pub barred_fails : {A : Type 0} (s : Reading) (x : Result A ASN1Error) (m : Read
     ComesTo s x m (Failed e) s'
 barred_fails s x m e s' (inl k, f) = (kept k, f)
 barred_fails s x m e s' (inr h, f) = (before h.0 h.1 h.2, f)
+
+fault_as : {A B : Type 0} (c : List ℕ) (d : ASN1Error) (m : Reading) (e : ASN1Error) → Fault {A = A} c (Err d) m e → Fault {A = B} c (Err d) m e
+fault_as c d m e (kept k) = kept k
+fault_as c d m e (before k b i) = before k b i
+fault_as c d m e (own k b i n) = own k b (let g : d ≡ e = cc in ap Err g) n
+
+-- a callback that answered an Err gave no value, of whatever type
+pub none_given : (A : Type 0) (s : Reading) (d : ASN1Error) (m : Reading) (o : Outcome (Unit {0})) (s' : Reading) → ComesTo s (Err d) m o s' →
+    WithSome {A = A} (λ o. ComesTo s (Err d) m o s') o
+none_given A s d m (Gave u) s' h = let i = h.2 in absurd (cc)
+none_given A s d m (Quiet e) s' h = (h.0, h.1, h.2, (let i = h.3 in let g : d ≡ e = cc in ap Err g), h.4)
+none_given A s d m (Failed e) s' h = (fault_as s.left d m e h.0, h.1)
 
 tagged_at : {A : Type 0} (c : Cursor) (t : Option Tag) (k : Option ASN1Error) (x : Result A ASN1Error) (m : Reading) (o : Outcome A) (s' : Reading) →
     ComesTo (at_cursor c) x m o s' → ComesTo (record (at_cursor c) { tag = t; kept = k }) x m o s'

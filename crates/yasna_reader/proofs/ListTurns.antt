@@ -1,5 +1,5 @@
 -- The turns of a list's callback.
-use Rattle.std.proofs.Common.{◌≡◌, ℕ, inl, inr, List, [], ◌∷◌, ◌++◌, None, Some, Option, refl, sym, ap, subst, ◌∙◌, append_assoc}
+use Rattle.std.proofs.Common.{◌≡◌, ℕ, inl, inr, List, [], ◌∷◌, ◌++◌, None, Some, Option, Ok, refl, sym, ap, subst, ◌∙◌, append_assoc}
 use Rattle.std.specs.Borrow.{MutBor}
 use Rattle.std.specs.Fn.{Mut, CalledAtMut}
 use Rattle.std.specs.Global.{Global}
@@ -9,12 +9,14 @@ use Rattle.yasna_base.specs.declared.tag.Tag.{Tag}
 use Rattle.yasna_reader.specs.declared.callback.Outcome.{Outcome}
 use Rattle.yasna_reader.specs.declared.callback.Outcome.TheVariants.{Gave, Quiet, Failed}
 use Rattle.yasna_bytes.specs.declared.bytes.cursor.Cursor.{Cursor}
-use Rattle.yasna_reader.specs.Callback.{at_cursor}
+use Rattle.yasna_reader.specs.Callback.{WithSome, at_cursor}
 use Rattle.yasna_reader.specs.Sequence.{ReadsParts}
 use Rattle.yasna_reader.specs.SequenceOf.{TakesTurn, TakesTurns, TurnsOut, ListTurn, Turns, Lists, Collects, Visits, items_of}
-use Rattle.yasna_reader.specs.SetOf.{Bounded, Follows, FallsBelow, GivesInOrder, TurnInOrder, failed, fell, Ordered, CollectsInOrder, VisitsInOrder}
+use Rattle.yasna_reader.specs.SetOf.{Bounded, Follows, FallsBelow, GivesInOrder, FailsInOrder, TurnInOrder, failed, fell, Ordered, TurnsOutInOrder, CollectsInOrder, VisitsInOrder}
 use Rattle.yasna_reader.specs.declared.set_of.Order.TheVariants.{Any}
-use Rattle.yasna_reader.specs.State.{Reading, IsFresh}
+use Rattle.yasna_base.specs.Error.{error_of}
+use Rattle.yasna_base.specs.declared.error.ASN1ErrorKind.TheVariants.{Invalid}
+use Rattle.yasna_reader.specs.State.{Reading, IsFresh, failing}
 use Rattle.yasna_bytes.specs.Walk.{IsRest}
 use Rattle.yasna_reader.proofs.Callbacks.{taken_behind}
 use Rattle.yasna_reader.proofs.Sequences.{parts_map}
@@ -33,10 +35,24 @@ tagged_turn c t k x m (Failed e) s' (inr h) = inr (record {
   state = h.state;
 })
 
+some_tagged : {A : Type 0} (c : Cursor) (t : Option Tag) (k : Option ASN1Error) (x : Result A ASN1Error) (m : Reading) (o : Outcome (Unit {0}))
+    (z : Reading) → WithSome (λ q. TurnsOut (at_cursor c) x m q z) o →
+    WithSome (λ q. TurnsOut (record (at_cursor c) { tag = t; kept = k }) x m q z) o
+some_tagged c t k x m (Gave u) z h = (h.0, tagged_turn c t k x m (Gave h.0) z h.1)
+some_tagged c t k x m (Quiet e) z h = tagged_turn c t k x m (Quiet e) z h
+some_tagged c t k x m (Failed e) z h = tagged_turn c t k x m (Failed e) z h
+
 -- what a turn came to depends on the place alone that it began at
-pub turned_at : {A : Type 0} (c : Cursor) (t : Option Tag) (k : Option ASN1Error) (s : Reading) (x : Result A ASN1Error) (m : Reading) (o : Outcome A)
-    (s' : Reading) → record (at_cursor c) { tag = t; kept = k } ≡ s → TurnsOut (at_cursor c) x m o s' → TurnsOut s x m o s'
-turned_at c t k s x m o s' e h = subst (λ z. TurnsOut z x m o s') e (tagged_turn c t k x m o s' h)
+pub turned_at : {A : Type 0} (c : Cursor) (t : Option Tag) (k : Option ASN1Error) (s : Reading) (a : Option (List ℕ)) (x : Result A ASN1Error)
+    (m : Reading) (o : Outcome (Unit {0})) (n : Option (List ℕ)) (s' : Reading) → record (at_cursor c) { tag = t; kept = k } ≡ s →
+    TurnsOutInOrder a (at_cursor c) x m o n s' → TurnsOutInOrder a s x m o n s'
+turned_at c t k s a x m o n s' e h =
+    subst (λ z. TurnsOutInOrder a z x m o n s') e (record {
+      outcome = h.outcome;
+      between = h.between;
+      turn = some_tagged c t k x m h.outcome h.between h.turn;
+      ordered = h.ordered;
+    })
 
 module _ {G A : Type 0} (T : G → Reading → Outcome A → G → Reading → Type 0) where
   -- one turn more
@@ -90,43 +106,87 @@ takes_turn g b s vs h m may so =
     (subst (λ z. Turns (ListTurn (CalledAtMut g)) b.callback s vs h.callback z) so.same (plain_turns (CalledAtMut g) vs b s h m so.turns)))
 
 -- what is left behind a turn stands behind what it took
-pub turn_rest : {F A : Type 0} (C : F → Reading → Result A ASN1Error → F → Reading → Type 0) (f : F) (s : Reading) (o : Outcome A) (f' : F)
-    (s' : Reading) → ListTurn C f s o f' s' → IsRest s.left s'.left
-turn_rest C f s (Gave v) f' s' t = taken_behind s t.own t.left (Gave v) s' t.comes.0
-turn_rest C f s (Quiet e) f' s' t = taken_behind s t.own t.left (Quiet e) s' t.comes
-turn_rest C f s (Failed e) f' s' t = elim t.comes [
-  | inl c ↦ taken_behind s t.own t.left (Failed e) s' c
-  | inr i ↦
-      let w = taken_behind s t.own t.left (Gave i.value) i.between i.comes in
-      (w.0, w.1 ∙ ap (λ (z : Reading). w.0 ++ z.left) (sym i.state))
-]
+pub turn_rest : {A : Type 0} (s : Reading) (x : Result A ASN1Error) (m : Reading) (o : Outcome (Unit {0})) (s' : Reading) →
+    WithSome (λ q. TurnsOut s x m q s') o → IsRest s.left s'.left
+turn_rest s x m (Gave u) s' h = taken_behind s x m (Gave h.0) s' h.1.0
+turn_rest s x m (Quiet e) s' h = taken_behind s x m (Quiet e) s' h
+turn_rest s x m (Failed e) s' (inl h) = taken_behind s x m (Failed e) s' h
+turn_rest s x m (Failed e) s' (inr i) =
+    let w = taken_behind s x m (Gave i.value) i.between i.comes in
+    (w.0, w.1 ∙ ap (λ (z : Reading). w.0 ++ z.left) (sym i.state))
 
 -- what was made of a turn
-pub turned_in_order : {F A : Type 0} (C : F → Reading → Result A ASN1Error → F → Reading → Type 0) (g g' : Bounded F) (s : Reading) (o : Outcome A)
-    (m : Reading) (r : Outcome A) (s' : Reading) → ListTurn C g.callback s o g'.callback m → Ordered g.bound s.left o m r g'.bound s' →
-    TurnInOrder C g s r g' s'
-turned_in_order C g g' s (Gave v) m r s' t (b, e, inl h) =
-    subst (λ z. TurnInOrder C g s z g' s') (sym h.1) (subst (λ z. GivesInOrder C g s v g' z) (sym h.2) (record {
-      turn = t;
+module _ {F A : Type 0} (C : F → Reading → Result A ASN1Error → F → Reading → Type 0) (g g' : Bounded F) (s : Reading) (x : Result A ASN1Error)
+    (m s' : Reading) (called : C g.callback s x g'.callback m) where
+  gave_by : (p : Outcome (Unit {0})) (z : Reading) (u : Unit {0}) → WithSome (λ q. TurnsOut s x m q z) p →
+      Ordered g.bound s.left p z (Gave u) g'.bound s' → (v : A) × (x ≡ Ok v) × GivesInOrder C g s v g' s'
+  gave_by (Gave w) z u t (b, e, inl h) = (
+    t.0,
+    t.1.0.2,
+    subst (λ y. GivesInOrder C g s t.0 g' y) (sym h.2) (record {
+      turn = record { own = x; left = m; called = called; comes = t.1 };
       element = b;
       joined = e;
       follows = h.0;
-    }))
-turned_in_order C g g' s (Gave v) m r s' t (b, e, inr h) =
-    subst (λ z. TurnInOrder C g s z g' s') (sym h.1) (fell (record {
-      value = v;
-      between = m;
-      turn = t;
-      element = b;
-      joined = e;
-      falls = h.0;
-      invalid = refl;
-      state = h.2;
-    }))
-turned_in_order C g g' s (Quiet e) m r s' t h =
-    subst (λ z. TurnInOrder C g s z g' s') (sym h.0) (subst (λ z. ListTurn C g.callback s (Quiet e) g'.callback z) (sym h.1) t)
-turned_in_order C g g' s (Failed e) m r s' t h =
-    subst (λ z. TurnInOrder C g s z g' s') (sym h.0) (failed (subst (λ z. ListTurn C g.callback s (Failed e) g'.callback z) (sym h.1) t))
+    }),
+  )
+  gave_by (Gave w) z u t (b, e, inr h) = let i = h.1 in absurd (cc)
+  gave_by (Quiet d) z u t h = let i = h.0 in absurd (cc)
+  gave_by (Failed d) z u t h = let i = h.0 in absurd (cc)
+
+  -- a value that may stand behind those before
+  pub gave_in_order : (u : Unit {0}) → TurnsOutInOrder g.bound s x m (Gave u) g'.bound s' → (v : A) × (x ≡ Ok v) × GivesInOrder C g s v g' s'
+  gave_in_order u h = gave_by h.outcome h.between u h.turn h.ordered
+
+  quiet_by : (p : Outcome (Unit {0})) (z : Reading) (e : ASN1Error) → WithSome (λ q. TurnsOut s x m q z) p →
+      Ordered g.bound s.left p z (Quiet e) g'.bound s' → ListTurn C g.callback s (Quiet e) g'.callback s'
+  quiet_by (Gave w) z e t (b, i, inl h) = let j = h.1 in absurd (cc)
+  quiet_by (Gave w) z e t (b, i, inr h) = let j = h.1 in absurd (cc)
+  quiet_by (Quiet d) z e t h =
+      let j = h.0 in
+      let k : e ≡ d = cc in
+      subst (λ y. ListTurn C g.callback s (Quiet e) g'.callback y) (sym h.1) (record {
+        own = x;
+        left = m;
+        called = called;
+        comes = subst (λ y. TurnsOut s x m (Quiet y) z) (sym k) t;
+      })
+  quiet_by (Failed d) z e t h = let j = h.0 in absurd (cc)
+
+  -- no value
+  pub quiet_in_order : (e : ASN1Error) → TurnsOutInOrder g.bound s x m (Quiet e) g'.bound s' → ListTurn C g.callback s (Quiet e) g'.callback s'
+  quiet_in_order e h = quiet_by h.outcome h.between e h.turn h.ordered
+
+  failed_by : (p : Outcome (Unit {0})) (z : Reading) (e : ASN1Error) → WithSome (λ q. TurnsOut s x m q z) p →
+      Ordered g.bound s.left p z (Failed e) g'.bound s' → FailsInOrder C g s e g' s'
+  failed_by (Gave w) z e t (b, i, inl h) = let j = h.1 in absurd (cc)
+  failed_by (Gave w) z e t (b, i, inr h) =
+      let j = h.1 in
+      let k : e ≡ error_of Invalid = cc in
+      fell (record {
+        value = t.0;
+        between = z;
+        turn = record { own = x; left = m; called = called; comes = t.1 };
+        element = b;
+        joined = i;
+        falls = h.0;
+        invalid = k;
+        state = h.2 ∙ ap (λ y. failing z y) (sym k);
+      })
+  failed_by (Quiet d) z e t h = let j = h.0 in absurd (cc)
+  failed_by (Failed d) z e t h =
+      let j = h.0 in
+      let k : e ≡ d = cc in
+      failed (subst (λ y. ListTurn C g.callback s (Failed e) g'.callback y) (sym h.1) (record {
+        own = x;
+        left = m;
+        called = called;
+        comes = subst (λ y. TurnsOut s x m (Failed y) z) (sym k) t;
+      }))
+
+  -- a failure that is kept
+  pub failed_in_order : (e : ASN1Error) → TurnsOutInOrder g.bound s x m (Failed e) g'.bound s' → FailsInOrder C g s e g' s'
+  failed_in_order e h = failed_by h.outcome h.between e h.turn h.ordered
 
 -- without a bound, turns are just those of the callback
 module _ {F A : Type 0} (C : F → Reading → Result A ASN1Error → F → Reading → Type 0) where

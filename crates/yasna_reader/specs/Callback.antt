@@ -38,6 +38,12 @@ ComesTo s x m (Gave v) s' = (m.kept ≡ None) × (IsBefore s.left m.left → ⊥
 ComesTo s x m (Quiet e) s' = (m.kept ≡ None) × IsUnmoved s.left m × BlamesBytes (kind_of e) × (x ≡ Err e) × (s' ≡ moved_as s m)
 ComesTo s x m (Failed e) s' = Fault s.left x m e × (s' ≡ failing (moved_as s m) e)
 
+-- P holds of what a callback came to, with some value where it gave one
+abbrev pub WithSome : {A : Type 0} → (Outcome A → Type 0) → Outcome (Unit {0}) → Type 0
+WithSome {A} P (Gave u) = (v : A) × P (Gave v)
+WithSome P (Quiet e) = P (Quiet e)
+WithSome P (Failed e) = P (Failed e)
+
 -- a callback that does what P says was handed s and came to o
 pub record Hands {A : Type 0} (P : Does A) (s : Reading) (o : Outcome A) (s' : Reading) : Type 0 where
   pub own : Result A ASN1Error

@@ -9,7 +9,8 @@ use Rattle.yasna_base.specs.declared.error.ASN1Error.{ASN1Error}
 use Rattle.yasna_base.specs.declared.error.ASN1ErrorKind.TheVariants.{Invalid}
 use Rattle.yasna_base.specs.declared.mode.BERMode.{BERMode}
 use Rattle.yasna_base.specs.declared.mode.BERMode.TheVariants.{Ber, Der, Cer}
-use Rattle.yasna_reader.specs.SequenceOf.{CollectsBy, ListTurn, VisitsBy}
+use Rattle.yasna_reader.specs.Callback.{WithSome}
+use Rattle.yasna_reader.specs.SequenceOf.{CollectsBy, ListTurn, TurnsOut, VisitsBy}
 use Rattle.yasna_reader.specs.State.{Reading, failing, Does}
 use Rattle.yasna_reader.specs.declared.callback.Outcome.{Outcome}
 use Rattle.yasna_reader.specs.declared.callback.Outcome.TheVariants.{Gave, Quiet, Failed}
@@ -29,10 +30,6 @@ pub record Bounded (F : Type 0) : Type 0 where
 abbrev pub bound_bytes : Option (Bor (List ℕ)) → Option (List ℕ)
 bound_bytes None = None
 bound_bytes (Some b) = Some b.now
-
--- a callback, and the bound for its next element
-abbrev pub bounded : {F : Type 0} → F → Option (Bor (List ℕ)) → Bounded F
-bounded f b = record { callback = f; bound = bound_bytes b }
 
 -- where elements are to ascend, the first one is behind no bytes
 abbrev pub bound_in : Order → BERMode → Option (List ℕ)
@@ -90,6 +87,16 @@ Ordered a c (Gave v) s o n s' = (b : List ℕ) × (c ≡ b ++ s.left) ×
     ((Follows a b n × (o ≡ Gave v) × (s' ≡ s)) ⊎ (FallsBelow a b × (o ≡ Failed (error_of Invalid)) × (s' ≡ failing s (error_of Invalid))))
 Ordered a c (Quiet e) s o n s' = (o ≡ Quiet e) × (s' ≡ s)
 Ordered a c (Failed e) s o n s' = (o ≡ Failed e) × (s' ≡ s)
+
+-- what a turn came to whose callback was handed s, answered x and left m, where the bound is a: what its callback did, and what is
+-- made of that
+pub record TurnsOutInOrder {A : Type 0} (a : Option (List ℕ)) (s : Reading) (x : Result A ASN1Error) (m : Reading) (o : Outcome (Unit {0}))
+    (n : Option (List ℕ)) (s' : Reading) :
+    Type 0 where
+  pub outcome : Outcome (Unit {0})
+  pub between : Reading
+  pub turn : WithSome (λ q. TurnsOut s x m q between) outcome
+  pub ordered : Ordered a s.left outcome between o n s'
 
 -- the elements are the callback's, and ascend where the order asks it in the mode
 abbrev pub CollectsInOrder : {F A : Type 0} → Order → (F → Reading → Result A ASN1Error → F → Reading → Type 0) → F → Does (Vec A Global)

@@ -54,7 +54,7 @@ fn by_fields(tag: Option<Tag>) -> Option<Tag>
 impl<'a> ReaderState<'a> {
     ghost use Rattle.std.specs.Prelude.{Err, None, length, ◌≡◌};
     ghost use Rattle.std.specs.Fn.{FnOnceTakesAtMut, FnOnceReturnsAtMut};
-    ghost use Rattle.yasna_reader.specs.Callback.{ComesTo, Barred, Hands, Lent, FailsAs, at_cursor, moved_as};
+    ghost use Rattle.yasna_reader.specs.Callback.{ComesTo, Barred, Hands, Lent, FailsAs, WithSome, at_cursor, moved_as};
     ghost use Rattle.yasna_reader.specs.State.{failing};
 
     // Hands this reading to a callback, and takes it back.
@@ -112,7 +112,25 @@ impl<'a> ReaderState<'a> {
         Outcome::Gave(value)
     }
 
-    // The same where it answered an Err.
+    // What a callback came to that began here and gave this answer, which stays where it is.
+    #[inline(always)]
+    #[tactic(auto, using(crate::proofs::Callbacks::barred_fails, crate::proofs::Callbacks::none_given))]
+    pub(crate) fn look_back<T>(&mut self, before: Cursor<'a>, answer: &ASN1Result<T>) -> Outcome<()>
+        ensures { WithSome (λ o. ComesTo (at_cursor before.entry) answer.now self.old o self.new) result }
+    {
+        match answer {
+            Ok(_) => {
+                if let Some(error) = self.barred(before) {
+                    return Outcome::Failed(error);
+                }
+                self.go_on(before);
+                Outcome::Gave(())
+            }
+            Err(error) => self.take_back_failed(before, *error),
+        }
+    }
+
+    // What it came to where it answered an Err.
     #[inline(always)]
     #[tactic(auto, using(crate::proofs::Callbacks::place_unmoved, crate::proofs::Callbacks::barred_fails))]
     fn take_back_failed<T>(&mut self, before: Cursor<'a>, error: ASN1Error) -> Outcome<T>

@@ -12,10 +12,10 @@ use yasna_bytes::bytes::cursor::Cursor;
 
 impl<'a> ReaderState<'a> {
     ghost use Rattle.std.specs.Fn.{CalledAtMut};
-    ghost use Rattle.yasna_reader.specs.Callback.{at_cursor};
+    ghost use Rattle.yasna_reader.specs.Callback.{WithSome, at_cursor};
     ghost use Rattle.yasna_reader.specs.Sequence.{TakesContents, ReadsParts};
-    ghost use Rattle.yasna_reader.specs.SequenceOf.{TakesTurn, TakesTurns, ListTurn, TurnsOut, Collects, Visits};
-    ghost use Rattle.yasna_reader.specs.SetOf.{CollectsInOrder, VisitsInOrder, TurnInOrder, bounded};
+    ghost use Rattle.yasna_reader.specs.SequenceOf.{TakesTurn, TakesTurns, TurnsOut, Collects, Visits};
+    ghost use Rattle.yasna_reader.specs.SetOf.{CollectsInOrder, VisitsInOrder, TurnsOutInOrder, bound_bytes};
     ghost use Rattle.yasna_reader.specs.State.{IsFresh};
 
     /// Reads a SEQUENCE OF (X.690, 8.10): the callback reads one element each time that it is called.
@@ -95,7 +95,9 @@ impl<'a> ReaderState<'a> {
     {
         let mut bound = first_bound(order, self.cursor.mode);
         loop {
-            match self.turn_in_order(&mut f, &mut bound) {
+            let before = self.cursor;
+            let answer = self.call(&mut f);
+            match self.turned(before, &answer, &mut bound) {
                 Outcome::Gave(()) => {}
                 Outcome::Quiet(_) => return Ok(()),
                 Outcome::Failed(error) => return Err(error),
@@ -115,51 +117,52 @@ impl<'a> ReaderState<'a> {
         let mut items = Vec::new(self.alloc);
         let mut bound = first_bound(order, self.cursor.mode);
         loop {
-            match self.turn_in_order(&mut f, &mut bound) {
-                Outcome::Gave(item) => {
-                    if items.push(item).is_err() {
-                        return self.fail(ASN1Error::new(ASN1ErrorKind::OutOfMemory));
-                    }
-                }
+            let before = self.cursor;
+            let answer = self.call(&mut f);
+            match self.turned(before, &answer, &mut bound) {
+                Outcome::Gave(()) => {}
                 Outcome::Quiet(_) => return Ok(items),
                 Outcome::Failed(error) => return Err(error),
+            }
+            if items.push(answer?).is_err() {
+                return self.fail(ASN1Error::new(ASN1ErrorKind::OutOfMemory));
             }
         }
     }
 
-    // One turn of a list's callback, where no element may be less than the bound, which becomes the element.
+    // Hands this reading to a list's callback.
     #[inline(always)]
-    fn turn_in_order<T: Drop, F>(&mut self, f: &mut F, bound: &mut Option<&'a [u8]>) -> Outcome<T>
+    fn call<T: Drop, F>(&mut self, f: &mut F) -> ASN1Result<T>
     where
         F: FnMut(BERReader<'a, '_>) -> ASN1Result<T>,
         requires { TakesTurn F.FnMut f.old self.old }
-        ensures { TurnInOrder (CalledAtMut F.FnMut) (bounded f.old bound.old) self.old result (bounded f.new bound.new) self.new }
+        ensures { CalledAtMut F.FnMut f.old self.old result f.new self.new }
     {
-        let before = self.cursor.left;
-        let outcome = self.turn(f);
-        self.in_order(before, outcome, bound)
+        f(self)
     }
 
-    // One turn of a list's callback.
+    // What a turn of a list's callback came to that began here and gave this answer, where no element may be less than the bound, which
+    // becomes the element. The answer stays where it is: a list's elements may be large.
     #[inline(always)]
-    fn turn<T: Drop, F>(&mut self, f: &mut F) -> Outcome<T>
-    where
-        F: FnMut(BERReader<'a, '_>) -> ASN1Result<T>,
-        requires { TakesTurn F.FnMut f.old self.old }
-        ensures { ListTurn (CalledAtMut F.FnMut) f.old self.old result f.new self.new }
+    fn turned<T>(
+        &mut self,
+        before: Cursor<'a>,
+        answer: &ASN1Result<T>,
+        bound: &mut Option<&'a [u8]>,
+    ) -> Outcome<()>
+        ensures { TurnsOutInOrder (bound_bytes bound.old) (at_cursor before.entry) answer.now self.old result (bound_bytes bound.new) self.new }
     {
-        let before = self.cursor;
-        let answer = f(self);
-        self.take_turn(before, answer)
+        let outcome = self.take_turn(before, answer);
+        self.in_order(before.left, outcome, bound)
     }
 
     // What a turn came to that began here, and whose callback gave this answer.
     #[inline(always)]
-    fn take_turn<T: Drop>(&mut self, before: Cursor<'a>, answer: ASN1Result<T>) -> Outcome<T>
-        ensures { TurnsOut (at_cursor before.entry) answer self.old result self.new }
+    fn take_turn<T>(&mut self, before: Cursor<'a>, answer: &ASN1Result<T>) -> Outcome<()>
+        ensures { WithSome (λ o. TurnsOut (at_cursor before.entry) answer.now self.old o self.new) result }
     {
-        let outcome = self.take_back(before, answer);
-        if let Outcome::Gave(_) = outcome
+        let outcome = self.look_back(before, answer);
+        if let Outcome::Gave(()) = outcome
             && before.left.len() <= self.cursor.left.len()
         {
             return self.failed(ASN1Error::new(ASN1ErrorKind::Invalid));

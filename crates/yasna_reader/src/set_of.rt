@@ -81,12 +81,12 @@ impl<'a> ReaderState<'a> {
 
     // What is made of a turn that began with the bytes `before`: its element may not be less than the bound, and becomes it.
     #[inline(always)]
-    pub(crate) fn in_order<T: Drop>(
+    pub(crate) fn in_order(
         &mut self,
         before: &'a [u8],
-        outcome: Outcome<T>,
+        outcome: Outcome<()>,
         bound: &mut Option<&'a [u8]>,
-    ) -> Outcome<T>
+    ) -> Outcome<()>
         requires { IsRest before.now self.old.left }
         ensures { Ordered (bound_bytes bound.old) before.now outcome self.old result (bound_bytes bound.new) self.new }
     {

@@ -1,33 +1,61 @@
-use Rattle.std.proofs.Common.{◌≡◌, [], ◌∷◌, ◌++◌, inl, inr, rules, refl, sym, ap, subst}
+use Rattle.std.proofs.Common.{◌≡◌, [], ◌∷◌, ◌++◌, inl, inr, rules, refl, sym, ap, subst, ◌∙◌}
 use Rattle.std.specs.Fn.{CalledAtMut}
 use Rattle.yasna_base.specs.Error.{kind_of}
 use Rattle.yasna_base.specs.declared.error.ASN1ErrorKind.TheVariants.{OutOfMemory}
-use Rattle.yasna_reader.specs.declared.callback.Outcome.TheVariants.{Quiet, Failed}
+use Rattle.yasna_reader.specs.declared.callback.Outcome.TheVariants.{Gave, Quiet, Failed}
 use Rattle.yasna_reader.specs.SequenceOf.{items_of}
 use Rattle.yasna_reader.specs.SetOf.{TurnInOrder, bound_in, bound_bytes}
-use Rattle.yasna_reader.proofs.ListTurns.{SoFar, more_so_far, takes_turn}
+use Rattle.yasna_reader.proofs.ListTurns.{SoFar, more_so_far, takes_turn, turned_at, gave_in_order, quiet_in_order, failed_in_order}
 use Rattle.yasna_reader.proofs.state.ReaderState.collect.Goals as goal
 
-pub turn_in_order-requires : goal.turn_in_order-requires
-turn_in_order-requires g c κs = (
+pub call-answer-requires : goal.call-answer-requires
+call-answer-requires g c κs = (
   (refl, tt),
   takes_turn g.F.FnMut (record { callback = c.args.f; bound = bound_in c.args.order c.args.self.now.mode }) c.args.self.now
-      c.loop-item.items.items (record { callback = c.loop-item.f; bound = bound_bytes c.loop-item.bound }) c.loop-item.self c.requires.turns
-      c.loop-item.invariant,
+      c.loop-items.items.items (record { callback = c.loop-items.f; bound = bound_bytes c.loop-items.bound }) c.loop-items.self c.requires.turns
+      c.loop-items.invariant,
 )
+
+pub loop-items-preserved : goal.loop-items-preserved
+loop-items-preserved g c =
+    let C = CalledAtMut g.F.FnMut in
+    let i = c.self-in-loop-items.inside in
+    let turned = turned_at i.cursor i.tag i.kept c.loop-items.self (bound_bytes c.loop-items.bound) c.call-answer.result c.call-answer.new.self
+    (Gave c.in-Gave.field-0) (bound_bytes c.turned.new.bound) c.turned.new.self c.self-in-loop-items.view_is (c.in-Gave.ensures {u = tt}) in
+    let gave = gave_in_order C (record { callback = c.loop-items.f; bound = bound_bytes c.loop-items.bound })
+    (record { callback = c.call-answer.new.f; bound = bound_bytes c.turned.new.bound }) c.loop-items.self c.call-answer.result
+    c.call-answer.new.self c.turned.new.self c.call-answer.ensures c.in-Gave.field-0 turned in
+    let more = more_so_far C (record { callback = c.args.f; bound = bound_in c.args.order c.args.self.now.mode }) c.args.self.now
+    c.loop-items.items.items gave.0 (record { callback = c.loop-items.f; bound = bound_bytes c.loop-items.bound }) c.loop-items.self
+    (record { callback = c.call-answer.new.f; bound = bound_bytes c.turned.new.bound }) c.turned.new.self c.requires.fresh
+    c.loop-items.invariant gave.2 in
+    let pushed : c.push.new.self.items ≡ c.loop-items.items.items ++ (c.in_ok-answer.field-0 ∷ []) = search rules in
+    let p = gave.1 in
+    let q = c.in_ok-answer.was in
+    let same : gave.0 ≡ c.in_ok-answer.field-0 = cc in
+    subst (λ vs. SoFar (TurnInOrder C) (record { callback = c.args.f; bound = bound_in c.args.order c.args.self.now.mode }) c.args.self.now vs
+    (record { callback = c.call-answer.new.f; bound = bound_bytes c.turned.new.bound }) c.turned.new.self)
+    (ap (λ v. c.loop-items.items.items ++ (v ∷ [])) same ∙ sym pushed) more
 
 pub returns-then-is_err : goal.returns-then-is_err
 returns-then-is_err g c =
     let memory : kind_of c.new.result ≡ OutOfMemory = search rules in
-    let more = more_so_far (CalledAtMut g.F.FnMut) (record { callback = c.args.f; bound = bound_in c.args.order c.args.self.now.mode }) c.args.self.now
-    c.loop-item.items.items c.in-Gave.item (record { callback = c.loop-item.f; bound = bound_bytes c.loop-item.bound }) c.loop-item.self
-    (record { callback = c.turn_in_order.new.f; bound = bound_bytes c.turn_in_order.new.bound }) c.turn_in_order.new.self c.requires.fresh
-    c.loop-item.invariant (c.in-Gave.ensures {u = tt}) in
+    let C = CalledAtMut g.F.FnMut in
+    let i = c.self-in-loop-items.inside in
+    let turned = turned_at i.cursor i.tag i.kept c.loop-items.self (bound_bytes c.loop-items.bound) c.call-answer.result c.call-answer.new.self
+    (Gave c.in-Gave.field-0) (bound_bytes c.turned.new.bound) c.turned.new.self c.self-in-loop-items.view_is (c.in-Gave.ensures {u = tt}) in
+    let gave = gave_in_order C (record { callback = c.loop-items.f; bound = bound_bytes c.loop-items.bound })
+    (record { callback = c.call-answer.new.f; bound = bound_bytes c.turned.new.bound }) c.loop-items.self c.call-answer.result
+    c.call-answer.new.self c.turned.new.self c.call-answer.ensures c.in-Gave.field-0 turned in
+    let more = more_so_far C (record { callback = c.args.f; bound = bound_in c.args.order c.args.self.now.mode }) c.args.self.now
+    c.loop-items.items.items gave.0 (record { callback = c.loop-items.f; bound = bound_bytes c.loop-items.bound }) c.loop-items.self
+    (record { callback = c.call-answer.new.f; bound = bound_bytes c.turned.new.bound }) c.turned.new.self c.requires.fresh
+    c.loop-items.invariant gave.2 in
     inr (record {
-      values = c.loop-item.items.items;
-      last = c.in-Gave.item;
-      reached = record { callback = c.turn_in_order.new.f; bound = bound_bytes c.turn_in_order.new.bound };
-      place = c.turn_in_order.new.self;
+      values = c.loop-items.items.items;
+      last = gave.0;
+      reached = record { callback = c.call-answer.new.f; bound = bound_bytes c.turned.new.bound };
+      place = c.turned.new.self;
       turns = more.turns;
       error = c.new.result;
       memory = memory;
@@ -35,37 +63,40 @@ returns-then-is_err g c =
       state = c.fail.ensures.state;
     })
 
-pub loop-item-preserved : goal.loop-item-preserved
-loop-item-preserved g c =
-    let pushed : c.push.new.self.items ≡ c.loop-item.items.items ++ (c.in-Gave.item ∷ []) = search rules in
-    subst (λ vs. SoFar (TurnInOrder (CalledAtMut g.F.FnMut)) (record { callback = c.args.f; bound = bound_in c.args.order c.args.self.now.mode })
-    c.args.self.now vs
-    (record { callback = c.turn_in_order.new.f; bound = bound_bytes c.turn_in_order.new.bound }) c.turn_in_order.new.self) (sym pushed)
-    (more_so_far (CalledAtMut g.F.FnMut) (record { callback = c.args.f; bound = bound_in c.args.order c.args.self.now.mode }) c.args.self.now
-    c.loop-item.items.items c.in-Gave.item (record { callback = c.loop-item.f; bound = bound_bytes c.loop-item.bound }) c.loop-item.self
-    (record { callback = c.turn_in_order.new.f; bound = bound_bytes c.turn_in_order.new.bound }) c.turn_in_order.new.self c.requires.fresh
-    c.loop-item.invariant (c.in-Gave.ensures {u = tt}))
-
 pub returns-in-Quiet : goal.returns-in-Quiet
-returns-in-Quiet g c = inl (record {
-  values = c.loop-item.items.items;
-  reached = record { callback = c.loop-item.f; bound = bound_bytes c.loop-item.bound };
-  place = c.loop-item.self;
-  turns = c.loop-item.invariant.turns;
-  last = Quiet c.in-Quiet.field-0;
-  after = record { callback = c.turn_in_order.new.f; bound = bound_bytes c.turn_in_order.new.bound };
-  turn = c.in-Quiet.ensures {u = tt};
-  ends = refl;
-})
+returns-in-Quiet g c =
+    let C = CalledAtMut g.F.FnMut in
+    let i = c.self-in-loop-items.inside in
+    let turned = turned_at i.cursor i.tag i.kept c.loop-items.self (bound_bytes c.loop-items.bound) c.call-answer.result c.call-answer.new.self
+    (Quiet c.in-Quiet.field-0) (bound_bytes c.turned.new.bound) c.turned.new.self c.self-in-loop-items.view_is (c.in-Quiet.ensures {u = tt}) in
+    inl (record {
+      values = c.loop-items.items.items;
+      reached = record { callback = c.loop-items.f; bound = bound_bytes c.loop-items.bound };
+      place = c.loop-items.self;
+      turns = c.loop-items.invariant.turns;
+      last = Quiet c.in-Quiet.field-0;
+      after = record { callback = c.call-answer.new.f; bound = bound_bytes c.turned.new.bound };
+      turn = quiet_in_order C (record { callback = c.loop-items.f; bound = bound_bytes c.loop-items.bound })
+          (record { callback = c.call-answer.new.f; bound = bound_bytes c.turned.new.bound }) c.loop-items.self c.call-answer.result
+          c.call-answer.new.self c.turned.new.self c.call-answer.ensures c.in-Quiet.field-0 turned;
+      ends = refl;
+    })
 
 pub returns-in-Failed : goal.returns-in-Failed
-returns-in-Failed g c = inl (record {
-  values = c.loop-item.items.items;
-  reached = record { callback = c.loop-item.f; bound = bound_bytes c.loop-item.bound };
-  place = c.loop-item.self;
-  turns = c.loop-item.invariant.turns;
-  last = Failed c.in-Failed.error;
-  after = record { callback = c.turn_in_order.new.f; bound = bound_bytes c.turn_in_order.new.bound };
-  turn = c.in-Failed.ensures {u = tt};
-  ends = refl;
-})
+returns-in-Failed g c =
+    let C = CalledAtMut g.F.FnMut in
+    let i = c.self-in-loop-items.inside in
+    let turned = turned_at i.cursor i.tag i.kept c.loop-items.self (bound_bytes c.loop-items.bound) c.call-answer.result c.call-answer.new.self
+    (Failed c.in-Failed.error) (bound_bytes c.turned.new.bound) c.turned.new.self c.self-in-loop-items.view_is (c.in-Failed.ensures {u = tt}) in
+    inl (record {
+      values = c.loop-items.items.items;
+      reached = record { callback = c.loop-items.f; bound = bound_bytes c.loop-items.bound };
+      place = c.loop-items.self;
+      turns = c.loop-items.invariant.turns;
+      last = Failed c.in-Failed.error;
+      after = record { callback = c.call-answer.new.f; bound = bound_bytes c.turned.new.bound };
+      turn = failed_in_order C (record { callback = c.loop-items.f; bound = bound_bytes c.loop-items.bound })
+          (record { callback = c.call-answer.new.f; bound = bound_bytes c.turned.new.bound }) c.loop-items.self c.call-answer.result
+          c.call-answer.new.self c.turned.new.self c.call-answer.ensures c.in-Failed.error turned;
+      ends = refl;
+    })

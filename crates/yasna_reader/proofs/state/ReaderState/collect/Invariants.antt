@@ -4,10 +4,10 @@ use Rattle.yasna_reader.specs.SetOf.{TurnInOrder, bound_in, bound_bytes}
 use Rattle.yasna_reader.proofs.ListTurns.{SoFar}
 use Rattle.yasna_reader.proofs.state.ReaderState.collect.Given as goal
 
-abbrev pub invariant-loop-item : goal.invariant-loop-item
-invariant-loop-item g l =
+abbrev pub invariant-loop-items : goal.invariant-loop-items
+invariant-loop-items g l =
     SoFar (TurnInOrder (CalledAtMut g.F.FnMut)) (record { callback = l.fn.f; bound = bound_in l.fn.order l.fn.self.mode }) l.fn.self l.items.items
     (record { callback = l.f; bound = bound_bytes l.bound }) l.self
 
-abbrev pub decreases-loop-item : goal.decreases-loop-item
-decreases-loop-item g l = length l.self.left
+abbrev pub decreases-loop-items : goal.decreases-loop-items
+decreases-loop-items g l = length l.self.left
