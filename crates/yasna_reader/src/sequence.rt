@@ -32,25 +32,14 @@ impl<'a> ReaderState<'a> {
     /// The callback is to read all of them: what it leaves is `Extra`, or `Invalid` where the length is indefinite. What goes
     /// wrong in it is kept, whatever it answers: later calls answer it.
     #[inline(always)]
+    #[tactic(auto, using(crate::proofs::Sequences::stepped_in, crate::proofs::Sequences::stayed_out, crate::proofs::Sequences::takes_inside))]
     pub fn read_sequence<T: Drop, F>(&mut self, f: F) -> ASN1Result<T>
     where
         F: FnOnce(&mut BERReaderSeq<'a, '_>) -> ASN1Result<T>,
         requires { TakesParts F.FnOnce f sequence_tag self.old }
         ensures { ReadsParts (Runs F.FnOnce f) sequence_tag self.old result self.new }
     {
-        self.read_parts(TAG_SEQUENCE, f)
-    }
-
-    // Reads a constructed element of this tag, or of the implicit one.
-    #[inline(always)]
-    #[tactic(auto, using(crate::proofs::Sequences::stepped_in, crate::proofs::Sequences::stayed_out, crate::proofs::Sequences::takes_inside))]
-    fn read_parts<T: Drop, F>(&mut self, tag: Tag, f: F) -> ASN1Result<T>
-    where
-        F: FnOnce(&mut BERReaderSeq<'a, '_>) -> ASN1Result<T>,
-        requires { TakesParts F.FnOnce f tag self.old }
-        ensures { ReadsParts (Runs F.FnOnce f) tag self.old result self.new }
-    {
-        let opened = self.step_in(tag)?;
+        let opened = self.step_in(TAG_SEQUENCE)?;
         let mut parts = Parts {
             reader: self.within(&opened),
         };
