@@ -18,7 +18,7 @@ ghost use Rattle.x509.specs.contracts.tbs_certificate.TbsCertificateNotation.The
 use crate::algorithm::AlgorithmIdentifier;
 use crate::tbs_certificate::TbsCertificate;
 use yasna::{ASN1Result, BERReader, DERWriter, Tag};
-use yasna_notation::{BitString, Message, Notation, Sequence, StandsFor, read_as};
+use yasna_notation::{BitString, Message, Notation, Sequence, StandsFor};
 
 type Parts = (TbsCertificate, (AlgorithmIdentifier, (BitString, ())));
 
@@ -63,7 +63,9 @@ impl Notation for Certificate {
     }
 
     fn read(reader: BERReader) -> ASN1Result<Certificate> {
-        read_as::<Sequence<Parts>, Certificate>(reader)
+        // As `read_as` does it, but the value is moved once less, and is large.
+        let fields = <Sequence<Parts> as Notation>::read(reader)?;
+        Ok(<Certificate as StandsFor<Fields>>::from_value(fields))
     }
 
     fn write(value: &Certificate, writer: DERWriter<'_>) -> ASN1Result<()> {

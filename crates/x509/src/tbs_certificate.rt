@@ -42,7 +42,7 @@ use crate::validity::Validity;
 use yasna::{ASN1Result, BERReader, DERWriter, Tag};
 use yasna_notation::{
     AtMost, BigInteger, BitString, Bounded, Context, Default, Explicit, Implicit, Message,
-    Notation, Number, Optional, Sequence, StandsFor, read_as,
+    Notation, Number, Optional, Sequence, StandsFor,
 };
 
 type Version = Default<Explicit<Context<0>, Bounded<u64, AtMost<2>>>, Number<0>>;
@@ -135,7 +135,9 @@ impl Notation for TbsCertificate {
     }
 
     fn read(reader: BERReader) -> ASN1Result<TbsCertificate> {
-        read_as::<Sequence<Parts>, TbsCertificate>(reader)
+        // As `read_as` does it, but the value is moved once less, and is large.
+        let fields = <Sequence<Parts> as Notation>::read(reader)?;
+        Ok(<TbsCertificate as StandsFor<Fields>>::from_value(fields))
     }
 
     fn write(value: &TbsCertificate, writer: DERWriter<'_>) -> ASN1Result<()> {

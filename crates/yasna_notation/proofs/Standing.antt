@@ -1,5 +1,5 @@
 -- What reading a value does that stands for another.
-use Rattle.std.proofs.Common.{◌≡◌, ◌∷◌, [], List, Bool, true, Option, Some, None, Ok, Err, sym, ap, subst}
+use Rattle.std.proofs.Common.{◌≡◌, ◌∷◌, [], List, Bool, true, Option, Some, None, Result, Ok, Err, sym, ap, subst}
 use Rattle.yasna_base.specs.declared.error.ASN1Error.{ASN1Error}
 use Rattle.yasna_base.specs.declared.tag.Tag.{Tag}
 use Rattle.yasna_base.specs.Grammar.{Grammar, Members}
@@ -50,3 +50,13 @@ module _ {U A : Type 0} (f : U → A) (told : Bool) (ts : List Tag) (retagged as
         let same : e ≡ d = let y = x.0 in cc in
         (ap (λ z. Err z) same, x.1);
   }
+
+  -- a value that stands for the one that a reading answered
+  pub read_for : (u : U) (v : A) (r : Result A ASN1Error) (s' : Reading) → r ≡ Ok v → f u ≡ v → ReadsAs told ts retagged asks B S s r s' →
+      ReadsAs told ts retagged asks (λ t m n w b. B t m n (f w) b) S s (Ok u) s'
+  read_for u v r s' was is h = stands_for u v s' is (subst (λ x. ReadsAs told ts retagged asks B S s x s') was h)
+
+  -- and none where that answered an Err
+  pub failed_for : (e : ASN1Error) (r : Result A ASN1Error) (s' : Reading) → r ≡ Err e → ReadsAs told ts retagged asks B S s r s' →
+      ReadsAs {A = U} told ts retagged asks (λ t m n w b. B t m n (f w) b) S s (Err e) s'
+  failed_for e r s' was h = stands_for_none e s' (subst (λ x. ReadsAs told ts retagged asks B S s x s') was h)
