@@ -63,8 +63,11 @@ impl Notation for Certificate {
     }
 
     fn read(reader: BERReader) -> ASN1Result<Certificate> {
-        // As `read_as` does it, but the value is moved once less, and is large.
-        let fields = <Sequence<Parts> as Notation>::read(reader)?;
+        // As `read_as` does it, but the value, which is large, is moved less often.
+        let fields = match <Sequence<Parts> as Notation>::read(reader) {
+            Ok(fields) => fields,
+            Err(error) => return Err(error),
+        };
         Ok(<Certificate as StandsFor<Fields>>::from_value(fields))
     }
 

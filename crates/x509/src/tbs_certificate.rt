@@ -135,8 +135,11 @@ impl Notation for TbsCertificate {
     }
 
     fn read(reader: BERReader) -> ASN1Result<TbsCertificate> {
-        // As `read_as` does it, but the value is moved once less, and is large.
-        let fields = <Sequence<Parts> as Notation>::read(reader)?;
+        // As `read_as` does it, but the value, which is large, is moved less often.
+        let fields = match <Sequence<Parts> as Notation>::read(reader) {
+            Ok(fields) => fields,
+            Err(error) => return Err(error),
+        };
         Ok(<TbsCertificate as StandsFor<Fields>>::from_value(fields))
     }
 

@@ -1,4 +1,6 @@
 //! DEFAULT: a part that is left out where it is the default (X.690, 8.9.3 and 11.5).
+//!
+//! What was read is looked at by a `match`, as in `parts`.
 ghost use Rattle.std.specs.Prelude.{◌≡◌, ◌++◌, ◌∷◌, ◌||◌, ◌&&◌, Bool, None, true, false, not, nat_eq, refl};
 ghost use Rattle.yasna_base.specs.Beginnings.{share_none};
 ghost use Rattle.yasna_base.specs.Coding.{Any};
@@ -145,8 +147,14 @@ where
 
     #[inline(always)]
     fn read_parts(seq: &mut BERReaderSeq) -> ASN1Result<(A::Value, W::Values)> {
-        let first = seq.read_default(D::default(), |part| A::read(part))?;
-        let others = W::read_parts(seq)?;
+        let first = match seq.read_default(D::default(), |part| A::read(part)) {
+            Ok(first) => first,
+            Err(error) => return Err(error),
+        };
+        let others = match W::read_parts(seq) {
+            Ok(others) => others,
+            Err(error) => return Err(error),
+        };
         Ok((first, others))
     }
 

@@ -1,4 +1,6 @@
 //! What a SEQUENCE holds: parts that are there, may be left out, or are a default where they are (X.690, 8.9).
+//!
+//! What was read is looked at by a `match`: `?` moves it first, and the values of many parts are large.
 ghost use Rattle.std.specs.Prelude.{◌≡◌, ◌∷◌, ◌++◌, ◌||◌, ◌&&◌, [], Bool, List, None, true, false};
 ghost use Rattle.yasna_base.specs.declared.tag.Tag.{Tag};
 ghost use Rattle.yasna_base.specs.Beginnings.{share_none};
@@ -139,8 +141,14 @@ impl<A: Notation, W: Parts> Parts for (A, W) {
 
     #[inline(always)]
     fn read_parts(seq: &mut BERReaderSeq) -> ASN1Result<(A::Value, W::Values)> {
-        let first = A::read(seq.next())?;
-        let others = W::read_parts(seq)?;
+        let first = match A::read(seq.next()) {
+            Ok(first) => first,
+            Err(error) => return Err(error),
+        };
+        let others = match W::read_parts(seq) {
+            Ok(others) => others,
+            Err(error) => return Err(error),
+        };
         Ok((first, others))
     }
 
@@ -187,8 +195,14 @@ impl<A: Notation, W: Parts> Parts for (Optional<A>, W) {
 
     #[inline(always)]
     fn read_parts(seq: &mut BERReaderSeq) -> ASN1Result<(Option<A::Value>, W::Values)> {
-        let first = seq.read_optional(|part| A::read(part))?;
-        let others = W::read_parts(seq)?;
+        let first = match seq.read_optional(|part| A::read(part)) {
+            Ok(first) => first,
+            Err(error) => return Err(error),
+        };
+        let others = match W::read_parts(seq) {
+            Ok(others) => others,
+            Err(error) => return Err(error),
+        };
         Ok((first, others))
     }
 

@@ -1,15 +1,12 @@
-use Rattle.std.proofs.Common.{◌≡◌, rules, Err}
 use Rattle.yasna_notation.proofs.Standing.{read_for, failed_for}
 use Rattle.x509.specs.contracts.certificate.CertificateStandsForFields.TheImpl.{ghosts as fields}
 use Rattle.x509.proofs.certificate.CertificateNotation.read.Goals as goal
 
 pub returns : goal.returns
 returns c =
-    read_for fields.value_of _ _ _ _ _ _ c.args.reader.now c.from_value.result c.in_ok-fields.fields c.read.result c.read.new.reader
-    c.in_ok-fields.was c.from_value.ensures c.read.ensures
+    read_for fields.value_of _ _ _ _ _ _ c.args.reader.now c.from_value.result c.in-Ok.fields c.read.result c.read.new.reader c.in-Ok.is
+    c.from_value.ensures c.read.ensures
 
-pub returns-in_err-fields : goal.returns-in_err-fields
-returns-in_err-fields c =
-    let is : c.from_residual.result ≡ Err c.in_err-fields.field-0.0 = search rules in
-    rw is (failed_for fields.value_of _ _ _ _ _ _ c.args.reader.now c.in_err-fields.field-0.0 c.read.result c.read.new.reader
-    c.in_err-fields.was c.read.ensures)
+pub returns-in-Err : goal.returns-in-Err
+returns-in-Err c =
+    failed_for fields.value_of _ _ _ _ _ _ c.args.reader.now c.in-Err.error c.read.result c.read.new.reader c.in-Err.is c.read.ensures

@@ -19,12 +19,12 @@ returns g c =
     let read = subst (λ v. ReadsDefault N _ v s c.read_default.result m) c.default.ensures
     (default_called _ _ N _ c.default.result s c.read_default.result m c.read_default.ensures (λ p q x h. search rules)) in
     let left = part_of c.read_parts.new.seq in
-    first_read w.asks_memory w.parts first s c.requires.fresh c.read_default.result m read c.in_ok-first.first c.in_ok-first.was
-    (Ok c.in_ok-others.others) left
-    (subst (λ z. ReadsContents w.asks_memory w.parts w.any_parts m z left) c.in_ok-others.was c.read_parts.ensures)
+    first_read w.asks_memory w.parts first s c.requires.fresh c.read_default.result m read c.in-Ok.first c.in-Ok.is
+    (Ok c.in-Ok-read_parts.others) left
+    (subst (λ z. ReadsContents w.asks_memory w.parts w.any_parts m z left) c.in-Ok-read_parts.is c.read_parts.ensures)
 
-pub returns-in_err-others : goal.returns-in_err-others
-returns-in_err-others g c =
+pub returns-in-Err-read_parts : goal.returns-in-Err-read_parts
+returns-in-Err-read_parts g c =
     let n = g.A.Notation.means in
     let d = g.D.DefaultValue in
     let w = g.W.Parts in
@@ -36,13 +36,12 @@ returns-in_err-others g c =
     let read = subst (λ v. ReadsDefault N _ v s c.read_default.result m) c.default.ensures
     (default_called _ _ N _ c.default.result s c.read_default.result m c.read_default.ensures (λ p q x h. search rules)) in
     let left = part_of c.read_parts.new.seq in
-    let is : c.from_residual-in_err-others.result ≡ Err c.in_err-others.field-0.0 = search rules in
-    rw is (first_read w.asks_memory w.parts first s c.requires.fresh c.read_default.result m read c.in_ok-first.first c.in_ok-first.was
-    (Err c.in_err-others.field-0.0) left
-    (subst (λ z. ReadsContents w.asks_memory w.parts w.any_parts m z left) c.in_err-others.was c.read_parts.ensures))
+    first_read w.asks_memory w.parts first s c.requires.fresh c.read_default.result m read c.in-Ok.first c.in-Ok.is
+    (Err c.in-Err-read_parts.error) left
+    (subst (λ z. ReadsContents w.asks_memory w.parts w.any_parts m z left) c.in-Err-read_parts.is c.read_parts.ensures)
 
-pub returns-in_err-first : goal.returns-in_err-first
-returns-in_err-first g c =
+pub returns-in-Err : goal.returns-in-Err
+returns-in-Err g c =
     let n = g.A.Notation.means in
     let d = g.D.DefaultValue in
     let w = g.W.Parts in
@@ -53,5 +52,4 @@ returns-in_err-first g c =
     g.met.D.DefaultValue.tells g.met.D.DefaultValue.tests (λ b. (g.met.A.Notation.keeps b).own) g.met.W.Parts.laws c.requires.apart in
     let read = subst (λ v. ReadsDefault N _ v s c.read_default.result m) c.default.ensures
     (default_called _ _ N _ c.default.result s c.read_default.result m c.read_default.ensures (λ p q x h. search rules)) in
-    let is : c.from_residual.result ≡ Err c.in_err-first.field-0.0 = search rules in
-    rw is (first_failed w.asks_memory w.parts first s c.requires.fresh c.read_default.result m read c.in_err-first.field-0.0 c.in_err-first.was)
+    first_failed w.asks_memory w.parts first s c.requires.fresh c.read_default.result m read c.in-Err.error c.in-Err.is

@@ -17,12 +17,12 @@ returns g c =
     let read = optional_called _ _ (ReadsAs n.told n.tags n.retagged n.asks_memory n.under n.any_under) s c.read_optional.result m
     c.read_optional.ensures (λ p q x h. search rules) in
     let left = part_of c.read_parts.new.seq in
-    first_read w.asks_memory w.parts first s c.requires.fresh c.read_optional.result m read c.in_ok-first.first c.in_ok-first.was
-    (Ok c.in_ok-others.others) left
-    (subst (λ z. ReadsContents w.asks_memory w.parts w.any_parts m z left) c.in_ok-others.was c.read_parts.ensures)
+    first_read w.asks_memory w.parts first s c.requires.fresh c.read_optional.result m read c.in-Ok.first c.in-Ok.is
+    (Ok c.in-Ok-read_parts.others) left
+    (subst (λ z. ReadsContents w.asks_memory w.parts w.any_parts m z left) c.in-Ok-read_parts.is c.read_parts.ensures)
 
-pub returns-in_err-others : goal.returns-in_err-others
-returns-in_err-others g c =
+pub returns-in-Err-read_parts : goal.returns-in-Err-read_parts
+returns-in-Err-read_parts g c =
     let n = g.A.Notation.means in
     let w = g.W.Parts in
     let s = part_of c.args.seq.now in
@@ -33,13 +33,12 @@ returns-in_err-others g c =
     let read = optional_called _ _ (ReadsAs n.told n.tags n.retagged n.asks_memory n.under n.any_under) s c.read_optional.result m
     c.read_optional.ensures (λ p q x h. search rules) in
     let left = part_of c.read_parts.new.seq in
-    let is : c.from_residual-in_err-others.result ≡ Err c.in_err-others.field-0.0 = search rules in
-    rw is (first_read w.asks_memory w.parts first s c.requires.fresh c.read_optional.result m read c.in_ok-first.first c.in_ok-first.was
-    (Err c.in_err-others.field-0.0) left
-    (subst (λ z. ReadsContents w.asks_memory w.parts w.any_parts m z left) c.in_err-others.was c.read_parts.ensures))
+    first_read w.asks_memory w.parts first s c.requires.fresh c.read_optional.result m read c.in-Ok.first c.in-Ok.is
+    (Err c.in-Err-read_parts.error) left
+    (subst (λ z. ReadsContents w.asks_memory w.parts w.any_parts m z left) c.in-Err-read_parts.is c.read_parts.ensures)
 
-pub returns-in_err-first : goal.returns-in_err-first
-returns-in_err-first g c =
+pub returns-in-Err : goal.returns-in-Err
+returns-in-Err g c =
     let n = g.A.Notation.means in
     let w = g.W.Parts in
     let s = part_of c.args.seq.now in
@@ -49,5 +48,4 @@ returns-in_err-first g c =
     c.requires.apart in
     let read = optional_called _ _ (ReadsAs n.told n.tags n.retagged n.asks_memory n.under n.any_under) s c.read_optional.result m
     c.read_optional.ensures (λ p q x h. search rules) in
-    let is : c.from_residual.result ≡ Err c.in_err-first.field-0.0 = search rules in
-    rw is (first_failed w.asks_memory w.parts first s c.requires.fresh c.read_optional.result m read c.in_err-first.field-0.0 c.in_err-first.was)
+    first_failed w.asks_memory w.parts first s c.requires.fresh c.read_optional.result m read c.in-Err.error c.in-Err.is

@@ -17,11 +17,11 @@ returns g c =
     let left = part_of c.read_parts.new.seq in
     first_read w.asks_memory w.parts first s c.requires.fresh c.read.result m
     (subst (λ z. ReadsAs n.told n.tags n.retagged n.asks_memory n.under n.any_under z c.read.result m) c.next.ensures.value c.read.ensures)
-    c.in_ok-first.first c.in_ok-first.was (Ok c.in_ok-others.others) left
-    (subst (λ z. ReadsContents w.asks_memory w.parts w.any_parts m z left) c.in_ok-others.was c.read_parts.ensures)
+    c.in-Ok.first c.in-Ok.is (Ok c.in-Ok-read_parts.others) left
+    (subst (λ z. ReadsContents w.asks_memory w.parts w.any_parts m z left) c.in-Ok-read_parts.is c.read_parts.ensures)
 
-pub returns-in_err-others : goal.returns-in_err-others
-returns-in_err-others g c =
+pub returns-in-Err-read_parts : goal.returns-in-Err-read_parts
+returns-in-Err-read_parts g c =
     let n = g.A.Notation.means in
     let w = g.W.Parts in
     let s = part_of c.args.seq.now in
@@ -29,8 +29,7 @@ returns-in_err-others g c =
     let first = required_by {told = n.told} {ts = n.tags} {retagged = n.retagged} {asks = n.asks_memory} {B = n.under} {S = n.any_under}
     {Q = w.any_parts} (g.met.A.Notation.keeps (and_parts g.A.Notation.apart w.apart c.requires.apart).0).own.coding in
     let left = part_of c.read_parts.new.seq in
-    let is : c.from_residual-in_err-others.result ≡ Err c.in_err-others.field-0.0 = search rules in
-    rw is (first_read w.asks_memory w.parts first s c.requires.fresh c.read.result m
+    first_read w.asks_memory w.parts first s c.requires.fresh c.read.result m
     (subst (λ z. ReadsAs n.told n.tags n.retagged n.asks_memory n.under n.any_under z c.read.result m) c.next.ensures.value c.read.ensures)
-    c.in_ok-first.first c.in_ok-first.was (Err c.in_err-others.field-0.0) left
-    (subst (λ z. ReadsContents w.asks_memory w.parts w.any_parts m z left) c.in_err-others.was c.read_parts.ensures))
+    c.in-Ok.first c.in-Ok.is (Err c.in-Err-read_parts.error) left
+    (subst (λ z. ReadsContents w.asks_memory w.parts w.any_parts m z left) c.in-Err-read_parts.is c.read_parts.ensures)
