@@ -64,13 +64,18 @@ fn time_each(wanted: &str) -> bool {
     agree
 }
 
-// Times the case of this name in this process.
+// Times the case of this name in this process. `bench/count` has one contestant work alone, a call a round.
 fn time_only(name: &str) -> bool {
     let rounds = env::var("ROUNDS")
         .ok()
         .and_then(|rounds| rounds.parse().ok())
         .unwrap_or(31);
+    let alone = env::var("ALONE").ok();
     cases()
         .filter(|case| case.name == name)
+        .map(|case| match &alone {
+            Some(title) => case.of(title).by_one_call(),
+            None => case,
+        })
         .all(|case| measure::print_row(case, rounds))
 }

@@ -14,6 +14,19 @@ pub enum Contestant {
 
 use Contestant::{Asn1, Bcder, ByHand, Port, Upstream};
 
+impl Contestant {
+    /// What stands over its column.
+    fn title(self) -> &'static str {
+        match self {
+            Port => "here",
+            Upstream => "upstream",
+            Asn1 => "asn1",
+            Bcder => "bcder",
+            ByHand => "by hand",
+        }
+    }
+}
+
 const COLUMNS: [Contestant; 5] = [Port, Upstream, Asn1, Bcder, ByHand];
 
 type Work = Box<dyn FnMut() -> u64>;
@@ -48,10 +61,23 @@ impl Case {
         self.works.push((contestant, Box::new(work)));
         self
     }
+
+    /// One call makes a measurement.
+    pub fn by_one_call(mut self) -> Case {
+        self.calls = 1;
+        self
+    }
+
+    /// Of the contestants only the one with this title works.
+    pub fn of(mut self, title: &str) -> Case {
+        self.works.retain(|(who, _)| who.title() == title);
+        self
+    }
 }
 
 pub fn print_head() {
-    println!("| Case | here | upstream | asn1 | bcder | by hand | here / upstream |");
+    let titles = COLUMNS.map(Contestant::title).join(" | ");
+    println!("| Case | {titles} | here / upstream |");
     println!("|---|---|---|---|---|---|---|");
 }
 
