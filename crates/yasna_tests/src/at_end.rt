@@ -22,7 +22,7 @@ fn number_alone(reader: BERReader) -> ASN1Result<(i64, bool)> {
 
 #[test]
 fn parts_end(rt: HostRuntime) -> Result<(), Fail> {
-    let alone = parse_der(rt.alloc(), &[48, 3, 2, 1, 7], |reader| number_alone(reader))?;
+    let alone = parse_der(rt.alloc(), &[48, 3, 2, 1, 7], number_alone)?;
     assert_eq!(rt; alone, (7, true));
     Ok(())
 }
@@ -30,7 +30,7 @@ fn parts_end(rt: HostRuntime) -> Result<(), Fail> {
 #[test]
 fn parts_go_on(rt: HostRuntime) -> Result<(), Fail> {
     let form = [48, 5, 2, 1, 7, 5, 0];
-    let followed = parse_der(rt.alloc(), &form, |reader| number_alone(reader))?;
+    let followed = parse_der(rt.alloc(), &form, number_alone)?;
     assert_eq!(rt; followed, (7, false));
     Ok(())
 }
@@ -38,7 +38,7 @@ fn parts_go_on(rt: HostRuntime) -> Result<(), Fail> {
 #[test]
 fn parts_end_by_two_zeros(rt: HostRuntime) -> Result<(), Fail> {
     let form = [48, 128, 2, 1, 7, 0, 0];
-    let alone = parse_ber(rt.alloc(), &form, |reader| number_alone(reader))?;
+    let alone = parse_ber(rt.alloc(), &form, number_alone)?;
     assert_eq!(rt; alone, (7, true));
     Ok(())
 }

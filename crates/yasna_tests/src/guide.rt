@@ -87,7 +87,7 @@ fn values_come_back(rt: HostRuntime) -> Result<(), Fail> {
 
 // A person is read from its form, and written in it.
 fn has_age(rt: &impl Abort, alloc: Global, form: &[u8], age: Option<u16>) -> Result<(), Fail> {
-    let person = parse_der(alloc, form, |reader| read_person(reader))?;
+    let person = parse_der(alloc, form, read_person)?;
     assert_eq!(rt; person.age, age);
     let written = construct_der(alloc, |writer| write_person(&person, writer));
     gives(rt, written, form)
@@ -99,7 +99,7 @@ fn options(rt: HostRuntime) -> Result<(), Fail> {
     has_age(&rt, rt.alloc(), &[48, 3, 12, 1, 97], None)?;
     // an age that is there and broken isn't taken for none
     let broken = [48, 6, 12, 1, 97, 2, 1];
-    let refused = parse_der(rt.alloc(), &broken, |reader| read_person(reader));
+    let refused = parse_der(rt.alloc(), &broken, read_person);
     refuses(&rt, refused, ASN1ErrorKind::Eof);
     Ok(())
 }
@@ -112,7 +112,7 @@ fn has_constraints(
     is_authority: bool,
     path_length: Option<u64>,
 ) -> Result<(), Fail> {
-    let read = parse_der(alloc, form, |reader| read_constraints(reader))?;
+    let read = parse_der(alloc, form, read_constraints)?;
     assert_eq!(rt; read.is_authority, is_authority);
     assert_eq!(rt; read.path_length, path_length);
     let written = construct_der(alloc, |writer| write_constraints(read, writer));
@@ -130,16 +130,16 @@ fn defaults(rt: HostRuntime) -> Result<(), Fail> {
 fn defaults_that_stand_there(rt: HostRuntime) -> Result<(), Fail> {
     let alloc = rt.alloc();
     let said = [48, 3, 1, 1, 0];
-    let read = parse_ber(alloc, &said, |reader| read_constraints(reader))?;
+    let read = parse_ber(alloc, &said, read_constraints)?;
     assert!(rt; !read.is_authority);
-    let refused = parse_der(alloc, &said, |reader| read_constraints(reader));
+    let refused = parse_der(alloc, &said, read_constraints);
     refuses(&rt, refused, ASN1ErrorKind::Invalid);
     Ok(())
 }
 
 // A name is read from its form, and written in it.
 fn is_name(rt: &impl Abort, alloc: Global, form: &[u8]) -> Result<(), Fail> {
-    let name = parse_der(alloc, form, |reader| read_name(reader))?;
+    let name = parse_der(alloc, form, read_name)?;
     let written = construct_der(alloc, |writer| write_name(&name, writer));
     gives(rt, written, form)
 }
@@ -153,7 +153,7 @@ fn choices(rt: HostRuntime) -> Result<(), Fail> {
 
 #[test]
 fn other_choices(rt: HostRuntime) -> Result<(), Fail> {
-    let other = parse_der(rt.alloc(), &[136, 1, 42], |reader| read_name(reader));
+    let other = parse_der(rt.alloc(), &[136, 1, 42], read_name);
     refuses(&rt, other, ASN1ErrorKind::Invalid);
     let name = Name::Mail("é".to_string(rt.alloc())?);
     let written = construct_der(rt.alloc(), |writer| write_name(&name, writer));
@@ -163,7 +163,7 @@ fn other_choices(rt: HostRuntime) -> Result<(), Fail> {
 
 // Encrypted data is read from its form, and written in it.
 fn is_encrypted(rt: &impl Abort, alloc: Global, form: &[u8]) -> Result<(), Fail> {
-    let data = parse_der(alloc, form, |reader| read_encrypted(reader))?;
+    let data = parse_der(alloc, form, read_encrypted)?;
     assert_eq!(rt; data.etype, 18);
     are_items(rt, &data.cipher, &[7]);
     let written = construct_der(alloc, |writer| write_encrypted(&data, writer));
@@ -186,7 +186,7 @@ fn has_accuracy(
     seconds: Option<u64>,
     micros: Option<u16>,
 ) -> Result<(), Fail> {
-    let accuracy = parse_der(alloc, form, |reader| read_accuracy(reader))?;
+    let accuracy = parse_der(alloc, form, read_accuracy)?;
     assert_eq!(rt; accuracy.seconds, seconds);
     assert_eq!(rt; accuracy.micros, micros);
     let written = construct_der(alloc, |writer| write_accuracy(accuracy, writer));
@@ -203,7 +203,7 @@ fn implicit_tags(rt: HostRuntime) -> Result<(), Fail> {
 
 // Two names are read from their form, and written in it.
 fn are_names(rt: &impl Abort, alloc: Global, form: &[u8]) -> Result<(), Fail> {
-    let names = parse_der(alloc, form, |reader| read_names(reader))?;
+    let names = parse_der(alloc, form, read_names)?;
     assert_eq!(rt; names.len(), 2);
     let written = construct_der(alloc, |writer| write_names(&names, writer));
     gives(rt, written, form)
@@ -213,13 +213,13 @@ fn are_names(rt: &impl Abort, alloc: Global, form: &[u8]) -> Result<(), Fail> {
 fn lists(rt: HostRuntime) -> Result<(), Fail> {
     are_names(&rt, rt.alloc(), &[48, 7, 12, 1, 97, 12, 2, 98, 99])?;
     let numbers = [48, 9, 2, 1, 255, 2, 1, 7, 2, 1, 3];
-    let found = parse_der(rt.alloc(), &numbers, |reader| highest(reader))?;
+    let found = parse_der(rt.alloc(), &numbers, highest)?;
     assert_eq!(rt; found, Some(7));
     Ok(())
 }
 
 fn der_setting(alloc: Global, bytes: &[u8]) -> ASN1Result<Setting> {
-    parse_der(alloc, bytes, |reader| read_setting(reader))
+    parse_der(alloc, bytes, read_setting)
 }
 
 // Ten, not enabled, with the note "a".
@@ -236,7 +236,7 @@ fn is_noted_ten(rt: &impl Abort, setting: &Setting) {
 fn sets(rt: HostRuntime) -> Result<(), Fail> {
     let alloc = rt.alloc();
     let form = [49, 9, 12, 1, 97, 1, 1, 0, 2, 1, 10];
-    let setting = parse_ber(alloc, &form, |reader| read_setting(reader))?;
+    let setting = parse_ber(alloc, &form, read_setting)?;
     is_noted_ten(&rt, &setting);
     let written = construct_der(alloc, |writer| write_setting(&setting, writer));
     gives(&rt, written, &[49, 9, 1, 1, 0, 2, 1, 10, 12, 1, 97])
@@ -256,7 +256,7 @@ fn defaults_in_sets(rt: HostRuntime) -> Result<(), Fail> {
 fn sets_of_values(rt: HostRuntime) -> Result<(), Fail> {
     let alloc = rt.alloc();
     let falling = [49, 7, 4, 2, 97, 97, 4, 1, 98];
-    let values = parse_ber(alloc, &falling, |reader| read_values(reader))?;
+    let values = parse_ber(alloc, &falling, read_values)?;
     let written = construct_der(alloc, |writer| write_values(&values, writer));
     gives(&rt, written, &[49, 7, 4, 1, 98, 4, 2, 97, 97])?;
     let kept = construct_der(alloc, |writer| write_values_as_they_stand(&values, writer));
@@ -265,7 +265,7 @@ fn sets_of_values(rt: HostRuntime) -> Result<(), Fail> {
 
 // An algorithm is read from its form, and written in it.
 fn is_algorithm(rt: &impl Abort, alloc: Global, form: &[u8]) -> Result<(), Fail> {
-    let algorithm = parse_der(alloc, form, |reader| read_algorithm(reader))?;
+    let algorithm = parse_der(alloc, form, read_algorithm)?;
     let written = construct_der(alloc, |writer| write_algorithm(&algorithm, writer));
     gives(rt, written, form)
 }
@@ -291,7 +291,7 @@ fn raw_elements(rt: HostRuntime) -> Result<(), Fail> {
 
 // A text is read from its form, and written in it.
 fn is_directory_string(rt: &impl Abort, alloc: Global, form: &[u8]) -> Result<(), Fail> {
-    let text = parse_der(alloc, form, |reader| read_directory_string(reader))?;
+    let text = parse_der(alloc, form, read_directory_string)?;
     let written = construct_der(alloc, |writer| write_directory_string(&text, writer));
     gives(rt, written, form)
 }
@@ -301,7 +301,7 @@ fn strings(rt: HostRuntime) -> Result<(), Fail> {
     let alloc = rt.alloc();
     is_directory_string(&rt, alloc, &[19, 2, 97, 98])?;
     is_directory_string(&rt, alloc, &[12, 2, 195, 169])?;
-    let text = parse_ber(alloc, &[4, 2, 195, 169], |reader| read_ldap_string(reader))?;
+    let text = parse_ber(alloc, &[4, 2, 195, 169], read_ldap_string)?;
     is_text(&rt, text.as_str(), "é");
     Ok(())
 }
@@ -320,7 +320,7 @@ fn is_form_of_time(
 ) -> Result<(), Fail> {
     assert_eq!(rt; form.first(), Some(&tag));
     assert_eq!(rt; form.get(2..), Some(text.as_bytes()));
-    let read = parse_der(alloc, form, |reader| read_time(reader))?;
+    let read = parse_der(alloc, form, read_time)?;
     assert_eq!(rt; matches!(read, Time::Utc(_)), tag == 23);
     Ok(())
 }
@@ -344,11 +344,11 @@ fn times(rt: HostRuntime) -> Result<(), Fail> {
 #[test]
 fn statuses(rt: HostRuntime) -> Result<(), Fail> {
     let alloc = rt.alloc();
-    let malformed = parse_der(alloc, &[10, 1, 1], |reader| read_status(reader))?;
+    let malformed = parse_der(alloc, &[10, 1, 1], read_status)?;
     assert!(rt; matches!(malformed, Status::Malformed));
     let written = construct_der(alloc, |writer| write_status(malformed, writer));
     gives(&rt, written, &[10, 1, 1])?;
-    let unknown = parse_der(alloc, &[10, 1, 2], |reader| read_status(reader));
+    let unknown = parse_der(alloc, &[10, 1, 2], read_status);
     refuses(&rt, unknown, ASN1ErrorKind::Invalid);
     Ok(())
 }
@@ -357,7 +357,7 @@ fn statuses(rt: HostRuntime) -> Result<(), Fail> {
 fn numbers(rt: HostRuntime) -> Result<(), Fail> {
     let alloc = rt.alloc();
     let form = [48, 9, 2, 2, 0, 255, 2, 3, 1, 0, 1];
-    let key = parse_der(alloc, &form, |reader| read_key(reader))?;
+    let key = parse_der(alloc, &form, read_key)?;
     assert_eq!(rt; key.modulus.as_slice(), [0, 255].as_slice());
     assert_eq!(rt; key.exponent, 65537);
     let written = construct_der(alloc, |writer| write_key(&key, writer));
@@ -389,7 +389,7 @@ fn errors(rt: HostRuntime) -> Result<(), Fail> {
 }
 
 fn der_id(alloc: Global, bytes: &[u8]) -> ASN1Result<Id> {
-    parse_der(alloc, bytes, |reader| read_id(reader))
+    parse_der(alloc, bytes, read_id)
 }
 
 #[test]

@@ -43,11 +43,11 @@ fn table(reader: BERReader) -> ASN1Result<usize> {
 }
 
 fn der_table(alloc: Global, bytes: &[u8]) -> Result<usize, Located> {
-    parse_der_located(alloc, bytes, |reader| table(reader))
+    parse_der_located(alloc, bytes, table)
 }
 
 fn ber_table(alloc: Global, bytes: &[u8]) -> Result<usize, Located> {
-    parse_ber_located(alloc, bytes, |reader| table(reader))
+    parse_ber_located(alloc, bytes, table)
 }
 
 #[test]
@@ -182,7 +182,7 @@ fn ends_of_contents_are_where_they_stand(rt: HostRuntime) -> Result<(), Fail> {
         ASN1ErrorKind::Invalid,
         (14, 2),
     );
-    let cer = parse_cer_located(rt.alloc(), &inner, |reader| table(reader));
+    let cer = parse_cer_located(rt.alloc(), &inner, table);
     fails(&rt, cer, ASN1ErrorKind::Invalid, (14, 2));
     Ok(())
 }

@@ -102,7 +102,7 @@ fn is_form(
     name: &[u64],
     bits: usize,
 ) -> Result<bool, Fail> {
-    let key = parse_der(alloc, form, |reader| read_public_key(reader))?;
+    let key = parse_der(alloc, form, read_public_key)?;
     is_key(rt, &key, name, bits);
     gives(rt, form_of(alloc, &key), form)?;
     Ok(key.algorithm.parameters.is_some())

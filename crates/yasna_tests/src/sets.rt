@@ -52,20 +52,12 @@ fn number_and_flag(reader: BERReader) -> ASN1Result<(i64, bool)> {
 #[test]
 fn lists_in_order(rt: HostRuntime) -> Result<(), Fail> {
     let alloc = rt.alloc();
-    gives(
-        &rt,
-        parse_ber(alloc, &FALLING, |reader| numbers(reader)),
-        &[11, 10],
-    )?;
-    gives(
-        &rt,
-        parse_der(alloc, &ASCENDING, |reader| numbers(reader)),
-        &[10, 11],
-    )?;
-    parse_der(alloc, &ASCENDING, |reader| all_read(reader))?;
+    gives(&rt, parse_ber(alloc, &FALLING, numbers), &[11, 10])?;
+    gives(&rt, parse_der(alloc, &ASCENDING, numbers), &[10, 11])?;
+    parse_der(alloc, &ASCENDING, all_read)?;
     refuses(
         &rt,
-        parse_der(alloc, &FALLING, |reader| all_read(reader)),
+        parse_der(alloc, &FALLING, all_read),
         ASN1ErrorKind::Invalid,
     );
     Ok(())
@@ -105,17 +97,17 @@ fn only_part_empty(rt: HostRuntime) {
 #[test]
 fn elements_by_tags(rt: HostRuntime) -> Result<(), Fail> {
     let alloc = rt.alloc();
-    let (number, flag) = parse_ber(alloc, &MIXED, |reader| number_and_flag(reader))?;
+    let (number, flag) = parse_ber(alloc, &MIXED, number_and_flag)?;
     assert_eq!(rt; number, 10);
     assert!(rt; flag);
     refuses(
         &rt,
-        parse_der(alloc, &MIXED, |reader| number_and_flag(reader)),
+        parse_der(alloc, &MIXED, number_and_flag),
         ASN1ErrorKind::Invalid,
     );
     refuses(
         &rt,
-        parse_der(alloc, &SINGLE, |reader| number_and_flag(reader)),
+        parse_der(alloc, &SINGLE, number_and_flag),
         ASN1ErrorKind::Invalid,
     );
     Ok(())
@@ -131,7 +123,7 @@ fn flag_and_number(reader: BERReader) -> ASN1Result<(bool, Option<i64>)> {
 }
 
 fn der_flag_and_number(alloc: Global, bytes: &[u8]) -> ASN1Result<(bool, Option<i64>)> {
-    parse_der(alloc, bytes, |reader| flag_and_number(reader))
+    parse_der(alloc, bytes, flag_and_number)
 }
 
 // The bytes hold this flag and this number.
@@ -158,7 +150,7 @@ fn elements_left_out(rt: HostRuntime) -> Result<(), Fail> {
 #[test]
 fn element_that_equals_its_default(rt: HostRuntime) -> Result<(), Fail> {
     let alloc = rt.alloc();
-    let (flag, _) = parse_ber(alloc, &MIXED, |reader| flag_and_number(reader))?;
+    let (flag, _) = parse_ber(alloc, &MIXED, flag_and_number)?;
     assert!(rt; flag);
     let sorted = [49, 6, 1, 1, 255, 2, 1, 10];
     refuses(
