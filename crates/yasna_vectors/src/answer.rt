@@ -33,72 +33,135 @@ pub type Answer = Option<Result<String, AllocError>>;
 
 /// What the call of a case answers, in the first family that has it.
 pub fn answer(alloc: Global, case: &Case) -> Answer {
-    simple_answer(alloc, case)
-        .or_else(|| parts_answer(alloc, case))
-        .or_else(|| raw_answer(alloc, case))
-        .or_else(|| failing_answer(alloc, case))
-        .or_else(|| whole_answer(alloc, case))
-        .or_else(|| writing_answer(alloc, case))
-        .or_else(|| other_answer(alloc, case))
+    if let Some(answer) = simple_answer(alloc, case) {
+        return Some(answer);
+    }
+    if let Some(answer) = parts_answer(alloc, case) {
+        return Some(answer);
+    }
+    if let Some(answer) = raw_answer(alloc, case) {
+        return Some(answer);
+    }
+    if let Some(answer) = failing_answer(alloc, case) {
+        return Some(answer);
+    }
+    if let Some(answer) = whole_answer(alloc, case) {
+        return Some(answer);
+    }
+    if let Some(answer) = writing_answer(alloc, case) {
+        return Some(answer);
+    }
+    other_answer(alloc, case)
 }
 
 // The same of families that read elements which hold no other.
 fn simple_answer(alloc: Global, case: &Case) -> Answer {
-    reading::answer::<Primitive>(alloc, case)
-        .or_else(|| reading::answer::<Strings>(alloc, case))
-        .or_else(|| reading::answer::<Oid>(alloc, case))
-        .or_else(|| reading::answer::<Utc>(alloc, case))
-        .or_else(|| reading::answer::<Generalized>(alloc, case))
+    if let Some(answer) = reading::answer::<Primitive>(alloc, case) {
+        return Some(answer);
+    }
+    if let Some(answer) = reading::answer::<Strings>(alloc, case) {
+        return Some(answer);
+    }
+    if let Some(answer) = reading::answer::<Oid>(alloc, case) {
+        return Some(answer);
+    }
+    if let Some(answer) = reading::answer::<Utc>(alloc, case) {
+        return Some(answer);
+    }
+    reading::answer::<Generalized>(alloc, case)
 }
 
 // The same of families that read elements by their parts.
 fn parts_answer(alloc: Global, case: &Case) -> Answer {
-    reading::answer::<Sequence>(alloc, case)
-        .or_else(|| reading::answer::<Optional>(alloc, case))
-        .or_else(|| reading::answer::<List>(alloc, case))
-        .or_else(|| list::answer(alloc, case))
-        .or_else(|| reading::answer::<Tagging>(alloc, case))
-        .or_else(|| buffer::answer(alloc, case))
+    if let Some(answer) = reading::answer::<Sequence>(alloc, case) {
+        return Some(answer);
+    }
+    if let Some(answer) = reading::answer::<Optional>(alloc, case) {
+        return Some(answer);
+    }
+    if let Some(answer) = reading::answer::<List>(alloc, case) {
+        return Some(answer);
+    }
+    if let Some(answer) = list::answer(alloc, case) {
+        return Some(answer);
+    }
+    if let Some(answer) = reading::answer::<Tagging>(alloc, case) {
+        return Some(answer);
+    }
+    buffer::answer(alloc, case)
 }
 
 // The same of families that read raw elements, sets, and elements as deep as they stand.
 fn raw_answer(alloc: Global, case: &Case) -> Answer {
-    reading::answer::<Raw>(alloc, case)
-        .or_else(|| reading::answer::<SetOf>(alloc, case))
-        .or_else(|| reading::answer::<Set>(alloc, case))
-        .or_else(|| reading::answer::<OptionalSet>(alloc, case))
-        .or_else(|| set_any::answer(alloc, case))
-        .or_else(|| reading::answer::<Nest>(alloc, case))
-        .or_else(|| reading::answer::<Recursion>(alloc, case))
-        .or_else(|| tree::answer(alloc, case))
+    if let Some(answer) = reading::answer::<Raw>(alloc, case) {
+        return Some(answer);
+    }
+    if let Some(answer) = reading::answer::<SetOf>(alloc, case) {
+        return Some(answer);
+    }
+    if let Some(answer) = reading::answer::<Set>(alloc, case) {
+        return Some(answer);
+    }
+    if let Some(answer) = reading::answer::<OptionalSet>(alloc, case) {
+        return Some(answer);
+    }
+    if let Some(answer) = set_any::answer(alloc, case) {
+        return Some(answer);
+    }
+    if let Some(answer) = reading::answer::<Nest>(alloc, case) {
+        return Some(answer);
+    }
+    if let Some(answer) = reading::answer::<Recursion>(alloc, case) {
+        return Some(answer);
+    }
+    tree::answer(alloc, case)
 }
 
 // The same of families whose callbacks throw away or make refusals.
 fn failing_answer(alloc: Global, case: &Case) -> Answer {
-    reading::answer::<Discarding>(alloc, case).or_else(|| kept_failures::answer(alloc, case))
+    if let Some(answer) = reading::answer::<Discarding>(alloc, case) {
+        return Some(answer);
+    }
+    kept_failures::answer(alloc, case)
 }
 
 // The same of families that read types as a whole, and of the modes that they are read in.
 fn whole_answer(alloc: Global, case: &Case) -> Answer {
-    whole::answer(alloc, case)
-        .or_else(|| composed::answer(alloc, case))
-        .or_else(|| segments::answer(alloc, case))
-        .or_else(|| mode::answer(alloc, case))
+    if let Some(answer) = whole::answer(alloc, case) {
+        return Some(answer);
+    }
+    if let Some(answer) = composed::answer(alloc, case) {
+        return Some(answer);
+    }
+    if let Some(answer) = segments::answer(alloc, case) {
+        return Some(answer);
+    }
+    mode::answer(alloc, case)
 }
 
 // The same of families that write.
 fn writing_answer(alloc: Global, case: &Case) -> Answer {
-    writing::answer(alloc, case)
-        .or_else(|| refusing_closures::answer(alloc, case))
-        .or_else(|| length::answer(alloc, case))
+    if let Some(answer) = writing::answer(alloc, case) {
+        return Some(answer);
+    }
+    if let Some(answer) = refusing_closures::answer(alloc, case) {
+        return Some(answer);
+    }
+    length::answer(alloc, case)
 }
 
 // The same of families that neither read nor write elements.
 fn other_answer(alloc: Global, case: &Case) -> Answer {
-    oid::answer(alloc, case)
-        .or_else(|| times::answer(alloc, case))
-        .or_else(|| tag::answer(alloc, case))
-        .or_else(|| refusal::answer(alloc, case))
+    if let Some(answer) = oid::answer(alloc, case) {
+        return Some(answer);
+    }
+    if let Some(answer) = times::answer(alloc, case) {
+        return Some(answer);
+    }
+    if let Some(answer) = tag::answer(alloc, case) {
+        return Some(answer);
+    }
+    refusal::answer(alloc, case)
 }
 
 /// A value that a line shows.

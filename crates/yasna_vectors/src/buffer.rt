@@ -9,6 +9,7 @@
 use crate::answer::{Answer, Shown, Value, refused, show_bytes, written};
 use crate::forms::construct_in;
 use crate::line::Case;
+use crate::reading::{read_next_integer, read_octet_string};
 use std::alloc::{AllocError, Global};
 use yasna::{ASN1Result, BERMode, BERReader, BERReaderSeq, DERWriter, Tag, parse_ber_general};
 
@@ -56,7 +57,7 @@ fn read_number<'a>(reader: BERReader<'a, '_>) -> ASN1Result<(i64, &'a [u8])> {
 }
 
 fn number_and_null<'a>(seq: &mut BERReaderSeq<'a, '_>) -> ASN1Result<(i64, &'a [u8])> {
-    let both = seq.read_with_buffer(|parts| parts.next().read_i64())?;
+    let both = seq.read_with_buffer(read_next_integer)?;
     seq.next().read_null()?;
     Ok(both)
 }
@@ -68,7 +69,7 @@ fn whole_of(alloc: Global, mode: BERMode, bytes: &[u8]) -> ASN1Result<Buffered<'
 }
 
 fn read_octets<'a>(reader: BERReader<'a, '_>) -> ASN1Result<(Vec<u8>, &'a [u8])> {
-    reader.read_with_buffer(|inner| inner.read_bytes())
+    reader.read_with_buffer(read_octet_string)
 }
 
 // What `buf3` reads.
@@ -83,7 +84,7 @@ fn read_tagged<'a>(reader: BERReader<'a, '_>) -> ASN1Result<(Vec<u8>, &'a [u8])>
 
 fn tagged_and_null<'a>(seq: &mut BERReaderSeq<'a, '_>) -> ASN1Result<(Vec<u8>, &'a [u8])> {
     let both = seq.next().read_with_buffer(|inner| {
-        inner.read_tagged_implicit(Tag::context(3), |tagged| tagged.read_bytes())
+        inner.read_tagged_implicit(Tag::context(3), read_octet_string)
     })?;
     seq.next().read_null()?;
     Ok(both)

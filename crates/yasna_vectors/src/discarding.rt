@@ -16,7 +16,7 @@
 
 use crate::answer::{Shown, Value};
 use crate::nest::Nest;
-use crate::reading::Family;
+use crate::reading::{Family, read_next_integer};
 use std::alloc::AllocError;
 use yasna::{ASN1Error, ASN1ErrorKind, ASN1Result, BERReader, DERWriter};
 
@@ -66,13 +66,13 @@ impl Family for Discarding {
             Discarding::Drop => return dropping(reader),
             Discarding::Replace => return replacing(reader),
             Discarding::SequenceThenInteger => return reader.read_sequence(|seq| {
-                let _ = seq.next().read_sequence(|inner| inner.next().read_i64());
+                let _ = seq.next().read_sequence(read_next_integer);
                 seq.next().read_i64().map(|number| Left(Some(number)))
             }),
             Discarding::IntegerThenSequence => return reader.read_sequence(|seq| {
                 let _ = seq.next().read_i64();
                 seq.next()
-                    .read_sequence(|inner| inner.next().read_i64())
+                    .read_sequence(read_next_integer)
                     .map(|number| Left(Some(number)))
             }),
             Discarding::ReplaceBool => {
@@ -83,9 +83,7 @@ impl Family for Discarding {
                 let _ = reader.read_i8();
                 return Err(ASN1Error::new(ASN1ErrorKind::Extra));
             }
-            Discarding::Sequence => reader
-                .read_sequence(|seq| seq.next().read_i64())
-                .map(|_| Left(None)),
+            Discarding::Sequence => reader.read_sequence(read_next_integer).map(|_| Left(None)),
             Discarding::Refused => refusing(reader),
             Discarding::Dropped => dropping(reader),
             Discarding::Deep => Nest(101).read(reader).map(|_| Left(None)),

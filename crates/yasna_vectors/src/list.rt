@@ -13,7 +13,7 @@ use crate::answer::{Answer, Shown, Value, refused};
 use crate::forms::construct_in;
 use crate::line::Case;
 use crate::raw::{RawElement, read_element};
-use crate::reading::Family;
+use crate::reading::{Family, read_integer};
 use std::alloc::{AllocError, Global};
 use yasna::tags::TAG_INTEGER;
 use yasna::{
@@ -161,6 +161,11 @@ fn many(alloc: Global, mode: BERMode, count: i64) -> Result<String, AllocError> 
     }
 }
 
+// Reads a list of numbers.
+fn read_integers(reader: BERReader) -> ASN1Result<Vec<i64>> {
+    reader.collect_sequence_of(read_integer)
+}
+
 // How many numbers are collected of so many that are written, and in how many bytes.
 fn collected(alloc: Global, mode: BERMode, count: i64) -> ASN1Result<(usize, usize)> {
     let bytes = construct_in(
@@ -174,21 +179,9 @@ fn collected(alloc: Global, mode: BERMode, count: i64) -> ASN1Result<(usize, usi
         }),
     )?;
     let items = match mode {
-        BERMode::Ber => parse_ber(
-            alloc,
-            &bytes,
-            |reader| reader.collect_sequence_of(|item| item.read_i64()),
-        )?,
-        BERMode::Der => parse_der(
-            alloc,
-            &bytes,
-            |reader| reader.collect_sequence_of(|item| item.read_i64()),
-        )?,
-        BERMode::Cer => parse_cer(
-            alloc,
-            &bytes,
-            |reader| reader.collect_sequence_of(|item| item.read_i64()),
-        )?,
+        BERMode::Ber => parse_ber(alloc, &bytes, read_integers)?,
+        BERMode::Der => parse_der(alloc, &bytes, read_integers)?,
+        BERMode::Cer => parse_cer(alloc, &bytes, read_integers)?,
     };
     Ok((items.len(), bytes.len()))
 }

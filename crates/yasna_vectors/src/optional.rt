@@ -10,7 +10,9 @@
 //! | `swallow1` | a BOOLEAN or none, an OCTET STRING that is thrown away, INTEGER |
 
 use crate::answer::{Shown, Value};
-use crate::reading::Family;
+use crate::reading::{
+    Family, read_boolean, read_integer, read_next_integer, read_null, read_octet_string,
+};
 use std::alloc::AllocError;
 use yasna::{
     ASN1Error, ASN1ErrorKind, ASN1Result, BERReader, BERReaderSeq, DERWriter, DERWriterSeq, Tag,
@@ -63,11 +65,11 @@ impl Optional {
     fn read_parts(self, seq: &mut BERReaderSeq) -> ASN1Result<OptionalParts> {
         match self {
             Optional::Integer => {
-                let number = seq.read_optional(|reader| reader.read_i64())?;
+                let number = seq.read_optional(read_integer)?;
                 Ok(OptionalParts::Integer(number, seq.next().read_bool()?))
             }
             Optional::Default => {
-                let number = seq.read_default(10, |reader| reader.read_i64())?;
+                let number = seq.read_default(10, read_integer)?;
                 Ok(OptionalParts::Default(number, seq.next().read_bool()?))
             }
             Optional::Three => read_three(seq),
@@ -91,7 +93,7 @@ fn read_behind_lack(seq: &mut BERReaderSeq) -> ASN1Result<OptionalParts> {
 
 // Reads a number behind a part whose refusal is thrown away.
 fn read_behind_refusal(seq: &mut BERReaderSeq) -> ASN1Result<OptionalParts> {
-    let flag = seq.read_optional(|reader| reader.read_bool())?;
+    let flag = seq.read_optional(read_boolean)?;
     let _ = seq.next().read_bytes();
     let number = seq.next().read_i64()?;
     Ok(OptionalParts::Discarded(flag, number))
@@ -99,12 +101,9 @@ fn read_behind_refusal(seq: &mut BERReaderSeq) -> ASN1Result<OptionalParts> {
 
 // Reads three parts, each of which may be absent.
 fn read_three(seq: &mut BERReaderSeq) -> ASN1Result<OptionalParts> {
-    let octets = seq.read_optional(|reader| reader.read_bytes())?;
-    let number = seq.read_optional(|reader| reader.read_sequence(|inner| inner.next().read_i64()))?;
-    let null = seq.read_optional(|reader| reader.read_tagged(
-        Tag::context(0),
-        |inner| inner.read_null(),
-    ))?;
+    let octets = seq.read_optional(read_octet_string)?;
+    let number = seq.read_optional(|reader| reader.read_sequence(read_next_integer))?;
+    let null = seq.read_optional(|reader| reader.read_tagged(Tag::context(0), read_null))?;
     Ok(OptionalParts::Three(octets, number, null))
 }
 

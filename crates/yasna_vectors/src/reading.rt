@@ -6,8 +6,8 @@ use crate::line::Case;
 use crate::primitive::Primitive;
 use std::alloc::{AllocError, Global};
 use yasna::{
-    ASN1ErrorKind, ASN1Result, BERMode, BERReader, parse_ber, parse_ber_general, parse_cer,
-    parse_der,
+    ASN1ErrorKind, ASN1Result, BERMode, BERReader, BERReaderSeq, parse_ber, parse_ber_general,
+    parse_cer, parse_der,
 };
 
 /// Calls on a reader.
@@ -20,6 +20,31 @@ pub trait Family: Copy {
 
     /// Makes the call.
     fn read(self, reader: BERReader) -> ASN1Result<Self::Value>;
+}
+
+/// Reads an INTEGER.
+pub fn read_integer(reader: BERReader) -> ASN1Result<i64> {
+    reader.read_i64()
+}
+
+/// Reads a BOOLEAN.
+pub fn read_boolean(reader: BERReader) -> ASN1Result<bool> {
+    reader.read_bool()
+}
+
+/// Reads an OCTET STRING.
+pub fn read_octet_string(reader: BERReader) -> ASN1Result<Vec<u8>> {
+    reader.read_bytes()
+}
+
+/// Reads NULL.
+pub fn read_null(reader: BERReader) -> ASN1Result<()> {
+    reader.read_null()
+}
+
+/// Reads an INTEGER, the next part.
+pub fn read_next_integer(seq: &mut BERReaderSeq) -> ASN1Result<i64> {
+    seq.next().read_i64()
 }
 
 /// What a call of this family answers.

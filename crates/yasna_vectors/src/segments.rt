@@ -11,6 +11,7 @@
 use crate::answer::{Answer, refused};
 use crate::forms::construct_in;
 use crate::line::Case;
+use crate::reading::read_octet_string;
 use std::alloc::{AllocError, Global};
 use yasna::{
     ASN1Error, ASN1ErrorKind, ASN1Result, BERMode, construct_der, parse_ber, parse_cer, parse_der,
@@ -100,9 +101,9 @@ fn read_back(
     bytes: &[u8],
 ) -> ASN1Result<(usize, usize)> {
     let read = match mode {
-        BERMode::Ber => parse_ber(alloc, encoded, |reader| reader.read_bytes())?,
-        BERMode::Der => parse_der(alloc, encoded, |reader| reader.read_bytes())?,
-        BERMode::Cer => parse_cer(alloc, encoded, |reader| reader.read_bytes())?,
+        BERMode::Ber => parse_ber(alloc, encoded, read_octet_string)?,
+        BERMode::Der => parse_der(alloc, encoded, read_octet_string)?,
+        BERMode::Cer => parse_cer(alloc, encoded, read_octet_string)?,
     };
     if read.as_slice() != bytes {
         return Ok((0, 0));

@@ -8,7 +8,7 @@
 //! | `seq_empty` | none |
 
 use crate::answer::{Shown, Value};
-use crate::reading::Family;
+use crate::reading::{Family, read_next_integer};
 use std::alloc::AllocError;
 use yasna::{ASN1Result, BERReader, DERWriter, DERWriterSeq};
 
@@ -52,7 +52,7 @@ impl Family for Sequence {
             }
             Sequence::Integer => seq.next().read_i64().map(Parts::Integer),
             Sequence::SequenceBoolean => {
-                let number = seq.next().read_sequence(|inner| inner.next().read_i64())?;
+                let number = seq.next().read_sequence(read_next_integer)?;
                 let flag = seq.next().read_bool()?;
                 Ok(Parts::SequenceBoolean(number, flag))
             }

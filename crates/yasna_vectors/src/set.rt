@@ -14,7 +14,7 @@
 
 use crate::answer::{Shown, Value, show_bytes};
 use crate::raw::{RawElement, read_element};
-use crate::reading::Family;
+use crate::reading::{Family, read_integer, read_octet_string};
 use crate::recursion::{Found, Recursion};
 use std::alloc::AllocError;
 use yasna::tags::{TAG_BOOLEAN, TAG_INTEGER, TAG_SEQUENCE};
@@ -110,14 +110,10 @@ fn read_equal(set: &mut BERReaderSet) -> ASN1Result<Elements> {
 // Reads four elements under tags of the context.
 fn read_four(set: &mut BERReaderSet) -> ASN1Result<Elements> {
     let tag = Tag::context(28);
-    let implicit = set
-        .next(&[tag])?
-        .read_tagged_implicit(tag, |inner| inner.read_i64())?;
+    let implicit = set.next(&[tag])?.read_tagged_implicit(tag, read_integer)?;
     let last_octets = read_octets(set, Tag::context(345678))?;
     let tag = Tag::context(27);
-    let explicit = set
-        .next(&[tag])?
-        .read_tagged(tag, |inner| inner.read_i64())?;
+    let explicit = set.next(&[tag])?.read_tagged(tag, read_integer)?;
     let octets = read_octets(set, Tag::context(345677))?;
     Ok(Elements::Four(Four {
         implicit,
@@ -129,8 +125,7 @@ fn read_four(set: &mut BERReaderSet) -> ASN1Result<Elements> {
 
 // Reads an OCTET STRING under an explicit tag.
 fn read_octets(set: &mut BERReaderSet, tag: Tag) -> ASN1Result<Vec<u8>> {
-    set.next(&[tag])?
-        .read_tagged(tag, |inner| inner.read_bytes())
+    set.next(&[tag])?.read_tagged(tag, read_octet_string)
 }
 
 // Reads SEQUENCEs one in the other.

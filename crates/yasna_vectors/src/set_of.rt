@@ -8,7 +8,7 @@
 
 use crate::answer::{Shown, Value, show_items};
 use crate::raw::{RawElement, read_element};
-use crate::reading::Family;
+use crate::reading::{Family, read_integer, read_octet_string};
 use std::alloc::AllocError;
 use yasna::{ASN1Result, BERReader, DERWriter};
 
@@ -50,11 +50,9 @@ impl Family for SetOf {
 
     fn read(self, reader: BERReader) -> ASN1Result<Members> {
         match self {
-            SetOf::Integers => reader
-                .collect_set_of(|item| item.read_i64())
-                .map(Members::Integers),
+            SetOf::Integers => reader.collect_set_of(read_integer).map(Members::Integers),
             SetOf::Octets => reader
-                .collect_set_of(|item| item.read_bytes())
+                .collect_set_of(read_octet_string)
                 .map(Members::Octets),
             SetOf::Elements => reader.collect_set_of(read_element).map(Members::Elements),
             SetOf::Sum => {

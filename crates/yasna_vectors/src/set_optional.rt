@@ -6,7 +6,7 @@
 //! | `set_optidle` | read_optional INTEGER, whose callback answers Ok unread; where it is there `()` is shown and NULL written, else nothing |
 
 use crate::answer::{Shown, Value};
-use crate::reading::Family;
+use crate::reading::{Family, read_boolean, read_integer};
 use std::alloc::AllocError;
 use yasna::tags::{TAG_BOOLEAN, TAG_INTEGER};
 use yasna::{ASN1Result, BERReader, BERReaderSet, DERWriter, DERWriterSet};
@@ -49,8 +49,8 @@ impl Family for OptionalSet {
 
 // Reads an INTEGER that may be absent, and a BOOLEAN with a default.
 fn read_default(set: &mut BERReaderSet) -> ASN1Result<OptionalElements> {
-    let number = set.read_optional(&[TAG_INTEGER], |element| element.read_i64())?;
-    let flag = set.read_default(&[TAG_BOOLEAN], false, |element| element.read_bool())?;
+    let number = set.read_optional(&[TAG_INTEGER], read_integer)?;
+    let flag = set.read_default(&[TAG_BOOLEAN], false, read_boolean)?;
     Ok(OptionalElements::Default(number, flag))
 }
 

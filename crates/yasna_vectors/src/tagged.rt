@@ -9,7 +9,7 @@
 //! | `itag3_tag4`, `itag3_itag4` | read_tagged_implicit context 3 of read_tagged context 4, of read_tagged_implicit context 4, of an INTEGER |
 
 use crate::answer::{Shown, Value};
-use crate::reading::Family;
+use crate::reading::{Family, read_integer, read_null};
 use crate::strings::{Class, Content};
 use std::alloc::AllocError;
 use yasna::{ASN1Result, BERReader, DERWriter, Tag};
@@ -63,10 +63,10 @@ impl Family for Tagging {
     fn read(self, reader: BERReader) -> ASN1Result<Tagged> {
         match self {
             Tagging::Integer => reader
-                .read_tagged(Tag::context(3), |inner| inner.read_i64())
+                .read_tagged(Tag::context(3), read_integer)
                 .map(Tagged::Integer),
             Tagging::Null => reader
-                .read_tagged(Tag::context(31), |inner| inner.read_null())
+                .read_tagged(Tag::context(31), read_null)
                 .map(|()| Tagged::Null),
             _ => self.read_implicit(reader),
         }
@@ -120,10 +120,10 @@ impl Tagging {
                 Ok(Tagged::ImplicitSequence(number, flag))
             }),
             Tagging::ImplicitExplicit => reader
-                .read_tagged(Tag::context(4), |inner| inner.read_i64())
+                .read_tagged(Tag::context(4), read_integer)
                 .map(Tagged::ImplicitExplicit),
             Tagging::ImplicitImplicit => reader
-                .read_tagged_implicit(Tag::context(4), |inner| inner.read_i64())
+                .read_tagged_implicit(Tag::context(4), read_integer)
                 .map(Tagged::ImplicitImplicit),
             Tagging::Integer | Tagging::Null | Tagging::ImplicitInteger => {
                 reader.read_i64().map(Tagged::ImplicitInteger)

@@ -16,7 +16,7 @@ use crate::forms::construct_in;
 use crate::line::Case;
 use crate::oid::Oid;
 use crate::primitive::Primitive;
-use crate::reading::Family;
+use crate::reading::{Family, read_octet_string};
 use crate::set_of::write_members;
 use crate::strings::{Class, Strings};
 use crate::times::{Generalized, Utc};
@@ -163,7 +163,7 @@ fn read_as<F: Family>(alloc: Global, call: F, reader: BERReader) -> ASN1Result<T
 // Reads an OCTET STRING under an implicit tag.
 fn read_implicit(alloc: Global, tag: Tag, reader: BERReader) -> ASN1Result<Tree> {
     let mode = reader.mode();
-    let octets = reader.read_tagged_implicit(tag, |inner| inner.read_bytes())?;
+    let octets = reader.read_tagged_implicit(tag, read_octet_string)?;
     let shown = shown_under(alloc, tag, &octets).map_err(lack)?;
     let form = construct_in(
         alloc,
