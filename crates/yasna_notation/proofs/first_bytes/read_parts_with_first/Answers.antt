@@ -46,7 +46,8 @@ returns-in_err-others g c =
     rw failed (no_contents_so (n.asks_memory || w.asks_memory) (PartOf (BesideBytes (n.under None)) w.parts) (PartsWithFirst (n.under None) w.parts)
     (AnyPart (n.any_under None) w.any_parts) s left left.kept e
     (first_read w.asks_memory w.parts first s c.requires.fresh c.read_with_buffer.result m
-    (subst (λ z. ReadsBuffer N z c.read_with_buffer.result m) c.next.ensures.value read) (c.in_ok-first.first, c.in_ok-first.first_bytes) c.in_ok-first.was (Err e) left
+    (subst (λ z. ReadsBuffer N z c.read_with_buffer.result m) c.next.ensures.value read) (c.in_ok-first.first, c.in_ok-first.first_bytes)
+    c.in_ok-first.was (Err e) left
     (subst (λ z. ReadsContents w.asks_memory w.parts w.any_parts m z left) c.in_err-others.was c.read_parts.ensures)))
 
 pub returns-in_err-first : goal.returns-in_err-first
