@@ -2,6 +2,7 @@
 ghost use Rattle.std.specs.Prelude.{ℕ, List, ◌≡◌, ◌+◌, ◌*◌, ◌++◌, ◌∷◌, [], MatchResult, IfErr};
 ghost use Rattle.yasna_base.specs.declared.error.ASN1ErrorKind.TheVariants.{OutOfMemory};
 ghost use Rattle.yasna_base.specs.declared.mode.BERMode.{BERMode};
+ghost use Rattle.yasna_base.specs.Base128.{Base128At};
 ghost use Rattle.yasna_base.specs.Oid.{AreFirstTwo, AreComponents};
 ghost use Rattle.yasna_bytes.specs.Contents.{Decides, WantsMemory};
 ghost use Rattle.yasna_bytes.specs.Oid.{AppendsFirst, AppendsNumbers};
@@ -17,11 +18,32 @@ use yasna_base::models::ObjectIdentifier;
 // How many components there are: one for each byte that ends a subidentifier, and one more.
 #[inline(always)]
 fn count(contents: &[u8]) -> usize {
-    contents
-        .iter()
-        .filter(|byte| **byte < 128)
-        .count()
-        .saturating_add(1)
+    let mut count = 1usize;
+    for byte in contents {
+        count = count.wrapping_add(usize::from(*byte < 128));
+    }
+    count
+}
+
+// The subidentifier at the front (X.690, 8.19.2).
+#[inline(never)]
+fn longer(s: &[u8]) -> Result<(u64, &[u8]), ASN1ErrorKind>
+    ensures { Base128At s.now result }
+{
+    read_base128(s)
+}
+
+// The same; most are a single byte.
+#[inline(always)]
+fn subidentifier(s: &[u8]) -> Result<(u64, &[u8]), ASN1ErrorKind>
+    ensures { Base128At s.now result }
+{
+    if let Some((byte, after)) = s.split_first()
+        && *byte < 128
+    {
+        return Ok((u64::from(*byte), after));
+    }
+    longer(s)
 }
 
 // The first two components (X.690, 8.19.4).
@@ -69,7 +91,7 @@ fn push_all(components: &mut Vec<u64>, contents: &[u8]) -> Result<(), ASN1ErrorK
 {
     let mut rest = contents;
     while !rest.is_empty() {
-        match read_base128(rest) {
+        match subidentifier(rest) {
             Ok((number, after)) => {
                 if let Err(kind) = push(components, number) {
                     return Err(kind);
@@ -93,7 +115,7 @@ fn read_components(alloc: Global, contents: &[u8]) -> Result<ObjectIdentifier, A
     let Ok(mut components) = Vec::with_capacity(alloc, count(contents)) else {
         return Err(ASN1ErrorKind::OutOfMemory);
     };
-    let (number, rest) = match read_base128(contents) {
+    let (number, rest) = match subidentifier(contents) {
         Ok(first) => first,
         Err(kind) => return Err(kind),
     };

@@ -30,6 +30,6 @@ returns-in-Err-push_all c =
     λ m. elim (c.in-Err-push_all.ensures {u = tt}) [
       | inl k ↦ inl (k, copy_wants c.args.contents.now l)
       | inr h ↦
-          let first = c.in-Ok-read_base128.first in
-          inr (h.0, no_further m c.args.contents.now first.0 first.1.now (c.in-Ok-read_base128.ensures {u = tt}) h.1)
+          let first = c.in-Ok-subidentifier.first in
+          inr (h.0, no_further m c.args.contents.now first.0 first.1.now (c.in-Ok-subidentifier.ensures {u = tt}) h.1)
     ]
