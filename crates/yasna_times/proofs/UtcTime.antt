@@ -1,13 +1,15 @@
 -- UTCTime: a text says one date-time.
-use Rattle.std.proofs.Common.{◌≡◌, ℕ, ◌%◌, ◌<◌, List, [], ◌∷◌, ◌++◌, ℤ, pos, negsuc, ◌≤ℤ◌, ◌<ℤ◌, unsigned_abs, false, arith, refl, sym, ◌∙◌, inr, ap, subst}
+use Rattle.std.proofs.Common.{◌≡◌, ℕ, zero, suc, ◌+◌, ◌/◌, ◌%◌, ◌<◌, List, [], ◌∷◌, ◌++◌, ℤ, pos, negsuc, ◌≤ℤ◌, ◌<ℤ◌, unsigned_abs, length, slice_index, false, arith, refl, sym, ◌∙◌, inl, inr, ap, subst}
+use Rattle.std.proofs.lemmas.List.{ext_get_or}
 use Rattle.std.proofs.lemmas.Bool.Decides.{nat_tests}
 use Rattle.std.proofs.lemmas.Str.Ascii.{IsAscii-nil}
 use Rattle.std.specs.Str.{IsAscii}
+use Rattle.jiff.proofs.SpanFacts.{signed_arith}
 use Rattle.jiff.specs.Types.{DateTime}
 use Rattle.yasna_base.specs.declared.mode.BERMode.{BERMode}
 use Rattle.yasna_base.specs.Canonical.{IsCanonicalMode}
 use Rattle.yasna_base.specs.Digits.{IsBytes}
-use Rattle.yasna_times.specs.Decimal.{HasDigits, IsRun}
+use Rattle.yasna_times.specs.Decimal.{HasDigits, IsRun, two_at}
 use Rattle.yasna_times.specs.Moment.{IsLess, moment_at, after_year}
 use Rattle.yasna_times.specs.UtcTime.{IsUtcZone, IsUtcClock, IsUtcText, IsUtcDateTime, HasUtcTime, SaysUtcTime, utc_year, utc_text}
 use Rattle.yasna_times.proofs.Decimal.{run_is, two_spelled, two_before, ascii_two, ascii_cons, ascii_bytes}
@@ -117,3 +119,69 @@ utc_says_only m v s c x = x.canonical c
 
 pub utc_text_bytes : (v : DateTime) → IsBytes (utc_text v)
 utc_text_bytes v = ascii_bytes (utc_text v) (utc_text_ascii v)
+
+-- the digits of a pair are those of the number that it spells
+pair_is : (s : List ℕ) (i n : ℕ) → HasDigits s 0 12 → i + 1 < 12 → n ≡ two_at s i →
+    (slice_index s i ≡ 48 + n / 10) × (slice_index s (i + 1) ≡ 48 + n % 10)
+pair_is s i n d h e =
+    let p = d i (omega arith) (omega arith) in
+    let q = d (i + 1) (omega arith) h in
+    (omega (arith, p.0, p.1, q.0, q.1, e), omega (arith, p.0, p.1, q.0, q.1, e))
+
+-- thirteen bytes: the pairs of digits of a date-time, and Z
+record IsShown (s : List ℕ) (dt : DateTime) : Type 0 where
+  digits : HasDigits s 0 12
+  year : unsigned_abs dt.date.year % 100 ≡ two_at s 0
+  month : dt.date.month ≡ two_at s 2
+  day : dt.date.day ≡ two_at s 4
+  hour : dt.time.hour ≡ two_at s 6
+  minute : dt.time.minute ≡ two_at s 8
+  second : dt.time.second ≡ two_at s 10
+  letter : slice_index s 12 ≡ 90
+
+shown_at : (s : List ℕ) (dt : DateTime) → IsShown s dt → (i : ℕ) → i < 13 → slice_index s i ≡ slice_index (utc_text dt) i
+shown_at s dt h zero lt = (pair_is s 0 (unsigned_abs dt.date.year % 100) h.digits (omega arith) h.year).0
+shown_at s dt h (suc zero) lt = (pair_is s 0 (unsigned_abs dt.date.year % 100) h.digits (omega arith) h.year).1
+shown_at s dt h (suc (suc zero)) lt = (pair_is s 2 dt.date.month h.digits (omega arith) h.month).0
+shown_at s dt h (suc (suc (suc zero))) lt = (pair_is s 2 dt.date.month h.digits (omega arith) h.month).1
+shown_at s dt h (suc (suc (suc (suc zero)))) lt = (pair_is s 4 dt.date.day h.digits (omega arith) h.day).0
+shown_at s dt h (suc (suc (suc (suc (suc zero))))) lt = (pair_is s 4 dt.date.day h.digits (omega arith) h.day).1
+shown_at s dt h (suc (suc (suc (suc (suc (suc zero)))))) lt = (pair_is s 6 dt.time.hour h.digits (omega arith) h.hour).0
+shown_at s dt h (suc (suc (suc (suc (suc (suc (suc zero))))))) lt = (pair_is s 6 dt.time.hour h.digits (omega arith) h.hour).1
+shown_at s dt h (suc (suc (suc (suc (suc (suc (suc (suc zero)))))))) lt = (pair_is s 8 dt.time.minute h.digits (omega arith) h.minute).0
+shown_at s dt h (suc (suc (suc (suc (suc (suc (suc (suc (suc zero))))))))) lt = (pair_is s 8 dt.time.minute h.digits (omega arith) h.minute).1
+shown_at s dt h (suc (suc (suc (suc (suc (suc (suc (suc (suc (suc zero)))))))))) lt = (pair_is s 10 dt.time.second h.digits (omega arith) h.second).0
+shown_at s dt h (suc (suc (suc (suc (suc (suc (suc (suc (suc (suc (suc zero))))))))))) lt = (pair_is s 10 dt.time.second h.digits (omega arith) h.second).1
+shown_at s dt h (suc (suc (suc (suc (suc (suc (suc (suc (suc (suc (suc (suc zero)))))))))))) lt = h.letter
+shown_at s dt h (suc (suc (suc (suc (suc (suc (suc (suc (suc (suc (suc (suc (suc i))))))))))))) lt = absurd (omega arith)
+
+year_back : (y : ℕ) → y < 100 → utc_year y % 100 ≡ y
+year_back y h = grind (arith, nat_tests)
+
+-- a text of thirteen bytes is the canonical one
+pub utc_thirteen : (s : List ℕ) (utc : DateTime) → IsUtcText s utc → length s ≡ 13 → s ≡ utc_text utc
+utc_thirteen s utc t l =
+    elim t.zone [
+      | IsUtcZone.zulu z o ↦
+          let e : t.end ≡ 12 = omega (arith, z.ends) in
+          let c : IsUtcClock s 12 t.local = subst (λ i. IsUtcClock s i t.local) e t.clock in
+          let low = c.digits 0 (omega arith) (omega arith) in
+          let high = c.digits 1 (omega arith) (omega arith) in
+          let small : two_at s 0 < 100 = omega (arith, low.0, low.1, high.0, high.1) in
+          let same : utc ≡ t.local = one_utc t.local t.local utc t.local t.offset (pos 0) refl o t.less (less_none t.local) in
+          let shown : IsShown s t.local = record {
+            digits = c.digits;
+            year = ap (λ z. unsigned_abs z % 100) c.date.0 ∙ year_back (two_at s 0) small;
+            month = omega (arith, signed_arith, c.date.1);
+            day = omega (arith, signed_arith, c.date.2);
+            hour = omega (arith, signed_arith, c.time.0);
+            minute = omega (arith, signed_arith, c.time.1);
+            second = omega (arith, signed_arith, c.time.2);
+            letter = subst (λ i. slice_index s i ≡ 90) e z.letter;
+          } in
+          ext_get_or 0 s (utc_text t.local) l (λ i lt. shown_at s t.local shown i (omega (arith, l))) ∙ ap utc_text (sym same)
+      | IsUtcZone.signed seconds m o ↦ absurd (elim t.clock.ends [
+        | inl e ↦ omega (arith, m.ends)
+        | inr e ↦ omega (arith, m.ends)
+      ])
+    ]

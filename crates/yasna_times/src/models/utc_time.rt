@@ -168,11 +168,13 @@ impl UTCTime {
         String::from_str(alloc, std::str::from_utf8(&self.text()).unwrap())
     }
 
-    /// Whether the bytes are the canonical text.
+    /// Whether a text that says this time is the canonical one: no other has as many bytes.
     #[doc(hidden)]
-    pub fn is_canonical(&self, bytes: &[u8]) -> bool
-        ensures { IsTrue result ↔ bytes.now ≡ utc_text (utc_of self.now) }
+    #[inline(always)]
+    pub fn is_canonical(&self, text: &[u8]) -> bool
+        requires { IsUtcText text.now (utc_of self.now) }
+        ensures { IsTrue result ↔ text.now ≡ utc_text (utc_of self.now) }
     {
-        bytes == self.text().as_slice()
+        text.len() == 13
     }
 }

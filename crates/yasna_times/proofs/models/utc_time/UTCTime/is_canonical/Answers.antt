@@ -1,5 +1,11 @@
-use Rattle.std.proofs.Common.{rules}
+use Rattle.std.proofs.Common.{length, ap, arith}
+use Rattle.std.proofs.lemmas.Bool.Decides.{nat_tests}
+use Rattle.yasna_times.specs.Models.{utc_of}
+use Rattle.yasna_times.proofs.UtcTime.{utc_thirteen}
 use Rattle.yasna_times.proofs.models.utc_time.UTCTime.is_canonical.Goals as goal
 
 pub returns : goal.returns
-returns c = search rules
+returns c = (
+  λ h. utc_thirteen c.args.text.now (utc_of c.args.self.now) c.requires (grind (arith, nat_tests)),
+  λ e. let l = ap length e in grind (arith, nat_tests),
+)
