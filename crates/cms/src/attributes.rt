@@ -17,6 +17,7 @@ ghost use Rattle.yasna_notation.specs.contracts.simple.ObjectIdentifierNotation.
 ghost use Rattle.yasna_notation.specs.contracts.any.TaggedDerValueNotation.TheImpl.Laws.{keeps-law as any};
 
 use x509::Attribute;
+use yasna::tags::TAG_SET;
 use yasna::{ASN1Result, BERReader, DERWriter, Tag};
 use yasna_notation::{Bounded, Defined, Message, NotEmpty, Notation, SetOf, StandsFor, read_as};
 
@@ -45,7 +46,7 @@ impl Notation for Attributes {
     ghost means = { stands_for ⟦<Attributes as StandsFor<Vec<Attribute>>>⟧.value_of ⟦<Set as Notation>⟧.means };
 
     fn has_tag(tag: Tag) -> bool {
-        <Set as Notation>::has_tag(tag)
+        tag == TAG_SET
     }
 
     fn read(reader: BERReader) -> ASN1Result<Attributes> {

@@ -17,6 +17,7 @@ ghost use Rattle.yasna_notation.specs.contracts.simple.ObjectIdentifierNotation.
 ghost use Rattle.yasna_notation.specs.contracts.any.TaggedDerValueNotation.TheImpl.Laws.{keeps-law as any};
 
 use yasna::models::{ObjectIdentifier, TaggedDerValue};
+use yasna::tags::TAG_SEQUENCE;
 use yasna::{ASN1Result, BERReader, DERWriter, Tag};
 use yasna_notation::{Context, Explicit, Message, Notation, Sequence, StandsFor, read_as};
 
@@ -54,7 +55,7 @@ impl Notation for ContentInfo {
     ghost means = { stands_for ⟦<ContentInfo as StandsFor<Fields>>⟧.value_of ⟦<Sequence<Parts> as Notation>⟧.means };
 
     fn has_tag(tag: Tag) -> bool {
-        <Sequence<Parts> as Notation>::has_tag(tag)
+        tag == TAG_SEQUENCE
     }
 
     fn read(reader: BERReader) -> ASN1Result<ContentInfo> {

@@ -17,6 +17,7 @@ ghost use Rattle.yasna_notation.specs.contracts.simple.ObjectIdentifierNotation.
 ghost use Rattle.yasna_notation.specs.contracts.strings.VecU8Notation.TheImpl.Laws.{keeps-law as octets};
 
 use yasna::models::ObjectIdentifier;
+use yasna::tags::TAG_SEQUENCE;
 use yasna::{ASN1Result, BERReader, DERWriter, Tag};
 use yasna_notation::{
     Context, Explicit, Message, Notation, Optional, Sequence, StandsFor, read_as,
@@ -56,7 +57,7 @@ impl Notation for EncapsulatedContentInfo {
     ghost means = { stands_for ⟦<EncapsulatedContentInfo as StandsFor<Fields>>⟧.value_of ⟦<Sequence<Parts> as Notation>⟧.means };
 
     fn has_tag(tag: Tag) -> bool {
-        <Sequence<Parts> as Notation>::has_tag(tag)
+        tag == TAG_SEQUENCE
     }
 
     fn read(reader: BERReader) -> ASN1Result<EncapsulatedContentInfo> {

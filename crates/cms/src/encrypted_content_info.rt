@@ -24,6 +24,7 @@ ghost use Rattle.x509.specs.contracts.algorithm.AlgorithmIdentifierNotation.TheI
 
 use x509::AlgorithmIdentifier;
 use yasna::models::ObjectIdentifier;
+use yasna::tags::TAG_SEQUENCE;
 use yasna::{ASN1Result, BERReader, DERWriter, Tag};
 use yasna_notation::{
     Context, Implicit, Message, Notation, Optional, Sequence, StandsFor, read_as,
@@ -72,7 +73,7 @@ impl Notation for EncryptedContentInfo {
     ghost means = { stands_for ⟦<EncryptedContentInfo as StandsFor<Fields>>⟧.value_of ⟦<Sequence<Parts> as Notation>⟧.means };
 
     fn has_tag(tag: Tag) -> bool {
-        <Sequence<Parts> as Notation>::has_tag(tag)
+        tag == TAG_SEQUENCE
     }
 
     fn read(reader: BERReader) -> ASN1Result<EncryptedContentInfo> {

@@ -29,6 +29,7 @@ ghost use Rattle.cms.specs.contracts.attributes.AttributesNotation.TheImpl.Laws.
 use crate::attributes::Attributes;
 use crate::encrypted_content_info::EncryptedContentInfo;
 use yasna::models::TaggedDerValue;
+use yasna::tags::TAG_SEQUENCE;
 use yasna::{ASN1Result, BERReader, DERWriter, Tag};
 use yasna_notation::{
     AtMost, Bounded, Context, Implicit, Message, NotEmpty, Notation, Optional, Sequence,
@@ -96,7 +97,7 @@ impl Notation for EnvelopedData {
     ghost means = { stands_for ⟦<EnvelopedData as StandsFor<Fields>>⟧.value_of ⟦<Sequence<Parts> as Notation>⟧.means };
 
     fn has_tag(tag: Tag) -> bool {
-        <Sequence<Parts> as Notation>::has_tag(tag)
+        tag == TAG_SEQUENCE
     }
 
     fn read(reader: BERReader) -> ASN1Result<EnvelopedData> {

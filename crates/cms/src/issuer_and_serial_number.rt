@@ -16,6 +16,7 @@ ghost use Rattle.yasna_notation.specs.contracts.simple.BigIntegerNotation.TheImp
 ghost use Rattle.x509.specs.contracts.name.NameNotation.TheImpl.Laws.{keeps-law as name};
 
 use x509::Name;
+use yasna::tags::TAG_SEQUENCE;
 use yasna::{ASN1Result, BERReader, DERWriter, Tag};
 use yasna_notation::{BigInteger, Message, Notation, Sequence, StandsFor, read_as};
 
@@ -52,7 +53,7 @@ impl Notation for IssuerAndSerialNumber {
     ghost means = { stands_for ⟦<IssuerAndSerialNumber as StandsFor<Fields>>⟧.value_of ⟦<Sequence<Parts> as Notation>⟧.means };
 
     fn has_tag(tag: Tag) -> bool {
-        <Sequence<Parts> as Notation>::has_tag(tag)
+        tag == TAG_SEQUENCE
     }
 
     fn read(reader: BERReader) -> ASN1Result<IssuerAndSerialNumber> {

@@ -37,6 +37,7 @@ use crate::encapsulated_content_info::EncapsulatedContentInfo;
 use crate::revocation_info_choice::RevocationInfoChoice;
 use crate::signer_info::SignerInfo;
 use x509::AlgorithmIdentifier;
+use yasna::tags::TAG_SEQUENCE;
 use yasna::{ASN1Result, BERReader, DERWriter, Tag};
 use yasna_notation::{
     AtMost, Bounded, Context, Implicit, Message, Notation, Optional, Sequence, SetOf, StandsFor,
@@ -111,7 +112,7 @@ impl Notation for SignedData {
     ghost means = { stands_for ⟦<SignedData as StandsFor<Fields>>⟧.value_of ⟦<Sequence<Parts> as Notation>⟧.means };
 
     fn has_tag(tag: Tag) -> bool {
-        <Sequence<Parts> as Notation>::has_tag(tag)
+        tag == TAG_SEQUENCE
     }
 
     fn read(reader: BERReader) -> ASN1Result<SignedData> {

@@ -33,6 +33,7 @@ ghost use Rattle.cms.specs.contracts.attributes.AttributesNotation.TheImpl.Laws.
 use crate::attributes::Attributes;
 use crate::signer_identifier::SignerIdentifier;
 use x509::AlgorithmIdentifier;
+use yasna::tags::TAG_SEQUENCE;
 use yasna::{ASN1Result, BERReader, DERWriter, Tag};
 use yasna_notation::{
     AtMost, Bounded, Context, Implicit, Message, Notation, Optional, Sequence, StandsFor, read_as,
@@ -100,7 +101,7 @@ impl Notation for SignerInfo {
     ghost means = { stands_for ⟦<SignerInfo as StandsFor<Fields>>⟧.value_of ⟦<Sequence<Parts> as Notation>⟧.means };
 
     fn has_tag(tag: Tag) -> bool {
-        <Sequence<Parts> as Notation>::has_tag(tag)
+        tag == TAG_SEQUENCE
     }
 
     fn read(reader: BERReader) -> ASN1Result<SignerInfo> {

@@ -17,6 +17,7 @@ ghost use Rattle.yasna_notation.specs.Writing.{sequence_written, set_of_written,
 ghost use Rattle.ldap.specs.Making.{filled_set_written};
 ghost use Rattle.yasna_notation.specs.contracts.canonical.VecU8CanonicalNotation.TheImpl.Laws.{written-law as octets_written};
 
+use yasna::tags::TAG_SEQUENCE;
 use yasna::{ASN1Result, BERReader, DERWriter, Tag};
 use yasna_notation::{
     Bounded, CanonicalNotation, Message, NotEmpty, Notation, Sequence, SetOf, StandsFor, read_as,
@@ -56,7 +57,7 @@ impl Notation for Attribute {
     ghost means = { stands_for ⟦<Attribute as StandsFor<Fields>>⟧.value_of ⟦<Sequence<Parts> as Notation>⟧.means };
 
     fn has_tag(tag: Tag) -> bool {
-        <Sequence<Parts> as Notation>::has_tag(tag)
+        tag == TAG_SEQUENCE
     }
 
     fn read(reader: BERReader) -> ASN1Result<Attribute> {

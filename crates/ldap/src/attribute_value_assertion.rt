@@ -19,6 +19,7 @@ ghost use Rattle.yasna_notation.specs.Canonical.{standing_written};
 ghost use Rattle.yasna_notation.specs.Writing.{sequence_written, part_written, no_part_written};
 ghost use Rattle.yasna_notation.specs.contracts.canonical.VecU8CanonicalNotation.TheImpl.Laws.{written-law as octets_written};
 
+use yasna::tags::TAG_SEQUENCE;
 use yasna::{ASN1Result, BERReader, DERWriter, Tag};
 use yasna_notation::{CanonicalNotation, Message, Notation, Sequence, StandsFor, read_as};
 
@@ -55,7 +56,7 @@ impl Notation for AttributeValueAssertion {
     ghost means = { stands_for ⟦<AttributeValueAssertion as StandsFor<Fields>>⟧.value_of ⟦<Sequence<Parts> as Notation>⟧.means };
 
     fn has_tag(tag: Tag) -> bool {
-        <Sequence<Parts> as Notation>::has_tag(tag)
+        tag == TAG_SEQUENCE
     }
 
     fn read(reader: BERReader) -> ASN1Result<AttributeValueAssertion> {

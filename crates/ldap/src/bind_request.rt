@@ -78,7 +78,7 @@ impl Notation for BindRequest {
     ghost means = { stands_for ⟦<BindRequest as StandsFor<Fields>>⟧.value_of ⟦<Notated as Notation>⟧.means };
 
     fn has_tag(tag: Tag) -> bool {
-        <Notated as Notation>::has_tag(tag)
+        tag == Tag::application(0)
     }
 
     fn read(reader: BERReader) -> ASN1Result<BindRequest> {

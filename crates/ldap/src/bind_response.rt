@@ -81,7 +81,7 @@ impl Notation for BindResponse {
     ghost means = { stands_for ⟦<BindResponse as StandsFor<Fields>>⟧.value_of ⟦<Notated as Notation>⟧.means };
 
     fn has_tag(tag: Tag) -> bool {
-        <Notated as Notation>::has_tag(tag)
+        tag == Tag::application(1)
     }
 
     fn read(reader: BERReader) -> ASN1Result<BindResponse> {

@@ -28,6 +28,7 @@ ghost use Rattle.yasna_notation.specs.contracts.canonical.U64CanonicalNotation.T
 
 use crate::control::Control;
 use crate::protocol_op::ProtocolOp;
+use yasna::tags::TAG_SEQUENCE;
 use yasna::{ASN1Result, BERReader, DERWriter, Tag};
 use yasna_notation::{
     AtMost, Bounded, CanonicalNotation, Context, Implicit, Message, Notation, Optional, Sequence,
@@ -74,7 +75,7 @@ impl Notation for LdapMessage {
     ghost means = { stands_for ⟦<LdapMessage as StandsFor<Fields>>⟧.value_of ⟦<Sequence<Parts> as Notation>⟧.means };
 
     fn has_tag(tag: Tag) -> bool {
-        <Sequence<Parts> as Notation>::has_tag(tag)
+        tag == TAG_SEQUENCE
     }
 
     fn read(reader: BERReader) -> ASN1Result<LdapMessage> {

@@ -28,6 +28,7 @@ ghost use Rattle.yasna_notation.specs.contracts.canonical.EnumeratedCanonicalNot
 ghost use Rattle.yasna_notation.specs.contracts.canonical.VecU8CanonicalNotation.TheImpl.Laws.{written-law as octets_written};
 
 use crate::bounds::FromZero;
+use yasna::tags::TAG_SEQUENCE;
 use yasna::{ASN1Result, BERReader, DERWriter, Tag};
 use yasna_notation::{
     Bounded, CanonicalNotation, Context, Enumerated, Implicit, Message, NotEmpty, Notation,
@@ -81,7 +82,7 @@ impl Notation for LdapResult {
     ghost means = { stands_for ⟦<LdapResult as StandsFor<Fields>>⟧.value_of ⟦<Sequence<Parts> as Notation>⟧.means };
 
     fn has_tag(tag: Tag) -> bool {
-        <Sequence<Parts> as Notation>::has_tag(tag)
+        tag == TAG_SEQUENCE
     }
 
     fn read(reader: BERReader) -> ASN1Result<LdapResult> {

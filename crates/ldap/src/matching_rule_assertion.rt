@@ -26,6 +26,7 @@ ghost use Rattle.ldap.specs.Making.{unset_written};
 ghost use Rattle.yasna_notation.specs.contracts.canonical.BoolCanonicalNotation.TheImpl.Laws.{written-law as flag_written};
 ghost use Rattle.yasna_notation.specs.contracts.canonical.VecU8CanonicalNotation.TheImpl.Laws.{written-law as octets_written};
 
+use yasna::tags::TAG_SEQUENCE;
 use yasna::{ASN1Result, BERReader, DERWriter, Tag};
 use yasna_notation::{
     CanonicalNotation, Context, Default, DefaultValue, Implicit, Message, Notation, Optional,
@@ -104,7 +105,7 @@ impl Notation for MatchingRuleAssertion {
     ghost means = { stands_for ⟦<MatchingRuleAssertion as StandsFor<Fields>>⟧.value_of ⟦<Sequence<Parts> as Notation>⟧.means };
 
     fn has_tag(tag: Tag) -> bool {
-        <Sequence<Parts> as Notation>::has_tag(tag)
+        tag == TAG_SEQUENCE
     }
 
     fn read(reader: BERReader) -> ASN1Result<MatchingRuleAssertion> {

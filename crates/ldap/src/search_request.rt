@@ -121,7 +121,7 @@ impl Notation for SearchRequest {
     ghost means = { stands_for ⟦<SearchRequest as StandsFor<Fields>>⟧.value_of ⟦<Notated as Notation>⟧.means };
 
     fn has_tag(tag: Tag) -> bool {
-        <Notated as Notation>::has_tag(tag)
+        tag == Tag::application(3)
     }
 
     fn read(reader: BERReader) -> ASN1Result<SearchRequest> {

@@ -43,7 +43,7 @@ impl Notation for SearchResultDone {
     ghost means = { stands_for ⟦<SearchResultDone as StandsFor<LdapResult>>⟧.value_of ⟦<Notated as Notation>⟧.means };
 
     fn has_tag(tag: Tag) -> bool {
-        <Notated as Notation>::has_tag(tag)
+        tag == Tag::application(5)
     }
 
     fn read(reader: BERReader) -> ASN1Result<SearchResultDone> {

@@ -65,7 +65,7 @@ impl Notation for SearchResultEntry {
     ghost means = { stands_for ⟦<SearchResultEntry as StandsFor<Fields>>⟧.value_of ⟦<Notated as Notation>⟧.means };
 
     fn has_tag(tag: Tag) -> bool {
-        <Notated as Notation>::has_tag(tag)
+        tag == Tag::application(4)
     }
 
     fn read(reader: BERReader) -> ASN1Result<SearchResultEntry> {

@@ -48,7 +48,7 @@ impl Notation for SearchResultReference {
     ghost means = { stands_for ⟦<SearchResultReference as StandsFor<Vec<Vec<u8>>>>⟧.value_of ⟦<Notated as Notation>⟧.means };
 
     fn has_tag(tag: Tag) -> bool {
-        <Notated as Notation>::has_tag(tag)
+        tag == Tag::application(19)
     }
 
     fn read(reader: BERReader) -> ASN1Result<SearchResultReference> {

@@ -21,6 +21,7 @@ ghost use Rattle.ldap.specs.Making.{filled_list_written};
 ghost use Rattle.yasna_notation.specs.contracts.canonical.VecU8CanonicalNotation.TheImpl.Laws.{written-law as octets_written};
 
 use crate::substring::Substring;
+use yasna::tags::TAG_SEQUENCE;
 use yasna::{ASN1Result, BERReader, DERWriter, Tag};
 use yasna_notation::{
     Bounded, CanonicalNotation, Choice, Context, Defined, Implicit, Message, NotEmpty, Notation,
@@ -61,7 +62,7 @@ impl Notation for SubstringFilter {
     ghost means = { stands_for ⟦<SubstringFilter as StandsFor<Fields>>⟧.value_of ⟦<Sequence<Parts> as Notation>⟧.means };
 
     fn has_tag(tag: Tag) -> bool {
-        <Sequence<Parts> as Notation>::has_tag(tag)
+        tag == TAG_SEQUENCE
     }
 
     fn read(reader: BERReader) -> ASN1Result<SubstringFilter> {

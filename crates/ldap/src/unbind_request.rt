@@ -40,7 +40,7 @@ impl Notation for UnbindRequest {
     ghost means = { stands_for ⟦<UnbindRequest as StandsFor<()>>⟧.value_of ⟦<Notated as Notation>⟧.means };
 
     fn has_tag(tag: Tag) -> bool {
-        <Notated as Notation>::has_tag(tag)
+        tag == Tag::application(2)
     }
 
     fn read(reader: BERReader) -> ASN1Result<UnbindRequest> {

@@ -34,6 +34,7 @@ ghost use Rattle.yasna_notation.specs.contracts.strings.BitStringNotation.TheImp
 ghost use Rattle.x509.specs.contracts.algorithm.AlgorithmIdentifierNotation.TheImpl.Laws.{keeps-law as algorithm};
 
 use x509::{AlgorithmIdentifier, Attribute};
+use yasna::tags::TAG_SEQUENCE;
 use yasna::{ASN1Result, BERReader, DERWriter, Tag};
 use yasna_notation::{
     AtMost, BitString, Bounded, Context, Defined, Implicit, Message, Notation, Optional, Sequence,
@@ -95,7 +96,7 @@ impl Notation for OneAsymmetricKey {
     ghost means = { stands_for ⟦<OneAsymmetricKey as StandsFor<Fields>>⟧.value_of ⟦<Sequence<Parts> as Notation>⟧.means };
 
     fn has_tag(tag: Tag) -> bool {
-        <Sequence<Parts> as Notation>::has_tag(tag)
+        tag == TAG_SEQUENCE
     }
 
     fn read(reader: BERReader) -> ASN1Result<OneAsymmetricKey> {

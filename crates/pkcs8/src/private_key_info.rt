@@ -24,6 +24,7 @@ ghost use Rattle.yasna_notation.specs.contracts.strings.VecU8Notation.TheImpl.La
 ghost use Rattle.x509.specs.contracts.algorithm.AlgorithmIdentifierNotation.TheImpl.Laws.{keeps-law as algorithm};
 
 use x509::{AlgorithmIdentifier, Attribute};
+use yasna::tags::TAG_SEQUENCE;
 use yasna::{ASN1Result, BERReader, DERWriter, Tag};
 use yasna_notation::{
     AtMost, Bounded, Context, Defined, Implicit, Message, Notation, Optional, Sequence, SetOf,
@@ -78,7 +79,7 @@ impl Notation for PrivateKeyInfo {
     ghost means = { stands_for ⟦<PrivateKeyInfo as StandsFor<Fields>>⟧.value_of ⟦<Sequence<Parts> as Notation>⟧.means };
 
     fn has_tag(tag: Tag) -> bool {
-        <Sequence<Parts> as Notation>::has_tag(tag)
+        tag == TAG_SEQUENCE
     }
 
     fn read(reader: BERReader) -> ASN1Result<PrivateKeyInfo> {

@@ -14,6 +14,7 @@ ghost use Rattle.yasna_notation.specs.contracts.simple.ObjectIdentifierNotation.
 ghost use Rattle.yasna_notation.specs.contracts.any.TaggedDerValueNotation.TheImpl.Laws.{keeps-law as any};
 
 use yasna::models::{ObjectIdentifier, TaggedDerValue};
+use yasna::tags::TAG_SEQUENCE;
 use yasna::{ASN1Result, BERReader, DERWriter, Tag};
 use yasna_notation::{Last, Message, Notation, Sequence, StandsFor, read_as};
 
@@ -47,7 +48,7 @@ impl Notation for AlgorithmIdentifier {
     ghost means = { stands_for ⟦<AlgorithmIdentifier as StandsFor<Fields>>⟧.value_of ⟦<Sequence<Parts> as Notation>⟧.means };
 
     fn has_tag(tag: Tag) -> bool {
-        <Sequence<Parts> as Notation>::has_tag(tag)
+        tag == TAG_SEQUENCE
     }
 
     fn read(reader: BERReader) -> ASN1Result<AlgorithmIdentifier> {

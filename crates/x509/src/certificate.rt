@@ -17,6 +17,7 @@ ghost use Rattle.x509.specs.contracts.tbs_certificate.TbsCertificateNotation.The
 
 use crate::algorithm::AlgorithmIdentifier;
 use crate::tbs_certificate::TbsCertificate;
+use yasna::tags::TAG_SEQUENCE;
 use yasna::{ASN1Result, BERReader, DERWriter, Tag};
 use yasna_notation::{BitString, Message, Notation, Sequence, StandsFor};
 
@@ -59,7 +60,7 @@ impl Notation for Certificate {
     ghost means = { stands_for ⟦<Certificate as StandsFor<Fields>>⟧.value_of ⟦<Sequence<Parts> as Notation>⟧.means };
 
     fn has_tag(tag: Tag) -> bool {
-        <Sequence<Parts> as Notation>::has_tag(tag)
+        tag == TAG_SEQUENCE
     }
 
     fn read(reader: BERReader) -> ASN1Result<Certificate> {

@@ -17,6 +17,7 @@ ghost use Rattle.x509.specs.contracts.tbs_cert_list.TbsCertListNotation.TheImpl.
 
 use crate::algorithm::AlgorithmIdentifier;
 use crate::tbs_cert_list::TbsCertList;
+use yasna::tags::TAG_SEQUENCE;
 use yasna::{ASN1Result, BERReader, DERWriter, Tag};
 use yasna_notation::{BitString, Message, Notation, Sequence, StandsFor, read_as};
 
@@ -56,7 +57,7 @@ impl Notation for CertificateList {
     ghost means = { stands_for ⟦<CertificateList as StandsFor<Fields>>⟧.value_of ⟦<Sequence<Parts> as Notation>⟧.means };
 
     fn has_tag(tag: Tag) -> bool {
-        <Sequence<Parts> as Notation>::has_tag(tag)
+        tag == TAG_SEQUENCE
     }
 
     fn read(reader: BERReader) -> ASN1Result<CertificateList> {

@@ -13,6 +13,7 @@ ghost use Rattle.yasna_notation.specs.contracts.simple.BoolNotation.TheImpl.Laws
 ghost use Rattle.yasna_notation.specs.contracts.strings.VecU8Notation.TheImpl.Laws.{keeps-law as octets};
 
 use crate::extension::Extension;
+use yasna::tags::TAG_SEQUENCE;
 use yasna::{ASN1Result, BERReader, DERWriter, Tag};
 use yasna_notation::{
     Bounded, Defined, Message, NotEmpty, Notation, SequenceOf, StandsFor, read_as,
@@ -43,7 +44,7 @@ impl Notation for Extensions {
     ghost means = { stands_for ⟦<Extensions as StandsFor<Vec<Extension>>>⟧.value_of ⟦<List as Notation>⟧.means };
 
     fn has_tag(tag: Tag) -> bool {
-        <List as Notation>::has_tag(tag)
+        tag == TAG_SEQUENCE
     }
 
     fn read(reader: BERReader) -> ASN1Result<Extensions> {

@@ -22,6 +22,7 @@ ghost use Rattle.yasna_notation.specs.Notation.{stands_for};
 ghost use Rattle.x509.specs.declared.name.Name.TheVariants.{RdnSequence};
 
 use yasna::models::{ObjectIdentifier, TaggedDerValue};
+use yasna::tags::TAG_SEQUENCE;
 use yasna::{ASN1Result, BERReader, DERWriter, Tag};
 use yasna_notation::{
     Bounded, Defined, Message, NotEmpty, Notation, Sequence, SequenceOf, SetOf, StandsFor, read_as,
@@ -107,7 +108,7 @@ impl Notation for Name {
     ghost means = { stands_for ⟦<Name as StandsFor<Vec<RelativeDistinguishedName>>>⟧.value_of ⟦<SequenceOf<RelativeDistinguishedName> as Notation>⟧.means };
 
     fn has_tag(tag: Tag) -> bool {
-        SequenceOf::<RelativeDistinguishedName>::has_tag(tag)
+        tag == TAG_SEQUENCE
     }
 
     fn read(reader: BERReader) -> ASN1Result<Name> {

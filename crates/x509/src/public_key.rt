@@ -14,6 +14,7 @@ ghost use Rattle.yasna_notation.specs.contracts.strings.BitStringNotation.TheImp
 ghost use Rattle.x509.specs.contracts.algorithm.AlgorithmIdentifierNotation.TheImpl.Laws.{keeps-law as algorithm};
 
 use crate::algorithm::AlgorithmIdentifier;
+use yasna::tags::TAG_SEQUENCE;
 use yasna::{ASN1Result, BERReader, DERWriter, Tag};
 use yasna_notation::{BitString, Message, Notation, Sequence, StandsFor, read_as};
 
@@ -49,7 +50,7 @@ impl Notation for SubjectPublicKeyInfo {
     ghost means = { stands_for ⟦<SubjectPublicKeyInfo as StandsFor<Fields>>⟧.value_of ⟦<Sequence<Parts> as Notation>⟧.means };
 
     fn has_tag(tag: Tag) -> bool {
-        <Sequence<Parts> as Notation>::has_tag(tag)
+        tag == TAG_SEQUENCE
     }
 
     fn read(reader: BERReader) -> ASN1Result<SubjectPublicKeyInfo> {

@@ -19,6 +19,7 @@ ghost use Rattle.x509.specs.contracts.extensions.ExtensionsNotation.TheImpl.Laws
 use crate::extensions::Extensions;
 use crate::time::Time;
 use yasna::models::{GeneralizedTime, UTCTime};
+use yasna::tags::TAG_SEQUENCE;
 use yasna::{ASN1Result, BERReader, DERWriter, Tag};
 use yasna_notation::{
     BigInteger, Choice, Defined, Last, Message, Notation, Sequence, StandsFor, read_as,
@@ -59,7 +60,7 @@ impl Notation for RevokedCertificate {
     ghost means = { stands_for ⟦<RevokedCertificate as StandsFor<Fields>>⟧.value_of ⟦<Sequence<Parts> as Notation>⟧.means };
 
     fn has_tag(tag: Tag) -> bool {
-        <Sequence<Parts> as Notation>::has_tag(tag)
+        tag == TAG_SEQUENCE
     }
 
     fn read(reader: BERReader) -> ASN1Result<RevokedCertificate> {

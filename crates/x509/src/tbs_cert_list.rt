@@ -31,6 +31,7 @@ use crate::name::Name;
 use crate::revoked_certificate::RevokedCertificate;
 use crate::time::Time;
 use yasna::models::{GeneralizedTime, UTCTime};
+use yasna::tags::TAG_SEQUENCE;
 use yasna::{ASN1Result, BERReader, DERWriter, Tag};
 use yasna_notation::{
     Bound, Bounded, Choice, Context, Defined, Explicit, Message, Notation, Optional, Sequence,
@@ -115,7 +116,7 @@ impl Notation for TbsCertList {
     ghost means = { stands_for ⟦<TbsCertList as StandsFor<Fields>>⟧.value_of ⟦<Sequence<Parts> as Notation>⟧.means };
 
     fn has_tag(tag: Tag) -> bool {
-        <Sequence<Parts> as Notation>::has_tag(tag)
+        tag == TAG_SEQUENCE
     }
 
     fn read(reader: BERReader) -> ASN1Result<TbsCertList> {

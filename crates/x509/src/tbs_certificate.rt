@@ -39,6 +39,7 @@ use crate::extensions::Extensions;
 use crate::name::Name;
 use crate::public_key::SubjectPublicKeyInfo;
 use crate::validity::Validity;
+use yasna::tags::TAG_SEQUENCE;
 use yasna::{ASN1Result, BERReader, DERWriter, Tag};
 use yasna_notation::{
     AtMost, BigInteger, BitString, Bounded, Context, Default, Explicit, Implicit, Message,
@@ -131,7 +132,7 @@ impl Notation for TbsCertificate {
     ghost means = { stands_for ⟦<TbsCertificate as StandsFor<Fields>>⟧.value_of ⟦<Sequence<Parts> as Notation>⟧.means };
 
     fn has_tag(tag: Tag) -> bool {
-        <Sequence<Parts> as Notation>::has_tag(tag)
+        tag == TAG_SEQUENCE
     }
 
     fn read(reader: BERReader) -> ASN1Result<TbsCertificate> {

@@ -13,6 +13,7 @@ ghost use Rattle.yasna_notation.specs.contracts.times.GeneralizedTimeNotation.Th
 
 use crate::time::Time;
 use yasna::models::{GeneralizedTime, UTCTime};
+use yasna::tags::TAG_SEQUENCE;
 use yasna::{ASN1Result, BERReader, DERWriter, Tag};
 use yasna_notation::{Choice, Defined, Message, Notation, Sequence, StandsFor, read_as};
 
@@ -48,7 +49,7 @@ impl Notation for Validity {
     ghost means = { stands_for ⟦<Validity as StandsFor<Fields>>⟧.value_of ⟦<Sequence<Parts> as Notation>⟧.means };
 
     fn has_tag(tag: Tag) -> bool {
-        <Sequence<Parts> as Notation>::has_tag(tag)
+        tag == TAG_SEQUENCE
     }
 
     fn read(reader: BERReader) -> ASN1Result<Validity> {
