@@ -17,7 +17,6 @@ ghost use Rattle.yasna_reader.specs.Decodes.{Decodes, DecodesParts, RepeatsKept}
 mod exact;
 mod others;
 
-use crate::shapes::{FromShape, Shaped};
 use crate::traits::{BERDecodable, DERCanonical, DEREncodable};
 use yasna_base::error::ASN1Result;
 use yasna_reader::{BERReader, BERReaderSeq};
@@ -81,12 +80,33 @@ impl<A: BERDecodable, W: TupleParts> TupleParts for (A, W) {
 }
 
 // Reads a SEQUENCE of these parts.
+#[inline(always)]
 fn read_tuple<W: TupleParts>(reader: BERReader) -> ASN1Result<W>
     requires { reader.old.tag ≡ None }
     ensures decodes { reader.old.kept ≡ None → Decodes W.parts_ask (Enclosed W.parts sequence_tag) (AnyEnclosed W.any_parts sequence_tag) reader.old result reader.new }
     ensures kept { RepeatsKept reader.old result reader.new }
 {
     reader.read_sequence(|seq| W::read_parts(seq))
+}
+
+// Reads a SEQUENCE of six parts and of those behind them.
+fn read_long_tuple<
+    A: BERDecodable,
+    B: BERDecodable,
+    C: BERDecodable,
+    D: BERDecodable,
+    E: BERDecodable,
+    F: BERDecodable,
+    W: TupleParts,
+>(reader: BERReader) -> ASN1Result<((A, B, C, D, E, F), W)>
+    requires { reader.old.tag ≡ None }
+    ensures decodes { reader.old.kept ≡ None → Decodes (A.asks_memory || (B.asks_memory || (C.asks_memory || (D.asks_memory || (E.asks_memory || (F.asks_memory || W.parts_ask)))))) (λ m n v b. Enclosed (PartOf A.encodes (PartOf B.encodes (PartOf C.encodes (PartOf D.encodes (PartOf E.encodes (PartOf F.encodes W.parts)))))) sequence_tag m n (v.0.0, (v.0.1, (v.0.2, (v.0.3, (v.0.4, (v.0.5, v.1)))))) b) (AnyEnclosed (AnyPart A.elements (AnyPart B.elements (AnyPart C.elements (AnyPart D.elements (AnyPart E.elements (AnyPart F.elements W.any_parts)))))) sequence_tag) reader.old result reader.new }
+    ensures kept { RepeatsKept reader.old result reader.new }
+{
+    match read_tuple(reader) {
+        Ok((a, (b, (c, (d, (e, (f, others))))))) => Ok(((a, b, c, d, e, f), others)),
+        Err(error) => Err(error),
+    }
 }
 
 /// Values that are written one after the other: pairs that end in `()`, as `(&a, (&b, (&c, ())))`.
@@ -177,18 +197,24 @@ impl<W: TupleParts> BERDecodable for InSequence<W> {
     ghost coding = { tuple (λ v. v.parts) W.lawful };
 }
 
-impl<A, B> Shaped for (A, B) {
-    type Shape = InSequence<(A, (B, ()))>;
+impl<A: BERDecodable, B: BERDecodable> BERDecodable for (A, B) {
+    ghost encodes = { λ m n v b. Enclosed (PartOf A.encodes (PartOf B.encodes NoParts)) sequence_tag m n (v.0, (v.1, tt)) b };
 
-    ghost shape_of = { λ v. record { parts = (v.0, (v.1, tt)) } };
-}
+    ghost elements = { AnyEnclosed (AnyPart A.elements (AnyPart B.elements AnyNothing)) sequence_tag };
 
-impl<A, B> FromShape for (A, B) {
+    ghost asks_memory = { (A.asks_memory || (B.asks_memory || false)) };
+
+    ghost same = { λ v w. SamePart A.same (SamePart B.same SameNothing) (v.0, (v.1, tt)) (w.0, (w.1, tt)) };
+
     #[inline(always)]
-    fn from_shape(shape: Self::Shape) -> (A, B) {
-        let (a, (b, ())) = shape.parts;
-        (a, b)
+    fn decode_ber(reader: BERReader) -> ASN1Result<(A, B)> {
+        match read_tuple(reader) {
+            Ok((a, (b, ()))) => Ok((a, b)),
+            Err(error) => Err(error),
+        }
     }
+
+    ghost coding = { tuple (λ v. (v.0, (v.1, tt))) (part A.coding (part B.coding no_part)) };
 }
 
 impl<A: DEREncodable, B: DEREncodable> DEREncodable for (A, B) {

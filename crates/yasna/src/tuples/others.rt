@@ -1,26 +1,34 @@
 //! Tuples of one part, and of three to twelve.
+ghost use Rattle.std.specs.Prelude.{false, ◌||◌};
 ghost use Rattle.yasna_base.specs.Canonical.{enclosed_form, enclosed_nest, Always};
-ghost use Rattle.yasna_base.specs.Sequence.{sequence_tag, part_form, part_nest, part_can, nothing_form, nothing_nest};
-ghost use Rattle.yasna_base.proofs.Sequence.{part_written, no_part_written, tuple_written};
+ghost use Rattle.yasna_base.specs.Element.{Enclosed, AnyEnclosed};
+ghost use Rattle.yasna_base.specs.Sequence.{sequence_tag, PartOf, NoParts, AnyPart, AnyNothing, SamePart, SameNothing, part_form, part_nest, part_can, nothing_form, nothing_nest};
+ghost use Rattle.yasna_base.proofs.Sequence.{part, no_part, tuple, part_written, no_part_written, tuple_written};
 
-use super::{InSequence, write_long_tuple, write_tuple};
-use crate::shapes::{FromShape, Shaped};
-use crate::traits::{DERCanonical, DEREncodable};
+use super::{read_long_tuple, read_tuple, write_long_tuple, write_tuple};
+use crate::traits::{BERDecodable, DERCanonical, DEREncodable};
 use yasna_base::error::ASN1Result;
+use yasna_reader::BERReader;
 use yasna_writer::DERWriter;
 
-impl<A> Shaped for (A,) {
-    type Shape = InSequence<(A, ())>;
+impl<A: BERDecodable> BERDecodable for (A,) {
+    ghost encodes = { λ m n v b. Enclosed (PartOf A.encodes NoParts) sequence_tag m n (v.0, tt) b };
 
-    ghost shape_of = { λ v. record { parts = (v.0, tt) } };
-}
+    ghost elements = { AnyEnclosed (AnyPart A.elements AnyNothing) sequence_tag };
 
-impl<A> FromShape for (A,) {
+    ghost asks_memory = { (A.asks_memory || false) };
+
+    ghost same = { λ v w. SamePart A.same SameNothing (v.0, tt) (w.0, tt) };
+
     #[inline(always)]
-    fn from_shape(shape: Self::Shape) -> (A,) {
-        let (a, ()) = shape.parts;
-        (a,)
+    fn decode_ber(reader: BERReader) -> ASN1Result<(A,)> {
+        match read_tuple(reader) {
+            Ok((a, ())) => Ok((a,)),
+            Err(error) => Err(error),
+        }
     }
+
+    ghost coding = { tuple (λ v. (v.0, tt)) (part A.coding no_part) };
 }
 
 impl<A: DEREncodable> DEREncodable for (A,) {
@@ -39,18 +47,24 @@ impl<A: DERCanonical> DERCanonical for (A,) {
     ghost written = { tuple_written (λ v. (v.0, tt)) (part_written A.written no_part_written) };
 }
 
-impl<A, B, C> Shaped for (A, B, C) {
-    type Shape = InSequence<(A, (B, (C, ())))>;
+impl<A: BERDecodable, B: BERDecodable, C: BERDecodable> BERDecodable for (A, B, C) {
+    ghost encodes = { λ m n v b. Enclosed (PartOf A.encodes (PartOf B.encodes (PartOf C.encodes NoParts))) sequence_tag m n (v.0, (v.1, (v.2, tt))) b };
 
-    ghost shape_of = { λ v. record { parts = (v.0, (v.1, (v.2, tt))) } };
-}
+    ghost elements = { AnyEnclosed (AnyPart A.elements (AnyPart B.elements (AnyPart C.elements AnyNothing))) sequence_tag };
 
-impl<A, B, C> FromShape for (A, B, C) {
+    ghost asks_memory = { (A.asks_memory || (B.asks_memory || (C.asks_memory || false))) };
+
+    ghost same = { λ v w. SamePart A.same (SamePart B.same (SamePart C.same SameNothing)) (v.0, (v.1, (v.2, tt))) (w.0, (w.1, (w.2, tt))) };
+
     #[inline(always)]
-    fn from_shape(shape: Self::Shape) -> (A, B, C) {
-        let (a, (b, (c, ()))) = shape.parts;
-        (a, b, c)
+    fn decode_ber(reader: BERReader) -> ASN1Result<(A, B, C)> {
+        match read_tuple(reader) {
+            Ok((a, (b, (c, ())))) => Ok((a, b, c)),
+            Err(error) => Err(error),
+        }
     }
+
+    ghost coding = { tuple (λ v. (v.0, (v.1, (v.2, tt)))) (part A.coding (part B.coding (part C.coding no_part))) };
 }
 
 impl<A: DEREncodable, B: DEREncodable, C: DEREncodable> DEREncodable for (A, B, C) {
@@ -69,18 +83,25 @@ impl<A: DERCanonical, B: DERCanonical, C: DERCanonical> DERCanonical for (A, B, 
     ghost written = { tuple_written (λ v. (v.0, (v.1, (v.2, tt)))) (part_written A.written (part_written B.written (part_written C.written no_part_written))) };
 }
 
-impl<A, B, C, D> Shaped for (A, B, C, D) {
-    type Shape = InSequence<(A, (B, (C, (D, ()))))>;
+impl<A: BERDecodable, B: BERDecodable, C: BERDecodable, D: BERDecodable> BERDecodable
+    for (A, B, C, D) {
+    ghost encodes = { λ m n v b. Enclosed (PartOf A.encodes (PartOf B.encodes (PartOf C.encodes (PartOf D.encodes NoParts)))) sequence_tag m n (v.0, (v.1, (v.2, (v.3, tt)))) b };
 
-    ghost shape_of = { λ v. record { parts = (v.0, (v.1, (v.2, (v.3, tt)))) } };
-}
+    ghost elements = { AnyEnclosed (AnyPart A.elements (AnyPart B.elements (AnyPart C.elements (AnyPart D.elements AnyNothing)))) sequence_tag };
 
-impl<A, B, C, D> FromShape for (A, B, C, D) {
+    ghost asks_memory = { (A.asks_memory || (B.asks_memory || (C.asks_memory || (D.asks_memory || false)))) };
+
+    ghost same = { λ v w. SamePart A.same (SamePart B.same (SamePart C.same (SamePart D.same SameNothing))) (v.0, (v.1, (v.2, (v.3, tt)))) (w.0, (w.1, (w.2, (w.3, tt)))) };
+
     #[inline(always)]
-    fn from_shape(shape: Self::Shape) -> (A, B, C, D) {
-        let (a, (b, (c, (d, ())))) = shape.parts;
-        (a, b, c, d)
+    fn decode_ber(reader: BERReader) -> ASN1Result<(A, B, C, D)> {
+        match read_tuple(reader) {
+            Ok((a, (b, (c, (d, ()))))) => Ok((a, b, c, d)),
+            Err(error) => Err(error),
+        }
     }
+
+    ghost coding = { tuple (λ v. (v.0, (v.1, (v.2, (v.3, tt))))) (part A.coding (part B.coding (part C.coding (part D.coding no_part)))) };
 }
 
 impl<A: DEREncodable, B: DEREncodable, C: DEREncodable, D: DEREncodable> DEREncodable
@@ -101,18 +122,30 @@ impl<A: DERCanonical, B: DERCanonical, C: DERCanonical, D: DERCanonical> DERCano
     ghost written = { tuple_written (λ v. (v.0, (v.1, (v.2, (v.3, tt))))) (part_written A.written (part_written B.written (part_written C.written (part_written D.written no_part_written)))) };
 }
 
-impl<A, B, C, D, E> Shaped for (A, B, C, D, E) {
-    type Shape = InSequence<(A, (B, (C, (D, (E, ())))))>;
+impl<
+    A: BERDecodable,
+    B: BERDecodable,
+    C: BERDecodable,
+    D: BERDecodable,
+    E: BERDecodable,
+> BERDecodable for (A, B, C, D, E) {
+    ghost encodes = { λ m n v b. Enclosed (PartOf A.encodes (PartOf B.encodes (PartOf C.encodes (PartOf D.encodes (PartOf E.encodes NoParts))))) sequence_tag m n (v.0, (v.1, (v.2, (v.3, (v.4, tt))))) b };
 
-    ghost shape_of = { λ v. record { parts = (v.0, (v.1, (v.2, (v.3, (v.4, tt))))) } };
-}
+    ghost elements = { AnyEnclosed (AnyPart A.elements (AnyPart B.elements (AnyPart C.elements (AnyPart D.elements (AnyPart E.elements AnyNothing))))) sequence_tag };
 
-impl<A, B, C, D, E> FromShape for (A, B, C, D, E) {
+    ghost asks_memory = { (A.asks_memory || (B.asks_memory || (C.asks_memory || (D.asks_memory || (E.asks_memory || false))))) };
+
+    ghost same = { λ v w. SamePart A.same (SamePart B.same (SamePart C.same (SamePart D.same (SamePart E.same SameNothing)))) (v.0, (v.1, (v.2, (v.3, (v.4, tt))))) (w.0, (w.1, (w.2, (w.3, (w.4, tt))))) };
+
     #[inline(always)]
-    fn from_shape(shape: Self::Shape) -> (A, B, C, D, E) {
-        let (a, (b, (c, (d, (e, ()))))) = shape.parts;
-        (a, b, c, d, e)
+    fn decode_ber(reader: BERReader) -> ASN1Result<(A, B, C, D, E)> {
+        match read_tuple(reader) {
+            Ok((a, (b, (c, (d, (e, ())))))) => Ok((a, b, c, d, e)),
+            Err(error) => Err(error),
+        }
     }
+
+    ghost coding = { tuple (λ v. (v.0, (v.1, (v.2, (v.3, (v.4, tt)))))) (part A.coding (part B.coding (part C.coding (part D.coding (part E.coding no_part))))) };
 }
 
 impl<
@@ -146,18 +179,31 @@ impl<
     ghost written = { tuple_written (λ v. (v.0, (v.1, (v.2, (v.3, (v.4, tt)))))) (part_written A.written (part_written B.written (part_written C.written (part_written D.written (part_written E.written no_part_written))))) };
 }
 
-impl<A, B, C, D, E, F> Shaped for (A, B, C, D, E, F) {
-    type Shape = InSequence<(A, (B, (C, (D, (E, (F, ()))))))>;
+impl<
+    A: BERDecodable,
+    B: BERDecodable,
+    C: BERDecodable,
+    D: BERDecodable,
+    E: BERDecodable,
+    F: BERDecodable,
+> BERDecodable for (A, B, C, D, E, F) {
+    ghost encodes = { λ m n v b. Enclosed (PartOf A.encodes (PartOf B.encodes (PartOf C.encodes (PartOf D.encodes (PartOf E.encodes (PartOf F.encodes NoParts)))))) sequence_tag m n (v.0, (v.1, (v.2, (v.3, (v.4, (v.5, tt)))))) b };
 
-    ghost shape_of = { λ v. record { parts = (v.0, (v.1, (v.2, (v.3, (v.4, (v.5, tt)))))) } };
-}
+    ghost elements = { AnyEnclosed (AnyPart A.elements (AnyPart B.elements (AnyPart C.elements (AnyPart D.elements (AnyPart E.elements (AnyPart F.elements AnyNothing)))))) sequence_tag };
 
-impl<A, B, C, D, E, F> FromShape for (A, B, C, D, E, F) {
+    ghost asks_memory = { (A.asks_memory || (B.asks_memory || (C.asks_memory || (D.asks_memory || (E.asks_memory || (F.asks_memory || false)))))) };
+
+    ghost same = { λ v w. SamePart A.same (SamePart B.same (SamePart C.same (SamePart D.same (SamePart E.same (SamePart F.same SameNothing))))) (v.0, (v.1, (v.2, (v.3, (v.4, (v.5, tt)))))) (w.0, (w.1, (w.2, (w.3, (w.4, (w.5, tt)))))) };
+
     #[inline(always)]
-    fn from_shape(shape: Self::Shape) -> (A, B, C, D, E, F) {
-        let (a, (b, (c, (d, (e, (f, ())))))) = shape.parts;
-        (a, b, c, d, e, f)
+    fn decode_ber(reader: BERReader) -> ASN1Result<(A, B, C, D, E, F)> {
+        match read_tuple(reader) {
+            Ok((a, (b, (c, (d, (e, (f, ()))))))) => Ok((a, b, c, d, e, f)),
+            Err(error) => Err(error),
+        }
     }
+
+    ghost coding = { tuple (λ v. (v.0, (v.1, (v.2, (v.3, (v.4, (v.5, tt))))))) (part A.coding (part B.coding (part C.coding (part D.coding (part E.coding (part F.coding no_part)))))) };
 }
 
 impl<
@@ -196,18 +242,32 @@ impl<
     ghost written = { tuple_written (λ v. (v.0, (v.1, (v.2, (v.3, (v.4, (v.5, tt))))))) (part_written A.written (part_written B.written (part_written C.written (part_written D.written (part_written E.written (part_written F.written no_part_written)))))) };
 }
 
-impl<A, B, C, D, E, F, G> Shaped for (A, B, C, D, E, F, G) {
-    type Shape = InSequence<(A, (B, (C, (D, (E, (F, (G, ())))))))>;
+impl<
+    A: BERDecodable,
+    B: BERDecodable,
+    C: BERDecodable,
+    D: BERDecodable,
+    E: BERDecodable,
+    F: BERDecodable,
+    G: BERDecodable,
+> BERDecodable for (A, B, C, D, E, F, G) {
+    ghost encodes = { λ m n v b. Enclosed (PartOf A.encodes (PartOf B.encodes (PartOf C.encodes (PartOf D.encodes (PartOf E.encodes (PartOf F.encodes (PartOf G.encodes NoParts))))))) sequence_tag m n (v.0, (v.1, (v.2, (v.3, (v.4, (v.5, (v.6, tt))))))) b };
 
-    ghost shape_of = { λ v. record { parts = (v.0, (v.1, (v.2, (v.3, (v.4, (v.5, (v.6, tt))))))) } };
-}
+    ghost elements = { AnyEnclosed (AnyPart A.elements (AnyPart B.elements (AnyPart C.elements (AnyPart D.elements (AnyPart E.elements (AnyPart F.elements (AnyPart G.elements AnyNothing))))))) sequence_tag };
 
-impl<A, B, C, D, E, F, G> FromShape for (A, B, C, D, E, F, G) {
+    ghost asks_memory = { (A.asks_memory || (B.asks_memory || (C.asks_memory || (D.asks_memory || (E.asks_memory || (F.asks_memory || (G.asks_memory || false))))))) };
+
+    ghost same = { λ v w. SamePart A.same (SamePart B.same (SamePart C.same (SamePart D.same (SamePart E.same (SamePart F.same (SamePart G.same SameNothing)))))) (v.0, (v.1, (v.2, (v.3, (v.4, (v.5, (v.6, tt))))))) (w.0, (w.1, (w.2, (w.3, (w.4, (w.5, (w.6, tt))))))) };
+
     #[inline(always)]
-    fn from_shape(shape: Self::Shape) -> (A, B, C, D, E, F, G) {
-        let (a, (b, (c, (d, (e, (f, (g, ()))))))) = shape.parts;
-        (a, b, c, d, e, f, g)
+    fn decode_ber(reader: BERReader) -> ASN1Result<(A, B, C, D, E, F, G)> {
+        match read_long_tuple(reader) {
+            Ok(((a, b, c, d, e, f), (g, ()))) => Ok((a, b, c, d, e, f, g)),
+            Err(error) => Err(error),
+        }
     }
+
+    ghost coding = { tuple (λ v. (v.0, (v.1, (v.2, (v.3, (v.4, (v.5, (v.6, tt)))))))) (part A.coding (part B.coding (part C.coding (part D.coding (part E.coding (part F.coding (part G.coding no_part))))))) };
 }
 
 impl<
@@ -246,18 +306,33 @@ impl<
     ghost written = { tuple_written (λ v. (v.0, (v.1, (v.2, (v.3, (v.4, (v.5, (v.6, tt)))))))) (part_written A.written (part_written B.written (part_written C.written (part_written D.written (part_written E.written (part_written F.written (part_written G.written no_part_written))))))) };
 }
 
-impl<A, B, C, D, E, F, G, H> Shaped for (A, B, C, D, E, F, G, H) {
-    type Shape = InSequence<(A, (B, (C, (D, (E, (F, (G, (H, ()))))))))>;
+impl<
+    A: BERDecodable,
+    B: BERDecodable,
+    C: BERDecodable,
+    D: BERDecodable,
+    E: BERDecodable,
+    F: BERDecodable,
+    G: BERDecodable,
+    H: BERDecodable,
+> BERDecodable for (A, B, C, D, E, F, G, H) {
+    ghost encodes = { λ m n v b. Enclosed (PartOf A.encodes (PartOf B.encodes (PartOf C.encodes (PartOf D.encodes (PartOf E.encodes (PartOf F.encodes (PartOf G.encodes (PartOf H.encodes NoParts)))))))) sequence_tag m n (v.0, (v.1, (v.2, (v.3, (v.4, (v.5, (v.6, (v.7, tt)))))))) b };
 
-    ghost shape_of = { λ v. record { parts = (v.0, (v.1, (v.2, (v.3, (v.4, (v.5, (v.6, (v.7, tt)))))))) } };
-}
+    ghost elements = { AnyEnclosed (AnyPart A.elements (AnyPart B.elements (AnyPart C.elements (AnyPart D.elements (AnyPart E.elements (AnyPart F.elements (AnyPart G.elements (AnyPart H.elements AnyNothing)))))))) sequence_tag };
 
-impl<A, B, C, D, E, F, G, H> FromShape for (A, B, C, D, E, F, G, H) {
+    ghost asks_memory = { (A.asks_memory || (B.asks_memory || (C.asks_memory || (D.asks_memory || (E.asks_memory || (F.asks_memory || (G.asks_memory || (H.asks_memory || false)))))))) };
+
+    ghost same = { λ v w. SamePart A.same (SamePart B.same (SamePart C.same (SamePart D.same (SamePart E.same (SamePart F.same (SamePart G.same (SamePart H.same SameNothing))))))) (v.0, (v.1, (v.2, (v.3, (v.4, (v.5, (v.6, (v.7, tt)))))))) (w.0, (w.1, (w.2, (w.3, (w.4, (w.5, (w.6, (w.7, tt)))))))) };
+
     #[inline(always)]
-    fn from_shape(shape: Self::Shape) -> (A, B, C, D, E, F, G, H) {
-        let (a, (b, (c, (d, (e, (f, (g, (h, ())))))))) = shape.parts;
-        (a, b, c, d, e, f, g, h)
+    fn decode_ber(reader: BERReader) -> ASN1Result<(A, B, C, D, E, F, G, H)> {
+        match read_long_tuple(reader) {
+            Ok(((a, b, c, d, e, f), (g, (h, ())))) => Ok((a, b, c, d, e, f, g, h)),
+            Err(error) => Err(error),
+        }
     }
+
+    ghost coding = { tuple (λ v. (v.0, (v.1, (v.2, (v.3, (v.4, (v.5, (v.6, (v.7, tt))))))))) (part A.coding (part B.coding (part C.coding (part D.coding (part E.coding (part F.coding (part G.coding (part H.coding no_part)))))))) };
 }
 
 impl<
@@ -298,18 +373,34 @@ impl<
     ghost written = { tuple_written (λ v. (v.0, (v.1, (v.2, (v.3, (v.4, (v.5, (v.6, (v.7, tt))))))))) (part_written A.written (part_written B.written (part_written C.written (part_written D.written (part_written E.written (part_written F.written (part_written G.written (part_written H.written no_part_written)))))))) };
 }
 
-impl<A, B, C, D, E, F, G, H, I> Shaped for (A, B, C, D, E, F, G, H, I) {
-    type Shape = InSequence<(A, (B, (C, (D, (E, (F, (G, (H, (I, ())))))))))>;
+impl<
+    A: BERDecodable,
+    B: BERDecodable,
+    C: BERDecodable,
+    D: BERDecodable,
+    E: BERDecodable,
+    F: BERDecodable,
+    G: BERDecodable,
+    H: BERDecodable,
+    I: BERDecodable,
+> BERDecodable for (A, B, C, D, E, F, G, H, I) {
+    ghost encodes = { λ m n v b. Enclosed (PartOf A.encodes (PartOf B.encodes (PartOf C.encodes (PartOf D.encodes (PartOf E.encodes (PartOf F.encodes (PartOf G.encodes (PartOf H.encodes (PartOf I.encodes NoParts))))))))) sequence_tag m n (v.0, (v.1, (v.2, (v.3, (v.4, (v.5, (v.6, (v.7, (v.8, tt))))))))) b };
 
-    ghost shape_of = { λ v. record { parts = (v.0, (v.1, (v.2, (v.3, (v.4, (v.5, (v.6, (v.7, (v.8, tt))))))))) } };
-}
+    ghost elements = { AnyEnclosed (AnyPart A.elements (AnyPart B.elements (AnyPart C.elements (AnyPart D.elements (AnyPart E.elements (AnyPart F.elements (AnyPart G.elements (AnyPart H.elements (AnyPart I.elements AnyNothing))))))))) sequence_tag };
 
-impl<A, B, C, D, E, F, G, H, I> FromShape for (A, B, C, D, E, F, G, H, I) {
+    ghost asks_memory = { (A.asks_memory || (B.asks_memory || (C.asks_memory || (D.asks_memory || (E.asks_memory || (F.asks_memory || (G.asks_memory || (H.asks_memory || (I.asks_memory || false))))))))) };
+
+    ghost same = { λ v w. SamePart A.same (SamePart B.same (SamePart C.same (SamePart D.same (SamePart E.same (SamePart F.same (SamePart G.same (SamePart H.same (SamePart I.same SameNothing)))))))) (v.0, (v.1, (v.2, (v.3, (v.4, (v.5, (v.6, (v.7, (v.8, tt))))))))) (w.0, (w.1, (w.2, (w.3, (w.4, (w.5, (w.6, (w.7, (w.8, tt))))))))) };
+
     #[inline(always)]
-    fn from_shape(shape: Self::Shape) -> (A, B, C, D, E, F, G, H, I) {
-        let (a, (b, (c, (d, (e, (f, (g, (h, (i, ()))))))))) = shape.parts;
-        (a, b, c, d, e, f, g, h, i)
+    fn decode_ber(reader: BERReader) -> ASN1Result<(A, B, C, D, E, F, G, H, I)> {
+        match read_long_tuple(reader) {
+            Ok(((a, b, c, d, e, f), (g, (h, (i, ()))))) => Ok((a, b, c, d, e, f, g, h, i)),
+            Err(error) => Err(error),
+        }
     }
+
+    ghost coding = { tuple (λ v. (v.0, (v.1, (v.2, (v.3, (v.4, (v.5, (v.6, (v.7, (v.8, tt)))))))))) (part A.coding (part B.coding (part C.coding (part D.coding (part E.coding (part F.coding (part G.coding (part H.coding (part I.coding no_part))))))))) };
 }
 
 impl<
@@ -352,18 +443,35 @@ impl<
     ghost written = { tuple_written (λ v. (v.0, (v.1, (v.2, (v.3, (v.4, (v.5, (v.6, (v.7, (v.8, tt)))))))))) (part_written A.written (part_written B.written (part_written C.written (part_written D.written (part_written E.written (part_written F.written (part_written G.written (part_written H.written (part_written I.written no_part_written))))))))) };
 }
 
-impl<A, B, C, D, E, F, G, H, I, J> Shaped for (A, B, C, D, E, F, G, H, I, J) {
-    type Shape = InSequence<(A, (B, (C, (D, (E, (F, (G, (H, (I, (J, ()))))))))))>;
+impl<
+    A: BERDecodable,
+    B: BERDecodable,
+    C: BERDecodable,
+    D: BERDecodable,
+    E: BERDecodable,
+    F: BERDecodable,
+    G: BERDecodable,
+    H: BERDecodable,
+    I: BERDecodable,
+    J: BERDecodable,
+> BERDecodable for (A, B, C, D, E, F, G, H, I, J) {
+    ghost encodes = { λ m n v b. Enclosed (PartOf A.encodes (PartOf B.encodes (PartOf C.encodes (PartOf D.encodes (PartOf E.encodes (PartOf F.encodes (PartOf G.encodes (PartOf H.encodes (PartOf I.encodes (PartOf J.encodes NoParts)))))))))) sequence_tag m n (v.0, (v.1, (v.2, (v.3, (v.4, (v.5, (v.6, (v.7, (v.8, (v.9, tt)))))))))) b };
 
-    ghost shape_of = { λ v. record { parts = (v.0, (v.1, (v.2, (v.3, (v.4, (v.5, (v.6, (v.7, (v.8, (v.9, tt)))))))))) } };
-}
+    ghost elements = { AnyEnclosed (AnyPart A.elements (AnyPart B.elements (AnyPart C.elements (AnyPart D.elements (AnyPart E.elements (AnyPart F.elements (AnyPart G.elements (AnyPart H.elements (AnyPart I.elements (AnyPart J.elements AnyNothing)))))))))) sequence_tag };
 
-impl<A, B, C, D, E, F, G, H, I, J> FromShape for (A, B, C, D, E, F, G, H, I, J) {
+    ghost asks_memory = { (A.asks_memory || (B.asks_memory || (C.asks_memory || (D.asks_memory || (E.asks_memory || (F.asks_memory || (G.asks_memory || (H.asks_memory || (I.asks_memory || (J.asks_memory || false)))))))))) };
+
+    ghost same = { λ v w. SamePart A.same (SamePart B.same (SamePart C.same (SamePart D.same (SamePart E.same (SamePart F.same (SamePart G.same (SamePart H.same (SamePart I.same (SamePart J.same SameNothing))))))))) (v.0, (v.1, (v.2, (v.3, (v.4, (v.5, (v.6, (v.7, (v.8, (v.9, tt)))))))))) (w.0, (w.1, (w.2, (w.3, (w.4, (w.5, (w.6, (w.7, (w.8, (w.9, tt)))))))))) };
+
     #[inline(always)]
-    fn from_shape(shape: Self::Shape) -> (A, B, C, D, E, F, G, H, I, J) {
-        let (a, (b, (c, (d, (e, (f, (g, (h, (i, (j, ())))))))))) = shape.parts;
-        (a, b, c, d, e, f, g, h, i, j)
+    fn decode_ber(reader: BERReader) -> ASN1Result<(A, B, C, D, E, F, G, H, I, J)> {
+        match read_long_tuple(reader) {
+            Ok(((a, b, c, d, e, f), (g, (h, (i, (j, ())))))) => Ok((a, b, c, d, e, f, g, h, i, j)),
+            Err(error) => Err(error),
+        }
     }
+
+    ghost coding = { tuple (λ v. (v.0, (v.1, (v.2, (v.3, (v.4, (v.5, (v.6, (v.7, (v.8, (v.9, tt))))))))))) (part A.coding (part B.coding (part C.coding (part D.coding (part E.coding (part F.coding (part G.coding (part H.coding (part I.coding (part J.coding no_part)))))))))) };
 }
 
 impl<
@@ -408,18 +516,38 @@ impl<
     ghost written = { tuple_written (λ v. (v.0, (v.1, (v.2, (v.3, (v.4, (v.5, (v.6, (v.7, (v.8, (v.9, tt))))))))))) (part_written A.written (part_written B.written (part_written C.written (part_written D.written (part_written E.written (part_written F.written (part_written G.written (part_written H.written (part_written I.written (part_written J.written no_part_written)))))))))) };
 }
 
-impl<A, B, C, D, E, F, G, H, I, J, K> Shaped for (A, B, C, D, E, F, G, H, I, J, K) {
-    type Shape = InSequence<(A, (B, (C, (D, (E, (F, (G, (H, (I, (J, (K, ())))))))))))>;
+impl<
+    A: BERDecodable,
+    B: BERDecodable,
+    C: BERDecodable,
+    D: BERDecodable,
+    E: BERDecodable,
+    F: BERDecodable,
+    G: BERDecodable,
+    H: BERDecodable,
+    I: BERDecodable,
+    J: BERDecodable,
+    K: BERDecodable,
+> BERDecodable for (A, B, C, D, E, F, G, H, I, J, K) {
+    ghost encodes = { λ m n v b. Enclosed (PartOf A.encodes (PartOf B.encodes (PartOf C.encodes (PartOf D.encodes (PartOf E.encodes (PartOf F.encodes (PartOf G.encodes (PartOf H.encodes (PartOf I.encodes (PartOf J.encodes (PartOf K.encodes NoParts))))))))))) sequence_tag m n (v.0, (v.1, (v.2, (v.3, (v.4, (v.5, (v.6, (v.7, (v.8, (v.9, (v.10, tt))))))))))) b };
 
-    ghost shape_of = { λ v. record { parts = (v.0, (v.1, (v.2, (v.3, (v.4, (v.5, (v.6, (v.7, (v.8, (v.9, (v.10, tt))))))))))) } };
-}
+    ghost elements = { AnyEnclosed (AnyPart A.elements (AnyPart B.elements (AnyPart C.elements (AnyPart D.elements (AnyPart E.elements (AnyPart F.elements (AnyPart G.elements (AnyPart H.elements (AnyPart I.elements (AnyPart J.elements (AnyPart K.elements AnyNothing))))))))))) sequence_tag };
 
-impl<A, B, C, D, E, F, G, H, I, J, K> FromShape for (A, B, C, D, E, F, G, H, I, J, K) {
+    ghost asks_memory = { (A.asks_memory || (B.asks_memory || (C.asks_memory || (D.asks_memory || (E.asks_memory || (F.asks_memory || (G.asks_memory || (H.asks_memory || (I.asks_memory || (J.asks_memory || (K.asks_memory || false))))))))))) };
+
+    ghost same = { λ v w. SamePart A.same (SamePart B.same (SamePart C.same (SamePart D.same (SamePart E.same (SamePart F.same (SamePart G.same (SamePart H.same (SamePart I.same (SamePart J.same (SamePart K.same SameNothing)))))))))) (v.0, (v.1, (v.2, (v.3, (v.4, (v.5, (v.6, (v.7, (v.8, (v.9, (v.10, tt))))))))))) (w.0, (w.1, (w.2, (w.3, (w.4, (w.5, (w.6, (w.7, (w.8, (w.9, (w.10, tt))))))))))) };
+
     #[inline(always)]
-    fn from_shape(shape: Self::Shape) -> (A, B, C, D, E, F, G, H, I, J, K) {
-        let (a, (b, (c, (d, (e, (f, (g, (h, (i, (j, (k, ()))))))))))) = shape.parts;
-        (a, b, c, d, e, f, g, h, i, j, k)
+    fn decode_ber(reader: BERReader) -> ASN1Result<(A, B, C, D, E, F, G, H, I, J, K)> {
+        match read_long_tuple(reader) {
+            Ok(((a, b, c, d, e, f), (g, (h, (i, (j, (k, ()))))))) => Ok((
+                a, b, c, d, e, f, g, h, i, j, k,
+            )),
+            Err(error) => Err(error),
+        }
     }
+
+    ghost coding = { tuple (λ v. (v.0, (v.1, (v.2, (v.3, (v.4, (v.5, (v.6, (v.7, (v.8, (v.9, (v.10, tt)))))))))))) (part A.coding (part B.coding (part C.coding (part D.coding (part E.coding (part F.coding (part G.coding (part H.coding (part I.coding (part J.coding (part K.coding no_part))))))))))) };
 }
 
 impl<
@@ -466,18 +594,39 @@ impl<
     ghost written = { tuple_written (λ v. (v.0, (v.1, (v.2, (v.3, (v.4, (v.5, (v.6, (v.7, (v.8, (v.9, (v.10, tt)))))))))))) (part_written A.written (part_written B.written (part_written C.written (part_written D.written (part_written E.written (part_written F.written (part_written G.written (part_written H.written (part_written I.written (part_written J.written (part_written K.written no_part_written))))))))))) };
 }
 
-impl<A, B, C, D, E, F, G, H, I, J, K, L> Shaped for (A, B, C, D, E, F, G, H, I, J, K, L) {
-    type Shape = InSequence<(A, (B, (C, (D, (E, (F, (G, (H, (I, (J, (K, (L, ()))))))))))))>;
+impl<
+    A: BERDecodable,
+    B: BERDecodable,
+    C: BERDecodable,
+    D: BERDecodable,
+    E: BERDecodable,
+    F: BERDecodable,
+    G: BERDecodable,
+    H: BERDecodable,
+    I: BERDecodable,
+    J: BERDecodable,
+    K: BERDecodable,
+    L: BERDecodable,
+> BERDecodable for (A, B, C, D, E, F, G, H, I, J, K, L) {
+    ghost encodes = { λ m n v b. Enclosed (PartOf A.encodes (PartOf B.encodes (PartOf C.encodes (PartOf D.encodes (PartOf E.encodes (PartOf F.encodes (PartOf G.encodes (PartOf H.encodes (PartOf I.encodes (PartOf J.encodes (PartOf K.encodes (PartOf L.encodes NoParts)))))))))))) sequence_tag m n (v.0, (v.1, (v.2, (v.3, (v.4, (v.5, (v.6, (v.7, (v.8, (v.9, (v.10, (v.11, tt)))))))))))) b };
 
-    ghost shape_of = { λ v. record { parts = (v.0, (v.1, (v.2, (v.3, (v.4, (v.5, (v.6, (v.7, (v.8, (v.9, (v.10, (v.11, tt)))))))))))) } };
-}
+    ghost elements = { AnyEnclosed (AnyPart A.elements (AnyPart B.elements (AnyPart C.elements (AnyPart D.elements (AnyPart E.elements (AnyPart F.elements (AnyPart G.elements (AnyPart H.elements (AnyPart I.elements (AnyPart J.elements (AnyPart K.elements (AnyPart L.elements AnyNothing)))))))))))) sequence_tag };
 
-impl<A, B, C, D, E, F, G, H, I, J, K, L> FromShape for (A, B, C, D, E, F, G, H, I, J, K, L) {
+    ghost asks_memory = { (A.asks_memory || (B.asks_memory || (C.asks_memory || (D.asks_memory || (E.asks_memory || (F.asks_memory || (G.asks_memory || (H.asks_memory || (I.asks_memory || (J.asks_memory || (K.asks_memory || (L.asks_memory || false)))))))))))) };
+
+    ghost same = { λ v w. SamePart A.same (SamePart B.same (SamePart C.same (SamePart D.same (SamePart E.same (SamePart F.same (SamePart G.same (SamePart H.same (SamePart I.same (SamePart J.same (SamePart K.same (SamePart L.same SameNothing))))))))))) (v.0, (v.1, (v.2, (v.3, (v.4, (v.5, (v.6, (v.7, (v.8, (v.9, (v.10, (v.11, tt)))))))))))) (w.0, (w.1, (w.2, (w.3, (w.4, (w.5, (w.6, (w.7, (w.8, (w.9, (w.10, (w.11, tt)))))))))))) };
+
     #[inline(always)]
-    fn from_shape(shape: Self::Shape) -> (A, B, C, D, E, F, G, H, I, J, K, L) {
-        let (a, (b, (c, (d, (e, (f, (g, (h, (i, (j, (k, (l, ())))))))))))) = shape.parts;
-        (a, b, c, d, e, f, g, h, i, j, k, l)
+    fn decode_ber(reader: BERReader) -> ASN1Result<(A, B, C, D, E, F, G, H, I, J, K, L)> {
+        match read_long_tuple(reader) {
+            Ok(((a, b, c, d, e, f), (g, (h, (i, (j, (k, (l, ())))))))) => Ok((
+                a, b, c, d, e, f, g, h, i, j, k, l,
+            )),
+            Err(error) => Err(error),
+        }
     }
+
+    ghost coding = { tuple (λ v. (v.0, (v.1, (v.2, (v.3, (v.4, (v.5, (v.6, (v.7, (v.8, (v.9, (v.10, (v.11, tt))))))))))))) (part A.coding (part B.coding (part C.coding (part D.coding (part E.coding (part F.coding (part G.coding (part H.coding (part I.coding (part J.coding (part K.coding (part L.coding no_part)))))))))))) };
 }
 
 impl<
