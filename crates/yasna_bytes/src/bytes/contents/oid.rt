@@ -25,7 +25,8 @@ fn count(contents: &[u8]) -> usize {
     count
 }
 
-// The subidentifier at the front (X.690, 8.19.2).
+// The subidentifier at the front, however long (X.690, 8.19.2). It stays a call, so that the case of one byte is short where it
+// is inlined.
 #[inline(never)]
 fn longer(s: &[u8]) -> Result<(u64, &[u8]), ASN1ErrorKind>
     ensures { Base128At s.now result }
@@ -33,7 +34,7 @@ fn longer(s: &[u8]) -> Result<(u64, &[u8]), ASN1ErrorKind>
     read_base128(s)
 }
 
-// The same; most are a single byte.
+// The subidentifier at the front: most are a single byte, which is read where it stands.
 #[inline(always)]
 fn subidentifier(s: &[u8]) -> Result<(u64, &[u8]), ASN1ErrorKind>
     ensures { Base128At s.now result }
