@@ -23,7 +23,7 @@ use yasna_reader::{BERReader, BERReaderSeq};
 use yasna_writer::{DERWriter, DERWriterSeq};
 
 /// What a tuple's parts are read as.
-pub trait TupleParts: Sized + Drop {
+pub trait TupleParts: Sized {
     // Which contents encode the parts.
     ghost parts: { Grammar Self };
 
@@ -81,7 +81,7 @@ impl<A: BERDecodable, W: TupleParts> TupleParts for (A, W) {
 
 // Reads a SEQUENCE of these parts.
 #[inline(always)]
-fn read_tuple<W: TupleParts>(reader: BERReader) -> ASN1Result<W>
+fn read_tuple<W: TupleParts + Drop>(reader: BERReader) -> ASN1Result<W>
     requires { reader.old.tag ≡ None }
     ensures decodes { reader.old.kept ≡ None → Decodes W.parts_ask (Enclosed W.parts sequence_tag) (AnyEnclosed W.any_parts sequence_tag) reader.old result reader.new }
     ensures kept { RepeatsKept reader.old result reader.new }
@@ -97,7 +97,7 @@ fn read_long_tuple<
     D: BERDecodable,
     E: BERDecodable,
     F: BERDecodable,
-    W: TupleParts,
+    W: TupleParts + Drop,
 >(reader: BERReader) -> ASN1Result<((A, B, C, D, E, F), W)>
     requires { reader.old.tag ≡ None }
     ensures decodes { reader.old.kept ≡ None → Decodes (A.asks_memory || (B.asks_memory || (C.asks_memory || (D.asks_memory || (E.asks_memory || (F.asks_memory || W.parts_ask)))))) (λ m n v b. Enclosed (PartOf A.encodes (PartOf B.encodes (PartOf C.encodes (PartOf D.encodes (PartOf E.encodes (PartOf F.encodes W.parts)))))) sequence_tag m n (v.0.0, (v.0.1, (v.0.2, (v.0.3, (v.0.4, (v.0.5, v.1)))))) b) (AnyEnclosed (AnyPart A.elements (AnyPart B.elements (AnyPart C.elements (AnyPart D.elements (AnyPart E.elements (AnyPart F.elements W.any_parts)))))) sequence_tag) reader.old result reader.new }
@@ -179,7 +179,7 @@ pub struct InSequence<W> {
     pub parts: W,
 }
 
-impl<W: TupleParts> BERDecodable for InSequence<W> {
+impl<W: TupleParts + Drop> BERDecodable for InSequence<W> {
     ghost encodes = { λ m n v b. Enclosed W.parts sequence_tag m n v.parts b };
 
     ghost elements = { AnyEnclosed W.any_parts sequence_tag };

@@ -185,7 +185,10 @@ impl<A: CanonicalNotation> CanonicalParts for Last<A> {
     ghost written = { λ a. last_part_writes (A.written a).own };
 }
 
-impl<P: CanonicalParts> CanonicalNotation for Sequence<P> {
+impl<P: CanonicalParts> CanonicalNotation for Sequence<P>
+where
+    P::Values: Drop,
+{
     ghost written = { λ a. element_written sequence_tag (λ t _ range. enclosed_written t range (P.written a)) (not_end 16 (λ e. omega arith)) (omega arith) };
 }
 
@@ -197,7 +200,10 @@ impl<A: CanonicalNotation, W: CanonicalAlternatives> CanonicalAlternatives for (
     ghost written = { λ a. either_writes (λ b. (A.written b).own) W.written A.means.told (share_none A.means.tags W.tags) a };
 }
 
-impl<A: CanonicalAlternatives> CanonicalNotation for Choice<A> {
+impl<A: CanonicalAlternatives> CanonicalNotation for Choice<A>
+where
+    A::Value: Drop,
+{
     ghost written = { λ a. choice_written_as A.form_under (A.written a) };
 }
 

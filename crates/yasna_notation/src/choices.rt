@@ -30,7 +30,7 @@ pub enum Either<A, B> {
 /// The types of a CHOICE, as pairs that end in a type alone: `(i64, (bool, ((),)))` of an INTEGER, a BOOLEAN and a NULL.
 pub trait Alternatives {
     /// What its values are in Rust.
-    type Value: Drop;
+    type Value;
 
     /// The types of values that stand inside its own, which the type of its own doesn't name: bounds name them.
     type Inner;
@@ -186,7 +186,10 @@ pub struct Choice<A> {
     of: PhantomData<A>,
 }
 
-impl<A: Alternatives> Notation for Choice<A> {
+impl<A: Alternatives> Notation for Choice<A>
+where
+    A::Value: Drop,
+{
     type Value = A::Value;
 
     type Inner = A::Inner;

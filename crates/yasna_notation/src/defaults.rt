@@ -167,7 +167,7 @@ where
     ghost laws = { λ a. default_laws D.is D.default D.tells (λ b. (A.keeps b).own) W.laws a };
 }
 
-impl<'a, A: Notation, D: DefaultValue<A>, R: Drop, W: PartsBy<R>> PartsBy<(&'a A::Value, R)>
+impl<'a, A: Notation, D: DefaultValue<A>, R, W: PartsBy<R>> PartsBy<(&'a A::Value, R)>
     for (Default<A, D>, W)
 where
     A::Value: Eq,
@@ -175,9 +175,9 @@ where
     ghost held = { λ r. (r.0.now, W.held r.1) };
 
     #[inline(always)]
-    fn write_each(fields: (&'a A::Value, R), seq: &mut DERWriterSeq) -> ASN1Result<()> {
+    fn write_each(fields: &(&'a A::Value, R), seq: &mut DERWriterSeq) -> ASN1Result<()> {
         write_unless_default::<A, D>(fields.0, seq)?;
-        W::write_each(fields.1, seq)
+        W::write_each(&fields.1, seq)
     }
 }
 

@@ -63,7 +63,7 @@ impl<'a, A: Notation> PartsBy<&'a Option<A::Value>> for Last<A> {
     ghost held = { λ r. r.now };
 
     #[inline(always)]
-    fn write_each(fields: &'a Option<A::Value>, seq: &mut DERWriterSeq) -> ASN1Result<()> {
-        write_optional::<A>(fields, seq)
+    fn write_each(fields: &&'a Option<A::Value>, seq: &mut DERWriterSeq) -> ASN1Result<()> {
+        write_optional::<A>(*fields, seq)
     }
 }

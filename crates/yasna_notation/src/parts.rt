@@ -23,7 +23,7 @@ use yasna_writer::DERWriterSeq;
 /// The parts of a SEQUENCE, as pairs that end in `()`: `(i64, (Optional<bool>, ()))` of an INTEGER and a BOOLEAN OPTIONAL.
 pub trait Parts {
     /// What their values are in Rust: pairs that end in `()` too.
-    type Values: Drop;
+    type Values;
 
     /// The types of values that stand inside its own, which the type of its own doesn't name: bounds name them.
     type Inner;
@@ -239,37 +239,36 @@ pub trait PartsBy<R>: Parts {
     ghost held: { R → Self.Values };
 
     /// Writes the parts.
-    fn write_each(fields: R, seq: &mut DERWriterSeq) -> ASN1Result<()>
-        requires { Self.can (held fields) }
-        ensures { WroteParts (Self.form seq.old.mode (held fields)) seq.old seq.new result };
+    fn write_each(fields: &R, seq: &mut DERWriterSeq) -> ASN1Result<()>
+        requires { Self.can (held fields.now) }
+        ensures { WroteParts (Self.form seq.old.mode (held fields.now)) seq.old seq.new result };
 }
 
 impl PartsBy<()> for () {
     ghost held = { λ r. tt };
 
     #[inline(always)]
-    fn write_each(_fields: (), _seq: &mut DERWriterSeq) -> ASN1Result<()> {
+    fn write_each(_fields: &(), _seq: &mut DERWriterSeq) -> ASN1Result<()> {
         Ok(())
     }
 }
 
-impl<'a, A: Notation, R: Drop, W: PartsBy<R>> PartsBy<(&'a A::Value, R)> for (A, W) {
+impl<'a, A: Notation, R, W: PartsBy<R>> PartsBy<(&'a A::Value, R)> for (A, W) {
     ghost held = { λ r. (r.0.now, W.held r.1) };
 
     #[inline(always)]
-    fn write_each(fields: (&'a A::Value, R), seq: &mut DERWriterSeq) -> ASN1Result<()> {
+    fn write_each(fields: &(&'a A::Value, R), seq: &mut DERWriterSeq) -> ASN1Result<()> {
         A::write(fields.0, seq.next())?;
-        W::write_each(fields.1, seq)
+        W::write_each(&fields.1, seq)
     }
 }
 
-impl<'a, A: Notation, R: Drop, W: PartsBy<R>> PartsBy<(&'a Option<A::Value>, R)>
-    for (Optional<A>, W) {
+impl<'a, A: Notation, R, W: PartsBy<R>> PartsBy<(&'a Option<A::Value>, R)> for (Optional<A>, W) {
     ghost held = { λ r. (r.0.now, W.held r.1) };
 
     #[inline(always)]
-    fn write_each(fields: (&'a Option<A::Value>, R), seq: &mut DERWriterSeq) -> ASN1Result<()> {
+    fn write_each(fields: &(&'a Option<A::Value>, R), seq: &mut DERWriterSeq) -> ASN1Result<()> {
         write_optional::<A>(fields.0, seq)?;
-        W::write_each(fields.1, seq)
+        W::write_each(&fields.1, seq)
     }
 }

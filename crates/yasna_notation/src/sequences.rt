@@ -26,7 +26,10 @@ pub struct Sequence<P> {
     of: PhantomData<P>,
 }
 
-impl<P: Parts> Notation for Sequence<P> {
+impl<P: Parts> Notation for Sequence<P>
+where
+    P::Values: Drop,
+{
     type Value = P::Values;
 
     type Inner = P::Inner;
@@ -76,6 +79,6 @@ impl<P> Sequence<P> {
         requires { P.can (P.held fields) }
         ensures { Writes (enclosed_form P.form (tag_or writer.old.tag sequence_tag) writer.old.mode (P.held fields)) writer.old writer.new result }
     {
-        writer.write_sequence(|seq| P::write_each(fields, seq))
+        writer.write_sequence(|seq| P::write_each(&fields, seq))
     }
 }
