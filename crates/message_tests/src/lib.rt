@@ -6,6 +6,7 @@
 //! | `keys` | private keys, and signed and enveloped contents, of `pkcs8` and `cms` |
 //! | `ldap_messages` | messages of `ldap` |
 //! | `messages` | types of `x509` and `snmp`, which are made of types |
+//! | `parts` | a SEQUENCE of parts that are pairs |
 //! | `snmp_messages` | messages of `snmp` |
 #![tactic(auto)]
 
@@ -17,5 +18,7 @@ mod keys;
 mod ldap_messages;
 #[cfg(test)]
 mod messages;
+#[cfg(test)]
+mod parts;
 #[cfg(test)]
 mod snmp_messages;
