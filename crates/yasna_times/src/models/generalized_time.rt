@@ -1,5 +1,5 @@
 //! GeneralizedTime (X.680, 46; X.690, 11.7). Users make and read it; readers and writers of times call it.
-ghost use Rattle.std.specs.Prelude.{◌≡◌, ◌↔◌, ◌<◌, ◌≤◌, ◌++◌, [], ℕ, ℤ, Option, None, Some, IfOk, IfErr, IsTrue, List, OnOk, MatchOption, length, string_bytes};
+ghost use Rattle.std.specs.Prelude.{◌≡◌, ◌↔◌, ◌<◌, ◌≤◌, ◌/◌, ◌%◌, ◌++◌, [], ℕ, ℤ, Option, None, Some, IfOk, IfErr, IsTrue, List, OnOk, MatchOption, length, string_bytes, unsigned_abs};
 ghost use Rattle.yasna_times.specs.Decimal.{AreDigits};
 ghost use Rattle.yasna_times.specs.Fraction.{IsTrimmed, nine_digits, trimmed};
 ghost use Rattle.yasna_times.specs.GeneralizedTime.{HasLongFraction, IsFlagged, IsGeneralText, IsInYears, HasGeneralizedTime, clock_digits, general_text, part_digits, point_digits};
@@ -271,13 +271,29 @@ impl GeneralizedTime {
         }
     }
 
+    // The first two digits of the year, as a number.
+    fn century(&self) -> u8
+        ensures value { result ≡ unsigned_abs (moment_of self.now).date.year / 100 }
+        ensures bound { result < 100 }
+    {
+        (self.datetime.year() / 100) as u8
+    }
+
+    // The last two.
+    fn year_of_century(&self) -> u8
+        ensures value { result ≡ unsigned_abs (moment_of self.now).date.year % 100 }
+        ensures bound { result < 100 }
+    {
+        (self.datetime.year() % 100) as u8
+    }
+
     // The fourteen digits of the clock.
     fn clock(&self) -> [u8; 14]
         ensures { result ≡ clock_digits (moment_of self.now) }
     {
         let dt = self.datetime;
-        let high = (dt.year() / 100) as u8;
-        let low = (dt.year() % 100) as u8;
+        let high = self.century();
+        let low = self.year_of_century();
         let month = dt.month() as u8;
         let day = dt.day() as u8;
         let hour = dt.hour() as u8;
