@@ -45,29 +45,27 @@ pub enum Expected {
 
 impl fmt::Display for Expected {
     fn fmt<W: fmt::Write>(&self, f: &mut fmt::Formatter<W>) -> fmt::Result {
-        match self {
-            Expected::Element => write!(f, "an element"),
-            Expected::TagNumber => write!(f, "the rest of a tag number"),
-            Expected::ShortestTagNumber => {
-                write!(f, "a tag number of 31 or more in the fewest octets")
-            }
-            Expected::SmallTagNumber => write!(f, "a tag number below 2^64"),
-            Expected::NoEnd => write!(f, "an element, no end of contents"),
-            Expected::End => write!(f, "the two zeros that end contents"),
-            Expected::FewerLevels => write!(f, "at most 101 levels of elements"),
-            Expected::Length => write!(f, "length octets"),
-            Expected::ShortestLength => write!(f, "a length in the fewest octets"),
-            Expected::SmallLength => write!(f, "a length below 2^64"),
-            Expected::CountedLength => write!(f, "a length that is counted"),
-            Expected::IndefiniteLength => write!(f, "a constructed element of indefinite length"),
+        f.write_str(match self {
+            Expected::Element => "an element",
+            Expected::TagNumber => "the rest of a tag number",
+            Expected::ShortestTagNumber => "a tag number of 31 or more in the fewest octets",
+            Expected::SmallTagNumber => "a tag number below 2^64",
+            Expected::NoEnd => "an element, no end of contents",
+            Expected::End => "the two zeros that end contents",
+            Expected::FewerLevels => "at most 101 levels of elements",
+            Expected::Length => "length octets",
+            Expected::ShortestLength => "a length in the fewest octets",
+            Expected::SmallLength => "a length below 2^64",
+            Expected::CountedLength => "a length that is counted",
+            Expected::IndefiniteLength => "a constructed element of indefinite length",
             Expected::Contents(size, left) => {
-                write!(f, "{size} octets of contents, of which {left} are there")
+                return write!(f, "{size} octets of contents, of which {left} are there");
             }
-            Expected::HexDigits => write!(f, "pairs of hexadecimal digits"),
-            Expected::Base64 => write!(f, "base64"),
-            Expected::Block => write!(f, "a line that begins a block of PEM"),
-            Expected::BlockEnd => write!(f, "a line that ends the block of PEM"),
-        }
+            Expected::HexDigits => "pairs of hexadecimal digits",
+            Expected::Base64 => "base64",
+            Expected::Block => "a line that begins a block of PEM",
+            Expected::BlockEnd => "a line that ends the block of PEM",
+        })
     }
 }
 
@@ -97,8 +95,8 @@ impl fmt::Display for Fault {
                 kind,
                 expected,
             } => write!(f, "offset {offset}: {kind:?}: expected {expected}"),
-            Fault::Memory => write!(f, "no memory"),
-            Fault::Output => write!(f, "the output could not be written"),
+            Fault::Memory => f.write_str("no memory"),
+            Fault::Output => f.write_str("the output could not be written"),
         }
     }
 }
