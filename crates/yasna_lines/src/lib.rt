@@ -9,6 +9,7 @@
 //! | `value` | what primitive elements say |
 //! | `sets` | the order of a SET OF, and how CER cuts strings |
 //! | `remark` | what is said behind a line, and in which encoding rules the whole is |
+//! | `output` | where lines are written |
 //! | `names` | names of types and of object identifiers |
 //! | `printer` | the lines |
 //! | `lines` | an input from its text to its lines |
@@ -18,6 +19,7 @@ mod input;
 mod kind;
 mod lines;
 mod names;
+mod output;
 mod printer;
 mod remark;
 mod sets;

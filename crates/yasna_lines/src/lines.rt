@@ -5,6 +5,7 @@ ghost use Rattle.yasna_lines.specs.declared.input.Form.TheVariants.{Bytes};
 
 use crate::input::{Block, Form, PemReader, decode_hex, form_of};
 use crate::names::Names;
+use crate::output::Output;
 use crate::printer::Printer;
 use crate::value::{Style, write_quoted};
 use std::alloc::Global;
@@ -15,7 +16,7 @@ use yasna_listing::fault::{Expected, Fault};
 use yasna_listing::listing::list_input;
 
 // Lists the elements of bytes, and in which encoding rules they are.
-fn show_bytes<W: Write>(
+fn show_bytes<W: Output>(
     out: &mut W,
     mode: BERMode,
     style: Style<'_>,
@@ -29,17 +30,35 @@ fn show_bytes<W: Write>(
     printer.finish()
 }
 
-fn show_block<W: Write>(
+fn show_block<W: Output>(
     out: &mut W,
     mode: BERMode,
     style: Style<'_>,
     block: &Block<'_>,
 ) -> Result<(), Fault> {
     let count = block.bytes.len();
-    write!(out, "input: PEM ")?;
+    out.write_str("input: PEM ")?;
     write_quoted(out, block.label)?;
     writeln!(out, ", {count} bytes")?;
     show_bytes(out, mode, style, block.bytes.as_slice())
+}
+
+// Takes a line of PEM, and lists the elements of the block that ends with it, if one does.
+fn show_line<'a, W: Output>(
+    out: &mut W,
+    mode: BERMode,
+    style: Style<'_>,
+    reader: &mut PemReader<'a>,
+    line: &'a [u8],
+    offset: usize,
+) -> Result<bool, Fault> {
+    match reader.push(line, offset)? {
+        Some(block) => {
+            show_block(out, mode, style, &block)?;
+            Ok(true)
+        }
+        None => Ok(false),
+    }
 }
 
 fn missing(offset: usize, expected: Expected) -> Fault {
@@ -50,7 +69,7 @@ fn missing(offset: usize, expected: Expected) -> Fault {
     }
 }
 
-fn show_blocks<W: Write>(
+fn show_blocks<W: Output>(
     out: &mut W,
     mode: BERMode,
     style: Style<'_>,
@@ -61,8 +80,7 @@ fn show_blocks<W: Write>(
     let mut is_any = false;
     for line in input.split(|octet| *octet == b'\n') {
         offset = offset.saturating_add(line.len());
-        if let Some(block) = reader.push(line, offset)? {
-            show_block(out, mode, style, &block)?;
+        if show_line(out, mode, style, &mut reader, line, offset)? {
             is_any = true;
         }
         offset = offset.saturating_add(1);
@@ -78,7 +96,7 @@ fn show_blocks<W: Write>(
 }
 
 // Lists the elements of an input of this form.
-fn show_form<W: Write>(
+fn show_form<W: Output>(
     out: &mut W,
     mode: BERMode,
     form: Form,

@@ -2,10 +2,10 @@
 
 use crate::kind::{Kind, kind_of};
 use crate::names::type_name;
+use crate::output::Output;
 use crate::remark::{Remark, Verdict};
 use crate::sets::{are_cer_segments, is_out_of_order, stays_whole};
 use crate::value::{Style, write_value};
-use std::io::Write;
 use yasna_base::tag::{PCBit, Tag, TagClass};
 use yasna_base::tags::{TAG_BITSTRING, TAG_OCTETSTRING};
 use yasna_listing::fault::Fault;
@@ -31,7 +31,7 @@ impl Listener for Silent {
 
 /// Prints a line for each element.
 #[derive(Drop)]
-pub struct Printer<'o, 'n, W: Write> {
+pub struct Printer<'o, 'n, W: Output> {
     out: &'o mut W,
     style: Style<'n>,
     verdict: Verdict,
@@ -41,7 +41,7 @@ pub struct Printer<'o, 'n, W: Write> {
     is_segment: bool,
 }
 
-impl<'o, 'n, W: Write> Printer<'o, 'n, W> {
+impl<'o, 'n, W: Output> Printer<'o, 'n, W> {
     /// Prints to `out`.
     pub fn new(out: &'o mut W, style: Style<'n>) -> Printer<'o, 'n, W> {
         Printer {
@@ -56,32 +56,35 @@ impl<'o, 'n, W: Write> Printer<'o, 'n, W> {
     /// Prints in which encoding rules the elements are.
     pub fn finish(self) -> Result<(), Fault> {
         let Printer { out, verdict, .. } = self;
-        writeln!(out, "rules: {verdict}")?;
-        Ok(())
+        writeln!(out, "rules: {verdict}")
     }
 
     fn print_tag(&mut self, tag: Tag) -> Result<(), Fault> {
         let number = tag.tag_number;
         match tag.tag_class {
             TagClass::Universal => match type_name(number) {
-                Some(name) => write!(self.out, "{name}")?,
-                None => write!(self.out, "[UNIVERSAL {number}]")?,
+                Some(name) => self.out.write_str(name),
+                None => write!(self.out, "[UNIVERSAL {number}]"),
             },
-            TagClass::Application => write!(self.out, "[APPLICATION {number}]")?,
-            TagClass::ContextSpecific => write!(self.out, "[{number}]")?,
-            TagClass::Private => write!(self.out, "[PRIVATE {number}]")?,
+            TagClass::Application => write!(self.out, "[APPLICATION {number}]"),
+            TagClass::ContextSpecific => write!(self.out, "[{number}]"),
+            TagClass::Private => write!(self.out, "[PRIVATE {number}]"),
         }
-        Ok(())
     }
 
-    // The place, the lengths and the tag of an element.
-    fn print_head(&mut self, item: &Item<'_>) -> Result<(), Fault> {
+    // The place of an element, and its lengths.
+    fn print_place(&mut self, item: &Item<'_>) -> Result<(), Fault> {
         let offset = item.offset;
         let header = item.header;
         match item.size {
-            Some(size) => write!(self.out, "{offset:>7} {header:>2}+{size:<7}")?,
-            None => write!(self.out, "{offset:>7} {header:>2}+{:<7}", "indef")?,
+            Some(size) => write!(self.out, "{offset:>7} {header:>2}+{size:<7}"),
+            None => write!(self.out, "{offset:>7} {header:>2}+indef  "),
         }
+    }
+
+    // The same, and its tag.
+    fn print_head(&mut self, item: &Item<'_>) -> Result<(), Fault> {
+        self.print_place(item)?;
         let mark = if item.is_within { ">" } else { " " };
         let indent = 2 * usize::from(item.depth);
         write!(self.out, "{mark} {:indent$}", "")?;
@@ -103,9 +106,23 @@ impl<'o, 'n, W: Write> Printer<'o, 'n, W> {
         *self.around.as_slice().last()?
     }
 
+    // Whether an element may stand there: where a segment is to be, it has the tag of one.
+    fn is_wanted(&mut self, item: &Item<'_>) -> bool {
+        let wanted = self.segment_tag(item.depth);
+        self.is_segment = wanted.is_some();
+        wanted.is_none() || wanted == Some(item.tag)
+    }
+
+    fn print_contents(&mut self, item: &Item<'_>, kind: Kind) -> Result<(), Fault> {
+        match item.bit {
+            PCBit::Primitive => self.print_primitive(item, kind),
+            PCBit::Constructed => self.remark_constructed(item, kind),
+        }
+    }
+
     fn print_primitive(&mut self, item: &Item<'_>, kind: Kind) -> Result<(), Fault> {
         if !matches!(kind, Kind::Null) {
-            write!(self.out, " ")?;
+            self.out.write_str(" ")?;
         }
         if let Some(remark) = write_value(self.out, self.style, kind, item.contents)? {
             self.remark(item, remark)?;
@@ -123,18 +140,15 @@ impl<'o, 'n, W: Write> Printer<'o, 'n, W> {
             self.verdict.exclude_cer();
         }
         if kind.is_string() {
-            self.remark(item, Remark::Segments)?;
             if !item.is_within && !are_cer_segments(item.contents) {
                 self.verdict.exclude_cer();
             }
-        } else if matches!(kind, Kind::Set) {
-            if is_out_of_order(item.contents) {
-                self.remark(item, Remark::Order)?;
-            }
-        } else if !kind.has_parts() && !matches!(kind, Kind::Unknown) {
-            self.remark(item, Remark::HasParts)?;
+            return self.remark(item, Remark::Segments);
         }
-        Ok(())
+        match remark_of(kind, item.contents) {
+            Some(remark) => self.remark(item, remark),
+            None => Ok(()),
+        }
     }
 }
 
@@ -145,6 +159,16 @@ fn segments_of(bit: PCBit, kind: Kind) -> Option<Tag> {
         (PCBit::Constructed, Kind::Bits) => Some(TAG_BITSTRING),
         (PCBit::Constructed, _) if kind.is_string() => Some(TAG_OCTETSTRING),
         (PCBit::Constructed, _) => None,
+    }
+}
+
+// What is wrong with a constructed element of this kind, which is no string.
+fn remark_of(kind: Kind, contents: &[u8]) -> Option<Remark> {
+    match kind {
+        Kind::Set if is_out_of_order(contents) => Some(Remark::Order),
+        Kind::Set | Kind::Unknown => None,
+        _ if kind.has_parts() => None,
+        _ => Some(Remark::HasParts),
     }
 }
 
@@ -166,7 +190,15 @@ fn identifier_length(number: u64) -> usize {
     1 + bits.div_ceil(7) as usize
 }
 
-impl<'o, 'n, W: Write> Listener for Printer<'o, 'n, W> {
+// Whether an element's length takes more octets than it needs.
+fn is_long(item: &Item<'_>) -> bool {
+    let Some(size) = item.size else {
+        return false;
+    };
+    item.header > identifier_length(item.tag.tag_number).saturating_add(shortest_length(size))
+}
+
+impl<'o, 'n, W: Output> Listener for Printer<'o, 'n, W> {
     ghost use Rattle.std.specs.Prelude.{None};
 
     ghost heard = { λ _. None };
@@ -174,26 +206,15 @@ impl<'o, 'n, W: Write> Listener for Printer<'o, 'n, W> {
     fn hear(&mut self, item: &Item<'_>) -> Result<(), Fault> {
         let kind = kind_of(item.tag);
         self.print_head(item)?;
-        match item.bit {
-            PCBit::Primitive => self.print_primitive(item, kind)?,
-            PCBit::Constructed => self.remark_constructed(item, kind)?,
+        self.print_contents(item, kind)?;
+        if is_long(item) {
+            self.remark(item, Remark::LongLength)?;
         }
-        if let Some(size) = item.size {
-            let shortest = identifier_length(item.tag.tag_number).saturating_add(shortest_length(
-                size,
-            ));
-            if item.header > shortest {
-                self.remark(item, Remark::LongLength)?;
-            }
-        }
-        let wanted = self.segment_tag(item.depth);
-        self.is_segment = wanted.is_some();
-        if self.is_segment && wanted != Some(item.tag) {
+        if !self.is_wanted(item) {
             self.remark(item, Remark::Segment)?;
         }
         self.around.push(segments_of(item.bit, kind))?;
-        writeln!(self.out)?;
-        Ok(())
+        self.out.write_str("\n")
     }
 
     // Where one whole element stands there.

@@ -8,12 +8,12 @@ mod time;
 
 use crate::kind::{Characters, Kind};
 use crate::names::Names;
+use crate::output::Output;
 use crate::remark::Remark;
 use arcs::{are_components, write_oid, write_relative};
 use number::write_integer;
 use octets::{are_bits, is_padding_clear, write_bits, write_octets};
 use std::alloc::Global;
-use std::io::Write;
 use std::str;
 pub use text::write_quoted;
 use text::{are_wide, write_utf8, write_wide};
@@ -37,16 +37,18 @@ fn unless(is_so: bool, remark: Remark) -> Option<Remark> {
     if is_so { None } else { Some(remark) }
 }
 
-fn write_boolean<W: Write>(out: &mut W, contents: &[u8]) -> Result<Option<Remark>, Fault> {
+fn write_boolean<W: Output>(out: &mut W, contents: &[u8]) -> Result<Option<Remark>, Fault> {
     match contents {
-        [0] => write!(out, "FALSE")?,
-        [value] => {
-            write!(out, "TRUE")?;
-            return Ok(unless(*value == 255, Remark::Truth));
+        [0] => {
+            out.write_str("FALSE")?;
+            Ok(None)
         }
-        _ => return Ok(Some(Remark::Boolean)),
+        [value] => {
+            out.write_str("TRUE")?;
+            Ok(unless(*value == 255, Remark::Truth))
+        }
+        _ => Ok(Some(Remark::Boolean)),
     }
-    Ok(None)
 }
 
 // Whether contents are those of a number in two's complement (X.690, 8.3.2).
@@ -73,7 +75,7 @@ fn are_characters(characters: Characters, octets: &[u8]) -> bool {
     }
 }
 
-fn write_text<W: Write>(
+fn write_text<W: Output>(
     out: &mut W,
     characters: Characters,
     octets: &[u8],
@@ -87,7 +89,7 @@ fn write_text<W: Write>(
     Ok(unless(are_characters(characters, octets), Remark::Characters))
 }
 
-fn write_bit_string<W: Write>(
+fn write_bit_string<W: Output>(
     out: &mut W,
     style: Style<'_>,
     contents: &[u8],
@@ -100,7 +102,7 @@ fn write_bit_string<W: Write>(
 }
 
 /// Writes what the contents of a primitive element of this kind say, and tells what is wrong with them.
-pub fn write_value<W: Write>(
+pub fn write_value<W: Output>(
     out: &mut W,
     style: Style<'_>,
     kind: Kind,
@@ -144,7 +146,7 @@ pub fn write_value<W: Write>(
 // A number of more octets is written in hexadecimal: to write it in decimal would take long.
 const LONGEST_DECIMAL: usize = 2048;
 
-fn write_integer_or_octets<W: Write>(
+fn write_integer_or_octets<W: Output>(
     out: &mut W,
     style: Style<'_>,
     contents: &[u8],

@@ -1,9 +1,9 @@
 //! Object identifiers with their dots (X.690, 8.19 and 8.20).
 
 use crate::names::Names;
+use crate::output::Output;
 use crate::value::number::write_base128;
 use std::alloc::Global;
-use std::io::Write;
 use yasna_base::bytes::base128::read_base128;
 use yasna_listing::fault::Fault;
 
@@ -22,55 +22,45 @@ pub fn are_components(contents: &[u8]) -> bool {
             .all(|component| component.first() != Some(&128))
 }
 
-fn write_component<W: Write>(out: &mut W, alloc: Global, component: &[u8]) -> Result<(), Fault> {
+fn write_component<W: Output>(out: &mut W, alloc: Global, component: &[u8]) -> Result<(), Fault> {
     match read_base128(component) {
-        Ok((number, [])) => write!(out, "{number}")?,
+        Ok((number, [])) => write!(out, "{number}"),
         _ if component.len() > LONGEST_COMPONENT => {
             let size = component.len();
-            write!(out, "({size} octets)")?;
+            write!(out, "({size} octets)")
         }
-        _ => write_base128(out, alloc, component)?,
+        _ => write_base128(out, alloc, component),
     }
-    Ok(())
 }
 
 // The first two components stand in one.
-fn write_first<W: Write>(out: &mut W, first: &[u8]) -> Result<(), Fault> {
-    match read_base128(first) {
-        Ok((number, _)) if number < 40 => write!(out, "0.{number}")?,
-        Ok((number, _)) if number < 80 => {
-            let second = number - 40;
-            write!(out, "1.{second}")?;
-        }
-        Ok((number, _)) => {
-            let second = number.saturating_sub(80);
-            write!(out, "2.{second}")?;
-        }
-        Err(_) => {
-            let size = first.len();
-            write!(out, "2.({size} octets)")?;
-        }
-    }
-    Ok(())
+fn write_first<W: Output>(out: &mut W, first: &[u8]) -> Result<(), Fault> {
+    let Ok((number, _)) = read_base128(first) else {
+        let size = first.len();
+        return write!(out, "2.({size} octets)");
+    };
+    let root = (number / 40).min(2);
+    let second = number - 40 * root;
+    write!(out, "{root}.{second}")
 }
 
 /// Writes components with dots between them.
-pub fn write_relative<W: Write>(out: &mut W, alloc: Global, contents: &[u8]) -> Result<(), Fault> {
+pub fn write_relative<W: Output>(out: &mut W, alloc: Global, contents: &[u8]) -> Result<(), Fault> {
     for (number, component) in contents.split_inclusive(|octet| *octet < 128).enumerate() {
         if number > 0 {
-            write!(out, ".")?;
+            out.write_str(".")?;
         }
         write_component(out, alloc, component)?;
     }
     Ok(())
 }
 
-fn write_absolute<W: Write>(out: &mut W, alloc: Global, contents: &[u8]) -> Result<(), Fault> {
+fn write_absolute<W: Output>(out: &mut W, alloc: Global, contents: &[u8]) -> Result<(), Fault> {
     for (number, component) in contents.split_inclusive(|octet| *octet < 128).enumerate() {
         if number == 0 {
             write_first(out, component)?;
         } else {
-            write!(out, ".")?;
+            out.write_str(".")?;
             write_component(out, alloc, component)?;
         }
     }
@@ -78,7 +68,7 @@ fn write_absolute<W: Write>(out: &mut W, alloc: Global, contents: &[u8]) -> Resu
 }
 
 /// Writes an object identifier, and its usual name where it has one.
-pub fn write_oid<W: Write>(
+pub fn write_oid<W: Output>(
     out: &mut W,
     alloc: Global,
     names: &Names,
@@ -90,8 +80,8 @@ pub fn write_oid<W: Write>(
     let mut text = Vec::new(alloc);
     write_absolute(&mut text, alloc, contents)?;
     out.write_all(text.as_slice())?;
-    if let Some(name) = names.find(text.as_slice()) {
-        write!(out, " {name}")?;
+    match names.find(text.as_slice()) {
+        Some(name) => write!(out, " {name}"),
+        None => Ok(()),
     }
-    Ok(())
 }

@@ -1,32 +1,34 @@
 //! Octets and bits in hexadecimal, as X.680 writes them.
 
+use crate::output::Output;
 use std::alloc::Global;
-use std::io::Write;
 use yasna_listing::fault::Fault;
 
 // So many octets are turned into text at once.
 const PIECE: usize = 64;
 
 /// Writes octets in hexadecimal, cut to so many digits.
-pub fn write_octets<W: Write>(
+pub fn write_octets<W: Output>(
     out: &mut W,
     alloc: Global,
     octets: &[u8],
     width: usize,
 ) -> Result<(), Fault> {
     let shown = octets.get(..width / 2).unwrap_or(octets);
-    write!(out, "'")?;
+    out.write_str("'")?;
     for piece in shown.chunks(PIECE) {
         let digits = hex::encode_upper(alloc, piece)?;
-        out.write_all(digits.as_bytes())?;
+        out.write_str(&digits)?;
     }
-    let cut = if shown.len() < octets.len() { ".." } else { "" };
-    write!(out, "{cut}'H")?;
-    Ok(())
+    out.write_str(if shown.len() < octets.len() {
+        "..'H"
+    } else {
+        "'H"
+    })
 }
 
 /// Writes the contents of a BIT STRING: its octets, and how many bits of the last are unused.
-pub fn write_bits<W: Write>(
+pub fn write_bits<W: Output>(
     out: &mut W,
     alloc: Global,
     contents: &[u8],
@@ -36,10 +38,10 @@ pub fn write_bits<W: Write>(
         return write_octets(out, alloc, contents, width);
     };
     write_octets(out, alloc, octets, width)?;
-    if *unused > 0 {
-        write!(out, " less {unused} bits")?;
+    if *unused == 0 {
+        return Ok(());
     }
-    Ok(())
+    write!(out, " less {unused} bits")
 }
 
 /// Whether contents are those of a BIT STRING: a count of unused bits, and octets that have as many.

@@ -2,7 +2,7 @@
 
 ghost use Rattle.std.specs.Prelude.{◌<◌};
 
-use std::io::Write;
+use crate::output::Output;
 use std::str;
 use yasna_listing::fault::Fault;
 
@@ -26,34 +26,35 @@ fn needs_escape(c: char) -> bool {
     c == '"' || c == '\\' || c.is_control() || is_hidden(c)
 }
 
-fn write_escape<W: Write>(out: &mut W, code: u32) -> Result<(), Fault> {
-    match code {
-        34 => write!(out, "\\\"")?,
-        92 => write!(out, "\\\\")?,
-        9 => write!(out, "\\t")?,
-        10 => write!(out, "\\n")?,
-        13 => write!(out, "\\r")?,
-        _ => write!(out, "\\u{{{code:X}}}")?,
-    }
-    Ok(())
+fn write_escape<W: Output>(out: &mut W, code: u32) -> Result<(), Fault> {
+    out.write_str(match code {
+        34 => "\\\"",
+        92 => "\\\\",
+        9 => "\\t",
+        10 => "\\n",
+        13 => "\\r",
+        _ => return write!(out, "\\u{{{code:X}}}"),
+    })
 }
 
 // Writes a character, or the escape of a code that is none.
-fn write_code<W: Write>(out: &mut W, code: u32) -> Result<(), Fault> {
+fn write_code<W: Output>(out: &mut W, code: u32) -> Result<(), Fault> {
     match char::from_u32(code) {
-        Some(c) if !needs_escape(c) => write!(out, "{c}")?,
-        _ => write_escape(out, code)?,
+        Some(c) => write_char(out, c),
+        None => write_escape(out, code),
     }
-    Ok(())
 }
 
-fn write_chars<W: Write>(out: &mut W, text: &str) -> Result<(), Fault> {
+fn write_char<W: Output>(out: &mut W, c: char) -> Result<(), Fault> {
+    if needs_escape(c) {
+        return write_escape(out, u32::from(c));
+    }
+    write!(out, "{c}")
+}
+
+fn write_chars<W: Output>(out: &mut W, text: &str) -> Result<(), Fault> {
     for c in text.chars() {
-        if needs_escape(c) {
-            write_escape(out, u32::from(c))?;
-        } else {
-            write!(out, "{c}")?;
-        }
+        write_char(out, c)?;
     }
     Ok(())
 }
@@ -62,57 +63,68 @@ fn is_plain(octet: u8) -> bool {
     matches!(octet, b' '..=b'~') && octet != b'"' && octet != b'\\'
 }
 
-// Writes ASCII, and other octets by their numbers.
-fn write_ascii<W: Write>(out: &mut W, octets: &[u8]) -> Result<(), Fault> {
-    for piece in octets.split_inclusive(|octet| !is_plain(*octet)) {
-        match piece {
-            [plain @ .., last] if !is_plain(*last) => {
-                out.write_all(plain)?;
-                if *last < 128 {
-                    write_escape(out, u32::from(*last))?;
-                } else {
-                    write!(out, "\\x{last:02X}")?;
-                }
-            }
-            _ => out.write_all(piece)?,
+// Writes an octet by its escape or its number.
+fn write_octet<W: Output>(out: &mut W, octet: u8) -> Result<(), Fault> {
+    if octet < 128 {
+        return write_escape(out, u32::from(octet));
+    }
+    write!(out, "\\x{octet:02X}")
+}
+
+// Writes octets of which the last alone may be no plain one.
+fn write_piece<W: Output>(out: &mut W, piece: &[u8]) -> Result<(), Fault> {
+    match piece {
+        [plain @ .., last] if !is_plain(*last) => {
+            out.write_all(plain)?;
+            write_octet(out, *last)
         }
+        _ => out.write_all(piece),
+    }
+}
+
+// Writes ASCII, and other octets by their numbers.
+fn write_ascii<W: Output>(out: &mut W, octets: &[u8]) -> Result<(), Fault> {
+    for piece in octets.split_inclusive(|octet| !is_plain(*octet)) {
+        write_piece(out, piece)?;
     }
     Ok(())
 }
 
 /// Writes octets as text in UTF-8, or where they are none as ASCII.
-pub fn write_utf8<W: Write>(out: &mut W, octets: &[u8]) -> Result<(), Fault> {
-    write!(out, "\"")?;
+pub fn write_utf8<W: Output>(out: &mut W, octets: &[u8]) -> Result<(), Fault> {
+    out.write_str("\"")?;
     match str::from_utf8(octets) {
         Ok(text) => write_chars(out, text)?,
         Err(_) => write_ascii(out, octets)?,
     }
-    write!(out, "\"")?;
-    Ok(())
+    out.write_str("\"")
 }
 
 /// Writes octets as ASCII, and those that are none by their numbers.
-pub fn write_quoted<W: Write>(out: &mut W, octets: &[u8]) -> Result<(), Fault> {
-    write!(out, "\"")?;
+pub fn write_quoted<W: Output>(out: &mut W, octets: &[u8]) -> Result<(), Fault> {
+    out.write_str("\"")?;
     write_ascii(out, octets)?;
-    write!(out, "\"")?;
-    Ok(())
+    out.write_str("\"")
+}
+
+// The code that octets spell, the highest first.
+fn code_of(octets: &[u8]) -> u32 {
+    let mut code: u32 = 0;
+    for octet in octets {
+        code = code.wrapping_mul(256).wrapping_add(u32::from(*octet));
+    }
+    code
 }
 
 /// Writes characters of so many octets each, the highest first.
-pub fn write_wide<W: Write>(out: &mut W, octets: &[u8], size: usize) -> Result<(), Fault>
+pub fn write_wide<W: Output>(out: &mut W, octets: &[u8], size: usize) -> Result<(), Fault>
     requires { 0 < size }
 {
-    write!(out, "\"")?;
+    out.write_str("\"")?;
     for character in octets.chunks(size) {
-        let mut code: u32 = 0;
-        for octet in character {
-            code = code.wrapping_mul(256).wrapping_add(u32::from(*octet));
-        }
-        write_code(out, code)?;
+        write_code(out, code_of(character))?;
     }
-    write!(out, "\"")?;
-    Ok(())
+    out.write_str("\"")
 }
 
 /// Whether octets are characters of so many octets each, and none is a surrogate or too large.
@@ -120,10 +132,6 @@ pub fn are_wide(octets: &[u8], size: usize) -> bool
     requires { 0 < size }
 {
     octets.chunks(size).all(|character| {
-        let mut code: u32 = 0;
-        for octet in character {
-            code = code.wrapping_mul(256).wrapping_add(u32::from(*octet));
-        }
-        character.len() == size && char::from_u32(code).is_some()
+        character.len() == size && char::from_u32(code_of(character)).is_some()
     })
 }

@@ -1,40 +1,38 @@
 //! Times as ISO 8601 writes them (X.680, 46 and 47).
 
+use crate::output::Output;
 use crate::remark::Remark;
 use crate::value::text::write_quoted;
 use std::alloc::Global;
-use std::io::Write;
 use yasna_listing::fault::Fault;
 use yasna_times::models::{DateTime, GeneralizedTime, Offset, UTCTime};
 
-fn write_datetime<W: Write>(out: &mut W, time: &DateTime) -> Result<(), Fault> {
+fn write_datetime<W: Output>(out: &mut W, time: &DateTime) -> Result<(), Fault> {
     let (year, month, day) = (time.year(), time.month(), time.day());
     let (hour, minute, second) = (time.hour(), time.minute(), time.second());
     write!(
         out,
         "{year:04}-{month:02}-{day:02}T{hour:02}:{minute:02}:{second:02}"
-    )?;
-    Ok(())
+    )
 }
 
 // The fraction of a second, with nine digits or none, and those behind them.
-fn write_fraction<W: Write>(out: &mut W, nanosecond: i32, below: &[u8]) -> Result<(), Fault> {
+fn write_fraction<W: Output>(out: &mut W, nanosecond: i32, below: &[u8]) -> Result<(), Fault> {
     if nanosecond == 0 && below.is_empty() {
         return Ok(());
     }
     write!(out, ".{nanosecond:09}")?;
-    out.write_all(below)?;
-    Ok(())
+    out.write_all(below)
 }
 
 /// Writes a UTCTime, and tells what is wrong with it.
-pub fn write_utc_time<W: Write>(out: &mut W, octets: &[u8]) -> Result<Option<Remark>, Fault> {
+pub fn write_utc_time<W: Output>(out: &mut W, octets: &[u8]) -> Result<Option<Remark>, Fault> {
     let Some(time) = UTCTime::parse(octets) else {
         write_quoted(out, octets)?;
         return Ok(Some(Remark::NoTime));
     };
     write_datetime(out, time.datetime())?;
-    write!(out, "Z")?;
+    out.write_str("Z")?;
     if time.is_canonical(octets) {
         return Ok(None);
     }
@@ -42,7 +40,7 @@ pub fn write_utc_time<W: Write>(out: &mut W, octets: &[u8]) -> Result<Option<Rem
 }
 
 /// Writes a GeneralizedTime, and tells what is wrong with it.
-pub fn write_generalized_time<W: Write>(
+pub fn write_generalized_time<W: Output>(
     out: &mut W,
     alloc: Global,
     octets: &[u8],
@@ -63,7 +61,7 @@ pub fn write_generalized_time<W: Write>(
     if is_local {
         return Ok(Some(Remark::Local));
     }
-    write!(out, "Z")?;
+    out.write_str("Z")?;
     if time.is_canonical(octets) {
         return Ok(None);
     }
