@@ -7,33 +7,15 @@
 //! | 2 | the arguments are others |
 //! | 3 | a read or a write failed, or there was no memory |
 //!
-//! | Module | Holds |
-//! |---|---|
-//! | `conversion` | the walk over the elements, and what is proved of it |
-//! | `kind` | how the contents of an element are read, by its tag |
-//! | `part` | the elements that are written |
-//! | `set_order` | the order of a SET OF |
-//! | `writing` | headers before contents |
-//! | `doubt` | where a schema would have to be known |
-//! | `fault` | why there is no output |
+//! The crate `yasna_conversion` holds what it does between its ends.
 #![tactic(auto)]
 
-mod conversion;
-mod doubt;
-mod fault;
-mod kind;
-mod part;
-mod set_order;
-#[cfg(test)]
-mod tests;
-mod writing;
-
-use conversion::convert;
-use doubt::{Doubt, Doubts};
-use fault::Fault;
 use std::io::{Read, Write};
 use std::process::ExitCode;
 use std::{env, io};
+use yasna_conversion::conversion::convert;
+use yasna_conversion::doubt::{Doubt, Doubts};
+use yasna_conversion::fault::Fault;
 
 // The status where the input is broken or in doubt.
 const REFUSED: u8 = 1;

@@ -12,18 +12,18 @@ use Rattle.yasna_base.specs.declared.tag.PCBit.TheVariants.{Primitive, Construct
 use Rattle.yasna_base.specs.declared.tag.Tag.{Tag}
 use Rattle.yasna_base.specs.declared.tag.TagClass.TheVariants.{Universal}
 use Rattle.yasna_base.proofs.Header.{opens_begins, header_of, end_behind}
-use Rattle.asn1der.specs.Doubt.{IsNoString, IsNoSet, IsSureBranch, IsSure, Meets, MeetsDoubts, MeetsAt, MeetsTo, AreTheDoubts}
-use Rattle.asn1der.specs.Kind.{IsOfKind}
-use Rattle.asn1der.specs.Parts.{part_tags, TakesPart, TakesPartsTo}
-use Rattle.asn1der.specs.Tags.{IsOtherTag}
-use Rattle.asn1der.specs.Tree.{Branch, boolean, bits, string, primitive, set_of, constructed, Tree, branch_tag, tree_tag, AreOneTag, HasBranch, HasTree}
-use Rattle.asn1der.specs.declared.doubt.Doubts.{Doubts}
-use Rattle.asn1der.specs.declared.kind.Kind.{Kind}
-use Rattle.asn1der.specs.declared.kind.Kind.TheVariants.{Other}
-use Rattle.asn1der.specs.declared.part.Part.{Part}
-use Rattle.asn1der.proofs.Exact.{branch_kind, trees_end}
-use Rattle.asn1der.proofs.Parts.{no_parts, more_parts, Reached, reached_none, reached_more}
-use Rattle.asn1der.proofs.Refusals.{Root, root_tag, root_kind}
+use Rattle.yasna_conversion.specs.Doubt.{IsNoString, IsNoSet, IsSureBranch, IsSure, Meets, MeetsDoubts, MeetsAt, MeetsTo, AreTheDoubts}
+use Rattle.yasna_conversion.specs.Kind.{IsOfKind}
+use Rattle.yasna_conversion.specs.Parts.{part_tags, TakesPart, TakesPartsTo}
+use Rattle.yasna_conversion.specs.Tags.{IsOtherTag}
+use Rattle.yasna_conversion.specs.Tree.{Branch, boolean, bits, string, primitive, set_of, constructed, Tree, branch_tag, tree_tag, AreOneTag, HasBranch, HasTree}
+use Rattle.yasna_conversion.specs.declared.doubt.Doubts.{Doubts}
+use Rattle.yasna_conversion.specs.declared.kind.Kind.{Kind}
+use Rattle.yasna_conversion.specs.declared.kind.Kind.TheVariants.{Other}
+use Rattle.yasna_conversion.specs.declared.part.Part.{Part}
+use Rattle.yasna_conversion.proofs.Exact.{branch_kind, trees_end}
+use Rattle.yasna_conversion.proofs.Parts.{no_parts, more_parts, Reached, reached_none, reached_more}
+use Rattle.yasna_conversion.proofs.Refusals.{Root, root_tag, root_kind}
 
 -- nothing was met
 meets_nothing : (a : Option ℕ) (P : Type 0) → P → Meets a a P

@@ -17,12 +17,12 @@ use Rattle.yasna_base.proofs.Identifier.{begins_once, begins_with, not_end}
 use Rattle.yasna_base.proofs.Octets.{octets_once}
 use Rattle.yasna_base.proofs.Pieces.{no_front_at_end, pieces_once, pieces_end, each_same, each_equal}
 use Rattle.yasna_base.proofs.Segmented.{segmented_begins, segmented_exact}
-use Rattle.asn1der.specs.Kind.{IsOfKind}
-use Rattle.asn1der.specs.Tags.{IsStringTag, IsOtherTag}
-use Rattle.asn1der.specs.Tree.{Branch, boolean, bits, string, primitive, set_of, constructed, Tree, branch_tag, tree_tag, AreOneTag, HasBranch, HasTree}
-use Rattle.asn1der.specs.declared.kind.Kind.{Kind}
-use Rattle.asn1der.specs.declared.kind.Kind.TheVariants.{EndOfContents, Boolean, Bits, Octets, Other}
-use Rattle.asn1der.proofs.Forms.{string_small}
+use Rattle.yasna_conversion.specs.Kind.{IsOfKind}
+use Rattle.yasna_conversion.specs.Tags.{IsStringTag, IsOtherTag}
+use Rattle.yasna_conversion.specs.Tree.{Branch, boolean, bits, string, primitive, set_of, constructed, Tree, branch_tag, tree_tag, AreOneTag, HasBranch, HasTree}
+use Rattle.yasna_conversion.specs.declared.kind.Kind.{Kind}
+use Rattle.yasna_conversion.specs.declared.kind.Kind.TheVariants.{EndOfContents, Boolean, Bits, Octets, Other}
+use Rattle.yasna_conversion.proofs.Forms.{string_small}
 
 -- a string's tag isn't 0, 1, 3 or 17
 string_is_not : (t : Tag) (k : ℕ) → IsStringTag t → (k < 4) ⊎ (k ≡ 17) → t.tag_number ≡ k → ⊥

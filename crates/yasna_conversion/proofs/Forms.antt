@@ -20,8 +20,8 @@ use Rattle.yasna_base.proofs.Digits.{bytes_append}
 use Rattle.yasna_base.proofs.Octets.{octets_written}
 use Rattle.yasna_base.proofs.Order.{in_order_map, all_permuted}
 use Rattle.yasna_base.proofs.SetOfWriting.{in_order_moved, octets_in_order, octets_ordered}
-use Rattle.asn1der.specs.Tags.{IsStringTag}
-use Rattle.asn1der.specs.Tree.{Branch, boolean, bits, string, primitive, set_of, constructed, Tree, branch_tag, tree_tag, AreOneTag, HasBranch, HasTree, branch_form, der_form, SameBranch, SameTree}
+use Rattle.yasna_conversion.specs.Tags.{IsStringTag}
+use Rattle.yasna_conversion.specs.Tree.{Branch, boolean, bits, string, primitive, set_of, constructed, Tree, branch_tag, tree_tag, AreOneTag, HasBranch, HasTree, branch_form, der_form, SameBranch, SameTree}
 
 -- a string's tag has a small number
 pub string_small : (t : Tag) → IsStringTag t → (4 ≤ t.tag_number) × (t.tag_number < 2 ^ 64)

@@ -20,10 +20,10 @@ use Rattle.yasna_base.proofs.Pieces.{no_pieces, one_piece, pieces_append}
 use Rattle.yasna_base.proofs.Segmented.{segmented_begins, segmented_level}
 use Rattle.yasna_bytes.specs.Front.{Takes}
 use Rattle.yasna_bytes.proofs.Ending.{closed}
-use Rattle.asn1der.specs.Parts.{part_tags, part_bytes, IsPartOf, ArePartsOf, TakesPart, TakesPartsTo, ArePutInOrder, ascending, as_they_stood, IsPartAround}
-use Rattle.asn1der.specs.Tags.{IsStringTag, IsOtherTag}
-use Rattle.asn1der.specs.Tree.{Branch, boolean, bits, string, primitive, set_of, constructed, Tree, branch_tag, tree_tag, AreOneTag, HasBranch, HasTree, branch_form, der_form}
-use Rattle.asn1der.specs.declared.part.Part.{Part}
+use Rattle.yasna_conversion.specs.Parts.{part_tags, part_bytes, IsPartOf, ArePartsOf, TakesPart, TakesPartsTo, ArePutInOrder, ascending, as_they_stood, IsPartAround}
+use Rattle.yasna_conversion.specs.Tags.{IsStringTag, IsOtherTag}
+use Rattle.yasna_conversion.specs.Tree.{Branch, boolean, bits, string, primitive, set_of, constructed, Tree, branch_tag, tree_tag, AreOneTag, HasBranch, HasTree, branch_form, der_form}
+use Rattle.yasna_conversion.specs.declared.part.Part.{Part}
 
 -- an element around those a level further in
 branch_part : (n : ℕ) (m : BERMode) (b : List ℕ) (v : Branch (Tree n)) → HasBranch (HasTree n m) (tree_tag n) (suc n) m v b → (p : Part) →

@@ -16,8 +16,8 @@ use Rattle.yasna_base.specs.declared.tag.Tag.{Tag}
 use Rattle.yasna_base.proofs.Identifier.{not_end}
 use Rattle.yasna_base.proofs.Raw.{raw_of}
 use Rattle.yasna_base.proofs.Segmented.{segmented_into}
-use Rattle.asn1der.specs.Tree.{Branch, boolean, bits, string, primitive, set_of, constructed, Tree, tree_tag, IsAround, HasBranch, HasTree}
-use Rattle.asn1der.proofs.Forms.{string_small}
+use Rattle.yasna_conversion.specs.Tree.{Branch, boolean, bits, string, primitive, set_of, constructed, Tree, tree_tag, IsAround, HasBranch, HasTree}
+use Rattle.yasna_conversion.proofs.Forms.{string_small}
 
 module _ (S : RawValue → List ℕ → Type 0) where
   framed_raw : (t : Tag) (bit : PCBit) (c b : List ℕ) → Framed Der t bit c b → (LooksInto Der bit → IsJoining S c) →

@@ -21,16 +21,16 @@ use Rattle.yasna_base.proofs.Pieces.{no_front_at_end, pieces_further}
 use Rattle.yasna_bytes.specs.Front.{Stands}
 use Rattle.yasna_bytes.specs.Header.{Holds, NotHeld, no_level, no_contents, NoEnd}
 use Rattle.yasna_bytes.proofs.Header.{element_there}
-use Rattle.asn1der.specs.Conversion.{Converts}
-use Rattle.asn1der.specs.Kind.{IsOfKind}
-use Rattle.asn1der.specs.Parts.{NoTreeAt, NoTreesTo}
-use Rattle.asn1der.specs.Tags.{IsStringTag, IsOtherTag}
-use Rattle.asn1der.specs.Tree.{Branch, boolean, bits, string, primitive, set_of, constructed, Tree, branch_tag, tree_tag, HasBranch, HasTree}
-use Rattle.asn1der.specs.declared.kind.Kind.{Kind}
-use Rattle.asn1der.specs.declared.kind.Kind.TheVariants.{Boolean, Bits, Octets, Other}
-use Rattle.asn1der.specs.declared.part.Part.{Part}
-use Rattle.asn1der.proofs.Exact.{branch_kind, branch_is_of_kind, branch_begins, kinds_once, tree_starts, tree_exact}
-use Rattle.asn1der.proofs.Parts.{Reached}
+use Rattle.yasna_conversion.specs.Conversion.{Converts}
+use Rattle.yasna_conversion.specs.Kind.{IsOfKind}
+use Rattle.yasna_conversion.specs.Parts.{NoTreeAt, NoTreesTo}
+use Rattle.yasna_conversion.specs.Tags.{IsStringTag, IsOtherTag}
+use Rattle.yasna_conversion.specs.Tree.{Branch, boolean, bits, string, primitive, set_of, constructed, Tree, branch_tag, tree_tag, HasBranch, HasTree}
+use Rattle.yasna_conversion.specs.declared.kind.Kind.{Kind}
+use Rattle.yasna_conversion.specs.declared.kind.Kind.TheVariants.{Boolean, Bits, Octets, Other}
+use Rattle.yasna_conversion.specs.declared.part.Part.{Part}
+use Rattle.yasna_conversion.proofs.Exact.{branch_kind, branch_is_of_kind, branch_begins, kinds_once, tree_starts, tree_exact}
+use Rattle.yasna_conversion.proofs.Parts.{Reached}
 
 -- what is seen of a tree that bytes have: one element around those a level further in
 pub record Root (n : ℕ) (m : BERMode) (b : List ℕ) : Type 0 where

@@ -5,13 +5,13 @@ use Rattle.yasna_base.specs.Header.{definite_end}
 use Rattle.yasna_base.specs.Pieces.{Each, Pieces}
 use Rattle.yasna_base.specs.Raw.{IsRaw, IsJoining}
 use Rattle.yasna_base.specs.declared.mode.BERMode.TheVariants.{Ber, Der}
-use Rattle.asn1der.specs.Conversion.{Converts, SaysTheSame}
-use Rattle.asn1der.specs.Parts.{part_bytes, TakesPartsTo}
-use Rattle.asn1der.specs.Tree.{Tree, tree_tag, HasTree, der_form, SameTree}
-use Rattle.asn1der.specs.declared.part.Part.{Part}
-use Rattle.asn1der.proofs.Exact.{trees_exact}
-use Rattle.asn1der.proofs.Forms.{CanonicalEach, canonical_each, all_canonical, canonical}
-use Rattle.asn1der.proofs.Raw.{pieces_raw, tree_raw}
+use Rattle.yasna_conversion.specs.Conversion.{Converts, SaysTheSame}
+use Rattle.yasna_conversion.specs.Parts.{part_bytes, TakesPartsTo}
+use Rattle.yasna_conversion.specs.Tree.{Tree, tree_tag, HasTree, der_form, SameTree}
+use Rattle.yasna_conversion.specs.declared.part.Part.{Part}
+use Rattle.yasna_conversion.proofs.Exact.{trees_exact}
+use Rattle.yasna_conversion.proofs.Forms.{CanonicalEach, canonical_each, all_canonical, canonical}
+use Rattle.yasna_conversion.proofs.Raw.{pieces_raw, tree_raw}
 
 some_pieces : {A : Type 0} (R : A → List ℕ → Type 0) (vs : List A) (c : List ℕ) → Pieces R vs c → 1 ≤ length c → 1 ≤ length vs
 some_pieces R [] c x h = absurd (go x.pieces x.each x.joined)

@@ -3,7 +3,7 @@ use Rattle.std.specs.Prelude.{◌≡◌, ℕ, ◌≤◌, List, length, map}
 use Rattle.std.specs.List.{concat}
 use Rattle.yasna_base.specs.Pieces.{Each, Pieces}
 use Rattle.yasna_base.specs.declared.mode.BERMode.TheVariants.{Ber, Der}
-use Rattle.asn1der.specs.Tree.{Tree, HasTree, der_form, SameTree}
+use Rattle.yasna_conversion.specs.Tree.{Tree, HasTree, der_form, SameTree}
 
 -- s is elements in BER, one or more, and d their forms in DER, one after the other
 pub record Converts (s d : List ℕ) : Type 0 where

@@ -8,8 +8,8 @@ use Rattle.yasna_base.specs.declared.mode.BERMode.{BERMode}
 use Rattle.yasna_base.specs.declared.mode.BERMode.TheVariants.{Ber}
 use Rattle.yasna_base.specs.declared.tag.Tag.{Tag}
 use Rattle.yasna_base.specs.declared.tag.TagClass.TheVariants.{Universal}
-use Rattle.asn1der.specs.Tree.{Branch, boolean, bits, string, primitive, set_of, constructed, Tree, HasTree}
-use Rattle.asn1der.specs.declared.doubt.Doubts.{Doubts}
+use Rattle.yasna_conversion.specs.Tree.{Branch, boolean, bits, string, primitive, set_of, constructed, Tree, HasTree}
+use Rattle.yasna_conversion.specs.declared.doubt.Doubts.{Doubts}
 
 -- a constructed element with this tag isn't a string in segments
 abbrev pub IsNoString : Tag → Type 0

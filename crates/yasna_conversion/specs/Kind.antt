@@ -4,9 +4,9 @@ use Rattle.yasna_base.specs.Bits.{bits_tag}
 use Rattle.yasna_base.specs.Boolean.{boolean_tag}
 use Rattle.yasna_base.specs.Identifier.{end_tag}
 use Rattle.yasna_base.specs.declared.tag.Tag.{Tag}
-use Rattle.asn1der.specs.Tags.{IsStringTag, IsOtherTag}
-use Rattle.asn1der.specs.declared.kind.Kind.{Kind}
-use Rattle.asn1der.specs.declared.kind.Kind.TheVariants.{EndOfContents, Boolean, Bits, Octets, Other}
+use Rattle.yasna_conversion.specs.Tags.{IsStringTag, IsOtherTag}
+use Rattle.yasna_conversion.specs.declared.kind.Kind.{Kind}
+use Rattle.yasna_conversion.specs.declared.kind.Kind.TheVariants.{EndOfContents, Boolean, Bits, Octets, Other}
 
 -- the tags of each kind
 abbrev pub IsOfKind : Kind → Tag → Type 0

@@ -12,10 +12,10 @@ use Rattle.yasna_base.specs.declared.mode.BERMode.{BERMode}
 use Rattle.yasna_base.specs.declared.mode.BERMode.TheVariants.{Der}
 use Rattle.yasna_base.specs.declared.tag.PCBit.TheVariants.{Constructed}
 use Rattle.yasna_base.specs.declared.tag.Tag.{Tag}
-use Rattle.asn1der.specs.Tree.{Tree, tree_tag, AreOneTag, HasTree, der_form}
-use Rattle.asn1der.specs.declared.fault.Fault.{Fault}
-use Rattle.asn1der.specs.declared.fault.Fault.TheVariants.{Memory}
-use Rattle.asn1der.specs.declared.part.Part.{Part}
+use Rattle.yasna_conversion.specs.Tree.{Tree, tree_tag, AreOneTag, HasTree, der_form}
+use Rattle.yasna_conversion.specs.declared.fault.Fault.{Fault}
+use Rattle.yasna_conversion.specs.declared.fault.Fault.TheVariants.{Memory}
+use Rattle.yasna_conversion.specs.declared.part.Part.{Part}
 
 -- the tag of each part
 abbrev pub part_tags : List Part → List Tag

@@ -14,7 +14,7 @@ use Rattle.yasna_base.specs.declared.mode.BERMode.{BERMode}
 use Rattle.yasna_base.specs.declared.mode.BERMode.TheVariants.{Der}
 use Rattle.yasna_base.specs.declared.tag.PCBit.TheVariants.{Primitive, Constructed}
 use Rattle.yasna_base.specs.declared.tag.Tag.{Tag}
-use Rattle.asn1der.specs.Tags.{IsStringTag, IsOtherTag}
+use Rattle.yasna_conversion.specs.Tags.{IsStringTag, IsOtherTag}
 
 -- one element, around elements of A: a BOOLEAN, a BIT STRING, the octets of a string with its tag, the contents of any other primitive
 -- element, a SET of elements with one tag, or the elements of any other constructed one

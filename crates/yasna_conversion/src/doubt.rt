@@ -2,10 +2,10 @@
 ghost use Rattle.std.specs.Prelude.{◌≡◌, ◌↔◌, IsTrue, None};
 ghost use Rattle.yasna_base.specs.Set.{set_tag};
 ghost use Rattle.yasna_base.specs.declared.tag.TagClass.TheVariants.{Universal};
-ghost use Rattle.asn1der.specs.Doubt.{Meets};
-ghost use Rattle.asn1der.specs.declared.doubt.Doubt.TheVariants.{Segments, Order};
-ghost use Rattle.asn1der.specs.Parts.{part_tags};
-ghost use Rattle.asn1der.specs.Tree.{AreOneTag};
+ghost use Rattle.yasna_conversion.specs.Doubt.{Meets};
+ghost use Rattle.yasna_conversion.specs.declared.doubt.Doubt.TheVariants.{Segments, Order};
+ghost use Rattle.yasna_conversion.specs.Parts.{part_tags};
+ghost use Rattle.yasna_conversion.specs.Tree.{AreOneTag};
 
 use crate::part::Part;
 use crate::set_order::have_one_tag;
@@ -25,8 +25,8 @@ pub enum Doubt {
 impl fmt::Display for Doubt {
     fn fmt<W: fmt::Write>(&self, f: &mut fmt::Formatter<W>) -> fmt::Result {
         match self {
-            Doubt::Segments => write!(f, "it may be a string in segments"),
-            Doubt::Order => write!(f, "a SET with several tags may be out of order"),
+            Doubt::Segments => f.write_str("it may be a string in segments"),
+            Doubt::Order => f.write_str("a SET with several tags may be out of order"),
         }
     }
 }

@@ -1,7 +1,7 @@
 //! Why there is no output.
 ghost use Rattle.std.specs.Prelude.{◌≡◌, ◌↔◌, ◌-◌, length};
 ghost use Rattle.yasna_base.specs.declared.error.ASN1ErrorKind.TheVariants.{OutOfMemory};
-ghost use Rattle.asn1der.specs.declared.fault.Fault.TheVariants.{Memory};
+ghost use Rattle.yasna_conversion.specs.declared.fault.Fault.TheVariants.{Memory};
 
 use std::alloc::{AllocError, AllocFailed};
 use std::fmt;
@@ -48,7 +48,7 @@ impl fmt::Display for Fault {
     fn fmt<W: fmt::Write>(&self, f: &mut fmt::Formatter<W>) -> fmt::Result {
         match self {
             Fault::Broken { offset, kind } => write!(f, "offset {offset}: {kind:?}"),
-            Fault::Memory => write!(f, "no memory"),
+            Fault::Memory => f.write_str("no memory"),
         }
     }
 }

@@ -1,8 +1,8 @@
 //! Which types have values that BER spells in several ways (X.690, 8.2, 8.6, 8.7, 8.23 and 8.25).
 ghost use Rattle.std.specs.Prelude.{IsTrue, ◌↔◌};
-ghost use Rattle.asn1der.specs.Tags.{IsStringTag};
-ghost use Rattle.asn1der.specs.Conversion.{Converts};
-ghost use Rattle.asn1der.specs.Kind.{IsOfKind};
+ghost use Rattle.yasna_conversion.specs.Tags.{IsStringTag};
+ghost use Rattle.yasna_conversion.specs.Conversion.{Converts};
+ghost use Rattle.yasna_conversion.specs.Kind.{IsOfKind};
 
 use yasna_base::tag::{Tag, TagClass};
 use yasna_base::tags::{TAG_BITSTRING, TAG_BOOLEAN, TAG_EOC};

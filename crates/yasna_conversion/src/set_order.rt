@@ -2,8 +2,8 @@
 ghost use Rattle.std.specs.Prelude.{◌≡◌, IsTrue, ◌↔◌, OnOk};
 ghost use Rattle.std.specs.List.{AllByRecursion};
 ghost use Rattle.yasna_base.specs.Order.{octets_cmp, in_order};
-ghost use Rattle.asn1der.specs.Parts.{part_tags, part_bytes, ArePutInOrder};
-ghost use Rattle.asn1der.specs.Tree.{AreOneTag};
+ghost use Rattle.yasna_conversion.specs.Parts.{part_tags, part_bytes, ArePutInOrder};
+ghost use Rattle.yasna_conversion.specs.Tree.{AreOneTag};
 
 use crate::part::Part;
 use std::alloc::AllocError;

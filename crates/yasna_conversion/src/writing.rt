@@ -1,6 +1,6 @@
 //! Elements in DER.
 ghost use Rattle.std.specs.Prelude.{◌≡◌, IfOk, IfErr};
-ghost use Rattle.asn1der.specs.declared.fault.Fault.TheVariants.{Memory};
+ghost use Rattle.yasna_conversion.specs.declared.fault.Fault.TheVariants.{Memory};
 ghost use Rattle.std.specs.List.{flat_map};
 ghost use Rattle.yasna_base.specs.Canonical.{canonical_element};
 ghost use Rattle.yasna_base.specs.declared.mode.BERMode.TheVariants.{Der};

@@ -4,10 +4,10 @@ use Rattle.std.specs.Prelude.{Result, Option, OnOk, IfSome}
 use Rattle.yasna.specs.base.declared.error.ASN1Error.{ASN1Error}
 use Rattle.yasna.specs.base.declared.mode.BERMode.{BERMode}
 use Rattle.yasna.specs.base.declared.mode.BERMode.TheVariants.{Der}
-use Rattle.yasna_tool.specs.Engine.{IfRefused}
-use Rattle.yasna_tool.specs.Kinds.{Recoded}
-use Rattle.yasna_tool.specs.declared.engine.RunFault.{RunFault}
-use Rattle.yasna_tool.specs.declared.engine.RunFault.TheVariants.{Refused, Device}
+use Rattle.yasna_engine.specs.Engine.{IfRefused}
+use Rattle.yasna_engine.specs.Kinds.{Recoded}
+use Rattle.yasna_engine.specs.declared.engine.RunFault.{RunFault}
+use Rattle.yasna_engine.specs.declared.engine.RunFault.TheVariants.{Refused, Device}
 use Rattle.yasna.specs.base.Grammar.{Grammar, Form}
 
 -- the form of a value, as view sees it, is what the bytes are recoded to

@@ -1,6 +1,6 @@
 -- What `Counted` holds.
 use Rattle.std.specs.Prelude.{ℕ, Bool, is_some}
-use Rattle.yasna_tool.specs.declared.ends.Counted.{Counted}
+use Rattle.yasna_engine.specs.declared.ends.Counted.{Counted}
 
 -- the reader or writer
 abbrev pub end_of : {E : Type 0} → Counted E → E

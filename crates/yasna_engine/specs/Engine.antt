@@ -1,8 +1,8 @@
 -- What a fault of a run says.
 use Rattle.std.specs.Prelude.{Result, Ok, Err, ⊤}
 use Rattle.yasna.specs.base.declared.error.ASN1Error.{ASN1Error}
-use Rattle.yasna_tool.specs.declared.engine.RunFault.{RunFault}
-use Rattle.yasna_tool.specs.declared.engine.RunFault.TheVariants.{Refused, Device}
+use Rattle.yasna_engine.specs.declared.engine.RunFault.{RunFault}
+use Rattle.yasna_engine.specs.declared.engine.RunFault.TheVariants.{Refused, Device}
 
 -- P holds of the refusal, if the run was refused
 abbrev pub IfRefused : {A : Type 0} → Result A RunFault → (ASN1Error → Type 0) → Type 0

@@ -15,8 +15,8 @@ use Rattle.yasna.specs.time.UtcTime.{EncodesUtcTime, utc_time_form}
 use Rattle.yasna.specs.base.Sequence.{sequence_tag, PartOf, NoParts, part_form, nothing_form}
 use Rattle.yasna.specs.base.SequenceOf.{IsListOf, elements_form}
 use Rattle.yasna.specs.base.Text.{EncodesText, utf8_form}
-use Rattle.yasna_tool.specs.declared.kind.Kind.{Kind}
-use Rattle.yasna_tool.specs.declared.kind.Kind.TheVariants as kind
+use Rattle.yasna_engine.specs.declared.kind.Kind.{Kind}
+use Rattle.yasna_engine.specs.declared.kind.Kind.TheVariants as kind
 use Rattle.yasna.specs.base.Boolean.{boolean_tag}
 use Rattle.yasna.specs.base.Grammar.{Grammar, Form}
 use Rattle.yasna.specs.base.Integer.{integer_tag}

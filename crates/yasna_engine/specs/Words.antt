@@ -2,8 +2,8 @@
 use Rattle.std.specs.Prelude.{◌≡◌, List, [], ◌∷◌, ℕ, codes}
 use Rattle.yasna.specs.base.declared.mode.BERMode.{BERMode}
 use Rattle.yasna.specs.base.declared.mode.BERMode.TheVariants.{Ber, Der, Cer}
-use Rattle.yasna_tool.specs.declared.kind.Kind.{Kind}
-use Rattle.yasna_tool.specs.declared.kind.Kind.TheVariants.{Pair, Int, Bool, Null, Octets, Text, Oid, Utime, Gtime, Ints}
+use Rattle.yasna_engine.specs.declared.kind.Kind.{Kind}
+use Rattle.yasna_engine.specs.declared.kind.Kind.TheVariants.{Pair, Int, Bool, Null, Octets, Text, Oid, Utime, Gtime, Ints}
 
 -- the word for a mode
 abbrev pub mode_word : BERMode → List ℕ

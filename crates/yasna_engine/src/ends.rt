@@ -5,8 +5,8 @@
 ghost use Rattle.std.specs.Prelude.{◌≡◌, ℕ, Bool, List, Option, OnOk, true, false, is_some};
 ghost use Rattle.std.specs.Io.{ReadsAtMost, WritesAtMost};
 ghost use Rattle.std.specs.Io.KnownBytes.{ReadConsumes, WriteAppends, Keeps};
-ghost use Rattle.yasna_tool.specs.Ends.{end_of, failure_count, is_flushed};
-ghost use Rattle.yasna_tool.specs.Failures.{one_more, CountsFailure, CountsWrite};
+ghost use Rattle.yasna_engine.specs.Ends.{end_of, failure_count, is_flushed};
+ghost use Rattle.yasna_engine.specs.Failures.{one_more, CountsFailure, CountsWrite};
 
 mod flushed;
 

@@ -2,8 +2,8 @@
 ghost use Rattle.std.specs.Prelude.{◌≡◌, ◌≢◌, ◌-◌, ◌^◌, ◌<◌, ◌⊎◌, true, IfOk, OnOk, OnErr, IfSome};
 ghost use Rattle.std.specs.Io.KnownBytes.{Appends, Consumes, IsAtEnd, Keeps};
 ghost use Rattle.yasna.specs.base.Error.{kind_of};
-ghost use Rattle.yasna_tool.specs.Engine.{IfRefused, IfDevice};
-ghost use Rattle.yasna_tool.specs.Failures.{AreAsBefore};
+ghost use Rattle.yasna_engine.specs.Engine.{IfRefused, IfDevice};
+ghost use Rattle.yasna_engine.specs.Failures.{AreAsBefore};
 
 use crate::ends::{Sink, Source};
 use std::alloc::Global;
@@ -19,7 +19,7 @@ pub enum RunFault {
 }
 
 impl From<ASN1Error> for RunFault {
-    ghost use Rattle.yasna_tool.specs.declared.engine.RunFault.TheVariants.{Refused};
+    ghost use Rattle.yasna_engine.specs.declared.engine.RunFault.TheVariants.{Refused};
 
     ghost from_gives = { λ e f. f ≡ Refused e };
 

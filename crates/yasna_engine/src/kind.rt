@@ -2,10 +2,10 @@
 ghost use Rattle.std.specs.Prelude.{◌≡◌, ◌≢◌, ◌-◌, ◌^◌, ◌<◌, ◌⊎◌, ℕ, List, true, OnOk, IfSome, MatchOption};
 ghost use Rattle.std.specs.Io.KnownBytes.{Appends, IsAtEnd, Keeps};
 ghost use Rattle.yasna.specs.base.Error.{kind_of};
-ghost use Rattle.yasna_tool.specs.Engine.{IfRefused, IfDevice};
-ghost use Rattle.yasna_tool.specs.Kinds.{Recodes};
-ghost use Rattle.yasna_tool.specs.Words.{kind_word};
-ghost use Rattle.yasna_tool.specs.declared.kind.Kind.{Kind};
+ghost use Rattle.yasna_engine.specs.Engine.{IfRefused, IfDevice};
+ghost use Rattle.yasna_engine.specs.Kinds.{Recodes};
+ghost use Rattle.yasna_engine.specs.Words.{kind_word};
+ghost use Rattle.yasna_engine.specs.declared.kind.Kind.{Kind};
 
 use crate::ends::{Sink, Source};
 use crate::engine::{RunFault, run};

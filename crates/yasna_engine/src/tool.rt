@@ -3,9 +3,9 @@ ghost use Rattle.std.specs.Prelude.{◌≡◌, ◌-◌, ◌^◌, ◌<◌, ◌≤
 ghost use Rattle.std.specs.Io.KnownBytes.{Appends, IsAtEnd, Keeps};
 ghost use Rattle.std.specs.String.{string_bytes};
 ghost use Rattle.yasna.specs.base.declared.mode.BERMode.{BERMode};
-ghost use Rattle.yasna_tool.specs.Kinds.{Recodes};
-ghost use Rattle.yasna_tool.specs.Words.{mode_word, AreWords, AreTaken};
-ghost use Rattle.yasna_tool.specs.declared.kind.Kind.{Kind};
+ghost use Rattle.yasna_engine.specs.Kinds.{Recodes};
+ghost use Rattle.yasna_engine.specs.Words.{mode_word, AreWords, AreTaken};
+ghost use Rattle.yasna_engine.specs.declared.kind.Kind.{Kind};
 
 use crate::ends::{Sink, Source};
 use crate::engine::RunFault;

@@ -1,12 +1,12 @@
 //! Elements by hand, as X.690 spells them: what is written for them, where the first doubt is, and where broken ones are refused.
 
-use crate::conversion::convert;
-use crate::doubt::Doubt;
-use crate::fault::Fault;
 use std::alloc::{AllocError, Global};
 use std::process::Abort;
 use std::test::Fail;
-use yasna_base::error::ASN1ErrorKind;
+use yasna::ASN1ErrorKind;
+use yasna_conversion::conversion::convert;
+use yasna_conversion::doubt::Doubt;
+use yasna_conversion::fault::Fault;
 
 // Elements in BER, and the same in DER.
 const ROWS: [(&[u8], &[u8]); 20] = [

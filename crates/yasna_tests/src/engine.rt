@@ -2,11 +2,11 @@
 
 mod ends;
 
-use crate::ends::Counted;
-use crate::tool::tool;
 use std::alloc::{AllocError, Global};
 use std::process::Abort;
 use std::test::Fail;
+use yasna_engine::ends::Counted;
+use yasna_engine::tool::tool;
 
 /// What the program answers.
 #[derive(Clone, Copy)]
@@ -77,84 +77,54 @@ const OID: Wanted = Wanted {
 const USAGE: &str =
     "usage: yasna_tool ber|der|cer KIND\nKIND: pair int bool null octets text oid utime gtime ints\n";
 
-/// Bytes, and what they give as a pair in each mode.
+/// What bytes give as a pair.
 #[derive(Clone, Copy)]
-struct Row {
-    input: &'static [u8],
-    ber: Wanted,
-    der: Wanted,
-    cer: Wanted,
+enum Outcome {
+    Eof,
+    Extra,
+    Invalid,
+    TenTrue,
+    GreatestFalse,
 }
 
-const ROWS: [Row; 11] = [
-    Row {
-        input: &[],
-        ber: EOF,
-        der: EOF,
-        cer: EOF,
-    },
-    Row {
-        input: &[48, 6, 2, 1, 10, 1, 1, 255, 0],
-        ber: EXTRA,
-        der: EXTRA,
-        cer: INVALID,
-    },
-    Row {
-        input: &[48, 7, 2, 1, 10, 1, 1, 255, 0],
-        ber: EXTRA,
-        der: EXTRA,
-        cer: INVALID,
-    },
-    Row {
-        input: &[48, 8, 2, 1, 10, 1, 1, 255],
-        ber: EOF,
-        der: EOF,
-        cer: EOF,
-    },
-    Row {
-        input: &[48, 129, 6, 2, 1, 10, 1, 1, 1],
-        ber: TEN_TRUE,
-        der: INVALID,
-        cer: INVALID,
-    },
-    Row {
-        input: &[48, 128, 2, 1, 10, 1, 1, 255],
-        ber: EOF,
-        der: INVALID,
-        cer: EOF,
-    },
-    Row {
-        input: &[48, 6, 1, 1, 255, 2, 1, 10],
-        ber: INVALID,
-        der: INVALID,
-        cer: INVALID,
-    },
-    Row {
-        input: &[
+impl Outcome {
+    fn wanted(self) -> Wanted {
+        match self {
+            Outcome::Eof => EOF,
+            Outcome::Extra => EXTRA,
+            Outcome::Invalid => INVALID,
+            Outcome::TenTrue => TEN_TRUE,
+            Outcome::GreatestFalse => GREATEST_FALSE,
+        }
+    }
+}
+
+use Outcome::{Eof, Extra, GreatestFalse, Invalid, TenTrue};
+
+/// Bytes, and what they give in BER, DER and CER.
+const ROWS: [(&[u8], [Outcome; 3]); 11] = [
+    (&[], [Eof, Eof, Eof]),
+    (&[48, 6, 2, 1, 10, 1, 1, 255, 0], [Extra, Extra, Invalid]),
+    (&[48, 7, 2, 1, 10, 1, 1, 255, 0], [Extra, Extra, Invalid]),
+    (&[48, 8, 2, 1, 10, 1, 1, 255], [Eof, Eof, Eof]),
+    (
+        &[48, 129, 6, 2, 1, 10, 1, 1, 1],
+        [TenTrue, Invalid, Invalid],
+    ),
+    (&[48, 128, 2, 1, 10, 1, 1, 255], [Eof, Invalid, Eof]),
+    (&[48, 6, 1, 1, 255, 2, 1, 10], [Invalid, Invalid, Invalid]),
+    (
+        &[
             48, 13, 2, 8, 127, 255, 255, 255, 255, 255, 255, 255, 1, 1, 0,
         ],
-        ber: GREATEST_FALSE,
-        der: GREATEST_FALSE,
-        cer: INVALID,
-    },
-    Row {
-        input: &[48, 6, 2, 1, 10, 1, 1, 255],
-        ber: TEN_TRUE,
-        der: TEN_TRUE,
-        cer: INVALID,
-    },
-    Row {
-        input: &[48, 6, 2, 1, 10, 1, 1],
-        ber: EOF,
-        der: EOF,
-        cer: EOF,
-    },
-    Row {
-        input: &[48, 128, 2, 1, 10, 1, 1, 255, 0, 0],
-        ber: TEN_TRUE,
-        der: INVALID,
-        cer: TEN_TRUE,
-    },
+        [GreatestFalse, GreatestFalse, Invalid],
+    ),
+    (&[48, 6, 2, 1, 10, 1, 1, 255], [TenTrue, TenTrue, Invalid]),
+    (&[48, 6, 2, 1, 10, 1, 1], [Eof, Eof, Eof]),
+    (
+        &[48, 128, 2, 1, 10, 1, 1, 255, 0, 0],
+        [TenTrue, Invalid, TenTrue],
+    ),
 ];
 
 fn strings(alloc: Global, words: &[&str]) -> Result<Vec<String>, AllocError> {
@@ -172,6 +142,15 @@ struct Answer {
     output: Vec<u8>,
     errors: Vec<u8>,
     unread: usize,
+}
+
+impl Answer {
+    // Whether it is the one that is wanted.
+    fn is(&self, wanted: &Wanted) -> bool {
+        self.status == wanted.status
+            && self.output.as_slice() == wanted.output
+            && self.errors.as_slice() == wanted.errors.as_bytes()
+    }
 }
 
 fn told(alloc: Global, words: &[&str], input: &[u8]) -> Result<Answer, AllocError> {
@@ -201,26 +180,24 @@ fn judge(
     wanted: &Wanted,
 ) -> Result<(), Fail> {
     let told = told(rt.alloc(), words, input)?;
-    assert_eq!(rt; told.status, wanted.status, "{words:?} on {input:?}");
-    assert_eq!(rt;
-        told.output.as_slice(),
-        wanted.output,
-        "{words:?} on {input:?}"
-    );
-    assert_eq!(rt;
-        told.errors.as_slice(),
-        wanted.errors.as_bytes(),
-        "{words:?} on {input:?}"
-    );
+    assert!(rt; told.is(wanted), "{words:?} on {input:?}");
     Ok(())
+}
+
+fn judge_row(
+    rt: &(impl AllocGlobal + Abort),
+    input: &[u8],
+    [ber, der, cer]: [Outcome; 3],
+) -> Result<(), Fail> {
+    judge(rt, &["ber", "pair"], input, &ber.wanted())?;
+    judge(rt, &["der", "pair"], input, &der.wanted())?;
+    judge(rt, &["cer", "pair"], input, &cer.wanted())
 }
 
 #[test]
 fn rows(rt: HostRuntime) -> Result<(), Fail> {
-    for row in &ROWS {
-        judge(&rt, &["ber", "pair"], row.input, &row.ber)?;
-        judge(&rt, &["der", "pair"], row.input, &row.der)?;
-        judge(&rt, &["cer", "pair"], row.input, &row.cer)?;
+    for (input, outcomes) in &ROWS {
+        judge_row(&rt, input, *outcomes)?;
     }
     Ok(())
 }
@@ -274,23 +251,35 @@ const KINDS: [(&str, Wanted); 10] = [
     ("ints", INTS),
 ];
 
+fn judge_kind(rt: &(impl AllocGlobal + Abort), kind: &str, wanted: &Wanted) -> Result<(), Fail> {
+    judge(rt, &["der", kind], wanted.output, wanted)?;
+    judge(rt, &["ber", kind], &[10, 1, 0], &INVALID)
+}
+
 /// Each kind reads its own form, and no ENUMERATED.
 #[test]
 fn kinds(rt: HostRuntime) -> Result<(), Fail> {
     for (kind, wanted) in &KINDS {
-        judge(&rt, &["der", kind], wanted.output, wanted)?;
-        judge(&rt, &["ber", kind], &[10, 1, 0], &INVALID)?;
+        judge_kind(&rt, kind, wanted)?;
     }
     Ok(())
+}
+
+fn judge_canonical(
+    rt: &(impl AllocGlobal + Abort),
+    kind: &str,
+    wanted: &Wanted,
+) -> Result<(), Fail> {
+    let has_parts = wanted.output.first() == Some(&48);
+    let answer = if has_parts { &INVALID } else { wanted };
+    judge(rt, &["cer", kind], wanted.output, answer)
 }
 
 /// In CER each kind reads its own form where that has no parts, and elements with parts have no length.
 #[test]
 fn canonical(rt: HostRuntime) -> Result<(), Fail> {
     for (kind, wanted) in &KINDS {
-        let has_parts = wanted.output.first() == Some(&48);
-        let answer = if has_parts { &INVALID } else { wanted };
-        judge(&rt, &["cer", kind], wanted.output, answer)?;
+        judge_canonical(&rt, kind, wanted)?;
     }
     Ok(())
 }
@@ -342,14 +331,23 @@ const OTHER_WORDS: [&[&str]; 6] = [
     &["ber", "pair", "pair"],
 ];
 
+/// What is told of other words.
+const OTHERWISE: Wanted = Wanted {
+    status: 2,
+    output: &[],
+    errors: USAGE,
+};
+
+/// Whether the usage is told, and nothing was read.
+fn is_usage(alloc: Global, words: &[&str]) -> Result<bool, AllocError> {
+    let told = told(alloc, words, TEN_TRUE.output)?;
+    Ok(told.is(&OTHERWISE) && told.unread == TEN_TRUE.output.len())
+}
+
 #[test]
 fn other_words(rt: HostRuntime) -> Result<(), Fail> {
-    for (number, words) in OTHER_WORDS.iter().enumerate() {
-        let told = told(rt.alloc(), words, TEN_TRUE.output)?;
-        assert_eq!(rt; told.status, 2, "row {number}");
-        assert_eq!(rt; told.errors.as_slice(), USAGE.as_bytes(), "row {number}");
-        assert_eq!(rt; told.unread, TEN_TRUE.output.len(), "row {number}");
-        assert_eq!(rt; told.output.len(), 0, "row {number}");
+    for words in &OTHER_WORDS {
+        assert!(rt; is_usage(rt.alloc(), words)?, "{words:?}");
     }
     Ok(())
 }

@@ -1,4 +1,4 @@
-//! Tests of the public calls of `yasna`, and of the code in `yasna_guide` and `yasna_examples`.
+//! Tests of the public calls of `yasna`, of the code in `yasna_guide` and `yasna_examples`, and of what the programs do.
 //!
 //! They are a crate of their own, since a crate with tests is proved twice. Each has ample memory.
 //!
@@ -8,6 +8,8 @@
 //! | `buffer` | the bytes that a read took |
 //! | `at_end` | where contents end, and errors of reading closures |
 //! | `checks` | none: it holds what many of them check |
+//! | `conversion` | elements in BER turned into DER |
+//! | `engine` | the program `yasna_tool` over memory, and over ends that fail |
 //! | `composed` | lists, tuples, raw elements and borrowed values |
 //! | `exact` | types that keep an element of any type as it came |
 //! | `guide` | the pieces of code of README.md and docs/GUIDE.md |
@@ -33,6 +35,10 @@ mod buffer;
 mod checks;
 #[cfg(test)]
 mod composed;
+#[cfg(test)]
+mod conversion;
+#[cfg(test)]
+mod engine;
 #[cfg(test)]
 mod exact;
 #[cfg(test)]

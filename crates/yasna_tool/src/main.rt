@@ -1,24 +1,12 @@
 //! `yasna_tool MODE KIND` reads one value from standard input and writes its DER form.
 //!
-//! | Module | Holds |
-//! |---|---|
-//! | `ends` | where bytes come from and go to, with a count of failures |
-//! | `engine` | read to the end, decode, encode, write |
-//! | `kind` | the kinds of values that the program knows |
-//! | `tool` | the arguments, the texts of faults and the exit statuses |
+//! All but the ends of the program itself is in the crate `yasna_engine`.
 #![tactic(auto)]
 
-mod ends;
-mod engine;
-mod kind;
-#[cfg(test)]
-mod tests;
-mod tool;
-
-use ends::Counted;
 use std::env;
 use std::process::ExitCode;
-use tool::Device;
+use yasna_engine::ends::Counted;
+use yasna_engine::tool::{self, Device};
 
 fn main(rt: HostRuntime) -> ExitCode {
     let mut errors = rt.stderr();

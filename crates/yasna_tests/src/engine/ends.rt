@@ -2,14 +2,14 @@
 ghost use Rattle.std.specs.Prelude.{◌≡◌, ◌-◌, ◌^◌, ◌<◌, None};
 
 use super::{TEN_TRUE, strings};
-use crate::ends::{Counted, Sink, Source};
-use crate::engine::{RunFault, run};
-use crate::tool::tool;
 use std::alloc::{AllocError, Global};
 use std::io;
 use std::io::{Read, Write};
 use std::test::Fail;
 use yasna::{ASN1Error, ASN1ErrorKind, BERMode};
+use yasna_engine::ends::{Counted, Sink, Source};
+use yasna_engine::engine::{RunFault, run};
+use yasna_engine::tool::tool;
 
 const INPUT: &str = "io\nthe input could not be read\n";
 
@@ -122,37 +122,54 @@ fn run_pair<R: Source, W: Sink>(
     run::<(i64, bool), R, W>(alloc, BERMode::Ber, reader, writer)
 }
 
-#[test]
-fn failed_read(rt: HostRuntime) -> Result<(), Fail> {
-    for pulls in 0..3 {
-        let mut reader = FailingSource::new(pulls);
-        let mut writer = Counted::new(Vec::new(rt.alloc()));
-        let answer = run_pair(rt.alloc(), &mut reader, &mut writer);
-        assert_eq!(rt; answer, Err(RunFault::Device), "after {pulls} pulls");
-        assert_eq!(rt; writer.into_end().len(), 0, "after {pulls} pulls");
-        assert_eq!(rt; reader.failures(), 1, "after {pulls} pulls");
-    }
+/// Whether a read that fails behind so many pulls is told, once, and nothing is written.
+fn fails_behind(alloc: Global, pulls: u8) -> bool {
+    let mut reader = FailingSource::new(pulls);
+    let mut writer = Counted::new(Vec::new(alloc));
+    let answer = run_pair(alloc, &mut reader, &mut writer);
+    answer == Err(RunFault::Device) && writer.into_end().is_empty() && reader.failures() == 1
+}
+
+/// Whether the pair is written, read by three pulls.
+fn passes_by_pulls(alloc: Global) -> bool {
     let mut reader = FailingSource::new(3);
-    let mut writer = Counted::new(Vec::new(rt.alloc()));
-    assert_eq!(rt; run_pair(rt.alloc(), &mut reader, &mut writer), Ok(()));
-    assert_eq!(rt; writer.into_end().as_slice(), TEN_TRUE.output);
-    Ok(())
+    let mut writer = Counted::new(Vec::new(alloc));
+    let answer = run_pair(alloc, &mut reader, &mut writer);
+    answer == Ok(()) && writer.into_end().as_slice() == TEN_TRUE.output
 }
 
 #[test]
-fn failed_write(rt: HostRuntime) -> Result<(), Fail> {
-    for (room, fails_at_flush) in [(0, false), (3, false), (8, true)] {
-        let mut reader = Counted::new(TEN_TRUE.output);
-        let mut writer = FailingSink::new(room, fails_at_flush);
-        let answer = run_pair(rt.alloc(), &mut reader, &mut writer);
-        assert_eq!(rt; answer, Err(RunFault::Device), "with room for {room}");
-        assert_eq!(rt; writer.room, 0, "with room for {room}");
-        assert_eq!(rt; writer.failures(), 1, "with room for {room}");
+fn failed_read(rt: HostRuntime) {
+    for pulls in 0..3 {
+        assert!(rt; fails_behind(rt.alloc(), pulls), "after {pulls} pulls");
     }
+    assert!(rt; passes_by_pulls(rt.alloc()));
+}
+
+/// Whether a write that fails behind so many bytes is told, once.
+fn fails_in_room(alloc: Global, room: usize, fails_at_flush: bool) -> bool {
+    let mut reader = Counted::new(TEN_TRUE.output);
+    let mut writer = FailingSink::new(room, fails_at_flush);
+    let answer = run_pair(alloc, &mut reader, &mut writer);
+    answer == Err(RunFault::Device) && writer.room == 0 && writer.failures() == 1
+}
+
+/// Whether the pair is written where there is room for it.
+fn passes_in_room(alloc: Global) -> bool {
     let mut reader = Counted::new(TEN_TRUE.output);
     let mut writer = FailingSink::new(8, false);
-    assert_eq!(rt; run_pair(rt.alloc(), &mut reader, &mut writer), Ok(()));
-    Ok(())
+    run_pair(alloc, &mut reader, &mut writer) == Ok(())
+}
+
+#[test]
+fn failed_write(rt: HostRuntime) {
+    for (room, fails_at_flush) in [(0, false), (3, false), (8, true)] {
+        assert!(rt;
+            fails_in_room(rt.alloc(), room, fails_at_flush),
+            "with room for {room}"
+        );
+    }
+    assert!(rt; passes_in_room(rt.alloc()));
 }
 
 // A refusal comes before anything is written, and so before a writer could fail.
@@ -169,46 +186,54 @@ fn refused_before_a_write(rt: HostRuntime) -> Result<(), Fail> {
     Ok(())
 }
 
-/// What the program answers over these ends: its status, and what it writes to standard error.
-fn told_over<R: Source, W: Sink>(
+/// Whether the program tells this failure of its ends, and has the status of one.
+fn tells<R: Source, W: Sink>(
     alloc: Global,
     reader: &mut R,
     writer: &mut W,
-) -> Result<(u8, Vec<u8>), AllocError>
+    failure: &str,
+) -> Result<bool, AllocError>
     requires reads { R.failed reader.old < 2 ^ 64 - 1 }
     requires writes { W.failed writer.old < 2 ^ 64 - 1 }
 {
     let words = strings(alloc, &["ber", "pair"])?;
     let mut errors = Vec::new(alloc);
     let status = tool(alloc, words.as_slice(), reader, writer, &mut errors);
-    Ok((status, errors))
+    Ok(status == 3 && errors.as_slice() == failure.as_bytes())
+}
+
+fn tells_of_input(alloc: Global) -> Result<bool, AllocError> {
+    let mut reader = FailingSource::new(0);
+    let mut writer = Counted::new(Vec::new(alloc));
+    tells(alloc, &mut reader, &mut writer, INPUT)
+}
+
+fn tells_of_output(alloc: Global) -> Result<bool, AllocError> {
+    let mut reader = Counted::new(TEN_TRUE.output);
+    let mut writer = FailingSink::new(0, false);
+    tells(alloc, &mut reader, &mut writer, OUTPUT)
 }
 
 #[test]
 fn told_of_failures(rt: HostRuntime) -> Result<(), Fail> {
-    let mut failing = FailingSource::new(0);
-    let mut writer = Counted::new(Vec::new(rt.alloc()));
-    let (status, errors) = told_over(rt.alloc(), &mut failing, &mut writer)?;
-    assert_eq!(rt; status, 3);
-    assert_eq!(rt; errors.as_slice(), INPUT.as_bytes());
-    let mut reader = Counted::new(TEN_TRUE.output);
-    let mut failing = FailingSink::new(0, false);
-    let (status, errors) = told_over(rt.alloc(), &mut reader, &mut failing)?;
-    assert_eq!(rt; status, 3);
-    assert_eq!(rt; errors.as_slice(), OUTPUT.as_bytes());
+    assert!(rt; tells_of_input(rt.alloc())?);
+    assert!(rt; tells_of_output(rt.alloc())?);
     Ok(())
+}
+
+// Whether the program tells that so much room isn't enough, once.
+fn tells_of_room(alloc: Global, room: &mut [u8]) -> Result<bool, AllocError> {
+    let mut reader = Counted::new(TEN_TRUE.output);
+    let mut writer = Counted::new(room);
+    let is_told = tells(alloc, &mut reader, &mut writer, OUTPUT)?;
+    Ok(is_told && writer.failures() == 1)
 }
 
 // A slice takes nothing once it is full.
 #[test]
 fn nothing_taken(rt: HostRuntime) -> Result<(), Fail> {
     let mut room = [0; 3];
-    let mut reader = Counted::new(TEN_TRUE.output);
-    let mut writer = Counted::new(&mut room[..]);
-    let (status, errors) = told_over(rt.alloc(), &mut reader, &mut writer)?;
-    assert_eq!(rt; status, 3);
-    assert_eq!(rt; errors.as_slice(), OUTPUT.as_bytes());
-    assert_eq!(rt; writer.failures(), 1);
+    assert!(rt; tells_of_room(rt.alloc(), &mut room)?);
     assert_eq!(rt; room, [48, 6, 2]);
     Ok(())
 }

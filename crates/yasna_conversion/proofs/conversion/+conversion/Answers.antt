@@ -4,11 +4,11 @@ use Rattle.yasna_base.specs.Boolean.{boolean_tag}
 use Rattle.yasna_base.specs.Header.{OpensAt}
 use Rattle.yasna_base.specs.Identifier.{begins}
 use Rattle.yasna_bytes.specs.Opening.{Opening, end_found}
-use Rattle.asn1der.proofs.Doubts.{constructed_meets, kind_meets, primitive_meets, if_ok_any, walked_none, walked_next, walked_end}
-use Rattle.asn1der.specs.declared.kind.Kind.TheVariants.{Boolean, Bits, Octets}
-use Rattle.asn1der.proofs.Parts.{constructed_taken, taken_shorter}
-use Rattle.asn1der.proofs.Refusals.{no_constructed_at, no_trees_at, no_identifier, no_end, not_held, begins_of}
-use Rattle.asn1der.proofs.conversion.+conversion.Goals as goal
+use Rattle.yasna_conversion.proofs.Doubts.{constructed_meets, kind_meets, primitive_meets, if_ok_any, walked_none, walked_next, walked_end}
+use Rattle.yasna_conversion.specs.declared.kind.Kind.TheVariants.{Boolean, Bits, Octets}
+use Rattle.yasna_conversion.proofs.Parts.{constructed_taken, taken_shorter}
+use Rattle.yasna_conversion.proofs.Refusals.{no_constructed_at, no_trees_at, no_identifier, no_end, not_held, begins_of}
+use Rattle.yasna_conversion.proofs.conversion.+conversion.Goals as goal
 
 pub convert_constructed-returns-in-Ok-enclose-clause-part : goal.convert_constructed-returns-in-Ok-enclose-clause-part
 convert_constructed-returns-in-Ok-enclose-clause-part t c =

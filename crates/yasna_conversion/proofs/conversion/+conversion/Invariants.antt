@@ -1,6 +1,6 @@
 use Rattle.std.proofs.Common.{◌≡◌, ◌+◌, ◌*◌, length}
-use Rattle.asn1der.proofs.Doubts.{Walked}
-use Rattle.asn1der.proofs.conversion.+conversion.Given as goal
+use Rattle.yasna_conversion.proofs.Doubts.{Walked}
+use Rattle.yasna_conversion.proofs.conversion.+conversion.Given as goal
 
 abbrev pub decreases-convert_contents : goal.decreases-convert_contents
 decreases-convert_contents l = 4 * l.contents.levels + 3

@@ -1,5 +1,5 @@
 use Rattle.std.proofs.Common.{rules}
-use Rattle.asn1der.proofs.conversion.behind_end.Goals as goal
+use Rattle.yasna_conversion.proofs.conversion.behind_end.Goals as goal
 
 pub returns-in-Indefinite : goal.returns-in-Indefinite
 returns-in-Indefinite c = search rules

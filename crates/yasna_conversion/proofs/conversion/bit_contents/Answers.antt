@@ -1,6 +1,6 @@
 use Rattle.std.proofs.Common.{◌∷◌, [], ◌++◌, ap, ap₂, ◌∙◌}
-use Rattle.asn1der.proofs.Parts.{contents_cleared, contents_empty}
-use Rattle.asn1der.proofs.conversion.bit_contents.Goals as goal
+use Rattle.yasna_conversion.proofs.Parts.{contents_cleared, contents_empty}
+use Rattle.yasna_conversion.proofs.conversion.bit_contents.Goals as goal
 
 pub returns-in_default-clause-contents : goal.returns-in_default-clause-contents
 returns-in_default-clause-contents c =

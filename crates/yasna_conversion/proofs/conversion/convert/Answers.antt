@@ -2,14 +2,14 @@ use Rattle.std.proofs.Common.{rules, subst, ap, ◌∙◌, ◌<◌, ◌≤◌, �
 use Rattle.yasna_base.specs.Header.{definite_end}
 use Rattle.yasna_base.specs.declared.mode.BERMode.{BERMode}
 use Rattle.yasna_base.specs.declared.mode.BERMode.TheVariants.{Ber}
-use Rattle.asn1der.specs.Conversion.{Converts}
-use Rattle.asn1der.specs.Parts.{TakesPartsTo, NoTreesTo, part_bytes}
+use Rattle.yasna_conversion.specs.Conversion.{Converts}
+use Rattle.yasna_conversion.specs.Parts.{TakesPartsTo, NoTreesTo, part_bytes}
 use Rattle.std.specs.List.{concat}
-use Rattle.asn1der.proofs.Doubts.{Inside, are_the_doubts}
-use Rattle.asn1der.proofs.Parts.{joined_parts}
-use Rattle.asn1der.proofs.Refusals.{no_conversion, no_empty_conversion}
-use Rattle.asn1der.proofs.Whole.{converts, says_same, says_raw, converts_again, converts_once}
-use Rattle.asn1der.proofs.conversion.convert.Goals as goal
+use Rattle.yasna_conversion.proofs.Doubts.{Inside, are_the_doubts}
+use Rattle.yasna_conversion.proofs.Parts.{joined_parts}
+use Rattle.yasna_conversion.proofs.Refusals.{no_conversion, no_empty_conversion}
+use Rattle.yasna_conversion.proofs.Whole.{converts, says_same, says_raw, converts_again, converts_once}
+use Rattle.yasna_conversion.proofs.conversion.convert.Goals as goal
 
 form : (c : goal.After-drop-parts-2) → Converts c.args.input.now c.in_ok-bytes.bytes.items
 form c =

@@ -2,9 +2,9 @@ use Rattle.std.proofs.Common.{subst, sym, ◌≤◌, ◌<◌, ◌*◌, ◌+◌, 
 use Rattle.yasna_base.specs.Bits.{bits_contents, bits_tag}
 use Rattle.yasna_base.proofs.Bits.{bits_can}
 use Rattle.yasna_bytes.specs.Segments.{bits_in}
-use Rattle.asn1der.proofs.Parts.{bits_part}
-use Rattle.asn1der.proofs.Refusals.{no_bits}
-use Rattle.asn1der.proofs.conversion.convert_bits.Goals as goal
+use Rattle.yasna_conversion.proofs.Parts.{bits_part}
+use Rattle.yasna_conversion.proofs.Refusals.{no_bits}
+use Rattle.yasna_conversion.proofs.conversion.convert_bits.Goals as goal
 
 pub bit_contents-requires-clause-enough : goal.bit_contents-requires-clause-enough
 bit_contents-requires-clause-enough c =

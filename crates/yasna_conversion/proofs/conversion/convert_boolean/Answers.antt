@@ -1,7 +1,7 @@
 use Rattle.std.proofs.Common.{ap, ◌∙◌, ◌∷◌, []}
-use Rattle.asn1der.proofs.Parts.{boolean_part}
-use Rattle.asn1der.proofs.Refusals.{no_boolean}
-use Rattle.asn1der.proofs.conversion.convert_boolean.Goals as goal
+use Rattle.yasna_conversion.proofs.Parts.{boolean_part}
+use Rattle.yasna_conversion.proofs.Refusals.{no_boolean}
+use Rattle.yasna_conversion.proofs.conversion.convert_boolean.Goals as goal
 
 pub returns : goal.returns
 returns c =

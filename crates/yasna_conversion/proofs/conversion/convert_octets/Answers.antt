@@ -1,6 +1,6 @@
-use Rattle.asn1der.proofs.Parts.{string_part}
-use Rattle.asn1der.proofs.Refusals.{no_string}
-use Rattle.asn1der.proofs.conversion.convert_octets.Goals as goal
+use Rattle.yasna_conversion.proofs.Parts.{string_part}
+use Rattle.yasna_conversion.proofs.Refusals.{no_string}
+use Rattle.yasna_conversion.proofs.conversion.convert_octets.Goals as goal
 
 pub returns : goal.returns
 returns c =

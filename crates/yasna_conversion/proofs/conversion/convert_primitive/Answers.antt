@@ -4,8 +4,8 @@ use Rattle.yasna_base.specs.Canonical.{canonical_element}
 use Rattle.yasna_base.specs.declared.mode.BERMode.TheVariants.{Der}
 use Rattle.yasna_base.specs.declared.tag.PCBit.TheVariants.{Primitive}
 use Rattle.yasna_bytes.specs.Opening.{Opening, end_found}
-use Rattle.asn1der.proofs.Parts.{primitive_part}
-use Rattle.asn1der.proofs.conversion.convert_primitive.Goals as goal
+use Rattle.yasna_conversion.proofs.Parts.{primitive_part}
+use Rattle.yasna_conversion.proofs.conversion.convert_primitive.Goals as goal
 
 pub returns : goal.returns
 returns c =

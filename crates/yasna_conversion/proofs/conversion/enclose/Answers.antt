@@ -3,9 +3,9 @@ use Rattle.std.specs.List.{concat}
 use Rattle.yasna_base.specs.Canonical.{canonical_element}
 use Rattle.yasna_base.specs.declared.mode.BERMode.TheVariants.{Der}
 use Rattle.yasna_base.specs.declared.tag.PCBit.TheVariants.{Constructed}
-use Rattle.asn1der.specs.Parts.{part_bytes, IsPartAround}
-use Rattle.asn1der.proofs.Parts.{if_ok_both, joined_parts}
-use Rattle.asn1der.proofs.conversion.enclose.Goals as goal
+use Rattle.yasna_conversion.specs.Parts.{part_bytes, IsPartAround}
+use Rattle.yasna_conversion.proofs.Parts.{if_ok_both, joined_parts}
+use Rattle.yasna_conversion.proofs.conversion.enclose.Goals as goal
 
 pub returns-clause-part : goal.returns-clause-part
 returns-clause-part c =

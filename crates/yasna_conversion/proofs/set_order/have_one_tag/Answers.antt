@@ -1,6 +1,6 @@
 use Rattle.std.proofs.Common.{rules}
-use Rattle.asn1der.proofs.Parts.{one_tag_first, one_tag_none}
-use Rattle.asn1der.proofs.set_order.have_one_tag.Goals as goal
+use Rattle.yasna_conversion.proofs.Parts.{one_tag_first, one_tag_none}
+use Rattle.yasna_conversion.proofs.set_order.have_one_tag.Goals as goal
 
 pub returns-in_default : goal.returns-in_default
 returns-in_default c = (λ i. one_tag_none c.args.parts.now (c.in_default.ensures {u = tt}).cases, λ a. search rules)

@@ -4,9 +4,9 @@ use Rattle.std.proofs.lemmas.List.Sorted.{ranks_by, answers_always}
 use Rattle.std.proofs.lemmas.Result.{on_ok_weaker}
 use Rattle.yasna_base.specs.Order.{octets_cmp}
 use Rattle.yasna_base.proofs.Order.{in_order_is, in_order_map}
-use Rattle.asn1der.specs.Parts.{part_bytes}
-use Rattle.asn1der.specs.declared.part.Part.{Part}
-use Rattle.asn1der.proofs.set_order.sort_parts.Goals as goal
+use Rattle.yasna_conversion.specs.Parts.{part_bytes}
+use Rattle.yasna_conversion.specs.declared.part.Part.{Part}
+use Rattle.yasna_conversion.proofs.set_order.sort_parts.Goals as goal
 
 pub returns : goal.returns
 returns c =

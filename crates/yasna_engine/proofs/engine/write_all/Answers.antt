@@ -1,6 +1,6 @@
 use Rattle.std.proofs.Common.{◌∙◌, arith}
-use Rattle.yasna_tool.proofs.Writes.{wrote_more}
-use Rattle.yasna_tool.proofs.engine.write_all.Goals as goal
+use Rattle.yasna_engine.proofs.Writes.{wrote_more}
+use Rattle.yasna_engine.proofs.engine.write_all.Goals as goal
 
 pub loop-rest-preserved : goal.loop-rest-preserved
 loop-rest-preserved g c =

@@ -7,10 +7,10 @@ use Rattle.yasna.specs.time.Models.{utc_of, moment_of}
 use Rattle.yasna.specs.time.UtcTime.{EncodesUtcTime, utc_time_form}
 use Rattle.yasna.specs.base.Octets.{EncodesOctets, octets_tag, octets_form}
 use Rattle.yasna.specs.base.Text.{EncodesText, characters, utf8_form}
-use Rattle.yasna_tool.specs.Kinds.{EncodesIntegers, integers_form}
+use Rattle.yasna_engine.specs.Kinds.{EncodesIntegers, integers_form}
 use Rattle.yasna.proofs.Laws.{list_along, signed_coding}
-use Rattle.yasna_tool.proofs.Recoded.{recoded, not_recoded}
-use Rattle.yasna_tool.proofs.kind.run_kind.Goals as goal
+use Rattle.yasna_engine.proofs.Recoded.{recoded, not_recoded}
+use Rattle.yasna_engine.proofs.kind.run_kind.Goals as goal
 use Rattle.yasna.specs.base.Text.{utf8_tag}
 use Rattle.yasna.specs.time.GeneralizedTime.{generalized_time_tag}
 use Rattle.yasna.specs.time.UtcTime.{utc_time_tag}

@@ -1,5 +1,5 @@
 use Rattle.std.proofs.Common.{rules}
-use Rattle.yasna_tool.proofs.tool.tool.Goals as goal
+use Rattle.yasna_engine.proofs.tool.tool.Goals as goal
 
 pub returns-in-Err-Refused-clause-not_taken : goal.returns-in-Err-Refused-clause-not_taken
 returns-in-Err-Refused-clause-not_taken g c = search rules

@@ -1,5 +1,5 @@
 use Rattle.std.proofs.Common.{rules}
-use Rattle.asn1der.proofs.fault.Fault.at.Goals as goal
+use Rattle.yasna_conversion.proofs.fault.Fault.at.Goals as goal
 
 pub returns-then-eq : goal.returns-then-eq
 returns-then-eq c = search rules
