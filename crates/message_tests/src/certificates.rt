@@ -2,7 +2,6 @@
 
 use crate::messages::{comes_back, is_refused};
 use std::alloc::Global;
-use std::process::Abort;
 use std::test::Fail;
 use x509::{
     Certificate, CertificateList, Signed, TbsCertList, TbsCertificate, read_signed_certificate,
@@ -82,23 +81,18 @@ pub fn bytes_of(alloc: Global, text: &str) -> ASN1Result<Vec<u8>> {
     }
 }
 
-fn text_comes_back<T: BERDecodable + DEREncodable + DERExact>(
-    rt: &impl Abort,
-    alloc: Global,
-    text: &str,
-) -> Result<(), Fail> {
-    let bytes = bytes_of(alloc, text)?;
-    comes_back::<T>(rt, alloc, &bytes)
+fn text_comes_back<T: BERDecodable + DEREncodable + DERExact>(alloc: Global, text: &str) -> bool {
+    match bytes_of(alloc, text) {
+        Ok(bytes) => comes_back::<T>(alloc, &bytes),
+        Err(_) => false,
+    }
 }
 
-fn text_is_refused<T: BERDecodable + DEREncodable + DERExact>(
-    rt: &impl Abort,
-    alloc: Global,
-    text: &str,
-) -> Result<(), Fail> {
-    let bytes = bytes_of(alloc, text)?;
-    is_refused::<T>(rt, alloc, &bytes);
-    Ok(())
+fn text_is_refused<T: BERDecodable + DEREncodable + DERExact>(alloc: Global, text: &str) -> bool {
+    match bytes_of(alloc, text) {
+        Ok(bytes) => is_refused::<T>(alloc, &bytes),
+        Err(_) => false,
+    }
 }
 
 fn certificate(alloc: Global, text: &str) -> ASN1Result<Certificate> {
@@ -108,14 +102,13 @@ fn certificate(alloc: Global, text: &str) -> ASN1Result<Certificate> {
 }
 
 #[test]
-fn certificates_come_back(rt: HostRuntime) -> Result<(), Fail> {
-    let alloc = rt.alloc();
-    text_comes_back::<Noted<Certificate>>(&rt, alloc, AUTHORITY)?;
-    text_comes_back::<Noted<Certificate>>(&rt, alloc, LEAF)?;
-    text_comes_back::<Noted<Certificate>>(&rt, alloc, UNIQUE)?;
+fn certificates_come_back(rt: HostRuntime) {
+    assert!(rt; text_comes_back::<Noted<Certificate>>(rt.alloc(), AUTHORITY));
+    assert!(rt; text_comes_back::<Noted<Certificate>>(rt.alloc(), LEAF));
+    assert!(rt; text_comes_back::<Noted<Certificate>>(rt.alloc(), UNIQUE));
     // a default that is written out is none of DER
-    text_is_refused::<Noted<Certificate>>(&rt, alloc, WRITTEN_OUT)?;
-    text_is_refused::<Noted<CertificateList>>(&rt, alloc, LEAF)
+    assert!(rt; text_is_refused::<Noted<Certificate>>(rt.alloc(), WRITTEN_OUT));
+    assert!(rt; text_is_refused::<Noted<CertificateList>>(rt.alloc(), LEAF));
 }
 
 // Whether it has the issuer's number of UNIQUE.
@@ -126,60 +119,58 @@ fn has_issuer_id(certificate: &TbsCertificate) -> bool {
     }
 }
 
-// How many certificates it revokes.
-fn revoked(list: &TbsCertList) -> Option<usize> {
-    match &list.revoked_certificates {
-        Some(certificates) => Some(certificates.len()),
-        None => None,
+fn is_unique(alloc: Global) -> bool {
+    match certificate(alloc, UNIQUE) {
+        Ok(unique) => has_issuer_id(&unique.tbs_certificate),
+        Err(_) => false,
     }
 }
 
-fn says_what_the_authority_is(rt: &impl Abort, authority: &TbsCertificate) {
-    assert_eq!(rt; authority.version, 2);
-    let (serial, is_positive) = &authority.serial_number;
-    assert_eq!(rt;
-        serial.as_slice(),
-        [0, 241, 226, 211, 196, 181, 166, 151].as_slice()
-    );
-    assert!(rt; *is_positive);
+// Whether it has the version and the number of AUTHORITY.
+fn is_of_authority(certificate: &TbsCertificate) -> bool {
+    let (serial, is_positive) = &certificate.serial_number;
+    certificate.version == 2
+        && serial.as_slice() == [0, 241, 226, 211, 196, 181, 166, 151].as_slice()
+        && *is_positive
+}
+
+fn is_authority(alloc: Global) -> bool {
+    match certificate(alloc, AUTHORITY) {
+        Ok(authority) => is_of_authority(&authority.tbs_certificate),
+        Err(_) => false,
+    }
 }
 
 #[test]
-fn what_certificates_say(rt: HostRuntime) -> Result<(), Fail> {
-    let authority = certificate(rt.alloc(), AUTHORITY)?;
-    says_what_the_authority_is(&rt, &authority.tbs_certificate);
-    Ok(())
+fn what_certificates_say(rt: HostRuntime) {
+    assert!(rt; is_authority(rt.alloc()));
 }
 
 #[test]
-fn unique_identifiers(rt: HostRuntime) -> Result<(), Fail> {
-    let unique = certificate(rt.alloc(), UNIQUE)?;
-    assert!(rt; has_issuer_id(&unique.tbs_certificate));
-    Ok(())
+fn unique_identifiers(rt: HostRuntime) {
+    assert!(rt; is_unique(rt.alloc()));
 }
 
 fn version_of(alloc: Global, text: &str) -> ASN1Result<u64> {
-    let certificate = certificate(alloc, text)?;
-    Ok(certificate.tbs_certificate.version)
+    match certificate(alloc, text) {
+        Ok(certificate) => Ok(certificate.tbs_certificate.version),
+        Err(error) => Err(error),
+    }
 }
 
 #[test]
-fn versions(rt: HostRuntime) -> Result<(), Fail> {
+fn versions(rt: HostRuntime) {
     // BER takes a default that is written out
-    assert_eq!(rt; version_of(rt.alloc(), LEAF)?, 0);
-    assert_eq!(rt; version_of(rt.alloc(), WRITTEN_OUT)?, 0);
+    assert_eq!(rt; version_of(rt.alloc(), LEAF), Ok(0));
+    assert_eq!(rt; version_of(rt.alloc(), WRITTEN_OUT), Ok(0));
     // no version has the number 3
-    let refused = version_of(rt.alloc(), NO_VERSION);
-    assert_eq!(rt;
-        refused.err().map(|error| error.kind()),
-        Some(ASN1ErrorKind::Invalid)
-    );
-    Ok(())
+    let invalid = ASN1Error::new(ASN1ErrorKind::Invalid);
+    assert_eq!(rt; version_of(rt.alloc(), NO_VERSION), Err(invalid));
 }
 
 #[test]
-fn revocation_lists_come_back(rt: HostRuntime) -> Result<(), Fail> {
-    text_comes_back::<Noted<CertificateList>>(&rt, rt.alloc(), REVOKED)
+fn revocation_lists_come_back(rt: HostRuntime) {
+    assert!(rt; text_comes_back::<Noted<CertificateList>>(rt.alloc(), REVOKED));
 }
 
 fn list_of(alloc: Global, bytes: &[u8]) -> ASN1Result<CertificateList> {
@@ -187,24 +178,40 @@ fn list_of(alloc: Global, bytes: &[u8]) -> ASN1Result<CertificateList> {
     Ok(noted.into_value())
 }
 
+// Whether it is of version 2, and revokes one certificate.
+fn revokes_one(list: &TbsCertList) -> bool {
+    match &list.revoked_certificates {
+        Some(certificates) => list.version == Some(1) && certificates.len() == 1,
+        None => false,
+    }
+}
+
+fn is_list_of_one(alloc: Global, text: &str) -> ASN1Result<bool> {
+    let bytes = bytes_of(alloc, text)?;
+    match list_of(alloc, &bytes) {
+        Ok(list) => Ok(revokes_one(&list.tbs_cert_list)),
+        Err(error) => Err(error),
+    }
+}
+
 #[test]
-fn what_revocation_lists_say(rt: HostRuntime) -> Result<(), Fail> {
-    let bytes = bytes_of(rt.alloc(), REVOKED)?;
-    let list = list_of(rt.alloc(), &bytes)?;
-    assert_eq!(rt; list.tbs_cert_list.version, Some(1));
-    assert_eq!(rt; revoked(&list.tbs_cert_list), Some(1));
-    Ok(())
+fn what_revocation_lists_say(rt: HostRuntime) {
+    assert_eq!(rt; is_list_of_one(rt.alloc(), REVOKED), Ok(true));
+}
+
+// Whether a list whose version has the number 0 is refused.
+fn is_older_refused(alloc: Global, text: &str) -> ASN1Result<bool> {
+    let mut older = bytes_of(alloc, text)?;
+    if let Some(version) = older.get_mut(9) {
+        *version = 0;
+    }
+    Ok(list_of(alloc, &older).is_err())
 }
 
 // It names version 2 or none.
 #[test]
-fn older_revocation_lists(rt: HostRuntime) -> Result<(), Fail> {
-    let mut older = bytes_of(rt.alloc(), REVOKED)?;
-    if let Some(version) = older.get_mut(9) {
-        *version = 0;
-    }
-    assert!(rt; list_of(rt.alloc(), &older).is_err());
-    Ok(())
+fn older_revocation_lists(rt: HostRuntime) {
+    assert_eq!(rt; is_older_refused(rt.alloc(), REVOKED), Ok(true));
 }
 
 // A closure that hands on what it borrows, or a function of another crate by its name, is not proved.
@@ -216,19 +223,35 @@ fn signed_list<'a>(reader: BERReader<'a, '_>) -> ASN1Result<Signed<'a, Certifica
     read_signed_list(reader)
 }
 
+// Whether what is signed of a certificate of version 3 are these of its bytes.
+fn is_signed(alloc: Global, bytes: &[u8], from: usize, to: usize) -> bool {
+    match parse_der(alloc, bytes, signed_certificate) {
+        Ok(signed) => {
+            signed.value.tbs_certificate.version == 2
+                && bytes.get(from..to) == Some(signed.signed_bytes)
+        }
+        Err(_) => false,
+    }
+}
+
 #[test]
 fn what_is_signed_of_certificates(rt: HostRuntime) -> Result<(), Fail> {
     let bytes = bytes_of(rt.alloc(), AUTHORITY)?;
-    let signed = parse_der(rt.alloc(), &bytes, signed_certificate)?;
-    assert_eq!(rt; bytes.get(4..358), Some(signed.signed_bytes));
-    assert_eq!(rt; signed.value.tbs_certificate.version, 2);
+    assert!(rt; is_signed(rt.alloc(), &bytes, 4, 358));
     Ok(())
+}
+
+// The same of a list.
+fn is_signed_list(alloc: Global, bytes: &[u8], from: usize, to: usize) -> bool {
+    match parse_der(alloc, bytes, signed_list) {
+        Ok(signed) => bytes.get(from..to) == Some(signed.signed_bytes),
+        Err(_) => false,
+    }
 }
 
 #[test]
 fn what_is_signed_of_lists(rt: HostRuntime) -> Result<(), Fail> {
     let bytes = bytes_of(rt.alloc(), REVOKED)?;
-    let signed = parse_der(rt.alloc(), &bytes, signed_list)?;
-    assert_eq!(rt; bytes.get(4..202), Some(signed.signed_bytes));
+    assert!(rt; is_signed_list(rt.alloc(), &bytes, 4, 202));
     Ok(())
 }

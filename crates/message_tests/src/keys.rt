@@ -5,10 +5,11 @@ use crate::messages::{comes_back, is_refused};
 use cms::{ContentInfo, EnvelopedData, SignedData};
 use pkcs8::{OneAsymmetricKey, PrivateKeyInfo};
 use std::alloc::Global;
-use std::process::Abort;
-use std::test::Fail;
 use yasna::tags::TAG_SEQUENCE;
-use yasna::{ASN1Error, ASN1ErrorKind, ASN1Result, decode_ber, decode_der};
+use yasna::{
+    ASN1Error, ASN1ErrorKind, ASN1Result, BERDecodable, DEREncodable, DERExact, Tag, decode_ber,
+    decode_der,
+};
 use yasna_notation::Noted;
 
 // `openssl genpkey -algorithm ED25519 -outform DER`.
@@ -71,19 +72,50 @@ fn public_size(key: &OneAsymmetricKey) -> Option<(usize, usize)> {
     }
 }
 
-#[test]
-fn private_keys_come_back(rt: HostRuntime) -> Result<(), Fail> {
-    let key = bytes_of(rt.alloc(), ED25519)?;
-    comes_back::<Noted<PrivateKeyInfo>>(&rt, rt.alloc(), &key)?;
-    comes_back::<Noted<OneAsymmetricKey>>(&rt, rt.alloc(), &key)
+// Whether the text's bytes behind so many are the form of a value of this type.
+fn text_comes_back<T: BERDecodable + DEREncodable + DERExact>(
+    alloc: Global,
+    text: &str,
+    header: usize,
+) -> ASN1Result<bool> {
+    let bytes = bytes_of(alloc, text)?;
+    Ok(comes_back::<T>(alloc, content_of(&bytes, header)?))
+}
+
+// Whether they are the form of none.
+fn text_is_refused<T: BERDecodable + DEREncodable + DERExact>(
+    alloc: Global,
+    text: &str,
+    header: usize,
+) -> ASN1Result<bool> {
+    let bytes = bytes_of(alloc, text)?;
+    Ok(is_refused::<T>(alloc, content_of(&bytes, header)?))
 }
 
 #[test]
-fn keys_with_public_keys_come_back(rt: HostRuntime) -> Result<(), Fail> {
-    let key = bytes_of(rt.alloc(), WITH_PUBLIC_KEY)?;
-    comes_back::<Noted<OneAsymmetricKey>>(&rt, rt.alloc(), &key)?;
-    is_refused::<Noted<PrivateKeyInfo>>(&rt, rt.alloc(), &key);
-    Ok(())
+fn private_keys_come_back(rt: HostRuntime) {
+    let alloc = rt.alloc();
+    assert_eq!(rt;
+        text_comes_back::<Noted<PrivateKeyInfo>>(alloc, ED25519, 0),
+        Ok(true)
+    );
+    assert_eq!(rt;
+        text_comes_back::<Noted<OneAsymmetricKey>>(alloc, ED25519, 0),
+        Ok(true)
+    );
+}
+
+#[test]
+fn keys_with_public_keys_come_back(rt: HostRuntime) {
+    let alloc = rt.alloc();
+    assert_eq!(rt;
+        text_comes_back::<Noted<OneAsymmetricKey>>(alloc, WITH_PUBLIC_KEY, 0),
+        Ok(true)
+    );
+    assert_eq!(rt;
+        text_is_refused::<Noted<PrivateKeyInfo>>(alloc, WITH_PUBLIC_KEY, 0),
+        Ok(true)
+    );
 }
 
 fn key_of(alloc: Global, text: &str) -> ASN1Result<OneAsymmetricKey> {
@@ -92,28 +124,39 @@ fn key_of(alloc: Global, text: &str) -> ASN1Result<OneAsymmetricKey> {
     Ok(noted.into_value())
 }
 
-#[test]
-fn what_keys_say(rt: HostRuntime) -> Result<(), Fail> {
-    let key = key_of(rt.alloc(), WITH_PUBLIC_KEY)?;
-    assert_eq!(rt; key.version, 1);
-    assert_eq!(rt; public_size(&key), Some((32, 256)));
-    Ok(())
+// The version of a key, and the size of its public key.
+fn said_of(alloc: Global, text: &str) -> ASN1Result<(u64, Option<(usize, usize)>)> {
+    match key_of(alloc, text) {
+        Ok(key) => Ok((key.version, public_size(&key))),
+        Err(error) => Err(error),
+    }
 }
 
 #[test]
-fn newer_keys(rt: HostRuntime) {
-    let newer = key_of(rt.alloc(), VERSION_3);
+fn what_keys_say(rt: HostRuntime) {
     assert_eq!(rt;
-        newer.err().map(|error| error.kind()),
-        Some(ASN1ErrorKind::Invalid)
+        said_of(rt.alloc(), WITH_PUBLIC_KEY),
+        Ok((1, Some((32, 256))))
     );
 }
 
 #[test]
-fn signed_contents_come_back(rt: HostRuntime) -> Result<(), Fail> {
-    let bytes = bytes_of(rt.alloc(), SIGNED)?;
-    comes_back::<Noted<ContentInfo>>(&rt, rt.alloc(), &bytes)?;
-    comes_back::<Noted<SignedData>>(&rt, rt.alloc(), content_of(&bytes, 19)?)
+fn newer_keys(rt: HostRuntime) {
+    let invalid = ASN1Error::new(ASN1ErrorKind::Invalid);
+    assert_eq!(rt; said_of(rt.alloc(), VERSION_3), Err(invalid));
+}
+
+#[test]
+fn signed_contents_come_back(rt: HostRuntime) {
+    let alloc = rt.alloc();
+    assert_eq!(rt;
+        text_comes_back::<Noted<ContentInfo>>(alloc, SIGNED, 0),
+        Ok(true)
+    );
+    assert_eq!(rt;
+        text_comes_back::<Noted<SignedData>>(alloc, SIGNED, 19),
+        Ok(true)
+    );
 }
 
 fn signed_data(alloc: Global, text: &str) -> ASN1Result<SignedData> {
@@ -122,32 +165,51 @@ fn signed_data(alloc: Global, text: &str) -> ASN1Result<SignedData> {
     Ok(noted.into_value())
 }
 
+// The version of signed contents, and how many signed them.
+fn signers_of(alloc: Global, text: &str) -> ASN1Result<(u64, usize)> {
+    match signed_data(alloc, text) {
+        Ok(data) => Ok((data.version, data.signer_infos.len())),
+        Err(error) => Err(error),
+    }
+}
+
 #[test]
-fn what_signed_contents_say(rt: HostRuntime) -> Result<(), Fail> {
-    let data = signed_data(rt.alloc(), SIGNED)?;
-    assert_eq!(rt; data.version, 3);
-    assert_eq!(rt; data.signer_infos.len(), 1);
-    Ok(())
+fn what_signed_contents_say(rt: HostRuntime) {
+    assert_eq!(rt; signers_of(rt.alloc(), SIGNED), Ok((3, 1)));
+}
+
+fn tag_of(alloc: Global, text: &str) -> ASN1Result<Tag> {
+    let bytes = bytes_of(alloc, text)?;
+    let noted: Noted<ContentInfo> = decode_ber(alloc, &bytes)?;
+    Ok(noted.value.content.tag())
 }
 
 // Where it was streamed, BER alone reads it.
 #[test]
-fn streamed_contents(rt: HostRuntime) -> Result<(), Fail> {
-    let bytes = bytes_of(rt.alloc(), STREAMED)?;
-    is_refused::<Noted<ContentInfo>>(&rt, rt.alloc(), &bytes);
-    let noted: Noted<ContentInfo> = decode_ber(rt.alloc(), &bytes)?;
-    assert_eq!(rt; noted.value.content.tag(), TAG_SEQUENCE);
-    Ok(())
+fn streamed_contents(rt: HostRuntime) {
+    let alloc = rt.alloc();
+    assert_eq!(rt;
+        text_is_refused::<Noted<ContentInfo>>(alloc, STREAMED, 0),
+        Ok(true)
+    );
+    assert_eq!(rt; tag_of(alloc, STREAMED), Ok(TAG_SEQUENCE));
 }
 
 #[test]
-fn enveloped_contents_come_back(rt: HostRuntime) -> Result<(), Fail> {
-    let bytes = bytes_of(rt.alloc(), ENVELOPED)?;
-    comes_back::<Noted<ContentInfo>>(&rt, rt.alloc(), &bytes)?;
-    let content = content_of(&bytes, 19)?;
-    comes_back::<Noted<EnvelopedData>>(&rt, rt.alloc(), content)?;
-    is_refused::<Noted<SignedData>>(&rt, rt.alloc(), content);
-    Ok(())
+fn enveloped_contents_come_back(rt: HostRuntime) {
+    let alloc = rt.alloc();
+    assert_eq!(rt;
+        text_comes_back::<Noted<ContentInfo>>(alloc, ENVELOPED, 0),
+        Ok(true)
+    );
+    assert_eq!(rt;
+        text_comes_back::<Noted<EnvelopedData>>(alloc, ENVELOPED, 19),
+        Ok(true)
+    );
+    assert_eq!(rt;
+        text_is_refused::<Noted<SignedData>>(alloc, ENVELOPED, 19),
+        Ok(true)
+    );
 }
 
 fn enveloped_data(alloc: Global, text: &str) -> ASN1Result<EnvelopedData> {
@@ -156,9 +218,15 @@ fn enveloped_data(alloc: Global, text: &str) -> ASN1Result<EnvelopedData> {
     Ok(noted.into_value())
 }
 
+// How many there are whom it is for.
+fn recipients_of(alloc: Global, text: &str) -> ASN1Result<usize> {
+    match enveloped_data(alloc, text) {
+        Ok(data) => Ok(data.recipient_infos.len()),
+        Err(error) => Err(error),
+    }
+}
+
 #[test]
-fn what_enveloped_contents_say(rt: HostRuntime) -> Result<(), Fail> {
-    let data = enveloped_data(rt.alloc(), ENVELOPED)?;
-    assert_eq!(rt; data.recipient_infos.len(), 1);
-    Ok(())
+fn what_enveloped_contents_say(rt: HostRuntime) {
+    assert_eq!(rt; recipients_of(rt.alloc(), ENVELOPED), Ok(1));
 }

@@ -4,8 +4,6 @@ use crate::certificates::bytes_of;
 use crate::messages::comes_back;
 use ldap::{Filter, FilterItem, LdapMessage, ProtocolOp};
 use std::alloc::Global;
-use std::process::Abort;
-use std::test::Fail;
 use yasna::{ASN1Result, decode_ber, decode_der, encode_der, one_form};
 use yasna_notation::Noted;
 
@@ -140,61 +138,11 @@ const LONGER: [(&str, &str); 5] = [
     ),
 ];
 
-fn text_comes_back(rt: &impl Abort, alloc: Global, text: &str) -> Result<(), Fail> {
-    let bytes = bytes_of(alloc, text)?;
-    comes_back::<Noted<LdapMessage>>(rt, alloc, &bytes)
-}
-
-fn is_refused(rt: &impl Abort, alloc: Global, text: &str) -> Result<(), Fail> {
-    let bytes = bytes_of(alloc, text)?;
-    assert!(rt;
-        decode_ber::<Noted<LdapMessage>>(alloc, &bytes).is_err(),
-        "{text}"
-    );
-    Ok(())
-}
-
-fn written_anew(alloc: Global, bytes: &[u8]) -> ASN1Result<Vec<u8>> {
-    one_form::<Noted<LdapMessage>>();
-    let message: Noted<LdapMessage> = decode_ber(alloc, bytes)?;
-    encode_der(alloc, &message)
-}
-
-fn has_form(rt: &impl Abort, alloc: Global, text: &str, form: &str) -> Result<(), Fail> {
-    let bytes = bytes_of(alloc, text)?;
-    let form = bytes_of(alloc, form)?;
-    let written = written_anew(alloc, &bytes)?;
-    assert_eq!(rt; written.as_slice(), form.as_slice(), "{text}");
-    assert!(rt;
-        decode_der::<Noted<LdapMessage>>(alloc, &bytes).is_err(),
-        "{text}"
-    );
-    Ok(())
-}
-
-#[test]
-fn messages_come_back(rt: HostRuntime) -> Result<(), Fail> {
-    for text in TAKEN {
-        text_comes_back(&rt, rt.alloc(), text)?;
+fn text_comes_back(alloc: Global, text: &str) -> bool {
+    match bytes_of(alloc, text) {
+        Ok(bytes) => comes_back::<Noted<LdapMessage>>(alloc, &bytes),
+        Err(_) => false,
     }
-    Ok(())
-}
-
-#[test]
-fn others_are_refused(rt: HostRuntime) -> Result<(), Fail> {
-    for text in REFUSED {
-        is_refused(&rt, rt.alloc(), text)?;
-    }
-    Ok(())
-}
-
-#[test]
-fn what_ber_reads_is_written_anew(rt: HostRuntime) -> Result<(), Fail> {
-    for (text, form) in LONGER {
-        has_form(&rt, rt.alloc(), text, form)?;
-        text_comes_back(&rt, rt.alloc(), form)?;
-    }
-    Ok(())
 }
 
 fn message_of(alloc: Global, text: &str) -> ASN1Result<LdapMessage> {
@@ -203,11 +151,68 @@ fn message_of(alloc: Global, text: &str) -> ASN1Result<LdapMessage> {
     Ok(noted.into_value())
 }
 
+fn written_anew(alloc: Global, bytes: &[u8]) -> ASN1Result<Vec<u8>> {
+    one_form::<Noted<LdapMessage>>();
+    let message: Noted<LdapMessage> = decode_ber(alloc, bytes)?;
+    encode_der(alloc, &message)
+}
+
+fn form_of(alloc: Global, text: &str) -> ASN1Result<Vec<u8>> {
+    written_anew(alloc, &bytes_of(alloc, text)?)
+}
+
+// Whether the message has this form.
+fn has_form(alloc: Global, text: &str, form: &str) -> ASN1Result<bool> {
+    let written = form_of(alloc, text)?;
+    let form = bytes_of(alloc, form)?;
+    Ok(written.as_slice() == form.as_slice())
+}
+
+// Whether BER reads no message from it.
+fn is_refused(alloc: Global, text: &str) -> ASN1Result<bool> {
+    let bytes = bytes_of(alloc, text)?;
+    Ok(decode_ber::<Noted<LdapMessage>>(alloc, &bytes).is_err())
+}
+
+// Whether its bytes are no form.
+fn is_no_form(alloc: Global, text: &str) -> ASN1Result<bool> {
+    let bytes = bytes_of(alloc, text)?;
+    Ok(decode_der::<Noted<LdapMessage>>(alloc, &bytes).is_err())
+}
+
 #[test]
-fn what_a_search_asks(rt: HostRuntime) -> Result<(), Fail> {
-    let message = message_of(rt.alloc(), TAKEN[17])?;
-    assert!(rt; asks_for_both(&message.protocol_op));
-    Ok(())
+fn messages_come_back(rt: HostRuntime) {
+    for text in TAKEN {
+        assert!(rt; text_comes_back(rt.alloc(), text), "{text}");
+    }
+}
+
+#[test]
+fn others_are_refused(rt: HostRuntime) {
+    for text in REFUSED {
+        assert_eq!(rt; is_refused(rt.alloc(), text), Ok(true), "{text}");
+    }
+}
+
+#[test]
+fn what_ber_reads_is_written_anew(rt: HostRuntime) {
+    for (text, form) in LONGER {
+        assert_eq!(rt; has_form(rt.alloc(), text, form), Ok(true), "{text}");
+        assert_eq!(rt; is_no_form(rt.alloc(), text), Ok(true), "{text}");
+        assert!(rt; text_comes_back(rt.alloc(), form), "{form}");
+    }
+}
+
+fn is_asked(alloc: Global, text: &str) -> bool {
+    match message_of(alloc, text) {
+        Ok(message) => asks_for_both(&message.protocol_op),
+        Err(_) => false,
+    }
+}
+
+#[test]
+fn what_a_search_asks(rt: HostRuntime) {
+    assert!(rt; is_asked(rt.alloc(), TAKEN[17]));
 }
 
 // Whether it asks for what isn't one thing and equals another.
