@@ -1,5 +1,7 @@
 pub mod OneTag
 pub mod Enclosing
+pub mod Around
+pub mod Appending
 pub mod Contents
 pub mod Standing
 pub mod Found

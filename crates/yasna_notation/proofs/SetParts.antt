@@ -1,5 +1,7 @@
 -- What reads and writes of a SET OF do, whose values stand in no order.
-use Rattle.std.proofs.Common.{◌≡◌, List, [], ◌∷◌, ◌++◌, Bool, true, Option, Some, None, Result, Ok, Err, Vec, ℕ, inl, inr, refl, sym, ap, subst, ◌∙◌, arith}
+use Rattle.std.proofs.Common.{◌≡◌, ◌+◌, ◌<◌, length, get_or, take, map, List, [], ◌∷◌, ◌++◌, Bool, true, Option, Some, None, Result, Ok}
+use Rattle.std.proofs.Common.{Err, Vec, ℕ, inl, inr, refl, sym, ap, subst, ◌∙◌, arith}
+use Rattle.std.proofs.lemmas.List.{map-append, take_more}
 use Rattle.std.specs.Borrow.{MutBor}
 use Rattle.std.specs.Fn.{Once, Mut, Called, CalledAtMut}
 use Rattle.std.specs.Global.{Global}
@@ -98,6 +100,35 @@ part_failed ps these b m s w w' e (Ok u) filled h begins x is = absurd is
 part_failed ps these b m s w w' e (Err k) filled h begins x is =
     subst (λ z. MatchOption w'.kept (IsWantOfMemory z × AllByRecursion HasOctets (parts_unless_kept w.kept s.parts ++ (w'.bytes ∷ []))) IsWantOfMemory)
     (sym is) (part_added ps s w'.bytes s.kept w.kept w'.kept e filled h begins.keeps x)
+
+-- a part behind others, where there is memory
+part_wrote : (ps : List (List ℕ)) (s : WrittenParts) (b c : List ℕ) (o k i : Option ASN1Error) → MatchOption o (s.parts ≡ ps) IsWantOfMemory →
+    KeptAtPart o k → MatchOption k (MatchOption i (c ≡ b) IsWantOfMemory) (λ k. i ≡ Some k) →
+    MatchOption i (parts_unless_kept k s.parts ++ (c ∷ []) ≡ ps ++ (b ∷ [])) IsWantOfMemory
+part_wrote ps s b c None None None h n x = ap (λ y. y ++ (c ∷ [])) h ∙ ap (λ z. ps ++ (z ∷ [])) x
+part_wrote ps s b c (Some o) None None h n x = absurd (cc)
+part_wrote ps s b c o None (Some i) h n x = x
+part_wrote ps s b c o (Some k) None h n x = absurd (cc)
+part_wrote ps s b c None (Some k) (Some i) h (inl n) x = absurd (cc)
+part_wrote ps s b c None (Some k) (Some i) h (inr n) x = let y : i ≡ k = cc in ap kind_of y ∙ n.1
+part_wrote ps s b c (Some o) (Some k) (Some i) h (inl n) x = let y : i ≡ o = cc in ap kind_of y ∙ h
+part_wrote ps s b c (Some o) (Some k) (Some i) h (inr n) x = let y = n.0 in absurd (cc)
+
+pub item_written : {A : Type 0} (form : Form A) (vs : List A) (i : ℕ) (v : A) (m : BERMode) (s : WrittenParts) (w w' : Written)
+    (r : Result (Unit {0}) ASN1Error) (u : Unit {0}) → (s.mode ≡ m) × WroteElements (forms form m (take i vs)) s (Ok tt) → BeginsPart s.mode s.kept w →
+    WroteElement (form w.mode v) w w' r → r ≡ Ok u → i < length vs → v ≡ get_or vs i v →
+    (s.mode ≡ m) × WroteElements (forms form m (take (i + 1) vs))
+    (record { parts = parts_unless_kept w.kept s.parts ++ (w'.bytes ∷ []); mode = s.mode; kept = w'.kept }) (Ok tt)
+item_written form vs i v m s w w' r u so_far begins x ok below is =
+    let f = form m in
+    let joined : map f (take i vs) ++ (f v ∷ []) ≡ map f (take (i + 1) vs) =
+    sym (map-append f (take i vs) (v ∷ [])) ∙ ap (λ z. map f (take i vs ++ z ∷ [])) is ∙ ap (λ z. map f z) (sym (take_more vs i v below)) in
+    let mode : w.mode ≡ m = ap (λ (z : Written). z.mode) begins.fresh ∙ so_far.0 in
+    let y = subst (λ z. WroteElement (form z v) w w' (Ok u)) mode (subst (λ z. WroteElement (form w.mode v) w w' z) ok x) in (
+      so_far.0,
+      subst (λ z. MatchOption w'.kept (parts_unless_kept w.kept s.parts ++ (w'.bytes ∷ []) ≡ z) IsWantOfMemory) joined
+          (part_wrote (map f (take i vs)) s (f v) w'.bytes s.kept w.kept w'.kept so_far.1 begins.keeps y),
+    )
 
 -- no form is empty
 pub forms_filled : {A : Type 0} (form : Form A) (m : BERMode) → ((v : A) → HasOctets (form m v)) → (vs : List A) →

@@ -1,8 +1,9 @@
-use Rattle.std.proofs.Common.{◌≡◌, rules, subst, Ok, Err}
+use Rattle.std.proofs.Common.{rules, subst, Ok, Err, ◌&&◌}
+use Rattle.std.proofs.lemmas.Bool.{and_parts}
 use Rattle.yasna_reader.specs.Optional.{ReadsDefault}
 use Rattle.yasna_reader.specs.State.{part_of}
 use Rattle.yasna_notation.specs.Notation.{ReadsAs}
-use Rattle.yasna_notation.specs.Parts.{ReadsContents}
+use Rattle.yasna_notation.specs.Parts.{ReadsContents, is_told}
 use Rattle.yasna_notation.proofs.Contents.{default_first, default_called, first_read, first_failed}
 use Rattle.yasna_notation.proofs.defaults.Tuple2DefaultParts.read_parts.Goals as goal
 
@@ -53,3 +54,9 @@ returns-in-Err g c =
     let read = subst (λ v. ReadsDefault N _ v s c.read_default.result m) c.default.ensures
     (default_called _ _ N _ c.default.result s c.read_default.result m c.read_default.ensures (λ p q x h. search rules)) in
     first_failed w.asks_memory w.parts first s c.requires.fresh c.read_default.result m read c.in-Err.error c.in-Err.is
+
+pub read_parts-requires-clause-apart : goal.read_parts-requires-clause-apart
+read_parts-requires-clause-apart g c =
+    let a = g.A.Notation.apart in
+    let b = g.W.Parts.apart in
+    (and_parts a b (is_told g.A.Notation.means.told g.W.Parts.told _ (a && b) c.requires.apart).all_apart).1

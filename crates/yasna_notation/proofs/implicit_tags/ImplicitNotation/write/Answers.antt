@@ -1,6 +1,15 @@
-use Rattle.std.proofs.Common.{arith}
-use Rattle.std.proofs.lemmas.Grind.{common_steps}
+use Rattle.std.proofs.Common.{Some, rules, subst}
+use Rattle.yasna_base.specs.Identifier.{tag_or}
+use Rattle.yasna_writer.specs.View.{Written, Writes}
+use Rattle.yasna_notation.proofs.Around.{under_tag}
 use Rattle.yasna_notation.proofs.implicit_tags.ImplicitNotation.write.Goals as goal
 
 pub returns : goal.returns
-returns g c = grind (arith, common_steps)
+returns g c =
+    let old : Written = c.args.writer.now in
+    let new : Written = c.write_tagged_implicit.new.self in
+    let form = g.N.Notation.means.form_under in
+    let v = c.args.value.now in
+    subst (λ t. Writes (form (Some (tag_or old.tag t)) old.mode v) old new c.write_tagged_implicit.result) c.tag.ensures
+    (under_tag _ _ _ (λ k e h. h) c.tag.result (λ u m. form u m v) old new c.write_tagged_implicit.result c.write_tagged_implicit.ensures
+    (λ p q x h. search rules))
