@@ -1,9 +1,14 @@
-use Rattle.std.proofs.Common.{arith}
-use Rattle.std.proofs.lemmas.Grind.{common_steps}
+use Rattle.std.proofs.Common.{rules, arith, append_assoc, append-nil}
+use Rattle.yasna.specs.Words.{sequence_tag}
+use Rattle.yasna_examples.proofs.Writing.{enclosed_by}
 use Rattle.yasna_examples.proofs.public_key.AlgorithmIdentifierDEREncodable.encode_der.Goals as goal
 
 pub returns-in-Some : goal.returns-in-Some
-returns-in-Some c = grind (arith, common_steps)
+returns-in-Some c =
+    enclosed_by _ _ sequence_tag c.args.writer.now c.write_sequence.new.self c.write_sequence.result _ c.requires.untagged c.write_sequence.ensures
+    (λ p q x h. grind (arith, append_assoc, append-nil))
 
 pub returns-in-None : goal.returns-in-None
-returns-in-None c = grind (arith, common_steps)
+returns-in-None c =
+    enclosed_by _ _ sequence_tag c.args.writer.now c.write_sequence-in-None.new.self c.write_sequence-in-None.result _ c.requires.untagged
+    c.write_sequence-in-None.ensures (λ p q x h. search rules)

@@ -1,0 +1,27 @@
+-- What a part that may be left out reads, by what its closure does.
+use Rattle.std.proofs.Common.{◌≡◌, Option, None, Some, Result, refl, subst}
+use Rattle.std.specs.Borrow.{MutBor}
+use Rattle.std.specs.Fn.{Once, FnOnceReturnsAtMut}
+use Rattle.yasna.specs.Words.{ASN1Error, Reading, Does, ReadsOptional}
+use Rattle.yasna.specs.reader.Callback.{Hands, UnlessKept}
+use Rattle.yasna.specs.reader.Optional.{optional}
+use Rattle.yasna.specs.reader.State.{untagged}
+use Rattle.yasna.specs.reader.declared.callback.Outcome.{Outcome}
+
+-- the closure's calls do what N says
+pub reads_optional_by : {F A : Type 0} (g : Once F (MutBor Reading × Unit {0}) (Result A ASN1Error × (MutBor Reading × Unit {0}))) (f : F) (N : Does A)
+    (s : Reading) (r : Result (Option A) ASN1Error) (s' : Reading) → ReadsOptional (FnOnceReturnsAtMut g f) s r s' →
+    ((p q : MutBor Reading) (x : Result A ASN1Error) → s.kept ≡ None → g.post f (record p { now = untagged s }, tt) (x, (q, tt)) →
+    N (untagged s) x q.now) →
+    ReadsOptional N s r s'
+reads_optional_by {A} g f N s r s' h says = by_kept s.kept refl h
+  where
+    by_kept : (k : Option ASN1Error) → s.kept ≡ k →
+        UnlessKept k s r s' ((o : Outcome A) × Hands (FnOnceReturnsAtMut g f) (untagged s) o s' × (r ≡ optional o)) →
+        UnlessKept k s r s' ((o : Outcome A) × Hands N (untagged s) o s' × (r ≡ optional o))
+    by_kept (Some e) is x = x
+    by_kept None is (o, k, e) =
+        let shown : MutBor Reading = k.says.shown in
+        let met = subst (λ (z : Reading). g.post f (record shown { now = z }, tt) (k.own, (k.says.left, tt))) k.says.shows k.says.met in
+        let ran : N (untagged s) k.own k.left = subst (λ z. N (untagged s) k.own z) k.says.leaves (says shown k.says.left k.own is met) in
+        (o, record { own = k.own; left = k.left; says = ran; comes = k.comes }, e)
