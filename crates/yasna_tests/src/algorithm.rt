@@ -3,113 +3,126 @@
 use crate::checks::{gives, refuses};
 use crate::public_key::{ED25519, RSA};
 use std::alloc::Global;
-use std::process::Abort;
-use std::test::Fail;
-use yasna::models::TaggedDerValue;
-use yasna::{ASN1ErrorKind, ASN1Result, decode_ber, decode_der, encode_der, tags};
+use yasna::{ASN1ErrorKind, ASN1Result, Tag, decode_ber, decode_der, encode_der, tags};
 use yasna_examples::{AlgorithmIdentifier, SubjectPublicKeyInfo, encoded_key};
 
-// An algorithm is read from its form, and written in it.
-fn is_form(
-    rt: &impl Abort,
-    alloc: Global,
-    form: &[u8],
-    name: &[u64],
-) -> Result<Option<TaggedDerValue>, Fail> {
-    let read: AlgorithmIdentifier = decode_der(alloc, form)?;
-    assert_eq!(rt; read.algorithm.components().as_slice(), name);
-    assert!(rt; read.algorithm.is_encodable());
-    gives(rt, encode_der(alloc, &read), form)?;
-    Ok(read.parameters)
+// The tag of its parameters, if it has some.
+fn parameters_of(read: &AlgorithmIdentifier) -> Option<Tag> {
+    match &read.parameters {
+        Some(parameters) => Some(parameters.tag()),
+        None => None,
+    }
+}
+
+// Whether it has this name, and parameters of this tag.
+fn is_of(read: &AlgorithmIdentifier, name: &[u64], parameters: Option<Tag>) -> bool {
+    read.algorithm.components().as_slice() == name && parameters_of(read) == parameters
+}
+
+// Whether it is written in this form.
+fn is_written(alloc: Global, read: &AlgorithmIdentifier, form: &[u8]) -> bool {
+    read.algorithm.is_encodable() && gives(encode_der(alloc, read), form)
+}
+
+// Whether it is read from its form, and written in it.
+fn is_form(alloc: Global, form: &[u8], name: &[u64], parameters: Option<Tag>) -> bool {
+    match decode_der::<AlgorithmIdentifier>(alloc, form) {
+        Ok(read) => is_of(&read, name, parameters) && is_written(alloc, &read, form),
+        Err(_) => false,
+    }
 }
 
 #[test]
-fn ed25519(rt: HostRuntime) -> Result<(), Fail> {
+fn ed25519(rt: HostRuntime) {
     let form = [48, 5, 6, 3, 43, 101, 112];
-    let parameters = is_form(&rt, rt.alloc(), &form, &[1, 3, 101, 112])?;
-    assert!(rt; parameters.is_none());
-    Ok(())
+    assert!(rt; is_form(rt.alloc(), &form, &[1, 3, 101, 112], None));
 }
 
 #[test]
-fn rsa_encryption(rt: HostRuntime) -> Result<(), Fail> {
+fn rsa_encryption(rt: HostRuntime) {
     let form = [48, 13, 6, 9, 42, 134, 72, 134, 247, 13, 1, 1, 1, 5, 0];
     let name = [1, 2, 840, 113549, 1, 1, 1];
-    let parameters = is_form(&rt, rt.alloc(), &form, &name)?;
-    assert!(rt; parameters.is_some_and(|value| value.tag() == tags::TAG_NULL));
-    Ok(())
+    assert!(rt; is_form(rt.alloc(), &form, &name, Some(tags::TAG_NULL)));
 }
 
 // Its parameters are the name of the curve P-256.
 #[test]
-fn elliptic_curve(rt: HostRuntime) -> Result<(), Fail> {
+fn elliptic_curve(rt: HostRuntime) {
     let form = [
         48, 19, 6, 7, 42, 134, 72, 206, 61, 2, 1, 6, 8, 42, 134, 72, 206, 61, 3, 1, 7,
     ];
     let name = [1, 2, 840, 10045, 2, 1];
-    let parameters = is_form(&rt, rt.alloc(), &form, &name)?;
-    assert!(rt; parameters.is_some_and(|value| value.tag() == tags::TAG_OID));
-    Ok(())
+    assert!(rt; is_form(rt.alloc(), &form, &name, Some(tags::TAG_OID)));
+}
+
+// Whether BER reads one from it that is written in this form.
+fn is_rewritten(alloc: Global, other: &[u8], form: &[u8]) -> bool {
+    match decode_ber::<AlgorithmIdentifier>(alloc, other) {
+        Ok(read) => is_written(alloc, &read, form),
+        Err(_) => false,
+    }
 }
 
 // Parameters of indefinite length are kept as they came, with the two zeros that end them.
 #[test]
-fn kept_as_they_came(rt: HostRuntime) -> Result<(), Fail> {
-    let alloc = rt.alloc();
+fn kept_as_they_came(rt: HostRuntime) {
     let other = [48, 128, 6, 3, 43, 101, 112, 48, 128, 2, 1, 7, 0, 0, 0, 0];
-    let read: AlgorithmIdentifier = decode_ber(alloc, &other)?;
-    assert!(rt; read.algorithm.is_encodable());
-    gives(
-        &rt,
-        encode_der(alloc, &read),
-        &[48, 12, 6, 3, 43, 101, 112, 48, 5, 2, 1, 7, 0, 0],
-    )?;
-    let refused: ASN1Result<AlgorithmIdentifier> = decode_der(alloc, &other);
-    refuses(&rt, refused, ASN1ErrorKind::Invalid);
-    Ok(())
+    let form = [48, 12, 6, 3, 43, 101, 112, 48, 5, 2, 1, 7, 0, 0];
+    assert!(rt; is_rewritten(rt.alloc(), &other, &form));
+    assert!(rt;
+        refuses(
+            decode_der::<AlgorithmIdentifier>(rt.alloc(), &other),
+            ASN1ErrorKind::Invalid
+        )
+    );
+}
+
+fn refuses_ber(alloc: Global, bytes: &[u8], kind: ASN1ErrorKind) -> bool {
+    refuses(decode_ber::<AlgorithmIdentifier>(alloc, bytes), kind)
 }
 
 // Parameters that are broken aren't taken for none, and behind them nothing may follow.
 #[test]
-fn broken_parameters(rt: HostRuntime) -> Result<(), Fail> {
-    let alloc = rt.alloc();
-    let broken: ASN1Result<AlgorithmIdentifier> = decode_ber(
-        alloc,
-        &[48, 7, 6, 3, 43, 101, 112, 4, 9],
-    );
-    refuses(&rt, broken, ASN1ErrorKind::Eof);
-    let more: ASN1Result<AlgorithmIdentifier> = decode_ber(
-        alloc,
-        &[48, 9, 6, 3, 43, 101, 112, 5, 0, 5, 0],
-    );
-    refuses(&rt, more, ASN1ErrorKind::Extra);
-    Ok(())
+fn broken_parameters(rt: HostRuntime) {
+    let broken = [48, 7, 6, 3, 43, 101, 112, 4, 9];
+    assert!(rt; refuses_ber(rt.alloc(), &broken, ASN1ErrorKind::Eof));
+    let more = [48, 9, 6, 3, 43, 101, 112, 5, 0, 5, 0];
+    assert!(rt; refuses_ber(rt.alloc(), &more, ASN1ErrorKind::Extra));
 }
 
-// A key is read from its form, and written in it. Answers whether its algorithm has parameters.
-fn is_form_of_key(rt: &impl Abort, alloc: Global, form: &[u8], bits: usize) -> Result<bool, Fail> {
-    let key: SubjectPublicKeyInfo = decode_der(alloc, form)?;
-    assert_eq!(rt; key.bits, bits);
-    gives(rt, encoded_key(alloc, &key), form)?;
-    Ok(key.algorithm.parameters.is_some())
+// Whether a key of this many bits is read from its form, and written in it, and its algorithm has parameters or has none.
+fn is_form_of_key(alloc: Global, form: &[u8], bits: usize, has_parameters: bool) -> bool {
+    match decode_der::<SubjectPublicKeyInfo>(alloc, form) {
+        Ok(key) => {
+            key.bits == bits
+                && key.algorithm.parameters.is_some() == has_parameters
+                && gives(encoded_key(alloc, &key), form)
+        }
+        Err(_) => false,
+    }
 }
 
 #[test]
-fn keys(rt: HostRuntime) -> Result<(), Fail> {
-    let alloc = rt.alloc();
-    let ed25519 = is_form_of_key(&rt, alloc, &ED25519, 256)?;
-    assert!(rt; !ed25519);
-    let rsa = is_form_of_key(&rt, alloc, &RSA, 64)?;
-    assert!(rt; rsa);
-    Ok(())
+fn keys(rt: HostRuntime) {
+    assert!(rt; is_form_of_key(rt.alloc(), &ED25519, 256, false));
+    assert!(rt; is_form_of_key(rt.alloc(), &RSA, 64, true));
+}
+
+// The form of a key that says it has so many bits.
+fn form_with_bits(alloc: Global, form: &[u8], bits: usize) -> ASN1Result<Vec<u8>> {
+    let mut key: SubjectPublicKeyInfo = decode_der(alloc, form)?;
+    key.bits = bits;
+    encoded_key(alloc, &key)
 }
 
 // A key of more bits than its bytes hold has no form.
 #[test]
-fn too_many_bits(rt: HostRuntime) -> Result<(), Fail> {
-    let alloc = rt.alloc();
-    let mut key: SubjectPublicKeyInfo = decode_der(alloc, &ED25519)?;
-    key.bits = 257;
-    refuses(&rt, encoded_key(alloc, &key), ASN1ErrorKind::Invalid);
-    Ok(())
+fn too_many_bits(rt: HostRuntime) {
+    assert!(rt; gives(form_with_bits(rt.alloc(), &ED25519, 256), &ED25519));
+    assert!(rt;
+        refuses(
+            form_with_bits(rt.alloc(), &ED25519, 257),
+            ASN1ErrorKind::Invalid
+        )
+    );
 }

@@ -2,7 +2,6 @@
 
 use crate::checks::refuses;
 use std::alloc::Global;
-use std::test::Fail;
 use yasna::{
     ASN1Error, ASN1ErrorKind, ASN1Result, BERReader, parse_ber, parse_der, try_parse_ber,
     try_parse_cer,
@@ -21,38 +20,34 @@ fn number_alone(reader: BERReader) -> ASN1Result<(i64, bool)> {
 }
 
 #[test]
-fn parts_end(rt: HostRuntime) -> Result<(), Fail> {
-    let alone = parse_der(rt.alloc(), &[48, 3, 2, 1, 7], number_alone)?;
-    assert_eq!(rt; alone, (7, true));
-    Ok(())
+fn parts_end(rt: HostRuntime) {
+    assert_eq!(rt;
+        parse_der(rt.alloc(), &[48, 3, 2, 1, 7], number_alone),
+        Ok((7, true))
+    );
 }
 
 #[test]
-fn parts_go_on(rt: HostRuntime) -> Result<(), Fail> {
+fn parts_go_on(rt: HostRuntime) {
     let form = [48, 5, 2, 1, 7, 5, 0];
-    let followed = parse_der(rt.alloc(), &form, number_alone)?;
-    assert_eq!(rt; followed, (7, false));
-    Ok(())
+    assert_eq!(rt; parse_der(rt.alloc(), &form, number_alone), Ok((7, false)));
 }
 
 #[test]
-fn parts_end_by_two_zeros(rt: HostRuntime) -> Result<(), Fail> {
+fn parts_end_by_two_zeros(rt: HostRuntime) {
     let form = [48, 128, 2, 1, 7, 0, 0];
-    let alone = parse_ber(rt.alloc(), &form, number_alone)?;
-    assert_eq!(rt; alone, (7, true));
-    Ok(())
+    assert_eq!(rt; parse_ber(rt.alloc(), &form, number_alone), Ok((7, true)));
 }
 
 #[test]
-fn kept_failures_end_parts(rt: HostRuntime) -> Result<(), Fail> {
+fn kept_failures_end_parts(rt: HostRuntime) {
     let answer = parse_der(rt.alloc(), &[48, 6, 2, 2, 0, 7, 5, 0], |reader| {
         reader.read_sequence(|parts| {
             let _ = parts.next().read_i64();
             Ok(parts.is_at_end())
         })
     });
-    refuses(&rt, answer, ASN1ErrorKind::Invalid);
-    Ok(())
+    assert!(rt; refuses(answer, ASN1ErrorKind::Invalid));
 }
 
 #[derive(Drop)]
@@ -83,20 +78,30 @@ fn kept(alloc: Global, number: i64) -> ASN1Result<Vec<i64>> {
     Ok(numbers)
 }
 
+fn small_in_ber(alloc: Global, bytes: &[u8]) -> Result<Vec<i64>, Refused> {
+    try_parse_ber(alloc, bytes, |reader| small(alloc, reader))
+}
+
+fn is_large(answer: Result<Vec<i64>, Refused>) -> bool {
+    matches!(answer, Err(Refused::Large))
+}
+
 #[test]
 fn readings_answer_their_own_errors(rt: HostRuntime) {
-    let alloc = rt.alloc();
-    let read = try_parse_ber(alloc, &[2, 129, 1, 7], |reader| small(alloc, reader));
-    assert!(rt; matches!(read, Ok(_)));
-    let large = try_parse_ber(alloc, &[2, 1, 100], |reader| small(alloc, reader));
-    assert!(rt; matches!(large, Err(Refused::Large)));
+    assert!(rt; small_in_ber(rt.alloc(), &[2, 129, 1, 7]).is_ok());
+    assert!(rt; is_large(small_in_ber(rt.alloc(), &[2, 1, 100])));
+}
+
+fn small_in_cer(alloc: Global, bytes: &[u8]) -> Result<Vec<i64>, Refused> {
+    try_parse_cer(alloc, bytes, |reader| small(alloc, reader))
+}
+
+fn is_encoding(answer: Result<Vec<i64>, Refused>) -> bool {
+    matches!(answer, Err(Refused::Encoding(_)))
 }
 
 #[test]
 fn refusals_become_their_own_errors(rt: HostRuntime) {
-    let alloc = rt.alloc();
-    let long = try_parse_cer(alloc, &[2, 129, 1, 7], |reader| small(alloc, reader));
-    assert!(rt; matches!(long, Err(Refused::Encoding(_))));
-    let left = try_parse_cer(alloc, &[2, 1, 7, 0], |reader| small(alloc, reader));
-    assert!(rt; matches!(left, Err(Refused::Encoding(_))));
+    assert!(rt; is_encoding(small_in_cer(rt.alloc(), &[2, 129, 1, 7])));
+    assert!(rt; is_encoding(small_in_cer(rt.alloc(), &[2, 1, 7, 0])));
 }

@@ -2,55 +2,49 @@
 
 use crate::checks::{gives, refuses};
 use std::alloc::Global;
-use std::test::Fail;
 use yasna::{ASN1ErrorKind, ASN1Result, construct_der};
 use yasna_examples::{
     constructed_integer, parsed_integer, parsed_items, parsed_numbers, parsed_pair, third_number,
 };
 
 #[test]
-fn integers(rt: HostRuntime) -> Result<(), Fail> {
+fn integers(rt: HostRuntime) {
     let alloc = rt.alloc();
     let form = [2, 2, 255, 127];
-    gives(&rt, constructed_integer(alloc, -129), &form)?;
-    assert_eq!(rt; parsed_integer(alloc, &form)?, -129);
-    refuses(
-        &rt,
-        parsed_integer(alloc, &[10, 1, 13]),
-        ASN1ErrorKind::Invalid,
-    );
-    Ok(())
+    assert!(rt; gives(constructed_integer(alloc, -129), &form));
+    assert_eq!(rt; parsed_integer(alloc, &form), Ok(-129));
+    assert!(rt; refuses(parsed_integer(alloc, &[10, 1, 13]), ASN1ErrorKind::Invalid));
 }
 
 #[test]
-fn pairs(rt: HostRuntime) -> Result<(), Fail> {
+fn pairs(rt: HostRuntime) {
     let alloc = rt.alloc();
-    let pair = parsed_pair(alloc, &[48, 6, 2, 1, 10, 1, 1, 255])?;
-    assert_eq!(rt; pair, (10, true));
-    refuses(
-        &rt,
-        parsed_pair(alloc, &[48, 6, 2, 1, 10, 1, 1, 1]),
-        ASN1ErrorKind::Invalid,
+    let form = [48, 6, 2, 1, 10, 1, 1, 255];
+    assert_eq!(rt; parsed_pair(alloc, &form), Ok((10, true)));
+    assert!(rt;
+        refuses(
+            parsed_pair(alloc, &[48, 6, 2, 1, 10, 1, 1, 1]),
+            ASN1ErrorKind::Invalid
+        )
     );
-    Ok(())
 }
 
 #[test]
-fn numbers(rt: HostRuntime) -> Result<(), Fail> {
+fn numbers(rt: HostRuntime) {
     let alloc = rt.alloc();
-    gives(
-        &rt,
-        parsed_numbers(alloc, &[48, 7, 2, 1, 10, 2, 2, 255, 127]),
-        &[10, -129],
-    )?;
-    let none = parsed_numbers(alloc, &[48, 0])?;
-    assert!(rt; none.is_empty());
-    refuses(
-        &rt,
-        parsed_numbers(alloc, &[48, 5, 2, 1, 10, 5, 0]),
-        ASN1ErrorKind::Extra,
+    assert!(rt;
+        gives(
+            parsed_numbers(alloc, &[48, 7, 2, 1, 10, 2, 2, 255, 127]),
+            &[10, -129]
+        )
     );
-    Ok(())
+    assert!(rt; gives(parsed_numbers(alloc, &[48, 0]), &[]));
+    assert!(rt;
+        refuses(
+            parsed_numbers(alloc, &[48, 5, 2, 1, 10, 5, 0]),
+            ASN1ErrorKind::Extra
+        )
+    );
 }
 
 // 0, 1 and so on to 99,999.
@@ -65,48 +59,43 @@ fn form_of_many(alloc: Global) -> ASN1Result<Vec<u8>> {
     })
 }
 
-fn many(alloc: Global) -> ASN1Result<Vec<i64>> {
-    parsed_numbers(alloc, &form_of_many(alloc)?)
+// Whether they are read as they are.
+fn many_are_read(alloc: Global) -> ASN1Result<bool> {
+    let numbers = parsed_numbers(alloc, &form_of_many(alloc)?)?;
+    Ok(numbers.len() == 100_000 && numbers.as_slice().last() == Some(&99_999))
 }
 
 #[test]
-fn many_numbers(rt: HostRuntime) -> Result<(), Fail> {
-    let numbers = many(rt.alloc())?;
-    assert_eq!(rt; numbers.len(), 100_000);
-    assert_eq!(rt; numbers.as_slice().last(), Some(&99_999));
-    Ok(())
+fn many_numbers(rt: HostRuntime) {
+    assert_eq!(rt; many_are_read(rt.alloc()), Ok(true));
 }
 
 #[test]
-fn items(rt: HostRuntime) -> Result<(), Fail> {
+fn items(rt: HostRuntime) {
     let alloc = rt.alloc();
-    gives(
-        &rt,
-        parsed_items(alloc, &[48, 5, 2, 1, 10, 5, 0]),
-        &[Some(10), None],
-    )?;
-    refuses(
-        &rt,
-        parsed_items(alloc, &[48, 3, 1, 1, 255]),
-        ASN1ErrorKind::Extra,
+    assert!(rt;
+        gives(
+            parsed_items(alloc, &[48, 5, 2, 1, 10, 5, 0]),
+            &[Some(10), None]
+        )
     );
-    Ok(())
+    assert!(rt;
+        refuses(
+            parsed_items(alloc, &[48, 3, 1, 1, 255]),
+            ASN1ErrorKind::Extra
+        )
+    );
 }
 
 #[test]
-fn third_of_three(rt: HostRuntime) -> Result<(), Fail> {
+fn third_of_three(rt: HostRuntime) {
     let alloc = rt.alloc();
-    let third = third_number(alloc, &[48, 9, 2, 1, 10, 2, 1, 11, 2, 1, 12])?;
-    assert_eq!(rt; third, 12);
+    let form = [48, 9, 2, 1, 10, 2, 1, 11, 2, 1, 12];
+    assert_eq!(rt; third_number(alloc, &form), Ok(12));
     // the first has nine bytes
     let long = [48, 17, 2, 9, 1, 0, 0, 0, 0, 0, 0, 0, 0, 2, 1, 11, 2, 1, 12];
-    refuses(
-        &rt,
-        third_number(alloc, &long),
-        ASN1ErrorKind::IntegerOverflow,
-    );
+    assert!(rt; refuses(third_number(alloc, &long), ASN1ErrorKind::IntegerOverflow));
     // the second is a BOOLEAN, and so is what the third is read from
     let other = [48, 9, 2, 1, 10, 1, 1, 255, 2, 1, 12];
-    refuses(&rt, third_number(alloc, &other), ASN1ErrorKind::Invalid);
-    Ok(())
+    assert!(rt; refuses(third_number(alloc, &other), ASN1ErrorKind::Invalid));
 }

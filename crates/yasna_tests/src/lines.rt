@@ -1,10 +1,7 @@
 //! The lines of `yasna_lines`, remarks and refusals. The offsets, depths, lengths and tags of the key are those that `openssl asn1parse -i` prints of it.
 
-use crate::checks::is_text;
 use std::alloc::{AllocError, Global};
-use std::process::Abort;
-use std::test::Fail;
-use yasna::BERMode;
+use yasna::{ASN1Result, BERMode};
 use yasna_lines::{Form, show};
 use yasna_listing::fault::Fault;
 
@@ -15,10 +12,10 @@ struct Told {
     fault: Option<Fault>,
 }
 
-fn shown(alloc: Global, mode: BERMode, form: Option<Form>, input: &[u8]) -> Result<Told, Fail> {
+fn shown(alloc: Global, mode: BERMode, form: Option<Form>, input: &[u8]) -> Told {
     let mut output = Vec::new(alloc);
     let fault = show(alloc, &mut output, mode, form, 16, input).err();
-    Ok(Told { output, fault })
+    Told { output, fault }
 }
 
 const KEY: &str = "A key:
@@ -37,22 +34,15 @@ const KEY_LINES: &str = "input: PEM \"PUBLIC KEY\", 91 bytes
 rules: BER, DER
 ";
 
-// The input is taken whole, and this is written of it.
-fn is_told(
-    rt: &(impl AllocGlobal + Abort),
-    mode: BERMode,
-    input: &str,
-    lines: &str,
-) -> Result<(), Fail> {
-    let told = shown(rt.alloc(), mode, None, input.as_bytes())?;
-    assert!(rt; told.fault.is_none());
-    is_text(rt, std::str::from_utf8(told.output.as_slice())?, lines);
-    Ok(())
+// Whether the input is taken whole, and this is written of it.
+fn is_told(alloc: Global, mode: BERMode, input: &str, lines: &str) -> bool {
+    let told = shown(alloc, mode, None, input.as_bytes());
+    told.fault.is_none() && told.output.as_slice() == lines.as_bytes()
 }
 
 #[test]
-fn key(rt: HostRuntime) -> Result<(), Fail> {
-    is_told(&rt, BERMode::Der, KEY, KEY_LINES)
+fn key(rt: HostRuntime) {
+    assert!(rt; is_told(rt.alloc(), BERMode::Der, KEY, KEY_LINES));
 }
 
 // Hexadecimal input, and the one line that is printed of it, with the rules.
@@ -138,33 +128,27 @@ const LINES: [(&str, &str, &str); 19] = [
     ("3000", "2+0        SEQUENCE", "BER, DER"),
 ];
 
-// Behind the first row stands this line, and behind it the rules.
-fn has_line(rt: &impl Abort, output: &str, input: &str, line: &str, rules: &str) {
+// Whether behind the first row stands this line, and behind it the rules.
+fn has_line(output: &str, line: &str, rules: &str) -> bool {
     let mut rows = output.lines().skip(1);
     let first = rows.next().unwrap_or("").trim_start();
-    assert_eq!(rt; first.strip_prefix("0  "), Some(line), "{input}");
     let second = rows.next().unwrap_or("");
-    assert_eq!(rt; second.strip_prefix("rules: "), Some(rules), "{input}");
+    first.strip_prefix("0  ") == Some(line) && second.strip_prefix("rules: ") == Some(rules)
 }
 
-fn is_line_of(
-    rt: &(impl AllocGlobal + Abort),
-    input: &str,
-    line: &str,
-    rules: &str,
-) -> Result<(), Fail> {
-    let told = shown(rt.alloc(), BERMode::Ber, None, input.as_bytes())?;
-    let output = std::str::from_utf8(told.output.as_slice())?;
-    has_line(rt, output, input, line, rules);
-    Ok(())
+fn is_line_of(alloc: Global, input: &str, line: &str, rules: &str) -> bool {
+    let told = shown(alloc, BERMode::Ber, None, input.as_bytes());
+    match std::str::from_utf8(told.output.as_slice()) {
+        Ok(output) => has_line(output, line, rules),
+        Err(_) => false,
+    }
 }
 
 #[test]
-fn lines(rt: HostRuntime) -> Result<(), Fail> {
+fn lines(rt: HostRuntime) {
     for (input, line, rules) in &LINES {
-        is_line_of(&rt, input, line, rules)?;
+        assert!(rt; is_line_of(rt.alloc(), input, line, rules), "{input}");
     }
-    Ok(())
 }
 
 // An element of indefinite length around a SET OF out of order, a string in segments, and a string that holds an element.
@@ -184,8 +168,8 @@ rules: BER
 ";
 
 #[test]
-fn nested(rt: HostRuntime) -> Result<(), Fail> {
-    is_told(&rt, BERMode::Ber, NESTED, NESTED_LINES)
+fn nested(rt: HostRuntime) {
+    assert!(rt; is_told(rt.alloc(), BERMode::Ber, NESTED, NESTED_LINES));
 }
 
 // Broken input, and what is said of it.
@@ -238,40 +222,34 @@ const BROKEN: [(BERMode, &str, &str); 9] = [
 ];
 
 // What ended the run.
-fn fault_of(alloc: Global, mode: BERMode, form: Option<Form>, input: &[u8]) -> Result<Fault, Fail> {
-    let told = shown(alloc, mode, form, input)?;
-    Ok(told.fault.ok_or("a fault")?)
+fn fault_of(alloc: Global, mode: BERMode, form: Option<Form>, input: &[u8]) -> Option<Fault> {
+    let told = shown(alloc, mode, form, input);
+    told.fault
 }
 
-// This is said of a fault.
-fn says(
-    rt: &(impl AllocGlobal + Abort),
-    fault: &Fault,
-    input: &str,
-    said: &str,
-) -> Result<(), Fail> {
-    let text = fault.to_string(rt.alloc())?;
-    assert_eq!(rt; text.as_str(), said, "{input}");
-    Ok(())
+// Whether this is said of a fault.
+fn says(alloc: Global, fault: &Fault, said: &str) -> ASN1Result<bool> {
+    let text = fault.to_string(alloc)?;
+    Ok(text.as_str() == said)
 }
 
-fn judge(
-    rt: &(impl AllocGlobal + Abort),
-    mode: BERMode,
-    input: &str,
-    said: &str,
-) -> Result<(), Fail> {
-    let fault = fault_of(rt.alloc(), mode, Some(Form::Hex), input.as_bytes())?;
-    assert!(rt; matches!(fault, Fault::Broken { .. }), "{input}");
-    says(rt, &fault, input, said)
+// Whether the input is broken, and this is said of it.
+fn is_broken(alloc: Global, mode: BERMode, input: &str, said: &str) -> ASN1Result<bool> {
+    match fault_of(alloc, mode, Some(Form::Hex), input.as_bytes()) {
+        Some(fault) => Ok(matches!(fault, Fault::Broken { .. }) && says(alloc, &fault, said)?),
+        None => Ok(false),
+    }
 }
 
 #[test]
-fn broken(rt: HostRuntime) -> Result<(), Fail> {
+fn broken(rt: HostRuntime) {
     for (mode, input, said) in &BROKEN {
-        judge(&rt, *mode, input, said)?;
+        assert_eq!(rt;
+            is_broken(rt.alloc(), *mode, input, said),
+            Ok(true),
+            "{input}"
+        );
     }
-    Ok(())
 }
 
 // Hexadecimal input of a hundred elements that begin.
@@ -296,22 +274,23 @@ fn hundred_and_two(alloc: Global) -> Result<String, AllocError> {
     Ok(input)
 }
 
-fn has_no_fault(rt: &(impl AllocGlobal + Abort), input: &str) -> Result<(), Fail> {
-    let told = shown(rt.alloc(), BERMode::Ber, Some(Form::Hex), input.as_bytes())?;
-    assert!(rt; told.fault.is_none());
-    Ok(())
+fn is_hundred_and_one_taken(alloc: Global) -> ASN1Result<bool> {
+    let input = hundred_and_one(alloc)?;
+    Ok(fault_of(alloc, BERMode::Ber, Some(Form::Hex), input.as_bytes()).is_none())
+}
+
+// Whether this is said of one more.
+fn is_said_of_one_more(alloc: Global, said: &str) -> ASN1Result<bool> {
+    let input = hundred_and_two(alloc)?;
+    is_broken(alloc, BERMode::Ber, &input, said)
 }
 
 /// A hundred and one elements may nest, and no more.
 #[test]
-fn deep(rt: HostRuntime) -> Result<(), Fail> {
-    has_no_fault(&rt, hundred_and_one(rt.alloc())?.as_str())?;
-    judge(
-        &rt,
-        BERMode::Ber,
-        hundred_and_two(rt.alloc())?.as_str(),
-        "offset 202: StackOverflow: expected at most 101 levels of elements",
-    )
+fn deep(rt: HostRuntime) {
+    assert_eq!(rt; is_hundred_and_one_taken(rt.alloc()), Ok(true));
+    let said = "offset 202: StackOverflow: expected at most 101 levels of elements";
+    assert_eq!(rt; is_said_of_one_more(rt.alloc(), said), Ok(true));
 }
 
 // What is said first of an input whose form isn't given.
@@ -321,24 +300,28 @@ const FORMS: [(&[u8], &str); 3] = [
     (b"\x04\x14\n-----BEGIN X-----\n", "input: 21 bytes"),
 ];
 
-fn begins_with(rt: &(impl AllocGlobal + Abort), input: &[u8], first: &str) -> Result<(), Fail> {
-    let told = shown(rt.alloc(), BERMode::Ber, None, input)?;
-    let output = std::str::from_utf8(told.output.as_slice())?;
-    assert_eq!(rt; output.lines().next(), Some(first));
-    Ok(())
+fn begins_with(alloc: Global, input: &[u8], first: &str) -> bool {
+    let told = shown(alloc, BERMode::Ber, None, input);
+    match std::str::from_utf8(told.output.as_slice()) {
+        Ok(output) => output.lines().next() == Some(first),
+        Err(_) => false,
+    }
+}
+
+// Whether this is said of an input whose form isn't given.
+fn is_said(alloc: Global, input: &str, said: &str) -> ASN1Result<bool> {
+    match fault_of(alloc, BERMode::Ber, None, input.as_bytes()) {
+        Some(fault) => says(alloc, &fault, said),
+        None => Ok(false),
+    }
 }
 
 #[test]
-fn forms(rt: HostRuntime) -> Result<(), Fail> {
+fn forms(rt: HostRuntime) {
     for (input, first) in &FORMS {
-        begins_with(&rt, input, first)?;
+        assert!(rt; begins_with(rt.alloc(), input, first), "{first}");
     }
     let input = "text\n-----BEGIN X-----\n";
-    let fault = fault_of(rt.alloc(), BERMode::Ber, None, input.as_bytes())?;
-    says(
-        &rt,
-        &fault,
-        input,
-        "offset 23: Eof: expected a line that ends the block of PEM",
-    )
+    let said = "offset 23: Eof: expected a line that ends the block of PEM";
+    assert_eq!(rt; is_said(rt.alloc(), input, said), Ok(true));
 }

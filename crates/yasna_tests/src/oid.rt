@@ -25,32 +25,24 @@ fn form_of(alloc: Global, oid: &ObjectIdentifier) -> ASN1Result<Vec<u8>> {
     encode_der(alloc, oid)
 }
 
-// What is said of a text that is refused.
-fn says_of_text(rt: &impl Abort, alloc: Global, error: &ParseOidError) -> Result<(), Fail> {
-    assert!(rt; !error.is_out_of_memory());
+// Whether this is said of a text that is refused, and not for want of memory.
+fn is_said_of_text(alloc: Global, error: &ParseOidError) -> ASN1Result<bool> {
     let said = error.to_string(alloc)?;
-    assert_eq!(rt; said.as_str(), "Failed to parse OID");
-    Ok(())
+    Ok(!error.is_out_of_memory() && said.as_str() == "Failed to parse OID")
 }
 
-// A text is refused, and not for want of memory.
-fn is_refused(rt: &impl Abort, alloc: Global, text: &str) -> Result<(), Fail> {
+fn is_refused(alloc: Global, text: &str) -> ASN1Result<bool> {
     match ObjectIdentifier::from_str(alloc, text) {
-        Ok(_) => {
-            assert!(rt; false, "{text:?}");
-            Ok(())
-        }
-        Err(error) => says_of_text(rt, alloc, &error),
+        Ok(_) => Ok(false),
+        Err(error) => is_said_of_text(alloc, &error),
     }
 }
 
-// It is read from the form of the group.
-fn is_group(rt: &impl Abort, alloc: Global, group: &ObjectIdentifier) -> Result<(), Fail> {
+// Whether it is read from the form of the group.
+fn is_group(alloc: Global, group: &ObjectIdentifier) -> ASN1Result<bool> {
     let decoded = decode_ber::<ObjectIdentifier>(alloc, &GROUP_FORM)?;
-    assert!(rt; decoded == *group);
     let parsed = parse_der(alloc, &GROUP_FORM, |reader| reader.read_oid())?;
-    assert!(rt; parsed == *group);
-    Ok(())
+    Ok(decoded == *group && parsed == *group)
 }
 
 fn written(alloc: Global, oid: &ObjectIdentifier) -> ASN1Result<Vec<u8>> {
@@ -63,59 +55,73 @@ fn written(alloc: Global, oid: &ObjectIdentifier) -> ASN1Result<Vec<u8>> {
 #[test]
 fn read(rt: HostRuntime) -> Result<(), Fail> {
     let group = ObjectIdentifier::from_slice(rt.alloc(), &GROUP)?;
-    is_group(&rt, rt.alloc(), &group)
+    assert_eq!(rt; is_group(rt.alloc(), &group), Ok(true));
+    Ok(())
 }
 
 #[test]
 fn written_in_both_ways(rt: HostRuntime) -> Result<(), Fail> {
     let group = ObjectIdentifier::from_slice(rt.alloc(), &GROUP)?;
-    gives(&rt, form_of(rt.alloc(), &group), &GROUP_FORM)?;
-    gives(&rt, written(rt.alloc(), &group), &GROUP_FORM)?;
+    assert!(rt; gives(form_of(rt.alloc(), &group), &GROUP_FORM));
+    assert!(rt; gives(written(rt.alloc(), &group), &GROUP_FORM));
     Ok(())
 }
 
 // The subidentifiers 0 to 999, but the first is 40.
-#[test]
-fn of_1000_subidentifiers(rt: HostRuntime) -> Result<(), Fail> {
-    let alloc = rt.alloc();
+fn long_one(alloc: Global) -> ASN1Result<ObjectIdentifier> {
     let mut components = Vec::new(alloc);
     components.push(1)?;
     for number in 0..1000_u64 {
         components.push(number)?;
     }
-    let oid = ObjectIdentifier::new(components);
-    let form = form_of(alloc, &oid)?;
-    assert!(rt; form.starts_with(&[6, 130, 7, 80, 40, 1, 2]));
-    assert!(rt; decode_der::<ObjectIdentifier>(alloc, &form)? == oid);
-    Ok(())
+    Ok(ObjectIdentifier::new(components))
 }
 
-// The text says the object identifier.
-fn is_text_of(rt: &impl Abort, alloc: Global, text: &str, parts: &[u64]) -> Result<(), Fail> {
-    let oid = ObjectIdentifier::from_str(alloc, text)?;
-    assert_eq!(rt; oid.as_slice(), parts, "{text}");
-    Ok(())
+// Whether its form begins with these bytes, and it is read from that.
+fn comes_back(alloc: Global, oid: &ObjectIdentifier, beginning: &[u8]) -> ASN1Result<bool> {
+    let form = form_of(alloc, oid)?;
+    let read: ObjectIdentifier = decode_der(alloc, &form)?;
+    Ok(form.starts_with(beginning) && read == *oid)
 }
 
-// The object identifier is shown as the text.
-fn is_shown_as(rt: &impl Abort, alloc: Global, parts: &[u64], text: &str) -> Result<(), Fail> {
+fn long_one_comes_back(alloc: Global) -> ASN1Result<bool> {
+    let oid = long_one(alloc)?;
+    comes_back(alloc, &oid, &[6, 130, 7, 80, 40, 1, 2])
+}
+
+#[test]
+fn of_1000_subidentifiers(rt: HostRuntime) {
+    assert_eq!(rt; long_one_comes_back(rt.alloc()), Ok(true));
+}
+
+// Whether the text says the object identifier.
+fn is_text_of(alloc: Global, text: &str, parts: &[u64]) -> bool {
+    match ObjectIdentifier::from_str(alloc, text) {
+        Ok(oid) => oid.as_slice() == parts,
+        Err(_) => false,
+    }
+}
+
+// Whether the object identifier is shown as the text.
+fn is_shown_as(alloc: Global, parts: &[u64], text: &str) -> ASN1Result<bool> {
     let oid = ObjectIdentifier::from_slice(alloc, parts)?;
     let shown = oid.to_string(alloc)?;
-    assert_eq!(rt; shown.as_str(), text);
-    Ok(())
+    Ok(shown.as_str() == text)
 }
 
 #[test]
-fn texts(rt: HostRuntime) -> Result<(), Fail> {
-    let alloc = rt.alloc();
-    is_shown_as(&rt, alloc, &GROUP, "1.2.840.113549.1.1")?;
-    is_shown_as(&rt, alloc, &[1, 2], "1.2")?;
-    is_text_of(&rt, alloc, "1.2.840.113549.1.1", &GROUP)?;
-    is_text_of(&rt, alloc, "+1.02", &[1, 2])
+fn texts(rt: HostRuntime) {
+    assert_eq!(rt;
+        is_shown_as(rt.alloc(), &GROUP, "1.2.840.113549.1.1"),
+        Ok(true)
+    );
+    assert_eq!(rt; is_shown_as(rt.alloc(), &[1, 2], "1.2"), Ok(true));
+    assert!(rt; is_text_of(rt.alloc(), "1.2.840.113549.1.1", &GROUP));
+    assert!(rt; is_text_of(rt.alloc(), "+1.02", &[1, 2]));
 }
 
 #[test]
-fn broken_texts(rt: HostRuntime) -> Result<(), Fail> {
+fn broken_texts(rt: HostRuntime) {
     for text in [
         "",
         "1.2.",
@@ -125,39 +131,55 @@ fn broken_texts(rt: HostRuntime) -> Result<(), Fail> {
         "-1",
         "18446744073709551616",
     ] {
-        is_refused(&rt, rt.alloc(), text)?;
+        assert_eq!(rt; is_refused(rt.alloc(), text), Ok(true), "{text:?}");
     }
-    Ok(())
 }
 
 // 10,000 parts, each 1.
-fn ones(alloc: Global) -> Result<String, Fail> {
-    let mut text = String::new(alloc);
+fn ones(alloc: Global) -> ASN1Result<String> {
+    let mut text = "1.".repeat(alloc, 9999)?;
     text.push_str("1")?;
-    for _ in 1..10000 {
-        text.push_str(".1")?;
-    }
     Ok(text)
 }
 
-#[test]
-fn long_text(rt: HostRuntime) -> Result<(), Fail> {
-    let text = ones(rt.alloc())?;
-    let oid = ObjectIdentifier::from_str(rt.alloc(), &text)?;
-    assert_eq!(rt; oid.components().len(), 10000);
-    let shown = oid.to_string(rt.alloc())?;
-    assert_eq!(rt; shown.as_str(), text.as_str());
-    Ok(())
+// Whether the text has so many parts, and they are shown as it.
+fn comes_back_as_text(alloc: Global, text: &str, parts: usize) -> ASN1Result<bool> {
+    match ObjectIdentifier::from_str(alloc, text) {
+        Ok(oid) => {
+            let shown = oid.to_string(alloc)?;
+            Ok(oid.components().len() == parts && shown.as_str() == text)
+        }
+        Err(_) => Ok(false),
+    }
+}
+
+fn ones_come_back(alloc: Global) -> ASN1Result<bool> {
+    let text = ones(alloc)?;
+    comes_back_as_text(alloc, &text, 10000)
 }
 
 #[test]
-fn components(rt: HostRuntime) -> Result<(), Fail> {
-    let mut oid = ObjectIdentifier::from(Vec::from_slice(rt.alloc(), &[2, 5])?);
+fn long_text(rt: HostRuntime) {
+    assert_eq!(rt; ones_come_back(rt.alloc()), Ok(true));
+}
+
+// The components 2 and 5, and then 4.
+fn longer(alloc: Global) -> ASN1Result<ObjectIdentifier> {
+    let mut oid = ObjectIdentifier::from(Vec::from_slice(alloc, &[2, 5])?);
     oid.components_mut().push(4)?;
-    assert_eq!(rt; oid.as_slice(), [2, 5, 4].as_slice());
+    Ok(oid)
+}
+
+fn has_components(alloc: Global, parts: &[u64]) -> ASN1Result<bool> {
+    let oid = longer(alloc)?;
+    let is_slice = oid.as_slice() == parts;
     let components = oid.into_components();
-    assert_eq!(rt; components.as_slice(), [2, 5, 4].as_slice());
-    Ok(())
+    Ok(is_slice && components.as_slice() == parts)
+}
+
+#[test]
+fn components(rt: HostRuntime) {
+    assert_eq!(rt; has_components(rt.alloc(), &[2, 5, 4]), Ok(true));
 }
 
 // One stands before the other.

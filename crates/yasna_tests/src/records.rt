@@ -1,50 +1,35 @@
 //! Types of three, five and seven parts, each from its form and from another encoding.
 
-use crate::checks::{are_items, gives, is_text, refuses};
+use crate::checks::{gives, refuses};
 use std::alloc::Global;
-use std::process::Abort;
-use std::test::Fail;
-use yasna::{ASN1ErrorKind, ASN1Result, DERCanonical, decode_der};
+use yasna::{ASN1ErrorKind, DERCanonical, decode_der};
 use yasna_examples::{DirectoryEntry, DomainParameters, RequestHeader, normalized};
 
-// The form is read and written again, and so is the other encoding, which DER refuses.
-fn is_form_of<T: DERCanonical>(
-    rt: &impl Abort,
-    alloc: Global,
-    form: &[u8],
-    other: &[u8],
-) -> Result<T, Fail> {
-    let value: T = decode_der(alloc, form)?;
-    gives(rt, normalized::<T>(alloc, form), form)?;
-    gives(rt, normalized::<T>(alloc, other), form)?;
-    let refused: ASN1Result<T> = decode_der(alloc, other);
-    refuses(rt, refused, ASN1ErrorKind::Invalid);
-    Ok(value)
+// Whether the form is read and written again, and so is the other encoding, which DER refuses.
+fn is_form_of<T: DERCanonical>(alloc: Global, form: &[u8], other: &[u8]) -> bool {
+    gives(normalized::<T>(alloc, form), form)
+        && gives(normalized::<T>(alloc, other), form)
+        && refuses(decode_der::<T>(alloc, other), ASN1ErrorKind::Invalid)
 }
 
-// The last part is left out, and another follows the last.
-fn has_all_parts<T: DERCanonical>(
-    rt: &impl Abort,
-    short: &[u8],
-    long: &[u8],
-    alloc: Global,
-) -> Result<(), Fail> {
-    let refused: ASN1Result<T> = decode_der(alloc, short);
-    refuses(rt, refused, ASN1ErrorKind::Eof);
-    let refused: ASN1Result<T> = decode_der(alloc, long);
-    refuses(rt, refused, ASN1ErrorKind::Extra);
-    Ok(())
+// Whether these lack the last part, and these have another behind it.
+fn has_all_parts<T: DERCanonical>(alloc: Global, short: &[u8], long: &[u8]) -> bool {
+    refuses(decode_der::<T>(alloc, short), ASN1ErrorKind::Eof)
+        && refuses(decode_der::<T>(alloc, long), ASN1ErrorKind::Extra)
 }
 
-// The prime is the greatest below 2 ^ 64.
-fn are_parameters(rt: &impl Abort, read: &DomainParameters) {
-    assert_eq!(rt; read.prime, 18_446_744_073_709_551_557);
-    assert_eq!(rt; read.subprime, 11);
-    assert_eq!(rt; read.base, 4);
+// Whether the prime is the greatest below 2 ^ 64.
+fn are_parameters(alloc: Global, form: &[u8]) -> bool {
+    match decode_der::<DomainParameters>(alloc, form) {
+        Ok(read) => {
+            read.prime == 18_446_744_073_709_551_557 && read.subprime == 11 && read.base == 4
+        }
+        Err(_) => false,
+    }
 }
 
 #[test]
-fn domain_parameters(rt: HostRuntime) -> Result<(), Fail> {
+fn domain_parameters(rt: HostRuntime) {
     let alloc = rt.alloc();
     let form = [
         48, 17, 2, 9, 0, 255, 255, 255, 255, 255, 255, 255, 197, 2, 1, 11, 2, 1, 4,
@@ -52,25 +37,28 @@ fn domain_parameters(rt: HostRuntime) -> Result<(), Fail> {
     let other = [
         48, 128, 2, 9, 0, 255, 255, 255, 255, 255, 255, 255, 197, 2, 1, 11, 2, 1, 4, 0, 0,
     ];
-    are_parameters(&rt, &is_form_of(&rt, alloc, &form, &other)?);
-    has_all_parts::<DomainParameters>(
-        &rt,
-        &[48, 6, 2, 1, 23, 2, 1, 11],
-        &[48, 12, 2, 1, 23, 2, 1, 11, 2, 1, 4, 2, 1, 4],
-        alloc,
-    )
+    assert!(rt; are_parameters(alloc, &form));
+    assert!(rt; is_form_of::<DomainParameters>(alloc, &form, &other));
+    let short = [48, 6, 2, 1, 23, 2, 1, 11];
+    let long = [48, 12, 2, 1, 23, 2, 1, 11, 2, 1, 4, 2, 1, 4];
+    assert!(rt; has_all_parts::<DomainParameters>(alloc, &short, &long));
 }
 
-fn is_header(rt: &impl Abort, read: &RequestHeader) {
-    assert_eq!(rt; read.version, 0);
-    are_items(rt, &read.community, b"public");
-    assert_eq!(rt; read.request, 641);
-    assert_eq!(rt; read.status, 2);
-    assert_eq!(rt; read.index, 7);
+fn is_header(alloc: Global, form: &[u8]) -> bool {
+    match decode_der::<RequestHeader>(alloc, form) {
+        Ok(read) => {
+            read.version == 0
+                && read.community.as_slice() == b"public".as_slice()
+                && read.request == 641
+                && read.status == 2
+                && read.index == 7
+        }
+        Err(_) => false,
+    }
 }
 
 #[test]
-fn request_headers(rt: HostRuntime) -> Result<(), Fail> {
+fn request_headers(rt: HostRuntime) {
     let alloc = rt.alloc();
     let form = [
         48, 21, 2, 1, 0, 4, 6, 112, 117, 98, 108, 105, 99, 2, 2, 2, 129, 2, 1, 2, 2, 1, 7,
@@ -80,13 +68,11 @@ fn request_headers(rt: HostRuntime) -> Result<(), Fail> {
         48, 128, 2, 1, 0, 36, 128, 4, 2, 112, 117, 4, 4, 98, 108, 105, 99, 0, 0, 2, 2, 2, 129, 2,
         1, 2, 2, 129, 1, 7, 0, 0,
     ];
-    is_header(&rt, &is_form_of(&rt, alloc, &form, &other)?);
-    has_all_parts::<RequestHeader>(
-        &rt,
-        &[48, 11, 2, 1, 0, 4, 0, 2, 1, 1, 2, 1, 0],
-        &[48, 16, 2, 1, 0, 4, 0, 2, 1, 1, 2, 1, 0, 2, 1, 0, 5, 0],
-        alloc,
-    )
+    assert!(rt; is_header(alloc, &form));
+    assert!(rt; is_form_of::<RequestHeader>(alloc, &form, &other));
+    let short = [48, 11, 2, 1, 0, 4, 0, 2, 1, 1, 2, 1, 0];
+    let long = [48, 16, 2, 1, 0, 4, 0, 2, 1, 1, 2, 1, 0, 2, 1, 0, 5, 0];
+    assert!(rt; has_all_parts::<RequestHeader>(alloc, &short, &long));
 }
 
 const ENTRY: [u8; 50] = [
@@ -101,26 +87,31 @@ const OTHER_ENTRY: [u8; 61] = [
     1, 10, 1, 1, 1, 0, 0, 1, 1, 9, 0, 0,
 ];
 
-// What it says of a name.
-fn is_named(rt: &impl Abort, read: &DirectoryEntry) {
-    is_text(rt, read.name.as_str(), "é");
-    are_items(rt, read.class.components().as_slice(), &[2, 5, 6, 6]);
-    are_items(rt, read.made.text().as_slice(), b"820102120000Z");
+// Whether it says this of a name.
+fn is_named(read: &DirectoryEntry) -> bool {
+    read.name.as_str() == "é"
+        && read.class.components().as_slice() == [2, 5, 6, 6].as_slice()
+        && read.made.text().as_slice() == b"820102120000Z".as_slice()
 }
 
-// What else it says.
-fn is_described(rt: &impl Abort, read: &DirectoryEntry) {
-    are_items(rt, &read.versions, &[1, -129]);
-    are_items(rt, &read.picture, &[72, 101]);
-    assert_eq!(rt; read.measurement.number, 10);
-    assert!(rt; read.measurement.valid);
-    assert!(rt; read.in_use);
+// Whether it says this of the rest.
+fn is_described(read: &DirectoryEntry) -> bool {
+    read.versions.as_slice() == [1, -129].as_slice()
+        && read.picture.as_slice() == [72, 101].as_slice()
+        && read.measurement.number == 10
+        && read.measurement.valid
+        && read.in_use
+}
+
+fn is_entry(alloc: Global, form: &[u8]) -> bool {
+    match decode_der::<DirectoryEntry>(alloc, form) {
+        Ok(read) => is_named(&read) && is_described(&read),
+        Err(_) => false,
+    }
 }
 
 #[test]
-fn directory_entries(rt: HostRuntime) -> Result<(), Fail> {
-    let read = is_form_of::<DirectoryEntry>(&rt, rt.alloc(), &ENTRY, &OTHER_ENTRY)?;
-    is_named(&rt, &read);
-    is_described(&rt, &read);
-    Ok(())
+fn directory_entries(rt: HostRuntime) {
+    assert!(rt; is_entry(rt.alloc(), &ENTRY));
+    assert!(rt; is_form_of::<DirectoryEntry>(rt.alloc(), &ENTRY, &OTHER_ENTRY));
 }

@@ -2,8 +2,6 @@
 
 use crate::checks::{gives, refuses};
 use std::alloc::Global;
-use std::process::Abort;
-use std::test::Fail;
 use yasna::tags::{TAG_BOOLEAN, TAG_INTEGER, TAG_NULL};
 use yasna::{
     ASN1Error, ASN1ErrorKind, ASN1Result, BERReader, BERReaderSet, construct_der, parse_ber,
@@ -50,21 +48,16 @@ fn number_and_flag(reader: BERReader) -> ASN1Result<(i64, bool)> {
 }
 
 #[test]
-fn lists_in_order(rt: HostRuntime) -> Result<(), Fail> {
+fn lists_in_order(rt: HostRuntime) {
     let alloc = rt.alloc();
-    gives(&rt, parse_ber(alloc, &FALLING, numbers), &[11, 10])?;
-    gives(&rt, parse_der(alloc, &ASCENDING, numbers), &[10, 11])?;
-    parse_der(alloc, &ASCENDING, all_read)?;
-    refuses(
-        &rt,
-        parse_der(alloc, &FALLING, all_read),
-        ASN1ErrorKind::Invalid,
-    );
-    Ok(())
+    assert!(rt; gives(parse_ber(alloc, &FALLING, numbers), &[11, 10]));
+    assert!(rt; gives(parse_der(alloc, &ASCENDING, numbers), &[10, 11]));
+    assert_eq!(rt; parse_der(alloc, &ASCENDING, all_read), Ok(()));
+    assert!(rt; refuses(parse_der(alloc, &FALLING, all_read), ASN1ErrorKind::Invalid));
 }
 
 #[test]
-fn lists_written(rt: HostRuntime) -> Result<(), Fail> {
+fn lists_written(rt: HostRuntime) {
     let alloc = rt.alloc();
     let written = construct_der(alloc, |writer| {
         writer.write_set_of(|parts| {
@@ -72,15 +65,14 @@ fn lists_written(rt: HostRuntime) -> Result<(), Fail> {
             parts.next().write_i64(10)
         })
     });
-    gives(&rt, written, &ASCENDING)?;
+    assert!(rt; gives(written, &ASCENDING));
     let empty = construct_der(alloc, |writer| {
         writer.write_set_of(|parts| {
             parts.next();
             parts.next().write_i64(10)
         })
     });
-    refuses(&rt, empty, ASN1ErrorKind::Invalid);
-    Ok(())
+    assert!(rt; refuses(empty, ASN1ErrorKind::Invalid));
 }
 
 #[test]
@@ -91,26 +83,25 @@ fn only_part_empty(rt: HostRuntime) {
             Ok(())
         })
     });
-    refuses(&rt, written, ASN1ErrorKind::Invalid);
+    assert!(rt; refuses(written, ASN1ErrorKind::Invalid));
 }
 
 #[test]
-fn elements_by_tags(rt: HostRuntime) -> Result<(), Fail> {
+fn elements_by_tags(rt: HostRuntime) {
     let alloc = rt.alloc();
-    let (number, flag) = parse_ber(alloc, &MIXED, number_and_flag)?;
-    assert_eq!(rt; number, 10);
-    assert!(rt; flag);
-    refuses(
-        &rt,
-        parse_der(alloc, &MIXED, number_and_flag),
-        ASN1ErrorKind::Invalid,
+    assert_eq!(rt; parse_ber(alloc, &MIXED, number_and_flag), Ok((10, true)));
+    assert!(rt;
+        refuses(
+            parse_der(alloc, &MIXED, number_and_flag),
+            ASN1ErrorKind::Invalid
+        )
     );
-    refuses(
-        &rt,
-        parse_der(alloc, &SINGLE, number_and_flag),
-        ASN1ErrorKind::Invalid,
+    assert!(rt;
+        refuses(
+            parse_der(alloc, &SINGLE, number_and_flag),
+            ASN1ErrorKind::Invalid
+        )
     );
-    Ok(())
 }
 
 // A flag that is TRUE where it is left out, and a number that may be left out.
@@ -126,64 +117,53 @@ fn der_flag_and_number(alloc: Global, bytes: &[u8]) -> ASN1Result<(bool, Option<
     parse_der(alloc, bytes, flag_and_number)
 }
 
-// The bytes hold this flag and this number.
-fn holds(
-    rt: &impl Abort,
-    alloc: Global,
-    bytes: &[u8],
-    flag: bool,
-    number: Option<i64>,
-) -> Result<(), Fail> {
-    let found = der_flag_and_number(alloc, bytes)?;
-    assert_eq!(rt; found, (flag, number));
-    Ok(())
-}
-
 #[test]
-fn elements_left_out(rt: HostRuntime) -> Result<(), Fail> {
+fn elements_left_out(rt: HostRuntime) {
     let both = [49, 6, 1, 1, 0, 2, 1, 10];
-    holds(&rt, rt.alloc(), &both, false, Some(10))?;
-    holds(&rt, rt.alloc(), &SINGLE, true, Some(10))?;
-    holds(&rt, rt.alloc(), &[49, 0], true, None)
+    assert_eq!(rt;
+        der_flag_and_number(rt.alloc(), &both),
+        Ok((false, Some(10)))
+    );
+    assert_eq!(rt;
+        der_flag_and_number(rt.alloc(), &SINGLE),
+        Ok((true, Some(10)))
+    );
+    assert_eq!(rt; der_flag_and_number(rt.alloc(), &[49, 0]), Ok((true, None)));
 }
 
 #[test]
-fn element_that_equals_its_default(rt: HostRuntime) -> Result<(), Fail> {
+fn element_that_equals_its_default(rt: HostRuntime) {
     let alloc = rt.alloc();
-    let (flag, _) = parse_ber(alloc, &MIXED, flag_and_number)?;
-    assert!(rt; flag);
-    let sorted = [49, 6, 1, 1, 255, 2, 1, 10];
-    refuses(
-        &rt,
-        der_flag_and_number(alloc, &sorted),
-        ASN1ErrorKind::Invalid,
+    assert_eq!(rt;
+        parse_ber(alloc, &MIXED, flag_and_number),
+        Ok((true, Some(10)))
     );
+    let sorted = [49, 6, 1, 1, 255, 2, 1, 10];
+    assert!(rt; refuses(der_flag_and_number(alloc, &sorted), ASN1ErrorKind::Invalid));
     let kept = parse_der(alloc, &sorted, |reader| {
         reader.read_set(|set| {
             let _ = set.read_default(&[TAG_BOOLEAN], true, |element| element.read_bool());
             set.next(&[TAG_INTEGER])?.read_i64()
         })
     });
-    refuses(&rt, kept, ASN1ErrorKind::Invalid);
-    Ok(())
+    assert!(rt; refuses(kept, ASN1ErrorKind::Invalid));
 }
 
 #[test]
-fn element_that_is_not_read(rt: HostRuntime) -> Result<(), Fail> {
+fn element_that_is_not_read(rt: HostRuntime) {
     let alloc = rt.alloc();
     let unread = parse_ber(alloc, &SINGLE, |reader| {
         reader.read_set(|set| set.read_optional(&[TAG_INTEGER], |_| -> ASN1Result<()> { Ok(()) }))
     });
-    refuses(&rt, unread, ASN1ErrorKind::Extra);
+    assert!(rt; refuses(unread, ASN1ErrorKind::Extra));
     let another = parse_ber(alloc, &SINGLE, |reader| {
         reader.read_set(|set| set.read_optional(&[TAG_INTEGER], |element| element.read_bool()))
     });
-    refuses(&rt, another, ASN1ErrorKind::Invalid);
-    Ok(())
+    assert!(rt; refuses(another, ASN1ErrorKind::Invalid));
 }
 
 #[test]
-fn element_that_lacks_memory(rt: HostRuntime) -> Result<(), Fail> {
+fn element_that_lacks_memory(rt: HostRuntime) {
     let alloc = rt.alloc();
     let answered = parse_ber(alloc, &SINGLE, |reader| {
         reader.read_set(|set| {
@@ -192,7 +172,7 @@ fn element_that_lacks_memory(rt: HostRuntime) -> Result<(), Fail> {
             })
         })
     });
-    refuses(&rt, answered, ASN1ErrorKind::OutOfMemory);
+    assert!(rt; refuses(answered, ASN1ErrorKind::OutOfMemory));
     let kept = parse_ber(alloc, &SINGLE, |reader| {
         let _ = reader.read_set(|set| {
             let _ = set.read_optional(&[TAG_INTEGER], |_| -> ASN1Result<i64> {
@@ -202,6 +182,5 @@ fn element_that_lacks_memory(rt: HostRuntime) -> Result<(), Fail> {
         });
         Ok(())
     });
-    refuses(&rt, kept, ASN1ErrorKind::OutOfMemory);
-    Ok(())
+    assert!(rt; refuses(kept, ASN1ErrorKind::OutOfMemory));
 }

@@ -1,8 +1,7 @@
 //! Types that are read and written as a tuple or step by step, each on bytes.
 
-use crate::checks::{are_items, gives, is_text, refuses};
+use crate::checks::{gives, refuses};
 use std::alloc::Global;
-use std::process::Abort;
 use std::test::Fail;
 use yasna::{
     ASN1ErrorKind, ASN1Result, EncodableParts, construct_der, decode_ber, decode_cer, decode_der,
@@ -12,14 +11,19 @@ use yasna_examples::{
     Measurement, Report, Sample, Serial, Trail, Version, encoded_report, normalized_report,
 };
 
+// Whether a number and a flag are read, and written in this form.
+fn is_measurement(alloc: Global, bytes: &[u8], form: &[u8]) -> bool {
+    match decode_ber::<Measurement>(alloc, bytes) {
+        Ok(read) => read.number == 10 && read.valid && gives(encode_der(alloc, &read), form),
+        Err(_) => false,
+    }
+}
+
 #[test]
-fn measurements(rt: HostRuntime) -> Result<(), Fail> {
-    let alloc = rt.alloc();
-    let read: Measurement = decode_ber(alloc, &[48, 128, 2, 1, 10, 1, 1, 1, 0, 0])?;
-    assert_eq!(rt; read.number, 10);
-    assert!(rt; read.valid);
-    gives(&rt, encode_der(alloc, &read), &[48, 6, 2, 1, 10, 1, 1, 255])?;
-    Ok(())
+fn measurements(rt: HostRuntime) {
+    let bytes = [48, 128, 2, 1, 10, 1, 1, 1, 0, 0];
+    let form = [48, 6, 2, 1, 10, 1, 1, 255];
+    assert!(rt; is_measurement(rt.alloc(), &bytes, &form));
 }
 
 const VERSION: Version = Version {
@@ -29,31 +33,30 @@ const VERSION: Version = Version {
 
 const VERSION_FORM: [u8; 9] = [48, 7, 2, 2, 1, 44, 1, 1, 0];
 
-fn is_version(rt: &impl Abort, read: &Version) {
-    assert_eq!(rt; read.major, 300);
-    assert!(rt; !read.flag);
+fn is_version(read: ASN1Result<Version>) -> bool {
+    match read {
+        Ok(read) => read.major == 300 && !read.flag,
+        Err(_) => false,
+    }
 }
 
 #[test]
-fn versions(rt: HostRuntime) -> Result<(), Fail> {
-    let alloc = rt.alloc();
-    gives(&rt, encode_der(alloc, &VERSION), &VERSION_FORM)?;
-    is_version(&rt, &decode_der(alloc, &VERSION_FORM)?);
-    Ok(())
+fn versions(rt: HostRuntime) {
+    assert!(rt; gives(encode_der(rt.alloc(), &VERSION), &VERSION_FORM));
+    assert!(rt; is_version(decode_der(rt.alloc(), &VERSION_FORM)));
 }
 
 #[test]
-fn in_cer(rt: HostRuntime) -> Result<(), Fail> {
-    let alloc = rt.alloc();
+fn in_cer(rt: HostRuntime) {
     let form = [48, 128, 2, 2, 1, 44, 1, 1, 0, 0, 0];
-    gives(&rt, encode_cer(alloc, &VERSION), &form)?;
-    is_version(&rt, &decode_cer(alloc, &form)?);
-    refuses(
-        &rt,
-        decode_cer::<Version>(alloc, &VERSION_FORM),
-        ASN1ErrorKind::Invalid,
+    assert!(rt; gives(encode_cer(rt.alloc(), &VERSION), &form));
+    assert!(rt; is_version(decode_cer(rt.alloc(), &form)));
+    assert!(rt;
+        refuses(
+            decode_cer::<Version>(rt.alloc(), &VERSION_FORM),
+            ASN1ErrorKind::Invalid
+        )
     );
-    Ok(())
 }
 
 const SAMPLE: Sample = Sample {
@@ -62,24 +65,20 @@ const SAMPLE: Sample = Sample {
     shift: -129,
 };
 
-fn is_sample(rt: &impl Abort, read: &Sample) {
-    assert_eq!(rt; read.count, 300);
-    assert!(rt; read.last);
-    assert_eq!(rt; read.shift, -129);
+fn is_sample(read: ASN1Result<Sample>) -> bool {
+    match read {
+        Ok(read) => read.count == 300 && read.last && read.shift == -129,
+        Err(_) => false,
+    }
 }
 
 #[test]
-fn samples(rt: HostRuntime) -> Result<(), Fail> {
-    let alloc = rt.alloc();
+fn samples(rt: HostRuntime) {
     let form = [48, 11, 2, 2, 1, 44, 1, 1, 255, 2, 2, 255, 127];
-    gives(&rt, encode_der(alloc, &SAMPLE), &form)?;
-    is_sample(&rt, &decode_der(alloc, &form)?);
-    refuses(
-        &rt,
-        decode_der::<Sample>(alloc, &[48, 6, 2, 1, 10, 1, 1, 255]),
-        ASN1ErrorKind::Eof,
-    );
-    Ok(())
+    assert!(rt; gives(encode_der(rt.alloc(), &SAMPLE), &form));
+    assert!(rt; is_sample(decode_der(rt.alloc(), &form)));
+    let short = [48, 6, 2, 1, 10, 1, 1, 255];
+    assert!(rt; refuses(decode_der::<Sample>(rt.alloc(), &short), ASN1ErrorKind::Eof));
 }
 
 fn form_of_report(alloc: Global) -> ASN1Result<Vec<u8>> {
@@ -88,27 +87,31 @@ fn form_of_report(alloc: Global) -> ASN1Result<Vec<u8>> {
     encoded_report(alloc, name, raw, -129)
 }
 
-fn is_report(rt: &impl Abort, read: &Report) {
-    is_text(rt, read.name.as_str(), "é");
-    are_items(rt, &read.raw, &[72, 101]);
-    assert_eq!(rt; read.number, -129);
+fn is_report(read: ASN1Result<Report>) -> bool {
+    match read {
+        Ok(read) => {
+            read.name.as_str() == "é"
+                && read.raw.as_slice() == [72, 101].as_slice()
+                && read.number == -129
+        }
+        Err(_) => false,
+    }
 }
 
 #[test]
-fn reports(rt: HostRuntime) -> Result<(), Fail> {
-    let alloc = rt.alloc();
+fn reports(rt: HostRuntime) {
     let form = [48, 12, 12, 2, 195, 169, 4, 2, 72, 101, 2, 2, 255, 127];
-    gives(&rt, form_of_report(alloc), &form)?;
-    is_report(&rt, &decode_der(alloc, &form)?);
+    assert!(rt; gives(form_of_report(rt.alloc()), &form));
+    assert!(rt; is_report(decode_der(rt.alloc(), &form)));
     let pieces = [48, 14, 44, 6, 4, 1, 195, 4, 1, 169, 4, 0, 2, 2, 255, 127];
     let form = [48, 10, 12, 2, 195, 169, 4, 0, 2, 2, 255, 127];
-    gives(&rt, normalized_report(alloc, &pieces), &form)?;
-    refuses(
-        &rt,
-        decode_der::<Report>(alloc, &pieces),
-        ASN1ErrorKind::Invalid,
+    assert!(rt; gives(normalized_report(rt.alloc(), &pieces), &form));
+    assert!(rt;
+        refuses(
+            decode_der::<Report>(rt.alloc(), &pieces),
+            ASN1ErrorKind::Invalid
+        )
     );
-    Ok(())
 }
 
 fn form_of_trail(alloc: Global) -> ASN1Result<Vec<u8>> {
@@ -116,13 +119,18 @@ fn form_of_trail(alloc: Global) -> ASN1Result<Vec<u8>> {
     encode_der(alloc, &Trail { steps })
 }
 
+fn is_trail(read: ASN1Result<Trail>, steps: &[i64]) -> bool {
+    match read {
+        Ok(read) => read.steps.as_slice() == steps,
+        Err(_) => false,
+    }
+}
+
 #[test]
-fn trails(rt: HostRuntime) -> Result<(), Fail> {
+fn trails(rt: HostRuntime) {
     let form = [48, 10, 2, 1, 255, 2, 1, 2, 2, 2, 1, 44];
-    gives(&rt, form_of_trail(rt.alloc()), &form)?;
-    let read: Trail = decode_der(rt.alloc(), &form)?;
-    are_items(&rt, &read.steps, &[300, 2, -1]);
-    Ok(())
+    assert!(rt; gives(form_of_trail(rt.alloc()), &form));
+    assert!(rt; is_trail(decode_der(rt.alloc(), &form), &[300, 2, -1]));
 }
 
 #[test]
@@ -133,11 +141,11 @@ fn serials(rt: HostRuntime) -> Result<(), Fail> {
     let bytes = construct_der(alloc, |writer| {
         writer.write_sequence(|parts| (&left_out, (true, ())).write_parts(parts))
     });
-    gives(&rt, bytes, &[48, 3, 1, 1, 255])?;
+    assert!(rt; gives(bytes, &[48, 3, 1, 1, 255]));
     let given = Serial { number: Some(10) };
     let bytes = construct_der(alloc, |writer| {
         writer.write_sequence(|parts| (&given, (true, ())).write_parts(parts))
     });
-    gives(&rt, bytes, &[48, 6, 2, 1, 10, 1, 1, 255])?;
+    assert!(rt; gives(bytes, &[48, 6, 2, 1, 10, 1, 1, 255]));
     Ok(())
 }

@@ -1,12 +1,11 @@
 //! Both times, each call once, and what no contract says of their orders, hashes and copies.
 
-use crate::checks::{are_items, is_text};
 use std::alloc::Global;
 use std::cmp::Ordering;
 use std::hash::{BuildHasher, BuildHasherDefault, FoldHasher, Hash};
-use std::process::Abort;
 use std::test::Fail;
 use yasna::models::{DateTime, GeneralizedTime, Offset, UTCTime};
+use yasna::{ASN1Error, ASN1ErrorKind, ASN1Result};
 use yasna_examples::{
     as_generalized_time, remade_utc_time, with_tenths_of_a_picosecond, without_leap_second,
 };
@@ -15,68 +14,78 @@ const EVENING: &[u8] = b"19851106210627.3Z";
 
 const DIGITS: &str = "19851106210627.300000000001Z";
 
-fn general(alloc: Global, text: &[u8]) -> Result<GeneralizedTime, Fail> {
-    let time = GeneralizedTime::parse(alloc, text)?;
-    Ok(time.ok_or("a time")?)
+fn no_time() -> ASN1Error {
+    ASN1Error::new(ASN1ErrorKind::Invalid)
 }
 
-fn noon() -> Result<UTCTime, Fail> {
-    Ok(UTCTime::parse(b"8201020700-0500").ok_or("a time")?)
+fn general(alloc: Global, text: &[u8]) -> ASN1Result<GeneralizedTime> {
+    GeneralizedTime::parse(alloc, text)?.ok_or(no_time())
 }
 
-fn is_shown_as(
-    rt: &impl Abort,
-    alloc: Global,
-    time: &GeneralizedTime,
-    text: &str,
-) -> Result<(), Fail> {
-    is_text(rt, time.to_string(alloc)?.as_str(), text);
-    are_items(rt, &time.to_bytes(alloc)?, text.as_bytes());
-    Ok(())
+fn noon() -> ASN1Result<UTCTime> {
+    UTCTime::parse(b"8201020700-0500").ok_or(no_time())
 }
 
-fn utc_is_shown_as(rt: &impl Abort, alloc: Global, time: &UTCTime, text: &str) -> Result<(), Fail> {
-    is_text(rt, time.to_string(alloc)?.as_str(), text);
-    are_items(rt, &time.to_bytes(alloc)?, text.as_bytes());
-    Ok(())
+// Whether the time is shown as the text.
+fn is_shown_as(alloc: Global, time: &GeneralizedTime, text: &str) -> ASN1Result<bool> {
+    let shown = time.to_string(alloc)?;
+    let bytes = time.to_bytes(alloc)?;
+    Ok(shown.as_str() == text && bytes.as_slice() == text.as_bytes())
 }
 
-// Both are one value.
-fn is_same<T: Ord + Hash>(rt: &impl Abort, one: &T, other: &T) {
-    assert!(rt; *one == *other);
+fn utc_is_shown_as(alloc: Global, time: &UTCTime, text: &str) -> ASN1Result<bool> {
+    let shown = time.to_string(alloc)?;
+    let bytes = time.to_bytes(alloc)?;
+    Ok(shown.as_str() == text && bytes.as_slice() == text.as_bytes())
+}
+
+// Whether both are one value.
+fn is_same<T: Ord + Hash>(one: &T, other: &T) -> bool {
     let hasher = BuildHasherDefault::<FoldHasher>::default();
-    assert_eq!(rt; hasher.hash_one(one), hasher.hash_one(other));
+    *one == *other && hasher.hash_one(one) == hasher.hash_one(other)
 }
 
 // The evening with these digits behind the nanosecond.
-fn with_digits(alloc: Global, digits: &[u8]) -> Result<Option<GeneralizedTime>, Fail> {
+fn with_digits(alloc: Global, digits: &[u8]) -> ASN1Result<Option<GeneralizedTime>> {
     let evening = general(alloc, EVENING)?;
     let local = *evening.datetime();
     let made = GeneralizedTime::from_datetime_and_sub_nano_opt(alloc, local, Offset::UTC, digits)?;
     Ok(made)
 }
 
+// Whether these digits leave these behind the nanosecond, and the time is shown as the text.
+fn is_of_digits(alloc: Global, digits: &[u8], sub_nano: &[u8], text: &str) -> ASN1Result<bool> {
+    match with_digits(alloc, digits)? {
+        Some(made) => Ok(made.sub_nano() == sub_nano && is_shown_as(alloc, &made, text)?),
+        None => Ok(false),
+    }
+}
+
 // Twelve digits of a second, of which the last three stand behind the nanosecond.
 #[test]
-fn made_of_digits(rt: HostRuntime) -> Result<(), Fail> {
-    let made = with_digits(rt.alloc(), b"0010")?.ok_or("a time of these digits")?;
-    assert_eq!(rt; made.sub_nano(), b"001".as_slice());
-    is_shown_as(&rt, rt.alloc(), &made, DIGITS)
+fn made_of_digits(rt: HostRuntime) {
+    assert_eq!(rt; is_of_digits(rt.alloc(), b"0010", b"001", DIGITS), Ok(true));
+}
+
+fn is_of_no_digits(alloc: Global, digits: &[u8]) -> ASN1Result<bool> {
+    let other = with_digits(alloc, digits)?;
+    Ok(other.is_none())
 }
 
 #[test]
-fn made_of_no_digits(rt: HostRuntime) -> Result<(), Fail> {
-    let other = with_digits(rt.alloc(), b"0a")?;
-    assert!(rt; other.is_none());
-    Ok(())
+fn made_of_no_digits(rt: HostRuntime) {
+    assert_eq!(rt; is_of_no_digits(rt.alloc(), b"0a"), Ok(true));
 }
 
-#[test]
-fn copied(rt: HostRuntime) -> Result<(), Fail> {
-    let made = general(rt.alloc(), DIGITS.as_bytes())?;
+fn is_copied(alloc: Global, text: &str) -> ASN1Result<bool> {
+    let made = general(alloc, text.as_bytes())?;
     let copy = made.clone()?;
-    is_same(&rt, &made, &copy);
-    is_shown_as(&rt, rt.alloc(), &copy, DIGITS)
+    Ok(is_same(&made, &copy) && is_shown_as(alloc, &copy, text)?)
+}
+
+#[test]
+fn copied(rt: HostRuntime) {
+    assert_eq!(rt; is_copied(rt.alloc(), DIGITS), Ok(true));
 }
 
 #[test]
@@ -94,12 +103,18 @@ fn evening_of_parts(alloc: Global) -> Result<GeneralizedTime, Fail> {
     Ok(time.ok_or("a time")?)
 }
 
-// Ten tenths of a picosecond behind the nanosecond, as the digits 0010.
+// Whether the evening with ten tenths of a picosecond behind the nanosecond is shown as the text.
+fn is_counted_finer(alloc: Global, text: &str) -> Result<bool, Fail> {
+    let evening = evening_of_parts(alloc)?;
+    let made = with_tenths_of_a_picosecond(alloc, &evening, 10)?;
+    Ok(is_shown_as(alloc, &made, text)?)
+}
+
+// They are shown as the digits 0010.
 #[test]
 fn counted_finer(rt: HostRuntime) -> Result<(), Fail> {
-    let evening = evening_of_parts(rt.alloc())?;
-    let made = with_tenths_of_a_picosecond(rt.alloc(), &evening, 10)?;
-    is_shown_as(&rt, rt.alloc(), &made, DIGITS)
+    assert!(rt; is_counted_finer(rt.alloc(), DIGITS)?);
+    Ok(())
 }
 
 // Second 60 shows as 59, so 60.1 comes before 59.5.
@@ -120,53 +135,107 @@ fn ordered_by_second_60(rt: HostRuntime) -> Result<(), Fail> {
     Ok(())
 }
 
-#[test]
-fn of_date_times(rt: HostRuntime) -> Result<(), Fail> {
+fn utc_of(local: DateTime, offset: Offset) -> ASN1Result<UTCTime> {
+    UTCTime::from_datetime_opt(local, offset).ok_or(no_time())
+}
+
+fn is_noon_of_parts(alloc: Global) -> ASN1Result<bool> {
     let noon = noon()?;
-    utc_is_shown_as(&rt, rt.alloc(), &noon, "820102120000Z")?;
-    let again = UTCTime::from_datetime_opt(*noon.datetime(), Offset::UTC).ok_or("a time at noon")?;
-    is_same(&rt, &again, &noon);
+    let again = utc_of(*noon.datetime(), Offset::UTC)?;
+    Ok(is_same(&again, &noon) && utc_is_shown_as(alloc, &noon, "820102120000Z")?)
+}
+
+fn is_noon_copied() -> ASN1Result<bool> {
+    let noon = noon()?;
     let copy = noon.clone()?;
-    is_same(&rt, &copy, &noon);
-    Ok(())
+    Ok(is_same(&copy, &noon))
 }
 
 #[test]
-fn of_date_times_ahead(rt: HostRuntime) -> Result<(), Fail> {
+fn of_date_times(rt: HostRuntime) {
+    assert_eq!(rt; is_noon_of_parts(rt.alloc()), Ok(true));
+    assert_eq!(rt; is_noon_copied(), Ok(true));
+}
+
+fn hour_ahead() -> ASN1Result<Offset> {
+    match Offset::from_seconds(3600) {
+        Ok(ahead) => Ok(ahead),
+        Err(_) => Err(no_time()),
+    }
+}
+
+fn is_earlier_ahead(alloc: Global) -> ASN1Result<bool> {
     let noon = noon()?;
-    let ahead = Offset::from_seconds(3600)?;
-    let earlier = UTCTime::from_datetime_opt(*noon.datetime(), ahead).ok_or("a time before noon")?;
-    assert_eq!(rt; earlier.cmp(&noon), Ordering::Less);
-    utc_is_shown_as(&rt, rt.alloc(), &earlier, "820102110000Z")
+    let earlier = utc_of(*noon.datetime(), hour_ahead()?)?;
+    Ok(earlier.cmp(&noon) == Ordering::Less && utc_is_shown_as(alloc, &earlier, "820102110000Z")?)
 }
 
 #[test]
-fn of_any_date_times_ahead(rt: HostRuntime) -> Result<(), Fail> {
+fn of_date_times_ahead(rt: HostRuntime) {
+    assert_eq!(rt; is_earlier_ahead(rt.alloc()), Ok(true));
+}
+
+// Whether noon in a zone an hour ahead is shown as the text.
+fn noon_ahead_is_shown_as(alloc: Global, text: &str) -> ASN1Result<bool> {
     let noon = noon()?;
-    let ahead = Offset::from_seconds(3600)?;
-    let earlier = GeneralizedTime::from_datetime_opt(rt.alloc(), *noon.datetime(), ahead);
-    let earlier = earlier.ok_or("a time before noon")?;
-    is_shown_as(&rt, rt.alloc(), &earlier, "19820102110000Z")
+    match GeneralizedTime::from_datetime_opt(alloc, *noon.datetime(), hour_ahead()?) {
+        Some(earlier) => is_shown_as(alloc, &earlier, text),
+        None => Ok(false),
+    }
+}
+
+#[test]
+fn of_any_date_times_ahead(rt: HostRuntime) {
+    assert_eq!(rt;
+        noon_ahead_is_shown_as(rt.alloc(), "19820102110000Z"),
+        Ok(true)
+    );
+}
+
+fn is_noon_remade() -> ASN1Result<bool> {
+    let noon = noon()?;
+    Ok(remade_utc_time(&noon) == noon)
+}
+
+// Whether noon, made a time of the other type, is shown as the text.
+fn noon_is_shown_as(alloc: Global, text: &str) -> ASN1Result<bool> {
+    let noon = noon()?;
+    is_shown_as(alloc, &as_generalized_time(alloc, &noon), text)
 }
 
 // A time that is made of the parts of another says the same.
 #[test]
-fn made_of_their_parts(rt: HostRuntime) -> Result<(), Fail> {
-    let noon = noon()?;
-    assert!(rt; remade_utc_time(&noon) == noon);
-    let made = as_generalized_time(rt.alloc(), &noon);
-    is_shown_as(&rt, rt.alloc(), &made, "19820102120000Z")
+fn made_of_their_parts(rt: HostRuntime) {
+    assert_eq!(rt; is_noon_remade(), Ok(true));
+    assert_eq!(rt; noon_is_shown_as(rt.alloc(), "19820102120000Z"), Ok(true));
+}
+
+fn is_same_without_second_60(alloc: Global, text: &[u8]) -> ASN1Result<bool> {
+    let time = general(alloc, text)?;
+    let same = without_leap_second(alloc, &time)?;
+    Ok(is_same(&same, &time))
+}
+
+// Whether the time without its second 60 is shown as the text.
+fn is_made_without_second_60(alloc: Global, time: &[u8], text: &str) -> ASN1Result<bool> {
+    let sixty = general(alloc, time)?;
+    let other = without_leap_second(alloc, &sixty)?;
+    is_shown_as(alloc, &other, text)
 }
 
 // But for a second 60.
 #[test]
-fn made_without_second_60(rt: HostRuntime) -> Result<(), Fail> {
-    let evening = general(rt.alloc(), DIGITS.as_bytes())?;
-    let same = without_leap_second(rt.alloc(), &evening)?;
-    is_same(&rt, &same, &evening);
-    let sixty = general(rt.alloc(), b"19981231235960.1234567891Z")?;
-    let other = without_leap_second(rt.alloc(), &sixty)?;
-    is_shown_as(&rt, rt.alloc(), &other, "19981231235959.1234567891Z")
+fn made_without_second_60(rt: HostRuntime) {
+    assert_eq!(rt;
+        is_same_without_second_60(rt.alloc(), DIGITS.as_bytes()),
+        Ok(true)
+    );
+    let sixty = b"19981231235960.1234567891Z";
+    let text = "19981231235959.1234567891Z";
+    assert_eq!(rt;
+        is_made_without_second_60(rt.alloc(), sixty, text),
+        Ok(true)
+    );
 }
 
 #[test]

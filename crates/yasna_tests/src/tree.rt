@@ -95,6 +95,6 @@ fn trees(rt: HostRuntime) -> Result<(), Fail> {
     };
     assert_eq!(rt; sizes, (0, 1));
     let refused: ASN1Result<Tree> = decode_der(alloc, &[48, 4, 48, 2, 5, 0]);
-    refuses(&rt, refused, ASN1ErrorKind::Extra);
+    assert!(rt; refuses(refused, ASN1ErrorKind::Extra));
     Ok(())
 }
