@@ -4,16 +4,16 @@ ghost use Rattle.yasna_base.specs.Raw.{IsRaw, IsJoining};
 ghost use Rattle.yasna_lines.specs.declared.input.Form.TheVariants.{Bytes};
 
 use crate::input::{Block, Form, PemReader, decode_hex, form_of};
-use crate::names::Names;
-use crate::output::Output;
-use crate::printer::Printer;
-use crate::value::{Style, write_quoted};
 use std::alloc::Global;
 use std::io::Write;
 use yasna_base::error::ASN1ErrorKind;
 use yasna_base::mode::BERMode;
 use yasna_listing::fault::{Expected, Fault};
 use yasna_listing::listing::list_input;
+use yasna_printer::names::Names;
+use yasna_printer::output::Output;
+use yasna_printer::printer::Printer;
+use yasna_printer::value::{Style, write_quoted};
 
 // Lists the elements of bytes, and in which encoding rules they are.
 fn show_bytes<W: Output>(

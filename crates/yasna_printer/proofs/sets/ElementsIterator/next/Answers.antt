@@ -1,6 +1,6 @@
 use Rattle.std.proofs.Common.{rules, ◌<◌, List, ℕ, length, subst}
-use Rattle.yasna_lines.proofs.Front.{taken_shorter}
-use Rattle.yasna_lines.proofs.sets.ElementsIterator.next.Goals as goal
+use Rattle.yasna_printer.proofs.Front.{taken_shorter}
+use Rattle.yasna_printer.proofs.sets.ElementsIterator.next.Goals as goal
 
 pub returns-in-Ok-clause-goes : goal.returns-in-Ok-clause-goes
 returns-in-Ok-clause-goes c =
