@@ -3,12 +3,11 @@ ghost use Rattle.std.specs.Prelude.{◌≡◌, ◌≤◌, length, OnOk, Some};
 ghost use Rattle.yasna_base.specs.Raw.{IsRaw, IsJoining};
 ghost use Rattle.yasna_lines.specs.declared.input.Form.TheVariants.{Bytes};
 
-use crate::input::{Block, Form, PemReader, decode_hex, form_of};
+use crate::input::{Block, Form, PemReader, decode_hex, form_of, is_line_end};
 use std::alloc::Global;
 use std::io::Write;
-use yasna_base::error::ASN1ErrorKind;
 use yasna_base::mode::BERMode;
-use yasna_listing::fault::{Expected, Fault};
+use yasna_listing::fault::Fault;
 use yasna_listing::listing::list_input;
 use yasna_printer::names::Names;
 use yasna_printer::output::Output;
@@ -16,8 +15,8 @@ use yasna_printer::printer::Printer;
 use yasna_printer::value::{Style, write_quoted};
 
 // Lists the elements of bytes, and in which encoding rules they are.
-fn show_bytes<W: Output>(
-    out: &mut W,
+fn show_bytes<W: Write>(
+    out: &mut Output<'_, W>,
     mode: BERMode,
     style: Style<'_>,
     bytes: &[u8],
@@ -30,74 +29,74 @@ fn show_bytes<W: Output>(
     printer.finish()
 }
 
-fn show_block<W: Output>(
-    out: &mut W,
+// Writes how many bytes there are, behind this text, and lists the elements of them.
+fn show_counted<W: Write>(
+    out: &mut Output<'_, W>,
+    mode: BERMode,
+    style: Style<'_>,
+    before: &str,
+    bytes: &[u8],
+) -> Result<(), Fault>
+    ensures raw { OnOk result (IsJoining (IsRaw 101 mode) bytes.now) }
+    ensures some { OnOk result (1 ≤ length bytes.now) }
+{
+    let count = bytes.len();
+    write!(out, "{before}{count} bytes");
+    out.end_line()?;
+    show_bytes(out, mode, style, bytes)
+}
+
+fn show_block<W: Write>(
+    out: &mut Output<'_, W>,
     mode: BERMode,
     style: Style<'_>,
     block: &Block<'_>,
 ) -> Result<(), Fault> {
-    let count = block.bytes.len();
-    out.write_str("input: PEM ")?;
-    write_quoted(out, block.label)?;
-    writeln!(out, ", {count} bytes")?;
-    show_bytes(out, mode, style, block.bytes.as_slice())
+    out.write_str("input: PEM ");
+    write_quoted(out, block.label);
+    show_counted(out, mode, style, ", ", block.bytes.as_slice())
 }
 
 // Takes a line of PEM, and lists the elements of the block that ends with it, if one does.
-fn show_line<'a, W: Output>(
-    out: &mut W,
+fn show_line<'a, W: Write>(
+    out: &mut Output<'_, W>,
     mode: BERMode,
     style: Style<'_>,
     reader: &mut PemReader<'a>,
     line: &'a [u8],
-    offset: usize,
-) -> Result<bool, Fault> {
-    match reader.push(line, offset)? {
-        Some(block) => {
-            show_block(out, mode, style, &block)?;
-            Ok(true)
-        }
-        None => Ok(false),
+) -> Result<(), Fault> {
+    match reader.push(line)? {
+        Some(block) => show_block(out, mode, style, &block),
+        None => Ok(()),
     }
 }
 
-fn missing(offset: usize, expected: Expected) -> Fault {
-    Fault::Broken {
-        offset,
-        kind: ASN1ErrorKind::Eof,
-        expected,
-    }
-}
-
-fn show_blocks<W: Output>(
-    out: &mut W,
+fn show_blocks<W: Write>(
+    out: &mut Output<'_, W>,
     mode: BERMode,
     style: Style<'_>,
     input: &[u8],
 ) -> Result<(), Fault> {
     let mut reader = PemReader::new(style.alloc);
-    let mut offset: usize = 0;
-    let mut is_any = false;
-    for line in input.split(|octet| *octet == b'\n') {
-        offset = offset.saturating_add(line.len());
-        if show_line(out, mode, style, &mut reader, line, offset)? {
-            is_any = true;
-        }
-        offset = offset.saturating_add(1);
+    for line in input.split(is_line_end) {
+        show_line(out, mode, style, &mut reader, line)?;
     }
-    if reader.is_open() {
-        return Err(missing(input.len(), Expected::BlockEnd));
-    }
-    if is_any {
-        Ok(())
-    } else {
-        Err(missing(input.len(), Expected::Block))
-    }
+    reader.finish(input.len())
+}
+
+fn show_hex<W: Write>(
+    out: &mut Output<'_, W>,
+    mode: BERMode,
+    style: Style<'_>,
+    input: &[u8],
+) -> Result<(), Fault> {
+    let bytes = decode_hex(style.alloc, input)?;
+    show_counted(out, mode, style, "input: hexadecimal, ", bytes.as_slice())
 }
 
 // Lists the elements of an input of this form.
-fn show_form<W: Output>(
-    out: &mut W,
+fn show_form<W: Write>(
+    out: &mut Output<'_, W>,
     mode: BERMode,
     form: Form,
     style: Style<'_>,
@@ -108,17 +107,8 @@ fn show_form<W: Output>(
 {
     match form {
         Form::Pem => show_blocks(out, mode, style, input),
-        Form::Hex => {
-            let bytes = decode_hex(style.alloc, input)?;
-            let count = bytes.len();
-            writeln!(out, "input: hexadecimal, {count} bytes")?;
-            show_bytes(out, mode, style, bytes.as_slice())
-        }
-        Form::Bytes => {
-            let count = input.len();
-            writeln!(out, "input: {count} bytes")?;
-            show_bytes(out, mode, style, input)
-        }
+        Form::Hex => show_hex(out, mode, style, input),
+        Form::Bytes => show_counted(out, mode, style, "input: ", input),
     }
 }
 
@@ -141,8 +131,9 @@ pub fn show<W: Write>(
         names: &names,
         width,
     };
+    let mut out = Output::new(out);
     match form {
-        Some(form) => show_form(out, mode, form, style, input),
-        None => show_form(out, mode, form_of(input), style, input),
+        Some(form) => show_form(&mut out, mode, form, style, input),
+        None => show_form(&mut out, mode, form_of(input), style, input),
     }
 }

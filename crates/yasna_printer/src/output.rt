@@ -4,28 +4,59 @@ use std::fmt::Display;
 use std::io::Write;
 use yasna_listing::fault::Fault;
 
-/// A writer whose failure is told as a fault at once.
-pub trait Output {
-    /// Writes what `write!` is handed.
-    fn write_fmt<D: Display + Drop>(&mut self, text: D) -> Result<(), Fault>;
-
-    /// Writes octets as they are.
-    fn write_all(&mut self, octets: &[u8]) -> Result<(), Fault>;
-
-    /// Writes a text as it is.
-    fn write_str(&mut self, text: &str) -> Result<(), Fault>;
+/// A writer with what went wrong first, behind which nothing is written. So only the end of a line is asked whether all went well.
+#[derive(Drop)]
+pub struct Output<'w, W: Write> {
+    writer: &'w mut W,
+    fault: Option<Fault>,
 }
 
-impl<W: Write> Output for W {
-    fn write_fmt<D: Display + Drop>(&mut self, text: D) -> Result<(), Fault> {
-        Ok(Write::write_fmt(self, text)?)
+impl<'w, W: Write> Output<'w, W> {
+    /// With nothing written yet.
+    pub fn new(writer: &'w mut W) -> Output<'w, W> {
+        Output {
+            writer,
+            fault: None,
+        }
     }
 
-    fn write_all(&mut self, octets: &[u8]) -> Result<(), Fault> {
-        Ok(Write::write_all(self, octets)?)
+    /// Keeps a fault, if it is the first.
+    pub fn refuse(&mut self, fault: Fault) {
+        if self.fault.is_none() {
+            self.fault = Some(fault);
+        }
     }
 
-    fn write_str(&mut self, text: &str) -> Result<(), Fault> {
-        Ok(Write::write_all(self, text.as_bytes())?)
+    /// Writes what `write!` is handed.
+    pub fn write_fmt<D: Display + Drop>(&mut self, text: D) {
+        if self.fault.is_none() && self.writer.write_fmt(text).is_err() {
+            self.fault = Some(Fault::Output);
+        }
+    }
+
+    /// Writes octets as they are.
+    pub fn write_all(&mut self, octets: &[u8]) {
+        if self.fault.is_none() && self.writer.write_all(octets).is_err() {
+            self.fault = Some(Fault::Output);
+        }
+    }
+
+    /// Writes a text as it is.
+    pub fn write_str(&mut self, text: &str) {
+        self.write_all(text.as_bytes())
+    }
+
+    /// What went wrong so far, if something did.
+    pub fn status(&self) -> Result<(), Fault> {
+        match self.fault {
+            Some(fault) => Err(fault),
+            None => Ok(()),
+        }
+    }
+
+    /// Ends a line.
+    pub fn end_line(&mut self) -> Result<(), Fault> {
+        self.write_str("\n");
+        self.status()
     }
 }

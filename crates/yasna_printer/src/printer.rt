@@ -3,9 +3,10 @@
 use crate::kind::{Kind, kind_of};
 use crate::names::type_name;
 use crate::output::Output;
-use crate::remark::{Remark, Verdict};
+use crate::remark::{Remark, Verdict, unless};
 use crate::sets::{are_cer_segments, is_out_of_order, stays_whole};
 use crate::value::{Style, write_value};
+use std::io::Write;
 use yasna_base::tag::{PCBit, Tag, TagClass};
 use yasna_base::tags::{TAG_BITSTRING, TAG_OCTETSTRING};
 use yasna_listing::fault::Fault;
@@ -31,8 +32,8 @@ impl Listener for Silent {
 
 /// Prints a line for each element.
 #[derive(Drop)]
-pub struct Printer<'o, 'n, W: Output> {
-    out: &'o mut W,
+pub struct Printer<'o, 'w, 'n, W: Write> {
+    out: &'o mut Output<'w, W>,
     style: Style<'n>,
     verdict: Verdict,
     // For each element around the next one the tag of its segments, if it is a string.
@@ -41,9 +42,9 @@ pub struct Printer<'o, 'n, W: Output> {
     is_segment: bool,
 }
 
-impl<'o, 'n, W: Output> Printer<'o, 'n, W> {
+impl<'o, 'w, 'n, W: Write> Printer<'o, 'w, 'n, W> {
     /// Prints to `out`.
-    pub fn new(out: &'o mut W, style: Style<'n>) -> Printer<'o, 'n, W> {
+    pub fn new(out: &'o mut Output<'w, W>, style: Style<'n>) -> Printer<'o, 'w, 'n, W> {
         Printer {
             out,
             style,
@@ -56,48 +57,46 @@ impl<'o, 'n, W: Output> Printer<'o, 'n, W> {
     /// Prints in which encoding rules the elements are.
     pub fn finish(self) -> Result<(), Fault> {
         let Printer { out, verdict, .. } = self;
-        writeln!(out, "rules: {verdict}")
+        write!(out, "rules: {verdict}");
+        out.end_line()
     }
 
-    fn print_tag(&mut self, tag: Tag) -> Result<(), Fault> {
-        let number = tag.tag_number;
-        match tag.tag_class {
-            TagClass::Universal => match type_name(number) {
-                Some(name) => self.out.write_str(name),
-                None => write!(self.out, "[UNIVERSAL {number}]"),
-            },
-            TagClass::Application => write!(self.out, "[APPLICATION {number}]"),
-            TagClass::ContextSpecific => write!(self.out, "[{number}]"),
-            TagClass::Private => write!(self.out, "[PRIVATE {number}]"),
+    fn print_tag(&mut self, tag: Tag) {
+        if let Some(name) = name_of(tag) {
+            return self.out.write_str(name);
         }
+        let (class, number) = (class_of(tag.tag_class), tag.tag_number);
+        write!(self.out, "[{class}{number}]")
     }
 
     // The place of an element, and its lengths.
-    fn print_place(&mut self, item: &Item<'_>) -> Result<(), Fault> {
-        let offset = item.offset;
-        let header = item.header;
+    fn print_place(&mut self, item: &Item<'_>) {
+        let (offset, header) = (item.offset, item.header);
+        write!(self.out, "{offset:>7} {header:>2}+");
         match item.size {
-            Some(size) => write!(self.out, "{offset:>7} {header:>2}+{size:<7}"),
-            None => write!(self.out, "{offset:>7} {header:>2}+indef  "),
+            Some(size) => write!(self.out, "{size:<7}"),
+            None => self.out.write_str("indef  "),
         }
     }
 
     // The same, and its tag.
-    fn print_head(&mut self, item: &Item<'_>) -> Result<(), Fault> {
-        self.print_place(item)?;
+    fn print_head(&mut self, item: &Item<'_>) {
+        self.print_place(item);
         let mark = if item.is_within { ">" } else { " " };
         let indent = 2 * usize::from(item.depth);
-        write!(self.out, "{mark} {:indent$}", "")?;
+        write!(self.out, "{mark} {:indent$}", "");
         self.print_tag(item.tag)
     }
 
     // What is said of an element that isn't so. What stands in a string doesn't bear on the whole.
-    fn remark(&mut self, item: &Item<'_>, remark: Remark) -> Result<(), Fault> {
-        write!(self.out, " -- {remark}")?;
+    fn remark(&mut self, item: &Item<'_>, remark: Option<Remark>) {
+        let Some(remark) = remark else {
+            return;
+        };
         if !item.is_within {
             self.verdict.note(remark);
         }
-        Ok(())
+        write!(self.out, " -- {remark}")
     }
 
     // The tag that an element is to have as a segment, if it is one.
@@ -113,42 +112,67 @@ impl<'o, 'n, W: Output> Printer<'o, 'n, W> {
         wanted.is_none() || wanted == Some(item.tag)
     }
 
-    fn print_contents(&mut self, item: &Item<'_>, kind: Kind) -> Result<(), Fault> {
+    fn print_contents(&mut self, item: &Item<'_>, kind: Kind) {
         match item.bit {
             PCBit::Primitive => self.print_primitive(item, kind),
             PCBit::Constructed => self.remark_constructed(item, kind),
         }
     }
 
-    fn print_primitive(&mut self, item: &Item<'_>, kind: Kind) -> Result<(), Fault> {
+    fn print_primitive(&mut self, item: &Item<'_>, kind: Kind) {
         if !matches!(kind, Kind::Null) {
-            self.out.write_str(" ")?;
+            self.out.write_str(" ");
         }
-        if let Some(remark) = write_value(self.out, self.style, kind, item.contents)? {
-            self.remark(item, remark)?;
-        }
-        if kind.is_string() && !stays_whole(item.contents) && !item.is_within {
-            self.verdict.exclude_cer();
-        }
-        Ok(())
+        let remark = write_value(self.out, self.style, kind, item.contents);
+        self.remark(item, remark)
     }
 
-    fn remark_constructed(&mut self, item: &Item<'_>, kind: Kind) -> Result<(), Fault> {
-        if item.size.is_none() {
-            self.remark(item, Remark::Indefinite)?;
-        } else if !item.is_within {
+    fn remark_constructed(&mut self, item: &Item<'_>, kind: Kind) {
+        self.remark(item, unless(item.size.is_some(), Remark::Indefinite));
+        self.remark(item, remark_of(kind, item.contents))
+    }
+
+    // What is said of an element's header.
+    fn remark_header(&mut self, item: &Item<'_>) {
+        let is_wanted = self.is_wanted(item);
+        self.remark(item, unless(!is_long(item), Remark::LongLength));
+        self.remark(item, unless(is_wanted, Remark::Segment))
+    }
+
+    fn note_cer(&mut self, item: &Item<'_>, kind: Kind) {
+        if !item.is_within && !is_in_cer(item, kind) {
             self.verdict.exclude_cer();
         }
-        if kind.is_string() {
-            if !item.is_within && !are_cer_segments(item.contents) {
-                self.verdict.exclude_cer();
-            }
-            return self.remark(item, Remark::Segments);
+    }
+}
+
+// What stands in front of the number of a tag of this class.
+fn class_of(class: TagClass) -> &'static str {
+    match class {
+        TagClass::Universal => "UNIVERSAL ",
+        TagClass::Application => "APPLICATION ",
+        TagClass::ContextSpecific => "",
+        TagClass::Private => "PRIVATE ",
+    }
+}
+
+// The name of the type with this tag, where it is one of X.680's own.
+fn name_of(tag: Tag) -> Option<&'static str> {
+    match tag.tag_class {
+        TagClass::Universal => type_name(tag.tag_number),
+        _ => None,
+    }
+}
+
+// Whether CER has an element of this kind in this form: constructed ones have no counted length, and strings are cut where they
+// are long (X.690, 9.1 and 9.2).
+fn is_in_cer(item: &Item<'_>, kind: Kind) -> bool {
+    match item.bit {
+        PCBit::Primitive => !kind.is_string() || stays_whole(item.contents),
+        PCBit::Constructed if kind.is_string() => {
+            item.size.is_none() && are_cer_segments(item.contents)
         }
-        match remark_of(kind, item.contents) {
-            Some(remark) => self.remark(item, remark),
-            None => Ok(()),
-        }
+        PCBit::Constructed => item.size.is_none(),
     }
 }
 
@@ -162,12 +186,13 @@ fn segments_of(bit: PCBit, kind: Kind) -> Option<Tag> {
     }
 }
 
-// What is wrong with a constructed element of this kind, which is no string.
+// What is said of a constructed element of this kind.
 fn remark_of(kind: Kind, contents: &[u8]) -> Option<Remark> {
     match kind {
         Kind::Set if is_out_of_order(contents) => Some(Remark::Order),
         Kind::Set | Kind::Unknown => None,
         _ if kind.has_parts() => None,
+        _ if kind.is_string() => Some(Remark::Segments),
         _ => Some(Remark::HasParts),
     }
 }
@@ -198,23 +223,21 @@ fn is_long(item: &Item<'_>) -> bool {
     item.header > identifier_length(item.tag.tag_number).saturating_add(shortest_length(size))
 }
 
-impl<'o, 'n, W: Output> Listener for Printer<'o, 'n, W> {
+impl<'o, 'w, 'n, W: Write> Listener for Printer<'o, 'w, 'n, W> {
     ghost use Rattle.std.specs.Prelude.{None};
 
     ghost heard = { λ _. None };
 
     fn hear(&mut self, item: &Item<'_>) -> Result<(), Fault> {
         let kind = kind_of(item.tag);
-        self.print_head(item)?;
-        self.print_contents(item, kind)?;
-        if is_long(item) {
-            self.remark(item, Remark::LongLength)?;
+        self.note_cer(item, kind);
+        self.print_head(item);
+        self.print_contents(item, kind);
+        self.remark_header(item);
+        if self.around.push(segments_of(item.bit, kind)).is_err() {
+            self.out.refuse(Fault::Memory);
         }
-        if !self.is_wanted(item) {
-            self.remark(item, Remark::Segment)?;
-        }
-        self.around.push(segments_of(item.bit, kind))?;
-        self.out.write_str("\n")
+        self.out.end_line()
     }
 
     // Where one whole element stands there.

@@ -89,6 +89,11 @@ impl fmt::Display for Remark {
     }
 }
 
+/// The remark, where this isn't so.
+pub fn unless(is_so: bool, remark: Remark) -> Option<Remark> {
+    if is_so { None } else { Some(remark) }
+}
+
 /// In which encoding rules elements are, as far as can be told without a schema.
 #[derive(Clone, Copy)]
 pub struct Verdict {

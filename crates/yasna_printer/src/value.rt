@@ -9,11 +9,12 @@ mod time;
 use crate::kind::{Characters, Kind};
 use crate::names::Names;
 use crate::output::Output;
-use crate::remark::Remark;
+use crate::remark::{Remark, unless};
 use arcs::{are_components, write_oid, write_relative};
 use number::write_integer;
 use octets::{are_bits, is_padding_clear, write_bits, write_octets};
 use std::alloc::Global;
+use std::io::Write;
 use std::str;
 pub use text::write_quoted;
 use text::{are_wide, write_utf8, write_wide};
@@ -32,22 +33,17 @@ pub struct Style<'n> {
     pub width: usize,
 }
 
-// The remark, where this isn't so.
-fn unless(is_so: bool, remark: Remark) -> Option<Remark> {
-    if is_so { None } else { Some(remark) }
-}
-
-fn write_boolean<W: Output>(out: &mut W, contents: &[u8]) -> Result<Option<Remark>, Fault> {
+fn write_boolean<W: Write>(out: &mut Output<'_, W>, contents: &[u8]) -> Option<Remark> {
     match contents {
         [0] => {
-            out.write_str("FALSE")?;
-            Ok(None)
+            out.write_str("FALSE");
+            None
         }
         [value] => {
-            out.write_str("TRUE")?;
-            Ok(unless(*value == 255, Remark::Truth))
+            out.write_str("TRUE");
+            unless(*value == 255, Remark::Truth)
         }
-        _ => Ok(Some(Remark::Boolean)),
+        _ => Some(Remark::Boolean),
     }
 }
 
@@ -75,39 +71,60 @@ fn are_characters(characters: Characters, octets: &[u8]) -> bool {
     }
 }
 
-fn write_text<W: Output>(
-    out: &mut W,
+fn write_text<W: Write>(
+    out: &mut Output<'_, W>,
     characters: Characters,
     octets: &[u8],
-) -> Result<Option<Remark>, Fault> {
+) -> Option<Remark> {
     match characters {
-        Characters::Utf8 => write_utf8(out, octets)?,
-        Characters::Bmp => write_wide(out, octets, 2)?,
-        Characters::Universal => write_wide(out, octets, 4)?,
-        _ => write_quoted(out, octets)?,
+        Characters::Utf8 => write_utf8(out, octets),
+        Characters::Bmp => write_wide(out, octets, 2),
+        Characters::Universal => write_wide(out, octets, 4),
+        _ => write_quoted(out, octets),
     }
-    Ok(unless(are_characters(characters, octets), Remark::Characters))
+    unless(are_characters(characters, octets), Remark::Characters)
 }
 
-fn write_bit_string<W: Output>(
-    out: &mut W,
+fn write_bit_string<W: Write>(
+    out: &mut Output<'_, W>,
     style: Style<'_>,
     contents: &[u8],
-) -> Result<Option<Remark>, Fault> {
-    write_bits(out, style.alloc, contents, style.width)?;
+) -> Option<Remark> {
+    write_bits(out, style.alloc, contents, style.width);
     if are_bits(contents) {
-        return Ok(unless(is_padding_clear(contents), Remark::Padding));
+        return unless(is_padding_clear(contents), Remark::Padding);
     }
-    Ok(Some(Remark::Bits))
+    Some(Remark::Bits)
+}
+
+// A number of more octets is written in hexadecimal: to write it in decimal would take long.
+const LONGEST_DECIMAL: usize = 2048;
+
+fn write_integer_or_octets<W: Write>(out: &mut Output<'_, W>, style: Style<'_>, contents: &[u8]) {
+    if contents.len() > LONGEST_DECIMAL {
+        return write_octets(out, style.alloc, contents, style.width);
+    }
+    write_integer(out, style.alloc, contents)
+}
+
+// Writes a time, where there was memory to read it.
+fn write_time<W: Write>(out: &mut Output<'_, W>, alloc: Global, contents: &[u8]) -> Option<Remark> {
+    match write_generalized_time(out, alloc, contents) {
+        Ok(remark) => remark,
+        Err(_) => {
+            out.refuse(Fault::Memory);
+            None
+        }
+    }
 }
 
 /// Writes what the contents of a primitive element of this kind say, and tells what is wrong with them.
-pub fn write_value<W: Output>(
-    out: &mut W,
+pub fn write_value<W: Write>(
+    out: &mut Output<'_, W>,
     style: Style<'_>,
     kind: Kind,
     contents: &[u8],
-) -> Result<Option<Remark>, Fault> {
+) -> Option<Remark> {
     let Style {
         alloc,
         names,
@@ -116,43 +133,29 @@ pub fn write_value<W: Output>(
     match kind {
         Kind::Boolean => write_boolean(out, contents),
         Kind::Integer => {
-            write_integer_or_octets(out, style, contents)?;
-            Ok(unless(are_number(contents), Remark::Number))
+            write_integer_or_octets(out, style, contents);
+            unless(are_number(contents), Remark::Number)
         }
         Kind::Bits => write_bit_string(out, style, contents),
-        Kind::Null => Ok(unless(contents.is_empty(), Remark::Null)),
+        Kind::Null => unless(contents.is_empty(), Remark::Null),
         Kind::Oid => {
-            write_oid(out, alloc, names, contents)?;
-            Ok(unless(are_components(contents), Remark::Components))
+            write_oid(out, alloc, names, contents);
+            unless(are_components(contents), Remark::Components)
         }
         Kind::Relative => {
-            write_relative(out, alloc, contents)?;
-            Ok(unless(are_components(contents), Remark::Components))
+            write_relative(out, alloc, contents);
+            unless(are_components(contents), Remark::Components)
         }
         Kind::Text(characters) => write_text(out, characters, contents),
         Kind::UtcTime => write_utc_time(out, contents),
-        Kind::GeneralizedTime => write_generalized_time(out, alloc, contents),
+        Kind::GeneralizedTime => write_time(out, alloc, contents),
         Kind::Octets | Kind::Real | Kind::Unknown => {
-            write_octets(out, alloc, contents, width)?;
-            Ok(None)
+            write_octets(out, alloc, contents, width);
+            None
         }
         Kind::Set | Kind::Parts => {
-            write_octets(out, alloc, contents, width)?;
-            Ok(Some(Remark::HasNoParts))
+            write_octets(out, alloc, contents, width);
+            Some(Remark::HasNoParts)
         }
     }
-}
-
-// A number of more octets is written in hexadecimal: to write it in decimal would take long.
-const LONGEST_DECIMAL: usize = 2048;
-
-fn write_integer_or_octets<W: Output>(
-    out: &mut W,
-    style: Style<'_>,
-    contents: &[u8],
-) -> Result<(), Fault> {
-    if contents.len() > LONGEST_DECIMAL {
-        return write_octets(out, style.alloc, contents, style.width);
-    }
-    write_integer(out, style.alloc, contents)
 }

@@ -2,23 +2,25 @@
 
 use crate::output::Output;
 use std::alloc::Global;
+use std::io::Write;
 use yasna_listing::fault::Fault;
 
 // So many octets are turned into text at once.
 const PIECE: usize = 64;
 
+fn write_digits<W: Write>(out: &mut Output<'_, W>, alloc: Global, piece: &[u8]) {
+    match hex::encode_upper(alloc, piece) {
+        Ok(digits) => out.write_str(&digits),
+        Err(_) => out.refuse(Fault::Memory),
+    }
+}
+
 /// Writes octets in hexadecimal, cut to so many digits.
-pub fn write_octets<W: Output>(
-    out: &mut W,
-    alloc: Global,
-    octets: &[u8],
-    width: usize,
-) -> Result<(), Fault> {
+pub fn write_octets<W: Write>(out: &mut Output<'_, W>, alloc: Global, octets: &[u8], width: usize) {
     let shown = octets.get(..width / 2).unwrap_or(octets);
-    out.write_str("'")?;
+    out.write_str("'");
     for piece in shown.chunks(PIECE) {
-        let digits = hex::encode_upper(alloc, piece)?;
-        out.write_str(&digits)?;
+        write_digits(out, alloc, piece);
     }
     out.write_str(if shown.len() < octets.len() {
         "..'H"
@@ -28,20 +30,14 @@ pub fn write_octets<W: Output>(
 }
 
 /// Writes the contents of a BIT STRING: its octets, and how many bits of the last are unused.
-pub fn write_bits<W: Output>(
-    out: &mut W,
-    alloc: Global,
-    contents: &[u8],
-    width: usize,
-) -> Result<(), Fault> {
+pub fn write_bits<W: Write>(out: &mut Output<'_, W>, alloc: Global, contents: &[u8], width: usize) {
     let Some((unused, octets)) = contents.split_first() else {
         return write_octets(out, alloc, contents, width);
     };
-    write_octets(out, alloc, octets, width)?;
-    if *unused == 0 {
-        return Ok(());
+    write_octets(out, alloc, octets, width);
+    if *unused != 0 {
+        write!(out, " less {unused} bits");
     }
-    write!(out, " less {unused} bits")
 }
 
 /// Whether contents are those of a BIT STRING: a count of unused bits, and octets that have as many.

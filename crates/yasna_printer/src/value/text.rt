@@ -3,8 +3,8 @@
 ghost use Rattle.std.specs.Prelude.{◌<◌};
 
 use crate::output::Output;
+use std::io::Write;
 use std::str;
-use yasna_listing::fault::Fault;
 
 // Characters that change how those around them are shown, or that aren't seen.
 fn is_hidden(c: char) -> bool {
@@ -26,7 +26,7 @@ fn needs_escape(c: char) -> bool {
     c == '"' || c == '\\' || c.is_control() || is_hidden(c)
 }
 
-fn write_escape<W: Output>(out: &mut W, code: u32) -> Result<(), Fault> {
+fn write_escape<W: Write>(out: &mut Output<'_, W>, code: u32) {
     out.write_str(match code {
         34 => "\\\"",
         92 => "\\\\",
@@ -38,25 +38,24 @@ fn write_escape<W: Output>(out: &mut W, code: u32) -> Result<(), Fault> {
 }
 
 // Writes a character, or the escape of a code that is none.
-fn write_code<W: Output>(out: &mut W, code: u32) -> Result<(), Fault> {
+fn write_code<W: Write>(out: &mut Output<'_, W>, code: u32) {
     match char::from_u32(code) {
         Some(c) => write_char(out, c),
         None => write_escape(out, code),
     }
 }
 
-fn write_char<W: Output>(out: &mut W, c: char) -> Result<(), Fault> {
+fn write_char<W: Write>(out: &mut Output<'_, W>, c: char) {
     if needs_escape(c) {
         return write_escape(out, u32::from(c));
     }
     write!(out, "{c}")
 }
 
-fn write_chars<W: Output>(out: &mut W, text: &str) -> Result<(), Fault> {
+fn write_chars<W: Write>(out: &mut Output<'_, W>, text: &str) {
     for c in text.chars() {
-        write_char(out, c)?;
+        write_char(out, c);
     }
-    Ok(())
 }
 
 fn is_plain(octet: u8) -> bool {
@@ -64,7 +63,7 @@ fn is_plain(octet: u8) -> bool {
 }
 
 // Writes an octet by its escape or its number.
-fn write_octet<W: Output>(out: &mut W, octet: u8) -> Result<(), Fault> {
+fn write_octet<W: Write>(out: &mut Output<'_, W>, octet: u8) {
     if octet < 128 {
         return write_escape(out, u32::from(octet));
     }
@@ -72,10 +71,10 @@ fn write_octet<W: Output>(out: &mut W, octet: u8) -> Result<(), Fault> {
 }
 
 // Writes octets of which the last alone may be no plain one.
-fn write_piece<W: Output>(out: &mut W, piece: &[u8]) -> Result<(), Fault> {
+fn write_piece<W: Write>(out: &mut Output<'_, W>, piece: &[u8]) {
     match piece {
         [plain @ .., last] if !is_plain(*last) => {
-            out.write_all(plain)?;
+            out.write_all(plain);
             write_octet(out, *last)
         }
         _ => out.write_all(piece),
@@ -83,27 +82,26 @@ fn write_piece<W: Output>(out: &mut W, piece: &[u8]) -> Result<(), Fault> {
 }
 
 // Writes ASCII, and other octets by their numbers.
-fn write_ascii<W: Output>(out: &mut W, octets: &[u8]) -> Result<(), Fault> {
+fn write_ascii<W: Write>(out: &mut Output<'_, W>, octets: &[u8]) {
     for piece in octets.split_inclusive(|octet| !is_plain(*octet)) {
-        write_piece(out, piece)?;
+        write_piece(out, piece);
     }
-    Ok(())
 }
 
 /// Writes octets as text in UTF-8, or where they are none as ASCII.
-pub fn write_utf8<W: Output>(out: &mut W, octets: &[u8]) -> Result<(), Fault> {
-    out.write_str("\"")?;
+pub fn write_utf8<W: Write>(out: &mut Output<'_, W>, octets: &[u8]) {
+    out.write_str("\"");
     match str::from_utf8(octets) {
-        Ok(text) => write_chars(out, text)?,
-        Err(_) => write_ascii(out, octets)?,
+        Ok(text) => write_chars(out, text),
+        Err(_) => write_ascii(out, octets),
     }
     out.write_str("\"")
 }
 
 /// Writes octets as ASCII, and those that are none by their numbers.
-pub fn write_quoted<W: Output>(out: &mut W, octets: &[u8]) -> Result<(), Fault> {
-    out.write_str("\"")?;
-    write_ascii(out, octets)?;
+pub fn write_quoted<W: Write>(out: &mut Output<'_, W>, octets: &[u8]) {
+    out.write_str("\"");
+    write_ascii(out, octets);
     out.write_str("\"")
 }
 
@@ -117,12 +115,12 @@ fn code_of(octets: &[u8]) -> u32 {
 }
 
 /// Writes characters of so many octets each, the highest first.
-pub fn write_wide<W: Output>(out: &mut W, octets: &[u8], size: usize) -> Result<(), Fault>
+pub fn write_wide<W: Write>(out: &mut Output<'_, W>, octets: &[u8], size: usize)
     requires { 0 < size }
 {
-    out.write_str("\"")?;
+    out.write_str("\"");
     for character in octets.chunks(size) {
-        write_code(out, code_of(character))?;
+        write_code(out, code_of(character));
     }
     out.write_str("\"")
 }

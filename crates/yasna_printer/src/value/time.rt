@@ -1,13 +1,13 @@
 //! Times as ISO 8601 writes them (X.680, 46 and 47).
 
 use crate::output::Output;
-use crate::remark::Remark;
+use crate::remark::{Remark, unless};
 use crate::value::text::write_quoted;
-use std::alloc::Global;
-use yasna_listing::fault::Fault;
+use std::alloc::{AllocError, Global};
+use std::io::Write;
 use yasna_times::models::{DateTime, GeneralizedTime, Offset, UTCTime};
 
-fn write_datetime<W: Output>(out: &mut W, time: &DateTime) -> Result<(), Fault> {
+fn write_datetime<W: Write>(out: &mut Output<'_, W>, time: &DateTime) {
     let (year, month, day) = (time.year(), time.month(), time.day());
     let (hour, minute, second) = (time.hour(), time.minute(), time.second());
     write!(
@@ -17,53 +17,62 @@ fn write_datetime<W: Output>(out: &mut W, time: &DateTime) -> Result<(), Fault> 
 }
 
 // The fraction of a second, with nine digits or none, and those behind them.
-fn write_fraction<W: Output>(out: &mut W, nanosecond: i32, below: &[u8]) -> Result<(), Fault> {
-    if nanosecond == 0 && below.is_empty() {
-        return Ok(());
+fn write_fraction<W: Write>(out: &mut Output<'_, W>, nanosecond: i32, below: &[u8]) {
+    if nanosecond != 0 || !below.is_empty() {
+        write!(out, ".{nanosecond:09}");
+        out.write_all(below);
     }
-    write!(out, ".{nanosecond:09}")?;
-    out.write_all(below)
+}
+
+fn write_no_time<W: Write>(out: &mut Output<'_, W>, octets: &[u8]) -> Option<Remark> {
+    write_quoted(out, octets);
+    Some(Remark::NoTime)
+}
+
+// Ends a time in UTC, and tells whether it is in its one form.
+fn end_in_utc<W: Write>(out: &mut Output<'_, W>, is_canonical: bool) -> Option<Remark> {
+    out.write_str("Z");
+    unless(is_canonical, Remark::Time)
 }
 
 /// Writes a UTCTime, and tells what is wrong with it.
-pub fn write_utc_time<W: Output>(out: &mut W, octets: &[u8]) -> Result<Option<Remark>, Fault> {
+pub fn write_utc_time<W: Write>(out: &mut Output<'_, W>, octets: &[u8]) -> Option<Remark> {
     let Some(time) = UTCTime::parse(octets) else {
-        write_quoted(out, octets)?;
-        return Ok(Some(Remark::NoTime));
+        return write_no_time(out, octets);
     };
-    write_datetime(out, time.datetime())?;
-    out.write_str("Z")?;
-    if time.is_canonical(octets) {
-        return Ok(None);
-    }
-    Ok(Some(Remark::Time))
+    write_datetime(out, time.datetime());
+    end_in_utc(out, time.is_canonical(octets))
+}
+
+fn write_fine_time<W: Write>(out: &mut Output<'_, W>, time: &GeneralizedTime) {
+    let datetime = time.datetime();
+    write_datetime(out, datetime);
+    write_fraction(out, datetime.subsec_nanosecond(), time.sub_nano())
+}
+
+// Writes a GeneralizedTime in no known zone, where it is one.
+fn write_local_time<W: Write>(
+    out: &mut Output<'_, W>,
+    octets: &[u8],
+    parsed: Option<GeneralizedTime>,
+) -> Option<Remark> {
+    let Some(time) = parsed else {
+        return write_no_time(out, octets);
+    };
+    write_fine_time(out, &time);
+    Some(Remark::Local)
 }
 
 /// Writes a GeneralizedTime, and tells what is wrong with it.
-pub fn write_generalized_time<W: Output>(
-    out: &mut W,
+pub fn write_generalized_time<W: Write>(
+    out: &mut Output<'_, W>,
     alloc: Global,
     octets: &[u8],
-) -> Result<Option<Remark>, Fault> {
-    let in_utc = GeneralizedTime::parse(alloc, octets)?;
-    let is_local = in_utc.is_none();
-    let either = match in_utc {
-        Some(time) => Some(time),
-        None => GeneralizedTime::parse_with_offset(alloc, octets, Offset::UTC)?,
+) -> Result<Option<Remark>, AllocError> {
+    let Some(time) = GeneralizedTime::parse(alloc, octets)? else {
+        let parsed = GeneralizedTime::parse_with_offset(alloc, octets, Offset::UTC)?;
+        return Ok(write_local_time(out, octets, parsed));
     };
-    let Some(time) = either else {
-        write_quoted(out, octets)?;
-        return Ok(Some(Remark::NoTime));
-    };
-    let datetime = time.datetime();
-    write_datetime(out, datetime)?;
-    write_fraction(out, datetime.subsec_nanosecond(), time.sub_nano())?;
-    if is_local {
-        return Ok(Some(Remark::Local));
-    }
-    out.write_str("Z")?;
-    if time.is_canonical(octets) {
-        return Ok(None);
-    }
-    Ok(Some(Remark::Time))
+    write_fine_time(out, &time);
+    Ok(end_in_utc(out, time.is_canonical(octets)))
 }
