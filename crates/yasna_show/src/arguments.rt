@@ -23,39 +23,39 @@ const WIDTH: usize = 64;
 // A flag that goes without two others.
 struct Flag {
     name: &'static str,
-    others: (&'static str, &'static str),
+    others: [&'static str; 2],
     help: &'static str,
 }
 
-const FLAGS: [Flag; 6] = [
+static FLAGS: [Flag; 6] = [
     Flag {
         name: "ber",
-        others: ("der", "cer"),
+        others: ["der", "cer"],
         help: "Read by the basic rules (the default)",
     },
     Flag {
         name: "der",
-        others: ("ber", "cer"),
+        others: ["ber", "cer"],
         help: "Read by the distinguished rules",
     },
     Flag {
         name: "cer",
-        others: ("ber", "der"),
+        others: ["ber", "der"],
         help: "Read by the canonical rules",
     },
     Flag {
         name: "hex",
-        others: ("pem", "bytes"),
+        others: ["pem", "bytes"],
         help: "The input is hexadecimal text",
     },
     Flag {
         name: "pem",
-        others: ("hex", "bytes"),
+        others: ["hex", "bytes"],
         help: "The input has blocks of PEM",
     },
     Flag {
         name: "bytes",
-        others: ("hex", "pem"),
+        others: ["hex", "pem"],
         help: "The input is the bytes themselves",
     },
 ];
@@ -64,60 +64,65 @@ fn switch<'a>(alloc: Global, flag: &Flag) -> Arg<'a> {
     Arg::new(alloc, flag.name)
         .long(flag.name)
         .action(ArgAction::SetTrue)
+        .help(flag.help)
 }
 
-fn without_others<'a>(arg: Arg<'a>, flag: &Flag) -> Result<Arg<'a>, AllocError> {
-    let (one, other) = flag.others;
-    arg.conflicts_with(one)?.conflicts_with(other)
+fn flag_arg<'a>(alloc: Global, flag: &Flag) -> Result<Arg<'a>, AllocError> {
+    switch(alloc, flag).conflicts_with_all(&flag.others)
 }
 
-fn with_flag<'a>(
-    alloc: Global,
-    command: Command<'a>,
-    flag: &Flag,
-) -> Result<Command<'a>, AllocError> {
-    let arg = switch(alloc, flag).help(flag.help);
-    command.arg(without_others(arg, flag)?)
+// An argument with a value.
+fn value_arg<'a>(alloc: Global, id: &'static str, help: &'static str) -> Arg<'a> {
+    Arg::new(alloc, id).action(ArgAction::Set).help(help)
 }
 
-fn with_width<'a>(alloc: Global, command: Command<'a>) -> Result<Command<'a>, AllocError> {
-    let width = Arg::new(alloc, "width")
-        .long("width")
-        .value_name("N")
-        .action(ArgAction::Set)
-        .value_parser(clap::value_parser!(u32))
-        .help("Show at most N hexadecimal digits of a value");
-    command.arg(width)
+fn width_arg<'a>(alloc: Global) -> Arg<'a> {
+    value_arg(
+        alloc,
+        "width",
+        "Show at most N hexadecimal digits of a value",
+    )
+    .long("width")
+    .value_name("N")
+    .value_parser(clap::value_parser!(u32))
 }
 
-fn with_file<'a>(alloc: Global, command: Command<'a>) -> Result<Command<'a>, AllocError> {
-    let file = Arg::new(alloc, "FILE")
-        .action(ArgAction::Set)
-        .help("The file to read (standard input if there is none)");
-    command.arg(file)
+fn file_arg<'a>(alloc: Global) -> Arg<'a> {
+    value_arg(
+        alloc,
+        "FILE",
+        "The file to read (standard input if there is none)",
+    )
 }
 
-fn with_flags<'a>(alloc: Global, command: Command<'a>) -> Result<Command<'a>, AllocError> {
-    let mut command = command;
+fn push_flag(alloc: Global, args: &mut Vec<Arg<'_>>, flag: &Flag) -> Result<(), AllocError> {
+    let arg = flag_arg(alloc, flag)?;
+    Ok(args.push(arg)?)
+}
+
+fn push_values(alloc: Global, args: &mut Vec<Arg<'_>>) -> Result<(), AllocError> {
+    args.push(width_arg(alloc))?;
+    Ok(args.push(file_arg(alloc))?)
+}
+
+fn all_args<'a>(alloc: Global) -> Result<Vec<Arg<'a>>, AllocError> {
+    let mut args = Vec::new(alloc);
     for flag in &FLAGS {
-        command = with_flag(alloc, command, flag)?;
+        push_flag(alloc, &mut args, flag)?;
     }
-    Ok(command)
+    push_values(alloc, &mut args)?;
+    Ok(args)
 }
 
-fn described<'a>(command: Command<'a>) -> Command<'a> {
-    command.about("Lists the elements of ASN.1 bytes, a line an element")
-}
-
-fn named<'a>(alloc: Global) -> Result<Command<'a>, AllocError> {
-    let command = Command::new(alloc, "asn1show");
-    described(command).bin_name("asn1show")
+fn without_args<'a>(alloc: Global) -> Result<Command<'a>, AllocError> {
+    Command::new(alloc, "asn1show")
+        .about("Lists the elements of ASN.1 bytes, a line an element")
+        .bin_name("asn1show")
 }
 
 fn command<'a>(alloc: Global) -> Result<Command<'a>, AllocError> {
-    let flags = with_flags(alloc, named(alloc)?)?;
-    let width = with_width(alloc, flags)?;
-    with_file(alloc, width)
+    let args = all_args(alloc)?;
+    without_args(alloc)?.args(args)
 }
 
 fn mode_of(matches: &ArgMatches<'_>) -> BERMode {

@@ -6,6 +6,8 @@
 mod arguments;
 
 use arguments::{Options, options_of};
+use clap::Error;
+use std::fmt::Display;
 use std::io::{BufWriter, Read, Write};
 use std::process::ExitCode;
 use std::{env, fs, io};
@@ -13,6 +15,9 @@ use yasna_listing::fault::Fault;
 
 // The status where the input is broken.
 const BROKEN: u8 = 1;
+
+// The status where the arguments are others.
+const USAGE: u8 = 2;
 
 // The status where a read or a write failed, or there was no memory.
 const DEVICE: u8 = 3;
@@ -46,42 +51,54 @@ fn show(rt: &HostRuntime, options: &Options<'_>, input: &[u8]) -> Result<(), Fau
     shown
 }
 
-// Reads and lists what the options ask for, and gives the status.
-fn run(rt: &HostRuntime, options: &Options<'_>) -> u8 {
-    let mut errors = rt.stderr();
+// Says on standard error what ended the run.
+fn complain<D: Display>(rt: &HostRuntime, options: &Options<'_>, why: &D) {
     let name = options.file.unwrap_or("stdin");
-    let input = match read(rt, options.file) {
-        Ok(input) => input,
-        Err(error) => {
-            let _ = writeln!(errors, "{name}: {error}");
-            return DEVICE;
-        }
-    };
-    match show(rt, options, input.as_slice()) {
+    let _ = writeln!(rt.stderr(), "{name}: {why}");
+}
+
+// Lists what the options ask for, and gives the status.
+fn list(rt: &HostRuntime, options: &Options<'_>, input: &[u8]) -> u8 {
+    match show(rt, options, input) {
         Ok(()) => 0,
         Err(fault) => {
-            let _ = writeln!(errors, "{name}: {fault}");
+            complain(rt, options, &fault);
             status_of(&fault)
         }
     }
 }
 
-fn main(rt: HostRuntime) -> ExitCode {
-    let Ok(words) = env::args(&rt).and_then(|all| Ok(all.collect::<Vec<String>>(rt.alloc())?))
-    else {
-        return ExitCode::from(DEVICE);
-    };
-    match options_of(rt.alloc(), words.as_slice()) {
-        Ok(options) => ExitCode::from(run(&rt, &options)),
+// The same, once it is read.
+fn run(rt: &HostRuntime, options: &Options<'_>) -> u8 {
+    match read(rt, options.file) {
+        Ok(input) => list(rt, options, input.as_slice()),
         Err(error) => {
-            if error.print(&rt).is_err() {
-                return ExitCode::from(DEVICE);
-            }
-            if error.use_stderr() {
-                ExitCode::from(2)
-            } else {
-                ExitCode::SUCCESS
-            }
+            complain(rt, options, &error);
+            DEVICE
         }
     }
+}
+
+fn words_of(rt: &HostRuntime) -> io::Result<Vec<String>> {
+    let words = env::args(rt)?;
+    Ok(words.collect(rt.alloc())?)
+}
+
+// Says why there are no options: the words are others, or ask for help.
+fn explain(rt: &HostRuntime, error: &Error) -> u8 {
+    if error.print(rt).is_err() {
+        return DEVICE;
+    }
+    if error.use_stderr() { USAGE } else { 0 }
+}
+
+fn main(rt: HostRuntime) -> ExitCode {
+    let Ok(words) = words_of(&rt) else {
+        return ExitCode::from(DEVICE);
+    };
+    let status = match options_of(rt.alloc(), words.as_slice()) {
+        Ok(options) => run(&rt, &options),
+        Err(error) => explain(&rt, &error),
+    };
+    ExitCode::from(status)
 }
