@@ -43,6 +43,6 @@ pub fn parsed_items(alloc: Global, buf: &[u8]) -> ASN1Result<Vec<Option<i64>>>
         |reader| -> ASN1Result<Vec<Option<i64>>>
             requires { IsFresh reader.old }
             ensures { Decodes true (λ m n v b. EncodesItems m n v.items b) AnyItems reader.old result reader.new }
-        { reader.collect_sequence_of(|item| number_or_null(item)) },
+        { reader.collect_sequence_of(number_or_null) },
     )
 }

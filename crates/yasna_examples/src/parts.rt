@@ -128,8 +128,8 @@ impl BERDecodable for Ticket {
                 requires { IsFresh (part_of seq.old) }
                 ensures { Step (ReadsDefault (DecodesByTags (context 0 ∷ []) false EncodesVersion AnyVersion) nat_eq 1) (λ version. Step (ReadsOptional (DecodesByTags (context 1 ∷ []) true EncodesNote AnyNote)) (λ note. ReadsRest version note)) (part_of seq.old) result (part_of seq.new) }
             {
-                let version = seq.read_default(1, |part| read_version(part))?;
-                let note = seq.read_optional(|part| read_note(part))?;
+                let version = seq.read_default(1, read_version)?;
+                let note = seq.read_optional(read_note)?;
                 read_rest(seq, version, note)
             },
         )

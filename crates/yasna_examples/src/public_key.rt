@@ -17,7 +17,7 @@ use std::alloc::Global;
 use yasna::models::{ObjectIdentifier, TaggedDerValue};
 use yasna::{
     ASN1Error, ASN1ErrorKind, ASN1Result, BERDecodable, BERReader, DEREncodable, DERWriter,
-    encode_der,
+    EncodableParts, encode_der,
 };
 
 /// An algorithm, and its parameters, of a type that the algorithm says: a SEQUENCE of OBJECT IDENTIFIER and of any element,
@@ -66,10 +66,9 @@ impl DEREncodable for AlgorithmIdentifier {
 
     fn encode_der(&self, writer: DERWriter<'_>) -> ASN1Result<()> {
         match &self.parameters {
-            Some(parameters) => writer.write_sequence(|seq| {
-                self.algorithm.encode_der(seq.next())?;
-                seq.next().write_tagged_der(parameters)
-            }),
+            Some(parameters) => {
+                writer.write_sequence(|seq| (&self.algorithm, (parameters, ())).write_parts(seq))
+            }
             None => writer.write_sequence(|seq| self.algorithm.encode_der(seq.next())),
         }
     }

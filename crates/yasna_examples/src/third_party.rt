@@ -57,10 +57,7 @@ impl DEREncodable for Version {
     ghost encodable = { λ v. part_can (λ n. n < 2 ^ 16) (part_can Always Always) (v.major, (v.flag, tt {0})) };
 
     fn encode_der(&self, writer: DERWriter<'_>) -> ASN1Result<()> {
-        writer.write_sequence(|seq| {
-            seq.next().write_u16(self.major)?;
-            self.flag.encode_der(seq.next())
-        })
+        writer.write_sequence(|seq| (self.major, (self.flag, ())).write_parts(seq))
     }
 }
 

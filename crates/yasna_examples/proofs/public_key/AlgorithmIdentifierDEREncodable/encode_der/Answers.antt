@@ -1,4 +1,4 @@
-use Rattle.std.proofs.Common.{rules, arith, append_assoc, append-nil}
+use Rattle.std.proofs.Common.{rules}
 use Rattle.yasna.specs.Words.{sequence_tag}
 use Rattle.yasna_examples.proofs.Writing.{enclosed_by}
 use Rattle.yasna_examples.proofs.public_key.AlgorithmIdentifierDEREncodable.encode_der.Goals as goal
@@ -6,7 +6,7 @@ use Rattle.yasna_examples.proofs.public_key.AlgorithmIdentifierDEREncodable.enco
 pub returns-in-Some : goal.returns-in-Some
 returns-in-Some c =
     enclosed_by _ _ sequence_tag c.args.writer.now c.write_sequence.new.self c.write_sequence.result _ c.requires.untagged c.write_sequence.ensures
-    (λ p q x h. grind (arith, append_assoc, append-nil))
+    (λ p q x h. search rules)
 
 pub returns-in-None : goal.returns-in-None
 returns-in-None c =

@@ -1,6 +1,9 @@
-use Rattle.std.proofs.Common.{arith}
-use Rattle.std.proofs.lemmas.Grind.{common_steps}
+use Rattle.std.proofs.Common.{arith, append_assoc, append-nil}
+use Rattle.yasna.specs.Words.{sequence_tag}
+use Rattle.yasna_examples.proofs.Writing.{enclosed_by}
 use Rattle.yasna_examples.proofs.public_key.SubjectPublicKeyInfoDEREncodable.encode_der.Goals as goal
 
 pub returns : goal.returns
-returns c = grind (arith, common_steps)
+returns c =
+    enclosed_by _ _ sequence_tag c.args.writer.now c.write_sequence.new.self c.write_sequence.result _ c.requires.untagged c.write_sequence.ensures
+    (λ p q x h. grind (arith, append_assoc, append-nil))

@@ -1,4 +1,4 @@
-use Rattle.std.proofs.Common.{arith, append_assoc, append-nil}
+use Rattle.std.proofs.Common.{rules}
 use Rattle.yasna.specs.Words.{sequence_tag}
 use Rattle.yasna_examples.proofs.Writing.{enclosed_by}
 use Rattle.yasna_examples.proofs.third_party.VersionDEREncodable.encode_der.Goals as goal
@@ -6,4 +6,4 @@ use Rattle.yasna_examples.proofs.third_party.VersionDEREncodable.encode_der.Goal
 pub returns : goal.returns
 returns c =
     enclosed_by _ _ sequence_tag c.args.writer.now c.write_sequence.new.self c.write_sequence.result _ c.requires.untagged c.write_sequence.ensures
-    (λ p q x h. grind (arith, append_assoc, append-nil))
+    (λ p q x h. search rules)
