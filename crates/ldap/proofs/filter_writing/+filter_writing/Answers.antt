@@ -1,9 +1,12 @@
 use Rattle.std.proofs.Common.{rules, arith, map, ap, sym, subst, None}
 use Rattle.std.specs.List.{AllByRecursion}
+use Rattle.yasna_base.specs.declared.tag.PCBit.TheVariants.{Constructed}
+use Rattle.yasna_base.specs.Canonical.{canonical_element}
 use Rattle.yasna_base.specs.Identifier.{tag_or}
 use Rattle.yasna_base.specs.Null.{null_tag, null_form}
-use Rattle.yasna_writer.specs.View.{Writes, Wrote}
+use Rattle.yasna_writer.specs.View.{Writes, Written, Wrote}
 use Rattle.yasna_notation.specs.declared.choices.Either.TheVariants.{First, Second}
+use Rattle.yasna_notation.proofs.Around.{around_one}
 use Rattle.yasna_notation.proofs.SetParts.{after_null}
 use Rattle.ldap.specs.Filters.{the_filter, depth_of, largest}
 use Rattle.ldap.specs.FilterLaws.{each_less}
@@ -73,3 +76,13 @@ write_filters-write_group-requires-clause-takes t c =
       omega (arith, less, c.decreases, ap depth_of is),
       (subst (λ z. the_filter.can z) (sym is) can, (begins, kept)),
     ))
+
+pub write_negated-returns : goal.write_negated-returns
+write_negated-returns t c =
+    let old : Written = c.args.writer.now in
+    let new : Written = c.write_tagged.new.self in
+    let form = the_filter.form_under None in
+    let v = c.args.negated.now in
+    subst (λ t. Writes (canonical_element old.mode (tag_or old.tag t) Constructed (form old.mode v)) old new c.write_tagged.result) c.context.ensures
+    (around_one _ _ _ (λ k e h. h) (canonical_element old.mode (tag_or old.tag c.context.result) Constructed) (λ u m. form m v)
+    old new c.write_tagged.result c.write_tagged.ensures (λ p q x h. search rules))
