@@ -8,18 +8,32 @@
 //!
 //! AssertionValue ::= OCTET STRING
 //! ```
-ghost use Rattle.std.specs.Prelude.{◌≡◌, refl};
+ghost use Rattle.std.specs.Prelude.{◌≡◌, [], refl};
+ghost use Rattle.std.proofs.Common.{arith};
+ghost use Rattle.yasna_notation.specs.Laws.{standing_keeps, octets_filled};
+ghost use Rattle.yasna_notation.specs.Making.{in_choice, alternative, in_implicit};
+ghost use Rattle.yasna_notation.specs.Notation.{stands_for};
 ghost use Rattle.yasna_notation.specs.declared.choices.Either.TheVariants.{First, Second};
 ghost use Rattle.ldap.specs.declared.substring.Substring.TheVariants.{Initial, Any, Final};
+ghost use Rattle.yasna_notation.specs.contracts.strings.VecU8Notation.TheImpl.Laws.{keeps-law as octets};
+ghost use Rattle.yasna_notation.specs.Canonical.{standing_written, choice_written_as};
+ghost use Rattle.yasna_notation.specs.Writing.{alternative_written, under_context};
+ghost use Rattle.yasna_notation.specs.contracts.canonical.VecU8CanonicalNotation.TheImpl.Laws.{written-law as octets_written};
 
-use yasna::{ASN1Result, DERWriter};
-use yasna_notation::{Choice, Context, Defined, Either, Implicit, Notation};
+use yasna::{ASN1Result, BERReader, DERWriter, Tag};
+use yasna_notation::{
+    CanonicalNotation, Choice, Context, Either, Implicit, Message, Notation, StandsFor, read_as,
+};
 
 type InitialNotation = Implicit<Context<0>, Vec<u8>>;
 
 type AnyNotation = Implicit<Context<1>, Vec<u8>>;
 
 type FinalNotation = Implicit<Context<2>, Vec<u8>>;
+
+type Notated = Choice<(InitialNotation, (AnyNotation, (FinalNotation,)))>;
+
+type Fields = Either<Vec<u8>, Either<Vec<u8>, Vec<u8>>>;
 
 /// A part of a string that is looked for. That an initial one stands first and a final one last isn't checked.
 #[derive(Drop)]
@@ -29,12 +43,10 @@ pub enum Substring {
     Final(Vec<u8>),
 }
 
-impl Defined for Substring {
-    type Notation = Choice<(InitialNotation, (AnyNotation, (FinalNotation,)))>;
-
+impl StandsFor<Fields> for Substring {
     ghost value_of = { λ v. elim v [ Initial s ↦ First s | Any s ↦ Second (First s) | Final s ↦ Second (Second s) ] };
 
-    fn from_value(value: Either<Vec<u8>, Either<Vec<u8>, Vec<u8>>>) -> Substring {
+    fn from_value(value: Fields) -> Substring {
         let others = match value {
             Either::First(octets) => return Substring::Initial(octets),
             Either::Second(others) => others,
@@ -44,14 +56,49 @@ impl Defined for Substring {
             Either::Second(octets) => Substring::Final(octets),
         }
     }
+}
 
-    fn write_value(&self, writer: DERWriter<'_>) -> ASN1Result<()> {
-        match self {
+impl Notation for Substring {
+    type Value = Substring;
+
+    type Inner = ();
+
+    ghost means = { stands_for ⟦<Substring as StandsFor<Fields>>⟧.value_of ⟦<Notated as Notation>⟧.means };
+
+    fn has_tag(tag: Tag) -> bool {
+        <Notated as Notation>::has_tag(tag)
+    }
+
+    fn read(reader: BERReader) -> ASN1Result<Substring> {
+        read_as::<Notated, Substring>(reader)
+    }
+
+    fn write(value: &Substring, writer: DERWriter<'_>) -> ASN1Result<()> {
+        match value {
             Substring::Initial(octets) => InitialNotation::write(octets, writer),
             Substring::Any(octets) => AnyNotation::write(octets, writer),
             Substring::Final(octets) => FinalNotation::write(octets, writer),
         }
     }
 
-    ghost apart = { refl };
+    ghost keeps = { λ _. standing_keeps ⟦<Substring as StandsFor<Fields>>⟧.value_of
+        (in_choice ⟦<Notated as Notation>⟧.means.form_under (alternative (in_implicit 0 (omega arith) (octets refl)).own refl
+        (alternative (in_implicit 1 (omega arith) (octets refl)).own refl (in_implicit 2 (omega arith) (octets refl)).own))) };
+
+    ghost filled = { λ u m v. elim v as (λ k. ⟦<Notated as Notation>⟧.means.form_under u m (⟦<Substring as StandsFor<Fields>>⟧.value_of k) ≡ [] → ⊥) [
+      | Initial s ↦
+          octets_filled _ m s.items
+      | Any s ↦ octets_filled _ m s.items
+      | Final s ↦ octets_filled _ m s.items
+    ] };
+}
+
+impl Message for Substring {
+    ghost told_apart = { refl };
+}
+
+impl CanonicalNotation for Substring {
+    ghost written = { λ _. standing_written ⟦<Substring as StandsFor<Fields>>⟧.value_of (choice_written_as ⟦<Notated as Notation>⟧.means.form_under
+        (alternative_written (under_context 0 (omega arith) (octets_written refl)).own (alternative_written (under_context 1 (omega arith)
+        (octets_written refl)).own (under_context 2 (omega arith) (octets_written refl)).own))) };
 }

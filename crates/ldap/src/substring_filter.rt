@@ -9,14 +9,15 @@
 //! LDAPString           ::= OCTET STRING
 //! ```
 ghost use Rattle.std.specs.Prelude.{◌≡◌, refl};
-ghost use Rattle.std.proofs.Common.{arith};
 ghost use Rattle.yasna_notation.specs.Laws.{standing_keeps, element_filled};
-ghost use Rattle.yasna_notation.specs.Making.{in_sequence, in_sequence_of, in_choice, alternative, in_implicit, not_empty, part};
+ghost use Rattle.yasna_notation.specs.Making.{in_sequence, in_sequence_of, not_empty, part};
 ghost use Rattle.yasna_notation.specs.Notation.{stands_for};
 ghost use Rattle.yasna_notation.specs.Parts.{no_parts};
 ghost use Rattle.yasna_notation.specs.contracts.strings.VecU8Notation.TheImpl.Laws.{keeps-law as octets};
-ghost use Rattle.yasna_notation.specs.Canonical.{standing_written, choice_written_as};
-ghost use Rattle.yasna_notation.specs.Writing.{sequence_written, sequence_of_written, alternative_written, under_context, part_written, no_part_written};
+ghost use Rattle.ldap.specs.contracts.substring.SubstringNotation.TheImpl.Laws.{keeps-law as substring};
+ghost use Rattle.yasna_notation.specs.Canonical.{standing_written};
+ghost use Rattle.yasna_notation.specs.Writing.{sequence_written, sequence_of_written, part_written, no_part_written};
+ghost use Rattle.ldap.specs.contracts.substring.SubstringCanonicalNotation.TheImpl.Laws.{written-law as substring_written};
 ghost use Rattle.ldap.specs.Making.{filled_list_written};
 ghost use Rattle.yasna_notation.specs.contracts.canonical.VecU8CanonicalNotation.TheImpl.Laws.{written-law as octets_written};
 
@@ -24,8 +25,8 @@ use crate::substring::Substring;
 use yasna::tags::TAG_SEQUENCE;
 use yasna::{ASN1Result, BERReader, DERWriter, Tag};
 use yasna_notation::{
-    Bounded, CanonicalNotation, Choice, Context, Defined, Implicit, Message, NotEmpty, Notation,
-    Sequence, SequenceOf, StandsFor, read_as,
+    Bounded, CanonicalNotation, Message, NotEmpty, Notation, Sequence, SequenceOf, StandsFor,
+    read_as,
 };
 
 type Parts = (Vec<u8>, (Bounded<SequenceOf<Substring>, NotEmpty>, ()));
@@ -74,10 +75,7 @@ impl Notation for SubstringFilter {
     }
 
     ghost keeps = { λ _. standing_keeps ⟦<SubstringFilter as StandsFor<Fields>>⟧.value_of
-        (in_sequence (part (octets refl).own (part (not_empty (in_sequence_of (standing_keeps
-        ⟦<Substring as Defined>⟧.value_of (in_choice ⟦<Choice<(Implicit<Context<0>, Vec<u8>>, (Implicit<Context<1>, Vec<u8>>, (Implicit<Context<2>,
-      Vec<u8>>,)))> as Notation>⟧.means.form_under (alternative (in_implicit 0 (omega arith) (octets refl)).own refl (alternative (in_implicit 1 (omega
-        arith) (octets refl)).own refl (in_implicit 2 (omega arith) (octets refl)).own)))).own)).own no_parts))) };
+        (in_sequence (part (octets refl).own (part (not_empty (in_sequence_of (substring refl).own)).own no_parts))) };
 
     ghost filled = { λ u m v. element_filled _ _ _ _ };
 }
@@ -88,8 +86,5 @@ impl Message for SubstringFilter {
 
 impl CanonicalNotation for SubstringFilter {
     ghost written = { λ _. standing_written ⟦<SubstringFilter as StandsFor<Fields>>⟧.value_of (sequence_written (part_written (octets_written
-        refl).own (part_written (filled_list_written (sequence_of_written (standing_written ⟦<Substring as Defined>⟧.value_of (choice_written_as
-        ⟦<Choice<(Implicit<Context<0>, Vec<u8>>, (Implicit<Context<1>, Vec<u8>>, (Implicit<Context<2>, Vec<u8>>,)))> as Notation>⟧.means.form_under
-        (alternative_written (under_context 0 (omega arith) (octets_written refl)).own (alternative_written (under_context 1 (omega arith)
-        (octets_written refl)).own (under_context 2 (omega arith) (octets_written refl)).own)))).own)).own no_part_written))) };
+        refl).own (part_written (filled_list_written (sequence_of_written (substring_written refl).own)).own no_part_written))) };
 }
