@@ -5,9 +5,10 @@ use Rattle.yasna_base.specs.declared.error.ASN1Error.{ASN1Error}
 use Rattle.yasna_writer.specs.View.{Written, Writes}
 use Rattle.yasna_notation.specs.declared.choices.Either.TheVariants.{First, Second}
 use Rattle.ldap.specs.declared.filter.Filter.{Filter}
-use Rattle.ldap.specs.declared.filter.Filter.TheOpen.Filter-F.{And as AndOf, Or as OrOf, Not as NotOf}
-use Rattle.ldap.specs.declared.filter.Filter.TheVariants.{And, Or, Not, rolls-And, rolls-Or, rolls-Not}
+use Rattle.ldap.specs.declared.filter.Filter.TheOpen.Filter-F.{And as AndOf, Or as OrOf, Not as NotOf, Item as ItemOf}
+use Rattle.ldap.specs.declared.filter.Filter.TheVariants.{And, Or, Not, Item, rolls-And, rolls-Or, rolls-Not, rolls-Item}
 use Rattle.ldap.specs.declared.filter.Filter.TheViews.{out-roll-Filter}
+use Rattle.ldap.specs.declared.filter_item.FilterItem.{FilterItem}
 use Rattle.ldap.specs.Filters.{Parted, parted, parted_of, depth_of, parted_top, the_filter, whole}
 use Rattle.ldap.specs.FilterLaws.{depth_is}
 use Rattle.ldap.specs.RecursionLaws.{unfolded_can, unfolded_form}
@@ -21,6 +22,9 @@ in_or v fs e = ap (λ z. parted_of z) (e ∙ sym (rolls-Or fs)) ∙ ap (λ z. pa
 
 pub in_not : (v : Filter) (f : Box Filter Global) → v ≡ Not f → parted_of v ≡ Second (Second (First f))
 in_not v f e = ap (λ z. parted_of z) (e ∙ sym (rolls-Not f)) ∙ ap (λ z. parted z) (out-roll-Filter (NotOf f))
+
+pub in_item : (v : Filter) (i : FilterItem) → v ≡ Item i → parted_of v ≡ Second (Second (Second i))
+in_item v i e = ap (λ z. parted_of z) (e ∙ sym (rolls-Item i)) ∙ ap (λ z. parted z) (out-roll-Filter (ItemOf i))
 
 module _ (v : Filter) (p : Parted) (is : parted_of v ≡ p) where
   pub parts_can : the_filter.can v → whole.can p

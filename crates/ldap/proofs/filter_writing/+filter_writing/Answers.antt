@@ -1,8 +1,8 @@
 use Rattle.std.proofs.Common.{rules, arith, map, ap, sym, subst, None}
 use Rattle.std.specs.List.{AllByRecursion}
 use Rattle.yasna_base.specs.declared.tag.PCBit.TheVariants.{Constructed}
-use Rattle.yasna_base.specs.Canonical.{canonical_element}
-use Rattle.yasna_base.specs.Identifier.{tag_or}
+use Rattle.yasna_base.specs.Canonical.{canonical_element, enclosed_form}
+use Rattle.yasna_base.specs.Identifier.{context, tag_or}
 use Rattle.yasna_base.specs.Null.{null_tag, null_form}
 use Rattle.yasna_writer.specs.View.{Writes, Written, Wrote}
 use Rattle.yasna_notation.specs.declared.choices.Either.TheVariants.{First, Second}
@@ -10,7 +10,7 @@ use Rattle.yasna_notation.proofs.Around.{around_one}
 use Rattle.yasna_notation.proofs.SetParts.{after_null}
 use Rattle.ldap.specs.Filters.{the_filter, depth_of, largest}
 use Rattle.ldap.specs.FilterLaws.{each_less}
-use Rattle.ldap.proofs.FilterWriting.{in_and, in_or, in_not, parts_can, parts_deep, parts_written}
+use Rattle.ldap.proofs.FilterWriting.{in_and, in_or, in_not, in_item, parts_can, parts_deep, parts_written}
 use Rattle.ldap.proofs.filter_writing.+filter_writing.Goals as goal
 
 pub write_element-returns-in_ok-write_null-in-Err : goal.write_element-returns-in_ok-write_null-in-Err
@@ -69,6 +69,31 @@ write_filter-returns-in-Or t c =
     let v = c.args.value.now in
     let fs = c.in-Or.filters in
     parts_written v (Second (First fs)) (in_or v fs c.in-Or.is) c.args.writer.now c.write_filters-in-Or.new.writer c.write_filters-in-Or.result (search rules)
+
+pub write_filter-write-requires : goal.write_filter-write-requires
+write_filter-write-requires t c =
+    let v = c.args.value.now in
+    let i = c.in-Item.item in
+    parts_can v (Second (Second (Second i))) (in_item v i c.in-Item.is) c.requires
+
+pub write_filter-returns-in-Not : goal.write_filter-returns-in-Not
+write_filter-returns-in-Not t c =
+    let v = c.args.value.now in
+    let f = c.in-Not.negated in
+    let old = c.args.writer.now in
+    let new = c.write_negated.new.writer in
+    parts_written v (Second (Second (First f))) (in_not v f c.in-Not.is) old new c.write_negated.result
+    (subst (λ z. Writes (enclosed_form (the_filter.form_under None) (tag_or old.tag (context 2)) old.mode z) old new c.write_negated.result)
+    c.deref.ensures c.write_negated.ensures)
+
+pub write_filter-returns-in-Item : goal.write_filter-returns-in-Item
+write_filter-returns-in-Item t c =
+    let v = c.args.value.now in
+    let i = c.in-Item.item in
+    parts_written v (Second (Second (Second i))) (in_item v i c.in-Item.is) c.args.writer.now c.write.new.writer c.write.result c.write.ensures
+
+pub write_filters-returns : goal.write_filters-returns
+write_filters-returns t c = c.write_group.ensures
 
 pub write_filters-write_group-requires-clause-takes : goal.write_filters-write_group-requires-clause-takes
 write_filters-write_group-requires-clause-takes t c =
