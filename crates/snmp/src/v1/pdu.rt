@@ -22,6 +22,7 @@ ghost use Rattle.yasna_notation.specs.contracts.simple.I64Notation.TheImpl.Laws.
 ghost use Rattle.yasna_notation.specs.contracts.canonical.I64CanonicalNotation.TheImpl.Laws.{written-law as int64_written};
 
 use crate::v1::var_bind::VarBind;
+use yasna::tags::TAG_SEQUENCE;
 use yasna::{ASN1Result, BERReader, DERWriter, Tag};
 use yasna_notation::{
     CanonicalNotation, Message, Notation, Sequence, SequenceOf, StandsFor, read_as,
@@ -69,7 +70,7 @@ impl Notation for Pdu {
     ghost means = { stands_for ⟦<Pdu as StandsFor<Fields>>⟧.value_of ⟦<Sequence<Parts> as Notation>⟧.means };
 
     fn has_tag(tag: Tag) -> bool {
-        <Sequence<Parts> as Notation>::has_tag(tag)
+        tag == TAG_SEQUENCE
     }
 
     fn read(reader: BERReader) -> ASN1Result<Pdu> {

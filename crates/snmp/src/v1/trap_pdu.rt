@@ -31,6 +31,7 @@ ghost use Rattle.yasna_notation.specs.contracts.canonical.ObjectIdentifierCanoni
 
 use crate::v1::var_bind::VarBind;
 use yasna::models::ObjectIdentifier;
+use yasna::tags::TAG_SEQUENCE;
 use yasna::{ASN1Result, BERReader, DERWriter, Tag};
 use yasna_notation::{
     Application, Bounded, CanonicalNotation, Implicit, Message, Notation, Sequence, SequenceOf,
@@ -95,7 +96,7 @@ impl Notation for TrapPdu {
     ghost means = { stands_for ⟦<TrapPdu as StandsFor<Fields>>⟧.value_of ⟦<Sequence<Parts> as Notation>⟧.means };
 
     fn has_tag(tag: Tag) -> bool {
-        <Sequence<Parts> as Notation>::has_tag(tag)
+        tag == TAG_SEQUENCE
     }
 
     fn read(reader: BERReader) -> ASN1Result<TrapPdu> {

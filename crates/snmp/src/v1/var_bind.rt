@@ -19,6 +19,7 @@ ghost use Rattle.yasna_notation.specs.contracts.canonical.ObjectIdentifierCanoni
 
 use crate::v1::object_syntax::ObjectSyntax;
 use yasna::models::ObjectIdentifier;
+use yasna::tags::TAG_SEQUENCE;
 use yasna::{ASN1Result, BERReader, DERWriter, Tag};
 use yasna_notation::{CanonicalNotation, Message, Notation, Sequence, StandsFor, read_as};
 
@@ -51,7 +52,7 @@ impl Notation for VarBind {
     ghost means = { stands_for ⟦<VarBind as StandsFor<Fields>>⟧.value_of ⟦<Sequence<Parts> as Notation>⟧.means };
 
     fn has_tag(tag: Tag) -> bool {
-        <Sequence<Parts> as Notation>::has_tag(tag)
+        tag == TAG_SEQUENCE
     }
 
     fn read(reader: BERReader) -> ASN1Result<VarBind> {

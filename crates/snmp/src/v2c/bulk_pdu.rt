@@ -26,6 +26,7 @@ ghost use Rattle.yasna_notation.specs.contracts.canonical.I32CanonicalNotation.T
 
 use crate::bounds::SizeAtMost;
 use crate::v2c::var_bind::VarBind;
+use yasna::tags::TAG_SEQUENCE;
 use yasna::{ASN1Result, BERReader, DERWriter, Tag};
 use yasna_notation::{
     AtMost, Bounded, CanonicalNotation, Message, Notation, Sequence, SequenceOf, StandsFor, read_as,
@@ -78,7 +79,7 @@ impl Notation for BulkPdu {
     ghost means = { stands_for ⟦<BulkPdu as StandsFor<Fields>>⟧.value_of ⟦<Sequence<Parts> as Notation>⟧.means };
 
     fn has_tag(tag: Tag) -> bool {
-        <Sequence<Parts> as Notation>::has_tag(tag)
+        tag == TAG_SEQUENCE
     }
 
     fn read(reader: BERReader) -> ASN1Result<BulkPdu> {

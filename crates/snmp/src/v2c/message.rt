@@ -25,6 +25,7 @@ ghost use Rattle.snmp.specs.contracts.v2c.pdus.PdusCanonicalNotation.TheImpl.Law
 
 use crate::bounds::Exactly;
 use crate::v2c::pdus::Pdus;
+use yasna::tags::TAG_SEQUENCE;
 use yasna::{ASN1Result, BERReader, DERWriter, Tag};
 use yasna_notation::{Bounded, CanonicalNotation, Message, Notation, Sequence, StandsFor, read_as};
 
@@ -66,7 +67,7 @@ impl Notation for SnmpMessage {
     ghost means = { stands_for ⟦<SnmpMessage as StandsFor<Fields>>⟧.value_of ⟦<Sequence<Parts> as Notation>⟧.means };
 
     fn has_tag(tag: Tag) -> bool {
-        <Sequence<Parts> as Notation>::has_tag(tag)
+        tag == TAG_SEQUENCE
     }
 
     fn read(reader: BERReader) -> ASN1Result<SnmpMessage> {
