@@ -37,8 +37,8 @@ ghost use Rattle.snmp.specs.declared.application_syntax.ApplicationSyntax.TheVar
 
 use yasna::{ASN1Result, BERReader, DERWriter, Tag};
 use yasna_notation::{
-    Application, Bounded, CanonicalNotation, Choice, Either, Implicit, Message, Notation, Size,
-    StandsFor, read_as,
+    Alternatives, Application, Bounded, CanonicalNotation, Choice, Either, Implicit, Message,
+    Notation, Size, StandsFor, read_as,
 };
 
 type IpAddress = Implicit<Application<0>, Bounded<Vec<u8>, Size<4>>>;
@@ -115,7 +115,7 @@ impl Notation for ApplicationSyntax {
     ghost means = { stands_for ⟦<ApplicationSyntax as StandsFor<Sides>>⟧.value_of ⟦<Choice<Types> as Notation>⟧.means };
 
     fn has_tag(tag: Tag) -> bool {
-        <Choice<Types> as Notation>::has_tag(tag)
+        <Types as Alternatives>::has_tag(tag)
     }
 
     fn read(reader: BERReader) -> ASN1Result<ApplicationSyntax> {

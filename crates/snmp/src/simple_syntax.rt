@@ -26,7 +26,7 @@ use crate::bounds::SizeAtMost;
 use yasna::models::ObjectIdentifier;
 use yasna::{ASN1Result, BERReader, DERWriter, Tag};
 use yasna_notation::{
-    Bounded, CanonicalNotation, Choice, Either, Message, Notation, StandsFor, read_as,
+    Alternatives, Bounded, CanonicalNotation, Choice, Either, Message, Notation, StandsFor, read_as,
 };
 
 type StringNotation = Bounded<Vec<u8>, SizeAtMost<65535>>;
@@ -71,7 +71,7 @@ impl Notation for SimpleSyntax {
     ghost means = { stands_for ⟦<SimpleSyntax as StandsFor<Sides>>⟧.value_of ⟦<Choice<Types> as Notation>⟧.means };
 
     fn has_tag(tag: Tag) -> bool {
-        <Choice<Types> as Notation>::has_tag(tag)
+        <Types as Alternatives>::has_tag(tag)
     }
 
     fn read(reader: BERReader) -> ASN1Result<SimpleSyntax> {

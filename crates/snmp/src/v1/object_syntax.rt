@@ -43,8 +43,8 @@ ghost use Rattle.snmp.specs.declared.v1.object_syntax.ObjectSyntax.TheVariants.{
 use yasna::models::ObjectIdentifier;
 use yasna::{ASN1Result, BERReader, DERWriter, Tag};
 use yasna_notation::{
-    Application, Bounded, CanonicalNotation, Choice, Either, Implicit, Message, Notation, Size,
-    StandsFor, read_as,
+    Alternatives, Application, Bounded, CanonicalNotation, Choice, Either, Implicit, Message,
+    Notation, Size, StandsFor, read_as,
 };
 
 type NetworkAddress = Implicit<Application<0>, Bounded<Vec<u8>, Size<4>>>;
@@ -156,7 +156,7 @@ impl Notation for ObjectSyntax {
     ghost means = { stands_for ⟦<ObjectSyntax as StandsFor<Sides>>⟧.value_of ⟦<Choice<Types> as Notation>⟧.means };
 
     fn has_tag(tag: Tag) -> bool {
-        <Choice<Types> as Notation>::has_tag(tag)
+        <Types as Alternatives>::has_tag(tag)
     }
 
     fn read(reader: BERReader) -> ASN1Result<ObjectSyntax> {

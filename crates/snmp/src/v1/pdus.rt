@@ -27,7 +27,8 @@ use crate::v1::pdu::Pdu;
 use crate::v1::trap_pdu::TrapPdu;
 use yasna::{ASN1Result, BERReader, DERWriter, Tag};
 use yasna_notation::{
-    CanonicalNotation, Choice, Context, Either, Implicit, Message, Notation, StandsFor, read_as,
+    Alternatives, CanonicalNotation, Choice, Context, Either, Implicit, Message, Notation,
+    StandsFor, read_as,
 };
 
 type GetRequestPdu = Implicit<Context<0>, Pdu>;
@@ -97,7 +98,7 @@ impl Notation for Pdus {
     ghost means = { stands_for ⟦<Pdus as StandsFor<Sides>>⟧.value_of ⟦<Choice<Types> as Notation>⟧.means };
 
     fn has_tag(tag: Tag) -> bool {
-        <Choice<Types> as Notation>::has_tag(tag)
+        <Types as Alternatives>::has_tag(tag)
     }
 
     fn read(reader: BERReader) -> ASN1Result<Pdus> {

@@ -33,7 +33,8 @@ use crate::application_syntax::ApplicationSyntax;
 use crate::simple_syntax::SimpleSyntax;
 use yasna::{ASN1Result, BERReader, DERWriter, Tag};
 use yasna_notation::{
-    CanonicalNotation, Choice, Context, Either, Implicit, Message, Notation, StandsFor, read_as,
+    Alternatives, CanonicalNotation, Choice, Context, Either, Implicit, Message, Notation,
+    StandsFor, read_as,
 };
 
 type NoSuchObject = Implicit<Context<0>, ()>;
@@ -109,7 +110,7 @@ impl Notation for BoundValue {
     ghost means = { stands_for ⟦<BoundValue as StandsFor<Sides>>⟧.value_of ⟦<Choice<Types> as Notation>⟧.means };
 
     fn has_tag(tag: Tag) -> bool {
-        <Choice<Types> as Notation>::has_tag(tag)
+        <Types as Alternatives>::has_tag(tag)
     }
 
     fn read(reader: BERReader) -> ASN1Result<BoundValue> {

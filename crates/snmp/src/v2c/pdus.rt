@@ -30,7 +30,8 @@ use crate::v2c::bulk_pdu::BulkPdu;
 use crate::v2c::pdu::Pdu;
 use yasna::{ASN1Result, BERReader, DERWriter, Tag};
 use yasna_notation::{
-    CanonicalNotation, Choice, Context, Either, Implicit, Message, Notation, StandsFor, read_as,
+    Alternatives, CanonicalNotation, Choice, Context, Either, Implicit, Message, Notation,
+    StandsFor, read_as,
 };
 
 type GetRequestPdu = Implicit<Context<0>, Pdu>;
@@ -136,7 +137,7 @@ impl Notation for Pdus {
     ghost means = { stands_for ⟦<Pdus as StandsFor<Sides>>⟧.value_of ⟦<Choice<Types> as Notation>⟧.means };
 
     fn has_tag(tag: Tag) -> bool {
-        <Choice<Types> as Notation>::has_tag(tag)
+        <Types as Alternatives>::has_tag(tag)
     }
 
     fn read(reader: BERReader) -> ASN1Result<Pdus> {
