@@ -3,10 +3,8 @@
 use crate::{answered, length, mixed};
 use std::alloc::Global;
 use x509::Certificate;
-use yasna::{ASN1Result, decode_der, encode_der, one_der_form, parse_der};
+use yasna::{ASN1Result, DERExact, decode_der, encode_der, one_der_form, parse_der};
 use yasna_notation::{Notation, Noted};
-
-type Certificates = Vec<Noted<Certificate>>;
 
 /// The checksum of how many bits the signatures have of the certificates of a SEQUENCE OF.
 #[unsafe(no_mangle)]
@@ -34,12 +32,12 @@ fn bits_checksum(certificates: &[Certificate]) -> u64 {
 /// The length of the certificates of a SEQUENCE OF, which are read and written again.
 #[unsafe(no_mangle)]
 pub extern "C" fn yasna_rewrite_certificates(alloc: Global, bytes: &[u8]) -> u64 {
-    length(rewritten(alloc, bytes))
+    length(rewritten::<Vec<Noted<Certificate>>>(alloc, bytes))
 }
 
-// Those certificates, written again.
-fn rewritten(alloc: Global, bytes: &[u8]) -> ASN1Result<Vec<u8>> {
-    one_der_form::<Certificates>();
-    let certificates: Certificates = decode_der(alloc, bytes)?;
-    encode_der(alloc, &certificates)
+// A value, read and written again.
+fn rewritten<T: DERExact>(alloc: Global, bytes: &[u8]) -> ASN1Result<Vec<u8>> {
+    one_der_form::<T>();
+    let value: T = decode_der(alloc, bytes)?;
+    encode_der(alloc, &value)
 }

@@ -56,11 +56,7 @@ fn five_implicit(parts: &mut BERReaderSeq, tag: u64) -> ASN1Result<u64>
 /// The checksum of ten numbers under explicit tags, by one call in a loop.
 #[unsafe(no_mangle)]
 pub extern "C" fn yasna_ten_explicit_looped(alloc: Global, bytes: &[u8]) -> u64 {
-    answered(parse_der(
-        alloc,
-        bytes,
-        |reader| reader.read_sequence(|parts| explicit_looped(parts)),
-    ))
+    answered(parse_der(alloc, bytes, |reader| reader.read_sequence(explicit_looped)))
 }
 
 // All ten. The callback is this loop's own.
@@ -79,11 +75,7 @@ fn explicit_looped(parts: &mut BERReaderSeq) -> ASN1Result<u64> {
 /// The same under implicit tags.
 #[unsafe(no_mangle)]
 pub extern "C" fn yasna_ten_implicit_looped(alloc: Global, bytes: &[u8]) -> u64 {
-    answered(parse_der(
-        alloc,
-        bytes,
-        |reader| reader.read_sequence(|parts| implicit_looped(parts)),
-    ))
+    answered(parse_der(alloc, bytes, |reader| reader.read_sequence(implicit_looped)))
 }
 
 // All ten. The callback is this loop's own.
