@@ -4,12 +4,12 @@
 //!
 //! | Module | Holds |
 //! |---|---|
-//! | `time`, `validity` | times, and from when until when a certificate holds |
+//! | `time`, `time_part`, `validity` | times, and from when until when a certificate holds |
 //! | `algorithm`, `public_key` | algorithms, and public keys with them |
 //! | `name` | names |
 //! | `attribute` | attributes |
 //! | `extension`, `extensions` | an extension, and all of a certificate or a list |
-//! | `tbs_certificate`, `certificate` | certificates, and what is signed of them |
+//! | `subject_parts`, `tbs_certificate`, `certificate` | certificates, and what is signed of them |
 //! | `revoked_certificate`, `tbs_cert_list`, `certificate_list` | revocation lists, their entries, and what is signed of them |
 //! | `signed` | certificates and lists with the bytes that are signed |
 #![tactic(auto)]
@@ -24,9 +24,11 @@ mod name;
 mod public_key;
 mod revoked_certificate;
 mod signed;
+mod subject_parts;
 mod tbs_cert_list;
 mod tbs_certificate;
 mod time;
+mod time_part;
 mod validity;
 
 pub use algorithm::AlgorithmIdentifier;

@@ -8,24 +8,21 @@
 //! ```
 ghost use Rattle.std.specs.Prelude.{◌≡◌, refl};
 ghost use Rattle.yasna_notation.specs.Laws.{standing_keeps, element_filled};
-ghost use Rattle.yasna_notation.specs.Making.{in_sequence, in_choice, alternative, part};
+ghost use Rattle.yasna_notation.specs.Making.{in_sequence, part};
 ghost use Rattle.yasna_notation.specs.Notation.{stands_for};
 ghost use Rattle.yasna_notation.specs.Parts.{last_part_laws};
 ghost use Rattle.yasna_notation.specs.contracts.simple.BigIntegerNotation.TheImpl.Laws.{keeps-law as big};
-ghost use Rattle.yasna_notation.specs.contracts.times.UTCTimeNotation.TheImpl.Laws.{keeps-law as utc};
-ghost use Rattle.yasna_notation.specs.contracts.times.GeneralizedTimeNotation.TheImpl.Laws.{keeps-law as general};
+ghost use Rattle.x509.specs.contracts.time_part.TimePartNotation.TheImpl.Laws.{keeps-law as time};
 ghost use Rattle.x509.specs.contracts.extensions.ExtensionsNotation.TheImpl.Laws.{keeps-law as extensions};
 
 use crate::extensions::Extensions;
 use crate::time::Time;
-use yasna::models::{GeneralizedTime, UTCTime};
+use crate::time_part::TimePart;
 use yasna::tags::TAG_SEQUENCE;
 use yasna::{ASN1Result, BERReader, DERWriter, Tag};
-use yasna_notation::{
-    BigInteger, Choice, Defined, Last, Message, Notation, Sequence, StandsFor, read_as,
-};
+use yasna_notation::{BigInteger, Last, Message, Notation, Sequence, StandsFor, read_as};
 
-type Parts = (BigInteger, (Time, Last<Extensions>));
+type Parts = (BigInteger, (TimePart, Last<Extensions>));
 
 type Fields = ((Vec<u8>, bool), (Time, Option<Extensions>));
 
@@ -41,9 +38,9 @@ pub struct RevokedCertificate {
 impl StandsFor<Fields> for RevokedCertificate {
     ghost value_of = { λ v. (v.user_certificate, (v.revocation_date, v.crl_entry_extensions)) };
 
-    fn from_value(fields: Fields) -> RevokedCertificate {
-        let (user_certificate, others) = fields;
-        let (revocation_date, crl_entry_extensions) = others;
+    fn from_value(
+        (user_certificate, (revocation_date, crl_entry_extensions)): Fields,
+    ) -> RevokedCertificate {
         RevokedCertificate {
             user_certificate,
             revocation_date,
@@ -78,9 +75,7 @@ impl Notation for RevokedCertificate {
     }
 
     ghost keeps = { λ _. standing_keeps ⟦<RevokedCertificate as StandsFor<Fields>>⟧.value_of
-        (in_sequence (part (big refl).own (part (standing_keeps ⟦<Time as Defined>⟧.value_of
-        (in_choice ⟦<Choice<(UTCTime, (GeneralizedTime,))> as Notation>⟧.means.form_under (alternative (utc refl).own refl (general refl).own))).own
-        (last_part_laws (extensions refl).own)))) };
+        (in_sequence (part (big refl).own (part (time refl).own (last_part_laws (extensions refl).own)))) };
 
     ghost filled = { λ u m v. element_filled _ _ _ _ };
 }

@@ -13,13 +13,12 @@
 ghost use Rattle.std.specs.Prelude.{◌≡◌, nat_eq, refl};
 ghost use Rattle.yasna_notation.specs.Bounded.{within_keeps, passes_alike};
 ghost use Rattle.yasna_notation.specs.Laws.{standing_keeps, element_filled};
-ghost use Rattle.yasna_notation.specs.Making.{in_sequence, in_sequence_of, in_choice, alternative, part, optional_part, in_explicit};
+ghost use Rattle.yasna_notation.specs.Making.{in_sequence, in_sequence_of, part, optional_part, in_explicit};
 ghost use Rattle.yasna_notation.specs.Notation.{stands_for};
 ghost use Rattle.yasna_notation.specs.Parts.{no_parts};
 ghost use Rattle.std.proofs.Common.{arith};
 ghost use Rattle.yasna_notation.specs.contracts.simple.U64Notation.TheImpl.Laws.{keeps-law as number};
-ghost use Rattle.yasna_notation.specs.contracts.times.UTCTimeNotation.TheImpl.Laws.{keeps-law as utc};
-ghost use Rattle.yasna_notation.specs.contracts.times.GeneralizedTimeNotation.TheImpl.Laws.{keeps-law as general};
+ghost use Rattle.x509.specs.contracts.time_part.TimePartNotation.TheImpl.Laws.{keeps-law as time};
 ghost use Rattle.x509.specs.contracts.algorithm.AlgorithmIdentifierNotation.TheImpl.Laws.{keeps-law as algorithm};
 ghost use Rattle.x509.specs.contracts.name.NameNotation.TheImpl.Laws.{keeps-law as name};
 ghost use Rattle.x509.specs.contracts.extensions.ExtensionsNotation.TheImpl.Laws.{keeps-law as extensions};
@@ -30,19 +29,22 @@ use crate::extensions::Extensions;
 use crate::name::Name;
 use crate::revoked_certificate::RevokedCertificate;
 use crate::time::Time;
-use yasna::models::{GeneralizedTime, UTCTime};
+use crate::time_part::TimePart;
 use yasna::tags::TAG_SEQUENCE;
 use yasna::{ASN1Result, BERReader, DERWriter, Tag};
 use yasna_notation::{
-    Bound, Bounded, Choice, Context, Defined, Explicit, Message, Notation, Optional, Sequence,
-    SequenceOf, StandsFor, read_as,
+    Bound, Bounded, Context, Explicit, Message, Notation, Optional, Sequence, SequenceOf,
+    StandsFor, read_as,
 };
 
 type Revoked = Optional<SequenceOf<RevokedCertificate>>;
 
 type CrlExtensions = Optional<Explicit<Context<0>, Extensions>>;
 
-type Updates = (Time, (Optional<Time>, (Revoked, (CrlExtensions, ()))));
+type Updates = (
+    TimePart,
+    (Optional<TimePart>, (Revoked, (CrlExtensions, ()))),
+);
 
 type Parts = (
     Optional<Bounded<u64, V2>>,
@@ -88,14 +90,8 @@ pub struct TbsCertList {
 impl StandsFor<Fields> for TbsCertList {
     ghost value_of = { λ v. (v.version, (v.signature, (v.issuer, (v.this_update, (v.next_update, (v.revoked_certificates, (v.crl_extensions, tt))))))) };
 
-    fn from_value(fields: Fields) -> TbsCertList {
-        let (version, others) = fields;
-        let (signature, others) = others;
-        let (issuer, others) = others;
-        let (this_update, others) = others;
-        let (next_update, others) = others;
-        let (revoked_certificates, others) = others;
-        let (crl_extensions, ()) = others;
+    fn from_value((version, (signature, (issuer, others))): Fields) -> TbsCertList {
+        let (this_update, (next_update, (revoked_certificates, (crl_extensions, ())))) = others;
         TbsCertList {
             version,
             signature,
@@ -141,11 +137,8 @@ impl Notation for TbsCertList {
     }
 
     ghost keeps = { λ _. standing_keeps ⟦<TbsCertList as StandsFor<Fields>>⟧.value_of
-        (in_sequence (optional_part refl (within_keeps (λ v. nat_eq v 1) (λ v w e. passes_alike (λ n. nat_eq n 1) e) (number refl)).own (part (algorithm refl).own (part (name refl).own (part (standing_keeps
-        ⟦<Time as Defined>⟧.value_of
-        (in_choice ⟦<Choice<(UTCTime, (GeneralizedTime,))> as Notation>⟧.means.form_under (alternative (utc refl).own refl (general refl).own))).own
-        (optional_part refl (standing_keeps ⟦<Time as Defined>⟧.value_of
-        (in_choice ⟦<Choice<(UTCTime, (GeneralizedTime,))> as Notation>⟧.means.form_under (alternative (utc refl).own refl (general refl).own))).own
+        (in_sequence (optional_part refl (within_keeps (λ v. nat_eq v 1) (λ v w e. passes_alike (λ n. nat_eq n 1) e) (number refl)).own
+        (part (algorithm refl).own (part (name refl).own (part (time refl).own (optional_part refl (time refl).own
         (optional_part refl (in_sequence_of (revoked refl).own).own
         (optional_part refl (in_explicit 0 (omega arith) (extensions refl).own).own no_parts)))))))) };
 

@@ -21,58 +21,42 @@
 //! ```
 ghost use Rattle.std.specs.Prelude.{◌≡◌, nat_eq, refl};
 ghost use Rattle.yasna_notation.specs.Laws.{standing_keeps, element_filled};
-ghost use Rattle.yasna_notation.specs.Making.{in_sequence, part, optional_part, default_part, in_explicit, in_implicit, at_most};
+ghost use Rattle.yasna_notation.specs.Making.{in_sequence, part, default_part, in_explicit, at_most};
 ghost use Rattle.yasna_notation.specs.Notation.{stands_for};
-ghost use Rattle.yasna_notation.specs.Parts.{no_parts, tells_number};
+ghost use Rattle.yasna_notation.specs.Parts.{tells_number};
 ghost use Rattle.std.proofs.Common.{arith};
 ghost use Rattle.yasna_notation.specs.contracts.simple.U64Notation.TheImpl.Laws.{keeps-law as number};
 ghost use Rattle.yasna_notation.specs.contracts.simple.BigIntegerNotation.TheImpl.Laws.{keeps-law as big};
-ghost use Rattle.yasna_notation.specs.contracts.strings.BitStringNotation.TheImpl.Laws.{keeps-law as bits};
 ghost use Rattle.x509.specs.contracts.algorithm.AlgorithmIdentifierNotation.TheImpl.Laws.{keeps-law as algorithm};
 ghost use Rattle.x509.specs.contracts.name.NameNotation.TheImpl.Laws.{keeps-law as name};
-ghost use Rattle.x509.specs.contracts.validity.ValidityNotation.TheImpl.Laws.{keeps-law as validity};
-ghost use Rattle.x509.specs.contracts.public_key.SubjectPublicKeyInfoNotation.TheImpl.Laws.{keeps-law as public_key};
-ghost use Rattle.x509.specs.contracts.extensions.ExtensionsNotation.TheImpl.Laws.{keeps-law as extensions};
+ghost use Rattle.x509.specs.contracts.subject_parts.SubjectPartsParts.TheImpl.Laws.{laws-law as subject_parts};
 
 use crate::algorithm::AlgorithmIdentifier;
 use crate::extensions::Extensions;
 use crate::name::Name;
 use crate::public_key::SubjectPublicKeyInfo;
+use crate::subject_parts::{SubjectFields, SubjectParts};
 use crate::validity::Validity;
 use yasna::tags::TAG_SEQUENCE;
 use yasna::{ASN1Result, BERReader, DERWriter, Tag};
 use yasna_notation::{
-    AtMost, BigInteger, BitString, Bounded, Context, Default, Explicit, Implicit, Message,
-    Notation, Number, Optional, Sequence, StandsFor,
+    AtMost, BigInteger, Bounded, Context, Default, Explicit, Message, Notation, Number, Sequence,
+    StandsFor,
 };
 
 type Version = Default<Explicit<Context<0>, Bounded<u64, AtMost<2>>>, Number<0>>;
 
-type IssuerUniqueId = Optional<Implicit<Context<1>, BitString>>;
-
-type SubjectUniqueId = Optional<Implicit<Context<2>, BitString>>;
-
-type CertificateExtensions = Optional<Explicit<Context<3>, Extensions>>;
-
-type Ends = (
-    IssuerUniqueId,
-    (SubjectUniqueId, (CertificateExtensions, ())),
+type Parts = (
+    Version,
+    (BigInteger, (AlgorithmIdentifier, (Name, SubjectParts))),
 );
-
-type Keys = (Validity, (Name, (SubjectPublicKeyInfo, Ends)));
-
-type Parts = (Version, (BigInteger, (AlgorithmIdentifier, (Name, Keys))));
-
-type EndFields = (
-    Option<(Vec<u8>, usize)>,
-    (Option<(Vec<u8>, usize)>, (Option<Extensions>, ())),
-);
-
-type KeyFields = (Validity, (Name, (SubjectPublicKeyInfo, EndFields)));
 
 type Fields = (
     u64,
-    ((Vec<u8>, bool), (AlgorithmIdentifier, (Name, KeyFields))),
+    (
+        (Vec<u8>, bool),
+        (AlgorithmIdentifier, (Name, SubjectFields)),
+    ),
 );
 
 /// What is signed of a certificate.
@@ -98,17 +82,11 @@ pub struct TbsCertificate {
 impl StandsFor<Fields> for TbsCertificate {
     ghost value_of = { λ v. (v.version, (v.serial_number, (v.signature, (v.issuer, (v.validity, (v.subject, (v.subject_public_key_info, (v.issuer_unique_id, (v.subject_unique_id, (v.extensions, tt)))))))))) };
 
-    fn from_value(fields: Fields) -> TbsCertificate {
-        let (version, others) = fields;
-        let (serial_number, others) = others;
-        let (signature, others) = others;
-        let (issuer, others) = others;
-        let (validity, others) = others;
-        let (subject, others) = others;
-        let (subject_public_key_info, others) = others;
-        let (issuer_unique_id, others) = others;
-        let (subject_unique_id, others) = others;
-        let (extensions, ()) = others;
+    fn from_value(
+        (version, (serial_number, (signature, (issuer, others)))): Fields,
+    ) -> TbsCertificate {
+        let (validity, (subject, (subject_public_key_info, others))) = others;
+        let (issuer_unique_id, (subject_unique_id, (extensions, ()))) = others;
         TbsCertificate {
             version,
             serial_number,
@@ -145,20 +123,12 @@ impl Notation for TbsCertificate {
     }
 
     fn write(value: &TbsCertificate, writer: DERWriter<'_>) -> ASN1Result<()> {
-        let ends = (
-            &value.issuer_unique_id,
-            (&value.subject_unique_id, (&value.extensions, ())),
-        );
-        let keys = (
-            &value.validity,
-            (&value.subject, (&value.subject_public_key_info, ends)),
-        );
         Sequence::<Parts>::write_fields(
             (
                 &value.version,
                 (
                     &value.serial_number,
-                    (&value.signature, (&value.issuer, keys)),
+                    (&value.signature, (&value.issuer, value)),
                 ),
             ),
             writer,
@@ -167,10 +137,7 @@ impl Notation for TbsCertificate {
 
     ghost keeps = { λ _. standing_keeps ⟦<TbsCertificate as StandsFor<Fields>>⟧.value_of
         (in_sequence (default_part (λ v. nat_eq v 0) 0 (tells_number 0) refl (in_explicit 0 (omega arith) (at_most 2 (number refl)).own).own
-        (part (big refl).own (part (algorithm refl).own (part (name refl).own (part (validity refl).own (part (name refl).own
-        (part (public_key refl).own (optional_part refl (in_implicit 1 (omega arith) (bits refl)).own
-        (optional_part refl (in_implicit 2 (omega arith) (bits refl)).own
-        (optional_part refl (in_explicit 3 (omega arith) (extensions refl).own).own no_parts))))))))))) };
+        (part (big refl).own (part (algorithm refl).own (part (name refl).own (subject_parts refl)))))) };
 
     ghost filled = { λ u m v. element_filled _ _ _ _ };
 }

@@ -5,19 +5,18 @@
 //! ```
 ghost use Rattle.std.specs.Prelude.{◌≡◌, refl};
 ghost use Rattle.yasna_notation.specs.Laws.{standing_keeps, element_filled};
-ghost use Rattle.yasna_notation.specs.Making.{in_sequence, in_choice, alternative, part};
+ghost use Rattle.yasna_notation.specs.Making.{in_sequence, part};
 ghost use Rattle.yasna_notation.specs.Notation.{stands_for};
 ghost use Rattle.yasna_notation.specs.Parts.{no_parts};
-ghost use Rattle.yasna_notation.specs.contracts.times.UTCTimeNotation.TheImpl.Laws.{keeps-law as utc};
-ghost use Rattle.yasna_notation.specs.contracts.times.GeneralizedTimeNotation.TheImpl.Laws.{keeps-law as general};
+ghost use Rattle.x509.specs.contracts.time_part.TimePartNotation.TheImpl.Laws.{keeps-law as time};
 
 use crate::time::Time;
-use yasna::models::{GeneralizedTime, UTCTime};
+use crate::time_part::TimePart;
 use yasna::tags::TAG_SEQUENCE;
 use yasna::{ASN1Result, BERReader, DERWriter, Tag};
-use yasna_notation::{Choice, Defined, Message, Notation, Sequence, StandsFor, read_as};
+use yasna_notation::{Message, Notation, Sequence, StandsFor, read_as};
 
-type Parts = (Time, (Time, ()));
+type Parts = (TimePart, (TimePart, ()));
 
 type Fields = (Time, (Time, ()));
 
@@ -31,9 +30,7 @@ pub struct Validity {
 impl StandsFor<Fields> for Validity {
     ghost value_of = { λ v. (v.not_before, (v.not_after, tt)) };
 
-    fn from_value(fields: Fields) -> Validity {
-        let (not_before, others) = fields;
-        let (not_after, ()) = others;
+    fn from_value((not_before, (not_after, ())): Fields) -> Validity {
         Validity {
             not_before,
             not_after,
@@ -60,10 +57,8 @@ impl Notation for Validity {
         Sequence::<Parts>::write_fields((&value.not_before, (&value.not_after, ())), writer)
     }
 
-    ghost keeps = { λ _. standing_keeps ⟦<Validity as StandsFor<Fields>>⟧.value_of (in_sequence (part (standing_keeps ⟦<Time as Defined>⟧.value_of
-        (in_choice ⟦<Choice<(UTCTime, (GeneralizedTime,))> as Notation>⟧.means.form_under (alternative (utc refl).own refl (general refl).own))).own
-        (part (standing_keeps ⟦<Time as Defined>⟧.value_of (in_choice ⟦<Choice<(UTCTime, (GeneralizedTime,))> as Notation>⟧.means.form_under
-        (alternative (utc refl).own refl (general refl).own))).own no_parts))) };
+    ghost keeps = { λ _. standing_keeps ⟦<Validity as StandsFor<Fields>>⟧.value_of (in_sequence (part (time refl).own
+        (part (time refl).own no_parts))) };
 
     ghost filled = { λ u m v. element_filled _ _ _ _ };
 }

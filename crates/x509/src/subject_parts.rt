@@ -1,0 +1,110 @@
+//! What a TBSCertificate holds from its validity on.
+//!
+//! These are parts of a SEQUENCE by one name: what the whole asks of them is proved here once, and not for each part before them.
+ghost use Rattle.std.specs.Prelude.{◌≡◌, refl};
+ghost use Rattle.std.proofs.Common.{arith};
+ghost use Rattle.yasna_notation.specs.Making.{part, optional_part, in_explicit, in_implicit};
+ghost use Rattle.yasna_notation.specs.Parts.{no_parts};
+ghost use Rattle.yasna_notation.specs.contracts.strings.BitStringNotation.TheImpl.Laws.{keeps-law as bits};
+ghost use Rattle.x509.specs.contracts.name.NameNotation.TheImpl.Laws.{keeps-law as name};
+ghost use Rattle.x509.specs.contracts.validity.ValidityNotation.TheImpl.Laws.{keeps-law as validity};
+ghost use Rattle.x509.specs.contracts.public_key.SubjectPublicKeyInfoNotation.TheImpl.Laws.{keeps-law as public_key};
+ghost use Rattle.x509.specs.contracts.extensions.ExtensionsNotation.TheImpl.Laws.{keeps-law as extensions};
+
+use crate::extensions::Extensions;
+use crate::name::Name;
+use crate::public_key::SubjectPublicKeyInfo;
+use crate::tbs_certificate::TbsCertificate;
+use crate::validity::Validity;
+use yasna::{ASN1Result, BERReaderSeq, DERWriterSeq};
+use yasna_notation::{BitString, Context, Explicit, Implicit, Optional, Parts, PartsBy};
+
+type IssuerUniqueId = Optional<Implicit<Context<1>, BitString>>;
+
+type SubjectUniqueId = Optional<Implicit<Context<2>, BitString>>;
+
+type CertificateExtensions = Optional<Explicit<Context<3>, Extensions>>;
+
+type Ends = (
+    IssuerUniqueId,
+    (SubjectUniqueId, (CertificateExtensions, ())),
+);
+
+type Each = (Validity, (Name, (SubjectPublicKeyInfo, Ends)));
+
+type EndFields = (
+    Option<(Vec<u8>, usize)>,
+    (Option<(Vec<u8>, usize)>, (Option<Extensions>, ())),
+);
+
+/// The values of these parts.
+pub type SubjectFields = (Validity, (Name, (SubjectPublicKeyInfo, EndFields)));
+
+/// The parts of a TBSCertificate from its validity on.
+pub struct SubjectParts;
+
+impl Parts for SubjectParts {
+    type Values = SubjectFields;
+
+    type Inner = ();
+
+    ghost told = { ⟦<Each as Parts>⟧.told };
+
+    ghost tags = { ⟦<Each as Parts>⟧.tags };
+
+    ghost apart = { ⟦<Each as Parts>⟧.apart };
+
+    ghost parts = { ⟦<Each as Parts>⟧.parts };
+
+    ghost any_parts = { ⟦<Each as Parts>⟧.any_parts };
+
+    ghost asks_memory = { ⟦<Each as Parts>⟧.asks_memory };
+
+    ghost same = { ⟦<Each as Parts>⟧.same };
+
+    ghost form = { ⟦<Each as Parts>⟧.form };
+
+    ghost nest = { ⟦<Each as Parts>⟧.nest };
+
+    ghost can = { ⟦<Each as Parts>⟧.can };
+
+    ghost fits = { ⟦<Each as Parts>⟧.fits };
+
+    #[inline(always)]
+    fn read_parts(seq: &mut BERReaderSeq) -> ASN1Result<SubjectFields> {
+        <Each as Parts>::read_parts(seq)
+    }
+
+    #[inline(always)]
+    fn write_parts(values: &SubjectFields, seq: &mut DERWriterSeq) -> ASN1Result<()> {
+        <Each as Parts>::write_parts(values, seq)
+    }
+
+    ghost laws = { λ _. part (validity refl).own (part (name refl).own (part (public_key refl).own
+        (optional_part refl (in_implicit 1 (omega arith) (bits refl)).own
+        (optional_part refl (in_implicit 2 (omega arith) (bits refl)).own
+        (optional_part refl (in_explicit 3 (omega arith) (extensions refl).own).own no_parts))))) };
+}
+
+impl<'a> PartsBy<&'a TbsCertificate> for SubjectParts {
+    ghost held = { λ r. (r.now.validity, (r.now.subject, (r.now.subject_public_key_info, (r.now.issuer_unique_id, (r.now.subject_unique_id, (r.now.extensions, tt)))))) };
+
+    #[inline(always)]
+    fn write_each(certificate: &&'a TbsCertificate, seq: &mut DERWriterSeq) -> ASN1Result<()> {
+        let ends = (
+            &certificate.issuer_unique_id,
+            (
+                &certificate.subject_unique_id,
+                (&certificate.extensions, ()),
+            ),
+        );
+        let fields = (
+            &certificate.validity,
+            (
+                &certificate.subject,
+                (&certificate.subject_public_key_info, ends),
+            ),
+        );
+        Each::write_each(&fields, seq)
+    }
+}
