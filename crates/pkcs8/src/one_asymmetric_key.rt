@@ -72,12 +72,10 @@ pub struct OneAsymmetricKey {
 impl StandsFor<Fields> for OneAsymmetricKey {
     ghost value_of = { λ v. (v.version, (v.private_key_algorithm, (v.private_key, (v.attributes, (v.public_key, tt))))) };
 
-    fn from_value(fields: Fields) -> OneAsymmetricKey {
-        let (version, others) = fields;
-        let (private_key_algorithm, others) = others;
-        let (private_key, others) = others;
-        let (attributes, others) = others;
-        let (public_key, ()) = others;
+    fn from_value(
+        (version, (private_key_algorithm, (private_key, others))): Fields,
+    ) -> OneAsymmetricKey {
+        let (attributes, (public_key, ())) = others;
         OneAsymmetricKey {
             version,
             private_key_algorithm,

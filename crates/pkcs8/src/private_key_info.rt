@@ -57,11 +57,9 @@ pub struct PrivateKeyInfo {
 impl StandsFor<Fields> for PrivateKeyInfo {
     ghost value_of = { λ v. (v.version, (v.private_key_algorithm, (v.private_key, (v.attributes, tt)))) };
 
-    fn from_value(fields: Fields) -> PrivateKeyInfo {
-        let (version, others) = fields;
-        let (private_key_algorithm, others) = others;
-        let (private_key, others) = others;
-        let (attributes, ()) = others;
+    fn from_value(
+        (version, (private_key_algorithm, (private_key, (attributes, ())))): Fields,
+    ) -> PrivateKeyInfo {
         PrivateKeyInfo {
             version,
             private_key_algorithm,

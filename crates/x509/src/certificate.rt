@@ -40,10 +40,9 @@ pub struct Certificate {
 impl StandsFor<Fields> for Certificate {
     ghost value_of = { λ v. (v.tbs_certificate, (v.signature_algorithm, (v.signature_value, tt))) };
 
-    fn from_value(fields: Fields) -> Certificate {
-        let (tbs_certificate, others) = fields;
-        let (signature_algorithm, others) = others;
-        let (signature_value, ()) = others;
+    fn from_value(
+        (tbs_certificate, (signature_algorithm, (signature_value, ()))): Fields,
+    ) -> Certificate {
         Certificate {
             tbs_certificate,
             signature_algorithm,

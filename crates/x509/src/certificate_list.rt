@@ -37,10 +37,9 @@ pub struct CertificateList {
 impl StandsFor<Fields> for CertificateList {
     ghost value_of = { λ v. (v.tbs_cert_list, (v.signature_algorithm, (v.signature_value, tt))) };
 
-    fn from_value(fields: Fields) -> CertificateList {
-        let (tbs_cert_list, others) = fields;
-        let (signature_algorithm, others) = others;
-        let (signature_value, ()) = others;
+    fn from_value(
+        (tbs_cert_list, (signature_algorithm, (signature_value, ()))): Fields,
+    ) -> CertificateList {
         CertificateList {
             tbs_cert_list,
             signature_algorithm,

@@ -32,9 +32,7 @@ pub struct SubjectPublicKeyInfo {
 impl StandsFor<Fields> for SubjectPublicKeyInfo {
     ghost value_of = { λ v. (v.algorithm, (v.subject_public_key, tt)) };
 
-    fn from_value(fields: Fields) -> SubjectPublicKeyInfo {
-        let (algorithm, others) = fields;
-        let (subject_public_key, ()) = others;
+    fn from_value((algorithm, (subject_public_key, ())): Fields) -> SubjectPublicKeyInfo {
         SubjectPublicKeyInfo {
             algorithm,
             subject_public_key,
