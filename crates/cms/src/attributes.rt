@@ -10,16 +10,14 @@
 ghost use Rattle.std.specs.Prelude.{◌≡◌, length, nat_lt, refl};
 ghost use Rattle.yasna_notation.specs.Bounded.{within_keeps, set_sizes_alike};
 ghost use Rattle.yasna_notation.specs.Laws.{standing_keeps, element_filled};
-ghost use Rattle.yasna_notation.specs.Making.{in_sequence, in_set_of, part};
+ghost use Rattle.yasna_notation.specs.Making.{in_set_of};
 ghost use Rattle.yasna_notation.specs.Notation.{stands_for};
-ghost use Rattle.yasna_notation.specs.Parts.{no_parts};
-ghost use Rattle.yasna_notation.specs.contracts.simple.ObjectIdentifierNotation.TheImpl.Laws.{keeps-law as oid};
-ghost use Rattle.yasna_notation.specs.contracts.any.TaggedDerValueNotation.TheImpl.Laws.{keeps-law as any};
+ghost use Rattle.x509.specs.contracts.attribute.AttributeNotation.TheImpl.Laws.{keeps-law as attribute};
 
 use x509::Attribute;
 use yasna::tags::TAG_SET;
 use yasna::{ASN1Result, BERReader, DERWriter, Tag};
-use yasna_notation::{Bounded, Defined, Message, NotEmpty, Notation, SetOf, StandsFor, read_as};
+use yasna_notation::{Bounded, Message, NotEmpty, Notation, SetOf, StandsFor, read_as};
 
 type Set = Bounded<SetOf<Attribute>, NotEmpty>;
 
@@ -59,8 +57,7 @@ impl Notation for Attributes {
 
     ghost keeps = { λ _. standing_keeps ⟦<Attributes as StandsFor<Vec<Attribute>>>⟧.value_of
         (within_keeps (λ v. nat_lt 0 (length v.items)) (λ v w e. set_sizes_alike _ (nat_lt 0) v.items w.items e)
-        (in_set_of (standing_keeps ⟦<Attribute as Defined>⟧.value_of
-        (in_sequence (part (oid refl).own (part (in_set_of (any refl).own).own no_parts)))).own)) };
+        (in_set_of (attribute refl).own)) };
 
     ghost filled = { λ u m v. element_filled _ _ _ _ };
 }

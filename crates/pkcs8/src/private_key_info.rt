@@ -18,17 +18,16 @@ ghost use Rattle.yasna_notation.specs.Making.{in_sequence, in_set_of, part, opti
 ghost use Rattle.yasna_notation.specs.Notation.{stands_for};
 ghost use Rattle.yasna_notation.specs.Parts.{no_parts};
 ghost use Rattle.yasna_notation.specs.contracts.simple.U64Notation.TheImpl.Laws.{keeps-law as number};
-ghost use Rattle.yasna_notation.specs.contracts.simple.ObjectIdentifierNotation.TheImpl.Laws.{keeps-law as oid};
-ghost use Rattle.yasna_notation.specs.contracts.any.TaggedDerValueNotation.TheImpl.Laws.{keeps-law as any};
 ghost use Rattle.yasna_notation.specs.contracts.strings.VecU8Notation.TheImpl.Laws.{keeps-law as octets};
 ghost use Rattle.x509.specs.contracts.algorithm.AlgorithmIdentifierNotation.TheImpl.Laws.{keeps-law as algorithm};
+ghost use Rattle.x509.specs.contracts.attribute.AttributeNotation.TheImpl.Laws.{keeps-law as attribute};
 
 use x509::{AlgorithmIdentifier, Attribute};
 use yasna::tags::TAG_SEQUENCE;
 use yasna::{ASN1Result, BERReader, DERWriter, Tag};
 use yasna_notation::{
-    AtMost, Bounded, Context, Defined, Implicit, Message, Notation, Optional, Sequence, SetOf,
-    StandsFor, read_as,
+    AtMost, Bounded, Context, Implicit, Message, Notation, Optional, Sequence, SetOf, StandsFor,
+    read_as,
 };
 
 type Version = Bounded<u64, AtMost<0>>;
@@ -99,8 +98,7 @@ impl Notation for PrivateKeyInfo {
 
     ghost keeps = { λ _. standing_keeps ⟦<PrivateKeyInfo as StandsFor<Fields>>⟧.value_of
         (in_sequence (part (at_most 0 (number refl)).own (part (algorithm refl).own (part (octets refl).own
-        (optional_part refl (in_implicit 0 (omega arith) (in_set_of (standing_keeps ⟦<Attribute as Defined>⟧.value_of
-        (in_sequence (part (oid refl).own (part (in_set_of (any refl).own).own no_parts)))).own)).own no_parts))))) };
+        (optional_part refl (in_implicit 0 (omega arith) (in_set_of (attribute refl).own)).own no_parts))))) };
 
     ghost filled = { λ u m v. element_filled _ _ _ _ };
 }

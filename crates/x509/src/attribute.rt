@@ -6,10 +6,21 @@
 //!     values  SET OF ANY DEFINED BY type }
 //! ```
 ghost use Rattle.std.specs.Prelude.{◌≡◌, refl};
+ghost use Rattle.yasna_notation.specs.Laws.{standing_keeps, element_filled};
+ghost use Rattle.yasna_notation.specs.Making.{in_sequence, in_set_of, part};
+ghost use Rattle.yasna_notation.specs.Notation.{stands_for};
+ghost use Rattle.yasna_notation.specs.Parts.{no_parts};
+ghost use Rattle.yasna_notation.specs.contracts.simple.ObjectIdentifierNotation.TheImpl.Laws.{keeps-law as oid};
+ghost use Rattle.yasna_notation.specs.contracts.any.TaggedDerValueNotation.TheImpl.Laws.{keeps-law as any};
 
 use yasna::models::{ObjectIdentifier, TaggedDerValue};
-use yasna::{ASN1Result, DERWriter};
-use yasna_notation::{Defined, Sequence, SetOf};
+use yasna::tags::TAG_SEQUENCE;
+use yasna::{ASN1Result, BERReader, DERWriter, Tag};
+use yasna_notation::{Message, Notation, Sequence, SetOf, StandsFor, read_as};
+
+type Parts = (ObjectIdentifier, (SetOf<TaggedDerValue>, ()));
+
+type Fields = (ObjectIdentifier, (Vec<TaggedDerValue>, ()));
 
 /// An attribute: its type, and its values as they came.
 #[derive(Drop)]
@@ -18,26 +29,42 @@ pub struct Attribute {
     pub values: Vec<TaggedDerValue>,
 }
 
-impl Defined for Attribute {
-    type Notation = Sequence<(ObjectIdentifier, (SetOf<TaggedDerValue>, ()))>;
-
+impl StandsFor<Fields> for Attribute {
     ghost value_of = { λ v. (v.attribute_type, (v.values, tt)) };
 
-    fn from_value(
-        (attribute_type, (values, ())): (ObjectIdentifier, (Vec<TaggedDerValue>, ())),
-    ) -> Attribute {
+    fn from_value((attribute_type, (values, ())): Fields) -> Attribute {
         Attribute {
             attribute_type,
             values,
         }
     }
+}
 
-    fn write_value(&self, writer: DERWriter<'_>) -> ASN1Result<()> {
-        Sequence::<(ObjectIdentifier, (SetOf<TaggedDerValue>, ()))>::write_fields(
-            (&self.attribute_type, (&self.values, ())),
-            writer,
-        )
+impl Notation for Attribute {
+    type Value = Attribute;
+
+    type Inner = ();
+
+    ghost means = { stands_for ⟦<Attribute as StandsFor<Fields>>⟧.value_of ⟦<Sequence<Parts> as Notation>⟧.means };
+
+    fn has_tag(tag: Tag) -> bool {
+        tag == TAG_SEQUENCE
     }
 
-    ghost apart = { refl };
+    fn read(reader: BERReader) -> ASN1Result<Attribute> {
+        read_as::<Sequence<Parts>, Attribute>(reader)
+    }
+
+    fn write(value: &Attribute, writer: DERWriter<'_>) -> ASN1Result<()> {
+        Sequence::<Parts>::write_fields((&value.attribute_type, (&value.values, ())), writer)
+    }
+
+    ghost keeps = { λ _. standing_keeps ⟦<Attribute as StandsFor<Fields>>⟧.value_of (in_sequence (part (oid refl).own
+        (part (in_set_of (any refl).own).own no_parts))) };
+
+    ghost filled = { λ u m v. element_filled _ _ _ _ };
+}
+
+impl Message for Attribute {
+    ghost told_apart = { refl };
 }
