@@ -1,0 +1,14 @@
+-- What writing a value of a CHOICE asks and does, from what is so of the alternative that it is known to be.
+use Rattle.std.proofs.Common.{◌≡◌, Result, sym, subst}
+use Rattle.yasna.specs.Words.{ASN1Error, Written, Writes}
+use Rattle.yasna_notation.specs.Notation.{Meaning}
+
+module _ {U : Type 0} (x : Meaning U) {u v : U} (is : u ≡ v) where
+  -- it can be written where that can
+  pub can_as : x.can u → x.can v
+  can_as h = subst x.can is h
+
+  -- it is written as that is
+  pub written_as : (old new : Written) (r : Result (Unit {0}) ASN1Error) → Writes (x.form_under old.tag old.mode v) old new r →
+      Writes (x.form_under old.tag old.mode u) old new r
+  written_as old new r h = subst (λ w. Writes (x.form_under old.tag old.mode w) old new r) (sym is) h
