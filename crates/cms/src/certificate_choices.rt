@@ -101,7 +101,7 @@ impl Notation for CertificateChoices {
     ghost means = { stands_for ⟦<CertificateChoices as StandsFor<Value>>⟧.value_of ⟦<Choice<Types> as Notation>⟧.means };
 
     fn has_tag(tag: Tag) -> bool {
-        <Choice<Types> as Notation>::has_tag(tag)
+        <Types as Alternatives>::has_tag(tag)
     }
 
     fn read(reader: BERReader) -> ASN1Result<CertificateChoices> {

@@ -26,7 +26,8 @@ use x509::CertificateList;
 use yasna::models::TaggedDerValue;
 use yasna::{ASN1Result, BERReader, DERWriter, Tag};
 use yasna_notation::{
-    Choice, Context, Either, Implicit, Message, Notation, SequenceOf, StandsFor, read_as,
+    Alternatives, Choice, Context, Either, Implicit, Message, Notation, SequenceOf, StandsFor,
+    read_as,
 };
 
 type OtherFormat = Implicit<Context<1>, SequenceOf<TaggedDerValue>>;
@@ -61,7 +62,7 @@ impl Notation for RevocationInfoChoice {
     ghost means = { stands_for ⟦<RevocationInfoChoice as StandsFor<Value>>⟧.value_of ⟦<Choice<Types> as Notation>⟧.means };
 
     fn has_tag(tag: Tag) -> bool {
-        <Choice<Types> as Notation>::has_tag(tag)
+        <Types as Alternatives>::has_tag(tag)
     }
 
     fn read(reader: BERReader) -> ASN1Result<RevocationInfoChoice> {

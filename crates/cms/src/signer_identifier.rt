@@ -20,7 +20,9 @@ ghost use Rattle.cms.specs.declared.signer_identifier.SignerIdentifier.TheVarian
 
 use crate::issuer_and_serial_number::IssuerAndSerialNumber;
 use yasna::{ASN1Result, BERReader, DERWriter, Tag};
-use yasna_notation::{Choice, Context, Either, Implicit, Message, Notation, StandsFor, read_as};
+use yasna_notation::{
+    Alternatives, Choice, Context, Either, Implicit, Message, Notation, StandsFor, read_as,
+};
 
 type KeyIdentifier = Implicit<Context<0>, Vec<u8>>;
 
@@ -54,7 +56,7 @@ impl Notation for SignerIdentifier {
     ghost means = { stands_for ⟦<SignerIdentifier as StandsFor<Value>>⟧.value_of ⟦<Choice<Types> as Notation>⟧.means };
 
     fn has_tag(tag: Tag) -> bool {
-        <Choice<Types> as Notation>::has_tag(tag)
+        <Types as Alternatives>::has_tag(tag)
     }
 
     fn read(reader: BERReader) -> ASN1Result<SignerIdentifier> {
