@@ -1,6 +1,6 @@
 //! AlgorithmIdentifier, with parameters of several types and without, and keys with it.
 
-use crate::checks::{gives, refuses};
+use crate::checks::{all_hold, gives, refuses};
 use crate::public_key::{ED25519, RSA};
 use std::alloc::Global;
 use yasna::{ASN1ErrorKind, ASN1Result, Tag, decode_ber, decode_der, encode_der, tags};
@@ -32,27 +32,25 @@ fn is_form(alloc: Global, form: &[u8], name: &[u64], parameters: Option<Tag>) ->
     }
 }
 
-#[test]
-fn ed25519(rt: HostRuntime) {
-    let form = [48, 5, 6, 3, 43, 101, 112];
-    assert!(rt; is_form(rt.alloc(), &form, &[1, 3, 101, 112], None));
-}
-
-#[test]
-fn rsa_encryption(rt: HostRuntime) {
-    let form = [48, 13, 6, 9, 42, 134, 72, 134, 247, 13, 1, 1, 1, 5, 0];
-    let name = [1, 2, 840, 113549, 1, 1, 1];
-    assert!(rt; is_form(rt.alloc(), &form, &name, Some(tags::TAG_NULL)));
-}
-
-// Its parameters are the name of the curve P-256.
-#[test]
-fn elliptic_curve(rt: HostRuntime) {
-    let form = [
+fn are_forms(alloc: Global) -> [bool; 3] {
+    let ed25519 = [48, 5, 6, 3, 43, 101, 112];
+    let rsa = [48, 13, 6, 9, 42, 134, 72, 134, 247, 13, 1, 1, 1, 5, 0];
+    // its parameters are the name of the curve P-256
+    let elliptic_curve = [
         48, 19, 6, 7, 42, 134, 72, 206, 61, 2, 1, 6, 8, 42, 134, 72, 206, 61, 3, 1, 7,
     ];
-    let name = [1, 2, 840, 10045, 2, 1];
-    assert!(rt; is_form(rt.alloc(), &form, &name, Some(tags::TAG_OID)));
+    let null = Some(tags::TAG_NULL);
+    let oid = Some(tags::TAG_OID);
+    [
+        is_form(alloc, &ed25519, &[1, 3, 101, 112], None),
+        is_form(alloc, &rsa, &[1, 2, 840, 113549, 1, 1, 1], null),
+        is_form(alloc, &elliptic_curve, &[1, 2, 840, 10045, 2, 1], oid),
+    ]
+}
+
+#[test]
+fn forms(rt: HostRuntime) {
+    all_hold(&rt, &are_forms(rt.alloc()));
 }
 
 // Whether BER reads one from it that is written in this form.
@@ -63,31 +61,32 @@ fn is_rewritten(alloc: Global, other: &[u8], form: &[u8]) -> bool {
     }
 }
 
-// Parameters of indefinite length are kept as they came, with the two zeros that end them.
-#[test]
-fn kept_as_they_came(rt: HostRuntime) {
-    let other = [48, 128, 6, 3, 43, 101, 112, 48, 128, 2, 1, 7, 0, 0, 0, 0];
-    let form = [48, 12, 6, 3, 43, 101, 112, 48, 5, 2, 1, 7, 0, 0];
-    assert!(rt; is_rewritten(rt.alloc(), &other, &form));
-    assert!(rt;
-        refuses(
-            decode_der::<AlgorithmIdentifier>(rt.alloc(), &other),
-            ASN1ErrorKind::Invalid
-        )
-    );
-}
-
 fn refuses_ber(alloc: Global, bytes: &[u8], kind: ASN1ErrorKind) -> bool {
     refuses(decode_ber::<AlgorithmIdentifier>(alloc, bytes), kind)
 }
 
-// Parameters that are broken aren't taken for none, and behind them nothing may follow.
-#[test]
-fn broken_parameters(rt: HostRuntime) {
+fn refuses_der(alloc: Global, bytes: &[u8], kind: ASN1ErrorKind) -> bool {
+    refuses(decode_der::<AlgorithmIdentifier>(alloc, bytes), kind)
+}
+
+fn are_others(alloc: Global) -> [bool; 4] {
+    let indefinite = [48, 128, 6, 3, 43, 101, 112, 48, 128, 2, 1, 7, 0, 0, 0, 0];
+    let form = [48, 12, 6, 3, 43, 101, 112, 48, 5, 2, 1, 7, 0, 0];
     let broken = [48, 7, 6, 3, 43, 101, 112, 4, 9];
-    assert!(rt; refuses_ber(rt.alloc(), &broken, ASN1ErrorKind::Eof));
     let more = [48, 9, 6, 3, 43, 101, 112, 5, 0, 5, 0];
-    assert!(rt; refuses_ber(rt.alloc(), &more, ASN1ErrorKind::Extra));
+    [
+        is_rewritten(alloc, &indefinite, &form),
+        refuses_der(alloc, &indefinite, ASN1ErrorKind::Invalid),
+        refuses_ber(alloc, &broken, ASN1ErrorKind::Eof),
+        refuses_ber(alloc, &more, ASN1ErrorKind::Extra),
+    ]
+}
+
+// Parameters of indefinite length are kept as they came, with the two zeros that end them. Parameters that are broken
+// aren't taken for none, and behind them nothing may follow.
+#[test]
+fn other_parameters(rt: HostRuntime) {
+    all_hold(&rt, &are_others(rt.alloc()));
 }
 
 // Whether a key of this many bits is read from its form, and written in it, and its algorithm has parameters or has none.
@@ -102,12 +101,6 @@ fn is_form_of_key(alloc: Global, form: &[u8], bits: usize, has_parameters: bool)
     }
 }
 
-#[test]
-fn keys(rt: HostRuntime) {
-    assert!(rt; is_form_of_key(rt.alloc(), &ED25519, 256, false));
-    assert!(rt; is_form_of_key(rt.alloc(), &RSA, 64, true));
-}
-
 // The form of a key that says it has so many bits.
 fn form_with_bits(alloc: Global, form: &[u8], bits: usize) -> ASN1Result<Vec<u8>> {
     let mut key: SubjectPublicKeyInfo = decode_der(alloc, form)?;
@@ -115,14 +108,17 @@ fn form_with_bits(alloc: Global, form: &[u8], bits: usize) -> ASN1Result<Vec<u8>
     encoded_key(alloc, &key)
 }
 
+fn are_keys(alloc: Global) -> [bool; 4] {
+    [
+        is_form_of_key(alloc, &ED25519, 256, false),
+        is_form_of_key(alloc, &RSA, 64, true),
+        gives(form_with_bits(alloc, &ED25519, 256), &ED25519),
+        refuses(form_with_bits(alloc, &ED25519, 257), ASN1ErrorKind::Invalid),
+    ]
+}
+
 // A key of more bits than its bytes hold has no form.
 #[test]
-fn too_many_bits(rt: HostRuntime) {
-    assert!(rt; gives(form_with_bits(rt.alloc(), &ED25519, 256), &ED25519));
-    assert!(rt;
-        refuses(
-            form_with_bits(rt.alloc(), &ED25519, 257),
-            ASN1ErrorKind::Invalid
-        )
-    );
+fn keys(rt: HostRuntime) {
+    all_hold(&rt, &are_keys(rt.alloc()));
 }

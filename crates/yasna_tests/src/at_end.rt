@@ -1,56 +1,56 @@
-//! Where contents end, errors of a reading closure's own, and memory that it asks for itself.
+//! Where contents end, errors of a reading callback's own, and memory that it asks for itself.
 
-use crate::checks::refuses;
+use crate::checks::{all_hold, refuses};
 use std::alloc::Global;
 use yasna::{
-    ASN1Error, ASN1ErrorKind, ASN1Result, BERReader, parse_ber, parse_der, try_parse_ber,
-    try_parse_cer,
+    ASN1Error, ASN1ErrorKind, ASN1Result, BERReader, BERReaderSeq, parse_ber, parse_der,
+    try_parse_ber, try_parse_cer,
 };
+
+// A number, and whether it is the last part.
+fn number_at_end(parts: &mut BERReaderSeq) -> ASN1Result<(i64, bool)> {
+    let number = parts.next().read_i64()?;
+    let alone = parts.is_at_end();
+    if !alone {
+        parts.next().read_null()?;
+    }
+    Ok((number, alone))
+}
 
 // A number, and whether it stands alone.
 fn number_alone(reader: BERReader) -> ASN1Result<(i64, bool)> {
-    reader.read_sequence(|parts| {
-        let number = parts.next().read_i64()?;
-        let alone = parts.is_at_end();
-        if !alone {
-            parts.next().read_null()?;
-        }
-        Ok((number, alone))
-    })
+    reader.read_sequence(number_at_end)
 }
 
+// Whether the parts end behind a number. It does not look at the refusal of that.
+fn past_number(parts: &mut BERReaderSeq) -> ASN1Result<bool> {
+    let _ = parts.next().read_i64();
+    Ok(parts.is_at_end())
+}
+
+fn ends_past_number(reader: BERReader) -> ASN1Result<bool> {
+    reader.read_sequence(past_number)
+}
+
+fn parts_end(alloc: Global) -> [bool; 4] {
+    [
+        parse_der(alloc, &[48, 3, 2, 1, 7], number_alone) == Ok((7, true)),
+        parse_der(alloc, &[48, 5, 2, 1, 7, 5, 0], number_alone) == Ok((7, false)),
+        parse_ber(alloc, &[48, 128, 2, 1, 7, 0, 0], number_alone) == Ok((7, true)),
+        refuses(
+            parse_der(alloc, &[48, 6, 2, 2, 0, 7, 5, 0], ends_past_number),
+            ASN1ErrorKind::Invalid,
+        ),
+    ]
+}
+
+// Behind the last one, by two zeros too, and a failure that is kept ends them.
 #[test]
-fn parts_end(rt: HostRuntime) {
-    assert_eq!(rt;
-        parse_der(rt.alloc(), &[48, 3, 2, 1, 7], number_alone),
-        Ok((7, true))
-    );
+fn ends_of_parts(rt: HostRuntime) {
+    all_hold(&rt, &parts_end(rt.alloc()));
 }
 
-#[test]
-fn parts_go_on(rt: HostRuntime) {
-    let form = [48, 5, 2, 1, 7, 5, 0];
-    assert_eq!(rt; parse_der(rt.alloc(), &form, number_alone), Ok((7, false)));
-}
-
-#[test]
-fn parts_end_by_two_zeros(rt: HostRuntime) {
-    let form = [48, 128, 2, 1, 7, 0, 0];
-    assert_eq!(rt; parse_ber(rt.alloc(), &form, number_alone), Ok((7, true)));
-}
-
-#[test]
-fn kept_failures_end_parts(rt: HostRuntime) {
-    let answer = parse_der(rt.alloc(), &[48, 6, 2, 2, 0, 7, 5, 0], |reader| {
-        reader.read_sequence(|parts| {
-            let _ = parts.next().read_i64();
-            Ok(parts.is_at_end())
-        })
-    });
-    assert!(rt; refuses(answer, ASN1ErrorKind::Invalid));
-}
-
-#[derive(Drop)]
+#[derive(Clone, Copy)]
 enum Refused {
     Large,
     Encoding(ASN1Error),
@@ -82,26 +82,33 @@ fn small_in_ber(alloc: Global, bytes: &[u8]) -> Result<Vec<i64>, Refused> {
     try_parse_ber(alloc, bytes, |reader| small(alloc, reader))
 }
 
-fn is_large(answer: Result<Vec<i64>, Refused>) -> bool {
-    matches!(answer, Err(Refused::Large))
-}
-
-#[test]
-fn readings_answer_their_own_errors(rt: HostRuntime) {
-    assert!(rt; small_in_ber(rt.alloc(), &[2, 129, 1, 7]).is_ok());
-    assert!(rt; is_large(small_in_ber(rt.alloc(), &[2, 1, 100])));
-}
-
 fn small_in_cer(alloc: Global, bytes: &[u8]) -> Result<Vec<i64>, Refused> {
     try_parse_cer(alloc, bytes, |reader| small(alloc, reader))
+}
+
+fn is_small(answer: Result<Vec<i64>, Refused>) -> bool {
+    answer.is_ok()
+}
+
+fn is_large(answer: Result<Vec<i64>, Refused>) -> bool {
+    matches!(answer, Err(Refused::Large))
 }
 
 fn is_encoding(answer: Result<Vec<i64>, Refused>) -> bool {
     matches!(answer, Err(Refused::Encoding(_)))
 }
 
+// What BER reads, a callback's own error, and refusals that become such.
+fn errors_are_own(alloc: Global) -> [bool; 4] {
+    [
+        is_small(small_in_ber(alloc, &[2, 129, 1, 7])),
+        is_large(small_in_ber(alloc, &[2, 1, 100])),
+        is_encoding(small_in_cer(alloc, &[2, 129, 1, 7])),
+        is_encoding(small_in_cer(alloc, &[2, 1, 7, 0])),
+    ]
+}
+
 #[test]
-fn refusals_become_their_own_errors(rt: HostRuntime) {
-    assert!(rt; is_encoding(small_in_cer(rt.alloc(), &[2, 129, 1, 7])));
-    assert!(rt; is_encoding(small_in_cer(rt.alloc(), &[2, 1, 7, 0])));
+fn errors_of_their_own(rt: HostRuntime) {
+    all_hold(&rt, &errors_are_own(rt.alloc()));
 }

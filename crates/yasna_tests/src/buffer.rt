@@ -1,7 +1,6 @@
 //! The bytes that a read took.
 
 use std::alloc::Global;
-use std::test::Fail;
 use yasna::{ASN1Result, BERReader, BERReaderSeq, parse_der};
 
 // The first part, a number, and the bytes of its element.
@@ -19,10 +18,15 @@ fn bytes_of_number(alloc: Global, input: &[u8]) -> ASN1Result<&[u8]> {
     Ok(bytes)
 }
 
+fn has_bytes_of_number(alloc: Global, input: &[u8], bytes: &[u8]) -> bool {
+    match bytes_of_number(alloc, input) {
+        Ok(found) => found == bytes,
+        Err(_) => false,
+    }
+}
+
 #[test]
-fn bytes_outlive_their_reading(rt: HostRuntime) -> Result<(), Fail> {
+fn bytes_outlive_their_reading(rt: HostRuntime) {
     let input = [48, 4, 2, 2, 1, 44];
-    let bytes = bytes_of_number(rt.alloc(), &input)?;
-    assert_eq!(rt; bytes, [2, 2, 1, 44].as_slice());
-    Ok(())
+    assert!(rt; has_bytes_of_number(rt.alloc(), &input, &[2, 2, 1, 44]));
 }

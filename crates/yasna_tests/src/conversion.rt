@@ -1,9 +1,8 @@
 //! Elements by hand, as X.690 spells them: what is written for them, where the first doubt is, and where broken ones are refused.
 
+use crate::checks::{finds_none, holds};
 use std::alloc::{AllocError, Global};
-use std::process::Abort;
-use std::test::Fail;
-use yasna::ASN1ErrorKind;
+use yasna::{ASN1ErrorKind, ASN1Result};
 use yasna_conversion::conversion::convert;
 use yasna_conversion::doubt::Doubt;
 use yasna_conversion::fault::Fault;
@@ -61,12 +60,19 @@ fn gives(alloc: Global, input: &[u8], output: &[u8]) -> bool {
     }
 }
 
+// The first elements for which this isn't so, or for those in DER.
+fn first_other_row(alloc: Global) -> Option<&'static [u8]> {
+    for (input, output) in &ROWS {
+        if !gives(alloc, input, output) || !gives(alloc, output, output) {
+            return Some(*input);
+        }
+    }
+    None
+}
+
 #[test]
 fn rows(rt: HostRuntime) {
-    for (input, output) in &ROWS {
-        assert!(rt; gives(rt.alloc(), input, output), "{input:?}");
-        assert!(rt; gives(rt.alloc(), output, output), "{output:?}");
-    }
+    finds_none(&rt, first_other_row(rt.alloc()));
 }
 
 // Elements in BER, the same in DER, and the first doubts about a string in segments and about an order.
@@ -116,14 +122,19 @@ fn gives_in_doubt(
     }
 }
 
+// The first elements for which this isn't so.
+fn first_other_doubt(alloc: Global) -> Option<&'static [u8]> {
+    for (input, output, segments, order) in &DOUBTS {
+        if !gives_in_doubt(alloc, input, output, *segments, *order) {
+            return Some(*input);
+        }
+    }
+    None
+}
+
 #[test]
 fn doubts(rt: HostRuntime) {
-    for (input, output, segments, order) in &DOUBTS {
-        assert!(rt;
-            gives_in_doubt(rt.alloc(), input, output, *segments, *order),
-            "{input:?}"
-        );
-    }
+    finds_none(&rt, first_other_doubt(rt.alloc()));
 }
 
 // Broken inputs, where they are so, and how.
@@ -162,11 +173,19 @@ fn refuses(alloc: Global, input: &[u8], offset: usize, kind: ASN1ErrorKind) -> b
     }
 }
 
+// The first bytes that aren't.
+fn first_other_fault(alloc: Global) -> Option<&'static [u8]> {
+    for (input, offset, kind) in &BROKEN {
+        if !refuses(alloc, input, *offset, *kind) {
+            return Some(*input);
+        }
+    }
+    None
+}
+
 #[test]
 fn broken(rt: HostRuntime) {
-    for (input, offset, kind) in &BROKEN {
-        assert!(rt; refuses(rt.alloc(), input, *offset, *kind), "{input:?}");
-    }
+    finds_none(&rt, first_other_fault(rt.alloc()));
 }
 
 // So many sequences within each other.
@@ -181,14 +200,20 @@ fn nested(alloc: Global, depth: usize) -> Result<Vec<u8>, AllocError> {
     Ok(bytes)
 }
 
+fn is_deep_taken(alloc: Global) -> ASN1Result<bool> {
+    let deep = nested(alloc, 101)?;
+    Ok(convert(alloc, &deep).is_ok())
+}
+
+fn is_deeper_refused(alloc: Global) -> ASN1Result<bool> {
+    let too_deep = nested(alloc, 102)?;
+    Ok(refuses(alloc, &too_deep, 202, ASN1ErrorKind::StackOverflow))
+}
+
 #[test]
-fn depth(rt: HostRuntime) -> Result<(), Fail> {
-    let deep = nested(rt.alloc(), 101)?;
-    assert!(rt; convert(rt.alloc(), &deep).is_ok());
-    let too_deep = nested(rt.alloc(), 102)?;
-    let kind = ASN1ErrorKind::StackOverflow;
-    assert!(rt; refuses(rt.alloc(), &too_deep, 202, kind));
-    Ok(())
+fn depth(rt: HostRuntime) {
+    assert!(rt; holds(is_deep_taken(rt.alloc())));
+    assert!(rt; holds(is_deeper_refused(rt.alloc())));
 }
 
 // A header, and so many zeros.
@@ -201,12 +226,17 @@ fn zeros(alloc: Global, size: u8, header: &[u8]) -> Result<Vec<u8>, AllocError> 
     Ok(bytes)
 }
 
+// Whether so many zeros behind one header are written behind the other.
+fn is_header_of(alloc: Global, size: u8, input: &[u8], output: &[u8]) -> ASN1Result<bool> {
+    let bytes = zeros(alloc, size, input)?;
+    let form = zeros(alloc, size, output)?;
+    Ok(gives(alloc, &bytes, &form))
+}
+
 #[test]
-fn long_lengths(rt: HostRuntime) -> Result<(), Fail> {
-    let alloc = rt.alloc();
-    let short = zeros(alloc, 127, &[4, 136, 0, 0, 0, 0, 0, 0, 0, 127])?;
-    assert!(rt; gives(alloc, &short, &zeros(alloc, 127, &[4, 127])?));
-    let long = zeros(alloc, 128, &[4, 136, 0, 0, 0, 0, 0, 0, 0, 128])?;
-    assert!(rt; gives(alloc, &long, &zeros(alloc, 128, &[4, 129, 128])?));
-    Ok(())
+fn long_lengths(rt: HostRuntime) {
+    let short = [4, 136, 0, 0, 0, 0, 0, 0, 0, 127];
+    assert!(rt; holds(is_header_of(rt.alloc(), 127, &short, &[4, 127])));
+    let long = [4, 136, 0, 0, 0, 0, 0, 0, 0, 128];
+    assert!(rt; holds(is_header_of(rt.alloc(), 128, &long, &[4, 129, 128])));
 }

@@ -2,9 +2,8 @@
 
 mod ends;
 
+use crate::checks::{all_hold, finds_none};
 use std::alloc::{AllocError, Global};
-use std::process::Abort;
-use std::test::Fail;
 use yasna_engine::ends::Counted;
 use yasna_engine::tool::tool;
 
@@ -151,6 +150,11 @@ impl Answer {
             && self.output.as_slice() == wanted.output
             && self.errors.as_slice() == wanted.errors.as_bytes()
     }
+
+    // Whether it is the usage, and nothing was read.
+    fn is_usage(&self) -> bool {
+        self.is(&OTHERWISE) && self.unread == TEN_TRUE.output.len()
+    }
 }
 
 fn told(alloc: Global, words: &[&str], input: &[u8]) -> Result<Answer, AllocError> {
@@ -173,33 +177,33 @@ fn told(alloc: Global, words: &[&str], input: &[u8]) -> Result<Answer, AllocErro
     })
 }
 
-fn judge(
-    rt: &(impl AllocGlobal + Abort),
-    words: &[&str],
-    input: &[u8],
-    wanted: &Wanted,
-) -> Result<(), Fail> {
-    let told = told(rt.alloc(), words, input)?;
-    assert!(rt; told.is(wanted), "{words:?} on {input:?}");
-    Ok(())
+// Whether the program answers so to the names of a mode and a kind.
+fn answers(alloc: Global, mode: &str, kind: &str, input: &[u8], wanted: &Wanted) -> bool {
+    match told(alloc, &[mode, kind], input) {
+        Ok(told) => told.is(wanted),
+        Err(_) => false,
+    }
 }
 
-fn judge_row(
-    rt: &(impl AllocGlobal + Abort),
-    input: &[u8],
-    [ber, der, cer]: [Outcome; 3],
-) -> Result<(), Fail> {
-    judge(rt, &["ber", "pair"], input, &ber.wanted())?;
-    judge(rt, &["der", "pair"], input, &der.wanted())?;
-    judge(rt, &["cer", "pair"], input, &cer.wanted())
+fn is_row(alloc: Global, input: &[u8], [ber, der, cer]: [Outcome; 3]) -> bool {
+    answers(alloc, "ber", "pair", input, &ber.wanted())
+        && answers(alloc, "der", "pair", input, &der.wanted())
+        && answers(alloc, "cer", "pair", input, &cer.wanted())
+}
+
+// The first bytes that give something else.
+fn first_other_row(alloc: Global) -> Option<&'static [u8]> {
+    for (input, outcomes) in &ROWS {
+        if !is_row(alloc, input, *outcomes) {
+            return Some(*input);
+        }
+    }
+    None
 }
 
 #[test]
-fn rows(rt: HostRuntime) -> Result<(), Fail> {
-    for (input, outcomes) in &ROWS {
-        judge_row(&rt, input, *outcomes)?;
-    }
-    Ok(())
+fn rows(rt: HostRuntime) {
+    finds_none(&rt, first_other_row(rt.alloc()));
 }
 
 const HELLO: Wanted = Wanted {
@@ -251,75 +255,89 @@ const KINDS: [(&str, Wanted); 10] = [
     ("ints", INTS),
 ];
 
-fn judge_kind(rt: &(impl AllocGlobal + Abort), kind: &str, wanted: &Wanted) -> Result<(), Fail> {
-    judge(rt, &["der", kind], wanted.output, wanted)?;
-    judge(rt, &["ber", kind], &[10, 1, 0], &INVALID)
-}
-
-/// Each kind reads its own form, and no ENUMERATED.
-#[test]
-fn kinds(rt: HostRuntime) -> Result<(), Fail> {
-    for (kind, wanted) in &KINDS {
-        judge_kind(&rt, kind, wanted)?;
-    }
-    Ok(())
-}
-
-fn judge_canonical(
-    rt: &(impl AllocGlobal + Abort),
-    kind: &str,
-    wanted: &Wanted,
-) -> Result<(), Fail> {
+// Elements with parts have a length in DER, and none in CER.
+fn is_canonical(alloc: Global, kind: &str, wanted: &Wanted) -> bool {
     let has_parts = wanted.output.first() == Some(&48);
     let answer = if has_parts { &INVALID } else { wanted };
-    judge(rt, &["cer", kind], wanted.output, answer)
+    answers(alloc, "cer", kind, wanted.output, answer)
 }
 
-/// In CER each kind reads its own form where that has no parts, and elements with parts have no length.
-#[test]
-fn canonical(rt: HostRuntime) -> Result<(), Fail> {
+fn is_kind(alloc: Global, kind: &str, wanted: &Wanted) -> bool {
+    answers(alloc, "der", kind, wanted.output, wanted)
+        && answers(alloc, "ber", kind, &[10, 1, 0], &INVALID)
+        && is_canonical(alloc, kind, wanted)
+}
+
+// The first kind for which this isn't so.
+fn first_other_kind(alloc: Global) -> Option<&'static str> {
     for (kind, wanted) in &KINDS {
-        judge_canonical(&rt, kind, wanted)?;
+        if !is_kind(alloc, kind, wanted) {
+            return Some(*kind);
+        }
     }
-    Ok(())
+    None
+}
+
+/// Each kind reads its own form, and no ENUMERATED, and in CER its form where that has no parts.
+#[test]
+fn kinds(rt: HostRuntime) {
+    finds_none(&rt, first_other_kind(rt.alloc()));
+}
+
+fn are_pieces(alloc: Global) -> [bool; 5] {
+    let octets = [36, 128, 4, 2, 72, 101, 4, 4, 108, 108, 111, 33, 0, 0];
+    let text = [44, 6, 4, 1, 195, 4, 1, 169];
+    [
+        answers(alloc, "ber", "octets", &octets, &HELLO),
+        answers(alloc, "der", "octets", &octets, &INVALID),
+        answers(alloc, "cer", "octets", &octets, &INVALID),
+        answers(alloc, "ber", "text", &text, &ACCENT),
+        answers(alloc, "der", "text", &text, &INVALID),
+    ]
 }
 
 /// Strings in pieces, one cut inside a character, are read in BER alone.
 #[test]
-fn pieces(rt: HostRuntime) -> Result<(), Fail> {
-    let octets = [36, 128, 4, 2, 72, 101, 4, 4, 108, 108, 111, 33, 0, 0];
-    judge(&rt, &["ber", "octets"], &octets, &HELLO)?;
-    judge(&rt, &["der", "octets"], &octets, &INVALID)?;
-    judge(&rt, &["cer", "octets"], &octets, &INVALID)?;
-    let text = [44, 6, 4, 1, 195, 4, 1, 169];
-    judge(&rt, &["ber", "text"], &text, &ACCENT)?;
-    judge(&rt, &["der", "text"], &text, &INVALID)
+fn pieces(rt: HostRuntime) {
+    all_hold(&rt, &are_pieces(rt.alloc()));
 }
 
-/// Texts that aren't canonical, the second of them in pieces, are read in BER alone.
-#[test]
-fn times(rt: HostRuntime) -> Result<(), Fail> {
+fn are_times(alloc: Global) -> [bool; 5] {
     let utc = [
         23, 15, 56, 50, 48, 49, 48, 50, 48, 55, 48, 48, 45, 48, 53, 48, 48,
     ];
-    judge(&rt, &["ber", "utime"], &utc, &NOON)?;
-    judge(&rt, &["der", "utime"], &utc, &INVALID)?;
-    judge(&rt, &["cer", "utime"], &utc, &INVALID)?;
     let general = [
         56, 128, 4, 8, 49, 57, 56, 53, 49, 49, 48, 54, 4, 9, 50, 49, 46, 49, 52, 49, 53, 57, 90, 0,
         0,
     ];
-    judge(&rt, &["ber", "gtime"], &general, &EVENING)?;
-    judge(&rt, &["der", "gtime"], &general, &INVALID)
+    [
+        answers(alloc, "ber", "utime", &utc, &NOON),
+        answers(alloc, "der", "utime", &utc, &INVALID),
+        answers(alloc, "cer", "utime", &utc, &INVALID),
+        answers(alloc, "ber", "gtime", &general, &EVENING),
+        answers(alloc, "der", "gtime", &general, &INVALID),
+    ]
+}
+
+/// Texts that aren't canonical, the second of them in pieces, are read in BER alone.
+#[test]
+fn times(rt: HostRuntime) {
+    all_hold(&rt, &are_times(rt.alloc()));
+}
+
+fn are_lists(alloc: Global) -> [bool; 3] {
+    let list = [48, 128, 2, 1, 10, 2, 2, 255, 127, 0, 0];
+    [
+        answers(alloc, "ber", "ints", &list, &INTS),
+        answers(alloc, "cer", "ints", &list, &INTS),
+        answers(alloc, "der", "ints", &list, &INVALID),
+    ]
 }
 
 /// A list of indefinite length is not read in DER.
 #[test]
-fn lists(rt: HostRuntime) -> Result<(), Fail> {
-    let list = [48, 128, 2, 1, 10, 2, 2, 255, 127, 0, 0];
-    judge(&rt, &["ber", "ints"], &list, &INTS)?;
-    judge(&rt, &["cer", "ints"], &list, &INTS)?;
-    judge(&rt, &["der", "ints"], &list, &INVALID)
+fn lists(rt: HostRuntime) {
+    all_hold(&rt, &are_lists(rt.alloc()));
 }
 
 const OTHER_WORDS: [&[&str]; 6] = [
@@ -338,16 +356,24 @@ const OTHERWISE: Wanted = Wanted {
     errors: USAGE,
 };
 
-/// Whether the usage is told, and nothing was read.
-fn is_usage(alloc: Global, words: &[&str]) -> Result<bool, AllocError> {
-    let told = told(alloc, words, TEN_TRUE.output)?;
-    Ok(told.is(&OTHERWISE) && told.unread == TEN_TRUE.output.len())
+fn tells_usage(alloc: Global, words: &[&str]) -> bool {
+    match told(alloc, words, TEN_TRUE.output) {
+        Ok(told) => told.is_usage(),
+        Err(_) => false,
+    }
+}
+
+// The first words of which something else is told.
+fn first_taken_words(alloc: Global) -> Option<&'static [&'static str]> {
+    for words in &OTHER_WORDS {
+        if !tells_usage(alloc, words) {
+            return Some(*words);
+        }
+    }
+    None
 }
 
 #[test]
-fn other_words(rt: HostRuntime) -> Result<(), Fail> {
-    for words in &OTHER_WORDS {
-        assert!(rt; is_usage(rt.alloc(), words)?, "{words:?}");
-    }
-    Ok(())
+fn other_words(rt: HostRuntime) {
+    finds_none(&rt, first_taken_words(rt.alloc()));
 }

@@ -1,9 +1,8 @@
 //! Types that keep an element of any type as it came: DER reads them from one form alone.
 ghost use Rattle.std.specs.Prelude.{◌≡◌, ℕ, IfOk};
 
-use crate::checks::{gives, refuses};
+use crate::checks::{all_hold, gives, refuses};
 use std::alloc::Global;
-use std::test::Fail;
 use yasna::models::TaggedDerValue;
 use yasna::{
     ASN1ErrorKind, ASN1Result, DERExact, decode_der, encode_cer, encode_der, one_der_form,
@@ -18,30 +17,47 @@ fn written_again<T: DERExact>(alloc: Global, bytes: &[u8]) -> ASN1Result<Vec<u8>
     encode_der(alloc, &value)
 }
 
-#[test]
-fn elements_come_back(rt: HostRuntime) {
-    let alloc = rt.alloc();
+fn come_back(alloc: Global) -> [bool; 2] {
     let elements = [48, 9, 2, 1, 7, 160, 4, 12, 2, 195, 169];
-    assert!(rt;
+    let other = [48, 4, 2, 129, 1, 7];
+    [
         gives(
             written_again::<Vec<TaggedDerValue>>(alloc, &elements),
-            &elements
-        )
-    );
-    assert!(rt;
+            &elements,
+        ),
         refuses(
-            written_again::<Vec<TaggedDerValue>>(alloc, &[48, 4, 2, 129, 1, 7]),
-            ASN1ErrorKind::Invalid
-        )
-    );
+            written_again::<Vec<TaggedDerValue>>(alloc, &other),
+            ASN1ErrorKind::Invalid,
+        ),
+    ]
 }
 
 #[test]
-fn elements_are_written_as_they_came(rt: HostRuntime) -> Result<(), Fail> {
-    let alloc = rt.alloc();
-    let element: TaggedDerValue = decode_der(alloc, &[160, 3, 2, 1, 7])?;
-    assert!(rt; gives(encode_der(alloc, &element), &[160, 3, 2, 1, 7]));
-    let number: TaggedDerValue = decode_der(alloc, &[2, 1, 7])?;
-    assert!(rt; gives(encode_cer(alloc, &number), &[2, 1, 7]));
-    Ok(())
+fn elements_come_back(rt: HostRuntime) {
+    all_hold(&rt, &come_back(rt.alloc()));
+}
+
+// The form of the element in these bytes.
+fn der_form(alloc: Global, bytes: &[u8]) -> ASN1Result<Vec<u8>> {
+    let element: TaggedDerValue = decode_der(alloc, bytes)?;
+    encode_der(alloc, &element)
+}
+
+fn cer_form(alloc: Global, bytes: &[u8]) -> ASN1Result<Vec<u8>> {
+    let element: TaggedDerValue = decode_der(alloc, bytes)?;
+    encode_cer(alloc, &element)
+}
+
+fn are_written_as_they_came(alloc: Global) -> [bool; 2] {
+    let tagged = [160, 3, 2, 1, 7];
+    let number = [2, 1, 7];
+    [
+        gives(der_form(alloc, &tagged), &tagged),
+        gives(cer_form(alloc, &number), &number),
+    ]
+}
+
+#[test]
+fn elements_are_written_as_they_came(rt: HostRuntime) {
+    all_hold(&rt, &are_written_as_they_came(rt.alloc()));
 }

@@ -1,8 +1,8 @@
 //! The pieces of README.md and docs/GUIDE.md, each once on bytes.
 
-use crate::checks::{gives, refuses};
+use crate::checks::{all_hold, gives, holds, refuses};
 use std::alloc::Global;
-use yasna::{ASN1Error, ASN1ErrorKind, ASN1Result, construct_der, parse_ber, parse_der};
+use yasna::{ASN1Error, ASN1ErrorKind, ASN1Result, DERWriter, construct_der, parse_ber, parse_der};
 use yasna_examples::{read_directory_string, read_ldap_string, reencoded, write_directory_string};
 use yasna_guide::alternatives::{Id, read_id};
 use yasna_guide::any::{read_algorithm, write_algorithm};
@@ -39,10 +39,16 @@ fn is_report(alloc: Global, form: &[u8]) -> bool {
     }
 }
 
+fn are_reports(alloc: Global) -> [bool; 2] {
+    [
+        is_report(alloc, &[48, 6, 48, 4, 2, 2, 255, 127]),
+        is_report(alloc, &[48, 7, 48, 0, 160, 3, 2, 1, 90]),
+    ]
+}
+
 #[test]
 fn reports(rt: HostRuntime) {
-    assert!(rt; is_report(rt.alloc(), &[48, 6, 48, 4, 2, 2, 255, 127]));
-    assert!(rt; is_report(rt.alloc(), &[48, 7, 48, 0, 160, 3, 2, 1, 90]));
+    all_hold(&rt, &are_reports(rt.alloc()));
 }
 
 // Whether the point is read.
@@ -53,19 +59,20 @@ fn is_point(read: ASN1Result<Point>, x: i64, y: i64) -> bool {
     }
 }
 
+fn are_points(alloc: Global) -> [bool; 4] {
+    let form = [48, 7, 2, 1, 10, 2, 2, 255, 127];
+    let indefinite = [48, 128, 2, 1, 10, 2, 2, 255, 127, 0, 0];
+    [
+        gives(point_to_der(alloc, Point { x: 10, y: -129 }), &form),
+        is_point(point_from_der(alloc, &form), 10, -129),
+        is_point(point_from_ber(alloc, &indefinite), 10, -129),
+        refuses(point_from_der(alloc, &indefinite), ASN1ErrorKind::Invalid),
+    ]
+}
+
 #[test]
 fn points(rt: HostRuntime) {
-    let form = [48, 7, 2, 1, 10, 2, 2, 255, 127];
-    assert!(rt; gives(point_to_der(rt.alloc(), Point { x: 10, y: -129 }), &form));
-    assert!(rt; is_point(point_from_der(rt.alloc(), &form), 10, -129));
-    let indefinite = [48, 128, 2, 1, 10, 2, 2, 255, 127, 0, 0];
-    assert!(rt; is_point(point_from_ber(rt.alloc(), &indefinite), 10, -129));
-    assert!(rt;
-        refuses(
-            point_from_der(rt.alloc(), &indefinite),
-            ASN1ErrorKind::Invalid
-        )
-    );
+    all_hold(&rt, &are_points(rt.alloc()));
 }
 
 // Whether the table is one row of this name and this flag.
@@ -83,24 +90,24 @@ fn reads_row(alloc: Global, form: &[u8], name: &str, flag: bool) -> bool {
     }
 }
 
-#[test]
-fn values_as_a_whole(rt: HostRuntime) {
-    let form = [48, 128, 48, 6, 12, 1, 97, 1, 1, 1, 0, 0];
-    assert!(rt; reads_row(rt.alloc(), &form, "a", true));
+fn are_wholes(alloc: Global) -> [bool; 4] {
+    let indefinite = [48, 128, 48, 6, 12, 1, 97, 1, 1, 1, 0, 0];
+    let form = [48, 6, 12, 1, 97, 1, 1, 255];
+    let other = [48, 6, 12, 1, 97, 1, 1, 1];
+    [
+        reads_row(alloc, &indefinite, "a", true),
+        gives(write_flag(alloc, "a", true), &form),
+        gives(reencoded::<(String, bool)>(alloc, &form), &form),
+        refuses(
+            reencoded::<(String, bool)>(alloc, &other),
+            ASN1ErrorKind::Invalid,
+        ),
+    ]
 }
 
 #[test]
-fn values_come_back(rt: HostRuntime) {
-    let form = [48, 6, 12, 1, 97, 1, 1, 255];
-    assert!(rt; gives(write_flag(rt.alloc(), "a", true), &form));
-    assert!(rt; gives(reencoded::<(String, bool)>(rt.alloc(), &form), &form));
-    let other = [48, 6, 12, 1, 97, 1, 1, 1];
-    assert!(rt;
-        refuses(
-            reencoded::<(String, bool)>(rt.alloc(), &other),
-            ASN1ErrorKind::Invalid
-        )
-    );
+fn values_as_a_whole(rt: HostRuntime) {
+    all_hold(&rt, &are_wholes(rt.alloc()));
 }
 
 fn form_of_person(alloc: Global, person: &Person) -> ASN1Result<Vec<u8>> {
@@ -115,18 +122,19 @@ fn has_age(alloc: Global, form: &[u8], age: Option<u16>) -> bool {
     }
 }
 
-#[test]
-fn options(rt: HostRuntime) {
-    assert!(rt; has_age(rt.alloc(), &[48, 6, 12, 1, 97, 2, 1, 10], Some(10)));
-    assert!(rt; has_age(rt.alloc(), &[48, 3, 12, 1, 97], None));
+fn are_persons(alloc: Global) -> [bool; 3] {
     // an age that is there and broken isn't taken for none
     let broken = [48, 6, 12, 1, 97, 2, 1];
-    assert!(rt;
-        refuses(
-            parse_der(rt.alloc(), &broken, read_person),
-            ASN1ErrorKind::Eof
-        )
-    );
+    [
+        has_age(alloc, &[48, 6, 12, 1, 97, 2, 1, 10], Some(10)),
+        has_age(alloc, &[48, 3, 12, 1, 97], None),
+        refuses(parse_der(alloc, &broken, read_person), ASN1ErrorKind::Eof),
+    ]
+}
+
+#[test]
+fn options(rt: HostRuntime) {
+    all_hold(&rt, &are_persons(rt.alloc()));
 }
 
 fn form_of_constraints(alloc: Global, read: BasicConstraints) -> ASN1Result<Vec<u8>> {
@@ -148,32 +156,30 @@ fn has_constraints(
     )
 }
 
-#[test]
-fn defaults(rt: HostRuntime) {
-    let alloc = rt.alloc();
-    assert_eq!(rt; has_constraints(alloc, &[48, 0], false, None), Ok(true));
-    assert_eq!(rt;
-        has_constraints(alloc, &[48, 6, 1, 1, 255, 2, 1, 3], true, Some(3)),
-        Ok(true)
-    );
-}
-
 // Whether BER reads an authority's.
 fn is_authority(alloc: Global, bytes: &[u8]) -> ASN1Result<bool> {
     let read = parse_ber(alloc, bytes, read_constraints)?;
     Ok(read.is_authority)
 }
 
-#[test]
-fn defaults_that_stand_there(rt: HostRuntime) {
+fn are_defaults(alloc: Global) -> [bool; 4] {
+    let authority = [48, 6, 1, 1, 255, 2, 1, 3];
     let said = [48, 3, 1, 1, 0];
-    assert_eq!(rt; is_authority(rt.alloc(), &said), Ok(false));
-    assert!(rt;
+    [
+        holds(has_constraints(alloc, &[48, 0], false, None)),
+        holds(has_constraints(alloc, &authority, true, Some(3))),
+        is_authority(alloc, &said) == Ok(false),
         refuses(
-            parse_der(rt.alloc(), &said, read_constraints),
-            ASN1ErrorKind::Invalid
-        )
-    );
+            parse_der(alloc, &said, read_constraints),
+            ASN1ErrorKind::Invalid,
+        ),
+    ]
+}
+
+// In BER they may stand there.
+#[test]
+fn defaults(rt: HostRuntime) {
+    all_hold(&rt, &are_defaults(rt.alloc()));
 }
 
 fn form_of_name(alloc: Global, name: &Name) -> ASN1Result<Vec<u8>> {
@@ -188,26 +194,26 @@ fn is_name(alloc: Global, form: &[u8]) -> bool {
     }
 }
 
-#[test]
-fn choices(rt: HostRuntime) {
-    assert!(rt; is_name(rt.alloc(), &[129, 3, 97, 64, 98]));
-    assert!(rt; is_name(rt.alloc(), &[130, 3, 97, 46, 98]));
-    assert!(rt; is_name(rt.alloc(), &[135, 4, 127, 0, 0, 1]));
-}
-
 fn form_of_mail(alloc: Global, text: &str) -> ASN1Result<Vec<u8>> {
     form_of_name(alloc, &Name::Mail(text.to_string(alloc)?))
 }
 
-#[test]
-fn other_choices(rt: HostRuntime) {
-    assert!(rt;
+fn are_choices(alloc: Global) -> [bool; 5] {
+    [
+        is_name(alloc, &[129, 3, 97, 64, 98]),
+        is_name(alloc, &[130, 3, 97, 46, 98]),
+        is_name(alloc, &[135, 4, 127, 0, 0, 1]),
         refuses(
-            parse_der(rt.alloc(), &[136, 1, 42], read_name),
-            ASN1ErrorKind::Invalid
-        )
-    );
-    assert!(rt; refuses(form_of_mail(rt.alloc(), "é"), ASN1ErrorKind::Invalid));
+            parse_der(alloc, &[136, 1, 42], read_name),
+            ASN1ErrorKind::Invalid,
+        ),
+        refuses(form_of_mail(alloc, "é"), ASN1ErrorKind::Invalid),
+    ]
+}
+
+#[test]
+fn choices(rt: HostRuntime) {
+    all_hold(&rt, &are_choices(rt.alloc()));
 }
 
 fn form_of_encrypted(alloc: Global, data: &EncryptedData) -> ASN1Result<Vec<u8>> {
@@ -224,14 +230,6 @@ fn is_encrypted(alloc: Global, form: &[u8]) -> bool {
         }
         Err(_) => false,
     }
-}
-
-#[test]
-fn explicit_tags(rt: HostRuntime) {
-    let form = [48, 10, 160, 3, 2, 1, 18, 162, 3, 4, 1, 7];
-    assert!(rt; is_encrypted(rt.alloc(), &form));
-    let with_version = [48, 15, 160, 3, 2, 1, 18, 161, 3, 2, 1, 5, 162, 3, 4, 1, 7];
-    assert!(rt; is_encrypted(rt.alloc(), &with_version));
 }
 
 fn form_of_accuracy(alloc: Global, accuracy: Accuracy) -> ASN1Result<Vec<u8>> {
@@ -253,15 +251,22 @@ fn has_accuracy(
     )
 }
 
-#[test]
-fn implicit_tags(rt: HostRuntime) {
-    let alloc = rt.alloc();
-    assert_eq!(rt;
-        has_accuracy(alloc, &[48, 3, 2, 1, 60], Some(60), None),
-        Ok(true)
-    );
+fn are_tagged(alloc: Global) -> [bool; 4] {
+    let encrypted = [48, 10, 160, 3, 2, 1, 18, 162, 3, 4, 1, 7];
+    let with_version = [48, 15, 160, 3, 2, 1, 18, 161, 3, 2, 1, 5, 162, 3, 4, 1, 7];
     let micros = [48, 7, 128, 1, 1, 129, 2, 1, 244];
-    assert_eq!(rt; has_accuracy(alloc, &micros, None, Some(500)), Ok(true));
+    [
+        is_encrypted(alloc, &encrypted),
+        is_encrypted(alloc, &with_version),
+        holds(has_accuracy(alloc, &[48, 3, 2, 1, 60], Some(60), None)),
+        holds(has_accuracy(alloc, &micros, None, Some(500))),
+    ]
+}
+
+// Explicit tags, and implicit ones.
+#[test]
+fn tags(rt: HostRuntime) {
+    all_hold(&rt, &are_tagged(rt.alloc()));
 }
 
 fn form_of_names(alloc: Global, names: &[String]) -> ASN1Result<Vec<u8>> {
@@ -274,13 +279,6 @@ fn are_names(alloc: Global, form: &[u8]) -> bool {
         Ok(names) => names.len() == 2 && gives(form_of_names(alloc, &names), form),
         Err(_) => false,
     }
-}
-
-#[test]
-fn lists(rt: HostRuntime) {
-    assert!(rt; are_names(rt.alloc(), &[48, 7, 12, 1, 97, 12, 2, 98, 99]));
-    let numbers = [48, 9, 2, 1, 255, 2, 1, 7, 2, 1, 3];
-    assert_eq!(rt; parse_der(rt.alloc(), &numbers, highest), Ok(Some(7)));
 }
 
 fn der_setting(alloc: Global, bytes: &[u8]) -> ASN1Result<Setting> {
@@ -312,13 +310,6 @@ fn is_noted_ten(alloc: Global, bytes: &[u8], form: &[u8]) -> bool {
     }
 }
 
-#[test]
-fn sets(rt: HostRuntime) {
-    let bytes = [49, 9, 12, 1, 97, 1, 1, 0, 2, 1, 10];
-    let form = [49, 9, 1, 1, 0, 2, 1, 10, 12, 1, 97];
-    assert!(rt; is_noted_ten(rt.alloc(), &bytes, &form));
-}
-
 // Whether it is enabled, and has no note.
 fn is_plain(alloc: Global, bytes: &[u8]) -> bool {
     match der_setting(alloc, bytes) {
@@ -327,11 +318,20 @@ fn is_plain(alloc: Global, bytes: &[u8]) -> bool {
     }
 }
 
-#[test]
-fn defaults_in_sets(rt: HostRuntime) {
-    assert!(rt; is_plain(rt.alloc(), &[49, 3, 2, 1, 10]));
+fn are_settings(alloc: Global) -> [bool; 3] {
+    let bytes = [49, 9, 12, 1, 97, 1, 1, 0, 2, 1, 10];
+    let form = [49, 9, 1, 1, 0, 2, 1, 10, 12, 1, 97];
     let said = [49, 6, 1, 1, 255, 2, 1, 10];
-    assert!(rt; refuses(der_setting(rt.alloc(), &said), ASN1ErrorKind::Invalid));
+    [
+        is_noted_ten(alloc, &bytes, &form),
+        is_plain(alloc, &[49, 3, 2, 1, 10]),
+        refuses(der_setting(alloc, &said), ASN1ErrorKind::Invalid),
+    ]
+}
+
+#[test]
+fn sets(rt: HostRuntime) {
+    all_hold(&rt, &are_settings(rt.alloc()));
 }
 
 // The form of the values that these bytes hold.
@@ -345,16 +345,21 @@ fn unsorted(alloc: Global, bytes: &[u8]) -> ASN1Result<Vec<u8>> {
     construct_der(alloc, |writer| write_values_as_they_stand(&values, writer))
 }
 
-#[test]
-fn sets_of_values(rt: HostRuntime) {
+fn are_lists(alloc: Global) -> [bool; 4] {
+    let numbers = [48, 9, 2, 1, 255, 2, 1, 7, 2, 1, 3];
     let falling = [49, 7, 4, 2, 97, 97, 4, 1, 98];
-    assert!(rt;
-        gives(
-            sorted(rt.alloc(), &falling),
-            &[49, 7, 4, 1, 98, 4, 2, 97, 97]
-        )
-    );
-    assert!(rt; gives(unsorted(rt.alloc(), &falling), &falling));
+    [
+        are_names(alloc, &[48, 7, 12, 1, 97, 12, 2, 98, 99]),
+        parse_der(alloc, &numbers, highest) == Ok(Some(7)),
+        gives(sorted(alloc, &falling), &[49, 7, 4, 1, 98, 4, 2, 97, 97]),
+        gives(unsorted(alloc, &falling), &falling),
+    ]
+}
+
+// Those in a SEQUENCE OF, and those in a SET OF.
+#[test]
+fn lists(rt: HostRuntime) {
+    all_hold(&rt, &are_lists(rt.alloc()));
 }
 
 // The form of the algorithm that is read from these bytes.
@@ -375,14 +380,20 @@ fn is_signed_ten(alloc: Global, bytes: &[u8]) -> bool {
     }
 }
 
+fn are_raw(alloc: Global) -> [bool; 3] {
+    let plain = [48, 5, 6, 3, 43, 101, 112];
+    let rsa = [48, 13, 6, 9, 42, 134, 72, 134, 247, 13, 1, 1, 1, 5, 0];
+    let signed = [48, 9, 48, 3, 2, 1, 10, 3, 2, 0, 7];
+    [
+        gives(form_of_algorithm(alloc, &plain), &plain),
+        gives(form_of_algorithm(alloc, &rsa), &rsa),
+        is_signed_ten(alloc, &signed),
+    ]
+}
+
 #[test]
 fn raw_elements(rt: HostRuntime) {
-    let plain = [48, 5, 6, 3, 43, 101, 112];
-    assert!(rt; gives(form_of_algorithm(rt.alloc(), &plain), &plain));
-    let rsa = [48, 13, 6, 9, 42, 134, 72, 134, 247, 13, 1, 1, 1, 5, 0];
-    assert!(rt; gives(form_of_algorithm(rt.alloc(), &rsa), &rsa));
-    let signed = [48, 9, 48, 3, 2, 1, 10, 3, 2, 0, 7];
-    assert!(rt; is_signed_ten(rt.alloc(), &signed));
+    all_hold(&rt, &are_raw(rt.alloc()));
 }
 
 // The form of the text that is read from these bytes.
@@ -398,13 +409,19 @@ fn is_ldap_string(alloc: Global, bytes: &[u8], text: &str) -> bool {
     }
 }
 
+fn are_strings(alloc: Global) -> [bool; 3] {
+    let printable = [19, 2, 97, 98];
+    let other = [12, 2, 195, 169];
+    [
+        gives(form_of_string(alloc, &printable), &printable),
+        gives(form_of_string(alloc, &other), &other),
+        is_ldap_string(alloc, &[4, 2, 195, 169], "é"),
+    ]
+}
+
 #[test]
 fn strings(rt: HostRuntime) {
-    let printable = [19, 2, 97, 98];
-    assert!(rt; gives(form_of_string(rt.alloc(), &printable), &printable));
-    let other = [12, 2, 195, 169];
-    assert!(rt; gives(form_of_string(rt.alloc(), &other), &other));
-    assert!(rt; is_ldap_string(rt.alloc(), &[4, 2, 195, 169], "é"));
+    all_hold(&rt, &are_strings(rt.alloc()));
 }
 
 fn form_of_time(alloc: Global, text: &str) -> ASN1Result<Vec<u8>> {
@@ -438,11 +455,17 @@ fn is_no_time(alloc: Global, text: &str) -> ASN1Result<bool> {
     Ok(time.is_none())
 }
 
+fn are_times(alloc: Global) -> [bool; 3] {
+    [
+        holds(is_time(alloc, "820102120000Z", 23)),
+        holds(is_time(alloc, "19820102120000.5Z", 24)),
+        holds(is_no_time(alloc, "820132120000Z")),
+    ]
+}
+
 #[test]
 fn times(rt: HostRuntime) {
-    assert_eq!(rt; is_time(rt.alloc(), "820102120000Z", 23), Ok(true));
-    assert_eq!(rt; is_time(rt.alloc(), "19820102120000.5Z", 24), Ok(true));
-    assert_eq!(rt; is_no_time(rt.alloc(), "820132120000Z"), Ok(true));
+    all_hold(&rt, &are_times(rt.alloc()));
 }
 
 fn form_of_status(alloc: Global, status: Status) -> ASN1Result<Vec<u8>> {
@@ -453,17 +476,6 @@ fn form_of_status(alloc: Global, status: Status) -> ASN1Result<Vec<u8>> {
 fn is_malformed(alloc: Global, form: &[u8]) -> ASN1Result<bool> {
     let status = parse_der(alloc, form, read_status)?;
     Ok(matches!(status, Status::Malformed) && gives(form_of_status(alloc, status), form))
-}
-
-#[test]
-fn statuses(rt: HostRuntime) {
-    assert_eq!(rt; is_malformed(rt.alloc(), &[10, 1, 1]), Ok(true));
-    assert!(rt;
-        refuses(
-            parse_der(rt.alloc(), &[10, 1, 2], read_status),
-            ASN1ErrorKind::Invalid
-        )
-    );
 }
 
 fn form_of_key(alloc: Global, key: &RsaPublicKey) -> ASN1Result<Vec<u8>> {
@@ -482,65 +494,118 @@ fn is_key(alloc: Global, form: &[u8], modulus: &[u8], exponent: u64) -> bool {
     }
 }
 
+fn write_signature_of_two(writer: DERWriter<'_>) -> ASN1Result<()> {
+    write_signature(&[7, 9], writer)
+}
+
+fn are_numbers(alloc: Global) -> [bool; 4] {
+    let key = [48, 9, 2, 2, 0, 255, 2, 3, 1, 0, 1];
+    [
+        holds(is_malformed(alloc, &[10, 1, 1])),
+        refuses(
+            parse_der(alloc, &[10, 1, 2], read_status),
+            ASN1ErrorKind::Invalid,
+        ),
+        is_key(alloc, &key, &[0, 255], 65537),
+        gives(
+            construct_der(alloc, write_signature_of_two),
+            &[3, 3, 0, 7, 9],
+        ),
+    ]
+}
+
+// One of an ENUMERATED, those of a key, and the bits of a signature.
 #[test]
 fn numbers(rt: HostRuntime) {
-    let form = [48, 9, 2, 2, 0, 255, 2, 3, 1, 0, 1];
-    assert!(rt; is_key(rt.alloc(), &form, &[0, 255], 65537));
+    all_hold(&rt, &are_numbers(rt.alloc()));
 }
 
-#[test]
-fn signatures(rt: HostRuntime) {
-    let written = construct_der(rt.alloc(), |writer| write_signature(&[7, 9], writer));
-    assert!(rt; gives(written, &[3, 3, 0, 7, 9]));
+fn are_reasons(alloc: Global) -> [bool; 4] {
+    let cut = ASN1Error::new(ASN1ErrorKind::Eof);
+    [
+        reason(cut) == "an element is cut off or missing",
+        number_or_zero(alloc, &[48, 3, 2, 1, 7]) == Ok(7),
+        number_or_zero(alloc, &[48, 0]) == Ok(0),
+        refuses(
+            number_or_zero(alloc, &[48, 4, 2, 2, 0, 7]),
+            ASN1ErrorKind::Invalid,
+        ),
+    ]
 }
 
-// These bytes hold a number, or none that is taken for zero.
+// Bytes hold a number, or none that is taken for zero.
 #[test]
 fn errors(rt: HostRuntime) {
-    let cut = ASN1Error::new(ASN1ErrorKind::Eof);
-    assert_eq!(rt; reason(cut), "an element is cut off or missing");
-    assert_eq!(rt; number_or_zero(rt.alloc(), &[48, 3, 2, 1, 7]), Ok(7));
-    assert_eq!(rt; number_or_zero(rt.alloc(), &[48, 0]), Ok(0));
-    let invalid = ASN1Error::new(ASN1ErrorKind::Invalid);
-    assert_eq!(rt;
-        number_or_zero(rt.alloc(), &[48, 4, 2, 2, 0, 7]),
-        Err(invalid)
-    );
+    all_hold(&rt, &are_reasons(rt.alloc()));
 }
 
 fn der_id(alloc: Global, bytes: &[u8]) -> ASN1Result<Id> {
     parse_der(alloc, bytes, read_id)
 }
 
+fn is_number(read: ASN1Result<Id>, number: i64) -> bool {
+    match read {
+        Ok(Id::Number(found)) => found == number,
+        _ => false,
+    }
+}
+
+fn has_name(read: ASN1Result<Id>) -> bool {
+    matches!(read, Ok(Id::Name(_)))
+}
+
+fn are_alternatives(alloc: Global) -> [bool; 3] {
+    [
+        is_number(der_id(alloc, &[2, 1, 7]), 7),
+        has_name(der_id(alloc, &[12, 1, 97])),
+        refuses(der_id(alloc, &[2, 2, 0, 7]), ASN1ErrorKind::Invalid),
+    ]
+}
+
 #[test]
 fn alternatives(rt: HostRuntime) {
-    let alloc = rt.alloc();
-    assert!(rt; matches!(der_id(alloc, &[2, 1, 7]), Ok(Id::Number(7))));
-    assert!(rt; matches!(der_id(alloc, &[12, 1, 97]), Ok(Id::Name(_))));
-    assert!(rt; refuses(der_id(alloc, &[2, 2, 0, 7]), ASN1ErrorKind::Invalid));
+    all_hold(&rt, &are_alternatives(rt.alloc()));
 }
 
 const STORE: [i64; 2] = [5, 6];
 
-#[test]
-fn writing_closures_have_errors_of_their_own(rt: HostRuntime) {
-    let written = entries_to_der(rt.alloc(), &STORE, &[1]);
-    assert_eq!(rt;
-        written.ok().as_ref().map(|bytes| bytes.as_slice()),
-        Some([48, 3, 2, 1, 6].as_slice())
-    );
-    let refused = entries_to_der(rt.alloc(), &STORE, &[2]);
-    assert!(rt; matches!(refused, Err(StoreError::NoSuchEntry)));
+// Whether the entries of these places are written in this form.
+fn are_written(alloc: Global, places: &[usize], form: &[u8]) -> bool {
+    match entries_to_der(alloc, &STORE, places) {
+        Ok(written) => written.as_slice() == form,
+        Err(_) => false,
+    }
 }
 
+fn is_entry(read: Result<i64, StoreError>, entry: i64) -> bool {
+    match read {
+        Ok(found) => found == entry,
+        Err(_) => false,
+    }
+}
+
+fn has_no_entry<T: Drop>(answer: Result<T, StoreError>) -> bool {
+    matches!(answer, Err(StoreError::NoSuchEntry))
+}
+
+fn is_no_encoding(read: Result<i64, StoreError>) -> bool {
+    matches!(read, Err(StoreError::Encoding(_)))
+}
+
+fn have_own_errors(alloc: Global) -> [bool; 5] {
+    [
+        are_written(alloc, &[1], &[48, 3, 2, 1, 6]),
+        has_no_entry(entries_to_der(alloc, &STORE, &[2])),
+        is_entry(entry_of_der(alloc, &STORE, &[2, 1, 1]), 6),
+        has_no_entry(entry_of_der(alloc, &STORE, &[2, 1, 2])),
+        is_no_encoding(entry_of_der(alloc, &STORE, &[2, 1, 1, 0])),
+    ]
+}
+
+// Of a writing closure, and of a reading one.
 #[test]
-fn reading_closures_have_errors_of_their_own(rt: HostRuntime) {
-    let alloc = rt.alloc();
-    assert!(rt; matches!(entry_of_der(alloc, &STORE, &[2, 1, 1]), Ok(6)));
-    let refused = entry_of_der(alloc, &STORE, &[2, 1, 2]);
-    assert!(rt; matches!(refused, Err(StoreError::NoSuchEntry)));
-    let refused = entry_of_der(alloc, &STORE, &[2, 1, 1, 0]);
-    assert!(rt; matches!(refused, Err(StoreError::Encoding(_))));
+fn closures_have_errors_of_their_own(rt: HostRuntime) {
+    all_hold(&rt, &have_own_errors(rt.alloc()));
 }
 
 // Whether this is said of where the bytes are broken.
@@ -558,11 +623,8 @@ fn is_located(alloc: Global, broken: &[u8], said: &str) -> ASN1Result<bool> {
 fn failures_are_located(rt: HostRuntime) {
     let broken = [48, 8, 48, 6, 2, 1, 1, 2, 2, 0];
     let said = "ASN1Error { kind: Eof } at offset 7, depth 2";
-    assert_eq!(rt; is_located(rt.alloc(), &broken, said), Ok(true));
+    assert!(rt; holds(is_located(rt.alloc(), &broken, said)));
 }
-
-// An extension that isn't critical may say so in BER.
-const SAYS_FALSE: [u8; 14] = [48, 12, 6, 3, 85, 29, 19, 1, 1, 0, 4, 2, 48, 0];
 
 // Whether BER reads one of this value, critical or not.
 fn is_extension(alloc: Global, bytes: &[u8], critical: bool, value: &[u8]) -> bool {
@@ -574,20 +636,22 @@ fn is_extension(alloc: Global, bytes: &[u8], critical: bool, value: &[u8]) -> bo
     }
 }
 
-#[test]
-fn extensions(rt: HostRuntime) {
+fn are_extensions(alloc: Global) -> [bool; 4] {
     let form = [48, 12, 6, 3, 85, 29, 19, 1, 1, 255, 4, 2, 48, 0];
-    assert!(rt; gives(rewritten_extension(rt.alloc(), &form), &form));
-    assert!(rt; is_extension(rt.alloc(), &form, true, &[48, 0]));
+    // one that isn't critical may say so in BER
+    let says_false = [48, 12, 6, 3, 85, 29, 19, 1, 1, 0, 4, 2, 48, 0];
+    [
+        gives(rewritten_extension(alloc, &form), &form),
+        is_extension(alloc, &form, true, &[48, 0]),
+        is_extension(alloc, &says_false, false, &[48, 0]),
+        refuses(
+            rewritten_extension(alloc, &says_false),
+            ASN1ErrorKind::Invalid,
+        ),
+    ]
 }
 
 #[test]
-fn extensions_leave_false_out(rt: HostRuntime) {
-    assert!(rt; is_extension(rt.alloc(), &SAYS_FALSE, false, &[48, 0]));
-    assert!(rt;
-        refuses(
-            rewritten_extension(rt.alloc(), &SAYS_FALSE),
-            ASN1ErrorKind::Invalid
-        )
-    );
+fn extensions(rt: HostRuntime) {
+    all_hold(&rt, &are_extensions(rt.alloc()));
 }

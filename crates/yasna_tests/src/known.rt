@@ -1,50 +1,53 @@
 //! Calls whose closures are known, and a list of a CHOICE.
 
-use crate::checks::{gives, refuses};
+use crate::checks::{all_hold, gives, holds, refuses};
 use std::alloc::Global;
 use yasna::{ASN1ErrorKind, ASN1Result, construct_der};
 use yasna_examples::{
     constructed_integer, parsed_integer, parsed_items, parsed_numbers, parsed_pair, third_number,
 };
 
-#[test]
-fn integers(rt: HostRuntime) {
-    let alloc = rt.alloc();
+fn are_values(alloc: Global) -> [bool; 5] {
     let form = [2, 2, 255, 127];
-    assert!(rt; gives(constructed_integer(alloc, -129), &form));
-    assert_eq!(rt; parsed_integer(alloc, &form), Ok(-129));
-    assert!(rt; refuses(parsed_integer(alloc, &[10, 1, 13]), ASN1ErrorKind::Invalid));
-}
-
-#[test]
-fn pairs(rt: HostRuntime) {
-    let alloc = rt.alloc();
-    let form = [48, 6, 2, 1, 10, 1, 1, 255];
-    assert_eq!(rt; parsed_pair(alloc, &form), Ok((10, true)));
-    assert!(rt;
+    let pair = [48, 6, 2, 1, 10, 1, 1, 255];
+    [
+        gives(constructed_integer(alloc, -129), &form),
+        parsed_integer(alloc, &form) == Ok(-129),
+        refuses(parsed_integer(alloc, &[10, 1, 13]), ASN1ErrorKind::Invalid),
+        parsed_pair(alloc, &pair) == Ok((10, true)),
         refuses(
             parsed_pair(alloc, &[48, 6, 2, 1, 10, 1, 1, 1]),
-            ASN1ErrorKind::Invalid
-        )
-    );
+            ASN1ErrorKind::Invalid,
+        ),
+    ]
 }
 
 #[test]
-fn numbers(rt: HostRuntime) {
-    let alloc = rt.alloc();
-    assert!(rt;
-        gives(
-            parsed_numbers(alloc, &[48, 7, 2, 1, 10, 2, 2, 255, 127]),
-            &[10, -129]
-        )
-    );
-    assert!(rt; gives(parsed_numbers(alloc, &[48, 0]), &[]));
-    assert!(rt;
+fn integers_and_pairs(rt: HostRuntime) {
+    all_hold(&rt, &are_values(rt.alloc()));
+}
+
+fn are_lists(alloc: Global) -> [bool; 5] {
+    let numbers = [48, 7, 2, 1, 10, 2, 2, 255, 127];
+    let number_and_null = [48, 5, 2, 1, 10, 5, 0];
+    [
+        gives(parsed_numbers(alloc, &numbers), &[10, -129]),
+        gives(parsed_numbers(alloc, &[48, 0]), &[]),
         refuses(
-            parsed_numbers(alloc, &[48, 5, 2, 1, 10, 5, 0]),
-            ASN1ErrorKind::Extra
-        )
-    );
+            parsed_numbers(alloc, &number_and_null),
+            ASN1ErrorKind::Extra,
+        ),
+        gives(parsed_items(alloc, &number_and_null), &[Some(10), None]),
+        refuses(
+            parsed_items(alloc, &[48, 3, 1, 1, 255]),
+            ASN1ErrorKind::Extra,
+        ),
+    ]
+}
+
+#[test]
+fn numbers_and_items(rt: HostRuntime) {
+    all_hold(&rt, &are_lists(rt.alloc()));
 }
 
 // 0, 1 and so on to 99,999.
@@ -67,35 +70,23 @@ fn many_are_read(alloc: Global) -> ASN1Result<bool> {
 
 #[test]
 fn many_numbers(rt: HostRuntime) {
-    assert_eq!(rt; many_are_read(rt.alloc()), Ok(true));
+    assert!(rt; holds(many_are_read(rt.alloc())));
 }
 
-#[test]
-fn items(rt: HostRuntime) {
-    let alloc = rt.alloc();
-    assert!(rt;
-        gives(
-            parsed_items(alloc, &[48, 5, 2, 1, 10, 5, 0]),
-            &[Some(10), None]
-        )
-    );
-    assert!(rt;
-        refuses(
-            parsed_items(alloc, &[48, 3, 1, 1, 255]),
-            ASN1ErrorKind::Extra
-        )
-    );
+fn are_thirds(alloc: Global) -> [bool; 3] {
+    let form = [48, 9, 2, 1, 10, 2, 1, 11, 2, 1, 12];
+    // the first has nine bytes
+    let long = [48, 17, 2, 9, 1, 0, 0, 0, 0, 0, 0, 0, 0, 2, 1, 11, 2, 1, 12];
+    // the second is a BOOLEAN, and so is what the third is read from
+    let other = [48, 9, 2, 1, 10, 1, 1, 255, 2, 1, 12];
+    [
+        third_number(alloc, &form) == Ok(12),
+        refuses(third_number(alloc, &long), ASN1ErrorKind::IntegerOverflow),
+        refuses(third_number(alloc, &other), ASN1ErrorKind::Invalid),
+    ]
 }
 
 #[test]
 fn third_of_three(rt: HostRuntime) {
-    let alloc = rt.alloc();
-    let form = [48, 9, 2, 1, 10, 2, 1, 11, 2, 1, 12];
-    assert_eq!(rt; third_number(alloc, &form), Ok(12));
-    // the first has nine bytes
-    let long = [48, 17, 2, 9, 1, 0, 0, 0, 0, 0, 0, 0, 0, 2, 1, 11, 2, 1, 12];
-    assert!(rt; refuses(third_number(alloc, &long), ASN1ErrorKind::IntegerOverflow));
-    // the second is a BOOLEAN, and so is what the third is read from
-    let other = [48, 9, 2, 1, 10, 1, 1, 255, 2, 1, 12];
-    assert!(rt; refuses(third_number(alloc, &other), ASN1ErrorKind::Invalid));
+    all_hold(&rt, &are_thirds(rt.alloc()));
 }

@@ -6,8 +6,8 @@
 //! |---|---|
 //! | `algorithm`, `public_key` | keys and their algorithms, as types of one's own and by closures |
 //! | `buffer` | the bytes that a read took |
-//! | `at_end` | where contents end, and errors of reading closures |
-//! | `checks` | none: it holds what many of them check |
+//! | `at_end` | where contents end, and errors of reading callbacks |
+//! | `checks` | none: it holds what many of them check, and how they fail |
 //! | `conversion` | elements in BER turned into DER |
 //! | `engine` | the program `yasna_tool` over memory, and over ends that fail |
 //! | `composed` | lists, tuples, raw elements and borrowed values |
@@ -18,7 +18,7 @@
 //! | `located` | where a parse failed |
 //! | `oid` | object identifiers |
 //! | `records`, `scrypt`, `third_party` | types of one's own |
-//! | `sets` | sets, read and written by closures |
+//! | `sets` | sets, read and written by callbacks |
 //! | `set_writing` | the order of a SET's parts, and broken ones |
 //! | `times` | both times |
 //! | `tree` | a type that refers to itself, and elements as deep as they may nest |

@@ -1,5 +1,6 @@
 //! The lines of `yasna_lines`, remarks and refusals. The offsets, depths, lengths and tags of the key are those that `openssl asn1parse -i` prints of it.
 
+use crate::checks::{finds_none, holds};
 use std::alloc::{AllocError, Global};
 use yasna::{ASN1Result, BERMode};
 use yasna_lines::{Form, show};
@@ -34,10 +35,14 @@ const KEY_LINES: &str = "input: PEM \"PUBLIC KEY\", 91 bytes
 rules: BER, DER
 ";
 
+// Whether the input was taken whole, and this was written of it.
+fn has_lines(told: &Told, lines: &str) -> bool {
+    told.fault.is_none() && told.output.as_slice() == lines.as_bytes()
+}
+
 // Whether the input is taken whole, and this is written of it.
 fn is_told(alloc: Global, mode: BERMode, input: &str, lines: &str) -> bool {
-    let told = shown(alloc, mode, None, input.as_bytes());
-    told.fault.is_none() && told.output.as_slice() == lines.as_bytes()
+    has_lines(&shown(alloc, mode, None, input.as_bytes()), lines)
 }
 
 #[test]
@@ -136,19 +141,29 @@ fn has_line(output: &str, line: &str, rules: &str) -> bool {
     first.strip_prefix("0  ") == Some(line) && second.strip_prefix("rules: ") == Some(rules)
 }
 
+// What was written, which is text.
+fn text_of(told: &Told) -> &str {
+    std::str::from_utf8(told.output.as_slice()).unwrap_or("")
+}
+
 fn is_line_of(alloc: Global, input: &str, line: &str, rules: &str) -> bool {
     let told = shown(alloc, BERMode::Ber, None, input.as_bytes());
-    match std::str::from_utf8(told.output.as_slice()) {
-        Ok(output) => has_line(output, line, rules),
-        Err(_) => false,
+    has_line(text_of(&told), line, rules)
+}
+
+// The first input of which another line is printed, or other rules.
+fn first_other_line(alloc: Global) -> Option<&'static str> {
+    for (input, line, rules) in &LINES {
+        if !is_line_of(alloc, input, line, rules) {
+            return Some(*input);
+        }
     }
+    None
 }
 
 #[test]
 fn lines(rt: HostRuntime) {
-    for (input, line, rules) in &LINES {
-        assert!(rt; is_line_of(rt.alloc(), input, line, rules), "{input}");
-    }
+    finds_none(&rt, first_other_line(rt.alloc()));
 }
 
 // An element of indefinite length around a SET OF out of order, a string in segments, and a string that holds an element.
@@ -241,15 +256,19 @@ fn is_broken(alloc: Global, mode: BERMode, input: &str, said: &str) -> ASN1Resul
     }
 }
 
+// The first input of which something else is said.
+fn first_other_fault(alloc: Global) -> Option<&'static str> {
+    for (mode, input, said) in &BROKEN {
+        if !holds(is_broken(alloc, *mode, input, said)) {
+            return Some(*input);
+        }
+    }
+    None
+}
+
 #[test]
 fn broken(rt: HostRuntime) {
-    for (mode, input, said) in &BROKEN {
-        assert_eq!(rt;
-            is_broken(rt.alloc(), *mode, input, said),
-            Ok(true),
-            "{input}"
-        );
-    }
+    finds_none(&rt, first_other_fault(rt.alloc()));
 }
 
 // Hexadecimal input of a hundred elements that begin.
@@ -288,9 +307,9 @@ fn is_said_of_one_more(alloc: Global, said: &str) -> ASN1Result<bool> {
 /// A hundred and one elements may nest, and no more.
 #[test]
 fn deep(rt: HostRuntime) {
-    assert_eq!(rt; is_hundred_and_one_taken(rt.alloc()), Ok(true));
+    assert!(rt; holds(is_hundred_and_one_taken(rt.alloc())));
     let said = "offset 202: StackOverflow: expected at most 101 levels of elements";
-    assert_eq!(rt; is_said_of_one_more(rt.alloc(), said), Ok(true));
+    assert!(rt; holds(is_said_of_one_more(rt.alloc(), said)));
 }
 
 // What is said first of an input whose form isn't given.
@@ -300,12 +319,13 @@ const FORMS: [(&[u8], &str); 3] = [
     (b"\x04\x14\n-----BEGIN X-----\n", "input: 21 bytes"),
 ];
 
+fn has_first_line(output: &str, first: &str) -> bool {
+    output.lines().next() == Some(first)
+}
+
 fn begins_with(alloc: Global, input: &[u8], first: &str) -> bool {
     let told = shown(alloc, BERMode::Ber, None, input);
-    match std::str::from_utf8(told.output.as_slice()) {
-        Ok(output) => output.lines().next() == Some(first),
-        Err(_) => false,
-    }
+    has_first_line(text_of(&told), first)
 }
 
 // Whether this is said of an input whose form isn't given.
@@ -316,12 +336,20 @@ fn is_said(alloc: Global, input: &str, said: &str) -> ASN1Result<bool> {
     }
 }
 
+// The first row that begins otherwise.
+fn first_other_form(alloc: Global) -> Option<&'static str> {
+    for (input, first) in &FORMS {
+        if !begins_with(alloc, input, first) {
+            return Some(*first);
+        }
+    }
+    None
+}
+
 #[test]
 fn forms(rt: HostRuntime) {
-    for (input, first) in &FORMS {
-        assert!(rt; begins_with(rt.alloc(), input, first), "{first}");
-    }
+    finds_none(&rt, first_other_form(rt.alloc()));
     let input = "text\n-----BEGIN X-----\n";
     let said = "offset 23: Eof: expected a line that ends the block of PEM";
-    assert_eq!(rt; is_said(rt.alloc(), input, said), Ok(true));
+    assert!(rt; holds(is_said(rt.alloc(), input, said)));
 }

@@ -1,12 +1,9 @@
 //! Object identifiers, each call once, and what no contract says of their texts and refusals.
 
-use crate::checks::gives;
+use crate::checks::{all_hold, finds_none, gives, holds, is_same};
 use std::alloc::Global;
 use std::cmp::Ordering;
 use std::convert::AsSlice;
-use std::hash::{BuildHasher, BuildHasherDefault, FoldHasher};
-use std::process::Abort;
-use std::test::Fail;
 use yasna::models::{ObjectIdentifier, ParseOidError};
 use yasna::{
     ASN1Error, ASN1ErrorKind, ASN1Result, construct_der, decode_ber, decode_der, encode_der,
@@ -52,19 +49,18 @@ fn written(alloc: Global, oid: &ObjectIdentifier) -> ASN1Result<Vec<u8>> {
     construct_der(alloc, |writer| writer.write_oid(oid))
 }
 
-#[test]
-fn read(rt: HostRuntime) -> Result<(), Fail> {
-    let group = ObjectIdentifier::from_slice(rt.alloc(), &GROUP)?;
-    assert_eq!(rt; is_group(rt.alloc(), &group), Ok(true));
-    Ok(())
+fn group_forms(alloc: Global) -> ASN1Result<[bool; 3]> {
+    let group = ObjectIdentifier::from_slice(alloc, &GROUP)?;
+    Ok([
+        holds(is_group(alloc, &group)),
+        gives(form_of(alloc, &group), &GROUP_FORM),
+        gives(written(alloc, &group), &GROUP_FORM),
+    ])
 }
 
 #[test]
-fn written_in_both_ways(rt: HostRuntime) -> Result<(), Fail> {
-    let group = ObjectIdentifier::from_slice(rt.alloc(), &GROUP)?;
-    assert!(rt; gives(form_of(rt.alloc(), &group), &GROUP_FORM));
-    assert!(rt; gives(written(rt.alloc(), &group), &GROUP_FORM));
-    Ok(())
+fn read_and_written_in_both_ways(rt: HostRuntime) {
+    all_hold(&rt, &group_forms(rt.alloc()).unwrap_or([false; 3]));
 }
 
 // The subidentifiers 0 to 999, but the first is 40.
@@ -91,7 +87,7 @@ fn long_one_comes_back(alloc: Global) -> ASN1Result<bool> {
 
 #[test]
 fn of_1000_subidentifiers(rt: HostRuntime) {
-    assert_eq!(rt; long_one_comes_back(rt.alloc()), Ok(true));
+    assert!(rt; holds(long_one_comes_back(rt.alloc())));
 }
 
 // Whether the text says the object identifier.
@@ -109,30 +105,43 @@ fn is_shown_as(alloc: Global, parts: &[u64], text: &str) -> ASN1Result<bool> {
     Ok(shown.as_str() == text)
 }
 
+fn are_texts(alloc: Global) -> [bool; 4] {
+    [
+        holds(is_shown_as(alloc, &GROUP, "1.2.840.113549.1.1")),
+        holds(is_shown_as(alloc, &[1, 2], "1.2")),
+        is_text_of(alloc, "1.2.840.113549.1.1", &GROUP),
+        is_text_of(alloc, "+1.02", &[1, 2]),
+    ]
+}
+
 #[test]
 fn texts(rt: HostRuntime) {
-    assert_eq!(rt;
-        is_shown_as(rt.alloc(), &GROUP, "1.2.840.113549.1.1"),
-        Ok(true)
-    );
-    assert_eq!(rt; is_shown_as(rt.alloc(), &[1, 2], "1.2"), Ok(true));
-    assert!(rt; is_text_of(rt.alloc(), "1.2.840.113549.1.1", &GROUP));
-    assert!(rt; is_text_of(rt.alloc(), "+1.02", &[1, 2]));
+    all_hold(&rt, &are_texts(rt.alloc()));
+}
+
+const BROKEN_TEXTS: [&str; 7] = [
+    "",
+    "1.2.",
+    "1.2.840.113549.1.1.",
+    "1.2.840.113549.1.1x",
+    "1..2",
+    "-1",
+    "18446744073709551616",
+];
+
+// The first one that isn't refused.
+fn first_taken_text(alloc: Global) -> Option<&'static str> {
+    for text in &BROKEN_TEXTS {
+        if !holds(is_refused(alloc, text)) {
+            return Some(*text);
+        }
+    }
+    None
 }
 
 #[test]
 fn broken_texts(rt: HostRuntime) {
-    for text in [
-        "",
-        "1.2.",
-        "1.2.840.113549.1.1.",
-        "1.2.840.113549.1.1x",
-        "1..2",
-        "-1",
-        "18446744073709551616",
-    ] {
-        assert_eq!(rt; is_refused(rt.alloc(), text), Ok(true), "{text:?}");
-    }
+    finds_none(&rt, first_taken_text(rt.alloc()));
 }
 
 // 10,000 parts, each 1.
@@ -160,7 +169,7 @@ fn ones_come_back(alloc: Global) -> ASN1Result<bool> {
 
 #[test]
 fn long_text(rt: HostRuntime) {
-    assert_eq!(rt; ones_come_back(rt.alloc()), Ok(true));
+    assert!(rt; holds(ones_come_back(rt.alloc())));
 }
 
 // The components 2 and 5, and then 4.
@@ -179,35 +188,34 @@ fn has_components(alloc: Global, parts: &[u64]) -> ASN1Result<bool> {
 
 #[test]
 fn components(rt: HostRuntime) {
-    assert_eq!(rt; has_components(rt.alloc(), &[2, 5, 4]), Ok(true));
+    assert!(rt; holds(has_components(rt.alloc(), &[2, 5, 4])));
 }
 
 // One stands before the other.
-fn is_before(rt: &impl Abort, one: &ObjectIdentifier, other: &ObjectIdentifier) {
-    assert!(rt; *one != *other);
-    assert_eq!(rt; one.cmp(other), Ordering::Less);
-    assert_eq!(rt; other.partial_cmp(one), Some(Ordering::Greater));
+fn is_before(one: &ObjectIdentifier, other: &ObjectIdentifier) -> bool {
+    *one != *other
+        && one.cmp(other) == Ordering::Less
+        && other.partial_cmp(one) == Some(Ordering::Greater)
+}
+
+fn is_longer_behind(alloc: Global) -> ASN1Result<bool> {
+    let short = ObjectIdentifier::from_slice(alloc, &[2, 5])?;
+    let long = ObjectIdentifier::from_slice(alloc, &[2, 5, 4])?;
+    Ok(is_before(&short, &long))
 }
 
 #[test]
-fn order(rt: HostRuntime) -> Result<(), Fail> {
-    let short = ObjectIdentifier::from_slice(rt.alloc(), &[2, 5])?;
-    let long = ObjectIdentifier::from_slice(rt.alloc(), &[2, 5, 4])?;
-    is_before(&rt, &short, &long);
-    Ok(())
+fn order(rt: HostRuntime) {
+    assert!(rt; holds(is_longer_behind(rt.alloc())));
 }
 
-// Both are one value.
-fn is_same(rt: &impl Abort, one: &ObjectIdentifier, other: &ObjectIdentifier) {
-    assert!(rt; *one == *other);
-    let hasher = BuildHasherDefault::<FoldHasher>::default();
-    assert_eq!(rt; hasher.hash_one(one), hasher.hash_one(other));
-}
-
-#[test]
-fn copied(rt: HostRuntime) -> Result<(), Fail> {
-    let oid = ObjectIdentifier::from_slice(rt.alloc(), &[2, 5, 4])?;
+fn is_copied(alloc: Global) -> ASN1Result<bool> {
+    let oid = ObjectIdentifier::from_slice(alloc, &[2, 5, 4])?;
     let copy = oid.clone()?;
-    is_same(&rt, &oid, &copy);
-    Ok(())
+    Ok(is_same(&oid, &copy))
+}
+
+#[test]
+fn copied(rt: HostRuntime) {
+    assert!(rt; holds(is_copied(rt.alloc())));
 }

@@ -1,6 +1,6 @@
 //! SubjectPublicKeyInfo with its AlgorithmIdentifier (RFC 5280, 4.1), read from and written to real bytes by closures.
 
-use crate::checks::gives;
+use crate::checks::{all_hold, gives};
 use std::alloc::Global;
 use yasna::models::{ObjectIdentifier, TaggedDerValue};
 use yasna::{ASN1Error, ASN1ErrorKind, ASN1Result, BERReader, DERWriter, construct_der, parse_der};
@@ -101,8 +101,14 @@ fn is_form(alloc: Global, form: &[u8], name: &[u64], bits: usize, has_parameters
     }
 }
 
+fn are_keys(alloc: Global) -> [bool; 2] {
+    [
+        is_form(alloc, &ED25519, &[1, 3, 101, 112], 256, false),
+        is_form(alloc, &RSA, &[1, 2, 840, 113549, 1, 1, 1], 64, true),
+    ]
+}
+
 #[test]
 fn public_keys(rt: HostRuntime) {
-    assert!(rt; is_form(rt.alloc(), &ED25519, &[1, 3, 101, 112], 256, false));
-    assert!(rt; is_form(rt.alloc(), &RSA, &[1, 2, 840, 113549, 1, 1, 1], 64, true));
+    all_hold(&rt, &are_keys(rt.alloc()));
 }

@@ -1,6 +1,6 @@
 //! Types of three, five and seven parts, each from its form and from another encoding.
 
-use crate::checks::{gives, refuses};
+use crate::checks::{all_hold, gives, refuses};
 use std::alloc::Global;
 use yasna::{ASN1ErrorKind, DERCanonical, decode_der};
 use yasna_examples::{DirectoryEntry, DomainParameters, RequestHeader, normalized};
@@ -28,20 +28,25 @@ fn are_parameters(alloc: Global, form: &[u8]) -> bool {
     }
 }
 
-#[test]
-fn domain_parameters(rt: HostRuntime) {
-    let alloc = rt.alloc();
+fn are_domain_parameters(alloc: Global) -> [bool; 3] {
     let form = [
         48, 17, 2, 9, 0, 255, 255, 255, 255, 255, 255, 255, 197, 2, 1, 11, 2, 1, 4,
     ];
     let other = [
         48, 128, 2, 9, 0, 255, 255, 255, 255, 255, 255, 255, 197, 2, 1, 11, 2, 1, 4, 0, 0,
     ];
-    assert!(rt; are_parameters(alloc, &form));
-    assert!(rt; is_form_of::<DomainParameters>(alloc, &form, &other));
     let short = [48, 6, 2, 1, 23, 2, 1, 11];
     let long = [48, 12, 2, 1, 23, 2, 1, 11, 2, 1, 4, 2, 1, 4];
-    assert!(rt; has_all_parts::<DomainParameters>(alloc, &short, &long));
+    [
+        are_parameters(alloc, &form),
+        is_form_of::<DomainParameters>(alloc, &form, &other),
+        has_all_parts::<DomainParameters>(alloc, &short, &long),
+    ]
+}
+
+#[test]
+fn domain_parameters(rt: HostRuntime) {
+    all_hold(&rt, &are_domain_parameters(rt.alloc()));
 }
 
 fn is_header(alloc: Global, form: &[u8]) -> bool {
@@ -57,22 +62,27 @@ fn is_header(alloc: Global, form: &[u8]) -> bool {
     }
 }
 
-#[test]
-fn request_headers(rt: HostRuntime) {
-    let alloc = rt.alloc();
+fn are_headers(alloc: Global) -> [bool; 3] {
     let form = [
         48, 21, 2, 1, 0, 4, 6, 112, 117, 98, 108, 105, 99, 2, 2, 2, 129, 2, 1, 2, 2, 1, 7,
     ];
-    // The community comes in two segments.
+    // the community comes in two segments
     let other = [
         48, 128, 2, 1, 0, 36, 128, 4, 2, 112, 117, 4, 4, 98, 108, 105, 99, 0, 0, 2, 2, 2, 129, 2,
         1, 2, 2, 129, 1, 7, 0, 0,
     ];
-    assert!(rt; is_header(alloc, &form));
-    assert!(rt; is_form_of::<RequestHeader>(alloc, &form, &other));
     let short = [48, 11, 2, 1, 0, 4, 0, 2, 1, 1, 2, 1, 0];
     let long = [48, 16, 2, 1, 0, 4, 0, 2, 1, 1, 2, 1, 0, 2, 1, 0, 5, 0];
-    assert!(rt; has_all_parts::<RequestHeader>(alloc, &short, &long));
+    [
+        is_header(alloc, &form),
+        is_form_of::<RequestHeader>(alloc, &form, &other),
+        has_all_parts::<RequestHeader>(alloc, &short, &long),
+    ]
+}
+
+#[test]
+fn request_headers(rt: HostRuntime) {
+    all_hold(&rt, &are_headers(rt.alloc()));
 }
 
 const ENTRY: [u8; 50] = [
@@ -110,8 +120,14 @@ fn is_entry(alloc: Global, form: &[u8]) -> bool {
     }
 }
 
+fn are_entries(alloc: Global) -> [bool; 2] {
+    [
+        is_entry(alloc, &ENTRY),
+        is_form_of::<DirectoryEntry>(alloc, &ENTRY, &OTHER_ENTRY),
+    ]
+}
+
 #[test]
 fn directory_entries(rt: HostRuntime) {
-    assert!(rt; is_entry(rt.alloc(), &ENTRY));
-    assert!(rt; is_form_of::<DirectoryEntry>(rt.alloc(), &ENTRY, &OTHER_ENTRY));
+    all_hold(&rt, &are_entries(rt.alloc()));
 }

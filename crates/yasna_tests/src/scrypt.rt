@@ -1,6 +1,6 @@
 //! The parameters of scrypt, from real bytes, with the last part and without.
 
-use crate::checks::{gives, refuses};
+use crate::checks::{all_hold, gives, refuses};
 use std::alloc::{AllocError, Global};
 use yasna::{ASN1ErrorKind, ASN1Result, decode_ber, decode_der};
 use yasna_examples::{ScryptParameters, normalized};
@@ -34,21 +34,23 @@ fn is_normalized(alloc: Global, bytes: &[u8], form: &[u8]) -> bool {
     gives(normalized::<ScryptParameters>(alloc, bytes), form)
 }
 
-#[test]
-fn with_length(rt: HostRuntime) {
-    assert!(rt; are_parameters(rt.alloc(), &WITH_LENGTH, Some(32)));
-    assert!(rt; is_normalized(rt.alloc(), &WITH_LENGTH, &WITH_LENGTH));
-}
-
-#[test]
-fn without_length(rt: HostRuntime) {
-    assert!(rt; are_parameters(rt.alloc(), &WITHOUT_LENGTH, None));
-    assert!(rt; is_normalized(rt.alloc(), &WITHOUT_LENGTH, &WITHOUT_LENGTH));
-    // Of indefinite length, with a length in two bytes.
+fn are_taken(alloc: Global) -> [bool; 5] {
+    // of indefinite length, with a length in two bytes
     let other = [
         48, 128, 4, 129, 5, 77, 111, 117, 115, 101, 2, 3, 16, 0, 0, 2, 1, 8, 2, 1, 1, 0, 0,
     ];
-    assert!(rt; is_normalized(rt.alloc(), &other, &WITHOUT_LENGTH));
+    [
+        are_parameters(alloc, &WITH_LENGTH, Some(32)),
+        is_normalized(alloc, &WITH_LENGTH, &WITH_LENGTH),
+        are_parameters(alloc, &WITHOUT_LENGTH, None),
+        is_normalized(alloc, &WITHOUT_LENGTH, &WITHOUT_LENGTH),
+        is_normalized(alloc, &other, &WITHOUT_LENGTH),
+    ]
+}
+
+#[test]
+fn with_length_and_without(rt: HostRuntime) {
+    all_hold(&rt, &are_taken(rt.alloc()));
 }
 
 // The parameters, of indefinite length, with these bytes behind the others.
@@ -64,16 +66,21 @@ fn parsed_with_tail(alloc: Global, tail: &[u8]) -> ASN1Result<ScryptParameters> 
     decode_ber(alloc, &with_tail(alloc, tail)?)
 }
 
+fn are_refused(alloc: Global) -> [bool; 4] {
+    let invalid = ASN1ErrorKind::Invalid;
+    [
+        refuses(parsed_with_tail(alloc, &[5, 0]), invalid),
+        refuses(parsed_with_tail(alloc, &[2, 0]), invalid),
+        refuses(
+            parsed_with_tail(alloc, &[2, 1, 255]),
+            ASN1ErrorKind::IntegerOverflow,
+        ),
+        refuses(parsed_with_tail(alloc, &[2, 1, 32, 2, 1, 32]), invalid),
+    ]
+}
+
 // A last part of another type is no length, and neither is one that is broken, or followed by another.
 #[test]
 fn refused_lengths(rt: HostRuntime) {
-    let tails: [(&[u8], ASN1ErrorKind); 4] = [
-        (&[5, 0], ASN1ErrorKind::Invalid),
-        (&[2, 0], ASN1ErrorKind::Invalid),
-        (&[2, 1, 255], ASN1ErrorKind::IntegerOverflow),
-        (&[2, 1, 32, 2, 1, 32], ASN1ErrorKind::Invalid),
-    ];
-    for (tail, kind) in tails {
-        assert!(rt; refuses(parsed_with_tail(rt.alloc(), tail), kind));
-    }
+    all_hold(&rt, &are_refused(rt.alloc()));
 }

@@ -1,8 +1,8 @@
-//! SET, written by closures.
+//! SET, written by callbacks.
 
-use crate::checks::{gives, refuses};
+use crate::checks::{all_hold, begins_with, gives, refuses};
 use std::alloc::Global;
-use yasna::{ASN1ErrorKind, ASN1Result, Tag, construct_der};
+use yasna::{ASN1ErrorKind, ASN1Result, DERWriter, DERWriterSeq, DERWriterSet, Tag, construct_der};
 
 // A SET of two parts, written in this order.
 fn two_parts(alloc: Global, first: &[u8], second: &[u8]) -> ASN1Result<Vec<u8>> {
@@ -14,33 +14,38 @@ fn two_parts(alloc: Global, first: &[u8], second: &[u8]) -> ASN1Result<Vec<u8>> 
     })
 }
 
+fn numbers_and_octets(parts: &mut DERWriterSet) -> ASN1Result<()> {
+    parts
+        .next()
+        .write_tagged_implicit(Tag::context(28), |part| part.write_i64(456789))?;
+    parts
+        .next()
+        .write_tagged(Tag::context(345678), |part| part.write_bytes(b"Foo"))?;
+    parts
+        .next()
+        .write_tagged(Tag::context(27), |part| part.write_i64(456790))?;
+    parts
+        .next()
+        .write_tagged(Tag::context(345677), |part| part.write_bytes(b"Bar"))
+}
+
+fn write_numbers_and_octets(writer: DERWriter<'_>) -> ASN1Result<()> {
+    writer.write_set(numbers_and_octets)
+}
+
+fn are_ordered_by_tags(alloc: Global) -> bool {
+    gives(
+        construct_der(alloc, write_numbers_and_octets),
+        &[
+            49, 32, 187, 5, 2, 3, 6, 248, 86, 156, 3, 6, 248, 85, 191, 149, 140, 77, 5, 4, 3, 66,
+            97, 114, 191, 149, 140, 78, 5, 4, 3, 70, 111, 111,
+        ],
+    )
+}
+
 #[test]
 fn by_tags(rt: HostRuntime) {
-    let written = construct_der(rt.alloc(), |writer| {
-        writer.write_set(|parts| {
-            parts
-                .next()
-                .write_tagged_implicit(Tag::context(28), |part| part.write_i64(456789))?;
-            parts
-                .next()
-                .write_tagged(Tag::context(345678), |part| part.write_bytes(b"Foo"))?;
-            parts
-                .next()
-                .write_tagged(Tag::context(27), |part| part.write_i64(456790))?;
-            parts
-                .next()
-                .write_tagged(Tag::context(345677), |part| part.write_bytes(b"Bar"))
-        })
-    });
-    assert!(rt;
-        gives(
-            written,
-            &[
-                49, 32, 187, 5, 2, 3, 6, 248, 86, 156, 3, 6, 248, 85, 191, 149, 140, 77, 5, 4, 3,
-                66, 97, 114, 191, 149, 140, 78, 5, 4, 3, 70, 111, 111,
-            ]
-        )
-    );
+    assert!(rt; are_ordered_by_tags(rt.alloc()));
 }
 
 // Whether two parts that are written in this order make this SET.
@@ -53,127 +58,129 @@ fn is_refused(alloc: Global, first: &[u8], second: &[u8]) -> bool {
     refuses(two_parts(alloc, first, second), ASN1ErrorKind::Invalid)
 }
 
-#[test]
-fn by_classes(rt: HostRuntime) {
-    let alloc = rt.alloc();
-    assert!(rt; makes(alloc, &[64, 0], &[30, 0], &[49, 4, 30, 0, 64, 0]));
-    assert!(rt; makes(alloc, &[160, 0], &[95, 31, 0], &[49, 5, 95, 31, 0, 160, 0]));
-    assert!(rt;
+fn are_ordered_by_classes(alloc: Global) -> [bool; 3] {
+    [
+        makes(alloc, &[64, 0], &[30, 0], &[49, 4, 30, 0, 64, 0]),
+        makes(alloc, &[160, 0], &[95, 31, 0], &[49, 5, 95, 31, 0, 160, 0]),
         makes(
             alloc,
             &[192, 0],
             &[191, 31, 0],
-            &[49, 5, 191, 31, 0, 192, 0]
-        )
-    );
+            &[49, 5, 191, 31, 0, 192, 0],
+        ),
+    ]
 }
 
 #[test]
-fn parts_of_one_tag(rt: HostRuntime) {
-    let alloc = rt.alloc();
-    assert!(rt;
+fn by_classes(rt: HostRuntime) {
+    all_hold(&rt, &are_ordered_by_classes(rt.alloc()));
+}
+
+// Parts of one tag stay as they are written, but by the bytes of a long one.
+fn are_of_one_tag(alloc: Global) -> [bool; 5] {
+    [
         makes(
             alloc,
             &[2, 1, 11],
             &[2, 1, 10],
-            &[49, 6, 2, 1, 11, 2, 1, 10]
-        )
-    );
-    assert!(rt; makes(alloc, &[163, 0], &[131, 0], &[49, 4, 163, 0, 131, 0]));
-}
-
-#[test]
-fn parts_of_one_long_tag(rt: HostRuntime) {
-    let alloc = rt.alloc();
-    assert!(rt;
+            &[49, 6, 2, 1, 11, 2, 1, 10],
+        ),
+        makes(alloc, &[163, 0], &[131, 0], &[49, 4, 163, 0, 131, 0]),
         makes(
             alloc,
             &[159, 31, 1, 11],
             &[159, 31, 1, 10],
-            &[49, 8, 159, 31, 1, 10, 159, 31, 1, 11]
-        )
-    );
-    assert!(rt;
+            &[49, 8, 159, 31, 1, 10, 159, 31, 1, 11],
+        ),
         makes(
             alloc,
             &[159, 31, 1, 11],
             &[191, 31, 1, 10],
-            &[49, 8, 191, 31, 1, 10, 159, 31, 1, 11]
-        )
-    );
-    assert!(rt;
+            &[49, 8, 191, 31, 1, 10, 159, 31, 1, 11],
+        ),
         makes(
             alloc,
             &[191, 31, 0],
             &[159, 31, 0],
-            &[49, 6, 191, 31, 0, 159, 31, 0]
-        )
-    );
+            &[49, 6, 191, 31, 0, 159, 31, 0],
+        ),
+    ]
+}
+
+#[test]
+fn parts_of_one_tag(rt: HostRuntime) {
+    all_hold(&rt, &are_of_one_tag(rt.alloc()));
+}
+
+fn are_refused(alloc: Global) -> [bool; 5] {
+    [
+        is_refused(alloc, &[5, 0], &[]),
+        is_refused(alloc, &[31], &[5, 0]),
+        is_refused(alloc, &[31, 30, 0], &[5, 0]),
+        is_refused(alloc, &[31, 128, 31, 0], &[5, 0]),
+        is_refused(
+            alloc,
+            &[31, 130, 128, 128, 128, 128, 128, 128, 128, 128, 0],
+            &[5, 0],
+        ),
+    ]
 }
 
 #[test]
 fn broken_parts(rt: HostRuntime) {
-    for first in [
-        [5, 0].as_slice(),
-        [31].as_slice(),
-        [31, 30, 0].as_slice(),
-        [31, 128, 31, 0].as_slice(),
-        [31, 130, 128, 128, 128, 128, 128, 128, 128, 128, 0].as_slice(),
-    ] {
-        assert!(rt;
-            is_refused(
-                rt.alloc(),
-                first,
-                if first.len() == 2 { &[] } else { &[5, 0] }
-            )
-        );
-    }
+    all_hold(&rt, &are_refused(rt.alloc()));
 }
 
-// Whether it is a SET of so many bytes.
-fn is_set(written: ASN1Result<Vec<u8>>, length: usize) -> bool {
-    match written {
-        Ok(written) => written.len() == length && written.first() == Some(&49),
-        Err(_) => false,
-    }
+fn unwritten_and_number(parts: &mut DERWriterSet) -> ASN1Result<()> {
+    parts.next();
+    parts.next().write_i64(10)
 }
 
+fn write_unwritten(writer: DERWriter<'_>) -> ASN1Result<()> {
+    writer.write_set(unwritten_and_number)
+}
+
+fn broken_part(parts: &mut DERWriterSet) -> ASN1Result<()> {
+    parts.next().write_der(&[31])
+}
+
+// It does not look at the refusals.
+fn past_broken_set(parts: &mut DERWriterSeq) -> ASN1Result<()> {
+    let _ = parts.next().write_set(broken_part);
+    let _ = parts.next().write_i64(10);
+    Ok(())
+}
+
+fn write_past_broken_set(writer: DERWriter<'_>) -> ASN1Result<()> {
+    writer.write_sequence(past_broken_set)
+}
+
+fn no_parts(_: &mut DERWriterSet) -> ASN1Result<()> {
+    Ok(())
+}
+
+fn write_empty_set(writer: DERWriter<'_>) -> ASN1Result<()> {
+    writer.write_set(no_parts)
+}
+
+fn are_sets(alloc: Global) -> [bool; 4] {
+    let largest_tag = [31, 129, 255, 255, 255, 255, 255, 255, 255, 255, 127];
+    [
+        refuses(
+            construct_der(alloc, write_unwritten),
+            ASN1ErrorKind::Invalid,
+        ),
+        refuses(
+            construct_der(alloc, write_past_broken_set),
+            ASN1ErrorKind::Invalid,
+        ),
+        gives(construct_der(alloc, write_empty_set), &[49, 0]),
+        begins_with(two_parts(alloc, &largest_tag, &[5, 0]), 15, &[49]),
+    ]
+}
+
+// One with a part that isn't written, one that is broken and kept, one of no parts, one of the largest tag.
 #[test]
-fn largest_tag(rt: HostRuntime) {
-    let tag = [31, 129, 255, 255, 255, 255, 255, 255, 255, 255, 127];
-    assert!(rt; is_set(two_parts(rt.alloc(), &tag, &[5, 0]), 15));
-}
-
-#[test]
-fn unwritten_part(rt: HostRuntime) {
-    let unwritten = construct_der(rt.alloc(), |writer| {
-        writer.write_set(|parts| {
-            parts.next();
-            parts.next().write_i64(10)
-        })
-    });
-    assert!(rt; refuses(unwritten, ASN1ErrorKind::Invalid));
-}
-
-#[test]
-fn broken_set_is_kept(rt: HostRuntime) {
-    let kept = construct_der(rt.alloc(), |writer| {
-        writer.write_sequence(|parts| {
-            let _ = parts
-                .next()
-                .write_set::<(), yasna::ASN1Error, _>(|set| set.next().write_der(&[31]));
-            parts.next().write_i64(10).map_or(Ok(()), |_| Ok(()))
-        })
-    });
-    assert!(rt; refuses(kept, ASN1ErrorKind::Invalid));
-}
-
-#[test]
-fn empty_set(rt: HostRuntime) {
-    assert!(rt;
-        gives(
-            construct_der(rt.alloc(), |writer| writer.write_set(|_| Ok(()))),
-            &[49, 0]
-        )
-    );
+fn sets(rt: HostRuntime) {
+    all_hold(&rt, &are_sets(rt.alloc()));
 }

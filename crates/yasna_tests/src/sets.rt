@@ -1,11 +1,11 @@
-//! Sets, read and written by closures.
+//! Sets, read and written by callbacks.
 
-use crate::checks::{gives, refuses};
+use crate::checks::{all_hold, gives, refuses};
 use std::alloc::Global;
 use yasna::tags::{TAG_BOOLEAN, TAG_INTEGER, TAG_NULL};
 use yasna::{
-    ASN1Error, ASN1ErrorKind, ASN1Result, BERReader, BERReaderSet, construct_der, parse_ber,
-    parse_der,
+    ASN1Error, ASN1ErrorKind, ASN1Result, BERReader, BERReaderSet, DERWriter, DERWriterSet,
+    construct_der, parse_ber, parse_der,
 };
 
 // SET OF INTEGER, of 11 and 10.
@@ -20,15 +20,86 @@ const MIXED: [u8; 8] = [49, 6, 2, 1, 10, 1, 1, 255];
 // A SET of the INTEGER 10.
 const SINGLE: [u8; 5] = [49, 3, 2, 1, 10];
 
+fn number(element: BERReader) -> ASN1Result<i64> {
+    element.read_i64()
+}
+
+fn flag(element: BERReader) -> ASN1Result<bool> {
+    element.read_bool()
+}
+
+fn past_number(element: BERReader) -> ASN1Result<()> {
+    element.read_i64()?;
+    Ok(())
+}
+
 fn numbers(reader: BERReader) -> ASN1Result<Vec<i64>> {
-    reader.collect_set_of(|item| item.read_i64())
+    reader.collect_set_of(number)
 }
 
 fn all_read(reader: BERReader) -> ASN1Result<()> {
-    reader.read_set_of(|item| {
-        item.read_i64()?;
-        Ok(())
-    })
+    reader.read_set_of(past_number)
+}
+
+fn lists_are_read(alloc: Global) -> [bool; 4] {
+    [
+        gives(parse_ber(alloc, &FALLING, numbers), &[11, 10]),
+        gives(parse_der(alloc, &ASCENDING, numbers), &[10, 11]),
+        parse_der(alloc, &ASCENDING, all_read) == Ok(()),
+        refuses(parse_der(alloc, &FALLING, all_read), ASN1ErrorKind::Invalid),
+    ]
+}
+
+#[test]
+fn lists_in_order(rt: HostRuntime) {
+    all_hold(&rt, &lists_are_read(rt.alloc()));
+}
+
+fn falling_parts(parts: &mut DERWriterSet) -> ASN1Result<()> {
+    parts.next().write_i64(11)?;
+    parts.next().write_i64(10)
+}
+
+fn write_falling(writer: DERWriter<'_>) -> ASN1Result<()> {
+    writer.write_set_of(falling_parts)
+}
+
+fn empty_part_and_number(parts: &mut DERWriterSet) -> ASN1Result<()> {
+    parts.next();
+    parts.next().write_i64(10)
+}
+
+fn write_behind_empty_part(writer: DERWriter<'_>) -> ASN1Result<()> {
+    writer.write_set_of(empty_part_and_number)
+}
+
+fn empty_part(parts: &mut DERWriterSet) -> ASN1Result<()> {
+    parts.next();
+    Ok(())
+}
+
+fn write_empty_part(writer: DERWriter<'_>) -> ASN1Result<()> {
+    writer.write_set_of(empty_part)
+}
+
+// A list is put in order, and no part of it may be empty.
+fn lists_are_written(alloc: Global) -> [bool; 3] {
+    [
+        gives(construct_der(alloc, write_falling), &ASCENDING),
+        refuses(
+            construct_der(alloc, write_behind_empty_part),
+            ASN1ErrorKind::Invalid,
+        ),
+        refuses(
+            construct_der(alloc, write_empty_part),
+            ASN1ErrorKind::Invalid,
+        ),
+    ]
+}
+
+#[test]
+fn lists_written(rt: HostRuntime) {
+    all_hold(&rt, &lists_are_written(rt.alloc()));
 }
 
 fn next_flag(set: &mut BERReaderSet) -> ASN1Result<bool> {
@@ -39,148 +110,159 @@ fn next_number(set: &mut BERReaderSet) -> ASN1Result<i64> {
     set.next(&[TAG_NULL, TAG_INTEGER])?.read_i64()
 }
 
+fn number_behind_flag(set: &mut BERReaderSet) -> ASN1Result<(i64, bool)> {
+    let flag = next_flag(set)?;
+    let number = next_number(set)?;
+    Ok((number, flag))
+}
+
 fn number_and_flag(reader: BERReader) -> ASN1Result<(i64, bool)> {
-    reader.read_set(|set| {
-        let flag = next_flag(set)?;
-        let number = next_number(set)?;
-        Ok((number, flag))
-    })
+    reader.read_set(number_behind_flag)
 }
 
-#[test]
-fn lists_in_order(rt: HostRuntime) {
-    let alloc = rt.alloc();
-    assert!(rt; gives(parse_ber(alloc, &FALLING, numbers), &[11, 10]));
-    assert!(rt; gives(parse_der(alloc, &ASCENDING, numbers), &[10, 11]));
-    assert_eq!(rt; parse_der(alloc, &ASCENDING, all_read), Ok(()));
-    assert!(rt; refuses(parse_der(alloc, &FALLING, all_read), ASN1ErrorKind::Invalid));
-}
-
-#[test]
-fn lists_written(rt: HostRuntime) {
-    let alloc = rt.alloc();
-    let written = construct_der(alloc, |writer| {
-        writer.write_set_of(|parts| {
-            parts.next().write_i64(11)?;
-            parts.next().write_i64(10)
-        })
-    });
-    assert!(rt; gives(written, &ASCENDING));
-    let empty = construct_der(alloc, |writer| {
-        writer.write_set_of(|parts| {
-            parts.next();
-            parts.next().write_i64(10)
-        })
-    });
-    assert!(rt; refuses(empty, ASN1ErrorKind::Invalid));
-}
-
-#[test]
-fn only_part_empty(rt: HostRuntime) {
-    let written = construct_der(rt.alloc(), |writer| {
-        writer.write_set_of(|parts| {
-            parts.next();
-            Ok(())
-        })
-    });
-    assert!(rt; refuses(written, ASN1ErrorKind::Invalid));
+fn elements_are_read(alloc: Global) -> [bool; 3] {
+    [
+        parse_ber(alloc, &MIXED, number_and_flag) == Ok((10, true)),
+        refuses(
+            parse_der(alloc, &MIXED, number_and_flag),
+            ASN1ErrorKind::Invalid,
+        ),
+        refuses(
+            parse_der(alloc, &SINGLE, number_and_flag),
+            ASN1ErrorKind::Invalid,
+        ),
+    ]
 }
 
 #[test]
 fn elements_by_tags(rt: HostRuntime) {
-    let alloc = rt.alloc();
-    assert_eq!(rt; parse_ber(alloc, &MIXED, number_and_flag), Ok((10, true)));
-    assert!(rt;
-        refuses(
-            parse_der(alloc, &MIXED, number_and_flag),
-            ASN1ErrorKind::Invalid
-        )
-    );
-    assert!(rt;
-        refuses(
-            parse_der(alloc, &SINGLE, number_and_flag),
-            ASN1ErrorKind::Invalid
-        )
-    );
+    all_hold(&rt, &elements_are_read(rt.alloc()));
 }
 
 // A flag that is TRUE where it is left out, and a number that may be left out.
+fn left_out(set: &mut BERReaderSet) -> ASN1Result<(bool, Option<i64>)> {
+    let number = set.read_optional(&[TAG_INTEGER], number)?;
+    let flag = set.read_default(&[TAG_BOOLEAN], true, flag)?;
+    Ok((flag, number))
+}
+
 fn flag_and_number(reader: BERReader) -> ASN1Result<(bool, Option<i64>)> {
-    reader.read_set(|set| {
-        let number = set.read_optional(&[TAG_INTEGER], |element| element.read_i64())?;
-        let flag = set.read_default(&[TAG_BOOLEAN], true, |element| element.read_bool())?;
-        Ok((flag, number))
-    })
+    reader.read_set(left_out)
 }
 
 fn der_flag_and_number(alloc: Global, bytes: &[u8]) -> ASN1Result<(bool, Option<i64>)> {
     parse_der(alloc, bytes, flag_and_number)
 }
 
+fn are_left_out(alloc: Global) -> [bool; 3] {
+    [
+        der_flag_and_number(alloc, &[49, 6, 1, 1, 0, 2, 1, 10]) == Ok((false, Some(10))),
+        der_flag_and_number(alloc, &SINGLE) == Ok((true, Some(10))),
+        der_flag_and_number(alloc, &[49, 0]) == Ok((true, None)),
+    ]
+}
+
 #[test]
 fn elements_left_out(rt: HostRuntime) {
-    let both = [49, 6, 1, 1, 0, 2, 1, 10];
-    assert_eq!(rt;
-        der_flag_and_number(rt.alloc(), &both),
-        Ok((false, Some(10)))
-    );
-    assert_eq!(rt;
-        der_flag_and_number(rt.alloc(), &SINGLE),
-        Ok((true, Some(10)))
-    );
-    assert_eq!(rt; der_flag_and_number(rt.alloc(), &[49, 0]), Ok((true, None)));
+    all_hold(&rt, &are_left_out(rt.alloc()));
+}
+
+// It does not look at the refusal of a default.
+fn past_default(set: &mut BERReaderSet) -> ASN1Result<i64> {
+    let _ = set.read_default(&[TAG_BOOLEAN], true, flag);
+    set.next(&[TAG_INTEGER])?.read_i64()
+}
+
+fn number_past_default(reader: BERReader) -> ASN1Result<i64> {
+    reader.read_set(past_default)
+}
+
+fn defaults_are_refused(alloc: Global) -> [bool; 3] {
+    let sorted = [49, 6, 1, 1, 255, 2, 1, 10];
+    [
+        parse_ber(alloc, &MIXED, flag_and_number) == Ok((true, Some(10))),
+        refuses(der_flag_and_number(alloc, &sorted), ASN1ErrorKind::Invalid),
+        refuses(
+            parse_der(alloc, &sorted, number_past_default),
+            ASN1ErrorKind::Invalid,
+        ),
+    ]
 }
 
 #[test]
 fn element_that_equals_its_default(rt: HostRuntime) {
-    let alloc = rt.alloc();
-    assert_eq!(rt;
-        parse_ber(alloc, &MIXED, flag_and_number),
-        Ok((true, Some(10)))
-    );
-    let sorted = [49, 6, 1, 1, 255, 2, 1, 10];
-    assert!(rt; refuses(der_flag_and_number(alloc, &sorted), ASN1ErrorKind::Invalid));
-    let kept = parse_der(alloc, &sorted, |reader| {
-        reader.read_set(|set| {
-            let _ = set.read_default(&[TAG_BOOLEAN], true, |element| element.read_bool());
-            set.next(&[TAG_INTEGER])?.read_i64()
-        })
-    });
-    assert!(rt; refuses(kept, ASN1ErrorKind::Invalid));
+    all_hold(&rt, &defaults_are_refused(rt.alloc()));
+}
+
+fn nothing(_: BERReader) -> ASN1Result<()> {
+    Ok(())
+}
+
+fn nothing_of_number(set: &mut BERReaderSet) -> ASN1Result<Option<()>> {
+    set.read_optional(&[TAG_INTEGER], nothing)
+}
+
+fn unread(reader: BERReader) -> ASN1Result<Option<()>> {
+    reader.read_set(nothing_of_number)
+}
+
+fn flag_of_number(set: &mut BERReaderSet) -> ASN1Result<Option<bool>> {
+    set.read_optional(&[TAG_INTEGER], flag)
+}
+
+fn another(reader: BERReader) -> ASN1Result<Option<bool>> {
+    reader.read_set(flag_of_number)
+}
+
+fn unread_elements_are_refused(alloc: Global) -> [bool; 2] {
+    [
+        refuses(parse_ber(alloc, &SINGLE, unread), ASN1ErrorKind::Extra),
+        refuses(parse_ber(alloc, &SINGLE, another), ASN1ErrorKind::Invalid),
+    ]
 }
 
 #[test]
 fn element_that_is_not_read(rt: HostRuntime) {
-    let alloc = rt.alloc();
-    let unread = parse_ber(alloc, &SINGLE, |reader| {
-        reader.read_set(|set| set.read_optional(&[TAG_INTEGER], |_| -> ASN1Result<()> { Ok(()) }))
-    });
-    assert!(rt; refuses(unread, ASN1ErrorKind::Extra));
-    let another = parse_ber(alloc, &SINGLE, |reader| {
-        reader.read_set(|set| set.read_optional(&[TAG_INTEGER], |element| element.read_bool()))
-    });
-    assert!(rt; refuses(another, ASN1ErrorKind::Invalid));
+    all_hold(&rt, &unread_elements_are_refused(rt.alloc()));
+}
+
+fn no_memory(_: BERReader) -> ASN1Result<i64> {
+    Err(ASN1Error::new(ASN1ErrorKind::OutOfMemory))
+}
+
+fn element_without_memory(set: &mut BERReaderSet) -> ASN1Result<Option<i64>> {
+    set.read_optional(&[TAG_INTEGER], no_memory)
+}
+
+fn set_without_memory(reader: BERReader) -> ASN1Result<Option<i64>> {
+    reader.read_set(element_without_memory)
+}
+
+fn past_element_without_memory(set: &mut BERReaderSet) -> ASN1Result<()> {
+    let _ = element_without_memory(set);
+    Ok(())
+}
+
+fn past_set_without_memory(reader: BERReader) -> ASN1Result<()> {
+    let _ = reader.read_set(past_element_without_memory);
+    Ok(())
+}
+
+// The lack is answered also by callbacks that do not look at it.
+fn lacks_are_answered(alloc: Global) -> [bool; 2] {
+    [
+        refuses(
+            parse_ber(alloc, &SINGLE, set_without_memory),
+            ASN1ErrorKind::OutOfMemory,
+        ),
+        refuses(
+            parse_ber(alloc, &SINGLE, past_set_without_memory),
+            ASN1ErrorKind::OutOfMemory,
+        ),
+    ]
 }
 
 #[test]
 fn element_that_lacks_memory(rt: HostRuntime) {
-    let alloc = rt.alloc();
-    let answered = parse_ber(alloc, &SINGLE, |reader| {
-        reader.read_set(|set| {
-            set.read_optional(&[TAG_INTEGER], |_| -> ASN1Result<i64> {
-                Err(ASN1Error::new(ASN1ErrorKind::OutOfMemory))
-            })
-        })
-    });
-    assert!(rt; refuses(answered, ASN1ErrorKind::OutOfMemory));
-    let kept = parse_ber(alloc, &SINGLE, |reader| {
-        let _ = reader.read_set(|set| {
-            let _ = set.read_optional(&[TAG_INTEGER], |_| -> ASN1Result<i64> {
-                Err(ASN1Error::new(ASN1ErrorKind::OutOfMemory))
-            });
-            Ok(())
-        });
-        Ok(())
-    });
-    assert!(rt; refuses(kept, ASN1ErrorKind::OutOfMemory));
+    all_hold(&rt, &lacks_are_answered(rt.alloc()));
 }

@@ -1,8 +1,7 @@
 //! Types that are read and written as a tuple or step by step, each on bytes.
 
-use crate::checks::{gives, refuses};
+use crate::checks::{all_hold, gives, refuses};
 use std::alloc::Global;
-use std::test::Fail;
 use yasna::{
     ASN1ErrorKind, ASN1Result, EncodableParts, construct_der, decode_ber, decode_cer, decode_der,
     encode_cer, encode_der,
@@ -19,13 +18,6 @@ fn is_measurement(alloc: Global, bytes: &[u8], form: &[u8]) -> bool {
     }
 }
 
-#[test]
-fn measurements(rt: HostRuntime) {
-    let bytes = [48, 128, 2, 1, 10, 1, 1, 1, 0, 0];
-    let form = [48, 6, 2, 1, 10, 1, 1, 255];
-    assert!(rt; is_measurement(rt.alloc(), &bytes, &form));
-}
-
 const VERSION: Version = Version {
     major: 300,
     flag: false,
@@ -40,23 +32,23 @@ fn is_version(read: ASN1Result<Version>) -> bool {
     }
 }
 
-#[test]
-fn versions(rt: HostRuntime) {
-    assert!(rt; gives(encode_der(rt.alloc(), &VERSION), &VERSION_FORM));
-    assert!(rt; is_version(decode_der(rt.alloc(), &VERSION_FORM)));
+fn are_versions(alloc: Global) -> [bool; 5] {
+    let cer_form = [48, 128, 2, 2, 1, 44, 1, 1, 0, 0, 0];
+    [
+        gives(encode_der(alloc, &VERSION), &VERSION_FORM),
+        is_version(decode_der(alloc, &VERSION_FORM)),
+        gives(encode_cer(alloc, &VERSION), &cer_form),
+        is_version(decode_cer(alloc, &cer_form)),
+        refuses(
+            decode_cer::<Version>(alloc, &VERSION_FORM),
+            ASN1ErrorKind::Invalid,
+        ),
+    ]
 }
 
 #[test]
-fn in_cer(rt: HostRuntime) {
-    let form = [48, 128, 2, 2, 1, 44, 1, 1, 0, 0, 0];
-    assert!(rt; gives(encode_cer(rt.alloc(), &VERSION), &form));
-    assert!(rt; is_version(decode_cer(rt.alloc(), &form)));
-    assert!(rt;
-        refuses(
-            decode_cer::<Version>(rt.alloc(), &VERSION_FORM),
-            ASN1ErrorKind::Invalid
-        )
-    );
+fn versions(rt: HostRuntime) {
+    all_hold(&rt, &are_versions(rt.alloc()));
 }
 
 const SAMPLE: Sample = Sample {
@@ -72,13 +64,24 @@ fn is_sample(read: ASN1Result<Sample>) -> bool {
     }
 }
 
-#[test]
-fn samples(rt: HostRuntime) {
+fn are_samples(alloc: Global) -> [bool; 4] {
     let form = [48, 11, 2, 2, 1, 44, 1, 1, 255, 2, 2, 255, 127];
-    assert!(rt; gives(encode_der(rt.alloc(), &SAMPLE), &form));
-    assert!(rt; is_sample(decode_der(rt.alloc(), &form)));
-    let short = [48, 6, 2, 1, 10, 1, 1, 255];
-    assert!(rt; refuses(decode_der::<Sample>(rt.alloc(), &short), ASN1ErrorKind::Eof));
+    let measurement = [48, 6, 2, 1, 10, 1, 1, 255];
+    let indefinite = [48, 128, 2, 1, 10, 1, 1, 1, 0, 0];
+    [
+        gives(encode_der(alloc, &SAMPLE), &form),
+        is_sample(decode_der(alloc, &form)),
+        refuses(
+            decode_der::<Sample>(alloc, &measurement),
+            ASN1ErrorKind::Eof,
+        ),
+        is_measurement(alloc, &indefinite, &measurement),
+    ]
+}
+
+#[test]
+fn samples_and_measurements(rt: HostRuntime) {
+    all_hold(&rt, &are_samples(rt.alloc()));
 }
 
 fn form_of_report(alloc: Global) -> ASN1Result<Vec<u8>> {
@@ -98,20 +101,21 @@ fn is_report(read: ASN1Result<Report>) -> bool {
     }
 }
 
+fn are_reports(alloc: Global) -> [bool; 4] {
+    let form = [48, 12, 12, 2, 195, 169, 4, 2, 72, 101, 2, 2, 255, 127];
+    let pieces = [48, 14, 44, 6, 4, 1, 195, 4, 1, 169, 4, 0, 2, 2, 255, 127];
+    let whole = [48, 10, 12, 2, 195, 169, 4, 0, 2, 2, 255, 127];
+    [
+        gives(form_of_report(alloc), &form),
+        is_report(decode_der(alloc, &form)),
+        gives(normalized_report(alloc, &pieces), &whole),
+        refuses(decode_der::<Report>(alloc, &pieces), ASN1ErrorKind::Invalid),
+    ]
+}
+
 #[test]
 fn reports(rt: HostRuntime) {
-    let form = [48, 12, 12, 2, 195, 169, 4, 2, 72, 101, 2, 2, 255, 127];
-    assert!(rt; gives(form_of_report(rt.alloc()), &form));
-    assert!(rt; is_report(decode_der(rt.alloc(), &form)));
-    let pieces = [48, 14, 44, 6, 4, 1, 195, 4, 1, 169, 4, 0, 2, 2, 255, 127];
-    let form = [48, 10, 12, 2, 195, 169, 4, 0, 2, 2, 255, 127];
-    assert!(rt; gives(normalized_report(rt.alloc(), &pieces), &form));
-    assert!(rt;
-        refuses(
-            decode_der::<Report>(rt.alloc(), &pieces),
-            ASN1ErrorKind::Invalid
-        )
-    );
+    all_hold(&rt, &are_reports(rt.alloc()));
 }
 
 fn form_of_trail(alloc: Global) -> ASN1Result<Vec<u8>> {
@@ -126,26 +130,34 @@ fn is_trail(read: ASN1Result<Trail>, steps: &[i64]) -> bool {
     }
 }
 
-#[test]
-fn trails(rt: HostRuntime) {
-    let form = [48, 10, 2, 1, 255, 2, 1, 2, 2, 2, 1, 44];
-    assert!(rt; gives(form_of_trail(rt.alloc()), &form));
-    assert!(rt; is_trail(decode_der(rt.alloc(), &form), &[300, 2, -1]));
+// The form of a SEQUENCE of a serial number that is left out, and TRUE.
+fn form_of_left_out(alloc: Global) -> ASN1Result<Vec<u8>> {
+    let left_out = Serial { number: None };
+    construct_der(alloc, |writer| {
+        writer.write_sequence(|parts| (&left_out, (true, ())).write_parts(parts))
+    })
+}
+
+fn form_of_given(alloc: Global) -> ASN1Result<Vec<u8>> {
+    let given = Serial { number: Some(10) };
+    construct_der(alloc, |writer| {
+        writer.write_sequence(|parts| (&given, (true, ())).write_parts(parts))
+    })
+}
+
+fn are_encoded(alloc: Global) -> [bool; 5] {
+    let trail = [48, 10, 2, 1, 255, 2, 1, 2, 2, 2, 1, 44];
+    let left_out = Serial { number: None };
+    [
+        gives(form_of_trail(alloc), &trail),
+        is_trail(decode_der(alloc, &trail), &[300, 2, -1]),
+        gives(encode_der(alloc, &left_out), &[]),
+        gives(form_of_left_out(alloc), &[48, 3, 1, 1, 255]),
+        gives(form_of_given(alloc), &[48, 6, 2, 1, 10, 1, 1, 255]),
+    ]
 }
 
 #[test]
-fn serials(rt: HostRuntime) -> Result<(), Fail> {
-    let alloc = rt.alloc();
-    let left_out = Serial { number: None };
-    assert!(rt; encode_der(alloc, &left_out)?.is_empty());
-    let bytes = construct_der(alloc, |writer| {
-        writer.write_sequence(|parts| (&left_out, (true, ())).write_parts(parts))
-    });
-    assert!(rt; gives(bytes, &[48, 3, 1, 1, 255]));
-    let given = Serial { number: Some(10) };
-    let bytes = construct_der(alloc, |writer| {
-        writer.write_sequence(|parts| (&given, (true, ())).write_parts(parts))
-    });
-    assert!(rt; gives(bytes, &[48, 6, 2, 1, 10, 1, 1, 255]));
-    Ok(())
+fn trails_and_serials(rt: HostRuntime) {
+    all_hold(&rt, &are_encoded(rt.alloc()));
 }

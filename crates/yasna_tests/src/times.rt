@@ -1,9 +1,8 @@
 //! Both times, each call once, and what no contract says of their orders, hashes and copies.
 
+use crate::checks::{all_hold, holds, is_same};
 use std::alloc::Global;
 use std::cmp::Ordering;
-use std::hash::{BuildHasher, BuildHasherDefault, FoldHasher, Hash};
-use std::test::Fail;
 use yasna::models::{DateTime, GeneralizedTime, Offset, UTCTime};
 use yasna::{ASN1Error, ASN1ErrorKind, ASN1Result};
 use yasna_examples::{
@@ -39,12 +38,6 @@ fn utc_is_shown_as(alloc: Global, time: &UTCTime, text: &str) -> ASN1Result<bool
     Ok(shown.as_str() == text && bytes.as_slice() == text.as_bytes())
 }
 
-// Whether both are one value.
-fn is_same<T: Ord + Hash>(one: &T, other: &T) -> bool {
-    let hasher = BuildHasherDefault::<FoldHasher>::default();
-    *one == *other && hasher.hash_one(one) == hasher.hash_one(other)
-}
-
 // The evening with these digits behind the nanosecond.
 fn with_digits(alloc: Global, digits: &[u8]) -> ASN1Result<Option<GeneralizedTime>> {
     let evening = general(alloc, EVENING)?;
@@ -61,20 +54,9 @@ fn is_of_digits(alloc: Global, digits: &[u8], sub_nano: &[u8], text: &str) -> AS
     }
 }
 
-// Twelve digits of a second, of which the last three stand behind the nanosecond.
-#[test]
-fn made_of_digits(rt: HostRuntime) {
-    assert_eq!(rt; is_of_digits(rt.alloc(), b"0010", b"001", DIGITS), Ok(true));
-}
-
 fn is_of_no_digits(alloc: Global, digits: &[u8]) -> ASN1Result<bool> {
     let other = with_digits(alloc, digits)?;
     Ok(other.is_none())
-}
-
-#[test]
-fn made_of_no_digits(rt: HostRuntime) {
-    assert_eq!(rt; is_of_no_digits(rt.alloc(), b"0a"), Ok(true));
 }
 
 fn is_copied(alloc: Global, text: &str) -> ASN1Result<bool> {
@@ -83,56 +65,70 @@ fn is_copied(alloc: Global, text: &str) -> ASN1Result<bool> {
     Ok(is_same(&made, &copy) && is_shown_as(alloc, &copy, text)?)
 }
 
-#[test]
-fn copied(rt: HostRuntime) {
-    assert_eq!(rt; is_copied(rt.alloc(), DIGITS), Ok(true));
-}
-
-#[test]
-fn later_by_a_picosecond(rt: HostRuntime) -> Result<(), Fail> {
-    let evening = general(rt.alloc(), EVENING)?;
-    let later = general(rt.alloc(), DIGITS.as_bytes())?;
-    assert_eq!(rt; evening.cmp(&later), Ordering::Less);
-    Ok(())
+fn date_time(date: (i16, i8, i8), time: (i8, i8, i8), nanosecond: i32) -> ASN1Result<DateTime> {
+    let (year, month, day) = date;
+    let (hour, minute, second) = time;
+    match DateTime::new(year, month, day, hour, minute, second, nanosecond) {
+        Ok(made) => Ok(made),
+        Err(_) => Err(no_time()),
+    }
 }
 
 // The evening, made of its date and time.
-fn evening_of_parts(alloc: Global) -> Result<GeneralizedTime, Fail> {
-    let local = DateTime::new(1985, 11, 6, 21, 6, 27, 300_000_000)?;
-    let time = GeneralizedTime::from_datetime_opt(alloc, local, Offset::UTC);
-    Ok(time.ok_or("a time")?)
+fn evening_of_parts(alloc: Global) -> ASN1Result<GeneralizedTime> {
+    let local = date_time((1985, 11, 6), (21, 6, 27), 300_000_000)?;
+    GeneralizedTime::from_datetime_opt(alloc, local, Offset::UTC).ok_or(no_time())
 }
 
 // Whether the evening with ten tenths of a picosecond behind the nanosecond is shown as the text.
-fn is_counted_finer(alloc: Global, text: &str) -> Result<bool, Fail> {
+fn is_counted_finer(alloc: Global, text: &str) -> ASN1Result<bool> {
     let evening = evening_of_parts(alloc)?;
     let made = with_tenths_of_a_picosecond(alloc, &evening, 10)?;
-    Ok(is_shown_as(alloc, &made, text)?)
+    is_shown_as(alloc, &made, text)
 }
 
-// They are shown as the digits 0010.
-#[test]
-fn counted_finer(rt: HostRuntime) -> Result<(), Fail> {
-    assert!(rt; is_counted_finer(rt.alloc(), DIGITS)?);
-    Ok(())
-}
-
-// Second 60 shows as 59, so 60.1 comes before 59.5.
-#[test]
-fn ordered_as_they_show(rt: HostRuntime) -> Result<(), Fail> {
-    let sixty = general(rt.alloc(), b"19981231235960.1Z")?;
-    let half = general(rt.alloc(), b"19981231235959.5Z")?;
-    assert_eq!(rt; sixty.cmp(&half), Ordering::Less);
-    assert_eq!(rt; sixty.datetime().second(), 59);
-    Ok(())
+// They are shown as the digits 0010: twelve digits of a second, of which the last three stand behind the nanosecond.
+fn are_made_of_digits(alloc: Global) -> [bool; 4] {
+    [
+        holds(is_of_digits(alloc, b"0010", b"001", DIGITS)),
+        holds(is_of_no_digits(alloc, b"0a")),
+        holds(is_copied(alloc, DIGITS)),
+        holds(is_counted_finer(alloc, DIGITS)),
+    ]
 }
 
 #[test]
-fn ordered_by_second_60(rt: HostRuntime) -> Result<(), Fail> {
-    let sixty = general(rt.alloc(), b"19981231235960.1Z")?;
-    let same = general(rt.alloc(), b"19981231235959.1Z")?;
-    assert_eq!(rt; sixty.cmp(&same), Ordering::Greater);
-    Ok(())
+fn made_of_digits(rt: HostRuntime) {
+    all_hold(&rt, &are_made_of_digits(rt.alloc()));
+}
+
+// How one time stands to the other.
+fn compared(alloc: Global, one: &[u8], other: &[u8]) -> ASN1Result<Ordering> {
+    let one = general(alloc, one)?;
+    let other = general(alloc, other)?;
+    Ok(one.cmp(&other))
+}
+
+fn second_of(alloc: Global, text: &[u8]) -> ASN1Result<i8> {
+    let time = general(alloc, text)?;
+    Ok(time.datetime().second())
+}
+
+const SIXTY: &[u8] = b"19981231235960.1Z";
+
+fn are_ordered(alloc: Global) -> [bool; 4] {
+    [
+        compared(alloc, EVENING, DIGITS.as_bytes()) == Ok(Ordering::Less),
+        compared(alloc, SIXTY, b"19981231235959.5Z") == Ok(Ordering::Less),
+        compared(alloc, SIXTY, b"19981231235959.1Z") == Ok(Ordering::Greater),
+        second_of(alloc, SIXTY) == Ok(59),
+    ]
+}
+
+// One is later by a picosecond. Second 60 shows as 59, so 60.1 comes before 59.5, but behind 59.1.
+#[test]
+fn ordered_as_they_show(rt: HostRuntime) {
+    all_hold(&rt, &are_ordered(rt.alloc()));
 }
 
 fn utc_of(local: DateTime, offset: Offset) -> ASN1Result<UTCTime> {
@@ -151,45 +147,56 @@ fn is_noon_copied() -> ASN1Result<bool> {
     Ok(is_same(&copy, &noon))
 }
 
-#[test]
-fn of_date_times(rt: HostRuntime) {
-    assert_eq!(rt; is_noon_of_parts(rt.alloc()), Ok(true));
-    assert_eq!(rt; is_noon_copied(), Ok(true));
-}
-
-fn hour_ahead() -> ASN1Result<Offset> {
-    match Offset::from_seconds(3600) {
-        Ok(ahead) => Ok(ahead),
+fn offset(seconds: i32) -> ASN1Result<Offset> {
+    match Offset::from_seconds(seconds) {
+        Ok(offset) => Ok(offset),
         Err(_) => Err(no_time()),
     }
 }
 
 fn is_earlier_ahead(alloc: Global) -> ASN1Result<bool> {
     let noon = noon()?;
-    let earlier = utc_of(*noon.datetime(), hour_ahead()?)?;
+    let earlier = utc_of(*noon.datetime(), offset(3600)?)?;
     Ok(earlier.cmp(&noon) == Ordering::Less && utc_is_shown_as(alloc, &earlier, "820102110000Z")?)
-}
-
-#[test]
-fn of_date_times_ahead(rt: HostRuntime) {
-    assert_eq!(rt; is_earlier_ahead(rt.alloc()), Ok(true));
 }
 
 // Whether noon in a zone an hour ahead is shown as the text.
 fn noon_ahead_is_shown_as(alloc: Global, text: &str) -> ASN1Result<bool> {
     let noon = noon()?;
-    match GeneralizedTime::from_datetime_opt(alloc, *noon.datetime(), hour_ahead()?) {
+    match GeneralizedTime::from_datetime_opt(alloc, *noon.datetime(), offset(3600)?) {
         Some(earlier) => is_shown_as(alloc, &earlier, text),
         None => Ok(false),
     }
 }
 
+// Whether a UTCTime without seconds is this noon.
+fn is_noon_without_seconds() -> ASN1Result<bool> {
+    let time = UTCTime::parse(b"8201021200Z").ok_or(no_time())?;
+    let noon = date_time((1982, 1, 2), (12, 0, 0), 0)?;
+    Ok(*time.datetime() == noon)
+}
+
+// Half an hour before the year 10000, an hour behind UTC.
+fn is_past_the_last_year(alloc: Global) -> ASN1Result<bool> {
+    let local = date_time((9999, 12, 31), (23, 30, 0), 0)?;
+    let time = GeneralizedTime::from_datetime_opt(alloc, local, offset(-3600)?);
+    Ok(time.is_none())
+}
+
+fn are_of_date_times(alloc: Global) -> [bool; 6] {
+    [
+        holds(is_noon_of_parts(alloc)),
+        holds(is_noon_copied()),
+        holds(is_earlier_ahead(alloc)),
+        holds(noon_ahead_is_shown_as(alloc, "19820102110000Z")),
+        holds(is_noon_without_seconds()),
+        holds(is_past_the_last_year(alloc)),
+    ]
+}
+
 #[test]
-fn of_any_date_times_ahead(rt: HostRuntime) {
-    assert_eq!(rt;
-        noon_ahead_is_shown_as(rt.alloc(), "19820102110000Z"),
-        Ok(true)
-    );
+fn of_date_times(rt: HostRuntime) {
+    all_hold(&rt, &are_of_date_times(rt.alloc()));
 }
 
 fn is_noon_remade() -> ASN1Result<bool> {
@@ -201,13 +208,6 @@ fn is_noon_remade() -> ASN1Result<bool> {
 fn noon_is_shown_as(alloc: Global, text: &str) -> ASN1Result<bool> {
     let noon = noon()?;
     is_shown_as(alloc, &as_generalized_time(alloc, &noon), text)
-}
-
-// A time that is made of the parts of another says the same.
-#[test]
-fn made_of_their_parts(rt: HostRuntime) {
-    assert_eq!(rt; is_noon_remade(), Ok(true));
-    assert_eq!(rt; noon_is_shown_as(rt.alloc(), "19820102120000Z"), Ok(true));
 }
 
 fn is_same_without_second_60(alloc: Global, text: &[u8]) -> ASN1Result<bool> {
@@ -223,46 +223,19 @@ fn is_made_without_second_60(alloc: Global, time: &[u8], text: &str) -> ASN1Resu
     is_shown_as(alloc, &other, text)
 }
 
-// But for a second 60.
-#[test]
-fn made_without_second_60(rt: HostRuntime) {
-    assert_eq!(rt;
-        is_same_without_second_60(rt.alloc(), DIGITS.as_bytes()),
-        Ok(true)
-    );
+fn are_made_of_parts(alloc: Global) -> [bool; 4] {
     let sixty = b"19981231235960.1234567891Z";
-    let text = "19981231235959.1234567891Z";
-    assert_eq!(rt;
-        is_made_without_second_60(rt.alloc(), sixty, text),
-        Ok(true)
-    );
+    let shown = "19981231235959.1234567891Z";
+    [
+        holds(is_noon_remade()),
+        holds(noon_is_shown_as(alloc, "19820102120000Z")),
+        holds(is_same_without_second_60(alloc, DIGITS.as_bytes())),
+        holds(is_made_without_second_60(alloc, sixty, shown)),
+    ]
 }
 
+// A time that is made of the parts of another says the same, but for a second 60.
 #[test]
-fn without_seconds(rt: HostRuntime) -> Result<(), Fail> {
-    let (Some(time), Ok(noon)) = (
-        UTCTime::parse(b"8201021200Z"),
-        DateTime::new(1982, 1, 2, 12, 0, 0, 0),
-    ) else {
-        assert!(rt; false, "no time");
-        return Ok(());
-    };
-    assert!(rt; *time.datetime() == noon);
-    Ok(())
-}
-
-// Half an hour before the year 10000, an hour behind UTC.
-#[test]
-fn past_the_last_year(rt: HostRuntime) -> Result<(), Fail> {
-    let alloc = rt.alloc();
-    let (Ok(local), Ok(behind)) = (
-        DateTime::new(9999, 12, 31, 23, 30, 0, 0),
-        Offset::from_seconds(-3600),
-    ) else {
-        assert!(rt; false, "no date-time");
-        return Ok(());
-    };
-    let time = GeneralizedTime::from_datetime_opt(alloc, local, behind);
-    assert!(rt; time.is_none());
-    Ok(())
+fn made_of_their_parts(rt: HostRuntime) {
+    all_hold(&rt, &are_made_of_parts(rt.alloc()));
 }

@@ -1,9 +1,7 @@
 //! Trees, and elements as deep as they may nest, by a type that refers to itself and by functions that call themselves.
 
-use crate::checks::refuses;
+use crate::checks::{all_hold, holds, refuses};
 use std::alloc::{AllocError, Global};
-use std::process::Abort;
-use std::test::Fail;
 use yasna::{
     ASN1ErrorKind, ASN1Result, BERMode, BERReaderSeq, DERWriterSeq, construct_der_seq, decode_ber,
     decode_ber_general, decode_der, parse_ber_general,
@@ -43,58 +41,72 @@ fn of_indefinite_length(alloc: Global, depth: u8) -> Result<Vec<u8>, AllocError>
     Ok(bytes)
 }
 
-// Both the type and the function read this, or answer this kind.
-fn is_read(
-    rt: &impl Abort,
-    alloc: Global,
-    bytes: &[u8],
-    mode: BERMode,
-    depth: u8,
-    kind: Option<ASN1ErrorKind>,
-) {
+// The kind of a refusal, if the answer is one.
+fn kind_of<T: Drop>(answer: ASN1Result<T>) -> Option<ASN1ErrorKind> {
+    match answer {
+        Ok(_) => None,
+        Err(error) => Some(error.kind()),
+    }
+}
+
+// What the type answers, and what the function does.
+fn kinds(alloc: Global, bytes: &[u8], mode: BERMode, depth: u8) -> [Option<ASN1ErrorKind>; 2] {
     let tree: ASN1Result<Tree> = decode_ber_general(alloc, bytes, mode);
-    assert_eq!(rt; tree.err().map(|error| error.kind()), kind);
     let read = parse_ber_general(alloc, bytes, mode, |reader| {
         reader.read_sequence(|seq| read_nested(seq, depth.saturating_sub(1)))
     });
-    assert_eq!(rt; read.err().map(|error| error.kind()), kind);
+    [kind_of(tree), kind_of(read)]
+}
+
+// Whether both answer this kind for so many SEQUENCEs in both modes of definite length, and in both of indefinite length.
+fn answer(alloc: Global, depth: u8, kind: Option<ASN1ErrorKind>) -> ASN1Result<[bool; 4]> {
+    let definite = of_definite_length(alloc, depth)?;
+    let indefinite = of_indefinite_length(alloc, depth)?;
+    let both = [kind, kind];
+    Ok([
+        kinds(alloc, &definite, BERMode::Der, depth) == both,
+        kinds(alloc, &definite, BERMode::Ber, depth) == both,
+        kinds(alloc, &indefinite, BERMode::Ber, depth) == both,
+        kinds(alloc, &indefinite, BERMode::Cer, depth) == both,
+    ])
 }
 
 #[test]
-fn deepest(rt: HostRuntime) -> Result<(), Fail> {
-    let alloc = rt.alloc();
-    let bytes = of_definite_length(alloc, 101)?;
-    is_read(&rt, alloc, &bytes, BERMode::Der, 101, None);
-    is_read(&rt, alloc, &bytes, BERMode::Ber, 101, None);
-    let bytes = of_indefinite_length(alloc, 101)?;
-    is_read(&rt, alloc, &bytes, BERMode::Ber, 101, None);
-    is_read(&rt, alloc, &bytes, BERMode::Cer, 101, None);
-    Ok(())
+fn deepest(rt: HostRuntime) {
+    all_hold(&rt, &answer(rt.alloc(), 101, None).unwrap_or([false; 4]));
 }
 
 #[test]
-fn too_deep(rt: HostRuntime) -> Result<(), Fail> {
-    let alloc = rt.alloc();
+fn too_deep(rt: HostRuntime) {
     let kind = Some(ASN1ErrorKind::StackOverflow);
-    let bytes = of_definite_length(alloc, 102)?;
-    is_read(&rt, alloc, &bytes, BERMode::Der, 102, kind);
-    is_read(&rt, alloc, &bytes, BERMode::Ber, 102, kind);
-    let bytes = of_indefinite_length(alloc, 102)?;
-    is_read(&rt, alloc, &bytes, BERMode::Ber, 102, kind);
-    is_read(&rt, alloc, &bytes, BERMode::Cer, 102, kind);
-    Ok(())
+    all_hold(&rt, &answer(rt.alloc(), 102, kind).unwrap_or([false; 4]));
+}
+
+// How many branches the first two have, where there are two.
+fn sizes(tree: &Tree) -> Option<(usize, usize)> {
+    match tree.branches.as_slice() {
+        [first, second] => Some((first.branches.len(), second.branches.len())),
+        _ => None,
+    }
+}
+
+fn has_sizes(alloc: Global, bytes: &[u8], wanted: (usize, usize)) -> ASN1Result<bool> {
+    let tree: Tree = decode_ber(alloc, bytes)?;
+    Ok(sizes(&tree) == Some(wanted))
+}
+
+fn are_trees(alloc: Global) -> [bool; 2] {
+    let form = [48, 128, 48, 0, 48, 2, 48, 0, 0, 0];
+    [
+        holds(has_sizes(alloc, &form, (0, 1))),
+        refuses(
+            decode_der::<Tree>(alloc, &[48, 4, 48, 2, 5, 0]),
+            ASN1ErrorKind::Extra,
+        ),
+    ]
 }
 
 #[test]
-fn trees(rt: HostRuntime) -> Result<(), Fail> {
-    let alloc = rt.alloc();
-    let tree: Tree = decode_ber(alloc, &[48, 128, 48, 0, 48, 2, 48, 0, 0, 0])?;
-    let sizes = match tree.branches.as_slice() {
-        [first, second] => (first.branches.len(), second.branches.len()),
-        _ => (9, 9),
-    };
-    assert_eq!(rt; sizes, (0, 1));
-    let refused: ASN1Result<Tree> = decode_der(alloc, &[48, 4, 48, 2, 5, 0]);
-    assert!(rt; refuses(refused, ASN1ErrorKind::Extra));
-    Ok(())
+fn trees(rt: HostRuntime) {
+    all_hold(&rt, &are_trees(rt.alloc()));
 }

@@ -2,11 +2,11 @@
 ghost use Rattle.std.specs.Prelude.{◌≡◌, ◌-◌, ◌^◌, ◌<◌, None};
 
 use super::{TEN_TRUE, strings};
-use std::alloc::{AllocError, Global};
+use crate::checks::{all_hold, holds};
+use std::alloc::Global;
 use std::io;
 use std::io::{Read, Write};
-use std::test::Fail;
-use yasna::{ASN1Error, ASN1ErrorKind, BERMode};
+use yasna::{ASN1Error, ASN1ErrorKind, ASN1Result, BERMode};
 use yasna_engine::ends::{Counted, Sink, Source};
 use yasna_engine::engine::{RunFault, run};
 use yasna_engine::tool::tool;
@@ -138,12 +138,18 @@ fn passes_by_pulls(alloc: Global) -> bool {
     answer == Ok(()) && writer.into_end().as_slice() == TEN_TRUE.output
 }
 
+fn reads(alloc: Global) -> [bool; 4] {
+    [
+        fails_behind(alloc, 0),
+        fails_behind(alloc, 1),
+        fails_behind(alloc, 2),
+        passes_by_pulls(alloc),
+    ]
+}
+
 #[test]
 fn failed_read(rt: HostRuntime) {
-    for pulls in 0..3 {
-        assert!(rt; fails_behind(rt.alloc(), pulls), "after {pulls} pulls");
-    }
-    assert!(rt; passes_by_pulls(rt.alloc()));
+    all_hold(&rt, &reads(rt.alloc()));
 }
 
 /// Whether a write that fails behind so many bytes is told, once.
@@ -161,29 +167,28 @@ fn passes_in_room(alloc: Global) -> bool {
     run_pair(alloc, &mut reader, &mut writer) == Ok(())
 }
 
-#[test]
-fn failed_write(rt: HostRuntime) {
-    for (room, fails_at_flush) in [(0, false), (3, false), (8, true)] {
-        assert!(rt;
-            fails_in_room(rt.alloc(), room, fails_at_flush),
-            "with room for {room}"
-        );
-    }
-    assert!(rt; passes_in_room(rt.alloc()));
-}
-
 // A refusal comes before anything is written, and so before a writer could fail.
-#[test]
-fn refused_before_a_write(rt: HostRuntime) -> Result<(), Fail> {
+fn is_refused_before_a_write(alloc: Global) -> bool {
     let mut reader = Counted::new(&TEN_TRUE.output[..7]);
     let mut writer = FailingSink::new(0, true);
-    let answer = run_pair(rt.alloc(), &mut reader, &mut writer);
-    assert_eq!(rt;
-        answer,
-        Err(RunFault::Refused(ASN1Error::new(ASN1ErrorKind::Eof)))
-    );
-    assert_eq!(rt; writer.failures(), 0);
-    Ok(())
+    let answer = run_pair(alloc, &mut reader, &mut writer);
+    let cut = ASN1Error::new(ASN1ErrorKind::Eof);
+    answer == Err(RunFault::Refused(cut)) && writer.failures() == 0
+}
+
+fn writes(alloc: Global) -> [bool; 5] {
+    [
+        fails_in_room(alloc, 0, false),
+        fails_in_room(alloc, 3, false),
+        fails_in_room(alloc, 8, true),
+        passes_in_room(alloc),
+        is_refused_before_a_write(alloc),
+    ]
+}
+
+#[test]
+fn failed_write(rt: HostRuntime) {
+    all_hold(&rt, &writes(rt.alloc()));
 }
 
 /// Whether the program tells this failure of its ends, and has the status of one.
@@ -192,7 +197,7 @@ fn tells<R: Source, W: Sink>(
     reader: &mut R,
     writer: &mut W,
     failure: &str,
-) -> Result<bool, AllocError>
+) -> ASN1Result<bool>
     requires reads { R.failed reader.old < 2 ^ 64 - 1 }
     requires writes { W.failed writer.old < 2 ^ 64 - 1 }
 {
@@ -202,27 +207,20 @@ fn tells<R: Source, W: Sink>(
     Ok(status == 3 && errors.as_slice() == failure.as_bytes())
 }
 
-fn tells_of_input(alloc: Global) -> Result<bool, AllocError> {
+fn tells_of_input(alloc: Global) -> ASN1Result<bool> {
     let mut reader = FailingSource::new(0);
     let mut writer = Counted::new(Vec::new(alloc));
     tells(alloc, &mut reader, &mut writer, INPUT)
 }
 
-fn tells_of_output(alloc: Global) -> Result<bool, AllocError> {
+fn tells_of_output(alloc: Global) -> ASN1Result<bool> {
     let mut reader = Counted::new(TEN_TRUE.output);
     let mut writer = FailingSink::new(0, false);
     tells(alloc, &mut reader, &mut writer, OUTPUT)
 }
 
-#[test]
-fn told_of_failures(rt: HostRuntime) -> Result<(), Fail> {
-    assert!(rt; tells_of_input(rt.alloc())?);
-    assert!(rt; tells_of_output(rt.alloc())?);
-    Ok(())
-}
-
 // Whether the program tells that so much room isn't enough, once.
-fn tells_of_room(alloc: Global, room: &mut [u8]) -> Result<bool, AllocError> {
+fn tells_of_room(alloc: Global, room: &mut [u8]) -> ASN1Result<bool> {
     let mut reader = Counted::new(TEN_TRUE.output);
     let mut writer = Counted::new(room);
     let is_told = tells(alloc, &mut reader, &mut writer, OUTPUT)?;
@@ -230,12 +228,23 @@ fn tells_of_room(alloc: Global, room: &mut [u8]) -> Result<bool, AllocError> {
 }
 
 // A slice takes nothing once it is full.
-#[test]
-fn nothing_taken(rt: HostRuntime) -> Result<(), Fail> {
+fn tells_of_full_room(alloc: Global) -> ASN1Result<bool> {
     let mut room = [0; 3];
-    assert!(rt; tells_of_room(rt.alloc(), &mut room)?);
-    assert_eq!(rt; room, [48, 6, 2]);
-    Ok(())
+    let is_told = tells_of_room(alloc, &mut room)?;
+    Ok(is_told && room == [48, 6, 2])
+}
+
+fn failures_told(alloc: Global) -> [bool; 3] {
+    [
+        holds(tells_of_input(alloc)),
+        holds(tells_of_output(alloc)),
+        holds(tells_of_full_room(alloc)),
+    ]
+}
+
+#[test]
+fn told_of_failures(rt: HostRuntime) {
+    all_hold(&rt, &failures_told(rt.alloc()));
 }
 
 /// Takes all bytes, and counts its flushes.
@@ -257,11 +266,14 @@ impl Write for Flushed {
     }
 }
 
-#[test]
-fn flushes_once(rt: HostRuntime) -> Result<(), Fail> {
+fn is_flushed_once(alloc: Global) -> bool {
     let mut reader = Counted::new(TEN_TRUE.output);
     let mut writer = Counted::new(Flushed { flushes: 0 });
-    assert_eq!(rt; run_pair(rt.alloc(), &mut reader, &mut writer), Ok(()));
-    assert_eq!(rt; writer.into_end().flushes, 1);
-    Ok(())
+    let answer = run_pair(alloc, &mut reader, &mut writer);
+    answer == Ok(()) && writer.into_end().flushes == 1
+}
+
+#[test]
+fn flushes_once(rt: HostRuntime) {
+    assert!(rt; is_flushed_once(rt.alloc()));
 }
