@@ -1,8 +1,8 @@
 //! Certificates and revocation lists (RFC 5280), as OpenSSL 3.0.19 made them: the bytes that they were come back.
 
+use crate::checks::{all_hold, holds};
 use crate::messages::{comes_back, is_refused};
 use std::alloc::Global;
-use std::test::Fail;
 use x509::{
     Certificate, CertificateList, Signed, TbsCertList, TbsCertificate, read_signed_certificate,
     read_signed_list,
@@ -101,14 +101,21 @@ fn certificate(alloc: Global, text: &str) -> ASN1Result<Certificate> {
     Ok(noted.into_value())
 }
 
+fn are_forms(alloc: Global) -> [bool; 6] {
+    [
+        text_comes_back::<Noted<Certificate>>(alloc, AUTHORITY),
+        text_comes_back::<Noted<Certificate>>(alloc, LEAF),
+        text_comes_back::<Noted<Certificate>>(alloc, UNIQUE),
+        // a default that is written out is none of DER
+        text_is_refused::<Noted<Certificate>>(alloc, WRITTEN_OUT),
+        text_is_refused::<Noted<CertificateList>>(alloc, LEAF),
+        text_comes_back::<Noted<CertificateList>>(alloc, REVOKED),
+    ]
+}
+
 #[test]
-fn certificates_come_back(rt: HostRuntime) {
-    assert!(rt; text_comes_back::<Noted<Certificate>>(rt.alloc(), AUTHORITY));
-    assert!(rt; text_comes_back::<Noted<Certificate>>(rt.alloc(), LEAF));
-    assert!(rt; text_comes_back::<Noted<Certificate>>(rt.alloc(), UNIQUE));
-    // a default that is written out is none of DER
-    assert!(rt; text_is_refused::<Noted<Certificate>>(rt.alloc(), WRITTEN_OUT));
-    assert!(rt; text_is_refused::<Noted<CertificateList>>(rt.alloc(), LEAF));
+fn certificates_and_lists_come_back(rt: HostRuntime) {
+    all_hold(&rt, &are_forms(rt.alloc()));
 }
 
 // Whether it has the issuer's number of UNIQUE.
@@ -141,16 +148,6 @@ fn is_authority(alloc: Global) -> bool {
     }
 }
 
-#[test]
-fn what_certificates_say(rt: HostRuntime) {
-    assert!(rt; is_authority(rt.alloc()));
-}
-
-#[test]
-fn unique_identifiers(rt: HostRuntime) {
-    assert!(rt; is_unique(rt.alloc()));
-}
-
 fn version_of(alloc: Global, text: &str) -> ASN1Result<u64> {
     match certificate(alloc, text) {
         Ok(certificate) => Ok(certificate.tbs_certificate.version),
@@ -158,19 +155,22 @@ fn version_of(alloc: Global, text: &str) -> ASN1Result<u64> {
     }
 }
 
-#[test]
-fn versions(rt: HostRuntime) {
-    // BER takes a default that is written out
-    assert_eq!(rt; version_of(rt.alloc(), LEAF), Ok(0));
-    assert_eq!(rt; version_of(rt.alloc(), WRITTEN_OUT), Ok(0));
+fn are_certificates(alloc: Global) -> [bool; 5] {
     // no version has the number 3
     let invalid = ASN1Error::new(ASN1ErrorKind::Invalid);
-    assert_eq!(rt; version_of(rt.alloc(), NO_VERSION), Err(invalid));
+    [
+        is_authority(alloc),
+        is_unique(alloc),
+        version_of(alloc, LEAF) == Ok(0),
+        // BER takes a default that is written out
+        version_of(alloc, WRITTEN_OUT) == Ok(0),
+        version_of(alloc, NO_VERSION) == Err(invalid),
+    ]
 }
 
 #[test]
-fn revocation_lists_come_back(rt: HostRuntime) {
-    assert!(rt; text_comes_back::<Noted<CertificateList>>(rt.alloc(), REVOKED));
+fn what_certificates_say(rt: HostRuntime) {
+    all_hold(&rt, &are_certificates(rt.alloc()));
 }
 
 fn list_of(alloc: Global, bytes: &[u8]) -> ASN1Result<CertificateList> {
@@ -194,11 +194,6 @@ fn is_list_of_one(alloc: Global, text: &str) -> ASN1Result<bool> {
     }
 }
 
-#[test]
-fn what_revocation_lists_say(rt: HostRuntime) {
-    assert_eq!(rt; is_list_of_one(rt.alloc(), REVOKED), Ok(true));
-}
-
 // Whether a list whose version has the number 0 is refused.
 fn is_older_refused(alloc: Global, text: &str) -> ASN1Result<bool> {
     let mut older = bytes_of(alloc, text)?;
@@ -206,12 +201,6 @@ fn is_older_refused(alloc: Global, text: &str) -> ASN1Result<bool> {
         *version = 0;
     }
     Ok(list_of(alloc, &older).is_err())
-}
-
-// It names version 2 or none.
-#[test]
-fn older_revocation_lists(rt: HostRuntime) {
-    assert_eq!(rt; is_older_refused(rt.alloc(), REVOKED), Ok(true));
 }
 
 // A closure that hands on what it borrows, or a function of another crate by its name, is not proved.
@@ -234,13 +223,6 @@ fn is_signed(alloc: Global, bytes: &[u8], from: usize, to: usize) -> bool {
     }
 }
 
-#[test]
-fn what_is_signed_of_certificates(rt: HostRuntime) -> Result<(), Fail> {
-    let bytes = bytes_of(rt.alloc(), AUTHORITY)?;
-    assert!(rt; is_signed(rt.alloc(), &bytes, 4, 358));
-    Ok(())
-}
-
 // The same of a list.
 fn is_signed_list(alloc: Global, bytes: &[u8], from: usize, to: usize) -> bool {
     match parse_der(alloc, bytes, signed_list) {
@@ -249,9 +231,27 @@ fn is_signed_list(alloc: Global, bytes: &[u8], from: usize, to: usize) -> bool {
     }
 }
 
+fn is_authority_signed(alloc: Global) -> ASN1Result<bool> {
+    let bytes = bytes_of(alloc, AUTHORITY)?;
+    Ok(is_signed(alloc, &bytes, 4, 358))
+}
+
+fn is_revoked_signed(alloc: Global) -> ASN1Result<bool> {
+    let bytes = bytes_of(alloc, REVOKED)?;
+    Ok(is_signed_list(alloc, &bytes, 4, 202))
+}
+
+fn are_lists_and_signed(alloc: Global) -> [bool; 4] {
+    [
+        holds(is_list_of_one(alloc, REVOKED)),
+        // a list names version 2 or none
+        holds(is_older_refused(alloc, REVOKED)),
+        holds(is_authority_signed(alloc)),
+        holds(is_revoked_signed(alloc)),
+    ]
+}
+
 #[test]
-fn what_is_signed_of_lists(rt: HostRuntime) -> Result<(), Fail> {
-    let bytes = bytes_of(rt.alloc(), REVOKED)?;
-    assert!(rt; is_signed_list(rt.alloc(), &bytes, 4, 202));
-    Ok(())
+fn what_lists_say_and_what_is_signed(rt: HostRuntime) {
+    all_hold(&rt, &are_lists_and_signed(rt.alloc()));
 }

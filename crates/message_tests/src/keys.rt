@@ -1,6 +1,7 @@
 //! Private keys (RFC 5208 and RFC 5958), and contents that are signed or enveloped (RFC 5652).
 
 use crate::certificates::bytes_of;
+use crate::checks::{all_hold, holds};
 use crate::messages::{comes_back, is_refused};
 use cms::{ContentInfo, EnvelopedData, SignedData};
 use pkcs8::{OneAsymmetricKey, PrivateKeyInfo};
@@ -92,30 +93,19 @@ fn text_is_refused<T: BERDecodable + DEREncodable + DERExact>(
     Ok(is_refused::<T>(alloc, content_of(&bytes, header)?))
 }
 
-#[test]
-fn private_keys_come_back(rt: HostRuntime) {
-    let alloc = rt.alloc();
-    assert_eq!(rt;
-        text_comes_back::<Noted<PrivateKeyInfo>>(alloc, ED25519, 0),
-        Ok(true)
-    );
-    assert_eq!(rt;
-        text_comes_back::<Noted<OneAsymmetricKey>>(alloc, ED25519, 0),
-        Ok(true)
-    );
+fn are_key_forms(alloc: Global) -> [bool; 4] {
+    [
+        holds(text_comes_back::<Noted<PrivateKeyInfo>>(alloc, ED25519, 0)),
+        holds(text_comes_back::<Noted<OneAsymmetricKey>>(alloc, ED25519, 0)),
+        holds(text_comes_back::<Noted<OneAsymmetricKey>>(alloc, WITH_PUBLIC_KEY, 0)),
+        holds(text_is_refused::<Noted<PrivateKeyInfo>>(alloc, WITH_PUBLIC_KEY, 0)),
+    ]
 }
 
+// One with its public key is none of the older type.
 #[test]
-fn keys_with_public_keys_come_back(rt: HostRuntime) {
-    let alloc = rt.alloc();
-    assert_eq!(rt;
-        text_comes_back::<Noted<OneAsymmetricKey>>(alloc, WITH_PUBLIC_KEY, 0),
-        Ok(true)
-    );
-    assert_eq!(rt;
-        text_is_refused::<Noted<PrivateKeyInfo>>(alloc, WITH_PUBLIC_KEY, 0),
-        Ok(true)
-    );
+fn private_keys_come_back(rt: HostRuntime) {
+    all_hold(&rt, &are_key_forms(rt.alloc()));
 }
 
 fn key_of(alloc: Global, text: &str) -> ASN1Result<OneAsymmetricKey> {
@@ -132,31 +122,21 @@ fn said_of(alloc: Global, text: &str) -> ASN1Result<(u64, Option<(usize, usize)>
     }
 }
 
-#[test]
-fn what_keys_say(rt: HostRuntime) {
-    assert_eq!(rt;
-        said_of(rt.alloc(), WITH_PUBLIC_KEY),
-        Ok((1, Some((32, 256))))
-    );
+// The same of signed and enveloped contents. Where they were streamed, BER alone reads them.
+fn are_content_forms(alloc: Global) -> [bool; 6] {
+    [
+        holds(text_comes_back::<Noted<ContentInfo>>(alloc, SIGNED, 0)),
+        holds(text_comes_back::<Noted<SignedData>>(alloc, SIGNED, 19)),
+        holds(text_is_refused::<Noted<ContentInfo>>(alloc, STREAMED, 0)),
+        holds(text_comes_back::<Noted<ContentInfo>>(alloc, ENVELOPED, 0)),
+        holds(text_comes_back::<Noted<EnvelopedData>>(alloc, ENVELOPED, 19)),
+        holds(text_is_refused::<Noted<SignedData>>(alloc, ENVELOPED, 19)),
+    ]
 }
 
 #[test]
-fn newer_keys(rt: HostRuntime) {
-    let invalid = ASN1Error::new(ASN1ErrorKind::Invalid);
-    assert_eq!(rt; said_of(rt.alloc(), VERSION_3), Err(invalid));
-}
-
-#[test]
-fn signed_contents_come_back(rt: HostRuntime) {
-    let alloc = rt.alloc();
-    assert_eq!(rt;
-        text_comes_back::<Noted<ContentInfo>>(alloc, SIGNED, 0),
-        Ok(true)
-    );
-    assert_eq!(rt;
-        text_comes_back::<Noted<SignedData>>(alloc, SIGNED, 19),
-        Ok(true)
-    );
+fn contents_come_back(rt: HostRuntime) {
+    all_hold(&rt, &are_content_forms(rt.alloc()));
 }
 
 fn signed_data(alloc: Global, text: &str) -> ASN1Result<SignedData> {
@@ -173,43 +153,10 @@ fn signers_of(alloc: Global, text: &str) -> ASN1Result<(u64, usize)> {
     }
 }
 
-#[test]
-fn what_signed_contents_say(rt: HostRuntime) {
-    assert_eq!(rt; signers_of(rt.alloc(), SIGNED), Ok((3, 1)));
-}
-
 fn tag_of(alloc: Global, text: &str) -> ASN1Result<Tag> {
     let bytes = bytes_of(alloc, text)?;
     let noted: Noted<ContentInfo> = decode_ber(alloc, &bytes)?;
     Ok(noted.value.content.tag())
-}
-
-// Where it was streamed, BER alone reads it.
-#[test]
-fn streamed_contents(rt: HostRuntime) {
-    let alloc = rt.alloc();
-    assert_eq!(rt;
-        text_is_refused::<Noted<ContentInfo>>(alloc, STREAMED, 0),
-        Ok(true)
-    );
-    assert_eq!(rt; tag_of(alloc, STREAMED), Ok(TAG_SEQUENCE));
-}
-
-#[test]
-fn enveloped_contents_come_back(rt: HostRuntime) {
-    let alloc = rt.alloc();
-    assert_eq!(rt;
-        text_comes_back::<Noted<ContentInfo>>(alloc, ENVELOPED, 0),
-        Ok(true)
-    );
-    assert_eq!(rt;
-        text_comes_back::<Noted<EnvelopedData>>(alloc, ENVELOPED, 19),
-        Ok(true)
-    );
-    assert_eq!(rt;
-        text_is_refused::<Noted<SignedData>>(alloc, ENVELOPED, 19),
-        Ok(true)
-    );
 }
 
 fn enveloped_data(alloc: Global, text: &str) -> ASN1Result<EnvelopedData> {
@@ -226,7 +173,18 @@ fn recipients_of(alloc: Global, text: &str) -> ASN1Result<usize> {
     }
 }
 
+fn are_said(alloc: Global) -> [bool; 5] {
+    [
+        said_of(alloc, WITH_PUBLIC_KEY) == Ok((1, Some((32, 256)))),
+        said_of(alloc, VERSION_3) == Err(ASN1Error::new(ASN1ErrorKind::Invalid)),
+        signers_of(alloc, SIGNED) == Ok((3, 1)),
+        tag_of(alloc, STREAMED) == Ok(TAG_SEQUENCE),
+        recipients_of(alloc, ENVELOPED) == Ok(1),
+    ]
+}
+
+// Keys, of which one is newer than the type, and contents.
 #[test]
-fn what_enveloped_contents_say(rt: HostRuntime) {
-    assert_eq!(rt; recipients_of(rt.alloc(), ENVELOPED), Ok(1));
+fn what_they_say(rt: HostRuntime) {
+    all_hold(&rt, &are_said(rt.alloc()));
 }

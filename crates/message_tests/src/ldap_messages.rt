@@ -1,6 +1,7 @@
 //! Messages of LDAP (RFC 4511), made by hand.
 
 use crate::certificates::bytes_of;
+use crate::checks::{finds_none, holds};
 use crate::messages::comes_back;
 use ldap::{Filter, FilterItem, LdapMessage, ProtocolOp};
 use std::alloc::Global;
@@ -180,27 +181,56 @@ fn is_no_form(alloc: Global, text: &str) -> ASN1Result<bool> {
     Ok(decode_der::<Noted<LdapMessage>>(alloc, &bytes).is_err())
 }
 
+// The first message that doesn't come back.
+fn first_other_message(alloc: Global) -> Option<&'static str> {
+    for text in &TAKEN {
+        if !text_comes_back(alloc, text) {
+            return Some(*text);
+        }
+    }
+    None
+}
+
 #[test]
 fn messages_come_back(rt: HostRuntime) {
-    for text in TAKEN {
-        assert!(rt; text_comes_back(rt.alloc(), text), "{text}");
+    finds_none(&rt, first_other_message(rt.alloc()));
+}
+
+// The first of the others that isn't refused.
+fn first_taken(alloc: Global) -> Option<&'static str> {
+    for text in &REFUSED {
+        if !holds(is_refused(alloc, text)) {
+            return Some(*text);
+        }
     }
+    None
 }
 
 #[test]
 fn others_are_refused(rt: HostRuntime) {
-    for text in REFUSED {
-        assert_eq!(rt; is_refused(rt.alloc(), text), Ok(true), "{text}");
+    finds_none(&rt, first_taken(rt.alloc()));
+}
+
+// Whether the message has this form, which comes back, and is none itself.
+fn is_longer(alloc: Global, text: &str, form: &str) -> bool {
+    holds(has_form(alloc, text, form))
+        && holds(is_no_form(alloc, text))
+        && text_comes_back(alloc, form)
+}
+
+// The first message for which this isn't so.
+fn first_other_form(alloc: Global) -> Option<&'static str> {
+    for (text, form) in &LONGER {
+        if !is_longer(alloc, text, form) {
+            return Some(*text);
+        }
     }
+    None
 }
 
 #[test]
 fn what_ber_reads_is_written_anew(rt: HostRuntime) {
-    for (text, form) in LONGER {
-        assert_eq!(rt; has_form(rt.alloc(), text, form), Ok(true), "{text}");
-        assert_eq!(rt; is_no_form(rt.alloc(), text), Ok(true), "{text}");
-        assert!(rt; text_comes_back(rt.alloc(), form), "{form}");
-    }
+    finds_none(&rt, first_other_form(rt.alloc()));
 }
 
 fn is_asked(alloc: Global, text: &str) -> bool {

@@ -3,6 +3,7 @@
 //! | Module | Holds |
 //! |---|---|
 //! | `certificates` | certificates and revocation lists of `x509` |
+//! | `checks` | no test: it holds what many of them check |
 //! | `keys` | private keys, and signed and enveloped contents, of `pkcs8` and `cms` |
 //! | `ldap_messages` | messages of `ldap` |
 //! | `messages` | types of `x509` and `snmp`, which are made of types |
@@ -12,6 +13,8 @@
 
 #[cfg(test)]
 mod certificates;
+#[cfg(test)]
+mod checks;
 #[cfg(test)]
 mod keys;
 #[cfg(test)]

@@ -1,5 +1,6 @@
 //! Messages that are types made of types: a DER form comes back as it was, and what is none is refused.
 
+use crate::checks::all_hold;
 use snmp::{ApplicationSyntax, SimpleSyntax};
 use std::alloc::Global;
 use x509::{AlgorithmIdentifier, Attribute, Extensions, Name, SubjectPublicKeyInfo, Validity};
@@ -30,61 +31,69 @@ pub fn is_refused<T: BERDecodable + DEREncodable + DERExact>(alloc: Global, byte
     rewritten::<T>(alloc, bytes).is_err()
 }
 
-#[test]
-fn algorithms(rt: HostRuntime) {
+fn are_forms(alloc: Global) -> [bool; 6] {
     let rsa = [48, 13, 6, 9, 42, 134, 72, 134, 247, 13, 1, 1, 1, 5, 0];
-    assert!(rt; comes_back::<Noted<AlgorithmIdentifier>>(rt.alloc(), &rsa));
     let key = [48, 11, 48, 5, 6, 3, 43, 101, 112, 3, 2, 0, 170];
-    assert!(rt; comes_back::<Noted<SubjectPublicKeyInfo>>(rt.alloc(), &key));
-}
-
-#[test]
-fn names(rt: HostRuntime) {
     let name = [48, 12, 49, 10, 48, 8, 6, 3, 85, 4, 3, 12, 1, 97];
-    assert!(rt; comes_back::<Noted<Name>>(rt.alloc(), &name));
     let attribute = [48, 10, 6, 3, 85, 4, 3, 49, 3, 12, 1, 97];
-    assert!(rt; comes_back::<Noted<Attribute>>(rt.alloc(), &attribute));
-    // a part of a name has one attribute at least
-    assert!(rt; is_refused::<Noted<Name>>(rt.alloc(), &[48, 2, 49, 0]));
-}
-
-#[test]
-fn validities(rt: HostRuntime) {
     let validity = [
         48, 32, 23, 13, 50, 53, 48, 49, 48, 49, 48, 48, 48, 48, 48, 48, 90, 24, 15, 50, 48, 53, 48,
         48, 49, 48, 49, 48, 48, 48, 48, 48, 48, 90,
     ];
-    assert!(rt; comes_back::<Noted<Validity>>(rt.alloc(), &validity));
+    let extensions = [48, 14, 48, 12, 6, 3, 85, 29, 19, 1, 1, 255, 4, 2, 48, 0];
+    [
+        comes_back::<Noted<AlgorithmIdentifier>>(alloc, &rsa),
+        comes_back::<Noted<SubjectPublicKeyInfo>>(alloc, &key),
+        comes_back::<Noted<Name>>(alloc, &name),
+        comes_back::<Noted<Attribute>>(alloc, &attribute),
+        comes_back::<Noted<Validity>>(alloc, &validity),
+        comes_back::<Noted<Extensions>>(alloc, &extensions),
+    ]
 }
 
 #[test]
-fn lists_of_extensions(rt: HostRuntime) {
-    let list = [48, 14, 48, 12, 6, 3, 85, 29, 19, 1, 1, 255, 4, 2, 48, 0];
-    assert!(rt; comes_back::<Noted<Extensions>>(rt.alloc(), &list));
-    assert!(rt; is_refused::<Noted<Extensions>>(rt.alloc(), &[48, 0]));
+fn parts_of_certificates(rt: HostRuntime) {
+    all_hold(&rt, &are_forms(rt.alloc()));
+}
+
+fn are_refused(alloc: Global) -> [bool; 3] {
+    [
+        // a part of a name has one attribute at least
+        is_refused::<Noted<Name>>(alloc, &[48, 2, 49, 0]),
+        is_refused::<Noted<Extensions>>(alloc, &[48, 0]),
+        // an address has four octets
+        is_refused::<Noted<ApplicationSyntax>>(alloc, &[64, 3, 127, 0, 0]),
+    ]
+}
+
+#[test]
+fn too_few_parts(rt: HostRuntime) {
+    all_hold(&rt, &are_refused(rt.alloc()));
+}
+
+fn is_simple(alloc: Global, bytes: &[u8]) -> bool {
+    comes_back::<Noted<SimpleSyntax>>(alloc, bytes)
+}
+
+fn is_of_application(alloc: Global, bytes: &[u8]) -> bool {
+    comes_back::<Noted<ApplicationSyntax>>(alloc, bytes)
+}
+
+fn are_values(alloc: Global) -> [bool; 9] {
+    [
+        is_simple(alloc, &[2, 1, 5]),
+        is_simple(alloc, &[4, 1, 97]),
+        is_simple(alloc, &[6, 3, 85, 4, 3]),
+        is_of_application(alloc, &[64, 4, 127, 0, 0, 1]),
+        is_of_application(alloc, &[65, 1, 7]),
+        is_of_application(alloc, &[66, 1, 7]),
+        is_of_application(alloc, &[67, 1, 7]),
+        is_of_application(alloc, &[68, 1, 97]),
+        is_of_application(alloc, &[70, 1, 7]),
+    ]
 }
 
 #[test]
 fn values_of_variables(rt: HostRuntime) {
-    let simple: [&[u8]; 3] = [&[2, 1, 5], &[4, 1, 97], &[6, 3, 85, 4, 3]];
-    for bytes in simple {
-        assert!(rt; comes_back::<Noted<SimpleSyntax>>(rt.alloc(), bytes));
-    }
-}
-
-#[test]
-fn values_of_applications(rt: HostRuntime) {
-    let added: [&[u8]; 6] = [
-        &[64, 4, 127, 0, 0, 1],
-        &[65, 1, 7],
-        &[66, 1, 7],
-        &[67, 1, 7],
-        &[68, 1, 97],
-        &[70, 1, 7],
-    ];
-    for bytes in added {
-        assert!(rt; comes_back::<Noted<ApplicationSyntax>>(rt.alloc(), bytes));
-    }
-    // an address has four octets
-    assert!(rt; is_refused::<Noted<ApplicationSyntax>>(rt.alloc(), &[64, 3, 127, 0, 0]));
+    all_hold(&rt, &are_values(rt.alloc()));
 }

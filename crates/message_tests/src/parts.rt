@@ -1,22 +1,29 @@
 //! A SEQUENCE of parts that are pairs, as of more parts than a tuple has.
 
-use std::process::Abort;
-use std::test::Fail;
-use yasna::{InSequence, decode_der};
+use crate::checks::{all_hold, holds};
+use std::alloc::Global;
+use yasna::{ASN1Result, InSequence, decode_der};
 
-#[test]
-fn parts_of_a_sequence(rt: HostRuntime) -> Result<(), Fail> {
-    let bytes = [0x30, 6, 2, 1, 5, 1, 1, 255];
-    let read: InSequence<(i64, (bool, ()))> = decode_der(rt.alloc(), &bytes)?;
-    let (number, (flag, ())) = read.parts;
-    assert_eq!(rt; number, 5);
-    assert_eq!(rt; flag, true);
-    Ok(())
+fn parts_of(alloc: Global, bytes: &[u8]) -> ASN1Result<(i64, (bool, ()))> {
+    let read: InSequence<(i64, (bool, ()))> = decode_der(alloc, bytes)?;
+    Ok(read.parts)
 }
 
+fn is_sequence(alloc: Global, bytes: &[u8]) -> ASN1Result<bool> {
+    let (number, (flag, ())) = parts_of(alloc, bytes)?;
+    Ok(number == 5 && flag)
+}
+
+fn are_in_a_sequence(alloc: Global) -> [bool; 2] {
+    let set = [0x31, 6, 2, 1, 5, 1, 1, 255];
+    [
+        holds(is_sequence(alloc, &[0x30, 6, 2, 1, 5, 1, 1, 255])),
+        parts_of(alloc, &set).is_err(),
+    ]
+}
+
+// Those of a SET are refused.
 #[test]
-fn parts_of_a_set_are_refused(rt: HostRuntime) -> Result<(), Fail> {
-    let bytes = [0x31, 6, 2, 1, 5, 1, 1, 255];
-    assert!(rt; decode_der::<InSequence<(i64, (bool, ()))>>(rt.alloc(), &bytes).is_err());
-    Ok(())
+fn parts_of_a_sequence(rt: HostRuntime) {
+    all_hold(&rt, &are_in_a_sequence(rt.alloc()));
 }

@@ -1,6 +1,7 @@
 //! Messages of SNMPv1 and SNMPv2c (RFC 1157, RFC 1901 and RFC 3416), made by hand as programs of net-snmp send them.
 
 use crate::certificates::bytes_of;
+use crate::checks::{all_hold, holds};
 use snmp::{ApplicationSyntax, SimpleSyntax, v1, v2c};
 use std::alloc::Global;
 use yasna::{
@@ -54,31 +55,32 @@ fn is_refused<T: BERDecodable>(alloc: Global, text: &str) -> ASN1Result<bool> {
     Ok(decode_ber::<T>(alloc, &bytes).is_err())
 }
 
+fn are_forms(alloc: Global) -> [bool; 4] {
+    [
+        holds(comes_back::<Noted<v1::SnmpMessage>>(alloc, GET)),
+        holds(comes_back::<Noted<v1::SnmpMessage>>(alloc, TRAP)),
+        holds(comes_back::<Noted<v2c::SnmpMessage>>(alloc, RESPONSE)),
+        holds(comes_back::<Noted<v2c::SnmpMessage>>(alloc, BULK)),
+    ]
+}
+
 #[test]
 fn messages_come_back(rt: HostRuntime) {
-    let alloc = rt.alloc();
-    assert_eq!(rt; comes_back::<Noted<v1::SnmpMessage>>(alloc, GET), Ok(true));
-    assert_eq!(rt; comes_back::<Noted<v1::SnmpMessage>>(alloc, TRAP), Ok(true));
-    assert_eq!(rt;
-        comes_back::<Noted<v2c::SnmpMessage>>(alloc, RESPONSE),
-        Ok(true)
-    );
-    assert_eq!(rt;
-        comes_back::<Noted<v2c::SnmpMessage>>(alloc, BULK),
-        Ok(true)
-    );
+    all_hold(&rt, &are_forms(rt.alloc()));
+}
+
+fn are_refused(alloc: Global) -> [bool; 3] {
+    [
+        holds(is_refused::<Noted<v1::SnmpMessage>>(alloc, BULK)),
+        holds(is_refused::<Noted<v2c::SnmpMessage>>(alloc, GET)),
+        holds(is_refused::<Noted<v1::SnmpMessage>>(alloc, VERSION_3)),
+    ]
 }
 
 // Each version has its own messages.
 #[test]
 fn messages_of_other_versions(rt: HostRuntime) {
-    let alloc = rt.alloc();
-    assert_eq!(rt; is_refused::<Noted<v1::SnmpMessage>>(alloc, BULK), Ok(true));
-    assert_eq!(rt; is_refused::<Noted<v2c::SnmpMessage>>(alloc, GET), Ok(true));
-    assert_eq!(rt;
-        is_refused::<Noted<v1::SnmpMessage>>(alloc, VERSION_3),
-        Ok(true)
-    );
+    all_hold(&rt, &are_refused(rt.alloc()));
 }
 
 // Whether it has the number and the values of RESPONSE.
@@ -129,11 +131,6 @@ fn is_said(alloc: Global, text: &str) -> bool {
     }
 }
 
-#[test]
-fn what_a_response_says(rt: HostRuntime) {
-    assert!(rt; is_said(rt.alloc(), RESPONSE));
-}
-
 fn written_anew(alloc: Global, bytes: &[u8]) -> ASN1Result<Vec<u8>> {
     one_form::<Noted<v2c::SnmpMessage>>();
     let noted: Noted<v2c::SnmpMessage> = decode_ber(alloc, bytes)?;
@@ -152,8 +149,15 @@ fn is_no_form(alloc: Global, text: &str) -> ASN1Result<bool> {
     Ok(decode_der::<Noted<v2c::SnmpMessage>>(alloc, &bytes).is_err())
 }
 
+fn are_read(alloc: Global) -> [bool; 3] {
+    [
+        is_said(alloc, RESPONSE),
+        form_length(alloc, LONG) == Ok(40),
+        holds(is_no_form(alloc, LONG)),
+    ]
+}
+
 #[test]
-fn what_ber_reads_is_written_anew(rt: HostRuntime) {
-    assert_eq!(rt; form_length(rt.alloc(), LONG), Ok(40));
-    assert_eq!(rt; is_no_form(rt.alloc(), LONG), Ok(true));
+fn what_ber_reads(rt: HostRuntime) {
+    all_hold(&rt, &are_read(rt.alloc()));
 }
