@@ -257,8 +257,8 @@ pub fn show_bytes(bytes: &[u8], text: &mut String) -> Result<(), AllocError>
     text.push_str(digits.as_str())
 }
 
-/// Appends values with commas between them.
-pub fn show_items<T: Shown>(items: &[T], text: &mut String) -> Result<(), AllocError> {
+// Appends values with commas between them.
+fn show_items<T: Shown>(items: &[T], text: &mut String) -> Result<(), AllocError> {
     let mut between = "";
     for item in items {
         text.push_str(between)?;
@@ -266,6 +266,18 @@ pub fn show_items<T: Shown>(items: &[T], text: &mut String) -> Result<(), AllocE
         between = ",";
     }
     Ok(())
+}
+
+/// Appends values between two characters, with commas between them.
+pub fn show_between<T: Shown>(
+    first: char,
+    items: &[T],
+    last: char,
+    text: &mut String,
+) -> Result<(), AllocError> {
+    text.push(first)?;
+    show_items(items, text)?;
+    text.push(last)
 }
 
 /// The answer `ok`, with a value and what was written of it.

@@ -6,133 +6,138 @@
 //! | `buf2` | read_with_buffer of the reader around an OCTET STRING |
 //! | `buf3` | read_sequence: next().read_with_buffer around an OCTET STRING under the implicit tag context 3, then NULL |
 
-use crate::answer::{Answer, Shown, Value, refused, show_bytes, written};
-use crate::forms::construct_in;
+use crate::answer::{Answer, Shown, Value, show_bytes};
 use crate::line::Case;
-use crate::reading::{read_next_integer, read_octet_string};
+use crate::parts::{Leaf, Part, octets, read_octets};
+use crate::reading::{answer_of, read_next_integer, read_octet_string};
 use std::alloc::{AllocError, Global};
 use yasna::{ASN1Result, BERMode, BERReader, BERReaderSeq, DERWriter, Tag, parse_ber_general};
 
+// A call around a read with the bytes that it took.
+#[derive(Clone, Copy)]
+enum Buffer {
+    Number,
+    Whole,
+    Tagged,
+}
+
 // What was read, and the bytes that it took.
 #[derive(Drop)]
-enum Buffered<'a> {
-    Parts(i64, &'a [u8]),
-    Whole(Vec<u8>, &'a [u8]),
-    Tagged(Vec<u8>, &'a [u8]),
+struct Buffered<'a> {
+    part: Part,
+    taken: &'a [u8],
+    // whether it stands in a SEQUENCE, with a NULL behind it
+    is_first: bool,
 }
 
 /// What a call of this family answers.
 pub fn answer(alloc: Global, case: &Case) -> Answer {
     let mode = case.mode?;
-    if case.call != "buf" && case.call != "buf2" && case.call != "buf3" {
-        return None;
+    let call = match case.call {
+        "buf" => Buffer::Number,
+        "buf2" => Buffer::Whole,
+        "buf3" => Buffer::Tagged,
+        _ => return None,
+    };
+    match case.bytes(alloc)? {
+        Ok(bytes) => Some(answer_of(alloc, mode, call.read(alloc, mode, &bytes))),
+        Err(lack) => Some(Err(lack)),
     }
-    let bytes = match case.bytes(alloc)? {
-        Ok(bytes) => bytes,
-        Err(lack) => return Some(Err(lack)),
-    };
-    let read = match case.call {
-        "buf" => parts_of(alloc, mode, &bytes),
-        "buf2" => whole_of(alloc, mode, &bytes),
-        _ => tagged_of(alloc, mode, &bytes),
-    };
-    Some(match read {
-        Ok(value) => written(
-            alloc,
-            &value,
-            construct_in(alloc, mode, |writer| value.write(writer)),
-        ),
-        Err(error) => refused(alloc, error.kind()),
-    })
 }
 
-// What `buf` reads.
-fn parts_of(alloc: Global, mode: BERMode, bytes: &[u8]) -> ASN1Result<Buffered<'_>> {
-    let (number, taken) = parse_ber_general(alloc, bytes, mode, read_number)?;
-    Ok(Buffered::Parts(number, taken))
+impl Buffer {
+    // Makes the call on these bytes.
+    fn read(self, alloc: Global, mode: BERMode, bytes: &[u8]) -> ASN1Result<Buffered<'_>> {
+        match self {
+            Buffer::Number => parse_ber_general(alloc, bytes, mode, read_number),
+            Buffer::Whole => parse_ber_general(alloc, bytes, mode, read_whole),
+            Buffer::Tagged => parse_ber_general(alloc, bytes, mode, read_tagged),
+        }
+    }
 }
 
-fn read_number<'a>(reader: BERReader<'a, '_>) -> ASN1Result<(i64, &'a [u8])> {
+fn read_number<'a>(reader: BERReader<'a, '_>) -> ASN1Result<Buffered<'a>> {
     reader.read_sequence(number_and_null)
 }
 
-fn number_and_null<'a>(seq: &mut BERReaderSeq<'a, '_>) -> ASN1Result<(i64, &'a [u8])> {
-    let both = seq.read_with_buffer(read_next_integer)?;
+fn number_and_null<'a>(seq: &mut BERReaderSeq<'a, '_>) -> ASN1Result<Buffered<'a>> {
+    let (part, taken) = seq.read_with_buffer(read_next)?;
     seq.next().read_null()?;
-    Ok(both)
+    Ok(Buffered {
+        part,
+        taken,
+        is_first: true,
+    })
 }
 
-// What `buf2` reads.
-fn whole_of(alloc: Global, mode: BERMode, bytes: &[u8]) -> ASN1Result<Buffered<'_>> {
-    let (octets, taken) = parse_ber_general(alloc, bytes, mode, read_octets)?;
-    Ok(Buffered::Whole(octets, taken))
-}
-
-fn read_octets<'a>(reader: BERReader<'a, '_>) -> ASN1Result<(Vec<u8>, &'a [u8])> {
-    reader.read_with_buffer(read_octet_string)
-}
-
-// What `buf3` reads.
-fn tagged_of(alloc: Global, mode: BERMode, bytes: &[u8]) -> ASN1Result<Buffered<'_>> {
-    let (octets, taken) = parse_ber_general(alloc, bytes, mode, read_tagged)?;
-    Ok(Buffered::Tagged(octets, taken))
-}
-
-fn read_tagged<'a>(reader: BERReader<'a, '_>) -> ASN1Result<(Vec<u8>, &'a [u8])> {
+fn read_tagged<'a>(reader: BERReader<'a, '_>) -> ASN1Result<Buffered<'a>> {
     reader.read_sequence(tagged_and_null)
 }
 
-fn tagged_and_null<'a>(seq: &mut BERReaderSeq<'a, '_>) -> ASN1Result<(Vec<u8>, &'a [u8])> {
-    let both = seq.next().read_with_buffer(|inner| {
-        inner.read_tagged_implicit(Tag::context(3), read_octet_string)
-    })?;
+fn tagged_and_null<'a>(seq: &mut BERReaderSeq<'a, '_>) -> ASN1Result<Buffered<'a>> {
+    let (part, taken) = seq.next().read_with_buffer(read_under_tag)?;
     seq.next().read_null()?;
-    Ok(both)
+    Ok(Buffered {
+        part,
+        taken,
+        is_first: true,
+    })
+}
+
+// Reads an OCTET STRING.
+fn read_whole<'a>(reader: BERReader<'a, '_>) -> ASN1Result<Buffered<'a>> {
+    let (part, taken) = reader.read_with_buffer(read_octets)?;
+    Ok(Buffered {
+        part,
+        taken,
+        is_first: false,
+    })
+}
+
+// Reads an OCTET STRING under an implicit tag.
+fn read_under_tag(reader: BERReader) -> ASN1Result<Part> {
+    let tag = Tag::context(3);
+    let bytes = reader.read_tagged_implicit(tag, read_octet_string)?;
+    Ok(Part::Implicit(tag, octets(bytes)))
+}
+
+// Reads an INTEGER, the next part.
+fn read_next(seq: &mut BERReaderSeq) -> ASN1Result<Part> {
+    let number = read_next_integer(seq)?;
+    Ok(Part::Plain(Leaf::Number(number)))
 }
 
 impl<'a> Shown for Buffered<'a> {
     fn show(&self, text: &mut String) -> Result<(), AllocError> {
-        match self {
-            Buffered::Parts(number, taken) => {
-                write!(text, "(<{number}")?;
-                show_taken(taken, text)?;
-                text.push_str(",())")
-            }
-            Buffered::Whole(octets, taken) => {
-                text.push('<')?;
-                octets.show(text)?;
-                show_taken(taken, text)
-            }
-            Buffered::Tagged(octets, taken) => {
-                text.push_str("(<c3:")?;
-                octets.show(text)?;
-                show_taken(taken, text)?;
-                text.push_str(",())")
-            }
+        if self.is_first {
+            text.push('(')?;
+            self.show_part(text)?;
+            text.push_str(",())")
+        } else {
+            self.show_part(text)
         }
     }
 }
 
-// Shows the bytes that were taken.
-fn show_taken(taken: &[u8], text: &mut String) -> Result<(), AllocError> {
-    text.push_str(",r")?;
-    show_bytes(taken, text)?;
-    text.push('>')
+impl<'a> Buffered<'a> {
+    // Shows the part, and the bytes that it took.
+    fn show_part(&self, text: &mut String) -> Result<(), AllocError> {
+        text.push('<')?;
+        self.part.show(text)?;
+        text.push_str(",r")?;
+        show_bytes(self.taken, text)?;
+        text.push('>')
+    }
 }
 
 impl<'a> Value for Buffered<'a> {
     fn write(&self, writer: DERWriter<'_>) -> ASN1Result<()> {
-        match self {
-            Buffered::Parts(number, _) => writer.write_sequence(|seq| {
-                seq.next().write_i64(*number)?;
-                seq.next().write_null()
-            }),
-            Buffered::Whole(octets, _) => writer.write_bytes(octets),
-            Buffered::Tagged(octets, _) => writer.write_sequence(|seq| {
-                seq.next()
-                    .write_tagged_implicit(Tag::context(3), |inner| { inner.write_bytes(octets) })?;
-                seq.next().write_null()
-            }),
+        if !self.is_first {
+            return self.part.write(writer);
         }
+        writer.write_sequence(|seq| {
+            self.part.write(seq.next())?;
+            seq.next().write_null()
+        })
     }
 }

@@ -4,9 +4,10 @@
 //! `Vec<(i64, bool)>`, `d:t1n` is `((((i64,),),),)`, `d:t3` is `(u16, (), Vec<u8>)`. `tup1`, `tup3` and `tup12` are tuples of
 //! `i64`. `d:tdv` is `TaggedDerValue` and `d:vtdv` is `Vec<TaggedDerValue>`, which are written by write_tagged_der.
 
-use crate::answer::{Answer, Shown, Value, refused, show_items, written};
-use crate::forms::construct_in;
+use crate::answer::{Answer, Shown, Value, show_between};
 use crate::line::Case;
+use crate::parts::write_list;
+use crate::reading::answer_of;
 use crate::whole::decoded;
 use std::alloc::{AllocError, Global};
 use yasna::models::TaggedDerValue;
@@ -50,28 +51,14 @@ fn raw<T: BERDecodable + Value>(
     mode: BERMode,
     bytes: &[u8],
 ) -> Result<String, AllocError> {
-    let value: T = match decode_ber_general(alloc, bytes, mode) {
-        Ok(value) => value,
-        Err(error) => return refused(alloc, error.kind()),
-    };
-    written(
-        alloc,
-        &value,
-        construct_in(alloc, mode, |writer| value.write(writer)),
-    )
+    let read: ASN1Result<T> = decode_ber_general(alloc, bytes, mode);
+    answer_of(alloc, mode, read)
 }
 
 impl<T: Shown> Shown for Vec<T> {
     fn show(&self, text: &mut String) -> Result<(), AllocError> {
-        show_list(self.as_slice(), text)
+        show_between('(', self.as_slice(), ')', text)
     }
-}
-
-// Shows items in brackets.
-fn show_list<T: Shown>(items: &[T], text: &mut String) -> Result<(), AllocError> {
-    text.push('(')?;
-    show_items(items, text)?;
-    text.push(')')
 }
 
 impl<A: Shown> Shown for (A,) {
@@ -100,23 +87,12 @@ impl Shown for Twelve {
             self.0, self.1, self.2, self.3, self.4, self.5, self.6, self.7, self.8, self.9,
             self.10, self.11,
         ];
-        show_list(&parts, text)
-    }
-}
-
-impl Value for TaggedDerValue {
-    fn write(&self, writer: DERWriter<'_>) -> ASN1Result<()> {
-        writer.write_tagged_der(self)
+        show_between('(', &parts, ')', text)
     }
 }
 
 impl Value for Vec<TaggedDerValue> {
     fn write(&self, writer: DERWriter<'_>) -> ASN1Result<()> {
-        writer.write_sequence_of(|seq| {
-            for element in self {
-                seq.next().write_tagged_der(element)?;
-            }
-            Ok(())
-        })
+        write_list(writer, self.as_slice())
     }
 }

@@ -14,11 +14,10 @@
 //!
 //! A number is written by write_i64, else NULL is written.
 
-use crate::answer::{Shown, Value};
 use crate::nest::Nest;
+use crate::parts::Leaf;
 use crate::reading::{Family, read_next_integer};
-use std::alloc::AllocError;
-use yasna::{ASN1Error, ASN1ErrorKind, ASN1Result, BERReader, DERWriter};
+use yasna::{ASN1Error, ASN1ErrorKind, ASN1Result, BERReader, BERReaderSeq};
 
 /// A call whose callback throws an answer away, or makes a refusal.
 #[derive(Clone, Copy)]
@@ -36,12 +35,8 @@ pub enum Discarding {
     ReplaceI8,
 }
 
-/// The number that was read, if one was.
-#[derive(Clone, Copy)]
-pub struct Left(Option<i64>);
-
 impl Family for Discarding {
-    type Value = Left;
+    type Value = Leaf;
 
     fn named(name: &str) -> Option<Discarding> {
         Some(match name {
@@ -60,74 +55,70 @@ impl Family for Discarding {
         })
     }
 
-    fn read(self, reader: BERReader) -> ASN1Result<Left> {
-        let discarded = match self {
-            Discarding::Refuse => return refusing(reader),
-            Discarding::Drop => return dropping(reader),
-            Discarding::Replace => return replacing(reader),
-            Discarding::SequenceThenInteger => return reader.read_sequence(|seq| {
-                let _ = seq.next().read_sequence(read_next_integer);
-                seq.next().read_i64().map(|number| Left(Some(number)))
-            }),
-            Discarding::IntegerThenSequence => return reader.read_sequence(|seq| {
-                let _ = seq.next().read_i64();
-                seq.next()
-                    .read_sequence(read_next_integer)
-                    .map(|number| Left(Some(number)))
-            }),
+    fn read(self, reader: BERReader) -> ASN1Result<Leaf> {
+        match self {
+            Discarding::Refuse => refusing(reader),
+            Discarding::Drop => dropping(reader),
+            Discarding::Replace => reader.read_sequence(replacing),
+            Discarding::SequenceThenInteger => reader.read_sequence(integer_behind_sequence),
+            Discarding::IntegerThenSequence => reader.read_sequence(sequence_behind_integer),
             Discarding::ReplaceBool => {
                 let _ = reader.read_bool();
-                return Err(ASN1Error::new(ASN1ErrorKind::Extra));
+                Err(ASN1Error::new(ASN1ErrorKind::Extra))
             }
             Discarding::ReplaceI8 => {
                 let _ = reader.read_i8();
-                return Err(ASN1Error::new(ASN1ErrorKind::Extra));
+                Err(ASN1Error::new(ASN1ErrorKind::Extra))
             }
-            Discarding::Sequence => reader.read_sequence(read_next_integer).map(|_| Left(None)),
-            Discarding::Refused => refusing(reader),
-            Discarding::Dropped => dropping(reader),
-            Discarding::Deep => Nest(101).read(reader).map(|_| Left(None)),
-        };
-        let _ = discarded;
-        Ok(Left(None))
+            _ => {
+                self.discard(reader);
+                Ok(Leaf::Null)
+            }
+        }
+    }
+}
+
+impl Discarding {
+    // Makes a call, and throws away what it answers.
+    fn discard(self, reader: BERReader) {
+        match self {
+            Discarding::Refused => drop(refusing(reader)),
+            Discarding::Dropped => drop(dropping(reader)),
+            Discarding::Deep => drop(Nest(101).read(reader)),
+            _ => drop(reader.read_sequence(read_next_integer)),
+        }
     }
 }
 
 // A sequence whose callback answers an Err and reads nothing.
-fn refusing(reader: BERReader) -> ASN1Result<Left> {
+fn refusing(reader: BERReader) -> ASN1Result<Leaf> {
     reader.read_sequence(|_seq| Err(ASN1Error::new(ASN1ErrorKind::Invalid)))
 }
 
 // A sequence whose callback throws away what a read answers.
-fn dropping(reader: BERReader) -> ASN1Result<Left> {
+fn dropping(reader: BERReader) -> ASN1Result<Leaf> {
     reader.read_sequence(|seq| {
         let _ = seq.next().read_i64();
-        Ok(Left(None))
+        Ok(Leaf::Null)
     })
 }
 
-// A sequence whose callback throws away what a read answers, and answers an Err of its own.
-fn replacing(reader: BERReader) -> ASN1Result<Left> {
-    reader.read_sequence(|seq| {
-        let _ = seq.next().read_bool();
-        Err(ASN1Error::new(ASN1ErrorKind::Eof))
-    })
+// Throws away what a read answers, and answers an Err of its own.
+fn replacing(seq: &mut BERReaderSeq) -> ASN1Result<Leaf> {
+    let _ = seq.next().read_bool();
+    Err(ASN1Error::new(ASN1ErrorKind::Eof))
 }
 
-impl Shown for Left {
-    fn show(&self, text: &mut String) -> Result<(), AllocError> {
-        match self.0 {
-            Some(number) => write!(text, "{number}"),
-            None => text.push_str("()"),
-        }
-    }
+// Throws a SEQUENCE of an INTEGER away, and reads an INTEGER.
+fn integer_behind_sequence(seq: &mut BERReaderSeq) -> ASN1Result<Leaf> {
+    let _ = seq.next().read_sequence(read_next_integer);
+    let number = seq.next().read_i64()?;
+    Ok(Leaf::Number(number))
 }
 
-impl Value for Left {
-    fn write(&self, writer: DERWriter<'_>) -> ASN1Result<()> {
-        match self.0 {
-            Some(number) => writer.write_i64(number),
-            None => writer.write_null(),
-        }
-    }
+// Throws an INTEGER away, and reads a SEQUENCE of an INTEGER.
+fn sequence_behind_integer(seq: &mut BERReaderSeq) -> ASN1Result<Leaf> {
+    let _ = seq.next().read_i64();
+    let number = seq.next().read_sequence(read_next_integer)?;
+    Ok(Leaf::Number(number))
 }

@@ -9,16 +9,14 @@
 //! | `idle`, `idle_collect` | read_sequence_of and collect_sequence_of whose callback answers Ok unread |
 //! | `seqof_many` | ARG is a number N: N INTEGERs 0 to N - 1 are written, and collected: how many, and how many bytes |
 
-use crate::answer::{Answer, Shown, Value, refused};
-use crate::forms::construct_in;
+use crate::answer::{Answer, refused};
+use crate::forms::{construct_in, parse_in};
 use crate::line::Case;
-use crate::raw::{RawElement, read_element};
+use crate::parts::{Element, Leaf, Part, alone, read_idle, read_number, read_raw};
 use crate::reading::{Family, read_integer};
 use std::alloc::{AllocError, Global};
 use yasna::tags::TAG_INTEGER;
-use yasna::{
-    ASN1Result, BERMode, BERReader, DERWriter, DERWriterSeq, parse_ber, parse_cer, parse_der,
-};
+use yasna::{ASN1Result, BERMode, BERReader};
 
 /// A call on a list.
 #[derive(Clone, Copy)]
@@ -31,18 +29,8 @@ pub enum List {
     IdleCollect,
 }
 
-/// What was read.
-#[derive(Drop)]
-pub enum Items {
-    /// Numbers, where each that is none is a NULL.
-    Choices(Vec<Option<i64>>),
-    Elements(Vec<RawElement>),
-    Sum(i64),
-    Nothing,
-}
-
 impl Family for List {
-    type Value = Items;
+    type Value = Element;
 
     fn named(name: &str) -> Option<List> {
         match name {
@@ -56,92 +44,53 @@ impl Family for List {
         }
     }
 
-    fn read(self, reader: BERReader) -> ASN1Result<Items> {
+    fn read(self, reader: BERReader) -> ASN1Result<Element> {
         match self {
-            List::Integers => reader
-                .collect_sequence_of(|item| item.read_i64().map(Some))
-                .map(Items::Choices),
-            List::Elements => reader
-                .collect_sequence_of(read_element)
-                .map(Items::Elements),
-            List::Choices => reader.collect_sequence_of(read_choice).map(Items::Choices),
-            List::Sum => {
-                let mut sum = 0i64;
-                reader.read_sequence_of(|item| {
-                    sum = sum.wrapping_add(item.read_i64()?);
-                    Ok(())
-                })?;
-                Ok(Items::Sum(sum))
+            List::Integers | List::Elements | List::Choices => {
+                Ok(Element::SequenceOf(self.collect(reader)?))
             }
-            List::Idle => reader.read_sequence_of(|_| Ok(())).map(|()| Items::Nothing),
-            List::IdleCollect => reader.collect_sequence_of(|_| Ok(None)).map(Items::Choices),
+            List::Sum => read_sum(reader),
+            List::Idle => {
+                reader.read_sequence_of(read_idle)?;
+                Ok(alone(Leaf::Null))
+            }
+            List::IdleCollect => {
+                reader.collect_sequence_of(read_idle)?;
+                Ok(alone(Leaf::Null))
+            }
         }
     }
 }
 
-// An INTEGER, or a NULL.
-fn read_choice(reader: BERReader) -> ASN1Result<Option<i64>> {
+impl List {
+    // Collects the items.
+    fn collect(self, reader: BERReader) -> ASN1Result<Vec<Part>> {
+        match self {
+            List::Elements => reader.collect_sequence_of(read_raw),
+            List::Choices => reader.collect_sequence_of(read_choice),
+            _ => reader.collect_sequence_of(read_number),
+        }
+    }
+}
+
+// Reads an INTEGER, or a NULL.
+fn read_choice(reader: BERReader) -> ASN1Result<Part> {
     if reader.lookahead_tag()? == TAG_INTEGER {
-        reader.read_i64().map(Some)
+        read_number(reader)
     } else {
-        reader.read_null().map(|()| None)
+        reader.read_null()?;
+        Ok(Part::Plain(Leaf::Null))
     }
 }
 
-impl Shown for Items {
-    fn show(&self, text: &mut String) -> Result<(), AllocError> {
-        match self {
-            Items::Choices(items) => show_items(items, text),
-            Items::Elements(items) => items.show(text),
-            Items::Sum(sum) => write!(text, "{sum}"),
-            Items::Nothing => text.push_str("()"),
-        }
-    }
-}
-
-// Shows items, with commas between them.
-fn show_items(items: &[Option<i64>], text: &mut String) -> Result<(), AllocError> {
-    text.push('(')?;
-    let mut between = "";
-    for item in items {
-        text.push_str(between)?;
-        match item {
-            Some(number) => write!(text, "{number}")?,
-            None => text.push_str("()")?,
-        }
-        between = ",";
-    }
-    text.push(')')
-}
-
-impl Value for Items {
-    fn write(&self, writer: DERWriter<'_>) -> ASN1Result<()> {
-        match self {
-            Items::Choices(items) => writer.write_sequence_of(|seq| write_items(seq, items)),
-            Items::Elements(items) => writer.write_sequence_of(|seq| write_elements(seq, items)),
-            Items::Sum(sum) => writer.write_i64(*sum),
-            Items::Nothing => writer.write_null(),
-        }
-    }
-}
-
-// Writes items.
-fn write_items(seq: &mut DERWriterSeq, items: &[Option<i64>]) -> ASN1Result<()> {
-    for item in items {
-        match item {
-            Some(number) => seq.next().write_i64(*number)?,
-            None => seq.next().write_null()?,
-        }
-    }
-    Ok(())
-}
-
-// Writes raw elements.
-fn write_elements(seq: &mut DERWriterSeq, items: &[RawElement]) -> ASN1Result<()> {
-    for item in items {
-        item.write(seq.next())?;
-    }
-    Ok(())
+// Reads the sum of INTEGERs.
+fn read_sum(reader: BERReader) -> ASN1Result<Element> {
+    let mut sum = 0i64;
+    reader.read_sequence_of(|item| {
+        sum = sum.wrapping_add(item.read_i64()?);
+        Ok(())
+    })?;
+    Ok(alone(Leaf::Number(sum)))
 }
 
 /// What a call on many items answers.
@@ -178,10 +127,6 @@ fn collected(alloc: Global, mode: BERMode, count: i64) -> ASN1Result<(usize, usi
             Ok(())
         }),
     )?;
-    let items = match mode {
-        BERMode::Ber => parse_ber(alloc, &bytes, read_integers)?,
-        BERMode::Der => parse_der(alloc, &bytes, read_integers)?,
-        BERMode::Cer => parse_cer(alloc, &bytes, read_integers)?,
-    };
+    let items = parse_in(alloc, mode, &bytes, read_integers)?;
     Ok((items.len(), bytes.len()))
 }

@@ -30,6 +30,7 @@
 //! | `fuzz`, `mutation`, `random` | calls on random input, and how it is made |
 //! | `answer` | answers as text, and the list of families |
 //! | `reading` | how a call of a family that reads is made |
+//! | `parts` | what the families that read parts read, how it is shown and written |
 //! | `primitive`, `strings`, `oid`, `times`, `sequence`, `optional`, `list`, `tagged`, `nest`, `recursion`, `raw`, `set_of`, `set`, `set_optional`, `discarding` | the families that read |
 //! | `set_any` | sets of any elements |
 //! | `tree` | elements of many types, as deep as they stand |
@@ -60,6 +61,7 @@ mod mutation;
 mod nest;
 mod oid;
 mod optional;
+mod parts;
 mod primitive;
 mod random;
 mod raw;

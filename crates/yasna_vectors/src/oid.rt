@@ -8,10 +8,10 @@
 
 use crate::answer::{Answer, Shown, Value, refused, show_bytes};
 use crate::line::{Case, bytes_of};
-use crate::reading::Family;
+use crate::reading::{Family, form_of};
 use std::alloc::{AllocError, Global};
 use yasna::models::ObjectIdentifier;
-use yasna::{ASN1Error, ASN1ErrorKind, ASN1Result, BERReader, DERWriter, construct_der, parse_der};
+use yasna::{ASN1Error, ASN1ErrorKind, ASN1Result, BERMode, BERReader, DERWriter, parse_der};
 
 /// The call on a reader or a writer.
 #[derive(Clone, Copy)]
@@ -88,7 +88,7 @@ fn parsed(alloc: Global, components: &ObjectIdentifier) -> Result<String, AllocE
         text.push_str("notencodable")?;
         return Ok(text);
     }
-    match construct_der(alloc, |writer| writer.write_oid(components)) {
+    match form_of(alloc, BERMode::Der, components) {
         Ok(form) => {
             show_bytes(&form, &mut text)?;
             Ok(text)
@@ -123,7 +123,7 @@ fn parts_answer(alloc: Global, count: u64) -> Result<String, AllocError> {
 
 // How many bytes are written of components, which are read again as they were.
 fn written_length(alloc: Global, components: &ObjectIdentifier) -> ASN1Result<usize> {
-    let form = construct_der(alloc, |writer| components.write(writer))?;
+    let form = form_of(alloc, BERMode::Der, components)?;
     let read = parse_der(alloc, &form, |reader| reader.read_oid())?;
     if read == *components {
         Ok(form.len())

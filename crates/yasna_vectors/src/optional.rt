@@ -9,14 +9,11 @@
 //! | `opt_memory` | a part whose callback answers Err(OutOfMemory) unread, whose Err is thrown away, INTEGER |
 //! | `swallow1` | a BOOLEAN or none, an OCTET STRING that is thrown away, INTEGER |
 
-use crate::answer::{Shown, Value};
-use crate::reading::{
-    Family, read_boolean, read_integer, read_next_integer, read_null, read_octet_string,
+use crate::parts::{
+    Element, Leaf, Part, Parts, around, flag, number, read_flag, read_number, read_octets,
 };
-use std::alloc::AllocError;
-use yasna::{
-    ASN1Error, ASN1ErrorKind, ASN1Result, BERReader, BERReaderSeq, DERWriter, DERWriterSeq, Tag,
-};
+use crate::reading::{Family, read_integer, read_next_integer, read_null};
+use yasna::{ASN1Error, ASN1ErrorKind, ASN1Result, BERReader, BERReaderSeq, Tag};
 
 /// A call around such parts.
 #[derive(Clone, Copy)]
@@ -29,19 +26,8 @@ pub enum Optional {
     Discarded,
 }
 
-/// The parts.
-#[derive(Drop)]
-pub enum OptionalParts {
-    Integer(Option<i64>, bool),
-    Default(i64, bool),
-    Three(Option<Vec<u8>>, Option<i64>, Option<()>),
-    Refused(Option<i64>, i64),
-    Memory(i64),
-    Discarded(Option<bool>, i64),
-}
-
 impl Family for Optional {
-    type Value = OptionalParts;
+    type Value = Element;
 
     fn named(name: &str) -> Option<Optional> {
         match name {
@@ -55,154 +41,87 @@ impl Family for Optional {
         }
     }
 
-    fn read(self, reader: BERReader) -> ASN1Result<OptionalParts> {
-        reader.read_sequence(|seq| self.read_parts(seq))
+    fn read(self, reader: BERReader) -> ASN1Result<Element> {
+        let parts = reader.read_sequence(|seq| self.read_parts(seq))?;
+        Ok(Element::Sequence(parts))
     }
 }
 
 impl Optional {
     // Reads the parts.
-    fn read_parts(self, seq: &mut BERReaderSeq) -> ASN1Result<OptionalParts> {
+    fn read_parts(self, seq: &mut BERReaderSeq) -> ASN1Result<Parts> {
         match self {
-            Optional::Integer => {
-                let number = seq.read_optional(read_integer)?;
-                Ok(OptionalParts::Integer(number, seq.next().read_bool()?))
-            }
-            Optional::Default => {
-                let number = seq.read_default(10, read_integer)?;
-                Ok(OptionalParts::Default(number, seq.next().read_bool()?))
-            }
+            Optional::Integer => read_integer_or_none(seq),
+            Optional::Default => read_integer_or_default(seq),
             Optional::Three => read_three(seq),
-            Optional::Refused => {
-                let refused = seq.read_optional(|_| Err(ASN1Error::new(ASN1ErrorKind::Invalid)))?;
-                Ok(OptionalParts::Refused(refused, seq.next().read_i64()?))
-            }
+            Optional::Refused => read_behind_unread(seq),
             Optional::Memory => read_behind_lack(seq),
             Optional::Discarded => read_behind_refusal(seq),
         }
     }
 }
 
-// Reads a number behind a part whose callback says that there is no memory.
-fn read_behind_lack(seq: &mut BERReaderSeq) -> ASN1Result<OptionalParts> {
-    let _ = seq.read_optional(|_| -> ASN1Result<i64> {
-        Err(ASN1Error::new(ASN1ErrorKind::OutOfMemory))
-    });
-    Ok(OptionalParts::Memory(seq.next().read_i64()?))
+// Reads a number that may be absent, and a flag.
+fn read_integer_or_none(seq: &mut BERReaderSeq) -> ASN1Result<Parts> {
+    let first = seq.read_optional(read_number)?;
+    let second = seq.next().read_bool()?;
+    Ok(Parts::Two([first.unwrap_or(Part::Absent), flag(second)]))
 }
 
-// Reads a number behind a part whose refusal is thrown away.
-fn read_behind_refusal(seq: &mut BERReaderSeq) -> ASN1Result<OptionalParts> {
-    let flag = seq.read_optional(read_boolean)?;
-    let _ = seq.next().read_bytes();
-    let number = seq.next().read_i64()?;
-    Ok(OptionalParts::Discarded(flag, number))
+// Reads a number with a default, and a flag.
+fn read_integer_or_default(seq: &mut BERReaderSeq) -> ASN1Result<Parts> {
+    let first = match seq.read_default(10, read_integer)? {
+        10 => Part::Default(Leaf::Number(10)),
+        other => number(other),
+    };
+    let second = seq.next().read_bool()?;
+    Ok(Parts::Two([first, flag(second)]))
 }
 
 // Reads three parts, each of which may be absent.
-fn read_three(seq: &mut BERReaderSeq) -> ASN1Result<OptionalParts> {
-    let octets = seq.read_optional(read_octet_string)?;
-    let number = seq.read_optional(|reader| reader.read_sequence(read_next_integer))?;
-    let null = seq.read_optional(|reader| reader.read_tagged(Tag::context(0), read_null))?;
-    Ok(OptionalParts::Three(octets, number, null))
+fn read_three(seq: &mut BERReaderSeq) -> ASN1Result<Parts> {
+    let octets = seq.read_optional(read_octets)?;
+    let inner = seq.read_optional(read_inner)?;
+    let null = seq.read_optional(read_tagged_null)?;
+    Ok(Parts::Three([
+        octets.unwrap_or(Part::Absent),
+        inner.unwrap_or(Part::Absent),
+        null.unwrap_or(Part::Absent),
+    ]))
 }
 
-// Shows a part, or that there is none.
-fn show_part<T: Shown>(part: &Option<T>, text: &mut String) -> Result<(), AllocError> {
-    match part {
-        Some(value) => value.show(text),
-        None => text.push_str("none"),
-    }
+// Reads a SEQUENCE of a number.
+fn read_inner(reader: BERReader) -> ASN1Result<Part> {
+    let number = reader.read_sequence(read_next_integer)?;
+    Ok(around(number))
 }
 
-impl Shown for OptionalParts {
-    fn show(&self, text: &mut String) -> Result<(), AllocError> {
-        text.push('(')?;
-        match self {
-            OptionalParts::Integer(number, flag) => {
-                show_part(number, text)?;
-                write!(text, ",{flag}")?;
-            }
-            OptionalParts::Default(number, flag) => write!(text, "{number},{flag}")?,
-            OptionalParts::Three(octets, number, null) => show_three(octets, number, null, text)?,
-            OptionalParts::Refused(refused, number) => {
-                show_part(refused, text)?;
-                write!(text, ",{number}")?;
-            }
-            OptionalParts::Memory(number) => write!(text, "{number}")?,
-            OptionalParts::Discarded(flag, number) => {
-                show_part(flag, text)?;
-                write!(text, ",{number}")?;
-            }
-        }
-        text.push(')')
-    }
+// Reads NULL under a tag.
+fn read_tagged_null(reader: BERReader) -> ASN1Result<Part> {
+    reader.read_tagged(Tag::context(0), read_null)?;
+    Ok(Part::Explicit(Tag::context(0), Leaf::Null))
 }
 
-// Shows three parts, each of which may be absent.
-fn show_three(
-    octets: &Option<Vec<u8>>,
-    number: &Option<i64>,
-    null: &Option<()>,
-    text: &mut String,
-) -> Result<(), AllocError> {
-    show_part(octets, text)?;
-    match number {
-        Some(number) => write!(text, ",({number})")?,
-        None => text.push_str(",none")?,
-    }
-    match null {
-        Some(()) => text.push_str(",c0:()"),
-        None => text.push_str(",none"),
-    }
+// Reads a number behind a part whose callback refuses it unread.
+fn read_behind_unread(seq: &mut BERReaderSeq) -> ASN1Result<Parts> {
+    let refused = seq.read_optional(|_| Err(ASN1Error::new(ASN1ErrorKind::Invalid)))?;
+    let behind = seq.next().read_i64()?;
+    Ok(Parts::Two([refused.unwrap_or(Part::Absent), number(behind)]))
 }
 
-impl Value for OptionalParts {
-    fn write(&self, writer: DERWriter<'_>) -> ASN1Result<()> {
-        writer.write_sequence(|seq| match self {
-            OptionalParts::Integer(number, flag) => write_two(seq, number, *flag),
-            OptionalParts::Default(10, flag) => seq.next().write_bool(*flag),
-            OptionalParts::Default(number, flag) => write_two(seq, &Some(*number), *flag),
-            OptionalParts::Three(octets, number, null) => write_three(seq, octets, number, null),
-            OptionalParts::Refused(_, number) | OptionalParts::Memory(number) => {
-                seq.next().write_i64(*number)
-            }
-            OptionalParts::Discarded(flag, number) => {
-                if let Some(flag) = flag {
-                    seq.next().write_bool(*flag)?;
-                }
-                seq.next().write_i64(*number)
-            }
-        })
-    }
+// Reads a number behind a part whose callback says that there is no memory.
+fn read_behind_lack(seq: &mut BERReaderSeq) -> ASN1Result<Parts> {
+    let _ = seq.read_optional(|_| -> ASN1Result<()> {
+        Err(ASN1Error::new(ASN1ErrorKind::OutOfMemory))
+    });
+    let behind = seq.next().read_i64()?;
+    Ok(Parts::One([number(behind)]))
 }
 
-// Writes a number, if there is one, and a flag.
-fn write_two(seq: &mut DERWriterSeq, number: &Option<i64>, flag: bool) -> ASN1Result<()> {
-    if let Some(number) = number {
-        seq.next().write_i64(*number)?;
-    }
-    seq.next().write_bool(flag)
-}
-
-// Writes those of three parts that there are.
-fn write_three(
-    seq: &mut DERWriterSeq,
-    octets: &Option<Vec<u8>>,
-    number: &Option<i64>,
-    null: &Option<()>,
-) -> ASN1Result<()> {
-    if let Some(octets) = octets {
-        seq.next().write_bytes(octets)?;
-    }
-    if let Some(number) = number {
-        seq.next()
-            .write_sequence(|inner| inner.next().write_i64(*number))?;
-    }
-    match null {
-        Some(()) => seq
-            .next()
-            .write_tagged(Tag::context(0), |inner| inner.write_null()),
-        None => Ok(()),
-    }
+// Reads a number behind a part whose refusal is thrown away.
+fn read_behind_refusal(seq: &mut BERReaderSeq) -> ASN1Result<Parts> {
+    let first = seq.read_optional(read_flag)?;
+    let _ = seq.next().read_bytes();
+    let behind = seq.next().read_i64()?;
+    Ok(Parts::Two([first.unwrap_or(Part::Absent), number(behind)]))
 }

@@ -8,6 +8,7 @@
 
 use crate::answer::{Shown, Value, show_bytes};
 use crate::line::bytes_of;
+use crate::parts::{Element, Leaf, Part, alone, read_raw};
 use crate::reading::Family;
 use std::alloc::{AllocError, Global};
 use yasna::models::TaggedDerValue;
@@ -19,18 +20,6 @@ pub enum Raw {
     Whole,
     Tagged,
     LookedAt,
-}
-
-/// An element as it stands.
-#[derive(Drop)]
-pub struct RawElement(pub Vec<u8>);
-
-/// What such a call reads and writes.
-#[derive(Drop)]
-pub enum Element {
-    Whole(RawElement),
-    Tagged(TaggedDerValue),
-    LookedAt(Tag, RawElement),
 }
 
 impl Family for Raw {
@@ -47,23 +36,19 @@ impl Family for Raw {
 
     fn read(self, reader: BERReader) -> ASN1Result<Element> {
         match self {
-            Raw::Whole => Ok(Element::Whole(read_element(reader)?)),
-            Raw::Tagged => Ok(Element::Tagged(reader.read_tagged_der()?)),
+            Raw::Whole => Ok(Element::Alone(read_raw(reader)?)),
+            Raw::Tagged => Ok(alone(Leaf::Tagged(reader.read_tagged_der()?))),
             Raw::LookedAt => {
                 let tag = reader.lookahead_tag()?;
-                Ok(Element::LookedAt(tag, read_element(reader)?))
+                let element = reader.read_der()?;
+                Ok(Element::Alone(Part::Implicit(tag, Leaf::Raw(element))))
             }
         }
     }
 }
 
-/// Reads an element as it stands.
-pub fn read_element(reader: BERReader) -> ASN1Result<RawElement> {
-    Ok(RawElement(reader.read_der()?))
-}
-
 /// The elements that a text is, with commas between them; `-` alone is none, and among others an empty one.
-pub fn elements(alloc: Global, text: &str) -> Option<Result<Vec<RawElement>, AllocError>> {
+pub fn elements(alloc: Global, text: &str) -> Option<Result<Vec<Part>, AllocError>> {
     let mut elements = Vec::new(alloc);
     if text == "-" {
         return Some(Ok(elements));
@@ -73,7 +58,7 @@ pub fn elements(alloc: Global, text: &str) -> Option<Result<Vec<RawElement>, All
             Ok(bytes) => bytes,
             Err(lack) => return Some(Err(lack)),
         };
-        if let Err(lack) = elements.push(RawElement(bytes)) {
+        if let Err(lack) = elements.push(Part::Plain(Leaf::Raw(bytes))) {
             return Some(Err(lack.into()));
         }
     }
@@ -99,19 +84,6 @@ impl Shown for Tag {
     }
 }
 
-impl Shown for RawElement {
-    fn show(&self, text: &mut String) -> Result<(), AllocError> {
-        text.push('r')?;
-        show_bytes(self.0.as_slice(), text)
-    }
-}
-
-impl Value for RawElement {
-    fn write(&self, writer: DERWriter<'_>) -> ASN1Result<()> {
-        writer.write_der(self.0.as_slice())
-    }
-}
-
 /// Its tag, its bit and its payload.
 impl Shown for TaggedDerValue {
     fn show(&self, text: &mut String) -> Result<(), AllocError> {
@@ -125,28 +97,8 @@ impl Shown for TaggedDerValue {
     }
 }
 
-impl Shown for Element {
-    fn show(&self, text: &mut String) -> Result<(), AllocError> {
-        match self {
-            Element::Whole(element) => element.show(text),
-            Element::Tagged(value) => value.show(text),
-            Element::LookedAt(tag, element) => {
-                tag.show(text)?;
-                text.push(':')?;
-                element.show(text)
-            }
-        }
-    }
-}
-
-impl Value for Element {
+impl Value for TaggedDerValue {
     fn write(&self, writer: DERWriter<'_>) -> ASN1Result<()> {
-        match self {
-            Element::Whole(element) => element.write(writer),
-            Element::Tagged(value) => writer.write_tagged_der(value),
-            Element::LookedAt(tag, element) => {
-                writer.write_tagged_implicit(*tag, |inner| element.write(inner))
-            }
-        }
+        writer.write_tagged_der(self)
     }
 }

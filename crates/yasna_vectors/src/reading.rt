@@ -1,13 +1,12 @@
 //! How a call of a family that reads is made.
 
 use crate::answer::{Answer, Value, refused, written};
-use crate::forms::construct_in;
+use crate::forms::{construct_in, parse_in};
 use crate::line::Case;
 use crate::primitive::Primitive;
 use std::alloc::{AllocError, Global};
 use yasna::{
-    ASN1ErrorKind, ASN1Result, BERMode, BERReader, BERReaderSeq, parse_ber, parse_ber_general,
-    parse_cer, parse_der,
+    ASN1ErrorKind, ASN1Result, BERMode, BERReader, BERReaderSeq, parse_ber_general, parse_cer,
 };
 
 /// Calls on a reader.
@@ -73,23 +72,26 @@ fn answer_on<F: Family>(
     marks: bool,
     bytes: &[u8],
 ) -> Answer {
-    match parsed(alloc, mode, both.first, bytes) {
-        Ok(value) => Some(written(alloc, &value, form_of(alloc, mode, &value))),
+    match parse_in(alloc, mode, bytes, |reader| both.first.read(reader)) {
         Err(error) if marks => marked(alloc, mode, both, bytes, error.kind()),
-        Err(error) => Some(refused(alloc, error.kind())),
+        read => Some(answer_of(alloc, mode, read)),
     }
 }
 
-fn parsed<F: Family>(alloc: Global, mode: BERMode, call: F, bytes: &[u8]) -> ASN1Result<F::Value> {
-    match mode {
-        BERMode::Ber => parse_ber(alloc, bytes, |reader| call.read(reader)),
-        BERMode::Der => parse_der(alloc, bytes, |reader| call.read(reader)),
-        BERMode::Cer => parse_cer(alloc, bytes, |reader| call.read(reader)),
+/// The answer of a read: its value and what is written of that, or its refusal.
+pub fn answer_of<V: Value>(
+    alloc: Global,
+    mode: BERMode,
+    read: ASN1Result<V>,
+) -> Result<String, AllocError> {
+    match read {
+        Ok(value) => written(alloc, &value, form_of(alloc, mode, &value)),
+        Err(error) => refused(alloc, error.kind()),
     }
 }
 
-// What is written of a value.
-fn form_of<V: Value>(alloc: Global, mode: BERMode, value: &V) -> ASN1Result<Vec<u8>> {
+/// What is written of a value.
+pub fn form_of<V: Value>(alloc: Global, mode: BERMode, value: &V) -> ASN1Result<Vec<u8>> {
     construct_in(alloc, mode, |writer| value.write(writer))
 }
 
@@ -98,6 +100,21 @@ fn form_of<V: Value>(alloc: Global, mode: BERMode, value: &V) -> ASN1Result<Vec<
 struct Both<F> {
     first: F,
     second: Option<Primitive>,
+}
+
+impl<F: Family> Both<F> {
+    // Why the first call is refused, if it is.
+    fn first_refusal(self, reader: BERReader) -> Option<ASN1ErrorKind> {
+        kind_of(self.first.read(reader))
+    }
+
+    // Why the second one is.
+    fn second_refusal(self, reader: BERReader) -> Option<ASN1ErrorKind> {
+        match self.second {
+            Some(second) => kind_of(second.read(reader)),
+            None => self.first_refusal(reader),
+        }
+    }
 }
 
 // Why two calls were refused.
@@ -154,8 +171,7 @@ fn marked_within<F: Family>(
         mode,
         |reader| read_both(reader, both, &mut kinds),
     );
-    let mark = mark(kind, &kinds, kind_of(parsed), both.second.is_some());
-    format!(in alloc; "err {kind:?} {mark}")
+    marked_refusal(alloc, kind, &kinds, kind_of(parsed), both.second.is_some())
 }
 
 // The same where both calls are made in no SEQUENCE, in CER.
@@ -167,27 +183,32 @@ fn marked_alone<F: Family>(
 ) -> Result<String, AllocError> {
     let mut kinds = Kinds::none();
     let parsed = parse_cer(alloc, bytes, |reader| {
-        kinds.first = kind_of(both.first.read(reader));
-        kinds.second = match both.second {
-            Some(second) => kind_of(second.read(reader)),
-            None => kind_of(both.first.read(reader)),
-        };
+        kinds.first = both.first_refusal(reader);
+        kinds.second = both.second_refusal(reader);
         Ok(())
     });
-    let mark = mark(kind, &kinds, kind_of(parsed), both.second.is_some());
-    format!(in alloc; "err {kind:?} {mark}")
+    marked_refusal(alloc, kind, &kinds, kind_of(parsed), both.second.is_some())
 }
 
 // Makes both calls, whatever the first answers, and notes why each was refused.
 fn read_both<F: Family>(reader: BERReader, both: Both<F>, kinds: &mut Kinds) -> ASN1Result<()> {
     reader.read_sequence(|seq| {
-        kinds.first = kind_of(both.first.read(seq.next()));
-        kinds.second = match both.second {
-            Some(second) => kind_of(second.read(seq.next())),
-            None => kind_of(both.first.read(seq.next())),
-        };
+        kinds.first = both.first_refusal(seq.next());
+        kinds.second = both.second_refusal(seq.next());
         Ok(())
     })
+}
+
+// The answer of a call that was refused, and the mark behind it.
+fn marked_refusal(
+    alloc: Global,
+    kind: ASN1ErrorKind,
+    kinds: &Kinds,
+    parsed: Option<ASN1ErrorKind>,
+    differs: bool,
+) -> Result<String, AllocError> {
+    let mark = mark(kind, kinds, parsed, differs);
+    format!(in alloc; "err {kind:?} {mark}")
 }
 
 // Whether a refusal is kept: moved, if the second call and the parse around both answer it too; unmoved, if another call

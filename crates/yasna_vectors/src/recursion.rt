@@ -19,6 +19,13 @@ pub struct Recursion;
 #[derive(Clone, Copy)]
 pub struct Found(Nested);
 
+impl Found {
+    /// One SEQUENCE around a number.
+    pub fn around(number: i64) -> Found {
+        Found(Nested { depth: 1, number })
+    }
+}
+
 impl Family for Recursion {
     type Value = Found;
 
@@ -27,7 +34,7 @@ impl Family for Recursion {
     }
 
     fn read(self, reader: BERReader) -> ASN1Result<Found> {
-        read_nest(reader).map(Found)
+        Ok(Found(read_nest(reader)?))
     }
 }
 

@@ -9,13 +9,11 @@
 //! them.
 
 use crate::answer::{Answer, refused};
-use crate::forms::construct_in;
+use crate::forms::parse_in;
 use crate::line::Case;
-use crate::reading::read_octet_string;
+use crate::reading::{form_of, read_octet_string};
 use std::alloc::{AllocError, Global};
-use yasna::{
-    ASN1Error, ASN1ErrorKind, ASN1Result, BERMode, construct_der, parse_ber, parse_cer, parse_der,
-};
+use yasna::{ASN1Error, ASN1ErrorKind, ASN1Result, BERMode, construct_der};
 
 /// What a call of this family answers.
 pub fn answer(alloc: Global, case: &Case) -> Answer {
@@ -63,9 +61,14 @@ fn counting(alloc: Global, count: usize) -> Result<Vec<u8>, AllocError> {
 // The bytes as one element, or in segments.
 fn encoded(alloc: Global, bytes: &[u8], segment: Option<usize>) -> ASN1Result<Vec<u8>> {
     match segment {
-        None => construct_der(alloc, |writer| writer.write_bytes(bytes)),
+        None => whole(alloc, bytes),
         Some(size) => cut(alloc, bytes, size),
     }
+}
+
+// The bytes as one element.
+fn whole(alloc: Global, bytes: &[u8]) -> ASN1Result<Vec<u8>> {
+    construct_der(alloc, |writer| writer.write_bytes(bytes))
 }
 
 // The bytes in segments of this size, of one byte at least; the last may be shorter.
@@ -81,7 +84,7 @@ fn cut(alloc: Global, bytes: &[u8], size: usize) -> ASN1Result<Vec<u8>> {
 
 // Appends a primitive element of these bytes.
 fn append_segment(alloc: Global, all: &mut Vec<u8>, segment: &[u8]) -> ASN1Result<()> {
-    let element = construct_der(alloc, |writer| writer.write_bytes(segment))?;
+    let element = whole(alloc, segment)?;
     append(all, &element)
 }
 
@@ -100,14 +103,10 @@ fn read_back(
     encoded: &[u8],
     bytes: &[u8],
 ) -> ASN1Result<(usize, usize)> {
-    let read = match mode {
-        BERMode::Ber => parse_ber(alloc, encoded, read_octet_string)?,
-        BERMode::Der => parse_der(alloc, encoded, read_octet_string)?,
-        BERMode::Cer => parse_cer(alloc, encoded, read_octet_string)?,
-    };
+    let read = parse_in(alloc, mode, encoded, read_octet_string)?;
     if read.as_slice() != bytes {
         return Ok((0, 0));
     }
-    let written = construct_in(alloc, mode, |writer| writer.write_bytes(&read))?;
+    let written = form_of(alloc, mode, &read)?;
     Ok((read.len(), written.len()))
 }

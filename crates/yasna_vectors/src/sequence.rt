@@ -7,10 +7,9 @@
 //! | `seq_sb` | SEQUENCE of an INTEGER, BOOLEAN |
 //! | `seq_empty` | none |
 
-use crate::answer::{Shown, Value};
+use crate::parts::{Element, Part, Parts, around, flag, number};
 use crate::reading::{Family, read_next_integer};
-use std::alloc::AllocError;
-use yasna::{ASN1Result, BERReader, DERWriter, DERWriterSeq};
+use yasna::{ASN1Result, BERReader, BERReaderSeq};
 
 /// A call around parts.
 #[derive(Clone, Copy)]
@@ -21,17 +20,8 @@ pub enum Sequence {
     Empty,
 }
 
-/// The parts.
-#[derive(Clone, Copy)]
-pub enum Parts {
-    IntegerBoolean(i64, bool),
-    Integer(i64),
-    SequenceBoolean(i64, bool),
-    Empty,
-}
-
 impl Family for Sequence {
-    type Value = Parts;
+    type Value = Element;
 
     fn named(name: &str) -> Option<Sequence> {
         match name {
@@ -43,76 +33,60 @@ impl Family for Sequence {
         }
     }
 
-    fn read(self, reader: BERReader) -> ASN1Result<Parts> {
-        reader.read_sequence(|seq| match self {
-            Sequence::IntegerBoolean => {
-                let number = seq.next().read_i64()?;
-                let flag = seq.next().read_bool()?;
-                Ok(Parts::IntegerBoolean(number, flag))
-            }
-            Sequence::Integer => seq.next().read_i64().map(Parts::Integer),
-            Sequence::SequenceBoolean => {
-                let number = seq.next().read_sequence(read_next_integer)?;
-                let flag = seq.next().read_bool()?;
-                Ok(Parts::SequenceBoolean(number, flag))
-            }
-            Sequence::Empty => Ok(Parts::Empty),
-        })
+    fn read(self, reader: BERReader) -> ASN1Result<Element> {
+        let parts = reader.read_sequence(|seq| self.read_parts(seq))?;
+        Ok(Element::Sequence(parts))
     }
 }
 
-impl Parts {
+impl Sequence {
+    // Reads the parts.
+    fn read_parts(self, seq: &mut BERReaderSeq) -> ASN1Result<Parts> {
+        match self {
+            Sequence::IntegerBoolean => read_pair(seq),
+            Sequence::Integer => {
+                let first = seq.next().read_i64()?;
+                Ok(Parts::One([number(first)]))
+            }
+            Sequence::SequenceBoolean => {
+                let inner = seq.next().read_sequence(read_next_integer)?;
+                let second = seq.next().read_bool()?;
+                Ok(Parts::Two([around(inner), flag(second)]))
+            }
+            Sequence::Empty => Ok(Parts::Nothing),
+        }
+    }
+
     /// The parts that a text is, as the parts of this call are shown.
-    pub fn parse(call: Sequence, text: &str) -> Option<Parts> {
+    pub fn value(self, text: &str) -> Option<Parts> {
         let inner = text.strip_prefix('(')?.strip_suffix(')')?;
-        match call {
-            Sequence::IntegerBoolean => {
-                let (number, flag) = inner.split_once(',')?;
-                Some(Parts::IntegerBoolean(number.parse().ok()?, flag.parse().ok()?))
-            }
-            Sequence::Integer => Some(Parts::Integer(inner.parse().ok()?)),
-            Sequence::SequenceBoolean => {
-                let (number, flag) = inner.split_once(',')?;
-                let number = number.strip_prefix('(')?.strip_suffix(')')?;
-                Some(Parts::SequenceBoolean(number.parse().ok()?, flag.parse().ok()?))
-            }
-            Sequence::Empty if inner.is_empty() => Some(Parts::Empty),
+        match self {
+            Sequence::Integer => Some(Parts::One([number(inner.parse().ok()?)])),
+            Sequence::Empty if inner.is_empty() => Some(Parts::Nothing),
             Sequence::Empty => None,
+            Sequence::IntegerBoolean | Sequence::SequenceBoolean => {
+                let (first, second) = inner.split_once(',')?;
+                let second = second.parse().ok()?;
+                Some(Parts::Two([self.first(first)?, flag(second)]))
+            }
         }
     }
 
-    /// Writes the parts, with no header around them.
-    pub fn write_parts(self, seq: &mut DERWriterSeq) -> ASN1Result<()> {
+    // The first of two parts that a text is.
+    fn first(self, text: &str) -> Option<Part> {
         match self {
-            Parts::IntegerBoolean(number, flag) => {
-                seq.next().write_i64(number)?;
-                seq.next().write_bool(flag)
+            Sequence::SequenceBoolean => {
+                let inner = text.strip_prefix('(')?.strip_suffix(')')?;
+                Some(around(inner.parse().ok()?))
             }
-            Parts::Integer(number) => seq.next().write_i64(number),
-            Parts::SequenceBoolean(number, flag) => {
-                seq.next()
-                    .write_sequence(|inner| inner.next().write_i64(number))?;
-                seq.next().write_bool(flag)
-            }
-            Parts::Empty => Ok(()),
+            _ => Some(number(text.parse().ok()?)),
         }
     }
 }
 
-impl Shown for Parts {
-    fn show(&self, text: &mut String) -> Result<(), AllocError> {
-        match self {
-            Parts::IntegerBoolean(number, flag) => write!(text, "({number},{flag})"),
-            Parts::Integer(number) => write!(text, "({number})"),
-            Parts::SequenceBoolean(number, flag) => write!(text, "(({number}),{flag})"),
-            Parts::Empty => text.push_str("()"),
-        }
-    }
-}
-
-impl Value for Parts {
-    fn write(&self, writer: DERWriter<'_>) -> ASN1Result<()> {
-        let parts = *self;
-        writer.write_sequence(|seq| parts.write_parts(seq))
-    }
+/// Reads an INTEGER and a BOOLEAN.
+pub fn read_pair(seq: &mut BERReaderSeq) -> ASN1Result<Parts> {
+    let first = seq.next().read_i64()?;
+    let second = seq.next().read_bool()?;
+    Ok(Parts::Two([number(first), flag(second)]))
 }

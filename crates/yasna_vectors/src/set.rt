@@ -12,13 +12,11 @@
 //! | `set_again` | next BOOLEAN is asked for, whatever comes, then next INTEGER is an INTEGER |
 //! | `set_empty` | nothing is asked for |
 
-use crate::answer::{Shown, Value, show_bytes};
-use crate::raw::{RawElement, read_element};
+use crate::parts::{Element, Leaf, Part, Parts, alone, flag, number, octets, read_raw};
 use crate::reading::{Family, read_integer, read_octet_string};
-use crate::recursion::{Found, Recursion};
-use std::alloc::AllocError;
+use crate::recursion::Recursion;
 use yasna::tags::{TAG_BOOLEAN, TAG_INTEGER, TAG_SEQUENCE};
-use yasna::{ASN1Result, BERReader, BERReaderSet, DERWriter, DERWriterSet, Tag};
+use yasna::{ASN1Result, BERReader, BERReaderSet, Tag};
 
 /// A call on a SET.
 #[derive(Clone, Copy)]
@@ -33,34 +31,8 @@ pub enum Set {
     Empty,
 }
 
-/// The elements.
-#[derive(Drop)]
-pub enum Elements {
-    IntegerBoolean(i64, bool),
-    Integers(i64, i64),
-    Four(Four),
-    Nest(Found),
-    Element(RawElement),
-    Dropped,
-    Again(i64),
-    Empty,
-}
-
-/// Four elements under tags of the context.
-#[derive(Drop)]
-pub struct Four {
-    // under the implicit tag 28
-    implicit: i64,
-    // under the explicit tag 27
-    explicit: i64,
-    // under the explicit tag 345677
-    octets: Vec<u8>,
-    // under the explicit tag 345678
-    last_octets: Vec<u8>,
-}
-
 impl Family for Set {
-    type Value = Elements;
+    type Value = Element;
 
     fn named(name: &str) -> Option<Set> {
         match name {
@@ -76,149 +48,91 @@ impl Family for Set {
         }
     }
 
-    fn read(self, reader: BERReader) -> ASN1Result<Elements> {
+    fn read(self, reader: BERReader) -> ASN1Result<Element> {
+        let elements = reader.read_set(|set| self.read_elements(set))?;
         match self {
-            Set::IntegerBoolean => reader.read_set(read_two),
-            Set::Integers => reader.read_set(read_equal),
-            Set::Four => reader.read_set(read_four),
-            Set::Nest => reader.read_set(read_nested),
-            Set::Element => reader.read_set(read_raw),
-            Set::Dropped => reader.read_set(|set| {
-                set.next(&[TAG_INTEGER])?;
-                Ok(Elements::Dropped)
-            }),
-            Set::Again => reader.read_set(read_again),
-            Set::Empty => reader.read_set(|_set| Ok(Elements::Empty)),
+            Set::Dropped => Ok(alone(Leaf::Null)),
+            _ => Ok(Element::Set(elements)),
         }
     }
+}
+
+impl Set {
+    // Reads the elements.
+    fn read_elements(self, set: &mut BERReaderSet) -> ASN1Result<Parts> {
+        match self {
+            Set::IntegerBoolean => read_two(set),
+            Set::Integers => read_equal(set),
+            Set::Four => read_four(set),
+            Set::Nest => read_nested(set),
+            Set::Element => read_element(set),
+            Set::Dropped => {
+                set.next(&[TAG_INTEGER])?;
+                Ok(Parts::Nothing)
+            }
+            Set::Again => {
+                let _ = set.next(&[TAG_BOOLEAN]);
+                Ok(Parts::One([read_number(set)?]))
+            }
+            Set::Empty => Ok(Parts::Nothing),
+        }
+    }
+}
+
+// Reads an INTEGER.
+fn read_number(set: &mut BERReaderSet) -> ASN1Result<Part> {
+    Ok(number(set.next(&[TAG_INTEGER])?.read_i64()?))
 }
 
 // Reads an INTEGER and a BOOLEAN.
-fn read_two(set: &mut BERReaderSet) -> ASN1Result<Elements> {
-    let number = set.next(&[TAG_INTEGER])?.read_i64()?;
-    let flag = set.next(&[TAG_BOOLEAN])?.read_bool()?;
-    Ok(Elements::IntegerBoolean(number, flag))
+fn read_two(set: &mut BERReaderSet) -> ASN1Result<Parts> {
+    let first = read_number(set)?;
+    let second = set.next(&[TAG_BOOLEAN])?.read_bool()?;
+    Ok(Parts::Two([first, flag(second)]))
 }
 
 // Reads two INTEGERs.
-fn read_equal(set: &mut BERReaderSet) -> ASN1Result<Elements> {
-    let first = set.next(&[TAG_INTEGER])?.read_i64()?;
-    let second = set.next(&[TAG_INTEGER])?.read_i64()?;
-    Ok(Elements::Integers(first, second))
+fn read_equal(set: &mut BERReaderSet) -> ASN1Result<Parts> {
+    let first = read_number(set)?;
+    let second = read_number(set)?;
+    Ok(Parts::Two([first, second]))
 }
 
 // Reads four elements under tags of the context.
-fn read_four(set: &mut BERReaderSet) -> ASN1Result<Elements> {
-    let tag = Tag::context(28);
-    let implicit = set.next(&[tag])?.read_tagged_implicit(tag, read_integer)?;
-    let last_octets = read_octets(set, Tag::context(345678))?;
-    let tag = Tag::context(27);
-    let explicit = set.next(&[tag])?.read_tagged(tag, read_integer)?;
-    let octets = read_octets(set, Tag::context(345677))?;
-    Ok(Elements::Four(Four {
-        implicit,
-        explicit,
-        octets,
-        last_octets,
-    }))
+fn read_four(set: &mut BERReaderSet) -> ASN1Result<Parts> {
+    let first = read_implicit(set, Tag::context(28))?;
+    let second = read_octets(set, Tag::context(345678))?;
+    let third = read_explicit(set, Tag::context(27))?;
+    let fourth = read_octets(set, Tag::context(345677))?;
+    Ok(Parts::Four([first, second, third, fourth]))
+}
+
+// Reads an INTEGER under an implicit tag.
+fn read_implicit(set: &mut BERReaderSet, tag: Tag) -> ASN1Result<Part> {
+    let number = set.next(&[tag])?.read_tagged_implicit(tag, read_integer)?;
+    Ok(Part::Implicit(tag, Leaf::Number(number)))
+}
+
+// Reads an INTEGER under an explicit tag.
+fn read_explicit(set: &mut BERReaderSet, tag: Tag) -> ASN1Result<Part> {
+    let number = set.next(&[tag])?.read_tagged(tag, read_integer)?;
+    Ok(Part::Explicit(tag, Leaf::Number(number)))
 }
 
 // Reads an OCTET STRING under an explicit tag.
-fn read_octets(set: &mut BERReaderSet, tag: Tag) -> ASN1Result<Vec<u8>> {
-    set.next(&[tag])?.read_tagged(tag, read_octet_string)
+fn read_octets(set: &mut BERReaderSet, tag: Tag) -> ASN1Result<Part> {
+    let bytes = set.next(&[tag])?.read_tagged(tag, read_octet_string)?;
+    Ok(Part::Explicit(tag, octets(bytes)))
 }
 
 // Reads SEQUENCEs one in the other.
-fn read_nested(set: &mut BERReaderSet) -> ASN1Result<Elements> {
+fn read_nested(set: &mut BERReaderSet) -> ASN1Result<Parts> {
     let found = Recursion.read(set.next(&[TAG_SEQUENCE])?)?;
-    Ok(Elements::Nest(found))
+    Ok(Parts::One([Part::Plain(Leaf::Nest(found))]))
 }
 
 // Reads a SEQUENCE as it stands.
-fn read_raw(set: &mut BERReaderSet) -> ASN1Result<Elements> {
-    let element = read_element(set.next(&[TAG_SEQUENCE])?)?;
-    Ok(Elements::Element(element))
-}
-
-// Asks for a BOOLEAN, and reads an INTEGER.
-fn read_again(set: &mut BERReaderSet) -> ASN1Result<Elements> {
-    let _ = set.next(&[TAG_BOOLEAN]);
-    let number = set.next(&[TAG_INTEGER])?.read_i64()?;
-    Ok(Elements::Again(number))
-}
-
-impl Shown for Four {
-    fn show(&self, text: &mut String) -> Result<(), AllocError> {
-        let implicit = self.implicit;
-        write!(text, "c28:{implicit},c345678:h")?;
-        show_bytes(self.last_octets.as_slice(), text)?;
-        let explicit = self.explicit;
-        write!(text, ",c27:{explicit},c345677:h")?;
-        show_bytes(self.octets.as_slice(), text)
-    }
-}
-
-impl Shown for Elements {
-    fn show(&self, text: &mut String) -> Result<(), AllocError> {
-        if let Elements::Dropped = self {
-            return text.push_str("()");
-        }
-        text.push('{')?;
-        match self {
-            Elements::IntegerBoolean(number, flag) => write!(text, "{number},{flag}")?,
-            Elements::Integers(first, second) => write!(text, "{first},{second}")?,
-            Elements::Four(four) => four.show(text)?,
-            Elements::Nest(found) => found.show(text)?,
-            Elements::Element(element) => element.show(text)?,
-            Elements::Again(number) => write!(text, "{number}")?,
-            Elements::Dropped | Elements::Empty => (),
-        }
-        text.push('}')
-    }
-}
-
-impl Value for Elements {
-    fn write(&self, writer: DERWriter<'_>) -> ASN1Result<()> {
-        if let Elements::Dropped = self {
-            return writer.write_null();
-        }
-        writer.write_set(|parts| write_elements(parts, self))
-    }
-}
-
-// Writes elements in the order in which they are asked for.
-fn write_elements(parts: &mut DERWriterSet, elements: &Elements) -> ASN1Result<()> {
-    match elements {
-        Elements::IntegerBoolean(number, flag) => {
-            parts.next().write_i64(*number)?;
-            parts.next().write_bool(*flag)
-        }
-        Elements::Integers(first, second) => {
-            parts.next().write_i64(*first)?;
-            parts.next().write_i64(*second)
-        }
-        Elements::Four(four) => write_four(parts, four),
-        Elements::Nest(found) => found.write(parts.next()),
-        Elements::Element(element) => element.write(parts.next()),
-        Elements::Again(number) => parts.next().write_i64(*number),
-        Elements::Dropped | Elements::Empty => Ok(()),
-    }
-}
-
-// Writes four elements under tags of the context.
-fn write_four(parts: &mut DERWriterSet, four: &Four) -> ASN1Result<()> {
-    parts
-        .next()
-        .write_tagged_implicit(Tag::context(28), |inner| inner.write_i64(four.implicit))?;
-    parts.next().write_tagged(
-        Tag::context(345678),
-        |inner| inner.write_bytes(&four.last_octets),
-    )?;
-    parts
-        .next()
-        .write_tagged(Tag::context(27), |inner| inner.write_i64(four.explicit))?;
-    parts.next().write_tagged(
-        Tag::context(345677),
-        |inner| inner.write_bytes(&four.octets),
-    )
+fn read_element(set: &mut BERReaderSet) -> ASN1Result<Parts> {
+    let element = read_raw(set.next(&[TAG_SEQUENCE])?)?;
+    Ok(Parts::One([element]))
 }

@@ -6,11 +6,9 @@
 //! | `setof_sum` | read_set_of an INTEGER; the sum, wrapping, is shown, and written as it is |
 //! | `setof_idle`, `setof_idle_collect` | read_set_of and collect_set_of whose callback answers Ok unread |
 
-use crate::answer::{Shown, Value, show_items};
-use crate::raw::{RawElement, read_element};
-use crate::reading::{Family, read_integer, read_octet_string};
-use std::alloc::AllocError;
-use yasna::{ASN1Result, BERReader, DERWriter};
+use crate::parts::{Element, Leaf, Part, alone, read_idle, read_number, read_octets, read_raw};
+use crate::reading::Family;
+use yasna::{ASN1Result, BERReader};
 
 /// A call on a SET OF.
 #[derive(Clone, Copy)]
@@ -23,18 +21,8 @@ pub enum SetOf {
     IdleCollect,
 }
 
-/// What was read.
-#[derive(Drop)]
-pub enum Members {
-    Integers(Vec<i64>),
-    Octets(Vec<Vec<u8>>),
-    Elements(Vec<RawElement>),
-    Sum(i64),
-    Nothing,
-}
-
 impl Family for SetOf {
-    type Value = Members;
+    type Value = Element;
 
     fn named(name: &str) -> Option<SetOf> {
         match name {
@@ -48,76 +36,41 @@ impl Family for SetOf {
         }
     }
 
-    fn read(self, reader: BERReader) -> ASN1Result<Members> {
+    fn read(self, reader: BERReader) -> ASN1Result<Element> {
         match self {
-            SetOf::Integers => reader.collect_set_of(read_integer).map(Members::Integers),
-            SetOf::Octets => reader
-                .collect_set_of(read_octet_string)
-                .map(Members::Octets),
-            SetOf::Elements => reader.collect_set_of(read_element).map(Members::Elements),
-            SetOf::Sum => {
-                let mut sum = 0i64;
-                reader.read_set_of(|item| {
-                    sum = sum.wrapping_add(item.read_i64()?);
-                    Ok(())
-                })?;
-                Ok(Members::Sum(sum))
+            SetOf::Integers | SetOf::Octets | SetOf::Elements => {
+                Ok(Element::SetOf(self.collect(reader)?))
             }
-            SetOf::Idle => reader.read_set_of(|_| Ok(())).map(|()| Members::Nothing),
-            SetOf::IdleCollect => reader.collect_set_of(|_| Ok(0)).map(Members::Integers),
+            SetOf::Sum => read_sum(reader),
+            SetOf::Idle => {
+                reader.read_set_of(read_idle)?;
+                Ok(alone(Leaf::Null))
+            }
+            SetOf::IdleCollect => {
+                reader.collect_set_of(read_idle)?;
+                Ok(alone(Leaf::Null))
+            }
         }
     }
 }
 
-// Shows items in square brackets.
-fn show_members<T: Shown>(items: &[T], text: &mut String) -> Result<(), AllocError> {
-    text.push('[')?;
-    show_items(items, text)?;
-    text.push(']')
-}
-
-impl Shown for Members {
-    fn show(&self, text: &mut String) -> Result<(), AllocError> {
+impl SetOf {
+    // Collects the items.
+    fn collect(self, reader: BERReader) -> ASN1Result<Vec<Part>> {
         match self {
-            Members::Integers(items) => show_members(items.as_slice(), text),
-            Members::Octets(items) => show_members(items.as_slice(), text),
-            Members::Elements(items) => show_members(items.as_slice(), text),
-            Members::Sum(sum) => write!(text, "{sum}"),
-            Members::Nothing => text.push_str("()"),
+            SetOf::Octets => reader.collect_set_of(read_octets),
+            SetOf::Elements => reader.collect_set_of(read_raw),
+            _ => reader.collect_set_of(read_number),
         }
     }
 }
 
-/// Writes a SET OF these items.
-pub fn write_members<T: Value>(writer: DERWriter<'_>, items: &[T]) -> ASN1Result<()> {
-    writer.write_set_of(|set| {
-        for item in items {
-            item.write(set.next())?;
-        }
+// Reads the sum of INTEGERs.
+fn read_sum(reader: BERReader) -> ASN1Result<Element> {
+    let mut sum = 0i64;
+    reader.read_set_of(|item| {
+        sum = sum.wrapping_add(item.read_i64()?);
         Ok(())
-    })
-}
-
-impl Value for i64 {
-    fn write(&self, writer: DERWriter<'_>) -> ASN1Result<()> {
-        writer.write_i64(*self)
-    }
-}
-
-impl Value for Vec<u8> {
-    fn write(&self, writer: DERWriter<'_>) -> ASN1Result<()> {
-        writer.write_bytes(self)
-    }
-}
-
-impl Value for Members {
-    fn write(&self, writer: DERWriter<'_>) -> ASN1Result<()> {
-        match self {
-            Members::Integers(items) => write_members(writer, items.as_slice()),
-            Members::Octets(items) => write_members(writer, items.as_slice()),
-            Members::Elements(items) => write_members(writer, items.as_slice()),
-            Members::Sum(sum) => writer.write_i64(*sum),
-            Members::Nothing => writer.write_null(),
-        }
-    }
+    })?;
+    Ok(alone(Leaf::Number(sum)))
 }

@@ -5,11 +5,10 @@
 //! | `set_opt` | read_optional INTEGER is an INTEGER or none, read_default BOOLEAN a BOOLEAN, which is false where there is none |
 //! | `set_optidle` | read_optional INTEGER, whose callback answers Ok unread; where it is there `()` is shown and NULL written, else nothing |
 
-use crate::answer::{Shown, Value};
-use crate::reading::{Family, read_boolean, read_integer};
-use std::alloc::AllocError;
+use crate::parts::{Element, Leaf, Part, Parts, alone, flag, read_idle, read_number};
+use crate::reading::{Family, read_boolean};
 use yasna::tags::{TAG_BOOLEAN, TAG_INTEGER};
-use yasna::{ASN1Result, BERReader, BERReaderSet, DERWriter, DERWriterSet};
+use yasna::{ASN1Result, BERReader, BERReaderSet};
 
 /// A call on such a SET.
 #[derive(Clone, Copy)]
@@ -18,15 +17,8 @@ pub enum OptionalSet {
     Idle,
 }
 
-/// The elements.
-#[derive(Clone, Copy)]
-pub enum OptionalElements {
-    Default(Option<i64>, bool),
-    Idle(Option<()>),
-}
-
 impl Family for OptionalSet {
-    type Value = OptionalElements;
+    type Value = Element;
 
     fn named(name: &str) -> Option<OptionalSet> {
         match name {
@@ -36,54 +28,30 @@ impl Family for OptionalSet {
         }
     }
 
-    fn read(self, reader: BERReader) -> ASN1Result<OptionalElements> {
+    fn read(self, reader: BERReader) -> ASN1Result<Element> {
+        reader.read_set(|set| self.read_elements(set))
+    }
+}
+
+impl OptionalSet {
+    // Reads the elements.
+    fn read_elements(self, set: &mut BERReaderSet) -> ASN1Result<Element> {
         match self {
-            OptionalSet::Default => reader.read_set(read_default),
-            OptionalSet::Idle => reader.read_set(|set| {
-                let idle = set.read_optional(&[TAG_INTEGER], |_| Ok(()))?;
-                Ok(OptionalElements::Idle(idle))
-            }),
+            OptionalSet::Default => read_default(set),
+            OptionalSet::Idle => match set.read_optional(&[TAG_INTEGER], read_idle)? {
+                Some(()) => Ok(alone(Leaf::Null)),
+                None => Ok(Element::Alone(Part::Absent)),
+            },
         }
     }
 }
 
 // Reads an INTEGER that may be absent, and a BOOLEAN with a default.
-fn read_default(set: &mut BERReaderSet) -> ASN1Result<OptionalElements> {
-    let number = set.read_optional(&[TAG_INTEGER], read_integer)?;
-    let flag = set.read_default(&[TAG_BOOLEAN], false, read_boolean)?;
-    Ok(OptionalElements::Default(number, flag))
-}
-
-impl Shown for OptionalElements {
-    fn show(&self, text: &mut String) -> Result<(), AllocError> {
-        match self {
-            OptionalElements::Default(Some(number), flag) => write!(text, "{{{number},{flag}}}"),
-            OptionalElements::Default(None, flag) => write!(text, "{{none,{flag}}}"),
-            OptionalElements::Idle(Some(())) => text.push_str("()"),
-            OptionalElements::Idle(None) => text.push_str("none"),
-        }
-    }
-}
-
-impl Value for OptionalElements {
-    fn write(&self, writer: DERWriter<'_>) -> ASN1Result<()> {
-        match self {
-            OptionalElements::Default(number, flag) => {
-                writer.write_set(|parts| write_default(parts, *number, *flag))
-            }
-            OptionalElements::Idle(Some(())) => writer.write_null(),
-            OptionalElements::Idle(None) => Ok(()),
-        }
-    }
-}
-
-// Writes a number, if there is one, and a flag that is set.
-fn write_default(parts: &mut DERWriterSet, number: Option<i64>, flag: bool) -> ASN1Result<()> {
-    if let Some(number) = number {
-        parts.next().write_i64(number)?;
-    }
-    if flag {
-        parts.next().write_bool(true)?;
-    }
-    Ok(())
+fn read_default(set: &mut BERReaderSet) -> ASN1Result<Element> {
+    let first = set.read_optional(&[TAG_INTEGER], read_number)?;
+    let second = match set.read_default(&[TAG_BOOLEAN], false, read_boolean)? {
+        true => flag(true),
+        false => Part::Default(Leaf::Flag(false)),
+    };
+    Ok(Element::Set(Parts::Two([first.unwrap_or(Part::Absent), second])))
 }

@@ -148,10 +148,16 @@ fn takes(bytes: usize, bits: usize) -> bool
     bytes == bits / 8 + usize::from(bits % 8 != 0)
 }
 
+impl Value for Vec<u8> {
+    fn write(&self, writer: DERWriter<'_>) -> ASN1Result<()> {
+        writer.write_bytes(self)
+    }
+}
+
 impl Value for Content {
     fn write(&self, writer: DERWriter<'_>) -> ASN1Result<()> {
         match self {
-            Content::Bytes(bytes) => writer.write_bytes(bytes),
+            Content::Bytes(bytes) => bytes.write(writer),
             Content::Bits(bytes, count) if takes(bytes.len(), *count) => {
                 writer.write_bitvec_bytes(bytes, *count)
             }

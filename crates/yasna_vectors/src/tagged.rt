@@ -8,11 +8,11 @@
 //! | `itag31_seq` | read_tagged_implicit private 1000 of a SEQUENCE of an INTEGER and a BOOLEAN |
 //! | `itag3_tag4`, `itag3_itag4` | read_tagged_implicit context 3 of read_tagged context 4, of read_tagged_implicit context 4, of an INTEGER |
 
-use crate::answer::{Shown, Value};
+use crate::parts::{Element, Leaf, Part};
 use crate::reading::{Family, read_integer, read_null};
-use crate::strings::{Class, Content};
-use std::alloc::AllocError;
-use yasna::{ASN1Result, BERReader, DERWriter, Tag};
+use crate::sequence::read_pair;
+use crate::strings::{Class, Strings};
+use yasna::{ASN1Result, BERReader, Tag};
 
 /// A call around an element.
 #[derive(Clone, Copy)]
@@ -29,20 +29,8 @@ pub enum Tagging {
     ImplicitImplicit,
 }
 
-/// What stands under the tags.
-#[derive(Drop)]
-pub enum Tagged {
-    Integer(i64),
-    Null,
-    ImplicitInteger(i64),
-    ImplicitContent(Content),
-    ImplicitSequence(i64, bool),
-    ImplicitExplicit(i64),
-    ImplicitImplicit(i64),
-}
-
 impl Family for Tagging {
-    type Value = Tagged;
+    type Value = Element;
 
     fn named(name: &str) -> Option<Tagging> {
         Some(match name {
@@ -60,132 +48,88 @@ impl Family for Tagging {
         })
     }
 
-    fn read(self, reader: BERReader) -> ASN1Result<Tagged> {
+    fn read(self, reader: BERReader) -> ASN1Result<Element> {
         match self {
-            Tagging::Integer => reader
-                .read_tagged(Tag::context(3), read_integer)
-                .map(Tagged::Integer),
-            Tagging::Null => reader
-                .read_tagged(Tag::context(31), read_null)
-                .map(|()| Tagged::Null),
-            _ => self.read_implicit(reader),
+            Tagging::Integer => {
+                let number = reader.read_tagged(Tag::context(3), read_integer)?;
+                Ok(self.around(Leaf::Number(number)))
+            }
+            Tagging::Null => {
+                reader.read_tagged(Tag::context(31), read_null)?;
+                Ok(self.around(Leaf::Null))
+            }
+            Tagging::ImplicitSequence => {
+                let tag = Tag::private(1000);
+                let parts = reader.read_tagged_implicit(
+                    tag,
+                    |inner| inner.read_sequence(read_pair),
+                )?;
+                Ok(Element::ImplicitSequence(tag, parts))
+            }
+            _ => {
+                let tag = Tag::context(3);
+                let leaf = reader.read_tagged_implicit(tag, |inner| self.read_inner(inner))?;
+                Ok(self.around(leaf))
+            }
         }
     }
 }
 
 impl Tagging {
     /// The value under these tags that a text is: a number, or `()` where a NULL stands there.
-    pub fn value(self, text: &str) -> Option<Tagged> {
-        Some(match self {
-            Tagging::Integer => Tagged::Integer(text.parse().ok()?),
-            Tagging::ImplicitInteger => Tagged::ImplicitInteger(text.parse().ok()?),
-            Tagging::ImplicitExplicit => Tagged::ImplicitExplicit(text.parse().ok()?),
-            Tagging::ImplicitImplicit => Tagged::ImplicitImplicit(text.parse().ok()?),
-            Tagging::Null if text == "()" => Tagged::Null,
-            _ => return None,
-        })
+    pub fn value(self, text: &str) -> Option<Element> {
+        match self {
+            Tagging::Null if text == "()" => Some(self.around(Leaf::Null)),
+            Tagging::Integer
+            | Tagging::ImplicitInteger
+            | Tagging::ImplicitExplicit
+            | Tagging::ImplicitImplicit => Some(self.around(Leaf::Number(text.parse().ok()?))),
+            _ => None,
+        }
+    }
+
+    // An element that holds this under the tags of the call.
+    fn around(self, leaf: Leaf) -> Element {
+        let outer = Tag::context(3);
+        let inner = Tag::context(4);
+        match self {
+            Tagging::Integer => Element::Alone(Part::Explicit(outer, leaf)),
+            Tagging::Null => Element::Alone(Part::Explicit(Tag::context(31), leaf)),
+            Tagging::ImplicitExplicit => Element::Implicit(outer, Part::Explicit(inner, leaf)),
+            Tagging::ImplicitImplicit => Element::Implicit(outer, Part::Implicit(inner, leaf)),
+            _ => Element::Implicit(outer, Part::Plain(leaf)),
+        }
     }
 
     // Reads what stands under an implicit tag.
-    fn read_implicit(self, reader: BERReader) -> ASN1Result<Tagged> {
-        let tag = match self {
-            Tagging::ImplicitSequence => Tag::private(1000),
-            _ => Tag::context(3),
-        };
-        reader.read_tagged_implicit(tag, |inner| self.read_inner(inner))
-    }
-
-    // Reads it, where the tag waits.
-    fn read_inner(self, reader: BERReader) -> ASN1Result<Tagged> {
+    fn read_inner(self, reader: BERReader) -> ASN1Result<Leaf> {
         match self {
             Tagging::ImplicitAgain => match reader.read_i64() {
-                Ok(number) => Ok(Tagged::ImplicitInteger(number)),
-                Err(_) => reader.read_i64().map(Tagged::ImplicitInteger),
+                Ok(number) => Ok(Leaf::Number(number)),
+                Err(_) => read_leaf(reader),
             },
-            Tagging::ImplicitBytes => {
-                let bytes = reader.read_bytes()?;
-                Ok(Tagged::ImplicitContent(Content::Bytes(bytes)))
+            Tagging::ImplicitBytes => read_content(Strings::Bytes, reader),
+            Tagging::ImplicitBits => read_content(Strings::Bits, reader),
+            Tagging::ImplicitText => read_content(Strings::Text(Class::Utf8), reader),
+            Tagging::ImplicitExplicit => {
+                let number = reader.read_tagged(Tag::context(4), read_integer)?;
+                Ok(Leaf::Number(number))
             }
-            Tagging::ImplicitBits => {
-                let (bytes, count) = reader.read_bitvec_bytes()?;
-                Ok(Tagged::ImplicitContent(Content::Bits(bytes, count)))
+            Tagging::ImplicitImplicit => {
+                let number = reader.read_tagged_implicit(Tag::context(4), read_integer)?;
+                Ok(Leaf::Number(number))
             }
-            Tagging::ImplicitText => {
-                let text = reader.read_utf8string()?;
-                Ok(Tagged::ImplicitContent(Content::Text(Class::Utf8, text)))
-            }
-            Tagging::ImplicitSequence => reader.read_sequence(|seq| {
-                let number = seq.next().read_i64()?;
-                let flag = seq.next().read_bool()?;
-                Ok(Tagged::ImplicitSequence(number, flag))
-            }),
-            Tagging::ImplicitExplicit => reader
-                .read_tagged(Tag::context(4), read_integer)
-                .map(Tagged::ImplicitExplicit),
-            Tagging::ImplicitImplicit => reader
-                .read_tagged_implicit(Tag::context(4), read_integer)
-                .map(Tagged::ImplicitImplicit),
-            Tagging::Integer | Tagging::Null | Tagging::ImplicitInteger => {
-                reader.read_i64().map(Tagged::ImplicitInteger)
-            }
+            _ => read_leaf(reader),
         }
     }
 }
 
-impl Shown for Tagged {
-    fn show(&self, text: &mut String) -> Result<(), AllocError> {
-        match self {
-            Tagged::Integer(number) | Tagged::ImplicitInteger(number) => {
-                write!(text, "c3:{number}")
-            }
-            Tagged::Null => text.push_str("c31:()"),
-            Tagged::ImplicitContent(content) => {
-                text.push_str("c3:")?;
-                content.show(text)
-            }
-            Tagged::ImplicitSequence(number, flag) => write!(text, "p1000:({number},{flag})"),
-            Tagged::ImplicitExplicit(number) | Tagged::ImplicitImplicit(number) => {
-                write!(text, "c3:c4:{number}")
-            }
-        }
-    }
+// Reads an INTEGER.
+fn read_leaf(reader: BERReader) -> ASN1Result<Leaf> {
+    Ok(Leaf::Number(reader.read_i64()?))
 }
 
-impl Value for Tagged {
-    fn write(&self, writer: DERWriter<'_>) -> ASN1Result<()> {
-        match self {
-            Tagged::Integer(number) => {
-                writer.write_tagged(Tag::context(3), |inner| inner.write_i64(*number))
-            }
-            Tagged::Null => writer.write_tagged(Tag::context(31), |inner| inner.write_null()),
-            Tagged::ImplicitSequence(number, flag) => {
-                writer.write_tagged_implicit(Tag::private(1000), |inner| {
-                    inner.write_sequence(|seq| {
-                        seq.next().write_i64(*number)?;
-                        seq.next().write_bool(*flag)
-                    })
-                })
-            }
-            _ => writer.write_tagged_implicit(Tag::context(3), |inner| self.write_inner(inner)),
-        }
-    }
-}
-
-impl Tagged {
-    // Writes what stands under an implicit tag.
-    fn write_inner(&self, writer: DERWriter<'_>) -> ASN1Result<()> {
-        match self {
-            Tagged::ImplicitContent(content) => content.write(writer),
-            Tagged::ImplicitExplicit(number) => {
-                writer.write_tagged(Tag::context(4), |inner| inner.write_i64(*number))
-            }
-            Tagged::ImplicitImplicit(number) => {
-                writer.write_tagged_implicit(Tag::context(4), |inner| inner.write_i64(*number))
-            }
-            Tagged::Integer(number)
-            | Tagged::ImplicitInteger(number)
-            | Tagged::ImplicitSequence(number, _) => writer.write_i64(*number),
-            Tagged::Null => writer.write_null(),
-        }
-    }
+// Reads a string.
+fn read_content(call: Strings, reader: BERReader) -> ASN1Result<Leaf> {
+    Ok(Leaf::Content(call.read(reader)?))
 }

@@ -6,10 +6,10 @@
 
 use crate::answer::{Answer, Shown, Value, written};
 use crate::line::{Case, bytes_of};
-use crate::reading::Family;
+use crate::reading::{Family, form_of};
 use std::alloc::{AllocError, Global};
 use yasna::models::{GeneralizedTime, Offset, UTCTime};
-use yasna::{ASN1Result, BERReader, DERWriter, construct_der};
+use yasna::{ASN1Result, BERMode, BERReader, DERWriter};
 
 /// The read and the write of UTCTime.
 #[derive(Clone, Copy)]
@@ -97,11 +97,7 @@ fn utc_answer(alloc: Global, arg: &str) -> Answer {
 
 // The time, and what is written of it.
 fn form<T: Value>(alloc: Global, time: &T) -> Result<String, AllocError> {
-    written(
-        alloc,
-        time,
-        construct_der(alloc, |writer| time.write(writer)),
-    )
+    written(alloc, time, form_of(alloc, BERMode::Der, time))
 }
 
 // What parsing a text of GeneralizedTime answers.

@@ -11,13 +11,12 @@
 //! What stands within an element is shown and written when it has been read, and is written into it as it stands.
 ghost use Rattle.yasna.specs.reader.State.{IsFresh};
 
-use crate::answer::{Answer, Shown, Value, refused, show_items, written};
-use crate::forms::construct_in;
+use crate::answer::{Answer, Shown, Value, show_between};
 use crate::line::Case;
 use crate::oid::Oid;
+use crate::parts::{show_under, write_explicit, write_implicit, write_list, write_set_of};
 use crate::primitive::Primitive;
-use crate::reading::{Family, read_octet_string};
-use crate::set_of::write_members;
+use crate::reading::{Family, answer_of, form_of, read_octet_string};
 use crate::strings::{Class, Strings};
 use crate::times::{Generalized, Utc};
 use std::alloc::{AllocError, Global};
@@ -49,6 +48,37 @@ impl Value for Tree {
     }
 }
 
+// An element that holds others, or octets under a tag.
+#[derive(Drop)]
+enum Holding {
+    Explicit(Tag, Tree),
+    Implicit(Tag, Vec<u8>),
+    Sequence(Vec<Tree>),
+    Set(Vec<Tree>),
+}
+
+impl Shown for Holding {
+    fn show(&self, text: &mut String) -> Result<(), AllocError> {
+        match self {
+            Holding::Explicit(tag, inner) => show_under(*tag, inner, text),
+            Holding::Implicit(tag, octets) => show_under(*tag, octets, text),
+            Holding::Sequence(items) => show_between('(', items, ')', text),
+            Holding::Set(items) => show_between('[', items, ']', text),
+        }
+    }
+}
+
+impl Value for Holding {
+    fn write(&self, writer: DERWriter<'_>) -> ASN1Result<()> {
+        match self {
+            Holding::Explicit(tag, inner) => write_explicit(writer, *tag, inner),
+            Holding::Implicit(tag, octets) => write_implicit(writer, *tag, octets),
+            Holding::Sequence(items) => write_list(writer, items),
+            Holding::Set(items) => write_set_of(writer, items),
+        }
+    }
+}
+
 /// What the call answers.
 pub fn answer(alloc: Global, case: &Case) -> Answer {
     let mode = case.mode?;
@@ -63,19 +93,8 @@ pub fn answer(alloc: Global, case: &Case) -> Answer {
 
 // What it answers on these bytes.
 fn answer_on(alloc: Global, mode: BERMode, bytes: &[u8]) -> Result<String, AllocError> {
-    match parsed(alloc, mode, bytes) {
-        Ok(tree) => written(alloc, &tree, form_of(alloc, mode, &tree)),
-        Err(error) => refused(alloc, error.kind()),
-    }
-}
-
-fn parsed(alloc: Global, mode: BERMode, bytes: &[u8]) -> ASN1Result<Tree> {
-    parse_ber_general(alloc, bytes, mode, |reader| read_tree(alloc, reader))
-}
-
-// What is written of a tree.
-fn form_of(alloc: Global, mode: BERMode, tree: &Tree) -> ASN1Result<Vec<u8>> {
-    construct_in(alloc, mode, |writer| tree.write(writer))
+    let read = parse_ber_general(alloc, bytes, mode, |reader| read_tree(alloc, reader));
+    answer_of(alloc, mode, read)
 }
 
 // Reads an element by its tag.
@@ -91,7 +110,7 @@ fn read_tree(alloc: Global, reader: BERReader) -> ASN1Result<Tree> {
                     requires { IsFresh inner.old }
                 { read_tree(alloc, inner) },
             )?;
-            explicit(alloc, mode, tag, &inner)
+            tree_of(alloc, mode, &Holding::Explicit(tag, inner))
         }
         _ if tag == TAG_SEQUENCE => {
             let items = reader.collect_sequence_of(
@@ -99,7 +118,7 @@ fn read_tree(alloc: Global, reader: BERReader) -> ASN1Result<Tree> {
                     requires { IsFresh item.old }
                 { read_tree(alloc, item) },
             )?;
-            sequence(alloc, mode, &items)
+            tree_of(alloc, mode, &Holding::Sequence(items))
         }
         _ if tag == TAG_SET => {
             let items = reader.collect_set_of(
@@ -107,7 +126,7 @@ fn read_tree(alloc: Global, reader: BERReader) -> ASN1Result<Tree> {
                     requires { IsFresh item.old }
                 { read_tree(alloc, item) },
             )?;
-            set(alloc, mode, &items)
+            tree_of(alloc, mode, &Holding::Set(items))
         }
         _ => read_simple(alloc, tag, reader),
     }
@@ -154,80 +173,22 @@ fn string_of(tag: Tag) -> Option<Strings> {
 fn read_as<F: Family>(alloc: Global, call: F, reader: BERReader) -> ASN1Result<Tree> {
     let mode = reader.mode();
     let value = call.read(reader)?;
-    let mut shown = String::new(alloc);
-    value.show(&mut shown).map_err(lack)?;
-    let form = construct_in(alloc, mode, |writer| value.write(writer))?;
-    Ok(Tree { shown, form })
+    tree_of(alloc, mode, &value)
 }
 
 // Reads an OCTET STRING under an implicit tag.
 fn read_implicit(alloc: Global, tag: Tag, reader: BERReader) -> ASN1Result<Tree> {
     let mode = reader.mode();
     let octets = reader.read_tagged_implicit(tag, read_octet_string)?;
-    let shown = shown_under(alloc, tag, &octets).map_err(lack)?;
-    let form = construct_in(
-        alloc,
-        mode,
-        |writer| writer.write_tagged_implicit(tag, |inner| inner.write_bytes(&octets)),
-    )?;
-    Ok(Tree { shown, form })
+    tree_of(alloc, mode, &Holding::Implicit(tag, octets))
 }
 
-// An element under an explicit tag.
-fn explicit(alloc: Global, mode: BERMode, tag: Tag, inner: &Tree) -> ASN1Result<Tree> {
-    let shown = shown_under(alloc, tag, inner).map_err(lack)?;
-    let form = construct_in(
-        alloc,
-        mode,
-        |writer| writer.write_tagged(tag, |part| inner.write(part)),
-    )?;
-    Ok(Tree { shown, form })
-}
-
-// How an element is shown behind a tag.
-fn shown_under<V: Shown>(alloc: Global, tag: Tag, value: &V) -> Result<String, AllocError> {
+// How a value is shown, and its form.
+fn tree_of<V: Value>(alloc: Global, mode: BERMode, value: &V) -> ASN1Result<Tree> {
     let mut shown = String::new(alloc);
-    tag.show(&mut shown)?;
-    shown.push(':')?;
-    value.show(&mut shown)?;
-    Ok(shown)
-}
-
-// A SEQUENCE of elements.
-fn sequence(alloc: Global, mode: BERMode, items: &[Tree]) -> ASN1Result<Tree> {
-    let shown = shown_between(alloc, '(', items, ')').map_err(lack)?;
-    let form = construct_in(
-        alloc,
-        mode,
-        |writer| writer.write_sequence_of(|seq| {
-            for item in items {
-                item.write(seq.next())?;
-            }
-            Ok(())
-        }),
-    )?;
+    value.show(&mut shown).map_err(lack)?;
+    let form = form_of(alloc, mode, value)?;
     Ok(Tree { shown, form })
-}
-
-// A SET OF elements.
-fn set(alloc: Global, mode: BERMode, items: &[Tree]) -> ASN1Result<Tree> {
-    let shown = shown_between(alloc, '[', items, ']').map_err(lack)?;
-    let form = construct_in(alloc, mode, |writer| write_members(writer, items))?;
-    Ok(Tree { shown, form })
-}
-
-// How elements are shown between brackets.
-fn shown_between(
-    alloc: Global,
-    first: char,
-    items: &[Tree],
-    last: char,
-) -> Result<String, AllocError> {
-    let mut shown = String::new(alloc);
-    shown.push(first)?;
-    show_items(items, &mut shown)?;
-    shown.push(last)?;
-    Ok(shown)
 }
 
 // The refusal of a read for which there was no memory.

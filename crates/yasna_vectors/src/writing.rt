@@ -21,23 +21,22 @@
 //!
 //! `ws` and `tws` write parts of a sequence with no header around them.
 
-use crate::answer::{Answer, Shown, Value, refused, written};
+use crate::answer::{Answer, Shown, Value, written};
 use crate::line::Case;
 use crate::nest::Nested;
 use crate::oid::Oid;
+use crate::parts::{Element, Parts, write_parts};
 use crate::primitive::{Primitive, Scalar};
 use crate::raw::elements;
-use crate::reading::Family;
-use crate::sequence::{Parts, Sequence};
-use crate::set_any::AnyElements;
-use crate::set_of::Members;
+use crate::reading::{Family, form_of};
+use crate::sequence::Sequence;
 use crate::strings::{Content, Strings};
-use crate::tagged::{Tagged, Tagging};
+use crate::tagged::Tagging;
 use std::alloc::{AllocError, Global};
 use yasna::models::ObjectIdentifier;
 use yasna::{
-    ASN1Error, ASN1ErrorKind, ASN1Result, DERWriter, construct_der, construct_der_seq,
-    try_construct_der, try_construct_der_seq,
+    ASN1Error, ASN1ErrorKind, ASN1Result, BERMode, DERWriter, construct_der_seq, try_construct_der,
+    try_construct_der_seq,
 };
 
 /// What is written.
@@ -46,10 +45,7 @@ enum Written {
     Scalar(Scalar),
     Content(Content),
     Identifier(ObjectIdentifier),
-    Parts(Parts),
-    Tagged(Tagged),
-    Members(Members),
-    Elements(AnyElements),
+    Element(Element),
     Nested(Nested),
     Nothing,
     Refused(i64),
@@ -84,7 +80,7 @@ pub fn answer(alloc: Global, case: &Case) -> Answer {
         Err(lack) => return Some(Err(lack)),
     };
     let form = match around {
-        "w" => construct_der(alloc, |writer| value.write(writer)),
+        "w" => form_of(alloc, BERMode::Der, &value),
         "tw" => tried(try_construct_der(alloc, |writer| Ok(value.write(writer)?))),
         _ => return None,
     };
@@ -93,11 +89,11 @@ pub fn answer(alloc: Global, case: &Case) -> Answer {
 
 // What writing parts with no header around them answers.
 fn parts_answer(alloc: Global, tries: bool, name: &str, arg: &str) -> Answer {
-    let parts = Parts::parse(Sequence::named(name)?, arg)?;
+    let parts = Sequence::named(name)?.value(arg)?;
     let form = if tries {
-        tried(try_construct_der_seq(alloc, |seq| Ok(parts.write_parts(seq)?)))
+        tried(try_construct_der_seq(alloc, |seq| Ok(write_parts(seq, parts.as_slice())?)))
     } else {
-        construct_der_seq(alloc, |seq| parts.write_parts(seq))
+        construct_der_seq(alloc, |seq| write_parts(seq, parts.as_slice()))
     };
     Some(written(alloc, &parts, form))
 }
@@ -121,20 +117,24 @@ fn value(alloc: Global, name: &str, arg: &str) -> Option<Result<Written, AllocEr
         return Some(identifier.value(alloc, arg)?.map(Written::Identifier));
     }
     if let Some(sequence) = Sequence::named(name) {
-        return Some(Ok(Written::Parts(Parts::parse(sequence, arg)?)));
+        return Some(Ok(Written::Element(Element::Sequence(sequence.value(arg)?))));
     }
     if let Some(tagging) = Tagging::named(name) {
-        return Some(Ok(Written::Tagged(tagging.value(arg)?)));
+        return Some(Ok(Written::Element(tagging.value(arg)?)));
     }
-    if name == "setof" {
-        let members = elements(alloc, arg)?;
-        return Some(members.map(|members| Written::Members(Members::Elements(members))));
-    }
-    if name == "set" {
-        let elements = elements(alloc, arg)?;
-        return Some(elements.map(|elements| Written::Elements(AnyElements(elements))));
+    if name == "setof" || name == "set" {
+        return set_value(alloc, name == "setof", arg);
     }
     Some(Ok(small_value(name, arg)?))
+}
+
+// The SET, or the SET OF, of the raw elements that a text says.
+fn set_value(alloc: Global, is_list: bool, arg: &str) -> Option<Result<Written, AllocError>> {
+    match elements(alloc, arg)? {
+        Ok(elements) if is_list => Some(Ok(Written::Element(Element::SetOf(elements)))),
+        Ok(elements) => Some(Ok(Written::Element(Element::Set(Parts::Many(elements))))),
+        Err(lack) => Some(Err(lack)),
+    }
 }
 
 // The value of another name, for which no memory is asked.
@@ -157,14 +157,10 @@ impl Shown for Written {
             Written::Scalar(scalar) => scalar.show(text),
             Written::Content(content) => content.show(text),
             Written::Identifier(identifier) => identifier.show(text),
-            Written::Parts(parts) => parts.show(text),
-            Written::Tagged(tagged) => tagged.show(text),
-            Written::Members(members) => members.show(text),
-            Written::Elements(elements) => elements.show(text),
+            Written::Element(element) => element.show(text),
             Written::Nested(nested) => nested.show(text),
             Written::Nothing => text.push_str("()"),
-            Written::Refused(number) => write!(text, "{number}"),
-            Written::Discarded(number) => write!(text, "{number}"),
+            Written::Refused(number) | Written::Discarded(number) => number.show(text),
         }
     }
 }
@@ -175,10 +171,7 @@ impl Value for Written {
             Written::Scalar(scalar) => scalar.write(writer),
             Written::Content(content) => content.write(writer),
             Written::Identifier(identifier) => identifier.write(writer),
-            Written::Parts(parts) => parts.write(writer),
-            Written::Tagged(tagged) => tagged.write(writer),
-            Written::Members(members) => members.write(writer),
-            Written::Elements(elements) => elements.write(writer),
+            Written::Element(element) => element.write(writer),
             Written::Nested(nested) => nested.write(writer),
             Written::Nothing => Ok(()),
             Written::Refused(number) => write_refused(writer, *number),
