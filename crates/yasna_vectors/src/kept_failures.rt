@@ -101,9 +101,9 @@ struct Callback<B> {
 }
 
 impl<B: Body> Callback<B> {
-    // What the callback answers behind an answer that it throws away.
-    fn answer<T: Drop>(self, discarded: ASN1Result<T>, answers: &mut Answers) -> ASN1Result<i64> {
-        answers.note(kind_of(discarded));
+    // What the callback answers where it throws away this refusal, or an answer that was none.
+    fn answer(self, discarded: Option<ASN1ErrorKind>, answers: &mut Answers) -> ASN1Result<i64> {
+        answers.note(discarded);
         if self.replaces {
             return Err(ASN1Error::new(ASN1ErrorKind::Extra));
         }
@@ -112,25 +112,24 @@ impl<B: Body> Callback<B> {
 
     // What the callback answers on a reader.
     fn read(self, reader: BERReader, answers: &mut Answers) -> ASN1Result<i64> {
-        let discarded = self.body.read(reader, answers);
+        let discarded = kind_of(self.body.read(reader, answers));
         self.answer(discarded, answers)
     }
 
-    // The same, behind a call on the parts of a sequence.
+    // The same on the parts of a sequence, where the call may stand around one of them.
     fn read_parts(
         self,
         call: Call,
         seq: &mut BERReaderSeq,
         answers: &mut Answers,
     ) -> ASN1Result<i64> {
-        let refusal = match call {
+        let discarded = match call {
             Call::Optional => kind_of(seq.read_optional(|part| self.read(part, answers))),
             Call::Default => kind_of(seq.read_default(10, |part| self.read(part, answers))),
-            _ => kind_of(seq.read_with_buffer(|parts| self.read(parts.next(), answers))),
-        };
-        let discarded: ASN1Result<()> = match refusal {
-            Some(kind) => Err(ASN1Error::new(kind)),
-            None => Ok(()),
+            Call::PartsBuffer => {
+                kind_of(seq.read_with_buffer(|parts| self.read(parts.next(), answers)))
+            }
+            _ => return self.read(seq.next(), answers),
         };
         self.answer(discarded, answers)
     }
@@ -145,45 +144,36 @@ struct Around<B> {
 
 impl<B: Body> Body for Around<B> {
     fn read(self, reader: BERReader, answers: &mut Answers) -> ASN1Result<i64> {
+        let callback = self.callback;
         match self.call {
-            Call::SequenceOf | Call::Collect => self.read_items(reader, answers),
-            Call::Tagged | Call::TaggedImplicit => self.read_tagged(reader, answers),
-            _ => self.read_parts(reader, answers),
+            Call::SequenceOf => {
+                reader.read_sequence_of(|item| {
+                    callback.read(item, answers)?;
+                    Ok(())
+                })?;
+                Ok(10)
+            }
+            Call::Collect | Call::Tagged | Call::TaggedImplicit | Call::Buffer => {
+                self.read_within(reader, answers)
+            }
+            _ => reader.read_sequence(|seq| callback.read_parts(self.call, seq, answers)),
         }
     }
 }
 
 impl<B: Body> Around<B> {
-    // A call on a list.
-    fn read_items(self, reader: BERReader, answers: &mut Answers) -> ASN1Result<i64> {
-        let callback = self.callback;
-        if let Call::SequenceOf = self.call {
-            reader.read_sequence_of(|item| callback.read(item, answers).map(|_| ()))?;
-        } else {
-            reader.collect_sequence_of(|item| callback.read(item, answers))?;
-        }
-        Ok(10)
-    }
-
-    // A call under a tag.
-    fn read_tagged(self, reader: BERReader, answers: &mut Answers) -> ASN1Result<i64> {
-        let callback = self.callback;
+    // A call whose callback answers what it makes of the reader within.
+    fn read_within(self, reader: BERReader, answers: &mut Answers) -> ASN1Result<i64> {
         let tag = Tag::context(3);
-        if let Call::Tagged = self.call {
-            return reader.read_tagged(tag, |inner| callback.read(inner, answers));
-        }
-        reader.read_tagged_implicit(tag, |inner| callback.read(inner, answers))
-    }
-
-    // A call on a sequence, or on an element with its bytes.
-    fn read_parts(self, reader: BERReader, answers: &mut Answers) -> ASN1Result<i64> {
-        let callback = self.callback;
+        let read = |inner: BERReader| self.callback.read(inner, answers);
         match self.call {
-            Call::Sequence => reader.read_sequence(|seq| callback.read(seq.next(), answers)),
-            Call::Buffer => reader
-                .read_with_buffer(|inner| callback.read(inner, answers))
-                .map(|both| both.0),
-            _ => reader.read_sequence(|seq| callback.read_parts(self.call, seq, answers)),
+            Call::Tagged => reader.read_tagged(tag, read),
+            Call::TaggedImplicit => reader.read_tagged_implicit(tag, read),
+            Call::Buffer => Ok(reader.read_with_buffer(read)?.0),
+            _ => {
+                reader.collect_sequence_of(read)?;
+                Ok(10)
+            }
         }
     }
 }

@@ -14,7 +14,7 @@ use crate::answer::{Answer, written};
 use crate::forms::construct_in;
 use crate::line::Case;
 use std::alloc::Global;
-use yasna::{ASN1Error, ASN1ErrorKind, ASN1Result, BERMode, DERWriter, Tag};
+use yasna::{ASN1Error, ASN1ErrorKind, ASN1Result, BERMode, DERWriter, DERWriterSeq, Tag};
 
 // A call that takes a closure.
 #[derive(Clone, Copy)]
@@ -69,18 +69,14 @@ impl<B: Body> Body for Around<B> {
             body,
             refusal,
         } = self;
+        let tag = Tag::context(3);
+        let write_part = |seq: &mut DERWriterSeq| throw_away(body, seq.next(), refusal);
+        let write = |inner: DERWriter<'_>| throw_away(body, inner, refusal);
         match call {
-            Call::Sequence => writer.write_sequence(|seq| throw_away(body, seq.next(), refusal)),
-            Call::SequenceOf => {
-                writer.write_sequence_of(|seq| throw_away(body, seq.next(), refusal))
-            }
-            Call::Tagged => {
-                writer.write_tagged(Tag::context(3), |inner| throw_away(body, inner, refusal))
-            }
-            Call::TaggedImplicit => writer.write_tagged_implicit(
-                Tag::context(3),
-                |inner| throw_away(body, inner, refusal),
-            ),
+            Call::Sequence => writer.write_sequence(write_part),
+            Call::SequenceOf => writer.write_sequence_of(write_part),
+            Call::Tagged => writer.write_tagged(tag, write),
+            Call::TaggedImplicit => writer.write_tagged_implicit(tag, write),
         }
     }
 }
