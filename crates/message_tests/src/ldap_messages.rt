@@ -9,7 +9,7 @@ use yasna::{ASN1Result, decode_ber, decode_der, encode_der, one_form};
 use yasna_notation::Noted;
 
 // Messages in DER.
-const TAKEN: [&str; 22] = [
+static TAKEN: [&str; 22] = [
     // bind request, simple password
     "301a02010160150201030408636e3d61646d696e8006736563726574",
     // bind request of nobody
@@ -70,7 +70,7 @@ const TAKEN: [&str; 22] = [
 ];
 
 // Bytes that are no message in any encoding rules.
-const REFUSED: [&str; 18] = [
+static REFUSED: [&str; 18] = [
     // version 0
     "300c020101600702010004008000",
     // version 128
@@ -112,7 +112,7 @@ const REFUSED: [&str; 18] = [
 ];
 
 // Messages in BER, and their DER form.
-const LONGER: [(&str, &str); 5] = [
+static LONGER: [(&str, &str); 5] = [
     // unbind request, indefinite length
     ("308002010342000000", "30050201034200"),
     // criticality FALSE written out

@@ -8,7 +8,7 @@ use yasna_conversion::doubt::Doubt;
 use yasna_conversion::fault::Fault;
 
 // Elements in BER, and the same in DER.
-const ROWS: [(&[u8], &[u8]); 20] = [
+static ROWS: [(&[u8], &[u8]); 20] = [
     // booleans
     (&[1, 1, 1], &[1, 1, 255]),
     (&[1, 1, 0], &[1, 1, 0]),
@@ -76,7 +76,7 @@ fn rows(rt: HostRuntime) {
 }
 
 // Elements in BER, the same in DER, and the first doubts about a string in segments and about an order.
-const DOUBTS: [(&[u8], &[u8], Option<usize>, Option<usize>); 4] = [
+static DOUBTS: [(&[u8], &[u8], Option<usize>, Option<usize>); 4] = [
     (
         &[160, 128, 4, 1, 97, 0, 0],
         &[160, 3, 4, 1, 97],
@@ -138,7 +138,7 @@ fn doubts(rt: HostRuntime) {
 }
 
 // Broken inputs, where they are so, and how.
-const BROKEN: [(&[u8], usize, ASN1ErrorKind); 15] = [
+static BROKEN: [(&[u8], usize, ASN1ErrorKind); 15] = [
     (&[], 0, ASN1ErrorKind::Eof),
     (&[2], 0, ASN1ErrorKind::Eof),
     (&[48, 3, 1, 1], 0, ASN1ErrorKind::Eof),

@@ -101,7 +101,7 @@ impl Outcome {
 use Outcome::{Eof, Extra, GreatestFalse, Invalid, TenTrue};
 
 /// Bytes, and what they give in BER, DER and CER.
-const ROWS: [(&[u8], [Outcome; 3]); 11] = [
+static ROWS: [(&[u8], [Outcome; 3]); 11] = [
     (&[], [Eof, Eof, Eof]),
     (&[48, 6, 2, 1, 10, 1, 1, 255, 0], [Extra, Extra, Invalid]),
     (&[48, 7, 2, 1, 10, 1, 1, 255, 0], [Extra, Extra, Invalid]),
@@ -242,7 +242,7 @@ const INTS: Wanted = Wanted {
     errors: "",
 };
 
-const KINDS: [(&str, Wanted); 10] = [
+static KINDS: [(&str, Wanted); 10] = [
     ("pair", TEN_TRUE),
     ("int", MINUS_129),
     ("bool", TRUE),
@@ -340,7 +340,7 @@ fn lists(rt: HostRuntime) {
     all_hold(&rt, &are_lists(rt.alloc()));
 }
 
-const OTHER_WORDS: [&[&str]; 6] = [
+static OTHER_WORDS: [&[&str]; 6] = [
     &["xer", "pair"],
     &["xer", "ints"],
     &["ber", "lists"],

@@ -51,7 +51,7 @@ fn key(rt: HostRuntime) {
 }
 
 // Hexadecimal input, and the one line that is printed of it, with the rules.
-const LINES: [(&str, &str, &str); 19] = [
+static LINES: [(&str, &str, &str); 19] = [
     ("0101FF", "2+1        BOOLEAN TRUE", "BER, DER, CER"),
     (
         "010101",
@@ -188,7 +188,7 @@ fn nested(rt: HostRuntime) {
 }
 
 // Broken input, and what is said of it.
-const BROKEN: [(BERMode, &str, &str); 9] = [
+static BROKEN: [(BERMode, &str, &str); 9] = [
     (
         BERMode::Ber,
         "3003 020101 02",
@@ -313,7 +313,7 @@ fn deep(rt: HostRuntime) {
 }
 
 // What is said first of an input whose form isn't given.
-const FORMS: [(&[u8], &str); 3] = [
+static FORMS: [(&[u8], &str); 3] = [
     (b"30 00\n", "input: hexadecimal, 2 bytes"),
     (b"0\x00", "input: 2 bytes"),
     (b"\x04\x14\n-----BEGIN X-----\n", "input: 21 bytes"),

@@ -119,7 +119,7 @@ fn texts(rt: HostRuntime) {
     all_hold(&rt, &are_texts(rt.alloc()));
 }
 
-const BROKEN_TEXTS: [&str; 7] = [
+static BROKEN_TEXTS: [&str; 7] = [
     "",
     "1.2.",
     "1.2.840.113549.1.1.",

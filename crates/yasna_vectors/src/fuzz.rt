@@ -32,7 +32,7 @@ const BLOCK: u64 = 100_000;
 const STRIDE: u64 = 0x9e37_79b9_7f4a_7c15;
 
 // Calls of which all of this holds.
-const PLAIN: [&str; 67] = [
+static PLAIN: [&str; 67] = [
     "bool",
     "null",
     "enum",
@@ -103,13 +103,13 @@ const PLAIN: [&str; 67] = [
 ];
 
 // Calls whose value shows bits or bytes that are written otherwise.
-const SHOWING: [&str; 5] = ["bits", "itag3_bits", "buf", "buf2", "buf3"];
+static SHOWING: [&str; 5] = ["bits", "itag3_bits", "buf", "buf2", "buf3"];
 
 // Calls that take two forms for one value in DER.
-const LENIENT: [&str; 1] = ["bmp"];
+static LENIENT: [&str; 1] = ["bmp"];
 
 // Calls on raw elements.
-const RAW: [&str; 4] = ["der", "tdv", "d:tdv", "d:vtdv"];
+static RAW: [&str; 4] = ["der", "tdv", "d:tdv", "d:vtdv"];
 
 // What holds of a call.
 #[derive(Clone, Copy, PartialEq)]
