@@ -5,6 +5,7 @@ pub mod Appending
 pub mod Contents
 pub mod Standing
 pub mod Found
+pub mod Chosen
 pub mod Bounding
 pub mod SetParts
 pub mod FirstBytes

@@ -1,4 +1,4 @@
-use Rattle.cms.proofs.Chosen.{can_as, written_as}
+use Rattle.yasna_notation.proofs.Chosen.{can_as, written_as}
 use Rattle.cms.specs.contracts.certificate_choices.CertificateChoicesNotation.TheImpl.{ghosts as choice}
 use Rattle.cms.proofs.certificate_choices.CertificateChoicesNotation.write.Goals as goal
 

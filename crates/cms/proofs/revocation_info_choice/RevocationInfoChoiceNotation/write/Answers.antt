@@ -1,4 +1,4 @@
-use Rattle.cms.proofs.Chosen.{can_as, written_as}
+use Rattle.yasna_notation.proofs.Chosen.{can_as, written_as}
 use Rattle.cms.specs.contracts.revocation_info_choice.RevocationInfoChoiceNotation.TheImpl.{ghosts as choice}
 use Rattle.cms.proofs.revocation_info_choice.RevocationInfoChoiceNotation.write.Goals as goal
 

@@ -1,4 +1,4 @@
-use Rattle.cms.proofs.Chosen.{can_as, written_as}
+use Rattle.yasna_notation.proofs.Chosen.{can_as, written_as}
 use Rattle.cms.specs.contracts.signer_identifier.SignerIdentifierNotation.TheImpl.{ghosts as choice}
 use Rattle.cms.proofs.signer_identifier.SignerIdentifierNotation.write.Goals as goal
 

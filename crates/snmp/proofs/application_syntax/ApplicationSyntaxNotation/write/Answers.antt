@@ -1,4 +1,4 @@
-use Rattle.snmp.proofs.Chosen.{can_as, written_as}
+use Rattle.yasna_notation.proofs.Chosen.{can_as, written_as}
 use Rattle.snmp.specs.contracts.application_syntax.ApplicationSyntaxNotation.TheImpl.{ghosts as choice}
 use Rattle.snmp.proofs.application_syntax.ApplicationSyntaxNotation.write.Goals as goal
 

@@ -1,4 +1,4 @@
-use Rattle.snmp.proofs.Chosen.{can_as, written_as}
+use Rattle.yasna_notation.proofs.Chosen.{can_as, written_as}
 use Rattle.snmp.specs.contracts.simple_syntax.SimpleSyntaxNotation.TheImpl.{ghosts as choice}
 use Rattle.snmp.proofs.simple_syntax.SimpleSyntaxNotation.write.Goals as goal
 

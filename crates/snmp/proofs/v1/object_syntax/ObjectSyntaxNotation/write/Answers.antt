@@ -1,4 +1,4 @@
-use Rattle.snmp.proofs.Chosen.{can_as, written_as}
+use Rattle.yasna_notation.proofs.Chosen.{can_as, written_as}
 use Rattle.snmp.specs.contracts.v1.object_syntax.ObjectSyntaxNotation.TheImpl.{ghosts as choice}
 use Rattle.snmp.proofs.v1.object_syntax.ObjectSyntaxNotation.write.Goals as goal
 

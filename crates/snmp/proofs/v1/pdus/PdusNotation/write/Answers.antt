@@ -1,4 +1,4 @@
-use Rattle.snmp.proofs.Chosen.{can_as, written_as}
+use Rattle.yasna_notation.proofs.Chosen.{can_as, written_as}
 use Rattle.snmp.specs.contracts.v1.pdus.PdusNotation.TheImpl.{ghosts as choice}
 use Rattle.snmp.proofs.v1.pdus.PdusNotation.write.Goals as goal
 

@@ -1,4 +1,4 @@
-use Rattle.snmp.proofs.Chosen.{can_as, written_as}
+use Rattle.yasna_notation.proofs.Chosen.{can_as, written_as}
 use Rattle.snmp.specs.contracts.v2c.bound_value.BoundValueNotation.TheImpl.{ghosts as choice}
 use Rattle.snmp.proofs.v2c.bound_value.BoundValueNotation.write.Goals as goal
 

@@ -1,6 +1,7 @@
 -- What writing a value of a CHOICE asks and does, from what is so of the alternative that it is known to be.
 use Rattle.std.proofs.Common.{◌≡◌, Result, sym, subst}
-use Rattle.yasna.specs.Words.{ASN1Error, Written, Writes}
+use Rattle.yasna_base.specs.declared.error.ASN1Error.{ASN1Error}
+use Rattle.yasna_writer.specs.View.{Written, Writes}
 use Rattle.yasna_notation.specs.Notation.{Meaning}
 
 module _ {U : Type 0} (x : Meaning U) {u v : U} (is : u ≡ v) where
