@@ -2,6 +2,7 @@
 use Rattle.std.proofs.Common.{◌≡◌, ◌+◌, ◌-◌, ◌≤◌, ℕ, Bool, true, false, List, [], ◌∷◌, ◌++◌, length, Some, None, Ok, Err, inl, inr, refl, sym, ap, ◌∙◌, subst, append-nil, append_assoc, length-append, arith}
 use Rattle.std.specs.Prelude.{Option, Result, IfOk}
 use Rattle.yasna_base.specs.Header.{OpensAt, definite_end, indefinite_end}
+use Rattle.yasna_base.specs.declared.mode.BERMode.{BERMode}
 use Rattle.yasna_base.specs.declared.tag.PCBit.TheVariants.{Primitive}
 use Rattle.yasna_bytes.specs.Opening.{end_found}
 use Rattle.yasna_bytes.specs.Walk.{following}
@@ -53,6 +54,16 @@ pub told_whole : (rules : Rules) (p q : Place) (a b : Option (List Line)) → (x
 told_whole rules p q a b x =
     let e : p.left.now ≡ x.bytes = x.further.joined ∙ ap (λ z. x.bytes ++ z) (x.ends.0) ∙ append-nil x.bytes in
     subst (λ z. ListsBytes rules.levels rules.mode rules.is_within p.offset z x.lines) (sym e) x.lists
+
+-- an input was told, from its first place on
+pub told_input : (rules : Rules) (m : BERMode) (p q : Place) (s : List ℕ) (a b : Option (List Line)) → rules.mode ≡ m → rules.levels ≡ 101 →
+    rules.is_within ≡ false → p.left.now ≡ s → p.offset ≡ 0 → (x : ContentsHeard rules p true q a b) → ListsBytes 101 m false 0 s x.lines
+told_input rules m p q s a b is_mode is_levels is_outside is_left is_first x =
+    let one = subst (λ z. ListsBytes rules.levels z rules.is_within p.offset p.left.now x.lines) is_mode (told_whole rules p q a b x) in
+    let two = subst (λ z. ListsBytes z m rules.is_within p.offset p.left.now x.lines) is_levels one in
+    let three = subst (λ z. ListsBytes 101 m z p.offset p.left.now x.lines) is_outside two in
+    let four = subst (λ z. ListsBytes 101 m false z p.left.now x.lines) is_first three in
+    subst (λ z. ListsBytes 101 m false 0 z x.lines) is_left four
 
 -- what follows holds of an answer too
 pub if_ok : {A E : Type 0} (r : Result A E) (P Q : A → Type 0) → ((x : A) → P x → Q x) → IfOk r P → IfOk r Q
