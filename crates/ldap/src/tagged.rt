@@ -2,16 +2,19 @@
 ghost use Rattle.yasna_base.specs.Canonical.{enclosed_form};
 ghost use Rattle.yasna_base.specs.Identifier.{tag_or};
 ghost use Rattle.yasna.specs.Words.{Writes};
+ghost use Rattle.yasna_notation.specs.Parts.{WrittenAlike};
 
 use yasna::{ASN1Result, DERWriter};
-use yasna_notation::{PartsBy, Sequence, TagName};
+use yasna_notation::{Parts, PartsBy, Sequence, TagName};
 
 // Writes a SEQUENCE of these fields under the tag `T`: references to them, as pairs that end in `()`.
-pub(crate) fn write_tagged_fields<T: TagName, P: PartsBy<R>, R: Drop>(
-    fields: R,
-    writer: DERWriter<'_>,
-) -> ASN1Result<()>
-    requires { P.can (P.held fields) }
+pub(crate) fn write_tagged_fields<
+    T: TagName,
+    P: Parts + PartsBy<R, Held = <P as Parts>::Values>,
+    R: Drop,
+>(fields: R, writer: DERWriter<'_>) -> ASN1Result<()>
+    requires can { P.can (P.held fields) }
+    requires alike { WrittenAlike P.form P.can P.form_by P.can_by }
     ensures { Writes (enclosed_form P.form (tag_or writer.old.tag T.tag) writer.old.mode (P.held fields)) writer.old writer.new result }
 {
     writer.write_tagged_implicit(T::tag(), |inner| Sequence::<P>::write_fields(fields, inner))

@@ -87,7 +87,13 @@ impl Parts for SubjectParts {
 }
 
 impl<'a> PartsBy<&'a TbsCertificate> for SubjectParts {
+    type Held = SubjectFields;
+
     ghost held = { λ r. (r.now.validity, (r.now.subject, (r.now.subject_public_key_info, (r.now.issuer_unique_id, (r.now.subject_unique_id, (r.now.extensions, tt)))))) };
+
+    ghost form_by = { ⟦<Each as Parts>⟧.form };
+
+    ghost can_by = { ⟦<Each as Parts>⟧.can };
 
     #[inline(always)]
     fn write_each(certificate: &&'a TbsCertificate, seq: &mut DERWriterSeq) -> ASN1Result<()> {

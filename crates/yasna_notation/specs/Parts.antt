@@ -4,6 +4,7 @@ use Rattle.std.proofs.lemmas.Bool.{and_parts, eq-eqb, eqb-true}
 use Rattle.std.specs.Prelude.{◌&&◌, nat_eq}
 use Rattle.std.specs.Bool.{beq}
 use Rattle.yasna_base.specs.declared.error.ASN1Error.{ASN1Error}
+use Rattle.yasna_base.specs.declared.mode.BERMode.{BERMode}
 use Rattle.yasna_base.specs.declared.tag.Tag.{Tag}
 use Rattle.yasna_base.specs.Beginnings.{share_none, ContentsBeginBy}
 use Rattle.yasna_base.specs.Canonical.{Always, enclosed_form}
@@ -40,6 +41,11 @@ pub record AreParts {A : Type 0} (told : Bool) (ts : List Tag) (E : A → A → 
 -- what reading them up to their end does: the failure that was kept is what it answers, if there is one
 abbrev pub ReadsContents : {A : Type 0} → Bool → Grammar A → Members → Reading → Result A ASN1Error → Reading → Type 0
 ReadsContents asks C S s r s' = DecodesContents asks C S s (unless_kept s'.kept r) s'
+
+-- references to values are written as the values are: these forms are one, and what can be written by the first can be by the second
+pub record WrittenAlike {A : Type 0} (form : Form A) (can : A → Type 0) (form_by : Form A) (can_by : A → Type 0) : Type 0 where
+  pub forms : (m : BERMode) (v : A) → form m v ≡ form_by m v
+  pub allowed : (v : A) → can v → can_by v
 
 -- whether tags tell a part from what stands behind it, which are told, and all else is apart
 abbrev pub all_told : Bool → Bool → Bool → Bool → Bool

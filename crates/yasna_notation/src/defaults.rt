@@ -172,7 +172,13 @@ impl<'a, A: Notation, D: DefaultValue<A>, R, W: PartsBy<R>> PartsBy<(&'a A::Valu
 where
     A::Value: Eq,
 {
+    type Held = (A::Value, W::Held);
+
     ghost held = { λ r. (r.0.now, W.held r.1) };
+
+    ghost form_by = { part_form (default_form D.is (A.means.form_under None)) W.form_by };
+
+    ghost can_by = { part_can (default_can D.is A.means.can) W.can_by };
 
     #[inline(always)]
     fn write_each(fields: &(&'a A::Value, R), seq: &mut DERWriterSeq) -> ASN1Result<()> {

@@ -60,7 +60,13 @@ impl<A: Notation> Parts for Last<A> {
 }
 
 impl<'a, A: Notation> PartsBy<&'a Option<A::Value>> for Last<A> {
+    type Held = Option<A::Value>;
+
     ghost held = { λ r. r.now };
+
+    ghost form_by = { λ m v. part_form (option_form (A.means.form_under None)) nothing_form m (v, tt) };
+
+    ghost can_by = { λ v. part_can (option_can A.means.can) Always (v, tt {0}) };
 
     #[inline(always)]
     fn write_each(fields: &&'a Option<A::Value>, seq: &mut DERWriterSeq) -> ASN1Result<()> {

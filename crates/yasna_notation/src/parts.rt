@@ -234,18 +234,33 @@ pub(crate) fn write_optional<A: Notation>(
 }
 
 /// Parts whose values stand apart, as the fields of a struct: `R` is references to them, as pairs that end in `()`.
-pub trait PartsBy<R>: Parts {
+pub trait PartsBy<R> {
+    /// What the references stand for: the values of the parts.
+    type Held;
+
     // The values.
-    ghost held: { R → Self.Values };
+    ghost held: { R → Self.Held };
+
+    // Their forms, and which can be written. What writes them as parts asks that these are those of `Parts`: with `Parts` above this trait,
+    // each pair in a pair would prove it for all pairs inside.
+    ghost form_by: { Form Self.Held };
+
+    ghost can_by: { Self.Held → Type 0 };
 
     /// Writes the parts.
     fn write_each(fields: &R, seq: &mut DERWriterSeq) -> ASN1Result<()>
-        requires { Self.can (held fields.now) }
-        ensures { WroteParts (Self.form seq.old.mode (held fields.now)) seq.old seq.new result };
+        requires { can_by (held fields.now) }
+        ensures { WroteParts (form_by seq.old.mode (held fields.now)) seq.old seq.new result };
 }
 
 impl PartsBy<()> for () {
+    type Held = ();
+
     ghost held = { λ r. tt };
+
+    ghost form_by = { nothing_form };
+
+    ghost can_by = { Always };
 
     #[inline(always)]
     fn write_each(_fields: &(), _seq: &mut DERWriterSeq) -> ASN1Result<()> {
@@ -254,7 +269,13 @@ impl PartsBy<()> for () {
 }
 
 impl<'a, A: Notation, R, W: PartsBy<R>> PartsBy<(&'a A::Value, R)> for (A, W) {
+    type Held = (A::Value, W::Held);
+
     ghost held = { λ r. (r.0.now, W.held r.1) };
+
+    ghost form_by = { part_form (A.means.form_under None) W.form_by };
+
+    ghost can_by = { part_can A.means.can W.can_by };
 
     #[inline(always)]
     fn write_each(fields: &(&'a A::Value, R), seq: &mut DERWriterSeq) -> ASN1Result<()> {
@@ -264,7 +285,13 @@ impl<'a, A: Notation, R, W: PartsBy<R>> PartsBy<(&'a A::Value, R)> for (A, W) {
 }
 
 impl<'a, A: Notation, R, W: PartsBy<R>> PartsBy<(&'a Option<A::Value>, R)> for (Optional<A>, W) {
+    type Held = (Option<A::Value>, W::Held);
+
     ghost held = { λ r. (r.0.now, W.held r.1) };
+
+    ghost form_by = { part_form (option_form (A.means.form_under None)) W.form_by };
+
+    ghost can_by = { part_can (option_can A.means.can) W.can_by };
 
     #[inline(always)]
     fn write_each(fields: &(&'a Option<A::Value>, R), seq: &mut DERWriterSeq) -> ASN1Result<()> {

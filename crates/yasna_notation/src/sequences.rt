@@ -11,7 +11,7 @@ ghost use Rattle.yasna_base.proofs.Identifier.{not_end};
 ghost use Rattle.yasna_writer.specs.View.{Writes};
 ghost use Rattle.yasna_notation.specs.Making.{in_sequence};
 ghost use Rattle.yasna_notation.specs.Laws.{element_keeps, element_filled};
-ghost use Rattle.yasna_notation.specs.Parts.{sequence_laws};
+ghost use Rattle.yasna_notation.specs.Parts.{WrittenAlike, sequence_laws};
 
 use crate::notation::Notation;
 use crate::parts::{Parts, PartsBy};
@@ -70,13 +70,14 @@ where
     ghost filled = { λ u m v. element_filled _ _ _ _ };
 }
 
-impl<P> Sequence<P> {
+impl<P: Parts> Sequence<P> {
     /// Writes a SEQUENCE of these fields: references to them, as pairs that end in `()`.
     #[inline(always)]
     pub fn write_fields<R: Drop>(fields: R, writer: DERWriter<'_>) -> ASN1Result<()>
     where
-        P: PartsBy<R>,
-        requires { P.can (P.held fields) }
+        P: PartsBy<R, Held = P::Values>,
+        requires can { P.can (P.held fields) }
+        requires alike { WrittenAlike P.form P.can P.form_by P.can_by }
         ensures { Writes (enclosed_form P.form (tag_or writer.old.tag sequence_tag) writer.old.mode (P.held fields)) writer.old writer.new result }
     {
         writer.write_sequence(|seq| P::write_each(&fields, seq))

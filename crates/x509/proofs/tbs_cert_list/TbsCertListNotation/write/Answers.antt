@@ -1,7 +1,7 @@
 use Rattle.x509.proofs.tbs_cert_list.TbsCertListNotation.write.Goals as goal
 
-pub write_fields-requires : goal.write_fields-requires
-write_fields-requires c = c.requires
+pub write_fields-requires-clause-can : goal.write_fields-requires-clause-can
+write_fields-requires-clause-can c = c.requires
 
 pub returns : goal.returns
 returns c = c.write_fields.ensures

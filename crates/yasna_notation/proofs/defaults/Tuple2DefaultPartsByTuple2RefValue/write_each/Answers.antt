@@ -7,7 +7,7 @@ use Rattle.yasna_notation.proofs.defaults.Tuple2DefaultPartsByTuple2RefValue.wri
 pub returns : goal.returns
 returns g c =
     others_by (default_form g.D.DefaultValue.is (g.A.Notation.means.form_under None) c.args.seq.now.mode c.args.fields.now.0.now)
-    (λ m. g.W.Parts.form m (g.W.PartsBy.held c.args.fields.now.1)) c.args.seq.now c.write_unless_default.new.seq c.write_each.new.seq
+    (λ m. g.W.PartsBy.form_by m (g.W.PartsBy.held c.args.fields.now.1)) c.args.seq.now c.write_unless_default.new.seq c.write_each.new.seq
     c.write_unless_default.result c.write_each.result c.in_ok-write_unless_default.field-0 c.write_unless_default.ensures
     c.in_ok-write_unless_default.was c.write_each.ensures
 

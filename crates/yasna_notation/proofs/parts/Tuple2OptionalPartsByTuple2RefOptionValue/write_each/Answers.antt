@@ -7,7 +7,7 @@ use Rattle.yasna_notation.proofs.parts.Tuple2OptionalPartsByTuple2RefOptionValue
 pub returns : goal.returns
 returns g c =
     others_by (option_form (g.A.Notation.means.form_under None) c.args.seq.now.mode c.args.fields.now.0.now)
-    (λ m. g.W.Parts.form m (g.W.PartsBy.held c.args.fields.now.1)) c.args.seq.now c.write_optional.new.seq c.write_each.new.seq
+    (λ m. g.W.PartsBy.form_by m (g.W.PartsBy.held c.args.fields.now.1)) c.args.seq.now c.write_optional.new.seq c.write_each.new.seq
     c.write_optional.result c.write_each.result c.in_ok-write_optional.field-0 c.write_optional.ensures c.in_ok-write_optional.was c.write_each.ensures
 
 pub returns-in_err-write_optional : goal.returns-in_err-write_optional

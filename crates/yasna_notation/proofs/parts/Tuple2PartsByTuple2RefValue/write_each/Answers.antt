@@ -8,7 +8,7 @@ returns g c =
     let form = g.A.Notation.means.form_under in
     let v = c.args.fields.now.0.now in
     behind_one (λ u m. form u m v) c.args.seq.now c.next.result.now c.write.new.writer c.write.result c.next.ensures.value c.write.ensures
-    c.write_each.result (λ m. g.W.Parts.form m (g.W.PartsBy.held c.args.fields.now.1)) c.write_each.new.seq c.in_ok-write.field-0 c.in_ok-write.was
+    c.write_each.result (λ m. g.W.PartsBy.form_by m (g.W.PartsBy.held c.args.fields.now.1)) c.write_each.new.seq c.in_ok-write.field-0 c.in_ok-write.was
     c.write_each.ensures (search rules) (search rules) (search rules)
 
 pub returns-in_err-write : goal.returns-in_err-write
