@@ -29,6 +29,7 @@ ghost use Rattle.cms.specs.declared.certificate_choices.CertificateChoices.TheVa
 use x509::Certificate;
 use yasna::models::TaggedDerValue;
 use yasna::{ASN1Result, BERReader, DERWriter, Tag};
+use yasna_notation::Either::{First, Second};
 use yasna_notation::{
     Alternatives, Choice, Context, Either, Implicit, Message, Notation, SequenceOf, StandsFor,
     read_as,
@@ -74,21 +75,12 @@ impl StandsFor<Value> for CertificateChoices {
     ] };
 
     fn from_value(value: Value) -> CertificateChoices {
-        let others = match value {
-            Either::First(certificate) => return CertificateChoices::Certificate(certificate),
-            Either::Second(others) => others,
-        };
-        let others = match others {
-            Either::First(parts) => return CertificateChoices::ExtendedCertificate(parts),
-            Either::Second(others) => others,
-        };
-        let others = match others {
-            Either::First(parts) => return CertificateChoices::V1AttrCert(parts),
-            Either::Second(others) => others,
-        };
-        match others {
-            Either::First(parts) => CertificateChoices::V2AttrCert(parts),
-            Either::Second(parts) => CertificateChoices::Other(parts),
+        match value {
+            First(certificate) => CertificateChoices::Certificate(certificate),
+            Second(First(parts)) => CertificateChoices::ExtendedCertificate(parts),
+            Second(Second(First(parts))) => CertificateChoices::V1AttrCert(parts),
+            Second(Second(Second(First(parts)))) => CertificateChoices::V2AttrCert(parts),
+            Second(Second(Second(Second(parts)))) => CertificateChoices::Other(parts),
         }
     }
 }

@@ -36,8 +36,10 @@ use crate::attribute_value_assertion::AttributeValueAssertion;
 use crate::matching_rule_assertion::MatchingRuleAssertion;
 use crate::substring_filter::SubstringFilter;
 use yasna::{ASN1Result, BERReader, DERWriter, Tag};
+use yasna_notation::Either::{First, Second};
 use yasna_notation::{
-    CanonicalNotation, Choice, Context, Either, Implicit, Message, Notation, StandsFor, read_as,
+    Alternatives, CanonicalNotation, Choice, Context, Either, Implicit, Message, Notation,
+    StandsFor, read_as,
 };
 
 type EqualityMatchNotation = Implicit<Context<3>, AttributeValueAssertion>;
@@ -59,15 +61,15 @@ type Later = (
     (ApproxMatchNotation, (ExtensibleMatchNotation,)),
 );
 
-type Notated = Choice<
+type Types = (
+    EqualityMatchNotation,
     (
-        EqualityMatchNotation,
-        (
-            SubstringsNotation,
-            (GreaterOrEqualNotation, (LessOrEqualNotation, Later)),
-        ),
+        SubstringsNotation,
+        (GreaterOrEqualNotation, (LessOrEqualNotation, Later)),
     ),
->;
+);
+
+type Notated = Choice<Types>;
 
 type LaterFields = Either<Vec<u8>, Either<AttributeValueAssertion, MatchingRuleAssertion>>;
 
@@ -100,29 +102,16 @@ impl StandsFor<Fields> for FilterItem {
     ] };
 
     fn from_value(value: Fields) -> FilterItem {
-        let others = match value {
-            Either::First(asked) => return FilterItem::EqualityMatch(asked),
-            Either::Second(others) => others,
-        };
-        let others = match others {
-            Either::First(asked) => return FilterItem::Substrings(asked),
-            Either::Second(others) => others,
-        };
-        let others = match others {
-            Either::First(asked) => return FilterItem::GreaterOrEqual(asked),
-            Either::Second(others) => others,
-        };
-        let others = match others {
-            Either::First(asked) => return FilterItem::LessOrEqual(asked),
-            Either::Second(others) => others,
-        };
-        let others = match others {
-            Either::First(asked) => return FilterItem::Present(asked),
-            Either::Second(others) => others,
-        };
-        match others {
-            Either::First(asked) => FilterItem::ApproxMatch(asked),
-            Either::Second(asked) => FilterItem::ExtensibleMatch(asked),
+        match value {
+            First(asked) => FilterItem::EqualityMatch(asked),
+            Second(First(asked)) => FilterItem::Substrings(asked),
+            Second(Second(First(asked))) => FilterItem::GreaterOrEqual(asked),
+            Second(Second(Second(First(asked)))) => FilterItem::LessOrEqual(asked),
+            Second(Second(Second(Second(First(asked))))) => FilterItem::Present(asked),
+            Second(Second(Second(Second(Second(First(asked)))))) => FilterItem::ApproxMatch(asked),
+            Second(Second(Second(Second(Second(Second(asked)))))) => FilterItem::ExtensibleMatch(
+                asked,
+            ),
         }
     }
 }
@@ -135,7 +124,7 @@ impl Notation for FilterItem {
     ghost means = { stands_for ⟦<FilterItem as StandsFor<Fields>>⟧.value_of ⟦<Notated as Notation>⟧.means };
 
     fn has_tag(tag: Tag) -> bool {
-        <Notated as Notation>::has_tag(tag)
+        <Types as Alternatives>::has_tag(tag)
     }
 
     fn read(reader: BERReader) -> ASN1Result<FilterItem> {

@@ -42,7 +42,10 @@ use crate::search_result_entry::SearchResultEntry;
 use crate::search_result_reference::SearchResultReference;
 use crate::unbind_request::UnbindRequest;
 use yasna::{ASN1Result, BERReader, DERWriter, Tag};
-use yasna_notation::{CanonicalNotation, Choice, Either, Message, Notation, StandsFor, read_as};
+use yasna_notation::Either::{First, Second};
+use yasna_notation::{
+    Alternatives, CanonicalNotation, Choice, Either, Message, Notation, StandsFor, read_as,
+};
 
 type Results = (
     SearchRequest,
@@ -52,7 +55,9 @@ type Results = (
     ),
 );
 
-type Notated = Choice<(BindRequest, (BindResponse, (UnbindRequest, Results)))>;
+type Types = (BindRequest, (BindResponse, (UnbindRequest, Results)));
+
+type Notated = Choice<Types>;
 
 type LaterFields = Either<
     SearchRequest,
@@ -85,29 +90,18 @@ impl StandsFor<Fields> for ProtocolOp {
     ] };
 
     fn from_value(value: Fields) -> ProtocolOp {
-        let others = match value {
-            Either::First(operation) => return ProtocolOp::BindRequest(operation),
-            Either::Second(others) => others,
-        };
-        let others = match others {
-            Either::First(operation) => return ProtocolOp::BindResponse(operation),
-            Either::Second(others) => others,
-        };
-        let others = match others {
-            Either::First(operation) => return ProtocolOp::UnbindRequest(operation),
-            Either::Second(others) => others,
-        };
-        let others = match others {
-            Either::First(operation) => return ProtocolOp::SearchRequest(operation),
-            Either::Second(others) => others,
-        };
-        let others = match others {
-            Either::First(operation) => return ProtocolOp::SearchResultEntry(operation),
-            Either::Second(others) => others,
-        };
-        match others {
-            Either::First(operation) => ProtocolOp::SearchResultDone(operation),
-            Either::Second(operation) => ProtocolOp::SearchResultReference(operation),
+        match value {
+            First(operation) => ProtocolOp::BindRequest(operation),
+            Second(First(operation)) => ProtocolOp::BindResponse(operation),
+            Second(Second(First(operation))) => ProtocolOp::UnbindRequest(operation),
+            Second(Second(Second(First(operation)))) => ProtocolOp::SearchRequest(operation),
+            Second(Second(Second(Second(First(operation))))) => ProtocolOp::SearchResultEntry(
+                operation,
+            ),
+            Second(Second(Second(Second(Second(First(operation)))))) =>
+                ProtocolOp::SearchResultDone(operation),
+            Second(Second(Second(Second(Second(Second(operation)))))) =>
+                ProtocolOp::SearchResultReference(operation),
         }
     }
 }
@@ -120,7 +114,7 @@ impl Notation for ProtocolOp {
     ghost means = { stands_for ⟦<ProtocolOp as StandsFor<Fields>>⟧.value_of ⟦<Notated as Notation>⟧.means };
 
     fn has_tag(tag: Tag) -> bool {
-        <Notated as Notation>::has_tag(tag)
+        <Types as Alternatives>::has_tag(tag)
     }
 
     fn read(reader: BERReader) -> ASN1Result<ProtocolOp> {

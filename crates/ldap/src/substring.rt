@@ -21,8 +21,10 @@ ghost use Rattle.yasna_notation.specs.Writing.{alternative_written, under_contex
 ghost use Rattle.yasna_notation.specs.contracts.canonical.VecU8CanonicalNotation.TheImpl.Laws.{written-law as octets_written};
 
 use yasna::{ASN1Result, BERReader, DERWriter, Tag};
+use yasna_notation::Either::{First, Second};
 use yasna_notation::{
-    CanonicalNotation, Choice, Context, Either, Implicit, Message, Notation, StandsFor, read_as,
+    Alternatives, CanonicalNotation, Choice, Context, Either, Implicit, Message, Notation,
+    StandsFor, read_as,
 };
 
 type InitialNotation = Implicit<Context<0>, Vec<u8>>;
@@ -31,7 +33,9 @@ type AnyNotation = Implicit<Context<1>, Vec<u8>>;
 
 type FinalNotation = Implicit<Context<2>, Vec<u8>>;
 
-type Notated = Choice<(InitialNotation, (AnyNotation, (FinalNotation,)))>;
+type Types = (InitialNotation, (AnyNotation, (FinalNotation,)));
+
+type Notated = Choice<Types>;
 
 type Fields = Either<Vec<u8>, Either<Vec<u8>, Vec<u8>>>;
 
@@ -47,13 +51,10 @@ impl StandsFor<Fields> for Substring {
     ghost value_of = { λ v. elim v [ Initial s ↦ First s | Any s ↦ Second (First s) | Final s ↦ Second (Second s) ] };
 
     fn from_value(value: Fields) -> Substring {
-        let others = match value {
-            Either::First(octets) => return Substring::Initial(octets),
-            Either::Second(others) => others,
-        };
-        match others {
-            Either::First(octets) => Substring::Any(octets),
-            Either::Second(octets) => Substring::Final(octets),
+        match value {
+            First(octets) => Substring::Initial(octets),
+            Second(First(octets)) => Substring::Any(octets),
+            Second(Second(octets)) => Substring::Final(octets),
         }
     }
 }
@@ -66,7 +67,7 @@ impl Notation for Substring {
     ghost means = { stands_for ⟦<Substring as StandsFor<Fields>>⟧.value_of ⟦<Notated as Notation>⟧.means };
 
     fn has_tag(tag: Tag) -> bool {
-        <Notated as Notation>::has_tag(tag)
+        <Types as Alternatives>::has_tag(tag)
     }
 
     fn read(reader: BERReader) -> ASN1Result<Substring> {

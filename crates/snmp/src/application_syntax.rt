@@ -36,6 +36,7 @@ ghost use Rattle.yasna_notation.specs.declared.choices.Either.TheVariants.{First
 ghost use Rattle.snmp.specs.declared.application_syntax.ApplicationSyntax.TheVariants.{IpAddressValue, CounterValue, TimeTicksValue, ArbitraryValue, BigCounterValue, UnsignedIntegerValue};
 
 use yasna::{ASN1Result, BERReader, DERWriter, Tag};
+use yasna_notation::Either::{First, Second};
 use yasna_notation::{
     Alternatives, Application, Bounded, CanonicalNotation, Choice, Either, Implicit, Message,
     Notation, Size, StandsFor, read_as,
@@ -84,25 +85,16 @@ impl StandsFor<Sides> for ApplicationSyntax {
     ] };
 
     fn from_value(value: Sides) -> ApplicationSyntax {
-        let others = match value {
-            Either::First(value) => return ApplicationSyntax::IpAddressValue(value),
-            Either::Second(others) => others,
-        };
-        let others = match others {
-            Either::First(value) => return ApplicationSyntax::CounterValue(value),
-            Either::Second(others) => others,
-        };
-        let others = match others {
-            Either::First(value) => return ApplicationSyntax::TimeTicksValue(value),
-            Either::Second(others) => others,
-        };
-        let others = match others {
-            Either::First(value) => return ApplicationSyntax::ArbitraryValue(value),
-            Either::Second(others) => others,
-        };
-        match others {
-            Either::First(value) => ApplicationSyntax::BigCounterValue(value),
-            Either::Second(value) => ApplicationSyntax::UnsignedIntegerValue(value),
+        match value {
+            First(value) => ApplicationSyntax::IpAddressValue(value),
+            Second(First(value)) => ApplicationSyntax::CounterValue(value),
+            Second(Second(First(value))) => ApplicationSyntax::TimeTicksValue(value),
+            Second(Second(Second(First(value)))) => ApplicationSyntax::ArbitraryValue(value),
+            Second(Second(Second(Second(First(value))))) => ApplicationSyntax::BigCounterValue(
+                value,
+            ),
+            Second(Second(Second(Second(Second(value))))) =>
+                ApplicationSyntax::UnsignedIntegerValue(value),
         }
     }
 }

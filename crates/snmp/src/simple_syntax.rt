@@ -25,6 +25,7 @@ ghost use Rattle.snmp.specs.declared.simple_syntax.SimpleSyntax.TheVariants.{Int
 use crate::bounds::SizeAtMost;
 use yasna::models::ObjectIdentifier;
 use yasna::{ASN1Result, BERReader, DERWriter, Tag};
+use yasna_notation::Either::{First, Second};
 use yasna_notation::{
     Alternatives, Bounded, CanonicalNotation, Choice, Either, Message, Notation, StandsFor, read_as,
 };
@@ -52,13 +53,10 @@ impl StandsFor<Sides> for SimpleSyntax {
     ] };
 
     fn from_value(value: Sides) -> SimpleSyntax {
-        let others = match value {
-            Either::First(value) => return SimpleSyntax::IntegerValue(value),
-            Either::Second(others) => others,
-        };
-        match others {
-            Either::First(value) => SimpleSyntax::StringValue(value),
-            Either::Second(value) => SimpleSyntax::ObjectIdValue(value),
+        match value {
+            First(value) => SimpleSyntax::IntegerValue(value),
+            Second(First(value)) => SimpleSyntax::StringValue(value),
+            Second(Second(value)) => SimpleSyntax::ObjectIdValue(value),
         }
     }
 }

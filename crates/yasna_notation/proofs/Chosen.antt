@@ -1,7 +1,9 @@
--- What writing a value of a CHOICE asks and does, from what is so of the alternative that it is known to be.
-use Rattle.std.proofs.Common.{◌≡◌, Result, sym, subst}
+-- What is so of a value of a CHOICE, and of writing it, from the alternative that it is known to be.
+use Rattle.std.proofs.Common.{◌≡◌, ◌∙◌, Result, ap, sym, subst}
 use Rattle.yasna_base.specs.declared.error.ASN1Error.{ASN1Error}
 use Rattle.yasna_writer.specs.View.{Written, Writes}
+use Rattle.yasna_notation.specs.declared.choices.Either.{Either}
+use Rattle.yasna_notation.specs.declared.choices.Either.TheVariants.{Second}
 use Rattle.yasna_notation.specs.Notation.{Meaning}
 
 module _ {U : Type 0} (x : Meaning U) {u v : U} (is : u ≡ v) where
@@ -13,3 +15,7 @@ module _ {U : Type 0} (x : Meaning U) {u v : U} (is : u ≡ v) where
   pub written_as : (old new : Written) (r : Result (Unit {0}) ASN1Error) → Writes (x.form_under old.tag old.mode v) old new r →
       Writes (x.form_under old.tag old.mode u) old new r
   written_as old new r h = subst (λ w. Writes (x.form_under old.tag old.mode w) old new r) (sym is) h
+
+-- what stands on the second side is known
+pub second_is : {A B : Type 0} {v : Either A B} {w x : B} → v ≡ Second w → w ≡ x → v ≡ Second x
+second_is is inner = is ∙ ap (λ z. Second z) inner

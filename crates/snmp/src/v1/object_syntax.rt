@@ -42,6 +42,7 @@ ghost use Rattle.snmp.specs.declared.v1.object_syntax.ObjectSyntax.TheVariants.{
 
 use yasna::models::ObjectIdentifier;
 use yasna::{ASN1Result, BERReader, DERWriter, Tag};
+use yasna_notation::Either::{First, Second};
 use yasna_notation::{
     Alternatives, Application, Bounded, CanonicalNotation, Choice, Either, Implicit, Message,
     Notation, Size, StandsFor, read_as,
@@ -113,37 +114,18 @@ impl StandsFor<Sides> for ObjectSyntax {
     ] };
 
     fn from_value(value: Sides) -> ObjectSyntax {
-        let others = match value {
-            Either::First(value) => return ObjectSyntax::Number(value),
-            Either::Second(others) => others,
-        };
-        let others = match others {
-            Either::First(value) => return ObjectSyntax::String(value),
-            Either::Second(others) => others,
-        };
-        let others = match others {
-            Either::First(value) => return ObjectSyntax::Object(value),
-            Either::Second(others) => others,
-        };
-        let others = match others {
-            Either::First(()) => return ObjectSyntax::Empty,
-            Either::Second(others) => others,
-        };
-        let others = match others {
-            Either::First(value) => return ObjectSyntax::Address(value),
-            Either::Second(others) => others,
-        };
-        let others = match others {
-            Either::First(value) => return ObjectSyntax::Counter(value),
-            Either::Second(others) => others,
-        };
-        let others = match others {
-            Either::First(value) => return ObjectSyntax::Gauge(value),
-            Either::Second(others) => others,
-        };
-        match others {
-            Either::First(value) => ObjectSyntax::Ticks(value),
-            Either::Second(value) => ObjectSyntax::Arbitrary(value),
+        match value {
+            First(value) => ObjectSyntax::Number(value),
+            Second(First(value)) => ObjectSyntax::String(value),
+            Second(Second(First(value))) => ObjectSyntax::Object(value),
+            Second(Second(Second(First(())))) => ObjectSyntax::Empty,
+            Second(Second(Second(Second(others)))) => match others {
+                First(value) => ObjectSyntax::Address(value),
+                Second(First(value)) => ObjectSyntax::Counter(value),
+                Second(Second(First(value))) => ObjectSyntax::Gauge(value),
+                Second(Second(Second(First(value)))) => ObjectSyntax::Ticks(value),
+                Second(Second(Second(Second(value)))) => ObjectSyntax::Arbitrary(value),
+            },
         }
     }
 }

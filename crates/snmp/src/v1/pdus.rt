@@ -26,6 +26,7 @@ ghost use Rattle.snmp.specs.declared.v1.pdus.Pdus.TheVariants.{GetRequest, GetNe
 use crate::v1::pdu::Pdu;
 use crate::v1::trap_pdu::TrapPdu;
 use yasna::{ASN1Result, BERReader, DERWriter, Tag};
+use yasna_notation::Either::{First, Second};
 use yasna_notation::{
     Alternatives, CanonicalNotation, Choice, Context, Either, Implicit, Message, Notation,
     StandsFor, read_as,
@@ -71,21 +72,12 @@ impl StandsFor<Sides> for Pdus {
     ] };
 
     fn from_value(value: Sides) -> Pdus {
-        let others = match value {
-            Either::First(value) => return Pdus::GetRequest(value),
-            Either::Second(others) => others,
-        };
-        let others = match others {
-            Either::First(value) => return Pdus::GetNextRequest(value),
-            Either::Second(others) => others,
-        };
-        let others = match others {
-            Either::First(value) => return Pdus::GetResponse(value),
-            Either::Second(others) => others,
-        };
-        match others {
-            Either::First(value) => Pdus::SetRequest(value),
-            Either::Second(value) => Pdus::Trap(value),
+        match value {
+            First(value) => Pdus::GetRequest(value),
+            Second(First(value)) => Pdus::GetNextRequest(value),
+            Second(Second(First(value))) => Pdus::GetResponse(value),
+            Second(Second(Second(First(value)))) => Pdus::SetRequest(value),
+            Second(Second(Second(Second(value)))) => Pdus::Trap(value),
         }
     }
 }

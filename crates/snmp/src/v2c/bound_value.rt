@@ -32,6 +32,7 @@ ghost use Rattle.snmp.specs.declared.v2c.bound_value.BoundValue.TheVariants.{Sim
 use crate::application_syntax::ApplicationSyntax;
 use crate::simple_syntax::SimpleSyntax;
 use yasna::{ASN1Result, BERReader, DERWriter, Tag};
+use yasna_notation::Either::{First, Second};
 use yasna_notation::{
     Alternatives, CanonicalNotation, Choice, Context, Either, Implicit, Message, Notation,
     StandsFor, read_as,
@@ -79,25 +80,13 @@ impl StandsFor<Sides> for BoundValue {
     ] };
 
     fn from_value(value: Sides) -> BoundValue {
-        let others = match value {
-            Either::First(value) => return BoundValue::Simple(value),
-            Either::Second(others) => others,
-        };
-        let others = match others {
-            Either::First(value) => return BoundValue::ApplicationWide(value),
-            Either::Second(others) => others,
-        };
-        let others = match others {
-            Either::First(()) => return BoundValue::Unspecified,
-            Either::Second(others) => others,
-        };
-        let others = match others {
-            Either::First(()) => return BoundValue::NoSuchObject,
-            Either::Second(others) => others,
-        };
-        match others {
-            Either::First(()) => BoundValue::NoSuchInstance,
-            Either::Second(()) => BoundValue::EndOfMibView,
+        match value {
+            First(value) => BoundValue::Simple(value),
+            Second(First(value)) => BoundValue::ApplicationWide(value),
+            Second(Second(First(()))) => BoundValue::Unspecified,
+            Second(Second(Second(First(())))) => BoundValue::NoSuchObject,
+            Second(Second(Second(Second(First(()))))) => BoundValue::NoSuchInstance,
+            Second(Second(Second(Second(Second(()))))) => BoundValue::EndOfMibView,
         }
     }
 }

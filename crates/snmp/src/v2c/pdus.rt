@@ -29,6 +29,7 @@ ghost use Rattle.snmp.specs.declared.v2c.pdus.Pdus.TheVariants.{GetRequest, GetN
 use crate::v2c::bulk_pdu::BulkPdu;
 use crate::v2c::pdu::Pdu;
 use yasna::{ASN1Result, BERReader, DERWriter, Tag};
+use yasna_notation::Either::{First, Second};
 use yasna_notation::{
     Alternatives, CanonicalNotation, Choice, Context, Either, Implicit, Message, Notation,
     StandsFor, read_as,
@@ -98,33 +99,15 @@ impl StandsFor<Sides> for Pdus {
     ] };
 
     fn from_value(value: Sides) -> Pdus {
-        let others = match value {
-            Either::First(value) => return Pdus::GetRequest(value),
-            Either::Second(others) => others,
-        };
-        let others = match others {
-            Either::First(value) => return Pdus::GetNextRequest(value),
-            Either::Second(others) => others,
-        };
-        let others = match others {
-            Either::First(value) => return Pdus::GetBulkRequest(value),
-            Either::Second(others) => others,
-        };
-        let others = match others {
-            Either::First(value) => return Pdus::Response(value),
-            Either::Second(others) => others,
-        };
-        let others = match others {
-            Either::First(value) => return Pdus::SetRequest(value),
-            Either::Second(others) => others,
-        };
-        let others = match others {
-            Either::First(value) => return Pdus::InformRequest(value),
-            Either::Second(others) => others,
-        };
-        match others {
-            Either::First(value) => Pdus::SnmpV2Trap(value),
-            Either::Second(value) => Pdus::Report(value),
+        match value {
+            First(value) => Pdus::GetRequest(value),
+            Second(First(value)) => Pdus::GetNextRequest(value),
+            Second(Second(First(value))) => Pdus::GetBulkRequest(value),
+            Second(Second(Second(First(value)))) => Pdus::Response(value),
+            Second(Second(Second(Second(First(value))))) => Pdus::SetRequest(value),
+            Second(Second(Second(Second(Second(First(value)))))) => Pdus::InformRequest(value),
+            Second(Second(Second(Second(Second(Second(First(value))))))) => Pdus::SnmpV2Trap(value),
+            Second(Second(Second(Second(Second(Second(Second(value))))))) => Pdus::Report(value),
         }
     }
 }
