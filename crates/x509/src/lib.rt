@@ -6,7 +6,7 @@
 //! |---|---|
 //! | `time`, `time_part`, `validity` | times, and from when until when a certificate holds |
 //! | `algorithm`, `public_key` | algorithms, and public keys with them |
-//! | `name` | names |
+//! | `attribute_type_and_value`, `relative_distinguished_name`, `name` | names, their levels and the attributes of these |
 //! | `attribute` | attributes |
 //! | `extension`, `extensions` | an extension, and all of a certificate or a list |
 //! | `subject_parts`, `tbs_certificate`, `certificate` | certificates, and what is signed of them |
@@ -16,12 +16,14 @@
 
 mod algorithm;
 mod attribute;
+mod attribute_type_and_value;
 mod certificate;
 mod certificate_list;
 mod extension;
 mod extensions;
 mod name;
 mod public_key;
+mod relative_distinguished_name;
 mod revoked_certificate;
 mod signed;
 mod subject_parts;
@@ -33,12 +35,14 @@ mod validity;
 
 pub use algorithm::AlgorithmIdentifier;
 pub use attribute::Attribute;
+pub use attribute_type_and_value::AttributeTypeAndValue;
 pub use certificate::Certificate;
 pub use certificate_list::CertificateList;
 pub use extension::Extension;
 pub use extensions::Extensions;
-pub use name::{AttributeTypeAndValue, Name, RelativeDistinguishedName};
+pub use name::Name;
 pub use public_key::SubjectPublicKeyInfo;
+pub use relative_distinguished_name::RelativeDistinguishedName;
 pub use revoked_certificate::RevokedCertificate;
 pub use signed::{Signed, read_signed_certificate, read_signed_list};
 pub use tbs_cert_list::TbsCertList;

@@ -1,0 +1,70 @@
+//! Attributes of names (RFC 5280, 4.1.2.4).
+//!
+//! ```text
+//! AttributeTypeAndValue ::= SEQUENCE {
+//!     type   OBJECT IDENTIFIER,
+//!     value  ANY DEFINED BY type }
+//! ```
+ghost use Rattle.std.specs.Prelude.{◌≡◌, refl};
+ghost use Rattle.yasna_notation.specs.Laws.{standing_keeps, element_filled};
+ghost use Rattle.yasna_notation.specs.Making.{in_sequence, part};
+ghost use Rattle.yasna_notation.specs.Notation.{stands_for};
+ghost use Rattle.yasna_notation.specs.Parts.{no_parts};
+ghost use Rattle.yasna_notation.specs.contracts.any.TaggedDerValueNotation.TheImpl.Laws.{keeps-law as any};
+ghost use Rattle.yasna_notation.specs.contracts.simple.ObjectIdentifierNotation.TheImpl.Laws.{keeps-law as oid};
+
+use yasna::models::{ObjectIdentifier, TaggedDerValue};
+use yasna::tags::TAG_SEQUENCE;
+use yasna::{ASN1Result, BERReader, DERWriter, Tag};
+use yasna_notation::{Message, Notation, Sequence, StandsFor, read_as};
+
+type Parts = (ObjectIdentifier, (TaggedDerValue, ()));
+
+type Fields = (ObjectIdentifier, (TaggedDerValue, ()));
+
+/// An attribute of a name: its type, and its value as it came.
+#[derive(Drop)]
+pub struct AttributeTypeAndValue {
+    pub attribute_type: ObjectIdentifier,
+    pub value: TaggedDerValue,
+}
+
+impl StandsFor<Fields> for AttributeTypeAndValue {
+    ghost value_of = { λ v. (v.attribute_type, (v.value, tt)) };
+
+    fn from_value((attribute_type, (value, ())): Fields) -> AttributeTypeAndValue {
+        AttributeTypeAndValue {
+            attribute_type,
+            value,
+        }
+    }
+}
+
+impl Notation for AttributeTypeAndValue {
+    type Value = AttributeTypeAndValue;
+
+    type Inner = ();
+
+    ghost means = { stands_for ⟦<AttributeTypeAndValue as StandsFor<Fields>>⟧.value_of ⟦<Sequence<Parts> as Notation>⟧.means };
+
+    fn has_tag(tag: Tag) -> bool {
+        tag == TAG_SEQUENCE
+    }
+
+    fn read(reader: BERReader) -> ASN1Result<AttributeTypeAndValue> {
+        read_as::<Sequence<Parts>, AttributeTypeAndValue>(reader)
+    }
+
+    fn write(value: &AttributeTypeAndValue, writer: DERWriter<'_>) -> ASN1Result<()> {
+        Sequence::<Parts>::write_fields((&value.attribute_type, (&value.value, ())), writer)
+    }
+
+    ghost keeps = { λ _. standing_keeps ⟦<AttributeTypeAndValue as StandsFor<Fields>>⟧.value_of
+        (in_sequence (part (oid refl).own (part (any refl).own no_parts))) };
+
+    ghost filled = { λ u m v. element_filled _ _ _ _ };
+}
+
+impl Message for AttributeTypeAndValue {
+    ghost told_apart = { refl };
+}
