@@ -6,6 +6,14 @@ use std::alloc::Global;
 use yasna::{ASN1ErrorKind, ASN1Result, Tag, decode_ber, decode_der, encode_der, tags};
 use yasna_examples::{AlgorithmIdentifier, SubjectPublicKeyInfo, encoded_key};
 
+fn der_algorithm(alloc: Global, bytes: &[u8]) -> ASN1Result<AlgorithmIdentifier> {
+    decode_der(alloc, bytes)
+}
+
+fn ber_algorithm(alloc: Global, bytes: &[u8]) -> ASN1Result<AlgorithmIdentifier> {
+    decode_ber(alloc, bytes)
+}
+
 // The tag of its parameters, if it has some.
 fn parameters_of(read: &AlgorithmIdentifier) -> Option<Tag> {
     match &read.parameters {
@@ -26,13 +34,23 @@ fn is_written(alloc: Global, read: &AlgorithmIdentifier, form: &[u8]) -> bool {
 
 // Whether it is read from its form, and written in it.
 fn is_form(alloc: Global, form: &[u8], name: &[u64], parameters: Option<Tag>) -> bool {
-    match decode_der::<AlgorithmIdentifier>(alloc, form) {
+    match der_algorithm(alloc, form) {
         Ok(read) => is_of(&read, name, parameters) && is_written(alloc, &read, form),
         Err(_) => false,
     }
 }
 
-fn are_forms(alloc: Global) -> [bool; 3] {
+// Whether BER reads one from it that is written in this form.
+fn is_rewritten(alloc: Global, other: &[u8], form: &[u8]) -> bool {
+    match ber_algorithm(alloc, other) {
+        Ok(read) => is_written(alloc, &read, form),
+        Err(_) => false,
+    }
+}
+
+// Parameters of indefinite length are kept as they came, with the two zeros that end them. Parameters that are broken
+// aren't taken for none, and behind them nothing may follow.
+fn are_algorithms(alloc: Global) -> [bool; 7] {
     let ed25519 = [48, 5, 6, 3, 43, 101, 112];
     let rsa = [48, 13, 6, 9, 42, 134, 72, 134, 247, 13, 1, 1, 1, 5, 0];
     // its parameters are the name of the curve P-256
@@ -41,52 +59,19 @@ fn are_forms(alloc: Global) -> [bool; 3] {
     ];
     let null = Some(tags::TAG_NULL);
     let oid = Some(tags::TAG_OID);
-    [
-        is_form(alloc, &ed25519, &[1, 3, 101, 112], None),
-        is_form(alloc, &rsa, &[1, 2, 840, 113549, 1, 1, 1], null),
-        is_form(alloc, &elliptic_curve, &[1, 2, 840, 10045, 2, 1], oid),
-    ]
-}
-
-#[test]
-fn forms(rt: HostRuntime) {
-    all_hold(&rt, &are_forms(rt.alloc()));
-}
-
-// Whether BER reads one from it that is written in this form.
-fn is_rewritten(alloc: Global, other: &[u8], form: &[u8]) -> bool {
-    match decode_ber::<AlgorithmIdentifier>(alloc, other) {
-        Ok(read) => is_written(alloc, &read, form),
-        Err(_) => false,
-    }
-}
-
-fn refuses_ber(alloc: Global, bytes: &[u8], kind: ASN1ErrorKind) -> bool {
-    refuses(decode_ber::<AlgorithmIdentifier>(alloc, bytes), kind)
-}
-
-fn refuses_der(alloc: Global, bytes: &[u8], kind: ASN1ErrorKind) -> bool {
-    refuses(decode_der::<AlgorithmIdentifier>(alloc, bytes), kind)
-}
-
-fn are_others(alloc: Global) -> [bool; 4] {
     let indefinite = [48, 128, 6, 3, 43, 101, 112, 48, 128, 2, 1, 7, 0, 0, 0, 0];
     let form = [48, 12, 6, 3, 43, 101, 112, 48, 5, 2, 1, 7, 0, 0];
     let broken = [48, 7, 6, 3, 43, 101, 112, 4, 9];
     let more = [48, 9, 6, 3, 43, 101, 112, 5, 0, 5, 0];
     [
+        is_form(alloc, &ed25519, &[1, 3, 101, 112], None),
+        is_form(alloc, &rsa, &[1, 2, 840, 113549, 1, 1, 1], null),
+        is_form(alloc, &elliptic_curve, &[1, 2, 840, 10045, 2, 1], oid),
         is_rewritten(alloc, &indefinite, &form),
-        refuses_der(alloc, &indefinite, ASN1ErrorKind::Invalid),
-        refuses_ber(alloc, &broken, ASN1ErrorKind::Eof),
-        refuses_ber(alloc, &more, ASN1ErrorKind::Extra),
+        refuses(der_algorithm(alloc, &indefinite), ASN1ErrorKind::Invalid),
+        refuses(ber_algorithm(alloc, &broken), ASN1ErrorKind::Eof),
+        refuses(ber_algorithm(alloc, &more), ASN1ErrorKind::Extra),
     ]
-}
-
-// Parameters of indefinite length are kept as they came, with the two zeros that end them. Parameters that are broken
-// aren't taken for none, and behind them nothing may follow.
-#[test]
-fn other_parameters(rt: HostRuntime) {
-    all_hold(&rt, &are_others(rt.alloc()));
 }
 
 // Whether a key of this many bits is read from its form, and written in it, and its algorithm has parameters or has none.
@@ -108,6 +93,7 @@ fn form_with_bits(alloc: Global, form: &[u8], bits: usize) -> ASN1Result<Vec<u8>
     encoded_key(alloc, &key)
 }
 
+// A key of more bits than its bytes hold has no form.
 fn are_keys(alloc: Global) -> [bool; 4] {
     [
         is_form_of_key(alloc, &ED25519, 256, false),
@@ -117,8 +103,8 @@ fn are_keys(alloc: Global) -> [bool; 4] {
     ]
 }
 
-// A key of more bits than its bytes hold has no form.
 #[test]
-fn keys(rt: HostRuntime) {
+fn algorithms_and_keys(rt: HostRuntime) {
+    all_hold(&rt, &are_algorithms(rt.alloc()));
     all_hold(&rt, &are_keys(rt.alloc()));
 }

@@ -32,24 +32,6 @@ fn ends_past_number(reader: BERReader) -> ASN1Result<bool> {
     reader.read_sequence(past_number)
 }
 
-fn parts_end(alloc: Global) -> [bool; 4] {
-    [
-        parse_der(alloc, &[48, 3, 2, 1, 7], number_alone) == Ok((7, true)),
-        parse_der(alloc, &[48, 5, 2, 1, 7, 5, 0], number_alone) == Ok((7, false)),
-        parse_ber(alloc, &[48, 128, 2, 1, 7, 0, 0], number_alone) == Ok((7, true)),
-        refuses(
-            parse_der(alloc, &[48, 6, 2, 2, 0, 7, 5, 0], ends_past_number),
-            ASN1ErrorKind::Invalid,
-        ),
-    ]
-}
-
-// Behind the last one, by two zeros too, and a failure that is kept ends them.
-#[test]
-fn ends_of_parts(rt: HostRuntime) {
-    all_hold(&rt, &parts_end(rt.alloc()));
-}
-
 #[derive(Clone, Copy)]
 enum Refused {
     Large,
@@ -86,10 +68,6 @@ fn small_in_cer(alloc: Global, bytes: &[u8]) -> Result<Vec<i64>, Refused> {
     try_parse_cer(alloc, bytes, |reader| small(alloc, reader))
 }
 
-fn is_small(answer: Result<Vec<i64>, Refused>) -> bool {
-    answer.is_ok()
-}
-
 fn is_large(answer: Result<Vec<i64>, Refused>) -> bool {
     matches!(answer, Err(Refused::Large))
 }
@@ -98,10 +76,17 @@ fn is_encoding(answer: Result<Vec<i64>, Refused>) -> bool {
     matches!(answer, Err(Refused::Encoding(_)))
 }
 
-// What BER reads, a callback's own error, and refusals that become such.
-fn errors_are_own(alloc: Global) -> [bool; 4] {
+// Parts end behind the last one, by two zeros too, and a failure that is kept ends them. And what BER reads, a callback's own
+// error, and refusals that become such.
+fn ends_and_errors(alloc: Global) -> [bool; 8] {
+    let cut = [48, 6, 2, 2, 0, 7, 5, 0];
+    let invalid = ASN1ErrorKind::Invalid;
     [
-        is_small(small_in_ber(alloc, &[2, 129, 1, 7])),
+        parse_der(alloc, &[48, 3, 2, 1, 7], number_alone) == Ok((7, true)),
+        parse_der(alloc, &[48, 5, 2, 1, 7, 5, 0], number_alone) == Ok((7, false)),
+        parse_ber(alloc, &[48, 128, 2, 1, 7, 0, 0], number_alone) == Ok((7, true)),
+        refuses(parse_der(alloc, &cut, ends_past_number), invalid),
+        small_in_ber(alloc, &[2, 129, 1, 7]).is_ok(),
         is_large(small_in_ber(alloc, &[2, 1, 100])),
         is_encoding(small_in_cer(alloc, &[2, 129, 1, 7])),
         is_encoding(small_in_cer(alloc, &[2, 1, 7, 0])),
@@ -109,6 +94,6 @@ fn errors_are_own(alloc: Global) -> [bool; 4] {
 }
 
 #[test]
-fn errors_of_their_own(rt: HostRuntime) {
-    all_hold(&rt, &errors_are_own(rt.alloc()));
+fn ends_and_errors_of_their_own(rt: HostRuntime) {
+    all_hold(&rt, &ends_and_errors(rt.alloc()));
 }

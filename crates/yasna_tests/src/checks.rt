@@ -1,9 +1,10 @@
 //! What many tests check of an answer.
 
+use std::alloc::Global;
 use std::fmt::Debug;
 use std::hash::{BuildHasher, BuildHasherDefault, FoldHasher, Hash};
 use std::process::Abort;
-use yasna::{ASN1ErrorKind, ASN1Result};
+use yasna::{ASN1ErrorKind, ASN1Result, DERWriter, construct_der};
 
 /// Whether the answer is these items: those of a list, or the bytes of a form.
 pub fn gives<T: PartialEq + Drop>(answer: ASN1Result<Vec<T>>, items: &[T]) -> bool {
@@ -21,17 +22,21 @@ pub fn begins_with(answer: ASN1Result<Vec<u8>>, length: usize, first: &[u8]) -> 
     }
 }
 
-/// Whether the answer is a yes.
-pub fn holds(answer: ASN1Result<bool>) -> bool {
-    matches!(answer, Ok(true))
-}
-
 /// Whether the answer is a refusal of this kind.
 pub fn refuses<T: Drop>(answer: ASN1Result<T>, kind: ASN1ErrorKind) -> bool {
     match answer {
         Ok(_) => false,
         Err(error) => error.kind() == kind,
     }
+}
+
+/// Whether this is the form that such a function writes of the value.
+pub fn is_form_by<T: Copy, W>(alloc: Global, form: &[u8], value: T, write: W) -> bool
+where
+    W: FnOnce(T, DERWriter<'_>) -> ASN1Result<()>,
+    requires { W.IsAlwaysCallable write }
+{
+    gives(construct_der(alloc, |writer| write(value, writer)), form)
 }
 
 /// Whether both are one value.

@@ -1,11 +1,9 @@
 //! Lists, tuples, raw elements and borrowed values, each impl once at types of its own.
 
-use crate::checks::{all_hold, gives, holds, refuses};
+use crate::checks::{all_hold, gives, refuses};
 use std::alloc::{AllocError, Global};
 use yasna::models::TaggedDerValue;
-use yasna::{
-    ASN1ErrorKind, ASN1Result, DERCanonical, PCBit, decode_ber, decode_der, encode_der, tags,
-};
+use yasna::{ASN1ErrorKind, DERCanonical, PCBit, decode_ber, decode_der, encode_der, tags};
 use yasna_examples::normalized;
 
 // The INTEGERs of a SEQUENCE.
@@ -38,187 +36,119 @@ fn is_form<T: DERCanonical>(alloc: Global, bytes: &[u8]) -> bool {
     gives(normalized::<T>(alloc, bytes), bytes) && decode_der::<T>(alloc, bytes).is_ok()
 }
 
-// Whether a SEQUENCE of so many INTEGERs is a value of this type, and its form, and nothing may follow it, if there is memory.
-fn is_whole_form_of<T: DERCanonical>(
-    alloc: Global,
-    numbers: Numbers,
-    count: u8,
-) -> ASN1Result<bool> {
-    let mut bytes = sequence(alloc, numbers, count)?;
-    let is_form = is_form::<T>(alloc, &bytes);
-    bytes.extend_from_slice(&[2, 1, count.saturating_add(1)])?;
-    Ok(is_form && refuses(decode_ber::<T>(alloc, &bytes), ASN1ErrorKind::Extra))
-}
-
+// Whether a SEQUENCE of so many INTEGERs is a value of this type, and its form, and nothing may follow it.
 fn is_form_of<T: DERCanonical>(alloc: Global, numbers: Numbers, count: u8) -> bool {
-    holds(is_whole_form_of::<T>(alloc, numbers, count))
+    let Ok(mut bytes) = sequence(alloc, numbers, count) else {
+        return false;
+    };
+    let is_form = is_form::<T>(alloc, &bytes);
+    match bytes.extend_from_slice(&[2, 1, count.saturating_add(1)]) {
+        Ok(()) => is_form && refuses(decode_ber::<T>(alloc, &bytes), ASN1ErrorKind::Extra),
+        Err(_) => false,
+    }
 }
 
-fn two(alloc: Global, numbers: Numbers) -> bool {
-    is_form_of::<(i64, i64)>(alloc, numbers, 2)
+// Whether this is so of both lists.
+fn is_tuple<T: DERCanonical>(alloc: Global, count: u8) -> bool {
+    is_form_of::<T>(alloc, Numbers::Rising, count) && is_form_of::<T>(alloc, Numbers::Tens, count)
 }
 
-fn four(alloc: Global, numbers: Numbers) -> bool {
-    is_form_of::<(i64, i64, i64, i64)>(alloc, numbers, 4)
-}
-
-fn six(alloc: Global, numbers: Numbers) -> bool {
-    is_form_of::<(i64, i64, i64, i64, i64, i64)>(alloc, numbers, 6)
-}
-
-fn eight(alloc: Global, numbers: Numbers) -> bool {
-    is_form_of::<(i64, i64, i64, i64, i64, i64, i64, i64)>(alloc, numbers, 8)
-}
-
-fn nine(alloc: Global, numbers: Numbers) -> bool {
-    is_form_of::<(i64, i64, i64, i64, i64, i64, i64, i64, i64)>(alloc, numbers, 9)
-}
-
-fn ten(alloc: Global, numbers: Numbers) -> bool {
-    is_form_of::<(i64, i64, i64, i64, i64, i64, i64, i64, i64, i64)>(alloc, numbers, 10)
-}
-
-fn eleven(alloc: Global, numbers: Numbers) -> bool {
-    is_form_of::<(i64, i64, i64, i64, i64, i64, i64, i64, i64, i64, i64)>(alloc, numbers, 11)
-}
-
-fn are_tuples_to_six(alloc: Global) -> [bool; 6] {
-    let numbers = Numbers::Rising;
+fn are_tuples_to_six(alloc: Global) -> [bool; 7] {
     [
-        is_form_of::<(i64,)>(alloc, numbers, 1),
-        two(alloc, numbers),
-        is_form_of::<(i64, i64, u16)>(alloc, numbers, 3),
-        four(alloc, numbers),
-        is_form_of::<(i64, i64, u64, i64, i64)>(alloc, numbers, 5),
-        six(alloc, numbers),
+        is_tuple::<(i64,)>(alloc, 1),
+        is_tuple::<(i64, i64)>(alloc, 2),
+        is_tuple::<(i64, i64, u16)>(alloc, 3),
+        is_tuple::<(i64, i64, i64, i64)>(alloc, 4),
+        is_tuple::<(i64, i64, u64, i64, i64)>(alloc, 5),
+        is_tuple::<(i64, i64, i64, i64, i64)>(alloc, 5),
+        is_tuple::<(i64, i64, i64, i64, i64, i64)>(alloc, 6),
+    ]
+}
+
+fn are_tuples_to_twelve(alloc: Global) -> [bool; 7] {
+    [
+        is_tuple::<(i64, i64, i64, i64, i64, i64, i16)>(alloc, 7),
+        is_tuple::<(i64, i64, i64, i64, i64, i64, i64)>(alloc, 7),
+        is_tuple::<(i64, i64, i64, i64, i64, i64, i64, i64)>(alloc, 8),
+        is_tuple::<(i64, i64, i64, i64, i64, i64, i64, i64, i64)>(alloc, 9),
+        is_tuple::<(i64, i64, i64, i64, i64, i64, i64, i64, i64, i64)>(alloc, 10),
+        is_tuple::<(i64, i64, i64, i64, i64, i64, i64, i64, i64, i64, i64)>(alloc, 11),
+        is_tuple::<(i64, i64, i64, i64, i64, i64, i64, i64, i64, i64, i64, i32)>(alloc, 12),
     ]
 }
 
 #[test]
-fn tuples_to_six(rt: HostRuntime) {
+fn tuples(rt: HostRuntime) {
     all_hold(&rt, &are_tuples_to_six(rt.alloc()));
-}
-
-fn twelve_with_a_short_one(alloc: Global) -> bool {
-    is_form_of::<(i64, i64, i64, i64, i64, i64, i64, i64, i64, i64, i64, i32)>(
-        alloc,
-        Numbers::Rising,
-        12,
-    )
-}
-
-fn are_tuples_to_twelve(alloc: Global) -> [bool; 6] {
-    let numbers = Numbers::Rising;
-    [
-        is_form_of::<(i64, i64, i64, i64, i64, i64, i16)>(alloc, numbers, 7),
-        eight(alloc, numbers),
-        nine(alloc, numbers),
-        ten(alloc, numbers),
-        eleven(alloc, numbers),
-        twelve_with_a_short_one(alloc),
-    ]
-}
-
-#[test]
-fn tuples_to_twelve(rt: HostRuntime) {
     all_hold(&rt, &are_tuples_to_twelve(rt.alloc()));
 }
 
-fn are_tens(alloc: Global) -> [bool; 9] {
-    let numbers = Numbers::Tens;
-    [
-        two(alloc, numbers),
-        four(alloc, numbers),
-        is_form_of::<(i64, i64, i64, i64, i64)>(alloc, numbers, 5),
-        six(alloc, numbers),
-        is_form_of::<(i64, i64, i64, i64, i64, i64, i64)>(alloc, numbers, 7),
-        eight(alloc, numbers),
-        nine(alloc, numbers),
-        ten(alloc, numbers),
-        eleven(alloc, numbers),
-    ]
+const INVALID: ASN1ErrorKind = ASN1ErrorKind::Invalid;
+
+fn refuses_numbers(alloc: Global, bytes: &[u8], kind: ASN1ErrorKind) -> bool {
+    refuses(decode_ber::<Vec<i64>>(alloc, bytes), kind)
 }
 
-#[test]
-fn tens(rt: HostRuntime) {
-    all_hold(&rt, &are_tens(rt.alloc()));
-}
-
-fn refuses_ber<T: DERCanonical>(alloc: Global, bytes: &[u8], kind: ASN1ErrorKind) -> bool {
-    refuses(decode_ber::<T>(alloc, bytes), kind)
-}
-
-fn are_lists(alloc: Global) -> [bool; 4] {
+// A list goes on to the two zeros, a broken item is no end of it, and a part that isn't read is too much.
+fn are_lists(alloc: Global) -> [bool; 8] {
     let nested = [48, 128, 48, 128, 4, 1, 9, 48, 3, 1, 1, 7, 0, 0, 0, 0];
-    let broken = [48, 128, 2, 1, 10, 5, 0, 0, 0];
+    let nested_form = [48, 10, 48, 8, 4, 1, 9, 48, 3, 1, 1, 255];
+    let form = [48, 128, 2, 1, 10, 2, 1, 11, 0, 0];
+    let unread = [48, 128, 2, 1, 1, 2, 1, 2, 2, 1, 3, 0, 0];
     [
         is_form_of::<Vec<i64>>(alloc, Numbers::Rising, 0),
         is_form_of::<Vec<u32>>(alloc, Numbers::Rising, 5),
         gives(
             normalized::<Vec<(Vec<u8>, Vec<bool>)>>(alloc, &nested),
-            &[48, 10, 48, 8, 4, 1, 9, 48, 3, 1, 1, 255],
+            &nested_form,
         ),
-        refuses_ber::<Vec<i64>>(alloc, &broken, ASN1ErrorKind::Invalid),
-    ]
-}
-
-#[test]
-fn lists(rt: HostRuntime) {
-    all_hold(&rt, &are_lists(rt.alloc()));
-}
-
-fn are_ends(alloc: Global) -> [bool; 4] {
-    let form = [48, 128, 2, 1, 10, 2, 1, 11, 0, 0];
-    let broken = [48, 5, 2, 1, 10, 2, 0];
-    let cut = [48, 128, 2, 1, 10];
-    let unread = [48, 128, 2, 1, 1, 2, 1, 2, 2, 1, 3, 0, 0];
-    [
+        refuses_numbers(alloc, &[48, 128, 2, 1, 10, 5, 0, 0, 0], INVALID),
         gives(decode_ber::<Vec<i64>>(alloc, &form), &[10, 11]),
-        refuses_ber::<Vec<i64>>(alloc, &broken, ASN1ErrorKind::Invalid),
-        refuses_ber::<Vec<i64>>(alloc, &cut, ASN1ErrorKind::Eof),
-        refuses_ber::<(i64, i64)>(alloc, &unread, ASN1ErrorKind::Invalid),
+        refuses_numbers(alloc, &[48, 5, 2, 1, 10, 2, 0], INVALID),
+        refuses_numbers(alloc, &[48, 128, 2, 1, 10], ASN1ErrorKind::Eof),
+        refuses(decode_ber::<(i64, i64)>(alloc, &unread), INVALID),
     ]
 }
 
-// A list goes on to the two zeros, a broken item is no end of it, and a part that isn't read is too much.
-#[test]
-fn ends(rt: HostRuntime) {
-    all_hold(&rt, &are_ends(rt.alloc()));
+fn is_element(alloc: Global, bytes: &[u8]) -> bool {
+    match decode_der::<TaggedDerValue>(alloc, bytes) {
+        Ok(element) => {
+            element.tag() == tags::TAG_UTF8STRING
+                && element.pcbit() == PCBit::Primitive
+                && element.value() == [65].as_slice()
+        }
+        Err(_) => false,
+    }
 }
 
-fn is_element(alloc: Global, bytes: &[u8]) -> ASN1Result<bool> {
-    let element: TaggedDerValue = decode_der(alloc, bytes)?;
-    Ok(
-        element.tag() == tags::TAG_UTF8STRING
-            && element.pcbit() == PCBit::Primitive
-            && element.value() == [65].as_slice(),
-    )
+// Whether it is a list of so many elements.
+fn has_elements(alloc: Global, bytes: &[u8], count: usize) -> bool {
+    match decode_ber::<Vec<TaggedDerValue>>(alloc, bytes) {
+        Ok(list) => list.len() == count,
+        Err(_) => false,
+    }
 }
 
-// How many elements a list holds.
-fn count_of(alloc: Global, bytes: &[u8]) -> ASN1Result<usize> {
-    let list: Vec<TaggedDerValue> = decode_ber(alloc, bytes)?;
-    Ok(list.len())
+fn is_equal_to_its_copy(value: &TaggedDerValue) -> bool {
+    match value.clone() {
+        Ok(copy) => copy == *value,
+        Err(_) => false,
+    }
 }
 
-fn is_copied(alloc: Global, bytes: &[u8]) -> ASN1Result<bool> {
-    let value: TaggedDerValue = decode_der(alloc, bytes)?;
-    let copy = value.clone()?;
-    Ok(copy == value)
+fn is_copied(alloc: Global, bytes: &[u8]) -> bool {
+    match decode_der::<TaggedDerValue>(alloc, bytes) {
+        Ok(value) => is_equal_to_its_copy(&value),
+        Err(_) => false,
+    }
 }
 
 fn are_elements(alloc: Global) -> [bool; 3] {
-    let octets = [4, 6, 72, 101, 108, 108, 111, 33];
     [
-        holds(is_element(alloc, &[12, 1, 65])),
-        count_of(alloc, &[48, 5, 5, 0, 2, 1, 7]) == Ok(2),
-        holds(is_copied(alloc, &octets)),
+        is_element(alloc, &[12, 1, 65]),
+        has_elements(alloc, &[48, 5, 5, 0, 2, 1, 7], 2),
+        is_copied(alloc, &[4, 6, 72, 101, 108, 108, 111, 33]),
     ]
-}
-
-#[test]
-fn raw_elements(rt: HostRuntime) {
-    all_hold(&rt, &are_elements(rt.alloc()));
 }
 
 fn are_written(alloc: Global) -> [bool; 5] {
@@ -245,7 +175,10 @@ fn are_written(alloc: Global) -> [bool; 5] {
     ]
 }
 
+// Of each list and element, and of borrowed values.
 #[test]
-fn borrowed(rt: HostRuntime) {
+fn lists_elements_and_borrowed_values(rt: HostRuntime) {
+    all_hold(&rt, &are_lists(rt.alloc()));
+    all_hold(&rt, &are_elements(rt.alloc()));
     all_hold(&rt, &are_written(rt.alloc()));
 }

@@ -1,8 +1,8 @@
 //! Elements by hand, as X.690 spells them: what is written for them, where the first doubt is, and where broken ones are refused.
 
-use crate::checks::{finds_none, holds};
+use crate::checks::{all_hold, finds_none};
 use std::alloc::{AllocError, Global};
-use yasna::{ASN1ErrorKind, ASN1Result};
+use yasna::ASN1ErrorKind;
 use yasna_conversion::conversion::convert;
 use yasna_conversion::doubt::Doubt;
 use yasna_conversion::fault::Fault;
@@ -70,11 +70,6 @@ fn first_other_row(alloc: Global) -> Option<&'static [u8]> {
     None
 }
 
-#[test]
-fn rows(rt: HostRuntime) {
-    finds_none(&rt, first_other_row(rt.alloc()));
-}
-
 // Elements in BER, the same in DER, and the first doubts about a string in segments and about an order.
 static DOUBTS: [(&[u8], &[u8], Option<usize>, Option<usize>); 4] = [
     (
@@ -132,11 +127,6 @@ fn first_other_doubt(alloc: Global) -> Option<&'static [u8]> {
     None
 }
 
-#[test]
-fn doubts(rt: HostRuntime) {
-    finds_none(&rt, first_other_doubt(rt.alloc()));
-}
-
 // Broken inputs, where they are so, and how.
 static BROKEN: [(&[u8], usize, ASN1ErrorKind); 15] = [
     (&[], 0, ASN1ErrorKind::Eof),
@@ -183,11 +173,6 @@ fn first_other_fault(alloc: Global) -> Option<&'static [u8]> {
     None
 }
 
-#[test]
-fn broken(rt: HostRuntime) {
-    finds_none(&rt, first_other_fault(rt.alloc()));
-}
-
 // So many sequences within each other.
 fn nested(alloc: Global, depth: usize) -> Result<Vec<u8>, AllocError> {
     let mut bytes = Vec::new(alloc);
@@ -200,20 +185,18 @@ fn nested(alloc: Global, depth: usize) -> Result<Vec<u8>, AllocError> {
     Ok(bytes)
 }
 
-fn is_deep_taken(alloc: Global) -> ASN1Result<bool> {
-    let deep = nested(alloc, 101)?;
-    Ok(convert(alloc, &deep).is_ok())
-}
-
-fn is_deeper_refused(alloc: Global) -> ASN1Result<bool> {
-    let too_deep = nested(alloc, 102)?;
-    Ok(refuses(alloc, &too_deep, 202, ASN1ErrorKind::StackOverflow))
-}
-
-#[test]
-fn depth(rt: HostRuntime) {
-    assert!(rt; holds(is_deep_taken(rt.alloc())));
-    assert!(rt; holds(is_deeper_refused(rt.alloc())));
+// Whether so many are taken, and one more is refused at this offset.
+fn is_deepest(alloc: Global, depth: usize, offset: usize) -> bool {
+    let Ok(deep) = nested(alloc, depth) else {
+        return false;
+    };
+    match nested(alloc, depth.saturating_add(1)) {
+        Ok(deeper) => {
+            convert(alloc, &deep).is_ok()
+                && refuses(alloc, &deeper, offset, ASN1ErrorKind::StackOverflow)
+        }
+        Err(_) => false,
+    }
 }
 
 // A header, and so many zeros.
@@ -227,16 +210,31 @@ fn zeros(alloc: Global, size: u8, header: &[u8]) -> Result<Vec<u8>, AllocError> 
 }
 
 // Whether so many zeros behind one header are written behind the other.
-fn is_header_of(alloc: Global, size: u8, input: &[u8], output: &[u8]) -> ASN1Result<bool> {
-    let bytes = zeros(alloc, size, input)?;
-    let form = zeros(alloc, size, output)?;
-    Ok(gives(alloc, &bytes, &form))
+fn is_header_of(alloc: Global, size: u8, input: &[u8], output: &[u8]) -> bool {
+    let Ok(bytes) = zeros(alloc, size, input) else {
+        return false;
+    };
+    match zeros(alloc, size, output) {
+        Ok(form) => gives(alloc, &bytes, &form),
+        Err(_) => false,
+    }
 }
 
-#[test]
-fn long_lengths(rt: HostRuntime) {
+fn are_deep_or_long(alloc: Global) -> [bool; 3] {
     let short = [4, 136, 0, 0, 0, 0, 0, 0, 0, 127];
-    assert!(rt; holds(is_header_of(rt.alloc(), 127, &short, &[4, 127])));
     let long = [4, 136, 0, 0, 0, 0, 0, 0, 0, 128];
-    assert!(rt; holds(is_header_of(rt.alloc(), 128, &long, &[4, 129, 128])));
+    [
+        is_deepest(alloc, 101, 202),
+        is_header_of(alloc, 127, &short, &[4, 127]),
+        is_header_of(alloc, 128, &long, &[4, 129, 128]),
+    ]
+}
+
+// What is written, the first doubts, and where broken elements are refused.
+#[test]
+fn elements(rt: HostRuntime) {
+    finds_none(&rt, first_other_row(rt.alloc()));
+    finds_none(&rt, first_other_doubt(rt.alloc()));
+    finds_none(&rt, first_other_fault(rt.alloc()));
+    all_hold(&rt, &are_deep_or_long(rt.alloc()));
 }

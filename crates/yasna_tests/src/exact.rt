@@ -5,7 +5,7 @@ use crate::checks::{all_hold, gives, refuses};
 use std::alloc::Global;
 use yasna::models::TaggedDerValue;
 use yasna::{
-    ASN1ErrorKind, ASN1Result, DERExact, decode_der, encode_cer, encode_der, one_der_form,
+    ASN1ErrorKind, ASN1Result, BERMode, DERExact, decode_der, encode_cer, encode_der, one_der_form,
 };
 
 // What DER read is written again as the same bytes.
@@ -17,9 +17,20 @@ fn written_again<T: DERExact>(alloc: Global, bytes: &[u8]) -> ASN1Result<Vec<u8>
     encode_der(alloc, &value)
 }
 
-fn come_back(alloc: Global) -> [bool; 2] {
+// The form of the element in these bytes.
+fn form_of(alloc: Global, bytes: &[u8], mode: BERMode) -> ASN1Result<Vec<u8>> {
+    let element: TaggedDerValue = decode_der(alloc, bytes)?;
+    match mode {
+        BERMode::Cer => encode_cer(alloc, &element),
+        _ => encode_der(alloc, &element),
+    }
+}
+
+fn are_written_as_they_came(alloc: Global) -> [bool; 4] {
     let elements = [48, 9, 2, 1, 7, 160, 4, 12, 2, 195, 169];
     let other = [48, 4, 2, 129, 1, 7];
+    let tagged = [160, 3, 2, 1, 7];
+    let number = [2, 1, 7];
     [
         gives(
             written_again::<Vec<TaggedDerValue>>(alloc, &elements),
@@ -29,31 +40,8 @@ fn come_back(alloc: Global) -> [bool; 2] {
             written_again::<Vec<TaggedDerValue>>(alloc, &other),
             ASN1ErrorKind::Invalid,
         ),
-    ]
-}
-
-#[test]
-fn elements_come_back(rt: HostRuntime) {
-    all_hold(&rt, &come_back(rt.alloc()));
-}
-
-// The form of the element in these bytes.
-fn der_form(alloc: Global, bytes: &[u8]) -> ASN1Result<Vec<u8>> {
-    let element: TaggedDerValue = decode_der(alloc, bytes)?;
-    encode_der(alloc, &element)
-}
-
-fn cer_form(alloc: Global, bytes: &[u8]) -> ASN1Result<Vec<u8>> {
-    let element: TaggedDerValue = decode_der(alloc, bytes)?;
-    encode_cer(alloc, &element)
-}
-
-fn are_written_as_they_came(alloc: Global) -> [bool; 2] {
-    let tagged = [160, 3, 2, 1, 7];
-    let number = [2, 1, 7];
-    [
-        gives(der_form(alloc, &tagged), &tagged),
-        gives(cer_form(alloc, &number), &number),
+        gives(form_of(alloc, &tagged, BERMode::Der), &tagged),
+        gives(form_of(alloc, &number, BERMode::Cer), &number),
     ]
 }
 

@@ -1,8 +1,8 @@
 //! The pieces of README.md and docs/GUIDE.md, each once on bytes.
 
-use crate::checks::{all_hold, gives, holds, refuses};
+use crate::checks::{all_hold, gives, is_form_by, refuses};
 use std::alloc::Global;
-use yasna::{ASN1Error, ASN1ErrorKind, ASN1Result, DERWriter, construct_der, parse_ber, parse_der};
+use yasna::{ASN1Error, ASN1ErrorKind, ASN1Result, construct_der, parse_ber, parse_der};
 use yasna_examples::{read_directory_string, read_ldap_string, reencoded, write_directory_string};
 use yasna_guide::alternatives::{Id, read_id};
 use yasna_guide::any::{read_algorithm, write_algorithm};
@@ -28,6 +28,8 @@ use yasna_guide::tagged::{EncryptedData, read_encrypted, write_encrypted};
 use yasna_guide::times::{Time, read_time, time_of_text, write_time};
 use yasna_guide::whole::{read_table, write_flag};
 
+const INVALID: ASN1ErrorKind = ASN1ErrorKind::Invalid;
+
 // Whether a report is read from its form, and written in it.
 fn is_report(alloc: Global, form: &[u8]) -> bool {
     match decode_report(alloc, form) {
@@ -39,18 +41,6 @@ fn is_report(alloc: Global, form: &[u8]) -> bool {
     }
 }
 
-fn are_reports(alloc: Global) -> [bool; 2] {
-    [
-        is_report(alloc, &[48, 6, 48, 4, 2, 2, 255, 127]),
-        is_report(alloc, &[48, 7, 48, 0, 160, 3, 2, 1, 90]),
-    ]
-}
-
-#[test]
-fn reports(rt: HostRuntime) {
-    all_hold(&rt, &are_reports(rt.alloc()));
-}
-
 // Whether the point is read.
 fn is_point(read: ASN1Result<Point>, x: i64, y: i64) -> bool {
     match read {
@@ -59,20 +49,17 @@ fn is_point(read: ASN1Result<Point>, x: i64, y: i64) -> bool {
     }
 }
 
-fn are_points(alloc: Global) -> [bool; 4] {
+fn are_reports_and_points(alloc: Global) -> [bool; 6] {
     let form = [48, 7, 2, 1, 10, 2, 2, 255, 127];
     let indefinite = [48, 128, 2, 1, 10, 2, 2, 255, 127, 0, 0];
     [
+        is_report(alloc, &[48, 6, 48, 4, 2, 2, 255, 127]),
+        is_report(alloc, &[48, 7, 48, 0, 160, 3, 2, 1, 90]),
         gives(point_to_der(alloc, Point { x: 10, y: -129 }), &form),
         is_point(point_from_der(alloc, &form), 10, -129),
         is_point(point_from_ber(alloc, &indefinite), 10, -129),
-        refuses(point_from_der(alloc, &indefinite), ASN1ErrorKind::Invalid),
+        refuses(point_from_der(alloc, &indefinite), INVALID),
     ]
-}
-
-#[test]
-fn points(rt: HostRuntime) {
-    all_hold(&rt, &are_points(rt.alloc()));
 }
 
 // Whether the table is one row of this name and this flag.
@@ -90,134 +77,146 @@ fn reads_row(alloc: Global, form: &[u8], name: &str, flag: bool) -> bool {
     }
 }
 
-fn are_wholes(alloc: Global) -> [bool; 4] {
-    let indefinite = [48, 128, 48, 6, 12, 1, 97, 1, 1, 1, 0, 0];
-    let form = [48, 6, 12, 1, 97, 1, 1, 255];
-    let other = [48, 6, 12, 1, 97, 1, 1, 1];
-    [
-        reads_row(alloc, &indefinite, "a", true),
-        gives(write_flag(alloc, "a", true), &form),
-        gives(reencoded::<(String, bool)>(alloc, &form), &form),
-        refuses(
-            reencoded::<(String, bool)>(alloc, &other),
-            ASN1ErrorKind::Invalid,
-        ),
-    ]
-}
-
-#[test]
-fn values_as_a_whole(rt: HostRuntime) {
-    all_hold(&rt, &are_wholes(rt.alloc()));
-}
-
-fn form_of_person(alloc: Global, person: &Person) -> ASN1Result<Vec<u8>> {
-    construct_der(alloc, |writer| write_person(person, writer))
-}
-
-// Whether a person of this age is read from its form, and written in it.
-fn has_age(alloc: Global, form: &[u8], age: Option<u16>) -> bool {
-    match parse_der(alloc, form, read_person) {
-        Ok(person) => person.age == age && gives(form_of_person(alloc, &person), form),
+// Whether BER reads an extension of this value, critical or not.
+fn is_extension(alloc: Global, bytes: &[u8], critical: bool, value: &[u8]) -> bool {
+    match extension_from_ber(alloc, bytes) {
+        Ok(extension) => {
+            extension.critical == critical && extension.extn_value.as_slice() == value
+        }
         Err(_) => false,
     }
 }
 
-fn are_persons(alloc: Global) -> [bool; 3] {
-    // an age that is there and broken isn't taken for none
-    let broken = [48, 6, 12, 1, 97, 2, 1];
+fn are_wholes(alloc: Global) -> [bool; 8] {
+    let indefinite = [48, 128, 48, 6, 12, 1, 97, 1, 1, 1, 0, 0];
+    let form = [48, 6, 12, 1, 97, 1, 1, 255];
+    let other = [48, 6, 12, 1, 97, 1, 1, 1];
+    let extension = [48, 12, 6, 3, 85, 29, 19, 1, 1, 255, 4, 2, 48, 0];
+    // one that isn't critical may say so in BER
+    let says_false = [48, 12, 6, 3, 85, 29, 19, 1, 1, 0, 4, 2, 48, 0];
     [
-        has_age(alloc, &[48, 6, 12, 1, 97, 2, 1, 10], Some(10)),
-        has_age(alloc, &[48, 3, 12, 1, 97], None),
-        refuses(parse_der(alloc, &broken, read_person), ASN1ErrorKind::Eof),
+        reads_row(alloc, &indefinite, "a", true),
+        gives(write_flag(alloc, "a", true), &form),
+        gives(reencoded::<(String, bool)>(alloc, &form), &form),
+        refuses(reencoded::<(String, bool)>(alloc, &other), INVALID),
+        gives(rewritten_extension(alloc, &extension), &extension),
+        is_extension(alloc, &extension, true, &[48, 0]),
+        is_extension(alloc, &says_false, false, &[48, 0]),
+        refuses(rewritten_extension(alloc, &says_false), INVALID),
     ]
 }
 
+// Structs, tables and extensions.
 #[test]
-fn options(rt: HostRuntime) {
-    all_hold(&rt, &are_persons(rt.alloc()));
+fn values_as_a_whole(rt: HostRuntime) {
+    all_hold(&rt, &are_reports_and_points(rt.alloc()));
+    all_hold(&rt, &are_wholes(rt.alloc()));
 }
 
-fn form_of_constraints(alloc: Global, read: BasicConstraints) -> ASN1Result<Vec<u8>> {
-    construct_der(alloc, |writer| write_constraints(read, writer))
+fn person_of(alloc: Global, form: &[u8]) -> ASN1Result<Person> {
+    parse_der(alloc, form, read_person)
 }
 
-// Whether these constraints are read from their form, and written in it.
+// Whether a person of this age is read from its form, and written in it.
+fn has_age(alloc: Global, form: &[u8], age: Option<u16>) -> bool {
+    match person_of(alloc, form) {
+        Ok(person) => person.age == age && is_form_by(alloc, form, &person, write_person),
+        Err(_) => false,
+    }
+}
+
+fn constraints_of(alloc: Global, form: &[u8]) -> ASN1Result<BasicConstraints> {
+    parse_der(alloc, form, read_constraints)
+}
+
+// Whether constraints say this.
+fn say(read: BasicConstraints, is_authority: bool, path_length: Option<u64>) -> bool {
+    read.is_authority == is_authority && read.path_length == path_length
+}
+
+// Whether constraints that say this are read from their form, and written in it.
 fn has_constraints(
     alloc: Global,
     form: &[u8],
     is_authority: bool,
     path_length: Option<u64>,
-) -> ASN1Result<bool> {
-    let read = parse_der(alloc, form, read_constraints)?;
-    Ok(
-        read.is_authority == is_authority
-            && read.path_length == path_length
-            && gives(form_of_constraints(alloc, read), form),
-    )
+) -> bool {
+    match constraints_of(alloc, form) {
+        Ok(read) => {
+            say(read, is_authority, path_length) && is_form_by(alloc, form, read, write_constraints)
+        }
+        Err(_) => false,
+    }
 }
 
-// Whether BER reads an authority's.
-fn is_authority(alloc: Global, bytes: &[u8]) -> ASN1Result<bool> {
-    let read = parse_ber(alloc, bytes, read_constraints)?;
-    Ok(read.is_authority)
+// Whether BER reads those of no authority.
+fn is_no_authority(alloc: Global, bytes: &[u8]) -> bool {
+    match parse_ber(alloc, bytes, read_constraints) {
+        Ok(read) => !read.is_authority,
+        Err(_) => false,
+    }
 }
 
-fn are_defaults(alloc: Global) -> [bool; 4] {
-    let authority = [48, 6, 1, 1, 255, 2, 1, 3];
+// An age that is there and broken isn't taken for none. In BER defaults may stand there.
+fn are_options_and_defaults(alloc: Global) -> [bool; 7] {
     let said = [48, 3, 1, 1, 0];
     [
-        holds(has_constraints(alloc, &[48, 0], false, None)),
-        holds(has_constraints(alloc, &authority, true, Some(3))),
-        is_authority(alloc, &said) == Ok(false),
+        has_age(alloc, &[48, 6, 12, 1, 97, 2, 1, 10], Some(10)),
+        has_age(alloc, &[48, 3, 12, 1, 97], None),
         refuses(
-            parse_der(alloc, &said, read_constraints),
-            ASN1ErrorKind::Invalid,
+            person_of(alloc, &[48, 6, 12, 1, 97, 2, 1]),
+            ASN1ErrorKind::Eof,
         ),
+        has_constraints(alloc, &[48, 0], false, None),
+        has_constraints(alloc, &[48, 6, 1, 1, 255, 2, 1, 3], true, Some(3)),
+        is_no_authority(alloc, &said),
+        refuses(constraints_of(alloc, &said), INVALID),
     ]
 }
 
-// In BER they may stand there.
-#[test]
-fn defaults(rt: HostRuntime) {
-    all_hold(&rt, &are_defaults(rt.alloc()));
-}
-
-fn form_of_name(alloc: Global, name: &Name) -> ASN1Result<Vec<u8>> {
-    construct_der(alloc, |writer| write_name(name, writer))
+fn der_name(alloc: Global, form: &[u8]) -> ASN1Result<Name> {
+    parse_der(alloc, form, read_name)
 }
 
 // Whether a name is read from its form, and written in it.
 fn is_name(alloc: Global, form: &[u8]) -> bool {
-    match parse_der(alloc, form, read_name) {
-        Ok(name) => gives(form_of_name(alloc, &name), form),
+    match der_name(alloc, form) {
+        Ok(name) => is_form_by(alloc, form, &name, write_name),
         Err(_) => false,
     }
 }
 
 fn form_of_mail(alloc: Global, text: &str) -> ASN1Result<Vec<u8>> {
-    form_of_name(alloc, &Name::Mail(text.to_string(alloc)?))
+    let name = Name::Mail(text.to_string(alloc)?);
+    construct_der(alloc, |writer| write_name(&name, writer))
 }
 
-fn are_choices(alloc: Global) -> [bool; 5] {
+fn der_id(alloc: Global, bytes: &[u8]) -> ASN1Result<Id> {
+    parse_der(alloc, bytes, read_id)
+}
+
+fn is_number(read: ASN1Result<Id>, number: i64) -> bool {
+    match read {
+        Ok(Id::Number(found)) => found == number,
+        _ => false,
+    }
+}
+
+fn has_name(read: ASN1Result<Id>) -> bool {
+    matches!(read, Ok(Id::Name(_)))
+}
+
+fn are_choices(alloc: Global) -> [bool; 8] {
     [
         is_name(alloc, &[129, 3, 97, 64, 98]),
         is_name(alloc, &[130, 3, 97, 46, 98]),
         is_name(alloc, &[135, 4, 127, 0, 0, 1]),
-        refuses(
-            parse_der(alloc, &[136, 1, 42], read_name),
-            ASN1ErrorKind::Invalid,
-        ),
-        refuses(form_of_mail(alloc, "é"), ASN1ErrorKind::Invalid),
+        refuses(der_name(alloc, &[136, 1, 42]), INVALID),
+        refuses(form_of_mail(alloc, "é"), INVALID),
+        is_number(der_id(alloc, &[2, 1, 7]), 7),
+        has_name(der_id(alloc, &[12, 1, 97])),
+        refuses(der_id(alloc, &[2, 2, 0, 7]), INVALID),
     ]
-}
-
-#[test]
-fn choices(rt: HostRuntime) {
-    all_hold(&rt, &are_choices(rt.alloc()));
-}
-
-fn form_of_encrypted(alloc: Global, data: &EncryptedData) -> ASN1Result<Vec<u8>> {
-    construct_der(alloc, |writer| write_encrypted(data, writer))
 }
 
 // Whether encrypted data is read from its form, and written in it.
@@ -226,57 +225,63 @@ fn is_encrypted(alloc: Global, form: &[u8]) -> bool {
         Ok(data) => {
             data.etype == 18
                 && data.cipher.as_slice() == [7].as_slice()
-                && gives(form_of_encrypted(alloc, &data), form)
+                && is_form_by(alloc, form, &data, write_encrypted)
         }
         Err(_) => false,
     }
 }
 
-fn form_of_accuracy(alloc: Global, accuracy: Accuracy) -> ASN1Result<Vec<u8>> {
-    construct_der(alloc, |writer| write_accuracy(accuracy, writer))
-}
-
 // Whether this accuracy is read from its form, and written in it.
-fn has_accuracy(
-    alloc: Global,
-    form: &[u8],
-    seconds: Option<u64>,
-    micros: Option<u16>,
-) -> ASN1Result<bool> {
-    let accuracy = parse_der(alloc, form, read_accuracy)?;
-    Ok(
-        accuracy.seconds == seconds
-            && accuracy.micros == micros
-            && gives(form_of_accuracy(alloc, accuracy), form),
-    )
-}
-
-fn are_tagged(alloc: Global) -> [bool; 4] {
-    let encrypted = [48, 10, 160, 3, 2, 1, 18, 162, 3, 4, 1, 7];
-    let with_version = [48, 15, 160, 3, 2, 1, 18, 161, 3, 2, 1, 5, 162, 3, 4, 1, 7];
-    let micros = [48, 7, 128, 1, 1, 129, 2, 1, 244];
-    [
-        is_encrypted(alloc, &encrypted),
-        is_encrypted(alloc, &with_version),
-        holds(has_accuracy(alloc, &[48, 3, 2, 1, 60], Some(60), None)),
-        holds(has_accuracy(alloc, &micros, None, Some(500))),
-    ]
+fn has_accuracy(alloc: Global, form: &[u8], seconds: Option<u64>, micros: Option<u16>) -> bool {
+    match parse_der(alloc, form, read_accuracy) {
+        Ok(accuracy) => {
+            accuracy.seconds == seconds
+                && accuracy.micros == micros
+                && is_form_by(alloc, form, accuracy, write_accuracy)
+        }
+        Err(_) => false,
+    }
 }
 
 // Explicit tags, and implicit ones.
-#[test]
-fn tags(rt: HostRuntime) {
-    all_hold(&rt, &are_tagged(rt.alloc()));
+fn are_tagged(alloc: Global) -> [bool; 4] {
+    let with_version = [48, 15, 160, 3, 2, 1, 18, 161, 3, 2, 1, 5, 162, 3, 4, 1, 7];
+    [
+        is_encrypted(alloc, &[48, 10, 160, 3, 2, 1, 18, 162, 3, 4, 1, 7]),
+        is_encrypted(alloc, &with_version),
+        has_accuracy(alloc, &[48, 3, 2, 1, 60], Some(60), None),
+        has_accuracy(alloc, &[48, 7, 128, 1, 1, 129, 2, 1, 244], None, Some(500)),
+    ]
 }
 
-fn form_of_names(alloc: Global, names: &[String]) -> ASN1Result<Vec<u8>> {
-    construct_der(alloc, |writer| write_names(names, writer))
+// Parts that may be left out, that are chosen, or that stand under tags.
+#[test]
+fn parts(rt: HostRuntime) {
+    all_hold(&rt, &are_options_and_defaults(rt.alloc()));
+    all_hold(&rt, &are_choices(rt.alloc()));
+    all_hold(&rt, &are_tagged(rt.alloc()));
 }
 
 // Whether two names are read from their form, and written in it.
 fn are_names(alloc: Global, form: &[u8]) -> bool {
     match parse_der(alloc, form, read_names) {
-        Ok(names) => names.len() == 2 && gives(form_of_names(alloc, &names), form),
+        Ok(names) => names.len() == 2 && is_form_by(alloc, form, names.as_slice(), write_names),
+        Err(_) => false,
+    }
+}
+
+// Whether values are read from these bytes, and written in these two forms.
+fn are_values(alloc: Global, bytes: &[u8], sorted: &[u8], as_they_stand: &[u8]) -> bool {
+    match parse_ber(alloc, bytes, read_values) {
+        Ok(values) => {
+            is_form_by(alloc, sorted, values.as_slice(), write_values)
+                && is_form_by(
+                    alloc,
+                    as_they_stand,
+                    values.as_slice(),
+                    write_values_as_they_stand,
+                )
+        }
         Err(_) => false,
     }
 }
@@ -285,27 +290,18 @@ fn der_setting(alloc: Global, bytes: &[u8]) -> ASN1Result<Setting> {
     parse_der(alloc, bytes, read_setting)
 }
 
-// Whether it is noted so.
-fn is_noted(setting: &Setting, text: &str) -> bool {
+// Whether it says ten, not enabled, with the note "a".
+fn is_noted_ten(setting: &Setting) -> bool {
     match &setting.note {
-        Some(note) => note.as_str() == text,
+        Some(note) => setting.number == 10 && !setting.enabled && note.as_str() == "a",
         None => false,
     }
 }
 
-fn form_of_setting(alloc: Global, setting: &Setting) -> ASN1Result<Vec<u8>> {
-    construct_der(alloc, |writer| write_setting(setting, writer))
-}
-
-// Whether it reads ten, not enabled, with the note "a", and this is its form.
-fn is_noted_ten(alloc: Global, bytes: &[u8], form: &[u8]) -> bool {
+// Whether such a setting is read from these bytes, and written in this form.
+fn reads_noted_ten(alloc: Global, bytes: &[u8], form: &[u8]) -> bool {
     match parse_ber(alloc, bytes, read_setting) {
-        Ok(setting) => {
-            setting.number == 10
-                && !setting.enabled
-                && is_noted(&setting, "a")
-                && gives(form_of_setting(alloc, &setting), form)
-        }
+        Ok(setting) => is_noted_ten(&setting) && is_form_by(alloc, form, &setting, write_setting),
         Err(_) => false,
     }
 }
@@ -318,54 +314,27 @@ fn is_plain(alloc: Global, bytes: &[u8]) -> bool {
     }
 }
 
-fn are_settings(alloc: Global) -> [bool; 3] {
-    let bytes = [49, 9, 12, 1, 97, 1, 1, 0, 2, 1, 10];
-    let form = [49, 9, 1, 1, 0, 2, 1, 10, 12, 1, 97];
-    let said = [49, 6, 1, 1, 255, 2, 1, 10];
-    [
-        is_noted_ten(alloc, &bytes, &form),
-        is_plain(alloc, &[49, 3, 2, 1, 10]),
-        refuses(der_setting(alloc, &said), ASN1ErrorKind::Invalid),
-    ]
-}
-
-#[test]
-fn sets(rt: HostRuntime) {
-    all_hold(&rt, &are_settings(rt.alloc()));
-}
-
-// The form of the values that these bytes hold.
-fn sorted(alloc: Global, bytes: &[u8]) -> ASN1Result<Vec<u8>> {
-    let values = parse_ber(alloc, bytes, read_values)?;
-    construct_der(alloc, |writer| write_values(&values, writer))
-}
-
-fn unsorted(alloc: Global, bytes: &[u8]) -> ASN1Result<Vec<u8>> {
-    let values = parse_ber(alloc, bytes, read_values)?;
-    construct_der(alloc, |writer| write_values_as_they_stand(&values, writer))
-}
-
-fn are_lists(alloc: Global) -> [bool; 4] {
-    let numbers = [48, 9, 2, 1, 255, 2, 1, 7, 2, 1, 3];
+// Those in a SEQUENCE OF, those in a SET OF, and SETs.
+fn are_lists_and_sets(alloc: Global) -> [bool; 6] {
     let falling = [49, 7, 4, 2, 97, 97, 4, 1, 98];
+    let numbers = [48, 9, 2, 1, 255, 2, 1, 7, 2, 1, 3];
+    let setting = [49, 9, 12, 1, 97, 1, 1, 0, 2, 1, 10];
     [
         are_names(alloc, &[48, 7, 12, 1, 97, 12, 2, 98, 99]),
         parse_der(alloc, &numbers, highest) == Ok(Some(7)),
-        gives(sorted(alloc, &falling), &[49, 7, 4, 1, 98, 4, 2, 97, 97]),
-        gives(unsorted(alloc, &falling), &falling),
+        are_values(alloc, &falling, &[49, 7, 4, 1, 98, 4, 2, 97, 97], &falling),
+        reads_noted_ten(alloc, &setting, &[49, 9, 1, 1, 0, 2, 1, 10, 12, 1, 97]),
+        is_plain(alloc, &[49, 3, 2, 1, 10]),
+        refuses(der_setting(alloc, &[49, 6, 1, 1, 255, 2, 1, 10]), INVALID),
     ]
 }
 
-// Those in a SEQUENCE OF, and those in a SET OF.
-#[test]
-fn lists(rt: HostRuntime) {
-    all_hold(&rt, &are_lists(rt.alloc()));
-}
-
-// The form of the algorithm that is read from these bytes.
-fn form_of_algorithm(alloc: Global, bytes: &[u8]) -> ASN1Result<Vec<u8>> {
-    let algorithm = parse_der(alloc, bytes, read_algorithm)?;
-    construct_der(alloc, |writer| write_algorithm(&algorithm, writer))
+// Whether an algorithm is read from its form, and written in it.
+fn is_algorithm(alloc: Global, form: &[u8]) -> bool {
+    match parse_der(alloc, form, read_algorithm) {
+        Ok(algorithm) => is_form_by(alloc, form, &algorithm, write_algorithm),
+        Err(_) => false,
+    }
 }
 
 // Whether what is signed has the serial number 10, and the signature 7.
@@ -381,25 +350,27 @@ fn is_signed_ten(alloc: Global, bytes: &[u8]) -> bool {
 }
 
 fn are_raw(alloc: Global) -> [bool; 3] {
-    let plain = [48, 5, 6, 3, 43, 101, 112];
     let rsa = [48, 13, 6, 9, 42, 134, 72, 134, 247, 13, 1, 1, 1, 5, 0];
-    let signed = [48, 9, 48, 3, 2, 1, 10, 3, 2, 0, 7];
     [
-        gives(form_of_algorithm(alloc, &plain), &plain),
-        gives(form_of_algorithm(alloc, &rsa), &rsa),
-        is_signed_ten(alloc, &signed),
+        is_algorithm(alloc, &[48, 5, 6, 3, 43, 101, 112]),
+        is_algorithm(alloc, &rsa),
+        is_signed_ten(alloc, &[48, 9, 48, 3, 2, 1, 10, 3, 2, 0, 7]),
     ]
 }
 
+// Those of one type, those in any order, and those that are kept as they came.
 #[test]
-fn raw_elements(rt: HostRuntime) {
+fn lists_sets_and_raw_elements(rt: HostRuntime) {
+    all_hold(&rt, &are_lists_and_sets(rt.alloc()));
     all_hold(&rt, &are_raw(rt.alloc()));
 }
 
-// The form of the text that is read from these bytes.
-fn form_of_string(alloc: Global, bytes: &[u8]) -> ASN1Result<Vec<u8>> {
-    let text = parse_der(alloc, bytes, read_directory_string)?;
-    construct_der(alloc, |writer| write_directory_string(&text, writer))
+// Whether a text is read from its form, and written in it.
+fn is_string(alloc: Global, form: &[u8]) -> bool {
+    match parse_der(alloc, form, read_directory_string) {
+        Ok(text) => is_form_by(alloc, form, text.as_str(), write_directory_string),
+        Err(_) => false,
+    }
 }
 
 fn is_ldap_string(alloc: Global, bytes: &[u8], text: &str) -> bool {
@@ -407,21 +378,6 @@ fn is_ldap_string(alloc: Global, bytes: &[u8], text: &str) -> bool {
         Ok(found) => found.as_str() == text,
         Err(_) => false,
     }
-}
-
-fn are_strings(alloc: Global) -> [bool; 3] {
-    let printable = [19, 2, 97, 98];
-    let other = [12, 2, 195, 169];
-    [
-        gives(form_of_string(alloc, &printable), &printable),
-        gives(form_of_string(alloc, &other), &other),
-        is_ldap_string(alloc, &[4, 2, 195, 169], "é"),
-    ]
-}
-
-#[test]
-fn strings(rt: HostRuntime) {
-    all_hold(&rt, &are_strings(rt.alloc()));
 }
 
 fn form_of_time(alloc: Global, text: &str) -> ASN1Result<Vec<u8>> {
@@ -441,130 +397,93 @@ fn is_read_as(alloc: Global, form: &[u8], is_utc: bool) -> bool {
 }
 
 // Whether the text is that of a time whose form has this tag, and is read as a UTCTime where the tag is that of one.
-fn is_time(alloc: Global, text: &str, tag: u8) -> ASN1Result<bool> {
-    let form = form_of_time(alloc, text)?;
-    Ok(
-        form.first() == Some(&tag)
-            && form.get(2..) == Some(text.as_bytes())
-            && is_read_as(alloc, &form, tag == 23),
-    )
+fn is_time(alloc: Global, text: &str, tag: u8) -> bool {
+    match form_of_time(alloc, text) {
+        Ok(form) => {
+            form.first() == Some(&tag)
+                && form.get(2..) == Some(text.as_bytes())
+                && is_read_as(alloc, &form, tag == 23)
+        }
+        Err(_) => false,
+    }
 }
 
-fn is_no_time(alloc: Global, text: &str) -> ASN1Result<bool> {
-    let time = time_of_text(alloc, text)?;
-    Ok(time.is_none())
+fn is_no_time(alloc: Global, text: &str) -> bool {
+    match time_of_text(alloc, text) {
+        Ok(time) => time.is_none(),
+        Err(_) => false,
+    }
 }
 
-fn are_times(alloc: Global) -> [bool; 3] {
+fn are_texts(alloc: Global) -> [bool; 6] {
     [
-        holds(is_time(alloc, "820102120000Z", 23)),
-        holds(is_time(alloc, "19820102120000.5Z", 24)),
-        holds(is_no_time(alloc, "820132120000Z")),
+        is_string(alloc, &[19, 2, 97, 98]),
+        is_string(alloc, &[12, 2, 195, 169]),
+        is_ldap_string(alloc, &[4, 2, 195, 169], "é"),
+        is_time(alloc, "820102120000Z", 23),
+        is_time(alloc, "19820102120000.5Z", 24),
+        is_no_time(alloc, "820132120000Z"),
     ]
 }
 
-#[test]
-fn times(rt: HostRuntime) {
-    all_hold(&rt, &are_times(rt.alloc()));
-}
-
-fn form_of_status(alloc: Global, status: Status) -> ASN1Result<Vec<u8>> {
-    construct_der(alloc, |writer| write_status(status, writer))
+fn status_of(alloc: Global, form: &[u8]) -> ASN1Result<Status> {
+    parse_der(alloc, form, read_status)
 }
 
 // Whether this is the form of a malformed one.
-fn is_malformed(alloc: Global, form: &[u8]) -> ASN1Result<bool> {
-    let status = parse_der(alloc, form, read_status)?;
-    Ok(matches!(status, Status::Malformed) && gives(form_of_status(alloc, status), form))
+fn is_malformed(alloc: Global, form: &[u8]) -> bool {
+    match status_of(alloc, form) {
+        Ok(status) => {
+            matches!(status, Status::Malformed) && is_form_by(alloc, form, status, write_status)
+        }
+        Err(_) => false,
+    }
 }
 
-fn form_of_key(alloc: Global, key: &RsaPublicKey) -> ASN1Result<Vec<u8>> {
-    construct_der(alloc, |writer| write_key(key, writer))
+fn has_numbers(key: &RsaPublicKey, modulus: &[u8], exponent: u64) -> bool {
+    key.modulus.as_slice() == modulus && key.exponent == exponent
 }
 
 // Whether this key is read from its form, and written in it.
 fn is_key(alloc: Global, form: &[u8], modulus: &[u8], exponent: u64) -> bool {
     match parse_der(alloc, form, read_key) {
         Ok(key) => {
-            key.modulus.as_slice() == modulus
-                && key.exponent == exponent
-                && gives(form_of_key(alloc, &key), form)
+            has_numbers(&key, modulus, exponent) && is_form_by(alloc, form, &key, write_key)
         }
         Err(_) => false,
     }
 }
 
-fn write_signature_of_two(writer: DERWriter<'_>) -> ASN1Result<()> {
-    write_signature(&[7, 9], writer)
-}
-
-fn are_numbers(alloc: Global) -> [bool; 4] {
-    let key = [48, 9, 2, 2, 0, 255, 2, 3, 1, 0, 1];
-    [
-        holds(is_malformed(alloc, &[10, 1, 1])),
-        refuses(
-            parse_der(alloc, &[10, 1, 2], read_status),
-            ASN1ErrorKind::Invalid,
-        ),
-        is_key(alloc, &key, &[0, 255], 65537),
-        gives(
-            construct_der(alloc, write_signature_of_two),
-            &[3, 3, 0, 7, 9],
-        ),
-    ]
+fn is_signature(alloc: Global, form: &[u8], signature: &[u8]) -> bool {
+    is_form_by(alloc, form, signature, write_signature)
 }
 
 // One of an ENUMERATED, those of a key, and the bits of a signature.
+fn are_numbers(alloc: Global) -> [bool; 4] {
+    let key = [48, 9, 2, 2, 0, 255, 2, 3, 1, 0, 1];
+    [
+        is_malformed(alloc, &[10, 1, 1]),
+        refuses(status_of(alloc, &[10, 1, 2]), INVALID),
+        is_key(alloc, &key, &[0, 255], 65537),
+        is_signature(alloc, &[3, 3, 0, 7, 9], &[7, 9]),
+    ]
+}
+
 #[test]
-fn numbers(rt: HostRuntime) {
+fn texts_times_and_numbers(rt: HostRuntime) {
+    all_hold(&rt, &are_texts(rt.alloc()));
     all_hold(&rt, &are_numbers(rt.alloc()));
 }
 
+// Bytes hold a number, or none that is taken for zero.
 fn are_reasons(alloc: Global) -> [bool; 4] {
     let cut = ASN1Error::new(ASN1ErrorKind::Eof);
     [
         reason(cut) == "an element is cut off or missing",
         number_or_zero(alloc, &[48, 3, 2, 1, 7]) == Ok(7),
         number_or_zero(alloc, &[48, 0]) == Ok(0),
-        refuses(
-            number_or_zero(alloc, &[48, 4, 2, 2, 0, 7]),
-            ASN1ErrorKind::Invalid,
-        ),
+        refuses(number_or_zero(alloc, &[48, 4, 2, 2, 0, 7]), INVALID),
     ]
-}
-
-// Bytes hold a number, or none that is taken for zero.
-#[test]
-fn errors(rt: HostRuntime) {
-    all_hold(&rt, &are_reasons(rt.alloc()));
-}
-
-fn der_id(alloc: Global, bytes: &[u8]) -> ASN1Result<Id> {
-    parse_der(alloc, bytes, read_id)
-}
-
-fn is_number(read: ASN1Result<Id>, number: i64) -> bool {
-    match read {
-        Ok(Id::Number(found)) => found == number,
-        _ => false,
-    }
-}
-
-fn has_name(read: ASN1Result<Id>) -> bool {
-    matches!(read, Ok(Id::Name(_)))
-}
-
-fn are_alternatives(alloc: Global) -> [bool; 3] {
-    [
-        is_number(der_id(alloc, &[2, 1, 7]), 7),
-        has_name(der_id(alloc, &[12, 1, 97])),
-        refuses(der_id(alloc, &[2, 2, 0, 7]), ASN1ErrorKind::Invalid),
-    ]
-}
-
-#[test]
-fn alternatives(rt: HostRuntime) {
-    all_hold(&rt, &are_alternatives(rt.alloc()));
 }
 
 const STORE: [i64; 2] = [5, 6];
@@ -575,6 +494,10 @@ fn are_written(alloc: Global, places: &[usize], form: &[u8]) -> bool {
         Ok(written) => written.as_slice() == form,
         Err(_) => false,
     }
+}
+
+fn entry(alloc: Global, bytes: &[u8]) -> Result<i64, StoreError> {
+    entry_of_der(alloc, &STORE, bytes)
 }
 
 fn is_entry(read: Result<i64, StoreError>, entry: i64) -> bool {
@@ -592,66 +515,32 @@ fn is_no_encoding(read: Result<i64, StoreError>) -> bool {
     matches!(read, Err(StoreError::Encoding(_)))
 }
 
-fn have_own_errors(alloc: Global) -> [bool; 5] {
+// Whether this is said of where the bytes are broken.
+fn is_located(alloc: Global, broken: &[u8], said: &str) -> bool {
+    match table_located(alloc, broken) {
+        Ok(_) => false,
+        Err(found) => match found.to_string(alloc) {
+            Ok(line) => line.as_str() == said,
+            Err(_) => false,
+        },
+    }
+}
+
+// Of a writing closure, of a reading one, and where a table is broken.
+fn are_own_or_located(alloc: Global) -> [bool; 6] {
+    let said = "ASN1Error { kind: Eof } at offset 7, depth 2";
     [
         are_written(alloc, &[1], &[48, 3, 2, 1, 6]),
         has_no_entry(entries_to_der(alloc, &STORE, &[2])),
-        is_entry(entry_of_der(alloc, &STORE, &[2, 1, 1]), 6),
-        has_no_entry(entry_of_der(alloc, &STORE, &[2, 1, 2])),
-        is_no_encoding(entry_of_der(alloc, &STORE, &[2, 1, 1, 0])),
-    ]
-}
-
-// Of a writing closure, and of a reading one.
-#[test]
-fn closures_have_errors_of_their_own(rt: HostRuntime) {
-    all_hold(&rt, &have_own_errors(rt.alloc()));
-}
-
-// Whether this is said of where the bytes are broken.
-fn is_located(alloc: Global, broken: &[u8], said: &str) -> ASN1Result<bool> {
-    match table_located(alloc, broken) {
-        Ok(_) => Ok(false),
-        Err(found) => {
-            let line = format!(in alloc; "{found}")?;
-            Ok(line.as_str() == said)
-        }
-    }
-}
-
-#[test]
-fn failures_are_located(rt: HostRuntime) {
-    let broken = [48, 8, 48, 6, 2, 1, 1, 2, 2, 0];
-    let said = "ASN1Error { kind: Eof } at offset 7, depth 2";
-    assert!(rt; holds(is_located(rt.alloc(), &broken, said)));
-}
-
-// Whether BER reads one of this value, critical or not.
-fn is_extension(alloc: Global, bytes: &[u8], critical: bool, value: &[u8]) -> bool {
-    match extension_from_ber(alloc, bytes) {
-        Ok(extension) => {
-            extension.critical == critical && extension.extn_value.as_slice() == value
-        }
-        Err(_) => false,
-    }
-}
-
-fn are_extensions(alloc: Global) -> [bool; 4] {
-    let form = [48, 12, 6, 3, 85, 29, 19, 1, 1, 255, 4, 2, 48, 0];
-    // one that isn't critical may say so in BER
-    let says_false = [48, 12, 6, 3, 85, 29, 19, 1, 1, 0, 4, 2, 48, 0];
-    [
-        gives(rewritten_extension(alloc, &form), &form),
-        is_extension(alloc, &form, true, &[48, 0]),
-        is_extension(alloc, &says_false, false, &[48, 0]),
-        refuses(
-            rewritten_extension(alloc, &says_false),
-            ASN1ErrorKind::Invalid,
-        ),
+        is_entry(entry(alloc, &[2, 1, 1]), 6),
+        has_no_entry(entry(alloc, &[2, 1, 2])),
+        is_no_encoding(entry(alloc, &[2, 1, 1, 0])),
+        is_located(alloc, &[48, 8, 48, 6, 2, 1, 1, 2, 2, 0], said),
     ]
 }
 
 #[test]
-fn extensions(rt: HostRuntime) {
-    all_hold(&rt, &are_extensions(rt.alloc()));
+fn errors(rt: HostRuntime) {
+    all_hold(&rt, &are_reasons(rt.alloc()));
+    all_hold(&rt, &are_own_or_located(rt.alloc()));
 }

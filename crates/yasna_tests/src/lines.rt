@@ -1,8 +1,8 @@
 //! The lines of `yasna_lines`, remarks and refusals. The offsets, depths, lengths and tags of the key are those that `openssl asn1parse -i` prints of it.
 
-use crate::checks::{finds_none, holds};
+use crate::checks::{all_hold, finds_none};
 use std::alloc::{AllocError, Global};
-use yasna::{ASN1Result, BERMode};
+use yasna::BERMode;
 use yasna_lines::{Form, show};
 use yasna_listing::fault::Fault;
 
@@ -43,11 +43,6 @@ fn has_lines(told: &Told, lines: &str) -> bool {
 // Whether the input is taken whole, and this is written of it.
 fn is_told(alloc: Global, mode: BERMode, input: &str, lines: &str) -> bool {
     has_lines(&shown(alloc, mode, None, input.as_bytes()), lines)
-}
-
-#[test]
-fn key(rt: HostRuntime) {
-    assert!(rt; is_told(rt.alloc(), BERMode::Der, KEY, KEY_LINES));
 }
 
 // Hexadecimal input, and the one line that is printed of it, with the rules.
@@ -161,11 +156,6 @@ fn first_other_line(alloc: Global) -> Option<&'static str> {
     None
 }
 
-#[test]
-fn lines(rt: HostRuntime) {
-    finds_none(&rt, first_other_line(rt.alloc()));
-}
-
 // An element of indefinite length around a SET OF out of order, a string in segments, and a string that holds an element.
 const NESTED: &str = "3080 3106 020102 020101 2480 0401AA 0401BB 0000 0403 020105 0000";
 
@@ -182,9 +172,40 @@ const NESTED_LINES: &str = "input: hexadecimal, 27 bytes
 rules: BER
 ";
 
+// What is said first of an input whose form isn't given.
+static FORMS: [(&[u8], &str); 3] = [
+    (b"30 00\n", "input: hexadecimal, 2 bytes"),
+    (b"0\x00", "input: 2 bytes"),
+    (b"\x04\x14\n-----BEGIN X-----\n", "input: 21 bytes"),
+];
+
+fn begins_with(alloc: Global, input: &[u8], first: &str) -> bool {
+    let told = shown(alloc, BERMode::Ber, None, input);
+    text_of(&told).lines().next() == Some(first)
+}
+
+// The first row that begins otherwise.
+fn first_other_form(alloc: Global) -> Option<&'static str> {
+    for (input, first) in &FORMS {
+        if !begins_with(alloc, input, first) {
+            return Some(*first);
+        }
+    }
+    None
+}
+
+fn are_told(alloc: Global) -> [bool; 2] {
+    [
+        is_told(alloc, BERMode::Der, KEY, KEY_LINES),
+        is_told(alloc, BERMode::Ber, NESTED, NESTED_LINES),
+    ]
+}
+
 #[test]
-fn nested(rt: HostRuntime) {
-    assert!(rt; is_told(rt.alloc(), BERMode::Ber, NESTED, NESTED_LINES));
+fn lines(rt: HostRuntime) {
+    all_hold(&rt, &are_told(rt.alloc()));
+    finds_none(&rt, first_other_line(rt.alloc()));
+    finds_none(&rt, first_other_form(rt.alloc()));
 }
 
 // Broken input, and what is said of it.
@@ -243,42 +264,34 @@ fn fault_of(alloc: Global, mode: BERMode, form: Option<Form>, input: &[u8]) -> O
 }
 
 // Whether this is said of a fault.
-fn says(alloc: Global, fault: &Fault, said: &str) -> ASN1Result<bool> {
-    let text = fault.to_string(alloc)?;
-    Ok(text.as_str() == said)
+fn says(alloc: Global, fault: &Fault, said: &str) -> bool {
+    match fault.to_string(alloc) {
+        Ok(text) => text.as_str() == said,
+        Err(_) => false,
+    }
 }
 
 // Whether the input is broken, and this is said of it.
-fn is_broken(alloc: Global, mode: BERMode, input: &str, said: &str) -> ASN1Result<bool> {
+fn is_broken(alloc: Global, mode: BERMode, input: &str, said: &str) -> bool {
     match fault_of(alloc, mode, Some(Form::Hex), input.as_bytes()) {
-        Some(fault) => Ok(matches!(fault, Fault::Broken { .. }) && says(alloc, &fault, said)?),
-        None => Ok(false),
+        Some(fault) => matches!(fault, Fault::Broken { .. }) && says(alloc, &fault, said),
+        None => false,
     }
 }
 
 // The first input of which something else is said.
 fn first_other_fault(alloc: Global) -> Option<&'static str> {
     for (mode, input, said) in &BROKEN {
-        if !holds(is_broken(alloc, *mode, input, said)) {
+        if !is_broken(alloc, *mode, input, said) {
             return Some(*input);
         }
     }
     None
 }
 
-#[test]
-fn broken(rt: HostRuntime) {
-    finds_none(&rt, first_other_fault(rt.alloc()));
-}
-
-// Hexadecimal input of a hundred elements that begin.
-fn hundred_beginnings(alloc: Global) -> Result<String, AllocError> {
-    "3080".repeat(alloc, 100)
-}
-
-// The same around a NULL, with their ends.
+// Hexadecimal input of a hundred elements around a NULL, with their ends.
 fn hundred_and_one(alloc: Global) -> Result<String, AllocError> {
-    let mut input = hundred_beginnings(alloc)?;
+    let mut input = "3080".repeat(alloc, 100)?;
     input.push_str("0500")?;
     for _ in 0..100 {
         input.push_str("0000")?;
@@ -286,70 +299,50 @@ fn hundred_and_one(alloc: Global) -> Result<String, AllocError> {
     Ok(input)
 }
 
-// The same and two more that begin.
+// The same beginnings and two more.
 fn hundred_and_two(alloc: Global) -> Result<String, AllocError> {
-    let mut input = hundred_beginnings(alloc)?;
+    let mut input = "3080".repeat(alloc, 100)?;
     input.push_str("30803080")?;
     Ok(input)
 }
 
-fn is_hundred_and_one_taken(alloc: Global) -> ASN1Result<bool> {
-    let input = hundred_and_one(alloc)?;
-    Ok(fault_of(alloc, BERMode::Ber, Some(Form::Hex), input.as_bytes()).is_none())
+fn is_hundred_and_one_taken(alloc: Global) -> bool {
+    match hundred_and_one(alloc) {
+        Ok(input) => fault_of(alloc, BERMode::Ber, Some(Form::Hex), input.as_bytes()).is_none(),
+        Err(_) => false,
+    }
 }
 
 // Whether this is said of one more.
-fn is_said_of_one_more(alloc: Global, said: &str) -> ASN1Result<bool> {
-    let input = hundred_and_two(alloc)?;
-    is_broken(alloc, BERMode::Ber, &input, said)
+fn is_said_of_one_more(alloc: Global, said: &str) -> bool {
+    match hundred_and_two(alloc) {
+        Ok(input) => is_broken(alloc, BERMode::Ber, &input, said),
+        Err(_) => false,
+    }
+}
+
+// Whether this is said of an input whose form isn't given.
+fn is_said(alloc: Global, input: &str, said: &str) -> bool {
+    match fault_of(alloc, BERMode::Ber, None, input.as_bytes()) {
+        Some(fault) => says(alloc, &fault, said),
+        None => false,
+    }
+}
+
+fn are_refused(alloc: Global) -> [bool; 3] {
+    let too_deep = "offset 202: StackOverflow: expected at most 101 levels of elements";
+    let cut_pem = "text\n-----BEGIN X-----\n";
+    let of_pem = "offset 23: Eof: expected a line that ends the block of PEM";
+    [
+        is_hundred_and_one_taken(alloc),
+        is_said_of_one_more(alloc, too_deep),
+        is_said(alloc, cut_pem, of_pem),
+    ]
 }
 
 /// A hundred and one elements may nest, and no more.
 #[test]
-fn deep(rt: HostRuntime) {
-    assert!(rt; holds(is_hundred_and_one_taken(rt.alloc())));
-    let said = "offset 202: StackOverflow: expected at most 101 levels of elements";
-    assert!(rt; holds(is_said_of_one_more(rt.alloc(), said)));
-}
-
-// What is said first of an input whose form isn't given.
-static FORMS: [(&[u8], &str); 3] = [
-    (b"30 00\n", "input: hexadecimal, 2 bytes"),
-    (b"0\x00", "input: 2 bytes"),
-    (b"\x04\x14\n-----BEGIN X-----\n", "input: 21 bytes"),
-];
-
-fn has_first_line(output: &str, first: &str) -> bool {
-    output.lines().next() == Some(first)
-}
-
-fn begins_with(alloc: Global, input: &[u8], first: &str) -> bool {
-    let told = shown(alloc, BERMode::Ber, None, input);
-    has_first_line(text_of(&told), first)
-}
-
-// Whether this is said of an input whose form isn't given.
-fn is_said(alloc: Global, input: &str, said: &str) -> ASN1Result<bool> {
-    match fault_of(alloc, BERMode::Ber, None, input.as_bytes()) {
-        Some(fault) => says(alloc, &fault, said),
-        None => Ok(false),
-    }
-}
-
-// The first row that begins otherwise.
-fn first_other_form(alloc: Global) -> Option<&'static str> {
-    for (input, first) in &FORMS {
-        if !begins_with(alloc, input, first) {
-            return Some(*first);
-        }
-    }
-    None
-}
-
-#[test]
-fn forms(rt: HostRuntime) {
-    finds_none(&rt, first_other_form(rt.alloc()));
-    let input = "text\n-----BEGIN X-----\n";
-    let said = "offset 23: Eof: expected a line that ends the block of PEM";
-    assert!(rt; holds(is_said(rt.alloc(), input, said)));
+fn refusals(rt: HostRuntime) {
+    finds_none(&rt, first_other_fault(rt.alloc()));
+    all_hold(&rt, &are_refused(rt.alloc()));
 }

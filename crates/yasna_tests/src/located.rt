@@ -1,18 +1,27 @@
 //! Where a parse failed: the offset of the element and the elements around it.
 
-use crate::checks::{all_hold, holds};
+use crate::checks::{all_hold, finds_none};
 use std::alloc::Global;
+use yasna::ASN1ErrorKind::{Eof, Extra, Invalid};
+use yasna::BERMode::{Ber, Cer, Der};
 use yasna::{
-    ASN1Error, ASN1ErrorKind, ASN1Result, BERReader, BERReaderSeq, BERReaderSet, Located, Tag,
-    parse_ber_located, parse_cer_located, parse_der_located, tags,
+    ASN1Error, ASN1ErrorKind, ASN1Result, BERMode, BERReader, BERReaderSeq, BERReaderSet, Located,
+    Tag, parse_ber_located, parse_cer_located, parse_der_located, tags,
 };
 
-// Whether the parse failed so.
-fn fails<T: Drop>(answer: Result<T, Located>, kind: ASN1ErrorKind, place: (usize, usize)) -> bool {
+// How and where a parse failed: the offset of the element, and how many are around it.
+type Failure = (ASN1ErrorKind, usize, usize);
+
+// Whether the parse failed so, or where that is none didn't.
+fn is_so<T: Drop>(answer: Result<T, Located>, wanted: Option<Failure>) -> bool {
     match answer {
-        Ok(_) => false,
-        Err(found) => found.error.kind() == kind && (found.offset, found.depth) == place,
+        Ok(_) => wanted.is_none(),
+        Err(found) => wanted == Some((found.error.kind(), found.offset, found.depth)),
     }
+}
+
+fn fails<T: Drop>(answer: Result<T, Located>, failure: Failure) -> bool {
+    is_so(answer, Some(failure))
 }
 
 fn flag(part: BERReader) -> ASN1Result<bool> {
@@ -39,103 +48,90 @@ fn table(reader: BERReader) -> ASN1Result<()> {
     reader.read_sequence(past_parts)
 }
 
-fn der_table(alloc: Global, bytes: &[u8]) -> Result<(), Located> {
-    parse_der_located(alloc, bytes, table)
+fn read_table(alloc: Global, mode: BERMode, bytes: &[u8]) -> Result<(), Located> {
+    match mode {
+        BERMode::Ber => parse_ber_located(alloc, bytes, table),
+        BERMode::Der => parse_der_located(alloc, bytes, table),
+        BERMode::Cer => parse_cer_located(alloc, bytes, table),
+    }
 }
 
-fn ber_table(alloc: Global, bytes: &[u8]) -> Result<(), Located> {
-    parse_ber_located(alloc, bytes, table)
-}
+// A mode, a table, and how it fails, if it does.
+static TABLES: [(BERMode, &[u8], Option<Failure>); 19] = [
+    // the outermost element, which fails at the beginning
+    (
+        Der,
+        &[48, 16, 2, 1, 7, 1, 1, 0, 48, 8, 49, 6, 2, 1, 1, 2, 1, 2],
+        None,
+    ),
+    (Der, &[], Some((Eof, 0, 0))),
+    (Der, &[49, 3, 2, 1, 7], Some((Invalid, 0, 0))),
+    (Der, &[48, 16, 2, 1], Some((Eof, 0, 0))),
+    // a part, which fails where it begins, and so does a default
+    (Der, &[48, 3, 4, 1, 7], Some((Invalid, 2, 1))),
+    (Der, &[48, 3, 2, 2, 7], Some((Eof, 2, 1))),
+    (Der, &[48, 3, 2, 1, 7], Some((Eof, 5, 1))),
+    (
+        Der,
+        &[48, 8, 2, 1, 7, 1, 1, 255, 48, 0],
+        Some((Invalid, 5, 1)),
+    ),
+    (Ber, &[48, 8, 2, 1, 7, 1, 1, 255, 48, 0], None),
+    (
+        Der,
+        &[48, 8, 2, 1, 7, 1, 1, 1, 48, 0],
+        Some((Invalid, 5, 1)),
+    ),
+    // an item, which fails where it begins
+    (
+        Der,
+        &[48, 13, 2, 1, 7, 48, 8, 49, 6, 2, 1, 2, 2, 1, 1],
+        Some((Invalid, 12, 3)),
+    ),
+    (
+        Ber,
+        &[48, 13, 2, 1, 7, 48, 8, 49, 6, 2, 1, 2, 2, 1, 1],
+        None,
+    ),
+    (
+        Der,
+        &[48, 13, 2, 1, 7, 48, 8, 49, 6, 2, 1, 2, 2, 0, 0],
+        Some((Invalid, 12, 3)),
+    ),
+    (
+        Der,
+        &[48, 13, 2, 1, 7, 48, 8, 49, 6, 2, 1, 2, 1, 1, 1],
+        Some((Extra, 12, 3)),
+    ),
+    // what is left, and ends of contents, which are where they stand
+    (Der, &[48, 7, 2, 1, 7, 48, 0, 5, 0], Some((Extra, 7, 1))),
+    (Der, &[48, 5, 2, 1, 7, 48, 0, 5, 0], Some((Extra, 7, 0))),
+    (
+        Ber,
+        &[48, 128, 2, 1, 7, 48, 128, 49, 128, 2, 1, 1, 0, 0, 0, 0],
+        Some((Eof, 16, 1)),
+    ),
+    (Ber, &INNER, Some((Invalid, 14, 2))),
+    (Cer, &INNER, Some((Invalid, 14, 2))),
+];
 
-// Whether DER refuses the table so, there.
-fn der_fails(alloc: Global, bytes: &[u8], kind: ASN1ErrorKind, place: (usize, usize)) -> bool {
-    fails(der_table(alloc, bytes), kind, place)
-}
+const INNER: [u8; 18] = [
+    48, 128, 2, 1, 7, 48, 128, 49, 128, 2, 1, 1, 0, 0, 5, 0, 0, 0,
+];
 
-fn ber_fails(alloc: Global, bytes: &[u8], kind: ASN1ErrorKind, place: (usize, usize)) -> bool {
-    fails(ber_table(alloc, bytes), kind, place)
-}
-
-fn outermost(alloc: Global) -> [bool; 4] {
-    let whole = [48, 16, 2, 1, 7, 1, 1, 0, 48, 8, 49, 6, 2, 1, 1, 2, 1, 2];
-    let other = [49, 3, 2, 1, 7];
-    let cut = [48, 16, 2, 1];
-    [
-        der_table(alloc, &whole).is_ok(),
-        der_fails(alloc, &[], ASN1ErrorKind::Eof, (0, 0)),
-        der_fails(alloc, &other, ASN1ErrorKind::Invalid, (0, 0)),
-        der_fails(alloc, &cut, ASN1ErrorKind::Eof, (0, 0)),
-    ]
+// The first table that isn't read so.
+fn first_other_table(alloc: Global) -> Option<(BERMode, &'static [u8])> {
+    for (mode, bytes, failure) in &TABLES {
+        if !is_so(read_table(alloc, *mode, bytes), *failure) {
+            return Some((*mode, *bytes));
+        }
+    }
+    None
 }
 
 #[test]
-fn the_outermost_fails_at_the_beginning(rt: HostRuntime) {
-    all_hold(&rt, &outermost(rt.alloc()));
-}
-
-fn parts(alloc: Global) -> [bool; 6] {
-    let other = [48, 3, 4, 1, 7];
-    let long = [48, 3, 2, 2, 7];
-    let none = [48, 3, 2, 1, 7];
-    let equal = [48, 8, 2, 1, 7, 1, 1, 255, 48, 0];
-    let broken = [48, 8, 2, 1, 7, 1, 1, 1, 48, 0];
-    [
-        der_fails(alloc, &other, ASN1ErrorKind::Invalid, (2, 1)),
-        der_fails(alloc, &long, ASN1ErrorKind::Eof, (2, 1)),
-        der_fails(alloc, &none, ASN1ErrorKind::Eof, (5, 1)),
-        der_fails(alloc, &equal, ASN1ErrorKind::Invalid, (5, 1)),
-        ber_table(alloc, &equal).is_ok(),
-        der_fails(alloc, &broken, ASN1ErrorKind::Invalid, (5, 1)),
-    ]
-}
-
-// And so does a default.
-#[test]
-fn a_part_fails_where_it_begins(rt: HostRuntime) {
-    all_hold(&rt, &parts(rt.alloc()));
-}
-
-fn items(alloc: Global) -> [bool; 4] {
-    let falling = [48, 13, 2, 1, 7, 48, 8, 49, 6, 2, 1, 2, 2, 1, 1];
-    let broken = [48, 13, 2, 1, 7, 48, 8, 49, 6, 2, 1, 2, 2, 0, 0];
-    let other = [48, 13, 2, 1, 7, 48, 8, 49, 6, 2, 1, 2, 1, 1, 1];
-    [
-        der_fails(alloc, &falling, ASN1ErrorKind::Invalid, (12, 3)),
-        ber_table(alloc, &falling).is_ok(),
-        der_fails(alloc, &broken, ASN1ErrorKind::Invalid, (12, 3)),
-        der_fails(alloc, &other, ASN1ErrorKind::Extra, (12, 3)),
-    ]
-}
-
-#[test]
-fn an_item_fails_where_it_begins(rt: HostRuntime) {
-    all_hold(&rt, &items(rt.alloc()));
-}
-
-fn cer_fails(alloc: Global, bytes: &[u8], kind: ASN1ErrorKind, place: (usize, usize)) -> bool {
-    fails(parse_cer_located(alloc, bytes, table), kind, place)
-}
-
-fn ends(alloc: Global) -> [bool; 5] {
-    let left = [48, 7, 2, 1, 7, 48, 0, 5, 0];
-    let left_behind = [48, 5, 2, 1, 7, 48, 0, 5, 0];
-    let no_end = [48, 128, 2, 1, 7, 48, 128, 49, 128, 2, 1, 1, 0, 0, 0, 0];
-    let inner = [
-        48, 128, 2, 1, 7, 48, 128, 49, 128, 2, 1, 1, 0, 0, 5, 0, 0, 0,
-    ];
-    [
-        der_fails(alloc, &left, ASN1ErrorKind::Extra, (7, 1)),
-        der_fails(alloc, &left_behind, ASN1ErrorKind::Extra, (7, 0)),
-        ber_fails(alloc, &no_end, ASN1ErrorKind::Eof, (16, 1)),
-        ber_fails(alloc, &inner, ASN1ErrorKind::Invalid, (14, 2)),
-        cer_fails(alloc, &inner, ASN1ErrorKind::Invalid, (14, 2)),
-    ]
-}
-
-// What is left, and ends of contents.
-#[test]
-fn ends_are_where_they_stand(rt: HostRuntime) {
-    all_hold(&rt, &ends(rt.alloc()));
+fn tables_fail_where_they_are_broken(rt: HostRuntime) {
+    finds_none(&rt, first_other_table(rt.alloc()));
 }
 
 fn only_flag(parts: &mut BERReaderSeq) -> ASN1Result<bool> {
@@ -157,28 +153,13 @@ fn in_two_tags(reader: BERReader) -> ASN1Result<bool> {
 fn other_than_seven(parts: &mut BERReaderSeq) -> ASN1Result<i64> {
     let first = parts.next().read_i64()?;
     if first == 7 {
-        return Err(ASN1Error::new(ASN1ErrorKind::Invalid));
+        return Err(ASN1Error::new(Invalid));
     }
     parts.next().read_i64()
 }
 
 fn refuses_seven(reader: BERReader) -> ASN1Result<i64> {
     reader.read_sequence(other_than_seven)
-}
-
-fn callbacks(alloc: Global) -> [bool; 2] {
-    let tagged = parse_der_located(alloc, &[160, 4, 161, 2, 1, 0], in_two_tags);
-    let seven = parse_der_located(alloc, &[48, 6, 2, 1, 7, 2, 1, 8], refuses_seven);
-    [
-        fails(tagged, ASN1ErrorKind::Invalid, (4, 2)),
-        fails(seven, ASN1ErrorKind::Invalid, (5, 1)),
-    ]
-}
-
-// A tagged part is an element of its own, and a callback refuses where it is.
-#[test]
-fn callbacks_fail_where_they_are(rt: HostRuntime) {
-    all_hold(&rt, &callbacks(rt.alloc()));
 }
 
 fn name(element: BERReader) -> ASN1Result<String> {
@@ -199,27 +180,27 @@ fn ber_setting(alloc: Global, bytes: &[u8]) -> Result<i64, Located> {
     parse_ber_located(alloc, bytes, setting)
 }
 
-// Whether the setting is invalid at this offset in the SET.
-fn is_invalid_setting(alloc: Global, bytes: &[u8], offset: usize) -> bool {
-    fails(
-        ber_setting(alloc, bytes),
-        ASN1ErrorKind::Invalid,
-        (offset, 1),
-    )
-}
-
-fn settings(alloc: Global) -> [bool; 4] {
+// A tagged part is an element of its own, a callback refuses where it is, and elements of a set fail where they begin.
+fn fail_where_they_are(alloc: Global) -> [bool; 6] {
+    let tagged = parse_der_located(alloc, &[160, 4, 161, 2, 1, 0], in_two_tags);
+    let seven = parse_der_located(alloc, &[48, 6, 2, 1, 7, 2, 1, 8], refuses_seven);
     [
-        is_invalid_setting(alloc, &[49, 6, 2, 1, 7, 12, 1, 255], 5),
+        fails(tagged, (Invalid, 4, 2)),
+        fails(seven, (Invalid, 5, 1)),
+        fails(
+            ber_setting(alloc, &[49, 6, 2, 1, 7, 12, 1, 255]),
+            (Invalid, 5, 1),
+        ),
         ber_setting(alloc, &[49, 6, 2, 1, 7, 12, 1, 65]) == Ok(7),
-        is_invalid_setting(alloc, &[49, 8, 2, 1, 7, 5, 0, 12, 1, 65], 5),
-        is_invalid_setting(alloc, &[49, 7, 2, 2, 0, 7, 12, 1, 65], 2),
+        fails(
+            ber_setting(alloc, &[49, 8, 2, 1, 7, 5, 0, 12, 1, 65]),
+            (Invalid, 5, 1),
+        ),
+        fails(
+            ber_setting(alloc, &[49, 7, 2, 2, 0, 7, 12, 1, 65]),
+            (Invalid, 2, 1),
+        ),
     ]
-}
-
-#[test]
-fn elements_of_a_set_fail_where_they_begin(rt: HostRuntime) {
-    all_hold(&rt, &settings(rt.alloc()));
 }
 
 // Whether the inner reading fails within its input of two bytes, and the outer one doesn't.
@@ -242,24 +223,28 @@ fn are_exchanged(alloc: Global) -> bool {
     is_within && answer.is_ok()
 }
 
-#[test]
-fn exchanged_readings_fail_within_the_input(rt: HostRuntime) {
-    assert!(rt; are_exchanged(rt.alloc()));
-}
-
-// Whether this is said of where the bytes are broken.
-fn is_told(alloc: Global, broken: &[u8], said: &str) -> ASN1Result<bool> {
-    match der_table(alloc, broken) {
-        Ok(_) => Ok(false),
-        Err(found) => {
-            let line = format!(in alloc; "{found}")?;
-            Ok(line.as_str() == said)
-        }
+// Whether this is said of where a table is broken.
+fn is_told(alloc: Global, broken: &[u8], said: &str) -> bool {
+    match read_table(alloc, Der, broken) {
+        Ok(_) => false,
+        Err(found) => match found.to_string(alloc) {
+            Ok(line) => line.as_str() == said,
+            Err(_) => false,
+        },
     }
 }
 
-#[test]
-fn a_line_tells(rt: HostRuntime) {
+// Exchanged readings fail within the input, and a line tells where.
+fn fail_within(alloc: Global) -> [bool; 2] {
     let said = "ASN1Error { kind: Eof } at offset 2, depth 1";
-    assert!(rt; holds(is_told(rt.alloc(), &[48, 3, 2, 2, 7], said)));
+    [
+        are_exchanged(alloc),
+        is_told(alloc, &[48, 3, 2, 2, 7], said),
+    ]
+}
+
+#[test]
+fn callbacks_fail_where_they_are(rt: HostRuntime) {
+    all_hold(&rt, &fail_where_they_are(rt.alloc()));
+    all_hold(&rt, &fail_within(rt.alloc()));
 }

@@ -1,10 +1,10 @@
 //! Object identifiers, each call once, and what no contract says of their texts and refusals.
 
-use crate::checks::{all_hold, finds_none, gives, holds, is_same};
-use std::alloc::Global;
+use crate::checks::{all_hold, finds_none, gives, is_same};
+use std::alloc::{AllocError, Global};
 use std::cmp::Ordering;
 use std::convert::AsSlice;
-use yasna::models::{ObjectIdentifier, ParseOidError};
+use yasna::models::ObjectIdentifier;
 use yasna::{
     ASN1Error, ASN1ErrorKind, ASN1Result, construct_der, decode_ber, decode_der, encode_der,
     parse_der,
@@ -22,49 +22,44 @@ fn form_of(alloc: Global, oid: &ObjectIdentifier) -> ASN1Result<Vec<u8>> {
     encode_der(alloc, oid)
 }
 
-// Whether this is said of a text that is refused, and not for want of memory.
-fn is_said_of_text(alloc: Global, error: &ParseOidError) -> ASN1Result<bool> {
-    let said = error.to_string(alloc)?;
-    Ok(!error.is_out_of_memory() && said.as_str() == "Failed to parse OID")
-}
-
-fn is_refused(alloc: Global, text: &str) -> ASN1Result<bool> {
+// Whether the text is refused, and not for want of memory, and this is said of it.
+fn is_refused(alloc: Global, text: &str, said: &str) -> bool {
     match ObjectIdentifier::from_str(alloc, text) {
-        Ok(_) => Ok(false),
-        Err(error) => is_said_of_text(alloc, &error),
+        Ok(_) => false,
+        Err(error) => match error.to_string(alloc) {
+            Ok(line) => !error.is_out_of_memory() && line.as_str() == said,
+            Err(_) => false,
+        },
     }
 }
 
-// Whether it is read from the form of the group.
-fn is_group(alloc: Global, group: &ObjectIdentifier) -> ASN1Result<bool> {
-    let decoded = decode_ber::<ObjectIdentifier>(alloc, &GROUP_FORM)?;
-    let parsed = parse_der(alloc, &GROUP_FORM, |reader| reader.read_oid())?;
-    Ok(decoded == *group && parsed == *group)
-}
-
-fn written(alloc: Global, oid: &ObjectIdentifier) -> ASN1Result<Vec<u8>> {
-    if !oid.is_encodable() {
-        return Err(ASN1Error::new(ASN1ErrorKind::Invalid));
+// Whether both ways of reading give the group.
+fn is_read_as(alloc: Global, form: &[u8], group: &ObjectIdentifier) -> bool {
+    let Ok(decoded) = decode_ber::<ObjectIdentifier>(alloc, form) else {
+        return false;
+    };
+    match parse_der(alloc, form, |reader| reader.read_oid()) {
+        Ok(parsed) => decoded == *group && parsed == *group,
+        Err(_) => false,
     }
-    construct_der(alloc, |writer| writer.write_oid(oid))
 }
 
-fn group_forms(alloc: Global) -> ASN1Result<[bool; 3]> {
-    let group = ObjectIdentifier::from_slice(alloc, &GROUP)?;
-    Ok([
-        holds(is_group(alloc, &group)),
-        gives(form_of(alloc, &group), &GROUP_FORM),
-        gives(written(alloc, &group), &GROUP_FORM),
-    ])
+// Whether both ways of writing give the form.
+fn is_written_as(alloc: Global, form: &[u8], group: &ObjectIdentifier) -> bool {
+    group.is_encodable()
+        && gives(encode_der(alloc, group), form)
+        && gives(construct_der(alloc, |writer| writer.write_oid(group)), form)
 }
 
-#[test]
-fn read_and_written_in_both_ways(rt: HostRuntime) {
-    all_hold(&rt, &group_forms(rt.alloc()).unwrap_or([false; 3]));
+fn is_form_of(alloc: Global, form: &[u8], parts: &[u64]) -> bool {
+    match ObjectIdentifier::from_slice(alloc, parts) {
+        Ok(oid) => is_read_as(alloc, form, &oid) && is_written_as(alloc, form, &oid),
+        Err(_) => false,
+    }
 }
 
 // The subidentifiers 0 to 999, but the first is 40.
-fn long_one(alloc: Global) -> ASN1Result<ObjectIdentifier> {
+fn long_one(alloc: Global) -> Result<ObjectIdentifier, AllocError> {
     let mut components = Vec::new(alloc);
     components.push(1)?;
     for number in 0..1000_u64 {
@@ -74,20 +69,21 @@ fn long_one(alloc: Global) -> ASN1Result<ObjectIdentifier> {
 }
 
 // Whether its form begins with these bytes, and it is read from that.
-fn comes_back(alloc: Global, oid: &ObjectIdentifier, beginning: &[u8]) -> ASN1Result<bool> {
-    let form = form_of(alloc, oid)?;
-    let read: ObjectIdentifier = decode_der(alloc, &form)?;
-    Ok(form.starts_with(beginning) && read == *oid)
+fn comes_back(alloc: Global, oid: &ObjectIdentifier, beginning: &[u8]) -> bool {
+    let Ok(form) = form_of(alloc, oid) else {
+        return false;
+    };
+    match decode_der::<ObjectIdentifier>(alloc, &form) {
+        Ok(read) => form.starts_with(beginning) && read == *oid,
+        Err(_) => false,
+    }
 }
 
-fn long_one_comes_back(alloc: Global) -> ASN1Result<bool> {
-    let oid = long_one(alloc)?;
-    comes_back(alloc, &oid, &[6, 130, 7, 80, 40, 1, 2])
-}
-
-#[test]
-fn of_1000_subidentifiers(rt: HostRuntime) {
-    assert!(rt; holds(long_one_comes_back(rt.alloc())));
+fn long_one_comes_back(alloc: Global) -> bool {
+    match long_one(alloc) {
+        Ok(oid) => comes_back(alloc, &oid, &[6, 130, 7, 80, 40, 1, 2]),
+        Err(_) => false,
+    }
 }
 
 // Whether the text says the object identifier.
@@ -99,24 +95,14 @@ fn is_text_of(alloc: Global, text: &str, parts: &[u64]) -> bool {
 }
 
 // Whether the object identifier is shown as the text.
-fn is_shown_as(alloc: Global, parts: &[u64], text: &str) -> ASN1Result<bool> {
-    let oid = ObjectIdentifier::from_slice(alloc, parts)?;
-    let shown = oid.to_string(alloc)?;
-    Ok(shown.as_str() == text)
-}
-
-fn are_texts(alloc: Global) -> [bool; 4] {
-    [
-        holds(is_shown_as(alloc, &GROUP, "1.2.840.113549.1.1")),
-        holds(is_shown_as(alloc, &[1, 2], "1.2")),
-        is_text_of(alloc, "1.2.840.113549.1.1", &GROUP),
-        is_text_of(alloc, "+1.02", &[1, 2]),
-    ]
-}
-
-#[test]
-fn texts(rt: HostRuntime) {
-    all_hold(&rt, &are_texts(rt.alloc()));
+fn is_shown_as(alloc: Global, parts: &[u64], text: &str) -> bool {
+    let Ok(oid) = ObjectIdentifier::from_slice(alloc, parts) else {
+        return false;
+    };
+    match oid.to_string(alloc) {
+        Ok(shown) => shown.as_str() == text,
+        Err(_) => false,
+    }
 }
 
 static BROKEN_TEXTS: [&str; 7] = [
@@ -132,63 +118,50 @@ static BROKEN_TEXTS: [&str; 7] = [
 // The first one that isn't refused.
 fn first_taken_text(alloc: Global) -> Option<&'static str> {
     for text in &BROKEN_TEXTS {
-        if !holds(is_refused(alloc, text)) {
+        if !is_refused(alloc, text, "Failed to parse OID") {
             return Some(*text);
         }
     }
     None
 }
 
-#[test]
-fn broken_texts(rt: HostRuntime) {
-    finds_none(&rt, first_taken_text(rt.alloc()));
-}
-
 // 10,000 parts, each 1.
-fn ones(alloc: Global) -> ASN1Result<String> {
+fn ones(alloc: Global) -> Result<String, AllocError> {
     let mut text = "1.".repeat(alloc, 9999)?;
     text.push_str("1")?;
     Ok(text)
 }
 
-// Whether the text has so many parts, and they are shown as it.
-fn comes_back_as_text(alloc: Global, text: &str, parts: usize) -> ASN1Result<bool> {
-    match ObjectIdentifier::from_str(alloc, text) {
-        Ok(oid) => {
-            let shown = oid.to_string(alloc)?;
-            Ok(oid.components().len() == parts && shown.as_str() == text)
-        }
-        Err(_) => Ok(false),
+// Whether so many parts are shown as the text.
+fn are_shown_as(alloc: Global, oid: &ObjectIdentifier, parts: usize, text: &str) -> bool {
+    match oid.to_string(alloc) {
+        Ok(shown) => oid.components().len() == parts && shown.as_str() == text,
+        Err(_) => false,
     }
 }
 
-fn ones_come_back(alloc: Global) -> ASN1Result<bool> {
-    let text = ones(alloc)?;
-    comes_back_as_text(alloc, &text, 10000)
-}
-
-#[test]
-fn long_text(rt: HostRuntime) {
-    assert!(rt; holds(ones_come_back(rt.alloc())));
+fn ones_come_back(alloc: Global) -> bool {
+    let Ok(text) = ones(alloc) else {
+        return false;
+    };
+    match ObjectIdentifier::from_str(alloc, &text) {
+        Ok(oid) => are_shown_as(alloc, &oid, 10000, &text),
+        Err(_) => false,
+    }
 }
 
 // The components 2 and 5, and then 4.
-fn longer(alloc: Global) -> ASN1Result<ObjectIdentifier> {
+fn longer(alloc: Global) -> Result<ObjectIdentifier, AllocError> {
     let mut oid = ObjectIdentifier::from(Vec::from_slice(alloc, &[2, 5])?);
     oid.components_mut().push(4)?;
     Ok(oid)
 }
 
-fn has_components(alloc: Global, parts: &[u64]) -> ASN1Result<bool> {
-    let oid = longer(alloc)?;
-    let is_slice = oid.as_slice() == parts;
-    let components = oid.into_components();
-    Ok(is_slice && components.as_slice() == parts)
-}
-
-#[test]
-fn components(rt: HostRuntime) {
-    assert!(rt; holds(has_components(rt.alloc(), &[2, 5, 4])));
+fn has_components(alloc: Global, parts: &[u64]) -> bool {
+    match longer(alloc) {
+        Ok(oid) => oid.as_slice() == parts && oid.into_components().as_slice() == parts,
+        Err(_) => false,
+    }
 }
 
 // One stands before the other.
@@ -198,24 +171,42 @@ fn is_before(one: &ObjectIdentifier, other: &ObjectIdentifier) -> bool {
         && other.partial_cmp(one) == Some(Ordering::Greater)
 }
 
-fn is_longer_behind(alloc: Global) -> ASN1Result<bool> {
-    let short = ObjectIdentifier::from_slice(alloc, &[2, 5])?;
-    let long = ObjectIdentifier::from_slice(alloc, &[2, 5, 4])?;
-    Ok(is_before(&short, &long))
+fn is_equal_to_its_copy(oid: &ObjectIdentifier) -> bool {
+    match oid.clone() {
+        Ok(copy) => is_same(oid, &copy),
+        Err(_) => false,
+    }
 }
 
+// Whether one that is longer stands behind, and is as its copy.
+fn is_longer_behind(alloc: Global) -> bool {
+    let Ok(short) = ObjectIdentifier::from_slice(alloc, &[2, 5]) else {
+        return false;
+    };
+    match ObjectIdentifier::from_slice(alloc, &[2, 5, 4]) {
+        Ok(long) => is_before(&short, &long) && is_equal_to_its_copy(&long),
+        Err(_) => false,
+    }
+}
+
+fn are_identifiers(alloc: Global) -> [bool; 9] {
+    [
+        is_form_of(alloc, &GROUP_FORM, &GROUP),
+        long_one_comes_back(alloc),
+        is_shown_as(alloc, &GROUP, "1.2.840.113549.1.1"),
+        is_shown_as(alloc, &[1, 2], "1.2"),
+        is_text_of(alloc, "1.2.840.113549.1.1", &GROUP),
+        is_text_of(alloc, "+1.02", &[1, 2]),
+        ones_come_back(alloc),
+        has_components(alloc, &[2, 5, 4]),
+        is_longer_behind(alloc),
+    ]
+}
+
+// Read and written in both ways, also one of 1000 subidentifiers. Texts, also broken ones and a long one. Components, order and
+// copies.
 #[test]
-fn order(rt: HostRuntime) {
-    assert!(rt; holds(is_longer_behind(rt.alloc())));
-}
-
-fn is_copied(alloc: Global) -> ASN1Result<bool> {
-    let oid = ObjectIdentifier::from_slice(alloc, &[2, 5, 4])?;
-    let copy = oid.clone()?;
-    Ok(is_same(&oid, &copy))
-}
-
-#[test]
-fn copied(rt: HostRuntime) {
-    assert!(rt; holds(is_copied(rt.alloc())));
+fn object_identifiers(rt: HostRuntime) {
+    all_hold(&rt, &are_identifiers(rt.alloc()));
+    finds_none(&rt, first_taken_text(rt.alloc()));
 }

@@ -1,9 +1,9 @@
 //! SubjectPublicKeyInfo with its AlgorithmIdentifier (RFC 5280, 4.1), read from and written to real bytes by closures.
 
-use crate::checks::{all_hold, gives};
+use crate::checks::{all_hold, is_form_by};
 use std::alloc::Global;
 use yasna::models::{ObjectIdentifier, TaggedDerValue};
-use yasna::{ASN1Error, ASN1ErrorKind, ASN1Result, BERReader, DERWriter, construct_der, parse_der};
+use yasna::{ASN1Error, ASN1ErrorKind, ASN1Result, BERReader, DERWriter, parse_der};
 
 // The Ed25519 key of RFC 8410, 10.1, whose algorithm has no parameters.
 pub const ED25519: [u8; 44] = [
@@ -82,10 +82,6 @@ fn write_public_key(key: &PublicKey, writer: DERWriter<'_>) -> ASN1Result<()> {
     })
 }
 
-fn form_of(alloc: Global, key: &PublicKey) -> ASN1Result<Vec<u8>> {
-    construct_der(alloc, |writer| write_public_key(key, writer))
-}
-
 // Whether a key has this name and this many bits, and its algorithm parameters or none.
 fn is_key(key: &PublicKey, name: &[u64], bits: usize, has_parameters: bool) -> bool {
     key.algorithm.name.components().as_slice() == name
@@ -96,7 +92,10 @@ fn is_key(key: &PublicKey, name: &[u64], bits: usize, has_parameters: bool) -> b
 // Whether such a key is read from its form, and written in it.
 fn is_form(alloc: Global, form: &[u8], name: &[u64], bits: usize, has_parameters: bool) -> bool {
     match parse_der(alloc, form, read_public_key) {
-        Ok(key) => is_key(&key, name, bits, has_parameters) && gives(form_of(alloc, &key), form),
+        Ok(key) => {
+            is_key(&key, name, bits, has_parameters)
+                && is_form_by(alloc, form, &key, write_public_key)
+        }
         Err(_) => false,
     }
 }

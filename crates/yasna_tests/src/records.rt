@@ -44,11 +44,6 @@ fn are_domain_parameters(alloc: Global) -> [bool; 3] {
     ]
 }
 
-#[test]
-fn domain_parameters(rt: HostRuntime) {
-    all_hold(&rt, &are_domain_parameters(rt.alloc()));
-}
-
 fn is_header(alloc: Global, form: &[u8]) -> bool {
     match decode_der::<RequestHeader>(alloc, form) {
         Ok(read) => {
@@ -78,11 +73,6 @@ fn are_headers(alloc: Global) -> [bool; 3] {
         is_form_of::<RequestHeader>(alloc, &form, &other),
         has_all_parts::<RequestHeader>(alloc, &short, &long),
     ]
-}
-
-#[test]
-fn request_headers(rt: HostRuntime) {
-    all_hold(&rt, &are_headers(rt.alloc()));
 }
 
 const ENTRY: [u8; 50] = [
@@ -127,7 +117,10 @@ fn are_entries(alloc: Global) -> [bool; 2] {
     ]
 }
 
+// Domain parameters, heads of requests and entries of directories.
 #[test]
-fn directory_entries(rt: HostRuntime) {
+fn records(rt: HostRuntime) {
+    all_hold(&rt, &are_domain_parameters(rt.alloc()));
+    all_hold(&rt, &are_headers(rt.alloc()));
     all_hold(&rt, &are_entries(rt.alloc()));
 }

@@ -34,25 +34,6 @@ fn is_normalized(alloc: Global, bytes: &[u8], form: &[u8]) -> bool {
     gives(normalized::<ScryptParameters>(alloc, bytes), form)
 }
 
-fn are_taken(alloc: Global) -> [bool; 5] {
-    // of indefinite length, with a length in two bytes
-    let other = [
-        48, 128, 4, 129, 5, 77, 111, 117, 115, 101, 2, 3, 16, 0, 0, 2, 1, 8, 2, 1, 1, 0, 0,
-    ];
-    [
-        are_parameters(alloc, &WITH_LENGTH, Some(32)),
-        is_normalized(alloc, &WITH_LENGTH, &WITH_LENGTH),
-        are_parameters(alloc, &WITHOUT_LENGTH, None),
-        is_normalized(alloc, &WITHOUT_LENGTH, &WITHOUT_LENGTH),
-        is_normalized(alloc, &other, &WITHOUT_LENGTH),
-    ]
-}
-
-#[test]
-fn with_length_and_without(rt: HostRuntime) {
-    all_hold(&rt, &are_taken(rt.alloc()));
-}
-
 // The parameters, of indefinite length, with these bytes behind the others.
 fn with_tail(alloc: Global, tail: &[u8]) -> Result<Vec<u8>, AllocError> {
     let head = [48, 128, 4, 0, 2, 1, 2, 2, 1, 8, 2, 1, 1];
@@ -66,21 +47,28 @@ fn parsed_with_tail(alloc: Global, tail: &[u8]) -> ASN1Result<ScryptParameters> 
     decode_ber(alloc, &with_tail(alloc, tail)?)
 }
 
-fn are_refused(alloc: Global) -> [bool; 4] {
-    let invalid = ASN1ErrorKind::Invalid;
+// With the last part and without. A last part of another type is no length, and neither is one that is broken, or followed by
+// another.
+fn are_lengths(alloc: Global) -> [bool; 9] {
+    // of indefinite length, with a length in two bytes
+    let other = [
+        48, 128, 4, 129, 5, 77, 111, 117, 115, 101, 2, 3, 16, 0, 0, 2, 1, 8, 2, 1, 1, 0, 0,
+    ];
+    let (invalid, overflow) = (ASN1ErrorKind::Invalid, ASN1ErrorKind::IntegerOverflow);
     [
+        are_parameters(alloc, &WITH_LENGTH, Some(32)),
+        is_normalized(alloc, &WITH_LENGTH, &WITH_LENGTH),
+        are_parameters(alloc, &WITHOUT_LENGTH, None),
+        is_normalized(alloc, &WITHOUT_LENGTH, &WITHOUT_LENGTH),
+        is_normalized(alloc, &other, &WITHOUT_LENGTH),
         refuses(parsed_with_tail(alloc, &[5, 0]), invalid),
         refuses(parsed_with_tail(alloc, &[2, 0]), invalid),
-        refuses(
-            parsed_with_tail(alloc, &[2, 1, 255]),
-            ASN1ErrorKind::IntegerOverflow,
-        ),
+        refuses(parsed_with_tail(alloc, &[2, 1, 255]), overflow),
         refuses(parsed_with_tail(alloc, &[2, 1, 32, 2, 1, 32]), invalid),
     ]
 }
 
-// A last part of another type is no length, and neither is one that is broken, or followed by another.
 #[test]
-fn refused_lengths(rt: HostRuntime) {
-    all_hold(&rt, &are_refused(rt.alloc()));
+fn lengths(rt: HostRuntime) {
+    all_hold(&rt, &are_lengths(rt.alloc()));
 }

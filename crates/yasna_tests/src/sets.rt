@@ -20,6 +20,8 @@ const MIXED: [u8; 8] = [49, 6, 2, 1, 10, 1, 1, 255];
 // A SET of the INTEGER 10.
 const SINGLE: [u8; 5] = [49, 3, 2, 1, 10];
 
+const INVALID: ASN1ErrorKind = ASN1ErrorKind::Invalid;
+
 fn number(element: BERReader) -> ASN1Result<i64> {
     element.read_i64()
 }
@@ -39,20 +41,6 @@ fn numbers(reader: BERReader) -> ASN1Result<Vec<i64>> {
 
 fn all_read(reader: BERReader) -> ASN1Result<()> {
     reader.read_set_of(past_number)
-}
-
-fn lists_are_read(alloc: Global) -> [bool; 4] {
-    [
-        gives(parse_ber(alloc, &FALLING, numbers), &[11, 10]),
-        gives(parse_der(alloc, &ASCENDING, numbers), &[10, 11]),
-        parse_der(alloc, &ASCENDING, all_read) == Ok(()),
-        refuses(parse_der(alloc, &FALLING, all_read), ASN1ErrorKind::Invalid),
-    ]
-}
-
-#[test]
-fn lists_in_order(rt: HostRuntime) {
-    all_hold(&rt, &lists_are_read(rt.alloc()));
 }
 
 fn falling_parts(parts: &mut DERWriterSet) -> ASN1Result<()> {
@@ -82,24 +70,22 @@ fn write_empty_part(writer: DERWriter<'_>) -> ASN1Result<()> {
     writer.write_set_of(empty_part)
 }
 
-// A list is put in order, and no part of it may be empty.
-fn lists_are_written(alloc: Global) -> [bool; 3] {
+// In DER a list is read in order. One that is written is put in order, and no part of it may be empty.
+fn are_lists(alloc: Global) -> [bool; 7] {
     [
+        gives(parse_ber(alloc, &FALLING, numbers), &[11, 10]),
+        gives(parse_der(alloc, &ASCENDING, numbers), &[10, 11]),
+        parse_der(alloc, &ASCENDING, all_read) == Ok(()),
+        refuses(parse_der(alloc, &FALLING, all_read), INVALID),
         gives(construct_der(alloc, write_falling), &ASCENDING),
-        refuses(
-            construct_der(alloc, write_behind_empty_part),
-            ASN1ErrorKind::Invalid,
-        ),
-        refuses(
-            construct_der(alloc, write_empty_part),
-            ASN1ErrorKind::Invalid,
-        ),
+        refuses(construct_der(alloc, write_behind_empty_part), INVALID),
+        refuses(construct_der(alloc, write_empty_part), INVALID),
     ]
 }
 
 #[test]
-fn lists_written(rt: HostRuntime) {
-    all_hold(&rt, &lists_are_written(rt.alloc()));
+fn lists(rt: HostRuntime) {
+    all_hold(&rt, &are_lists(rt.alloc()));
 }
 
 fn next_flag(set: &mut BERReaderSet) -> ASN1Result<bool> {
@@ -120,25 +106,6 @@ fn number_and_flag(reader: BERReader) -> ASN1Result<(i64, bool)> {
     reader.read_set(number_behind_flag)
 }
 
-fn elements_are_read(alloc: Global) -> [bool; 3] {
-    [
-        parse_ber(alloc, &MIXED, number_and_flag) == Ok((10, true)),
-        refuses(
-            parse_der(alloc, &MIXED, number_and_flag),
-            ASN1ErrorKind::Invalid,
-        ),
-        refuses(
-            parse_der(alloc, &SINGLE, number_and_flag),
-            ASN1ErrorKind::Invalid,
-        ),
-    ]
-}
-
-#[test]
-fn elements_by_tags(rt: HostRuntime) {
-    all_hold(&rt, &elements_are_read(rt.alloc()));
-}
-
 // A flag that is TRUE where it is left out, and a number that may be left out.
 fn left_out(set: &mut BERReaderSet) -> ASN1Result<(bool, Option<i64>)> {
     let number = set.read_optional(&[TAG_INTEGER], number)?;
@@ -154,19 +121,6 @@ fn der_flag_and_number(alloc: Global, bytes: &[u8]) -> ASN1Result<(bool, Option<
     parse_der(alloc, bytes, flag_and_number)
 }
 
-fn are_left_out(alloc: Global) -> [bool; 3] {
-    [
-        der_flag_and_number(alloc, &[49, 6, 1, 1, 0, 2, 1, 10]) == Ok((false, Some(10))),
-        der_flag_and_number(alloc, &SINGLE) == Ok((true, Some(10))),
-        der_flag_and_number(alloc, &[49, 0]) == Ok((true, None)),
-    ]
-}
-
-#[test]
-fn elements_left_out(rt: HostRuntime) {
-    all_hold(&rt, &are_left_out(rt.alloc()));
-}
-
 // It does not look at the refusal of a default.
 fn past_default(set: &mut BERReaderSet) -> ASN1Result<i64> {
     let _ = set.read_default(&[TAG_BOOLEAN], true, flag);
@@ -177,21 +131,20 @@ fn number_past_default(reader: BERReader) -> ASN1Result<i64> {
     reader.read_set(past_default)
 }
 
-fn defaults_are_refused(alloc: Global) -> [bool; 3] {
+// Elements by their tags, elements that are left out, and such as equal their default.
+fn are_elements(alloc: Global) -> [bool; 9] {
     let sorted = [49, 6, 1, 1, 255, 2, 1, 10];
     [
+        parse_ber(alloc, &MIXED, number_and_flag) == Ok((10, true)),
+        refuses(parse_der(alloc, &MIXED, number_and_flag), INVALID),
+        refuses(parse_der(alloc, &SINGLE, number_and_flag), INVALID),
+        der_flag_and_number(alloc, &[49, 6, 1, 1, 0, 2, 1, 10]) == Ok((false, Some(10))),
+        der_flag_and_number(alloc, &SINGLE) == Ok((true, Some(10))),
+        der_flag_and_number(alloc, &[49, 0]) == Ok((true, None)),
         parse_ber(alloc, &MIXED, flag_and_number) == Ok((true, Some(10))),
-        refuses(der_flag_and_number(alloc, &sorted), ASN1ErrorKind::Invalid),
-        refuses(
-            parse_der(alloc, &sorted, number_past_default),
-            ASN1ErrorKind::Invalid,
-        ),
+        refuses(der_flag_and_number(alloc, &sorted), INVALID),
+        refuses(parse_der(alloc, &sorted, number_past_default), INVALID),
     ]
-}
-
-#[test]
-fn element_that_equals_its_default(rt: HostRuntime) {
-    all_hold(&rt, &defaults_are_refused(rt.alloc()));
 }
 
 fn nothing(_: BERReader) -> ASN1Result<()> {
@@ -212,18 +165,6 @@ fn flag_of_number(set: &mut BERReaderSet) -> ASN1Result<Option<bool>> {
 
 fn another(reader: BERReader) -> ASN1Result<Option<bool>> {
     reader.read_set(flag_of_number)
-}
-
-fn unread_elements_are_refused(alloc: Global) -> [bool; 2] {
-    [
-        refuses(parse_ber(alloc, &SINGLE, unread), ASN1ErrorKind::Extra),
-        refuses(parse_ber(alloc, &SINGLE, another), ASN1ErrorKind::Invalid),
-    ]
-}
-
-#[test]
-fn element_that_is_not_read(rt: HostRuntime) {
-    all_hold(&rt, &unread_elements_are_refused(rt.alloc()));
 }
 
 fn no_memory(_: BERReader) -> ASN1Result<i64> {
@@ -248,21 +189,19 @@ fn past_set_without_memory(reader: BERReader) -> ASN1Result<()> {
     Ok(())
 }
 
-// The lack is answered also by callbacks that do not look at it.
-fn lacks_are_answered(alloc: Global) -> [bool; 2] {
+// An element that isn't read, or as another type, and one that lacks memory, also where callbacks do not look at that.
+fn are_refused(alloc: Global) -> [bool; 4] {
+    let lack = ASN1ErrorKind::OutOfMemory;
     [
-        refuses(
-            parse_ber(alloc, &SINGLE, set_without_memory),
-            ASN1ErrorKind::OutOfMemory,
-        ),
-        refuses(
-            parse_ber(alloc, &SINGLE, past_set_without_memory),
-            ASN1ErrorKind::OutOfMemory,
-        ),
+        refuses(parse_ber(alloc, &SINGLE, unread), ASN1ErrorKind::Extra),
+        refuses(parse_ber(alloc, &SINGLE, another), INVALID),
+        refuses(parse_ber(alloc, &SINGLE, set_without_memory), lack),
+        refuses(parse_ber(alloc, &SINGLE, past_set_without_memory), lack),
     ]
 }
 
 #[test]
-fn element_that_lacks_memory(rt: HostRuntime) {
-    all_hold(&rt, &lacks_are_answered(rt.alloc()));
+fn elements(rt: HostRuntime) {
+    all_hold(&rt, &are_elements(rt.alloc()));
+    all_hold(&rt, &are_refused(rt.alloc()));
 }

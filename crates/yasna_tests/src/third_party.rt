@@ -46,11 +46,6 @@ fn are_versions(alloc: Global) -> [bool; 5] {
     ]
 }
 
-#[test]
-fn versions(rt: HostRuntime) {
-    all_hold(&rt, &are_versions(rt.alloc()));
-}
-
 const SAMPLE: Sample = Sample {
     count: 300,
     last: true,
@@ -77,11 +72,6 @@ fn are_samples(alloc: Global) -> [bool; 4] {
         ),
         is_measurement(alloc, &indefinite, &measurement),
     ]
-}
-
-#[test]
-fn samples_and_measurements(rt: HostRuntime) {
-    all_hold(&rt, &are_samples(rt.alloc()));
 }
 
 fn form_of_report(alloc: Global) -> ASN1Result<Vec<u8>> {
@@ -113,11 +103,6 @@ fn are_reports(alloc: Global) -> [bool; 4] {
     ]
 }
 
-#[test]
-fn reports(rt: HostRuntime) {
-    all_hold(&rt, &are_reports(rt.alloc()));
-}
-
 fn form_of_trail(alloc: Global) -> ASN1Result<Vec<u8>> {
     let steps = vec![in alloc; 300, 2, -1]?;
     encode_der(alloc, &Trail { steps })
@@ -130,34 +115,34 @@ fn is_trail(read: ASN1Result<Trail>, steps: &[i64]) -> bool {
     }
 }
 
-// The form of a SEQUENCE of a serial number that is left out, and TRUE.
-fn form_of_left_out(alloc: Global) -> ASN1Result<Vec<u8>> {
-    let left_out = Serial { number: None };
+// The form of a SEQUENCE of a serial number, which may be left out, and TRUE.
+fn form_with(alloc: Global, serial: &Serial) -> ASN1Result<Vec<u8>> {
     construct_der(alloc, |writer| {
-        writer.write_sequence(|parts| (&left_out, (true, ())).write_parts(parts))
-    })
-}
-
-fn form_of_given(alloc: Global) -> ASN1Result<Vec<u8>> {
-    let given = Serial { number: Some(10) };
-    construct_der(alloc, |writer| {
-        writer.write_sequence(|parts| (&given, (true, ())).write_parts(parts))
+        writer.write_sequence(|parts| (serial, (true, ())).write_parts(parts))
     })
 }
 
 fn are_encoded(alloc: Global) -> [bool; 5] {
     let trail = [48, 10, 2, 1, 255, 2, 1, 2, 2, 2, 1, 44];
     let left_out = Serial { number: None };
+    let given = Serial { number: Some(10) };
     [
         gives(form_of_trail(alloc), &trail),
         is_trail(decode_der(alloc, &trail), &[300, 2, -1]),
         gives(encode_der(alloc, &left_out), &[]),
-        gives(form_of_left_out(alloc), &[48, 3, 1, 1, 255]),
-        gives(form_of_given(alloc), &[48, 6, 2, 1, 10, 1, 1, 255]),
+        gives(form_with(alloc, &left_out), &[48, 3, 1, 1, 255]),
+        gives(form_with(alloc, &given), &[48, 6, 2, 1, 10, 1, 1, 255]),
     ]
 }
 
 #[test]
-fn trails_and_serials(rt: HostRuntime) {
+fn versions_and_samples(rt: HostRuntime) {
+    all_hold(&rt, &are_versions(rt.alloc()));
+    all_hold(&rt, &are_samples(rt.alloc()));
+}
+
+#[test]
+fn reports_trails_and_serials(rt: HostRuntime) {
+    all_hold(&rt, &are_reports(rt.alloc()));
     all_hold(&rt, &are_encoded(rt.alloc()));
 }

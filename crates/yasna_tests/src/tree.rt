@@ -1,6 +1,6 @@
 //! Trees, and elements as deep as they may nest, by a type that refers to itself and by functions that call themselves.
 
-use crate::checks::{all_hold, holds, refuses};
+use crate::checks::{all_hold, refuses};
 use std::alloc::{AllocError, Global};
 use yasna::{
     ASN1ErrorKind, ASN1Result, BERMode, BERReaderSeq, DERWriterSeq, construct_der_seq, decode_ber,
@@ -58,28 +58,26 @@ fn kinds(alloc: Global, bytes: &[u8], mode: BERMode, depth: u8) -> [Option<ASN1E
     [kind_of(tree), kind_of(read)]
 }
 
-// Whether both answer this kind for so many SEQUENCEs in both modes of definite length, and in both of indefinite length.
-fn answer(alloc: Global, depth: u8, kind: Option<ASN1ErrorKind>) -> ASN1Result<[bool; 4]> {
-    let definite = of_definite_length(alloc, depth)?;
-    let indefinite = of_indefinite_length(alloc, depth)?;
-    let both = [kind, kind];
-    Ok([
-        kinds(alloc, &definite, BERMode::Der, depth) == both,
-        kinds(alloc, &definite, BERMode::Ber, depth) == both,
-        kinds(alloc, &indefinite, BERMode::Ber, depth) == both,
-        kinds(alloc, &indefinite, BERMode::Cer, depth) == both,
-    ])
+// Whether both answer this kind for so many SEQUENCEs in both modes of definite length.
+fn answer_definite(alloc: Global, depth: u8, kind: Option<ASN1ErrorKind>) -> bool {
+    match of_definite_length(alloc, depth) {
+        Ok(bytes) => {
+            kinds(alloc, &bytes, BERMode::Der, depth) == [kind, kind]
+                && kinds(alloc, &bytes, BERMode::Ber, depth) == [kind, kind]
+        }
+        Err(_) => false,
+    }
 }
 
-#[test]
-fn deepest(rt: HostRuntime) {
-    all_hold(&rt, &answer(rt.alloc(), 101, None).unwrap_or([false; 4]));
-}
-
-#[test]
-fn too_deep(rt: HostRuntime) {
-    let kind = Some(ASN1ErrorKind::StackOverflow);
-    all_hold(&rt, &answer(rt.alloc(), 102, kind).unwrap_or([false; 4]));
+// The same in both modes of indefinite length.
+fn answer_indefinite(alloc: Global, depth: u8, kind: Option<ASN1ErrorKind>) -> bool {
+    match of_indefinite_length(alloc, depth) {
+        Ok(bytes) => {
+            kinds(alloc, &bytes, BERMode::Ber, depth) == [kind, kind]
+                && kinds(alloc, &bytes, BERMode::Cer, depth) == [kind, kind]
+        }
+        Err(_) => false,
+    }
 }
 
 // How many branches the first two have, where there are two.
@@ -90,22 +88,28 @@ fn sizes(tree: &Tree) -> Option<(usize, usize)> {
     }
 }
 
-fn has_sizes(alloc: Global, bytes: &[u8], wanted: (usize, usize)) -> ASN1Result<bool> {
-    let tree: Tree = decode_ber(alloc, bytes)?;
-    Ok(sizes(&tree) == Some(wanted))
+fn has_sizes(alloc: Global, bytes: &[u8], wanted: (usize, usize)) -> bool {
+    match decode_ber::<Tree>(alloc, bytes) {
+        Ok(tree) => sizes(&tree) == Some(wanted),
+        Err(_) => false,
+    }
 }
 
-fn are_trees(alloc: Global) -> [bool; 2] {
+fn are_trees(alloc: Global) -> [bool; 6] {
     let form = [48, 128, 48, 0, 48, 2, 48, 0, 0, 0];
+    let of_null = decode_der::<Tree>(alloc, &[48, 4, 48, 2, 5, 0]);
+    let too_deep = Some(ASN1ErrorKind::StackOverflow);
     [
-        holds(has_sizes(alloc, &form, (0, 1))),
-        refuses(
-            decode_der::<Tree>(alloc, &[48, 4, 48, 2, 5, 0]),
-            ASN1ErrorKind::Extra,
-        ),
+        has_sizes(alloc, &form, (0, 1)),
+        refuses(of_null, ASN1ErrorKind::Extra),
+        answer_definite(alloc, 101, None),
+        answer_indefinite(alloc, 101, None),
+        answer_definite(alloc, 102, too_deep),
+        answer_indefinite(alloc, 102, too_deep),
     ]
 }
 
+// Also the deepest ones, and one more.
 #[test]
 fn trees(rt: HostRuntime) {
     all_hold(&rt, &are_trees(rt.alloc()));

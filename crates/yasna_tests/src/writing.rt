@@ -19,17 +19,6 @@ fn write_tagged(writer: DERWriter<'_>) -> ASN1Result<()> {
     writer.write_tagged(LONG_TAG, write_126)
 }
 
-fn has_long_tag(alloc: Global) -> bool {
-    let written = construct_der(alloc, write_tagged);
-    begins_with(written, 134, &[191, 149, 140, 78, 129, 128, 4, 126, 91])
-}
-
-// A tag of three bytes, around an element of 128.
-#[test]
-fn long_tags(rt: HostRuntime) {
-    assert!(rt; has_long_tag(rt.alloc()));
-}
-
 // The form of a SEQUENCE within which the writer is exchanged for the one around.
 fn exchanged(alloc: Global, outer: &mut DERWriterSeq) -> ASN1Result<Vec<u8>> {
     construct_der(alloc, |other| {
@@ -40,6 +29,8 @@ fn exchanged(alloc: Global, outer: &mut DERWriterSeq) -> ASN1Result<Vec<u8>> {
     })
 }
 
+// Each element ends over what the writer holds then, from its own place on: the inner one, which began in front of all
+// bytes, around the BOOLEAN, and the outer one, which began behind it, where nothing is left, as `Invalid`.
 fn is_exchanged(alloc: Global) -> bool {
     let mut is_inner = false;
     let outer = construct_der(alloc, |writer| {
@@ -52,13 +43,6 @@ fn is_exchanged(alloc: Global) -> bool {
         })
     });
     is_inner && refuses(outer, ASN1ErrorKind::Invalid)
-}
-
-// Each element ends over what the writer holds then, from its own place on: the inner one, which began in front of all
-// bytes, around the BOOLEAN, and the outer one, which began behind it, where nothing is left, as `Invalid`.
-#[test]
-fn exchanged_writers(rt: HostRuntime) {
-    assert!(rt; is_exchanged(rt.alloc()));
 }
 
 fn write_bits(writer: DERWriter<'_>) -> ASN1Result<()> {
@@ -77,20 +61,22 @@ fn write_200(writer: DERWriter<'_>) -> ASN1Result<()> {
     writer.write_bytes(&[91; 200])
 }
 
-fn are_strings(alloc: Global) -> [bool; 4] {
+// Strings whose contents come in pieces, one whose length takes two bytes, a tag of three bytes around an element of 128, and
+// exchanged writers.
+fn are_written(alloc: Global) -> [bool; 6] {
+    let text = [30, 6, 0, 97, 216, 61, 222, 0];
+    let long_tag = [191, 149, 140, 78, 129, 128, 4, 126, 91];
     [
         gives(construct_der(alloc, write_bits), &[3, 4, 6, 117, 13, 64]),
         gives(construct_der(alloc, write_no_bits), &[3, 1, 0]),
-        gives(
-            construct_der(alloc, write_text),
-            &[30, 6, 0, 97, 216, 61, 222, 0],
-        ),
+        gives(construct_der(alloc, write_text), &text),
         begins_with(construct_der(alloc, write_200), 203, &[4, 129, 200, 91]),
+        begins_with(construct_der(alloc, write_tagged), 134, &long_tag),
+        is_exchanged(alloc),
     ]
 }
 
-// Strings whose contents come in pieces, and one whose length takes two bytes.
 #[test]
-fn strings(rt: HostRuntime) {
-    all_hold(&rt, &are_strings(rt.alloc()));
+fn writing(rt: HostRuntime) {
+    all_hold(&rt, &are_written(rt.alloc()));
 }
