@@ -3,7 +3,7 @@
 use std::alloc::{AllocError, Global};
 use yasna_base::bytes::order::compare_octets;
 
-const NAMES: [&str; 37] = [
+static NAMES: [&str; 37] = [
     "",
     "BOOLEAN",
     "INTEGER",

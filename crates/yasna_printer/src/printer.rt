@@ -57,7 +57,8 @@ impl<'o, 'w, 'n, W: Write> Printer<'o, 'w, 'n, W> {
     /// Prints in which encoding rules the elements are.
     pub fn finish(self) -> Result<(), Fault> {
         let Printer { out, verdict, .. } = self;
-        write!(out, "rules: {verdict}");
+        out.write_str("rules: ");
+        out.write_str(verdict.rules());
         out.end_line()
     }
 
@@ -65,15 +66,19 @@ impl<'o, 'w, 'n, W: Write> Printer<'o, 'w, 'n, W> {
         if let Some(name) = name_of(tag) {
             return self.out.write_str(name);
         }
-        let (class, number) = (class_of(tag.tag_class), tag.tag_number);
-        write!(self.out, "[{class}{number}]")
+        self.out.write_str(class_of(tag.tag_class));
+        write!(self.out, "{}]", tag.tag_number)
     }
 
     // The place of an element, and its lengths.
     fn print_place(&mut self, item: &Item<'_>) {
         let (offset, header) = (item.offset, item.header);
         write!(self.out, "{offset:>7} {header:>2}+");
-        match item.size {
+        self.print_size(item.size)
+    }
+
+    fn print_size(&mut self, size: Option<usize>) {
+        match size {
             Some(size) => write!(self.out, "{size:<7}"),
             None => self.out.write_str("indef  "),
         }
@@ -82,9 +87,9 @@ impl<'o, 'w, 'n, W: Write> Printer<'o, 'w, 'n, W> {
     // The same, and its tag.
     fn print_head(&mut self, item: &Item<'_>) {
         self.print_place(item);
-        let mark = if item.is_within { ">" } else { " " };
-        let indent = 2 * usize::from(item.depth);
-        write!(self.out, "{mark} {:indent$}", "");
+        self.out.write_str(if item.is_within { ">" } else { " " });
+        let indent = 1 + 2 * usize::from(item.depth);
+        write!(self.out, "{:indent$}", "");
         self.print_tag(item.tag)
     }
 
@@ -96,7 +101,8 @@ impl<'o, 'w, 'n, W: Write> Printer<'o, 'w, 'n, W> {
         if !item.is_within {
             self.verdict.note(remark);
         }
-        write!(self.out, " -- {remark}")
+        self.out.write_str(" -- ");
+        self.out.write_str(remark.text())
     }
 
     // The tag that an element is to have as a segment, if it is one.
@@ -149,10 +155,10 @@ impl<'o, 'w, 'n, W: Write> Printer<'o, 'w, 'n, W> {
 // What stands in front of the number of a tag of this class.
 fn class_of(class: TagClass) -> &'static str {
     match class {
-        TagClass::Universal => "UNIVERSAL ",
-        TagClass::Application => "APPLICATION ",
-        TagClass::ContextSpecific => "",
-        TagClass::Private => "PRIVATE ",
+        TagClass::Universal => "[UNIVERSAL ",
+        TagClass::Application => "[APPLICATION ",
+        TagClass::ContextSpecific => "[",
+        TagClass::Private => "[PRIVATE ",
     }
 }
 

@@ -1,6 +1,5 @@
 //! What is said behind a line, and in which encoding rules the whole is.
 
-use std::fmt;
 use yasna_base::mode::BERMode;
 
 /// Why an element is in some encoding rules and not in others.
@@ -45,7 +44,8 @@ pub enum Remark {
 }
 
 impl Remark {
-    fn text(self) -> &'static str {
+    /// What is said of it.
+    pub fn text(self) -> &'static str {
         match self {
             Remark::LongLength => "not DER: the length isn't the shortest",
             Remark::Indefinite => "not DER: indefinite length",
@@ -83,12 +83,6 @@ impl Remark {
     }
 }
 
-impl fmt::Display for Remark {
-    fn fmt<W: fmt::Write>(&self, f: &mut fmt::Formatter<W>) -> fmt::Result {
-        f.write_str(self.text())
-    }
-}
-
 /// The remark, where this isn't so.
 pub fn unless(is_so: bool, remark: Remark) -> Option<Remark> {
     if is_so { None } else { Some(remark) }
@@ -123,16 +117,15 @@ impl Verdict {
     pub fn exclude_cer(&mut self) {
         self.cer = false;
     }
-}
 
-impl fmt::Display for Verdict {
-    fn fmt<W: fmt::Write>(&self, f: &mut fmt::Formatter<W>) -> fmt::Result {
-        f.write_str(match (self.ber, self.der, self.cer) {
+    /// The names of the rules.
+    pub fn rules(self) -> &'static str {
+        match (self.ber, self.der, self.cer) {
             (false, _, _) => "none",
             (true, false, false) => "BER",
             (true, true, false) => "BER, DER",
             (true, false, true) => "BER, CER",
             (true, true, true) => "BER, DER, CER",
-        })
+        }
     }
 }

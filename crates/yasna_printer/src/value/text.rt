@@ -26,15 +26,23 @@ fn needs_escape(c: char) -> bool {
     c == '"' || c == '\\' || c.is_control() || is_hidden(c)
 }
 
+// The short escape of a code, where it has one.
+fn short_escape(code: u32) -> Option<&'static str> {
+    match code {
+        34 => Some("\\\""),
+        92 => Some("\\\\"),
+        9 => Some("\\t"),
+        10 => Some("\\n"),
+        13 => Some("\\r"),
+        _ => None,
+    }
+}
+
 fn write_escape<W: Write>(out: &mut Output<'_, W>, code: u32) {
-    out.write_str(match code {
-        34 => "\\\"",
-        92 => "\\\\",
-        9 => "\\t",
-        10 => "\\n",
-        13 => "\\r",
-        _ => return write!(out, "\\u{{{code:X}}}"),
-    })
+    match short_escape(code) {
+        Some(escape) => out.write_str(escape),
+        None => write!(out, "\\u{{{code:X}}}"),
+    }
 }
 
 // Writes a character, or the escape of a code that is none.

@@ -5,24 +5,7 @@ use crate::remark::{Remark, unless};
 use crate::value::text::write_quoted;
 use std::alloc::{AllocError, Global};
 use std::io::Write;
-use yasna_times::models::{DateTime, GeneralizedTime, Offset, UTCTime};
-
-fn write_datetime<W: Write>(out: &mut Output<'_, W>, time: &DateTime) {
-    let (year, month, day) = (time.year(), time.month(), time.day());
-    let (hour, minute, second) = (time.hour(), time.minute(), time.second());
-    write!(
-        out,
-        "{year:04}-{month:02}-{day:02}T{hour:02}:{minute:02}:{second:02}"
-    )
-}
-
-// The fraction of a second, with nine digits or none, and those behind them.
-fn write_fraction<W: Write>(out: &mut Output<'_, W>, nanosecond: i32, below: &[u8]) {
-    if nanosecond != 0 || !below.is_empty() {
-        write!(out, ".{nanosecond:09}");
-        out.write_all(below);
-    }
-}
+use yasna_times::models::{GeneralizedTime, Offset, UTCTime};
 
 fn write_no_time<W: Write>(out: &mut Output<'_, W>, octets: &[u8]) -> Option<Remark> {
     write_quoted(out, octets);
@@ -40,14 +23,18 @@ pub fn write_utc_time<W: Write>(out: &mut Output<'_, W>, octets: &[u8]) -> Optio
     let Some(time) = UTCTime::parse(octets) else {
         return write_no_time(out, octets);
     };
-    write_datetime(out, time.datetime());
+    write!(out, "{}", time.datetime());
     end_in_utc(out, time.is_canonical(octets))
 }
 
+// The fraction of a second has nine digits or none, and those behind them.
 fn write_fine_time<W: Write>(out: &mut Output<'_, W>, time: &GeneralizedTime) {
-    let datetime = time.datetime();
-    write_datetime(out, datetime);
-    write_fraction(out, datetime.subsec_nanosecond(), time.sub_nano())
+    let (datetime, below) = (time.datetime(), time.sub_nano());
+    if below.is_empty() && datetime.subsec_nanosecond() == 0 {
+        return write!(out, "{datetime}");
+    }
+    write!(out, "{datetime:.9}");
+    out.write_all(below)
 }
 
 // Writes a GeneralizedTime in no known zone, where it is one.
