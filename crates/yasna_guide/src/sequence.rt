@@ -25,11 +25,11 @@ pub fn write_point(point: Point, writer: DERWriter<'_>) -> ASN1Result<()> {
 }
 
 pub fn point_from_der(alloc: Global, bytes: &[u8]) -> ASN1Result<Point> {
-    parse_der(alloc, bytes, |reader| read_point(reader))
+    parse_der(alloc, bytes, read_point)
 }
 
 pub fn point_from_ber(alloc: Global, bytes: &[u8]) -> ASN1Result<Point> {
-    parse_ber(alloc, bytes, |reader| read_point(reader))
+    parse_ber(alloc, bytes, read_point)
 }
 
 pub fn point_to_der(alloc: Global, point: Point) -> ASN1Result<Vec<u8>> {

@@ -14,7 +14,7 @@ fn read_serial(reader: BERReader) -> ASN1Result<i64> {
 }
 
 fn read_signed_parts<'a>(parts: &mut BERReaderSeq<'a, '_>) -> ASN1Result<Signed<'a>> {
-    let (serial, signed_bytes) = parts.next().read_with_buffer(|body| read_serial(body))?;
+    let (serial, signed_bytes) = parts.next().read_with_buffer(read_serial)?;
     let (signature, _) = parts.next().read_bitvec_bytes()?;
     Ok(Signed {
         serial,

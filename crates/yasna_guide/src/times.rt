@@ -31,5 +31,5 @@ pub fn time_of_text(alloc: Global, text: &str) -> Result<Option<Time>, AllocErro
         return Ok(Some(Time::Utc(time)));
     }
     let time = GeneralizedTime::parse(alloc, text.as_bytes())?;
-    Ok(time.map(|time| Time::Generalized(time)))
+    Ok(time.map(Time::Generalized))
 }
