@@ -1,8 +1,10 @@
--- What a part that may be left out reads, by what its closure does.
-use Rattle.std.proofs.Common.{◌≡◌, Option, None, Some, Result, refl, subst}
+-- What a part that may be left out reads, by what its closure does, and what a step reads.
+use Rattle.std.proofs.Common.{◌≡◌, ◌∙◌, Bool, List, ℕ, Option, None, Some, Result, ap, refl, subst}
 use Rattle.std.specs.Borrow.{MutBor}
 use Rattle.std.specs.Fn.{Once, FnOnceReturnsAtMut}
-use Rattle.yasna.specs.Words.{ASN1Error, Reading, Does, ReadsOptional}
+use Rattle.yasna.specs.Words.{ASN1Error, Reading, Does, Decodes, ReadsOptional}
+use Rattle.yasna.specs.base.Grammar.{Grammar, Members}
+use Rattle.yasna.specs.reader.Decodes.{Took}
 use Rattle.yasna.specs.reader.Callback.{Hands, UnlessKept}
 use Rattle.yasna.specs.reader.Optional.{optional}
 use Rattle.yasna.specs.reader.State.{untagged}
@@ -25,3 +27,12 @@ reads_optional_by {A} g f N s r s' h says = by_kept s.kept refl h
         let met = subst (λ (z : Reading). g.post f (record shown { now = z }, tt) (k.own, (k.says.left, tt))) k.says.shows k.says.met in
         let ran : N (untagged s) k.own k.left = subst (λ z. N (untagged s) k.own z) k.says.leaves (says shown k.says.left k.own is met) in
         (o, record { own = k.own; left = k.left; says = ran; comes = k.comes }, e)
+
+-- a value that is decoded where what equals s stands
+pub decodes_at : {A : Type 0} (asks : Bool) (B : Grammar A) (S : Members) {p s : Reading} (r : Result A ASN1Error) (s' : Reading) →
+    (p.kept ≡ None → Decodes asks B S p r s') → p ≡ s → s.kept ≡ None → Decodes asks B S s r s'
+decodes_at asks B S r s' h e k = subst (λ (z : Reading). z.kept ≡ None → Decodes asks B S z r s') e h k
+
+-- behind a value that was taken no failure is kept
+pub still_fresh : {A : Type 0} {B : A → List ℕ → Type 0} {s : Reading} {v : A} {s' : Reading} → Took B s v s' → s.kept ≡ None → s'.kept ≡ None
+still_fresh h k = ap (λ (z : Reading). z.kept) h.left ∙ k

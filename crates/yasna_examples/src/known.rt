@@ -7,7 +7,9 @@ ghost use Rattle.yasna_examples.specs.Pair.{EncodesPair, AnyPair};
 ghost use Rattle.yasna_examples.specs.Numbers.{EncodesNumbers, AnyNumbers};
 
 use std::alloc::Global;
-use yasna::{ASN1Result, BERDecodable, construct_der, parse_ber, parse_der};
+use yasna::{
+    ASN1Result, BERDecodable, BERReader, BERReaderSeq, construct_der, parse_ber, parse_der,
+};
 
 /// The number whose DER form as an INTEGER these bytes are.
 ///
@@ -76,11 +78,17 @@ pub fn parsed_numbers(alloc: Global, buf: &[u8]) -> ASN1Result<Vec<i64>>
 ///
 /// A failed read of one of them is answered by the read of the third, and by the parse.
 pub fn third_number(alloc: Global, buf: &[u8]) -> ASN1Result<i64> {
-    parse_ber(alloc, buf, |reader| {
-        reader.read_sequence(|parts| {
-            let _ = i64::decode_ber(parts.next());
-            let _ = i64::decode_ber(parts.next());
-            i64::decode_ber(parts.next())
-        })
-    })
+    parse_ber(alloc, buf, read_third)
+}
+
+fn read_third(reader: BERReader) -> ASN1Result<i64> {
+    reader.read_sequence(third_part)
+}
+
+fn third_part(parts: &mut BERReaderSeq) -> ASN1Result<i64>
+    requires { IsFresh (part_of parts.old) }
+{
+    let _ = i64::decode_ber(parts.next());
+    let _ = i64::decode_ber(parts.next());
+    i64::decode_ber(parts.next())
 }

@@ -12,6 +12,7 @@ ghost use Rattle.std.specs.Prelude.{◌≡◌, ◌∷◌, [], ◌||◌, true, fa
 ghost use Rattle.std.specs.Int.{w64};
 ghost use Rattle.yasna.specs.Words.{Any, Enclosed, AnyEnclosed, EncodesSigned, context, set_tag, sequence_tag, null_tag, boolean_tag};
 ghost use Rattle.yasna.specs.Words.{Decodes, DecodesByTags, Step, Done, ReadsOptional, ReadsDefault, IsFresh, part_of};
+ghost use Rattle.yasna.specs.Words.{Reads, Primitively, IsSigned, NoLevel, Never, integer_tag};
 ghost use Rattle.yasna_examples.specs.Tickets.{EncodesVersion, AnyVersion, EncodesNote, AnyNote, EncodesLimit, EncodesKind, AnyKind, EncodesMarks, AnyMarks};
 ghost use Rattle.yasna_examples.specs.Tickets.{Parts, AnyParts, SameParts, ticket_parts, ReadsRest, ticket_coding};
 
@@ -52,12 +53,19 @@ fn read_note(reader: BERReader) -> ASN1Result<Vec<u8>>
     reader.read_tagged_implicit(Tag::context(1), |inner| inner.read_bytes())
 }
 
+// An INTEGER.
+fn read_number(reader: BERReader) -> ASN1Result<i64>
+    ensures { Reads (Primitively (IsSigned w64)) NoLevel Never integer_tag reader.old result reader.new }
+{
+    reader.read_i64()
+}
+
 // A limit.
 fn read_limit(reader: BERReader) -> ASN1Result<i64>
     requires { IsFresh reader.old }
     ensures { DecodesByTags (context 2 ∷ []) false EncodesLimit (Any EncodesLimit) reader.old result reader.new }
 {
-    reader.read_tagged_implicit(Tag::context(2), |inner| inner.read_i64())
+    reader.read_tagged_implicit(Tag::context(2), read_number)
 }
 
 // The kind, by the next tag.
@@ -93,7 +101,7 @@ fn read_marks(reader: BERReader) -> ASN1Result<Vec<i64>>
     requires { IsFresh reader.old }
     ensures { DecodesByTags (set_tag ∷ []) true EncodesMarks AnyMarks reader.old result reader.new }
 {
-    reader.collect_set_of(|mark| mark.read_i64())
+    reader.collect_set_of(read_number)
 }
 
 // What stands behind the note.
