@@ -306,10 +306,10 @@ const IN_PIECES: [u8; 25] = [
 const LIST: [u8; 11] = [48, 128, 2, 1, 10, 2, 2, 255, 127, 0, 0];
 
 // The first mode and kind in which bytes give something else.
-fn first_other_form(alloc: Global) -> Option<[&'static str; 2]> {
+fn first_other_form(alloc: Global) -> Option<(&'static str, &'static str)> {
     for (mode, kind, input, wanted) in &OTHER_FORMS {
         if !answers(alloc, mode, kind, input, wanted) {
-            return Some([*mode, *kind]);
+            return Some((*mode, *kind));
         }
     }
     None

@@ -80,10 +80,10 @@ fn make(alloc: Global, first: &[u8], second: &[u8], form: &[u8]) -> bool {
 }
 
 // The first parts that don't.
-fn first_other_parts(alloc: Global) -> Option<[&'static [u8]; 2]> {
+fn first_other_parts(alloc: Global) -> Option<(&'static [u8], &'static [u8])> {
     for (first, second, form) in &PARTS {
         if !make(alloc, first, second, form) {
-            return Some([*first, *second]);
+            return Some((*first, *second));
         }
     }
     None

@@ -115,23 +115,30 @@ fn is_trail(read: ASN1Result<Trail>, steps: &[i64]) -> bool {
     }
 }
 
-// The form of a SEQUENCE of a serial number, which may be left out, and TRUE.
-fn form_with(alloc: Global, serial: &Serial) -> ASN1Result<Vec<u8>> {
+// The form of a SEQUENCE of a serial number that is left out, and TRUE.
+fn form_of_left_out(alloc: Global) -> ASN1Result<Vec<u8>> {
+    let left_out = Serial { number: None };
     construct_der(alloc, |writer| {
-        writer.write_sequence(|parts| (serial, (true, ())).write_parts(parts))
+        writer.write_sequence(|parts| (&left_out, (true, ())).write_parts(parts))
+    })
+}
+
+fn form_of_given(alloc: Global) -> ASN1Result<Vec<u8>> {
+    let given = Serial { number: Some(10) };
+    construct_der(alloc, |writer| {
+        writer.write_sequence(|parts| (&given, (true, ())).write_parts(parts))
     })
 }
 
 fn are_encoded(alloc: Global) -> [bool; 5] {
     let trail = [48, 10, 2, 1, 255, 2, 1, 2, 2, 2, 1, 44];
     let left_out = Serial { number: None };
-    let given = Serial { number: Some(10) };
     [
         gives(form_of_trail(alloc), &trail),
         is_trail(decode_der(alloc, &trail), &[300, 2, -1]),
         gives(encode_der(alloc, &left_out), &[]),
-        gives(form_with(alloc, &left_out), &[48, 3, 1, 1, 255]),
-        gives(form_with(alloc, &given), &[48, 6, 2, 1, 10, 1, 1, 255]),
+        gives(form_of_left_out(alloc), &[48, 3, 1, 1, 255]),
+        gives(form_of_given(alloc), &[48, 6, 2, 1, 10, 1, 1, 255]),
     ]
 }
 
