@@ -31,94 +31,99 @@ const BLOCK: u64 = 100_000;
 // up to a billion inputs share no seed where theirs lie within 2^32.
 const STRIDE: u64 = 0x9e37_79b9_7f4a_7c15;
 
-// Calls of which all of this holds.
-static PLAIN: [&str; 67] = [
-    "bool",
-    "null",
-    "enum",
-    "i64",
-    "i32",
-    "i16",
-    "i8",
-    "u64",
-    "u32",
-    "u16",
-    "u8",
-    "bigint",
-    "bytes",
-    "utf8",
-    "numeric",
-    "printable",
-    "ia5",
-    "visible",
-    "oid",
-    "utctime",
-    "gtime",
-    "seq_ib",
-    "seq_i",
-    "seq_sb",
-    "seq_empty",
-    "seq_opt",
-    "seq_def",
-    "seq_opts",
-    "seqof_i64",
-    "seqof_choice",
-    "tag3_i64",
-    "tag31_null",
-    "itag3_i64",
-    "itag3_bytes",
-    "itag3_utf8",
-    "itag31_seq",
-    "itag3_tag4",
-    "itag3_itag4",
-    "rec",
-    "nest2",
-    "d:null",
-    "d:bool",
-    "d:int",
-    "d:i32",
-    "d:i16",
-    "d:u64",
-    "d:u32",
-    "d:u16",
-    "d:pair",
-    "d:pairs",
-    "d:deep",
-    "d:octets",
-    "d:text",
-    "d:oid",
-    "d:utime",
-    "d:gtime",
-    "d:named",
-    "d:ints",
-    "d:vvi",
-    "d:vbytes",
-    "d:vtext",
-    "d:vpair",
-    "d:t1n",
-    "d:t3",
-    "tup1",
-    "tup3",
-    "tup12",
-];
-
-// Calls whose value shows bits or bytes that are written otherwise.
-static SHOWING: [&str; 5] = ["bits", "itag3_bits", "buf", "buf2", "buf3"];
-
-// Calls that take two forms for one value in DER.
-static LENIENT: [&str; 1] = ["bmp"];
-
-// Calls on raw elements.
-static RAW: [&str; 4] = ["der", "tdv", "d:tdv", "d:vtdv"];
-
 // What holds of a call.
-#[derive(Clone, Copy, PartialEq)]
+#[derive(Clone, Copy)]
 enum Kind {
+    // All of this.
     Plain,
+    // Its value shows bits or bytes that are written otherwise.
     Showing,
+    // It takes two forms for one value in DER.
     Lenient,
+    // It reads raw elements.
     Raw,
 }
+
+// The calls, and what holds of each.
+static CALLS: [(&str, Kind); 77] = [
+    ("bool", Kind::Plain),
+    ("null", Kind::Plain),
+    ("enum", Kind::Plain),
+    ("i64", Kind::Plain),
+    ("i32", Kind::Plain),
+    ("i16", Kind::Plain),
+    ("i8", Kind::Plain),
+    ("u64", Kind::Plain),
+    ("u32", Kind::Plain),
+    ("u16", Kind::Plain),
+    ("u8", Kind::Plain),
+    ("bigint", Kind::Plain),
+    ("bytes", Kind::Plain),
+    ("utf8", Kind::Plain),
+    ("numeric", Kind::Plain),
+    ("printable", Kind::Plain),
+    ("ia5", Kind::Plain),
+    ("visible", Kind::Plain),
+    ("oid", Kind::Plain),
+    ("utctime", Kind::Plain),
+    ("gtime", Kind::Plain),
+    ("seq_ib", Kind::Plain),
+    ("seq_i", Kind::Plain),
+    ("seq_sb", Kind::Plain),
+    ("seq_empty", Kind::Plain),
+    ("seq_opt", Kind::Plain),
+    ("seq_def", Kind::Plain),
+    ("seq_opts", Kind::Plain),
+    ("seqof_i64", Kind::Plain),
+    ("seqof_choice", Kind::Plain),
+    ("tag3_i64", Kind::Plain),
+    ("tag31_null", Kind::Plain),
+    ("itag3_i64", Kind::Plain),
+    ("itag3_bytes", Kind::Plain),
+    ("itag3_utf8", Kind::Plain),
+    ("itag31_seq", Kind::Plain),
+    ("itag3_tag4", Kind::Plain),
+    ("itag3_itag4", Kind::Plain),
+    ("rec", Kind::Plain),
+    ("nest2", Kind::Plain),
+    ("d:null", Kind::Plain),
+    ("d:bool", Kind::Plain),
+    ("d:int", Kind::Plain),
+    ("d:i32", Kind::Plain),
+    ("d:i16", Kind::Plain),
+    ("d:u64", Kind::Plain),
+    ("d:u32", Kind::Plain),
+    ("d:u16", Kind::Plain),
+    ("d:pair", Kind::Plain),
+    ("d:pairs", Kind::Plain),
+    ("d:deep", Kind::Plain),
+    ("d:octets", Kind::Plain),
+    ("d:text", Kind::Plain),
+    ("d:oid", Kind::Plain),
+    ("d:utime", Kind::Plain),
+    ("d:gtime", Kind::Plain),
+    ("d:named", Kind::Plain),
+    ("d:ints", Kind::Plain),
+    ("d:vvi", Kind::Plain),
+    ("d:vbytes", Kind::Plain),
+    ("d:vtext", Kind::Plain),
+    ("d:vpair", Kind::Plain),
+    ("d:t1n", Kind::Plain),
+    ("d:t3", Kind::Plain),
+    ("tup1", Kind::Plain),
+    ("tup3", Kind::Plain),
+    ("tup12", Kind::Plain),
+    ("bits", Kind::Showing),
+    ("itag3_bits", Kind::Showing),
+    ("buf", Kind::Showing),
+    ("buf2", Kind::Showing),
+    ("buf3", Kind::Showing),
+    ("bmp", Kind::Lenient),
+    ("der", Kind::Raw),
+    ("tdv", Kind::Raw),
+    ("d:tdv", Kind::Raw),
+    ("d:vtdv", Kind::Raw),
+];
 
 // How many inputs were tried, how many values were read, and how many calls failed.
 #[derive(Clone, Copy)]
@@ -151,7 +156,7 @@ pub fn check_random(
         check_input(rt, alloc, &vectors, seed, &mut tally)?;
     }
     tally.print(rt)?;
-    Ok(tally.verdict())
+    Ok(Verdict::of(tally.failed))
 }
 
 impl Tally {
@@ -161,15 +166,6 @@ impl Tally {
         let accepted = self.accepted;
         let failed = self.failed;
         println!(rt; "{inputs} inputs, {accepted} values, {failed} failed")
-    }
-
-    // What it came to.
-    fn verdict(self) -> Verdict {
-        if self.failed == 0 {
-            Verdict::Right
-        } else {
-            Verdict::Wrong
-        }
     }
 }
 
@@ -200,18 +196,10 @@ fn check_calls(
     bytes: &str,
     tally: &mut Tally,
 ) -> io::Result<()> {
-    let kinds: [(Kind, &[&str]); 4] = [
-        (Kind::Plain, &PLAIN),
-        (Kind::Showing, &SHOWING),
-        (Kind::Lenient, &LENIENT),
-        (Kind::Raw, &RAW),
-    ];
-    for (kind, calls) in kinds {
-        for call in calls {
-            if let Some(fault) = fault(alloc, kind, call, bytes, &mut tally.accepted)? {
-                tally.failed = tally.failed.saturating_add(1);
-                println!(rt; "seed {seed}: {call} {bytes}: {fault}")?;
-            }
+    for (call, kind) in &CALLS {
+        if let Some(fault) = fault(alloc, *kind, call, bytes, &mut tally.accepted)? {
+            tally.failed = tally.failed.saturating_add(1);
+            println!(rt; "seed {seed}: {call} {bytes}: {fault}")?;
         }
     }
     Ok(())
@@ -225,61 +213,68 @@ fn fault(
     bytes: &str,
     accepted: &mut u64,
 ) -> Result<Option<&'static str>, AllocError> {
-    let ber = answered(alloc, BERMode::Ber, call, bytes)?;
-    let der = answered(alloc, BERMode::Der, call, bytes)?;
-    let cer = answered(alloc, BERMode::Cer, call, bytes)?;
-    let answers = Answers {
-        ber: ber.as_str(),
-        der: der.as_str(),
-        cer: cer.as_str(),
-    };
-    if let Some(fault) = fault_among(kind, bytes, answers, accepted) {
+    let answers = Answers::of(alloc, call, bytes)?;
+    if let Some(fault) = answers.fault(kind, bytes, accepted) {
         return Ok(Some(fault));
     }
-    match form_of(ber.as_str()) {
-        Some(form) => form_fault(alloc, kind, call, ber.as_str(), form),
+    let ber = answers.ber.as_str();
+    match form_of(ber) {
+        Some(form) => form_fault(alloc, kind, call, ber, form),
         None => Ok(None),
     }
 }
 
 // What a call answers on the same bytes in each mode.
-#[derive(Clone, Copy)]
-struct Answers<'a> {
-    ber: &'a str,
-    der: &'a str,
-    cer: &'a str,
+#[derive(Drop)]
+struct Answers {
+    ber: String,
+    der: String,
+    cer: String,
 }
 
-// What is wrong among them.
-fn fault_among(
-    kind: Kind,
-    bytes: &str,
-    answers: Answers<'_>,
-    accepted: &mut u64,
-) -> Option<&'static str> {
-    if is_none(answers.ber) || is_none(answers.der) || is_none(answers.cer) {
-        return Some("an answer that is none");
+impl Answers {
+    // What the call of this name answers.
+    fn of(alloc: Global, call: &str, bytes: &str) -> Result<Answers, AllocError> {
+        Ok(Answers {
+            ber: answered(alloc, BERMode::Ber, call, bytes)?,
+            der: answered(alloc, BERMode::Der, call, bytes)?,
+            cer: answered(alloc, BERMode::Cer, call, bytes)?,
+        })
     }
-    count_accepted(answers.ber, accepted);
-    count_accepted(answers.der, accepted);
-    count_accepted(answers.cer, accepted);
-    if let Some(form) = form_of(answers.der) {
-        if answers.ber != answers.der {
+
+    // What is wrong among them.
+    fn fault(&self, kind: Kind, bytes: &str, accepted: &mut u64) -> Option<&'static str> {
+        let ber = self.ber.as_str();
+        let der = self.der.as_str();
+        let cer = self.cer.as_str();
+        if is_none(ber) || is_none(der) || is_none(cer) {
+            return Some("an answer that is none");
+        }
+        count_accepted(ber, accepted);
+        count_accepted(der, accepted);
+        count_accepted(cer, accepted);
+        if form_of(der).is_some() && ber != der {
             return Some("BER answers otherwise than DER");
         }
-        if kind != Kind::Lenient && form != bytes {
+        if is_other_form(kind, der, bytes) {
             return Some("DER took what is not the form");
         }
-    }
-    if let Some(form) = form_of(answers.cer) {
-        if value_of(answers.ber) != value_of(answers.cer) {
+        if form_of(cer).is_some() && value_of(ber) != value_of(cer) {
             return Some("BER answers otherwise than CER");
         }
-        if kind != Kind::Lenient && form != bytes {
+        if is_other_form(kind, cer, bytes) {
             return Some("CER took what is not the form");
         }
+        None
     }
-    None
+}
+
+// Whether an answer shows another form than these bytes, where it may not.
+fn is_other_form(kind: Kind, answer: &str, bytes: &str) -> bool {
+    match (kind, form_of(answer)) {
+        (Kind::Lenient, _) | (_, None) => false,
+        (_, Some(form)) => form != bytes,
+    }
 }
 
 // Counts an answer that shows a value.
@@ -302,7 +297,7 @@ fn form_fault(
         return Ok(Some("BER reads the form as another value"));
     }
     let again = answered(alloc, BERMode::Der, call, form)?;
-    if kind != Kind::Raw && !agree(kind, ber, again.as_str()) {
+    if !matches!(kind, Kind::Raw) && !agree(kind, ber, again.as_str()) {
         return Ok(Some("DER reads the form as another value"));
     }
     Ok(None)

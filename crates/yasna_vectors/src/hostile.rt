@@ -16,10 +16,9 @@ use crate::answer::answer;
 use crate::line::{Case, Line};
 use crate::run::{Report, Verdict};
 use std::alloc::{AllocError, Global};
-use yasna::BERMode;
 
 /// What becomes of a vector.
-#[derive(Clone, Copy, PartialEq)]
+#[derive(Clone, Copy)]
 pub enum Group {
     /// It is cut at each place.
     Cut,
@@ -81,12 +80,10 @@ fn report(group: Group, tally: Tally) -> Result<Report, AllocError> {
         Group::Length => "changed lengths",
     };
     writeln!(text, "{tried} {name}, {failed} failed")?;
-    let verdict = if failed == 0 {
-        Verdict::Right
-    } else {
-        Verdict::Wrong
-    };
-    Ok(Report { text, verdict })
+    Ok(Report {
+        text,
+        verdict: Verdict::of(failed),
+    })
 }
 
 // The case of a line that reads a byte or more and accepts them.
@@ -132,42 +129,72 @@ fn answers(alloc: Global, case: &Case, beginning: &str) -> Result<bool, AllocErr
     }
 }
 
+// A change of the first byte of a length.
+#[derive(Clone, Copy)]
+struct Change {
+    // the mode in which it is made; in each where there is none
+    mode: Option<&'static str>,
+    // what stands there, where it matters
+    from: &'static str,
+    to: &'static str,
+    wanted: &'static str,
+}
+
+// These changes: none is made where the byte stands there.
+static CHANGES: [Change; 5] = [
+    Change {
+        mode: None,
+        from: "",
+        to: "ff",
+        wanted: "err Invalid",
+    },
+    Change {
+        mode: None,
+        from: "",
+        to: "fe",
+        wanted: "err Eof",
+    },
+    Change {
+        mode: Some("der"),
+        from: "",
+        to: "80",
+        wanted: "err Invalid",
+    },
+    Change {
+        mode: Some("cer"),
+        from: "",
+        to: "80",
+        wanted: "err Invalid",
+    },
+    Change {
+        mode: Some("cer"),
+        from: "80",
+        to: "00",
+        wanted: "err Invalid",
+    },
+];
+
 // Checks a case's bytes with other first bytes of their length.
 fn check_lengths(alloc: Global, case: &Case, tally: &mut Tally) -> Result<(), AllocError> {
-    check_length(alloc, case, "ff", "err Invalid", tally)?;
-    check_length(alloc, case, "fe", "err Eof", tally)?;
-    match case.mode {
-        Some(BERMode::Der) => check_length(alloc, case, "80", "err Invalid", tally),
-        Some(BERMode::Cer) => check_form(alloc, case, tally),
-        Some(BERMode::Ber) | None => Ok(()),
-    }
-}
-
-// Checks them with the first byte of the other form, in CER.
-fn check_form(alloc: Global, case: &Case, tally: &mut Tally) -> Result<(), AllocError> {
-    let (_, length) = at_length(case.arg);
-    if length.starts_with("80") {
-        check_length(alloc, case, "00", "err Invalid", tally)
-    } else {
-        check_length(alloc, case, "80", "err Invalid", tally)
-    }
-}
-
-// Checks them with this first byte, unless it stands there.
-fn check_length(
-    alloc: Global,
-    case: &Case,
-    byte: &str,
-    wanted: &str,
-    tally: &mut Tally,
-) -> Result<(), AllocError> {
     let (identifier, length) = at_length(case.arg);
-    if length.starts_with(byte) {
-        return Ok(());
-    }
     let others = length.get(2..).unwrap_or("");
-    let changed = format!(in alloc; "{identifier}{byte}{others}")?;
-    check(alloc, case, &changed, wanted, tally)
+    for change in &CHANGES {
+        if change.fits(case.mode_name(), length) {
+            let to = change.to;
+            let changed = format!(in alloc; "{identifier}{to}{others}")?;
+            check(alloc, case, &changed, change.wanted, tally)?;
+        }
+    }
+    Ok(())
+}
+
+impl Change {
+    // Whether it is made in this mode of a length that begins so.
+    fn fits(self, mode: &str, length: &str) -> bool {
+        self.mode.unwrap_or(mode) == mode
+            && length.starts_with(self.from)
+            && !length.starts_with(self.to)
+    }
 }
 
 // The first identifier of a text in hexadecimal, and what stands behind it.
@@ -177,15 +204,14 @@ fn at_length(text: &str) -> (&str, &str) {
 }
 
 // Whether the first two hexadecimal digits end in five bits that are set: the number stands in the bytes behind (X.690, 8.1.2.4).
-fn is_long(text: &[u8]) -> bool {
-    let odd = [b'1', b'3', b'5', b'7', b'9', b'b', b'd', b'f'];
-    text.first().is_some_and(|digit| odd.contains(digit)) && text.get(1) == Some(&b'f')
+fn is_long(text: &str) -> bool {
+    text.starts_with(['1', '3', '5', '7', '9', 'b', 'd', 'f']) && text.get(1..2) == Some("f")
 }
 
 // How many hexadecimal digits the first identifier of a text has (X.690, 8.1.2): two, and in the long form those of each
 // byte from 128 on behind, and of the one that follows these.
 fn identifier_digits(text: &str) -> usize {
-    if !is_long(text.as_bytes()) {
+    if !is_long(text) {
         return 2;
     }
     let mut digits = 4usize;

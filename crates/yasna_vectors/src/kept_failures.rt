@@ -20,11 +20,10 @@
 //! The answer is `err KIND` only where each call answered that kind, from the innermost to the parse.
 
 use crate::answer::{Answer, refused};
-use crate::line::Case;
 use crate::reading::kind_of;
 use std::alloc::{AllocError, Global};
 use yasna::{
-    ASN1Error, ASN1ErrorKind, ASN1Result, BERReader, BERReaderSeq, Tag, parse_ber_general,
+    ASN1Error, ASN1ErrorKind, ASN1Result, BERMode, BERReader, BERReaderSeq, Tag, parse_ber_general,
 };
 
 // A call that takes a callback.
@@ -41,30 +40,38 @@ enum Call {
     Default,
 }
 
+// The calls by their names.
+static CALLS: [(&str, Call); 9] = [
+    ("seq", Call::Sequence),
+    ("seqof", Call::SequenceOf),
+    ("collect", Call::Collect),
+    ("tag", Call::Tagged),
+    ("itag", Call::TaggedImplicit),
+    ("buf", Call::Buffer),
+    ("seqbuf", Call::PartsBuffer),
+    ("opt", Call::Optional),
+    ("def", Call::Default),
+];
+
 impl Call {
     // The call of this name.
     fn named(name: &str) -> Option<Call> {
-        Some(match name {
-            "seq" => Call::Sequence,
-            "seqof" => Call::SequenceOf,
-            "collect" => Call::Collect,
-            "tag" => Call::Tagged,
-            "itag" => Call::TaggedImplicit,
-            "buf" => Call::Buffer,
-            "seqbuf" => Call::PartsBuffer,
-            "opt" => Call::Optional,
-            "def" => Call::Default,
-            _ => return None,
-        })
+        for (word, call) in &CALLS {
+            if *word == name {
+                return Some(*call);
+            }
+        }
+        None
     }
 }
 
-// What the calls answered so far.
+// What the calls answered so far, and what a callback answers.
 #[derive(Clone, Copy)]
 struct Answers {
     first: Option<ASN1ErrorKind>,
     // whether one behind the first refusal answered anything else
     others: bool,
+    replaces: bool,
 }
 
 impl Answers {
@@ -75,9 +82,18 @@ impl Answers {
             Some(_) => self.others = self.others || refusal != self.first,
         }
     }
+
+    // What a callback answers that throws away this refusal, or an answer that was none.
+    fn discard(&mut self, refusal: Option<ASN1ErrorKind>) -> ASN1Result<i64> {
+        self.note(refusal);
+        if self.replaces {
+            return Err(ASN1Error::new(ASN1ErrorKind::Extra));
+        }
+        Ok(10)
+    }
 }
 
-// What a callback reads, and what it makes of the answer.
+// What a callback reads.
 trait Body: Copy {
     // Makes the calls.
     fn read(self, reader: BERReader, answers: &mut Answers) -> ASN1Result<i64>;
@@ -93,62 +109,26 @@ impl Body for Integer {
     }
 }
 
-// A callback that throws away what it was answered.
-#[derive(Clone, Copy)]
-struct Callback<B> {
-    body: B,
-    replaces: bool,
+// What a callback answers that throws away what it reads.
+fn throw_away<B: Body>(body: B, reader: BERReader, answers: &mut Answers) -> ASN1Result<i64> {
+    let discarded = kind_of(body.read(reader, answers));
+    answers.discard(discarded)
 }
 
-impl<B: Body> Callback<B> {
-    // What the callback answers where it throws away this refusal, or an answer that was none.
-    fn answer(self, discarded: Option<ASN1ErrorKind>, answers: &mut Answers) -> ASN1Result<i64> {
-        answers.note(discarded);
-        if self.replaces {
-            return Err(ASN1Error::new(ASN1ErrorKind::Extra));
-        }
-        Ok(10)
-    }
-
-    // What the callback answers on a reader.
-    fn read(self, reader: BERReader, answers: &mut Answers) -> ASN1Result<i64> {
-        let discarded = kind_of(self.body.read(reader, answers));
-        self.answer(discarded, answers)
-    }
-
-    // The same on the parts of a sequence, where the call may stand around one of them.
-    fn read_parts(
-        self,
-        call: Call,
-        seq: &mut BERReaderSeq,
-        answers: &mut Answers,
-    ) -> ASN1Result<i64> {
-        let discarded = match call {
-            Call::Optional => kind_of(seq.read_optional(|part| self.read(part, answers))),
-            Call::Default => kind_of(seq.read_default(10, |part| self.read(part, answers))),
-            Call::PartsBuffer => {
-                kind_of(seq.read_with_buffer(|parts| self.read(parts.next(), answers)))
-            }
-            _ => return self.read(seq.next(), answers),
-        };
-        self.answer(discarded, answers)
-    }
-}
-
-// A call whose callback throws away what it was answered.
+// A call whose callback throws away what it reads.
 #[derive(Clone, Copy)]
 struct Around<B> {
     call: Call,
-    callback: Callback<B>,
+    body: B,
 }
 
 impl<B: Body> Body for Around<B> {
     fn read(self, reader: BERReader, answers: &mut Answers) -> ASN1Result<i64> {
-        let callback = self.callback;
+        let body = self.body;
         match self.call {
             Call::SequenceOf => {
                 reader.read_sequence_of(|item| {
-                    callback.read(item, answers)?;
+                    throw_away(body, item, answers)?;
                     Ok(())
                 })?;
                 Ok(10)
@@ -156,7 +136,7 @@ impl<B: Body> Body for Around<B> {
             Call::Collect | Call::Tagged | Call::TaggedImplicit | Call::Buffer => {
                 self.read_within(reader, answers)
             }
-            _ => reader.read_sequence(|seq| callback.read_parts(self.call, seq, answers)),
+            _ => reader.read_sequence(|seq| self.read_parts(seq, answers)),
         }
     }
 }
@@ -164,9 +144,10 @@ impl<B: Body> Body for Around<B> {
 impl<B: Body> Around<B> {
     // A call whose callback answers what it makes of the reader within.
     fn read_within(self, reader: BERReader, answers: &mut Answers) -> ASN1Result<i64> {
+        let Around { call, body } = self;
         let tag = Tag::context(3);
-        let read = |inner: BERReader| self.callback.read(inner, answers);
-        match self.call {
+        let read = |inner: BERReader| throw_away(body, inner, answers);
+        match call {
             Call::Tagged => reader.read_tagged(tag, read),
             Call::TaggedImplicit => reader.read_tagged_implicit(tag, read),
             Call::Buffer => Ok(reader.read_with_buffer(read)?.0),
@@ -176,72 +157,79 @@ impl<B: Body> Around<B> {
             }
         }
     }
+
+    // The parts of a sequence, where the call may stand around one of them.
+    fn read_parts(self, seq: &mut BERReaderSeq, answers: &mut Answers) -> ASN1Result<i64> {
+        let body = self.body;
+        let discarded = match self.call {
+            Call::Optional => kind_of(seq.read_optional(|part| throw_away(body, part, answers))),
+            Call::Default => {
+                kind_of(seq.read_default(10, |part| throw_away(body, part, answers)))
+            }
+            Call::PartsBuffer => {
+                kind_of(seq.read_with_buffer(|parts| throw_away(body, parts.next(), answers)))
+            }
+            _ => return throw_away(body, seq.next(), answers),
+        };
+        answers.discard(discarded)
+    }
 }
 
-/// What a call of this family answers.
-pub fn answer(alloc: Global, case: &Case) -> Answer {
-    let (name, calls) = case.call.split_once(':')?;
-    let replaces = match name {
-        "drop" => false,
-        "replace" => true,
-        _ => return None,
+/// What a call of this family answers on these bytes.
+pub fn answer(alloc: Global, mode: BERMode, call: &str, bytes: &[u8]) -> Answer {
+    let (name, calls) = call.split_once(':')?;
+    let parse = Parse {
+        alloc,
+        mode,
+        replaces: match name {
+            "drop" => false,
+            "replace" => true,
+            _ => return None,
+        },
     };
     if calls == "parse" {
-        return parsed(alloc, case, Integer, replaces);
+        return Some(parse.answer(bytes, Integer));
     }
     match calls.split_once('.') {
         Some((outer, inner)) => {
-            parsed_within(
-                alloc,
-                case,
-                Call::named(outer)?,
-                Call::named(inner)?,
-                replaces,
-            )
+            let body = enclosing(inner, Integer)?;
+            Some(parse.answer(bytes, enclosing(outer, body)?))
         }
-        None => parsed(
-            alloc,
-            case,
-            enclosing(Call::named(calls)?, Integer, replaces),
-            replaces,
-        ),
+        None => Some(parse.answer(bytes, enclosing(calls, Integer)?)),
     }
 }
 
-// What a parse answers whose callback is a call, around another one.
-fn parsed_within(alloc: Global, case: &Case, outer: Call, inner: Call, replaces: bool) -> Answer {
-    let body = enclosing(outer, enclosing(inner, Integer, replaces), replaces);
-    parsed(alloc, case, body, replaces)
+// The call of this name, whose callback reads this.
+fn enclosing<B: Body>(name: &str, body: B) -> Option<Around<B>> {
+    let call = Call::named(name)?;
+    Some(Around { call, body })
 }
 
-// This call, whose callback reads this.
-fn enclosing<B: Body>(call: Call, body: B, replaces: bool) -> Around<B> {
-    Around {
-        call,
-        callback: Callback { body, replaces },
+// How a parse is made.
+#[derive(Clone, Copy)]
+struct Parse {
+    alloc: Global,
+    mode: BERMode,
+    replaces: bool,
+}
+
+impl Parse {
+    // What a parse answers whose callback throws away what it reads.
+    fn answer<B: Body>(self, bytes: &[u8], body: B) -> Result<String, AllocError> {
+        let mut answers = Answers {
+            first: None,
+            others: false,
+            replaces: self.replaces,
+        };
+        let whole = parse_ber_general(
+            self.alloc,
+            bytes,
+            self.mode,
+            |reader| throw_away(body, reader, &mut answers),
+        );
+        answers.note(kind_of(whole));
+        shown(self.alloc, answers)
     }
-}
-
-// What a parse answers whose callback reads this.
-fn parsed<B: Body>(alloc: Global, case: &Case, body: B, replaces: bool) -> Answer {
-    let callback = Callback { body, replaces };
-    let mode = case.mode?;
-    let bytes = match case.bytes(alloc)? {
-        Ok(bytes) => bytes,
-        Err(lack) => return Some(Err(lack)),
-    };
-    let mut answers = Answers {
-        first: None,
-        others: false,
-    };
-    let whole = parse_ber_general(
-        alloc,
-        &bytes,
-        mode,
-        |reader| callback.read(reader, &mut answers),
-    );
-    answers.note(kind_of(whole));
-    Some(shown(alloc, answers))
 }
 
 // The answer of calls, where each answered the first refusal.

@@ -8,84 +8,68 @@
 //!
 //! The answer shows how many bytes were written and the first 16 of these.
 
-use crate::answer::{Answer, refused, show_bytes};
-use crate::line::Case;
+use crate::answer::{refused, show_bytes, show_display};
+use crate::nest::{Inner, write_within};
 use std::alloc::{AllocError, Global};
-use yasna::{ASN1Result, construct_der, parse_der};
+use yasna::{ASN1Result, BERReader, BERReaderSeq, construct_der, parse_der};
 
-/// What a call of this family answers.
-pub fn answer(alloc: Global, case: &Case) -> Answer {
-    let call = case.call;
-    if call != "w:seqbigint" && call != "w:seqlen" && call != "w:seqseqlen" {
-        return None;
+/// What the call of this name answers, on so many bytes.
+pub fn answer(alloc: Global, name: &str, count: usize) -> Result<String, AllocError> {
+    match name {
+        "seqbigint" => {
+            let number = vec![in alloc; 1u8; count]?;
+            long_answer(alloc, &number)
+        }
+        _ => {
+            let octets = vec![in alloc; 91u8; count]?;
+            let depth = if name == "seqlen" { 1 } else { 2 };
+            match form_of(alloc, depth, Inner::Octets(&octets)) {
+                Ok(form) => size_and_front(alloc, &form),
+                Err(error) => refused(alloc, error.kind()),
+            }
+        }
     }
-    let count = case.arg.parse().ok()?;
-    Some(match call {
-        "w:seqbigint" => long_answer(alloc, count),
-        _ => octets_answer(alloc, count, call == "w:seqseqlen"),
-    })
 }
 
-// What so many bytes 5b are written as, in a SEQUENCE or in two.
-fn octets_answer(alloc: Global, count: usize, twice: bool) -> Result<String, AllocError> {
-    let octets = vec![in alloc; 91u8; count]?;
-    let form = construct_der(
-        alloc,
-        |writer| writer.write_sequence(|seq| {
-            if twice {
-                seq.next()
-                    .write_sequence(|inner| inner.next().write_bytes(&octets))
-            } else {
-                seq.next().write_bytes(&octets)
-            }
-        }),
-    );
-    match form {
-        Ok(form) => size_and_front(alloc, &form),
-        Err(error) => refused(alloc, error.kind()),
-    }
+// What is written of this in so many SEQUENCEs.
+fn form_of(alloc: Global, depth: u8, inner: Inner<'_>) -> ASN1Result<Vec<u8>> {
+    construct_der(alloc, |writer| write_within(writer, depth, inner))
 }
 
 // How many bytes there are, and the first 16.
 fn size_and_front(alloc: Global, form: &[u8]) -> Result<String, AllocError> {
-    let length = form.len();
-    let mut text = format!(in alloc; "ok {length} ")?;
+    let mut text = String::from_str(alloc, "ok ")?;
+    show_display(&form.len(), &mut text)?;
+    text.push(' ')?;
     show_bytes(form.get(..16).unwrap_or(form), &mut text)?;
     Ok(text)
 }
 
-// What a number of so many bytes is written as.
-fn long_answer(alloc: Global, count: usize) -> Result<String, AllocError> {
-    let number = vec![in alloc; 1u8; count]?;
-    let form = match long_form(alloc, &number) {
+// What a number of these contents is written as.
+fn long_answer(alloc: Global, number: &[u8]) -> Result<String, AllocError> {
+    let form = match form_of(alloc, 1, Inner::BigInteger(number)) {
         Ok(form) => form,
         Err(error) => return refused(alloc, error.kind()),
     };
-    let mut text = size_and_front(alloc, &form)?;
-    match is_read_back(alloc, &form, &number) {
-        Ok(true) => Ok(text),
-        Ok(false) => {
-            text.push_str(" and read back as another number")?;
-            Ok(text)
-        }
+    match is_read_back(alloc, &form, number) {
+        Ok(true) => size_and_front(alloc, &form),
+        Ok(false) => String::from_str(alloc, "read back as another number"),
         Err(error) => refused(alloc, error.kind()),
     }
 }
 
-// The bytes of a SEQUENCE of this number.
-fn long_form(alloc: Global, number: &[u8]) -> ASN1Result<Vec<u8>> {
-    construct_der(
-        alloc,
-        |writer| writer.write_sequence(|seq| seq.next().write_bigint_bytes(number, true)),
-    )
-}
-
 // Whether these bytes end in the number, and are read as it.
 fn is_read_back(alloc: Global, form: &[u8], number: &[u8]) -> ASN1Result<bool> {
-    let (contents, positive) = parse_der(
-        alloc,
-        form,
-        |reader| reader.read_sequence(|seq| seq.next().read_bigint_bytes()),
-    )?;
+    let (contents, positive) = parse_der(alloc, form, read_number)?;
     Ok(positive && contents.as_slice() == number && form.ends_with(number))
+}
+
+// Reads a SEQUENCE of an INTEGER.
+fn read_number(reader: BERReader) -> ASN1Result<(Vec<u8>, bool)> {
+    reader.read_sequence(read_contents)
+}
+
+// Reads an INTEGER, the next part.
+fn read_contents(seq: &mut BERReaderSeq) -> ASN1Result<(Vec<u8>, bool)> {
+    seq.next().read_bigint_bytes()
 }

@@ -90,15 +90,7 @@ impl<'a> Case<'a> {
         }
         let mut bytes = Vec::new(alloc);
         for piece in self.arg.split('+') {
-            let (text, times) = match piece.split_once('*') {
-                Some((text, times)) => (text, times.parse().ok()?),
-                None => (piece, 1),
-            };
-            let appended = match bytes_of(alloc, text)? {
-                Ok(piece) => append(&mut bytes, &piece, times),
-                Err(lack) => Err(lack),
-            };
-            if let Err(lack) = appended {
+            if let Err(lack) = append(&mut bytes, piece)? {
                 return Some(Err(lack));
             }
         }
@@ -106,8 +98,20 @@ impl<'a> Case<'a> {
     }
 }
 
-// Appends a piece so many times.
-fn append(bytes: &mut Vec<u8>, piece: &[u8], times: u64) -> Result<(), AllocError> {
+// Appends a piece as often as it stands, if it is one.
+fn append(bytes: &mut Vec<u8>, piece: &str) -> Option<Result<(), AllocError>> {
+    let (text, times) = match piece.split_once('*') {
+        Some((text, times)) => (text, times.parse().ok()?),
+        None => (piece, 1),
+    };
+    match bytes_of(*bytes.allocator(), text)? {
+        Ok(piece) => Some(append_times(bytes, &piece, times)),
+        Err(lack) => Some(Err(lack)),
+    }
+}
+
+// Appends bytes so many times.
+fn append_times(bytes: &mut Vec<u8>, piece: &[u8], times: u64) -> Result<(), AllocError> {
     for _ in 0..times {
         bytes.extend_from_slice(piece)?;
     }

@@ -28,57 +28,50 @@
 //! | `hostile` | their bytes, cut and with other lengths |
 //! | `memory` | lines of which a request for memory is refused |
 //! | `fuzz`, `mutation`, `random` | calls on random input, and how it is made |
-//! | `answer` | answers as text, and the list of families |
-//! | `reading` | how a call of a family that reads is made |
-//! | `parts` | what the families that read parts read, how it is shown and written |
-//! | `primitive`, `strings`, `oid`, `times`, `sequence`, `optional`, `list`, `tagged`, `nest`, `recursion`, `raw`, `set_of`, `set`, `set_optional`, `discarding` | the families that read |
-//! | `set_any` | sets of any elements |
+//! | `answer` | answers as text, and which family answers a call |
+//! | `calls` | the calls that read, by their names |
+//! | `reads` | what such a call reads |
+//! | `reading` | how such a call is made |
+//! | `kind`, `steps` | what an element is read as that is one value, and what is read in a SEQUENCE and in a SET |
+//! | `leaf`, `parts` | what was read: values, and elements made of them |
+//! | `strings`, `nest` | classes of text, SEQUENCEs one in the other |
 //! | `tree` | elements of many types, as deep as they stand |
-//! | `buffer` | reads with the bytes that they took |
+//! | `many` | octet strings and lists of any length |
 //! | `kept_failures` | failures that callbacks throw away, call in call |
 //! | `whole` | types that are read and written as a whole |
-//! | `composed` | lists and tuples that are |
 //! | `writing`, `length` | calls that write |
 //! | `refusing_closures` | writes whose closures refuse, call in call |
-//! | `segments` | octet strings of any length |
+//! | `oid`, `times` | object identifiers and times from texts |
 //! | `tag`, `refusal`, `mode` | tags, the texts of refusals, the mode that a callback sees |
+//! | `forms` | parses and writes by the mode |
 #![tactic(auto)]
 
 mod answer;
-mod buffer;
-mod composed;
-mod discarding;
+mod calls;
 mod forms;
 mod fuzz;
 mod hostile;
 mod kept_failures;
+mod kind;
+mod leaf;
 mod length;
 mod line;
-mod list;
+mod many;
 mod memory;
 mod mode;
 mod mutation;
 mod nest;
 mod oid;
-mod optional;
 mod parts;
-mod primitive;
 mod random;
-mod raw;
 mod reading;
-mod recursion;
+mod reads;
 mod refusal;
 mod refusing_closures;
 mod run;
-mod segments;
-mod sequence;
-mod set;
-mod set_any;
-mod set_of;
-mod set_optional;
+mod steps;
 mod strings;
 mod tag;
-mod tagged;
 mod task;
 mod times;
 mod tree;

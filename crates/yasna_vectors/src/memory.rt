@@ -70,10 +70,10 @@ fn run_line(alloc: Global, line: &Line, tally: &mut Tally) -> Result<(), AllocEr
 
 // An answer without what it says of a move.
 fn unmarked(answer: &str) -> &str {
-    let unmarked = answer
-        .strip_suffix(" moved")
-        .or_else(|| answer.strip_suffix(" unmoved"));
-    unmarked.unwrap_or(answer)
+    match answer.strip_suffix(" moved") {
+        Some(unmarked) => unmarked,
+        None => answer.strip_suffix(" unmoved").unwrap_or(answer),
+    }
 }
 
 // Notes a line that answered what it isn't to.
@@ -95,10 +95,8 @@ fn report(tally: Tally) -> Result<Report, AllocError> {
     let place = tally.place;
     write!(text, "{lines} lines, {refused} refused, {silent} silent, ")?;
     writeln!(text, "{failed} failed, place {place}")?;
-    let verdict = if failed == 0 {
-        Verdict::Right
-    } else {
-        Verdict::Wrong
-    };
-    Ok(Report { text, verdict })
+    Ok(Report {
+        text,
+        verdict: Verdict::of(failed),
+    })
 }

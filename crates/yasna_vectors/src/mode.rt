@@ -6,39 +6,42 @@
 //! | `seq_mode` | the mode of the parts in read_sequence |
 //! | `general` | decode_ber_general of an `i64` |
 
-use crate::answer::{Answer, refused, written};
+use crate::answer::{Answer, refused, show_display, written};
 use crate::forms::encode_in;
-use crate::line::Case;
 use std::alloc::{AllocError, Global};
-use yasna::{ASN1Result, BERMode, decode_ber_general, parse_ber_general};
+use yasna::{ASN1Result, BERMode, BERReader, BERReaderSeq, decode_ber_general, parse_ber_general};
 
-/// What a call of this family answers.
-pub fn answer(alloc: Global, case: &Case) -> Answer {
-    let mode = case.mode?;
-    let bytes = match case.bytes(alloc)? {
-        Ok(bytes) => bytes,
-        Err(lack) => return Some(Err(lack)),
-    };
-    Some(match case.call {
-        "mode" => shown(
-            alloc,
-            parse_ber_general(alloc, &bytes, mode, |reader| Ok(reader.mode())),
-        ),
-        "seq_mode" => shown(
-            alloc,
-            parse_ber_general(
+/// What a call of this family answers on these bytes.
+pub fn answer(alloc: Global, mode: BERMode, call: &str, bytes: &[u8]) -> Answer {
+    Some(match call {
+        "mode" => shown(alloc, parse_ber_general(alloc, bytes, mode, mode_alone)),
+        "seq_mode" => shown(alloc, parse_ber_general(alloc, bytes, mode, mode_within)),
+        "general" => match decode_ber_general::<i64>(alloc, bytes, mode) {
+            Ok(number) => written(
                 alloc,
-                &bytes,
-                mode,
-                |reader| reader.read_sequence(|seq| Ok(seq.mode())),
+                &number,
+                encode_in(alloc, mode, &number),
+                show_display,
             ),
-        ),
-        "general" => match decode_ber_general::<i64>(alloc, &bytes, mode) {
-            Ok(number) => written(alloc, &number, encode_in(alloc, mode, &number)),
             Err(error) => refused(alloc, error.kind()),
         },
         _ => return None,
     })
+}
+
+// The mode of a reader.
+fn mode_alone(reader: BERReader) -> ASN1Result<BERMode> {
+    Ok(reader.mode())
+}
+
+// The mode of the parts of a SEQUENCE.
+fn mode_within(reader: BERReader) -> ASN1Result<BERMode> {
+    reader.read_sequence(mode_of_parts)
+}
+
+// The mode of parts.
+fn mode_of_parts(seq: &mut BERReaderSeq) -> ASN1Result<BERMode> {
+    Ok(seq.mode())
 }
 
 // The answer of a call that answers a mode.

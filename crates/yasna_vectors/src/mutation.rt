@@ -120,13 +120,23 @@ fn cut(random: &mut Random, mut bytes: Vec<u8>) -> Vec<u8> {
 fn with_middle(alloc: Global, random: &mut Random, bytes: &[u8]) -> Result<Vec<u8>, AllocError> {
     let place = random.below(bytes.len());
     let (front, back) = bytes.split_at_checked(place).unwrap_or((bytes, &[]));
-    let mut made = Vec::from_slice(alloc, front)?;
     if random.below(2) == 0 {
-        made.push(any_byte(random))?;
-        made.extend_from_slice(back)?;
+        joined_three(alloc, front, &[any_byte(random)], back)
     } else {
-        made.extend_from_slice(back.get(1..).unwrap_or(&[]))?;
+        joined_three(alloc, front, &[], back.get(1..).unwrap_or(&[]))
     }
+}
+
+// These bytes, one behind the other.
+fn joined_three(
+    alloc: Global,
+    front: &[u8],
+    middle: &[u8],
+    back: &[u8],
+) -> Result<Vec<u8>, AllocError> {
+    let mut made = Vec::from_slice(alloc, front)?;
+    made.extend_from_slice(middle)?;
+    made.extend_from_slice(back)?;
     Ok(made)
 }
 
@@ -146,14 +156,12 @@ fn nested(alloc: Global, random: &mut Random, bytes: &[u8]) -> Result<Vec<u8>, A
     let Ok(length) = u16::try_from(bytes.len()) else {
         return Vec::from_slice(alloc, bytes);
     };
-    let mut made = Vec::from_slice(alloc, &[around(random)])?;
+    let first = around(random);
     match length.to_be_bytes() {
-        [0, low] if low < 128 => made.push(low)?,
-        [0, low] => made.extend_from_slice(&[129, low])?,
-        [high, low] => made.extend_from_slice(&[130, high, low])?,
+        [0, low] if low < 128 => joined_three(alloc, &[first, low], bytes, &[]),
+        [0, low] => joined_three(alloc, &[first, 129, low], bytes, &[]),
+        [high, low] => joined_three(alloc, &[first, 130, high, low], bytes, &[]),
     }
-    made.extend_from_slice(bytes)?;
-    Ok(made)
 }
 
 // The bytes as the contents of an element of indefinite length.
@@ -162,8 +170,5 @@ fn nested_without_length(
     random: &mut Random,
     bytes: &[u8],
 ) -> Result<Vec<u8>, AllocError> {
-    let mut made = Vec::from_slice(alloc, &[around(random), 128])?;
-    made.extend_from_slice(bytes)?;
-    made.extend_from_slice(&[0, 0])?;
-    Ok(made)
+    joined_three(alloc, &[around(random), 128], bytes, &[0, 0])
 }

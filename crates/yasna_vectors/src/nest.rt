@@ -1,72 +1,114 @@
-//! Sequences one in the other, around an INTEGER: `nestN`, N of them.
+//! SEQUENCEs one in the other, around an INTEGER.
+//!
+//! | Read | How many | Shown |
+//! |---|---|---|
+//! | by `nestN` | N | the number |
+//! | by `rec` | as many as there are: where the next tag is that of a SEQUENCE it goes on inside, and else reads the INTEGER | the number, with a pair of brackets for each |
+ghost use Rattle.yasna.specs.reader.State.{IsFresh, part_of};
 
-use crate::answer::{Shown, Value};
-use crate::reading::Family;
+use crate::answer::show_display;
 use std::alloc::AllocError;
-use yasna::{ASN1Result, BERReader, BERReaderSeq, DERWriter, DERWriterSeq};
+use yasna::tags::TAG_SEQUENCE;
+use yasna::{ASN1Result, BERReader, DERWriter};
 
-/// How many sequences there are.
-#[derive(Clone, Copy)]
-pub struct Nest(pub u8);
-
-/// How many sequences there are, and the number within.
+/// How many SEQUENCEs there are, and the number within.
 #[derive(Clone, Copy)]
 pub struct Nested {
-    pub depth: u8,
-    pub number: i64,
+    depth: u8,
+    number: i64,
+    // how many pairs of brackets are shown
+    brackets: u8,
 }
 
-impl Family for Nest {
-    type Value = Nested;
-
-    fn named(name: &str) -> Option<Nest> {
-        let depth = name.strip_prefix("nest")?.parse().ok()?;
-        Some(Nest(depth))
-    }
-
-    fn read(self, reader: BERReader) -> ASN1Result<Nested> {
-        let number = match self.0.checked_sub(1) {
-            None => reader.read_i64()?,
-            Some(below) => reader.read_sequence(|seq| read_inner(seq, below))?,
-        };
-        Ok(Nested {
-            depth: self.0,
+impl Nested {
+    /// A number in so many SEQUENCEs, which is shown alone.
+    pub fn new(depth: u8, number: i64) -> Nested {
+        Nested {
+            depth,
             number,
-        })
-    }
-}
-
-// Reads so many sequences in the contents of one.
-fn read_inner(seq: &mut BERReaderSeq, depth: u8) -> ASN1Result<i64> {
-    match depth.checked_sub(1) {
-        None => seq.next().read_i64(),
-        Some(below) => seq.next().read_sequence(|inner| read_inner(inner, below)),
-    }
-}
-
-impl Shown for Nested {
-    fn show(&self, text: &mut String) -> Result<(), AllocError> {
-        let number = self.number;
-        write!(text, "{number}")
-    }
-}
-
-impl Value for Nested {
-    fn write(&self, writer: DERWriter<'_>) -> ASN1Result<()> {
-        let number = self.number;
-        match self.depth.checked_sub(1) {
-            None => writer.write_i64(number),
-            Some(below) => writer.write_sequence(|seq| write_inner(seq, below, number)),
+            brackets: 0,
         }
     }
+
+    /// One SEQUENCE around a number.
+    pub fn around(number: i64) -> Nested {
+        Nested {
+            depth: 1,
+            number,
+            brackets: 1,
+        }
+    }
+
+    /// Appends the number to a text.
+    pub fn show(&self, text: &mut String) -> Result<(), AllocError> {
+        for _ in 0..self.brackets {
+            text.push('(')?;
+        }
+        show_display(&self.number, text)?;
+        for _ in 0..self.brackets {
+            text.push(')')?;
+        }
+        Ok(())
+    }
+
+    /// Writes the SEQUENCEs.
+    pub fn write(&self, writer: DERWriter<'_>) -> ASN1Result<()> {
+        write_within(writer, self.depth, Inner::Number(self.number))
+    }
 }
 
-// Writes so many sequences in the contents of one.
-fn write_inner(seq: &mut DERWriterSeq, depth: u8, number: i64) -> ASN1Result<()> {
+/// Reads so many SEQUENCEs.
+pub fn read_nest(depth: u8, reader: BERReader) -> ASN1Result<Nested> {
+    let number = read_within(reader, depth)?;
+    Ok(Nested::new(depth, number))
+}
+
+// Reads the number within so many SEQUENCEs.
+fn read_within(reader: BERReader, depth: u8) -> ASN1Result<i64> {
     match depth.checked_sub(1) {
-        None => seq.next().write_i64(number),
-        Some(below) => seq
-            .next()
-            .write_sequence(|inner| write_inner(inner, below, number)),
+        None => reader.read_i64(),
+        Some(below) => reader.read_sequence(|seq| read_within(seq.next(), below)),
+    }
+}
+
+/// Reads as many SEQUENCEs as there are.
+pub fn read_nests(reader: BERReader) -> ASN1Result<Nested> {
+    if reader.lookahead_tag()? != TAG_SEQUENCE {
+        let number = reader.read_i64()?;
+        return Ok(Nested::new(0, number));
+    }
+    reader.read_sequence(
+        |seq| -> ASN1Result<Nested>
+            requires { IsFresh (part_of seq.old) }
+        {
+            let inner = read_nests(seq.next())?;
+            let depth = inner.depth.saturating_add(1);
+            Ok(Nested {
+                depth,
+                number: inner.number,
+                brackets: depth,
+            })
+        },
+    )
+}
+
+/// What stands in the innermost SEQUENCE.
+#[derive(Clone, Copy)]
+pub enum Inner<'a> {
+    Number(i64),
+    /// An INTEGER of these contents.
+    BigInteger(&'a [u8]),
+    Octets(&'a [u8]),
+}
+
+/// Writes so many SEQUENCEs around this.
+pub fn write_within(writer: DERWriter<'_>, depth: u8, inner: Inner<'_>) -> ASN1Result<()> {
+    if let Some(below) = depth.checked_sub(1) {
+        return writer.write_sequence(|seq| write_within(seq.next(), below, inner));
+    }
+    match inner {
+        Inner::Number(number) => writer.write_i64(number),
+        Inner::BigInteger(contents) => writer.write_bigint_bytes(contents, true),
+        Inner::Octets(octets) => writer.write_bytes(octets),
     }
 }

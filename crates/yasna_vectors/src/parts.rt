@@ -1,4 +1,4 @@
-//! What the families read that read parts: how it is shown, and by which calls it is written.
+//! What calls read, made of values: how it is shown, and by which calls it is written.
 //!
 //! | Read | Shown | Written |
 //! |---|---|---|
@@ -6,273 +6,332 @@
 //! | a SEQUENCE OF | `(..)` | write_sequence_of |
 //! | a SET, in the order in which its elements are asked for | `{..}` | write_set |
 //! | a SET OF | `[..]` | write_set_of |
-//! | a part under a tag | behind the tag | write_tagged, write_tagged_implicit |
-//! | an absent part | `none` | not |
+//! | what stands under a tag | behind the tag | write_tagged, write_tagged_implicit |
+//! | a part with the bytes that it took | `<..,rHEX>` | as the part |
+//! | a part that is the default, or absent | as its value, `none` | not |
 
-use crate::answer::{Shown, Value, show_between, show_bytes};
-use crate::recursion::Found;
-use crate::strings::Content;
-use std::alloc::AllocError;
-use yasna::models::TaggedDerValue;
+use crate::answer::show_bytes;
+use crate::kind::Kind;
+use crate::leaf::Leaf;
+use crate::tag::show_tag;
+use std::alloc::{AllocError, Global};
 use yasna::{ASN1Result, BERReader, DERWriter, DERWriterSeq, DERWriterSet, Tag};
 
-/// What a part holds.
-#[derive(Drop)]
-pub enum Leaf {
-    Number(i64),
-    Flag(bool),
-    Null,
-    Content(Content),
-    /// An element as it stands.
-    Raw(Vec<u8>),
-    Tagged(TaggedDerValue),
-    Nest(Found),
+/// What a part is read as: a value, or one under a tag.
+#[derive(Clone, Copy)]
+pub enum Piece {
+    Plain(Kind),
+    Explicit(Tag, Kind),
+    Implicit(Tag, Kind),
+    /// An element as it stands, under the tag that lookahead_tag answers.
+    LookedAt,
+}
+
+/// How a part stands where it was read.
+#[derive(Clone, Copy)]
+enum Frame {
+    Plain,
+    Explicit(Tag),
+    Implicit(Tag),
+    Unwritten,
 }
 
 /// A part, or an element alone.
 #[derive(Drop)]
-pub enum Part {
-    Plain(Leaf),
-    Explicit(Tag, Leaf),
-    Implicit(Tag, Leaf),
-    /// What is shown and not written, as it is the default.
-    Default(Leaf),
-    Absent,
+pub struct Part {
+    frame: Frame,
+    leaf: Leaf,
+    // the bytes that it took, where they are shown
+    taken: Option<Vec<u8>>,
 }
 
-/// Parts, one behind the other.
+/// What holds parts.
+#[derive(Clone, Copy)]
+pub enum Group {
+    Sequence,
+    SequenceOf,
+    Set,
+    SetOf,
+}
+
+/// What an element holds.
 #[derive(Drop)]
-pub enum Parts {
-    Nothing,
-    One([Part; 1]),
-    Two([Part; 2]),
-    Three([Part; 3]),
-    Four([Part; 4]),
-    Many(Vec<Part>),
+enum Contents {
+    Alone(Part),
+    Parts(Group, Vec<Part>),
 }
 
 /// What a call reads.
 #[derive(Drop)]
-pub enum Element {
-    Alone(Part),
-    Implicit(Tag, Part),
-    Sequence(Parts),
-    ImplicitSequence(Tag, Parts),
-    SequenceOf(Vec<Part>),
-    Set(Parts),
-    SetOf(Vec<Part>),
+pub struct Element {
+    // the implicit tag that it stands under, if any
+    tag: Option<Tag>,
+    contents: Contents,
 }
 
-/// An INTEGER.
-pub fn number(number: i64) -> Part {
-    Part::Plain(Leaf::Number(number))
-}
+impl Piece {
+    /// Reads such a part.
+    pub fn read(self, reader: BERReader) -> ASN1Result<Part> {
+        match self {
+            Piece::Plain(kind) => kind.read(reader).map(Part::plain),
+            Piece::Explicit(tag, kind) => {
+                let leaf = reader.read_tagged(tag, |inner| kind.read(inner))?;
+                Ok(Part::explicit(tag, leaf))
+            }
+            Piece::Implicit(tag, kind) => {
+                let leaf = reader.read_tagged_implicit(tag, |inner| kind.read(inner))?;
+                Ok(Part::implicit(tag, leaf))
+            }
+            Piece::LookedAt => {
+                let tag = reader.lookahead_tag()?;
+                let leaf = reader.read_der().map(Leaf::Raw)?;
+                Ok(Part::implicit(tag, leaf))
+            }
+        }
+    }
 
-/// A BOOLEAN.
-pub fn flag(flag: bool) -> Part {
-    Part::Plain(Leaf::Flag(flag))
-}
-
-/// An OCTET STRING.
-pub fn octets(octets: Vec<u8>) -> Leaf {
-    Leaf::Content(Content::Bytes(octets))
-}
-
-/// A SEQUENCE of an INTEGER.
-pub fn around(number: i64) -> Part {
-    Part::Plain(Leaf::Nest(Found::around(number)))
-}
-
-/// An element that holds this alone.
-pub fn alone(leaf: Leaf) -> Element {
-    Element::Alone(Part::Plain(leaf))
-}
-
-/// Reads an INTEGER.
-pub fn read_number(reader: BERReader) -> ASN1Result<Part> {
-    Ok(number(reader.read_i64()?))
-}
-
-/// Reads a BOOLEAN.
-pub fn read_flag(reader: BERReader) -> ASN1Result<Part> {
-    Ok(flag(reader.read_bool()?))
-}
-
-/// Reads an OCTET STRING.
-pub fn read_octets(reader: BERReader) -> ASN1Result<Part> {
-    Ok(Part::Plain(octets(reader.read_bytes()?)))
-}
-
-/// Reads an element as it stands.
-pub fn read_raw(reader: BERReader) -> ASN1Result<Part> {
-    Ok(Part::Plain(Leaf::Raw(reader.read_der()?)))
-}
-
-/// Reads nothing.
-pub fn read_idle(_reader: BERReader) -> ASN1Result<()> {
-    Ok(())
+    /// The part that a text is.
+    pub fn value(self, alloc: Global, text: &str) -> Option<Result<Part, AllocError>> {
+        let (frame, kind) = match self {
+            Piece::Plain(kind) => (Frame::Plain, kind),
+            Piece::Explicit(tag, kind) => (Frame::Explicit(tag), kind),
+            Piece::Implicit(tag, kind) => (Frame::Implicit(tag), kind),
+            Piece::LookedAt => return None,
+        };
+        match kind.value(alloc, text)? {
+            Ok(leaf) => Some(Ok(Part::new(frame, leaf))),
+            Err(lack) => Some(Err(lack)),
+        }
+    }
 }
 
 impl Part {
+    // The part of this value.
+    fn new(frame: Frame, leaf: Leaf) -> Part {
+        Part {
+            frame,
+            leaf,
+            taken: None,
+        }
+    }
+
+    /// A value.
+    pub fn plain(leaf: Leaf) -> Part {
+        Part::new(Frame::Plain, leaf)
+    }
+
+    /// A value under an explicit tag.
+    pub fn explicit(tag: Tag, leaf: Leaf) -> Part {
+        Part::new(Frame::Explicit(tag), leaf)
+    }
+
+    /// A value under an implicit tag.
+    pub fn implicit(tag: Tag, leaf: Leaf) -> Part {
+        Part::new(Frame::Implicit(tag), leaf)
+    }
+
+    /// A value that is shown and not written.
+    pub fn unwritten(leaf: Leaf) -> Part {
+        Part::new(Frame::Unwritten, leaf)
+    }
+
+    /// The same value under an explicit tag.
+    pub fn under_explicit(self, tag: Tag) -> Part {
+        Part::explicit(tag, self.leaf)
+    }
+
+    /// A part that isn't there.
+    pub fn absent() -> Part {
+        Part::unwritten(Leaf::Absent)
+    }
+
+    /// The same part, with the bytes that it took.
+    pub fn with_taken(self, taken: Vec<u8>) -> Part {
+        Part {
+            frame: self.frame,
+            leaf: self.leaf,
+            taken: Some(taken),
+        }
+    }
+
+    // The octets that it is, if it is an OCTET STRING.
+    fn octets(&self) -> Option<&[u8]> {
+        match &self.leaf {
+            Leaf::Bytes(octets) => Some(octets.as_slice()),
+            _ => None,
+        }
+    }
+
     // Whether it is written.
     fn is_written(&self) -> bool {
-        !matches!(self, Part::Default(_) | Part::Absent)
+        !matches!(self.frame, Frame::Unwritten)
     }
-}
 
-impl Parts {
-    /// The parts.
-    pub fn as_slice(&self) -> &[Part] {
-        match self {
-            Parts::Nothing => &[],
-            Parts::One(parts) => parts,
-            Parts::Two(parts) => parts,
-            Parts::Three(parts) => parts,
-            Parts::Four(parts) => parts,
-            Parts::Many(parts) => parts.as_slice(),
+    /// Appends it to a text.
+    pub fn show(&self, text: &mut String) -> Result<(), AllocError> {
+        let Some(taken) = &self.taken else {
+            return self.show_value(text);
+        };
+        text.push('<')?;
+        self.show_value(text)?;
+        text.push_str(",r")?;
+        show_bytes(taken, text)?;
+        text.push('>')
+    }
+
+    // Shows its value, behind its tag.
+    fn show_value(&self, text: &mut String) -> Result<(), AllocError> {
+        if let Frame::Explicit(tag) | Frame::Implicit(tag) = self.frame {
+            show_behind_tag(tag, text)?;
         }
+        self.leaf.show(text)
     }
-}
 
-impl Shown for Leaf {
-    fn show(&self, text: &mut String) -> Result<(), AllocError> {
-        match self {
-            Leaf::Number(number) => number.show(text),
-            Leaf::Flag(flag) => flag.show(text),
-            Leaf::Null => text.push_str("()"),
-            Leaf::Content(content) => content.show(text),
-            Leaf::Raw(element) => show_raw(element, text),
-            Leaf::Tagged(value) => value.show(text),
-            Leaf::Nest(found) => found.show(text),
-        }
-    }
-}
-
-impl Shown for Part {
-    fn show(&self, text: &mut String) -> Result<(), AllocError> {
-        match self {
-            Part::Plain(leaf) | Part::Default(leaf) => leaf.show(text),
-            Part::Explicit(tag, leaf) | Part::Implicit(tag, leaf) => show_under(*tag, leaf, text),
-            Part::Absent => text.push_str("none"),
-        }
-    }
-}
-
-impl Shown for Parts {
-    fn show(&self, text: &mut String) -> Result<(), AllocError> {
-        show_between('(', self.as_slice(), ')', text)
-    }
-}
-
-impl Shown for Element {
-    fn show(&self, text: &mut String) -> Result<(), AllocError> {
-        match self {
-            Element::Alone(part) => part.show(text),
-            Element::Implicit(tag, part) => show_under(*tag, part, text),
-            Element::Sequence(parts) => parts.show(text),
-            Element::ImplicitSequence(tag, parts) => show_under(*tag, parts, text),
-            Element::SequenceOf(items) => show_between('(', items, ')', text),
-            Element::Set(parts) => show_between('{', parts.as_slice(), '}', text),
-            Element::SetOf(items) => show_between('[', items, ']', text),
-        }
-    }
-}
-
-// Shows an element as it stands.
-fn show_raw(element: &[u8], text: &mut String) -> Result<(), AllocError> {
-    text.push('r')?;
-    show_bytes(element, text)
-}
-
-/// Shows what stands under a tag.
-pub fn show_under<V: Shown>(tag: Tag, value: &V, text: &mut String) -> Result<(), AllocError> {
-    tag.show(text)?;
-    text.push(':')?;
-    value.show(text)
-}
-
-impl Value for Leaf {
+    // Writes it.
     fn write(&self, writer: DERWriter<'_>) -> ASN1Result<()> {
+        let write = |inner: DERWriter<'_>| self.leaf.write(inner);
+        match self.frame {
+            Frame::Plain => self.leaf.write(writer),
+            Frame::Explicit(tag) => writer.write_tagged(tag, write),
+            Frame::Implicit(tag) => writer.write_tagged_implicit(tag, write),
+            Frame::Unwritten => Ok(()),
+        }
+    }
+}
+
+impl Group {
+    // The characters that stand around its parts.
+    fn brackets(self) -> (char, char) {
         match self {
-            Leaf::Number(number) => writer.write_i64(*number),
-            Leaf::Flag(flag) => writer.write_bool(*flag),
-            Leaf::Null => writer.write_null(),
-            Leaf::Content(content) => content.write(writer),
-            Leaf::Raw(element) => writer.write_der(element),
-            Leaf::Tagged(value) => writer.write_tagged_der(value),
-            Leaf::Nest(found) => found.write(writer),
+            Group::Sequence | Group::SequenceOf => ('(', ')'),
+            Group::Set => ('{', '}'),
+            Group::SetOf => ('[', ']'),
         }
     }
-}
 
-impl Value for Part {
-    fn write(&self, writer: DERWriter<'_>) -> ASN1Result<()> {
+    // Writes these parts.
+    fn write(self, writer: DERWriter<'_>, parts: &[Part]) -> ASN1Result<()> {
+        let write_parts = |seq: &mut DERWriterSeq| write_parts(seq, parts);
+        let write_elements = |set: &mut DERWriterSet| write_elements(set, parts);
         match self {
-            Part::Plain(leaf) => leaf.write(writer),
-            Part::Explicit(tag, leaf) => write_explicit(writer, *tag, leaf),
-            Part::Implicit(tag, leaf) => write_implicit(writer, *tag, leaf),
-            Part::Default(_) | Part::Absent => Ok(()),
+            Group::Sequence => writer.write_sequence(write_parts),
+            Group::SequenceOf => writer.write_sequence_of(write_parts),
+            Group::Set => writer.write_set(write_elements),
+            Group::SetOf => writer.write_set_of(write_elements),
         }
     }
 }
 
-impl Value for Parts {
-    fn write(&self, writer: DERWriter<'_>) -> ASN1Result<()> {
-        writer.write_sequence(|seq| write_parts(seq, self.as_slice()))
+impl Element {
+    /// A part alone.
+    pub fn alone(part: Part) -> Element {
+        Element {
+            tag: None,
+            contents: Contents::Alone(part),
+        }
+    }
+
+    /// NULL.
+    pub fn null() -> Element {
+        Element::alone(Part::plain(Leaf::Null))
+    }
+
+    /// These parts.
+    pub fn group(group: Group, parts: Vec<Part>) -> Element {
+        Element {
+            tag: None,
+            contents: Contents::Parts(group, parts),
+        }
+    }
+
+    /// It under an implicit tag.
+    pub fn under(self, tag: Tag) -> Element {
+        Element {
+            tag: Some(tag),
+            contents: self.contents,
+        }
+    }
+
+    /// Its last part alone; NULL where it has none.
+    pub fn last(self) -> Element {
+        match self.contents {
+            Contents::Alone(part) => Element::alone(part),
+            Contents::Parts(_, mut parts) => match parts.pop() {
+                Some(part) => Element::alone(part),
+                None => Element::null(),
+            },
+        }
+    }
+
+    /// Appends it to a text.
+    pub fn show(&self, text: &mut String) -> Result<(), AllocError> {
+        if let Some(tag) = self.tag {
+            show_behind_tag(tag, text)?;
+        }
+        match &self.contents {
+            Contents::Alone(part) => part.show(text),
+            Contents::Parts(group, parts) => {
+                let (first, last) = group.brackets();
+                text.push(first)?;
+                show_parts(parts, text)?;
+                text.push(last)
+            }
+        }
+    }
+
+    /// Writes it.
+    pub fn write(&self, writer: DERWriter<'_>) -> ASN1Result<()> {
+        match self.tag {
+            None => self.write_contents(writer),
+            Some(tag) => writer.write_tagged_implicit(tag, |inner| self.write_contents(inner)),
+        }
+    }
+
+    // Writes it under no tag.
+    fn write_contents(&self, writer: DERWriter<'_>) -> ASN1Result<()> {
+        match &self.contents {
+            Contents::Alone(part) => part.write(writer),
+            Contents::Parts(group, parts) => group.write(writer, parts),
+        }
+    }
+
+    /// The octets that it is, if it is an OCTET STRING alone.
+    pub fn octets(&self) -> Option<&[u8]> {
+        match &self.contents {
+            Contents::Alone(part) => part.octets(),
+            Contents::Parts(_, _) => None,
+        }
+    }
+
+    /// The parts that it holds, if it holds parts.
+    pub fn parts(&self) -> Option<&[Part]> {
+        match &self.contents {
+            Contents::Alone(_) => None,
+            Contents::Parts(_, parts) => Some(parts.as_slice()),
+        }
     }
 }
 
-impl Value for Element {
-    fn write(&self, writer: DERWriter<'_>) -> ASN1Result<()> {
-        match self {
-            Element::Alone(part) => part.write(writer),
-            Element::Implicit(tag, part) => write_implicit(writer, *tag, part),
-            Element::Sequence(parts) => parts.write(writer),
-            Element::ImplicitSequence(tag, parts) => write_implicit(writer, *tag, parts),
-            Element::SequenceOf(items) => write_list(writer, items),
-            Element::Set(parts) => { writer.write_set(|set| write_elements(set, parts.as_slice())) }
-            Element::SetOf(items) => write_set_of(writer, items),
-        }
+// Shows a tag, and what stands between it and a value.
+fn show_behind_tag(tag: Tag, text: &mut String) -> Result<(), AllocError> {
+    show_tag(tag, text)?;
+    text.push(':')
+}
+
+// Shows parts with commas between them.
+fn show_parts(parts: &[Part], text: &mut String) -> Result<(), AllocError> {
+    let mut between = "";
+    for part in parts {
+        text.push_str(between)?;
+        part.show(text)?;
+        between = ",";
     }
+    Ok(())
 }
 
-/// Writes what stands under an explicit tag.
-pub fn write_explicit<V: Value>(writer: DERWriter<'_>, tag: Tag, value: &V) -> ASN1Result<()> {
-    writer.write_tagged(tag, |inner| value.write(inner))
-}
-
-/// Writes what stands under an implicit tag.
-pub fn write_implicit<V: Value>(writer: DERWriter<'_>, tag: Tag, value: &V) -> ASN1Result<()> {
-    writer.write_tagged_implicit(tag, |inner| value.write(inner))
-}
-
-/// Writes a SEQUENCE OF these items.
-pub fn write_list<V: Value>(writer: DERWriter<'_>, items: &[V]) -> ASN1Result<()> {
-    writer.write_sequence_of(|seq| {
-        for item in items {
-            item.write(seq.next())?;
-        }
-        Ok(())
-    })
-}
-
-/// Writes a SET OF these items.
-pub fn write_set_of<V: Value>(writer: DERWriter<'_>, items: &[V]) -> ASN1Result<()> {
-    writer.write_set_of(|set| {
-        for item in items {
-            item.write(set.next())?;
-        }
-        Ok(())
-    })
-}
-
-// Writes elements of a SET.
-fn write_elements(set: &mut DERWriterSet, elements: &[Part]) -> ASN1Result<()> {
-    for element in elements {
-        if element.is_written() {
-            element.write(set.next())?;
-        }
-    }
+/// Appends a part.
+pub fn append(parts: &mut Vec<Part>, part: Part) -> Result<(), AllocError> {
+    parts.push(part)?;
     Ok(())
 }
 
@@ -281,6 +340,16 @@ pub fn write_parts(seq: &mut DERWriterSeq, parts: &[Part]) -> ASN1Result<()> {
     for part in parts {
         if part.is_written() {
             part.write(seq.next())?;
+        }
+    }
+    Ok(())
+}
+
+// Writes elements of a set.
+fn write_elements(set: &mut DERWriterSet, elements: &[Part]) -> ASN1Result<()> {
+    for element in elements {
+        if element.is_written() {
+            element.write(set.next())?;
         }
     }
     Ok(())

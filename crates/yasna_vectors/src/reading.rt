@@ -1,234 +1,168 @@
-//! How a call of a family that reads is made.
+//! How a call that reads is made, and made twice where it is asked whether its refusal is kept.
 
-use crate::answer::{Answer, Value, refused, written};
+use crate::answer::{Answer, refused, written};
 use crate::forms::{construct_in, parse_in};
 use crate::line::Case;
-use crate::primitive::Primitive;
+use crate::parts::Element;
+use crate::reads::Read;
 use std::alloc::{AllocError, Global};
 use yasna::{
     ASN1ErrorKind, ASN1Result, BERMode, BERReader, BERReaderSeq, parse_ber_general, parse_cer,
 };
 
-/// Calls on a reader.
-pub trait Family: Copy {
-    /// What they read.
-    type Value: Value;
-
-    /// The call of this name.
-    fn named(name: &str) -> Option<Self>;
-
-    /// Makes the call.
-    fn read(self, reader: BERReader) -> ASN1Result<Self::Value>;
-}
-
-/// Reads an INTEGER.
-pub fn read_integer(reader: BERReader) -> ASN1Result<i64> {
-    reader.read_i64()
-}
-
-/// Reads a BOOLEAN.
-pub fn read_boolean(reader: BERReader) -> ASN1Result<bool> {
-    reader.read_bool()
-}
-
-/// Reads an OCTET STRING.
-pub fn read_octet_string(reader: BERReader) -> ASN1Result<Vec<u8>> {
-    reader.read_bytes()
-}
-
-/// Reads NULL.
-pub fn read_null(reader: BERReader) -> ASN1Result<()> {
-    reader.read_null()
-}
-
-/// Reads an INTEGER, the next part.
-pub fn read_next_integer(seq: &mut BERReaderSeq) -> ASN1Result<i64> {
-    seq.next().read_i64()
-}
-
-/// What a call of this family answers.
-pub fn answer<F: Family>(alloc: Global, case: &Case) -> Answer {
-    let mode = case.mode?;
-    let call = F::named(case.call)?;
+/// What a call that reads answers on these bytes.
+pub fn answer(alloc: Global, mode: BERMode, case: &Case, bytes: &[u8]) -> Answer {
+    let first = Read::named(case.call)?;
     let second = match case.second {
-        Some(name) => Some(Primitive::named(name)?),
-        None => None,
+        Some(name) => Read::named(name)?,
+        None => first,
     };
-    let both = Both {
-        first: call,
-        second,
-    };
-    match case.bytes(alloc)? {
-        Ok(bytes) => answer_on(alloc, mode, both, case.marked || second.is_some(), &bytes),
-        Err(lack) => Some(Err(lack)),
-    }
-}
-
-// What it answers on these bytes, where it may be asked whether a refusal is kept.
-fn answer_on<F: Family>(
-    alloc: Global,
-    mode: BERMode,
-    both: Both<F>,
-    marks: bool,
-    bytes: &[u8],
-) -> Answer {
-    match parse_in(alloc, mode, bytes, |reader| both.first.read(reader)) {
-        Err(error) if marks => marked(alloc, mode, both, bytes, error.kind()),
+    match parse(alloc, mode, first, bytes) {
+        Err(error) if case.marked || case.second.is_some() => {
+            let both = Both {
+                alloc,
+                first,
+                second,
+            };
+            both.answer(mode, case, bytes, error.kind())
+        }
         read => Some(answer_of(alloc, mode, read)),
     }
 }
 
+/// What a call reads of these bytes by the parse of this mode.
+pub fn parse(alloc: Global, mode: BERMode, read: Read, bytes: &[u8]) -> ASN1Result<Element> {
+    parse_in(alloc, mode, bytes, |reader| read.read(alloc, reader))
+}
+
 /// The answer of a read: its value and what is written of that, or its refusal.
-pub fn answer_of<V: Value>(
+pub fn answer_of(
     alloc: Global,
     mode: BERMode,
-    read: ASN1Result<V>,
+    read: ASN1Result<Element>,
 ) -> Result<String, AllocError> {
     match read {
-        Ok(value) => written(alloc, &value, form_of(alloc, mode, &value)),
+        Ok(element) => shown(alloc, mode, &element),
         Err(error) => refused(alloc, error.kind()),
     }
 }
 
-/// What is written of a value.
-pub fn form_of<V: Value>(alloc: Global, mode: BERMode, value: &V) -> ASN1Result<Vec<u8>> {
-    construct_in(alloc, mode, |writer| value.write(writer))
+/// The answer `ok`, with an element and what is written of it.
+pub fn shown(alloc: Global, mode: BERMode, element: &Element) -> Result<String, AllocError> {
+    written(alloc, element, form_of(alloc, mode, element), Element::show)
+}
+
+/// What is written of an element.
+pub fn form_of(alloc: Global, mode: BERMode, element: &Element) -> ASN1Result<Vec<u8>> {
+    construct_in(alloc, mode, |writer| element.write(writer))
 }
 
 // Two calls, one after the other; the same one twice where no second is named.
 #[derive(Clone, Copy)]
-struct Both<F> {
-    first: F,
-    second: Option<Primitive>,
+struct Both {
+    alloc: Global,
+    first: Read,
+    second: Read,
 }
 
-impl<F: Family> Both<F> {
-    // Why the first call is refused, if it is.
-    fn first_refusal(self, reader: BERReader) -> Option<ASN1ErrorKind> {
-        kind_of(self.first.read(reader))
-    }
-
-    // Why the second one is.
-    fn second_refusal(self, reader: BERReader) -> Option<ASN1ErrorKind> {
-        match self.second {
-            Some(second) => kind_of(second.read(reader)),
-            None => self.first_refusal(reader),
-        }
-    }
-}
-
-// Why two calls were refused.
-#[derive(Drop)]
+// Why two calls were refused, if they were.
+#[derive(Clone, Copy)]
 struct Kinds {
     first: Option<ASN1ErrorKind>,
     second: Option<ASN1ErrorKind>,
 }
 
-impl Kinds {
-    // Before the calls.
-    fn none() -> Kinds {
-        Kinds {
+impl Both {
+    // The answer of a call that was refused, and whether the refusal is kept: both calls are made in a SEQUENCE of these
+    // bytes, which hold no more than a length of one byte can say; in CER, where it would have no length, without one.
+    fn answer(self, mode: BERMode, case: &Case, bytes: &[u8], kind: ASN1ErrorKind) -> Answer {
+        let mut kinds = Kinds {
             first: None,
             second: None,
+        };
+        let parsed = if mode == BERMode::Cer {
+            self.parse_alone(bytes, &mut kinds)
+        } else {
+            let length = u8::try_from(bytes.len()).ok()?;
+            if length > 127 {
+                return None;
+            }
+            match self.within(length, bytes) {
+                Ok(whole) => self.parse_within(mode, &whole, &mut kinds),
+                Err(lack) => return Some(Err(lack)),
+            }
+        };
+        let mark = kinds.mark(parsed, kind, case.second.is_some());
+        Some(marked(self.alloc, kind, mark))
+    }
+
+    // The bytes behind the identifier of a SEQUENCE and this length.
+    fn within(self, length: u8, bytes: &[u8]) -> Result<Vec<u8>, AllocError> {
+        let mut whole = Vec::from_slice(self.alloc, &[48, length])?;
+        whole.extend_from_slice(bytes)?;
+        Ok(whole)
+    }
+
+    // Makes both calls in no SEQUENCE, in CER: why the parse was refused.
+    fn parse_alone(self, bytes: &[u8], kinds: &mut Kinds) -> Option<ASN1ErrorKind> {
+        kind_of(parse_cer(self.alloc, bytes, move |reader| {
+            kinds.first = kind_of(self.first.read(self.alloc, reader));
+            kinds.second = kind_of(self.second.read(self.alloc, reader));
+            Ok(())
+        }))
+    }
+
+    // Makes both calls in a SEQUENCE: why the parse around it was refused.
+    fn parse_within(self, mode: BERMode, whole: &[u8], kinds: &mut Kinds) -> Option<ASN1ErrorKind> {
+        kind_of(parse_ber_general(
+            self.alloc,
+            whole,
+            mode,
+            move |reader| self.read_within(reader, kinds),
+        ))
+    }
+
+    // Makes both calls in a SEQUENCE.
+    fn read_within(self, reader: BERReader, kinds: &mut Kinds) -> ASN1Result<()> {
+        reader.read_sequence(move |seq| {
+            *kinds = self.refusals(seq);
+            Ok(())
+        })
+    }
+
+    // Makes both calls, whatever the first answers.
+    fn refusals(self, seq: &mut BERReaderSeq) -> Kinds {
+        let first = kind_of(self.first.read(self.alloc, seq.next()));
+        let second = kind_of(self.second.read(self.alloc, seq.next()));
+        Kinds { first, second }
+    }
+}
+
+impl Kinds {
+    // Whether a refusal is kept: moved, if the second call and the parse around both answer it too; unmoved, if another call
+    // takes what stands there, or the same one is refused again and the parse is not.
+    fn mark(
+        self,
+        parsed: Option<ASN1ErrorKind>,
+        kind: ASN1ErrorKind,
+        differs: bool,
+    ) -> &'static str {
+        if self.first != Some(kind) {
+            return "refused otherwise";
+        }
+        match (self.second, parsed) {
+            (Some(second), Some(whole)) if second == kind && whole == kind => "moved",
+            (None, None) => "unmoved",
+            (Some(second), None | Some(ASN1ErrorKind::Extra)) if second == kind && !differs =>
+                "unmoved",
+            _ => "neither moved nor unmoved",
         }
     }
 }
 
-// The answer of a call that was refused, and whether the refusal is kept: both calls are made in a SEQUENCE of these
-// bytes, which hold no more than a length of one byte can say; in CER, where it would have no length, without one.
-fn marked<F: Family>(
-    alloc: Global,
-    mode: BERMode,
-    both: Both<F>,
-    bytes: &[u8],
-    kind: ASN1ErrorKind,
-) -> Answer {
-    if mode == BERMode::Cer {
-        return Some(marked_alone(alloc, both, bytes, kind));
-    }
-    let length = u8::try_from(bytes.len()).ok()?;
-    if length > 127 {
-        return None;
-    }
-    Some(marked_within(alloc, mode, both, length, bytes, kind))
-}
-
-// The same, behind the identifier of a SEQUENCE and this length.
-fn marked_within<F: Family>(
-    alloc: Global,
-    mode: BERMode,
-    both: Both<F>,
-    length: u8,
-    bytes: &[u8],
-    kind: ASN1ErrorKind,
-) -> Result<String, AllocError> {
-    let mut whole = Vec::from_slice(alloc, &[48, length])?;
-    whole.extend_from_slice(bytes)?;
-    let mut kinds = Kinds::none();
-    let parsed = parse_ber_general(
-        alloc,
-        &whole,
-        mode,
-        |reader| read_both(reader, both, &mut kinds),
-    );
-    marked_refusal(alloc, kind, &kinds, kind_of(parsed), both.second.is_some())
-}
-
-// The same where both calls are made in no SEQUENCE, in CER.
-fn marked_alone<F: Family>(
-    alloc: Global,
-    both: Both<F>,
-    bytes: &[u8],
-    kind: ASN1ErrorKind,
-) -> Result<String, AllocError> {
-    let mut kinds = Kinds::none();
-    let parsed = parse_cer(alloc, bytes, |reader| {
-        kinds.first = both.first_refusal(reader);
-        kinds.second = both.second_refusal(reader);
-        Ok(())
-    });
-    marked_refusal(alloc, kind, &kinds, kind_of(parsed), both.second.is_some())
-}
-
-// Makes both calls, whatever the first answers, and notes why each was refused.
-fn read_both<F: Family>(reader: BERReader, both: Both<F>, kinds: &mut Kinds) -> ASN1Result<()> {
-    reader.read_sequence(|seq| {
-        kinds.first = both.first_refusal(seq.next());
-        kinds.second = both.second_refusal(seq.next());
-        Ok(())
-    })
-}
-
 // The answer of a call that was refused, and the mark behind it.
-fn marked_refusal(
-    alloc: Global,
-    kind: ASN1ErrorKind,
-    kinds: &Kinds,
-    parsed: Option<ASN1ErrorKind>,
-    differs: bool,
-) -> Result<String, AllocError> {
-    let mark = mark(kind, kinds, parsed, differs);
+fn marked(alloc: Global, kind: ASN1ErrorKind, mark: &str) -> Result<String, AllocError> {
     format!(in alloc; "err {kind:?} {mark}")
-}
-
-// Whether a refusal is kept: moved, if the second call and the parse around both answer it too; unmoved, if another call
-// takes what stands there, or the same one is refused again and the parse is not.
-fn mark(
-    kind: ASN1ErrorKind,
-    kinds: &Kinds,
-    parsed: Option<ASN1ErrorKind>,
-    differs: bool,
-) -> &'static str {
-    if kinds.first != Some(kind) {
-        return "refused otherwise";
-    }
-    match (kinds.second, parsed) {
-        (Some(second), Some(whole)) if second == kind && whole == kind => "moved",
-        (None, None) => "unmoved",
-        (Some(second), None | Some(ASN1ErrorKind::Extra)) if second == kind && !differs =>
-            "unmoved",
-        _ => "neither moved nor unmoved",
-    }
 }
 
 /// Why a call was refused, if it was.

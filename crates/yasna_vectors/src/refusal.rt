@@ -42,8 +42,8 @@ fn text(alloc: Global, kind: ASN1ErrorKind) -> Result<String, AllocError> {
 }
 
 /// The error type of a caller that has a refusal of its own.
-#[derive(Debug, Drop)]
-enum Fault {
+#[derive(Drop)]
+pub enum Fault {
     Writing(ASN1Error),
     Own,
 }

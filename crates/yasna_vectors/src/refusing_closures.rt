@@ -10,7 +10,7 @@
 //! write_i64, and answers Err(Invalid). The closure of construct_der around all throws away what it was answered too; that of
 //! construct_cer where MODE is `cer`.
 
-use crate::answer::{Answer, written};
+use crate::answer::{Answer, show_display, written};
 use crate::forms::construct_in;
 use crate::line::Case;
 use std::alloc::Global;
@@ -25,116 +25,77 @@ enum Call {
     TaggedImplicit,
 }
 
+// The calls by their names.
+static CALLS: [(&str, Call); 4] = [
+    ("seq", Call::Sequence),
+    ("seqof", Call::SequenceOf),
+    ("tag", Call::Tagged),
+    ("itag", Call::TaggedImplicit),
+];
+
 impl Call {
     // The call of this name.
     fn named(name: &str) -> Option<Call> {
-        Some(match name {
-            "seq" => Call::Sequence,
-            "seqof" => Call::SequenceOf,
-            "tag" => Call::Tagged,
-            "itag" => Call::TaggedImplicit,
-            _ => return None,
-        })
+        for (word, call) in &CALLS {
+            if *word == name {
+                return Some(*call);
+            }
+        }
+        None
     }
 }
 
-// What a closure writes.
-trait Body: Copy {
-    // Makes the calls.
-    fn write(self, writer: DERWriter<'_>) -> ASN1Result<()>;
-}
-
-// An INTEGER.
+// What is written: a number in one call or two.
 #[derive(Clone, Copy)]
-struct Integer(i64);
-
-impl Body for Integer {
-    fn write(self, writer: DERWriter<'_>) -> ASN1Result<()> {
-        writer.write_i64(self.0)
-    }
-}
-
-// A call whose closure throws away what it was answered, and then refuses so, or answers Ok.
-#[derive(Clone, Copy)]
-struct Around<B> {
-    call: Call,
-    body: B,
+struct Calls {
+    inner: Call,
+    outer: Call,
+    number: i64,
+    // what each closure but the innermost answers
     refusal: Option<ASN1ErrorKind>,
 }
 
-impl<B: Body> Body for Around<B> {
-    fn write(self, writer: DERWriter<'_>) -> ASN1Result<()> {
-        let Around {
-            call,
-            body,
-            refusal,
-        } = self;
+impl Calls {
+    // What a closure answers that stands around so many calls, and throws away what they answer.
+    fn write_within(self, writer: DERWriter<'_>, depth: u8) -> ASN1Result<()> {
+        let Some(below) = depth.checked_sub(1) else {
+            let _ = writer.write_i64(self.number);
+            return Err(ASN1Error::new(ASN1ErrorKind::Invalid));
+        };
         let tag = Tag::context(3);
-        let write_part = |seq: &mut DERWriterSeq| throw_away(body, seq.next(), refusal);
-        let write = |inner: DERWriter<'_>| throw_away(body, inner, refusal);
-        match call {
-            Call::Sequence => writer.write_sequence(write_part),
-            Call::SequenceOf => writer.write_sequence_of(write_part),
-            Call::Tagged => writer.write_tagged(tag, write),
-            Call::TaggedImplicit => writer.write_tagged_implicit(tag, write),
+        let part = |seq: &mut DERWriterSeq| self.write_within(seq.next(), below);
+        let whole = |inner: DERWriter<'_>| self.write_within(inner, below);
+        let call = if below == 0 { self.inner } else { self.outer };
+        let _ = match call {
+            Call::Sequence => writer.write_sequence(part),
+            Call::SequenceOf => writer.write_sequence_of(part),
+            Call::Tagged => writer.write_tagged(tag, whole),
+            Call::TaggedImplicit => writer.write_tagged_implicit(tag, whole),
+        };
+        match self.refusal {
+            Some(kind) => Err(ASN1Error::new(kind)),
+            None => Ok(()),
         }
     }
 }
 
-// What a closure answers that throws away what it was answered.
-fn throw_away<B: Body>(
-    body: B,
-    writer: DERWriter<'_>,
-    refusal: Option<ASN1ErrorKind>,
-) -> ASN1Result<()> {
-    let _ = body.write(writer);
-    match refusal {
-        Some(kind) => Err(ASN1Error::new(kind)),
-        None => Ok(()),
-    }
-}
-
 /// What a call of this family answers.
-pub fn answer(alloc: Global, case: &Case) -> Answer {
+pub fn answer(alloc: Global, mode: BERMode, case: &Case) -> Answer {
     let (name, calls) = case.call.split_once(':')?;
-    let refusal = match name {
-        "thrown" => None,
-        "refused" => Some(ASN1ErrorKind::Extra),
-        _ => return None,
+    let (depth, outer, inner) = match calls.split_once('.') {
+        Some((outer, inner)) => (2, outer, inner),
+        None => (1, calls, calls),
     };
-    let number: i64 = case.arg.parse().ok()?;
-    let (outer, innermost) = match calls.split_once('.') {
-        Some((outer, inner)) => (Some(Call::named(outer)?), Call::named(inner)?),
-        None => (None, Call::named(calls)?),
+    let calls = Calls {
+        inner: Call::named(inner)?,
+        outer: Call::named(outer)?,
+        number: case.arg.parse().ok()?,
+        refusal: match name {
+            "thrown" => None,
+            "refused" => Some(ASN1ErrorKind::Extra),
+            _ => return None,
+        },
     };
-    let mode = case.mode.unwrap_or(BERMode::Der);
-    let body = Around {
-        call: innermost,
-        body: Integer(number),
-        refusal: Some(ASN1ErrorKind::Invalid),
-    };
-    let form = match outer {
-        Some(call) => constructed(
-            alloc,
-            mode,
-            Around {
-                call,
-                body,
-                refusal,
-            },
-            refusal,
-        ),
-        None => constructed(alloc, mode, body, refusal),
-    };
-    Some(written(alloc, &number, form))
-}
-
-// The bytes of this, written in a closure that throws away what it was answered.
-fn constructed<B: Body>(
-    alloc: Global,
-    mode: BERMode,
-    body: B,
-    refusal: Option<ASN1ErrorKind>,
-) -> ASN1Result<Vec<u8>> {
-    construct_in(alloc, mode, |writer| throw_away(body, writer, refusal))
+    let form = construct_in(alloc, mode, |writer| calls.write_within(writer, depth));
+    Some(written(alloc, &calls.number, form, show_display))
 }

@@ -5,7 +5,7 @@ use crate::line::{Case, Line, is_answer};
 use std::alloc::{AllocError, Global};
 
 /// How a run ended.
-#[derive(Clone, Copy, PartialEq)]
+#[derive(Clone, Copy)]
 pub enum Verdict {
     /// No line failed.
     Right,
@@ -13,6 +13,17 @@ pub enum Verdict {
     Wrong,
     /// A line is none, or names no call.
     NoLine,
+}
+
+impl Verdict {
+    /// How a run ended of which so many lines failed.
+    pub fn of(failed: u64) -> Verdict {
+        if failed == 0 {
+            Verdict::Right
+        } else {
+            Verdict::Wrong
+        }
+    }
 }
 
 /// What a run prints, and how it ended.
@@ -67,26 +78,27 @@ pub fn check_lines(alloc: Global, input: &str) -> Result<Report, AllocError> {
         count = count.saturating_add(1);
     }
     writeln!(text, "{count} lines, {failed} failed")?;
-    let verdict = if failed == 0 {
-        Verdict::Right
-    } else {
-        Verdict::Wrong
-    };
-    Ok(Report { text, verdict })
+    Ok(Report {
+        text,
+        verdict: Verdict::of(failed),
+    })
 }
 
 // Checks a line, and appends it where it isn't right.
 fn check_line(alloc: Global, line: &str, text: &mut String) -> Result<Verdict, AllocError> {
     let Some(parsed) = Line::parse(line) else {
-        writeln!(text, "no line: {line}")?;
-        return Ok(Verdict::NoLine);
+        return no_line("no line", line, text);
     };
-    let Some(came) = answer(alloc, &parsed.case) else {
-        writeln!(text, "no such call or argument: {line}")?;
-        return Ok(Verdict::NoLine);
-    };
-    let came = came?;
-    compare(line, parsed.wanted, came.as_str(), text)
+    match answer(alloc, &parsed.case) {
+        Some(came) => compare(line, parsed.wanted, came?.as_str(), text),
+        None => no_line("no such call or argument", line, text),
+    }
+}
+
+// Says why a line is none.
+fn no_line(why: &str, line: &str, text: &mut String) -> Result<Verdict, AllocError> {
+    writeln!(text, "{why}: {line}")?;
+    Ok(Verdict::NoLine)
 }
 
 // Compares what came with what a line wants, and appends both where they differ.

@@ -9,48 +9,100 @@
 //! | `order TAG,TAG` | how the two compare |
 //! | `order_class`, `order_bit` | the same of classes by letter, and of `primitive` and `constructed` |
 
-use crate::answer::Answer;
+use crate::answer::{Answer, show_display};
 use crate::line::Case;
 use std::alloc::{AllocError, Global};
 use std::cmp::Ordering;
 use yasna::{PCBit, Tag, TagClass, tags};
 
+// The constants by their names.
+static TAGS: [(&str, Tag); 35] = [
+    ("TAG_EOC", tags::TAG_EOC),
+    ("TAG_BOOLEAN", tags::TAG_BOOLEAN),
+    ("TAG_INTEGER", tags::TAG_INTEGER),
+    ("TAG_BITSTRING", tags::TAG_BITSTRING),
+    ("TAG_OCTETSTRING", tags::TAG_OCTETSTRING),
+    ("TAG_NULL", tags::TAG_NULL),
+    ("TAG_OID", tags::TAG_OID),
+    ("TAG_OBJECT_DESCRIPTOR", tags::TAG_OBJECT_DESCRIPTOR),
+    ("TAG_EXT", tags::TAG_EXT),
+    ("TAG_REAL", tags::TAG_REAL),
+    ("TAG_ENUM", tags::TAG_ENUM),
+    ("TAG_EMBEDDED_PDV", tags::TAG_EMBEDDED_PDV),
+    ("TAG_UTF8STRING", tags::TAG_UTF8STRING),
+    ("TAG_RELATIVE_OID", tags::TAG_RELATIVE_OID),
+    ("TAG_TIME", tags::TAG_TIME),
+    ("TAG_SEQUENCE", tags::TAG_SEQUENCE),
+    ("TAG_SET", tags::TAG_SET),
+    ("TAG_NUMERICSTRING", tags::TAG_NUMERICSTRING),
+    ("TAG_PRINTABLESTRING", tags::TAG_PRINTABLESTRING),
+    ("TAG_TELETEXSTRING", tags::TAG_TELETEXSTRING),
+    ("TAG_VIDEOTEXSTRING", tags::TAG_VIDEOTEXSTRING),
+    ("TAG_IA5STRING", tags::TAG_IA5STRING),
+    ("TAG_UTCTIME", tags::TAG_UTCTIME),
+    ("TAG_GENERALIZEDTIME", tags::TAG_GENERALIZEDTIME),
+    ("TAG_GRAPHICSTRING", tags::TAG_GRAPHICSTRING),
+    ("TAG_VISIBLESTRING", tags::TAG_VISIBLESTRING),
+    ("TAG_GENERALSTRING", tags::TAG_GENERALSTRING),
+    ("TAG_UNIVERSALSTRING", tags::TAG_UNIVERSALSTRING),
+    ("TAG_BMPSTRING", tags::TAG_BMPSTRING),
+    ("TAG_DATE", tags::TAG_DATE),
+    ("TAG_TIME_OF_DAY", tags::TAG_TIME_OF_DAY),
+    ("TAG_DATE_TIME", tags::TAG_DATE_TIME),
+    ("TAG_DURATION", tags::TAG_DURATION),
+    ("TAG_OID_INTL_RESID", tags::TAG_OID_INTL_RESID),
+    (
+        "TAG_RELATIVE_OID_INTL_RESID",
+        tags::TAG_RELATIVE_OID_INTL_RESID,
+    ),
+];
+
 /// What a call of this family answers.
 pub fn answer(alloc: Global, case: &Case) -> Answer {
-    match case.call {
-        "tag" => Some(shown(alloc, constant(case.arg)?)),
-        "tag_of" => Some(shown(alloc, parsed(case.arg)?)),
-        "order" => {
-            let (left, right) = case.arg.split_once(',')?;
-            Some(ordered(alloc, parsed(left)?.cmp(&parsed(right)?)))
-        }
-        "order_class" => {
-            let (left, right) = case.arg.split_once(',')?;
-            Some(ordered(alloc, class(left)?.cmp(&class(right)?)))
-        }
-        "order_bit" => {
-            let (left, right) = case.arg.split_once(',')?;
-            Some(ordered(alloc, bit(left)?.cmp(&bit(right)?)))
-        }
-        _ => None,
-    }
+    Some(match case.call {
+        "tag" => shown(alloc, constant(case.arg)?),
+        "tag_of" => shown(alloc, parsed(case.arg)?),
+        call => ordered(alloc, order(call, case.arg)?),
+    })
 }
 
 // A tag as text.
 fn shown(alloc: Global, tag: Tag) -> Result<String, AllocError> {
-    let class = match tag.tag_class {
+    let mut text = String::from_str(alloc, "ok ")?;
+    show_tag(tag, &mut text)?;
+    Ok(text)
+}
+
+/// Shows a tag.
+pub fn show_tag(tag: Tag, text: &mut String) -> Result<(), AllocError> {
+    text.push(match tag.tag_class {
         TagClass::Universal => 'u',
         TagClass::Application => 'a',
         TagClass::ContextSpecific => 'c',
         TagClass::Private => 'p',
-    };
-    let number = tag.tag_number;
-    format!(in alloc; "ok {class}{number}")
+    })?;
+    show_display(&tag.tag_number, text)
+}
+
+// The answer with this order.
+fn ordered(alloc: Global, order: Ordering) -> Result<String, AllocError> {
+    format!(in alloc; "ok {order:?}")
+}
+
+// How the two that a text names compare by this call.
+fn order(call: &str, text: &str) -> Option<Ordering> {
+    let (left, right) = text.split_once(',')?;
+    match call {
+        "order" => compared(parsed(left), parsed(right)),
+        "order_class" => compared(class(left), class(right)),
+        "order_bit" => compared(bit(left), bit(right)),
+        _ => None,
+    }
 }
 
 // How two values compare.
-fn ordered(alloc: Global, order: Ordering) -> Result<String, AllocError> {
-    format!(in alloc; "ok {order:?}")
+fn compared<T: Ord + Copy>(left: Option<T>, right: Option<T>) -> Option<Ordering> {
+    Some(left?.cmp(&right?))
 }
 
 // The class of this letter.
@@ -90,49 +142,10 @@ fn parsed(text: &str) -> Option<Tag> {
 
 // The constant of this name.
 fn constant(name: &str) -> Option<Tag> {
-    Some(match name {
-        "TAG_EOC" => tags::TAG_EOC,
-        "TAG_BOOLEAN" => tags::TAG_BOOLEAN,
-        "TAG_INTEGER" => tags::TAG_INTEGER,
-        "TAG_BITSTRING" => tags::TAG_BITSTRING,
-        "TAG_OCTETSTRING" => tags::TAG_OCTETSTRING,
-        "TAG_NULL" => tags::TAG_NULL,
-        "TAG_OID" => tags::TAG_OID,
-        "TAG_OBJECT_DESCRIPTOR" => tags::TAG_OBJECT_DESCRIPTOR,
-        "TAG_EXT" => tags::TAG_EXT,
-        "TAG_REAL" => tags::TAG_REAL,
-        "TAG_ENUM" => tags::TAG_ENUM,
-        "TAG_EMBEDDED_PDV" => tags::TAG_EMBEDDED_PDV,
-        "TAG_UTF8STRING" => tags::TAG_UTF8STRING,
-        "TAG_RELATIVE_OID" => tags::TAG_RELATIVE_OID,
-        "TAG_TIME" => tags::TAG_TIME,
-        "TAG_SEQUENCE" => tags::TAG_SEQUENCE,
-        "TAG_SET" => tags::TAG_SET,
-        _ => return later_constant(name),
-    })
-}
-
-// The same of those from the character strings on.
-fn later_constant(name: &str) -> Option<Tag> {
-    Some(match name {
-        "TAG_NUMERICSTRING" => tags::TAG_NUMERICSTRING,
-        "TAG_PRINTABLESTRING" => tags::TAG_PRINTABLESTRING,
-        "TAG_TELETEXSTRING" => tags::TAG_TELETEXSTRING,
-        "TAG_VIDEOTEXSTRING" => tags::TAG_VIDEOTEXSTRING,
-        "TAG_IA5STRING" => tags::TAG_IA5STRING,
-        "TAG_UTCTIME" => tags::TAG_UTCTIME,
-        "TAG_GENERALIZEDTIME" => tags::TAG_GENERALIZEDTIME,
-        "TAG_GRAPHICSTRING" => tags::TAG_GRAPHICSTRING,
-        "TAG_VISIBLESTRING" => tags::TAG_VISIBLESTRING,
-        "TAG_GENERALSTRING" => tags::TAG_GENERALSTRING,
-        "TAG_UNIVERSALSTRING" => tags::TAG_UNIVERSALSTRING,
-        "TAG_BMPSTRING" => tags::TAG_BMPSTRING,
-        "TAG_DATE" => tags::TAG_DATE,
-        "TAG_TIME_OF_DAY" => tags::TAG_TIME_OF_DAY,
-        "TAG_DATE_TIME" => tags::TAG_DATE_TIME,
-        "TAG_DURATION" => tags::TAG_DURATION,
-        "TAG_OID_INTL_RESID" => tags::TAG_OID_INTL_RESID,
-        "TAG_RELATIVE_OID_INTL_RESID" => tags::TAG_RELATIVE_OID_INTL_RESID,
-        _ => return None,
-    })
+    for (word, tag) in &TAGS {
+        if *word == name {
+            return Some(*tag);
+        }
+    }
+    None
 }

@@ -71,7 +71,7 @@ impl Task {
 // Checks the lines as they are, cut, and with other lengths.
 fn run_all(alloc: Global, input: &str) -> Result<Report, AllocError> {
     let lines = check_lines(alloc, input)?;
-    if lines.verdict == Verdict::NoLine {
+    if let Verdict::NoLine = lines.verdict {
         return Ok(lines);
     }
     let cuts = check_group(alloc, Group::Cut, input)?;
@@ -83,10 +83,9 @@ fn run_all(alloc: Global, input: &str) -> Result<Report, AllocError> {
 fn both(first: Report, second: Report) -> Result<Report, AllocError> {
     let mut text = first.text;
     text.push_str(second.text.as_str())?;
-    let verdict = if first.verdict == Verdict::Right {
-        second.verdict
-    } else {
-        first.verdict
+    let verdict = match first.verdict {
+        Verdict::Right => second.verdict,
+        other => other,
     };
     Ok(Report { text, verdict })
 }

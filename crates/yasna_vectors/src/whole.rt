@@ -1,60 +1,180 @@
 //! Types that are read and written as a whole.
 //!
-//! `d:TYPE` decodes by decode_ber, decode_der or decode_cer, and encodes by encode_der, or by encode_cer what was read in CER. `int` is `i64`, `pair` is `(i64, bool)`, `pairs`
-//! is `((i64, bool), (bool, i64))`, `deep` is `(bool, (i64, (bool, ())))`, `octets` is `Vec<u8>`, `text` is `String`, `oid` is
-//! `ObjectIdentifier`, `utime` is `UTCTime`, `gtime` is `GeneralizedTime`, `named` is `(String, Vec<u8>)`.
+//! `d:TYPE` decodes by decode_ber, decode_der or decode_cer, and encodes by encode_der, or by encode_cer what was read in CER.
+//!
+//! | TYPE | Decoded |
+//! |---|---|
+//! | `null`, `bool`, `int`, `i32`, `i16`, `u64`, `u32`, `u16` | `()`, `bool`, `i64`, and the number types of these names |
+//! | `octets`, `text`, `oid`, `utime`, `gtime` | `Vec<u8>`, `String`, `ObjectIdentifier`, `UTCTime`, `GeneralizedTime` |
+//! | `pair`, `pairs` | `(i64, bool)`, `((i64, bool), (bool, i64))` |
+//! | `deep`, `t1n` | `(bool, (i64, (bool, ())))`, `((((i64,),),),)` |
+//! | `named`, `t3` | `(String, Vec<u8>)`, `(u16, (), Vec<u8>)` |
+//! | `ints`, `vvi`, `vpair` | `Vec<i64>`, `Vec<Vec<i64>>`, `Vec<(i64, bool)>` |
+//! | `vbytes`, `vtext` | `Vec<Vec<u8>>`, `Vec<String>` |
+//! | `tdv`, `vtdv` | `TaggedDerValue`, `Vec<TaggedDerValue>`, by decode_ber_general; written by write_tagged_der |
+//!
+//! `tup1`, `tup3` and `tup12` are tuples of `i64`.
 
-use crate::answer::{Answer, Shown, refused, written};
+use crate::answer::{Answer, refused, show_display, written};
 use crate::forms::encode_in;
-use crate::line::Case;
+use crate::leaf::{
+    Leaf, show_generalized_time, show_identifier, show_octets, show_text, show_utc_time,
+};
+use crate::parts::{Element, Group, Part, append};
+use crate::reading::answer_of;
 use std::alloc::{AllocError, Global};
-use yasna::models::{GeneralizedTime, ObjectIdentifier, UTCTime};
-use yasna::{BERMode, DERCanonical, decode_ber, decode_cer, decode_der};
+use std::fmt::Debug;
+use yasna::models::{GeneralizedTime, ObjectIdentifier, TaggedDerValue, UTCTime};
+use yasna::{
+    ASN1Error, ASN1ErrorKind, ASN1Result, BERMode, DERCanonical, decode_ber, decode_ber_general,
+    decode_cer, decode_der,
+};
 
 type Pairs = ((i64, bool), (bool, i64));
 
 type Deep = (bool, (i64, (bool, ())));
 
-/// What a call of this family answers.
-pub fn answer(alloc: Global, case: &Case) -> Answer {
-    let mode = case.mode?;
-    let name = case.call.strip_prefix("d:")?;
-    match case.bytes(alloc)? {
-        Ok(bytes) => answer_on(alloc, mode, name, &bytes),
-        Err(lack) => Some(Err(lack)),
+type Nested = ((((i64,),),),);
+
+type Twelve = (i64, i64, i64, i64, i64, i64, i64, i64, i64, i64, i64, i64);
+
+// A type, or what it is made of.
+#[derive(Clone, Copy)]
+enum Type {
+    Null,
+    Bool,
+    I64,
+    I32,
+    I16,
+    U64,
+    U32,
+    U16,
+    Octets,
+    Text,
+    Identifier,
+    UtcTime,
+    GeneralizedTime,
+    Raw,
+    Raws,
+    Pair,
+    Pairs,
+    Deep,
+    Numbers,
+    Lists,
+    PairList,
+    Nested,
+    OctetsList,
+    TextList,
+    Named,
+    Mixed,
+    One,
+    Three,
+    Twelve,
+}
+
+// The types by their names.
+static TYPES: [(&str, Type); 29] = [
+    ("d:null", Type::Null),
+    ("d:bool", Type::Bool),
+    ("d:int", Type::I64),
+    ("d:i32", Type::I32),
+    ("d:i16", Type::I16),
+    ("d:u64", Type::U64),
+    ("d:u32", Type::U32),
+    ("d:u16", Type::U16),
+    ("d:octets", Type::Octets),
+    ("d:text", Type::Text),
+    ("d:oid", Type::Identifier),
+    ("d:utime", Type::UtcTime),
+    ("d:gtime", Type::GeneralizedTime),
+    ("d:tdv", Type::Raw),
+    ("d:vtdv", Type::Raws),
+    ("d:pair", Type::Pair),
+    ("d:pairs", Type::Pairs),
+    ("d:deep", Type::Deep),
+    ("d:ints", Type::Numbers),
+    ("d:vvi", Type::Lists),
+    ("d:vpair", Type::PairList),
+    ("d:t1n", Type::Nested),
+    ("d:vbytes", Type::OctetsList),
+    ("d:vtext", Type::TextList),
+    ("d:named", Type::Named),
+    ("d:t3", Type::Mixed),
+    ("tup1", Type::One),
+    ("tup3", Type::Three),
+    ("tup12", Type::Twelve),
+];
+
+impl Type {
+    // The type that a call names.
+    fn named(call: &str) -> Option<Type> {
+        for (word, named) in &TYPES {
+            if *word == call {
+                return Some(*named);
+            }
+        }
+        None
+    }
+
+    // What decoding it answers.
+    fn answer(self, alloc: Global, mode: BERMode, bytes: &[u8]) -> Result<String, AllocError> {
+        match self {
+            Type::Null => plain::<()>(alloc, mode, bytes),
+            Type::Bool => plain::<bool>(alloc, mode, bytes),
+            Type::I64 => plain::<i64>(alloc, mode, bytes),
+            Type::I32 => plain::<i32>(alloc, mode, bytes),
+            Type::I16 => plain::<i16>(alloc, mode, bytes),
+            Type::U64 => plain::<u64>(alloc, mode, bytes),
+            Type::U32 => plain::<u32>(alloc, mode, bytes),
+            Type::U16 => plain::<u16>(alloc, mode, bytes),
+            Type::Octets => decoded(alloc, mode, bytes, show_vector),
+            Type::Text => decoded(alloc, mode, bytes, show_string),
+            Type::Identifier => decoded(alloc, mode, bytes, show_identifier),
+            Type::UtcTime => decoded(alloc, mode, bytes, show_utc_time),
+            Type::GeneralizedTime => decoded(alloc, mode, bytes, show_generalized_time),
+            Type::Raw => raw(alloc, mode, bytes),
+            Type::Raws => raws(alloc, mode, bytes),
+            _ => self.composed(alloc, mode, bytes),
+        }
+    }
+
+    // The same where it is made of others.
+    fn composed(self, alloc: Global, mode: BERMode, bytes: &[u8]) -> Result<String, AllocError> {
+        match self {
+            Type::Pair => plain::<(i64, bool)>(alloc, mode, bytes),
+            Type::Pairs => plain::<Pairs>(alloc, mode, bytes),
+            Type::Deep => plain::<Deep>(alloc, mode, bytes),
+            Type::Numbers => plain::<Vec<i64>>(alloc, mode, bytes),
+            Type::Lists => plain::<Vec<Vec<i64>>>(alloc, mode, bytes),
+            Type::PairList => plain::<Vec<(i64, bool)>>(alloc, mode, bytes),
+            Type::Nested => plain::<Nested>(alloc, mode, bytes),
+            Type::OctetsList => decoded(alloc, mode, bytes, show_vectors),
+            Type::TextList => decoded(alloc, mode, bytes, show_strings),
+            Type::Named => decoded(alloc, mode, bytes, show_named),
+            Type::Mixed => decoded(alloc, mode, bytes, show_mixed),
+            Type::One => plain::<(i64,)>(alloc, mode, bytes),
+            Type::Three => plain::<(i64, i64, i64)>(alloc, mode, bytes),
+            _ => plain::<Twelve>(alloc, mode, bytes),
+        }
     }
 }
 
-// What decoding the type of this name answers on these bytes.
-fn answer_on(alloc: Global, mode: BERMode, name: &str, bytes: &[u8]) -> Answer {
-    Some(match name {
-        "null" => decoded::<()>(alloc, mode, bytes),
-        "bool" => decoded::<bool>(alloc, mode, bytes),
-        "int" => decoded::<i64>(alloc, mode, bytes),
-        "i32" => decoded::<i32>(alloc, mode, bytes),
-        "i16" => decoded::<i16>(alloc, mode, bytes),
-        "u64" => decoded::<u64>(alloc, mode, bytes),
-        "u32" => decoded::<u32>(alloc, mode, bytes),
-        "u16" => decoded::<u16>(alloc, mode, bytes),
-        "pair" => decoded::<(i64, bool)>(alloc, mode, bytes),
-        "pairs" => decoded::<Pairs>(alloc, mode, bytes),
-        "deep" => decoded::<Deep>(alloc, mode, bytes),
-        "octets" => decoded::<Vec<u8>>(alloc, mode, bytes),
-        "text" => decoded::<String>(alloc, mode, bytes),
-        "oid" => decoded::<ObjectIdentifier>(alloc, mode, bytes),
-        "utime" => decoded::<UTCTime>(alloc, mode, bytes),
-        "gtime" => decoded::<GeneralizedTime>(alloc, mode, bytes),
-        "named" => decoded::<(String, Vec<u8>)>(alloc, mode, bytes),
-        _ => return None,
-    })
+/// What decoding the type of this name answers on these bytes.
+pub fn answer(alloc: Global, mode: BERMode, call: &str, bytes: &[u8]) -> Answer {
+    Some(Type::named(call)?.answer(alloc, mode, bytes))
 }
 
-/// What decoding answers, and encoding behind it.
-pub fn decoded<T: DERCanonical + Shown>(
+// What decoding answers, and encoding behind it.
+fn decoded<T: DERCanonical, F>(
     alloc: Global,
     mode: BERMode,
     bytes: &[u8],
-) -> Result<String, AllocError> {
+    show: F,
+) -> Result<String, AllocError>
+where
+    F: FnOnce(&T, &mut String) -> Result<(), AllocError>,
+    requires { F.IsAlwaysCallable show }
+{
     let value: T = match match mode {
         BERMode::Ber => decode_ber(alloc, bytes),
         BERMode::Der => decode_der(alloc, bytes),
@@ -63,5 +183,114 @@ pub fn decoded<T: DERCanonical + Shown>(
         Ok(value) => value,
         Err(error) => return refused(alloc, error.kind()),
     };
-    written(alloc, &value, encode_in(alloc, mode, &value))
+    written(alloc, &value, encode_in(alloc, mode, &value), show)
+}
+
+// The same of a value that is made of numbers and BOOLEANs alone.
+fn plain<T: DERCanonical + Debug>(
+    alloc: Global,
+    mode: BERMode,
+    bytes: &[u8],
+) -> Result<String, AllocError> {
+    decoded::<T, _>(alloc, mode, bytes, show_plain)
+}
+
+/// Shows a value as Rust does, with no spaces, no comma behind a part that is alone, and a list in round brackets.
+pub fn show_plain<T: Debug>(value: &T, text: &mut String) -> Result<(), AllocError> {
+    let shown = format!(in *text.allocator(); "{value:?}")?;
+    for character in shown.chars() {
+        let shown = match character {
+            ',' => continue,
+            ' ' => ',',
+            '[' => '(',
+            ']' => ')',
+            other => other,
+        };
+        text.push(shown)?;
+    }
+    Ok(())
+}
+
+// Shows octets.
+fn show_vector(octets: &Vec<u8>, text: &mut String) -> Result<(), AllocError> {
+    show_octets(octets, text)
+}
+
+// Shows a text.
+fn show_string(characters: &String, text: &mut String) -> Result<(), AllocError> {
+    show_text(characters, text)
+}
+
+// Shows a list of octets.
+fn show_vectors(items: &Vec<Vec<u8>>, text: &mut String) -> Result<(), AllocError> {
+    let mut between = '(';
+    for item in items {
+        text.push(between)?;
+        show_octets(item, text)?;
+        between = ',';
+    }
+    end_list(items.is_empty(), text)
+}
+
+// Shows a list of texts.
+fn show_strings(items: &Vec<String>, text: &mut String) -> Result<(), AllocError> {
+    let mut between = '(';
+    for item in items {
+        text.push(between)?;
+        show_text(item, text)?;
+        between = ',';
+    }
+    end_list(items.is_empty(), text)
+}
+
+// Ends what shows a list.
+fn end_list(is_empty: bool, text: &mut String) -> Result<(), AllocError> {
+    text.push_str(if is_empty { "()" } else { ")" })
+}
+
+// Shows a text and octets.
+fn show_named(value: &(String, Vec<u8>), text: &mut String) -> Result<(), AllocError> {
+    text.push('(')?;
+    show_text(&value.0, text)?;
+    text.push(',')?;
+    show_octets(&value.1, text)?;
+    text.push(')')
+}
+
+// Shows a number, NULL and octets.
+fn show_mixed(value: &(u16, (), Vec<u8>), text: &mut String) -> Result<(), AllocError> {
+    text.push('(')?;
+    show_display(&value.0, text)?;
+    text.push_str(",(),")?;
+    show_octets(&value.2, text)?;
+    text.push(')')
+}
+
+// What decoding a raw element answers, and its own write behind it.
+fn raw(alloc: Global, mode: BERMode, bytes: &[u8]) -> Result<String, AllocError> {
+    let read: ASN1Result<TaggedDerValue> = decode_ber_general(alloc, bytes, mode);
+    answer_of(alloc, mode, read.map(alone))
+}
+
+// A raw element.
+fn alone(value: TaggedDerValue) -> Element {
+    Element::alone(Part::plain(Leaf::Tagged(value)))
+}
+
+// The same of a list of them.
+fn raws(alloc: Global, mode: BERMode, bytes: &[u8]) -> Result<String, AllocError> {
+    let read = match decode_ber_general(alloc, bytes, mode) {
+        Ok(values) => Ok(list(alloc, values)?),
+        Err(error) => Err(error),
+    };
+    answer_of(alloc, mode, read)
+}
+
+// A list of raw elements.
+fn list(alloc: Global, values: Vec<TaggedDerValue>) -> Result<Element, AllocError> {
+    let mut parts = Vec::new(alloc);
+    for value in values {
+        append(&mut parts, Part::plain(Leaf::Tagged(value)))?;
+    }
+    Ok(Element::group(Group::SequenceOf, parts))
 }

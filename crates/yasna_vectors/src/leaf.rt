@@ -1,0 +1,224 @@
+//! Values that are read as one: how each is shown, and by which call it is written.
+//!
+//! | Value | Shown | Written by |
+//! |---|---|---|
+//! | a number, a BOOLEAN | as Rust writes it | the write of its type |
+//! | NULL | `()` | write_null |
+//! | a big INTEGER | its contents, a slash, whether it isn't negative | write_bigint_bytes |
+//! | octets | `hHEX` | write_bytes |
+//! | bits | `HEX/N`, N of them | write_bitvec_bytes |
+//! | a text | `sHEX` | the write of its class |
+//! | an object identifier | `o1.2.3` | write_oid |
+//! | a time | `tTEXT` | the write of its type |
+//! | an element as it stands | `rHEX` | write_der |
+//! | a tagged value | its tag, its bit and its payload | write_tagged_der |
+//! | SEQUENCEs one in the other around an INTEGER | the number | `nest.rt` |
+//! | an element that was shown and written before | as it was | write_der |
+//! | a number that is refused | the number | write_sequence of write_i64, whose closure then answers Err(Invalid) |
+//! | a number whose refusal is thrown away | the number | the same, thrown away |
+//! | what is absent | `none` | no call |
+ghost use Rattle.std.specs.Prelude.{◌↔◌, ◌≤◌, ◌<◌, ◌+◌, ◌*◌, IsTrue};
+
+use crate::answer::{show_bytes, show_display};
+use crate::nest::Nested;
+use crate::strings::Class;
+use crate::tag::show_tag;
+use std::alloc::AllocError;
+use std::fmt::Display;
+use yasna::models::{GeneralizedTime, ObjectIdentifier, TaggedDerValue, UTCTime};
+use yasna::{ASN1Error, ASN1ErrorKind, ASN1Result, DERWriter, PCBit};
+
+/// A value that is read as one.
+#[derive(Drop)]
+pub enum Leaf {
+    Bool(bool),
+    Null,
+    Enum(i64),
+    I64(i64),
+    I32(i32),
+    I16(i16),
+    I8(i8),
+    U64(u64),
+    U32(u32),
+    U16(u16),
+    U8(u8),
+    /// Contents, and whether the number isn't negative.
+    BigInteger(Vec<u8>, bool),
+    Bytes(Vec<u8>),
+    /// Bytes, and how many bits there are.
+    Bits(Vec<u8>, usize),
+    Text(Class, String),
+    Identifier(ObjectIdentifier),
+    UtcTime(UTCTime),
+    GeneralizedTime(GeneralizedTime),
+    Raw(Vec<u8>),
+    Tagged(TaggedDerValue),
+    Nested(Nested),
+    /// How an element is shown, and its form.
+    Known(String, Vec<u8>),
+    Refused(i64),
+    Discarded(i64),
+    Absent,
+}
+
+impl Leaf {
+    /// Appends the value to a text.
+    pub fn show(&self, text: &mut String) -> Result<(), AllocError> {
+        match self {
+            Leaf::Bool(flag) => show_display(flag, text),
+            Leaf::Null => text.push_str("()"),
+            Leaf::Enum(number)
+            | Leaf::I64(number)
+            | Leaf::Refused(number)
+            | Leaf::Discarded(number) => show_display(number, text),
+            Leaf::I32(number) => show_display(number, text),
+            Leaf::I16(number) => show_display(number, text),
+            Leaf::I8(number) => show_display(number, text),
+            Leaf::U64(number) => show_display(number, text),
+            Leaf::U32(number) => show_display(number, text),
+            Leaf::U16(number) => show_display(number, text),
+            Leaf::U8(number) => show_display(number, text),
+            _ => self.show_other(text),
+        }
+    }
+
+    // The same of one that isn't a number as Rust has it, a BOOLEAN or NULL.
+    fn show_other(&self, text: &mut String) -> Result<(), AllocError> {
+        match self {
+            Leaf::BigInteger(contents, positive) => show_behind(contents, positive, text),
+            Leaf::Bits(bytes, count) => show_behind(bytes, count, text),
+            Leaf::Bytes(bytes) => show_octets(bytes, text),
+            Leaf::Text(_, characters) => show_text(characters, text),
+            Leaf::Identifier(identifier) => show_identifier(identifier, text),
+            Leaf::UtcTime(time) => show_utc_time(time, text),
+            Leaf::GeneralizedTime(time) => show_generalized_time(time, text),
+            Leaf::Raw(element) => show_raw(element, text),
+            Leaf::Tagged(value) => show_tagged(value, text),
+            Leaf::Nested(nested) => nested.show(text),
+            Leaf::Known(shown, _) => text.push_str(shown),
+            _ => text.push_str("none"),
+        }
+    }
+
+    /// Writes the value.
+    pub fn write(&self, writer: DERWriter<'_>) -> ASN1Result<()> {
+        match self {
+            Leaf::Bool(flag) => writer.write_bool(*flag),
+            Leaf::Null => writer.write_null(),
+            Leaf::Enum(number) => writer.write_enum(*number),
+            Leaf::I64(number) => writer.write_i64(*number),
+            Leaf::I32(number) => writer.write_i32(*number),
+            Leaf::I16(number) => writer.write_i16(*number),
+            Leaf::I8(number) => writer.write_i8(*number),
+            Leaf::U64(number) => writer.write_u64(*number),
+            Leaf::U32(number) => writer.write_u32(*number),
+            Leaf::U16(number) => writer.write_u16(*number),
+            Leaf::U8(number) => writer.write_u8(*number),
+            _ => self.write_other(writer),
+        }
+    }
+
+    // The same of one that isn't a number as Rust has it, a BOOLEAN or NULL.
+    fn write_other(&self, writer: DERWriter<'_>) -> ASN1Result<()> {
+        match self {
+            Leaf::BigInteger(contents, positive) => writer.write_bigint_bytes(contents, *positive),
+            Leaf::Bytes(bytes) => writer.write_bytes(bytes),
+            Leaf::Bits(bytes, count) if takes(bytes.len(), *count) => {
+                writer.write_bitvec_bytes(bytes, *count)
+            }
+            Leaf::Text(class, text) => class.write(writer, text),
+            Leaf::Identifier(identifier) => write_identifier(identifier, writer),
+            Leaf::UtcTime(time) => writer.write_utctime(time),
+            Leaf::GeneralizedTime(time) => writer.write_generalized_time(time),
+            Leaf::Raw(element) | Leaf::Known(_, element) => writer.write_der(element),
+            Leaf::Tagged(value) => writer.write_tagged_der(value),
+            Leaf::Nested(nested) => nested.write(writer),
+            Leaf::Refused(number) => write_refused(writer, *number),
+            Leaf::Discarded(number) => {
+                let _ = write_refused(writer, *number);
+                Ok(())
+            }
+            Leaf::Absent => Ok(()),
+            _ => Err(ASN1Error::new(ASN1ErrorKind::Invalid)),
+        }
+    }
+}
+
+// Whether so many bits take just so many bytes.
+fn takes(bytes: usize, bits: usize) -> bool
+    ensures { IsTrue result ↔ (bits ≤ 8 * bytes) × (8 * bytes < bits + 8) }
+{
+    bytes == bits / 8 + usize::from(bits % 8 != 0)
+}
+
+// Shows bytes, and what is said of them.
+fn show_behind<T: Display>(bytes: &[u8], others: &T, text: &mut String) -> Result<(), AllocError> {
+    show_bytes(bytes, text)?;
+    text.push('/')?;
+    show_display(others, text)
+}
+
+/// Shows octets.
+pub fn show_octets(octets: &[u8], text: &mut String) -> Result<(), AllocError> {
+    text.push('h')?;
+    show_bytes(octets, text)
+}
+
+/// Shows a text.
+pub fn show_text(characters: &str, text: &mut String) -> Result<(), AllocError> {
+    text.push('s')?;
+    show_bytes(characters.as_bytes(), text)
+}
+
+/// Shows an object identifier.
+pub fn show_identifier(identifier: &ObjectIdentifier, text: &mut String) -> Result<(), AllocError> {
+    text.push('o')?;
+    show_display(identifier, text)
+}
+
+/// Shows a time.
+pub fn show_utc_time(time: &UTCTime, text: &mut String) -> Result<(), AllocError> {
+    let shown = time.to_string(*text.allocator())?;
+    text.push('t')?;
+    text.push_str(shown.as_str())
+}
+
+/// Shows a time.
+pub fn show_generalized_time(time: &GeneralizedTime, text: &mut String) -> Result<(), AllocError> {
+    let shown = time.to_string(*text.allocator())?;
+    text.push('t')?;
+    text.push_str(shown.as_str())
+}
+
+/// Shows an element as it stands.
+pub fn show_raw(element: &[u8], text: &mut String) -> Result<(), AllocError> {
+    text.push('r')?;
+    show_bytes(element, text)
+}
+
+// Shows a tag, a bit and a payload.
+fn show_tagged(value: &TaggedDerValue, text: &mut String) -> Result<(), AllocError> {
+    show_tag(value.tag(), text)?;
+    text.push_str(match value.pcbit() {
+        PCBit::Primitive => ".0.",
+        PCBit::Constructed => ".1.",
+    })?;
+    show_bytes(value.value(), text)
+}
+
+/// Writes an object identifier; Err(Invalid) where it has no form.
+pub fn write_identifier(identifier: &ObjectIdentifier, writer: DERWriter<'_>) -> ASN1Result<()> {
+    if identifier.is_encodable() {
+        writer.write_oid(identifier)
+    } else {
+        Err(ASN1Error::new(ASN1ErrorKind::Invalid))
+    }
+}
+
+// Writes a number in a sequence whose closure answers an Err.
+fn write_refused(writer: DERWriter<'_>, number: i64) -> ASN1Result<()> {
+    writer.write_sequence(|seq| {
+        seq.next().write_i64(number)?;
+        Err(ASN1Error::new(ASN1ErrorKind::Invalid))
+    })
+}

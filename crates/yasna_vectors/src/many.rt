@@ -1,0 +1,140 @@
+//! Octet strings and lists of any length, made by the call.
+//!
+//! | Call | ARG | Bytes |
+//! |---|---|---|
+//! | `whole` | N | N bytes in one primitive element |
+//! | `cut` | N/K | the same in segments of K bytes, of definite length, in an element of indefinite length |
+//! | `seqof_many` | N | N INTEGERs 0 to N - 1 in a SEQUENCE OF |
+//!
+//! The answer is how many bytes were read, which are those that were put in, and how many the form has that is written of
+//! them; of a list how many numbers were collected, and of how many bytes.
+
+use crate::answer::{Answer, refused};
+use crate::calls::{BYTES, NUMBERS};
+use crate::leaf::Leaf;
+use crate::line::Case;
+use crate::parts::{Element, Group, Part, append};
+use crate::reading::{form_of, parse};
+use std::alloc::{AllocError, Global};
+use yasna::{ASN1Error, ASN1ErrorKind, ASN1Result, BERMode, construct_der};
+
+/// What a call of this family answers.
+pub fn answer(alloc: Global, mode: BERMode, case: &Case) -> Answer {
+    Some(match counts(alloc, mode, case)? {
+        Ok((items, bytes)) => shown(alloc, items, bytes),
+        Err(error) => refused(alloc, error.kind()),
+    })
+}
+
+// What it counts.
+fn counts(alloc: Global, mode: BERMode, case: &Case) -> Option<ASN1Result<(usize, usize)>> {
+    let (count, size) = match case.arg.split_once('/') {
+        Some((count, size)) => (count, Some(size.parse().ok()?)),
+        None => (case.arg, None),
+    };
+    let count = count.parse().ok()?;
+    match case.call {
+        "seqof_many" => Some(collected(alloc, mode, count)),
+        "whole" | "cut" => Some(octets(alloc, mode, count, size)),
+        _ => None,
+    }
+}
+
+// The answer with these counts.
+fn shown(alloc: Global, items: usize, bytes: usize) -> Result<String, AllocError> {
+    format!(in alloc; "ok {items} {bytes}")
+}
+
+// What reading so many bytes answers, in segments of so many.
+fn octets(
+    alloc: Global,
+    mode: BERMode,
+    count: usize,
+    segment: Option<usize>,
+) -> ASN1Result<(usize, usize)> {
+    let bytes = counting(alloc, count)?;
+    let encoded = encoded(alloc, &bytes, segment)?;
+    read_back(alloc, mode, &encoded, &bytes)
+}
+
+// So many bytes, none like its neighbours.
+fn counting(alloc: Global, count: usize) -> Result<Vec<u8>, AllocError> {
+    let mut bytes = Vec::with_capacity(alloc, count)?;
+    let mut next = 0u8;
+    for _ in 0..count {
+        bytes.push(next)?;
+        next = next.wrapping_add(7);
+    }
+    Ok(bytes)
+}
+
+// The bytes as one element, or in segments.
+fn encoded(alloc: Global, bytes: &[u8], segment: Option<usize>) -> ASN1Result<Vec<u8>> {
+    match segment {
+        None => whole(alloc, bytes),
+        Some(size) => cut(alloc, bytes, size),
+    }
+}
+
+// The bytes as one element.
+fn whole(alloc: Global, bytes: &[u8]) -> ASN1Result<Vec<u8>> {
+    construct_der(alloc, |writer| writer.write_bytes(bytes))
+}
+
+// The bytes in segments of this size, of one byte at least; the last may be shorter.
+fn cut(alloc: Global, bytes: &[u8], size: usize) -> ASN1Result<Vec<u8>> {
+    let mut all = Vec::new(alloc);
+    append_bytes(&mut all, &[36, 128])?;
+    for segment in bytes.chunks(size.max(1)) {
+        append_segment(alloc, &mut all, segment)?;
+    }
+    append_bytes(&mut all, &[0, 0])?;
+    Ok(all)
+}
+
+// Appends a primitive element of these bytes.
+fn append_segment(alloc: Global, all: &mut Vec<u8>, segment: &[u8]) -> ASN1Result<()> {
+    let element = whole(alloc, segment)?;
+    append_bytes(all, &element)
+}
+
+// Appends bytes.
+fn append_bytes(all: &mut Vec<u8>, bytes: &[u8]) -> ASN1Result<()> {
+    match all.extend_from_slice(bytes) {
+        Ok(()) => Ok(()),
+        Err(_) => Err(ASN1Error::new(ASN1ErrorKind::OutOfMemory)),
+    }
+}
+
+// How many bytes are read, if they are these, and how many are written of them.
+fn read_back(
+    alloc: Global,
+    mode: BERMode,
+    encoded: &[u8],
+    bytes: &[u8],
+) -> ASN1Result<(usize, usize)> {
+    let element = parse(alloc, mode, BYTES, encoded)?;
+    let written = form_of(alloc, mode, &element)?;
+    match element.octets() {
+        Some(read) if read == bytes => Ok((read.len(), written.len())),
+        _ => Ok((0, 0)),
+    }
+}
+
+// How many numbers are collected of so many that are written, and in how many bytes.
+fn collected(alloc: Global, mode: BERMode, count: usize) -> ASN1Result<(usize, usize)> {
+    let bytes = form_of(alloc, mode, &numbers(alloc, count)?)?;
+    match parse(alloc, mode, NUMBERS, &bytes)?.parts() {
+        Some(items) => Ok((items.len(), bytes.len())),
+        None => Ok((0, 0)),
+    }
+}
+
+// The numbers below this one.
+fn numbers(alloc: Global, count: usize) -> Result<Element, AllocError> {
+    let mut parts = Vec::new(alloc);
+    for number in 0..i64::try_from(count).unwrap_or(0) {
+        append(&mut parts, Part::plain(Leaf::I64(number)))?;
+    }
+    Ok(Element::group(Group::SequenceOf, parts))
+}

@@ -1,0 +1,208 @@
+//! What stands in a SEQUENCE or a SET, read part by part.
+//!
+//! | Step in a SEQUENCE | Reads |
+//! |---|---|
+//! | `Next` | next |
+//! | `Optional` | read_optional; `none` is shown where the part is absent |
+//! | `Ten` | read_default of an INTEGER that is 10 where there is none; 10 is shown and not written |
+//! | `Discarded` | next, thrown away |
+//! | `OptionalDiscarded` | read_optional, thrown away |
+//! | `Buffered` | read_with_buffer of the parts, around next |
+//! | `NextBuffered` | next, and read_with_buffer of it |
+//! | `Refused` | nothing: the callback answers this refusal |
+//!
+//! | Step in a SET | Reads |
+//! |---|---|
+//! | `Next` | next with this tag |
+//! | `Asked` | nothing behind next with this tag |
+//! | `AskedInVain` | the same, whatever next answers |
+//! | `Optional` | read_optional with this tag |
+//! | `False` | read_default of a BOOLEAN that is false where there is none; false is shown and not written |
+
+use crate::leaf::Leaf;
+use crate::parts::{Part, Piece, append};
+use std::alloc::Global;
+use yasna::tags::TAG_BOOLEAN;
+use yasna::{
+    ASN1Error, ASN1ErrorKind, ASN1Result, BERReader, BERReaderSeq, BERReaderSet, Tag, TagClass,
+};
+
+/// How a part of a SEQUENCE is asked for.
+#[derive(Clone, Copy)]
+pub enum Ask {
+    Next,
+    Optional,
+    Ten,
+    Discarded,
+    OptionalDiscarded,
+    Buffered,
+    NextBuffered,
+    Refused(ASN1ErrorKind),
+}
+
+/// A step in a SEQUENCE: how a part is asked for, and what it is read as.
+#[derive(Clone, Copy)]
+pub struct Step(pub Ask, pub Piece);
+
+/// A step in a SET.
+#[derive(Clone, Copy)]
+pub enum Choice {
+    Next(Tag, Piece),
+    Asked(Tag),
+    AskedInVain(Tag),
+    Optional(Tag, Piece),
+    False,
+}
+
+/// Takes these steps in a SEQUENCE.
+pub fn read_steps(alloc: Global, steps: &[Step], seq: &mut BERReaderSeq) -> ASN1Result<Vec<Part>> {
+    let mut parts = Vec::new(alloc);
+    for step in steps {
+        if let Some(part) = step.read(alloc, seq)? {
+            append(&mut parts, part)?;
+        }
+    }
+    Ok(parts)
+}
+
+/// Takes these steps in a SET.
+pub fn read_choices(
+    alloc: Global,
+    steps: &[Choice],
+    set: &mut BERReaderSet,
+) -> ASN1Result<Vec<Part>> {
+    let mut parts = Vec::new(alloc);
+    for step in steps {
+        if let Some(part) = step.read(set)? {
+            append(&mut parts, part)?;
+        }
+    }
+    Ok(parts)
+}
+
+/// Reads the elements of a SET that have a tag numbered 0 to 199, each as it stands.
+pub fn read_any(alloc: Global, piece: Piece, set: &mut BERReaderSet) -> ASN1Result<Vec<Part>> {
+    let tags = all_tags(alloc)?;
+    let mut parts = Vec::new(alloc);
+    for _ in 0..u64::MAX {
+        let part = match set.next(&tags) {
+            Ok(reader) => piece.read(reader)?,
+            Err(_) => break,
+        };
+        append(&mut parts, part)?;
+    }
+    Ok(parts)
+}
+
+// The tags of each class that are numbered 0 to 199.
+fn all_tags(alloc: Global) -> ASN1Result<Vec<Tag>> {
+    let mut tags = Vec::with_capacity(alloc, 800)?;
+    for number in 0..200u64 {
+        let universal = Tag {
+            tag_class: TagClass::Universal,
+            tag_number: number,
+        };
+        tags.extend_from_slice(&[
+            universal,
+            Tag::application(number),
+            Tag::context(number),
+            Tag::private(number),
+        ])?;
+    }
+    Ok(tags)
+}
+
+/// Reads a part, and the bytes that it took.
+pub fn read_buffered(alloc: Global, piece: Piece, reader: BERReader) -> ASN1Result<Part> {
+    let (part, taken) = reader.read_with_buffer(|inner| piece.read(inner))?;
+    Ok(part.with_taken(Vec::from_slice(alloc, taken)?))
+}
+
+impl Step {
+    // Takes the step: the part that is shown, if any is.
+    fn read(self, alloc: Global, seq: &mut BERReaderSeq) -> ASN1Result<Option<Part>> {
+        let Step(ask, piece) = self;
+        match ask {
+            Ask::Next => piece.read(seq.next()).map(Some),
+            Ask::Optional => read_optional(piece, seq),
+            Ask::Ten => read_ten(seq).map(Some),
+            Ask::Discarded => {
+                let _ = piece.read(seq.next());
+                Ok(None)
+            }
+            Ask::OptionalDiscarded => {
+                let _ = read_optional(piece, seq);
+                Ok(None)
+            }
+            Ask::Buffered => read_next_buffered(alloc, piece, seq).map(Some),
+            Ask::NextBuffered => read_buffered(alloc, piece, seq.next()).map(Some),
+            Ask::Refused(kind) => Err(ASN1Error::new(kind)),
+        }
+    }
+}
+
+// Reads a part that may be absent.
+fn read_optional(piece: Piece, seq: &mut BERReaderSeq) -> ASN1Result<Option<Part>> {
+    match seq.read_optional(|part| piece.read(part))? {
+        Some(part) => Ok(Some(part)),
+        None => Ok(Some(Part::absent())),
+    }
+}
+
+// Reads the next part, and the bytes that it took.
+fn read_next_buffered(alloc: Global, piece: Piece, seq: &mut BERReaderSeq) -> ASN1Result<Part> {
+    let (part, taken) = seq.read_with_buffer(|parts| piece.read(parts.next()))?;
+    Ok(part.with_taken(Vec::from_slice(alloc, taken)?))
+}
+
+// Reads an INTEGER, 10 where there is none.
+fn read_ten(seq: &mut BERReaderSeq) -> ASN1Result<Part> {
+    Ok(match seq.read_default(10, read_integer)? {
+        10 => Part::unwritten(Leaf::I64(10)),
+        other => Part::plain(Leaf::I64(other)),
+    })
+}
+
+// Reads an INTEGER.
+fn read_integer(reader: BERReader) -> ASN1Result<i64> {
+    reader.read_i64()
+}
+
+impl Choice {
+    // Takes the step: the element that is shown, if any is.
+    fn read(self, set: &mut BERReaderSet) -> ASN1Result<Option<Part>> {
+        match self {
+            Choice::Next(tag, piece) => piece.read(set.next(&[tag])?).map(Some),
+            Choice::Asked(tag) => {
+                set.next(&[tag])?;
+                Ok(None)
+            }
+            Choice::AskedInVain(tag) => {
+                let _ = set.next(&[tag]);
+                Ok(None)
+            }
+            Choice::Optional(tag, piece) => {
+                match set.read_optional(&[tag], |part| piece.read(part))? {
+                    Some(part) => Ok(Some(part)),
+                    None => Ok(Some(Part::absent())),
+                }
+            }
+            Choice::False => read_false(set).map(Some),
+        }
+    }
+}
+
+// Reads a BOOLEAN, false where there is none.
+fn read_false(set: &mut BERReaderSet) -> ASN1Result<Part> {
+    Ok(
+        match set.read_default(&[TAG_BOOLEAN], false, read_boolean)? {
+            true => Part::plain(Leaf::Bool(true)),
+            false => Part::unwritten(Leaf::Bool(false)),
+        },
+    )
+}
+
+// Reads a BOOLEAN.
+fn read_boolean(reader: BERReader) -> ASN1Result<bool> {
+    reader.read_bool()
+}
