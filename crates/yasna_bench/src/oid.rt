@@ -1,11 +1,11 @@
 //! Calls that read and write object identifiers.
 ghost use Rattle.yasna.specs.base.Oid.{IsEncodableOid};
 
-use crate::reading::mode;
-use crate::{REFUSED, answered, length, mixed};
+use crate::reading::of_parts;
+use crate::{REFUSED, length, mixed};
 use std::alloc::Global;
 use yasna::models::ObjectIdentifier;
-use yasna::{ASN1Result, BERReaderSeq, DERWriterSeq, construct_der, parse_ber_general};
+use yasna::{ASN1Result, BERReaderSeq, DERWriterSeq, construct_der};
 
 /// The checksum of so many object identifiers in a SEQUENCE, of each its count of components.
 #[unsafe(no_mangle)]
@@ -15,12 +15,7 @@ pub extern "C" fn yasna_read_identifiers(
     count: usize,
     der: bool,
 ) -> u64 {
-    answered(parse_ber_general(
-        alloc,
-        bytes,
-        mode(der),
-        |reader| reader.read_sequence(|seq| identifiers(seq, count)),
-    ))
+    of_parts(alloc, bytes, count, der, identifiers)
 }
 
 // The checksum of so many object identifiers.

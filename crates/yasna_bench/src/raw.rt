@@ -1,19 +1,14 @@
 //! Calls that read raw elements.
 
-use crate::reading::mode;
-use crate::{answered, mixed};
+use crate::mixed;
+use crate::reading::of_parts;
 use std::alloc::Global;
-use yasna::{ASN1Result, BERReaderSeq, parse_ber_general};
+use yasna::{ASN1Result, BERReaderSeq};
 
 /// The checksum of the lengths of so many raw elements in a SEQUENCE, each copied as a whole.
 #[unsafe(no_mangle)]
 pub extern "C" fn yasna_read_raw(alloc: Global, bytes: &[u8], count: usize, der: bool) -> u64 {
-    answered(parse_ber_general(
-        alloc,
-        bytes,
-        mode(der),
-        |reader| reader.read_sequence(|seq| elements(seq, count)),
-    ))
+    of_parts(alloc, bytes, count, der, elements)
 }
 
 // The checksum of the lengths of so many elements.

@@ -15,6 +15,21 @@ pub(crate) fn mode(der: bool) -> BERMode
     if der { BERMode::Der } else { BERMode::Ber }
 }
 
+/// The checksum that such a function makes of so many parts of a SEQUENCE.
+#[inline(always)]
+pub(crate) fn of_parts<F>(alloc: Global, bytes: &[u8], count: usize, der: bool, read: F) -> u64
+where
+    F: FnOnce(&mut BERReaderSeq, usize) -> ASN1Result<u64>,
+    requires { F.IsAlwaysCallable read }
+{
+    answered(parse_ber_general(
+        alloc,
+        bytes,
+        mode(der),
+        |reader| reader.read_sequence(|seq| read(seq, count)),
+    ))
+}
+
 /// The checksum of a pair, decoded as a whole.
 #[unsafe(no_mangle)]
 pub extern "C" fn yasna_decode_pair(alloc: Global, bytes: &[u8], der: bool) -> u64 {
@@ -30,12 +45,7 @@ fn pair_checksum(pair: (i64, bool)) -> u64 {
 /// The checksum of so many numbers in a SEQUENCE, taken as they are read.
 #[unsafe(no_mangle)]
 pub extern "C" fn yasna_read_integers(alloc: Global, bytes: &[u8], count: usize, der: bool) -> u64 {
-    answered(parse_ber_general(
-        alloc,
-        bytes,
-        mode(der),
-        |reader| reader.read_sequence(|seq| integers(seq, count)),
-    ))
+    of_parts(alloc, bytes, count, der, integers)
 }
 
 // The checksum of so many numbers.
@@ -71,12 +81,7 @@ pub(crate) fn list_checksum(numbers: &[i64]) -> u64 {
 /// The checksum of so many pairs in a SEQUENCE.
 #[unsafe(no_mangle)]
 pub extern "C" fn yasna_read_pairs(alloc: Global, bytes: &[u8], count: usize, der: bool) -> u64 {
-    answered(parse_ber_general(
-        alloc,
-        bytes,
-        mode(der),
-        |reader| reader.read_sequence(|seq| pairs(seq, count)),
-    ))
+    of_parts(alloc, bytes, count, der, pairs)
 }
 
 // The checksum of so many pairs.
@@ -96,12 +101,7 @@ fn pairs(seq: &mut BERReaderSeq, count: usize) -> ASN1Result<u64> {
 /// The checksum of so many pairs in a SEQUENCE, whose parts may be left out, behind one that is.
 #[unsafe(no_mangle)]
 pub extern "C" fn yasna_read_options(alloc: Global, bytes: &[u8], count: usize, der: bool) -> u64 {
-    answered(parse_ber_general(
-        alloc,
-        bytes,
-        mode(der),
-        |reader| reader.read_sequence(|seq| options(seq, count)),
-    ))
+    of_parts(alloc, bytes, count, der, options)
 }
 
 // The checksum of so many such pairs.
@@ -122,12 +122,7 @@ fn options(seq: &mut BERReaderSeq, count: usize) -> ASN1Result<u64> {
 /// The checksum of so many numbers in a SEQUENCE, each under an implicit tag inside an explicit one.
 #[unsafe(no_mangle)]
 pub extern "C" fn yasna_read_tagged(alloc: Global, bytes: &[u8], count: usize, der: bool) -> u64 {
-    answered(parse_ber_general(
-        alloc,
-        bytes,
-        mode(der),
-        |reader| reader.read_sequence(|seq| tagged(seq, count)),
-    ))
+    of_parts(alloc, bytes, count, der, tagged)
 }
 
 // The checksum of so many such numbers.

@@ -1,6 +1,7 @@
 //! Calls that read and write octet strings and texts.
 
-use crate::reading::mode;
+use crate::reading::{mode, of_parts};
+use crate::writing::of_written;
 use crate::{answered, length, mixed};
 use simdutf8::basic::from_utf8;
 use std::alloc::Global;
@@ -36,12 +37,7 @@ pub extern "C" fn yasna_write_bytes_cer(alloc: Global, contents: &[u8]) -> u64 {
 /// The checksum of the lengths of so many UTF8Strings in a SEQUENCE.
 #[unsafe(no_mangle)]
 pub extern "C" fn yasna_read_texts(alloc: Global, bytes: &[u8], count: usize, der: bool) -> u64 {
-    answered(parse_ber_general(
-        alloc,
-        bytes,
-        mode(der),
-        |reader| reader.read_sequence(|seq| texts(seq, count)),
-    ))
+    of_parts(alloc, bytes, count, der, texts)
 }
 
 // The checksum of the lengths of so many texts.
@@ -60,10 +56,7 @@ pub extern "C" fn yasna_write_texts(alloc: Global, text: &[u8], count: usize) ->
     let Ok(text) = from_utf8(text) else {
         return crate::REFUSED;
     };
-    length(construct_der(
-        alloc,
-        |writer| writer.write_sequence(|seq| write_texts(seq, text, count)),
-    ))
+    of_written(alloc, text, count, write_texts)
 }
 
 // Writes a text so many times.

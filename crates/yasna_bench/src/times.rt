@@ -1,10 +1,11 @@
 //! Calls that parse, print, read and write both times.
 
-use crate::reading::mode;
-use crate::{REFUSED, answered, length, mixed};
+use crate::reading::of_parts;
+use crate::writing::of_written;
+use crate::{REFUSED, mixed};
 use std::alloc::Global;
 use yasna::models::{GeneralizedTime, UTCTime};
-use yasna::{ASN1Result, BERReaderSeq, DERWriterSeq, construct_der, parse_ber_general};
+use yasna::{ASN1Result, BERReaderSeq, DERWriterSeq};
 
 // What a time adds to a checksum.
 fn second_in(checksum: u64, second: i8) -> u64 {
@@ -82,12 +83,7 @@ pub extern "C" fn yasna_read_utc_times(
     count: usize,
     der: bool,
 ) -> u64 {
-    answered(parse_ber_general(
-        alloc,
-        bytes,
-        mode(der),
-        |reader| reader.read_sequence(|seq| utc_times(seq, count)),
-    ))
+    of_parts(alloc, bytes, count, der, utc_times)
 }
 
 // The checksum of so many UTCTimes.
@@ -108,12 +104,7 @@ pub extern "C" fn yasna_read_generalized_times(
     count: usize,
     der: bool,
 ) -> u64 {
-    answered(parse_ber_general(
-        alloc,
-        bytes,
-        mode(der),
-        |reader| reader.read_sequence(|seq| generalized_times(seq, count)),
-    ))
+    of_parts(alloc, bytes, count, der, generalized_times)
 }
 
 // The checksum of so many GeneralizedTimes.
@@ -132,10 +123,7 @@ pub extern "C" fn yasna_write_utc_times(alloc: Global, text: &[u8], count: usize
     let Some(time) = UTCTime::parse(text) else {
         return REFUSED;
     };
-    length(construct_der(
-        alloc,
-        |writer| writer.write_sequence(|seq| write_utc_times(seq, &time, count)),
-    ))
+    of_written(alloc, &time, count, write_utc_times)
 }
 
 // Writes a UTCTime so many times.
@@ -152,10 +140,7 @@ pub extern "C" fn yasna_write_generalized_times(alloc: Global, text: &[u8], coun
     let Ok(Some(time)) = GeneralizedTime::parse(alloc, text) else {
         return REFUSED;
     };
-    length(construct_der(
-        alloc,
-        |writer| writer.write_sequence(|seq| write_generalized_times(seq, &time, count)),
-    ))
+    of_written(alloc, &time, count, write_generalized_times)
 }
 
 // Writes a GeneralizedTime so many times.

@@ -4,6 +4,19 @@ use crate::length;
 use std::alloc::Global;
 use yasna::{ASN1Result, DERWriter, DERWriterSeq, construct_cer, construct_der, encode_der};
 
+/// The length of a SEQUENCE of what such a function writes of a value and a count.
+#[inline(always)]
+pub(crate) fn of_written<T: Copy, F>(alloc: Global, value: T, count: usize, write: F) -> u64
+where
+    F: FnOnce(&mut DERWriterSeq, T, usize) -> ASN1Result<()>,
+    requires { F.IsAlwaysCallable write }
+{
+    length(construct_der(
+        alloc,
+        |writer| writer.write_sequence(|seq| write(seq, value, count)),
+    ))
+}
+
 /// The length of a pair, encoded as a whole.
 #[unsafe(no_mangle)]
 pub extern "C" fn yasna_encode_pair(alloc: Global, number: i64, flag: bool) -> u64 {
@@ -30,10 +43,7 @@ fn integers(seq: &mut DERWriterSeq, numbers: &[i64]) -> ASN1Result<()> {
 /// The length of so many pairs in a SEQUENCE, in as many SEQUENCEs more as `depth` says.
 #[unsafe(no_mangle)]
 pub extern "C" fn yasna_write_pairs(alloc: Global, count: u32, depth: usize) -> u64 {
-    length(construct_der(
-        alloc,
-        |writer| writer.write_sequence(|seq| pairs_within(seq, count, depth)),
-    ))
+    of_written(alloc, count, depth, pairs_within)
 }
 
 /// The length of so many pairs in a SEQUENCE, in CER.
