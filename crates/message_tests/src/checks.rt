@@ -3,9 +3,12 @@
 use std::process::Abort;
 use yasna::ASN1Result;
 
-/// Whether the answer is a yes.
-pub fn holds(answer: ASN1Result<bool>) -> bool {
-    matches!(answer, Ok(true))
+/// Whether the answer is these bytes.
+pub fn gives(answer: ASN1Result<Vec<u8>>, bytes: &[u8]) -> bool {
+    match answer {
+        Ok(found) => found.as_slice() == bytes,
+        Err(_) => false,
+    }
 }
 
 /// Fails the test if one of these is not so, and says which.

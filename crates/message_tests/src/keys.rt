@@ -1,7 +1,7 @@
 //! Private keys (RFC 5208 and RFC 5958), and contents that are signed or enveloped (RFC 5652).
 
 use crate::certificates::bytes_of;
-use crate::checks::{all_hold, holds};
+use crate::checks::all_hold;
 use crate::messages::{comes_back, is_refused};
 use cms::{ContentInfo, EnvelopedData, SignedData};
 use pkcs8::{OneAsymmetricKey, PrivateKeyInfo};
@@ -78,9 +78,14 @@ fn text_comes_back<T: BERDecodable + DEREncodable + DERExact>(
     alloc: Global,
     text: &str,
     header: usize,
-) -> ASN1Result<bool> {
-    let bytes = bytes_of(alloc, text)?;
-    Ok(comes_back::<T>(alloc, content_of(&bytes, header)?))
+) -> bool {
+    let Ok(bytes) = bytes_of(alloc, text) else {
+        return false;
+    };
+    match content_of(&bytes, header) {
+        Ok(content) => comes_back::<T>(alloc, content),
+        Err(_) => false,
+    }
 }
 
 // Whether they are the form of none.
@@ -88,24 +93,30 @@ fn text_is_refused<T: BERDecodable + DEREncodable + DERExact>(
     alloc: Global,
     text: &str,
     header: usize,
-) -> ASN1Result<bool> {
-    let bytes = bytes_of(alloc, text)?;
-    Ok(is_refused::<T>(alloc, content_of(&bytes, header)?))
+) -> bool {
+    let Ok(bytes) = bytes_of(alloc, text) else {
+        return false;
+    };
+    match content_of(&bytes, header) {
+        Ok(content) => is_refused::<T>(alloc, content),
+        Err(_) => false,
+    }
 }
 
-fn are_key_forms(alloc: Global) -> [bool; 4] {
+// A key with its public key is none of the older type. Where contents were streamed, BER alone reads them.
+fn are_forms(alloc: Global) -> [bool; 10] {
     [
-        holds(text_comes_back::<Noted<PrivateKeyInfo>>(alloc, ED25519, 0)),
-        holds(text_comes_back::<Noted<OneAsymmetricKey>>(alloc, ED25519, 0)),
-        holds(text_comes_back::<Noted<OneAsymmetricKey>>(alloc, WITH_PUBLIC_KEY, 0)),
-        holds(text_is_refused::<Noted<PrivateKeyInfo>>(alloc, WITH_PUBLIC_KEY, 0)),
+        text_comes_back::<Noted<PrivateKeyInfo>>(alloc, ED25519, 0),
+        text_comes_back::<Noted<OneAsymmetricKey>>(alloc, ED25519, 0),
+        text_comes_back::<Noted<OneAsymmetricKey>>(alloc, WITH_PUBLIC_KEY, 0),
+        text_is_refused::<Noted<PrivateKeyInfo>>(alloc, WITH_PUBLIC_KEY, 0),
+        text_comes_back::<Noted<ContentInfo>>(alloc, SIGNED, 0),
+        text_comes_back::<Noted<SignedData>>(alloc, SIGNED, 19),
+        text_is_refused::<Noted<ContentInfo>>(alloc, STREAMED, 0),
+        text_comes_back::<Noted<ContentInfo>>(alloc, ENVELOPED, 0),
+        text_comes_back::<Noted<EnvelopedData>>(alloc, ENVELOPED, 19),
+        text_is_refused::<Noted<SignedData>>(alloc, ENVELOPED, 19),
     ]
-}
-
-// One with its public key is none of the older type.
-#[test]
-fn private_keys_come_back(rt: HostRuntime) {
-    all_hold(&rt, &are_key_forms(rt.alloc()));
 }
 
 fn key_of(alloc: Global, text: &str) -> ASN1Result<OneAsymmetricKey> {
@@ -120,23 +131,6 @@ fn said_of(alloc: Global, text: &str) -> ASN1Result<(u64, Option<(usize, usize)>
         Ok(key) => Ok((key.version, public_size(&key))),
         Err(error) => Err(error),
     }
-}
-
-// The same of signed and enveloped contents. Where they were streamed, BER alone reads them.
-fn are_content_forms(alloc: Global) -> [bool; 6] {
-    [
-        holds(text_comes_back::<Noted<ContentInfo>>(alloc, SIGNED, 0)),
-        holds(text_comes_back::<Noted<SignedData>>(alloc, SIGNED, 19)),
-        holds(text_is_refused::<Noted<ContentInfo>>(alloc, STREAMED, 0)),
-        holds(text_comes_back::<Noted<ContentInfo>>(alloc, ENVELOPED, 0)),
-        holds(text_comes_back::<Noted<EnvelopedData>>(alloc, ENVELOPED, 19)),
-        holds(text_is_refused::<Noted<SignedData>>(alloc, ENVELOPED, 19)),
-    ]
-}
-
-#[test]
-fn contents_come_back(rt: HostRuntime) {
-    all_hold(&rt, &are_content_forms(rt.alloc()));
 }
 
 fn signed_data(alloc: Global, text: &str) -> ASN1Result<SignedData> {
@@ -183,8 +177,9 @@ fn are_said(alloc: Global) -> [bool; 5] {
     ]
 }
 
-// Keys, of which one is newer than the type, and contents.
+// Keys, of which one is newer than the type, and signed and enveloped contents: they come back, and say this.
 #[test]
-fn what_they_say(rt: HostRuntime) {
+fn keys_and_contents(rt: HostRuntime) {
+    all_hold(&rt, &are_forms(rt.alloc()));
     all_hold(&rt, &are_said(rt.alloc()));
 }

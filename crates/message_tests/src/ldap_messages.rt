@@ -1,7 +1,7 @@
 //! Messages of LDAP (RFC 4511), made by hand.
 
 use crate::certificates::bytes_of;
-use crate::checks::{finds_none, holds};
+use crate::checks::{finds_none, gives};
 use crate::messages::comes_back;
 use ldap::{Filter, FilterItem, LdapMessage, ProtocolOp};
 use std::alloc::Global;
@@ -158,27 +158,27 @@ fn written_anew(alloc: Global, bytes: &[u8]) -> ASN1Result<Vec<u8>> {
     encode_der(alloc, &message)
 }
 
-fn form_of(alloc: Global, text: &str) -> ASN1Result<Vec<u8>> {
-    written_anew(alloc, &bytes_of(alloc, text)?)
-}
-
-// Whether the message has this form.
-fn has_form(alloc: Global, text: &str, form: &str) -> ASN1Result<bool> {
-    let written = form_of(alloc, text)?;
-    let form = bytes_of(alloc, form)?;
-    Ok(written.as_slice() == form.as_slice())
+// Whether the message has this form, which comes back, and is none itself.
+fn is_longer(alloc: Global, text: &str, form: &str) -> bool {
+    let Ok(bytes) = bytes_of(alloc, text) else {
+        return false;
+    };
+    match bytes_of(alloc, form) {
+        Ok(form) => {
+            gives(written_anew(alloc, &bytes), &form)
+                && comes_back::<Noted<LdapMessage>>(alloc, &form)
+                && decode_der::<Noted<LdapMessage>>(alloc, &bytes).is_err()
+        }
+        Err(_) => false,
+    }
 }
 
 // Whether BER reads no message from it.
-fn is_refused(alloc: Global, text: &str) -> ASN1Result<bool> {
-    let bytes = bytes_of(alloc, text)?;
-    Ok(decode_ber::<Noted<LdapMessage>>(alloc, &bytes).is_err())
-}
-
-// Whether its bytes are no form.
-fn is_no_form(alloc: Global, text: &str) -> ASN1Result<bool> {
-    let bytes = bytes_of(alloc, text)?;
-    Ok(decode_der::<Noted<LdapMessage>>(alloc, &bytes).is_err())
+fn is_refused(alloc: Global, text: &str) -> bool {
+    match bytes_of(alloc, text) {
+        Ok(bytes) => decode_ber::<Noted<LdapMessage>>(alloc, &bytes).is_err(),
+        Err(_) => false,
+    }
 }
 
 // The first message that doesn't come back.
@@ -191,31 +191,14 @@ fn first_other_message(alloc: Global) -> Option<&'static str> {
     None
 }
 
-#[test]
-fn messages_come_back(rt: HostRuntime) {
-    finds_none(&rt, first_other_message(rt.alloc()));
-}
-
 // The first of the others that isn't refused.
 fn first_taken(alloc: Global) -> Option<&'static str> {
     for text in &REFUSED {
-        if !holds(is_refused(alloc, text)) {
+        if !is_refused(alloc, text) {
             return Some(*text);
         }
     }
     None
-}
-
-#[test]
-fn others_are_refused(rt: HostRuntime) {
-    finds_none(&rt, first_taken(rt.alloc()));
-}
-
-// Whether the message has this form, which comes back, and is none itself.
-fn is_longer(alloc: Global, text: &str, form: &str) -> bool {
-    holds(has_form(alloc, text, form))
-        && holds(is_no_form(alloc, text))
-        && text_comes_back(alloc, form)
 }
 
 // The first message for which this isn't so.
@@ -226,23 +209,6 @@ fn first_other_form(alloc: Global) -> Option<&'static str> {
         }
     }
     None
-}
-
-#[test]
-fn what_ber_reads_is_written_anew(rt: HostRuntime) {
-    finds_none(&rt, first_other_form(rt.alloc()));
-}
-
-fn is_asked(alloc: Global, text: &str) -> bool {
-    match message_of(alloc, text) {
-        Ok(message) => asks_for_both(&message.protocol_op),
-        Err(_) => false,
-    }
-}
-
-#[test]
-fn what_a_search_asks(rt: HostRuntime) {
-    assert!(rt; is_asked(rt.alloc(), TAKEN[17]));
 }
 
 // Whether it asks for what isn't one thing and equals another.
@@ -276,4 +242,21 @@ fn has_equality(filters: &[Filter]) -> bool {
         }
     }
     false
+}
+
+// Whether the message asks for both.
+fn is_asked(alloc: Global, text: &str) -> bool {
+    match message_of(alloc, text) {
+        Ok(message) => asks_for_both(&message.protocol_op),
+        Err(_) => false,
+    }
+}
+
+// They come back, others are refused, what BER reads is written anew, and what a search asks.
+#[test]
+fn messages(rt: HostRuntime) {
+    finds_none(&rt, first_other_message(rt.alloc()));
+    finds_none(&rt, first_taken(rt.alloc()));
+    finds_none(&rt, first_other_form(rt.alloc()));
+    assert!(rt; is_asked(rt.alloc(), TAKEN[17]));
 }

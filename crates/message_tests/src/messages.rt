@@ -1,6 +1,6 @@
 //! Messages that are types made of types: a DER form comes back as it was, and what is none is refused.
 
-use crate::checks::all_hold;
+use crate::checks::{all_hold, gives};
 use snmp::{ApplicationSyntax, SimpleSyntax};
 use std::alloc::Global;
 use x509::{AlgorithmIdentifier, Attribute, Extensions, Name, SubjectPublicKeyInfo, Validity};
@@ -20,10 +20,7 @@ pub fn rewritten<T: BERDecodable + DEREncodable + DERExact>(
 
 /// Whether the bytes are the form of a value of this type: they come back.
 pub fn comes_back<T: BERDecodable + DEREncodable + DERExact>(alloc: Global, bytes: &[u8]) -> bool {
-    match rewritten::<T>(alloc, bytes) {
-        Ok(form) => form.as_slice() == bytes,
-        Err(_) => false,
-    }
+    gives(rewritten::<T>(alloc, bytes), bytes)
 }
 
 /// Whether they are the form of none.
@@ -51,26 +48,6 @@ fn are_forms(alloc: Global) -> [bool; 6] {
     ]
 }
 
-#[test]
-fn parts_of_certificates(rt: HostRuntime) {
-    all_hold(&rt, &are_forms(rt.alloc()));
-}
-
-fn are_refused(alloc: Global) -> [bool; 3] {
-    [
-        // a part of a name has one attribute at least
-        is_refused::<Noted<Name>>(alloc, &[48, 2, 49, 0]),
-        is_refused::<Noted<Extensions>>(alloc, &[48, 0]),
-        // an address has four octets
-        is_refused::<Noted<ApplicationSyntax>>(alloc, &[64, 3, 127, 0, 0]),
-    ]
-}
-
-#[test]
-fn too_few_parts(rt: HostRuntime) {
-    all_hold(&rt, &are_refused(rt.alloc()));
-}
-
 fn is_simple(alloc: Global, bytes: &[u8]) -> bool {
     comes_back::<Noted<SimpleSyntax>>(alloc, bytes)
 }
@@ -79,7 +56,7 @@ fn is_of_application(alloc: Global, bytes: &[u8]) -> bool {
     comes_back::<Noted<ApplicationSyntax>>(alloc, bytes)
 }
 
-fn are_values(alloc: Global) -> [bool; 9] {
+fn are_values(alloc: Global) -> [bool; 12] {
     [
         is_simple(alloc, &[2, 1, 5]),
         is_simple(alloc, &[4, 1, 97]),
@@ -90,10 +67,17 @@ fn are_values(alloc: Global) -> [bool; 9] {
         is_of_application(alloc, &[67, 1, 7]),
         is_of_application(alloc, &[68, 1, 97]),
         is_of_application(alloc, &[70, 1, 7]),
+        // an address has four octets
+        is_refused::<Noted<ApplicationSyntax>>(alloc, &[64, 3, 127, 0, 0]),
+        // a part of a name has one attribute at least
+        is_refused::<Noted<Name>>(alloc, &[48, 2, 49, 0]),
+        is_refused::<Noted<Extensions>>(alloc, &[48, 0]),
     ]
 }
 
+// Parts of certificates, values of variables, and too few parts.
 #[test]
-fn values_of_variables(rt: HostRuntime) {
+fn parts_and_values(rt: HostRuntime) {
+    all_hold(&rt, &are_forms(rt.alloc()));
     all_hold(&rt, &are_values(rt.alloc()));
 }

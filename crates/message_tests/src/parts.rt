@@ -1,6 +1,6 @@
 //! A SEQUENCE of parts that are pairs, as of more parts than a tuple has.
 
-use crate::checks::{all_hold, holds};
+use crate::checks::all_hold;
 use std::alloc::Global;
 use yasna::{ASN1Result, InSequence, decode_der};
 
@@ -9,20 +9,18 @@ fn parts_of(alloc: Global, bytes: &[u8]) -> ASN1Result<(i64, (bool, ()))> {
     Ok(read.parts)
 }
 
-fn is_sequence(alloc: Global, bytes: &[u8]) -> ASN1Result<bool> {
-    let (number, (flag, ())) = parts_of(alloc, bytes)?;
-    Ok(number == 5 && flag)
-}
-
-fn are_in_a_sequence(alloc: Global) -> [bool; 2] {
-    let set = [0x31, 6, 2, 1, 5, 1, 1, 255];
-    [
-        holds(is_sequence(alloc, &[0x30, 6, 2, 1, 5, 1, 1, 255])),
-        parts_of(alloc, &set).is_err(),
-    ]
+fn is_sequence(alloc: Global, bytes: &[u8]) -> bool {
+    matches!(parts_of(alloc, bytes), Ok((5, (true, ()))))
 }
 
 // Those of a SET are refused.
+fn are_in_a_sequence(alloc: Global) -> [bool; 2] {
+    [
+        is_sequence(alloc, &[0x30, 6, 2, 1, 5, 1, 1, 255]),
+        parts_of(alloc, &[0x31, 6, 2, 1, 5, 1, 1, 255]).is_err(),
+    ]
+}
+
 #[test]
 fn parts_of_a_sequence(rt: HostRuntime) {
     all_hold(&rt, &are_in_a_sequence(rt.alloc()));

@@ -1,7 +1,7 @@
 //! Messages of SNMPv1 and SNMPv2c (RFC 1157, RFC 1901 and RFC 3416), made by hand as programs of net-snmp send them.
 
 use crate::certificates::bytes_of;
-use crate::checks::{all_hold, holds};
+use crate::checks::{all_hold, gives};
 use snmp::{ApplicationSyntax, SimpleSyntax, v1, v2c};
 use std::alloc::Global;
 use yasna::{
@@ -37,50 +37,30 @@ const LONG: &str =
 const VERSION_3: &str =
     "302602010304067075626c6963a019020101020100020100300e300c06082b060102010101000500";
 
-// Whether the text's bytes are the form of a value of this type.
-fn comes_back<T: BERDecodable + DEREncodable + DERCanonical>(
+// What DER read is written again.
+fn rewritten<T: BERDecodable + DEREncodable + DERCanonical>(
     alloc: Global,
-    text: &str,
-) -> ASN1Result<bool> {
+    bytes: &[u8],
+) -> ASN1Result<Vec<u8>> {
     one_form::<T>();
-    let bytes = bytes_of(alloc, text)?;
-    let value: T = decode_der(alloc, &bytes)?;
-    let form = encode_der(alloc, &value)?;
-    Ok(form.as_slice() == bytes.as_slice())
+    let value: T = decode_der(alloc, bytes)?;
+    encode_der(alloc, &value)
+}
+
+// Whether the text's bytes are the form of a value of this type.
+fn comes_back<T: BERDecodable + DEREncodable + DERCanonical>(alloc: Global, text: &str) -> bool {
+    match bytes_of(alloc, text) {
+        Ok(bytes) => gives(rewritten::<T>(alloc, &bytes), &bytes),
+        Err(_) => false,
+    }
 }
 
 // Whether BER reads no value of this type from them.
-fn is_refused<T: BERDecodable>(alloc: Global, text: &str) -> ASN1Result<bool> {
-    let bytes = bytes_of(alloc, text)?;
-    Ok(decode_ber::<T>(alloc, &bytes).is_err())
-}
-
-fn are_forms(alloc: Global) -> [bool; 4] {
-    [
-        holds(comes_back::<Noted<v1::SnmpMessage>>(alloc, GET)),
-        holds(comes_back::<Noted<v1::SnmpMessage>>(alloc, TRAP)),
-        holds(comes_back::<Noted<v2c::SnmpMessage>>(alloc, RESPONSE)),
-        holds(comes_back::<Noted<v2c::SnmpMessage>>(alloc, BULK)),
-    ]
-}
-
-#[test]
-fn messages_come_back(rt: HostRuntime) {
-    all_hold(&rt, &are_forms(rt.alloc()));
-}
-
-fn are_refused(alloc: Global) -> [bool; 3] {
-    [
-        holds(is_refused::<Noted<v1::SnmpMessage>>(alloc, BULK)),
-        holds(is_refused::<Noted<v2c::SnmpMessage>>(alloc, GET)),
-        holds(is_refused::<Noted<v1::SnmpMessage>>(alloc, VERSION_3)),
-    ]
-}
-
-// Each version has its own messages.
-#[test]
-fn messages_of_other_versions(rt: HostRuntime) {
-    all_hold(&rt, &are_refused(rt.alloc()));
+fn is_refused<T: BERDecodable>(alloc: Global, text: &str) -> bool {
+    match bytes_of(alloc, text) {
+        Ok(bytes) => decode_ber::<T>(alloc, &bytes).is_err(),
+        Err(_) => false,
+    }
 }
 
 // Whether it has the number and the values of RESPONSE.
@@ -137,27 +117,35 @@ fn written_anew(alloc: Global, bytes: &[u8]) -> ASN1Result<Vec<u8>> {
     encode_der(alloc, &noted)
 }
 
-// How many bytes the message's form has.
-fn form_length(alloc: Global, text: &str) -> ASN1Result<usize> {
-    let form = written_anew(alloc, &bytes_of(alloc, text)?)?;
-    Ok(form.len())
+// Whether the message's form has so many bytes, and its own are none.
+fn has_shorter_form(alloc: Global, text: &str, length: usize) -> bool {
+    let Ok(bytes) = bytes_of(alloc, text) else {
+        return false;
+    };
+    match written_anew(alloc, &bytes) {
+        Ok(form) => {
+            form.len() == length && decode_der::<Noted<v2c::SnmpMessage>>(alloc, &bytes).is_err()
+        }
+        Err(_) => false,
+    }
 }
 
-// Whether its bytes are no form.
-fn is_no_form(alloc: Global, text: &str) -> ASN1Result<bool> {
-    let bytes = bytes_of(alloc, text)?;
-    Ok(decode_der::<Noted<v2c::SnmpMessage>>(alloc, &bytes).is_err())
-}
-
-fn are_read(alloc: Global) -> [bool; 3] {
+// Each version has its own messages.
+fn are_messages(alloc: Global) -> [bool; 9] {
     [
+        comes_back::<Noted<v1::SnmpMessage>>(alloc, GET),
+        comes_back::<Noted<v1::SnmpMessage>>(alloc, TRAP),
+        comes_back::<Noted<v2c::SnmpMessage>>(alloc, RESPONSE),
+        comes_back::<Noted<v2c::SnmpMessage>>(alloc, BULK),
+        is_refused::<Noted<v1::SnmpMessage>>(alloc, BULK),
+        is_refused::<Noted<v2c::SnmpMessage>>(alloc, GET),
+        is_refused::<Noted<v1::SnmpMessage>>(alloc, VERSION_3),
         is_said(alloc, RESPONSE),
-        form_length(alloc, LONG) == Ok(40),
-        holds(is_no_form(alloc, LONG)),
+        has_shorter_form(alloc, LONG, 40),
     ]
 }
 
 #[test]
-fn what_ber_reads(rt: HostRuntime) {
-    all_hold(&rt, &are_read(rt.alloc()));
+fn messages(rt: HostRuntime) {
+    all_hold(&rt, &are_messages(rt.alloc()));
 }
