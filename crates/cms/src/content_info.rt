@@ -37,9 +37,7 @@ pub struct ContentInfo {
 impl StandsFor<Fields> for ContentInfo {
     ghost value_of = { λ v. (v.content_type, (v.content, tt)) };
 
-    fn from_value(fields: Fields) -> ContentInfo {
-        let (content_type, others) = fields;
-        let (content, ()) = others;
+    fn from_value((content_type, (content, ())): Fields) -> ContentInfo {
         ContentInfo {
             content_type,
             content,

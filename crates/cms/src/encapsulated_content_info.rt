@@ -39,9 +39,7 @@ pub struct EncapsulatedContentInfo {
 impl StandsFor<Fields> for EncapsulatedContentInfo {
     ghost value_of = { λ v. (v.e_content_type, (v.e_content, tt)) };
 
-    fn from_value(fields: Fields) -> EncapsulatedContentInfo {
-        let (e_content_type, others) = fields;
-        let (e_content, ()) = others;
+    fn from_value((e_content_type, (e_content, ())): Fields) -> EncapsulatedContentInfo {
         EncapsulatedContentInfo {
             e_content_type,
             e_content,

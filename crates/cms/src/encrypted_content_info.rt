@@ -53,10 +53,9 @@ pub struct EncryptedContentInfo {
 impl StandsFor<Fields> for EncryptedContentInfo {
     ghost value_of = { λ v. (v.content_type, (v.content_encryption_algorithm, (v.encrypted_content, tt))) };
 
-    fn from_value(fields: Fields) -> EncryptedContentInfo {
-        let (content_type, others) = fields;
-        let (content_encryption_algorithm, others) = others;
-        let (encrypted_content, ()) = others;
+    fn from_value(
+        (content_type, (content_encryption_algorithm, (encrypted_content, ()))): Fields,
+    ) -> EncryptedContentInfo {
         EncryptedContentInfo {
             content_type,
             content_encryption_algorithm,

@@ -73,12 +73,12 @@ pub struct EnvelopedData {
 impl StandsFor<Fields> for EnvelopedData {
     ghost value_of = { λ v. (v.version, (v.originator_info, (v.recipient_infos, (v.encrypted_content_info, (v.unprotected_attrs, tt))))) };
 
-    fn from_value(fields: Fields) -> EnvelopedData {
-        let (version, others) = fields;
-        let (originator_info, others) = others;
-        let (recipient_infos, others) = others;
-        let (encrypted_content_info, others) = others;
-        let (unprotected_attrs, ()) = others;
+    fn from_value(
+        (
+            version,
+            (originator_info, (recipient_infos, (encrypted_content_info, (unprotected_attrs, ())))),
+        ): Fields,
+    ) -> EnvelopedData {
         EnvelopedData {
             version,
             originator_info,

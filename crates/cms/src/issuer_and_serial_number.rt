@@ -35,9 +35,7 @@ pub struct IssuerAndSerialNumber {
 impl StandsFor<Fields> for IssuerAndSerialNumber {
     ghost value_of = { λ v. (v.issuer, (v.serial_number, tt)) };
 
-    fn from_value(fields: Fields) -> IssuerAndSerialNumber {
-        let (issuer, others) = fields;
-        let (serial_number, ()) = others;
+    fn from_value((issuer, (serial_number, ())): Fields) -> IssuerAndSerialNumber {
         IssuerAndSerialNumber {
             issuer,
             serial_number,

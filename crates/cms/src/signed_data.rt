@@ -86,13 +86,12 @@ pub struct SignedData {
 impl StandsFor<Fields> for SignedData {
     ghost value_of = { λ v. (v.version, (v.digest_algorithms, (v.encap_content_info, (v.certificates, (v.crls, (v.signer_infos, tt)))))) };
 
-    fn from_value(fields: Fields) -> SignedData {
-        let (version, others) = fields;
-        let (digest_algorithms, others) = others;
-        let (encap_content_info, others) = others;
-        let (certificates, others) = others;
-        let (crls, others) = others;
-        let (signer_infos, ()) = others;
+    fn from_value(
+        (
+            version,
+            (digest_algorithms, (encap_content_info, (certificates, (crls, (signer_infos, ()))))),
+        ): Fields,
+    ) -> SignedData {
         SignedData {
             version,
             digest_algorithms,

@@ -73,14 +73,18 @@ pub struct SignerInfo {
 impl StandsFor<Fields> for SignerInfo {
     ghost value_of = { λ v. (v.version, (v.sid, (v.digest_algorithm, (v.signed_attrs, (v.signature_algorithm, (v.signature, (v.unsigned_attrs, tt))))))) };
 
-    fn from_value(fields: Fields) -> SignerInfo {
-        let (version, others) = fields;
-        let (sid, others) = others;
-        let (digest_algorithm, others) = others;
-        let (signed_attrs, others) = others;
-        let (signature_algorithm, others) = others;
-        let (signature, others) = others;
-        let (unsigned_attrs, ()) = others;
+    fn from_value(
+        (
+            version,
+            (
+                sid,
+                (
+                    digest_algorithm,
+                    (signed_attrs, (signature_algorithm, (signature, (unsigned_attrs, ())))),
+                ),
+            ),
+        ): Fields,
+    ) -> SignerInfo {
         SignerInfo {
             version,
             sid,

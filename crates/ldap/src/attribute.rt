@@ -39,9 +39,7 @@ pub struct Attribute {
 impl StandsFor<Fields> for Attribute {
     ghost value_of = { λ v. (v.attribute_type, (v.vals, tt)) };
 
-    fn from_value(fields: Fields) -> Attribute {
-        let (attribute_type, others) = fields;
-        let (vals, ()) = others;
+    fn from_value((attribute_type, (vals, ())): Fields) -> Attribute {
         Attribute {
             attribute_type,
             vals,

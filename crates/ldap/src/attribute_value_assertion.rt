@@ -38,9 +38,7 @@ pub struct AttributeValueAssertion {
 impl StandsFor<Fields> for AttributeValueAssertion {
     ghost value_of = { λ v. (v.attribute_desc, (v.assertion_value, tt)) };
 
-    fn from_value(fields: Fields) -> AttributeValueAssertion {
-        let (attribute_desc, others) = fields;
-        let (assertion_value, ()) = others;
+    fn from_value((attribute_desc, (assertion_value, ())): Fields) -> AttributeValueAssertion {
         AttributeValueAssertion {
             attribute_desc,
             assertion_value,

@@ -58,10 +58,7 @@ pub struct BindRequest {
 impl StandsFor<Fields> for BindRequest {
     ghost value_of = { λ v. (v.version, (v.name, (v.authentication, tt))) };
 
-    fn from_value(fields: Fields) -> BindRequest {
-        let (version, others) = fields;
-        let (name, others) = others;
-        let (authentication, ()) = others;
+    fn from_value((version, (name, (authentication, ()))): Fields) -> BindRequest {
         BindRequest {
             version,
             name,

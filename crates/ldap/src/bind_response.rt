@@ -54,12 +54,12 @@ pub struct BindResponse {
 impl StandsFor<Fields> for BindResponse {
     ghost value_of = { λ v. (v.result.result_code, (v.result.matched_dn, (v.result.diagnostic_message, (v.result.referral, (v.server_sasl_creds, tt))))) };
 
-    fn from_value(fields: Fields) -> BindResponse {
-        let (result_code, others) = fields;
-        let (matched_dn, others) = others;
-        let (diagnostic_message, others) = others;
-        let (referral, others) = others;
-        let (server_sasl_creds, ()) = others;
+    fn from_value(
+        (
+            result_code,
+            (matched_dn, (diagnostic_message, (referral, (server_sasl_creds, ())))),
+        ): Fields,
+    ) -> BindResponse {
         let outcome = LdapResult {
             result_code,
             matched_dn,

@@ -44,10 +44,7 @@ pub struct Control {
 impl StandsFor<Fields> for Control {
     ghost value_of = { λ v. (v.control_type, (v.criticality, (v.control_value, tt))) };
 
-    fn from_value(fields: Fields) -> Control {
-        let (control_type, others) = fields;
-        let (criticality, others) = others;
-        let (control_value, ()) = others;
+    fn from_value((control_type, (criticality, (control_value, ()))): Fields) -> Control {
         Control {
             control_type,
             criticality,

@@ -55,10 +55,7 @@ pub struct LdapMessage {
 impl StandsFor<Fields> for LdapMessage {
     ghost value_of = { λ v. (v.message_id, (v.protocol_op, (v.controls, tt))) };
 
-    fn from_value(fields: Fields) -> LdapMessage {
-        let (message_id, others) = fields;
-        let (protocol_op, others) = others;
-        let (controls, ()) = others;
+    fn from_value((message_id, (protocol_op, (controls, ()))): Fields) -> LdapMessage {
         LdapMessage {
             message_id,
             protocol_op,

@@ -60,11 +60,9 @@ pub struct LdapResult {
 impl StandsFor<Fields> for LdapResult {
     ghost value_of = { λ v. (v.result_code, (v.matched_dn, (v.diagnostic_message, (v.referral, tt)))) };
 
-    fn from_value(fields: Fields) -> LdapResult {
-        let (result_code, others) = fields;
-        let (matched_dn, others) = others;
-        let (diagnostic_message, others) = others;
-        let (referral, ()) = others;
+    fn from_value(
+        (result_code, (matched_dn, (diagnostic_message, (referral, ())))): Fields,
+    ) -> LdapResult {
         LdapResult {
             result_code,
             matched_dn,

@@ -83,11 +83,9 @@ pub struct MatchingRuleAssertion {
 impl StandsFor<Fields> for MatchingRuleAssertion {
     ghost value_of = { λ v. (v.matching_rule, (v.attribute_type, (v.match_value, (v.dn_attributes, tt)))) };
 
-    fn from_value(fields: Fields) -> MatchingRuleAssertion {
-        let (matching_rule, others) = fields;
-        let (attribute_type, others) = others;
-        let (match_value, others) = others;
-        let (dn_attributes, ()) = others;
+    fn from_value(
+        (matching_rule, (attribute_type, (match_value, (dn_attributes, ())))): Fields,
+    ) -> MatchingRuleAssertion {
         MatchingRuleAssertion {
             matching_rule,
             attribute_type,

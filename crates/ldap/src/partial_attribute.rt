@@ -39,9 +39,7 @@ pub struct PartialAttribute {
 impl StandsFor<Fields> for PartialAttribute {
     ghost value_of = { λ v. (v.attribute_type, (v.vals, tt)) };
 
-    fn from_value(fields: Fields) -> PartialAttribute {
-        let (attribute_type, others) = fields;
-        let (vals, ()) = others;
+    fn from_value((attribute_type, (vals, ())): Fields) -> PartialAttribute {
         PartialAttribute {
             attribute_type,
             vals,

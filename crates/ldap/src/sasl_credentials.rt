@@ -38,9 +38,7 @@ pub struct SaslCredentials {
 impl StandsFor<Fields> for SaslCredentials {
     ghost value_of = { λ v. (v.mechanism, (v.credentials, tt)) };
 
-    fn from_value(fields: Fields) -> SaslCredentials {
-        let (mechanism, others) = fields;
-        let (credentials, ()) = others;
+    fn from_value((mechanism, (credentials, ())): Fields) -> SaslCredentials {
         SaslCredentials {
             mechanism,
             credentials,

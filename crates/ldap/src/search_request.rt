@@ -91,15 +91,10 @@ pub struct SearchRequest {
 impl StandsFor<Fields> for SearchRequest {
     ghost value_of = { λ v. (v.base_object, (v.scope, (v.deref_aliases, (v.size_limit, (v.time_limit, (v.types_only, (v.filter, (v.attributes, tt)))))))) };
 
-    fn from_value(fields: Fields) -> SearchRequest {
-        let (base_object, others) = fields;
-        let (scope, others) = others;
-        let (deref_aliases, others) = others;
-        let (size_limit, others) = others;
-        let (time_limit, others) = others;
-        let (types_only, others) = others;
-        let (filter, others) = others;
-        let (attributes, ()) = others;
+    fn from_value(
+        (base_object, (scope, (deref_aliases, (size_limit, others)))): Fields,
+    ) -> SearchRequest {
+        let (time_limit, (types_only, (filter, (attributes, ())))) = others;
         SearchRequest {
             base_object,
             scope,

@@ -47,9 +47,7 @@ pub struct SearchResultEntry {
 impl StandsFor<Fields> for SearchResultEntry {
     ghost value_of = { λ v. (v.object_name, (v.attributes, tt)) };
 
-    fn from_value(fields: Fields) -> SearchResultEntry {
-        let (object_name, others) = fields;
-        let (attributes, ()) = others;
+    fn from_value((object_name, (attributes, ())): Fields) -> SearchResultEntry {
         SearchResultEntry {
             object_name,
             attributes,

@@ -45,9 +45,7 @@ pub struct SubstringFilter {
 impl StandsFor<Fields> for SubstringFilter {
     ghost value_of = { λ v. (v.attribute_type, (v.substrings, tt)) };
 
-    fn from_value(fields: Fields) -> SubstringFilter {
-        let (attribute_type, others) = fields;
-        let (substrings, ()) = others;
+    fn from_value((attribute_type, (substrings, ())): Fields) -> SubstringFilter {
         SubstringFilter {
             attribute_type,
             substrings,

@@ -70,13 +70,12 @@ pub struct TrapPdu {
 impl StandsFor<Fields> for TrapPdu {
     ghost value_of = { λ v. (v.enterprise, (v.agent_addr, (v.generic_trap, (v.specific_trap, (v.time_stamp, (v.variable_bindings, tt)))))) };
 
-    fn from_value(fields: Fields) -> TrapPdu {
-        let (enterprise, others) = fields;
-        let (agent_addr, others) = others;
-        let (generic_trap, others) = others;
-        let (specific_trap, others) = others;
-        let (time_stamp, others) = others;
-        let (variable_bindings, ()) = others;
+    fn from_value(
+        (
+            enterprise,
+            (agent_addr, (generic_trap, (specific_trap, (time_stamp, (variable_bindings, ()))))),
+        ): Fields,
+    ) -> TrapPdu {
         TrapPdu {
             enterprise,
             agent_addr,

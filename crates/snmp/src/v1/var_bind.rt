@@ -37,9 +37,7 @@ pub struct VarBind {
 impl StandsFor<Fields> for VarBind {
     ghost value_of = { λ v. (v.name, (v.value, tt)) };
 
-    fn from_value(fields: Fields) -> VarBind {
-        let (name, others) = fields;
-        let (value, ()) = others;
+    fn from_value((name, (value, ())): Fields) -> VarBind {
         VarBind { name, value }
     }
 }

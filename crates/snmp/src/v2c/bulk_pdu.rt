@@ -57,11 +57,9 @@ pub struct BulkPdu {
 impl StandsFor<Fields> for BulkPdu {
     ghost value_of = { λ v. (v.request_id, (v.non_repeaters, (v.max_repetitions, (v.variable_bindings, tt)))) };
 
-    fn from_value(fields: Fields) -> BulkPdu {
-        let (request_id, others) = fields;
-        let (non_repeaters, others) = others;
-        let (max_repetitions, others) = others;
-        let (variable_bindings, ()) = others;
+    fn from_value(
+        (request_id, (non_repeaters, (max_repetitions, (variable_bindings, ())))): Fields,
+    ) -> BulkPdu {
         BulkPdu {
             request_id,
             non_repeaters,

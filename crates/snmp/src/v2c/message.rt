@@ -47,10 +47,7 @@ pub struct SnmpMessage {
 impl StandsFor<Fields> for SnmpMessage {
     ghost value_of = { λ v. (v.version, (v.community, (v.data, tt))) };
 
-    fn from_value(fields: Fields) -> SnmpMessage {
-        let (version, others) = fields;
-        let (community, others) = others;
-        let (data, ()) = others;
+    fn from_value((version, (community, (data, ()))): Fields) -> SnmpMessage {
         SnmpMessage {
             version,
             community,

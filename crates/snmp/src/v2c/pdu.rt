@@ -59,11 +59,9 @@ pub struct Pdu {
 impl StandsFor<Fields> for Pdu {
     ghost value_of = { λ v. (v.request_id, (v.error_status, (v.error_index, (v.variable_bindings, tt)))) };
 
-    fn from_value(fields: Fields) -> Pdu {
-        let (request_id, others) = fields;
-        let (error_status, others) = others;
-        let (error_index, others) = others;
-        let (variable_bindings, ()) = others;
+    fn from_value(
+        (request_id, (error_status, (error_index, (variable_bindings, ())))): Fields,
+    ) -> Pdu {
         Pdu {
             request_id,
             error_status,
