@@ -168,12 +168,13 @@ impl UTCTime {
         String::from_str(alloc, std::str::from_utf8(&self.text()).unwrap())
     }
 
-    /// Whether a text that says this time is the canonical one: no other has as many bytes.
+    /// Whether a text that says this time is the canonical one: of such texts it alone has thirteen bytes, so their number is all that is
+    /// looked at.
     #[doc(hidden)]
     #[inline(always)]
     pub fn is_canonical(&self, text: &[u8]) -> bool
-        requires { IsUtcText text.now (utc_of self.now) }
-        ensures { IsTrue result ↔ text.now ≡ utc_text (utc_of self.now) }
+        ensures length { IsTrue result ↔ length text.now ≡ 13 }
+        ensures canonical { IsUtcText text.now (utc_of self.now) → (IsTrue result ↔ text.now ≡ utc_text (utc_of self.now)) }
     {
         text.len() == 13
     }

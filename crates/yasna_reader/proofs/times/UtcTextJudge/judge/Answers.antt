@@ -16,7 +16,7 @@ returns-then-not-asks_canonical c = record {
 pub returns-then-is_canonical : goal.returns-then-is_canonical
 returns-then-is_canonical c = record {
   text = c.in-Some.ensures;
-  canonical = λ h. c.if-is_canonical.ensures.0 refl;
+  canonical = λ h. (c.if-is_canonical.ensures.canonical c.in-Some.ensures).0 refl;
 }
 
 pub returns-else-is_canonical : goal.returns-else-is_canonical
@@ -28,6 +28,6 @@ returns-else-is_canonical c =
           let same : v ≡ time = utc_text_is c.args.text.now v time x.text c.in-Some.ensures in
           let asked = c.if-not-asks_canonical.ensures.0 refl in
           let canonical = x.canonical asked ∙ ap utc_text same in
-          let yes = c.if-is_canonical.ensures.1 canonical in
+          let yes = (c.if-is_canonical.ensures.canonical c.in-Some.ensures).1 canonical in
           cc,
     )
