@@ -9,14 +9,14 @@ use std::io::Write;
 use yasna_base::mode::BERMode;
 use yasna_listing::fault::Fault;
 use yasna_listing::listing::list_input;
+use yasna_printer::line::Line;
 use yasna_printer::names::Names;
-use yasna_printer::output::Output;
 use yasna_printer::printer::Printer;
 use yasna_printer::value::{Style, write_quoted};
 
 // Lists the elements of bytes, and in which encoding rules they are.
 fn show_bytes<W: Write>(
-    out: &mut Output<'_, W>,
+    out: &mut W,
     mode: BERMode,
     style: Style<'_>,
     bytes: &[u8],
@@ -29,37 +29,51 @@ fn show_bytes<W: Write>(
     printer.finish()
 }
 
-// Writes how many bytes there are, behind this text, and lists the elements of them.
+// Ends a line with how many bytes there are, and lists the elements of them.
 fn show_counted<W: Write>(
-    out: &mut Output<'_, W>,
+    out: &mut W,
     mode: BERMode,
     style: Style<'_>,
-    before: &str,
+    mut line: Line,
     bytes: &[u8],
 ) -> Result<(), Fault>
     ensures raw { OnOk result (IsJoining (IsRaw 101 mode) bytes.now) }
     ensures some { OnOk result (1 ≤ length bytes.now) }
 {
     let count = bytes.len();
-    write!(out, "{before}{count} bytes");
-    out.end_line()?;
+    write!(line, "{count} bytes");
+    line.end(out)?;
     show_bytes(out, mode, style, bytes)
 }
 
+// A line that begins with this text.
+fn line_of(alloc: Global, text: &str) -> Line {
+    let mut line = Line::new(alloc);
+    line.write_str(text);
+    line
+}
+
+// The line of a block of PEM, up to the count of its bytes.
+fn block_line(alloc: Global, label: &[u8]) -> Line {
+    let mut line = line_of(alloc, "input: PEM ");
+    write_quoted(&mut line, label);
+    line.write_str(", ");
+    line
+}
+
 fn show_block<W: Write>(
-    out: &mut Output<'_, W>,
+    out: &mut W,
     mode: BERMode,
     style: Style<'_>,
     block: &Block<'_>,
 ) -> Result<(), Fault> {
-    out.write_str("input: PEM ");
-    write_quoted(out, block.label);
-    show_counted(out, mode, style, ", ", block.bytes.as_slice())
+    let line = block_line(style.alloc, block.label);
+    show_counted(out, mode, style, line, block.bytes.as_slice())
 }
 
 // Takes a line of PEM, and lists the elements of the block that ends with it, if one does.
 fn show_line<'a, W: Write>(
-    out: &mut Output<'_, W>,
+    out: &mut W,
     mode: BERMode,
     style: Style<'_>,
     reader: &mut PemReader<'a>,
@@ -72,7 +86,7 @@ fn show_line<'a, W: Write>(
 }
 
 fn show_blocks<W: Write>(
-    out: &mut Output<'_, W>,
+    out: &mut W,
     mode: BERMode,
     style: Style<'_>,
     input: &[u8],
@@ -85,18 +99,19 @@ fn show_blocks<W: Write>(
 }
 
 fn show_hex<W: Write>(
-    out: &mut Output<'_, W>,
+    out: &mut W,
     mode: BERMode,
     style: Style<'_>,
     input: &[u8],
 ) -> Result<(), Fault> {
     let bytes = decode_hex(style.alloc, input)?;
-    show_counted(out, mode, style, "input: hexadecimal, ", bytes.as_slice())
+    let line = line_of(style.alloc, "input: hexadecimal, ");
+    show_counted(out, mode, style, line, bytes.as_slice())
 }
 
 // Lists the elements of an input of this form.
 fn show_form<W: Write>(
-    out: &mut Output<'_, W>,
+    out: &mut W,
     mode: BERMode,
     form: Form,
     style: Style<'_>,
@@ -108,7 +123,7 @@ fn show_form<W: Write>(
     match form {
         Form::Pem => show_blocks(out, mode, style, input),
         Form::Hex => show_hex(out, mode, style, input),
-        Form::Bytes => show_counted(out, mode, style, "input: ", input),
+        Form::Bytes => show_counted(out, mode, style, line_of(style.alloc, "input: "), input),
     }
 }
 
@@ -131,9 +146,8 @@ pub fn show<W: Write>(
         names: &names,
         width,
     };
-    let mut out = Output::new(out);
     match form {
-        Some(form) => show_form(&mut out, mode, form, style, input),
-        None => show_form(&mut out, mode, form_of(input), style, input),
+        Some(form) => show_form(out, mode, form, style, input),
+        None => show_form(out, mode, form_of(input), style, input),
     }
 }

@@ -8,14 +8,14 @@
 //! | `value` | what primitive elements say |
 //! | `sets` | the order of a SET OF, and how CER cuts strings |
 //! | `remark` | what is said behind a line, and in which encoding rules the whole is |
-//! | `output` | where lines are written |
+//! | `line` | a line as it is made |
 //! | `names` | names of types and of object identifiers |
 //! | `printer` | the lines |
 #![tactic(auto)]
 
 mod kind;
+pub mod line;
 pub mod names;
-pub mod output;
 pub mod printer;
 mod remark;
 mod sets;

@@ -1,8 +1,8 @@
 //! The lines.
 
 use crate::kind::{Kind, kind_of};
+use crate::line::Line;
 use crate::names::type_name;
-use crate::output::Output;
 use crate::remark::{Remark, Verdict, unless};
 use crate::sets::{are_cer_segments, is_out_of_order, stays_whole};
 use crate::value::{Style, write_value};
@@ -32,8 +32,32 @@ impl Listener for Silent {
 
 /// Prints a line for each element.
 #[derive(Drop)]
-pub struct Printer<'o, 'w, 'n, W: Write> {
-    out: &'o mut Output<'w, W>,
+pub struct Printer<'w, 'n, W: Write> {
+    writer: &'w mut W,
+    report: Report<'n>,
+}
+
+impl<'w, 'n, W: Write> Printer<'w, 'n, W> {
+    /// Prints to `writer`.
+    pub fn new(writer: &'w mut W, style: Style<'n>) -> Printer<'w, 'n, W> {
+        Printer {
+            writer,
+            report: Report::new(style),
+        }
+    }
+
+    /// Prints in which encoding rules the elements are.
+    pub fn finish(self) -> Result<(), Fault> {
+        let Printer { writer, mut report } = self;
+        report.print_rules();
+        report.line.end(writer)
+    }
+}
+
+// The line of an element, and what is known of those before it.
+#[derive(Drop)]
+struct Report<'n> {
+    line: Line,
     style: Style<'n>,
     verdict: Verdict,
     // For each element around the next one the tag of its segments, if it is a string.
@@ -42,11 +66,11 @@ pub struct Printer<'o, 'w, 'n, W: Write> {
     is_segment: bool,
 }
 
-impl<'o, 'w, 'n, W: Write> Printer<'o, 'w, 'n, W> {
-    /// Prints to `out`.
-    pub fn new(out: &'o mut Output<'w, W>, style: Style<'n>) -> Printer<'o, 'w, 'n, W> {
-        Printer {
-            out,
+impl<'n> Report<'n> {
+    // Of no elements yet.
+    fn new(style: Style<'n>) -> Report<'n> {
+        Report {
+            line: Line::new(style.alloc),
             style,
             verdict: Verdict::new(),
             around: Vec::new(style.alloc),
@@ -54,42 +78,52 @@ impl<'o, 'w, 'n, W: Write> Printer<'o, 'w, 'n, W> {
         }
     }
 
-    /// Prints in which encoding rules the elements are.
-    pub fn finish(self) -> Result<(), Fault> {
-        let Printer { out, verdict, .. } = self;
-        out.write_str("rules: ");
-        out.write_str(verdict.rules());
-        out.end_line()
+    // In which encoding rules the elements are.
+    fn print_rules(&mut self) {
+        self.line.write_str("rules: ");
+        self.line.write_str(self.verdict.rules())
+    }
+
+    // What is said of an element.
+    fn print_element(&mut self, item: &Item<'_>) {
+        let kind = kind_of(item.tag);
+        self.note_cer(item, kind);
+        self.print_head(item);
+        self.print_contents(item, kind);
+        self.remark_header(item);
+        if self.around.push(segments_of(item.bit, kind)).is_err() {
+            self.line.refuse(Fault::Memory);
+        }
     }
 
     fn print_tag(&mut self, tag: Tag) {
         if let Some(name) = name_of(tag) {
-            return self.out.write_str(name);
+            return self.line.write_str(name);
         }
-        self.out.write_str(class_of(tag.tag_class));
-        write!(self.out, "{}]", tag.tag_number)
+        self.line.write_str(class_of(tag.tag_class));
+        write!(self.line, "{}]", tag.tag_number)
     }
 
     // The place of an element, and its lengths.
     fn print_place(&mut self, item: &Item<'_>) {
         let (offset, header) = (item.offset, item.header);
-        write!(self.out, "{offset:>7} {header:>2}+");
+        write!(self.line, "{offset:>7} {header:>2}+");
         self.print_size(item.size)
     }
 
     fn print_size(&mut self, size: Option<usize>) {
         match size {
-            Some(size) => write!(self.out, "{size:<7}"),
-            None => self.out.write_str("indef  "),
+            Some(size) => write!(self.line, "{size:<7}"),
+            None => self.line.write_str("indef  "),
         }
     }
 
     // The same, and its tag.
     fn print_head(&mut self, item: &Item<'_>) {
         self.print_place(item);
-        self.out.write_str(if item.is_within { ">" } else { " " });
+        self.line.write_str(if item.is_within { ">" } else { " " });
         let indent = 1 + 2 * usize::from(item.depth);
-        write!(self.out, "{:indent$}", "");
+        write!(self.line, "{:indent$}", "");
         self.print_tag(item.tag)
     }
 
@@ -101,8 +135,8 @@ impl<'o, 'w, 'n, W: Write> Printer<'o, 'w, 'n, W> {
         if !item.is_within {
             self.verdict.note(remark);
         }
-        self.out.write_str(" -- ");
-        self.out.write_str(remark.text())
+        self.line.write_str(" -- ");
+        self.line.write_str(remark.text())
     }
 
     // The tag that an element is to have as a segment, if it is one.
@@ -127,9 +161,9 @@ impl<'o, 'w, 'n, W: Write> Printer<'o, 'w, 'n, W> {
 
     fn print_primitive(&mut self, item: &Item<'_>, kind: Kind) {
         if !matches!(kind, Kind::Null) {
-            self.out.write_str(" ");
+            self.line.write_str(" ");
         }
-        let remark = write_value(self.out, self.style, kind, item.contents);
+        let remark = write_value(&mut self.line, self.style, kind, item.contents);
         self.remark(item, remark)
     }
 
@@ -229,26 +263,19 @@ fn is_long(item: &Item<'_>) -> bool {
     item.header > identifier_length(item.tag.tag_number).saturating_add(shortest_length(size))
 }
 
-impl<'o, 'w, 'n, W: Write> Listener for Printer<'o, 'w, 'n, W> {
+impl<'w, 'n, W: Write> Listener for Printer<'w, 'n, W> {
     ghost use Rattle.std.specs.Prelude.{None};
 
     ghost heard = { λ _. None };
 
     fn hear(&mut self, item: &Item<'_>) -> Result<(), Fault> {
-        let kind = kind_of(item.tag);
-        self.note_cer(item, kind);
-        self.print_head(item);
-        self.print_contents(item, kind);
-        self.remark_header(item);
-        if self.around.push(segments_of(item.bit, kind)).is_err() {
-            self.out.refuse(Fault::Memory);
-        }
-        self.out.end_line()
+        self.report.print_element(item);
+        self.report.line.end(self.writer)
     }
 
     // Where one whole element stands there.
     fn looks_into(&self, rules: Rules, string: Place<'_>) -> bool {
-        if self.is_segment {
+        if self.report.is_segment {
             return false;
         }
         match list_element(rules, string, &mut Silent) {

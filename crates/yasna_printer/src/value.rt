@@ -7,14 +7,13 @@ mod text;
 mod time;
 
 use crate::kind::{Characters, Kind};
+use crate::line::Line;
 use crate::names::Names;
-use crate::output::Output;
 use crate::remark::{Remark, unless};
 use arcs::{are_components, write_oid, write_relative};
 use number::write_integer;
 use octets::{are_bits, is_padding_clear, write_bits, write_octets};
 use std::alloc::Global;
-use std::io::Write;
 use std::str;
 pub use text::write_quoted;
 use text::{are_wide, write_utf8, write_wide};
@@ -33,14 +32,14 @@ pub struct Style<'n> {
     pub width: usize,
 }
 
-fn write_boolean<W: Write>(out: &mut Output<'_, W>, contents: &[u8]) -> Option<Remark> {
+fn write_boolean(line: &mut Line, contents: &[u8]) -> Option<Remark> {
     match contents {
         [0] => {
-            out.write_str("FALSE");
+            line.write_str("FALSE");
             None
         }
         [value] => {
-            out.write_str("TRUE");
+            line.write_str("TRUE");
             unless(*value == 255, Remark::Truth)
         }
         _ => Some(Remark::Boolean),
@@ -71,26 +70,18 @@ fn are_characters(characters: Characters, octets: &[u8]) -> bool {
     }
 }
 
-fn write_text<W: Write>(
-    out: &mut Output<'_, W>,
-    characters: Characters,
-    octets: &[u8],
-) -> Option<Remark> {
+fn write_text(line: &mut Line, characters: Characters, octets: &[u8]) -> Option<Remark> {
     match characters {
-        Characters::Utf8 => write_utf8(out, octets),
-        Characters::Bmp => write_wide(out, octets, 2),
-        Characters::Universal => write_wide(out, octets, 4),
-        _ => write_quoted(out, octets),
+        Characters::Utf8 => write_utf8(line, octets),
+        Characters::Bmp => write_wide(line, octets, 2),
+        Characters::Universal => write_wide(line, octets, 4),
+        _ => write_quoted(line, octets),
     }
     unless(are_characters(characters, octets), Remark::Characters)
 }
 
-fn write_bit_string<W: Write>(
-    out: &mut Output<'_, W>,
-    style: Style<'_>,
-    contents: &[u8],
-) -> Option<Remark> {
-    write_bits(out, style.alloc, contents, style.width);
+fn write_bit_string(line: &mut Line, style: Style<'_>, contents: &[u8]) -> Option<Remark> {
+    write_bits(line, style.alloc, contents, style.width);
     if are_bits(contents) {
         return unless(is_padding_clear(contents), Remark::Padding);
     }
@@ -100,27 +91,27 @@ fn write_bit_string<W: Write>(
 // A number of more octets is written in hexadecimal: to write it in decimal would take long.
 const LONGEST_DECIMAL: usize = 2048;
 
-fn write_integer_or_octets<W: Write>(out: &mut Output<'_, W>, style: Style<'_>, contents: &[u8]) {
+fn write_integer_or_octets(line: &mut Line, style: Style<'_>, contents: &[u8]) {
     if contents.len() > LONGEST_DECIMAL {
-        return write_octets(out, style.alloc, contents, style.width);
+        return write_octets(line, style.alloc, contents, style.width);
     }
-    write_integer(out, style.alloc, contents)
+    write_integer(line, style.alloc, contents)
 }
 
 // Writes a time, where there was memory to read it.
-fn write_time<W: Write>(out: &mut Output<'_, W>, alloc: Global, contents: &[u8]) -> Option<Remark> {
-    match write_generalized_time(out, alloc, contents) {
+fn write_time(line: &mut Line, alloc: Global, contents: &[u8]) -> Option<Remark> {
+    match write_generalized_time(line, alloc, contents) {
         Ok(remark) => remark,
         Err(_) => {
-            out.refuse(Fault::Memory);
+            line.refuse(Fault::Memory);
             None
         }
     }
 }
 
 /// Writes what the contents of a primitive element of this kind say, and tells what is wrong with them.
-pub fn write_value<W: Write>(
-    out: &mut Output<'_, W>,
+pub fn write_value(
+    line: &mut Line,
     style: Style<'_>,
     kind: Kind,
     contents: &[u8],
@@ -131,30 +122,30 @@ pub fn write_value<W: Write>(
         width,
     } = style;
     match kind {
-        Kind::Boolean => write_boolean(out, contents),
+        Kind::Boolean => write_boolean(line, contents),
         Kind::Integer => {
-            write_integer_or_octets(out, style, contents);
+            write_integer_or_octets(line, style, contents);
             unless(are_number(contents), Remark::Number)
         }
-        Kind::Bits => write_bit_string(out, style, contents),
+        Kind::Bits => write_bit_string(line, style, contents),
         Kind::Null => unless(contents.is_empty(), Remark::Null),
         Kind::Oid => {
-            write_oid(out, alloc, names, contents);
+            write_oid(line, alloc, names, contents);
             unless(are_components(contents), Remark::Components)
         }
         Kind::Relative => {
-            write_relative(out, alloc, contents);
+            write_relative(line, alloc, contents);
             unless(are_components(contents), Remark::Components)
         }
-        Kind::Text(characters) => write_text(out, characters, contents),
-        Kind::UtcTime => write_utc_time(out, contents),
-        Kind::GeneralizedTime => write_time(out, alloc, contents),
+        Kind::Text(characters) => write_text(line, characters, contents),
+        Kind::UtcTime => write_utc_time(line, contents),
+        Kind::GeneralizedTime => write_time(line, alloc, contents),
         Kind::Octets | Kind::Real | Kind::Unknown => {
-            write_octets(out, alloc, contents, width);
+            write_octets(line, alloc, contents, width);
             None
         }
         Kind::Set | Kind::Parts => {
-            write_octets(out, alloc, contents, width);
+            write_octets(line, alloc, contents, width);
             Some(Remark::HasNoParts)
         }
     }

@@ -1,10 +1,9 @@
 //! Object identifiers with their dots (X.690, 8.19 and 8.20).
 
+use crate::line::Line;
 use crate::names::Names;
-use crate::output::Output;
 use crate::value::number::write_base128;
 use std::alloc::Global;
-use std::io::Write;
 use yasna_base::bytes::base128::read_base128;
 use yasna_listing::fault::Fault;
 
@@ -28,71 +27,65 @@ pub fn are_components(contents: &[u8]) -> bool {
             .all(|component| component.first() != Some(&128))
 }
 
-fn write_component<W: Write>(out: &mut Output<'_, W>, alloc: Global, component: &[u8]) {
+fn write_component(line: &mut Line, alloc: Global, component: &[u8]) {
     match read_base128(component) {
-        Ok((number, [])) => write!(out, "{number}"),
+        Ok((number, [])) => write!(line, "{number}"),
         _ if component.len() > LONGEST_COMPONENT => {
             let size = component.len();
-            write!(out, "({size} octets)")
+            write!(line, "({size} octets)")
         }
-        _ => write_base128(out, alloc, component),
+        _ => write_base128(line, alloc, component),
     }
 }
 
 // The first two components stand in one.
-fn write_first<W: Write>(out: &mut Output<'_, W>, first: &[u8]) {
+fn write_first(line: &mut Line, first: &[u8]) {
     let Ok((number, _)) = read_base128(first) else {
         let size = first.len();
-        return write!(out, "2.({size} octets)");
+        return write!(line, "2.({size} octets)");
     };
     let root = (number / 40).min(2);
     let second = number - 40 * root;
-    write!(out, "{root}.{second}")
+    write!(line, "{root}.{second}")
 }
 
 /// Writes components with dots between them.
-pub fn write_relative<W: Write>(out: &mut Output<'_, W>, alloc: Global, contents: &[u8]) {
+pub fn write_relative(line: &mut Line, alloc: Global, contents: &[u8]) {
     for (number, component) in contents.split_inclusive(is_last).enumerate() {
         if number > 0 {
-            out.write_str(".");
+            line.write_str(".");
         }
-        write_component(out, alloc, component);
+        write_component(line, alloc, component);
     }
 }
 
-fn write_absolute<W: Write>(out: &mut Output<'_, W>, alloc: Global, contents: &[u8]) {
+fn write_absolute(line: &mut Line, alloc: Global, contents: &[u8]) {
     for (number, component) in contents.split_inclusive(is_last).enumerate() {
         if number == 0 {
-            write_first(out, component);
+            write_first(line, component);
         } else {
-            out.write_str(".");
-            write_component(out, alloc, component);
+            line.write_str(".");
+            write_component(line, alloc, component);
         }
     }
 }
 
-// Writes an object identifier into memory.
-fn push_absolute(text: &mut Vec<u8>, alloc: Global, contents: &[u8]) -> Result<(), Fault> {
-    let mut out = Output::new(text);
-    write_absolute(&mut out, alloc, contents);
-    out.status()
-}
-
-fn write_named<W: Write>(out: &mut Output<'_, W>, names: &Names, dotted: &[u8]) {
-    out.write_all(dotted);
+fn write_named(line: &mut Line, names: &Names, dotted: &[u8]) {
+    line.write_all(dotted);
     if let Some(name) = names.find(dotted) {
-        write!(out, " {name}");
+        write!(line, " {name}");
     }
 }
 
 /// Writes an object identifier, and its usual name where it has one.
-pub fn write_oid<W: Write>(out: &mut Output<'_, W>, alloc: Global, names: &Names, contents: &[u8]) {
+pub fn write_oid(line: &mut Line, alloc: Global, names: &Names, contents: &[u8]) {
     if contents.len() > LONGEST_NAMED {
-        return write_absolute(out, alloc, contents);
+        return write_absolute(line, alloc, contents);
     }
-    let mut dotted = Vec::new(alloc);
-    match push_absolute(&mut dotted, alloc, contents) {
-        Ok(()) => write_named(out, names, dotted.as_slice()),
-        Err(fault) => out.refuse(fault),
+    let mut dotted = Line::new(alloc);
+    write_absolute(&mut dotted, alloc, contents);
+    match dotted.text() {
+        Ok(dotted) => write_named(line, names, dotted),
+        Err(fault) => line.refuse(fault),
     }
 }

@@ -1,28 +1,27 @@
 //! Octets and bits in hexadecimal, as X.680 writes them.
 
-use crate::output::Output;
+use crate::line::Line;
 use std::alloc::Global;
-use std::io::Write;
 use yasna_listing::fault::Fault;
 
 // So many octets are turned into text at once.
 const PIECE: usize = 64;
 
-fn write_digits<W: Write>(out: &mut Output<'_, W>, alloc: Global, piece: &[u8]) {
+fn write_digits(line: &mut Line, alloc: Global, piece: &[u8]) {
     match hex::encode_upper(alloc, piece) {
-        Ok(digits) => out.write_str(&digits),
-        Err(_) => out.refuse(Fault::Memory),
+        Ok(digits) => line.write_str(&digits),
+        Err(_) => line.refuse(Fault::Memory),
     }
 }
 
 /// Writes octets in hexadecimal, cut to so many digits.
-pub fn write_octets<W: Write>(out: &mut Output<'_, W>, alloc: Global, octets: &[u8], width: usize) {
+pub fn write_octets(line: &mut Line, alloc: Global, octets: &[u8], width: usize) {
     let shown = octets.get(..width / 2).unwrap_or(octets);
-    out.write_str("'");
+    line.write_str("'");
     for piece in shown.chunks(PIECE) {
-        write_digits(out, alloc, piece);
+        write_digits(line, alloc, piece);
     }
-    out.write_str(if shown.len() < octets.len() {
+    line.write_str(if shown.len() < octets.len() {
         "..'H"
     } else {
         "'H"
@@ -30,13 +29,13 @@ pub fn write_octets<W: Write>(out: &mut Output<'_, W>, alloc: Global, octets: &[
 }
 
 /// Writes the contents of a BIT STRING: its octets, and how many bits of the last are unused.
-pub fn write_bits<W: Write>(out: &mut Output<'_, W>, alloc: Global, contents: &[u8], width: usize) {
+pub fn write_bits(line: &mut Line, alloc: Global, contents: &[u8], width: usize) {
     let Some((unused, octets)) = contents.split_first() else {
-        return write_octets(out, alloc, contents, width);
+        return write_octets(line, alloc, contents, width);
     };
-    write_octets(out, alloc, octets, width);
+    write_octets(line, alloc, octets, width);
     if *unused != 0 {
-        write!(out, " less {unused} bits");
+        write!(line, " less {unused} bits");
     }
 }
 

@@ -2,8 +2,7 @@
 
 ghost use Rattle.std.specs.Prelude.{◌<◌};
 
-use crate::output::Output;
-use std::io::Write;
+use crate::line::Line;
 use std::str;
 
 // Characters that change how those around them are shown, or that aren't seen.
@@ -38,31 +37,31 @@ fn short_escape(code: u32) -> Option<&'static str> {
     }
 }
 
-fn write_escape<W: Write>(out: &mut Output<'_, W>, code: u32) {
+fn write_escape(line: &mut Line, code: u32) {
     match short_escape(code) {
-        Some(escape) => out.write_str(escape),
-        None => write!(out, "\\u{{{code:X}}}"),
+        Some(escape) => line.write_str(escape),
+        None => write!(line, "\\u{{{code:X}}}"),
     }
 }
 
 // Writes a character, or the escape of a code that is none.
-fn write_code<W: Write>(out: &mut Output<'_, W>, code: u32) {
+fn write_code(line: &mut Line, code: u32) {
     match char::from_u32(code) {
-        Some(c) => write_char(out, c),
-        None => write_escape(out, code),
+        Some(c) => write_char(line, c),
+        None => write_escape(line, code),
     }
 }
 
-fn write_char<W: Write>(out: &mut Output<'_, W>, c: char) {
+fn write_char(line: &mut Line, c: char) {
     if needs_escape(c) {
-        return write_escape(out, u32::from(c));
+        return write_escape(line, u32::from(c));
     }
-    write!(out, "{c}")
+    write!(line, "{c}")
 }
 
-fn write_chars<W: Write>(out: &mut Output<'_, W>, text: &str) {
+fn write_chars(line: &mut Line, text: &str) {
     for c in text.chars() {
-        write_char(out, c);
+        write_char(line, c);
     }
 }
 
@@ -71,46 +70,46 @@ fn is_plain(octet: u8) -> bool {
 }
 
 // Writes an octet by its escape or its number.
-fn write_octet<W: Write>(out: &mut Output<'_, W>, octet: u8) {
+fn write_octet(line: &mut Line, octet: u8) {
     if octet < 128 {
-        return write_escape(out, u32::from(octet));
+        return write_escape(line, u32::from(octet));
     }
-    write!(out, "\\x{octet:02X}")
+    write!(line, "\\x{octet:02X}")
 }
 
 // Writes octets of which the last alone may be no plain one.
-fn write_piece<W: Write>(out: &mut Output<'_, W>, piece: &[u8]) {
+fn write_piece(line: &mut Line, piece: &[u8]) {
     match piece {
         [plain @ .., last] if !is_plain(*last) => {
-            out.write_all(plain);
-            write_octet(out, *last)
+            line.write_all(plain);
+            write_octet(line, *last)
         }
-        _ => out.write_all(piece),
+        _ => line.write_all(piece),
     }
 }
 
 // Writes ASCII, and other octets by their numbers.
-fn write_ascii<W: Write>(out: &mut Output<'_, W>, octets: &[u8]) {
+fn write_ascii(line: &mut Line, octets: &[u8]) {
     for piece in octets.split_inclusive(|octet| !is_plain(*octet)) {
-        write_piece(out, piece);
+        write_piece(line, piece);
     }
 }
 
 /// Writes octets as text in UTF-8, or where they are none as ASCII.
-pub fn write_utf8<W: Write>(out: &mut Output<'_, W>, octets: &[u8]) {
-    out.write_str("\"");
+pub fn write_utf8(line: &mut Line, octets: &[u8]) {
+    line.write_str("\"");
     match str::from_utf8(octets) {
-        Ok(text) => write_chars(out, text),
-        Err(_) => write_ascii(out, octets),
+        Ok(text) => write_chars(line, text),
+        Err(_) => write_ascii(line, octets),
     }
-    out.write_str("\"")
+    line.write_str("\"")
 }
 
 /// Writes octets as ASCII, and those that are none by their numbers.
-pub fn write_quoted<W: Write>(out: &mut Output<'_, W>, octets: &[u8]) {
-    out.write_str("\"");
-    write_ascii(out, octets);
-    out.write_str("\"")
+pub fn write_quoted(line: &mut Line, octets: &[u8]) {
+    line.write_str("\"");
+    write_ascii(line, octets);
+    line.write_str("\"")
 }
 
 // The code that octets spell, the highest first.
@@ -123,14 +122,14 @@ fn code_of(octets: &[u8]) -> u32 {
 }
 
 /// Writes characters of so many octets each, the highest first.
-pub fn write_wide<W: Write>(out: &mut Output<'_, W>, octets: &[u8], size: usize)
+pub fn write_wide(line: &mut Line, octets: &[u8], size: usize)
     requires { 0 < size }
 {
-    out.write_str("\"");
+    line.write_str("\"");
     for character in octets.chunks(size) {
-        write_code(out, code_of(character));
+        write_code(line, code_of(character));
     }
-    out.write_str("\"")
+    line.write_str("\"")
 }
 
 /// Whether octets are characters of so many octets each, and none is a surrogate or too large.
