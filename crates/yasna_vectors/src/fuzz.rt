@@ -160,6 +160,22 @@ pub fn check_random(
 }
 
 impl Tally {
+    // Counts a call's fault on these bytes, if it has one, and prints it.
+    fn tell(
+        &mut self,
+        rt: &impl Print,
+        seed: u64,
+        call: &str,
+        bytes: &str,
+        fault: Option<&str>,
+    ) -> io::Result<()> {
+        let Some(fault) = fault else {
+            return Ok(());
+        };
+        self.failed = self.failed.saturating_add(1);
+        println!(rt; "seed {seed}: {call} {bytes}: {fault}")
+    }
+
     // Prints the counts.
     fn print(self, rt: &impl Print) -> io::Result<()> {
         let inputs = self.inputs;
@@ -197,10 +213,8 @@ fn check_calls(
     tally: &mut Tally,
 ) -> io::Result<()> {
     for (call, kind) in &CALLS {
-        if let Some(fault) = fault(alloc, *kind, call, bytes, &mut tally.accepted)? {
-            tally.failed = tally.failed.saturating_add(1);
-            println!(rt; "seed {seed}: {call} {bytes}: {fault}")?;
-        }
+        let fault = fault(alloc, *kind, call, bytes, &mut tally.accepted)?;
+        tally.tell(rt, seed, call, bytes, fault)?;
     }
     Ok(())
 }
