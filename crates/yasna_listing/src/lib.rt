@@ -1,6 +1,6 @@
 //! The elements of ASN.1 bytes, one after the other, each told to a listener (X.690, 8.1).
 //!
-//! It is there for `yasna_lines`, which prints them.
+//! It is there for `yasna_printer`, which prints them.
 //!
 //! | Module | Holds |
 //! |---|---|
