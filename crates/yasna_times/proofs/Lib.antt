@@ -1,3 +1,4 @@
+pub mod Civil
 pub mod Decimal
 pub mod Fraction
 pub mod ExactFraction

@@ -1,0 +1,50 @@
+use Rattle.std.proofs.Common.{sym, ◌∙◌}
+use Rattle.std.proofs.lemmas.Bool.{false≢true}
+use Rattle.yasna_times.proofs.Civil.{kept_8, kept_16, parts_of_date, parts_of_time}
+use Rattle.yasna_times.proofs.models.generalized_time.clock.local.Goals as goal
+
+pub returns-in-Ok : goal.returns-in-Ok
+returns-in-Ok c =
+    let v = c.in-Ok.ensures.value in
+    let y = c.year-year.ensures in
+    let m = c.signed_two-month.ensures in
+    let d = c.signed_two-day.ensures in
+    let h = c.signed_two-hour.ensures in
+    let k = c.minute-minute.ensures in
+    let s = c.second-second.ensures in
+    record {
+      date = (
+        v.0.0 ∙ kept_16 _ _ y.value y.bound,
+        v.0.1 ∙ kept_8 _ _ m.value m.bound,
+        v.0.2 ∙ kept_8 _ _ d.value d.bound,
+      );
+      time = (
+        v.1.0 ∙ kept_8 _ _ h.value h.bound,
+        v.1.1 ∙ kept_8 _ _ k.value k.bound,
+        v.1.2 ∙ kept_8 _ _ s.value s.bound,
+        v.1.3,
+      );
+    }
+
+pub returns-in-Err : goal.returns-in-Err
+returns-in-Err c =
+    λ local x.
+    let y = c.year-year.ensures in
+    let m = c.signed_two-month.ensures in
+    let d = c.signed_two-day.ensures in
+    let h = c.signed_two-hour.ensures in
+    let k = c.minute-minute.ensures in
+    let s = c.second-second.ensures in
+    false≢true (c.in-Err.ensures.succeeds.1 (
+      parts_of_date _ _ _ local.date (
+        x.date.0 ∙ sym (kept_16 _ _ y.value y.bound),
+        x.date.1 ∙ sym (kept_8 _ _ m.value m.bound),
+        x.date.2 ∙ sym (kept_8 _ _ d.value d.bound),
+      ),
+      parts_of_time _ _ _ _ local.time (
+        x.time.0 ∙ sym (kept_8 _ _ h.value h.bound),
+        x.time.1 ∙ sym (kept_8 _ _ k.value k.bound),
+        x.time.2 ∙ sym (kept_8 _ _ s.value s.bound),
+        x.time.3,
+      ),
+    ))
