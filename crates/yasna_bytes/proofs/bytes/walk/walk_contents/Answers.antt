@@ -1,9 +1,33 @@
-use Rattle.std.proofs.Common.{rules, ◌∙◌, ◌-◌, take, sym, ap, set, get_or, length-set, arith, refl, subst, ◌≡◌, ◌+◌, ◌≤◌, length}
+use Rattle.std.proofs.Common.{ℕ, List, ◌<◌, ◌*◌, ◌++◌, Fits, w8, w64, length-append, rules, ◌∙◌, ◌-◌, take, sym, ap, set, get_or, length-set, arith, refl, subst, ◌≡◌, ◌+◌, ◌≤◌, length}
+use Rattle.yasna_base.specs.declared.mode.BERMode.{BERMode}
+use Rattle.yasna_base.specs.Header.{ContentsEnd}
 use Rattle.yasna_bytes.specs.Header.{EndsBefore}
 use Rattle.yasna_bytes.specs.Walk.{Passes, Enters, EndsWithin, Stops}
 use Rattle.yasna_bytes.proofs.Header.{seen_within}
 use Rattle.yasna_bytes.proofs.WalkEnds.{Walking, walking_start, left_fits, left_counts, passed_fits, entered_fits, ends_outermost, left_walked, left_keeps, passed_keeps, entered_keeps, not_walked}
 use Rattle.yasna_bytes.proofs.bytes.walk.walk_contents.Goals as goal
+
+-- a level of those that are left is in the table of what follows
+shallow_within : (d k n : ℕ) → d + k ≡ n → n ≤ 100 → k ≤ 101
+shallow_within d k n e h = omega arith
+
+inner_within : (d k n i : ℕ) → d + k ≡ n → n ≤ 100 → (k ≡ n → ⊥) → i ≡ k → i < 100
+inner_within d k n i e h l f = omega arith
+
+entered_within : (d k n i : ℕ) → d + k ≡ n → n ≤ 100 → 1 ≤ k → i ≡ k - 1 → i < 100
+entered_within d k n i e h l f = omega arith
+
+eight_fit : (i : ℕ) → i < 100 → Fits w64 (i * 8)
+eight_fit i h = omega arith
+
+one_more_fits : (d k n : ℕ) → d + k ≡ n → n ≤ 100 → Fits w8 (k + 1)
+one_more_fits d k n e h = omega arith
+
+-- what follows an element of the innermost contents, and what follows these, stand in the outermost
+all_behind : {m : BERMode} {e : ContentsEnd} {n : ℕ} {s table : List ℕ} {behind k : ℕ} {r : List ℕ} → Walking m e n s table behind k r →
+    (a : List ℕ) → length a ≤ length r → behind + length a ≤ length s
+all_behind {r = r} w a fits =
+    omega (arith, fits, w.counts, ap length w.joined, length-append w.before (r ++ w.after), length-append r w.after)
 
 pub loop-after-init : goal.loop-after-init
 loop-after-init c = (refl, walking_start c.args.cursor.mode c.args.outermost.now.end c.args.cursor.levels c.args.cursor.left.now _)
@@ -103,3 +127,46 @@ returns-in-Err c =
     let b = c.within.ensures in
     let x : Stops c.within.result.mode c.within.result.levels c.args.outermost.now.end c.within.result.left.now c.in-Err.kind = search rules in
     rw c.stopped.ensures (not_walked c.loop-after.invariant.1 b.mode b.levels b.left c.in-Err.kind x)
+
+pub within-requires : goal.within-requires
+within-requires c = shallow_within _ _ _ c.loop-after.invariant.1.deep c.requires.shallow
+
+pub last-rest-requires : goal.last-rest-requires
+last-rest-requires c =
+    let w = c.loop-after.invariant.1 in
+    let b = c.within.ensures in
+    let x : EndsWithin c.args.outermost.now.end c.within.result.left.now c.in-Ok-Left.after.now = search rules in
+    all_behind w _ (left_fits w b.mode b.levels b.left c.in-Ok-Left.after.now x)
+
+pub offset_bounds-outer-from : goal.offset_bounds-outer-from
+offset_bounds-outer-from c =
+    eight_fit _ (inner_within _ _ _ _ c.loop-after.invariant.1.deep c.requires.shallow c.if-levels-cursor.false c.from.ensures)
+
+pub bounds-outer-from : goal.bounds-outer-from
+bounds-outer-from c = inner_within _ _ _ _ c.loop-after.invariant.1.deep c.requires.shallow c.if-levels-cursor.false c.from.ensures
+
+pub overflow_add-levels : goal.overflow_add-levels
+overflow_add-levels c = one_more_fits _ _ _ c.loop-after.invariant.1.deep c.requires.shallow
+
+pub overflow_sub-levels : goal.overflow_sub-levels
+overflow_sub-levels c =
+    let b = c.within.ensures in
+    let x : Enters c.within.result.mode c.within.result.levels c.within.result.left.now c.in-Ok-Entered.opened.within
+    c.in-Ok-Entered.opened.end = search rules in
+    subst (λ k. 1 ≤ k) b.levels x.opened.level
+
+pub offset_bounds-outer-from-in-Ok-Entered : goal.offset_bounds-outer-from-in-Ok-Entered
+offset_bounds-outer-from-in-Ok-Entered c =
+    let b = c.within.ensures in
+    let x : Enters c.within.result.mode c.within.result.levels c.within.result.left.now c.in-Ok-Entered.opened.within
+    c.in-Ok-Entered.opened.end = search rules in
+    let some = subst (λ k. 1 ≤ k) b.levels x.opened.level in
+    eight_fit _ (entered_within _ _ _ _ c.loop-after.invariant.1.deep c.requires.shallow some c.from-in-Ok-Entered.ensures)
+
+pub bounds-outer-from-in-Ok-Entered : goal.bounds-outer-from-in-Ok-Entered
+bounds-outer-from-in-Ok-Entered c =
+    let b = c.within.ensures in
+    let x : Enters c.within.result.mode c.within.result.levels c.within.result.left.now c.in-Ok-Entered.opened.within
+    c.in-Ok-Entered.opened.end = search rules in
+    let some = subst (λ k. 1 ≤ k) b.levels x.opened.level in
+    entered_within _ _ _ _ c.loop-after.invariant.1.deep c.requires.shallow some c.from-in-Ok-Entered.ensures
