@@ -1,2 +1,3 @@
 pub mod Writes
 pub mod Recoded
+pub mod Faults

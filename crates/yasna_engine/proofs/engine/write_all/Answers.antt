@@ -1,4 +1,4 @@
-use Rattle.std.proofs.Common.{◌∙◌, arith}
+use Rattle.std.proofs.Common.{◌∙◌, arith, rules}
 use Rattle.yasna_engine.proofs.Writes.{wrote_more}
 use Rattle.yasna_engine.proofs.engine.write_all.Goals as goal
 
@@ -8,3 +8,6 @@ loop-rest-preserved g c =
       wrote_more _ _ _ c.args.bytes.now inv.0.0 c.loop-rest.rest.now c.in-Ok.count inv.0.1 inv.0.2 c.in-Ok.ensures.bytes,
       c.in-Ok.ensures.count.0 (omega (arith, c.in-Ok.count-test.1)) ∙ inv.1,
     )
+
+pub returns-in-Ok-flush-clause-flushed : goal.returns-in-Ok-flush-clause-flushed
+returns-in-Ok-flush-clause-flushed g c = search rules
