@@ -5,7 +5,6 @@ use crate::names::Names;
 use crate::value::number::write_base128;
 use std::alloc::Global;
 use yasna_base::bytes::base128::read_base128;
-use yasna_listing::fault::Fault;
 
 // A longer component is told by its size alone: to write it in decimal would take long.
 const LONGEST_COMPONENT: usize = 64;
