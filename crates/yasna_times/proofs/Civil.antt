@@ -1,5 +1,5 @@
 -- The calendar: it takes the parts of a date and of a time of day, and a signed number below 100 keeps its value on the way to it.
-use Rattle.std.proofs.Common.{◌≡◌, ℕ, ◌<◌, ◌≤◌, ℤ, pos, arith, ap, subst, Fits, w8, w16, to_z, of_z, ◌∙◌}
+use Rattle.std.proofs.Common.{◌≡◌, ℕ, ◌<◌, ◌≤◌, ℤ, pos, arith, ap, subst, sym, w8, w16, to_z, of_z, ◌∙◌}
 use Rattle.std.proofs.lemmas.Int.{ints}
 use Rattle.jiff.specs.Types.{Date, Time}
 use Rattle.jiff.specs.Words.{IsBetween, days_in_month, IsDate, IsTime, IsYmd, IsHms}
@@ -22,6 +22,10 @@ pub parts_of_time : (h m s n : ℤ) (x : Time) → IsHms h m s n x → IsTime h 
 parts_of_time h m s n x e =
     (omega (arith, ints, x.hour_in), omega (arith, ints, x.minute_in), omega (arith, ints, x.second_in), omega (arith, ints, x.subsec_in))
 
+-- a part of two digits, on its way to a function that takes one
+pub short_part : (z : ℤ) (n : ℕ) → z ≡ pos n → n < 100 → IsBetween (pos 0) (pos 99) (to_z w8 (of_z w8 z))
+short_part z n e h = subst (IsBetween (pos 0) (pos 99)) (sym (kept_8 z n e h)) (omega (arith, ints, h), omega (arith, ints, h))
+
 -- the parts of a time of day have two digits
 pub hour_short : (t : Time) → t.hour < 100
 hour_short t = omega (arith, t.hour_in)
@@ -31,6 +35,3 @@ minute_short t = omega (arith, t.minute_in)
 
 pub second_short : (t : Time) → t.second < 100
 second_short t = omega (arith, t.second_in)
-
-pub fits_short : (n : ℕ) → n < 100 → Fits w8 n
-fits_short n h = omega arith

@@ -1,5 +1,6 @@
 //! Decimal digits in ASCII, of which the texts of both times are made (X.680, 46 and 47).
-ghost use Rattle.std.specs.Prelude.{◌≡◌, ◌+◌, ◌/◌, ◌%◌, ◌<◌, ◌≤◌, ◌↔◌, IsTrue, pos, length};
+ghost use Rattle.std.specs.Prelude.{◌≡◌, ◌+◌, ◌/◌, ◌%◌, ◌<◌, ◌≤◌, ◌↔◌, IsTrue, pos, unsigned_abs, length};
+ghost use Rattle.jiff.specs.Words.{IsBetween};
 ghost use Rattle.yasna_times.specs.Decimal.{HasDigits, IsRun, two_at};
 
 // Where the digits from `from` on end.
@@ -41,6 +42,15 @@ pub(crate) fn signed_two(bytes: &[u8], at: usize) -> i8
     ensures bound { two_at bytes.now at < 100 }
 {
     two(bytes, at) as i8
+}
+
+// A part of a date or of a time of day, which has two digits at most, as a number without a sign.
+pub(crate) fn unsigned(part: i8) -> u8
+    requires { IsBetween (pos 0) (pos 99) part }
+    ensures value { result ≡ unsigned_abs part }
+    ensures bound { result < 100 }
+{
+    part as u8
 }
 
 // The first of two digits.

@@ -10,7 +10,7 @@ mod clock;
 mod layout;
 
 use crate::models::civil::{at_nanosecond, in_years};
-use crate::models::decimal::{are_digits, ones, tens};
+use crate::models::decimal::{are_digits, ones, tens, unsigned};
 use crate::models::fraction::{copied, nine, split, trim};
 use clock::{reading, shows_leap, unit};
 use jiff::civil::DateTime;
@@ -267,7 +267,7 @@ impl GeneralizedTime {
         if self.is_leap_second {
             60
         } else {
-            self.datetime.second() as u8
+            unsigned(self.datetime.second())
         }
     }
 
@@ -294,10 +294,10 @@ impl GeneralizedTime {
         let dt = self.datetime;
         let high = self.century();
         let low = self.year_of_century();
-        let month = dt.month() as u8;
-        let day = dt.day() as u8;
-        let hour = dt.hour() as u8;
-        let minute = dt.minute() as u8;
+        let month = unsigned(dt.month());
+        let day = unsigned(dt.day());
+        let hour = unsigned(dt.hour());
+        let minute = unsigned(dt.minute());
         let second = self.second();
         [
             tens(high),

@@ -6,7 +6,7 @@ ghost use Rattle.yasna_times.specs.Moment.{IsLess};
 ghost use Rattle.yasna_times.specs.UtcTime.{IsUtcDateTime, HasUtcTime, IsUtcClock, IsUtcText, utc_year, utc_second, utc_text};
 
 use crate::models::civil::in_utc;
-use crate::models::decimal::{digits_end, ones, signed_two, tens, two};
+use crate::models::decimal::{digits_end, ones, signed_two, tens, two, unsigned};
 use crate::models::zone::utc_zone;
 use jiff::civil::DateTime;
 use jiff::tz::Offset;
@@ -131,11 +131,11 @@ impl UTCTime {
     {
         let dt = self.datetime;
         let year = (dt.year() % 100) as u8;
-        let month = dt.month() as u8;
-        let day = dt.day() as u8;
-        let hour = dt.hour() as u8;
-        let minute = dt.minute() as u8;
-        let second = dt.second() as u8;
+        let month = unsigned(dt.month());
+        let day = unsigned(dt.day());
+        let hour = unsigned(dt.hour());
+        let minute = unsigned(dt.minute());
+        let second = unsigned(dt.second());
         [
             tens(year),
             ones(year),
