@@ -11,7 +11,7 @@ use Rattle.yasna_base.specs.Canonical.{canonical_element}
 use Rattle.yasna_base.specs.Order.{octets_cmp, in_order}
 use Rattle.yasna_base.specs.Set.{SetOfContents}
 use Rattle.yasna_writer.specs.declared.ordered_part.OrderedPart.{OrderedPart}
-use Rattle.yasna_writer.specs.Parts.{WrittenParts, bytes_each, ordered_bytes}
+use Rattle.yasna_writer.specs.Parts.{WrittenParts, only_part, last_part, bytes_each, ordered_bytes}
 use Rattle.yasna_writer.specs.Set.{EndsPart, LacksParts, BeginsNext, EndsSet}
 use Rattle.yasna_writer.specs.View.{Written, begun}
 
@@ -66,3 +66,13 @@ pub set_ends : (Contents : List (List ℕ) → List ℕ → Type 0) (tag t : Tag
 set_ends Contents tag t old taken left new e f h =
     subst (λ (u : Tag). EndsSet Contents (canonical_element old.mode u Constructed) left (record old { tag = None }) new) f
     (subst (λ (w : Written). EndsSet Contents (canonical_element w.mode tag Constructed) left w new) e h)
+
+-- the end of a SET OF with one part, seen from where this part hadn't been put behind the others
+pub only_part_ends : (form : List ℕ → List ℕ) (parts : List (Vec ℕ Global)) (b : Bool) (m : BERMode) (last : Written) (left : WrittenParts)
+    (old new : Written) →
+    record { parts = bytes_each parts ++ last_part b last.bytes; mode = m; kept = last.kept } ≡ left → b ≡ true → parts ≡ [] →
+    EndsSet SetOfContents form (only_part last) old new → EndsSet SetOfContents form left old new
+only_part_ends form parts b m last left old new v t e h =
+    let one : bytes_each parts ++ last_part b last.bytes ≡ last.bytes ∷ [] = rw (t, e) refl in
+    subst (λ (w : WrittenParts). EndsSet SetOfContents form w old new) v
+    (subst (λ ps. EndsSet SetOfContents form (record { parts = ps; mode = m; kept = last.kept }) old new) (sym one) h)
