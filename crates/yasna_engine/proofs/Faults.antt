@@ -1,5 +1,5 @@
 -- What a run that answers a fault says.
-use Rattle.std.proofs.Common.{◌≡◌, ℕ, ◌<◌, Ok, Err, subst, sym, arith}
+use Rattle.std.proofs.Common.{◌≡◌, ℕ, ◌<◌, Ok, Err, ap, subst, sym, ◌∙◌, arith}
 use Rattle.std.specs.Prelude.{Result, OnErr}
 use Rattle.std.specs.Result.{IsErrAnd}
 use Rattle.yasna.specs.base.declared.error.ASN1Error.{ASN1Error}
@@ -47,3 +47,12 @@ pub device_as : (A B : Type 0) (f : RunFault) (r : Result A RunFault) (P Q : Typ
 device_as A B f (Ok x) P Q h w p = absurd h
 device_as A B (Refused e) (Err z) P Q h w p = subst (λ y. IfDevice {A = A} (Err y) Q) (sym h) tt
 device_as A B Device (Err z) P Q h w p = subst (λ y. IfDevice {A = A} (Err y) Q) (sym h) (w p)
+
+-- where an end failed, what is said of that is so
+pub when_device : {A : Type 0} {P : Type 0} (r : Result A RunFault) (f : RunFault) → r ≡ Err f → f ≡ Device → IfDevice r P → P
+when_device {A = A} {P = P} r f e d h = subst (λ z. IfDevice {A = A} z P) (e ∙ ap Err d) h
+
+-- and where the bytes were refused, what is said of that
+pub when_refused : {A : Type 0} {P : Type 0} (r : Result A RunFault) (f : RunFault) {x : ASN1Error} → r ≡ Err f → f ≡ Refused x
+    → IfRefused r (λ _. P) → P
+when_refused {A = A} {P = P} r f e d h = subst (λ z. IfRefused {A = A} z (λ _. P)) (e ∙ ap Err d) h

@@ -1,3 +1,4 @@
 pub mod Writes
 pub mod Recoded
 pub mod Faults
+pub mod Statuses

@@ -4,6 +4,7 @@ use Rattle.std.proofs.lemmas.Result.{IfOk-from_err, on_ok_weaker}
 use Rattle.std.specs.Global.{Global}
 use Rattle.std.specs.Io.KnownBytes.{Appends}
 use Rattle.yasna.specs.base.declared.mode.BERMode.TheVariants.{Der}
+use Rattle.yasna.proofs.Laws.{can_be_written}
 use Rattle.yasna_engine.proofs.Faults.{not_grown, none_refused, end_failed, refused_with, refused_alone, refused_as, device_as}
 use Rattle.yasna_engine.proofs.engine.run.Goals as goal
 
@@ -181,3 +182,7 @@ pub returns-clause-failed_read : goal.returns-clause-failed_read
 returns-clause-failed_read g c =
     not_grown (g.R.Source.failed c.args.reader.now) (g.R.Source.failed c.read_all.new.reader)
     (c.in_ok-bytes.ensures {u = tt}).ok
+
+pub encode_der-requires : goal.encode_der-requires
+encode_der-requires g c =
+    can_be_written g.met.T.DERCanonical.written c.args.mode 101 c.in_ok-value.value c.as_slice.result.now (c.in_ok-value.ensures {u = tt}).decoded
