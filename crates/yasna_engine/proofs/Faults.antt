@@ -1,6 +1,6 @@
 -- What a run that answers a fault says.
 use Rattle.std.proofs.Common.{◌≡◌, ℕ, ◌<◌, Ok, Err, ap, subst, sym, ◌∙◌, arith}
-use Rattle.std.specs.Prelude.{Result, OnErr}
+use Rattle.std.specs.Prelude.{Result, OnOk, OnErr}
 use Rattle.std.specs.Result.{IsErrAnd}
 use Rattle.yasna.specs.base.declared.error.ASN1Error.{ASN1Error}
 use Rattle.yasna_engine.specs.Engine.{IfRefused, IfDevice}
@@ -23,30 +23,56 @@ end_failed (Ok x) f h = tt
 end_failed (Err (Refused e)) f h = tt
 end_failed (Err Device) f h = f h.1
 
--- a refusal that is handed on says what is so of it
-pub refused_with : (A : Type 0) (e : ASN1Error) (r : Result A RunFault) (P : ASN1Error → Type 0)
-    → IsErrAnd r (λ f. f ≡ Refused e) → P e → IfRefused r P
-refused_with A e (Ok x) P h p = absurd h
-refused_with A e (Err f) P h p = subst (λ z. IfRefused {A = A} (Err z) P) (sym h) p
+-- what a run promises of its answer: of an Ok, of a refusal, of an end that failed, and of what is written where a read failed
+abbrev pub Promises : (O E F C K : Type 0) (R : ASN1Error → Type 0) (D G : Type 0) → Result (Unit {0}) RunFault → Type 0
+Promises O E F C K R D G r = record {
+  ok : OnOk r O;
+  to_the_end : OnOk r E;
+  flushed : OnOk r F;
+  counts : OnOk r C;
+  refused_counts : IfRefused r (λ _. C);
+  refused_writes_nothing : IfRefused r (λ _. K);
+  refused : IfRefused r R;
+  device : IfDevice r D;
+  failed_read : G → K;
+}
 
--- and is no failure of an end
-pub refused_alone : (A : Type 0) (e : ASN1Error) (r : Result A RunFault) (P : Type 0) → IsErrAnd r (λ f. f ≡ Refused e) → IfDevice r P
-refused_alone A e (Ok x) P h = absurd h
-refused_alone A e (Err f) P h = subst (λ z. IfDevice {A = A} (Err z) P) (sym h) tt
+module _ (O E F C K : Type 0) (R : ASN1Error → Type 0) (D G : Type 0) where
+  -- a refusal, where nothing was written
+  pub refused_with : (e : ASN1Error) (r : Result (Unit {0}) RunFault) → IsErrAnd r (λ f. f ≡ Refused e) → C → K → R e → Promises O E F C K R D G r
+  refused_with e (Ok x) h c k p = absurd h
+  refused_with e (Err f) h c k p = subst (λ z. Promises O E F C K R D G (Err z)) (sym h) (record {
+    ok = tt;
+    to_the_end = tt;
+    flushed = tt;
+    counts = tt;
+    refused_counts = c;
+    refused_writes_nothing = k;
+    refused = p;
+    device = tt;
+    failed_read = λ _. k;
+  })
 
--- a fault that is handed on says no more than it said
-pub refused_as : (A B : Type 0) (f : RunFault) (r : Result A RunFault) (P Q : ASN1Error → Type 0) → IsErrAnd r (λ z. z ≡ f)
-    → ((e : ASN1Error) → P e → Q e) → IfRefused {A = B} (Err f) P → IfRefused r Q
-refused_as A B f (Ok x) P Q h w p = absurd h
-refused_as A B (Refused e) (Err z) P Q h w p = subst (λ y. IfRefused {A = A} (Err y) Q) (sym h) (w e p)
-refused_as A B Device (Err z) P Q h w p = subst (λ y. IfRefused {A = A} (Err y) Q) (sym h) tt
+  -- an end that failed, where nothing was written
+  failed_with : (r : Result (Unit {0}) RunFault) → IsErrAnd r (λ f. f ≡ Device) → K → D → Promises O E F C K R D G r
+  failed_with (Ok x) h k d = absurd h
+  failed_with (Err f) h k d = subst (λ z. Promises O E F C K R D G (Err z)) (sym h) (record {
+    ok = tt;
+    to_the_end = tt;
+    flushed = tt;
+    counts = tt;
+    refused_counts = tt;
+    refused_writes_nothing = tt;
+    refused = tt;
+    device = d;
+    failed_read = λ _. k;
+  })
 
--- and so of an end that failed
-pub device_as : (A B : Type 0) (f : RunFault) (r : Result A RunFault) (P Q : Type 0) → IsErrAnd r (λ z. z ≡ f)
-    → (P → Q) → IfDevice {A = B} (Err f) P → IfDevice r Q
-device_as A B f (Ok x) P Q h w p = absurd h
-device_as A B (Refused e) (Err z) P Q h w p = subst (λ y. IfDevice {A = A} (Err y) Q) (sym h) tt
-device_as A B Device (Err z) P Q h w p = subst (λ y. IfDevice {A = A} (Err y) Q) (sym h) (w p)
+  -- a fault that is handed on, where nothing was written, says no more than it said
+  pub handed_on : (B : Type 0) {Q : Type 0} {P : ASN1Error → Type 0} (f : RunFault) (r : Result (Unit {0}) RunFault) → IsErrAnd r (λ z. z ≡ f) → K
+      → IfRefused {A = B} (Err f) P → ((e : ASN1Error) → P e → C × R e) → IfDevice {A = B} (Err f) Q → (Q → D) → Promises O E F C K R D G r
+  handed_on B (Refused e) r h k p refuses q fails = let x = refuses e p in refused_with e r h x.0 k x.1
+  handed_on B Device r h k p refuses q fails = failed_with r h k (fails q)
 
 -- where an end failed, what is said of that is so
 pub when_device : {A : Type 0} {P : Type 0} (r : Result A RunFault) (f : RunFault) → r ≡ Err f → f ≡ Device → IfDevice r P → P
