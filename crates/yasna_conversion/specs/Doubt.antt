@@ -1,5 +1,5 @@
 -- Where the form in DER depends on a schema.
-use Rattle.std.specs.Prelude.{◌≡◌, ◌↔◌, ℕ, zero, suc, List, [], ◌∷◌, ◌++◌, Option, None}
+use Rattle.std.specs.Prelude.{◌≡◌, ◌↔◌, ℕ, zero, suc, min, List, [], ◌∷◌, ◌++◌, Option, None, Some}
 use Rattle.std.specs.List.{AllByRecursion}
 use Rattle.yasna_base.specs.Header.{ContentsEnd, EndsBefore}
 use Rattle.yasna_base.specs.Pieces.{Pieces}
@@ -33,6 +33,11 @@ unfoldable pub IsSure : (Tag → Type 0) → (n : ℕ) → Tree n → Type 0
 unfolding Tree
 IsSure G zero v = ⊥
 IsSure G (suc n) v = IsSureBranch G (IsSure G n) v
+
+-- the first place, where one may be known already
+abbrev pub first_of : Option ℕ → ℕ → ℕ
+first_of None offset = offset
+first_of (Some place) offset = min place offset
 
 -- nothing was met, and nothing new is where P holds
 abbrev pub Meets : Option ℕ → Option ℕ → Type 0 → Type 0

@@ -1,8 +1,8 @@
 //! Where the form in DER can't be told with no schema.
-ghost use Rattle.std.specs.Prelude.{◌≡◌, ◌↔◌, IsTrue, None};
+ghost use Rattle.std.specs.Prelude.{◌≡◌, ◌↔◌, IsTrue, None, Some};
 ghost use Rattle.yasna_base.specs.Set.{set_tag};
 ghost use Rattle.yasna_base.specs.declared.tag.TagClass.TheVariants.{Universal};
-ghost use Rattle.yasna_conversion.specs.Doubt.{Meets};
+ghost use Rattle.yasna_conversion.specs.Doubt.{Meets, first_of};
 ghost use Rattle.yasna_conversion.specs.declared.doubt.Doubt.TheVariants.{Segments, Order};
 ghost use Rattle.yasna_conversion.specs.Parts.{part_tags};
 ghost use Rattle.yasna_conversion.specs.Tree.{AreOneTag};
@@ -33,7 +33,7 @@ impl fmt::Display for Doubt {
 
 // The first place, where one is known: elements within another are met before it ends.
 fn earlier(known: Option<usize>, offset: usize) -> Option<usize>
-    ensures { result ≡ None → ⊥ }
+    ensures { result ≡ Some (first_of known offset) }
 {
     match known {
         Some(place) if place < offset => known,
@@ -80,6 +80,10 @@ impl Doubts {
 
     /// Takes what is in doubt about the constructed element that begins here, has this tag and is around these.
     pub fn note(&mut self, offset: usize, tag: Tag, parts: &[Part])
+        ensures certain { tag.tag_class ≡ Universal → self.new.segments ≡ self.old.segments }
+        ensures may_be_a_string { (tag.tag_class ≡ Universal → ⊥) → self.new.segments ≡ Some (first_of self.old.segments offset) }
+        ensures of_one_tag { (tag ≡ set_tag → AreOneTag (part_tags parts.now)) → self.new.order ≡ self.old.order }
+        ensures of_several_tags { ((tag ≡ set_tag → AreOneTag (part_tags parts.now)) → ⊥) → self.new.order ≡ Some (first_of self.old.order offset) }
         ensures segments { Meets self.old.segments self.new.segments (tag.tag_class ≡ Universal) }
         ensures order { Meets self.old.order self.new.order (tag ≡ set_tag → AreOneTag (part_tags parts.now)) }
     {

@@ -1,7 +1,7 @@
 //! Why there is no output.
 ghost use Rattle.std.specs.Prelude.{◌≡◌, ◌↔◌, ◌-◌, length};
 ghost use Rattle.yasna_base.specs.declared.error.ASN1ErrorKind.TheVariants.{OutOfMemory};
-ghost use Rattle.yasna_conversion.specs.declared.fault.Fault.TheVariants.{Memory};
+ghost use Rattle.yasna_conversion.specs.declared.fault.Fault.TheVariants.{Broken, Memory};
 
 use std::alloc::{AllocError, AllocFailed};
 use std::fmt;
@@ -32,7 +32,8 @@ pub fn offset_of(cursor: Cursor<'_>) -> usize
 impl Fault {
     /// What is wrong with the element that begins here.
     pub fn at(cursor: Cursor<'_>, kind: ASN1ErrorKind) -> Fault
-        ensures { (result ≡ Memory) ↔ (kind ≡ OutOfMemory) }
+        ensures memory { (result ≡ Memory) ↔ (kind ≡ OutOfMemory) }
+        ensures broken { (kind ≡ OutOfMemory → ⊥) → result ≡ Broken (cursor.entry.end - length cursor.entry.left.now) kind }
     {
         if kind == ASN1ErrorKind::OutOfMemory {
             return Fault::Memory;
