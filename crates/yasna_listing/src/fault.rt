@@ -1,4 +1,6 @@
 //! Why a run ends before its input does.
+ghost use Rattle.std.specs.Prelude.{◌≡◌};
+ghost use Rattle.yasna_listing.specs.declared.fault.Fault.TheVariants.{Memory, Output};
 
 use std::alloc::{AllocError, AllocFailed};
 use std::{fmt, io};
@@ -102,18 +104,24 @@ impl fmt::Display for Fault {
 }
 
 impl From<io::Error> for Fault {
+    ghost from_gives = { λ _ e. e ≡ Output };
+
     fn from(_error: io::Error) -> Fault {
         Fault::Output
     }
 }
 
 impl From<AllocError> for Fault {
+    ghost from_gives = { λ _ e. e ≡ Memory };
+
     fn from(_refused: AllocError) -> Fault {
         Fault::Memory
     }
 }
 
 impl<T: Drop> From<AllocFailed<T>> for Fault {
+    ghost from_gives = { λ _ e. e ≡ Memory };
+
     fn from(_refused: AllocFailed<T>) -> Fault {
         Fault::Memory
     }
