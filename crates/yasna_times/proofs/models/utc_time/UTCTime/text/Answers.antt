@@ -1,3 +1,4 @@
+use Rattle.std.proofs.Common.{rules}
 use Rattle.yasna_times.proofs.Moment.{month_short, day_short}
 use Rattle.yasna_times.proofs.Civil.{short_part, hour_short, minute_short, second_short}
 use Rattle.yasna_times.proofs.models.utc_time.UTCTime.text.Goals as goal
@@ -16,3 +17,6 @@ unsigned-minute-requires c = short_part _ _ c.minute.ensures (minute_short c.arg
 
 pub unsigned-second-requires : goal.unsigned-second-requires
 unsigned-second-requires c = short_part _ _ c.second.ensures (second_short c.args.self.now.datetime.time)
+
+pub returns : goal.returns
+returns c = search rules
