@@ -2,7 +2,7 @@
 use Rattle.std.proofs.Common.{◌≡◌, ◌∷◌, ◌++◌, [], ◌==◌, ◌<◌, ◌^◌, ℕ, Bool, true, false, Option, List, None, Some, Vec, Box, Result, Ok, Err, inl, inr, length, vec_len, length-append, refl, sym, ap, subst, ◌∙◌, arith}
 use Rattle.std.specs.Global.{Global}
 use Rattle.std.specs.List.{AllByRecursion, list_any}
-use Rattle.std.specs.Prelude.{nat_lt, MatchResult}
+use Rattle.std.specs.Prelude.{nat_lt, MatchResult, IsOkAnd}
 use Rattle.yasna_base.specs.declared.error.ASN1Error.{ASN1Error}
 use Rattle.yasna_base.specs.declared.error.ASN1ErrorKind.TheVariants.{OutOfMemory}
 use Rattle.yasna_base.specs.declared.tag.Tag.{Tag}
@@ -65,6 +65,13 @@ holds_some v = nat_lt 0 (length v.items)
 
 pub alike : (v w : Vec Filter Global) → list_same v w → holds_some v ≡ holds_some w
 alike v w e = set_sizes_alike the_filter.same (nat_lt 0) v.items w.items e
+
+-- what `map` makes of an answer is found too
+pub found_mapped : {A B : Type 0} (f : A → B) (x : Meaning B) (t : Tag) (s s' : Reading) (r : Result A ASN1Error) (q : Result B ASN1Error) →
+    MatchResult r (λ v. IsOkAnd q (λ w. w ≡ f v)) (λ e. q ≡ Err e) → Found x t s (seen f r) s' → Found x t s q s'
+found_mapped f x t s s' (Ok v) (Ok w) e h = subst (λ z. Found x t s (Ok z) s') (sym e) h
+found_mapped f x t s s' (Ok v) (Err w) e h = absurd e
+found_mapped f x t s s' (Err v) q e h = subst (λ z. Found x t s z s') (sym e) h
 
 some_of : (n : ℕ) → (n == 0) ≡ false → nat_lt 0 n ≡ true
 some_of n e = grind arith

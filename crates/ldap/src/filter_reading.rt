@@ -130,15 +130,9 @@ where
     ensures { Found behind_or tag reader.old result reader.new }
 {
     if is_context(tag, 2) {
-        match read_negated(reader, f) {
-            Ok(first) => Ok(Either::First(first)),
-            Err(error) => Err(error),
-        }
+        read_negated(reader, f).map(Either::First)
     } else {
-        match <FilterItem as Notation>::read(reader) {
-            Ok(other) => Ok(Either::Second(other)),
-            Err(error) => Err(error),
-        }
+        <FilterItem as Notation>::read(reader).map(Either::Second)
     }
 }
 
@@ -151,15 +145,9 @@ where
     ensures { Found behind_and tag reader.old result reader.new }
 {
     if is_context(tag, 1) {
-        match read_group(1, reader, f) {
-            Ok(first) => Ok(Either::First(first)),
-            Err(error) => Err(error),
-        }
+        read_group(1, reader, f).map(Either::First)
     } else {
-        match read_behind_or(tag, reader, f) {
-            Ok(other) => Ok(Either::Second(other)),
-            Err(error) => Err(error),
-        }
+        read_behind_or(tag, reader, f).map(Either::Second)
     }
 }
 
@@ -172,15 +160,9 @@ where
     ensures { Found whole tag reader.old result reader.new }
 {
     if is_context(tag, 0) {
-        match read_group(0, reader, f) {
-            Ok(first) => Ok(Either::First(first)),
-            Err(error) => Err(error),
-        }
+        read_group(0, reader, f).map(Either::First)
     } else {
-        match read_behind_and(tag, reader, f) {
-            Ok(other) => Ok(Either::Second(other)),
-            Err(error) => Err(error),
-        }
+        read_behind_and(tag, reader, f).map(Either::Second)
     }
 }
 
