@@ -11,7 +11,8 @@ use Rattle.yasna_engine.proofs.engine.run.Goals as goal
 pub returns-in_err-bytes : goal.returns-in_err-bytes
 returns-in_err-bytes g c =
     let read = c.in_err-bytes.ensures {u = tt} in
-    handed_on _ _ _ _ _ _ _ _ (Vec ℕ Global) c.in_err-bytes.field-0.0 c.from_residual.result c.from_residual.ensures.1 (Keeps-refl (g.W.Sink.contents c.args.writer.now))
+    handed_on _ _ _ _ _ _ _ _ (Vec ℕ Global) c.in_err-bytes.field-0.0 c.from_residual.result c.from_residual.ensures.1
+    (Keeps-refl (g.W.Sink.contents c.args.writer.now))
     read.refused (λ e h. ((h.1, refl), λ other. absurd (other h.0))) read.device (λ h. inl h)
 
 pub returns-in_err-value : goal.returns-in_err-value
