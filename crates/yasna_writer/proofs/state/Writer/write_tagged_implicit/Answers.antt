@@ -1,11 +1,11 @@
-use Rattle.std.proofs.Common.{◌≡◌, None, rules, refl, subst}
+use Rattle.std.proofs.Common.{◌≡◌, None, refl, subst, sym}
 use Rattle.yasna_writer.specs.Tagged.{LeftBehind}
 use Rattle.yasna_writer.proofs.Tagging.{tagged_fresh}
 use Rattle.yasna_writer.proofs.state.Writer.write_tagged_implicit.Goals as goal
 
 pub returns : goal.returns
 returns g c =
-    let none : c.args.self.now.kept ≡ None = search rules in
+    let none : c.args.self.now.kept ≡ None = search (sym c.kept.ensures) in
     tagged_fresh none (record {
       own = c.f-own.result;
       left = c.f-own.new.arg2;
@@ -13,3 +13,6 @@ returns g c =
       behind = subst (λ n. LeftBehind n c.f-own.new.arg2 c.end_tagging.new.self) c.tag_next-start.ensures.start c.end_tagging.ensures;
       answers = c.settle.ensures;
     })
+
+pub f-own-requires : goal.f-own-requires
+f-own-requires g c = search (c.requires, c.tag_next-start.ensures.tagged, sym c.kept.ensures)
