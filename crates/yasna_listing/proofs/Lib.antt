@@ -1,3 +1,5 @@
 pub mod Lines
 pub mod Reading
-pub mod Raw
+pub mod Whole
+pub mod Header
+pub mod Unheard

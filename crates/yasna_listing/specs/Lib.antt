@@ -1,2 +1,4 @@
 pub mod Listing
+pub mod Whole
+pub mod Faults
 pub mod Reading

@@ -1,12 +1,20 @@
 -- What the reading of elements answers.
-use Rattle.std.specs.Prelude.{◌≡◌, ℕ, ◌+◌, ◌≤◌, Bool, true, false, List, [], ◌∷◌, ◌++◌, length, Option, Some, None}
+use Rattle.std.specs.Prelude.{◌≡◌, ◌↔◌, ℕ, ◌+◌, ◌≤◌, Bool, true, false, List, [], ◌∷◌, ◌++◌, length, Option, Some, None, Result, Ok, Err}
 use Rattle.yasna_base.specs.Bits.{bits_tag}
 use Rattle.yasna_base.specs.Header.{ContentsEnd, definite_end, indefinite_end, OpensAt}
 use Rattle.yasna_base.specs.Identifier.{end_tag}
 use Rattle.yasna_base.specs.Octets.{octets_tag}
+use Rattle.yasna_base.specs.Raw.{RawValue, IsJoining}
+use Rattle.yasna_base.specs.declared.error.ASN1ErrorKind.{ASN1ErrorKind}
+use Rattle.yasna_base.specs.declared.error.ASN1ErrorKind.TheVariants.{OutOfMemory, StackOverflow}
+use Rattle.yasna_base.specs.declared.tag.PCBit.TheVariants.{Constructed}
+use Rattle.yasna_bytes.specs.Front.{Takes, Stands}
 use Rattle.yasna_bytes.specs.Opening.{end_found}
-use Rattle.yasna_bytes.specs.Walk.{following}
+use Rattle.yasna_bytes.specs.Walk.{following, NoHeader, HasNoLevel}
+use Rattle.yasna_listing.specs.Faults.{IsBroken}
 use Rattle.yasna_listing.specs.Listing.{Line, Hears, Below, ListsBytes, ListsOne}
+use Rattle.yasna_listing.specs.Whole.{IsWhole, Closes}
+use Rattle.yasna_listing.specs.declared.fault.Fault.{Fault}
 use Rattle.yasna_listing.specs.declared.listing.item.Item.{Item}
 use Rattle.yasna_listing.specs.declared.listing.item.Opened.{Opened}
 use Rattle.yasna_listing.specs.declared.listing.place.Place.{Place}
@@ -31,6 +39,18 @@ pub record OpensItem (rules : Rules) (p : Place) (o : Opened) : Type 0 where
   pub counts : o.item.size ≡ counted_length (end_found o.end) (length o.item.contents.now)
   pub depth : o.item.depth + rules.levels ≡ 101
   pub within : o.item.is_within ≡ rules.is_within
+
+-- why no header of an element stands at a place, by the offset and the kind of the fault
+pub record NoItem (rules : Rules) (p : Place) (offset : ℕ) (kind : ASN1ErrorKind) : Type 0 where
+  pub none : NoHeader rules.mode rules.levels p.left.now
+  pub here : offset ≡ p.offset
+  pub deep : kind ≡ StackOverflow ↔ HasNoLevel rules.levels p.left.now
+  pub no_memory : kind ≡ OutOfMemory → ⊥
+
+-- what reading a header at a place answers, by its case
+abbrev pub ItemAt : Rules → Place → Result Opened Fault → Type 0
+ItemAt rules p (Ok o) = OpensItem rules p o
+ItemAt rules p (Err f) = IsBroken (NoItem rules p) f
 
 -- the elements in a string would begin at p
 pub data StandsInString (i : Item) (p : Place) : Type 0 where
@@ -73,3 +93,22 @@ pub record BelowHeard (rules : Rules) (i : Item) (old new : Option (List Line)) 
   pub levels : ℕ
   pub deeper : levels + 1 ≡ rules.levels
   pub below : Below (λ v. ListsBytes levels rules.mode v) rules.is_within i.tag i.bit (i.offset + i.header) i.contents.now lines
+
+-- an element that is one down to the primitive ones stands at p, and q is behind it
+abbrev pub StandsBefore : Rules → Place → Place → Type 0
+StandsBefore rules p q = (v : RawValue) × Takes (IsWhole rules.levels rules.mode) p.left.now v q.left.now
+
+-- none does
+abbrev pub NoElement : Rules → Place → Type 0
+NoElement rules p = Stands (IsWhole rules.levels rules.mode) p.left.now → ⊥
+
+-- from a place on no such elements stand up to the end of contents
+abbrev pub NotClosed : Rules → Place → Bool → Type 0
+NotClosed rules p is_counted = Closes rules.levels rules.mode is_counted p.left.now → ⊥
+
+-- an element is constructed, and what stands in it aren't such elements
+pub record NoneBelow (rules : Rules) (i : Item) : Type 0 where
+  pub bit : i.bit ≡ Constructed
+  pub levels : ℕ
+  pub deeper : levels + 1 ≡ rules.levels
+  pub none : IsJoining (IsWhole levels rules.mode) i.contents.now → ⊥

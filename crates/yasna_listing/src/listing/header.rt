@@ -1,8 +1,9 @@
 //! The header of an element at a place, and what is wrong where there is none.
-ghost use Rattle.std.specs.Prelude.{◌≡◌, ◌+◌, ◌≤◌, length, IfOk};
+ghost use Rattle.std.specs.Prelude.{◌≡◌, ◌+◌, ◌≤◌, length};
 ghost use Rattle.yasna_bytes.specs.Opening.{end_found};
 ghost use Rattle.yasna_bytes.specs.Walk.{following};
-ghost use Rattle.yasna_listing.specs.Reading.{OpensItem, counted_length};
+ghost use Rattle.yasna_listing.specs.Reading.{ItemAt, counted_length};
+ghost use Rattle.yasna_listing.specs.declared.fault.Fault.TheVariants.{Broken};
 
 use crate::fault::{Expected, Fault};
 use crate::listing::item::{Item, Opened};
@@ -16,8 +17,11 @@ use yasna_bytes::bytes::cursor::Cursor;
 use yasna_bytes::bytes::header::{ContentsEnd, Opened as Found, open_behind};
 use yasna_bytes::bytes::length::read_length;
 
+// What should stand here doesn't.
 #[cold]
-fn broken(place: Place<'_>, kind: ASN1ErrorKind, expected: Expected) -> Fault {
+fn broken(place: Place<'_>, kind: ASN1ErrorKind, expected: Expected) -> Fault
+    ensures { result ≡ Broken place.entry.offset kind expected }
+{
     Fault::Broken {
         offset: place.offset,
         kind,
@@ -92,9 +96,9 @@ fn opened_of<'a>(rules: Rules, place: Place<'a>, tag: Tag, found: &Found<'a>) ->
     }
 }
 
-/// Reads the header of the element that begins here.
+/// Reads the header of the element that begins here. `Err` says that none stands here.
 pub fn open<'a>(rules: Rules, place: Place<'a>) -> Result<Opened<'a>, Fault>
-    ensures { IfOk result (λ o. OpensItem rules place.entry o) }
+    ensures { ItemAt rules place.entry result }
 {
     let (tag, bit, rest) = match read_identifier(place.left) {
         Ok(identifier) => identifier,

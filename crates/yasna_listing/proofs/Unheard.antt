@@ -1,0 +1,179 @@
+-- Why elements weren't told: at the first place where none stands that is one down to the primitive ones.
+use Rattle.std.proofs.Common.{◌≡◌, ◌+◌, ℕ, zero, suc, Bool, true, false, List, [], ◌∷◌, ◌++◌, length, Ok, Err, inl, inr, refl, sym, ap, ◌∙◌, subst, append-nil, arith}
+use Rattle.std.specs.Prelude.{Option, Result, IfErr}
+use Rattle.yasna_base.specs.declared.error.ASN1ErrorKind.{ASN1ErrorKind}
+use Rattle.yasna_base.specs.declared.mode.BERMode.{BERMode}
+use Rattle.yasna_base.specs.declared.tag.PCBit.{PCBit}
+use Rattle.yasna_base.specs.declared.tag.PCBit.TheVariants.{Constructed}
+use Rattle.yasna_base.specs.declared.tag.Tag.{Tag}
+use Rattle.yasna_base.specs.Element.{definite, indefinite}
+use Rattle.yasna_base.specs.Header.{definite_end, indefinite_end, OpensAt}
+use Rattle.yasna_base.specs.Identifier.{AtEnd, nothing}
+use Rattle.yasna_base.specs.Raw.{RawValue, IsJoining}
+use Rattle.yasna_base.proofs.Element.{counted_header, uncounted_header, definite_not_indefinite}
+use Rattle.yasna_base.proofs.Identifier.{zeros_at_end}
+use Rattle.yasna_base.proofs.Lists.{append_same, fronts_same}
+use Rattle.yasna_base.proofs.Pieces.{starts_not_end}
+use Rattle.yasna_base.proofs.Raw.{raw_exact}
+use Rattle.yasna_bytes.specs.Front.{Stands}
+use Rattle.yasna_bytes.specs.Opening.{end_found}
+use Rattle.yasna_bytes.proofs.WalkSteps.{First, before_first, here, further, no_raw}
+use Rattle.yasna_listing.specs.Faults.{IsBroken, Unheard}
+use Rattle.yasna_listing.specs.Listing.{Line}
+use Rattle.yasna_listing.specs.Reading.{OpensItem, NoItem, StandsBefore, NoElement, NotClosed, NoneBelow, ElementHeard}
+use Rattle.yasna_listing.specs.Whole.{with_length, with_zeros, WholeFramed, WholeOver, IsWhole, AreElements, EndsHere, Closes}
+use Rattle.yasna_listing.specs.declared.fault.Fault.{Fault}
+use Rattle.yasna_listing.specs.declared.fault.Fault.TheVariants.{Broken, Memory, Output}
+use Rattle.yasna_listing.specs.declared.listing.item.Item.{Item}
+use Rattle.yasna_listing.specs.declared.listing.item.Opened.{Opened}
+use Rattle.yasna_listing.specs.declared.listing.place.Place.{Place}
+use Rattle.yasna_listing.specs.declared.listing.place.Rules.{Rules}
+use Rattle.yasna_listing.proofs.Whole.{whole_zero, whole_into, whole_raw, whole_starts, one_whole}
+
+-- what follows holds of a fault too
+broken_by : {P Q : ℕ → ASN1ErrorKind → Type 0} (f : Fault) → ((o : ℕ) (k : ASN1ErrorKind) → P o k → Q o k) → IsBroken P f → IsBroken Q f
+broken_by (Broken o k e) g x = g o k x
+broken_by Memory g x = x
+broken_by Output g x = x
+
+pub unheard_by : (R : Fault → Type 0) {N M : Type 0} (f : Fault) → (N → M) → Unheard R N f → Unheard R M f
+unheard_by R f g (inl x) = inl x
+unheard_by R f g (inr x) = inr (broken_by f (λ o k. g) x)
+
+-- where what wasn't there was promised, the listener refused
+pub refused_by : (R : Fault → Type 0) {N : Type 0} (M : Type 0) (f : Fault) → (N → ⊥) → Unheard R N f → Unheard R M f
+refused_by R M f g x = unheard_by R f (λ n. absurd (g n)) x
+
+pub if_err : {A E : Type 0} (r : Result A E) (P Q : E → Type 0) → ((x : E) → P x → Q x) → IfErr r P → IfErr r Q
+if_err (Ok x) P Q f p = tt
+if_err (Err e) P Q f p = f e p
+
+-- an element that was told is one down to the primitive ones
+pub heard_stands : (rules : Rules) (p q : Place) (a b : Option (List Line)) → ElementHeard rules p q a b → StandsBefore rules p q
+heard_stands rules p q a b x =
+    let v = one_whole rules.levels rules.mode rules.is_within p.offset x.bytes x.lines x.lists in
+    (v.0, record { front = x.bytes; joined = x.further.joined; member = v.1 })
+
+-- an end of contents is no element
+ends_at_end : (w : Bool) (s : List ℕ) → EndsHere w s → AtEnd s
+ends_at_end true s x = nothing x
+ends_at_end false s x = subst AtEnd (sym x.1) (zeros_at_end (0 ∷ x.0))
+
+closes_first : (n : ℕ) (m : BERMode) (w : Bool) (v : RawValue) (b r s : List ℕ) → IsWhole n m v b → s ≡ b ++ r → First (IsWhole n m) (EndsHere w) s →
+    Closes n m w r
+closes_first n m w v b r s x e (here d) = absurd (starts_not_end b r s (whole_starts n m v b x) (ends_at_end w s d) e)
+closes_first n m w v b r s x e (further u c q y f z) =
+    let g : b ++ r ≡ c ++ q = sym e ∙ f in
+    let i = (raw_exact n n m v u b c r q (whole_raw n m v b x) (whole_raw n m u c y) g).1 in
+    subst (λ k. Closes n m w k) (sym (append_same c r q (ap (λ k. k ++ r) (sym i) ∙ g))) z
+
+-- where the contents end that begin at p, they go on at q
+abbrev pub GoesOn : Rules → Place → Place → Bool → Type 0
+GoesOn rules p q w = Closes rules.levels rules.mode w p.left.now → Closes rules.levels rules.mode w q.left.now
+
+-- contents that end behind an element end from there on too
+pub closes_behind : (rules : Rules) (p q : Place) (w : Bool) (a b : Option (List Line)) → ElementHeard rules p q a b → GoesOn rules p q w
+closes_behind rules p q w a b x y =
+    let v = one_whole rules.levels rules.mode rules.is_within p.offset x.bytes x.lines x.lists in
+    closes_first rules.levels rules.mode w v.0 x.bytes q.left.now p.left.now v.1 x.further.joined (before_first p.left.now y)
+
+first_stands : (n : ℕ) (m : BERMode) (w : Bool) (s : List ℕ) → (EndsHere w s → ⊥) → First (IsWhole n m) (EndsHere w) s → Stands (IsWhole n m) s
+first_stands n m w s none (here d) = absurd (none d)
+first_stands n m w s none (further v b r x e y) = (v, r, record { front = b; joined = e; member = x })
+
+-- where they neither end nor go on they don't end
+pub not_closed : (rules : Rules) (p : Place) (w : Bool) → (EndsHere w p.left.now → ⊥) → NoElement rules p → NotClosed rules p w
+not_closed rules p w none f x = f (first_stands rules.levels rules.mode w p.left.now none (before_first p.left.now x))
+
+-- elements one after the other are counted contents
+pub joining_closes : (n : ℕ) (m : BERMode) (s : List ℕ) → IsJoining (IsWhole n m) s → Closes n m true s
+joining_closes n m s x = record { values = x.0; front = s; rest = []; pieces = x.1; more = tt; joined = sym (append-nil s); deep = refl }
+
+-- no element stands where no header does
+pub item_not_element : (rules : Rules) (p : Place) (o : ℕ) (k : ASN1ErrorKind) → NoItem rules p o k → NoElement rules p
+item_not_element rules p o k x y =
+    let w = y.2 in
+    no_raw rules.mode rules.levels p.left.now x.none y.0 w.front y.1 (whole_raw rules.levels rules.mode y.0 w.front w.member) w.joined
+
+pub item_unheard : (R : Fault → Type 0) (rules : Rules) (p : Place) (f : Fault) → IsBroken (NoItem rules p) f → Unheard R (NoElement rules p) f
+item_unheard R rules p f x = inr (broken_by f (item_not_element rules p) x)
+
+-- where an element begins, counted contents of a constructed one are those behind its header
+counted_inside : {R : RawValue → List ℕ → Type 0} (m : BERMode) (t : Tag) (p : PCBit) (s c z : List ℕ) (v : RawValue) (b r : List ℕ) →
+    OpensAt m t p s c (definite_end z) → WholeFramed R m v b → s ≡ b ++ r → p ≡ Constructed → IsJoining R c
+counted_inside {R} m t p s c z v b r x (with_length d j) f e =
+    let i = counted_header m m t v.tag p v.bit (length c) x.l v.payload b (c ++ z) r x.spelled (definite d) (sym x.joined ∙ f) in
+    let k = fronts_same c v.payload z r i.count i.behind in
+    subst (λ y. IsJoining R y) (sym k.0) (j (sym i.bit ∙ e))
+counted_inside m t p s c z v b r x (with_zeros y d j g) f e =
+    let i = counted_header m m t v.tag p v.bit (length c) x.l y b (c ++ z) r x.spelled (indefinite d) (sym x.joined ∙ f) in
+    absurd (definite_not_indefinite m m v.tag v.tag v.bit v.bit y y b b r r i.element d refl)
+
+-- and those that two zeros end
+uncounted_inside : {R : RawValue → List ℕ → Type 0} (m : BERMode) (t : Tag) (p : PCBit) (s c : List ℕ) (v : RawValue) (b r : List ℕ) →
+    OpensAt m t p s c indefinite_end → WholeFramed R m v b → s ≡ b ++ r → (d : List ℕ) × IsJoining R d × (c ≡ d ++ (0 ∷ 0 ∷ r))
+uncounted_inside m t p s c v b r x (with_length d j) f =
+    let i = uncounted_header m t v.tag p v.bit v.payload b c r (definite d) (sym x.joined ∙ f) in
+    absurd (definite_not_indefinite m m v.tag v.tag v.bit v.bit v.payload v.payload b b r r d i.element refl)
+uncounted_inside m t p s c v b r x (with_zeros y d j g) f =
+    let i = uncounted_header m t v.tag p v.bit y b c r (indefinite d) (sym x.joined ∙ f) in
+    (y, j, i.behind)
+
+-- an element within some levels stands over those with one less
+over_less : (n k : ℕ) (m : BERMode) (v : RawValue) (b : List ℕ) → k + 1 ≡ n → IsWhole n m v b → WholeOver (IsWhole k m) m v b
+over_less zero k m v b e x = absurd (whole_zero m v b x)
+over_less (suc n) k m v b e x =
+    let i : n ≡ k = omega (arith, e) in
+    subst (λ j. WholeOver (IsWhole j m) m v b) i (whole_into n m v b x)
+
+-- no element stands where a header does whose contents aren't elements
+pub below_not_element : (rules : Rules) (p : Place) (o : Opened) (r : List ℕ) → OpensItem rules p o → end_found o.end ≡ definite_end r →
+    NoneBelow rules o.item → NoElement rules p
+below_not_element rules p o r x e y z =
+    let w = z.2 in
+    let opens = subst (λ f. OpensAt rules.mode o.item.tag o.item.bit p.left.now o.item.contents.now f) e x.opens in
+    let over = over_less rules.levels y.levels rules.mode z.0 w.front y.deeper w.member in
+    y.none (counted_inside rules.mode o.item.tag o.item.bit p.left.now o.item.contents.now r z.0 w.front z.1 opens over.framed w.joined y.bit)
+
+-- nor one whose contents no two zeros end
+pub uncounted_not_element : (rules inner : Rules) (p i : Place) (o : Opened) → OpensItem rules p o → end_found o.end ≡ indefinite_end →
+    inner.mode ≡ rules.mode → inner.levels + 1 ≡ rules.levels → i.left.now ≡ o.item.contents.now → NotClosed inner i false → NoElement rules p
+uncounted_not_element rules inner p i o x e f g j y z =
+    let w = z.2 in
+    let opens = subst (λ k. OpensAt rules.mode o.item.tag o.item.bit p.left.now o.item.contents.now k) e x.opens in
+    let over = over_less rules.levels inner.levels rules.mode z.0 w.front g w.member in
+    let d = uncounted_inside rules.mode o.item.tag o.item.bit p.left.now o.item.contents.now z.0 w.front z.1 opens over.framed w.joined in
+    let c : Closes inner.levels rules.mode false o.item.contents.now =
+    record { values = d.1.0; front = d.0; rest = 0 ∷ 0 ∷ z.1; pieces = d.1.1; more = tt; joined = d.2; deep = (z.1, refl) } in
+    y (subst (λ k. Closes inner.levels k false i.left.now) (sym f) (subst (λ k. Closes inner.levels rules.mode false k) (sym j) c))
+
+-- the contents of a constructed element aren't elements
+pub none_below : (rules inner : Rules) (i : Item) (p : Place) → i.bit ≡ Constructed → inner.mode ≡ rules.mode → inner.levels + 1 ≡ rules.levels →
+    p.left.now ≡ i.contents.now → NotClosed inner p true → NoneBelow rules i
+none_below rules inner i p e f g h x = record {
+  bit = e;
+  levels = inner.levels;
+  deeper = g;
+  none = λ y. x (subst (λ k. Closes inner.levels inner.mode true k) (sym h) (joining_closes inner.levels inner.mode i.contents.now
+      (subst (λ k. IsJoining (IsWhole inner.levels k) i.contents.now) (sym f) y)));
+}
+
+-- where the contents of a string were promised to be elements they end
+pub promised_closed : (rules one two : Rules) (p : Place) → one.mode ≡ rules.mode → one.levels + 1 ≡ rules.levels → two.mode ≡ rules.mode →
+    two.levels + 1 ≡ rules.levels → IsJoining (IsWhole one.levels one.mode) p.left.now → NotClosed two p true → ⊥
+promised_closed rules one two p e f g h x y =
+    let i : one.levels ≡ two.levels = omega (arith, f, h) in
+    let z = subst (λ k. IsJoining (IsWhole one.levels k) p.left.now) (e ∙ sym g) x in
+    y (joining_closes two.levels two.mode p.left.now (subst (λ k. IsJoining (IsWhole k two.mode) p.left.now) i z))
+
+-- where nothing is left there are no elements
+pub none_in_nothing : (n : ℕ) (m : BERMode) (s : List ℕ) → length s ≡ 0 → AreElements n m s → ⊥
+none_in_nothing n m s e x = omega (arith, e, x.some)
+
+-- nor where an input doesn't end from its first place on
+pub none_in_input : (rules : Rules) (m : BERMode) (p : Place) (s : List ℕ) → rules.mode ≡ m → rules.levels ≡ 101 → p.left.now ≡ s →
+    NotClosed rules p true → AreElements 101 m s → ⊥
+none_in_input rules m p s e f g y x =
+    let i = subst (λ k. IsJoining (IsWhole 101 m) k) (sym g) x.joining in
+    let j = subst (λ k. IsJoining (IsWhole k m) p.left.now) (sym f) i in
+    y (joining_closes rules.levels rules.mode p.left.now (subst (λ k. IsJoining (IsWhole rules.levels k) p.left.now) (sym e) j))
