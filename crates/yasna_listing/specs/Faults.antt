@@ -13,3 +13,9 @@ IsBroken P Output = ⊥
 -- the listener refused with this fault, or what should stand somewhere doesn't, and N says that there is nothing to be told of
 abbrev pub Unheard : (Fault → Type 0) → Type 0 → Fault → Type 0
 Unheard Refuses N f = Refuses f ⊎ IsBroken (λ offset kind. N) f
+
+-- there was no memory, or a write failed: that says nothing of what was to be told
+abbrev pub OfDevice : Fault → Type 0
+OfDevice (Broken offset kind expected) = ⊥
+OfDevice Memory = Unit {0}
+OfDevice Output = Unit {0}

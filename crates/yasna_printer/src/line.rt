@@ -1,16 +1,18 @@
 //! A line as it is made.
+ghost use Rattle.std.specs.Prelude.{IfErr};
+ghost use Rattle.yasna_listing.specs.Faults.{OfDevice};
 
 use std::alloc::Global;
 use std::fmt::Display;
 use std::io::Write;
 use yasna_listing::fault::Fault;
 
-/// The text of a line, with what went wrong first, behind which nothing is appended. So only the end of a line is asked whether all
-/// went well.
+/// The text of a line, and whether there was no memory for one that was to be appended, behind which nothing is. So only the end of a line is
+/// asked whether all went well.
 #[derive(Drop)]
 pub struct Line {
     text: Vec<u8>,
-    fault: Option<Fault>,
+    lacks_memory: bool,
 }
 
 impl Line {
@@ -18,28 +20,26 @@ impl Line {
     pub fn new(alloc: Global) -> Line {
         Line {
             text: Vec::new(alloc),
-            fault: None,
+            lacks_memory: false,
         }
     }
 
-    /// Keeps a fault, if it is the first.
-    pub fn refuse(&mut self, fault: Fault) {
-        if self.fault.is_none() {
-            self.fault = Some(fault);
-        }
+    /// Keeps that there was no memory for what was to be appended.
+    pub fn lack_memory(&mut self) {
+        self.lacks_memory = true;
     }
 
     /// Appends what `write!` is handed.
     pub fn write_fmt<D: Display + Drop>(&mut self, text: D) {
-        if self.fault.is_none() && self.text.write_fmt(text).is_err() {
-            self.fault = Some(Fault::Memory);
+        if !self.lacks_memory && self.text.write_fmt(text).is_err() {
+            self.lacks_memory = true;
         }
     }
 
     /// Appends octets as they are.
     pub fn write_all(&mut self, octets: &[u8]) {
-        if self.fault.is_none() && self.text.extend_from_slice(octets).is_err() {
-            self.fault = Some(Fault::Memory);
+        if !self.lacks_memory && self.text.extend_from_slice(octets).is_err() {
+            self.lacks_memory = true;
         }
     }
 
@@ -48,16 +48,20 @@ impl Line {
         self.write_all(text.as_bytes())
     }
 
-    /// The text, or what went wrong.
-    pub fn text(&self) -> Result<&[u8], Fault> {
-        match self.fault {
-            Some(fault) => Err(fault),
-            None => Ok(self.text.as_slice()),
+    /// The text, where there was memory for all of it.
+    pub fn text(&self) -> Result<&[u8], Fault>
+        ensures { IfErr result OfDevice }
+    {
+        if self.lacks_memory {
+            return Err(Fault::Memory);
         }
+        Ok(self.text.as_slice())
     }
 
-    /// Writes the line, and begins the next one.
-    pub fn end<W: Write>(&mut self, writer: &mut W) -> Result<(), Fault> {
+    /// Writes the line, and begins the next one. `Err` says that there was no memory for its text, or that the write failed.
+    pub fn end<W: Write>(&mut self, writer: &mut W) -> Result<(), Fault>
+        ensures { IfErr result OfDevice }
+    {
         self.write_str("\n");
         if writer.write_all(self.text()?).is_err() {
             return Err(Fault::Output);

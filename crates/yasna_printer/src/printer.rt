@@ -1,4 +1,6 @@
 //! The lines.
+ghost use Rattle.std.specs.Prelude.{IfErr};
+ghost use Rattle.yasna_listing.specs.Faults.{OfDevice};
 
 use crate::kind::{Kind, kind_of};
 use crate::line::Line;
@@ -20,6 +22,8 @@ impl Listener for Silent {
     ghost use Rattle.std.specs.Prelude.{None};
 
     ghost heard = { λ _. None };
+
+    ghost refuses = { λ _ _. ⊥ };
 
     fn hear(&mut self, _item: &Item<'_>) -> Result<(), Fault> {
         Ok(())
@@ -46,8 +50,10 @@ impl<'w, 'n, W: Write> Printer<'w, 'n, W> {
         }
     }
 
-    /// Prints in which encoding rules the elements are.
-    pub fn finish(self) -> Result<(), Fault> {
+    /// Prints in which encoding rules the elements are. `Err` says that there was no memory for that, or that a write failed.
+    pub fn finish(self) -> Result<(), Fault>
+        ensures { IfErr result OfDevice }
+    {
         let Printer { writer, mut report } = self;
         report.print_rules();
         report.line.end(writer)
@@ -92,7 +98,7 @@ impl<'n> Report<'n> {
         self.print_contents(item, kind);
         self.remark_header(item);
         if self.around.push(segments_of(item.bit, kind)).is_err() {
-            self.line.refuse(Fault::Memory);
+            self.line.lack_memory();
         }
     }
 
@@ -265,8 +271,11 @@ fn is_long(item: &Item<'_>) -> bool {
 
 impl<'w, 'n, W: Write> Listener for Printer<'w, 'n, W> {
     ghost use Rattle.std.specs.Prelude.{None};
+    ghost use Rattle.yasna_listing.specs.Faults.{OfDevice};
 
     ghost heard = { λ _. None };
+
+    ghost refuses = { λ _. OfDevice };
 
     fn hear(&mut self, item: &Item<'_>) -> Result<(), Fault> {
         self.report.print_element(item);

@@ -19,7 +19,6 @@ pub use text::write_quoted;
 use text::{are_wide, write_utf8, write_wide};
 use time::{write_generalized_time, write_utc_time};
 use yasna_base::text::{is_ia5, is_numeric, is_printable, is_visible};
-use yasna_listing::fault::Fault;
 
 /// How values are written.
 #[derive(Clone, Copy)]
@@ -103,7 +102,7 @@ fn write_time(line: &mut Line, alloc: Global, contents: &[u8]) -> Option<Remark>
     match write_generalized_time(line, alloc, contents) {
         Ok(remark) => remark,
         Err(_) => {
-            line.refuse(Fault::Memory);
+            line.lack_memory();
             None
         }
     }

@@ -85,6 +85,6 @@ pub fn write_oid(line: &mut Line, alloc: Global, names: &Names, contents: &[u8])
     write_absolute(&mut dotted, alloc, contents);
     match dotted.text() {
         Ok(dotted) => write_named(line, names, dotted),
-        Err(fault) => line.refuse(fault),
+        Err(_) => line.lack_memory(),
     }
 }

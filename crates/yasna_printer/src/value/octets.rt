@@ -2,7 +2,6 @@
 
 use crate::line::Line;
 use std::alloc::Global;
-use yasna_listing::fault::Fault;
 
 // So many octets are turned into text at once.
 const PIECE: usize = 64;
@@ -10,7 +9,7 @@ const PIECE: usize = 64;
 fn write_digits(line: &mut Line, alloc: Global, piece: &[u8]) {
     match hex::encode_upper(alloc, piece) {
         Ok(digits) => line.write_str(&digits),
-        Err(_) => line.refuse(Fault::Memory),
+        Err(_) => line.lack_memory(),
     }
 }
 
