@@ -1,6 +1,8 @@
 //! An input from its text to its lines.
-ghost use Rattle.std.specs.Prelude.{◌≡◌, ◌≤◌, length, OnOk, Some};
+ghost use Rattle.std.specs.Prelude.{◌≡◌, ◌≤◌, length, IfErr, OnOk, Some};
 ghost use Rattle.yasna_base.specs.Raw.{IsRaw, IsJoining};
+ghost use Rattle.yasna_listing.specs.Faults.{OfDevice, Unheard};
+ghost use Rattle.yasna_listing.specs.Whole.{AreElements};
 ghost use Rattle.yasna_lines.specs.declared.input.Form.TheVariants.{Bytes};
 
 use crate::input::{Block, Form, PemReader, decode_hex, form_of, is_line_end};
@@ -23,6 +25,8 @@ fn show_bytes<W: Write>(
 ) -> Result<(), Fault>
     ensures raw { OnOk result (IsJoining (IsRaw 101 mode) bytes.now) }
     ensures some { OnOk result (1 ≤ length bytes.now) }
+    ensures elements { OnOk result (AreElements 101 mode bytes.now) }
+    ensures unheard { IfErr result (λ f. Unheard OfDevice (AreElements 101 mode bytes.now → ⊥) f) }
 {
     let mut printer = Printer::new(out, style);
     list_input(bytes, mode, &mut printer)?;
@@ -39,6 +43,8 @@ fn show_counted<W: Write>(
 ) -> Result<(), Fault>
     ensures raw { OnOk result (IsJoining (IsRaw 101 mode) bytes.now) }
     ensures some { OnOk result (1 ≤ length bytes.now) }
+    ensures elements { OnOk result (AreElements 101 mode bytes.now) }
+    ensures unheard { IfErr result (λ f. Unheard OfDevice (AreElements 101 mode bytes.now → ⊥) f) }
 {
     let count = bytes.len();
     write!(line, "{count} bytes");
@@ -119,6 +125,8 @@ fn show_form<W: Write>(
 ) -> Result<(), Fault>
     ensures raw { OnOk result (form ≡ Bytes → IsJoining (IsRaw 101 mode) input.now) }
     ensures some { OnOk result (form ≡ Bytes → 1 ≤ length input.now) }
+    ensures elements { OnOk result (form ≡ Bytes → AreElements 101 mode input.now) }
+    ensures unheard { form ≡ Bytes → IfErr result (λ f. Unheard OfDevice (AreElements 101 mode input.now → ⊥) f) }
 {
     match form {
         Form::Pem => show_blocks(out, mode, style, input),
@@ -129,6 +137,8 @@ fn show_form<W: Write>(
 
 /// Lists the elements of an input by the rules of a mode, with at most `width` hexadecimal digits of a value. Where no form is given,
 /// what stands there tells it.
+///
+/// Where the form is that of bytes, a fault that isn't of the device says that they aren't one or more elements down to the primitive ones.
 pub fn show<W: Write>(
     alloc: Global,
     out: &mut W,
@@ -139,6 +149,8 @@ pub fn show<W: Write>(
 ) -> Result<(), Fault>
     ensures raw { OnOk result (form ≡ Some Bytes → IsJoining (IsRaw 101 mode) input.now) }
     ensures some { OnOk result (form ≡ Some Bytes → 1 ≤ length input.now) }
+    ensures elements { OnOk result (form ≡ Some Bytes → AreElements 101 mode input.now) }
+    ensures unheard { form ≡ Some Bytes → IfErr result (λ f. Unheard OfDevice (AreElements 101 mode input.now → ⊥) f) }
 {
     let names = Names::new(alloc)?;
     let style = Style {
