@@ -2,6 +2,7 @@
 ghost use Rattle.std.specs.Prelude.{◌≡◌, ◌≤◌, length, IfErr, OnOk, Some};
 ghost use Rattle.yasna_base.specs.Raw.{IsRaw, IsJoining};
 ghost use Rattle.yasna_listing.specs.Faults.{OfDevice, Unheard};
+ghost use Rattle.yasna_listing.specs.Reading.{NoElements};
 ghost use Rattle.yasna_listing.specs.Whole.{AreElements};
 ghost use Rattle.yasna_lines.specs.declared.input.Form.TheVariants.{Bytes};
 
@@ -26,7 +27,7 @@ fn show_bytes<W: Write>(
     ensures raw { OnOk result (IsJoining (IsRaw 101 mode) bytes.now) }
     ensures some { OnOk result (1 ≤ length bytes.now) }
     ensures elements { OnOk result (AreElements 101 mode bytes.now) }
-    ensures unheard { IfErr result (λ f. Unheard OfDevice (AreElements 101 mode bytes.now → ⊥) f) }
+    ensures unheard { IfErr result (λ f. Unheard OfDevice (NoElements 101 mode bytes.now) f) }
 {
     let mut printer = Printer::new(out, style);
     list_input(bytes, mode, &mut printer)?;
@@ -44,7 +45,7 @@ fn show_counted<W: Write>(
     ensures raw { OnOk result (IsJoining (IsRaw 101 mode) bytes.now) }
     ensures some { OnOk result (1 ≤ length bytes.now) }
     ensures elements { OnOk result (AreElements 101 mode bytes.now) }
-    ensures unheard { IfErr result (λ f. Unheard OfDevice (AreElements 101 mode bytes.now → ⊥) f) }
+    ensures unheard { IfErr result (λ f. Unheard OfDevice (NoElements 101 mode bytes.now) f) }
 {
     let count = bytes.len();
     write!(line, "{count} bytes");
@@ -126,7 +127,7 @@ fn show_form<W: Write>(
     ensures raw { OnOk result (form ≡ Bytes → IsJoining (IsRaw 101 mode) input.now) }
     ensures some { OnOk result (form ≡ Bytes → 1 ≤ length input.now) }
     ensures elements { OnOk result (form ≡ Bytes → AreElements 101 mode input.now) }
-    ensures unheard { form ≡ Bytes → IfErr result (λ f. Unheard OfDevice (AreElements 101 mode input.now → ⊥) f) }
+    ensures unheard { form ≡ Bytes → IfErr result (λ f. Unheard OfDevice (NoElements 101 mode input.now) f) }
 {
     match form {
         Form::Pem => show_blocks(out, mode, style, input),
@@ -150,7 +151,7 @@ pub fn show<W: Write>(
     ensures raw { OnOk result (form ≡ Some Bytes → IsJoining (IsRaw 101 mode) input.now) }
     ensures some { OnOk result (form ≡ Some Bytes → 1 ≤ length input.now) }
     ensures elements { OnOk result (form ≡ Some Bytes → AreElements 101 mode input.now) }
-    ensures unheard { form ≡ Some Bytes → IfErr result (λ f. Unheard OfDevice (AreElements 101 mode input.now → ⊥) f) }
+    ensures unheard { form ≡ Some Bytes → IfErr result (λ f. Unheard OfDevice (NoElements 101 mode input.now) f) }
 {
     let names = Names::new(alloc)?;
     let style = Style {

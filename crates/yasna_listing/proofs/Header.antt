@@ -19,7 +19,8 @@ use Rattle.yasna_listing.specs.declared.listing.place.Rules.{Rules}
 pub no_item : (rules : Rules) (p : Place) (e : Refusal) (x : Expected) (f : Fault) → NotOpened rules.mode rules.levels p.left.now e →
     f ≡ Broken p.offset e.kind x → IsBroken (NoItem rules p) f
 no_item rules p e x f y g =
-    let z : NoItem rules p p.offset e.kind = record { none = y.none; here = refl; deep = y.deep; no_memory = y.no_memory } in
+    let z : NoItem rules p p.offset e.kind =
+    record { here = refl; lacks = record { none = y.none; deep = y.deep; no_memory = y.no_memory } } in
     subst (λ h. IsBroken (NoItem rules p) h) (sym g) z
 
 -- the tag of the end of contents stands there

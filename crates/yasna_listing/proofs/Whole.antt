@@ -1,20 +1,20 @@
 -- Elements that lines list are elements down to the primitive ones, and those are raw elements.
-use Rattle.std.proofs.Common.{◌≡◌, ◌+◌, ℕ, zero, suc, Bool, List, [], ◌∷◌, ◌++◌, length, refl, sym, subst, rules}
+use Rattle.std.proofs.Common.{◌≡◌, ◌+◌, ◌≤◌, ℕ, zero, suc, Bool, List, [], ◌∷◌, ◌++◌, length, refl, sym, subst, rules}
 use Rattle.yasna_base.specs.declared.mode.BERMode.{BERMode}
 use Rattle.yasna_base.specs.declared.mode.BERMode.TheVariants.{Ber, Der, Cer}
 use Rattle.yasna_base.specs.declared.tag.PCBit.{PCBit}
 use Rattle.yasna_base.specs.declared.tag.PCBit.TheVariants.{Primitive, Constructed}
 use Rattle.yasna_base.specs.declared.tag.Tag.{Tag}
-use Rattle.yasna_base.specs.Element.{TakesIndefinite, end_of_contents}
+use Rattle.yasna_base.specs.Element.{TakesDefinite, TakesIndefinite, end_of_contents}
 use Rattle.yasna_base.specs.Identifier.{StartsElement}
 use Rattle.yasna_base.specs.Pieces.{Pieces}
 use Rattle.yasna_base.specs.Raw.{RawValue, LooksInto, IsJoining, RawFramed, RawOver, IsRaw}
 use Rattle.yasna_base.specs.Raw.{with_length as raw_with_length, with_zeros as raw_with_zeros}
 use Rattle.yasna_base.proofs.Digits.{bytes_append}
 use Rattle.yasna_base.proofs.Pieces.{no_pieces, one_piece, pieces_append, pieces_wider}
-use Rattle.yasna_base.proofs.Raw.{raw_of, raw_starts}
+use Rattle.yasna_base.proofs.Raw.{raw_zero, raw_of, raw_into, raw_starts}
 use Rattle.yasna_listing.specs.Listing.{Line, IsHeaded, with_length, with_zeros, Below, ListsElement, ListsCount, ListsOne, ListsBytes}
-use Rattle.yasna_listing.specs.Whole.{WholeFramed, WholeOver, IsWhole}
+use Rattle.yasna_listing.specs.Whole.{WholeFramed, WholeOver, IsWhole, AreElements}
 use Rattle.yasna_listing.specs.Whole.{with_length as whole_with_length, with_zeros as whole_with_zeros}
 
 -- no level holds an element
@@ -78,7 +78,8 @@ within_joined : (R : RawValue → List ℕ → Type 0) (I : Bool → ℕ → Lis
     (c : List ℕ) (ls : List Line) → Below I w t bit o c ls → bit ≡ Constructed → IsJoining R c
 within_joined R I f w t bit o c ls x e = f w o c ls (subst (λ p. Below I w t p o c ls) e x)
 
-takes_constructed : (m : BERMode) (bit : PCBit) → TakesIndefinite m bit → bit ≡ Constructed
+-- and only they have no length
+pub takes_constructed : (m : BERMode) (bit : PCBit) → TakesIndefinite m bit → bit ≡ Constructed
 takes_constructed m Constructed l = refl
 takes_constructed Ber Primitive l = absurd l
 takes_constructed Der Primitive l = absurd l
@@ -123,3 +124,30 @@ lists_whole n m w o s ls x = count_whole (ListsOne n m w) (IsWhole n m) (one_who
 -- and raw elements
 pub joining_raw : (n : ℕ) (m : BERMode) (s : List ℕ) → IsJoining (IsWhole n m) s → IsJoining (IsRaw n m) s
 joining_raw n m s x = joining_wider (whole_raw n m) s x
+
+-- in DER and CER a raw element is looked into wherever it is constructed
+looks_where_constructed : (m : BERMode) (bit : PCBit) → (m ≡ Ber → ⊥) → TakesDefinite m bit → bit ≡ Constructed → LooksInto m bit
+looks_where_constructed Ber bit n d e = absurd (n refl)
+looks_where_constructed Der Constructed n d e = tt
+looks_where_constructed Der Primitive n d e = absurd (cc)
+looks_where_constructed Cer Constructed n d e = absurd d
+looks_where_constructed Cer Primitive n d e = absurd (cc)
+
+framed_whole : {R S : RawValue → List ℕ → Type 0} (m : BERMode) → (m ≡ Ber → ⊥) → ((v : RawValue) (b : List ℕ) → R v b → S v b) → (v : RawValue)
+    (b : List ℕ) → RawFramed R m v b → WholeFramed S m v b
+framed_whole m n f v b (raw_with_length d j) =
+    whole_with_length d (λ e. joining_wider f v.payload (j (looks_where_constructed m v.bit n d.taken e)))
+framed_whole m n f v b (raw_with_zeros c d j e) = whole_with_zeros c d (joining_wider f c j) e
+
+over_whole : {R S : RawValue → List ℕ → Type 0} (m : BERMode) → (m ≡ Ber → ⊥) → ((v : RawValue) (b : List ℕ) → R v b → S v b) → (v : RawValue)
+    (b : List ℕ) → RawOver R m v b → WholeOver S m v b
+over_whole m n f v b x = record { not_end = x.not_end; in_range = x.in_range; in_bytes = x.in_bytes; framed = framed_whole m n f v b x.framed }
+
+-- so it is one down to the primitive ones
+raw_whole : (n : ℕ) (m : BERMode) → (m ≡ Ber → ⊥) → (v : RawValue) (b : List ℕ) → IsRaw n m v b → IsWhole n m v b
+raw_whole zero m e v b x = absurd (raw_zero m v b x)
+raw_whole (suc n) m e v b x = whole_of n m v b (over_whole m e (raw_whole n m e) v b (raw_into n m v b x))
+
+-- and where there are no such elements there are no raw ones
+pub none_raw : (n : ℕ) (m : BERMode) (s : List ℕ) → (AreElements n m s → ⊥) → (m ≡ Ber → ⊥) → IsJoining (IsRaw n m) s → 1 ≤ length s → ⊥
+none_raw n m s none e x l = none (record { joining = joining_wider (raw_whole n m e) s x; some = l })

@@ -10,9 +10,9 @@ IsBroken P (Broken offset kind expected) = P offset kind
 IsBroken P Memory = ⊥
 IsBroken P Output = ⊥
 
--- the listener refused with this fault, or what should stand somewhere doesn't, and N says that there is nothing to be told of
-abbrev pub Unheard : (Fault → Type 0) → Type 0 → Fault → Type 0
-Unheard Refuses N f = Refuses f ⊎ IsBroken (λ offset kind. N) f
+-- the listener refused with this fault, or what should stand at an offset doesn't, and N says why there was nothing to be told of
+abbrev pub Unheard : (Fault → Type 0) → (ℕ → ASN1ErrorKind → Type 0) → Fault → Type 0
+Unheard Refuses N f = Refuses f ⊎ IsBroken N f
 
 -- there was no memory, or a write failed: that says nothing of what was to be told
 abbrev pub OfDevice : Fault → Type 0

@@ -1,19 +1,22 @@
 -- What the reading of elements answers.
-use Rattle.std.specs.Prelude.{◌≡◌, ◌↔◌, ℕ, ◌+◌, ◌≤◌, Bool, true, false, List, [], ◌∷◌, ◌++◌, length, Option, Some, None, Result, Ok, Err}
+use Rattle.std.specs.Prelude.{◌≡◌, ◌⊎◌, ℕ, ◌+◌, ◌≤◌, Bool, true, false, List, [], ◌∷◌, ◌++◌, length, Option, Some, None, Result, Ok, Err}
 use Rattle.yasna_base.specs.Bits.{bits_tag}
 use Rattle.yasna_base.specs.Header.{ContentsEnd, definite_end, indefinite_end, OpensAt}
 use Rattle.yasna_base.specs.Identifier.{end_tag}
 use Rattle.yasna_base.specs.Octets.{octets_tag}
-use Rattle.yasna_base.specs.Raw.{RawValue, IsJoining}
+use Rattle.yasna_base.specs.Raw.{RawValue, IsRaw, IsJoining}
 use Rattle.yasna_base.specs.declared.error.ASN1ErrorKind.{ASN1ErrorKind}
-use Rattle.yasna_base.specs.declared.error.ASN1ErrorKind.TheVariants.{OutOfMemory, StackOverflow}
+use Rattle.yasna_base.specs.declared.error.ASN1ErrorKind.TheVariants.{Eof}
+use Rattle.yasna_base.specs.declared.mode.BERMode.{BERMode}
+use Rattle.yasna_base.specs.declared.mode.BERMode.TheVariants.{Ber}
 use Rattle.yasna_base.specs.declared.tag.PCBit.TheVariants.{Constructed}
 use Rattle.yasna_bytes.specs.Front.{Takes, Stands}
 use Rattle.yasna_bytes.specs.Opening.{end_found}
-use Rattle.yasna_bytes.specs.Walk.{following, NoHeader, HasNoLevel}
+use Rattle.yasna_bytes.specs.Walk.{following}
 use Rattle.yasna_listing.specs.Faults.{IsBroken}
 use Rattle.yasna_listing.specs.Listing.{Line, Hears, Below, ListsBytes, ListsOne}
-use Rattle.yasna_listing.specs.Whole.{IsWhole, Closes}
+use Rattle.yasna_listing.specs.Whole.{IsWhole, AreElements, Closes}
+use Rattle.yasna_listing.specs.Stops.{LacksHeader, StopsOne, Stops}
 use Rattle.yasna_listing.specs.declared.fault.Fault.{Fault}
 use Rattle.yasna_listing.specs.declared.listing.item.Item.{Item}
 use Rattle.yasna_listing.specs.declared.listing.item.Opened.{Opened}
@@ -42,10 +45,8 @@ pub record OpensItem (rules : Rules) (p : Place) (o : Opened) : Type 0 where
 
 -- why no header of an element stands at a place, by the offset and the kind of the fault
 pub record NoItem (rules : Rules) (p : Place) (offset : ℕ) (kind : ASN1ErrorKind) : Type 0 where
-  pub none : NoHeader rules.mode rules.levels p.left.now
   pub here : offset ≡ p.offset
-  pub deep : kind ≡ StackOverflow ↔ HasNoLevel rules.levels p.left.now
-  pub no_memory : kind ≡ OutOfMemory → ⊥
+  pub lacks : LacksHeader rules.mode rules.levels kind p.left.now
 
 -- what reading a header at a place answers, by its case
 abbrev pub ItemAt : Rules → Place → Result Opened Fault → Type 0
@@ -98,17 +99,33 @@ pub record BelowHeard (rules : Rules) (i : Item) (old new : Option (List Line)) 
 abbrev pub StandsBefore : Rules → Place → Place → Type 0
 StandsBefore rules p q = (v : RawValue) × Takes (IsWhole rules.levels rules.mode) p.left.now v q.left.now
 
--- none does
-abbrev pub NoElement : Rules → Place → Type 0
-NoElement rules p = Stands (IsWhole rules.levels rules.mode) p.left.now → ⊥
+-- none does, and one stops at the offset
+pub record NoElement (rules : Rules) (p : Place) (offset : ℕ) (kind : ASN1ErrorKind) : Type 0 where
+  pub none : Stands (IsWhole rules.levels rules.mode) p.left.now → ⊥
+  pub at : ℕ
+  pub place : offset ≡ p.offset + at
+  pub stops : StopsOne rules.levels rules.mode kind p.left.now at
 
--- from a place on no such elements stand up to the end of contents
-abbrev pub NotClosed : Rules → Place → Bool → Type 0
-NotClosed rules p is_counted = Closes rules.levels rules.mode is_counted p.left.now → ⊥
+-- from a place on no such elements stand up to the end of contents, and they stop at the offset
+pub record NotClosed (rules : Rules) (p : Place) (is_counted : Bool) (offset : ℕ) (kind : ASN1ErrorKind) : Type 0 where
+  pub none : Closes rules.levels rules.mode is_counted p.left.now → ⊥
+  pub at : ℕ
+  pub place : offset ≡ p.offset + at
+  pub stops : Stops rules.levels rules.mode kind is_counted p.left.now at
 
--- an element is constructed, and what stands in it aren't such elements
-pub record NoneBelow (rules : Rules) (i : Item) : Type 0 where
+-- an element is constructed, and what stands in it aren't such elements, which stop at the offset
+pub record NoneBelow (rules : Rules) (i : Item) (offset : ℕ) (kind : ASN1ErrorKind) : Type 0 where
   pub bit : i.bit ≡ Constructed
   pub levels : ℕ
   pub deeper : levels + 1 ≡ rules.levels
   pub none : IsJoining (IsWhole levels rules.mode) i.contents.now → ⊥
+  pub at : ℕ
+  pub place : offset ≡ i.offset + i.header + at
+  pub stops : Stops levels rules.mode kind true i.contents.now at
+
+-- an input isn't one or more such elements within n levels, nor in DER and CER one or more raw ones: it is empty, or they stop at the
+-- offset
+pub record NoElements (n : ℕ) (m : BERMode) (s : List ℕ) (offset : ℕ) (kind : ASN1ErrorKind) : Type 0 where
+  pub none : AreElements n m s → ⊥
+  pub not_raw : (m ≡ Ber → ⊥) → IsJoining (IsRaw n m) s → 1 ≤ length s → ⊥
+  pub stops : ((s ≡ []) × (offset ≡ 0) × (kind ≡ Eof)) ⊎ Stops n m kind true s offset

@@ -4,7 +4,7 @@ ghost use Rattle.yasna_base.specs.Raw.{IsRaw, IsJoining};
 ghost use Rattle.yasna_listing.specs.Listing.{Line, Hears, ListsBytes};
 ghost use Rattle.yasna_listing.specs.Faults.{Unheard};
 ghost use Rattle.yasna_listing.specs.Whole.{IsWhole, AreElements, EndsHere};
-ghost use Rattle.yasna_listing.specs.Reading.{line_of, IsFurther, ItemAt, ContentsHeard, ElementHeard, BelowHeard, StandsInString, EndsAt, StandsBefore, NoElement, NotClosed, NoneBelow};
+ghost use Rattle.yasna_listing.specs.Reading.{line_of, IsFurther, ItemAt, ContentsHeard, ElementHeard, BelowHeard, StandsInString, EndsAt, StandsBefore, NoElement, NotClosed, NoneBelow, NoElements};
 
 mod header;
 mod item;
@@ -128,7 +128,7 @@ fn list_within<L: Listener>(rules: Rules, item: &Item<'_>, listener: &mut L) -> 
 
 /// Tells of the element that begins here and of those within, and gives the place behind it.
 ///
-/// `Err` says that the listener refused, or that none stands here that is one down to the primitive ones.
+/// `Err` says that the listener refused, or that none stands here that is one down to the primitive ones, and where it stops.
 #[cycle(listing)]
 pub fn list_element<'a, L: Listener>(
     rules: Rules,
@@ -163,14 +163,15 @@ pub fn list_element<'a, L: Listener>(
 
 /// Tells of the elements of an input, which are one or more.
 ///
-/// `Err` says that the listener refused, or that the input isn't one or more elements down to the primitive ones, within 101 levels. So
-/// for a listener that refuses nothing it is `Ok` exactly where the input is.
+/// `Err` says that the listener refused, or that the input isn't one or more elements down to the primitive ones, within 101 levels: then
+/// its offset is that of the first header that should stand and doesn't. So for a listener that refuses nothing it is `Ok` exactly where
+/// the input is such elements.
 pub fn list_input<L: Listener>(input: &[u8], mode: BERMode, listener: &mut L) -> Result<(), Fault>
     ensures lines { OnOk result ((ls : List Line) × Hears (L.heard listener.old) (L.heard listener.new) ls × ListsBytes 101 mode false 0 input.now ls) }
     ensures raw { OnOk result (IsJoining (IsRaw 101 mode) input.now) }
     ensures some { OnOk result (1 ≤ length input.now) }
     ensures elements { OnOk result (AreElements 101 mode input.now) }
-    ensures unheard { IfErr result (λ f. Unheard (L.refuses listener.new) (AreElements 101 mode input.now → ⊥) f) }
+    ensures unheard { IfErr result (λ f. Unheard (L.refuses listener.new) (NoElements 101 mode input.now) f) }
 {
     if input.is_empty() {
         return Err(Fault::Broken {

@@ -54,7 +54,8 @@ list_within-returns-in-Ok-list_contents-clause-heard g t c =
 pub list_contents-returns-in-Err-clause-unheard : goal.list_contents-returns-in-Err-clause-unheard
 list_contents-returns-in-Err-clause-unheard g t c =
     unheard_by (g.L.Listener.refuses c.list_element.new.listener) c.in-Err.fault
-    (λ n x. not_closed c.args.rules c.loop-after.place c.args.is_counted (c.in_default.ensures {u = tt}) n (c.loop-after.invariant.1 x))
+    (λ o k. not_closed c.args.rules c.args.contents c.loop-after.place c.args.is_counted (g.L.Listener.heard c.args.listener.now)
+    (g.L.Listener.heard c.loop-after.listener) o k c.loop-after.invariant.0 c.loop-after.invariant.1 (c.in_default.ensures {u = tt}))
     (c.in-Err.ensures {u = tt}).unheard
 
 pub list_element-returns-in-Err-clause-unheard : goal.list_element-returns-in-Err-clause-unheard
@@ -74,14 +75,14 @@ list_element-returns-in-Indefinite-clause-unheard g t c =
     (Unheard (g.L.Listener.refuses c.list_contents.new.listener) (NoElement c.args.rules c.args.place))
     (λ f. unheard_by (g.L.Listener.refuses c.list_contents.new.listener) f (uncounted_not_element c.args.rules c.below.result c.args.place
     c.contents_place.result c.in-Ok.opened (c.in-Ok.ensures {u = tt}) (ap end_found c.in-Indefinite.is) c.below.ensures.mode c.below.ensures.levels
-    c.contents_place.ensures.left))
+    c.contents_place.ensures.left c.contents_place.ensures.offset))
     c.list_contents.ensures.unheard
 
 pub list_within-returns-in-Err-clause-unheard : goal.list_within-returns-in-Err-clause-unheard
 list_within-returns-in-Err-clause-unheard g t c =
     unheard_by (g.L.Listener.refuses c.list_contents.new.listener) c.in-Err.fault
     (none_below c.args.rules c.below.result c.args.item.now c.contents_place.result c.in-Constructed.is c.below.ensures.mode c.below.ensures.levels
-    c.contents_place.ensures.left) (c.in-Err.ensures {u = tt}).unheard
+    c.contents_place.ensures.left c.contents_place.ensures.offset) (c.in-Err.ensures {u = tt}).unheard
 
 pub list_within-returns-in-Err-list_contents-clause-unheard : goal.list_within-returns-in-Err-list_contents-clause-unheard
 list_within-returns-in-Err-list_contents-clause-unheard g t c =

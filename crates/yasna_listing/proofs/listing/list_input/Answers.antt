@@ -44,4 +44,4 @@ pub returns-in-Err-clause-unheard : goal.returns-in-Err-clause-unheard
 returns-in-Err-clause-unheard g c =
     let r = c.start.ensures in
     unheard_by (g.L.Listener.refuses c.list_contents.new.listener) c.in-Err.fault
-    (none_in_input c.start.result c.args.mode c.start-2.result c.args.input.now r.mode r.levels c.start-2.ensures.left) (c.in-Err.ensures {u = tt}).unheard
+    (none_in_input c.start.result c.args.mode c.start-2.result c.args.input.now r.mode r.levels c.start-2.ensures.left c.start-2.ensures.offset) (c.in-Err.ensures {u = tt}).unheard
