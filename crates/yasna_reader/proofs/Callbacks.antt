@@ -1,5 +1,7 @@
 -- What a callback that was handed a reading came to.
-use Rattle.std.proofs.Common.{◌≡◌, inl, inr, ℕ, ◌-◌, List, [], ◌++◌, length, take, drop, take-append-drop, Option, Some, None, Err, sym, ap, subst, ◌∙◌, arith}
+use Rattle.std.proofs.Common.{◌≡◌, inl, inr, ℕ, ◌-◌, List, [], ◌++◌, length, take, drop, take-append-drop, length-append, Option, Some, None, Ok, Err, refl, sym, ap, subst, ◌∙◌, arith}
+use Rattle.std.proofs.Math.Seq.{drop-append_seam}
+use Rattle.std.specs.Borrow.{Bor}
 use Rattle.std.specs.Prelude.{Result}
 use Rattle.yasna_base.specs.declared.error.ASN1Error.{ASN1Error}
 use Rattle.yasna_base.specs.declared.mode.BERMode.{BERMode}
@@ -7,6 +9,7 @@ use Rattle.yasna_base.specs.declared.tag.Tag.{Tag}
 use Rattle.yasna_bytes.specs.declared.bytes.cursor.Cursor.{Cursor}
 use Rattle.yasna_reader.specs.declared.callback.Outcome.{Outcome}
 use Rattle.yasna_reader.specs.declared.callback.Outcome.TheVariants.{Gave, Quiet, Failed}
+use Rattle.yasna_reader.specs.Buffer.{Buffered}
 use Rattle.yasna_reader.specs.Callback.{ComesTo, Barred, Hands, Lent, Fault, WithSome, at_cursor, kept, before, own}
 use Rattle.yasna_reader.specs.Sequence.{place_in}
 use Rattle.yasna_reader.specs.State.{Reading, Does}
@@ -53,6 +56,18 @@ taken_behind s x m o s' h =
     moved s x m (Gave v) s' h = ap (λ (z : Reading). z.left) h.3
     moved s x m (Quiet e) s' h = ap (λ (z : Reading). z.left) h.4
     moved s x m (Failed e) s' h = ap (λ (z : Reading). z.left) h.1
+
+taken_front : (b left l taken : List ℕ) → b ≡ taken ++ l → left ≡ l → b ≡ take (length b - length left) b ++ l
+taken_front b left l taken e f =
+    let n : length b - length left ≡ length taken = omega (arith, ap length e, ap length f, length-append taken l) in
+    sym (take-append-drop (length b - length left) b) ∙ ap (λ z. take (length b - length left) b ++ z)
+    (ap (λ k. drop k b) n ∙ ap (λ z. drop (length taken) z) e ∙ drop-append_seam taken l)
+
+-- what was taken of these bytes is as long as what is left is shorter
+pub buffered : {A : Type 0} (b left l : List ℕ) (v : A) (x : Bor (List ℕ)) (o : Outcome A) → o ≡ Gave v → (taken : List ℕ) × (b ≡ taken ++ l) →
+    left ≡ l → x.now ≡ take (length b - length left) b → Buffered b o (Ok (v, x)) l
+buffered b left l v x o g t f e =
+    subst (λ p. Buffered b p (Ok (v, x)) l) (sym g) (refl, taken_front b left l t.0 t.1 f ∙ ap (λ z. z ++ l) (sym e))
 
 -- the same of a reading that begins there
 pub taken_from : {A : Type 0} (c : List ℕ) (mode : BERMode) (n : ℕ) (x : Result A ASN1Error) (m : Reading) (o : Outcome A) (s' : Reading) →

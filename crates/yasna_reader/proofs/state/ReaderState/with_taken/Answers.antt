@@ -1,6 +1,9 @@
-use Rattle.std.proofs.Common.{arith}
-use Rattle.std.proofs.lemmas.Grind.{common_steps}
+use Rattle.std.proofs.Common.{ap}
+use Rattle.yasna_reader.specs.State.{Reading}
+use Rattle.yasna_reader.proofs.Callbacks.{buffered}
 use Rattle.yasna_reader.proofs.state.ReaderState.with_taken.Goals as goal
 
 pub returns : goal.returns
-returns g c = grind (arith, common_steps)
+returns g c =
+    let left = ap (λ (z : Reading). z.left) c.self.view_is in
+    search (buffered, left)
