@@ -2,4 +2,5 @@ pub mod Lines
 pub mod Reading
 pub mod Whole
 pub mod Header
+pub mod Stops
 pub mod Unheard

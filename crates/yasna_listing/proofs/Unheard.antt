@@ -1,19 +1,13 @@
 -- Why elements weren't told: at the first place where none stands that is one down to the primitive ones.
-use Rattle.std.proofs.Common.{◌≡◌, ◌+◌, ℕ, zero, suc, Bool, true, false, List, [], ◌∷◌, ◌++◌, length, Ok, Err, inl, inr, refl, sym, ap, ◌∙◌, subst, append-nil, arith}
+use Rattle.std.proofs.Common.{◌≡◌, ◌+◌, ℕ, zero, suc, Bool, true, false, List, ◌∷◌, ◌++◌, length, Ok, Err, inl, inr, refl, sym, ap, ◌∙◌, subst, arith}
 use Rattle.std.specs.Prelude.{Option, Result, IfErr}
 use Rattle.yasna_base.specs.declared.error.ASN1ErrorKind.{ASN1ErrorKind}
 use Rattle.yasna_base.specs.declared.error.ASN1ErrorKind.TheVariants.{Eof}
 use Rattle.yasna_base.specs.declared.mode.BERMode.{BERMode}
-use Rattle.yasna_base.specs.declared.tag.PCBit.{PCBit}
 use Rattle.yasna_base.specs.declared.tag.PCBit.TheVariants.{Constructed}
-use Rattle.yasna_base.specs.declared.tag.Tag.{Tag}
-use Rattle.yasna_base.specs.Element.{definite, indefinite}
 use Rattle.yasna_base.specs.Header.{definite_end, indefinite_end, OpensAt}
-use Rattle.yasna_base.specs.Identifier.{AtEnd, nothing}
 use Rattle.yasna_base.specs.Raw.{RawValue, IsJoining}
-use Rattle.yasna_base.proofs.Element.{counted_header, uncounted_header, definite_not_indefinite}
-use Rattle.yasna_base.proofs.Identifier.{zeros_at_end}
-use Rattle.yasna_base.proofs.Lists.{append_same, fronts_same, empty_is}
+use Rattle.yasna_base.proofs.Lists.{append_same, empty_is}
 use Rattle.yasna_base.proofs.Pieces.{starts_not_end}
 use Rattle.yasna_base.proofs.Raw.{raw_exact}
 use Rattle.yasna_bytes.specs.Front.{Stands}
@@ -24,7 +18,7 @@ use Rattle.yasna_listing.specs.Faults.{IsBroken, Unheard}
 use Rattle.yasna_listing.specs.Listing.{Line}
 use Rattle.yasna_listing.specs.Reading.{OpensItem, NoItem, StandsBefore, NoElement, NotClosed, NoneBelow, NoElements, ElementHeard}
 use Rattle.yasna_listing.specs.Stops.{LacksHeader, StopsInside, at_header, inside, StopsOne, Stops}
-use Rattle.yasna_listing.specs.Whole.{with_length, with_zeros, WholeFramed, WholeOver, IsWhole, AreElements, EndsHere, Closes}
+use Rattle.yasna_listing.specs.Whole.{WholeOver, IsWhole, AreElements, EndsHere, Closes}
 use Rattle.yasna_listing.specs.declared.fault.Fault.{Fault}
 use Rattle.yasna_listing.specs.declared.fault.Fault.TheVariants.{Broken, Memory, Output}
 use Rattle.yasna_listing.specs.declared.listing.item.Item.{Item}
@@ -32,6 +26,7 @@ use Rattle.yasna_listing.specs.declared.listing.item.Opened.{Opened}
 use Rattle.yasna_listing.specs.declared.listing.place.Place.{Place}
 use Rattle.yasna_listing.specs.declared.listing.place.Rules.{Rules}
 use Rattle.yasna_listing.proofs.Reading.{Reached}
+use Rattle.yasna_listing.proofs.Stops.{ends_at_end, joining_closes, counted_inside, uncounted_inside, stops_once}
 use Rattle.yasna_listing.proofs.Whole.{takes_constructed, lists_whole, none_raw, whole_zero, whole_into, whole_raw, whole_starts, one_whole}
 
 -- what follows holds of a fault too
@@ -59,11 +54,6 @@ pub heard_stands : (rules : Rules) (p q : Place) (a b : Option (List Line)) → 
 heard_stands rules p q a b x =
     let v = one_whole rules.levels rules.mode rules.is_within p.offset x.bytes x.lines x.lists in
     (v.0, record { front = x.bytes; joined = x.further.joined; member = v.1 })
-
--- an end of contents is no element
-ends_at_end : (w : Bool) (s : List ℕ) → EndsHere w s → AtEnd s
-ends_at_end true s x = nothing x
-ends_at_end false s x = subst AtEnd (sym x.1) (zeros_at_end (0 ∷ x.0))
 
 closes_first : (n : ℕ) (m : BERMode) (w : Bool) (v : RawValue) (b r s : List ℕ) → IsWhole n m v b → s ≡ b ++ r → First (IsWhole n m) (EndsHere w) s →
     Closes n m w r
@@ -109,10 +99,6 @@ not_closed rules p q w a b o k x f none y =
       };
     }
 
--- elements one after the other are counted contents
-pub joining_closes : (n : ℕ) (m : BERMode) (s : List ℕ) → IsJoining (IsWhole n m) s → Closes n m true s
-joining_closes n m s x = record { values = x.0; front = s; rest = []; pieces = x.1; more = tt; joined = sym (append-nil s); deep = refl }
-
 -- an element stops at its header
 stops_header : (n : ℕ) (m : BERMode) (k : ASN1ErrorKind) (s : List ℕ) → LacksHeader m n k s → StopsOne n m k s 0
 unfolding StopsOne
@@ -139,27 +125,6 @@ item_not_element rules p o k x = record {
 
 pub item_unheard : (R : Fault → Type 0) (rules : Rules) (p : Place) (f : Fault) → IsBroken (NoItem rules p) f → Unheard R (NoElement rules p) f
 item_unheard R rules p f x = inr (broken_by f (item_not_element rules p) x)
-
--- where an element begins, counted contents of a constructed one are those behind its header
-counted_inside : {R : RawValue → List ℕ → Type 0} (m : BERMode) (t : Tag) (p : PCBit) (s c z : List ℕ) (v : RawValue) (b r : List ℕ) →
-    OpensAt m t p s c (definite_end z) → WholeFramed R m v b → s ≡ b ++ r → p ≡ Constructed → IsJoining R c
-counted_inside {R} m t p s c z v b r x (with_length d j) f e =
-    let i = counted_header m m t v.tag p v.bit (length c) x.l v.payload b (c ++ z) r x.spelled (definite d) (sym x.joined ∙ f) in
-    let k = fronts_same c v.payload z r i.count i.behind in
-    subst (λ y. IsJoining R y) (sym k.0) (j (sym i.bit ∙ e))
-counted_inside m t p s c z v b r x (with_zeros y d j g) f e =
-    let i = counted_header m m t v.tag p v.bit (length c) x.l y b (c ++ z) r x.spelled (indefinite d) (sym x.joined ∙ f) in
-    absurd (definite_not_indefinite m m v.tag v.tag v.bit v.bit y y b b r r i.element d refl)
-
--- and those that two zeros end
-uncounted_inside : {R : RawValue → List ℕ → Type 0} (m : BERMode) (t : Tag) (p : PCBit) (s c : List ℕ) (v : RawValue) (b r : List ℕ) →
-    OpensAt m t p s c indefinite_end → WholeFramed R m v b → s ≡ b ++ r → (d : List ℕ) × IsJoining R d × (c ≡ d ++ (0 ∷ 0 ∷ r))
-uncounted_inside m t p s c v b r x (with_length d j) f =
-    let i = uncounted_header m t v.tag p v.bit v.payload b c r (definite d) (sym x.joined ∙ f) in
-    absurd (definite_not_indefinite m m v.tag v.tag v.bit v.bit v.payload v.payload b b r r d i.element refl)
-uncounted_inside m t p s c v b r x (with_zeros y d j g) f =
-    let i = uncounted_header m t v.tag p v.bit y b c r (indefinite d) (sym x.joined ∙ f) in
-    (y, j, i.behind)
 
 -- an element within some levels stands over those with one less
 over_less : (n k : ℕ) (m : BERMode) (v : RawValue) (b : List ℕ) → k + 1 ≡ n → IsWhole n m v b → WholeOver (IsWhole k m) m v b
@@ -269,4 +234,9 @@ none_in_input rules m p s e f g h o k y =
     let i = subst (λ z. IsJoining (IsWhole 101 m) z) (sym g) x.joining in
     let j = subst (λ z. IsJoining (IsWhole z m) p.left.now) (sym f) i in
     y.none (joining_closes rules.levels rules.mode p.left.now (subst (λ z. IsJoining (IsWhole rules.levels z) p.left.now) (sym e) j))) in
-    record { none = none; not_raw = none_raw 101 m s none; stops = inr (subst (λ z. Stops 101 m k true s z) same three) }
+    let here = subst (λ z. Stops 101 m k true s z) same three in
+    record {
+      none = none;
+      not_raw = none_raw 101 m s none;
+      stops = inr (record { here = here; once = λ j q x. stops_once 101 m j k true s q o x here });
+    }

@@ -16,7 +16,7 @@ use Rattle.yasna_bytes.specs.Walk.{following}
 use Rattle.yasna_listing.specs.Faults.{IsBroken}
 use Rattle.yasna_listing.specs.Listing.{Line, Hears, Below, ListsBytes, ListsOne}
 use Rattle.yasna_listing.specs.Whole.{IsWhole, AreElements, Closes}
-use Rattle.yasna_listing.specs.Stops.{LacksHeader, StopsOne, Stops}
+use Rattle.yasna_listing.specs.Stops.{LacksHeader, StopsOne, Stops, StopsOnly}
 use Rattle.yasna_listing.specs.declared.fault.Fault.{Fault}
 use Rattle.yasna_listing.specs.declared.listing.item.Item.{Item}
 use Rattle.yasna_listing.specs.declared.listing.item.Opened.{Opened}
@@ -124,8 +124,8 @@ pub record NoneBelow (rules : Rules) (i : Item) (offset : ℕ) (kind : ASN1Error
   pub stops : Stops levels rules.mode kind true i.contents.now at
 
 -- an input isn't one or more such elements within n levels, nor in DER and CER one or more raw ones: it is empty, or they stop at the
--- offset
+-- offset alone
 pub record NoElements (n : ℕ) (m : BERMode) (s : List ℕ) (offset : ℕ) (kind : ASN1ErrorKind) : Type 0 where
   pub none : AreElements n m s → ⊥
   pub not_raw : (m ≡ Ber → ⊥) → IsJoining (IsRaw n m) s → 1 ≤ length s → ⊥
-  pub stops : ((s ≡ []) × (offset ≡ 0) × (kind ≡ Eof)) ⊎ Stops n m kind true s offset
+  pub stops : ((s ≡ []) × (offset ≡ 0) × (kind ≡ Eof)) ⊎ StopsOnly n m kind s offset

@@ -61,3 +61,8 @@ StopsOne (suc n) m k s at = StopsElement (StopsBehind (IsWhole n m) (StopsOne n 
 -- the same of elements one after the other in contents
 abbrev pub Stops : ℕ → BERMode → ASN1ErrorKind → Bool → List ℕ → ℕ → Type 0
 Stops n m k counted s at = StopsBehind (IsWhole n m) (StopsOne n m k) counted s at
+
+-- those of an input stop at this offset, and at no other
+pub record StopsOnly (n : ℕ) (m : BERMode) (k : ASN1ErrorKind) (s : List ℕ) (offset : ℕ) : Type 0 where
+  pub here : Stops n m k true s offset
+  pub once : (j : ASN1ErrorKind) (o : ℕ) → Stops n m j true s o → o ≡ offset

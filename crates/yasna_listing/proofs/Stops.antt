@@ -1,0 +1,139 @@
+-- Where elements down to the primitive ones stop: none stands there, and they stop nowhere else.
+use Rattle.std.proofs.Common.{◌≡◌, ◌≤◌, ℕ, zero, suc, Bool, true, false, List, [], ◌∷◌, ◌++◌, length, refl, sym, ap, ◌∙◌, subst, append-nil, length-append, arith}
+use Rattle.yasna_base.specs.declared.error.ASN1ErrorKind.{ASN1ErrorKind}
+use Rattle.yasna_base.specs.declared.mode.BERMode.{BERMode}
+use Rattle.yasna_base.specs.declared.tag.PCBit.{PCBit}
+use Rattle.yasna_base.specs.declared.tag.PCBit.TheVariants.{Constructed}
+use Rattle.yasna_base.specs.declared.tag.Tag.{Tag}
+use Rattle.yasna_base.specs.Element.{definite, indefinite}
+use Rattle.yasna_base.specs.Header.{ContentsEnd, definite_end, indefinite_end, OpensAt}
+use Rattle.yasna_base.specs.Identifier.{AtEnd, nothing}
+use Rattle.yasna_base.specs.Raw.{RawValue, IsJoining}
+use Rattle.yasna_base.proofs.Element.{counted_header, uncounted_header, definite_not_indefinite}
+use Rattle.yasna_base.proofs.Header.{header_once}
+use Rattle.yasna_base.proofs.Identifier.{zeros_at_end}
+use Rattle.yasna_base.proofs.Lists.{fronts_same}
+use Rattle.yasna_base.proofs.Pieces.{NoFront, no_front_at_end, pieces_once}
+use Rattle.yasna_base.proofs.Raw.{raw_exact}
+use Rattle.yasna_bytes.specs.Walk.{following}
+use Rattle.yasna_bytes.proofs.RawHeader.{opens_header, opens_range}
+use Rattle.yasna_bytes.proofs.WalkSteps.{no_raw}
+use Rattle.yasna_listing.specs.Stops.{LacksHeader, is_counted, StopsInside, StopsElement, at_header, inside, StopsBehind, StopsOne, Stops}
+use Rattle.yasna_listing.specs.Whole.{with_length, with_zeros, WholeFramed, WholeOver, IsWhole, EndsHere, Closes}
+use Rattle.yasna_listing.proofs.Whole.{whole_zero, whole_into, whole_raw, whole_starts}
+
+-- an end of contents is no element
+pub ends_at_end : (w : Bool) (s : List ℕ) → EndsHere w s → AtEnd s
+ends_at_end true s x = nothing x
+ends_at_end false s x = subst AtEnd (sym x.1) (zeros_at_end (0 ∷ x.0))
+
+-- elements one after the other are counted contents
+pub joining_closes : (n : ℕ) (m : BERMode) (s : List ℕ) → IsJoining (IsWhole n m) s → Closes n m true s
+joining_closes n m s x = record { values = x.0; front = s; rest = []; pieces = x.1; more = tt; joined = sym (append-nil s); deep = refl }
+
+-- where an element begins, counted contents of a constructed one are those behind its header
+pub counted_inside : {R : RawValue → List ℕ → Type 0} (m : BERMode) (t : Tag) (p : PCBit) (s c z : List ℕ) (v : RawValue) (b r : List ℕ) →
+    OpensAt m t p s c (definite_end z) → WholeFramed R m v b → s ≡ b ++ r → p ≡ Constructed → IsJoining R c
+counted_inside {R} m t p s c z v b r x (with_length d j) f e =
+    let i = counted_header m m t v.tag p v.bit (length c) x.l v.payload b (c ++ z) r x.spelled (definite d) (sym x.joined ∙ f) in
+    let k = fronts_same c v.payload z r i.count i.behind in
+    subst (λ y. IsJoining R y) (sym k.0) (j (sym i.bit ∙ e))
+counted_inside m t p s c z v b r x (with_zeros y d j g) f e =
+    let i = counted_header m m t v.tag p v.bit (length c) x.l y b (c ++ z) r x.spelled (indefinite d) (sym x.joined ∙ f) in
+    absurd (definite_not_indefinite m m v.tag v.tag v.bit v.bit y y b b r r i.element d refl)
+
+-- and those that two zeros end
+pub uncounted_inside : {R : RawValue → List ℕ → Type 0} (m : BERMode) (t : Tag) (p : PCBit) (s c : List ℕ) (v : RawValue) (b r : List ℕ) →
+    OpensAt m t p s c indefinite_end → WholeFramed R m v b → s ≡ b ++ r → (d : List ℕ) × IsJoining R d × (c ≡ d ++ (0 ∷ 0 ∷ r))
+uncounted_inside m t p s c v b r x (with_length d j) f =
+    let i = uncounted_header m t v.tag p v.bit v.payload b c r (definite d) (sym x.joined ∙ f) in
+    absurd (definite_not_indefinite m m v.tag v.tag v.bit v.bit v.payload v.payload b b r r d i.element refl)
+uncounted_inside m t p s c v b r x (with_zeros y d j g) f =
+    let i = uncounted_header m t v.tag p v.bit y b c r (indefinite d) (sym x.joined ∙ f) in
+    (y, j, i.behind)
+
+-- of two elements neither begins the other
+alone : (n : ℕ) (m : BERMode) (v w : RawValue) (b c r s : List ℕ) → IsWhole n m v b → IsWhole n m w c → b ++ r ≡ c ++ s → b ≡ c
+alone n m v w b c r s x y e = (raw_exact n n m v w b c r s (whole_raw n m v b x) (whole_raw n m w c y) e).1
+
+-- contents in which elements stop don't end
+behind_open : (n : ℕ) (m : BERMode) (Next : List ℕ → ℕ → Type 0) → ((s : List ℕ) (at : ℕ) → Next s at → NoFront (IsWhole n m) s) → (w : Bool) (s : List ℕ)
+    (at : ℕ) → StopsBehind (IsWhole n m) Next w s at → Closes n m w s → ⊥
+behind_open n m Next f w s at x y =
+    let i = pieces_once (alone n m) x.values y.values x.front y.front x.rest y.rest x.pieces y.pieces (f x.rest x.further x.next)
+    (no_front_at_end (whole_starts n m) y.rest (ends_at_end w y.rest y.deep)) (sym x.joined ∙ y.joined) in
+    x.goes_on (subst (EndsHere w) (sym (i.1)) y.deep)
+
+inside_by : (n : ℕ) (m : BERMode) (Next : List ℕ → ℕ → Type 0) → ((s : List ℕ) (at : ℕ) → Next s at → NoFront (IsWhole n m) s) → (t : Tag)
+    (s c : List ℕ) (e : ContentsEnd) (at : ℕ) → OpensAt m t Constructed s c e → StopsBehind (IsWhole n m) Next (is_counted e) c at → (v : RawValue)
+    (b r : List ℕ) → WholeOver (IsWhole n m) m v b → s ≡ b ++ r → ⊥
+inside_by n m Next f t s c (definite_end z) at o x v b r y g =
+    behind_open n m Next f true c at x (joining_closes n m c (counted_inside m t Constructed s c z v b r o y.framed g refl))
+inside_by n m Next f t s c indefinite_end at o x v b r y g =
+    let d = uncounted_inside m t Constructed s c v b r o y.framed g in
+    behind_open n m Next f false c at x
+    (record { values = d.1.0; front = d.0; rest = 0 ∷ 0 ∷ r; pieces = d.1.1; more = tt; joined = d.2; deep = (r, refl) })
+
+element_none : (n : ℕ) (m : BERMode) (k : ASN1ErrorKind) (Next : List ℕ → ℕ → Type 0) → ((s : List ℕ) (at : ℕ) → Next s at → NoFront (IsWhole n m) s) →
+    (s : List ℕ) (at : ℕ) → StopsElement (StopsBehind (IsWhole n m) Next) m (suc n) k s at → NoFront (IsWhole (suc n) m) s
+element_none n m k Next f s at (at_header e x) v b r y g = no_raw m (suc n) s x.none v b r (whole_raw (suc n) m v b y) g
+element_none n m k Next f s at (inside x) v b r y g =
+    inside_by n m Next f x.tag s x.contents x.end x.further x.opens x.inner v b r (whole_into n m v b y) g
+
+-- where one stops none stands
+one_none : (n : ℕ) (m : BERMode) (k : ASN1ErrorKind) (s : List ℕ) (at : ℕ) → StopsOne n m k s at → NoFront (IsWhole n m) s
+unfolding StopsOne
+one_none zero m k s at x v b r y g = whole_zero m v b y
+one_none (suc n) m k s at x v b r y g = element_none n m k (StopsOne n m k) (one_none n m k) s at x v b r y g
+
+-- two places where elements stop are one if those are where the next one does
+behind_once : (n : ℕ) (m : BERMode) (P Q : List ℕ → ℕ → Type 0) → ((s : List ℕ) (a : ℕ) → P s a → NoFront (IsWhole n m) s) →
+    ((s : List ℕ) (a : ℕ) → Q s a → NoFront (IsWhole n m) s) → ((s : List ℕ) (a b : ℕ) → P s a → Q s b → a ≡ b) → (w : Bool) (s : List ℕ) (a b : ℕ) →
+    StopsBehind (IsWhole n m) P w s a → StopsBehind (IsWhole n m) Q w s b → a ≡ b
+behind_once n m P Q f g h w s a b x y =
+    let i = pieces_once (alone n m) x.values y.values x.front y.front x.rest y.rest x.pieces y.pieces (f x.rest x.further x.next)
+    (g y.rest y.further y.next) (sym x.joined ∙ y.joined) in
+    let j = h y.rest x.further y.further (subst (λ z. P z x.further) (i.1) x.next) y.next in
+    let k = ap length (sym x.joined ∙ y.joined) in
+    omega (arith, x.place, y.place, j, ap length (i.1), k, length-append x.front x.rest, length-append y.front y.rest)
+
+inside_once : (I J : Bool → List ℕ → ℕ → Type 0) (m : BERMode) (s : List ℕ) (a b : ℕ) →
+    ((w : Bool) (c : List ℕ) (a b : ℕ) → I w c a → J w c b → a ≡ b) → StopsInside I m s a → StopsInside J m s b → a ≡ b
+inside_once I J m s a b h x y =
+    let i = header_once m x.tag y.tag Constructed Constructed s x.contents y.contents x.end y.end x.opens y.opens in
+    let p = subst (λ e. I (is_counted e) y.contents x.further) i.end (subst (λ c. I (is_counted x.end) c x.further) i.contents x.inner) in
+    let j = h (is_counted y.end) y.contents x.further y.further p y.inner in
+    omega (arith, x.place, y.place, j, x.counts, y.counts, ap length i.contents, ap (λ e. length (following e)) i.end)
+
+-- where a header stands none is lacking
+inside_header : (I : Bool → List ℕ → ℕ → Type 0) (m : BERMode) (n : ℕ) (k : ASN1ErrorKind) (s : List ℕ) (at : ℕ) → 1 ≤ n → StopsInside I m s at →
+    LacksHeader m n k s → ⊥
+inside_header I m n k s at l x y =
+    y.none x.tag (opens_range m x.tag Constructed s x.contents x.end x.opens) x.not_end
+    (opens_header m n x.tag Constructed s x.contents x.end l x.opens)
+
+element_once : (I J : Bool → List ℕ → ℕ → Type 0) (m : BERMode) (n : ℕ) (j k : ASN1ErrorKind) (s : List ℕ) (a b : ℕ) → 1 ≤ n →
+    ((w : Bool) (c : List ℕ) (a b : ℕ) → I w c a → J w c b → a ≡ b) → StopsElement I m n j s a → StopsElement J m n k s b → a ≡ b
+element_once I J m n j k s a b l h (at_header e x) (at_header f y) = e ∙ sym f
+element_once I J m n j k s a b l h (at_header e x) (inside y) = absurd (inside_header J m n j s b l y x)
+element_once I J m n j k s a b l h (inside x) (at_header f y) = absurd (inside_header I m n k s a l x y)
+element_once I J m n j k s a b l h (inside x) (inside y) = inside_once I J m s a b h x y
+
+last_once : (m : BERMode) (j k : ASN1ErrorKind) (s : List ℕ) (a b : ℕ) → StopsElement (λ w c d. ⊥) m zero j s a →
+    StopsElement (λ w c d. ⊥) m zero k s b → a ≡ b
+last_once m j k s a b (at_header e x) (at_header f y) = e ∙ sym f
+last_once m j k s a b (inside x) y = absurd x.inner
+last_once m j k s a b (at_header e x) (inside y) = absurd y.inner
+
+-- an element stops at one place
+one_once : (n : ℕ) (m : BERMode) (j k : ASN1ErrorKind) (s : List ℕ) (a b : ℕ) → StopsOne n m j s a → StopsOne n m k s b → a ≡ b
+unfolding StopsOne
+one_once zero m j k s a b x y = last_once m j k s a b x y
+one_once (suc n) m j k s a b x y =
+    element_once (StopsBehind (IsWhole n m) (StopsOne n m j)) (StopsBehind (IsWhole n m) (StopsOne n m k)) m (suc n) j k s a b (omega arith)
+    (λ w c d e. behind_once n m (StopsOne n m j) (StopsOne n m k) (one_none n m j) (one_none n m k) (one_once n m j k) w c d e) x y
+
+-- and so do elements one after the other
+pub stops_once : (n : ℕ) (m : BERMode) (j k : ASN1ErrorKind) (w : Bool) (s : List ℕ) (a b : ℕ) → Stops n m j w s a → Stops n m k w s b → a ≡ b
+stops_once n m j k w s a b x y =
+    behind_once n m (StopsOne n m j) (StopsOne n m k) (one_none n m j) (one_none n m k) (one_once n m j k) w s a b x y
