@@ -4,3 +4,4 @@ pub mod Whole
 pub mod Header
 pub mod Stops
 pub mod Unheard
+pub mod OneElement

@@ -24,6 +24,10 @@ unfoldable pub IsWhole : ℕ → BERMode → RawValue → List ℕ → Type 0
 IsWhole zero m v b = ⊥
 IsWhole (suc n) m v b = WholeOver (IsWhole n m) m v b
 
+-- s is one such element
+abbrev pub IsOne : ℕ → BERMode → List ℕ → Type 0
+IsOne n m s = (v : RawValue) × IsWhole n m v s
+
 -- s is one or more such elements, one after the other
 pub record AreElements (n : ℕ) (m : BERMode) (s : List ℕ) : Type 0 where
   pub joining : IsJoining (IsWhole n m) s

@@ -8,11 +8,13 @@ ghost use Rattle.yasna_listing.specs.Reading.{line_of, IsFurther, ItemAt, Conten
 
 mod header;
 mod item;
+mod one_element;
 mod place;
 
 use crate::fault::{Expected, Fault};
 use header::open;
 pub use item::Item;
+pub use one_element::is_one_element;
 pub use place::{Place, Rules};
 use yasna_base::error::ASN1ErrorKind;
 use yasna_base::mode::BERMode;

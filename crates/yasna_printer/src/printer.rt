@@ -12,27 +12,7 @@ use std::io::Write;
 use yasna_base::tag::{PCBit, Tag, TagClass};
 use yasna_base::tags::{TAG_BITSTRING, TAG_OCTETSTRING};
 use yasna_listing::fault::Fault;
-use yasna_listing::listing::{Item, Listener, Place, Rules, list_element};
-
-// Tells nobody.
-#[derive(Clone, Copy)]
-struct Silent;
-
-impl Listener for Silent {
-    ghost use Rattle.std.specs.Prelude.{None};
-
-    ghost heard = { λ _. None };
-
-    ghost refuses = { λ _ _. ⊥ };
-
-    fn hear(&mut self, _item: &Item<'_>) -> Result<(), Fault> {
-        Ok(())
-    }
-
-    fn looks_into(&self, _rules: Rules, _string: Place<'_>) -> bool {
-        false
-    }
-}
+use yasna_listing::listing::{Item, Listener, Place, Rules, is_one_element};
 
 /// Prints a line for each element.
 #[derive(Drop)]
@@ -282,14 +262,8 @@ impl<'w, 'n, W: Write> Listener for Printer<'w, 'n, W> {
         self.report.line.end(self.writer)
     }
 
-    // Where one whole element stands there.
+    // Where one whole element stands there, and the string isn't a segment.
     fn looks_into(&self, rules: Rules, string: Place<'_>) -> bool {
-        if self.report.is_segment {
-            return false;
-        }
-        match list_element(rules, string, &mut Silent) {
-            Ok(after) => after.left.is_empty(),
-            Err(_) => false,
-        }
+        !self.report.is_segment && is_one_element(rules, string)
     }
 }
