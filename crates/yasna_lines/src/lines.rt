@@ -3,7 +3,7 @@ ghost use Rattle.std.specs.Prelude.{◌≡◌, ◌≤◌, length, IfErr, OnOk, S
 ghost use Rattle.yasna_base.specs.Raw.{IsRaw, IsJoining};
 ghost use Rattle.yasna_listing.specs.Faults.{OfDevice, Unheard};
 ghost use Rattle.yasna_listing.specs.Reading.{NoElements};
-ghost use Rattle.yasna_listing.specs.Whole.{AreElements};
+ghost use Rattle.yasna_listing.specs.WellFormed.{AreElements};
 ghost use Rattle.yasna_lines.specs.declared.input.Form.TheVariants.{Bytes};
 
 use crate::input::{Block, Form, PemReader, decode_hex, form_of, is_line_end};

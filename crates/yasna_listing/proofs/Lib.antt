@@ -1,6 +1,6 @@
 pub mod Lines
 pub mod Reading
-pub mod Whole
+pub mod WellFormed
 pub mod Header
 pub mod Stops
 pub mod Unheard

@@ -18,9 +18,9 @@ use Rattle.yasna_base.proofs.Raw.{raw_exact}
 use Rattle.yasna_bytes.specs.Walk.{following}
 use Rattle.yasna_bytes.proofs.RawHeader.{opens_header, opens_range}
 use Rattle.yasna_bytes.proofs.WalkSteps.{no_raw}
-use Rattle.yasna_listing.specs.Stops.{LacksHeader, is_counted, StopsInside, StopsElement, at_header, inside, StopsBehind, StopsOne, Stops}
-use Rattle.yasna_listing.specs.Whole.{with_length, with_zeros, WholeFramed, WholeOver, IsWhole, EndsHere, Closes}
-use Rattle.yasna_listing.proofs.Whole.{whole_zero, whole_into, whole_raw, whole_starts}
+use Rattle.yasna_listing.specs.Stops.{LacksHeader, is_counted, StopsInside, StopsElement, at_header, inside, StopsBehind, StopsOne, StopsIn}
+use Rattle.yasna_listing.specs.WellFormed.{with_length, with_zeros, WellFramed, WellFormedOver, IsWellFormed, EndsHere, ClosesWell}
+use Rattle.yasna_listing.proofs.WellFormed.{formed_zero, formed_into, formed_raw, formed_starts}
 
 -- an end of contents is no element
 pub ends_at_end : (w : Bool) (s : List ℕ) → EndsHere w s → AtEnd s
@@ -28,12 +28,12 @@ ends_at_end true s x = nothing x
 ends_at_end false s x = subst AtEnd (sym x.1) (zeros_at_end (0 ∷ x.0))
 
 -- elements one after the other are counted contents
-pub joining_closes : (n : ℕ) (m : BERMode) (s : List ℕ) → IsJoining (IsWhole n m) s → Closes n m true s
+pub joining_closes : (n : ℕ) (m : BERMode) (s : List ℕ) → IsJoining (IsWellFormed n m) s → ClosesWell n m true s
 joining_closes n m s x = record { values = x.0; front = s; rest = []; pieces = x.1; more = tt; joined = sym (append-nil s); deep = refl }
 
 -- where an element begins, counted contents of a constructed one are those behind its header
 pub counted_inside : {R : RawValue → List ℕ → Type 0} (m : BERMode) (t : Tag) (p : PCBit) (s c z : List ℕ) (v : RawValue) (b r : List ℕ) →
-    OpensAt m t p s c (definite_end z) → WholeFramed R m v b → s ≡ b ++ r → p ≡ Constructed → IsJoining R c
+    OpensAt m t p s c (definite_end z) → WellFramed R m v b → s ≡ b ++ r → p ≡ Constructed → IsJoining R c
 counted_inside {R} m t p s c z v b r x (with_length d j) f e =
     let i = counted_header m m t v.tag p v.bit (length c) x.l v.payload b (c ++ z) r x.spelled (definite d) (sym x.joined ∙ f) in
     let k = fronts_same c v.payload z r i.count i.behind in
@@ -44,7 +44,7 @@ counted_inside m t p s c z v b r x (with_zeros y d j g) f e =
 
 -- and those that two zeros end
 pub uncounted_inside : {R : RawValue → List ℕ → Type 0} (m : BERMode) (t : Tag) (p : PCBit) (s c : List ℕ) (v : RawValue) (b r : List ℕ) →
-    OpensAt m t p s c indefinite_end → WholeFramed R m v b → s ≡ b ++ r → (d : List ℕ) × IsJoining R d × (c ≡ d ++ (0 ∷ 0 ∷ r))
+    OpensAt m t p s c indefinite_end → WellFramed R m v b → s ≡ b ++ r → (d : List ℕ) × IsJoining R d × (c ≡ d ++ (0 ∷ 0 ∷ r))
 uncounted_inside m t p s c v b r x (with_length d j) f =
     let i = uncounted_header m t v.tag p v.bit v.payload b c r (definite d) (sym x.joined ∙ f) in
     absurd (definite_not_indefinite m m v.tag v.tag v.bit v.bit v.payload v.payload b b r r d i.element refl)
@@ -53,20 +53,20 @@ uncounted_inside m t p s c v b r x (with_zeros y d j g) f =
     (y, j, i.behind)
 
 -- of two elements neither begins the other
-alone : (n : ℕ) (m : BERMode) (v w : RawValue) (b c r s : List ℕ) → IsWhole n m v b → IsWhole n m w c → b ++ r ≡ c ++ s → b ≡ c
-alone n m v w b c r s x y e = (raw_exact n n m v w b c r s (whole_raw n m v b x) (whole_raw n m w c y) e).1
+alone : (n : ℕ) (m : BERMode) (v w : RawValue) (b c r s : List ℕ) → IsWellFormed n m v b → IsWellFormed n m w c → b ++ r ≡ c ++ s → b ≡ c
+alone n m v w b c r s x y e = (raw_exact n n m v w b c r s (formed_raw n m v b x) (formed_raw n m w c y) e).1
 
 -- contents in which elements stop don't end
-behind_open : (n : ℕ) (m : BERMode) (Next : List ℕ → ℕ → Type 0) → ((s : List ℕ) (at : ℕ) → Next s at → NoFront (IsWhole n m) s) → (w : Bool) (s : List ℕ)
-    (at : ℕ) → StopsBehind (IsWhole n m) Next w s at → Closes n m w s → ⊥
+behind_open : (n : ℕ) (m : BERMode) (Next : List ℕ → ℕ → Type 0) → ((s : List ℕ) (at : ℕ) → Next s at → NoFront (IsWellFormed n m) s) → (w : Bool) (s : List ℕ)
+    (at : ℕ) → StopsBehind (IsWellFormed n m) Next w s at → ClosesWell n m w s → ⊥
 behind_open n m Next f w s at x y =
     let i = pieces_once (alone n m) x.values y.values x.front y.front x.rest y.rest x.pieces y.pieces (f x.rest x.further x.next)
-    (no_front_at_end (whole_starts n m) y.rest (ends_at_end w y.rest y.deep)) (sym x.joined ∙ y.joined) in
+    (no_front_at_end (formed_starts n m) y.rest (ends_at_end w y.rest y.deep)) (sym x.joined ∙ y.joined) in
     x.goes_on (subst (EndsHere w) (sym (i.1)) y.deep)
 
-inside_by : (n : ℕ) (m : BERMode) (Next : List ℕ → ℕ → Type 0) → ((s : List ℕ) (at : ℕ) → Next s at → NoFront (IsWhole n m) s) → (t : Tag)
-    (s c : List ℕ) (e : ContentsEnd) (at : ℕ) → OpensAt m t Constructed s c e → StopsBehind (IsWhole n m) Next (is_counted e) c at → (v : RawValue)
-    (b r : List ℕ) → WholeOver (IsWhole n m) m v b → s ≡ b ++ r → ⊥
+inside_by : (n : ℕ) (m : BERMode) (Next : List ℕ → ℕ → Type 0) → ((s : List ℕ) (at : ℕ) → Next s at → NoFront (IsWellFormed n m) s) → (t : Tag)
+    (s c : List ℕ) (e : ContentsEnd) (at : ℕ) → OpensAt m t Constructed s c e → StopsBehind (IsWellFormed n m) Next (is_counted e) c at → (v : RawValue)
+    (b r : List ℕ) → WellFormedOver (IsWellFormed n m) m v b → s ≡ b ++ r → ⊥
 inside_by n m Next f t s c (definite_end z) at o x v b r y g =
     behind_open n m Next f true c at x (joining_closes n m c (counted_inside m t Constructed s c z v b r o y.framed g refl))
 inside_by n m Next f t s c indefinite_end at o x v b r y g =
@@ -74,22 +74,22 @@ inside_by n m Next f t s c indefinite_end at o x v b r y g =
     behind_open n m Next f false c at x
     (record { values = d.1.0; front = d.0; rest = 0 ∷ 0 ∷ r; pieces = d.1.1; more = tt; joined = d.2; deep = (r, refl) })
 
-element_none : (n : ℕ) (m : BERMode) (k : ASN1ErrorKind) (Next : List ℕ → ℕ → Type 0) → ((s : List ℕ) (at : ℕ) → Next s at → NoFront (IsWhole n m) s) →
-    (s : List ℕ) (at : ℕ) → StopsElement (StopsBehind (IsWhole n m) Next) m (suc n) k s at → NoFront (IsWhole (suc n) m) s
-element_none n m k Next f s at (at_header e x) v b r y g = no_raw m (suc n) s x.none v b r (whole_raw (suc n) m v b y) g
+element_none : (n : ℕ) (m : BERMode) (k : ASN1ErrorKind) (Next : List ℕ → ℕ → Type 0) → ((s : List ℕ) (at : ℕ) → Next s at → NoFront (IsWellFormed n m) s) →
+    (s : List ℕ) (at : ℕ) → StopsElement (StopsBehind (IsWellFormed n m) Next) m (suc n) k s at → NoFront (IsWellFormed (suc n) m) s
+element_none n m k Next f s at (at_header e x) v b r y g = no_raw m (suc n) s x.none v b r (formed_raw (suc n) m v b y) g
 element_none n m k Next f s at (inside x) v b r y g =
-    inside_by n m Next f x.tag s x.contents x.end x.further x.opens x.inner v b r (whole_into n m v b y) g
+    inside_by n m Next f x.tag s x.contents x.end x.further x.opens x.inner v b r (formed_into n m v b y) g
 
 -- where one stops none stands
-one_none : (n : ℕ) (m : BERMode) (k : ASN1ErrorKind) (s : List ℕ) (at : ℕ) → StopsOne n m k s at → NoFront (IsWhole n m) s
+one_none : (n : ℕ) (m : BERMode) (k : ASN1ErrorKind) (s : List ℕ) (at : ℕ) → StopsOne n m k s at → NoFront (IsWellFormed n m) s
 unfolding StopsOne
-one_none zero m k s at x v b r y g = whole_zero m v b y
+one_none zero m k s at x v b r y g = formed_zero m v b y
 one_none (suc n) m k s at x v b r y g = element_none n m k (StopsOne n m k) (one_none n m k) s at x v b r y g
 
 -- two places where elements stop are one if those are where the next one does
-behind_once : (n : ℕ) (m : BERMode) (P Q : List ℕ → ℕ → Type 0) → ((s : List ℕ) (a : ℕ) → P s a → NoFront (IsWhole n m) s) →
-    ((s : List ℕ) (a : ℕ) → Q s a → NoFront (IsWhole n m) s) → ((s : List ℕ) (a b : ℕ) → P s a → Q s b → a ≡ b) → (w : Bool) (s : List ℕ) (a b : ℕ) →
-    StopsBehind (IsWhole n m) P w s a → StopsBehind (IsWhole n m) Q w s b → a ≡ b
+behind_once : (n : ℕ) (m : BERMode) (P Q : List ℕ → ℕ → Type 0) → ((s : List ℕ) (a : ℕ) → P s a → NoFront (IsWellFormed n m) s) →
+    ((s : List ℕ) (a : ℕ) → Q s a → NoFront (IsWellFormed n m) s) → ((s : List ℕ) (a b : ℕ) → P s a → Q s b → a ≡ b) → (w : Bool) (s : List ℕ) (a b : ℕ) →
+    StopsBehind (IsWellFormed n m) P w s a → StopsBehind (IsWellFormed n m) Q w s b → a ≡ b
 behind_once n m P Q f g h w s a b x y =
     let i = pieces_once (alone n m) x.values y.values x.front y.front x.rest y.rest x.pieces y.pieces (f x.rest x.further x.next)
     (g y.rest y.further y.next) (sym x.joined ∙ y.joined) in
@@ -130,10 +130,10 @@ one_once : (n : ℕ) (m : BERMode) (j k : ASN1ErrorKind) (s : List ℕ) (a b : �
 unfolding StopsOne
 one_once zero m j k s a b x y = last_once m j k s a b x y
 one_once (suc n) m j k s a b x y =
-    element_once (StopsBehind (IsWhole n m) (StopsOne n m j)) (StopsBehind (IsWhole n m) (StopsOne n m k)) m (suc n) j k s a b (omega arith)
+    element_once (StopsBehind (IsWellFormed n m) (StopsOne n m j)) (StopsBehind (IsWellFormed n m) (StopsOne n m k)) m (suc n) j k s a b (omega arith)
     (λ w c d e. behind_once n m (StopsOne n m j) (StopsOne n m k) (one_none n m j) (one_none n m k) (one_once n m j k) w c d e) x y
 
 -- and so do elements one after the other
-pub stops_once : (n : ℕ) (m : BERMode) (j k : ASN1ErrorKind) (w : Bool) (s : List ℕ) (a b : ℕ) → Stops n m j w s a → Stops n m k w s b → a ≡ b
+pub stops_once : (n : ℕ) (m : BERMode) (j k : ASN1ErrorKind) (w : Bool) (s : List ℕ) (a b : ℕ) → StopsIn n m j w s a → StopsIn n m k w s b → a ≡ b
 stops_once n m j k w s a b x y =
     behind_once n m (StopsOne n m j) (StopsOne n m k) (one_none n m j) (one_none n m k) (one_once n m j k) w s a b x y

@@ -1,5 +1,5 @@
 pub mod Listing
-pub mod Whole
+pub mod WellFormed
 pub mod Stops
 pub mod Faults
 pub mod Reading

@@ -15,8 +15,8 @@ use Rattle.yasna_bytes.specs.Opening.{end_found}
 use Rattle.yasna_bytes.specs.Walk.{following}
 use Rattle.yasna_listing.specs.Faults.{IsBroken}
 use Rattle.yasna_listing.specs.Listing.{Line, Hears, Below, ListsBytes, ListsOne}
-use Rattle.yasna_listing.specs.Whole.{IsWhole, AreElements, Closes}
-use Rattle.yasna_listing.specs.Stops.{LacksHeader, StopsOne, Stops, StopsOnly}
+use Rattle.yasna_listing.specs.WellFormed.{IsWellFormed, AreElements, ClosesWell}
+use Rattle.yasna_listing.specs.Stops.{LacksHeader, StopsOne, StopsIn, StopsOnly}
 use Rattle.yasna_listing.specs.declared.fault.Fault.{Fault}
 use Rattle.yasna_listing.specs.declared.listing.item.Item.{Item}
 use Rattle.yasna_listing.specs.declared.listing.item.Opened.{Opened}
@@ -97,31 +97,31 @@ pub record BelowHeard (rules : Rules) (i : Item) (old new : Option (List Line)) 
 
 -- an element that is one down to the primitive ones stands at p, and q is behind it
 abbrev pub StandsBefore : Rules → Place → Place → Type 0
-StandsBefore rules p q = (v : RawValue) × Takes (IsWhole rules.levels rules.mode) p.left.now v q.left.now
+StandsBefore rules p q = (v : RawValue) × Takes (IsWellFormed rules.levels rules.mode) p.left.now v q.left.now
 
 -- none does, and one stops at the offset
 pub record NoElement (rules : Rules) (p : Place) (offset : ℕ) (kind : ASN1ErrorKind) : Type 0 where
-  pub none : Stands (IsWhole rules.levels rules.mode) p.left.now → ⊥
+  pub none : Stands (IsWellFormed rules.levels rules.mode) p.left.now → ⊥
   pub at : ℕ
   pub place : offset ≡ p.offset + at
   pub stops : StopsOne rules.levels rules.mode kind p.left.now at
 
 -- from a place on no such elements stand up to the end of contents, and they stop at the offset
 pub record NotClosed (rules : Rules) (p : Place) (is_counted : Bool) (offset : ℕ) (kind : ASN1ErrorKind) : Type 0 where
-  pub none : Closes rules.levels rules.mode is_counted p.left.now → ⊥
+  pub none : ClosesWell rules.levels rules.mode is_counted p.left.now → ⊥
   pub at : ℕ
   pub place : offset ≡ p.offset + at
-  pub stops : Stops rules.levels rules.mode kind is_counted p.left.now at
+  pub stops : StopsIn rules.levels rules.mode kind is_counted p.left.now at
 
 -- an element is constructed, and what stands in it aren't such elements, which stop at the offset
 pub record NoneBelow (rules : Rules) (i : Item) (offset : ℕ) (kind : ASN1ErrorKind) : Type 0 where
   pub bit : i.bit ≡ Constructed
   pub levels : ℕ
   pub deeper : levels + 1 ≡ rules.levels
-  pub none : IsJoining (IsWhole levels rules.mode) i.contents.now → ⊥
+  pub none : IsJoining (IsWellFormed levels rules.mode) i.contents.now → ⊥
   pub at : ℕ
   pub place : offset ≡ i.offset + i.header + at
-  pub stops : Stops levels rules.mode kind true i.contents.now at
+  pub stops : StopsIn levels rules.mode kind true i.contents.now at
 
 -- an input isn't one or more such elements within n levels, nor in DER and CER one or more raw ones: it is empty, or they stop at the
 -- offset alone

@@ -10,7 +10,7 @@ use Rattle.yasna_base.specs.Identifier.{end_tag}
 use Rattle.yasna_base.specs.Pieces.{Pieces}
 use Rattle.yasna_base.specs.Raw.{RawValue}
 use Rattle.yasna_bytes.specs.Walk.{NoHeader, HasNoLevel, following}
-use Rattle.yasna_listing.specs.Whole.{IsWhole, EndsHere}
+use Rattle.yasna_listing.specs.WellFormed.{IsWellFormed, EndsHere}
 
 -- no header of an element stands at the front of s, and the kind says so: it is of depth exactly where no level is left for one
 pub record LacksHeader (m : BERMode) (n : ℕ) (k : ASN1ErrorKind) (s : List ℕ) : Type 0 where
@@ -56,13 +56,13 @@ pub record StopsBehind (R : RawValue → List ℕ → Type 0) (Next : List ℕ �
 -- within n levels, an element at the front of s stops so many octets behind it, with a fault of kind k
 unfoldable pub StopsOne : ℕ → BERMode → ASN1ErrorKind → List ℕ → ℕ → Type 0
 StopsOne zero m k s at = StopsElement (λ counted c further. ⊥) m zero k s at
-StopsOne (suc n) m k s at = StopsElement (StopsBehind (IsWhole n m) (StopsOne n m k)) m (suc n) k s at
+StopsOne (suc n) m k s at = StopsElement (StopsBehind (IsWellFormed n m) (StopsOne n m k)) m (suc n) k s at
 
 -- the same of elements one after the other in contents
-abbrev pub Stops : ℕ → BERMode → ASN1ErrorKind → Bool → List ℕ → ℕ → Type 0
-Stops n m k counted s at = StopsBehind (IsWhole n m) (StopsOne n m k) counted s at
+abbrev pub StopsIn : ℕ → BERMode → ASN1ErrorKind → Bool → List ℕ → ℕ → Type 0
+StopsIn n m k counted s at = StopsBehind (IsWellFormed n m) (StopsOne n m k) counted s at
 
 -- those of an input stop at this offset, and at no other
 pub record StopsOnly (n : ℕ) (m : BERMode) (k : ASN1ErrorKind) (s : List ℕ) (offset : ℕ) : Type 0 where
-  pub here : Stops n m k true s offset
-  pub once : (j : ASN1ErrorKind) (o : ℕ) → Stops n m j true s o → o ≡ offset
+  pub here : StopsIn n m k true s offset
+  pub once : (j : ASN1ErrorKind) (o : ℕ) → StopsIn n m j true s o → o ≡ offset

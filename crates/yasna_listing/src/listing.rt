@@ -3,7 +3,7 @@ ghost use Rattle.std.specs.Prelude.{◌≡◌, ◌+◌, ◌-◌, ◌^◌, ◌<�
 ghost use Rattle.yasna_base.specs.Raw.{IsRaw, IsJoining};
 ghost use Rattle.yasna_listing.specs.Listing.{Line, Hears, ListsBytes};
 ghost use Rattle.yasna_listing.specs.Faults.{Unheard};
-ghost use Rattle.yasna_listing.specs.Whole.{IsWhole, AreElements, EndsHere};
+ghost use Rattle.yasna_listing.specs.WellFormed.{IsWellFormed, AreElements, EndsHere};
 ghost use Rattle.yasna_listing.specs.Reading.{line_of, IsFurther, ItemAt, ContentsHeard, ElementHeard, BelowHeard, StandsInString, EndsAt, StandsBefore, NoElement, NotClosed, NoneBelow, NoElements};
 
 mod header;
@@ -39,7 +39,7 @@ pub trait Listener {
 
     /// Whether the contents of a string are to be told as elements, which they are then to be.
     fn looks_into(&self, rules: Rules, string: Place<'_>) -> bool
-        ensures { IsTrue result → IsJoining (IsWhole rules.levels rules.mode) string.entry.left.now };
+        ensures { IsTrue result → IsJoining (IsWellFormed rules.levels rules.mode) string.entry.left.now };
 }
 
 // Where the contents of a string may be an element: behind the count of unused bits, which is none.

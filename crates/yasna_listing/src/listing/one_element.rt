@@ -1,6 +1,6 @@
 //! Whether bytes are one element.
 ghost use Rattle.std.specs.Prelude.{IsTrue, ◌↔◌};
-ghost use Rattle.yasna_listing.specs.Whole.{IsOne};
+ghost use Rattle.yasna_listing.specs.WellFormed.{IsOne};
 
 use crate::fault::Fault;
 use crate::listing::item::Item;
