@@ -13,19 +13,9 @@ use Rattle.yasna_writer.specs.Sequence.{AnswersKept, AnswersOnly, WroteAround, E
 use Rattle.yasna_writer.specs.State.{KeptAtEnd}
 use Rattle.yasna_writer.specs.Tagged.{writing_under, KeptBehind, WroteTagged, WritesTagged}
 use Rattle.yasna_writer.specs.View.{Written, holding, handed, Writes, RanOut, WroteParts}
+use Rattle.yasna_writer.proofs.PartByPart.{as_part}
 use Rattle.yasna_notation.specs.Sets.{IsWantOfMemory}
 use Rattle.yasna.proofs.Closures.{by_run}
-
--- what writes an element writes a part
-pub as_part : (b : List ℕ) (old new : Written) (r : Result (Unit {0}) ASN1Error) → Writes b old new r → WroteParts b old new r
-as_part b old new r h = go old.kept r h
-  where
-    go : (k : Option ASN1Error) (r : Result (Unit {0}) ASN1Error) →
-        MatchOption k (MatchResult r (λ _. new ≡ holding old (old.bytes ++ b)) (λ e. RanOut old new e)) (λ k. new.kept ≡ Some k) →
-        MatchOption k (MatchResult r (λ _. record new { tag = None } ≡ holding old (old.bytes ++ b)) (λ e. RanOut old new e)) (λ k. new.kept ≡ Some k)
-    go None (Ok u) h = ap (λ (w : Written). record w { tag = None }) h
-    go None (Err e) h = h
-    go (Some k) r h = h
 
 -- bytes behind s
 abbrev Behind : List ℕ → Written → Option ASN1Error → Type 0

@@ -1,7 +1,7 @@
 pub mod OneTag
 pub mod Enclosing
 pub mod Around
-pub mod Appending
+pub mod LeftOut
 pub mod Contents
 pub mod Standing
 pub mod Found

@@ -1,5 +1,6 @@
 -- The turns of a list's callback.
-use Rattle.std.proofs.Common.{◌≡◌, ℕ, inl, inr, List, [], ◌∷◌, ◌++◌, None, Some, Option, Ok, refl, sym, ap, subst, ◌∙◌, append_assoc}
+use Rattle.std.proofs.Common.{◌≡◌, ◌≤◌, ℕ, inl, inr, length, List, [], ◌∷◌, ◌++◌, None, Some, Option, Ok, refl, sym, ap, subst, ◌∙◌, append_assoc}
+use Rattle.std.proofs.Common.{arith, length-append}
 use Rattle.std.specs.Borrow.{MutBor}
 use Rattle.std.specs.Fn.{Mut, CalledAtMut}
 use Rattle.std.specs.Global.{Global}
@@ -9,7 +10,7 @@ use Rattle.yasna_base.specs.declared.tag.Tag.{Tag}
 use Rattle.yasna_reader.specs.declared.callback.Outcome.{Outcome}
 use Rattle.yasna_reader.specs.declared.callback.Outcome.TheVariants.{Gave, Quiet, Failed}
 use Rattle.yasna_bytes.specs.declared.bytes.cursor.Cursor.{Cursor}
-use Rattle.yasna_reader.specs.Callback.{WithSome, at_cursor}
+use Rattle.yasna_reader.specs.Callback.{WithSome, ComesTo, FailsAs, at_cursor}
 use Rattle.yasna_reader.specs.Sequence.{ReadsParts}
 use Rattle.yasna_reader.specs.SequenceOf.{TakesTurn, TakesTurns, TurnsOut, ListTurn, Turns, Lists, Collects, Visits, items_of}
 use Rattle.yasna_reader.specs.SetOf.{Bounded, Follows, FallsBelow, GivesInOrder, FailsInOrder, TurnInOrder, failed, fell, Ordered, TurnsOutInOrder, CollectsInOrder, VisitsInOrder}
@@ -114,6 +115,22 @@ turn_rest s x m (Failed e) s' (inl h) = taken_behind s x m (Failed e) s' h
 turn_rest s x m (Failed e) s' (inr i) =
     let w = taken_behind s x m (Gave i.value) i.between i.comes in
     (w.0, w.1 ∙ ap (λ (z : Reading). w.0 ++ z.left) (sym i.state))
+
+-- a value for which nothing was taken, and the failure that is answered in its place
+pub idled : {A : Type 0} (s : Reading) (x : Result A ASN1Error) (m z s' : Reading) (p o : Outcome (Unit {0})) (u : Unit {0}) (e : ASN1Error) →
+    WithSome (λ q. ComesTo s x m q z) p → p ≡ Gave u → length s.left ≤ length z.left → e ≡ error_of Invalid → FailsAs e z o s' →
+    WithSome (λ q. TurnsOut s x m q s') o
+idled s x m z s' p o u e h gave idle is fails =
+    let given = subst (λ w. WithSome (λ q. ComesTo s x m q z) w) gave h in
+    let rest = taken_behind s x m (Gave given.0) z given.1 in
+    subst (λ w. WithSome (λ q. TurnsOut s x m q s') w) (sym fails.0) (inr (record {
+      value = given.0;
+      between = z;
+      comes = given.1;
+      unmoved = omega (arith, idle, ap length rest.1, length-append rest.0 z.left);
+      invalid = is;
+      state = fails.1;
+    }))
 
 -- what was made of a turn
 module _ {F A : Type 0} (C : F → Reading → Result A ASN1Error → F → Reading → Type 0) (g g' : Bounded F) (s : Reading) (x : Result A ASN1Error)

@@ -10,6 +10,7 @@ pub mod Joins
 pub mod Integers
 pub mod Lengths
 pub mod Padding
+pub mod PartByPart
 pub mod Primitives
 pub mod Puts
 pub mod RawElements

@@ -1,7 +1,8 @@
 use Rattle.std.proofs.Common.{◌∙◌, None, Ok, rules, sym, ap, subst}
 use Rattle.yasna_base.specs.Default.{default_form}
 use Rattle.yasna_writer.specs.View.{Written, WroteParts}
-use Rattle.yasna_notation.proofs.Appending.{last_one, nothing_written, not_default, default_left_out}
+use Rattle.yasna_writer.proofs.PartByPart.{last_one, nothing_written}
+use Rattle.yasna_notation.proofs.LeftOut.{not_default, default_left_out}
 use Rattle.yasna_notation.proofs.defaults.write_unless_default.Goals as goal
 
 pub returns-then-eq : goal.returns-then-eq

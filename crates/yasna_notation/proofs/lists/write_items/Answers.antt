@@ -3,7 +3,7 @@ use Rattle.std.proofs.lemmas.List.{take_all}
 use Rattle.std.specs.Prelude.{IsErrAnd}
 use Rattle.yasna_base.specs.SequenceOf.{elements_form}
 use Rattle.yasna_writer.specs.View.{Written, WroteParts}
-use Rattle.yasna_notation.proofs.Appending.{one_more, failed_item}
+use Rattle.yasna_writer.proofs.PartByPart.{one_more, failed_item}
 use Rattle.yasna_notation.proofs.lists.write_items.Goals as goal
 
 pub loop-item-preserved : goal.loop-item-preserved

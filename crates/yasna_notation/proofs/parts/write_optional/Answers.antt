@@ -1,7 +1,7 @@
 use Rattle.std.proofs.Common.{None, Ok, rules, sym, ap, subst}
 use Rattle.yasna_base.specs.Optional.{option_form}
 use Rattle.yasna_writer.specs.View.{Written, WroteParts}
-use Rattle.yasna_notation.proofs.Appending.{last_one, nothing_written}
+use Rattle.yasna_writer.proofs.PartByPart.{last_one, nothing_written}
 use Rattle.yasna_notation.proofs.parts.write_optional.Goals as goal
 
 pub returns-in-Some : goal.returns-in-Some

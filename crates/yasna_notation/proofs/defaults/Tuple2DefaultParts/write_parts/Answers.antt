@@ -1,7 +1,7 @@
 use Rattle.std.proofs.Common.{◌≡◌, None, rules}
 use Rattle.std.specs.Prelude.{IsErrAnd}
 use Rattle.yasna_base.specs.Default.{default_form}
-use Rattle.yasna_notation.proofs.Appending.{others_by, failed_by}
+use Rattle.yasna_writer.proofs.PartByPart.{others_by, failed_by}
 use Rattle.yasna_notation.proofs.defaults.Tuple2DefaultParts.write_parts.Goals as goal
 
 pub returns : goal.returns

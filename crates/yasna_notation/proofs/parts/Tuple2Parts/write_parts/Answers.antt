@@ -1,6 +1,6 @@
 use Rattle.std.proofs.Common.{◌≡◌, rules}
 use Rattle.std.specs.Prelude.{IsErrAnd}
-use Rattle.yasna_notation.proofs.Appending.{behind_one, failed_one}
+use Rattle.yasna_writer.proofs.PartByPart.{behind_one, failed_one}
 use Rattle.yasna_notation.proofs.parts.Tuple2Parts.write_parts.Goals as goal
 
 pub returns : goal.returns

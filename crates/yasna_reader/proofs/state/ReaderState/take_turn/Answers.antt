@@ -1,9 +1,15 @@
-use Rattle.std.proofs.Common.{arith, rules}
-use Rattle.std.proofs.lemmas.Grind.{common_steps}
+use Rattle.std.proofs.Common.{◌≤◌, length, rules}
+use Rattle.yasna_reader.specs.Callback.{at_cursor}
+use Rattle.yasna_reader.specs.State.{Reading}
+use Rattle.yasna_reader.proofs.ListTurns.{idled}
 use Rattle.yasna_reader.proofs.state.ReaderState.take_turn.Goals as goal
 
 pub returns : goal.returns
-returns g c = grind (arith, common_steps)
+returns g c =
+    let left : Reading = c.look_back-outcome.new.self in
+    let idle : length c.args.before.left.now ≤ length left.left = search rules in
+    idled (at_cursor c.args.before) c.args.answer.now c.args.self.now left c.failed.new.self c.look_back-outcome.result c.failed.result tt
+    c.new.result c.look_back-outcome.ensures c.in-Gave.is idle c.new.ensures c.failed.ensures
 
 pub returns-2 : goal.returns-2
 returns-2 g c = search rules

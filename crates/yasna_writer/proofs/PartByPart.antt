@@ -1,27 +1,41 @@
 -- What writes of parts do, of the first and of those behind it.
-use Rattle.std.proofs.Common.{◌≡◌, ◌+◌, ◌<◌, Bool, true, false, ℕ, length, get_or, List, [], ◌∷◌, ◌++◌, take, Option, Some, None, Result}
-use Rattle.std.proofs.Common.{Ok, Err, refl, sym, ap, subst, ◌∙◌, append-nil, append_assoc}
+use Rattle.std.proofs.Common.{◌≡◌, ◌+◌, ◌<◌, ℕ, length, get_or, List, [], ◌∷◌, ◌++◌, take, Option, Some, None, Result, Ok, Err, refl, sym, ap}
+use Rattle.std.proofs.Common.{subst, ◌∙◌, append-nil, append_assoc}
 use Rattle.std.proofs.lemmas.List.{flat_map_more, take_more}
 use Rattle.std.specs.List.{flat_map}
-use Rattle.std.specs.Prelude.{MatchOption, MatchResult, IsErrAnd, if◌then◌else◌}
+use Rattle.std.specs.Prelude.{MatchOption, MatchResult, IsErrAnd}
 use Rattle.yasna_base.specs.declared.error.ASN1Error.{ASN1Error}
+use Rattle.yasna_base.specs.declared.error.ASN1ErrorKind.TheVariants.{OutOfMemory}
 use Rattle.yasna_base.specs.declared.mode.BERMode.{BERMode}
 use Rattle.yasna_base.specs.declared.tag.Tag.{Tag}
-use Rattle.yasna_base.specs.Default.{default_form}
+use Rattle.yasna_base.specs.Error.{kind_of}
 use Rattle.yasna_base.specs.Grammar.{Form}
 use Rattle.yasna_base.specs.SequenceOf.{elements_form}
 use Rattle.yasna_writer.specs.View.{Written, holding, Writes, RanOut, WroteParts}
-use Rattle.yasna_notation.specs.Sets.{IsWantOfMemory}
-use Rattle.yasna_notation.proofs.Around.{as_part}
+
+-- a failure for want of memory
+abbrev IsWant : ASN1Error → Type 0
+IsWant e = kind_of e ≡ OutOfMemory
+
+-- the writing with these, with no tag
+abbrev standing : List ℕ → BERMode → Option ASN1Error → Written
+standing s m k = record { bytes = s; mode = m; tag = None; kept = k }
+
+-- what writes an element writes a part
+pub as_part : (b : List ℕ) (old new : Written) (r : Result (Unit {0}) ASN1Error) → Writes b old new r → WroteParts b old new r
+as_part b old new r h = go old.kept r h
+  where
+    go : (k : Option ASN1Error) (r : Result (Unit {0}) ASN1Error) →
+        MatchOption k (MatchResult r (λ _. new ≡ holding old (old.bytes ++ b)) (λ e. RanOut old new e)) (λ k. new.kept ≡ Some k) →
+        MatchOption k (MatchResult r (λ _. record new { tag = None } ≡ holding old (old.bytes ++ b)) (λ e. RanOut old new e)) (λ k. new.kept ≡ Some k)
+    go None (Ok u) h = ap (λ (w : Written). record w { tag = None }) h
+    go None (Err e) h = h
+    go (Some k) r h = h
 
 -- an element is a part, where no tag waits
 pub part_by : (f : Option Tag → BERMode → List ℕ) (old w new : Written) (r : Result (Unit {0}) ASN1Error) → w ≡ record old { tag = None } →
     Writes (f w.tag w.mode) w new r → WroteParts (f None old.mode) old new r
 part_by f old w new r is h = as_part (f None old.mode) old new r (subst (λ (z : Written). Writes (f z.tag z.mode) z new r) is h)
-
--- the writing with these, with no tag
-abbrev standing : List ℕ → BERMode → Option ASN1Error → Written
-standing s m k = record { bytes = s; mode = m; tag = None; kept = k }
 
 -- others behind a part
 pub others_by : (a : List ℕ) (b : BERMode → List ℕ) (old mid new : Written) (x r : Result (Unit {0}) ASN1Error) (u : Unit {0}) →
@@ -33,8 +47,8 @@ others_by a b old mid new x r u h is k =
     failing z =
         MatchOption z (MatchResult r (λ _. record new { tag = None } ≡ holding mid (mid.bytes ++ b mid.mode)) (λ e. RanOut mid new e)) (λ q. new.kept ≡ Some q)
 
-    stands : (o : Option ASN1Error) → MatchOption o ((c : List ℕ) × (new.bytes ≡ (old.bytes ++ a) ++ c)) IsWantOfMemory →
-        MatchOption o ((c : List ℕ) × (new.bytes ≡ old.bytes ++ c)) IsWantOfMemory
+    stands : (o : Option ASN1Error) → MatchOption o ((c : List ℕ) × (new.bytes ≡ (old.bytes ++ a) ++ c)) IsWant →
+        MatchOption o ((c : List ℕ) × (new.bytes ≡ old.bytes ++ c)) IsWant
     stands None h = (a ++ h.0, h.1 ∙ append_assoc old.bytes a h.0)
     stands (Some q) h = h
 
@@ -42,7 +56,7 @@ others_by a b old mid new x r u h is k =
         MatchOption o (record mid { tag = None } ≡ holding old (old.bytes ++ a)) (λ q. mid.kept ≡ Some q) →
         (record mid { tag = None } ≡ holding old (old.bytes ++ a) →
         MatchResult r (λ _. record new { tag = None } ≡ holding old ((old.bytes ++ a) ++ b old.mode))
-        (λ e. IsWantOfMemory e × MatchOption new.kept ((c : List ℕ) × (new.bytes ≡ (old.bytes ++ a) ++ c)) IsWantOfMemory)) →
+        (λ e. IsWant e × MatchOption new.kept ((c : List ℕ) × (new.bytes ≡ (old.bytes ++ a) ++ c)) IsWant)) →
         ((q : ASN1Error) → mid.kept ≡ Some q → new.kept ≡ Some q) →
         MatchOption o (MatchResult r (λ _. record new { tag = None } ≡ holding old (old.bytes ++ (a ++ b old.mode))) (λ e. RanOut old new e))
         (λ q. new.kept ≡ Some q)
@@ -115,12 +129,3 @@ module _ {A : Type 0} {s : List ℕ} {m : BERMode} {k : Option ASN1Error} (form 
   failed_item r b e is same same_bytes same_mode same_kept =
       failed_by (elements_form (form None) old.mode (take i vs) ++ form None old.mode v) b old (standing s m k) x r e
       (item_part same_bytes same_mode same_kept) is same
-
-module _ {A : Type 0} (is : A → Bool) (f : Form A) (m : BERMode) (v : A) where
-  -- a value that isn't the default has its own form
-  pub not_default : is v ≡ false → f m v ≡ default_form is f m v
-  not_default e = subst (λ z. f m v ≡ (if z then [] else (f m v))) (sym e) refl
-
-  -- and the default has none
-  pub default_left_out : is v ≡ true → [] ≡ default_form is f m v
-  default_left_out e = subst (λ z. [] ≡ (if z then [] else (f m v))) (sym e) refl
