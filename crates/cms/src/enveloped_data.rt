@@ -14,11 +14,10 @@
 //! ```
 //!
 //! An OriginatorInfo is a SEQUENCE. Its parts are kept as they came, and so is each RecipientInfo.
-ghost use Rattle.std.specs.Prelude.{◌≡◌, length, nat_lt, refl};
+ghost use Rattle.std.specs.Prelude.{◌≡◌, refl};
 ghost use Rattle.std.proofs.Common.{arith};
-ghost use Rattle.yasna_notation.specs.Bounded.{within_keeps, set_sizes_alike};
 ghost use Rattle.yasna_notation.specs.Laws.{standing_keeps, element_filled};
-ghost use Rattle.yasna_notation.specs.Making.{in_sequence, in_sequence_of, in_set_of, part, optional_part, in_implicit, at_most};
+ghost use Rattle.yasna_notation.specs.Making.{in_sequence, in_sequence_of, in_set_of, part, optional_part, in_implicit, at_most, set_not_empty};
 ghost use Rattle.yasna_notation.specs.Notation.{stands_for};
 ghost use Rattle.yasna_notation.specs.Parts.{no_parts};
 ghost use Rattle.yasna_notation.specs.contracts.simple.U64Notation.TheImpl.Laws.{keeps-law as number};
@@ -125,7 +124,7 @@ impl Notation for EnvelopedData {
 
     ghost keeps = { λ _. standing_keeps ⟦<EnvelopedData as StandsFor<Fields>>⟧.value_of
         (in_sequence (part (at_most 5 (number refl)).own (optional_part refl (in_implicit 0 (omega arith) (in_sequence_of (any refl).own)).own
-        (part (within_keeps (λ v. nat_lt 0 (length v.items)) (λ v w e. set_sizes_alike _ (nat_lt 0) v.items w.items e) (in_set_of (any refl).own)).own
+        (part (set_not_empty (in_set_of (any refl).own)).own
         (part (encrypted refl).own (optional_part refl (in_implicit 1 (omega arith) (attributes refl)).own no_parts)))))) };
 
     ghost filled = { λ u m v. element_filled _ _ _ _ };

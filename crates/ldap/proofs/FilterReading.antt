@@ -1,5 +1,6 @@
 -- What reads of what stands within a filter do.
-use Rattle.std.proofs.Common.{◌≡◌, ◌∷◌, ◌++◌, [], ◌==◌, ◌<◌, ◌^◌, ℕ, Bool, true, false, Option, List, None, Some, Vec, Box, Result, Ok, Err, inl, inr, length, vec_len, length-append, refl, sym, ap, subst, ◌∙◌, arith}
+use Rattle.std.proofs.Common.{◌≡◌, ◌∷◌, ◌++◌, [], ◌==◌, ◌<◌, ◌^◌, ℕ, Bool, true, false, Option, List, None, Some, Vec, Box, Result, Ok, Err}
+use Rattle.std.proofs.Common.{inl, inr, length, vec_len, length-append, refl, sym, ap, subst, ◌∙◌, arith}
 use Rattle.std.specs.Global.{Global}
 use Rattle.std.specs.List.{AllByRecursion, list_any}
 use Rattle.std.specs.Prelude.{nat_lt, MatchResult, IsOkAnd}
@@ -25,15 +26,15 @@ use Rattle.yasna_notation.specs.declared.choices.Either.{Either}
 use Rattle.yasna_notation.specs.declared.choices.Either.TheVariants.{First, Second}
 use Rattle.yasna_notation.specs.Bounded.{set_sizes_alike}
 use Rattle.yasna_notation.specs.Laws.{standing_keeps}
-use Rattle.yasna_notation.specs.Making.{in_set_of, in_implicit, in_explicit, alternative}
+use Rattle.yasna_notation.specs.Making.{in_set_of, in_implicit, in_explicit, alternative, set_not_empty}
 use Rattle.yasna_notation.specs.Notation.{Meaning, Keeps, KeepsMeaning, IsNotation, DecodesAs, ReadsMeaning}
 use Rattle.yasna_notation.proofs.Standing.{stands_for, stands_for_none}
 use Rattle.yasna_notation.proofs.Found.{first_found, other_found, last_found}
 use Rattle.ldap.specs.contracts.filter_item.FilterItemNotation.TheImpl.Laws.{keeps-law as item_keeps}
 use Rattle.ldap.specs.declared.filter.Filter.{Filter}
 use Rattle.ldap.specs.declared.filter_item.FilterItem.{FilterItem}
-use Rattle.ldap.specs.Filters.{Parted, parted_of, the_filter, item_means, group_means, negated_means, boxed_means, filter_step, Found, behind_or, behind_and, whole}
-use Rattle.ldap.specs.Making.{set_not_empty}
+use Rattle.ldap.specs.Filters.{Parted, parted_of, the_filter, item_means, group_means, negated_means, boxed_means, filter_step, Found}
+use Rattle.ldap.specs.Filters.{behind_or, behind_and, whole}
 use Rattle.ldap.specs.RecursionLaws.{folded_under, unfolded_any}
 use Rattle.ldap.specs.TheFilter.{the_filter_keeps, the_step}
 

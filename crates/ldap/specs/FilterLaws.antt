@@ -20,7 +20,7 @@ use Rattle.yasna_base.proofs.SetOfWriting.{around_forms, forms_in_order}
 use Rattle.yasna_notation.specs.declared.choices.Either.{Either}
 use Rattle.yasna_notation.specs.declared.choices.Either.TheVariants.{First, Second}
 use Rattle.yasna_notation.specs.Laws.{standing_keeps, element_filled}
-use Rattle.yasna_notation.specs.Making.{in_set_of, in_implicit, in_explicit, in_choice, alternative}
+use Rattle.yasna_notation.specs.Making.{in_set_of, in_implicit, in_explicit, in_choice, alternative, set_not_empty}
 use Rattle.yasna_notation.specs.Notation.{Meaning, IsNotation, KeepsMeaning, IsFilledForm, stands_for}
 use Rattle.ldap.specs.declared.filter.Filter.{Filter}
 use Rattle.ldap.specs.declared.filter.Filter.TheFolds.{map-Filter, fold_out-Filter}
@@ -28,8 +28,8 @@ use Rattle.ldap.specs.declared.filter.Filter.TheOpen.{Filter-F}
 use Rattle.ldap.specs.declared.filter.Filter.TheOpen.Filter-F.{And, Or, Not, Item}
 use Rattle.ldap.specs.declared.filter.Filter.TheViews.{out-Filter}
 use Rattle.ldap.specs.declared.filter_item.FilterItem.{FilterItem}
-use Rattle.ldap.specs.Filters.{Parted, parted, parted_of, largest, one_deeper, depth_of, group_means, negated_means, either_means, parted_means, filter_step, filter_means, group_top, either_top, parted_top}
-use Rattle.ldap.specs.Making.{set_not_empty}
+use Rattle.ldap.specs.Filters.{Parted, parted, parted_of, largest, one_deeper, depth_of, group_means, negated_means, either_means}
+use Rattle.ldap.specs.Filters.{parted_means, filter_step, filter_means, group_top, either_top, parted_top}
 use Rattle.ldap.specs.Recursion.{after_steps, FollowsDepth, IsStep}
 use Rattle.ldap.specs.RecursionLaws.{means_keeps}
 

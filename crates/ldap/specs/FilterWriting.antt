@@ -4,11 +4,10 @@ use Rattle.std.specs.Global.{Global}
 use Rattle.yasna_base.specs.Canonical.{IsWritten}
 use Rattle.yasna_notation.specs.Canonical.{standing_written, choice_written_as}
 use Rattle.yasna_notation.specs.Notation.{Meaning, IsWrittenMeaning}
-use Rattle.yasna_notation.specs.Writing.{set_of_written, under_context, explicit_written, alternative_written}
+use Rattle.yasna_notation.specs.Writing.{set_of_written, under_context, explicit_written, alternative_written, filled_set_written}
 use Rattle.ldap.specs.declared.filter.Filter.{Filter}
 use Rattle.ldap.specs.declared.filter_item.FilterItem.{FilterItem}
 use Rattle.ldap.specs.Filters.{parted_of, depth_of, parted_means, filter_step, filter_means}
-use Rattle.ldap.specs.Making.{filled_set_written}
 use Rattle.ldap.specs.Recursion.{IsStep}
 use Rattle.ldap.specs.RecursionWriting.{means_written}
 

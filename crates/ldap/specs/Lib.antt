@@ -1,4 +1,3 @@
-pub mod Making
 pub mod Recursion
 pub mod RecursionLaws
 pub mod RecursionWriting

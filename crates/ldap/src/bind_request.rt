@@ -12,28 +12,26 @@
 ghost use Rattle.std.specs.Prelude.{◌≡◌, refl};
 ghost use Rattle.std.proofs.Common.{arith};
 ghost use Rattle.yasna_notation.specs.Laws.{standing_keeps, element_filled};
-ghost use Rattle.yasna_notation.specs.Making.{in_application, in_sequence, in_choice, alternative, in_implicit, part};
+ghost use Rattle.yasna_notation.specs.Making.{in_application, in_sequence, in_choice, alternative, in_implicit, part, in_bound, from_to};
 ghost use Rattle.yasna_notation.specs.Notation.{stands_for};
 ghost use Rattle.yasna_notation.specs.Parts.{no_parts};
-ghost use Rattle.ldap.specs.Making.{in_bound, from_to};
 ghost use Rattle.yasna_notation.specs.contracts.strings.VecU8Notation.TheImpl.Laws.{keeps-law as octets};
 ghost use Rattle.yasna_notation.specs.contracts.simple.U64Notation.TheImpl.Laws.{keeps-law as number};
 ghost use Rattle.ldap.specs.contracts.sasl_credentials.SaslCredentialsNotation.TheImpl.Laws.{keeps-law as sasl};
 ghost use Rattle.yasna_notation.specs.Canonical.{standing_written, choice_written_as};
-ghost use Rattle.yasna_notation.specs.Writing.{sequence_written, alternative_written, under_context, under_application, part_written, no_part_written};
-ghost use Rattle.ldap.specs.Making.{bound_written};
+ghost use Rattle.yasna_notation.specs.Writing.{sequence_written, alternative_written, under_context, under_application, part_written};
+ghost use Rattle.yasna_notation.specs.Writing.{no_part_written, bound_written};
 ghost use Rattle.ldap.specs.contracts.sasl_credentials.SaslCredentialsCanonicalNotation.TheImpl.Laws.{written-law as sasl_written};
 ghost use Rattle.yasna_notation.specs.contracts.canonical.U64CanonicalNotation.TheImpl.Laws.{written-law as number_written};
 ghost use Rattle.yasna_notation.specs.contracts.canonical.VecU8CanonicalNotation.TheImpl.Laws.{written-law as octets_written};
 
 use crate::authentication::AuthenticationChoice;
-use crate::bounds::FromTo;
 use crate::sasl_credentials::SaslCredentials;
 use crate::tagged::write_tagged_fields;
 use yasna::{ASN1Result, BERReader, DERWriter, Tag};
 use yasna_notation::{
-    Application, Bounded, CanonicalNotation, Choice, Context, Defined, Implicit, Message, Notation,
-    Sequence, StandsFor, read_as,
+    Application, Bounded, CanonicalNotation, Choice, Context, Defined, FromTo, Implicit, Message,
+    Notation, Sequence, StandsFor, read_as,
 };
 
 type Parts = (

@@ -8,25 +8,23 @@
 ghost use Rattle.std.specs.Prelude.{◌≡◌, refl};
 ghost use Rattle.std.proofs.Common.{arith};
 ghost use Rattle.yasna_notation.specs.Laws.{standing_keeps, element_filled};
-ghost use Rattle.yasna_notation.specs.Making.{in_application, in_sequence, in_sequence_of, part, optional_part, in_implicit, not_empty};
+ghost use Rattle.yasna_notation.specs.Making.{in_application, in_sequence, in_sequence_of, part, optional_part, in_implicit, not_empty, in_bound, from_zero};
 ghost use Rattle.yasna_notation.specs.Notation.{stands_for};
 ghost use Rattle.yasna_notation.specs.Parts.{no_parts};
-ghost use Rattle.ldap.specs.Making.{in_bound, from_zero};
 ghost use Rattle.yasna_notation.specs.contracts.strings.VecU8Notation.TheImpl.Laws.{keeps-law as octets};
 ghost use Rattle.yasna_notation.specs.contracts.simple.EnumeratedNotation.TheImpl.Laws.{keeps-law as enumerated};
 ghost use Rattle.yasna_notation.specs.Canonical.{standing_written};
-ghost use Rattle.yasna_notation.specs.Writing.{sequence_written, sequence_of_written, under_context, under_application, part_written, optional_written, no_part_written};
-ghost use Rattle.ldap.specs.Making.{bound_written, filled_list_written};
+ghost use Rattle.yasna_notation.specs.Writing.{sequence_written, sequence_of_written, under_context, under_application, part_written};
+ghost use Rattle.yasna_notation.specs.Writing.{optional_written, no_part_written, bound_written, filled_list_written};
 ghost use Rattle.yasna_notation.specs.contracts.canonical.EnumeratedCanonicalNotation.TheImpl.Laws.{written-law as enumerated_written};
 ghost use Rattle.yasna_notation.specs.contracts.canonical.VecU8CanonicalNotation.TheImpl.Laws.{written-law as octets_written};
 
-use crate::bounds::FromZero;
 use crate::ldap_result::LdapResult;
 use crate::tagged::write_tagged_fields;
 use yasna::{ASN1Result, BERReader, DERWriter, Tag};
 use yasna_notation::{
-    Application, Bounded, CanonicalNotation, Context, Enumerated, Implicit, Message, NotEmpty,
-    Notation, Optional, Sequence, SequenceOf, StandsFor, read_as,
+    Application, Bounded, CanonicalNotation, Context, Enumerated, FromZero, Implicit, Message,
+    NotEmpty, Notation, Optional, Sequence, SequenceOf, StandsFor, read_as,
 };
 
 type Referral = Implicit<Context<3>, Bounded<SequenceOf<Vec<u8>>, NotEmpty>>;

@@ -18,7 +18,6 @@
 //! | `substring`, `substring_filter`, `matching_rule_assertion`, `attribute_value_assertion` | what filters ask |
 //! | `search_result_entry`, `search_result_done`, `search_result_reference` | what a search answers |
 //! | `partial_attribute`, `attribute` | attributes |
-//! | `bounds` | which numbers a module takes |
 //! | `tagged` | how fields are written under a tag |
 #![tactic(auto)]
 
@@ -27,7 +26,6 @@ mod attribute_value_assertion;
 mod authentication;
 mod bind_request;
 mod bind_response;
-mod bounds;
 mod control;
 mod filter;
 mod filter_item;
@@ -54,7 +52,6 @@ pub use attribute_value_assertion::AttributeValueAssertion;
 pub use authentication::AuthenticationChoice;
 pub use bind_request::BindRequest;
 pub use bind_response::BindResponse;
-pub use bounds::{FromTo, FromZero, UpTo};
 pub use control::Control;
 pub use filter::Filter;
 pub use filter_item::FilterItem;

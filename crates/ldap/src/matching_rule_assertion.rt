@@ -21,8 +21,7 @@ ghost use Rattle.yasna_notation.specs.Parts.{no_parts, tells_false, tests_false}
 ghost use Rattle.yasna_notation.specs.contracts.strings.VecU8Notation.TheImpl.Laws.{keeps-law as octets};
 ghost use Rattle.yasna_notation.specs.contracts.simple.BoolNotation.TheImpl.Laws.{keeps-law as flag};
 ghost use Rattle.yasna_notation.specs.Canonical.{standing_written};
-ghost use Rattle.yasna_notation.specs.Writing.{sequence_written, under_context, part_written, optional_written, no_part_written};
-ghost use Rattle.ldap.specs.Making.{unset_written};
+ghost use Rattle.yasna_notation.specs.Writing.{sequence_written, under_context, part_written, optional_written, no_part_written, unset_written};
 ghost use Rattle.yasna_notation.specs.contracts.canonical.BoolCanonicalNotation.TheImpl.Laws.{written-law as flag_written};
 ghost use Rattle.yasna_notation.specs.contracts.canonical.VecU8CanonicalNotation.TheImpl.Laws.{written-law as octets_written};
 

@@ -13,8 +13,7 @@ ghost use Rattle.yasna_notation.specs.Making.{in_application, in_sequence_of, no
 ghost use Rattle.yasna_notation.specs.Notation.{stands_for};
 ghost use Rattle.yasna_notation.specs.contracts.strings.VecU8Notation.TheImpl.Laws.{keeps-law as octets};
 ghost use Rattle.yasna_notation.specs.Canonical.{standing_written};
-ghost use Rattle.yasna_notation.specs.Writing.{sequence_of_written, under_application};
-ghost use Rattle.ldap.specs.Making.{filled_list_written};
+ghost use Rattle.yasna_notation.specs.Writing.{sequence_of_written, under_application, filled_list_written};
 ghost use Rattle.yasna_notation.specs.contracts.canonical.VecU8CanonicalNotation.TheImpl.Laws.{written-law as octets_written};
 
 use yasna::{ASN1Result, BERReader, DERWriter, Tag};

@@ -16,9 +16,8 @@ ghost use Rattle.yasna_notation.specs.Parts.{no_parts};
 ghost use Rattle.yasna_notation.specs.contracts.strings.VecU8Notation.TheImpl.Laws.{keeps-law as octets};
 ghost use Rattle.ldap.specs.contracts.substring.SubstringNotation.TheImpl.Laws.{keeps-law as substring};
 ghost use Rattle.yasna_notation.specs.Canonical.{standing_written};
-ghost use Rattle.yasna_notation.specs.Writing.{sequence_written, sequence_of_written, part_written, no_part_written};
+ghost use Rattle.yasna_notation.specs.Writing.{sequence_written, sequence_of_written, part_written, no_part_written, filled_list_written};
 ghost use Rattle.ldap.specs.contracts.substring.SubstringCanonicalNotation.TheImpl.Laws.{written-law as substring_written};
-ghost use Rattle.ldap.specs.Making.{filled_list_written};
 ghost use Rattle.yasna_notation.specs.contracts.canonical.VecU8CanonicalNotation.TheImpl.Laws.{written-law as octets_written};
 
 use crate::substring::Substring;

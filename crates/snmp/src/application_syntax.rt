@@ -17,15 +17,14 @@
 //! Opaque     ::= [APPLICATION 4] IMPLICIT OCTET STRING
 //! Counter64  ::= [APPLICATION 6] IMPLICIT INTEGER (0..18446744073709551615)
 //! ```
-ghost use Rattle.std.specs.Prelude.{◌≡◌, Some, length, nat_eq, refl};
+ghost use Rattle.std.specs.Prelude.{◌≡◌, Some, refl};
 ghost use Rattle.std.proofs.Common.{arith};
-ghost use Rattle.yasna_notation.specs.Bounded.{within_keeps, passes_alike};
-ghost use Rattle.yasna_notation.specs.Canonical.{bounded_written, standing_written, choice_written_as};
+ghost use Rattle.yasna_notation.specs.Canonical.{standing_written, choice_written_as};
 ghost use Rattle.yasna_notation.specs.Laws.{standing_keeps};
-ghost use Rattle.yasna_notation.specs.Making.{alternative, alternative_filled, in_application, in_choice};
+ghost use Rattle.yasna_notation.specs.Making.{alternative, alternative_filled, in_application, in_choice, exactly, octets_sized};
 ghost use Rattle.yasna_notation.specs.Making.{application, tag_or};
 ghost use Rattle.yasna_notation.specs.Notation.{stands_for};
-ghost use Rattle.yasna_notation.specs.Writing.{alternative_written, under_application};
+ghost use Rattle.yasna_notation.specs.Writing.{alternative_written, under_application, octets_sized_written};
 ghost use Rattle.yasna_notation.specs.contracts.simple.U32Notation.TheImpl.Laws.{keeps-law as count32, filled-law as count32_filled};
 ghost use Rattle.yasna_notation.specs.contracts.canonical.U32CanonicalNotation.TheImpl.Laws.{written-law as count32_written};
 ghost use Rattle.yasna_notation.specs.contracts.simple.U64Notation.TheImpl.Laws.{keeps-law as count64, filled-law as count64_filled};
@@ -134,8 +133,7 @@ impl Notation for ApplicationSyntax {
     }
 
     ghost keeps = { λ _. standing_keeps ⟦<ApplicationSyntax as StandsFor<Sides>>⟧.value_of (in_choice ⟦<Choice<Types> as Notation>⟧.means.form_under
-        (alternative (in_application 0 (omega arith) (within_keeps (λ v. nat_eq (length v.items) 4)
-        (λ v w e. passes_alike (λ s. nat_eq (length s) 4) e) (octets refl))).own refl
+        (alternative (in_application 0 (omega arith) (octets_sized (exactly 4) (octets refl))).own refl
         (alternative (in_application 1 (omega arith) (count32 refl)).own refl (alternative (in_application 3 (omega arith) (count32 refl)).own refl
         (alternative (in_application 4 (omega arith) (octets refl)).own refl
         (alternative (in_application 6 (omega arith) (count64 refl)).own refl (in_application 2 (omega arith) (count32 refl)).own)))))) };
@@ -152,8 +150,7 @@ impl Message for ApplicationSyntax {
 
 impl CanonicalNotation for ApplicationSyntax {
     ghost written = { λ _. standing_written ⟦<ApplicationSyntax as StandsFor<Sides>>⟧.value_of (choice_written_as ⟦<Choice<Types> as Notation>⟧.means.form_under
-        (alternative_written (under_application 0 (omega arith) (bounded_written (λ v. nat_eq (length v.items) 4)
-        (λ v w e. passes_alike (λ s. nat_eq (length s) 4) e) (octets_written refl))).own
+        (alternative_written (under_application 0 (omega arith) (octets_sized_written (exactly 4) (octets_written refl))).own
         (alternative_written (under_application 1 (omega arith) (count32_written refl)).own
         (alternative_written (under_application 3 (omega arith) (count32_written refl)).own
         (alternative_written (under_application 4 (omega arith) (octets_written refl)).own

@@ -8,15 +8,12 @@
 //! | `v1` | messages of SNMPv1 |
 //! | `v2c` | messages of SNMPv2c |
 //! | `simple_syntax`, `application_syntax` | values of variables, of types of ASN.1's own and of those that SNMP adds |
-//! | `bounds` | how many octets or parts there may be, and which number a version is |
 #![tactic(auto)]
 
 mod application_syntax;
-mod bounds;
 mod simple_syntax;
 pub mod v1;
 pub mod v2c;
 
 pub use application_syntax::ApplicationSyntax;
-pub use bounds::{Exactly, SizeAtMost};
 pub use simple_syntax::SimpleSyntax;

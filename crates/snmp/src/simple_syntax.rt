@@ -6,13 +6,12 @@
 //!     string-value    OCTET STRING (SIZE (0..65535)),
 //!     objectID-value  OBJECT IDENTIFIER }
 //! ```
-ghost use Rattle.std.specs.Prelude.{◌≡◌, length, nat_lt, not, refl};
-ghost use Rattle.yasna_notation.specs.Bounded.{within_keeps, passes_alike};
-ghost use Rattle.yasna_notation.specs.Canonical.{bounded_written, standing_written, choice_written_as};
+ghost use Rattle.std.specs.Prelude.{◌≡◌, nat_lt, not, refl};
+ghost use Rattle.yasna_notation.specs.Canonical.{standing_written, choice_written_as};
 ghost use Rattle.yasna_notation.specs.Laws.{standing_keeps};
-ghost use Rattle.yasna_notation.specs.Making.{alternative, alternative_filled, in_choice};
+ghost use Rattle.yasna_notation.specs.Making.{alternative, alternative_filled, in_choice, octets_sized};
 ghost use Rattle.yasna_notation.specs.Notation.{stands_for};
-ghost use Rattle.yasna_notation.specs.Writing.{alternative_written};
+ghost use Rattle.yasna_notation.specs.Writing.{alternative_written, octets_sized_written};
 ghost use Rattle.yasna_notation.specs.contracts.simple.I32Notation.TheImpl.Laws.{keeps-law as int32, filled-law as int32_filled};
 ghost use Rattle.yasna_notation.specs.contracts.canonical.I32CanonicalNotation.TheImpl.Laws.{written-law as int32_written};
 ghost use Rattle.yasna_notation.specs.contracts.strings.VecU8Notation.TheImpl.Laws.{keeps-law as octets, filled-law as octets_filled};
@@ -22,12 +21,12 @@ ghost use Rattle.yasna_notation.specs.contracts.canonical.ObjectIdentifierCanoni
 ghost use Rattle.yasna_notation.specs.declared.choices.Either.TheVariants.{First, Second};
 ghost use Rattle.snmp.specs.declared.simple_syntax.SimpleSyntax.TheVariants.{IntegerValue, StringValue, ObjectIdValue};
 
-use crate::bounds::SizeAtMost;
 use yasna::models::ObjectIdentifier;
 use yasna::{ASN1Result, BERReader, DERWriter, Tag};
 use yasna_notation::Either::{First, Second};
 use yasna_notation::{
-    Alternatives, Bounded, CanonicalNotation, Choice, Either, Message, Notation, StandsFor, read_as,
+    Alternatives, Bounded, CanonicalNotation, Choice, Either, Message, Notation, SizeAtMost,
+    StandsFor, read_as,
 };
 
 type StringNotation = Bounded<Vec<u8>, SizeAtMost<65535>>;
@@ -88,8 +87,7 @@ impl Notation for SimpleSyntax {
 
     ghost keeps = { λ _. standing_keeps ⟦<SimpleSyntax as StandsFor<Sides>>⟧.value_of (in_choice ⟦<Choice<Types> as Notation>⟧.means.form_under
         (alternative (int32 refl).own refl
-        (alternative (within_keeps (λ v. not (nat_lt 65535 (length v.items)))
-        (λ v w e. passes_alike (λ s. not (nat_lt 65535 (length s))) e) (octets refl)).own refl (oid refl).own))) };
+        (alternative (octets_sized (λ k. not (nat_lt 65535 k)) (octets refl)).own refl (oid refl).own))) };
 
     ghost filled = { λ u m v.
         alternative_filled (int32_filled u) (alternative_filled (octets_filled u) (oid_filled u)) m (⟦<SimpleSyntax as StandsFor<Sides>>⟧.value_of v) };
@@ -102,6 +100,5 @@ impl Message for SimpleSyntax {
 impl CanonicalNotation for SimpleSyntax {
     ghost written = { λ _. standing_written ⟦<SimpleSyntax as StandsFor<Sides>>⟧.value_of (choice_written_as ⟦<Choice<Types> as Notation>⟧.means.form_under
         (alternative_written (int32_written refl).own
-        (alternative_written (bounded_written (λ v. not (nat_lt 65535 (length v.items)))
-        (λ v w e. passes_alike (λ s. not (nat_lt 65535 (length s))) e) (octets_written refl)).own (oid_written refl).own))) };
+        (alternative_written (octets_sized_written (λ k. not (nat_lt 65535 k)) (octets_written refl)).own (oid_written refl).own))) };
 }

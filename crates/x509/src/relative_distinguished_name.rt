@@ -3,10 +3,9 @@
 //! ```text
 //! RelativeDistinguishedName ::= SET SIZE (1..MAX) OF AttributeTypeAndValue
 //! ```
-ghost use Rattle.std.specs.Prelude.{◌≡◌, refl, nat_lt, length};
+ghost use Rattle.std.specs.Prelude.{◌≡◌, refl};
 ghost use Rattle.yasna_notation.specs.Laws.{standing_keeps, element_filled};
-ghost use Rattle.yasna_notation.specs.Bounded.{within_keeps, set_sizes_alike};
-ghost use Rattle.yasna_notation.specs.Making.{in_set_of};
+ghost use Rattle.yasna_notation.specs.Making.{in_set_of, set_not_empty};
 ghost use Rattle.yasna_notation.specs.Notation.{stands_for};
 ghost use Rattle.x509.specs.contracts.attribute_type_and_value.AttributeTypeAndValueNotation.TheImpl.Laws.{keeps-law as attribute};
 
@@ -52,7 +51,7 @@ impl Notation for RelativeDistinguishedName {
     }
 
     ghost keeps = { λ _. standing_keeps ⟦<RelativeDistinguishedName as StandsFor<Vec<AttributeTypeAndValue>>>⟧.value_of
-        (within_keeps (λ v. nat_lt 0 (length v.items)) (λ v w e. set_sizes_alike _ (nat_lt 0) v.items w.items e) (in_set_of (attribute refl).own)) };
+        (set_not_empty (in_set_of (attribute refl).own)) };
 
     ghost filled = { λ u m v. element_filled _ _ _ _ };
 }

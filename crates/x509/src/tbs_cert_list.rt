@@ -10,10 +10,9 @@
 //!     revokedCertificates  SEQUENCE OF SEQUENCE { .. } OPTIONAL,
 //!     crlExtensions        [0] EXPLICIT Extensions OPTIONAL }
 //! ```
-ghost use Rattle.std.specs.Prelude.{◌≡◌, nat_eq, refl};
-ghost use Rattle.yasna_notation.specs.Bounded.{within_keeps, passes_alike};
+ghost use Rattle.std.specs.Prelude.{◌≡◌, refl};
 ghost use Rattle.yasna_notation.specs.Laws.{standing_keeps, element_filled};
-ghost use Rattle.yasna_notation.specs.Making.{in_sequence, in_sequence_of, part, optional_part, in_explicit};
+ghost use Rattle.yasna_notation.specs.Making.{in_sequence, in_sequence_of, part, optional_part, in_explicit, exactly, in_bound};
 ghost use Rattle.yasna_notation.specs.Notation.{stands_for};
 ghost use Rattle.yasna_notation.specs.Parts.{no_parts};
 ghost use Rattle.std.proofs.Common.{arith};
@@ -33,7 +32,7 @@ use crate::time_part::TimePart;
 use yasna::tags::TAG_SEQUENCE;
 use yasna::{ASN1Result, BERReader, DERWriter, Tag};
 use yasna_notation::{
-    Bound, Bounded, Context, Explicit, Message, Notation, Optional, Sequence, SequenceOf,
+    Bounded, Context, Exactly, Explicit, Message, Notation, Optional, Sequence, SequenceOf,
     StandsFor, read_as,
 };
 
@@ -47,7 +46,7 @@ type Updates = (
 );
 
 type Parts = (
-    Optional<Bounded<u64, V2>>,
+    Optional<Bounded<u64, Exactly<1>>>,
     (AlgorithmIdentifier, (Name, Updates)),
 );
 
@@ -60,18 +59,6 @@ type UpdateFields = (
 );
 
 type Fields = (Option<u64>, (AlgorithmIdentifier, (Name, UpdateFields)));
-
-struct V2;
-
-impl Bound<u64> for V2 {
-    ghost passes = { λ v. nat_eq v 1 };
-
-    fn lets(value: &u64) -> bool {
-        *value == 1
-    }
-
-    ghost alike = { λ v w e. passes_alike (λ n. nat_eq n 1) e };
-}
 
 /// What is signed of a revocation list.
 #[derive(Drop)]
@@ -137,7 +124,7 @@ impl Notation for TbsCertList {
     }
 
     ghost keeps = { λ _. standing_keeps ⟦<TbsCertList as StandsFor<Fields>>⟧.value_of
-        (in_sequence (optional_part refl (within_keeps (λ v. nat_eq v 1) (λ v w e. passes_alike (λ n. nat_eq n 1) e) (number refl)).own
+        (in_sequence (optional_part refl (in_bound (exactly 1) (number refl)).own
         (part (algorithm refl).own (part (name refl).own (part (time refl).own (optional_part refl (time refl).own
         (optional_part refl (in_sequence_of (revoked refl).own).own
         (optional_part refl (in_explicit 0 (omega arith) (extensions refl).own).own no_parts)))))))) };

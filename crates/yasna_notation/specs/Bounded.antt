@@ -1,5 +1,7 @@
 -- Types of which some values alone are taken (X.680, 49 to 51).
-use Rattle.std.proofs.Common.{◌≡◌, ◌∷◌, [], ℕ, List, Bool, true, Option, length, suc, refl, sym, ap, ◌∙◌}
+use Rattle.std.proofs.Common.{◌≡◌, ◌∷◌, [], ℕ, ℤ, List, Bool, true, not, Option, Vec, length, pos, suc, refl, sym, ap, ◌∙◌}
+use Rattle.std.specs.Global.{Global}
+use Rattle.std.specs.Prelude.{◌&&◌, int_le, nat_eq, nat_lt}
 use Rattle.std.proofs.lemmas.List.Sorted.{length_permutation}
 use Rattle.yasna_base.specs.declared.tag.Tag.{Tag}
 use Rattle.yasna_base.specs.AnyOrder.{SameSetOf}
@@ -8,6 +10,26 @@ use Rattle.yasna_base.specs.Exact.{Fitting, IsExact}
 use Rattle.yasna_base.specs.Grammar.{Grammar, Members, Form}
 use Rattle.yasna_base.specs.Pieces.{Each}
 use Rattle.yasna_notation.specs.Notation.{IsNotation, Keeps}
+
+-- this number alone
+abbrev pub exactly : ℕ → ℕ → Bool
+exactly n v = nat_eq v n
+
+-- the numbers from low to high
+abbrev pub from_to : ℕ → ℕ → ℕ → Bool
+from_to low high v = not (nat_lt v low) && not (nat_lt high v)
+
+-- the integers from 0 to high
+abbrev pub up_to : ℤ → ℤ → Bool
+up_to high v = int_le (pos 0) v && int_le v high
+
+-- the integers from 0 on
+abbrev pub from_zero : ℤ → Bool
+from_zero v = int_le (pos 0) v
+
+-- what has a size that passes a test
+abbrev pub sized : {A : Type 0} → (ℕ → Bool) → Vec A Global → Bool
+sized test v = test (length v.items)
 
 -- b encodes a value by B, and the test passes it
 abbrev pub Within : {A : Type 0} → (A → Bool) → Grammar A → Grammar A

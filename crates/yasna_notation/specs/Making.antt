@@ -22,7 +22,8 @@ use Rattle.yasna_base.specs.SequenceOf.{IsListOf, AnyListOf, AnyElements, elemen
 use Rattle.yasna_base.specs.Set.{IsSetOf, AnySetOf, AnySetOfElements, set_tag}
 use Rattle.yasna_base.proofs.ExplicitTags.{context_not_end, enclosed_begins}
 use Rattle.yasna_base.proofs.Identifier.{not_end}
-use Rattle.yasna_notation.specs.Bounded.{Within, within_keeps, passes_alike, sizes_alike}
+pub use Rattle.yasna_notation.specs.Bounded.{exactly, from_to, from_zero, up_to, sized}
+use Rattle.yasna_notation.specs.Bounded.{Within, within_keeps, passes_alike, sizes_alike, set_sizes_alike}
 use Rattle.yasna_notation.specs.Choices.{sides, either_laws, either_filled}
 pub use Rattle.yasna_notation.specs.Laws.{application}
 use Rattle.yasna_notation.specs.Laws.{application_not_end, element_keeps, list_laws, explicit_laws, implicit_keeps, never_retagged}
@@ -120,17 +121,49 @@ pub in_choice : {A : Type 0} {ts : List Tag} {E : A → A → Type 0} {B : Gramm
     {Can : A → Type 0} → IsNotation true ts E B S (form None) Fits Can → Keeps true ts false E (λ u. B) (λ u. S) form Fits Can
 in_choice form x = record { own = x; others = λ e. never_retagged e }
 
--- a SEQUENCE OF or an INTEGER within bounds
-pub not_empty : {A : Type 0} {told : Bool} {ts : List Tag} {retagged : Bool} {E : A → A → Type 0} {B : Option Tag → Grammar (Vec A Global)}
-    {S : Option Tag → Members} {form : Option Tag → Form (Vec A Global)} {Fits : Fitting (Vec A Global)} {Can : Vec A Global → Type 0} →
-    Keeps told ts retagged (λ v w. Each E v.items w.items) B S form Fits Can →
-    Keeps told ts retagged (λ v w. Each E v.items w.items) (λ u. Within (λ v. nat_lt 0 (length v.items)) (B u))
-    (λ u. Any (Within (λ v. nat_lt 0 (length v.items)) (B u))) form (λ m n v. Fits m n v × (nat_lt 0 (length v.items) ≡ true))
-    (λ v. Can v × (nat_lt 0 (length v.items) ≡ true))
-not_empty {E = E} x = within_keeps (λ v. nat_lt 0 (length v.items)) (λ v w e. sizes_alike E (nat_lt 0) v.items w.items e) x
+-- values within a bound that are the same alone
+pub in_bound : {A : Type 0} {told : Bool} {ts : List Tag} {retagged : Bool} {B : Option Tag → Grammar A} {S : Option Tag → Members}
+    {form : Option Tag → Form A} {Fits : Fitting A} {Can : A → Type 0} (passes : A → Bool) → Keeps told ts retagged (λ v w. v ≡ w) B S form Fits Can →
+    Keeps told ts retagged (λ v w. v ≡ w) (λ u. Within passes (B u)) (λ u. Any (Within passes (B u))) form (λ m n v. Fits m n v × (passes v ≡ true))
+    (λ v. Can v × (passes v ≡ true))
+in_bound passes x = within_keeps passes (λ v w e. passes_alike passes e) x
 
+-- an INTEGER of at most k
 pub at_most : {told : Bool} {ts : List Tag} {retagged : Bool} {B : Option Tag → Grammar ℕ} {S : Option Tag → Members} {form : Option Tag → Form ℕ}
     {Fits : Fitting ℕ} {Can : ℕ → Type 0} (k : ℕ) → Keeps told ts retagged (λ v w. v ≡ w) B S form Fits Can →
     Keeps told ts retagged (λ v w. v ≡ w) (λ u. Within (λ v. not (nat_lt k v)) (B u)) (λ u. Any (Within (λ v. not (nat_lt k v)) (B u))) form
     (λ m n v. Fits m n v × (not (nat_lt k v) ≡ true)) (λ v. Can v × (not (nat_lt k v) ≡ true))
-at_most k x = within_keeps (λ v. not (nat_lt k v)) (λ v w e. passes_alike (λ n. not (nat_lt k n)) e) x
+at_most k x = in_bound (λ v. not (nat_lt k v)) x
+
+-- an OCTET STRING whose size passes a test
+pub octets_sized : {told : Bool} {ts : List Tag} {retagged : Bool} {B : Option Tag → Grammar (Vec ℕ Global)} {S : Option Tag → Members}
+    {form : Option Tag → Form (Vec ℕ Global)} {Fits : Fitting (Vec ℕ Global)} {Can : Vec ℕ Global → Type 0} (test : ℕ → Bool) →
+    Keeps told ts retagged (λ v w. v.items ≡ w.items) B S form Fits Can →
+    Keeps told ts retagged (λ v w. v.items ≡ w.items) (λ u. Within (sized test) (B u)) (λ u. Any (Within (sized test) (B u))) form
+    (λ m n v. Fits m n v × (sized test v ≡ true)) (λ v. Can v × (sized test v ≡ true))
+octets_sized test x = within_keeps (sized test) (λ v w e. passes_alike (λ s. test (length s)) e) x
+
+module _ {A : Type 0} {told : Bool} {ts : List Tag} {retagged : Bool} {E : A → A → Type 0} {B : Option Tag → Grammar (Vec A Global)}
+    {S : Option Tag → Members} {form : Option Tag → Form (Vec A Global)} {Fits : Fitting (Vec A Global)} {Can : Vec A Global → Type 0} where
+  -- a SEQUENCE OF whose size passes a test
+  pub list_sized : (test : ℕ → Bool) → Keeps told ts retagged (λ v w. Each E v.items w.items) B S form Fits Can →
+      Keeps told ts retagged (λ v w. Each E v.items w.items) (λ u. Within (sized test) (B u)) (λ u. Any (Within (sized test) (B u))) form
+      (λ m n v. Fits m n v × (sized test v ≡ true)) (λ v. Can v × (sized test v ≡ true))
+  list_sized test x = within_keeps (sized test) (λ v w e. sizes_alike E test v.items w.items e) x
+
+  -- a SET OF
+  pub set_sized : (test : ℕ → Bool) → Keeps told ts retagged (λ v w. SameSetOf E v.items w.items) B S form Fits Can →
+      Keeps told ts retagged (λ v w. SameSetOf E v.items w.items) (λ u. Within (sized test) (B u)) (λ u. Any (Within (sized test) (B u))) form
+      (λ m n v. Fits m n v × (sized test v ≡ true)) (λ v. Can v × (sized test v ≡ true))
+  set_sized test x = within_keeps (sized test) (λ v w e. set_sizes_alike E test v.items w.items e) x
+
+  -- of such that aren't empty
+  pub not_empty : Keeps told ts retagged (λ v w. Each E v.items w.items) B S form Fits Can →
+      Keeps told ts retagged (λ v w. Each E v.items w.items) (λ u. Within (sized (nat_lt 0)) (B u)) (λ u. Any (Within (sized (nat_lt 0)) (B u))) form
+      (λ m n v. Fits m n v × (sized (nat_lt 0) v ≡ true)) (λ v. Can v × (sized (nat_lt 0) v ≡ true))
+  not_empty x = list_sized (nat_lt 0) x
+
+  pub set_not_empty : Keeps told ts retagged (λ v w. SameSetOf E v.items w.items) B S form Fits Can →
+      Keeps told ts retagged (λ v w. SameSetOf E v.items w.items) (λ u. Within (sized (nat_lt 0)) (B u)) (λ u. Any (Within (sized (nat_lt 0)) (B u))) form
+      (λ m n v. Fits m n v × (sized (nat_lt 0) v ≡ true)) (λ v. Can v × (sized (nat_lt 0) v ≡ true))
+  set_not_empty x = set_sized (nat_lt 0) x

@@ -1,5 +1,5 @@
 -- The laws of writing of a type that a module makes of others, from theirs.
-use Rattle.std.proofs.Common.{◌≡◌, ◌<◌, ◌^◌, ℕ, Bool, true, not, Option, Some, Vec, refl, arith}
+use Rattle.std.proofs.Common.{◌≡◌, ◌<◌, ◌^◌, ℕ, Bool, true, false, not, length, Option, Some, Vec, refl, arith}
 use Rattle.std.specs.Prelude.{nat_lt}
 use Rattle.std.specs.Global.{Global}
 use Rattle.std.specs.List.{AllByRecursion}
@@ -7,6 +7,7 @@ use Rattle.yasna_base.specs.declared.tag.Tag.{Tag}
 use Rattle.yasna_base.specs.AnyOrder.{SameSetOf, InSomeOrder, sorted_set_of_form}
 use Rattle.yasna_base.specs.Canonical.{IsWritten, enclosed_form, enclosed_nest}
 use Rattle.yasna_base.specs.Choice.{EitherOf, SameEither, either_form, either_nest, either_can}
+use Rattle.yasna_base.specs.Default.{DefaultOf, default_form, default_nest, default_can}
 use Rattle.yasna_base.specs.Element.{Enclosed}
 use Rattle.yasna_base.specs.Grammar.{Grammar, Form, Nest}
 use Rattle.yasna_base.specs.Identifier.{context, tag_or}
@@ -18,15 +19,18 @@ use Rattle.yasna_base.specs.Set.{IsSetOf, set_tag}
 use Rattle.yasna_base.specs.SetWriting.{set_of_nest}
 use Rattle.yasna_base.proofs.Canonical.{written_along, enclosed_written}
 use Rattle.yasna_base.proofs.ChoiceWriting.{choice_written}
+use Rattle.yasna_base.proofs.Coding.{equal_same}
+use Rattle.yasna_base.proofs.Default.{default_alike, default_written}
 use Rattle.yasna_base.proofs.ExplicitTags.{context_not_end, tagged_written}
 use Rattle.yasna_base.proofs.Identifier.{not_end}
 use Rattle.yasna_base.proofs.Optional.{option_written}
 pub use Rattle.yasna_base.proofs.Sequence.{part_written, no_part_written}
-use Rattle.yasna_notation.specs.Bounded.{Within, passes_alike}
+use Rattle.yasna_notation.specs.Bounded.{Within, sized, passes_alike, sizes_alike, set_sizes_alike}
 use Rattle.yasna_notation.specs.Canonical.{element_written, list_under, set_of_under, bounded_written, implicit_written}
 use Rattle.yasna_notation.specs.Choices.{sides}
 use Rattle.yasna_notation.specs.Laws.{application, application_not_end}
 use Rattle.yasna_notation.specs.Notation.{IsWrittenAs}
+use Rattle.yasna_notation.specs.Parts.{tells_false}
 
 module _ {A V : Type 0} {E : A → A → Type 0} {F : V → V → Type 0} {B : Grammar A} {C : Grammar V} {f : Form A} {g : Form V} {k : Nest A} {l : Nest V}
     {c : A → Type 0} {d : V → Type 0} (first : IsWritten E B f k c) (rest : IsWritten F C g l d) where
@@ -77,8 +81,53 @@ pub under_application : {A : Type 0} {E : A → A → Type 0} {B : Option Tag �
     IsWrittenAs true E (λ u. B (Some (tag_or u (application k)))) (λ u. form (Some (tag_or u (application k)))) nest Can
 under_application k range x = implicit_written {apart = true} (application k) (λ _. x) refl (application_not_end k) range
 
--- an INTEGER within a bound
+-- values within a bound that are the same alone
+pub bound_written : {A : Type 0} {retagged : Bool} {B : Option Tag → Grammar A} {form : Option Tag → Form A} {nest : Nest A} {Can : A → Type 0}
+    (passes : A → Bool) → IsWrittenAs retagged (λ v w. v ≡ w) B form nest Can →
+    IsWrittenAs retagged (λ v w. v ≡ w) (λ u. Within passes (B u)) form nest (λ v. Can v × (passes v ≡ true))
+bound_written passes x = bounded_written passes (λ v w e. passes_alike passes e) x
+
+-- an INTEGER of at most k
 pub at_most_written : {retagged : Bool} {B : Option Tag → Grammar ℕ} {form : Option Tag → Form ℕ} {nest : Nest ℕ} {Can : ℕ → Type 0} (k : ℕ) →
     IsWrittenAs retagged (λ v w. v ≡ w) B form nest Can →
     IsWrittenAs retagged (λ v w. v ≡ w) (λ u. Within (λ v. not (nat_lt k v)) (B u)) form nest (λ v. Can v × (not (nat_lt k v) ≡ true))
-at_most_written k x = bounded_written (λ v. not (nat_lt k v)) (λ v w e. passes_alike (λ n. not (nat_lt k n)) e) x
+at_most_written k x = bound_written (λ v. not (nat_lt k v)) x
+
+-- an OCTET STRING whose size passes a test
+pub octets_sized_written : {retagged : Bool} {B : Option Tag → Grammar (Vec ℕ Global)} {form : Option Tag → Form (Vec ℕ Global)}
+    {nest : Nest (Vec ℕ Global)} {Can : Vec ℕ Global → Type 0} (test : ℕ → Bool) → IsWrittenAs retagged (λ v w. v.items ≡ w.items) B form nest Can →
+    IsWrittenAs retagged (λ v w. v.items ≡ w.items) (λ u. Within (sized test) (B u)) form nest (λ v. Can v × (sized test v ≡ true))
+octets_sized_written test x = bounded_written (sized test) (λ v w e. passes_alike (λ s. test (length s)) e) x
+
+module _ {A : Type 0} {retagged : Bool} {E : A → A → Type 0} {B : Option Tag → Grammar (Vec A Global)} {form : Option Tag → Form (Vec A Global)}
+    {nest : Nest (Vec A Global)} {Can : Vec A Global → Type 0} (test : ℕ → Bool) where
+  -- a SEQUENCE OF whose size passes a test
+  pub list_sized_written : IsWrittenAs retagged (λ v w. Each E v.items w.items) B form nest Can →
+      IsWrittenAs retagged (λ v w. Each E v.items w.items) (λ u. Within (sized test) (B u)) form nest (λ v. Can v × (sized test v ≡ true))
+  list_sized_written x = bounded_written (sized test) (λ v w e. sizes_alike E test v.items w.items e) x
+
+  -- a SET OF
+  pub set_sized_written : IsWrittenAs retagged (λ v w. SameSetOf E v.items w.items) B form nest Can →
+      IsWrittenAs retagged (λ v w. SameSetOf E v.items w.items) (λ u. Within (sized test) (B u)) form nest (λ v. Can v × (sized test v ≡ true))
+  set_sized_written x = bounded_written (sized test) (λ v w e. set_sizes_alike E test v.items w.items e) x
+
+-- of such that aren't empty
+pub filled_list_written : {A : Type 0} {retagged : Bool} {E : A → A → Type 0} {B : Option Tag → Grammar (Vec A Global)}
+    {form : Option Tag → Form (Vec A Global)} {nest : Nest (Vec A Global)} {Can : Vec A Global → Type 0} →
+    IsWrittenAs retagged (λ v w. Each E v.items w.items) B form nest Can →
+    IsWrittenAs retagged (λ v w. Each E v.items w.items) (λ u. Within (sized (nat_lt 0)) (B u)) form nest (λ v. Can v × (sized (nat_lt 0) v ≡ true))
+filled_list_written x = list_sized_written (nat_lt 0) x
+
+pub filled_set_written : {A : Type 0} {retagged : Bool} {E : A → A → Type 0} {B : Option Tag → Grammar (Vec A Global)}
+    {form : Option Tag → Form (Vec A Global)} {nest : Nest (Vec A Global)} {Can : Vec A Global → Type 0} →
+    IsWrittenAs retagged (λ v w. SameSetOf E v.items w.items) B form nest Can →
+    IsWrittenAs retagged (λ v w. SameSetOf E v.items w.items) (λ u. Within (sized (nat_lt 0)) (B u)) form nest
+    (λ v. Can v × (sized (nat_lt 0) v ≡ true))
+filled_set_written x = set_sized_written (nat_lt 0) x
+
+-- a BOOLEAN DEFAULT FALSE, and others
+pub unset_written : {V : Type 0} {F : V → V → Type 0} {B : Grammar Bool} {C : Grammar V} {f : Form Bool} {g : Form V} {k : Nest Bool} {l : Nest V}
+    {c : Bool → Type 0} {d : V → Type 0} → IsWritten (λ v w. v ≡ w) B f k c → IsWritten F C g l d →
+    IsWritten (SamePart (λ v w. v ≡ w) F) (PartOf (DefaultOf not B) C) (part_form (default_form not f) g) (part_nest (default_nest not k) l)
+    (part_can (default_can not c) d)
+unset_written first rest = part_written (default_written not (default_alike not false tells_false equal_same) first) rest

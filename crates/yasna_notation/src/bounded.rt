@@ -1,11 +1,9 @@
 //! Types of which a module takes some values alone (X.680, 49 to 51): those that a bound lets pass.
-ghost use Rattle.std.specs.Prelude.{◌≡◌, ◌<◌, ◌≤◌, Bool, List, Option, None, true, length, nat_lt, nat_eq, not};
+ghost use Rattle.std.specs.Prelude.{◌≡◌, ◌<◌, ◌≤◌, Bool, List, Option, None, true};
 ghost use Rattle.yasna_base.specs.Coding.{Any};
-ghost use Rattle.yasna_notation.specs.Bounded.{Within, within_keeps, sizes_alike, set_sizes_alike, passes_alike};
+ghost use Rattle.yasna_notation.specs.Bounded.{Within, within_keeps};
 
-use crate::lists::SequenceOf;
 use crate::notation::Notation;
-use crate::set_lists::SetOf;
 use std::marker::PhantomData;
 use yasna_base::{ASN1Error, ASN1ErrorKind, ASN1Result, Tag};
 use yasna_reader::BERReader;
@@ -73,57 +71,4 @@ impl<N: Notation, C: Bound<N>> Notation for Bounded<N, C> {
     ghost keeps = { λ a. within_keeps C.passes C.alike (N.keeps a) };
 
     ghost filled = { N.filled };
-}
-
-/// `SIZE (1..MAX)` of a SEQUENCE OF or a SET OF.
-pub struct NotEmpty;
-
-impl<N: Notation> Bound<SequenceOf<N>> for NotEmpty {
-    ghost passes = { λ v. nat_lt 0 (length v.items) };
-
-    #[inline(always)]
-    fn lets(value: &Vec<N::Value>) -> bool {
-        !value.is_empty()
-    }
-
-    ghost alike = { λ v w e. sizes_alike N.means.same (nat_lt 0) v.items w.items e };
-}
-
-impl<N: Notation> Bound<SetOf<N>> for NotEmpty {
-    ghost passes = { λ v. nat_lt 0 (length v.items) };
-
-    #[inline(always)]
-    fn lets(value: &Vec<N::Value>) -> bool {
-        !value.is_empty()
-    }
-
-    ghost alike = { λ v w e. set_sizes_alike N.means.same (nat_lt 0) v.items w.items e };
-}
-
-/// `(0..MAX)` of an INTEGER that isn't negative.
-pub struct AtMost<const MAX: u64>;
-
-impl<const MAX: u64> Bound<u64> for AtMost<MAX> {
-    ghost passes = { λ v. not (nat_lt MAX v) };
-
-    #[inline(always)]
-    fn lets(value: &u64) -> bool {
-        *value <= MAX
-    }
-
-    ghost alike = { λ v w e. passes_alike (λ n. not (nat_lt MAX n)) e };
-}
-
-/// `SIZE (N)` of an OCTET STRING.
-pub struct Size<const N: u64>;
-
-impl<const N: u64> Bound<Vec<u8>> for Size<N> {
-    ghost passes = { λ v. nat_eq (length v.items) N };
-
-    #[inline(always)]
-    fn lets(value: &Vec<u8>) -> bool {
-        value.len() as u64 == N
-    }
-
-    ghost alike = { λ v w e. passes_alike (λ s. nat_eq (length s) N) e };
 }

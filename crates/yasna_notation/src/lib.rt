@@ -6,12 +6,14 @@
 //! | `tag_names` | the tags that a module writes, as types |
 //! | `simple` | BOOLEAN, INTEGER, ENUMERATED, NULL, OBJECT IDENTIFIER |
 //! | `strings`, `times` | strings and times |
+//! | `bounded`, `bounds` | types of which a module takes some values alone, and bounds of numbers and sizes |
 //! | `first_bytes` | the bytes of a SEQUENCE's first part |
 //! | `canonical` | notations of which BER too is written anew |
 #![tactic(auto)]
 
 mod any;
 mod bounded;
+mod bounds;
 mod canonical;
 mod choices;
 mod defaults;
@@ -32,7 +34,8 @@ mod strings;
 mod tag_names;
 mod times;
 
-pub use bounded::{AtMost, Bound, Bounded, NotEmpty, Size};
+pub use bounded::{Bound, Bounded};
+pub use bounds::{AtMost, Exactly, FromTo, FromZero, NotEmpty, Size, SizeAtMost, UpTo};
 pub use canonical::{CanonicalAlternatives, CanonicalNotation, CanonicalParts};
 pub use choices::{Alternatives, Choice, Either};
 pub use defaults::{Default, DefaultValue, False, Number};

@@ -18,15 +18,14 @@
 //! ```
 //!
 //! A number that 64 bits don't hold is refused.
-ghost use Rattle.std.specs.Prelude.{◌≡◌, Some, length, nat_eq, refl};
+ghost use Rattle.std.specs.Prelude.{◌≡◌, Some, refl};
 ghost use Rattle.std.proofs.Common.{arith};
-ghost use Rattle.yasna_notation.specs.Bounded.{within_keeps, passes_alike};
-ghost use Rattle.yasna_notation.specs.Canonical.{bounded_written, standing_written, choice_written_as};
+ghost use Rattle.yasna_notation.specs.Canonical.{standing_written, choice_written_as};
 ghost use Rattle.yasna_notation.specs.Laws.{standing_keeps};
-ghost use Rattle.yasna_notation.specs.Making.{alternative, alternative_filled, in_application, in_choice};
+ghost use Rattle.yasna_notation.specs.Making.{alternative, alternative_filled, in_application, in_choice, exactly, octets_sized};
 ghost use Rattle.yasna_notation.specs.Making.{application, tag_or};
 ghost use Rattle.yasna_notation.specs.Notation.{stands_for};
-ghost use Rattle.yasna_notation.specs.Writing.{alternative_written, under_application};
+ghost use Rattle.yasna_notation.specs.Writing.{alternative_written, under_application, octets_sized_written};
 ghost use Rattle.yasna_notation.specs.contracts.simple.U32Notation.TheImpl.Laws.{keeps-law as count32, filled-law as count32_filled};
 ghost use Rattle.yasna_notation.specs.contracts.canonical.U32CanonicalNotation.TheImpl.Laws.{written-law as count32_written};
 ghost use Rattle.yasna_notation.specs.contracts.simple.I64Notation.TheImpl.Laws.{keeps-law as int64, filled-law as int64_filled};
@@ -161,8 +160,7 @@ impl Notation for ObjectSyntax {
 
     ghost keeps = { λ _. standing_keeps ⟦<ObjectSyntax as StandsFor<Sides>>⟧.value_of (in_choice ⟦<Choice<Types> as Notation>⟧.means.form_under
         (alternative (int64 refl).own refl (alternative (octets refl).own refl (alternative (oid refl).own refl (alternative (null refl).own refl
-        (alternative (in_application 0 (omega arith) (within_keeps (λ v. nat_eq (length v.items) 4)
-        (λ v w e. passes_alike (λ s. nat_eq (length s) 4) e) (octets refl))).own refl
+        (alternative (in_application 0 (omega arith) (octets_sized (exactly 4) (octets refl))).own refl
         (alternative (in_application 1 (omega arith) (count32 refl)).own refl (alternative (in_application 2 (omega arith) (count32 refl)).own refl
         (alternative (in_application 3 (omega arith) (count32 refl)).own refl (in_application 4 (omega arith) (octets refl)).own))))))))) };
 
@@ -181,8 +179,7 @@ impl CanonicalNotation for ObjectSyntax {
     ghost written = { λ _. standing_written ⟦<ObjectSyntax as StandsFor<Sides>>⟧.value_of (choice_written_as ⟦<Choice<Types> as Notation>⟧.means.form_under
         (alternative_written (int64_written refl).own (alternative_written (octets_written refl).own (alternative_written (oid_written refl).own
         (alternative_written (null_written refl).own
-        (alternative_written (under_application 0 (omega arith) (bounded_written (λ v. nat_eq (length v.items) 4)
-        (λ v w e. passes_alike (λ s. nat_eq (length s) 4) e) (octets_written refl))).own
+        (alternative_written (under_application 0 (omega arith) (octets_sized_written (exactly 4) (octets_written refl))).own
         (alternative_written (under_application 1 (omega arith) (count32_written refl)).own
         (alternative_written (under_application 2 (omega arith) (count32_written refl)).own
         (alternative_written (under_application 3 (omega arith) (count32_written refl)).own

@@ -9,15 +9,14 @@
 //!     time-stamp         TimeTicks,
 //!     variable-bindings  VarBindList }
 //! ```
-ghost use Rattle.std.specs.Prelude.{◌≡◌, length, nat_eq, refl};
+ghost use Rattle.std.specs.Prelude.{◌≡◌, refl};
 ghost use Rattle.std.proofs.Common.{arith};
-ghost use Rattle.yasna_notation.specs.Bounded.{within_keeps, passes_alike};
-ghost use Rattle.yasna_notation.specs.Canonical.{bounded_written, standing_written};
+ghost use Rattle.yasna_notation.specs.Canonical.{standing_written};
 ghost use Rattle.yasna_notation.specs.Laws.{standing_keeps, element_filled};
-ghost use Rattle.yasna_notation.specs.Making.{in_application, in_sequence, in_sequence_of, part};
+ghost use Rattle.yasna_notation.specs.Making.{in_application, in_sequence, in_sequence_of, part, exactly, octets_sized};
 ghost use Rattle.yasna_notation.specs.Notation.{stands_for};
 ghost use Rattle.yasna_notation.specs.Parts.{no_parts};
-ghost use Rattle.yasna_notation.specs.Writing.{no_part_written, part_written, sequence_of_written, sequence_written, under_application};
+ghost use Rattle.yasna_notation.specs.Writing.{no_part_written, part_written, sequence_of_written, sequence_written, under_application, octets_sized_written};
 ghost use Rattle.snmp.specs.contracts.v1.var_bind.VarBindNotation.TheImpl.Laws.{keeps-law as binding1};
 ghost use Rattle.snmp.specs.contracts.v1.var_bind.VarBindCanonicalNotation.TheImpl.Laws.{written-law as binding1_written};
 ghost use Rattle.yasna_notation.specs.contracts.simple.U32Notation.TheImpl.Laws.{keeps-law as count32};
@@ -118,8 +117,7 @@ impl Notation for TrapPdu {
 
     ghost keeps = { λ _. standing_keeps ⟦<TrapPdu as StandsFor<Fields>>⟧.value_of (in_sequence
         (part (oid refl).own
-        (part (in_application 0 (omega arith) (within_keeps (λ v. nat_eq (length v.items) 4)
-        (λ v w e. passes_alike (λ s. nat_eq (length s) 4) e) (octets refl))).own
+        (part (in_application 0 (omega arith) (octets_sized (exactly 4) (octets refl))).own
         (part (int64 refl).own (part (int64 refl).own (part (in_application 3 (omega arith) (count32 refl)).own
         (part (in_sequence_of (binding1 refl).own).own no_parts))))))) };
 
@@ -133,8 +131,7 @@ impl Message for TrapPdu {
 impl CanonicalNotation for TrapPdu {
     ghost written = { λ _. standing_written ⟦<TrapPdu as StandsFor<Fields>>⟧.value_of (sequence_written
         (part_written (oid_written refl).own
-        (part_written (under_application 0 (omega arith) (bounded_written (λ v. nat_eq (length v.items) 4)
-        (λ v w e. passes_alike (λ s. nat_eq (length s) 4) e) (octets_written refl))).own
+        (part_written (under_application 0 (omega arith) (octets_sized_written (exactly 4) (octets_written refl))).own
         (part_written (int64_written refl).own (part_written (int64_written refl).own
         (part_written (under_application 3 (omega arith) (count32_written refl)).own
         (part_written (sequence_of_written (binding1_written refl).own).own no_part_written))))))) };

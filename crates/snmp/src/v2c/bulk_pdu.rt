@@ -9,14 +9,13 @@
 //! ```
 //!
 //! The bounds of `request-id` lack a digit in the RFC: programs send numbers of 32 bits, and these are taken.
-ghost use Rattle.std.specs.Prelude.{◌≡◌, length, nat_lt, not, refl};
-ghost use Rattle.yasna_notation.specs.Bounded.{within_keeps, sizes_alike};
-ghost use Rattle.yasna_notation.specs.Canonical.{bounded_written, standing_written};
+ghost use Rattle.std.specs.Prelude.{◌≡◌, nat_lt, not, refl};
+ghost use Rattle.yasna_notation.specs.Canonical.{standing_written};
 ghost use Rattle.yasna_notation.specs.Laws.{standing_keeps, element_filled};
-ghost use Rattle.yasna_notation.specs.Making.{at_most, in_sequence, in_sequence_of, part};
+ghost use Rattle.yasna_notation.specs.Making.{at_most, in_sequence, in_sequence_of, part, list_sized};
 ghost use Rattle.yasna_notation.specs.Notation.{stands_for};
 ghost use Rattle.yasna_notation.specs.Parts.{no_parts};
-ghost use Rattle.yasna_notation.specs.Writing.{at_most_written, no_part_written, part_written, sequence_of_written, sequence_written};
+ghost use Rattle.yasna_notation.specs.Writing.{at_most_written, no_part_written, part_written, sequence_of_written, sequence_written, list_sized_written};
 ghost use Rattle.snmp.specs.contracts.v2c.var_bind.VarBindNotation.TheImpl.Laws.{keeps-law as binding};
 ghost use Rattle.snmp.specs.contracts.v2c.var_bind.VarBindCanonicalNotation.TheImpl.Laws.{written-law as binding_written};
 ghost use Rattle.yasna_notation.specs.contracts.simple.U64Notation.TheImpl.Laws.{keeps-law as count64};
@@ -24,12 +23,12 @@ ghost use Rattle.yasna_notation.specs.contracts.canonical.U64CanonicalNotation.T
 ghost use Rattle.yasna_notation.specs.contracts.simple.I32Notation.TheImpl.Laws.{keeps-law as int32};
 ghost use Rattle.yasna_notation.specs.contracts.canonical.I32CanonicalNotation.TheImpl.Laws.{written-law as int32_written};
 
-use crate::bounds::SizeAtMost;
 use crate::v2c::var_bind::VarBind;
 use yasna::tags::TAG_SEQUENCE;
 use yasna::{ASN1Result, BERReader, DERWriter, Tag};
 use yasna_notation::{
-    AtMost, Bounded, CanonicalNotation, Message, Notation, Sequence, SequenceOf, StandsFor, read_as,
+    AtMost, Bounded, CanonicalNotation, Message, Notation, Sequence, SequenceOf, SizeAtMost,
+    StandsFor, read_as,
 };
 
 type Repeaters = Bounded<u64, AtMost<2147483647>>;
@@ -99,8 +98,7 @@ impl Notation for BulkPdu {
 
     ghost keeps = { λ _. standing_keeps ⟦<BulkPdu as StandsFor<Fields>>⟧.value_of (in_sequence
         (part (int32 refl).own (part (at_most 2147483647 (count64 refl)).own (part (at_most 2147483647 (count64 refl)).own
-        (part (within_keeps (λ v. not (nat_lt 2147483647 (length v.items)))
-        (λ v w e. sizes_alike _ (λ k. not (nat_lt 2147483647 k)) v.items w.items e) (in_sequence_of (binding refl).own)).own no_parts))))) };
+        (part (list_sized (λ k. not (nat_lt 2147483647 k)) (in_sequence_of (binding refl).own)).own no_parts))))) };
 
     ghost filled = { λ u m v. element_filled _ _ _ _ };
 }
@@ -113,7 +111,6 @@ impl CanonicalNotation for BulkPdu {
     ghost written = { λ _. standing_written ⟦<BulkPdu as StandsFor<Fields>>⟧.value_of (sequence_written
         (part_written (int32_written refl).own (part_written (at_most_written 2147483647 (count64_written refl)).own
         (part_written (at_most_written 2147483647 (count64_written refl)).own
-        (part_written (bounded_written (λ v. not (nat_lt 2147483647 (length v.items)))
-        (λ v w e. sizes_alike _ (λ k. not (nat_lt 2147483647 k)) v.items w.items e)
+        (part_written (list_sized_written (λ k. not (nat_lt 2147483647 k))
         (sequence_of_written (binding_written refl).own)).own no_part_written))))) };
 }

@@ -8,14 +8,13 @@
 //! ```
 //!
 //! The data is a protocol data unit.
-ghost use Rattle.std.specs.Prelude.{◌≡◌, nat_eq, refl};
-ghost use Rattle.yasna_notation.specs.Bounded.{within_keeps, passes_alike};
-ghost use Rattle.yasna_notation.specs.Canonical.{bounded_written, standing_written};
+ghost use Rattle.std.specs.Prelude.{◌≡◌, refl};
+ghost use Rattle.yasna_notation.specs.Canonical.{standing_written};
 ghost use Rattle.yasna_notation.specs.Laws.{standing_keeps, element_filled};
-ghost use Rattle.yasna_notation.specs.Making.{in_sequence, part};
+ghost use Rattle.yasna_notation.specs.Making.{in_sequence, part, exactly, in_bound};
 ghost use Rattle.yasna_notation.specs.Notation.{stands_for};
 ghost use Rattle.yasna_notation.specs.Parts.{no_parts};
-ghost use Rattle.yasna_notation.specs.Writing.{no_part_written, part_written, sequence_written};
+ghost use Rattle.yasna_notation.specs.Writing.{no_part_written, part_written, sequence_written, bound_written};
 ghost use Rattle.yasna_notation.specs.contracts.simple.U64Notation.TheImpl.Laws.{keeps-law as count64};
 ghost use Rattle.yasna_notation.specs.contracts.canonical.U64CanonicalNotation.TheImpl.Laws.{written-law as count64_written};
 ghost use Rattle.yasna_notation.specs.contracts.strings.VecU8Notation.TheImpl.Laws.{keeps-law as octets};
@@ -23,11 +22,12 @@ ghost use Rattle.yasna_notation.specs.contracts.canonical.VecU8CanonicalNotation
 ghost use Rattle.snmp.specs.contracts.v2c.pdus.PdusNotation.TheImpl.Laws.{keeps-law as pdus};
 ghost use Rattle.snmp.specs.contracts.v2c.pdus.PdusCanonicalNotation.TheImpl.Laws.{written-law as pdus_written};
 
-use crate::bounds::Exactly;
 use crate::v2c::pdus::Pdus;
 use yasna::tags::TAG_SEQUENCE;
 use yasna::{ASN1Result, BERReader, DERWriter, Tag};
-use yasna_notation::{Bounded, CanonicalNotation, Message, Notation, Sequence, StandsFor, read_as};
+use yasna_notation::{
+    Bounded, CanonicalNotation, Exactly, Message, Notation, Sequence, StandsFor, read_as,
+};
 
 type Version = Bounded<u64, Exactly<1>>;
 
@@ -79,7 +79,7 @@ impl Notation for SnmpMessage {
     }
 
     ghost keeps = { λ _. standing_keeps ⟦<SnmpMessage as StandsFor<Fields>>⟧.value_of (in_sequence
-        (part (within_keeps (λ v. nat_eq v 1) (λ v w e. passes_alike (λ k. nat_eq k 1) e) (count64 refl)).own (part (octets refl).own
+        (part (in_bound (exactly 1) (count64 refl)).own (part (octets refl).own
         (part (pdus refl).own no_parts)))) };
 
     ghost filled = { λ u m v. element_filled _ _ _ _ };
@@ -91,6 +91,6 @@ impl Message for SnmpMessage {
 
 impl CanonicalNotation for SnmpMessage {
     ghost written = { λ _. standing_written ⟦<SnmpMessage as StandsFor<Fields>>⟧.value_of (sequence_written
-        (part_written (bounded_written (λ v. nat_eq v 1) (λ v w e. passes_alike (λ k. nat_eq k 1) e) (count64_written refl)).own
+        (part_written (bound_written (exactly 1) (count64_written refl)).own
         (part_written (octets_written refl).own (part_written (pdus_written refl).own no_part_written)))) };
 }

@@ -1,5 +1,5 @@
 use Rattle.std.proofs.Common.{rules}
-use Rattle.ldap.proofs.bounds.FromToBoundU64.lets.Goals as goal
+use Rattle.yasna_notation.proofs.bounds.FromToBoundU64.lets.Goals as goal
 
 pub returns-then-value : goal.returns-then-value
 returns-then-value c = search rules

@@ -1,5 +1,5 @@
 use Rattle.std.proofs.Common.{rules}
-use Rattle.yasna_notation.proofs.bounded.AtMostBoundU64.lets.Goals as goal
+use Rattle.yasna_notation.proofs.bounds.AtMostBoundU64.lets.Goals as goal
 
 pub returns : goal.returns
 returns c = search rules
