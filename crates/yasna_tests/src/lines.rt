@@ -5,6 +5,7 @@ use std::alloc::{AllocError, Global};
 use yasna::BERMode;
 use yasna_lines::{Form, show};
 use yasna_listing::fault::Fault;
+use yasna_listing::listing::{Place, Rules, is_one_element};
 
 // What was written, and what ended the run if something did.
 #[derive(Drop)]
@@ -345,4 +346,31 @@ fn are_refused(alloc: Global) -> [bool; 3] {
 fn refusals(rt: HostRuntime) {
     finds_none(&rt, first_other_fault(rt.alloc()));
     all_hold(&rt, &are_refused(rt.alloc()));
+}
+
+// Whether such contents of a string are one element.
+fn are_one(contents: &[u8]) -> bool {
+    let rules = Rules {
+        mode: BERMode::Ber,
+        levels: 101,
+        is_within: true,
+    };
+    let place = Place {
+        left: contents,
+        offset: 0,
+    };
+    is_one_element(rules, place)
+}
+
+/// Contents of a string are looked into where they are one element down to the primitive ones, and nothing stands behind it.
+#[test]
+fn elements_in_strings(rt: HostRuntime) {
+    let outcomes = [
+        are_one(&[2, 1, 10]),
+        are_one(&[48, 128, 5, 0, 0, 0]),
+        !are_one(&[]),
+        !are_one(&[2, 1, 10, 0]),
+        !are_one(&[48, 2, 2, 1]),
+    ];
+    all_hold(&rt, &outcomes);
 }

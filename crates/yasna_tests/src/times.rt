@@ -207,6 +207,19 @@ fn is_past_the_last_year(alloc: Global) -> bool {
     }
 }
 
+// The first second of the year 0, in such a zone.
+fn at_the_first_year(alloc: Global, ahead: i32) -> Option<GeneralizedTime> {
+    let local = date_time((0, 1, 1), (0, 0, 0), 0)?;
+    GeneralizedTime::from_datetime_opt(alloc, local, offset(ahead)?)
+}
+
+fn is_in_the_first_year(alloc: Global) -> bool {
+    match at_the_first_year(alloc, 0) {
+        Some(first) => is_shown_as(alloc, &first, "00000101000000Z"),
+        None => false,
+    }
+}
+
 fn is_noon_remade(noon: &UTCTime) -> bool {
     remade_utc_time(noon) == *noon
 }
@@ -238,7 +251,7 @@ fn is_made_without_second_60(alloc: Global, time: &[u8], text: &str) -> bool {
 }
 
 // A time that is made of the parts of another says the same, but for a second 60.
-fn are_made_of_parts(alloc: Global, noon: &UTCTime) -> [bool; 10] {
+fn are_made_of_parts(alloc: Global, noon: &UTCTime) -> [bool; 12] {
     let sixty = b"19981231235960.1234567891Z";
     let shown = "19981231235959.1234567891Z";
     [
@@ -248,6 +261,8 @@ fn are_made_of_parts(alloc: Global, noon: &UTCTime) -> [bool; 10] {
         noon_ahead_is_shown_as(alloc, noon, "19820102110000Z"),
         is_noon_without_seconds(b"8201021200Z"),
         is_past_the_last_year(alloc),
+        is_in_the_first_year(alloc),
+        at_the_first_year(alloc, 1).is_none(),
         is_noon_remade(noon),
         noon_is_shown_as(alloc, noon, "19820102120000Z"),
         is_same_without_second_60(alloc, DIGITS.as_bytes()),
@@ -256,10 +271,10 @@ fn are_made_of_parts(alloc: Global, noon: &UTCTime) -> [bool; 10] {
 }
 
 // Without a noon none of them.
-fn are_made_of_noon(alloc: Global) -> [bool; 10] {
+fn are_made_of_noon(alloc: Global) -> [bool; 12] {
     match noon() {
         Some(noon) => are_made_of_parts(alloc, &noon),
-        None => [false; 10],
+        None => [false; 12],
     }
 }
 
