@@ -4,12 +4,16 @@
 //!
 //! | Module | Holds |
 //! |---|---|
-//! | `input` | bytes from hexadecimal text and PEM |
+//! | `form` | in which form an input is |
+//! | `digits` | bytes from digits, in hexadecimal and in base64 |
+//! | `pem` | blocks of PEM |
 //! | `lines` | an input from its text to its lines |
 #![tactic(auto)]
 
-mod input;
+mod digits;
+mod form;
 mod lines;
+mod pem;
 
-pub use input::Form;
+pub use form::Form;
 pub use lines::show;

@@ -1,12 +1,17 @@
 //! An input from its text to its lines.
 ghost use Rattle.std.specs.Prelude.{◌≡◌, ◌≤◌, length, IfErr, OnOk, Some};
 ghost use Rattle.yasna_base.specs.Raw.{IsRaw, IsJoining};
+ghost use Rattle.yasna_lines.specs.Input.{IsTakenAs, SaysElements, SaysNone};
+ghost use Rattle.yasna_lines.specs.Reader.{GoesOn, NeverComes};
+ghost use Rattle.yasna_lines.specs.declared.form.Form.{Form};
+ghost use Rattle.yasna_lines.specs.declared.form.Form.TheVariants.{Bytes, Hex, Pem};
 ghost use Rattle.yasna_listing.specs.Faults.{OfDevice, Unheard};
 ghost use Rattle.yasna_listing.specs.Reading.{NoElements};
 ghost use Rattle.yasna_listing.specs.WellFormed.{AreElements};
-ghost use Rattle.yasna_lines.specs.declared.input.Form.TheVariants.{Bytes};
 
-use crate::input::{Block, Form, PemReader, decode_hex, form_of, is_line_end};
+use crate::digits::decode_hex;
+use crate::form::{Form, form_of};
+use crate::pem::{Block, PemReader, cut_line};
 use std::alloc::Global;
 use std::io::Write;
 use yasna_base::mode::BERMode;
@@ -73,7 +78,10 @@ fn show_block<W: Write>(
     mode: BERMode,
     style: Style<'_>,
     block: &Block<'_>,
-) -> Result<(), Fault> {
+) -> Result<(), Fault>
+    ensures elements { OnOk result (AreElements 101 mode block.now.bytes.items) }
+    ensures unheard { IfErr result (λ f. Unheard OfDevice (NoElements 101 mode block.now.bytes.items) f) }
+{
     let line = block_line(style.alloc, block.label);
     show_counted(out, mode, style, line, block.bytes.as_slice())
 }
@@ -85,10 +93,14 @@ fn show_line<'a, W: Write>(
     style: Style<'_>,
     reader: &mut PemReader<'a>,
     line: &'a [u8],
-) -> Result<(), Fault> {
-    match reader.push(line)? {
-        Some(block) => show_block(out, mode, style, &block),
-        None => Ok(()),
+) -> Result<(), Fault>
+    ensures goes_on { OnOk result (GoesOn (AreElements 101 mode) reader.old line.now reader.new) }
+    ensures unheard { IfErr result (λ f. Unheard OfDevice (λ offset kind. NeverComes (AreElements 101 mode) reader.old line.now) f) }
+{
+    match reader.push(line) {
+        Ok(Some(block)) => show_block(out, mode, style, &block),
+        Ok(None) => Ok(()),
+        Err(fault) => Err(fault),
     }
 }
 
@@ -97,10 +109,18 @@ fn show_blocks<W: Write>(
     mode: BERMode,
     style: Style<'_>,
     input: &[u8],
-) -> Result<(), Fault> {
+) -> Result<(), Fault>
+    ensures says { OnOk result (SaysElements mode Pem input.now) }
+    ensures unheard { IfErr result (λ f. Unheard OfDevice (SaysNone mode Pem input.now) f) }
+{
     let mut reader = PemReader::new(style.alloc);
-    for line in input.split(is_line_end) {
-        show_line(out, mode, style, &mut reader, line)?;
+    let mut left = Some(input);
+    while let Some(text) = left {
+        let (line, behind) = cut_line(text);
+        if let Err(fault) = show_line(out, mode, style, &mut reader, line) {
+            return Err(fault);
+        }
+        left = behind;
     }
     reader.finish(input.len())
 }
@@ -110,7 +130,10 @@ fn show_hex<W: Write>(
     mode: BERMode,
     style: Style<'_>,
     input: &[u8],
-) -> Result<(), Fault> {
+) -> Result<(), Fault>
+    ensures says { OnOk result (SaysElements mode Hex input.now) }
+    ensures unheard { IfErr result (λ f. Unheard OfDevice (SaysNone mode Hex input.now) f) }
+{
     let bytes = decode_hex(style.alloc, input)?;
     let line = line_of(style.alloc, "input: hexadecimal, ");
     show_counted(out, mode, style, line, bytes.as_slice())
@@ -125,9 +148,8 @@ fn show_form<W: Write>(
     input: &[u8],
 ) -> Result<(), Fault>
     ensures raw { OnOk result (form ≡ Bytes → IsJoining (IsRaw 101 mode) input.now) }
-    ensures some { OnOk result (form ≡ Bytes → 1 ≤ length input.now) }
-    ensures elements { OnOk result (form ≡ Bytes → AreElements 101 mode input.now) }
-    ensures unheard { form ≡ Bytes → IfErr result (λ f. Unheard OfDevice (NoElements 101 mode input.now) f) }
+    ensures says { OnOk result (SaysElements mode form input.now) }
+    ensures unheard { IfErr result (λ f. Unheard OfDevice (SaysNone mode form input.now) f) }
 {
     match form {
         Form::Pem => show_blocks(out, mode, style, input),
@@ -139,7 +161,8 @@ fn show_form<W: Write>(
 /// Lists the elements of an input by the rules of a mode, with at most `width` hexadecimal digits of a value. Where no form is given,
 /// what stands there tells it.
 ///
-/// Where the form is that of bytes, a fault that isn't of the device says that they aren't one or more elements down to the primitive ones.
+/// It answers Ok only where the input in this form says one or more elements down to the primitive ones, in PEM each of one or more blocks. A
+/// fault that isn't of the device says that it doesn't.
 pub fn show<W: Write>(
     alloc: Global,
     out: &mut W,
@@ -148,10 +171,9 @@ pub fn show<W: Write>(
     width: usize,
     input: &[u8],
 ) -> Result<(), Fault>
-    ensures raw { OnOk result (form ≡ Some Bytes → IsJoining (IsRaw 101 mode) input.now) }
-    ensures some { OnOk result (form ≡ Some Bytes → 1 ≤ length input.now) }
-    ensures elements { OnOk result (form ≡ Some Bytes → AreElements 101 mode input.now) }
-    ensures unheard { form ≡ Some Bytes → IfErr result (λ f. Unheard OfDevice (NoElements 101 mode input.now) f) }
+    ensures raw { OnOk result (IsTakenAs form input.now Bytes → IsJoining (IsRaw 101 mode) input.now) }
+    ensures says { (taken : Form) → IsTakenAs form input.now taken → OnOk result (SaysElements mode taken input.now) }
+    ensures unheard { (taken : Form) → IsTakenAs form input.now taken → IfErr result (λ f. Unheard OfDevice (SaysNone mode taken input.now) f) }
 {
     let names = Names::new(alloc)?;
     let style = Style {

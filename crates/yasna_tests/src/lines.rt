@@ -348,6 +348,33 @@ fn refusals(rt: HostRuntime) {
     all_hold(&rt, &are_refused(rt.alloc()));
 }
 
+// A block of PEM with so many groups of digits in front of one that is padded, and a further group behind.
+fn padded_within(alloc: Global, count: usize) -> Result<String, AllocError> {
+    let mut input = String::from_str(alloc, "-----BEGIN X-----\n")?;
+    input.push_str("BAFB".repeat(alloc, count)?.as_str())?;
+    input.push_str("QQ==QUFB\n-----END X-----\n")?;
+    Ok(input)
+}
+
+// Whether it is refused at this offset, behind its last line.
+fn is_padding_refused(alloc: Global, count: usize, said: &str) -> bool {
+    match padded_within(alloc, count) {
+        Ok(input) => is_said(alloc, &input, said),
+        Err(_) => false,
+    }
+}
+
+/// Base64 is padded at its end alone, however much of it stands in front.
+#[test]
+fn padding(rt: HostRuntime) {
+    let alloc = rt.alloc();
+    let outcomes = [
+        is_padding_refused(alloc, 0, "offset 42: Invalid: expected base64"),
+        is_padding_refused(alloc, 1023, "offset 4134: Invalid: expected base64"),
+    ];
+    all_hold(&rt, &outcomes);
+}
+
 // Whether such contents of a string are one element.
 fn are_one(contents: &[u8]) -> bool {
     let rules = Rules {

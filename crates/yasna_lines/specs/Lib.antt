@@ -1,0 +1,4 @@
+pub mod Text
+pub mod Blocks
+pub mod Input
+pub mod Reader
