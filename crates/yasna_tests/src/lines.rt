@@ -389,7 +389,8 @@ fn are_one(contents: &[u8]) -> bool {
     is_one_element(rules, place)
 }
 
-/// Contents of a string are looked into where they are one element down to the primitive ones, and nothing stands behind it.
+/// Bytes are one element down to the primitive ones where one stands there, each constructed one in it holds such elements, and nothing
+/// stands behind it.
 #[test]
 fn elements_in_strings(rt: HostRuntime) {
     let outcomes = [
