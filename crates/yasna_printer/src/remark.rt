@@ -1,4 +1,5 @@
 //! What is said behind a line, and in which encoding rules the whole is.
+ghost use Rattle.std.specs.Prelude.{◌≡◌, if◌then◌else◌, Some, None};
 
 use yasna_base::mode::BERMode;
 
@@ -84,7 +85,9 @@ impl Remark {
 }
 
 /// The remark, where this isn't so.
-pub fn unless(is_so: bool, remark: Remark) -> Option<Remark> {
+pub fn unless(is_so: bool, remark: Remark) -> Option<Remark>
+    ensures { result ≡ if is_so then None else Some remark }
+{
     if is_so { None } else { Some(remark) }
 }
 

@@ -1,4 +1,8 @@
 //! What primitive elements say.
+ghost use Rattle.std.specs.Prelude.{◌≡◌, ◌↔◌, ◌∷◌, [], false, IsTrue};
+ghost use Rattle.yasna_base.specs.Integer.{IsMinimal};
+ghost use Rattle.yasna_printer.specs.Contents.{AreCharacters, Tells, lacks_memory};
+ghost use Rattle.yasna_printer.specs.declared.kind.Kind.TheVariants.{Bits, Boolean, GeneralizedTime, Text};
 
 mod arcs;
 mod number;
@@ -16,7 +20,7 @@ use octets::{are_bits, is_padding_clear, write_bits, write_octets};
 use std::alloc::Global;
 use std::str;
 pub use text::write_quoted;
-use text::{are_wide, write_utf8, write_wide};
+use text::{are_pairs, are_quads, write_utf8, write_wide};
 use time::{write_generalized_time, write_utc_time};
 use yasna_base::text::{is_ia5, is_numeric, is_printable, is_visible};
 
@@ -31,22 +35,31 @@ pub struct Style<'n> {
     pub width: usize,
 }
 
-fn write_boolean(line: &mut Line, contents: &[u8]) -> Option<Remark> {
+// Writes the one octet of a BOOLEAN, and tells whether it is in its one form.
+fn write_truth(line: &mut Line, octet: u8) -> Option<Remark>
+    ensures { Tells Boolean (octet ∷ []) result }
+{
+    if octet == 0 {
+        line.write_str("FALSE");
+        return None;
+    }
+    line.write_str("TRUE");
+    unless(octet == 255, Remark::Truth)
+}
+
+fn write_boolean(line: &mut Line, contents: &[u8]) -> Option<Remark>
+    ensures { Tells Boolean contents.now result }
+{
     match contents {
-        [0] => {
-            line.write_str("FALSE");
-            None
-        }
-        [value] => {
-            line.write_str("TRUE");
-            unless(*value == 255, Remark::Truth)
-        }
+        [octet] => write_truth(line, *octet),
         _ => Some(Remark::Boolean),
     }
 }
 
 // Whether contents are those of a number in two's complement (X.690, 8.3.2).
-fn are_number(contents: &[u8]) -> bool {
+fn are_number(contents: &[u8]) -> bool
+    ensures { IsTrue result ↔ IsMinimal contents.now }
+{
     match contents {
         [] => false,
         [0, second, ..] => *second >= 128,
@@ -56,20 +69,24 @@ fn are_number(contents: &[u8]) -> bool {
 }
 
 // Whether octets are a text of these characters.
-fn are_characters(characters: Characters, octets: &[u8]) -> bool {
+fn are_characters(characters: Characters, octets: &[u8]) -> bool
+    ensures { IsTrue result ↔ AreCharacters characters octets.now }
+{
     match characters {
         Characters::Utf8 => str::from_utf8(octets).is_ok(),
         Characters::Numeric => is_numeric(octets),
         Characters::Printable => is_printable(octets),
         Characters::Ia5 => is_ia5(octets),
         Characters::Visible => is_visible(octets),
-        Characters::Bmp => are_wide(octets, 2),
-        Characters::Universal => are_wide(octets, 4),
+        Characters::Bmp => are_pairs(octets),
+        Characters::Universal => are_quads(octets),
         Characters::Other => true,
     }
 }
 
-fn write_text(line: &mut Line, characters: Characters, octets: &[u8]) -> Option<Remark> {
+fn write_text(line: &mut Line, characters: Characters, octets: &[u8]) -> Option<Remark>
+    ensures { Tells (Text characters) octets.now result }
+{
     match characters {
         Characters::Utf8 => write_utf8(line, octets),
         Characters::Bmp => write_wide(line, octets, 2),
@@ -79,7 +96,9 @@ fn write_text(line: &mut Line, characters: Characters, octets: &[u8]) -> Option<
     unless(are_characters(characters, octets), Remark::Characters)
 }
 
-fn write_bit_string(line: &mut Line, style: Style<'_>, contents: &[u8]) -> Option<Remark> {
+fn write_bit_string(line: &mut Line, style: Style<'_>, contents: &[u8]) -> Option<Remark>
+    ensures { Tells Bits contents.now result }
+{
     write_bits(line, style.alloc, contents, style.width);
     if are_bits(contents) {
         return unless(is_padding_clear(contents), Remark::Padding);
@@ -98,7 +117,9 @@ fn write_integer_or_octets(line: &mut Line, style: Style<'_>, contents: &[u8]) {
 }
 
 // Writes a time, where there was memory to read it.
-fn write_time(line: &mut Line, alloc: Global, contents: &[u8]) -> Option<Remark> {
+fn write_time(line: &mut Line, alloc: Global, contents: &[u8]) -> Option<Remark>
+    ensures { lacks_memory line.new ≡ false → Tells GeneralizedTime contents.now result }
+{
     match write_generalized_time(line, alloc, contents) {
         Ok(remark) => remark,
         Err(_) => {
@@ -109,12 +130,9 @@ fn write_time(line: &mut Line, alloc: Global, contents: &[u8]) -> Option<Remark>
 }
 
 /// Writes what the contents of a primitive element of this kind say, and tells what is wrong with them.
-pub fn write_value(
-    line: &mut Line,
-    style: Style<'_>,
-    kind: Kind,
-    contents: &[u8],
-) -> Option<Remark> {
+pub fn write_value(line: &mut Line, style: Style<'_>, kind: Kind, contents: &[u8]) -> Option<Remark>
+    ensures { lacks_memory line.new ≡ false → Tells kind contents.now result }
+{
     let Style {
         alloc,
         names,

@@ -1,4 +1,6 @@
 //! Object identifiers with their dots (X.690, 8.19 and 8.20).
+ghost use Rattle.std.specs.Prelude.{◌≡◌, ◌↔◌, nat_lt, IsTrue};
+ghost use Rattle.yasna_printer.specs.Contents.{AreComponents};
 
 use crate::line::Line;
 use crate::names::Names;
@@ -13,17 +15,24 @@ const LONGEST_COMPONENT: usize = 64;
 const LONGEST_NAMED: usize = 32;
 
 // Whether a component ends with this octet.
-fn is_last(octet: &u8) -> bool {
+fn is_last(octet: &u8) -> bool
+    ensures { result ≡ nat_lt octet.now 128 }
+{
     *octet < 128
 }
 
 /// Whether contents are one or more components, each in the fewest octets.
-pub fn are_components(contents: &[u8]) -> bool {
-    let is_last_whole = contents.last().copied().unwrap_or(128) < 128;
-    is_last_whole
-        && contents
-            .split_inclusive(is_last)
-            .all(|component| component.first() != Some(&128))
+pub fn are_components(contents: &[u8]) -> bool
+    ensures { IsTrue result ↔ AreComponents contents.now }
+{
+    let mut begins = true;
+    for octet in contents {
+        if begins && *octet == 128 {
+            return false;
+        }
+        begins = is_last(octet);
+    }
+    begins && !contents.is_empty()
 }
 
 fn write_component(line: &mut Line, alloc: Global, component: &[u8]) {

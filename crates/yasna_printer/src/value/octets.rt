@@ -1,4 +1,7 @@
 //! Octets and bits in hexadecimal, as X.680 writes them.
+ghost use Rattle.std.specs.Prelude.{◌↔◌, IsTrue};
+ghost use Rattle.yasna_base.specs.declared.mode.BERMode.TheVariants.{Ber, Der};
+ghost use Rattle.yasna_printer.specs.Contents.{AreBits};
 
 use crate::line::Line;
 use std::alloc::Global;
@@ -39,7 +42,9 @@ pub fn write_bits(line: &mut Line, alloc: Global, contents: &[u8], width: usize)
 }
 
 /// Whether contents are those of a BIT STRING: a count of unused bits, and octets that have as many.
-pub fn are_bits(contents: &[u8]) -> bool {
+pub fn are_bits(contents: &[u8]) -> bool
+    ensures { IsTrue result ↔ AreBits Ber contents.now }
+{
     match contents {
         [] => false,
         [unused] => *unused == 0,
@@ -48,9 +53,11 @@ pub fn are_bits(contents: &[u8]) -> bool {
 }
 
 /// Whether the unused bits of a BIT STRING are zeros.
-pub fn is_padding_clear(contents: &[u8]) -> bool {
+pub fn is_padding_clear(contents: &[u8]) -> bool
+    ensures { AreBits Ber contents.now → (IsTrue result ↔ AreBits Der contents.now) }
+{
     match contents {
-        [unused, .., last] if *unused < 8 => last.trailing_zeros() >= u32::from(*unused),
+        [unused, .., last] if *unused < 8 => *last % (1 << *unused) == 0,
         _ => true,
     }
 }

@@ -1,6 +1,7 @@
 //! Texts, quoted, with escapes for what a terminal must not get.
 
-ghost use Rattle.std.specs.Prelude.{◌<◌};
+ghost use Rattle.std.specs.Prelude.{◌<◌, ◌↔◌, IsTrue};
+ghost use Rattle.yasna_printer.specs.Contents.{AreWide, pairs, quads};
 
 use crate::line::Line;
 use std::str;
@@ -132,11 +133,32 @@ pub fn write_wide(line: &mut Line, octets: &[u8], size: usize)
     line.write_str("\"")
 }
 
-/// Whether octets are characters of so many octets each, and none is a surrogate or too large.
-pub fn are_wide(octets: &[u8], size: usize) -> bool
-    requires { 0 < size }
+/// Whether octets are characters of two octets each, the highest first, and none is a surrogate.
+pub fn are_pairs(octets: &[u8]) -> bool
+    ensures { IsTrue result ↔ AreWide 2 pairs octets.now }
 {
-    octets.chunks(size).all(|character| {
-        character.len() == size && char::from_u32(code_of(character)).is_some()
-    })
+    let mut left = octets;
+    while let [high, low, behind @ ..] = left {
+        let code = u16::from_be_bytes([*high, *low]);
+        if char::from_u32(u32::from(code)).is_none() {
+            return false;
+        }
+        left = behind;
+    }
+    left.is_empty()
+}
+
+/// Whether octets are characters of four octets each, the highest first: none is a surrogate or too large.
+pub fn are_quads(octets: &[u8]) -> bool
+    ensures { IsTrue result ↔ AreWide 4 quads octets.now }
+{
+    let mut left = octets;
+    while let [a, b, c, d, behind @ ..] = left {
+        let code = u32::from_be_bytes([*a, *b, *c, *d]);
+        if char::from_u32(code).is_none() {
+            return false;
+        }
+        left = behind;
+    }
+    left.is_empty()
 }

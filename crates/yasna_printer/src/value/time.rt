@@ -1,4 +1,8 @@
 //! Times as ISO 8601 writes them (X.680, 46 and 47).
+ghost use Rattle.std.specs.Prelude.{◌≡◌, if◌then◌else◌, Some, None, is_some, IfOk};
+ghost use Rattle.yasna_printer.specs.Contents.{Tells};
+ghost use Rattle.yasna_printer.specs.declared.kind.Kind.TheVariants.{GeneralizedTime as OfGeneralizedTime, UtcTime as OfUtcTime};
+ghost use Rattle.yasna_printer.specs.declared.remark.Remark.TheVariants.{Local, NoTime, Time};
 
 use crate::line::Line;
 use crate::remark::{Remark, unless};
@@ -6,19 +10,25 @@ use crate::value::text::write_quoted;
 use std::alloc::{AllocError, Global};
 use yasna_times::models::{GeneralizedTime, Offset, UTCTime};
 
-fn write_no_time(line: &mut Line, octets: &[u8]) -> Option<Remark> {
+fn write_no_time(line: &mut Line, octets: &[u8]) -> Option<Remark>
+    ensures { result ≡ Some NoTime }
+{
     write_quoted(line, octets);
     Some(Remark::NoTime)
 }
 
 // Ends a time in UTC, and tells whether it is in its one form.
-fn end_in_utc(line: &mut Line, is_canonical: bool) -> Option<Remark> {
+fn end_in_utc(line: &mut Line, is_canonical: bool) -> Option<Remark>
+    ensures { result ≡ if is_canonical then None else Some Time }
+{
     line.write_str("Z");
     unless(is_canonical, Remark::Time)
 }
 
 /// Writes a UTCTime, and tells what is wrong with it.
-pub fn write_utc_time(line: &mut Line, octets: &[u8]) -> Option<Remark> {
+pub fn write_utc_time(line: &mut Line, octets: &[u8]) -> Option<Remark>
+    ensures { Tells OfUtcTime octets.now result }
+{
     let Some(time) = UTCTime::parse(octets) else {
         return write_no_time(line, octets);
     };
@@ -41,7 +51,9 @@ fn write_local_time(
     line: &mut Line,
     octets: &[u8],
     parsed: Option<GeneralizedTime>,
-) -> Option<Remark> {
+) -> Option<Remark>
+    ensures { result ≡ if is_some parsed then Some Local else Some NoTime }
+{
     let Some(time) = parsed else {
         return write_no_time(line, octets);
     };
@@ -54,7 +66,9 @@ pub fn write_generalized_time(
     line: &mut Line,
     alloc: Global,
     octets: &[u8],
-) -> Result<Option<Remark>, AllocError> {
+) -> Result<Option<Remark>, AllocError>
+    ensures { IfOk result (λ r. Tells OfGeneralizedTime octets.now r) }
+{
     let Some(time) = GeneralizedTime::parse(alloc, octets)? else {
         let parsed = GeneralizedTime::parse_with_offset(alloc, octets, Offset::UTC)?;
         return Ok(write_local_time(line, octets, parsed));
