@@ -1,4 +1,4 @@
-use Rattle.std.proofs.Common.{rules, ◌∷◌, [], eqb, subst, sym}
+use Rattle.std.proofs.Common.{rules, ◌∷◌, [], subst, sym}
 use Rattle.yasna_printer.specs.Contents.{Tells}
 use Rattle.yasna_printer.specs.declared.kind.Kind.TheVariants.{Boolean}
 use Rattle.yasna_printer.proofs.Contents.{truth_told}
@@ -7,4 +7,4 @@ use Rattle.yasna_printer.proofs.value.write_truth.Goals as goal
 pub returns : goal.returns
 returns c =
     subst (Tells Boolean (c.args.octet ∷ [])) (sym c.unless.ensures)
-    (truth_told c.args.octet (search rules) (search rules) (eqb c.args.octet 255) (search rules) (search rules))
+    (truth_told c.args.octet (search rules) (search rules) _ (search rules) (search rules))
