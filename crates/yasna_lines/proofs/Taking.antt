@@ -2,6 +2,11 @@
 use Rattle.std.proofs.Common.{◌≡◌, ◌≢◌, ◌⊎◌, inl, inr, ◌↔◌, ℕ, ◌≤◌, List, [], ◌∷◌, length, refl, ap, sym, subst, arith, Bool, true, false, Option, Some, None, Result, Ok, Err, MatchResult}
 use Rattle.std.specs.Prelude.{IsOkAnd, OnOk, IfOk, IfErr, unwrap_or}
 use Rattle.yasna_lines.specs.Blocks.{SayBlocks}
+use Rattle.yasna_base.specs.declared.error.ASN1ErrorKind.{ASN1ErrorKind}
+use Rattle.yasna_listing.specs.Faults.{OfDevice, Unheard}
+use Rattle.yasna_listing.specs.declared.fault.Fault.{Fault}
+use Rattle.yasna_listing.proofs.Unheard.{unheard_by}
+use Rattle.yasna_lines.specs.Text.{OfMemory}
 use Rattle.yasna_lines.specs.Reader.{AwaitsFrom, Awaits, Takes, SaysNothing, open_digits, has_any, outside, begins, within, ends}
 use Rattle.yasna_lines.specs.declared.pem.PemReader.{PemReader}
 use Rattle.yasna_lines.proofs.Blocks.{awaits_outside, awaits_begun, awaits_within, awaits_ended, awaits_nothing, none_left}
@@ -24,6 +29,15 @@ err_by_map (Err e) m N Q h n f = subst (λ z. IfErr z Q) (sym h) (f e n)
 pub on_ok_both : {T E : Type 0} (r : Result T E) {A B C : Type 0} → OnOk r A → OnOk r B → (A → B → C) → OnOk r C
 on_ok_both (Ok x) a b f = f a b
 on_ok_both (Err e) a b f = tt
+
+-- ---- want of memory is of the device
+of_device : (f : Fault) → OfMemory f → OfDevice f
+of_device f e = subst OfDevice (sym e) tt
+
+pub from_memory : {P Q : ℕ → ASN1ErrorKind → Type 0} (f : Fault) → ((o : ℕ) (k : ASN1ErrorKind) → P o k → Q o k) → Unheard OfMemory P f →
+    Unheard OfDevice Q f
+from_memory f g (inl e) = inl (of_device f e)
+from_memory f g (inr x) = unheard_by OfDevice f g (inr x)
 
 -- ---- one line
 module _ (P : List ℕ → Type 0) (old new : PemReader) (line : List ℕ) (rest : List (List ℕ)) where

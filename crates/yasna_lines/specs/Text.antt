@@ -6,6 +6,12 @@ use Rattle.base64.specs.Engines.{standard}
 use Rattle.base64.specs.GeneralPurpose.{decode_of as base64_of}
 use Rattle.yasna_base.specs.declared.error.ASN1ErrorKind.{ASN1ErrorKind}
 use Rattle.yasna_base.specs.declared.error.ASN1ErrorKind.TheVariants.{Invalid}
+use Rattle.yasna_listing.specs.declared.fault.Fault.{Fault}
+use Rattle.yasna_listing.specs.declared.fault.Fault.TheVariants.{Memory}
+
+-- there was no memory
+abbrev pub OfMemory : Fault → Type 0
+OfMemory f = f ≡ Memory
 
 -- what may stand between digits: a space, a line end or a colon
 abbrev pub is_between : ℕ → Bool

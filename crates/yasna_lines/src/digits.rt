@@ -1,8 +1,8 @@
 //! Bytes from digits, in hexadecimal and in base64 (RFC 4648, 4).
 ghost use Rattle.std.specs.Prelude.{◌≡◌, ◌++◌, IfOk, IfErr, OnOk};
 ghost use Rattle.yasna_base.specs.declared.error.ASN1ErrorKind.TheVariants.{Invalid};
-ghost use Rattle.yasna_lines.specs.Text.{digits_of, is_between, Base64Says, IsHex, IsNoBase64, IsNoHex};
-ghost use Rattle.yasna_listing.specs.Faults.{OfDevice, Unheard};
+ghost use Rattle.yasna_lines.specs.Text.{digits_of, is_between, Base64Says, IsHex, IsNoBase64, IsNoHex, OfMemory};
+ghost use Rattle.yasna_listing.specs.Faults.{Unheard};
 ghost use Rattle.yasna_listing.specs.declared.fault.Fault.TheVariants.{Broken};
 
 use base64::DecodeAllocError;
@@ -45,7 +45,7 @@ fn broken(offset: usize, expected: Expected) -> Fault
 /// The bytes that text says in hexadecimal.
 pub fn decode_hex(alloc: Global, text: &[u8]) -> Result<Vec<u8>, Fault>
     ensures ok { IfOk result (λ bytes. IsHex text.now bytes.items) }
-    ensures broken { IfErr result (λ f. Unheard OfDevice (IsNoHex text.now) f) }
+    ensures broken { IfErr result (λ f. Unheard OfMemory (IsNoHex text.now) f) }
 {
     let mut digits = Vec::new(alloc);
     push_digits(&mut digits, text)?;
@@ -59,7 +59,7 @@ pub fn decode_hex(alloc: Global, text: &[u8]) -> Result<Vec<u8>, Fault>
 /// The bytes that digits say in base64, which end at this offset.
 pub fn decode_base64(alloc: Global, digits: &[u8], offset: usize) -> Result<Vec<u8>, Fault>
     ensures ok { IfOk result (λ bytes. Base64Says digits.now bytes.items) }
-    ensures broken { IfErr result (λ f. Unheard OfDevice (IsNoBase64 digits.now offset) f) }
+    ensures broken { IfErr result (λ f. Unheard OfMemory (IsNoBase64 digits.now offset) f) }
 {
     match STANDARD.decode(alloc, digits) {
         Ok(bytes) => Ok(bytes),

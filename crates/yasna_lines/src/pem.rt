@@ -3,8 +3,8 @@ ghost use Rattle.std.specs.Prelude.{◌≡◌, ◌≢◌, ◌<◌, ◌∷◌, �
 ghost use Rattle.yasna_base.specs.declared.error.ASN1ErrorKind.TheVariants.{Eof};
 ghost use Rattle.yasna_lines.specs.Blocks.{Begins, BeginsBlock, lines_left, lines_of};
 ghost use Rattle.yasna_lines.specs.Reader.{Takes, SaysNothing, digits_in, has_any, open_digits};
-ghost use Rattle.yasna_lines.specs.Text.{Base64Says, IsNoBase64};
-ghost use Rattle.yasna_listing.specs.Faults.{IsBroken, OfDevice, Unheard};
+ghost use Rattle.yasna_lines.specs.Text.{Base64Says, IsNoBase64, OfMemory};
+ghost use Rattle.yasna_listing.specs.Faults.{IsBroken, Unheard};
 ghost use Rattle.yasna_listing.specs.declared.fault.Fault.TheVariants.{Broken};
 
 use crate::digits::{decode_base64, push_digits};
@@ -78,7 +78,7 @@ impl<'a> OpenBlock<'a> {
     // The whole block, whose last line ends at this offset.
     fn end(self, alloc: Global, offset: usize) -> Result<Block<'a>, Fault>
         ensures ok { IfOk result (λ block. Base64Says self.entry.digits.items block.bytes.items) }
-        ensures broken { IfErr result (λ f. Unheard OfDevice (IsNoBase64 self.entry.digits.items offset) f) }
+        ensures broken { IfErr result (λ f. Unheard OfMemory (IsNoBase64 self.entry.digits.items offset) f) }
     {
         let OpenBlock { label, digits } = self;
         let bytes = decode_base64(alloc, digits.as_slice(), offset)?;
@@ -134,7 +134,7 @@ impl<'a> PemReader<'a> {
     /// Takes a line, and gives the block that ends with it.
     pub fn push(&mut self, line: &'a [u8]) -> Result<Option<Block<'a>>, Fault>
         ensures takes { IfOk result (λ block. Takes self.old line.now (option_map (λ b. b.bytes.items) block) self.new) }
-        ensures broken { IfErr result (λ f. Unheard OfDevice (λ at kind. SaysNothing self.old line.now) f) }
+        ensures broken { IfErr result (λ f. Unheard OfMemory (λ at kind. SaysNothing self.old line.now) f) }
     {
         let offset = self.pass(line);
         let Some(mut block) = self.block.take() else {

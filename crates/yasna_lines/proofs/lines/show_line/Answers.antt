@@ -2,7 +2,7 @@ use Rattle.std.proofs.lemmas.Result.{IfErr-weaker, IfOk-weaker}
 use Rattle.yasna_listing.specs.Faults.{OfDevice}
 use Rattle.yasna_listing.specs.WellFormed.{AreElements}
 use Rattle.yasna_listing.proofs.Unheard.{unheard_by}
-use Rattle.yasna_lines.proofs.Taking.{goes_on, goes_on_behind, ends_there, says_nothing}
+use Rattle.yasna_lines.proofs.Taking.{from_memory, goes_on, goes_on_behind, ends_there, says_nothing}
 use Rattle.yasna_lines.proofs.lines.show_line.Goals as goal
 
 pub returns-in-Ok-Some-clause-goes_on : goal.returns-in-Ok-Some-clause-goes_on
@@ -26,4 +26,4 @@ returns-in-Ok-None-clause-goes_on g c rest =
 
 pub returns-in-Err-clause-unheard : goal.returns-in-Err-clause-unheard
 returns-in-Err-clause-unheard g c =
-    unheard_by OfDevice c.in-Err.fault (λ o k x. says_nothing (AreElements 101 c.args.mode) c.args.reader.now c.args.line.now x) c.in-Err.ensures.broken
+    from_memory c.in-Err.fault (λ o k x. says_nothing (AreElements 101 c.args.mode) c.args.reader.now c.args.line.now x) c.in-Err.ensures.broken

@@ -1,9 +1,8 @@
 use Rattle.std.proofs.Common.{◌≡◌, ◌∙◌, Some, refl, sym, ap}
 use Rattle.std.specs.Prelude.{option_map}
-use Rattle.yasna_lines.specs.Text.{Base64Says}
+use Rattle.yasna_lines.specs.Text.{Base64Says, OfMemory}
 use Rattle.yasna_lines.specs.Blocks.{end_mark}
 use Rattle.yasna_lines.specs.Reader.{open_digits, ends, within}
-use Rattle.yasna_listing.specs.Faults.{OfDevice}
 use Rattle.yasna_listing.proofs.Unheard.{unheard_by}
 use Rattle.yasna_lines.proofs.Marks.{front_found, front_missed}
 use Rattle.yasna_lines.proofs.Taking.{ok_by_map, err_by_map}
@@ -24,7 +23,7 @@ returns-then-starts_with-clause-broken c =
     let taken : open_digits c.args.self.now ≡ Some c.in-Some.block.digits.items =
     sym c.pass-offset.ensures.digits ∙ ap (option_map (λ b. b.digits.items)) (sym c.take.ensures.value ∙ c.in-Some.is) in
     err_by_map c.end.result c.map.result _ _ c.map.ensures.cases c.end.ensures.broken
-    (λ f x. unheard_by OfDevice f (λ o k none. record {
+    (λ f x. unheard_by OfMemory f (λ o k none. record {
       digits = c.in-Some.block.digits.items;
       taken = taken;
       ends = front_found c.args.line.now end_mark c.starts_with.result c.starts_with.ensures.value c.if-starts_with.true;
