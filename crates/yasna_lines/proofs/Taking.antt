@@ -7,7 +7,7 @@ use Rattle.yasna_listing.specs.Faults.{OfDevice, Unheard}
 use Rattle.yasna_listing.specs.declared.fault.Fault.{Fault}
 use Rattle.yasna_listing.proofs.Unheard.{unheard_by}
 use Rattle.yasna_lines.specs.Text.{OfMemory}
-use Rattle.yasna_lines.specs.Reader.{AwaitsFrom, Awaits, Takes, SaysNothing, open_digits, has_any, outside, begins, within, ends}
+use Rattle.yasna_lines.specs.Reader.{AwaitsFrom, Awaits, TakesLine, SaysNothing, open_digits, has_any, outside, begins, within, ends}
 use Rattle.yasna_lines.specs.declared.pem.PemReader.{PemReader}
 use Rattle.yasna_lines.proofs.Blocks.{awaits_outside, awaits_begun, awaits_within, awaits_ended, awaits_nothing, none_left}
 
@@ -48,14 +48,14 @@ module _ (P : List ℕ → Type 0) (old new : PemReader) (line : List ℕ) (rest
       (subst (λ z. AwaitsFrom P d (has_any old) (line ∷ rest) ↔ AwaitsFrom P z (has_any new) rest) (sym g)
       (subst (λ z. AwaitsFrom P d (has_any old) (line ∷ rest) ↔ AwaitsFrom P e z rest) (sym a) x))
 
-  pub goes_on : Takes old line None new → Awaits P old (line ∷ rest) ↔ Awaits P new rest
+  pub goes_on : TakesLine old line None new → Awaits P old (line ∷ rest) ↔ Awaits P new rest
   goes_on (outside f none s g a) = by_state None None f g a (awaits_outside P line rest (has_any old) none)
   goes_on (begins f begun s g a) = by_state None (Some []) f g a (awaits_begun P line rest (has_any old) begun)
   goes_on (within d f none s g a) = by_state (Some d) _ f g a (awaits_within P line rest d (has_any old) none)
   goes_on (ends d b f end s e g a) = absurd (cc)
 
   -- what is awaited, where a block ends that says these bytes
-  ended : (bytes : List ℕ) → Takes old line (Some bytes) new → Awaits P old (line ∷ rest) ↔ (P bytes × Awaits P new rest)
+  ended : (bytes : List ℕ) → TakesLine old line (Some bytes) new → Awaits P old (line ∷ rest) ↔ (P bytes × Awaits P new rest)
   ended bytes (outside f none s g a) = absurd (cc)
   ended bytes (begins f begun s g a) = absurd (cc)
   ended bytes (within d f none s g a) = absurd (cc)
@@ -66,10 +66,10 @@ module _ (P : List ℕ → Type 0) (old new : PemReader) (line : List ℕ) (rest
       (subst (λ z. AwaitsFrom P (Some d) (has_any old) (line ∷ rest) ↔ (P z × AwaitsFrom P None true rest)) (ap (λ z. unwrap_or z []) (sym s))
       (awaits_ended P line rest d b (has_any old) end e))))
 
-  pub goes_on_behind : (bytes : List ℕ) → Takes old line (Some bytes) new → P bytes → Awaits P old (line ∷ rest) ↔ Awaits P new rest
+  pub goes_on_behind : (bytes : List ℕ) → TakesLine old line (Some bytes) new → P bytes → Awaits P old (line ∷ rest) ↔ Awaits P new rest
   goes_on_behind bytes t p = let x = ended bytes t in ((λ w. (x.0 w).1), (λ w. x.1 (p, w)))
 
-  pub ends_there : (bytes : List ℕ) → Takes old line (Some bytes) new → (P bytes → ⊥) → Awaits P old (line ∷ rest) → ⊥
+  pub ends_there : (bytes : List ℕ) → TakesLine old line (Some bytes) new → (P bytes → ⊥) → Awaits P old (line ∷ rest) → ⊥
   ends_there bytes t none w = none ((ended bytes t).0 w).0
 
 pub says_nothing : (P : List ℕ → Type 0) (old : PemReader) (line : List ℕ) → SaysNothing old line → (rest : List (List ℕ)) → Awaits P old (line ∷ rest) → ⊥

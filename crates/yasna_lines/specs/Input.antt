@@ -27,15 +27,15 @@ abbrev pub BeginsBehindText : List ℕ → Type 0
 BeginsBehindText input = HasMark (lines_of input)
 
 -- hexadecimal digits stand in an input, and nothing else but what may stand between them
-pub record HasDigits (input : List ℕ) : Type 0 where
+pub record AreHexDigits (input : List ℕ) : Type 0 where
   pub all : AllByRecursion (λ c. IsTrue (is_ascii_hexdigit c || is_between c)) input
   pub some : Any (λ c. IsTrue (is_ascii_hexdigit c)) input
 
 -- the form that an input is told to be by what stands there
 abbrev pub IsTold : List ℕ → Form → Type 0
 IsTold input Pem = BeginsBehindText input
-IsTold input Hex = (BeginsBehindText input → ⊥) × HasDigits input
-IsTold input Bytes = (BeginsBehindText input → ⊥) × (HasDigits input → ⊥)
+IsTold input Hex = (BeginsBehindText input → ⊥) × AreHexDigits input
+IsTold input Bytes = (BeginsBehindText input → ⊥) × (AreHexDigits input → ⊥)
 
 -- the form that an input is taken to be in: the one that is given, else the one that is told
 abbrev pub IsTakenAs : Option Form → List ℕ → Form → Type 0

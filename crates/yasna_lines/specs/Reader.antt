@@ -18,13 +18,13 @@ abbrev pub digits_in : List ℕ → List ℕ
 digits_in line = cond (is_base64 line) (digits_of line) []
 
 -- what a line makes of a reader, and which bytes the block says that ends with it
-pub data Takes (old : PemReader) (line : List ℕ) (said : Option (List ℕ)) (new : PemReader) : Type 0 where
-  outside : open_digits old ≡ None → (BeginsBlock line → ⊥) → said ≡ None → open_digits new ≡ None → has_any new ≡ has_any old → Takes old line said new
-  begins : open_digits old ≡ None → BeginsBlock line → said ≡ None → open_digits new ≡ Some [] → has_any new ≡ has_any old → Takes old line said new
+pub data TakesLine (old : PemReader) (line : List ℕ) (said : Option (List ℕ)) (new : PemReader) : Type 0 where
+  outside : open_digits old ≡ None → (BeginsBlock line → ⊥) → said ≡ None → open_digits new ≡ None → has_any new ≡ has_any old → TakesLine old line said new
+  begins : open_digits old ≡ None → BeginsBlock line → said ≡ None → open_digits new ≡ Some [] → has_any new ≡ has_any old → TakesLine old line said new
   within : (digits : List ℕ) → open_digits old ≡ Some digits → (EndsBlock line → ⊥) → said ≡ None → open_digits new ≡ Some (digits ++ digits_in line) →
-      has_any new ≡ has_any old → Takes old line said new
+      has_any new ≡ has_any old → TakesLine old line said new
   ends : (digits bytes : List ℕ) → open_digits old ≡ Some digits → EndsBlock line → said ≡ Some bytes → Base64Says digits bytes →
-      open_digits new ≡ None → has_any new ≡ true → Takes old line said new
+      open_digits new ≡ None → has_any new ≡ true → TakesLine old line said new
 
 -- a line ends the block that is open, and its digits say nothing
 pub record SaysNothing (old : PemReader) (line : List ℕ) : Type 0 where

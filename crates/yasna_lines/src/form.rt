@@ -2,7 +2,7 @@
 ghost use Rattle.std.specs.Prelude.{◌↔◌, ◌||◌, IsTrue, Any};
 ghost use Rattle.std.specs.Char.{is_ascii_hexdigit};
 ghost use Rattle.std.specs.List.{AllByRecursion};
-ghost use Rattle.yasna_lines.specs.Input.{BeginsBehindText, HasDigits, IsTold, IsText};
+ghost use Rattle.yasna_lines.specs.Input.{BeginsBehindText, AreHexDigits, IsTold, IsText};
 ghost use Rattle.yasna_lines.specs.Text.{is_between};
 
 use crate::digits::is_between_digits;
@@ -57,7 +57,7 @@ fn are_digits(input: &[u8]) -> bool
 }
 
 fn is_hexadecimal(input: &[u8]) -> bool
-    ensures { IsTrue result ↔ HasDigits input.now }
+    ensures { IsTrue result ↔ AreHexDigits input.now }
 {
     are_digits(input) && has_digit(input)
 }

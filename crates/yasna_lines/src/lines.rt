@@ -86,7 +86,7 @@ fn show_block<W: Write>(
     show_counted(out, mode, style, line, block.bytes.as_slice())
 }
 
-// Takes a line of PEM, and lists the elements of the block that ends with it, if one does.
+// TakesLine a line of PEM, and lists the elements of the block that ends with it, if one does.
 fn show_line<'a, W: Write>(
     out: &mut W,
     mode: BERMode,

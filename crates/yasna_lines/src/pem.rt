@@ -2,7 +2,7 @@
 ghost use Rattle.std.specs.Prelude.{◌≡◌, ◌≢◌, ◌<◌, ◌∷◌, ◌++◌, ◌⊎◌, true, false, [], None, IfOk, IfErr, IfSome, IfNone, OnOk, option_map, length};
 ghost use Rattle.yasna_base.specs.declared.error.ASN1ErrorKind.TheVariants.{Eof};
 ghost use Rattle.yasna_lines.specs.Blocks.{Begins, BeginsBlock, lines_left, lines_of};
-ghost use Rattle.yasna_lines.specs.Reader.{Takes, SaysNothing, digits_in, has_any, open_digits};
+ghost use Rattle.yasna_lines.specs.Reader.{TakesLine, SaysNothing, digits_in, has_any, open_digits};
 ghost use Rattle.yasna_lines.specs.Text.{Base64Says, IsNoBase64, OfMemory};
 ghost use Rattle.yasna_listing.specs.Faults.{IsBroken, Unheard};
 ghost use Rattle.yasna_listing.specs.declared.fault.Fault.TheVariants.{Broken};
@@ -65,7 +65,7 @@ impl<'a> OpenBlock<'a> {
         Some(OpenBlock { label, digits })
     }
 
-    // Takes a line. One with a colon is a header of an older form (RFC 1421).
+    // TakesLine a line. One with a colon is a header of an older form (RFC 1421).
     fn push(&mut self, line: &[u8]) -> Result<(), AllocError>
         ensures { OnOk result (self.new.digits.items ≡ self.old.digits.items ++ digits_in line.now) }
     {
@@ -131,9 +131,9 @@ impl<'a> PemReader<'a> {
         end
     }
 
-    /// Takes a line, and gives the block that ends with it.
+    /// TakesLine a line, and gives the block that ends with it.
     pub fn push(&mut self, line: &'a [u8]) -> Result<Option<Block<'a>>, Fault>
-        ensures takes { IfOk result (λ block. Takes self.old line.now (option_map (λ b. b.bytes.items) block) self.new) }
+        ensures takes { IfOk result (λ block. TakesLine self.old line.now (option_map (λ b. b.bytes.items) block) self.new) }
         ensures broken { IfErr result (λ f. Unheard OfMemory (λ at kind. SaysNothing self.old line.now) f) }
     {
         let offset = self.pass(line);

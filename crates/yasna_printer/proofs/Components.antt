@@ -6,7 +6,7 @@ use Rattle.std.proofs.lemmas.List.{at_drop_more, take-append-drop}
 use Rattle.yasna_base.specs.Digits.{IsBytes, base128}
 use Rattle.yasna_base.proofs.Base128.{scan, scan_last, scan_more, scan_base, base_head, base_found}
 use Rattle.yasna_base.proofs.Digits.{base128_exact, base128_some, bytes_behind}
-use Rattle.yasna_printer.specs.Contents.{AreComponents}
+use Rattle.yasna_printer.specs.Contents.{AreSubidentifiers}
 
 -- numbers in base 128, or none
 abbrev pub AreNumbers : List ℕ → Type 0
@@ -124,10 +124,10 @@ spelled_some : (c ks : List ℕ) → 1 ≤ length ks → c ≡ flat_map base128 
 spelled_some c [] some e = absurd (omega (arith, some))
 spelled_some c (k ∷ ks) some e = omega (arith, ap length e, length-append (base128 k) (flat_map base128 ks), base128_some k)
 
-pub some_numbers : (c : List ℕ) → 1 ≤ length c → (w : AreNumbers c) → AreComponents c
+pub some_numbers : (c : List ℕ) → 1 ≤ length c → (w : AreNumbers c) → AreSubidentifiers c
 some_numbers c some w = record { numbers = w.0; spelled = w.1; some = not_none c some w.0 w.1 }
 
-pub some_octets : (c : List ℕ) (w : AreComponents c) → 1 ≤ length c
+pub some_octets : (c : List ℕ) (w : AreSubidentifiers c) → 1 ≤ length c
 some_octets c w = spelled_some c w.numbers w.some w.spelled
 
 pub none_left : (begins : Bool) (rest : List ℕ) → begins ≡ true → rest ≡ [] → AreLeft begins rest

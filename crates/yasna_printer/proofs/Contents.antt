@@ -14,7 +14,7 @@ use Rattle.yasna_times.specs.declared.models.generalized_time.GeneralizedTime.{G
 use Rattle.yasna_times.specs.declared.models.utc_time.UTCTime.{UTCTime}
 use Rattle.yasna_times.proofs.GeneralText.{general_says_one}
 use Rattle.yasna_times.proofs.UtcTime.{utc_says_one}
-use Rattle.yasna_printer.specs.Contents.{AreContents, IsLocalTime, Tells}
+use Rattle.yasna_printer.specs.Contents.{AreOfKind, IsLocalTime, RemarksOn}
 use Rattle.yasna_printer.specs.declared.kind.Kind.TheVariants.{Boolean, GeneralizedTime as OfGeneralizedTime, UtcTime as OfUtcTime}
 use Rattle.yasna_printer.specs.declared.remark.Remark.TheVariants.{Truth, Time, Local, NoTime}
 
@@ -35,7 +35,7 @@ other_truth m v x can some other (says_false e f) = some (ap (λ z. get_or z 0 0
 other_truth m v x can some other (says_true y s b e f) = other (ap (λ z. get_or z 0 0) f ∙ only_ones m y can s)
 
 pub truth_told : (x : ℕ) → IsBytes (x ∷ []) → (x ≡ 0 → ⊥) → (b : Bool) → (b ≡ true → x ≡ 255) → (b ≡ false → x ≡ 255 → ⊥) →
-    Tells Boolean (x ∷ []) (cond b None (Some Truth))
+    RemarksOn Boolean (x ∷ []) (cond b None (Some Truth))
 truth_told x bytes some true f g = λ m. (true, says_true x (subst (SaysTrue m) (sym (f refl)) (all_ones m)) bytes refl refl)
 truth_told x bytes some false f g = record {
   here = (true, says_true x some bytes refl refl);
@@ -48,7 +48,7 @@ in_ber_utc : (s : List ℕ) (utc : DateTime) → IsUtcText s utc → SaysUtcTime
 in_ber_utc s utc text = record { text = text; canonical = λ k. absurd k }
 
 pub utc_told : (s : List ℕ) (t : UTCTime) → IsUtcText s (utc_of t) → (b : Bool) → (IsTrue b ↔ s ≡ utc_text (utc_of t)) →
-    Tells OfUtcTime s (cond b None (Some Time))
+    RemarksOn OfUtcTime s (cond b None (Some Time))
 utc_told s t text true h = λ m. (t, record { text = text; canonical = λ can. h.0 refl })
 utc_told s t text false h = record {
   here = (t, in_ber_utc s (utc_of t) text);
@@ -58,7 +58,7 @@ utc_told s t text false h = record {
       absurd (cc);
 }
 
-pub no_utc_told : (s : List ℕ) → ((t : UTCTime) → IsUtcText s (utc_of t) → ⊥) → Tells OfUtcTime s (Some NoTime)
+pub no_utc_told : (s : List ℕ) → ((t : UTCTime) → IsUtcText s (utc_of t) → ⊥) → RemarksOn OfUtcTime s (Some NoTime)
 no_utc_told s none = λ m w. none w.0 w.1.text
 
 -- ---- GeneralizedTime
@@ -74,7 +74,7 @@ local_text Der s x = absurd x
 local_text Cer s x = absurd x
 
 not_canonical : (s : List ℕ) (v : Moment) → IsGeneralText s None v → (IsTrue false ↔ s ≡ general_text v) → (m : BERMode) → IsCanonicalMode m →
-    AreContents OfGeneralizedTime m s → ⊥
+    AreOfKind OfGeneralizedTime m s → ⊥
 not_canonical s v text h m can (inl w) =
     let same = general_says_one Ber w.0 v s (record { text = w.1.text; canonical = λ k. absurd k }) (record { text = text; canonical = λ k. absurd k }) in
     let is = h.1 (w.1.canonical can ∙ ap general_text same) in
@@ -82,7 +82,7 @@ not_canonical s v text h m can (inl w) =
 not_canonical s v text h m can (inr w) = not_local m s can w
 
 pub general_told : (s : List ℕ) (v : Moment) → IsGeneralText s None v → (b : Bool) → (IsTrue b ↔ s ≡ general_text v) →
-    Tells OfGeneralizedTime s (cond b None (Some Time))
+    RemarksOn OfGeneralizedTime s (cond b None (Some Time))
 general_told s v text true h = λ m. inl (v, record { text = text; canonical = λ can. h.0 refl })
 general_told s v text false h = record {
   here = inl (v, record { text = text; canonical = λ can. absurd can });
@@ -90,19 +90,19 @@ general_told s v text false h = record {
 }
 
 pub local_told : (s : List ℕ) (v : Moment) → ((m : Moment) → IsGeneralText s None m → ⊥) → IsGeneralText s (Some (pos 0)) v →
-    Tells OfGeneralizedTime s (Some Local)
+    RemarksOn OfGeneralizedTime s (Some Local)
 local_told s v none text = record {
   here = inr (v, text);
   not_there = λ m can w. elim w [ inl x ↦ none x.0 x.1.text | inr x ↦ not_local m s can x ];
 }
 
 pub no_general_told : (s : List ℕ) → ((m : Moment) → IsGeneralText s None m → ⊥) → ((m : Moment) → IsGeneralText s (Some (pos 0)) m → ⊥) →
-    Tells OfGeneralizedTime s (Some NoTime)
+    RemarksOn OfGeneralizedTime s (Some NoTime)
 no_general_told s none other = λ m w. elim w [ inl x ↦ none x.0 x.1.text | inr x ↦ other (local_text m s x).0 (local_text m s x).1 ]
 
 -- what is told of a text that is no time in UTC, by what it is where it has no zone
 pub other_told : (s : List ℕ) → ((m : Moment) → IsGeneralText s None m → ⊥) → (local : Option GeneralizedTime) →
     MatchOption local ((m : Moment) → IsGeneralText s (Some (pos 0)) m → ⊥) (λ t. IsGeneralText s (Some (pos 0)) (moment_of t)) →
-    Tells OfGeneralizedTime s (if is_some local then Some Local else Some NoTime)
+    RemarksOn OfGeneralizedTime s (if is_some local then Some Local else Some NoTime)
 other_told s none None h = no_general_told s none h
 other_told s none (Some t) h = local_told s (moment_of t) none h

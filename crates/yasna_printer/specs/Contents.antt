@@ -34,7 +34,7 @@ pub record AreBits (m : BERMode) (c : List ℕ) : Type 0 where
   pub padded : IsPadded m unused octets
 
 -- one or more numbers in base 128, as the components of object identifiers are
-pub record AreComponents (c : List ℕ) : Type 0 where
+pub record AreSubidentifiers (c : List ℕ) : Type 0 where
   pub numbers : List ℕ
   pub spelled : c ≡ flat_map base128 numbers
   pub some : 1 ≤ length numbers
@@ -75,21 +75,21 @@ IsLocalTime Der c = ⊥
 IsLocalTime Cer c = ⊥
 
 -- the contents of a primitive element of a type of this kind, by the rules of a mode
-abbrev pub AreContents : Kind → BERMode → List ℕ → Type 0
-AreContents Boolean m c = (v : Bool) × IsBoolean m v c
-AreContents Integer m c = IsMinimal c
-AreContents Bits m c = AreBits m c
-AreContents Octets m c = Unit {0}
-AreContents Null m c = c ≡ []
-AreContents Oid m c = AreComponents c
-AreContents Relative m c = AreComponents c
-AreContents Real m c = Unit {0}
-AreContents (Text characters) m c = AreCharacters characters c
-AreContents UtcTime m c = (t : UTCTime) × SaysUtcTime m (utc_of t) c
-AreContents GeneralizedTime m c = ((v : Moment) × SaysGeneralizedTime m v c) ⊎ IsLocalTime m c
-AreContents Set m c = ⊥
-AreContents Parts m c = ⊥
-AreContents Unknown m c = Unit {0}
+abbrev pub AreOfKind : Kind → BERMode → List ℕ → Type 0
+AreOfKind Boolean m c = (v : Bool) × IsBoolean m v c
+AreOfKind Integer m c = IsMinimal c
+AreOfKind Bits m c = AreBits m c
+AreOfKind Octets m c = Unit {0}
+AreOfKind Null m c = c ≡ []
+AreOfKind Oid m c = AreSubidentifiers c
+AreOfKind Relative m c = AreSubidentifiers c
+AreOfKind Real m c = Unit {0}
+AreOfKind (Text characters) m c = AreCharacters characters c
+AreOfKind UtcTime m c = (t : UTCTime) × SaysUtcTime m (utc_of t) c
+AreOfKind GeneralizedTime m c = ((v : Moment) × SaysGeneralizedTime m v c) ⊎ IsLocalTime m c
+AreOfKind Set m c = ⊥
+AreOfKind Parts m c = ⊥
+AreOfKind Unknown m c = Unit {0}
 
 -- whether a remark says `not BER`, and not only `not DER`
 abbrev pub is_of_ber : Remark → Bool
@@ -126,10 +126,10 @@ abbrev pub InNone : (BERMode → List ℕ → Type 0) → List ℕ → Type 0
 InNone C c = (m : BERMode) → C m c → ⊥
 
 -- a remark, or that there is none, tells in the rules of which modes contents are
-abbrev pub Tells : Kind → List ℕ → Option Remark → Type 0
-Tells kind c None = InAll (AreContents kind) c
-Tells kind c (Some r) = cond (is_of_ber r) (InNone (AreContents kind) c) (InBerAlone (AreContents kind) c)
+abbrev pub RemarksOn : Kind → List ℕ → Option Remark → Type 0
+RemarksOn kind c None = InAll (AreOfKind kind) c
+RemarksOn kind c (Some r) = cond (is_of_ber r) (InNone (AreOfKind kind) c) (InBerAlone (AreOfKind kind) c)
 
 -- whether there was no memory for what was to be appended to a line
-abbrev pub lacks_memory : Line → Bool
-lacks_memory line = line.lacks_memory
+abbrev pub line_lacks_memory : Line → Bool
+line_lacks_memory line = line.lacks_memory

@@ -1,7 +1,7 @@
 //! A line as it is made.
 ghost use Rattle.std.specs.Prelude.{◌≡◌, true, IfErr};
 ghost use Rattle.yasna_listing.specs.Faults.{OfDevice};
-ghost use Rattle.yasna_printer.specs.Contents.{lacks_memory};
+ghost use Rattle.yasna_printer.specs.Contents.{line_lacks_memory};
 
 use std::alloc::Global;
 use std::fmt::Display;
@@ -27,7 +27,7 @@ impl Line {
 
     /// Keeps that there was no memory for what was to be appended.
     pub fn lack_memory(&mut self)
-        ensures { lacks_memory self.new ≡ true }
+        ensures { line_lacks_memory self.new ≡ true }
     {
         self.lacks_memory = true;
     }

@@ -1,7 +1,7 @@
 //! What primitive elements say.
 ghost use Rattle.std.specs.Prelude.{◌≡◌, ◌↔◌, ◌∷◌, [], false, IsTrue};
 ghost use Rattle.yasna_base.specs.Integer.{IsMinimal};
-ghost use Rattle.yasna_printer.specs.Contents.{AreCharacters, Tells, lacks_memory};
+ghost use Rattle.yasna_printer.specs.Contents.{AreCharacters, RemarksOn, line_lacks_memory};
 ghost use Rattle.yasna_printer.specs.declared.kind.Kind.TheVariants.{Bits, Boolean, GeneralizedTime, Text};
 
 mod arcs;
@@ -37,7 +37,7 @@ pub struct Style<'n> {
 
 // Writes the one octet of a BOOLEAN, and tells whether it is in its one form.
 fn write_truth(line: &mut Line, octet: u8) -> Option<Remark>
-    ensures { Tells Boolean (octet ∷ []) result }
+    ensures { RemarksOn Boolean (octet ∷ []) result }
 {
     if octet == 0 {
         line.write_str("FALSE");
@@ -48,7 +48,7 @@ fn write_truth(line: &mut Line, octet: u8) -> Option<Remark>
 }
 
 fn write_boolean(line: &mut Line, contents: &[u8]) -> Option<Remark>
-    ensures { Tells Boolean contents.now result }
+    ensures { RemarksOn Boolean contents.now result }
 {
     match contents {
         [octet] => write_truth(line, *octet),
@@ -85,7 +85,7 @@ fn are_characters(characters: Characters, octets: &[u8]) -> bool
 }
 
 fn write_text(line: &mut Line, characters: Characters, octets: &[u8]) -> Option<Remark>
-    ensures { Tells (Text characters) octets.now result }
+    ensures { RemarksOn (Text characters) octets.now result }
 {
     match characters {
         Characters::Utf8 => write_utf8(line, octets),
@@ -97,7 +97,7 @@ fn write_text(line: &mut Line, characters: Characters, octets: &[u8]) -> Option<
 }
 
 fn write_bit_string(line: &mut Line, style: Style<'_>, contents: &[u8]) -> Option<Remark>
-    ensures { Tells Bits contents.now result }
+    ensures { RemarksOn Bits contents.now result }
 {
     write_bits(line, style.alloc, contents, style.width);
     if are_bits(contents) {
@@ -118,7 +118,7 @@ fn write_integer_or_octets(line: &mut Line, style: Style<'_>, contents: &[u8]) {
 
 // Writes a time, where there was memory to read it.
 fn write_time(line: &mut Line, alloc: Global, contents: &[u8]) -> Option<Remark>
-    ensures { lacks_memory line.new ≡ false → Tells GeneralizedTime contents.now result }
+    ensures { line_lacks_memory line.new ≡ false → RemarksOn GeneralizedTime contents.now result }
 {
     match write_generalized_time(line, alloc, contents) {
         Ok(remark) => remark,
@@ -131,7 +131,7 @@ fn write_time(line: &mut Line, alloc: Global, contents: &[u8]) -> Option<Remark>
 
 /// Writes what the contents of a primitive element of this kind say, and tells what is wrong with them.
 pub fn write_value(line: &mut Line, style: Style<'_>, kind: Kind, contents: &[u8]) -> Option<Remark>
-    ensures { lacks_memory line.new ≡ false → Tells kind contents.now result }
+    ensures { line_lacks_memory line.new ≡ false → RemarksOn kind contents.now result }
 {
     let Style {
         alloc,

@@ -1,6 +1,6 @@
 //! Object identifiers with their dots (X.690, 8.19 and 8.20).
 ghost use Rattle.std.specs.Prelude.{◌≡◌, ◌↔◌, nat_lt, IsTrue};
-ghost use Rattle.yasna_printer.specs.Contents.{AreComponents};
+ghost use Rattle.yasna_printer.specs.Contents.{AreSubidentifiers};
 
 use crate::line::Line;
 use crate::names::Names;
@@ -23,7 +23,7 @@ fn is_last(octet: &u8) -> bool
 
 /// Whether contents are one or more components, each in the fewest octets.
 pub fn are_components(contents: &[u8]) -> bool
-    ensures { IsTrue result ↔ AreComponents contents.now }
+    ensures { IsTrue result ↔ AreSubidentifiers contents.now }
 {
     let mut begins = true;
     for octet in contents {

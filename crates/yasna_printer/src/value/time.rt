@@ -1,6 +1,6 @@
 //! Times as ISO 8601 writes them (X.680, 46 and 47).
 ghost use Rattle.std.specs.Prelude.{◌≡◌, if◌then◌else◌, Some, None, is_some, IfOk};
-ghost use Rattle.yasna_printer.specs.Contents.{Tells};
+ghost use Rattle.yasna_printer.specs.Contents.{RemarksOn};
 ghost use Rattle.yasna_printer.specs.declared.kind.Kind.TheVariants.{GeneralizedTime as OfGeneralizedTime, UtcTime as OfUtcTime};
 ghost use Rattle.yasna_printer.specs.declared.remark.Remark.TheVariants.{Local, NoTime, Time};
 
@@ -27,7 +27,7 @@ fn end_in_utc(line: &mut Line, is_canonical: bool) -> Option<Remark>
 
 /// Writes a UTCTime, and tells what is wrong with it.
 pub fn write_utc_time(line: &mut Line, octets: &[u8]) -> Option<Remark>
-    ensures { Tells OfUtcTime octets.now result }
+    ensures { RemarksOn OfUtcTime octets.now result }
 {
     let Some(time) = UTCTime::parse(octets) else {
         return write_no_time(line, octets);
@@ -67,7 +67,7 @@ pub fn write_generalized_time(
     alloc: Global,
     octets: &[u8],
 ) -> Result<Option<Remark>, AllocError>
-    ensures { IfOk result (λ r. Tells OfGeneralizedTime octets.now r) }
+    ensures { IfOk result (λ r. RemarksOn OfGeneralizedTime octets.now r) }
 {
     let Some(time) = GeneralizedTime::parse(alloc, octets)? else {
         let parsed = GeneralizedTime::parse_with_offset(alloc, octets, Offset::UTC)?;

@@ -1,6 +1,6 @@
 use Rattle.std.proofs.Common.{subst, sym}
 use Rattle.yasna_times.specs.Models.{moment_of}
-use Rattle.yasna_printer.specs.Contents.{Tells}
+use Rattle.yasna_printer.specs.Contents.{RemarksOn}
 use Rattle.yasna_printer.specs.declared.kind.Kind.TheVariants.{GeneralizedTime as OfGeneralizedTime}
 use Rattle.yasna_printer.proofs.Contents.{general_told, other_told}
 use Rattle.yasna_printer.proofs.value.time.write_generalized_time.Goals as goal
@@ -8,11 +8,11 @@ use Rattle.yasna_printer.proofs.value.time.write_generalized_time.Goals as goal
 pub returns-in_default : goal.returns-in_default
 returns-in_default c =
     let none = rw c.in_default.is at (c.in_ok-time.ensures {u = tt}).exact in
-    subst (Tells OfGeneralizedTime c.args.octets.now) (sym c.write_local_time.ensures)
+    subst (RemarksOn OfGeneralizedTime c.args.octets.now) (sym c.write_local_time.ensures)
     (other_told c.args.octets.now none c.in_ok-parsed.parsed (c.in_ok-parsed.ensures {u = tt}).exact)
 
 pub returns : goal.returns
 returns c =
     let text = rw c.in-Some.is at (c.in_ok-time.ensures {u = tt}).exact in
-    subst (Tells OfGeneralizedTime c.args.octets.now) (sym c.end_in_utc.ensures)
+    subst (RemarksOn OfGeneralizedTime c.args.octets.now) (sym c.end_in_utc.ensures)
     (general_told c.args.octets.now (moment_of c.in-Some.time) text c.is_canonical.result c.is_canonical.ensures)

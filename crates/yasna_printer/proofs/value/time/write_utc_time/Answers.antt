@@ -1,15 +1,15 @@
 use Rattle.std.proofs.Common.{subst, sym}
 use Rattle.yasna_times.specs.Models.{utc_of}
-use Rattle.yasna_printer.specs.Contents.{Tells}
+use Rattle.yasna_printer.specs.Contents.{RemarksOn}
 use Rattle.yasna_printer.specs.declared.kind.Kind.TheVariants.{UtcTime as OfUtcTime}
 use Rattle.yasna_printer.proofs.Contents.{utc_told, no_utc_told}
 use Rattle.yasna_printer.proofs.value.time.write_utc_time.Goals as goal
 
 pub returns-in_default : goal.returns-in_default
 returns-in_default c =
-    subst (Tells OfUtcTime c.args.octets.now) (sym c.write_no_time.ensures) (no_utc_told c.args.octets.now (λ t. c.in_default.ensures (utc_of t)))
+    subst (RemarksOn OfUtcTime c.args.octets.now) (sym c.write_no_time.ensures) (no_utc_told c.args.octets.now (λ t. c.in_default.ensures (utc_of t)))
 
 pub returns : goal.returns
 returns c =
-    subst (Tells OfUtcTime c.args.octets.now) (sym c.end_in_utc.ensures)
+    subst (RemarksOn OfUtcTime c.args.octets.now) (sym c.end_in_utc.ensures)
     (utc_told c.args.octets.now c.in-Some.time c.in-Some.ensures c.is_canonical.result (c.is_canonical.ensures.canonical c.in-Some.ensures))
