@@ -74,7 +74,8 @@ IsLocalTime Ber c = (v : Moment) × IsGeneralText c (Some (pos 0)) v
 IsLocalTime Der c = ⊥
 IsLocalTime Cer c = ⊥
 
--- the contents of a primitive element of a type of this kind, by the rules of a mode
+-- the contents of a primitive element of a type of this kind, by the rules of a mode, but for how many octets CER leaves a string in one
+-- piece (X.690, 9.2)
 abbrev pub AreOfKind : Kind → BERMode → List ℕ → Type 0
 AreOfKind Boolean m c = (v : Bool) × IsBoolean m v c
 AreOfKind Integer m c = IsMinimal c
