@@ -1,7 +1,6 @@
 //! A line as it is made.
 ghost use Rattle.std.specs.Prelude.{◌≡◌, true, IfErr};
 ghost use Rattle.yasna_listing.specs.Faults.{OfDevice};
-ghost use Rattle.yasna_printer.specs.Contents.{line_lacks_memory};
 
 use std::alloc::Global;
 use std::fmt::Display;
@@ -27,7 +26,7 @@ impl Line {
 
     /// Keeps that there was no memory for what was to be appended.
     pub fn lack_memory(&mut self)
-        ensures { line_lacks_memory self.new ≡ true }
+        ensures { self.new ≡ record self.old { lacks_memory = true } }
     {
         self.lacks_memory = true;
     }
@@ -35,14 +34,14 @@ impl Line {
     /// Appends what `write!` is handed.
     pub fn write_fmt<D: Display + Drop>(&mut self, text: D) {
         if !self.lacks_memory && self.text.write_fmt(text).is_err() {
-            self.lacks_memory = true;
+            self.lack_memory();
         }
     }
 
     /// Appends octets as they are.
     pub fn write_all(&mut self, octets: &[u8]) {
         if !self.lacks_memory && self.text.extend_from_slice(octets).is_err() {
-            self.lacks_memory = true;
+            self.lack_memory();
         }
     }
 
