@@ -1,14 +1,15 @@
 #!/bin/sh
-# What the documents show: each block of Rust or of antt in them, and in the comments on what the library hands out, stands in one of
-# the proved crates yasna_guide, yasna_examples, x509 and ldap, line for line, but for how far the block is indented as a whole. And a module of
-# them that a document shows is the document's blocks, one behind the other, and nothing else: so who copies them has all that is needed.
-# Each block of GUIDE.md is a module of its own, with what it uses.
+# What the documents show. Each block of Rust or of antt in them, and in the comments on public items, is in one of the proved crates
+# yasna_guide, yasna_examples, x509 and ldap, line for line, but for its indentation as a whole. A module that a document shows is the
+# document's blocks, one after the other, and nothing else: so a reader who copies them has all that is needed. Each block of GUIDE.md
+# is a module. Each mutant that PROMISES.md names is an edit that the gate
+# or ci/mutants.sh tries.
 set -eu
 cd "$(dirname "$0")/.."
 work=$(mktemp -d)
 trap 'rm -rf "$work"' EXIT
 
-# A document's lines; of a file of Rust, those of its comments for readers, and others as empty ones.
+# A document's lines; of a file of Rust, those of its comments for readers, and all other lines as empty ones.
 lines_of() {
     case $1 in
     *.rt) sed -e 's|^ *//[/!] \{0,1\}||' -e t -e 's/.*//' "$1" ;;
@@ -16,9 +17,9 @@ lines_of() {
     esac
 }
 
-# The first file holds a document's lines, the others the crates'. Prints how many blocks there are, or why that isn't all.
+# The first file holds a document's lines, the other files are the crates'. Prints the number of blocks, or the first error.
 compare='
-# How many lines of the block stand at this place.
+# The number of lines of the block that are at this place.
 function fits(file, first,    indent, k) {
     k = index(text[file, first], block[1])
     indent = substr(text[file, first], 1, k - 1)
@@ -27,7 +28,7 @@ function fits(file, first,    indent, k) {
         if (text[file, first + k - 1] != (block[k] == "" ? "" : indent block[k])) break
     return k - 1
 }
-# How many stand at the place where most do.
+# The number of lines at the place that has most.
 function most_that_fit(    file, first, k, most) {
     for (file = 2; file < ARGC; file++)
         for (first = 1; first <= lines[file]; first++) {
@@ -40,6 +41,11 @@ function fail(why) {
     print why
     exit 1
 }
+function find_block(    k) {
+    blocks++
+    k = most_that_fit()
+    if (size == 0 || k < size) fail(begin + k ": no file of the crates continues with " block[k + 1])
+}
 BEGIN {
     for (file = 1; file < ARGC; file++)
         while ((getline line < ARGV[file]) > 0) text[file, ++lines[file]] = line
@@ -47,9 +53,7 @@ BEGIN {
         line = text[1, at]
         if (inside && line == "```") {
             inside = 0
-            blocks++
-            k = most_that_fit()
-            if (size == 0 || k < size) fail(begin + k ": no file of yasna_guide, yasna_examples, x509 or ldap goes on with " block[k + 1])
+            find_block()
         } else if (inside) {
             block[++size] = line
         } else if (line == "```rust" || line == "```antt") {
@@ -63,9 +67,9 @@ BEGIN {
     print blocks
 }'
 
-# The first file is a module, the second the document that shows it. Prints a line of the module that no block holds, if there is one.
+# The first file is a module, the second the document that shows it. Prints the first line of the module that no block holds, if any.
 assemble='
-# Whether the block is what the module goes on with; then it goes on behind it.
+# Whether the module continues with the block; if so, it is passed.
 function takes(    k) {
     for (k = 1; k <= size; k++)
         if (module[at + k - 1] != block[k]) return 0
@@ -87,7 +91,7 @@ BEGIN {
             size = 0
         }
     }
-    if (at <= lines) print at ": no block goes on with " module[at]
+    if (at <= lines) print at ": no block continues with " module[at]
 }'
 
 # is_whole DOCUMENT MODULE..
@@ -104,28 +108,50 @@ is_whole() {
     echo "$shown_in: $# modules, each whole"
 }
 
+# rust_blocks DOCUMENT COUNT
+rust_blocks() {
+    if [ "$(grep -c '^```rust$' "$1")" -ne "$2" ]; then
+        echo "$1: a block that is not a module" >&2
+        exit 1
+    fi
+}
+
+# compare_blocks DOCUMENT FILE..
+compare_blocks() {
+    document=$1
+    shift
+    lines_of "$document" > "$work/lines"
+    if ! awk "$compare" "$work/lines" "$@" > "$work/said"; then
+        echo "$document:$(cat "$work/said")" >&2
+        exit 1
+    fi
+}
+
 guide=crates/yasna_guide/src
 examples=crates/yasna_examples/src
 types=crates/x509/src
 filters=crates/ldap/src
 files=$(find "$guide" "$examples" "$types" "$filters" crates/yasna_examples/proofs -name '*.rt' -o -name '*.antt')
-for document in README.md docs/GUIDE.md docs/CONTRACTS.md \
+for page in README.md docs/GUIDE.md docs/CONTRACTS.md \
     crates/yasna/src/lib.rt crates/yasna/src/shapes.rt \
     crates/yasna_reader/src/state.rt crates/yasna_reader/src/set.rt \
     crates/yasna_writer/src/state.rt crates/yasna_writer/src/sequence.rt crates/yasna_writer/src/set.rt; do
-    lines_of "$document" > "$work/lines"
-    if ! awk "$compare" "$work/lines" $files > "$work/said"; then
-        echo "$document:$(cat "$work/said")" >&2
-        exit 1
-    fi
-    echo "$document: $(cat "$work/said") pieces, all stand in proved crates"
+    compare_blocks "$page" $files
+    echo "$page: $(cat "$work/said") pieces, all in proved crates"
 done
 
 is_whole README.md "$guide/first.rt"
 set -- $(find "$guide" -name '*.rt' ! -name lib.rt ! -name first.rt | sort) "$examples/strings.rt" "$examples/exact.rt" "$types/time.rt" "$types/extension.rt" "$types/extensions.rt" "$filters/filter.rt" "$filters/filter_notation.rt"
 is_whole docs/GUIDE.md "$@"
-if [ "$(grep -c '^```rust$' docs/GUIDE.md)" -ne $# ]; then
-    echo "docs/GUIDE.md: a block that is not a module of its own" >&2
-    exit 1
-fi
+rust_blocks docs/GUIDE.md $#
 is_whole docs/CONTRACTS.md "$examples/by_tuple.rt" "$examples/by_closure.rt"
+
+# The names after "Mutants:", up to the end of that item.
+awk '/^ *- / || $0 == "" { inside = /^ *- Mutants: / } inside' docs/PROMISES.md | grep -o '`[a-z0-9_]*`' | tr -d '`' | sort -u > "$work/mutants"
+while read -r name; do
+    if ! ls crates/*/must-fail/"$name".edit mutants/*/"$name".edit 2> /dev/null | grep -q .; then
+        echo "docs/PROMISES.md: no mutant $name" >&2
+        exit 1
+    fi
+done < "$work/mutants"
+echo "docs/PROMISES.md: $(grep -c . "$work/mutants") mutants, each an edit"
