@@ -132,7 +132,7 @@ examples=crates/yasna_examples/src
 types=crates/x509/src
 filters=crates/ldap/src
 files=$(find "$guide" "$examples" "$types" "$filters" crates/yasna_examples/proofs -name '*.rt' -o -name '*.antt')
-for page in README.md docs/GUIDE.md docs/CONTRACTS.md \
+for page in README.md docs/GUIDE.md docs/IMPLEMENTING.md \
     crates/yasna/src/lib.rt crates/yasna/src/shapes.rt \
     crates/yasna_reader/src/state.rt crates/yasna_reader/src/set.rt \
     crates/yasna_writer/src/state.rt crates/yasna_writer/src/sequence.rt crates/yasna_writer/src/set.rt; do
@@ -144,7 +144,7 @@ is_whole README.md "$guide/first.rt"
 set -- $(find "$guide" -name '*.rt' ! -name lib.rt ! -name first.rt | sort) "$examples/strings.rt" "$examples/exact.rt" "$types/time.rt" "$types/extension.rt" "$types/extensions.rt" "$filters/filter.rt" "$filters/filter_notation.rt"
 is_whole docs/GUIDE.md "$@"
 rust_blocks docs/GUIDE.md $#
-is_whole docs/CONTRACTS.md "$examples/by_tuple.rt" "$examples/by_closure.rt"
+is_whole docs/IMPLEMENTING.md "$examples/by_tuple.rt" "$examples/by_closure.rt"
 
 # The names after "Mutants:", up to the end of that item.
 awk '/^ *- / || $0 == "" { inside = /^ *- Mutants: / } inside' docs/PROMISES.md | grep -o '`[a-z0-9_]*`' | tr -d '`' | sort -u > "$work/mutants"
