@@ -1,8 +1,8 @@
 #!/bin/sh
 # What the documents show. Each block of Rust or of antt in them, and in the comments on public items, is in one of the proved crates
 # yasna_guide, yasna_examples, x509 and ldap, line for line, but for its indentation as a whole. A module that a document shows is the
-# document's blocks, one after the other, and nothing else: so a reader who copies them has all that is needed. Each block of GUIDE.md
-# is a module. Each mutant that PROMISES.md names is an edit that the gate
+# document's blocks, one after the other, and nothing else: so a reader who copies them has all that is needed. Each block of GUIDE.md and
+# NOTATION.md is a module. Each mutant that PROMISES.md names is an edit that the gate
 # or ci/mutants.sh tries.
 set -eu
 cd "$(dirname "$0")/.."
@@ -132,7 +132,7 @@ examples=crates/yasna_examples/src
 types=crates/x509/src
 filters=crates/ldap/src
 files=$(find "$guide" "$examples" "$types" "$filters" crates/yasna_examples/proofs -name '*.rt' -o -name '*.antt')
-for page in README.md docs/GUIDE.md docs/IMPLEMENTING.md \
+for page in README.md docs/GUIDE.md docs/NOTATION.md docs/IMPLEMENTING.md \
     crates/yasna/src/lib.rt crates/yasna/src/shapes.rt \
     crates/yasna_reader/src/state.rt crates/yasna_reader/src/set.rt \
     crates/yasna_writer/src/state.rt crates/yasna_writer/src/sequence.rt crates/yasna_writer/src/set.rt; do
@@ -141,9 +141,12 @@ for page in README.md docs/GUIDE.md docs/IMPLEMENTING.md \
 done
 
 is_whole README.md "$guide/first.rt"
-set -- $(find "$guide" -name '*.rt' ! -name lib.rt ! -name first.rt | sort) "$examples/strings.rt" "$examples/exact.rt" "$types/time.rt" "$types/extension.rt" "$types/extensions.rt" "$filters/filter.rt" "$filters/filter_notation.rt"
+set -- $(find "$guide" -name '*.rt' ! -name lib.rt ! -name first.rt ! -name messages.rt | sort) "$examples/strings.rt" "$examples/exact.rt"
 is_whole docs/GUIDE.md "$@"
 rust_blocks docs/GUIDE.md $#
+set -- "$guide/messages.rt" "$types/time.rt" "$types/extension.rt" "$types/extensions.rt" "$filters/filter.rt" "$filters/filter_notation.rt"
+is_whole docs/NOTATION.md "$@"
+rust_blocks docs/NOTATION.md $#
 is_whole docs/IMPLEMENTING.md "$examples/by_tuple.rt" "$examples/by_closure.rt"
 
 # The names after "Mutants:", up to the end of that item.
