@@ -1,8 +1,10 @@
-"""What ci/api.sh prints and compares. It begins at the public items of the crates that users name, and follows each `pub use` to what it names.
+"""What ci/api.sh prints and compares. It begins at the public items of the crates that users name, and follows each `pub use` to its item.
 
-The sources are read line by line, as they are formatted: an item's parts are indented under it.
+The sources are read line by line, as they are formatted: an item's parts are indented under it. `ORDER` gives the headings of the page and the
+items under each; a public item that it doesn't list is an error, and so is a name in it that no item has.
 """
 
+import fnmatch
 import functools
 import itertools
 import re
@@ -11,14 +13,77 @@ from dataclasses import dataclass
 from pathlib import Path
 
 PAGE = Path("docs/API.md")
-TOPS = ("yasna", "yasna_notation")
+PROMISES = Path("docs/PROMISES.md")
 TYPES = ("struct", "enum", "type", "trait")
 DECLARATIONS = TYPES + ("fn", "const")
 INDENT = "    "
 INTRODUCTION = """# The calls and types of `yasna` and `yasna_notation`
 
-What a user of these crates reaches: each public item as it is declared, and the first sentence of its comment. `sh ci/api.sh` prints
-this page from the sources, where the rest of each comment stands, and the contract."""
+This page has every public item of these crates, as it is declared, with the first sentence of its comment. The rest of each comment and the
+contract are in the sources. [PROMISES.md](PROMISES.md) lists each promise with its contract: a line "Promises" after a block links to the
+entries of its calls. `sh ci/api.sh` prints this page from the sources."""
+
+# Of each crate: the headings, and the items under each, in this order. `tags::*` is every item of the module.
+ORDER = {
+    "yasna": {
+        "Whole values": "decode_der encode_der decode_cer encode_cer decode_ber decode_ber_general",
+        "Parsing": "parse_der parse_cer parse_ber parse_ber_general try_parse_der try_parse_cer try_parse_ber"
+        " parse_der_located parse_cer_located parse_ber_located Located",
+        "Constructing": "construct_der construct_cer construct_der_seq try_construct_der try_construct_der_seq",
+        "Readers": "BERReader BERReaderSeq BERReaderSet",
+        "Writers": "DERWriter DERWriterSeq DERWriterSet",
+        "Errors": "ASN1Result ASN1Error ASN1ErrorKind",
+        "Tags and modes": "Tag TagClass PCBit BERMode tags::*",
+        "Values": "models::ObjectIdentifier models::ParseOidError models::UTCTime models::GeneralizedTime models::TaggedDerValue"
+        " models::DateTime models::Offset is_numeric_text is_printable_text is_visible_text",
+        "Traits": "BERDecodable DEREncodable DERCanonical DERExact Shaped FromShape EncodeShape TupleParts EncodableParts InSequence",
+        "Laws": "one_form one_form_cer one_der_form set_of_is_read set_of_sets_is_read set_of_is_written law_functions::*",
+    },
+    "yasna_notation": {
+        "Your own types": "Defined Message StandsFor Noted read_as Notation CanonicalNotation",
+        "SEQUENCE and SET": "Sequence Parts Optional Default DefaultValue False Number Last SequenceOf SetOf PartsBy CanonicalParts"
+        " WithFirst read_parts_with_first",
+        "CHOICE": "Choice Alternatives Either CanonicalAlternatives",
+        "Explicit and implicit tags": "Explicit Implicit TagName Context Application",
+        "Bounds": "Bounded Bound AtMost FromTo Exactly UpTo FromZero Size SizeAtMost NotEmpty",
+        "Simple types": "Enumerated BigInteger BitString PrintableString Ia5String NumericString VisibleString",
+    },
+}
+TOPS = tuple(ORDER)
+
+# The anchor of the heading of PROMISES.md under which the promises of a call are, by a pattern of the call's name. The first that fits counts.
+ANCHORS = {
+    "write_sequence*": "write_sequence",
+    "write_tagged": "write_sequence",
+    "write_tagged_implicit": "write_sequence",
+    "write_set": "write_set",
+    "write_set_of": "write_set_of",
+    "write_fields": "types-from-a-module",
+    "write_*": "simple-values",
+    "decode_*": "decode_der",
+    "encode_*": "encode_der",
+    "parse_*_located": "located-parses",
+    "parse_[bcd]er*": "parse_der",
+    "try_parse_*": "try_parse_der",
+    "construct_*": "construct_der",
+    "try_construct_*": "construct_der",
+    "read_optional": "read_optional",
+    "read_default": "read_default",
+    "read_sequence": "read_sequence",
+    "*_sequence_of": "read_sequence_of",
+    "read_set": "read_set",
+    "*_set_of": "read_set_of",
+    "read_tagged": "read_tagged",
+    "read_tagged_implicit": "read_tagged_implicit",
+    "read_tagged_der": "raw-elements",
+    "read_der": "raw-elements",
+    "read_with_buffer": "read_with_buffer",
+    "read_as": "types-from-a-module",
+    "read_parts_with_first": "types-from-a-module",
+    "read_*": "typed-reads",
+    "lookahead_tag": "lookahead_tag",
+    "is_at_end": "is_at_end",
+}
 
 
 @dataclass
@@ -56,7 +121,7 @@ class Foreign:
 
 
 def end_of_item(lines, first):
-    """The number of the line behind an item's last one."""
+    """The number of the line after an item's last one."""
     is_open = False
     for number in range(first, len(lines)):
         line = lines[number]
@@ -72,19 +137,19 @@ def end_of_item(lines, first):
 
 def signature_of(lines):
     """An item without its clauses and its body."""
-    kept = []
+    shown = []
     for line in lines:
         if line.lstrip().startswith(("requires", "ensures")) or line in ("{", "{}"):
             break
         is_last = line.endswith(("{", ";")) or not line.startswith(" ") and line.endswith((",", "{}"))
-        kept.append(re.sub(r"( \{\}?|[;,])$", "", line) if is_last else line)
+        shown.append(re.sub(r"( \{\}?|[;,])$", "", line) if is_last else line)
         if is_last:
             break
-    return kept
+    return shown
 
 
 def body_of(lines):
-    """What stands between an item's braces, as far to the left as it goes."""
+    """The lines between an item's braces, without their indentation."""
     for number, line in enumerate(lines):
         if line.endswith("{"):
             return [inner.removeprefix(INDENT) for inner in lines[number + 1 : -1]]
@@ -92,7 +157,7 @@ def body_of(lines):
 
 
 def kind_and_name(line, around):
-    """What an item is that begins with this line, inside one of the kind `around`."""
+    """The kind and the name of an item that begins with this line, inside one of the kind `around`."""
     if around == "enum":
         return "variant", re.match(r"\w*", line).group()
     if around == "struct" and not line.startswith("ghost "):
@@ -114,33 +179,33 @@ def make_item(comment, attributes, lines, around, place):
 
 
 def items_in(lines, around=None):
-    """The items that stand in these lines, one after the other."""
+    """The items in these lines, one after the other."""
     items, comment, attributes, number = [], [], [], 0
     while number < len(lines):
-        line, behind = lines[number], number + 1
+        line, after = lines[number], number + 1
         if line.startswith("///"):
             comment.append(line)
         elif line.startswith("#["):
             attributes.append(line)
         elif line and not line.startswith(("//", "#!")):
-            behind = end_of_item(lines, number)
-            items.append(make_item(comment, attributes, lines[number:behind], around, number))
+            after = end_of_item(lines, number)
+            items.append(make_item(comment, attributes, lines[number:after], around, number))
             comment, attributes = [], []
-        number = behind
+        number = after
     return items
 
 
 def first_sentence(comment):
-    """The lines of a comment up to the end of its first sentence, as they stand. A full stop between backquotes ends none."""
-    kept = []
+    """The lines of a comment up to the end of its first sentence. A full stop between backquotes ends none."""
+    shown = []
     for line in comment:
         found = re.match(r"(?:`[^`]*`|[^`.]|\.(?!\s|$))*\.(?=\s|$)", line)
         if found:
-            return kept + [found.group()]
+            return shown + [found.group()]
         if not line[3:].strip():
             break
-        kept.append(line)
-    return kept
+        shown.append(line)
+    return shown
 
 
 # The crates
@@ -148,7 +213,7 @@ def first_sentence(comment):
 
 @functools.cache
 def library():
-    """The crates that users are handed items of."""
+    """The crates whose items users reach."""
     crates = Path("crates.txt").read_text(encoding="utf-8")
     below = [re.search(rf"^{top}: (.*)$", crates, re.MULTILINE).group(1).split() for top in TOPS]
     return list(dict.fromkeys([*TOPS, *itertools.chain.from_iterable(below)]))
@@ -180,30 +245,30 @@ def own_traits():
 
 
 def used_paths(item):
-    """The paths that a `pub use` hands on."""
+    """The paths of a `pub use`."""
     path = item.signature[0].removeprefix("pub use ").removesuffix(";")
-    front, brace, names = path.partition("{")
+    prefix, brace, names = path.partition("{")
     if not brace:
         return [path]
-    return [front + name.strip() for name in names.removesuffix("}").split(",") if name.strip()]
+    return [prefix + name.strip() for name in names.removesuffix("}").split(",") if name.strip()]
 
 
 def follow(here, path):
-    """What a path means in a module."""
-    first, *others = path.split("::")
+    """The item, module or foreign item at a path of a module."""
+    first, *rest = path.split("::")
     if first in library():
         start = module(first, ())
     elif any(item.kind == "mod" and item.name == first for item in here.items):
         start = module(here.crate, here.path + (first,))
     else:
         return Foreign(path)
-    for name in others[:-1]:
+    for name in rest[:-1]:
         start = module(start.crate, start.path + (name,))
-    return find(start, others[-1])
+    return find(start, rest[-1])
 
 
 def find(here, name):
-    """What this name of a module means: an item with the module that declares it, or a module."""
+    """The item of this name in a module, with the module that declares it, or the module of this name."""
     for item in here.items:
         if item.name == name and item.kind in DECLARATIONS:
             return here, item
@@ -217,7 +282,7 @@ def find(here, name):
 
 
 def reached(here):
-    """The names of a module that users reach, and what each means."""
+    """The names of a module that users reach, each with what `find` returns."""
     for item in here.items:
         if not item.is_shown():
             continue
@@ -228,10 +293,13 @@ def reached(here):
             yield item.name, find(here, item.name)
 
 
-def in_order(found):
-    """Items with the modules that declare them, as those stand there, one such module behind the other."""
-    homes = [home for home, _ in found]
-    return sorted(found, key=lambda pair: (homes.index(pair[0]), pair[1].place))
+def reached_below(here, path=""):
+    """The paths that users reach from a module, those of its modules too, in the order of the source."""
+    for name, found in reached(here):
+        if isinstance(found, Module):
+            yield from reached_below(found, f"{path}{name}::")
+        else:
+            yield path + name, found
 
 
 # The impls of a type
@@ -249,14 +317,14 @@ def implemented(item):
 
 
 def declared_type(item):
-    """The name of the type whose calls a user has by this item: of what an alias stands for, if it is one."""
+    """The name of the type whose calls a user has by this item: if it is an alias, of the type that it names."""
     if item.kind != "type":
         return item.name
     return re.search(r"= (?:&'\w+ mut )?(\w+)", " ".join(item.signature)).group(1)
 
 
 def impls_of(home, item):
-    """The impls on a type with the modules that hold them, and its own module first."""
+    """The impls on a type with the modules that hold them, its own module first."""
     holders = sorted(modules(home.crate), key=lambda each: each is not home)
     for holder in holders:
         for each in holder.items:
@@ -266,14 +334,12 @@ def impls_of(home, item):
                     yield holder, trait, each
 
 
-def derived(home, item):
-    """The traits that a type has by its attributes."""
-    for each in home.items:
-        if each.name == declared_type(item):
-            for attribute in each.attributes:
-                if attribute.startswith("#[derive("):
-                    return attribute.removeprefix("#[derive(").removesuffix(")]").split(", ")
-    return []
+def anchor_of(call):
+    """The anchor in PROMISES.md of what a call promises, if it has one."""
+    for pattern, anchor in ANCHORS.items():
+        if fnmatch.fnmatchcase(call, pattern):
+            return anchor
+    return None
 
 
 # The page
@@ -283,7 +349,7 @@ class Page:
     def __init__(self):
         self.lines = INTRODUCTION.split("\n")
         self.lacking = []
-        # By what name the page has shown a type first.
+        # By what path the page has shown a type first.
         self.names = {}
 
     def text(self, line):
@@ -307,64 +373,96 @@ class Page:
             lines += [INDENT + line for line in self.entry(member, f"{' '.join(item.signature)}: ")]
         return lines
 
-    def declared(self, home, item):
-        """A type or a trait, and what a type has, where no other name of it stands before."""
+    def promises(self, calls):
+        """A line of links to the promises of these calls, where there are any."""
+        by_anchor = {}
+        for call in calls:
+            by_anchor.setdefault(anchor_of(call), []).append(f"`{call}`")
+        by_anchor.pop(None, None)
+        links = [f"[{', '.join(names[:4])}{', ..' if len(names) > 4 else ''}]({PROMISES.name}#{anchor})" for anchor, names in by_anchor.items()]
+        if links:
+            self.text(f"Promises: {'; '.join(links)}.")
+
+    def declared(self, path, home, item):
+        """A type or a trait, and what a type has, unless an earlier name of the same type has it already."""
         self.block(self.entry_with_members(item, self.entry(item)))
-        name = self.names.setdefault((home.crate, declared_type(item)), item.name)
-        if name != item.name:
-            self.text(f"Its calls are those of `{name}`.")
+        shown = self.names.setdefault((home.crate, declared_type(item)), path)
+        if shown != path:
+            self.text(f"Its calls are those of `{shown}`.")
             return
         implementations = list(impls_of(home, item)) if item.kind != "trait" else []
         self.calls(home, [(holder, each) for holder, trait, each in implementations if not trait])
-        self.traits(home, item, [each for _, trait, each in implementations if trait and trait not in own_traits()])
+        self.traits([each for _, trait, each in implementations if trait and trait not in own_traits() | {"Model"}])
 
     def calls(self, home, implementations):
-        """The calls of a type, by the modules that hold them."""
+        """The calls of a type, by the modules that hold them, and where PROMISES.md has their promises."""
         for holder, group in itertools.groupby(implementations, key=lambda pair: pair[0]):
-            blocks = [self.entry_with_members(each, each.signature) for _, each in group if any(map(Item.is_shown, each.members))]
-            if blocks and holder is not home:
+            shown = [each for _, each in group if any(map(Item.is_shown, each.members))]
+            if shown and holder is not home:
                 self.text(f"{holder.about}.")
-            for block in blocks:
-                self.block(block)
+            for each in shown:
+                self.block(self.entry_with_members(each, each.signature))
+            self.promises([member.name for each in shown for member in each.members if member.is_shown()])
 
-    def traits(self, home, item, implementations):
-        """The traits of std that a type has."""
-        names = derived(home, item)
-        if names:
-            self.text(f"Derived: {', '.join(f'`{name}`' for name in names)}.")
+    def traits(self, implementations):
+        """The traits of std that a type implements, but for those that it derives."""
         if implementations:
             self.block([" ".join(line.strip() for line in each.signature) for each in implementations])
 
-    def section(self, name, here):
-        """All that users reach by the name of a module, and then by those of the modules in it."""
-        answers = list(reached(here))
-        self.text(f"## `{name}`")
-        found = [answer for _, answer in answers if isinstance(answer, tuple)]
-        for (home, kind), group in itertools.groupby(in_order(found), key=lambda pair: (pair[0], pair[1].kind in TYPES)):
-            if kind:
-                for _, item in group:
-                    self.text(f"### `{item.name}`")
-                    self.declared(home, item)
-            else:
-                self.text(f"### {home.about}")
-                self.block(list(itertools.chain.from_iterable([*self.entry(item), ""] for _, item in group))[:-1])
-        foreign = [f"pub use {answer.path}" for _, answer in answers if isinstance(answer, Foreign)]
-        if foreign:
-            self.text("### From other crates")
-            self.block(foreign)
-        for inner, answer in answers:
-            if isinstance(answer, Module):
-                self.section(f"{name}::{inner}", answer)
+    def functions(self, items):
+        self.block(list(itertools.chain.from_iterable([*self.entry(item), ""] for item in items))[:-1])
+        self.promises([item.name for item in items])
+
+    def section(self, top):
+        """All that users reach by the name of a crate, under its headings."""
+        found = dict(reached_below(module(top, ())))
+        self.text(f"## `{top}`")
+        for heading, paths in listed(top, found).items():
+            self.text(f"### {heading}")
+            for kind, group in itertools.groupby(paths, key=lambda path: kind_of(found[path])):
+                group = list(group)
+                if kind == "foreign":
+                    self.block([f"pub use {found[path].path}" for path in group])
+                elif kind == "type":
+                    for path in group:
+                        self.text(f"#### `{path}`")
+                        self.declared(path, *found[path])
+                else:
+                    self.functions([found[path][1] for path in group])
+
+
+def kind_of(found):
+    if isinstance(found, Foreign):
+        return "foreign"
+    return "type" if found[1].kind in TYPES else "function"
+
+
+def listed(top, found):
+    """The headings of a crate with the paths under each. Fails where `ORDER` isn't what users reach."""
+    order = {}
+    for heading, words in ORDER[top].items():
+        order[heading] = [path for word in words.split() for path in (fnmatch.filter(found, word) or [word])]
+    paths = list(itertools.chain.from_iterable(order.values()))
+    for path in [*found, *paths]:
+        if paths.count(path) != 1 or path not in found:
+            sys.exit(f"ci/api.py: ORDER has {path} {paths.count(path)} times, and the crate {top} {list(found).count(path)} times")
+    return order
+
+
+def headings(page):
+    """The anchors of a page's headings."""
+    lines = page.read_text(encoding="utf-8").splitlines()
+    return {re.sub(r"[^\w -]", "", line.lstrip("# ")).lower().replace(" ", "-") for line in lines if line.startswith("#")}
 
 
 def compare(printed):
-    """Fails where docs/API.md isn't this text, and says which line is the first that differs."""
-    stands = PAGE.read_text(encoding="utf-8") if PAGE.exists() else ""
-    pairs = itertools.zip_longest(stands.split("\n"), printed.split("\n"), fillvalue="the end")
+    """Fails where docs/API.md isn't this text, and prints the first line that differs."""
+    current = PAGE.read_text(encoding="utf-8") if PAGE.exists() else ""
+    pairs = itertools.zip_longest(current.split("\n"), printed.split("\n"), fillvalue="the end")
     for number, (old, new) in enumerate(pairs, 1):
         if old != new:
-            sys.exit(f"{PAGE}:{number}: differs from the sources\n  it has   {old}\n  they say {new}\n`sh ci/api.sh > {PAGE}` prints it anew")
-    print(f"{PAGE}: {number - 1} lines, as the sources say")
+            sys.exit(f"{PAGE}:{number}: differs from the sources\n  it has  {old}\n  sources {new}\n`sh ci/api.sh > {PAGE}` prints it again")
+    print(f"{PAGE}: {number - 1} lines, as in the sources")
 
 
 def main(words):
@@ -373,9 +471,12 @@ def main(words):
         sys.exit(2)
     page = Page()
     for top in TOPS:
-        page.section(top, module(top, ()))
+        page.section(top)
     if page.lacking:
         sys.exit("no comment for readers (///): " + ", ".join(page.lacking))
+    missing = set(ANCHORS.values()) - headings(PROMISES)
+    if missing:
+        sys.exit(f"{PROMISES}: no heading for: " + ", ".join(sorted(missing)))
     printed = "\n".join(page.lines) + "\n"
     if words:
         compare(printed)
