@@ -2,8 +2,8 @@
 # What the documents show. Each block of Rust or of antt in them, and in the comments on public items, is in one of the proved crates
 # yasna_guide, yasna_examples, x509 and ldap, line for line, but for its indentation as a whole. A module that a document shows is the
 # document's blocks, one after the other, and nothing else: so a reader who copies them has all that is needed. Each block of GUIDE.md and
-# NOTATION.md is a module. Each mutant that PROMISES.md names is an edit that the gate
-# or ci/mutants.sh tries.
+# NOTATION.md is a module. A page CALLING.md also quotes contracts and definitions, which are in the sources, line for line. Each mutant that
+# PROMISES.md names is an edit that the gate or ci/mutants.sh tries.
 set -eu
 cd "$(dirname "$0")/.."
 work=$(mktemp -d)
@@ -17,7 +17,8 @@ lines_of() {
     esac
 }
 
-# The first file holds a document's lines, the other files are the crates'. Prints the number of blocks, or the first error.
+# The first file holds a document's lines, the other files are the crates'. Prints the number of blocks, or the first error. With `quotes` set,
+# comments are left out on both sides, and a block that isn't in a file as a whole may be quotes with empty lines between them.
 compare='
 # The number of lines of the block that are at this place.
 function fits(file, first,    indent, k) {
@@ -46,16 +47,33 @@ function find_block(    k) {
     k = most_that_fit()
     if (size == 0 || k < size) fail(begin + k ": no file of the crates continues with " block[k + 1])
 }
+# The quotes of the block, one after the other.
+function find_quotes(    all, whole, k, from) {
+    from = begin
+    for (k = 1; k <= size; k++) whole[k] = block[k]
+    all = size
+    whole[all + 1] = ""
+    size = 0
+    for (k = 1; k <= all + 1; k++)
+        if (whole[k] != "") block[++size] = whole[k]
+        else if (size > 0) {
+            begin = from + k - 1 - size
+            find_block()
+            size = 0
+        }
+}
 BEGIN {
     for (file = 1; file < ARGC; file++)
-        while ((getline line < ARGV[file]) > 0) text[file, ++lines[file]] = line
+        while ((getline line < ARGV[file]) > 0)
+            if (!quotes || file == 1 || line !~ /^ *(--|\/\/)/) text[file, ++lines[file]] = line
     for (at = 1; at <= lines[1]; at++) {
         line = text[1, at]
         if (inside && line == "```") {
             inside = 0
-            find_block()
+            if (quotes && most_that_fit() < size) find_quotes()
+            else find_block()
         } else if (inside) {
-            block[++size] = line
+            if (!quotes || line !~ /^ *(--|\/\/)/) block[++size] = line
         } else if (line == "```rust" || line == "```antt") {
             inside = 1
             size = 0
@@ -116,12 +134,13 @@ rust_blocks() {
     fi
 }
 
-# compare_blocks DOCUMENT FILE..
+# compare_blocks DOCUMENT QUOTES FILE..
 compare_blocks() {
     document=$1
-    shift
+    quotes=$2
+    shift 2
     lines_of "$document" > "$work/lines"
-    if ! awk "$compare" "$work/lines" "$@" > "$work/said"; then
+    if ! awk -v quotes="$quotes" "$compare" "$work/lines" "$@" > "$work/said"; then
         echo "$document:$(cat "$work/said")" >&2
         exit 1
     fi
@@ -136,7 +155,7 @@ for page in README.md docs/GUIDE.md docs/NOTATION.md docs/IMPLEMENTING.md \
     crates/yasna/src/lib.rt crates/yasna/src/shapes.rt \
     crates/yasna_reader/src/state.rt crates/yasna_reader/src/set.rt \
     crates/yasna_writer/src/state.rt crates/yasna_writer/src/sequence.rt crates/yasna_writer/src/set.rt; do
-    compare_blocks "$page" $files
+    compare_blocks "$page" "" $files
     echo "$page: $(cat "$work/said") pieces, all in proved crates"
 done
 
@@ -148,6 +167,14 @@ set -- "$guide/messages.rt" "$types/time.rt" "$types/extension.rt" "$types/exten
 is_whole docs/NOTATION.md "$@"
 rust_blocks docs/NOTATION.md $#
 is_whole docs/IMPLEMENTING.md "$examples/by_tuple.rt" "$examples/by_closure.rt"
+
+library=$(for crate in yasna yasna_base yasna_times yasna_bytes yasna_reader yasna_writer; do
+    find "crates/$crate/src" "crates/$crate/specs" -name '*.rt' -o -name '*.antt'
+done)
+for page in crates/yasna/CALLING.md; do
+    compare_blocks "$page" 1 $files $library
+    echo "$page: $(cat "$work/said") callers, contracts and definitions, all in the sources"
+done
 
 # The names after "Mutants:", up to the end of that item.
 awk '/^ *- / || $0 == "" { inside = /^ *- Mutants: / } inside' docs/PROMISES.md | grep -o '`[a-z0-9_]*`' | tr -d '`' | sort -u > "$work/mutants"
