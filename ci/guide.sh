@@ -3,8 +3,10 @@
 # the proved crates yasna_guide, yasna_examples, x509 and ldap, line for line, but for how far the block is indented as a whole. And a module of
 # them that a document shows is the document's blocks, one behind the other, and nothing else: so who copies them has all that is needed.
 # Each block of GUIDE.md is a module of its own, with what it uses.
+# First the picture of the crates, which ARCHITECTURE.md shows, is compared with crates.txt.
 set -eu
 cd "$(dirname "$0")/.."
+sh ci/picture.sh check
 work=$(mktemp -d)
 trap 'rm -rf "$work"' EXIT
 
