@@ -4,8 +4,10 @@
 # document's blocks, one after the other, and nothing else: so a reader who copies them has all that is needed. Each block of GUIDE.md and
 # NOTATION.md is a module. A page CALLING.md also quotes contracts and definitions, which are in the sources, line for line. Each mutant that
 # PROMISES.md names is an edit that the gate or ci/mutants.sh tries.
+# First the picture of the crates, which ARCHITECTURE.md shows, is compared with crates.txt.
 set -eu
 cd "$(dirname "$0")/.."
+sh ci/picture.sh check
 work=$(mktemp -d)
 trap 'rm -rf "$work"' EXIT
 
