@@ -1,16 +1,12 @@
 //! Certificates and revocation lists (RFC 5280), as OpenSSL 3.0.19 made them: the bytes that they were come back.
 
-use crate::checks::all_hold;
-use crate::messages::{comes_back, is_refused};
+use crate::checks::{
+    bytes_of, finds_none, first_failing, is_invalid, is_rejected, round_trips, says,
+};
 use std::alloc::Global;
-use x509::{
-    Certificate, CertificateList, Signed, TbsCertList, TbsCertificate, read_signed_certificate,
-    read_signed_list,
-};
-use yasna::{
-    ASN1Error, ASN1ErrorKind, ASN1Result, BERDecodable, BERReader, DEREncodable, DERExact,
-    decode_ber, parse_der,
-};
+use x509::{Certificate, CertificateList, Signed, read_signed_certificate, read_signed_list};
+use yasna::BERMode::Ber;
+use yasna::{ASN1Result, BERReader, parse_der};
 use yasna_notation::Noted;
 
 // `openssl req -x509` with a key on P-256 and extensions: v3.
@@ -74,127 +70,102 @@ const NO_VERSION: &str =
     304402204bdb17a817dcca992ac9cdda5ea9d0a48280bb4d1d2576f31e3f7656ad3ae60602206f4b99d6c1a1cccacbe282e0\
     167f6f00525aea00ae45bc7ab0b74852d15acff1";
 
-pub fn bytes_of(alloc: Global, text: &str) -> ASN1Result<Vec<u8>> {
-    match hex::decode(alloc, text) {
-        Ok(bytes) => Ok(bytes),
-        Err(_) => Err(ASN1Error::new(ASN1ErrorKind::OutOfMemory)),
-    }
-}
+// REVOKED with the number 0 in place of its version.
+const OLDER: &str =
+    "3082011c3081c3020100300a06082a8648ce3d040302303f310b3009060355040613024e4c31143012060355040a0c0b4578\
+    616d706c65204f7267311a301806035504030c114578616d706c6520417574686f72697479170d3236313132353038303435\
+    375a170d3236313232353038303435375a30223020020106170d3236313132353038303435375a300c300a0603551d150403\
+    0a0101a02f302d301f0603551d230418301680146ebabfcc06afddd7c785d4601a2db969bd747754300a0603551d14040302\
+    0101300a06082a8648ce3d04030203480030450220223b31a996765ce918e9f9f9dffafceab29055f1d2fadc0d56c878afca\
+    9a5fec022100a81803f202b500c5c834aaa800b28f39ce5dee989da5d8ce30caf15364b11fc9";
 
-fn text_comes_back<T: BERDecodable + DEREncodable + DERExact>(alloc: Global, text: &str) -> bool {
-    match bytes_of(alloc, text) {
-        Ok(bytes) => comes_back::<T>(alloc, &bytes),
-        Err(_) => false,
-    }
-}
-
-fn text_is_refused<T: BERDecodable + DEREncodable + DERExact>(alloc: Global, text: &str) -> bool {
-    match bytes_of(alloc, text) {
-        Ok(bytes) => is_refused::<T>(alloc, &bytes),
-        Err(_) => false,
-    }
-}
-
-fn certificate(alloc: Global, text: &str) -> ASN1Result<Certificate> {
-    let bytes = bytes_of(alloc, text)?;
-    let noted: Noted<Certificate> = decode_ber(alloc, &bytes)?;
-    Ok(noted.into_value())
-}
-
-fn are_forms(alloc: Global) -> [bool; 6] {
+fn certificates_round_trip(alloc: Global) -> [(&'static str, bool); 4] {
     [
-        text_comes_back::<Noted<Certificate>>(alloc, AUTHORITY),
-        text_comes_back::<Noted<Certificate>>(alloc, LEAF),
-        text_comes_back::<Noted<Certificate>>(alloc, UNIQUE),
+        (
+            "AUTHORITY",
+            round_trips::<Noted<Certificate>>(alloc, AUTHORITY, true),
+        ),
+        ("LEAF", round_trips::<Noted<Certificate>>(alloc, LEAF, true)),
+        (
+            "UNIQUE",
+            round_trips::<Noted<Certificate>>(alloc, UNIQUE, true),
+        ),
         // a default that is written out is none of DER
-        text_is_refused::<Noted<Certificate>>(alloc, WRITTEN_OUT),
-        text_is_refused::<Noted<CertificateList>>(alloc, LEAF),
-        text_comes_back::<Noted<CertificateList>>(alloc, REVOKED),
+        (
+            "WRITTEN_OUT",
+            round_trips::<Noted<Certificate>>(alloc, WRITTEN_OUT, false),
+        ),
+    ]
+}
+
+fn lists_round_trip(alloc: Global) -> [(&'static str, bool); 2] {
+    [
+        (
+            "LEAF is no list",
+            round_trips::<Noted<CertificateList>>(alloc, LEAF, false),
+        ),
+        (
+            "REVOKED",
+            round_trips::<Noted<CertificateList>>(alloc, REVOKED, true),
+        ),
     ]
 }
 
 // Whether it has the issuer's number of UNIQUE.
-fn has_issuer_id(certificate: &TbsCertificate) -> bool {
-    match &certificate.issuer_unique_id {
+fn has_issuer_id(certificate: &Noted<Certificate>) -> bool {
+    match &certificate.value.tbs_certificate.issuer_unique_id {
         Some((octets, bits)) => octets.as_slice() == [171, 192].as_slice() && *bits == 12,
         None => false,
     }
 }
 
-fn is_unique(alloc: Global) -> bool {
-    match certificate(alloc, UNIQUE) {
-        Ok(unique) => has_issuer_id(&unique.tbs_certificate),
-        Err(_) => false,
-    }
-}
-
 // Whether it has the version and the number of AUTHORITY.
-fn is_of_authority(certificate: &TbsCertificate) -> bool {
-    let (serial, is_positive) = &certificate.serial_number;
-    certificate.version == 2
+fn is_of_authority(certificate: &Noted<Certificate>) -> bool {
+    let (serial, is_positive) = &certificate.value.tbs_certificate.serial_number;
+    certificate.value.tbs_certificate.version == 2
         && serial.as_slice() == [0, 241, 226, 211, 196, 181, 166, 151].as_slice()
         && *is_positive
 }
 
-fn is_authority(alloc: Global) -> bool {
-    match certificate(alloc, AUTHORITY) {
-        Ok(authority) => is_of_authority(&authority.tbs_certificate),
-        Err(_) => false,
-    }
-}
-
-fn version_of(alloc: Global, text: &str) -> ASN1Result<u64> {
-    match certificate(alloc, text) {
-        Ok(certificate) => Ok(certificate.tbs_certificate.version),
-        Err(error) => Err(error),
-    }
-}
-
-fn are_certificates(alloc: Global) -> [bool; 5] {
-    // no version has the number 3
-    let invalid = ASN1Error::new(ASN1ErrorKind::Invalid);
-    [
-        is_authority(alloc),
-        is_unique(alloc),
-        version_of(alloc, LEAF) == Ok(0),
-        // BER takes a default that is written out
-        version_of(alloc, WRITTEN_OUT) == Ok(0),
-        version_of(alloc, NO_VERSION) == Err(invalid),
-    ]
-}
-
-fn list_of(alloc: Global, bytes: &[u8]) -> ASN1Result<CertificateList> {
-    let noted: Noted<CertificateList> = decode_ber(alloc, bytes)?;
-    Ok(noted.into_value())
+fn is_of_version_1(certificate: &Noted<Certificate>) -> bool {
+    certificate.value.tbs_certificate.version == 0
 }
 
 // Whether it is of version 2, and revokes one certificate.
-fn revokes_one(list: &TbsCertList) -> bool {
-    match &list.revoked_certificates {
-        Some(certificates) => list.version == Some(1) && certificates.len() == 1,
+fn revokes_one(list: &Noted<CertificateList>) -> bool {
+    match &list.value.tbs_cert_list.revoked_certificates {
+        Some(certificates) => {
+            list.value.tbs_cert_list.version == Some(1) && certificates.len() == 1
+        }
         None => false,
     }
 }
 
-fn is_list_of_one(alloc: Global, text: &str) -> bool {
-    let Ok(bytes) = bytes_of(alloc, text) else {
-        return false;
-    };
-    match list_of(alloc, &bytes) {
-        Ok(list) => revokes_one(&list.tbs_cert_list),
-        Err(_) => false,
-    }
-}
-
-// Whether a list whose version has the number 0 is refused.
-fn is_older_refused(alloc: Global, text: &str) -> bool {
-    let Ok(mut older) = bytes_of(alloc, text) else {
-        return false;
-    };
-    if let Some(version) = older.get_mut(9) {
-        *version = 0;
-    }
-    list_of(alloc, &older).is_err()
+fn certificates_say(alloc: Global) -> [(&'static str, bool); 5] {
+    [
+        (
+            "AUTHORITY",
+            says::<Noted<Certificate>, _>(alloc, Ber, AUTHORITY, is_of_authority),
+        ),
+        (
+            "UNIQUE",
+            says::<Noted<Certificate>, _>(alloc, Ber, UNIQUE, has_issuer_id),
+        ),
+        (
+            "LEAF",
+            says::<Noted<Certificate>, _>(alloc, Ber, LEAF, is_of_version_1),
+        ),
+        // BER takes a default that is written out
+        (
+            "WRITTEN_OUT",
+            says::<Noted<Certificate>, _>(alloc, Ber, WRITTEN_OUT, is_of_version_1),
+        ),
+        // no version has the number 3
+        (
+            "NO_VERSION",
+            is_invalid::<Noted<Certificate>>(alloc, NO_VERSION),
+        ),
+    ]
 }
 
 // A closure that hands on what it borrows, or a function of another crate by its name, is not proved.
@@ -231,20 +202,33 @@ fn is_signed_list(alloc: Global, text: &str, from: usize, to: usize) -> bool {
     }
 }
 
-fn are_lists_and_signed(alloc: Global) -> [bool; 4] {
+fn lists_and_signed(alloc: Global) -> [(&'static str, bool); 4] {
     [
-        is_list_of_one(alloc, REVOKED),
+        (
+            "REVOKED",
+            says::<Noted<CertificateList>, _>(alloc, Ber, REVOKED, revokes_one),
+        ),
         // a list names version 2 or none
-        is_older_refused(alloc, REVOKED),
-        is_signed(alloc, AUTHORITY, 4, 358),
-        is_signed_list(alloc, REVOKED, 4, 202),
+        (
+            "OLDER",
+            is_rejected::<Noted<CertificateList>>(alloc, Ber, OLDER),
+        ),
+        (
+            "what is signed of AUTHORITY",
+            is_signed(alloc, AUTHORITY, 4, 358),
+        ),
+        (
+            "what is signed of REVOKED",
+            is_signed_list(alloc, REVOKED, 4, 202),
+        ),
     ]
 }
 
 // They come back, and so do lists; what certificates and lists say, and what is signed of them.
 #[test]
-fn certificates_and_lists(rt: HostRuntime) {
-    all_hold(&rt, &are_forms(rt.alloc()));
-    all_hold(&rt, &are_certificates(rt.alloc()));
-    all_hold(&rt, &are_lists_and_signed(rt.alloc()));
+fn certificates_and_lists_round_trip_and_say_what_they_hold(rt: HostRuntime) {
+    finds_none(&rt, first_failing(&certificates_round_trip(rt.alloc())));
+    finds_none(&rt, first_failing(&lists_round_trip(rt.alloc())));
+    finds_none(&rt, first_failing(&certificates_say(rt.alloc())));
+    finds_none(&rt, first_failing(&lists_and_signed(rt.alloc())));
 }

@@ -1,11 +1,9 @@
 //! Messages of LDAP (RFC 4511), made by hand.
 
-use crate::certificates::bytes_of;
-use crate::checks::{finds_none, gives};
-use crate::messages::comes_back;
+use crate::checks::{finds_none, first_failing, is_longer, is_rejected, round_trips, says};
 use ldap::{Filter, FilterItem, LdapMessage, ProtocolOp};
 use std::alloc::Global;
-use yasna::{ASN1Result, decode_ber, decode_der, encode_der, one_form};
+use yasna::BERMode::Ber;
 use yasna_notation::Noted;
 
 // Messages in DER.
@@ -70,7 +68,7 @@ static TAKEN: [&str; 22] = [
 ];
 
 // Bytes that are no message in any encoding rules.
-static REFUSED: [&str; 18] = [
+static REJECTED: [&str; 18] = [
     // version 0
     "300c020101600702010004008000",
     // version 128
@@ -139,81 +137,45 @@ static LONGER: [(&str, &str); 5] = [
     ),
 ];
 
-fn text_comes_back(alloc: Global, text: &str) -> bool {
-    match bytes_of(alloc, text) {
-        Ok(bytes) => comes_back::<Noted<LdapMessage>>(alloc, &bytes),
-        Err(_) => false,
-    }
-}
-
-fn message_of(alloc: Global, text: &str) -> ASN1Result<LdapMessage> {
-    let bytes = bytes_of(alloc, text)?;
-    let noted: Noted<LdapMessage> = decode_ber(alloc, &bytes)?;
-    Ok(noted.into_value())
-}
-
-fn written_anew(alloc: Global, bytes: &[u8]) -> ASN1Result<Vec<u8>> {
-    one_form::<Noted<LdapMessage>>();
-    let message: Noted<LdapMessage> = decode_ber(alloc, bytes)?;
-    encode_der(alloc, &message)
-}
-
-// Whether the message has this form, which comes back, and is none itself.
-fn is_longer(alloc: Global, text: &str, form: &str) -> bool {
-    let Ok(bytes) = bytes_of(alloc, text) else {
-        return false;
-    };
-    match bytes_of(alloc, form) {
-        Ok(form) => {
-            gives(written_anew(alloc, &bytes), &form)
-                && comes_back::<Noted<LdapMessage>>(alloc, &form)
-                && decode_der::<Noted<LdapMessage>>(alloc, &bytes).is_err()
-        }
-        Err(_) => false,
-    }
-}
-
-// Whether BER reads no message from it.
-fn is_refused(alloc: Global, text: &str) -> bool {
-    match bytes_of(alloc, text) {
-        Ok(bytes) => decode_ber::<Noted<LdapMessage>>(alloc, &bytes).is_err(),
-        Err(_) => false,
-    }
-}
-
 // The first message that doesn't come back.
 fn first_other_message(alloc: Global) -> Option<&'static str> {
     for text in &TAKEN {
-        if !text_comes_back(alloc, text) {
+        if !round_trips::<Noted<LdapMessage>>(alloc, text, true) {
             return Some(*text);
         }
     }
     None
 }
 
-// The first of the others that isn't refused.
+// The first of the others that BER takes.
 fn first_taken(alloc: Global) -> Option<&'static str> {
-    for text in &REFUSED {
-        if !is_refused(alloc, text) {
+    for text in &REJECTED {
+        if !is_rejected::<Noted<LdapMessage>>(alloc, Ber, text) {
             return Some(*text);
         }
     }
     None
+}
+
+// Whether the message has this form, which comes back, and is none itself.
+fn is_row(alloc: Global, text: &str, form: &str) -> bool {
+    is_longer::<Noted<LdapMessage>>(alloc, text, form)
+        && round_trips::<Noted<LdapMessage>>(alloc, form, true)
 }
 
 // The first message for which this isn't so.
 fn first_other_form(alloc: Global) -> Option<&'static str> {
-    for (text, form) in &LONGER {
-        if !is_longer(alloc, text, form) {
-            return Some(*text);
+    for row in &LONGER {
+        if !is_row(alloc, row.0, row.1) {
+            return Some(row.0);
         }
     }
     None
 }
 
 // Whether it asks for what isn't one thing and equals another.
-fn asks_for_both(operation: &ProtocolOp) -> bool {
-    match operation {
+fn asks_for_both(message: &Noted<LdapMessage>) -> bool {
+    match &message.value.protocol_op {
         ProtocolOp::SearchRequest(request) => has_both(&request.filter),
         _ => false,
     }
@@ -244,19 +206,17 @@ fn has_equality(filters: &[Filter]) -> bool {
     false
 }
 
-// Whether the message asks for both.
-fn is_asked(alloc: Global, text: &str) -> bool {
-    match message_of(alloc, text) {
-        Ok(message) => asks_for_both(&message.protocol_op),
-        Err(_) => false,
-    }
+// What the message of `(&(cn=x)(!(objectClass=*)))` asks.
+fn what_is_asked(alloc: Global) -> [(&'static str, bool); 1] {
+    let holds = says::<Noted<LdapMessage>, _>(alloc, Ber, TAKEN[17], asks_for_both);
+    [(TAKEN[17], holds)]
 }
 
-// They come back, others are refused, what BER reads is written anew, and what a search asks.
+// They come back, others are rejected, what BER reads is written anew, and what a search asks.
 #[test]
-fn messages(rt: HostRuntime) {
+fn messages_round_trip_or_are_rejected(rt: HostRuntime) {
     finds_none(&rt, first_other_message(rt.alloc()));
     finds_none(&rt, first_taken(rt.alloc()));
     finds_none(&rt, first_other_form(rt.alloc()));
-    assert!(rt; is_asked(rt.alloc(), TAKEN[17]));
+    finds_none(&rt, first_failing(&what_is_asked(rt.alloc())));
 }

@@ -1,83 +1,75 @@
-//! Messages that are types made of types: a DER form comes back as it was, and what is none is refused.
+//! Messages that are types made of types: a DER form comes back as it was, and what is none is rejected.
 
-use crate::checks::{all_hold, gives};
+use crate::checks::{finds_none, round_trips};
 use snmp::{ApplicationSyntax, SimpleSyntax};
 use std::alloc::Global;
 use x509::{AlgorithmIdentifier, Attribute, Extensions, Name, SubjectPublicKeyInfo, Validity};
-use yasna::{
-    ASN1Result, BERDecodable, DEREncodable, DERExact, decode_der, encode_der, one_der_form,
-};
 use yasna_notation::Noted;
 
-pub fn rewritten<T: BERDecodable + DEREncodable + DERExact>(
-    alloc: Global,
-    bytes: &[u8],
-) -> ASN1Result<Vec<u8>> {
-    one_der_form::<T>();
-    let value: T = decode_der(alloc, bytes)?;
-    encode_der(alloc, &value)
+#[derive(Clone, Copy)]
+enum Type {
+    Algorithm,
+    PublicKey,
+    Name,
+    Attribute,
+    Validity,
+    Extensions,
+    Simple,
+    Application,
 }
 
-/// Whether the bytes are the form of a value of this type: they come back.
-pub fn comes_back<T: BERDecodable + DEREncodable + DERExact>(alloc: Global, bytes: &[u8]) -> bool {
-    gives(rewritten::<T>(alloc, bytes), bytes)
+// Types, texts, and whether these are the form of a value of the type.
+static ROWS: [(Type, &str, bool); 18] = [
+    (Type::Algorithm, "300d06092a864886f70d0101010500", true),
+    (Type::PublicKey, "300b300506032b6570030200aa", true),
+    (Type::Name, "300c310a300806035504030c0161", true),
+    (Type::Attribute, "300a060355040331030c0161", true),
+    (
+        Type::Validity,
+        "3020170d3235303130313030303030305a180f32303530303130313030303030305a",
+        true,
+    ),
+    (Type::Extensions, "300e300c0603551d130101ff04023000", true),
+    (Type::Simple, "020105", true),
+    (Type::Simple, "040161", true),
+    (Type::Simple, "0603550403", true),
+    (Type::Application, "40047f000001", true),
+    (Type::Application, "410107", true),
+    (Type::Application, "420107", true),
+    (Type::Application, "430107", true),
+    (Type::Application, "440161", true),
+    (Type::Application, "460107", true),
+    // an address has four octets
+    (Type::Application, "40037f0000", false),
+    // a part of a name has one attribute at least
+    (Type::Name, "30023100", false),
+    (Type::Extensions, "3000", false),
+];
+
+fn is_row(alloc: Global, of: Type, text: &str, is_form: bool) -> bool {
+    match of {
+        Type::Algorithm => round_trips::<Noted<AlgorithmIdentifier>>(alloc, text, is_form),
+        Type::PublicKey => round_trips::<Noted<SubjectPublicKeyInfo>>(alloc, text, is_form),
+        Type::Name => round_trips::<Noted<Name>>(alloc, text, is_form),
+        Type::Attribute => round_trips::<Noted<Attribute>>(alloc, text, is_form),
+        Type::Validity => round_trips::<Noted<Validity>>(alloc, text, is_form),
+        Type::Extensions => round_trips::<Noted<Extensions>>(alloc, text, is_form),
+        Type::Simple => round_trips::<Noted<SimpleSyntax>>(alloc, text, is_form),
+        Type::Application => round_trips::<Noted<ApplicationSyntax>>(alloc, text, is_form),
+    }
 }
 
-/// Whether they are the form of none.
-pub fn is_refused<T: BERDecodable + DEREncodable + DERExact>(alloc: Global, bytes: &[u8]) -> bool {
-    rewritten::<T>(alloc, bytes).is_err()
-}
-
-fn are_forms(alloc: Global) -> [bool; 6] {
-    let rsa = [48, 13, 6, 9, 42, 134, 72, 134, 247, 13, 1, 1, 1, 5, 0];
-    let key = [48, 11, 48, 5, 6, 3, 43, 101, 112, 3, 2, 0, 170];
-    let name = [48, 12, 49, 10, 48, 8, 6, 3, 85, 4, 3, 12, 1, 97];
-    let attribute = [48, 10, 6, 3, 85, 4, 3, 49, 3, 12, 1, 97];
-    let validity = [
-        48, 32, 23, 13, 50, 53, 48, 49, 48, 49, 48, 48, 48, 48, 48, 48, 90, 24, 15, 50, 48, 53, 48,
-        48, 49, 48, 49, 48, 48, 48, 48, 48, 48, 90,
-    ];
-    let extensions = [48, 14, 48, 12, 6, 3, 85, 29, 19, 1, 1, 255, 4, 2, 48, 0];
-    [
-        comes_back::<Noted<AlgorithmIdentifier>>(alloc, &rsa),
-        comes_back::<Noted<SubjectPublicKeyInfo>>(alloc, &key),
-        comes_back::<Noted<Name>>(alloc, &name),
-        comes_back::<Noted<Attribute>>(alloc, &attribute),
-        comes_back::<Noted<Validity>>(alloc, &validity),
-        comes_back::<Noted<Extensions>>(alloc, &extensions),
-    ]
-}
-
-fn is_simple(alloc: Global, bytes: &[u8]) -> bool {
-    comes_back::<Noted<SimpleSyntax>>(alloc, bytes)
-}
-
-fn is_of_application(alloc: Global, bytes: &[u8]) -> bool {
-    comes_back::<Noted<ApplicationSyntax>>(alloc, bytes)
-}
-
-fn are_values(alloc: Global) -> [bool; 12] {
-    [
-        is_simple(alloc, &[2, 1, 5]),
-        is_simple(alloc, &[4, 1, 97]),
-        is_simple(alloc, &[6, 3, 85, 4, 3]),
-        is_of_application(alloc, &[64, 4, 127, 0, 0, 1]),
-        is_of_application(alloc, &[65, 1, 7]),
-        is_of_application(alloc, &[66, 1, 7]),
-        is_of_application(alloc, &[67, 1, 7]),
-        is_of_application(alloc, &[68, 1, 97]),
-        is_of_application(alloc, &[70, 1, 7]),
-        // an address has four octets
-        is_refused::<Noted<ApplicationSyntax>>(alloc, &[64, 3, 127, 0, 0]),
-        // a part of a name has one attribute at least
-        is_refused::<Noted<Name>>(alloc, &[48, 2, 49, 0]),
-        is_refused::<Noted<Extensions>>(alloc, &[48, 0]),
-    ]
+fn first_other_row(alloc: Global) -> Option<&'static str> {
+    for row in &ROWS {
+        if !is_row(alloc, row.0, row.1, row.2) {
+            return Some(row.1);
+        }
+    }
+    None
 }
 
 // Parts of certificates, values of variables, and too few parts.
 #[test]
-fn parts_and_values(rt: HostRuntime) {
-    all_hold(&rt, &are_forms(rt.alloc()));
-    all_hold(&rt, &are_values(rt.alloc()));
+fn parts_and_values_round_trip_or_are_rejected(rt: HostRuntime) {
+    finds_none(&rt, first_other_row(rt.alloc()));
 }

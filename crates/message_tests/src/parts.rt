@@ -1,27 +1,29 @@
 //! A SEQUENCE of parts that are pairs, as of more parts than a tuple has.
 
-use crate::checks::all_hold;
+use crate::checks::{finds_none, first_failing, is_rejected, says};
 use std::alloc::Global;
-use yasna::{ASN1Result, InSequence, decode_der};
+use yasna::{BERMode, InSequence};
 
-fn parts_of(alloc: Global, bytes: &[u8]) -> ASN1Result<(i64, (bool, ()))> {
-    let read: InSequence<(i64, (bool, ()))> = decode_der(alloc, bytes)?;
-    Ok(read.parts)
+type Parts = InSequence<(i64, (bool, ()))>;
+
+fn are_five_and_true(read: &Parts) -> bool {
+    matches!(read.parts, (5, (true, ())))
 }
 
-fn is_sequence(alloc: Global, bytes: &[u8]) -> bool {
-    matches!(parts_of(alloc, bytes), Ok((5, (true, ()))))
-}
-
-// Those of a SET are refused.
-fn are_in_a_sequence(alloc: Global) -> [bool; 2] {
+fn are_in_a_sequence(alloc: Global) -> [(&'static str, bool); 2] {
     [
-        is_sequence(alloc, &[0x30, 6, 2, 1, 5, 1, 1, 255]),
-        parts_of(alloc, &[0x31, 6, 2, 1, 5, 1, 1, 255]).is_err(),
+        (
+            "parts of a SEQUENCE are read",
+            says::<Parts, _>(alloc, BERMode::Der, "30060201050101ff", are_five_and_true),
+        ),
+        (
+            "parts of a SET are rejected",
+            is_rejected::<Parts>(alloc, BERMode::Der, "31060201050101ff"),
+        ),
     ]
 }
 
 #[test]
-fn parts_of_a_sequence(rt: HostRuntime) {
-    all_hold(&rt, &are_in_a_sequence(rt.alloc()));
+fn parts_stand_in_a_sequence(rt: HostRuntime) {
+    finds_none(&rt, first_failing(&are_in_a_sequence(rt.alloc())));
 }

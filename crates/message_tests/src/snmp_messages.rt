@@ -1,13 +1,11 @@
 //! Messages of SNMPv1 and SNMPv2c (RFC 1157, RFC 1901 and RFC 3416), made by hand as programs of net-snmp send them.
 
-use crate::certificates::bytes_of;
-use crate::checks::{all_hold, gives};
+use crate::checks::{
+    bytes_of, canonical_round_trips, finds_none, first_failing, is_rejected, normalized, says,
+};
 use snmp::{ApplicationSyntax, SimpleSyntax, v1, v2c};
 use std::alloc::Global;
-use yasna::{
-    ASN1Result, BERDecodable, DERCanonical, DEREncodable, decode_ber, decode_der, encode_der,
-    one_form,
-};
+use yasna::BERMode::{Ber, Der};
 use yasna_notation::Noted;
 
 // A get-request of SNMPv1, for sysDescr.0.
@@ -36,32 +34,6 @@ const LONG: &str =
 // A message that says that it is of version 3.
 const VERSION_3: &str =
     "302602010304067075626c6963a019020101020100020100300e300c06082b060102010101000500";
-
-// What DER read is written again.
-fn rewritten<T: BERDecodable + DEREncodable + DERCanonical>(
-    alloc: Global,
-    bytes: &[u8],
-) -> ASN1Result<Vec<u8>> {
-    one_form::<T>();
-    let value: T = decode_der(alloc, bytes)?;
-    encode_der(alloc, &value)
-}
-
-// Whether the text's bytes are the form of a value of this type.
-fn comes_back<T: BERDecodable + DEREncodable + DERCanonical>(alloc: Global, text: &str) -> bool {
-    match bytes_of(alloc, text) {
-        Ok(bytes) => gives(rewritten::<T>(alloc, &bytes), &bytes),
-        Err(_) => false,
-    }
-}
-
-// Whether BER reads no value of this type from them.
-fn is_refused<T: BERDecodable>(alloc: Global, text: &str) -> bool {
-    match bytes_of(alloc, text) {
-        Ok(bytes) => decode_ber::<T>(alloc, &bytes).is_err(),
-        Err(_) => false,
-    }
-}
 
 // Whether it has the number and the values of RESPONSE.
 fn is_response(data: &v2c::Pdus) -> bool {
@@ -93,59 +65,72 @@ fn kind_of(value: &v2c::BoundValue) -> usize {
     }
 }
 
-fn message_of(alloc: Global, text: &str) -> ASN1Result<v2c::SnmpMessage> {
-    let bytes = bytes_of(alloc, text)?;
-    let noted: Noted<v2c::SnmpMessage> = decode_ber(alloc, &bytes)?;
-    Ok(noted.into_value())
-}
-
 // Whether it is the answer to the public community that RESPONSE is.
-fn is_public_response(message: &v2c::SnmpMessage) -> bool {
-    message.community.as_slice() == b"public".as_slice() && is_response(&message.data)
+fn is_public_response(message: &Noted<v2c::SnmpMessage>) -> bool {
+    message.value.community.as_slice() == b"public".as_slice() && is_response(&message.value.data)
 }
 
-fn is_said(alloc: Global, text: &str) -> bool {
-    match message_of(alloc, text) {
-        Ok(message) => is_public_response(&message),
-        Err(_) => false,
-    }
-}
-
-fn written_anew(alloc: Global, bytes: &[u8]) -> ASN1Result<Vec<u8>> {
-    one_form::<Noted<v2c::SnmpMessage>>();
-    let noted: Noted<v2c::SnmpMessage> = decode_ber(alloc, bytes)?;
-    encode_der(alloc, &noted)
-}
-
-// Whether the message's form has so many bytes, and its own are none.
-fn has_shorter_form(alloc: Global, text: &str, length: usize) -> bool {
+// Whether the message's form has so many bytes.
+fn has_length(alloc: Global, text: &str, length: usize) -> bool {
     let Ok(bytes) = bytes_of(alloc, text) else {
         return false;
     };
-    match written_anew(alloc, &bytes) {
-        Ok(form) => {
-            form.len() == length && decode_der::<Noted<v2c::SnmpMessage>>(alloc, &bytes).is_err()
-        }
+    match normalized::<Noted<v2c::SnmpMessage>>(alloc, &bytes) {
+        Ok(form) => form.len() == length,
         Err(_) => false,
     }
 }
 
-// Each version has its own messages.
-fn are_messages(alloc: Global) -> [bool; 9] {
+fn messages_round_trip(alloc: Global) -> [(&'static str, bool); 4] {
     [
-        comes_back::<Noted<v1::SnmpMessage>>(alloc, GET),
-        comes_back::<Noted<v1::SnmpMessage>>(alloc, TRAP),
-        comes_back::<Noted<v2c::SnmpMessage>>(alloc, RESPONSE),
-        comes_back::<Noted<v2c::SnmpMessage>>(alloc, BULK),
-        is_refused::<Noted<v1::SnmpMessage>>(alloc, BULK),
-        is_refused::<Noted<v2c::SnmpMessage>>(alloc, GET),
-        is_refused::<Noted<v1::SnmpMessage>>(alloc, VERSION_3),
-        is_said(alloc, RESPONSE),
-        has_shorter_form(alloc, LONG, 40),
+        (
+            "GET",
+            canonical_round_trips::<Noted<v1::SnmpMessage>>(alloc, GET),
+        ),
+        (
+            "TRAP",
+            canonical_round_trips::<Noted<v1::SnmpMessage>>(alloc, TRAP),
+        ),
+        (
+            "RESPONSE",
+            canonical_round_trips::<Noted<v2c::SnmpMessage>>(alloc, RESPONSE),
+        ),
+        (
+            "BULK",
+            canonical_round_trips::<Noted<v2c::SnmpMessage>>(alloc, BULK),
+        ),
+    ]
+}
+
+// Each version has its own messages.
+fn others_are_rejected(alloc: Global) -> [(&'static str, bool); 6] {
+    [
+        (
+            "BULK is none of SNMPv1",
+            is_rejected::<Noted<v1::SnmpMessage>>(alloc, Ber, BULK),
+        ),
+        (
+            "GET is none of SNMPv2c",
+            is_rejected::<Noted<v2c::SnmpMessage>>(alloc, Ber, GET),
+        ),
+        (
+            "VERSION_3",
+            is_rejected::<Noted<v1::SnmpMessage>>(alloc, Ber, VERSION_3),
+        ),
+        (
+            "what RESPONSE says",
+            says::<Noted<v2c::SnmpMessage>, _>(alloc, Ber, RESPONSE, is_public_response),
+        ),
+        ("the form of LONG", has_length(alloc, LONG, 40)),
+        (
+            "LONG is no form",
+            is_rejected::<Noted<v2c::SnmpMessage>>(alloc, Der, LONG),
+        ),
     ]
 }
 
 #[test]
-fn messages(rt: HostRuntime) {
-    all_hold(&rt, &are_messages(rt.alloc()));
+fn messages_round_trip_or_are_rejected(rt: HostRuntime) {
+    finds_none(&rt, first_failing(&messages_round_trip(rt.alloc())));
+    finds_none(&rt, first_failing(&others_are_rejected(rt.alloc())));
 }
