@@ -1,9 +1,9 @@
 //! AlgorithmIdentifier, with parameters of several types and without, and keys with it.
 
-use crate::checks::{all_hold, gives, refuses};
+use crate::checks::{finds_none, first_failing, gives, is_rejected, rejects};
 use crate::public_key::{ED25519, RSA};
 use std::alloc::Global;
-use yasna::{ASN1ErrorKind, ASN1Result, Tag, decode_ber, decode_der, encode_der, tags};
+use yasna::{ASN1ErrorKind, ASN1Result, BERMode, Tag, decode_ber, decode_der, encode_der, tags};
 use yasna_examples::{AlgorithmIdentifier, SubjectPublicKeyInfo, encoded_key};
 
 fn der_algorithm(alloc: Global, bytes: &[u8]) -> ASN1Result<AlgorithmIdentifier> {
@@ -50,7 +50,7 @@ fn is_rewritten(alloc: Global, other: &[u8], form: &[u8]) -> bool {
 
 // Parameters of indefinite length are kept as they came, with the two zeros that end them. Parameters that are broken
 // aren't taken for none, and behind them nothing may follow.
-fn are_algorithms(alloc: Global) -> [bool; 7] {
+fn are_algorithms(alloc: Global) -> [(&'static str, bool); 7] {
     let ed25519 = [48, 5, 6, 3, 43, 101, 112];
     let rsa = [48, 13, 6, 9, 42, 134, 72, 134, 247, 13, 1, 1, 1, 5, 0];
     // its parameters are the name of the curve P-256
@@ -64,13 +64,39 @@ fn are_algorithms(alloc: Global) -> [bool; 7] {
     let broken = [48, 7, 6, 3, 43, 101, 112, 4, 9];
     let more = [48, 9, 6, 3, 43, 101, 112, 5, 0, 5, 0];
     [
-        is_form(alloc, &ed25519, &[1, 3, 101, 112], None),
-        is_form(alloc, &rsa, &[1, 2, 840, 113549, 1, 1, 1], null),
-        is_form(alloc, &elliptic_curve, &[1, 2, 840, 10045, 2, 1], oid),
-        is_rewritten(alloc, &indefinite, &form),
-        refuses(der_algorithm(alloc, &indefinite), ASN1ErrorKind::Invalid),
-        refuses(ber_algorithm(alloc, &broken), ASN1ErrorKind::Eof),
-        refuses(ber_algorithm(alloc, &more), ASN1ErrorKind::Extra),
+        (
+            "Ed25519 without parameters",
+            is_form(alloc, &ed25519, &[1, 3, 101, 112], None),
+        ),
+        (
+            "RSA with NULL",
+            is_form(alloc, &rsa, &[1, 2, 840, 113549, 1, 1, 1], null),
+        ),
+        (
+            "a curve's name",
+            is_form(alloc, &elliptic_curve, &[1, 2, 840, 10045, 2, 1], oid),
+        ),
+        (
+            "parameters of indefinite length are kept",
+            is_rewritten(alloc, &indefinite, &form),
+        ),
+        (
+            "DER rejects an indefinite length",
+            is_rejected::<AlgorithmIdentifier>(
+                alloc,
+                BERMode::Der,
+                &indefinite,
+                ASN1ErrorKind::Invalid,
+            ),
+        ),
+        (
+            "broken parameters are rejected",
+            is_rejected::<AlgorithmIdentifier>(alloc, BERMode::Ber, &broken, ASN1ErrorKind::Eof),
+        ),
+        (
+            "a second NULL is rejected",
+            is_rejected::<AlgorithmIdentifier>(alloc, BERMode::Ber, &more, ASN1ErrorKind::Extra),
+        ),
     ]
 }
 
@@ -94,17 +120,29 @@ fn form_with_bits(alloc: Global, form: &[u8], bits: usize) -> ASN1Result<Vec<u8>
 }
 
 // A key of more bits than its bytes hold has no form.
-fn are_keys(alloc: Global) -> [bool; 4] {
+fn are_keys(alloc: Global) -> [(&'static str, bool); 4] {
     [
-        is_form_of_key(alloc, &ED25519, 256, false),
-        is_form_of_key(alloc, &RSA, 64, true),
-        gives(form_with_bits(alloc, &ED25519, 256), &ED25519),
-        refuses(form_with_bits(alloc, &ED25519, 257), ASN1ErrorKind::Invalid),
+        (
+            "an Ed25519 key round-trips",
+            is_form_of_key(alloc, &ED25519, 256, false),
+        ),
+        (
+            "an RSA key round-trips",
+            is_form_of_key(alloc, &RSA, 64, true),
+        ),
+        (
+            "256 bits are written",
+            gives(form_with_bits(alloc, &ED25519, 256), &ED25519),
+        ),
+        (
+            "257 bits are rejected",
+            rejects(form_with_bits(alloc, &ED25519, 257), ASN1ErrorKind::Invalid),
+        ),
     ]
 }
 
 #[test]
-fn algorithms_and_keys(rt: HostRuntime) {
-    all_hold(&rt, &are_algorithms(rt.alloc()));
-    all_hold(&rt, &are_keys(rt.alloc()));
+fn algorithms_and_keys_round_trip_or_are_rejected(rt: HostRuntime) {
+    finds_none(&rt, first_failing(&are_algorithms(rt.alloc())));
+    finds_none(&rt, first_failing(&are_keys(rt.alloc())));
 }

@@ -1,10 +1,53 @@
 //! What many tests check of an answer.
 
 use std::alloc::Global;
-use std::fmt::Debug;
 use std::hash::{BuildHasher, BuildHasherDefault, FoldHasher, Hash};
 use std::process::Abort;
-use yasna::{ASN1ErrorKind, ASN1Result, DERWriter, construct_der};
+use yasna::{
+    ASN1Error, ASN1ErrorKind, ASN1Result, BERDecodable, BERMode, DERWriter, construct_der,
+    decode_ber_general,
+};
+
+/// The bytes that these pairs of hexadecimal digits are, or `OutOfMemory` where the text is none, which no row wants.
+pub fn bytes_of(alloc: Global, text: &str) -> ASN1Result<Vec<u8>> {
+    let mut bytes = Vec::new(alloc);
+    for pair in text.as_bytes().chunks(2) {
+        match byte_of(pair) {
+            Some(byte) => bytes.push(byte)?,
+            None => return Err(ASN1Error::new(ASN1ErrorKind::OutOfMemory)),
+        }
+    }
+    Ok(bytes)
+}
+
+fn byte_of(pair: &[u8]) -> Option<u8> {
+    match pair {
+        [high, low] => Some(digit(*high)? << 4 | digit(*low)?),
+        _ => None,
+    }
+}
+
+fn digit(character: u8) -> Option<u8> {
+    match character {
+        b'0'..=b'9' => Some(character - b'0'),
+        b'A'..=b'F' => Some(character - b'A' + 10),
+        _ => None,
+    }
+}
+
+/// The first text, the second so many times, the third, and the fourth as often as the second.
+pub fn spelled(alloc: Global, texts: [&str; 4], times: usize) -> ASN1Result<String> {
+    let [head, open, middle, close] = texts;
+    let mut text = String::from_str(alloc, head)?;
+    for _ in 0..times {
+        text.push_str(open)?;
+    }
+    text.push_str(middle)?;
+    for _ in 0..times {
+        text.push_str(close)?;
+    }
+    Ok(text)
+}
 
 /// Whether the answer is these items: those of a list, or the bytes of a form.
 pub fn gives<T: PartialEq + Drop>(answer: ASN1Result<Vec<T>>, items: &[T]) -> bool {
@@ -22,11 +65,53 @@ pub fn begins_with(answer: ASN1Result<Vec<u8>>, length: usize, first: &[u8]) -> 
     }
 }
 
-/// Whether the answer is a refusal of this kind.
-pub fn refuses<T: Drop>(answer: ASN1Result<T>, kind: ASN1ErrorKind) -> bool {
+/// Whether the answer is a rejection of this kind.
+pub fn rejects<T: Drop>(answer: ASN1Result<T>, kind: ASN1ErrorKind) -> bool {
     match answer {
         Ok(_) => false,
-        Err(error) => error.kind() == kind,
+        Err(error) => is_kind(error.kind(), kind),
+    }
+}
+
+/// Whether a value of this type is read from these bytes, and this is so of it.
+pub fn says<T: BERDecodable, F: FnOnce(&T) -> bool>(
+    alloc: Global,
+    mode: BERMode,
+    bytes: &[u8],
+    is_so: F,
+) -> bool
+    requires { F.IsAlwaysCallable is_so }
+{
+    match decode_ber_general::<T>(alloc, bytes, mode) {
+        Ok(value) => is_so(&value),
+        Err(_) => false,
+    }
+}
+
+/// Whether no value of this type is read from these bytes, for this cause.
+pub fn is_rejected<T: BERDecodable>(
+    alloc: Global,
+    mode: BERMode,
+    bytes: &[u8],
+    kind: ASN1ErrorKind,
+) -> bool {
+    rejects(decode_ber_general::<T>(alloc, bytes, mode), kind)
+}
+
+/// Whether both are one kind. It doesn't ask `==`: were that always true, no test would fail for a kind.
+pub fn is_kind(one: ASN1ErrorKind, other: ASN1ErrorKind) -> bool {
+    place_of(one) == place_of(other)
+}
+
+// The place of a kind among the kinds.
+fn place_of(kind: ASN1ErrorKind) -> u8 {
+    match kind {
+        ASN1ErrorKind::Eof => 0,
+        ASN1ErrorKind::Extra => 1,
+        ASN1ErrorKind::IntegerOverflow => 2,
+        ASN1ErrorKind::StackOverflow => 3,
+        ASN1ErrorKind::Invalid => 4,
+        ASN1ErrorKind::OutOfMemory => 5,
     }
 }
 
@@ -39,18 +124,23 @@ where
     gives(construct_der(alloc, |writer| write(value, writer)), form)
 }
 
+/// The name of the first outcome that isn't so.
+pub fn first_failing(outcomes: &[(&'static str, bool)]) -> Option<&'static str> {
+    for outcome in outcomes {
+        if !outcome.1 {
+            return Some(outcome.0);
+        }
+    }
+    None
+}
+
 /// Whether both are one value.
 pub fn is_same<T: Eq + Hash>(one: &T, other: &T) -> bool {
     let hasher = BuildHasherDefault::<FoldHasher>::default();
     *one == *other && hasher.hash_one(one) == hasher.hash_one(other)
 }
 
-/// Fails the test if one of these is not so, and says which.
-pub fn all_hold(rt: &impl Abort, outcomes: &[bool]) {
-    assert!(rt; !outcomes.contains(&false), "{outcomes:?}");
-}
-
-/// Fails the test if something was found, and says what.
-pub fn finds_none<T: Debug + Drop>(rt: &impl Abort, found: Option<T>) {
+/// Fails the test if a row was found, and says which.
+pub fn finds_none(rt: &impl Abort, found: Option<&str>) {
     assert!(rt; found.is_none(), "{found:?}");
 }

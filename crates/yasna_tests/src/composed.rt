@@ -1,9 +1,11 @@
 //! Lists, tuples, raw elements and borrowed values, each impl once at types of its own.
 
-use crate::checks::{all_hold, gives, refuses};
+use crate::checks::{finds_none, first_failing, gives, is_rejected, says};
 use std::alloc::{AllocError, Global};
 use yasna::models::TaggedDerValue;
-use yasna::{ASN1ErrorKind, DERCanonical, PCBit, decode_ber, decode_der, encode_der, tags};
+use yasna::{
+    ASN1ErrorKind, BERMode, DERCanonical, PCBit, decode_ber, decode_der, encode_der, tags,
+};
 use yasna_examples::normalized;
 
 // The INTEGERs of a SEQUENCE.
@@ -43,7 +45,7 @@ fn is_form_of<T: DERCanonical>(alloc: Global, numbers: Numbers, count: u8) -> bo
     };
     let is_form = is_form::<T>(alloc, &bytes);
     match bytes.extend_from_slice(&[2, 1, count.saturating_add(1)]) {
-        Ok(()) => is_form && refuses(decode_ber::<T>(alloc, &bytes), ASN1ErrorKind::Extra),
+        Ok(()) => is_form && is_rejected::<T>(alloc, BERMode::Ber, &bytes, ASN1ErrorKind::Extra),
         Err(_) => false,
     }
 }
@@ -53,80 +55,119 @@ fn is_tuple<T: DERCanonical>(alloc: Global, count: u8) -> bool {
     is_form_of::<T>(alloc, Numbers::Rising, count) && is_form_of::<T>(alloc, Numbers::Tens, count)
 }
 
-fn are_tuples_to_six(alloc: Global) -> [bool; 7] {
+fn are_tuples_to_six(alloc: Global) -> [(&'static str, bool); 7] {
     [
-        is_tuple::<(i64,)>(alloc, 1),
-        is_tuple::<(i64, i64)>(alloc, 2),
-        is_tuple::<(i64, i64, u16)>(alloc, 3),
-        is_tuple::<(i64, i64, i64, i64)>(alloc, 4),
-        is_tuple::<(i64, i64, u64, i64, i64)>(alloc, 5),
-        is_tuple::<(i64, i64, i64, i64, i64)>(alloc, 5),
-        is_tuple::<(i64, i64, i64, i64, i64, i64)>(alloc, 6),
+        ("1", is_tuple::<(i64,)>(alloc, 1)),
+        ("2", is_tuple::<(i64, i64)>(alloc, 2)),
+        ("3", is_tuple::<(i64, i64, u16)>(alloc, 3)),
+        ("4", is_tuple::<(i64, i64, i64, i64)>(alloc, 4)),
+        (
+            "5, one of them unsigned",
+            is_tuple::<(i64, i64, u64, i64, i64)>(alloc, 5),
+        ),
+        ("5", is_tuple::<(i64, i64, i64, i64, i64)>(alloc, 5)),
+        ("6", is_tuple::<(i64, i64, i64, i64, i64, i64)>(alloc, 6)),
     ]
 }
 
-fn are_tuples_to_twelve(alloc: Global) -> [bool; 7] {
+fn are_tuples_to_twelve(alloc: Global) -> [(&'static str, bool); 7] {
     [
-        is_tuple::<(i64, i64, i64, i64, i64, i64, i16)>(alloc, 7),
-        is_tuple::<(i64, i64, i64, i64, i64, i64, i64)>(alloc, 7),
-        is_tuple::<(i64, i64, i64, i64, i64, i64, i64, i64)>(alloc, 8),
-        is_tuple::<(i64, i64, i64, i64, i64, i64, i64, i64, i64)>(alloc, 9),
-        is_tuple::<(i64, i64, i64, i64, i64, i64, i64, i64, i64, i64)>(alloc, 10),
-        is_tuple::<(i64, i64, i64, i64, i64, i64, i64, i64, i64, i64, i64)>(alloc, 11),
-        is_tuple::<(i64, i64, i64, i64, i64, i64, i64, i64, i64, i64, i64, i32)>(alloc, 12),
+        (
+            "7, one of them short",
+            is_tuple::<(i64, i64, i64, i64, i64, i64, i16)>(alloc, 7),
+        ),
+        (
+            "7",
+            is_tuple::<(i64, i64, i64, i64, i64, i64, i64)>(alloc, 7),
+        ),
+        (
+            "8",
+            is_tuple::<(i64, i64, i64, i64, i64, i64, i64, i64)>(alloc, 8),
+        ),
+        (
+            "9",
+            is_tuple::<(i64, i64, i64, i64, i64, i64, i64, i64, i64)>(alloc, 9),
+        ),
+        (
+            "10",
+            is_tuple::<(i64, i64, i64, i64, i64, i64, i64, i64, i64, i64)>(alloc, 10),
+        ),
+        (
+            "11",
+            is_tuple::<(i64, i64, i64, i64, i64, i64, i64, i64, i64, i64, i64)>(alloc, 11),
+        ),
+        (
+            "12",
+            is_tuple::<(i64, i64, i64, i64, i64, i64, i64, i64, i64, i64, i64, i32)>(alloc, 12),
+        ),
     ]
 }
 
 #[test]
-fn tuples(rt: HostRuntime) {
-    all_hold(&rt, &are_tuples_to_six(rt.alloc()));
-    all_hold(&rt, &are_tuples_to_twelve(rt.alloc()));
+fn tuples_of_one_to_twelve_round_trip(rt: HostRuntime) {
+    finds_none(&rt, first_failing(&are_tuples_to_six(rt.alloc())));
+    finds_none(&rt, first_failing(&are_tuples_to_twelve(rt.alloc())));
 }
 
 const INVALID: ASN1ErrorKind = ASN1ErrorKind::Invalid;
 
-fn refuses_numbers(alloc: Global, bytes: &[u8], kind: ASN1ErrorKind) -> bool {
-    refuses(decode_ber::<Vec<i64>>(alloc, bytes), kind)
+fn rejects_numbers(alloc: Global, bytes: &[u8], kind: ASN1ErrorKind) -> bool {
+    is_rejected::<Vec<i64>>(alloc, BERMode::Ber, bytes, kind)
 }
 
 // A list goes on to the two zeros, a broken item is no end of it, and a part that isn't read is too much.
-fn are_lists(alloc: Global) -> [bool; 8] {
+fn are_lists(alloc: Global) -> [(&'static str, bool); 8] {
     let nested = [48, 128, 48, 128, 4, 1, 9, 48, 3, 1, 1, 7, 0, 0, 0, 0];
     let nested_form = [48, 10, 48, 8, 4, 1, 9, 48, 3, 1, 1, 255];
     let form = [48, 128, 2, 1, 10, 2, 1, 11, 0, 0];
     let unread = [48, 128, 2, 1, 1, 2, 1, 2, 2, 1, 3, 0, 0];
     [
-        is_form_of::<Vec<i64>>(alloc, Numbers::Rising, 0),
-        is_form_of::<Vec<u32>>(alloc, Numbers::Rising, 5),
-        gives(
-            normalized::<Vec<(Vec<u8>, Vec<bool>)>>(alloc, &nested),
-            &nested_form,
+        (
+            "an empty list",
+            is_form_of::<Vec<i64>>(alloc, Numbers::Rising, 0),
         ),
-        refuses_numbers(alloc, &[48, 128, 2, 1, 10, 5, 0, 0, 0], INVALID),
-        gives(decode_ber::<Vec<i64>>(alloc, &form), &[10, 11]),
-        refuses_numbers(alloc, &[48, 5, 2, 1, 10, 2, 0], INVALID),
-        refuses_numbers(alloc, &[48, 128, 2, 1, 10], ASN1ErrorKind::Eof),
-        refuses(decode_ber::<(i64, i64)>(alloc, &unread), INVALID),
+        (
+            "a list of five",
+            is_form_of::<Vec<u32>>(alloc, Numbers::Rising, 5),
+        ),
+        (
+            "a nested list",
+            gives(
+                normalized::<Vec<(Vec<u8>, Vec<bool>)>>(alloc, &nested),
+                &nested_form,
+            ),
+        ),
+        (
+            "a NULL is no number",
+            rejects_numbers(alloc, &[48, 128, 2, 1, 10, 5, 0, 0, 0], INVALID),
+        ),
+        (
+            "a list goes on to the two zeros",
+            gives(decode_ber::<Vec<i64>>(alloc, &form), &[10, 11]),
+        ),
+        (
+            "a broken item is rejected",
+            rejects_numbers(alloc, &[48, 5, 2, 1, 10, 2, 0], INVALID),
+        ),
+        (
+            "a list without its end is rejected",
+            rejects_numbers(alloc, &[48, 128, 2, 1, 10], ASN1ErrorKind::Eof),
+        ),
+        (
+            "an unread part is rejected",
+            is_rejected::<(i64, i64)>(alloc, BERMode::Ber, &unread, INVALID),
+        ),
     ]
 }
 
-fn is_element(alloc: Global, bytes: &[u8]) -> bool {
-    match decode_der::<TaggedDerValue>(alloc, bytes) {
-        Ok(element) => {
-            element.tag() == tags::TAG_UTF8STRING
-                && element.pcbit() == PCBit::Primitive
-                && element.value() == [65].as_slice()
-        }
-        Err(_) => false,
-    }
+fn is_element(element: &TaggedDerValue) -> bool {
+    element.tag() == tags::TAG_UTF8STRING
+        && element.pcbit() == PCBit::Primitive
+        && element.value() == [65].as_slice()
 }
 
-// Whether it is a list of so many elements.
-fn has_elements(alloc: Global, bytes: &[u8], count: usize) -> bool {
-    match decode_ber::<Vec<TaggedDerValue>>(alloc, bytes) {
-        Ok(list) => list.len() == count,
-        Err(_) => false,
-    }
+fn are_two(list: &Vec<TaggedDerValue>) -> bool {
+    list.len() == 2
 }
 
 fn is_equal_to_its_copy(value: &TaggedDerValue) -> bool {
@@ -136,49 +177,71 @@ fn is_equal_to_its_copy(value: &TaggedDerValue) -> bool {
     }
 }
 
-fn is_copied(alloc: Global, bytes: &[u8]) -> bool {
-    match decode_der::<TaggedDerValue>(alloc, bytes) {
-        Ok(value) => is_equal_to_its_copy(&value),
-        Err(_) => false,
-    }
-}
-
-fn are_elements(alloc: Global) -> [bool; 3] {
+fn are_elements(alloc: Global) -> [(&'static str, bool); 3] {
     [
-        is_element(alloc, &[12, 1, 65]),
-        has_elements(alloc, &[48, 5, 5, 0, 2, 1, 7], 2),
-        is_copied(alloc, &[4, 6, 72, 101, 108, 108, 111, 33]),
+        (
+            "an element is read",
+            says(alloc, BERMode::Der, &[12, 1, 65], is_element),
+        ),
+        (
+            "two elements are read",
+            says(alloc, BERMode::Ber, &[48, 5, 5, 0, 2, 1, 7], are_two),
+        ),
+        (
+            "an element is its copy",
+            says(
+                alloc,
+                BERMode::Der,
+                &[4, 6, 72, 101, 108, 108, 111, 33],
+                is_equal_to_its_copy,
+            ),
+        ),
     ]
 }
 
-fn are_written(alloc: Global) -> [bool; 5] {
+fn are_written(alloc: Global) -> [(&'static str, bool); 5] {
     let ten: &i64 = &10;
     let flags: &[bool] = &[true, false];
     let numbers: &[i64] = &[10, -129];
     let octets: &[u8] = b"Hello!".as_slice();
     let text = "Hello!";
     [
-        gives(encode_der(alloc, &ten), &[2, 1, 10]),
-        gives(encode_der(alloc, &flags), &[48, 6, 1, 1, 255, 1, 1, 0]),
-        gives(
-            encode_der(alloc, &numbers),
-            &[48, 7, 2, 1, 10, 2, 2, 255, 127],
+        (
+            "a borrowed number",
+            gives(encode_der(alloc, &ten), &[2, 1, 10]),
         ),
-        gives(
-            encode_der(alloc, &octets),
-            &[4, 6, 72, 101, 108, 108, 111, 33],
+        (
+            "borrowed flags",
+            gives(encode_der(alloc, &flags), &[48, 6, 1, 1, 255, 1, 1, 0]),
         ),
-        gives(
-            encode_der(alloc, &text),
-            &[12, 6, 72, 101, 108, 108, 111, 33],
+        (
+            "borrowed numbers",
+            gives(
+                encode_der(alloc, &numbers),
+                &[48, 7, 2, 1, 10, 2, 2, 255, 127],
+            ),
+        ),
+        (
+            "borrowed octets",
+            gives(
+                encode_der(alloc, &octets),
+                &[4, 6, 72, 101, 108, 108, 111, 33],
+            ),
+        ),
+        (
+            "a borrowed text",
+            gives(
+                encode_der(alloc, &text),
+                &[12, 6, 72, 101, 108, 108, 111, 33],
+            ),
         ),
     ]
 }
 
 // Of each list and element, and of borrowed values.
 #[test]
-fn lists_elements_and_borrowed_values(rt: HostRuntime) {
-    all_hold(&rt, &are_lists(rt.alloc()));
-    all_hold(&rt, &are_elements(rt.alloc()));
-    all_hold(&rt, &are_written(rt.alloc()));
+fn lists_elements_and_borrowed_values_round_trip(rt: HostRuntime) {
+    finds_none(&rt, first_failing(&are_lists(rt.alloc())));
+    finds_none(&rt, first_failing(&are_elements(rt.alloc())));
+    finds_none(&rt, first_failing(&are_written(rt.alloc())));
 }

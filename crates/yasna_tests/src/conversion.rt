@@ -1,240 +1,205 @@
-//! Elements by hand, as X.690 spells them: what is written for them, where the first doubt is, and where broken ones are refused.
+//! Elements by hand, as X.690 spells them: what is written for them, where the first doubt is, and where broken ones are rejected.
 
-use crate::checks::{all_hold, finds_none};
-use std::alloc::{AllocError, Global};
-use yasna::ASN1ErrorKind;
-use yasna_conversion::conversion::convert;
+use crate::checks::{bytes_of, finds_none, first_failing, gives, is_kind, spelled};
+use std::alloc::Global;
+use yasna::ASN1ErrorKind::{Eof, Extra, Invalid, StackOverflow};
+use yasna::{ASN1ErrorKind, ASN1Result};
+use yasna_conversion::conversion::{Converted, convert};
 use yasna_conversion::doubt::Doubt;
 use yasna_conversion::fault::Fault;
 
-// Elements in BER, and the same in DER.
-static ROWS: [(&[u8], &[u8]); 20] = [
+// What elements in BER are to be turned into.
+#[derive(Clone, Copy)]
+enum Wanted {
+    /// These elements in DER, with nothing in doubt.
+    Form(&'static str),
+    /// These elements in DER, and the first doubts about a string in segments and about an order.
+    InDoubt(&'static str, Option<usize>, Option<usize>),
+    /// Elements in DER.
+    Any,
+    /// None: they are broken there, and so.
+    Broken(usize, ASN1ErrorKind),
+}
+
+use Wanted::{Any, Broken, Form, InDoubt};
+
+static ROWS: [(&str, Wanted); 39] = [
     // booleans
-    (&[1, 1, 1], &[1, 1, 255]),
-    (&[1, 1, 0], &[1, 1, 0]),
-    (&[1, 129, 1, 128], &[1, 1, 255]),
+    ("010101", Form("0101FF")),
+    ("010100", Form("010100")),
+    ("01810180", Form("0101FF")),
     // lengths in more bytes than it takes
-    (&[2, 129, 1, 5], &[2, 1, 5]),
-    (&[2, 132, 0, 0, 0, 1, 5], &[2, 1, 5]),
+    ("02810105", Form("020105")),
+    ("02840000000105", Form("020105")),
     // a tag in the long form
-    (&[31, 31, 129, 0], &[31, 31, 0]),
+    ("1F1F8100", Form("1F1F00")),
     // indefinite lengths
-    (&[48, 128, 0, 0], &[48, 0]),
-    (
-        &[48, 128, 49, 128, 1, 1, 1, 0, 0, 5, 0, 0, 0],
-        &[48, 7, 49, 3, 1, 1, 255, 5, 0],
-    ),
+    ("30800000", Form("3000")),
+    ("30803180010101000005000000", Form("300731030101FF0500")),
     // several elements
-    (&[5, 0, 48, 128, 0, 0, 1, 1, 7], &[5, 0, 48, 0, 1, 1, 255]),
+    ("050030800000010107", Form("050030000101FF")),
     // octets in segments, and in segments of segments
-    (&[36, 128, 4, 1, 97, 4, 1, 98, 0, 0], &[4, 2, 97, 98]),
-    (&[36, 8, 36, 3, 4, 1, 97, 4, 1, 98], &[4, 2, 97, 98]),
-    (&[36, 0], &[4, 0]),
+    ("24800401610401620000", Form("04026162")),
+    ("24082403040161040162", Form("04026162")),
+    ("2400", Form("0400")),
     // bits in segments, and unused ones
-    (
-        &[35, 9, 3, 2, 0, 255, 3, 3, 4, 171, 207],
-        &[3, 4, 4, 255, 171, 192],
-    ),
-    (&[3, 2, 4, 255], &[3, 2, 4, 240]),
-    (&[35, 128, 0, 0], &[3, 1, 0]),
+    ("2309030200FF030304ABCF", Form("030404FFABC0")),
+    ("030204FF", Form("030204F0")),
+    ("23800000", Form("030100")),
     // a text, and a time
-    (&[44, 128, 4, 1, 195, 4, 1, 169, 0, 0], &[12, 2, 195, 169]),
-    (&[55, 128, 4, 2, 50, 54, 4, 0, 0, 0], &[23, 2, 50, 54]),
+    ("2C800401C30401A90000", Form("0C02C3A9")),
+    ("37800402323604000000", Form("17023236")),
     // elements of a SET OF, which are ordered by what is written
+    ("3109020103020101020102", Form("3109020101020102020103")),
+    ("3180028101020201010000", Form("3106020101020102")),
+    ("310704016224020400", Form("31050400040162")),
+    // elements in doubt
+    ("A0800401610000", InDoubt("A003040161", Some(0), None)),
+    ("05006102A200", InDoubt("05006102A200", Some(2), None)),
     (
-        &[49, 9, 2, 1, 3, 2, 1, 1, 2, 1, 2],
-        &[49, 9, 2, 1, 1, 2, 1, 2, 2, 1, 3],
+        "30083106020101010105",
+        InDoubt("300831060201010101FF", None, Some(2)),
     ),
     (
-        &[49, 128, 2, 129, 1, 2, 2, 1, 1, 0, 0],
-        &[49, 6, 2, 1, 1, 2, 1, 2],
+        "3180A30081000000",
+        InDoubt("3104A3008100", Some(2), Some(0)),
     ),
-    (&[49, 7, 4, 1, 98, 36, 2, 4, 0], &[49, 5, 4, 0, 4, 1, 98]),
+    // broken ones: cut off
+    ("", Broken(0, Eof)),
+    ("02", Broken(0, Eof)),
+    ("30030101", Broken(0, Eof)),
+    ("0500040261", Broken(2, Eof)),
+    // no end of contents, one too many, and one that isn't
+    ("3080010101", Broken(5, Eof)),
+    ("0000", Broken(0, Invalid)),
+    ("30020000", Broken(2, Invalid)),
+    ("30800500000100", Broken(4, Invalid)),
+    // a primitive element of indefinite length
+    ("300402800000", Broken(2, Invalid)),
+    // booleans that aren't, and bits
+    ("01020000", Broken(0, Invalid)),
+    ("05002103010101", Broken(2, Invalid)),
+    ("03020801", Broken(0, Invalid)),
+    ("2308030201FE030200FF", Broken(0, Extra)),
+    // a segment of another type
+    ("2403020105", Broken(0, Extra)),
+    // a small tag number in the long form
+    ("300505001F1E00", Broken(4, Invalid)),
 ];
 
-// Whether this is written for these elements, and nothing is in doubt.
-fn gives(alloc: Global, input: &[u8], output: &[u8]) -> bool {
-    match convert(alloc, input) {
-        Ok(converted) => converted.bytes.as_slice() == output && !converted.doubts.are_any(),
+fn has_doubts(converted: &Converted, segments: Option<usize>, order: Option<usize>) -> bool {
+    converted.doubts.first(Doubt::Segments) == segments
+        && converted.doubts.first(Doubt::Order) == order
+}
+
+// Whether these bytes are written for themselves, and nothing is in doubt.
+fn is_kept(alloc: Global, bytes: &[u8]) -> bool {
+    match convert(alloc, bytes) {
+        Ok(converted) => converted.bytes.as_slice() == bytes && !converted.doubts.are_any(),
         Err(_) => false,
     }
 }
 
-// The first elements for which this isn't so, or for those in DER.
-fn first_other_row(alloc: Global) -> Option<&'static [u8]> {
-    for (input, output) in &ROWS {
-        if !gives(alloc, input, output) || !gives(alloc, output, output) {
-            return Some(*input);
-        }
+fn is_written(alloc: Global, converted: &Converted, output: &str) -> bool {
+    match bytes_of(alloc, output) {
+        Ok(output) => converted.bytes.as_slice() == output.as_slice(),
+        Err(_) => false,
     }
-    None
 }
 
-// Elements in BER, the same in DER, and the first doubts about a string in segments and about an order.
-static DOUBTS: [(&[u8], &[u8], Option<usize>, Option<usize>); 4] = [
-    (
-        &[160, 128, 4, 1, 97, 0, 0],
-        &[160, 3, 4, 1, 97],
-        Some(0),
-        None,
-    ),
-    (
-        &[5, 0, 97, 2, 162, 0],
-        &[5, 0, 97, 2, 162, 0],
-        Some(2),
-        None,
-    ),
-    (
-        &[48, 8, 49, 6, 2, 1, 1, 1, 1, 5],
-        &[48, 8, 49, 6, 2, 1, 1, 1, 1, 255],
-        None,
-        Some(2),
-    ),
-    (
-        &[49, 128, 163, 0, 129, 0, 0, 0],
-        &[49, 4, 163, 0, 129, 0],
-        Some(2),
-        Some(0),
-    ),
-];
-
-// Whether this is written for these elements, and these are the first doubts.
-fn gives_in_doubt(
-    alloc: Global,
-    input: &[u8],
-    output: &[u8],
-    segments: Option<usize>,
-    order: Option<usize>,
-) -> bool {
-    match convert(alloc, input) {
-        Ok(converted) => {
-            converted.bytes.as_slice() == output
-                && converted.doubts.first(Doubt::Segments) == segments
-                && converted.doubts.first(Doubt::Order) == order
+fn is_converted(alloc: Global, converted: &Converted, wanted: &Wanted) -> bool {
+    match wanted {
+        Form(output) => {
+            is_written(alloc, converted, output)
+                && !converted.doubts.are_any()
+                && is_kept(alloc, converted.bytes.as_slice())
+        }
+        InDoubt(output, segments, order) => {
+            is_written(alloc, converted, output)
+                && has_doubts(converted, *segments, *order)
                 && converted.doubts.are_any()
         }
-        Err(_) => false,
+        Any => true,
+        Broken(..) => false,
     }
 }
 
-// The first elements for which this isn't so.
-fn first_other_doubt(alloc: Global) -> Option<&'static [u8]> {
-    for (input, output, segments, order) in &DOUBTS {
-        if !gives_in_doubt(alloc, input, output, *segments, *order) {
-            return Some(*input);
+fn is_broken(fault: Fault, wanted: &Wanted) -> bool {
+    match (fault, wanted) {
+        (Fault::Broken { offset, kind }, Broken(place, other)) => {
+            offset == *place && is_kind(kind, *other)
         }
-    }
-    None
-}
-
-// Broken inputs, where they are so, and how.
-static BROKEN: [(&[u8], usize, ASN1ErrorKind); 15] = [
-    (&[], 0, ASN1ErrorKind::Eof),
-    (&[2], 0, ASN1ErrorKind::Eof),
-    (&[48, 3, 1, 1], 0, ASN1ErrorKind::Eof),
-    (&[5, 0, 4, 2, 97], 2, ASN1ErrorKind::Eof),
-    // no end of contents, one too many, and one that isn't
-    (&[48, 128, 1, 1, 1], 5, ASN1ErrorKind::Eof),
-    (&[0, 0], 0, ASN1ErrorKind::Invalid),
-    (&[48, 2, 0, 0], 2, ASN1ErrorKind::Invalid),
-    (&[48, 128, 5, 0, 0, 1, 0], 4, ASN1ErrorKind::Invalid),
-    // a primitive element of indefinite length
-    (&[48, 4, 2, 128, 0, 0], 2, ASN1ErrorKind::Invalid),
-    // booleans that aren't, and bits
-    (&[1, 2, 0, 0], 0, ASN1ErrorKind::Invalid),
-    (&[5, 0, 33, 3, 1, 1, 1], 2, ASN1ErrorKind::Invalid),
-    (&[3, 2, 8, 1], 0, ASN1ErrorKind::Invalid),
-    (
-        &[35, 8, 3, 2, 1, 254, 3, 2, 0, 255],
-        0,
-        ASN1ErrorKind::Extra,
-    ),
-    // a segment of another type
-    (&[36, 3, 2, 1, 5], 0, ASN1ErrorKind::Extra),
-    // a small tag number in the long form
-    (&[48, 5, 5, 0, 31, 30, 0], 4, ASN1ErrorKind::Invalid),
-];
-
-// Whether these bytes are refused so.
-fn refuses(alloc: Global, input: &[u8], offset: usize, kind: ASN1ErrorKind) -> bool {
-    match convert(alloc, input) {
-        Ok(_) => false,
-        Err(fault) => fault == Fault::Broken { offset, kind },
+        _ => false,
     }
 }
 
-// The first bytes that aren't.
-fn first_other_fault(alloc: Global) -> Option<&'static [u8]> {
-    for (input, offset, kind) in &BROKEN {
-        if !refuses(alloc, input, *offset, *kind) {
-            return Some(*input);
-        }
-    }
-    None
-}
-
-// So many sequences within each other.
-fn nested(alloc: Global, depth: usize) -> Result<Vec<u8>, AllocError> {
-    let mut bytes = Vec::new(alloc);
-    for _ in 0..depth {
-        bytes.extend_from_slice(&[48, 128])?;
-    }
-    for _ in 0..depth {
-        bytes.extend_from_slice(&[0, 0])?;
-    }
-    Ok(bytes)
-}
-
-// Whether so many are taken, and one more is refused at this offset.
-fn is_deepest(alloc: Global, depth: usize, offset: usize) -> bool {
-    let Ok(deep) = nested(alloc, depth) else {
+fn is_row(alloc: Global, input: &str, wanted: &Wanted) -> bool {
+    let Ok(bytes) = bytes_of(alloc, input) else {
         return false;
     };
-    match nested(alloc, depth.saturating_add(1)) {
-        Ok(deeper) => {
-            convert(alloc, &deep).is_ok()
-                && refuses(alloc, &deeper, offset, ASN1ErrorKind::StackOverflow)
+    match convert(alloc, &bytes) {
+        Ok(converted) => is_converted(alloc, &converted, wanted),
+        Err(fault) => is_broken(fault, wanted),
+    }
+}
+
+fn first_other_row(alloc: Global) -> Option<&'static str> {
+    for row in &ROWS {
+        if !is_row(alloc, row.0, &row.1) {
+            return Some(row.0);
         }
+    }
+    None
+}
+
+// Whether this is so of so many SEQUENCEs within each other.
+fn is_nested(alloc: Global, depth: usize, wanted: &Wanted) -> bool {
+    match spelled(alloc, ["", "3080", "", "0000"], depth) {
+        Ok(text) => is_row(alloc, &text, wanted),
         Err(_) => false,
     }
 }
 
-// A header, and so many zeros.
-fn zeros(alloc: Global, size: u8, header: &[u8]) -> Result<Vec<u8>, AllocError> {
-    let mut bytes = Vec::new(alloc);
-    bytes.extend_from_slice(header)?;
-    for _ in 0..size {
-        bytes.push(0)?;
-    }
-    Ok(bytes)
+fn with_zeros(alloc: Global, header: &str, zeros: usize) -> ASN1Result<Vec<u8>> {
+    bytes_of(alloc, &spelled(alloc, [header, "00", "", ""], zeros)?)
 }
 
 // Whether so many zeros behind one header are written behind the other.
-fn is_header_of(alloc: Global, size: u8, input: &[u8], output: &[u8]) -> bool {
-    let Ok(bytes) = zeros(alloc, size, input) else {
+fn is_header_of(alloc: Global, zeros: usize, input: &str, output: &str) -> bool {
+    let Ok(bytes) = with_zeros(alloc, input, zeros) else {
         return false;
     };
-    match zeros(alloc, size, output) {
-        Ok(form) => gives(alloc, &bytes, &form),
+    match convert(alloc, &bytes) {
+        Ok(converted) => {
+            gives(with_zeros(alloc, output, zeros), converted.bytes.as_slice())
+                && !converted.doubts.are_any()
+        }
         Err(_) => false,
     }
 }
 
-fn are_deep_or_long(alloc: Global) -> [bool; 3] {
-    let short = [4, 136, 0, 0, 0, 0, 0, 0, 0, 127];
-    let long = [4, 136, 0, 0, 0, 0, 0, 0, 0, 128];
+fn deep_and_long(alloc: Global) -> [(&'static str, bool); 4] {
+    let too_deep = Broken(202, StackOverflow);
     [
-        is_deepest(alloc, 101, 202),
-        is_header_of(alloc, 127, &short, &[4, 127]),
-        is_header_of(alloc, 128, &long, &[4, 129, 128]),
+        ("101 SEQUENCEs are taken", is_nested(alloc, 101, &Any)),
+        (
+            "102 SEQUENCEs are rejected",
+            is_nested(alloc, 102, &too_deep),
+        ),
+        (
+            "127 bytes",
+            is_header_of(alloc, 127, "0488000000000000007F", "047F"),
+        ),
+        (
+            "128 bytes",
+            is_header_of(alloc, 128, "04880000000000000080", "048180"),
+        ),
     ]
 }
 
-// What is written, the first doubts, and where broken elements are refused.
+// What is written, the first doubts, and where broken elements are rejected.
 #[test]
-fn elements(rt: HostRuntime) {
+fn elements_in_ber_become_der_or_are_rejected(rt: HostRuntime) {
     finds_none(&rt, first_other_row(rt.alloc()));
-    finds_none(&rt, first_other_doubt(rt.alloc()));
-    finds_none(&rt, first_other_fault(rt.alloc()));
-    all_hold(&rt, &are_deep_or_long(rt.alloc()));
+    finds_none(&rt, first_failing(&deep_and_long(rt.alloc())));
 }

@@ -2,7 +2,7 @@
 
 mod ends;
 
-use crate::checks::finds_none;
+use crate::checks::{bytes_of, finds_none};
 use std::alloc::{AllocError, Global};
 use yasna_engine::ends::Counted;
 use yasna_engine::tool::tool;
@@ -101,29 +101,21 @@ impl Outcome {
 use Outcome::{Eof, Extra, GreatestFalse, Invalid, TenTrue};
 
 /// Bytes, and what they give in BER, DER and CER.
-static ROWS: [(&[u8], [Outcome; 3]); 11] = [
-    (&[], [Eof, Eof, Eof]),
-    (&[48, 6, 2, 1, 10, 1, 1, 255, 0], [Extra, Extra, Invalid]),
-    (&[48, 7, 2, 1, 10, 1, 1, 255, 0], [Extra, Extra, Invalid]),
-    (&[48, 8, 2, 1, 10, 1, 1, 255], [Eof, Eof, Eof]),
+static ROWS: [(&str, [Outcome; 3]); 11] = [
+    ("", [Eof, Eof, Eof]),
+    ("300602010A0101FF00", [Extra, Extra, Invalid]),
+    ("300702010A0101FF00", [Extra, Extra, Invalid]),
+    ("300802010A0101FF", [Eof, Eof, Eof]),
+    ("30810602010A010101", [TenTrue, Invalid, Invalid]),
+    ("308002010A0101FF", [Eof, Invalid, Eof]),
+    ("30060101FF02010A", [Invalid, Invalid, Invalid]),
     (
-        &[48, 129, 6, 2, 1, 10, 1, 1, 1],
-        [TenTrue, Invalid, Invalid],
-    ),
-    (&[48, 128, 2, 1, 10, 1, 1, 255], [Eof, Invalid, Eof]),
-    (&[48, 6, 1, 1, 255, 2, 1, 10], [Invalid, Invalid, Invalid]),
-    (
-        &[
-            48, 13, 2, 8, 127, 255, 255, 255, 255, 255, 255, 255, 1, 1, 0,
-        ],
+        "300D02087FFFFFFFFFFFFFFF010100",
         [GreatestFalse, GreatestFalse, Invalid],
     ),
-    (&[48, 6, 2, 1, 10, 1, 1, 255], [TenTrue, TenTrue, Invalid]),
-    (&[48, 6, 2, 1, 10, 1, 1], [Eof, Eof, Eof]),
-    (
-        &[48, 128, 2, 1, 10, 1, 1, 255, 0, 0],
-        [TenTrue, Invalid, TenTrue],
-    ),
+    ("300602010A0101FF", [TenTrue, TenTrue, Invalid]),
+    ("300602010A0101", [Eof, Eof, Eof]),
+    ("308002010A0101FF0000", [TenTrue, Invalid, TenTrue]),
 ];
 
 fn strings(alloc: Global, words: &[&str]) -> Result<Vec<String>, AllocError> {
@@ -185,17 +177,20 @@ fn answers(alloc: Global, mode: &str, kind: &str, input: &[u8], wanted: &Wanted)
     }
 }
 
-fn is_row(alloc: Global, input: &[u8], [ber, der, cer]: [Outcome; 3]) -> bool {
-    answers(alloc, "ber", "pair", input, &ber.wanted())
-        && answers(alloc, "der", "pair", input, &der.wanted())
-        && answers(alloc, "cer", "pair", input, &cer.wanted())
+fn is_row(alloc: Global, text: &str, [ber, der, cer]: [Outcome; 3]) -> bool {
+    let Ok(input) = bytes_of(alloc, text) else {
+        return false;
+    };
+    answers(alloc, "ber", "pair", &input, &ber.wanted())
+        && answers(alloc, "der", "pair", &input, &der.wanted())
+        && answers(alloc, "cer", "pair", &input, &cer.wanted())
 }
 
 // The first bytes that give something else.
-fn first_other_row(alloc: Global) -> Option<&'static [u8]> {
-    for (input, outcomes) in &ROWS {
-        if !is_row(alloc, input, *outcomes) {
-            return Some(*input);
+fn first_other_row(alloc: Global) -> Option<&'static str> {
+    for row in &ROWS {
+        if !is_row(alloc, row.0, row.1) {
+            return Some(row.0);
         }
     }
     None
@@ -265,32 +260,44 @@ fn is_kind(alloc: Global, kind: &str, wanted: &Wanted) -> bool {
 
 // The first kind for which this isn't so.
 fn first_other_kind(alloc: Global) -> Option<&'static str> {
-    for (kind, wanted) in &KINDS {
-        if !is_kind(alloc, kind, wanted) {
-            return Some(*kind);
+    for row in &KINDS {
+        if !is_kind(alloc, row.0, &row.1) {
+            return Some(row.0);
         }
     }
     None
 }
 
-/// A mode, a kind, bytes that aren't canonical, and what they give.
-static OTHER_FORMS: [(&str, &str, &[u8], Wanted); 13] = [
+/// Both words, a mode, a kind, bytes that aren't canonical, and what they give.
+static OTHER_FORMS: [(&str, &str, &str, &[u8], Wanted); 13] = [
     // strings in pieces, one cut inside a character, are read in BER alone
-    ("ber", "octets", &OCTETS, HELLO),
-    ("der", "octets", &OCTETS, INVALID),
-    ("cer", "octets", &OCTETS, INVALID),
-    ("ber", "text", &[44, 6, 4, 1, 195, 4, 1, 169], ACCENT),
-    ("der", "text", &[44, 6, 4, 1, 195, 4, 1, 169], INVALID),
+    ("ber octets", "ber", "octets", &OCTETS, HELLO),
+    ("der octets", "der", "octets", &OCTETS, INVALID),
+    ("cer octets", "cer", "octets", &OCTETS, INVALID),
+    (
+        "ber text",
+        "ber",
+        "text",
+        &[44, 6, 4, 1, 195, 4, 1, 169],
+        ACCENT,
+    ),
+    (
+        "der text",
+        "der",
+        "text",
+        &[44, 6, 4, 1, 195, 4, 1, 169],
+        INVALID,
+    ),
     // and so are these texts, the second of them in pieces
-    ("ber", "utime", &ZONED, NOON),
-    ("der", "utime", &ZONED, INVALID),
-    ("cer", "utime", &ZONED, INVALID),
-    ("ber", "gtime", &IN_PIECES, EVENING),
-    ("der", "gtime", &IN_PIECES, INVALID),
+    ("ber utime", "ber", "utime", &ZONED, NOON),
+    ("der utime", "der", "utime", &ZONED, INVALID),
+    ("cer utime", "cer", "utime", &ZONED, INVALID),
+    ("ber gtime", "ber", "gtime", &IN_PIECES, EVENING),
+    ("der gtime", "der", "gtime", &IN_PIECES, INVALID),
     // a list of indefinite length is not read in DER
-    ("ber", "ints", &LIST, INTS),
-    ("cer", "ints", &LIST, INTS),
-    ("der", "ints", &LIST, INVALID),
+    ("ber ints", "ber", "ints", &LIST, INTS),
+    ("cer ints", "cer", "ints", &LIST, INTS),
+    ("der ints", "der", "ints", &LIST, INVALID),
 ];
 
 const OCTETS: [u8; 14] = [36, 128, 4, 2, 72, 101, 4, 4, 108, 108, 111, 33, 0, 0];
@@ -306,10 +313,10 @@ const IN_PIECES: [u8; 25] = [
 const LIST: [u8; 11] = [48, 128, 2, 1, 10, 2, 2, 255, 127, 0, 0];
 
 // The first mode and kind in which bytes give something else.
-fn first_other_form(alloc: Global) -> Option<(&'static str, &'static str)> {
-    for (mode, kind, input, wanted) in &OTHER_FORMS {
-        if !answers(alloc, mode, kind, input, wanted) {
-            return Some((*mode, *kind));
+fn first_other_form(alloc: Global) -> Option<&'static str> {
+    for row in &OTHER_FORMS {
+        if !answers(alloc, row.1, row.2, row.3, &row.4) {
+            return Some(row.0);
         }
     }
     None
@@ -317,19 +324,19 @@ fn first_other_form(alloc: Global) -> Option<(&'static str, &'static str)> {
 
 /// Pairs in each mode. And each kind reads its own form, and no ENUMERATED, and in CER its form where that has no parts.
 #[test]
-fn forms(rt: HostRuntime) {
+fn forms_are_written_or_rejected(rt: HostRuntime) {
     finds_none(&rt, first_other_row(rt.alloc()));
     finds_none(&rt, first_other_kind(rt.alloc()));
     finds_none(&rt, first_other_form(rt.alloc()));
 }
 
-static OTHER_WORDS: [&[&str]; 6] = [
-    &["xer", "pair"],
-    &["xer", "ints"],
-    &["ber", "lists"],
-    &["ber"],
-    &[],
-    &["ber", "pair", "pair"],
+static OTHER_WORDS: [(&str, &[&str]); 6] = [
+    ("xer pair", &["xer", "pair"]),
+    ("xer ints", &["xer", "ints"]),
+    ("ber lists", &["ber", "lists"]),
+    ("ber", &["ber"]),
+    ("no words", &[]),
+    ("ber pair pair", &["ber", "pair", "pair"]),
 ];
 
 /// What is told of other words.
@@ -347,16 +354,16 @@ fn tells_usage(alloc: Global, words: &[&str]) -> bool {
 }
 
 // The first words of which something else is told.
-fn first_taken_words(alloc: Global) -> Option<&'static [&'static str]> {
-    for words in &OTHER_WORDS {
-        if !tells_usage(alloc, words) {
-            return Some(*words);
+fn first_taken_words(alloc: Global) -> Option<&'static str> {
+    for row in &OTHER_WORDS {
+        if !tells_usage(alloc, row.1) {
+            return Some(row.0);
         }
     }
     None
 }
 
 #[test]
-fn other_words(rt: HostRuntime) {
+fn other_words_print_the_usage(rt: HostRuntime) {
     finds_none(&rt, first_taken_words(rt.alloc()));
 }

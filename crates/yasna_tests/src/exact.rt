@@ -1,7 +1,7 @@
 //! Types that keep an element of any type as it came: DER reads them from one form alone.
 ghost use Rattle.std.specs.Prelude.{◌≡◌, ℕ, IfOk};
 
-use crate::checks::{all_hold, gives, refuses};
+use crate::checks::{finds_none, first_failing, gives, rejects};
 use std::alloc::Global;
 use yasna::models::TaggedDerValue;
 use yasna::{
@@ -26,26 +26,38 @@ fn form_of(alloc: Global, bytes: &[u8], mode: BERMode) -> ASN1Result<Vec<u8>> {
     }
 }
 
-fn are_written_as_they_came(alloc: Global) -> [bool; 4] {
+fn are_written_as_they_came(alloc: Global) -> [(&'static str, bool); 4] {
     let elements = [48, 9, 2, 1, 7, 160, 4, 12, 2, 195, 169];
     let other = [48, 4, 2, 129, 1, 7];
     let tagged = [160, 3, 2, 1, 7];
     let number = [2, 1, 7];
     [
-        gives(
-            written_again::<Vec<TaggedDerValue>>(alloc, &elements),
-            &elements,
+        (
+            "elements round-trip",
+            gives(
+                written_again::<Vec<TaggedDerValue>>(alloc, &elements),
+                &elements,
+            ),
         ),
-        refuses(
-            written_again::<Vec<TaggedDerValue>>(alloc, &other),
-            ASN1ErrorKind::Invalid,
+        (
+            "a long length is rejected",
+            rejects(
+                written_again::<Vec<TaggedDerValue>>(alloc, &other),
+                ASN1ErrorKind::Invalid,
+            ),
         ),
-        gives(form_of(alloc, &tagged, BERMode::Der), &tagged),
-        gives(form_of(alloc, &number, BERMode::Cer), &number),
+        (
+            "a tagged element round-trips",
+            gives(form_of(alloc, &tagged, BERMode::Der), &tagged),
+        ),
+        (
+            "a number comes back in CER",
+            gives(form_of(alloc, &number, BERMode::Cer), &number),
+        ),
     ]
 }
 
 #[test]
 fn elements_are_written_as_they_came(rt: HostRuntime) {
-    all_hold(&rt, &are_written_as_they_came(rt.alloc()));
+    finds_none(&rt, first_failing(&are_written_as_they_came(rt.alloc())));
 }

@@ -1,6 +1,6 @@
 //! The pieces of README.md and docs/GUIDE.md, each once on bytes.
 
-use crate::checks::{all_hold, gives, is_form_by, refuses};
+use crate::checks::{finds_none, first_failing, gives, is_form_by, rejects};
 use std::alloc::Global;
 use yasna::{ASN1Error, ASN1ErrorKind, ASN1Result, construct_der, parse_ber, parse_der};
 use yasna_examples::{read_directory_string, read_ldap_string, reencoded, write_directory_string};
@@ -10,7 +10,7 @@ use yasna_guide::choice::{Name, read_name, write_name};
 use yasna_guide::defaults::{BasicConstraints, read_constraints, write_constraints};
 use yasna_guide::errors::reason;
 use yasna_guide::first::{decode_report, encode_report};
-use yasna_guide::implicit::{Accuracy, read_accuracy, write_accuracy};
+use yasna_guide::implicit::{read_accuracy, write_accuracy};
 use yasna_guide::kept::number_or_zero;
 use yasna_guide::lists::{highest, read_names, write_names};
 use yasna_guide::located::table_located;
@@ -24,7 +24,7 @@ use yasna_guide::sequence::{Point, point_from_ber, point_from_der, point_to_der}
 use yasna_guide::set_of::{read_values, write_values, write_values_as_they_stand};
 use yasna_guide::sets::{Setting, read_setting, write_setting};
 use yasna_guide::signed::read_signed;
-use yasna_guide::tagged::{EncryptedData, read_encrypted, write_encrypted};
+use yasna_guide::tagged::{read_encrypted, write_encrypted};
 use yasna_guide::times::{Time, read_time, time_of_text, write_time};
 use yasna_guide::whole::{read_table, write_flag};
 
@@ -49,16 +49,34 @@ fn is_point(read: ASN1Result<Point>, x: i64, y: i64) -> bool {
     }
 }
 
-fn are_reports_and_points(alloc: Global) -> [bool; 6] {
+fn are_reports_and_points(alloc: Global) -> [(&'static str, bool); 6] {
     let form = [48, 7, 2, 1, 10, 2, 2, 255, 127];
     let indefinite = [48, 128, 2, 1, 10, 2, 2, 255, 127, 0, 0];
     [
-        is_report(alloc, &[48, 6, 48, 4, 2, 2, 255, 127]),
-        is_report(alloc, &[48, 7, 48, 0, 160, 3, 2, 1, 90]),
-        gives(point_to_der(alloc, Point { x: 10, y: -129 }), &form),
-        is_point(point_from_der(alloc, &form), 10, -129),
-        is_point(point_from_ber(alloc, &indefinite), 10, -129),
-        refuses(point_from_der(alloc, &indefinite), INVALID),
+        (
+            "a report of one reading",
+            is_report(alloc, &[48, 6, 48, 4, 2, 2, 255, 127]),
+        ),
+        (
+            "a report of a battery",
+            is_report(alloc, &[48, 7, 48, 0, 160, 3, 2, 1, 90]),
+        ),
+        (
+            "a point is written",
+            gives(point_to_der(alloc, Point { x: 10, y: -129 }), &form),
+        ),
+        (
+            "a point is read in DER",
+            is_point(point_from_der(alloc, &form), 10, -129),
+        ),
+        (
+            "a point is read in BER",
+            is_point(point_from_ber(alloc, &indefinite), 10, -129),
+        ),
+        (
+            "DER rejects an indefinite length",
+            rejects(point_from_der(alloc, &indefinite), INVALID),
+        ),
     ]
 }
 
@@ -87,7 +105,7 @@ fn is_extension(alloc: Global, bytes: &[u8], critical: bool, value: &[u8]) -> bo
     }
 }
 
-fn are_wholes(alloc: Global) -> [bool; 8] {
+fn are_wholes(alloc: Global) -> [(&'static str, bool); 8] {
     let indefinite = [48, 128, 48, 6, 12, 1, 97, 1, 1, 1, 0, 0];
     let form = [48, 6, 12, 1, 97, 1, 1, 255];
     let other = [48, 6, 12, 1, 97, 1, 1, 1];
@@ -95,22 +113,46 @@ fn are_wholes(alloc: Global) -> [bool; 8] {
     // one that isn't critical may say so in BER
     let says_false = [48, 12, 6, 3, 85, 29, 19, 1, 1, 0, 4, 2, 48, 0];
     [
-        reads_row(alloc, &indefinite, "a", true),
-        gives(write_flag(alloc, "a", true), &form),
-        gives(reencoded::<(String, bool)>(alloc, &form), &form),
-        refuses(reencoded::<(String, bool)>(alloc, &other), INVALID),
-        gives(rewritten_extension(alloc, &extension), &extension),
-        is_extension(alloc, &extension, true, &[48, 0]),
-        is_extension(alloc, &says_false, false, &[48, 0]),
-        refuses(rewritten_extension(alloc, &says_false), INVALID),
+        (
+            "a table of one row",
+            reads_row(alloc, &indefinite, "a", true),
+        ),
+        (
+            "a flag is written",
+            gives(write_flag(alloc, "a", true), &form),
+        ),
+        (
+            "a row round-trips",
+            gives(reencoded::<(String, bool)>(alloc, &form), &form),
+        ),
+        (
+            "a row in another form is rejected",
+            rejects(reencoded::<(String, bool)>(alloc, &other), INVALID),
+        ),
+        (
+            "an extension round-trips",
+            gives(rewritten_extension(alloc, &extension), &extension),
+        ),
+        (
+            "an extension is read",
+            is_extension(alloc, &extension, true, &[48, 0]),
+        ),
+        (
+            "BER reads a default that is written out",
+            is_extension(alloc, &says_false, false, &[48, 0]),
+        ),
+        (
+            "DER rejects a default that is written out",
+            rejects(rewritten_extension(alloc, &says_false), INVALID),
+        ),
     ]
 }
 
 // Structs, tables and extensions.
 #[test]
-fn values_as_a_whole(rt: HostRuntime) {
-    all_hold(&rt, &are_reports_and_points(rt.alloc()));
-    all_hold(&rt, &are_wholes(rt.alloc()));
+fn structs_tables_and_extensions_round_trip(rt: HostRuntime) {
+    finds_none(&rt, first_failing(&are_reports_and_points(rt.alloc())));
+    finds_none(&rt, first_failing(&are_wholes(rt.alloc())));
 }
 
 fn person_of(alloc: Global, form: &[u8]) -> ASN1Result<Person> {
@@ -158,19 +200,40 @@ fn is_no_authority(alloc: Global, bytes: &[u8]) -> bool {
 }
 
 // An age that is there and broken isn't taken for none. In BER defaults may stand there.
-fn are_options_and_defaults(alloc: Global) -> [bool; 7] {
+fn are_options_and_defaults(alloc: Global) -> [(&'static str, bool); 7] {
     let said = [48, 3, 1, 1, 0];
     [
-        has_age(alloc, &[48, 6, 12, 1, 97, 2, 1, 10], Some(10)),
-        has_age(alloc, &[48, 3, 12, 1, 97], None),
-        refuses(
-            person_of(alloc, &[48, 6, 12, 1, 97, 2, 1]),
-            ASN1ErrorKind::Eof,
+        (
+            "an age round-trips",
+            has_age(alloc, &[48, 6, 12, 1, 97, 2, 1, 10], Some(10)),
         ),
-        has_constraints(alloc, &[48, 0], false, None),
-        has_constraints(alloc, &[48, 6, 1, 1, 255, 2, 1, 3], true, Some(3)),
-        is_no_authority(alloc, &said),
-        refuses(constraints_of(alloc, &said), INVALID),
+        (
+            "no age round-trips",
+            has_age(alloc, &[48, 3, 12, 1, 97], None),
+        ),
+        (
+            "a broken age is rejected",
+            rejects(
+                person_of(alloc, &[48, 6, 12, 1, 97, 2, 1]),
+                ASN1ErrorKind::Eof,
+            ),
+        ),
+        (
+            "empty constraints",
+            has_constraints(alloc, &[48, 0], false, None),
+        ),
+        (
+            "constraints of an authority",
+            has_constraints(alloc, &[48, 6, 1, 1, 255, 2, 1, 3], true, Some(3)),
+        ),
+        (
+            "BER reads a default that is written out",
+            is_no_authority(alloc, &said),
+        ),
+        (
+            "DER rejects a default that is written out",
+            rejects(constraints_of(alloc, &said), INVALID),
+        ),
     ]
 }
 
@@ -206,16 +269,28 @@ fn has_name(read: ASN1Result<Id>) -> bool {
     matches!(read, Ok(Id::Name(_)))
 }
 
-fn are_choices(alloc: Global) -> [bool; 8] {
+fn are_choices(alloc: Global) -> [(&'static str, bool); 8] {
     [
-        is_name(alloc, &[129, 3, 97, 64, 98]),
-        is_name(alloc, &[130, 3, 97, 46, 98]),
-        is_name(alloc, &[135, 4, 127, 0, 0, 1]),
-        refuses(der_name(alloc, &[136, 1, 42]), INVALID),
-        refuses(form_of_mail(alloc, "é"), INVALID),
-        is_number(der_id(alloc, &[2, 1, 7]), 7),
-        has_name(der_id(alloc, &[12, 1, 97])),
-        refuses(der_id(alloc, &[2, 2, 0, 7]), INVALID),
+        ("a mail address", is_name(alloc, &[129, 3, 97, 64, 98])),
+        ("a host name", is_name(alloc, &[130, 3, 97, 46, 98])),
+        (
+            "an address of four octets",
+            is_name(alloc, &[135, 4, 127, 0, 0, 1]),
+        ),
+        (
+            "an unknown alternative is rejected",
+            rejects(der_name(alloc, &[136, 1, 42]), INVALID),
+        ),
+        (
+            "a mail address beyond ASCII is rejected",
+            rejects(form_of_mail(alloc, "é"), INVALID),
+        ),
+        ("a number as an id", is_number(der_id(alloc, &[2, 1, 7]), 7)),
+        ("a name as an id", has_name(der_id(alloc, &[12, 1, 97]))),
+        (
+            "a number in too many bytes is rejected",
+            rejects(der_id(alloc, &[2, 2, 0, 7]), INVALID),
+        ),
     ]
 }
 
@@ -244,22 +319,34 @@ fn has_accuracy(alloc: Global, form: &[u8], seconds: Option<u64>, micros: Option
 }
 
 // Explicit tags, and implicit ones.
-fn are_tagged(alloc: Global) -> [bool; 4] {
+fn are_tagged(alloc: Global) -> [(&'static str, bool); 4] {
     let with_version = [48, 15, 160, 3, 2, 1, 18, 161, 3, 2, 1, 5, 162, 3, 4, 1, 7];
     [
-        is_encrypted(alloc, &[48, 10, 160, 3, 2, 1, 18, 162, 3, 4, 1, 7]),
-        is_encrypted(alloc, &with_version),
-        has_accuracy(alloc, &[48, 3, 2, 1, 60], Some(60), None),
-        has_accuracy(alloc, &[48, 7, 128, 1, 1, 129, 2, 1, 244], None, Some(500)),
+        (
+            "encrypted data without a version",
+            is_encrypted(alloc, &[48, 10, 160, 3, 2, 1, 18, 162, 3, 4, 1, 7]),
+        ),
+        (
+            "encrypted data with a version",
+            is_encrypted(alloc, &with_version),
+        ),
+        (
+            "an accuracy in seconds",
+            has_accuracy(alloc, &[48, 3, 2, 1, 60], Some(60), None),
+        ),
+        (
+            "an accuracy in microseconds",
+            has_accuracy(alloc, &[48, 7, 128, 1, 1, 129, 2, 1, 244], None, Some(500)),
+        ),
     ]
 }
 
 // Parts that may be left out, that are chosen, or that stand under tags.
 #[test]
-fn parts(rt: HostRuntime) {
-    all_hold(&rt, &are_options_and_defaults(rt.alloc()));
-    all_hold(&rt, &are_choices(rt.alloc()));
-    all_hold(&rt, &are_tagged(rt.alloc()));
+fn optional_chosen_and_tagged_parts_round_trip(rt: HostRuntime) {
+    finds_none(&rt, first_failing(&are_options_and_defaults(rt.alloc())));
+    finds_none(&rt, first_failing(&are_choices(rt.alloc())));
+    finds_none(&rt, first_failing(&are_tagged(rt.alloc())));
 }
 
 // Whether two names are read from their form, and written in it.
@@ -315,17 +402,32 @@ fn is_plain(alloc: Global, bytes: &[u8]) -> bool {
 }
 
 // Those in a SEQUENCE OF, those in a SET OF, and SETs.
-fn are_lists_and_sets(alloc: Global) -> [bool; 6] {
+fn are_lists_and_sets(alloc: Global) -> [(&'static str, bool); 6] {
     let falling = [49, 7, 4, 2, 97, 97, 4, 1, 98];
     let numbers = [48, 9, 2, 1, 255, 2, 1, 7, 2, 1, 3];
     let setting = [49, 9, 12, 1, 97, 1, 1, 0, 2, 1, 10];
     [
-        are_names(alloc, &[48, 7, 12, 1, 97, 12, 2, 98, 99]),
-        parse_der(alloc, &numbers, highest) == Ok(Some(7)),
-        are_values(alloc, &falling, &[49, 7, 4, 1, 98, 4, 2, 97, 97], &falling),
-        reads_noted_ten(alloc, &setting, &[49, 9, 1, 1, 0, 2, 1, 10, 12, 1, 97]),
-        is_plain(alloc, &[49, 3, 2, 1, 10]),
-        refuses(der_setting(alloc, &[49, 6, 1, 1, 255, 2, 1, 10]), INVALID),
+        (
+            "two names",
+            are_names(alloc, &[48, 7, 12, 1, 97, 12, 2, 98, 99]),
+        ),
+        (
+            "the highest of three",
+            parse_der(alloc, &numbers, highest) == Ok(Some(7)),
+        ),
+        (
+            "values in both orders",
+            are_values(alloc, &falling, &[49, 7, 4, 1, 98, 4, 2, 97, 97], &falling),
+        ),
+        (
+            "a setting with all parts",
+            reads_noted_ten(alloc, &setting, &[49, 9, 1, 1, 0, 2, 1, 10, 12, 1, 97]),
+        ),
+        ("a setting of one part", is_plain(alloc, &[49, 3, 2, 1, 10])),
+        (
+            "a default that is written out is rejected",
+            rejects(der_setting(alloc, &[49, 6, 1, 1, 255, 2, 1, 10]), INVALID),
+        ),
     ]
 }
 
@@ -349,20 +451,26 @@ fn is_signed_ten(alloc: Global, bytes: &[u8]) -> bool {
     }
 }
 
-fn are_raw(alloc: Global) -> [bool; 3] {
+fn are_raw(alloc: Global) -> [(&'static str, bool); 3] {
     let rsa = [48, 13, 6, 9, 42, 134, 72, 134, 247, 13, 1, 1, 1, 5, 0];
     [
-        is_algorithm(alloc, &[48, 5, 6, 3, 43, 101, 112]),
-        is_algorithm(alloc, &rsa),
-        is_signed_ten(alloc, &[48, 9, 48, 3, 2, 1, 10, 3, 2, 0, 7]),
+        (
+            "an algorithm without parameters",
+            is_algorithm(alloc, &[48, 5, 6, 3, 43, 101, 112]),
+        ),
+        ("an algorithm with NULL", is_algorithm(alloc, &rsa)),
+        (
+            "signed contents",
+            is_signed_ten(alloc, &[48, 9, 48, 3, 2, 1, 10, 3, 2, 0, 7]),
+        ),
     ]
 }
 
 // Those of one type, those in any order, and those that are kept as they came.
 #[test]
-fn lists_sets_and_raw_elements(rt: HostRuntime) {
-    all_hold(&rt, &are_lists_and_sets(rt.alloc()));
-    all_hold(&rt, &are_raw(rt.alloc()));
+fn lists_sets_and_raw_elements_round_trip(rt: HostRuntime) {
+    finds_none(&rt, first_failing(&are_lists_and_sets(rt.alloc())));
+    finds_none(&rt, first_failing(&are_raw(rt.alloc())));
 }
 
 // Whether a text is read from its form, and written in it.
@@ -415,14 +523,17 @@ fn is_no_time(alloc: Global, text: &str) -> bool {
     }
 }
 
-fn are_texts(alloc: Global) -> [bool; 6] {
+fn are_texts(alloc: Global) -> [(&'static str, bool); 6] {
     [
-        is_string(alloc, &[19, 2, 97, 98]),
-        is_string(alloc, &[12, 2, 195, 169]),
-        is_ldap_string(alloc, &[4, 2, 195, 169], "é"),
-        is_time(alloc, "820102120000Z", 23),
-        is_time(alloc, "19820102120000.5Z", 24),
-        is_no_time(alloc, "820132120000Z"),
+        ("a PrintableString", is_string(alloc, &[19, 2, 97, 98])),
+        ("a UTF8String", is_string(alloc, &[12, 2, 195, 169])),
+        (
+            "an LDAP string",
+            is_ldap_string(alloc, &[4, 2, 195, 169], "é"),
+        ),
+        ("a UTCTime", is_time(alloc, "820102120000Z", 23)),
+        ("a GeneralizedTime", is_time(alloc, "19820102120000.5Z", 24)),
+        ("a text that is no time", is_no_time(alloc, "820132120000Z")),
     ]
 }
 
@@ -459,30 +570,48 @@ fn is_signature(alloc: Global, form: &[u8], signature: &[u8]) -> bool {
 }
 
 // One of an ENUMERATED, those of a key, and the bits of a signature.
-fn are_numbers(alloc: Global) -> [bool; 4] {
+fn are_numbers(alloc: Global) -> [(&'static str, bool); 4] {
     let key = [48, 9, 2, 2, 0, 255, 2, 3, 1, 0, 1];
     [
-        is_malformed(alloc, &[10, 1, 1]),
-        refuses(status_of(alloc, &[10, 1, 2]), INVALID),
-        is_key(alloc, &key, &[0, 255], 65537),
-        is_signature(alloc, &[3, 3, 0, 7, 9], &[7, 9]),
+        ("an ENUMERATED", is_malformed(alloc, &[10, 1, 1])),
+        (
+            "an unknown ENUMERATED is rejected",
+            rejects(status_of(alloc, &[10, 1, 2]), INVALID),
+        ),
+        ("a key", is_key(alloc, &key, &[0, 255], 65537)),
+        (
+            "a signature",
+            is_signature(alloc, &[3, 3, 0, 7, 9], &[7, 9]),
+        ),
     ]
 }
 
 #[test]
-fn texts_times_and_numbers(rt: HostRuntime) {
-    all_hold(&rt, &are_texts(rt.alloc()));
-    all_hold(&rt, &are_numbers(rt.alloc()));
+fn texts_times_and_numbers_round_trip(rt: HostRuntime) {
+    finds_none(&rt, first_failing(&are_texts(rt.alloc())));
+    finds_none(&rt, first_failing(&are_numbers(rt.alloc())));
 }
 
 // Bytes hold a number, or none that is taken for zero.
-fn are_reasons(alloc: Global) -> [bool; 4] {
+fn are_reasons(alloc: Global) -> [(&'static str, bool); 4] {
     let cut = ASN1Error::new(ASN1ErrorKind::Eof);
     [
-        reason(cut) == "an element is cut off or missing",
-        number_or_zero(alloc, &[48, 3, 2, 1, 7]) == Ok(7),
-        number_or_zero(alloc, &[48, 0]) == Ok(0),
-        refuses(number_or_zero(alloc, &[48, 4, 2, 2, 0, 7]), INVALID),
+        (
+            "a reason",
+            reason(cut) == "an element is cut off or missing",
+        ),
+        (
+            "a number is kept",
+            number_or_zero(alloc, &[48, 3, 2, 1, 7]) == Ok(7),
+        ),
+        (
+            "no number is zero",
+            number_or_zero(alloc, &[48, 0]) == Ok(0),
+        ),
+        (
+            "a number in too many bytes is rejected",
+            rejects(number_or_zero(alloc, &[48, 4, 2, 2, 0, 7]), INVALID),
+        ),
     ]
 }
 
@@ -527,20 +656,35 @@ fn is_located(alloc: Global, broken: &[u8], said: &str) -> bool {
 }
 
 // Of a writing closure, of a reading one, and where a table is broken.
-fn are_own_or_located(alloc: Global) -> [bool; 6] {
+fn are_own_or_located(alloc: Global) -> [(&'static str, bool); 6] {
     let said = "ASN1Error { kind: Eof } at offset 7, depth 2";
     [
-        are_written(alloc, &[1], &[48, 3, 2, 1, 6]),
-        has_no_entry(entries_to_der(alloc, &STORE, &[2])),
-        is_entry(entry(alloc, &[2, 1, 1]), 6),
-        has_no_entry(entry(alloc, &[2, 1, 2])),
-        is_no_encoding(entry(alloc, &[2, 1, 1, 0])),
-        is_located(alloc, &[48, 8, 48, 6, 2, 1, 1, 2, 2, 0], said),
+        (
+            "an entry is written",
+            are_written(alloc, &[1], &[48, 3, 2, 1, 6]),
+        ),
+        (
+            "no such entry to write",
+            has_no_entry(entries_to_der(alloc, &STORE, &[2])),
+        ),
+        ("an entry is read", is_entry(entry(alloc, &[2, 1, 1]), 6)),
+        (
+            "no such entry to read",
+            has_no_entry(entry(alloc, &[2, 1, 2])),
+        ),
+        (
+            "bytes that are left are rejected",
+            is_no_encoding(entry(alloc, &[2, 1, 1, 0])),
+        ),
+        (
+            "a table fails where it is broken",
+            is_located(alloc, &[48, 8, 48, 6, 2, 1, 1, 2, 2, 0], said),
+        ),
     ]
 }
 
 #[test]
-fn errors(rt: HostRuntime) {
-    all_hold(&rt, &are_reasons(rt.alloc()));
-    all_hold(&rt, &are_own_or_located(rt.alloc()));
+fn errors_tell_their_cause(rt: HostRuntime) {
+    finds_none(&rt, first_failing(&are_reasons(rt.alloc())));
+    finds_none(&rt, first_failing(&are_own_or_located(rt.alloc())));
 }

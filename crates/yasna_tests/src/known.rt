@@ -1,28 +1,55 @@
 //! Calls whose closures are known, and a list of a CHOICE.
 
-use crate::checks::{all_hold, gives, refuses};
+use crate::checks::{finds_none, first_failing, gives, rejects};
 use std::alloc::Global;
 use yasna::{ASN1ErrorKind, ASN1Result, construct_der};
 use yasna_examples::{
     constructed_integer, parsed_integer, parsed_items, parsed_numbers, parsed_pair, third_number,
 };
 
-fn are_values_and_lists(alloc: Global) -> [bool; 10] {
+fn are_values_and_lists(alloc: Global) -> [(&'static str, bool); 10] {
     let form = [2, 2, 255, 127];
     let number_and_null = [48, 5, 2, 1, 10, 5, 0];
     let numbers = [48, 7, 2, 1, 10, 2, 2, 255, 127];
     let (invalid, extra) = (ASN1ErrorKind::Invalid, ASN1ErrorKind::Extra);
     [
-        gives(constructed_integer(alloc, -129), &form),
-        parsed_integer(alloc, &form) == Ok(-129),
-        refuses(parsed_integer(alloc, &[10, 1, 13]), invalid),
-        parsed_pair(alloc, &[48, 6, 2, 1, 10, 1, 1, 255]) == Ok((10, true)),
-        refuses(parsed_pair(alloc, &[48, 6, 2, 1, 10, 1, 1, 1]), invalid),
-        gives(parsed_numbers(alloc, &numbers), &[10, -129]),
-        gives(parsed_numbers(alloc, &[48, 0]), &[]),
-        refuses(parsed_numbers(alloc, &number_and_null), extra),
-        gives(parsed_items(alloc, &number_and_null), &[Some(10), None]),
-        refuses(parsed_items(alloc, &[48, 3, 1, 1, 255]), extra),
+        (
+            "-129 is written",
+            gives(constructed_integer(alloc, -129), &form),
+        ),
+        ("-129 is read", parsed_integer(alloc, &form) == Ok(-129)),
+        (
+            "an ENUMERATED is no INTEGER",
+            rejects(parsed_integer(alloc, &[10, 1, 13]), invalid),
+        ),
+        (
+            "10 and TRUE are read",
+            parsed_pair(alloc, &[48, 6, 2, 1, 10, 1, 1, 255]) == Ok((10, true)),
+        ),
+        (
+            "TRUE that isn't 255 is rejected",
+            rejects(parsed_pair(alloc, &[48, 6, 2, 1, 10, 1, 1, 1]), invalid),
+        ),
+        (
+            "two numbers are read",
+            gives(parsed_numbers(alloc, &numbers), &[10, -129]),
+        ),
+        (
+            "no numbers are read",
+            gives(parsed_numbers(alloc, &[48, 0]), &[]),
+        ),
+        (
+            "a NULL is no number",
+            rejects(parsed_numbers(alloc, &number_and_null), extra),
+        ),
+        (
+            "a number and a NULL are read",
+            gives(parsed_items(alloc, &number_and_null), &[Some(10), None]),
+        ),
+        (
+            "a BOOLEAN is no item",
+            rejects(parsed_items(alloc, &[48, 3, 1, 1, 255]), extra),
+        ),
     ]
 }
 
@@ -53,22 +80,31 @@ fn many_are_read(alloc: Global) -> bool {
     }
 }
 
-fn are_thirds_and_many(alloc: Global) -> [bool; 4] {
+fn are_thirds_and_many(alloc: Global) -> [(&'static str, bool); 4] {
     let form = [48, 9, 2, 1, 10, 2, 1, 11, 2, 1, 12];
     // the first has nine bytes
     let long = [48, 17, 2, 9, 1, 0, 0, 0, 0, 0, 0, 0, 0, 2, 1, 11, 2, 1, 12];
     // the second is a BOOLEAN, and so is what the third is read from
     let other = [48, 9, 2, 1, 10, 1, 1, 255, 2, 1, 12];
     [
-        third_number(alloc, &form) == Ok(12),
-        refuses(third_number(alloc, &long), ASN1ErrorKind::IntegerOverflow),
-        refuses(third_number(alloc, &other), ASN1ErrorKind::Invalid),
-        many_are_read(alloc),
+        (
+            "the third number is read",
+            third_number(alloc, &form) == Ok(12),
+        ),
+        (
+            "a number of nine bytes is rejected",
+            rejects(third_number(alloc, &long), ASN1ErrorKind::IntegerOverflow),
+        ),
+        (
+            "a BOOLEAN is rejected",
+            rejects(third_number(alloc, &other), ASN1ErrorKind::Invalid),
+        ),
+        ("100,000 numbers are read", many_are_read(alloc)),
     ]
 }
 
 #[test]
-fn values_and_lists(rt: HostRuntime) {
-    all_hold(&rt, &are_values_and_lists(rt.alloc()));
-    all_hold(&rt, &are_thirds_and_many(rt.alloc()));
+fn values_and_lists_are_read_or_rejected(rt: HostRuntime) {
+    finds_none(&rt, first_failing(&are_values_and_lists(rt.alloc())));
+    finds_none(&rt, first_failing(&are_thirds_and_many(rt.alloc())));
 }

@@ -1,7 +1,7 @@
-//! The lines of `yasna_lines`, remarks and refusals. The offsets, depths, lengths and tags of the key are those that `openssl asn1parse -i` prints of it.
+//! The lines of `yasna_lines`, remarks and rejections. The offsets, depths, lengths and tags of the key are those that `openssl asn1parse -i` prints of it.
 
-use crate::checks::{all_hold, finds_none};
-use std::alloc::{AllocError, Global};
+use crate::checks::{finds_none, first_failing, spelled};
+use std::alloc::Global;
 use yasna::BERMode;
 use yasna_lines::{Form, show};
 use yasna_listing::fault::Fault;
@@ -149,9 +149,9 @@ fn is_line_of(alloc: Global, input: &str, line: &str, rules: &str) -> bool {
 
 // The first input of which another line is printed, or other rules.
 fn first_other_line(alloc: Global) -> Option<&'static str> {
-    for (input, line, rules) in &LINES {
-        if !is_line_of(alloc, input, line, rules) {
-            return Some(*input);
+    for row in &LINES {
+        if !is_line_of(alloc, row.0, row.1, row.2) {
+            return Some(row.0);
         }
     }
     None
@@ -187,24 +187,27 @@ fn begins_with(alloc: Global, input: &[u8], first: &str) -> bool {
 
 // The first row that begins otherwise.
 fn first_other_form(alloc: Global) -> Option<&'static str> {
-    for (input, first) in &FORMS {
-        if !begins_with(alloc, input, first) {
-            return Some(*first);
+    for row in &FORMS {
+        if !begins_with(alloc, row.0, row.1) {
+            return Some(row.1);
         }
     }
     None
 }
 
-fn are_told(alloc: Global) -> [bool; 2] {
+fn are_told(alloc: Global) -> [(&'static str, bool); 2] {
     [
-        is_told(alloc, BERMode::Der, KEY, KEY_LINES),
-        is_told(alloc, BERMode::Ber, NESTED, NESTED_LINES),
+        ("a key in PEM", is_told(alloc, BERMode::Der, KEY, KEY_LINES)),
+        (
+            "nested elements in BER",
+            is_told(alloc, BERMode::Ber, NESTED, NESTED_LINES),
+        ),
     ]
 }
 
 #[test]
-fn lines(rt: HostRuntime) {
-    all_hold(&rt, &are_told(rt.alloc()));
+fn lines_tell_of_each_element(rt: HostRuntime) {
+    finds_none(&rt, first_failing(&are_told(rt.alloc())));
     finds_none(&rt, first_other_line(rt.alloc()));
     finds_none(&rt, first_other_form(rt.alloc()));
 }
@@ -282,33 +285,17 @@ fn is_broken(alloc: Global, mode: BERMode, input: &str, said: &str) -> bool {
 
 // The first input of which something else is said.
 fn first_other_fault(alloc: Global) -> Option<&'static str> {
-    for (mode, input, said) in &BROKEN {
-        if !is_broken(alloc, *mode, input, said) {
-            return Some(*input);
+    for row in &BROKEN {
+        if !is_broken(alloc, row.0, row.1, row.2) {
+            return Some(row.1);
         }
     }
     None
 }
 
-// Hexadecimal input of a hundred elements around a NULL, with their ends.
-fn hundred_and_one(alloc: Global) -> Result<String, AllocError> {
-    let mut input = "3080".repeat(alloc, 100)?;
-    input.push_str("0500")?;
-    for _ in 0..100 {
-        input.push_str("0000")?;
-    }
-    Ok(input)
-}
-
-// The same beginnings and two more.
-fn hundred_and_two(alloc: Global) -> Result<String, AllocError> {
-    let mut input = "3080".repeat(alloc, 100)?;
-    input.push_str("30803080")?;
-    Ok(input)
-}
-
+// Whether a hundred elements around a NULL are taken.
 fn is_hundred_and_one_taken(alloc: Global) -> bool {
-    match hundred_and_one(alloc) {
+    match spelled(alloc, ["", "3080", "0500", "0000"], 100) {
         Ok(input) => fault_of(alloc, BERMode::Ber, Some(Form::Hex), input.as_bytes()).is_none(),
         Err(_) => false,
     }
@@ -316,7 +303,7 @@ fn is_hundred_and_one_taken(alloc: Global) -> bool {
 
 // Whether this is said of one more.
 fn is_said_of_one_more(alloc: Global, said: &str) -> bool {
-    match hundred_and_two(alloc) {
+    match spelled(alloc, ["", "3080", "30803080", ""], 100) {
         Ok(input) => is_broken(alloc, BERMode::Ber, &input, said),
         Err(_) => false,
     }
@@ -330,49 +317,59 @@ fn is_said(alloc: Global, input: &str, said: &str) -> bool {
     }
 }
 
-fn are_refused(alloc: Global) -> [bool; 3] {
+fn are_rejected(alloc: Global) -> [(&'static str, bool); 3] {
     let too_deep = "offset 202: StackOverflow: expected at most 101 levels of elements";
     let cut_pem = "text\n-----BEGIN X-----\n";
     let of_pem = "offset 23: Eof: expected a line that ends the block of PEM";
     [
-        is_hundred_and_one_taken(alloc),
-        is_said_of_one_more(alloc, too_deep),
-        is_said(alloc, cut_pem, of_pem),
+        ("101 elements are taken", is_hundred_and_one_taken(alloc)),
+        (
+            "102 elements are rejected",
+            is_said_of_one_more(alloc, too_deep),
+        ),
+        (
+            "a cut block of PEM is rejected",
+            is_said(alloc, cut_pem, of_pem),
+        ),
     ]
 }
 
 /// A hundred and one elements may nest, and no more.
 #[test]
-fn refusals(rt: HostRuntime) {
+fn broken_input_is_rejected_at_its_offset(rt: HostRuntime) {
     finds_none(&rt, first_other_fault(rt.alloc()));
-    all_hold(&rt, &are_refused(rt.alloc()));
+    finds_none(&rt, first_failing(&are_rejected(rt.alloc())));
 }
 
-// A block of PEM with so many groups of digits in front of one that is padded, and a further group behind.
-fn padded_within(alloc: Global, count: usize) -> Result<String, AllocError> {
-    let mut input = String::from_str(alloc, "-----BEGIN X-----\n")?;
-    input.push_str("BAFB".repeat(alloc, count)?.as_str())?;
-    input.push_str("QQ==QUFB\n-----END X-----\n")?;
-    Ok(input)
-}
-
-// Whether it is refused at this offset, behind its last line.
-fn is_padding_refused(alloc: Global, count: usize, said: &str) -> bool {
-    match padded_within(alloc, count) {
+// Whether a group of digits that is padded is rejected at this offset, with so many groups in front of it and a further group behind.
+fn is_padding_rejected(alloc: Global, count: usize, said: &str) -> bool {
+    let end = "QQ==QUFB\n-----END X-----\n";
+    match spelled(alloc, ["-----BEGIN X-----\n", "BAFB", end, ""], count) {
         Ok(input) => is_said(alloc, &input, said),
         Err(_) => false,
     }
 }
 
+// Groups in front of the padded one, and what is said.
+static PADDED: [(usize, &str); 2] = [
+    (0, "offset 42: Invalid: expected base64"),
+    (1023, "offset 4134: Invalid: expected base64"),
+];
+
+// The first fault that isn't said.
+fn first_other_padding(alloc: Global) -> Option<&'static str> {
+    for row in &PADDED {
+        if !is_padding_rejected(alloc, row.0, row.1) {
+            return Some(row.1);
+        }
+    }
+    None
+}
+
 /// Base64 is padded at its end alone, however much of it stands in front.
 #[test]
-fn padding(rt: HostRuntime) {
-    let alloc = rt.alloc();
-    let outcomes = [
-        is_padding_refused(alloc, 0, "offset 42: Invalid: expected base64"),
-        is_padding_refused(alloc, 1023, "offset 4134: Invalid: expected base64"),
-    ];
-    all_hold(&rt, &outcomes);
+fn padding_within_base64_is_rejected(rt: HostRuntime) {
+    finds_none(&rt, first_other_padding(rt.alloc()));
 }
 
 // Whether such contents of a string are one element.
@@ -389,16 +386,27 @@ fn are_one(contents: &[u8]) -> bool {
     is_one_element(rules, place)
 }
 
+// Contents of a string, and whether they are one element.
+static CONTENTS: [(&str, &[u8], bool); 5] = [
+    ("a number", &[2, 1, 10], true),
+    ("a NULL in a SEQUENCE", &[48, 128, 5, 0, 0, 0], true),
+    ("nothing", &[], false),
+    ("a zero behind a number", &[2, 1, 10, 0], false),
+    ("a cut number in a SEQUENCE", &[48, 2, 2, 1], false),
+];
+
+fn first_other_contents() -> Option<&'static str> {
+    for row in &CONTENTS {
+        if are_one(row.1) != row.2 {
+            return Some(row.0);
+        }
+    }
+    None
+}
+
 /// Bytes are one element down to the primitive ones where one stands there, each constructed one in it holds such elements, and nothing
 /// stands behind it.
 #[test]
-fn elements_in_strings(rt: HostRuntime) {
-    let outcomes = [
-        are_one(&[2, 1, 10]),
-        are_one(&[48, 128, 5, 0, 0, 0]),
-        !are_one(&[]),
-        !are_one(&[2, 1, 10, 0]),
-        !are_one(&[48, 2, 2, 1]),
-    ];
-    all_hold(&rt, &outcomes);
+fn strings_hold_one_element_or_none(rt: HostRuntime) {
+    finds_none(&rt, first_other_contents());
 }

@@ -1,6 +1,6 @@
-//! Object identifiers, each call once, and what no contract says of their texts and refusals.
+//! Object identifiers, each call once, and what no contract says of their texts and rejections.
 
-use crate::checks::{all_hold, finds_none, gives, is_same};
+use crate::checks::{finds_none, first_failing, gives, is_same};
 use std::alloc::{AllocError, Global};
 use std::cmp::Ordering;
 use std::convert::AsSlice;
@@ -22,8 +22,8 @@ fn form_of(alloc: Global, oid: &ObjectIdentifier) -> ASN1Result<Vec<u8>> {
     encode_der(alloc, oid)
 }
 
-// Whether the text is refused, and not for want of memory, and this is said of it.
-fn is_refused(alloc: Global, text: &str, said: &str) -> bool {
+// Whether the text is rejected, and not for want of memory, and this is said of it.
+fn is_text_rejected(alloc: Global, text: &str, said: &str) -> bool {
     match ObjectIdentifier::from_str(alloc, text) {
         Ok(_) => false,
         Err(error) => match error.to_string(alloc) {
@@ -105,6 +105,7 @@ fn is_shown_as(alloc: Global, parts: &[u64], text: &str) -> bool {
     }
 }
 
+// None of them is a text of an object identifier.
 static BROKEN_TEXTS: [&str; 7] = [
     "",
     "1.2.",
@@ -115,10 +116,10 @@ static BROKEN_TEXTS: [&str; 7] = [
     "18446744073709551616",
 ];
 
-// The first one that isn't refused.
+// The first one that isn't rejected.
 fn first_taken_text(alloc: Global) -> Option<&'static str> {
     for text in &BROKEN_TEXTS {
-        if !is_refused(alloc, text, "Failed to parse OID") {
+        if !is_text_rejected(alloc, text, "Failed to parse OID") {
             return Some(*text);
         }
     }
@@ -189,24 +190,36 @@ fn is_longer_behind(alloc: Global) -> bool {
     }
 }
 
-fn are_identifiers(alloc: Global) -> [bool; 9] {
+fn are_identifiers(alloc: Global) -> [(&'static str, bool); 9] {
     [
-        is_form_of(alloc, &GROUP_FORM, &GROUP),
-        long_one_comes_back(alloc),
-        is_shown_as(alloc, &GROUP, "1.2.840.113549.1.1"),
-        is_shown_as(alloc, &[1, 2], "1.2"),
-        is_text_of(alloc, "1.2.840.113549.1.1", &GROUP),
-        is_text_of(alloc, "+1.02", &[1, 2]),
-        ones_come_back(alloc),
-        has_components(alloc, &[2, 5, 4]),
-        is_longer_behind(alloc),
+        (
+            "the group round-trips",
+            is_form_of(alloc, &GROUP_FORM, &GROUP),
+        ),
+        ("1000 subidentifiers round-trip", long_one_comes_back(alloc)),
+        (
+            "the group is shown",
+            is_shown_as(alloc, &GROUP, "1.2.840.113549.1.1"),
+        ),
+        ("1.2 is shown", is_shown_as(alloc, &[1, 2], "1.2")),
+        (
+            "the group is parsed",
+            is_text_of(alloc, "1.2.840.113549.1.1", &GROUP),
+        ),
+        ("+1.02 is parsed", is_text_of(alloc, "+1.02", &[1, 2])),
+        ("10,000 parts round-trip", ones_come_back(alloc)),
+        ("components change", has_components(alloc, &[2, 5, 4])),
+        (
+            "a longer one stands behind, and is its copy",
+            is_longer_behind(alloc),
+        ),
     ]
 }
 
 // Read and written in both ways, also one of 1000 subidentifiers. Texts, also broken ones and a long one. Components, order and
 // copies.
 #[test]
-fn object_identifiers(rt: HostRuntime) {
-    all_hold(&rt, &are_identifiers(rt.alloc()));
+fn object_identifiers_round_trip_in_bytes_and_text(rt: HostRuntime) {
+    finds_none(&rt, first_failing(&are_identifiers(rt.alloc())));
     finds_none(&rt, first_taken_text(rt.alloc()));
 }

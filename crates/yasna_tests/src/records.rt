@@ -1,34 +1,29 @@
 //! Types of three, five and seven parts, each from its form and from another encoding.
 
-use crate::checks::{all_hold, gives, refuses};
+use crate::checks::{finds_none, first_failing, gives, is_rejected, says};
 use std::alloc::Global;
-use yasna::{ASN1ErrorKind, DERCanonical, decode_der};
+use yasna::{ASN1ErrorKind, BERMode, DERCanonical};
 use yasna_examples::{DirectoryEntry, DomainParameters, RequestHeader, normalized};
 
-// Whether the form is read and written again, and so is the other encoding, which DER refuses.
+// Whether the form is read and written again, and so is the other encoding, which DER rejects.
 fn is_form_of<T: DERCanonical>(alloc: Global, form: &[u8], other: &[u8]) -> bool {
     gives(normalized::<T>(alloc, form), form)
         && gives(normalized::<T>(alloc, other), form)
-        && refuses(decode_der::<T>(alloc, other), ASN1ErrorKind::Invalid)
+        && is_rejected::<T>(alloc, BERMode::Der, other, ASN1ErrorKind::Invalid)
 }
 
 // Whether these lack the last part, and these have another behind it.
 fn has_all_parts<T: DERCanonical>(alloc: Global, short: &[u8], long: &[u8]) -> bool {
-    refuses(decode_der::<T>(alloc, short), ASN1ErrorKind::Eof)
-        && refuses(decode_der::<T>(alloc, long), ASN1ErrorKind::Extra)
+    is_rejected::<T>(alloc, BERMode::Der, short, ASN1ErrorKind::Eof)
+        && is_rejected::<T>(alloc, BERMode::Der, long, ASN1ErrorKind::Extra)
 }
 
 // Whether the prime is the greatest below 2 ^ 64.
-fn are_parameters(alloc: Global, form: &[u8]) -> bool {
-    match decode_der::<DomainParameters>(alloc, form) {
-        Ok(read) => {
-            read.prime == 18_446_744_073_709_551_557 && read.subprime == 11 && read.base == 4
-        }
-        Err(_) => false,
-    }
+fn are_parameters(read: &DomainParameters) -> bool {
+    read.prime == 18_446_744_073_709_551_557 && read.subprime == 11 && read.base == 4
 }
 
-fn are_domain_parameters(alloc: Global) -> [bool; 3] {
+fn are_domain_parameters(alloc: Global) -> [(&'static str, bool); 3] {
     let form = [
         48, 17, 2, 9, 0, 255, 255, 255, 255, 255, 255, 255, 197, 2, 1, 11, 2, 1, 4,
     ];
@@ -38,26 +33,30 @@ fn are_domain_parameters(alloc: Global) -> [bool; 3] {
     let short = [48, 6, 2, 1, 23, 2, 1, 11];
     let long = [48, 12, 2, 1, 23, 2, 1, 11, 2, 1, 4, 2, 1, 4];
     [
-        are_parameters(alloc, &form),
-        is_form_of::<DomainParameters>(alloc, &form, &other),
-        has_all_parts::<DomainParameters>(alloc, &short, &long),
+        (
+            "domain parameters are read",
+            says(alloc, BERMode::Der, &form, are_parameters),
+        ),
+        (
+            "domain parameters round-trip",
+            is_form_of::<DomainParameters>(alloc, &form, &other),
+        ),
+        (
+            "domain parameters have all parts",
+            has_all_parts::<DomainParameters>(alloc, &short, &long),
+        ),
     ]
 }
 
-fn is_header(alloc: Global, form: &[u8]) -> bool {
-    match decode_der::<RequestHeader>(alloc, form) {
-        Ok(read) => {
-            read.version == 0
-                && read.community.as_slice() == b"public".as_slice()
-                && read.request == 641
-                && read.status == 2
-                && read.index == 7
-        }
-        Err(_) => false,
-    }
+fn is_header(read: &RequestHeader) -> bool {
+    read.version == 0
+        && read.community.as_slice() == b"public".as_slice()
+        && read.request == 641
+        && read.status == 2
+        && read.index == 7
 }
 
-fn are_headers(alloc: Global) -> [bool; 3] {
+fn are_headers(alloc: Global) -> [(&'static str, bool); 3] {
     let form = [
         48, 21, 2, 1, 0, 4, 6, 112, 117, 98, 108, 105, 99, 2, 2, 2, 129, 2, 1, 2, 2, 1, 7,
     ];
@@ -69,9 +68,18 @@ fn are_headers(alloc: Global) -> [bool; 3] {
     let short = [48, 11, 2, 1, 0, 4, 0, 2, 1, 1, 2, 1, 0];
     let long = [48, 16, 2, 1, 0, 4, 0, 2, 1, 1, 2, 1, 0, 2, 1, 0, 5, 0];
     [
-        is_header(alloc, &form),
-        is_form_of::<RequestHeader>(alloc, &form, &other),
-        has_all_parts::<RequestHeader>(alloc, &short, &long),
+        (
+            "a header is read",
+            says(alloc, BERMode::Der, &form, is_header),
+        ),
+        (
+            "headers round-trip",
+            is_form_of::<RequestHeader>(alloc, &form, &other),
+        ),
+        (
+            "headers have all parts",
+            has_all_parts::<RequestHeader>(alloc, &short, &long),
+        ),
     ]
 }
 
@@ -103,24 +111,27 @@ fn is_described(read: &DirectoryEntry) -> bool {
         && read.in_use
 }
 
-fn is_entry(alloc: Global, form: &[u8]) -> bool {
-    match decode_der::<DirectoryEntry>(alloc, form) {
-        Ok(read) => is_named(&read) && is_described(&read),
-        Err(_) => false,
-    }
+fn is_entry(read: &DirectoryEntry) -> bool {
+    is_named(read) && is_described(read)
 }
 
-fn are_entries(alloc: Global) -> [bool; 2] {
+fn are_entries(alloc: Global) -> [(&'static str, bool); 2] {
     [
-        is_entry(alloc, &ENTRY),
-        is_form_of::<DirectoryEntry>(alloc, &ENTRY, &OTHER_ENTRY),
+        (
+            "an entry is read",
+            says(alloc, BERMode::Der, &ENTRY, is_entry),
+        ),
+        (
+            "entries round-trip",
+            is_form_of::<DirectoryEntry>(alloc, &ENTRY, &OTHER_ENTRY),
+        ),
     ]
 }
 
 // Domain parameters, heads of requests and entries of directories.
 #[test]
-fn records(rt: HostRuntime) {
-    all_hold(&rt, &are_domain_parameters(rt.alloc()));
-    all_hold(&rt, &are_headers(rt.alloc()));
-    all_hold(&rt, &are_entries(rt.alloc()));
+fn records_round_trip(rt: HostRuntime) {
+    finds_none(&rt, first_failing(&are_domain_parameters(rt.alloc())));
+    finds_none(&rt, first_failing(&are_headers(rt.alloc())));
+    finds_none(&rt, first_failing(&are_entries(rt.alloc())));
 }

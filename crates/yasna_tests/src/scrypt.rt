@@ -1,8 +1,8 @@
 //! The parameters of scrypt, from real bytes, with the last part and without.
 
-use crate::checks::{all_hold, gives, refuses};
-use std::alloc::{AllocError, Global};
-use yasna::{ASN1ErrorKind, ASN1Result, decode_ber, decode_der};
+use crate::checks::{bytes_of, finds_none, first_failing, gives, is_rejected, says};
+use std::alloc::Global;
+use yasna::{ASN1ErrorKind, BERMode};
 use yasna_examples::{ScryptParameters, normalized};
 
 // Those of the key in RFC 7914, 13.
@@ -16,17 +16,20 @@ const WITH_LENGTH: [u8; 23] = [
 ];
 
 // Whether they are those of the key, with this length.
-fn are_parameters(alloc: Global, form: &[u8], key_length: Option<u64>) -> bool {
-    match decode_der::<ScryptParameters>(alloc, form) {
-        Ok(read) => {
-            read.salt.as_slice() == b"Mouse".as_slice()
-                && read.cost == 1_048_576
-                && read.block_size == 8
-                && read.parallelization == 1
-                && read.key_length == key_length
-        }
-        Err(_) => false,
-    }
+fn are_of_key(read: &ScryptParameters, key_length: Option<u64>) -> bool {
+    read.salt.as_slice() == b"Mouse".as_slice()
+        && read.cost == 1_048_576
+        && read.block_size == 8
+        && read.parallelization == 1
+        && read.key_length == key_length
+}
+
+fn are_with_length(read: &ScryptParameters) -> bool {
+    are_of_key(read, Some(32))
+}
+
+fn are_without_length(read: &ScryptParameters) -> bool {
+    are_of_key(read, None)
 }
 
 // Whether these bytes are read, and written as this form.
@@ -34,41 +37,69 @@ fn is_normalized(alloc: Global, bytes: &[u8], form: &[u8]) -> bool {
     gives(normalized::<ScryptParameters>(alloc, bytes), form)
 }
 
-// The parameters, of indefinite length, with these bytes behind the others.
-fn with_tail(alloc: Global, tail: &[u8]) -> Result<Vec<u8>, AllocError> {
-    let head = [48, 128, 4, 0, 2, 1, 2, 2, 1, 8, 2, 1, 1];
-    let mut bytes = Vec::from_slice(alloc, &head)?;
-    bytes.extend_from_slice(tail)?;
-    bytes.extend_from_slice(&[0, 0])?;
-    Ok(bytes)
+// Parameters of indefinite length, and how they are rejected: a last part of another type is no length, and neither is one that is
+// broken, or followed by another.
+static REJECTED: [(&str, ASN1ErrorKind); 4] = [
+    ("3080040002010202010802010105000000", ASN1ErrorKind::Invalid),
+    ("3080040002010202010802010102000000", ASN1ErrorKind::Invalid),
+    (
+        "308004000201020201080201010201FF0000",
+        ASN1ErrorKind::IntegerOverflow,
+    ),
+    (
+        "308004000201020201080201010201200201200000",
+        ASN1ErrorKind::Invalid,
+    ),
+];
+
+fn is_row(alloc: Global, text: &str, kind: ASN1ErrorKind) -> bool {
+    match bytes_of(alloc, text) {
+        Ok(bytes) => is_rejected::<ScryptParameters>(alloc, BERMode::Ber, &bytes, kind),
+        Err(_) => false,
+    }
 }
 
-fn parsed_with_tail(alloc: Global, tail: &[u8]) -> ASN1Result<ScryptParameters> {
-    decode_ber(alloc, &with_tail(alloc, tail)?)
+fn first_other_row(alloc: Global) -> Option<&'static str> {
+    for row in &REJECTED {
+        if !is_row(alloc, row.0, row.1) {
+            return Some(row.0);
+        }
+    }
+    None
 }
 
-// With the last part and without. A last part of another type is no length, and neither is one that is broken, or followed by
-// another.
-fn are_lengths(alloc: Global) -> [bool; 9] {
+// With the last part and without.
+fn are_lengths(alloc: Global) -> [(&'static str, bool); 5] {
     // of indefinite length, with a length in two bytes
     let other = [
         48, 128, 4, 129, 5, 77, 111, 117, 115, 101, 2, 3, 16, 0, 0, 2, 1, 8, 2, 1, 1, 0, 0,
     ];
-    let (invalid, overflow) = (ASN1ErrorKind::Invalid, ASN1ErrorKind::IntegerOverflow);
     [
-        are_parameters(alloc, &WITH_LENGTH, Some(32)),
-        is_normalized(alloc, &WITH_LENGTH, &WITH_LENGTH),
-        are_parameters(alloc, &WITHOUT_LENGTH, None),
-        is_normalized(alloc, &WITHOUT_LENGTH, &WITHOUT_LENGTH),
-        is_normalized(alloc, &other, &WITHOUT_LENGTH),
-        refuses(parsed_with_tail(alloc, &[5, 0]), invalid),
-        refuses(parsed_with_tail(alloc, &[2, 0]), invalid),
-        refuses(parsed_with_tail(alloc, &[2, 1, 255]), overflow),
-        refuses(parsed_with_tail(alloc, &[2, 1, 32, 2, 1, 32]), invalid),
+        (
+            "parameters with a length",
+            says(alloc, BERMode::Der, &WITH_LENGTH, are_with_length),
+        ),
+        (
+            "they round-trip",
+            is_normalized(alloc, &WITH_LENGTH, &WITH_LENGTH),
+        ),
+        (
+            "parameters without a length",
+            says(alloc, BERMode::Der, &WITHOUT_LENGTH, are_without_length),
+        ),
+        (
+            "they round-trip too",
+            is_normalized(alloc, &WITHOUT_LENGTH, &WITHOUT_LENGTH),
+        ),
+        (
+            "an indefinite length",
+            is_normalized(alloc, &other, &WITHOUT_LENGTH),
+        ),
     ]
 }
 
 #[test]
-fn lengths(rt: HostRuntime) {
-    all_hold(&rt, &are_lengths(rt.alloc()));
+fn optional_length_round_trips_or_is_rejected(rt: HostRuntime) {
+    finds_none(&rt, first_failing(&are_lengths(rt.alloc())));
+    finds_none(&rt, first_other_row(rt.alloc()));
 }

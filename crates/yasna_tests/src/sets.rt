@@ -1,6 +1,6 @@
 //! Sets, read and written by callbacks.
 
-use crate::checks::{all_hold, gives, refuses};
+use crate::checks::{finds_none, first_failing, gives, rejects};
 use std::alloc::Global;
 use yasna::tags::{TAG_BOOLEAN, TAG_INTEGER, TAG_NULL};
 use yasna::{
@@ -71,21 +71,42 @@ fn write_empty_part(writer: DERWriter<'_>) -> ASN1Result<()> {
 }
 
 // In DER a list is read in order. One that is written is put in order, and no part of it may be empty.
-fn are_lists(alloc: Global) -> [bool; 7] {
+fn are_lists(alloc: Global) -> [(&'static str, bool); 7] {
     [
-        gives(parse_ber(alloc, &FALLING, numbers), &[11, 10]),
-        gives(parse_der(alloc, &ASCENDING, numbers), &[10, 11]),
-        parse_der(alloc, &ASCENDING, all_read) == Ok(()),
-        refuses(parse_der(alloc, &FALLING, all_read), INVALID),
-        gives(construct_der(alloc, write_falling), &ASCENDING),
-        refuses(construct_der(alloc, write_behind_empty_part), INVALID),
-        refuses(construct_der(alloc, write_empty_part), INVALID),
+        (
+            "BER reads them in any order",
+            gives(parse_ber(alloc, &FALLING, numbers), &[11, 10]),
+        ),
+        (
+            "DER reads them in order",
+            gives(parse_der(alloc, &ASCENDING, numbers), &[10, 11]),
+        ),
+        (
+            "each is read",
+            parse_der(alloc, &ASCENDING, all_read) == Ok(()),
+        ),
+        (
+            "DER rejects another order",
+            rejects(parse_der(alloc, &FALLING, all_read), INVALID),
+        ),
+        (
+            "they are written in order",
+            gives(construct_der(alloc, write_falling), &ASCENDING),
+        ),
+        (
+            "an empty part is rejected",
+            rejects(construct_der(alloc, write_behind_empty_part), INVALID),
+        ),
+        (
+            "an empty part alone is rejected",
+            rejects(construct_der(alloc, write_empty_part), INVALID),
+        ),
     ]
 }
 
 #[test]
-fn lists(rt: HostRuntime) {
-    all_hold(&rt, &are_lists(rt.alloc()));
+fn lists_are_read_and_written_in_order(rt: HostRuntime) {
+    finds_none(&rt, first_failing(&are_lists(rt.alloc())));
 }
 
 fn next_flag(set: &mut BERReaderSet) -> ASN1Result<bool> {
@@ -121,7 +142,7 @@ fn der_flag_and_number(alloc: Global, bytes: &[u8]) -> ASN1Result<(bool, Option<
     parse_der(alloc, bytes, flag_and_number)
 }
 
-// It does not look at the refusal of a default.
+// It does not look at the rejection of a default.
 fn past_default(set: &mut BERReaderSet) -> ASN1Result<i64> {
     let _ = set.read_default(&[TAG_BOOLEAN], true, flag);
     set.next(&[TAG_INTEGER])?.read_i64()
@@ -132,18 +153,45 @@ fn number_past_default(reader: BERReader) -> ASN1Result<i64> {
 }
 
 // Elements by their tags, elements that are left out, and such as equal their default.
-fn are_elements(alloc: Global) -> [bool; 9] {
+fn are_elements(alloc: Global) -> [(&'static str, bool); 9] {
     let sorted = [49, 6, 1, 1, 255, 2, 1, 10];
     [
-        parse_ber(alloc, &MIXED, number_and_flag) == Ok((10, true)),
-        refuses(parse_der(alloc, &MIXED, number_and_flag), INVALID),
-        refuses(parse_der(alloc, &SINGLE, number_and_flag), INVALID),
-        der_flag_and_number(alloc, &[49, 6, 1, 1, 0, 2, 1, 10]) == Ok((false, Some(10))),
-        der_flag_and_number(alloc, &SINGLE) == Ok((true, Some(10))),
-        der_flag_and_number(alloc, &[49, 0]) == Ok((true, None)),
-        parse_ber(alloc, &MIXED, flag_and_number) == Ok((true, Some(10))),
-        refuses(der_flag_and_number(alloc, &sorted), INVALID),
-        refuses(parse_der(alloc, &sorted, number_past_default), INVALID),
+        (
+            "BER reads elements in any order",
+            parse_ber(alloc, &MIXED, number_and_flag) == Ok((10, true)),
+        ),
+        (
+            "DER rejects another order",
+            rejects(parse_der(alloc, &MIXED, number_and_flag), INVALID),
+        ),
+        (
+            "a missing element is rejected",
+            rejects(parse_der(alloc, &SINGLE, number_and_flag), INVALID),
+        ),
+        (
+            "a flag and a number",
+            der_flag_and_number(alloc, &[49, 6, 1, 1, 0, 2, 1, 10]) == Ok((false, Some(10))),
+        ),
+        (
+            "a flag that is left out",
+            der_flag_and_number(alloc, &SINGLE) == Ok((true, Some(10))),
+        ),
+        (
+            "a number that is left out",
+            der_flag_and_number(alloc, &[49, 0]) == Ok((true, None)),
+        ),
+        (
+            "BER reads TRUE that is written out",
+            parse_ber(alloc, &MIXED, flag_and_number) == Ok((true, Some(10))),
+        ),
+        (
+            "DER rejects TRUE that is written out",
+            rejects(der_flag_and_number(alloc, &sorted), INVALID),
+        ),
+        (
+            "that error is sticky",
+            rejects(parse_der(alloc, &sorted, number_past_default), INVALID),
+        ),
     ]
 }
 
@@ -190,18 +238,30 @@ fn past_set_without_memory(reader: BERReader) -> ASN1Result<()> {
 }
 
 // An element that isn't read, or as another type, and one that lacks memory, also where callbacks do not look at that.
-fn are_refused(alloc: Global) -> [bool; 4] {
+fn are_rejected(alloc: Global) -> [(&'static str, bool); 4] {
     let lack = ASN1ErrorKind::OutOfMemory;
     [
-        refuses(parse_ber(alloc, &SINGLE, unread), ASN1ErrorKind::Extra),
-        refuses(parse_ber(alloc, &SINGLE, another), INVALID),
-        refuses(parse_ber(alloc, &SINGLE, set_without_memory), lack),
-        refuses(parse_ber(alloc, &SINGLE, past_set_without_memory), lack),
+        (
+            "an unread element is rejected",
+            rejects(parse_ber(alloc, &SINGLE, unread), ASN1ErrorKind::Extra),
+        ),
+        (
+            "another type is rejected",
+            rejects(parse_ber(alloc, &SINGLE, another), INVALID),
+        ),
+        (
+            "a want of memory is told",
+            rejects(parse_ber(alloc, &SINGLE, set_without_memory), lack),
+        ),
+        (
+            "that error is sticky",
+            rejects(parse_ber(alloc, &SINGLE, past_set_without_memory), lack),
+        ),
     ]
 }
 
 #[test]
-fn elements(rt: HostRuntime) {
-    all_hold(&rt, &are_elements(rt.alloc()));
-    all_hold(&rt, &are_refused(rt.alloc()));
+fn elements_of_sets_are_read_or_rejected(rt: HostRuntime) {
+    finds_none(&rt, first_failing(&are_elements(rt.alloc())));
+    finds_none(&rt, first_failing(&are_rejected(rt.alloc())));
 }

@@ -1,10 +1,10 @@
 //! Types that are read and written as a tuple or step by step, each on bytes.
 
-use crate::checks::{all_hold, gives, refuses};
+use crate::checks::{finds_none, first_failing, gives, is_rejected, says};
 use std::alloc::Global;
 use yasna::{
-    ASN1ErrorKind, ASN1Result, EncodableParts, construct_der, decode_ber, decode_cer, decode_der,
-    encode_cer, encode_der,
+    ASN1ErrorKind, ASN1Result, BERMode, EncodableParts, construct_der, decode_ber, encode_cer,
+    encode_der,
 };
 use yasna_examples::{
     Measurement, Report, Sample, Serial, Trail, Version, encoded_report, normalized_report,
@@ -25,23 +25,32 @@ const VERSION: Version = Version {
 
 const VERSION_FORM: [u8; 9] = [48, 7, 2, 2, 1, 44, 1, 1, 0];
 
-fn is_version(read: ASN1Result<Version>) -> bool {
-    match read {
-        Ok(read) => read.major == 300 && !read.flag,
-        Err(_) => false,
-    }
+fn is_version(read: &Version) -> bool {
+    read.major == 300 && !read.flag
 }
 
-fn are_versions(alloc: Global) -> [bool; 5] {
+fn are_versions(alloc: Global) -> [(&'static str, bool); 5] {
     let cer_form = [48, 128, 2, 2, 1, 44, 1, 1, 0, 0, 0];
     [
-        gives(encode_der(alloc, &VERSION), &VERSION_FORM),
-        is_version(decode_der(alloc, &VERSION_FORM)),
-        gives(encode_cer(alloc, &VERSION), &cer_form),
-        is_version(decode_cer(alloc, &cer_form)),
-        refuses(
-            decode_cer::<Version>(alloc, &VERSION_FORM),
-            ASN1ErrorKind::Invalid,
+        (
+            "a version is written",
+            gives(encode_der(alloc, &VERSION), &VERSION_FORM),
+        ),
+        (
+            "a version is read",
+            says(alloc, BERMode::Der, &VERSION_FORM, is_version),
+        ),
+        (
+            "a version is written in CER",
+            gives(encode_cer(alloc, &VERSION), &cer_form),
+        ),
+        (
+            "a version is read in CER",
+            says(alloc, BERMode::Cer, &cer_form, is_version),
+        ),
+        (
+            "CER rejects a length",
+            is_rejected::<Version>(alloc, BERMode::Cer, &VERSION_FORM, ASN1ErrorKind::Invalid),
         ),
     ]
 }
@@ -52,25 +61,31 @@ const SAMPLE: Sample = Sample {
     shift: -129,
 };
 
-fn is_sample(read: ASN1Result<Sample>) -> bool {
-    match read {
-        Ok(read) => read.count == 300 && read.last && read.shift == -129,
-        Err(_) => false,
-    }
+fn is_sample(read: &Sample) -> bool {
+    read.count == 300 && read.last && read.shift == -129
 }
 
-fn are_samples(alloc: Global) -> [bool; 4] {
+fn are_samples(alloc: Global) -> [(&'static str, bool); 4] {
     let form = [48, 11, 2, 2, 1, 44, 1, 1, 255, 2, 2, 255, 127];
     let measurement = [48, 6, 2, 1, 10, 1, 1, 255];
     let indefinite = [48, 128, 2, 1, 10, 1, 1, 1, 0, 0];
     [
-        gives(encode_der(alloc, &SAMPLE), &form),
-        is_sample(decode_der(alloc, &form)),
-        refuses(
-            decode_der::<Sample>(alloc, &measurement),
-            ASN1ErrorKind::Eof,
+        (
+            "a sample is written",
+            gives(encode_der(alloc, &SAMPLE), &form),
         ),
-        is_measurement(alloc, &indefinite, &measurement),
+        (
+            "a sample is read",
+            says(alloc, BERMode::Der, &form, is_sample),
+        ),
+        (
+            "a sample without a part is rejected",
+            is_rejected::<Sample>(alloc, BERMode::Der, &measurement, ASN1ErrorKind::Eof),
+        ),
+        (
+            "a measurement is normalized",
+            is_measurement(alloc, &indefinite, &measurement),
+        ),
     ]
 }
 
@@ -80,26 +95,28 @@ fn form_of_report(alloc: Global) -> ASN1Result<Vec<u8>> {
     encoded_report(alloc, name, raw, -129)
 }
 
-fn is_report(read: ASN1Result<Report>) -> bool {
-    match read {
-        Ok(read) => {
-            read.name.as_str() == "é"
-                && read.raw.as_slice() == [72, 101].as_slice()
-                && read.number == -129
-        }
-        Err(_) => false,
-    }
+fn is_report(read: &Report) -> bool {
+    read.name.as_str() == "é" && read.raw.as_slice() == [72, 101].as_slice() && read.number == -129
 }
 
-fn are_reports(alloc: Global) -> [bool; 4] {
+fn are_reports(alloc: Global) -> [(&'static str, bool); 4] {
     let form = [48, 12, 12, 2, 195, 169, 4, 2, 72, 101, 2, 2, 255, 127];
     let pieces = [48, 14, 44, 6, 4, 1, 195, 4, 1, 169, 4, 0, 2, 2, 255, 127];
     let whole = [48, 10, 12, 2, 195, 169, 4, 0, 2, 2, 255, 127];
     [
-        gives(form_of_report(alloc), &form),
-        is_report(decode_der(alloc, &form)),
-        gives(normalized_report(alloc, &pieces), &whole),
-        refuses(decode_der::<Report>(alloc, &pieces), ASN1ErrorKind::Invalid),
+        ("a report is written", gives(form_of_report(alloc), &form)),
+        (
+            "a report is read",
+            says(alloc, BERMode::Der, &form, is_report),
+        ),
+        (
+            "a report in pieces is normalized",
+            gives(normalized_report(alloc, &pieces), &whole),
+        ),
+        (
+            "DER rejects pieces",
+            is_rejected::<Report>(alloc, BERMode::Der, &pieces, ASN1ErrorKind::Invalid),
+        ),
     ]
 }
 
@@ -108,11 +125,8 @@ fn form_of_trail(alloc: Global) -> ASN1Result<Vec<u8>> {
     encode_der(alloc, &Trail { steps })
 }
 
-fn is_trail(read: ASN1Result<Trail>, steps: &[i64]) -> bool {
-    match read {
-        Ok(read) => read.steps.as_slice() == steps,
-        Err(_) => false,
-    }
+fn is_trail(read: &Trail) -> bool {
+    read.steps.as_slice() == [300, 2, -1].as_slice()
 }
 
 // The form of a SEQUENCE of a serial number that is left out, and TRUE.
@@ -130,26 +144,38 @@ fn form_of_given(alloc: Global) -> ASN1Result<Vec<u8>> {
     })
 }
 
-fn are_encoded(alloc: Global) -> [bool; 5] {
+fn are_encoded(alloc: Global) -> [(&'static str, bool); 5] {
     let trail = [48, 10, 2, 1, 255, 2, 1, 2, 2, 2, 1, 44];
     let left_out = Serial { number: None };
     [
-        gives(form_of_trail(alloc), &trail),
-        is_trail(decode_der(alloc, &trail), &[300, 2, -1]),
-        gives(encode_der(alloc, &left_out), &[]),
-        gives(form_of_left_out(alloc), &[48, 3, 1, 1, 255]),
-        gives(form_of_given(alloc), &[48, 6, 2, 1, 10, 1, 1, 255]),
+        ("a trail is written", gives(form_of_trail(alloc), &trail)),
+        (
+            "a trail is read",
+            says(alloc, BERMode::Der, &trail, is_trail),
+        ),
+        (
+            "no serial number is written",
+            gives(encode_der(alloc, &left_out), &[]),
+        ),
+        (
+            "a part that is left out",
+            gives(form_of_left_out(alloc), &[48, 3, 1, 1, 255]),
+        ),
+        (
+            "a part that is given",
+            gives(form_of_given(alloc), &[48, 6, 2, 1, 10, 1, 1, 255]),
+        ),
     ]
 }
 
 #[test]
-fn versions_and_samples(rt: HostRuntime) {
-    all_hold(&rt, &are_versions(rt.alloc()));
-    all_hold(&rt, &are_samples(rt.alloc()));
+fn versions_and_samples_round_trip(rt: HostRuntime) {
+    finds_none(&rt, first_failing(&are_versions(rt.alloc())));
+    finds_none(&rt, first_failing(&are_samples(rt.alloc())));
 }
 
 #[test]
-fn reports_trails_and_serials(rt: HostRuntime) {
-    all_hold(&rt, &are_reports(rt.alloc()));
-    all_hold(&rt, &are_encoded(rt.alloc()));
+fn reports_trails_and_serials_round_trip(rt: HostRuntime) {
+    finds_none(&rt, first_failing(&are_reports(rt.alloc())));
+    finds_none(&rt, first_failing(&are_encoded(rt.alloc())));
 }

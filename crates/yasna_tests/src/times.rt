@@ -1,6 +1,6 @@
 //! Both times, each call once, and what no contract says of their orders, hashes and copies.
 
-use crate::checks::{all_hold, is_same};
+use crate::checks::{finds_none, first_failing, is_same};
 use std::alloc::{AllocError, Global};
 use std::cmp::Ordering;
 use yasna::models::{DateTime, GeneralizedTime, Offset, UTCTime};
@@ -119,22 +119,34 @@ const SIXTY: &[u8] = b"19981231235960.1Z";
 
 // Ten tenths are shown as the digits 0010: twelve digits of a second, of which the last three stand behind the nanosecond. One
 // time is later by a picosecond. Second 60 shows as 59, so 60.1 comes before 59.5, but behind 59.1.
-fn are_of_digits(alloc: Global) -> [bool; 8] {
+fn are_of_digits(alloc: Global) -> [(&'static str, bool); 8] {
     [
-        is_of_digits(alloc, b"0010", b"001", DIGITS),
-        is_of_no_digits(alloc, b"0a"),
-        is_copied(alloc, DIGITS),
-        is_counted_finer(alloc, DIGITS),
-        is_ordered(alloc, EVENING, DIGITS.as_bytes(), Ordering::Less),
-        is_ordered(alloc, SIXTY, b"19981231235959.5Z", Ordering::Less),
-        is_ordered(alloc, SIXTY, b"19981231235959.1Z", Ordering::Greater),
-        has_second(alloc, SIXTY, 59),
+        (
+            "ten tenths of a picosecond are twelve digits",
+            is_of_digits(alloc, b"0010", b"001", DIGITS),
+        ),
+        ("a letter is no digit", is_of_no_digits(alloc, b"0a")),
+        ("a time is its copy", is_copied(alloc, DIGITS)),
+        ("ten tenths are counted", is_counted_finer(alloc, DIGITS)),
+        (
+            "a picosecond is later",
+            is_ordered(alloc, EVENING, DIGITS.as_bytes(), Ordering::Less),
+        ),
+        (
+            "60.1 is before 59.5",
+            is_ordered(alloc, SIXTY, b"19981231235959.5Z", Ordering::Less),
+        ),
+        (
+            "60.1 is behind 59.1",
+            is_ordered(alloc, SIXTY, b"19981231235959.1Z", Ordering::Greater),
+        ),
+        ("second 60 shows as 59", has_second(alloc, SIXTY, 59)),
     ]
 }
 
 #[test]
-fn of_digits(rt: HostRuntime) {
-    all_hold(&rt, &are_of_digits(rt.alloc()));
+fn digits_behind_the_nanosecond_are_kept(rt: HostRuntime) {
+    finds_none(&rt, first_failing(&are_of_digits(rt.alloc())));
 }
 
 fn is_noon_of_parts(alloc: Global, noon: &UTCTime) -> bool {
@@ -251,34 +263,55 @@ fn is_made_without_second_60(alloc: Global, time: &[u8], text: &str) -> bool {
 }
 
 // A time that is made of the parts of another says the same, but for a second 60.
-fn are_made_of_parts(alloc: Global, noon: &UTCTime) -> [bool; 12] {
+fn are_made_of_parts(alloc: Global, noon: &UTCTime) -> [(&'static str, bool); 12] {
     let sixty = b"19981231235960.1234567891Z";
     let shown = "19981231235959.1234567891Z";
     [
-        is_noon_of_parts(alloc, noon),
-        is_noon_copied(noon),
-        is_earlier_ahead(alloc, noon),
-        noon_ahead_is_shown_as(alloc, noon, "19820102110000Z"),
-        is_noon_without_seconds(b"8201021200Z"),
-        is_past_the_last_year(alloc),
-        is_in_the_first_year(alloc),
-        at_the_first_year(alloc, 1).is_none(),
-        is_noon_remade(noon),
-        noon_is_shown_as(alloc, noon, "19820102120000Z"),
-        is_same_without_second_60(alloc, DIGITS.as_bytes()),
-        is_made_without_second_60(alloc, sixty, shown),
+        ("noon is made of its parts", is_noon_of_parts(alloc, noon)),
+        ("noon is its copy", is_noon_copied(noon)),
+        (
+            "noon an hour ahead is earlier",
+            is_earlier_ahead(alloc, noon),
+        ),
+        (
+            "it is shown as a GeneralizedTime",
+            noon_ahead_is_shown_as(alloc, noon, "19820102110000Z"),
+        ),
+        (
+            "noon without seconds",
+            is_noon_without_seconds(b"8201021200Z"),
+        ),
+        ("the year 10000 is none", is_past_the_last_year(alloc)),
+        ("the year 0 is one", is_in_the_first_year(alloc)),
+        (
+            "a time before the year 0 is none",
+            at_the_first_year(alloc, 1).is_none(),
+        ),
+        ("noon is remade", is_noon_remade(noon)),
+        (
+            "noon is shown as a GeneralizedTime",
+            noon_is_shown_as(alloc, noon, "19820102120000Z"),
+        ),
+        (
+            "a time without second 60 is the same",
+            is_same_without_second_60(alloc, DIGITS.as_bytes()),
+        ),
+        (
+            "second 60 becomes 59",
+            is_made_without_second_60(alloc, sixty, shown),
+        ),
     ]
 }
 
 // Without a noon none of them.
-fn are_made_of_noon(alloc: Global) -> [bool; 12] {
+fn first_failing_of_noon(alloc: Global) -> Option<&'static str> {
     match noon() {
-        Some(noon) => are_made_of_parts(alloc, &noon),
-        None => [false; 12],
+        Some(noon) => first_failing(&are_made_of_parts(alloc, &noon)),
+        None => Some("noon"),
     }
 }
 
 #[test]
-fn made_of_parts(rt: HostRuntime) {
-    all_hold(&rt, &are_made_of_noon(rt.alloc()));
+fn times_are_made_of_parts(rt: HostRuntime) {
+    finds_none(&rt, first_failing_of_noon(rt.alloc()));
 }

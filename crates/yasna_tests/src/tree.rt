@@ -1,10 +1,10 @@
 //! Trees, and elements as deep as they may nest, by a type that refers to itself and by functions that call themselves.
 
-use crate::checks::{all_hold, refuses};
-use std::alloc::{AllocError, Global};
+use crate::checks::{bytes_of, finds_none, first_failing, is_kind, is_rejected, says, spelled};
+use std::alloc::Global;
 use yasna::{
-    ASN1ErrorKind, ASN1Result, BERMode, BERReaderSeq, DERWriterSeq, construct_der_seq, decode_ber,
-    decode_ber_general, decode_der, parse_ber_general,
+    ASN1ErrorKind, ASN1Result, BERMode, BERReaderSeq, DERWriterSeq, construct_der_seq,
+    decode_ber_general, parse_ber_general,
 };
 use yasna_examples::Tree;
 
@@ -30,18 +30,14 @@ fn of_definite_length(alloc: Global, depth: u8) -> ASN1Result<Vec<u8>> {
     construct_der_seq(alloc, |seq| write_nested(seq, depth))
 }
 
-fn of_indefinite_length(alloc: Global, depth: u8) -> Result<Vec<u8>, AllocError> {
-    let mut bytes = Vec::new(alloc);
-    for _ in 0..depth {
-        bytes.extend_from_slice(&[48, 128])?;
-    }
-    for _ in 0..depth {
-        bytes.extend_from_slice(&[0, 0])?;
-    }
-    Ok(bytes)
+fn of_indefinite_length(alloc: Global, depth: u8) -> ASN1Result<Vec<u8>> {
+    bytes_of(
+        alloc,
+        &spelled(alloc, ["", "3080", "", "0000"], usize::from(depth))?,
+    )
 }
 
-// The kind of a refusal, if the answer is one.
+// The kind of a rejection, if the answer is one.
 fn kind_of<T: Drop>(answer: ASN1Result<T>) -> Option<ASN1ErrorKind> {
     match answer {
         Ok(_) => None,
@@ -58,12 +54,24 @@ fn kinds(alloc: Global, bytes: &[u8], mode: BERMode, depth: u8) -> [Option<ASN1E
     [kind_of(tree), kind_of(read)]
 }
 
+fn is(found: Option<ASN1ErrorKind>, wanted: Option<ASN1ErrorKind>) -> bool {
+    match (found, wanted) {
+        (Some(found), Some(wanted)) => is_kind(found, wanted),
+        (None, None) => true,
+        _ => false,
+    }
+}
+
+fn are([one, other]: [Option<ASN1ErrorKind>; 2], wanted: Option<ASN1ErrorKind>) -> bool {
+    is(one, wanted) && is(other, wanted)
+}
+
 // Whether both answer this kind for so many SEQUENCEs in both modes of definite length.
 fn answer_definite(alloc: Global, depth: u8, kind: Option<ASN1ErrorKind>) -> bool {
     match of_definite_length(alloc, depth) {
         Ok(bytes) => {
-            kinds(alloc, &bytes, BERMode::Der, depth) == [kind, kind]
-                && kinds(alloc, &bytes, BERMode::Ber, depth) == [kind, kind]
+            are(kinds(alloc, &bytes, BERMode::Der, depth), kind)
+                && are(kinds(alloc, &bytes, BERMode::Ber, depth), kind)
         }
         Err(_) => false,
     }
@@ -73,44 +81,52 @@ fn answer_definite(alloc: Global, depth: u8, kind: Option<ASN1ErrorKind>) -> boo
 fn answer_indefinite(alloc: Global, depth: u8, kind: Option<ASN1ErrorKind>) -> bool {
     match of_indefinite_length(alloc, depth) {
         Ok(bytes) => {
-            kinds(alloc, &bytes, BERMode::Ber, depth) == [kind, kind]
-                && kinds(alloc, &bytes, BERMode::Cer, depth) == [kind, kind]
+            are(kinds(alloc, &bytes, BERMode::Ber, depth), kind)
+                && are(kinds(alloc, &bytes, BERMode::Cer, depth), kind)
         }
         Err(_) => false,
     }
 }
 
-// How many branches the first two have, where there are two.
-fn sizes(tree: &Tree) -> Option<(usize, usize)> {
+// Whether it has two branches, of which the second has one.
+fn has_branches(tree: &Tree) -> bool {
     match tree.branches.as_slice() {
-        [first, second] => Some((first.branches.len(), second.branches.len())),
-        _ => None,
+        [first, second] => first.branches.is_empty() && second.branches.len() == 1,
+        _ => false,
     }
 }
 
-fn has_sizes(alloc: Global, bytes: &[u8], wanted: (usize, usize)) -> bool {
-    match decode_ber::<Tree>(alloc, bytes) {
-        Ok(tree) => sizes(&tree) == Some(wanted),
-        Err(_) => false,
-    }
-}
-
-fn are_trees(alloc: Global) -> [bool; 6] {
+fn are_trees(alloc: Global) -> [(&'static str, bool); 6] {
     let form = [48, 128, 48, 0, 48, 2, 48, 0, 0, 0];
-    let of_null = decode_der::<Tree>(alloc, &[48, 4, 48, 2, 5, 0]);
+    let of_null = [48, 4, 48, 2, 5, 0];
     let too_deep = Some(ASN1ErrorKind::StackOverflow);
     [
-        has_sizes(alloc, &form, (0, 1)),
-        refuses(of_null, ASN1ErrorKind::Extra),
-        answer_definite(alloc, 101, None),
-        answer_indefinite(alloc, 101, None),
-        answer_definite(alloc, 102, too_deep),
-        answer_indefinite(alloc, 102, too_deep),
+        (
+            "a tree has its branches",
+            says(alloc, BERMode::Ber, &form, has_branches),
+        ),
+        (
+            "a NULL is no branch",
+            is_rejected::<Tree>(alloc, BERMode::Der, &of_null, ASN1ErrorKind::Extra),
+        ),
+        ("101 of definite length", answer_definite(alloc, 101, None)),
+        (
+            "101 of indefinite length",
+            answer_indefinite(alloc, 101, None),
+        ),
+        (
+            "102 of definite length",
+            answer_definite(alloc, 102, too_deep),
+        ),
+        (
+            "102 of indefinite length",
+            answer_indefinite(alloc, 102, too_deep),
+        ),
     ]
 }
 
 // Also the deepest ones, and one more.
 #[test]
-fn trees(rt: HostRuntime) {
-    all_hold(&rt, &are_trees(rt.alloc()));
+fn trees_nest_to_101_levels(rt: HostRuntime) {
+    finds_none(&rt, first_failing(&are_trees(rt.alloc())));
 }
