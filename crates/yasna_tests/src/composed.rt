@@ -115,12 +115,16 @@ fn rejects_numbers(alloc: Global, bytes: &[u8], kind: ASN1ErrorKind) -> bool {
     is_rejected::<Vec<i64>>(alloc, BERMode::Ber, bytes, kind)
 }
 
+const NESTED: [u8; 16] = [48, 128, 48, 128, 4, 1, 9, 48, 3, 1, 1, 7, 0, 0, 0, 0];
+
+const NESTED_FORM: [u8; 12] = [48, 10, 48, 8, 4, 1, 9, 48, 3, 1, 1, 255];
+
+const FORM: [u8; 10] = [48, 128, 2, 1, 10, 2, 1, 11, 0, 0];
+
+const UNREAD: [u8; 13] = [48, 128, 2, 1, 1, 2, 1, 2, 2, 1, 3, 0, 0];
+
 // A list goes on to the two zeros, a broken item is no end of it, and a part that isn't read is too much.
 fn are_lists(alloc: Global) -> [(&'static str, bool); 8] {
-    let nested = [48, 128, 48, 128, 4, 1, 9, 48, 3, 1, 1, 7, 0, 0, 0, 0];
-    let nested_form = [48, 10, 48, 8, 4, 1, 9, 48, 3, 1, 1, 255];
-    let form = [48, 128, 2, 1, 10, 2, 1, 11, 0, 0];
-    let unread = [48, 128, 2, 1, 1, 2, 1, 2, 2, 1, 3, 0, 0];
     [
         (
             "an empty list",
@@ -133,8 +137,8 @@ fn are_lists(alloc: Global) -> [(&'static str, bool); 8] {
         (
             "a nested list",
             gives(
-                normalized::<Vec<(Vec<u8>, Vec<bool>)>>(alloc, &nested),
-                &nested_form,
+                normalized::<Vec<(Vec<u8>, Vec<bool>)>>(alloc, &NESTED),
+                &NESTED_FORM,
             ),
         ),
         (
@@ -143,7 +147,7 @@ fn are_lists(alloc: Global) -> [(&'static str, bool); 8] {
         ),
         (
             "a list goes on to the two zeros",
-            gives(decode_ber::<Vec<i64>>(alloc, &form), &[10, 11]),
+            gives(decode_ber::<Vec<i64>>(alloc, &FORM), &[10, 11]),
         ),
         (
             "a broken item is rejected",
@@ -155,7 +159,7 @@ fn are_lists(alloc: Global) -> [(&'static str, bool); 8] {
         ),
         (
             "an unread part is rejected",
-            is_rejected::<(i64, i64)>(alloc, BERMode::Ber, &unread, INVALID),
+            is_rejected::<(i64, i64)>(alloc, BERMode::Ber, &UNREAD, INVALID),
         ),
     ]
 }

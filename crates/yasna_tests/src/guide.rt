@@ -105,13 +105,15 @@ fn is_extension(alloc: Global, bytes: &[u8], critical: bool, value: &[u8]) -> bo
     }
 }
 
+const EXTENSION: [u8; 14] = [48, 12, 6, 3, 85, 29, 19, 1, 1, 255, 4, 2, 48, 0];
+
+// One that isn't critical may say so in BER.
+const SAYS_FALSE: [u8; 14] = [48, 12, 6, 3, 85, 29, 19, 1, 1, 0, 4, 2, 48, 0];
+
 fn are_wholes(alloc: Global) -> [(&'static str, bool); 8] {
     let indefinite = [48, 128, 48, 6, 12, 1, 97, 1, 1, 1, 0, 0];
     let form = [48, 6, 12, 1, 97, 1, 1, 255];
     let other = [48, 6, 12, 1, 97, 1, 1, 1];
-    let extension = [48, 12, 6, 3, 85, 29, 19, 1, 1, 255, 4, 2, 48, 0];
-    // one that isn't critical may say so in BER
-    let says_false = [48, 12, 6, 3, 85, 29, 19, 1, 1, 0, 4, 2, 48, 0];
     [
         (
             "a table of one row",
@@ -131,19 +133,19 @@ fn are_wholes(alloc: Global) -> [(&'static str, bool); 8] {
         ),
         (
             "an extension round-trips",
-            gives(rewritten_extension(alloc, &extension), &extension),
+            gives(rewritten_extension(alloc, &EXTENSION), &EXTENSION),
         ),
         (
             "an extension is read",
-            is_extension(alloc, &extension, true, &[48, 0]),
+            is_extension(alloc, &EXTENSION, true, &[48, 0]),
         ),
         (
             "BER reads a default that is written out",
-            is_extension(alloc, &says_false, false, &[48, 0]),
+            is_extension(alloc, &SAYS_FALSE, false, &[48, 0]),
         ),
         (
             "DER rejects a default that is written out",
-            rejects(rewritten_extension(alloc, &says_false), INVALID),
+            rejects(rewritten_extension(alloc, &SAYS_FALSE), INVALID),
         ),
     ]
 }

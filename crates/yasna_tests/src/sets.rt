@@ -20,6 +20,9 @@ const MIXED: [u8; 8] = [49, 6, 2, 1, 10, 1, 1, 255];
 // A SET of the INTEGER 10.
 const SINGLE: [u8; 5] = [49, 3, 2, 1, 10];
 
+// A SET of TRUE and the INTEGER 10, in order.
+const SORTED: [u8; 8] = [49, 6, 1, 1, 255, 2, 1, 10];
+
 const INVALID: ASN1ErrorKind = ASN1ErrorKind::Invalid;
 
 fn number(element: BERReader) -> ASN1Result<i64> {
@@ -152,9 +155,8 @@ fn number_past_default(reader: BERReader) -> ASN1Result<i64> {
     reader.read_set(past_default)
 }
 
-// Elements by their tags, elements that are left out, and such as equal their default.
-fn are_elements(alloc: Global) -> [(&'static str, bool); 9] {
-    let sorted = [49, 6, 1, 1, 255, 2, 1, 10];
+// Elements by their tags, and elements that are left out.
+fn are_elements(alloc: Global) -> [(&'static str, bool); 7] {
     [
         (
             "BER reads elements in any order",
@@ -183,14 +185,6 @@ fn are_elements(alloc: Global) -> [(&'static str, bool); 9] {
         (
             "BER reads TRUE that is written out",
             parse_ber(alloc, &MIXED, flag_and_number) == Ok((true, Some(10))),
-        ),
-        (
-            "DER rejects TRUE that is written out",
-            rejects(der_flag_and_number(alloc, &sorted), INVALID),
-        ),
-        (
-            "that error is sticky",
-            rejects(parse_der(alloc, &sorted, number_past_default), INVALID),
         ),
     ]
 }
@@ -237,8 +231,8 @@ fn past_set_without_memory(reader: BERReader) -> ASN1Result<()> {
     Ok(())
 }
 
-// An element that isn't read, or as another type, and one that lacks memory, also where callbacks do not look at that.
-fn are_rejected(alloc: Global) -> [(&'static str, bool); 4] {
+// An element that equals its default, one that isn't read, or as another type, and one that lacks memory, also where callbacks do not look at that.
+fn are_rejected(alloc: Global) -> [(&'static str, bool); 6] {
     let lack = ASN1ErrorKind::OutOfMemory;
     [
         (
@@ -256,6 +250,14 @@ fn are_rejected(alloc: Global) -> [(&'static str, bool); 4] {
         (
             "that error is sticky",
             rejects(parse_ber(alloc, &SINGLE, past_set_without_memory), lack),
+        ),
+        (
+            "DER rejects TRUE that is written out",
+            rejects(der_flag_and_number(alloc, &SORTED), INVALID),
+        ),
+        (
+            "that error is sticky",
+            rejects(parse_der(alloc, &SORTED, number_past_default), INVALID),
         ),
     ]
 }
