@@ -105,278 +105,316 @@ pub static KINDS: [(&str, Kind); 26] = [
     ("tdv", Kind::Tagged),
 ];
 
-/// Reads of several values, or of none: what is made of what is read, and what that is.
-pub static CALLS: [(&str, Then, Body); 60] = [
+/// Reads of several values, or of none.
+pub static CALLS: [(&str, Read); 60] = [
     // SEQUENCE, read and written part by part
     (
         "seq_ib",
-        Then::Shown,
-        Body::Sequence(&[Step(Ask::Next, INTEGER), Step(Ask::Next, BOOLEAN)]),
+        Read(
+            Then::Shown,
+            Body::Sequence(&[Step(Ask::Next, INTEGER), Step(Ask::Next, BOOLEAN)]),
+        ),
     ),
     (
         "seq_i",
-        Then::Shown,
-        Body::Sequence(&[Step(Ask::Next, INTEGER)]),
+        Read(Then::Shown, Body::Sequence(&[Step(Ask::Next, INTEGER)])),
     ),
     (
         "seq_sb",
-        Then::Shown,
-        Body::Sequence(&[Step(Ask::Next, AROUND), Step(Ask::Next, BOOLEAN)]),
+        Read(
+            Then::Shown,
+            Body::Sequence(&[Step(Ask::Next, AROUND), Step(Ask::Next, BOOLEAN)]),
+        ),
     ),
-    ("seq_empty", Then::Shown, Body::Sequence(&[])),
+    ("seq_empty", Read(Then::Shown, Body::Sequence(&[]))),
     // with parts that may be absent (X.690, 8.9.3 and 11.5)
     (
         "seq_opt",
-        Then::Shown,
-        Body::Sequence(&[Step(Ask::Optional, INTEGER), Step(Ask::Next, BOOLEAN)]),
+        Read(
+            Then::Shown,
+            Body::Sequence(&[Step(Ask::Optional, INTEGER), Step(Ask::Next, BOOLEAN)]),
+        ),
     ),
     (
         "seq_def",
-        Then::Shown,
-        Body::Sequence(&[Step(Ask::Ten, INTEGER), Step(Ask::Next, BOOLEAN)]),
+        Read(
+            Then::Shown,
+            Body::Sequence(&[Step(Ask::Ten, INTEGER), Step(Ask::Next, BOOLEAN)]),
+        ),
     ),
     (
         "seq_opts",
-        Then::Shown,
-        Body::Sequence(&[
-            Step(Ask::Optional, OCTETS),
-            Step(Ask::Optional, AROUND),
-            Step(Ask::Optional, Piece::Explicit(C0, Kind::Null)),
-        ]),
+        Read(
+            Then::Shown,
+            Body::Sequence(&[
+                Step(Ask::Optional, OCTETS),
+                Step(Ask::Optional, AROUND),
+                Step(Ask::Optional, Piece::Explicit(C0, Kind::Null)),
+            ]),
+        ),
     ),
     (
         "opt_err",
-        Then::Shown,
-        Body::Sequence(&[
-            Step(
-                Ask::Optional,
-                Piece::Plain(Kind::Refused(ASN1ErrorKind::Invalid)),
-            ),
-            Step(Ask::Next, INTEGER),
-        ]),
+        Read(
+            Then::Shown,
+            Body::Sequence(&[
+                Step(
+                    Ask::Optional,
+                    Piece::Plain(Kind::Refused(ASN1ErrorKind::Invalid)),
+                ),
+                Step(Ask::Next, INTEGER),
+            ]),
+        ),
     ),
     (
         "opt_memory",
-        Then::Shown,
-        Body::Sequence(&[
-            Step(
-                Ask::OptionalDiscarded,
-                Piece::Plain(Kind::Refused(ASN1ErrorKind::OutOfMemory)),
-            ),
-            Step(Ask::Next, INTEGER),
-        ]),
+        Read(
+            Then::Shown,
+            Body::Sequence(&[
+                Step(
+                    Ask::OptionalDiscarded,
+                    Piece::Plain(Kind::Refused(ASN1ErrorKind::OutOfMemory)),
+                ),
+                Step(Ask::Next, INTEGER),
+            ]),
+        ),
     ),
     (
         "swallow1",
-        Then::Shown,
-        Body::Sequence(&[
-            Step(Ask::Optional, BOOLEAN),
-            Step(Ask::Discarded, OCTETS),
-            Step(Ask::Next, INTEGER),
-        ]),
+        Read(
+            Then::Shown,
+            Body::Sequence(&[
+                Step(Ask::Optional, BOOLEAN),
+                Step(Ask::Discarded, OCTETS),
+                Step(Ask::Next, INTEGER),
+            ]),
+        ),
     ),
     // with the bytes that were taken
     (
         "buf",
-        Then::Shown,
-        Body::Sequence(&[
-            Step(Ask::Buffered, INTEGER),
-            Step(Ask::Next, Piece::Plain(Kind::Null)),
-        ]),
+        Read(
+            Then::Shown,
+            Body::Sequence(&[
+                Step(Ask::Buffered, INTEGER),
+                Step(Ask::Next, Piece::Plain(Kind::Null)),
+            ]),
+        ),
     ),
-    ("buf2", Then::Shown, Body::Buffered(OCTETS)),
+    ("buf2", Read(Then::Shown, Body::Buffered(OCTETS))),
     (
         "buf3",
-        Then::Shown,
-        Body::Sequence(&[
-            Step(Ask::NextBuffered, Piece::Implicit(C3, Kind::Bytes)),
-            Step(Ask::Next, Piece::Plain(Kind::Null)),
-        ]),
+        Read(
+            Then::Shown,
+            Body::Sequence(&[
+                Step(Ask::NextBuffered, Piece::Implicit(C3, Kind::Bytes)),
+                Step(Ask::Next, Piece::Plain(Kind::Null)),
+            ]),
+        ),
     ),
     // SEQUENCE OF, read item by item (X.690, 8.10)
-    ("seqof_i64", Then::Shown, Body::SequenceOf(INTEGER)),
-    ("seqof_der", Then::Shown, Body::SequenceOf(RAW)),
+    ("seqof_i64", Read(Then::Shown, Body::SequenceOf(INTEGER))),
+    ("seqof_der", Read(Then::Shown, Body::SequenceOf(RAW))),
     (
         "seqof_choice",
-        Then::Shown,
-        Body::SequenceOf(Piece::Plain(Kind::Choice)),
+        Read(Then::Shown, Body::SequenceOf(Piece::Plain(Kind::Choice))),
     ),
-    ("seqof_sum", Then::Shown, Body::SequenceSum),
-    ("idle", Then::Shown, Body::SequenceIdle),
+    ("seqof_sum", Read(Then::Shown, Body::SequenceSum)),
+    ("idle", Read(Then::Shown, Body::SequenceIdle)),
     // SET OF, written in the order of DER (X.690, 8.12 and 11.6)
-    ("setof_i64", Then::Shown, Body::SetOf(INTEGER)),
-    ("setof_bytes", Then::Shown, Body::SetOf(OCTETS)),
-    ("setof_der", Then::Shown, Body::SetOf(RAW)),
-    ("setof_sum", Then::Shown, Body::SetSum),
-    ("setof_idle", Then::Shown, Body::SetIdle),
+    ("setof_i64", Read(Then::Shown, Body::SetOf(INTEGER))),
+    ("setof_bytes", Read(Then::Shown, Body::SetOf(OCTETS))),
+    ("setof_der", Read(Then::Shown, Body::SetOf(RAW))),
+    ("setof_sum", Read(Then::Shown, Body::SetSum)),
+    ("setof_idle", Read(Then::Shown, Body::SetIdle)),
     // SET, whose elements are asked for by their tags (X.690, 8.11, 10.3 and 11.5)
     (
         "set_ib",
-        Then::Shown,
-        Body::Set(&[
-            Choice::Next(TAG_INTEGER, INTEGER),
-            Choice::Next(TAG_BOOLEAN, BOOLEAN),
-        ]),
+        Read(
+            Then::Shown,
+            Body::Set(&[
+                Choice::Next(TAG_INTEGER, INTEGER),
+                Choice::Next(TAG_BOOLEAN, BOOLEAN),
+            ]),
+        ),
     ),
     (
         "set_ii",
-        Then::Shown,
-        Body::Set(&[
-            Choice::Next(TAG_INTEGER, INTEGER),
-            Choice::Next(TAG_INTEGER, INTEGER),
-        ]),
+        Read(
+            Then::Shown,
+            Body::Set(&[
+                Choice::Next(TAG_INTEGER, INTEGER),
+                Choice::Next(TAG_INTEGER, INTEGER),
+            ]),
+        ),
     ),
     (
         "set_abcd",
-        Then::Shown,
-        Body::Set(&[
-            Choice::Next(C28, Piece::Implicit(C28, Kind::I64)),
-            Choice::Next(C345678, Piece::Explicit(C345678, Kind::Bytes)),
-            Choice::Next(C27, Piece::Explicit(C27, Kind::I64)),
-            Choice::Next(C345677, Piece::Explicit(C345677, Kind::Bytes)),
-        ]),
+        Read(
+            Then::Shown,
+            Body::Set(&[
+                Choice::Next(C28, Piece::Implicit(C28, Kind::I64)),
+                Choice::Next(C345678, Piece::Explicit(C345678, Kind::Bytes)),
+                Choice::Next(C27, Piece::Explicit(C27, Kind::I64)),
+                Choice::Next(C345677, Piece::Explicit(C345677, Kind::Bytes)),
+            ]),
+        ),
     ),
     (
         "set_seqel",
-        Then::Shown,
-        Body::Set(&[Choice::Next(TAG_SEQUENCE, Piece::Plain(Kind::Nests))]),
+        Read(
+            Then::Shown,
+            Body::Set(&[Choice::Next(TAG_SEQUENCE, Piece::Plain(Kind::Nests))]),
+        ),
     ),
     (
         "set_der",
-        Then::Shown,
-        Body::Set(&[Choice::Next(TAG_SEQUENCE, RAW)]),
+        Read(Then::Shown, Body::Set(&[Choice::Next(TAG_SEQUENCE, RAW)])),
     ),
     (
         "set_again",
-        Then::Shown,
-        Body::Set(&[
-            Choice::AskedInVain(TAG_BOOLEAN),
-            Choice::Next(TAG_INTEGER, INTEGER),
-        ]),
+        Read(
+            Then::Shown,
+            Body::Set(&[
+                Choice::AskedInVain(TAG_BOOLEAN),
+                Choice::Next(TAG_INTEGER, INTEGER),
+            ]),
+        ),
     ),
-    ("set_empty", Then::Shown, Body::Set(&[])),
+    ("set_empty", Read(Then::Shown, Body::Set(&[]))),
     (
         "set_opt",
-        Then::Shown,
-        Body::Set(&[Choice::Optional(TAG_INTEGER, INTEGER), Choice::False]),
+        Read(
+            Then::Shown,
+            Body::Set(&[Choice::Optional(TAG_INTEGER, INTEGER), Choice::False]),
+        ),
     ),
-    ("set_any", Then::Shown, Body::SetAny),
+    ("set_any", Read(Then::Shown, Body::SetAny)),
     // under tags of the caller's (X.690, 8.14)
     (
         "tag3_i64",
-        Then::Shown,
-        Body::Alone(Piece::Explicit(C3, Kind::I64)),
+        Read(Then::Shown, Body::Alone(Piece::Explicit(C3, Kind::I64))),
     ),
     (
         "tag31_null",
-        Then::Shown,
-        Body::Alone(Piece::Explicit(C31, Kind::Null)),
+        Read(Then::Shown, Body::Alone(Piece::Explicit(C31, Kind::Null))),
     ),
     (
         "itag3_i64",
-        Then::Shown,
-        Body::Alone(Piece::Implicit(C3, Kind::I64)),
+        Read(Then::Shown, Body::Alone(Piece::Implicit(C3, Kind::I64))),
     ),
     (
         "itag3_again",
-        Then::Shown,
-        Body::Alone(Piece::Implicit(C3, Kind::Again)),
+        Read(Then::Shown, Body::Alone(Piece::Implicit(C3, Kind::Again))),
     ),
     (
         "itag3_bytes",
-        Then::Shown,
-        Body::Alone(Piece::Implicit(C3, Kind::Bytes)),
+        Read(Then::Shown, Body::Alone(Piece::Implicit(C3, Kind::Bytes))),
     ),
     (
         "itag3_bits",
-        Then::Shown,
-        Body::Alone(Piece::Implicit(C3, Kind::Bits)),
+        Read(Then::Shown, Body::Alone(Piece::Implicit(C3, Kind::Bits))),
     ),
     (
         "itag3_utf8",
-        Then::Shown,
-        Body::Alone(Piece::Implicit(C3, Kind::Text(Class::Utf8))),
+        Read(
+            Then::Shown,
+            Body::Alone(Piece::Implicit(C3, Kind::Text(Class::Utf8))),
+        ),
     ),
     (
         "itag3_tag4",
-        Then::Shown,
-        Body::Implicit(Piece::Explicit(C4, Kind::I64)),
+        Read(Then::Shown, Body::Implicit(Piece::Explicit(C4, Kind::I64))),
     ),
     (
         "itag3_itag4",
-        Then::Shown,
-        Body::Implicit(Piece::Implicit(C4, Kind::I64)),
+        Read(Then::Shown, Body::Implicit(Piece::Implicit(C4, Kind::I64))),
     ),
     (
         "itag31_seq",
-        Then::Shown,
-        Body::ImplicitSequence(&[Step(Ask::Next, INTEGER), Step(Ask::Next, BOOLEAN)]),
+        Read(
+            Then::Shown,
+            Body::ImplicitSequence(&[Step(Ask::Next, INTEGER), Step(Ask::Next, BOOLEAN)]),
+        ),
     ),
-    ("lookder", Then::Shown, Body::Alone(Piece::LookedAt)),
-    ("rec", Then::Shown, Body::Alone(Piece::Plain(Kind::Nests))),
-    ("tree", Then::Shown, Body::Tree),
+    ("lookder", Read(Then::Shown, Body::Alone(Piece::LookedAt))),
+    (
+        "rec",
+        Read(Then::Shown, Body::Alone(Piece::Plain(Kind::Nests))),
+    ),
+    ("tree", Read(Then::Shown, Body::Tree)),
     // of which something else is shown
-    ("idle_collect", Then::Null, Body::SequenceOf(IDLE)),
-    ("setof_idle_collect", Then::Null, Body::SetOf(IDLE)),
+    ("idle_collect", Read(Then::Null, Body::SequenceOf(IDLE))),
+    ("setof_idle_collect", Read(Then::Null, Body::SetOf(IDLE))),
     (
         "set_drop",
-        Then::Null,
-        Body::Set(&[Choice::Asked(TAG_INTEGER)]),
+        Read(Then::Null, Body::Set(&[Choice::Asked(TAG_INTEGER)])),
     ),
     (
         "set_optidle",
-        Then::Last,
-        Body::Set(&[Choice::Optional(TAG_INTEGER, IDLE)]),
+        Read(
+            Then::Last,
+            Body::Set(&[Choice::Optional(TAG_INTEGER, IDLE)]),
+        ),
     ),
     // whose callbacks throw refusals away, or make them
     (
         "seq_err",
-        Then::Shown,
-        Body::Sequence(&[Step(Ask::Refused(ASN1ErrorKind::Invalid), IDLE)]),
+        Read(
+            Then::Shown,
+            Body::Sequence(&[Step(Ask::Refused(ASN1ErrorKind::Invalid), IDLE)]),
+        ),
     ),
     (
         "seq_drop",
-        Then::Null,
-        Body::Sequence(&[Step(Ask::Discarded, INTEGER)]),
+        Read(Then::Null, Body::Sequence(&[Step(Ask::Discarded, INTEGER)])),
     ),
     (
         "seq_replace",
-        Then::Shown,
-        Body::Sequence(&[
-            Step(Ask::Discarded, BOOLEAN),
-            Step(Ask::Refused(ASN1ErrorKind::Eof), IDLE),
-        ]),
+        Read(
+            Then::Shown,
+            Body::Sequence(&[
+                Step(Ask::Discarded, BOOLEAN),
+                Step(Ask::Refused(ASN1ErrorKind::Eof), IDLE),
+            ]),
+        ),
     ),
-    ("swallow2", Then::Discarded, Body::Alone(WITHIN)),
+    ("swallow2", Read(Then::Discarded, Body::Alone(WITHIN))),
     (
         "swallow3",
-        Then::Last,
-        Body::Sequence(&[Step(Ask::Discarded, WITHIN), Step(Ask::Next, INTEGER)]),
+        Read(
+            Then::Last,
+            Body::Sequence(&[Step(Ask::Discarded, WITHIN), Step(Ask::Next, INTEGER)]),
+        ),
     ),
     (
         "swallow4",
-        Then::Last,
-        Body::Sequence(&[Step(Ask::Discarded, INTEGER), Step(Ask::Next, WITHIN)]),
+        Read(
+            Then::Last,
+            Body::Sequence(&[Step(Ask::Discarded, INTEGER), Step(Ask::Next, WITHIN)]),
+        ),
     ),
     (
         "swallow_err",
-        Then::Discarded,
-        Body::Sequence(&[Step(Ask::Refused(ASN1ErrorKind::Invalid), IDLE)]),
+        Read(
+            Then::Discarded,
+            Body::Sequence(&[Step(Ask::Refused(ASN1ErrorKind::Invalid), IDLE)]),
+        ),
     ),
     (
         "swallow_drop",
-        Then::Discarded,
-        Body::Sequence(&[Step(Ask::Discarded, INTEGER)]),
+        Read(
+            Then::Discarded,
+            Body::Sequence(&[Step(Ask::Discarded, INTEGER)]),
+        ),
     ),
     (
         "swallow_deep",
-        Then::Discarded,
-        Body::Alone(Piece::Plain(Kind::Nest(101))),
+        Read(Then::Discarded, Body::Alone(Piece::Plain(Kind::Nest(101)))),
     ),
-    ("replace_bool", Then::Replaced, Body::Alone(BOOLEAN)),
+    ("replace_bool", Read(Then::Replaced, Body::Alone(BOOLEAN))),
     (
         "replace_i8",
-        Then::Replaced,
-        Body::Alone(Piece::Plain(Kind::I8)),
+        Read(Then::Replaced, Body::Alone(Piece::Plain(Kind::I8))),
     ),
 ];

@@ -15,7 +15,7 @@
 //! Each input has a seed of its own, which is printed where a call fails on it. The first input of a run has the run's seed: so
 //! a run of one input from a printed seed makes that input again.
 
-use crate::answer::answer;
+use crate::answer::answer_or_unknown;
 use crate::line::Case;
 use crate::mutation::Vectors;
 use crate::random::Random;
@@ -125,9 +125,10 @@ static CALLS: [(&str, Kind); 77] = [
     ("d:vtdv", Kind::Raw),
 ];
 
-// How many inputs were tried, how many values were read, and how many calls failed.
-#[derive(Clone, Copy)]
+// How many inputs were tried, how many values were read, how many calls failed, and what is to be printed of that.
+#[derive(Drop)]
 struct Tally {
+    text: String,
     inputs: u64,
     accepted: u64,
     failed: u64,
@@ -144,79 +145,61 @@ pub fn check_random(
 ) -> io::Result<Verdict> {
     let vectors = Vectors::parse(alloc, input)?;
     let mut tally = Tally {
+        text: String::new(alloc),
         inputs: 0,
         accepted: 0,
         failed: 0,
     };
     for place in 0..count {
-        if place > 0 && place.is_multiple_of(BLOCK) {
-            tally.print(rt)?;
-        }
         let seed = seed.wrapping_add(place.wrapping_mul(STRIDE));
-        check_input(rt, alloc, &vectors, seed, &mut tally)?;
+        tally.check_input(alloc, &vectors, seed)?;
+        rt.print(tally.text.as_str())?;
+        tally.text.clear();
     }
-    tally.print(rt)?;
+    tally.tell_counts()?;
+    rt.print(tally.text.as_str())?;
     Ok(Verdict::of(tally.failed))
 }
 
 impl Tally {
-    // Counts a call's fault on these bytes, if it has one, and prints it.
-    fn tell(
+    // Makes the input of a seed, and checks each call on it; behind a block of inputs tells the counts before.
+    fn check_input(
         &mut self,
-        rt: &impl Print,
+        alloc: Global,
+        vectors: &Vectors,
         seed: u64,
-        call: &str,
-        bytes: &str,
-        fault: Option<&str>,
-    ) -> io::Result<()> {
-        let Some(fault) = fault else {
-            return Ok(());
-        };
-        self.failed = self.failed.saturating_add(1);
-        println!(rt; "seed {seed}: {call} {bytes}: {fault}")
+    ) -> Result<(), AllocError> {
+        if self.inputs > 0 && self.inputs.is_multiple_of(BLOCK) {
+            self.tell_counts()?;
+        }
+        self.inputs = self.inputs.saturating_add(1);
+        let bytes = vectors.input(alloc, &mut Random::new(seed))?;
+        let digits = hex::encode(alloc, bytes.as_slice())?;
+        let arg = if digits.is_empty() { "-" } else { &digits };
+        self.check_calls(alloc, seed, arg)
     }
 
-    // Prints the counts.
-    fn print(self, rt: &impl Print) -> io::Result<()> {
+    // Checks each call on these bytes.
+    fn check_calls(&mut self, alloc: Global, seed: u64, bytes: &str) -> Result<(), AllocError> {
+        for (call, kind) in &CALLS {
+            if let Some(fault) = fault(alloc, *kind, call, bytes, &mut self.accepted)? {
+                self.failed = self.failed.saturating_add(1);
+                writeln!(self.text, "seed {seed}: {call} {bytes}: {fault}")?;
+            }
+        }
+        Ok(())
+    }
+
+    // Tells the counts.
+    fn tell_counts(&mut self) -> Result<(), AllocError> {
         let inputs = self.inputs;
         let accepted = self.accepted;
         let failed = self.failed;
-        println!(rt; "{inputs} inputs, {accepted} values, {failed} failed")
+        writeln!(
+            self.text,
+            "{inputs} inputs, {accepted} values, {failed} failed"
+        )
     }
-}
-
-// Makes the input of a seed, and checks each call on it.
-fn check_input(
-    rt: &impl Print,
-    alloc: Global,
-    vectors: &Vectors,
-    seed: u64,
-    tally: &mut Tally,
-) -> io::Result<()> {
-    tally.inputs = tally.inputs.saturating_add(1);
-    let bytes = vectors.input(alloc, &mut Random::new(seed))?;
-    let digits = hex::encode(alloc, bytes.as_slice())?;
-    let arg = if digits.is_empty() {
-        "-"
-    } else {
-        digits.as_str()
-    };
-    check_calls(rt, alloc, seed, arg, tally)
-}
-
-// Checks each call on these bytes.
-fn check_calls(
-    rt: &impl Print,
-    alloc: Global,
-    seed: u64,
-    bytes: &str,
-    tally: &mut Tally,
-) -> io::Result<()> {
-    for (call, kind) in &CALLS {
-        let fault = fault(alloc, *kind, call, bytes, &mut tally.accepted)?;
-        tally.tell(rt, seed, call, bytes, fault)?;
-    }
-    Ok(())
 }
 
 // What is wrong with a call's answers on these bytes.
@@ -332,20 +315,14 @@ fn is_none(answer: &str) -> bool {
 
 // The value that an answer shows.
 fn value_of(answer: &str) -> Option<&str> {
-    let value = answer.strip_prefix("ok ")?;
-    match value.rsplit_once(' ') {
-        Some((shown, _)) => Some(shown),
-        None => None,
-    }
+    let (value, _) = answer.strip_prefix("ok ")?.rsplit_once(' ')?;
+    Some(value)
 }
 
 // What was written of a value that an answer shows.
 fn form_of(answer: &str) -> Option<&str> {
-    let value = answer.strip_prefix("ok ")?;
-    match value.rsplit_once(' ') {
-        Some((_, form)) => Some(form),
-        None => None,
-    }
+    let (_, form) = answer.strip_prefix("ok ")?.rsplit_once(' ')?;
+    Some(form)
 }
 
 // What a call answers on these bytes.
@@ -362,8 +339,5 @@ fn answered<'a>(
         arg: bytes,
         marked: false,
     };
-    match answer(alloc, &case) {
-        Some(came) => came,
-        None => String::from_str(alloc, "unknown"),
-    }
+    answer_or_unknown(alloc, &case)
 }

@@ -12,7 +12,7 @@
 //! Some fronts answer otherwise: those of a SET of indefinite length that end behind its header or behind an element. Its
 //! callback runs before its end is missed; where it refuses these elements, that is the answer.
 
-use crate::answer::answer;
+use crate::answer::answer_or_unknown;
 use crate::line::{Case, Line};
 use crate::run::{Report, Verdict};
 use std::alloc::{AllocError, Global};
@@ -123,10 +123,7 @@ fn front_answer(alloc: Global, case: &Case, front: &str) -> Result<&'static str,
 
 // Whether a case's answer begins so.
 fn answers(alloc: Global, case: &Case, beginning: &str) -> Result<bool, AllocError> {
-    match answer(alloc, case) {
-        Some(came) => Ok(came?.starts_with(beginning)),
-        None => Ok(false),
-    }
+    Ok(answer_or_unknown(alloc, case)?.starts_with(beginning))
 }
 
 // A change of the first byte of a length.
@@ -245,10 +242,7 @@ fn check(
 ) -> Result<(), AllocError> {
     tally.tried = tally.tried.saturating_add(1);
     let changed = with(case, case.call, bytes);
-    let came = match answer(alloc, &changed) {
-        Some(came) => came?,
-        None => String::from_str(alloc, "unknown")?,
-    };
+    let came = answer_or_unknown(alloc, &changed)?;
     if came.as_str() == wanted {
         return Ok(());
     }

@@ -19,9 +19,11 @@
 //!
 //! The answer is `err KIND` only where each call answered that kind, from the innermost to the parse.
 
-use crate::answer::{Answer, refused};
+use crate::answer::Answer;
+use crate::names::named;
 use crate::reading::kind_of;
-use std::alloc::{AllocError, Global};
+use crate::text::Text;
+use std::alloc::Global;
 use yasna::{
     ASN1Error, ASN1ErrorKind, ASN1Result, BERMode, BERReader, BERReaderSeq, Tag, parse_ber_general,
 };
@@ -52,18 +54,6 @@ static CALLS: [(&str, Call); 9] = [
     ("opt", Call::Optional),
     ("def", Call::Default),
 ];
-
-impl Call {
-    // The call of this name.
-    fn named(name: &str) -> Option<Call> {
-        for (word, call) in &CALLS {
-            if *word == name {
-                return Some(*call);
-            }
-        }
-        None
-    }
-}
 
 // What the calls answered so far, and what a callback answers.
 #[derive(Clone, Copy)]
@@ -201,7 +191,7 @@ pub fn answer(alloc: Global, mode: BERMode, call: &str, bytes: &[u8]) -> Answer 
 
 // The call of this name, whose callback reads this.
 fn enclosing<B: Body>(name: &str, body: B) -> Option<Around<B>> {
-    let call = Call::named(name)?;
+    let call = named(&CALLS, name)?;
     Some(Around { call, body })
 }
 
@@ -215,7 +205,7 @@ struct Parse {
 
 impl Parse {
     // What a parse answers whose callback throws away what it reads.
-    fn answer<B: Body>(self, bytes: &[u8], body: B) -> Result<String, AllocError> {
+    fn answer<B: Body>(self, bytes: &[u8], body: B) -> Text {
         let mut answers = Answers {
             first: None,
             others: false,
@@ -233,10 +223,13 @@ impl Parse {
 }
 
 // The answer of calls, where each answered the first refusal.
-fn shown(alloc: Global, answers: Answers) -> Result<String, AllocError> {
-    match answers.first {
-        Some(kind) if !answers.others => refused(alloc, kind),
-        Some(kind) => format!(in alloc; "err {kind:?}, and another answer behind it"),
-        None => String::from_str(alloc, "ok"),
+fn shown(alloc: Global, answers: Answers) -> Text {
+    let Some(kind) = answers.first else {
+        return Text::new(alloc, "ok");
+    };
+    let mut text = Text::refused(alloc, kind);
+    if answers.others {
+        text.push(", and another answer behind it");
     }
+    text
 }

@@ -23,6 +23,7 @@ use crate::nest::{Nested, read_nest, read_nests};
 use crate::oid::identifier;
 use crate::strings::Class;
 use std::alloc::{AllocError, Global};
+use std::num::ParseIntError;
 use yasna::tags::TAG_INTEGER;
 use yasna::{ASN1Error, ASN1ErrorKind, ASN1Result, BERReader, BERReaderSeq};
 
@@ -62,68 +63,65 @@ pub enum Kind {
 impl Kind {
     /// Reads such an element.
     pub fn read(self, reader: BERReader) -> ASN1Result<Leaf> {
-        match self {
-            Kind::Bool => reader.read_bool().map(Leaf::Bool),
-            Kind::Null => read_null(reader),
-            Kind::Enum => reader.read_enum().map(Leaf::Enum),
-            Kind::I64 => reader.read_i64().map(Leaf::I64),
-            Kind::I32 => reader.read_i32().map(Leaf::I32),
-            Kind::I16 => reader.read_i16().map(Leaf::I16),
-            Kind::I8 => reader.read_i8().map(Leaf::I8),
-            Kind::U64 => reader.read_u64().map(Leaf::U64),
-            Kind::U32 => reader.read_u32().map(Leaf::U32),
-            Kind::U16 => reader.read_u16().map(Leaf::U16),
-            Kind::U8 => reader.read_u8().map(Leaf::U8),
-            _ => self.read_other(reader),
-        }
+        Ok(match self {
+            Kind::Bool => Leaf::Bool(reader.read_bool()?),
+            Kind::Enum => Leaf::Enum(reader.read_enum()?),
+            Kind::I64 => Leaf::I64(reader.read_i64()?),
+            Kind::I32 => Leaf::I32(reader.read_i32()?),
+            Kind::I16 => Leaf::I16(reader.read_i16()?),
+            Kind::I8 => Leaf::I8(reader.read_i8()?),
+            Kind::U64 => Leaf::U64(reader.read_u64()?),
+            Kind::U32 => Leaf::U32(reader.read_u32()?),
+            Kind::U16 => Leaf::U16(reader.read_u16()?),
+            Kind::U8 => Leaf::U8(reader.read_u8()?),
+            _ => return self.read_other(reader),
+        })
     }
 
-    // The same of one that isn't a number as Rust has it, a BOOLEAN or NULL.
+    // The same of one that isn't a number as Rust has it or a BOOLEAN.
     fn read_other(self, reader: BERReader) -> ASN1Result<Leaf> {
-        match self {
+        Ok(match self {
             Kind::BigInteger => {
                 let (contents, positive) = reader.read_bigint_bytes()?;
-                Ok(Leaf::BigInteger(contents, positive))
+                Leaf::BigInteger(contents, positive)
             }
-            Kind::Bytes => reader.read_bytes().map(Leaf::Bytes),
+            Kind::Bytes => Leaf::Bytes(reader.read_bytes()?),
             Kind::Bits => {
                 let (bytes, count) = reader.read_bitvec_bytes()?;
-                Ok(Leaf::Bits(bytes, count))
+                Leaf::Bits(bytes, count)
             }
-            Kind::Text(class) => {
-                let text = class.read(reader)?;
-                Ok(Leaf::Text(class, text))
-            }
-            Kind::Identifier => reader.read_oid().map(Leaf::Identifier),
-            Kind::UtcTime => reader.read_utctime().map(Leaf::UtcTime),
-            Kind::GeneralizedTime => reader.read_generalized_time().map(Leaf::GeneralizedTime),
-            Kind::Raw => reader.read_der().map(Leaf::Raw),
-            Kind::Tagged => reader.read_tagged_der().map(Leaf::Tagged),
-            _ => self.read_composed(reader),
-        }
+            Kind::Text(class) => Leaf::Text(class, class.read(reader)?),
+            Kind::Identifier => Leaf::Identifier(reader.read_oid()?),
+            Kind::UtcTime => Leaf::UtcTime(reader.read_utctime()?),
+            Kind::GeneralizedTime => Leaf::GeneralizedTime(reader.read_generalized_time()?),
+            Kind::Raw => Leaf::Raw(reader.read_der()?),
+            Kind::Tagged => Leaf::Tagged(reader.read_tagged_der()?),
+            _ => return self.read_composed(reader),
+        })
     }
 
     // The same of one that takes several reads, or none.
     fn read_composed(self, reader: BERReader) -> ASN1Result<Leaf> {
-        match self {
-            Kind::Nest(depth) => read_nest(depth, reader).map(Leaf::Nested),
-            Kind::Nests => read_nests(reader).map(Leaf::Nested),
+        Ok(match self {
+            Kind::Null => return read_null(reader),
+            Kind::Nest(depth) => Leaf::Nested(read_nest(depth, reader)?),
+            Kind::Nests => Leaf::Nested(read_nests(reader)?),
             Kind::Around => {
                 let number = reader.read_sequence(read_next_integer)?;
-                Ok(Leaf::Nested(Nested::around(number)))
+                Leaf::Nested(Nested::around(number))
             }
-            Kind::Within => reader.read_sequence(read_next_integer).map(Leaf::I64),
+            Kind::Within => Leaf::I64(reader.read_sequence(read_next_integer)?),
             Kind::Choice if reader.lookahead_tag()? == TAG_INTEGER => {
-                reader.read_i64().map(Leaf::I64)
+                Leaf::I64(reader.read_i64()?)
             }
-            Kind::Choice => read_null(reader),
-            Kind::Again => match reader.read_i64() {
-                Ok(number) => Ok(Leaf::I64(number)),
-                Err(_) => reader.read_i64().map(Leaf::I64),
-            },
-            Kind::Refused(kind) => Err(ASN1Error::new(kind)),
-            _ => Ok(Leaf::Null),
-        }
+            Kind::Choice => return read_null(reader),
+            Kind::Again => Leaf::I64(match reader.read_i64() {
+                Ok(number) => number,
+                Err(_) => reader.read_i64()?,
+            }),
+            Kind::Refused(kind) => return Err(ASN1Error::new(kind)),
+            _ => Leaf::Null,
+        })
     }
 
     /// The value that a text is.
@@ -141,7 +139,7 @@ impl Kind {
                 Ok(identifier) => Some(Ok(Leaf::Identifier(identifier?))),
                 Err(lack) => Some(Err(lack)),
             },
-            _ => Some(Ok(self.number(text)?)),
+            _ => Some(Ok(self.small(text)?)),
         }
     }
 
@@ -165,25 +163,40 @@ impl Kind {
     }
 
     // The same where no memory is asked for.
-    fn number(self, text: &str) -> Option<Leaf> {
+    fn small(self, text: &str) -> Option<Leaf> {
         match self {
-            Kind::Bool => text.parse().ok().map(Leaf::Bool),
+            Kind::Bool => Some(Leaf::Bool(text.parse().ok()?)),
             Kind::Null if text == "()" => Some(Leaf::Null),
-            Kind::Enum => text.parse().ok().map(Leaf::Enum),
-            Kind::I64 => text.parse().ok().map(Leaf::I64),
-            Kind::I32 => text.parse().ok().map(Leaf::I32),
-            Kind::I16 => text.parse().ok().map(Leaf::I16),
-            Kind::I8 => text.parse().ok().map(Leaf::I8),
-            Kind::U64 => text.parse().ok().map(Leaf::U64),
-            Kind::U32 => text.parse().ok().map(Leaf::U32),
-            Kind::U16 => text.parse().ok().map(Leaf::U16),
-            Kind::U8 => text.parse().ok().map(Leaf::U8),
             Kind::Around => {
                 let number = text.strip_prefix('(')?.strip_suffix(')')?;
                 Some(Leaf::Nested(Nested::around(number.parse().ok()?)))
             }
+            Kind::Enum
+            | Kind::I64
+            | Kind::I32
+            | Kind::I16
+            | Kind::I8
+            | Kind::U64
+            | Kind::U32
+            | Kind::U16
+            | Kind::U8 => self.number(text).ok(),
             _ => None,
         }
+    }
+
+    // The same of a number.
+    fn number(self, text: &str) -> Result<Leaf, ParseIntError> {
+        Ok(match self {
+            Kind::Enum => Leaf::Enum(text.parse()?),
+            Kind::I32 => Leaf::I32(text.parse()?),
+            Kind::I16 => Leaf::I16(text.parse()?),
+            Kind::I8 => Leaf::I8(text.parse()?),
+            Kind::U64 => Leaf::U64(text.parse()?),
+            Kind::U32 => Leaf::U32(text.parse()?),
+            Kind::U16 => Leaf::U16(text.parse()?),
+            Kind::U8 => Leaf::U8(text.parse()?),
+            _ => Leaf::I64(text.parse()?),
+        })
     }
 }
 

@@ -19,12 +19,10 @@
 //! | what is absent | `none` | no call |
 ghost use Rattle.std.specs.Prelude.{◌↔◌, ◌≤◌, ◌<◌, ◌+◌, ◌*◌, IsTrue};
 
-use crate::answer::{show_bytes, show_display};
 use crate::nest::Nested;
 use crate::strings::Class;
 use crate::tag::show_tag;
-use std::alloc::AllocError;
-use std::fmt::Display;
+use crate::text::Text;
 use yasna::models::{GeneralizedTime, ObjectIdentifier, TaggedDerValue, UTCTime};
 use yasna::{ASN1Error, ASN1ErrorKind, ASN1Result, DERWriter, PCBit};
 
@@ -63,40 +61,50 @@ pub enum Leaf {
 
 impl Leaf {
     /// Appends the value to a text.
-    pub fn show(&self, text: &mut String) -> Result<(), AllocError> {
+    pub fn show(&self, text: &mut Text) {
         match self {
-            Leaf::Bool(flag) => show_display(flag, text),
-            Leaf::Null => text.push_str("()"),
+            Leaf::Bool(flag) => text.push_value(flag),
+            Leaf::Null => text.push("()"),
             Leaf::Enum(number)
             | Leaf::I64(number)
             | Leaf::Refused(number)
-            | Leaf::Discarded(number) => show_display(number, text),
-            Leaf::I32(number) => show_display(number, text),
-            Leaf::I16(number) => show_display(number, text),
-            Leaf::I8(number) => show_display(number, text),
-            Leaf::U64(number) => show_display(number, text),
-            Leaf::U32(number) => show_display(number, text),
-            Leaf::U16(number) => show_display(number, text),
-            Leaf::U8(number) => show_display(number, text),
+            | Leaf::Discarded(number) => text.push_value(number),
+            Leaf::I32(number) => text.push_value(number),
+            Leaf::I16(number) => text.push_value(number),
+            Leaf::I8(number) => text.push_value(number),
+            Leaf::U64(number) => text.push_value(number),
+            Leaf::U32(number) => text.push_value(number),
+            Leaf::U16(number) => text.push_value(number),
+            Leaf::U8(number) => text.push_value(number),
             _ => self.show_other(text),
         }
     }
 
     // The same of one that isn't a number as Rust has it, a BOOLEAN or NULL.
-    fn show_other(&self, text: &mut String) -> Result<(), AllocError> {
+    fn show_other(&self, text: &mut Text) {
         match self {
-            Leaf::BigInteger(contents, positive) => show_behind(contents, positive, text),
-            Leaf::Bits(bytes, count) => show_behind(bytes, count, text),
+            Leaf::BigInteger(contents, positive) => {
+                text.push_bytes(contents);
+                text.push(if *positive { "/true" } else { "/false" });
+            }
+            Leaf::Bits(bytes, count) => {
+                text.push_bytes(bytes);
+                text.push("/");
+                text.push_value(count);
+            }
             Leaf::Bytes(bytes) => show_octets(bytes, text),
             Leaf::Text(_, characters) => show_text(characters, text),
             Leaf::Identifier(identifier) => show_identifier(identifier, text),
             Leaf::UtcTime(time) => show_utc_time(time, text),
             Leaf::GeneralizedTime(time) => show_generalized_time(time, text),
-            Leaf::Raw(element) => show_raw(element, text),
+            Leaf::Raw(element) => {
+                text.push("r");
+                text.push_bytes(element);
+            }
             Leaf::Tagged(value) => show_tagged(value, text),
             Leaf::Nested(nested) => nested.show(text),
-            Leaf::Known(shown, _) => text.push_str(shown),
-            _ => text.push_str("none"),
+            Leaf::Known(shown, _) => text.push(shown),
+            _ => text.push("none"),
         }
     }
 
@@ -151,59 +159,44 @@ fn takes(bytes: usize, bits: usize) -> bool
     bytes == bits / 8 + usize::from(bits % 8 != 0)
 }
 
-// Shows bytes, and what is said of them.
-fn show_behind<T: Display>(bytes: &[u8], others: &T, text: &mut String) -> Result<(), AllocError> {
-    show_bytes(bytes, text)?;
-    text.push('/')?;
-    show_display(others, text)
-}
-
 /// Shows octets.
-pub fn show_octets(octets: &[u8], text: &mut String) -> Result<(), AllocError> {
-    text.push('h')?;
-    show_bytes(octets, text)
+pub fn show_octets(octets: &[u8], text: &mut Text) {
+    text.push("h");
+    text.push_bytes(octets);
 }
 
 /// Shows a text.
-pub fn show_text(characters: &str, text: &mut String) -> Result<(), AllocError> {
-    text.push('s')?;
-    show_bytes(characters.as_bytes(), text)
+pub fn show_text(characters: &str, text: &mut Text) {
+    text.push("s");
+    text.push_bytes(characters.as_bytes());
 }
 
 /// Shows an object identifier.
-pub fn show_identifier(identifier: &ObjectIdentifier, text: &mut String) -> Result<(), AllocError> {
-    text.push('o')?;
-    show_display(identifier, text)
+pub fn show_identifier(identifier: &ObjectIdentifier, text: &mut Text) {
+    text.push("o");
+    text.push_value(identifier);
 }
 
 /// Shows a time.
-pub fn show_utc_time(time: &UTCTime, text: &mut String) -> Result<(), AllocError> {
-    let shown = time.to_string(*text.allocator())?;
-    text.push('t')?;
-    text.push_str(shown.as_str())
+pub fn show_utc_time(time: &UTCTime, text: &mut Text) {
+    text.push("t");
+    text.push_made(time.to_string(text.allocator()));
 }
 
 /// Shows a time.
-pub fn show_generalized_time(time: &GeneralizedTime, text: &mut String) -> Result<(), AllocError> {
-    let shown = time.to_string(*text.allocator())?;
-    text.push('t')?;
-    text.push_str(shown.as_str())
-}
-
-/// Shows an element as it stands.
-pub fn show_raw(element: &[u8], text: &mut String) -> Result<(), AllocError> {
-    text.push('r')?;
-    show_bytes(element, text)
+pub fn show_generalized_time(time: &GeneralizedTime, text: &mut Text) {
+    text.push("t");
+    text.push_made(time.to_string(text.allocator()));
 }
 
 // Shows a tag, a bit and a payload.
-fn show_tagged(value: &TaggedDerValue, text: &mut String) -> Result<(), AllocError> {
-    show_tag(value.tag(), text)?;
-    text.push_str(match value.pcbit() {
+fn show_tagged(value: &TaggedDerValue, text: &mut Text) {
+    show_tag(value.tag(), text);
+    text.push(match value.pcbit() {
         PCBit::Primitive => ".0.",
         PCBit::Constructed => ".1.",
-    })?;
-    show_bytes(value.value(), text)
+    });
+    text.push_bytes(value.value());
 }
 
 /// Writes an object identifier; Err(Invalid) where it has no form.

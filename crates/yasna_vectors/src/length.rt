@@ -8,26 +8,30 @@
 //!
 //! The answer shows how many bytes were written and the first 16 of these.
 
-use crate::answer::{refused, show_bytes, show_display};
 use crate::nest::{Inner, write_within};
-use std::alloc::{AllocError, Global};
+use crate::text::Text;
+use std::alloc::Global;
 use yasna::{ASN1Result, BERReader, BERReaderSeq, construct_der, parse_der};
 
 /// What the call of this name answers, on so many bytes.
-pub fn answer(alloc: Global, name: &str, count: usize) -> Result<String, AllocError> {
+pub fn answer(alloc: Global, name: &str, count: usize) -> Text {
+    let byte = if name == "seqbigint" { 1u8 } else { 91 };
+    let Ok(contents) = vec![in alloc; byte; count] else {
+        return Text::lacking(alloc);
+    };
+    match form_named(alloc, name, &contents) {
+        Ok(Some(form)) => size_and_front(alloc, &form),
+        Ok(None) => Text::new(alloc, "read back as another number"),
+        Err(error) => Text::refused(alloc, error.kind()),
+    }
+}
+
+// What the call of this name writes of contents; none where they are read back as others.
+fn form_named(alloc: Global, name: &str, contents: &[u8]) -> ASN1Result<Option<Vec<u8>>> {
     match name {
-        "seqbigint" => {
-            let number = vec![in alloc; 1u8; count]?;
-            long_answer(alloc, &number)
-        }
-        _ => {
-            let octets = vec![in alloc; 91u8; count]?;
-            let depth = if name == "seqlen" { 1 } else { 2 };
-            match form_of(alloc, depth, Inner::Octets(&octets)) {
-                Ok(form) => size_and_front(alloc, &form),
-                Err(error) => refused(alloc, error.kind()),
-            }
-        }
+        "seqbigint" => number_form(alloc, contents),
+        "seqlen" => Ok(Some(form_of(alloc, 1, Inner::Octets(contents))?)),
+        _ => Ok(Some(form_of(alloc, 2, Inner::Octets(contents))?)),
     }
 }
 
@@ -36,26 +40,23 @@ fn form_of(alloc: Global, depth: u8, inner: Inner<'_>) -> ASN1Result<Vec<u8>> {
     construct_der(alloc, |writer| write_within(writer, depth, inner))
 }
 
-// How many bytes there are, and the first 16.
-fn size_and_front(alloc: Global, form: &[u8]) -> Result<String, AllocError> {
-    let mut text = String::from_str(alloc, "ok ")?;
-    show_display(&form.len(), &mut text)?;
-    text.push(' ')?;
-    show_bytes(form.get(..16).unwrap_or(form), &mut text)?;
-    Ok(text)
+// What a number of these contents is written as; none where it is read back as another one.
+fn number_form(alloc: Global, number: &[u8]) -> ASN1Result<Option<Vec<u8>>> {
+    let form = form_of(alloc, 1, Inner::BigInteger(number))?;
+    Ok(if is_read_back(alloc, &form, number)? {
+        Some(form)
+    } else {
+        None
+    })
 }
 
-// What a number of these contents is written as.
-fn long_answer(alloc: Global, number: &[u8]) -> Result<String, AllocError> {
-    let form = match form_of(alloc, 1, Inner::BigInteger(number)) {
-        Ok(form) => form,
-        Err(error) => return refused(alloc, error.kind()),
-    };
-    match is_read_back(alloc, &form, number) {
-        Ok(true) => size_and_front(alloc, &form),
-        Ok(false) => String::from_str(alloc, "read back as another number"),
-        Err(error) => refused(alloc, error.kind()),
-    }
+// How many bytes there are, and the first 16.
+fn size_and_front(alloc: Global, form: &[u8]) -> Text {
+    let mut text = Text::new(alloc, "ok ");
+    text.push_value(&form.len());
+    text.push(" ");
+    text.push_bytes(form.get(..16).unwrap_or(form));
+    text
 }
 
 // Whether these bytes end in the number, and are read as it.

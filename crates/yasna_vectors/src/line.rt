@@ -4,9 +4,18 @@ ghost use Rattle.std.specs.List.{before_first};
 ghost use Rattle.yasna_vectors.specs.Words.{is_space, others, HasNoSpace};
 ghost use Rattle.hex.specs.Hex.{decode_of};
 
+use crate::names::named;
 use hex::FromHexError;
 use std::alloc::{AllocError, Global};
 use yasna::BERMode;
+
+// The rules to read by, by their names.
+static MODES: [(&str, Option<BERMode>); 4] = [
+    ("ber", Some(BERMode::Ber)),
+    ("der", Some(BERMode::Der)),
+    ("cer", Some(BERMode::Cer)),
+    ("x", None),
+];
 
 /// A call, and what it is made on.
 #[derive(Drop)]
@@ -44,13 +53,7 @@ impl<'a> Case<'a> {
     /// The case of a line `MODE CALL ARG`.
     pub fn parse(text: &'a str, marked: bool) -> Option<Case<'a>> {
         let (mode, name, arg) = three_words(text)?;
-        let mode = match mode {
-            "ber" => Some(BERMode::Ber),
-            "der" => Some(BERMode::Der),
-            "cer" => Some(BERMode::Cer),
-            "x" => None,
-            _ => return None,
-        };
+        let mode = named(&MODES, mode)?;
         let (call, second) = match name.split_once('/') {
             Some((call, second)) => (call, Some(second)),
             None => (name, None),

@@ -22,13 +22,14 @@
 //!
 //! | Module | Holds |
 //! |---|---|
-//! | `line` | what a line says |
+//! | `line`, `names` | what a line says |
 //! | `task` | what the arguments ask for |
 //! | `run` | all lines, one after the other |
 //! | `hostile` | their bytes, cut and with other lengths |
 //! | `memory` | lines of which a request for memory is refused |
 //! | `fuzz`, `mutation`, `random` | calls on random input, and how it is made |
-//! | `answer` | answers as text, and which family answers a call |
+//! | `text` | answers as text |
+//! | `answer` | which family answers a call |
 //! | `calls` | the calls that read, by their names |
 //! | `reads` | what such a call reads |
 //! | `reading` | how such a call is made |
@@ -60,6 +61,7 @@ mod many;
 mod memory;
 mod mode;
 mod mutation;
+mod names;
 mod nest;
 mod oid;
 mod parts;
@@ -73,12 +75,14 @@ mod steps;
 mod strings;
 mod tag;
 mod task;
+mod text;
 mod times;
 mod tree;
 mod whole;
 mod writing;
 
 use run::Verdict;
+use std::alloc::Global;
 use std::process::ExitCode;
 use std::{env, io};
 use task::Task;
@@ -103,11 +107,23 @@ fn main(rt: HostRuntime) -> ExitCode {
 // Runs what the arguments ask for.
 fn verdict(rt: &HostRuntime) -> io::Result<Verdict> {
     let alloc = rt.alloc();
+    match asked(rt, alloc)? {
+        Some(task) => perform(rt, alloc, task),
+        None => {
+            eprintln!(rt; "{USAGE}")?;
+            Ok(Verdict::NoLine)
+        }
+    }
+}
+
+// What the arguments ask for, if they ask for anything that there is.
+fn asked(rt: &HostRuntime, alloc: Global) -> io::Result<Option<Task>> {
     let words = env::args(rt)?.skip(1).collect::<Vec<String>>(alloc)?;
-    let Some(task) = Task::parse(words.as_slice()) else {
-        eprintln!(rt; "{USAGE}")?;
-        return Ok(Verdict::NoLine);
-    };
+    Ok(Task::parse(words.as_slice()))
+}
+
+// Does a task on standard input.
+fn perform(rt: &HostRuntime, alloc: Global, task: Task) -> io::Result<Verdict> {
     let input = io::read_to_string(alloc, rt.reader())?;
     task.run(rt, alloc, input.as_str())
 }

@@ -9,40 +9,39 @@
 //! The answer is how many bytes were read, which are those that were put in, and how many the form has that is written of
 //! them; of a list how many numbers were collected, and of how many bytes.
 
-use crate::answer::{Answer, refused};
+use crate::answer::Answer;
 use crate::calls::{BYTES, NUMBERS};
 use crate::leaf::Leaf;
 use crate::line::Case;
 use crate::parts::{Element, Group, Part, append};
 use crate::reading::{form_of, parse};
+use crate::text::Text;
 use std::alloc::{AllocError, Global};
-use yasna::{ASN1Error, ASN1ErrorKind, ASN1Result, BERMode, construct_der};
+use yasna::{ASN1Result, BERMode, construct_der};
 
 /// What a call of this family answers.
 pub fn answer(alloc: Global, mode: BERMode, case: &Case) -> Answer {
-    Some(match counts(alloc, mode, case)? {
-        Ok((items, bytes)) => shown(alloc, items, bytes),
-        Err(error) => refused(alloc, error.kind()),
-    })
-}
-
-// What it counts.
-fn counts(alloc: Global, mode: BERMode, case: &Case) -> Option<ASN1Result<(usize, usize)>> {
     let (count, size) = match case.arg.split_once('/') {
         Some((count, size)) => (count, Some(size.parse().ok()?)),
         None => (case.arg, None),
     };
     let count = count.parse().ok()?;
-    match case.call {
-        "seqof_many" => Some(collected(alloc, mode, count)),
-        "whole" | "cut" => Some(octets(alloc, mode, count, size)),
-        _ => None,
-    }
+    Some(shown(
+        alloc,
+        match case.call {
+            "seqof_many" => collected(alloc, mode, count),
+            "whole" | "cut" => octets(alloc, mode, count, size),
+            _ => return None,
+        },
+    ))
 }
 
-// The answer with these counts.
-fn shown(alloc: Global, items: usize, bytes: usize) -> Result<String, AllocError> {
-    format!(in alloc; "ok {items} {bytes}")
+// The answer with these counts of what was read and of what was written.
+fn shown(alloc: Global, counts: ASN1Result<(usize, usize)>) -> Text {
+    match counts {
+        Ok((read, written)) => Text::counts(alloc, &[read, written]),
+        Err(error) => Text::refused(alloc, error.kind()),
+    }
 }
 
 // What reading so many bytes answers, in segments of so many.
@@ -83,27 +82,12 @@ fn whole(alloc: Global, bytes: &[u8]) -> ASN1Result<Vec<u8>> {
 
 // The bytes in segments of this size, of one byte at least; the last may be shorter.
 fn cut(alloc: Global, bytes: &[u8], size: usize) -> ASN1Result<Vec<u8>> {
-    let mut all = Vec::new(alloc);
-    append_bytes(&mut all, &[36, 128])?;
+    let mut all = Vec::from_slice(alloc, &[36, 128])?;
     for segment in bytes.chunks(size.max(1)) {
-        append_segment(alloc, &mut all, segment)?;
+        all.extend_from_slice(&whole(alloc, segment)?)?;
     }
-    append_bytes(&mut all, &[0, 0])?;
+    all.extend_from_slice(&[0, 0])?;
     Ok(all)
-}
-
-// Appends a primitive element of these bytes.
-fn append_segment(alloc: Global, all: &mut Vec<u8>, segment: &[u8]) -> ASN1Result<()> {
-    let element = whole(alloc, segment)?;
-    append_bytes(all, &element)
-}
-
-// Appends bytes.
-fn append_bytes(all: &mut Vec<u8>, bytes: &[u8]) -> ASN1Result<()> {
-    match all.extend_from_slice(bytes) {
-        Ok(()) => Ok(()),
-        Err(_) => Err(ASN1Error::new(ASN1ErrorKind::OutOfMemory)),
-    }
 }
 
 // How many bytes are read, if they are these, and how many are written of them.

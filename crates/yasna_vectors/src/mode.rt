@@ -6,27 +6,31 @@
 //! | `seq_mode` | the mode of the parts in read_sequence |
 //! | `general` | decode_ber_general of an `i64` |
 
-use crate::answer::{Answer, refused, show_display, written};
 use crate::forms::encode_in;
-use std::alloc::{AllocError, Global};
+use crate::text::Text;
+use std::alloc::Global;
 use yasna::{ASN1Result, BERMode, BERReader, BERReaderSeq, decode_ber_general, parse_ber_general};
 
-/// What a call of this family answers on these bytes.
-pub fn answer(alloc: Global, mode: BERMode, call: &str, bytes: &[u8]) -> Answer {
-    Some(match call {
-        "mode" => shown(alloc, parse_ber_general(alloc, bytes, mode, mode_alone)),
-        "seq_mode" => shown(alloc, parse_ber_general(alloc, bytes, mode, mode_within)),
-        "general" => match decode_ber_general::<i64>(alloc, bytes, mode) {
-            Ok(number) => written(
-                alloc,
-                &number,
-                encode_in(alloc, mode, &number),
-                show_display,
-            ),
-            Err(error) => refused(alloc, error.kind()),
-        },
-        _ => return None,
-    })
+/// What `mode` answers on these bytes.
+pub fn answer_alone(alloc: Global, mode: BERMode, bytes: &[u8]) -> Text {
+    shown(alloc, parse_ber_general(alloc, bytes, mode, mode_alone))
+}
+
+/// What `seq_mode` answers.
+pub fn answer_within(alloc: Global, mode: BERMode, bytes: &[u8]) -> Text {
+    shown(alloc, parse_ber_general(alloc, bytes, mode, mode_within))
+}
+
+/// What `general` answers.
+pub fn answer_number(alloc: Global, mode: BERMode, bytes: &[u8]) -> Text {
+    match decode_ber_general::<i64>(alloc, bytes, mode) {
+        Ok(number) => {
+            let mut text = Text::new(alloc, "ok ");
+            text.push_value(&number);
+            text.with_form(encode_in(alloc, mode, &number))
+        }
+        Err(error) => Text::refused(alloc, error.kind()),
+    }
 }
 
 // The mode of a reader.
@@ -45,11 +49,11 @@ fn mode_of_parts(seq: &mut BERReaderSeq) -> ASN1Result<BERMode> {
 }
 
 // The answer of a call that answers a mode.
-fn shown(alloc: Global, seen: ASN1Result<BERMode>) -> Result<String, AllocError> {
+fn shown(alloc: Global, seen: ASN1Result<BERMode>) -> Text {
     match seen {
-        Ok(BERMode::Ber) => String::from_str(alloc, "ok ber"),
-        Ok(BERMode::Der) => String::from_str(alloc, "ok der"),
-        Ok(BERMode::Cer) => String::from_str(alloc, "ok cer"),
-        Err(error) => refused(alloc, error.kind()),
+        Ok(BERMode::Ber) => Text::new(alloc, "ok ber"),
+        Ok(BERMode::Der) => Text::new(alloc, "ok der"),
+        Ok(BERMode::Cer) => Text::new(alloc, "ok cer"),
+        Err(error) => Text::refused(alloc, error.kind()),
     }
 }

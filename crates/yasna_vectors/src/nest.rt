@@ -6,8 +6,7 @@
 //! | by `rec` | as many as there are: where the next tag is that of a SEQUENCE it goes on inside, and else reads the INTEGER | the number, with a pair of brackets for each |
 ghost use Rattle.yasna.specs.reader.State.{IsFresh, part_of};
 
-use crate::answer::show_display;
-use std::alloc::AllocError;
+use crate::text::Text;
 use yasna::tags::TAG_SEQUENCE;
 use yasna::{ASN1Result, BERReader, DERWriter};
 
@@ -40,15 +39,14 @@ impl Nested {
     }
 
     /// Appends the number to a text.
-    pub fn show(&self, text: &mut String) -> Result<(), AllocError> {
+    pub fn show(&self, text: &mut Text) {
         for _ in 0..self.brackets {
-            text.push('(')?;
+            text.push("(");
         }
-        show_display(&self.number, text)?;
+        text.push_value(&self.number);
         for _ in 0..self.brackets {
-            text.push(')')?;
+            text.push(")");
         }
-        Ok(())
     }
 
     /// Writes the SEQUENCEs.

@@ -6,9 +6,10 @@
 //! `o:parts N` makes the text of the N components 1, 2, 2, 3, 4 and so on, and reads it; these components are shown, written
 //! and read again. The answer is how many components there are, and the lengths of the text and of the form.
 
-use crate::answer::{Answer, refused, show_display, written};
+use crate::answer::Answer;
 use crate::leaf::{show_identifier, write_identifier};
 use crate::line::{Case, bytes_of};
+use crate::text::Text;
 use std::alloc::{AllocError, Global};
 use yasna::models::ObjectIdentifier;
 use yasna::{ASN1Error, ASN1ErrorKind, ASN1Result, BERReader, construct_der, parse_der};
@@ -18,7 +19,7 @@ pub fn answer(alloc: Global, case: &Case) -> Answer {
     match case.call {
         "o:from_str" => match bytes_of(alloc, case.arg)? {
             Ok(bytes) => Some(parsed(alloc, String::from_utf8(bytes).ok()?.as_str())),
-            Err(lack) => Some(Err(lack)),
+            Err(_) => Some(Text::lacking(alloc)),
         },
         "o:parts" => Some(parts_answer(alloc, case.arg.parse().ok()?)),
         _ => None,
@@ -35,22 +36,23 @@ pub fn identifier(alloc: Global, text: &str) -> Result<Option<ObjectIdentifier>,
 }
 
 // What reading a text answers: the components, and their form if they have one.
-fn parsed(alloc: Global, text: &str) -> Result<String, AllocError> {
-    let Some(identifier) = identifier(alloc, text)? else {
-        return String::from_str(alloc, "none");
-    };
-    if identifier.is_encodable() {
-        return written(
-            alloc,
-            &identifier,
-            form_of(alloc, &identifier),
-            show_identifier,
-        );
+fn parsed(alloc: Global, text: &str) -> Text {
+    match identifier(alloc, text) {
+        Ok(Some(identifier)) => shown(alloc, &identifier),
+        Ok(None) => Text::new(alloc, "none"),
+        Err(_) => Text::lacking(alloc),
     }
-    let mut answer = String::from_str(alloc, "ok ")?;
-    show_identifier(&identifier, &mut answer)?;
-    answer.push_str(" notencodable")?;
-    Ok(answer)
+}
+
+// The answer with components, and their form if they have one.
+fn shown(alloc: Global, identifier: &ObjectIdentifier) -> Text {
+    let mut text = Text::new(alloc, "ok ");
+    show_identifier(identifier, &mut text);
+    if identifier.is_encodable() {
+        return text.with_form(form_of(alloc, identifier));
+    }
+    text.push(" notencodable");
+    text
 }
 
 // What is written of components.
@@ -60,36 +62,42 @@ fn form_of(alloc: Global, identifier: &ObjectIdentifier) -> ASN1Result<Vec<u8>> 
 
 // The text of so many components.
 fn text_of(alloc: Global, count: u64) -> Result<String, AllocError> {
-    let mut text = String::from_str(alloc, "1")?;
+    let mut text = Text::new(alloc, "1");
     for component in 1..count {
-        text.push('.')?;
-        show_display(&component.max(2), &mut text)?;
+        text.push(".");
+        text.push_value(&component.max(2));
     }
-    Ok(text)
+    text.finish()
 }
 
 // What becomes of so many components.
-fn parts_answer(alloc: Global, count: u64) -> Result<String, AllocError> {
-    let text = text_of(alloc, count)?;
-    match identifier(alloc, &text)? {
-        Some(identifier) => lengths(alloc, &text, &identifier),
-        None => String::from_str(alloc, "none"),
+fn parts_answer(alloc: Global, count: u64) -> Text {
+    match text_of(alloc, count) {
+        Ok(text) => read_parts(alloc, &text),
+        Err(_) => Text::lacking(alloc),
+    }
+}
+
+// What becomes of the components that a text shows.
+fn read_parts(alloc: Global, text: &str) -> Text {
+    match identifier(alloc, text) {
+        Ok(Some(identifier)) => lengths(alloc, text, &identifier),
+        Ok(None) => Text::new(alloc, "none"),
+        Err(_) => Text::lacking(alloc),
     }
 }
 
 // The answer with the lengths of these components, of their text and of their form.
-fn lengths(alloc: Global, text: &str, identifier: &ObjectIdentifier) -> Result<String, AllocError> {
-    let again = format!(in alloc; "{identifier}")?;
-    if again.as_str() != text {
-        return String::from_str(alloc, "another text");
-    }
-    match written_length(alloc, identifier) {
-        Ok(form) => {
-            let count = identifier.components().len();
-            let text = text.len();
-            format!(in alloc; "ok {count} {text} {form}")
-        }
-        Err(error) => refused(alloc, error.kind()),
+fn lengths(alloc: Global, text: &str, identifier: &ObjectIdentifier) -> Text {
+    let mut again = Text::new(alloc, "");
+    again.push_value(identifier);
+    match again.finish() {
+        Ok(again) if again.as_str() == text => match written_length(alloc, identifier) {
+            Ok(form) => Text::counts(alloc, &[identifier.components().len(), text.len(), form]),
+            Err(error) => Text::refused(alloc, error.kind()),
+        },
+        Ok(_) => Text::new(alloc, "another text"),
+        Err(_) => Text::lacking(alloc),
     }
 }
 

@@ -10,10 +10,10 @@
 //! | a part with the bytes that it took | `<..,rHEX>` | as the part |
 //! | a part that is the default, or absent | as its value, `none` | not |
 
-use crate::answer::show_bytes;
 use crate::kind::Kind;
 use crate::leaf::Leaf;
 use crate::tag::show_tag;
+use crate::text::Text;
 use std::alloc::{AllocError, Global};
 use yasna::{ASN1Result, BERReader, DERWriter, DERWriterSeq, DERWriterSet, Tag};
 
@@ -73,7 +73,7 @@ impl Piece {
     /// Reads such a part.
     pub fn read(self, reader: BERReader) -> ASN1Result<Part> {
         match self {
-            Piece::Plain(kind) => kind.read(reader).map(Part::plain),
+            Piece::Plain(kind) => Ok(Part::plain(kind.read(reader)?)),
             Piece::Explicit(tag, kind) => {
                 let leaf = reader.read_tagged(tag, |inner| kind.read(inner))?;
                 Ok(Part::explicit(tag, leaf))
@@ -84,8 +84,7 @@ impl Piece {
             }
             Piece::LookedAt => {
                 let tag = reader.lookahead_tag()?;
-                let leaf = reader.read_der().map(Leaf::Raw)?;
-                Ok(Part::implicit(tag, leaf))
+                Ok(Part::implicit(tag, Leaf::Raw(reader.read_der()?)))
             }
         }
     }
@@ -168,23 +167,23 @@ impl Part {
     }
 
     /// Appends it to a text.
-    pub fn show(&self, text: &mut String) -> Result<(), AllocError> {
+    pub fn show(&self, text: &mut Text) {
         let Some(taken) = &self.taken else {
             return self.show_value(text);
         };
-        text.push('<')?;
-        self.show_value(text)?;
-        text.push_str(",r")?;
-        show_bytes(taken, text)?;
-        text.push('>')
+        text.push("<");
+        self.show_value(text);
+        text.push(",r");
+        text.push_bytes(taken);
+        text.push(">");
     }
 
     // Shows its value, behind its tag.
-    fn show_value(&self, text: &mut String) -> Result<(), AllocError> {
+    fn show_value(&self, text: &mut Text) {
         if let Frame::Explicit(tag) | Frame::Implicit(tag) = self.frame {
-            show_behind_tag(tag, text)?;
+            show_behind_tag(tag, text);
         }
-        self.leaf.show(text)
+        self.leaf.show(text);
     }
 
     // Writes it.
@@ -201,11 +200,11 @@ impl Part {
 
 impl Group {
     // The characters that stand around its parts.
-    fn brackets(self) -> (char, char) {
+    fn brackets(self) -> (&'static str, &'static str) {
         match self {
-            Group::Sequence | Group::SequenceOf => ('(', ')'),
-            Group::Set => ('{', '}'),
-            Group::SetOf => ('[', ']'),
+            Group::Sequence | Group::SequenceOf => ("(", ")"),
+            Group::Set => ("{", "}"),
+            Group::SetOf => ("[", "]"),
         }
     }
 
@@ -264,17 +263,17 @@ impl Element {
     }
 
     /// Appends it to a text.
-    pub fn show(&self, text: &mut String) -> Result<(), AllocError> {
+    pub fn show(&self, text: &mut Text) {
         if let Some(tag) = self.tag {
-            show_behind_tag(tag, text)?;
+            show_behind_tag(tag, text);
         }
         match &self.contents {
             Contents::Alone(part) => part.show(text),
             Contents::Parts(group, parts) => {
                 let (first, last) = group.brackets();
-                text.push(first)?;
-                show_parts(parts, text)?;
-                text.push(last)
+                text.push(first);
+                show_parts(parts, text);
+                text.push(last);
             }
         }
     }
@@ -313,20 +312,19 @@ impl Element {
 }
 
 // Shows a tag, and what stands between it and a value.
-fn show_behind_tag(tag: Tag, text: &mut String) -> Result<(), AllocError> {
-    show_tag(tag, text)?;
-    text.push(':')
+fn show_behind_tag(tag: Tag, text: &mut Text) {
+    show_tag(tag, text);
+    text.push(":");
 }
 
 // Shows parts with commas between them.
-fn show_parts(parts: &[Part], text: &mut String) -> Result<(), AllocError> {
+fn show_parts(parts: &[Part], text: &mut Text) {
     let mut between = "";
     for part in parts {
-        text.push_str(between)?;
-        part.show(text)?;
+        text.push(between);
+        part.show(text);
         between = ",";
     }
-    Ok(())
 }
 
 /// Appends a part.

@@ -1,10 +1,11 @@
 //! How a call that reads is made, and made twice where it is asked whether its refusal is kept.
 
-use crate::answer::{Answer, refused, written};
+use crate::answer::Answer;
 use crate::forms::{construct_in, parse_in};
 use crate::line::Case;
 use crate::parts::Element;
 use crate::reads::Read;
+use crate::text::Text;
 use std::alloc::{AllocError, Global};
 use yasna::{
     ASN1ErrorKind, ASN1Result, BERMode, BERReader, BERReaderSeq, parse_ber_general, parse_cer,
@@ -35,21 +36,19 @@ pub fn parse(alloc: Global, mode: BERMode, read: Read, bytes: &[u8]) -> ASN1Resu
     parse_in(alloc, mode, bytes, |reader| read.read(alloc, reader))
 }
 
-/// The answer of a read: its value and what is written of that, or its refusal.
-pub fn answer_of(
-    alloc: Global,
-    mode: BERMode,
-    read: ASN1Result<Element>,
-) -> Result<String, AllocError> {
+// The answer of a read: its value and what is written of that, or its refusal.
+fn answer_of(alloc: Global, mode: BERMode, read: ASN1Result<Element>) -> Text {
     match read {
         Ok(element) => shown(alloc, mode, &element),
-        Err(error) => refused(alloc, error.kind()),
+        Err(error) => Text::refused(alloc, error.kind()),
     }
 }
 
 /// The answer `ok`, with an element and what is written of it.
-pub fn shown(alloc: Global, mode: BERMode, element: &Element) -> Result<String, AllocError> {
-    written(alloc, element, form_of(alloc, mode, element), Element::show)
+pub fn shown(alloc: Global, mode: BERMode, element: &Element) -> Text {
+    let mut text = Text::new(alloc, "ok ");
+    element.show(&mut text);
+    text.with_form(form_of(alloc, mode, element))
 }
 
 /// What is written of an element.
@@ -89,11 +88,12 @@ impl Both {
             }
             match self.within(length, bytes) {
                 Ok(whole) => self.parse_within(mode, &whole, &mut kinds),
-                Err(lack) => return Some(Err(lack)),
+                Err(_) => return Some(Text::lacking(self.alloc)),
             }
         };
-        let mark = kinds.mark(parsed, kind, case.second.is_some());
-        Some(marked(self.alloc, kind, mark))
+        let mut text = Text::refused(self.alloc, kind);
+        text.push(kinds.mark(parsed, kind, case.second.is_some()));
+        Some(text)
     }
 
     // The bytes behind the identifier of a SEQUENCE and this length.
@@ -148,21 +148,16 @@ impl Kinds {
         differs: bool,
     ) -> &'static str {
         if self.first != Some(kind) {
-            return "refused otherwise";
+            return " refused otherwise";
         }
         match (self.second, parsed) {
-            (Some(second), Some(whole)) if second == kind && whole == kind => "moved",
-            (None, None) => "unmoved",
+            (Some(second), Some(whole)) if second == kind && whole == kind => " moved",
+            (None, None) => " unmoved",
             (Some(second), None | Some(ASN1ErrorKind::Extra)) if second == kind && !differs =>
-                "unmoved",
-            _ => "neither moved nor unmoved",
+                " unmoved",
+            _ => " neither moved nor unmoved",
         }
     }
-}
-
-// The answer of a call that was refused, and the mark behind it.
-fn marked(alloc: Global, kind: ASN1ErrorKind, mark: &str) -> Result<String, AllocError> {
-    format!(in alloc; "err {kind:?} {mark}")
 }
 
 /// Why a call was refused, if it was.

@@ -3,6 +3,7 @@
 use crate::calls::{C3, CALLS, KINDS, RAW};
 use crate::kind::Kind;
 use crate::leaf::Leaf;
+use crate::names::named;
 use crate::parts::{Element, Group, Part, Piece, append};
 use crate::steps::{Ask, Choice, Step, read_any, read_buffered, read_choices, read_steps};
 use crate::tree::read_tree;
@@ -65,15 +66,11 @@ pub struct Read(pub Then, pub Body);
 impl Read {
     /// The call of this name.
     pub fn named(name: &str) -> Option<Read> {
-        for (word, kind) in &KINDS {
-            if *word == name {
-                return Some(Read::of(*kind));
-            }
+        if let Some(kind) = named(&KINDS, name) {
+            return Some(Read::of(kind));
         }
-        for (word, then, body) in &CALLS {
-            if *word == name {
-                return Some(Read(*then, *body));
-            }
+        if let Some(read) = named(&CALLS, name) {
+            return Some(read);
         }
         let depth = name.strip_prefix("nest")?.parse().ok()?;
         Some(Read::of(Kind::Nest(depth)))
@@ -108,7 +105,7 @@ impl Read {
         let read = self.1.read(alloc, reader);
         match self.0 {
             Then::Shown => read,
-            Then::Last => read.map(Element::last),
+            Then::Last => Ok(read?.last()),
             Then::Null => {
                 read?;
                 Ok(Element::null())
@@ -123,16 +120,16 @@ impl Body {
     // Reads it.
     fn read(self, alloc: Global, reader: BERReader) -> ASN1Result<Element> {
         match self {
-            Body::Alone(piece) => piece.read(reader).map(Element::alone),
+            Body::Alone(piece) => Ok(Element::alone(piece.read(reader)?)),
             Body::Implicit(piece) => read_implicit(piece, reader),
-            Body::Buffered(piece) => read_buffered(alloc, piece, reader).map(Element::alone),
+            Body::Buffered(piece) => Ok(Element::alone(read_buffered(alloc, piece, reader)?)),
             Body::Sequence(steps) => read_sequence(alloc, steps, reader),
             Body::ImplicitSequence(steps) => read_implicit_sequence(alloc, steps, reader),
             Body::Set(steps) => {
                 let parts = reader.read_set(|set| read_choices(alloc, steps, set))?;
                 Ok(Element::group(Group::Set, parts))
             }
-            Body::Tree => read_tree(alloc, reader).map(Element::alone),
+            Body::Tree => Ok(Element::alone(read_tree(alloc, reader)?)),
             Body::SetAny => {
                 let parts = reader.read_set(|set| read_any(alloc, RAW, set))?;
                 Ok(Element::group(Group::Set, parts))

@@ -7,38 +7,39 @@
 
 use crate::answer::Answer;
 use crate::line::Case;
-use std::alloc::{AllocError, Global};
+use crate::names::named;
+use crate::text::Text;
+use std::alloc::Global;
 use yasna::{ASN1Error, ASN1ErrorKind, try_construct_der};
+
+// The kinds of refusals by their names.
+static KINDS: [(&str, ASN1ErrorKind); 6] = [
+    ("Eof", ASN1ErrorKind::Eof),
+    ("Extra", ASN1ErrorKind::Extra),
+    ("IntegerOverflow", ASN1ErrorKind::IntegerOverflow),
+    ("StackOverflow", ASN1ErrorKind::StackOverflow),
+    ("Invalid", ASN1ErrorKind::Invalid),
+    ("OutOfMemory", ASN1ErrorKind::OutOfMemory),
+];
 
 /// What a call of this family answers.
 pub fn answer(alloc: Global, case: &Case) -> Answer {
     match case.call {
-        "text" => Some(text(alloc, kind(case.arg)?)),
+        "text" => Some(text(alloc, named(&KINDS, case.arg)?)),
         "own" => Some(own(alloc, case.arg.parse().ok()?)),
         _ => None,
     }
 }
 
-// The kind of this name.
-fn kind(name: &str) -> Option<ASN1ErrorKind> {
-    match name {
-        "Eof" => Some(ASN1ErrorKind::Eof),
-        "Extra" => Some(ASN1ErrorKind::Extra),
-        "IntegerOverflow" => Some(ASN1ErrorKind::IntegerOverflow),
-        "StackOverflow" => Some(ASN1ErrorKind::StackOverflow),
-        "Invalid" => Some(ASN1ErrorKind::Invalid),
-        "OutOfMemory" => Some(ASN1ErrorKind::OutOfMemory),
-        _ => None,
-    }
-}
-
 // The text of a refusal.
-fn text(alloc: Global, kind: ASN1ErrorKind) -> Result<String, AllocError> {
+fn text(alloc: Global, kind: ASN1ErrorKind) -> Text {
     let error = ASN1Error::new(kind);
     if error.kind() != kind {
-        return String::from_str(alloc, "a refusal of another kind");
+        return Text::new(alloc, "a refusal of another kind");
     }
-    format!(in alloc; "ok {error}")
+    let mut text = Text::new(alloc, "ok ");
+    text.push_value(&error);
+    text
 }
 
 /// The error type of a caller that has a refusal of its own.
@@ -60,7 +61,7 @@ impl From<ASN1Error> for Fault {
 }
 
 // Which refusal comes back.
-fn own(alloc: Global, number: i64) -> Result<String, AllocError> {
+fn own(alloc: Global, number: i64) -> Text {
     let made = try_construct_der::<Fault, _>(
         alloc,
         |writer| writer.write_sequence(|seq| {
@@ -69,8 +70,8 @@ fn own(alloc: Global, number: i64) -> Result<String, AllocError> {
         }),
     );
     match made {
-        Ok(_) => String::from_str(alloc, "ok"),
-        Err(Fault::Own) => String::from_str(alloc, "own"),
-        Err(Fault::Writing(error)) => crate::answer::refused(alloc, error.kind()),
+        Ok(_) => Text::new(alloc, "ok"),
+        Err(Fault::Own) => Text::new(alloc, "own"),
+        Err(Fault::Writing(error)) => Text::refused(alloc, error.kind()),
     }
 }

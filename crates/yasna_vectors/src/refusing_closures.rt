@@ -10,9 +10,11 @@
 //! write_i64, and answers Err(Invalid). The closure of construct_der around all throws away what it was answered too; that of
 //! construct_cer where MODE is `cer`.
 
-use crate::answer::{Answer, show_display, written};
+use crate::answer::Answer;
 use crate::forms::construct_in;
 use crate::line::Case;
+use crate::names::named;
+use crate::text::Text;
 use std::alloc::Global;
 use yasna::{ASN1Error, ASN1ErrorKind, ASN1Result, BERMode, DERWriter, DERWriterSeq, Tag};
 
@@ -32,18 +34,6 @@ static CALLS: [(&str, Call); 4] = [
     ("tag", Call::Tagged),
     ("itag", Call::TaggedImplicit),
 ];
-
-impl Call {
-    // The call of this name.
-    fn named(name: &str) -> Option<Call> {
-        for (word, call) in &CALLS {
-            if *word == name {
-                return Some(*call);
-            }
-        }
-        None
-    }
-}
 
 // What is written: a number in one call or two.
 #[derive(Clone, Copy)]
@@ -87,8 +77,8 @@ pub fn answer(alloc: Global, mode: BERMode, case: &Case) -> Answer {
         None => (1, calls, calls),
     };
     let calls = Calls {
-        inner: Call::named(inner)?,
-        outer: Call::named(outer)?,
+        inner: named(&CALLS, inner)?,
+        outer: named(&CALLS, outer)?,
         number: case.arg.parse().ok()?,
         refusal: match name {
             "thrown" => None,
@@ -97,5 +87,7 @@ pub fn answer(alloc: Global, mode: BERMode, case: &Case) -> Answer {
         },
     };
     let form = construct_in(alloc, mode, |writer| calls.write_within(writer, depth));
-    Some(written(alloc, &calls.number, form, show_display))
+    let mut text = Text::new(alloc, "ok ");
+    text.push_value(&calls.number);
+    Some(text.with_form(form))
 }

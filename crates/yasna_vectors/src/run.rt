@@ -1,6 +1,6 @@
 //! All lines of a text, one after the other.
 
-use crate::answer::answer;
+use crate::answer::{answer, answer_or_unknown};
 use crate::line::{Case, Line, is_answer};
 use std::alloc::{AllocError, Global};
 
@@ -47,12 +47,8 @@ pub fn answer_lines(alloc: Global, input: &str) -> Result<Report, AllocError> {
 
 // Appends the answer for a line.
 fn answer_line(alloc: Global, line: &str, text: &mut String) -> Result<(), AllocError> {
-    let came = match Case::parse(line, false) {
-        Some(case) => answer(alloc, &case),
-        None => None,
-    };
-    match came {
-        Some(came) => text.push_str(came?.as_str())?,
+    match Case::parse(line, false) {
+        Some(case) => text.push_str(&answer_or_unknown(alloc, &case)?)?,
         None => text.push_str("unknown")?,
     }
     text.push('\n')

@@ -123,9 +123,9 @@ impl Step {
     fn read(self, alloc: Global, seq: &mut BERReaderSeq) -> ASN1Result<Option<Part>> {
         let Step(ask, piece) = self;
         match ask {
-            Ask::Next => piece.read(seq.next()).map(Some),
+            Ask::Next => Ok(Some(piece.read(seq.next())?)),
             Ask::Optional => read_optional(piece, seq),
-            Ask::Ten => read_ten(seq).map(Some),
+            Ask::Ten => Ok(Some(read_ten(seq)?)),
             Ask::Discarded => {
                 let _ = piece.read(seq.next());
                 Ok(None)
@@ -134,8 +134,8 @@ impl Step {
                 let _ = read_optional(piece, seq);
                 Ok(None)
             }
-            Ask::Buffered => read_next_buffered(alloc, piece, seq).map(Some),
-            Ask::NextBuffered => read_buffered(alloc, piece, seq.next()).map(Some),
+            Ask::Buffered => Ok(Some(read_next_buffered(alloc, piece, seq)?)),
+            Ask::NextBuffered => Ok(Some(read_buffered(alloc, piece, seq.next())?)),
             Ask::Refused(kind) => Err(ASN1Error::new(kind)),
         }
     }
@@ -172,7 +172,7 @@ impl Choice {
     // Takes the step: the element that is shown, if any is.
     fn read(self, set: &mut BERReaderSet) -> ASN1Result<Option<Part>> {
         match self {
-            Choice::Next(tag, piece) => piece.read(set.next(&[tag])?).map(Some),
+            Choice::Next(tag, piece) => Ok(Some(piece.read(set.next(&[tag])?)?)),
             Choice::Asked(tag) => {
                 set.next(&[tag])?;
                 Ok(None)
@@ -187,7 +187,7 @@ impl Choice {
                     None => Ok(Some(Part::absent())),
                 }
             }
-            Choice::False => read_false(set).map(Some),
+            Choice::False => Ok(Some(read_false(set)?)),
         }
     }
 }

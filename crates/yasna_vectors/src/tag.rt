@@ -9,9 +9,11 @@
 //! | `order TAG,TAG` | how the two compare |
 //! | `order_class`, `order_bit` | the same of classes by letter, and of `primitive` and `constructed` |
 
-use crate::answer::{Answer, show_display};
+use crate::answer::Answer;
 use crate::line::Case;
-use std::alloc::{AllocError, Global};
+use crate::names::named;
+use crate::text::Text;
+use std::alloc::Global;
 use std::cmp::Ordering;
 use yasna::{PCBit, Tag, TagClass, tags};
 
@@ -57,36 +59,57 @@ static TAGS: [(&str, Tag); 35] = [
     ),
 ];
 
+// The classes by their letters.
+static CLASSES: [(&str, TagClass); 4] = [
+    ("u", TagClass::Universal),
+    ("a", TagClass::Application),
+    ("c", TagClass::ContextSpecific),
+    ("p", TagClass::Private),
+];
+
+// The bits by their names.
+static BITS: [(&str, PCBit); 2] = [
+    ("primitive", PCBit::Primitive),
+    ("constructed", PCBit::Constructed),
+];
+
 /// What a call of this family answers.
 pub fn answer(alloc: Global, case: &Case) -> Answer {
     Some(match case.call {
-        "tag" => shown(alloc, constant(case.arg)?),
+        "tag" => shown(alloc, named(&TAGS, case.arg)?),
         "tag_of" => shown(alloc, parsed(case.arg)?),
         call => ordered(alloc, order(call, case.arg)?),
     })
 }
 
 // A tag as text.
-fn shown(alloc: Global, tag: Tag) -> Result<String, AllocError> {
-    let mut text = String::from_str(alloc, "ok ")?;
-    show_tag(tag, &mut text)?;
-    Ok(text)
+fn shown(alloc: Global, tag: Tag) -> Text {
+    let mut text = Text::new(alloc, "ok ");
+    show_tag(tag, &mut text);
+    text
 }
 
 /// Shows a tag.
-pub fn show_tag(tag: Tag, text: &mut String) -> Result<(), AllocError> {
+pub fn show_tag(tag: Tag, text: &mut Text) {
     text.push(match tag.tag_class {
-        TagClass::Universal => 'u',
-        TagClass::Application => 'a',
-        TagClass::ContextSpecific => 'c',
-        TagClass::Private => 'p',
-    })?;
-    show_display(&tag.tag_number, text)
+        TagClass::Universal => "u",
+        TagClass::Application => "a",
+        TagClass::ContextSpecific => "c",
+        TagClass::Private => "p",
+    });
+    text.push_value(&tag.tag_number);
 }
 
 // The answer with this order.
-fn ordered(alloc: Global, order: Ordering) -> Result<String, AllocError> {
-    format!(in alloc; "ok {order:?}")
+fn ordered(alloc: Global, order: Ordering) -> Text {
+    Text::new(
+        alloc,
+        match order {
+            Ordering::Less => "ok Less",
+            Ordering::Equal => "ok Equal",
+            Ordering::Greater => "ok Greater",
+        },
+    )
 }
 
 // How the two that a text names compare by this call.
@@ -94,8 +117,8 @@ fn order(call: &str, text: &str) -> Option<Ordering> {
     let (left, right) = text.split_once(',')?;
     match call {
         "order" => compared(parsed(left), parsed(right)),
-        "order_class" => compared(class(left), class(right)),
-        "order_bit" => compared(bit(left), bit(right)),
+        "order_class" => compared(named(&CLASSES, left), named(&CLASSES, right)),
+        "order_bit" => compared(named(&BITS, left), named(&BITS, right)),
         _ => None,
     }
 }
@@ -105,31 +128,11 @@ fn compared<T: Ord + Copy>(left: Option<T>, right: Option<T>) -> Option<Ordering
     Some(left?.cmp(&right?))
 }
 
-// The class of this letter.
-fn class(letter: &str) -> Option<TagClass> {
-    match letter {
-        "u" => Some(TagClass::Universal),
-        "a" => Some(TagClass::Application),
-        "c" => Some(TagClass::ContextSpecific),
-        "p" => Some(TagClass::Private),
-        _ => None,
-    }
-}
-
-// The bit of this name.
-fn bit(name: &str) -> Option<PCBit> {
-    match name {
-        "primitive" => Some(PCBit::Primitive),
-        "constructed" => Some(PCBit::Constructed),
-        _ => None,
-    }
-}
-
 // The tag of this text.
 fn parsed(text: &str) -> Option<Tag> {
     let (letter, number) = text.split_at_checked(1)?;
     let tag_number = number.parse().ok()?;
-    Some(match class(letter)? {
+    Some(match named(&CLASSES, letter)? {
         TagClass::Universal => Tag {
             tag_class: TagClass::Universal,
             tag_number,
@@ -138,14 +141,4 @@ fn parsed(text: &str) -> Option<Tag> {
         TagClass::ContextSpecific => Tag::context(tag_number),
         TagClass::Private => Tag::private(tag_number),
     })
-}
-
-// The constant of this name.
-fn constant(name: &str) -> Option<Tag> {
-    for (word, tag) in &TAGS {
-        if *word == name {
-            return Some(*tag);
-        }
-    }
-    None
 }

@@ -53,16 +53,17 @@ impl Task {
 
     /// Does it on these lines, and prints what came of it.
     pub fn run(self, rt: &impl Print, alloc: Global, input: &str) -> io::Result<Verdict> {
-        let report = match self {
-            Task::All => run_all(alloc, input)?,
-            Task::Lines => check_lines(alloc, input)?,
-            Task::Answers => answer_lines(alloc, input)?,
-            Task::Group(group) => check_group(alloc, group, input)?,
-            Task::Memory => memory::run_lines(alloc, input)?,
+        let made = match self {
+            Task::All => run_all(alloc, input),
+            Task::Lines => check_lines(alloc, input),
+            Task::Answers => answer_lines(alloc, input),
+            Task::Group(group) => check_group(alloc, group, input),
+            Task::Memory => memory::run_lines(alloc, input),
             Task::Random { seed, count } => {
                 return fuzz::check_random(rt, alloc, seed, count, input);
             }
         };
+        let report = made?;
         rt.print(report.text.as_str())?;
         Ok(report.verdict)
     }

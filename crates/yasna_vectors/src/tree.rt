@@ -16,6 +16,7 @@ use crate::leaf::Leaf;
 use crate::parts::{Element, Group, Part, Piece};
 use crate::reading::form_of;
 use crate::strings::Class;
+use crate::text::Text;
 use std::alloc::Global;
 use yasna::tags::{
     TAG_BITSTRING, TAG_BOOLEAN, TAG_ENUM, TAG_GENERALIZEDTIME, TAG_NULL, TAG_OCTETSTRING, TAG_OID,
@@ -85,8 +86,8 @@ fn kind_of(tag: Tag) -> Kind {
 
 // How an element is shown, and its form.
 fn known(alloc: Global, mode: BERMode, element: &Element) -> ASN1Result<Part> {
-    let mut shown = String::new(alloc);
-    element.show(&mut shown)?;
     let form = form_of(alloc, mode, element)?;
-    Ok(Part::plain(Leaf::Known(shown, form)))
+    let mut shown = Text::new(alloc, "");
+    element.show(&mut shown);
+    Ok(Part::plain(Leaf::Known(shown.finish()?, form)))
 }

@@ -15,13 +15,15 @@
 //!
 //! `tup1`, `tup3` and `tup12` are tuples of `i64`.
 
-use crate::answer::{Answer, refused, show_display, written};
+use crate::answer::Answer;
 use crate::forms::encode_in;
 use crate::leaf::{
     Leaf, show_generalized_time, show_identifier, show_octets, show_text, show_utc_time,
 };
+use crate::names::named;
 use crate::parts::{Element, Group, Part, append};
-use crate::reading::answer_of;
+use crate::reading::shown;
+use crate::text::Text;
 use std::alloc::{AllocError, Global};
 use std::fmt::Debug;
 use yasna::models::{GeneralizedTime, ObjectIdentifier, TaggedDerValue, UTCTime};
@@ -106,18 +108,8 @@ static TYPES: [(&str, Type); 29] = [
 ];
 
 impl Type {
-    // The type that a call names.
-    fn named(call: &str) -> Option<Type> {
-        for (word, named) in &TYPES {
-            if *word == call {
-                return Some(*named);
-            }
-        }
-        None
-    }
-
     // What decoding it answers.
-    fn answer(self, alloc: Global, mode: BERMode, bytes: &[u8]) -> Result<String, AllocError> {
+    fn answer(self, alloc: Global, mode: BERMode, bytes: &[u8]) -> Text {
         match self {
             Type::Null => plain::<()>(alloc, mode, bytes),
             Type::Bool => plain::<bool>(alloc, mode, bytes),
@@ -139,7 +131,7 @@ impl Type {
     }
 
     // The same where it is made of others.
-    fn composed(self, alloc: Global, mode: BERMode, bytes: &[u8]) -> Result<String, AllocError> {
+    fn composed(self, alloc: Global, mode: BERMode, bytes: &[u8]) -> Text {
         match self {
             Type::Pair => plain::<(i64, bool)>(alloc, mode, bytes),
             Type::Pairs => plain::<Pairs>(alloc, mode, bytes),
@@ -161,129 +153,111 @@ impl Type {
 
 /// What decoding the type of this name answers on these bytes.
 pub fn answer(alloc: Global, mode: BERMode, call: &str, bytes: &[u8]) -> Answer {
-    Some(Type::named(call)?.answer(alloc, mode, bytes))
+    Some(named(&TYPES, call)?.answer(alloc, mode, bytes))
 }
 
 // What decoding answers, and encoding behind it.
-fn decoded<T: DERCanonical, F>(
-    alloc: Global,
-    mode: BERMode,
-    bytes: &[u8],
-    show: F,
-) -> Result<String, AllocError>
+fn decoded<T: DERCanonical, F>(alloc: Global, mode: BERMode, bytes: &[u8], show: F) -> Text
 where
-    F: FnOnce(&T, &mut String) -> Result<(), AllocError>,
+    F: FnOnce(&T, &mut Text),
     requires { F.IsAlwaysCallable show }
 {
-    let value: T = match match mode {
+    let read = match mode {
         BERMode::Ber => decode_ber(alloc, bytes),
         BERMode::Der => decode_der(alloc, bytes),
         BERMode::Cer => decode_cer(alloc, bytes),
-    } {
-        Ok(value) => value,
-        Err(error) => return refused(alloc, error.kind()),
     };
-    written(alloc, &value, encode_in(alloc, mode, &value), show)
+    match read {
+        Ok(value) => {
+            let mut text = Text::new(alloc, "ok ");
+            show(&value, &mut text);
+            text.with_form(encode_in::<T>(alloc, mode, &value))
+        }
+        Err(error) => Text::refused(alloc, error.kind()),
+    }
 }
 
 // The same of a value that is made of numbers and BOOLEANs alone.
-fn plain<T: DERCanonical + Debug>(
-    alloc: Global,
-    mode: BERMode,
-    bytes: &[u8],
-) -> Result<String, AllocError> {
-    decoded::<T, _>(alloc, mode, bytes, show_plain)
-}
-
-/// Shows a value as Rust does, with no spaces, no comma behind a part that is alone, and a list in round brackets.
-pub fn show_plain<T: Debug>(value: &T, text: &mut String) -> Result<(), AllocError> {
-    let shown = format!(in *text.allocator(); "{value:?}")?;
-    for character in shown.chars() {
-        let shown = match character {
-            ',' => continue,
-            ' ' => ',',
-            '[' => '(',
-            ']' => ')',
-            other => other,
-        };
-        text.push(shown)?;
-    }
-    Ok(())
+fn plain<T: DERCanonical + Debug>(alloc: Global, mode: BERMode, bytes: &[u8]) -> Text {
+    decoded::<T, _>(alloc, mode, bytes, Text::push_plain)
 }
 
 // Shows octets.
-fn show_vector(octets: &Vec<u8>, text: &mut String) -> Result<(), AllocError> {
-    show_octets(octets, text)
+fn show_vector(octets: &Vec<u8>, text: &mut Text) {
+    show_octets(octets, text);
 }
 
 // Shows a text.
-fn show_string(characters: &String, text: &mut String) -> Result<(), AllocError> {
-    show_text(characters, text)
+fn show_string(characters: &String, text: &mut Text) {
+    show_text(characters, text);
 }
 
 // Shows a list of octets.
-fn show_vectors(items: &Vec<Vec<u8>>, text: &mut String) -> Result<(), AllocError> {
-    let mut between = '(';
+fn show_vectors(items: &Vec<Vec<u8>>, text: &mut Text) {
+    let mut between = "(";
     for item in items {
-        text.push(between)?;
-        show_octets(item, text)?;
-        between = ',';
+        text.push(between);
+        show_octets(item, text);
+        between = ",";
     }
-    end_list(items.is_empty(), text)
+    end_list(items.is_empty(), text);
 }
 
 // Shows a list of texts.
-fn show_strings(items: &Vec<String>, text: &mut String) -> Result<(), AllocError> {
-    let mut between = '(';
+fn show_strings(items: &Vec<String>, text: &mut Text) {
+    let mut between = "(";
     for item in items {
-        text.push(between)?;
-        show_text(item, text)?;
-        between = ',';
+        text.push(between);
+        show_text(item, text);
+        between = ",";
     }
-    end_list(items.is_empty(), text)
+    end_list(items.is_empty(), text);
 }
 
 // Ends what shows a list.
-fn end_list(is_empty: bool, text: &mut String) -> Result<(), AllocError> {
-    text.push_str(if is_empty { "()" } else { ")" })
+fn end_list(is_empty: bool, text: &mut Text) {
+    text.push(if is_empty { "()" } else { ")" });
 }
 
 // Shows a text and octets.
-fn show_named(value: &(String, Vec<u8>), text: &mut String) -> Result<(), AllocError> {
-    text.push('(')?;
-    show_text(&value.0, text)?;
-    text.push(',')?;
-    show_octets(&value.1, text)?;
-    text.push(')')
+fn show_named(value: &(String, Vec<u8>), text: &mut Text) {
+    text.push("(");
+    show_text(&value.0, text);
+    text.push(",");
+    show_octets(&value.1, text);
+    text.push(")");
 }
 
 // Shows a number, NULL and octets.
-fn show_mixed(value: &(u16, (), Vec<u8>), text: &mut String) -> Result<(), AllocError> {
-    text.push('(')?;
-    show_display(&value.0, text)?;
-    text.push_str(",(),")?;
-    show_octets(&value.2, text)?;
-    text.push(')')
+fn show_mixed(value: &(u16, (), Vec<u8>), text: &mut Text) {
+    text.push("(");
+    text.push_value(&value.0);
+    text.push(",(),");
+    show_octets(&value.2, text);
+    text.push(")");
 }
 
 // What decoding a raw element answers, and its own write behind it.
-fn raw(alloc: Global, mode: BERMode, bytes: &[u8]) -> Result<String, AllocError> {
-    let read: ASN1Result<TaggedDerValue> = decode_ber_general(alloc, bytes, mode);
-    answer_of(alloc, mode, read.map(alone))
-}
-
-// A raw element.
-fn alone(value: TaggedDerValue) -> Element {
-    Element::alone(Part::plain(Leaf::Tagged(value)))
+fn raw(alloc: Global, mode: BERMode, bytes: &[u8]) -> Text {
+    match decode_ber_general(alloc, bytes, mode) {
+        Ok(value) => shown(
+            alloc,
+            mode,
+            &Element::alone(Part::plain(Leaf::Tagged(value))),
+        ),
+        Err(error) => Text::refused(alloc, error.kind()),
+    }
 }
 
 // The same of a list of them.
-fn raws(alloc: Global, mode: BERMode, bytes: &[u8]) -> Result<String, AllocError> {
-    let read = match decode_ber_general(alloc, bytes, mode) {
-        Ok(values) => Ok(list(alloc, values)?),
-        Err(error) => Err(error),
-    };
-    answer_of(alloc, mode, read)
+fn raws(alloc: Global, mode: BERMode, bytes: &[u8]) -> Text {
+    match decode_ber_general(alloc, bytes, mode) {
+        Ok(values) => match list(alloc, values) {
+            Ok(element) => shown(alloc, mode, &element),
+            Err(_) => Text::lacking(alloc),
+        },
+        Err(error) => Text::refused(alloc, error.kind()),
+    }
 }
 
 // A list of raw elements.

@@ -20,7 +20,7 @@
 //!
 //! `ws` and `tws` write parts of a sequence with no header around them. `length` tells further names.
 
-use crate::answer::{Answer, written};
+use crate::answer::Answer;
 use crate::leaf::Leaf;
 use crate::length;
 use crate::line::Case;
@@ -29,6 +29,7 @@ use crate::parts::{Element, Group, Part, write_parts};
 use crate::reading::form_of;
 use crate::reads::{Read, raw_parts};
 use crate::refusal::Fault;
+use crate::text::Text;
 use std::alloc::{AllocError, Global};
 use yasna::{
     ASN1Error, ASN1ErrorKind, ASN1Result, BERMode, construct_der_seq, try_construct_der,
@@ -44,9 +45,11 @@ pub fn answer(alloc: Global, case: &Case) -> Answer {
     match element(alloc, name, case.arg)? {
         Ok(element) => {
             let form = form_in(alloc, around, &element)?;
-            Some(written(alloc, &element, form, Element::show))
+            let mut text = Text::new(alloc, "ok ");
+            element.show(&mut text);
+            Some(text.with_form(form))
         }
-        Err(lack) => Some(Err(lack)),
+        Err(_) => Some(Text::lacking(alloc)),
     }
 }
 
