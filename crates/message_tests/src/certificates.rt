@@ -1,12 +1,11 @@
 //! Certificates and revocation lists (RFC 5280), as OpenSSL 3.0.19 made them: the bytes that they were come back.
 
-use crate::checks::{
-    bytes_of, finds_none, first_failing, is_invalid, is_rejected, round_trips, says,
-};
+use crate::checks::{Claim, Fields, Looks, finds_none};
+use crate::kinds::{Kind, Row, first_failing};
 use std::alloc::Global;
 use x509::{Certificate, CertificateList, Signed, read_signed_certificate, read_signed_list};
 use yasna::BERMode::Ber;
-use yasna::{ASN1Result, BERReader, parse_der};
+use yasna::{ASN1Error, ASN1ErrorKind, ASN1Result, BERReader, parse_der};
 use yasna_notation::Noted;
 
 // `openssl req -x509` with a key on P-256 and extensions: v3.
@@ -79,156 +78,171 @@ const OLDER: &str =
     0101300a06082a8648ce3d04030203480030450220223b31a996765ce918e9f9f9dffafceab29055f1d2fadc0d56c878afca\
     9a5fec022100a81803f202b500c5c834aaa800b28f39ce5dee989da5d8ce30caf15364b11fc9";
 
-fn certificates_round_trip(alloc: Global) -> [(&'static str, bool); 4] {
-    [
-        (
-            "AUTHORITY",
-            round_trips::<Noted<Certificate>>(alloc, AUTHORITY, true),
-        ),
-        ("LEAF", round_trips::<Noted<Certificate>>(alloc, LEAF, true)),
-        (
-            "UNIQUE",
-            round_trips::<Noted<Certificate>>(alloc, UNIQUE, true),
-        ),
-        // a default that is written out is none of DER
-        (
-            "WRITTEN_OUT",
-            round_trips::<Noted<Certificate>>(alloc, WRITTEN_OUT, false),
-        ),
-    ]
+static ROWS: [Row; 15] = [
+    (Kind::Certificate, Claim::IsForm, "AUTHORITY", AUTHORITY),
+    (Kind::Certificate, Claim::IsForm, "LEAF", LEAF),
+    (Kind::Certificate, Claim::IsForm, "UNIQUE", UNIQUE),
+    // a default that is written out is none of DER, and BER takes it
+    (
+        Kind::Certificate,
+        Claim::IsNoForm,
+        "WRITTEN_OUT",
+        WRITTEN_OUT,
+    ),
+    (
+        Kind::Certificate,
+        Claim::Says(Ber, Fields::FirstVersion),
+        "what WRITTEN_OUT says",
+        WRITTEN_OUT,
+    ),
+    (
+        Kind::CertificateList,
+        Claim::IsNoForm,
+        "LEAF is no list",
+        LEAF,
+    ),
+    (Kind::CertificateList, Claim::IsForm, "REVOKED", REVOKED),
+    (
+        Kind::Certificate,
+        Claim::Says(Ber, Fields::All),
+        "what AUTHORITY says",
+        AUTHORITY,
+    ),
+    (
+        Kind::Certificate,
+        Claim::Says(Ber, Fields::IssuerId),
+        "what UNIQUE says",
+        UNIQUE,
+    ),
+    (
+        Kind::Certificate,
+        Claim::Says(Ber, Fields::FirstVersion),
+        "what LEAF says",
+        LEAF,
+    ),
+    // no version has the number 3
+    (
+        Kind::Certificate,
+        Claim::IsInvalid,
+        "NO_VERSION",
+        NO_VERSION,
+    ),
+    (
+        Kind::CertificateList,
+        Claim::Says(Ber, Fields::All),
+        "what REVOKED says",
+        REVOKED,
+    ),
+    // a list names version 2 or none
+    (
+        Kind::CertificateList,
+        Claim::IsRejected(Ber),
+        "OLDER",
+        OLDER,
+    ),
+    (
+        Kind::SignedCertificate,
+        Claim::IsSigned(4, 358),
+        "what is signed of AUTHORITY",
+        AUTHORITY,
+    ),
+    (
+        Kind::SignedList,
+        Claim::IsSigned(4, 202),
+        "what is signed of REVOKED",
+        REVOKED,
+    ),
+];
+
+impl Looks for Noted<Certificate> {
+    // Whether it has the version and the number of AUTHORITY, the first version, or the issuer's number of UNIQUE.
+    fn has(&self, fields: Fields) -> bool {
+        let certificate = &self.value.tbs_certificate;
+        match fields {
+            Fields::All => certificate.version == 2 && is_of_authority(&certificate.serial_number),
+            Fields::FirstVersion => certificate.version == 0,
+            Fields::IssuerId => has_issuer_id(&certificate.issuer_unique_id),
+        }
+    }
 }
 
-fn lists_round_trip(alloc: Global) -> [(&'static str, bool); 2] {
-    [
-        (
-            "LEAF is no list",
-            round_trips::<Noted<CertificateList>>(alloc, LEAF, false),
-        ),
-        (
-            "REVOKED",
-            round_trips::<Noted<CertificateList>>(alloc, REVOKED, true),
-        ),
-    ]
+fn is_of_authority(serial: &(Vec<u8>, bool)) -> bool {
+    serial.0.as_slice() == [0, 241, 226, 211, 196, 181, 166, 151].as_slice() && serial.1
 }
 
-// Whether it has the issuer's number of UNIQUE.
-fn has_issuer_id(certificate: &Noted<Certificate>) -> bool {
-    match &certificate.value.tbs_certificate.issuer_unique_id {
+fn has_issuer_id(id: &Option<(Vec<u8>, usize)>) -> bool {
+    match id {
         Some((octets, bits)) => octets.as_slice() == [171, 192].as_slice() && *bits == 12,
         None => false,
     }
 }
 
-// Whether it has the version and the number of AUTHORITY.
-fn is_of_authority(certificate: &Noted<Certificate>) -> bool {
-    let (serial, is_positive) = &certificate.value.tbs_certificate.serial_number;
-    certificate.value.tbs_certificate.version == 2
-        && serial.as_slice() == [0, 241, 226, 211, 196, 181, 166, 151].as_slice()
-        && *is_positive
-}
-
-fn is_of_version_1(certificate: &Noted<Certificate>) -> bool {
-    certificate.value.tbs_certificate.version == 0
-}
-
-// Whether it is of version 2, and revokes one certificate.
-fn revokes_one(list: &Noted<CertificateList>) -> bool {
-    match &list.value.tbs_cert_list.revoked_certificates {
-        Some(certificates) => {
-            list.value.tbs_cert_list.version == Some(1) && certificates.len() == 1
+impl Looks for Noted<CertificateList> {
+    // Whether it is of version 2, and revokes one certificate.
+    fn has(&self, _fields: Fields) -> bool {
+        match &self.value.tbs_cert_list.revoked_certificates {
+            Some(certificates) => {
+                self.value.tbs_cert_list.version == Some(1) && certificates.len() == 1
+            }
+            None => false,
         }
-        None => false,
     }
 }
 
-fn certificates_say(alloc: Global) -> [(&'static str, bool); 5] {
-    [
-        (
-            "AUTHORITY",
-            says::<Noted<Certificate>, _>(alloc, Ber, AUTHORITY, is_of_authority),
-        ),
-        (
-            "UNIQUE",
-            says::<Noted<Certificate>, _>(alloc, Ber, UNIQUE, has_issuer_id),
-        ),
-        (
-            "LEAF",
-            says::<Noted<Certificate>, _>(alloc, Ber, LEAF, is_of_version_1),
-        ),
-        // BER takes a default that is written out
-        (
-            "WRITTEN_OUT",
-            says::<Noted<Certificate>, _>(alloc, Ber, WRITTEN_OUT, is_of_version_1),
-        ),
-        // no version has the number 3
-        (
-            "NO_VERSION",
-            is_invalid::<Noted<Certificate>>(alloc, NO_VERSION),
-        ),
-    ]
+fn part_of<'a, T: Drop>(signed: Signed<'a, T>) -> &'a [u8] {
+    signed.signed_bytes
 }
 
-// A closure that hands on what it borrows, or a function of another crate by its name, is not proved.
-fn signed_certificate<'a>(reader: BERReader<'a, '_>) -> ASN1Result<Signed<'a, Certificate>> {
-    read_signed_certificate(reader)
-}
-
-fn signed_list<'a>(reader: BERReader<'a, '_>) -> ASN1Result<Signed<'a, CertificateList>> {
-    read_signed_list(reader)
-}
-
-// Whether what is signed of a certificate of version 3 are these of its bytes.
-fn is_signed(alloc: Global, text: &str, from: usize, to: usize) -> bool {
-    let Ok(bytes) = bytes_of(alloc, text) else {
-        return false;
-    };
-    match parse_der(alloc, &bytes, signed_certificate) {
+// What is signed of a certificate of version 3.
+fn part_of_certificate<'a>(reader: BERReader<'a, '_>) -> ASN1Result<&'a [u8]> {
+    match read_signed_certificate(reader) {
         Ok(signed) => {
-            signed.value.tbs_certificate.version == 2
-                && bytes.get(from..to) == Some(signed.signed_bytes)
+            let version = signed.value.tbs_certificate.version;
+            let part = part_of(signed);
+            match version {
+                2 => Ok(part),
+                _ => Err(ASN1Error::new(ASN1ErrorKind::Invalid)),
+            }
         }
-        Err(_) => false,
+        Err(error) => Err(error),
     }
 }
 
 // The same of a list.
-fn is_signed_list(alloc: Global, text: &str, from: usize, to: usize) -> bool {
-    let Ok(bytes) = bytes_of(alloc, text) else {
-        return false;
-    };
-    match parse_der(alloc, &bytes, signed_list) {
-        Ok(signed) => bytes.get(from..to) == Some(signed.signed_bytes),
+fn part_of_list<'a>(reader: BERReader<'a, '_>) -> ASN1Result<&'a [u8]> {
+    match read_signed_list(reader) {
+        Ok(signed) => Ok(part_of(signed)),
+        Err(error) => Err(error),
+    }
+}
+
+fn gives_part(answer: ASN1Result<&[u8]>, part: Option<&[u8]>) -> bool {
+    match answer {
+        Ok(found) => match part {
+            Some(part) => found == part,
+            None => false,
+        },
         Err(_) => false,
     }
 }
 
-fn lists_and_signed(alloc: Global) -> [(&'static str, bool); 4] {
-    [
-        (
-            "REVOKED",
-            says::<Noted<CertificateList>, _>(alloc, Ber, REVOKED, revokes_one),
-        ),
-        // a list names version 2 or none
-        (
-            "OLDER",
-            is_rejected::<Noted<CertificateList>>(alloc, Ber, OLDER),
-        ),
-        (
-            "what is signed of AUTHORITY",
-            is_signed(alloc, AUTHORITY, 4, 358),
-        ),
-        (
-            "what is signed of REVOKED",
-            is_signed_list(alloc, REVOKED, 4, 202),
-        ),
-    ]
+/// Whether what is signed of a certificate, or of a list, are those of its bytes that the claim names.
+pub fn is_signed(alloc: Global, bytes: &[u8], claim: Claim, is_list: bool) -> bool {
+    match claim {
+        Claim::IsSigned(from, to) => {
+            let part = bytes.get(from..to);
+            if is_list {
+                gives_part(parse_der(alloc, bytes, part_of_list), part)
+            } else {
+                gives_part(parse_der(alloc, bytes, part_of_certificate), part)
+            }
+        }
+        _ => false,
+    }
 }
 
 // They come back, and so do lists; what certificates and lists say, and what is signed of them.
 #[test]
 fn certificates_and_lists_round_trip_and_say_what_they_hold(rt: HostRuntime) {
-    finds_none(&rt, first_failing(&certificates_round_trip(rt.alloc())));
-    finds_none(&rt, first_failing(&lists_round_trip(rt.alloc())));
-    finds_none(&rt, first_failing(&certificates_say(rt.alloc())));
-    finds_none(&rt, first_failing(&lists_and_signed(rt.alloc())));
+    finds_none(&rt, first_failing(rt.alloc(), &ROWS));
 }

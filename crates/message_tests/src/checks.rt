@@ -1,4 +1,4 @@
-//! What many tests check of an answer. What they ask of a type is generic: it is proved once, and not for each type anew.
+//! What is checked of every type. It is generic: so it is proved once, and not for each type anew.
 
 use std::alloc::Global;
 use std::process::Abort;
@@ -7,16 +7,70 @@ use yasna::{
     DERExact, decode_ber, decode_ber_general, decode_der, encode_der, one_der_form, one_form,
 };
 
-/// The bytes of a hexadecimal text.
+/// What is so of a row's bytes.
+#[derive(Clone, Copy)]
+pub enum Claim {
+    /// They are the DER form of a value, and come back.
+    IsForm,
+    /// DER rejects them.
+    IsNoForm,
+    /// These rules reject them.
+    IsRejected(BERMode),
+    /// BER rejects them as `Invalid`.
+    IsInvalid,
+    /// By these rules a value is read whose fields are as the row says.
+    Says(BERMode, Fields),
+    /// DER rejects them, BER reads them, and the value's DER form is that of this text.
+    Becomes(&'static str),
+    /// The signature is over those of these places: from the first up to the second.
+    IsSigned(usize, usize),
+}
+
+/// What fields a row speaks of.
+#[derive(Clone, Copy)]
+pub enum Fields {
+    /// Those that the type's other rows don't speak of.
+    All,
+    /// The version, where it is the first one.
+    FirstVersion,
+    /// The issuer's number.
+    IssuerId,
+}
+
+/// A type whose fields a row speaks of.
+pub trait Looks {
+    /// Whether the fields are as the row says.
+    fn has(&self, fields: Fields) -> bool;
+}
+
+/// The bytes that these pairs of hexadecimal digits are, or `OutOfMemory` where the text is none, which no row wants.
 pub fn bytes_of(alloc: Global, text: &str) -> ASN1Result<Vec<u8>> {
-    match hex::decode(alloc, text) {
-        Ok(bytes) => Ok(bytes),
-        Err(_) => Err(ASN1Error::new(ASN1ErrorKind::OutOfMemory)),
+    let mut bytes = Vec::new(alloc);
+    for pair in text.as_bytes().chunks(2) {
+        match byte_of(pair) {
+            Some(byte) => bytes.push(byte)?,
+            None => return Err(ASN1Error::new(ASN1ErrorKind::OutOfMemory)),
+        }
+    }
+    Ok(bytes)
+}
+
+fn byte_of(pair: &[u8]) -> Option<u8> {
+    match pair {
+        [high, low] => Some(digit(*high)? << 4 | digit(*low)?),
+        _ => None,
     }
 }
 
-/// Whether the answer is these bytes.
-pub fn gives(answer: ASN1Result<Vec<u8>>, bytes: &[u8]) -> bool {
+fn digit(character: u8) -> Option<u8> {
+    match character {
+        b'0'..=b'9' => Some(character - b'0'),
+        b'a'..=b'f' => Some(character - b'a' + 10),
+        _ => None,
+    }
+}
+
+fn gives(answer: ASN1Result<Vec<u8>>, bytes: &[u8]) -> bool {
     match answer {
         Ok(found) => found.as_slice() == bytes,
         Err(_) => false,
@@ -32,41 +86,54 @@ fn rewritten<T: BERDecodable + DEREncodable + DERExact>(
     encode_der(alloc, &value)
 }
 
-/// Whether the text's bytes are the form of a value of this type, and so come back; or, where they are to be rejected, of none.
-pub fn round_trips<T: BERDecodable + DEREncodable + DERExact>(
-    alloc: Global,
-    text: &str,
-    is_form: bool,
-) -> bool {
-    match bytes_of(alloc, text) {
-        Ok(bytes) if is_form => gives(rewritten::<T>(alloc, &bytes), &bytes),
-        Ok(bytes) => rewritten::<T>(alloc, &bytes).is_err(),
-        Err(_) => false,
+fn rejects<T: Drop>(answer: ASN1Result<T>) -> bool {
+    match answer {
+        Ok(_) => false,
+        Err(error) => matches!(error.kind(), ASN1ErrorKind::Invalid),
     }
 }
 
-fn canonical_rewritten<T: BERDecodable + DEREncodable + DERCanonical>(
+/// Whether the claim is so of these bytes, where it is of no fields.
+pub fn holds<T: BERDecodable + DEREncodable + DERExact>(
     alloc: Global,
     bytes: &[u8],
-) -> ASN1Result<Vec<u8>> {
-    one_form::<T>();
-    let value: T = decode_der(alloc, bytes)?;
-    encode_der(alloc, &value)
+    claim: Claim,
+) -> bool {
+    match claim {
+        Claim::IsForm => gives(rewritten::<T>(alloc, bytes), bytes),
+        Claim::IsNoForm => decode_der::<T>(alloc, bytes).is_err(),
+        Claim::IsRejected(mode) => decode_ber_general::<T>(alloc, bytes, mode).is_err(),
+        Claim::IsInvalid => rejects(decode_ber::<T>(alloc, bytes)),
+        _ => false,
+    }
 }
 
-/// Whether the text's bytes are the form of a value of this type, and so come back.
-pub fn canonical_round_trips<T: BERDecodable + DEREncodable + DERCanonical>(
+/// Whether a value of this type is read from these bytes, whose fields are as the row says.
+pub fn says<T: BERDecodable + Looks>(
     alloc: Global,
-    text: &str,
+    bytes: &[u8],
+    mode: BERMode,
+    fields: Fields,
 ) -> bool {
-    match bytes_of(alloc, text) {
-        Ok(bytes) => gives(canonical_rewritten::<T>(alloc, &bytes), &bytes),
+    match decode_ber_general::<T>(alloc, bytes, mode) {
+        Ok(value) => value.has(fields),
         Err(_) => false,
     }
 }
 
-/// The DER form of the value that BER reads from these bytes.
-pub fn normalized<T: BERDecodable + DEREncodable + DERCanonical>(
+/// Whether the claim is so of these bytes, where it may be of fields.
+pub fn holds_or_says<T: BERDecodable + DEREncodable + DERExact + Looks>(
+    alloc: Global,
+    bytes: &[u8],
+    claim: Claim,
+) -> bool {
+    match claim {
+        Claim::Says(mode, fields) => says::<T>(alloc, bytes, mode, fields),
+        _ => holds::<T>(alloc, bytes, claim),
+    }
+}
+
+fn normalized<T: BERDecodable + DEREncodable + DERCanonical>(
     alloc: Global,
     bytes: &[u8],
 ) -> ASN1Result<Vec<u8>> {
@@ -75,72 +142,18 @@ pub fn normalized<T: BERDecodable + DEREncodable + DERCanonical>(
     encode_der(alloc, &value)
 }
 
-/// Whether DER rejects a text's bytes, which BER reads, and whose DER form is this.
-pub fn is_longer<T: BERDecodable + DEREncodable + DERCanonical>(
+/// Whether DER rejects these bytes, which BER reads, and whose DER form is that of the text.
+pub fn becomes<T: BERDecodable + DEREncodable + DERCanonical>(
     alloc: Global,
-    text: &str,
+    bytes: &[u8],
     form: &str,
 ) -> bool {
-    let Ok(bytes) = bytes_of(alloc, text) else {
-        return false;
-    };
     match bytes_of(alloc, form) {
         Ok(form) => {
-            gives(normalized::<T>(alloc, &bytes), &form) && decode_der::<T>(alloc, &bytes).is_err()
+            gives(normalized::<T>(alloc, bytes), &form) && decode_der::<T>(alloc, bytes).is_err()
         }
         Err(_) => false,
     }
-}
-
-/// Whether a value of this type is read from a text's bytes, and this is so of it.
-pub fn says<T: BERDecodable, F: FnOnce(&T) -> bool>(
-    alloc: Global,
-    mode: BERMode,
-    text: &str,
-    is_so: F,
-) -> bool
-    requires { F.IsAlwaysCallable is_so }
-{
-    let Ok(bytes) = bytes_of(alloc, text) else {
-        return false;
-    };
-    match decode_ber_general::<T>(alloc, &bytes, mode) {
-        Ok(value) => is_so(&value),
-        Err(_) => false,
-    }
-}
-
-/// Whether BER rejects a text's bytes as `Invalid`.
-pub fn is_invalid<T: BERDecodable>(alloc: Global, text: &str) -> bool {
-    match bytes_of(alloc, text) {
-        Ok(bytes) => rejects(decode_ber::<T>(alloc, &bytes)),
-        Err(_) => false,
-    }
-}
-
-fn rejects<T: Drop>(answer: ASN1Result<T>) -> bool {
-    match answer {
-        Ok(_) => false,
-        Err(error) => matches!(error.kind(), ASN1ErrorKind::Invalid),
-    }
-}
-
-/// Whether these rules reject a text's bytes.
-pub fn is_rejected<T: BERDecodable>(alloc: Global, mode: BERMode, text: &str) -> bool {
-    match bytes_of(alloc, text) {
-        Ok(bytes) => decode_ber_general::<T>(alloc, &bytes, mode).is_err(),
-        Err(_) => false,
-    }
-}
-
-/// The name of the first outcome that isn't so.
-pub fn first_failing(outcomes: &[(&'static str, bool)]) -> Option<&'static str> {
-    for outcome in outcomes {
-        if !outcome.1 {
-            return Some(outcome.0);
-        }
-    }
-    None
 }
 
 /// Fails the test if a row was found, and says which.

@@ -1,9 +1,9 @@
 //! Private keys (RFC 5208 and RFC 5958), and contents that are signed or enveloped (RFC 5652).
 
-use crate::checks::{finds_none, first_failing, is_invalid, round_trips, says};
+use crate::checks::{Claim, Fields, Looks, finds_none};
+use crate::kinds::{Kind, Row, first_failing};
 use cms::{ContentInfo, EnvelopedData, SignedData};
-use pkcs8::{OneAsymmetricKey, PrivateKeyInfo};
-use std::alloc::Global;
+use pkcs8::OneAsymmetricKey;
 use yasna::BERMode::{Ber, Der};
 use yasna::tags::TAG_SEQUENCE;
 use yasna_notation::Noted;
@@ -52,116 +52,110 @@ const STREAMED: &str =
     d9509c246f649e5063e3efccdadbb11fad5f76f4fb52486bd4f602203e573c6c16b26b172e4432cc1dbaf67b1b92003c7955\
     be7c22257c7b79e3b99f000000000000";
 
-// The content of a ContentInfo, which ends it: what stands behind 19 octets, two digits each. Where they are missing, no hexadecimal text.
-fn content_of(text: &'static str) -> &'static str {
-    text.get(38..).unwrap_or("-")
-}
+// A key with its public key is none of the older type; where contents were streamed, BER alone reads them.
+static ROWS: [Row; 15] = [
+    (
+        Kind::PrivateKeyInfo,
+        Claim::IsForm,
+        "ED25519, of the older type",
+        ED25519,
+    ),
+    (Kind::OneAsymmetricKey, Claim::IsForm, "ED25519", ED25519),
+    (
+        Kind::OneAsymmetricKey,
+        Claim::IsForm,
+        "WITH_PUBLIC_KEY",
+        WITH_PUBLIC_KEY,
+    ),
+    (
+        Kind::PrivateKeyInfo,
+        Claim::IsNoForm,
+        "WITH_PUBLIC_KEY, of the older type",
+        WITH_PUBLIC_KEY,
+    ),
+    (Kind::ContentInfo, Claim::IsForm, "SIGNED", SIGNED),
+    (
+        Kind::SignedData,
+        Claim::IsForm,
+        "the content of SIGNED",
+        SIGNED,
+    ),
+    (Kind::ContentInfo, Claim::IsNoForm, "STREAMED", STREAMED),
+    (Kind::ContentInfo, Claim::IsForm, "ENVELOPED", ENVELOPED),
+    (
+        Kind::EnvelopedData,
+        Claim::IsForm,
+        "the content of ENVELOPED",
+        ENVELOPED,
+    ),
+    (
+        Kind::SignedData,
+        Claim::IsNoForm,
+        "ENVELOPED isn't signed",
+        ENVELOPED,
+    ),
+    (
+        Kind::OneAsymmetricKey,
+        Claim::Says(Ber, Fields::All),
+        "what WITH_PUBLIC_KEY says",
+        WITH_PUBLIC_KEY,
+    ),
+    (
+        Kind::OneAsymmetricKey,
+        Claim::IsInvalid,
+        "VERSION_3",
+        VERSION_3,
+    ),
+    (
+        Kind::SignedData,
+        Claim::Says(Der, Fields::All),
+        "what SIGNED says",
+        SIGNED,
+    ),
+    (
+        Kind::ContentInfo,
+        Claim::Says(Ber, Fields::All),
+        "what STREAMED says",
+        STREAMED,
+    ),
+    (
+        Kind::EnvelopedData,
+        Claim::Says(Der, Fields::All),
+        "what ENVELOPED says",
+        ENVELOPED,
+    ),
+];
 
-// A key with its public key is none of the older type.
-fn keys_round_trip(alloc: Global) -> [(&'static str, bool); 4] {
-    [
-        (
-            "ED25519, of the older type",
-            round_trips::<Noted<PrivateKeyInfo>>(alloc, ED25519, true),
-        ),
-        (
-            "ED25519",
-            round_trips::<Noted<OneAsymmetricKey>>(alloc, ED25519, true),
-        ),
-        (
-            "WITH_PUBLIC_KEY",
-            round_trips::<Noted<OneAsymmetricKey>>(alloc, WITH_PUBLIC_KEY, true),
-        ),
-        (
-            "WITH_PUBLIC_KEY, of the older type",
-            round_trips::<Noted<PrivateKeyInfo>>(alloc, WITH_PUBLIC_KEY, false),
-        ),
-    ]
-}
-
-// Where contents were streamed, BER alone reads them.
-fn contents_round_trip(alloc: Global) -> [(&'static str, bool); 6] {
-    let signed = content_of(SIGNED);
-    let enveloped = content_of(ENVELOPED);
-    [
-        (
-            "SIGNED",
-            round_trips::<Noted<ContentInfo>>(alloc, SIGNED, true),
-        ),
-        (
-            "the content of SIGNED",
-            round_trips::<Noted<SignedData>>(alloc, signed, true),
-        ),
-        (
-            "STREAMED",
-            round_trips::<Noted<ContentInfo>>(alloc, STREAMED, false),
-        ),
-        (
-            "ENVELOPED",
-            round_trips::<Noted<ContentInfo>>(alloc, ENVELOPED, true),
-        ),
-        (
-            "the content of ENVELOPED",
-            round_trips::<Noted<EnvelopedData>>(alloc, enveloped, true),
-        ),
-        (
-            "ENVELOPED isn't signed",
-            round_trips::<Noted<SignedData>>(alloc, enveloped, false),
-        ),
-    ]
-}
-
-// Whether it has a version and a public key of 32 octets.
-fn has_public_key(key: &Noted<OneAsymmetricKey>) -> bool {
-    match &key.value.public_key {
-        Some((octets, bits)) => key.value.version == 1 && octets.len() == 32 && *bits == 256,
-        None => false,
+impl Looks for Noted<OneAsymmetricKey> {
+    // Whether it has a version and a public key of 32 octets.
+    fn has(&self, _fields: Fields) -> bool {
+        match &self.value.public_key {
+            Some((octets, bits)) => self.value.version == 1 && octets.len() == 32 && *bits == 256,
+            None => false,
+        }
     }
 }
 
-fn is_signed_once(data: &Noted<SignedData>) -> bool {
-    data.value.version == 3 && data.value.signer_infos.len() == 1
+impl Looks for Noted<SignedData> {
+    fn has(&self, _fields: Fields) -> bool {
+        self.value.version == 3 && self.value.signer_infos.len() == 1
+    }
 }
 
-fn has_a_sequence(content: &Noted<ContentInfo>) -> bool {
-    content.value.content.tag() == TAG_SEQUENCE
+impl Looks for Noted<ContentInfo> {
+    fn has(&self, _fields: Fields) -> bool {
+        self.value.content.tag() == TAG_SEQUENCE
+    }
 }
 
-fn has_one_recipient(data: &Noted<EnvelopedData>) -> bool {
-    data.value.recipient_infos.len() == 1
-}
-
-fn keys_and_contents_say(alloc: Global) -> [(&'static str, bool); 5] {
-    let signed = content_of(SIGNED);
-    let enveloped = content_of(ENVELOPED);
-    [
-        (
-            "WITH_PUBLIC_KEY",
-            says::<Noted<OneAsymmetricKey>, _>(alloc, Ber, WITH_PUBLIC_KEY, has_public_key),
-        ),
-        (
-            "VERSION_3",
-            is_invalid::<Noted<OneAsymmetricKey>>(alloc, VERSION_3),
-        ),
-        (
-            "SIGNED",
-            says::<Noted<SignedData>, _>(alloc, Der, signed, is_signed_once),
-        ),
-        (
-            "STREAMED",
-            says::<Noted<ContentInfo>, _>(alloc, Ber, STREAMED, has_a_sequence),
-        ),
-        (
-            "ENVELOPED",
-            says::<Noted<EnvelopedData>, _>(alloc, Der, enveloped, has_one_recipient),
-        ),
-    ]
+impl Looks for Noted<EnvelopedData> {
+    fn has(&self, _fields: Fields) -> bool {
+        self.value.recipient_infos.len() == 1
+    }
 }
 
 // Keys, of which one is newer than the type, and signed and enveloped contents.
 #[test]
 fn keys_and_contents_round_trip_and_say_what_they_hold(rt: HostRuntime) {
-    finds_none(&rt, first_failing(&keys_round_trip(rt.alloc())));
-    finds_none(&rt, first_failing(&contents_round_trip(rt.alloc())));
-    finds_none(&rt, first_failing(&keys_and_contents_say(rt.alloc())));
+    finds_none(&rt, first_failing(rt.alloc(), &ROWS));
 }

@@ -3,8 +3,9 @@
 //! | Module | Holds |
 //! |---|---|
 //! | `certificates` | certificates and revocation lists of `x509` |
-//! | `checks` | no test: it holds what many of them check |
+//! | `checks` | no test: it holds what is checked of every type |
 //! | `keys` | private keys, and signed and enveloped contents, of `pkcs8` and `cms` |
+//! | `kinds` | no test: it holds what a row is, and by what its kind is checked |
 //! | `ldap_messages` | messages of `ldap` |
 //! | `messages` | types of `x509` and `snmp`, which are made of types |
 //! | `parts` | a SEQUENCE of parts that are pairs |
@@ -17,6 +18,8 @@ mod certificates;
 mod checks;
 #[cfg(test)]
 mod keys;
+#[cfg(test)]
+mod kinds;
 #[cfg(test)]
 mod ldap_messages;
 #[cfg(test)]

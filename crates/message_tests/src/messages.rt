@@ -1,13 +1,15 @@
 //! Messages that are types made of types: a DER form comes back as it was, and what is none is rejected.
 
-use crate::checks::{finds_none, round_trips};
+use crate::checks::{Claim, finds_none, holds};
+use crate::kinds::{Kind, Row, first_failing};
 use snmp::{ApplicationSyntax, SimpleSyntax};
 use std::alloc::Global;
 use x509::{AlgorithmIdentifier, Attribute, Extensions, Name, SubjectPublicKeyInfo, Validity};
 use yasna_notation::Noted;
 
+/// A part of a message.
 #[derive(Clone, Copy)]
-enum Type {
+pub enum Part {
     Algorithm,
     PublicKey,
     Name,
@@ -18,58 +20,133 @@ enum Type {
     Application,
 }
 
-// Types, texts, and whether these are the form of a value of the type.
-static ROWS: [(Type, &str, bool); 18] = [
-    (Type::Algorithm, "300d06092a864886f70d0101010500", true),
-    (Type::PublicKey, "300b300506032b6570030200aa", true),
-    (Type::Name, "300c310a300806035504030c0161", true),
-    (Type::Attribute, "300a060355040331030c0161", true),
+static ROWS: [Row; 18] = [
     (
-        Type::Validity,
-        "3020170d3235303130313030303030305a180f32303530303130313030303030305a",
-        true,
+        Kind::Part(Part::Algorithm),
+        Claim::IsForm,
+        "an algorithm with NULL",
+        "300d06092a864886f70d0101010500",
     ),
-    (Type::Extensions, "300e300c0603551d130101ff04023000", true),
-    (Type::Simple, "020105", true),
-    (Type::Simple, "040161", true),
-    (Type::Simple, "0603550403", true),
-    (Type::Application, "40047f000001", true),
-    (Type::Application, "410107", true),
-    (Type::Application, "420107", true),
-    (Type::Application, "430107", true),
-    (Type::Application, "440161", true),
-    (Type::Application, "460107", true),
-    // an address has four octets
-    (Type::Application, "40037f0000", false),
-    // a part of a name has one attribute at least
-    (Type::Name, "30023100", false),
-    (Type::Extensions, "3000", false),
+    (
+        Kind::Part(Part::PublicKey),
+        Claim::IsForm,
+        "a public key",
+        "300b300506032b6570030200aa",
+    ),
+    (
+        Kind::Part(Part::Name),
+        Claim::IsForm,
+        "a name of one part",
+        "300c310a300806035504030c0161",
+    ),
+    (
+        Kind::Part(Part::Attribute),
+        Claim::IsForm,
+        "an attribute",
+        "300a060355040331030c0161",
+    ),
+    (
+        Kind::Part(Part::Validity),
+        Claim::IsForm,
+        "a validity from a UTCTime to a GeneralizedTime",
+        "3020170d3235303130313030303030305a180f32303530303130313030303030305a",
+    ),
+    (
+        Kind::Part(Part::Extensions),
+        Claim::IsForm,
+        "an extension",
+        "300e300c0603551d130101ff04023000",
+    ),
+    (
+        Kind::Part(Part::Simple),
+        Claim::IsForm,
+        "a number",
+        "020105",
+    ),
+    (
+        Kind::Part(Part::Simple),
+        Claim::IsForm,
+        "a string",
+        "040161",
+    ),
+    (
+        Kind::Part(Part::Simple),
+        Claim::IsForm,
+        "an object identifier",
+        "0603550403",
+    ),
+    (
+        Kind::Part(Part::Application),
+        Claim::IsForm,
+        "an address",
+        "40047f000001",
+    ),
+    (
+        Kind::Part(Part::Application),
+        Claim::IsForm,
+        "a counter",
+        "410107",
+    ),
+    (
+        Kind::Part(Part::Application),
+        Claim::IsForm,
+        "an unsigned number",
+        "420107",
+    ),
+    (
+        Kind::Part(Part::Application),
+        Claim::IsForm,
+        "ticks",
+        "430107",
+    ),
+    (
+        Kind::Part(Part::Application),
+        Claim::IsForm,
+        "an opaque value",
+        "440161",
+    ),
+    (
+        Kind::Part(Part::Application),
+        Claim::IsForm,
+        "a count of 64 bits",
+        "460107",
+    ),
+    (
+        Kind::Part(Part::Application),
+        Claim::IsNoForm,
+        "an address of three octets",
+        "40037f0000",
+    ),
+    (
+        Kind::Part(Part::Name),
+        Claim::IsNoForm,
+        "a part of a name with no attribute",
+        "30023100",
+    ),
+    (
+        Kind::Part(Part::Extensions),
+        Claim::IsNoForm,
+        "no extension",
+        "3000",
+    ),
 ];
 
-fn is_row(alloc: Global, of: Type, text: &str, is_form: bool) -> bool {
-    match of {
-        Type::Algorithm => round_trips::<Noted<AlgorithmIdentifier>>(alloc, text, is_form),
-        Type::PublicKey => round_trips::<Noted<SubjectPublicKeyInfo>>(alloc, text, is_form),
-        Type::Name => round_trips::<Noted<Name>>(alloc, text, is_form),
-        Type::Attribute => round_trips::<Noted<Attribute>>(alloc, text, is_form),
-        Type::Validity => round_trips::<Noted<Validity>>(alloc, text, is_form),
-        Type::Extensions => round_trips::<Noted<Extensions>>(alloc, text, is_form),
-        Type::Simple => round_trips::<Noted<SimpleSyntax>>(alloc, text, is_form),
-        Type::Application => round_trips::<Noted<ApplicationSyntax>>(alloc, text, is_form),
+/// Whether the claim is so of such a part.
+pub fn is_part(alloc: Global, part: Part, bytes: &[u8], claim: Claim) -> bool {
+    match part {
+        Part::Algorithm => holds::<Noted<AlgorithmIdentifier>>(alloc, bytes, claim),
+        Part::PublicKey => holds::<Noted<SubjectPublicKeyInfo>>(alloc, bytes, claim),
+        Part::Name => holds::<Noted<Name>>(alloc, bytes, claim),
+        Part::Attribute => holds::<Noted<Attribute>>(alloc, bytes, claim),
+        Part::Validity => holds::<Noted<Validity>>(alloc, bytes, claim),
+        Part::Extensions => holds::<Noted<Extensions>>(alloc, bytes, claim),
+        Part::Simple => holds::<Noted<SimpleSyntax>>(alloc, bytes, claim),
+        Part::Application => holds::<Noted<ApplicationSyntax>>(alloc, bytes, claim),
     }
-}
-
-fn first_other_row(alloc: Global) -> Option<&'static str> {
-    for row in &ROWS {
-        if !is_row(alloc, row.0, row.1, row.2) {
-            return Some(row.1);
-        }
-    }
-    None
 }
 
 // Parts of certificates, values of variables, and too few parts.
 #[test]
 fn parts_and_values_round_trip_or_are_rejected(rt: HostRuntime) {
-    finds_none(&rt, first_other_row(rt.alloc()));
+    finds_none(&rt, first_failing(rt.alloc(), &ROWS));
 }

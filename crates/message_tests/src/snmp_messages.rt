@@ -1,10 +1,8 @@
 //! Messages of SNMPv1 and SNMPv2c (RFC 1157, RFC 1901 and RFC 3416), made by hand as programs of net-snmp send them.
 
-use crate::checks::{
-    bytes_of, canonical_round_trips, finds_none, first_failing, is_rejected, normalized, says,
-};
-use snmp::{ApplicationSyntax, SimpleSyntax, v1, v2c};
-use std::alloc::Global;
+use crate::checks::{Claim, Fields, Looks, finds_none};
+use crate::kinds::{Kind, Row, first_failing};
+use snmp::{ApplicationSyntax, SimpleSyntax, v2c};
 use yasna::BERMode::{Ber, Der};
 use yasna_notation::Noted;
 
@@ -31,27 +29,82 @@ const BULK: &str =
 const LONG: &str =
     "308002010104067075626c6963a08119020101020100020100300e300c06082b0601020101010005000000";
 
+// The DER form of LONG: GET with the other version's number.
+const SHORTEST: &str =
+    "302602010104067075626c6963a019020101020100020100300e300c06082b060102010101000500";
+
 // A message that says that it is of version 3.
 const VERSION_3: &str =
     "302602010304067075626c6963a019020101020100020100300e300c06082b060102010101000500";
+
+// Each version has its own messages.
+static ROWS: [Row; 11] = [
+    (Kind::SnmpV1, Claim::IsForm, "GET", GET),
+    (Kind::SnmpV1, Claim::IsForm, "TRAP", TRAP),
+    (Kind::SnmpV2c, Claim::IsForm, "RESPONSE", RESPONSE),
+    (Kind::SnmpV2c, Claim::IsForm, "BULK", BULK),
+    (
+        Kind::SnmpV1,
+        Claim::IsRejected(Ber),
+        "BULK is none of SNMPv1",
+        BULK,
+    ),
+    (
+        Kind::SnmpV2c,
+        Claim::IsRejected(Ber),
+        "GET is none of SNMPv2c",
+        GET,
+    ),
+    (Kind::SnmpV1, Claim::IsRejected(Ber), "VERSION_3", VERSION_3),
+    (
+        Kind::SnmpV2c,
+        Claim::Says(Ber, Fields::All),
+        "what RESPONSE says",
+        RESPONSE,
+    ),
+    (
+        Kind::SnmpV2c,
+        Claim::Becomes(SHORTEST),
+        "the form of LONG",
+        LONG,
+    ),
+    (Kind::SnmpV2c, Claim::IsForm, "SHORTEST", SHORTEST),
+    (
+        Kind::SnmpV2c,
+        Claim::IsRejected(Der),
+        "LONG is no form",
+        LONG,
+    ),
+];
+
+impl Looks for Noted<v2c::SnmpMessage> {
+    // Whether it is the answer to the public community that RESPONSE is.
+    fn has(&self, _fields: Fields) -> bool {
+        self.value.community.as_slice() == b"public".as_slice() && is_response(&self.value.data)
+    }
+}
 
 // Whether it has the number and the values of RESPONSE.
 fn is_response(data: &v2c::Pdus) -> bool {
     match data {
         v2c::Pdus::Response(pdu) => {
-            pdu.request_id == 19088743 && kinds(&pdu.variable_bindings) == [1, 5, 3, 4, 6]
+            pdu.request_id == 19088743 && are_of_response(&pdu.variable_bindings)
         }
         _ => false,
     }
 }
 
-// What the first five values are.
-fn kinds(bindings: &[v2c::VarBind]) -> [usize; 5] {
-    let mut kinds = [0; 5];
-    for (kind, binding) in kinds.iter_mut().zip(bindings) {
-        *kind = kind_of(&binding.value);
+fn are_of_response(bindings: &[v2c::VarBind]) -> bool {
+    match bindings {
+        [ticks, name, count, missing, end] => {
+            kind_of(&ticks.value) == 1
+                && kind_of(&name.value) == 5
+                && kind_of(&count.value) == 3
+                && kind_of(&missing.value) == 4
+                && kind_of(&end.value) == 6
+        }
+        _ => false,
     }
-    kinds
 }
 
 fn kind_of(value: &v2c::BoundValue) -> usize {
@@ -65,72 +118,7 @@ fn kind_of(value: &v2c::BoundValue) -> usize {
     }
 }
 
-// Whether it is the answer to the public community that RESPONSE is.
-fn is_public_response(message: &Noted<v2c::SnmpMessage>) -> bool {
-    message.value.community.as_slice() == b"public".as_slice() && is_response(&message.value.data)
-}
-
-// Whether the message's form has so many bytes.
-fn has_length(alloc: Global, text: &str, length: usize) -> bool {
-    let Ok(bytes) = bytes_of(alloc, text) else {
-        return false;
-    };
-    match normalized::<Noted<v2c::SnmpMessage>>(alloc, &bytes) {
-        Ok(form) => form.len() == length,
-        Err(_) => false,
-    }
-}
-
-fn messages_round_trip(alloc: Global) -> [(&'static str, bool); 4] {
-    [
-        (
-            "GET",
-            canonical_round_trips::<Noted<v1::SnmpMessage>>(alloc, GET),
-        ),
-        (
-            "TRAP",
-            canonical_round_trips::<Noted<v1::SnmpMessage>>(alloc, TRAP),
-        ),
-        (
-            "RESPONSE",
-            canonical_round_trips::<Noted<v2c::SnmpMessage>>(alloc, RESPONSE),
-        ),
-        (
-            "BULK",
-            canonical_round_trips::<Noted<v2c::SnmpMessage>>(alloc, BULK),
-        ),
-    ]
-}
-
-// Each version has its own messages.
-fn others_are_rejected(alloc: Global) -> [(&'static str, bool); 6] {
-    [
-        (
-            "BULK is none of SNMPv1",
-            is_rejected::<Noted<v1::SnmpMessage>>(alloc, Ber, BULK),
-        ),
-        (
-            "GET is none of SNMPv2c",
-            is_rejected::<Noted<v2c::SnmpMessage>>(alloc, Ber, GET),
-        ),
-        (
-            "VERSION_3",
-            is_rejected::<Noted<v1::SnmpMessage>>(alloc, Ber, VERSION_3),
-        ),
-        (
-            "what RESPONSE says",
-            says::<Noted<v2c::SnmpMessage>, _>(alloc, Ber, RESPONSE, is_public_response),
-        ),
-        ("the form of LONG", has_length(alloc, LONG, 40)),
-        (
-            "LONG is no form",
-            is_rejected::<Noted<v2c::SnmpMessage>>(alloc, Der, LONG),
-        ),
-    ]
-}
-
 #[test]
 fn messages_round_trip_or_are_rejected(rt: HostRuntime) {
-    finds_none(&rt, first_failing(&messages_round_trip(rt.alloc())));
-    finds_none(&rt, first_failing(&others_are_rejected(rt.alloc())));
+    finds_none(&rt, first_failing(rt.alloc(), &ROWS));
 }
