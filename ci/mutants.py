@@ -28,6 +28,13 @@ def copy_to(room, chosen):
     subprocess.run(["git", "init", "-q", room], check=True)
 
 
+def only_by(why):
+    """What a refusal that says less of the contract comes from."""
+    if not why:
+        return ""
+    return " (only by a limit of the prover)" if "limit" in why else " (only by a name that an answer cites)"
+
+
 def line_of(found):
     """Whether the mutant was refused, and the line that says so."""
     name = f"{found['crate']}/{found['name']}"
@@ -36,8 +43,7 @@ def line_of(found):
         return False, f"{name}: {found['said']}"
     goal = re.sub(r"^(\S+?):(\d+):\d+: error: ", r"\1:\2: ", refused["goal"] or "")
     at = f" at {goal[:CUT]}" if goal else ""
-    why = " (only by a limit of the prover, or by a name)" if refused["why"] else ""
-    return True, f"{name}: refused{at}{why}"
+    return True, f"{name}: refused{at}{only_by(refused['why'])}"
 
 
 def main(*names):
