@@ -1,156 +1,142 @@
 //! AlgorithmIdentifier, with parameters of several types and without, and keys with it.
 
-use crate::checks::{finds_none, first_failing, gives, is_rejected, rejects};
+use crate::checks::finds_none;
+use crate::pieces::Outcome::{Rejected, Same, Written};
+use crate::pieces::{Piece, Row, first_other, wanted};
 use crate::public_key::{ED25519, RSA};
 use std::alloc::Global;
-use yasna::{ASN1ErrorKind, ASN1Result, BERMode, Tag, decode_ber, decode_der, encode_der, tags};
+use yasna::ASN1ErrorKind::{Eof, Extra, Invalid};
+use yasna::BERMode::{Ber, Der};
+use yasna::tags::{TAG_NULL, TAG_OID, TAG_SEQUENCE};
+use yasna::{ASN1Result, BERMode, Tag, decode_ber_general, encode_der};
 use yasna_examples::{AlgorithmIdentifier, SubjectPublicKeyInfo, encoded_key};
 
-fn der_algorithm(alloc: Global, bytes: &[u8]) -> ASN1Result<AlgorithmIdentifier> {
-    decode_der(alloc, bytes)
+// A type, and what is to be read of it.
+#[derive(Clone, Copy)]
+enum Record {
+    /// An algorithm of this name, and the tag of its parameters.
+    Algorithm(&'static [u64], Option<Tag>),
+    /// A key of so many bits, whether its algorithm has parameters, and how many bits it says when it is written.
+    Key(usize, bool, usize),
 }
 
-fn ber_algorithm(alloc: Global, bytes: &[u8]) -> ASN1Result<AlgorithmIdentifier> {
-    decode_ber(alloc, bytes)
-}
-
-// The tag of its parameters, if it has some.
-fn parameters_of(read: &AlgorithmIdentifier) -> Option<Tag> {
-    match &read.parameters {
+fn algorithm_rewritten(
+    alloc: Global,
+    mode: BERMode,
+    bytes: &[u8],
+    name: &[u64],
+    tag: Option<Tag>,
+) -> ASN1Result<Vec<u8>> {
+    let read = decode_ber_general::<AlgorithmIdentifier>(alloc, bytes, mode)?;
+    let found = match &read.parameters {
         Some(parameters) => Some(parameters.tag()),
         None => None,
+    };
+    wanted(read.algorithm.components().as_slice() == name && found == tag)?;
+    if read.algorithm.is_encodable() {
+        encode_der(alloc, &read)
+    } else {
+        Ok(Vec::new(alloc))
     }
 }
 
-// Whether it has this name, and parameters of this tag.
-fn is_of(read: &AlgorithmIdentifier, name: &[u64], parameters: Option<Tag>) -> bool {
-    read.algorithm.components().as_slice() == name && parameters_of(read) == parameters
-}
-
-// Whether it is written in this form.
-fn is_written(alloc: Global, read: &AlgorithmIdentifier, form: &[u8]) -> bool {
-    read.algorithm.is_encodable() && gives(encode_der(alloc, read), form)
-}
-
-// Whether it is read from its form, and written in it.
-fn is_form(alloc: Global, form: &[u8], name: &[u64], parameters: Option<Tag>) -> bool {
-    match der_algorithm(alloc, form) {
-        Ok(read) => is_of(&read, name, parameters) && is_written(alloc, &read, form),
-        Err(_) => false,
+impl Piece for Record {
+    fn rewritten(self, alloc: Global, mode: BERMode, bytes: &[u8]) -> ASN1Result<Vec<u8>> {
+        match self {
+            Record::Algorithm(name, tag) => algorithm_rewritten(alloc, mode, bytes, name, tag),
+            Record::Key(bits, has_parameters, written_bits) => {
+                let mut key = decode_ber_general::<SubjectPublicKeyInfo>(alloc, bytes, mode)?;
+                wanted(key.bits == bits)?;
+                wanted(key.algorithm.parameters.is_some() == has_parameters)?;
+                key.bits = written_bits;
+                encoded_key(alloc, &key)
+            }
+        }
     }
 }
 
-// Whether BER reads one from it that is written in this form.
-fn is_rewritten(alloc: Global, other: &[u8], form: &[u8]) -> bool {
-    match ber_algorithm(alloc, other) {
-        Ok(read) => is_written(alloc, &read, form),
-        Err(_) => false,
-    }
-}
+const ED: &[u64] = &[1, 3, 101, 112];
 
-// One whose parameters are of indefinite length.
-const INDEFINITE: [u8; 16] = [48, 128, 6, 3, 43, 101, 112, 48, 128, 2, 1, 7, 0, 0, 0, 0];
+// Its parameters are of indefinite length.
+const INDEFINITE: &str = "308006032B6570308002010700000000";
 
 // Parameters of indefinite length are kept as they came, with the two zeros that end them. Parameters that are broken
-// aren't taken for none, and behind them nothing may follow.
-fn are_algorithms(alloc: Global) -> [(&'static str, bool); 4] {
-    let ed25519 = [48, 5, 6, 3, 43, 101, 112];
-    let rsa = [48, 13, 6, 9, 42, 134, 72, 134, 247, 13, 1, 1, 1, 5, 0];
+// aren't taken for none, and behind them nothing may follow. A key of more bits than its bytes hold has no encoding.
+static ROWS: [Row<Record>; 10] = [
+    (
+        "Ed25519 without parameters",
+        Record::Algorithm(ED, None),
+        Der,
+        "300506032B6570",
+        Same,
+    ),
+    (
+        "RSA with NULL",
+        Record::Algorithm(&[1, 2, 840, 113549, 1, 1, 1], Some(TAG_NULL)),
+        Der,
+        "300D06092A864886F70D0101010500",
+        Same,
+    ),
     // its parameters are the name of the curve P-256
-    let elliptic_curve = [
-        48, 19, 6, 7, 42, 134, 72, 206, 61, 2, 1, 6, 8, 42, 134, 72, 206, 61, 3, 1, 7,
-    ];
-    let null = Some(tags::TAG_NULL);
-    let oid = Some(tags::TAG_OID);
-    let form = [48, 12, 6, 3, 43, 101, 112, 48, 5, 2, 1, 7, 0, 0];
-    [
-        (
-            "Ed25519 without parameters",
-            is_form(alloc, &ed25519, &[1, 3, 101, 112], None),
-        ),
-        (
-            "RSA with NULL",
-            is_form(alloc, &rsa, &[1, 2, 840, 113549, 1, 1, 1], null),
-        ),
-        (
-            "a curve's name",
-            is_form(alloc, &elliptic_curve, &[1, 2, 840, 10045, 2, 1], oid),
-        ),
-        (
-            "parameters of indefinite length are kept",
-            is_rewritten(alloc, &INDEFINITE, &form),
-        ),
-    ]
-}
-
-fn others_are_rejected(alloc: Global) -> [(&'static str, bool); 3] {
-    let broken = [48, 7, 6, 3, 43, 101, 112, 4, 9];
-    let more = [48, 9, 6, 3, 43, 101, 112, 5, 0, 5, 0];
-    [
-        (
-            "DER rejects an indefinite length",
-            is_rejected::<AlgorithmIdentifier>(
-                alloc,
-                BERMode::Der,
-                &INDEFINITE,
-                ASN1ErrorKind::Invalid,
-            ),
-        ),
-        (
-            "broken parameters are rejected",
-            is_rejected::<AlgorithmIdentifier>(alloc, BERMode::Ber, &broken, ASN1ErrorKind::Eof),
-        ),
-        (
-            "a second NULL is rejected",
-            is_rejected::<AlgorithmIdentifier>(alloc, BERMode::Ber, &more, ASN1ErrorKind::Extra),
-        ),
-    ]
-}
-
-// Whether a key of this many bits is read from its form, and written in it, and its algorithm has parameters or has none.
-fn is_form_of_key(alloc: Global, form: &[u8], bits: usize, has_parameters: bool) -> bool {
-    match decode_der::<SubjectPublicKeyInfo>(alloc, form) {
-        Ok(key) => {
-            key.bits == bits
-                && key.algorithm.parameters.is_some() == has_parameters
-                && gives(encoded_key(alloc, &key), form)
-        }
-        Err(_) => false,
-    }
-}
-
-// The form of a key that says it has so many bits.
-fn form_with_bits(alloc: Global, form: &[u8], bits: usize) -> ASN1Result<Vec<u8>> {
-    let mut key: SubjectPublicKeyInfo = decode_der(alloc, form)?;
-    key.bits = bits;
-    encoded_key(alloc, &key)
-}
-
-// A key of more bits than its bytes hold has no form.
-fn are_keys(alloc: Global) -> [(&'static str, bool); 4] {
-    [
-        (
-            "an Ed25519 key round-trips",
-            is_form_of_key(alloc, &ED25519, 256, false),
-        ),
-        (
-            "an RSA key round-trips",
-            is_form_of_key(alloc, &RSA, 64, true),
-        ),
-        (
-            "256 bits are written",
-            gives(form_with_bits(alloc, &ED25519, 256), &ED25519),
-        ),
-        (
-            "257 bits are rejected",
-            rejects(form_with_bits(alloc, &ED25519, 257), ASN1ErrorKind::Invalid),
-        ),
-    ]
-}
+    (
+        "a curve's name",
+        Record::Algorithm(&[1, 2, 840, 10045, 2, 1], Some(TAG_OID)),
+        Der,
+        "301306072A8648CE3D020106082A8648CE3D030107",
+        Same,
+    ),
+    (
+        "parameters of indefinite length are kept",
+        Record::Algorithm(ED, Some(TAG_SEQUENCE)),
+        Ber,
+        INDEFINITE,
+        Written("300C06032B657030050201070000"),
+    ),
+    (
+        "DER rejects an indefinite length",
+        Record::Algorithm(ED, Some(TAG_SEQUENCE)),
+        Der,
+        INDEFINITE,
+        Rejected(Invalid),
+    ),
+    (
+        "broken parameters are rejected",
+        Record::Algorithm(ED, None),
+        Ber,
+        "300706032B65700409",
+        Rejected(Eof),
+    ),
+    (
+        "a second NULL is rejected",
+        Record::Algorithm(ED, Some(TAG_NULL)),
+        Ber,
+        "300906032B657005000500",
+        Rejected(Extra),
+    ),
+    (
+        "an Ed25519 key round-trips",
+        Record::Key(256, false, 256),
+        Der,
+        ED25519,
+        Same,
+    ),
+    (
+        "an RSA key round-trips",
+        Record::Key(64, true, 64),
+        Der,
+        RSA,
+        Same,
+    ),
+    (
+        "257 bits are rejected",
+        Record::Key(256, false, 257),
+        Der,
+        ED25519,
+        Rejected(Invalid),
+    ),
+];
 
 #[test]
 fn algorithms_and_keys_round_trip_or_are_rejected(rt: HostRuntime) {
-    finds_none(&rt, first_failing(&are_algorithms(rt.alloc())));
-    finds_none(&rt, first_failing(&others_are_rejected(rt.alloc())));
-    finds_none(&rt, first_failing(&are_keys(rt.alloc())));
+    finds_none(&rt, first_other(rt.alloc(), &ROWS));
 }

@@ -1,12 +1,13 @@
-//! Lists, tuples, raw elements and borrowed values, each impl once at types of its own.
+//! Lists, tuples and borrowed values, each impl once at types of its own.
 
-use crate::checks::{finds_none, first_failing, gives, is_rejected, says};
+use crate::checks::{finds_none, first_failing, gives, is_rejected};
+use crate::pieces::Outcome::{Rejected, Written};
+use crate::pieces::{Piece, Row, first_other, wanted};
 use std::alloc::{AllocError, Global};
-use yasna::models::TaggedDerValue;
-use yasna::{
-    ASN1ErrorKind, BERMode, DERCanonical, PCBit, decode_ber, decode_der, encode_der, tags,
-};
-use yasna_examples::normalized;
+use yasna::ASN1ErrorKind::{Eof, Invalid};
+use yasna::BERMode::Ber;
+use yasna::{ASN1ErrorKind, ASN1Result, BERMode, DERCanonical, decode_ber, encode_der};
+use yasna_examples::{normalized, reencoded};
 
 // The INTEGERs of a SEQUENCE.
 #[derive(Clone, Copy)]
@@ -17,25 +18,17 @@ enum Numbers {
     Tens,
 }
 
-fn number_at(numbers: Numbers, place: u8) -> u8 {
-    match numbers {
-        Numbers::Rising => place,
-        Numbers::Tens => 10,
-    }
-}
-
 // A SEQUENCE of so many INTEGERs.
 fn sequence(alloc: Global, numbers: Numbers, count: u8) -> Result<Vec<u8>, AllocError> {
     let mut bytes = Vec::from_slice(alloc, &[48, count.saturating_mul(3)])?;
     for place in 0..count {
-        bytes.extend_from_slice(&[2, 1, number_at(numbers, place)])?;
+        let number = match numbers {
+            Numbers::Rising => place,
+            Numbers::Tens => 10,
+        };
+        bytes.extend_from_slice(&[2, 1, number])?;
     }
     Ok(bytes)
-}
-
-// Whether the bytes are a value of this type in BER and DER, and its form.
-fn is_form<T: DERCanonical>(alloc: Global, bytes: &[u8]) -> bool {
-    gives(normalized::<T>(alloc, bytes), bytes) && decode_der::<T>(alloc, bytes).is_ok()
 }
 
 // Whether a SEQUENCE of so many INTEGERs is a value of this type, and its form, and nothing may follow it.
@@ -43,7 +36,8 @@ fn is_form_of<T: DERCanonical>(alloc: Global, numbers: Numbers, count: u8) -> bo
     let Ok(mut bytes) = sequence(alloc, numbers, count) else {
         return false;
     };
-    let is_form = is_form::<T>(alloc, &bytes);
+    let is_form = gives(normalized::<T>(alloc, &bytes), &bytes)
+        && gives(reencoded::<T>(alloc, &bytes), &bytes);
     match bytes.extend_from_slice(&[2, 1, count.saturating_add(1)]) {
         Ok(()) => is_form && is_rejected::<T>(alloc, BERMode::Ber, &bytes, ASN1ErrorKind::Extra),
         Err(_) => false,
@@ -109,22 +103,80 @@ fn tuples_of_one_to_twelve_round_trip(rt: HostRuntime) {
     finds_none(&rt, first_failing(&are_tuples_to_twelve(rt.alloc())));
 }
 
-const INVALID: ASN1ErrorKind = ASN1ErrorKind::Invalid;
-
-fn rejects_numbers(alloc: Global, bytes: &[u8], kind: ASN1ErrorKind) -> bool {
-    is_rejected::<Vec<i64>>(alloc, BERMode::Ber, bytes, kind)
+// A type, and what is to be read of it.
+#[derive(Clone, Copy)]
+enum List {
+    Numbers(&'static [i64]),
+    Pair,
+    Pairs,
 }
 
-const NESTED: [u8; 16] = [48, 128, 48, 128, 4, 1, 9, 48, 3, 1, 1, 7, 0, 0, 0, 0];
-
-const NESTED_FORM: [u8; 12] = [48, 10, 48, 8, 4, 1, 9, 48, 3, 1, 1, 255];
-
-const FORM: [u8; 10] = [48, 128, 2, 1, 10, 2, 1, 11, 0, 0];
-
-const UNREAD: [u8; 13] = [48, 128, 2, 1, 1, 2, 1, 2, 2, 1, 3, 0, 0];
+impl Piece for List {
+    fn rewritten(self, alloc: Global, _mode: BERMode, bytes: &[u8]) -> ASN1Result<Vec<u8>> {
+        match self {
+            List::Numbers(numbers) => {
+                let read = decode_ber::<Vec<i64>>(alloc, bytes)?;
+                wanted(read.as_slice() == numbers)?;
+                normalized::<Vec<i64>>(alloc, bytes)
+            }
+            List::Pair => normalized::<(i64, i64)>(alloc, bytes),
+            List::Pairs => normalized::<Vec<(Vec<u8>, Vec<bool>)>>(alloc, bytes),
+        }
+    }
+}
 
 // A list goes on to the two zeros, a broken item is no end of it, and a part that isn't read is too much.
-fn are_lists(alloc: Global) -> [(&'static str, bool); 8] {
+static LISTS: [Row<List>; 6] = [
+    (
+        "a list within a list",
+        List::Pairs,
+        Ber,
+        "30803080040109300301010700000000",
+        Written("300A300804010930030101FF"),
+    ),
+    (
+        "a NULL that is no number",
+        List::Numbers(&[10]),
+        Ber,
+        "308002010A0500000000",
+        Rejected(Invalid),
+    ),
+    (
+        "a list goes on to the two zeros",
+        List::Numbers(&[10, 11]),
+        Ber,
+        "308002010A02010B0000",
+        Written("300602010A02010B"),
+    ),
+    (
+        "a broken item",
+        List::Numbers(&[10]),
+        Ber,
+        "300502010A0200",
+        Rejected(Invalid),
+    ),
+    (
+        "a list without its end",
+        List::Numbers(&[10]),
+        Ber,
+        "308002010A",
+        Rejected(Eof),
+    ),
+    (
+        "an unread part",
+        List::Pair,
+        Ber,
+        "30800201010201020201030000",
+        Rejected(Invalid),
+    ),
+];
+
+fn are_written(alloc: Global) -> [(&'static str, bool); 7] {
+    let ten: &i64 = &10;
+    let flags: &[bool] = &[true, false];
+    let numbers: &[i64] = &[10, -129];
+    let octets: &[u8] = b"Hello!".as_slice();
+    let text = "Hello!";
     [
         (
             "an empty list",
@@ -134,82 +186,6 @@ fn are_lists(alloc: Global) -> [(&'static str, bool); 8] {
             "a list of five",
             is_form_of::<Vec<u32>>(alloc, Numbers::Rising, 5),
         ),
-        (
-            "a nested list",
-            gives(
-                normalized::<Vec<(Vec<u8>, Vec<bool>)>>(alloc, &NESTED),
-                &NESTED_FORM,
-            ),
-        ),
-        (
-            "a NULL is no number",
-            rejects_numbers(alloc, &[48, 128, 2, 1, 10, 5, 0, 0, 0], INVALID),
-        ),
-        (
-            "a list goes on to the two zeros",
-            gives(decode_ber::<Vec<i64>>(alloc, &FORM), &[10, 11]),
-        ),
-        (
-            "a broken item is rejected",
-            rejects_numbers(alloc, &[48, 5, 2, 1, 10, 2, 0], INVALID),
-        ),
-        (
-            "a list without its end is rejected",
-            rejects_numbers(alloc, &[48, 128, 2, 1, 10], ASN1ErrorKind::Eof),
-        ),
-        (
-            "an unread part is rejected",
-            is_rejected::<(i64, i64)>(alloc, BERMode::Ber, &UNREAD, INVALID),
-        ),
-    ]
-}
-
-fn is_element(element: &TaggedDerValue) -> bool {
-    element.tag() == tags::TAG_UTF8STRING
-        && element.pcbit() == PCBit::Primitive
-        && element.value() == [65].as_slice()
-}
-
-fn are_two(list: &Vec<TaggedDerValue>) -> bool {
-    list.len() == 2
-}
-
-fn is_equal_to_its_copy(value: &TaggedDerValue) -> bool {
-    match value.clone() {
-        Ok(copy) => copy == *value,
-        Err(_) => false,
-    }
-}
-
-fn are_elements(alloc: Global) -> [(&'static str, bool); 3] {
-    [
-        (
-            "an element is read",
-            says(alloc, BERMode::Der, &[12, 1, 65], is_element),
-        ),
-        (
-            "two elements are read",
-            says(alloc, BERMode::Ber, &[48, 5, 5, 0, 2, 1, 7], are_two),
-        ),
-        (
-            "an element is its copy",
-            says(
-                alloc,
-                BERMode::Der,
-                &[4, 6, 72, 101, 108, 108, 111, 33],
-                is_equal_to_its_copy,
-            ),
-        ),
-    ]
-}
-
-fn are_written(alloc: Global) -> [(&'static str, bool); 5] {
-    let ten: &i64 = &10;
-    let flags: &[bool] = &[true, false];
-    let numbers: &[i64] = &[10, -129];
-    let octets: &[u8] = b"Hello!".as_slice();
-    let text = "Hello!";
-    [
         (
             "a borrowed number",
             gives(encode_der(alloc, &ten), &[2, 1, 10]),
@@ -242,10 +218,9 @@ fn are_written(alloc: Global) -> [(&'static str, bool); 5] {
     ]
 }
 
-// Of each list and element, and of borrowed values.
+// Of each list, and of borrowed values.
 #[test]
-fn lists_elements_and_borrowed_values_round_trip(rt: HostRuntime) {
-    finds_none(&rt, first_failing(&are_lists(rt.alloc())));
-    finds_none(&rt, first_failing(&are_elements(rt.alloc())));
+fn lists_and_borrowed_values_round_trip(rt: HostRuntime) {
+    finds_none(&rt, first_other(rt.alloc(), &LISTS));
     finds_none(&rt, first_failing(&are_written(rt.alloc())));
 }

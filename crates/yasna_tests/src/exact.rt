@@ -1,11 +1,17 @@
 //! Types that keep an element of any type as it came: DER reads them from one form alone.
 ghost use Rattle.std.specs.Prelude.{◌≡◌, ℕ, IfOk};
 
-use crate::checks::{finds_none, first_failing, gives, rejects};
+use crate::checks::finds_none;
+use crate::pieces::Outcome::{Rejected, Same};
+use crate::pieces::{Piece, Row, bytes_if, first_other, wanted};
 use std::alloc::Global;
+use yasna::ASN1ErrorKind::Invalid;
+use yasna::BERMode::{Ber, Cer, Der};
 use yasna::models::TaggedDerValue;
+use yasna::tags::{TAG_INTEGER, TAG_OCTETSTRING, TAG_UTF8STRING};
 use yasna::{
-    ASN1ErrorKind, ASN1Result, BERMode, DERExact, decode_der, encode_cer, encode_der, one_der_form,
+    ASN1Result, BERMode, DERExact, PCBit, Tag, TagClass, decode_ber, decode_der, encode_cer,
+    encode_der, one_der_form,
 };
 
 // What DER read is written again as the same bytes.
@@ -17,47 +23,100 @@ fn written_again<T: DERExact>(alloc: Global, bytes: &[u8]) -> ASN1Result<Vec<u8>
     encode_der(alloc, &value)
 }
 
-// The form of the element in these bytes.
-fn form_of(alloc: Global, bytes: &[u8], mode: BERMode) -> ASN1Result<Vec<u8>> {
-    let element: TaggedDerValue = decode_der(alloc, bytes)?;
+// What is read, and what is to be read.
+#[derive(Clone, Copy)]
+enum Kept {
+    Elements,
+    /// So many elements, which aren't written.
+    Count(usize),
+    /// An element of this tag and these contents, primitive or constructed.
+    Element(Tag, PCBit, &'static [u8]),
+}
+
+// It is written in CER for CER, and else in DER. Its copy is equal to it.
+fn element_rewritten(
+    alloc: Global,
+    mode: BERMode,
+    bytes: &[u8],
+    element: (Tag, PCBit, &[u8]),
+) -> ASN1Result<Vec<u8>> {
+    let read = decode_der::<TaggedDerValue>(alloc, bytes)?;
+    wanted(read.tag() == element.0 && read.pcbit() == element.1 && read.value() == element.2)?;
+    let copy = read.clone()?;
+    wanted(copy == read)?;
     match mode {
-        BERMode::Cer => encode_cer(alloc, &element),
-        _ => encode_der(alloc, &element),
+        BERMode::Cer => encode_cer(alloc, &read),
+        _ => encode_der(alloc, &read),
     }
 }
 
-fn are_written_as_they_came(alloc: Global) -> [(&'static str, bool); 4] {
-    let elements = [48, 9, 2, 1, 7, 160, 4, 12, 2, 195, 169];
-    let other = [48, 4, 2, 129, 1, 7];
-    let tagged = [160, 3, 2, 1, 7];
-    let number = [2, 1, 7];
-    [
-        (
-            "elements round-trip",
-            gives(
-                written_again::<Vec<TaggedDerValue>>(alloc, &elements),
-                &elements,
-            ),
-        ),
-        (
-            "a long length is rejected",
-            rejects(
-                written_again::<Vec<TaggedDerValue>>(alloc, &other),
-                ASN1ErrorKind::Invalid,
-            ),
-        ),
-        (
-            "a tagged element round-trips",
-            gives(form_of(alloc, &tagged, BERMode::Der), &tagged),
-        ),
-        (
-            "a number comes back in CER",
-            gives(form_of(alloc, &number, BERMode::Cer), &number),
-        ),
-    ]
+impl Piece for Kept {
+    fn rewritten(self, alloc: Global, mode: BERMode, bytes: &[u8]) -> ASN1Result<Vec<u8>> {
+        match self {
+            Kept::Elements => written_again::<Vec<TaggedDerValue>>(alloc, bytes),
+            Kept::Count(count) => {
+                let elements = decode_ber::<Vec<TaggedDerValue>>(alloc, bytes)?;
+                bytes_if(alloc, elements.len() == count, bytes)
+            }
+            Kept::Element(tag, pcbit, value) => {
+                element_rewritten(alloc, mode, bytes, (tag, pcbit, value))
+            }
+        }
+    }
 }
+
+const CONTEXT_0: Tag = Tag {
+    tag_class: TagClass::ContextSpecific,
+    tag_number: 0,
+};
+
+static ROWS: [Row<Kept>; 7] = [
+    (
+        "elements",
+        Kept::Elements,
+        Der,
+        "3009020107A0040C02C3A9",
+        Same,
+    ),
+    (
+        "a long length is rejected",
+        Kept::Elements,
+        Der,
+        "300402810107",
+        Rejected(Invalid),
+    ),
+    ("two elements", Kept::Count(2), Ber, "30050500020107", Same),
+    (
+        "a tagged element",
+        Kept::Element(CONTEXT_0, PCBit::Constructed, &[2, 1, 7]),
+        Der,
+        "A003020107",
+        Same,
+    ),
+    (
+        "a number in CER",
+        Kept::Element(TAG_INTEGER, PCBit::Primitive, &[7]),
+        Cer,
+        "020107",
+        Same,
+    ),
+    (
+        "a text",
+        Kept::Element(TAG_UTF8STRING, PCBit::Primitive, &[65]),
+        Der,
+        "0C0141",
+        Same,
+    ),
+    (
+        "octets",
+        Kept::Element(TAG_OCTETSTRING, PCBit::Primitive, b"Hello!"),
+        Der,
+        "040648656C6C6F21",
+        Same,
+    ),
+];
 
 #[test]
 fn elements_are_written_as_they_came(rt: HostRuntime) {
-    finds_none(&rt, first_failing(&are_written_as_they_came(rt.alloc())));
+    finds_none(&rt, first_other(rt.alloc(), &ROWS));
 }

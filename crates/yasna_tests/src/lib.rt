@@ -10,13 +10,14 @@
 //! | `checks` | none: it holds what many of them check, and how they fail |
 //! | `conversion` | elements in BER turned into DER |
 //! | `engine` | the program `yasna_tool` over memory, and over ends that fail |
-//! | `composed` | lists, tuples, raw elements and borrowed values |
+//! | `composed` | lists, tuples and borrowed values |
 //! | `exact` | types that keep an element of any type as it came |
 //! | `guide` | the pieces of code of README.md and docs/GUIDE.md |
 //! | `known` | calls whose closures are known |
 //! | `lines` | the lines that tell of the elements of any input |
 //! | `located` | where a parse failed |
 //! | `oid` | object identifiers |
+//! | `pieces` | none: it holds how rows of bytes are read and written again |
 //! | `records`, `scrypt`, `third_party` | types of one's own |
 //! | `sets` | sets, read and written by callbacks |
 //! | `set_writing` | the order of a SET's parts, and broken ones |
@@ -51,6 +52,8 @@ mod lines;
 mod located;
 #[cfg(test)]
 mod oid;
+#[cfg(test)]
+mod pieces;
 #[cfg(test)]
 mod public_key;
 #[cfg(test)]

@@ -1,99 +1,22 @@
-//! Types of three, five and seven parts, each from its form and from another encoding.
+//! Types of three, five and seven parts, each from its DER encoding and from another one.
 
-use crate::checks::{finds_none, first_failing, gives, is_rejected, says};
+use crate::checks::{finds_none, says};
+use crate::pieces::Outcome::{Rejected, Same, Written};
+use crate::pieces::{Piece, Row, first_other, wanted};
 use std::alloc::Global;
-use yasna::{ASN1ErrorKind, BERMode, DERCanonical};
-use yasna_examples::{DirectoryEntry, DomainParameters, RequestHeader, normalized};
+use yasna::ASN1ErrorKind::{Eof, Extra, Invalid};
+use yasna::BERMode::{Ber, Der};
+use yasna::{ASN1Result, BERMode, decode_ber_general};
+use yasna_examples::{DirectoryEntry, DomainParameters, RequestHeader, normalized, reencoded};
 
-// Whether the form is read and written again, and so is the other encoding, which DER rejects.
-fn is_form_of<T: DERCanonical>(alloc: Global, form: &[u8], other: &[u8]) -> bool {
-    gives(normalized::<T>(alloc, form), form)
-        && gives(normalized::<T>(alloc, other), form)
-        && is_rejected::<T>(alloc, BERMode::Der, other, ASN1ErrorKind::Invalid)
+// A type, of which one value is to be read.
+#[derive(Clone, Copy)]
+enum Record {
+    /// The prime is the greatest below 2 ^ 64.
+    Parameters,
+    Header,
+    Entry,
 }
-
-// Whether these lack the last part, and these have another behind it.
-fn has_all_parts<T: DERCanonical>(alloc: Global, short: &[u8], long: &[u8]) -> bool {
-    is_rejected::<T>(alloc, BERMode::Der, short, ASN1ErrorKind::Eof)
-        && is_rejected::<T>(alloc, BERMode::Der, long, ASN1ErrorKind::Extra)
-}
-
-// Whether the prime is the greatest below 2 ^ 64.
-fn are_parameters(read: &DomainParameters) -> bool {
-    read.prime == 18_446_744_073_709_551_557 && read.subprime == 11 && read.base == 4
-}
-
-fn are_domain_parameters(alloc: Global) -> [(&'static str, bool); 3] {
-    let form = [
-        48, 17, 2, 9, 0, 255, 255, 255, 255, 255, 255, 255, 197, 2, 1, 11, 2, 1, 4,
-    ];
-    let other = [
-        48, 128, 2, 9, 0, 255, 255, 255, 255, 255, 255, 255, 197, 2, 1, 11, 2, 1, 4, 0, 0,
-    ];
-    let short = [48, 6, 2, 1, 23, 2, 1, 11];
-    let long = [48, 12, 2, 1, 23, 2, 1, 11, 2, 1, 4, 2, 1, 4];
-    [
-        (
-            "domain parameters are read",
-            says(alloc, BERMode::Der, &form, are_parameters),
-        ),
-        (
-            "domain parameters round-trip",
-            is_form_of::<DomainParameters>(alloc, &form, &other),
-        ),
-        (
-            "domain parameters have all parts",
-            has_all_parts::<DomainParameters>(alloc, &short, &long),
-        ),
-    ]
-}
-
-fn is_header(read: &RequestHeader) -> bool {
-    read.version == 0
-        && read.community.as_slice() == b"public".as_slice()
-        && read.request == 641
-        && read.status == 2
-        && read.index == 7
-}
-
-fn are_headers(alloc: Global) -> [(&'static str, bool); 3] {
-    let form = [
-        48, 21, 2, 1, 0, 4, 6, 112, 117, 98, 108, 105, 99, 2, 2, 2, 129, 2, 1, 2, 2, 1, 7,
-    ];
-    // the community comes in two segments
-    let other = [
-        48, 128, 2, 1, 0, 36, 128, 4, 2, 112, 117, 4, 4, 98, 108, 105, 99, 0, 0, 2, 2, 2, 129, 2,
-        1, 2, 2, 129, 1, 7, 0, 0,
-    ];
-    let short = [48, 11, 2, 1, 0, 4, 0, 2, 1, 1, 2, 1, 0];
-    let long = [48, 16, 2, 1, 0, 4, 0, 2, 1, 1, 2, 1, 0, 2, 1, 0, 5, 0];
-    [
-        (
-            "a header is read",
-            says(alloc, BERMode::Der, &form, is_header),
-        ),
-        (
-            "headers round-trip",
-            is_form_of::<RequestHeader>(alloc, &form, &other),
-        ),
-        (
-            "headers have all parts",
-            has_all_parts::<RequestHeader>(alloc, &short, &long),
-        ),
-    ]
-}
-
-const ENTRY: [u8; 50] = [
-    48, 48, 12, 2, 195, 169, 6, 3, 85, 6, 6, 23, 13, 56, 50, 48, 49, 48, 50, 49, 50, 48, 48, 48,
-    48, 90, 48, 7, 2, 1, 1, 2, 2, 255, 127, 4, 2, 72, 101, 48, 6, 2, 1, 10, 1, 1, 255, 1, 1, 255,
-];
-
-// The same with indefinite lengths, a time in another zone, and another byte for true.
-const OTHER_ENTRY: [u8; 61] = [
-    48, 128, 12, 129, 2, 195, 169, 6, 3, 85, 6, 6, 23, 17, 56, 50, 48, 49, 48, 50, 48, 55, 48, 48,
-    48, 48, 45, 48, 53, 48, 48, 48, 128, 2, 1, 1, 2, 2, 255, 127, 0, 0, 4, 2, 72, 101, 48, 128, 2,
-    1, 10, 1, 1, 1, 0, 0, 1, 1, 9, 0, 0,
-];
 
 // Whether it says this of a name.
 fn is_named(read: &DirectoryEntry) -> bool {
@@ -102,36 +25,156 @@ fn is_named(read: &DirectoryEntry) -> bool {
         && read.made.text().as_slice() == b"820102120000Z".as_slice()
 }
 
-// Whether it says this of the rest.
-fn is_described(read: &DirectoryEntry) -> bool {
-    read.versions.as_slice() == [1, -129].as_slice()
+fn is_entry(read: &DirectoryEntry) -> bool {
+    is_named(read)
+        && read.versions.as_slice() == [1, -129].as_slice()
         && read.picture.as_slice() == [72, 101].as_slice()
         && read.measurement.number == 10
         && read.measurement.valid
         && read.in_use
 }
 
-fn is_entry(read: &DirectoryEntry) -> bool {
-    is_named(read) && is_described(read)
+fn header_normalized(alloc: Global, mode: BERMode, bytes: &[u8]) -> ASN1Result<Vec<u8>> {
+    let RequestHeader {
+        version,
+        community,
+        request,
+        status,
+        index,
+    } = decode_ber_general::<RequestHeader>(alloc, bytes, mode)?;
+    wanted(version == 0 && community.as_slice() == b"public".as_slice())?;
+    wanted(request == 641 && status == 2 && index == 7)?;
+    normalized::<RequestHeader>(alloc, bytes)
 }
 
-fn are_entries(alloc: Global) -> [(&'static str, bool); 2] {
-    [
-        (
-            "an entry is read",
-            says(alloc, BERMode::Der, &ENTRY, is_entry),
-        ),
-        (
-            "entries round-trip",
-            is_form_of::<DirectoryEntry>(alloc, &ENTRY, &OTHER_ENTRY),
-        ),
-    ]
+impl Piece for Record {
+    fn rewritten(self, alloc: Global, mode: BERMode, bytes: &[u8]) -> ASN1Result<Vec<u8>> {
+        match self {
+            Record::Parameters => {
+                let DomainParameters {
+                    prime,
+                    subprime,
+                    base,
+                } = decode_ber_general::<DomainParameters>(alloc, bytes, mode)?;
+                wanted(prime == 18_446_744_073_709_551_557 && subprime == 11 && base == 4)?;
+                normalized::<DomainParameters>(alloc, bytes)
+            }
+            Record::Header => header_normalized(alloc, mode, bytes),
+            Record::Entry => {
+                let answer = match mode {
+                    BERMode::Der => reencoded::<DirectoryEntry>(alloc, bytes),
+                    _ => normalized::<DirectoryEntry>(alloc, bytes),
+                }?;
+                wanted(says(alloc, mode, bytes, is_entry))?;
+                Ok(answer)
+            }
+        }
+    }
 }
+
+const PARAMETERS: &str = "3011020900FFFFFFFFFFFFFFC502010B020104";
+
+const INDEFINITE: &str = "3080020900FFFFFFFFFFFFFFC502010B0201040000";
+
+const HEADER: &str = "301502010004067075626C696302020281020102020107";
+
+// The community comes in two segments.
+const IN_PIECES: &str = "30800201002480040270750404626C6963000002020281020102028101070000";
+
+const ENTRY: &str =
+    "30300C02C3A90603550606170D3832303130323132303030305A30070201010202FF7F04024865300602010A0101FF0101FF";
+
+// The same with indefinite lengths, a time in another zone, and another byte for true.
+const OTHER_ENTRY: &str =
+    "30800C8102C3A9060355060617113832303130323037303030302D3035303030800201010202FF7F000004024865308002010A01010100000101090000";
+
+static ROWS: [Row<Record>; 16] = [
+    ("parameters", Record::Parameters, Der, PARAMETERS, Same),
+    (
+        "parameters in BER",
+        Record::Parameters,
+        Ber,
+        PARAMETERS,
+        Same,
+    ),
+    (
+        "BER takes parameters of indefinite length",
+        Record::Parameters,
+        Ber,
+        INDEFINITE,
+        Written(PARAMETERS),
+    ),
+    (
+        "DER rejects parameters of indefinite length",
+        Record::Parameters,
+        Der,
+        INDEFINITE,
+        Rejected(Invalid),
+    ),
+    (
+        "parameters without the last part",
+        Record::Parameters,
+        Der,
+        "300602011702010B",
+        Rejected(Eof),
+    ),
+    (
+        "parameters with a fourth part",
+        Record::Parameters,
+        Der,
+        "300C02011702010B020104020104",
+        Rejected(Extra),
+    ),
+    ("a header", Record::Header, Der, HEADER, Same),
+    ("a header in BER", Record::Header, Ber, HEADER, Same),
+    (
+        "BER takes a header in pieces",
+        Record::Header,
+        Ber,
+        IN_PIECES,
+        Written(HEADER),
+    ),
+    (
+        "DER rejects a header in pieces",
+        Record::Header,
+        Der,
+        IN_PIECES,
+        Rejected(Invalid),
+    ),
+    (
+        "a header without the last part",
+        Record::Header,
+        Der,
+        "300B0201000400020101020100",
+        Rejected(Eof),
+    ),
+    (
+        "a header with a sixth part",
+        Record::Header,
+        Der,
+        "301002010004000201010201000201000500",
+        Rejected(Extra),
+    ),
+    ("an entry", Record::Entry, Der, ENTRY, Same),
+    ("an entry in BER", Record::Entry, Ber, ENTRY, Same),
+    (
+        "BER takes an entry in another encoding",
+        Record::Entry,
+        Ber,
+        OTHER_ENTRY,
+        Written(ENTRY),
+    ),
+    (
+        "DER rejects an entry in another encoding",
+        Record::Entry,
+        Der,
+        OTHER_ENTRY,
+        Rejected(Invalid),
+    ),
+];
 
 // Domain parameters, heads of requests and entries of directories.
 #[test]
 fn records_round_trip(rt: HostRuntime) {
-    finds_none(&rt, first_failing(&are_domain_parameters(rt.alloc())));
-    finds_none(&rt, first_failing(&are_headers(rt.alloc())));
-    finds_none(&rt, first_failing(&are_entries(rt.alloc())));
+    finds_none(&rt, first_other(rt.alloc(), &ROWS));
 }

@@ -1,21 +1,31 @@
 //! Types that are read and written as a tuple or step by step, each on bytes.
 
-use crate::checks::{finds_none, first_failing, gives, is_rejected, says};
+use crate::checks::finds_none;
+use crate::pieces::Outcome::{Rejected, Same, Written};
+use crate::pieces::{Piece, Row, first_other, wanted};
 use std::alloc::Global;
+use yasna::ASN1ErrorKind::{Eof, Invalid};
+use yasna::BERMode::{Ber, Cer, Der};
 use yasna::{
-    ASN1ErrorKind, ASN1Result, BERMode, EncodableParts, construct_der, decode_ber, encode_cer,
-    encode_der,
+    ASN1Result, BERMode, EncodableParts, construct_der, decode_ber_general, encode_cer, encode_der,
 };
 use yasna_examples::{
     Measurement, Report, Sample, Serial, Trail, Version, encoded_report, normalized_report,
+    reencoded,
 };
 
-// Whether a number and a flag are read, and written in this form.
-fn is_measurement(alloc: Global, bytes: &[u8], form: &[u8]) -> bool {
-    match decode_ber::<Measurement>(alloc, bytes) {
-        Ok(read) => read.number == 10 && read.valid && gives(encode_der(alloc, &read), form),
-        Err(_) => false,
-    }
+// A type, and what is to be read of it where that isn't one value.
+#[derive(Clone, Copy)]
+enum Record {
+    Measurement,
+    Version,
+    Sample,
+    /// With these bytes.
+    Report(&'static [u8]),
+    Trail,
+    NoSerial,
+    /// In a SEQUENCE, and TRUE behind it. It isn't read.
+    Serial(Option<u64>),
 }
 
 const VERSION: Version = Version {
@@ -23,159 +33,154 @@ const VERSION: Version = Version {
     flag: false,
 };
 
-const VERSION_FORM: [u8; 9] = [48, 7, 2, 2, 1, 44, 1, 1, 0];
-
-fn is_version(read: &Version) -> bool {
-    read.major == 300 && !read.flag
-}
-
-fn are_versions(alloc: Global) -> [(&'static str, bool); 5] {
-    let cer_form = [48, 128, 2, 2, 1, 44, 1, 1, 0, 0, 0];
-    [
-        (
-            "a version is written",
-            gives(encode_der(alloc, &VERSION), &VERSION_FORM),
-        ),
-        (
-            "a version is read",
-            says(alloc, BERMode::Der, &VERSION_FORM, is_version),
-        ),
-        (
-            "a version is written in CER",
-            gives(encode_cer(alloc, &VERSION), &cer_form),
-        ),
-        (
-            "a version is read in CER",
-            says(alloc, BERMode::Cer, &cer_form, is_version),
-        ),
-        (
-            "CER rejects a length",
-            is_rejected::<Version>(alloc, BERMode::Cer, &VERSION_FORM, ASN1ErrorKind::Invalid),
-        ),
-    ]
-}
-
 const SAMPLE: Sample = Sample {
     count: 300,
     last: true,
     shift: -129,
 };
 
-fn is_sample(read: &Sample) -> bool {
-    read.count == 300 && read.last && read.shift == -129
+fn version_rewritten(alloc: Global, mode: BERMode, bytes: &[u8]) -> ASN1Result<Vec<u8>> {
+    let Version { major, flag } = decode_ber_general::<Version>(alloc, bytes, mode)?;
+    wanted(major == 300 && !flag)?;
+    match mode {
+        BERMode::Cer => encode_cer(alloc, &VERSION),
+        _ => encode_der(alloc, &VERSION),
+    }
 }
 
-fn are_samples(alloc: Global) -> [(&'static str, bool); 4] {
-    let form = [48, 11, 2, 2, 1, 44, 1, 1, 255, 2, 2, 255, 127];
-    let measurement = [48, 6, 2, 1, 10, 1, 1, 255];
-    let indefinite = [48, 128, 2, 1, 10, 1, 1, 1, 0, 0];
-    [
-        (
-            "a sample is written",
-            gives(encode_der(alloc, &SAMPLE), &form),
-        ),
-        (
-            "a sample is read",
-            says(alloc, BERMode::Der, &form, is_sample),
-        ),
-        (
-            "a sample without a part is rejected",
-            is_rejected::<Sample>(alloc, BERMode::Der, &measurement, ASN1ErrorKind::Eof),
-        ),
-        (
-            "a measurement is normalized",
-            is_measurement(alloc, &indefinite, &measurement),
-        ),
-    ]
+// DER's is written of its parts, and that of another encoding as it was read.
+fn report_rewritten(
+    alloc: Global,
+    mode: BERMode,
+    bytes: &[u8],
+    wanted_raw: &[u8],
+) -> ASN1Result<Vec<u8>> {
+    let Report { name, raw, number } = decode_ber_general::<Report>(alloc, bytes, mode)?;
+    wanted(name.as_str() == "é" && raw.as_slice() == wanted_raw && number == -129)?;
+    match mode {
+        BERMode::Der => encoded_report(alloc, name, raw, number),
+        _ => normalized_report(alloc, bytes),
+    }
 }
 
-fn form_of_report(alloc: Global) -> ASN1Result<Vec<u8>> {
-    let name = "é".to_string(alloc)?;
-    let raw = vec![in alloc; 72, 101]?;
-    encoded_report(alloc, name, raw, -129)
-}
-
-fn is_report(read: &Report) -> bool {
-    read.name.as_str() == "é" && read.raw.as_slice() == [72, 101].as_slice() && read.number == -129
-}
-
-fn are_reports(alloc: Global) -> [(&'static str, bool); 4] {
-    let form = [48, 12, 12, 2, 195, 169, 4, 2, 72, 101, 2, 2, 255, 127];
-    let pieces = [48, 14, 44, 6, 4, 1, 195, 4, 1, 169, 4, 0, 2, 2, 255, 127];
-    let whole = [48, 10, 12, 2, 195, 169, 4, 0, 2, 2, 255, 127];
-    [
-        ("a report is written", gives(form_of_report(alloc), &form)),
-        (
-            "a report is read",
-            says(alloc, BERMode::Der, &form, is_report),
-        ),
-        (
-            "a report in pieces is normalized",
-            gives(normalized_report(alloc, &pieces), &whole),
-        ),
-        (
-            "DER rejects pieces",
-            is_rejected::<Report>(alloc, BERMode::Der, &pieces, ASN1ErrorKind::Invalid),
-        ),
-    ]
-}
-
-fn form_of_trail(alloc: Global) -> ASN1Result<Vec<u8>> {
-    let steps = vec![in alloc; 300, 2, -1]?;
-    encode_der(alloc, &Trail { steps })
-}
-
-fn is_trail(read: &Trail) -> bool {
-    read.steps.as_slice() == [300, 2, -1].as_slice()
-}
-
-// The form of a SEQUENCE of a serial number that is left out, and TRUE.
-fn form_of_left_out(alloc: Global) -> ASN1Result<Vec<u8>> {
-    let left_out = Serial { number: None };
+fn serial_written(alloc: Global, number: Option<u64>) -> ASN1Result<Vec<u8>> {
+    let serial = Serial { number };
     construct_der(alloc, |writer| {
-        writer.write_sequence(|parts| (&left_out, (true, ())).write_parts(parts))
+        writer.write_sequence(|parts| (&serial, (true, ())).write_parts(parts))
     })
 }
 
-fn form_of_given(alloc: Global) -> ASN1Result<Vec<u8>> {
-    let given = Serial { number: Some(10) };
-    construct_der(alloc, |writer| {
-        writer.write_sequence(|parts| (&given, (true, ())).write_parts(parts))
-    })
+impl Piece for Record {
+    fn rewritten(self, alloc: Global, mode: BERMode, bytes: &[u8]) -> ASN1Result<Vec<u8>> {
+        match self {
+            Record::Measurement => {
+                let read = decode_ber_general::<Measurement>(alloc, bytes, mode)?;
+                wanted(read.number == 10 && read.valid)?;
+                encode_der(alloc, &read)
+            }
+            Record::Version => version_rewritten(alloc, mode, bytes),
+            Record::Sample => {
+                let Sample { count, last, shift } = decode_ber_general::<Sample>(
+                    alloc, bytes, mode,
+                )?;
+                wanted(count == 300 && last && shift == -129)?;
+                encode_der(alloc, &SAMPLE)
+            }
+            Record::Report(raw) => report_rewritten(alloc, mode, bytes, raw),
+            Record::Trail => {
+                let Trail { steps } = decode_ber_general::<Trail>(alloc, bytes, mode)?;
+                wanted(steps.as_slice() == [300, 2, -1].as_slice())?;
+                reencoded::<Trail>(alloc, bytes)
+            }
+            Record::NoSerial => encode_der(alloc, &Serial { number: None }),
+            Record::Serial(number) => serial_written(alloc, number),
+        }
+    }
 }
 
-fn are_encoded(alloc: Global) -> [(&'static str, bool); 5] {
-    let trail = [48, 10, 2, 1, 255, 2, 1, 2, 2, 2, 1, 44];
-    let left_out = Serial { number: None };
-    [
-        ("a trail is written", gives(form_of_trail(alloc), &trail)),
-        (
-            "a trail is read",
-            says(alloc, BERMode::Der, &trail, is_trail),
-        ),
-        (
-            "no serial number is written",
-            gives(encode_der(alloc, &left_out), &[]),
-        ),
-        (
-            "a part that is left out",
-            gives(form_of_left_out(alloc), &[48, 3, 1, 1, 255]),
-        ),
-        (
-            "a part that is given",
-            gives(form_of_given(alloc), &[48, 6, 2, 1, 10, 1, 1, 255]),
-        ),
-    ]
-}
+const VERSION_BYTES: &str = "30070202012C010100";
+
+const SAMPLE_BYTES: &str = "300B0202012C0101FF0202FF7F";
+
+const IN_PIECES: &str = "300E2C060401C30401A904000202FF7F";
+
+static ROWS: [Row<Record>; 13] = [
+    ("a version", Record::Version, Der, VERSION_BYTES, Same),
+    (
+        "a version in CER",
+        Record::Version,
+        Cer,
+        "30800202012C0101000000",
+        Same,
+    ),
+    (
+        "CER rejects a length",
+        Record::Version,
+        Cer,
+        VERSION_BYTES,
+        Rejected(Invalid),
+    ),
+    ("a sample", Record::Sample, Der, SAMPLE_BYTES, Same),
+    (
+        "a sample without a part",
+        Record::Sample,
+        Der,
+        "300602010A0101FF",
+        Rejected(Eof),
+    ),
+    (
+        "a measurement",
+        Record::Measurement,
+        Ber,
+        "308002010A0101010000",
+        Written("300602010A0101FF"),
+    ),
+    (
+        "a report",
+        Record::Report(&[72, 101]),
+        Der,
+        "300C0C02C3A9040248650202FF7F",
+        Same,
+    ),
+    (
+        "a report in pieces",
+        Record::Report(&[]),
+        Ber,
+        IN_PIECES,
+        Written("300A0C02C3A904000202FF7F"),
+    ),
+    (
+        "DER rejects pieces",
+        Record::Report(&[]),
+        Der,
+        IN_PIECES,
+        Rejected(Invalid),
+    ),
+    (
+        "a trail",
+        Record::Trail,
+        Der,
+        "300A0201FF0201020202012C",
+        Same,
+    ),
+    ("no serial number", Record::NoSerial, Der, "", Written("")),
+    (
+        "a part that is left out",
+        Record::Serial(None),
+        Der,
+        "",
+        Written("30030101FF"),
+    ),
+    (
+        "a part that is given",
+        Record::Serial(Some(10)),
+        Der,
+        "",
+        Written("300602010A0101FF"),
+    ),
+];
 
 #[test]
-fn versions_and_samples_round_trip(rt: HostRuntime) {
-    finds_none(&rt, first_failing(&are_versions(rt.alloc())));
-    finds_none(&rt, first_failing(&are_samples(rt.alloc())));
-}
-
-#[test]
-fn reports_trails_and_serials_round_trip(rt: HostRuntime) {
-    finds_none(&rt, first_failing(&are_reports(rt.alloc())));
-    finds_none(&rt, first_failing(&are_encoded(rt.alloc())));
+fn values_of_own_types_round_trip(rt: HostRuntime) {
+    finds_none(&rt, first_other(rt.alloc(), &ROWS));
 }
