@@ -1,35 +1,68 @@
 //! Where contents end, errors of a reading callback's own, and memory that it asks for itself.
 
-use crate::checks::{finds_none, first_failing, rejects};
+use crate::checks::{answers, bytes_of, holds};
 use std::alloc::Global;
+use yasna::ASN1ErrorKind::Invalid;
+use yasna::BERMode::{Ber, Der};
 use yasna::{
-    ASN1Error, ASN1ErrorKind, ASN1Result, BERReader, BERReaderSeq, parse_ber, parse_der,
+    ASN1Error, ASN1ErrorKind, ASN1Result, BERMode, BERReader, BERReaderSeq, parse_ber_general,
     try_parse_ber, try_parse_cer,
 };
 
-// A number, and whether it is the last part.
-fn number_at_end(parts: &mut BERReaderSeq) -> ASN1Result<(i64, bool)> {
-    let number = parts.next().read_i64()?;
-    let alone = parts.is_at_end();
-    if !alone {
+// A name, a SEQUENCE that begins with a number, the mode, whether the number is its last part, and the rejection if there is one.
+static ENDS: [(&str, BERMode, &str, bool, Option<ASN1ErrorKind>); 4] = [
+    (
+        "a counted SEQUENCE ends behind its number",
+        Der,
+        "3003020107",
+        true,
+        None,
+    ),
+    (
+        "a NULL is behind the number",
+        Der,
+        "30050201070500",
+        false,
+        None,
+    ),
+    (
+        "two zeros end a SEQUENCE",
+        Ber,
+        "30800201070000",
+        true,
+        None,
+    ),
+    (
+        "a sticky error ends the parts",
+        Der,
+        "3006020200070500",
+        true,
+        Some(Invalid),
+    ),
+];
+
+// Whether the number is 7, and is the last part as often as is wanted.
+fn is_seven(parts: &mut BERReaderSeq, is_last: bool) -> ASN1Result<bool> {
+    let number = parts.next().read_i64();
+    let ends = parts.is_at_end();
+    if !ends {
         parts.next().read_null()?;
     }
-    Ok((number, alone))
+    Ok(ends == is_last && (number.is_err() || number == Ok(7)))
 }
 
-// A number, and whether it stands alone.
-fn number_alone(reader: BERReader) -> ASN1Result<(i64, bool)> {
-    reader.read_sequence(number_at_end)
-}
-
-// Whether the parts end behind a number. It does not look at the rejection of that.
-fn past_number(parts: &mut BERReaderSeq) -> ASN1Result<bool> {
-    let _ = parts.next().read_i64();
-    Ok(parts.is_at_end())
-}
-
-fn ends_past_number(reader: BERReader) -> ASN1Result<bool> {
-    reader.read_sequence(past_number)
+fn is_end(
+    alloc: Global,
+    mode: BERMode,
+    text: &str,
+    is_last: bool,
+    rejection: Option<ASN1ErrorKind>,
+) -> ASN1Result<bool> {
+    let bytes = bytes_of(alloc, text)?;
+    let answer = parse_ber_general(alloc, &bytes, mode, |reader| {
+        reader.read_sequence(|parts| is_seven(parts, is_last))
+    });
+    Ok(answers(answer, rejection))
 }
 
 #[derive(Clone, Copy)]
@@ -47,84 +80,65 @@ impl From<ASN1Error> for Rejected {
 // A number below 100, kept in a vector.
 fn small(alloc: Global, reader: BERReader) -> Result<Vec<i64>, Rejected> {
     let number = reader.read_i64()?;
-    if number < 100 {
-        Ok(kept(alloc, number)?)
-    } else {
-        Err(Rejected::Large)
+    if number >= 100 {
+        return Err(Rejected::Large);
+    }
+    match Vec::from_slice(alloc, &[number]) {
+        Ok(numbers) => Ok(numbers),
+        Err(error) => Err(Rejected::Encoding(ASN1Error::from(error))),
     }
 }
 
-fn kept(alloc: Global, number: i64) -> ASN1Result<Vec<i64>> {
-    let mut numbers = Vec::new(alloc);
-    numbers.push(number)?;
-    Ok(numbers)
+// What becomes of a number.
+#[derive(Clone, Copy)]
+enum Outcome {
+    Kept,
+    Large,
+    Encoding,
 }
 
-fn small_in_ber(alloc: Global, bytes: &[u8]) -> Result<Vec<i64>, Rejected> {
-    try_parse_ber(alloc, bytes, |reader| small(alloc, reader))
-}
+// A name, the mode, a number, and what becomes of it.
+static NUMBERS: [(&str, BERMode, &[u8], Outcome); 4] = [
+    (
+        "BER takes a long length",
+        Ber,
+        &[2, 129, 1, 7],
+        Outcome::Kept,
+    ),
+    ("a callback's own error", Ber, &[2, 1, 100], Outcome::Large),
+    (
+        "a long length becomes one of its errors",
+        BERMode::Cer,
+        &[2, 129, 1, 7],
+        Outcome::Encoding,
+    ),
+    (
+        "bytes that are left become one of its errors",
+        BERMode::Cer,
+        &[2, 1, 7, 0],
+        Outcome::Encoding,
+    ),
+];
 
-fn small_in_cer(alloc: Global, bytes: &[u8]) -> Result<Vec<i64>, Rejected> {
-    try_parse_cer(alloc, bytes, |reader| small(alloc, reader))
-}
-
-fn is_large(answer: Result<Vec<i64>, Rejected>) -> bool {
-    matches!(answer, Err(Rejected::Large))
-}
-
-fn is_encoding(answer: Result<Vec<i64>, Rejected>) -> bool {
-    matches!(answer, Err(Rejected::Encoding(_)))
+fn has_outcome(alloc: Global, mode: BERMode, bytes: &[u8], outcome: Outcome) -> bool {
+    let answer = match mode {
+        Ber => try_parse_ber(alloc, bytes, |reader| small(alloc, reader)),
+        _ => try_parse_cer(alloc, bytes, |reader| small(alloc, reader)),
+    };
+    match answer {
+        Ok(_) => matches!(outcome, Outcome::Kept),
+        Err(Rejected::Large) => matches!(outcome, Outcome::Large),
+        Err(Rejected::Encoding(_)) => matches!(outcome, Outcome::Encoding),
+    }
 }
 
 // Parts end behind the last one, by two zeros too, and a sticky error ends them.
-fn ends(alloc: Global) -> [(&'static str, bool); 4] {
-    let cut = [48, 6, 2, 2, 0, 7, 5, 0];
-    [
-        (
-            "a counted SEQUENCE ends behind its number",
-            parse_der(alloc, &[48, 3, 2, 1, 7], number_alone) == Ok((7, true)),
-        ),
-        (
-            "a NULL stands behind the number",
-            parse_der(alloc, &[48, 5, 2, 1, 7, 5, 0], number_alone) == Ok((7, false)),
-        ),
-        (
-            "two zeros end a SEQUENCE",
-            parse_ber(alloc, &[48, 128, 2, 1, 7, 0, 0], number_alone) == Ok((7, true)),
-        ),
-        (
-            "a sticky error ends the parts",
-            rejects(
-                parse_der(alloc, &cut, ends_past_number),
-                ASN1ErrorKind::Invalid,
-            ),
-        ),
-    ]
-}
-
-fn errors(alloc: Global) -> [(&'static str, bool); 4] {
-    [
-        (
-            "BER takes a long length",
-            small_in_ber(alloc, &[2, 129, 1, 7]).is_ok(),
-        ),
-        (
-            "a callback's own error",
-            is_large(small_in_ber(alloc, &[2, 1, 100])),
-        ),
-        (
-            "a long length becomes one of its errors",
-            is_encoding(small_in_cer(alloc, &[2, 129, 1, 7])),
-        ),
-        (
-            "bytes that are left become one of its errors",
-            is_encoding(small_in_cer(alloc, &[2, 1, 7, 0])),
-        ),
-    ]
-}
-
 #[test]
 fn parts_end_and_callbacks_have_errors_of_their_own(rt: HostRuntime) {
-    finds_none(&rt, first_failing(&ends(rt.alloc())));
-    finds_none(&rt, first_failing(&errors(rt.alloc())));
+    for row in &ENDS {
+        holds(&rt, row.0, is_end(rt.alloc(), row.1, row.2, row.3, row.4));
+    }
+    for row in &NUMBERS {
+        holds(&rt, row.0, Ok(has_outcome(rt.alloc(), row.1, row.2, row.3)));
+    }
 }

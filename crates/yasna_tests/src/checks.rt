@@ -12,26 +12,19 @@ use yasna::{
 pub fn bytes_of(alloc: Global, text: &str) -> ASN1Result<Vec<u8>> {
     let mut bytes = Vec::new(alloc);
     for pair in text.as_bytes().chunks(2) {
-        match byte_of(pair) {
-            Some(byte) => bytes.push(byte)?,
-            None => return Err(ASN1Error::new(ASN1ErrorKind::OutOfMemory)),
+        match pair {
+            [high, low] => bytes.push(digit(*high)? << 4 | digit(*low)?)?,
+            _ => return Err(ASN1Error::new(ASN1ErrorKind::OutOfMemory)),
         }
     }
     Ok(bytes)
 }
 
-fn byte_of(pair: &[u8]) -> Option<u8> {
-    match pair {
-        [high, low] => Some(digit(*high)? << 4 | digit(*low)?),
-        _ => None,
-    }
-}
-
-fn digit(character: u8) -> Option<u8> {
+fn digit(character: u8) -> ASN1Result<u8> {
     match character {
-        b'0'..=b'9' => Some(character - b'0'),
-        b'A'..=b'F' => Some(character - b'A' + 10),
-        _ => None,
+        b'0'..=b'9' => Ok(character - b'0'),
+        b'A'..=b'F' => Ok(character - b'A' + 10),
+        _ => Err(ASN1Error::new(ASN1ErrorKind::OutOfMemory)),
     }
 }
 
@@ -53,14 +46,6 @@ pub fn spelled(alloc: Global, texts: [&str; 4], times: usize) -> ASN1Result<Stri
 pub fn gives<T: PartialEq + Drop>(answer: ASN1Result<Vec<T>>, items: &[T]) -> bool {
     match answer {
         Ok(found) => found.as_slice() == items,
-        Err(_) => false,
-    }
-}
-
-/// Whether the answer is so many bytes, of which these are the first.
-pub fn begins_with(answer: ASN1Result<Vec<u8>>, length: usize, first: &[u8]) -> bool {
-    match answer {
-        Ok(found) => found.len() == length && found.starts_with(first),
         Err(_) => false,
     }
 }
@@ -100,18 +85,30 @@ pub fn is_rejected<T: BERDecodable>(
 
 /// Whether both are one kind. It doesn't ask `==`: were that always true, no test would fail for a kind.
 pub fn is_kind(one: ASN1ErrorKind, other: ASN1ErrorKind) -> bool {
-    place_of(one) == place_of(other)
+    one as u8 == other as u8
 }
 
-// The place of a kind among the kinds.
-fn place_of(kind: ASN1ErrorKind) -> u8 {
-    match kind {
-        ASN1ErrorKind::Eof => 0,
-        ASN1ErrorKind::Extra => 1,
-        ASN1ErrorKind::IntegerOverflow => 2,
-        ASN1ErrorKind::StackOverflow => 3,
-        ASN1ErrorKind::Invalid => 4,
-        ASN1ErrorKind::OutOfMemory => 5,
+/// Whether the answer says so where no rejection is wanted, or is the one that is.
+pub fn answers(answer: ASN1Result<bool>, rejection: Option<ASN1ErrorKind>) -> bool {
+    match answer {
+        Ok(is_so) => is_so && rejection.is_none(),
+        Err(error) => match rejection {
+            Some(kind) => is_kind(error.kind(), kind),
+            None => false,
+        },
+    }
+}
+
+/// Whether the form of these digits is written, or `Invalid` answered where there are none.
+pub fn writes<W>(alloc: Global, form: &str, write: W) -> ASN1Result<bool>
+where
+    W: FnOnce(DERWriter<'_>) -> ASN1Result<()>,
+    requires { W.IsAlwaysCallable write }
+{
+    let form = bytes_of(alloc, form)?;
+    match construct_der(alloc, write) {
+        Ok(written) => Ok(!form.is_empty() && written.as_slice() == form.as_slice()),
+        Err(error) => Ok(form.is_empty() && is_kind(error.kind(), ASN1ErrorKind::Invalid)),
     }
 }
 
@@ -143,4 +140,9 @@ pub fn is_same<T: Eq + Hash>(one: &T, other: &T) -> bool {
 /// Fails the test if a row was found, and says which.
 pub fn finds_none(rt: &impl Abort, found: Option<&str>) {
     assert!(rt; found.is_none(), "{found:?}");
+}
+
+/// Fails the test unless this is so of the row, and says which.
+pub fn holds(rt: &impl Abort, row: &str, is_so: ASN1Result<bool>) {
+    assert!(rt; matches!(is_so, Ok(true)), "{row:?}");
 }

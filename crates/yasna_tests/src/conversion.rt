@@ -1,205 +1,184 @@
 //! Elements by hand, as X.690 spells them: what is written for them, where the first doubt is, and where broken ones are rejected.
 
-use crate::checks::{bytes_of, finds_none, first_failing, gives, is_kind, spelled};
+use crate::checks::{bytes_of, holds, is_kind, spelled};
 use std::alloc::Global;
 use yasna::ASN1ErrorKind::{Eof, Extra, Invalid, StackOverflow};
 use yasna::{ASN1ErrorKind, ASN1Result};
-use yasna_conversion::conversion::{Converted, convert};
+use yasna_conversion::conversion::convert;
 use yasna_conversion::doubt::Doubt;
 use yasna_conversion::fault::Fault;
 
-// What elements in BER are to be turned into.
-#[derive(Clone, Copy)]
-enum Wanted {
-    /// These elements in DER, with nothing in doubt.
-    Form(&'static str),
-    /// These elements in DER, and the first doubts about a string in segments and about an order.
-    InDoubt(&'static str, Option<usize>, Option<usize>),
-    /// Elements in DER.
-    Any,
-    /// None: they are broken there, and so.
-    Broken(usize, ASN1ErrorKind),
-}
-
-use Wanted::{Any, Broken, Form, InDoubt};
-
-static ROWS: [(&str, Wanted); 39] = [
+// Elements in BER, the same in DER, and the first doubts about a string in segments and about an order.
+static CONVERTED: [(&str, &str, [Option<usize>; 2]); 24] = [
     // booleans
-    ("010101", Form("0101FF")),
-    ("010100", Form("010100")),
-    ("01810180", Form("0101FF")),
+    ("010101", "0101FF", [None, None]),
+    ("010100", "010100", [None, None]),
+    ("01810180", "0101FF", [None, None]),
     // lengths in more bytes than it takes
-    ("02810105", Form("020105")),
-    ("02840000000105", Form("020105")),
+    ("02810105", "020105", [None, None]),
+    ("02840000000105", "020105", [None, None]),
     // a tag in the long form
-    ("1F1F8100", Form("1F1F00")),
+    ("1F1F8100", "1F1F00", [None, None]),
     // indefinite lengths
-    ("30800000", Form("3000")),
-    ("30803180010101000005000000", Form("300731030101FF0500")),
+    ("30800000", "3000", [None, None]),
+    (
+        "30803180010101000005000000",
+        "300731030101FF0500",
+        [None, None],
+    ),
     // several elements
-    ("050030800000010107", Form("050030000101FF")),
+    ("050030800000010107", "050030000101FF", [None, None]),
     // octets in segments, and in segments of segments
-    ("24800401610401620000", Form("04026162")),
-    ("24082403040161040162", Form("04026162")),
-    ("2400", Form("0400")),
+    ("24800401610401620000", "04026162", [None, None]),
+    ("24082403040161040162", "04026162", [None, None]),
+    ("2400", "0400", [None, None]),
     // bits in segments, and unused ones
-    ("2309030200FF030304ABCF", Form("030404FFABC0")),
-    ("030204FF", Form("030204F0")),
-    ("23800000", Form("030100")),
+    ("2309030200FF030304ABCF", "030404FFABC0", [None, None]),
+    ("030204FF", "030204F0", [None, None]),
+    ("23800000", "030100", [None, None]),
     // a text, and a time
-    ("2C800401C30401A90000", Form("0C02C3A9")),
-    ("37800402323604000000", Form("17023236")),
+    ("2C800401C30401A90000", "0C02C3A9", [None, None]),
+    ("37800402323604000000", "17023236", [None, None]),
     // elements of a SET OF, which are ordered by what is written
-    ("3109020103020101020102", Form("3109020101020102020103")),
-    ("3180028101020201010000", Form("3106020101020102")),
-    ("310704016224020400", Form("31050400040162")),
+    (
+        "3109020103020101020102",
+        "3109020101020102020103",
+        [None, None],
+    ),
+    ("3180028101020201010000", "3106020101020102", [None, None]),
+    ("310704016224020400", "31050400040162", [None, None]),
     // elements in doubt
-    ("A0800401610000", InDoubt("A003040161", Some(0), None)),
-    ("05006102A200", InDoubt("05006102A200", Some(2), None)),
+    ("A0800401610000", "A003040161", [Some(0), None]),
+    ("05006102A200", "05006102A200", [Some(2), None]),
     (
         "30083106020101010105",
-        InDoubt("300831060201010101FF", None, Some(2)),
+        "300831060201010101FF",
+        [None, Some(2)],
     ),
-    (
-        "3180A30081000000",
-        InDoubt("3104A3008100", Some(2), Some(0)),
-    ),
-    // broken ones: cut off
-    ("", Broken(0, Eof)),
-    ("02", Broken(0, Eof)),
-    ("30030101", Broken(0, Eof)),
-    ("0500040261", Broken(2, Eof)),
-    // no end of contents, one too many, and one that isn't
-    ("3080010101", Broken(5, Eof)),
-    ("0000", Broken(0, Invalid)),
-    ("30020000", Broken(2, Invalid)),
-    ("30800500000100", Broken(4, Invalid)),
-    // a primitive element of indefinite length
-    ("300402800000", Broken(2, Invalid)),
-    // booleans that aren't, and bits
-    ("01020000", Broken(0, Invalid)),
-    ("05002103010101", Broken(2, Invalid)),
-    ("03020801", Broken(0, Invalid)),
-    ("2308030201FE030200FF", Broken(0, Extra)),
-    // a segment of another type
-    ("2403020105", Broken(0, Extra)),
-    // a small tag number in the long form
-    ("300505001F1E00", Broken(4, Invalid)),
+    ("3180A30081000000", "3104A3008100", [Some(2), Some(0)]),
 ];
 
-fn has_doubts(converted: &Converted, segments: Option<usize>, order: Option<usize>) -> bool {
-    converted.doubts.first(Doubt::Segments) == segments
-        && converted.doubts.first(Doubt::Order) == order
-}
-
-// Whether these bytes are written for themselves, and nothing is in doubt.
-fn is_kept(alloc: Global, bytes: &[u8]) -> bool {
-    match convert(alloc, bytes) {
-        Ok(converted) => converted.bytes.as_slice() == bytes && !converted.doubts.are_any(),
-        Err(_) => false,
+fn is_converted(
+    alloc: Global,
+    input: &str,
+    output: &str,
+    [segments, order]: [Option<usize>; 2],
+) -> ASN1Result<bool> {
+    let input = bytes_of(alloc, input)?;
+    let output = bytes_of(alloc, output)?;
+    match convert(alloc, &input) {
+        Ok(converted) => Ok(
+            converted.bytes.as_slice() == output.as_slice()
+                && converted.doubts.first(Doubt::Segments) == segments
+                && converted.doubts.first(Doubt::Order) == order
+                && converted.doubts.are_any() == (segments.is_some() || order.is_some()),
+        ),
+        Err(_) => Ok(false),
     }
 }
 
-fn is_written(alloc: Global, converted: &Converted, output: &str) -> bool {
-    match bytes_of(alloc, output) {
-        Ok(output) => converted.bytes.as_slice() == output.as_slice(),
-        Err(_) => false,
-    }
+// Whether the first elements become the second ones, and where nothing is in doubt these themselves.
+fn is_row(
+    alloc: Global,
+    input: &str,
+    output: &str,
+    doubts: [Option<usize>; 2],
+) -> ASN1Result<bool> {
+    let is_so = is_converted(alloc, input, output, doubts)?;
+    let is_certain = matches!(doubts, [None, None]);
+    Ok(is_so && (!is_certain || is_converted(alloc, output, output, doubts)?))
 }
 
-fn is_converted(alloc: Global, converted: &Converted, wanted: &Wanted) -> bool {
-    match wanted {
-        Form(output) => {
-            is_written(alloc, converted, output)
-                && !converted.doubts.are_any()
-                && is_kept(alloc, converted.bytes.as_slice())
-        }
-        InDoubt(output, segments, order) => {
-            is_written(alloc, converted, output)
-                && has_doubts(converted, *segments, *order)
-                && converted.doubts.are_any()
-        }
-        Any => true,
-        Broken(..) => false,
-    }
-}
+// Broken elements, and where and how they are.
+static BROKEN: [(&str, usize, ASN1ErrorKind); 15] = [
+    // cut off
+    ("", 0, Eof),
+    ("02", 0, Eof),
+    ("30030101", 0, Eof),
+    ("0500040261", 2, Eof),
+    // no end of contents, one too many, and one that isn't
+    ("3080010101", 5, Eof),
+    ("0000", 0, Invalid),
+    ("30020000", 2, Invalid),
+    ("30800500000100", 4, Invalid),
+    // a primitive element of indefinite length
+    ("300402800000", 2, Invalid),
+    // booleans that aren't, and bits
+    ("01020000", 0, Invalid),
+    ("05002103010101", 2, Invalid),
+    ("03020801", 0, Invalid),
+    ("2308030201FE030200FF", 0, Extra),
+    // a segment of another type
+    ("2403020105", 0, Extra),
+    // a small tag number in the long form
+    ("300505001F1E00", 4, Invalid),
+];
 
-fn is_broken(fault: Fault, wanted: &Wanted) -> bool {
-    match (fault, wanted) {
-        (Fault::Broken { offset, kind }, Broken(place, other)) => {
-            offset == *place && is_kind(kind, *other)
-        }
-        _ => false,
-    }
-}
-
-fn is_row(alloc: Global, input: &str, wanted: &Wanted) -> bool {
-    let Ok(bytes) = bytes_of(alloc, input) else {
-        return false;
-    };
+// Whether elements are broken there and so, or where that is none are converted.
+fn is_broken(
+    alloc: Global,
+    text: &str,
+    broken: Option<(usize, ASN1ErrorKind)>,
+) -> ASN1Result<bool> {
+    let bytes = bytes_of(alloc, text)?;
     match convert(alloc, &bytes) {
-        Ok(converted) => is_converted(alloc, &converted, wanted),
-        Err(fault) => is_broken(fault, wanted),
+        Ok(_) => Ok(broken.is_none()),
+        Err(Fault::Broken { offset, kind }) => match broken {
+            Some((place, wanted)) => Ok(offset == place && is_kind(kind, wanted)),
+            None => Ok(false),
+        },
+        Err(Fault::Memory) => Ok(false),
     }
 }
 
-fn first_other_row(alloc: Global) -> Option<&'static str> {
-    for row in &ROWS {
-        if !is_row(alloc, row.0, &row.1) {
-            return Some(row.0);
-        }
-    }
-    None
+// So many SEQUENCEs one in the other, of indefinite length, and where they are broken, if they are.
+static DEEP: [(&str, usize, Option<(usize, ASN1ErrorKind)>); 2] = [
+    ("101 SEQUENCEs are taken", 101, None),
+    (
+        "102 SEQUENCEs are rejected",
+        102,
+        Some((202, StackOverflow)),
+    ),
+];
+
+fn is_deep(
+    alloc: Global,
+    depth: usize,
+    broken: Option<(usize, ASN1ErrorKind)>,
+) -> ASN1Result<bool> {
+    let text = spelled(alloc, ["", "3080", "", "0000"], depth)?;
+    is_broken(alloc, &text, broken)
 }
 
-// Whether this is so of so many SEQUENCEs within each other.
-fn is_nested(alloc: Global, depth: usize, wanted: &Wanted) -> bool {
-    match spelled(alloc, ["", "3080", "", "0000"], depth) {
-        Ok(text) => is_row(alloc, &text, wanted),
-        Err(_) => false,
-    }
-}
+// A header, so many zeros behind it, and the header that is written.
+static LONG: [(&str, usize, &str); 2] = [
+    ("0488000000000000007F", 127, "047F"),
+    ("04880000000000000080", 128, "048180"),
+];
 
-fn with_zeros(alloc: Global, header: &str, zeros: usize) -> ASN1Result<Vec<u8>> {
-    bytes_of(alloc, &spelled(alloc, [header, "00", "", ""], zeros)?)
-}
-
-// Whether so many zeros behind one header are written behind the other.
-fn is_header_of(alloc: Global, zeros: usize, input: &str, output: &str) -> bool {
-    let Ok(bytes) = with_zeros(alloc, input, zeros) else {
-        return false;
-    };
-    match convert(alloc, &bytes) {
-        Ok(converted) => {
-            gives(with_zeros(alloc, output, zeros), converted.bytes.as_slice())
-                && !converted.doubts.are_any()
-        }
-        Err(_) => false,
-    }
-}
-
-fn deep_and_long(alloc: Global) -> [(&'static str, bool); 4] {
-    let too_deep = Broken(202, StackOverflow);
-    [
-        ("101 SEQUENCEs are taken", is_nested(alloc, 101, &Any)),
-        (
-            "102 SEQUENCEs are rejected",
-            is_nested(alloc, 102, &too_deep),
-        ),
-        (
-            "127 bytes",
-            is_header_of(alloc, 127, "0488000000000000007F", "047F"),
-        ),
-        (
-            "128 bytes",
-            is_header_of(alloc, 128, "04880000000000000080", "048180"),
-        ),
-    ]
+fn is_long(alloc: Global, header: &str, zeros: usize, written: &str) -> ASN1Result<bool> {
+    let input = spelled(alloc, [header, "00", "", ""], zeros)?;
+    let output = spelled(alloc, [written, "00", "", ""], zeros)?;
+    is_converted(alloc, &input, &output, [None, None])
 }
 
 // What is written, the first doubts, and where broken elements are rejected.
 #[test]
 fn elements_in_ber_become_der_or_are_rejected(rt: HostRuntime) {
-    finds_none(&rt, first_other_row(rt.alloc()));
-    finds_none(&rt, first_failing(&deep_and_long(rt.alloc())));
+    for row in &CONVERTED {
+        holds(&rt, row.0, is_row(rt.alloc(), row.0, row.1, row.2));
+    }
+    for row in &BROKEN {
+        holds(
+            &rt,
+            row.0,
+            is_broken(rt.alloc(), row.0, Some((row.1, row.2))),
+        );
+    }
+    for row in &LONG {
+        holds(&rt, row.0, is_long(rt.alloc(), row.0, row.1, row.2));
+    }
+    for row in &DEEP {
+        holds(&rt, row.0, is_deep(rt.alloc(), row.1, row.2));
+    }
 }

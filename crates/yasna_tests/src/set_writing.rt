@@ -1,40 +1,11 @@
 //! SET, written by callbacks.
 
-use crate::checks::{begins_with, bytes_of, finds_none, first_failing, gives, rejects};
+use crate::checks::{bytes_of, holds, writes};
 use std::alloc::Global;
-use yasna::{ASN1ErrorKind, ASN1Result, DERWriter, DERWriterSeq, DERWriterSet, Tag, construct_der};
-
-// A SET of two parts, written in this order.
-fn two_parts(alloc: Global, first: &[u8], second: &[u8]) -> ASN1Result<Vec<u8>> {
-    construct_der(alloc, |writer| {
-        writer.write_set(|parts| {
-            parts.next().write_der(first)?;
-            parts.next().write_der(second)
-        })
-    })
-}
-
-fn numbers_and_octets(parts: &mut DERWriterSet) -> ASN1Result<()> {
-    parts
-        .next()
-        .write_tagged_implicit(Tag::context(28), |part| part.write_i64(456789))?;
-    parts
-        .next()
-        .write_tagged(Tag::context(345678), |part| part.write_bytes(b"Foo"))?;
-    parts
-        .next()
-        .write_tagged(Tag::context(27), |part| part.write_i64(456790))?;
-    parts
-        .next()
-        .write_tagged(Tag::context(345677), |part| part.write_bytes(b"Bar"))
-}
-
-fn write_numbers_and_octets(writer: DERWriter<'_>) -> ASN1Result<()> {
-    writer.write_set(numbers_and_octets)
-}
+use yasna::{ASN1Result, DERWriter, DERWriterSet, Tag};
 
 // A name, two parts that are written in this order, and the SET that they make, or none where one isn't an element.
-static PARTS: [(&str, &str, &str, &str); 13] = [
+static PARTS: [(&str, &str, &str, &str); 14] = [
     // by classes
     (
         "an application tag and a universal one",
@@ -75,6 +46,12 @@ static PARTS: [(&str, &str, &str, &str); 13] = [
         "9F1F00",
         "3106BF1F009F1F00",
     ),
+    (
+        "the largest tag",
+        "1F81FFFFFFFFFFFFFFFF7F",
+        "0500",
+        "310D05001F81FFFFFFFFFFFFFFFF7F",
+    ),
     // broken ones
     ("no part", "0500", "", ""),
     ("a tag alone", "1F", "0500", ""),
@@ -83,101 +60,90 @@ static PARTS: [(&str, &str, &str, &str); 13] = [
     ("a tag of 63 bits", "1F82808080808080808000", "0500", ""),
 ];
 
-fn two_spelled_parts(alloc: Global, first: &str, second: &str) -> ASN1Result<Vec<u8>> {
+// Whether they make this SET.
+fn make(alloc: Global, first: &str, second: &str, form: &str) -> ASN1Result<bool> {
     let first = bytes_of(alloc, first)?;
     let second = bytes_of(alloc, second)?;
-    two_parts(alloc, &first, &second)
+    writes(alloc, form, |writer| {
+        writer.write_set(|parts| {
+            parts.next().write_der(&first)?;
+            parts.next().write_der(&second)
+        })
+    })
 }
 
-// Whether they make this SET.
-fn make(alloc: Global, first: &str, second: &str, form: &str) -> bool {
-    let set = two_spelled_parts(alloc, first, second);
-    if form.is_empty() {
-        return rejects(set, ASN1ErrorKind::Invalid);
-    }
-    match bytes_of(alloc, form) {
-        Ok(form) => gives(set, &form),
-        Err(_) => false,
-    }
+// What is written.
+#[derive(Clone, Copy)]
+enum Writing {
+    /// A SET of four tagged parts, each in front of a smaller tag or behind a larger one.
+    Four,
+    /// A SET of a part that isn't written, and of a number.
+    Unwritten,
+    /// A SET of no parts.
+    Empty,
+    /// A SEQUENCE of a SET whose part is broken, and of a number, and the callback does not look at the rejections.
+    PastBroken,
 }
 
-// The first parts that don't.
-fn first_other_parts(alloc: Global) -> Option<&'static str> {
-    for row in &PARTS {
-        if !make(alloc, row.1, row.2, row.3) {
-            return Some(row.0);
+impl Writing {
+    fn write(self, writer: DERWriter<'_>) -> ASN1Result<()> {
+        match self {
+            Writing::PastBroken => writer.write_sequence(|parts| {
+                let _ = parts.next().write_set(|set| set.next().write_der(&[31]));
+                let _ = parts.next().write_i64(10);
+                Ok(())
+            }),
+            _ => writer.write_set(|parts| self.write_parts(parts)),
         }
     }
-    None
+
+    fn write_parts(self, parts: &mut DERWriterSet) -> ASN1Result<()> {
+        match self {
+            Writing::Four => {
+                parts
+                    .next()
+                    .write_tagged_implicit(Tag::context(28), |part| part.write_i64(456789))?;
+                write_octets(parts, 345678, b"Foo")?;
+                parts
+                    .next()
+                    .write_tagged(Tag::context(27), |part| part.write_i64(456790))?;
+                write_octets(parts, 345677, b"Bar")
+            }
+            Writing::Unwritten => {
+                parts.next();
+                parts.next().write_i64(10)
+            }
+            _ => Ok(()),
+        }
+    }
 }
 
-fn unwritten_and_number(parts: &mut DERWriterSet) -> ASN1Result<()> {
-    parts.next();
-    parts.next().write_i64(10)
+fn write_octets(parts: &mut DERWriterSet, number: u64, octets: &[u8]) -> ASN1Result<()> {
+    parts
+        .next()
+        .write_tagged(Tag::context(number), |part| part.write_bytes(octets))
 }
 
-fn write_unwritten(writer: DERWriter<'_>) -> ASN1Result<()> {
-    writer.write_set(unwritten_and_number)
-}
-
-fn broken_part(parts: &mut DERWriterSet) -> ASN1Result<()> {
-    parts.next().write_der(&[31])
-}
-
-// It does not look at the rejections.
-fn past_broken_set(parts: &mut DERWriterSeq) -> ASN1Result<()> {
-    let _ = parts.next().write_set(broken_part);
-    let _ = parts.next().write_i64(10);
-    Ok(())
-}
-
-fn write_past_broken_set(writer: DERWriter<'_>) -> ASN1Result<()> {
-    writer.write_sequence(past_broken_set)
-}
-
-fn no_parts(_: &mut DERWriterSet) -> ASN1Result<()> {
-    Ok(())
-}
-
-fn write_empty_set(writer: DERWriter<'_>) -> ASN1Result<()> {
-    writer.write_set(no_parts)
-}
-
-// Four that are put in order, one with a part that isn't written, one that is broken and kept, one of no parts, one of the
-// largest tag.
-fn are_sets(alloc: Global) -> [(&'static str, bool); 5] {
-    let form = [
-        49, 32, 187, 5, 2, 3, 6, 248, 86, 156, 3, 6, 248, 85, 191, 149, 140, 77, 5, 4, 3, 66, 97,
-        114, 191, 149, 140, 78, 5, 4, 3, 70, 111, 111,
-    ];
-    let largest_tag = [31, 129, 255, 255, 255, 255, 255, 255, 255, 255, 127];
-    let invalid = ASN1ErrorKind::Invalid;
-    [
-        (
-            "four parts are ordered",
-            gives(construct_der(alloc, write_numbers_and_octets), &form),
-        ),
-        (
-            "an unwritten part is rejected",
-            rejects(construct_der(alloc, write_unwritten), invalid),
-        ),
-        (
-            "a broken part stays rejected",
-            rejects(construct_der(alloc, write_past_broken_set), invalid),
-        ),
-        (
-            "an empty SET is written",
-            gives(construct_der(alloc, write_empty_set), &[49, 0]),
-        ),
-        (
-            "the largest tag is written",
-            begins_with(two_parts(alloc, &largest_tag, &[5, 0]), 15, &[49]),
-        ),
-    ]
-}
+// A name, what is written, and the form, or none where it is rejected.
+static WRITINGS: [(&str, Writing, &str); 4] = [
+    (
+        "four parts are ordered",
+        Writing::Four,
+        "3120BB05020306F8569C0306F855BF958C4D050403426172BF958C4E050403466F6F",
+    ),
+    ("an unwritten part is rejected", Writing::Unwritten, ""),
+    ("a broken part stays rejected", Writing::PastBroken, ""),
+    ("an empty SET is written", Writing::Empty, "3100"),
+];
 
 #[test]
 fn sets_are_written_in_order(rt: HostRuntime) {
-    finds_none(&rt, first_other_parts(rt.alloc()));
-    finds_none(&rt, first_failing(&are_sets(rt.alloc())));
+    for row in &PARTS {
+        holds(&rt, row.0, make(rt.alloc(), row.1, row.2, row.3));
+    }
+    for row in &WRITINGS {
+        let writing = row.1;
+        let is_so = writes(rt.alloc(), row.2, |writer| writing.write(writer));
+        holds(&rt, row.0, is_so);
+    }
 }

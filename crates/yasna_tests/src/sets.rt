@@ -1,269 +1,279 @@
 //! Sets, read and written by callbacks.
 
-use crate::checks::{finds_none, first_failing, gives, rejects};
+use crate::checks::{answers, bytes_of, holds, writes};
 use std::alloc::Global;
+use yasna::ASN1ErrorKind::{Extra, Invalid, OutOfMemory};
+use yasna::BERMode::{Ber, Der};
 use yasna::tags::{TAG_BOOLEAN, TAG_INTEGER, TAG_NULL};
 use yasna::{
-    ASN1Error, ASN1ErrorKind, ASN1Result, BERReader, BERReaderSet, DERWriter, DERWriterSet,
-    construct_der, parse_ber, parse_der,
+    ASN1Error, ASN1ErrorKind, ASN1Result, BERMode, BERReader, BERReaderSet, parse_ber_general,
 };
 
-// SET OF INTEGER, of 11 and 10.
-const FALLING: [u8; 8] = [49, 6, 2, 1, 11, 2, 1, 10];
-
-// The same in order.
-const ASCENDING: [u8; 8] = [49, 6, 2, 1, 10, 2, 1, 11];
-
-// A SET of the INTEGER 10 and TRUE, whose tags fall.
-const MIXED: [u8; 8] = [49, 6, 2, 1, 10, 1, 1, 255];
-
-// A SET of the INTEGER 10.
-const SINGLE: [u8; 5] = [49, 3, 2, 1, 10];
-
-// A SET of TRUE and the INTEGER 10, in order.
-const SORTED: [u8; 8] = [49, 6, 1, 1, 255, 2, 1, 10];
-
-const INVALID: ASN1ErrorKind = ASN1ErrorKind::Invalid;
-
-fn number(element: BERReader) -> ASN1Result<i64> {
-    element.read_i64()
+// What is read of a SET, and the values that are wanted.
+#[derive(Clone, Copy)]
+enum Reading {
+    /// The numbers of a list.
+    Numbers(&'static [i64]),
+    /// The numbers of a list, which aren't collected.
+    Each,
+    /// A flag by its tag, and a number by its tag behind it.
+    ByTags(bool, i64),
+    /// A flag that is TRUE where it is left out, and a number that may be left out.
+    LeftOut(bool, Option<i64>),
+    /// A number behind such a flag, at whose rejection the callback does not look.
+    PastFlag,
+    /// A number that may be left out, of which nothing is read.
+    Unread,
+    /// The same, of which a flag is read.
+    Another,
+    /// The same, for which the callback has no memory.
+    WithoutMemory,
+    /// The same, and no callback looks at that.
+    PastWithoutMemory,
 }
 
-fn flag(element: BERReader) -> ASN1Result<bool> {
-    element.read_bool()
+use Reading::{
+    Another, ByTags, Each, LeftOut, Numbers, PastFlag, PastWithoutMemory, Unread, WithoutMemory,
+};
+
+impl Reading {
+    // Whether what is read is what is wanted.
+    fn read(self, reader: BERReader) -> ASN1Result<bool> {
+        match self {
+            Numbers(wanted) => {
+                let numbers = reader.collect_set_of(|element| element.read_i64())?;
+                Ok(numbers.as_slice() == wanted)
+            }
+            Each => {
+                reader.read_set_of(|element| {
+                    element.read_i64()?;
+                    Ok(())
+                })?;
+                Ok(true)
+            }
+            PastWithoutMemory => {
+                let _ = reader.read_set(|set| self.read_elements(set));
+                Ok(true)
+            }
+            _ => reader.read_set(|set| self.read_elements(set)),
+        }
+    }
+
+    fn read_elements(self, set: &mut BERReaderSet) -> ASN1Result<bool> {
+        match self {
+            ByTags(flag, number) => {
+                let is_flag = set.next(&[TAG_BOOLEAN])?.read_bool()? == flag;
+                let found = set.next(&[TAG_NULL, TAG_INTEGER])?.read_i64()?;
+                Ok(is_flag && found == number)
+            }
+            LeftOut(flag, number) => {
+                let found = set.read_optional(&[TAG_INTEGER], |element| element.read_i64())?;
+                Ok(flag_of(set)? == flag && found == number)
+            }
+            PastFlag => {
+                let _ = flag_of(set);
+                set.next(&[TAG_INTEGER])?.read_i64()?;
+                Ok(true)
+            }
+            _ => {
+                let answer = set.read_optional(
+                    &[TAG_INTEGER],
+                    |element| self.read_element(element),
+                );
+                if matches!(self, PastWithoutMemory) {
+                    return Ok(true);
+                }
+                answer?;
+                Ok(true)
+            }
+        }
+    }
+
+    fn read_element(self, element: BERReader) -> ASN1Result<()> {
+        match self {
+            Unread => Ok(()),
+            Another => {
+                element.read_bool()?;
+                Ok(())
+            }
+            _ => Err(ASN1Error::new(OutOfMemory)),
+        }
+    }
 }
 
-fn past_number(element: BERReader) -> ASN1Result<()> {
-    element.read_i64()?;
-    Ok(())
+// A flag that is TRUE where it is left out.
+fn flag_of(set: &mut BERReaderSet) -> ASN1Result<bool> {
+    set.read_default(&[TAG_BOOLEAN], true, |element| element.read_bool())
 }
 
-fn numbers(reader: BERReader) -> ASN1Result<Vec<i64>> {
-    reader.collect_set_of(number)
-}
+// A name, what is read of which SET, and the rejection if there is one. In DER elements are read in order.
+static READINGS: [(&str, Reading, BERMode, &str, Option<ASN1ErrorKind>); 17] = [
+    // lists
+    (
+        "BER reads them in any order",
+        Numbers(&[11, 10]),
+        Ber,
+        "310602010B02010A",
+        None,
+    ),
+    (
+        "DER reads them in order",
+        Numbers(&[10, 11]),
+        Der,
+        "310602010A02010B",
+        None,
+    ),
+    ("each is read", Each, Der, "310602010A02010B", None),
+    (
+        "DER rejects another order of a list",
+        Each,
+        Der,
+        "310602010B02010A",
+        Some(Invalid),
+    ),
+    // elements by their tags, and elements that are left out
+    (
+        "BER reads elements in any order",
+        ByTags(true, 10),
+        Ber,
+        "310602010A0101FF",
+        None,
+    ),
+    (
+        "DER rejects another order",
+        ByTags(true, 10),
+        Der,
+        "310602010A0101FF",
+        Some(Invalid),
+    ),
+    (
+        "a missing element is rejected",
+        ByTags(true, 10),
+        Der,
+        "310302010A",
+        Some(Invalid),
+    ),
+    (
+        "a flag and a number",
+        LeftOut(false, Some(10)),
+        Der,
+        "310601010002010A",
+        None,
+    ),
+    (
+        "a flag that is left out",
+        LeftOut(true, Some(10)),
+        Der,
+        "310302010A",
+        None,
+    ),
+    (
+        "a number that is left out",
+        LeftOut(true, None),
+        Der,
+        "3100",
+        None,
+    ),
+    (
+        "BER reads TRUE that is written out",
+        LeftOut(true, Some(10)),
+        Ber,
+        "310602010A0101FF",
+        None,
+    ),
+    // an element that equals its default, one that isn't read, or as another type, and one that lacks memory
+    (
+        "DER rejects TRUE that is written out",
+        LeftOut(true, Some(10)),
+        Der,
+        "31060101FF02010A",
+        Some(Invalid),
+    ),
+    (
+        "that error is sticky",
+        PastFlag,
+        Der,
+        "31060101FF02010A",
+        Some(Invalid),
+    ),
+    (
+        "an unread element is rejected",
+        Unread,
+        Ber,
+        "310302010A",
+        Some(Extra),
+    ),
+    (
+        "another type is rejected",
+        Another,
+        Ber,
+        "310302010A",
+        Some(Invalid),
+    ),
+    (
+        "out of memory is answered",
+        WithoutMemory,
+        Ber,
+        "310302010A",
+        Some(OutOfMemory),
+    ),
+    (
+        "out of memory is sticky",
+        PastWithoutMemory,
+        Ber,
+        "310302010A",
+        Some(OutOfMemory),
+    ),
+];
 
-fn all_read(reader: BERReader) -> ASN1Result<()> {
-    reader.read_set_of(past_number)
-}
-
-fn falling_parts(parts: &mut DERWriterSet) -> ASN1Result<()> {
-    parts.next().write_i64(11)?;
-    parts.next().write_i64(10)
-}
-
-fn write_falling(writer: DERWriter<'_>) -> ASN1Result<()> {
-    writer.write_set_of(falling_parts)
-}
-
-fn empty_part_and_number(parts: &mut DERWriterSet) -> ASN1Result<()> {
-    parts.next();
-    parts.next().write_i64(10)
-}
-
-fn write_behind_empty_part(writer: DERWriter<'_>) -> ASN1Result<()> {
-    writer.write_set_of(empty_part_and_number)
-}
-
-fn empty_part(parts: &mut DERWriterSet) -> ASN1Result<()> {
-    parts.next();
-    Ok(())
-}
-
-fn write_empty_part(writer: DERWriter<'_>) -> ASN1Result<()> {
-    writer.write_set_of(empty_part)
-}
-
-// In DER a list is read in order. One that is written is put in order, and no part of it may be empty.
-fn are_lists(alloc: Global) -> [(&'static str, bool); 7] {
-    [
-        (
-            "BER reads them in any order",
-            gives(parse_ber(alloc, &FALLING, numbers), &[11, 10]),
-        ),
-        (
-            "DER reads them in order",
-            gives(parse_der(alloc, &ASCENDING, numbers), &[10, 11]),
-        ),
-        (
-            "each is read",
-            parse_der(alloc, &ASCENDING, all_read) == Ok(()),
-        ),
-        (
-            "DER rejects another order",
-            rejects(parse_der(alloc, &FALLING, all_read), INVALID),
-        ),
-        (
-            "they are written in order",
-            gives(construct_der(alloc, write_falling), &ASCENDING),
-        ),
-        (
-            "an empty part is rejected",
-            rejects(construct_der(alloc, write_behind_empty_part), INVALID),
-        ),
-        (
-            "an empty part alone is rejected",
-            rejects(construct_der(alloc, write_empty_part), INVALID),
-        ),
-    ]
-}
-
-#[test]
-fn lists_are_read_and_written_in_order(rt: HostRuntime) {
-    finds_none(&rt, first_failing(&are_lists(rt.alloc())));
-}
-
-fn next_flag(set: &mut BERReaderSet) -> ASN1Result<bool> {
-    set.next(&[TAG_BOOLEAN])?.read_bool()
-}
-
-fn next_number(set: &mut BERReaderSet) -> ASN1Result<i64> {
-    set.next(&[TAG_NULL, TAG_INTEGER])?.read_i64()
-}
-
-fn number_behind_flag(set: &mut BERReaderSet) -> ASN1Result<(i64, bool)> {
-    let flag = next_flag(set)?;
-    let number = next_number(set)?;
-    Ok((number, flag))
-}
-
-fn number_and_flag(reader: BERReader) -> ASN1Result<(i64, bool)> {
-    reader.read_set(number_behind_flag)
-}
-
-// A flag that is TRUE where it is left out, and a number that may be left out.
-fn left_out(set: &mut BERReaderSet) -> ASN1Result<(bool, Option<i64>)> {
-    let number = set.read_optional(&[TAG_INTEGER], number)?;
-    let flag = set.read_default(&[TAG_BOOLEAN], true, flag)?;
-    Ok((flag, number))
-}
-
-fn flag_and_number(reader: BERReader) -> ASN1Result<(bool, Option<i64>)> {
-    reader.read_set(left_out)
-}
-
-fn der_flag_and_number(alloc: Global, bytes: &[u8]) -> ASN1Result<(bool, Option<i64>)> {
-    parse_der(alloc, bytes, flag_and_number)
-}
-
-// It does not look at the rejection of a default.
-fn past_default(set: &mut BERReaderSet) -> ASN1Result<i64> {
-    let _ = set.read_default(&[TAG_BOOLEAN], true, flag);
-    set.next(&[TAG_INTEGER])?.read_i64()
-}
-
-fn number_past_default(reader: BERReader) -> ASN1Result<i64> {
-    reader.read_set(past_default)
-}
-
-// Elements by their tags, and elements that are left out.
-fn are_elements(alloc: Global) -> [(&'static str, bool); 7] {
-    [
-        (
-            "BER reads elements in any order",
-            parse_ber(alloc, &MIXED, number_and_flag) == Ok((10, true)),
-        ),
-        (
-            "DER rejects another order",
-            rejects(parse_der(alloc, &MIXED, number_and_flag), INVALID),
-        ),
-        (
-            "a missing element is rejected",
-            rejects(parse_der(alloc, &SINGLE, number_and_flag), INVALID),
-        ),
-        (
-            "a flag and a number",
-            der_flag_and_number(alloc, &[49, 6, 1, 1, 0, 2, 1, 10]) == Ok((false, Some(10))),
-        ),
-        (
-            "a flag that is left out",
-            der_flag_and_number(alloc, &SINGLE) == Ok((true, Some(10))),
-        ),
-        (
-            "a number that is left out",
-            der_flag_and_number(alloc, &[49, 0]) == Ok((true, None)),
-        ),
-        (
-            "BER reads TRUE that is written out",
-            parse_ber(alloc, &MIXED, flag_and_number) == Ok((true, Some(10))),
-        ),
-    ]
-}
-
-fn nothing(_: BERReader) -> ASN1Result<()> {
-    Ok(())
-}
-
-fn nothing_of_number(set: &mut BERReaderSet) -> ASN1Result<Option<()>> {
-    set.read_optional(&[TAG_INTEGER], nothing)
-}
-
-fn unread(reader: BERReader) -> ASN1Result<Option<()>> {
-    reader.read_set(nothing_of_number)
-}
-
-fn flag_of_number(set: &mut BERReaderSet) -> ASN1Result<Option<bool>> {
-    set.read_optional(&[TAG_INTEGER], flag)
-}
-
-fn another(reader: BERReader) -> ASN1Result<Option<bool>> {
-    reader.read_set(flag_of_number)
-}
-
-fn no_memory(_: BERReader) -> ASN1Result<i64> {
-    Err(ASN1Error::new(ASN1ErrorKind::OutOfMemory))
-}
-
-fn element_without_memory(set: &mut BERReaderSet) -> ASN1Result<Option<i64>> {
-    set.read_optional(&[TAG_INTEGER], no_memory)
-}
-
-fn set_without_memory(reader: BERReader) -> ASN1Result<Option<i64>> {
-    reader.read_set(element_without_memory)
-}
-
-fn past_element_without_memory(set: &mut BERReaderSet) -> ASN1Result<()> {
-    let _ = element_without_memory(set);
-    Ok(())
-}
-
-fn past_set_without_memory(reader: BERReader) -> ASN1Result<()> {
-    let _ = reader.read_set(past_element_without_memory);
-    Ok(())
-}
-
-// An element that equals its default, one that isn't read, or as another type, and one that lacks memory, also where callbacks do not look at that.
-fn are_rejected(alloc: Global) -> [(&'static str, bool); 6] {
-    let lack = ASN1ErrorKind::OutOfMemory;
-    [
-        (
-            "an unread element is rejected",
-            rejects(parse_ber(alloc, &SINGLE, unread), ASN1ErrorKind::Extra),
-        ),
-        (
-            "another type is rejected",
-            rejects(parse_ber(alloc, &SINGLE, another), INVALID),
-        ),
-        (
-            "a want of memory is told",
-            rejects(parse_ber(alloc, &SINGLE, set_without_memory), lack),
-        ),
-        (
-            "that error is sticky",
-            rejects(parse_ber(alloc, &SINGLE, past_set_without_memory), lack),
-        ),
-        (
-            "DER rejects TRUE that is written out",
-            rejects(der_flag_and_number(alloc, &SORTED), INVALID),
-        ),
-        (
-            "that error is sticky",
-            rejects(parse_der(alloc, &SORTED, number_past_default), INVALID),
-        ),
-    ]
+fn is_read(
+    alloc: Global,
+    reading: Reading,
+    mode: BERMode,
+    text: &str,
+    rejection: Option<ASN1ErrorKind>,
+) -> ASN1Result<bool> {
+    let bytes = bytes_of(alloc, text)?;
+    let answer = parse_ber_general(alloc, &bytes, mode, |reader| reading.read(reader));
+    Ok(answers(answer, rejection))
 }
 
 #[test]
 fn elements_of_sets_are_read_or_rejected(rt: HostRuntime) {
-    finds_none(&rt, first_failing(&are_elements(rt.alloc())));
-    finds_none(&rt, first_failing(&are_rejected(rt.alloc())));
+    for row in &READINGS {
+        holds(&rt, row.0, is_read(rt.alloc(), row.1, row.2, row.3, row.4));
+    }
+}
+
+// A name, the numbers of a list, of which none is a part that isn't written, and the form, or none where the list is rejected.
+static LISTS: [(&str, &[Option<i64>], &str); 3] = [
+    (
+        "numbers are written in order",
+        &[Some(11), Some(10)],
+        "310602010A02010B",
+    ),
+    ("an empty part is rejected", &[None, Some(10)], ""),
+    ("an empty part alone is rejected", &[None], ""),
+];
+
+fn is_written(alloc: Global, numbers: &[Option<i64>], form: &str) -> ASN1Result<bool> {
+    writes(alloc, form, |writer| {
+        writer.write_set_of(|parts| {
+            for number in numbers {
+                let part = parts.next();
+                if let Some(number) = number {
+                    part.write_i64(*number)?;
+                }
+            }
+            Ok(())
+        })
+    })
+}
+
+// A list that is written is put in order, and no part of it may be empty.
+#[test]
+fn lists_are_written_in_order(rt: HostRuntime) {
+    for row in &LISTS {
+        holds(&rt, row.0, is_written(rt.alloc(), row.1, row.2));
+    }
 }

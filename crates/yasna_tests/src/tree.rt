@@ -1,7 +1,9 @@
 //! Trees, and elements as deep as they may nest, by a type that refers to itself and by functions that call themselves.
 
-use crate::checks::{bytes_of, finds_none, first_failing, is_kind, is_rejected, says, spelled};
+use crate::checks::{answers, bytes_of, holds, spelled};
 use std::alloc::Global;
+use yasna::ASN1ErrorKind::{Extra, StackOverflow};
+use yasna::BERMode::{Ber, Cer, Der};
 use yasna::{
     ASN1ErrorKind, ASN1Result, BERMode, BERReaderSeq, DERWriterSeq, construct_der_seq,
     decode_ber_general, parse_ber_general,
@@ -26,107 +28,86 @@ fn read_nested(seq: &mut BERReaderSeq, depth: u8) -> ASN1Result<()> {
     }
 }
 
-fn of_definite_length(alloc: Global, depth: u8) -> ASN1Result<Vec<u8>> {
-    construct_der_seq(alloc, |seq| write_nested(seq, depth))
-}
-
-fn of_indefinite_length(alloc: Global, depth: u8) -> ASN1Result<Vec<u8>> {
-    bytes_of(
-        alloc,
-        &spelled(alloc, ["", "3080", "", "0000"], usize::from(depth))?,
-    )
-}
-
-// The kind of a rejection, if the answer is one.
-fn kind_of<T: Drop>(answer: ASN1Result<T>) -> Option<ASN1ErrorKind> {
-    match answer {
-        Ok(_) => None,
-        Err(error) => Some(error.kind()),
+// So many SEQUENCEs one in the other, of definite length as they are written, or of indefinite length.
+fn nested(alloc: Global, is_definite: bool, depth: u8) -> ASN1Result<Vec<u8>> {
+    if is_definite {
+        return construct_der_seq(alloc, |seq| write_nested(seq, depth));
     }
+    let text = spelled(alloc, ["", "3080", "", "0000"], usize::from(depth))?;
+    bytes_of(alloc, &text)
 }
 
-// What the type answers, and what the function does.
-fn kinds(alloc: Global, bytes: &[u8], mode: BERMode, depth: u8) -> [Option<ASN1ErrorKind>; 2] {
-    let tree: ASN1Result<Tree> = decode_ber_general(alloc, bytes, mode);
-    let read = parse_ber_general(alloc, bytes, mode, |reader| {
-        reader.read_sequence(|seq| read_nested(seq, depth.saturating_sub(1)))
+// A name, the mode, whether lengths are definite, how many SEQUENCEs there are, and the rejection if there is one.
+static DEPTHS: [(&str, BERMode, bool, u8, Option<ASN1ErrorKind>); 8] = [
+    ("101 of definite length in DER", Der, true, 101, None),
+    ("101 of definite length in BER", Ber, true, 101, None),
+    ("101 of indefinite length in BER", Ber, false, 101, None),
+    ("101 of indefinite length in CER", Cer, false, 101, None),
+    (
+        "102 of definite length in DER",
+        Der,
+        true,
+        102,
+        Some(StackOverflow),
+    ),
+    (
+        "102 of definite length in BER",
+        Ber,
+        true,
+        102,
+        Some(StackOverflow),
+    ),
+    (
+        "102 of indefinite length in BER",
+        Ber,
+        false,
+        102,
+        Some(StackOverflow),
+    ),
+    (
+        "102 of indefinite length in CER",
+        Cer,
+        false,
+        102,
+        Some(StackOverflow),
+    ),
+];
+
+// Whether the type answers so, and the function too.
+fn is_read(
+    alloc: Global,
+    mode: BERMode,
+    is_definite: bool,
+    depth: u8,
+    rejection: Option<ASN1ErrorKind>,
+) -> ASN1Result<bool> {
+    let bytes = nested(alloc, is_definite, depth)?;
+    let tree = decode_ber_general::<Tree>(alloc, &bytes, mode).map(|_| true);
+    let read = parse_ber_general(alloc, &bytes, mode, |reader| {
+        reader.read_sequence(|seq| read_nested(seq, depth.saturating_sub(1)))?;
+        Ok(true)
     });
-    [kind_of(tree), kind_of(read)]
+    Ok(answers(tree, rejection) && answers(read, rejection))
 }
 
-fn is(found: Option<ASN1ErrorKind>, wanted: Option<ASN1ErrorKind>) -> bool {
-    match (found, wanted) {
-        (Some(found), Some(wanted)) => is_kind(found, wanted),
-        (None, None) => true,
-        _ => false,
-    }
-}
-
-fn are([one, other]: [Option<ASN1ErrorKind>; 2], wanted: Option<ASN1ErrorKind>) -> bool {
-    is(one, wanted) && is(other, wanted)
-}
-
-// Whether both answer this kind for so many SEQUENCEs in both modes of definite length.
-fn answer_definite(alloc: Global, depth: u8, kind: Option<ASN1ErrorKind>) -> bool {
-    match of_definite_length(alloc, depth) {
-        Ok(bytes) => {
-            are(kinds(alloc, &bytes, BERMode::Der, depth), kind)
-                && are(kinds(alloc, &bytes, BERMode::Ber, depth), kind)
-        }
-        Err(_) => false,
-    }
-}
-
-// The same in both modes of indefinite length.
-fn answer_indefinite(alloc: Global, depth: u8, kind: Option<ASN1ErrorKind>) -> bool {
-    match of_indefinite_length(alloc, depth) {
-        Ok(bytes) => {
-            are(kinds(alloc, &bytes, BERMode::Ber, depth), kind)
-                && are(kinds(alloc, &bytes, BERMode::Cer, depth), kind)
-        }
-        Err(_) => false,
-    }
-}
-
-// Whether it has two branches, of which the second has one.
-fn has_branches(tree: &Tree) -> bool {
-    match tree.branches.as_slice() {
+// Whether a tree has two branches, of which the second has one.
+fn has_branches(alloc: Global, mode: BERMode, text: &str) -> ASN1Result<bool> {
+    let bytes = bytes_of(alloc, text)?;
+    let tree = decode_ber_general::<Tree>(alloc, &bytes, mode)?;
+    Ok(match tree.branches.as_slice() {
         [first, second] => first.branches.is_empty() && second.branches.len() == 1,
         _ => false,
-    }
-}
-
-fn are_trees(alloc: Global) -> [(&'static str, bool); 6] {
-    let form = [48, 128, 48, 0, 48, 2, 48, 0, 0, 0];
-    let of_null = [48, 4, 48, 2, 5, 0];
-    let too_deep = Some(ASN1ErrorKind::StackOverflow);
-    [
-        (
-            "a tree has its branches",
-            says(alloc, BERMode::Ber, &form, has_branches),
-        ),
-        (
-            "a NULL is no branch",
-            is_rejected::<Tree>(alloc, BERMode::Der, &of_null, ASN1ErrorKind::Extra),
-        ),
-        ("101 of definite length", answer_definite(alloc, 101, None)),
-        (
-            "101 of indefinite length",
-            answer_indefinite(alloc, 101, None),
-        ),
-        (
-            "102 of definite length",
-            answer_definite(alloc, 102, too_deep),
-        ),
-        (
-            "102 of indefinite length",
-            answer_indefinite(alloc, 102, too_deep),
-        ),
-    ]
+    })
 }
 
 // Also the deepest ones, and one more.
 #[test]
-fn trees_nest_to_101_levels(rt: HostRuntime) {
-    finds_none(&rt, first_failing(&are_trees(rt.alloc())));
+fn trees_reach_101_levels(rt: HostRuntime) {
+    for row in &DEPTHS {
+        holds(&rt, row.0, is_read(rt.alloc(), row.1, row.2, row.3, row.4));
+    }
+    let branches = has_branches(rt.alloc(), Ber, "30803000300230000000");
+    holds(&rt, "a tree has its branches", branches);
+    let is_rejected = answers(has_branches(rt.alloc(), Der, "300430020500"), Some(Extra));
+    holds(&rt, "a NULL is no branch", Ok(is_rejected));
 }

@@ -1,22 +1,62 @@
 //! What vectors can't say of writing: long tags, writers that a closure exchanges, and how the contents of strings are put
 //! together.
 
-use crate::checks::{begins_with, finds_none, first_failing, gives, rejects};
+use crate::checks::{gives, holds, rejects, spelled, writes};
 use std::alloc::Global;
 use std::mem;
-use yasna::{ASN1ErrorKind, ASN1Result, DERWriter, DERWriterSeq, Tag, TagClass, construct_der};
+use yasna::{ASN1ErrorKind, ASN1Result, DERWriter, DERWriterSeq, Tag, construct_der};
 
-fn write_126(writer: DERWriter<'_>) -> ASN1Result<()> {
-    writer.write_bytes(&[91; 126])
+// What is written.
+#[derive(Clone, Copy)]
+enum Writing {
+    /// 18 bits of three bytes.
+    Bits,
+    /// No bits.
+    NoBits,
+    /// A text of a character that takes two units.
+    Text,
+    /// 200 octets.
+    Octets,
+    /// 126 octets in a tag of three bytes.
+    Tagged,
 }
 
-const LONG_TAG: Tag = Tag {
-    tag_class: TagClass::ContextSpecific,
-    tag_number: 345678,
-};
+impl Writing {
+    fn write(self, writer: DERWriter<'_>) -> ASN1Result<()> {
+        match self {
+            Writing::Bits => writer.write_bitvec_bytes(&[117, 13, 65], 18),
+            Writing::NoBits => writer.write_bitvec_bytes(&[], 0),
+            Writing::Text => writer.write_bmp_string("a\u{1F600}"),
+            Writing::Octets => writer.write_bytes(&[91; 200]),
+            Writing::Tagged => writer.write_tagged(Tag::context(345678), |inner| {
+                inner.write_bytes(&[91; 126])
+            }),
+        }
+    }
+}
 
-fn write_tagged(writer: DERWriter<'_>) -> ASN1Result<()> {
-    writer.write_tagged(LONG_TAG, write_126)
+// A name, what is written, and its form: these digits, and so many bytes 5B.
+static WRITINGS: [(&str, Writing, &str, usize); 5] = [
+    ("bits are written", Writing::Bits, "030406750D40", 0),
+    ("no bits are written", Writing::NoBits, "030100", 0),
+    (
+        "a BMPString is written",
+        Writing::Text,
+        "1E060061D83DDE00",
+        0,
+    ),
+    ("a length of two bytes", Writing::Octets, "0481C8", 200),
+    (
+        "a tag of three bytes",
+        Writing::Tagged,
+        "BF958C4E8180047E",
+        126,
+    ),
+];
+
+fn is_written(alloc: Global, writing: Writing, digits: &str, times: usize) -> ASN1Result<bool> {
+    let form = spelled(alloc, [digits, "5B", "", ""], times)?;
+    writes(alloc, &form, |writer| writing.write(writer))
 }
 
 // The form of a SEQUENCE within which the writer is exchanged for the one around.
@@ -45,56 +85,11 @@ fn is_exchanged(alloc: Global) -> bool {
     is_inner && rejects(outer, ASN1ErrorKind::Invalid)
 }
 
-fn write_bits(writer: DERWriter<'_>) -> ASN1Result<()> {
-    writer.write_bitvec_bytes(&[117, 13, 65], 18)
-}
-
-fn write_no_bits(writer: DERWriter<'_>) -> ASN1Result<()> {
-    writer.write_bitvec_bytes(&[], 0)
-}
-
-fn write_text(writer: DERWriter<'_>) -> ASN1Result<()> {
-    writer.write_bmp_string("a\u{1F600}")
-}
-
-fn write_200(writer: DERWriter<'_>) -> ASN1Result<()> {
-    writer.write_bytes(&[91; 200])
-}
-
-// Strings whose contents come in pieces, one whose length takes two bytes, a tag of three bytes around an element of 128, and
-// exchanged writers.
-fn are_written(alloc: Global) -> [(&'static str, bool); 6] {
-    let text = [30, 6, 0, 97, 216, 61, 222, 0];
-    let long_tag = [191, 149, 140, 78, 129, 128, 4, 126, 91];
-    [
-        (
-            "bits are written",
-            gives(construct_der(alloc, write_bits), &[3, 4, 6, 117, 13, 64]),
-        ),
-        (
-            "no bits are written",
-            gives(construct_der(alloc, write_no_bits), &[3, 1, 0]),
-        ),
-        (
-            "a BMPString is written",
-            gives(construct_der(alloc, write_text), &text),
-        ),
-        (
-            "a length of two bytes",
-            begins_with(construct_der(alloc, write_200), 203, &[4, 129, 200, 91]),
-        ),
-        (
-            "a tag of three bytes",
-            begins_with(construct_der(alloc, write_tagged), 134, &long_tag),
-        ),
-        (
-            "exchanged writers end their own elements",
-            is_exchanged(alloc),
-        ),
-    ]
-}
-
+// Also that exchanged writers end their own elements.
 #[test]
 fn long_tags_and_strings_are_written(rt: HostRuntime) {
-    finds_none(&rt, first_failing(&are_written(rt.alloc())));
+    for row in &WRITINGS {
+        holds(&rt, row.0, is_written(rt.alloc(), row.1, row.2, row.3));
+    }
+    holds(&rt, "exchanged writers", Ok(is_exchanged(rt.alloc())));
 }

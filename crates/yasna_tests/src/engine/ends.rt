@@ -1,15 +1,18 @@
 //! Runs whose ends fail: each answers a device fault, and one whose read failed writes nothing.
 ghost use Rattle.std.specs.Prelude.{◌≡◌, ◌-◌, ◌^◌, ◌<◌, None};
 
-use super::{TEN_TRUE, strings};
-use crate::checks::{finds_none, first_failing, is_kind};
+use super::strings;
+use crate::checks::{holds, is_kind};
 use std::alloc::Global;
 use std::io;
 use std::io::{Read, Write};
-use yasna::{ASN1ErrorKind, BERMode};
+use yasna::{ASN1ErrorKind, ASN1Result, BERMode};
 use yasna_engine::ends::{Counted, Sink, Source};
 use yasna_engine::engine::{RunFault, run};
 use yasna_engine::tool::tool;
+
+/// The encoding of the pair of 10 and TRUE.
+const PAIR: [u8; 8] = [48, 6, 2, 1, 10, 1, 1, 255];
 
 const INPUT: &str = "io\nthe input could not be read\n";
 
@@ -24,12 +27,12 @@ struct FailingSource {
 }
 
 impl FailingSource {
-    /// The encoding of a pair, which takes two pulls, and a third to see its end.
+    /// The encoding of the pair, which takes two pulls, and a third to see its end.
     fn new(pulls: u8) -> FailingSource
         ensures { result.failures ≡ 0 }
     {
         FailingSource {
-            rest: TEN_TRUE.output,
+            rest: &PAIR,
             pulls,
             failures: 0,
         }
@@ -110,102 +113,97 @@ impl Sink for FailingSink {
     }
 }
 
-/// Runs over pairs in BER.
-fn run_pair<R: Source, W: Sink>(
-    alloc: Global,
-    reader: &mut R,
-    writer: &mut W,
-) -> Result<(), RunFault>
-    requires reads { R.failed reader.old < 2 ^ 64 - 1 }
-    requires writes { W.failed writer.old < 2 ^ 64 - 1 }
-{
-    run::<(i64, bool), R, W>(alloc, BERMode::Ber, reader, writer)
+/// How a run over pairs ends.
+#[derive(Clone, Copy)]
+enum Ending {
+    Written,
+    Failed,
+    Cut,
 }
 
-/// Whether a read that fails behind so many pulls is told, once, and nothing is written.
-fn fails_behind(alloc: Global, pulls: u8) -> bool {
-    let mut reader = FailingSource::new(pulls);
-    let mut writer = Counted::new(Vec::new(alloc));
-    let answer = run_pair(alloc, &mut reader, &mut writer);
-    matches!(answer, Err(RunFault::Device))
-        && writer.into_end().is_empty()
-        && reader.failures() == 1
-}
-
-/// Whether the pair is written, read by three pulls.
-fn passes_by_pulls(alloc: Global) -> bool {
-    let mut reader = FailingSource::new(3);
-    let mut writer = Counted::new(Vec::new(alloc));
-    let answer = run_pair(alloc, &mut reader, &mut writer);
-    answer == Ok(()) && writer.into_end().as_slice() == TEN_TRUE.output
-}
-
-/// Whether a write that fails behind so many bytes is told, once.
-fn fails_in_room(alloc: Global, room: usize, fails_at_flush: bool) -> bool {
-    let mut reader = Counted::new(TEN_TRUE.output);
-    let mut writer = FailingSink::new(room, fails_at_flush);
-    let answer = run_pair(alloc, &mut reader, &mut writer);
-    matches!(answer, Err(RunFault::Device)) && writer.room == 0 && writer.failures() == 1
-}
-
-/// Whether the pair is written where there is room for it.
-fn passes_in_room(alloc: Global) -> bool {
-    let mut reader = Counted::new(TEN_TRUE.output);
-    let mut writer = FailingSink::new(8, false);
-    run_pair(alloc, &mut reader, &mut writer) == Ok(())
-}
-
-fn is_cut(answer: Result<(), RunFault>) -> bool {
-    match answer {
-        Err(RunFault::Refused(error)) => is_kind(error.kind(), ASN1ErrorKind::Eof),
-        _ => false,
+impl Ending {
+    fn is(self, answer: Result<(), RunFault>) -> bool {
+        match answer {
+            Ok(()) => matches!(self, Ending::Written),
+            Err(RunFault::Device) => matches!(self, Ending::Failed),
+            Err(RunFault::Refused(error)) => {
+                matches!(self, Ending::Cut) && is_kind(error.kind(), ASN1ErrorKind::Eof)
+            }
+        }
     }
 }
 
-// A rejection comes before anything is written, and so before a writer could fail.
-fn is_rejected_before_a_write(alloc: Global) -> bool {
-    let mut reader = Counted::new(&TEN_TRUE.output[..7]);
-    let mut writer = FailingSink::new(0, true);
-    let answer = run_pair(alloc, &mut reader, &mut writer);
-    is_cut(answer) && writer.failures() == 0
-}
+/// Names, how many pulls there are, how the run ends, what is written, and how many reads failed.
+static PULLS: [(&str, u8, Ending, &[u8], u64); 4] = [
+    ("the first pull fails", 0, Ending::Failed, &[], 1),
+    ("the second pull fails", 1, Ending::Failed, &[], 1),
+    ("the third pull fails", 2, Ending::Failed, &[], 1),
+    ("three pulls read a pair", 3, Ending::Written, &PAIR, 0),
+];
 
-/// Whether the program tells this failure of its ends, and has the status of one.
-fn tells<R: Source, W: Sink>(alloc: Global, reader: &mut R, writer: &mut W, failure: &str) -> bool
-    requires reads { R.failed reader.old < 2 ^ 64 - 1 }
-    requires writes { W.failed writer.old < 2 ^ 64 - 1 }
-{
-    let Ok(words) = strings(alloc, &["ber", "pair"]) else {
-        return false;
-    };
-    let mut errors = Vec::new(alloc);
-    let status = tool(alloc, words.as_slice(), reader, writer, &mut errors);
-    status == 3 && errors.as_slice() == failure.as_bytes()
-}
-
-fn tells_of_input(alloc: Global) -> bool {
-    let mut reader = FailingSource::new(0);
+fn is_read(alloc: Global, pulls: u8, ending: Ending, output: &[u8], failures: u64) -> bool {
+    let mut reader = FailingSource::new(pulls);
     let mut writer = Counted::new(Vec::new(alloc));
-    tells(alloc, &mut reader, &mut writer, INPUT)
+    let answer = run::<(i64, bool), _, _>(alloc, BERMode::Ber, &mut reader, &mut writer);
+    ending.is(answer) && writer.into_end().as_slice() == output && reader.failures() == failures
 }
 
-fn tells_of_output(alloc: Global) -> bool {
-    let mut reader = Counted::new(TEN_TRUE.output);
-    let mut writer = FailingSink::new(0, false);
-    tells(alloc, &mut reader, &mut writer, OUTPUT)
+/// Names, the input, for how many bytes there is room, whether the flush fails, how the run ends, and how many writes failed. A
+/// rejection comes before anything is written, and so before a writer could fail.
+static ROOMS: [(&str, &[u8], usize, bool, Ending, u64); 5] = [
+    ("the first write fails", &PAIR, 0, false, Ending::Failed, 1),
+    ("a later write fails", &PAIR, 3, false, Ending::Failed, 1),
+    ("the flush fails", &PAIR, 8, true, Ending::Failed, 1),
+    ("a pair has room", &PAIR, 8, false, Ending::Written, 0),
+    (
+        "a rejection comes before a write",
+        &[48, 6, 2, 1, 10, 1, 1],
+        0,
+        true,
+        Ending::Cut,
+        0,
+    ),
+];
+
+/// Whether the run ends so, and no room is left.
+fn is_written(
+    alloc: Global,
+    input: &[u8],
+    (room, fails_at_flush): (usize, bool),
+    ending: Ending,
+    failures: u64,
+) -> bool {
+    let mut reader = Counted::new(input);
+    let mut writer = FailingSink::new(room, fails_at_flush);
+    let answer = run::<(i64, bool), _, _>(alloc, BERMode::Ber, &mut reader, &mut writer);
+    ending.is(answer) && writer.room == 0 && writer.failures() == failures
 }
 
-// Whether the program tells that so much room isn't enough, once.
-fn tells_of_room(alloc: Global, room: &mut [u8]) -> bool {
-    let mut reader = Counted::new(TEN_TRUE.output);
-    let mut writer = Counted::new(room);
-    tells(alloc, &mut reader, &mut writer, OUTPUT) && writer.failures() == 1
+/// Names, how many pulls there are, for how many bytes there is room, and what the program says of the failure.
+static FAILURES: [(&str, u8, usize, &str); 2] = [
+    ("a failed read has its text", 0, 8, INPUT),
+    ("a failed write has its text", 3, 0, OUTPUT),
+];
+
+/// Whether the program says this of a failure of its ends, and has the status of one.
+fn says(alloc: Global, pulls: u8, room: usize, failure: &str) -> ASN1Result<bool> {
+    let words = strings(alloc, "ber pair")?;
+    let mut reader = FailingSource::new(pulls);
+    let mut writer = FailingSink::new(room, false);
+    let mut errors = Vec::new(alloc);
+    let status = tool(alloc, &words, &mut reader, &mut writer, &mut errors);
+    Ok(status == 3 && errors.as_slice() == failure.as_bytes() && writer.room == room)
 }
 
-// A slice takes nothing once it is full.
-fn tells_of_full_room(alloc: Global) -> bool {
-    let mut room = [0; 3];
-    tells_of_room(alloc, &mut room) && room == [48, 6, 2]
+/// Whether the program says once that a slice has too little room. It takes nothing once it is full.
+fn is_full(alloc: Global, mut room: [u8; 3]) -> ASN1Result<bool> {
+    let words = strings(alloc, "ber pair")?;
+    let mut reader = Counted::new(&PAIR[..]);
+    let mut writer = Counted::new(&mut room[..]);
+    let mut errors = Vec::new(alloc);
+    let status = tool(alloc, &words, &mut reader, &mut writer, &mut errors);
+    let is_said = status == 3 && errors.as_slice() == OUTPUT.as_bytes() && writer.failures() == 1;
+    Ok(is_said && room == [48, 6, 2])
 }
 
 /// Takes all bytes, and counts its flushes.
@@ -228,35 +226,31 @@ impl Write for Flushed {
 }
 
 fn is_flushed_once(alloc: Global) -> bool {
-    let mut reader = Counted::new(TEN_TRUE.output);
+    let mut reader = Counted::new(&PAIR[..]);
     let mut writer = Counted::new(Flushed { flushes: 0 });
-    let answer = run_pair(alloc, &mut reader, &mut writer);
-    answer == Ok(()) && writer.into_end().flushes == 1
+    let answer = run::<(i64, bool), _, _>(alloc, BERMode::Ber, &mut reader, &mut writer);
+    answer.is_ok() && writer.into_end().flushes == 1
 }
 
-fn runs(alloc: Global) -> [(&'static str, bool); 13] {
-    [
-        ("the first pull fails", fails_behind(alloc, 0)),
-        ("the second pull fails", fails_behind(alloc, 1)),
-        ("the third pull fails", fails_behind(alloc, 2)),
-        ("three pulls read a pair", passes_by_pulls(alloc)),
-        ("the first write fails", fails_in_room(alloc, 0, false)),
-        ("a later write fails", fails_in_room(alloc, 3, false)),
-        ("the flush fails", fails_in_room(alloc, 8, true)),
-        ("a pair has room", passes_in_room(alloc)),
-        (
-            "a rejection comes before a write",
-            is_rejected_before_a_write(alloc),
-        ),
-        ("a failed read is told", tells_of_input(alloc)),
-        ("a failed write is told", tells_of_output(alloc)),
-        ("a full slice is told", tells_of_full_room(alloc)),
-        ("the output is flushed once", is_flushed_once(alloc)),
-    ]
-}
-
-// Failed reads, failed writes, what is told of them, and that the output is flushed.
+// Failed reads, failed writes, what is said of them, and that the output is flushed.
 #[test]
-fn failed_reads_and_writes_are_told(rt: HostRuntime) {
-    finds_none(&rt, first_failing(&runs(rt.alloc())));
+fn failed_reads_and_writes_have_their_status_and_text(rt: HostRuntime) {
+    let alloc = rt.alloc();
+    for row in &PULLS {
+        let is_so = is_read(alloc, row.1, row.2, row.3, row.4);
+        holds(&rt, row.0, Ok(is_so));
+    }
+    for row in &ROOMS {
+        let is_so = is_written(alloc, row.1, (row.2, row.3), row.4, row.5);
+        holds(&rt, row.0, Ok(is_so));
+    }
+    for row in &FAILURES {
+        holds(&rt, row.0, says(alloc, row.1, row.2, row.3));
+    }
+    holds(&rt, "a full slice has its text", is_full(alloc, [0; 3]));
+    holds(
+        &rt,
+        "the output is flushed once",
+        Ok(is_flushed_once(alloc)),
+    );
 }
