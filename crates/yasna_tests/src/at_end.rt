@@ -121,9 +121,10 @@ static NUMBERS: [(&str, BERMode, &[u8], Outcome); 4] = [
 ];
 
 fn has_outcome(alloc: Global, mode: BERMode, bytes: &[u8], outcome: Outcome) -> bool {
+    let callback = |reader: BERReader| small(alloc, reader);
     let answer = match mode {
-        Ber => try_parse_ber(alloc, bytes, |reader| small(alloc, reader)),
-        _ => try_parse_cer(alloc, bytes, |reader| small(alloc, reader)),
+        Ber => try_parse_ber(alloc, bytes, callback),
+        _ => try_parse_cer(alloc, bytes, callback),
     };
     match answer {
         Ok(_) => matches!(outcome, Outcome::Kept),

@@ -284,8 +284,8 @@ static BROKEN: [(&str, BERMode, Wanted); 9] = [
     ),
 ];
 
-// A name, a form, the texts that an input is spelled of, how often, and what is wanted of it. A hundred and one elements may nest, and
-// no more. Base64 is padded at its end alone, however much of it is in front.
+// A name, a form, the texts that an input is spelled of, how often, and what is wanted of it. The greatest depth is 101. Base64 is
+// padded at its end alone, however much of it is before.
 static SPELLED: [(&str, Option<Form>, [&str; 4], usize, Wanted); 5] = [
     (
         "101 elements are taken",

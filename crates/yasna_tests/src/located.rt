@@ -61,10 +61,11 @@ impl Reading {
 }
 
 fn read(alloc: Global, mode: BERMode, bytes: &[u8], reading: Reading) -> Result<bool, Located> {
+    let callback = |reader: BERReader| reading.read(reader);
     match mode {
-        BERMode::Ber => parse_ber_located(alloc, bytes, |reader| reading.read(reader)),
-        BERMode::Der => parse_der_located(alloc, bytes, |reader| reading.read(reader)),
-        BERMode::Cer => parse_cer_located(alloc, bytes, |reader| reading.read(reader)),
+        BERMode::Ber => parse_ber_located(alloc, bytes, callback),
+        BERMode::Der => parse_der_located(alloc, bytes, callback),
+        BERMode::Cer => parse_cer_located(alloc, bytes, callback),
     }
 }
 

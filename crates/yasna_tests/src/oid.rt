@@ -74,7 +74,7 @@ fn long_one_comes_back(alloc: Global) -> ASN1Result<bool> {
     Ok(form.starts_with(&[6, 130, 7, 80, 40, 1, 2]) && read == oid)
 }
 
-// Whether one whose components become longer has these, stands behind the one it was, and is as its copy.
+// Whether one whose components become longer has these, is behind the one it was, and is as its copy.
 fn is_longer_behind(alloc: Global, parts: &[u64]) -> ASN1Result<bool> {
     let short = ObjectIdentifier::from_slice(alloc, &[2, 5])?;
     let mut long = ObjectIdentifier::from(Vec::from_slice(alloc, &[2, 5])?);

@@ -35,7 +35,7 @@ static PARTS: [(&str, &str, &str, &str); 14] = [
     ),
     ("long tags", "9F1F010B", "9F1F010A", "31089F1F010A9F1F010B"),
     (
-        "a constructed part in front of a long tag",
+        "a constructed part before a long tag",
         "9F1F010B",
         "BF1F010A",
         "3108BF1F010A9F1F010B",
@@ -75,7 +75,7 @@ fn make(alloc: Global, first: &str, second: &str, form: &str) -> ASN1Result<bool
 // What is written.
 #[derive(Clone, Copy)]
 enum Writing {
-    /// A SET of four tagged parts, each in front of a smaller tag or behind a larger one.
+    /// A SET of four tagged parts, in another order than that of their tags.
     Four,
     /// A SET of a part that isn't written, and of a number.
     Unwritten,

@@ -51,11 +51,13 @@ impl Reading {
                 })?;
                 Ok(true)
             }
-            PastWithoutMemory => {
-                let _ = reader.read_set(|set| self.read_elements(set));
-                Ok(true)
+            _ => {
+                let answer = reader.read_set(|set| self.read_elements(set));
+                if matches!(self, PastWithoutMemory) {
+                    return Ok(true);
+                }
+                answer
             }
-            _ => reader.read_set(|set| self.read_elements(set)),
         }
     }
 
@@ -66,35 +68,38 @@ impl Reading {
                 let found = set.next(&[TAG_NULL, TAG_INTEGER])?.read_i64()?;
                 Ok(is_flag && found == number)
             }
-            LeftOut(flag, number) => {
-                let found = set.read_optional(&[TAG_INTEGER], |element| element.read_i64())?;
-                Ok(flag_of(set)? == flag && found == number)
-            }
             PastFlag => {
                 let _ = flag_of(set);
                 set.next(&[TAG_INTEGER])?.read_i64()?;
                 Ok(true)
             }
+            _ => self.read_number(set),
+        }
+    }
+
+    // A number that may be left out, and what is behind it.
+    fn read_number(self, set: &mut BERReaderSet) -> ASN1Result<bool> {
+        let found = set.read_optional(&[TAG_INTEGER], |element| self.read_element(element));
+        match self {
+            LeftOut(flag, number) => {
+                let is_number = found? == number;
+                Ok(flag_of(set)? == flag && is_number)
+            }
+            PastWithoutMemory => Ok(true),
             _ => {
-                let answer = set.read_optional(
-                    &[TAG_INTEGER],
-                    |element| self.read_element(element),
-                );
-                if matches!(self, PastWithoutMemory) {
-                    return Ok(true);
-                }
-                answer?;
+                found?;
                 Ok(true)
             }
         }
     }
 
-    fn read_element(self, element: BERReader) -> ASN1Result<()> {
+    fn read_element(self, element: BERReader) -> ASN1Result<i64> {
         match self {
-            Unread => Ok(()),
+            LeftOut(..) => element.read_i64(),
+            Unread => Ok(0),
             Another => {
                 element.read_bool()?;
-                Ok(())
+                Ok(0)
             }
             _ => Err(ASN1Error::new(OutOfMemory)),
         }

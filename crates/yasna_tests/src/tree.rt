@@ -1,4 +1,4 @@
-//! Trees, and elements as deep as they may nest, by a type that refers to itself and by functions that call themselves.
+//! Trees, and elements of the greatest depth, by a type that refers to itself and by functions that call themselves.
 
 use crate::checks::{answers, bytes_of, holds, spelled};
 use std::alloc::Global;
@@ -82,7 +82,10 @@ fn is_read(
     rejection: Option<ASN1ErrorKind>,
 ) -> ASN1Result<bool> {
     let bytes = nested(alloc, is_definite, depth)?;
-    let tree = decode_ber_general::<Tree>(alloc, &bytes, mode).map(|_| true);
+    let tree = match decode_ber_general::<Tree>(alloc, &bytes, mode) {
+        Ok(_) => Ok(true),
+        Err(error) => Err(error),
+    };
     let read = parse_ber_general(alloc, &bytes, mode, |reader| {
         reader.read_sequence(|seq| read_nested(seq, depth.saturating_sub(1)))?;
         Ok(true)

@@ -69,7 +69,7 @@ fn exchanged(alloc: Global, outer: &mut DERWriterSeq) -> ASN1Result<Vec<u8>> {
     })
 }
 
-// Each element ends over what the writer holds then, from its own place on: the inner one, which began in front of all
+// Each element ends over what the writer holds then, from its own place on: the inner one, which began before all
 // bytes, around the BOOLEAN, and the outer one, which began behind it, where nothing is left, as `Invalid`.
 fn is_exchanged(alloc: Global) -> bool {
     let mut is_inner = false;
