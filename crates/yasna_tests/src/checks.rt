@@ -112,15 +112,6 @@ where
     }
 }
 
-/// Whether this is the form that such a function writes of the value.
-pub fn is_form_by<T: Copy, W>(alloc: Global, form: &[u8], value: T, write: W) -> bool
-where
-    W: FnOnce(T, DERWriter<'_>) -> ASN1Result<()>,
-    requires { W.IsAlwaysCallable write }
-{
-    gives(construct_der(alloc, |writer| write(value, writer)), form)
-}
-
 /// The name of the first outcome that isn't so.
 pub fn first_failing(outcomes: &[(&'static str, bool)]) -> Option<&'static str> {
     for outcome in outcomes {

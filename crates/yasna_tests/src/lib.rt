@@ -14,15 +14,15 @@
 //! | `exact` | types that keep an element of any type as it came |
 //! | `guide` | the pieces of code of README.md and docs/GUIDE.md |
 //! | `known` | calls whose closures are known |
-//! | `lines` | the lines that tell of the elements of any input |
+//! | `lines` | the lines of the elements of any input |
 //! | `located` | where a parse failed |
 //! | `oid` | object identifiers |
 //! | `pieces` | none: it holds how rows of bytes are read and written again |
 //! | `records`, `scrypt`, `third_party` | types of one's own |
 //! | `sets` | sets, read and written by callbacks |
-//! | `set_writing` | the order of a SET's parts, and broken ones |
+//! | `set_writing` | the order of a SET's parts, and malformed ones |
 //! | `times` | both times |
-//! | `tree` | a type that refers to itself, and elements as deep as they may nest |
+//! | `tree` | a type that refers to itself, and elements at 101 levels |
 //! | `writing` | long tags, exchanged writers, strings whose contents come in pieces |
 #![tactic(auto)]
 
