@@ -92,7 +92,7 @@ fn small(alloc: Global, reader: BERReader) -> Result<Vec<i64>, Rejected> {
 // What becomes of a number.
 #[derive(Clone, Copy)]
 enum Outcome {
-    Kept,
+    Read,
     Large,
     Encoding,
 }
@@ -103,7 +103,7 @@ static NUMBERS: [(&str, BERMode, &[u8], Outcome); 4] = [
         "BER takes a long length",
         Ber,
         &[2, 129, 1, 7],
-        Outcome::Kept,
+        Outcome::Read,
     ),
     ("a callback's own error", Ber, &[2, 1, 100], Outcome::Large),
     (
@@ -127,7 +127,7 @@ fn has_outcome(alloc: Global, mode: BERMode, bytes: &[u8], outcome: Outcome) -> 
         _ => try_parse_cer(alloc, bytes, callback),
     };
     match answer {
-        Ok(_) => matches!(outcome, Outcome::Kept),
+        Ok(_) => matches!(outcome, Outcome::Read),
         Err(Rejected::Large) => matches!(outcome, Outcome::Large),
         Err(Rejected::Encoding(_)) => matches!(outcome, Outcome::Encoding),
     }

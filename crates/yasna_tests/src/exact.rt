@@ -25,7 +25,7 @@ fn written_again<T: DERExact>(alloc: Global, bytes: &[u8]) -> ASN1Result<Vec<u8>
 
 // What is read, and what is to be read.
 #[derive(Clone, Copy)]
-enum Kept {
+enum RawCase {
     Elements,
     /// So many elements, which aren't written.
     Count(usize),
@@ -50,15 +50,15 @@ fn element_rewritten(
     }
 }
 
-impl Piece for Kept {
+impl Piece for RawCase {
     fn rewritten(self, alloc: Global, mode: BERMode, bytes: &[u8]) -> ASN1Result<Vec<u8>> {
         match self {
-            Kept::Elements => written_again::<Vec<TaggedDerValue>>(alloc, bytes),
-            Kept::Count(count) => {
+            RawCase::Elements => written_again::<Vec<TaggedDerValue>>(alloc, bytes),
+            RawCase::Count(count) => {
                 let elements = decode_ber::<Vec<TaggedDerValue>>(alloc, bytes)?;
                 bytes_if(alloc, elements.len() == count, bytes)
             }
-            Kept::Element(tag, pcbit, value) => {
+            RawCase::Element(tag, pcbit, value) => {
                 element_rewritten(alloc, mode, bytes, (tag, pcbit, value))
             }
         }
@@ -70,46 +70,52 @@ const CONTEXT_0: Tag = Tag {
     tag_number: 0,
 };
 
-static ROWS: [Row<Kept>; 7] = [
+static ROWS: [Row<RawCase>; 7] = [
     (
         "elements",
-        Kept::Elements,
+        RawCase::Elements,
         Der,
         "3009020107A0040C02C3A9",
         Same,
     ),
     (
         "a long length is rejected",
-        Kept::Elements,
+        RawCase::Elements,
         Der,
         "300402810107",
         Rejected(Invalid),
     ),
-    ("two elements", Kept::Count(2), Ber, "30050500020107", Same),
+    (
+        "two elements",
+        RawCase::Count(2),
+        Ber,
+        "30050500020107",
+        Same,
+    ),
     (
         "a tagged element",
-        Kept::Element(CONTEXT_0, PCBit::Constructed, &[2, 1, 7]),
+        RawCase::Element(CONTEXT_0, PCBit::Constructed, &[2, 1, 7]),
         Der,
         "A003020107",
         Same,
     ),
     (
         "a number in CER",
-        Kept::Element(TAG_INTEGER, PCBit::Primitive, &[7]),
+        RawCase::Element(TAG_INTEGER, PCBit::Primitive, &[7]),
         Cer,
         "020107",
         Same,
     ),
     (
         "a text",
-        Kept::Element(TAG_UTF8STRING, PCBit::Primitive, &[65]),
+        RawCase::Element(TAG_UTF8STRING, PCBit::Primitive, &[65]),
         Der,
         "0C0141",
         Same,
     ),
     (
         "octets",
-        Kept::Element(TAG_OCTETSTRING, PCBit::Primitive, b"Hello!"),
+        RawCase::Element(TAG_OCTETSTRING, PCBit::Primitive, b"Hello!"),
         Der,
         "040648656C6C6F21",
         Same,

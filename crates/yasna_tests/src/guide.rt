@@ -48,7 +48,7 @@ enum Whole {
     Extension(bool),
     NumberOrZero(i64),
     /// The entries of these places are written.
-    Entries(&'static [usize]),
+    Stored(&'static [usize]),
     Entry(i64),
     /// This is said of where the table is broken.
     Located(&'static str),
@@ -65,9 +65,9 @@ fn encoding_error(error: StoreError) -> ASN1Error {
 }
 
 impl Whole {
-    fn answered(self, alloc: Global, bytes: &[u8]) -> ASN1Result<Vec<u8>> {
+    fn of_store(self, alloc: Global, bytes: &[u8]) -> ASN1Result<Vec<u8>> {
         match self {
-            Whole::Entries(places) => match entries_to_der(alloc, &STORE, places) {
+            Whole::Stored(places) => match entries_to_der(alloc, &STORE, places) {
                 Ok(written) => Ok(written),
                 Err(error) => Err(encoding_error(error)),
             },
@@ -134,7 +134,7 @@ impl Piece for Whole {
             }
             Whole::Flag => reencoded::<(String, bool)>(alloc, bytes),
             Whole::Extension(is_critical) => extension_rewritten(alloc, mode, bytes, is_critical),
-            _ => self.answered(alloc, bytes),
+            _ => self.of_store(alloc, bytes),
         }
     }
 }
@@ -240,14 +240,14 @@ static ERRORS: [Row<Whole>; 9] = [
     ),
     (
         "an entry is written",
-        Whole::Entries(&[1]),
+        Whole::Stored(&[1]),
         Der,
         "",
         Written("3003020106"),
     ),
     (
         "no such entry to write",
-        Whole::Entries(&[2]),
+        Whole::Stored(&[2]),
         Der,
         "",
         Rejected(StackOverflow),
