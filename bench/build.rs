@@ -1,4 +1,4 @@
-//! Links the library that `run` has built, and the C functions of the kit that it stands on.
+//! Links the library that `run` has built, and the C functions of the kit that it depends on.
 
 use std::env;
 

@@ -37,10 +37,10 @@ ORDER = {
         "Values": "models::ObjectIdentifier models::ParseOidError models::UTCTime models::GeneralizedTime models::TaggedDerValue"
         " models::DateTime models::Offset is_numeric_text is_printable_text is_visible_text",
         "Traits": "BERDecodable DEREncodable DERCanonical DERExact Shaped FromShape EncodeShape TupleParts EncodableParts InSequence",
-        "Laws": "one_form one_form_cer one_der_form set_of_is_read set_of_sets_is_read set_of_is_written law_functions::*",
+        "Laws": "one_encoding one_encoding_cer one_der_encoding set_of_is_read set_of_sets_is_read set_of_is_written law_functions::*",
     },
     "yasna_notation": {
-        "Your own types": "Defined Message StandsFor Noted read_as Notation CanonicalNotation",
+        "Your own types": "DefinedType Message Represents Encoded read_as Notation CanonicalNotation",
         "SEQUENCE and SET": "Sequence Parts Optional Default DefaultValue False Number Last SequenceOf SetOf PartsBy CanonicalParts"
         " WithFirst read_parts_with_first",
         "CHOICE": "Choice Alternatives Either CanonicalAlternatives",

@@ -1,4 +1,4 @@
-# What the scripts of this folder share. They stand at the top of the repository, and have a folder $work.
+# What the scripts of this folder share. They are at the top of the repository, and have a folder $work.
 
 # Sees that the program of the crate $1 is there as LLVM builds it, which `rt ci` leaves so: where it isn't, or a source is newer,
 # it is proved and built first, and run as the gate runs it.

@@ -4,7 +4,7 @@
 #
 #   sh ci/fuzz.sh [COUNT [SEED]]     COUNT inputs, 100000 where it isn't said, made from SEED, else from the time
 #
-# The counts are printed behind each 100000 inputs, and where a call fails, the seed of its input: `sh ci/fuzz.sh 1 SEED` makes that
+# The counts are printed after each 100000 inputs, and where a call fails, the seed of its input: `sh ci/fuzz.sh 1 SEED` makes that
 # input again. Each run makes inputs of its own, also where its SEED is the next one.
 #
 # What runs is yasna_vectors as LLVM builds it, which `rt ci` leaves there; it is proved and built first where it isn't there

@@ -193,7 +193,7 @@ def run_proofs(gate, words, wanted, cwd=None, env=None):
                 break
     for stage in wanted:
         gate.tallies[stage] = tallies[stage]
-    # what `rt ci` refused besides, as a program that wrote something else
+    # what `rt ci` rejected besides, as a program that wrote something else
     if status and not gate.failed():
         gate.tally(wanted[-1]).failed += 1
 

@@ -10,7 +10,7 @@
 # | guide | each piece of code that a document shows is in a proved crate |
 # | lifetimes | a slice that outlives the input is rejected by the borrow checker |
 # | proofs | each crate is proved, and so are its tests |
-# | mutants | the prover refuses each edit of crates/CRATE/must-fail/ |
+# | mutants | the prover rejects each edit of crates/CRATE/must-fail/ |
 # | tests | each test passes |
 # | programs | each program writes what its file stdout holds, as two compilers build it |
 # | memory | each request for memory is refused once: the programs report it, and nothing else changes |

@@ -1,6 +1,6 @@
 #!/bin/sh
 # What the documents show. Each block of Rust or of antt in them, and in the comments on public items, is in one of the proved crates
-# yasna_guide, yasna_examples, x509 and ldap, line for line, but for its indentation as a whole. A module that a document shows is the
+# examples_plain, examples_proved, x509 and ldap, line for line, but for its indentation as a whole. A module that a document shows is the
 # document's blocks, one after the other, and nothing else: so a reader who copies them has all that is needed. Each block of GUIDE.md and
 # NOTATION.md is a module. A page CALLING.md also quotes contracts and definitions, which are in the sources, line for line. Each mutant that
 # PROMISES.md names is an edit that the gate or ci/mutants.sh tries.
@@ -20,7 +20,7 @@ lines_of() {
 }
 
 # The first file holds a document's lines, the other files are the crates'. Prints the number of blocks, or the first error. With `quotes` set,
-# comments are left out on both sides, and a block that isn't in a file as a whole may be quotes with empty lines between them.
+# comments are omitted on both sides, and a block that isn't in a file as a whole may be quotes with empty lines between them.
 compare='
 # The number of lines of the block that are at this place.
 function fits(file, first,    indent, k) {
@@ -148,11 +148,11 @@ compare_blocks() {
     fi
 }
 
-guide=crates/yasna_guide/src
-examples=crates/yasna_examples/src
+guide=crates/examples_plain/src
+examples=crates/examples_proved/src
 types=crates/x509/src
 filters=crates/ldap/src
-files=$(find "$guide" "$examples" "$types" "$filters" crates/yasna_examples/proofs -name '*.rt' -o -name '*.antt')
+files=$(find "$guide" "$examples" "$types" "$filters" crates/examples_proved/proofs -name '*.rt' -o -name '*.antt')
 for page in README.md docs/GUIDE.md docs/NOTATION.md docs/IMPLEMENTING.md \
     crates/yasna/src/lib.rt crates/yasna/src/shapes.rt \
     crates/yasna_reader/src/state.rt crates/yasna_reader/src/set.rt \

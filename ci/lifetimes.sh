@@ -1,6 +1,6 @@
 #!/bin/sh
 # What must not compile: in each program of ci/lifetimes a slice that was read outlives the input. The borrow checker must
-# refuse it, for that reason and no other.
+# reject it, for that reason and no other.
 set -eu
 cd "$(dirname "$0")/.."
 work=$(mktemp -d)

@@ -1,10 +1,10 @@
 #!/bin/sh
 # Real certificates come back: each certificate of a folder is read in DER as a `Certificate` of x509 and written again, and the bytes are
-# the same; with a byte behind it, it is refused.
+# the same; with a byte after it, it is rejected.
 #
 #   sh ci/rewrite_certificates.sh [FOLDER]     certificates in PEM, in files *.crt; Debian's where no folder is named
 #
-# Where the folder isn't there, it says so and compares nothing. What runs is rewrite_message as LLVM builds it, which `rt ci` leaves
+# Where the folder isn't there, it says so and compares nothing. What runs is asn1check as LLVM builds it, which `rt ci` leaves
 # there; it is proved and built first where it isn't there or a source is newer.
 set -eu
 cd "$(dirname "$0")/.."
@@ -16,7 +16,7 @@ fi
 work=$(mktemp -d)
 trap 'rm -rf "$work"' EXIT
 . ci/common.sh
-build rewrite_message
+build asn1check
 python3 - "$program" "$folder" << 'END'
 import base64, pathlib, re, subprocess, sys
 

@@ -1,10 +1,10 @@
 #!/bin/sh
-# The lines of yasna_show against openssl: on each certificate of a folder, offsets, depths, lengths of headers and contents, and
-# tags are those that `openssl asn1parse` prints. Lines of what stands in strings are left out, since openssl shows none.
+# The lines of asn1show against openssl: on each certificate of a folder, offsets, depths, lengths of headers and contents, and
+# tags are those that `openssl asn1parse` prints. Lines of what is in strings are omitted, since openssl shows none.
 #
 #   sh ci/show_certificates.sh [FOLDER]     certificates in PEM, in files *.crt; Debian's where no folder is named
 #
-# Where openssl or the folder isn't there, it says so and compares nothing. What runs is yasna_show as LLVM builds it, which
+# Where openssl or the folder isn't there, it says so and compares nothing. What runs is asn1show as LLVM builds it, which
 # `rt ci` leaves there; it is proved and built first where it isn't there or a source is newer.
 set -eu
 cd "$(dirname "$0")/.."
@@ -20,7 +20,7 @@ fi
 work=$(mktemp -d)
 trap 'rm -rf "$work"' EXIT
 . ci/common.sh
-build yasna_show
+build asn1show
 python3 - "$program" "$folder" << 'END'
 import pathlib, re, subprocess, sys
 
@@ -61,7 +61,7 @@ for path in sorted(pathlib.Path(folder).glob('*.crt')):
     wanted, shown = list(by_openssl(path)), list(by_program(program, path))
     if wanted != shown:
         differs = next((pair for pair in zip(wanted, shown) if pair[0] != pair[1]), (len(wanted), len(shown)))
-        sys.exit(f'{path}: openssl has {differs[0]}, yasna_show {differs[1]}')
+        sys.exit(f'{path}: openssl has {differs[0]}, asn1show {differs[1]}')
     count += len(shown)
 print(f'{count} elements: the lines are those of openssl')
 END

@@ -100,7 +100,7 @@ impl<'a> Bytes<'a> {
         }
     }
 
-    // What a reading of the contents of a SEQUENCE answers, which takes all of them.
+    // What a reading of the contents of a SEQUENCE returns, which takes all of them.
     pub fn sequence<T>(&mut self, read: impl FnOnce(&mut Bytes<'a>) -> Option<T>) -> Option<T> {
         self.enclosed(48, read)
     }

@@ -10,7 +10,7 @@ const SHA256_WITH_RSA: &[u64] = &[1, 2, 840, 113_549, 1, 1, 11];
 
 const RSA: &[u64] = &[1, 2, 840, 113_549, 1, 1, 1];
 
-// Of each attribute of a name the last component, behind 2.5.4, and the text.
+// Of each attribute of a name the last component, after 2.5.4, and the text.
 const SUBJECT: [(u64, &str); 4] = [
     (6, "NL"),
     (10, "Example Organisation"),
@@ -24,7 +24,7 @@ const ISSUER: [(u64, &str); 3] = [
     (3, "Example Authority R3"),
 ];
 
-// Of each extension the last component, behind 2.5.29, whether it is critical, and how many octets it has.
+// Of each extension the last component, after 2.5.29, whether it is critical, and how many octets it has.
 const EXTENSIONS: [(u64, bool, usize); 8] = [
     (14, false, 22),
     (15, true, 4),

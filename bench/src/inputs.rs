@@ -6,7 +6,7 @@ pub const INTEGERS: usize = 100_000;
 
 pub const PAIRS: u32 = 20_000;
 
-/// What a call answers that was refused.
+/// What a call returns that was rejected.
 pub const REFUSED: u64 = u64::MAX;
 
 /// A checksum with one more number in it.

@@ -20,7 +20,7 @@ use measure::Case;
 use std::env;
 use std::process::{Command, ExitCode};
 
-// The word in front of the name of a case that this process is to time.
+// The word before the name of a case that this process is to time.
 const ONLY: &str = "only";
 
 fn main() -> ExitCode {
@@ -49,7 +49,7 @@ fn cases() -> impl Iterator<Item = Case> {
         .chain(options::cases())
 }
 
-// Times each case whose name holds this, and answers whether the contestants agree. Each has a process of its own: what the
+// Times each case whose name holds this, and returns whether the contestants agree. Each has a process of its own: what the
 // contestants of one leave on the heap moves the times of another by up to a tenth.
 fn time_each(wanted: &str) -> bool {
     let Ok(program) = env::current_exe() else {

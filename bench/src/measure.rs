@@ -15,7 +15,7 @@ pub enum Contestant {
 use Contestant::{Asn1, Bcder, ByHand, Port, Upstream};
 
 impl Contestant {
-    /// What stands over its column.
+    /// What is over its column.
     fn title(self) -> &'static str {
         match self {
             Port => "here",
@@ -31,7 +31,7 @@ const COLUMNS: [Contestant; 5] = [Port, Upstream, Asn1, Bcder, ByHand];
 
 type Work = Box<dyn FnMut() -> u64>;
 
-/// One piece of work, which each contestant does and answers by the same number.
+/// One piece of work, which each contestant does and returns by the same number.
 pub struct Case {
     pub name: &'static str,
     /// How many calls make one measurement.
@@ -81,7 +81,7 @@ pub fn print_head() {
     println!("|---|---|---|---|---|---|---|");
 }
 
-/// Times a case, its contestants in turn, and prints its row. Answers whether all answered the same number.
+/// Times a case, its contestants in turn, and prints its row. Returns whether all returned the same number.
 pub fn print_row(mut case: Case, rounds: usize) -> bool {
     let answers: Vec<u64> = case.works.iter_mut().map(|(_, work)| work()).collect();
     let mut times: Vec<Vec<f64>> = vec![Vec::new(); case.works.len()];

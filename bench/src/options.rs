@@ -1,4 +1,4 @@
-//! Cases of ten parts that may be left out, each under a tag of its own: by calls that are written one behind the other, and by one call
+//! Cases of ten parts that may be omitted, each under a tag of its own: by calls that are written one after the other, and by one call
 //! in a loop. Both sides have the same form.
 
 use crate::inputs::{kept, mixed, REFUSED};

@@ -10,12 +10,12 @@ mod linked {
         pub fn yasna_read_options(bytes: *const u8, length: usize, count: usize, der: bool) -> u64;
         pub fn yasna_read_tagged(bytes: *const u8, length: usize, count: usize, der: bool) -> u64;
         pub fn yasna_read_big_integer(bytes: *const u8, length: usize, der: bool) -> u64;
-        pub fn yasna_read_nest(bytes: *const u8, length: usize, depth: usize, der: bool) -> u64;
+        pub fn yasna_read_nested(bytes: *const u8, length: usize, depth: usize, der: bool) -> u64;
         pub fn yasna_encode_pair(number: i64, flag: bool) -> u64;
         pub fn yasna_write_integers(numbers: *const i64, length: usize) -> u64;
         pub fn yasna_write_pairs(count: u32, depth: usize) -> u64;
         pub fn yasna_write_pairs_cer(count: u32) -> u64;
-        pub fn yasna_write_nest(contents: *const u8, length: usize, depth: usize) -> u64;
+        pub fn yasna_write_nested(contents: *const u8, length: usize, depth: usize) -> u64;
         pub fn yasna_read_bytes(bytes: *const u8, length: usize, der: bool) -> u64;
         pub fn yasna_read_bytes_cer(bytes: *const u8, length: usize) -> u64;
         pub fn yasna_write_bytes(contents: *const u8, length: usize) -> u64;
@@ -94,7 +94,7 @@ pub fn read_big_integer(bytes: &[u8], der: bool) -> u64 {
 }
 
 pub fn read_nest(bytes: &[u8], depth: usize, der: bool) -> u64 {
-    unsafe { linked::yasna_read_nest(bytes.as_ptr(), bytes.len(), depth, der) }
+    unsafe { linked::yasna_read_nested(bytes.as_ptr(), bytes.len(), depth, der) }
 }
 
 pub fn encode_pair(number: i64, flag: bool) -> u64 {
@@ -114,7 +114,7 @@ pub fn write_pairs_cer(count: u32) -> u64 {
 }
 
 pub fn write_nest(contents: &[u8], depth: usize) -> u64 {
-    unsafe { linked::yasna_write_nest(contents.as_ptr(), contents.len(), depth) }
+    unsafe { linked::yasna_write_nested(contents.as_ptr(), contents.len(), depth) }
 }
 
 pub fn read_bytes(bytes: &[u8], der: bool) -> u64 {

@@ -17,7 +17,7 @@ fn length_in(checksum: u64, element: &[u8]) -> u64 {
     mixed(checksum, black_box(element).len() as i64)
 }
 
-// Upstream and bcder copy the bytes of an element; only bcder looks into them, as this library does.
+// Upstream and bcder copy the bytes of an element; only bcder descends into them, as this library does.
 fn certificates() -> Case {
     let bytes = certificates::list();
     Case::new("read_der of 150 certificates in DER", 20)

@@ -27,7 +27,7 @@ pub fn cases() -> Vec<Case> {
             false,
         ),
         pair(
-            "refuse a pair at its end",
+            "reject a pair at its end",
             kept(vec![48, 6, 2, 1, 10, 1, 1, 254]),
             true,
         ),
@@ -41,7 +41,7 @@ pub fn cases() -> Vec<Case> {
         nest("nested 100, BER", inputs::indefinite_nest(DEPTH), false),
         big_integer("big integer of 1 MiB read"),
         integers(
-            "refuse 100k integers at the end",
+            "reject 100k integers at the end",
             inputs::broken_list(numbers),
         ),
     ]

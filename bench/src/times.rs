@@ -27,7 +27,7 @@ pub fn cases() -> Vec<Case> {
     ]
 }
 
-// Texts of UTCTime, one behind the other.
+// Texts of UTCTime, one after the other.
 fn utc_texts() -> &'static [u8] {
     let text = |number: usize| {
         let (month, day) = (number % 12 + 1, number % 28 + 1);
@@ -41,7 +41,7 @@ fn utc_texts() -> &'static [u8] {
     kept((0..TIMES).flat_map(|n| text(n).into_bytes()).collect())
 }
 
-// Texts of GeneralizedTime, one behind the other.
+// Texts of GeneralizedTime, one after the other.
 fn generalized_texts() -> &'static [u8] {
     let text = |number: usize| {
         let (month, day) = (number % 12 + 1, number % 28 + 1);

@@ -1,4 +1,4 @@
-//! An allocator in front of the C library's, which refuses one request for memory of a program.
+//! An allocator before the C library's, which refuses one request for memory of a program.
 //!
 //! `LD_PRELOAD` names it, and `REFUSED_REQUEST` says which request is refused; 1 is the first, and with none that it can
 //! read it refuses none. A refusal is written to standard error as [`MARK`], and sets `errno`. All other requests go to the C
@@ -16,9 +16,9 @@ const MARK: &[u8] = b"a request for memory was refused\n";
 const STANDARD_ERROR: c_int = 2;
 const ENOMEM: c_int = 12;
 
-/// How many more requests are granted before the refused one; below zero behind it, and where none is refused.
+/// How many more requests are granted before the refused one; below zero after it, and where none is refused.
 static GRANTED: AtomicI64 = AtomicI64::new(UNREAD);
-/// What stands there until the first request.
+/// What is there until the first request.
 const UNREAD: i64 = i64::MAX;
 
 #[link(name = "c")]

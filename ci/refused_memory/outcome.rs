@@ -1,4 +1,4 @@
-//! What a run of the program answered.
+//! What a run of the program returned.
 
 use crate::program::Run;
 
@@ -8,15 +8,15 @@ const NO_MEMORY_STATUS: i32 = 4;
 
 /// What a run came to.
 pub enum Outcome {
-    /// No request was refused, and each vector answered what it says.
+    /// No request was refused, and each vector returned what it says.
     Ample,
-    /// A request was refused, and each vector answered what it says.
+    /// A request was refused, and each vector returned what it says.
     Unchanged,
-    /// The vector at this place, counted from 1, answered want of memory, and each other one what it says.
+    /// The vector at this place, counted from 1, returned `OutOfMemory`, and each other one what it says.
     Refused(usize),
     /// So with no answer: there was no memory for the vector's argument, or for the text of its answer.
     Silent(usize),
-    /// There was no memory for what the program does in front of all vectors, or behind them.
+    /// There was no memory for what the program does before all vectors, or after them.
     NoMemory,
     /// Anything else, and what it was.
     Wrong(String),
@@ -39,7 +39,7 @@ impl Outcome {
     }
 }
 
-/// How many vectors answered want of memory and how many nothing, and the place of the last of these. None where the
+/// How many vectors returned `OutOfMemory` and how many nothing, and the place of the last of these. None where the
 /// program said anything else, or that it ran another number of vectors, or that one failed.
 fn tally(said: &str, vectors: usize) -> Option<[usize; 3]> {
     let numbers = said.split(|digit: char| !digit.is_ascii_digit());

@@ -1,4 +1,4 @@
-//! What the sweeps share: a program behind the allocator, which refuses one request for memory of a run.
+//! What the sweeps share: a program after the allocator, which refuses one request for memory of a run.
 
 use std::error::Error;
 use std::fs::File;
@@ -9,7 +9,7 @@ use std::process::{Command, ExitCode, ExitStatus};
 /// What the allocator writes where it refuses.
 const MARK: &str = "a request for memory was refused\n";
 
-/// A program, and the allocator in front of it.
+/// A program, and the allocator before it.
 pub struct Program {
     pub path: PathBuf,
     pub allocator: PathBuf,
@@ -28,7 +28,7 @@ pub struct Run {
 
 impl Program {
     /// Runs the program on a file for its first request, which is refused then, its second, and so on, up to the run in which
-    /// none was refused. Hands on each request and its run, and answers the request that wasn't made.
+    /// none was refused. Hands on each request and its run, and returns the request that wasn't made.
     pub fn sweep(
         &self,
         arguments: &[&str],

@@ -2,15 +2,15 @@
 //!
 //!     sweep_tool PROGRAM ALLOCATOR FOLDER
 //!
-//! PROGRAM takes a value of each kind in each mode, behind ALLOCATOR (`allocator.rs`), which refuses one request of a run: its
+//! PROGRAM takes a value of each kind in each mode, after ALLOCATOR (`allocator.rs`), which refuses one request of a run: its
 //! first, its second, and so on, until none was refused. Each refusal is one of these, and anything else is printed, and
 //! counted as failed:
 //!
 //! | Status | Standard output | Standard error | The request |
 //! |---|---|---|---|
-//! | 3 | nothing | `io` | is made while the arguments are read, in front of all those of the value |
+//! | 3 | nothing | `io` | is made while the arguments are read, before all those of the value |
 //! | 1 | nothing | `ASN1Error { kind: OutOfMemory }` | is of the value |
-//! | 0 | the DER form | nothing | is one that the program does without |
+//! | 0 | the DER encoding | nothing | is one that the program does without |
 //!
 //! FOLDER is for the files that the runs read.
 
@@ -28,7 +28,7 @@ const USAGE: &str = "usage: sweep_tool PROGRAM ALLOCATOR FOLDER";
 const OUT_OF_MEMORY: &str = "ASN1Error { kind: OutOfMemory }\n";
 const DEVICE: &str = "io\nthe arguments could not be read\n";
 
-/// A kind that the program knows, an encoding of such a value in BER, and its forms in DER and in CER.
+/// A kind that the program knows, an encoding of such a value in BER, and its encodings in DER and in CER.
 struct Kind {
     name: &'static str,
     ber: &'static [u8],

@@ -2,18 +2,18 @@
 //!
 //!     sweep_vectors PROGRAM ALLOCATOR VECTORS ROWS FOLDER JOBS
 //!
-//! PROGRAM runs vectors in its mode `memory` (`crates/yasna_vectors/src/memory.rt`), behind ALLOCATOR (`allocator.rs`), which
+//! PROGRAM runs vectors in its mode `memory` (`crates/yasna_vectors/src/memory.rt`), after ALLOCATOR (`allocator.rs`), which
 //! refuses one request of a run. Some vectors go into each run, and the run is made for its first request, its second, and
 //! so on, until none was refused. Each refusal is one of these, and anything else is printed, and counted as failed:
 //!
-//! - in front of the vectors the program has no memory for its arguments or its input, or does without;
-//! - one vector answers want of memory;
-//! - one vector answers nothing: there was no memory for its argument, or for the text of its answer;
-//! - each vector answers what it says: a writer does without the memory of a mark, where an element with parts begins. One
-//!   that writes such an element stands there, from the vector of the request before to that of the request behind;
-//! - behind the vectors the program has no memory for its report.
+//! - before the vectors the program has no memory for its arguments or its input, or does without;
+//! - one vector returns `OutOfMemory`;
+//! - one vector returns nothing: there was no memory for its argument, or for the text of its answer;
+//! - each vector returns what it says: a writer does without the memory of a mark, where an element with parts begins. One
+//!   that writes such an element is there, from the vector of the request before to that of the request after;
+//! - after the vectors the program has no memory for its report.
 //!
-//! Vectors that answer want of memory in any case are left out, and two that make a million requests each (`vector.rs`). Each
+//! Vectors that answer `OutOfMemory` in any case are omitted, and two that make a million requests each (`vector.rs`). Each
 //! row of ROWS is to be the call of one that isn't. JOBS runs go on side by side, and FOLDER is for the files that they read.
 
 mod outcome;
@@ -84,7 +84,7 @@ struct Group<'a> {
     input: PathBuf,
 }
 
-/// Deals the vectors to the groups in turn: those that take long stand beside each other, and go into groups of their own.
+/// Deals the vectors to the groups in turn: those that take long are beside each other, and go into groups of their own.
 fn groups_of<'a>(vectors: &'a [Vector<'a>], folder: &Path) -> io::Result<Vec<Group<'a>>> {
     let count = vectors.len().div_ceil(GROUP);
     let deal = |number: usize| {

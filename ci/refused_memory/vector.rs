@@ -2,7 +2,7 @@
 
 use std::collections::HashSet;
 
-/// Calls that ask for memory a million times each, and are left out.
+/// Calls that ask for memory a million times each, and are omitted.
 const LEFT_OUT: [&str; 2] = ["ber cut 1048576/1", "der cut 1048576/1"];
 /// Families of calls that write, also where the answer doesn't show what.
 const WRITING: [&str; 5] = ["w", "tw", "refused", "own", "seqof_many"];
@@ -28,12 +28,12 @@ impl<'a> Vector<'a> {
         })
     }
 
-    /// Whether its requests are to be refused: not where it answers want of memory anyway.
+    /// Whether its requests are to be refused: not where it returns `OutOfMemory` anyway.
     fn is_taken(&self) -> bool {
         !LEFT_OUT.contains(&self.case) && !self.answer.starts_with("err OutOfMemory")
     }
 
-    /// Whether it writes an element with parts, or may do so. The last word of an answer `ok` is the form that was written, but
+    /// Whether it writes an element with parts, or may do so. The last word of an answer `ok` is the encoding that was written, but
     /// for one call.
     pub fn writes_parts(&self) -> bool {
         let family = self.call.split(':').next().unwrap_or(self.call);
@@ -46,8 +46,8 @@ impl<'a> Vector<'a> {
     }
 }
 
-/// Whether this is an element in hexadecimal whose identifier says that it has parts. Pieces stand between
-/// `+`, and behind a `*` how often one stands there.
+/// Whether this is an element in hexadecimal whose identifier says that it has parts. Pieces are between
+/// `+`, and after a `*` how often one is there.
 fn has_parts(form: &str) -> bool {
     let form = form.trim_start_matches('+');
     let form = form.split(['+', '*']).next().unwrap_or(form);

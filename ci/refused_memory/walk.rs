@@ -9,11 +9,11 @@ use std::ops::Add;
 /// What became of refused requests.
 #[derive(Clone, Copy, Default)]
 pub struct Counts {
-    /// The vector answered want of memory.
+    /// The vector returned `OutOfMemory`.
     pub refused: usize,
     /// There was no memory for an argument or a text.
     pub silent: usize,
-    /// All vectors answered what they say.
+    /// All vectors returned what they say.
     pub without: usize,
     pub failed: usize,
 }
@@ -41,10 +41,10 @@ impl Sum for Counts {
 pub struct Walk<'a> {
     vectors: &'a [&'a Vector<'a>],
     counts: Counts,
-    /// How many requests the program makes in front of the vectors, and behind them.
+    /// How many requests the program makes before the vectors, and after them.
     front: usize,
     behind: usize,
-    /// The last vector that lacked memory, counted from 1.
+    /// The last vector that ran out of memory, counted from 1.
     place: usize,
     /// The requests since then that all vectors did without.
     unsettled: Vec<usize>,
@@ -77,7 +77,7 @@ impl<'a> Walk<'a> {
                 self.counts.silent += 1;
             }
             Outcome::NoMemory if self.place == 0 => {
-                // what was done without before stood in front of the vectors too
+                // what was done without before was before the vectors too
                 self.front += self.unsettled.len() + 1;
                 self.unsettled.clear();
             }
@@ -97,7 +97,7 @@ impl<'a> Walk<'a> {
         place < self.place || self.behind > 0
     }
 
-    /// Goes on to the vector at this place, which lacked memory.
+    /// Goes on to the vector at this place, which ran out of memory.
     fn go_to(&mut self, request: usize, place: usize) {
         self.settle(place);
         self.pass_over(request, place);
@@ -118,7 +118,7 @@ impl<'a> Walk<'a> {
         }
     }
 
-    /// Notes the vectors in front of this place that never lacked memory.
+    /// Notes the vectors before this place that never ran out of memory.
     fn pass_over(&mut self, request: usize, place: usize) {
         for vector in self.vectors.get(self.place..place - 1).unwrap_or_default() {
             self.fail(request, &format!("none before it was of {}", vector.line));

@@ -3,29 +3,29 @@
 //! | Status | When |
 //! |---|---|
 //! | 0 | the elements are written |
-//! | 1 | the input isn't elements in BER, or with `--strict` their form in DER is in doubt: nothing is written |
+//! | 1 | the input isn't elements in BER, or with `--strict` their encoding in DER is in doubt: nothing is written |
 //! | 2 | the arguments are others |
 //! | 3 | a read or a write failed, or there was no memory |
 //!
-//! The crate `yasna_conversion` holds what it does between its ends.
+//! The crate `asn1der_convert` holds what it does between its ends.
 #![tactic(auto)]
 
+use asn1der_convert::ambiguity::{Ambiguities, Ambiguity};
+use asn1der_convert::conversion::convert;
+use asn1der_convert::error::ConvertError;
 use std::io::{Read, Write};
 use std::process::ExitCode;
 use std::{env, io};
-use yasna_conversion::conversion::convert;
-use yasna_conversion::doubt::{Doubt, Doubts};
-use yasna_conversion::fault::Fault;
 
-// The status where the input is broken or in doubt.
-const REFUSED: u8 = 1;
+// The status where the input is malformed or in doubt.
+const REJECTED: u8 = 1;
 
 // The status where a read or a write failed, or there was no memory.
-const DEVICE: u8 = 3;
+const IO_ERROR: u8 = 3;
 
 const USAGE: &str = "usage: asn1der [--strict]
 Reads elements in BER from standard input, and writes them in DER to standard output.
---strict refuses what has its form in DER by a schema alone.
+--strict rejects elements whose DER encoding depends on a schema.
 No schema is known: values that equal a DEFAULT stay, though DER leaves them out.";
 
 fn read(rt: &HostRuntime) -> io::Result<Vec<u8>> {
@@ -40,7 +40,7 @@ fn write(rt: &HostRuntime, bytes: &[u8]) -> io::Result<()> {
     out.flush()
 }
 
-// Whether the words behind the program's name ask for no doubt, if they are known.
+// Whether the words after the program's name ask for no doubt, if they are known.
 fn is_strict(words: &[String]) -> Option<bool> {
     match words {
         [_] => Some(false),
@@ -50,10 +50,10 @@ fn is_strict(words: &[String]) -> Option<bool> {
 }
 
 // Says where the first doubt of each kind is.
-fn tell(rt: &HostRuntime, doubts: &Doubts) {
-    for doubt in [Doubt::Segments, Doubt::Order] {
-        if let Some(offset) = doubts.first(doubt) {
-            let _ = writeln!(rt.stderr(), "offset {offset}: {doubt}");
+fn report(rt: &HostRuntime, ambiguities: &Ambiguities) {
+    for ambiguity in [Ambiguity::Segments, Ambiguity::Order] {
+        if let Some(offset) = ambiguities.first(ambiguity) {
+            let _ = writeln!(rt.stderr(), "offset {offset}: {ambiguity}");
         }
     }
 }
@@ -62,25 +62,25 @@ fn tell(rt: &HostRuntime, doubts: &Doubts) {
 fn run(rt: &HostRuntime, strict: bool) -> u8 {
     let Ok(input) = read(rt) else {
         let _ = writeln!(rt.stderr(), "standard input can't be read");
-        return DEVICE;
+        return IO_ERROR;
     };
     let converted = match convert(rt.alloc(), input.as_slice()) {
         Ok(converted) => converted,
-        Err(fault) => {
-            let _ = writeln!(rt.stderr(), "{fault}");
-            return match fault {
-                Fault::Broken { .. } => REFUSED,
-                Fault::Memory => DEVICE,
+        Err(error) => {
+            let _ = writeln!(rt.stderr(), "{error}");
+            return match error {
+                ConvertError::Malformed { .. } => REJECTED,
+                ConvertError::Memory => IO_ERROR,
             };
         }
     };
-    tell(rt, &converted.doubts);
-    if strict && converted.doubts.are_any() {
-        return REFUSED;
+    report(rt, &converted.ambiguities);
+    if strict && converted.ambiguities.are_any() {
+        return REJECTED;
     }
     if write(rt, converted.bytes.as_slice()).is_err() {
         let _ = writeln!(rt.stderr(), "standard output can't be written");
-        return DEVICE;
+        return IO_ERROR;
     }
     0
 }
@@ -88,7 +88,7 @@ fn run(rt: &HostRuntime, strict: bool) -> u8 {
 fn main(rt: HostRuntime) -> ExitCode {
     let Ok(words) = env::args(&rt).and_then(|all| Ok(all.collect::<Vec<String>>(rt.alloc())?))
     else {
-        return ExitCode::from(DEVICE);
+        return ExitCode::from(IO_ERROR);
     };
     match is_strict(words.as_slice()) {
         Some(strict) => ExitCode::from(run(&rt, strict)),

@@ -8,26 +8,26 @@
 //! UnprotectedAttributes ::= SET SIZE (1..MAX) OF Attribute
 //! ```
 ghost use Rattle.std.specs.Prelude.{◌≡◌, refl};
-ghost use Rattle.yasna_notation.specs.Laws.{standing_keeps, element_filled};
+ghost use Rattle.yasna_notation.specs.Laws.{represented_lawful, element_non_empty};
 ghost use Rattle.yasna_notation.specs.Making.{in_set_of, set_not_empty};
-ghost use Rattle.yasna_notation.specs.Notation.{stands_for};
-ghost use Rattle.x509.specs.contracts.attribute.AttributeNotation.TheImpl.Laws.{keeps-law as attribute};
+ghost use Rattle.yasna_notation.specs.Notation.{represented_by};
+ghost use Rattle.x509.specs.contracts.attribute.AttributeNotation.TheImpl.Laws.{lawful-law as attribute};
 
 use x509::Attribute;
 use yasna::tags::TAG_SET;
 use yasna::{ASN1Result, BERReader, DERWriter, Tag};
-use yasna_notation::{Bounded, Message, NotEmpty, Notation, SetOf, StandsFor, read_as};
+use yasna_notation::{Bounded, Message, NotEmpty, Notation, Represents, SetOf, read_as};
 
 type Set = Bounded<SetOf<Attribute>, NotEmpty>;
 
 /// Attributes, one or more. The digest of a signer's signed attributes is that of their DER encoding as these, not under `[0]`.
 #[derive(Drop)]
 pub struct Attributes {
-    /// One or more. They stand in no order.
+    /// One or more. They are in no order.
     pub attributes: Vec<Attribute>,
 }
 
-impl StandsFor<Vec<Attribute>> for Attributes {
+impl Represents<Vec<Attribute>> for Attributes {
     ghost value_of = { λ v. v.attributes };
 
     fn from_value(attributes: Vec<Attribute>) -> Attributes {
@@ -40,7 +40,7 @@ impl Notation for Attributes {
 
     type Inner = ();
 
-    ghost means = { stands_for ⟦<Attributes as StandsFor<Vec<Attribute>>>⟧.value_of ⟦<Set as Notation>⟧.means };
+    ghost means = { represented_by ⟦<Attributes as Represents<Vec<Attribute>>>⟧.value_of ⟦<Set as Notation>⟧.means };
 
     fn has_tag(tag: Tag) -> bool {
         tag == TAG_SET
@@ -54,12 +54,12 @@ impl Notation for Attributes {
         <Set as Notation>::write(&value.attributes, writer)
     }
 
-    ghost keeps = { λ _. standing_keeps ⟦<Attributes as StandsFor<Vec<Attribute>>>⟧.value_of
+    ghost lawful = { λ _. represented_lawful ⟦<Attributes as Represents<Vec<Attribute>>>⟧.value_of
         (set_not_empty (in_set_of (attribute refl).own)) };
 
-    ghost filled = { λ u m v. element_filled _ _ _ _ };
+    ghost non_empty = { λ u m v. element_non_empty _ _ _ _ };
 }
 
 impl Message for Attributes {
-    ghost told_apart = { refl };
+    ghost is_unambiguous = { refl };
 }

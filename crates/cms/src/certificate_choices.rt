@@ -16,12 +16,12 @@
 //! Those of the other formats are SEQUENCEs too. Their parts are kept as they came.
 ghost use Rattle.std.specs.Prelude.{◌≡◌, refl};
 ghost use Rattle.std.proofs.Common.{arith};
-ghost use Rattle.yasna_notation.specs.Choices.{either_filled};
-ghost use Rattle.yasna_notation.specs.Laws.{standing_keeps, element_filled};
+ghost use Rattle.yasna_notation.specs.Choices.{either_non_empty};
+ghost use Rattle.yasna_notation.specs.Laws.{represented_lawful, element_non_empty};
 ghost use Rattle.yasna_notation.specs.Making.{in_sequence_of, in_choice, in_implicit, alternative};
-ghost use Rattle.yasna_notation.specs.Notation.{stands_for};
-ghost use Rattle.yasna_notation.specs.contracts.any.TaggedDerValueNotation.TheImpl.Laws.{keeps-law as any};
-ghost use Rattle.x509.specs.contracts.certificate.CertificateNotation.TheImpl.Laws.{keeps-law as certificate};
+ghost use Rattle.yasna_notation.specs.Notation.{represented_by};
+ghost use Rattle.yasna_notation.specs.contracts.any.TaggedDerValueNotation.TheImpl.Laws.{lawful-law as any};
+ghost use Rattle.x509.specs.contracts.certificate.CertificateNotation.TheImpl.Laws.{lawful-law as certificate};
 ghost use Rattle.yasna_notation.specs.declared.choices.Either.TheVariants.{First, Second};
 ghost use Rattle.cms.specs.declared.certificate_choices.CertificateChoices.TheVariants.{Certificate as Plain};
 ghost use Rattle.cms.specs.declared.certificate_choices.CertificateChoices.TheVariants.{ExtendedCertificate, V1AttrCert, V2AttrCert, Other};
@@ -31,7 +31,7 @@ use yasna::models::TaggedDerValue;
 use yasna::{ASN1Result, BERReader, DERWriter, Tag};
 use yasna_notation::Either::{First, Second};
 use yasna_notation::{
-    Alternatives, Choice, Context, Either, Implicit, Message, Notation, SequenceOf, StandsFor,
+    Alternatives, Choice, Context, Either, Implicit, Message, Notation, Represents, SequenceOf,
     read_as,
 };
 
@@ -51,9 +51,12 @@ type Formats = (Extended, AttributeFormats);
 
 type Types = (Certificate, Formats);
 
-type Kept = Vec<TaggedDerValue>;
+type RawElements = Vec<TaggedDerValue>;
 
-type Value = Either<Certificate, Either<Kept, Either<Kept, Either<Kept, Kept>>>>;
+type Value = Either<
+    Certificate,
+    Either<RawElements, Either<RawElements, Either<RawElements, RawElements>>>,
+>;
 
 /// A certificate, or the parts of one of another format as they came.
 #[derive(Drop)]
@@ -65,7 +68,7 @@ pub enum CertificateChoices {
     Other(Vec<TaggedDerValue>),
 }
 
-impl StandsFor<Value> for CertificateChoices {
+impl Represents<Value> for CertificateChoices {
     ghost value_of = { λ v. elim v [
       | Plain c ↦ First c
       | ExtendedCertificate p ↦ Second (First p)
@@ -90,7 +93,7 @@ impl Notation for CertificateChoices {
 
     type Inner = ();
 
-    ghost means = { stands_for ⟦<CertificateChoices as StandsFor<Value>>⟧.value_of ⟦<Choice<Types> as Notation>⟧.means };
+    ghost means = { represented_by ⟦<CertificateChoices as Represents<Value>>⟧.value_of ⟦<Choice<Types> as Notation>⟧.means };
 
     fn has_tag(tag: Tag) -> bool {
         <Types as Alternatives>::has_tag(tag)
@@ -113,23 +116,23 @@ impl Notation for CertificateChoices {
         }
     }
 
-    ghost keeps = { λ _. standing_keeps ⟦<CertificateChoices as StandsFor<Value>>⟧.value_of
-        (in_choice ⟦<Choice<Types> as Notation>⟧.means.form_under
+    ghost lawful = { λ _. represented_lawful ⟦<CertificateChoices as Represents<Value>>⟧.value_of
+        (in_choice ⟦<Choice<Types> as Notation>⟧.means.encoding_under
         (alternative (certificate refl).own refl
         (alternative (in_implicit 0 (omega arith) (in_sequence_of (any refl).own)).own refl
         (alternative (in_implicit 1 (omega arith) (in_sequence_of (any refl).own)).own refl
         (alternative (in_implicit 2 (omega arith) (in_sequence_of (any refl).own)).own refl
         (in_implicit 3 (omega arith) (in_sequence_of (any refl).own)).own))))) };
 
-    ghost filled = { λ u m v.
-        either_filled (⟦<Certificate as Notation>⟧.means.form_under u) (⟦<Formats as Alternatives>⟧.form_under u) m (λ c. element_filled _ _ _ _)
-        (either_filled (⟦<Extended as Notation>⟧.means.form_under u) (⟦<AttributeFormats as Alternatives>⟧.form_under u) m
-        (λ p. element_filled _ _ _ _)
-        (either_filled (⟦<V1 as Notation>⟧.means.form_under u) (⟦<LastFormats as Alternatives>⟧.form_under u) m (λ p. element_filled _ _ _ _)
-        (either_filled (⟦<V2 as Notation>⟧.means.form_under u) (⟦<OtherFormat as Notation>⟧.means.form_under u) m
-        (λ p. element_filled _ _ _ _) (λ p. element_filled _ _ _ _)))) (⟦<CertificateChoices as StandsFor<Value>>⟧.value_of v) };
+    ghost non_empty = { λ u m v.
+        either_non_empty (⟦<Certificate as Notation>⟧.means.encoding_under u) (⟦<Formats as Alternatives>⟧.encoding_under u) m (λ c. element_non_empty _ _ _ _)
+        (either_non_empty (⟦<Extended as Notation>⟧.means.encoding_under u) (⟦<AttributeFormats as Alternatives>⟧.encoding_under u) m
+        (λ p. element_non_empty _ _ _ _)
+        (either_non_empty (⟦<V1 as Notation>⟧.means.encoding_under u) (⟦<LastFormats as Alternatives>⟧.encoding_under u) m (λ p. element_non_empty _ _ _ _)
+        (either_non_empty (⟦<V2 as Notation>⟧.means.encoding_under u) (⟦<OtherFormat as Notation>⟧.means.encoding_under u) m
+        (λ p. element_non_empty _ _ _ _) (λ p. element_non_empty _ _ _ _)))) (⟦<CertificateChoices as Represents<Value>>⟧.value_of v) };
 }
 
 impl Message for CertificateChoices {
-    ghost told_apart = { refl };
+    ghost is_unambiguous = { refl };
 }

@@ -9,17 +9,17 @@
 //! ```
 ghost use Rattle.std.specs.Prelude.{◌≡◌, refl};
 ghost use Rattle.std.proofs.Common.{arith};
-ghost use Rattle.yasna_notation.specs.Laws.{standing_keeps, element_filled};
+ghost use Rattle.yasna_notation.specs.Laws.{represented_lawful, element_non_empty};
 ghost use Rattle.yasna_notation.specs.Making.{in_sequence, part, in_explicit};
-ghost use Rattle.yasna_notation.specs.Notation.{stands_for};
+ghost use Rattle.yasna_notation.specs.Notation.{represented_by};
 ghost use Rattle.yasna_notation.specs.Parts.{no_parts};
-ghost use Rattle.yasna_notation.specs.contracts.simple.ObjectIdentifierNotation.TheImpl.Laws.{keeps-law as oid};
-ghost use Rattle.yasna_notation.specs.contracts.any.TaggedDerValueNotation.TheImpl.Laws.{keeps-law as any};
+ghost use Rattle.yasna_notation.specs.contracts.simple.ObjectIdentifierNotation.TheImpl.Laws.{lawful-law as oid};
+ghost use Rattle.yasna_notation.specs.contracts.any.TaggedDerValueNotation.TheImpl.Laws.{lawful-law as any};
 
 use yasna::models::{ObjectIdentifier, TaggedDerValue};
 use yasna::tags::TAG_SEQUENCE;
 use yasna::{ASN1Result, BERReader, DERWriter, Tag};
-use yasna_notation::{Context, Explicit, Message, Notation, Sequence, StandsFor, read_as};
+use yasna_notation::{Context, Explicit, Message, Notation, Represents, Sequence, read_as};
 
 type Content = Explicit<Context<0>, TaggedDerValue>;
 
@@ -34,7 +34,7 @@ pub struct ContentInfo {
     pub content: TaggedDerValue,
 }
 
-impl StandsFor<Fields> for ContentInfo {
+impl Represents<Fields> for ContentInfo {
     ghost value_of = { λ v. (v.content_type, (v.content, tt)) };
 
     fn from_value((content_type, (content, ())): Fields) -> ContentInfo {
@@ -50,7 +50,7 @@ impl Notation for ContentInfo {
 
     type Inner = ();
 
-    ghost means = { stands_for ⟦<ContentInfo as StandsFor<Fields>>⟧.value_of ⟦<Sequence<Parts> as Notation>⟧.means };
+    ghost means = { represented_by ⟦<ContentInfo as Represents<Fields>>⟧.value_of ⟦<Sequence<Parts> as Notation>⟧.means };
 
     fn has_tag(tag: Tag) -> bool {
         tag == TAG_SEQUENCE
@@ -64,12 +64,12 @@ impl Notation for ContentInfo {
         Sequence::<Parts>::write_fields((&value.content_type, (&value.content, ())), writer)
     }
 
-    ghost keeps = { λ _. standing_keeps ⟦<ContentInfo as StandsFor<Fields>>⟧.value_of
+    ghost lawful = { λ _. represented_lawful ⟦<ContentInfo as Represents<Fields>>⟧.value_of
         (in_sequence (part (oid refl).own (part (in_explicit 0 (omega arith) (any refl).own).own no_parts))) };
 
-    ghost filled = { λ u m v. element_filled _ _ _ _ };
+    ghost non_empty = { λ u m v. element_non_empty _ _ _ _ };
 }
 
 impl Message for ContentInfo {
-    ghost told_apart = { refl };
+    ghost is_unambiguous = { refl };
 }

@@ -9,18 +9,18 @@
 //! ```
 ghost use Rattle.std.specs.Prelude.{◌≡◌, refl};
 ghost use Rattle.std.proofs.Common.{arith};
-ghost use Rattle.yasna_notation.specs.Laws.{standing_keeps, element_filled};
+ghost use Rattle.yasna_notation.specs.Laws.{represented_lawful, element_non_empty};
 ghost use Rattle.yasna_notation.specs.Making.{in_sequence, part, optional_part, in_explicit};
-ghost use Rattle.yasna_notation.specs.Notation.{stands_for};
+ghost use Rattle.yasna_notation.specs.Notation.{represented_by};
 ghost use Rattle.yasna_notation.specs.Parts.{no_parts};
-ghost use Rattle.yasna_notation.specs.contracts.simple.ObjectIdentifierNotation.TheImpl.Laws.{keeps-law as oid};
-ghost use Rattle.yasna_notation.specs.contracts.strings.VecU8Notation.TheImpl.Laws.{keeps-law as octets};
+ghost use Rattle.yasna_notation.specs.contracts.simple.ObjectIdentifierNotation.TheImpl.Laws.{lawful-law as oid};
+ghost use Rattle.yasna_notation.specs.contracts.strings.VecU8Notation.TheImpl.Laws.{lawful-law as octets};
 
 use yasna::models::ObjectIdentifier;
 use yasna::tags::TAG_SEQUENCE;
 use yasna::{ASN1Result, BERReader, DERWriter, Tag};
 use yasna_notation::{
-    Context, Explicit, Message, Notation, Optional, Sequence, StandsFor, read_as,
+    Context, Explicit, Message, Notation, Optional, Represents, Sequence, read_as,
 };
 
 type EContent = Optional<Explicit<Context<0>, Vec<u8>>>;
@@ -29,14 +29,14 @@ type Parts = (ObjectIdentifier, (EContent, ()));
 
 type Fields = (ObjectIdentifier, (Option<Vec<u8>>, ()));
 
-/// What is signed: its type, and the octets that hold it. They are left out where the content stands elsewhere, or there is none.
+/// What is signed: its type, and the octets that hold it. They are omitted where the content is elsewhere, or there is none.
 #[derive(Drop)]
 pub struct EncapsulatedContentInfo {
     pub e_content_type: ObjectIdentifier,
     pub e_content: Option<Vec<u8>>,
 }
 
-impl StandsFor<Fields> for EncapsulatedContentInfo {
+impl Represents<Fields> for EncapsulatedContentInfo {
     ghost value_of = { λ v. (v.e_content_type, (v.e_content, tt)) };
 
     fn from_value((e_content_type, (e_content, ())): Fields) -> EncapsulatedContentInfo {
@@ -52,7 +52,7 @@ impl Notation for EncapsulatedContentInfo {
 
     type Inner = ();
 
-    ghost means = { stands_for ⟦<EncapsulatedContentInfo as StandsFor<Fields>>⟧.value_of ⟦<Sequence<Parts> as Notation>⟧.means };
+    ghost means = { represented_by ⟦<EncapsulatedContentInfo as Represents<Fields>>⟧.value_of ⟦<Sequence<Parts> as Notation>⟧.means };
 
     fn has_tag(tag: Tag) -> bool {
         tag == TAG_SEQUENCE
@@ -66,12 +66,12 @@ impl Notation for EncapsulatedContentInfo {
         Sequence::<Parts>::write_fields((&value.e_content_type, (&value.e_content, ())), writer)
     }
 
-    ghost keeps = { λ _. standing_keeps ⟦<EncapsulatedContentInfo as StandsFor<Fields>>⟧.value_of
+    ghost lawful = { λ _. represented_lawful ⟦<EncapsulatedContentInfo as Represents<Fields>>⟧.value_of
         (in_sequence (part (oid refl).own (optional_part refl (in_explicit 0 (omega arith) (octets refl).own).own no_parts))) };
 
-    ghost filled = { λ u m v. element_filled _ _ _ _ };
+    ghost non_empty = { λ u m v. element_non_empty _ _ _ _ };
 }
 
 impl Message for EncapsulatedContentInfo {
-    ghost told_apart = { refl };
+    ghost is_unambiguous = { refl };
 }

@@ -14,20 +14,20 @@
 //! ```
 ghost use Rattle.std.specs.Prelude.{◌≡◌, refl};
 ghost use Rattle.std.proofs.Common.{arith};
-ghost use Rattle.yasna_notation.specs.Laws.{standing_keeps, element_filled};
+ghost use Rattle.yasna_notation.specs.Laws.{represented_lawful, element_non_empty};
 ghost use Rattle.yasna_notation.specs.Making.{in_sequence, part, optional_part, in_implicit};
-ghost use Rattle.yasna_notation.specs.Notation.{stands_for};
+ghost use Rattle.yasna_notation.specs.Notation.{represented_by};
 ghost use Rattle.yasna_notation.specs.Parts.{no_parts};
-ghost use Rattle.yasna_notation.specs.contracts.simple.ObjectIdentifierNotation.TheImpl.Laws.{keeps-law as oid};
-ghost use Rattle.yasna_notation.specs.contracts.strings.VecU8Notation.TheImpl.Laws.{keeps-law as octets};
-ghost use Rattle.x509.specs.contracts.algorithm.AlgorithmIdentifierNotation.TheImpl.Laws.{keeps-law as algorithm};
+ghost use Rattle.yasna_notation.specs.contracts.simple.ObjectIdentifierNotation.TheImpl.Laws.{lawful-law as oid};
+ghost use Rattle.yasna_notation.specs.contracts.strings.VecU8Notation.TheImpl.Laws.{lawful-law as octets};
+ghost use Rattle.x509.specs.contracts.algorithm.AlgorithmIdentifierNotation.TheImpl.Laws.{lawful-law as algorithm};
 
 use x509::AlgorithmIdentifier;
 use yasna::models::ObjectIdentifier;
 use yasna::tags::TAG_SEQUENCE;
 use yasna::{ASN1Result, BERReader, DERWriter, Tag};
 use yasna_notation::{
-    Context, Implicit, Message, Notation, Optional, Sequence, StandsFor, read_as,
+    Context, Implicit, Message, Notation, Optional, Represents, Sequence, read_as,
 };
 
 type EncryptedContent = Optional<Implicit<Context<0>, Vec<u8>>>;
@@ -42,7 +42,7 @@ type Fields = (
     (AlgorithmIdentifier, (Option<Vec<u8>>, ())),
 );
 
-/// What is encrypted: its type, the algorithm, and the octets that came of it, unless they stand elsewhere.
+/// What is encrypted: its type, the algorithm, and the octets that came of it, unless they are elsewhere.
 #[derive(Drop)]
 pub struct EncryptedContentInfo {
     pub content_type: ObjectIdentifier,
@@ -50,7 +50,7 @@ pub struct EncryptedContentInfo {
     pub encrypted_content: Option<Vec<u8>>,
 }
 
-impl StandsFor<Fields> for EncryptedContentInfo {
+impl Represents<Fields> for EncryptedContentInfo {
     ghost value_of = { λ v. (v.content_type, (v.content_encryption_algorithm, (v.encrypted_content, tt))) };
 
     fn from_value(
@@ -69,7 +69,7 @@ impl Notation for EncryptedContentInfo {
 
     type Inner = ();
 
-    ghost means = { stands_for ⟦<EncryptedContentInfo as StandsFor<Fields>>⟧.value_of ⟦<Sequence<Parts> as Notation>⟧.means };
+    ghost means = { represented_by ⟦<EncryptedContentInfo as Represents<Fields>>⟧.value_of ⟦<Sequence<Parts> as Notation>⟧.means };
 
     fn has_tag(tag: Tag) -> bool {
         tag == TAG_SEQUENCE
@@ -92,12 +92,12 @@ impl Notation for EncryptedContentInfo {
         )
     }
 
-    ghost keeps = { λ _. standing_keeps ⟦<EncryptedContentInfo as StandsFor<Fields>>⟧.value_of
+    ghost lawful = { λ _. represented_lawful ⟦<EncryptedContentInfo as Represents<Fields>>⟧.value_of
         (in_sequence (part (oid refl).own (part (algorithm refl).own (optional_part refl (in_implicit 0 (omega arith) (octets refl)).own no_parts)))) };
 
-    ghost filled = { λ u m v. element_filled _ _ _ _ };
+    ghost non_empty = { λ u m v. element_non_empty _ _ _ _ };
 }
 
 impl Message for EncryptedContentInfo {
-    ghost told_apart = { refl };
+    ghost is_unambiguous = { refl };
 }

@@ -16,14 +16,14 @@
 //! An OriginatorInfo is a SEQUENCE. Its parts are kept as they came, and so is each RecipientInfo.
 ghost use Rattle.std.specs.Prelude.{◌≡◌, refl};
 ghost use Rattle.std.proofs.Common.{arith};
-ghost use Rattle.yasna_notation.specs.Laws.{standing_keeps, element_filled};
+ghost use Rattle.yasna_notation.specs.Laws.{represented_lawful, element_non_empty};
 ghost use Rattle.yasna_notation.specs.Making.{in_sequence, in_sequence_of, in_set_of, part, optional_part, in_implicit, at_most, set_not_empty};
-ghost use Rattle.yasna_notation.specs.Notation.{stands_for};
+ghost use Rattle.yasna_notation.specs.Notation.{represented_by};
 ghost use Rattle.yasna_notation.specs.Parts.{no_parts};
-ghost use Rattle.yasna_notation.specs.contracts.simple.U64Notation.TheImpl.Laws.{keeps-law as number};
-ghost use Rattle.yasna_notation.specs.contracts.any.TaggedDerValueNotation.TheImpl.Laws.{keeps-law as any};
-ghost use Rattle.cms.specs.contracts.encrypted_content_info.EncryptedContentInfoNotation.TheImpl.Laws.{keeps-law as encrypted};
-ghost use Rattle.cms.specs.contracts.attributes.AttributesNotation.TheImpl.Laws.{keeps-law as attributes};
+ghost use Rattle.yasna_notation.specs.contracts.simple.U64Notation.TheImpl.Laws.{lawful-law as number};
+ghost use Rattle.yasna_notation.specs.contracts.any.TaggedDerValueNotation.TheImpl.Laws.{lawful-law as any};
+ghost use Rattle.cms.specs.contracts.encrypted_content_info.EncryptedContentInfoNotation.TheImpl.Laws.{lawful-law as encrypted};
+ghost use Rattle.cms.specs.contracts.attributes.AttributesNotation.TheImpl.Laws.{lawful-law as attributes};
 
 use crate::attributes::Attributes;
 use crate::encrypted_content_info::EncryptedContentInfo;
@@ -31,8 +31,8 @@ use yasna::models::TaggedDerValue;
 use yasna::tags::TAG_SEQUENCE;
 use yasna::{ASN1Result, BERReader, DERWriter, Tag};
 use yasna_notation::{
-    AtMost, Bounded, Context, Implicit, Message, NotEmpty, Notation, Optional, Sequence,
-    SequenceOf, SetOf, StandsFor, read_as,
+    AtMost, Bounded, Context, Implicit, Message, NotEmpty, Notation, Optional, Represents,
+    Sequence, SequenceOf, SetOf, read_as,
 };
 
 type Version = Bounded<u64, AtMost<5>>;
@@ -63,13 +63,13 @@ pub struct EnvelopedData {
     /// From 0 to 5.
     pub version: u64,
     pub originator_info: Option<Vec<TaggedDerValue>>,
-    /// One or more. They stand in no order.
+    /// One or more. They are in no order.
     pub recipient_infos: Vec<TaggedDerValue>,
     pub encrypted_content_info: EncryptedContentInfo,
     pub unprotected_attrs: Option<Attributes>,
 }
 
-impl StandsFor<Fields> for EnvelopedData {
+impl Represents<Fields> for EnvelopedData {
     ghost value_of = { λ v. (v.version, (v.originator_info, (v.recipient_infos, (v.encrypted_content_info, (v.unprotected_attrs, tt))))) };
 
     fn from_value(
@@ -93,7 +93,7 @@ impl Notation for EnvelopedData {
 
     type Inner = ();
 
-    ghost means = { stands_for ⟦<EnvelopedData as StandsFor<Fields>>⟧.value_of ⟦<Sequence<Parts> as Notation>⟧.means };
+    ghost means = { represented_by ⟦<EnvelopedData as Represents<Fields>>⟧.value_of ⟦<Sequence<Parts> as Notation>⟧.means };
 
     fn has_tag(tag: Tag) -> bool {
         tag == TAG_SEQUENCE
@@ -122,14 +122,14 @@ impl Notation for EnvelopedData {
         )
     }
 
-    ghost keeps = { λ _. standing_keeps ⟦<EnvelopedData as StandsFor<Fields>>⟧.value_of
+    ghost lawful = { λ _. represented_lawful ⟦<EnvelopedData as Represents<Fields>>⟧.value_of
         (in_sequence (part (at_most 5 (number refl)).own (optional_part refl (in_implicit 0 (omega arith) (in_sequence_of (any refl).own)).own
         (part (set_not_empty (in_set_of (any refl).own)).own
         (part (encrypted refl).own (optional_part refl (in_implicit 1 (omega arith) (attributes refl)).own no_parts)))))) };
 
-    ghost filled = { λ u m v. element_filled _ _ _ _ };
+    ghost non_empty = { λ u m v. element_non_empty _ _ _ _ };
 }
 
 impl Message for EnvelopedData {
-    ghost told_apart = { refl };
+    ghost is_unambiguous = { refl };
 }

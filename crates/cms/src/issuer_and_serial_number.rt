@@ -8,17 +8,17 @@
 //! CertificateSerialNumber ::= INTEGER
 //! ```
 ghost use Rattle.std.specs.Prelude.{◌≡◌, refl};
-ghost use Rattle.yasna_notation.specs.Laws.{standing_keeps, element_filled};
+ghost use Rattle.yasna_notation.specs.Laws.{represented_lawful, element_non_empty};
 ghost use Rattle.yasna_notation.specs.Making.{in_sequence, part};
-ghost use Rattle.yasna_notation.specs.Notation.{stands_for};
+ghost use Rattle.yasna_notation.specs.Notation.{represented_by};
 ghost use Rattle.yasna_notation.specs.Parts.{no_parts};
-ghost use Rattle.yasna_notation.specs.contracts.simple.BigIntegerNotation.TheImpl.Laws.{keeps-law as big};
-ghost use Rattle.x509.specs.contracts.name.NameNotation.TheImpl.Laws.{keeps-law as name};
+ghost use Rattle.yasna_notation.specs.contracts.simple.BigIntegerNotation.TheImpl.Laws.{lawful-law as big};
+ghost use Rattle.x509.specs.contracts.name.NameNotation.TheImpl.Laws.{lawful-law as name};
 
 use x509::Name;
 use yasna::tags::TAG_SEQUENCE;
 use yasna::{ASN1Result, BERReader, DERWriter, Tag};
-use yasna_notation::{BigInteger, Message, Notation, Sequence, StandsFor, read_as};
+use yasna_notation::{BigInteger, Message, Notation, Represents, Sequence, read_as};
 
 type Parts = (Name, (BigInteger, ()));
 
@@ -32,7 +32,7 @@ pub struct IssuerAndSerialNumber {
     pub serial_number: (Vec<u8>, bool),
 }
 
-impl StandsFor<Fields> for IssuerAndSerialNumber {
+impl Represents<Fields> for IssuerAndSerialNumber {
     ghost value_of = { λ v. (v.issuer, (v.serial_number, tt)) };
 
     fn from_value((issuer, (serial_number, ())): Fields) -> IssuerAndSerialNumber {
@@ -48,7 +48,7 @@ impl Notation for IssuerAndSerialNumber {
 
     type Inner = ();
 
-    ghost means = { stands_for ⟦<IssuerAndSerialNumber as StandsFor<Fields>>⟧.value_of ⟦<Sequence<Parts> as Notation>⟧.means };
+    ghost means = { represented_by ⟦<IssuerAndSerialNumber as Represents<Fields>>⟧.value_of ⟦<Sequence<Parts> as Notation>⟧.means };
 
     fn has_tag(tag: Tag) -> bool {
         tag == TAG_SEQUENCE
@@ -62,12 +62,12 @@ impl Notation for IssuerAndSerialNumber {
         Sequence::<Parts>::write_fields((&value.issuer, (&value.serial_number, ())), writer)
     }
 
-    ghost keeps = { λ _. standing_keeps ⟦<IssuerAndSerialNumber as StandsFor<Fields>>⟧.value_of
+    ghost lawful = { λ _. represented_lawful ⟦<IssuerAndSerialNumber as Represents<Fields>>⟧.value_of
         (in_sequence (part (name refl).own (part (big refl).own no_parts))) };
 
-    ghost filled = { λ u m v. element_filled _ _ _ _ };
+    ghost non_empty = { λ u m v. element_non_empty _ _ _ _ };
 }
 
 impl Message for IssuerAndSerialNumber {
-    ghost told_apart = { refl };
+    ghost is_unambiguous = { refl };
 }

@@ -1,7 +1,7 @@
 //! Signed and encrypted messages: the Cryptographic Message Syntax (RFC 5652).
 //!
-//! Each type is a notation of its own. `yasna_notation::Noted` of it has the traits, so `decode_der` reads a `Noted<ContentInfo>`. The
-//! content of that is kept as it came: `decode_der` of its bytes reads a `Noted<SignedData>`, say.
+//! Each type is a notation of its own. `yasna_notation::Encoded` of it has the traits, so `decode_der` reads a `Encoded<ContentInfo>`. The
+//! content of that is kept as it came: `decode_der` of its bytes reads a `Encoded<SignedData>`, say.
 //!
 //! | Module | Holds |
 //! |---|---|

@@ -13,12 +13,12 @@
 //! The parts of one of another format are kept as they came.
 ghost use Rattle.std.specs.Prelude.{◌≡◌, refl};
 ghost use Rattle.std.proofs.Common.{arith};
-ghost use Rattle.yasna_notation.specs.Choices.{either_filled};
-ghost use Rattle.yasna_notation.specs.Laws.{standing_keeps, element_filled};
+ghost use Rattle.yasna_notation.specs.Choices.{either_non_empty};
+ghost use Rattle.yasna_notation.specs.Laws.{represented_lawful, element_non_empty};
 ghost use Rattle.yasna_notation.specs.Making.{in_sequence_of, in_choice, in_implicit, alternative};
-ghost use Rattle.yasna_notation.specs.Notation.{stands_for};
-ghost use Rattle.yasna_notation.specs.contracts.any.TaggedDerValueNotation.TheImpl.Laws.{keeps-law as any};
-ghost use Rattle.x509.specs.contracts.certificate_list.CertificateListNotation.TheImpl.Laws.{keeps-law as list};
+ghost use Rattle.yasna_notation.specs.Notation.{represented_by};
+ghost use Rattle.yasna_notation.specs.contracts.any.TaggedDerValueNotation.TheImpl.Laws.{lawful-law as any};
+ghost use Rattle.x509.specs.contracts.certificate_list.CertificateListNotation.TheImpl.Laws.{lawful-law as list};
 ghost use Rattle.yasna_notation.specs.declared.choices.Either.TheVariants.{First, Second};
 ghost use Rattle.cms.specs.declared.revocation_info_choice.RevocationInfoChoice.TheVariants.{Crl, Other};
 
@@ -26,7 +26,7 @@ use x509::CertificateList;
 use yasna::models::TaggedDerValue;
 use yasna::{ASN1Result, BERReader, DERWriter, Tag};
 use yasna_notation::{
-    Alternatives, Choice, Context, Either, Implicit, Message, Notation, SequenceOf, StandsFor,
+    Alternatives, Choice, Context, Either, Implicit, Message, Notation, Represents, SequenceOf,
     read_as,
 };
 
@@ -43,7 +43,7 @@ pub enum RevocationInfoChoice {
     Other(Vec<TaggedDerValue>),
 }
 
-impl StandsFor<Value> for RevocationInfoChoice {
+impl Represents<Value> for RevocationInfoChoice {
     ghost value_of = { λ v. elim v [ Crl c ↦ First c | Other p ↦ Second p ] };
 
     fn from_value(value: Value) -> RevocationInfoChoice {
@@ -59,7 +59,7 @@ impl Notation for RevocationInfoChoice {
 
     type Inner = ();
 
-    ghost means = { stands_for ⟦<RevocationInfoChoice as StandsFor<Value>>⟧.value_of ⟦<Choice<Types> as Notation>⟧.means };
+    ghost means = { represented_by ⟦<RevocationInfoChoice as Represents<Value>>⟧.value_of ⟦<Choice<Types> as Notation>⟧.means };
 
     fn has_tag(tag: Tag) -> bool {
         <Types as Alternatives>::has_tag(tag)
@@ -76,15 +76,15 @@ impl Notation for RevocationInfoChoice {
         }
     }
 
-    ghost keeps = { λ _. standing_keeps ⟦<RevocationInfoChoice as StandsFor<Value>>⟧.value_of
-        (in_choice ⟦<Choice<Types> as Notation>⟧.means.form_under
+    ghost lawful = { λ _. represented_lawful ⟦<RevocationInfoChoice as Represents<Value>>⟧.value_of
+        (in_choice ⟦<Choice<Types> as Notation>⟧.means.encoding_under
         (alternative (list refl).own refl (in_implicit 1 (omega arith) (in_sequence_of (any refl).own)).own)) };
 
-    ghost filled = { λ u m v.
-        either_filled (⟦<CertificateList as Notation>⟧.means.form_under u) (⟦<OtherFormat as Notation>⟧.means.form_under u) m
-        (λ c. element_filled _ _ _ _) (λ p. element_filled _ _ _ _) (⟦<RevocationInfoChoice as StandsFor<Value>>⟧.value_of v) };
+    ghost non_empty = { λ u m v.
+        either_non_empty (⟦<CertificateList as Notation>⟧.means.encoding_under u) (⟦<OtherFormat as Notation>⟧.means.encoding_under u) m
+        (λ c. element_non_empty _ _ _ _) (λ p. element_non_empty _ _ _ _) (⟦<RevocationInfoChoice as Represents<Value>>⟧.value_of v) };
 }
 
 impl Message for RevocationInfoChoice {
-    ghost told_apart = { refl };
+    ghost is_unambiguous = { refl };
 }

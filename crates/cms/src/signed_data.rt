@@ -21,16 +21,16 @@
 //! ```
 ghost use Rattle.std.specs.Prelude.{◌≡◌, refl};
 ghost use Rattle.std.proofs.Common.{arith};
-ghost use Rattle.yasna_notation.specs.Laws.{standing_keeps, element_filled};
+ghost use Rattle.yasna_notation.specs.Laws.{represented_lawful, element_non_empty};
 ghost use Rattle.yasna_notation.specs.Making.{in_sequence, in_set_of, part, optional_part, in_implicit, at_most};
-ghost use Rattle.yasna_notation.specs.Notation.{stands_for};
+ghost use Rattle.yasna_notation.specs.Notation.{represented_by};
 ghost use Rattle.yasna_notation.specs.Parts.{no_parts};
-ghost use Rattle.yasna_notation.specs.contracts.simple.U64Notation.TheImpl.Laws.{keeps-law as number};
-ghost use Rattle.x509.specs.contracts.algorithm.AlgorithmIdentifierNotation.TheImpl.Laws.{keeps-law as algorithm};
-ghost use Rattle.cms.specs.contracts.encapsulated_content_info.EncapsulatedContentInfoNotation.TheImpl.Laws.{keeps-law as encapsulated};
-ghost use Rattle.cms.specs.contracts.certificate_choices.CertificateChoicesNotation.TheImpl.Laws.{keeps-law as certificates};
-ghost use Rattle.cms.specs.contracts.revocation_info_choice.RevocationInfoChoiceNotation.TheImpl.Laws.{keeps-law as revocation};
-ghost use Rattle.cms.specs.contracts.signer_info.SignerInfoNotation.TheImpl.Laws.{keeps-law as signer_info};
+ghost use Rattle.yasna_notation.specs.contracts.simple.U64Notation.TheImpl.Laws.{lawful-law as number};
+ghost use Rattle.x509.specs.contracts.algorithm.AlgorithmIdentifierNotation.TheImpl.Laws.{lawful-law as algorithm};
+ghost use Rattle.cms.specs.contracts.encapsulated_content_info.EncapsulatedContentInfoNotation.TheImpl.Laws.{lawful-law as encapsulated};
+ghost use Rattle.cms.specs.contracts.certificate_choices.CertificateChoicesNotation.TheImpl.Laws.{lawful-law as certificates};
+ghost use Rattle.cms.specs.contracts.revocation_info_choice.RevocationInfoChoiceNotation.TheImpl.Laws.{lawful-law as revocation};
+ghost use Rattle.cms.specs.contracts.signer_info.SignerInfoNotation.TheImpl.Laws.{lawful-law as signer_info};
 
 use crate::certificate_choices::CertificateChoices;
 use crate::encapsulated_content_info::EncapsulatedContentInfo;
@@ -40,7 +40,7 @@ use x509::AlgorithmIdentifier;
 use yasna::tags::TAG_SEQUENCE;
 use yasna::{ASN1Result, BERReader, DERWriter, Tag};
 use yasna_notation::{
-    AtMost, Bounded, Context, Implicit, Message, Notation, Optional, Sequence, SetOf, StandsFor,
+    AtMost, Bounded, Context, Implicit, Message, Notation, Optional, Represents, Sequence, SetOf,
     read_as,
 };
 
@@ -83,7 +83,7 @@ pub struct SignedData {
     pub signer_infos: Vec<SignerInfo>,
 }
 
-impl StandsFor<Fields> for SignedData {
+impl Represents<Fields> for SignedData {
     ghost value_of = { λ v. (v.version, (v.digest_algorithms, (v.encap_content_info, (v.certificates, (v.crls, (v.signer_infos, tt)))))) };
 
     fn from_value(
@@ -108,7 +108,7 @@ impl Notation for SignedData {
 
     type Inner = ();
 
-    ghost means = { stands_for ⟦<SignedData as StandsFor<Fields>>⟧.value_of ⟦<Sequence<Parts> as Notation>⟧.means };
+    ghost means = { represented_by ⟦<SignedData as Represents<Fields>>⟧.value_of ⟦<Sequence<Parts> as Notation>⟧.means };
 
     fn has_tag(tag: Tag) -> bool {
         tag == TAG_SEQUENCE
@@ -132,14 +132,14 @@ impl Notation for SignedData {
         )
     }
 
-    ghost keeps = { λ _. standing_keeps ⟦<SignedData as StandsFor<Fields>>⟧.value_of
+    ghost lawful = { λ _. represented_lawful ⟦<SignedData as Represents<Fields>>⟧.value_of
         (in_sequence (part (at_most 5 (number refl)).own (part (in_set_of (algorithm refl).own).own (part (encapsulated refl).own
         (optional_part refl (in_implicit 0 (omega arith) (in_set_of (certificates refl).own)).own
         (optional_part refl (in_implicit 1 (omega arith) (in_set_of (revocation refl).own)).own (part (in_set_of (signer_info refl).own).own no_parts))))))) };
 
-    ghost filled = { λ u m v. element_filled _ _ _ _ };
+    ghost non_empty = { λ u m v. element_non_empty _ _ _ _ };
 }
 
 impl Message for SignedData {
-    ghost told_apart = { refl };
+    ghost is_unambiguous = { refl };
 }

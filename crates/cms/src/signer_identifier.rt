@@ -9,19 +9,19 @@
 //! ```
 ghost use Rattle.std.specs.Prelude.{◌≡◌, refl};
 ghost use Rattle.std.proofs.Common.{arith};
-ghost use Rattle.yasna_notation.specs.Choices.{either_filled};
-ghost use Rattle.yasna_notation.specs.Laws.{standing_keeps, element_filled, octets_filled};
+ghost use Rattle.yasna_notation.specs.Choices.{either_non_empty};
+ghost use Rattle.yasna_notation.specs.Laws.{represented_lawful, element_non_empty, octets_non_empty};
 ghost use Rattle.yasna_notation.specs.Making.{in_choice, in_implicit, alternative};
-ghost use Rattle.yasna_notation.specs.Notation.{stands_for};
-ghost use Rattle.cms.specs.contracts.issuer_and_serial_number.IssuerAndSerialNumberNotation.TheImpl.Laws.{keeps-law as issuer_serial};
-ghost use Rattle.yasna_notation.specs.contracts.strings.VecU8Notation.TheImpl.Laws.{keeps-law as octets};
+ghost use Rattle.yasna_notation.specs.Notation.{represented_by};
+ghost use Rattle.cms.specs.contracts.issuer_and_serial_number.IssuerAndSerialNumberNotation.TheImpl.Laws.{lawful-law as issuer_serial};
+ghost use Rattle.yasna_notation.specs.contracts.strings.VecU8Notation.TheImpl.Laws.{lawful-law as octets};
 ghost use Rattle.yasna_notation.specs.declared.choices.Either.TheVariants.{First, Second};
 ghost use Rattle.cms.specs.declared.signer_identifier.SignerIdentifier.TheVariants.{IssuerAndSerialNumber as ByNumber, SubjectKeyIdentifier as ByKey};
 
 use crate::issuer_and_serial_number::IssuerAndSerialNumber;
 use yasna::{ASN1Result, BERReader, DERWriter, Tag};
 use yasna_notation::{
-    Alternatives, Choice, Context, Either, Implicit, Message, Notation, StandsFor, read_as,
+    Alternatives, Choice, Context, Either, Implicit, Message, Notation, Represents, read_as,
 };
 
 type KeyIdentifier = Implicit<Context<0>, Vec<u8>>;
@@ -37,7 +37,7 @@ pub enum SignerIdentifier {
     SubjectKeyIdentifier(Vec<u8>),
 }
 
-impl StandsFor<Value> for SignerIdentifier {
+impl Represents<Value> for SignerIdentifier {
     ghost value_of = { λ v. elim v [ ByNumber i ↦ First i | ByKey k ↦ Second k ] };
 
     fn from_value(value: Value) -> SignerIdentifier {
@@ -53,7 +53,7 @@ impl Notation for SignerIdentifier {
 
     type Inner = ();
 
-    ghost means = { stands_for ⟦<SignerIdentifier as StandsFor<Value>>⟧.value_of ⟦<Choice<Types> as Notation>⟧.means };
+    ghost means = { represented_by ⟦<SignerIdentifier as Represents<Value>>⟧.value_of ⟦<Choice<Types> as Notation>⟧.means };
 
     fn has_tag(tag: Tag) -> bool {
         <Types as Alternatives>::has_tag(tag)
@@ -71,15 +71,15 @@ impl Notation for SignerIdentifier {
         }
     }
 
-    ghost keeps = { λ _. standing_keeps ⟦<SignerIdentifier as StandsFor<Value>>⟧.value_of
-        (in_choice ⟦<Choice<Types> as Notation>⟧.means.form_under
+    ghost lawful = { λ _. represented_lawful ⟦<SignerIdentifier as Represents<Value>>⟧.value_of
+        (in_choice ⟦<Choice<Types> as Notation>⟧.means.encoding_under
         (alternative (issuer_serial refl).own refl (in_implicit 0 (omega arith) (octets refl)).own)) };
 
-    ghost filled = { λ u m v.
-        either_filled (⟦<IssuerAndSerialNumber as Notation>⟧.means.form_under u) (⟦<KeyIdentifier as Notation>⟧.means.form_under u) m
-        (λ i. element_filled _ _ _ _) (λ k. octets_filled _ m k.items) (⟦<SignerIdentifier as StandsFor<Value>>⟧.value_of v) };
+    ghost non_empty = { λ u m v.
+        either_non_empty (⟦<IssuerAndSerialNumber as Notation>⟧.means.encoding_under u) (⟦<KeyIdentifier as Notation>⟧.means.encoding_under u) m
+        (λ i. element_non_empty _ _ _ _) (λ k. octets_non_empty _ m k.items) (⟦<SignerIdentifier as Represents<Value>>⟧.value_of v) };
 }
 
 impl Message for SignerIdentifier {
-    ghost told_apart = { refl };
+    ghost is_unambiguous = { refl };
 }

@@ -20,15 +20,15 @@
 //! ```
 ghost use Rattle.std.specs.Prelude.{◌≡◌, refl};
 ghost use Rattle.std.proofs.Common.{arith};
-ghost use Rattle.yasna_notation.specs.Laws.{standing_keeps, element_filled};
+ghost use Rattle.yasna_notation.specs.Laws.{represented_lawful, element_non_empty};
 ghost use Rattle.yasna_notation.specs.Making.{in_sequence, part, optional_part, in_implicit, at_most};
-ghost use Rattle.yasna_notation.specs.Notation.{stands_for};
+ghost use Rattle.yasna_notation.specs.Notation.{represented_by};
 ghost use Rattle.yasna_notation.specs.Parts.{no_parts};
-ghost use Rattle.yasna_notation.specs.contracts.simple.U64Notation.TheImpl.Laws.{keeps-law as number};
-ghost use Rattle.yasna_notation.specs.contracts.strings.VecU8Notation.TheImpl.Laws.{keeps-law as octets};
-ghost use Rattle.x509.specs.contracts.algorithm.AlgorithmIdentifierNotation.TheImpl.Laws.{keeps-law as algorithm};
-ghost use Rattle.cms.specs.contracts.signer_identifier.SignerIdentifierNotation.TheImpl.Laws.{keeps-law as signer};
-ghost use Rattle.cms.specs.contracts.attributes.AttributesNotation.TheImpl.Laws.{keeps-law as attributes};
+ghost use Rattle.yasna_notation.specs.contracts.simple.U64Notation.TheImpl.Laws.{lawful-law as number};
+ghost use Rattle.yasna_notation.specs.contracts.strings.VecU8Notation.TheImpl.Laws.{lawful-law as octets};
+ghost use Rattle.x509.specs.contracts.algorithm.AlgorithmIdentifierNotation.TheImpl.Laws.{lawful-law as algorithm};
+ghost use Rattle.cms.specs.contracts.signer_identifier.SignerIdentifierNotation.TheImpl.Laws.{lawful-law as signer};
+ghost use Rattle.cms.specs.contracts.attributes.AttributesNotation.TheImpl.Laws.{lawful-law as attributes};
 
 use crate::attributes::Attributes;
 use crate::signer_identifier::SignerIdentifier;
@@ -36,7 +36,7 @@ use x509::AlgorithmIdentifier;
 use yasna::tags::TAG_SEQUENCE;
 use yasna::{ASN1Result, BERReader, DERWriter, Tag};
 use yasna_notation::{
-    AtMost, Bounded, Context, Implicit, Message, Notation, Optional, Sequence, StandsFor, read_as,
+    AtMost, Bounded, Context, Implicit, Message, Notation, Optional, Represents, Sequence, read_as,
 };
 
 type Version = Bounded<u64, AtMost<5>>;
@@ -70,7 +70,7 @@ pub struct SignerInfo {
     pub unsigned_attrs: Option<Attributes>,
 }
 
-impl StandsFor<Fields> for SignerInfo {
+impl Represents<Fields> for SignerInfo {
     ghost value_of = { λ v. (v.version, (v.sid, (v.digest_algorithm, (v.signed_attrs, (v.signature_algorithm, (v.signature, (v.unsigned_attrs, tt))))))) };
 
     fn from_value(
@@ -102,7 +102,7 @@ impl Notation for SignerInfo {
 
     type Inner = ();
 
-    ghost means = { stands_for ⟦<SignerInfo as StandsFor<Fields>>⟧.value_of ⟦<Sequence<Parts> as Notation>⟧.means };
+    ghost means = { represented_by ⟦<SignerInfo as Represents<Fields>>⟧.value_of ⟦<Sequence<Parts> as Notation>⟧.means };
 
     fn has_tag(tag: Tag) -> bool {
         tag == TAG_SEQUENCE
@@ -129,14 +129,14 @@ impl Notation for SignerInfo {
         )
     }
 
-    ghost keeps = { λ _. standing_keeps ⟦<SignerInfo as StandsFor<Fields>>⟧.value_of
+    ghost lawful = { λ _. represented_lawful ⟦<SignerInfo as Represents<Fields>>⟧.value_of
         (in_sequence (part (at_most 5 (number refl)).own (part (signer refl).own (part (algorithm refl).own
         (optional_part refl (in_implicit 0 (omega arith) (attributes refl)).own (part (algorithm refl).own (part (octets refl).own
         (optional_part refl (in_implicit 1 (omega arith) (attributes refl)).own no_parts)))))))) };
 
-    ghost filled = { λ u m v. element_filled _ _ _ _ };
+    ghost non_empty = { λ u m v. element_non_empty _ _ _ _ };
 }
 
 impl Message for SignerInfo {
-    ghost told_apart = { refl };
+    ghost is_unambiguous = { refl };
 }

@@ -1,4 +1,4 @@
--- What reads of what stands within a filter do.
+-- What reads of what is within a filter do.
 use Rattle.std.proofs.Common.{◌≡◌, ◌∷◌, ◌++◌, [], ◌==◌, ◌<◌, ◌^◌, ℕ, Bool, true, false, Option, List, None, Some, Vec, Box, Result, Ok, Err}
 use Rattle.std.proofs.Common.{inl, inr, length, vec_len, length-append, refl, sym, ap, subst, ◌∙◌, arith}
 use Rattle.std.specs.Global.{Global}
@@ -7,36 +7,36 @@ use Rattle.std.specs.Prelude.{nat_lt, MatchResult, IsOkAnd}
 use Rattle.yasna_base.specs.declared.error.ASN1Error.{ASN1Error}
 use Rattle.yasna_base.specs.declared.error.ASN1ErrorKind.TheVariants.{OutOfMemory}
 use Rattle.yasna_base.specs.declared.tag.Tag.{Tag}
-use Rattle.yasna_base.specs.AnyOrder.{SameSetOf, InSomeOrder, sorted_set_of_form}
+use Rattle.yasna_base.specs.AnyOrder.{SameSetOf, InSomeOrder, sorted_set_of_encoding}
 use Rattle.yasna_base.specs.Beginnings.{BeginsWithOne, is_tag}
 use Rattle.yasna_base.specs.Coding.{IsCoding}
 use Rattle.yasna_base.specs.Error.{kind_of}
 use Rattle.yasna_base.specs.Exact.{Fitting, enclosed_fits, elements_fit}
-use Rattle.yasna_base.specs.Grammar.{Grammar, Members, Form}
+use Rattle.yasna_base.specs.Grammar.{Grammar, Members, Encoding}
 use Rattle.yasna_base.specs.Identifier.{context, tag_or}
 use Rattle.yasna_base.specs.Set.{set_tag, IsSetOf, AnySetOf}
 use Rattle.yasna_base.proofs.Identifier.{begins_with}
-use Rattle.yasna_base.proofs.Optional.{apart_from_nothing}
-use Rattle.yasna_bytes.proofs.Refusal.{begins_not_elsewhere}
+use Rattle.yasna_base.proofs.Optional.{unambiguous_before_nothing}
+use Rattle.yasna_bytes.proofs.Rejection.{begins_not_elsewhere}
 use Rattle.yasna_reader.specs.ByTags.{AreElsewhere}
-use Rattle.yasna_reader.specs.Decodes.{Tells, KeptTells}
+use Rattle.yasna_reader.specs.Decodes.{Explains, StickyExplains}
 use Rattle.yasna_reader.specs.State.{Reading, IsFresh}
 use Rattle.yasna_reader.proofs.Tuples.{seen}
 use Rattle.yasna_notation.specs.declared.choices.Either.{Either}
 use Rattle.yasna_notation.specs.declared.choices.Either.TheVariants.{First, Second}
 use Rattle.yasna_notation.specs.Bounded.{set_sizes_alike}
-use Rattle.yasna_notation.specs.Laws.{standing_keeps}
+use Rattle.yasna_notation.specs.Laws.{represented_lawful}
 use Rattle.yasna_notation.specs.Making.{in_set_of, in_implicit, in_explicit, alternative, set_not_empty}
-use Rattle.yasna_notation.specs.Notation.{Meaning, Keeps, KeepsMeaning, IsNotation, DecodesAs, ReadsMeaning}
-use Rattle.yasna_notation.proofs.Standing.{stands_for, stands_for_none}
+use Rattle.yasna_notation.specs.Notation.{Meaning, NotationKeepsLaws, MeaningKeepsLaws, IsNotation, DecodesAs, ReadsMeaning}
+use Rattle.yasna_notation.proofs.Represented.{represented_by, represented_by_none}
 use Rattle.yasna_notation.proofs.Found.{first_found, other_found, last_found}
-use Rattle.ldap.specs.contracts.filter_item.FilterItemNotation.TheImpl.Laws.{keeps-law as item_keeps}
+use Rattle.ldap.specs.contracts.filter_item.FilterItemNotation.TheImpl.Laws.{lawful-law as item_lawful}
 use Rattle.ldap.specs.declared.filter.Filter.{Filter}
 use Rattle.ldap.specs.declared.filter_item.FilterItem.{FilterItem}
 use Rattle.ldap.specs.Filters.{Parted, parted_of, the_filter, item_means, group_means, negated_means, boxed_means, filter_step, Found}
-use Rattle.ldap.specs.Filters.{behind_or, behind_and, whole}
+use Rattle.ldap.specs.Filters.{after_or, after_and, whole}
 use Rattle.ldap.specs.RecursionLaws.{folded_under, unfolded_any}
-use Rattle.ldap.specs.TheFilter.{the_filter_keeps, the_step}
+use Rattle.ldap.specs.TheFilter.{the_filter_lawful, the_step}
 
 -- a SET OF filters, which may be empty
 abbrev pub list_under : Option Tag → Grammar (Vec Filter Global)
@@ -45,8 +45,8 @@ list_under u m n v b = InSomeOrder (IsSetOf (the_filter.under None) (tag_or u se
 abbrev pub lists_any : Option Tag → Members
 lists_any u = AnySetOf (the_filter.any_under None) (tag_or u set_tag)
 
-abbrev pub list_form : Option Tag → Form (Vec Filter Global)
-list_form u m v = sorted_set_of_form (the_filter.form_under None) (tag_or u set_tag) m v.items
+abbrev pub list_encoding : Option Tag → Encoding (Vec Filter Global)
+list_encoding u m v = sorted_set_of_encoding (the_filter.encoding_under None) (tag_or u set_tag) m v.items
 
 abbrev pub list_fits : Fitting (Vec Filter Global)
 list_fits m n v = enclosed_fits (elements_fit the_filter.fits) m n v.items
@@ -57,10 +57,10 @@ list_same v w = SameSetOf the_filter.same v.items w.items
 abbrev pub list_can : Vec Filter Global → Type 0
 list_can v = AllByRecursion the_filter.can v.items
 
-pub list_keeps : Keeps true (set_tag ∷ []) true list_same list_under lists_any list_form list_fits list_can
-list_keeps = in_set_of the_filter_keeps.own
+pub list_lawful : NotationKeepsLaws true (set_tag ∷ []) true list_same list_under lists_any list_encoding list_fits list_can
+list_lawful = in_set_of the_filter_lawful.own
 
--- some stand in it
+-- some are in it
 abbrev pub holds_some : Vec Filter Global → Bool
 holds_some v = nat_lt 0 (length v.items)
 
@@ -96,102 +96,102 @@ not_elsewhere (t ∷ ts) b r (inl x) a = begins_not_elsewhere (begins_with t b r
 not_elsewhere (t ∷ ts) b r (inr x) a = not_elsewhere ts b r x a.1
 
 -- a filter was read, and there is no memory for its box
-lacks_box : (s : Reading) (v : Filter) (s' : Reading) (e : ASN1Error) → kind_of e ≡ OutOfMemory → IsFresh s →
+out_of_memory_for_box : (s : Reading) (v : Filter) (s' : Reading) (e : ASN1Error) → kind_of e ≡ OutOfMemory → IsFresh s →
     DecodesAs true the_filter.tags true (the_filter.under None) (the_filter.any_under None) s (Ok v) s' →
     DecodesAs {A = Box Filter Global} true the_filter.tags true ((boxed_means the_filter).under None) (the_filter.any_under None) s (Err e) s'
-lacks_box s v s' e kind fresh h =
+out_of_memory_for_box s v s' e kind fresh h =
     let k = h.decodes in
-    let laws = the_filter_keeps.own in
-    let here = laws.coding.meaning.among s.mode s.levels v k.front k.stands in
-    let unkept : s'.kept ≡ None = ap (λ (z : Reading). z.kept) k.left ∙ fresh.0 in
+    let laws = the_filter_lawful.own in
+    let here = laws.coding.meaning.among s.mode s.levels v k.prefix k.member in
+    let unfailed : s'.failed ≡ None = ap (λ (z : Reading). z.failed) k.left ∙ fresh.0 in
     record {
       decodes = (
         record {
-          tells = record { none = λ q b r i j. q kind; memory = λ q. refl };
-          kept = subst (λ z. KeptTells true (the_filter.any_under None s.mode s.levels) s.left z) (sym unkept) tt;
-          further = omega (arith, ap length k.joined, length-append k.front k.rest, ap (λ (z : Reading). length z.left) k.left);
-          same = k.left ∙ sym (ap {A = Reading} {B = Reading} (λ z. record s { left = z.left; kept = z.kept }) k.left);
+          explains = record { none = λ q b r i j. q kind; memory = λ q. refl };
+          failed = subst (λ z. StickyExplains true (the_filter.any_under None s.mode s.levels) s.left z) (sym unfailed) tt;
+          further = omega (arith, ap length k.joined, length-append k.prefix k.rest, ap (λ (z : Reading). length z.left) k.left);
+          same = k.left ∙ sym (ap {A = Reading} {B = Reading} (λ z. record s { left = z.left; failed = z.failed }) k.left);
         },
-        λ a. absurd (apart_from_nothing laws.coding s.mode s.levels s.levels k.front [] k.rest s.left a here refl (sym k.joined)),
+        λ a. absurd (unambiguous_before_nothing laws.coding s.mode s.levels s.levels k.prefix [] k.rest s.left a here refl (sym k.joined)),
       );
-      quiet = λ t a. absurd
-          (not_elsewhere the_filter.tags k.front k.rest ((laws.begins refl).at s.mode s.levels k.front here)
+      no_match = λ t a. absurd
+          (not_elsewhere the_filter.tags k.prefix k.rest ((laws.begins refl).at s.mode s.levels k.prefix here)
           (subst (AreElsewhere the_filter.tags) k.joined a));
     }
 
-pub no_room : (s : Reading) (v : Filter) (s' : Reading) (e : ASN1Error) → kind_of e ≡ OutOfMemory → ReadsMeaning the_filter s (Ok v) s' →
+pub no_memory_for_box : (s : Reading) (v : Filter) (s' : Reading) (e : ASN1Error) → kind_of e ≡ OutOfMemory → ReadsMeaning the_filter s (Ok v) s' →
     ReadsMeaning (boxed_means the_filter) s (Err e) s'
-no_room s v s' e kind h = record {
-  alone = λ fresh. lacks_box s v s' e kind fresh (h.alone fresh);
-  replaced = λ may t not range kept waits. absurd (cc);
-  repeats = λ d kept. absurd (let x = (h.repeats d kept).0 in cc);
+no_memory_for_box s v s' e kind h = record {
+  fresh = λ fresh. out_of_memory_for_box s v s' e kind fresh (h.fresh fresh);
+  replaced = λ may t not range failed waits. absurd (cc);
+  repeats = λ d failed. absurd (let x = (h.repeats d failed).0 in cc);
 }
 
 abbrev Laws : {A : Type 0} → Meaning A → Type 0
-Laws x = IsNotation true x.tags x.same (x.under None) (x.any_under None) (x.form_under None) x.fits x.can
+Laws x = IsNotation true x.tags x.same (x.under None) (x.any_under None) (x.encoding_under None) x.fits x.can
 
 group_laws : (k : ℕ) → k < 2 ^ 64 → Laws (group_means k the_filter)
-group_laws k range = (in_implicit k range (set_not_empty list_keeps)).own
+group_laws k range = (in_implicit k range (set_not_empty list_lawful)).own
 
 negated_laws : Laws (negated_means the_filter)
-negated_laws = (in_explicit 2 (omega arith) (standing_keeps (λ (v : Box Filter Global). v.value) the_filter_keeps).own).own
+negated_laws = (in_explicit 2 (omega arith) (represented_lawful (λ (v : Box Filter Global). v.value) the_filter_lawful).own).own
 
 item_laws : Laws item_means
-item_laws = (item_keeps refl).own
+item_laws = (item_lawful refl).own
 
-behind_or_laws : Laws behind_or
-behind_or_laws = alternative negated_laws refl item_laws
+after_or_laws : Laws after_or
+after_or_laws = alternative negated_laws refl item_laws
 
-behind_and_laws : Laws behind_and
-behind_and_laws = alternative (group_laws 1 (omega arith)) refl behind_or_laws
+after_and_laws : Laws after_and
+after_and_laws = alternative (group_laws 1 (omega arith)) refl after_or_laws
 
 module _ (t : Tag) (s : Reading) where
   pub found_and : (x : Result (Vec Filter Global) ASN1Error) (s' : Reading) → list_any (is_tag t) (context 0 ∷ []) ≡ true →
       ReadsMeaning (group_means 0 the_filter) s x s' → Found whole t s (seen First x) s'
   found_and x s' is h =
       let n = group_means 0 the_filter in
-      let o = behind_and in
-      first_found n.told n.tags o.tags n.asks_memory o.asks_memory n.under n.any_under (o.under None) (o.any_under None) true true refl t s
-      n.retagged (λ _. behind_and_laws) x s' is h
+      let o = after_and in
+      first_found n.tags_known n.tags o.tags n.may_allocate o.may_allocate n.under n.any_under (o.under None) (o.any_under None) true true refl t s
+      n.retagged (λ _. after_and_laws) x s' is h
 
   pub found_other : (x : Result (Either (Vec Filter Global) (Either (Box Filter Global) FilterItem)) ASN1Error) (s' : Reading) →
-      list_any (is_tag t) (context 0 ∷ []) ≡ false → Found behind_and t s x s' → Found whole t s (seen Second x) s'
+      list_any (is_tag t) (context 0 ∷ []) ≡ false → Found after_and t s x s' → Found whole t s (seen Second x) s'
   found_other x s' is h =
       let n = group_means 0 the_filter in
-      let o = behind_and in
-      other_found n.told n.tags o.tags n.asks_memory o.asks_memory n.under n.any_under (o.under None) (o.any_under None) true true refl t s
+      let o = after_and in
+      other_found n.tags_known n.tags o.tags n.may_allocate o.may_allocate n.under n.any_under (o.under None) (o.any_under None) true true refl t s
       (λ _. group_laws 0 (omega arith)) x s' is h
 
   pub found_or : (x : Result (Vec Filter Global) ASN1Error) (s' : Reading) → list_any (is_tag t) (context 1 ∷ []) ≡ true →
-      ReadsMeaning (group_means 1 the_filter) s x s' → Found behind_and t s (seen First x) s'
+      ReadsMeaning (group_means 1 the_filter) s x s' → Found after_and t s (seen First x) s'
   found_or x s' is h =
       let n = group_means 1 the_filter in
-      let o = behind_or in
-      first_found n.told n.tags o.tags n.asks_memory o.asks_memory n.under n.any_under (o.under None) (o.any_under None) true true refl t s
-      n.retagged (λ _. behind_or_laws) x s' is h
+      let o = after_or in
+      first_found n.tags_known n.tags o.tags n.may_allocate o.may_allocate n.under n.any_under (o.under None) (o.any_under None) true true refl t s
+      n.retagged (λ _. after_or_laws) x s' is h
 
   pub found_none : (x : Result (Either (Box Filter Global) FilterItem) ASN1Error) (s' : Reading) →
-      list_any (is_tag t) (context 1 ∷ []) ≡ false → Found behind_or t s x s' → Found behind_and t s (seen Second x) s'
+      list_any (is_tag t) (context 1 ∷ []) ≡ false → Found after_or t s x s' → Found after_and t s (seen Second x) s'
   found_none x s' is h =
       let n = group_means 1 the_filter in
-      let o = behind_or in
-      other_found n.told n.tags o.tags n.asks_memory o.asks_memory n.under n.any_under (o.under None) (o.any_under None) true true refl t s
+      let o = after_or in
+      other_found n.tags_known n.tags o.tags n.may_allocate o.may_allocate n.under n.any_under (o.under None) (o.any_under None) true true refl t s
       (λ _. group_laws 1 (omega arith)) x s' is h
 
   pub found_not : (x : Result (Box Filter Global) ASN1Error) (s' : Reading) → list_any (is_tag t) (context 2 ∷ []) ≡ true →
-      ReadsMeaning (negated_means the_filter) s x s' → Found behind_or t s (seen First x) s'
+      ReadsMeaning (negated_means the_filter) s x s' → Found after_or t s (seen First x) s'
   found_not x s' is h =
       let n = negated_means the_filter in
       let o = item_means in
-      first_found n.told n.tags o.tags n.asks_memory o.asks_memory n.under n.any_under (o.under None) (o.any_under None) true true refl t s
+      first_found n.tags_known n.tags o.tags n.may_allocate o.may_allocate n.under n.any_under (o.under None) (o.any_under None) true true refl t s
       n.retagged (λ _. item_laws) x s' is h
 
   pub found_item : (x : Result FilterItem ASN1Error) (s' : Reading) → list_any (is_tag t) (context 2 ∷ []) ≡ false →
-      ReadsMeaning item_means s x s' → Found behind_or t s (seen Second x) s'
+      ReadsMeaning item_means s x s' → Found after_or t s (seen Second x) s'
   found_item x s' is h =
       let n = negated_means the_filter in
       let o = item_means in
-      other_found n.told n.tags o.tags n.asks_memory o.asks_memory n.under n.any_under (o.under None) (o.any_under None) true true refl t s
+      other_found n.tags_known n.tags o.tags n.may_allocate o.may_allocate n.under n.any_under (o.under None) (o.any_under None) true true refl t s
       (λ _. negated_laws) x s' is (last_found refl h)
 
 -- a filter is what its parts make it
@@ -202,68 +202,68 @@ wider s (Ok v) s' h =
     let k = h.decodes in
     record {
       decodes = record {
-        front = k.front;
+        prefix = k.prefix;
         rest = k.rest;
         joined = k.joined;
-        stands = folded_under the_step None s.mode s.levels v k.front k.stands;
+        member = folded_under the_step None s.mode s.levels v k.prefix k.member;
         left = k.left;
       };
-      quiet = λ _. tt;
+      no_match = λ _. tt;
     }
 wider s (Err e) s' h =
     let k = h.decodes.0 in
     record {
       decodes = (
-        record { tells = tells s.left e k.tells; kept = kept s.left s'.kept k.kept; further = k.further; same = k.same },
+        record { explains = explains s.left e k.explains; failed = failed s.left s'.failed k.failed; further = k.further; same = k.same },
         h.decodes.1,
       );
-      quiet = h.quiet;
+      no_match = h.no_match;
     }
   where
-    tells : (l : List ℕ) (e : ASN1Error) → Tells true ((filter_step item_means the_filter).any_under None s.mode s.levels) l e →
-        Tells true (the_filter.any_under None s.mode s.levels) l e
-    tells l e x = record {
+    explains : (l : List ℕ) (e : ASN1Error) → Explains true ((filter_step item_means the_filter).any_under None s.mode s.levels) l e →
+        Explains true (the_filter.any_under None s.mode s.levels) l e
+    explains l e x = record {
       none = λ q b r i j. x.none q b r i (unfolded_any the_step None s.mode s.levels b j);
       memory = x.memory;
     }
 
-    kept : (l : List ℕ) (k : Option ASN1Error) → KeptTells true ((filter_step item_means the_filter).any_under None s.mode s.levels) l k →
-        KeptTells true (the_filter.any_under None s.mode s.levels) l k
-    kept l None x = tt
-    kept l (Some e) x = tells l e x
+    failed : (l : List ℕ) (k : Option ASN1Error) → StickyExplains true ((filter_step item_means the_filter).any_under None s.mode s.levels) l k →
+        StickyExplains true (the_filter.any_under None s.mode s.levels) l k
+    failed l None x = tt
+    failed l (Some e) x = explains l e x
 
 pub filter_read : (s : Reading) (r : Result Filter ASN1Error) (s' : Reading) → ReadsMeaning (filter_step item_means the_filter) s r s' →
     ReadsMeaning the_filter s r s'
 filter_read s r s' h = record {
-  alone = λ fresh. wider s r s' (h.alone fresh);
-  replaced = λ may t not range kept waits. absurd (cc);
+  fresh = λ fresh. wider s r s' (h.fresh fresh);
+  replaced = λ may t not range failed waits. absurd (cc);
   repeats = h.repeats;
 }
 
-pub boxed_keeps : KeepsMeaning (boxed_means the_filter)
-boxed_keeps = standing_keeps (λ (v : Box Filter Global). v.value) the_filter_keeps
+pub boxed_lawful : MeaningKeepsLaws (boxed_means the_filter)
+boxed_lawful = represented_lawful (λ (v : Box Filter Global). v.value) the_filter_lawful
 
--- a filter that was read, in a box or for want of memory in none
+-- a filter that was read, in a box or when out of memory in none
 pub boxed_read : (s : Reading) (v : Filter) (s' : Reading) (x : Result (Box Filter Global) ASN1Error) →
     MatchResult x (λ b. b.value ≡ v) (λ e. kind_of e ≡ OutOfMemory) → ReadsMeaning the_filter s (Ok v) s' → ReadsMeaning (boxed_means the_filter) s x s'
 boxed_read s v s' (Ok b) is h =
-    stands_for (λ (v : Box Filter Global). v.value) true the_filter.tags false true the_filter.under the_filter.any_under s b v s' is h
-boxed_read s v s' (Err e) kind h = no_room s v s' e kind h
+    represented_by (λ (v : Box Filter Global). v.value) true the_filter.tags false true the_filter.under the_filter.any_under s b v s' is h
+boxed_read s v s' (Err e) kind h = no_memory_for_box s v s' e kind h
 
 pub boxed_not_read : (s : Reading) (e : ASN1Error) (s' : Reading) → ReadsMeaning the_filter s (Err e) s' →
     ReadsMeaning (boxed_means the_filter) s (Err e) s'
 boxed_not_read s e s' h =
-    stands_for_none (λ (v : Box Filter Global). v.value) true the_filter.tags false true the_filter.under the_filter.any_under s e s' h
+    represented_by_none (λ (v : Box Filter Global). v.value) true the_filter.tags false true the_filter.under the_filter.any_under s e s' h
 
 -- a filter that is made of what was read
 pub made_read : (s : Reading) (f : Filter) (v : Parted) (s' : Reading) → parted_of f ≡ v → ReadsMeaning whole s (Ok v) s' →
     ReadsMeaning the_filter s (Ok f) s'
 made_read s f v s' is h =
-    filter_read s (Ok f) s' (stands_for parted_of true whole.tags false true whole.under whole.any_under s f v s' is h)
+    filter_read s (Ok f) s' (represented_by parted_of true whole.tags false true whole.under whole.any_under s f v s' is h)
 
 pub made_not_read : (s : Reading) (e : ASN1Error) (s' : Reading) → ReadsMeaning whole s (Err e) s' → ReadsMeaning the_filter s (Err e) s'
 made_not_read s e s' h =
-    filter_read s (Err e) s' (stands_for_none parted_of true whole.tags false true whole.under whole.any_under s e s' h)
+    filter_read s (Err e) s' (represented_by_none parted_of true whole.tags false true whole.under whole.any_under s e s' h)
 
 pub whole_coding : IsCoding whole.same (whole.under None) (whole.any_under None)
-whole_coding = (alternative (group_laws 0 (omega arith)) refl behind_and_laws).coding
+whole_coding = (alternative (group_laws 0 (omega arith)) refl after_and_laws).coding

@@ -1,4 +1,4 @@
--- What can be written of a filter, how deep it is, and its form, by what it is made of.
+-- What can be written of a filter, how deep it is, and its encoding, by what it is made of.
 use Rattle.std.proofs.Common.{◌≡◌, Vec, Box, Result, sym, ap, subst, ◌∙◌}
 use Rattle.std.specs.Global.{Global}
 use Rattle.yasna_base.specs.declared.error.ASN1Error.{ASN1Error}
@@ -11,7 +11,7 @@ use Rattle.ldap.specs.declared.filter.Filter.TheViews.{out-roll-Filter}
 use Rattle.ldap.specs.declared.filter_item.FilterItem.{FilterItem}
 use Rattle.ldap.specs.Filters.{Parted, parted, parted_of, depth_of, parted_top, the_filter, whole}
 use Rattle.ldap.specs.FilterLaws.{depth_is}
-use Rattle.ldap.specs.RecursionLaws.{unfolded_can, unfolded_form}
+use Rattle.ldap.specs.RecursionLaws.{unfolded_can, unfolded_encoding}
 use Rattle.ldap.specs.TheFilter.{the_step}
 
 pub in_and : (v : Filter) (fs : Vec Filter Global) → v ≡ And fs → parted_of v ≡ First fs
@@ -33,7 +33,7 @@ module _ (v : Filter) (p : Parted) (is : parted_of v ≡ p) where
   pub parts_deep : depth_of v ≡ parted_top p
   parts_deep = depth_is v ∙ ap (λ z. parted_top z) is
 
-  pub parts_written : (w w' : Written) (r : Result (Unit {0}) ASN1Error) → Writes (whole.form_under w.tag w.mode p) w w' r →
-      Writes (the_filter.form_under w.tag w.mode v) w w' r
+  pub parts_written : (w w' : Written) (r : Result (Unit {0}) ASN1Error) → Writes (whole.encoding_under w.tag w.mode p) w w' r →
+      Writes (the_filter.encoding_under w.tag w.mode v) w w' r
   parts_written w w' r h =
-      subst (λ b. Writes b w w' r) (sym (unfolded_form the_step w.tag w.mode v ∙ ap (λ z. whole.form_under w.tag w.mode z) is)) h
+      subst (λ b. Writes b w w' r) (sym (unfolded_encoding the_step w.tag w.mode v ∙ ap (λ z. whole.encoding_under w.tag w.mode z) is)) h

@@ -1,4 +1,4 @@
--- What a filter means keeps the laws.
+-- What a filter means satisfies the laws.
 use Rattle.std.proofs.Common.{◌≡◌, ◌∷◌, ◌++◌, [], ◌<◌, ◌+◌, ℕ, suc, max, List, true, Option, None, Box, map, inl, inr, refl, sym, ap, ap₂, subst, ◌∙◌, arith}
 use Rattle.std.specs.Global.{Global}
 use Rattle.std.specs.List.{AllByRecursion, concat}
@@ -6,22 +6,22 @@ use Rattle.std.specs.Prelude.{◌⊎◌}
 use Rattle.yasna_base.specs.declared.mode.BERMode.{BERMode}
 use Rattle.yasna_base.specs.declared.tag.PCBit.TheVariants.{Constructed}
 use Rattle.yasna_base.specs.declared.tag.Tag.{Tag}
-use Rattle.yasna_base.specs.AnyOrder.{sorted_set_of_form}
+use Rattle.yasna_base.specs.AnyOrder.{sorted_set_of_encoding}
 use Rattle.yasna_base.specs.Beginnings.{share_none}
 use Rattle.yasna_base.specs.Canonical.{canonical_element}
-use Rattle.yasna_base.specs.Grammar.{Grammar, Form, Nest}
+use Rattle.yasna_base.specs.Grammar.{Grammar, Encoding, Depth}
 use Rattle.yasna_base.specs.Identifier.{context, tag_or}
 use Rattle.yasna_base.specs.Order.{octets_cmp, in_order}
-use Rattle.yasna_base.specs.SequenceOf.{elements_nest}
+use Rattle.yasna_base.specs.SequenceOf.{elements_depth}
 use Rattle.yasna_base.specs.Set.{IsSetOf}
-use Rattle.yasna_base.specs.SetWriting.{forms, in_form_order}
+use Rattle.yasna_base.specs.SetWriting.{encodings, in_encoding_order}
 use Rattle.yasna_base.proofs.Pieces.{each_wider}
-use Rattle.yasna_base.proofs.SetOfWriting.{around_forms, forms_in_order}
+use Rattle.yasna_base.proofs.SetOfWriting.{around_encodings, encodings_in_order}
 use Rattle.yasna_notation.specs.declared.choices.Either.{Either}
 use Rattle.yasna_notation.specs.declared.choices.Either.TheVariants.{First, Second}
-use Rattle.yasna_notation.specs.Laws.{standing_keeps, element_filled}
+use Rattle.yasna_notation.specs.Laws.{represented_lawful, element_non_empty}
 use Rattle.yasna_notation.specs.Making.{in_set_of, in_implicit, in_explicit, in_choice, alternative, set_not_empty}
-use Rattle.yasna_notation.specs.Notation.{Meaning, IsNotation, KeepsMeaning, IsFilledForm, stands_for}
+use Rattle.yasna_notation.specs.Notation.{Meaning, IsNotation, MeaningKeepsLaws, IsNonEmptyEncoding, represented_by}
 use Rattle.ldap.specs.declared.filter.Filter.{Filter}
 use Rattle.ldap.specs.declared.filter.Filter.TheFolds.{map-Filter, fold_out-Filter}
 use Rattle.ldap.specs.declared.filter.Filter.TheOpen.{Filter-F}
@@ -31,7 +31,7 @@ use Rattle.ldap.specs.declared.filter_item.FilterItem.{FilterItem}
 use Rattle.ldap.specs.Filters.{Parted, parted, parted_of, largest, one_deeper, depth_of, group_means, negated_means, either_means}
 use Rattle.ldap.specs.Filters.{parted_means, filter_step, filter_means, group_top, either_top, parted_top}
 use Rattle.ldap.specs.Recursion.{after_steps, FollowsDepth, IsStep}
-use Rattle.ldap.specs.RecursionLaws.{means_keeps}
+use Rattle.ldap.specs.RecursionLaws.{means_lawful}
 
 all_map : {A : Type 0} {P Q : A → Type 0} → ((v : A) → P v → Q v) → (vs : List A) → AllByRecursion P vs → AllByRecursion Q vs
 all_map f [] p = tt
@@ -47,20 +47,20 @@ set_map B C t m n f vs b p =
       meaning = record { elements = record { pieces = e.pieces; each = each_wider f vs e.pieces e.each; joined = e.joined }; order = p.meaning.order };
     }
 
-forms_alike : {A : Type 0} (depth : A → ℕ) (f g : A → List ℕ) (vs : List A) → ((w : A) → depth w < suc (largest (map depth vs)) → f w ≡ g w) →
+encodings_alike : {A : Type 0} (depth : A → ℕ) (f g : A → List ℕ) (vs : List A) → ((w : A) → depth w < suc (largest (map depth vs)) → f w ≡ g w) →
     map f vs ≡ map g vs
-forms_alike depth f g [] h = refl
-forms_alike depth f g (v ∷ vs) h =
-    ap₂ (λ b bs. b ∷ bs) (h v (omega arith)) (forms_alike depth f g vs (λ w lt. h w (omega (arith, lt))))
+encodings_alike depth f g [] h = refl
+encodings_alike depth f g (v ∷ vs) h =
+    ap₂ (λ b bs. b ∷ bs) (h v (omega arith)) (encodings_alike depth f g vs (λ w lt. h w (omega (arith, lt))))
 
-nests_alike : {A : Type 0} (depth : A → ℕ) (f g : Nest A) (m : BERMode) (vs : List A) →
-    ((w : A) → depth w < suc (largest (map depth vs)) → f m w ≡ g m w) → elements_nest f m vs ≡ elements_nest g m vs
-nests_alike depth f g m [] h = refl
-nests_alike depth f g m (v ∷ vs) h = ap₂ max (h v (omega arith)) (nests_alike depth f g m vs (λ w lt. h w (omega (arith, lt))))
+depths_alike : {A : Type 0} (depth : A → ℕ) (f g : Depth A) (m : BERMode) (vs : List A) →
+    ((w : A) → depth w < suc (largest (map depth vs)) → f m w ≡ g m w) → elements_depth f m vs ≡ elements_depth g m vs
+depths_alike depth f g m [] h = refl
+depths_alike depth f g m (v ∷ vs) h = ap₂ max (h v (omega arith)) (depths_alike depth f g m vs (λ w lt. h w (omega (arith, lt))))
 
-sorted_is : {A : Type 0} (form : Form A) (t : Tag) (m : BERMode) (vs : List A) →
-    sorted_set_of_form form t m vs ≡ canonical_element m t Constructed (concat (in_order octets_cmp (forms form m vs)))
-sorted_is form t m vs = around_forms form m t (in_form_order form m vs) (in_order octets_cmp (forms form m vs)) (forms_in_order form m vs)
+sorted_is : {A : Type 0} (encoding : Encoding A) (t : Tag) (m : BERMode) (vs : List A) →
+    sorted_set_of_encoding encoding t m vs ≡ canonical_element m t Constructed (concat (in_order octets_cmp (encodings encoding m vs)))
+sorted_is encoding t m vs = around_encodings encoding m t (in_encoding_order encoding m vs) (in_order octets_cmp (encodings encoding m vs)) (encodings_in_order encoding m vs)
 
 group_follows : {A : Type 0} (depth : A → ℕ) (k : ℕ) → FollowsDepth depth (group_top depth) (group_means k)
 group_follows depth k = record {
@@ -70,7 +70,7 @@ group_follows depth k = record {
   within = λ x y u m n f v b p. (
     record {
       items = p.0.items;
-      moved = p.0.moved;
+      permuted = p.0.permuted;
       encoded = set_map (x.under None) (y.under None) (tag_or u (context k)) m n f p.0.items b p.0.encoded;
     },
     p.1,
@@ -80,7 +80,7 @@ group_follows depth k = record {
     (
       record {
         items = p.1.0.items;
-        moved = p.1.0.moved;
+        permuted = p.1.0.permuted;
         encoded = set_map (x.under None) (y.under None) (tag_or u (context k)) m n f p.1.0.items b p.1.0.encoded;
       },
       p.1.1,
@@ -88,13 +88,13 @@ group_follows depth k = record {
   );
   fits_within = λ x y m n f v p. (all_map f v.items p.0, p.1);
   can_within = λ x y f v p. (all_map f v.items p.0, p.1);
-  same_within = λ x y f v w e. record { items = e.items; moved = e.moved; each = each_wider f e.items w.items e.each };
-  form_within = λ x y u m v h.
+  same_within = λ x y f v w e. record { items = e.items; permuted = e.permuted; each = each_wider f e.items w.items e.each };
+  encoding_within = λ x y u m v h.
       let t = tag_or u (context k) in
-      sorted_is (x.form_under None) t m v.items ∙
+      sorted_is (x.encoding_under None) t m v.items ∙
       ap (λ bs. canonical_element m t Constructed (concat (in_order octets_cmp bs)))
-      (forms_alike depth (x.form_under None m) (y.form_under None m) v.items h) ∙ sym (sorted_is (y.form_under None) t m v.items);
-  nest_within = λ x y m v h. ap (λ k. 1 + k) (nests_alike depth x.nest y.nest m v.items h);
+      (encodings_alike depth (x.encoding_under None m) (y.encoding_under None m) v.items h) ∙ sym (sorted_is (y.encoding_under None) t m v.items);
+  depth_within = λ x y m v h. ap (λ k. 1 + k) (depths_alike depth x.depth y.depth m v.items h);
 }
 
 negated_follows : {A : Type 0} (depth : A → ℕ) → FollowsDepth depth (λ v. suc (depth v.value)) (negated_means {A = A})
@@ -107,13 +107,13 @@ negated_follows depth = record {
   fits_within = λ x y m n f v p. f v.value p;
   can_within = λ x y f v p. f v.value p;
   same_within = λ x y f v w e. f v.value w.value e;
-  form_within = λ x y u m v h. ap (λ c. canonical_element m (tag_or u (context 2)) Constructed c) (h v.value (omega arith));
-  nest_within = λ x y m v h. ap (λ k. 1 + k) (h v.value (omega arith));
+  encoding_within = λ x y u m v h. ap (λ c. canonical_element m (tag_or u (context 2)) Constructed c) (h v.value (omega arith));
+  depth_within = λ x y m v h. ap (λ k. 1 + k) (h v.value (omega arith));
 }
 
 -- what is made of nothing within
-alone_follows : {A V : Type 0} (depth : A → ℕ) (item : Meaning V) → FollowsDepth depth (λ i. 0) (λ x. item)
-alone_follows depth item = record {
+fixed_follows : {A V : Type 0} (depth : A → ℕ) (item : Meaning V) → FollowsDepth depth (λ i. 0) (λ x. item)
+fixed_follows depth item = record {
   flat = λ x y u m v b p. p;
   any_flat = λ x y u m b p. p;
   fits_flat = λ x y m v p. p;
@@ -122,8 +122,8 @@ alone_follows depth item = record {
   fits_within = λ x y m n f v p. p;
   can_within = λ x y f v p. p;
   same_within = λ x y f v w e. e;
-  form_within = λ x y u m v h. refl;
-  nest_within = λ x y m v h. refl;
+  encoding_within = λ x y u m v h. refl;
+  depth_within = λ x y m v h. refl;
 }
 
 module _ {A V W : Type 0} {depth : A → ℕ} {p : V → ℕ} {q : W → ℕ} {f : Meaning A → Meaning V} {g : Meaning A → Meaning W} (a : FollowsDepth depth p f)
@@ -159,16 +159,16 @@ module _ {A V W : Type 0} {depth : A → ℕ} {p : V → ℕ} {q : W → ℕ} {f
   same_either x y h (Second v) (First w) e = absurd e
   same_either x y h (Second v) (Second w) e = b.same_within x y h v w e
 
-  form_either : (x y : Meaning A) (u : Option Tag) (m : BERMode) (v : Either V W) →
-      ((w : A) → depth w < either_top p q v → x.form_under None m w ≡ y.form_under None m w) →
-      (either_means (f x) (g x)).form_under u m v ≡ (either_means (f y) (g y)).form_under u m v
-  form_either x y u m (First v) h = a.form_within x y u m v h
-  form_either x y u m (Second v) h = b.form_within x y u m v h
+  encoding_either : (x y : Meaning A) (u : Option Tag) (m : BERMode) (v : Either V W) →
+      ((w : A) → depth w < either_top p q v → x.encoding_under None m w ≡ y.encoding_under None m w) →
+      (either_means (f x) (g x)).encoding_under u m v ≡ (either_means (f y) (g y)).encoding_under u m v
+  encoding_either x y u m (First v) h = a.encoding_within x y u m v h
+  encoding_either x y u m (Second v) h = b.encoding_within x y u m v h
 
-  nest_either : (x y : Meaning A) (m : BERMode) (v : Either V W) → ((w : A) → depth w < either_top p q v → x.nest m w ≡ y.nest m w) →
-      (either_means (f x) (g x)).nest m v ≡ (either_means (f y) (g y)).nest m v
-  nest_either x y m (First v) h = a.nest_within x y m v h
-  nest_either x y m (Second v) h = b.nest_within x y m v h
+  depth_either : (x y : Meaning A) (m : BERMode) (v : Either V W) → ((w : A) → depth w < either_top p q v → x.depth m w ≡ y.depth m w) →
+      (either_means (f x) (g x)).depth m v ≡ (either_means (f y) (g y)).depth m v
+  depth_either x y m (First v) h = a.depth_within x y m v h
+  depth_either x y m (Second v) h = b.depth_within x y m v h
 
   any_either : (x y : Meaning A) (m : BERMode) (n : ℕ) → ((v : A) (c : List ℕ) → x.under None m n v c → y.under None m n v c) →
       ((c : List ℕ) → x.any_under None m n c → y.any_under None m n c) → (c : List ℕ) →
@@ -191,14 +191,14 @@ module _ {A V W : Type 0} {depth : A → ℕ} {p : V → ℕ} {q : W → ℕ} {f
     fits_within = fits_either;
     can_within = can_either;
     same_within = same_either;
-    form_within = form_either;
-    nest_within = nest_either;
+    encoding_within = encoding_either;
+    depth_within = depth_either;
   }
 
--- what stands for what is made so
-standing_follows : {A U V : Type 0} {depth : A → ℕ} {p : V → ℕ} (view : U → V) (top : U → ℕ) (f : Meaning A → Meaning V) → FollowsDepth depth p f →
-    ((v : U) → top v ≡ p (view v)) → FollowsDepth depth top (λ x. stands_for view (f x))
-standing_follows {depth = depth} view top f a is = record {
+-- what represents what is made so
+represented_follows : {A U V : Type 0} {depth : A → ℕ} {p : V → ℕ} (view : U → V) (top : U → ℕ) (f : Meaning A → Meaning V) → FollowsDepth depth p f →
+    ((v : U) → top v ≡ p (view v)) → FollowsDepth depth top (λ x. represented_by view (f x))
+represented_follows {depth = depth} view top f a is = record {
   flat = λ x y u m v b z. a.flat x y u m (view v) b z;
   any_flat = λ x y u m b z. a.any_flat x y u m b z;
   fits_flat = λ x y m v z. a.fits_flat x y m (view v) z;
@@ -207,8 +207,8 @@ standing_follows {depth = depth} view top f a is = record {
   fits_within = λ x y m n h v z. a.fits_within x y m n h (view v) z;
   can_within = λ x y h v z. a.can_within x y h (view v) z;
   same_within = λ x y h v w e. a.same_within x y h (view v) (view w) e;
-  form_within = λ x y u m v h. a.form_within x y u m (view v) (λ w lt. h w (subst (λ k. depth w < k) (sym (is v)) lt));
-  nest_within = λ x y m v h. a.nest_within x y m (view v) (λ w lt. h w (subst (λ k. depth w < k) (sym (is v)) lt));
+  encoding_within = λ x y u m v h. a.encoding_within x y u m (view v) (λ w lt. h w (subst (λ k. depth w < k) (sym (is v)) lt));
+  depth_within = λ x y m v h. a.depth_within x y m (view v) (λ w lt. h w (subst (λ k. depth w < k) (sym (is v)) lt));
 }
 
 pub top_is : (d : Filter-F Filter) → one_deeper (map-Filter Filter ℕ depth_of d) ≡ parted_top (parted d)
@@ -222,39 +222,39 @@ depth_is v = fold_out-Filter ℕ one_deeper v ∙ top_is (out-Filter v)
 
 step_follows : (item : Meaning FilterItem) → FollowsDepth depth_of depth_of (filter_step item)
 step_follows item =
-    standing_follows parted_of depth_of (parted_means item)
+    represented_follows parted_of depth_of (parted_means item)
     (either_follows (group_follows depth_of 0) (either_follows (group_follows depth_of 1)
-    (either_follows (negated_follows depth_of) (alone_follows depth_of item))))
+    (either_follows (negated_follows depth_of) (fixed_follows depth_of item))))
     depth_is
 
 module _ (item : Meaning FilterItem)
-    (laws : IsNotation true item.tags item.same (item.under None) (item.any_under None) (item.form_under None) item.fits item.can)
+    (laws : IsNotation true item.tags item.same (item.under None) (item.any_under None) (item.encoding_under None) item.fits item.can)
     (first : share_none (context 0 ∷ []) ((context 1 ∷ []) ++ ((context 2 ∷ []) ++ item.tags)) ≡ true)
     (second : share_none (context 1 ∷ []) ((context 2 ∷ []) ++ item.tags) ≡ true) (third : share_none (context 2 ∷ []) item.tags ≡ true) where
-  step_keeps : (x : Meaning Filter) → KeepsMeaning x → KeepsMeaning (filter_step item x)
-  step_keeps x k =
-      standing_keeps parted_of
-      (in_choice (parted_means item x).form_under
+  step_lawful : (x : Meaning Filter) → MeaningKeepsLaws x → MeaningKeepsLaws (filter_step item x)
+  step_lawful x k =
+      represented_lawful parted_of
+      (in_choice (parted_means item x).encoding_under
       (alternative (in_implicit 0 (omega arith) (set_not_empty (in_set_of k.own))).own first
       (alternative (in_implicit 1 (omega arith) (set_not_empty (in_set_of k.own))).own second
-      (alternative (in_explicit 2 (omega arith) (standing_keeps (λ (v : Box Filter Global). v.value) k).own).own third laws))))
+      (alternative (in_explicit 2 (omega arith) (represented_lawful (λ (v : Box Filter Global). v.value) k).own).own third laws))))
 
   pub filter_is_step : IsStep (filter_step item) depth_of
-  filter_is_step = record { keeps = step_keeps; told = λ x. refl; tags = λ x. refl; follows = step_follows item }
+  filter_is_step = record { lawful = step_lawful; tags_known = λ x. refl; tags = λ x. refl; follows = step_follows item }
 
-  pub filter_keeps : KeepsMeaning (filter_means item)
-  filter_keeps = means_keeps filter_is_step
+  pub filter_lawful : MeaningKeepsLaws (filter_means item)
+  filter_lawful = means_lawful filter_is_step
 
--- no form is empty
-parted_filled : (item : Meaning FilterItem) → IsFilledForm item → (x : Meaning Filter) (u : Option Tag) (m : BERMode) (p : Parted) →
-    (parted_means item x).form_under u m p ≡ [] → ⊥
-parted_filled item filled x u m (First fs) = element_filled _ _ _ _
-parted_filled item filled x u m (Second (First fs)) = element_filled _ _ _ _
-parted_filled item filled x u m (Second (Second (First f))) = element_filled _ _ _ _
-parted_filled item filled x u m (Second (Second (Second i))) = filled u m i
+-- no encoding is empty
+parted_non_empty : (item : Meaning FilterItem) → IsNonEmptyEncoding item → (x : Meaning Filter) (u : Option Tag) (m : BERMode) (p : Parted) →
+    (parted_means item x).encoding_under u m p ≡ [] → ⊥
+parted_non_empty item non_empty x u m (First fs) = element_non_empty _ _ _ _
+parted_non_empty item non_empty x u m (Second (First fs)) = element_non_empty _ _ _ _
+parted_non_empty item non_empty x u m (Second (Second (First f))) = element_non_empty _ _ _ _
+parted_non_empty item non_empty x u m (Second (Second (Second i))) = non_empty u m i
 
-pub filter_filled : (item : Meaning FilterItem) → IsFilledForm item → IsFilledForm (filter_means item)
-filter_filled item filled u m v = parted_filled item filled (after_steps (filter_step item) (depth_of v)) u m (parted_of v)
+pub filter_non_empty : (item : Meaning FilterItem) → IsNonEmptyEncoding item → IsNonEmptyEncoding (filter_means item)
+filter_non_empty item non_empty u m v = parted_non_empty item non_empty (after_steps (filter_step item) (depth_of v)) u m (parted_of v)
 
 -- values within are less deep
 pub each_less : (P : Filter → Type 0) (Can : Filter → Type 0) (vs : List Filter) → AllByRecursion Can vs →

@@ -1,21 +1,21 @@
--- What a type means that stands within itself. A step says what it means, from what the values mean that stand one level further in.
+-- What a type means that is within itself. A step says what it means, from what the values mean that are one level further in.
 use Rattle.std.proofs.Common.{◌≡◌, ◌<◌, ℕ, zero, suc, List, [], true, false, Option, None}
 use Rattle.yasna_base.specs.declared.mode.BERMode.{BERMode}
 use Rattle.yasna_base.specs.declared.tag.Tag.{Tag}
-use Rattle.yasna_notation.specs.Notation.{Meaning, KeepsMeaning}
+use Rattle.yasna_notation.specs.Notation.{Meaning, MeaningKeepsLaws}
 
 -- what means nothing yet
 abbrev pub nothing_yet : {A : Type 0} → Meaning A
 nothing_yet = record {
-  told = true;
+  tags_known = true;
   tags = [];
   retagged = false;
   under = λ u m n v b. ⊥;
   any_under = λ u m n b. ⊥;
-  asks_memory = true;
+  may_allocate = true;
   same = λ v w. Unit {0};
-  form_under = λ u m v. [];
-  nest = λ m v. 0;
+  encoding_under = λ u m v. [];
+  depth = λ m v. 0;
   can = λ v. ⊥;
   fits = λ m n v. ⊥;
 }
@@ -25,24 +25,24 @@ abbrev pub after_steps : {A : Type 0} → (Meaning A → Meaning A) → ℕ → 
 after_steps step zero = nothing_yet
 after_steps step (suc k) = step (after_steps step k)
 
--- What it means: within n levels a value has as many steps as there may be in them, and its form as many as it is deep. Values are equal
+-- What it means: within n levels a value has as many steps as there may be in them, and its encoding as many as it is deep. Values are equal
 -- where they are after any number of steps.
 abbrev pub means_within : {A : Type 0} → (Meaning A → Meaning A) → (A → ℕ) → Meaning A
 means_within step depth = record {
-  told = true;
+  tags_known = true;
   tags = (step nothing_yet).tags;
   retagged = false;
   under = λ u m n v b. (after_steps step (suc n)).under u m n v b;
   any_under = λ u m n b. (after_steps step (suc n)).any_under u m n b;
-  asks_memory = true;
+  may_allocate = true;
   same = λ v w. (k : ℕ) → (after_steps step k).same v w;
-  form_under = λ u m v. (after_steps step (suc (depth v))).form_under u m v;
-  nest = λ m v. (after_steps step (suc (depth v))).nest m v;
+  encoding_under = λ u m v. (after_steps step (suc (depth v))).encoding_under u m v;
+  depth = λ m v. (after_steps step (suc (depth v))).depth m v;
   can = λ v. (k : ℕ) × (after_steps step k).can v;
   fits = λ m n v. (after_steps step (suc n)).fits m n v;
 }
 
--- What is made of a meaning: at no level it asks for nothing of that, at others for what is one level less. The form of a value, and how
+-- What is made of a meaning: at no level it asks for nothing of that, at others for what is one level less. The encoding of a value, and how
 -- deep that nests, is made of those of values that are less deep than the value's top.
 pub record FollowsDepth {A V : Type 0} (depth : A → ℕ) (top : V → ℕ) (make : Meaning A → Meaning V) : Type 1 where
   pub flat : (x y : Meaning A) (u : Option Tag) (m : BERMode) (v : V) (b : List ℕ) → (make x).under u m 0 v b → (make y).under u m 0 v b
@@ -57,14 +57,14 @@ pub record FollowsDepth {A V : Type 0} (depth : A → ℕ) (top : V → ℕ) (ma
       (v : V) → (make x).fits m (suc n) v → (make y).fits m (suc n) v
   pub can_within : (x y : Meaning A) → ((v : A) → x.can v → y.can v) → (v : V) → (make x).can v → (make y).can v
   pub same_within : (x y : Meaning A) → ((v w : A) → x.same v w → y.same v w) → (v w : V) → (make x).same v w → (make y).same v w
-  pub form_within : (x y : Meaning A) (u : Option Tag) (m : BERMode) (v : V) →
-      ((w : A) → depth w < top v → x.form_under None m w ≡ y.form_under None m w) → (make x).form_under u m v ≡ (make y).form_under u m v
-  pub nest_within : (x y : Meaning A) (m : BERMode) (v : V) → ((w : A) → depth w < top v → x.nest m w ≡ y.nest m w) →
-      (make x).nest m v ≡ (make y).nest m v
+  pub encoding_within : (x y : Meaning A) (u : Option Tag) (m : BERMode) (v : V) →
+      ((w : A) → depth w < top v → x.encoding_under None m w ≡ y.encoding_under None m w) → (make x).encoding_under u m v ≡ (make y).encoding_under u m v
+  pub depth_within : (x y : Meaning A) (m : BERMode) (v : V) → ((w : A) → depth w < top v → x.depth m w ≡ y.depth m w) →
+      (make x).depth m v ≡ (make y).depth m v
 
 -- what a step keeps
 pub record IsStep {A : Type 0} (step : Meaning A → Meaning A) (depth : A → ℕ) : Type 1 where
-  pub keeps : (x : Meaning A) → KeepsMeaning x → KeepsMeaning (step x)
-  pub told : (x : Meaning A) → (step x).told ≡ true
+  pub lawful : (x : Meaning A) → MeaningKeepsLaws x → MeaningKeepsLaws (step x)
+  pub tags_known : (x : Meaning A) → (step x).tags_known ≡ true
   pub tags : (x : Meaning A) → (step x).tags ≡ (step nothing_yet).tags
   pub follows : FollowsDepth depth depth step

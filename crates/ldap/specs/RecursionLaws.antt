@@ -1,15 +1,15 @@
--- What a type means that stands within itself keeps the laws, where its step does.
+-- What a type means that is within itself satisfies the laws, where its step does.
 use Rattle.std.proofs.Common.{◌≡◌, ◌<◌, ◌≤◌, ◌+◌, ◌^◌, ℕ, zero, suc, List, length, Option, None, refl, sym, subst, ◌∙◌, arith}
 use Rattle.yasna_base.specs.declared.mode.BERMode.{BERMode}
 use Rattle.yasna_base.specs.declared.tag.Tag.{Tag}
 use Rattle.yasna_base.specs.Beginnings.{BeginsBy}
 use Rattle.yasna_base.specs.Digits.{IsBytes}
 use Rattle.yasna_notation.specs.Laws.{never_retagged}
-use Rattle.yasna_notation.specs.Notation.{Meaning, KeepsMeaning}
+use Rattle.yasna_notation.specs.Notation.{Meaning, MeaningKeepsLaws}
 use Rattle.ldap.specs.Recursion.{nothing_yet, after_steps, means_within, IsStep}
 
-nothing_keeps : {A : Type 0} → KeepsMeaning (nothing_yet {A = A})
-nothing_keeps = record {
+nothing_lawful : {A : Type 0} → MeaningKeepsLaws (nothing_yet {A = A})
+nothing_lawful = record {
   own = record {
     coding = record {
       meaning = record {
@@ -19,7 +19,7 @@ nothing_keeps = record {
         deeper = λ m n k v b le p. p;
       };
       opens = λ m n b p. absurd p;
-      alone = λ m n k b c r s p q e. absurd p;
+      prefix_free = λ m n k b c r s p q e. absurd p;
     };
     begins = λ t. record { at = λ m n b p. absurd p };
     exact = record {
@@ -34,9 +34,9 @@ nothing_keeps = record {
 }
 
 module _ {A : Type 0} {step : Meaning A → Meaning A} {depth : A → ℕ} (s : IsStep step depth) where
-  keeps_after : (k : ℕ) → KeepsMeaning (after_steps step k)
-  keeps_after zero = nothing_keeps
-  keeps_after (suc k) = s.keeps (after_steps step k) (keeps_after k)
+  lawful_after : (k : ℕ) → MeaningKeepsLaws (after_steps step k)
+  lawful_after zero = nothing_lawful
+  lawful_after (suc k) = s.lawful (after_steps step k) (lawful_after k)
 
   -- more steps than there are levels change nothing
   pub under_any : (n j k : ℕ) (u : Option Tag) (m : BERMode) (v : A) (b : List ℕ) → n < k → (after_steps step j).under u m n v b →
@@ -70,69 +70,69 @@ module _ {A : Type 0} {step : Meaning A → Meaning A} {depth : A → ℕ} (s : 
   same_less (suc j) (suc k) v w le e =
       s.follows.same_within (after_steps step k) (after_steps step j) (λ x y d. same_less j k x y (omega (arith, le)) d) v w e
 
-  -- so are forms, of values that are less deep
-  pub form_any : (j k : ℕ) (u : Option Tag) (m : BERMode) (v : A) → depth v < j → depth v < k →
-      (after_steps step j).form_under u m v ≡ (after_steps step k).form_under u m v
-  form_any zero k u m v lt le = absurd (omega (arith, lt))
-  form_any (suc j) zero u m v lt le = absurd (omega (arith, le))
-  form_any (suc j) (suc k) u m v lt le =
-      s.follows.form_within (after_steps step j) (after_steps step k) u m v
-      (λ w less. form_any j k None m w (omega (arith, lt, less)) (omega (arith, le, less)))
+  -- so are encodings, of values that are less deep
+  pub encoding_any : (j k : ℕ) (u : Option Tag) (m : BERMode) (v : A) → depth v < j → depth v < k →
+      (after_steps step j).encoding_under u m v ≡ (after_steps step k).encoding_under u m v
+  encoding_any zero k u m v lt le = absurd (omega (arith, lt))
+  encoding_any (suc j) zero u m v lt le = absurd (omega (arith, le))
+  encoding_any (suc j) (suc k) u m v lt le =
+      s.follows.encoding_within (after_steps step j) (after_steps step k) u m v
+      (λ w less. encoding_any j k None m w (omega (arith, lt, less)) (omega (arith, le, less)))
 
-  -- it keeps the laws
-  pub means_keeps : KeepsMeaning (means_within step depth)
-  means_keeps = record {
+  -- it satisfies the laws
+  pub means_lawful : MeaningKeepsLaws (means_within step depth)
+  means_lawful = record {
     own = record {
       coding = record {
         meaning = record {
           equal = record {
-            reflexive = λ v k. (keeps_after k).own.coding.meaning.equal.reflexive v;
-            symmetric = λ v w e k. (keeps_after k).own.coding.meaning.equal.symmetric v w (e k);
-            transitive = λ u v w d e k. (keeps_after k).own.coding.meaning.equal.transitive u v w (d k) (e k);
+            reflexive = λ v k. (lawful_after k).own.coding.meaning.equal.reflexive v;
+            symmetric = λ v w e k. (lawful_after k).own.coding.meaning.equal.symmetric v w (e k);
+            transitive = λ u v w d e k. (lawful_after k).own.coding.meaning.equal.transitive u v w (d k) (e k);
           };
-          among = λ m n v b p. (keeps_after (suc n)).own.coding.meaning.among m n v b p;
+          among = λ m n v b p. (lawful_after (suc n)).own.coding.meaning.among m n v b p;
           exact = λ m n k v w b p q j.
               let top = suc (n + k + j) in
-              same_less j top v w (omega arith) ((keeps_after top).own.coding.meaning.exact m n k v w b
+              same_less j top v w (omega arith) ((lawful_after top).own.coding.meaning.exact m n k v w b
               (under_any n (suc n) top None m v b (omega arith) p) (under_any k (suc k) top None m w b (omega arith) q));
           deeper = λ m n k v b le p.
-              under_any k (suc n) (suc k) None m v b (omega arith) ((keeps_after (suc n)).own.coding.meaning.deeper m n k v b le p);
+              under_any k (suc n) (suc k) None m v b (omega arith) ((lawful_after (suc n)).own.coding.meaning.deeper m n k v b le p);
         };
-        opens = λ m n b p. (keeps_after (suc n)).own.coding.opens m n b p;
-        alone = λ m n k b c r t p q e.
+        opens = λ m n b p. (lawful_after (suc n)).own.coding.opens m n b p;
+        prefix_free = λ m n k b c r t p q e.
             let top = suc (n + k) in
-            (keeps_after top).own.coding.alone m n k b c r t (any_any n (suc n) top None m b (omega arith) p)
+            (lawful_after top).own.coding.prefix_free m n k b c r t (any_any n (suc n) top None m b (omega arith) p)
             (any_any k (suc k) top None m c (omega arith) q) e;
       };
       begins = λ t. record {
         at = λ m n b p.
             (subst (λ ts. BeginsBy ts ((step (after_steps step n)).any_under None)) (s.tags (after_steps step n))
-            ((keeps_after (suc n)).own.begins (s.told (after_steps step n)))).at m n b p;
+            ((lawful_after (suc n)).own.begins (s.tags_known (after_steps step n)))).at m n b p;
       };
       exact = record {
         in_bytes = λ m n v f short.
             let top = suc (n + depth v) in
-            let e = form_any (suc (depth v)) top None m v (omega arith) (omega arith) in
-            subst (λ b. IsBytes b) (sym e) ((keeps_after top).own.exact.in_bytes m n v (fits_any n (suc n) top m v (omega arith) f)
+            let e = encoding_any (suc (depth v)) top None m v (omega arith) (omega arith) in
+            subst (λ b. IsBytes b) (sym e) ((lawful_after top).own.exact.in_bytes m n v (fits_any n (suc n) top m v (omega arith) f)
             (subst (λ b. length b < 2 ^ 64) e short));
         holds = λ m o n v h f short.
             let top = suc (n + depth v) in
-            let e = form_any (suc (depth v)) top None m v (omega arith) (omega arith) in
-            under_any n top (suc n) None o v ((after_steps step (suc (depth v))).form_under None m v) (omega arith)
+            let e = encoding_any (suc (depth v)) top None m v (omega arith) (omega arith) in
+            under_any n top (suc n) None o v ((after_steps step (suc (depth v))).encoding_under None m v) (omega arith)
             (subst (λ b. (after_steps step top).under None o n v b) (sym e)
-            ((keeps_after top).own.exact.holds m o n v h (fits_any n (suc n) top m v (omega arith) f) (subst (λ b. length b < 2 ^ 64) e short)));
+            ((lawful_after top).own.exact.holds m o n v h (fits_any n (suc n) top m v (omega arith) f) (subst (λ b. length b < 2 ^ 64) e short)));
         only = λ m n v b h p.
             let top = suc (n + depth v) in
-            let e = form_any (suc (depth v)) top None m v (omega arith) (omega arith) in
-            let y = (keeps_after top).own.exact.only m n v b h (under_any n (suc n) top None m v b (omega arith) p) in
+            let e = encoding_any (suc (depth v)) top None m v (omega arith) (omega arith) in
+            let y = (lawful_after top).own.exact.only m n v b h (under_any n (suc n) top None m v b (omega arith) p) in
             (y.0 ∙ sym e, fits_any n top (suc n) m v (omega arith) y.1);
-        can = λ m n v f. (suc n, (keeps_after (suc n)).own.exact.can m n v f);
+        can = λ m n v f. (suc n, (lawful_after (suc n)).own.exact.can m n v f);
         same = λ m v w e.
             let top = suc (depth v + depth w) in (
-              form_any (suc (depth v)) top None m v (omega arith) (omega arith) ∙ ((keeps_after top).own.exact.same m v w (e top)).0
-                  ∙ form_any top (suc (depth w)) None m w (omega arith) (omega arith),
-              (λ c. (c.0, ((keeps_after c.0).own.exact.same m v w (e c.0)).1 c.1)),
-              (λ n f. ((keeps_after (suc n)).own.exact.same m v w (e (suc n))).2 n f),
+              encoding_any (suc (depth v)) top None m v (omega arith) (omega arith) ∙ ((lawful_after top).own.exact.same m v w (e top)).0
+                  ∙ encoding_any top (suc (depth w)) None m w (omega arith) (omega arith),
+              (λ c. (c.0, ((lawful_after c.0).own.exact.same m v w (e c.0)).1 c.1)),
+              (λ n f. ((lawful_after (suc n)).own.exact.same m v w (e (suc n))).2 n f),
             );
       };
     };
@@ -150,7 +150,7 @@ module _ {A : Type 0} {step : Meaning A → Meaning A} {depth : A → ℕ} (s : 
   unfolded_any u m zero b p = s.follows.any_flat nothing_yet (means_within step depth) u m b p
   unfolded_any u m (suc n) b p = s.follows.any_within (after_steps step (suc n)) (means_within step depth) u m n (λ w c q. q) (λ c q. q) b p
 
-  -- what can be written can be by its parts, and its form is made of theirs
+  -- what can be written can be by its parts, and its encoding is made of theirs
   pub unfolded_can : (v : A) → (means_within step depth).can v → (step (means_within step depth)).can v
   unfolded_can v c = go c.0 c.1
     where
@@ -158,7 +158,7 @@ module _ {A : Type 0} {step : Meaning A → Meaning A} {depth : A → ℕ} (s : 
       go zero c = absurd c
       go (suc k) c = s.follows.can_within (after_steps step k) (means_within step depth) (λ w d. (k, d)) v c
 
-  pub unfolded_form : (u : Option Tag) (m : BERMode) (v : A) →
-      (means_within step depth).form_under u m v ≡ (step (means_within step depth)).form_under u m v
-  unfolded_form u m v = s.follows.form_within (after_steps step (depth v)) (means_within step depth) u m v
-      (λ w less. form_any (depth v) (suc (depth w)) None m w less (omega arith))
+  pub unfolded_encoding : (u : Option Tag) (m : BERMode) (v : A) →
+      (means_within step depth).encoding_under u m v ≡ (step (means_within step depth)).encoding_under u m v
+  unfolded_encoding u m v = s.follows.encoding_within (after_steps step (depth v)) (means_within step depth) u m v
+      (λ w less. encoding_any (depth v) (suc (depth w)) None m w less (omega arith))

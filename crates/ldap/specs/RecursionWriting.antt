@@ -1,4 +1,4 @@
--- What a type means that stands within itself keeps the laws of writing, where its step does.
+-- What a type means that is within itself satisfies the laws of writing, where its step does.
 use Rattle.std.proofs.Common.{◌≡◌, ◌<◌, ◌≤◌, ◌+◌, ◌^◌, ℕ, zero, suc, length, None, refl, sym, subst, ◌∙◌, arith}
 use Rattle.yasna_base.specs.declared.mode.BERMode.{BERMode}
 use Rattle.yasna_base.specs.declared.mode.BERMode.TheVariants.{Ber, Der}
@@ -6,7 +6,7 @@ use Rattle.yasna_base.specs.Digits.{IsBytes}
 use Rattle.yasna_notation.specs.Laws.{never_retagged}
 use Rattle.yasna_notation.specs.Notation.{Meaning, IsWrittenMeaning}
 use Rattle.ldap.specs.Recursion.{nothing_yet, after_steps, means_within, IsStep}
-use Rattle.ldap.specs.RecursionLaws.{under_any, form_any}
+use Rattle.ldap.specs.RecursionLaws.{under_any, encoding_any}
 
 nothing_written : {A : Type 0} → IsWrittenMeaning (nothing_yet {A = A})
 nothing_written = record {
@@ -35,13 +35,13 @@ module _ {A : Type 0} {step : Meaning A → Meaning A} {depth : A → ℕ} (s : 
   can_more (suc j) (suc k) v le c =
       s.follows.can_within (after_steps step j) (after_steps step k) (λ w d. can_more j k w (omega (arith, le)) d) v c
 
-  -- how deep forms nest, of values that are less deep
-  nest_any : (j k : ℕ) (m : BERMode) (v : A) → depth v < j → depth v < k → (after_steps step j).nest m v ≡ (after_steps step k).nest m v
-  nest_any zero k m v lt le = absurd (omega (arith, lt))
-  nest_any (suc j) zero m v lt le = absurd (omega (arith, le))
-  nest_any (suc j) (suc k) m v lt le =
-      s.follows.nest_within (after_steps step j) (after_steps step k) m v
-      (λ w less. nest_any j k m w (omega (arith, lt, less)) (omega (arith, le, less)))
+  -- how deep encodings nest, of values that are less deep
+  depth_any : (j k : ℕ) (m : BERMode) (v : A) → depth v < j → depth v < k → (after_steps step j).depth m v ≡ (after_steps step k).depth m v
+  depth_any zero k m v lt le = absurd (omega (arith, lt))
+  depth_any (suc j) zero m v lt le = absurd (omega (arith, le))
+  depth_any (suc j) (suc k) m v lt le =
+      s.follows.depth_within (after_steps step j) (after_steps step k) m v
+      (λ w less. depth_any j k m w (omega (arith, lt, less)) (omega (arith, le, less)))
 
   pub means_written : IsWrittenMeaning (means_within step depth)
   means_written = record {
@@ -49,37 +49,37 @@ module _ {A : Type 0} {step : Meaning A → Meaning A} {depth : A → ℕ} (s : 
       has = record {
         in_bytes = λ m v can short.
             let top = suc (can.0 + depth v) in
-            let e = form_any s (suc (depth v)) top None m v (omega arith) (omega arith) in
+            let e = encoding_any s (suc (depth v)) top None m v (omega arith) (omega arith) in
             subst (λ b. IsBytes b) (sym e) ((written_after top).own.has.in_bytes m v (can_more can.0 top v (omega arith) can.1)
             (subst (λ b. length b < 2 ^ 64) e short));
         holds = λ m o n v h can level short.
             let top = suc (can.0 + n + depth v) in
-            let e = form_any s (suc (depth v)) top None m v (omega arith) (omega arith) in
-            let k = nest_any (suc (depth v)) top m v (omega arith) (omega arith) in
-            under_any s n top (suc n) None o v ((after_steps step (suc (depth v))).form_under None m v) (omega arith)
+            let e = encoding_any s (suc (depth v)) top None m v (omega arith) (omega arith) in
+            let k = depth_any (suc (depth v)) top m v (omega arith) (omega arith) in
+            under_any s n top (suc n) None o v ((after_steps step (suc (depth v))).encoding_under None m v) (omega arith)
             (subst (λ b. (after_steps step top).under None o n v b) (sym e)
             ((written_after top).own.has.holds m o n v h (can_more can.0 top v (omega arith) can.1) (subst (λ i. i ≤ n) k level)
             (subst (λ b. length b < 2 ^ 64) e short)));
         only = λ m n v b h p.
             let top = suc (n + depth v) in
-            let e = form_any s (suc (depth v)) top None m v (omega arith) (omega arith) in
-            let k = nest_any (suc (depth v)) top m v (omega arith) (omega arith) in
+            let e = encoding_any s (suc (depth v)) top None m v (omega arith) (omega arith) in
+            let k = depth_any (suc (depth v)) top m v (omega arith) (omega arith) in
             let y = (written_after top).own.has.only m n v b h (under_any s n (suc n) top None m v b (omega arith) p) in
             (y.0 ∙ sym e, (top, y.1), subst (λ i. i ≤ n) (sym k) y.2);
       };
       any = λ n v b p.
           let top = suc (n + depth v) in
-          let k = nest_any (suc (depth v)) top Der v (omega arith) (omega arith) in
+          let k = depth_any (suc (depth v)) top Der v (omega arith) (omega arith) in
           let y = (written_after top).own.any n v b (under_any s n (suc n) top None Ber v b (omega arith) p) in
           ((top, y.0), subst (λ i. i ≤ n) (sym k) y.1);
       same = λ m v w e.
           let top = suc (depth v + depth w) in
           let y = (written_after top).own.same m v w (e top) in (
-            form_any s (suc (depth v)) top None m v (omega arith) (omega arith) ∙ y.0
-                ∙ form_any s top (suc (depth w)) None m w (omega arith) (omega arith),
+            encoding_any s (suc (depth v)) top None m v (omega arith) (omega arith) ∙ y.0
+                ∙ encoding_any s top (suc (depth w)) None m w (omega arith) (omega arith),
             (λ c. (c.0, ((written_after c.0).own.same m v w (e c.0)).1 c.1)),
-            nest_any (suc (depth v)) top m v (omega arith) (omega arith) ∙ y.2
-                ∙ nest_any top (suc (depth w)) m w (omega arith) (omega arith),
+            depth_any (suc (depth v)) top m v (omega arith) (omega arith) ∙ y.2
+                ∙ depth_any top (suc (depth w)) m w (omega arith) (omega arith),
           );
     };
     others = λ e. never_retagged e;

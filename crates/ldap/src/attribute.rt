@@ -6,19 +6,19 @@
 //!     vals (SIZE (1..MAX)) })
 //! ```
 ghost use Rattle.std.specs.Prelude.{◌≡◌, refl};
-ghost use Rattle.yasna_notation.specs.Laws.{standing_keeps, element_filled};
+ghost use Rattle.yasna_notation.specs.Laws.{represented_lawful, element_non_empty};
 ghost use Rattle.yasna_notation.specs.Making.{in_sequence, in_set_of, part, set_not_empty};
-ghost use Rattle.yasna_notation.specs.Notation.{stands_for};
+ghost use Rattle.yasna_notation.specs.Notation.{represented_by};
 ghost use Rattle.yasna_notation.specs.Parts.{no_parts};
-ghost use Rattle.yasna_notation.specs.contracts.strings.VecU8Notation.TheImpl.Laws.{keeps-law as octets};
-ghost use Rattle.yasna_notation.specs.Canonical.{standing_written};
-ghost use Rattle.yasna_notation.specs.Writing.{sequence_written, set_of_written, part_written, no_part_written, filled_set_written};
+ghost use Rattle.yasna_notation.specs.contracts.strings.VecU8Notation.TheImpl.Laws.{lawful-law as octets};
+ghost use Rattle.yasna_notation.specs.Canonical.{represented_written};
+ghost use Rattle.yasna_notation.specs.Writing.{sequence_written, set_of_written, part_written, no_part_written, non_empty_set_written};
 ghost use Rattle.yasna_notation.specs.contracts.canonical.VecU8CanonicalNotation.TheImpl.Laws.{written-law as octets_written};
 
 use yasna::tags::TAG_SEQUENCE;
 use yasna::{ASN1Result, BERReader, DERWriter, Tag};
 use yasna_notation::{
-    Bounded, CanonicalNotation, Message, NotEmpty, Notation, Sequence, SetOf, StandsFor, read_as,
+    Bounded, CanonicalNotation, Message, NotEmpty, Notation, Represents, Sequence, SetOf, read_as,
 };
 
 type Parts = (Vec<u8>, (Bounded<SetOf<Vec<u8>>, NotEmpty>, ()));
@@ -30,11 +30,11 @@ type Fields = (Vec<u8>, (Vec<Vec<u8>>, ()));
 pub struct Attribute {
     /// The name of the attribute, with its options, in UTF-8.
     pub attribute_type: Vec<u8>,
-    /// Its values, one or more. They stand in no order.
+    /// Its values, one or more. They are in no order.
     pub vals: Vec<Vec<u8>>,
 }
 
-impl StandsFor<Fields> for Attribute {
+impl Represents<Fields> for Attribute {
     ghost value_of = { λ v. (v.attribute_type, (v.vals, tt)) };
 
     fn from_value((attribute_type, (vals, ())): Fields) -> Attribute {
@@ -50,7 +50,7 @@ impl Notation for Attribute {
 
     type Inner = ();
 
-    ghost means = { stands_for ⟦<Attribute as StandsFor<Fields>>⟧.value_of ⟦<Sequence<Parts> as Notation>⟧.means };
+    ghost means = { represented_by ⟦<Attribute as Represents<Fields>>⟧.value_of ⟦<Sequence<Parts> as Notation>⟧.means };
 
     fn has_tag(tag: Tag) -> bool {
         tag == TAG_SEQUENCE
@@ -64,18 +64,18 @@ impl Notation for Attribute {
         Sequence::<Parts>::write_fields((&value.attribute_type, (&value.vals, ())), writer)
     }
 
-    ghost keeps = { λ _. standing_keeps ⟦<Attribute as StandsFor<Fields>>⟧.value_of
+    ghost lawful = { λ _. represented_lawful ⟦<Attribute as Represents<Fields>>⟧.value_of
         (in_sequence (part (octets refl).own (part (set_not_empty (in_set_of (octets
         refl).own)).own no_parts))) };
 
-    ghost filled = { λ u m v. element_filled _ _ _ _ };
+    ghost non_empty = { λ u m v. element_non_empty _ _ _ _ };
 }
 
 impl Message for Attribute {
-    ghost told_apart = { refl };
+    ghost is_unambiguous = { refl };
 }
 
 impl CanonicalNotation for Attribute {
-    ghost written = { λ _. standing_written ⟦<Attribute as StandsFor<Fields>>⟧.value_of (sequence_written (part_written (octets_written refl).own
-        (part_written (filled_set_written (set_of_written (octets_written refl).own)).own no_part_written))) };
+    ghost written = { λ _. represented_written ⟦<Attribute as Represents<Fields>>⟧.value_of (sequence_written (part_written (octets_written refl).own
+        (part_written (non_empty_set_written (set_of_written (octets_written refl).own)).own no_part_written))) };
 }

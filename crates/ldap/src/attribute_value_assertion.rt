@@ -10,18 +10,18 @@
 //! LDAPString           ::= OCTET STRING
 //! ```
 ghost use Rattle.std.specs.Prelude.{◌≡◌, refl};
-ghost use Rattle.yasna_notation.specs.Laws.{standing_keeps, element_filled};
+ghost use Rattle.yasna_notation.specs.Laws.{represented_lawful, element_non_empty};
 ghost use Rattle.yasna_notation.specs.Making.{in_sequence, part};
-ghost use Rattle.yasna_notation.specs.Notation.{stands_for};
+ghost use Rattle.yasna_notation.specs.Notation.{represented_by};
 ghost use Rattle.yasna_notation.specs.Parts.{no_parts};
-ghost use Rattle.yasna_notation.specs.contracts.strings.VecU8Notation.TheImpl.Laws.{keeps-law as octets};
-ghost use Rattle.yasna_notation.specs.Canonical.{standing_written};
+ghost use Rattle.yasna_notation.specs.contracts.strings.VecU8Notation.TheImpl.Laws.{lawful-law as octets};
+ghost use Rattle.yasna_notation.specs.Canonical.{represented_written};
 ghost use Rattle.yasna_notation.specs.Writing.{sequence_written, part_written, no_part_written};
 ghost use Rattle.yasna_notation.specs.contracts.canonical.VecU8CanonicalNotation.TheImpl.Laws.{written-law as octets_written};
 
 use yasna::tags::TAG_SEQUENCE;
 use yasna::{ASN1Result, BERReader, DERWriter, Tag};
-use yasna_notation::{CanonicalNotation, Message, Notation, Sequence, StandsFor, read_as};
+use yasna_notation::{CanonicalNotation, Message, Notation, Represents, Sequence, read_as};
 
 type Parts = (Vec<u8>, (Vec<u8>, ()));
 
@@ -35,7 +35,7 @@ pub struct AttributeValueAssertion {
     pub assertion_value: Vec<u8>,
 }
 
-impl StandsFor<Fields> for AttributeValueAssertion {
+impl Represents<Fields> for AttributeValueAssertion {
     ghost value_of = { λ v. (v.attribute_desc, (v.assertion_value, tt)) };
 
     fn from_value((attribute_desc, (assertion_value, ())): Fields) -> AttributeValueAssertion {
@@ -51,7 +51,7 @@ impl Notation for AttributeValueAssertion {
 
     type Inner = ();
 
-    ghost means = { stands_for ⟦<AttributeValueAssertion as StandsFor<Fields>>⟧.value_of ⟦<Sequence<Parts> as Notation>⟧.means };
+    ghost means = { represented_by ⟦<AttributeValueAssertion as Represents<Fields>>⟧.value_of ⟦<Sequence<Parts> as Notation>⟧.means };
 
     fn has_tag(tag: Tag) -> bool {
         tag == TAG_SEQUENCE
@@ -68,17 +68,17 @@ impl Notation for AttributeValueAssertion {
         )
     }
 
-    ghost keeps = { λ _. standing_keeps ⟦<AttributeValueAssertion as StandsFor<Fields>>⟧.value_of
+    ghost lawful = { λ _. represented_lawful ⟦<AttributeValueAssertion as Represents<Fields>>⟧.value_of
         (in_sequence (part (octets refl).own (part (octets refl).own no_parts))) };
 
-    ghost filled = { λ u m v. element_filled _ _ _ _ };
+    ghost non_empty = { λ u m v. element_non_empty _ _ _ _ };
 }
 
 impl Message for AttributeValueAssertion {
-    ghost told_apart = { refl };
+    ghost is_unambiguous = { refl };
 }
 
 impl CanonicalNotation for AttributeValueAssertion {
-    ghost written = { λ _. standing_written ⟦<AttributeValueAssertion as StandsFor<Fields>>⟧.value_of (sequence_written (part_written (octets_written
+    ghost written = { λ _. represented_written ⟦<AttributeValueAssertion as Represents<Fields>>⟧.value_of (sequence_written (part_written (octets_written
         refl).own (part_written (octets_written refl).own no_part_written))) };
 }

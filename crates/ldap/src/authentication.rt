@@ -12,7 +12,7 @@ ghost use Rattle.ldap.specs.declared.authentication.AuthenticationChoice.TheVari
 
 use crate::sasl_credentials::SaslCredentials;
 use yasna::{ASN1Result, DERWriter};
-use yasna_notation::{Choice, Context, Defined, Either, Implicit, Notation};
+use yasna_notation::{Choice, Context, DefinedType, Either, Implicit, Notation};
 
 type SimpleNotation = Implicit<Context<0>, Vec<u8>>;
 
@@ -26,7 +26,7 @@ pub enum AuthenticationChoice {
     Sasl(SaslCredentials),
 }
 
-impl Defined for AuthenticationChoice {
+impl DefinedType for AuthenticationChoice {
     type Notation = Choice<(SimpleNotation, (SaslNotation,))>;
 
     ghost value_of = { λ v. elim v [ Simple s ↦ First s | Sasl c ↦ Second c ] };
@@ -45,5 +45,5 @@ impl Defined for AuthenticationChoice {
         }
     }
 
-    ghost apart = { refl };
+    ghost unambiguous = { refl };
 }

@@ -11,14 +11,14 @@
 //! ```
 ghost use Rattle.std.specs.Prelude.{◌≡◌, refl};
 ghost use Rattle.std.proofs.Common.{arith};
-ghost use Rattle.yasna_notation.specs.Laws.{standing_keeps, element_filled};
+ghost use Rattle.yasna_notation.specs.Laws.{represented_lawful, element_non_empty};
 ghost use Rattle.yasna_notation.specs.Making.{in_application, in_sequence, in_choice, alternative, in_implicit, part, in_bound, from_to};
-ghost use Rattle.yasna_notation.specs.Notation.{stands_for};
+ghost use Rattle.yasna_notation.specs.Notation.{represented_by};
 ghost use Rattle.yasna_notation.specs.Parts.{no_parts};
-ghost use Rattle.yasna_notation.specs.contracts.strings.VecU8Notation.TheImpl.Laws.{keeps-law as octets};
-ghost use Rattle.yasna_notation.specs.contracts.simple.U64Notation.TheImpl.Laws.{keeps-law as number};
-ghost use Rattle.ldap.specs.contracts.sasl_credentials.SaslCredentialsNotation.TheImpl.Laws.{keeps-law as sasl};
-ghost use Rattle.yasna_notation.specs.Canonical.{standing_written, choice_written_as};
+ghost use Rattle.yasna_notation.specs.contracts.strings.VecU8Notation.TheImpl.Laws.{lawful-law as octets};
+ghost use Rattle.yasna_notation.specs.contracts.simple.U64Notation.TheImpl.Laws.{lawful-law as number};
+ghost use Rattle.ldap.specs.contracts.sasl_credentials.SaslCredentialsNotation.TheImpl.Laws.{lawful-law as sasl};
+ghost use Rattle.yasna_notation.specs.Canonical.{represented_written, choice_written_as};
 ghost use Rattle.yasna_notation.specs.Writing.{sequence_written, alternative_written, under_context, under_application, part_written};
 ghost use Rattle.yasna_notation.specs.Writing.{no_part_written, bound_written};
 ghost use Rattle.ldap.specs.contracts.sasl_credentials.SaslCredentialsCanonicalNotation.TheImpl.Laws.{written-law as sasl_written};
@@ -30,8 +30,8 @@ use crate::sasl_credentials::SaslCredentials;
 use crate::tagged::write_tagged_fields;
 use yasna::{ASN1Result, BERReader, DERWriter, Tag};
 use yasna_notation::{
-    Application, Bounded, CanonicalNotation, Choice, Context, Defined, FromTo, Implicit, Message,
-    Notation, Sequence, StandsFor, read_as,
+    Application, Bounded, CanonicalNotation, Choice, Context, DefinedType, FromTo, Implicit,
+    Message, Notation, Represents, Sequence, read_as,
 };
 
 type Parts = (
@@ -53,7 +53,7 @@ pub struct BindRequest {
     pub authentication: AuthenticationChoice,
 }
 
-impl StandsFor<Fields> for BindRequest {
+impl Represents<Fields> for BindRequest {
     ghost value_of = { λ v. (v.version, (v.name, (v.authentication, tt))) };
 
     fn from_value((version, (name, (authentication, ()))): Fields) -> BindRequest {
@@ -70,7 +70,7 @@ impl Notation for BindRequest {
 
     type Inner = ();
 
-    ghost means = { stands_for ⟦<BindRequest as StandsFor<Fields>>⟧.value_of ⟦<Notated as Notation>⟧.means };
+    ghost means = { represented_by ⟦<BindRequest as Represents<Fields>>⟧.value_of ⟦<Notated as Notation>⟧.means };
 
     fn has_tag(tag: Tag) -> bool {
         tag == Tag::application(0)
@@ -87,23 +87,23 @@ impl Notation for BindRequest {
         )
     }
 
-    ghost keeps = { λ _. standing_keeps ⟦<BindRequest as StandsFor<Fields>>⟧.value_of
+    ghost lawful = { λ _. represented_lawful ⟦<BindRequest as Represents<Fields>>⟧.value_of
         (in_application 0 (omega arith) (in_sequence (part (in_bound (from_to 1 127) (number
-        refl)).own (part (octets refl).own (part (standing_keeps ⟦<AuthenticationChoice as Defined>⟧.value_of (in_choice ⟦<Choice<(Implicit<Context<0>,
-      Vec<u8>>, (Implicit<Context<3>, SaslCredentials>,))> as Notation>⟧.means.form_under (alternative (in_implicit 0 (omega arith) (octets refl)).own refl
+        refl)).own (part (octets refl).own (part (represented_lawful ⟦<AuthenticationChoice as DefinedType>⟧.value_of (in_choice ⟦<Choice<(Implicit<Context<0>,
+      Vec<u8>>, (Implicit<Context<3>, SaslCredentials>,))> as Notation>⟧.means.encoding_under (alternative (in_implicit 0 (omega arith) (octets refl)).own refl
         (in_implicit 3 (omega arith) (sasl refl)).own))).own no_parts))))) };
 
-    ghost filled = { λ u m v. element_filled _ _ _ _ };
+    ghost non_empty = { λ u m v. element_non_empty _ _ _ _ };
 }
 
 impl Message for BindRequest {
-    ghost told_apart = { refl };
+    ghost is_unambiguous = { refl };
 }
 
 impl CanonicalNotation for BindRequest {
-    ghost written = { λ _. standing_written ⟦<BindRequest as StandsFor<Fields>>⟧.value_of (under_application 0 (omega arith) (sequence_written
+    ghost written = { λ _. represented_written ⟦<BindRequest as Represents<Fields>>⟧.value_of (under_application 0 (omega arith) (sequence_written
         (part_written (bound_written (from_to 1 127) (number_written refl)).own (part_written (octets_written refl).own (part_written
-        (standing_written ⟦<AuthenticationChoice as Defined>⟧.value_of (choice_written_as ⟦<Choice<(Implicit<Context<0>, Vec<u8>>,
-        (Implicit<Context<3>, SaslCredentials>,))> as Notation>⟧.means.form_under (alternative_written (under_context 0 (omega arith) (octets_written
+        (represented_written ⟦<AuthenticationChoice as DefinedType>⟧.value_of (choice_written_as ⟦<Choice<(Implicit<Context<0>, Vec<u8>>,
+        (Implicit<Context<3>, SaslCredentials>,))> as Notation>⟧.means.encoding_under (alternative_written (under_context 0 (omega arith) (octets_written
         refl)).own (under_context 3 (omega arith) (sasl_written refl)).own))).own no_part_written))))) };
 }

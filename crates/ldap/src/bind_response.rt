@@ -7,15 +7,15 @@
 //! ```
 ghost use Rattle.std.specs.Prelude.{◌≡◌, refl};
 ghost use Rattle.std.proofs.Common.{arith};
-ghost use Rattle.yasna_notation.specs.Laws.{standing_keeps, element_filled};
+ghost use Rattle.yasna_notation.specs.Laws.{represented_lawful, element_non_empty};
 ghost use Rattle.yasna_notation.specs.Making.{in_application, in_sequence, in_sequence_of, part, optional_part, in_implicit, not_empty, in_bound, from_zero};
-ghost use Rattle.yasna_notation.specs.Notation.{stands_for};
+ghost use Rattle.yasna_notation.specs.Notation.{represented_by};
 ghost use Rattle.yasna_notation.specs.Parts.{no_parts};
-ghost use Rattle.yasna_notation.specs.contracts.strings.VecU8Notation.TheImpl.Laws.{keeps-law as octets};
-ghost use Rattle.yasna_notation.specs.contracts.simple.EnumeratedNotation.TheImpl.Laws.{keeps-law as enumerated};
-ghost use Rattle.yasna_notation.specs.Canonical.{standing_written};
+ghost use Rattle.yasna_notation.specs.contracts.strings.VecU8Notation.TheImpl.Laws.{lawful-law as octets};
+ghost use Rattle.yasna_notation.specs.contracts.simple.EnumeratedNotation.TheImpl.Laws.{lawful-law as enumerated};
+ghost use Rattle.yasna_notation.specs.Canonical.{represented_written};
 ghost use Rattle.yasna_notation.specs.Writing.{sequence_written, sequence_of_written, under_context, under_application, part_written};
-ghost use Rattle.yasna_notation.specs.Writing.{optional_written, no_part_written, bound_written, filled_list_written};
+ghost use Rattle.yasna_notation.specs.Writing.{optional_written, no_part_written, bound_written, non_empty_list_written};
 ghost use Rattle.yasna_notation.specs.contracts.canonical.EnumeratedCanonicalNotation.TheImpl.Laws.{written-law as enumerated_written};
 ghost use Rattle.yasna_notation.specs.contracts.canonical.VecU8CanonicalNotation.TheImpl.Laws.{written-law as octets_written};
 
@@ -24,7 +24,7 @@ use crate::tagged::write_tagged_fields;
 use yasna::{ASN1Result, BERReader, DERWriter, Tag};
 use yasna_notation::{
     Application, Bounded, CanonicalNotation, Context, Enumerated, FromZero, Implicit, Message,
-    NotEmpty, Notation, Optional, Sequence, SequenceOf, StandsFor, read_as,
+    NotEmpty, Notation, Optional, Represents, Sequence, SequenceOf, read_as,
 };
 
 type Referral = Implicit<Context<3>, Bounded<SequenceOf<Vec<u8>>, NotEmpty>>;
@@ -49,7 +49,7 @@ pub struct BindResponse {
     pub server_sasl_creds: Option<Vec<u8>>,
 }
 
-impl StandsFor<Fields> for BindResponse {
+impl Represents<Fields> for BindResponse {
     ghost value_of = { λ v. (v.result.result_code, (v.result.matched_dn, (v.result.diagnostic_message, (v.result.referral, (v.server_sasl_creds, tt))))) };
 
     fn from_value(
@@ -76,7 +76,7 @@ impl Notation for BindResponse {
 
     type Inner = ();
 
-    ghost means = { stands_for ⟦<BindResponse as StandsFor<Fields>>⟧.value_of ⟦<Notated as Notation>⟧.means };
+    ghost means = { represented_by ⟦<BindResponse as Represents<Fields>>⟧.value_of ⟦<Notated as Notation>⟧.means };
 
     fn has_tag(tag: Tag) -> bool {
         tag == Tag::application(1)
@@ -93,21 +93,21 @@ impl Notation for BindResponse {
         write_tagged_fields::<Application<1>, Parts, _>((&outcome.result_code, strings), writer)
     }
 
-    ghost keeps = { λ _. standing_keeps ⟦<BindResponse as StandsFor<Fields>>⟧.value_of
+    ghost lawful = { λ _. represented_lawful ⟦<BindResponse as Represents<Fields>>⟧.value_of
         (in_application 1 (omega arith) (in_sequence (part (in_bound from_zero (enumerated
         refl)).own (part (octets refl).own (part (octets refl).own (optional_part refl (in_implicit 3 (omega arith) (not_empty (in_sequence_of (octets
         refl).own))).own (optional_part refl (in_implicit 7 (omega arith) (octets refl)).own no_parts))))))) };
 
-    ghost filled = { λ u m v. element_filled _ _ _ _ };
+    ghost non_empty = { λ u m v. element_non_empty _ _ _ _ };
 }
 
 impl Message for BindResponse {
-    ghost told_apart = { refl };
+    ghost is_unambiguous = { refl };
 }
 
 impl CanonicalNotation for BindResponse {
-    ghost written = { λ _. standing_written ⟦<BindResponse as StandsFor<Fields>>⟧.value_of (under_application 1 (omega arith) (sequence_written
+    ghost written = { λ _. represented_written ⟦<BindResponse as Represents<Fields>>⟧.value_of (under_application 1 (omega arith) (sequence_written
         (part_written (bound_written from_zero (enumerated_written refl)).own (part_written (octets_written refl).own (part_written (octets_written
-        refl).own (optional_written (under_context 3 (omega arith) (filled_list_written (sequence_of_written (octets_written refl).own))).own
+        refl).own (optional_written (under_context 3 (omega arith) (non_empty_list_written (sequence_of_written (octets_written refl).own))).own
         (optional_written (under_context 7 (omega arith) (octets_written refl)).own no_part_written))))))) };
 }

@@ -9,13 +9,13 @@
 //! LDAPOID ::= OCTET STRING
 //! ```
 ghost use Rattle.std.specs.Prelude.{◌≡◌, false, not, refl};
-ghost use Rattle.yasna_notation.specs.Laws.{standing_keeps, element_filled};
+ghost use Rattle.yasna_notation.specs.Laws.{represented_lawful, element_non_empty};
 ghost use Rattle.yasna_notation.specs.Making.{in_sequence, part, optional_part, default_part};
-ghost use Rattle.yasna_notation.specs.Notation.{stands_for};
-ghost use Rattle.yasna_notation.specs.Parts.{no_parts, tells_false};
-ghost use Rattle.yasna_notation.specs.contracts.strings.VecU8Notation.TheImpl.Laws.{keeps-law as octets};
-ghost use Rattle.yasna_notation.specs.contracts.simple.BoolNotation.TheImpl.Laws.{keeps-law as flag};
-ghost use Rattle.yasna_notation.specs.Canonical.{standing_written};
+ghost use Rattle.yasna_notation.specs.Notation.{represented_by};
+ghost use Rattle.yasna_notation.specs.Parts.{no_parts, detects_false};
+ghost use Rattle.yasna_notation.specs.contracts.strings.VecU8Notation.TheImpl.Laws.{lawful-law as octets};
+ghost use Rattle.yasna_notation.specs.contracts.simple.BoolNotation.TheImpl.Laws.{lawful-law as flag};
+ghost use Rattle.yasna_notation.specs.Canonical.{represented_written};
 ghost use Rattle.yasna_notation.specs.Writing.{sequence_written, part_written, optional_written, no_part_written, unset_written};
 ghost use Rattle.yasna_notation.specs.contracts.canonical.BoolCanonicalNotation.TheImpl.Laws.{written-law as flag_written};
 ghost use Rattle.yasna_notation.specs.contracts.canonical.VecU8CanonicalNotation.TheImpl.Laws.{written-law as octets_written};
@@ -23,7 +23,7 @@ ghost use Rattle.yasna_notation.specs.contracts.canonical.VecU8CanonicalNotation
 use yasna::tags::TAG_SEQUENCE;
 use yasna::{ASN1Result, BERReader, DERWriter, Tag};
 use yasna_notation::{
-    CanonicalNotation, Default, False, Message, Notation, Optional, Sequence, StandsFor, read_as,
+    CanonicalNotation, Default, False, Message, Notation, Optional, Represents, Sequence, read_as,
 };
 
 type Parts = (Vec<u8>, (Default<bool, False>, (Optional<Vec<u8>>, ())));
@@ -35,12 +35,12 @@ type Fields = (Vec<u8>, (bool, (Option<Vec<u8>>, ())));
 pub struct Control {
     /// An object identifier in the digits and points of its text.
     pub control_type: Vec<u8>,
-    /// Whether one who doesn't know the control refuses the operation.
+    /// Whether one who doesn't know the control rejects the operation.
     pub criticality: bool,
     pub control_value: Option<Vec<u8>>,
 }
 
-impl StandsFor<Fields> for Control {
+impl Represents<Fields> for Control {
     ghost value_of = { λ v. (v.control_type, (v.criticality, (v.control_value, tt))) };
 
     fn from_value((control_type, (criticality, (control_value, ()))): Fields) -> Control {
@@ -57,7 +57,7 @@ impl Notation for Control {
 
     type Inner = ();
 
-    ghost means = { stands_for ⟦<Control as StandsFor<Fields>>⟧.value_of ⟦<Sequence<Parts> as Notation>⟧.means };
+    ghost means = { represented_by ⟦<Control as Represents<Fields>>⟧.value_of ⟦<Sequence<Parts> as Notation>⟧.means };
 
     fn has_tag(tag: Tag) -> bool {
         tag == TAG_SEQUENCE
@@ -77,18 +77,18 @@ impl Notation for Control {
         )
     }
 
-    ghost keeps = { λ _. standing_keeps ⟦<Control as StandsFor<Fields>>⟧.value_of
-        (in_sequence (part (octets refl).own (default_part not false tells_false refl (flag refl).own
+    ghost lawful = { λ _. represented_lawful ⟦<Control as Represents<Fields>>⟧.value_of
+        (in_sequence (part (octets refl).own (default_part not false detects_false refl (flag refl).own
         (optional_part refl (octets refl).own no_parts)))) };
 
-    ghost filled = { λ u m v. element_filled _ _ _ _ };
+    ghost non_empty = { λ u m v. element_non_empty _ _ _ _ };
 }
 
 impl Message for Control {
-    ghost told_apart = { refl };
+    ghost is_unambiguous = { refl };
 }
 
 impl CanonicalNotation for Control {
-    ghost written = { λ _. standing_written ⟦<Control as StandsFor<Fields>>⟧.value_of (sequence_written (part_written (octets_written refl).own
+    ghost written = { λ _. represented_written ⟦<Control as Represents<Fields>>⟧.value_of (sequence_written (part_written (octets_written refl).own
         (unset_written (flag_written refl).own (optional_written (octets_written refl).own no_part_written)))) };
 }

@@ -15,17 +15,17 @@
 //! ```
 ghost use Rattle.std.specs.Prelude.{◌≡◌, [], refl};
 ghost use Rattle.std.proofs.Common.{arith};
-ghost use Rattle.yasna_notation.specs.Laws.{standing_keeps, element_filled};
+ghost use Rattle.yasna_notation.specs.Laws.{represented_lawful, element_non_empty};
 ghost use Rattle.yasna_notation.specs.Making.{in_choice, alternative, in_implicit};
-ghost use Rattle.yasna_notation.specs.Notation.{stands_for};
-ghost use Rattle.yasna_notation.specs.Laws.{octets_filled};
+ghost use Rattle.yasna_notation.specs.Notation.{represented_by};
+ghost use Rattle.yasna_notation.specs.Laws.{octets_non_empty};
 ghost use Rattle.yasna_notation.specs.declared.choices.Either.TheVariants.{First, Second};
 ghost use Rattle.ldap.specs.declared.filter_item.FilterItem.TheVariants.{EqualityMatch, Substrings, GreaterOrEqual, LessOrEqual, Present, ApproxMatch, ExtensibleMatch};
-ghost use Rattle.yasna_notation.specs.contracts.strings.VecU8Notation.TheImpl.Laws.{keeps-law as octets};
-ghost use Rattle.ldap.specs.contracts.attribute_value_assertion.AttributeValueAssertionNotation.TheImpl.Laws.{keeps-law as assertion};
-ghost use Rattle.ldap.specs.contracts.substring_filter.SubstringFilterNotation.TheImpl.Laws.{keeps-law as substring_filter};
-ghost use Rattle.ldap.specs.contracts.matching_rule_assertion.MatchingRuleAssertionNotation.TheImpl.Laws.{keeps-law as matching};
-ghost use Rattle.yasna_notation.specs.Canonical.{standing_written, choice_written_as};
+ghost use Rattle.yasna_notation.specs.contracts.strings.VecU8Notation.TheImpl.Laws.{lawful-law as octets};
+ghost use Rattle.ldap.specs.contracts.attribute_value_assertion.AttributeValueAssertionNotation.TheImpl.Laws.{lawful-law as assertion};
+ghost use Rattle.ldap.specs.contracts.substring_filter.SubstringFilterNotation.TheImpl.Laws.{lawful-law as substring_filter};
+ghost use Rattle.ldap.specs.contracts.matching_rule_assertion.MatchingRuleAssertionNotation.TheImpl.Laws.{lawful-law as matching};
+ghost use Rattle.yasna_notation.specs.Canonical.{represented_written, choice_written_as};
 ghost use Rattle.yasna_notation.specs.Writing.{alternative_written, under_context};
 ghost use Rattle.ldap.specs.contracts.attribute_value_assertion.AttributeValueAssertionCanonicalNotation.TheImpl.Laws.{written-law as assertion_written};
 ghost use Rattle.ldap.specs.contracts.matching_rule_assertion.MatchingRuleAssertionCanonicalNotation.TheImpl.Laws.{written-law as matching_written};
@@ -39,7 +39,7 @@ use yasna::{ASN1Result, BERReader, DERWriter, Tag};
 use yasna_notation::Either::{First, Second};
 use yasna_notation::{
     Alternatives, CanonicalNotation, Choice, Context, Either, Implicit, Message, Notation,
-    StandsFor, read_as,
+    Represents, read_as,
 };
 
 type EqualityMatchNotation = Implicit<Context<3>, AttributeValueAssertion>;
@@ -90,7 +90,7 @@ pub enum FilterItem {
     ExtensibleMatch(MatchingRuleAssertion),
 }
 
-impl StandsFor<Fields> for FilterItem {
+impl Represents<Fields> for FilterItem {
     ghost value_of = { λ v. elim v [
       | EqualityMatch o ↦ First o
       | Substrings o ↦ Second (First o)
@@ -103,14 +103,16 @@ impl StandsFor<Fields> for FilterItem {
 
     fn from_value(value: Fields) -> FilterItem {
         match value {
-            First(asked) => FilterItem::EqualityMatch(asked),
-            Second(First(asked)) => FilterItem::Substrings(asked),
-            Second(Second(First(asked))) => FilterItem::GreaterOrEqual(asked),
-            Second(Second(Second(First(asked)))) => FilterItem::LessOrEqual(asked),
-            Second(Second(Second(Second(First(asked))))) => FilterItem::Present(asked),
-            Second(Second(Second(Second(Second(First(asked)))))) => FilterItem::ApproxMatch(asked),
-            Second(Second(Second(Second(Second(Second(asked)))))) => FilterItem::ExtensibleMatch(
-                asked,
+            First(chosen) => FilterItem::EqualityMatch(chosen),
+            Second(First(chosen)) => FilterItem::Substrings(chosen),
+            Second(Second(First(chosen))) => FilterItem::GreaterOrEqual(chosen),
+            Second(Second(Second(First(chosen)))) => FilterItem::LessOrEqual(chosen),
+            Second(Second(Second(Second(First(chosen))))) => FilterItem::Present(chosen),
+            Second(Second(Second(Second(Second(First(chosen)))))) => FilterItem::ApproxMatch(
+                chosen,
+            ),
+            Second(Second(Second(Second(Second(Second(chosen)))))) => FilterItem::ExtensibleMatch(
+                chosen,
             ),
         }
     }
@@ -121,7 +123,7 @@ impl Notation for FilterItem {
 
     type Inner = ();
 
-    ghost means = { stands_for ⟦<FilterItem as StandsFor<Fields>>⟧.value_of ⟦<Notated as Notation>⟧.means };
+    ghost means = { represented_by ⟦<FilterItem as Represents<Fields>>⟧.value_of ⟦<Notated as Notation>⟧.means };
 
     fn has_tag(tag: Tag) -> bool {
         <Types as Alternatives>::has_tag(tag)
@@ -133,40 +135,40 @@ impl Notation for FilterItem {
 
     fn write(value: &FilterItem, writer: DERWriter<'_>) -> ASN1Result<()> {
         match value {
-            FilterItem::EqualityMatch(asked) => EqualityMatchNotation::write(asked, writer),
-            FilterItem::Substrings(asked) => SubstringsNotation::write(asked, writer),
-            FilterItem::GreaterOrEqual(asked) => GreaterOrEqualNotation::write(asked, writer),
-            FilterItem::LessOrEqual(asked) => LessOrEqualNotation::write(asked, writer),
-            FilterItem::Present(asked) => PresentNotation::write(asked, writer),
-            FilterItem::ApproxMatch(asked) => ApproxMatchNotation::write(asked, writer),
-            FilterItem::ExtensibleMatch(asked) => ExtensibleMatchNotation::write(asked, writer),
+            FilterItem::EqualityMatch(chosen) => EqualityMatchNotation::write(chosen, writer),
+            FilterItem::Substrings(chosen) => SubstringsNotation::write(chosen, writer),
+            FilterItem::GreaterOrEqual(chosen) => GreaterOrEqualNotation::write(chosen, writer),
+            FilterItem::LessOrEqual(chosen) => LessOrEqualNotation::write(chosen, writer),
+            FilterItem::Present(chosen) => PresentNotation::write(chosen, writer),
+            FilterItem::ApproxMatch(chosen) => ApproxMatchNotation::write(chosen, writer),
+            FilterItem::ExtensibleMatch(chosen) => ExtensibleMatchNotation::write(chosen, writer),
         }
     }
 
-    ghost keeps = { λ _. standing_keeps ⟦<FilterItem as StandsFor<Fields>>⟧.value_of
-        (in_choice ⟦<Notated as Notation>⟧.means.form_under (alternative (in_implicit 3 (omega
+    ghost lawful = { λ _. represented_lawful ⟦<FilterItem as Represents<Fields>>⟧.value_of
+        (in_choice ⟦<Notated as Notation>⟧.means.encoding_under (alternative (in_implicit 3 (omega
         arith) (assertion refl)).own refl (alternative (in_implicit 4 (omega arith) (substring_filter refl)).own refl (alternative (in_implicit 5 (omega
         arith) (assertion refl)).own refl (alternative (in_implicit 6 (omega arith) (assertion refl)).own refl (alternative (in_implicit 7 (omega arith)
         (octets refl)).own refl (alternative (in_implicit 8 (omega arith) (assertion refl)).own refl (in_implicit 9 (omega arith) (matching refl)).own))))))) };
 
-    ghost filled = { λ u m v. elim v as (λ k. ⟦<Notated as Notation>⟧.means.form_under u m (⟦<FilterItem as StandsFor<Fields>>⟧.value_of k) ≡ [] → ⊥) [
+    ghost non_empty = { λ u m v. elim v as (λ k. ⟦<Notated as Notation>⟧.means.encoding_under u m (⟦<FilterItem as Represents<Fields>>⟧.value_of k) ≡ [] → ⊥) [
       | EqualityMatch o ↦
-          element_filled _ _ _ _
-      | Substrings o ↦ element_filled _ _ _ _
-      | GreaterOrEqual o ↦ element_filled _ _ _ _
-      | LessOrEqual o ↦ element_filled _ _ _ _
-      | Present o ↦ octets_filled _ m o.items
-      | ApproxMatch o ↦ element_filled _ _ _ _
-      | ExtensibleMatch o ↦ element_filled _ _ _ _
+          element_non_empty _ _ _ _
+      | Substrings o ↦ element_non_empty _ _ _ _
+      | GreaterOrEqual o ↦ element_non_empty _ _ _ _
+      | LessOrEqual o ↦ element_non_empty _ _ _ _
+      | Present o ↦ octets_non_empty _ m o.items
+      | ApproxMatch o ↦ element_non_empty _ _ _ _
+      | ExtensibleMatch o ↦ element_non_empty _ _ _ _
     ] };
 }
 
 impl Message for FilterItem {
-    ghost told_apart = { refl };
+    ghost is_unambiguous = { refl };
 }
 
 impl CanonicalNotation for FilterItem {
-    ghost written = { λ _. standing_written ⟦<FilterItem as StandsFor<Fields>>⟧.value_of (choice_written_as ⟦<Notated as Notation>⟧.means.form_under
+    ghost written = { λ _. represented_written ⟦<FilterItem as Represents<Fields>>⟧.value_of (choice_written_as ⟦<Notated as Notation>⟧.means.encoding_under
         (alternative_written (under_context 3 (omega arith) (assertion_written refl)).own (alternative_written (under_context 4 (omega arith)
         (substring_filter_written refl)).own (alternative_written (under_context 5 (omega arith) (assertion_written refl)).own (alternative_written
         (under_context 6 (omega arith) (assertion_written refl)).own (alternative_written (under_context 7 (omega arith) (octets_written refl)).own

@@ -1,7 +1,7 @@
-//! Filters as a notation of their own (RFC 4511, 4.5.1.7). Within one level less stand the filters within one.
+//! Filters as a notation of their own (RFC 4511, 4.5.1.7). Within one level less are the filters within one.
 ghost use Rattle.std.specs.Prelude.{◌≡◌, refl};
 ghost use Rattle.ldap.specs.Filters.{the_filter};
-ghost use Rattle.ldap.specs.TheFilter.{the_filter_keeps, the_filter_filled, the_filter_written};
+ghost use Rattle.ldap.specs.TheFilter.{the_filter_lawful, the_filter_non_empty, the_filter_written};
 
 use crate::filter::Filter;
 use crate::filter_item::FilterItem;
@@ -32,13 +32,13 @@ impl Notation for Filter {
         write_filter(value, writer)
     }
 
-    ghost keeps = { λ _. the_filter_keeps };
+    ghost lawful = { λ _. the_filter_lawful };
 
-    ghost filled = { the_filter_filled };
+    ghost non_empty = { the_filter_non_empty };
 }
 
 impl Message for Filter {
-    ghost told_apart = { refl };
+    ghost is_unambiguous = { refl };
 }
 
 impl CanonicalNotation for Filter {

@@ -7,7 +7,7 @@ ghost use Rattle.yasna_base.specs.Error.{kind_of};
 ghost use Rattle.yasna_base.specs.Set.{set_tag};
 ghost use Rattle.yasna_base.specs.declared.error.ASN1ErrorKind.TheVariants.{OutOfMemory};
 ghost use Rattle.yasna_notation.specs.Notation.{ReadsMeaning};
-ghost use Rattle.ldap.specs.Filters.{the_filter, boxed_means, list_means, group_means, negated_means, whole, behind_and, behind_or, Found, parted_of};
+ghost use Rattle.ldap.specs.Filters.{the_filter, boxed_means, list_means, group_means, negated_means, whole, after_and, after_or, Found, parted_of};
 ghost use Rattle.ldap.specs.Reading.{TakesFewer, ReadsAll};
 
 use crate::filter::Filter;
@@ -17,11 +17,11 @@ use yasna::{ASN1Error, ASN1ErrorKind, ASN1Result, BERReader, Tag};
 use yasna_notation::{Either, Notation};
 
 // What a filter is made of.
-pub(crate) type Parted = Either<Vec<Filter>, BehindAnd>;
+pub(crate) type Parted = Either<Vec<Filter>, AfterAnd>;
 
-type BehindAnd = Either<Vec<Filter>, BehindOr>;
+type AfterAnd = Either<Vec<Filter>, AfterOr>;
 
-type BehindOr = Either<Box<Filter>, FilterItem>;
+type AfterOr = Either<Box<Filter>, FilterItem>;
 
 // Reads filters, one or more, as a SET OF them.
 fn read_items<F>(reader: BERReader, f: F) -> ASN1Result<Vec<Filter>>
@@ -43,7 +43,7 @@ where
     }
 }
 
-// Reads them where the tag [number] stands in place of that of the SET OF.
+// Reads them where the tag [number] is in place of that of the SET OF.
 fn read_group<F>(number: u64, reader: BERReader, f: F) -> ASN1Result<Vec<Filter>>
 where
     F: FnMut(BERReader) -> ASN1Result<Filter> + Drop,
@@ -57,13 +57,13 @@ where
 // What allocates the parts of an item.
 fn allocator_of_item(item: &FilterItem) -> Global {
     match item {
-        FilterItem::EqualityMatch(asked) => *asked.attribute_desc.allocator(),
-        FilterItem::Substrings(asked) => *asked.attribute_type.allocator(),
-        FilterItem::GreaterOrEqual(asked) => *asked.attribute_desc.allocator(),
-        FilterItem::LessOrEqual(asked) => *asked.attribute_desc.allocator(),
-        FilterItem::Present(asked) => *asked.allocator(),
-        FilterItem::ApproxMatch(asked) => *asked.attribute_desc.allocator(),
-        FilterItem::ExtensibleMatch(asked) => *asked.match_value.allocator(),
+        FilterItem::EqualityMatch(chosen) => *chosen.attribute_desc.allocator(),
+        FilterItem::Substrings(chosen) => *chosen.attribute_type.allocator(),
+        FilterItem::GreaterOrEqual(chosen) => *chosen.attribute_desc.allocator(),
+        FilterItem::LessOrEqual(chosen) => *chosen.attribute_desc.allocator(),
+        FilterItem::Present(chosen) => *chosen.allocator(),
+        FilterItem::ApproxMatch(chosen) => *chosen.attribute_desc.allocator(),
+        FilterItem::ExtensibleMatch(chosen) => *chosen.match_value.allocator(),
     }
 }
 
@@ -121,13 +121,13 @@ pub(crate) fn is_context(tag: Tag, number: u64) -> bool
     tag == Tag::context(number)
 }
 
-// Reads what stands behind `or` in the CHOICE, of which this tag was found.
-fn read_behind_or<F>(tag: Tag, reader: BERReader, f: F) -> ASN1Result<BehindOr>
+// Reads what is after `or` in the CHOICE, of which this tag was found.
+fn read_after_or<F>(tag: Tag, reader: BERReader, f: F) -> ASN1Result<AfterOr>
 where
     F: FnMut(BERReader) -> ASN1Result<Filter> + Drop,
     requires takes { TakesFewer F.FnMut reader.old.levels }
     requires reads { ReadsAll F.FnMut the_filter }
-    ensures { Found behind_or tag reader.old result reader.new }
+    ensures { Found after_or tag reader.old result reader.new }
 {
     if is_context(tag, 2) {
         read_negated(reader, f).map(Either::First)
@@ -136,18 +136,18 @@ where
     }
 }
 
-// Reads what stands behind `and`.
-fn read_behind_and<F>(tag: Tag, reader: BERReader, f: F) -> ASN1Result<BehindAnd>
+// Reads what is after `and`.
+fn read_after_and<F>(tag: Tag, reader: BERReader, f: F) -> ASN1Result<AfterAnd>
 where
     F: FnMut(BERReader) -> ASN1Result<Filter> + Drop,
     requires takes { TakesFewer F.FnMut reader.old.levels }
     requires reads { ReadsAll F.FnMut the_filter }
-    ensures { Found behind_and tag reader.old result reader.new }
+    ensures { Found after_and tag reader.old result reader.new }
 {
     if is_context(tag, 1) {
         read_group(1, reader, f).map(Either::First)
     } else {
-        read_behind_or(tag, reader, f).map(Either::Second)
+        read_after_or(tag, reader, f).map(Either::Second)
     }
 }
 
@@ -162,7 +162,7 @@ where
     if is_context(tag, 0) {
         read_group(0, reader, f).map(Either::First)
     } else {
-        read_behind_and(tag, reader, f).map(Either::Second)
+        read_after_and(tag, reader, f).map(Either::Second)
     }
 }
 

@@ -1,14 +1,14 @@
 //! How filters are written (RFC 4511, 4.5.1.7).
 ghost use Rattle.std.specs.Prelude.{◌≡◌, [], None};
 ghost use Rattle.std.specs.List.{AllByRecursion};
-ghost use Rattle.yasna_base.specs.AnyOrder.{sorted_set_of_form};
-ghost use Rattle.yasna_base.specs.Canonical.{enclosed_form};
+ghost use Rattle.yasna_base.specs.AnyOrder.{sorted_set_of_encoding};
+ghost use Rattle.yasna_base.specs.Canonical.{enclosed_encoding};
 ghost use Rattle.yasna_base.specs.Identifier.{context, tag_or};
 ghost use Rattle.yasna_base.specs.Set.{set_tag};
-ghost use Rattle.yasna_base.specs.SetWriting.{forms};
+ghost use Rattle.yasna_base.specs.SetWriting.{encodings};
 ghost use Rattle.yasna_writer.specs.Parts.{no_parts};
 ghost use Rattle.yasna_writer.specs.View.{Writes};
-ghost use Rattle.yasna_notation.specs.Sets.{LacksAtMost, WroteElement, WroteElements};
+ghost use Rattle.yasna_notation.specs.Sets.{FailsOnlyOutOfMemory, WroteElement, WroteElements};
 ghost use Rattle.ldap.specs.Filters.{the_filter};
 ghost use Rattle.ldap.specs.Writing.{TakesEach, WritesEach};
 
@@ -22,9 +22,9 @@ fn write_elements<F>(items: &[Filter], set: &mut DERWriterSet, f: F) -> ASN1Resu
 where
     F: FnMut(&Filter, DERWriter) -> ASN1Result<()> + Drop,
     requires takes { TakesEach F.FnMut items.now }
-    requires writes { WritesEach F.FnMut (the_filter.form_under None) }
+    requires writes { WritesEach F.FnMut (the_filter.encoding_under None) }
     requires begins { set.old ≡ no_parts set.old.mode }
-    ensures { WroteElements (forms (the_filter.form_under None) set.old.mode items.now) set.new result }
+    ensures { WroteElements (encodings (the_filter.encoding_under None) set.old.mode items.now) set.new result }
 {
     let mut write = f;
     for item in items {
@@ -38,33 +38,33 @@ fn write_list<F>(items: &[Filter], writer: DERWriter, f: F) -> ASN1Result<()>
 where
     F: FnMut(&Filter, DERWriter) -> ASN1Result<()> + Drop,
     requires takes { TakesEach F.FnMut items.now }
-    requires writes { WritesEach F.FnMut (the_filter.form_under None) }
-    ensures { Writes (sorted_set_of_form (the_filter.form_under None) (tag_or writer.old.tag set_tag) writer.old.mode items.now)
+    requires writes { WritesEach F.FnMut (the_filter.encoding_under None) }
+    ensures { Writes (sorted_set_of_encoding (the_filter.encoding_under None) (tag_or writer.old.tag set_tag) writer.old.mode items.now)
         writer.old writer.new result }
 {
     writer.write_set_of(|set| write_elements(items, set, f))
 }
 
-// Writes it where the tag [number] stands in place of its own.
+// Writes it where the tag [number] is in place of its own.
 fn write_group<F>(number: u64, items: &[Filter], writer: DERWriter, f: F) -> ASN1Result<()>
 where
     F: FnMut(&Filter, DERWriter) -> ASN1Result<()> + Drop,
     requires takes { TakesEach F.FnMut items.now }
-    requires writes { WritesEach F.FnMut (the_filter.form_under None) }
-    ensures { Writes (sorted_set_of_form (the_filter.form_under None) (tag_or writer.old.tag (context number)) writer.old.mode items.now)
+    requires writes { WritesEach F.FnMut (the_filter.encoding_under None) }
+    ensures { Writes (sorted_set_of_encoding (the_filter.encoding_under None) (tag_or writer.old.tag (context number)) writer.old.mode items.now)
         writer.old writer.new result }
 {
     writer.write_tagged_implicit(Tag::context(number), |inner| write_list(items, inner, f))
 }
 
-// Writes a filter as a part that begins. A set refuses an empty part: where there is no memory and that isn't kept, a NULL is left, so
-// that want of memory is what is answered.
+// Writes a filter as a part that begins. A set rejects an empty part: where there is no memory and that isn't sticky, a NULL is left, so
+// that `OutOfMemory` is what is returned.
 #[cycle(filter_writing)]
 fn write_element(item: &Filter, writer: DERWriter) -> ASN1Result<()>
     requires can { the_filter.can item.now }
     requires begins { (writer.old.bytes ≡ []) × (writer.old.tag ≡ None) }
-    requires kept { LacksAtMost writer.old.kept }
-    ensures { WroteElement (the_filter.form_under None writer.old.mode item.now) writer.old writer.new result }
+    requires failed { FailsOnlyOutOfMemory writer.old.failed }
+    ensures { WroteElement (the_filter.encoding_under None writer.old.mode item.now) writer.old writer.new result }
 {
     match write_filter(item, writer) {
         Ok(()) => Ok(()),
@@ -79,7 +79,7 @@ fn write_element(item: &Filter, writer: DERWriter) -> ASN1Result<()>
 #[cycle(filter_writing)]
 fn write_filters(number: u64, filters: &[Filter], writer: DERWriter) -> ASN1Result<()>
     requires { AllByRecursion the_filter.can filters.now }
-    ensures { Writes (sorted_set_of_form (the_filter.form_under None) (tag_or writer.old.tag (context number)) writer.old.mode filters.now)
+    ensures { Writes (sorted_set_of_encoding (the_filter.encoding_under None) (tag_or writer.old.tag (context number)) writer.old.mode filters.now)
         writer.old writer.new result }
 {
     write_group(
@@ -89,8 +89,8 @@ fn write_filters(number: u64, filters: &[Filter], writer: DERWriter) -> ASN1Resu
         |item, part| -> ASN1Result<()>
             requires can { the_filter.can item.now }
             requires begins { (part.old.bytes ≡ []) × (part.old.tag ≡ None) }
-            requires kept { LacksAtMost part.old.kept }
-            ensures { WroteElement (the_filter.form_under None part.old.mode item.now) part.old part.new result }
+            requires failed { FailsOnlyOutOfMemory part.old.failed }
+            ensures { WroteElement (the_filter.encoding_under None part.old.mode item.now) part.old part.new result }
         { write_element(item, part) },
     )
 }
@@ -99,7 +99,7 @@ fn write_filters(number: u64, filters: &[Filter], writer: DERWriter) -> ASN1Resu
 #[cycle(filter_writing)]
 fn write_negated(negated: &Filter, writer: DERWriter) -> ASN1Result<()>
     requires { the_filter.can negated.now }
-    ensures { Writes (enclosed_form (the_filter.form_under None) (tag_or writer.old.tag (context 2)) writer.old.mode negated.now)
+    ensures { Writes (enclosed_encoding (the_filter.encoding_under None) (tag_or writer.old.tag (context 2)) writer.old.mode negated.now)
         writer.old writer.new result }
 {
     writer.write_tagged(
@@ -107,7 +107,7 @@ fn write_negated(negated: &Filter, writer: DERWriter) -> ASN1Result<()>
         |inner| -> ASN1Result<()>
             requires can { the_filter.can negated.now }
             requires untagged { inner.old.tag ≡ None }
-            ensures { Writes (the_filter.form_under None inner.old.mode negated.entry.now) inner.old inner.new result }
+            ensures { Writes (the_filter.encoding_under None inner.old.mode negated.entry.now) inner.old inner.new result }
         { write_filter(negated, inner) },
     )
 }
@@ -116,7 +116,7 @@ fn write_negated(negated: &Filter, writer: DERWriter) -> ASN1Result<()>
 #[cycle(filter_writing)]
 pub(crate) fn write_filter(value: &Filter, writer: DERWriter) -> ASN1Result<()>
     requires { the_filter.can value.now }
-    ensures { Writes (the_filter.form_under writer.old.tag writer.old.mode value.now) writer.old writer.new result }
+    ensures { Writes (the_filter.encoding_under writer.old.tag writer.old.mode value.now) writer.old writer.new result }
 {
     match value {
         Filter::And(filters) => write_filters(0, filters.as_slice(), writer),

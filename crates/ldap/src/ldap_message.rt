@@ -13,14 +13,14 @@
 //! ```
 ghost use Rattle.std.specs.Prelude.{◌≡◌, refl};
 ghost use Rattle.std.proofs.Common.{arith};
-ghost use Rattle.yasna_notation.specs.Laws.{standing_keeps, element_filled};
+ghost use Rattle.yasna_notation.specs.Laws.{represented_lawful, element_non_empty};
 ghost use Rattle.yasna_notation.specs.Making.{in_sequence, in_sequence_of, part, optional_part, in_implicit, at_most};
-ghost use Rattle.yasna_notation.specs.Notation.{stands_for};
+ghost use Rattle.yasna_notation.specs.Notation.{represented_by};
 ghost use Rattle.yasna_notation.specs.Parts.{no_parts};
-ghost use Rattle.yasna_notation.specs.contracts.simple.U64Notation.TheImpl.Laws.{keeps-law as number};
-ghost use Rattle.ldap.specs.contracts.protocol_op.ProtocolOpNotation.TheImpl.Laws.{keeps-law as operation};
-ghost use Rattle.ldap.specs.contracts.control.ControlNotation.TheImpl.Laws.{keeps-law as control};
-ghost use Rattle.yasna_notation.specs.Canonical.{standing_written};
+ghost use Rattle.yasna_notation.specs.contracts.simple.U64Notation.TheImpl.Laws.{lawful-law as number};
+ghost use Rattle.ldap.specs.contracts.protocol_op.ProtocolOpNotation.TheImpl.Laws.{lawful-law as operation};
+ghost use Rattle.ldap.specs.contracts.control.ControlNotation.TheImpl.Laws.{lawful-law as control};
+ghost use Rattle.yasna_notation.specs.Canonical.{represented_written};
 ghost use Rattle.yasna_notation.specs.Writing.{sequence_written, sequence_of_written, under_context, part_written, optional_written, no_part_written, at_most_written};
 ghost use Rattle.ldap.specs.contracts.control.ControlCanonicalNotation.TheImpl.Laws.{written-law as control_written};
 ghost use Rattle.ldap.specs.contracts.protocol_op.ProtocolOpCanonicalNotation.TheImpl.Laws.{written-law as operation_written};
@@ -31,8 +31,8 @@ use crate::protocol_op::ProtocolOp;
 use yasna::tags::TAG_SEQUENCE;
 use yasna::{ASN1Result, BERReader, DERWriter, Tag};
 use yasna_notation::{
-    AtMost, Bounded, CanonicalNotation, Context, Implicit, Message, Notation, Optional, Sequence,
-    SequenceOf, StandsFor, read_as,
+    AtMost, Bounded, CanonicalNotation, Context, Implicit, Message, Notation, Optional, Represents,
+    Sequence, SequenceOf, read_as,
 };
 
 type MessageId = Bounded<u64, AtMost<2147483647>>;
@@ -52,7 +52,7 @@ pub struct LdapMessage {
     pub controls: Option<Vec<Control>>,
 }
 
-impl StandsFor<Fields> for LdapMessage {
+impl Represents<Fields> for LdapMessage {
     ghost value_of = { λ v. (v.message_id, (v.protocol_op, (v.controls, tt))) };
 
     fn from_value((message_id, (protocol_op, (controls, ()))): Fields) -> LdapMessage {
@@ -69,7 +69,7 @@ impl Notation for LdapMessage {
 
     type Inner = ();
 
-    ghost means = { stands_for ⟦<LdapMessage as StandsFor<Fields>>⟧.value_of ⟦<Sequence<Parts> as Notation>⟧.means };
+    ghost means = { represented_by ⟦<LdapMessage as Represents<Fields>>⟧.value_of ⟦<Sequence<Parts> as Notation>⟧.means };
 
     fn has_tag(tag: Tag) -> bool {
         tag == TAG_SEQUENCE
@@ -89,19 +89,19 @@ impl Notation for LdapMessage {
         )
     }
 
-    ghost keeps = { λ _. standing_keeps ⟦<LdapMessage as StandsFor<Fields>>⟧.value_of
+    ghost lawful = { λ _. represented_lawful ⟦<LdapMessage as Represents<Fields>>⟧.value_of
         (in_sequence (part (at_most 2147483647 (number refl)).own (part (operation refl).own
         (optional_part refl (in_implicit 0 (omega arith) (in_sequence_of (control refl).own)).own no_parts)))) };
 
-    ghost filled = { λ u m v. element_filled _ _ _ _ };
+    ghost non_empty = { λ u m v. element_non_empty _ _ _ _ };
 }
 
 impl Message for LdapMessage {
-    ghost told_apart = { refl };
+    ghost is_unambiguous = { refl };
 }
 
 impl CanonicalNotation for LdapMessage {
-    ghost written = { λ _. standing_written ⟦<LdapMessage as StandsFor<Fields>>⟧.value_of (sequence_written (part_written (at_most_written 2147483647
+    ghost written = { λ _. represented_written ⟦<LdapMessage as Represents<Fields>>⟧.value_of (sequence_written (part_written (at_most_written 2147483647
         (number_written refl)).own (part_written (operation_written refl).own (optional_written (under_context 0 (omega arith) (sequence_of_written
         (control_written refl).own)).own no_part_written)))) };
 }

@@ -14,15 +14,15 @@
 //! ```
 ghost use Rattle.std.specs.Prelude.{◌≡◌, refl};
 ghost use Rattle.std.proofs.Common.{arith};
-ghost use Rattle.yasna_notation.specs.Laws.{standing_keeps, element_filled};
+ghost use Rattle.yasna_notation.specs.Laws.{represented_lawful, element_non_empty};
 ghost use Rattle.yasna_notation.specs.Making.{in_sequence, in_sequence_of, part, optional_part, in_implicit, not_empty, in_bound, from_zero};
-ghost use Rattle.yasna_notation.specs.Notation.{stands_for};
+ghost use Rattle.yasna_notation.specs.Notation.{represented_by};
 ghost use Rattle.yasna_notation.specs.Parts.{no_parts};
-ghost use Rattle.yasna_notation.specs.contracts.strings.VecU8Notation.TheImpl.Laws.{keeps-law as octets};
-ghost use Rattle.yasna_notation.specs.contracts.simple.EnumeratedNotation.TheImpl.Laws.{keeps-law as enumerated};
-ghost use Rattle.yasna_notation.specs.Canonical.{standing_written};
+ghost use Rattle.yasna_notation.specs.contracts.strings.VecU8Notation.TheImpl.Laws.{lawful-law as octets};
+ghost use Rattle.yasna_notation.specs.contracts.simple.EnumeratedNotation.TheImpl.Laws.{lawful-law as enumerated};
+ghost use Rattle.yasna_notation.specs.Canonical.{represented_written};
 ghost use Rattle.yasna_notation.specs.Writing.{sequence_written, sequence_of_written, under_context, part_written, optional_written};
-ghost use Rattle.yasna_notation.specs.Writing.{no_part_written, bound_written, filled_list_written};
+ghost use Rattle.yasna_notation.specs.Writing.{no_part_written, bound_written, non_empty_list_written};
 ghost use Rattle.yasna_notation.specs.contracts.canonical.EnumeratedCanonicalNotation.TheImpl.Laws.{written-law as enumerated_written};
 ghost use Rattle.yasna_notation.specs.contracts.canonical.VecU8CanonicalNotation.TheImpl.Laws.{written-law as octets_written};
 
@@ -30,7 +30,7 @@ use yasna::tags::TAG_SEQUENCE;
 use yasna::{ASN1Result, BERReader, DERWriter, Tag};
 use yasna_notation::{
     Bounded, CanonicalNotation, Context, Enumerated, FromZero, Implicit, Message, NotEmpty,
-    Notation, Optional, Sequence, SequenceOf, StandsFor, read_as,
+    Notation, Optional, Represents, Sequence, SequenceOf, read_as,
 };
 
 type Referral = Implicit<Context<3>, Bounded<SequenceOf<Vec<u8>>, NotEmpty>>;
@@ -55,7 +55,7 @@ pub struct LdapResult {
     pub referral: Option<Vec<Vec<u8>>>,
 }
 
-impl StandsFor<Fields> for LdapResult {
+impl Represents<Fields> for LdapResult {
     ghost value_of = { λ v. (v.result_code, (v.matched_dn, (v.diagnostic_message, (v.referral, tt)))) };
 
     fn from_value(
@@ -75,7 +75,7 @@ impl Notation for LdapResult {
 
     type Inner = ();
 
-    ghost means = { stands_for ⟦<LdapResult as StandsFor<Fields>>⟧.value_of ⟦<Sequence<Parts> as Notation>⟧.means };
+    ghost means = { represented_by ⟦<LdapResult as Represents<Fields>>⟧.value_of ⟦<Sequence<Parts> as Notation>⟧.means };
 
     fn has_tag(tag: Tag) -> bool {
         tag == TAG_SEQUENCE
@@ -98,19 +98,19 @@ impl Notation for LdapResult {
         )
     }
 
-    ghost keeps = { λ _. standing_keeps ⟦<LdapResult as StandsFor<Fields>>⟧.value_of
+    ghost lawful = { λ _. represented_lawful ⟦<LdapResult as Represents<Fields>>⟧.value_of
         (in_sequence (part (in_bound from_zero (enumerated refl)).own (part (octets refl).own
         (part (octets refl).own (optional_part refl (in_implicit 3 (omega arith) (not_empty (in_sequence_of (octets refl).own))).own no_parts))))) };
 
-    ghost filled = { λ u m v. element_filled _ _ _ _ };
+    ghost non_empty = { λ u m v. element_non_empty _ _ _ _ };
 }
 
 impl Message for LdapResult {
-    ghost told_apart = { refl };
+    ghost is_unambiguous = { refl };
 }
 
 impl CanonicalNotation for LdapResult {
-    ghost written = { λ _. standing_written ⟦<LdapResult as StandsFor<Fields>>⟧.value_of (sequence_written (part_written (bound_written from_zero
+    ghost written = { λ _. represented_written ⟦<LdapResult as Represents<Fields>>⟧.value_of (sequence_written (part_written (bound_written from_zero
         (enumerated_written refl)).own (part_written (octets_written refl).own (part_written (octets_written refl).own (optional_written
-        (under_context 3 (omega arith) (filled_list_written (sequence_of_written (octets_written refl).own))).own no_part_written))))) };
+        (under_context 3 (omega arith) (non_empty_list_written (sequence_of_written (octets_written refl).own))).own no_part_written))))) };
 }

@@ -1,6 +1,6 @@
 //! Messages of the Lightweight Directory Access Protocol (RFC 4511): those by which a client binds, searches and unbinds.
 //!
-//! Each type is a notation of its own. `yasna_notation::Noted` of it has the traits, so `decode_ber` reads a `Noted<LdapMessage>`.
+//! Each type is a notation of its own. `yasna_notation::Encoded` of it has the traits, so `decode_ber` reads a `Encoded<LdapMessage>`.
 //!
 //! The protocol takes the definite lengths of BER alone, OCTET STRINGs in one piece, and TRUE as 255 (RFC 4511, 5.1). `encode_der` writes
 //! them so, but `decode_ber` reads all of BER.
@@ -16,7 +16,7 @@
 //! | `filter`, `filter_item` | filters, and those that aren't made of others |
 //! | `filter_reading`, `filter_writing`, `filter_notation` | how filters are read and written, and their laws |
 //! | `substring`, `substring_filter`, `matching_rule_assertion`, `attribute_value_assertion` | what filters ask |
-//! | `search_result_entry`, `search_result_done`, `search_result_reference` | what a search answers |
+//! | `search_result_entry`, `search_result_done`, `search_result_reference` | what a search returns |
 //! | `partial_attribute`, `attribute` | attributes |
 //! | `tagged` | how fields are written under a tag |
 #![tactic(auto)]

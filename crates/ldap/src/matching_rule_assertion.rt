@@ -14,13 +14,13 @@
 //! ```
 ghost use Rattle.std.specs.Prelude.{◌≡◌, false, not, refl};
 ghost use Rattle.std.proofs.Common.{arith};
-ghost use Rattle.yasna_notation.specs.Laws.{standing_keeps, element_filled};
+ghost use Rattle.yasna_notation.specs.Laws.{represented_lawful, element_non_empty};
 ghost use Rattle.yasna_notation.specs.Making.{in_sequence, in_implicit, part, optional_part, default_part};
-ghost use Rattle.yasna_notation.specs.Notation.{stands_for};
-ghost use Rattle.yasna_notation.specs.Parts.{no_parts, tells_false, tests_false};
-ghost use Rattle.yasna_notation.specs.contracts.strings.VecU8Notation.TheImpl.Laws.{keeps-law as octets};
-ghost use Rattle.yasna_notation.specs.contracts.simple.BoolNotation.TheImpl.Laws.{keeps-law as flag};
-ghost use Rattle.yasna_notation.specs.Canonical.{standing_written};
+ghost use Rattle.yasna_notation.specs.Notation.{represented_by};
+ghost use Rattle.yasna_notation.specs.Parts.{no_parts, detects_false, tests_false};
+ghost use Rattle.yasna_notation.specs.contracts.strings.VecU8Notation.TheImpl.Laws.{lawful-law as octets};
+ghost use Rattle.yasna_notation.specs.contracts.simple.BoolNotation.TheImpl.Laws.{lawful-law as flag};
+ghost use Rattle.yasna_notation.specs.Canonical.{represented_written};
 ghost use Rattle.yasna_notation.specs.Writing.{sequence_written, under_context, part_written, optional_written, no_part_written, unset_written};
 ghost use Rattle.yasna_notation.specs.contracts.canonical.BoolCanonicalNotation.TheImpl.Laws.{written-law as flag_written};
 ghost use Rattle.yasna_notation.specs.contracts.canonical.VecU8CanonicalNotation.TheImpl.Laws.{written-law as octets_written};
@@ -29,7 +29,7 @@ use yasna::tags::TAG_SEQUENCE;
 use yasna::{ASN1Result, BERReader, DERWriter, Tag};
 use yasna_notation::{
     CanonicalNotation, Context, Default, DefaultValue, Implicit, Message, Notation, Optional,
-    Sequence, StandsFor, read_as,
+    Represents, Sequence, read_as,
 };
 
 type MatchingRule = Optional<Implicit<Context<1>, Vec<u8>>>;
@@ -52,7 +52,7 @@ impl DefaultValue<DnFlag> for Unset {
         false
     }
 
-    ghost tells = { tells_false };
+    ghost detects = { detects_false };
 
     ghost tests = { tests_false };
 }
@@ -72,14 +72,14 @@ type Fields = (Option<Vec<u8>>, (Option<Vec<u8>>, (Vec<u8>, (bool, ()))));
 pub struct MatchingRuleAssertion {
     /// The rule, by its name or its object identifier.
     pub matching_rule: Option<Vec<u8>>,
-    /// The name of the attribute; all that have the rule, where it is left out.
+    /// The name of the attribute; all that have the rule, where it is omitted.
     pub attribute_type: Option<Vec<u8>>,
     pub match_value: Vec<u8>,
     /// Whether the attributes of the entry's name are looked at too.
     pub dn_attributes: bool,
 }
 
-impl StandsFor<Fields> for MatchingRuleAssertion {
+impl Represents<Fields> for MatchingRuleAssertion {
     ghost value_of = { λ v. (v.matching_rule, (v.attribute_type, (v.match_value, (v.dn_attributes, tt)))) };
 
     fn from_value(
@@ -99,7 +99,7 @@ impl Notation for MatchingRuleAssertion {
 
     type Inner = ();
 
-    ghost means = { stands_for ⟦<MatchingRuleAssertion as StandsFor<Fields>>⟧.value_of ⟦<Sequence<Parts> as Notation>⟧.means };
+    ghost means = { represented_by ⟦<MatchingRuleAssertion as Represents<Fields>>⟧.value_of ⟦<Sequence<Parts> as Notation>⟧.means };
 
     fn has_tag(tag: Tag) -> bool {
         tag == TAG_SEQUENCE
@@ -122,20 +122,20 @@ impl Notation for MatchingRuleAssertion {
         )
     }
 
-    ghost keeps = { λ _. standing_keeps ⟦<MatchingRuleAssertion as StandsFor<Fields>>⟧.value_of
+    ghost lawful = { λ _. represented_lawful ⟦<MatchingRuleAssertion as Represents<Fields>>⟧.value_of
         (in_sequence (optional_part refl (in_implicit 1 (omega arith) (octets
         refl)).own (optional_part refl (in_implicit 2 (omega arith) (octets refl)).own (part (in_implicit 3 (omega arith) (octets refl)).own (default_part not
-        false tells_false refl (in_implicit 4 (omega arith) (flag refl)).own no_parts))))) };
+        false detects_false refl (in_implicit 4 (omega arith) (flag refl)).own no_parts))))) };
 
-    ghost filled = { λ u m v. element_filled _ _ _ _ };
+    ghost non_empty = { λ u m v. element_non_empty _ _ _ _ };
 }
 
 impl Message for MatchingRuleAssertion {
-    ghost told_apart = { refl };
+    ghost is_unambiguous = { refl };
 }
 
 impl CanonicalNotation for MatchingRuleAssertion {
-    ghost written = { λ _. standing_written ⟦<MatchingRuleAssertion as StandsFor<Fields>>⟧.value_of (sequence_written (optional_written (under_context
+    ghost written = { λ _. represented_written ⟦<MatchingRuleAssertion as Represents<Fields>>⟧.value_of (sequence_written (optional_written (under_context
         1 (omega arith) (octets_written refl)).own (optional_written (under_context 2 (omega arith) (octets_written refl)).own (part_written
         (under_context 3 (omega arith) (octets_written refl)).own (unset_written (under_context 4 (omega arith) (flag_written refl)).own
         no_part_written))))) };

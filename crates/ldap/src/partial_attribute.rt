@@ -1,4 +1,4 @@
-//! Attributes, of which the values may be left out (RFC 4511, 4.1.7).
+//! Attributes, of which the values may be omitted (RFC 4511, 4.1.7).
 //!
 //! ```text
 //! PartialAttribute ::= SEQUENCE {
@@ -10,18 +10,18 @@
 //! LDAPString           ::= OCTET STRING
 //! ```
 ghost use Rattle.std.specs.Prelude.{◌≡◌, refl};
-ghost use Rattle.yasna_notation.specs.Laws.{standing_keeps, element_filled};
+ghost use Rattle.yasna_notation.specs.Laws.{represented_lawful, element_non_empty};
 ghost use Rattle.yasna_notation.specs.Making.{in_sequence, in_set_of, part};
-ghost use Rattle.yasna_notation.specs.Notation.{stands_for};
+ghost use Rattle.yasna_notation.specs.Notation.{represented_by};
 ghost use Rattle.yasna_notation.specs.Parts.{no_parts};
-ghost use Rattle.yasna_notation.specs.contracts.strings.VecU8Notation.TheImpl.Laws.{keeps-law as octets};
-ghost use Rattle.yasna_notation.specs.Canonical.{standing_written};
+ghost use Rattle.yasna_notation.specs.contracts.strings.VecU8Notation.TheImpl.Laws.{lawful-law as octets};
+ghost use Rattle.yasna_notation.specs.Canonical.{represented_written};
 ghost use Rattle.yasna_notation.specs.Writing.{sequence_written, set_of_written, part_written, no_part_written};
 ghost use Rattle.yasna_notation.specs.contracts.canonical.VecU8CanonicalNotation.TheImpl.Laws.{written-law as octets_written};
 
 use yasna::tags::TAG_SEQUENCE;
 use yasna::{ASN1Result, BERReader, DERWriter, Tag};
-use yasna_notation::{CanonicalNotation, Message, Notation, Sequence, SetOf, StandsFor, read_as};
+use yasna_notation::{CanonicalNotation, Message, Notation, Represents, Sequence, SetOf, read_as};
 
 type Parts = (Vec<u8>, (SetOf<Vec<u8>>, ()));
 
@@ -32,11 +32,11 @@ type Fields = (Vec<u8>, (Vec<Vec<u8>>, ()));
 pub struct PartialAttribute {
     /// The name of the attribute, with its options, in UTF-8.
     pub attribute_type: Vec<u8>,
-    /// Its values. They stand in no order.
+    /// Its values. They are in no order.
     pub vals: Vec<Vec<u8>>,
 }
 
-impl StandsFor<Fields> for PartialAttribute {
+impl Represents<Fields> for PartialAttribute {
     ghost value_of = { λ v. (v.attribute_type, (v.vals, tt)) };
 
     fn from_value((attribute_type, (vals, ())): Fields) -> PartialAttribute {
@@ -52,7 +52,7 @@ impl Notation for PartialAttribute {
 
     type Inner = ();
 
-    ghost means = { stands_for ⟦<PartialAttribute as StandsFor<Fields>>⟧.value_of ⟦<Sequence<Parts> as Notation>⟧.means };
+    ghost means = { represented_by ⟦<PartialAttribute as Represents<Fields>>⟧.value_of ⟦<Sequence<Parts> as Notation>⟧.means };
 
     fn has_tag(tag: Tag) -> bool {
         tag == TAG_SEQUENCE
@@ -66,18 +66,18 @@ impl Notation for PartialAttribute {
         Sequence::<Parts>::write_fields((&value.attribute_type, (&value.vals, ())), writer)
     }
 
-    ghost keeps = { λ _. standing_keeps ⟦<PartialAttribute as StandsFor<Fields>>⟧.value_of
+    ghost lawful = { λ _. represented_lawful ⟦<PartialAttribute as Represents<Fields>>⟧.value_of
         (in_sequence (part (octets refl).own (part (in_set_of (octets refl).own).own
         no_parts))) };
 
-    ghost filled = { λ u m v. element_filled _ _ _ _ };
+    ghost non_empty = { λ u m v. element_non_empty _ _ _ _ };
 }
 
 impl Message for PartialAttribute {
-    ghost told_apart = { refl };
+    ghost is_unambiguous = { refl };
 }
 
 impl CanonicalNotation for PartialAttribute {
-    ghost written = { λ _. standing_written ⟦<PartialAttribute as StandsFor<Fields>>⟧.value_of (sequence_written (part_written (octets_written
+    ghost written = { λ _. represented_written ⟦<PartialAttribute as Represents<Fields>>⟧.value_of (sequence_written (part_written (octets_written
         refl).own (part_written (set_of_written (octets_written refl).own).own no_part_written))) };
 }

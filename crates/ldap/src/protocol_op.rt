@@ -12,19 +12,19 @@
 //!     .. }
 //! ```
 ghost use Rattle.std.specs.Prelude.{◌≡◌, [], refl};
-ghost use Rattle.yasna_notation.specs.Laws.{standing_keeps, element_filled};
+ghost use Rattle.yasna_notation.specs.Laws.{represented_lawful, element_non_empty};
 ghost use Rattle.yasna_notation.specs.Making.{in_choice, alternative};
-ghost use Rattle.yasna_notation.specs.Notation.{stands_for};
+ghost use Rattle.yasna_notation.specs.Notation.{represented_by};
 ghost use Rattle.yasna_notation.specs.declared.choices.Either.TheVariants.{First, Second};
 ghost use Rattle.ldap.specs.declared.protocol_op.ProtocolOp.TheVariants.{BindRequest, BindResponse, UnbindRequest, SearchRequest, SearchResultEntry, SearchResultDone, SearchResultReference};
-ghost use Rattle.ldap.specs.contracts.bind_request.BindRequestNotation.TheImpl.Laws.{keeps-law as bind_request_keeps};
-ghost use Rattle.ldap.specs.contracts.bind_response.BindResponseNotation.TheImpl.Laws.{keeps-law as bind_response_keeps};
-ghost use Rattle.ldap.specs.contracts.unbind_request.UnbindRequestNotation.TheImpl.Laws.{keeps-law as unbind_request_keeps};
-ghost use Rattle.ldap.specs.contracts.search_request.SearchRequestNotation.TheImpl.Laws.{keeps-law as search_request_keeps};
-ghost use Rattle.ldap.specs.contracts.search_result_entry.SearchResultEntryNotation.TheImpl.Laws.{keeps-law as search_result_entry_keeps};
-ghost use Rattle.ldap.specs.contracts.search_result_done.SearchResultDoneNotation.TheImpl.Laws.{keeps-law as search_result_done_keeps};
-ghost use Rattle.ldap.specs.contracts.search_result_reference.SearchResultReferenceNotation.TheImpl.Laws.{keeps-law as search_result_reference_keeps};
-ghost use Rattle.yasna_notation.specs.Canonical.{standing_written, choice_written_as};
+ghost use Rattle.ldap.specs.contracts.bind_request.BindRequestNotation.TheImpl.Laws.{lawful-law as bind_request_lawful};
+ghost use Rattle.ldap.specs.contracts.bind_response.BindResponseNotation.TheImpl.Laws.{lawful-law as bind_response_lawful};
+ghost use Rattle.ldap.specs.contracts.unbind_request.UnbindRequestNotation.TheImpl.Laws.{lawful-law as unbind_request_lawful};
+ghost use Rattle.ldap.specs.contracts.search_request.SearchRequestNotation.TheImpl.Laws.{lawful-law as search_request_lawful};
+ghost use Rattle.ldap.specs.contracts.search_result_entry.SearchResultEntryNotation.TheImpl.Laws.{lawful-law as search_result_entry_lawful};
+ghost use Rattle.ldap.specs.contracts.search_result_done.SearchResultDoneNotation.TheImpl.Laws.{lawful-law as search_result_done_lawful};
+ghost use Rattle.ldap.specs.contracts.search_result_reference.SearchResultReferenceNotation.TheImpl.Laws.{lawful-law as search_result_reference_lawful};
+ghost use Rattle.yasna_notation.specs.Canonical.{represented_written, choice_written_as};
 ghost use Rattle.yasna_notation.specs.Writing.{alternative_written};
 ghost use Rattle.ldap.specs.contracts.bind_request.BindRequestCanonicalNotation.TheImpl.Laws.{written-law as bind_request_written};
 ghost use Rattle.ldap.specs.contracts.bind_response.BindResponseCanonicalNotation.TheImpl.Laws.{written-law as bind_response_written};
@@ -44,7 +44,7 @@ use crate::unbind_request::UnbindRequest;
 use yasna::{ASN1Result, BERReader, DERWriter, Tag};
 use yasna_notation::Either::{First, Second};
 use yasna_notation::{
-    Alternatives, CanonicalNotation, Choice, Either, Message, Notation, StandsFor, read_as,
+    Alternatives, CanonicalNotation, Choice, Either, Message, Notation, Represents, read_as,
 };
 
 type Results = (
@@ -66,7 +66,7 @@ type LaterFields = Either<
 
 type Fields = Either<BindRequest, Either<BindResponse, Either<UnbindRequest, LaterFields>>>;
 
-/// What stands in a message: a request, or a part of the answer to one.
+/// What is in a message: a request, or a part of the result to one.
 #[derive(Drop)]
 pub enum ProtocolOp {
     BindRequest(BindRequest),
@@ -78,7 +78,7 @@ pub enum ProtocolOp {
     SearchResultReference(SearchResultReference),
 }
 
-impl StandsFor<Fields> for ProtocolOp {
+impl Represents<Fields> for ProtocolOp {
     ghost value_of = { λ v. elim v [
       | BindRequest o ↦ First o
       | BindResponse o ↦ Second (First o)
@@ -111,7 +111,7 @@ impl Notation for ProtocolOp {
 
     type Inner = ();
 
-    ghost means = { stands_for ⟦<ProtocolOp as StandsFor<Fields>>⟧.value_of ⟦<Notated as Notation>⟧.means };
+    ghost means = { represented_by ⟦<ProtocolOp as Represents<Fields>>⟧.value_of ⟦<Notated as Notation>⟧.means };
 
     fn has_tag(tag: Tag) -> bool {
         <Types as Alternatives>::has_tag(tag)
@@ -135,30 +135,30 @@ impl Notation for ProtocolOp {
         }
     }
 
-    ghost keeps = { λ _. standing_keeps ⟦<ProtocolOp as StandsFor<Fields>>⟧.value_of
-        (in_choice ⟦<Notated as Notation>⟧.means.form_under (alternative (bind_request_keeps
-        refl).own refl (alternative (bind_response_keeps refl).own refl (alternative (unbind_request_keeps refl).own refl (alternative (search_request_keeps
-        refl).own refl (alternative (search_result_entry_keeps refl).own refl (alternative (search_result_done_keeps refl).own refl
-        (search_result_reference_keeps refl).own))))))) };
+    ghost lawful = { λ _. represented_lawful ⟦<ProtocolOp as Represents<Fields>>⟧.value_of
+        (in_choice ⟦<Notated as Notation>⟧.means.encoding_under (alternative (bind_request_lawful
+        refl).own refl (alternative (bind_response_lawful refl).own refl (alternative (unbind_request_lawful refl).own refl (alternative (search_request_lawful
+        refl).own refl (alternative (search_result_entry_lawful refl).own refl (alternative (search_result_done_lawful refl).own refl
+        (search_result_reference_lawful refl).own))))))) };
 
-    ghost filled = { λ u m v. elim v as (λ k. ⟦<Notated as Notation>⟧.means.form_under u m (⟦<ProtocolOp as StandsFor<Fields>>⟧.value_of k) ≡ [] → ⊥) [
+    ghost non_empty = { λ u m v. elim v as (λ k. ⟦<Notated as Notation>⟧.means.encoding_under u m (⟦<ProtocolOp as Represents<Fields>>⟧.value_of k) ≡ [] → ⊥) [
       | BindRequest o ↦
-          element_filled _ _ _ _
-      | BindResponse o ↦ element_filled _ _ _ _
-      | UnbindRequest o ↦ element_filled _ _ _ _
-      | SearchRequest o ↦ element_filled _ _ _ _
-      | SearchResultEntry o ↦ element_filled _ _ _ _
-      | SearchResultDone o ↦ element_filled _ _ _ _
-      | SearchResultReference o ↦ element_filled _ _ _ _
+          element_non_empty _ _ _ _
+      | BindResponse o ↦ element_non_empty _ _ _ _
+      | UnbindRequest o ↦ element_non_empty _ _ _ _
+      | SearchRequest o ↦ element_non_empty _ _ _ _
+      | SearchResultEntry o ↦ element_non_empty _ _ _ _
+      | SearchResultDone o ↦ element_non_empty _ _ _ _
+      | SearchResultReference o ↦ element_non_empty _ _ _ _
     ] };
 }
 
 impl Message for ProtocolOp {
-    ghost told_apart = { refl };
+    ghost is_unambiguous = { refl };
 }
 
 impl CanonicalNotation for ProtocolOp {
-    ghost written = { λ _. standing_written ⟦<ProtocolOp as StandsFor<Fields>>⟧.value_of (choice_written_as ⟦<Notated as Notation>⟧.means.form_under
+    ghost written = { λ _. represented_written ⟦<ProtocolOp as Represents<Fields>>⟧.value_of (choice_written_as ⟦<Notated as Notation>⟧.means.encoding_under
         (alternative_written (bind_request_written refl).own (alternative_written (bind_response_written refl).own (alternative_written
         (unbind_request_written refl).own (alternative_written (search_request_written refl).own (alternative_written (search_result_entry_written
         refl).own (alternative_written (search_result_done_written refl).own (search_result_reference_written refl).own))))))) };

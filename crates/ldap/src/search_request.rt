@@ -20,16 +20,16 @@
 //! ```
 ghost use Rattle.std.specs.Prelude.{◌≡◌, pos, refl};
 ghost use Rattle.std.proofs.Common.{arith};
-ghost use Rattle.yasna_notation.specs.Laws.{standing_keeps, element_filled};
+ghost use Rattle.yasna_notation.specs.Laws.{represented_lawful, element_non_empty};
 ghost use Rattle.yasna_notation.specs.Making.{in_application, in_sequence, in_sequence_of, part, at_most, in_bound, up_to};
-ghost use Rattle.yasna_notation.specs.Notation.{stands_for};
+ghost use Rattle.yasna_notation.specs.Notation.{represented_by};
 ghost use Rattle.yasna_notation.specs.Parts.{no_parts};
-ghost use Rattle.yasna_notation.specs.contracts.strings.VecU8Notation.TheImpl.Laws.{keeps-law as octets};
-ghost use Rattle.yasna_notation.specs.contracts.simple.EnumeratedNotation.TheImpl.Laws.{keeps-law as enumerated};
-ghost use Rattle.yasna_notation.specs.contracts.simple.U64Notation.TheImpl.Laws.{keeps-law as number};
-ghost use Rattle.yasna_notation.specs.contracts.simple.BoolNotation.TheImpl.Laws.{keeps-law as flag};
-ghost use Rattle.ldap.specs.contracts.filter_notation.FilterNotation.TheImpl.Laws.{keeps-law as filter};
-ghost use Rattle.yasna_notation.specs.Canonical.{standing_written};
+ghost use Rattle.yasna_notation.specs.contracts.strings.VecU8Notation.TheImpl.Laws.{lawful-law as octets};
+ghost use Rattle.yasna_notation.specs.contracts.simple.EnumeratedNotation.TheImpl.Laws.{lawful-law as enumerated};
+ghost use Rattle.yasna_notation.specs.contracts.simple.U64Notation.TheImpl.Laws.{lawful-law as number};
+ghost use Rattle.yasna_notation.specs.contracts.simple.BoolNotation.TheImpl.Laws.{lawful-law as flag};
+ghost use Rattle.ldap.specs.contracts.filter_notation.FilterNotation.TheImpl.Laws.{lawful-law as filter};
+ghost use Rattle.yasna_notation.specs.Canonical.{represented_written};
 ghost use Rattle.yasna_notation.specs.Writing.{sequence_written, sequence_of_written, under_application, part_written, no_part_written};
 ghost use Rattle.yasna_notation.specs.Writing.{at_most_written, bound_written};
 ghost use Rattle.ldap.specs.contracts.filter_notation.FilterCanonicalNotation.TheImpl.Laws.{written-law as filter_written};
@@ -43,7 +43,7 @@ use crate::tagged::write_tagged_fields;
 use yasna::{ASN1Result, BERReader, DERWriter, Tag};
 use yasna_notation::{
     Application, AtMost, Bounded, CanonicalNotation, Enumerated, Implicit, Message, Notation,
-    Sequence, SequenceOf, StandsFor, UpTo, read_as,
+    Represents, Sequence, SequenceOf, UpTo, read_as,
 };
 
 type MaxInt = Bounded<u64, AtMost<2147483647>>;
@@ -79,14 +79,14 @@ pub struct SearchRequest {
     pub size_limit: u64,
     /// How many seconds the search may take, up to 2147483647; 0 for any.
     pub time_limit: u64,
-    /// Whether the values of attributes are left out.
+    /// Whether the values of attributes are omitted.
     pub types_only: bool,
     pub filter: Filter,
     /// The names of the attributes that are wanted.
     pub attributes: Vec<Vec<u8>>,
 }
 
-impl StandsFor<Fields> for SearchRequest {
+impl Represents<Fields> for SearchRequest {
     ghost value_of = { λ v. (v.base_object, (v.scope, (v.deref_aliases, (v.size_limit, (v.time_limit, (v.types_only, (v.filter, (v.attributes, tt)))))))) };
 
     fn from_value(
@@ -111,7 +111,7 @@ impl Notation for SearchRequest {
 
     type Inner = ();
 
-    ghost means = { stands_for ⟦<SearchRequest as StandsFor<Fields>>⟧.value_of ⟦<Notated as Notation>⟧.means };
+    ghost means = { represented_by ⟦<SearchRequest as Represents<Fields>>⟧.value_of ⟦<Notated as Notation>⟧.means };
 
     fn has_tag(tag: Tag) -> bool {
         tag == Tag::application(3)
@@ -143,20 +143,20 @@ impl Notation for SearchRequest {
         )
     }
 
-    ghost keeps = { λ _. standing_keeps ⟦<SearchRequest as StandsFor<Fields>>⟧.value_of
+    ghost lawful = { λ _. represented_lawful ⟦<SearchRequest as Represents<Fields>>⟧.value_of
         (in_application 3 (omega arith) (in_sequence (part (octets refl).own (part (in_bound
         (up_to (pos 2)) (enumerated refl)).own (part (in_bound (up_to (pos 3)) (enumerated refl)).own (part (at_most 2147483647 (number refl)).own (part
         (at_most 2147483647 (number refl)).own (part (flag refl).own (part (filter refl).own (part (in_sequence_of (octets refl).own).own no_parts)))))))))) };
 
-    ghost filled = { λ u m v. element_filled _ _ _ _ };
+    ghost non_empty = { λ u m v. element_non_empty _ _ _ _ };
 }
 
 impl Message for SearchRequest {
-    ghost told_apart = { refl };
+    ghost is_unambiguous = { refl };
 }
 
 impl CanonicalNotation for SearchRequest {
-    ghost written = { λ _. standing_written ⟦<SearchRequest as StandsFor<Fields>>⟧.value_of (under_application 3 (omega arith) (sequence_written
+    ghost written = { λ _. represented_written ⟦<SearchRequest as Represents<Fields>>⟧.value_of (under_application 3 (omega arith) (sequence_written
         (part_written (octets_written refl).own (part_written (bound_written (up_to (pos 2)) (enumerated_written refl)).own (part_written
         (bound_written (up_to (pos 3)) (enumerated_written refl)).own (part_written (at_most_written 2147483647 (number_written refl)).own
         (part_written (at_most_written 2147483647 (number_written refl)).own (part_written (flag_written refl).own (part_written (filter_written

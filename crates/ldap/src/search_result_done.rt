@@ -5,18 +5,18 @@
 //! ```
 ghost use Rattle.std.specs.Prelude.{◌≡◌, refl};
 ghost use Rattle.std.proofs.Common.{arith};
-ghost use Rattle.yasna_notation.specs.Laws.{standing_keeps, element_filled};
+ghost use Rattle.yasna_notation.specs.Laws.{represented_lawful, element_non_empty};
 ghost use Rattle.yasna_notation.specs.Making.{in_application};
-ghost use Rattle.yasna_notation.specs.Notation.{stands_for};
-ghost use Rattle.ldap.specs.contracts.ldap_result.LdapResultNotation.TheImpl.Laws.{keeps-law as result};
-ghost use Rattle.yasna_notation.specs.Canonical.{standing_written};
+ghost use Rattle.yasna_notation.specs.Notation.{represented_by};
+ghost use Rattle.ldap.specs.contracts.ldap_result.LdapResultNotation.TheImpl.Laws.{lawful-law as result};
+ghost use Rattle.yasna_notation.specs.Canonical.{represented_written};
 ghost use Rattle.yasna_notation.specs.Writing.{under_application};
 ghost use Rattle.ldap.specs.contracts.ldap_result.LdapResultCanonicalNotation.TheImpl.Laws.{written-law as result_written};
 
 use crate::ldap_result::LdapResult;
 use yasna::{ASN1Result, BERReader, DERWriter, Tag};
 use yasna_notation::{
-    Application, CanonicalNotation, Implicit, Message, Notation, StandsFor, read_as,
+    Application, CanonicalNotation, Implicit, Message, Notation, Represents, read_as,
 };
 
 type Notated = Implicit<Application<5>, LdapResult>;
@@ -27,7 +27,7 @@ pub struct SearchResultDone {
     pub result: LdapResult,
 }
 
-impl StandsFor<LdapResult> for SearchResultDone {
+impl Represents<LdapResult> for SearchResultDone {
     ghost value_of = { λ v. v.result };
 
     fn from_value(outcome: LdapResult) -> SearchResultDone {
@@ -40,7 +40,7 @@ impl Notation for SearchResultDone {
 
     type Inner = ();
 
-    ghost means = { stands_for ⟦<SearchResultDone as StandsFor<LdapResult>>⟧.value_of ⟦<Notated as Notation>⟧.means };
+    ghost means = { represented_by ⟦<SearchResultDone as Represents<LdapResult>>⟧.value_of ⟦<Notated as Notation>⟧.means };
 
     fn has_tag(tag: Tag) -> bool {
         tag == Tag::application(5)
@@ -54,17 +54,17 @@ impl Notation for SearchResultDone {
         Notated::write(&value.result, writer)
     }
 
-    ghost keeps = { λ _. standing_keeps ⟦<SearchResultDone as StandsFor<LdapResult>>⟧.value_of
+    ghost lawful = { λ _. represented_lawful ⟦<SearchResultDone as Represents<LdapResult>>⟧.value_of
         (in_application 5 (omega arith) (result refl)) };
 
-    ghost filled = { λ u m v. element_filled _ _ _ _ };
+    ghost non_empty = { λ u m v. element_non_empty _ _ _ _ };
 }
 
 impl Message for SearchResultDone {
-    ghost told_apart = { refl };
+    ghost is_unambiguous = { refl };
 }
 
 impl CanonicalNotation for SearchResultDone {
-    ghost written = { λ _. standing_written ⟦<SearchResultDone as StandsFor<LdapResult>>⟧.value_of (under_application 5 (omega arith) (result_written
+    ghost written = { λ _. represented_written ⟦<SearchResultDone as Represents<LdapResult>>⟧.value_of (under_application 5 (omega arith) (result_written
         refl)) };
 }

@@ -11,13 +11,13 @@
 //! ```
 ghost use Rattle.std.specs.Prelude.{◌≡◌, refl};
 ghost use Rattle.std.proofs.Common.{arith};
-ghost use Rattle.yasna_notation.specs.Laws.{standing_keeps, element_filled};
+ghost use Rattle.yasna_notation.specs.Laws.{represented_lawful, element_non_empty};
 ghost use Rattle.yasna_notation.specs.Making.{in_application, in_sequence, in_sequence_of, part};
-ghost use Rattle.yasna_notation.specs.Notation.{stands_for};
+ghost use Rattle.yasna_notation.specs.Notation.{represented_by};
 ghost use Rattle.yasna_notation.specs.Parts.{no_parts};
-ghost use Rattle.yasna_notation.specs.contracts.strings.VecU8Notation.TheImpl.Laws.{keeps-law as octets};
-ghost use Rattle.ldap.specs.contracts.partial_attribute.PartialAttributeNotation.TheImpl.Laws.{keeps-law as attribute};
-ghost use Rattle.yasna_notation.specs.Canonical.{standing_written};
+ghost use Rattle.yasna_notation.specs.contracts.strings.VecU8Notation.TheImpl.Laws.{lawful-law as octets};
+ghost use Rattle.ldap.specs.contracts.partial_attribute.PartialAttributeNotation.TheImpl.Laws.{lawful-law as attribute};
+ghost use Rattle.yasna_notation.specs.Canonical.{represented_written};
 ghost use Rattle.yasna_notation.specs.Writing.{sequence_written, sequence_of_written, under_application, part_written, no_part_written};
 ghost use Rattle.ldap.specs.contracts.partial_attribute.PartialAttributeCanonicalNotation.TheImpl.Laws.{written-law as attribute_written};
 ghost use Rattle.yasna_notation.specs.contracts.canonical.VecU8CanonicalNotation.TheImpl.Laws.{written-law as octets_written};
@@ -26,7 +26,7 @@ use crate::partial_attribute::PartialAttribute;
 use crate::tagged::write_tagged_fields;
 use yasna::{ASN1Result, BERReader, DERWriter, Tag};
 use yasna_notation::{
-    Application, CanonicalNotation, Implicit, Message, Notation, Sequence, SequenceOf, StandsFor,
+    Application, CanonicalNotation, Implicit, Message, Notation, Represents, Sequence, SequenceOf,
     read_as,
 };
 
@@ -44,7 +44,7 @@ pub struct SearchResultEntry {
     pub attributes: Vec<PartialAttribute>,
 }
 
-impl StandsFor<Fields> for SearchResultEntry {
+impl Represents<Fields> for SearchResultEntry {
     ghost value_of = { λ v. (v.object_name, (v.attributes, tt)) };
 
     fn from_value((object_name, (attributes, ())): Fields) -> SearchResultEntry {
@@ -60,7 +60,7 @@ impl Notation for SearchResultEntry {
 
     type Inner = ();
 
-    ghost means = { stands_for ⟦<SearchResultEntry as StandsFor<Fields>>⟧.value_of ⟦<Notated as Notation>⟧.means };
+    ghost means = { represented_by ⟦<SearchResultEntry as Represents<Fields>>⟧.value_of ⟦<Notated as Notation>⟧.means };
 
     fn has_tag(tag: Tag) -> bool {
         tag == Tag::application(4)
@@ -77,18 +77,18 @@ impl Notation for SearchResultEntry {
         )
     }
 
-    ghost keeps = { λ _. standing_keeps ⟦<SearchResultEntry as StandsFor<Fields>>⟧.value_of
+    ghost lawful = { λ _. represented_lawful ⟦<SearchResultEntry as Represents<Fields>>⟧.value_of
         (in_application 4 (omega arith) (in_sequence (part (octets refl).own (part
         (in_sequence_of (attribute refl).own).own no_parts)))) };
 
-    ghost filled = { λ u m v. element_filled _ _ _ _ };
+    ghost non_empty = { λ u m v. element_non_empty _ _ _ _ };
 }
 
 impl Message for SearchResultEntry {
-    ghost told_apart = { refl };
+    ghost is_unambiguous = { refl };
 }
 
 impl CanonicalNotation for SearchResultEntry {
-    ghost written = { λ _. standing_written ⟦<SearchResultEntry as StandsFor<Fields>>⟧.value_of (under_application 4 (omega arith) (sequence_written
+    ghost written = { λ _. represented_written ⟦<SearchResultEntry as Represents<Fields>>⟧.value_of (under_application 4 (omega arith) (sequence_written
         (part_written (octets_written refl).own (part_written (sequence_of_written (attribute_written refl).own).own no_part_written)))) };
 }

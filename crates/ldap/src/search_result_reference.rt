@@ -8,18 +8,18 @@
 //! ```
 ghost use Rattle.std.specs.Prelude.{◌≡◌, refl};
 ghost use Rattle.std.proofs.Common.{arith};
-ghost use Rattle.yasna_notation.specs.Laws.{standing_keeps, element_filled};
+ghost use Rattle.yasna_notation.specs.Laws.{represented_lawful, element_non_empty};
 ghost use Rattle.yasna_notation.specs.Making.{in_application, in_sequence_of, not_empty};
-ghost use Rattle.yasna_notation.specs.Notation.{stands_for};
-ghost use Rattle.yasna_notation.specs.contracts.strings.VecU8Notation.TheImpl.Laws.{keeps-law as octets};
-ghost use Rattle.yasna_notation.specs.Canonical.{standing_written};
-ghost use Rattle.yasna_notation.specs.Writing.{sequence_of_written, under_application, filled_list_written};
+ghost use Rattle.yasna_notation.specs.Notation.{represented_by};
+ghost use Rattle.yasna_notation.specs.contracts.strings.VecU8Notation.TheImpl.Laws.{lawful-law as octets};
+ghost use Rattle.yasna_notation.specs.Canonical.{represented_written};
+ghost use Rattle.yasna_notation.specs.Writing.{sequence_of_written, under_application, non_empty_list_written};
 ghost use Rattle.yasna_notation.specs.contracts.canonical.VecU8CanonicalNotation.TheImpl.Laws.{written-law as octets_written};
 
 use yasna::{ASN1Result, BERReader, DERWriter, Tag};
 use yasna_notation::{
-    Application, Bounded, CanonicalNotation, Implicit, Message, NotEmpty, Notation, SequenceOf,
-    StandsFor, read_as,
+    Application, Bounded, CanonicalNotation, Implicit, Message, NotEmpty, Notation, Represents,
+    SequenceOf, read_as,
 };
 
 type Notated = Implicit<Application<19>, Bounded<SequenceOf<Vec<u8>>, NotEmpty>>;
@@ -31,7 +31,7 @@ pub struct SearchResultReference {
     pub uris: Vec<Vec<u8>>,
 }
 
-impl StandsFor<Vec<Vec<u8>>> for SearchResultReference {
+impl Represents<Vec<Vec<u8>>> for SearchResultReference {
     ghost value_of = { λ v. v.uris };
 
     fn from_value(uris: Vec<Vec<u8>>) -> SearchResultReference {
@@ -44,7 +44,7 @@ impl Notation for SearchResultReference {
 
     type Inner = ();
 
-    ghost means = { stands_for ⟦<SearchResultReference as StandsFor<Vec<Vec<u8>>>>⟧.value_of ⟦<Notated as Notation>⟧.means };
+    ghost means = { represented_by ⟦<SearchResultReference as Represents<Vec<Vec<u8>>>>⟧.value_of ⟦<Notated as Notation>⟧.means };
 
     fn has_tag(tag: Tag) -> bool {
         tag == Tag::application(19)
@@ -58,18 +58,18 @@ impl Notation for SearchResultReference {
         Notated::write(&value.uris, writer)
     }
 
-    ghost keeps = { λ _. standing_keeps ⟦<SearchResultReference as StandsFor<Vec<Vec<u8>>>>⟧.value_of
+    ghost lawful = { λ _. represented_lawful ⟦<SearchResultReference as Represents<Vec<Vec<u8>>>>⟧.value_of
         (in_application 19 (omega arith) (not_empty (in_sequence_of (octets
         refl).own))) };
 
-    ghost filled = { λ u m v. element_filled _ _ _ _ };
+    ghost non_empty = { λ u m v. element_non_empty _ _ _ _ };
 }
 
 impl Message for SearchResultReference {
-    ghost told_apart = { refl };
+    ghost is_unambiguous = { refl };
 }
 
 impl CanonicalNotation for SearchResultReference {
-    ghost written = { λ _. standing_written ⟦<SearchResultReference as StandsFor<Vec<Vec<u8>>>>⟧.value_of (under_application 19 (omega arith)
-        (filled_list_written (sequence_of_written (octets_written refl).own))) };
+    ghost written = { λ _. represented_written ⟦<SearchResultReference as Represents<Vec<Vec<u8>>>>⟧.value_of (under_application 19 (omega arith)
+        (non_empty_list_written (sequence_of_written (octets_written refl).own))) };
 }

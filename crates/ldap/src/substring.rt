@@ -10,13 +10,13 @@
 //! ```
 ghost use Rattle.std.specs.Prelude.{◌≡◌, [], refl};
 ghost use Rattle.std.proofs.Common.{arith};
-ghost use Rattle.yasna_notation.specs.Laws.{standing_keeps, octets_filled};
+ghost use Rattle.yasna_notation.specs.Laws.{represented_lawful, octets_non_empty};
 ghost use Rattle.yasna_notation.specs.Making.{in_choice, alternative, in_implicit};
-ghost use Rattle.yasna_notation.specs.Notation.{stands_for};
+ghost use Rattle.yasna_notation.specs.Notation.{represented_by};
 ghost use Rattle.yasna_notation.specs.declared.choices.Either.TheVariants.{First, Second};
 ghost use Rattle.ldap.specs.declared.substring.Substring.TheVariants.{Initial, Any, Final};
-ghost use Rattle.yasna_notation.specs.contracts.strings.VecU8Notation.TheImpl.Laws.{keeps-law as octets};
-ghost use Rattle.yasna_notation.specs.Canonical.{standing_written, choice_written_as};
+ghost use Rattle.yasna_notation.specs.contracts.strings.VecU8Notation.TheImpl.Laws.{lawful-law as octets};
+ghost use Rattle.yasna_notation.specs.Canonical.{represented_written, choice_written_as};
 ghost use Rattle.yasna_notation.specs.Writing.{alternative_written, under_context};
 ghost use Rattle.yasna_notation.specs.contracts.canonical.VecU8CanonicalNotation.TheImpl.Laws.{written-law as octets_written};
 
@@ -24,7 +24,7 @@ use yasna::{ASN1Result, BERReader, DERWriter, Tag};
 use yasna_notation::Either::{First, Second};
 use yasna_notation::{
     Alternatives, CanonicalNotation, Choice, Context, Either, Implicit, Message, Notation,
-    StandsFor, read_as,
+    Represents, read_as,
 };
 
 type InitialNotation = Implicit<Context<0>, Vec<u8>>;
@@ -39,7 +39,7 @@ type Notated = Choice<Types>;
 
 type Fields = Either<Vec<u8>, Either<Vec<u8>, Vec<u8>>>;
 
-/// A part of a string that is looked for. That an initial one stands first and a final one last isn't checked.
+/// A part of a string that is looked for. That an initial one is first and a final one last isn't checked.
 #[derive(Drop)]
 pub enum Substring {
     Initial(Vec<u8>),
@@ -47,7 +47,7 @@ pub enum Substring {
     Final(Vec<u8>),
 }
 
-impl StandsFor<Fields> for Substring {
+impl Represents<Fields> for Substring {
     ghost value_of = { λ v. elim v [ Initial s ↦ First s | Any s ↦ Second (First s) | Final s ↦ Second (Second s) ] };
 
     fn from_value(value: Fields) -> Substring {
@@ -64,7 +64,7 @@ impl Notation for Substring {
 
     type Inner = ();
 
-    ghost means = { stands_for ⟦<Substring as StandsFor<Fields>>⟧.value_of ⟦<Notated as Notation>⟧.means };
+    ghost means = { represented_by ⟦<Substring as Represents<Fields>>⟧.value_of ⟦<Notated as Notation>⟧.means };
 
     fn has_tag(tag: Tag) -> bool {
         <Types as Alternatives>::has_tag(tag)
@@ -82,24 +82,24 @@ impl Notation for Substring {
         }
     }
 
-    ghost keeps = { λ _. standing_keeps ⟦<Substring as StandsFor<Fields>>⟧.value_of
-        (in_choice ⟦<Notated as Notation>⟧.means.form_under (alternative (in_implicit 0 (omega arith) (octets refl)).own refl
+    ghost lawful = { λ _. represented_lawful ⟦<Substring as Represents<Fields>>⟧.value_of
+        (in_choice ⟦<Notated as Notation>⟧.means.encoding_under (alternative (in_implicit 0 (omega arith) (octets refl)).own refl
         (alternative (in_implicit 1 (omega arith) (octets refl)).own refl (in_implicit 2 (omega arith) (octets refl)).own))) };
 
-    ghost filled = { λ u m v. elim v as (λ k. ⟦<Notated as Notation>⟧.means.form_under u m (⟦<Substring as StandsFor<Fields>>⟧.value_of k) ≡ [] → ⊥) [
+    ghost non_empty = { λ u m v. elim v as (λ k. ⟦<Notated as Notation>⟧.means.encoding_under u m (⟦<Substring as Represents<Fields>>⟧.value_of k) ≡ [] → ⊥) [
       | Initial s ↦
-          octets_filled _ m s.items
-      | Any s ↦ octets_filled _ m s.items
-      | Final s ↦ octets_filled _ m s.items
+          octets_non_empty _ m s.items
+      | Any s ↦ octets_non_empty _ m s.items
+      | Final s ↦ octets_non_empty _ m s.items
     ] };
 }
 
 impl Message for Substring {
-    ghost told_apart = { refl };
+    ghost is_unambiguous = { refl };
 }
 
 impl CanonicalNotation for Substring {
-    ghost written = { λ _. standing_written ⟦<Substring as StandsFor<Fields>>⟧.value_of (choice_written_as ⟦<Notated as Notation>⟧.means.form_under
+    ghost written = { λ _. represented_written ⟦<Substring as Represents<Fields>>⟧.value_of (choice_written_as ⟦<Notated as Notation>⟧.means.encoding_under
         (alternative_written (under_context 0 (omega arith) (octets_written refl)).own (alternative_written (under_context 1 (omega arith)
         (octets_written refl)).own (under_context 2 (omega arith) (octets_written refl)).own))) };
 }

@@ -9,14 +9,14 @@
 //! LDAPString           ::= OCTET STRING
 //! ```
 ghost use Rattle.std.specs.Prelude.{◌≡◌, refl};
-ghost use Rattle.yasna_notation.specs.Laws.{standing_keeps, element_filled};
+ghost use Rattle.yasna_notation.specs.Laws.{represented_lawful, element_non_empty};
 ghost use Rattle.yasna_notation.specs.Making.{in_sequence, in_sequence_of, not_empty, part};
-ghost use Rattle.yasna_notation.specs.Notation.{stands_for};
+ghost use Rattle.yasna_notation.specs.Notation.{represented_by};
 ghost use Rattle.yasna_notation.specs.Parts.{no_parts};
-ghost use Rattle.yasna_notation.specs.contracts.strings.VecU8Notation.TheImpl.Laws.{keeps-law as octets};
-ghost use Rattle.ldap.specs.contracts.substring.SubstringNotation.TheImpl.Laws.{keeps-law as substring};
-ghost use Rattle.yasna_notation.specs.Canonical.{standing_written};
-ghost use Rattle.yasna_notation.specs.Writing.{sequence_written, sequence_of_written, part_written, no_part_written, filled_list_written};
+ghost use Rattle.yasna_notation.specs.contracts.strings.VecU8Notation.TheImpl.Laws.{lawful-law as octets};
+ghost use Rattle.ldap.specs.contracts.substring.SubstringNotation.TheImpl.Laws.{lawful-law as substring};
+ghost use Rattle.yasna_notation.specs.Canonical.{represented_written};
+ghost use Rattle.yasna_notation.specs.Writing.{sequence_written, sequence_of_written, part_written, no_part_written, non_empty_list_written};
 ghost use Rattle.ldap.specs.contracts.substring.SubstringCanonicalNotation.TheImpl.Laws.{written-law as substring_written};
 ghost use Rattle.yasna_notation.specs.contracts.canonical.VecU8CanonicalNotation.TheImpl.Laws.{written-law as octets_written};
 
@@ -24,7 +24,7 @@ use crate::substring::Substring;
 use yasna::tags::TAG_SEQUENCE;
 use yasna::{ASN1Result, BERReader, DERWriter, Tag};
 use yasna_notation::{
-    Bounded, CanonicalNotation, Message, NotEmpty, Notation, Sequence, SequenceOf, StandsFor,
+    Bounded, CanonicalNotation, Message, NotEmpty, Notation, Represents, Sequence, SequenceOf,
     read_as,
 };
 
@@ -41,7 +41,7 @@ pub struct SubstringFilter {
     pub substrings: Vec<Substring>,
 }
 
-impl StandsFor<Fields> for SubstringFilter {
+impl Represents<Fields> for SubstringFilter {
     ghost value_of = { λ v. (v.attribute_type, (v.substrings, tt)) };
 
     fn from_value((attribute_type, (substrings, ())): Fields) -> SubstringFilter {
@@ -57,7 +57,7 @@ impl Notation for SubstringFilter {
 
     type Inner = ();
 
-    ghost means = { stands_for ⟦<SubstringFilter as StandsFor<Fields>>⟧.value_of ⟦<Sequence<Parts> as Notation>⟧.means };
+    ghost means = { represented_by ⟦<SubstringFilter as Represents<Fields>>⟧.value_of ⟦<Sequence<Parts> as Notation>⟧.means };
 
     fn has_tag(tag: Tag) -> bool {
         tag == TAG_SEQUENCE
@@ -71,17 +71,17 @@ impl Notation for SubstringFilter {
         Sequence::<Parts>::write_fields((&value.attribute_type, (&value.substrings, ())), writer)
     }
 
-    ghost keeps = { λ _. standing_keeps ⟦<SubstringFilter as StandsFor<Fields>>⟧.value_of
+    ghost lawful = { λ _. represented_lawful ⟦<SubstringFilter as Represents<Fields>>⟧.value_of
         (in_sequence (part (octets refl).own (part (not_empty (in_sequence_of (substring refl).own)).own no_parts))) };
 
-    ghost filled = { λ u m v. element_filled _ _ _ _ };
+    ghost non_empty = { λ u m v. element_non_empty _ _ _ _ };
 }
 
 impl Message for SubstringFilter {
-    ghost told_apart = { refl };
+    ghost is_unambiguous = { refl };
 }
 
 impl CanonicalNotation for SubstringFilter {
-    ghost written = { λ _. standing_written ⟦<SubstringFilter as StandsFor<Fields>>⟧.value_of (sequence_written (part_written (octets_written
-        refl).own (part_written (filled_list_written (sequence_of_written (substring_written refl).own)).own no_part_written))) };
+    ghost written = { λ _. represented_written ⟦<SubstringFilter as Represents<Fields>>⟧.value_of (sequence_written (part_written (octets_written
+        refl).own (part_written (non_empty_list_written (sequence_of_written (substring_written refl).own)).own no_part_written))) };
 }

@@ -1,5 +1,5 @@
-//! How the fields of a SEQUENCE are written where another tag stands in place of its own (X.690, 8.14).
-ghost use Rattle.yasna_base.specs.Canonical.{enclosed_form};
+//! How the fields of a SEQUENCE are written where another tag is in place of its own (X.690, 8.14).
+ghost use Rattle.yasna_base.specs.Canonical.{enclosed_encoding};
 ghost use Rattle.yasna_base.specs.Identifier.{tag_or};
 ghost use Rattle.yasna.specs.Words.{Writes};
 ghost use Rattle.yasna_notation.specs.Parts.{WrittenAlike};
@@ -14,8 +14,8 @@ pub(crate) fn write_tagged_fields<
     R: Drop,
 >(fields: R, writer: DERWriter<'_>) -> ASN1Result<()>
     requires can { P.can (P.held fields) }
-    requires alike { WrittenAlike P.form P.can P.form_by P.can_by }
-    ensures { Writes (enclosed_form P.form (tag_or writer.old.tag T.tag) writer.old.mode (P.held fields)) writer.old writer.new result }
+    requires alike { WrittenAlike P.encoding P.can P.encoding_by P.can_by }
+    ensures { Writes (enclosed_encoding P.encoding (tag_or writer.old.tag T.tag) writer.old.mode (P.held fields)) writer.old writer.new result }
 {
     writer.write_tagged_implicit(T::tag(), |inner| Sequence::<P>::write_fields(fields, inner))
 }

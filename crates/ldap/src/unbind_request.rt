@@ -5,17 +5,17 @@
 //! ```
 ghost use Rattle.std.specs.Prelude.{◌≡◌, refl};
 ghost use Rattle.std.proofs.Common.{arith};
-ghost use Rattle.yasna_notation.specs.Laws.{standing_keeps, element_filled};
+ghost use Rattle.yasna_notation.specs.Laws.{represented_lawful, element_non_empty};
 ghost use Rattle.yasna_notation.specs.Making.{in_application};
-ghost use Rattle.yasna_notation.specs.Notation.{stands_for};
-ghost use Rattle.yasna_notation.specs.contracts.simple.UnitNotation.TheImpl.Laws.{keeps-law as null};
-ghost use Rattle.yasna_notation.specs.Canonical.{standing_written};
+ghost use Rattle.yasna_notation.specs.Notation.{represented_by};
+ghost use Rattle.yasna_notation.specs.contracts.simple.UnitNotation.TheImpl.Laws.{lawful-law as null};
+ghost use Rattle.yasna_notation.specs.Canonical.{represented_written};
 ghost use Rattle.yasna_notation.specs.Writing.{under_application};
 ghost use Rattle.yasna_notation.specs.contracts.canonical.UnitCanonicalNotation.TheImpl.Laws.{written-law as null_written};
 
 use yasna::{ASN1Result, BERReader, DERWriter, Tag};
 use yasna_notation::{
-    Application, CanonicalNotation, Implicit, Message, Notation, StandsFor, read_as,
+    Application, CanonicalNotation, Implicit, Message, Notation, Represents, read_as,
 };
 
 type Notated = Implicit<Application<2>, ()>;
@@ -24,7 +24,7 @@ type Notated = Implicit<Application<2>, ()>;
 #[derive(Drop)]
 pub struct UnbindRequest;
 
-impl StandsFor<()> for UnbindRequest {
+impl Represents<()> for UnbindRequest {
     ghost value_of = { λ v. tt };
 
     fn from_value(_value: ()) -> UnbindRequest {
@@ -37,7 +37,7 @@ impl Notation for UnbindRequest {
 
     type Inner = ();
 
-    ghost means = { stands_for ⟦<UnbindRequest as StandsFor<()>>⟧.value_of ⟦<Notated as Notation>⟧.means };
+    ghost means = { represented_by ⟦<UnbindRequest as Represents<()>>⟧.value_of ⟦<Notated as Notation>⟧.means };
 
     fn has_tag(tag: Tag) -> bool {
         tag == Tag::application(2)
@@ -51,16 +51,16 @@ impl Notation for UnbindRequest {
         Notated::write(&(), writer)
     }
 
-    ghost keeps = { λ _. standing_keeps ⟦<UnbindRequest as StandsFor<()>>⟧.value_of
+    ghost lawful = { λ _. represented_lawful ⟦<UnbindRequest as Represents<()>>⟧.value_of
         (in_application 2 (omega arith) (null refl)) };
 
-    ghost filled = { λ u m v. element_filled _ _ _ _ };
+    ghost non_empty = { λ u m v. element_non_empty _ _ _ _ };
 }
 
 impl Message for UnbindRequest {
-    ghost told_apart = { refl };
+    ghost is_unambiguous = { refl };
 }
 
 impl CanonicalNotation for UnbindRequest {
-    ghost written = { λ _. standing_written ⟦<UnbindRequest as StandsFor<()>>⟧.value_of (under_application 2 (omega arith) (null_written refl)) };
+    ghost written = { λ _. represented_written ⟦<UnbindRequest as Represents<()>>⟧.value_of (under_application 2 (omega arith) (null_written refl)) };
 }

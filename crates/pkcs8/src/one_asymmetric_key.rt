@@ -19,25 +19,25 @@
 //! Attributes ::= SET OF Attribute
 //! ```
 //!
-//! That v2 stands where there is a public key, and v1 where there is none, is no rule of the notation.
+//! That v2 is where there is a public key, and v1 where there is none, is no rule of the notation.
 ghost use Rattle.std.specs.Prelude.{◌≡◌, refl};
 ghost use Rattle.std.proofs.Common.{arith};
-ghost use Rattle.yasna_notation.specs.Laws.{standing_keeps, element_filled};
+ghost use Rattle.yasna_notation.specs.Laws.{represented_lawful, element_non_empty};
 ghost use Rattle.yasna_notation.specs.Making.{in_sequence, in_set_of, part, optional_part, in_implicit, at_most};
-ghost use Rattle.yasna_notation.specs.Notation.{stands_for};
+ghost use Rattle.yasna_notation.specs.Notation.{represented_by};
 ghost use Rattle.yasna_notation.specs.Parts.{no_parts};
-ghost use Rattle.yasna_notation.specs.contracts.simple.U64Notation.TheImpl.Laws.{keeps-law as number};
-ghost use Rattle.yasna_notation.specs.contracts.strings.VecU8Notation.TheImpl.Laws.{keeps-law as octets};
-ghost use Rattle.yasna_notation.specs.contracts.strings.BitStringNotation.TheImpl.Laws.{keeps-law as bits};
-ghost use Rattle.x509.specs.contracts.algorithm.AlgorithmIdentifierNotation.TheImpl.Laws.{keeps-law as algorithm};
-ghost use Rattle.x509.specs.contracts.attribute.AttributeNotation.TheImpl.Laws.{keeps-law as attribute};
+ghost use Rattle.yasna_notation.specs.contracts.simple.U64Notation.TheImpl.Laws.{lawful-law as number};
+ghost use Rattle.yasna_notation.specs.contracts.strings.VecU8Notation.TheImpl.Laws.{lawful-law as octets};
+ghost use Rattle.yasna_notation.specs.contracts.strings.BitStringNotation.TheImpl.Laws.{lawful-law as bits};
+ghost use Rattle.x509.specs.contracts.algorithm.AlgorithmIdentifierNotation.TheImpl.Laws.{lawful-law as algorithm};
+ghost use Rattle.x509.specs.contracts.attribute.AttributeNotation.TheImpl.Laws.{lawful-law as attribute};
 
 use x509::{AlgorithmIdentifier, Attribute};
 use yasna::tags::TAG_SEQUENCE;
 use yasna::{ASN1Result, BERReader, DERWriter, Tag};
 use yasna_notation::{
-    AtMost, BitString, Bounded, Context, Implicit, Message, Notation, Optional, Sequence, SetOf,
-    StandsFor, read_as,
+    AtMost, BitString, Bounded, Context, Implicit, Message, Notation, Optional, Represents,
+    Sequence, SetOf, read_as,
 };
 
 type Version = Bounded<u64, AtMost<1>>;
@@ -68,7 +68,7 @@ pub struct OneAsymmetricKey {
     pub public_key: Option<(Vec<u8>, usize)>,
 }
 
-impl StandsFor<Fields> for OneAsymmetricKey {
+impl Represents<Fields> for OneAsymmetricKey {
     ghost value_of = { λ v. (v.version, (v.private_key_algorithm, (v.private_key, (v.attributes, (v.public_key, tt))))) };
 
     fn from_value(
@@ -90,7 +90,7 @@ impl Notation for OneAsymmetricKey {
 
     type Inner = ();
 
-    ghost means = { stands_for ⟦<OneAsymmetricKey as StandsFor<Fields>>⟧.value_of ⟦<Sequence<Parts> as Notation>⟧.means };
+    ghost means = { represented_by ⟦<OneAsymmetricKey as Represents<Fields>>⟧.value_of ⟦<Sequence<Parts> as Notation>⟧.means };
 
     fn has_tag(tag: Tag) -> bool {
         tag == TAG_SEQUENCE
@@ -116,14 +116,14 @@ impl Notation for OneAsymmetricKey {
         )
     }
 
-    ghost keeps = { λ _. standing_keeps ⟦<OneAsymmetricKey as StandsFor<Fields>>⟧.value_of
+    ghost lawful = { λ _. represented_lawful ⟦<OneAsymmetricKey as Represents<Fields>>⟧.value_of
         (in_sequence (part (at_most 1 (number refl)).own (part (algorithm refl).own (part (octets refl).own
         (optional_part refl (in_implicit 0 (omega arith) (in_set_of (attribute refl).own)).own
         (optional_part refl (in_implicit 1 (omega arith) (bits refl)).own no_parts)))))) };
 
-    ghost filled = { λ u m v. element_filled _ _ _ _ };
+    ghost non_empty = { λ u m v. element_non_empty _ _ _ _ };
 }
 
 impl Message for OneAsymmetricKey {
-    ghost told_apart = { refl };
+    ghost is_unambiguous = { refl };
 }

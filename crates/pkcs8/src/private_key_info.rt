@@ -13,20 +13,20 @@
 //! ```
 ghost use Rattle.std.specs.Prelude.{◌≡◌, refl};
 ghost use Rattle.std.proofs.Common.{arith};
-ghost use Rattle.yasna_notation.specs.Laws.{standing_keeps, element_filled};
+ghost use Rattle.yasna_notation.specs.Laws.{represented_lawful, element_non_empty};
 ghost use Rattle.yasna_notation.specs.Making.{in_sequence, in_set_of, part, optional_part, in_implicit, at_most};
-ghost use Rattle.yasna_notation.specs.Notation.{stands_for};
+ghost use Rattle.yasna_notation.specs.Notation.{represented_by};
 ghost use Rattle.yasna_notation.specs.Parts.{no_parts};
-ghost use Rattle.yasna_notation.specs.contracts.simple.U64Notation.TheImpl.Laws.{keeps-law as number};
-ghost use Rattle.yasna_notation.specs.contracts.strings.VecU8Notation.TheImpl.Laws.{keeps-law as octets};
-ghost use Rattle.x509.specs.contracts.algorithm.AlgorithmIdentifierNotation.TheImpl.Laws.{keeps-law as algorithm};
-ghost use Rattle.x509.specs.contracts.attribute.AttributeNotation.TheImpl.Laws.{keeps-law as attribute};
+ghost use Rattle.yasna_notation.specs.contracts.simple.U64Notation.TheImpl.Laws.{lawful-law as number};
+ghost use Rattle.yasna_notation.specs.contracts.strings.VecU8Notation.TheImpl.Laws.{lawful-law as octets};
+ghost use Rattle.x509.specs.contracts.algorithm.AlgorithmIdentifierNotation.TheImpl.Laws.{lawful-law as algorithm};
+ghost use Rattle.x509.specs.contracts.attribute.AttributeNotation.TheImpl.Laws.{lawful-law as attribute};
 
 use x509::{AlgorithmIdentifier, Attribute};
 use yasna::tags::TAG_SEQUENCE;
 use yasna::{ASN1Result, BERReader, DERWriter, Tag};
 use yasna_notation::{
-    AtMost, Bounded, Context, Implicit, Message, Notation, Optional, Sequence, SetOf, StandsFor,
+    AtMost, Bounded, Context, Implicit, Message, Notation, Optional, Represents, Sequence, SetOf,
     read_as,
 };
 
@@ -53,7 +53,7 @@ pub struct PrivateKeyInfo {
     pub attributes: Option<Vec<Attribute>>,
 }
 
-impl StandsFor<Fields> for PrivateKeyInfo {
+impl Represents<Fields> for PrivateKeyInfo {
     ghost value_of = { λ v. (v.version, (v.private_key_algorithm, (v.private_key, (v.attributes, tt)))) };
 
     fn from_value(
@@ -73,7 +73,7 @@ impl Notation for PrivateKeyInfo {
 
     type Inner = ();
 
-    ghost means = { stands_for ⟦<PrivateKeyInfo as StandsFor<Fields>>⟧.value_of ⟦<Sequence<Parts> as Notation>⟧.means };
+    ghost means = { represented_by ⟦<PrivateKeyInfo as Represents<Fields>>⟧.value_of ⟦<Sequence<Parts> as Notation>⟧.means };
 
     fn has_tag(tag: Tag) -> bool {
         tag == TAG_SEQUENCE
@@ -96,13 +96,13 @@ impl Notation for PrivateKeyInfo {
         )
     }
 
-    ghost keeps = { λ _. standing_keeps ⟦<PrivateKeyInfo as StandsFor<Fields>>⟧.value_of
+    ghost lawful = { λ _. represented_lawful ⟦<PrivateKeyInfo as Represents<Fields>>⟧.value_of
         (in_sequence (part (at_most 0 (number refl)).own (part (algorithm refl).own (part (octets refl).own
         (optional_part refl (in_implicit 0 (omega arith) (in_set_of (attribute refl).own)).own no_parts))))) };
 
-    ghost filled = { λ u m v. element_filled _ _ _ _ };
+    ghost non_empty = { λ u m v. element_non_empty _ _ _ _ };
 }
 
 impl Message for PrivateKeyInfo {
-    ghost told_apart = { refl };
+    ghost is_unambiguous = { refl };
 }

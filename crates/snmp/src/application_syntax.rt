@@ -19,17 +19,17 @@
 //! ```
 ghost use Rattle.std.specs.Prelude.{◌≡◌, Some, refl};
 ghost use Rattle.std.proofs.Common.{arith};
-ghost use Rattle.yasna_notation.specs.Canonical.{standing_written, choice_written_as};
-ghost use Rattle.yasna_notation.specs.Laws.{standing_keeps};
-ghost use Rattle.yasna_notation.specs.Making.{alternative, alternative_filled, in_application, in_choice, exactly, octets_sized};
+ghost use Rattle.yasna_notation.specs.Canonical.{represented_written, choice_written_as};
+ghost use Rattle.yasna_notation.specs.Laws.{represented_lawful};
+ghost use Rattle.yasna_notation.specs.Making.{alternative, alternative_non_empty, in_application, in_choice, exactly, octets_sized};
 ghost use Rattle.yasna_notation.specs.Making.{application, tag_or};
-ghost use Rattle.yasna_notation.specs.Notation.{stands_for};
+ghost use Rattle.yasna_notation.specs.Notation.{represented_by};
 ghost use Rattle.yasna_notation.specs.Writing.{alternative_written, under_application, octets_sized_written};
-ghost use Rattle.yasna_notation.specs.contracts.simple.U32Notation.TheImpl.Laws.{keeps-law as count32, filled-law as count32_filled};
+ghost use Rattle.yasna_notation.specs.contracts.simple.U32Notation.TheImpl.Laws.{lawful-law as count32, non_empty-law as count32_non_empty};
 ghost use Rattle.yasna_notation.specs.contracts.canonical.U32CanonicalNotation.TheImpl.Laws.{written-law as count32_written};
-ghost use Rattle.yasna_notation.specs.contracts.simple.U64Notation.TheImpl.Laws.{keeps-law as count64, filled-law as count64_filled};
+ghost use Rattle.yasna_notation.specs.contracts.simple.U64Notation.TheImpl.Laws.{lawful-law as count64, non_empty-law as count64_non_empty};
 ghost use Rattle.yasna_notation.specs.contracts.canonical.U64CanonicalNotation.TheImpl.Laws.{written-law as count64_written};
-ghost use Rattle.yasna_notation.specs.contracts.strings.VecU8Notation.TheImpl.Laws.{keeps-law as octets, filled-law as octets_filled};
+ghost use Rattle.yasna_notation.specs.contracts.strings.VecU8Notation.TheImpl.Laws.{lawful-law as octets, non_empty-law as octets_non_empty};
 ghost use Rattle.yasna_notation.specs.contracts.canonical.VecU8CanonicalNotation.TheImpl.Laws.{written-law as octets_written};
 ghost use Rattle.yasna_notation.specs.declared.choices.Either.TheVariants.{First, Second};
 ghost use Rattle.snmp.specs.declared.application_syntax.ApplicationSyntax.TheVariants.{IpAddressValue, CounterValue, TimeTicksValue, ArbitraryValue, BigCounterValue, UnsignedIntegerValue};
@@ -38,7 +38,7 @@ use yasna::{ASN1Result, BERReader, DERWriter, Tag};
 use yasna_notation::Either::{First, Second};
 use yasna_notation::{
     Alternatives, Application, Bounded, CanonicalNotation, Choice, Either, Implicit, Message,
-    Notation, Size, StandsFor, read_as,
+    Notation, Represents, Size, read_as,
 };
 
 type IpAddress = Implicit<Application<0>, Bounded<Vec<u8>, Size<4>>>;
@@ -73,7 +73,7 @@ pub enum ApplicationSyntax {
     UnsignedIntegerValue(u32),
 }
 
-impl StandsFor<Sides> for ApplicationSyntax {
+impl Represents<Sides> for ApplicationSyntax {
     ghost value_of = { λ v. elim v [
       | IpAddressValue x ↦ First x
       | CounterValue x ↦ Second (First x)
@@ -103,7 +103,7 @@ impl Notation for ApplicationSyntax {
 
     type Inner = ();
 
-    ghost means = { stands_for ⟦<ApplicationSyntax as StandsFor<Sides>>⟧.value_of ⟦<Choice<Types> as Notation>⟧.means };
+    ghost means = { represented_by ⟦<ApplicationSyntax as Represents<Sides>>⟧.value_of ⟦<Choice<Types> as Notation>⟧.means };
 
     fn has_tag(tag: Tag) -> bool {
         <Types as Alternatives>::has_tag(tag)
@@ -132,24 +132,24 @@ impl Notation for ApplicationSyntax {
         }
     }
 
-    ghost keeps = { λ _. standing_keeps ⟦<ApplicationSyntax as StandsFor<Sides>>⟧.value_of (in_choice ⟦<Choice<Types> as Notation>⟧.means.form_under
+    ghost lawful = { λ _. represented_lawful ⟦<ApplicationSyntax as Represents<Sides>>⟧.value_of (in_choice ⟦<Choice<Types> as Notation>⟧.means.encoding_under
         (alternative (in_application 0 (omega arith) (octets_sized (exactly 4) (octets refl))).own refl
         (alternative (in_application 1 (omega arith) (count32 refl)).own refl (alternative (in_application 3 (omega arith) (count32 refl)).own refl
         (alternative (in_application 4 (omega arith) (octets refl)).own refl
         (alternative (in_application 6 (omega arith) (count64 refl)).own refl (in_application 2 (omega arith) (count32 refl)).own)))))) };
 
-    ghost filled = { λ u m v.
-        alternative_filled (octets_filled (Some (tag_or u (application 0)))) (alternative_filled (count32_filled (Some (tag_or u (application 1))))
-        (alternative_filled (count32_filled (Some (tag_or u (application 3)))) (alternative_filled (octets_filled (Some (tag_or u (application 4))))
-        (alternative_filled (count64_filled (Some (tag_or u (application 6)))) (count32_filled (Some (tag_or u (application 2)))))))) m (⟦<ApplicationSyntax as StandsFor<Sides>>⟧.value_of v) };
+    ghost non_empty = { λ u m v.
+        alternative_non_empty (octets_non_empty (Some (tag_or u (application 0)))) (alternative_non_empty (count32_non_empty (Some (tag_or u (application 1))))
+        (alternative_non_empty (count32_non_empty (Some (tag_or u (application 3)))) (alternative_non_empty (octets_non_empty (Some (tag_or u (application 4))))
+        (alternative_non_empty (count64_non_empty (Some (tag_or u (application 6)))) (count32_non_empty (Some (tag_or u (application 2)))))))) m (⟦<ApplicationSyntax as Represents<Sides>>⟧.value_of v) };
 }
 
 impl Message for ApplicationSyntax {
-    ghost told_apart = { refl };
+    ghost is_unambiguous = { refl };
 }
 
 impl CanonicalNotation for ApplicationSyntax {
-    ghost written = { λ _. standing_written ⟦<ApplicationSyntax as StandsFor<Sides>>⟧.value_of (choice_written_as ⟦<Choice<Types> as Notation>⟧.means.form_under
+    ghost written = { λ _. represented_written ⟦<ApplicationSyntax as Represents<Sides>>⟧.value_of (choice_written_as ⟦<Choice<Types> as Notation>⟧.means.encoding_under
         (alternative_written (under_application 0 (omega arith) (octets_sized_written (exactly 4) (octets_written refl))).own
         (alternative_written (under_application 1 (omega arith) (count32_written refl)).own
         (alternative_written (under_application 3 (omega arith) (count32_written refl)).own

@@ -7,16 +7,16 @@
 //!     objectID-value  OBJECT IDENTIFIER }
 //! ```
 ghost use Rattle.std.specs.Prelude.{◌≡◌, nat_lt, not, refl};
-ghost use Rattle.yasna_notation.specs.Canonical.{standing_written, choice_written_as};
-ghost use Rattle.yasna_notation.specs.Laws.{standing_keeps};
-ghost use Rattle.yasna_notation.specs.Making.{alternative, alternative_filled, in_choice, octets_sized};
-ghost use Rattle.yasna_notation.specs.Notation.{stands_for};
+ghost use Rattle.yasna_notation.specs.Canonical.{represented_written, choice_written_as};
+ghost use Rattle.yasna_notation.specs.Laws.{represented_lawful};
+ghost use Rattle.yasna_notation.specs.Making.{alternative, alternative_non_empty, in_choice, octets_sized};
+ghost use Rattle.yasna_notation.specs.Notation.{represented_by};
 ghost use Rattle.yasna_notation.specs.Writing.{alternative_written, octets_sized_written};
-ghost use Rattle.yasna_notation.specs.contracts.simple.I32Notation.TheImpl.Laws.{keeps-law as int32, filled-law as int32_filled};
+ghost use Rattle.yasna_notation.specs.contracts.simple.I32Notation.TheImpl.Laws.{lawful-law as int32, non_empty-law as int32_non_empty};
 ghost use Rattle.yasna_notation.specs.contracts.canonical.I32CanonicalNotation.TheImpl.Laws.{written-law as int32_written};
-ghost use Rattle.yasna_notation.specs.contracts.strings.VecU8Notation.TheImpl.Laws.{keeps-law as octets, filled-law as octets_filled};
+ghost use Rattle.yasna_notation.specs.contracts.strings.VecU8Notation.TheImpl.Laws.{lawful-law as octets, non_empty-law as octets_non_empty};
 ghost use Rattle.yasna_notation.specs.contracts.canonical.VecU8CanonicalNotation.TheImpl.Laws.{written-law as octets_written};
-ghost use Rattle.yasna_notation.specs.contracts.simple.ObjectIdentifierNotation.TheImpl.Laws.{keeps-law as oid, filled-law as oid_filled};
+ghost use Rattle.yasna_notation.specs.contracts.simple.ObjectIdentifierNotation.TheImpl.Laws.{lawful-law as oid, non_empty-law as oid_non_empty};
 ghost use Rattle.yasna_notation.specs.contracts.canonical.ObjectIdentifierCanonicalNotation.TheImpl.Laws.{written-law as oid_written};
 ghost use Rattle.yasna_notation.specs.declared.choices.Either.TheVariants.{First, Second};
 ghost use Rattle.snmp.specs.declared.simple_syntax.SimpleSyntax.TheVariants.{IntegerValue, StringValue, ObjectIdValue};
@@ -25,8 +25,8 @@ use yasna::models::ObjectIdentifier;
 use yasna::{ASN1Result, BERReader, DERWriter, Tag};
 use yasna_notation::Either::{First, Second};
 use yasna_notation::{
-    Alternatives, Bounded, CanonicalNotation, Choice, Either, Message, Notation, SizeAtMost,
-    StandsFor, read_as,
+    Alternatives, Bounded, CanonicalNotation, Choice, Either, Message, Notation, Represents,
+    SizeAtMost, read_as,
 };
 
 type StringNotation = Bounded<Vec<u8>, SizeAtMost<65535>>;
@@ -44,7 +44,7 @@ pub enum SimpleSyntax {
     ObjectIdValue(ObjectIdentifier),
 }
 
-impl StandsFor<Sides> for SimpleSyntax {
+impl Represents<Sides> for SimpleSyntax {
     ghost value_of = { λ v. elim v [
       | IntegerValue x ↦ First x
       | StringValue x ↦ Second (First x)
@@ -65,7 +65,7 @@ impl Notation for SimpleSyntax {
 
     type Inner = ();
 
-    ghost means = { stands_for ⟦<SimpleSyntax as StandsFor<Sides>>⟧.value_of ⟦<Choice<Types> as Notation>⟧.means };
+    ghost means = { represented_by ⟦<SimpleSyntax as Represents<Sides>>⟧.value_of ⟦<Choice<Types> as Notation>⟧.means };
 
     fn has_tag(tag: Tag) -> bool {
         <Types as Alternatives>::has_tag(tag)
@@ -85,20 +85,20 @@ impl Notation for SimpleSyntax {
         }
     }
 
-    ghost keeps = { λ _. standing_keeps ⟦<SimpleSyntax as StandsFor<Sides>>⟧.value_of (in_choice ⟦<Choice<Types> as Notation>⟧.means.form_under
+    ghost lawful = { λ _. represented_lawful ⟦<SimpleSyntax as Represents<Sides>>⟧.value_of (in_choice ⟦<Choice<Types> as Notation>⟧.means.encoding_under
         (alternative (int32 refl).own refl
         (alternative (octets_sized (λ k. not (nat_lt 65535 k)) (octets refl)).own refl (oid refl).own))) };
 
-    ghost filled = { λ u m v.
-        alternative_filled (int32_filled u) (alternative_filled (octets_filled u) (oid_filled u)) m (⟦<SimpleSyntax as StandsFor<Sides>>⟧.value_of v) };
+    ghost non_empty = { λ u m v.
+        alternative_non_empty (int32_non_empty u) (alternative_non_empty (octets_non_empty u) (oid_non_empty u)) m (⟦<SimpleSyntax as Represents<Sides>>⟧.value_of v) };
 }
 
 impl Message for SimpleSyntax {
-    ghost told_apart = { refl };
+    ghost is_unambiguous = { refl };
 }
 
 impl CanonicalNotation for SimpleSyntax {
-    ghost written = { λ _. standing_written ⟦<SimpleSyntax as StandsFor<Sides>>⟧.value_of (choice_written_as ⟦<Choice<Types> as Notation>⟧.means.form_under
+    ghost written = { λ _. represented_written ⟦<SimpleSyntax as Represents<Sides>>⟧.value_of (choice_written_as ⟦<Choice<Types> as Notation>⟧.means.encoding_under
         (alternative_written (int32_written refl).own
         (alternative_written (octets_sized_written (λ k. not (nat_lt 65535 k)) (octets_written refl)).own (oid_written refl).own))) };
 }

@@ -6,17 +6,17 @@
 //!     parameters  ANY DEFINED BY algorithm OPTIONAL }
 //! ```
 ghost use Rattle.std.specs.Prelude.{◌≡◌, refl};
-ghost use Rattle.yasna_notation.specs.Laws.{standing_keeps, element_filled};
+ghost use Rattle.yasna_notation.specs.Laws.{represented_lawful, element_non_empty};
 ghost use Rattle.yasna_notation.specs.Making.{in_sequence, part};
-ghost use Rattle.yasna_notation.specs.Notation.{stands_for};
+ghost use Rattle.yasna_notation.specs.Notation.{represented_by};
 ghost use Rattle.yasna_notation.specs.Parts.{last_part_laws};
-ghost use Rattle.yasna_notation.specs.contracts.simple.ObjectIdentifierNotation.TheImpl.Laws.{keeps-law as oid};
-ghost use Rattle.yasna_notation.specs.contracts.any.TaggedDerValueNotation.TheImpl.Laws.{keeps-law as any};
+ghost use Rattle.yasna_notation.specs.contracts.simple.ObjectIdentifierNotation.TheImpl.Laws.{lawful-law as oid};
+ghost use Rattle.yasna_notation.specs.contracts.any.TaggedDerValueNotation.TheImpl.Laws.{lawful-law as any};
 
 use yasna::models::{ObjectIdentifier, TaggedDerValue};
 use yasna::tags::TAG_SEQUENCE;
 use yasna::{ASN1Result, BERReader, DERWriter, Tag};
-use yasna_notation::{Last, Message, Notation, Sequence, StandsFor, read_as};
+use yasna_notation::{Last, Message, Notation, Represents, Sequence, read_as};
 
 type Parts = (ObjectIdentifier, Last<TaggedDerValue>);
 
@@ -29,7 +29,7 @@ pub struct AlgorithmIdentifier {
     pub parameters: Option<TaggedDerValue>,
 }
 
-impl StandsFor<Fields> for AlgorithmIdentifier {
+impl Represents<Fields> for AlgorithmIdentifier {
     ghost value_of = { λ v. (v.algorithm, v.parameters) };
 
     fn from_value((algorithm, parameters): Fields) -> AlgorithmIdentifier {
@@ -45,7 +45,7 @@ impl Notation for AlgorithmIdentifier {
 
     type Inner = ();
 
-    ghost means = { stands_for ⟦<AlgorithmIdentifier as StandsFor<Fields>>⟧.value_of ⟦<Sequence<Parts> as Notation>⟧.means };
+    ghost means = { represented_by ⟦<AlgorithmIdentifier as Represents<Fields>>⟧.value_of ⟦<Sequence<Parts> as Notation>⟧.means };
 
     fn has_tag(tag: Tag) -> bool {
         tag == TAG_SEQUENCE
@@ -59,12 +59,12 @@ impl Notation for AlgorithmIdentifier {
         Sequence::<Parts>::write_fields((&value.algorithm, &value.parameters), writer)
     }
 
-    ghost keeps = { λ _. standing_keeps ⟦<AlgorithmIdentifier as StandsFor<Fields>>⟧.value_of (in_sequence
+    ghost lawful = { λ _. represented_lawful ⟦<AlgorithmIdentifier as Represents<Fields>>⟧.value_of (in_sequence
         (part (oid refl).own (last_part_laws (any refl).own))) };
 
-    ghost filled = { λ u m v. element_filled _ _ _ _ };
+    ghost non_empty = { λ u m v. element_non_empty _ _ _ _ };
 }
 
 impl Message for AlgorithmIdentifier {
-    ghost told_apart = { refl };
+    ghost is_unambiguous = { refl };
 }

@@ -6,17 +6,17 @@
 //!     values  SET OF ANY DEFINED BY type }
 //! ```
 ghost use Rattle.std.specs.Prelude.{◌≡◌, refl};
-ghost use Rattle.yasna_notation.specs.Laws.{standing_keeps, element_filled};
+ghost use Rattle.yasna_notation.specs.Laws.{represented_lawful, element_non_empty};
 ghost use Rattle.yasna_notation.specs.Making.{in_sequence, in_set_of, part};
-ghost use Rattle.yasna_notation.specs.Notation.{stands_for};
+ghost use Rattle.yasna_notation.specs.Notation.{represented_by};
 ghost use Rattle.yasna_notation.specs.Parts.{no_parts};
-ghost use Rattle.yasna_notation.specs.contracts.simple.ObjectIdentifierNotation.TheImpl.Laws.{keeps-law as oid};
-ghost use Rattle.yasna_notation.specs.contracts.any.TaggedDerValueNotation.TheImpl.Laws.{keeps-law as any};
+ghost use Rattle.yasna_notation.specs.contracts.simple.ObjectIdentifierNotation.TheImpl.Laws.{lawful-law as oid};
+ghost use Rattle.yasna_notation.specs.contracts.any.TaggedDerValueNotation.TheImpl.Laws.{lawful-law as any};
 
 use yasna::models::{ObjectIdentifier, TaggedDerValue};
 use yasna::tags::TAG_SEQUENCE;
 use yasna::{ASN1Result, BERReader, DERWriter, Tag};
-use yasna_notation::{Message, Notation, Sequence, SetOf, StandsFor, read_as};
+use yasna_notation::{Message, Notation, Represents, Sequence, SetOf, read_as};
 
 type Parts = (ObjectIdentifier, (SetOf<TaggedDerValue>, ()));
 
@@ -29,7 +29,7 @@ pub struct Attribute {
     pub values: Vec<TaggedDerValue>,
 }
 
-impl StandsFor<Fields> for Attribute {
+impl Represents<Fields> for Attribute {
     ghost value_of = { λ v. (v.attribute_type, (v.values, tt)) };
 
     fn from_value((attribute_type, (values, ())): Fields) -> Attribute {
@@ -45,7 +45,7 @@ impl Notation for Attribute {
 
     type Inner = ();
 
-    ghost means = { stands_for ⟦<Attribute as StandsFor<Fields>>⟧.value_of ⟦<Sequence<Parts> as Notation>⟧.means };
+    ghost means = { represented_by ⟦<Attribute as Represents<Fields>>⟧.value_of ⟦<Sequence<Parts> as Notation>⟧.means };
 
     fn has_tag(tag: Tag) -> bool {
         tag == TAG_SEQUENCE
@@ -59,12 +59,12 @@ impl Notation for Attribute {
         Sequence::<Parts>::write_fields((&value.attribute_type, (&value.values, ())), writer)
     }
 
-    ghost keeps = { λ _. standing_keeps ⟦<Attribute as StandsFor<Fields>>⟧.value_of (in_sequence (part (oid refl).own
+    ghost lawful = { λ _. represented_lawful ⟦<Attribute as Represents<Fields>>⟧.value_of (in_sequence (part (oid refl).own
         (part (in_set_of (any refl).own).own no_parts))) };
 
-    ghost filled = { λ u m v. element_filled _ _ _ _ };
+    ghost non_empty = { λ u m v. element_non_empty _ _ _ _ };
 }
 
 impl Message for Attribute {
-    ghost told_apart = { refl };
+    ghost is_unambiguous = { refl };
 }

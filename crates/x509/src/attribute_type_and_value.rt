@@ -6,17 +6,17 @@
 //!     value  ANY DEFINED BY type }
 //! ```
 ghost use Rattle.std.specs.Prelude.{◌≡◌, refl};
-ghost use Rattle.yasna_notation.specs.Laws.{standing_keeps, element_filled};
+ghost use Rattle.yasna_notation.specs.Laws.{represented_lawful, element_non_empty};
 ghost use Rattle.yasna_notation.specs.Making.{in_sequence, part};
-ghost use Rattle.yasna_notation.specs.Notation.{stands_for};
+ghost use Rattle.yasna_notation.specs.Notation.{represented_by};
 ghost use Rattle.yasna_notation.specs.Parts.{no_parts};
-ghost use Rattle.yasna_notation.specs.contracts.any.TaggedDerValueNotation.TheImpl.Laws.{keeps-law as any};
-ghost use Rattle.yasna_notation.specs.contracts.simple.ObjectIdentifierNotation.TheImpl.Laws.{keeps-law as oid};
+ghost use Rattle.yasna_notation.specs.contracts.any.TaggedDerValueNotation.TheImpl.Laws.{lawful-law as any};
+ghost use Rattle.yasna_notation.specs.contracts.simple.ObjectIdentifierNotation.TheImpl.Laws.{lawful-law as oid};
 
 use yasna::models::{ObjectIdentifier, TaggedDerValue};
 use yasna::tags::TAG_SEQUENCE;
 use yasna::{ASN1Result, BERReader, DERWriter, Tag};
-use yasna_notation::{Message, Notation, Sequence, StandsFor, read_as};
+use yasna_notation::{Message, Notation, Represents, Sequence, read_as};
 
 type Parts = (ObjectIdentifier, (TaggedDerValue, ()));
 
@@ -29,7 +29,7 @@ pub struct AttributeTypeAndValue {
     pub value: TaggedDerValue,
 }
 
-impl StandsFor<Fields> for AttributeTypeAndValue {
+impl Represents<Fields> for AttributeTypeAndValue {
     ghost value_of = { λ v. (v.attribute_type, (v.value, tt)) };
 
     fn from_value((attribute_type, (value, ())): Fields) -> AttributeTypeAndValue {
@@ -45,7 +45,7 @@ impl Notation for AttributeTypeAndValue {
 
     type Inner = ();
 
-    ghost means = { stands_for ⟦<AttributeTypeAndValue as StandsFor<Fields>>⟧.value_of ⟦<Sequence<Parts> as Notation>⟧.means };
+    ghost means = { represented_by ⟦<AttributeTypeAndValue as Represents<Fields>>⟧.value_of ⟦<Sequence<Parts> as Notation>⟧.means };
 
     fn has_tag(tag: Tag) -> bool {
         tag == TAG_SEQUENCE
@@ -59,12 +59,12 @@ impl Notation for AttributeTypeAndValue {
         Sequence::<Parts>::write_fields((&value.attribute_type, (&value.value, ())), writer)
     }
 
-    ghost keeps = { λ _. standing_keeps ⟦<AttributeTypeAndValue as StandsFor<Fields>>⟧.value_of
+    ghost lawful = { λ _. represented_lawful ⟦<AttributeTypeAndValue as Represents<Fields>>⟧.value_of
         (in_sequence (part (oid refl).own (part (any refl).own no_parts))) };
 
-    ghost filled = { λ u m v. element_filled _ _ _ _ };
+    ghost non_empty = { λ u m v. element_non_empty _ _ _ _ };
 }
 
 impl Message for AttributeTypeAndValue {
-    ghost told_apart = { refl };
+    ghost is_unambiguous = { refl };
 }

@@ -7,19 +7,19 @@
 //!     signatureValue      BIT STRING }
 //! ```
 ghost use Rattle.std.specs.Prelude.{◌≡◌, refl};
-ghost use Rattle.yasna_notation.specs.Laws.{standing_keeps, element_filled};
+ghost use Rattle.yasna_notation.specs.Laws.{represented_lawful, element_non_empty};
 ghost use Rattle.yasna_notation.specs.Making.{in_sequence, part};
-ghost use Rattle.yasna_notation.specs.Notation.{stands_for};
+ghost use Rattle.yasna_notation.specs.Notation.{represented_by};
 ghost use Rattle.yasna_notation.specs.Parts.{no_parts};
-ghost use Rattle.yasna_notation.specs.contracts.strings.BitStringNotation.TheImpl.Laws.{keeps-law as bits};
-ghost use Rattle.x509.specs.contracts.algorithm.AlgorithmIdentifierNotation.TheImpl.Laws.{keeps-law as algorithm};
-ghost use Rattle.x509.specs.contracts.tbs_certificate.TbsCertificateNotation.TheImpl.Laws.{keeps-law as tbs};
+ghost use Rattle.yasna_notation.specs.contracts.strings.BitStringNotation.TheImpl.Laws.{lawful-law as bits};
+ghost use Rattle.x509.specs.contracts.algorithm.AlgorithmIdentifierNotation.TheImpl.Laws.{lawful-law as algorithm};
+ghost use Rattle.x509.specs.contracts.tbs_certificate.TbsCertificateNotation.TheImpl.Laws.{lawful-law as tbs};
 
 use crate::algorithm::AlgorithmIdentifier;
 use crate::tbs_certificate::TbsCertificate;
 use yasna::tags::TAG_SEQUENCE;
 use yasna::{ASN1Result, BERReader, DERWriter, Tag};
-use yasna_notation::{BitString, Message, Notation, Sequence, StandsFor};
+use yasna_notation::{BitString, Message, Notation, Represents, Sequence};
 
 type Parts = (TbsCertificate, (AlgorithmIdentifier, (BitString, ())));
 
@@ -37,7 +37,7 @@ pub struct Certificate {
     pub signature_value: (Vec<u8>, usize),
 }
 
-impl StandsFor<Fields> for Certificate {
+impl Represents<Fields> for Certificate {
     ghost value_of = { λ v. (v.tbs_certificate, (v.signature_algorithm, (v.signature_value, tt))) };
 
     fn from_value(
@@ -56,7 +56,7 @@ impl Notation for Certificate {
 
     type Inner = ();
 
-    ghost means = { stands_for ⟦<Certificate as StandsFor<Fields>>⟧.value_of ⟦<Sequence<Parts> as Notation>⟧.means };
+    ghost means = { represented_by ⟦<Certificate as Represents<Fields>>⟧.value_of ⟦<Sequence<Parts> as Notation>⟧.means };
 
     fn has_tag(tag: Tag) -> bool {
         tag == TAG_SEQUENCE
@@ -68,7 +68,7 @@ impl Notation for Certificate {
             Ok(fields) => fields,
             Err(error) => return Err(error),
         };
-        Ok(<Certificate as StandsFor<Fields>>::from_value(fields))
+        Ok(<Certificate as Represents<Fields>>::from_value(fields))
     }
 
     fn write(value: &Certificate, writer: DERWriter<'_>) -> ASN1Result<()> {
@@ -81,12 +81,12 @@ impl Notation for Certificate {
         )
     }
 
-    ghost keeps = { λ _. standing_keeps ⟦<Certificate as StandsFor<Fields>>⟧.value_of
+    ghost lawful = { λ _. represented_lawful ⟦<Certificate as Represents<Fields>>⟧.value_of
         (in_sequence (part (tbs refl).own (part (algorithm refl).own (part (bits refl).own no_parts)))) };
 
-    ghost filled = { λ u m v. element_filled _ _ _ _ };
+    ghost non_empty = { λ u m v. element_non_empty _ _ _ _ };
 }
 
 impl Message for Certificate {
-    ghost told_apart = { refl };
+    ghost is_unambiguous = { refl };
 }

@@ -7,19 +7,19 @@
 //!     signatureValue      BIT STRING }
 //! ```
 ghost use Rattle.std.specs.Prelude.{◌≡◌, refl};
-ghost use Rattle.yasna_notation.specs.Laws.{standing_keeps, element_filled};
+ghost use Rattle.yasna_notation.specs.Laws.{represented_lawful, element_non_empty};
 ghost use Rattle.yasna_notation.specs.Making.{in_sequence, part};
-ghost use Rattle.yasna_notation.specs.Notation.{stands_for};
+ghost use Rattle.yasna_notation.specs.Notation.{represented_by};
 ghost use Rattle.yasna_notation.specs.Parts.{no_parts};
-ghost use Rattle.yasna_notation.specs.contracts.strings.BitStringNotation.TheImpl.Laws.{keeps-law as bits};
-ghost use Rattle.x509.specs.contracts.algorithm.AlgorithmIdentifierNotation.TheImpl.Laws.{keeps-law as algorithm};
-ghost use Rattle.x509.specs.contracts.tbs_cert_list.TbsCertListNotation.TheImpl.Laws.{keeps-law as tbs_list};
+ghost use Rattle.yasna_notation.specs.contracts.strings.BitStringNotation.TheImpl.Laws.{lawful-law as bits};
+ghost use Rattle.x509.specs.contracts.algorithm.AlgorithmIdentifierNotation.TheImpl.Laws.{lawful-law as algorithm};
+ghost use Rattle.x509.specs.contracts.tbs_cert_list.TbsCertListNotation.TheImpl.Laws.{lawful-law as tbs_list};
 
 use crate::algorithm::AlgorithmIdentifier;
 use crate::tbs_cert_list::TbsCertList;
 use yasna::tags::TAG_SEQUENCE;
 use yasna::{ASN1Result, BERReader, DERWriter, Tag};
-use yasna_notation::{BitString, Message, Notation, Sequence, StandsFor, read_as};
+use yasna_notation::{BitString, Message, Notation, Represents, Sequence, read_as};
 
 type Parts = (TbsCertList, (AlgorithmIdentifier, (BitString, ())));
 
@@ -34,7 +34,7 @@ pub struct CertificateList {
     pub signature_value: (Vec<u8>, usize),
 }
 
-impl StandsFor<Fields> for CertificateList {
+impl Represents<Fields> for CertificateList {
     ghost value_of = { λ v. (v.tbs_cert_list, (v.signature_algorithm, (v.signature_value, tt))) };
 
     fn from_value(
@@ -53,7 +53,7 @@ impl Notation for CertificateList {
 
     type Inner = ();
 
-    ghost means = { stands_for ⟦<CertificateList as StandsFor<Fields>>⟧.value_of ⟦<Sequence<Parts> as Notation>⟧.means };
+    ghost means = { represented_by ⟦<CertificateList as Represents<Fields>>⟧.value_of ⟦<Sequence<Parts> as Notation>⟧.means };
 
     fn has_tag(tag: Tag) -> bool {
         tag == TAG_SEQUENCE
@@ -73,12 +73,12 @@ impl Notation for CertificateList {
         )
     }
 
-    ghost keeps = { λ _. standing_keeps ⟦<CertificateList as StandsFor<Fields>>⟧.value_of
+    ghost lawful = { λ _. represented_lawful ⟦<CertificateList as Represents<Fields>>⟧.value_of
         (in_sequence (part (tbs_list refl).own (part (algorithm refl).own (part (bits refl).own no_parts)))) };
 
-    ghost filled = { λ u m v. element_filled _ _ _ _ };
+    ghost non_empty = { λ u m v. element_non_empty _ _ _ _ };
 }
 
 impl Message for CertificateList {
-    ghost told_apart = { refl };
+    ghost is_unambiguous = { refl };
 }

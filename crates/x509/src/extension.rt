@@ -10,11 +10,11 @@ ghost use Rattle.std.specs.Prelude.{◌≡◌, refl};
 
 use yasna::models::ObjectIdentifier;
 use yasna::{ASN1Result, DERWriter};
-use yasna_notation::{Default, Defined, False, Sequence};
+use yasna_notation::{Default, DefinedType, False, Sequence};
 
 type Parts = (ObjectIdentifier, (Default<bool, False>, (Vec<u8>, ())));
 
-/// An extension: its name, whether one who doesn't know it has to refuse, and the octets that hold its value.
+/// An extension: its name, whether one who doesn't know it has to reject, and the octets that hold its value.
 #[derive(Drop)]
 pub struct Extension {
     pub extn_id: ObjectIdentifier,
@@ -22,7 +22,7 @@ pub struct Extension {
     pub extn_value: Vec<u8>,
 }
 
-impl Defined for Extension {
+impl DefinedType for Extension {
     type Notation = Sequence<Parts>;
 
     ghost value_of = { λ v. (v.extn_id, (v.critical, (v.extn_value, tt))) };
@@ -44,5 +44,5 @@ impl Defined for Extension {
         )
     }
 
-    ghost apart = { refl };
+    ghost unambiguous = { refl };
 }

@@ -4,19 +4,19 @@
 //! Extensions ::= SEQUENCE SIZE (1..MAX) OF Extension
 //! ```
 ghost use Rattle.std.specs.Prelude.{◌≡◌, false, not, refl};
-ghost use Rattle.yasna_notation.specs.Laws.{standing_keeps, element_filled};
+ghost use Rattle.yasna_notation.specs.Laws.{represented_lawful, element_non_empty};
 ghost use Rattle.yasna_notation.specs.Making.{in_sequence, in_sequence_of, not_empty, part, default_part};
-ghost use Rattle.yasna_notation.specs.Notation.{stands_for};
-ghost use Rattle.yasna_notation.specs.Parts.{no_parts, tells_false};
-ghost use Rattle.yasna_notation.specs.contracts.simple.ObjectIdentifierNotation.TheImpl.Laws.{keeps-law as oid};
-ghost use Rattle.yasna_notation.specs.contracts.simple.BoolNotation.TheImpl.Laws.{keeps-law as flag};
-ghost use Rattle.yasna_notation.specs.contracts.strings.VecU8Notation.TheImpl.Laws.{keeps-law as octets};
+ghost use Rattle.yasna_notation.specs.Notation.{represented_by};
+ghost use Rattle.yasna_notation.specs.Parts.{no_parts, detects_false};
+ghost use Rattle.yasna_notation.specs.contracts.simple.ObjectIdentifierNotation.TheImpl.Laws.{lawful-law as oid};
+ghost use Rattle.yasna_notation.specs.contracts.simple.BoolNotation.TheImpl.Laws.{lawful-law as flag};
+ghost use Rattle.yasna_notation.specs.contracts.strings.VecU8Notation.TheImpl.Laws.{lawful-law as octets};
 
 use crate::extension::Extension;
 use yasna::tags::TAG_SEQUENCE;
 use yasna::{ASN1Result, BERReader, DERWriter, Tag};
 use yasna_notation::{
-    Bounded, Defined, Message, NotEmpty, Notation, SequenceOf, StandsFor, read_as,
+    Bounded, DefinedType, Message, NotEmpty, Notation, Represents, SequenceOf, read_as,
 };
 
 type List = Bounded<SequenceOf<Extension>, NotEmpty>;
@@ -28,7 +28,7 @@ pub struct Extensions {
     pub extensions: Vec<Extension>,
 }
 
-impl StandsFor<Vec<Extension>> for Extensions {
+impl Represents<Vec<Extension>> for Extensions {
     ghost value_of = { λ v. v.extensions };
 
     fn from_value(extensions: Vec<Extension>) -> Extensions {
@@ -41,7 +41,7 @@ impl Notation for Extensions {
 
     type Inner = ();
 
-    ghost means = { stands_for ⟦<Extensions as StandsFor<Vec<Extension>>>⟧.value_of ⟦<List as Notation>⟧.means };
+    ghost means = { represented_by ⟦<Extensions as Represents<Vec<Extension>>>⟧.value_of ⟦<List as Notation>⟧.means };
 
     fn has_tag(tag: Tag) -> bool {
         tag == TAG_SEQUENCE
@@ -55,13 +55,13 @@ impl Notation for Extensions {
         <List as Notation>::write(&value.extensions, writer)
     }
 
-    ghost keeps = { λ _. standing_keeps ⟦<Extensions as StandsFor<Vec<Extension>>>⟧.value_of
-        (not_empty (in_sequence_of (standing_keeps ⟦<Extension as Defined>⟧.value_of
-        (in_sequence (part (oid refl).own (default_part not false tells_false refl (flag refl).own (part (octets refl).own no_parts))))).own)) };
+    ghost lawful = { λ _. represented_lawful ⟦<Extensions as Represents<Vec<Extension>>>⟧.value_of
+        (not_empty (in_sequence_of (represented_lawful ⟦<Extension as DefinedType>⟧.value_of
+        (in_sequence (part (oid refl).own (default_part not false detects_false refl (flag refl).own (part (octets refl).own no_parts))))).own)) };
 
-    ghost filled = { λ u m v. element_filled _ _ _ _ };
+    ghost non_empty = { λ u m v. element_non_empty _ _ _ _ };
 }
 
 impl Message for Extensions {
-    ghost told_apart = { refl };
+    ghost is_unambiguous = { refl };
 }

@@ -6,16 +6,16 @@
 //! RDNSequence ::= SEQUENCE OF RelativeDistinguishedName
 //! ```
 ghost use Rattle.std.specs.Prelude.{◌≡◌, refl};
-ghost use Rattle.yasna_notation.specs.Laws.{standing_keeps, element_filled};
+ghost use Rattle.yasna_notation.specs.Laws.{represented_lawful, element_non_empty};
 ghost use Rattle.yasna_notation.specs.Making.{in_sequence_of};
-ghost use Rattle.yasna_notation.specs.Notation.{stands_for};
-ghost use Rattle.x509.specs.contracts.relative_distinguished_name.RelativeDistinguishedNameNotation.TheImpl.Laws.{keeps-law as level};
+ghost use Rattle.yasna_notation.specs.Notation.{represented_by};
+ghost use Rattle.x509.specs.contracts.relative_distinguished_name.RelativeDistinguishedNameNotation.TheImpl.Laws.{lawful-law as level};
 ghost use Rattle.x509.specs.declared.name.Name.TheVariants.{RdnSequence};
 
 use crate::relative_distinguished_name::RelativeDistinguishedName;
 use yasna::tags::TAG_SEQUENCE;
 use yasna::{ASN1Result, BERReader, DERWriter, Tag};
-use yasna_notation::{Message, Notation, SequenceOf, StandsFor, read_as};
+use yasna_notation::{Message, Notation, Represents, SequenceOf, read_as};
 
 /// A name: its parts, from the outermost level to the innermost.
 #[derive(Drop)]
@@ -23,7 +23,7 @@ pub enum Name {
     RdnSequence(Vec<RelativeDistinguishedName>),
 }
 
-impl StandsFor<Vec<RelativeDistinguishedName>> for Name {
+impl Represents<Vec<RelativeDistinguishedName>> for Name {
     ghost value_of = { λ v. elim v [ RdnSequence parts ↦ parts ] };
 
     fn from_value(parts: Vec<RelativeDistinguishedName>) -> Name {
@@ -37,7 +37,7 @@ impl Notation for Name {
 
     type Inner = ();
 
-    ghost means = { stands_for ⟦<Name as StandsFor<Vec<RelativeDistinguishedName>>>⟧.value_of ⟦<SequenceOf<RelativeDistinguishedName> as Notation>⟧.means };
+    ghost means = { represented_by ⟦<Name as Represents<Vec<RelativeDistinguishedName>>>⟧.value_of ⟦<SequenceOf<RelativeDistinguishedName> as Notation>⟧.means };
 
     fn has_tag(tag: Tag) -> bool {
         tag == TAG_SEQUENCE
@@ -55,11 +55,11 @@ impl Notation for Name {
         }
     }
 
-    ghost keeps = { λ _. standing_keeps ⟦<Name as StandsFor<Vec<RelativeDistinguishedName>>>⟧.value_of (in_sequence_of (level refl).own) };
+    ghost lawful = { λ _. represented_lawful ⟦<Name as Represents<Vec<RelativeDistinguishedName>>>⟧.value_of (in_sequence_of (level refl).own) };
 
-    ghost filled = { λ u m v. element_filled _ _ _ _ };
+    ghost non_empty = { λ u m v. element_non_empty _ _ _ _ };
 }
 
 impl Message for Name {
-    ghost told_apart = { refl };
+    ghost is_unambiguous = { refl };
 }

@@ -6,17 +6,17 @@
 //!     subjectPublicKey  BIT STRING }
 //! ```
 ghost use Rattle.std.specs.Prelude.{◌≡◌, refl};
-ghost use Rattle.yasna_notation.specs.Laws.{standing_keeps, element_filled};
+ghost use Rattle.yasna_notation.specs.Laws.{represented_lawful, element_non_empty};
 ghost use Rattle.yasna_notation.specs.Making.{in_sequence, part};
-ghost use Rattle.yasna_notation.specs.Notation.{stands_for};
+ghost use Rattle.yasna_notation.specs.Notation.{represented_by};
 ghost use Rattle.yasna_notation.specs.Parts.{no_parts};
-ghost use Rattle.yasna_notation.specs.contracts.strings.BitStringNotation.TheImpl.Laws.{keeps-law as bits};
-ghost use Rattle.x509.specs.contracts.algorithm.AlgorithmIdentifierNotation.TheImpl.Laws.{keeps-law as algorithm};
+ghost use Rattle.yasna_notation.specs.contracts.strings.BitStringNotation.TheImpl.Laws.{lawful-law as bits};
+ghost use Rattle.x509.specs.contracts.algorithm.AlgorithmIdentifierNotation.TheImpl.Laws.{lawful-law as algorithm};
 
 use crate::algorithm::AlgorithmIdentifier;
 use yasna::tags::TAG_SEQUENCE;
 use yasna::{ASN1Result, BERReader, DERWriter, Tag};
-use yasna_notation::{BitString, Message, Notation, Sequence, StandsFor, read_as};
+use yasna_notation::{BitString, Message, Notation, Represents, Sequence, read_as};
 
 type Parts = (AlgorithmIdentifier, (BitString, ()));
 
@@ -29,7 +29,7 @@ pub struct SubjectPublicKeyInfo {
     pub subject_public_key: (Vec<u8>, usize),
 }
 
-impl StandsFor<Fields> for SubjectPublicKeyInfo {
+impl Represents<Fields> for SubjectPublicKeyInfo {
     ghost value_of = { λ v. (v.algorithm, (v.subject_public_key, tt)) };
 
     fn from_value((algorithm, (subject_public_key, ())): Fields) -> SubjectPublicKeyInfo {
@@ -45,7 +45,7 @@ impl Notation for SubjectPublicKeyInfo {
 
     type Inner = ();
 
-    ghost means = { stands_for ⟦<SubjectPublicKeyInfo as StandsFor<Fields>>⟧.value_of ⟦<Sequence<Parts> as Notation>⟧.means };
+    ghost means = { represented_by ⟦<SubjectPublicKeyInfo as Represents<Fields>>⟧.value_of ⟦<Sequence<Parts> as Notation>⟧.means };
 
     fn has_tag(tag: Tag) -> bool {
         tag == TAG_SEQUENCE
@@ -59,12 +59,12 @@ impl Notation for SubjectPublicKeyInfo {
         Sequence::<Parts>::write_fields((&value.algorithm, (&value.subject_public_key, ())), writer)
     }
 
-    ghost keeps = { λ _. standing_keeps ⟦<SubjectPublicKeyInfo as StandsFor<Fields>>⟧.value_of (in_sequence (part (algorithm refl).own
+    ghost lawful = { λ _. represented_lawful ⟦<SubjectPublicKeyInfo as Represents<Fields>>⟧.value_of (in_sequence (part (algorithm refl).own
         (part (bits refl).own no_parts))) };
 
-    ghost filled = { λ u m v. element_filled _ _ _ _ };
+    ghost non_empty = { λ u m v. element_non_empty _ _ _ _ };
 }
 
 impl Message for SubjectPublicKeyInfo {
-    ghost told_apart = { refl };
+    ghost is_unambiguous = { refl };
 }

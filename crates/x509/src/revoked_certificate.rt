@@ -7,20 +7,20 @@
 //!     crlEntryExtensions  Extensions OPTIONAL }
 //! ```
 ghost use Rattle.std.specs.Prelude.{◌≡◌, refl};
-ghost use Rattle.yasna_notation.specs.Laws.{standing_keeps, element_filled};
+ghost use Rattle.yasna_notation.specs.Laws.{represented_lawful, element_non_empty};
 ghost use Rattle.yasna_notation.specs.Making.{in_sequence, part};
-ghost use Rattle.yasna_notation.specs.Notation.{stands_for};
+ghost use Rattle.yasna_notation.specs.Notation.{represented_by};
 ghost use Rattle.yasna_notation.specs.Parts.{last_part_laws};
-ghost use Rattle.yasna_notation.specs.contracts.simple.BigIntegerNotation.TheImpl.Laws.{keeps-law as big};
-ghost use Rattle.x509.specs.contracts.time_part.TimePartNotation.TheImpl.Laws.{keeps-law as time};
-ghost use Rattle.x509.specs.contracts.extensions.ExtensionsNotation.TheImpl.Laws.{keeps-law as extensions};
+ghost use Rattle.yasna_notation.specs.contracts.simple.BigIntegerNotation.TheImpl.Laws.{lawful-law as big};
+ghost use Rattle.x509.specs.contracts.time_part.TimePartNotation.TheImpl.Laws.{lawful-law as time};
+ghost use Rattle.x509.specs.contracts.extensions.ExtensionsNotation.TheImpl.Laws.{lawful-law as extensions};
 
 use crate::extensions::Extensions;
 use crate::time::Time;
 use crate::time_part::TimePart;
 use yasna::tags::TAG_SEQUENCE;
 use yasna::{ASN1Result, BERReader, DERWriter, Tag};
-use yasna_notation::{BigInteger, Last, Message, Notation, Sequence, StandsFor, read_as};
+use yasna_notation::{BigInteger, Last, Message, Notation, Represents, Sequence, read_as};
 
 type Parts = (BigInteger, (TimePart, Last<Extensions>));
 
@@ -35,7 +35,7 @@ pub struct RevokedCertificate {
     pub crl_entry_extensions: Option<Extensions>,
 }
 
-impl StandsFor<Fields> for RevokedCertificate {
+impl Represents<Fields> for RevokedCertificate {
     ghost value_of = { λ v. (v.user_certificate, (v.revocation_date, v.crl_entry_extensions)) };
 
     fn from_value(
@@ -54,7 +54,7 @@ impl Notation for RevokedCertificate {
 
     type Inner = ();
 
-    ghost means = { stands_for ⟦<RevokedCertificate as StandsFor<Fields>>⟧.value_of ⟦<Sequence<Parts> as Notation>⟧.means };
+    ghost means = { represented_by ⟦<RevokedCertificate as Represents<Fields>>⟧.value_of ⟦<Sequence<Parts> as Notation>⟧.means };
 
     fn has_tag(tag: Tag) -> bool {
         tag == TAG_SEQUENCE
@@ -74,12 +74,12 @@ impl Notation for RevokedCertificate {
         )
     }
 
-    ghost keeps = { λ _. standing_keeps ⟦<RevokedCertificate as StandsFor<Fields>>⟧.value_of
+    ghost lawful = { λ _. represented_lawful ⟦<RevokedCertificate as Represents<Fields>>⟧.value_of
         (in_sequence (part (big refl).own (part (time refl).own (last_part_laws (extensions refl).own)))) };
 
-    ghost filled = { λ u m v. element_filled _ _ _ _ };
+    ghost non_empty = { λ u m v. element_non_empty _ _ _ _ };
 }
 
 impl Message for RevokedCertificate {
-    ghost told_apart = { refl };
+    ghost is_unambiguous = { refl };
 }

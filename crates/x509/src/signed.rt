@@ -3,7 +3,7 @@ ghost use Rattle.std.specs.Prelude.{None, true};
 ghost use Rattle.std.specs.Result.{IfOk};
 ghost use Rattle.yasna.specs.Words.{AnyPart, IsFresh, part_of};
 ghost use Rattle.yasna_notation.specs.FirstBytes.{PartsWithFirst, BeginsByPart};
-ghost use Rattle.yasna_notation.specs.Notation.{ReadsMeaning, stands_for};
+ghost use Rattle.yasna_notation.specs.Notation.{ReadsMeaning, represented_by};
 ghost use Rattle.yasna_notation.specs.Parts.{ReadsContents};
 
 use crate::algorithm::AlgorithmIdentifier;
@@ -12,9 +12,9 @@ use crate::certificate_list::CertificateList;
 use crate::tbs_cert_list::TbsCertList;
 use crate::tbs_certificate::TbsCertificate;
 use yasna::{ASN1Result, BERReader, BERReaderSeq};
-use yasna_notation::{BitString, Notation, Parts, StandsFor, WithFirst, read_parts_with_first};
+use yasna_notation::{BitString, Notation, Parts, Represents, WithFirst, read_parts_with_first};
 
-// What stands behind the part that is signed.
+// What is after the part that is signed.
 type Signature = (AlgorithmIdentifier, (BitString, ()));
 
 // Its values.
@@ -29,7 +29,7 @@ pub struct Signed<'a, T> {
     pub signed_bytes: &'a [u8],
 }
 
-// Reads the parts of a certificate, and answers the bytes of the first.
+// Reads the parts of a certificate, and returns the bytes of the first.
 fn read_certificate_parts<'a>(
     seq: &mut BERReaderSeq<'a, '_>,
 ) -> ASN1Result<WithFirst<'a, TbsCertificate, SignatureFields>>
@@ -40,9 +40,9 @@ fn read_certificate_parts<'a>(
     read_parts_with_first::<TbsCertificate, Signature>(seq)
 }
 
-/// Reads a certificate as `Certificate` says, and answers the bytes of its `tbsCertificate` too.
+/// Reads a certificate as `Certificate` says, and returns the bytes of its `tbsCertificate` too.
 pub fn read_signed_certificate<'a>(reader: BERReader<'a, '_>) -> ASN1Result<Signed<'a, Certificate>>
-    ensures reads { ReadsMeaning (stands_for (λ v. v.value) ⟦<Certificate as Notation>⟧.means) reader.old result reader.new }
+    ensures reads { ReadsMeaning (represented_by (λ v. v.value) ⟦<Certificate as Notation>⟧.means) reader.old result reader.new }
     ensures bytes { IfOk result (λ v. BeginsByPart (⟦<TbsCertificate as Notation>⟧.means.under None) reader.old v.value.tbs_certificate
         v.signed_bytes.now reader.new) }
 {
@@ -55,7 +55,7 @@ pub fn read_signed_certificate<'a>(reader: BERReader<'a, '_>) -> ASN1Result<Sign
     }
 }
 
-// Reads the parts of a revocation list, and answers the bytes of the first.
+// Reads the parts of a revocation list, and returns the bytes of the first.
 fn read_list_parts<'a>(
     seq: &mut BERReaderSeq<'a, '_>,
 ) -> ASN1Result<WithFirst<'a, TbsCertList, SignatureFields>>
@@ -66,9 +66,9 @@ fn read_list_parts<'a>(
     read_parts_with_first::<TbsCertList, Signature>(seq)
 }
 
-/// Reads a revocation list as `CertificateList` says, and answers the bytes of its `tbsCertList` too.
+/// Reads a revocation list as `CertificateList` says, and returns the bytes of its `tbsCertList` too.
 pub fn read_signed_list<'a>(reader: BERReader<'a, '_>) -> ASN1Result<Signed<'a, CertificateList>>
-    ensures reads { ReadsMeaning (stands_for (λ v. v.value) ⟦<CertificateList as Notation>⟧.means) reader.old result reader.new }
+    ensures reads { ReadsMeaning (represented_by (λ v. v.value) ⟦<CertificateList as Notation>⟧.means) reader.old result reader.new }
     ensures bytes { IfOk result (λ v. BeginsByPart (⟦<TbsCertList as Notation>⟧.means.under None) reader.old v.value.tbs_cert_list
         v.signed_bytes.now reader.new) }
 {

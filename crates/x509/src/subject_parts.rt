@@ -5,11 +5,11 @@ ghost use Rattle.std.specs.Prelude.{◌≡◌, refl};
 ghost use Rattle.std.proofs.Common.{arith};
 ghost use Rattle.yasna_notation.specs.Making.{part, optional_part, in_explicit, in_implicit};
 ghost use Rattle.yasna_notation.specs.Parts.{no_parts};
-ghost use Rattle.yasna_notation.specs.contracts.strings.BitStringNotation.TheImpl.Laws.{keeps-law as bits};
-ghost use Rattle.x509.specs.contracts.name.NameNotation.TheImpl.Laws.{keeps-law as name};
-ghost use Rattle.x509.specs.contracts.validity.ValidityNotation.TheImpl.Laws.{keeps-law as validity};
-ghost use Rattle.x509.specs.contracts.public_key.SubjectPublicKeyInfoNotation.TheImpl.Laws.{keeps-law as public_key};
-ghost use Rattle.x509.specs.contracts.extensions.ExtensionsNotation.TheImpl.Laws.{keeps-law as extensions};
+ghost use Rattle.yasna_notation.specs.contracts.strings.BitStringNotation.TheImpl.Laws.{lawful-law as bits};
+ghost use Rattle.x509.specs.contracts.name.NameNotation.TheImpl.Laws.{lawful-law as name};
+ghost use Rattle.x509.specs.contracts.validity.ValidityNotation.TheImpl.Laws.{lawful-law as validity};
+ghost use Rattle.x509.specs.contracts.public_key.SubjectPublicKeyInfoNotation.TheImpl.Laws.{lawful-law as public_key};
+ghost use Rattle.x509.specs.contracts.extensions.ExtensionsNotation.TheImpl.Laws.{lawful-law as extensions};
 
 use crate::extensions::Extensions;
 use crate::name::Name;
@@ -30,7 +30,7 @@ type Ends = (
     (SubjectUniqueId, (CertificateExtensions, ())),
 );
 
-type Each = (Validity, (Name, (SubjectPublicKeyInfo, Ends)));
+type SubjectPartsList = (Validity, (Name, (SubjectPublicKeyInfo, Ends)));
 
 type EndFields = (
     Option<(Vec<u8>, usize)>,
@@ -48,36 +48,36 @@ impl Parts for SubjectParts {
 
     type Inner = ();
 
-    ghost told = { ⟦<Each as Parts>⟧.told };
+    ghost tags_known = { ⟦<SubjectPartsList as Parts>⟧.tags_known };
 
-    ghost tags = { ⟦<Each as Parts>⟧.tags };
+    ghost tags = { ⟦<SubjectPartsList as Parts>⟧.tags };
 
-    ghost apart = { ⟦<Each as Parts>⟧.apart };
+    ghost unambiguous = { ⟦<SubjectPartsList as Parts>⟧.unambiguous };
 
-    ghost parts = { ⟦<Each as Parts>⟧.parts };
+    ghost parts = { ⟦<SubjectPartsList as Parts>⟧.parts };
 
-    ghost any_parts = { ⟦<Each as Parts>⟧.any_parts };
+    ghost any_parts = { ⟦<SubjectPartsList as Parts>⟧.any_parts };
 
-    ghost asks_memory = { ⟦<Each as Parts>⟧.asks_memory };
+    ghost may_allocate = { ⟦<SubjectPartsList as Parts>⟧.may_allocate };
 
-    ghost same = { ⟦<Each as Parts>⟧.same };
+    ghost same = { ⟦<SubjectPartsList as Parts>⟧.same };
 
-    ghost form = { ⟦<Each as Parts>⟧.form };
+    ghost encoding = { ⟦<SubjectPartsList as Parts>⟧.encoding };
 
-    ghost nest = { ⟦<Each as Parts>⟧.nest };
+    ghost depth = { ⟦<SubjectPartsList as Parts>⟧.depth };
 
-    ghost can = { ⟦<Each as Parts>⟧.can };
+    ghost can = { ⟦<SubjectPartsList as Parts>⟧.can };
 
-    ghost fits = { ⟦<Each as Parts>⟧.fits };
+    ghost fits = { ⟦<SubjectPartsList as Parts>⟧.fits };
 
     #[inline(always)]
     fn read_parts(seq: &mut BERReaderSeq) -> ASN1Result<SubjectFields> {
-        <Each as Parts>::read_parts(seq)
+        <SubjectPartsList as Parts>::read_parts(seq)
     }
 
     #[inline(always)]
     fn write_parts(values: &SubjectFields, seq: &mut DERWriterSeq) -> ASN1Result<()> {
-        <Each as Parts>::write_parts(values, seq)
+        <SubjectPartsList as Parts>::write_parts(values, seq)
     }
 
     ghost laws = { λ _. part (validity refl).own (part (name refl).own (part (public_key refl).own
@@ -91,9 +91,9 @@ impl<'a> PartsBy<&'a TbsCertificate> for SubjectParts {
 
     ghost held = { λ r. (r.now.validity, (r.now.subject, (r.now.subject_public_key_info, (r.now.issuer_unique_id, (r.now.subject_unique_id, (r.now.extensions, tt)))))) };
 
-    ghost form_by = { ⟦<Each as Parts>⟧.form };
+    ghost encoding_by = { ⟦<SubjectPartsList as Parts>⟧.encoding };
 
-    ghost can_by = { ⟦<Each as Parts>⟧.can };
+    ghost can_by = { ⟦<SubjectPartsList as Parts>⟧.can };
 
     #[inline(always)]
     fn write_each(certificate: &&'a TbsCertificate, seq: &mut DERWriterSeq) -> ASN1Result<()> {
@@ -111,6 +111,6 @@ impl<'a> PartsBy<&'a TbsCertificate> for SubjectParts {
                 (&certificate.subject_public_key_info, ends),
             ),
         );
-        Each::write_each(&fields, seq)
+        SubjectPartsList::write_each(&fields, seq)
     }
 }

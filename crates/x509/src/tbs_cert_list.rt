@@ -11,17 +11,17 @@
 //!     crlExtensions        [0] EXPLICIT Extensions OPTIONAL }
 //! ```
 ghost use Rattle.std.specs.Prelude.{◌≡◌, refl};
-ghost use Rattle.yasna_notation.specs.Laws.{standing_keeps, element_filled};
+ghost use Rattle.yasna_notation.specs.Laws.{represented_lawful, element_non_empty};
 ghost use Rattle.yasna_notation.specs.Making.{in_sequence, in_sequence_of, part, optional_part, in_explicit, exactly, in_bound};
-ghost use Rattle.yasna_notation.specs.Notation.{stands_for};
+ghost use Rattle.yasna_notation.specs.Notation.{represented_by};
 ghost use Rattle.yasna_notation.specs.Parts.{no_parts};
 ghost use Rattle.std.proofs.Common.{arith};
-ghost use Rattle.yasna_notation.specs.contracts.simple.U64Notation.TheImpl.Laws.{keeps-law as number};
-ghost use Rattle.x509.specs.contracts.time_part.TimePartNotation.TheImpl.Laws.{keeps-law as time};
-ghost use Rattle.x509.specs.contracts.algorithm.AlgorithmIdentifierNotation.TheImpl.Laws.{keeps-law as algorithm};
-ghost use Rattle.x509.specs.contracts.name.NameNotation.TheImpl.Laws.{keeps-law as name};
-ghost use Rattle.x509.specs.contracts.extensions.ExtensionsNotation.TheImpl.Laws.{keeps-law as extensions};
-ghost use Rattle.x509.specs.contracts.revoked_certificate.RevokedCertificateNotation.TheImpl.Laws.{keeps-law as revoked};
+ghost use Rattle.yasna_notation.specs.contracts.simple.U64Notation.TheImpl.Laws.{lawful-law as number};
+ghost use Rattle.x509.specs.contracts.time_part.TimePartNotation.TheImpl.Laws.{lawful-law as time};
+ghost use Rattle.x509.specs.contracts.algorithm.AlgorithmIdentifierNotation.TheImpl.Laws.{lawful-law as algorithm};
+ghost use Rattle.x509.specs.contracts.name.NameNotation.TheImpl.Laws.{lawful-law as name};
+ghost use Rattle.x509.specs.contracts.extensions.ExtensionsNotation.TheImpl.Laws.{lawful-law as extensions};
+ghost use Rattle.x509.specs.contracts.revoked_certificate.RevokedCertificateNotation.TheImpl.Laws.{lawful-law as revoked};
 
 use crate::algorithm::AlgorithmIdentifier;
 use crate::extensions::Extensions;
@@ -32,8 +32,8 @@ use crate::time_part::TimePart;
 use yasna::tags::TAG_SEQUENCE;
 use yasna::{ASN1Result, BERReader, DERWriter, Tag};
 use yasna_notation::{
-    Bounded, Context, Exactly, Explicit, Message, Notation, Optional, Sequence, SequenceOf,
-    StandsFor, read_as,
+    Bounded, Context, Exactly, Explicit, Message, Notation, Optional, Represents, Sequence,
+    SequenceOf, read_as,
 };
 
 type Revoked = Optional<SequenceOf<RevokedCertificate>>;
@@ -74,7 +74,7 @@ pub struct TbsCertList {
     pub crl_extensions: Option<Extensions>,
 }
 
-impl StandsFor<Fields> for TbsCertList {
+impl Represents<Fields> for TbsCertList {
     ghost value_of = { λ v. (v.version, (v.signature, (v.issuer, (v.this_update, (v.next_update, (v.revoked_certificates, (v.crl_extensions, tt))))))) };
 
     fn from_value((version, (signature, (issuer, others))): Fields) -> TbsCertList {
@@ -96,7 +96,7 @@ impl Notation for TbsCertList {
 
     type Inner = ();
 
-    ghost means = { stands_for ⟦<TbsCertList as StandsFor<Fields>>⟧.value_of ⟦<Sequence<Parts> as Notation>⟧.means };
+    ghost means = { represented_by ⟦<TbsCertList as Represents<Fields>>⟧.value_of ⟦<Sequence<Parts> as Notation>⟧.means };
 
     fn has_tag(tag: Tag) -> bool {
         tag == TAG_SEQUENCE
@@ -123,15 +123,15 @@ impl Notation for TbsCertList {
         )
     }
 
-    ghost keeps = { λ _. standing_keeps ⟦<TbsCertList as StandsFor<Fields>>⟧.value_of
+    ghost lawful = { λ _. represented_lawful ⟦<TbsCertList as Represents<Fields>>⟧.value_of
         (in_sequence (optional_part refl (in_bound (exactly 1) (number refl)).own
         (part (algorithm refl).own (part (name refl).own (part (time refl).own (optional_part refl (time refl).own
         (optional_part refl (in_sequence_of (revoked refl).own).own
         (optional_part refl (in_explicit 0 (omega arith) (extensions refl).own).own no_parts)))))))) };
 
-    ghost filled = { λ u m v. element_filled _ _ _ _ };
+    ghost non_empty = { λ u m v. element_non_empty _ _ _ _ };
 }
 
 impl Message for TbsCertList {
-    ghost told_apart = { refl };
+    ghost is_unambiguous = { refl };
 }

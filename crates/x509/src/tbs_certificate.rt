@@ -20,15 +20,15 @@
 //! UniqueIdentifier ::= BIT STRING
 //! ```
 ghost use Rattle.std.specs.Prelude.{◌≡◌, nat_eq, refl};
-ghost use Rattle.yasna_notation.specs.Laws.{standing_keeps, element_filled};
+ghost use Rattle.yasna_notation.specs.Laws.{represented_lawful, element_non_empty};
 ghost use Rattle.yasna_notation.specs.Making.{in_sequence, part, default_part, in_explicit, at_most};
-ghost use Rattle.yasna_notation.specs.Notation.{stands_for};
-ghost use Rattle.yasna_notation.specs.Parts.{tells_number};
+ghost use Rattle.yasna_notation.specs.Notation.{represented_by};
+ghost use Rattle.yasna_notation.specs.Parts.{detects_number};
 ghost use Rattle.std.proofs.Common.{arith};
-ghost use Rattle.yasna_notation.specs.contracts.simple.U64Notation.TheImpl.Laws.{keeps-law as number};
-ghost use Rattle.yasna_notation.specs.contracts.simple.BigIntegerNotation.TheImpl.Laws.{keeps-law as big};
-ghost use Rattle.x509.specs.contracts.algorithm.AlgorithmIdentifierNotation.TheImpl.Laws.{keeps-law as algorithm};
-ghost use Rattle.x509.specs.contracts.name.NameNotation.TheImpl.Laws.{keeps-law as name};
+ghost use Rattle.yasna_notation.specs.contracts.simple.U64Notation.TheImpl.Laws.{lawful-law as number};
+ghost use Rattle.yasna_notation.specs.contracts.simple.BigIntegerNotation.TheImpl.Laws.{lawful-law as big};
+ghost use Rattle.x509.specs.contracts.algorithm.AlgorithmIdentifierNotation.TheImpl.Laws.{lawful-law as algorithm};
+ghost use Rattle.x509.specs.contracts.name.NameNotation.TheImpl.Laws.{lawful-law as name};
 ghost use Rattle.x509.specs.contracts.subject_parts.SubjectPartsParts.TheImpl.Laws.{laws-law as subject_parts};
 
 use crate::algorithm::AlgorithmIdentifier;
@@ -40,8 +40,8 @@ use crate::validity::Validity;
 use yasna::tags::TAG_SEQUENCE;
 use yasna::{ASN1Result, BERReader, DERWriter, Tag};
 use yasna_notation::{
-    AtMost, BigInteger, Bounded, Context, Default, Explicit, Message, Notation, Number, Sequence,
-    StandsFor,
+    AtMost, BigInteger, Bounded, Context, Default, Explicit, Message, Notation, Number, Represents,
+    Sequence,
 };
 
 type Version = Default<Explicit<Context<0>, Bounded<u64, AtMost<2>>>, Number<0>>;
@@ -79,7 +79,7 @@ pub struct TbsCertificate {
     pub extensions: Option<Extensions>,
 }
 
-impl StandsFor<Fields> for TbsCertificate {
+impl Represents<Fields> for TbsCertificate {
     ghost value_of = { λ v. (v.version, (v.serial_number, (v.signature, (v.issuer, (v.validity, (v.subject, (v.subject_public_key_info, (v.issuer_unique_id, (v.subject_unique_id, (v.extensions, tt)))))))))) };
 
     fn from_value(
@@ -107,7 +107,7 @@ impl Notation for TbsCertificate {
 
     type Inner = ();
 
-    ghost means = { stands_for ⟦<TbsCertificate as StandsFor<Fields>>⟧.value_of ⟦<Sequence<Parts> as Notation>⟧.means };
+    ghost means = { represented_by ⟦<TbsCertificate as Represents<Fields>>⟧.value_of ⟦<Sequence<Parts> as Notation>⟧.means };
 
     fn has_tag(tag: Tag) -> bool {
         tag == TAG_SEQUENCE
@@ -119,7 +119,7 @@ impl Notation for TbsCertificate {
             Ok(fields) => fields,
             Err(error) => return Err(error),
         };
-        Ok(<TbsCertificate as StandsFor<Fields>>::from_value(fields))
+        Ok(<TbsCertificate as Represents<Fields>>::from_value(fields))
     }
 
     fn write(value: &TbsCertificate, writer: DERWriter<'_>) -> ASN1Result<()> {
@@ -135,13 +135,13 @@ impl Notation for TbsCertificate {
         )
     }
 
-    ghost keeps = { λ _. standing_keeps ⟦<TbsCertificate as StandsFor<Fields>>⟧.value_of
-        (in_sequence (default_part (λ v. nat_eq v 0) 0 (tells_number 0) refl (in_explicit 0 (omega arith) (at_most 2 (number refl)).own).own
+    ghost lawful = { λ _. represented_lawful ⟦<TbsCertificate as Represents<Fields>>⟧.value_of
+        (in_sequence (default_part (λ v. nat_eq v 0) 0 (detects_number 0) refl (in_explicit 0 (omega arith) (at_most 2 (number refl)).own).own
         (part (big refl).own (part (algorithm refl).own (part (name refl).own (subject_parts refl)))))) };
 
-    ghost filled = { λ u m v. element_filled _ _ _ _ };
+    ghost non_empty = { λ u m v. element_non_empty _ _ _ _ };
 }
 
 impl Message for TbsCertificate {
-    ghost told_apart = { refl };
+    ghost is_unambiguous = { refl };
 }

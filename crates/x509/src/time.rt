@@ -5,7 +5,7 @@ ghost use Rattle.x509.specs.declared.time.Time.TheVariants.{Utc, General};
 
 use yasna::models::{GeneralizedTime, UTCTime};
 use yasna::{ASN1Result, DERWriter};
-use yasna_notation::{Choice, Defined, Either, Notation, Sequence};
+use yasna_notation::{Choice, DefinedType, Either, Notation, Sequence};
 
 /// A time.
 #[derive(Drop)]
@@ -14,7 +14,7 @@ pub enum Time {
     General(GeneralizedTime),
 }
 
-impl Defined for Time {
+impl DefinedType for Time {
     type Notation = Choice<(UTCTime, (GeneralizedTime,))>;
 
     ghost value_of = { λ v. elim v [ Utc t ↦ First t | General t ↦ Second t ] };
@@ -33,5 +33,5 @@ impl Defined for Time {
         }
     }
 
-    ghost apart = { refl };
+    ghost unambiguous = { refl };
 }

@@ -2,15 +2,15 @@
 //!
 //! It is `Time`'s own notation by one name, so a type that holds times names it, and not what a time is made of.
 ghost use Rattle.std.specs.Prelude.{◌≡◌, refl};
-ghost use Rattle.yasna_notation.specs.Laws.{standing_keeps};
-ghost use Rattle.yasna_notation.specs.Making.{in_choice, alternative, alternative_filled};
-ghost use Rattle.yasna_notation.specs.contracts.times.UTCTimeNotation.TheImpl.Laws.{keeps-law as utc, filled-law as utc_filled};
-ghost use Rattle.yasna_notation.specs.contracts.times.GeneralizedTimeNotation.TheImpl.Laws.{keeps-law as general, filled-law as general_filled};
+ghost use Rattle.yasna_notation.specs.Laws.{represented_lawful};
+ghost use Rattle.yasna_notation.specs.Making.{in_choice, alternative, alternative_non_empty};
+ghost use Rattle.yasna_notation.specs.contracts.times.UTCTimeNotation.TheImpl.Laws.{lawful-law as utc, non_empty-law as utc_non_empty};
+ghost use Rattle.yasna_notation.specs.contracts.times.GeneralizedTimeNotation.TheImpl.Laws.{lawful-law as general, non_empty-law as general_non_empty};
 
 use crate::time::Time;
 use yasna::models::{GeneralizedTime, UTCTime};
 use yasna::{ASN1Result, BERReader, DERWriter, Tag};
-use yasna_notation::{Choice, Defined, Notation};
+use yasna_notation::{Choice, DefinedType, Notation};
 
 /// The notation of a part whose value is a `Time`.
 pub struct TimePart;
@@ -37,8 +37,8 @@ impl Notation for TimePart {
         <Time as Notation>::write(value, writer)
     }
 
-    ghost keeps = { λ _. standing_keeps ⟦<Time as Defined>⟧.value_of
-        (in_choice ⟦<Choice<(UTCTime, (GeneralizedTime,))> as Notation>⟧.means.form_under (alternative (utc refl).own refl (general refl).own)) };
+    ghost lawful = { λ _. represented_lawful ⟦<Time as DefinedType>⟧.value_of
+        (in_choice ⟦<Choice<(UTCTime, (GeneralizedTime,))> as Notation>⟧.means.encoding_under (alternative (utc refl).own refl (general refl).own)) };
 
-    ghost filled = { λ u m v. alternative_filled (utc_filled u) (general_filled u) m (⟦<Time as Defined>⟧.value_of v) };
+    ghost non_empty = { λ u m v. alternative_non_empty (utc_non_empty u) (general_non_empty u) m (⟦<Time as DefinedType>⟧.value_of v) };
 }

@@ -4,17 +4,17 @@
 //! Validity ::= SEQUENCE { notBefore Time, notAfter Time }
 //! ```
 ghost use Rattle.std.specs.Prelude.{◌≡◌, refl};
-ghost use Rattle.yasna_notation.specs.Laws.{standing_keeps, element_filled};
+ghost use Rattle.yasna_notation.specs.Laws.{represented_lawful, element_non_empty};
 ghost use Rattle.yasna_notation.specs.Making.{in_sequence, part};
-ghost use Rattle.yasna_notation.specs.Notation.{stands_for};
+ghost use Rattle.yasna_notation.specs.Notation.{represented_by};
 ghost use Rattle.yasna_notation.specs.Parts.{no_parts};
-ghost use Rattle.x509.specs.contracts.time_part.TimePartNotation.TheImpl.Laws.{keeps-law as time};
+ghost use Rattle.x509.specs.contracts.time_part.TimePartNotation.TheImpl.Laws.{lawful-law as time};
 
 use crate::time::Time;
 use crate::time_part::TimePart;
 use yasna::tags::TAG_SEQUENCE;
 use yasna::{ASN1Result, BERReader, DERWriter, Tag};
-use yasna_notation::{Message, Notation, Sequence, StandsFor, read_as};
+use yasna_notation::{Message, Notation, Represents, Sequence, read_as};
 
 type Parts = (TimePart, (TimePart, ()));
 
@@ -27,7 +27,7 @@ pub struct Validity {
     pub not_after: Time,
 }
 
-impl StandsFor<Fields> for Validity {
+impl Represents<Fields> for Validity {
     ghost value_of = { λ v. (v.not_before, (v.not_after, tt)) };
 
     fn from_value((not_before, (not_after, ())): Fields) -> Validity {
@@ -43,7 +43,7 @@ impl Notation for Validity {
 
     type Inner = ();
 
-    ghost means = { stands_for ⟦<Validity as StandsFor<Fields>>⟧.value_of ⟦<Sequence<Parts> as Notation>⟧.means };
+    ghost means = { represented_by ⟦<Validity as Represents<Fields>>⟧.value_of ⟦<Sequence<Parts> as Notation>⟧.means };
 
     fn has_tag(tag: Tag) -> bool {
         tag == TAG_SEQUENCE
@@ -57,12 +57,12 @@ impl Notation for Validity {
         Sequence::<Parts>::write_fields((&value.not_before, (&value.not_after, ())), writer)
     }
 
-    ghost keeps = { λ _. standing_keeps ⟦<Validity as StandsFor<Fields>>⟧.value_of (in_sequence (part (time refl).own
+    ghost lawful = { λ _. represented_lawful ⟦<Validity as Represents<Fields>>⟧.value_of (in_sequence (part (time refl).own
         (part (time refl).own no_parts))) };
 
-    ghost filled = { λ u m v. element_filled _ _ _ _ };
+    ghost non_empty = { λ u m v. element_non_empty _ _ _ _ };
 }
 
 impl Message for Validity {
-    ghost told_apart = { refl };
+    ghost is_unambiguous = { refl };
 }

@@ -2,17 +2,17 @@
 ghost use Rattle.std.specs.Str.{chars};
 ghost use Rattle.yasna_base.specs.Canonical.{Always};
 ghost use Rattle.yasna_base.specs.Digits.{IsBytes};
-ghost use Rattle.yasna_base.specs.Octets.{octets_form, octets_nest, octets_tag};
-ghost use Rattle.yasna_base.specs.Text.{utf8_form, utf8_nest, utf8_tag};
+ghost use Rattle.yasna_base.specs.Octets.{octets_encoding, octets_depth, octets_tag};
+ghost use Rattle.yasna_base.specs.Text.{utf8_encoding, utf8_depth, utf8_tag};
 
 use crate::traits::DEREncodable;
 use yasna_base::error::ASN1Result;
 use yasna_writer::DERWriter;
 
 impl<'a> DEREncodable for &'a [u8] {
-    ghost form = { λ m v. octets_form octets_tag m v.now };
+    ghost encoding = { λ m v. octets_encoding octets_tag m v.now };
 
-    ghost nest = { λ m v. octets_nest m v.now };
+    ghost depth = { λ m v. octets_depth m v.now };
 
     ghost encodable = { λ v. IsBytes v.now };
 
@@ -22,9 +22,9 @@ impl<'a> DEREncodable for &'a [u8] {
 }
 
 impl<'a> DEREncodable for &'a str {
-    ghost form = { λ m v. utf8_form utf8_tag m (chars v.now) };
+    ghost encoding = { λ m v. utf8_encoding utf8_tag m (chars v.now) };
 
-    ghost nest = { λ m v. utf8_nest m (chars v.now) };
+    ghost depth = { λ m v. utf8_depth m (chars v.now) };
 
     ghost encodable = { Always };
 

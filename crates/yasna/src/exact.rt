@@ -1,19 +1,19 @@
-//! Types of which DER and CER alone have one form (X.690, 9 to 11), as one that keeps an element of any type as it came.
+//! Types of which DER and CER alone have one encoding (X.690, 9 to 11), as one that keeps an element of any type as it came.
 ghost use Rattle.std.specs.Prelude.{◌≡◌, ◌↔◌, ◌<◌, ◌^◌, ◌++◌, ℕ, List, [], length, FitsSigned};
 ghost use Rattle.std.specs.Int.{w64, w32, w16};
 ghost use Rattle.std.specs.List.{AllByRecursion};
 ghost use Rattle.yasna_base.specs.declared.mode.BERMode.{BERMode};
 ghost use Rattle.yasna_base.specs.declared.mode.BERMode.TheVariants.{Ber, Der, Cer};
-ghost use Rattle.yasna_base.specs.Canonical.{Always, leaf_nest};
+ghost use Rattle.yasna_base.specs.Canonical.{Always, leaf_depth};
 ghost use Rattle.yasna_base.specs.Digits.{IsBytes};
 ghost use Rattle.yasna_base.specs.Exact.{Fitting, IsExact, written_fits, enclosed_fits, elements_fit, raw_fits};
-ghost use Rattle.yasna_base.specs.Octets.{octets_nest};
+ghost use Rattle.yasna_base.specs.Octets.{octets_depth};
 ghost use Rattle.yasna_base.specs.Oid.{IsEncodableOid};
 ghost use Rattle.yasna_base.specs.TaggedDerValue.{raw_of};
-ghost use Rattle.yasna_base.specs.Text.{utf8_nest, characters};
+ghost use Rattle.yasna_base.specs.Text.{utf8_depth, characters};
 ghost use Rattle.yasna_times.specs.Models.{utc_of, moment_of};
-ghost use Rattle.yasna_times.specs.UtcTime.{utc_time_nest};
-ghost use Rattle.yasna_times.specs.GeneralizedTime.{generalized_time_nest};
+ghost use Rattle.yasna_times.specs.UtcTime.{utc_time_depth};
+ghost use Rattle.yasna_times.specs.GeneralizedTime.{generalized_time_depth};
 ghost use Rattle.yasna_base.proofs.Exact.{written_exact, exact_along, list_exact, raw_keeps_exact};
 ghost use Rattle.yasna_base.proofs.Boolean.{bool_written};
 ghost use Rattle.yasna_base.proofs.Null.{unit_written};
@@ -28,7 +28,7 @@ use crate::traits::{BERDecodable, DEREncodable};
 use yasna_base::models::{ObjectIdentifier, TaggedDerValue};
 use yasna_times::models::{GeneralizedTime, UTCTime};
 
-/// A type that is read from DER and CER exactly where its one form there stands, which BER reads too.
+/// A type that is read from DER and CER exactly where its one encoding is there, which BER reads too.
 ///
 /// Of how what BER reads is written it says nothing, other than `DERCanonical`, of which every type can have this trait by the
 /// lemma `written_exact`. So a type can have it that keeps an element of any type as it came, or the unused bits of a BIT STRING.
@@ -36,108 +36,108 @@ use yasna_times::models::{GeneralizedTime, UTCTime};
 ///
 /// ```rust
 /// impl DERExact for Measurement {
-///     ghost fits = { written_fits Self.nest Self.encodable };
+///     ghost fits = { written_fits Self.depth Self.encodable };
 ///
 ///     ghost exact = { written_exact (tuple_written (λ v. (v.number, (v.valid, tt))) (part_written (signed_written w64) (part_written bool_written no_part_written))) };
 /// }
 /// ```
 pub trait DERExact: BERDecodable + DEREncodable {
-    // Which values have a form in a mode within a number of levels.
+    // Which values have an encoding in a mode within a number of levels.
     ghost fits: { Fitting Self };
 
-    // The form is read, in its mode and in BER; a canonical mode reads nothing else; what has a form can be written; equal
+    // The encoding is read, in its mode and in BER; a canonical mode reads nothing else; what has an encoding can be written; equal
     // values are written alike.
-    ghost exact: { IsExact Self.same Self.encodes Self.form fits Self.encodable };
+    ghost exact: { IsExact Self.same Self.encodes Self.encoding fits Self.encodable };
 }
 
-/// What is proved of every type of which a canonical mode alone has one form.
+/// What is proved of every type of which a canonical mode alone has one encoding.
 ///
-/// Its DER form is the only bytes that it is read from in DER, and its CER form in CER, and it is read from both in BER; what DER or CER
+/// Its DER encoding is the only bytes that it is read from in DER, and its CER encoding in CER, and it is read from both in BER; what DER or CER
 /// reads can be written; no bytes belong to two values, and no encoding begins another. All within 101 levels.
-pub fn one_der_form<T: DERExact>()
-    ensures der { (v : T) (s : List ℕ) → length s < 2 ^ 64 → T.encodes Der 101 v s ↔ (T.fits Der 101 v × (s ≡ T.form Der v)) }
-    ensures cer { (v : T) (s : List ℕ) → length s < 2 ^ 64 → T.encodes Cer 101 v s ↔ (T.fits Cer 101 v × (s ≡ T.form Cer v)) }
-    ensures ber { (v : T) → T.fits Der 101 v → length (T.form Der v) < 2 ^ 64 → T.encodes Ber 101 v (T.form Der v) }
-    ensures ber_of_cer { (v : T) → T.fits Cer 101 v → length (T.form Cer v) < 2 ^ 64 → T.encodes Ber 101 v (T.form Cer v) }
+pub fn one_der_encoding<T: DERExact>()
+    ensures der { (v : T) (s : List ℕ) → length s < 2 ^ 64 → T.encodes Der 101 v s ↔ (T.fits Der 101 v × (s ≡ T.encoding Der v)) }
+    ensures cer { (v : T) (s : List ℕ) → length s < 2 ^ 64 → T.encodes Cer 101 v s ↔ (T.fits Cer 101 v × (s ≡ T.encoding Cer v)) }
+    ensures ber { (v : T) → T.fits Der 101 v → length (T.encoding Der v) < 2 ^ 64 → T.encodes Ber 101 v (T.encoding Der v) }
+    ensures ber_of_cer { (v : T) → T.fits Cer 101 v → length (T.encoding Cer v) < 2 ^ 64 → T.encodes Ber 101 v (T.encoding Cer v) }
     ensures written { (v : T) (s : List ℕ) → T.encodes Der 101 v s → T.encodable v }
     ensures written_of_cer { (v : T) (s : List ℕ) → T.encodes Cer 101 v s → T.encodable v }
     ensures unique { (m : BERMode) (v w : T) (s r : List ℕ) → T.encodes m 101 v s → T.encodes m 101 w (s ++ r) → T.same v w × (r ≡ []) }
 {}
 
 impl DERExact for () {
-    ghost fits = { written_fits leaf_nest Always };
+    ghost fits = { written_fits leaf_depth Always };
 
     ghost exact = { written_exact unit_written };
 }
 
 impl DERExact for bool {
-    ghost fits = { written_fits leaf_nest Always };
+    ghost fits = { written_fits leaf_depth Always };
 
     ghost exact = { written_exact bool_written };
 }
 
 impl DERExact for i64 {
-    ghost fits = { written_fits leaf_nest (FitsSigned w64) };
+    ghost fits = { written_fits leaf_depth (FitsSigned w64) };
 
     ghost exact = { written_exact (signed_written w64) };
 }
 
 impl DERExact for i32 {
-    ghost fits = { written_fits leaf_nest (FitsSigned w32) };
+    ghost fits = { written_fits leaf_depth (FitsSigned w32) };
 
     ghost exact = { written_exact (signed_written w32) };
 }
 
 impl DERExact for i16 {
-    ghost fits = { written_fits leaf_nest (FitsSigned w16) };
+    ghost fits = { written_fits leaf_depth (FitsSigned w16) };
 
     ghost exact = { written_exact (signed_written w16) };
 }
 
 impl DERExact for u64 {
-    ghost fits = { written_fits leaf_nest (λ n. n < 2 ^ 64) };
+    ghost fits = { written_fits leaf_depth (λ n. n < 2 ^ 64) };
 
     ghost exact = { written_exact (unsigned_written 64) };
 }
 
 impl DERExact for u32 {
-    ghost fits = { written_fits leaf_nest (λ n. n < 2 ^ 32) };
+    ghost fits = { written_fits leaf_depth (λ n. n < 2 ^ 32) };
 
     ghost exact = { written_exact (unsigned_written 32) };
 }
 
 impl DERExact for u16 {
-    ghost fits = { written_fits leaf_nest (λ n. n < 2 ^ 16) };
+    ghost fits = { written_fits leaf_depth (λ n. n < 2 ^ 16) };
 
     ghost exact = { written_exact (unsigned_written 16) };
 }
 
 impl DERExact for Vec<u8> {
-    ghost fits = { written_fits (λ m v. octets_nest m v.items) (λ v. IsBytes v.items) };
+    ghost fits = { written_fits (λ m v. octets_depth m v.items) (λ v. IsBytes v.items) };
 
     ghost exact = { written_exact vec_written };
 }
 
 impl DERExact for String {
-    ghost fits = { written_fits (λ m v. utf8_nest m (characters v)) Always };
+    ghost fits = { written_fits (λ m v. utf8_depth m (characters v)) Always };
 
     ghost exact = { written_exact text_written };
 }
 
 impl DERExact for ObjectIdentifier {
-    ghost fits = { written_fits leaf_nest IsEncodableOid };
+    ghost fits = { written_fits leaf_depth IsEncodableOid };
 
     ghost exact = { written_exact oid_written };
 }
 
 impl DERExact for UTCTime {
-    ghost fits = { written_fits (λ m v. utc_time_nest m (utc_of v)) Always };
+    ghost fits = { written_fits (λ m v. utc_time_depth m (utc_of v)) Always };
 
     ghost exact = { written_exact utc_written };
 }
 
 impl DERExact for GeneralizedTime {
-    ghost fits = { written_fits (λ m v. generalized_time_nest m (moment_of v)) Always };
+    ghost fits = { written_fits (λ m v. generalized_time_depth m (moment_of v)) Always };
 
     ghost exact = { written_exact general_written };
 }

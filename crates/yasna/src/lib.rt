@@ -52,7 +52,7 @@
 //! | Module | Holds |
 //! |---|---|
 //! | `traits` | what a type says that is read and written as a whole |
-//! | `exact` | types of which DER and CER alone have one form, and what is proved of them |
+//! | `exact` | types of which DER and CER alone have one encoding, and what is proved of them |
 //! | `shapes` | types that are read and written as another is, as a struct by the tuple of its fields |
 //! | `whole` | whole inputs and outputs, and what is proved of them for every such type |
 //! | `models` | object identifiers, times and raw elements |
@@ -77,14 +77,14 @@ mod traits;
 mod tuples;
 mod whole;
 
-pub use exact::{DERExact, one_der_form};
+pub use exact::{DERExact, one_der_encoding};
 pub use sets::{set_of_is_read, set_of_is_written, set_of_sets_is_read};
 pub use shapes::{EncodeShape, FromShape, Shaped};
 pub use traits::{BERDecodable, DERCanonical, DEREncodable};
 pub use tuples::{EncodableParts, InSequence, TupleParts};
 pub use whole::{
-    decode_ber, decode_ber_general, decode_cer, decode_der, encode_cer, encode_der, one_form,
-    one_form_cer,
+    decode_ber, decode_ber_general, decode_cer, decode_der, encode_cer, encode_der, one_encoding,
+    one_encoding_cer,
 };
 pub use yasna_base::error::{ASN1Error, ASN1ErrorKind, ASN1Result};
 pub use yasna_base::mode::BERMode;

@@ -3,10 +3,10 @@
 //! `Vec<u8>` is an OCTET STRING: `u8` itself is no type that is read or written.
 ghost use Rattle.std.specs.Prelude.{◌≡◌, None, true};
 ghost use Rattle.std.specs.List.{AllByRecursion};
-ghost use Rattle.yasna_base.specs.Canonical.{enclosed_form, enclosed_nest};
+ghost use Rattle.yasna_base.specs.Canonical.{enclosed_encoding, enclosed_depth};
 ghost use Rattle.yasna_base.specs.Pieces.{Each};
 ghost use Rattle.yasna_base.specs.Sequence.{sequence_tag};
-ghost use Rattle.yasna_base.specs.SequenceOf.{IsListOf, AnyListOf, elements_form, elements_nest};
+ghost use Rattle.yasna_base.specs.SequenceOf.{IsListOf, AnyListOf, elements_encoding, elements_depth};
 ghost use Rattle.yasna_base.proofs.SequenceOf.{list_along, list_written};
 ghost use Rattle.yasna_writer.specs.View.{Writes, WroteParts};
 
@@ -20,7 +20,7 @@ impl<T: BERDecodable> BERDecodable for Vec<T> {
 
     ghost elements = { AnyListOf T.elements sequence_tag };
 
-    ghost asks_memory = { true };
+    ghost may_allocate = { true };
 
     ghost same = { λ v w. Each T.same v.items w.items };
 
@@ -32,9 +32,9 @@ impl<T: BERDecodable> BERDecodable for Vec<T> {
 }
 
 impl<T: DEREncodable> DEREncodable for Vec<T> {
-    ghost form = { λ m v. enclosed_form (elements_form T.form) sequence_tag m v.items };
+    ghost encoding = { λ m v. enclosed_encoding (elements_encoding T.encoding) sequence_tag m v.items };
 
-    ghost nest = { λ m v. enclosed_nest (elements_nest T.nest) m v.items };
+    ghost depth = { λ m v. enclosed_depth (elements_depth T.depth) m v.items };
 
     ghost encodable = { λ v. AllByRecursion T.encodable v.items };
 
@@ -48,9 +48,9 @@ impl<T: DERCanonical> DERCanonical for Vec<T> {
 }
 
 impl<'a, T: DEREncodable> DEREncodable for &'a [T] {
-    ghost form = { λ m v. enclosed_form (elements_form T.form) sequence_tag m v.now };
+    ghost encoding = { λ m v. enclosed_encoding (elements_encoding T.encoding) sequence_tag m v.now };
 
-    ghost nest = { λ m v. enclosed_nest (elements_nest T.nest) m v.now };
+    ghost depth = { λ m v. enclosed_depth (elements_depth T.depth) m v.now };
 
     ghost encodable = { λ v. AllByRecursion T.encodable v.now };
 
@@ -63,7 +63,7 @@ impl<'a, T: DEREncodable> DEREncodable for &'a [T] {
 fn write_list<T: DEREncodable>(items: &[T], writer: DERWriter<'_>) -> ASN1Result<()>
     requires can { AllByRecursion T.encodable items.now }
     requires untagged { writer.old.tag ≡ None }
-    ensures { Writes (enclosed_form (elements_form T.form) sequence_tag writer.old.mode items.now) writer.old writer.new result }
+    ensures { Writes (enclosed_encoding (elements_encoding T.encoding) sequence_tag writer.old.mode items.now) writer.old writer.new result }
 {
     writer.write_sequence_of(|seq| write_items(items, seq))
 }
@@ -71,7 +71,7 @@ fn write_list<T: DEREncodable>(items: &[T], writer: DERWriter<'_>) -> ASN1Result
 // Writes items, one after the other.
 fn write_items<T: DEREncodable>(items: &[T], seq: &mut DERWriterSeq) -> ASN1Result<()>
     requires { AllByRecursion T.encodable items.now }
-    ensures { WroteParts (elements_form T.form seq.old.mode items.now) seq.old seq.new result }
+    ensures { WroteParts (elements_encoding T.encoding seq.old.mode items.now) seq.old seq.new result }
 {
     for item in items {
         item.encode_der(seq.next())?;

@@ -1,8 +1,8 @@
 //! OBJECT IDENTIFIER (X.690, 8.19).
 ghost use Rattle.std.specs.Prelude.{◌≡◌, true};
-ghost use Rattle.yasna_base.specs.Canonical.{leaf_nest};
+ghost use Rattle.yasna_base.specs.Canonical.{leaf_depth};
 ghost use Rattle.yasna_base.specs.Coding.{Any};
-ghost use Rattle.yasna_base.specs.Oid.{EncodesOid, IsEncodableOid, oid_form, oid_tag};
+ghost use Rattle.yasna_base.specs.Oid.{EncodesOid, IsEncodableOid, oid_encoding, oid_tag};
 ghost use Rattle.yasna_base.proofs.Oid.{oid_coding, oid_written};
 
 use crate::traits::{BERDecodable, DERCanonical, DEREncodable};
@@ -16,7 +16,7 @@ impl BERDecodable for ObjectIdentifier {
 
     ghost elements = { Any EncodesOid };
 
-    ghost asks_memory = { true };
+    ghost may_allocate = { true };
 
     ghost same = { λ v w. v ≡ w };
 
@@ -28,9 +28,9 @@ impl BERDecodable for ObjectIdentifier {
 }
 
 impl DEREncodable for ObjectIdentifier {
-    ghost form = { oid_form oid_tag };
+    ghost encoding = { oid_encoding oid_tag };
 
-    ghost nest = { leaf_nest };
+    ghost depth = { leaf_depth };
 
     ghost encodable = { IsEncodableOid };
 

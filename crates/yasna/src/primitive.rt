@@ -2,10 +2,10 @@
 ghost use Rattle.std.specs.Prelude.{◌≡◌, ◌<◌, ◌^◌, false, pos, FitsSigned};
 ghost use Rattle.std.specs.Int.{w64, w32, w16};
 ghost use Rattle.yasna_base.specs.Coding.{Any};
-ghost use Rattle.yasna_base.specs.Canonical.{leaf_nest, Always};
-ghost use Rattle.yasna_base.specs.Boolean.{EncodesBoolean, boolean_form, boolean_tag};
-ghost use Rattle.yasna_base.specs.Null.{EncodesNull, null_form, null_tag};
-ghost use Rattle.yasna_base.specs.Integer.{EncodesSigned, EncodesUnsigned, integer_form, integer_tag};
+ghost use Rattle.yasna_base.specs.Canonical.{leaf_depth, Always};
+ghost use Rattle.yasna_base.specs.Boolean.{EncodesBoolean, boolean_encoding, boolean_tag};
+ghost use Rattle.yasna_base.specs.Null.{EncodesNull, null_encoding, null_tag};
+ghost use Rattle.yasna_base.specs.Integer.{EncodesSigned, EncodesUnsigned, integer_encoding, integer_tag};
 ghost use Rattle.yasna_base.proofs.Boolean.{bool_coding, bool_written};
 ghost use Rattle.yasna_base.proofs.Null.{unit_coding, unit_written};
 ghost use Rattle.yasna_base.proofs.Integer.{signed_coding, signed_written, unsigned_coding, unsigned_written};
@@ -20,7 +20,7 @@ impl BERDecodable for () {
 
     ghost elements = { Any EncodesNull };
 
-    ghost asks_memory = { false };
+    ghost may_allocate = { false };
 
     ghost same = { λ v w. v ≡ w };
 
@@ -32,9 +32,9 @@ impl BERDecodable for () {
 }
 
 impl DEREncodable for () {
-    ghost form = { null_form null_tag };
+    ghost encoding = { null_encoding null_tag };
 
-    ghost nest = { leaf_nest };
+    ghost depth = { leaf_depth };
 
     ghost encodable = { Always };
 
@@ -52,7 +52,7 @@ impl BERDecodable for bool {
 
     ghost elements = { Any EncodesBoolean };
 
-    ghost asks_memory = { false };
+    ghost may_allocate = { false };
 
     ghost same = { λ v w. v ≡ w };
 
@@ -64,9 +64,9 @@ impl BERDecodable for bool {
 }
 
 impl DEREncodable for bool {
-    ghost form = { boolean_form boolean_tag };
+    ghost encoding = { boolean_encoding boolean_tag };
 
-    ghost nest = { leaf_nest };
+    ghost depth = { leaf_depth };
 
     ghost encodable = { Always };
 
@@ -84,7 +84,7 @@ impl BERDecodable for i64 {
 
     ghost elements = { Any (EncodesSigned w64) };
 
-    ghost asks_memory = { false };
+    ghost may_allocate = { false };
 
     ghost same = { λ v w. v ≡ w };
 
@@ -96,9 +96,9 @@ impl BERDecodable for i64 {
 }
 
 impl DEREncodable for i64 {
-    ghost form = { λ m v. integer_form integer_tag m v };
+    ghost encoding = { λ m v. integer_encoding integer_tag m v };
 
-    ghost nest = { leaf_nest };
+    ghost depth = { leaf_depth };
 
     ghost encodable = { FitsSigned w64 };
 
@@ -116,7 +116,7 @@ impl BERDecodable for i32 {
 
     ghost elements = { Any (EncodesSigned w32) };
 
-    ghost asks_memory = { false };
+    ghost may_allocate = { false };
 
     ghost same = { λ v w. v ≡ w };
 
@@ -128,9 +128,9 @@ impl BERDecodable for i32 {
 }
 
 impl DEREncodable for i32 {
-    ghost form = { λ m v. integer_form integer_tag m v };
+    ghost encoding = { λ m v. integer_encoding integer_tag m v };
 
-    ghost nest = { leaf_nest };
+    ghost depth = { leaf_depth };
 
     ghost encodable = { FitsSigned w32 };
 
@@ -148,7 +148,7 @@ impl BERDecodable for i16 {
 
     ghost elements = { Any (EncodesSigned w16) };
 
-    ghost asks_memory = { false };
+    ghost may_allocate = { false };
 
     ghost same = { λ v w. v ≡ w };
 
@@ -160,9 +160,9 @@ impl BERDecodable for i16 {
 }
 
 impl DEREncodable for i16 {
-    ghost form = { λ m v. integer_form integer_tag m v };
+    ghost encoding = { λ m v. integer_encoding integer_tag m v };
 
-    ghost nest = { leaf_nest };
+    ghost depth = { leaf_depth };
 
     ghost encodable = { FitsSigned w16 };
 
@@ -180,7 +180,7 @@ impl BERDecodable for u64 {
 
     ghost elements = { Any (EncodesUnsigned 64) };
 
-    ghost asks_memory = { false };
+    ghost may_allocate = { false };
 
     ghost same = { λ v w. v ≡ w };
 
@@ -192,9 +192,9 @@ impl BERDecodable for u64 {
 }
 
 impl DEREncodable for u64 {
-    ghost form = { λ m v. integer_form integer_tag m (pos v) };
+    ghost encoding = { λ m v. integer_encoding integer_tag m (pos v) };
 
-    ghost nest = { leaf_nest };
+    ghost depth = { leaf_depth };
 
     ghost encodable = { λ v. v < 2 ^ 64 };
 
@@ -212,7 +212,7 @@ impl BERDecodable for u32 {
 
     ghost elements = { Any (EncodesUnsigned 32) };
 
-    ghost asks_memory = { false };
+    ghost may_allocate = { false };
 
     ghost same = { λ v w. v ≡ w };
 
@@ -224,9 +224,9 @@ impl BERDecodable for u32 {
 }
 
 impl DEREncodable for u32 {
-    ghost form = { λ m v. integer_form integer_tag m (pos v) };
+    ghost encoding = { λ m v. integer_encoding integer_tag m (pos v) };
 
-    ghost nest = { leaf_nest };
+    ghost depth = { leaf_depth };
 
     ghost encodable = { λ v. v < 2 ^ 32 };
 
@@ -244,7 +244,7 @@ impl BERDecodable for u16 {
 
     ghost elements = { Any (EncodesUnsigned 16) };
 
-    ghost asks_memory = { false };
+    ghost may_allocate = { false };
 
     ghost same = { λ v w. v ≡ w };
 
@@ -256,9 +256,9 @@ impl BERDecodable for u16 {
 }
 
 impl DEREncodable for u16 {
-    ghost form = { λ m v. integer_form integer_tag m (pos v) };
+    ghost encoding = { λ m v. integer_encoding integer_tag m (pos v) };
 
-    ghost nest = { leaf_nest };
+    ghost depth = { leaf_depth };
 
     ghost encodable = { λ v. v < 2 ^ 16 };
 

@@ -1,9 +1,9 @@
 //! Elements of any tag, whose contents aren't given a type (X.690, 8.1).
 ghost use Rattle.std.specs.Prelude.{◌≡◌, true};
-ghost use Rattle.yasna_base.specs.Canonical.{Always, leaf_nest};
+ghost use Rattle.yasna_base.specs.Canonical.{Always, leaf_depth};
 ghost use Rattle.yasna_base.specs.Coding.{Any};
 ghost use Rattle.yasna_base.specs.Raw.{IsRaw};
-ghost use Rattle.yasna_base.specs.SetWriting.{own_form};
+ghost use Rattle.yasna_base.specs.SetWriting.{own_encoding};
 ghost use Rattle.yasna_base.specs.TaggedDerValue.{raw_of};
 ghost use Rattle.yasna_base.proofs.Coding.{along};
 ghost use Rattle.yasna_base.proofs.Raw.{raw_coding};
@@ -19,7 +19,7 @@ impl BERDecodable for TaggedDerValue {
 
     ghost elements = { Any (λ m n v b. IsRaw n m v b) };
 
-    ghost asks_memory = { true };
+    ghost may_allocate = { true };
 
     ghost same = { λ v w. raw_of v ≡ raw_of w };
 
@@ -32,9 +32,9 @@ impl BERDecodable for TaggedDerValue {
 
 /// It is written as it came: what BER read with an indefinite length is no element of DER then. How deep it nests isn't counted.
 impl DEREncodable for TaggedDerValue {
-    ghost form = { λ m v. own_form m (raw_of v) };
+    ghost encoding = { λ m v. own_encoding m (raw_of v) };
 
-    ghost nest = { leaf_nest };
+    ghost depth = { leaf_depth };
 
     ghost encodable = { Always };
 

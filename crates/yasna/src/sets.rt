@@ -3,7 +3,7 @@ ghost use Rattle.yasna_base.specs.SetWriting.{SetOfKeepsReadingLaws, SetOfSetOfK
 
 use crate::traits::{BERDecodable, DERCanonical};
 
-/// What is proved of a SET OF values of every type that keeps the laws of reading.
+/// What is proved of a SET OF values of every type that satisfies the laws of reading.
 ///
 /// Under any tag but that of the end of contents, no bytes belong to two lists of values, no encoding begins another,
 /// and what is read within some levels is read within more.
@@ -13,17 +13,17 @@ pub fn set_of_is_read<T: BERDecodable>()
 
 /// The same of a SET OF such SETs OF, each under any tag but that of the end of contents.
 ///
-/// Deeper ones keep the laws by the lemma `set_of_reading`, of the law of their elements; `laws::sets_of_others` of `yasna_base`
+/// Deeper ones satisfy the laws by the lemma `set_of_reading`, of the law of their elements; `laws::sets_of_other_types` of `yasna_base`
 /// says so of elements without traits.
 pub fn set_of_sets_is_read<T: BERDecodable>()
     ensures { SetOfSetOfKeepsReadingLaws T.same T.encodes T.elements }
 {}
 
-/// What is proved of a SET OF values of every type that keeps the laws.
+/// What is proved of a SET OF values of every type that satisfies the laws.
 ///
-/// Under any tag but that of the end of contents, DER and CER read values in the order of their forms there, from these
+/// Under any tag but that of the end of contents, DER and CER read values in the order of their encodings there, from these
 /// alone, and BER reads them from these too. What is written of values, in whatever order, is read as the same values in
 /// order; and what DER or CER read is written again in that mode as the same bytes.
 pub fn set_of_is_written<T: DERCanonical>()
-    ensures { SetOfKeepsWritingLaws T.same T.encodes T.form T.nest T.encodable }
+    ensures { SetOfKeepsWritingLaws T.same T.encodes T.encoding T.depth T.encodable }
 {}

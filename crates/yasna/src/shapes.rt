@@ -24,7 +24,7 @@ pub trait Shaped {
     /// The other type: the tuple of the fields, or the type of the only one.
     type Shape;
 
-    // What stands for a value.
+    // What represents a value.
     ghost shape_of: { Self → Self.Shape };
 }
 
@@ -38,7 +38,7 @@ pub trait Shaped {
 /// }
 /// ```
 pub trait FromShape: Shaped + Sized {
-    /// Makes a value of what stands for it.
+    /// Makes a value of what represents it.
     fn from_shape(shape: Self::Shape) -> Self
         ensures { Self.shape_of result ≡ shape };
 }
@@ -51,7 +51,7 @@ where
 
     ghost elements = { T.Shape.elements };
 
-    ghost asks_memory = { T.Shape.asks_memory };
+    ghost may_allocate = { T.Shape.may_allocate };
 
     ghost same = { λ v w. T.Shape.same (T.shape_of v) (T.shape_of w) };
 
@@ -77,20 +77,20 @@ pub trait EncodeShape: Shaped
 where
     Self::Shape: DEREncodable,
 {
-    /// Writes what stands for the value, as `encode_der` writes it.
+    /// Writes what represents the value, as `encode_der` writes it.
     fn encode_shape(&self, writer: DERWriter<'_>) -> ASN1Result<()>
         requires can { Self.Shape.encodable (Self.shape_of self.now) }
         requires untagged { writer.old.tag ≡ None }
-        ensures { Writes (Self.Shape.form writer.old.mode (Self.shape_of self.now)) writer.old writer.new result };
+        ensures { Writes (Self.Shape.encoding writer.old.mode (Self.shape_of self.now)) writer.old writer.new result };
 }
 
 impl<T: EncodeShape> DEREncodable for T
 where
     T::Shape: DEREncodable,
 {
-    ghost form = { λ m v. T.Shape.form m (T.shape_of v) };
+    ghost encoding = { λ m v. T.Shape.encoding m (T.shape_of v) };
 
-    ghost nest = { λ m v. T.Shape.nest m (T.shape_of v) };
+    ghost depth = { λ m v. T.Shape.depth m (T.shape_of v) };
 
     ghost encodable = { λ v. T.Shape.encodable (T.shape_of v) };
 

@@ -3,8 +3,8 @@ ghost use Rattle.std.specs.Prelude.{◌≡◌, true};
 ghost use Rattle.yasna_base.specs.Canonical.{Always};
 ghost use Rattle.yasna_base.specs.Coding.{Any};
 ghost use Rattle.yasna_base.specs.Digits.{IsBytes};
-ghost use Rattle.yasna_base.specs.Octets.{EncodesOctets, EncodesVec, octets_form, octets_nest, octets_tag};
-ghost use Rattle.yasna_base.specs.Text.{EncodesText, EncodesString, utf8_form, utf8_nest, characters, utf8_tag};
+ghost use Rattle.yasna_base.specs.Octets.{EncodesOctets, EncodesVec, octets_encoding, octets_depth, octets_tag};
+ghost use Rattle.yasna_base.specs.Text.{EncodesText, EncodesString, utf8_encoding, utf8_depth, characters, utf8_tag};
 ghost use Rattle.yasna_base.proofs.Octets.{vec_coding, vec_written};
 ghost use Rattle.yasna_base.proofs.Texts.{text_coding, text_written};
 
@@ -18,7 +18,7 @@ impl BERDecodable for Vec<u8> {
 
     ghost elements = { Any EncodesOctets };
 
-    ghost asks_memory = { true };
+    ghost may_allocate = { true };
 
     ghost same = { λ v w. v.items ≡ w.items };
 
@@ -30,9 +30,9 @@ impl BERDecodable for Vec<u8> {
 }
 
 impl DEREncodable for Vec<u8> {
-    ghost form = { λ m v. octets_form octets_tag m v.items };
+    ghost encoding = { λ m v. octets_encoding octets_tag m v.items };
 
-    ghost nest = { λ m v. octets_nest m v.items };
+    ghost depth = { λ m v. octets_depth m v.items };
 
     ghost encodable = { λ v. IsBytes v.items };
 
@@ -50,7 +50,7 @@ impl BERDecodable for String {
 
     ghost elements = { Any EncodesText };
 
-    ghost asks_memory = { true };
+    ghost may_allocate = { true };
 
     ghost same = { λ v w. characters v ≡ characters w };
 
@@ -62,9 +62,9 @@ impl BERDecodable for String {
 }
 
 impl DEREncodable for String {
-    ghost form = { λ m v. utf8_form utf8_tag m (characters v) };
+    ghost encoding = { λ m v. utf8_encoding utf8_tag m (characters v) };
 
-    ghost nest = { λ m v. utf8_nest m (characters v) };
+    ghost depth = { λ m v. utf8_depth m (characters v) };
 
     ghost encodable = { Always };
 

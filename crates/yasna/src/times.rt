@@ -2,9 +2,9 @@
 ghost use Rattle.std.specs.Prelude.{◌≡◌, true};
 ghost use Rattle.yasna_base.specs.Canonical.{Always};
 ghost use Rattle.yasna_base.specs.Coding.{Any};
-ghost use Rattle.yasna_times.specs.GeneralizedTime.{EncodesGeneralizedTime, generalized_time_form, generalized_time_nest, generalized_time_tag};
+ghost use Rattle.yasna_times.specs.GeneralizedTime.{EncodesGeneralizedTime, generalized_time_encoding, generalized_time_depth, generalized_time_tag};
 ghost use Rattle.yasna_times.specs.Models.{EncodesUtc, EncodesGeneral, utc_of, moment_of};
-ghost use Rattle.yasna_times.specs.UtcTime.{EncodesUtcTime, utc_time_form, utc_time_nest, utc_time_tag};
+ghost use Rattle.yasna_times.specs.UtcTime.{EncodesUtcTime, utc_time_encoding, utc_time_depth, utc_time_tag};
 ghost use Rattle.yasna_times.proofs.TimeLaws.{utc_coding, utc_written, general_coding, general_written};
 
 use crate::traits::{BERDecodable, DERCanonical, DEREncodable};
@@ -18,7 +18,7 @@ impl BERDecodable for UTCTime {
 
     ghost elements = { Any EncodesUtcTime };
 
-    ghost asks_memory = { true };
+    ghost may_allocate = { true };
 
     ghost same = { λ v w. utc_of v ≡ utc_of w };
 
@@ -30,9 +30,9 @@ impl BERDecodable for UTCTime {
 }
 
 impl DEREncodable for UTCTime {
-    ghost form = { λ m v. utc_time_form utc_time_tag m (utc_of v) };
+    ghost encoding = { λ m v. utc_time_encoding utc_time_tag m (utc_of v) };
 
-    ghost nest = { λ m v. utc_time_nest m (utc_of v) };
+    ghost depth = { λ m v. utc_time_depth m (utc_of v) };
 
     ghost encodable = { Always };
 
@@ -50,7 +50,7 @@ impl BERDecodable for GeneralizedTime {
 
     ghost elements = { Any EncodesGeneralizedTime };
 
-    ghost asks_memory = { true };
+    ghost may_allocate = { true };
 
     ghost same = { λ v w. moment_of v ≡ moment_of w };
 
@@ -62,9 +62,9 @@ impl BERDecodable for GeneralizedTime {
 }
 
 impl DEREncodable for GeneralizedTime {
-    ghost form = { λ m v. generalized_time_form generalized_time_tag m (moment_of v) };
+    ghost encoding = { λ m v. generalized_time_encoding generalized_time_tag m (moment_of v) };
 
-    ghost nest = { λ m v. generalized_time_nest m (moment_of v) };
+    ghost depth = { λ m v. generalized_time_depth m (moment_of v) };
 
     ghost encodable = { Always };
 

@@ -1,14 +1,14 @@
 //! What a type says that is read and written as a whole.
 //!
-//! A type names its grammar, its form in each canonical mode and which values are equal, and proves the laws that tie them.
-//! The laws of the types that come with the crate stand by name in `yasna_base`; those of a type made of others follow from theirs.
+//! A type names its grammar, its encoding in each canonical mode and which values are equal, and proves the laws that tie them.
+//! The laws of the types that come with the crate are by name in `yasna_base`; those of a type made of others follow from theirs.
 ghost use Rattle.std.specs.Prelude.{◌≡◌, ⊤, ℕ, List, Bool, None, Result};
 ghost use Rattle.yasna_base.specs.declared.error.ASN1Error.{ASN1Error};
 ghost use Rattle.yasna_base.specs.declared.mode.BERMode.{BERMode};
 ghost use Rattle.yasna_base.specs.Coding.{IsCoding};
 ghost use Rattle.yasna_base.specs.Canonical.{IsWritten};
-ghost use Rattle.yasna_base.specs.Grammar.{Grammar, Members, Form, Nest};
-ghost use Rattle.yasna_reader.specs.Decodes.{Decodes, RepeatsKept};
+ghost use Rattle.yasna_base.specs.Grammar.{Grammar, Members, Encoding, Depth};
+ghost use Rattle.yasna_reader.specs.Decodes.{Decodes, RepeatsError};
 ghost use Rattle.yasna_reader.specs.State.{Reading, Does};
 ghost use Rattle.yasna_writer.specs.View.{Writes};
 
@@ -26,22 +26,22 @@ pub trait BERDecodable: Sized + Drop {
     // What that asks of the bytes alone.
     ghost elements: { Members };
 
-    // Whether reading a value may want memory.
-    ghost asks_memory: { Bool };
+    // Whether reading a value may allocate.
+    ghost may_allocate: { Bool };
 
     // Which values are equal.
     ghost same: { Self → Self → Type 0 };
 
-    // What `decode_ber` does besides, where a type says more than its contract, as which refusal comes.
+    // What `decode_ber` does besides, where a type says more than its contract, as which error comes.
     ghost reads: { Does Self } = { λ _ _ _. ⊤ };
 
     /// Reads a value of this type, where no implicit tag waits.
     ///
-    /// A failure that was kept is answered, and nothing else happens.
+    /// A sticky error is returned, and nothing else happens.
     fn decode_ber(reader: BERReader) -> ASN1Result<Self>
         requires { reader.old.tag ≡ None }
-        ensures decodes { reader.old.kept ≡ None → Decodes asks_memory encodes elements reader.old result reader.new }
-        ensures kept { RepeatsKept reader.old result reader.new }
+        ensures decodes { reader.old.failed ≡ None → Decodes may_allocate encodes elements reader.old result reader.new }
+        ensures failed { RepeatsError reader.old result reader.new }
         ensures reads { reads reader.old result reader.new };
 
     // Of two encodings neither begins the other, equal bytes encode equal values, and what is read within some levels
@@ -53,29 +53,29 @@ pub trait BERDecodable: Sized + Drop {
 ///
 /// A struct gets it from its shape, by `EncodeShape`.
 pub trait DEREncodable {
-    // The form of a value in a canonical mode.
-    ghost form: { Form Self };
+    // The encoding of a value in a canonical mode.
+    ghost encoding: { Encoding Self };
 
-    // How many levels that form takes.
-    ghost nest: { Nest Self };
+    // How many levels that encoding takes.
+    ghost depth: { Depth Self };
 
-    // Which values have a form.
+    // Which values have an encoding.
     ghost encodable: { Self → Type 0 };
 
     /// Writes a value of this type, where no implicit tag waits.
     ///
-    /// `Err` is want of memory, that of the writer or one of its own. Where a failure was kept, it stays.
+    /// `Err` is `OutOfMemory`, that of the writer or one of its own. Where an error was sticky, it stays.
     fn encode_der(&self, writer: DERWriter<'_>) -> ASN1Result<()>
         requires can { encodable self.now }
         requires untagged { writer.old.tag ≡ None }
-        ensures { Writes (form writer.old.mode self.now) writer.old writer.new result };
+        ensures { Writes (encoding writer.old.mode self.now) writer.old writer.new result };
 }
 
-/// A type that is read from DER and CER exactly where its one form there stands, which BER reads too.
+/// A type that is read from DER and CER exactly where its one encoding is there, which BER reads too.
 ///
 /// It has no function: an impl proves the law. A type with a shape that has it has it too, where it is read and written as its shape.
 pub trait DERCanonical: BERDecodable + DEREncodable {
-    // The form is read, in its mode and in BER; a canonical mode reads nothing else; what BER reads can be written;
+    // The encoding is read, in its mode and in BER; a canonical mode reads nothing else; what BER reads can be written;
     // equal values are written alike.
-    ghost written: { IsWritten Self.same Self.encodes Self.form Self.nest Self.encodable };
+    ghost written: { IsWritten Self.same Self.encodes Self.encoding Self.depth Self.encodable };
 }

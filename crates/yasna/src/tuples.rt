@@ -4,18 +4,18 @@
 //! are those of its parts, one after the other.
 ghost use Rattle.std.specs.Prelude.{◌≡◌, ℕ, List, Bool, None, false, ◌||◌, ◌++◌, []};
 ghost use Rattle.yasna_base.specs.declared.mode.BERMode.{BERMode};
-ghost use Rattle.yasna_base.specs.Grammar.{Grammar, Members, Form};
-ghost use Rattle.yasna_base.specs.Sequence.{sequence_tag, PartOf, NoParts, AnyPart, AnyNothing, SamePart, SameNothing, part_form, part_nest, part_can, nothing_form, nothing_nest};
+ghost use Rattle.yasna_base.specs.Grammar.{Grammar, Members, Encoding};
+ghost use Rattle.yasna_base.specs.Sequence.{sequence_tag, PartOf, NoParts, AnyPart, AnyNothing, SamePart, SameNothing, part_encoding, part_depth, part_can, nothing_encoding, nothing_depth};
 ghost use Rattle.yasna_base.specs.Element.{Enclosed, AnyEnclosed};
 ghost use Rattle.yasna_base.specs.Coding.{ArePartsCoding};
-ghost use Rattle.yasna_base.specs.Canonical.{enclosed_form, enclosed_nest, Always};
+ghost use Rattle.yasna_base.specs.Canonical.{enclosed_encoding, enclosed_depth, Always};
 ghost use Rattle.yasna_base.proofs.Sequence.{part, no_part, tuple, part_written, no_part_written, tuple_written};
 ghost use Rattle.yasna_writer.specs.View.{Writes, WroteParts};
 ghost use Rattle.yasna_reader.specs.State.{IsFresh, part_of};
-ghost use Rattle.yasna_reader.specs.Decodes.{Decodes, DecodesParts, RepeatsKept};
+ghost use Rattle.yasna_reader.specs.Decodes.{Decodes, DecodesParts, RepeatsError};
 
 mod exact;
-mod others;
+mod three_to_twelve;
 
 use crate::traits::{BERDecodable, DERCanonical, DEREncodable};
 use yasna_base::error::ASN1Result;
@@ -30,8 +30,8 @@ pub trait TupleParts: Sized {
     // What that asks of the bytes alone.
     ghost any_parts: { Members };
 
-    // Whether reading one may want memory.
-    ghost parts_ask: { Bool };
+    // Whether reading one may allocate.
+    ghost parts_may_allocate: { Bool };
 
     // Which parts are equal.
     ghost same_parts: { Self → Self → Type 0 };
@@ -39,7 +39,7 @@ pub trait TupleParts: Sized {
     /// Reads the parts, one after the other.
     fn read_parts(seq: &mut BERReaderSeq) -> ASN1Result<Self>
         requires { IsFresh (part_of seq.old) }
-        ensures { DecodesParts parts_ask parts any_parts (part_of seq.old) result (part_of seq.new) };
+        ensures { DecodesParts parts_may_allocate parts any_parts (part_of seq.old) result (part_of seq.new) };
 
     // The laws of reading.
     ghost lawful: { ArePartsCoding same_parts parts any_parts };
@@ -50,7 +50,7 @@ impl TupleParts for () {
 
     ghost any_parts = { AnyNothing };
 
-    ghost parts_ask = { false };
+    ghost parts_may_allocate = { false };
 
     ghost same_parts = { SameNothing };
 
@@ -66,7 +66,7 @@ impl<A: BERDecodable, W: TupleParts> TupleParts for (A, W) {
 
     ghost any_parts = { AnyPart A.elements W.any_parts };
 
-    ghost parts_ask = { (A.asks_memory || W.parts_ask) };
+    ghost parts_may_allocate = { (A.may_allocate || W.parts_may_allocate) };
 
     ghost same_parts = { SamePart A.same W.same_parts };
 
@@ -83,13 +83,13 @@ impl<A: BERDecodable, W: TupleParts> TupleParts for (A, W) {
 #[inline(always)]
 fn read_tuple<W: TupleParts + Drop>(reader: BERReader) -> ASN1Result<W>
     requires { reader.old.tag ≡ None }
-    ensures decodes { reader.old.kept ≡ None → Decodes W.parts_ask (Enclosed W.parts sequence_tag) (AnyEnclosed W.any_parts sequence_tag) reader.old result reader.new }
-    ensures kept { RepeatsKept reader.old result reader.new }
+    ensures decodes { reader.old.failed ≡ None → Decodes W.parts_may_allocate (Enclosed W.parts sequence_tag) (AnyEnclosed W.any_parts sequence_tag) reader.old result reader.new }
+    ensures failed { RepeatsError reader.old result reader.new }
 {
     reader.read_sequence(|seq| W::read_parts(seq))
 }
 
-// Reads a SEQUENCE of six parts and of those behind them.
+// Reads a SEQUENCE of six parts and of those after them.
 fn read_long_tuple<
     A: BERDecodable,
     B: BERDecodable,
@@ -100,8 +100,8 @@ fn read_long_tuple<
     W: TupleParts + Drop,
 >(reader: BERReader) -> ASN1Result<((A, B, C, D, E, F), W)>
     requires { reader.old.tag ≡ None }
-    ensures decodes { reader.old.kept ≡ None → Decodes (A.asks_memory || (B.asks_memory || (C.asks_memory || (D.asks_memory || (E.asks_memory || (F.asks_memory || W.parts_ask)))))) (λ m n v b. Enclosed (PartOf A.encodes (PartOf B.encodes (PartOf C.encodes (PartOf D.encodes (PartOf E.encodes (PartOf F.encodes W.parts)))))) sequence_tag m n (v.0.0, (v.0.1, (v.0.2, (v.0.3, (v.0.4, (v.0.5, v.1)))))) b) (AnyEnclosed (AnyPart A.elements (AnyPart B.elements (AnyPart C.elements (AnyPart D.elements (AnyPart E.elements (AnyPart F.elements W.any_parts)))))) sequence_tag) reader.old result reader.new }
-    ensures kept { RepeatsKept reader.old result reader.new }
+    ensures decodes { reader.old.failed ≡ None → Decodes (A.may_allocate || (B.may_allocate || (C.may_allocate || (D.may_allocate || (E.may_allocate || (F.may_allocate || W.parts_may_allocate)))))) (λ m n v b. Enclosed (PartOf A.encodes (PartOf B.encodes (PartOf C.encodes (PartOf D.encodes (PartOf E.encodes (PartOf F.encodes W.parts)))))) sequence_tag m n (v.0.0, (v.0.1, (v.0.2, (v.0.3, (v.0.4, (v.0.5, v.1)))))) b) (AnyEnclosed (AnyPart A.elements (AnyPart B.elements (AnyPart C.elements (AnyPart D.elements (AnyPart E.elements (AnyPart F.elements W.any_parts)))))) sequence_tag) reader.old result reader.new }
+    ensures failed { RepeatsError reader.old result reader.new }
 {
     match read_tuple(reader) {
         Ok((a, (b, (c, (d, (e, (f, others))))))) => Ok(((a, b, c, d, e, f), others)),
@@ -111,20 +111,20 @@ fn read_long_tuple<
 
 /// Values that are written one after the other: pairs that end in `()`, as `(&a, (&b, (&c, ())))`.
 pub trait EncodableParts {
-    // The forms of the values, one after the other.
-    ghost parts_form: { Form Self };
+    // The encodings of the values, one after the other.
+    ghost parts_encoding: { Encoding Self };
 
-    // Whether each has a form.
+    // Whether each has an encoding.
     ghost parts_encodable: { Self → Type 0 };
 
     /// Writes the values as parts of a SEQUENCE.
     fn write_parts(&self, seq: &mut DERWriterSeq) -> ASN1Result<()>
         requires { parts_encodable self.now }
-        ensures { WroteParts (parts_form seq.old.mode self.now) seq.old seq.new result };
+        ensures { WroteParts (parts_encoding seq.old.mode self.now) seq.old seq.new result };
 }
 
 impl EncodableParts for () {
-    ghost parts_form = { nothing_form };
+    ghost parts_encoding = { nothing_encoding };
 
     ghost parts_encodable = { Always };
 
@@ -134,7 +134,7 @@ impl EncodableParts for () {
 }
 
 impl<A: DEREncodable, W: EncodableParts> EncodableParts for (A, W) {
-    ghost parts_form = { part_form A.form W.parts_form };
+    ghost parts_encoding = { part_encoding A.encoding W.parts_encoding };
 
     ghost parts_encodable = { part_can A.encodable W.parts_encodable };
 
@@ -149,12 +149,12 @@ impl<A: DEREncodable, W: EncodableParts> EncodableParts for (A, W) {
 fn write_tuple<W: EncodableParts>(parts: &W, writer: DERWriter<'_>) -> ASN1Result<()>
     requires can { W.parts_encodable parts.now }
     requires untagged { writer.old.tag ≡ None }
-    ensures { Writes (enclosed_form W.parts_form sequence_tag writer.old.mode parts.now) writer.old writer.new result }
+    ensures { Writes (enclosed_encoding W.parts_encoding sequence_tag writer.old.mode parts.now) writer.old writer.new result }
 {
     writer.write_sequence(|seq| parts.write_parts(seq))
 }
 
-// Writes a SEQUENCE of six parts and of those behind them.
+// Writes a SEQUENCE of six parts and of those after them.
 fn write_long_tuple<
     A: DEREncodable,
     B: DEREncodable,
@@ -166,7 +166,7 @@ fn write_long_tuple<
 >(first: (&A, &B, &C, &D, &E, &F), others: W, writer: DERWriter<'_>) -> ASN1Result<()>
     requires can { part_can A.encodable (part_can B.encodable (part_can C.encodable (part_can D.encodable (part_can E.encodable (part_can F.encodable W.parts_encodable))))) (first.0.now, (first.1.now, (first.2.now, (first.3.now, (first.4.now, (first.5.now, others)))))) }
     requires untagged { writer.old.tag ≡ None }
-    ensures { Writes (enclosed_form (part_form A.form (part_form B.form (part_form C.form (part_form D.form (part_form E.form (part_form F.form W.parts_form)))))) sequence_tag writer.old.mode (first.entry.0.now, (first.entry.1.now, (first.entry.2.now, (first.entry.3.now, (first.entry.4.now, (first.entry.5.now, others))))))) writer.old writer.new result }
+    ensures { Writes (enclosed_encoding (part_encoding A.encoding (part_encoding B.encoding (part_encoding C.encoding (part_encoding D.encoding (part_encoding E.encoding (part_encoding F.encoding W.parts_encoding)))))) sequence_tag writer.old.mode (first.entry.0.now, (first.entry.1.now, (first.entry.2.now, (first.entry.3.now, (first.entry.4.now, (first.entry.5.now, others))))))) writer.old writer.new result }
 {
     let (a, b, c, d, e, f) = first;
     write_tuple(&(a, (b, (c, (d, (e, (f, others)))))), writer)
@@ -184,7 +184,7 @@ impl<W: TupleParts + Drop> BERDecodable for InSequence<W> {
 
     ghost elements = { AnyEnclosed W.any_parts sequence_tag };
 
-    ghost asks_memory = { W.parts_ask };
+    ghost may_allocate = { W.parts_may_allocate };
 
     ghost same = { λ v w. W.same_parts v.parts w.parts };
 
@@ -202,7 +202,7 @@ impl<A: BERDecodable, B: BERDecodable> BERDecodable for (A, B) {
 
     ghost elements = { AnyEnclosed (AnyPart A.elements (AnyPart B.elements AnyNothing)) sequence_tag };
 
-    ghost asks_memory = { (A.asks_memory || (B.asks_memory || false)) };
+    ghost may_allocate = { (A.may_allocate || (B.may_allocate || false)) };
 
     ghost same = { λ v w. SamePart A.same (SamePart B.same SameNothing) (v.0, (v.1, tt)) (w.0, (w.1, tt)) };
 
@@ -218,9 +218,9 @@ impl<A: BERDecodable, B: BERDecodable> BERDecodable for (A, B) {
 }
 
 impl<A: DEREncodable, B: DEREncodable> DEREncodable for (A, B) {
-    ghost form = { λ m v. enclosed_form (part_form A.form (part_form B.form nothing_form)) sequence_tag m (v.0, (v.1, tt)) };
+    ghost encoding = { λ m v. enclosed_encoding (part_encoding A.encoding (part_encoding B.encoding nothing_encoding)) sequence_tag m (v.0, (v.1, tt)) };
 
-    ghost nest = { λ m v. enclosed_nest (part_nest A.nest (part_nest B.nest nothing_nest)) m (v.0, (v.1, tt)) };
+    ghost depth = { λ m v. enclosed_depth (part_depth A.depth (part_depth B.depth nothing_depth)) m (v.0, (v.1, tt)) };
 
     ghost encodable = { λ v. part_can A.encodable (part_can B.encodable Always) (v.0, (v.1, tt {0})) };
 

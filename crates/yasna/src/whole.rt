@@ -16,14 +16,14 @@ use yasna_writer::{construct_cer, construct_der};
 
 /// Reads a value from bytes, all of them, by these rules.
 ///
-/// An `Err` is what `T::decode_ber` kept or answered on a reading of all the bytes, else `Extra`, where it left some.
+/// An `Err` is what `T::decode_ber` kept or returned on a reading of all the bytes, else `Extra`, where it left some.
 pub fn decode_ber_general<T: BERDecodable>(
     alloc: Global,
     src: &[u8],
     mode: BERMode,
 ) -> ASN1Result<T>
-    ensures decoded { Decoded T.asks_memory T.encodes T.elements mode src.now result }
-    ensures answers { Parses T.reads mode src.now result }
+    ensures decoded { Decoded T.may_allocate T.encodes T.elements mode src.now result }
+    ensures parses { Parses T.reads mode src.now result }
     ensures exact { (v : T) → T.encodes mode 101 v src.now → MatchResult result (λ w. T.same w v) (λ e. kind_of e ≡ OutOfMemory) }
 {
     parse_ber_general(alloc, src, mode, |reader| T::decode_ber(reader))
@@ -31,8 +31,8 @@ pub fn decode_ber_general<T: BERDecodable>(
 
 /// Reads a value from bytes, all of them, by the basic encoding rules (X.690, clause 8).
 pub fn decode_ber<T: BERDecodable>(alloc: Global, src: &[u8]) -> ASN1Result<T>
-    ensures decoded { Decoded T.asks_memory T.encodes T.elements Ber src.now result }
-    ensures answers { Parses T.reads Ber src.now result }
+    ensures decoded { Decoded T.may_allocate T.encodes T.elements Ber src.now result }
+    ensures parses { Parses T.reads Ber src.now result }
     ensures exact { (v : T) → T.encodes Ber 101 v src.now → MatchResult result (λ w. T.same w v) (λ e. kind_of e ≡ OutOfMemory) }
 {
     decode_ber_general(alloc, src, BERMode::Ber)
@@ -40,10 +40,10 @@ pub fn decode_ber<T: BERDecodable>(alloc: Global, src: &[u8]) -> ASN1Result<T>
 
 /// Reads a value from bytes, all of them, by the distinguished encoding rules (X.690, clause 10).
 ///
-/// A value is answered only from its one DER form.
+/// A value is returned only from its one DER encoding.
 pub fn decode_der<T: BERDecodable>(alloc: Global, src: &[u8]) -> ASN1Result<T>
-    ensures decoded { Decoded T.asks_memory T.encodes T.elements Der src.now result }
-    ensures answers { Parses T.reads Der src.now result }
+    ensures decoded { Decoded T.may_allocate T.encodes T.elements Der src.now result }
+    ensures parses { Parses T.reads Der src.now result }
     ensures exact { (v : T) → T.encodes Der 101 v src.now → MatchResult result (λ w. T.same w v) (λ e. kind_of e ≡ OutOfMemory) }
 {
     decode_ber_general(alloc, src, BERMode::Der)
@@ -51,50 +51,50 @@ pub fn decode_der<T: BERDecodable>(alloc: Global, src: &[u8]) -> ASN1Result<T>
 
 /// Reads a value from bytes, all of them, by the canonical encoding rules (X.690, clause 9).
 ///
-/// A value is answered only from its one CER form.
+/// A value is returned only from its one CER encoding.
 pub fn decode_cer<T: BERDecodable>(alloc: Global, src: &[u8]) -> ASN1Result<T>
-    ensures decoded { Decoded T.asks_memory T.encodes T.elements Cer src.now result }
-    ensures answers { Parses T.reads Cer src.now result }
+    ensures decoded { Decoded T.may_allocate T.encodes T.elements Cer src.now result }
+    ensures parses { Parses T.reads Cer src.now result }
     ensures exact { (v : T) → T.encodes Cer 101 v src.now → MatchResult result (λ w. T.same w v) (λ e. kind_of e ≡ OutOfMemory) }
 {
     decode_ber_general(alloc, src, BERMode::Cer)
 }
 
-/// The DER form of a value that has one, or `OutOfMemory`.
+/// The DER encoding of a value that has one, or `OutOfMemory`.
 pub fn encode_der<T: DEREncodable>(alloc: Global, value: &T) -> ASN1Result<Vec<u8>>
     requires { T.encodable value.now }
-    ensures form { IfOk result (λ bytes. bytes.items ≡ T.form Der value.now) }
+    ensures encoding { IfOk result (λ bytes. bytes.items ≡ T.encoding Der value.now) }
     ensures memory { IfErr result (λ e. kind_of e ≡ OutOfMemory) }
 {
     construct_der(alloc, |writer| value.encode_der(writer))
 }
 
-/// The CER form of a value that has one, or `OutOfMemory`.
+/// The CER encoding of a value that has one, or `OutOfMemory`.
 pub fn encode_cer<T: DEREncodable>(alloc: Global, value: &T) -> ASN1Result<Vec<u8>>
     requires { T.encodable value.now }
-    ensures form { IfOk result (λ bytes. bytes.items ≡ T.form Cer value.now) }
+    ensures encoding { IfOk result (λ bytes. bytes.items ≡ T.encoding Cer value.now) }
     ensures memory { IfErr result (λ e. kind_of e ≡ OutOfMemory) }
 {
     construct_cer(alloc, |writer| value.encode_der(writer))
 }
 
-/// What is proved of every type that keeps the laws.
+/// What is proved of every type that satisfies the laws.
 ///
-/// Its DER form is the only bytes that it is read from in DER, and it is read from it in BER too; what BER reads has a
+/// Its DER encoding is the only bytes that it is read from in DER, and it is read from it in BER too; what BER reads has a
 /// form; no bytes belong to two values, and no encoding begins another. All within 101 levels.
-pub fn one_form<T: DERCanonical>()
-    ensures der { (v : T) (s : List ℕ) → length s < 2 ^ 64 → T.encodes Der 101 v s ↔ (T.encodable v × (T.nest Der v ≤ 101) × (s ≡ T.form Der v)) }
-    ensures ber { (v : T) → T.encodable v → T.nest Der v ≤ 101 → length (T.form Der v) < 2 ^ 64 → T.encodes Ber 101 v (T.form Der v) }
-    ensures written { (v : T) (s : List ℕ) → T.encodes Ber 101 v s → T.encodable v × (T.nest Der v ≤ 101) }
+pub fn one_encoding<T: DERCanonical>()
+    ensures der { (v : T) (s : List ℕ) → length s < 2 ^ 64 → T.encodes Der 101 v s ↔ (T.encodable v × (T.depth Der v ≤ 101) × (s ≡ T.encoding Der v)) }
+    ensures ber { (v : T) → T.encodable v → T.depth Der v ≤ 101 → length (T.encoding Der v) < 2 ^ 64 → T.encodes Ber 101 v (T.encoding Der v) }
+    ensures written { (v : T) (s : List ℕ) → T.encodes Ber 101 v s → T.encodable v × (T.depth Der v ≤ 101) }
     ensures unique { (m : BERMode) (v w : T) (s r : List ℕ) → T.encodes m 101 v s → T.encodes m 101 w (s ++ r) → T.same v w × (r ≡ []) }
 {}
 
-/// What is proved besides of every type that keeps the laws: its CER form is the only bytes that it is read from in CER, and it
+/// What is proved besides of every type that satisfies the laws: its CER encoding is the only bytes that it is read from in CER, and it
 /// is read from it in BER too.
 ///
-/// That form may nest deeper than that of DER, by one level where a string is cut into segments. No bytes belong to two
-/// values in CER, and no encoding begins another, as `one_form` says of each mode. All within 101 levels.
-pub fn one_form_cer<T: DERCanonical>()
-    ensures cer { (v : T) (s : List ℕ) → length s < 2 ^ 64 → T.encodes Cer 101 v s ↔ (T.encodable v × (T.nest Cer v ≤ 101) × (s ≡ T.form Cer v)) }
-    ensures ber { (v : T) → T.encodable v → T.nest Cer v ≤ 101 → length (T.form Cer v) < 2 ^ 64 → T.encodes Ber 101 v (T.form Cer v) }
+/// That encoding may nest deeper than that of DER, by one level where a string is cut into segments. No bytes belong to two
+/// values in CER, and no encoding begins another, as `one_encoding` says of each mode. All within 101 levels.
+pub fn one_encoding_cer<T: DERCanonical>()
+    ensures cer { (v : T) (s : List ℕ) → length s < 2 ^ 64 → T.encodes Cer 101 v s ↔ (T.encodable v × (T.depth Cer v ≤ 101) × (s ≡ T.encoding Cer v)) }
+    ensures ber { (v : T) → T.encodable v → T.depth Cer v ≤ 101 → length (T.encoding Cer v) < 2 ^ 64 → T.encodes Ber 101 v (T.encoding Cer v) }
 {}

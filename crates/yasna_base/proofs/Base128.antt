@@ -154,7 +154,7 @@ last_found : (n x : ℕ) (s rest : List ℕ) (y : List ℕ) → IsBytes s → re
     ((z : List ℕ) → s ≡ 128 ∷ z → ⊥) → s ≡ base128 (n * 128 + x) ++ y
 last_found n x s rest y a e b f z = base_found s (n * 128 + x) y a z (f ∙ ap (scan n) e ∙ scan_last n x y b)
 
--- where the scan of s stands: the number so far and the rest
+-- where the scan of s is: the number so far and the rest
 pub record Scans (s : List ℕ) (n : ℕ) (rest : List ℕ) : Type 0 where
   pub same : scan 0 s ≡ scan n rest
   pub begun : n ≡ 0 → rest ≡ s

@@ -5,8 +5,8 @@ use Rattle.std.proofs.lemmas.Bool.{cases_lt}
 use Rattle.std.proofs.lemmas.Int.{ints}
 use Rattle.yasna_base.specs.declared.mode.BERMode.{BERMode}
 use Rattle.yasna_base.specs.declared.tag.Tag.{Tag}
-use Rattle.yasna_base.specs.BigInteger.{BigInteger, IsBigInteger, without, signed_number, signed_or_zero, big_integer, big_integer_form, CanBigInteger}
-use Rattle.yasna_base.specs.Canonical.{leaf_nest, IsWritten}
+use Rattle.yasna_base.specs.BigInteger.{BigInteger, IsBigInteger, trim_leading, signed_number, signed_or_zero, big_integer, big_integer_encoding, CanBigInteger}
+use Rattle.yasna_base.specs.Canonical.{leaf_depth, IsWritten}
 use Rattle.yasna_base.specs.Coding.{IsCoding, Any}
 use Rattle.yasna_base.specs.Digits.{IsBytes}
 use Rattle.yasna_base.specs.Element.{Primitively}
@@ -23,8 +23,8 @@ same_truth true b f g = sym (f refl)
 same_truth false true f g = g refl
 same_truth false false f g = refl
 
-without_none : (x : ℕ) (xs : List ℕ) → without 0 (suc x ∷ xs) ≡ suc x ∷ xs
-without_none x xs = ap (λ t. cond t (without 0 xs) (suc x ∷ xs)) (eqb-suc-zero x)
+without_none : (x : ℕ) (xs : List ℕ) → trim_leading 0 (suc x ∷ xs) ≡ suc x ∷ xs
+without_none x xs = ap (λ t. cond t (trim_leading 0 xs) (suc x ∷ xs)) (eqb-suc-zero x)
 
 positive_signed : (x : ℕ) (xs : List ℕ) (positive : Bool) → IsTrue positive ↔ (pos 0 ≤ℤ twos (x ∷ xs)) → x < 128 → positive ≡ true
 positive_signed x xs positive s h = s.1 (rw (twos_positive x xs h) (omega (arith, ints)))
@@ -40,7 +40,7 @@ signed_is x xs false b s = elim (cases_lt x 128) [
   | inr h ↦ sym (twos_negative x xs h)
 ]
 
-big_is : (c : List ℕ) (positive : Bool) → IsBytes c → IsMinimal c → IsTrue positive ↔ (pos 0 ≤ℤ twos c) → signed_or_zero positive (without 0 c) ≡ twos c
+big_is : (c : List ℕ) (positive : Bool) → IsBytes c → IsMinimal c → IsTrue positive ↔ (pos 0 ≤ℤ twos c) → signed_or_zero positive (trim_leading 0 c) ≡ twos c
 big_is [] positive b m s = absurd m
 big_is (zero ∷ []) positive b m s = sym (twos_positive 0 [] (omega arith))
 big_is (zero ∷ zero ∷ ys) positive b m s = let h = m.0 refl in absurd (omega arith)
@@ -51,7 +51,7 @@ big_is (zero ∷ suc y ∷ ys) positive b m s =
     ∙ sym (twos_positive 0 (suc y ∷ ys) (omega arith))
 big_is (suc x ∷ xs) positive b m s = ap (signed_or_zero positive) (without_none x xs) ∙ signed_is (suc x) xs positive b s
 
--- canonical bytes and their sign stand for the number that the bytes are in two's complement
+-- canonical bytes and their sign represent the number that the bytes are in two's complement
 pub big_integer_is : (v : BigInteger) → CanBigInteger v → big_integer v.bytes v.positive ≡ twos v.bytes
 unfolding big_integer
 big_integer_is v h = big_is v.bytes v.positive h.in_bytes h.minimal h.sign
@@ -79,14 +79,14 @@ big_integer_can m v c x =
     let e = sym x.contents in
     record { in_bytes = subst IsBytes e x.in_bytes; minimal = subst IsMinimal e x.minimal; sign = subst (λ d. IsTrue v.positive ↔ (pos 0 ≤ℤ twos d)) e x.sign }
 
--- INTEGER of any size keeps the laws of reading
+-- INTEGER of any size satisfies the laws of reading
 pub big_integer_coding : (t : Tag) → (t ≡ end_tag → ⊥) →
     IsCoding (λ v w. v ≡ w) (λ m n v b. Primitively IsBigInteger n m t v b) (Any (λ m n v b. Primitively IsBigInteger n m t v b))
 big_integer_coding t not_end = primitively IsBigInteger t not_end one_big_integer
 
--- INTEGER of any size keeps the laws of writing
+-- INTEGER of any size satisfies the laws of writing
 pub big_integer_written : (t : Tag) → t.tag_number < 2 ^ 64 →
-    IsWritten (λ v w. v ≡ w) (λ m n v b. Primitively IsBigInteger n m t v b) (big_integer_form t) leaf_nest CanBigInteger
+    IsWritten (λ v w. v ≡ w) (λ m n v b. Primitively IsBigInteger n m t v b) (big_integer_encoding t) leaf_depth CanBigInteger
 big_integer_written t range = primitively_written IsBigInteger CanBigInteger (λ v. minimal_bytes (big_integer v.bytes v.positive)) t range
     (λ v can. minimal_in_bytes (big_integer v.bytes v.positive))
     (λ m v can. big_integer_means m v (minimal_bytes (big_integer v.bytes v.positive)) (canonical_bytes v can) can)

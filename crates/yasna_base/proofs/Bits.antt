@@ -33,7 +33,7 @@ bits_once = record {
   segment = not_end 3 (λ e. omega arith);
 }
 
--- BIT STRING keeps the laws of reading
+-- BIT STRING satisfies the laws of reading
 pub bits_coding : (t : Tag) → (t ≡ end_tag → ⊥) → IsCoding (λ v w. v ≡ w) (λ m n v b. IsBits n m t v b) (Any (λ m n v b. IsBits n m t v b))
 bits_coding t not_end = segmented_coding bits_once t not_end
 
@@ -51,7 +51,7 @@ joined_can (v ∷ w ∷ vs) full can =
     let n = length-append v.bytes (flat_map (λ (w : BitString). w.bytes) (w ∷ vs)) in
     (bytes_append v.bytes (flat_map (λ (w : BitString). w.bytes) (w ∷ vs)) can.0.in_bytes i.0, omega (arith, i.1, f, n), omega (arith, i.2, f, n))
 
--- bits that are joined stand in as many bytes as they need
+-- bits that are joined are in as many bytes as they need
 pub join_can : (m : BERMode) (vs : List BitString) (v : BitString) → AllByRecursion CanBits vs → AreBitsJoined m vs v → CanBits v
 join_can m vs v can x =
     let i = joined_can vs x.full can in
@@ -71,7 +71,7 @@ whole_can m v c bytes x = record {
   in_range = x.in_range;
 }
 
--- bits stand in as many bytes as they need
+-- bits are in as many bytes as they need
 pub bits_can : (n : ℕ) (m : BERMode) (t : Tag) (v : BitString) (b : List ℕ) → IsBits n m t v b → CanBits v
 bits_can = segmented_keeps bits_segmentation CanBits whole_can join_can
 
@@ -166,33 +166,33 @@ cleared_contents v h =
     let same = padded_same (unused_bits (cleared v)) (cleared v).bytes (cleared_canonical v h).zeros in
     ap (λ u. u ∷ (cleared v).bytes) (sym (cleared_unused v)) ∙ ap (λ d. unused_bits (cleared v) ∷ d) (sym same)
 
--- a string behind full ones is the last
+-- a string after full ones is the last
 pub full_before : (vs : List BitString) (v : BitString) → AllByRecursion IsFull vs → AreFullBeforeLast (vs ++ (v ∷ []))
 full_before [] v h = tt
 full_before (w ∷ []) v h = (h.0, tt)
 full_before (w ∷ x ∷ vs) v h = (h.0, full_before (x ∷ vs) v h.1)
 
--- in front of a string all are full
-pub full_front : (vs ws : List BitString) (w : BitString) → AreFullBeforeLast (vs ++ (w ∷ ws)) → AllByRecursion IsFull vs
-full_front [] ws w h = tt
-full_front (v ∷ []) ws w h = (h.0, tt)
-full_front (v ∷ x ∷ vs) ws w h = (h.0, full_front (x ∷ vs) ws w h.1)
+-- before a string all are full
+pub full_prefix : (vs ws : List BitString) (w : BitString) → AreFullBeforeLast (vs ++ (w ∷ ws)) → AllByRecursion IsFull vs
+full_prefix [] ws w h = tt
+full_prefix (v ∷ []) ws w h = (h.0, tt)
+full_prefix (v ∷ x ∷ vs) ws w h = (h.0, full_prefix (x ∷ vs) ws w h.1)
 
 pub all_bits_append : (vs ws : List BitString) → all_bits (vs ++ ws) ≡ all_bits vs + all_bits ws
 all_bits_append [] ws = omega arith
 all_bits_append (v ∷ vs) ws = omega (arith, all_bits_append vs ws)
 
-all_front : (vs ws : List BitString) → AllByRecursion IsFull (vs ++ ws) → AllByRecursion IsFull vs
-all_front [] ws h = tt
-all_front (v ∷ vs) ws h = (h.0, all_front vs ws h.1)
+all_prefix : (vs ws : List BitString) → AllByRecursion IsFull (vs ++ ws) → AllByRecursion IsFull vs
+all_prefix [] ws h = tt
+all_prefix (v ∷ vs) ws h = (h.0, all_prefix vs ws h.1)
 
 -- where a segment may follow strings, it may follow those in front
-pub follow_front : (vs ws : List BitString) → MayFollow (vs ++ ws) → MayFollow vs
-follow_front vs ws x = record { full = all_front vs ws x.full; in_range = omega (arith, all_bits_append vs ws, x.in_range) }
+pub follow_prefix : (vs ws : List BitString) → MayFollow (vs ++ ws) → MayFollow vs
+follow_prefix vs ws x = record { full = all_prefix vs ws x.full; in_range = omega (arith, all_bits_append vs ws, x.in_range) }
 
--- and a segment that stands in a string may follow those in front of it
+-- and a segment that is in a string may follow those before it
 pub joined_follow : (m : BERMode) (vs ws : List BitString) (w v : BitString) → AreBitsJoined m (vs ++ (w ∷ ws)) v → MayFollow vs
 joined_follow m vs ws w v x = record {
-  full = full_front vs ws w x.full;
+  full = full_prefix vs ws w x.full;
   in_range = omega (arith, all_bits_append vs (w ∷ ws), x.count, x.in_range);
 }

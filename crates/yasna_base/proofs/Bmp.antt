@@ -15,7 +15,7 @@ use Rattle.yasna_base.specs.Canonical.{IsWritten}
 use Rattle.yasna_base.specs.Coding.{IsCoding, Any}
 use Rattle.yasna_base.specs.Digits.{IsBytes}
 use Rattle.yasna_base.specs.Identifier.{end_tag}
-use Rattle.yasna_base.specs.Text.{InUtf8, IsTextIn, units, IsBmp, IsPairedBmp, IsStringOf, unit_octets, bmp_octets, bmp_form, bmp_nest, BmpKeepsLaws}
+use Rattle.yasna_base.specs.Text.{InUtf8, IsTextIn, units, IsBmp, IsPairedBmp, IsStringOf, unit_octets, bmp_octets, bmp_encoding, bmp_depth, BmpKeepsLaws}
 use Rattle.yasna_base.proofs.Texts.{scalar_below, string_coding, string_written, text_in_utf8}
 
 abbrev AreUnits : List ℕ → Type 0
@@ -226,7 +226,7 @@ lossless (c ∷ cs) (o ∷ os) e =
     let g : map Some cs ≡ os = cc in
     ap₂ (λ x xs. x ∷ xs) (ap (λ p. unwrap_or p 0xFFFD) f) (lossless cs os g)
 
--- BMPString keeps the laws of reading
+-- BMPString satisfies the laws of reading
 pub bmp_coding : (t : Tag) → (t ≡ end_tag → ⊥) → IsCoding (λ v w. v ≡ w) (λ m n v b. IsStringOf IsBmp n m t v b) (Any (λ m n v b. IsStringOf IsBmp n m t v b))
 bmp_coding t not_end = string_coding IsBmp (λ m v w c x y. x.spelled ∙ sym y.spelled) t not_end
 
@@ -237,7 +237,7 @@ paired_coding t not_end = string_coding IsPairedBmp (λ m v w c x y. some_same v
 
 -- and then those of writing
 pub paired_written : (t : Tag) → t.tag_number < 2 ^ 64 →
-    IsWritten (λ v w. v ≡ w) (λ m n v b. IsStringOf IsPairedBmp n m t v b) (bmp_form t) bmp_nest (IsTextIn InUtf8)
+    IsWritten (λ v w. v ≡ w) (λ m n v b. IsStringOf IsPairedBmp n m t v b) (bmp_encoding t) bmp_depth (IsTextIn InUtf8)
 paired_written t range = string_written IsPairedBmp (IsTextIn InUtf8) bmp_octets t range
     (λ v can. octets_bytes (flat_map encode_utf16 v) (text_units v can.characters)) paired_means
     (λ m v c h bytes x. paired_only m v c bytes x)

@@ -9,22 +9,22 @@ use Rattle.yasna_base.specs.Identifier.{BeginsWithTag, StartsElement}
 use Rattle.yasna_base.proofs.Identifier.{begins_once, begins_with}
 
 -- members of S and of Q never begin the same bytes
-abbrev pub StandApart : Members → Members → Type 0
-StandApart S Q = (m : BERMode) (n k : ℕ) (b c r s : List ℕ) → S m n b → Q m k c → b ++ r ≡ c ++ s → ⊥
+abbrev pub AreUnambiguous : Members → Members → Type 0
+AreUnambiguous S Q = (m : BERMode) (n k : ℕ) (b c r s : List ℕ) → S m n b → Q m k c → b ++ r ≡ c ++ s → ⊥
 
 -- they don't where they begin with two tags
-pub apart_by_tags : {S Q : Members} (t u : Tag) → (t ≡ u → ⊥) → ((m : BERMode) (n : ℕ) (b : List ℕ) → S m n b → BeginsWithTag t b) →
-    ((m : BERMode) (n : ℕ) (b : List ℕ) → Q m n b → BeginsWithTag u b) → StandApart S Q
-apart_by_tags t u other x y m n k b c r s p q e =
+pub unambiguous_by_tags : {S Q : Members} (t u : Tag) → (t ≡ u → ⊥) → ((m : BERMode) (n : ℕ) (b : List ℕ) → S m n b → BeginsWithTag t b) →
+    ((m : BERMode) (n : ℕ) (b : List ℕ) → Q m n b → BeginsWithTag u b) → AreUnambiguous S Q
+unambiguous_by_tags t u other x y m n k b c r s p q e =
     other (begins_once t u (c ++ s) (subst (λ z. BeginsWithTag t z) e (begins_with t b r (x m n b p))) (begins_with u c s (y m k c q)))
 
--- what stands apart from two types stands apart from a CHOICE of them
-pub apart_from_either : {S Q R : Members} → StandApart S Q → StandApart S R → StandApart S (AnyEither Q R)
-apart_from_either one other m n k b c r s p (inl q) e = one m n k b c r s p q e
-apart_from_either one other m n k b c r s p (inr q) e = other m n k b c r s p q e
+-- what is apart from two types is apart from a CHOICE of them
+pub unambiguous_with_either : {S Q R : Members} → AreUnambiguous S Q → AreUnambiguous S R → AreUnambiguous S (AnyEither Q R)
+unambiguous_with_either one other m n k b c r s p (inl q) e = one m n k b c r s p q e
+unambiguous_with_either one other m n k b c r s p (inr q) e = other m n k b c r s p q e
 
 module _ {A V : Type 0} {E : A → A → Type 0} {F : V → V → Type 0} {B : Grammar A} {C : Grammar V}
-    {S Q : Members} (x : IsCoding E B S) (y : IsCoding F C Q) (apart : StandApart S Q) where
+    {S Q : Members} (x : IsCoding E B S) (y : IsCoding F C Q) (unambiguous : AreUnambiguous S Q) where
   either_reflexive : (v : A ⊎ V) → SameEither E F v v
   either_reflexive (inl v) = x.meaning.equal.reflexive v
   either_reflexive (inr v) = y.meaning.equal.reflexive v
@@ -49,8 +49,8 @@ module _ {A V : Type 0} {E : A → A → Type 0} {F : V → V → Type 0} {B : G
 
   either_exact : (m : BERMode) (n k : ℕ) (v w : A ⊎ V) (b : List ℕ) → EitherOf B C m n v b → EitherOf B C m k w b → SameEither E F v w
   either_exact m n k (inl v) (inl w) b p q = x.meaning.exact m n k v w b p q
-  either_exact m n k (inl v) (inr w) b p q = apart m n k b b [] [] (x.meaning.among m n v b p) (y.meaning.among m k w b q) refl
-  either_exact m n k (inr v) (inl w) b p q = apart m k n b b [] [] (x.meaning.among m k w b q) (y.meaning.among m n v b p) refl
+  either_exact m n k (inl v) (inr w) b p q = unambiguous m n k b b [] [] (x.meaning.among m n v b p) (y.meaning.among m k w b q) refl
+  either_exact m n k (inr v) (inl w) b p q = unambiguous m k n b b [] [] (x.meaning.among m k w b q) (y.meaning.among m n v b p) refl
   either_exact m n k (inr v) (inr w) b p q = y.meaning.exact m n k v w b p q
 
   either_deeper : (m : BERMode) (n k : ℕ) (v : A ⊎ V) (b : List ℕ) → n ≤ k → EitherOf B C m n v b → EitherOf B C m k v b
@@ -61,13 +61,13 @@ module _ {A V : Type 0} {E : A → A → Type 0} {F : V → V → Type 0} {B : G
   either_opens m n b (inl p) = x.opens m n b p
   either_opens m n b (inr p) = y.opens m n b p
 
-  either_alone : (m : BERMode) (n k : ℕ) (b c r s : List ℕ) → AnyEither S Q m n b → AnyEither S Q m k c → b ++ r ≡ c ++ s → b ≡ c
-  either_alone m n k b c r s (inl p) (inl q) e = x.alone m n k b c r s p q e
-  either_alone m n k b c r s (inl p) (inr q) e = absurd (apart m n k b c r s p q e)
-  either_alone m n k b c r s (inr p) (inl q) e = absurd (apart m k n c b s r q p (sym e))
-  either_alone m n k b c r s (inr p) (inr q) e = y.alone m n k b c r s p q e
+  either_prefix_free : (m : BERMode) (n k : ℕ) (b c r s : List ℕ) → AnyEither S Q m n b → AnyEither S Q m k c → b ++ r ≡ c ++ s → b ≡ c
+  either_prefix_free m n k b c r s (inl p) (inl q) e = x.prefix_free m n k b c r s p q e
+  either_prefix_free m n k b c r s (inl p) (inr q) e = absurd (unambiguous m n k b c r s p q e)
+  either_prefix_free m n k b c r s (inr p) (inl q) e = absurd (unambiguous m k n c b s r q p (sym e))
+  either_prefix_free m n k b c r s (inr p) (inr q) e = y.prefix_free m n k b c r s p q e
 
-  -- a CHOICE of two types keeps the laws of reading
+  -- a CHOICE of two types satisfies the laws of reading
   pub choice : IsCoding (SameEither E F) (EitherOf B C) (AnyEither S Q)
   choice = record {
     meaning = record {
@@ -77,5 +77,5 @@ module _ {A V : Type 0} {E : A → A → Type 0} {F : V → V → Type 0} {B : G
       deeper = either_deeper;
     };
     opens = either_opens;
-    alone = either_alone;
+    prefix_free = either_prefix_free;
   }

@@ -11,7 +11,7 @@ use Rattle.yasna_base.specs.Identifier.{identifier, end_tag, BeginsWithTag, begi
 use Rattle.yasna_base.specs.Length.{SpellsLength}
 use Rattle.yasna_base.proofs.Identifier.{identifier_exact, zeros_at_end}
 use Rattle.yasna_base.proofs.Length.{length_exact, length_not_indefinite}
-use Rattle.yasna_base.proofs.Lists.{fronts_same}
+use Rattle.yasna_base.proofs.Lists.{prefixes_same}
 
 -- two elements and what follows them are the same, part by part
 pub record SameElement (t u : Tag) (p q : PCBit) (c d b e r s : List ℕ) : Type 0 where
@@ -21,11 +21,11 @@ pub record SameElement (t u : Tag) (p q : PCBit) (c d b e r s : List ℕ) : Type
   pub bytes : b ≡ e
   pub rest : r ≡ s
 
--- an element of definite length and the bytes behind it: identifier, length, contents, those bytes
+-- an element of definite length and the bytes after it: identifier, length, contents, those bytes
 pub definite_then : {m : BERMode} {t : Tag} {p : PCBit} {c b : List ℕ} → (x : Definite m t p c b) (r : List ℕ) → b ++ r ≡ identifier t p ++ (x.l ++ (c ++ r))
 definite_then x r = ap (λ z. z ++ r) x.joined ∙ simp append_assoc
 
--- an element of indefinite length and the bytes behind it
+-- an element of indefinite length and the bytes after it
 pub indefinite_then : {m : BERMode} {t : Tag} {p : PCBit} {c b : List ℕ} → (x : Indefinite m t p c b) (r : List ℕ) →
     b ++ r ≡ identifier t p ++ (128 ∷ (c ++ (0 ∷ 0 ∷ r)))
 indefinite_then x r = ap (λ z. z ++ r) x.joined ∙ simp append_assoc
@@ -36,7 +36,7 @@ pub definite_exact : (m o : BERMode) (t u : Tag) (p q : PCBit) (c d b e r s : Li
 definite_exact m o t u p q c d b e r s x y f =
     let i = identifier_exact t u p q _ _ (sym (definite_then x r) ∙ f ∙ definite_then y s) in
     let j = length_exact m o (length c) (length d) x.l y.l (c ++ r) (d ++ s) x.spelled y.spelled i.2 in
-    let k = fronts_same c d r s j.0 j.2 in
+    let k = prefixes_same c d r s j.0 j.2 in
     record { tag = i.0; bit = i.1; contents = k.0; bytes = cc; rest = k.1 }
 
 -- an element of definite length and one of indefinite length never begin alike
@@ -52,7 +52,7 @@ indefinite_exact m o t u p q c d b e r s x y once f =
     let i = identifier_exact t u p q _ _ (sym (indefinite_then x r) ∙ f ∙ indefinite_then y s) in
     let j : c ++ (0 ∷ 0 ∷ r) ≡ d ++ (0 ∷ 0 ∷ s) = cc (i.2) in
     let g = once r s j in
-    let k = fronts_same c d (0 ∷ 0 ∷ r) (0 ∷ 0 ∷ s) (ap length g) j in
+    let k = prefixes_same c d (0 ∷ 0 ∷ r) (0 ∷ 0 ∷ s) (ap length g) j in
     record { tag = i.0; bit = i.1; contents = g; bytes = cc; rest = cc (k.1) }
 
 framed_exact : (m o : BERMode) (t u : Tag) (p q : PCBit) (c d b e r s : List ℕ) → Framed m t p c b → Framed o u q d e →
@@ -104,7 +104,7 @@ pub record Counted (m : BERMode) (t u : Tag) (p q : PCBit) (k : ℕ) (l c b y r 
   pub element : Definite m u q c b
   pub spelling : l ≡ element.l
   pub count : k ≡ length c
-  pub behind : y ≡ c ++ r
+  pub after : y ≡ c ++ r
 
 -- where a length was read, the element has that length
 pub counted_header : (m o : BERMode) (t u : Tag) (p q : PCBit) (k : ℕ) (l c b y r : List ℕ) → SpellsLength o k l → Framed m u q c b →
@@ -112,7 +112,7 @@ pub counted_header : (m o : BERMode) (t u : Tag) (p q : PCBit) (k : ℕ) (l c b 
 counted_header m o t u p q k l c b y r w (definite x) e =
     let i = identifier_exact t u p q _ _ (e ∙ definite_then x r) in
     let j = length_exact o m k (length c) l x.l y (c ++ r) w x.spelled i.2 in
-    record { tag = i.0; bit = i.1; element = x; spelling = j.1; count = j.0; behind = j.2 }
+    record { tag = i.0; bit = i.1; element = x; spelling = j.1; count = j.0; after = j.2 }
 counted_header m o t u p q k l c b y r w (indefinite x) e =
     let i = identifier_exact t u p q _ _ (e ∙ indefinite_then x r) in
     absurd (length_not_indefinite o k l y _ w i.2)
@@ -122,7 +122,7 @@ pub record Uncounted (m : BERMode) (t u : Tag) (p q : PCBit) (c b y r : List ℕ
   pub tag : t ≡ u
   pub bit : p ≡ q
   pub element : Indefinite m u q c b
-  pub behind : y ≡ c ++ (0 ∷ 0 ∷ r)
+  pub after : y ≡ c ++ (0 ∷ 0 ∷ r)
 
 -- where 128 was read, the element is of indefinite length
 pub uncounted_header : (m : BERMode) (t u : Tag) (p q : PCBit) (c b y r : List ℕ) → Framed m u q c b → identifier t p ++ (128 ∷ y) ≡ b ++ r →
@@ -132,4 +132,4 @@ uncounted_header m t u p q c b y r (definite x) e =
     absurd (length_not_indefinite m (length c) x.l (c ++ r) y x.spelled (sym (i.2)))
 uncounted_header m t u p q c b y r (indefinite x) e =
     let i = identifier_exact t u p q _ _ (e ∙ indefinite_then x r) in
-    record { tag = i.0; bit = i.1; element = x; behind = cc (i.2) }
+    record { tag = i.0; bit = i.1; element = x; after = cc (i.2) }

@@ -5,15 +5,15 @@ use Rattle.yasna_base.specs.declared.mode.BERMode.{BERMode}
 use Rattle.yasna_base.specs.declared.mode.BERMode.TheVariants.{Ber, Der}
 use Rattle.yasna_base.specs.declared.tag.PCBit.TheVariants.{Primitive, Constructed}
 use Rattle.yasna_base.specs.declared.tag.TagClass.TheVariants.{ContextSpecific}
-use Rattle.yasna_base.specs.Boolean.{IsBoolean, EncodesBoolean, boolean_form, boolean_tag}
-use Rattle.yasna_base.specs.Canonical.{definite_element, canonical_element, enclosed_form}
+use Rattle.yasna_base.specs.Boolean.{IsBoolean, EncodesBoolean, boolean_encoding, boolean_tag}
+use Rattle.yasna_base.specs.Canonical.{definite_element, canonical_element, enclosed_encoding}
 use Rattle.yasna_base.specs.Digits.{IsBytes, digits, base128}
 use Rattle.yasna_base.specs.Element.{Element, indefinite, Primitively, Enclosed}
 use Rattle.yasna_base.specs.Grammar.{Grammar}
 use Rattle.yasna_base.specs.Identifier.{identifier, begins}
-use Rattle.yasna_base.specs.Integer.{twos, IsMinimal, IsNumber, EncodesSigned, minimal_bytes, integer_form, integer_tag}
+use Rattle.yasna_base.specs.Integer.{twos, IsMinimal, IsNumber, EncodesSigned, minimal_bytes, integer_encoding, integer_tag}
 use Rattle.yasna_base.specs.Length.{shortest_length}
-use Rattle.yasna_base.specs.Sequence.{sequence_tag, PartOf, NoParts, part_form, nothing_form}
+use Rattle.yasna_base.specs.Sequence.{sequence_tag, PartOf, NoParts, part_encoding, nothing_encoding}
 use Rattle.yasna_base.proofs.Boolean.{bool_written}
 use Rattle.yasna_base.proofs.Canonical.{definite_is}
 use Rattle.yasna_base.proofs.Element.{primitive_exact}
@@ -23,12 +23,12 @@ use Rattle.std.specs.Char.Utf16.{utf16_chars}
 use Rattle.std.specs.Prelude.{codes}
 use Rattle.yasna_base.specs.Segmented.{Segmented, whole, in_segments}
 use Rattle.yasna_base.specs.Octets.{octets_tag, octets_segmentation, IsDeepOctets, EncodesOctets}
-use Rattle.yasna_base.specs.Bits.{BitString, bits_tag, bits_segmentation, AreFullBeforeLast, IsBits, bits_form}
+use Rattle.yasna_base.specs.Bits.{BitString, bits_tag, bits_segmentation, AreFullBeforeLast, IsBits, bits_encoding}
 use Rattle.yasna_base.specs.Text.{EncodesText, IsBmp, IsPairedBmp, utf8_tag}
 use Rattle.yasna_base.specs.Header.{indefinite_end}
 use Rattle.yasna_base.specs.Pieces.{Pieces}
 use Rattle.yasna_base.proofs.Octets.{octets_written}
-use Rattle.yasna_base.proofs.BitForm.{bits_has}
+use Rattle.yasna_base.proofs.BitEncoding.{bits_has}
 use Rattle.yasna_base.proofs.Bits.{bits_once}
 use Rattle.yasna_base.proofs.Segmented.{segmented_of, segmented_into, segmented_deeper, segmented_exact, segmented_starts, deep_of, deep_at_zero, pieces_same}
 
@@ -87,11 +87,11 @@ byte_1 = search arith
 abbrev EncodesTwoParts : Grammar (ℤ × (Bool × Unit {0}))
 EncodesTwoParts = Enclosed (PartOf (EncodesSigned w64) (PartOf EncodesBoolean NoParts)) sequence_tag
 
--- the DER form of 10 and true
-pair_form : enclosed_form (part_form (integer_form integer_tag) (part_form (boolean_form boolean_tag) nothing_form)) sequence_tag Der
+-- the DER encoding of 10 and true
+pair_encoding : enclosed_encoding (part_encoding (integer_encoding integer_tag) (part_encoding (boolean_encoding boolean_tag) nothing_encoding)) sequence_tag Der
     (pos 10, (Bool.true, tt)) ≡ 48 ∷ 6 ∷ 2 ∷ 1 ∷ 10 ∷ 1 ∷ 1 ∷ 255 ∷ []
 unfolding canonical_element definite_element identifier shortest_length minimal_bytes digits
-pair_form = refl
+pair_encoding = refl
 
 -- the same in an element of indefinite length, which BER reads
 pair_indefinite : EncodesTwoParts Ber 101 (pos 10, (Bool.true, tt)) (48 ∷ 128 ∷ 2 ∷ 1 ∷ 10 ∷ 1 ∷ 1 ∷ 255 ∷ 0 ∷ 0 ∷ [])
@@ -100,12 +100,12 @@ pair_indefinite = record {
   contents = 2 ∷ 1 ∷ 10 ∷ 1 ∷ 1 ∷ 255 ∷ [];
   element = record { in_range = omega arith; in_bytes = search arith; framed = indefinite (record { taken = tt; joined = refl }) };
   meaning = record {
-    front = 2 ∷ 1 ∷ 10 ∷ [];
+    prefix = 2 ∷ 1 ∷ 10 ∷ [];
     rest = 1 ∷ 1 ∷ 255 ∷ [];
     joined = refl;
     here = (signed_written w64).has.holds Der Ber 100 (pos 10) tt (record { sfits = omega arith }) (omega arith) (omega arith);
     more = record {
-      front = 1 ∷ 1 ∷ 255 ∷ [];
+      prefix = 1 ∷ 1 ∷ 255 ∷ [];
       rest = [];
       joined = refl;
       here = bool_written.has.holds Der Ber 100 Bool.true tt tt (omega arith) (omega arith);
@@ -121,7 +121,7 @@ true_1 = record {
   level = omega arith;
   contents = 1 ∷ [];
   element = record { in_range = omega arith; in_bytes = byte_1; framed = definite_is Ber boolean_tag Primitive (1 ∷ []) tt (omega arith) };
-  meaning = IsBoolean.says_true 1 (λ e. cc) (omega arith, tt) refl refl;
+  meaning = IsBoolean.encodes_true 1 (λ e. cc) (omega arith, tt) refl refl;
 }
 
 -- DER doesn't
@@ -152,15 +152,15 @@ not_127 f InType m n v x =
 hello : (n : ℕ) → EncodesOctets Ber (suc (suc n)) (codes "Hello!") (36 ∷ 128 ∷ 4 ∷ 2 ∷ 72 ∷ 101 ∷ 4 ∷ 4 ∷ 108 ∷ 108 ∷ 111 ∷ 33 ∷ 0 ∷ 0 ∷ [])
 unfolding canonical_element definite_element identifier shortest_length digits
 hello n =
-    let form = (octets_written octets_tag (omega arith)).has.holds Der Ber (suc n) in
+    let encoding = (octets_written octets_tag (omega arith)).has.holds Der Ber (suc n) in
     segmented_of octets_segmentation (suc n) Ber octets_tag (codes "Hello!") _ (in_segments tt (4 ∷ 2 ∷ 72 ∷ 101 ∷ 4 ∷ 4 ∷ 108 ∷ 108 ∷ 111 ∷ 33 ∷ [])
     ((72 ∷ 101 ∷ []) ∷ (108 ∷ 108 ∷ 111 ∷ 33 ∷ []) ∷ [])
     (record { in_range = omega arith; in_bytes = search arith; framed = indefinite (record { taken = tt; joined = refl }) })
     (record {
       pieces = (4 ∷ 2 ∷ 72 ∷ 101 ∷ []) ∷ (4 ∷ 4 ∷ 108 ∷ 108 ∷ 111 ∷ 33 ∷ []) ∷ [];
       each = (
-        form (72 ∷ 101 ∷ []) tt (search arith) (omega arith) (omega arith),
-        (form (108 ∷ 108 ∷ 111 ∷ 33 ∷ []) tt (search arith) (omega arith) (omega arith), tt),
+        encoding (72 ∷ 101 ∷ []) tt (search arith) (omega arith) (omega arith),
+        (encoding (108 ∷ 108 ∷ 111 ∷ 33 ∷ []) tt (search arith) (omega arith) (omega arith), tt),
       );
       joined = refl;
     }) refl tt)
@@ -183,7 +183,7 @@ hello_deep = deep_of octets_segmentation 0 Ber octets_tag _ (record {
   opens = record { in_range = omega arith; in_bytes = search arith; taken = tt; joined = refl };
   inside = record {
     values = [];
-    front = [];
+    prefix = [];
     rest = 4 ∷ 2 ∷ 72 ∷ 101 ∷ 0 ∷ 0 ∷ [];
     pieces = record { pieces = []; each = tt; joined = refl };
     more = tt;
@@ -196,7 +196,7 @@ hello_deep = deep_of octets_segmentation 0 Ber octets_tag _ (record {
 accent : (n : ℕ) → EncodesText Ber (suc (suc n)) (233 ∷ []) (44 ∷ 6 ∷ 4 ∷ 1 ∷ 195 ∷ 4 ∷ 1 ∷ 169 ∷ [])
 unfolding canonical_element definite_element identifier shortest_length digits encode
 accent n =
-    let form = (octets_written octets_tag (omega arith)).has.holds Der Ber (suc n) in
+    let encoding = (octets_written octets_tag (omega arith)).has.holds Der Ber (suc n) in
     record {
       octets = 195 ∷ 169 ∷ [];
       string = segmented_of octets_segmentation (suc n) Ber utf8_tag (195 ∷ 169 ∷ []) _ (in_segments tt (4 ∷ 1 ∷ 195 ∷ 4 ∷ 1 ∷ 169 ∷ [])
@@ -208,7 +208,7 @@ accent n =
           })
           (record {
             pieces = (4 ∷ 1 ∷ 195 ∷ []) ∷ (4 ∷ 1 ∷ 169 ∷ []) ∷ [];
-            each = (form (195 ∷ []) tt (search arith) (omega arith) (omega arith), (form (169 ∷ []) tt (search arith) (omega arith) (omega arith), tt));
+            each = (encoding (195 ∷ []) tt (search arith) (omega arith) (omega arith), (encoding (169 ∷ []) tt (search arith) (omega arith) (omega arith), tt));
             joined = refl;
           }) refl tt);
       meaning = record { is_text = record { characters = (refl, tt); in_class = (tt, tt) }; octets = refl };
@@ -221,15 +221,15 @@ bits_8 = record { bytes = 1 ∷ []; count = 8 }
 bits_4 : BitString
 bits_4 = record { bytes = 240 ∷ []; count = 4 }
 
-bits_8_form : (n : ℕ) → IsBits (suc n) Ber bits_tag bits_8 (3 ∷ 2 ∷ 0 ∷ 1 ∷ [])
+bits_8_encoding : (n : ℕ) → IsBits (suc n) Ber bits_tag bits_8 (3 ∷ 2 ∷ 0 ∷ 1 ∷ [])
 unfolding canonical_element definite_element identifier shortest_length digits bits_8
-bits_8_form n = (bits_has bits_tag (omega arith)).holds Der Ber (suc n) bits_8 tt
+bits_8_encoding n = (bits_has bits_tag (omega arith)).holds Der Ber (suc n) bits_8 tt
     (record { can = record { in_bytes = byte_1; enough = omega arith; least = omega arith; in_range = omega arith }; zeros = refl })
     (omega arith) (omega arith)
 
-bits_4_form : (n : ℕ) → IsBits (suc n) Ber bits_tag bits_4 (3 ∷ 2 ∷ 4 ∷ 240 ∷ [])
+bits_4_encoding : (n : ℕ) → IsBits (suc n) Ber bits_tag bits_4 (3 ∷ 2 ∷ 4 ∷ 240 ∷ [])
 unfolding canonical_element definite_element identifier shortest_length digits bits_4
-bits_4_form n = (bits_has bits_tag (omega arith)).holds Der Ber (suc n) bits_4 tt
+bits_4_encoding n = (bits_has bits_tag (omega arith)).holds Der Ber (suc n) bits_4 tt
     (record { can = record { in_bytes = search arith; enough = omega arith; least = omega arith; in_range = omega arith }; zeros = refl })
     (omega arith) (omega arith)
 
@@ -244,7 +244,7 @@ bits_12 n = segmented_of bits_segmentation (suc n) Ber bits_tag _ _ (in_segments
     })
     (record {
       pieces = (3 ∷ 2 ∷ 0 ∷ 1 ∷ []) ∷ (3 ∷ 2 ∷ 4 ∷ 240 ∷ []) ∷ [];
-      each = (bits_8_form n, (bits_4_form n, tt));
+      each = (bits_8_encoding n, (bits_4_encoding n, tt));
       joined = refl;
     })
     (record { full = (refl, tt); bytes = refl; count = refl; in_range = omega arith }) tt)
@@ -260,7 +260,7 @@ turned = record {
 turned_pieces : (n : ℕ) → Pieces (IsBits (suc n) Ber bits_tag) (bits_4 ∷ bits_8 ∷ []) (3 ∷ 2 ∷ 4 ∷ 240 ∷ 3 ∷ 2 ∷ 0 ∷ 1 ∷ [])
 turned_pieces n = record {
   pieces = (3 ∷ 2 ∷ 4 ∷ 240 ∷ []) ∷ (3 ∷ 2 ∷ 0 ∷ 1 ∷ []) ∷ [];
-  each = (bits_4_form n, (bits_8_form n, tt));
+  each = (bits_4_encoding n, (bits_8_encoding n, tt));
   joined = refl;
 }
 
@@ -276,14 +276,14 @@ not_turned n v (in_segments h c vs x p j a) =
     let full = (subst AreFullBeforeLast same j.full).0 in
     absurd (omega arith)
 
--- behind unused bits no segment may follow
+-- after unused bits no segment may follow
 bits_end : (n : ℕ) (v : BitString) → IsBits n Ber bits_tag v (35 ∷ 8 ∷ 3 ∷ 2 ∷ 4 ∷ 240 ∷ 3 ∷ 2 ∷ 0 ∷ 1 ∷ []) → ⊥
 bits_end n v x =
     not_turned n v (segmented_into bits_segmentation (suc n) Ber bits_tag v _ (segmented_deeper bits_segmentation n (suc (suc n)) Ber bits_tag v _
     (omega arith) x))
 
 -- unused bits are written as zero
-bits_cleared : bits_form bits_tag Der (record { bytes = 255 ∷ []; count = 4 }) ≡ 3 ∷ 2 ∷ 4 ∷ 240 ∷ []
+bits_cleared : bits_encoding bits_tag Der (record { bytes = 255 ∷ []; count = 4 }) ≡ 3 ∷ 2 ∷ 4 ∷ 240 ∷ []
 unfolding canonical_element definite_element identifier shortest_length digits
 bits_cleared = refl
 

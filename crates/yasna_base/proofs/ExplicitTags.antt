@@ -3,11 +3,11 @@ use Rattle.std.proofs.Common.{◌≡◌, ℕ, zero, suc, ◌^◌, ◌<◌, List,
 use Rattle.yasna_base.specs.declared.mode.BERMode.{BERMode}
 use Rattle.yasna_base.specs.declared.tag.PCBit.TheVariants.{Constructed}
 use Rattle.yasna_base.specs.declared.tag.Tag.{Tag}
-use Rattle.yasna_base.specs.Canonical.{enclosed_form, enclosed_nest, IsWritten}
+use Rattle.yasna_base.specs.Canonical.{enclosed_encoding, enclosed_depth, IsWritten}
 use Rattle.yasna_base.specs.Coding.{IsCoding, IsContentsCoding}
 use Rattle.yasna_base.specs.Element.{Enclosed, AnyEnclosed}
 use Rattle.yasna_base.specs.Exact.{Fitting, IsExact, enclosed_fits}
-use Rattle.yasna_base.specs.Grammar.{Grammar, Members, Form, Nest}
+use Rattle.yasna_base.specs.Grammar.{Grammar, Members, Encoding, Depth}
 use Rattle.yasna_base.specs.Identifier.{class_number, end_tag, BeginsWithTag, context}
 use Rattle.yasna_base.proofs.Canonical.{enclosed_written}
 use Rattle.yasna_base.proofs.Coding.{enclosed}
@@ -24,21 +24,21 @@ contexts_differ j k h e = h (ap (λ (t : Tag). t.tag_number) e)
 
 -- one element alone is contents
 pub one_contents : {A : Type 0} {E : A → A → Type 0} {B : Grammar A} {S : Members} → IsCoding E B S → IsContentsCoding E B S
-one_contents x = record { meaning = x.meaning; ends = λ m n k b c r s i j. x.alone m n k b c r s }
+one_contents x = record { meaning = x.meaning; ends = λ m n k b c r s i j. x.prefix_free m n k b c r s }
 
--- a type under an EXPLICIT tag keeps the laws of reading
+-- a type under an EXPLICIT tag satisfies the laws of reading
 pub tagged : {A : Type 0} {E : A → A → Type 0} {B : Grammar A} {S : Members} (t : Tag) → (t ≡ end_tag → ⊥) →
     IsCoding E B S → IsCoding E (Enclosed B t) (AnyEnclosed S t)
 tagged t not_end x = enclosed t not_end (one_contents x)
 
 -- and those of writing
-pub tagged_written : {A : Type 0} {E : A → A → Type 0} {B : Grammar A} {form : Form A} {nest : Nest A} {Can : A → Type 0} (t : Tag) →
-    t.tag_number < 2 ^ 64 → IsWritten E B form nest Can → IsWritten E (Enclosed B t) (enclosed_form form t) (enclosed_nest nest) Can
+pub tagged_written : {A : Type 0} {E : A → A → Type 0} {B : Grammar A} {encoding : Encoding A} {depth : Depth A} {Can : A → Type 0} (t : Tag) →
+    t.tag_number < 2 ^ 64 → IsWritten E B encoding depth Can → IsWritten E (Enclosed B t) (enclosed_encoding encoding t) (enclosed_depth depth) Can
 tagged_written t range x = enclosed_written t range x
 
 -- and those of a canonical mode alone
-pub tagged_exact : {A : Type 0} {E : A → A → Type 0} {B : Grammar A} {form : Form A} {Fits : Fitting A} {Can : A → Type 0} (t : Tag) →
-    t.tag_number < 2 ^ 64 → IsExact E B form Fits Can → IsExact E (Enclosed B t) (enclosed_form form t) (enclosed_fits Fits) Can
+pub tagged_exact : {A : Type 0} {E : A → A → Type 0} {B : Grammar A} {encoding : Encoding A} {Fits : Fitting A} {Can : A → Type 0} (t : Tag) →
+    t.tag_number < 2 ^ 64 → IsExact E B encoding Fits Can → IsExact E (Enclosed B t) (enclosed_encoding encoding t) (enclosed_fits Fits) Can
 tagged_exact t range x = enclosed_exact t range x
 
 -- what is enclosed begins with the tag around it

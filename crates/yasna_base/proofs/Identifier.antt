@@ -1,4 +1,4 @@
--- An identifier at the front of bytes shows its tag, its bit and its own end.
+-- An identifier at the start of bytes shows its tag, its bit and its own end.
 use Rattle.std.proofs.Common.{◌≡◌, ℕ, ◌+◌, ◌*◌, ◌^◌, ◌<◌, ◌≤◌, List, [], ◌∷◌, ◌++◌, length, refl, ap, ◌∙◌, sym, inl, inr, arith, ap₂, append_assoc, length-append, subst, lt-ltb, le-ltb}
 use Rattle.std.proofs.lemmas.Bool.{cases_lt}
 use Rattle.yasna_base.specs.declared.tag.PCBit.{PCBit}
@@ -9,7 +9,7 @@ use Rattle.yasna_base.specs.declared.tag.TagClass.TheVariants.{Universal, Applic
 use Rattle.yasna_base.specs.Digits.{IsBytes, base128}
 use Rattle.yasna_base.specs.Identifier.{class_number, bit_number, leading_byte, identifier, universal, end_tag, BeginsWithTag, begins, AtEnd, end}
 use Rattle.yasna_base.proofs.Digits.{base128_exact, base128_bytes}
-use Rattle.yasna_base.proofs.Lists.{fronts_as}
+use Rattle.yasna_base.proofs.Lists.{prefixes_as}
 
 -- classes with one number are equal
 pub class_same : (c d : TagClass) → class_number c ≡ class_number d → c ≡ d
@@ -37,12 +37,12 @@ leading_same t u p q i j k l e =
     let n = bit_below q in
     (class_same t.tag_class u.tag_class (omega arith), bit_same p q (omega arith), omega arith)
 
--- a number below 31 stands in the leading byte
+-- a number below 31 is in the leading byte
 pub identifier_short : (t : Tag) (p : PCBit) → t.tag_number < 31 → identifier t p ≡ leading_byte t p t.tag_number ∷ []
 unfolding identifier
 identifier_short t p h = rw (lt-ltb t.tag_number 31 h)
 
--- any other number stands behind it
+-- any other number is after it
 pub identifier_long : (t : Tag) (p : PCBit) → 31 ≤ t.tag_number → identifier t p ≡ leading_byte t p 31 ∷ base128 t.tag_number
 unfolding identifier
 identifier_long t p h = rw (le-ltb t.tag_number 31 h)
@@ -50,26 +50,26 @@ identifier_long t p h = rw (le-ltb t.tag_number 31 h)
 tag_same : (t u : Tag) → t.tag_class ≡ u.tag_class → t.tag_number ≡ u.tag_number → t ≡ u
 tag_same t u e f = ap₂ (λ c n. record { tag_class = c; tag_number = n }) e f
 
--- two identifiers at the front of one list are equal, and so is what follows
+-- two identifiers at the start of one list are equal, and so is what follows
 pub identifier_exact : (t u : Tag) (p q : PCBit) (r s : List ℕ) → identifier t p ++ r ≡ identifier u q ++ s → (t ≡ u) × (p ≡ q) × (r ≡ s)
 identifier_exact t u p q r s e = elim (cases_lt t.tag_number 31) [
   | inl h ↦ elim (cases_lt u.tag_number 31) [
     | inl k ↦
-        let x = fronts_as r s (identifier_short t p h) (identifier_short u q k) e in
+        let x = prefixes_as r s (identifier_short t p h) (identifier_short u q k) e in
         let y = leading_same t u p q t.tag_number u.tag_number (omega arith) (omega arith) (cc) in
         (tag_same t u y.0 y.2, y.1, (cc))
     | inr k ↦
-        let x = fronts_as r s (identifier_short t p h) (identifier_long u q k) e in
+        let x = prefixes_as r s (identifier_short t p h) (identifier_long u q k) e in
         let y = leading_same t u p q t.tag_number 31 (omega arith) (omega arith) (cc) in
         absurd (omega (arith, y.2))
   ]
   | inr h ↦ elim (cases_lt u.tag_number 31) [
     | inl k ↦
-        let x = fronts_as r s (identifier_long t p h) (identifier_short u q k) e in
+        let x = prefixes_as r s (identifier_long t p h) (identifier_short u q k) e in
         let y = leading_same t u p q 31 u.tag_number (omega arith) (omega arith) (cc) in
         absurd (omega (arith, y.2))
     | inr k ↦
-        let x = fronts_as r s (identifier_long t p h) (identifier_long u q k) e in
+        let x = prefixes_as r s (identifier_long t p h) (identifier_long u q k) e in
         let y = leading_same t u p q 31 31 (omega arith) (omega arith) (cc) in
         let z = base128_exact t.tag_number u.tag_number r s (cc) in
         (tag_same t u y.0 z.0, y.1, z.1)
@@ -99,7 +99,7 @@ begins_with t s r (begins p x e) = begins p (x ++ r) (ap (λ z. z ++ r) e ∙ ap
 pub end_identifier : (r : List ℕ) → identifier end_tag Primitive ++ r ≡ 0 ∷ r
 end_identifier r = ap (λ z. z ++ r) (identifier_short end_tag Primitive (omega arith))
 
--- contents end where a zero stands
+-- contents end where a zero is there
 pub zeros_at_end : (r : List ℕ) → AtEnd (0 ∷ r)
 zeros_at_end r = end (begins Primitive r (sym (end_identifier r)))
 
@@ -123,7 +123,7 @@ identifier_bytes t p = elim (cases_lt t.tag_number 31) [
 pub not_end : (k : ℕ) → (k ≡ 0 → ⊥) → universal k ≡ end_tag → ⊥
 not_end k h e = h (ap (λ (t : Tag). t.tag_number) e)
 
--- no identifier stands where nothing is left
+-- no identifier is where nothing is left
 pub nothing_there : (s : List ℕ) → s ≡ [] → (t : Tag) (p : PCBit) (r : List ℕ) → t.tag_number < 2 ^ 64 → s ≡ identifier t p ++ r → ⊥
 nothing_there s e t p r h f = let g = identifier_some t p in none (identifier t p) r g (sym f ∙ e)
   where

@@ -9,12 +9,12 @@ use Rattle.std.specs.Int.{Width}
 use Rattle.std.specs.Int.Digits.{number_from_digits}
 use Rattle.std.specs.Prelude.{FitsSigned}
 use Rattle.yasna_base.specs.declared.tag.Tag.{Tag}
-use Rattle.yasna_base.specs.Canonical.{leaf_nest, IsWritten}
+use Rattle.yasna_base.specs.Canonical.{leaf_depth, IsWritten}
 use Rattle.yasna_base.specs.Coding.{IsCoding, Any}
 use Rattle.yasna_base.specs.Digits.{IsBytes, digits}
 use Rattle.yasna_base.specs.Element.{Primitively}
 use Rattle.yasna_base.specs.Identifier.{end_tag}
-use Rattle.yasna_base.specs.Integer.{twos, distance, IsMinimal, IsInteger, IsNumber, IsSigned, IsUnsigned, EncodesSigned, EncodesUnsigned, unsigned_bytes, minimal_bytes, integer_form, integer_tag}
+use Rattle.yasna_base.specs.Integer.{twos, distance, IsMinimal, IsInteger, IsNumber, IsSigned, IsUnsigned, EncodesSigned, EncodesUnsigned, unsigned_bytes, minimal_bytes, integer_encoding, integer_tag}
 use Rattle.yasna_base.proofs.Canonical.{primitively_written}
 use Rattle.yasna_base.proofs.Coding.{primitively}
 use Rattle.yasna_base.proofs.Digits.{number_cons, digits_determined, digits_below, digits_some, digits_first, number_digits}
@@ -189,14 +189,14 @@ twos_minimal_bytes z = (minimal_is z).number
 pub minimal_only : (z : ℤ) (c : List ℕ) → IsInteger z c → c ≡ minimal_bytes z
 minimal_only z c h = twos_determined c (minimal_bytes z) h.in_bytes (minimal_in_bytes z) h.minimal (minimal_minimal z) (h.number ∙ sym (twos_minimal_bytes z))
 
--- a type of numbers that stand for integers one to one keeps the laws of reading
+-- a type of numbers that represent integers one to one satisfies the laws of reading
 pub number_coding : {A : Type 0} (f : A → ℤ) (InType : A → Type 0) → ((v w : A) → f v ≡ f w → v ≡ w) → (t : Tag) → (t ≡ end_tag → ⊥) →
     IsCoding (λ v w. v ≡ w) (λ m n v b. Primitively (IsNumber f InType) n m t v b) (Any (λ m n v b. Primitively (IsNumber f InType) n m t v b))
 number_coding f InType one t not_end = primitively (IsNumber f InType) t not_end (λ m v w c x y. one v w (sym x.integer.number ∙ y.integer.number))
 
--- a type of numbers keeps the laws of writing
+-- a type of numbers satisfies the laws of writing
 pub number_written : {A : Type 0} (f : A → ℤ) (InType : A → Type 0) (t : Tag) → t.tag_number < 2 ^ 64 →
-    IsWritten (λ v w. v ≡ w) (λ m n v b. Primitively (IsNumber f InType) n m t v b) (λ m v. integer_form t m (f v)) leaf_nest InType
+    IsWritten (λ v w. v ≡ w) (λ m n v b. Primitively (IsNumber f InType) n m t v b) (λ m v. integer_encoding t m (f v)) leaf_depth InType
 number_written f InType t range = primitively_written (IsNumber f InType) InType (λ v. minimal_bytes (f v)) t range
     (λ v can. minimal_in_bytes (f v))
     (λ m v can. record { integer = minimal_is (f v); in_type = can })
@@ -218,8 +218,8 @@ signed_coding w = signed_under w integer_tag (not_end 2 (λ e. omega arith))
 pub unsigned_coding : (k : ℕ) → IsCoding (λ v w. v ≡ w) (EncodesUnsigned k) (Any (EncodesUnsigned k))
 unsigned_coding k = unsigned_under k integer_tag (not_end 2 (λ e. omega arith))
 
-pub signed_written : (w : Width) → IsWritten (λ v w. v ≡ w) (EncodesSigned w) (λ m v. integer_form integer_tag m v) leaf_nest (FitsSigned w)
+pub signed_written : (w : Width) → IsWritten (λ v w. v ≡ w) (EncodesSigned w) (λ m v. integer_encoding integer_tag m v) leaf_depth (FitsSigned w)
 signed_written w = number_written (λ z. z) (FitsSigned w) integer_tag (omega arith)
 
-pub unsigned_written : (k : ℕ) → IsWritten (λ v w. v ≡ w) (EncodesUnsigned k) (λ m v. integer_form integer_tag m (pos v)) leaf_nest (λ u. u < 2 ^ k)
+pub unsigned_written : (k : ℕ) → IsWritten (λ v w. v ≡ w) (EncodesUnsigned k) (λ m v. integer_encoding integer_tag m (pos v)) leaf_depth (λ u. u < 2 ^ k)
 unsigned_written k = number_written pos (λ u. u < 2 ^ k) integer_tag (omega arith)

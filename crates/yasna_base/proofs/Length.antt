@@ -10,14 +10,14 @@ use Rattle.yasna_base.specs.Canonical.{IsCanonicalMode}
 use Rattle.yasna_base.specs.Digits.{IsBytes, digits}
 use Rattle.yasna_base.specs.Length.{shortest_length, IsLongLength, one_byte, counted, SpellsLength}
 use Rattle.yasna_base.proofs.Digits.{digits_below, digits_some, digits_first, number_digits, digits_length, digits_only}
-use Rattle.yasna_base.proofs.Lists.{fronts_same, fronts_as}
+use Rattle.yasna_base.proofs.Lists.{prefixes_same, prefixes_as}
 
 -- a length below 128 is its one byte
 pub short_length : (k : ℕ) → k < 128 → shortest_length k ≡ k ∷ []
 unfolding shortest_length
 short_length k h = grind (arith, nat_tests)
 
--- a length from 128 on is its digits behind their count
+-- a length from 128 on is its digits after their count
 pub counted_length : (k : ℕ) → 128 ≤ k → shortest_length k ≡ (128 + length (digits 256 k)) ∷ digits 256 k
 unfolding shortest_length
 counted_length k h = grind (arith, nat_tests)
@@ -56,13 +56,13 @@ spells_below Der k l x = x.0
 spells_below Cer k l x = x.0
 
 long_exact : (j k : ℕ) (a b r s : List ℕ) → IsLongLength j a → IsLongLength k b → a ++ r ≡ b ++ s → (j ≡ k) × (a ≡ b) × (r ≡ s)
-long_exact j k a b r s (one_byte h e) (one_byte i f) g = let w = fronts_as r s e f g in (cc, cc, cc)
-long_exact j k a b r s (one_byte h e) (counted es _ _ _ _ f) g = let w : j ≡ 128 + length es = cc (fronts_as r s e f g) in absurd (omega arith)
-long_exact j k a b r s (counted ds _ _ _ _ e) (one_byte i f) g = let w : 128 + length ds ≡ k = cc (fronts_as r s e f g) in absurd (omega arith)
+long_exact j k a b r s (one_byte h e) (one_byte i f) g = let w = prefixes_as r s e f g in (cc, cc, cc)
+long_exact j k a b r s (one_byte h e) (counted es _ _ _ _ f) g = let w : j ≡ 128 + length es = cc (prefixes_as r s e f g) in absurd (omega arith)
+long_exact j k a b r s (counted ds _ _ _ _ e) (one_byte i f) g = let w : 128 + length ds ≡ k = cc (prefixes_as r s e f g) in absurd (omega arith)
 long_exact j k a b r s (counted ds _ _ _ m e) (counted es _ _ _ n f) g =
-    let w = fronts_as r s e f g in
+    let w = prefixes_as r s e f g in
     let h : 128 + length ds ≡ 128 + length es = cc in
-    let x = fronts_same ds es r s (omega arith) (cc) in
+    let x = prefixes_same ds es r s (omega arith) (cc) in
     (cc, cc, x.1)
 
 -- of two spelled lengths neither begins the other, and equal bytes spell equal lengths
@@ -93,10 +93,10 @@ unfolding shortest_length
 shortest_only ds p h k = rw (le-ltb (number_from_digits 256 ds) 128 k) (ap (λ x. (128 + length x) ∷ x) (digits_only 256 ds (omega arith) p h))
 
 -- x is the length k itself, or counts the digits of k that y begins with
-pub data LengthFront (m : BERMode) (x : ℕ) (y : List ℕ) (k : ℕ) : Type 0 where
-  small : x < 128 → k ≡ x → LengthFront m x y k
+pub data LengthPrefix (m : BERMode) (x : ℕ) (y : List ℕ) (k : ℕ) : Type 0 where
+  small : x < 128 → k ≡ x → LengthPrefix m x y k
   large : (ds r : List ℕ) → x ≡ 128 + length ds → 1 ≤ length ds → length ds ≤ 126 → y ≡ ds ++ r → number_from_digits 256 ds ≡ k → k < 2 ^ 64 →
-      (IsCanonicalMode m → (128 ≤ k) × (0 < get_or ds 0 0)) → LengthFront m x y k
+      (IsCanonicalMode m → (128 ≤ k) × (0 < get_or ds 0 0)) → LengthPrefix m x y k
 
 counted_shortest : (k : ℕ) (ds : List ℕ) → 1 ≤ length ds → (128 + length ds) ∷ ds ≡ shortest_length k → (128 ≤ k) × (0 < get_or ds 0 0)
 counted_shortest k ds h e = elim (cases_lt k 128) [
@@ -109,8 +109,8 @@ canonical_counted : (m : BERMode) (k : ℕ) (ds l : List ℕ) → SpellsLength m
 canonical_counted m k ds l x h e c = counted_shortest k ds h (sym e ∙ spells_shortest m k l c x)
 
 -- bytes that begin with a spelled length are of one of the two kinds
-pub length_front : (m : BERMode) (x : ℕ) (y : List ℕ) (k : ℕ) (l r : List ℕ) → SpellsLength m k l → x ∷ y ≡ l ++ r → LengthFront m x y k
-length_front m x y k l r w e = elim (spells_long m k l w) [
+pub length_prefix : (m : BERMode) (x : ℕ) (y : List ℕ) (k : ℕ) (l r : List ℕ) → SpellsLength m k l → x ∷ y ≡ l ++ r → LengthPrefix m x y k
+length_prefix m x y k l r w e = elim (spells_long m k l w) [
   | one_byte h f ↦ let g = e ∙ ap (λ z. z ++ r) f in let i : x ≡ k = cc in small (omega arith) (cc)
   | counted ds h i b n f ↦ let g = e ∙ ap (λ z. z ++ r) f in large ds r (cc) h i (cc) n (spells_below m k l w) (canonical_counted m k ds l w h f)
 ]

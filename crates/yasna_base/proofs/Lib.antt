@@ -25,7 +25,7 @@ pub mod Header
 pub mod Pieces
 pub mod Segments
 pub mod Segmented
-pub mod SegmentedForm
+pub mod SegmentedEncoding
 pub mod Raw
 pub mod Order
 pub mod SetLaws
@@ -35,7 +35,7 @@ pub mod SetWriting
 pub mod SetContents
 pub mod Octets
 pub mod Bits
-pub mod BitForm
+pub mod BitEncoding
 pub mod BitSegments
 pub mod Exact
 pub mod ExplicitTags

@@ -10,19 +10,19 @@ use Rattle.yasna_base.specs.Sequence.{sequence_tag}
 use Rattle.yasna_base.specs.SequenceOf.{IsListOf, AnyListOf}
 use Rattle.yasna_base.proofs.Element.{element_exact, element_starts}
 use Rattle.yasna_base.proofs.Identifier.{not_end}
-use Rattle.yasna_base.proofs.Pieces.{no_front_at_end, pieces_once, pieces_end, each_same, pieces_wider}
+use Rattle.yasna_base.proofs.Pieces.{no_prefix_at_end, pieces_once, pieces_end, each_same, pieces_wider}
 use Rattle.yasna_base.proofs.SequenceOf.{each_any, each_is_same}
 
 any_opens : (n : ℕ) (m : BERMode) (b : List ℕ) → AnyNested n m b → StartsElement b
 any_opens zero m b p = absurd p
 any_opens (suc n) m b p = element_starts m sequence_tag Constructed p.contents b (not_end 16 (λ e. omega arith)) p.element
 
-any_alone : (n k : ℕ) (m : BERMode) (b c r s : List ℕ) → AnyNested n m b → AnyNested k m c → b ++ r ≡ c ++ s → b ≡ c
-any_alone zero k m b c r s p q e = absurd p
-any_alone (suc n) zero m b c r s p q e = absurd q
-any_alone (suc n) (suc k) m b c r s p q e =
+any_prefix_free : (n k : ℕ) (m : BERMode) (b c r s : List ℕ) → AnyNested n m b → AnyNested k m c → b ++ r ≡ c ++ s → b ≡ c
+any_prefix_free zero k m b c r s p q e = absurd p
+any_prefix_free (suc n) zero m b c r s p q e = absurd q
+any_prefix_free (suc n) (suc k) m b c r s p q e =
     (element_exact m m sequence_tag sequence_tag Constructed Constructed p.contents q.contents b c r s p.element q.element
-    (λ y z i j f. pieces_end (λ u w d g y z h i. any_alone n k m d g y z h i) (λ u d h. any_opens n m d h) (λ u d h. any_opens k m d h)
+    (λ y z i j f. pieces_end (λ u w d g y z h i. any_prefix_free n k m d g y z h i) (λ u d h. any_opens n m d h) (λ u d h. any_opens k m d h)
     p.meaning.0 q.meaning.0 p.contents q.contents y z p.meaning.1 q.meaning.1 i j f) e).bytes
 
 module _ {U : Type 0} (parts : U → List U) where
@@ -41,14 +41,14 @@ module _ {U : Type 0} (parts : U → List U) where
   nested_exact zero k m v w b p q (suc j) = absurd p
   nested_exact (suc n) zero m v w b p q (suc j) = absurd q
   nested_exact (suc n) (suc k) m v w b p q (suc j) =
-      let alone = λ (v w : U) (b c r s : List ℕ) (g : IsNested parts n m v b) (h : IsNested parts k m w c) (e : b ++ r ≡ c ++ s).
-      any_alone n k m b c r s (nested_among n m v b g) (nested_among k m w c h) e in
+      let prefix_free = λ (v w : U) (b c r s : List ℕ) (g : IsNested parts n m v b) (h : IsNested parts k m w c) (e : b ++ r ≡ c ++ s).
+      any_prefix_free n k m b c r s (nested_among n m v b g) (nested_among k m w c h) e in
       let same = element_exact m m sequence_tag sequence_tag Constructed Constructed p.contents q.contents b b [] [] p.element q.element
-      (λ y z g h f. pieces_end alone (nested_starts n m) (nested_starts k m) (parts v) (parts w) p.contents q.contents y z p.meaning q.meaning g h f) refl in
+      (λ y z g h f. pieces_end prefix_free (nested_starts n m) (nested_starts k m) (parts v) (parts w) p.contents q.contents y z p.meaning q.meaning g h f) refl in
       let x = subst (λ c. Pieces (IsNested parts n m) (parts v) c) same.contents p.meaning in
       let y = q.meaning in
-      let once = pieces_once alone (parts v) (parts w) q.contents q.contents [] [] x y (no_front_at_end (nested_starts k m) [] (nothing refl))
-      (no_front_at_end (nested_starts n m) [] (nothing refl)) refl in
+      let once = pieces_once prefix_free (parts v) (parts w) q.contents q.contents [] [] x y (no_prefix_at_end (nested_starts k m) [] (nothing refl))
+      (no_prefix_at_end (nested_starts n m) [] (nothing refl)) refl in
       each_same (λ v w b g h. nested_exact n k m v w b g h j) (parts v) (parts w) y.pieces (subst (λ bs. Each (IsNested parts n m) (parts v) bs) once.0 x.each)
       y.each
 
@@ -71,7 +71,7 @@ module _ {U : Type 0} (parts : U → List U) where
         transitive = λ u v w. each.transitive (parts u) (parts v) (parts w);
       }
 
-  -- such a type keeps the laws of reading
+  -- such a type satisfies the laws of reading
   pub nested_coding : IsCoding (SameNested parts) (λ m n v b. IsNested parts n m v b) (λ m n b. AnyNested n m b)
   nested_coding = record {
     meaning = record {
@@ -85,7 +85,7 @@ module _ {U : Type 0} (parts : U → List U) where
       deeper = λ m n k v b below p. nested_deeper n k m v b below p;
     };
     opens = λ m n b p. any_opens n m b p;
-    alone = λ m n k b c r s p q e. any_alone n k m b c r s p q e;
+    prefix_free = λ m n k b c r s p q e. any_prefix_free n k m b c r s p q e;
   }
 
   -- a list of the values within one is the one

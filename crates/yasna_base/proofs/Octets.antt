@@ -3,9 +3,9 @@ use Rattle.std.proofs.Common.{◌≡◌, ◌∙◌, sym, arith, [], ◌∷◌, �
 use Rattle.yasna_base.specs.declared.tag.Tag.{Tag}
 use Rattle.yasna_base.specs.Coding.{IsCoding, Any}
 use Rattle.yasna_base.specs.Identifier.{end_tag}
-use Rattle.yasna_base.specs.Octets.{octets_segmentation, IsOctets, octets_form, octets_nest, OctetsKeepLaws, octets_tag, EncodesOctets, EncodesVec}
+use Rattle.yasna_base.specs.Octets.{octets_segmentation, IsOctets, octets_encoding, octets_depth, OctetsKeepLaws, octets_tag, EncodesOctets, EncodesVec}
 use Rattle.yasna_base.proofs.Segmented.{SegmentsOnce, segmented_coding, segmented_keeps, segmented_level}
-use Rattle.yasna_base.proofs.SegmentedForm.{HasSegments, segmented_has}
+use Rattle.yasna_base.proofs.SegmentedEncoding.{HasSegments, segmented_has}
 use Rattle.yasna_base.proofs.Segments.{segments_are, segments_two, segments_bytes, segments_only, segments_over}
 use Rattle.yasna_base.specs.Segments.{AreSegments, segments}
 use Rattle.std.proofs.lemmas.List.{map-id}
@@ -25,7 +25,7 @@ use Rattle.yasna_base.proofs.Canonical.{written_along}
 pub octets_once : SegmentsOnce octets_segmentation
 octets_once = record { whole = λ m v w c x y. x ∙ sym y; join = λ m vs v w x y. x ∙ sym y; segment = not_end 4 (λ e. omega arith) }
 
--- OCTET STRING keeps the laws of reading
+-- OCTET STRING satisfies the laws of reading
 pub octets_coding : (t : Tag) → (t ≡ end_tag → ⊥) → IsCoding (λ v w. v ≡ w) (λ m n v b. IsOctets n m t v b) (Any (λ m n v b. IsOctets n m t v b))
 octets_coding t not_end = segmented_coding octets_once t not_end
 
@@ -52,7 +52,7 @@ octets_in_segments = record {
         segments_bytes (segments 1000 v) (subst IsBytes (sym x.joined) can),
       );
   join = λ m v can long. sym (segments_are 1000 v (omega arith) (omega (arith, long))).joined;
-  alone = λ vs v can e cut.
+  cut_once = λ vs v can e cut.
       let each : AreSegments 1000 vs = subst (AreSegments 1000) (map-id vs) cut.0 in
       let two : 2 ≤ length vs = subst (λ bs. 2 ≤ length bs) (map-id vs) cut.1 in (
         segments_only 1000 vs v (omega arith) each (sym e),
@@ -61,13 +61,13 @@ octets_in_segments = record {
       );
 }
 
--- OCTET STRING keeps the laws of writing
+-- OCTET STRING satisfies the laws of writing
 pub octets_written : (t : Tag) → t.tag_number < 2 ^ 64 →
-    IsWritten (λ v w. v ≡ w) (λ m n v b. IsOctets n m t v b) (octets_form t) octets_nest IsBytes
+    IsWritten (λ v w. v ≡ w) (λ m n v b. IsOctets n m t v b) (octets_encoding t) octets_depth IsBytes
 octets_written t range = record {
   has = segmented_has octets_in_segments (omega arith) t range;
   any = λ n v b x. (octets_bytes n Ber t v b x, segmented_level octets_segmentation n Ber t v b x);
-  same = λ m v w e. (ap (octets_form t m) e, λ can. subst IsBytes e can, ap (octets_nest m) e);
+  same = λ m v w e. (ap (octets_encoding t m) e, λ can. subst IsBytes e can, ap (octets_depth m) e);
 }
 
 pub octets_keep : OctetsKeepLaws
@@ -77,6 +77,6 @@ octets_keep t not_end range = (octets_coding t not_end, octets_written t range)
 pub vec_coding : IsCoding (λ (v w : Vec ℕ Global). v.items ≡ w.items) EncodesVec (Any EncodesOctets)
 vec_coding = along (λ v. v.items) (octets_coding octets_tag octets_once.segment)
 
-pub vec_written : IsWritten (λ (v w : Vec ℕ Global). v.items ≡ w.items) EncodesVec (λ m v. octets_form octets_tag m v.items)
-    (λ m v. octets_nest m v.items) (λ v. IsBytes v.items)
+pub vec_written : IsWritten (λ (v w : Vec ℕ Global). v.items ≡ w.items) EncodesVec (λ m v. octets_encoding octets_tag m v.items)
+    (λ m v. octets_depth m v.items) (λ v. IsBytes v.items)
 vec_written = written_along (λ v. v.items) (octets_written octets_tag (omega arith))

@@ -4,18 +4,18 @@ use Rattle.std.proofs.lemmas.Bool.{cases_lt}
 use Rattle.std.specs.Int.{w64}
 use Rattle.std.specs.List.{flat_map, AllByRecursion}
 use Rattle.yasna_base.specs.declared.tag.Tag.{Tag}
-use Rattle.yasna_base.specs.Canonical.{leaf_nest, IsWritten}
+use Rattle.yasna_base.specs.Canonical.{leaf_depth, IsWritten}
 use Rattle.yasna_base.specs.Coding.{IsCoding, Any}
 use Rattle.yasna_base.specs.Digits.{IsBytes, base128}
 use Rattle.yasna_base.specs.Element.{Primitively}
 use Rattle.yasna_base.specs.Identifier.{end_tag}
-use Rattle.yasna_base.specs.Oid.{AreFirstTwo, IsEncodableOid, subidentifiers, oid_contents, AreComponents, EncodesOid, oid_form, oid_tag}
+use Rattle.yasna_base.specs.Oid.{AreFirstTwo, IsEncodableOid, subidentifiers, oid_contents, AreComponents, EncodesOid, oid_encoding, oid_tag}
 use Rattle.yasna_base.proofs.Canonical.{primitively_written}
 use Rattle.yasna_base.proofs.Coding.{primitively}
 use Rattle.yasna_base.proofs.Digits.{base128_exact, base128_some, base128_bytes, bytes_append}
 use Rattle.yasna_base.proofs.Identifier.{not_end}
 
--- bytes behind a number in base 128 aren't all there is
+-- bytes after a number in base 128 aren't all there is
 pub not_empty : (k : ℕ) (r : List ℕ) → base128 k ++ r ≡ [] → ⊥
 not_empty k r e = omega (arith, base128_some k, ap length e, length-append (base128 k) r)
 
@@ -79,14 +79,14 @@ encodable_of [] r l f h = absurd (omega arith)
 encodable_of (x ∷ []) r l f h = absurd (omega arith)
 encodable_of (x ∷ y ∷ cs) r l f h = (λ t. (h.0 t, all_small cs (λ i. f (suc (suc i)))), λ e. h.1 e.0)
 
--- OBJECT IDENTIFIER keeps the laws of reading
+-- OBJECT IDENTIFIER satisfies the laws of reading
 pub oid_under : (t : Tag) → (t ≡ end_tag → ⊥) →
     IsCoding (λ v w. v ≡ w) (λ m n v b. Primitively AreComponents n m t v b) (Any (λ m n v b. Primitively AreComponents n m t v b))
 oid_under t not_end = primitively AreComponents t not_end (λ m v w c x y. one_oid v w c x.encodable y.encodable x.contents y.contents)
 
--- OBJECT IDENTIFIER keeps the laws of writing
+-- OBJECT IDENTIFIER satisfies the laws of writing
 pub oid_written_under : (t : Tag) → t.tag_number < 2 ^ 64 →
-    IsWritten (λ v w. v ≡ w) (λ m n v b. Primitively AreComponents n m t v b) (oid_form t) leaf_nest IsEncodableOid
+    IsWritten (λ v w. v ≡ w) (λ m n v b. Primitively AreComponents n m t v b) (oid_encoding t) leaf_depth IsEncodableOid
 oid_written_under t range = primitively_written AreComponents IsEncodableOid oid_contents t range
     (λ v can. oid_bytes v)
     (λ m v can. record { encodable = can; contents = refl })
@@ -97,5 +97,5 @@ oid_written_under t range = primitively_written AreComponents IsEncodableOid oid
 pub oid_coding : IsCoding (λ v w. v ≡ w) EncodesOid (Any EncodesOid)
 oid_coding = oid_under oid_tag (not_end 6 (λ e. omega arith))
 
-pub oid_written : IsWritten (λ v w. v ≡ w) EncodesOid (oid_form oid_tag) leaf_nest IsEncodableOid
+pub oid_written : IsWritten (λ v w. v ≡ w) EncodesOid (oid_encoding oid_tag) leaf_depth IsEncodableOid
 oid_written = oid_written_under oid_tag (omega arith)

@@ -9,7 +9,7 @@ use Rattle.std.proofs.lemmas.List.Elements.{All-from_get_or}
 use Rattle.std.proofs.lemmas.List.Sums.{fails_before_first}
 use Rattle.std.proofs.lemmas.List.Splits.{slice_split_first, slice_split_none, slice_split_at}
 use Rattle.std.proofs.lemmas.Str.Parse.{digit_at, without_leading_plus_none}
-use Rattle.yasna_base.specs.OidText.{oid_text, BeginsWithComponent, IsComponent, IsOidText, is_dot, lacks_memory}
+use Rattle.yasna_base.specs.OidText.{oid_text, BeginsWithComponent, IsComponent, IsOidText, is_dot, ran_out_of_memory}
 use Rattle.yasna_base.specs.declared.models.oid_text.ParseOidError.{ParseOidError}
 
 -- the components cs were read of a text, and rest is left of it
@@ -20,7 +20,7 @@ pub record IsRest (text cs rest : List ℕ) : Type 0 where
 pub rest_start : (text : List ℕ) → IsRest text [] text
 rest_start text = record { on = λ ds x. x; back = λ ds x. (ds, refl, x) }
 
--- what parts say in front of others
+-- what parts say before others
 head_is : (part : List ℕ) (parts : List (List ℕ)) (n : ℕ) (ds : List ℕ) → IsComponent part n → AllZip IsComponent (part ∷ parts) ds →
     (fs : List ℕ) × (ds ≡ n ∷ fs) × AllZip IsComponent parts fs
 head_is part parts n [] c x = absurd x
@@ -141,9 +141,9 @@ spelled : (c : List ℕ) → 0 < length c → AllByRecursion (λ n. n < 2 ^ 64) 
 spelled [] l h = absurd (omega arith)
 spelled (c ∷ cs) l h = oid_text_is c cs h
 
--- the text of components is read as them or not for want of memory
+-- the text of components is read as them or not when out of memory
 pub read_again : (cs text : List ℕ) (r : Result (List ℕ) ParseOidError) → 0 < length cs → AllByRecursion (λ n. n < 2 ^ 64) cs → text ≡ oid_text cs →
-    MatchResult r (λ oid. IsOidText text oid) (λ e. lacks_memory e ≡ false → (ds : List ℕ) → IsOidText text ds → ⊥) →
-    MatchResult r (λ again. again ≡ cs) (λ e. lacks_memory e ≡ true)
+    MatchResult r (λ oid. IsOidText text oid) (λ e. ran_out_of_memory e ≡ false → (ds : List ℕ) → IsOidText text ds → ⊥) →
+    MatchResult r (λ again. again ≡ cs) (λ e. ran_out_of_memory e ≡ true)
 read_again cs text (Ok oid) l h e x = oid_text_exact text oid cs x (subst (λ s. IsOidText s cs) (sym e) (spelled cs l h))
-read_again cs text (Err f) l h e x = not_false (lacks_memory f) (λ b. x b cs (subst (λ s. IsOidText s cs) (sym e) (spelled cs l h)))
+read_again cs text (Err f) l h e x = not_false (ran_out_of_memory f) (λ b. x b cs (subst (λ s. IsOidText s cs) (sym e) (spelled cs l h)))

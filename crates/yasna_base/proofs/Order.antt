@@ -1,4 +1,4 @@
--- Lists put in order: there is one order of a list in which items that tie stand as they stood.
+-- Lists put in order: there is one order of a list in which items that tie are as they were.
 use Rattle.std.proofs.Common.{◌≡◌, ℕ, ◌+◌, ◌<◌, List, [], ◌∷◌, length, get_or, zero, suc, refl, ap, ap₂, sym, ◌∙◌, arith, subst, Bool, true, false, cond, not, ◌&&◌, map}
 use Rattle.std.specs.Cmp.{IsStrictWeakOrder}
 use Rattle.std.specs.declared.cmp.Ordering.{Ordering}
@@ -199,15 +199,15 @@ module _ {X : Type 0} (R : X → X → Ordering) (o : IsStrictWeakOrder (λ (x y
   none_ties y (z ∷ zs) a =
       ap (λ b. cond b (z ∷ filter (ties (λ x y. is_lt (R x y)) y) zs) (filter (ties (λ x y. is_lt (R x y)) y) zs)) a.0 ∙ none_ties y zs a.1
 
-  -- what ties with y isn't left out: so y isn't below the first of those
+  -- what ties with y isn't omitted: so y isn't below the first of those
   head_reaches : (y z : X) (ys zs : List X) → Rises (λ x y. is_lt (R x y)) (z ∷ zs) →
       filter (ties (λ x y. is_lt (R x y)) y) (y ∷ ys) ≡ filter (ties (λ x y. is_lt (R x y)) y) (z ∷ zs) → is_lt (R y z) ≡ false
   head_reaches y z ys zs r e = is_one (is_lt (R y z)) (λ below.
-      let apart = λ (w : X) (h : is_lt (R w z) ≡ false). is_one (ties (λ x y. is_lt (R x y)) y w) (λ t.
+      let unambiguous = λ (w : X) (h : is_lt (R w z) ≡ false). is_one (ties (λ x y. is_lt (R x y)) y w) (λ t.
       let k = both_false (is_lt (R y w)) (is_lt (R w y)) t in
       let l = o.chain y w z k.0 h in
       absurd (cc)) in
-      let none = none_ties y (z ∷ zs) (apart z (same_side z), all_wider apart zs r.0) in
+      let none = none_ties y (z ∷ zs) (unambiguous z (same_side z), all_wider unambiguous zs r.0) in
       let some = ap (λ b. cond b (y ∷ filter (ties (λ x y. is_lt (R x y)) y) ys) (filter (ties (λ x y. is_lt (R x y)) y) ys)) (ties_self y) in
       no_head y (filter (ties (λ x y. is_lt (R x y)) y) ys) (sym none ∙ sym e ∙ some))
 
@@ -256,7 +256,7 @@ module _ {X : Type 0} (R : X → X → Ordering) (o : IsStrictWeakOrder (λ (x y
       let k = both_false (is_lt (R z y)) (is_lt (R y z)) f in
       neither (is_lt (R x y)) (is_lt (R y x)) (o.chain x z y h.1 k.0) (o.chain y z x k.1 h.0)
 
-  -- the order of a list doesn't depend on how its items stood, where those that tie are one
+  -- the order of a list doesn't depend on how its items were, where those that tie are one
   pub in_order_permuted : (xs ys : List X) → IsPermutation xs ys →
       ((x y : X) → Contains xs x → Contains xs y → ties (λ x y. is_lt (R x y)) x y ≡ true → x ≡ y) → in_order R xs ≡ in_order R ys
   in_order_permuted xs ys p one =
@@ -276,7 +276,7 @@ module _ {X Y : Type 0} (f : X → Y) (R : Y → Y → Ordering) where
       step true i = ap (λ zs. f y ∷ zs) i
       step false i = refl
 
-  -- items put in order by what stands for them
+  -- items put in order by what represents them
   pub in_order_map : (xs : List X) → map f (in_order (λ v w. R (f v) (f w)) xs) ≡ in_order R (map f xs)
   in_order_map [] = refl
   in_order_map (x ∷ xs) = put_in_map x (in_order (λ v w. R (f v) (f w)) xs) ∙ ap (put_in R (f x)) (in_order_map xs)

@@ -9,21 +9,21 @@ use Rattle.yasna_base.specs.Element.{Element, definite, indefinite, end_of_conte
 use Rattle.yasna_base.specs.Header.{ContentsEnd, definite_end, indefinite_end, OpensAt}
 use Rattle.yasna_base.specs.Identifier.{identifier, end_tag, begins, StartsElement, AtEnd, nothing}
 use Rattle.yasna_base.specs.Pieces.{Pieces}
-use Rattle.yasna_base.specs.Raw.{RawValue, LooksInto, LooksUpTo, IsJoining, RawFramed, with_length, with_zeros, RawOver, IsRaw, JoiningBefore, DeepRaw, IsDeepRaw, ContentsTo, IsPayload}
+use Rattle.yasna_base.specs.Raw.{RawValue, DescendsInto, DescendsUpTo, IsJoining, RawFramed, with_length, with_zeros, RawOver, IsRaw, JoiningBefore, DeepRaw, IsDeepRaw, ContentsTo, IsPayload}
 use Rattle.yasna_base.proofs.Coding.{equal_same}
-use Rattle.yasna_base.proofs.Digits.{bytes_front}
+use Rattle.yasna_base.proofs.Digits.{bytes_prefix}
 use Rattle.yasna_base.proofs.Element.{definite_exact, definite_not_indefinite, indefinite_exact, counted_header, uncounted_header, element_starts}
 use Rattle.yasna_base.specs.Length.{SpellsLength}
 use Rattle.yasna_base.proofs.Identifier.{zeros_at_end}
-use Rattle.yasna_base.proofs.Lists.{fronts_same, append_before}
-use Rattle.yasna_base.proofs.Pieces.{NoFront, no_front_at_end, starts_not_end, pieces_end, pieces_once, pieces_wider}
+use Rattle.yasna_base.proofs.Lists.{prefixes_same, append_before}
+use Rattle.yasna_base.proofs.Pieces.{NoPrefix, no_prefix_at_end, starts_not_end, pieces_end, pieces_once, pieces_wider}
 
 -- no level holds a raw element
 pub raw_zero : (m : BERMode) (v : RawValue) (b : List ℕ) → IsRaw zero m v b → ⊥
 unfolding IsRaw
 raw_zero m v b x = x
 
--- a level more holds what stands over the levels below
+-- a level more holds what is over the levels below
 pub raw_of : (n : ℕ) (m : BERMode) (v : RawValue) (b : List ℕ) → RawOver (IsRaw n m) m v b → IsRaw (suc n) m v b
 unfolding IsRaw
 raw_of n m v b x = x
@@ -60,7 +60,7 @@ element_framed : {R : RawValue → List ℕ → Type 0} {m : BERMode} (v : RawVa
 element_framed v b x (with_length d j) =
     record { contents = v.payload; element = record { in_range = x.in_range; in_bytes = x.in_bytes; framed = definite d } }
 element_framed v b x (with_zeros c i j e) =
-    let b = bytes_front c end_of_contents (subst IsBytes e x.in_bytes) in
+    let b = bytes_prefix c end_of_contents (subst IsBytes e x.in_bytes) in
     record { contents = c; element = record { in_range = x.in_range; in_bytes = b; framed = indefinite i } }
 
 -- a raw element is an element
@@ -99,16 +99,16 @@ same_raw v w e f g =
 framed_exact : {R S : RawValue → List ℕ → Type 0} (m : BERMode) → ((v w : RawValue) (b c r s : List ℕ) → R v b → S w c → b ++ r ≡ c ++ s → b ≡ c) →
     ((v : RawValue) (b : List ℕ) → R v b → StartsElement b) → ((v : RawValue) (b : List ℕ) → S v b → StartsElement b) →
     (v w : RawValue) (b c r s : List ℕ) → RawFramed R m v b → RawFramed S m w c → b ++ r ≡ c ++ s → (v ≡ w) × (b ≡ c)
-framed_exact m alone left right v w b c r s (with_length d j) (with_length e k) f =
+framed_exact m prefix_free left right v w b c r s (with_length d j) (with_length e k) f =
     let i = definite_exact m m v.tag w.tag v.bit w.bit v.payload w.payload b c r s d e f in
     (same_raw v w i.tag i.bit i.contents, i.bytes)
-framed_exact m alone left right v w b c r s (with_length d j) (with_zeros y e k g) f =
+framed_exact m prefix_free left right v w b c r s (with_length d j) (with_zeros y e k g) f =
     absurd (definite_not_indefinite m m v.tag w.tag v.bit w.bit v.payload y b c r s d e f)
-framed_exact m alone left right v w b c r s (with_zeros x d j h) (with_length e k) f =
+framed_exact m prefix_free left right v w b c r s (with_zeros x d j h) (with_length e k) f =
     absurd (definite_not_indefinite m m w.tag v.tag w.bit v.bit w.payload x c b s r e d (sym f))
-framed_exact m alone left right v w b c r s (with_zeros x d j h) (with_zeros y e k g) f =
+framed_exact m prefix_free left right v w b c r s (with_zeros x d j h) (with_zeros y e k g) f =
     let i = indefinite_exact m m v.tag w.tag v.bit w.bit x y b c r s d e
-    (λ p q. pieces_end alone left right j.0 k.0 x y _ _ j.1 k.1 (zeros_at_end (0 ∷ p)) (zeros_at_end (0 ∷ q))) f in
+    (λ p q. pieces_end prefix_free left right j.0 k.0 x y _ _ j.1 k.1 (zeros_at_end (0 ∷ p)) (zeros_at_end (0 ∷ q))) f in
     (same_raw v w i.tag i.bit (h ∙ ap (λ z. z ++ end_of_contents) i.contents ∙ sym g), i.bytes)
 
 -- of two raw elements neither begins the other, and equal bytes are equal elements
@@ -119,7 +119,7 @@ raw_exact (suc n) (suc j) m v w b c r s x y e =
     framed_exact m (λ v w b c r s x y e. (raw_exact n j m v w b c r s x y e).1) (raw_starts n m) (raw_starts j m) v w b c r s
     (raw_into n m v b x).framed (raw_into j m w c y).framed e
 
--- raw elements keep the laws of reading
+-- raw elements satisfy the laws of reading
 pub raw_coding : IsCoding (λ v w. v ≡ w) (λ m n v b. IsRaw n m v b) (Any (λ m n v b. IsRaw n m v b))
 raw_coding = record {
   meaning = record {
@@ -129,7 +129,7 @@ raw_coding = record {
     deeper = λ m n j v b below. raw_deeper n j m v b below;
   };
   opens = λ m n b x. raw_starts n m x.0 b x.1;
-  alone = λ m n j b c r s x y e. (raw_exact n j m x.0 y.0 b c r s x.1 y.1 e).1;
+  prefix_free = λ m n j b c r s x y e. (raw_exact n j m x.0 y.0 b c r s x.1 y.1 e).1;
 }
 
 -- a header with the contents c and this end is that of the raw element b, which ends before r
@@ -143,8 +143,8 @@ opens_framed : {R : RawValue → List ℕ → Type 0} (m : BERMode) (t : Tag) (p
     OpensAt m t p s c e → RawFramed R m v b → s ≡ b ++ r → OpensRaw R m t p c e v r
 opens_framed {R} m t p s c (definite_end z) v b r x (with_length d j) f =
     let i = counted_header m m t v.tag p v.bit (length c) x.l v.payload b (c ++ z) r x.spelled (definite d) (sym x.joined ∙ f) in
-    let k = fronts_same c v.payload z r i.count i.behind in
-    record { tag = i.tag; bit = i.bit; inside = (sym k.1, λ l. subst (λ y. IsJoining R y) (sym k.0) (j (subst (λ q. LooksInto m q) i.bit l))) }
+    let k = prefixes_same c v.payload z r i.count i.after in
+    record { tag = i.tag; bit = i.bit; inside = (sym k.1, λ l. subst (λ y. IsJoining R y) (sym k.0) (j (subst (λ q. DescendsInto m q) i.bit l))) }
 opens_framed m t p s c (definite_end z) v b r x (with_zeros y d j g) f =
     let i = counted_header m m t v.tag p v.bit (length c) x.l y b (c ++ z) r x.spelled (indefinite d) (sym x.joined ∙ f) in
     absurd (definite_not_indefinite m m v.tag v.tag v.bit v.bit y y b b r r i.element d refl)
@@ -153,14 +153,14 @@ opens_framed m t p s c indefinite_end v b r x (with_length d j) f =
     absurd (definite_not_indefinite m m v.tag v.tag v.bit v.bit v.payload v.payload b b r r d i.element refl)
 opens_framed m t p s c indefinite_end v b r x (with_zeros y d j g) f =
     let i = uncounted_header m t v.tag p v.bit y b c r (indefinite d) (sym x.joined ∙ f) in
-    record { tag = i.tag; bit = i.bit; inside = (y, j, i.behind) }
+    record { tag = i.tag; bit = i.bit; inside = (y, j, i.after) }
 
 -- where a raw element begins, a header is its own, and its contents end where it does
 pub opens_raw : {R : RawValue → List ℕ → Type 0} (m : BERMode) (t : Tag) (p : PCBit) (s c : List ℕ) (e : ContentsEnd) (v : RawValue) (b r : List ℕ) →
     OpensAt m t p s c e → RawOver R m v b → s ≡ b ++ r → OpensRaw R m t p c e v r
 opens_raw m t p s c e v b r x y f = opens_framed m t p s c e v b r x y.framed f
 
--- b is a raw element at the front of s, and r follows
+-- b is a raw element at the start of s, and r follows
 pub record RawAt (R : RawValue → List ℕ → Type 0) (m : BERMode) (v : RawValue) (s r : List ℕ) : Type 0 where
   pub bytes : List ℕ
   pub raw : RawOver R m v bytes
@@ -188,7 +188,7 @@ raw_ends m t p s c indefinite_end r y n x w f =
       raw = record {
         not_end = n;
         in_range = x.in_range;
-        in_bytes = bytes_front y r (subst IsBytes f x.in_bytes);
+        in_bytes = bytes_prefix y r (subst IsBytes f x.in_bytes);
         framed = with_zeros w.0 (record { taken = x.taken; joined = refl }) w.1 e;
       };
       joined = x.joined ∙ ap (λ k. identifier t p ++ (128 ∷ k)) w.2 ∙ simp append_assoc;
@@ -199,24 +199,24 @@ pub opens_starts : (m : BERMode) (t : Tag) (p : PCBit) (s c : List ℕ) (e : Con
 opens_starts m t p s c (definite_end z) n x = record { tag = t; in_range = x.in_range; not_end = n; begins = begins p _ x.joined }
 opens_starts m t p s c indefinite_end n x = record { tag = t; in_range = x.in_range; not_end = n; begins = begins p _ x.joined }
 
--- what starts an element stands nowhere but behind all pieces
+-- what starts an element is nowhere but after all pieces
 deep_inside : {R : RawValue → List ℕ → Type 0} {D : List ℕ → Type 0} (m : BERMode) →
     ((v w : RawValue) (b c r s : List ℕ) → R v b → R w c → b ++ r ≡ c ++ s → b ≡ c) → ((v : RawValue) (b : List ℕ) → R v b → StartsElement b) →
-    ((x : List ℕ) → D x → StartsElement x) → ((x : List ℕ) → D x → NoFront R x) → (vs : List RawValue) (d c r : List ℕ) → Pieces R vs d → AtEnd r →
+    ((x : List ℕ) → D x → StartsElement x) → ((x : List ℕ) → D x → NoPrefix R x) → (vs : List RawValue) (d c r : List ℕ) → Pieces R vs d → AtEnd r →
     JoiningBefore R D c → c ≡ d ++ r → ⊥
-deep_inside m alone starts first apart vs d c r p i x e =
-    let f = pieces_once alone x.values vs x.front d x.rest r x.pieces p (apart x.rest x.deep) (no_front_at_end starts r i) (sym x.joined ∙ e) in
+deep_inside m prefix_free starts first unambiguous vs d c r p i x e =
+    let f = pieces_once prefix_free x.values vs x.prefix d x.rest r x.pieces p (unambiguous x.rest x.deep) (no_prefix_at_end starts r i) (sym x.joined ∙ e) in
     starts_not_end x.rest [] r (first x.rest x.deep) i (sym f.1 ∙ sym (append-nil x.rest))
 
 -- contents with something too deep inside don't end
 deep_not_to : {R : RawValue → List ℕ → Type 0} {D : List ℕ → Type 0} (m : BERMode) →
     ((v w : RawValue) (b c r s : List ℕ) → R v b → R w c → b ++ r ≡ c ++ s → b ≡ c) → ((v : RawValue) (b : List ℕ) → R v b → StartsElement b) →
-    ((x : List ℕ) → D x → StartsElement x) → ((x : List ℕ) → D x → NoFront R x) → (p : PCBit) (c : List ℕ) (e : ContentsEnd) (r : List ℕ) →
-    LooksUpTo m p e → JoiningBefore R D c → ContentsTo R m p c e r → ⊥
-deep_not_to m alone starts first apart p c (definite_end z) r l x w =
-    let j = w.1 l in deep_inside m alone starts first apart j.0 c c [] j.1 (nothing refl) x (sym (append-nil c))
-deep_not_to m alone starts first apart p c indefinite_end r l x w =
-    deep_inside m alone starts first apart w.1.0 w.0 c (0 ∷ 0 ∷ r) w.1.1 (zeros_at_end (0 ∷ r)) x w.2
+    ((x : List ℕ) → D x → StartsElement x) → ((x : List ℕ) → D x → NoPrefix R x) → (p : PCBit) (c : List ℕ) (e : ContentsEnd) (r : List ℕ) →
+    DescendsUpTo m p e → JoiningBefore R D c → ContentsTo R m p c e r → ⊥
+deep_not_to m prefix_free starts first unambiguous p c (definite_end z) r l x w =
+    let j = w.1 l in deep_inside m prefix_free starts first unambiguous j.0 c c [] j.1 (nothing refl) x (sym (append-nil c))
+deep_not_to m prefix_free starts first unambiguous p c indefinite_end r l x w =
+    deep_inside m prefix_free starts first unambiguous w.1.0 w.0 c (0 ∷ 0 ∷ r) w.1.1 (zeros_at_end (0 ∷ r)) x w.2
 
 -- what is too deep begins with an identifier, which isn't that of the end of contents
 pub deep_starts : (n : ℕ) (m : BERMode) (s : List ℕ) → IsDeepRaw n m s → StartsElement s
@@ -226,10 +226,10 @@ deep_starts (suc n) m s x =
     opens_starts m y.tag y.bit s y.contents y.end y.not_end y.opens
 
 -- where it is too deep no front is a raw element
-pub deep_not_raw : (n : ℕ) (m : BERMode) (s : List ℕ) → IsDeepRaw n m s → NoFront (IsRaw n m) s
+pub deep_not_raw : (n : ℕ) (m : BERMode) (s : List ℕ) → IsDeepRaw n m s → NoPrefix (IsRaw n m) s
 deep_not_raw zero m s d v b r x e = raw_zero m v b x
 deep_not_raw (suc n) m s d v b r x e =
     let y = deep_into n m s d in
     let i = opens_raw m y.tag y.bit s y.contents y.end v b r y.opens (raw_into n m v b x) e in
     deep_not_to m (λ u w c g y z p q i. (raw_exact n n m u w c g y z p q i).1) (raw_starts n m) (deep_starts n m) (deep_not_raw n m)
-    y.bit y.contents y.end r y.looks y.inside i.inside
+    y.bit y.contents y.end r y.descends y.inside i.inside

@@ -9,8 +9,8 @@ use Rattle.yasna_base.specs.Identifier.{end_tag, BeginsWithTag, StartsElement, A
 use Rattle.yasna_base.specs.Pieces.{Each, Pieces}
 use Rattle.yasna_base.proofs.Coding.{equal_same}
 use Rattle.yasna_base.proofs.Element.{element_exact, primitive_exact, element_begins, element_starts}
-use Rattle.yasna_base.proofs.Header.{opens_begins, header_of, end_behind}
-use Rattle.yasna_base.proofs.Pieces.{NoFront, no_front_at_end, tag_not_end, pieces_end, pieces_once, each_same, each_equal, pieces_wider}
+use Rattle.yasna_base.proofs.Header.{opens_begins, header_of, end_after}
+use Rattle.yasna_base.proofs.Pieces.{NoPrefix, no_prefix_at_end, tag_not_end, pieces_end, pieces_once, each_same, each_equal, pieces_wider}
 use Rattle.std.specs.List.{AllByRecursion}
 use Rattle.yasna_base.specs.Digits.{IsBytes}
 use Rattle.yasna_base.specs.Element.{Element}
@@ -106,10 +106,10 @@ pub pieces_same : {A : Type 0} {R S : A → List ℕ → Type 0} (m : BERMode) (
     (vs ws : List A) (d e b c r s : List ℕ) → Element m t Constructed d b → Element m t Constructed e c → Pieces R vs d → Pieces S ws e →
     b ++ r ≡ c ++ s → (vs ≡ ws) × (b ≡ c)
 pieces_same {A} {R} {S} m t exact left right vs ws d e b c r s x y p q f =
-    let alone : (v w : A) (b c r s : List ℕ) → R v b → S w c → b ++ r ≡ c ++ s → b ≡ c = λ v w b c r s i j g. (exact v w b c r s i j g).1 in
-    let i = element_exact m m t t Constructed Constructed d e b c r s x y (λ y z. pieces_end alone left right vs ws d e y z p q) f in
+    let prefix_free : (v w : A) (b c r s : List ℕ) → R v b → S w c → b ++ r ≡ c ++ s → b ≡ c = λ v w b c r s i j g. (exact v w b c r s i j g).1 in
+    let i = element_exact m m t t Constructed Constructed d e b c r s x y (λ y z. pieces_end prefix_free left right vs ws d e y z p q) f in
     let nothing_left : AtEnd [] = nothing refl in
-    let same = (pieces_once alone vs ws d e [] [] p q (no_front_at_end right [] nothing_left) (no_front_at_end left [] nothing_left)
+    let same = (pieces_once prefix_free vs ws d e [] [] p q (no_prefix_at_end right [] nothing_left) (no_prefix_at_end left [] nothing_left)
     (ap (λ z. z ++ []) i.contents)).0 in
     let each = each_same {E = λ v w. v ≡ w} (λ v w b x y. (exact v w b b [] [] x y refl).0) vs ws q.pieces (subst (λ z. Each R vs z) same p.each) q.each in
     (each_equal vs ws each, i.bytes)
@@ -140,7 +140,7 @@ module _ {A : Type 0} {k : Segmentation A} (once : SegmentsOnce k) where
       (λ u d. segmented_starts k j (segment_mode m) k.segment u d once.segment)
       v w b c r s (segmented_into k n m t v b x) (segmented_into k j m t w c y) e
 
-  -- a string keeps the laws of reading, however it is cut
+  -- a string satisfies the laws of reading, however it is cut
   pub segmented_coding : (t : Tag) → (t ≡ end_tag → ⊥) → IsCoding (λ v w. v ≡ w) (λ m n v b. IsSegmented k n m t v b) (Any (λ m n v b. IsSegmented k n m t v b))
   segmented_coding t not_end = record {
     meaning = record {
@@ -150,24 +150,24 @@ module _ {A : Type 0} {k : Segmentation A} (once : SegmentsOnce k) where
       deeper = λ m n j v b below. segmented_deeper k n j m t v b below;
     };
     opens = λ m n b x. segmented_starts k n m t x.0 b not_end x.1;
-    alone = λ m n j b c r s x y e. (segmented_exact n j m t x.0 y.0 b c r s x.1 y.1 e).1;
+    prefix_free = λ m n j b c r s x y e. (segmented_exact n j m t x.0 y.0 b c r s x.1 y.1 e).1;
   }
 
   deep_not_in : {R : A → List ℕ → Type 0} {D : List ℕ → Type 0} (m : BERMode) (t : Tag) →
       ((v w : A) (b c r s : List ℕ) → R v b → R w c → b ++ r ≡ c ++ s → b ≡ c) → ((v : A) (b : List ℕ) → R v b → StartsElement b) →
-      ((x : List ℕ) → D x → BeginsWithTag k.segment x) → ((x : List ℕ) → D x → NoFront R x) →
+      ((x : List ℕ) → D x → BeginsWithTag k.segment x) → ((x : List ℕ) → D x → NoPrefix R x) →
       (v : A) (s b r : List ℕ) → DeepSegmented k R D m t s → Segmented k R m t v b → s ≡ b ++ r → ⊥
-  deep_not_in m t alone starts first apart v s b r d (whole c x p a) e =
+  deep_not_in m t prefix_free starts first unambiguous v s b r d (whole c x p a) e =
       let i = (header_of m t t Constructed Primitive s d.contents c b r d.end d.opens x e).bit in absurd (cc)
-  deep_not_in m t alone starts first apart v s b r d (in_segments h c vs x p j a) e =
+  deep_not_in m t prefix_free starts first unambiguous v s b r d (in_segments h c vs x p j a) e =
       let i = header_of m t t Constructed Constructed s d.contents c b r d.end d.opens x e in
-      let ended = end_behind d.end i.behind r i.ends in
-      let f = pieces_once alone d.inside.values vs d.inside.front c d.inside.rest i.behind d.inside.pieces p (apart d.inside.rest d.inside.deep)
-      (no_front_at_end starts i.behind ended) (sym d.inside.joined ∙ i.joined) in
-      tag_not_end k.segment i.behind once.segment (subst (λ z. BeginsWithTag k.segment z) f.1 (first d.inside.rest d.inside.deep)) ended
+      let ended = end_after d.end i.after r i.ends in
+      let f = pieces_once prefix_free d.inside.values vs d.inside.prefix c d.inside.rest i.after d.inside.pieces p (unambiguous d.inside.rest d.inside.deep)
+      (no_prefix_at_end starts i.after ended) (sym d.inside.joined ∙ i.joined) in
+      tag_not_end k.segment i.after once.segment (subst (λ z. BeginsWithTag k.segment z) f.1 (first d.inside.rest d.inside.deep)) ended
 
   -- where it is too deep no front is a string
-  pub deep_not_segmented : (n : ℕ) (m : BERMode) (t : Tag) (s : List ℕ) → IsDeepSegmented k n m t s → NoFront (IsSegmented k n m t) s
+  pub deep_not_segmented : (n : ℕ) (m : BERMode) (t : Tag) (s : List ℕ) → IsDeepSegmented k n m t s → NoPrefix (IsSegmented k n m t) s
   deep_not_segmented zero m t s d v b r x e = segmented_zero k m t v b x
   deep_not_segmented (suc n) m t s d v b r x e =
       deep_not_in m t (λ u w c g y z p q i. (segmented_exact n n (segment_mode m) k.segment u w c g y z p q i).1)

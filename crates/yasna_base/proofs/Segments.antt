@@ -5,8 +5,8 @@ use Rattle.std.proofs.lemmas.List.{take-append-drop, length-take-le, length-drop
 use Rattle.std.specs.List.{AllByRecursion, concat}
 use Rattle.yasna_base.specs.Digits.{IsBytes}
 use Rattle.yasna_base.specs.Segments.{AreSegments, cut_up, segments}
-use Rattle.yasna_base.proofs.Digits.{bytes_front, bytes_behind}
-use Rattle.yasna_base.proofs.Lists.{fronts_same}
+use Rattle.yasna_base.proofs.Digits.{bytes_prefix, bytes_after}
+use Rattle.yasna_base.proofs.Lists.{prefixes_same}
 
 -- what fits a segment is one
 cut_one : (k f : ℕ) (v : List ℕ) → length v ≤ k → cut_up k f v ≡ v ∷ []
@@ -19,10 +19,10 @@ cut_more : (k f : ℕ) (v : List ℕ) → k < length v → cut_up k (suc f) v �
 unfolding cut_up
 cut_more k f v h = rw (lt-ltb k (length v) h) refl
 
--- a full segment in front of others
-segments_behind : (k : ℕ) (v : List ℕ) (bs : List (List ℕ)) → length v ≡ k → AreSegments k bs → AreSegments k (v ∷ bs)
-segments_behind k v [] e h = absurd h
-segments_behind k v (b ∷ bs) e h = (e, h)
+-- a full segment before others
+segments_after : (k : ℕ) (v : List ℕ) (bs : List (List ℕ)) → length v ≡ k → AreSegments k bs → AreSegments k (v ∷ bs)
+segments_after k v [] e h = absurd h
+segments_after k v (b ∷ bs) e h = (e, h)
 
 segments_some : (k : ℕ) (bs : List (List ℕ)) → AreSegments k bs → 1 ≤ length bs
 segments_some k [] h = absurd h
@@ -57,7 +57,7 @@ cut_up_is k (suc f) v some h fits = elim (cases_lt k (length v)) [
       let n = length-drop k v in
       let rest = cut_up_is k f (drop k v) some (omega (arith, n)) (omega (arith, n)) in
       subst (IsCutUp k v) (sym (cut_more k f v i)) (record {
-        each = segments_behind k (take k v) (cut_up k f (drop k v)) (length-take-le k v (omega (arith, i))) rest.each;
+        each = segments_after k (take k v) (cut_up k f (drop k v)) (length-take-le k v (omega (arith, i))) rest.each;
         joined = ap (λ z. take k v ++ z) rest.joined ∙ take-append-drop k v;
       })
   | inr i ↦ subst (IsCutUp k v) (sym (cut_one k (suc f) v i)) (record { each = (h, i); joined = append-nil v })
@@ -89,7 +89,7 @@ segmented_only k (suc f) (v ∷ w ∷ vs) some h fits =
     let j = length-append v (concat (w ∷ vs)) in
     let e = h.0 in
     let t = take-append-drop k (concat (v ∷ w ∷ vs)) in
-    let same = fronts_same (take k (concat (v ∷ w ∷ vs))) v (drop k (concat (v ∷ w ∷ vs))) (concat (w ∷ vs))
+    let same = prefixes_same (take k (concat (v ∷ w ∷ vs))) v (drop k (concat (v ∷ w ∷ vs))) (concat (w ∷ vs))
     (length-take-le k (concat (v ∷ w ∷ vs)) (omega (arith, i)) ∙ sym e) t in
     cut_more k f (concat (v ∷ w ∷ vs)) i
     ∙ ap₂ (λ x y. x ∷ cut_up k f y) same.0 same.1
@@ -109,10 +109,10 @@ segments_more k v some h =
     let n = length-drop k v in
     let rest = segments_are k (drop k v) some (omega (arith, n)) in
     sym (segments_only k (take k v ∷ segments k (drop k v)) v some
-    (segments_behind k (take k v) (segments k (drop k v)) (length-take-le k v (omega (arith, h))) rest.each)
+    (segments_after k (take k v) (segments k (drop k v)) (length-take-le k v (omega (arith, h))) rest.each)
     (ap (λ z. take k v ++ z) rest.joined ∙ take-append-drop k v))
 
 -- segments of bytes are bytes
 pub segments_bytes : (bs : List (List ℕ)) → IsBytes (concat bs) → AllByRecursion IsBytes bs
 segments_bytes [] h = tt
-segments_bytes (b ∷ bs) h = (bytes_front b (concat bs) h, segments_bytes bs (bytes_behind b (concat bs) h))
+segments_bytes (b ∷ bs) h = (bytes_prefix b (concat bs) h, segments_bytes bs (bytes_after b (concat bs) h))

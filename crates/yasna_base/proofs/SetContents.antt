@@ -1,4 +1,4 @@
--- What the parts of a SET make doesn't depend on how they stood, where those that begin with one tag are one.
+-- What the parts of a SET make doesn't depend on how they were, where those that begin with one tag are one.
 use Rattle.std.proofs.Common.{◌≡◌, ℕ, ◌<◌, List, [], ◌∷◌, length, get_or, set, refl, ap, ap₂, sym, ◌∙◌, subst, arith, map, swap}
 use Rattle.std.proofs.Math.ListN.{get_or-map}
 use Rattle.std.proofs.lemmas.List.{length-map, map-set}
@@ -20,26 +20,26 @@ map_swap f (x ∷ xs) i j =
     map-set f (set l i (get_or l j x)) j (get_or l i x) ∙ ap (λ z. set z j (f (get_or l i x))) (map-set f l i (get_or l j x)) ∙
     ap₂ (λ y z. set (set (map f l) i y) j z) (sym (get_or-map f l j x)) (sym (get_or-map f l i x))
 
--- parts with their tags, where they stand otherwise
-record Moved (ts : List SetPart) (qs : List (List ℕ)) : Type 0 where
+-- parts with their tags, where they are otherwise
+record Permuted (ts : List SetPart) (qs : List (List ℕ)) : Type 0 where
   parts : List SetPart
-  moved : IsPermutation ts parts
+  permuted : IsPermutation ts parts
   same : parts_bytes parts ≡ qs
 
-moved_on : (ts : List SetPart) (qs : List (List ℕ)) (i j : ℕ) → i < length qs → j < length qs → Moved ts qs → Moved ts (swap qs i j)
-moved_on ts qs i j p q m =
+permuted_on : (ts : List SetPart) (qs : List (List ℕ)) (i j : ℕ) → i < length qs → j < length qs → Permuted ts qs → Permuted ts (swap qs i j)
+permuted_on ts qs i j p q m =
     let n : length m.parts ≡ length qs = sym (length-map m.parts (λ (t : SetPart). t.bytes)) ∙ ap length m.same in
     let ts' = swap m.parts i j in
     record {
       parts = ts';
-      moved = IsPermutation-trans ts m.parts ts' m.moved (IsPermutation-swap m.parts ts' i j (omega arith) (omega arith) refl);
+      permuted = IsPermutation-trans ts m.parts ts' m.permuted (IsPermutation-swap m.parts ts' i j (omega arith) (omega arith) refl);
       same = map_swap (λ (t : SetPart). t.bytes) m.parts i j ∙ ap (λ z. swap z i j) m.same;
     }
 
-moves : (ts : List SetPart) (qs : List (List ℕ)) → IsPermutation (parts_bytes ts) qs → Moved ts qs
+moves : (ts : List SetPart) (qs : List (List ℕ)) → IsPermutation (parts_bytes ts) qs → Permuted ts qs
 moves ts qs p =
-    IsPermutation-keeps (parts_bytes ts) (λ z. Moved ts z) (record { parts = ts; moved = IsPermutation-refl ts; same = refl })
-    (λ l i j h k m. moved_on ts l i j h k m) qs p
+    IsPermutation-keeps (parts_bytes ts) (λ z. Permuted ts z) (record { parts = ts; permuted = IsPermutation-refl ts; same = refl })
+    (λ l i j h k m. permuted_on ts l i j h k m) qs p
 
 -- a part is known by its bytes
 part_known : (t u : SetPart) → HasItsTag t → HasItsTag u → t.bytes ≡ u.bytes → t ≡ u
@@ -80,8 +80,8 @@ pub set_contents_one : SetContentsAreOne
 set_contents_one = λ ps qs p own c x.
     let ts = x.tagged in
     let m = moves ts qs (subst (λ z. IsPermutation z qs) (sym x.same) p) in
-    let tags = recursion_from_All HasItsTag m.parts (All-permutation HasItsTag ts m.parts m.moved (All-from_recursion HasItsTag ts x.tags)) in
-    let order = set_order_one ts m.parts m.moved (one_of_tag ps ts x.same x.tags own) in
+    let tags = recursion_from_All HasItsTag m.parts (All-permutation HasItsTag ts m.parts m.permuted (All-from_recursion HasItsTag ts x.tags)) in
+    let order = set_order_one ts m.parts m.permuted (one_of_tag ps ts x.same x.tags own) in
     let made : SetContents qs c =
     record { tagged = m.parts; tags = tags; same = m.same; joined = x.joined ∙ ap (λ us. concat (parts_bytes us)) order } in
     (made, λ d y. contents_one qs c d made y)

@@ -23,7 +23,7 @@ use Rattle.yasna_base.proofs.Pieces.{each_equal, each_wider}
 use Rattle.yasna_base.proofs.Raw.{raw_coding}
 use Rattle.yasna_base.proofs.SequenceOf.{each_any, elements_contents}
 
--- the elements of a SET OF keep the laws of contents
+-- the elements of a SET OF satisfy the laws of contents
 pub set_of_elements : {A : Type 0} {E : A → A → Type 0} {B : Grammar A} {S : Members} → IsCoding E B S →
     IsContentsCoding (λ vs ws. Each E vs ws) (SetOfElements B) (AnySetOfElements S)
 set_of_elements {A} {E} {B} {S} x =
@@ -47,7 +47,7 @@ set_of_elements {A} {E} {B} {S} x =
       ends = λ m n k b c r s i j p q e. all.ends m n k b c r s i j (p.0, p.1.elements) (q.0, q.1.elements) e;
     }
 
--- a SET OF keeps the laws of reading
+-- a SET OF satisfies the laws of reading
 pub set_of : {A : Type 0} {E : A → A → Type 0} {B : Grammar A} {S : Members} (t : Tag) → (t ≡ end_tag → ⊥) →
     IsCoding E B S → IsCoding (λ vs ws. Each E vs ws) (IsSetOf B t) (AnySetOf S t)
 set_of t not_end x = enclosed t not_end (set_of_elements x)

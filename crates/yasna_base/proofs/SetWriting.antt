@@ -16,19 +16,19 @@ use Rattle.std.proofs.lemmas.List.Elements.{Contains-get_or}
 use Rattle.yasna_base.specs.declared.mode.BERMode.{BERMode}
 use Rattle.yasna_base.specs.declared.mode.BERMode.TheVariants.{Ber, Der, Cer}
 use Rattle.yasna_base.specs.declared.tag.Tag.{Tag}
-use Rattle.yasna_base.specs.Canonical.{IsCanonicalMode, HoldsForm, enclosed_form, enclosed_nest, HasForm}
+use Rattle.yasna_base.specs.Canonical.{IsCanonicalMode, HoldsEncoding, enclosed_encoding, enclosed_depth, HasEncoding}
 use Rattle.yasna_base.specs.Digits.{IsBytes}
 use Rattle.yasna_base.specs.declared.tag.PCBit.{PCBit}
 use Rattle.yasna_base.specs.declared.tag.PCBit.TheVariants.{Primitive, Constructed}
 use Rattle.yasna_base.specs.Element.{TakesIndefinite, end_of_contents, Definite, definite, Indefinite, Enclosed}
-use Rattle.yasna_base.specs.Grammar.{Nest}
+use Rattle.yasna_base.specs.Grammar.{Depth}
 use Rattle.yasna_base.specs.Identifier.{identifier, class_number, BeginsWithTag}
 use Rattle.yasna_base.specs.Length.{SpellsLength}
 use Rattle.yasna_base.specs.Order.{tag_cmp, octets_cmp, in_order}
-use Rattle.yasna_base.specs.Raw.{RawValue, raw_cer_form, RawFramed, with_length, with_zeros, RawOver, IsRaw}
-use Rattle.yasna_base.specs.SequenceOf.{elements_form, elements_nest}
+use Rattle.yasna_base.specs.Raw.{RawValue, raw_cer_encoding, RawFramed, with_length, with_zeros, RawOver, IsRaw}
+use Rattle.yasna_base.specs.SequenceOf.{elements_encoding, elements_depth}
 use Rattle.yasna_base.specs.Set.{AreInSetOrder, SetElements, IsSet, SetPart, HasItsTag, part_key, part_cmp, parts_bytes, SetContents}
-use Rattle.yasna_base.specs.SetWriting.{MakeElement, forms, own_form, raw_part, in_part_order, AreRaw, CanSet, set_form, TagsKeepOrder, TagsTellElements, SetIsWritten, SetKeepsWritingLaws}
+use Rattle.yasna_base.specs.SetWriting.{MakeElement, encodings, own_encoding, raw_part, in_part_order, AreRaw, CanSet, set_encoding, TagsKeepOrder, TagsAreUnique, SetIsWritten, SetKeepsWritingLaws}
 use Rattle.yasna_base.proofs.Canonical.{canonical_element_bytes, canonical_element_only, definite_whole, opening_bytes, enclosed_has}
 use Rattle.yasna_base.proofs.Element.{element_begins}
 use Rattle.yasna_base.proofs.Identifier.{class_same, begins_once}
@@ -36,7 +36,7 @@ use Rattle.yasna_base.proofs.Length.{shortest_in_mode}
 use Rattle.yasna_base.proofs.Order.{no_head, rises_map, rises_order, sorted_rises, same_side, all_order, all_permuted, in_order_is, in_order_map, in_order_permuted}
 use Rattle.yasna_base.proofs.Pieces.{pieces_wider}
 use Rattle.yasna_base.proofs.Raw.{raw_zero, raw_of, raw_into, raw_element}
-use Rattle.yasna_base.proofs.SequenceOf.{forms_joined, each_form, each_only, elements_have}
+use Rattle.yasna_base.proofs.SequenceOf.{encodings_joined, each_encoding, each_only, elements_have}
 use Rattle.yasna_base.proofs.SetLaws.{octets_tie, tag_of_key}
 
 -- what a raw element says of its own tag and payload
@@ -54,17 +54,17 @@ raw_begins (suc n) m v b x =
     record { in_range = y.in_range; in_bytes = y.in_bytes; begins = element_begins m v.tag v.bit z.contents b z.element }
 
 -- in CER an element whose length is counted is primitive
-cer_whole : (t : Tag) (p : PCBit) (c b : List ℕ) → Definite Cer t p c b → b ≡ raw_cer_form t p c
+cer_whole : (t : Tag) (p : PCBit) (c b : List ℕ) → Definite Cer t p c b → b ≡ raw_cer_encoding t p c
 cer_whole t Primitive c b d = definite_whole Cer t c b tt d
 cer_whole t Constructed c b d = absurd (d.taken)
 
 -- and one that ends by two zeros is constructed
-cer_constructed : (t : Tag) (p : PCBit) (c y b : List ℕ) → Indefinite Cer t p c b → y ≡ c ++ end_of_contents → b ≡ raw_cer_form t p y
+cer_constructed : (t : Tag) (p : PCBit) (c y b : List ℕ) → Indefinite Cer t p c b → y ≡ c ++ end_of_contents → b ≡ raw_cer_encoding t p y
 cer_constructed t Primitive c y b i e = absurd (i.taken)
 cer_constructed t Constructed c y b i e = i.joined ∙ ap (λ z. identifier t Constructed ++ (128 ∷ z)) (sym e)
 
 framed_only : {R : RawValue → List ℕ → Type 0} (m : BERMode) (v : RawValue) (b : List ℕ) → IsCanonicalMode m → RawOver R m v b → RawFramed R m v b →
-    b ≡ own_form m v
+    b ≡ own_encoding m v
 framed_only Ber v b h x y = absurd h
 framed_only Der v b h x (with_length d j) =
     canonical_element_only Der v.tag v.bit v.payload b h (record { in_range = x.in_range; in_bytes = x.in_bytes; framed = definite d })
@@ -72,8 +72,8 @@ framed_only Der v b h x (with_zeros c i j e) = absurd (i.taken)
 framed_only Cer v b h x (with_length d j) = cer_whole v.tag v.bit v.payload b d
 framed_only Cer v b h x (with_zeros c i j e) = cer_constructed v.tag v.bit c v.payload b i e
 
--- a canonical mode takes a raw element in its form alone
-pub raw_only : (n : ℕ) (m : BERMode) (v : RawValue) (b : List ℕ) → IsCanonicalMode m → IsRaw n m v b → b ≡ own_form m v
+-- a canonical mode takes a raw element in its encoding alone
+pub raw_only : (n : ℕ) (m : BERMode) (v : RawValue) (b : List ℕ) → IsCanonicalMode m → IsRaw n m v b → b ≡ own_encoding m v
 raw_only zero m v b h x = absurd (raw_zero m v b x)
 raw_only (suc n) m v b h x = let y = raw_into n m v b x in framed_only m v b h y y.framed
 
@@ -116,8 +116,8 @@ raw_cer_in_ber (suc n) v b x =
     let y = raw_into n Cer v b x in
     raw_of n Ber v b (record { not_end = y.not_end; in_range = y.in_range; in_bytes = y.in_bytes; framed = cer_framed (raw_cer_in_ber n) v b y.framed })
 
--- a raw element of a canonical mode is one wherever that mode's forms hold
-pub raw_holds : (m o : BERMode) (n : ℕ) (v : RawValue) (b : List ℕ) → HoldsForm m o → IsRaw n m v b → IsRaw n o v b
+-- a raw element of a canonical mode is one wherever that mode's encodings hold
+pub raw_holds : (m o : BERMode) (n : ℕ) (v : RawValue) (b : List ℕ) → HoldsEncoding m o → IsRaw n m v b → IsRaw n o v b
 raw_holds Ber o n v b h x = absurd h
 raw_holds Der Ber n v b h x = raw_in_ber n v b x
 raw_holds Der Der n v b h x = x
@@ -127,31 +127,31 @@ raw_holds Cer Der n v b h x = absurd h
 raw_holds Cer Cer n v b h x = x
 
 -- within levels that are given nothing is said of how deep elements nest
-abbrev no_nest : Nest RawValue
-no_nest m v = 0
+abbrev no_depth : Depth RawValue
+no_depth m v = 0
 
-cer_bytes : (t : Tag) (p : PCBit) (c : List ℕ) → IsBytes c → length (raw_cer_form t p c) < 2 ^ 64 → IsBytes (raw_cer_form t p c)
+cer_bytes : (t : Tag) (p : PCBit) (c : List ℕ) → IsBytes c → length (raw_cer_encoding t p c) < 2 ^ 64 → IsBytes (raw_cer_encoding t p c)
 cer_bytes t Primitive c bytes short = canonical_element_bytes Cer t Primitive c bytes short
 cer_bytes t Constructed c bytes short = opening_bytes t c bytes
 
--- the form of bytes is bytes
-pub own_bytes : (m : BERMode) (v : RawValue) → IsBytes v.payload → length (own_form m v) < 2 ^ 64 → IsBytes (own_form m v)
+-- the encoding of bytes is bytes
+pub own_bytes : (m : BERMode) (v : RawValue) → IsBytes v.payload → length (own_encoding m v) < 2 ^ 64 → IsBytes (own_encoding m v)
 own_bytes Ber v bytes short = canonical_element_bytes Ber v.tag v.bit v.payload bytes short
 own_bytes Der v bytes short = canonical_element_bytes Der v.tag v.bit v.payload bytes short
 own_bytes Cer v bytes short = cer_bytes v.tag v.bit v.payload bytes short
 
--- raw elements within n levels have one form, where that is one
-raw_has : (n : ℕ) → HasForm (λ m k v b. IsRaw n m v b) own_form no_nest (λ m v. IsRaw n m v (own_form m v))
+-- raw elements within n levels have one encoding, where that is one
+raw_has : (n : ℕ) → HasEncoding (λ m k v b. IsRaw n m v b) own_encoding no_depth (λ m v. IsRaw n m v (own_encoding m v))
 raw_has n = record {
-  in_bytes = λ m v can short. own_bytes m v (raw_begins n m v (own_form m v) can).in_bytes short;
-  holds = λ m o k v h can level short. raw_holds m o n v (own_form m v) h can;
+  in_bytes = λ m v can short. own_bytes m v (raw_begins n m v (own_encoding m v) can).in_bytes short;
+  holds = λ m o k v h can level short. raw_holds m o n v (own_encoding m v) h can;
   only = λ m k v b h x.
       let e = raw_only n m v b h x in
       (e, subst (λ c. IsRaw n m v c) e x, omega arith);
 }
 
--- the order that a mode asks of tags is asked wherever its forms hold
-tags_hold : (m o : BERMode) (ts : List Tag) → HoldsForm m o → AreInSetOrder m ts → AreInSetOrder o ts
+-- the order that a mode asks of tags is asked wherever its encodings hold
+tags_hold : (m o : BERMode) (ts : List Tag) → HoldsEncoding m o → AreInSetOrder m ts → AreInSetOrder o ts
 tags_hold Ber o ts h x = absurd h
 tags_hold Der Ber ts h x = tt
 tags_hold Der Der ts h x = x
@@ -160,7 +160,7 @@ tags_hold Cer Ber ts h x = tt
 tags_hold Cer Der ts h x = absurd h
 tags_hold Cer Cer ts h x = x
 
--- tags that don't fall stand in the order that any mode asks
+-- tags that don't fall are in the order that any mode asks
 any_tags : (m : BERMode) (ts : List Tag) → IsSorted tag_cmp ts → AreInSetOrder m ts
 any_tags Ber ts x = tt
 any_tags Der ts x = x
@@ -171,17 +171,17 @@ canonical_tags Ber ts h x = absurd h
 canonical_tags Der ts h x = x
 canonical_tags Cer ts h x = x
 
--- raw elements whose tags stand in order have one form as the elements of a SET
-set_elements_have : (n : ℕ) → HasForm (λ m k vs c. SetElements m n vs c) (elements_form own_form) (elements_nest no_nest) (CanSet n)
+-- raw elements whose tags are in order have one encoding as the elements of a SET
+set_elements_have : (n : ℕ) → HasEncoding (λ m k vs c. SetElements m n vs c) (elements_encoding own_encoding) (elements_depth no_depth) (CanSet n)
 set_elements_have n = record {
   in_bytes = λ m vs can short. (elements_have (raw_has n)).in_bytes m vs can.each short;
   holds = λ m o k vs h can level short. record {
-    elements = record { pieces = map (own_form m) vs; each = each_form (raw_has n) m o k vs h can.each level short; joined = forms_joined (own_form m) vs };
+    elements = record { pieces = map (own_encoding m) vs; each = each_encoding (raw_has n) m o k vs h can.each level short; joined = encodings_joined (own_encoding m) vs };
     order = tags_hold m o (map (λ (v : RawValue). v.tag) vs) h can.order;
   };
   only = λ m k vs c h p.
       let y = each_only (raw_has n) m k vs p.elements.pieces h p.elements.each in
-      (p.elements.joined ∙ ap concat y.0 ∙ sym (forms_joined (own_form m) vs), record { each = y.1; order = p.order }, y.2);
+      (p.elements.joined ∙ ap concat y.0 ∙ sym (encodings_joined (own_encoding m) vs), record { each = y.1; order = p.order }, y.2);
 }
 
 -- where parts don't fall, their tags don't
@@ -241,15 +241,15 @@ tags vs = map (λ (v : RawValue). v.tag) vs
 -- raw elements can be put in the order of parts
 set_ordered : (n : ℕ) (m : BERMode) (vs : List RawValue) → AreRaw n m vs → CanSet n m (in_part_order m vs)
 set_ordered n m vs all = record {
-  each = all_order (part_order m) (part_weak m) (λ v. IsRaw n m v (own_form m v)) vs all;
+  each = all_order (part_order m) (part_weak m) (λ v. IsRaw n m v (own_encoding m v)) vs all;
   order = any_tags m (tags (in_part_order m vs)) (sorted_rises (λ t u. is_lt (tag_cmp t u)) (tags (in_part_order m vs))
       (rises_map (λ (v : RawValue). v.tag) (λ v w. is_lt (part_order m v w)) (λ t u. is_lt (tag_cmp t u))
       (λ v w. part_tags (raw_part m v) (raw_part m w)) (in_part_order m vs) (rises_order (part_order m) (part_weak m) vs)));
 }
 
--- elements whose tags don't fall, and tell their order, stand in that order
+-- elements whose tags don't fall, and tell their order, are in that order
 set_in_order : (m : BERMode) (vs : List RawValue) → IsSorted tag_cmp (tags vs) → TagsKeepOrder vs → in_part_order m vs ≡ vs
-set_in_order m vs up keep = sym (in_order_is (part_order m) (part_weak m) vs vs sorted (λ x. refl))
+set_in_order m vs up fail = sym (in_order_is (part_order m) (part_weak m) vs vs sorted (λ x. refl))
   where
     sorted : IsSortedBy (λ v w. is_lt (part_order m v w)) vs
     sorted k d low h =
@@ -261,7 +261,7 @@ set_in_order m vs up keep = sym (in_order_is (part_order m) (part_weak m) vs vs 
         (subst (λ t. is_lt (tag_cmp (get_or vs (k + 1) d).tag t) ≡ false) here
         (subst (λ t. is_lt (tag_cmp t (get_or (tags vs) k d.tag)) ≡ false) next up_here))
         (λ e. part_one (get_or vs (k + 1) d) (get_or vs k d)
-        (keep (get_or vs (k + 1) d) (get_or vs k d) (Contains-get_or vs (k + 1) d h) (Contains-get_or vs k d (omega (arith, h))) e))
+        (fail (get_or vs (k + 1) d) (get_or vs k d) (Contains-get_or vs (k + 1) d h) (Contains-get_or vs k d (omega (arith, h))) e))
       where
         part_one : (v w : RawValue) → (v ≡ w) ⊎ (v.tag.tag_number < 31) → (raw_part m v ≡ raw_part m w) ⊎ (v.tag.tag_number < 31)
         part_one v w (inl same) = inl (ap (raw_part m) same)
@@ -270,12 +270,12 @@ set_in_order m vs up keep = sym (in_order_is (part_order m) (part_weak m) vs vs 
 parts_tagged : (n : ℕ) (m : BERMode) (vs : List RawValue) → AreRaw n m vs → AllByRecursion HasItsTag (map (raw_part m) vs)
 parts_tagged n m [] all = tt
 parts_tagged n m (v ∷ vs) all =
-    let x = raw_begins n m v (own_form m v) all.0 in
+    let x = raw_begins n m v (own_encoding m v) all.0 in
     (record { in_range = x.in_range; begins = x.begins }, parts_tagged n m vs all.1)
 
-part_forms : (m : BERMode) (vs : List RawValue) → parts_bytes (map (raw_part m) vs) ≡ forms own_form m vs
-part_forms m [] = refl
-part_forms m (v ∷ vs) = ap (λ bs. own_form m v ∷ bs) (part_forms m vs)
+part_encodings : (m : BERMode) (vs : List RawValue) → parts_bytes (map (raw_part m) vs) ≡ encodings own_encoding m vs
+part_encodings m [] = refl
+part_encodings m (v ∷ vs) = ap (λ bs. own_encoding m v ∷ bs) (part_encodings m vs)
 
 same_part : (p q : SetPart) → p.tag ≡ q.tag → p.bytes ≡ q.bytes → p ≡ q
 same_part p q e f = ap₂ (λ t b. record { tag = t; bytes = b }) e f
@@ -292,51 +292,51 @@ parts_once (p ∷ ps) (q ∷ qs) x y e =
     ap₂ (λ r rs. r ∷ rs) (same_part p q t b) (parts_once ps qs x.1 y.1 bs)
 
 module _ (t : Tag) (range : t.tag_number < 2 ^ 64) (n : ℕ) where
-  set_has : HasForm (Enclosed (λ m k vs c. SetElements m n vs c) t) (enclosed_form (elements_form own_form) t)
-      (enclosed_nest (elements_nest no_nest)) (CanSet n)
+  set_has : HasEncoding (Enclosed (λ m k vs c. SetElements m n vs c) t) (enclosed_encoding (elements_encoding own_encoding) t)
+      (enclosed_depth (elements_depth no_depth)) (CanSet n)
   set_has = enclosed_has (set_elements_have n) t range
 
-  set_made : (m : BERMode) (vs : List RawValue) → AreRaw n m vs → MakeElement SetContents m t (forms own_form m vs) (set_form t m (in_part_order m vs))
+  set_made : (m : BERMode) (vs : List RawValue) → AreRaw n m vs → MakeElement SetContents m t (encodings own_encoding m vs) (set_encoding t m (in_part_order m vs))
   set_made m vs all =
-      let joined : elements_form own_form m (in_part_order m vs) ≡ concat (parts_bytes (in_order part_cmp (map (raw_part m) vs))) =
-      forms_joined (own_form m) (in_part_order m vs) ∙
-      ap concat (sym (part_forms m (in_part_order m vs)) ∙ ap parts_bytes (in_order_map (raw_part m) part_cmp vs)) in
+      let joined : elements_encoding own_encoding m (in_part_order m vs) ≡ concat (parts_bytes (in_order part_cmp (map (raw_part m) vs))) =
+      encodings_joined (own_encoding m) (in_part_order m vs) ∙
+      ap concat (sym (part_encodings m (in_part_order m vs)) ∙ ap parts_bytes (in_order_map (raw_part m) part_cmp vs)) in
       record {
-        contents = elements_form own_form m (in_part_order m vs);
-        made = record { tagged = map (raw_part m) vs; tags = parts_tagged n m vs all; same = part_forms m vs; joined = joined };
-        alone = λ c x. x.joined ∙
+        contents = elements_encoding own_encoding m (in_part_order m vs);
+        made = record { tagged = map (raw_part m) vs; tags = parts_tagged n m vs all; same = part_encodings m vs; joined = joined };
+        unique = λ c x. x.joined ∙
             ap (λ ps. concat (parts_bytes (in_order part_cmp ps)))
-            (parts_once x.tagged (map (raw_part m) vs) x.tags (parts_tagged n m vs all) (x.same ∙ sym (part_forms m vs))) ∙ sym joined;
+            (parts_once x.tagged (map (raw_part m) vs) x.tags (parts_tagged n m vs all) (x.same ∙ sym (part_encodings m vs))) ∙ sym joined;
         around = refl;
       }
 
-  set_only : (m : BERMode) (vs : List RawValue) (b : List ℕ) → IsCanonicalMode m → IsSet t m (suc n) vs b → (b ≡ set_form t m vs) × CanSet n m vs
+  set_only : (m : BERMode) (vs : List RawValue) (b : List ℕ) → IsCanonicalMode m → IsSet t m (suc n) vs b → (b ≡ set_encoding t m vs) × CanSet n m vs
   set_only m vs b h y = let one = set_has.only m (suc n) vs b h y in (one.0, one.1)
 
-  set_kept : (m : BERMode) (vs : List RawValue) → IsCanonicalMode m → CanSet n m vs → TagsKeepOrder vs → in_part_order m vs ≡ vs
-  set_kept m vs h can keep = set_in_order m vs (canonical_tags m (tags vs) h can.order) keep
+  set_unchanged : (m : BERMode) (vs : List RawValue) → IsCanonicalMode m → CanSet n m vs → TagsKeepOrder vs → in_part_order m vs ≡ vs
+  set_unchanged m vs h can fail = set_in_order m vs (canonical_tags m (tags vs) h can.order) fail
 
   set_again : (m : BERMode) (vs : List RawValue) (b : List ℕ) → IsCanonicalMode m → IsSet t m (suc n) vs b → TagsKeepOrder vs →
-      MakeElement SetContents m t (forms own_form m vs) b
-  set_again m vs b h y keep =
+      MakeElement SetContents m t (encodings own_encoding m vs) b
+  set_again m vs b h y fail =
       let one = set_only m vs b h y in
-      subst (λ c. MakeElement SetContents m t (forms own_form m vs) c) (ap (set_form t m) (set_kept m vs h one.1 keep) ∙ sym one.0)
+      subst (λ c. MakeElement SetContents m t (encodings own_encoding m vs) c) (ap (set_encoding t m) (set_unchanged m vs h one.1 fail) ∙ sym one.0)
       (set_made m vs one.1.each)
 
-  set_anyhow : (m : BERMode) (vs ws : List RawValue) (b : List ℕ) → IsCanonicalMode m → IsSet t m (suc n) vs b → TagsTellElements vs → IsPermutation vs ws →
-      MakeElement SetContents m t (forms own_form m ws) b
-  set_anyhow m vs ws b h y tell p =
+  set_anyhow : (m : BERMode) (vs ws : List RawValue) (b : List ℕ) → IsCanonicalMode m → IsSet t m (suc n) vs b → TagsAreUnique vs → IsPermutation vs ws →
+      MakeElement SetContents m t (encodings own_encoding m ws) b
+  set_anyhow m vs ws b h y tags_unique p =
       let one = set_only m vs b h y in
       let order = sym (in_order_permuted (part_order m) (part_weak m) vs ws p (λ v w a c e.
-      tell v w a c (tag_of_key (raw_part m v) (raw_part m w) (octets_tie (part_key (raw_part m v)) (part_key (raw_part m w)) e)))) in
-      subst (λ c. MakeElement SetContents m t (forms own_form m ws) c)
-      (ap (set_form t m) (order ∙ set_kept m vs h one.1 (λ v w a c e. inl (tell v w a c e))) ∙ sym one.0)
-      (set_made m ws (all_permuted (λ v. IsRaw n m v (own_form m v)) vs ws p one.1.each))
+      tags_unique v w a c (tag_of_key (raw_part m v) (raw_part m w) (octets_tie (part_key (raw_part m v)) (part_key (raw_part m w)) e)))) in
+      subst (λ c. MakeElement SetContents m t (encodings own_encoding m ws) c)
+      (ap (set_encoding t m) (order ∙ set_unchanged m vs h one.1 (λ v w a c e. inl (tags_unique v w a c e))) ∙ sym one.0)
+      (set_made m ws (all_permuted (λ v. IsRaw n m v (own_encoding m v)) vs ws p one.1.each))
 
-  -- a SET keeps the laws of writing
+  -- a SET satisfies the laws of writing
   set_written : SetIsWritten t n
   set_written = record {
-    holds = λ m o vs h can short. set_has.holds m o (suc (elements_nest no_nest m vs)) vs h can (omega arith) short;
+    holds = λ m o vs h can short. set_has.holds m o (suc (elements_depth no_depth m vs)) vs h can (omega arith) short;
     only = set_only;
     ordered = set_ordered n;
     made = λ m vs h all. set_made m vs all;

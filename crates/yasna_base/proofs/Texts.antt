@@ -16,8 +16,8 @@ use Rattle.yasna_base.specs.Canonical.{IsCanonicalMode, IsWritten, Always}
 use Rattle.yasna_base.specs.Coding.{IsCoding, Any}
 use Rattle.yasna_base.specs.Digits.{IsBytes}
 use Rattle.yasna_base.specs.Identifier.{end_tag}
-use Rattle.yasna_base.specs.Octets.{octets_segmentation, octets_form, octets_nest}
-use Rattle.yasna_base.specs.Text.{IsTextIn, IsUtf8In, IsStringOf, utf8_form, utf8_nest, characters, EncodesText, EncodesString, TextKeepsLaws, InUtf8, InNumeric, InVisible, InIa5, InPrintable, utf8_tag}
+use Rattle.yasna_base.specs.Octets.{octets_segmentation, octets_encoding, octets_depth}
+use Rattle.yasna_base.specs.Text.{IsTextIn, IsUtf8In, IsStringOf, utf8_encoding, utf8_depth, characters, EncodesText, EncodesString, TextKeepsLaws, InUtf8, InNumeric, InVisible, InIa5, InPrintable, utf8_tag}
 use Rattle.yasna_base.proofs.Canonical.{written_along, written_always}
 use Rattle.yasna_base.proofs.Coding.{equal_same, along}
 use Rattle.yasna_base.proofs.Segmented.{segmented_exact, segmented_starts, segmented_deeper, segmented_level}
@@ -27,7 +27,7 @@ use Rattle.yasna_base.proofs.Octets.{octets_once, octets_bytes, octets_written}
 use Rattle.std.proofs.lemmas.Bool.Decides.{eqb_tells}
 use Rattle.std.specs.Int.{IsOutOfRange}
 
--- what octets say keeps the laws of reading, where they say one thing
+-- what octets say satisfies the laws of reading, where they say one thing
 pub string_coding : {A : Type 0} (K : BERMode → A → List ℕ → Type 0) → ((m : BERMode) (v w : A) (c : List ℕ) → K m v c → K m w c → v ≡ w) →
     (t : Tag) → (t ≡ end_tag → ⊥) → IsCoding (λ v w. v ≡ w) (λ m n v b. IsStringOf K n m t v b) (Any (λ m n v b. IsStringOf K n m t v b))
 string_coding K one t not_end = record {
@@ -41,15 +41,15 @@ string_coding K one t not_end = record {
         { octets = x.octets; string = segmented_deeper octets_segmentation n k m t x.octets b below x.string; meaning = x.meaning };
   };
   opens = λ m n b x. segmented_starts octets_segmentation n m t x.1.octets b not_end x.1.string;
-  alone = λ m n k b c r s x y e. (segmented_exact octets_once n k m t x.1.octets y.1.octets b c r s x.1.string y.1.string e).1;
+  prefix_free = λ m n k b c r s x y e. (segmented_exact octets_once n k m t x.1.octets y.1.octets b c r s x.1.string y.1.string e).1;
 }
 
--- it keeps the laws of writing, where each value has octets of its own in each canonical mode
+-- it satisfies the laws of writing, where each value has octets of its own in each canonical mode
 pub string_written : {A : Type 0} (K : BERMode → A → List ℕ → Type 0) (Can : A → Type 0) (octets : A → List ℕ) (t : Tag) → t.tag_number < 2 ^ 64 →
     ((v : A) → Can v → IsBytes (octets v)) → ((m : BERMode) (v : A) → Can v → K m v (octets v)) →
     ((m : BERMode) (v : A) (c : List ℕ) → IsCanonicalMode m → IsBytes c → K m v c → c ≡ octets v) →
     ((m : BERMode) (v : A) (c : List ℕ) → IsBytes c → K m v c → Can v) →
-    IsWritten (λ v w. v ≡ w) (λ m n v b. IsStringOf K n m t v b) (λ m v. octets_form t m (octets v)) (λ m v. octets_nest m (octets v)) Can
+    IsWritten (λ v w. v ≡ w) (λ m n v b. IsStringOf K n m t v b) (λ m v. octets_encoding t m (octets v)) (λ m v. octets_depth m (octets v)) Can
 string_written K Can octets t range bytes means one back =
     let has = (octets_written t range).has in
     record {
@@ -59,16 +59,16 @@ string_written K Can octets t range bytes means one back =
             { octets = octets v; string = has.holds m o n (octets v) h (bytes v can) level short; meaning = means o v can };
         only = λ m n v b h x.
             let y = has.only m n x.octets b h x.string in (
-              y.0 ∙ ap (octets_form t m) (one m v x.octets h y.1 x.meaning),
+              y.0 ∙ ap (octets_encoding t m) (one m v x.octets h y.1 x.meaning),
               back m v x.octets y.1 x.meaning,
-              subst (λ c. octets_nest m c ≤ n) (one m v x.octets h y.1 x.meaning) y.2,
+              subst (λ c. octets_depth m c ≤ n) (one m v x.octets h y.1 x.meaning) y.2,
             );
       };
       any = λ n v b x. (
         back Ber v x.octets (octets_bytes n Ber t x.octets b x.string) x.meaning,
         segmented_level octets_segmentation n Ber t x.octets b x.string,
       );
-      same = λ m v w e. (ap (λ u. octets_form t m (octets u)) e, λ can. subst Can e can, ap (λ u. octets_nest m (octets u)) e);
+      same = λ m v w e. (ap (λ u. octets_encoding t m (octets u)) e, λ can. subst Can e can, ap (λ u. octets_depth m (octets u)) e);
     }
 
 -- UTF-8
@@ -110,14 +110,14 @@ pub text_bytes : (text : List ℕ) → AllByRecursion IsScalar text → IsBytes 
 text_bytes [] h = tt
 text_bytes (c ∷ cs) h = bytes_append (encode c) (encodes cs) (encode_bytes c (scalar_below c h.0)) (text_bytes cs h.1)
 
--- a class of text in UTF-8 keeps the laws of reading
+-- a class of text in UTF-8 satisfies the laws of reading
 pub class_coding : (In : ℕ → Type 0) (t : Tag) → (t ≡ end_tag → ⊥) →
     IsCoding (λ v w. v ≡ w) (λ m n v b. IsStringOf (IsUtf8In In) n m t v b) (Any (λ m n v b. IsStringOf (IsUtf8In In) n m t v b))
 class_coding In t not_end = string_coding (IsUtf8In In) (λ m v w c x y. encodes_same v w (sym x.octets ∙ y.octets)) t not_end
 
 -- and those of writing
 pub class_written : (In : ℕ → Type 0) (t : Tag) → t.tag_number < 2 ^ 64 →
-    IsWritten (λ v w. v ≡ w) (λ m n v b. IsStringOf (IsUtf8In In) n m t v b) (utf8_form t) utf8_nest (IsTextIn In)
+    IsWritten (λ v w. v ≡ w) (λ m n v b. IsStringOf (IsUtf8In In) n m t v b) (utf8_encoding t) utf8_depth (IsTextIn In)
 class_written In t range = string_written (IsUtf8In In) (IsTextIn In) encode_utf8_all t range
     (λ v can. text_bytes v can.characters) (λ m v can. record { is_text = can; octets = refl })
     (λ m v c h bytes x. x.octets) (λ m v c bytes x. x.is_text)
@@ -152,7 +152,7 @@ pub text_coding : IsCoding (λ (v w : String Global). characters v ≡ character
 text_coding = along characters (class_coding InUtf8 utf8_tag (not_end 12 (λ e. omega arith)))
 
 pub text_written : IsWritten (λ (v w : String Global). characters v ≡ characters w) EncodesString
-    (λ m v. utf8_form utf8_tag m (characters v)) (λ m v. utf8_nest m (characters v)) Always
+    (λ m v. utf8_encoding utf8_tag m (characters v)) (λ m v. utf8_depth m (characters v)) Always
 text_written = written_always string_text (written_along characters (class_written InUtf8 utf8_tag (omega arith)))
 
 -- classes of ASCII
@@ -186,7 +186,7 @@ module _ (In : ℕ → Type 0) (below : (c : ℕ) → In c → c < 128) where
       let same = sym (encodes-IsAscii (chars bs) (class_ascii (chars bs) h)) ∙ encodes-chars bs u in
       (same, subst (AllByRecursion In) same h)
 
-  -- a test of its bytes tells whether a text is in the class
+  -- a test of its bytes says whether a text is in the class
   pub class_text : (result : Bool) (bs text : List ℕ) → IsUtf8 text → bs ≡ text → (IsTrue result ↔ AllByRecursion In bs) →
       (IsTrue result ↔ AllByRecursion In (chars text))
   class_text result bs text u e h = (

@@ -1,19 +1,19 @@
--- What keeps its laws under any tag, as a type does that may stand under IMPLICIT tags (X.690, 8.14.3).
+-- What satisfies its laws under any tag, as a type does that may be under IMPLICIT tags (X.690, 8.14.3).
 use Rattle.std.proofs.Common.{◌≡◌, List}
 use Rattle.std.specs.List.{AllByRecursion}
 use Rattle.yasna_base.specs.declared.tag.Tag.{Tag}
-use Rattle.yasna_base.specs.Bits.{IsBits, bits_form, bits_nest, CanBits, AreCanonicalBits}
-use Rattle.yasna_base.specs.Canonical.{enclosed_form, enclosed_nest, IsWritten}
+use Rattle.yasna_base.specs.Bits.{IsBits, bits_encoding, bits_depth, CanBits, AreCanonicalBits}
+use Rattle.yasna_base.specs.Canonical.{enclosed_encoding, enclosed_depth, IsWritten}
 use Rattle.yasna_base.specs.Coding.{IsCoding, IsContentsCoding, Any}
 use Rattle.yasna_base.specs.Element.{Enclosed, AnyEnclosed}
 use Rattle.yasna_base.specs.Exact.{Fitting, IsExact, written_fits, enclosed_fits, elements_fit}
-use Rattle.yasna_base.specs.Grammar.{Grammar, Members, TaggedGrammar, Form, Nest}
+use Rattle.yasna_base.specs.Grammar.{Grammar, Members, TaggedGrammar, Encoding, Depth}
 use Rattle.yasna_base.specs.Laws.{KeepsLaws}
 use Rattle.yasna_base.specs.Pieces.{Each}
-use Rattle.yasna_base.specs.SequenceOf.{IsListOf, AnyListOf, elements_form, elements_nest}
+use Rattle.yasna_base.specs.SequenceOf.{IsListOf, AnyListOf, elements_encoding, elements_depth}
 use Rattle.yasna_base.specs.Set.{IsSetOf, AnySetOf}
-use Rattle.yasna_base.specs.SetWriting.{in_form_order, set_of_form, SetOfKeepsReadingLaws, SetOfKeepsWritingLaws}
-use Rattle.yasna_base.specs.UnderTags.{KeepsUnderTags, IsExactUnderTags, set_of_fits}
+use Rattle.yasna_base.specs.SetWriting.{in_encoding_order, set_of_encoding, SetOfKeepsReadingLaws, SetOfKeepsWritingLaws}
+use Rattle.yasna_base.specs.UnderTags.{KeepsLawsUnderTags, IsExactUnderTags, set_of_fits}
 use Rattle.yasna_base.proofs.Bits.{bits_coding}
 use Rattle.yasna_base.proofs.Canonical.{enclosed_written, written_along}
 use Rattle.yasna_base.proofs.Coding.{enclosed, along}
@@ -24,70 +24,70 @@ use Rattle.yasna_base.proofs.SetLaws.{set_of}
 use Rattle.yasna_base.proofs.SetOfExact.{ordered_set_of_exact}
 use Rattle.yasna_base.proofs.SetOfWriting.{set_of_reading, set_of_writing}
 
--- a type that keeps the laws as a type of its own keeps them under any tag
-pub under_tags : {A : Type 0} (B : TaggedGrammar A) (form : Tag → Form A) (nest : Nest A) (Can : A → Type 0) → KeepsLaws B form nest Can →
-    KeepsUnderTags (λ v w. v ≡ w) (λ t m n v b. B n m t v b) (λ t. Any (λ m n v b. B n m t v b)) form nest Can
-under_tags B form nest Can x = x
+-- a type that satisfies the laws as a type of its own keeps them under any tag
+pub under_tags : {A : Type 0} (B : TaggedGrammar A) (encoding : Tag → Encoding A) (depth : Depth A) (Can : A → Type 0) → KeepsLaws B encoding depth Can →
+    KeepsLawsUnderTags (λ v w. v ≡ w) (λ t m n v b. B n m t v b) (λ t. Any (λ m n v b. B n m t v b)) encoding depth Can
+under_tags B encoding depth Can x = x
 
--- what keeps the laws of writing under any tag keeps those of a canonical mode alone
-pub exact_under_tags : {A : Type 0} {E : A → A → Type 0} {B : Tag → Grammar A} {S : Tag → Members} {form : Tag → Form A} {nest : Nest A}
-    {Can : A → Type 0} → KeepsUnderTags E B S form nest Can → IsExactUnderTags E B S form (written_fits nest Can) Can
+-- what satisfies the laws of writing under any tag keeps those of a canonical mode alone
+pub exact_under_tags : {A : Type 0} {E : A → A → Type 0} {B : Tag → Grammar A} {S : Tag → Members} {encoding : Tag → Encoding A} {depth : Depth A}
+    {Can : A → Type 0} → KeepsLawsUnderTags E B S encoding depth Can → IsExactUnderTags E B S encoding (written_fits depth Can) Can
 exact_under_tags x = λ t not_end range. let y = x t not_end range in (y.0, written_exact y.1)
 
 -- a BIT STRING keeps these, whatever its unused bits
-pub bits_under_tags : IsExactUnderTags (λ v w. v ≡ w) (λ t m n v b. IsBits n m t v b) (λ t. Any (λ m n v b. IsBits n m t v b)) bits_form
-    (written_fits bits_nest AreCanonicalBits) CanBits
+pub bits_under_tags : IsExactUnderTags (λ v w. v ≡ w) (λ t m n v b. IsBits n m t v b) (λ t. Any (λ m n v b. IsBits n m t v b)) bits_encoding
+    (written_fits bits_depth AreCanonicalBits) CanBits
 bits_under_tags = λ t not_end range. (bits_coding t not_end, bits_exact t range)
 
--- a type whose values stand for contents keeps the laws under any tag, as a SEQUENCE does
-pub sequence_under_tags : {U A : Type 0} {E : A → A → Type 0} {C : Grammar A} {S : Members} {form : Form A} {nest : Nest A} {Can : A → Type 0}
-    (f : U → A) → IsContentsCoding E C S → IsWritten E C form nest Can →
-    KeepsUnderTags (λ v w. E (f v) (f w)) (λ t m n v b. Enclosed C t m n (f v) b) (λ t. AnyEnclosed S t) (λ t m v. enclosed_form form t m (f v))
-    (λ m v. enclosed_nest nest m (f v)) (λ v. Can (f v))
+-- a type whose values represent contents satisfies the laws under any tag, as a SEQUENCE does
+pub sequence_under_tags : {U A : Type 0} {E : A → A → Type 0} {C : Grammar A} {S : Members} {encoding : Encoding A} {depth : Depth A} {Can : A → Type 0}
+    (f : U → A) → IsContentsCoding E C S → IsWritten E C encoding depth Can →
+    KeepsLawsUnderTags (λ v w. E (f v) (f w)) (λ t m n v b. Enclosed C t m n (f v) b) (λ t. AnyEnclosed S t) (λ t m v. enclosed_encoding encoding t m (f v))
+    (λ m v. enclosed_depth depth m (f v)) (λ v. Can (f v))
 sequence_under_tags f x y = λ t not_end range. (along f (enclosed t not_end x), written_along f (enclosed_written t range y))
 
 -- and those of a canonical mode alone
-pub sequence_exact_under_tags : {U A : Type 0} {E : A → A → Type 0} {C : Grammar A} {S : Members} {form : Form A} {Fits : Fitting A}
-    {Can : A → Type 0} (f : U → A) → IsContentsCoding E C S → IsExact E C form Fits Can →
-    IsExactUnderTags (λ v w. E (f v) (f w)) (λ t m n v b. Enclosed C t m n (f v) b) (λ t. AnyEnclosed S t) (λ t m v. enclosed_form form t m (f v))
+pub sequence_exact_under_tags : {U A : Type 0} {E : A → A → Type 0} {C : Grammar A} {S : Members} {encoding : Encoding A} {Fits : Fitting A}
+    {Can : A → Type 0} (f : U → A) → IsContentsCoding E C S → IsExact E C encoding Fits Can →
+    IsExactUnderTags (λ v w. E (f v) (f w)) (λ t m n v b. Enclosed C t m n (f v) b) (λ t. AnyEnclosed S t) (λ t m v. enclosed_encoding encoding t m (f v))
     (λ m n v. enclosed_fits Fits m n (f v)) (λ v. Can (f v))
 sequence_exact_under_tags f x y = λ t not_end range. (along f (enclosed t not_end x), exact_along f (enclosed_exact t range y))
 
--- a type whose values stand for lists keeps the laws under any tag, as a SEQUENCE OF does
-pub list_under_tags : {U A : Type 0} {E : A → A → Type 0} {B : Grammar A} {S : Members} {form : Form A} {nest : Nest A} {Can : A → Type 0}
-    (f : U → List A) → IsCoding E B S → IsWritten E B form nest Can →
-    KeepsUnderTags (λ v w. Each E (f v) (f w)) (λ t m n v b. IsListOf B t m n (f v) b) (λ t. AnyListOf S t)
-    (λ t m v. enclosed_form (elements_form form) t m (f v)) (λ m v. enclosed_nest (elements_nest nest) m (f v)) (λ v. AllByRecursion Can (f v))
+-- a type whose values represent lists satisfies the laws under any tag, as a SEQUENCE OF does
+pub list_under_tags : {U A : Type 0} {E : A → A → Type 0} {B : Grammar A} {S : Members} {encoding : Encoding A} {depth : Depth A} {Can : A → Type 0}
+    (f : U → List A) → IsCoding E B S → IsWritten E B encoding depth Can →
+    KeepsLawsUnderTags (λ v w. Each E (f v) (f w)) (λ t m n v b. IsListOf B t m n (f v) b) (λ t. AnyListOf S t)
+    (λ t m v. enclosed_encoding (elements_encoding encoding) t m (f v)) (λ m v. enclosed_depth (elements_depth depth) m (f v)) (λ v. AllByRecursion Can (f v))
 list_under_tags f x y = λ t not_end range. (along f (list t not_end x), written_along f (enclosed_written t range (elements_written y)))
 
 -- and those of a canonical mode alone
-pub list_exact_under_tags : {U A : Type 0} {E : A → A → Type 0} {B : Grammar A} {S : Members} {form : Form A} {Fits : Fitting A} {Can : A → Type 0}
-    (f : U → List A) → IsCoding E B S → IsExact E B form Fits Can →
+pub list_exact_under_tags : {U A : Type 0} {E : A → A → Type 0} {B : Grammar A} {S : Members} {encoding : Encoding A} {Fits : Fitting A} {Can : A → Type 0}
+    (f : U → List A) → IsCoding E B S → IsExact E B encoding Fits Can →
     IsExactUnderTags (λ v w. Each E (f v) (f w)) (λ t m n v b. IsListOf B t m n (f v) b) (λ t. AnyListOf S t)
-    (λ t m v. enclosed_form (elements_form form) t m (f v)) (λ m n v. enclosed_fits (elements_fit Fits) m n (f v)) (λ v. AllByRecursion Can (f v))
+    (λ t m v. enclosed_encoding (elements_encoding encoding) t m (f v)) (λ m n v. enclosed_fits (elements_fit Fits) m n (f v)) (λ v. AllByRecursion Can (f v))
 list_exact_under_tags f x y = λ t not_end range. (along f (list t not_end x), exact_along f (enclosed_exact t range (elements_exact y)))
 
 -- a SET OF keeps its own laws of writing under any tag
-pub set_of_under_tags : {A : Type 0} {E : A → A → Type 0} {B : Grammar A} {S : Members} {form : Form A} {nest : Nest A} {Can : A → Type 0} →
-    IsCoding E B S → IsWritten E B form nest Can → SetOfKeepsReadingLaws E B S × SetOfKeepsWritingLaws E B form nest Can
+pub set_of_under_tags : {A : Type 0} {E : A → A → Type 0} {B : Grammar A} {S : Members} {encoding : Encoding A} {depth : Depth A} {Can : A → Type 0} →
+    IsCoding E B S → IsWritten E B encoding depth Can → SetOfKeepsReadingLaws E B S × SetOfKeepsWritingLaws E B encoding depth Can
 set_of_under_tags x y = (set_of_reading x, set_of_writing x y)
 
--- and a type whose values stand for those of one keeps the laws of a canonical mode alone, where its form is that of the values in order
-pub set_of_exact_under_tags : {U A : Type 0} {E : A → A → Type 0} {B : Grammar A} {S : Members} {form : Form A} {Fits : Fitting A} {Can : A → Type 0}
-    (f : U → List A) → IsCoding E B S → IsExact E B form Fits Can →
+-- and a type whose values represent those of one satisfies the laws of a canonical mode alone, where its encoding is that of the values in order
+pub set_of_exact_under_tags : {U A : Type 0} {E : A → A → Type 0} {B : Grammar A} {S : Members} {encoding : Encoding A} {Fits : Fitting A} {Can : A → Type 0}
+    (f : U → List A) → IsCoding E B S → IsExact E B encoding Fits Can →
     IsExactUnderTags (λ v w. Each E (f v) (f w)) (λ t m n v b. IsSetOf B t m n (f v) b) (λ t. AnySetOf S t)
-    (λ t m v. set_of_form form t m (in_form_order form m (f v))) (λ m n v. enclosed_fits (set_of_fits form Fits) m n (f v))
+    (λ t m v. set_of_encoding encoding t m (in_encoding_order encoding m (f v))) (λ m n v. enclosed_fits (set_of_fits encoding Fits) m n (f v))
     (λ v. AllByRecursion Can (f v))
 set_of_exact_under_tags f x y = λ t not_end range. (along f (set_of t not_end x), exact_along f (ordered_set_of_exact y t range))
 
 -- an EXPLICIT tag may be any tag
-pub tagged_under_tags : {A : Type 0} {E : A → A → Type 0} {B : Grammar A} {S : Members} {form : Form A} {nest : Nest A} {Can : A → Type 0} →
-    IsCoding E B S → IsWritten E B form nest Can →
-    KeepsUnderTags E (λ t. Enclosed B t) (λ t. AnyEnclosed S t) (λ t. enclosed_form form t) (enclosed_nest nest) Can
+pub tagged_under_tags : {A : Type 0} {E : A → A → Type 0} {B : Grammar A} {S : Members} {encoding : Encoding A} {depth : Depth A} {Can : A → Type 0} →
+    IsCoding E B S → IsWritten E B encoding depth Can →
+    KeepsLawsUnderTags E (λ t. Enclosed B t) (λ t. AnyEnclosed S t) (λ t. enclosed_encoding encoding t) (enclosed_depth depth) Can
 tagged_under_tags x y = λ t not_end range. (tagged t not_end x, tagged_written t range y)
 
--- also where a canonical mode alone has one form
-pub tagged_exact_under_tags : {A : Type 0} {E : A → A → Type 0} {B : Grammar A} {S : Members} {form : Form A} {Fits : Fitting A} {Can : A → Type 0} →
-    IsCoding E B S → IsExact E B form Fits Can →
-    IsExactUnderTags E (λ t. Enclosed B t) (λ t. AnyEnclosed S t) (λ t. enclosed_form form t) (enclosed_fits Fits) Can
+-- also where a canonical mode alone has one encoding
+pub tagged_exact_under_tags : {A : Type 0} {E : A → A → Type 0} {B : Grammar A} {S : Members} {encoding : Encoding A} {Fits : Fitting A} {Can : A → Type 0} →
+    IsCoding E B S → IsExact E B encoding Fits Can →
+    IsExactUnderTags E (λ t. Enclosed B t) (λ t. AnyEnclosed S t) (λ t. enclosed_encoding encoding t) (enclosed_fits Fits) Can
 tagged_exact_under_tags x y = λ t not_end range. (tagged t not_end x, tagged_exact t range y)

@@ -1,4 +1,4 @@
--- What bytes begin with, by tags: it tells the types of a CHOICE apart, and a part that may be left out from what stands behind it.
+-- What bytes begin with, by tags: it distinguishes the types of a CHOICE, and a part that may be omitted from what is after it.
 use Rattle.std.specs.Prelude.{ℕ, List, [], ◌∷◌, ◌++◌, Bool, true, not, ◌&&◌, ◌⊎◌, nat_eq}
 use Rattle.std.specs.List.{list_any}
 use Rattle.yasna_base.specs.declared.mode.BERMode.{BERMode}
@@ -16,7 +16,7 @@ BeginsWithOne (t ∷ ts) s = BeginsWithTag t s ⊎ BeginsWithOne ts s
 pub record BeginsBy (ts : List Tag) (S : Members) : Type 0 where
   pub at : (m : BERMode) (n : ℕ) (b : List ℕ) → S m n b → BeginsWithOne ts b
 
--- contents in Q that go up to an end begin with one of the tags, or nothing stands before that end
+-- contents in Q that go up to an end begin with one of the tags, or nothing is before that end
 pub record ContentsBeginBy (ts : List Tag) (Q : Members) : Type 0 where
   pub at : (m : BERMode) (n : ℕ) (c s : List ℕ) → AtEnd s → Q m n c → BeginsWithOne ts (c ++ s) ⊎ AtEnd (c ++ s)
 
@@ -29,7 +29,7 @@ abbrev pub share_none : List Tag → List Tag → Bool
 share_none [] us = true
 share_none (t ∷ ts) us = not (list_any (is_tag t) us) && share_none ts us
 
--- a type that keeps the laws of reading, and begins with one of the tags
+-- a type that satisfies the laws of reading, and begins with one of the tags
 pub record CodingByTags {A : Type 0} (ts : List Tag) (E : A → A → Type 0) (B : Grammar A) (S : Members) : Type 0 where
   pub coding : IsCoding E B S
   pub begins : BeginsBy ts S

@@ -5,8 +5,8 @@ use Rattle.std.specs.Int.Digits.{number_from_digits}
 use Rattle.yasna_base.specs.declared.mode.BERMode.{BERMode}
 use Rattle.yasna_base.specs.declared.tag.Tag.{Tag}
 use Rattle.yasna_base.specs.Digits.{IsBytes}
-use Rattle.yasna_base.specs.Grammar.{Form}
-use Rattle.yasna_base.specs.Integer.{twos, IsMinimal, integer_form}
+use Rattle.yasna_base.specs.Grammar.{Encoding}
+use Rattle.yasna_base.specs.Integer.{twos, IsMinimal, integer_encoding}
 use Rattle.yasna_base.specs.Laws.{PrimitiveKeepsLaws}
 
 -- bytes, highest first, and whether the number isn't negative
@@ -21,10 +21,10 @@ pub record IsBigInteger (m : BERMode) (v : BigInteger) (c : List ℕ) : Type 0 w
   pub minimal : IsMinimal c
   pub sign : IsTrue v.positive ↔ (pos 0 ≤ℤ twos c)
 
--- the bytes without those equal to x that stand in front
-abbrev pub without : ℕ → List ℕ → List ℕ
-without x [] = []
-without x (y ∷ ys) = if y == x then without x ys else y ∷ ys
+-- the bytes without those equal to x that are in front
+abbrev pub trim_leading : ℕ → List ℕ → List ℕ
+trim_leading x [] = []
+trim_leading x (y ∷ ys) = if y == x then trim_leading x ys else y ∷ ys
 
 -- the bytes read unsigned, less 256 ^ length where the number is negative
 abbrev pub signed_number : Bool → List ℕ → ℤ
@@ -36,13 +36,13 @@ abbrev pub signed_or_zero : Bool → List ℕ → ℤ
 signed_or_zero positive [] = pos 0
 signed_or_zero positive (x ∷ xs) = signed_number positive (x ∷ xs)
 
--- the number that a sign and bytes with leading zeros stand for
+-- the number that a sign and bytes with leading zeros represent
 unfoldable pub big_integer : List ℕ → Bool → ℤ
-big_integer b positive = signed_or_zero positive (without 0 b)
+big_integer b positive = signed_or_zero positive (trim_leading 0 b)
 
--- the form of that number as an INTEGER
-abbrev pub big_integer_form : Tag → Form BigInteger
-big_integer_form t m v = integer_form t m (big_integer v.bytes v.positive)
+-- the encoding of that number as an INTEGER
+abbrev pub big_integer_encoding : Tag → Encoding BigInteger
+big_integer_encoding t m v = integer_encoding t m (big_integer v.bytes v.positive)
 
 -- v is canonical: the fewest bytes in two's complement, and their sign
 pub record CanBigInteger (v : BigInteger) : Type 0 where
@@ -50,6 +50,6 @@ pub record CanBigInteger (v : BigInteger) : Type 0 where
   pub minimal : IsMinimal v.bytes
   pub sign : IsTrue v.positive ↔ (pos 0 ≤ℤ twos v.bytes)
 
--- INTEGER of any size keeps the laws under any tag
+-- INTEGER of any size satisfies the laws under any tag
 abbrev pub BigIntegerKeepsLaws : Type 0
-BigIntegerKeepsLaws = PrimitiveKeepsLaws IsBigInteger big_integer_form CanBigInteger
+BigIntegerKeepsLaws = PrimitiveKeepsLaws IsBigInteger big_integer_encoding CanBigInteger

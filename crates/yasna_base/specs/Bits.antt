@@ -4,11 +4,11 @@ use Rattle.std.specs.List.{flat_map, AllByRecursion}
 use Rattle.yasna_base.specs.declared.mode.BERMode.{BERMode}
 use Rattle.yasna_base.specs.declared.mode.BERMode.TheVariants.{Ber, Der, Cer}
 use Rattle.yasna_base.specs.declared.tag.Tag.{Tag}
-use Rattle.yasna_base.specs.Canonical.{HasForm}
+use Rattle.yasna_base.specs.Canonical.{HasEncoding}
 use Rattle.yasna_base.specs.Coding.{IsCoding, Any}
-use Rattle.yasna_base.specs.Segmented.{Segmentation, IsSegmented, IsDeepSegmented, segmented_form, segmented_nest}
+use Rattle.yasna_base.specs.Segmented.{Segmentation, IsSegmented, IsDeepSegmented, segmented_encoding, segmented_depth}
 use Rattle.yasna_base.specs.Digits.{IsBytes}
-use Rattle.yasna_base.specs.Grammar.{TaggedGrammar, TaggedMembers, Form, Nest}
+use Rattle.yasna_base.specs.Grammar.{TaggedGrammar, TaggedMembers, Encoding, Depth}
 use Rattle.yasna_base.specs.Identifier.{universal, AnyTag}
 use Rattle.yasna_base.specs.Segments.{segments}
 
@@ -59,7 +59,7 @@ pub record AreBitsJoined (m : BERMode) (vs : List BitString) (v : BitString) : T
   pub count : v.count ≡ all_bits vs
   pub in_range : v.count < 2 ^ 64
 
--- behind unused bits no segment may follow, nor behind more than 2 ^ 64 - 1 bits
+-- after unused bits no segment may follow, nor after more than 2 ^ 64 - 1 bits
 pub record MayFollow (vs : List BitString) : Type 0 where
   pub full : AllByRecursion IsFull vs
   pub in_range : all_bits vs < 2 ^ 64
@@ -96,17 +96,17 @@ bit_pieces [] k = []
 bit_pieces (b ∷ []) k = record { bytes = b; count = k } ∷ []
 bit_pieces (b ∷ c ∷ bs) k = record { bytes = b; count = 8 * length b } ∷ bit_pieces (c ∷ bs) (k - 8 * length b)
 
--- the bits in segments of 999 bytes, with zeros behind them
+-- the bits in segments of 999 bytes, with zeros after them
 abbrev pub bit_segments : BitString → List BitString
 bit_segments v = bit_pieces (segments 999 (padded (unused_bits v) v.bytes)) v.count
 
 -- a string of bits in a canonical mode: whole, or in those segments
-abbrev pub bits_form : Tag → Form BitString
-bits_form t m v = segmented_form bits_segmentation bits_contents bit_segments t m v
+abbrev pub bits_encoding : Tag → Encoding BitString
+bits_encoding t m v = segmented_encoding bits_segmentation bits_contents bit_segments t m v
 
 -- how deep it nests
-abbrev pub bits_nest : Nest BitString
-bits_nest m v = segmented_nest bits_segmentation m v
+abbrev pub bits_depth : Depth BitString
+bits_depth m v = segmented_depth bits_segmentation m v
 
 -- the bytes are as many as the bits need
 pub record CanBits (v : BitString) : Type 0 where
@@ -120,18 +120,18 @@ pub record AreCanonicalBits (v : BitString) : Type 0 where
   pub can : CanBits v
   pub zeros : IsPadded Der (unused_bits v) v.bytes
 
--- the same bits, with zeros behind them
+-- the same bits, with zeros after them
 abbrev pub cleared : BitString → BitString
 cleared v = record { bytes = padded (unused_bits v) v.bytes; count = v.count }
 
--- the laws of reading hold, and those of the form where a string is canonical. Whatever is read has as many bytes as the bits
+-- the laws of reading hold, and those of the encoding where a string is canonical. Whatever is read has as many bytes as the bits
 -- need, and is written as the canonical string of the same bits
 pub record BitLaws (t : Tag) : Type 0 where
   pub coding : IsCoding (λ v w. v ≡ w) (λ m n v b. IsBits n m t v b) (Any (λ m n v b. IsBits n m t v b))
-  pub has : HasForm (λ m n v b. IsBits n m t v b) (bits_form t) bits_nest (λ m. AreCanonicalBits)
+  pub has : HasEncoding (λ m n v b. IsBits n m t v b) (bits_encoding t) bits_depth (λ m. AreCanonicalBits)
   pub can : (m : BERMode) (n : ℕ) (v : BitString) (b : List ℕ) → IsBits n m t v b → CanBits v
-  pub cleared : (m : BERMode) (v : BitString) → CanBits v → AreCanonicalBits (cleared v) × (bits_form t m v ≡ bits_form t m (cleared v))
+  pub cleared : (m : BERMode) (v : BitString) → CanBits v → AreCanonicalBits (cleared v) × (bits_encoding t m v ≡ bits_encoding t m (cleared v))
 
--- BIT STRING keeps these laws under any tag
+-- BIT STRING satisfies these laws under any tag
 abbrev pub BitsKeepLaws : Type 0
 BitsKeepLaws = AnyTag (λ t. BitLaws t)

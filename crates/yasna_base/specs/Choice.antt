@@ -2,7 +2,7 @@
 use Rattle.std.proofs.Common.{inl, inr}
 use Rattle.std.specs.Prelude.{◌⊎◌}
 use Rattle.yasna_base.specs.Exact.{Fitting}
-use Rattle.yasna_base.specs.Grammar.{Grammar, Members, Form, Nest}
+use Rattle.yasna_base.specs.Grammar.{Grammar, Members, Encoding, Depth}
 
 -- b encodes a value of the first type by B, or one of the second by C
 abbrev pub EitherOf : {A V : Type 0} → Grammar A → Grammar V → Grammar (A ⊎ V)
@@ -20,14 +20,14 @@ SameEither E F (inl v) (inr w) = ⊥
 SameEither E F (inr v) (inl w) = ⊥
 SameEither E F (inr v) (inr w) = F v w
 
--- the form of the value, as its own type writes it
-abbrev pub either_form : {A V : Type 0} → Form A → Form V → Form (A ⊎ V)
-either_form f g m (inl v) = f m v
-either_form f g m (inr w) = g m w
+-- the encoding of the value, as its own type writes it
+abbrev pub either_encoding : {A V : Type 0} → Encoding A → Encoding V → Encoding (A ⊎ V)
+either_encoding f g m (inl v) = f m v
+either_encoding f g m (inr w) = g m w
 
-abbrev pub either_nest : {A V : Type 0} → Nest A → Nest V → Nest (A ⊎ V)
-either_nest f g m (inl v) = f m v
-either_nest f g m (inr w) = g m w
+abbrev pub either_depth : {A V : Type 0} → Depth A → Depth V → Depth (A ⊎ V)
+either_depth f g m (inl v) = f m v
+either_depth f g m (inr w) = g m w
 
 -- and it can be written where its own type says so
 abbrev pub either_can : {A V : Type 0} → (A → Type 0) → (V → Type 0) → A ⊎ V → Type 0

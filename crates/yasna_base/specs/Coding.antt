@@ -22,8 +22,8 @@ pub record IsMeaning {A : Type 0} (E : A → A → Type 0) (B : Grammar A) (S : 
   pub deeper : (m : BERMode) (n k : ℕ) (v : A) (b : List ℕ) → n ≤ k → B m n v b → B m k v b
 
 -- of two members of S, within any levels, neither begins the other
-abbrev pub NoneBeginsAnother : Members → Type 0
-NoneBeginsAnother S = (m : BERMode) (n k : ℕ) (b c r s : List ℕ) → S m n b → S m k c → b ++ r ≡ c ++ s → b ≡ c
+abbrev pub IsPrefixFree : Members → Type 0
+IsPrefixFree S = (m : BERMode) (n k : ℕ) (b c r s : List ℕ) → S m n b → S m k c → b ++ r ≡ c ++ s → b ≡ c
 
 -- the laws of reading of a type
 pub record IsCoding {A : Type 0} (E : A → A → Type 0) (B : Grammar A) (S : Members) : Type 0 where
@@ -31,18 +31,18 @@ pub record IsCoding {A : Type 0} (E : A → A → Type 0) (B : Grammar A) (S : M
   -- an encoding begins with an identifier, which isn't that of the end of contents
   pub opens : (m : BERMode) (n : ℕ) (b : List ℕ) → S m n b → StartsElement b
   -- of two encodings neither begins the other
-  pub alone : NoneBeginsAnother S
+  pub prefix_free : IsPrefixFree S
 
 -- the same of the parts of a tuple, which may be empty
 pub record ArePartsCoding {A : Type 0} (E : A → A → Type 0) (C : Grammar A) (S : Members) : Type 0 where
   pub meaning : IsMeaning E C S
-  pub alone : NoneBeginsAnother S
+  pub prefix_free : IsPrefixFree S
 
--- the same of contents, which end where nothing is left or the end of contents stands
+-- the same of contents, which end where nothing is left or the end of contents is there
 pub record IsContentsCoding {A : Type 0} (E : A → A → Type 0) (C : Grammar A) (S : Members) : Type 0 where
   pub meaning : IsMeaning E C S
   pub ends : (m : BERMode) (n k : ℕ) (b c r s : List ℕ) → AtEnd r → AtEnd s → S m n b → S m k c → b ++ r ≡ c ++ s → b ≡ c
 
--- what reading asks of the bytes alone, where that is just to stand for some value
+-- what reading asks of the bytes alone, where that is just to represent some value
 abbrev pub Any : {A : Type 0} → Grammar A → Members
 Any {A} B m n b = (v : A) × B m n v b

@@ -17,7 +17,7 @@ TakesDefinite Der bit = Unit {0}
 TakesDefinite Cer Primitive = Unit {0}
 TakesDefinite Cer Constructed = ⊥
 
--- where it takes two zeros behind them (X.690, 8.1.3.6)
+-- where it takes two zeros after them (X.690, 8.1.3.6)
 abbrev pub TakesIndefinite : BERMode → PCBit → Type 0
 TakesIndefinite Ber Constructed = Unit {0}
 TakesIndefinite Ber Primitive = ⊥

@@ -5,7 +5,7 @@ use Rattle.std.specs.Int.{w64}
 use Rattle.yasna_base.specs.Grammar.{Grammar}
 use Rattle.yasna_base.specs.Identifier.{universal}
 use Rattle.yasna_base.specs.Element.{Primitively}
-use Rattle.yasna_base.specs.Integer.{IsSigned, integer_form}
+use Rattle.yasna_base.specs.Integer.{IsSigned, integer_encoding}
 use Rattle.yasna_base.specs.Laws.{PrimitiveKeepsLaws}
 
 -- the tag of ENUMERATED
@@ -16,6 +16,6 @@ enumerated_tag = universal 10
 abbrev pub EncodesEnumerated : Grammar ℤ
 EncodesEnumerated m n v b = Primitively (IsSigned w64) n m enumerated_tag v b
 
--- ENUMERATED keeps the laws under any tag
+-- ENUMERATED satisfies the laws under any tag
 abbrev pub EnumeratedKeepsLaws : Type 0
-EnumeratedKeepsLaws = PrimitiveKeepsLaws (IsSigned w64) integer_form (FitsSigned w64)
+EnumeratedKeepsLaws = PrimitiveKeepsLaws (IsSigned w64) integer_encoding (FitsSigned w64)

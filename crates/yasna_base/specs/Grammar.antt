@@ -18,10 +18,10 @@ TaggedGrammar A = ℕ → BERMode → Tag → A → List ℕ → Type 0
 abbrev pub TaggedMembers : Type 1
 TaggedMembers = ℕ → BERMode → Tag → List ℕ → Type 0
 
--- the form of a value in each canonical mode
-abbrev pub Form : Type 0 → Type 0
-Form A = BERMode → A → List ℕ
+-- the encoding of a value in each canonical mode
+abbrev pub Encoding : Type 0 → Type 0
+Encoding A = BERMode → A → List ℕ
 
--- how many levels that form takes
-abbrev pub Nest : Type 0 → Type 0
-Nest A = BERMode → A → ℕ
+-- how many levels that encoding takes
+abbrev pub Depth : Type 0 → Type 0
+Depth A = BERMode → A → ℕ

@@ -1,4 +1,4 @@
--- What stands in front of an element's contents, and where they end (X.690, 8.1).
+-- What is before an element's contents, and where they end (X.690, 8.1).
 use Rattle.std.specs.Prelude.{◌≡◌, ℕ, ◌^◌, ◌<◌, List, [], ◌∷◌, ◌++◌, length}
 use Rattle.yasna_base.specs.Digits.{IsBytes}
 use Rattle.yasna_base.specs.Element.{TakesDefinite, TakesIndefinite}
@@ -29,7 +29,7 @@ pub record Leaves (m : BERMode) (t : Tag) (bit : PCBit) (s c : List ℕ) : Type 
   pub taken : TakesIndefinite m bit
   pub joined : s ≡ identifier t bit ++ (128 ∷ c)
 
--- a header stands at the front, and behind it c: the contents, or where their length is indefinite all that is left
+-- a header is at the start, and after it c: the contents, or where their length is indefinite all that is left
 abbrev pub OpensAt : BERMode → Tag → PCBit → List ℕ → List ℕ → ContentsEnd → Type 0
 OpensAt m t bit s c (definite_end r) = Counts m t bit s c r
 OpensAt m t bit s c indefinite_end = Leaves m t bit s c

@@ -26,7 +26,7 @@ bit_number Constructed = 1
 abbrev pub leading_byte : Tag → PCBit → ℕ → ℕ
 leading_byte t bit low = 64 * class_number t.tag_class + 32 * bit_number bit + low
 
--- a number below 31 stands in the first byte, and any other behind it in base 128
+-- a number below 31 is in the first byte, and any other after it in base 128
 unfoldable pub identifier : Tag → PCBit → List ℕ
 identifier t bit = if nat_lt t.tag_number 31 then (leading_byte t bit t.tag_number ∷ []) else (leading_byte t bit 31 ∷ base128 t.tag_number)
 
@@ -34,7 +34,7 @@ identifier t bit = if nat_lt t.tag_number 31 then (leading_byte t bit t.tag_numb
 abbrev pub universal : ℕ → Tag
 universal number = record { tag_class = Universal; tag_number = number }
 
--- an implicit tag stands in place of a type's own
+-- an implicit tag is in place of a type's own
 abbrev pub tag_or : Option Tag → Tag → Tag
 tag_or None own = own
 tag_or (Some tag) own = tag
@@ -62,17 +62,17 @@ pub record StartsElement (s : List ℕ) : Type 0 where
   pub not_end : tag ≡ end_tag → ⊥
   pub begins : BeginsWithTag tag s
 
--- nothing is left, or the end of contents stands first
+-- nothing is left, or the end of contents is first
 pub data AtEnd (s : List ℕ) : Type 0 where
   nothing : s ≡ [] → AtEnd s
   end : BeginsWithTag end_tag s → AtEnd s
 
--- a number in base 128, not below 31, stands at the front
+-- a number in base 128, not below 31, is at the start
 abbrev pub NumberAt : List ℕ → Result (ℕ × Bor (List ℕ)) ASN1ErrorKind → Type 0
 NumberAt s (Ok x) = (31 ≤ x.0) × (s ≡ base128 x.0 ++ x.1.now)
 NumberAt s (Err k) = BlamesBytes k × ((n : ℕ) (r : List ℕ) → 31 ≤ n → n < 2 ^ 64 → s ≡ base128 n ++ r → ⊥)
 
--- an identifier stands at the front
+-- an identifier is at the start
 abbrev pub IdentifierAt : List ℕ → Result (Tag × PCBit × Bor (List ℕ)) ASN1ErrorKind → Type 0
 IdentifierAt s (Ok x) = s ≡ identifier x.0 x.1 ++ x.2.now
 IdentifierAt s (Err k) = BlamesBytes k × ((t : Tag) (bit : PCBit) (r : List ℕ) → t.tag_number < 2 ^ 64 → s ≡ identifier t bit ++ r → ⊥)

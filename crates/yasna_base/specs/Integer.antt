@@ -7,7 +7,7 @@ use Rattle.yasna_base.specs.declared.mode.BERMode.{BERMode}
 use Rattle.yasna_base.specs.declared.tag.Tag.{Tag}
 use Rattle.yasna_base.specs.declared.tag.PCBit.TheVariants.{Primitive}
 use Rattle.yasna_base.specs.Digits.{IsBytes, digits}
-use Rattle.yasna_base.specs.Grammar.{Grammar, Form}
+use Rattle.yasna_base.specs.Grammar.{Grammar, Encoding}
 use Rattle.yasna_base.specs.Identifier.{universal}
 use Rattle.yasna_base.specs.Element.{Primitively}
 use Rattle.yasna_base.specs.Canonical.{canonical_element}
@@ -42,7 +42,7 @@ pub record IsInteger (z : ℤ) (c : List ℕ) : Type 0 where
   pub minimal : IsMinimal c
   pub number : twos c ≡ z
 
--- a number v of a type whose values stand for integers by f, and lie in InType
+-- a number v of a type whose values represent integers by f, and lie in InType
 pub record IsNumber {A : Type 0} (f : A → ℤ) (InType : A → Type 0) (m : BERMode) (v : A) (c : List ℕ) : Type 0 where
   pub integer : IsInteger (f v) c
   pub in_type : InType v
@@ -63,7 +63,7 @@ EncodesSigned w m n v b = Primitively (IsSigned w) n m integer_tag v b
 abbrev pub EncodesUnsigned : ℕ → Grammar ℕ
 EncodesUnsigned k m n v b = Primitively (IsUnsigned k) n m integer_tag v b
 
--- digits, behind a zero where the first bit would be set
+-- digits, after a zero where the first bit would be set
 abbrev pub unsigned_bytes : List ℕ → List ℕ
 unsigned_bytes [] = []
 unsigned_bytes (x ∷ xs) = if nat_lt x 128 then (x ∷ xs) else (0 ∷ x ∷ xs)
@@ -73,14 +73,14 @@ unfoldable pub minimal_bytes : ℤ → List ℕ
 minimal_bytes (pos n) = unsigned_bytes (digits 256 n)
 minimal_bytes (negsuc n) = map (λ d. 255 - d) (unsigned_bytes (digits 256 n))
 
--- the form in a canonical mode
-abbrev pub integer_form : Tag → Form ℤ
-integer_form t m z = canonical_element m t Primitive (minimal_bytes z)
+-- the encoding in a canonical mode
+abbrev pub integer_encoding : Tag → Encoding ℤ
+integer_encoding t m z = canonical_element m t Primitive (minimal_bytes z)
 
--- a signed type of each width keeps the laws under any tag
+-- a signed type of each width satisfies the laws under any tag
 abbrev pub SignedKeepsLaws : Type 0
-SignedKeepsLaws = (w : Width) → PrimitiveKeepsLaws (IsSigned w) integer_form (FitsSigned w)
+SignedKeepsLaws = (w : Width) → PrimitiveKeepsLaws (IsSigned w) integer_encoding (FitsSigned w)
 
--- an unsigned type of each count of bits keeps the laws under any tag
+-- an unsigned type of each count of bits satisfies the laws under any tag
 abbrev pub UnsignedKeepsLaws : Type 0
-UnsignedKeepsLaws = (k : ℕ) → PrimitiveKeepsLaws (IsUnsigned k) (λ t m n. integer_form t m (pos n)) (λ n. n < 2 ^ k)
+UnsignedKeepsLaws = (k : ℕ) → PrimitiveKeepsLaws (IsUnsigned k) (λ t m n. integer_encoding t m (pos n)) (λ n. n < 2 ^ k)

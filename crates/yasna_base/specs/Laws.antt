@@ -4,37 +4,37 @@ use Rattle.yasna_base.specs.declared.mode.BERMode.{BERMode}
 use Rattle.yasna_base.specs.declared.tag.Tag.{Tag}
 use Rattle.yasna_base.specs.declared.tag.PCBit.{PCBit}
 use Rattle.yasna_base.specs.declared.tag.PCBit.TheVariants.{Primitive}
-use Rattle.yasna_base.specs.Grammar.{TaggedGrammar, Form, Nest}
+use Rattle.yasna_base.specs.Grammar.{TaggedGrammar, Encoding, Depth}
 use Rattle.yasna_base.specs.Identifier.{identifier, AnyTag}
 use Rattle.yasna_base.specs.Length.{SpellsLength}
 use Rattle.yasna_base.specs.Element.{Element, Primitively}
 use Rattle.yasna_base.specs.Coding.{IsCoding, Any}
-use Rattle.yasna_base.specs.Canonical.{leaf_nest, IsWritten}
+use Rattle.yasna_base.specs.Canonical.{leaf_depth, IsWritten}
 
--- no identifier begins another, and it tells the tag and the bit
+-- no identifier begins another, and it determines the tag and the bit
 abbrev pub IdentifiersAreUnambiguous : Type 0
 IdentifiersAreUnambiguous =
     (t u : Tag) (bit other : PCBit) (r s : List ℕ) → identifier t bit ++ r ≡ identifier u other ++ s → (t ≡ u) × (bit ≡ other) × (r ≡ s)
 
--- in one mode no spelling of a length begins another, and it tells the length
+-- in one mode no spelling of a length begins another, and it determines the length
 abbrev pub LengthsAreUnambiguous : Type 0
 LengthsAreUnambiguous =
     (m : BERMode) (j k : ℕ) (a b r s : List ℕ) → SpellsLength m j a → SpellsLength m k b → a ++ r ≡ b ++ s →
     (j ≡ k) × (a ≡ b) × (r ≡ s)
 
--- in one mode no primitive element begins another, and it tells the tag and the contents
+-- in one mode no primitive element begins another, and it determines the tag and the contents
 abbrev pub PrimitiveElementsAreUnambiguous : Type 0
 PrimitiveElementsAreUnambiguous =
     (m : BERMode) (t u : Tag) (c d a b r s : List ℕ) → Element m t Primitive c a → Element m u Primitive d b → a ++ r ≡ b ++ s →
     (t ≡ u) × (c ≡ d) × (a ≡ b) × (r ≡ s)
 
--- A type, which B n m t v b says the bytes b to encode, keeps the laws of reading and of writing under any tag but that of
+-- A type, which B n m t v b says the bytes b to encode, satisfies the laws of reading and of writing under any tag but that of
 -- the end of contents. Its values are equal only where they are one
-abbrev pub KeepsLaws : {A : Type 0} → TaggedGrammar A → (Tag → Form A) → Nest A → (A → Type 0) → Type 0
-KeepsLaws B form nest Can =
+abbrev pub KeepsLaws : {A : Type 0} → TaggedGrammar A → (Tag → Encoding A) → Depth A → (A → Type 0) → Type 0
+KeepsLaws B encoding depth Can =
     AnyTag (λ t. IsCoding (λ v w. v ≡ w) (λ m n v b. B n m t v b) (Any (λ m n v b. B n m t v b))
-    × IsWritten (λ v w. v ≡ w) (λ m n v b. B n m t v b) (form t) nest Can)
+    × IsWritten (λ v w. v ≡ w) (λ m n v b. B n m t v b) (encoding t) depth Can)
 
 -- the same of a type of primitive elements alone, whose contents say v by W
-abbrev pub PrimitiveKeepsLaws : {A : Type 0} → (BERMode → A → List ℕ → Type 0) → (Tag → Form A) → (A → Type 0) → Type 0
-PrimitiveKeepsLaws W form Can = KeepsLaws (Primitively W) form leaf_nest Can
+abbrev pub PrimitiveKeepsLaws : {A : Type 0} → (BERMode → A → List ℕ → Type 0) → (Tag → Encoding A) → (A → Type 0) → Type 0
+PrimitiveKeepsLaws W encoding Can = KeepsLaws (Primitively W) encoding leaf_depth Can

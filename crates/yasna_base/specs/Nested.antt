@@ -1,4 +1,4 @@
--- A type that is a SEQUENCE OF itself: parts says which values stand within a value.
+-- A type that is a SEQUENCE OF itself: parts says which values are within a value.
 use Rattle.std.specs.Prelude.{ℕ, zero, suc, List}
 use Rattle.yasna_base.specs.declared.mode.BERMode.{BERMode}
 use Rattle.yasna_base.specs.Element.{Around}
@@ -15,7 +15,7 @@ abbrev pub AnyNested : ℕ → BERMode → List ℕ → Type 0
 AnyNested zero m b = ⊥
 AnyNested (suc n) m b = Around {A = Unit {0}} m sequence_tag (λ u c. (us : List (Unit {0})) × Pieces (λ w. AnyNested n m) us c) tt b
 
--- down to k levels, as many values stand in the one as in the other
+-- down to k levels, as many values are in the one as in the other
 abbrev pub SameTo : {U : Type 0} → (U → List U) → ℕ → U → U → Type 0
 SameTo parts zero v w = Unit {0}
 SameTo parts (suc k) v w = Each (SameTo parts k) (parts v) (parts w)

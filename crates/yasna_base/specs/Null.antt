@@ -3,7 +3,7 @@ use Rattle.std.specs.Prelude.{◌≡◌, ℕ, List, []}
 use Rattle.yasna_base.specs.declared.mode.BERMode.{BERMode}
 use Rattle.yasna_base.specs.declared.tag.Tag.{Tag}
 use Rattle.yasna_base.specs.declared.tag.PCBit.TheVariants.{Primitive}
-use Rattle.yasna_base.specs.Grammar.{Grammar, Form}
+use Rattle.yasna_base.specs.Grammar.{Grammar, Encoding}
 use Rattle.yasna_base.specs.Identifier.{universal}
 use Rattle.yasna_base.specs.Element.{Primitively}
 use Rattle.yasna_base.specs.Canonical.{canonical_element, Always}
@@ -21,10 +21,10 @@ IsNull m v c = c ≡ []
 abbrev pub EncodesNull : Grammar (Unit {0})
 EncodesNull m n v b = Primitively IsNull n m null_tag v b
 
--- the form in a canonical mode
-abbrev pub null_form : Tag → Form (Unit {0})
-null_form t m v = canonical_element m t Primitive []
+-- the encoding in a canonical mode
+abbrev pub null_encoding : Tag → Encoding (Unit {0})
+null_encoding t m v = canonical_element m t Primitive []
 
--- NULL keeps the laws under any tag
+-- NULL satisfies the laws under any tag
 abbrev pub NullKeepsLaws : Type 0
-NullKeepsLaws = PrimitiveKeepsLaws IsNull null_form Always
+NullKeepsLaws = PrimitiveKeepsLaws IsNull null_encoding Always

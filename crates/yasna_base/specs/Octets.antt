@@ -4,9 +4,9 @@ use Rattle.std.specs.Global.{Global}
 use Rattle.std.specs.List.{concat}
 use Rattle.yasna_base.specs.declared.mode.BERMode.{BERMode}
 use Rattle.yasna_base.specs.declared.tag.Tag.{Tag}
-use Rattle.yasna_base.specs.Segmented.{Segmentation, IsSegmented, IsDeepSegmented, segmented_form, segmented_nest}
+use Rattle.yasna_base.specs.Segmented.{Segmentation, IsSegmented, IsDeepSegmented, segmented_encoding, segmented_depth}
 use Rattle.yasna_base.specs.Digits.{IsBytes}
-use Rattle.yasna_base.specs.Grammar.{Grammar, TaggedGrammar, TaggedMembers, Form, Nest}
+use Rattle.yasna_base.specs.Grammar.{Grammar, TaggedGrammar, TaggedMembers, Encoding, Depth}
 use Rattle.yasna_base.specs.Identifier.{universal}
 use Rattle.yasna_base.specs.Laws.{KeepsLaws}
 use Rattle.yasna_base.specs.Segments.{segments}
@@ -44,13 +44,13 @@ abbrev pub EncodesVec : Grammar (Vec ℕ Global)
 EncodesVec m n v b = EncodesOctets m n v.items b
 
 -- octets in a canonical mode: whole, or in segments of 1000
-abbrev pub octets_form : Tag → Form (List ℕ)
-octets_form t m v = segmented_form octets_segmentation (λ v. v) (segments 1000) t m v
+abbrev pub octets_encoding : Tag → Encoding (List ℕ)
+octets_encoding t m v = segmented_encoding octets_segmentation (λ v. v) (segments 1000) t m v
 
 -- how deep it nests
-abbrev pub octets_nest : Nest (List ℕ)
-octets_nest m v = segmented_nest octets_segmentation m v
+abbrev pub octets_depth : Depth (List ℕ)
+octets_depth m v = segmented_depth octets_segmentation m v
 
--- OCTET STRING keeps the laws under any tag
+-- OCTET STRING satisfies the laws under any tag
 abbrev pub OctetsKeepLaws : Type 0
-OctetsKeepLaws = KeepsLaws IsOctets octets_form octets_nest IsBytes
+OctetsKeepLaws = KeepsLaws IsOctets octets_encoding octets_depth IsBytes

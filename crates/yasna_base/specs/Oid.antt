@@ -7,7 +7,7 @@ use Rattle.yasna_base.specs.declared.tag.PCBit.TheVariants.{Primitive}
 use Rattle.yasna_base.specs.Canonical.{canonical_element}
 use Rattle.yasna_base.specs.Digits.{base128}
 use Rattle.yasna_base.specs.Element.{Primitively}
-use Rattle.yasna_base.specs.Grammar.{Grammar, Form}
+use Rattle.yasna_base.specs.Grammar.{Grammar, Encoding}
 use Rattle.yasna_base.specs.Identifier.{universal}
 use Rattle.yasna_base.specs.Laws.{PrimitiveKeepsLaws}
 
@@ -22,7 +22,7 @@ pub record AreFirstTwo (x y : ℕ) : Type 0 where
   pub arc : x ≤ 1 → y < 40
   pub in_range : x ≡ 2 → y ≤ 18446744073709551535
 
--- the components have a form: there are two at least, and each fits 64 bits
+-- the components have an encoding: there are two at least, and each fits 64 bits
 abbrev pub IsEncodableOid : List ℕ → Type 0
 IsEncodableOid [] = ⊥
 IsEncodableOid (x ∷ []) = ⊥
@@ -47,10 +47,10 @@ pub record AreComponents (m : BERMode) (cs c : List ℕ) : Type 0 where
 abbrev pub EncodesOid : Grammar (List ℕ)
 EncodesOid m n v b = Primitively AreComponents n m oid_tag v b
 
--- the form in a canonical mode
-abbrev pub oid_form : Tag → Form (List ℕ)
-oid_form t m cs = canonical_element m t Primitive (oid_contents cs)
+-- the encoding in a canonical mode
+abbrev pub oid_encoding : Tag → Encoding (List ℕ)
+oid_encoding t m cs = canonical_element m t Primitive (oid_contents cs)
 
--- OBJECT IDENTIFIER keeps the laws under any tag
+-- OBJECT IDENTIFIER satisfies the laws under any tag
 abbrev pub OidKeepsLaws : Type 0
-OidKeepsLaws = PrimitiveKeepsLaws AreComponents oid_form IsEncodableOid
+OidKeepsLaws = PrimitiveKeepsLaws AreComponents oid_encoding IsEncodableOid

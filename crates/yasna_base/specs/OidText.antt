@@ -28,11 +28,11 @@ abbrev pub BeginsWithComponent : List ℕ → Type 0
 BeginsWithComponent text =
     (n : ℕ) × (part : List ℕ) × (parts : List (List ℕ)) × (slice_split is_dot text ≡ part ∷ parts) × IsComponent part n
 
--- whether a text wasn't read for want of memory
-abbrev pub lacks_memory : ParseOidError → Bool
-lacks_memory e = e.out_of_memory
+-- whether a text wasn't read when out of memory
+abbrev pub ran_out_of_memory : ParseOidError → Bool
+ran_out_of_memory e = e.out_of_memory
 
 -- what is printed of that
-abbrev pub fault_text : Bool → List ℕ
-fault_text true = codes "Out of memory"
-fault_text false = codes "Failed to parse OID"
+abbrev pub oid_error_text : Bool → List ℕ
+oid_error_text true = codes "Out of memory"
+oid_error_text false = codes "Failed to parse OID"

@@ -1,8 +1,8 @@
--- OPTIONAL: a part of a SEQUENCE that may be left out (X.690, 8.9.3).
+-- OPTIONAL: a part of a SEQUENCE that may be omitted (X.690, 8.9.3).
 use Rattle.std.specs.Prelude.{◌≡◌, [], Option, Some, None, ◌⊎◌}
-use Rattle.yasna_base.specs.Grammar.{Grammar, Members, Form, Nest}
+use Rattle.yasna_base.specs.Grammar.{Grammar, Members, Encoding, Depth}
 
--- the part encodes a value, or it is left out and there is none
+-- the part encodes a value, or it is omitted and there is none
 abbrev pub OptionOf : {A : Type 0} → Grammar A → Grammar (Option A)
 OptionOf B m n (Some v) b = B m n v b
 OptionOf B m n None b = b ≡ []
@@ -18,17 +18,17 @@ SameOption E (Some v) None = ⊥
 SameOption E None (Some w) = ⊥
 SameOption E None None = Unit {0}
 
--- the form of the value, or nothing
-abbrev pub option_form : {A : Type 0} → Form A → Form (Option A)
-option_form f m (Some v) = f m v
-option_form f m None = []
+-- the encoding of the value, or nothing
+abbrev pub option_encoding : {A : Type 0} → Encoding A → Encoding (Option A)
+option_encoding f m (Some v) = f m v
+option_encoding f m None = []
 
 -- how deep that nests; nothing has no level
-abbrev pub option_nest : {A : Type 0} → Nest A → Nest (Option A)
-option_nest f m (Some v) = f m v
-option_nest f m None = 0
+abbrev pub option_depth : {A : Type 0} → Depth A → Depth (Option A)
+option_depth f m (Some v) = f m v
+option_depth f m None = 0
 
--- what is left out can always be written
+-- what is omitted can always be written
 abbrev pub option_can : {A : Type 0} → (A → Type 0) → Option A → Type 0
 option_can c (Some v) = c v
 option_can c None = Unit {0}

@@ -10,17 +10,17 @@ use Rattle.yasna_base.specs.Identifier.{class_number}
 abbrev pub tag_cmp : Tag → Tag → Ordering
 tag_cmp t u = ordering_then (nat_cmp (class_number t.tag_class) (class_number u.tag_class)) (nat_cmp t.tag_number u.tag_number)
 
--- encodings go by their first byte that differs; as none begins another, it makes no difference to put zeros behind the
+-- encodings go by their first byte that differs; as none begins another, it makes no difference to put zeros after the
 -- shorter one (X.690, 11.6)
 abbrev pub octets_cmp : List ℕ → List ℕ → Ordering
 octets_cmp = slice_cmp nat_cmp
 
--- x in front of the first item that isn't below it
+-- x before the first item that isn't below it
 abbrev pub put_in : {X : Type 0} → (X → X → Ordering) → X → List X → List X
 put_in R x [] = x ∷ []
 put_in R x (y ∷ ys) = if is_lt (R y x) then (y ∷ put_in R x ys) else (x ∷ (y ∷ ys))
 
--- the items in ascending order, those that tie as they stood
+-- the items in ascending order, those that tie as they were
 abbrev pub in_order : {X : Type 0} → (X → X → Ordering) → List X → List X
 in_order R [] = []
 in_order R (x ∷ xs) = put_in R x (in_order R xs)

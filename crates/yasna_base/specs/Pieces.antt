@@ -9,7 +9,7 @@ Each R [] (b ∷ bs) = ⊥
 Each R (v ∷ vs) [] = ⊥
 Each R (v ∷ vs) (b ∷ bs) = R v b × Each R vs bs
 
--- c is a joining of pieces, which stand for the values vs by R
+-- c is a joining of pieces, which represent the values vs by R
 pub record Pieces {A : Type 0} (R : A → List ℕ → Type 0) (vs : List A) (c : List ℕ) : Type 0 where
   pub pieces : List (List ℕ)
   pub each : Each R vs pieces

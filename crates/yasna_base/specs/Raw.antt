@@ -10,7 +10,7 @@ use Rattle.yasna_base.specs.Coding.{IsCoding, Any}
 use Rattle.yasna_base.specs.Segmented.{PiecesBefore}
 use Rattle.yasna_base.specs.Digits.{IsBytes}
 use Rattle.yasna_base.specs.Element.{Definite, Indefinite, end_of_contents}
-use Rattle.yasna_base.specs.Grammar.{Form}
+use Rattle.yasna_base.specs.Grammar.{Encoding}
 use Rattle.yasna_base.specs.Header.{ContentsEnd, definite_end, indefinite_end, OpensAt}
 use Rattle.yasna_base.specs.Identifier.{identifier, end_tag, StartsElement}
 use Rattle.yasna_base.specs.Pieces.{Pieces}
@@ -21,25 +21,25 @@ pub record RawValue : Type 0 where
   pub bit : PCBit
   pub payload : List ℕ
 
--- where a mode looks into contents whose length is counted
-abbrev pub LooksInto : BERMode → PCBit → Type 0
-LooksInto Ber bit = ⊥
-LooksInto Der Primitive = ⊥
-LooksInto Der Constructed = Unit {0}
-LooksInto Cer bit = ⊥
+-- where a mode descends into contents whose length is counted
+abbrev pub DescendsInto : BERMode → PCBit → Type 0
+DescendsInto Ber bit = ⊥
+DescendsInto Der Primitive = ⊥
+DescendsInto Der Constructed = Unit {0}
+DescendsInto Cer bit = ⊥
 
--- where it looks into contents that end so
-abbrev pub LooksUpTo : BERMode → PCBit → ContentsEnd → Type 0
-LooksUpTo m bit (definite_end r) = LooksInto m bit
-LooksUpTo m bit indefinite_end = Unit {0}
+-- where it descends into contents that end so
+abbrev pub DescendsUpTo : BERMode → PCBit → ContentsEnd → Type 0
+DescendsUpTo m bit (definite_end r) = DescendsInto m bit
+DescendsUpTo m bit indefinite_end = Unit {0}
 
 -- c is a joining of pieces by R
 abbrev pub IsJoining : {A : Type 0} → (A → List ℕ → Type 0) → List ℕ → Type 0
 IsJoining {A} R c = (vs : List A) × Pieces R vs c
 
--- b is the element v, and contents that are looked into are a joining by R
+-- b is the element v, and contents that are descended into are a joining by R
 pub data RawFramed (R : RawValue → List ℕ → Type 0) (m : BERMode) (v : RawValue) (b : List ℕ) : Type 0 where
-  with_length : Definite m v.tag v.bit v.payload b → (LooksInto m v.bit → IsJoining R v.payload) → RawFramed R m v b
+  with_length : Definite m v.tag v.bit v.payload b → (DescendsInto m v.bit → IsJoining R v.payload) → RawFramed R m v b
   with_zeros : (c : List ℕ) → Indefinite m v.tag v.bit c b → IsJoining R c → v.payload ≡ c ++ end_of_contents → RawFramed R m v b
 
 -- its tag isn't that of the end of contents and has a number of 64 bits, and its payload is bytes
@@ -54,11 +54,11 @@ unfoldable pub IsRaw : ℕ → BERMode → RawValue → List ℕ → Type 0
 IsRaw zero m v b = ⊥
 IsRaw (suc n) m v b = RawOver (IsRaw n m) m v b
 
--- elements by R, and behind them what D says
+-- elements by R, and after them what D says
 abbrev pub JoiningBefore : (RawValue → List ℕ → Type 0) → (List ℕ → Type 0) → List ℕ → Type 0
 JoiningBefore R D c = PiecesBefore R (λ vs. Unit {0}) D c
 
--- an element that is looked into is begun at the front of s, and what D says stands where one within it may
+-- an element that is descended into is begun at the start of s, and what D says is where one within it may
 pub record DeepRaw (R : RawValue → List ℕ → Type 0) (D : List ℕ → Type 0) (m : BERMode) (s : List ℕ) : Type 0 where
   pub tag : Tag
   pub bit : PCBit
@@ -66,35 +66,35 @@ pub record DeepRaw (R : RawValue → List ℕ → Type 0) (D : List ℕ → Type
   pub contents : List ℕ
   pub end : ContentsEnd
   pub opens : OpensAt m tag bit s contents end
-  pub looks : LooksUpTo m bit end
+  pub descends : DescendsUpTo m bit end
   pub inside : JoiningBefore R D contents
 
--- reading a raw element from the front of s meets one that no level is left for
+-- reading a raw element from the start of s meets one that no level is left for
 unfoldable pub IsDeepRaw : ℕ → BERMode → List ℕ → Type 0
 IsDeepRaw zero m s = StartsElement s
 IsDeepRaw (suc n) m s = DeepRaw (IsRaw n m) (IsDeepRaw n m) m s
 
 -- in CER, where the payload of a constructed element ends by the two zeros
-abbrev pub raw_cer_form : Tag → PCBit → List ℕ → List ℕ
-raw_cer_form t Primitive c = canonical_element Cer t Primitive c
-raw_cer_form t Constructed c = identifier t Constructed ++ (128 ∷ c)
+abbrev pub raw_cer_encoding : Tag → PCBit → List ℕ → List ℕ
+raw_cer_encoding t Primitive c = canonical_element Cer t Primitive c
+raw_cer_encoding t Constructed c = identifier t Constructed ++ (128 ∷ c)
 
--- the form of a raw element whose payload is written as it is
-abbrev pub raw_form : Tag → Form RawValue
-raw_form t Cer v = raw_cer_form t v.bit v.payload
-raw_form t m v = canonical_element m t v.bit v.payload
+-- the encoding of a raw element whose payload is written as it is
+abbrev pub raw_encoding : Tag → Encoding RawValue
+raw_encoding t Cer v = raw_cer_encoding t v.bit v.payload
+raw_encoding t m v = canonical_element m t v.bit v.payload
 
--- raw elements keep the laws of reading
+-- raw elements satisfy the laws of reading
 abbrev pub RawKeepsReadingLaws : Type 0
 RawKeepsReadingLaws = IsCoding (λ v w. v ≡ w) (λ m n v b. IsRaw n m v b) (Any (λ m n v b. IsRaw n m v b))
 
--- where an element lies too deep, no raw element stands
+-- where an element lies too deep, no raw element is there
 abbrev pub TooDeepIsNotRaw : Type 0
 TooDeepIsNotRaw = (n : ℕ) (m : BERMode) (v : RawValue) (s b r : List ℕ) → IsDeepRaw n m s → IsRaw n m v b → s ≡ b ++ r → ⊥
 
 -- the element whose contents c a header opens ends before r
 abbrev pub ContentsTo : (RawValue → List ℕ → Type 0) → BERMode → PCBit → List ℕ → ContentsEnd → List ℕ → Type 0
-ContentsTo R m bit c (definite_end z) r = (r ≡ z) × (LooksInto m bit → IsJoining R c)
+ContentsTo R m bit c (definite_end z) r = (r ≡ z) × (DescendsInto m bit → IsJoining R c)
 ContentsTo R m bit c indefinite_end r = (d : List ℕ) × IsJoining R d × (c ≡ d ++ (0 ∷ 0 ∷ r))
 
 -- payload is the payload of that element

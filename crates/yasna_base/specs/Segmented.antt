@@ -6,7 +6,7 @@ use Rattle.yasna_base.specs.declared.tag.PCBit.TheVariants.{Primitive, Construct
 use Rattle.yasna_base.specs.declared.tag.Tag.{Tag}
 use Rattle.yasna_base.specs.Canonical.{canonical_element}
 use Rattle.yasna_base.specs.Element.{Element}
-use Rattle.yasna_base.specs.Grammar.{TaggedGrammar, TaggedMembers, Form, Nest}
+use Rattle.yasna_base.specs.Grammar.{TaggedGrammar, TaggedMembers, Encoding, Depth}
 use Rattle.yasna_base.specs.Header.{ContentsEnd, OpensAt}
 use Rattle.yasna_base.specs.Identifier.{BeginsWithTag}
 use Rattle.yasna_base.specs.Pieces.{Pieces}
@@ -47,7 +47,7 @@ pub record Segmentation (A : Type 0) : Type 1 where
   pub bytes : A → List ℕ
   pub full : ℕ
 
--- b is a string with the tag t that says v: a primitive element, or a constructed one around segments that stand for their values by R
+-- b is a string with the tag t that says v: a primitive element, or a constructed one around segments that represent their values by R
 pub data Segmented {A : Type 0} (k : Segmentation A) (R : A → List ℕ → Type 0) (m : BERMode) (t : Tag) (v : A) (b : List ℕ) : Type 0 where
   whole : (c : List ℕ) → Element m t Primitive c b → k.whole m v c → StaysWhole m k.full (length (k.bytes v)) → Segmented k R m t v b
   in_segments : MaySegment m → (c : List ℕ) (vs : List A) → Element m t Constructed c b → Pieces R vs c → k.join (segment_mode m) vs v →
@@ -58,17 +58,17 @@ unfoldable pub IsSegmented : {A : Type 0} → Segmentation A → TaggedGrammar A
 IsSegmented k zero m t v b = ⊥
 IsSegmented k (suc n) m t v b = Segmented k (IsSegmented k n (segment_mode m) k.segment) m t v b
 
--- c are segments that a further one may follow, and behind them stands what D says
+-- c are segments that a further one may follow, and after them is what D says
 pub record PiecesBefore {A : Type 0} (R : A → List ℕ → Type 0) (More : List A → Type 0) (D : List ℕ → Type 0) (c : List ℕ) : Type 0 where
   pub values : List A
-  pub front : List ℕ
+  pub prefix : List ℕ
   pub rest : List ℕ
-  pub pieces : Pieces R values front
+  pub pieces : Pieces R values prefix
   pub more : More values
-  pub joined : c ≡ front ++ rest
+  pub joined : c ≡ prefix ++ rest
   pub deep : D rest
 
--- a string in segments is begun at the front of s, and what D says stands where a further segment may
+-- a string in segments is begun at the start of s, and what D says is where a further segment may
 pub record DeepSegmented {A : Type 0} (k : Segmentation A) (R : A → List ℕ → Type 0) (D : List ℕ → Type 0) (m : BERMode) (t : Tag) (s : List ℕ) : Type 0 where
   pub taken : MaySegment m
   pub contents : List ℕ
@@ -76,25 +76,25 @@ pub record DeepSegmented {A : Type 0} (k : Segmentation A) (R : A → List ℕ �
   pub opens : OpensAt m t Constructed s contents end
   pub inside : PiecesBefore R k.more D contents
 
--- reading a string with the tag t from the front of s meets an element that no level is left for
+-- reading a string with the tag t from the start of s meets an element that no level is left for
 unfoldable pub IsDeepSegmented : {A : Type 0} → Segmentation A → TaggedMembers
 IsDeepSegmented k zero m t s = BeginsWithTag t s
 IsDeepSegmented k (suc n) m t s = DeepSegmented k (IsSegmented k n (segment_mode m) k.segment) (IsDeepSegmented k n (segment_mode m) k.segment) m t s
 
--- where reading a string would go too deep none stands at the front
+-- where reading a string would go too deep none is at the start
 abbrev pub DeepIsNone : {A : Type 0} → Segmentation A → Type 0
 DeepIsNone {A} k = (n : ℕ) (m : BERMode) (t : Tag) (s : List ℕ) → IsDeepSegmented k n m t s → (v : A) (b r : List ℕ) → IsSegmented k n m t v b → s ≡ b ++ r → ⊥
 
--- The form of a string in a canonical mode: one primitive element, in CER segments where more bytes hold it than fill a segment.
+-- The encoding of a string in a canonical mode: one primitive element, in CER segments where more bytes hold it than fill a segment.
 -- contents v: those of a primitive element; segments v: the segments that v is cut into
-abbrev pub segmented_form : {A : Type 0} → Segmentation A → (A → List ℕ) → (A → List A) → Tag → Form A
-segmented_form k contents segments t Cer v =
+abbrev pub segmented_encoding : {A : Type 0} → Segmentation A → (A → List ℕ) → (A → List A) → Tag → Encoding A
+segmented_encoding k contents segments t Cer v =
     if nat_lt k.full (length (k.bytes v))
     then canonical_element Cer t Constructed (flat_map (λ w. canonical_element Der k.segment Primitive (contents w)) (segments v))
     else canonical_element Cer t Primitive (contents v)
-segmented_form k contents segments t m v = canonical_element m t Primitive (contents v)
+segmented_encoding k contents segments t m v = canonical_element m t Primitive (contents v)
 
 -- segments are a level of their own
-abbrev pub segmented_nest : {A : Type 0} → Segmentation A → Nest A
-segmented_nest k Cer v = if nat_lt k.full (length (k.bytes v)) then 2 else 1
-segmented_nest k m v = 1
+abbrev pub segmented_depth : {A : Type 0} → Segmentation A → Depth A
+segmented_depth k Cer v = if nat_lt k.full (length (k.bytes v)) then 2 else 1
+segmented_depth k m v = 1

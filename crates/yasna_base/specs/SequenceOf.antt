@@ -2,7 +2,7 @@
 use Rattle.std.specs.Prelude.{max, List, [], ◌∷◌, flat_map}
 use Rattle.yasna_base.specs.declared.tag.Tag.{Tag}
 use Rattle.yasna_base.specs.Element.{Enclosed, AnyEnclosed}
-use Rattle.yasna_base.specs.Grammar.{Grammar, Members, Form, Nest}
+use Rattle.yasna_base.specs.Grammar.{Grammar, Members, Encoding, Depth}
 use Rattle.yasna_base.specs.Pieces.{Pieces}
 
 -- contents that encode these values by B, one after the other
@@ -21,11 +21,11 @@ IsListOf B t = Enclosed (ElementsOf B) t
 abbrev pub AnyListOf : Members → Tag → Members
 AnyListOf S t = AnyEnclosed (AnyElements S) t
 
--- the forms of elements, one after the other
-abbrev pub elements_form : {A : Type 0} → Form A → Form (List A)
-elements_form form m vs = flat_map (form m) vs
+-- the encodings of elements, one after the other
+abbrev pub elements_encoding : {A : Type 0} → Encoding A → Encoding (List A)
+elements_encoding encoding m vs = flat_map (encoding m) vs
 
 -- elements nest as deep as the deepest
-abbrev pub elements_nest : {A : Type 0} → Nest A → Nest (List A)
-elements_nest nest m [] = 0
-elements_nest nest m (v ∷ vs) = max (nest m v) (elements_nest nest m vs)
+abbrev pub elements_depth : {A : Type 0} → Depth A → Depth (List A)
+elements_depth depth m [] = 0
+elements_depth depth m (v ∷ vs) = max (depth m v) (elements_depth depth m vs)

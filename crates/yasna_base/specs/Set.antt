@@ -57,7 +57,7 @@ IsSet t = Enclosed SetElements t
 
 -- c is what a SET OF of these parts holds, none of which is empty: the parts in order
 pub record SetOfContents (parts : List (List ℕ)) (c : List ℕ) : Type 0 where
-  pub filled : AllByRecursion (λ b. b ≡ [] → ⊥) parts
+  pub non_empty : AllByRecursion (λ b. b ≡ [] → ⊥) parts
   pub joined : c ≡ concat (in_order octets_cmp parts)
 
 -- a part of a SET, with a tag
@@ -70,7 +70,7 @@ pub record HasItsTag (p : SetPart) : Type 0 where
   pub in_range : p.tag.tag_number < 2 ^ 64
   pub begins : BeginsWithTag p.tag p.bytes
 
--- what parts of a SET go by: the tag's class and number, and where the number is 31 or more the bytes behind the first
+-- what parts of a SET go by: the tag's class and number, and where the number is 31 or more the bytes after the first
 abbrev pub part_key : SetPart → List ℕ
 part_key p = class_number p.tag.tag_class ∷ (p.tag.tag_number ∷ (if nat_lt p.tag.tag_number 31 then [] else drop 1 p.bytes))
 

@@ -9,11 +9,11 @@ use Rattle.yasna_base.specs.Identifier.{BeginsWithTag, AnyTag}
 use Rattle.yasna_base.specs.Order.{octets_cmp, in_order}
 use Rattle.yasna_base.specs.Set.{SetElements, IsSet, SetPart, part_cmp, SetContents}
 
--- SET keeps the laws of reading under any tag
+-- SET satisfies the laws of reading under any tag
 abbrev pub SetKeepsReadingLaws : Type 0
 SetKeepsReadingLaws = AnyTag (λ t. IsCoding (λ v w. v ≡ w) (IsSet t) (AnyEnclosed (Any SetElements) t))
 
--- parts that stood otherwise are put in the same order of a SET OF
+-- parts that were otherwise are put in the same order of a SET OF
 abbrev pub SetOfOrderIsOne : Type 0
 SetOfOrderIsOne = (ps qs : List (List ℕ)) → IsPermutation ps qs → in_order octets_cmp ps ≡ in_order octets_cmp qs
 
@@ -27,7 +27,7 @@ SetOrderIsOne =
 abbrev pub HaveOwnTags : List (List ℕ) → Type 0
 HaveOwnTags ps = (p q : List ℕ) (t : Tag) → Contains ps p → Contains ps q → BeginsWithTag t p → BeginsWithTag t q → p ≡ q
 
--- what such parts make is what they make where they stood otherwise, and nothing else is
+-- what such parts make is what they make where they were otherwise, and nothing else is
 abbrev pub SetContentsAreOne : Type 0
 SetContentsAreOne =
     (ps qs : List (List ℕ)) → IsPermutation ps qs → HaveOwnTags ps → (c : List ℕ) → SetContents ps c →

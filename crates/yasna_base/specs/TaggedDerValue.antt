@@ -10,7 +10,7 @@ use Rattle.yasna_base.specs.Octets.{octets_tag}
 use Rattle.yasna_base.specs.Raw.{RawValue}
 use Rattle.yasna_base.specs.Text.{utf8_tag, printable_tag, ia5_tag}
 
--- what such a value stands for
+-- what such a value represents
 abbrev pub raw_of : TaggedDerValue → RawValue
 raw_of v = record { tag = v.tag; bit = v.pcbit; payload = v.value.items }
 
@@ -23,7 +23,7 @@ pub data HoldsOctets (v : RawValue) (b : List ℕ) : Type 0 where
   octet_string : v.tag ≡ octets_tag → v.bit ≡ Primitive → v.payload ≡ b → HoldsOctets v b
   bit_string : v.tag ≡ bits_tag → v.bit ≡ Primitive → v.payload ≡ 0 ∷ b → HoldsOctets v b
 
--- the tags of the texts that are UTF-8 as they stand
+-- the tags of the texts that are UTF-8 as they are
 pub data IsTextTag (t : Tag) : Type 0 where
   utf8_string : t ≡ utf8_tag → IsTextTag t
   printable_string : t ≡ printable_tag → IsTextTag t

@@ -9,10 +9,10 @@ use Rattle.std.specs.Str.{chars, encode_utf8_all}
 use Rattle.yasna_base.specs.declared.mode.BERMode.{BERMode}
 use Rattle.yasna_base.specs.declared.tag.Tag.{Tag}
 use Rattle.yasna_base.specs.Coding.{IsCoding, Any}
-use Rattle.yasna_base.specs.Grammar.{Grammar, Form, Nest}
+use Rattle.yasna_base.specs.Grammar.{Grammar, Encoding, Depth}
 use Rattle.yasna_base.specs.Identifier.{universal, AnyTag}
 use Rattle.yasna_base.specs.Laws.{KeepsLaws}
-use Rattle.yasna_base.specs.Octets.{IsOctets, octets_form, octets_nest}
+use Rattle.yasna_base.specs.Octets.{IsOctets, octets_encoding, octets_depth}
 
 -- the tag of UTF8String
 abbrev pub utf8_tag : Tag
@@ -107,20 +107,20 @@ abbrev pub bmp_octets : List ℕ → List ℕ
 bmp_octets text = flat_map unit_octets (flat_map encode_utf16 text)
 
 -- a text in UTF-8, in a canonical mode
-abbrev pub utf8_form : Tag → Form (List ℕ)
-utf8_form t m text = octets_form t m (encode_utf8_all text)
+abbrev pub utf8_encoding : Tag → Encoding (List ℕ)
+utf8_encoding t m text = octets_encoding t m (encode_utf8_all text)
 
 -- a text in UTF-16, in a canonical mode
-abbrev pub bmp_form : Tag → Form (List ℕ)
-bmp_form t m text = octets_form t m (bmp_octets text)
+abbrev pub bmp_encoding : Tag → Encoding (List ℕ)
+bmp_encoding t m text = octets_encoding t m (bmp_octets text)
 
 -- how deep they nest
-abbrev pub utf8_nest : Nest (List ℕ)
-utf8_nest m text = octets_nest m (encode_utf8_all text)
+abbrev pub utf8_depth : Depth (List ℕ)
+utf8_depth m text = octets_depth m (encode_utf8_all text)
 
 -- how deep that nests
-abbrev pub bmp_nest : Nest (List ℕ)
-bmp_nest m text = octets_nest m (bmp_octets text)
+abbrev pub bmp_depth : Depth (List ℕ)
+bmp_depth m text = octets_depth m (bmp_octets text)
 
 -- the characters of a string
 abbrev pub characters : String Global → List ℕ
@@ -134,12 +134,12 @@ EncodesText m n v b = IsStringOf (IsUtf8In InUtf8) n m utf8_tag v b
 abbrev pub EncodesString : Grammar (String Global)
 EncodesString m n v b = EncodesText m n (characters v) b
 
--- a class of text in UTF-8 keeps the laws under any tag
+-- a class of text in UTF-8 satisfies the laws under any tag
 abbrev pub TextKeepsLaws : (ℕ → Type 0) → Type 0
-TextKeepsLaws In = KeepsLaws (IsStringOf (IsUtf8In In)) utf8_form utf8_nest (IsTextIn In)
+TextKeepsLaws In = KeepsLaws (IsStringOf (IsUtf8In In)) utf8_encoding utf8_depth (IsTextIn In)
 
--- BMPString keeps the laws of reading under any tag; where each surrogate has its partner, it keeps those of writing
+-- BMPString satisfies the laws of reading under any tag; where each surrogate has its partner, it keeps those of writing
 pub record BmpKeepsLaws : Type 0 where
   pub reading : AnyTag (λ t. IsCoding (λ v w. v ≡ w) (λ m n v b. IsStringOf IsBmp n m t v b) (Any (λ m n v b. IsStringOf IsBmp n m t v b)))
-  pub paired : KeepsLaws (IsStringOf IsPairedBmp) bmp_form bmp_nest (IsTextIn InUtf8)
+  pub paired : KeepsLaws (IsStringOf IsPairedBmp) bmp_encoding bmp_depth (IsTextIn InUtf8)
   pub spells : (m : BERMode) (text v : List ℕ) → IsPairedBmp m text v → IsBmp m text v

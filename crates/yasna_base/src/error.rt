@@ -1,14 +1,14 @@
-//! Refusals.
+//! Errors.
 ghost use Rattle.std.specs.Prelude.{◌≡◌};
 
 use std::alloc::{AllocError, AllocFailed};
 use std::error::Error;
 use std::fmt;
 
-/// What a reading or a writing answers.
+/// What a reading or a writing returns.
 pub type ASN1Result<T> = Result<T, ASN1Error>;
 
-/// Why bytes were refused, or a value was not written.
+/// Why bytes were rejected, or a value was not written.
 #[derive(Clone, Copy, PartialEq, Eq, Debug)]
 pub enum ASN1ErrorKind {
     /// The bytes end before the element does.
@@ -21,11 +21,11 @@ pub enum ASN1ErrorKind {
     StackOverflow,
     /// The bytes aren't an encoding of what was asked for.
     Invalid,
-    /// No memory was to be had.
+    /// Out of memory.
     OutOfMemory,
 }
 
-/// A refusal.
+/// An error.
 #[derive(Clone, Copy, PartialEq, Eq, Debug)]
 pub struct ASN1Error {
     kind: ASN1ErrorKind,
@@ -34,14 +34,14 @@ pub struct ASN1Error {
 impl ASN1Error {
     ghost use Rattle.yasna_base.specs.Error.{kind_of, error_of};
 
-    /// The refusal of this kind.
+    /// The error of this kind.
     pub fn new(kind: ASN1ErrorKind) -> ASN1Error
         ensures { result ≡ error_of kind }
     {
         ASN1Error { kind }
     }
 
-    /// Of what kind the refusal is.
+    /// Of what kind the error is.
     pub fn kind(&self) -> ASN1ErrorKind
         ensures { result ≡ kind_of self.now }
     {
@@ -69,14 +69,14 @@ impl fmt::Display for ASN1Error {
 
 impl Error for ASN1Error {}
 
-/// So `?` answers `OutOfMemory` where an allocation in a reading or a writing fails.
+/// So `?` returns `OutOfMemory` where an allocation in a reading or a writing fails.
 impl From<AllocError> for ASN1Error {
     ghost use Rattle.yasna_base.specs.Error.{error_of};
     ghost use Rattle.yasna_base.specs.declared.error.ASN1ErrorKind.TheVariants.{OutOfMemory};
 
     ghost from_gives = { λ _ e. e ≡ error_of OutOfMemory };
 
-    fn from(_refused: AllocError) -> ASN1Error {
+    fn from(_rejected: AllocError) -> ASN1Error {
         ASN1Error::new(ASN1ErrorKind::OutOfMemory)
     }
 }
@@ -88,7 +88,7 @@ impl<T: Drop> From<AllocFailed<T>> for ASN1Error {
 
     ghost from_gives = { λ _ e. e ≡ error_of OutOfMemory };
 
-    fn from(_refused: AllocFailed<T>) -> ASN1Error {
+    fn from(_rejected: AllocFailed<T>) -> ASN1Error {
         ASN1Error::from(AllocError)
     }
 }

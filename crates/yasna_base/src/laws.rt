@@ -1,7 +1,7 @@
 //! What is proved of the grammar itself, of which no program is part.
 //!
 //! These functions do nothing. Their contracts state the laws that every reader and every writer above relies on:
-//! bytes have one meaning, no encoding begins another, and each value has one form in DER and one in CER.
+//! bytes have one meaning, no encoding begins another, and each value has one encoding in DER and one in CER.
 ghost use Rattle.std.specs.Prelude.{◌≡◌, ◌<◌, ◌^◌, ℕ, List, length, true, MatchResult, IsTrue, ◌↔◌, FitsSigned};
 ghost use Rattle.std.specs.Int.{w64};
 ghost use Rattle.std.specs.List.{AllByRecursion};
@@ -15,19 +15,19 @@ ghost use Rattle.yasna_base.specs.declared.tag.PCBit.{PCBit};
 ghost use Rattle.yasna_base.specs.Identifier.{universal, class_number, bit_number};
 ghost use Rattle.yasna_base.specs.Laws.{IdentifiersAreUnambiguous, LengthsAreUnambiguous, PrimitiveElementsAreUnambiguous};
 ghost use Rattle.yasna_base.specs.Boolean.{BooleanKeepsLaws};
-ghost use Rattle.yasna_base.specs.Canonical.{leaf_nest};
+ghost use Rattle.yasna_base.specs.Canonical.{leaf_depth};
 ghost use Rattle.yasna_base.specs.Digits.{IsBytes};
 ghost use Rattle.yasna_base.specs.Element.{Primitively};
 ghost use Rattle.yasna_base.specs.Null.{NullKeepsLaws};
-ghost use Rattle.yasna_base.specs.Integer.{IsSigned, integer_form, SignedKeepsLaws, UnsignedKeepsLaws};
+ghost use Rattle.yasna_base.specs.Integer.{IsSigned, integer_encoding, SignedKeepsLaws, UnsignedKeepsLaws};
 ghost use Rattle.yasna_base.specs.Enumerated.{EnumeratedKeepsLaws};
-ghost use Rattle.yasna_base.specs.BigInteger.{IsBigInteger, big_integer_form, CanBigInteger, BigIntegerKeepsLaws};
+ghost use Rattle.yasna_base.specs.BigInteger.{IsBigInteger, big_integer_encoding, CanBigInteger, BigIntegerKeepsLaws};
 ghost use Rattle.yasna_base.specs.Segmented.{DeepIsNone};
-ghost use Rattle.yasna_base.specs.Octets.{IsOctets, octets_form, octets_nest, octets_segmentation, OctetsKeepLaws};
+ghost use Rattle.yasna_base.specs.Octets.{IsOctets, octets_encoding, octets_depth, octets_segmentation, OctetsKeepLaws};
 ghost use Rattle.yasna_base.specs.Bits.{IsBits, bits_segmentation, BitsKeepLaws};
 ghost use Rattle.yasna_base.specs.Text.{InUtf8, InNumeric, InPrintable, InVisible, InIa5, IsBmp, IsStringOf, IsUtf8In, TextKeepsLaws, BmpKeepsLaws};
 ghost use Rattle.yasna_base.specs.Oid.{OidKeepsLaws};
-ghost use Rattle.yasna_base.specs.OidText.{lacks_memory};
+ghost use Rattle.yasna_base.specs.OidText.{ran_out_of_memory};
 ghost use Rattle.yasna_base.specs.declared.models.tagged_der_value.TaggedDerValue.{TaggedDerValue};
 ghost use Rattle.yasna_base.specs.TaggedDerValue.{raw_of};
 ghost use Rattle.yasna_base.specs.Raw.{RawKeepsReadingLaws, TooDeepIsNotRaw};
@@ -89,7 +89,7 @@ pub fn universal_tags()
 {}
 
 /// Tags are ordered by class, then by number; classes and bits by the numbers that they have in an identifier; BER
-/// stands before DER, and that before CER. Object identifiers are ordered by their first component that differs, and what begins another
+/// is before DER, and that before CER. Object identifiers are ordered by their first component that differs, and what begins another
 /// comes first.
 pub fn orders()
     ensures tags { (t u : Tag) → ⟦<Tag as Ord>⟧.cmp t u ≡ ordering_then (nat_cmp (class_number t.tag_class) (class_number u.tag_class)) (nat_cmp t.tag_number u.tag_number) }
@@ -120,25 +120,25 @@ pub fn bit_discriminant(bit: PCBit) -> u8
     bit as u8
 }
 
-/// No identifier begins another, and an identifier tells the tag and whether the contents are constructed.
+/// No identifier begins another, and an identifier determines the tag and whether the contents are constructed.
 pub fn identifiers()
     ensures { IdentifiersAreUnambiguous }
 {}
 
-/// In each mode, no spelling of a length begins another, and a spelling tells the length.
+/// In each mode, no spelling of a length begins another, and a spelling determines the length.
 pub fn lengths()
     ensures { LengthsAreUnambiguous }
 {}
 
-/// In each mode, no primitive element begins another, and an element tells the tag and the contents.
+/// In each mode, no primitive element begins another, and an element determines the tag and the contents.
 pub fn elements()
     ensures { PrimitiveElementsAreUnambiguous }
 {}
 
-/// The simple types keep the laws of reading and of writing, under any tag but that of the end of contents.
+/// The simple types satisfy the laws of reading and of writing, under any tag but that of the end of contents.
 ///
 /// Reading: bytes encode one value at most, no encoding begins another, and what is read within some levels is read
-/// within more. Writing: DER and CER read a value from its one form there alone, BER reads both forms too, and what BER
+/// within more. Writing: DER and CER read a value from its one encoding there alone, BER reads both encodings too, and what BER
 /// reads has them.
 ///
 /// INTEGER keeps them in the signed types of each width, in the unsigned types of each count of bits, and as bytes of
@@ -153,14 +153,14 @@ pub fn simple_types()
     ensures object_identifier { OidKeepsLaws }
 {}
 
-/// The types of strings keep the laws of reading and of writing, as `simple_types` says them, however BER cuts a string
+/// The types of strings satisfy the laws of reading and of writing, as `simple_types` says them, however BER cuts a string
 /// into segments; CER cuts one that is longer than 1000 octets into segments, in one way.
 ///
-/// A bit string whose unused bits aren't zero has no form of its own: it is written as the canonical string of the same
-/// bits. A BMPString keeps the laws of writing where each surrogate has its partner; any other is only read, with U+FFFD
+/// A bit string whose unused bits aren't zero has no encoding of its own: it is written as the canonical string of the same
+/// bits. A BMPString satisfies the laws of writing where each surrogate has its partner; any other is only read, with U+FFFD
 /// in place of each surrogate that has none.
 ///
-/// Where reading a string would go too deep, no string stands.
+/// Where reading a string would go too deep, no string is there.
 pub fn strings()
     ensures octets { OctetsKeepLaws }
     ensures bits { BitsKeepLaws }
@@ -174,17 +174,17 @@ pub fn strings()
     ensures deep_bits { DeepIsNone bits_segmentation }
 {}
 
-/// Raw elements keep the laws of reading, whatever their lengths and however deep they nest. Where reading one meets an
-/// element that no level is left for, none stands.
+/// Raw elements satisfy the laws of reading, whatever their lengths and however deep they nest. Where reading one meets an
+/// element that no level is left for, none is there.
 pub fn raw_elements()
     ensures reading { RawKeepsReadingLaws }
     ensures depth { TooDeepIsNotRaw }
 {}
 
-/// SET keeps the laws of reading, under any tag but that of the end of contents.
+/// SET satisfies the laws of reading, under any tag but that of the end of contents.
 ///
-/// What a SET OF holds depends on its parts alone, and not on how they stood; and so does what a SET holds, where parts
-/// that begin with one tag are one. The contents that the parts of a SET make are one then, however they stood.
+/// What a SET OF holds depends on its parts alone, and not on how they were; and so does what a SET holds, where parts
+/// that begin with one tag are one. The contents that the parts of a SET make are one then, however they were.
 pub fn sets()
     ensures set { SetKeepsReadingLaws }
     ensures set_of_order { SetOfOrderIsOne }
@@ -203,38 +203,38 @@ pub fn oid_is_read_again(
     oid: &ObjectIdentifier,
 ) -> Result<ObjectIdentifier, ParseOidError>
     requires { 0 < length oid.now }
-    ensures { MatchResult result (λ again. again ≡ oid.now) (λ e. lacks_memory e ≡ true) }
+    ensures { MatchResult result (λ again. again ≡ oid.now) (λ e. ran_out_of_memory e ≡ true) }
 {
     are_small(oid.components());
     match oid.to_string(alloc) {
         Ok(text) => ObjectIdentifier::from_str(alloc, &text),
-        Err(_) => Err(ParseOidError::lack()),
+        Err(_) => Err(ParseOidError::out_of_memory_error()),
     }
 }
 
-/// Sets keep the laws of writing, under any tag but that of the end of contents, and SET OF those of reading too.
+/// Sets satisfy the laws of writing, under any tag but that of the end of contents, and SET OF those of reading too.
 ///
-/// A list of values is read from the forms of its items where these ascend, in their mode and in BER, and DER and CER read
-/// nothing else; so is a list of raw elements of DER or CER whose tags don't fall. Parts that are such forms make a set that is read as
-/// the same values in order, however the parts stood. Written again, what DER or CER read makes the same bytes: a SET OF however
-/// its parts stand, and so a SET where each tag has one element. Where two elements of a SET have one tag, it does so for
-/// parts that stand as they were read, if that tag's number is below 31.
+/// A list of values is read from the encodings of its items where these ascend, in their mode and in BER, and DER and CER read
+/// nothing else; so is a list of raw elements of DER or CER whose tags don't fall. Parts that are such encodings make a set that is read as
+/// the same values in order, however the parts were. Written again, what DER or CER read makes the same bytes: a SET OF however
+/// its parts are there, and so a SET where each tag has one element. Where two elements of a SET have one tag, it does so for
+/// parts that are as they were read, if that tag's number is below 31.
 ///
 /// SET OF keeps both for elements of any type that does: these clauses say so of three types, and `set_of_is_written` of
 /// the crate `yasna` says so of each that has its traits.
 pub fn sets_written()
-    ensures set_of_enumerated { SetOfKeepsLaws (Primitively (IsSigned w64)) integer_form leaf_nest (FitsSigned w64) }
-    ensures set_of_big_integer { SetOfKeepsLaws (Primitively IsBigInteger) big_integer_form leaf_nest CanBigInteger }
-    ensures set_of_octets { SetOfKeepsLaws IsOctets octets_form octets_nest IsBytes }
+    ensures set_of_enumerated { SetOfKeepsLaws (Primitively (IsSigned w64)) integer_encoding leaf_depth (FitsSigned w64) }
+    ensures set_of_big_integer { SetOfKeepsLaws (Primitively IsBigInteger) big_integer_encoding leaf_depth CanBigInteger }
+    ensures set_of_octets { SetOfKeepsLaws IsOctets octets_encoding octets_depth IsBytes }
     ensures set_of_raw { SetOfRawKeepsReadingLaws }
     ensures set { SetKeepsWritingLaws }
 {}
 
-/// SET OF keeps the laws of reading where its elements are of a type without traits: bit strings, texts of each class, and sets,
+/// SET OF satisfies the laws of reading where its elements are of a type without traits: bit strings, texts of each class, and sets,
 /// each under any tag but that of the end of contents.
 ///
 /// `set_of_sets_is_read` of the crate `yasna` says so of a SET OF values of a type with traits.
-pub fn sets_of_others()
+pub fn sets_of_other_types()
     ensures bits { SetOfKeepsReadingOf IsBits }
     ensures utf8 { SetOfKeepsReadingOf (IsStringOf (IsUtf8In InUtf8)) }
     ensures numeric { SetOfKeepsReadingOf (IsStringOf (IsUtf8In InNumeric)) }

@@ -1,10 +1,10 @@
-//! What ASN.1's basic encoding rules (X.690) mean: tags, modes and refusals as Rust types,
+//! What ASN.1's basic encoding rules (X.690) mean: tags, modes and errors as Rust types,
 //! and in `specs/` the grammar that the contracts of every crate above speak of.
 //!
 //! | Module | Holds |
 //! |---|---|
-//! | `bytes` | numbers in base 128 and identifiers at the front of bytes, and how encodings compare |
-//! | `error` | why a reading or a writing was refused |
+//! | `bytes` | numbers in base 128 and identifiers at the start of bytes, and how encodings compare |
+//! | `error` | why a reading or a writing was rejected |
 //! | `laws` | what is proved of the grammar itself |
 //! | `mode` | by which of the rules of X.690 bytes are read |
 //! | `models` | values of ASN.1 that Rust has no type for: object identifiers and raw elements |

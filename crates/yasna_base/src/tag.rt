@@ -16,7 +16,7 @@ pub enum TagClass {
     Universal = 0,
     /// Types of one application.
     Application,
-    /// Types told apart by the place where they stand.
+    /// Types distinguished by the place where they are.
     ContextSpecific,
     /// Types of one enterprise.
     Private,

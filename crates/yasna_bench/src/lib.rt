@@ -1,12 +1,12 @@
-//! Calls that a driver times: each does one piece of work with `yasna` and answers one number.
+//! Calls that a driver times: each does one piece of work with `yasna` and returns one number.
 //!
 //! `bench/` at the top of the repository holds the driver. Read values go into a checksum, so that no work can be left
-//! out; written bytes are answered by their length.
+//! out; written bytes are returned by their length.
 //!
 //! | Module | Holds |
 //! |---|---|
 //! | `reading` | calls that read numbers, pairs and nests |
-//! | `options` | calls that read parts that may be left out |
+//! | `options` | calls that read parts that may be omitted |
 //! | `writing` | calls that write them |
 //! | `sets` | calls that read and write SET OF |
 //! | `raw` | calls that read raw elements |
@@ -29,22 +29,22 @@ mod writing;
 
 use yasna::ASN1Result;
 
-// The answer of a call that was refused.
-const REFUSED: u64 = u64::MAX;
+// The answer of a call that was rejected.
+const REJECTED: u64 = u64::MAX;
 
-// The number that a call answers.
-fn answered(answer: ASN1Result<u64>) -> u64
-    ensures { MatchResult answer (λ number. result ≡ number) (λ _. result ≡ 2 ^ 64 - 1) }
+// The number that a call returns.
+fn number_of(outcome: ASN1Result<u64>) -> u64
+    ensures { MatchResult outcome (λ number. result ≡ number) (λ _. result ≡ 2 ^ 64 - 1) }
 {
-    match answer {
+    match outcome {
         Ok(number) => number,
-        Err(_) => REFUSED,
+        Err(_) => REJECTED,
     }
 }
 
 // The length that a call answers of what it wrote.
 fn length(written: ASN1Result<Vec<u8>>) -> u64 {
-    answered(written.map(|bytes| bytes.len() as u64))
+    number_of(written.map(|bytes| bytes.len() as u64))
 }
 
 // A checksum with one more number in it.

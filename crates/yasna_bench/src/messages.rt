@@ -1,15 +1,15 @@
 //! Calls that read and write certificates, as the types of `x509`.
 
-use crate::{answered, length, mixed};
+use crate::{length, mixed, number_of};
 use std::alloc::Global;
 use x509::Certificate;
-use yasna::{ASN1Result, DERExact, decode_der, encode_der, one_der_form, parse_der};
-use yasna_notation::{Notation, Noted};
+use yasna::{ASN1Result, DERExact, decode_der, encode_der, one_der_encoding, parse_der};
+use yasna_notation::{Encoded, Notation};
 
 /// The checksum of how many bits the signatures have of the certificates of a SEQUENCE OF.
 #[unsafe(no_mangle)]
 pub extern "C" fn yasna_read_certificates(alloc: Global, bytes: &[u8]) -> u64 {
-    answered(read(alloc, bytes).map(|certificates| bits_checksum(&certificates)))
+    number_of(read(alloc, bytes).map(|certificates| bits_checksum(&certificates)))
 }
 
 // Those certificates.
@@ -32,12 +32,12 @@ fn bits_checksum(certificates: &[Certificate]) -> u64 {
 /// The length of the certificates of a SEQUENCE OF, which are read and written again.
 #[unsafe(no_mangle)]
 pub extern "C" fn yasna_rewrite_certificates(alloc: Global, bytes: &[u8]) -> u64 {
-    length(rewritten::<Vec<Noted<Certificate>>>(alloc, bytes))
+    length(rewritten::<Vec<Encoded<Certificate>>>(alloc, bytes))
 }
 
 // A value, read and written again.
 fn rewritten<T: DERExact>(alloc: Global, bytes: &[u8]) -> ASN1Result<Vec<u8>> {
-    one_der_form::<T>();
+    one_der_encoding::<T>();
     let value: T = decode_der(alloc, bytes)?;
     encode_der(alloc, &value)
 }

@@ -2,7 +2,7 @@
 ghost use Rattle.yasna.specs.base.Oid.{IsEncodableOid};
 
 use crate::reading::of_parts;
-use crate::{REFUSED, length, mixed};
+use crate::{REJECTED, length, mixed};
 use std::alloc::Global;
 use yasna::models::ObjectIdentifier;
 use yasna::{ASN1Result, BERReaderSeq, DERWriterSeq, construct_der};
@@ -35,10 +35,10 @@ fn identifiers(seq: &mut BERReaderSeq, count: usize) -> ASN1Result<u64> {
 #[unsafe(no_mangle)]
 pub extern "C" fn yasna_write_identifiers(alloc: Global, components: &[u64], count: usize) -> u64 {
     let Ok(identifier) = ObjectIdentifier::from_slice(alloc, components) else {
-        return REFUSED;
+        return REJECTED;
     };
     if !identifier.is_encodable() {
-        return REFUSED;
+        return REJECTED;
     }
     length(construct_der(
         alloc,

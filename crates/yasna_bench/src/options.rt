@@ -1,14 +1,14 @@
-//! Calls that read ten parts that may be left out, each under a tag of its own.
+//! Calls that read ten parts that may be omitted, each under a tag of its own.
 ghost use Rattle.std.specs.Prelude.{◌≤◌};
 
-use crate::{answered, mixed};
+use crate::{mixed, number_of};
 use std::alloc::Global;
 use yasna::{ASN1Result, BERReaderSeq, Tag, parse_der};
 
-/// The checksum of ten numbers under explicit tags, by calls that are written one behind the other.
+/// The checksum of ten numbers under explicit tags, by calls that are written one after the other.
 #[unsafe(no_mangle)]
 pub extern "C" fn yasna_ten_explicit(alloc: Global, bytes: &[u8]) -> u64 {
-    answered(parse_der(alloc, bytes, |reader| {
+    number_of(parse_der(alloc, bytes, |reader| {
         reader.read_sequence(|parts| {
             let first = five_explicit(parts, 0)?;
             let second = five_explicit(parts, 5)?;
@@ -32,7 +32,7 @@ fn five_explicit(parts: &mut BERReaderSeq, tag: u64) -> ASN1Result<u64>
 /// The same under implicit tags.
 #[unsafe(no_mangle)]
 pub extern "C" fn yasna_ten_implicit(alloc: Global, bytes: &[u8]) -> u64 {
-    answered(parse_der(alloc, bytes, |reader| {
+    number_of(parse_der(alloc, bytes, |reader| {
         reader.read_sequence(|parts| {
             let first = five_implicit(parts, 0)?;
             let second = five_implicit(parts, 5)?;
@@ -56,7 +56,7 @@ fn five_implicit(parts: &mut BERReaderSeq, tag: u64) -> ASN1Result<u64>
 /// The checksum of ten numbers under explicit tags, by one call in a loop.
 #[unsafe(no_mangle)]
 pub extern "C" fn yasna_ten_explicit_looped(alloc: Global, bytes: &[u8]) -> u64 {
-    answered(parse_der(alloc, bytes, |reader| reader.read_sequence(explicit_looped)))
+    number_of(parse_der(alloc, bytes, |reader| reader.read_sequence(explicit_looped)))
 }
 
 // All ten. The callback is this loop's own.
@@ -75,7 +75,7 @@ fn explicit_looped(parts: &mut BERReaderSeq) -> ASN1Result<u64> {
 /// The same under implicit tags.
 #[unsafe(no_mangle)]
 pub extern "C" fn yasna_ten_implicit_looped(alloc: Global, bytes: &[u8]) -> u64 {
-    answered(parse_der(alloc, bytes, |reader| reader.read_sequence(implicit_looped)))
+    number_of(parse_der(alloc, bytes, |reader| reader.read_sequence(implicit_looped)))
 }
 
 // All ten. The callback is this loop's own.

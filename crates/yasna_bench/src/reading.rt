@@ -2,7 +2,7 @@
 ghost use Rattle.std.specs.Prelude.{◌≡◌, if◌then◌else◌};
 ghost use Rattle.yasna.specs.base.declared.mode.BERMode.TheVariants.{Ber, Der};
 
-use crate::{answered, length, mixed};
+use crate::{length, mixed, number_of};
 use std::alloc::Global;
 use yasna::{
     ASN1Result, BERMode, BERReader, BERReaderSeq, Tag, decode_ber_general, parse_ber_general,
@@ -22,7 +22,7 @@ where
     F: FnOnce(&mut BERReaderSeq, usize) -> ASN1Result<u64>,
     requires { F.IsAlwaysCallable read }
 {
-    answered(parse_ber_general(
+    number_of(parse_ber_general(
         alloc,
         bytes,
         mode(der),
@@ -33,7 +33,7 @@ where
 /// The checksum of a pair, decoded as a whole.
 #[unsafe(no_mangle)]
 pub extern "C" fn yasna_decode_pair(alloc: Global, bytes: &[u8], der: bool) -> u64 {
-    answered(decode_ber_general(alloc, bytes, mode(der)).map(pair_checksum))
+    number_of(decode_ber_general(alloc, bytes, mode(der)).map(pair_checksum))
 }
 
 // The checksum of a pair.
@@ -66,7 +66,7 @@ pub extern "C" fn yasna_list_integers(alloc: Global, bytes: &[u8], der: bool) ->
         mode(der),
         |reader| reader.collect_sequence_of(|item| item.read_i64()),
     );
-    answered(list.map(|numbers| list_checksum(&numbers)))
+    number_of(list.map(|numbers| list_checksum(&numbers)))
 }
 
 // The checksum of a list.
@@ -98,7 +98,7 @@ fn pairs(seq: &mut BERReaderSeq, count: usize) -> ASN1Result<u64> {
     Ok(checksum)
 }
 
-/// The checksum of so many pairs in a SEQUENCE, whose parts may be left out, behind one that is.
+/// The checksum of so many pairs in a SEQUENCE, whose parts may be omitted, after one that is.
 #[unsafe(no_mangle)]
 pub extern "C" fn yasna_read_options(alloc: Global, bytes: &[u8], count: usize, der: bool) -> u64 {
     of_parts(alloc, bytes, count, der, options)
@@ -147,23 +147,25 @@ pub extern "C" fn yasna_read_big_integer(alloc: Global, bytes: &[u8], der: bool)
 
 /// The checksum of the number in so many SEQUENCEs, one in the other.
 #[unsafe(no_mangle)]
-pub extern "C" fn yasna_read_nest(alloc: Global, bytes: &[u8], depth: usize, der: bool) -> u64 {
-    let number = parse_ber_general(alloc, bytes, mode(der), |reader| nest(reader, depth));
-    answered(number.map(|number| mixed(0, number)))
+pub extern "C" fn yasna_read_nested(alloc: Global, bytes: &[u8], depth: usize, der: bool) -> u64 {
+    let number = parse_ber_general(alloc, bytes, mode(der), |reader| nested(reader, depth));
+    number_of(number.map(|number| mixed(0, number)))
 }
 
 // The number in so many sequences.
-fn nest(reader: BERReader, depth: usize) -> ASN1Result<i64> {
+fn nested(reader: BERReader, depth: usize) -> ASN1Result<i64> {
     match depth.checked_sub(1) {
         None => reader.read_i64(),
-        Some(below) => reader.read_sequence(|seq| nest_within(seq, below)),
+        Some(below) => reader.read_sequence(|seq| nested_within(seq, below)),
     }
 }
 
 // The same in the contents of a sequence.
-fn nest_within(seq: &mut BERReaderSeq, depth: usize) -> ASN1Result<i64> {
+fn nested_within(seq: &mut BERReaderSeq, depth: usize) -> ASN1Result<i64> {
     match depth.checked_sub(1) {
         None => seq.next().read_i64(),
-        Some(below) => seq.next().read_sequence(|inner| nest_within(inner, below)),
+        Some(below) => seq
+            .next()
+            .read_sequence(|inner| nested_within(inner, below)),
     }
 }

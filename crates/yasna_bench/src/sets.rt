@@ -1,7 +1,7 @@
 //! Calls that read and write SET OF.
 
 use crate::reading::{list_checksum, mode};
-use crate::{answered, length};
+use crate::{length, number_of};
 use std::alloc::Global;
 use yasna::{ASN1Result, DERWriterSet, construct_der, parse_ber_general};
 
@@ -14,7 +14,7 @@ pub extern "C" fn yasna_read_set_of(alloc: Global, bytes: &[u8], der: bool) -> u
         mode(der),
         |reader| reader.collect_set_of(|item| item.read_i64()),
     );
-    answered(list.map(|numbers| list_checksum(&numbers)))
+    number_of(list.map(|numbers| list_checksum(&numbers)))
 }
 
 /// The length of a SET OF these numbers.

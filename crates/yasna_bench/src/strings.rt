@@ -2,7 +2,7 @@
 
 use crate::reading::{mode, of_parts};
 use crate::writing::of_written;
-use crate::{answered, length, mixed};
+use crate::{length, mixed, number_of};
 use simdutf8::basic::from_utf8;
 use std::alloc::Global;
 use yasna::{
@@ -54,7 +54,7 @@ fn texts(seq: &mut BERReaderSeq, count: usize) -> ASN1Result<u64> {
 #[unsafe(no_mangle)]
 pub extern "C" fn yasna_write_texts(alloc: Global, text: &[u8], count: usize) -> u64 {
     let Ok(text) = from_utf8(text) else {
-        return crate::REFUSED;
+        return crate::REJECTED;
     };
     of_written(alloc, text, count, write_texts)
 }
@@ -81,14 +81,14 @@ pub extern "C" fn yasna_read_bmp(alloc: Global, bytes: &[u8]) -> u64 {
 
 // The length that a call answers of a text that it read.
 fn text_length(read: ASN1Result<String>) -> u64 {
-    answered(read.map(|text| text.len() as u64))
+    number_of(read.map(|text| text.len() as u64))
 }
 
 /// The length of this text as a BMPString; none where it isn't UTF-8.
 #[unsafe(no_mangle)]
 pub extern "C" fn yasna_write_bmp(alloc: Global, text: &[u8]) -> u64 {
     let Ok(text) = from_utf8(text) else {
-        return crate::REFUSED;
+        return crate::REJECTED;
     };
     length(construct_der(alloc, |writer| writer.write_bmp_string(text)))
 }

@@ -2,7 +2,7 @@
 
 use crate::reading::of_parts;
 use crate::writing::of_written;
-use crate::{REFUSED, mixed};
+use crate::{REJECTED, mixed};
 use std::alloc::Global;
 use yasna::models::{GeneralizedTime, UTCTime};
 use yasna::{ASN1Result, BERReaderSeq, DERWriterSeq};
@@ -17,26 +17,26 @@ fn length_in(checksum: u64, text: &[u8]) -> u64 {
     mixed(checksum, (text.len() as u64).cast_signed())
 }
 
-/// The checksum of the seconds of UTCTimes, whose texts of 13 bytes stand one behind the other.
+/// The checksum of the seconds of UTCTimes, whose texts of 13 bytes are one after the other.
 #[unsafe(no_mangle)]
 pub extern "C" fn yasna_parse_utc_times(texts: &[u8]) -> u64 {
     let mut checksum = 0;
     for text in texts.chunks(13) {
         let Some(time) = UTCTime::parse(text) else {
-            return REFUSED;
+            return REJECTED;
         };
         checksum = second_in(checksum, time.datetime().second());
     }
     checksum
 }
 
-/// The checksum of the seconds of GeneralizedTimes, whose texts of 19 bytes stand one behind the other.
+/// The checksum of the seconds of GeneralizedTimes, whose texts of 19 bytes are one after the other.
 #[unsafe(no_mangle)]
 pub extern "C" fn yasna_parse_generalized_times(alloc: Global, texts: &[u8]) -> u64 {
     let mut checksum = 0;
     for text in texts.chunks(19) {
         let Ok(Some(time)) = GeneralizedTime::parse(alloc, text) else {
-            return REFUSED;
+            return REJECTED;
         };
         checksum = second_in(checksum, time.datetime().second());
     }
@@ -47,12 +47,12 @@ pub extern "C" fn yasna_parse_generalized_times(alloc: Global, texts: &[u8]) -> 
 #[unsafe(no_mangle)]
 pub extern "C" fn yasna_print_utc_times(alloc: Global, text: &[u8], count: usize) -> u64 {
     let Some(time) = UTCTime::parse(text) else {
-        return REFUSED;
+        return REJECTED;
     };
     let mut checksum = 0;
     for _ in 0..count {
         let Ok(text) = time.to_bytes(alloc) else {
-            return REFUSED;
+            return REJECTED;
         };
         checksum = length_in(checksum, text.as_slice());
     }
@@ -63,12 +63,12 @@ pub extern "C" fn yasna_print_utc_times(alloc: Global, text: &[u8], count: usize
 #[unsafe(no_mangle)]
 pub extern "C" fn yasna_print_generalized_times(alloc: Global, text: &[u8], count: usize) -> u64 {
     let Ok(Some(time)) = GeneralizedTime::parse(alloc, text) else {
-        return REFUSED;
+        return REJECTED;
     };
     let mut checksum = 0;
     for _ in 0..count {
         let Ok(text) = time.to_bytes(alloc) else {
-            return REFUSED;
+            return REJECTED;
         };
         checksum = length_in(checksum, text.as_slice());
     }
@@ -121,7 +121,7 @@ fn generalized_times(seq: &mut BERReaderSeq, count: usize) -> ASN1Result<u64> {
 #[unsafe(no_mangle)]
 pub extern "C" fn yasna_write_utc_times(alloc: Global, text: &[u8], count: usize) -> u64 {
     let Some(time) = UTCTime::parse(text) else {
-        return REFUSED;
+        return REJECTED;
     };
     of_written(alloc, &time, count, write_utc_times)
 }
@@ -138,7 +138,7 @@ fn write_utc_times(seq: &mut DERWriterSeq, time: &UTCTime, count: usize) -> ASN1
 #[unsafe(no_mangle)]
 pub extern "C" fn yasna_write_generalized_times(alloc: Global, text: &[u8], count: usize) -> u64 {
     let Ok(Some(time)) = GeneralizedTime::parse(alloc, text) else {
-        return REFUSED;
+        return REJECTED;
     };
     of_written(alloc, &time, count, write_generalized_times)
 }

@@ -78,24 +78,24 @@ fn pairs(seq: &mut DERWriterSeq, count: u32) -> ASN1Result<()> {
 
 /// The length of an INTEGER with these contents in so many SEQUENCEs, one in the other.
 #[unsafe(no_mangle)]
-pub extern "C" fn yasna_write_nest(alloc: Global, contents: &[u8], depth: usize) -> u64 {
-    length(construct_der(alloc, |writer| nest(writer, contents, depth)))
+pub extern "C" fn yasna_write_nested(alloc: Global, contents: &[u8], depth: usize) -> u64 {
+    length(construct_der(alloc, |writer| nested(writer, contents, depth)))
 }
 
 // Writes so many sequences around a number.
-fn nest(writer: DERWriter<'_>, contents: &[u8], depth: usize) -> ASN1Result<()> {
+fn nested(writer: DERWriter<'_>, contents: &[u8], depth: usize) -> ASN1Result<()> {
     match depth.checked_sub(1) {
         None => writer.write_bigint_bytes(contents, true),
-        Some(below) => writer.write_sequence(|seq| nest_within(seq, contents, below)),
+        Some(below) => writer.write_sequence(|seq| nested_within(seq, contents, below)),
     }
 }
 
 // The same in the contents of a sequence.
-fn nest_within(seq: &mut DERWriterSeq, contents: &[u8], depth: usize) -> ASN1Result<()> {
+fn nested_within(seq: &mut DERWriterSeq, contents: &[u8], depth: usize) -> ASN1Result<()> {
     match depth.checked_sub(1) {
         None => seq.next().write_bigint_bytes(contents, true),
         Some(below) => seq
             .next()
-            .write_sequence(|inner| nest_within(inner, contents, below)),
+            .write_sequence(|inner| nested_within(inner, contents, below)),
     }
 }

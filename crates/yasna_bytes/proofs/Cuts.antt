@@ -8,7 +8,7 @@ use Rattle.yasna_base.specs.declared.mode.BERMode.TheVariants.{Ber, Der, Cer}
 use Rattle.yasna_base.specs.Segmented.{Segmentation, FallsInto}
 use Rattle.yasna_base.specs.Segments.{AreSegments}
 use Rattle.yasna_bytes.specs.declared.bytes.segments.cuts.Cuts.{Cuts}
-use Rattle.yasna_bytes.specs.Segments.{AreCut, AsksFor, further_cut}
+use Rattle.yasna_bytes.specs.Segments.{AreCut, AcceptsCuts, further_cut}
 
 both : (a b : Bool) → IsTrue (a && b) ↔ (IsTrue a × IsTrue b)
 both true b = (λ h. (refl, h), λ h. h.1)
@@ -29,7 +29,7 @@ all_more P (c ∷ bs) b =
     let rest = all_more P bs b in
     (λ h. let i = rest.0 h.1 in ((h.0, i.0), i.1), λ h. (h.0.0, rest.1 (h.0.1, h.1)))
 
--- segments end by one that isn't empty and fits, behind full ones
+-- segments end by one that isn't empty and fits, after full ones
 segments_end : (k : ℕ) (bs : List (List ℕ)) (b : List ℕ) →
     AreSegments k (bs ++ (b ∷ [])) ↔ (AllByRecursion (λ c. length c ≡ k) bs × (1 ≤ length b) × (length b ≤ k))
 segments_end k [] b = (λ h. (tt, h.0, h.1), λ h. (h.1, h.2))
@@ -88,7 +88,7 @@ module _ {A : Type 0} (k : Segmentation A) (vs : List A) (c : Cuts) (w : A) (n :
   }
 
 -- a mode takes segments where it takes how they are cut
-pub asked_cut : {A : Type 0} (k : Segmentation A) (m : BERMode) (vs : List A) (c : Cuts) → AreCut k vs c → AsksFor m c ↔ FallsInto m k.full (map k.bytes vs)
-asked_cut k Ber vs c x = (λ h. tt, λ h. tt)
-asked_cut k Der vs c x = (λ h. tt, λ h. tt)
-asked_cut k Cer vs c x = x.even
+pub accepted_cut : {A : Type 0} (k : Segmentation A) (m : BERMode) (vs : List A) (c : Cuts) → AreCut k vs c → AcceptsCuts m c ↔ FallsInto m k.full (map k.bytes vs)
+accepted_cut k Ber vs c x = (λ h. tt, λ h. tt)
+accepted_cut k Der vs c x = (λ h. tt, λ h. tt)
+accepted_cut k Cer vs c x = x.even

@@ -60,8 +60,8 @@ pub not_eight : (m : BERMode) (c : List ℕ) → 8 < length c → (v : ℤ) → 
 not_eight m c l v h = too_far c h.integer.in_bytes h.integer.minimal l (subst (λ z. FitsSigned w64 z) (sym h.integer.number) h.in_type)
 
 -- At most eight bytes are one.
-pub says_signed : (m : BERMode) (c : List ℕ) (v : ℤ) → IsBytes c → IsMinimal c → length c ≤ 8 → v ≡ twos c → IsSigned w64 m v c
-says_signed m c v b k l e = record {
+pub encodes_signed : (m : BERMode) (c : List ℕ) (v : ℤ) → IsBytes c → IsMinimal c → length c ≤ 8 → v ≡ twos c → IsSigned w64 m v c
+encodes_signed m c v b k l e = record {
   integer = record { in_bytes = b; minimal = k; number = sym e };
   in_type = subst (λ z. FitsSigned w64 z) (sym e) (eight_fit c b l);
 }
@@ -74,7 +74,7 @@ twos_signed (x ∷ xs) l = elim (cases_lt x 128) [
   | inr h ↦ rw (le-ltb x 128 h) (sym (twos_negative x xs h))
 ]
 
--- A further byte behind the first i.
+-- A further byte after the first i.
 pub signed_more : (p : Bool) (c : List ℕ) (i : ℕ) → i < length c →
     signed_number p (take (i + 1) c) ≡ signed_number p (take i c) *ℤ pos 256 +ℤ pos (get_or c i 0)
 signed_more true c i h = let m = number_more 256 c i h in omega (arith, ints)
@@ -154,9 +154,9 @@ not_unsigned k m [] h v u = omega arith
 not_unsigned k m (x ∷ xs) h v u = let e = sym (negative_is x xs u.integer.in_bytes h) ∙ u.integer.number in absurd (cc)
 
 -- Without it they are the unsigned number that they spell.
-pub says_unsigned : (k : ℕ) (m : BERMode) (c : List ℕ) (n : ℕ) → IsBytes c → IsMinimal c → get_or c 0 0 < 128 → n ≡ number_from_digits 256 c → n < 2 ^ k →
+pub encodes_unsigned : (k : ℕ) (m : BERMode) (c : List ℕ) (n : ℕ) → IsBytes c → IsMinimal c → get_or c 0 0 < 128 → n ≡ number_from_digits 256 c → n < 2 ^ k →
     IsUnsigned k m n c
-says_unsigned k m c n b i h e l = record {
+encodes_unsigned k m c n b i h e l = record {
   integer = record { in_bytes = b; minimal = i; number = positive_is c h ∙ ap pos (sym e) };
   in_type = l;
 }
@@ -189,8 +189,8 @@ sign_small : (p : Bool) (d : ℕ) → (p ≡ true → d ≡ 0) → (p ≡ false 
 sign_small true d f g = let e = f refl in omega arith
 sign_small false d f g = let e = g refl in omega arith
 
-step_in_front : (p : Bool) (c : List ℕ) (b d : ℕ) → b < 8 → (p ≡ true → d ≡ 0) → (p ≡ false → d ≡ 255) → Step p c b d
-step_in_front p c b d n f g =
+step_in_prefix : (p : Bool) (c : List ℕ) (b d : ℕ) → b < 8 → (p ≡ true → d ≡ 0) → (p ≡ false → d ≡ 255) → Step p c b d
+step_in_prefix p c b d n f g =
     let e : 0 ≡ b - 8 = omega arith in
     let h : 0 ≡ b + 1 - 8 = omega arith in
     record {
@@ -204,7 +204,7 @@ pub step_of_eight : (c : List ℕ) (b d : ℕ) → IsBytes c → length c ≤ 8 
     (b < 8 → get_or c 0 0 < 128 → d ≡ 0) → (b < 8 → 128 ≤ get_or c 0 0 → d ≡ 255) → (8 ≤ b → d ≡ get_or c (b - 8) 0) →
     Step (nat_lt (get_or c 0 0) 128) c b d
 step_of_eight c b d y l h k f g j = elim (cases_lt b 8) [
-  | inl n ↦ step_in_front (nat_lt (get_or c 0 0) 128) c b d n (λ e. f n (ltb-true (get_or c 0 0) 128 e)) (λ e. g n (ltb-false (get_or c 0 0) 128 e))
+  | inl n ↦ step_in_prefix (nat_lt (get_or c 0 0) 128) c b d n (λ e. f n (ltb-true (get_or c 0 0) 128 e)) (λ e. g n (ltb-false (get_or c 0 0) 128 e))
   | inr n ↦
       let p = nat_lt (get_or c 0 0) 128 in
       let e : b - 8 + 1 ≡ b + 1 - 8 = omega arith in
@@ -217,7 +217,7 @@ step_of_eight c b d y l h k f g j = elim (cases_lt b 8) [
       }
 ]
 
--- No bytes stand for 0 or -1, by the sign of the number that they begin.
+-- No bytes represent 0 or -1, by the sign of the number that they begin.
 pub start_is : (x : ℕ) (z : ℤ) → (x < 128 → z ≡ pos 0) → (128 ≤ x → z ≡ negsuc 0) → z ≡ signed_number (nat_lt x 128) []
 start_is x z f g = elim (cases_lt x 128) [
   | inl h ↦ let e = f h in rw (lt-ltb x 128 h) (omega (arith, ints))

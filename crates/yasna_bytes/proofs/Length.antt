@@ -8,12 +8,12 @@ use Rattle.yasna_base.specs.declared.mode.BERMode.TheVariants.{Ber, Der, Cer}
 use Rattle.yasna_base.specs.Canonical.{IsCanonicalMode}
 use Rattle.yasna_base.specs.Digits.{IsBytes}
 use Rattle.yasna_base.specs.Length.{SpellsLength}
-use Rattle.yasna_base.proofs.Lists.{fronts_same}
-use Rattle.yasna_base.proofs.Length.{small, large, length_front, not_empty, short_spells, long_spells}
+use Rattle.yasna_base.proofs.Lists.{prefixes_same}
+use Rattle.yasna_base.proofs.Length.{small, large, length_prefix, not_empty, short_spells, long_spells}
 use Rattle.yasna_bytes.specs.Length.{Measures, TakesSpelling, SpellsDigits}
-use Rattle.yasna_base.proofs.Digits.{bytes_front}
+use Rattle.yasna_base.proofs.Digits.{bytes_prefix}
 
--- no length stands where nothing is left
+-- no length is where nothing is left
 pub nothing_measured : (m : BERMode) (s : List ℕ) → s ≡ [] → (k : Option ℕ) (r : List ℕ) → Measures m s k r → ⊥
 nothing_measured m s e None r w = let f = sym e ∙ w in cc
 nothing_measured m s e (Some k) r w = not_empty m k w.0 r w.1 (sym e ∙ w.2)
@@ -32,11 +32,11 @@ spelling_takes Ber ds k h e = absurd e
 spelling_takes Der ds k h e = h
 spelling_takes Cer ds k h e = h
 
--- behind a first byte above 128 no length stands unless as many digits spell it
+-- after a first byte above 128 no length is unless as many digits spell it
 pub not_counted : (m : BERMode) (x : ℕ) (s y : List ℕ) → s ≡ x ∷ y → 128 < x →
     ((ds r : List ℕ) (k : ℕ) → length ds ≡ x - 128 → y ≡ ds ++ r → SpellsDigits m ds k → x < 255 → ⊥) → (k : Option ℕ) (r : List ℕ) → Measures m s k r → ⊥
 not_counted m x s y e h f None r w = let g = sym e ∙ w in let i : x ≡ 128 = cc in omega arith
-not_counted m x s y e h f (Some k) r w = elim (length_front m x y k w.0 r w.1 (sym e ∙ w.2)) [
+not_counted m x s y e h f (Some k) r w = elim (length_prefix m x y k w.0 r w.1 (sym e ∙ w.2)) [
   | small i j ↦ omega arith
   | large ds q i j l n o b t ↦ f ds q k (omega arith) n (record { number = o; in_range = b; taken = takes_spelling m ds k t }) (omega arith)
 ]
@@ -49,7 +49,7 @@ too_few m x s y e h l = not_counted m x s y e h (λ ds r k i j z b. omega (arith
 pub not_spelled : (m : BERMode) (x : ℕ) (s y d a : List ℕ) → s ≡ x ∷ y → 128 < x → length d ≡ x - 128 → y ≡ d ++ a →
     ((k : ℕ) → SpellsDigits m d k → ⊥) → (k : Option ℕ) (r : List ℕ) → Measures m s k r → ⊥
 not_spelled m x s y d a e h l j f = not_counted m x s y e h (λ ds r k i n z b.
-    let c = (fronts_same ds d r a (i ∙ sym l) (sym n ∙ j)).0 in
+    let c = (prefixes_same ds d r a (i ∙ sym l) (sym n ∙ j)).0 in
     f k (subst (λ q. SpellsDigits m q k) c z))
 
 -- digits that pass 2^64 - 1 spell none
@@ -66,7 +66,7 @@ pub counted_measured : (m : BERMode) (x : ℕ) (s y d r : List ℕ) (k : ℕ) �
 counted_measured m x s y d r k b e h g n i z =
     let c : x ≡ 128 + length d = omega arith in
     let j : s ≡ ((128 + length d) ∷ d) ++ r = e ∙ ap (λ q. q ∷ y) c ∙ ap (λ q. (128 + length d) ∷ q) i in
-    let o : IsBytes d = bytes_front d r (subst IsBytes (e ∙ ap (λ q. x ∷ q) i) b).1 in
+    let o : IsBytes d = bytes_prefix d r (subst IsBytes (e ∙ ap (λ q. x ∷ q) i) b).1 in
     let P : ℕ → Type 0 = λ q. SpellsLength m q ((128 + length d) ∷ d) in
     let w = z.in_range in
     let v = z.number in (
@@ -94,7 +94,7 @@ digits_measured m x y d a (Some k) b h g l j f =
     let i : drop (x - 128) y ≡ a = ap (λ q. drop q y) (sym l) ∙ ap (λ z. drop (length d) z) j ∙ drop-append_seam d a in
     (omega (arith, l, ap length j), subst (λ z. Measures m (x ∷ y) (Some k) z) (sym i) (counted_measured m x (x ∷ y) y d a k b refl h g l j f))
 
--- nothing stands there as a length, of whatever form
+-- nothing is there as a length, of whatever form
 pub none_measured : (m : BERMode) (x : ℕ) (y : List ℕ) → (x ≡ 128 → ⊥) → ((k : ℕ) (r : List ℕ) → Measures m (x ∷ y) (Some k) r → ⊥) →
     (k : Option ℕ) (r : List ℕ) → Measures m (x ∷ y) k r → ⊥
 none_measured m x y n f None r w = let e : x ≡ 128 = cc in n e

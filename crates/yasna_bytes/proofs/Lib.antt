@@ -1,4 +1,4 @@
-pub mod Refusal
+pub mod Rejection
 pub mod Length
 pub mod Header
 pub mod Oid

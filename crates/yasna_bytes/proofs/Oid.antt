@@ -44,23 +44,23 @@ reads_all s old new rest i e =
     (i.numbers, record { small = i.small; joined = i.joined ∙ ap (λ z. flat_map base128 i.numbers ++ z) e ∙ append-nil _ }, i.appended)
 
 -- of numbers that begin others the rest are numbers
-numbers_behind : (ks ls r : List ℕ) → flat_map base128 ks ++ r ≡ flat_map base128 ls → AllByRecursion (λ n. n < 2 ^ 64) ls →
+numbers_after : (ks ls r : List ℕ) → flat_map base128 ks ++ r ≡ flat_map base128 ls → AllByRecursion (λ n. n < 2 ^ 64) ls →
     (ms : List ℕ) × AreNumbers ms r
-numbers_behind [] ls r e a = (ls, record { small = a; joined = e })
-numbers_behind (k ∷ ks) [] r e a = absurd (not_empty k (flat_map base128 ks ++ r) (sym (append_assoc (base128 k) (flat_map base128 ks) r) ∙ e))
-numbers_behind (k ∷ ks) (l ∷ ls) r e a =
+numbers_after [] ls r e a = (ls, record { small = a; joined = e })
+numbers_after (k ∷ ks) [] r e a = absurd (not_empty k (flat_map base128 ks ++ r) (sym (append_assoc (base128 k) (flat_map base128 ks) r) ∙ e))
+numbers_after (k ∷ ks) (l ∷ ls) r e a =
     let w = base128_exact k l (flat_map base128 ks ++ r) (flat_map base128 ls)
     (sym (append_assoc (base128 k) (flat_map base128 ks) r) ∙ e) in
-    numbers_behind ks ls r w.1 a.1
+    numbers_after ks ls r w.1 a.1
 
 no_number_ends : (ms r : List ℕ) → AreNumbers ms r → 0 < length r → ((n : ℕ) (y : List ℕ) → n < 2 ^ 64 → r ≡ base128 n ++ y → ⊥) → ⊥
 no_number_ends [] r x some h = omega (arith, some, ap length x.joined)
 no_number_ends (m ∷ ms) r x some h = h m (flat_map base128 ms) x.small.0 x.joined
 
--- no number stands where something is left
+-- no number is where something is left
 pub reads_none : (s old new rest : List ℕ) → AreReadSo s old new rest → 0 < length rest → ((n : ℕ) (y : List ℕ) → n < 2 ^ 64 → rest ≡ base128 n ++ y → ⊥) →
     (ks : List ℕ) → AreNumbers ks s → ⊥
-reads_none s old new rest i some h ks x = let w = numbers_behind i.numbers ks rest (sym i.joined ∙ x.joined) x.small in no_number_ends w.0 rest w.1 some h
+reads_none s old new rest i some h ks x = let w = numbers_after i.numbers ks rest (sym i.joined ∙ x.joined) x.small in no_number_ends w.0 rest w.1 some h
 
 -- what follows a number is shorter than with it
 pub shorter : (k : ℕ) (rest more : List ℕ) → rest ≡ base128 k ++ more → length more < length rest

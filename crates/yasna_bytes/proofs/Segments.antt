@@ -10,13 +10,13 @@ use Rattle.yasna_base.specs.Identifier.{AtEnd, BeginsWithTag}
 use Rattle.yasna_base.specs.Pieces.{Each}
 use Rattle.yasna_base.proofs.Segmented.{SegmentsOnce, segmented_begins, segmented_starts, segmented_exact, deep_begins, deep_not_segmented}
 use Rattle.yasna_base.proofs.Identifier.{begins_some, begins_with}
-use Rattle.yasna_base.proofs.Pieces.{NoFront, no_front_at_end, pieces_further, pieces_append, one_piece}
-use Rattle.yasna_bytes.specs.declared.bytes.header.Refusal.{Refusal}
-use Rattle.yasna_bytes.specs.Refusal.{BlamesBytes, IsElsewhere, nothing}
+use Rattle.yasna_base.proofs.Pieces.{NoPrefix, no_prefix_at_end, pieces_further, pieces_append, one_piece}
+use Rattle.yasna_bytes.specs.declared.bytes.header.Rejection.{Rejection}
+use Rattle.yasna_bytes.specs.Rejection.{BlamesBytes, IsElsewhere, nothing}
 use Rattle.yasna_bytes.specs.declared.bytes.segments.cuts.Cuts.{Cuts}
-use Rattle.yasna_bytes.specs.Segments.{GoOn, HoldsBytes, Adds, further_cut, AreCut, LeadTo, MakeUpTo, IsDeepWithin, SegmentsRead, ReadsUpTo, TakesSegments, Appends, RefusesSegments, TakesString, RefusesString}
+use Rattle.yasna_bytes.specs.Segments.{GoOn, HoldsBytes, Adds, further_cut, AreCut, LeadTo, MakeUpTo, IsDeepWithin, SegmentsRead, ReadsUpTo, TakesSegments, Appends, RejectsSegments, TakesString, RejectsString}
 use Rattle.yasna_bytes.proofs.Cuts.{none_cut, further_is_cut}
-use Rattle.yasna_bytes.proofs.Refusal.{plain_not_deep, at_end_elsewhere, begins_not_elsewhere}
+use Rattle.yasna_bytes.proofs.Rejection.{blames_not_depth, at_end_elsewhere, begins_not_elsewhere}
 
 -- segments that say ws and then y go on where those that say vs stopped, or stop there
 data GoesOn {A : Type 0} (R : A → List ℕ → Type 0) (vs ws : List A) (x y : List ℕ) : Type 0 where
@@ -31,18 +31,18 @@ goes_on R vs ws (w ∷ us) [] x y p f e = absurd p
 goes_on R vs ws (w ∷ us) (b ∷ bs) x y p f e = goes w us b (concat bs ++ y) f p.0 (e ∙ append_assoc b (concat bs) y)
 
 leads_on : {A : Type 0} {R : A → List ℕ → Type 0} → ((v w : A) (b c r s : List ℕ) → R v b → R w c → b ++ r ≡ c ++ s → (v ≡ w) × (b ≡ c)) →
-    (c : List ℕ) (vs ws : List A) (x y : List ℕ) → LeadTo R c vs x → LeadTo R c ws y → NoFront R y → GoesOn R vs ws x y
+    (c : List ℕ) (vs ws : List A) (x y : List ℕ) → LeadTo R c vs x → LeadTo R c ws y → NoPrefix R y → GoesOn R vs ws x y
 leads_on {R} exact c vs ws x y f g none =
-    let i = pieces_further exact vs ws f.front g.front x y f.pieces g.pieces none (sym f.joined ∙ g.joined) in
+    let i = pieces_further exact vs ws f.prefix g.prefix x y f.pieces g.pieces none (sym f.joined ∙ g.joined) in
     goes_on R vs ws i.values i.pieces.pieces x y i.pieces.each i.all (i.joined ∙ ap (λ z. z ++ y) i.pieces.joined)
 
 -- a further segment
 lead_more : {A : Type 0} (R : A → List ℕ → Type 0) (c : List ℕ) (vs : List A) (y : List ℕ) (v : A) (b r : List ℕ) → LeadTo R c vs y → R v b → y ≡ b ++ r →
     LeadTo R c (vs ++ (v ∷ [])) r
 lead_more R c vs y v b r f p e = record {
-  front = f.front ++ b;
-  pieces = pieces_append vs (v ∷ []) f.front b f.pieces (one_piece v b p);
-  joined = f.joined ∙ ap (λ z. f.front ++ z) e ∙ sym (append_assoc f.front b r);
+  prefix = f.prefix ++ b;
+  pieces = pieces_append vs (v ∷ []) f.prefix b f.pieces (one_piece v b p);
+  joined = f.joined ∙ ap (λ z. f.prefix ++ z) e ∙ sym (append_assoc f.prefix b r);
 }
 
 module _ {A : Type 0} {k : Segmentation A} (once : SegmentsOnce k) (n : ℕ) (m : BERMode) (c : List ℕ) where
@@ -51,7 +51,7 @@ module _ {A : Type 0} {k : Segmentation A} (once : SegmentsOnce k) (n : ℕ) (m 
   segment_not_elsewhere v b r y p e = begins_not_elsewhere (subst (λ z. BeginsWithTag k.segment z) (sym e)
       (begins_with k.segment b r (segmented_begins k n m k.segment v b p)))
 
-  -- where segments that go on behind vs make no value, contents end nowhere but there
+  -- where segments that go on after vs make no value, contents end nowhere but there
   pub record OneEnd (vs ws : List A) (y z : List ℕ) : Type 0 where
     pub same : z ≡ y
     pub values : ws ≡ vs
@@ -64,7 +64,7 @@ module _ {A : Type 0} {k : Segmentation A} (once : SegmentsOnce k) (n : ℕ) (m 
       (z : List ℕ) (e : MakeUpTo k n m c z) → OneEnd vs e.values y z
   one_end vs y f none z e =
       elim (leads_on (segmented_exact once n n m k.segment) c vs e.values y z f e.lead
-      (no_front_at_end (λ v b. segmented_starts k n m k.segment v b once.segment) z e.at_end)) [
+      (no_prefix_at_end (λ v b. segmented_starts k n m k.segment v b once.segment) z e.at_end)) [
         | stops g h ↦
             record {
               same = sym h;
@@ -76,12 +76,12 @@ module _ {A : Type 0} {k : Segmentation A} (once : SegmentsOnce k) (n : ℕ) (m 
         | goes w us b r g p h ↦ absurd (none w us e.value b r p h (subst (λ ws. k.join m ws e.value) g e.join))
       ]
 
-  -- nor does too deep a segment stand elsewhere
+  -- nor is too deep a segment elsewhere
   one_deep : (vs : List A) (y : List ℕ) → LeadTo (IsSegmented k n m k.segment) c vs y →
       ((w : A) (us : List A) (b r : List ℕ) → IsSegmented k n m k.segment w b → y ≡ b ++ r → k.more (vs ++ (w ∷ us)) → ⊥) →
       IsDeepWithin k n m c → k.more vs × IsDeepSegmented k n m k.segment y
   one_deep vs y f none d =
-      let g : LeadTo (IsSegmented k n m k.segment) c d.values d.rest = record { front = d.front; pieces = d.pieces; joined = d.joined } in
+      let g : LeadTo (IsSegmented k n m k.segment) c d.values d.rest = record { prefix = d.prefix; pieces = d.pieces; joined = d.joined } in
       elim (leads_on (segmented_exact once n n m k.segment) c vs d.values y d.rest f g (deep_not_segmented once n m k.segment d.rest d.deep)) [
         | stops h i ↦ (subst k.more (sym h) d.more, subst (IsDeepSegmented k n m k.segment) (sym i) d.deep)
         | goes w us b r h p i ↦ absurd (none w us b r p i (subst k.more h d.more))
@@ -99,7 +99,7 @@ module _ {A T : Type 0} {k : Segmentation A} {value : List ℕ → T → A} (onc
     values = [];
     bytes = [];
     holds = record {
-      lead = record { front = []; pieces = record { pieces = []; each = tt; joined = refl }; joined = refl };
+      lead = record { prefix = []; pieces = record { pieces = []; each = tt; joined = refl }; joined = refl };
       join = j;
       cut = subst (AreCut k []) (sym e) (none_cut k);
     };
@@ -114,7 +114,7 @@ module _ {A T : Type 0} {k : Segmentation A} {value : List ℕ → T → A} (onc
     values = h.values ++ (value t.bytes s ∷ []);
     bytes = h.bytes ++ t.bytes;
     holds = record {
-      lead = lead_more (IsSegmented k n m k.segment) c h.values y (value t.bytes s) t.takes.front r h.holds.lead t.takes.member t.takes.joined;
+      lead = lead_more (IsSegmented k n m k.segment) c h.values y (value t.bytes s) t.takes.prefix r h.holds.lead t.takes.member t.takes.joined;
       join = a m h.values h.bytes t.bytes h.holds.join more;
       cut =
           let size : length out'' - length out' ≡ length (k.bytes (value t.bytes s)) =
@@ -128,10 +128,10 @@ module _ {A T : Type 0} {k : Segmentation A} {value : List ℕ → T → A} (onc
   -- fewer bytes are left behind it
   pub reached_shorter : (s : T) (y r out out' : List ℕ) → TakesString k value n m k.segment y out s r out' → length r < length y
   reached_shorter s y r out out' t =
-      let i = begins_some k.segment t.takes.front (segmented_begins k n m k.segment (value t.bytes s) t.takes.front t.takes.member) in
-      omega (arith, ap length t.takes.joined, length-append t.takes.front r)
+      let i = begins_some k.segment t.takes.prefix (segmented_begins k n m k.segment (value t.bytes s) t.takes.prefix t.takes.member) in
+      omega (arith, ap length t.takes.joined, length-append t.takes.prefix r)
 
-  -- reading stops where no segment stands
+  -- reading stops where no segment is there
   pub stops_elsewhere : (s : SegmentsRead A T) (y : List ℕ) → ReadsUpTo k value n m c s y → IsElsewhere k.segment y → TakesSegments k value n m c s y
   stops_elsewhere s y h f = record {
     read = h;
@@ -148,20 +148,20 @@ module _ {A T : Type 0} {k : Segmentation A} {value : List ℕ → T → A} (onc
     not_deep = λ d. f (one_deep once n m c s.values y h.lead (λ w us b r p g j. f (go_on.more s.values us w j)) d).0;
   }
 
-  -- a segment is refused
-  pub segment_refused : (s : SegmentsRead A T) (y : List ℕ) (e : Refusal) → ReadsUpTo k value n m c s y → k.more s.values → RefusesString k n m k.segment y e →
-      e.moved ≡ true → RefusesSegments k n m c e
-  segment_refused s y e h more f o =
-      let there : IsElsewhere k.segment y → ⊥ = λ g. let i = f.moved.1 g in absurd (cc) in
-      let none : (e.kind ≡ OutOfMemory → ⊥) → NoFront (IsSegmented k n m k.segment) y =
-      λ q w b r p g. f.none q (w, r, record { front = b; joined = g; member = p }) in
+  -- a segment is rejected
+  pub segment_rejected : (s : SegmentsRead A T) (y : List ℕ) (e : Rejection) → ReadsUpTo k value n m c s y → k.more s.values → RejectsString k n m k.segment y e →
+      e.consumed ≡ true → RejectsSegments k n m c e
+  segment_rejected s y e h more f o =
+      let there : IsElsewhere k.segment y → ⊥ = λ g. let i = f.consumed.1 g in absurd (cc) in
+      let none : (e.kind ≡ OutOfMemory → ⊥) → NoPrefix (IsSegmented k n m k.segment) y =
+      λ q w b r p g. f.none q (w, r, record { prefix = b; joined = g; member = p }) in
       record {
         none = λ q z i. there (at_end_elsewhere k.segment y once.segment (one_end once n m c s.values y h.lead
             (λ w us v b r p g _. none q w b r p g) z i).at_end);
-        moved = o;
+        consumed = o;
         too_deep = λ i. record {
           values = s.values;
-          front = h.lead.front;
+          prefix = h.lead.prefix;
           rest = y;
           pieces = h.lead.pieces;
           more = more;
@@ -169,7 +169,7 @@ module _ {A T : Type 0} {k : Segmentation A} {value : List ℕ → T → A} (onc
           deep = f.too_deep i;
         };
         deep = λ q d. f.deep q (one_deep once n m c s.values y h.lead (λ w us b r p g _. none q w b r p g) d).1;
-        not_empty = λ i. there (nothing (no_rest h.lead.front y (sym h.lead.joined ∙ i)));
+        not_empty = λ i. there (nothing (no_rest h.lead.prefix y (sym h.lead.joined ∙ i)));
       }
     where
       no_rest : (a b : List ℕ) → a ++ b ≡ [] → b ≡ []
@@ -177,23 +177,23 @@ module _ {A T : Type 0} {k : Segmentation A} {value : List ℕ → T → A} (onc
       no_rest (x ∷ a) b e = absurd (cc)
 
   -- a segment was read of which too much is known with the others
-  pub segment_too_much : (x s : T) (u : Cuts) (y r out out' out'' : List ℕ) (q : ASN1ErrorKind) (e : Refusal) → Reached k value n m c x u y out out' →
-      TakesString k value n m k.segment y out' s r out'' → Adds k value x s (Err q) → e.kind ≡ q → e.moved ≡ true → RefusesSegments k n m c e
+  pub segment_too_much : (x s : T) (u : Cuts) (y r out out' out'' : List ℕ) (q : ASN1ErrorKind) (e : Rejection) → Reached k value n m c x u y out out' →
+      TakesString k value n m k.segment y out' s r out'' → Adds k value x s (Err q) → e.kind ≡ q → e.consumed ≡ true → RejectsSegments k n m c e
   segment_too_much x s u y r out out' out'' q e h t a f o =
       let w = value t.bytes s in
       let vs = h.values ++ (w ∷ []) in
-      let lead = lead_more (IsSegmented k n m k.segment) c h.values y w t.takes.front r h.holds.lead t.takes.member t.takes.joined in
+      let lead = lead_more (IsSegmented k n m k.segment) c h.values y w t.takes.prefix r h.holds.lead t.takes.member t.takes.joined in
       let none : (us : List A) → ((v : A) → k.join m (h.values ++ (w ∷ us)) v → ⊥) × (k.more (h.values ++ (w ∷ us)) → ⊥) =
       λ us. a.1 m h.values us h.bytes t.bytes h.holds.join in
-      let plain : BlamesBytes e.kind = subst BlamesBytes (sym f) a.0 in
+      let blames_bytes : BlamesBytes e.kind = subst BlamesBytes (sym f) a.0 in
       record {
         none = λ _ z i. let j = one_end once n m c vs r lead (λ u us v b x p g l.
             (none (u ∷ us)).0 v (subst (λ ws. k.join m ws v) (append_assoc h.values (w ∷ []) (u ∷ us)) l)) z i in
             (none []).0 j.value j.join;
-        moved = o;
-        too_deep = λ i. absurd (plain_not_deep plain i);
+        consumed = o;
+        too_deep = λ i. absurd (blames_not_depth blames_bytes i);
         deep = λ _ d. absurd ((none []).1 (one_deep once n m c vs r lead (λ u us b x p g l.
             (none (u ∷ us)).1 (subst k.more (append_assoc h.values (w ∷ []) (u ∷ us)) l)) d).0);
         not_empty = λ i. let j = reached_shorter s y r out' out'' t in
-            omega (arith, ap length i, ap length h.holds.lead.joined, length-append h.holds.lead.front y);
+            omega (arith, ap length i, ap length h.holds.lead.joined, length-append h.holds.lead.prefix y);
       }

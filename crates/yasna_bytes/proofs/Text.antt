@@ -22,15 +22,15 @@ use Rattle.yasna_base.proofs.Segmented.{segmented_zero, segmented_into, segmente
 use Rattle.yasna_base.proofs.Identifier.{begins_some, begins_with}
 use Rattle.yasna_base.proofs.Octets.{octets_once}
 use Rattle.yasna_base.proofs.Texts.{utf8_means, utf8_only, class_means, class_only, class_utf8, numeric_below, printable_below, ia5_below, visible_below}
-use Rattle.yasna_bytes.specs.declared.bytes.header.Refusal.{Refusal}
+use Rattle.yasna_bytes.specs.declared.bytes.header.Rejection.{Rejection}
 use Rattle.yasna_bytes.specs.declared.bytes.text.Class.{Class}
 use Rattle.yasna_bytes.specs.declared.bytes.text.Class.TheVariants.{Utf8, Numeric, Printable, Ia5, Visible, Bmp}
-use Rattle.yasna_bytes.specs.Contents.{WantsMemory}
-use Rattle.yasna_bytes.specs.Front.{Takes, Stands}
-use Rattle.yasna_bytes.specs.Refusal.{BlamesBytes, Refuses}
-use Rattle.yasna_bytes.specs.Text.{Judges, SaysText, MayHold, Utf8At}
-use Rattle.yasna_bytes.proofs.Contents.{element_wants}
-use Rattle.yasna_bytes.proofs.Refusal.{plain_not_deep, plain_not_memory, begins_not_elsewhere, refuses_less}
+use Rattle.yasna_bytes.specs.Contents.{MayAllocate}
+use Rattle.yasna_bytes.specs.Prefix.{Takes, HasPrefix}
+use Rattle.yasna_bytes.specs.Rejection.{BlamesBytes, Rejects}
+use Rattle.yasna_bytes.specs.Text.{Judges, SpellsText, MayHold, Utf8At}
+use Rattle.yasna_bytes.proofs.Contents.{element_may_allocate}
+use Rattle.yasna_bytes.proofs.Rejection.{blames_not_depth, blames_not_memory, begins_not_elsewhere, rejects_less}
 
 -- no segments but none at all make up nothing
 no_pieces : (n : ℕ) (m : BERMode) (vs bs : List (List ℕ)) → Each (IsOctets n m octets_tag) vs bs → concat bs ≡ [] → concat vs ≡ []
@@ -42,53 +42,53 @@ no_pieces n m (v ∷ vs) (b ∷ bs) p e =
     absurd (omega (arith, ap length e, length-append b (concat bs)))
 
 -- a string with octets has contents
-octets_want : (n : ℕ) (m : BERMode) (t : Tag) (s v r : List ℕ) → Takes (IsOctets n m t) s v r → (v ≡ [] → ⊥) → WantsMemory n t s
-octets_want zero m t s v r x h = absurd (segmented_zero octets_segmentation m t v x.front x.member)
-octets_want (suc n) m t s v r x h = elim (segmented_into octets_segmentation n m t v x.front x.member) [
-  | whole c y w a ↦ element_wants (suc n) m t Primitive s c x.front r (omega arith) (λ e. h (w ∙ e)) y x.joined
+octets_may_allocate : (n : ℕ) (m : BERMode) (t : Tag) (s v r : List ℕ) → Takes (IsOctets n m t) s v r → (v ≡ [] → ⊥) → MayAllocate n t s
+octets_may_allocate zero m t s v r x h = absurd (segmented_zero octets_segmentation m t v x.prefix x.member)
+octets_may_allocate (suc n) m t s v r x h = elim (segmented_into octets_segmentation n m t v x.prefix x.member) [
+  | whole c y w a ↦ element_may_allocate (suc n) m t Primitive s c x.prefix r (omega arith) (λ e. h (w ∙ e)) y x.joined
   | in_segments g c vs y p j a ↦
-      element_wants (suc n) m t Constructed s c x.front r (omega arith) (λ e. h (j ∙ no_pieces n (segment_mode m) vs p.pieces p.each (sym p.joined ∙ e))) y
+      element_may_allocate (suc n) m t Constructed s c x.prefix r (omega arith) (λ e. h (j ∙ no_pieces n (segment_mode m) vs p.pieces p.each (sym p.joined ∙ e))) y
       x.joined
 ]
 
 octets_begin : (n : ℕ) (m : BERMode) (t : Tag) (s v r : List ℕ) → Takes (IsOctets n m t) s v r → BeginsWithTag t s
 octets_begin n m t s v r x =
-    subst (λ z. BeginsWithTag t z) (sym x.joined) (begins_with t x.front r (segmented_begins octets_segmentation n m t v x.front x.member))
+    subst (λ z. BeginsWithTag t z) (sym x.joined) (begins_with t x.prefix r (segmented_begins octets_segmentation n m t v x.prefix x.member))
 
 -- octets were read that say nothing, or for whose value there is no memory
-pub said_refused : {A : Type 0} (K : BERMode → A → List ℕ → Type 0) (n : ℕ) (m : BERMode) (t : Tag) (s o r : List ℕ) (e : Refusal) →
-    Takes (IsOctets n m t) s o r → ((e.kind ≡ OutOfMemory) × (o ≡ [] → ⊥)) ⊎ (BlamesBytes e.kind × ((v : A) → K m v o → ⊥)) → e.moved ≡ true →
-    Refuses (Stands (IsStringOf K n m t) s) (IsDeepOctets n m t s) (WantsMemory n t s) t s e
-said_refused K n m t s o r e x (inl h) f = record {
+pub judged_rejected : {A : Type 0} (K : BERMode → A → List ℕ → Type 0) (n : ℕ) (m : BERMode) (t : Tag) (s o r : List ℕ) (e : Rejection) →
+    Takes (IsOctets n m t) s o r → ((e.kind ≡ OutOfMemory) × (o ≡ [] → ⊥)) ⊎ (BlamesBytes e.kind × ((v : A) → K m v o → ⊥)) → e.consumed ≡ true →
+    Rejects (HasPrefix (IsStringOf K n m t) s) (IsDeepOctets n m t s) (MayAllocate n t s) t s e
+judged_rejected K n m t s o r e x (inl h) f = record {
   none = λ q. absurd (q h.0);
-  moved = (λ g. absurd (cc), λ g. absurd (begins_not_elsewhere (octets_begin n m t s o r x) g));
+  consumed = (λ g. absurd (cc), λ g. absurd (begins_not_elsewhere (octets_begin n m t s o r x) g));
   too_deep = λ g. let i = h.0 in absurd (cc);
   deep = λ q. absurd (q h.0);
-  memory = λ _. octets_want n m t s o r x h.1;
+  memory = λ _. octets_may_allocate n m t s o r x h.1;
 }
-said_refused K n m t s o r e x (inr h) f = record {
+judged_rejected K n m t s o r e x (inr h) f = record {
   none = λ _ w.
       let y = w.2.member in
-      let same = (segmented_exact octets_once n n m t o y.octets x.front w.2.front r w.1 x.member y.string (sym x.joined ∙ w.2.joined)).0 in
+      let same = (segmented_exact octets_once n n m t o y.octets x.prefix w.2.prefix r w.1 x.member y.string (sym x.joined ∙ w.2.joined)).0 in
       h.1 w.0 (subst (K m w.0) (sym same) y.meaning);
-  moved = (λ g. absurd (cc), λ g. absurd (begins_not_elsewhere (octets_begin n m t s o r x) g));
-  too_deep = λ g. absurd (plain_not_deep h.0 g);
-  deep = λ _ d. absurd (deep_not_segmented octets_once n m t s d o x.front r x.member x.joined);
-  memory = λ g. absurd (plain_not_memory h.0 g);
+  consumed = (λ g. absurd (cc), λ g. absurd (begins_not_elsewhere (octets_begin n m t s o r x) g));
+  too_deep = λ g. absurd (blames_not_depth h.0 g);
+  deep = λ _ d. absurd (deep_not_segmented octets_once n m t s d o x.prefix r x.member x.joined);
+  memory = λ g. absurd (blames_not_memory h.0 g);
 }
 
--- where no octet string stands, none does that says a value
-pub octets_refused : {A : Type 0} (K : BERMode → A → List ℕ → Type 0) (n : ℕ) (m : BERMode) (t : Tag) (s : List ℕ) (D M : Type 0) (e : Refusal) →
-    Refuses (Stands (IsOctets n m t) s) D M t s e → Refuses (Stands (IsStringOf K n m t) s) D M t s e
-octets_refused K n m t s D M e x = refuses_less (Stands (IsOctets n m t) s) (Stands (IsStringOf K n m t) s) D M t s e (λ w.
+-- where no octet string is there, none is that says a value
+pub octets_rejected : {A : Type 0} (K : BERMode → A → List ℕ → Type 0) (n : ℕ) (m : BERMode) (t : Tag) (s : List ℕ) (D M : Type 0) (e : Rejection) →
+    Rejects (HasPrefix (IsOctets n m t) s) D M t s e → Rejects (HasPrefix (IsStringOf K n m t) s) D M t s e
+octets_rejected K n m t s D M e x = rejects_less (HasPrefix (IsOctets n m t) s) (HasPrefix (IsStringOf K n m t) s) D M t s e (λ w.
     let y = w.2 in
-    (y.member.octets, w.1, record { front = y.front; joined = y.joined; member = y.member.string })) x
+    (y.member.octets, w.1, record { prefix = y.prefix; joined = y.joined; member = y.member.string })) x
 
 ascii_spells : (In : ℕ → Type 0) → ((c : ℕ) → In c → c < 128) → (m : BERMode) (o : List ℕ) → AllByRecursion In o → IsUtf8In In m (chars o) o
 ascii_spells In below m o h = subst (λ z. IsUtf8In In m z o) (sym (class_utf8 In below o h).1) (class_means In below m o h)
 
 -- octets of a class that are UTF-8 spell their characters
-pub class_spells : (k : Class) (m : BERMode) (o : List ℕ) → (k ≡ Bmp → ⊥) → MayHold k o → IsUtf8 o → SaysText k m (chars o) o
+pub class_spells : (k : Class) (m : BERMode) (o : List ℕ) → (k ≡ Bmp → ⊥) → MayHold k o → IsUtf8 o → SpellsText k m (chars o) o
 class_spells Utf8 m o h i u = utf8_means m o u
 class_spells Numeric m o h i u = ascii_spells InNumeric numeric_below m o i
 class_spells Printable m o h i u = ascii_spells InPrintable printable_below m o i
@@ -97,7 +97,7 @@ class_spells Visible m o h i u = ascii_spells InVisible visible_below m o i
 class_spells Bmp m o h i u = absurd (h refl)
 
 -- octets spell a text of a class only where the class may hold them
-pub class_holds : (k : Class) (m : BERMode) (text o : List ℕ) → SaysText k m text o → MayHold k o
+pub class_holds : (k : Class) (m : BERMode) (text o : List ℕ) → SpellsText k m text o → MayHold k o
 class_holds Utf8 m text o x = tt
 class_holds Numeric m text o x = (class_only InNumeric numeric_below m text o x).1
 class_holds Printable m text o x = (class_only InPrintable printable_below m text o x).1
@@ -106,7 +106,7 @@ class_holds Visible m text o x = (class_only InVisible visible_below m text o x)
 class_holds Bmp m text o x = x.even
 
 -- and are UTF-8
-pub class_in_utf8 : (k : Class) (m : BERMode) (text o : List ℕ) → (k ≡ Bmp → ⊥) → SaysText k m text o → IsUtf8 o
+pub class_in_utf8 : (k : Class) (m : BERMode) (text o : List ℕ) → (k ≡ Bmp → ⊥) → SpellsText k m text o → IsUtf8 o
 class_in_utf8 Utf8 m text o h x = (utf8_only InUtf8 m text o x).0
 class_in_utf8 Numeric m text o h x = (utf8_only InNumeric m text o x).0
 class_in_utf8 Printable m text o h x = (utf8_only InPrintable m text o x).0
@@ -115,15 +115,15 @@ class_in_utf8 Visible m text o h x = (utf8_only InVisible m text o x).0
 class_in_utf8 Bmp m text o h x = absurd (h refl)
 
 -- octets that the class may not hold spell no text
-pub class_refused : (k : Class) (m : BERMode) (o : List ℕ) → (MayHold k o → ⊥) → Judges (SaysText k m) characters o (Err Invalid)
-class_refused k m o h = inr (tt, λ v x. h (class_holds k m v o x))
+pub class_rejected : (k : Class) (m : BERMode) (o : List ℕ) → (MayHold k o → ⊥) → Judges (SpellsText k m) characters o (Err Invalid)
+class_rejected k m o h = inr (tt, λ v x. h (class_holds k m v o x))
 
 -- what a string spells whose bytes the octets are
 pub utf8_judged : (k : Class) (m : BERMode) (o : List ℕ) (r : Result (String Global) ASN1ErrorKind) → (k ≡ Bmp → ⊥) → MayHold k o → Utf8At o r →
-    Judges (SaysText k m) characters o r
+    Judges (SpellsText k m) characters o r
 utf8_judged k m o (Ok text) h i e =
     let u : IsUtf8 o = subst IsUtf8 e (IsUtf8-string_bytes text) in
-    subst (λ b. SaysText k m (chars b) o) (sym e) (class_spells k m o h i u)
+    subst (λ b. SpellsText k m (chars b) o) (sym e) (class_spells k m o h i u)
 utf8_judged k m o (Err f) h i (inl x) = inl x
 utf8_judged k m o (Err f) h i (inr x) = inr (x.0, λ v y. x.1 (class_in_utf8 k m v o h y))
 
@@ -135,23 +135,23 @@ made_of s text e = chars_from_encodes text (string_bytes s) (IsUtf8-string_bytes
 abbrev ArePair : ℕ → ℕ → Type 0
 ArePair u v = (0xD800 ≤ u) × (u < 0xDC00) × (0xDC00 ≤ v) × (v < 0xE000)
 
--- a unit that has no partner, and is no surrogate, is its own character; a surrogate stands for U+FFFD
-spelled_alone : (u : ℕ) (us : List ℕ) → (ArePair u (get_or us 0 0) → ⊥) →
+-- a unit that has no partner, and is no surrogate, is its own character; a surrogate represents U+FFFD
+spelled_by_itself : (u : ℕ) (us : List ℕ) → (ArePair u (get_or us 0 0) → ⊥) →
     utf16_lossy_chars (u ∷ us) ≡ unwrap_or (lone_unit_char u) 0xFFFD ∷ utf16_lossy_chars us
-spelled_alone u us apart = ap (λ cs. map (λ o. unwrap_or o 0xFFFD) cs) (utf16_chars_lone u us apart)
+spelled_by_itself u us unambiguous = ap (λ cs. map (λ o. unwrap_or o 0xFFFD) cs) (utf16_chars_lone u us unambiguous)
 
 pub spelled_itself : (u : ℕ) (us : List ℕ) → (u < 0xD800) ⊎ (0xE000 ≤ u) → utf16_lossy_chars (u ∷ us) ≡ u ∷ utf16_lossy_chars us
-spelled_itself u us (inl below) = spelled_alone u us (λ p. omega (arith, below, p.0)) ∙ rw (lt-leb 0xD800 u below)
-spelled_itself u us (inr from) = spelled_alone u us (λ p. omega (arith, from, p.1)) ∙ rw (le-leb 0xD800 u (omega (arith, from)), le-ltb u 0xE000 from)
+spelled_itself u us (inl below) = spelled_by_itself u us (λ p. omega (arith, below, p.0)) ∙ rw (lt-leb 0xD800 u below)
+spelled_itself u us (inr from) = spelled_by_itself u us (λ p. omega (arith, from, p.1)) ∙ rw (le-leb 0xD800 u (omega (arith, from)), le-ltb u 0xE000 from)
 
 pub spelled_unpaired : (u : ℕ) (us : List ℕ) → 0xD800 ≤ u → u < 0xE000 → (ArePair u (get_or us 0 0) → ⊥) →
     utf16_lossy_chars (u ∷ us) ≡ 0xFFFD ∷ utf16_lossy_chars us
-spelled_unpaired u us from below apart = spelled_alone u us apart ∙ rw (le-leb 0xD800 u from, lt-ltb u 0xE000 below)
+spelled_unpaired u us from below unambiguous = spelled_by_itself u us unambiguous ∙ rw (le-leb 0xD800 u from, lt-ltb u 0xE000 below)
 
 pub spelled_pair : (u v : ℕ) (us : List ℕ) → ArePair u v → utf16_lossy_chars (u ∷ v ∷ us) ≡ surrogate_pair_char u v ∷ utf16_lossy_chars us
 spelled_pair u v us pair = ap (λ cs. map (λ o. unwrap_or o 0xFFFD) cs) (utf16_chars_pair u v us pair)
 
--- the first of units, and those behind it
+-- the first of units, and those after it
 pub units_first : (o : List ℕ) → 2 ≤ length o → units o ≡ (256 * get_or o 0 0 + get_or o 1 0) ∷ units (take (length o - 2) (drop 2 o))
 units_first [] l = absurd (omega (arith, l))
 units_first (x ∷ []) l = absurd (omega (arith, l))
@@ -169,7 +169,7 @@ value_or (Some x) P v d s i = s.1
 
 -- what units of UTF-16 spell
 pub bmp_judged : (k : Class) (m : BERMode) (o : List ℕ) (r : Result (String Global) ASN1ErrorKind) → k ≡ Bmp → MayHold k o →
-    MatchResult r (λ text. characters text ≡ utf16_lossy_chars (units o)) (λ e. (e ≡ OutOfMemory) × (o ≡ [] → ⊥)) → Judges (SaysText k m) characters o r
+    MatchResult r (λ text. characters text ≡ utf16_lossy_chars (units o)) (λ e. (e ≡ OutOfMemory) × (o ≡ [] → ⊥)) → Judges (SpellsText k m) characters o r
 bmp_judged Utf8 m o r e h x = absurd (cc)
 bmp_judged Numeric m o r e h x = absurd (cc)
 bmp_judged Printable m o r e h x = absurd (cc)

@@ -9,7 +9,7 @@ use Rattle.yasna_base.specs.declared.error.ASN1ErrorKind.TheVariants.{StackOverf
 use Rattle.yasna_base.specs.Header.{ContentsEnd, definite_end, indefinite_end, OpensAt}
 use Rattle.yasna_base.specs.Element.{TakesIndefinite}
 use Rattle.yasna_base.specs.Identifier.{identifier}
-use Rattle.yasna_base.specs.Raw.{LooksInto, LooksUpTo}
+use Rattle.yasna_base.specs.Raw.{DescendsInto, DescendsUpTo}
 use Rattle.yasna_base.specs.declared.tag.PCBit.{PCBit}
 use Rattle.yasna_base.specs.declared.tag.Tag.{Tag}
 use Rattle.yasna_base.proofs.Identifier.{identifier_some}
@@ -17,7 +17,7 @@ use Rattle.yasna_bytes.specs.Header.{EndsBefore, NoEnd}
 use Rattle.yasna_bytes.specs.Walk.{Passes, Enters, EndsWithin, Stops, ClosesBefore, MeetsDeep, NotWalked, TakesEnd, IsWalked, following, follows}
 use Rattle.yasna_bytes.proofs.WalkSteps.{before_here, before_first, left_closes, left_deep, passed_closes, passed_deep, entered, entered_more, entered_not_end, entered_deep, deep_entered, closed_stops, deep_stops, stops_deep}
 
--- from s on the innermost elements end, one behind the other, and a follows the outermost
+-- from s on the innermost elements end, one after the other, and a follows the outermost
 abbrev pub AllClose : BERMode → List ContentsEnd → ℕ → List ℕ → List ℕ → Type 0
 AllClose m [] n s a = s ≡ a
 AllClose m (e ∷ es) n s a = (r : List ℕ) × ClosesBefore n m e s r × AllClose m es (suc n) r a
@@ -58,7 +58,7 @@ same_left m e es n s r x = record {
   );
 }
 
--- an element isn't looked into
+-- an element isn't descended into
 same_passed : (m : BERMode) (e : ContentsEnd) (es : List ContentsEnd) (n : ℕ) (s r : List ℕ) → Passes m (suc n) s r →
     Same m (e ∷ es) (suc n) s (e ∷ es) (suc n) r
 same_passed m e es n s r x = record {
@@ -170,15 +170,15 @@ alike_no_end indefinite_end (definite_end b) s x o r y = absurd x
 alike_no_end indefinite_end indefinite_end s x o r y = o r y
 
 -- a mode walks contents that end in one way
-looks_not_taken : (m : BERMode) (p q : PCBit) → LooksInto m p → TakesIndefinite m q → ⊥
-looks_not_taken Ber p q x y = x
-looks_not_taken Der p q x y = y
-looks_not_taken Cer p q x y = absurd x
+descends_not_taken : (m : BERMode) (p q : PCBit) → DescendsInto m p → TakesIndefinite m q → ⊥
+descends_not_taken Ber p q x y = x
+descends_not_taken Der p q x y = y
+descends_not_taken Cer p q x y = absurd x
 
-one_way : (m : BERMode) (p q : PCBit) (e f : ContentsEnd) → TakesEnd m p e → LooksUpTo m p e → TakesEnd m q f → LooksUpTo m q f → AreAlike e f
+one_way : (m : BERMode) (p q : PCBit) (e f : ContentsEnd) → TakesEnd m p e → DescendsUpTo m p e → TakesEnd m q f → DescendsUpTo m q f → AreAlike e f
 one_way m p q (definite_end a) (definite_end b) t x u y = tt
-one_way m p q (definite_end a) indefinite_end t x u y = absurd (looks_not_taken m p q x u)
-one_way m p q indefinite_end (definite_end b) t x u y = absurd (looks_not_taken m q p y t)
+one_way m p q (definite_end a) indefinite_end t x u y = absurd (descends_not_taken m p q x u)
+one_way m p q indefinite_end (definite_end b) t x u y = absurd (descends_not_taken m q p y t)
 one_way m p q indefinite_end indefinite_end t x u y = tt
 
 pub opens_taken : (m : BERMode) (t : Tag) (p : PCBit) (s c : List ℕ) (e : ContentsEnd) → OpensAt m t p s c e → TakesEnd m p e
@@ -186,7 +186,7 @@ opens_taken m t p s c (definite_end r) x = tt
 opens_taken m t p s c indefinite_end x = x.taken
 
 entered_alike : (m : BERMode) (n : ℕ) (e : ContentsEnd) (s c : List ℕ) (f : ContentsEnd) → IsWalked m e → Enters m n s c f → AreAlike e f
-entered_alike m n e s c f w x = one_way m w.0 x.bit e f w.1 w.2 (opens_taken m x.tag x.bit s c f x.opened.opens) x.looks
+entered_alike m n e s c f w x = one_way m w.0 x.bit e f w.1 w.2 (opens_taken m x.tag x.bit s c f x.opened.opens) x.descends
 
 -- where contents end, what is left and what follows them is what follows the element
 ends_before : (e f : ContentsEnd) (s r : List ℕ) → AreAlike e f → EndsWithin e s r → EndsBefore f s (r ++ following f)
@@ -199,17 +199,17 @@ pub ends_outermost : (e : ContentsEnd) (s r : List ℕ) → EndsWithin e s r →
 ends_outermost (definite_end z) s r x = (x.0, refl)
 ends_outermost indefinite_end s r x = x
 
-ends_front : (e : ContentsEnd) (s r : List ℕ) → EndsWithin e s r → (p : List ℕ) × (s ≡ p ++ r)
-ends_front (definite_end a) s r x = ([], x.0 ∙ sym x.1)
-ends_front indefinite_end s r x = (0 ∷ 0 ∷ [], x)
+ends_prefix : (e : ContentsEnd) (s r : List ℕ) → EndsWithin e s r → (p : List ℕ) × (s ≡ p ++ r)
+ends_prefix (definite_end a) s r x = ([], x.0 ∙ sym x.1)
+ends_prefix indefinite_end s r x = (0 ∷ 0 ∷ [], x)
 
--- a header of a byte at least stands in front of contents
-opens_front : (m : BERMode) (t : Tag) (p : PCBit) (s c : List ℕ) (f : ContentsEnd) → OpensAt m t p s c f →
+-- a header of a byte at least is before contents
+opens_prefix : (m : BERMode) (t : Tag) (p : PCBit) (s c : List ℕ) (f : ContentsEnd) → OpensAt m t p s c f →
     (h : List ℕ) × (1 ≤ length h) × (s ≡ h ++ (c ++ following f))
-opens_front m t p s c (definite_end r) x =
+opens_prefix m t p s c (definite_end r) x =
     let i = length-append (identifier t p) x.l in
     (identifier t p ++ x.l, omega (arith, identifier_some t p), x.joined ∙ sym (append_assoc (identifier t p) x.l (c ++ r)))
-opens_front m t p s c indefinite_end x =
+opens_prefix m t p s c indefinite_end x =
     let h = identifier t p ++ (128 ∷ []) in
     let i = length-append (identifier t p) (128 ∷ []) in (
       h,
@@ -218,15 +218,15 @@ opens_front m t p s c indefinite_end x =
     )
 
 -- the first bytes and the last, by how many the last are
-take_front : (s x y : List ℕ) (k : ℕ) → s ≡ x ++ y → length y ≡ k → take (length s - k) s ≡ x
-take_front s x y k e f =
+take_prefix : (s x y : List ℕ) (k : ℕ) → s ≡ x ++ y → length y ≡ k → take (length s - k) s ≡ x
+take_prefix s x y k e f =
     let g = ap length e in
     let i = length-append x y in
     let j : length s - k ≡ length x = omega arith in
     ap (λ n. take n s) j ∙ ap (λ z. take (length x) z) e ∙ take-append_seam x y
 
-drop_front : (s x y : List ℕ) (k : ℕ) → s ≡ x ++ y → length y ≡ k → drop (length s - k) s ≡ y
-drop_front s x y k e f =
+drop_prefix : (s x y : List ℕ) (k : ℕ) → s ≡ x ++ y → length y ≡ k → drop (length s - k) s ≡ y
+drop_prefix s x y k e f =
     let g = ap length e in
     let i = length-append x y in
     let j : length s - k ≡ length x = omega arith in
@@ -235,11 +235,11 @@ drop_front s x y k e f =
 -- the element that ends by inner is the outermost one, which ends by e
 pub record IsOutermost (e : ContentsEnd) (after : List ℕ) (inner : ContentsEnd) (around : List ContentsEnd) : Type 0 where
   pub same : inner ≡ e
-  pub alone : around ≡ []
+  pub single : around ≡ []
   -- nothing follows its contents within the outermost one
   pub nothing : after ≡ []
 
--- the element that ends by inner, with k levels left in its contents, stands in the next one around it, of which Encloses holds
+-- the element that ends by inner, with k levels left in its contents, is in the next one around it, of which Encloses holds
 pub record IsEnclosed (Encloses : List ℕ → ContentsEnd → List ContentsEnd → Type 0) (e : ContentsEnd) (table : List ℕ) (k : ℕ) (after : List ℕ)
     (inner : ContentsEnd) (around : List ContentsEnd) : Type 0 where
   pub alike : AreAlike e inner
@@ -249,7 +249,7 @@ pub record IsEnclosed (Encloses : List ℕ → ContentsEnd → List ContentsEnd 
   pub ends : around ≡ next ∷ further
   -- what follows the next one's contents within the outermost one
   pub left : List ℕ
-  -- behind the element's contents stand its end of contents, if it has one, and what is left in the next one
+  -- after the element's contents are its end of contents, if it has one, and what is left in the next one
   pub follows : after ≡ following inner ++ left
   -- the table says, by the levels left in the element's contents, how many bytes follow the next one's
   pub counted : length left ≡ get_or table k 0
@@ -284,7 +284,7 @@ encloses_other e table i k (suc d) b r f fs l x =
     }
 
 -- a place in a walk, of which r is left in the innermost element, and what follows that within the outermost
-pub record Walking (m : BERMode) (e : ContentsEnd) (n : ℕ) (s : List ℕ) (table : List ℕ) (behind k : ℕ) (r : List ℕ) : Type 0 where
+pub record Walking (m : BERMode) (e : ContentsEnd) (n : ℕ) (s : List ℕ) (table : List ℕ) (trailing k : ℕ) (r : List ℕ) : Type 0 where
   pub depth : ℕ
   pub deep : depth + k ≡ n
   pub before : List ℕ
@@ -292,7 +292,7 @@ pub record Walking (m : BERMode) (e : ContentsEnd) (n : ℕ) (s : List ℕ) (tab
   pub inner : ContentsEnd
   pub around : List ContentsEnd
   pub joined : s ≡ before ++ (r ++ after)
-  pub counts : length after ≡ behind
+  pub counts : length after ≡ trailing
   pub encloses : EnclosesContents e table k depth after inner around
   pub same : Same m (e ∷ []) n s (inner ∷ around) k r
 
@@ -306,7 +306,7 @@ walking_start m e n s table = record {
   around = [];
   joined = sym (append-nil s);
   counts = refl;
-  encloses = record { same = refl; alone = refl; nothing = refl };
+  encloses = record { same = refl; single = refl; nothing = refl };
   same = same_start m (e ∷ []) n s;
 }
 
@@ -318,16 +318,16 @@ less_is : (d : ℕ) → 1 ≤ d → d ≡ suc (d - 1)
 less_is d l = omega arith
 
 -- what a turn there keeps
-module _ {m : BERMode} {e : ContentsEnd} {n : ℕ} {s : List ℕ} {table : List ℕ} {behind k : ℕ} {r : List ℕ} (w : Walking m e n s table behind k r) where
+module _ {m : BERMode} {e : ContentsEnd} {n : ℕ} {s : List ℕ} {table : List ℕ} {trailing k : ℕ} {r : List ℕ} (w : Walking m e n s table trailing k r) where
   joins : (p x : List ℕ) → r ≡ p ++ x → s ≡ (w.before ++ p) ++ (x ++ w.after)
   joins p x f =
       w.joined ∙ ap (λ z. w.before ++ (z ++ w.after)) f ∙ ap (λ z. w.before ++ z) (append_assoc p x w.after) ∙ sym (append_assoc w.before p (x ++ w.after))
 
-  rest_counts : (x : List ℕ) → length (x ++ w.after) ≡ behind + length x
+  rest_counts : (x : List ℕ) → length (x ++ w.after) ≡ trailing + length x
   rest_counts x = let j = length-append x w.after in omega (arith, w.counts)
 
-  rest_is : (p x : List ℕ) → r ≡ p ++ x → drop (length s - (behind + length x)) s ≡ x ++ w.after
-  rest_is p x f = drop_front s (w.before ++ p) (x ++ w.after) (behind + length x) (joins p x f) (rest_counts x)
+  rest_is : (p x : List ℕ) → r ≡ p ++ x → drop (length s - (trailing + length x)) s ≡ x ++ w.after
+  rest_is p x f = drop_prefix s (w.before ++ p) (x ++ w.after) (trailing + length x) (joins p x f) (rest_counts x)
 
   module _ {o : BERMode} {j : ℕ} {h : List ℕ} (mode : o ≡ m) (levels : j ≡ k) (is : h ≡ r) where
     ends_in : (a : List ℕ) → EndsWithin e h a → EndsWithin e r a
@@ -340,12 +340,12 @@ module _ {m : BERMode} {e : ContentsEnd} {n : ℕ} {s : List ℕ} {table : List 
     enters_in c f x = subst (λ z. Enters m k z c f) is (subst (λ i. Enters m i h c f) levels (subst (λ p. Enters p j h c f) mode x))
 
     pub left_fits : (a : List ℕ) → EndsWithin e h a → length a ≤ length r
-    left_fits a x = let p = ends_front e r a (ends_in a x) in let i = length-append p.0 a in omega (arith, ap length p.1)
+    left_fits a x = let p = ends_prefix e r a (ends_in a x) in let i = length-append p.0 a in omega (arith, ap length p.1)
 
     pub passed_fits : (a : List ℕ) → Passes o j h a → length a < length r
     passed_fits a x =
         let y = passes_in a x in
-        let p = opens_front m y.tag y.bit r y.contents (definite_end a) y.opened.opens in
+        let p = opens_prefix m y.tag y.bit r y.contents (definite_end a) y.opened.opens in
         let i = length-append p.0 (y.contents ++ a) in
         let i' = length-append y.contents a in
         omega (arith, p.1, ap length p.2)
@@ -353,7 +353,7 @@ module _ {m : BERMode} {e : ContentsEnd} {n : ℕ} {s : List ℕ} {table : List 
     pub entered_fits : (c : List ℕ) (f : ContentsEnd) → Enters o j h c f → length (following f) + length c < length r
     entered_fits c f x =
         let y = enters_in c f x in
-        let p = opens_front m y.tag y.bit r c f y.opened.opens in
+        let p = opens_prefix m y.tag y.bit r c f y.opened.opens in
         let i = length-append p.0 (c ++ following f) in
         let i' = length-append c (following f) in
         omega (arith, p.1, ap length p.2)
@@ -363,23 +363,23 @@ module _ {m : BERMode} {e : ContentsEnd} {n : ℕ} {s : List ℕ} {table : List 
         let i : w.depth ≡ 0 = omega (arith, w.deep, z) in
         let y = subst (λ d. EnclosesContents e table k d w.after w.inner w.around) i w.encloses in
         let b = subst (λ f. Same m (e ∷ []) n s (f ∷ w.around) k r) y.same w.same in
-        let c = subst (λ fs. Same m (e ∷ []) n s (e ∷ fs) k r) y.alone b in
+        let c = subst (λ fs. Same m (e ∷ []) n s (e ∷ fs) k r) y.single b in
         walked m e n (suc k) s a (same_then m (e ∷ []) (e ∷ []) [] n k (suc k) s r a c
         (same_left m e [] k r a (subst (λ i. EndsBefore e i a) is x)))
 
-    -- the element around goes on behind the innermost
-    pub left_keeps : (a u q : List ℕ) → (k ≡ n → ⊥) → EndsWithin e h a → u ≡ drop (length s - (behind + length a)) s →
+    -- the element around goes on after the innermost
+    pub left_keeps : (a u q : List ℕ) → (k ≡ n → ⊥) → EndsWithin e h a → u ≡ drop (length s - (trailing + length a)) s →
         q ≡ take (length u - get_or table k 0) u →
         (get_or table k 0 ≤ length u) × Walking m e n s table (get_or table k 0) (k + 1) q
     left_keeps a u q l x f g =
-        let p = ends_front e r a (ends_in a x) in
+        let p = ends_prefix e r a (ends_in a x) in
         let y = subst (λ d. EnclosesContents e table k d w.after w.inner w.around) (less_is w.depth (omega (arith, w.deep, l))) w.encloses in
         let o = y.next in
         let gs = y.further in
         let t = y.left in
         let v = a ++ following w.inner in
         let i : u ≡ v ++ t = f ∙ rest_is p.0 a p.1 ∙ ap (λ i. a ++ i) y.follows ∙ sym (append_assoc a (following w.inner) t) in
-        let i' : q ≡ v = g ∙ take_front u v t (get_or table k 0) i y.counted in
+        let i' : q ≡ v = g ∙ take_prefix u v t (get_or table k 0) i y.counted in
         let b = subst (λ fs. Same m (e ∷ []) n s (w.inner ∷ fs) k r) y.ends w.same in
         let z : Walking m e n s table (get_or table k 0) (suc k) v = record {
           depth = w.depth - 1;
@@ -398,18 +398,18 @@ module _ {m : BERMode} {e : ContentsEnd} {n : ℕ} {s : List ℕ} {table : List 
         let z' = subst (λ i. Walking m e n s table (get_or table k 0) i v) (sym (add-one k)) z in
         (omega (arith, ap length i, y.counted), subst (λ i. Walking m e n s table (get_or table k 0) (k + 1) i) (sym i') z')
 
-    pub left_counts : (a u q : List ℕ) → (k ≡ n → ⊥) → EndsWithin e h a → u ≡ drop (length s - (behind + length a)) s →
-        q ≡ take (length u - get_or table k 0) u → length q + get_or table k 0 ≡ behind + length a
+    pub left_counts : (a u q : List ℕ) → (k ≡ n → ⊥) → EndsWithin e h a → u ≡ drop (length s - (trailing + length a)) s →
+        q ≡ take (length u - get_or table k 0) u → length q + get_or table k 0 ≡ trailing + length a
     left_counts a u q l x f g =
-        let p = ends_front e r a (ends_in a x) in
+        let p = ends_prefix e r a (ends_in a x) in
         let z = left_keeps a u q l x f g in
         let i = length-take (length u - get_or table k 0) u in
         omega (arith, ap length g, z.0, ap length (f ∙ rest_is p.0 a p.1), rest_counts a)
 
-    pub passed_keeps : (a : List ℕ) → Passes o j h a → Walking m e n s table behind k a
+    pub passed_keeps : (a : List ℕ) → Passes o j h a → Walking m e n s table trailing k a
     passed_keeps a x =
         let y = passes_in a x in
-        let p = opens_front m y.tag y.bit r y.contents (definite_end a) y.opened.opens in
+        let p = opens_prefix m y.tag y.bit r y.contents (definite_end a) y.opened.opens in
         record {
           depth = w.depth;
           deep = w.deep;
@@ -424,15 +424,15 @@ module _ {m : BERMode} {e : ContentsEnd} {n : ℕ} {s : List ℕ} {table : List 
         }
 
     pub entered_keeps : (c : List ℕ) (f : ContentsEnd) → IsWalked m e → n ≤ length table → Enters o j h c f →
-        Walking m e n s (set table (k - 1) behind) (behind + length (following f)) (k - 1) c
+        Walking m e n s (set table (k - 1) trailing) (trailing + length (following f)) (k - 1) c
     entered_keeps c f u l x =
         let y = enters_in c f x in
-        let p = opens_front m y.tag y.bit r c f y.opened.opens in
+        let p = opens_prefix m y.tag y.bit r c f y.opened.opens in
         let i = length-append (following f) w.after in
-        let v = set table (k - 1) behind in
+        let v = set table (k - 1) trailing in
         let below : k - 1 < length table = omega (arith, y.opened.level, w.deep, l) in
         let up : k ≡ suc (k - 1) = omega (arith, y.opened.level) in
-        let outside = encloses_other e table (k - 1) k w.depth behind w.after w.inner w.around (omega (arith, y.opened.level)) w.encloses in
+        let outside = encloses_other e table (k - 1) k w.depth trailing w.after w.inner w.around (omega (arith, y.opened.level)) w.encloses in
         let inside : EnclosesContents e v (k - 1) (suc w.depth) (following f ++ w.after) f (w.inner ∷ w.around) = record {
           alike = entered_alike m k e r c f u y;
           next = w.inner;
@@ -440,7 +440,7 @@ module _ {m : BERMode} {e : ContentsEnd} {n : ℕ} {s : List ℕ} {table : List 
           ends = refl;
           left = w.after;
           follows = refl;
-          counted = w.counts ∙ sym (get_or-set_same table (k - 1) behind 0 below);
+          counted = w.counts ∙ sym (get_or-set_same table (k - 1) trailing 0 below);
           outside = subst (λ i. EnclosesContents e v i w.depth w.after w.inner w.around) up outside;
         } in
         record {

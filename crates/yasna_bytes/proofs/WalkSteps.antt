@@ -10,7 +10,7 @@ use Rattle.yasna_base.specs.Element.{end_of_contents}
 use Rattle.yasna_base.specs.Header.{ContentsEnd, definite_end, indefinite_end, OpensAt}
 use Rattle.yasna_base.specs.Identifier.{end_tag, StartsElement}
 use Rattle.yasna_base.specs.Pieces.{Each, Pieces}
-use Rattle.yasna_base.specs.Raw.{RawValue, LooksInto, LooksUpTo, IsRaw, JoiningBefore, DeepRaw, IsDeepRaw, ContentsTo}
+use Rattle.yasna_base.specs.Raw.{RawValue, DescendsInto, DescendsUpTo, IsRaw, JoiningBefore, DeepRaw, IsDeepRaw, ContentsTo}
 use Rattle.yasna_base.proofs.Header.{header_once}
 use Rattle.yasna_base.proofs.Pieces.{starts_not_end}
 use Rattle.yasna_base.proofs.Raw.{raw_zero, raw_of, raw_into, deep_at_zero, deep_zero_into, deep_of, deep_into, raw_element, raw_starts, opens_raw, RawAt, raw_ends, opens_starts, deep_starts}
@@ -19,11 +19,11 @@ use Rattle.yasna_bytes.specs.Walk.{NoHeader, HasNoLevel, Passes, Enters, Stops, 
 use Rattle.yasna_bytes.proofs.Header.{element_header}
 use Rattle.yasna_bytes.proofs.RawHeader.{starts_not_at_end, ends_at_end, opens_header, opens_range}
 
--- no element stands before what is said
+-- no element is before what is said
 pub before_here : {R : RawValue → List ℕ → Type 0} {D : List ℕ → Type 0} (s : List ℕ) → D s → JoiningBefore R D s
 before_here s d = record {
   values = [];
-  front = [];
+  prefix = [];
   rest = s;
   pieces = record { pieces = []; each = tt; joined = refl };
   more = tt;
@@ -36,15 +36,15 @@ pub before_more : {R : RawValue → List ℕ → Type 0} {D : List ℕ → Type 
     JoiningBefore R D s
 before_more v b s r x e y = record {
   values = v ∷ y.values;
-  front = b ++ y.front;
+  prefix = b ++ y.prefix;
   rest = y.rest;
   pieces = record { pieces = b ∷ y.pieces.pieces; each = (x, y.pieces.each); joined = ap (λ z. b ++ z) y.pieces.joined };
   more = tt;
-  joined = e ∙ ap (λ z. b ++ z) y.joined ∙ sym (append_assoc b y.front y.rest);
+  joined = e ∙ ap (λ z. b ++ z) y.joined ∙ sym (append_assoc b y.prefix y.rest);
   deep = y.deep;
 }
 
--- either none does or one, and the others behind it
+-- either none does or one, and the others after it
 pub data First (R : RawValue → List ℕ → Type 0) (D : List ℕ → Type 0) (s : List ℕ) : Type 0 where
   here : D s → First R D s
   further : (v : RawValue) (b r : List ℕ) → R v b → s ≡ b ++ r → JoiningBefore R D r → First R D s
@@ -56,7 +56,7 @@ each_first [] (b ∷ bs) s r p e d = absurd p
 each_first (v ∷ vs) [] s r p e d = absurd p
 each_first (v ∷ vs) (b ∷ bs) s r p e d = further v b (concat bs ++ r) p.0 (e ∙ append_assoc b (concat bs) r) (record {
   values = vs;
-  front = concat bs;
+  prefix = concat bs;
   rest = r;
   pieces = record { pieces = bs; each = p.1; joined = refl };
   more = tt;
@@ -72,21 +72,21 @@ pub ends_once : (e : ContentsEnd) (s r a : List ℕ) → EndsBefore e s r → En
 ends_once (definite_end z) s r a x y = x.1 ∙ sym y.1
 ends_once indefinite_end s r a x y = let e = sym x ∙ y in cc
 
--- contents that are looked into end where the element does
-pub closes_to : {R : RawValue → List ℕ → Type 0} (m : BERMode) (p : PCBit) (c : List ℕ) (e : ContentsEnd) (r : List ℕ) → LooksUpTo m p e →
+-- contents that are descended into end where the element does
+pub closes_to : {R : RawValue → List ℕ → Type 0} (m : BERMode) (p : PCBit) (c : List ℕ) (e : ContentsEnd) (r : List ℕ) → DescendsUpTo m p e →
     ContentsTo R m p c e r → JoiningBefore R (λ q. EndsBefore e q r) c
 closes_to m p c (definite_end z) r l w =
     let j = w.1 l in
-    record { values = j.0; front = c; rest = []; pieces = j.1; more = tt; joined = sym (append-nil c); deep = (refl, w.0) }
+    record { values = j.0; prefix = c; rest = []; pieces = j.1; more = tt; joined = sym (append-nil c); deep = (refl, w.0) }
 closes_to m p c indefinite_end r l w =
-    record { values = w.1.0; front = w.0; rest = 0 ∷ 0 ∷ r; pieces = w.1.1; more = tt; joined = w.2; deep = refl }
+    record { values = w.1.0; prefix = w.0; rest = 0 ∷ 0 ∷ r; pieces = w.1.1; more = tt; joined = w.2; deep = refl }
 
 pub to_closes : {R : RawValue → List ℕ → Type 0} (m : BERMode) (p : PCBit) (c : List ℕ) (e : ContentsEnd) (r : List ℕ) →
     JoiningBefore R (λ q. EndsBefore e q r) c → ContentsTo R m p c e r
 to_closes {R} m p c (definite_end z) r x =
-    let f = x.joined ∙ ap (λ z. x.front ++ z) x.deep.0 ∙ append-nil x.front in
+    let f = x.joined ∙ ap (λ z. x.prefix ++ z) x.deep.0 ∙ append-nil x.prefix in
     (x.deep.1, λ _. (x.values, subst (λ z. Pieces R x.values z) (sym f) x.pieces))
-to_closes m p c indefinite_end r x = (x.front, (x.values, x.pieces), x.joined ∙ ap (λ z. x.front ++ z) x.deep)
+to_closes m p c indefinite_end r x = (x.prefix, (x.values, x.pieces), x.joined ∙ ap (λ z. x.prefix ++ z) x.deep)
 
 -- a header whose contents end before r begins some raw element that does
 pub raw_within : {R : RawValue → List ℕ → Type 0} (m : BERMode) (t : Tag) (p : PCBit) (s c : List ℕ) (e : ContentsEnd) (r : List ℕ) → (t ≡ end_tag → ⊥) →
@@ -97,34 +97,34 @@ raw_within m t p s c indefinite_end r n x w = (
   raw_ends m t p s c indefinite_end r (w.0 ++ end_of_contents) n x w (w.2 ∙ sym (append_assoc w.0 end_of_contents r)),
 )
 
--- a raw element within the levels stands in front
+-- a raw element within the levels is in front
 more_raw : {P : List ℕ → Type 0} (m : BERMode) (n : ℕ) (v : RawValue) (s r : List ℕ) → RawAt (IsRaw n m) m v s r → JoiningBefore (IsRaw (suc n) m) P r →
     JoiningBefore (IsRaw (suc n) m) P s
 more_raw m n v s r x y = before_more v x.bytes s r (raw_of n m v x.bytes x.raw) x.joined y
 
--- where a header stands, what is said holds there, or the contents end and it holds behind elements from there on
-data Behind (P : List ℕ → Type 0) (m : BERMode) (n : ℕ) (p : PCBit) (s c : List ℕ) (e : ContentsEnd) : Type 0 where
-  at_once : P s → Behind P m n p s c e
-  later : (r : List ℕ) → ContentsTo (IsRaw n m) m p c e r → JoiningBefore (IsRaw (suc n) m) P r → Behind P m n p s c e
+-- where a header is there, what is said holds there, or the contents end and it holds after elements from there on
+data After (P : List ℕ → Type 0) (m : BERMode) (n : ℕ) (p : PCBit) (s c : List ℕ) (e : ContentsEnd) : Type 0 where
+  at_once : P s → After P m n p s c e
+  later : (r : List ℕ) → ContentsTo (IsRaw n m) m p c e r → JoiningBefore (IsRaw (suc n) m) P r → After P m n p s c e
 
-first_behind : {P : List ℕ → Type 0} (m : BERMode) (n : ℕ) (t : Tag) (p : PCBit) (s c : List ℕ) (e : ContentsEnd) → OpensAt m t p s c e →
-    First (IsRaw (suc n) m) P s → Behind P m n p s c e
-first_behind m n t p s c e o (here d) = at_once d
-first_behind m n t p s c e o (further v b r x f y) = later r (opens_raw m t p s c e v b r o (raw_into n m v b x) f).inside y
+first_after : {P : List ℕ → Type 0} (m : BERMode) (n : ℕ) (t : Tag) (p : PCBit) (s c : List ℕ) (e : ContentsEnd) → OpensAt m t p s c e →
+    First (IsRaw (suc n) m) P s → After P m n p s c e
+first_after m n t p s c e o (here d) = at_once d
+first_after m n t p s c e o (further v b r x f y) = later r (opens_raw m t p s c e v b r o (raw_into n m v b x) f).inside y
 
--- contents don't end where an element stands
+-- contents don't end where an element is there
 starts_no_end : (e : ContentsEnd) (s r : List ℕ) → StartsElement s → EndsBefore e s r → ⊥
 starts_no_end e s r x y = starts_not_at_end s x (ends_at_end e s r y)
 
--- what is said behind elements from a place on, where an element of one header stands that isn't looked into
+-- what is said after elements from a place on, where an element of one header is there that isn't descended into
 module _ (m : BERMode) (n : ℕ) (s r : List ℕ) (x : Passes m (suc n) s r) where
-  past : {P : List ℕ → Type 0} → (P s → ⊥) → Behind P m n x.bit s x.contents (definite_end r) → JoiningBefore (IsRaw (suc n) m) P r
+  past : {P : List ℕ → Type 0} → (P s → ⊥) → After P m n x.bit s x.contents (definite_end r) → JoiningBefore (IsRaw (suc n) m) P r
   past not_here (at_once d) = absurd (not_here d)
   past {P} not_here (later q w y) = subst (λ z. JoiningBefore (IsRaw (suc n) m) P z) w.0 y
 
   passed : {P : List ℕ → Type 0} → (P s → ⊥) → JoiningBefore (IsRaw (suc n) m) P s ↔ JoiningBefore (IsRaw (suc n) m) P r
   passed not_here = (
-    λ y. past not_here (first_behind m n x.tag x.bit s x.contents (definite_end r) x.opened.opens (before_first s y)),
+    λ y. past not_here (first_after m n x.tag x.bit s x.contents (definite_end r) x.opened.opens (before_first s y)),
     λ y. let w = raw_within m x.tag x.bit s x.contents (definite_end r) r x.opened.not_end x.opened.opens (refl, λ l. absurd (x.closed l)) in
         more_raw m n w.0 s r w.1 y,
   )
@@ -138,20 +138,20 @@ module _ (m : BERMode) (n : ℕ) (s r : List ℕ) (x : Passes m (suc n) s r) whe
   passed_not_deep : DeepRaw (IsRaw n m) (IsDeepRaw n m) m s → ⊥
   passed_not_deep y =
       let i = header_once m y.tag x.tag y.bit x.bit s y.contents x.contents y.end (definite_end r) y.opens x.opened.opens in
-      x.closed (subst (λ p. LooksInto m p) i.bit (subst (λ e. LooksUpTo m y.bit e) i.end y.looks))
+      x.closed (subst (λ p. DescendsInto m p) i.bit (subst (λ e. DescendsUpTo m y.bit e) i.end y.descends))
 
   pub passed_deep : MeetsDeep (suc n) m s ↔ MeetsDeep (suc n) m r
   passed_deep = passed (λ d. passed_not_deep (deep_into n m s d))
 
 -- the same of one that is
 module _ (m : BERMode) (n : ℕ) (s c : List ℕ) (f : ContentsEnd) (x : Enters m (suc n) s c f) where
-  enter : {P : List ℕ → Type 0} → Behind P m n x.bit s c f → P s ⊎ ((r : List ℕ) × ClosesBefore n m f c r × JoiningBefore (IsRaw (suc n) m) P r)
+  enter : {P : List ℕ → Type 0} → After P m n x.bit s c f → P s ⊎ ((r : List ℕ) × ClosesBefore n m f c r × JoiningBefore (IsRaw (suc n) m) P r)
   enter (at_once d) = inl d
-  enter (later r w y) = inr (r, closes_to m x.bit c f r x.looks w, y)
+  enter (later r w y) = inr (r, closes_to m x.bit c f r x.descends w, y)
 
   pub entered : {P : List ℕ → Type 0} → JoiningBefore (IsRaw (suc n) m) P s →
       P s ⊎ ((r : List ℕ) × ClosesBefore n m f c r × JoiningBefore (IsRaw (suc n) m) P r)
-  entered y = enter (first_behind m n x.tag x.bit s c f x.opened.opens (before_first s y))
+  entered y = enter (first_after m n x.tag x.bit s c f x.opened.opens (before_first s y))
 
   pub entered_more : {P : List ℕ → Type 0} (r : List ℕ) → ClosesBefore n m f c r → JoiningBefore (IsRaw (suc n) m) P r → JoiningBefore (IsRaw (suc n) m) P s
   entered_more r w y =
@@ -169,7 +169,7 @@ module _ (m : BERMode) (n : ℕ) (s c : List ℕ) (f : ContentsEnd) (x : Enters 
 
   pub deep_entered : MeetsDeep n m c → IsDeepRaw (suc n) m s
   deep_entered d = deep_of n m s
-      (record { tag = x.tag; bit = x.bit; not_end = x.opened.not_end; contents = c; end = f; opens = x.opened.opens; looks = x.looks; inside = d })
+      (record { tag = x.tag; bit = x.bit; not_end = x.opened.not_end; contents = c; end = f; opens = x.opened.opens; descends = x.descends; inside = d })
 
 -- contents end at once
 pub left_closes : (m : BERMode) (n : ℕ) (e : ContentsEnd) (s r a : List ℕ) → EndsBefore e s r → First (IsRaw n m) (λ q. EndsBefore e q a) s → a ≡ r
@@ -180,7 +180,7 @@ pub left_deep : (m : BERMode) (n : ℕ) (e : ContentsEnd) (s r : List ℕ) → E
 left_deep m n e s r x (here d) = starts_no_end e s r (deep_starts n m s d) x
 left_deep m n e s r x (further v b q p f y) = starts_not_end b q s (raw_starts n m v b p) (ends_at_end e s r x) f
 
--- no element stands where no header does
+-- no element is where no header is
 pub no_raw : (m : BERMode) (n : ℕ) (s : List ℕ) → NoHeader m n s → (v : RawValue) (b r : List ℕ) → IsRaw n m v b → s ≡ b ++ r → ⊥
 no_raw m zero s none v b r p f = raw_zero m v b p
 no_raw m (suc n) s none v b r p f =
@@ -207,7 +207,7 @@ level_deep m n s x = subst (λ k. IsDeepRaw k m s) (sym x.0) (deep_at_zero m s x
 pub closed_stops : (m : BERMode) (n : ℕ) (e : ContentsEnd) (s : List ℕ) (k : ASN1ErrorKind) → Stops m n e s k → (a : List ℕ) → ClosesBefore n m e s a → ⊥
 closed_stops m n e s k x a y = no_header m n s x.none (x.no_end a) (before_first s y)
 
--- and it is of depth where an element stands that no level is left for
+-- and it is of depth where an element is there that no level is left for
 pub stops_deep : (m : BERMode) (n : ℕ) (e : ContentsEnd) (s : List ℕ) (k : ASN1ErrorKind) → Stops m n e s k → k ≡ StackOverflow → IsDeepRaw n m s
 stops_deep m n e s k x f = level_deep m n s (x.deep.0 f)
 

@@ -1,6 +1,6 @@
-pub mod Refusal
+pub mod Rejection
 pub mod Length
-pub mod Front
+pub mod Prefix
 pub mod Opening
 pub mod Header
 pub mod Oid

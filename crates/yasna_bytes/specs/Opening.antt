@@ -8,7 +8,7 @@ use Rattle.yasna_bytes.specs.declared.bytes.header.ContentsEnd.TheVariants.{Defi
 -- whether the contents are elements, the contents or where their length is indefinite all bytes that are left, and where they end
 pub record Opening : Type 0 where
   pub bit : PCBit
-  pub within : List ℕ
+  pub contents : List ℕ
   pub end : ContentsEnd
 
 -- where contents end whose length has this form
@@ -18,4 +18,4 @@ end_found Indefinite = indefinite_end
 
 -- what is seen of an element whose header was read
 abbrev pub opening : PCBit → List ℕ → EndFound → Opening
-opening bit c e = record { bit = bit; within = c; end = end_found e }
+opening bit c e = record { bit = bit; contents = c; end = end_found e }

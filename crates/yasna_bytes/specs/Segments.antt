@@ -15,10 +15,10 @@ use Rattle.yasna_base.specs.declared.mode.BERMode.{BERMode}
 use Rattle.yasna_base.specs.declared.mode.BERMode.TheVariants.{Ber, Der, Cer}
 use Rattle.yasna_base.specs.declared.tag.PCBit.TheVariants.{Constructed}
 use Rattle.yasna_base.specs.declared.tag.Tag.{Tag}
-use Rattle.yasna_bytes.specs.Contents.{WantsMemory}
-use Rattle.yasna_bytes.specs.Front.{Takes, Stands, SeenAt}
-use Rattle.yasna_bytes.specs.Refusal.{BlamesBytes, Refuses}
-use Rattle.yasna_bytes.specs.declared.bytes.header.Refusal.{Refusal}
+use Rattle.yasna_bytes.specs.Contents.{MayAllocate}
+use Rattle.yasna_bytes.specs.Prefix.{Takes, HasPrefix, SeenAt}
+use Rattle.yasna_bytes.specs.Rejection.{BlamesBytes, Rejects}
+use Rattle.yasna_bytes.specs.declared.bytes.header.Rejection.{Rejection}
 use Rattle.yasna_bytes.specs.declared.bytes.segments.cuts.Cuts.{Cuts}
 
 -- where segments of such strings go on, they may
@@ -28,9 +28,9 @@ pub record GoOn {A : Type 0} (k : Segmentation A) : Type 0 where
 
 -- The contents of a primitive element are taken exactly where they say a value. value b x is the value of the bytes b of
 -- which x is known besides
-abbrev pub Says : {A T : Type 0} → Segmentation A → (List ℕ → T → A) → BERMode → List ℕ → Result (T × Bor (List ℕ)) ASN1ErrorKind → Type 0
-Says {A} k value m c (Ok x) = k.whole m (value x.1.now x.0) c × (length x.1.now ≤ length c)
-Says {A} k value m c (Err e) = BlamesBytes e × ((v : A) → k.whole m v c → ⊥)
+abbrev pub EncodesWhole : {A T : Type 0} → Segmentation A → (List ℕ → T → A) → BERMode → List ℕ → Result (T × Bor (List ℕ)) ASN1ErrorKind → Type 0
+EncodesWhole {A} k value m c (Ok x) = k.whole m (value x.1.now x.0) c × (length x.1.now ≤ length c)
+EncodesWhole {A} k value m c (Err e) = BlamesBytes e × ((v : A) → k.whole m v c → ⊥)
 
 -- the bytes of a value are those that it was made of
 abbrev pub HoldsBytes : {A T : Type 0} → Segmentation A → (List ℕ → T → A) → Type 0
@@ -49,10 +49,10 @@ Adds {A} k value x y (Err e) =
     BlamesBytes e × ((m : BERMode) (vs ws : List A) (b c : List ℕ) → k.join m vs (value b x) →
     ((v : A) → k.join m (vs ++ (value c y ∷ ws)) v → ⊥) × (k.more (vs ++ (value c y ∷ ws)) → ⊥))
 
--- the answer says whether a further segment may follow those of which x is known
-abbrev pub TellsWhetherMore : {A T : Type 0} → Segmentation A → (List ℕ → T → A) → T → Type 0 → Type 0
-TellsWhetherMore {A} k value x answer =
-    (n : ℕ) (m : BERMode) (vs : List A) (b c : List ℕ) → Pieces (IsSegmented k n m k.segment) vs c → k.join m vs (value b x) → answer ↔ k.more vs
+-- the result says whether a further segment may follow those of which x is known
+abbrev pub DecidesWhetherMore : {A T : Type 0} → Segmentation A → (List ℕ → T → A) → T → Type 0 → Type 0
+DecidesWhetherMore {A} k value x may_follow =
+    (n : ℕ) (m : BERMode) (vs : List A) (b c : List ℕ) → Pieces (IsSegmented k n m k.segment) vs c → k.join m vs (value b x) → may_follow ↔ k.more vs
 
 -- the contents of a primitive element, whose bytes were appended to out, or why not
 abbrev pub WholeAt : {A T : Type 0} → Segmentation A → (List ℕ → T → A) → BERMode → List ℕ → List ℕ → Result T ASN1ErrorKind → List ℕ → Type 0
@@ -61,13 +61,13 @@ WholeAt k value m c out (Ok x) out' =
 WholeAt {A} k value m c out (Err e) out' =
     ((e ≡ OutOfMemory) × (c ≡ [] → ⊥)) ⊎ (BlamesBytes e × ((v : A) → k.whole m v c → StaysWhole m k.full (length (k.bytes v)) → ⊥))
 
--- segments at the front of c say vs, and y is behind them
+-- segments at the start of c say vs, and y is after them
 pub record LeadTo {A : Type 0} (R : A → List ℕ → Type 0) (c : List ℕ) (vs : List A) (y : List ℕ) : Type 0 where
-  pub front : List ℕ
-  pub pieces : Pieces R vs front
-  pub joined : c ≡ front ++ y
+  pub prefix : List ℕ
+  pub pieces : Pieces R vs prefix
+  pub joined : c ≡ prefix ++ y
 
--- segments make up c as far as y, where nothing or an end of contents stands
+-- segments make up c as far as y, where nothing or an end of contents is there
 pub record MakeUpTo {A : Type 0} (k : Segmentation A) (n : ℕ) (m : BERMode) (c y : List ℕ) : Type 0 where
   pub values : List A
   pub value : A
@@ -84,10 +84,10 @@ abbrev pub further_cut : Cuts → ℕ → ℕ → Cuts
 further_cut c k n = record { some = true; full = c.full && nat_eq n k; even = c.some && (c.full && (nat_le 1 n && nat_le n k)) }
 
 -- where a mode takes segments that are cut so
-abbrev pub AsksFor : BERMode → Cuts → Type 0
-AsksFor Ber c = Unit {0}
-AsksFor Der c = Unit {0}
-AsksFor Cer c = IsTrue c.even
+abbrev pub AcceptsCuts : BERMode → Cuts → Type 0
+AcceptsCuts Ber c = Unit {0}
+AcceptsCuts Der c = Unit {0}
+AcceptsCuts Cer c = IsTrue c.even
 
 -- c says how the segments of these values are cut
 pub record AreCut {A : Type 0} (k : Segmentation A) (vs : List A) (c : Cuts) : Type 0 where
@@ -96,7 +96,7 @@ pub record AreCut {A : Type 0} (k : Segmentation A) (vs : List A) (c : Cuts) : T
   pub even : IsTrue c.even ↔ FallsInto Cer k.full (map k.bytes vs)
 
 -- Segments of a constructed string, read one after the other (X.690, 8.6.4 and 8.7.3). values: what the contents octets of
--- each segment say. bytes: the octets of the values, one behind the other. known: what is known besides of the value that the
+-- each segment say. bytes: the octets of the values, one after the other. known: what is known besides of the value that the
 -- segments make up. cuts: how long they are
 pub record SegmentsRead (A T : Type 0) : Type 0 where
   pub values : List A
@@ -104,7 +104,7 @@ pub record SegmentsRead (A T : Type 0) : Type 0 where
   pub known : T
   pub cuts : Cuts
 
--- Such segments stand at the front of c, and y is behind them. lead: they are encodings of the segment's type. join: their
+-- Such segments are at the start of c, and y is after them. lead: they are encodings of the segment's type. join: their
 -- contents octets, joined in order, say a value. cut: they are as long as is said
 pub record ReadsUpTo {A T : Type 0} (k : Segmentation A) (value : List ℕ → T → A) (n : ℕ) (m : BERMode) (c : List ℕ) (x : SegmentsRead A T)
     (y : List ℕ) : Type 0 where
@@ -127,20 +127,20 @@ pub record Appends {A T : Type 0} (P : SegmentsRead A T → Type 0) (x : T) (u :
   pub added : out' ≡ out ++ bytes
 
 -- no segments make up c
-pub record RefusesSegments {A : Type 0} (k : Segmentation A) (n : ℕ) (m : BERMode) (c : List ℕ) (e : Refusal) : Type 0 where
+pub record RejectsSegments {A : Type 0} (k : Segmentation A) (n : ℕ) (m : BERMode) (c : List ℕ) (e : Rejection) : Type 0 where
   pub none : (e.kind ≡ OutOfMemory → ⊥) → (z : List ℕ) → MakeUpTo k n m c z → ⊥
-  pub moved : e.moved ≡ true
+  pub consumed : e.consumed ≡ true
   pub too_deep : e.kind ≡ StackOverflow → IsDeepWithin k n m c
   pub deep : (e.kind ≡ OutOfMemory → ⊥) → IsDeepWithin k n m c → e.kind ≡ StackOverflow
   pub not_empty : c ≡ [] → ⊥
 
--- what reading segments answers, by its case
+-- what reading segments returns, by its case
 abbrev pub SegmentsAt : {A T : Type 0} → Segmentation A → (List ℕ → T → A) → ℕ → BERMode → List ℕ → List ℕ →
-    Result ((T × Cuts) × Bor (List ℕ)) Refusal → List ℕ → Type 0
+    Result ((T × Cuts) × Bor (List ℕ)) Rejection → List ℕ → Type 0
 SegmentsAt k value n m c out (Ok x) out' = Appends (λ s. TakesSegments k value n m c s x.1.now) x.0.0 x.0.1 out out'
-SegmentsAt k value n m c out (Err e) out' = RefusesSegments k n m c e
+SegmentsAt k value n m c out (Err e) out' = RejectsSegments k n m c e
 
--- a string stands at the front of s, its bytes were appended to out, and x is known of it besides
+-- a string is at the start of s, its bytes were appended to out, and x is known of it besides
 pub record TakesString {A T : Type 0} (k : Segmentation A) (value : List ℕ → T → A) (n : ℕ) (m : BERMode) (t : Tag) (s out : List ℕ) (x : T)
     (r out' : List ℕ) : Type 0 where
   pub bytes : List ℕ
@@ -148,34 +148,34 @@ pub record TakesString {A T : Type 0} (k : Segmentation A) (value : List ℕ →
   pub added : out' ≡ out ++ bytes
 
 -- no string does
-abbrev pub RefusesString : {A : Type 0} → Segmentation A → ℕ → BERMode → Tag → List ℕ → Refusal → Type 0
-RefusesString k n m t s e = Refuses (Stands (IsSegmented k n m t) s) (IsDeepSegmented k n m t s) (WantsMemory n t s) t s e
+abbrev pub RejectsString : {A : Type 0} → Segmentation A → ℕ → BERMode → Tag → List ℕ → Rejection → Type 0
+RejectsString k n m t s e = Rejects (HasPrefix (IsSegmented k n m t) s) (IsDeepSegmented k n m t s) (MayAllocate n t s) t s e
 
--- what reading a string answers, by its case; where it is unmoved, nothing was appended
-abbrev pub StringAt : {A T : Type 0} → Segmentation A → (List ℕ → T → A) → ℕ → BERMode → Tag → List ℕ → List ℕ → Result (T × Bor (List ℕ)) Refusal →
+-- what reading a string returns, by its case; where it consumed nothing, nothing was appended
+abbrev pub StringAt : {A T : Type 0} → Segmentation A → (List ℕ → T → A) → ℕ → BERMode → Tag → List ℕ → List ℕ → Result (T × Bor (List ℕ)) Rejection →
     List ℕ → Type 0
 StringAt k value n m t s out (Ok x) out' = TakesString k value n m t s out x.0 x.1.now out'
-StringAt k value n m t s out (Err e) out' = RefusesString k n m t s e × (e.moved ≡ false → out' ≡ out)
+StringAt k value n m t s out (Err e) out' = RejectsString k n m t s e × (e.consumed ≡ false → out' ≡ out)
 
 -- the same, where the bytes make up a vector of their own
 abbrev pub WithVecAt : {A T : Type 0} → Segmentation A → (List ℕ → T → A) → ℕ → BERMode → Tag → List ℕ →
-    Result ((Vec ℕ Global × T) × Bor (List ℕ)) Refusal → Type 0
-WithVecAt k value n m t s r = SeenAt (IsSegmented k n m t) (λ v. value v.0.items v.1) (IsDeepSegmented k n m t s) (WantsMemory n t s) t s r
+    Result ((Vec ℕ Global × T) × Bor (List ℕ)) Rejection → Type 0
+WithVecAt k value n m t s r = SeenAt (IsSegmented k n m t) (λ v. value v.0.items v.1) (IsDeepSegmented k n m t s) (MayAllocate n t s) t s r
 
--- the octet string in a vector's bytes, and the rest, or a refusal
-abbrev pub OctetsAt : ℕ → BERMode → Tag → List ℕ → Result (Vec ℕ Global × Bor (List ℕ)) Refusal → Type 0
-OctetsAt n m t s r = SeenAt (IsOctets n m t) (λ v. v.items) (IsDeepOctets n m t s) (WantsMemory n t s) t s r
+-- the octet string in a vector's bytes, and the rest, or an error
+abbrev pub OctetsAt : ℕ → BERMode → Tag → List ℕ → Result (Vec ℕ Global × Bor (List ℕ)) Rejection → Type 0
+OctetsAt n m t s r = SeenAt (IsOctets n m t) (λ v. v.items) (IsDeepOctets n m t s) (MayAllocate n t s) t s r
 
--- the octets of a string in one primitive element where they stand, and the rest, or the header of a constructed one
-abbrev pub WholeOctetsAt : ℕ → BERMode → Tag → List ℕ → Result (Option (Bor (List ℕ) × Bor (List ℕ))) Refusal → Type 0
+-- the octets of a string in one primitive element where they are, and the rest, or the header of a constructed one
+abbrev pub WholeOctetsAt : ℕ → BERMode → Tag → List ℕ → Result (Option (Bor (List ℕ) × Bor (List ℕ))) Rejection → Type 0
 WholeOctetsAt n m t s (Ok (Some x)) = Takes (IsOctets n m t) s x.0.now x.1.now
 WholeOctetsAt n m t s (Ok None) = (c : List ℕ) × (e : ContentsEnd) × OpensAt m t Constructed s c e
-WholeOctetsAt n m t s (Err e) = RefusesString octets_segmentation n m t s e
+WholeOctetsAt n m t s (Err e) = RejectsString octets_segmentation n m t s e
 
 -- the bit string in a vector's bytes and the count of its bits
 abbrev pub bits_in : Vec ℕ Global × ℕ → BitString
 bits_in v = record { bytes = v.0.items; count = v.1 }
 
--- what reading a bit string answers
-abbrev pub BitsAt : ℕ → BERMode → Tag → List ℕ → Result ((Vec ℕ Global × ℕ) × Bor (List ℕ)) Refusal → Type 0
-BitsAt n m t s r = SeenAt (IsBits n m t) bits_in (IsDeepBits n m t s) (WantsMemory n t s) t s r
+-- what reading a bit string returns
+abbrev pub BitsAt : ℕ → BERMode → Tag → List ℕ → Result ((Vec ℕ Global × ℕ) × Bor (List ℕ)) Rejection → Type 0
+BitsAt n m t s r = SeenAt (IsBits n m t) bits_in (IsDeepBits n m t s) (MayAllocate n t s) t s r

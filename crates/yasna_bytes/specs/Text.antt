@@ -10,10 +10,10 @@ use Rattle.yasna_base.specs.declared.error.ASN1ErrorKind.{ASN1ErrorKind}
 use Rattle.yasna_base.specs.declared.error.ASN1ErrorKind.TheVariants.{OutOfMemory}
 use Rattle.yasna_base.specs.declared.mode.BERMode.{BERMode}
 use Rattle.yasna_base.specs.declared.tag.Tag.{Tag}
-use Rattle.yasna_bytes.specs.Contents.{WantsMemory}
-use Rattle.yasna_bytes.specs.Front.{SeenAt}
-use Rattle.yasna_bytes.specs.Refusal.{BlamesBytes}
-use Rattle.yasna_bytes.specs.declared.bytes.header.Refusal.{Refusal}
+use Rattle.yasna_bytes.specs.Contents.{MayAllocate}
+use Rattle.yasna_bytes.specs.Prefix.{SeenAt}
+use Rattle.yasna_bytes.specs.Rejection.{BlamesBytes}
+use Rattle.yasna_bytes.specs.declared.bytes.header.Rejection.{Rejection}
 use Rattle.yasna_bytes.specs.declared.bytes.text.Class.{Class}
 use Rattle.yasna_bytes.specs.declared.bytes.text.Class.TheVariants.{Utf8, Numeric, Printable, Ia5, Visible, Bmp}
 
@@ -22,18 +22,18 @@ abbrev pub Judges : {V A : Type 0} → (A → List ℕ → Type 0) → (V → A)
 Judges W view o (Ok v) = W (view v) o
 Judges {V} {A} W view o (Err k) = ((k ≡ OutOfMemory) × (o ≡ [] → ⊥)) ⊎ (BlamesBytes k × ((v : A) → W v o → ⊥))
 
--- a string whose octets say by K what the view of a value is, and the rest, or a refusal
-abbrev pub SaidAt : {V A : Type 0} → (BERMode → A → List ℕ → Type 0) → (V → A) → ℕ → BERMode → Tag → List ℕ → Result (V × Bor (List ℕ)) Refusal → Type 0
-SaidAt K view n m t s r = SeenAt (IsStringOf K n m t) view (IsDeepOctets n m t s) (WantsMemory n t s) t s r
+-- a string whose octets say by K what the view of a value is, and the rest, or an error
+abbrev pub JudgedAt : {V A : Type 0} → (BERMode → A → List ℕ → Type 0) → (V → A) → ℕ → BERMode → Tag → List ℕ → Result (V × Bor (List ℕ)) Rejection → Type 0
+JudgedAt K view n m t s r = SeenAt (IsStringOf K n m t) view (IsDeepOctets n m t s) (MayAllocate n t s) t s r
 
 -- what the octets of a text of each class say
-abbrev pub SaysText : Class → BERMode → List ℕ → List ℕ → Type 0
-SaysText Utf8 m text o = IsUtf8In InUtf8 m text o
-SaysText Numeric m text o = IsUtf8In InNumeric m text o
-SaysText Printable m text o = IsUtf8In InPrintable m text o
-SaysText Ia5 m text o = IsUtf8In InIa5 m text o
-SaysText Visible m text o = IsUtf8In InVisible m text o
-SaysText Bmp m text o = IsBmp m text o
+abbrev pub SpellsText : Class → BERMode → List ℕ → List ℕ → Type 0
+SpellsText Utf8 m text o = IsUtf8In InUtf8 m text o
+SpellsText Numeric m text o = IsUtf8In InNumeric m text o
+SpellsText Printable m text o = IsUtf8In InPrintable m text o
+SpellsText Ia5 m text o = IsUtf8In InIa5 m text o
+SpellsText Visible m text o = IsUtf8In InVisible m text o
+SpellsText Bmp m text o = IsBmp m text o
 
 -- octets are a string's bytes where they are UTF-8
 abbrev pub Utf8At : List ℕ → Result (String Global) ASN1ErrorKind → Type 0

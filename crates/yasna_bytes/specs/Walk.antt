@@ -4,16 +4,16 @@ use Rattle.std.specs.Prelude.{◌≡◌, ◌↔◌, ◌⊎◌, ℕ, ◌^◌, ◌
 use Rattle.yasna_base.specs.Element.{TakesIndefinite}
 use Rattle.yasna_base.specs.Header.{ContentsEnd, definite_end, indefinite_end, OpensAt}
 use Rattle.yasna_base.specs.Identifier.{end_tag, StartsElement, AtEnd}
-use Rattle.yasna_base.specs.Raw.{RawValue, LooksInto, LooksUpTo, IsRaw, JoiningBefore, IsDeepRaw, ContentsTo}
+use Rattle.yasna_base.specs.Raw.{RawValue, DescendsInto, DescendsUpTo, IsRaw, JoiningBefore, IsDeepRaw, ContentsTo}
 use Rattle.yasna_base.specs.declared.error.ASN1ErrorKind.{ASN1ErrorKind}
 use Rattle.yasna_base.specs.declared.error.ASN1ErrorKind.TheVariants.{OutOfMemory, StackOverflow}
 use Rattle.yasna_base.specs.declared.mode.BERMode.{BERMode}
 use Rattle.yasna_base.specs.declared.tag.PCBit.{PCBit}
 use Rattle.yasna_base.specs.declared.tag.Tag.{Tag}
-use Rattle.yasna_bytes.specs.Front.{Stands}
+use Rattle.yasna_bytes.specs.Prefix.{HasPrefix}
 use Rattle.yasna_bytes.specs.Header.{AnyBit, HasHeader, NoEnd, EndsBefore}
 use Rattle.yasna_bytes.specs.declared.bytes.header.Opened.{Opened}
-use Rattle.yasna_bytes.specs.declared.bytes.header.Refusal.{Refusal}
+use Rattle.yasna_bytes.specs.declared.bytes.header.Rejection.{Rejection}
 use Rattle.yasna_bytes.specs.declared.bytes.walk.RawElement.{RawElement}
 use Rattle.yasna_bytes.specs.declared.bytes.walk.Turn.{Turn}
 use Rattle.yasna_bytes.specs.declared.bytes.walk.Turn.TheVariants.{Left, Passed, Entered}
@@ -22,77 +22,77 @@ use Rattle.yasna_bytes.specs.declared.bytes.walk.Turn.TheVariants.{Left, Passed,
 abbrev pub IsEndByte : ℕ → Type 0
 IsEndByte b = b ≡ 0 ⊎ b ≡ 32
 
--- no header of an element stands at the front, but for a tag of the end of contents
+-- no header of an element is at the start, but for a tag of the end of contents
 abbrev pub NoHeader : BERMode → ℕ → List ℕ → Type 0
 NoHeader m n s = (t : Tag) → t.tag_number < 2 ^ 64 → (t ≡ end_tag → ⊥) → HasHeader AnyBit m n t s → ⊥
 
--- an element stands there that no level is left for
+-- an element is there that no level is left for
 abbrev pub HasNoLevel : ℕ → List ℕ → Type 0
 HasNoLevel n s = (n ≡ 0) × StartsElement s
 
 -- why no header was read
-pub record NotOpened (m : BERMode) (n : ℕ) (s : List ℕ) (e : Refusal) : Type 0 where
+pub record NotOpened (m : BERMode) (n : ℕ) (s : List ℕ) (e : Rejection) : Type 0 where
   pub none : NoHeader m n s
-  pub moved : e.moved ≡ false ↔ AtEnd s
+  pub consumed : e.consumed ≡ false ↔ AtEnd s
   pub deep : e.kind ≡ StackOverflow ↔ HasNoLevel n s
   pub no_memory : e.kind ≡ OutOfMemory → ⊥
 
--- the header of an element stands at the front, and a level is left for it
+-- the header of an element is at the start, and a level is left for it
 pub record IsOpened (m : BERMode) (n : ℕ) (s : List ℕ) (t : Tag) (bit : PCBit) (c : List ℕ) (e : ContentsEnd) : Type 0 where
   pub level : 1 ≤ n
   pub not_end : t ≡ end_tag → ⊥
   pub opens : OpensAt m t bit s c e
 
--- what reading such a header answers, by its case
-abbrev pub AnyOpenedAt : BERMode → ℕ → List ℕ → Result (Tag × Opened) Refusal → Type 0
-AnyOpenedAt m n s (Ok x) = IsOpened m n s x.0 x.1.bit x.1.within x.1.end
+-- what reading such a header returns, by its case
+abbrev pub AnyOpenedAt : BERMode → ℕ → List ℕ → Result (Tag × Opened) Rejection → Type 0
+AnyOpenedAt m n s (Ok x) = IsOpened m n s x.0 x.1.bit x.1.contents x.1.end
 AnyOpenedAt m n s (Err e) = NotOpened m n s e
 
--- an element isn't looked into, and r follows it
+-- an element isn't descended into, and r follows it
 pub record Passes (m : BERMode) (n : ℕ) (s r : List ℕ) : Type 0 where
   pub tag : Tag
   pub bit : PCBit
   pub contents : List ℕ
   pub opened : IsOpened m n s tag bit contents (definite_end r)
-  pub closed : LooksInto m bit → ⊥
+  pub closed : DescendsInto m bit → ⊥
 
--- an element is looked into, and c are its contents
+-- an element is descended into, and c are its contents
 pub record Enters (m : BERMode) (n : ℕ) (s c : List ℕ) (e : ContentsEnd) : Type 0 where
   pub tag : Tag
   pub bit : PCBit
   pub opened : IsOpened m n s tag bit c e
-  pub looks : LooksUpTo m bit e
+  pub descends : DescendsUpTo m bit e
 
--- neither the end of contents that end so stands there nor an element
+-- neither the end of contents that end so is there nor an element
 pub record Stops (m : BERMode) (n : ℕ) (e : ContentsEnd) (s : List ℕ) (k : ASN1ErrorKind) : Type 0 where
   pub no_end : NoEnd e s
   pub none : NoHeader m n s
   pub deep : k ≡ StackOverflow ↔ HasNoLevel n s
   pub no_memory : k ≡ OutOfMemory → ⊥
 
--- y is where contents end, and r are left of y behind that, without what follows contents whose length is counted
+-- y is where contents end, and r are left of y after that, without what follows contents whose length is counted
 abbrev pub EndsWithin : ContentsEnd → List ℕ → List ℕ → Type 0
 EndsWithin (definite_end a) y r = (y ≡ []) × (r ≡ [])
 EndsWithin indefinite_end y r = y ≡ 0 ∷ 0 ∷ r
 
--- the contents behind a header are looked into, or the element is passed
+-- the contents after a header are descended into, or the element is passed
 abbrev pub TurnsTo : BERMode → Opened → Turn → Type 0
 TurnsTo m o (Left a) = ⊥
-TurnsTo m o (Passed a) = (o.end ≡ definite_end a.now) × (LooksInto m o.bit → ⊥)
-TurnsTo m o (Entered x) = (x ≡ o) × LooksUpTo m x.bit x.end
+TurnsTo m o (Passed a) = (o.end ≡ definite_end a.now) × (DescendsInto m o.bit → ⊥)
+TurnsTo m o (Entered x) = (x ≡ o) × DescendsUpTo m x.bit x.end
 
--- what stands at a place in contents that end so
+-- what is at a place in contents that end so
 abbrev pub TurnOf : BERMode → ℕ → ContentsEnd → List ℕ → Result Turn ASN1ErrorKind → Type 0
 TurnOf m n e s (Ok (Left a)) = EndsWithin e s a.now
 TurnOf m n e s (Ok (Passed a)) = Passes m n s a.now
-TurnOf m n e s (Ok (Entered o)) = Enters m n s o.within o.end
+TurnOf m n e s (Ok (Entered o)) = Enters m n s o.contents o.end
 TurnOf m n e s (Err k) = Stops m n e s k
 
--- raw elements within n levels stand from s on to the end of contents that end so, and a follows
+-- raw elements within n levels are from s on to the end of contents that end so, and a follows
 abbrev pub ClosesBefore : ℕ → BERMode → ContentsEnd → List ℕ → List ℕ → Type 0
 ClosesBefore n m e s a = JoiningBefore (IsRaw n m) (λ q. EndsBefore e q a) s
 
--- raw elements stand from s on up to one that no level is left for
+-- raw elements are from s on up to one that no level is left for
 abbrev pub MeetsDeep : ℕ → BERMode → List ℕ → Type 0
 MeetsDeep n m s = JoiningBefore (IsRaw n m) (IsDeepRaw n m) s
 
@@ -114,7 +114,7 @@ TakesEnd m bit indefinite_end = TakesIndefinite m bit
 
 -- where it takes and walks them in some elements
 abbrev pub IsWalked : BERMode → ContentsEnd → Type 0
-IsWalked m e = (bit : PCBit) × TakesEnd m bit e × LooksUpTo m bit e
+IsWalked m e = (bit : PCBit) × TakesEnd m bit e × DescendsUpTo m bit e
 
 -- what follows contents within those around them, where their length is counted
 abbrev pub following : ContentsEnd → List ℕ
@@ -126,10 +126,10 @@ abbrev pub follows : ContentsEnd → List ℕ → List ℕ
 follows (definite_end a) r = a
 follows indefinite_end r = r
 
--- an element whose header was read ends, or its contents, which are looked into, don't
+-- an element whose header was read ends, or its contents, which are descended into, don't
 abbrev pub FollowsAt : BERMode → ℕ → PCBit → List ℕ → ContentsEnd → Result (Bor (List ℕ)) ASN1ErrorKind → Type 0
 FollowsAt m n bit c e (Ok r) = ContentsTo (IsRaw n m) m bit c e r.now
-FollowsAt m n bit c e (Err k) = LooksUpTo m bit e × NotWalked m n e c k
+FollowsAt m n bit c e (Err k) = DescendsUpTo m bit e × NotWalked m n e c k
 
 -- r are the last of s
 abbrev pub IsRest : List ℕ → List ℕ → Type 0
@@ -144,20 +144,20 @@ HasRest indefinite_end c r = IsRest c r
 abbrev pub element_of : RawElement → RawValue
 element_of x = record { tag = x.tag; bit = x.bit; payload = x.payload.now }
 
--- How bytes are refused as a raw element: none stands there. It is unmoved exactly at an end, and of depth exactly where
+-- How bytes are rejected as a raw element: none is there. It consumed nothing exactly at an end, and of depth exactly where
 -- one meets an element that no level is left for
-pub record RefusesRaw (m : BERMode) (n : ℕ) (s : List ℕ) (e : Refusal) : Type 0 where
-  pub none : Stands (IsRaw n m) s → ⊥
-  pub moved : e.moved ≡ false ↔ AtEnd s
+pub record RejectsRaw (m : BERMode) (n : ℕ) (s : List ℕ) (e : Rejection) : Type 0 where
+  pub none : HasPrefix (IsRaw n m) s → ⊥
+  pub consumed : e.consumed ≡ false ↔ AtEnd s
   pub deep : e.kind ≡ StackOverflow ↔ IsDeepRaw n m s
   pub no_memory : e.kind ≡ OutOfMemory → ⊥
 
--- a raw element at the front of s, and the rest
+-- a raw element at the start of s, and the rest
 pub record TakesRaw (m : BERMode) (n : ℕ) (s : List ℕ) (x : RawElement) (r : List ℕ) : Type 0 where
   pub raw : IsRaw n m (element_of x) x.bytes.now
   pub joined : s ≡ x.bytes.now ++ r
 
--- what reading a raw element answers, by its case
-abbrev pub RawElementAt : BERMode → ℕ → List ℕ → Result (RawElement × Bor (List ℕ)) Refusal → Type 0
+-- what reading a raw element returns, by its case
+abbrev pub RawElementAt : BERMode → ℕ → List ℕ → Result (RawElement × Bor (List ℕ)) Rejection → Type 0
 RawElementAt m n s (Ok x) = TakesRaw m n s x.0 x.1.now
-RawElementAt m n s (Err e) = RefusesRaw m n s e
+RawElementAt m n s (Err e) = RejectsRaw m n s e

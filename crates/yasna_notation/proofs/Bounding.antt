@@ -7,12 +7,12 @@ use Rattle.yasna_base.specs.Beginnings.{BeginsWithOne}
 use Rattle.yasna_base.specs.Coding.{Any}
 use Rattle.yasna_base.specs.Error.{error_of}
 use Rattle.yasna_base.specs.Exact.{Fitting}
-use Rattle.yasna_base.specs.Grammar.{Grammar, Members, Form}
+use Rattle.yasna_base.specs.Grammar.{Grammar, Members, Encoding}
 use Rattle.yasna_base.proofs.Identifier.{begins_with}
-use Rattle.yasna_base.proofs.Optional.{apart_from_nothing}
-use Rattle.yasna_bytes.proofs.Refusal.{begins_not_elsewhere}
+use Rattle.yasna_base.proofs.Optional.{unambiguous_before_nothing}
+use Rattle.yasna_bytes.proofs.Rejection.{begins_not_elsewhere}
 use Rattle.yasna_reader.specs.ByTags.{AreElsewhere}
-use Rattle.yasna_reader.specs.Decodes.{Tells, KeptTells, Took}
+use Rattle.yasna_reader.specs.Decodes.{Explains, StickyExplains, ParsedValue}
 use Rattle.yasna_reader.specs.State.{Reading, IsFresh, untagged}
 use Rattle.yasna_notation.specs.Bounded.{Within}
 use Rattle.yasna_notation.specs.Notation.{IsNotation, IsNotationUnderTags, DecodesAs, ReadsAs}
@@ -23,104 +23,104 @@ not_elsewhere [] b r x a = x
 not_elsewhere (t ∷ ts) b r (inl x) a = begins_not_elsewhere (begins_with t b r x) a.0
 not_elsewhere (t ∷ ts) b r (inr x) a = not_elsewhere ts b r x a.1
 
-module _ {A : Type 0} {E : A → A → Type 0} {B : Grammar A} {S : Members} {form : Form A} {Fits : Fitting A} {Can : A → Type 0} (passes : A → Bool)
-    (alike : (v w : A) → E v w → passes v ≡ passes w) (told : Bool) (ts : List Tag) (asks : Bool) (x : IsNotation told ts E B S form Fits Can)
+module _ {A : Type 0} {E : A → A → Type 0} {B : Grammar A} {S : Members} {encoding : Encoding A} {Fits : Fitting A} {Can : A → Type 0} (passes : A → Bool)
+    (alike : (v w : A) → E v w → passes v ≡ passes w) (tags_known : Bool) (ts : List Tag) (may_allocate : Bool) (x : IsNotation tags_known ts E B S encoding Fits Can)
     (s : Reading) where
-  tells_within : (l : List ℕ) (e : ASN1Error) → Tells asks (S s.mode s.levels) l e → Tells asks (Any (Within passes B) s.mode s.levels) l e
-  tells_within l e h = record {
+  explains_within : (l : List ℕ) (e : ASN1Error) → Explains may_allocate (S s.mode s.levels) l e → Explains may_allocate (Any (Within passes B) s.mode s.levels) l e
+  explains_within l e h = record {
     none = λ q b r i k. h.none q b r i (x.coding.meaning.among s.mode s.levels k.0 b k.1.0);
     memory = h.memory;
   }
 
-  kept_within : (l : List ℕ) (k : Option ASN1Error) → KeptTells asks (S s.mode s.levels) l k → KeptTells asks (Any (Within passes B) s.mode s.levels) l k
-  kept_within l None h = tt
-  kept_within l (Some e) h = tells_within l e h
+  sticky_within : (l : List ℕ) (k : Option ASN1Error) → StickyExplains may_allocate (S s.mode s.levels) l k → StickyExplains may_allocate (Any (Within passes B) s.mode s.levels) l k
+  sticky_within l None h = tt
+  sticky_within l (Some e) h = explains_within l e h
 
   -- a value that passes
-  passes_decodes : (v : A) (s' : Reading) → passes v ≡ true → DecodesAs told ts asks B S s (Ok v) s' →
-      DecodesAs told ts asks (Within passes B) (Any (Within passes B)) s (Ok v) s'
+  passes_decodes : (v : A) (s' : Reading) → passes v ≡ true → DecodesAs tags_known ts may_allocate B S s (Ok v) s' →
+      DecodesAs tags_known ts may_allocate (Within passes B) (Any (Within passes B)) s (Ok v) s'
   passes_decodes v s' is h =
       let k = h.decodes in
       record {
-        decodes = record { front = k.front; rest = k.rest; joined = k.joined; stands = (k.stands, is); left = k.left };
-        quiet = λ _. tt;
+        decodes = record { prefix = k.prefix; rest = k.rest; joined = k.joined; member = (k.member, is); left = k.left };
+        no_match = λ _. tt;
       }
 
   -- none
-  none_decodes : (e : ASN1Error) (s' : Reading) → DecodesAs {A = A} told ts asks B S s (Err e) s' →
-      DecodesAs {A = A} told ts asks (Within passes B) (Any (Within passes B)) s (Err e) s'
+  none_decodes : (e : ASN1Error) (s' : Reading) → DecodesAs {A = A} tags_known ts may_allocate B S s (Err e) s' →
+      DecodesAs {A = A} tags_known ts may_allocate (Within passes B) (Any (Within passes B)) s (Err e) s'
   none_decodes e s' h =
       let k = h.decodes.0 in
       record {
         decodes = (
-          record { tells = tells_within s.left e k.tells; kept = kept_within s.left s'.kept k.kept; further = k.further; same = k.same },
+          record { explains = explains_within s.left e k.explains; failed = sticky_within s.left s'.failed k.failed; further = k.further; same = k.same },
           h.decodes.1,
         );
-        quiet = h.quiet;
+        no_match = h.no_match;
       }
 
   -- one that doesn't: no value that does has a front there
-  fails_decodes : (v : A) (s' : Reading) → IsFresh s → passes v ≡ false → DecodesAs told ts asks B S s (Ok v) s' →
-      DecodesAs told ts asks (Within passes B) (Any (Within passes B)) s (Err (error_of Invalid)) s'
+  fails_decodes : (v : A) (s' : Reading) → IsFresh s → passes v ≡ false → DecodesAs tags_known ts may_allocate B S s (Ok v) s' →
+      DecodesAs tags_known ts may_allocate (Within passes B) (Any (Within passes B)) s (Err (error_of Invalid)) s'
   fails_decodes v s' fresh is h = record {
     decodes = (
       record {
-        tells = record { none = λ q b r i j. other b r i j.0 j.1.0 j.1.1; memory = λ q. absurd (cc) };
-        kept = subst (λ z. KeptTells asks (Any (Within passes B) s.mode s.levels) s.left z) (sym unkept) tt;
-        further = omega (arith, ap length k.joined, length-append k.front k.rest, ap (λ (z : Reading). length z.left) k.left);
-        same = k.left ∙ sym (ap {A = Reading} {B = Reading} (λ z. record s { left = z.left; kept = z.kept }) k.left);
+        explains = record { none = λ q b r i j. other b r i j.0 j.1.0 j.1.1; memory = λ q. absurd (cc) };
+        failed = subst (λ z. StickyExplains may_allocate (Any (Within passes B) s.mode s.levels) s.left z) (sym unfailed) tt;
+        further = omega (arith, ap length k.joined, length-append k.prefix k.rest, ap (λ (z : Reading). length z.left) k.left);
+        same = k.left ∙ sym (ap {A = Reading} {B = Reading} (λ z. record s { left = z.left; failed = z.failed }) k.left);
       },
-      λ a. absurd (apart_from_nothing x.coding s.mode s.levels s.levels k.front [] k.rest s.left a here refl (sym k.joined)),
+      λ a. absurd (unambiguous_before_nothing x.coding s.mode s.levels s.levels k.prefix [] k.rest s.left a here refl (sym k.joined)),
     );
-    quiet = λ t a. absurd
-        (not_elsewhere ts k.front k.rest ((x.begins t).at s.mode s.levels k.front here) (subst (AreElsewhere ts) k.joined a));
+    no_match = λ t a. absurd
+        (not_elsewhere ts k.prefix k.rest ((x.begins t).at s.mode s.levels k.prefix here) (subst (AreElsewhere ts) k.joined a));
   }
     where
-      k : Took (B s.mode s.levels) s v s'
+      k : ParsedValue (B s.mode s.levels) s v s'
       k = h.decodes
 
-      unkept : s'.kept ≡ None
-      unkept = ap (λ (z : Reading). z.kept) k.left ∙ fresh.0
+      unfailed : s'.failed ≡ None
+      unfailed = ap (λ (z : Reading). z.failed) k.left ∙ fresh.0
 
-      here : S s.mode s.levels k.front
-      here = x.coding.meaning.among s.mode s.levels v k.front k.stands
+      here : S s.mode s.levels k.prefix
+      here = x.coding.meaning.among s.mode s.levels v k.prefix k.member
 
       other : (b r : List ℕ) → s.left ≡ b ++ r → (w : A) → B s.mode s.levels w b → passes w ≡ true → ⊥
       other b r i w p q =
-          let one = x.coding.alone s.mode s.levels s.levels k.front b k.rest r here (x.coding.meaning.among s.mode s.levels w b p) (sym k.joined ∙ i) in
-          let equal = x.coding.meaning.exact s.mode s.levels s.levels v w b (subst (λ z. B s.mode s.levels v z) one k.stands) p in
+          let one = x.coding.prefix_free s.mode s.levels s.levels k.prefix b k.rest r here (x.coding.meaning.among s.mode s.levels w b p) (sym k.joined ∙ i) in
+          let equal = x.coding.meaning.exact s.mode s.levels s.levels v w b (subst (λ z. B s.mode s.levels v z) one k.member) p in
           absurd (let e = alike v w equal in cc)
 
-module _ {A : Type 0} {E : A → A → Type 0} (B : Option Tag → Grammar A) (S : Option Tag → Members) (form : Option Tag → Form A) {Fits : Fitting A}
-    {Can : A → Type 0} (passes : A → Bool) (alike : (v w : A) → E v w → passes v ≡ passes w) (told : Bool) (ts : List Tag) (retagged asks : Bool)
-    (x : IsNotation told ts E (B None) (S None) (form None) Fits Can) (y : retagged ≡ true → IsNotationUnderTags E B S form Fits Can) (s : Reading) where
+module _ {A : Type 0} {E : A → A → Type 0} (B : Option Tag → Grammar A) (S : Option Tag → Members) (encoding : Option Tag → Encoding A) {Fits : Fitting A}
+    {Can : A → Type 0} (passes : A → Bool) (alike : (v w : A) → E v w → passes v ≡ passes w) (tags_known : Bool) (ts : List Tag) (retagged may_allocate : Bool)
+    (x : IsNotation tags_known ts E (B None) (S None) (encoding None) Fits Can) (y : retagged ≡ true → IsNotationUnderTags E B S encoding Fits Can) (s : Reading) where
   -- a value that passes
-  pub read_within : (v : A) (s' : Reading) → passes v ≡ true → ReadsAs told ts retagged asks B S s (Ok v) s' →
-      ReadsAs told ts retagged asks (λ u. Within passes (B u)) (λ u. Any (Within passes (B u))) s (Ok v) s'
+  pub read_within : (v : A) (s' : Reading) → passes v ≡ true → ReadsAs tags_known ts retagged may_allocate B S s (Ok v) s' →
+      ReadsAs tags_known ts retagged may_allocate (λ u. Within passes (B u)) (λ u. Any (Within passes (B u))) s (Ok v) s'
   read_within v s' is h = record {
-    alone = λ fresh. passes_decodes passes alike told ts asks x s v s' is (h.alone fresh);
-    replaced = λ may t not range kept waits.
-        passes_decodes passes alike true (t ∷ []) asks (y may t not range) (untagged s) v (untagged s') is (h.replaced may t not range kept waits);
-    repeats = λ e kept. absurd (let z = (h.repeats e kept).0 in cc);
+    fresh = λ fresh. passes_decodes passes alike tags_known ts may_allocate x s v s' is (h.fresh fresh);
+    replaced = λ may t not range failed waits.
+        passes_decodes passes alike true (t ∷ []) may_allocate (y may t not range) (untagged s) v (untagged s') is (h.replaced may t not range failed waits);
+    repeats = λ e failed. absurd (let z = (h.repeats e failed).0 in cc);
   }
 
   -- one that doesn't
-  pub read_outside : (v : A) (s' : Reading) → passes v ≡ false → ReadsAs told ts retagged asks B S s (Ok v) s' →
-      ReadsAs told ts retagged asks (λ u. Within passes (B u)) (λ u. Any (Within passes (B u))) s (Err (error_of Invalid)) s'
+  pub read_outside : (v : A) (s' : Reading) → passes v ≡ false → ReadsAs tags_known ts retagged may_allocate B S s (Ok v) s' →
+      ReadsAs tags_known ts retagged may_allocate (λ u. Within passes (B u)) (λ u. Any (Within passes (B u))) s (Err (error_of Invalid)) s'
   read_outside v s' is h = record {
-    alone = λ fresh. fails_decodes passes alike told ts asks x s v s' fresh is (h.alone fresh);
-    replaced = λ may t not range kept waits.
-        fails_decodes passes alike true (t ∷ []) asks (y may t not range) (untagged s) v (untagged s') (kept, refl) is
-        (h.replaced may t not range kept waits);
-    repeats = λ e kept. absurd (let z = (h.repeats e kept).0 in cc);
+    fresh = λ fresh. fails_decodes passes alike tags_known ts may_allocate x s v s' fresh is (h.fresh fresh);
+    replaced = λ may t not range failed waits.
+        fails_decodes passes alike true (t ∷ []) may_allocate (y may t not range) (untagged s) v (untagged s') (failed, refl) is
+        (h.replaced may t not range failed waits);
+    repeats = λ e failed. absurd (let z = (h.repeats e failed).0 in cc);
   }
 
   -- none
-  pub read_none : (e : ASN1Error) (s' : Reading) → ReadsAs {A = A} told ts retagged asks B S s (Err e) s' →
-      ReadsAs {A = A} told ts retagged asks (λ u. Within passes (B u)) (λ u. Any (Within passes (B u))) s (Err e) s'
+  pub read_none : (e : ASN1Error) (s' : Reading) → ReadsAs {A = A} tags_known ts retagged may_allocate B S s (Err e) s' →
+      ReadsAs {A = A} tags_known ts retagged may_allocate (λ u. Within passes (B u)) (λ u. Any (Within passes (B u))) s (Err e) s'
   read_none e s' h = record {
-    alone = λ fresh. none_decodes passes alike told ts asks x s e s' (h.alone fresh);
-    replaced = λ may t not range kept waits.
-        none_decodes passes alike true (t ∷ []) asks (y may t not range) (untagged s) e (untagged s') (h.replaced may t not range kept waits);
+    fresh = λ fresh. none_decodes passes alike tags_known ts may_allocate x s e s' (h.fresh fresh);
+    replaced = λ may t not range failed waits.
+        none_decodes passes alike true (t ∷ []) may_allocate (y may t not range) (untagged s) e (untagged s') (h.replaced may t not range failed waits);
     repeats = h.repeats;
   }

@@ -12,10 +12,10 @@ module _ {U : Type 0} (x : Meaning U) {u v : U} (is : u ≡ v) where
   can_as h = subst x.can is h
 
   -- it is written as that is
-  pub written_as : (old new : Written) (r : Result (Unit {0}) ASN1Error) → Writes (x.form_under old.tag old.mode v) old new r →
-      Writes (x.form_under old.tag old.mode u) old new r
-  written_as old new r h = subst (λ w. Writes (x.form_under old.tag old.mode w) old new r) (sym is) h
+  pub written_as : (old new : Written) (r : Result (Unit {0}) ASN1Error) → Writes (x.encoding_under old.tag old.mode v) old new r →
+      Writes (x.encoding_under old.tag old.mode u) old new r
+  written_as old new r h = subst (λ w. Writes (x.encoding_under old.tag old.mode w) old new r) (sym is) h
 
--- what stands on the second side is known
+-- what depends on the second side is known
 pub second_is : {A B : Type 0} {v : Either A B} {w x : B} → v ≡ Second w → w ≡ x → v ≡ Second x
 second_is is inner = is ∙ ap (λ z. Second z) inner

@@ -3,7 +3,7 @@ pub mod Enclosing
 pub mod Around
 pub mod LeftOut
 pub mod Contents
-pub mod Standing
+pub mod Represented
 pub mod Found
 pub mod Chosen
 pub mod Bounding

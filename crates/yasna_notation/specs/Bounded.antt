@@ -7,9 +7,9 @@ use Rattle.yasna_base.specs.declared.tag.Tag.{Tag}
 use Rattle.yasna_base.specs.AnyOrder.{SameSetOf}
 use Rattle.yasna_base.specs.Coding.{IsCoding, Any}
 use Rattle.yasna_base.specs.Exact.{Fitting, IsExact}
-use Rattle.yasna_base.specs.Grammar.{Grammar, Members, Form}
+use Rattle.yasna_base.specs.Grammar.{Grammar, Members, Encoding}
 use Rattle.yasna_base.specs.Pieces.{Each}
-use Rattle.yasna_notation.specs.Notation.{IsNotation, Keeps}
+use Rattle.yasna_notation.specs.Notation.{IsNotation, NotationKeepsLaws}
 
 -- this number alone
 abbrev pub exactly : ℕ → ℕ → Bool
@@ -45,11 +45,11 @@ module _ {A : Type 0} {E : A → A → Type 0} (passes : A → Bool) (alike : (v
       deeper = λ m n k v b le p. (x.meaning.deeper m n k v b le p.0, p.1);
     };
     opens = λ m n b p. x.opens m n b (x.meaning.among m n p.0 b p.1.0);
-    alone = λ m n k b c r s p q. x.alone m n k b c r s (x.meaning.among m n p.0 b p.1.0) (x.meaning.among m k q.0 c q.1.0);
+    prefix_free = λ m n k b c r s p q. x.prefix_free m n k b c r s (x.meaning.among m n p.0 b p.1.0) (x.meaning.among m k q.0 c q.1.0);
   }
 
-  within_exact : {B : Grammar A} {form : Form A} {Fits : Fitting A} {Can : A → Type 0} → IsExact E B form Fits Can →
-      IsExact E (Within passes B) form (λ m n v. Fits m n v × (passes v ≡ true)) (λ v. Can v × (passes v ≡ true))
+  within_exact : {B : Grammar A} {encoding : Encoding A} {Fits : Fitting A} {Can : A → Type 0} → IsExact E B encoding Fits Can →
+      IsExact E (Within passes B) encoding (λ m n v. Fits m n v × (passes v ≡ true)) (λ v. Can v × (passes v ≡ true))
   within_exact x = record {
     in_bytes = λ m n v f short. x.in_bytes m n v f.0 short;
     holds = λ m o n v h f short. (x.holds m o n v h f.0 short, f.1);
@@ -61,10 +61,10 @@ module _ {A : Type 0} {E : A → A → Type 0} (passes : A → Bool) (alike : (v
         (y.0, (λ c. (y.1 c.0, other ∙ c.1)), (λ n f. (y.2 n f.0, other ∙ f.1)));
   }
 
-  -- they keep the laws
-  pub within_laws : {told : Bool} {ts : List Tag} {B : Grammar A} {S : Members} {form : Form A} {Fits : Fitting A} {Can : A → Type 0} →
-      IsNotation told ts E B S form Fits Can →
-      IsNotation told ts E (Within passes B) (Any (Within passes B)) form (λ m n v. Fits m n v × (passes v ≡ true)) (λ v. Can v × (passes v ≡ true))
+  -- they satisfy the laws
+  pub within_laws : {tags_known : Bool} {ts : List Tag} {B : Grammar A} {S : Members} {encoding : Encoding A} {Fits : Fitting A} {Can : A → Type 0} →
+      IsNotation tags_known ts E B S encoding Fits Can →
+      IsNotation tags_known ts E (Within passes B) (Any (Within passes B)) encoding (λ m n v. Fits m n v × (passes v ≡ true)) (λ v. Can v × (passes v ≡ true))
   within_laws x = record {
     coding = within_coding x.coding;
     begins = λ t. let y = x.begins t in record { at = λ m n b p. y.at m n b (x.coding.meaning.among m n p.0 b p.1.0) };
@@ -72,12 +72,12 @@ module _ {A : Type 0} {E : A → A → Type 0} (passes : A → Bool) (alike : (v
   }
 
 -- under other tags too
-pub within_keeps : {A : Type 0} {told : Bool} {ts : List Tag} {retagged : Bool} {E : A → A → Type 0} {B : Option Tag → Grammar A}
-    {S : Option Tag → Members} {form : Option Tag → Form A} {Fits : Fitting A} {Can : A → Type 0} (passes : A → Bool) →
-    ((v w : A) → E v w → passes v ≡ passes w) → Keeps told ts retagged E B S form Fits Can →
-    Keeps told ts retagged E (λ u. Within passes (B u)) (λ u. Any (Within passes (B u))) form (λ m n v. Fits m n v × (passes v ≡ true))
+pub within_lawful : {A : Type 0} {tags_known : Bool} {ts : List Tag} {retagged : Bool} {E : A → A → Type 0} {B : Option Tag → Grammar A}
+    {S : Option Tag → Members} {encoding : Option Tag → Encoding A} {Fits : Fitting A} {Can : A → Type 0} (passes : A → Bool) →
+    ((v w : A) → E v w → passes v ≡ passes w) → NotationKeepsLaws tags_known ts retagged E B S encoding Fits Can →
+    NotationKeepsLaws tags_known ts retagged E (λ u. Within passes (B u)) (λ u. Any (Within passes (B u))) encoding (λ m n v. Fits m n v × (passes v ≡ true))
     (λ v. Can v × (passes v ≡ true))
-within_keeps passes alike x = record {
+within_lawful passes alike x = record {
   own = within_laws passes alike x.own;
   others = λ r t not_end range. within_laws passes alike (x.others r t not_end range);
 }
@@ -94,7 +94,7 @@ sizes_alike E test vs ws e = ap test (each_length E vs ws e)
 
 -- and so have lists whose items are in some order
 pub set_sizes_alike : {A : Type 0} (E : A → A → Type 0) (test : ℕ → Bool) (vs ws : List A) → SameSetOf E vs ws → test (length vs) ≡ test (length ws)
-set_sizes_alike E test vs ws e = ap test (sym (length_permutation vs e.items e.moved) ∙ each_length E e.items ws e.each)
+set_sizes_alike E test vs ws e = ap test (sym (length_permutation vs e.items e.permuted) ∙ each_length E e.items ws e.each)
 
 -- what is the same passes a test alike
 pub passes_alike : {A : Type 0} (test : A → Bool) {v w : A} → v ≡ w → test v ≡ test w

@@ -12,11 +12,11 @@ use Rattle.yasna_notation.specs.declared.first_bytes.WithFirst.{WithFirst}
 abbrev pub BesideBytes : {A : Type 0} → Grammar A → Grammar (A × Bor (List ℕ))
 BesideBytes B m n x b = B m n x.0 b × (x.1.now ≡ b)
 
--- parts, of which the first stands beside the bytes that encode it
+-- parts, of which the first is beside the bytes that encode it
 abbrev pub PartsWithFirst : {A V : Type 0} → Grammar A → Grammar V → Grammar (WithFirst A V)
 PartsWithFirst B C m n v c = PartOf (BesideBytes B) C m n ((v.first, v.first_bytes), v.others) c
 
--- a SEQUENCE stood at the front of s, behind it s' is left, and its contents begin by the bytes first, which encode v one level
+-- a SEQUENCE was at the start of s, after it s' is left, and its contents begin by the bytes first, which encode v one level
 -- further in
 pub record BeginsByPart {A : Type 0} (B : Grammar A) (s : Reading) (v : A) (first : List ℕ) (s' : Reading) : Type 0 where
   pub element : List ℕ

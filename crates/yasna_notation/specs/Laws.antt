@@ -1,4 +1,4 @@
--- That types which are made as the notation says keep its laws.
+-- That types which are made as the notation says satisfy its laws.
 use Rattle.std.proofs.Common.{◌≡◌, ◌∷◌, ◌++◌, [], ◌<◌, ◌^◌, ℕ, List, Bool, true, false, Option, Some, Vec, String, FitsSigned, length, pos, refl, ap, arith}
 use Rattle.std.proofs.lemmas.Bool.{and_parts}
 use Rattle.std.specs.Prelude.{◌&&◌, if◌then◌else◌}
@@ -14,27 +14,27 @@ use Rattle.yasna_base.specs.declared.tag.Tag.{Tag}
 use Rattle.yasna_base.specs.declared.tag.TagClass.TheVariants.{Application}
 use Rattle.yasna_times.specs.declared.models.generalized_time.GeneralizedTime.{GeneralizedTime}
 use Rattle.yasna_times.specs.declared.models.utc_time.UTCTime.{UTCTime}
-use Rattle.yasna_base.specs.BigInteger.{IsBigInteger, CanBigInteger, big_integer_form}
-use Rattle.yasna_base.specs.Bits.{BitString, bits_segmentation, IsBits, bits_contents, bit_segments, bits_form}
-use Rattle.yasna_base.specs.Boolean.{IsBoolean, boolean_form}
-use Rattle.yasna_base.specs.Canonical.{Always, leaf_nest, enclosed_form, definite_element, indefinite_element, canonical_element}
+use Rattle.yasna_base.specs.BigInteger.{IsBigInteger, CanBigInteger, big_integer_encoding}
+use Rattle.yasna_base.specs.Bits.{BitString, bits_segmentation, IsBits, bits_contents, bit_segments, bits_encoding}
+use Rattle.yasna_base.specs.Boolean.{IsBoolean, boolean_encoding}
+use Rattle.yasna_base.specs.Canonical.{Always, leaf_depth, enclosed_encoding, definite_element, indefinite_element, canonical_element}
 use Rattle.yasna_base.specs.Coding.{Any}
 use Rattle.yasna_base.specs.Digits.{IsBytes}
 use Rattle.yasna_base.specs.Element.{Primitively, Enclosed, AnyEnclosed}
 use Rattle.yasna_base.specs.Exact.{Fitting, written_fits, enclosed_fits, elements_fit, raw_fits}
-use Rattle.yasna_base.specs.Grammar.{Grammar, Members, Form}
+use Rattle.yasna_base.specs.Grammar.{Grammar, Members, Encoding}
 use Rattle.yasna_base.specs.Identifier.{class_number, identifier, end_tag, BeginsWithTag, begins, tag_or}
-use Rattle.yasna_base.specs.Integer.{IsSigned, IsUnsigned, integer_form}
-use Rattle.yasna_base.specs.Null.{IsNull, null_form}
-use Rattle.yasna_base.specs.Octets.{IsOctets, octets_segmentation, octets_form, octets_nest}
-use Rattle.yasna_base.specs.Oid.{AreComponents, IsEncodableOid, oid_form}
+use Rattle.yasna_base.specs.Integer.{IsSigned, IsUnsigned, integer_encoding}
+use Rattle.yasna_base.specs.Null.{IsNull, null_encoding}
+use Rattle.yasna_base.specs.Octets.{IsOctets, octets_segmentation, octets_encoding, octets_depth}
+use Rattle.yasna_base.specs.Oid.{AreComponents, IsEncodableOid, oid_encoding}
 use Rattle.yasna_base.specs.Pieces.{Each}
-use Rattle.yasna_base.specs.Raw.{RawValue, IsRaw, raw_cer_form, raw_form}
-use Rattle.yasna_base.specs.Segmented.{Segmentation, segmented_form}
+use Rattle.yasna_base.specs.Raw.{RawValue, IsRaw, raw_cer_encoding, raw_encoding}
+use Rattle.yasna_base.specs.Segmented.{Segmentation, segmented_encoding}
 use Rattle.yasna_base.specs.Segments.{segments}
-use Rattle.yasna_base.specs.SequenceOf.{IsListOf, AnyListOf, elements_form}
+use Rattle.yasna_base.specs.SequenceOf.{IsListOf, AnyListOf, elements_encoding}
 use Rattle.yasna_base.specs.TaggedDerValue.{raw_of}
-use Rattle.yasna_base.specs.Text.{IsStringOf, IsUtf8In, InUtf8, characters, utf8_form, utf8_nest}
+use Rattle.yasna_base.specs.Text.{IsStringOf, IsUtf8In, InUtf8, characters, utf8_encoding, utf8_depth}
 use Rattle.yasna_base.specs.UnderTags.{IsExactUnderTags}
 use Rattle.yasna_base.proofs.Beginnings.{begins_by_tag}
 use Rattle.yasna_base.proofs.BigInteger.{big_integer_coding, big_integer_written}
@@ -51,63 +51,63 @@ use Rattle.yasna_base.proofs.Raw.{raw_coding}
 use Rattle.yasna_base.proofs.Segmented.{segmented_begins}
 use Rattle.yasna_base.proofs.Texts.{class_coding, class_written, string_text}
 use Rattle.yasna_base.proofs.UnderTags.{tagged_exact_under_tags, list_exact_under_tags}
-use Rattle.yasna_times.specs.GeneralizedTime.{SaysGeneralizedTime, generalized_time_form, generalized_time_nest}
+use Rattle.yasna_times.specs.GeneralizedTime.{SpellsGeneralizedTime, generalized_time_encoding, generalized_time_depth}
 use Rattle.yasna_times.specs.Models.{utc_of, moment_of}
-use Rattle.yasna_times.specs.UtcTime.{SaysUtcTime, utc_time_form, utc_time_nest}
+use Rattle.yasna_times.specs.UtcTime.{SpellsUtcTime, utc_time_encoding, utc_time_depth}
 use Rattle.yasna_times.proofs.TimeLaws.{utc_time_keeps, generalized_time_keeps}
 use Rattle.yasna_times.proofs.Times.{general_moment}
-use Rattle.yasna_notation.specs.Notation.{IsNotation, IsNotationUnderTags, Keeps}
+use Rattle.yasna_notation.specs.Notation.{IsNotation, IsNotationUnderTags, NotationKeepsLaws}
 
-module _ {A : Type 0} {E : A → A → Type 0} {B : Tag → Grammar A} {S : Tag → Members} {form : Tag → Form A} {Fits : Fitting A} {Can : A → Type 0}
-    (own : Tag) (laws : IsExactUnderTags E B S form Fits Can)
+module _ {A : Type 0} {E : A → A → Type 0} {B : Tag → Grammar A} {S : Tag → Members} {encoding : Tag → Encoding A} {Fits : Fitting A} {Can : A → Type 0}
+    (own : Tag) (laws : IsExactUnderTags E B S encoding Fits Can)
     (begins : (t : Tag) (m : BERMode) (n : ℕ) (b : List ℕ) → S t m n b → BeginsWithTag t b) where
-  at : (t : Tag) → (t ≡ end_tag → ⊥) → t.tag_number < 2 ^ 64 → IsNotation true (t ∷ []) E (B t) (S t) (form t) Fits Can
+  at : (t : Tag) → (t ≡ end_tag → ⊥) → t.tag_number < 2 ^ 64 → IsNotation true (t ∷ []) E (B t) (S t) (encoding t) Fits Can
   at t not_end range = let x = laws t not_end range in record { coding = x.0; begins = λ _. begins_by_tag t (begins t); exact = x.1 }
 
-  -- a type that keeps its laws under any tag keeps them under its own, and where another tag stands in place of that
-  pub element_keeps : (own ≡ end_tag → ⊥) → own.tag_number < 2 ^ 64 →
-      Keeps true (own ∷ []) true E (λ u. B (tag_or u own)) (λ u. S (tag_or u own)) (λ u. form (tag_or u own)) Fits Can
-  element_keeps not_end range = record { own = at own not_end range; others = λ _ t e r. at t e r }
+  -- a type that satisfies its laws under any tag keeps them under its own, and where another tag is in place of that
+  pub element_lawful : (own ≡ end_tag → ⊥) → own.tag_number < 2 ^ 64 →
+      NotationKeepsLaws true (own ∷ []) true E (λ u. B (tag_or u own)) (λ u. S (tag_or u own)) (λ u. encoding (tag_or u own)) Fits Can
+  element_lawful not_end range = record { own = at own not_end range; others = λ _ t e r. at t e r }
 
--- values of which something is seen keep the laws of what is seen
-pub seen_laws : {U A : Type 0} {B : Tag → Grammar A} {S : Tag → Members} {form : Tag → Form A} {Fits : Fitting A} {Can : A → Type 0} (view : U → A) →
-    IsExactUnderTags (λ v w. v ≡ w) B S form Fits Can →
-    IsExactUnderTags (λ v w. view v ≡ view w) (λ t m n v b. B t m n (view v) b) S (λ t m v. form t m (view v)) (λ m n v. Fits m n (view v))
+-- values of which something is seen satisfy the laws of what is seen
+pub seen_laws : {U A : Type 0} {B : Tag → Grammar A} {S : Tag → Members} {encoding : Tag → Encoding A} {Fits : Fitting A} {Can : A → Type 0} (view : U → A) →
+    IsExactUnderTags (λ v w. v ≡ w) B S encoding Fits Can →
+    IsExactUnderTags (λ v w. view v ≡ view w) (λ t m n v b. B t m n (view v) b) S (λ t m v. encoding t m (view v)) (λ m n v. Fits m n (view v))
     (λ v. Can (view v))
 seen_laws view laws t not_end range = let x = laws t not_end range in (along view x.0, exact_along view x.1)
 
 -- primitive types
 pub boolean_laws : IsExactUnderTags (λ v w. v ≡ w) (λ t m n v b. Primitively IsBoolean n m t v b) (λ t. Any (λ m n v b. Primitively IsBoolean n m t v b))
-    boolean_form (written_fits leaf_nest Always) Always
+    boolean_encoding (written_fits leaf_depth Always) Always
 boolean_laws t not_end range = (boolean_coding t not_end, written_exact (boolean_written t range))
 
 pub null_laws : IsExactUnderTags (λ v w. v ≡ w) (λ t m n v b. Primitively IsNull n m t v b) (λ t. Any (λ m n v b. Primitively IsNull n m t v b))
-    null_form (written_fits leaf_nest Always) Always
+    null_encoding (written_fits leaf_depth Always) Always
 null_laws t not_end range = (null_coding t not_end, written_exact (null_written t range))
 
 pub signed_laws : (w : Width) → IsExactUnderTags (λ v u. v ≡ u) (λ t m n v b. Primitively (IsSigned w) n m t v b)
-    (λ t. Any (λ m n v b. Primitively (IsSigned w) n m t v b)) integer_form (written_fits leaf_nest (FitsSigned w)) (FitsSigned w)
+    (λ t. Any (λ m n v b. Primitively (IsSigned w) n m t v b)) integer_encoding (written_fits leaf_depth (FitsSigned w)) (FitsSigned w)
 signed_laws w t not_end range = (signed_under w t not_end, written_exact (number_written (λ z. z) (FitsSigned w) t range))
 
 pub unsigned_laws : (k : ℕ) → IsExactUnderTags (λ v u. v ≡ u) (λ t m n v b. Primitively (IsUnsigned k) n m t v b)
-    (λ t. Any (λ m n v b. Primitively (IsUnsigned k) n m t v b)) (λ t m v. integer_form t m (pos v)) (written_fits leaf_nest (λ u. u < 2 ^ k))
+    (λ t. Any (λ m n v b. Primitively (IsUnsigned k) n m t v b)) (λ t m v. integer_encoding t m (pos v)) (written_fits leaf_depth (λ u. u < 2 ^ k))
     (λ u. u < 2 ^ k)
 unsigned_laws k t not_end range = (unsigned_under k t not_end, written_exact (number_written pos (λ u. u < 2 ^ k) t range))
 
 pub oid_laws : IsExactUnderTags (λ v w. v ≡ w) (λ t m n v b. Primitively AreComponents n m t v b)
-    (λ t. Any (λ m n v b. Primitively AreComponents n m t v b)) oid_form (written_fits leaf_nest IsEncodableOid) IsEncodableOid
+    (λ t. Any (λ m n v b. Primitively AreComponents n m t v b)) oid_encoding (written_fits leaf_depth IsEncodableOid) IsEncodableOid
 oid_laws t not_end range = (oid_under t not_end, written_exact (oid_written_under t range))
 
 pub big_integer_laws : IsExactUnderTags (λ v w. v ≡ w) (λ t m n v b. Primitively IsBigInteger n m t v b)
-    (λ t. Any (λ m n v b. Primitively IsBigInteger n m t v b)) big_integer_form (written_fits leaf_nest CanBigInteger) CanBigInteger
+    (λ t. Any (λ m n v b. Primitively IsBigInteger n m t v b)) big_integer_encoding (written_fits leaf_depth CanBigInteger) CanBigInteger
 big_integer_laws t not_end range = (big_integer_coding t not_end, written_exact (big_integer_written t range))
 
 -- strings
 abbrev pub octets_of : Vec ℕ Global → List ℕ
 octets_of v = v.items
 
-pub octets_laws : IsExactUnderTags (λ v w. v ≡ w) (λ t m n v b. IsOctets n m t v b) (λ t. Any (λ m n v b. IsOctets n m t v b)) octets_form
-    (written_fits octets_nest IsBytes) IsBytes
+pub octets_laws : IsExactUnderTags (λ v w. v ≡ w) (λ t m n v b. IsOctets n m t v b) (λ t. Any (λ m n v b. IsOctets n m t v b)) octets_encoding
+    (written_fits octets_depth IsBytes) IsBytes
 octets_laws t not_end range = (octets_coding t not_end, written_exact (octets_written t range))
 
 pub octets_begin : (t : Tag) (m : BERMode) (n : ℕ) (b : List ℕ) → Any (λ m n v b. IsOctets n m t v b) m n b → BeginsWithTag t b
@@ -125,8 +125,8 @@ pub text_begins : (In : ℕ → Type 0) (t : Tag) (m : BERMode) (n : ℕ) (b : L
 text_begins In = string_begins (IsUtf8In In)
 
 pub text_laws : IsExactUnderTags (λ v w. characters v ≡ characters w) (λ t m n v b. IsStringOf (IsUtf8In InUtf8) n m t (characters v) b)
-    (λ t. Any (λ m n v b. IsStringOf (IsUtf8In InUtf8) n m t v b)) (λ t m v. utf8_form t m (characters v))
-    (written_fits (λ m v. utf8_nest m (characters v)) Always) Always
+    (λ t. Any (λ m n v b. IsStringOf (IsUtf8In InUtf8) n m t v b)) (λ t m v. utf8_encoding t m (characters v))
+    (written_fits (λ m v. utf8_depth m (characters v)) Always) Always
 text_laws t not_end range = (
   along characters (class_coding InUtf8 t not_end),
   written_exact (written_always string_text (written_along characters (class_written InUtf8 t range))),
@@ -134,7 +134,7 @@ text_laws t not_end range = (
 
 pub class_laws : (In : ℕ → Type 0) → IsExactUnderTags (λ v w. characters v ≡ characters w)
     (λ t m n v b. IsStringOf (IsUtf8In In) n m t (characters v) b) (λ t. Any (λ m n v b. IsStringOf (IsUtf8In In) n m t v b))
-    (λ t m v. utf8_form t m (characters v)) (written_fits (λ m v. utf8_nest m (characters v)) (λ v. AllByRecursion In (characters v)))
+    (λ t m v. utf8_encoding t m (characters v)) (written_fits (λ m v. utf8_depth m (characters v)) (λ v. AllByRecursion In (characters v)))
     (λ v. AllByRecursion In (characters v))
 class_laws In t not_end range = (
   along characters (class_coding In t not_end),
@@ -144,16 +144,16 @@ class_laws In t not_end range = (
 )
 
 -- times
-pub utc_laws : IsExactUnderTags (λ v w. utc_of v ≡ utc_of w) (λ t m n v b. IsStringOf SaysUtcTime n m t (utc_of v) b)
-    (λ t. Any (λ m n v b. IsStringOf SaysUtcTime n m t v b)) (λ t m v. utc_time_form t m (utc_of v))
-    (written_fits (λ m v. utc_time_nest m (utc_of v)) Always) Always
+pub utc_laws : IsExactUnderTags (λ v w. utc_of v ≡ utc_of w) (λ t m n v b. IsStringOf SpellsUtcTime n m t (utc_of v) b)
+    (λ t. Any (λ m n v b. IsStringOf SpellsUtcTime n m t v b)) (λ t m v. utc_time_encoding t m (utc_of v))
+    (written_fits (λ m v. utc_time_depth m (utc_of v)) Always) Always
 utc_laws t not_end range =
     let x = utc_time_keeps t not_end range in
     (along utc_of x.0, written_exact (written_where (λ (v : UTCTime). (λ can. tt, λ can. v.in_range)) (written_along utc_of x.1)))
 
-pub general_laws : IsExactUnderTags (λ v w. moment_of v ≡ moment_of w) (λ t m n v b. IsStringOf SaysGeneralizedTime n m t (moment_of v) b)
-    (λ t. Any (λ m n v b. IsStringOf SaysGeneralizedTime n m t v b)) (λ t m v. generalized_time_form t m (moment_of v))
-    (written_fits (λ m v. generalized_time_nest m (moment_of v)) Always) Always
+pub general_laws : IsExactUnderTags (λ v w. moment_of v ≡ moment_of w) (λ t m n v b. IsStringOf SpellsGeneralizedTime n m t (moment_of v) b)
+    (λ t. Any (λ m n v b. IsStringOf SpellsGeneralizedTime n m t v b)) (λ t m v. generalized_time_encoding t m (moment_of v))
+    (written_fits (λ m v. generalized_time_depth m (moment_of v)) Always) Always
 general_laws t not_end range =
     let x = generalized_time_keeps t not_end range in
     (along moment_of x.0, written_exact (written_where (λ (v : GeneralizedTime). (λ can. tt, λ can. general_moment v)) (written_along moment_of x.1)))
@@ -168,89 +168,89 @@ application_not_end k e = let c = ap (λ (t : Tag). class_number t.tag_class) e 
 
 -- an element of any tag
 pub any_laws : IsNotation false [] (λ v w. raw_of v ≡ raw_of w) (λ m n v b. IsRaw n m (raw_of v) b) (Any (λ m n v b. IsRaw n m v b))
-    (λ m v. raw_form (raw_of v).tag m (raw_of v)) (λ m n v. raw_fits m n (raw_of v)) Always
+    (λ m v. raw_encoding (raw_of v).tag m (raw_of v)) (λ m n v. raw_fits m n (raw_of v)) Always
 any_laws = record { coding = along raw_of raw_coding; begins = λ e. absurd (cc); exact = exact_along raw_of raw_keeps_exact }
 
--- nothing is asked where no other tag may stand
+-- nothing is asked where no other tag may be
 pub never_retagged : {P : Type 0} → false ≡ true → P
 never_retagged e = absurd (cc)
 
 -- an EXPLICIT tag
-pub explicit_laws : {A : Type 0} {told : Bool} {ts : List Tag} {E : A → A → Type 0} {B : Grammar A} {S : Members} {form : Form A} {Fits : Fitting A}
-    {Can : A → Type 0} → IsNotation told ts E B S form Fits Can →
-    IsExactUnderTags E (λ t. Enclosed B t) (λ t. AnyEnclosed S t) (λ t. enclosed_form form t) (enclosed_fits Fits) Can
+pub explicit_laws : {A : Type 0} {tags_known : Bool} {ts : List Tag} {E : A → A → Type 0} {B : Grammar A} {S : Members} {encoding : Encoding A} {Fits : Fitting A}
+    {Can : A → Type 0} → IsNotation tags_known ts E B S encoding Fits Can →
+    IsExactUnderTags E (λ t. Enclosed B t) (λ t. AnyEnclosed S t) (λ t. enclosed_encoding encoding t) (enclosed_fits Fits) Can
 explicit_laws x = tagged_exact_under_tags x.coding x.exact
 
 -- a SEQUENCE OF
-pub list_laws : {A : Type 0} {told : Bool} {ts : List Tag} {E : A → A → Type 0} {B : Grammar A} {S : Members} {form : Form A} {Fits : Fitting A}
-    {Can : A → Type 0} → IsNotation told ts E B S form Fits Can →
+pub list_laws : {A : Type 0} {tags_known : Bool} {ts : List Tag} {E : A → A → Type 0} {B : Grammar A} {S : Members} {encoding : Encoding A} {Fits : Fitting A}
+    {Can : A → Type 0} → IsNotation tags_known ts E B S encoding Fits Can →
     IsExactUnderTags (λ (v w : Vec A Global). Each E v.items w.items) (λ t m n (v : Vec A Global) b. IsListOf B t m n v.items b) (λ t. AnyListOf S t)
-    (λ t m (v : Vec A Global). enclosed_form (elements_form form) t m v.items)
+    (λ t m (v : Vec A Global). enclosed_encoding (elements_encoding encoding) t m v.items)
     (λ m n (v : Vec A Global). enclosed_fits (elements_fit Fits) m n v.items) (λ (v : Vec A Global). AllByRecursion Can v.items)
 list_laws {A} x = list_exact_under_tags (λ (v : Vec A Global). v.items) x.coding x.exact
 
 -- a tag in place of the type's own
-module _ {A : Type 0} {told : Bool} {ts : List Tag} {E : A → A → Type 0} {B : Option Tag → Grammar A} {S : Option Tag → Members}
-    {form : Option Tag → Form A} {Fits : Fitting A} {Can : A → Type 0} {apart retagged : Bool} (own : Tag)
-    (keeps : apart ≡ true → Keeps told ts retagged E B S form Fits Can) (all : retagged && apart ≡ true) where
-  under : IsNotationUnderTags E B S form Fits Can
-  under = let x = and_parts retagged apart all in (keeps x.1).others x.0
+module _ {A : Type 0} {tags_known : Bool} {ts : List Tag} {E : A → A → Type 0} {B : Option Tag → Grammar A} {S : Option Tag → Members}
+    {encoding : Option Tag → Encoding A} {Fits : Fitting A} {Can : A → Type 0} {unambiguous retagged : Bool} (own : Tag)
+    (lawful : unambiguous ≡ true → NotationKeepsLaws tags_known ts retagged E B S encoding Fits Can) (all : retagged && unambiguous ≡ true) where
+  under : IsNotationUnderTags E B S encoding Fits Can
+  under = let x = and_parts retagged unambiguous all in (lawful x.1).others x.0
 
-  pub implicit_keeps : (own ≡ end_tag → ⊥) → own.tag_number < 2 ^ 64 →
-      Keeps true (own ∷ []) true E (λ u. B (Some (tag_or u own))) (λ u. S (Some (tag_or u own))) (λ u. form (Some (tag_or u own))) Fits Can
-  implicit_keeps not_end range = record { own = under own not_end range; others = λ _. under }
+  pub implicit_lawful : (own ≡ end_tag → ⊥) → own.tag_number < 2 ^ 64 →
+      NotationKeepsLaws true (own ∷ []) true E (λ u. B (Some (tag_or u own))) (λ u. S (Some (tag_or u own))) (λ u. encoding (Some (tag_or u own))) Fits Can
+  implicit_lawful not_end range = record { own = under own not_end range; others = λ _. under }
 
--- a type whose values stand for those of another
-pub defined_laws : {U A : Type 0} {told : Bool} {ts : List Tag} {E : A → A → Type 0} {B : Grammar A} {S : Members} {form : Form A} {Fits : Fitting A}
-    {Can : A → Type 0} (f : U → A) → IsNotation told ts E B S form Fits Can →
-    IsNotation told ts (λ v w. E (f v) (f w)) (λ m n v b. B m n (f v) b) S (λ m v. form m (f v)) (λ m n v. Fits m n (f v)) (λ v. Can (f v))
-defined_laws f x = record { coding = along f x.coding; begins = x.begins; exact = exact_along f x.exact }
+-- a type whose values represent those of another
+pub defined_type_laws : {U A : Type 0} {tags_known : Bool} {ts : List Tag} {E : A → A → Type 0} {B : Grammar A} {S : Members} {encoding : Encoding A} {Fits : Fitting A}
+    {Can : A → Type 0} (f : U → A) → IsNotation tags_known ts E B S encoding Fits Can →
+    IsNotation tags_known ts (λ v w. E (f v) (f w)) (λ m n v b. B m n (f v) b) S (λ m v. encoding m (f v)) (λ m n v. Fits m n (f v)) (λ v. Can (f v))
+defined_type_laws f x = record { coding = along f x.coding; begins = x.begins; exact = exact_along f x.exact }
 
-pub standing_keeps : {U A : Type 0} {told : Bool} {ts : List Tag} {retagged : Bool} {E : A → A → Type 0} {B : Option Tag → Grammar A}
-    {S : Option Tag → Members} {form : Option Tag → Form A} {Fits : Fitting A} {Can : A → Type 0} (f : U → A) →
-    Keeps told ts retagged E B S form Fits Can →
-    Keeps told ts retagged (λ v w. E (f v) (f w)) (λ u m n v b. B u m n (f v) b) S (λ u m v. form u m (f v)) (λ m n v. Fits m n (f v))
+pub represented_lawful : {U A : Type 0} {tags_known : Bool} {ts : List Tag} {retagged : Bool} {E : A → A → Type 0} {B : Option Tag → Grammar A}
+    {S : Option Tag → Members} {encoding : Option Tag → Encoding A} {Fits : Fitting A} {Can : A → Type 0} (f : U → A) →
+    NotationKeepsLaws tags_known ts retagged E B S encoding Fits Can →
+    NotationKeepsLaws tags_known ts retagged (λ v w. E (f v) (f w)) (λ u m n v b. B u m n (f v) b) S (λ u m v. encoding u m (f v)) (λ m n v. Fits m n (f v))
     (λ v. Can (f v))
-standing_keeps f x = record { own = defined_laws f x.own; others = λ r t not_end range. defined_laws f (x.others r t not_end range) }
+represented_lawful f x = record { own = defined_type_laws f x.own; others = λ r t not_end range. defined_type_laws f (x.others r t not_end range) }
 
 -- what begins with an identifier isn't empty
-begun_filled : (t : Tag) (bit : PCBit) (r : List ℕ) → identifier t bit ++ r ≡ [] → ⊥
-begun_filled t bit r e = omega (arith, begins_some t (identifier t bit ++ r) (begins bit r refl), ap length e)
+begun_non_empty : (t : Tag) (bit : PCBit) (r : List ℕ) → identifier t bit ++ r ≡ [] → ⊥
+begun_non_empty t bit r e = omega (arith, begins_some t (identifier t bit ++ r) (begins bit r refl), ap length e)
 
 -- so no element is, as a canonical mode writes it
-pub element_filled : (m : BERMode) (t : Tag) (bit : PCBit) (c : List ℕ) → canonical_element m t bit c ≡ [] → ⊥
+pub element_non_empty : (m : BERMode) (t : Tag) (bit : PCBit) (c : List ℕ) → canonical_element m t bit c ≡ [] → ⊥
 unfolding canonical_element definite_element indefinite_element
-element_filled m t Primitive c e = begun_filled t Primitive _ e
-element_filled Ber t Constructed c e = begun_filled t Constructed _ e
-element_filled Der t Constructed c e = begun_filled t Constructed _ e
-element_filled Cer t Constructed c e = begun_filled t Constructed _ e
+element_non_empty m t Primitive c e = begun_non_empty t Primitive _ e
+element_non_empty Ber t Constructed c e = begun_non_empty t Constructed _ e
+element_non_empty Der t Constructed c e = begun_non_empty t Constructed _ e
+element_non_empty Cer t Constructed c e = begun_non_empty t Constructed _ e
 
 -- nor a string, whole or cut
-whole_or_cut_filled : (b : Bool) (x y : List ℕ) → (x ≡ [] → ⊥) → (y ≡ [] → ⊥) → (if b then x else y) ≡ [] → ⊥
-whole_or_cut_filled true x y p q = p
-whole_or_cut_filled false x y p q = q
+whole_or_cut_non_empty : (b : Bool) (x y : List ℕ) → (x ≡ [] → ⊥) → (y ≡ [] → ⊥) → (if b then x else y) ≡ [] → ⊥
+whole_or_cut_non_empty true x y p q = p
+whole_or_cut_non_empty false x y p q = q
 
-string_filled : {A : Type 0} (k : Segmentation A) (contents : A → List ℕ) (cut : A → List A) (t : Tag) (m : BERMode) (v : A) →
-    segmented_form k contents cut t m v ≡ [] → ⊥
-string_filled k contents cut t Ber v = element_filled _ _ _ _
-string_filled k contents cut t Der v = element_filled _ _ _ _
-string_filled k contents cut t Cer v = whole_or_cut_filled _ _ _ (element_filled _ _ _ _) (element_filled _ _ _ _)
+string_non_empty : {A : Type 0} (k : Segmentation A) (contents : A → List ℕ) (cut : A → List A) (t : Tag) (m : BERMode) (v : A) →
+    segmented_encoding k contents cut t m v ≡ [] → ⊥
+string_non_empty k contents cut t Ber v = element_non_empty _ _ _ _
+string_non_empty k contents cut t Der v = element_non_empty _ _ _ _
+string_non_empty k contents cut t Cer v = whole_or_cut_non_empty _ _ _ (element_non_empty _ _ _ _) (element_non_empty _ _ _ _)
 
-pub octets_filled : (t : Tag) (m : BERMode) (v : List ℕ) → octets_form t m v ≡ [] → ⊥
-octets_filled = string_filled octets_segmentation (λ v. v) (segments 1000)
+pub octets_non_empty : (t : Tag) (m : BERMode) (v : List ℕ) → octets_encoding t m v ≡ [] → ⊥
+octets_non_empty = string_non_empty octets_segmentation (λ v. v) (segments 1000)
 
-pub bits_filled : (t : Tag) (m : BERMode) (v : BitString) → bits_form t m v ≡ [] → ⊥
-bits_filled = string_filled bits_segmentation bits_contents bit_segments
+pub bits_non_empty : (t : Tag) (m : BERMode) (v : BitString) → bits_encoding t m v ≡ [] → ⊥
+bits_non_empty = string_non_empty bits_segmentation bits_contents bit_segments
 
-pub text_filled : (t : Tag) (m : BERMode) (v : List ℕ) → utf8_form t m v ≡ [] → ⊥
-text_filled t m v = octets_filled t m (encode_utf8_all v)
+pub text_non_empty : (t : Tag) (m : BERMode) (v : List ℕ) → utf8_encoding t m v ≡ [] → ⊥
+text_non_empty t m v = octets_non_empty t m (encode_utf8_all v)
 
 -- nor an element of any tag
-pub raw_filled : (t : Tag) (m : BERMode) (v : RawValue) → raw_form t m v ≡ [] → ⊥
-raw_filled t Ber v = element_filled _ _ _ _
-raw_filled t Der v = element_filled _ _ _ _
-raw_filled t Cer v = by_bit v.bit
+pub raw_non_empty : (t : Tag) (m : BERMode) (v : RawValue) → raw_encoding t m v ≡ [] → ⊥
+raw_non_empty t Ber v = element_non_empty _ _ _ _
+raw_non_empty t Der v = element_non_empty _ _ _ _
+raw_non_empty t Cer v = by_bit v.bit
   where
-    by_bit : (bit : PCBit) → raw_cer_form t bit v.payload ≡ [] → ⊥
-    by_bit Primitive = element_filled _ _ _ _
-    by_bit Constructed = begun_filled t Constructed _
+    by_bit : (bit : PCBit) → raw_cer_encoding t bit v.payload ≡ [] → ⊥
+    by_bit Primitive = element_non_empty _ _ _ _
+    by_bit Constructed = begun_non_empty t Constructed _

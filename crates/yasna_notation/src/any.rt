@@ -1,12 +1,12 @@
 //! An element of any tag, whose contents aren't given a type (ANY of X.208; X.690, 8.1).
 ghost use Rattle.std.specs.Prelude.{◌≡◌, [], true, false};
-ghost use Rattle.yasna_base.specs.Canonical.{Always, leaf_nest};
+ghost use Rattle.yasna_base.specs.Canonical.{Always, leaf_depth};
 ghost use Rattle.yasna_base.specs.Coding.{Any};
 ghost use Rattle.yasna_base.specs.Exact.{raw_fits};
 ghost use Rattle.yasna_base.specs.Identifier.{tag_or};
-ghost use Rattle.yasna_base.specs.Raw.{IsRaw, raw_form};
+ghost use Rattle.yasna_base.specs.Raw.{IsRaw, raw_encoding};
 ghost use Rattle.yasna_base.specs.TaggedDerValue.{raw_of};
-ghost use Rattle.yasna_notation.specs.Laws.{any_laws, never_retagged, raw_filled};
+ghost use Rattle.yasna_notation.specs.Laws.{any_laws, never_retagged, raw_non_empty};
 
 use crate::notation::Notation;
 use yasna_base::models::TaggedDerValue;
@@ -21,15 +21,15 @@ impl Notation for TaggedDerValue {
     type Inner = ();
 
     ghost means = { record {
-      told = false;
+      tags_known = false;
       tags = [];
       retagged = false;
       under = λ u m n v b. IsRaw n m (raw_of v) b;
       any_under = λ u. Any (λ m n v b. IsRaw n m v b);
-      asks_memory = true;
+      may_allocate = true;
       same = λ v w. raw_of v ≡ raw_of w;
-      form_under = λ u m v. raw_form (tag_or u (raw_of v).tag) m (raw_of v);
-      nest = leaf_nest;
+      encoding_under = λ u m v. raw_encoding (tag_or u (raw_of v).tag) m (raw_of v);
+      depth = leaf_depth;
       can = Always;
       fits = λ m n v. raw_fits m n (raw_of v);
     } };
@@ -49,7 +49,7 @@ impl Notation for TaggedDerValue {
         writer.write_tagged_der(value)
     }
 
-    ghost keeps = { λ _. record { own = any_laws; others = λ e. never_retagged e } };
+    ghost lawful = { λ _. record { own = any_laws; others = λ e. never_retagged e } };
 
-    ghost filled = { λ u m v. raw_filled (tag_or u (raw_of v).tag) m (raw_of v) };
+    ghost non_empty = { λ u m v. raw_non_empty (tag_or u (raw_of v).tag) m (raw_of v) };
 }

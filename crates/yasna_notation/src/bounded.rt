@@ -1,7 +1,7 @@
 //! Types of which a module takes some values alone (X.680, 49 to 51): those that a bound lets pass.
 ghost use Rattle.std.specs.Prelude.{◌≡◌, ◌<◌, ◌≤◌, Bool, List, Option, None, true};
 ghost use Rattle.yasna_base.specs.Coding.{Any};
-ghost use Rattle.yasna_notation.specs.Bounded.{Within, within_keeps};
+ghost use Rattle.yasna_notation.specs.Bounded.{Within, within_lawful};
 
 use crate::notation::Notation;
 use std::marker::PhantomData;
@@ -22,7 +22,7 @@ pub trait Bound<N: Notation> {
     ghost alike: { (v w : N.Value) → N.means.same v w → passes v ≡ passes w };
 }
 
-/// `N (C)`: the values that the bound `C` lets pass. Others are refused as `Invalid`.
+/// `N (C)`: the values that the bound `C` lets pass. Others are rejected as `Invalid`.
 pub struct Bounded<N, C> {
     of: PhantomData<N>,
     bound: PhantomData<C>,
@@ -34,20 +34,20 @@ impl<N: Notation, C: Bound<N>> Notation for Bounded<N, C> {
     type Inner = N::Inner;
 
     ghost means = { record {
-      told = N.means.told;
+      tags_known = N.means.tags_known;
       tags = N.means.tags;
       retagged = N.means.retagged;
       under = λ u. Within C.passes (N.means.under u);
       any_under = λ u. Any (Within C.passes (N.means.under u));
-      asks_memory = N.means.asks_memory;
+      may_allocate = N.means.may_allocate;
       same = N.means.same;
-      form_under = N.means.form_under;
-      nest = N.means.nest;
+      encoding_under = N.means.encoding_under;
+      depth = N.means.depth;
       can = λ v. N.means.can v × (C.passes v ≡ true);
       fits = λ m n v. N.means.fits m n v × (C.passes v ≡ true);
     } };
 
-    ghost apart = { N.apart };
+    ghost unambiguous = { N.unambiguous };
 
     #[inline(always)]
     fn has_tag(tag: Tag) -> bool {
@@ -68,7 +68,7 @@ impl<N: Notation, C: Bound<N>> Notation for Bounded<N, C> {
         N::write(value, writer)
     }
 
-    ghost keeps = { λ a. within_keeps C.passes C.alike (N.keeps a) };
+    ghost lawful = { λ a. within_lawful C.passes C.alike (N.lawful a) };
 
-    ghost filled = { N.filled };
+    ghost non_empty = { N.non_empty };
 }

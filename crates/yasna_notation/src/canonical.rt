@@ -1,4 +1,4 @@
-//! Notations of which BER too is written anew: what any mode reads has a form in DER and in CER.
+//! Notations of which BER too is written anew: what any mode reads has an encoding in DER and in CER.
 //!
 //! TaggedDerValue isn't one, which is written as it came, nor is BIT STRING, whose unused bits are.
 ghost use Rattle.std.specs.Prelude.{◌≡◌, ◌<◌, ◌^◌, ◌∷◌, None, true, pos, FitsSigned};
@@ -30,21 +30,21 @@ ghost use Rattle.yasna_base.proofs.Sequence.{no_part_written};
 ghost use Rattle.yasna_bytes.specs.Contents.{big_integer_in};
 ghost use Rattle.yasna_times.specs.UtcTime.{utc_time_tag};
 ghost use Rattle.yasna_times.specs.GeneralizedTime.{generalized_time_tag};
-ghost use Rattle.yasna_notation.specs.Canonical.{element_written, text_under, class_under, utc_under, general_under, list_under, set_of_under, bounded_written, implicit_written, part_writes, option_writes, default_writes, last_part_writes, either_writes, last_writes, choice_written_as, standing_written};
+ghost use Rattle.yasna_notation.specs.Canonical.{element_written, text_under, class_under, utc_under, general_under, list_under, set_of_under, bounded_written, implicit_written, part_writes, option_writes, default_writes, last_part_writes, either_writes, last_writes, choice_written_as, represented_written};
 ghost use Rattle.yasna_notation.specs.Laws.{octets_of};
 ghost use Rattle.yasna_notation.specs.Notation.{IsWrittenMeaning};
 
 use crate::bounded::{Bound, Bounded};
 use crate::choices::{Alternatives, Choice};
 use crate::defaults::{Default, DefaultValue};
-use crate::defined::Defined;
+use crate::defined_type::DefinedType;
+use crate::encoded::Encoded;
 use crate::explicit_tags::Explicit;
 use crate::implicit_tags::Implicit;
 use crate::last::Last;
 use crate::lists::SequenceOf;
 use crate::messages::Message;
 use crate::notation::Notation;
-use crate::noted::Noted;
 use crate::parts::{Optional, Parts};
 use crate::sequences::Sequence;
 use crate::set_lists::SetOf;
@@ -55,22 +55,22 @@ use yasna::DERCanonical;
 use yasna_base::models::ObjectIdentifier;
 use yasna_times::models::{GeneralizedTime, UTCTime};
 
-/// A notation of which any mode's values have one form in DER and one in CER. It has no function: an impl proves the laws.
+/// A notation of which any mode's values have one encoding in DER and one in CER. It has no function: an impl proves the laws.
 pub trait CanonicalNotation: Notation {
-    // The laws of writing, under the type's own tag and under those that may stand in place of it.
-    ghost written: { Self.apart ≡ true → IsWrittenMeaning Self.means };
+    // The laws of writing, under the type's own tag and under those that may be in place of it.
+    ghost written: { Self.unambiguous ≡ true → IsWrittenMeaning Self.means };
 }
 
 /// Parts of a SEQUENCE, each of such a notation.
 pub trait CanonicalParts: Parts {
     // The laws of writing.
-    ghost written: { Self.apart ≡ true → IsWritten Self.same Self.parts Self.form Self.nest Self.can };
+    ghost written: { Self.unambiguous ≡ true → IsWritten Self.same Self.parts Self.encoding Self.depth Self.can };
 }
 
 /// Types of a CHOICE, each of such a notation.
 pub trait CanonicalAlternatives: Alternatives {
     // The laws of writing.
-    ghost written: { Self.apart ≡ true → IsWritten Self.same Self.encodes (Self.form_under None) Self.nest Self.can };
+    ghost written: { Self.unambiguous ≡ true → IsWritten Self.same Self.encodes (Self.encoding_under None) Self.depth Self.can };
 }
 
 impl CanonicalNotation for bool {
@@ -170,7 +170,7 @@ impl<A: CanonicalNotation, W: CanonicalParts> CanonicalParts for (A, W) {
 }
 
 impl<A: CanonicalNotation, W: CanonicalParts> CanonicalParts for (Optional<A>, W) {
-    ghost written = { λ a. option_writes (λ b. (A.written b).own) W.written A.means.told W.told (share_none A.means.tags (end_tag ∷ W.tags)) a };
+    ghost written = { λ a. option_writes (λ b. (A.written b).own) W.written A.means.tags_known W.tags_known (share_none A.means.tags (end_tag ∷ W.tags)) a };
 }
 
 impl<A: CanonicalNotation, D: DefaultValue<A>, W: CanonicalParts> CanonicalParts
@@ -178,7 +178,7 @@ impl<A: CanonicalNotation, D: DefaultValue<A>, W: CanonicalParts> CanonicalParts
 where
     A::Value: Eq,
 {
-    ghost written = { λ a. default_writes (λ b. (A.written b).own) W.written D.is D.default D.tells A.means.told W.told (share_none A.means.tags (end_tag ∷ W.tags)) (λ b. (A.keeps b).own) a };
+    ghost written = { λ a. default_writes (λ b. (A.written b).own) W.written D.is D.default D.detects A.means.tags_known W.tags_known (share_none A.means.tags (end_tag ∷ W.tags)) (λ b. (A.lawful b).own) a };
 }
 
 impl<A: CanonicalNotation> CanonicalParts for Last<A> {
@@ -193,27 +193,27 @@ where
 }
 
 impl<A: CanonicalNotation> CanonicalAlternatives for (A,) {
-    ghost written = { λ a. last_writes (λ b. (A.written b).own) A.means.told a };
+    ghost written = { λ a. last_writes (λ b. (A.written b).own) A.means.tags_known a };
 }
 
 impl<A: CanonicalNotation, W: CanonicalAlternatives> CanonicalAlternatives for (A, W) {
-    ghost written = { λ a. either_writes (λ b. (A.written b).own) W.written A.means.told (share_none A.means.tags W.tags) a };
+    ghost written = { λ a. either_writes (λ b. (A.written b).own) W.written A.means.tags_known (share_none A.means.tags W.tags) a };
 }
 
 impl<A: CanonicalAlternatives> CanonicalNotation for Choice<A>
 where
     A::Value: Drop,
 {
-    ghost written = { λ a. choice_written_as A.form_under (A.written a) };
+    ghost written = { λ a. choice_written_as A.encoding_under (A.written a) };
 }
 
-impl<T: Defined> CanonicalNotation for T
+impl<T: DefinedType> CanonicalNotation for T
 where
     T::Notation: CanonicalNotation,
 {
-    ghost written = { λ _. standing_written T.value_of (T.Notation.written T.apart) };
+    ghost written = { λ _. represented_written T.value_of (T.Notation.written T.unambiguous) };
 }
 
-impl<T: Message + CanonicalNotation> DERCanonical for Noted<T> {
-    ghost written = { written_along (λ v. v.value) (T.written T.told_apart).own };
+impl<T: Message + CanonicalNotation> DERCanonical for Encoded<T> {
+    ghost written = { written_along (λ v. v.value) (T.written T.is_unambiguous).own };
 }

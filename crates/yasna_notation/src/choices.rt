@@ -1,15 +1,15 @@
-//! CHOICE (X.690, 8.13): the next tag tells which of the types stands there.
+//! CHOICE (X.690, 8.13): the next tag determines which of the types is there.
 ghost use Rattle.std.specs.Prelude.{◌≡◌, ◌++◌, ◌||◌, ◌&&◌, [], Bool, List, Option, None, true, false};
 ghost use Rattle.std.specs.List.{list_any};
 ghost use Rattle.yasna_base.specs.declared.mode.BERMode.{BERMode};
 ghost use Rattle.yasna_base.specs.declared.tag.Tag.{Tag};
 ghost use Rattle.yasna_base.specs.Beginnings.{is_tag, share_none};
-ghost use Rattle.yasna_base.specs.Choice.{EitherOf, AnyEither, SameEither, either_form, either_nest, either_can, either_fits};
+ghost use Rattle.yasna_base.specs.Choice.{EitherOf, AnyEither, SameEither, either_encoding, either_depth, either_can, either_fits};
 ghost use Rattle.yasna_base.specs.Exact.{Fitting};
-ghost use Rattle.yasna_base.specs.Grammar.{Grammar, Members, Form, Nest};
+ghost use Rattle.yasna_base.specs.Grammar.{Grammar, Members, Encoding, Depth};
 ghost use Rattle.yasna_writer.specs.View.{Writes};
 ghost use Rattle.yasna_notation.specs.Notation.{IsNotation};
-ghost use Rattle.yasna_notation.specs.Choices.{ReadsFound, sides, last_laws, either_laws, either_filled};
+ghost use Rattle.yasna_notation.specs.Choices.{ReadsFound, sides, last_laws, either_laws, either_non_empty};
 ghost use Rattle.yasna_notation.specs.Laws.{never_retagged};
 
 use crate::notation::Notation;
@@ -32,14 +32,14 @@ pub trait Alternatives {
     /// What its values are in Rust.
     type Value;
 
-    /// The types of values that stand inside its own, which the type of its own doesn't name: bounds name them.
+    /// The types of values that are inside its own, which the type of its own doesn't name: bounds name them.
     type Inner;
 
     // The tags that encodings begin with.
     ghost tags: { List Tag };
 
-    // Whether tags tell the types apart, and what has to be told apart inside them.
-    ghost apart: { Bool };
+    // Whether tags distinguish the types, and what has to be unambiguous inside them.
+    ghost unambiguous: { Bool };
 
     // Which bytes encode a value, in a mode within a number of levels.
     ghost encodes: { Grammar Self.Value };
@@ -47,16 +47,16 @@ pub trait Alternatives {
     // What that asks of the bytes alone.
     ghost elements: { Members };
 
-    // Whether reading a value may want memory.
-    ghost asks_memory: { Bool };
+    // Whether reading a value may allocate.
+    ghost may_allocate: { Bool };
 
     // Which values are equal.
     ghost same: { Self.Value → Self.Value → Type 0 };
 
-    // The form of a value in a canonical mode, where this tag stands in place of the next.
-    ghost form_under: { Option Tag → Form Self.Value };
+    // The encoding of a value in a canonical mode, where this tag is in place of the next.
+    ghost encoding_under: { Option Tag → Encoding Self.Value };
 
-    ghost nest: { Nest Self.Value };
+    ghost depth: { Depth Self.Value };
 
     ghost can: { Self.Value → Type 0 };
 
@@ -68,19 +68,19 @@ pub trait Alternatives {
 
     /// Reads a value of which this tag was found.
     fn read_found(tag: Tag, reader: BERReader) -> ASN1Result<Self::Value>
-        requires { apart ≡ true }
-        ensures { ReadsFound tags asks_memory encodes elements tag reader.old result reader.new };
+        requires { unambiguous ≡ true }
+        ensures { ReadsFound tags may_allocate encodes elements tag reader.old result reader.new };
 
     /// Writes a value.
     fn write(value: &Self::Value, writer: DERWriter<'_>) -> ASN1Result<()>
         requires { can value.now }
-        ensures { Writes (form_under writer.old.tag writer.old.mode value.now) writer.old writer.new result };
+        ensures { Writes (encoding_under writer.old.tag writer.old.mode value.now) writer.old writer.new result };
 
     // The laws of reading and of a canonical mode.
-    ghost laws: { apart ≡ true → IsNotation true tags same encodes elements (form_under None) fits can };
+    ghost laws: { unambiguous ≡ true → IsNotation true tags same encodes elements (encoding_under None) fits can };
 
-    // No form is empty.
-    ghost filled: { (u : Option Tag) (m : BERMode) (v : Self.Value) → form_under u m v ≡ [] → ⊥ };
+    // No encoding is empty.
+    ghost non_empty: { (u : Option Tag) (m : BERMode) (v : Self.Value) → encoding_under u m v ≡ [] → ⊥ };
 }
 
 impl<A: Notation> Alternatives for (A,) {
@@ -90,19 +90,19 @@ impl<A: Notation> Alternatives for (A,) {
 
     ghost tags = { A.means.tags };
 
-    ghost apart = { (A.means.told && A.apart) };
+    ghost unambiguous = { (A.means.tags_known && A.unambiguous) };
 
     ghost encodes = { A.means.under None };
 
     ghost elements = { A.means.any_under None };
 
-    ghost asks_memory = { A.means.asks_memory };
+    ghost may_allocate = { A.means.may_allocate };
 
     ghost same = { A.means.same };
 
-    ghost form_under = { A.means.form_under };
+    ghost encoding_under = { A.means.encoding_under };
 
-    ghost nest = { A.means.nest };
+    ghost depth = { A.means.depth };
 
     ghost can = { A.means.can };
 
@@ -123,9 +123,9 @@ impl<A: Notation> Alternatives for (A,) {
         A::write(value, writer)
     }
 
-    ghost laws = { λ a. last_laws (λ b. (A.keeps b).own) a };
+    ghost laws = { λ a. last_laws (λ b. (A.lawful b).own) a };
 
-    ghost filled = { A.filled };
+    ghost non_empty = { A.non_empty };
 }
 
 impl<A: Notation, W: Alternatives> Alternatives for (A, W) {
@@ -135,19 +135,19 @@ impl<A: Notation, W: Alternatives> Alternatives for (A, W) {
 
     ghost tags = { A.means.tags ++ W.tags };
 
-    ghost apart = { (A.means.told && (share_none A.means.tags W.tags && (A.apart && W.apart))) };
+    ghost unambiguous = { (A.means.tags_known && (share_none A.means.tags W.tags && (A.unambiguous && W.unambiguous))) };
 
     ghost encodes = { λ m n v b. EitherOf (A.means.under None) W.encodes m n (sides v) b };
 
     ghost elements = { AnyEither (A.means.any_under None) W.elements };
 
-    ghost asks_memory = { (A.means.asks_memory || W.asks_memory) };
+    ghost may_allocate = { (A.means.may_allocate || W.may_allocate) };
 
     ghost same = { λ v w. SameEither A.means.same W.same (sides v) (sides w) };
 
-    ghost form_under = { λ u m v. either_form (A.means.form_under u) (W.form_under u) m (sides v) };
+    ghost encoding_under = { λ u m v. either_encoding (A.means.encoding_under u) (W.encoding_under u) m (sides v) };
 
-    ghost nest = { λ m v. either_nest A.means.nest W.nest m (sides v) };
+    ghost depth = { λ m v. either_depth A.means.depth W.depth m (sides v) };
 
     ghost can = { λ v. either_can A.means.can W.can (sides v) };
 
@@ -176,12 +176,12 @@ impl<A: Notation, W: Alternatives> Alternatives for (A, W) {
         }
     }
 
-    ghost laws = { λ a. either_laws (λ b. (A.keeps b).own) W.laws a };
+    ghost laws = { λ a. either_laws (λ b. (A.lawful b).own) W.laws a };
 
-    ghost filled = { λ u m v. either_filled (A.means.form_under u) (W.form_under u) m (A.filled u m) (W.filled u m) v };
+    ghost non_empty = { λ u m v. either_non_empty (A.means.encoding_under u) (W.encoding_under u) m (A.non_empty u m) (W.non_empty u m) v };
 }
 
-/// `CHOICE { A }`, as `Choice<(i64, (bool, ((),)))>`. No other tag stands in place of its own.
+/// `CHOICE { A }`, as `Choice<(i64, (bool, ((),)))>`. No other tag is in place of its own.
 pub struct Choice<A> {
     of: PhantomData<A>,
 }
@@ -195,20 +195,20 @@ where
     type Inner = A::Inner;
 
     ghost means = { record {
-      told = true;
+      tags_known = true;
       tags = A.tags;
       retagged = false;
       under = λ u. A.encodes;
       any_under = λ u. A.elements;
-      asks_memory = A.asks_memory;
+      may_allocate = A.may_allocate;
       same = A.same;
-      form_under = A.form_under;
-      nest = A.nest;
+      encoding_under = A.encoding_under;
+      depth = A.depth;
       can = A.can;
       fits = A.fits;
     } };
 
-    ghost apart = { A.apart };
+    ghost unambiguous = { A.unambiguous };
 
     #[inline(always)]
     fn has_tag(tag: Tag) -> bool {
@@ -226,7 +226,7 @@ where
         A::write(value, writer)
     }
 
-    ghost keeps = { λ a. record { own = A.laws a; others = λ e. never_retagged e } };
+    ghost lawful = { λ a. record { own = A.laws a; others = λ e. never_retagged e } };
 
-    ghost filled = { A.filled };
+    ghost non_empty = { A.non_empty };
 }

@@ -1,15 +1,15 @@
-//! DEFAULT: a part that is left out where it is the default (X.690, 8.9.3 and 11.5).
+//! DEFAULT: a part that is omitted where it is the default (X.690, 8.9.3 and 11.5).
 //!
 //! What was read is looked at by a `match`, as in `parts`.
 ghost use Rattle.std.specs.Prelude.{◌≡◌, ◌++◌, ◌∷◌, ◌||◌, ◌&&◌, Bool, None, true, false, not, nat_eq, refl};
 ghost use Rattle.yasna_base.specs.Beginnings.{share_none};
 ghost use Rattle.yasna_base.specs.Coding.{Any};
-ghost use Rattle.yasna_base.specs.Default.{TellsDefault, DefaultOf, default_form, default_nest, default_can, default_fits};
+ghost use Rattle.yasna_base.specs.Default.{DetectsDefault, DefaultOf, default_encoding, default_depth, default_can, default_fits};
 ghost use Rattle.yasna_base.specs.Exact.{part_fits};
 ghost use Rattle.yasna_base.specs.Identifier.{end_tag};
-ghost use Rattle.yasna_base.specs.Sequence.{PartOf, AnyPart, SamePart, part_form, part_nest, part_can};
+ghost use Rattle.yasna_base.specs.Sequence.{PartOf, AnyPart, SamePart, part_encoding, part_depth, part_can};
 ghost use Rattle.yasna_writer.specs.View.{WroteParts};
-ghost use Rattle.yasna_notation.specs.Parts.{all_told, default_laws, tells_false, tests_false, tells_number};
+ghost use Rattle.yasna_notation.specs.Parts.{all_known, default_laws, detects_false, tests_false, detects_number};
 
 use crate::bounded::{Bound, Bounded};
 use crate::explicit_tags::Explicit;
@@ -21,7 +21,7 @@ use yasna_base::ASN1Result;
 use yasna_reader::BERReaderSeq;
 use yasna_writer::DERWriterSeq;
 
-/// The value that stands where a part of this notation is left out.
+/// The value that is where a part of this notation is omitted.
 pub trait DefaultValue<N: Notation>
 where
     N::Value: Eq,
@@ -37,7 +37,7 @@ where
         ensures { result ≡ default };
 
     // The test passes the values that equal it, and is that of `==`.
-    ghost tells: { TellsDefault N.means.same is default };
+    ghost detects: { DetectsDefault N.means.same is default };
 
     ghost tests: { (v : N.Value) → is v ≡ N.Value.eq v default };
 }
@@ -55,7 +55,7 @@ impl DefaultValue<bool> for False {
         false
     }
 
-    ghost tells = { tells_false };
+    ghost detects = { detects_false };
 
     ghost tests = { tests_false };
 }
@@ -73,7 +73,7 @@ impl<const N: u64> DefaultValue<u64> for Number<N> {
         N
     }
 
-    ghost tells = { tells_number N };
+    ghost detects = { detects_number N };
 
     ghost tests = { λ v. refl };
 }
@@ -88,7 +88,7 @@ impl<T: TagName, const N: u64> DefaultValue<Explicit<T, u64>> for Number<N> {
         N
     }
 
-    ghost tells = { tells_number N };
+    ghost detects = { detects_number N };
 
     ghost tests = { λ v. refl };
 }
@@ -104,7 +104,7 @@ impl<T: TagName, C: Bound<u64>, const N: u64> DefaultValue<Explicit<T, Bounded<u
         N
     }
 
-    ghost tells = { tells_number N };
+    ghost detects = { detects_number N };
 
     ghost tests = { λ v. refl };
 }
@@ -123,23 +123,23 @@ where
 
     type Inner = (A::Inner, W::Inner);
 
-    ghost told = { true };
+    ghost tags_known = { true };
 
     ghost tags = { A.means.tags ++ W.tags };
 
-    ghost apart = { all_told A.means.told W.told (share_none A.means.tags (end_tag ∷ W.tags)) (A.apart && W.apart) };
+    ghost unambiguous = { all_known A.means.tags_known W.tags_known (share_none A.means.tags (end_tag ∷ W.tags)) (A.unambiguous && W.unambiguous) };
 
     ghost parts = { PartOf (DefaultOf D.is (A.means.under None)) W.parts };
 
     ghost any_parts = { AnyPart (Any (DefaultOf D.is (A.means.under None))) W.any_parts };
 
-    ghost asks_memory = { (A.means.asks_memory || W.asks_memory) };
+    ghost may_allocate = { (A.means.may_allocate || W.may_allocate) };
 
     ghost same = { SamePart A.means.same W.same };
 
-    ghost form = { part_form (default_form D.is (A.means.form_under None)) W.form };
+    ghost encoding = { part_encoding (default_encoding D.is (A.means.encoding_under None)) W.encoding };
 
-    ghost nest = { part_nest (default_nest D.is A.means.nest) W.nest };
+    ghost depth = { part_depth (default_depth D.is A.means.depth) W.depth };
 
     ghost can = { part_can (default_can D.is A.means.can) W.can };
 
@@ -164,7 +164,7 @@ where
         W::write_parts(&values.1, seq)
     }
 
-    ghost laws = { λ a. default_laws D.is D.default D.tells (λ b. (A.keeps b).own) W.laws a };
+    ghost laws = { λ a. default_laws D.is D.default D.detects (λ b. (A.lawful b).own) W.laws a };
 }
 
 impl<'a, A: Notation, D: DefaultValue<A>, R, W: PartsBy<R>> PartsBy<(&'a A::Value, R)>
@@ -176,7 +176,7 @@ where
 
     ghost held = { λ r. (r.0.now, W.held r.1) };
 
-    ghost form_by = { part_form (default_form D.is (A.means.form_under None)) W.form_by };
+    ghost encoding_by = { part_encoding (default_encoding D.is (A.means.encoding_under None)) W.encoding_by };
 
     ghost can_by = { part_can (default_can D.is A.means.can) W.can_by };
 
@@ -196,7 +196,7 @@ fn write_unless_default<A: Notation, D: DefaultValue<A>>(
 where
     A::Value: Eq,
     requires { default_can D.is A.means.can value.now }
-    ensures { WroteParts (default_form D.is (A.means.form_under None) seq.old.mode value.now) seq.old seq.new result }
+    ensures { WroteParts (default_encoding D.is (A.means.encoding_under None) seq.old.mode value.now) seq.old seq.new result }
 {
     if *value == D::default() {
         return Ok(());

@@ -1,11 +1,11 @@
 //! EXPLICIT tags: an element of another tag around an element of the type (X.690, 8.14).
 ghost use Rattle.std.specs.Prelude.{◌≡◌, ◌∷◌, [], None, true};
-ghost use Rattle.yasna_base.specs.Canonical.{enclosed_form, enclosed_nest};
+ghost use Rattle.yasna_base.specs.Canonical.{enclosed_encoding, enclosed_depth};
 ghost use Rattle.yasna_base.specs.Element.{Enclosed, AnyEnclosed};
 ghost use Rattle.yasna_base.specs.Exact.{enclosed_fits};
 ghost use Rattle.yasna_base.specs.Identifier.{tag_or};
 ghost use Rattle.yasna_base.proofs.ExplicitTags.{enclosed_begins};
-ghost use Rattle.yasna_notation.specs.Laws.{element_keeps, explicit_laws, element_filled};
+ghost use Rattle.yasna_notation.specs.Laws.{element_lawful, explicit_laws, element_non_empty};
 
 use crate::notation::Notation;
 use crate::tag_names::TagName;
@@ -26,20 +26,20 @@ impl<T: TagName, N: Notation> Notation for Explicit<T, N> {
     type Inner = N::Inner;
 
     ghost means = { record {
-      told = true;
+      tags_known = true;
       tags = T.tag ∷ [];
       retagged = true;
       under = λ u. Enclosed (N.means.under None) (tag_or u T.tag);
       any_under = λ u. AnyEnclosed (N.means.any_under None) (tag_or u T.tag);
-      asks_memory = N.means.asks_memory;
+      may_allocate = N.means.may_allocate;
       same = N.means.same;
-      form_under = λ u. enclosed_form (N.means.form_under None) (tag_or u T.tag);
-      nest = enclosed_nest N.means.nest;
+      encoding_under = λ u. enclosed_encoding (N.means.encoding_under None) (tag_or u T.tag);
+      depth = enclosed_depth N.means.depth;
       can = N.means.can;
       fits = enclosed_fits N.means.fits;
     } };
 
-    ghost apart = { N.apart };
+    ghost unambiguous = { N.unambiguous };
 
     #[inline(always)]
     fn has_tag(tag: Tag) -> bool {
@@ -56,7 +56,7 @@ impl<T: TagName, N: Notation> Notation for Explicit<T, N> {
         writer.write_tagged(T::tag(), |inner| N::write(value, inner))
     }
 
-    ghost keeps = { λ a. element_keeps T.tag (explicit_laws (N.keeps a).own) (enclosed_begins (N.means.any_under None)) T.not_end T.in_range };
+    ghost lawful = { λ a. element_lawful T.tag (explicit_laws (N.lawful a).own) (enclosed_begins (N.means.any_under None)) T.not_end T.in_range };
 
-    ghost filled = { λ u m v. element_filled _ _ _ _ };
+    ghost non_empty = { λ u m v. element_non_empty _ _ _ _ };
 }

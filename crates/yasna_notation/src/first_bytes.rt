@@ -21,7 +21,7 @@ pub struct WithFirst<'a, V, W> {
     pub first_bytes: &'a [u8],
 }
 
-/// Reads parts up to the end of the contents, as `<(A, W)>::read_parts` does, and answers the bytes of the first beside its value.
+/// Reads parts up to the end of the contents, as `<(A, W)>::read_parts` does, and returns the bytes of the first beside its value.
 ///
 /// What a SEQUENCE is read by is a function of types that are named, since the bytes borrow from the input:
 ///
@@ -38,9 +38,9 @@ pub struct WithFirst<'a, V, W> {
 pub fn read_parts_with_first<'a, A: Notation, W: Parts>(
     seq: &mut BERReaderSeq<'a, '_>,
 ) -> ASN1Result<WithFirst<'a, A::Value, W::Values>>
-    requires apart { (A.apart && W.apart) ≡ true }
+    requires unambiguous { (A.unambiguous && W.unambiguous) ≡ true }
     requires fresh { IsFresh (part_of seq.old) }
-    ensures { ReadsContents (A.means.asks_memory || W.asks_memory) (PartsWithFirst (A.means.under None) W.parts)
+    ensures { ReadsContents (A.means.may_allocate || W.may_allocate) (PartsWithFirst (A.means.under None) W.parts)
         (AnyPart (A.means.any_under None) W.any_parts) (part_of seq.old) result (part_of seq.new) }
 {
     let (first, first_bytes) = seq.next().read_with_buffer(|first| A::read(first))?;

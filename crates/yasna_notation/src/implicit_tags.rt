@@ -1,7 +1,7 @@
 //! IMPLICIT tags: a tag in place of the type's own (X.690, 8.14).
 ghost use Rattle.std.specs.Prelude.{◌≡◌, ◌∷◌, ◌&&◌, [], Some, true};
 ghost use Rattle.yasna_base.specs.Identifier.{tag_or};
-ghost use Rattle.yasna_notation.specs.Laws.{implicit_keeps};
+ghost use Rattle.yasna_notation.specs.Laws.{implicit_lawful};
 
 use crate::notation::Notation;
 use crate::tag_names::TagName;
@@ -22,20 +22,20 @@ impl<T: TagName, N: Notation> Notation for Implicit<T, N> {
     type Inner = N::Inner;
 
     ghost means = { record {
-      told = true;
+      tags_known = true;
       tags = T.tag ∷ [];
       retagged = true;
       under = λ u. N.means.under (Some (tag_or u T.tag));
       any_under = λ u. N.means.any_under (Some (tag_or u T.tag));
-      asks_memory = N.means.asks_memory;
+      may_allocate = N.means.may_allocate;
       same = N.means.same;
-      form_under = λ u. N.means.form_under (Some (tag_or u T.tag));
-      nest = N.means.nest;
+      encoding_under = λ u. N.means.encoding_under (Some (tag_or u T.tag));
+      depth = N.means.depth;
       can = N.means.can;
       fits = N.means.fits;
     } };
 
-    ghost apart = { (N.means.retagged && N.apart) };
+    ghost unambiguous = { (N.means.retagged && N.unambiguous) };
 
     #[inline(always)]
     fn has_tag(tag: Tag) -> bool {
@@ -52,7 +52,7 @@ impl<T: TagName, N: Notation> Notation for Implicit<T, N> {
         writer.write_tagged_implicit(T::tag(), |inner| N::write(value, inner))
     }
 
-    ghost keeps = { λ a. implicit_keeps T.tag (λ b. N.keeps b) a T.not_end T.in_range };
+    ghost lawful = { λ a. implicit_lawful T.tag (λ b. N.lawful b) a T.not_end T.in_range };
 
-    ghost filled = { λ u. N.filled (Some (tag_or u T.tag)) };
+    ghost non_empty = { λ u. N.non_empty (Some (tag_or u T.tag)) };
 }

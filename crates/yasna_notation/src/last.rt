@@ -1,9 +1,9 @@
-//! A part at the end that may be left out, of a type that no tag need tell (X.690, 8.9.3).
+//! A part at the end that may be omitted, of a type that no tag need tell (X.690, 8.9.3).
 ghost use Rattle.std.specs.Prelude.{◌≡◌, ◌++◌, ◌||◌, [], None, false};
 ghost use Rattle.yasna_base.specs.Canonical.{Always};
 ghost use Rattle.yasna_base.specs.Exact.{part_fits, nothing_fits, option_fits};
-ghost use Rattle.yasna_base.specs.Optional.{OptionOf, AnyOption, SameOption, option_form, option_nest, option_can};
-ghost use Rattle.yasna_base.specs.Sequence.{PartOf, NoParts, AnyPart, AnyNothing, SamePart, SameNothing, part_form, part_nest, part_can, nothing_form, nothing_nest};
+ghost use Rattle.yasna_base.specs.Optional.{OptionOf, AnyOption, SameOption, option_encoding, option_depth, option_can};
+ghost use Rattle.yasna_base.specs.Sequence.{PartOf, NoParts, AnyPart, AnyNothing, SamePart, SameNothing, part_encoding, part_depth, part_can, nothing_encoding, nothing_depth};
 ghost use Rattle.yasna_writer.specs.View.{WroteParts};
 ghost use Rattle.yasna_notation.specs.Parts.{last_part_laws};
 
@@ -24,23 +24,23 @@ impl<A: Notation> Parts for Last<A> {
 
     type Inner = A::Inner;
 
-    ghost told = { A.means.told };
+    ghost tags_known = { A.means.tags_known };
 
     ghost tags = { A.means.tags ++ [] };
 
-    ghost apart = { A.apart };
+    ghost unambiguous = { A.unambiguous };
 
     ghost parts = { λ m n v c. PartOf (OptionOf (A.means.under None)) NoParts m n (v, tt) c };
 
     ghost any_parts = { AnyPart (AnyOption (A.means.any_under None)) AnyNothing };
 
-    ghost asks_memory = { (A.means.asks_memory || false) };
+    ghost may_allocate = { (A.means.may_allocate || false) };
 
     ghost same = { λ v w. SamePart (SameOption A.means.same) SameNothing (v, tt) (w, tt) };
 
-    ghost form = { λ m v. part_form (option_form (A.means.form_under None)) nothing_form m (v, tt) };
+    ghost encoding = { λ m v. part_encoding (option_encoding (A.means.encoding_under None)) nothing_encoding m (v, tt) };
 
-    ghost nest = { λ m v. part_nest (option_nest A.means.nest) nothing_nest m (v, tt) };
+    ghost depth = { λ m v. part_depth (option_depth A.means.depth) nothing_depth m (v, tt) };
 
     ghost can = { λ v. part_can (option_can A.means.can) Always (v, tt {0}) };
 
@@ -56,7 +56,7 @@ impl<A: Notation> Parts for Last<A> {
         write_optional::<A>(values, seq)
     }
 
-    ghost laws = { λ a. last_part_laws (A.keeps a).own };
+    ghost laws = { λ a. last_part_laws (A.lawful a).own };
 }
 
 impl<'a, A: Notation> PartsBy<&'a Option<A::Value>> for Last<A> {
@@ -64,7 +64,7 @@ impl<'a, A: Notation> PartsBy<&'a Option<A::Value>> for Last<A> {
 
     ghost held = { λ r. r.now };
 
-    ghost form_by = { λ m v. part_form (option_form (A.means.form_under None)) nothing_form m (v, tt) };
+    ghost encoding_by = { λ m v. part_encoding (option_encoding (A.means.encoding_under None)) nothing_encoding m (v, tt) };
 
     ghost can_by = { λ v. part_can (option_can A.means.can) Always (v, tt {0}) };
 

@@ -2,7 +2,7 @@
 //!
 //! | Module | Holds |
 //! |---|---|
-//! | `notation` | what a notation says: which bytes stand for which values, how they are read and written, and their laws |
+//! | `notation` | what a notation says: which bytes represent which values, how they are read and written, and their laws |
 //! | `tag_names` | the tags that a module writes, as types |
 //! | `simple` | BOOLEAN, INTEGER, ENUMERATED, NULL, OBJECT IDENTIFIER |
 //! | `strings`, `times` | strings and times |
@@ -17,7 +17,8 @@ mod bounds;
 mod canonical;
 mod choices;
 mod defaults;
-mod defined;
+mod defined_type;
+mod encoded;
 mod explicit_tags;
 mod first_bytes;
 mod implicit_tags;
@@ -25,7 +26,6 @@ mod last;
 mod lists;
 mod messages;
 mod notation;
-mod noted;
 mod parts;
 mod sequences;
 mod set_lists;
@@ -39,15 +39,15 @@ pub use bounds::{AtMost, Exactly, FromTo, FromZero, NotEmpty, Size, SizeAtMost, 
 pub use canonical::{CanonicalAlternatives, CanonicalNotation, CanonicalParts};
 pub use choices::{Alternatives, Choice, Either};
 pub use defaults::{Default, DefaultValue, False, Number};
-pub use defined::Defined;
+pub use defined_type::DefinedType;
+pub use encoded::Encoded;
 pub use explicit_tags::Explicit;
 pub use first_bytes::{WithFirst, read_parts_with_first};
 pub use implicit_tags::Implicit;
 pub use last::Last;
 pub use lists::SequenceOf;
-pub use messages::{Message, StandsFor, read_as};
+pub use messages::{Message, Represents, read_as};
 pub use notation::Notation;
-pub use noted::Noted;
 pub use parts::{Optional, Parts, PartsBy};
 pub use sequences::Sequence;
 pub use set_lists::SetOf;

@@ -1,18 +1,18 @@
 //! SEQUENCE OF (X.690, 8.10).
 ghost use Rattle.std.specs.Prelude.{◌≡◌, ◌∷◌, [], None, true};
 ghost use Rattle.std.specs.List.{AllByRecursion};
-ghost use Rattle.yasna_base.specs.Canonical.{enclosed_form, enclosed_nest};
+ghost use Rattle.yasna_base.specs.Canonical.{enclosed_encoding, enclosed_depth};
 ghost use Rattle.yasna_base.specs.Exact.{enclosed_fits, elements_fit};
 ghost use Rattle.yasna_base.specs.Identifier.{tag_or};
 ghost use Rattle.yasna_base.specs.Pieces.{Each};
 ghost use Rattle.yasna_base.specs.Sequence.{sequence_tag};
-ghost use Rattle.yasna_base.specs.SequenceOf.{IsListOf, AnyListOf, elements_form, elements_nest, AnyElements};
+ghost use Rattle.yasna_base.specs.SequenceOf.{IsListOf, AnyListOf, elements_encoding, elements_depth, AnyElements};
 ghost use Rattle.yasna_base.proofs.ExplicitTags.{enclosed_begins};
 ghost use Rattle.yasna_base.proofs.Identifier.{not_end};
 ghost use Rattle.std.proofs.Common.{arith};
 ghost use Rattle.yasna_writer.specs.View.{Writes, WroteParts};
 ghost use Rattle.yasna_notation.specs.Making.{in_sequence_of};
-ghost use Rattle.yasna_notation.specs.Laws.{element_keeps, list_laws, element_filled};
+ghost use Rattle.yasna_notation.specs.Laws.{element_lawful, list_laws, element_non_empty};
 
 use crate::notation::Notation;
 use std::marker::PhantomData;
@@ -32,20 +32,20 @@ impl<N: Notation> Notation for SequenceOf<N> {
     type Inner = N::Inner;
 
     ghost means = { record {
-      told = true;
+      tags_known = true;
       tags = sequence_tag ∷ [];
       retagged = true;
       under = λ u m n v b. IsListOf (N.means.under None) (tag_or u sequence_tag) m n v.items b;
       any_under = λ u. AnyListOf (N.means.any_under None) (tag_or u sequence_tag);
-      asks_memory = true;
+      may_allocate = true;
       same = λ v w. Each N.means.same v.items w.items;
-      form_under = λ u m v. enclosed_form (elements_form (N.means.form_under None)) (tag_or u sequence_tag) m v.items;
-      nest = λ m v. enclosed_nest (elements_nest N.means.nest) m v.items;
+      encoding_under = λ u m v. enclosed_encoding (elements_encoding (N.means.encoding_under None)) (tag_or u sequence_tag) m v.items;
+      depth = λ m v. enclosed_depth (elements_depth N.means.depth) m v.items;
       can = λ v. AllByRecursion N.means.can v.items;
       fits = λ m n v. enclosed_fits (elements_fit N.means.fits) m n v.items;
     } };
 
-    ghost apart = { N.apart };
+    ghost unambiguous = { N.unambiguous };
 
     #[inline(always)]
     fn has_tag(tag: Tag) -> bool {
@@ -62,15 +62,15 @@ impl<N: Notation> Notation for SequenceOf<N> {
         write_list::<N>(value.as_slice(), writer)
     }
 
-    ghost keeps = { λ a. in_sequence_of (N.keeps a).own };
+    ghost lawful = { λ a. in_sequence_of (N.lawful a).own };
 
-    ghost filled = { λ u m v. element_filled _ _ _ _ };
+    ghost non_empty = { λ u m v. element_non_empty _ _ _ _ };
 }
 
 // Writes a SEQUENCE OF these items.
 fn write_list<N: Notation>(items: &[N::Value], writer: DERWriter<'_>) -> ASN1Result<()>
     requires { AllByRecursion N.means.can items.now }
-    ensures { Writes (enclosed_form (elements_form (N.means.form_under None)) (tag_or writer.old.tag sequence_tag) writer.old.mode items.now) writer.old writer.new result }
+    ensures { Writes (enclosed_encoding (elements_encoding (N.means.encoding_under None)) (tag_or writer.old.tag sequence_tag) writer.old.mode items.now) writer.old writer.new result }
 {
     writer.write_sequence_of(|seq| write_items::<N>(items, seq))
 }
@@ -78,7 +78,7 @@ fn write_list<N: Notation>(items: &[N::Value], writer: DERWriter<'_>) -> ASN1Res
 // Writes items, one after the other.
 fn write_items<N: Notation>(items: &[N::Value], seq: &mut DERWriterSeq) -> ASN1Result<()>
     requires { AllByRecursion N.means.can items.now }
-    ensures { WroteParts (elements_form (N.means.form_under None) seq.old.mode items.now) seq.old seq.new result }
+    ensures { WroteParts (elements_encoding (N.means.encoding_under None) seq.old.mode items.now) seq.old seq.new result }
 {
     for item in items {
         N::write(item, seq.next())?;

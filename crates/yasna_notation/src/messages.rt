@@ -1,6 +1,6 @@
 //! Types that are notations of their own: how a message is cut into types, each of which is checked alone.
 ghost use Rattle.std.specs.Prelude.{◌≡◌, true};
-ghost use Rattle.yasna_notation.specs.Notation.{ReadsMeaning, stands_for};
+ghost use Rattle.yasna_notation.specs.Notation.{ReadsMeaning, represented_by};
 
 use crate::notation::Notation;
 use yasna_base::ASN1Result;
@@ -8,25 +8,25 @@ use yasna_reader::BERReader;
 
 /// A type that is a notation of its own values.
 pub trait Message: Notation<Value = Self> + Drop {
-    // Tags tell apart what has to be told apart: `refl` proves it where they do.
-    ghost told_apart: { Self.apart ≡ true };
+    // Tags make unambiguous what has to be: `refl` proves it where they do.
+    ghost is_unambiguous: { Self.unambiguous ≡ true };
 }
 
-/// A type whose values stand for others.
-pub trait StandsFor<V: Drop>: Sized + Drop {
-    // What stands for a value.
+/// A type whose values represent others.
+pub trait Represents<V: Drop>: Sized + Drop {
+    // What represents a value.
     ghost value_of: { Self → V };
 
-    /// Makes a value of what stands for it.
+    /// Makes a value of what represents it.
     fn from_value(value: V) -> Self
         ensures { value_of result ≡ value };
 }
 
-/// Reads a value of a type whose values stand for those of a notation.
+/// Reads a value of a type whose values represent those of a notation.
 #[inline(always)]
-pub fn read_as<N: Notation, T: StandsFor<N::Value>>(reader: BERReader) -> ASN1Result<T>
-    requires { N.apart ≡ true }
-    ensures { ReadsMeaning (stands_for T.value_of N.means) reader.old result reader.new }
+pub fn read_as<N: Notation, T: Represents<N::Value>>(reader: BERReader) -> ASN1Result<T>
+    requires { N.unambiguous ≡ true }
+    ensures { ReadsMeaning (represented_by T.value_of N.means) reader.old result reader.new }
 {
     let value = N::read(reader)?;
     Ok(T::from_value(value))

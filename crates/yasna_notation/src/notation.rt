@@ -1,13 +1,13 @@
-//! What a notation says: which bytes stand for which values, how they are read and written, and the laws of both.
+//! What a notation says: which bytes represent which values, how they are read and written, and the laws of both.
 ghost use Rattle.std.specs.Prelude.{◌≡◌, Bool, List, [], Option, None, true};
 ghost use Rattle.std.specs.List.{list_any};
 ghost use Rattle.yasna_base.specs.declared.mode.BERMode.{BERMode};
 ghost use Rattle.yasna_base.specs.declared.tag.Tag.{Tag};
 ghost use Rattle.yasna_base.specs.Beginnings.{is_tag};
 ghost use Rattle.yasna_base.specs.Exact.{Fitting};
-ghost use Rattle.yasna_base.specs.Grammar.{Grammar, Members, Form, Nest};
+ghost use Rattle.yasna_base.specs.Grammar.{Grammar, Members, Encoding, Depth};
 ghost use Rattle.yasna_writer.specs.View.{Writes};
-ghost use Rattle.yasna_notation.specs.Notation.{Meaning, KeepsMeaning, IsFilledForm, ReadsMeaning};
+ghost use Rattle.yasna_notation.specs.Notation.{Meaning, MeaningKeepsLaws, IsNonEmptyEncoding, ReadsMeaning};
 
 use yasna_base::{ASN1Result, Tag};
 use yasna_reader::BERReader;
@@ -15,20 +15,20 @@ use yasna_writer::DERWriter;
 
 /// A type as the notation of ASN.1 writes it (X.680).
 ///
-/// It has no values of its own: it says how those of a type of Rust are read and written. Where an implicit tag waits, that stands in
+/// It has no values of its own: it says how those of a type of Rust are read and written. Where an implicit tag waits, that is in
 /// place of the type's own, if it has one of its own.
 pub trait Notation {
     /// What its values are in Rust.
     type Value: Drop;
 
-    /// The types of values that stand inside its own, which the type of its own doesn't name: bounds name them.
+    /// The types of values that are inside its own, which the type of its own doesn't name: bounds name them.
     type Inner;
 
-    // What it means: which bytes stand for which values, and what else the laws speak of.
+    // What it means: which bytes represent which values, and what else the laws speak of.
     ghost means: { Meaning Self.Value };
 
-    // Whether what has to be told apart inside it is, by tags.
-    ghost apart: { Bool } = { true };
+    // Whether what has to be unambiguous inside it is, by tags.
+    ghost unambiguous: { Bool } = { true };
 
     /// Whether this is one of the tags by which encodings begin.
     fn has_tag(tag: Tag) -> bool
@@ -36,17 +36,17 @@ pub trait Notation {
 
     /// Reads a value.
     fn read(reader: BERReader) -> ASN1Result<Self::Value>
-        requires { apart ≡ true }
+        requires { unambiguous ≡ true }
         ensures { ReadsMeaning means reader.old result reader.new };
 
     /// Writes a value.
     fn write(value: &Self::Value, writer: DERWriter<'_>) -> ASN1Result<()>
         requires { means.can value.now }
-        ensures { Writes (means.form_under writer.old.tag writer.old.mode value.now) writer.old writer.new result };
+        ensures { Writes (means.encoding_under writer.old.tag writer.old.mode value.now) writer.old writer.new result };
 
     // The laws of reading and of a canonical mode, under the type's own tag and under others.
-    ghost keeps: { apart ≡ true → KeepsMeaning means };
+    ghost lawful: { unambiguous ≡ true → MeaningKeepsLaws means };
 
-    // No form is empty.
-    ghost filled: { IsFilledForm means };
+    // No encoding is empty.
+    ghost non_empty: { IsNonEmptyEncoding means };
 }

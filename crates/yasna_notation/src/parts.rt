@@ -1,4 +1,4 @@
-//! What a SEQUENCE holds: parts that are there, may be left out, or are a default where they are (X.690, 8.9).
+//! What a SEQUENCE holds: parts that are there, may be omitted, or are a default where they are (X.690, 8.9).
 //!
 //! What was read is looked at by a `match`: `?` moves it first, and the values of many parts are large.
 ghost use Rattle.std.specs.Prelude.{◌≡◌, ◌∷◌, ◌++◌, ◌||◌, ◌&&◌, [], Bool, List, None, true, false};
@@ -6,13 +6,13 @@ ghost use Rattle.yasna_base.specs.declared.tag.Tag.{Tag};
 ghost use Rattle.yasna_base.specs.Beginnings.{share_none};
 ghost use Rattle.yasna_base.specs.Canonical.{Always};
 ghost use Rattle.yasna_base.specs.Exact.{Fitting, part_fits, nothing_fits, option_fits};
-ghost use Rattle.yasna_base.specs.Grammar.{Grammar, Members, Form, Nest};
+ghost use Rattle.yasna_base.specs.Grammar.{Grammar, Members, Encoding, Depth};
 ghost use Rattle.yasna_base.specs.Identifier.{end_tag};
-ghost use Rattle.yasna_base.specs.Optional.{OptionOf, AnyOption, SameOption, option_form, option_nest, option_can};
-ghost use Rattle.yasna_base.specs.Sequence.{PartOf, NoParts, AnyPart, AnyNothing, SamePart, SameNothing, part_form, part_nest, part_can, nothing_form, nothing_nest};
+ghost use Rattle.yasna_base.specs.Optional.{OptionOf, AnyOption, SameOption, option_encoding, option_depth, option_can};
+ghost use Rattle.yasna_base.specs.Sequence.{PartOf, NoParts, AnyPart, AnyNothing, SamePart, SameNothing, part_encoding, part_depth, part_can, nothing_encoding, nothing_depth};
 ghost use Rattle.yasna_reader.specs.State.{IsFresh, part_of};
 ghost use Rattle.yasna_writer.specs.View.{WroteParts};
-ghost use Rattle.yasna_notation.specs.Parts.{ReadsContents, AreParts, no_parts, part_laws, option_laws, all_told};
+ghost use Rattle.yasna_notation.specs.Parts.{ReadsContents, AreParts, no_parts, part_laws, option_laws, all_known};
 
 use crate::notation::Notation;
 use std::marker::PhantomData;
@@ -25,16 +25,16 @@ pub trait Parts {
     /// What their values are in Rust: pairs that end in `()` too.
     type Values;
 
-    /// The types of values that stand inside its own, which the type of its own doesn't name: bounds name them.
+    /// The types of values that are inside its own, which the type of its own doesn't name: bounds name them.
     type Inner;
 
-    // Whether it is told by which tags they begin, up to the first that is always there, and these.
-    ghost told: { Bool };
+    // Whether it is known by which tags they begin, up to the first that is always there, and these.
+    ghost tags_known: { Bool };
 
     ghost tags: { List Tag };
 
-    // Whether what has to be told apart in them is, by tags.
-    ghost apart: { Bool };
+    // Whether what has to be unambiguous in them is, by tags.
+    ghost unambiguous: { Bool };
 
     // Which contents encode the values.
     ghost parts: { Grammar Self.Values };
@@ -42,16 +42,16 @@ pub trait Parts {
     // What that asks of the bytes alone.
     ghost any_parts: { Members };
 
-    // Whether reading them may want memory.
-    ghost asks_memory: { Bool };
+    // Whether reading them may allocate.
+    ghost may_allocate: { Bool };
 
     // Which values are equal.
     ghost same: { Self.Values → Self.Values → Type 0 };
 
-    // The forms, one after the other.
-    ghost form: { Form Self.Values };
+    // The encodings, one after the other.
+    ghost encoding: { Encoding Self.Values };
 
-    ghost nest: { Nest Self.Values };
+    ghost depth: { Depth Self.Values };
 
     ghost can: { Self.Values → Type 0 };
 
@@ -59,17 +59,17 @@ pub trait Parts {
 
     /// Reads the parts up to the end of the contents.
     fn read_parts(seq: &mut BERReaderSeq) -> ASN1Result<Self::Values>
-        requires apart { apart ≡ true }
+        requires unambiguous { unambiguous ≡ true }
         requires fresh { IsFresh (part_of seq.old) }
-        ensures { ReadsContents asks_memory parts any_parts (part_of seq.old) result (part_of seq.new) };
+        ensures { ReadsContents may_allocate parts any_parts (part_of seq.old) result (part_of seq.new) };
 
     /// Writes the parts.
     fn write_parts(values: &Self::Values, seq: &mut DERWriterSeq) -> ASN1Result<()>
         requires { can values.now }
-        ensures { WroteParts (form seq.old.mode values.now) seq.old seq.new result };
+        ensures { WroteParts (encoding seq.old.mode values.now) seq.old seq.new result };
 
     // The laws of reading and of a canonical mode.
-    ghost laws: { apart ≡ true → AreParts told tags same parts any_parts form fits can };
+    ghost laws: { unambiguous ≡ true → AreParts tags_known tags same parts any_parts encoding fits can };
 }
 
 impl Parts for () {
@@ -77,23 +77,23 @@ impl Parts for () {
 
     type Inner = ();
 
-    ghost told = { true };
+    ghost tags_known = { true };
 
     ghost tags = { [] };
 
-    ghost apart = { true };
+    ghost unambiguous = { true };
 
     ghost parts = { NoParts };
 
     ghost any_parts = { AnyNothing };
 
-    ghost asks_memory = { false };
+    ghost may_allocate = { false };
 
     ghost same = { SameNothing };
 
-    ghost form = { nothing_form };
+    ghost encoding = { nothing_encoding };
 
-    ghost nest = { nothing_nest };
+    ghost depth = { nothing_depth };
 
     ghost can = { Always };
 
@@ -117,23 +117,23 @@ impl<A: Notation, W: Parts> Parts for (A, W) {
 
     type Inner = (A::Inner, W::Inner);
 
-    ghost told = { A.means.told };
+    ghost tags_known = { A.means.tags_known };
 
     ghost tags = { A.means.tags };
 
-    ghost apart = { (A.apart && W.apart) };
+    ghost unambiguous = { (A.unambiguous && W.unambiguous) };
 
     ghost parts = { PartOf (A.means.under None) W.parts };
 
     ghost any_parts = { AnyPart (A.means.any_under None) W.any_parts };
 
-    ghost asks_memory = { (A.means.asks_memory || W.asks_memory) };
+    ghost may_allocate = { (A.means.may_allocate || W.may_allocate) };
 
     ghost same = { SamePart A.means.same W.same };
 
-    ghost form = { part_form (A.means.form_under None) W.form };
+    ghost encoding = { part_encoding (A.means.encoding_under None) W.encoding };
 
-    ghost nest = { part_nest A.means.nest W.nest };
+    ghost depth = { part_depth A.means.depth W.depth };
 
     ghost can = { part_can A.means.can W.can };
 
@@ -158,10 +158,10 @@ impl<A: Notation, W: Parts> Parts for (A, W) {
         W::write_parts(&values.1, seq)
     }
 
-    ghost laws = { λ a. part_laws (λ b. (A.keeps b).own) W.laws a };
+    ghost laws = { λ a. part_laws (λ b. (A.lawful b).own) W.laws a };
 }
 
-/// `N OPTIONAL`: a part that may be left out.
+/// `N OPTIONAL`: a part that may be omitted.
 pub struct Optional<N> {
     of: PhantomData<N>,
 }
@@ -171,23 +171,23 @@ impl<A: Notation, W: Parts> Parts for (Optional<A>, W) {
 
     type Inner = (A::Inner, W::Inner);
 
-    ghost told = { true };
+    ghost tags_known = { true };
 
     ghost tags = { A.means.tags ++ W.tags };
 
-    ghost apart = { all_told A.means.told W.told (share_none A.means.tags (end_tag ∷ W.tags)) (A.apart && W.apart) };
+    ghost unambiguous = { all_known A.means.tags_known W.tags_known (share_none A.means.tags (end_tag ∷ W.tags)) (A.unambiguous && W.unambiguous) };
 
     ghost parts = { PartOf (OptionOf (A.means.under None)) W.parts };
 
     ghost any_parts = { AnyPart (AnyOption (A.means.any_under None)) W.any_parts };
 
-    ghost asks_memory = { (A.means.asks_memory || W.asks_memory) };
+    ghost may_allocate = { (A.means.may_allocate || W.may_allocate) };
 
     ghost same = { SamePart (SameOption A.means.same) W.same };
 
-    ghost form = { part_form (option_form (A.means.form_under None)) W.form };
+    ghost encoding = { part_encoding (option_encoding (A.means.encoding_under None)) W.encoding };
 
-    ghost nest = { part_nest (option_nest A.means.nest) W.nest };
+    ghost depth = { part_depth (option_depth A.means.depth) W.depth };
 
     ghost can = { part_can (option_can A.means.can) W.can };
 
@@ -215,17 +215,17 @@ impl<A: Notation, W: Parts> Parts for (Optional<A>, W) {
         W::write_parts(&values.1, seq)
     }
 
-    ghost laws = { λ a. option_laws (λ b. (A.keeps b).own) W.laws a };
+    ghost laws = { λ a. option_laws (λ b. (A.lawful b).own) W.laws a };
 }
 
-// Writes a part that may be left out.
+// Writes a part that may be omitted.
 #[inline(always)]
 pub(crate) fn write_optional<A: Notation>(
     value: &Option<A::Value>,
     seq: &mut DERWriterSeq,
 ) -> ASN1Result<()>
     requires { option_can A.means.can value.now }
-    ensures { WroteParts (option_form (A.means.form_under None) seq.old.mode value.now) seq.old seq.new result }
+    ensures { WroteParts (option_encoding (A.means.encoding_under None) seq.old.mode value.now) seq.old seq.new result }
 {
     match value {
         Some(part) => A::write(part, seq.next()),
@@ -233,24 +233,24 @@ pub(crate) fn write_optional<A: Notation>(
     }
 }
 
-/// Parts whose values stand apart, as the fields of a struct: `R` is references to them, as pairs that end in `()`.
+/// Parts whose values are apart, as the fields of a struct: `R` is references to them, as pairs that end in `()`.
 pub trait PartsBy<R> {
-    /// What the references stand for: the values of the parts.
+    /// What the references represent: the values of the parts.
     type Held;
 
     // The values.
     ghost held: { R → Self.Held };
 
-    // Their forms, and which can be written. What writes them as parts asks that these are those of `Parts`: with `Parts` above this trait,
+    // Their encodings, and which can be written. What writes them as parts asks that these are those of `Parts`: with `Parts` above this trait,
     // each pair in a pair would prove it for all pairs inside.
-    ghost form_by: { Form Self.Held };
+    ghost encoding_by: { Encoding Self.Held };
 
     ghost can_by: { Self.Held → Type 0 };
 
     /// Writes the parts.
     fn write_each(fields: &R, seq: &mut DERWriterSeq) -> ASN1Result<()>
         requires { can_by (held fields.now) }
-        ensures { WroteParts (form_by seq.old.mode (held fields.now)) seq.old seq.new result };
+        ensures { WroteParts (encoding_by seq.old.mode (held fields.now)) seq.old seq.new result };
 }
 
 impl PartsBy<()> for () {
@@ -258,7 +258,7 @@ impl PartsBy<()> for () {
 
     ghost held = { λ r. tt };
 
-    ghost form_by = { nothing_form };
+    ghost encoding_by = { nothing_encoding };
 
     ghost can_by = { Always };
 
@@ -273,7 +273,7 @@ impl<'a, A: Notation, R, W: PartsBy<R>> PartsBy<(&'a A::Value, R)> for (A, W) {
 
     ghost held = { λ r. (r.0.now, W.held r.1) };
 
-    ghost form_by = { part_form (A.means.form_under None) W.form_by };
+    ghost encoding_by = { part_encoding (A.means.encoding_under None) W.encoding_by };
 
     ghost can_by = { part_can A.means.can W.can_by };
 
@@ -289,7 +289,7 @@ impl<'a, A: Notation, R, W: PartsBy<R>> PartsBy<(&'a Option<A::Value>, R)> for (
 
     ghost held = { λ r. (r.0.now, W.held r.1) };
 
-    ghost form_by = { part_form (option_form (A.means.form_under None)) W.form_by };
+    ghost encoding_by = { part_encoding (option_encoding (A.means.encoding_under None)) W.encoding_by };
 
     ghost can_by = { part_can (option_can A.means.can) W.can_by };
 

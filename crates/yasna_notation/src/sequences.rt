@@ -1,7 +1,7 @@
 //! SEQUENCE (X.690, 8.9).
 ghost use Rattle.std.specs.Prelude.{◌≡◌, ◌∷◌, [], true};
 ghost use Rattle.std.proofs.Common.{arith};
-ghost use Rattle.yasna_base.specs.Canonical.{enclosed_form, enclosed_nest};
+ghost use Rattle.yasna_base.specs.Canonical.{enclosed_encoding, enclosed_depth};
 ghost use Rattle.yasna_base.specs.Element.{Enclosed, AnyEnclosed};
 ghost use Rattle.yasna_base.specs.Exact.{enclosed_fits};
 ghost use Rattle.yasna_base.specs.Identifier.{tag_or};
@@ -10,7 +10,7 @@ ghost use Rattle.yasna_base.proofs.ExplicitTags.{enclosed_begins};
 ghost use Rattle.yasna_base.proofs.Identifier.{not_end};
 ghost use Rattle.yasna_writer.specs.View.{Writes};
 ghost use Rattle.yasna_notation.specs.Making.{in_sequence};
-ghost use Rattle.yasna_notation.specs.Laws.{element_keeps, element_filled};
+ghost use Rattle.yasna_notation.specs.Laws.{element_lawful, element_non_empty};
 ghost use Rattle.yasna_notation.specs.Parts.{WrittenAlike, sequence_laws};
 
 use crate::notation::Notation;
@@ -35,20 +35,20 @@ where
     type Inner = P::Inner;
 
     ghost means = { record {
-      told = true;
+      tags_known = true;
       tags = sequence_tag ∷ [];
       retagged = true;
       under = λ u. Enclosed P.parts (tag_or u sequence_tag);
       any_under = λ u. AnyEnclosed P.any_parts (tag_or u sequence_tag);
-      asks_memory = P.asks_memory;
+      may_allocate = P.may_allocate;
       same = P.same;
-      form_under = λ u. enclosed_form P.form (tag_or u sequence_tag);
-      nest = enclosed_nest P.nest;
+      encoding_under = λ u. enclosed_encoding P.encoding (tag_or u sequence_tag);
+      depth = enclosed_depth P.depth;
       can = P.can;
       fits = enclosed_fits P.fits;
     } };
 
-    ghost apart = { P.apart };
+    ghost unambiguous = { P.unambiguous };
 
     #[inline(always)]
     fn has_tag(tag: Tag) -> bool {
@@ -65,9 +65,9 @@ where
         writer.write_sequence(|seq| P::write_parts(value, seq))
     }
 
-    ghost keeps = { λ a. in_sequence (P.laws a) };
+    ghost lawful = { λ a. in_sequence (P.laws a) };
 
-    ghost filled = { λ u m v. element_filled _ _ _ _ };
+    ghost non_empty = { λ u m v. element_non_empty _ _ _ _ };
 }
 
 impl<P: Parts> Sequence<P> {
@@ -77,8 +77,8 @@ impl<P: Parts> Sequence<P> {
     where
         P: PartsBy<R, Held = P::Values>,
         requires can { P.can (P.held fields) }
-        requires alike { WrittenAlike P.form P.can P.form_by P.can_by }
-        ensures { Writes (enclosed_form P.form (tag_or writer.old.tag sequence_tag) writer.old.mode (P.held fields)) writer.old writer.new result }
+        requires alike { WrittenAlike P.encoding P.can P.encoding_by P.can_by }
+        ensures { Writes (enclosed_encoding P.encoding (tag_or writer.old.tag sequence_tag) writer.old.mode (P.held fields)) writer.old writer.new result }
     {
         writer.write_sequence(|seq| P::write_each(&fields, seq))
     }

@@ -2,21 +2,21 @@
 ghost use Rattle.std.specs.Prelude.{◌≡◌, ◌<◌, ◌^◌, ◌∷◌, [], true, false, pos, FitsSigned};
 ghost use Rattle.std.specs.Int.{w64, w32};
 ghost use Rattle.std.proofs.Common.{arith};
-ghost use Rattle.yasna_base.specs.BigInteger.{IsBigInteger, CanBigInteger, big_integer_form};
-ghost use Rattle.yasna_base.specs.Boolean.{IsBoolean, boolean_tag, boolean_form};
-ghost use Rattle.yasna_base.specs.Canonical.{Always, leaf_nest};
+ghost use Rattle.yasna_base.specs.BigInteger.{IsBigInteger, CanBigInteger, big_integer_encoding};
+ghost use Rattle.yasna_base.specs.Boolean.{IsBoolean, boolean_tag, boolean_encoding};
+ghost use Rattle.yasna_base.specs.Canonical.{Always, leaf_depth};
 ghost use Rattle.yasna_base.specs.Coding.{Any};
 ghost use Rattle.yasna_base.specs.Element.{Primitively};
 ghost use Rattle.yasna_base.specs.Enumerated.{enumerated_tag};
 ghost use Rattle.yasna_base.specs.Exact.{written_fits};
 ghost use Rattle.yasna_base.specs.Identifier.{tag_or};
-ghost use Rattle.yasna_base.specs.Integer.{IsSigned, IsUnsigned, integer_tag, integer_form};
-ghost use Rattle.yasna_base.specs.Null.{IsNull, null_tag, null_form};
-ghost use Rattle.yasna_base.specs.Oid.{AreComponents, IsEncodableOid, oid_tag, oid_form};
+ghost use Rattle.yasna_base.specs.Integer.{IsSigned, IsUnsigned, integer_tag, integer_encoding};
+ghost use Rattle.yasna_base.specs.Null.{IsNull, null_tag, null_encoding};
+ghost use Rattle.yasna_base.specs.Oid.{AreComponents, IsEncodableOid, oid_tag, oid_encoding};
 ghost use Rattle.yasna_base.proofs.Coding.{primitively_begins};
 ghost use Rattle.yasna_base.proofs.Identifier.{not_end};
 ghost use Rattle.yasna_bytes.specs.Contents.{big_integer_in};
-ghost use Rattle.yasna_notation.specs.Laws.{element_keeps, seen_laws, boolean_laws, null_laws, signed_laws, unsigned_laws, oid_laws, big_integer_laws, element_filled};
+ghost use Rattle.yasna_notation.specs.Laws.{element_lawful, seen_laws, boolean_laws, null_laws, signed_laws, unsigned_laws, oid_laws, big_integer_laws, element_non_empty};
 
 use crate::notation::Notation;
 use yasna_base::models::ObjectIdentifier;
@@ -31,17 +31,17 @@ impl Notation for bool {
     type Inner = ();
 
     ghost means = { record {
-      told = true;
+      tags_known = true;
       tags = boolean_tag ∷ [];
       retagged = true;
       under = λ u m n v b. Primitively IsBoolean n m (tag_or u boolean_tag) v b;
       any_under = λ u. Any (λ m n v b. Primitively IsBoolean n m (tag_or u boolean_tag) v b);
-      asks_memory = false;
+      may_allocate = false;
       same = λ v w. v ≡ w;
-      form_under = λ u. boolean_form (tag_or u boolean_tag);
-      nest = leaf_nest;
+      encoding_under = λ u. boolean_encoding (tag_or u boolean_tag);
+      depth = leaf_depth;
       can = Always;
-      fits = written_fits leaf_nest Always;
+      fits = written_fits leaf_depth Always;
     } };
 
     #[inline(always)]
@@ -59,9 +59,9 @@ impl Notation for bool {
         writer.write_bool(*value)
     }
 
-    ghost keeps = { λ _. element_keeps boolean_tag boolean_laws (primitively_begins IsBoolean) (not_end 1 (λ e. omega arith)) (omega arith) };
+    ghost lawful = { λ _. element_lawful boolean_tag boolean_laws (primitively_begins IsBoolean) (not_end 1 (λ e. omega arith)) (omega arith) };
 
-    ghost filled = { λ u m v. element_filled _ _ _ _ };
+    ghost non_empty = { λ u m v. element_non_empty _ _ _ _ };
 }
 
 impl Notation for () {
@@ -70,17 +70,17 @@ impl Notation for () {
     type Inner = ();
 
     ghost means = { record {
-      told = true;
+      tags_known = true;
       tags = null_tag ∷ [];
       retagged = true;
       under = λ u m n v b. Primitively IsNull n m (tag_or u null_tag) v b;
       any_under = λ u. Any (λ m n v b. Primitively IsNull n m (tag_or u null_tag) v b);
-      asks_memory = false;
+      may_allocate = false;
       same = λ v w. v ≡ w;
-      form_under = λ u. null_form (tag_or u null_tag);
-      nest = leaf_nest;
+      encoding_under = λ u. null_encoding (tag_or u null_tag);
+      depth = leaf_depth;
       can = Always;
-      fits = written_fits leaf_nest Always;
+      fits = written_fits leaf_depth Always;
     } };
 
     #[inline(always)]
@@ -98,9 +98,9 @@ impl Notation for () {
         writer.write_null()
     }
 
-    ghost keeps = { λ _. element_keeps null_tag null_laws (primitively_begins IsNull) (not_end 5 (λ e. omega arith)) (omega arith) };
+    ghost lawful = { λ _. element_lawful null_tag null_laws (primitively_begins IsNull) (not_end 5 (λ e. omega arith)) (omega arith) };
 
-    ghost filled = { λ u m v. element_filled _ _ _ _ };
+    ghost non_empty = { λ u m v. element_non_empty _ _ _ _ };
 }
 
 impl Notation for i64 {
@@ -109,17 +109,17 @@ impl Notation for i64 {
     type Inner = ();
 
     ghost means = { record {
-      told = true;
+      tags_known = true;
       tags = integer_tag ∷ [];
       retagged = true;
       under = λ u m n v b. Primitively (IsSigned w64) n m (tag_or u integer_tag) v b;
       any_under = λ u. Any (λ m n v b. Primitively (IsSigned w64) n m (tag_or u integer_tag) v b);
-      asks_memory = false;
+      may_allocate = false;
       same = λ v w. v ≡ w;
-      form_under = λ u. integer_form (tag_or u integer_tag);
-      nest = leaf_nest;
+      encoding_under = λ u. integer_encoding (tag_or u integer_tag);
+      depth = leaf_depth;
       can = FitsSigned w64;
-      fits = written_fits leaf_nest (FitsSigned w64);
+      fits = written_fits leaf_depth (FitsSigned w64);
     } };
 
     #[inline(always)]
@@ -137,9 +137,9 @@ impl Notation for i64 {
         writer.write_i64(*value)
     }
 
-    ghost keeps = { λ _. element_keeps integer_tag (signed_laws w64) (primitively_begins (IsSigned w64)) (not_end 2 (λ e. omega arith)) (omega arith) };
+    ghost lawful = { λ _. element_lawful integer_tag (signed_laws w64) (primitively_begins (IsSigned w64)) (not_end 2 (λ e. omega arith)) (omega arith) };
 
-    ghost filled = { λ u m v. element_filled _ _ _ _ };
+    ghost non_empty = { λ u m v. element_non_empty _ _ _ _ };
 }
 
 impl Notation for i32 {
@@ -148,17 +148,17 @@ impl Notation for i32 {
     type Inner = ();
 
     ghost means = { record {
-      told = true;
+      tags_known = true;
       tags = integer_tag ∷ [];
       retagged = true;
       under = λ u m n v b. Primitively (IsSigned w32) n m (tag_or u integer_tag) v b;
       any_under = λ u. Any (λ m n v b. Primitively (IsSigned w32) n m (tag_or u integer_tag) v b);
-      asks_memory = false;
+      may_allocate = false;
       same = λ v w. v ≡ w;
-      form_under = λ u. integer_form (tag_or u integer_tag);
-      nest = leaf_nest;
+      encoding_under = λ u. integer_encoding (tag_or u integer_tag);
+      depth = leaf_depth;
       can = FitsSigned w32;
-      fits = written_fits leaf_nest (FitsSigned w32);
+      fits = written_fits leaf_depth (FitsSigned w32);
     } };
 
     #[inline(always)]
@@ -176,9 +176,9 @@ impl Notation for i32 {
         writer.write_i32(*value)
     }
 
-    ghost keeps = { λ _. element_keeps integer_tag (signed_laws w32) (primitively_begins (IsSigned w32)) (not_end 2 (λ e. omega arith)) (omega arith) };
+    ghost lawful = { λ _. element_lawful integer_tag (signed_laws w32) (primitively_begins (IsSigned w32)) (not_end 2 (λ e. omega arith)) (omega arith) };
 
-    ghost filled = { λ u m v. element_filled _ _ _ _ };
+    ghost non_empty = { λ u m v. element_non_empty _ _ _ _ };
 }
 
 impl Notation for u64 {
@@ -187,17 +187,17 @@ impl Notation for u64 {
     type Inner = ();
 
     ghost means = { record {
-      told = true;
+      tags_known = true;
       tags = integer_tag ∷ [];
       retagged = true;
       under = λ u m n v b. Primitively (IsUnsigned 64) n m (tag_or u integer_tag) v b;
       any_under = λ u. Any (λ m n v b. Primitively (IsUnsigned 64) n m (tag_or u integer_tag) v b);
-      asks_memory = false;
+      may_allocate = false;
       same = λ v w. v ≡ w;
-      form_under = λ u m v. integer_form (tag_or u integer_tag) m (pos v);
-      nest = leaf_nest;
+      encoding_under = λ u m v. integer_encoding (tag_or u integer_tag) m (pos v);
+      depth = leaf_depth;
       can = λ n. n < 2 ^ 64;
-      fits = written_fits leaf_nest (λ n. n < 2 ^ 64);
+      fits = written_fits leaf_depth (λ n. n < 2 ^ 64);
     } };
 
     #[inline(always)]
@@ -215,9 +215,9 @@ impl Notation for u64 {
         writer.write_u64(*value)
     }
 
-    ghost keeps = { λ _. element_keeps integer_tag (unsigned_laws 64) (primitively_begins (IsUnsigned 64)) (not_end 2 (λ e. omega arith)) (omega arith) };
+    ghost lawful = { λ _. element_lawful integer_tag (unsigned_laws 64) (primitively_begins (IsUnsigned 64)) (not_end 2 (λ e. omega arith)) (omega arith) };
 
-    ghost filled = { λ u m v. element_filled _ _ _ _ };
+    ghost non_empty = { λ u m v. element_non_empty _ _ _ _ };
 }
 
 impl Notation for u32 {
@@ -226,17 +226,17 @@ impl Notation for u32 {
     type Inner = ();
 
     ghost means = { record {
-      told = true;
+      tags_known = true;
       tags = integer_tag ∷ [];
       retagged = true;
       under = λ u m n v b. Primitively (IsUnsigned 32) n m (tag_or u integer_tag) v b;
       any_under = λ u. Any (λ m n v b. Primitively (IsUnsigned 32) n m (tag_or u integer_tag) v b);
-      asks_memory = false;
+      may_allocate = false;
       same = λ v w. v ≡ w;
-      form_under = λ u m v. integer_form (tag_or u integer_tag) m (pos v);
-      nest = leaf_nest;
+      encoding_under = λ u m v. integer_encoding (tag_or u integer_tag) m (pos v);
+      depth = leaf_depth;
       can = λ n. n < 2 ^ 32;
-      fits = written_fits leaf_nest (λ n. n < 2 ^ 32);
+      fits = written_fits leaf_depth (λ n. n < 2 ^ 32);
     } };
 
     #[inline(always)]
@@ -254,9 +254,9 @@ impl Notation for u32 {
         writer.write_u32(*value)
     }
 
-    ghost keeps = { λ _. element_keeps integer_tag (unsigned_laws 32) (primitively_begins (IsUnsigned 32)) (not_end 2 (λ e. omega arith)) (omega arith) };
+    ghost lawful = { λ _. element_lawful integer_tag (unsigned_laws 32) (primitively_begins (IsUnsigned 32)) (not_end 2 (λ e. omega arith)) (omega arith) };
 
-    ghost filled = { λ u m v. element_filled _ _ _ _ };
+    ghost non_empty = { λ u m v. element_non_empty _ _ _ _ };
 }
 
 /// ENUMERATED, as its number.
@@ -268,17 +268,17 @@ impl Notation for Enumerated {
     type Inner = ();
 
     ghost means = { record {
-      told = true;
+      tags_known = true;
       tags = enumerated_tag ∷ [];
       retagged = true;
       under = λ u m n v b. Primitively (IsSigned w64) n m (tag_or u enumerated_tag) v b;
       any_under = λ u. Any (λ m n v b. Primitively (IsSigned w64) n m (tag_or u enumerated_tag) v b);
-      asks_memory = false;
+      may_allocate = false;
       same = λ v w. v ≡ w;
-      form_under = λ u. integer_form (tag_or u enumerated_tag);
-      nest = leaf_nest;
+      encoding_under = λ u. integer_encoding (tag_or u enumerated_tag);
+      depth = leaf_depth;
       can = FitsSigned w64;
-      fits = written_fits leaf_nest (FitsSigned w64);
+      fits = written_fits leaf_depth (FitsSigned w64);
     } };
 
     #[inline(always)]
@@ -296,9 +296,9 @@ impl Notation for Enumerated {
         writer.write_enum(*value)
     }
 
-    ghost keeps = { λ _. element_keeps enumerated_tag (signed_laws w64) (primitively_begins (IsSigned w64)) (not_end 10 (λ e. omega arith)) (omega arith) };
+    ghost lawful = { λ _. element_lawful enumerated_tag (signed_laws w64) (primitively_begins (IsSigned w64)) (not_end 10 (λ e. omega arith)) (omega arith) };
 
-    ghost filled = { λ u m v. element_filled _ _ _ _ };
+    ghost non_empty = { λ u m v. element_non_empty _ _ _ _ };
 }
 
 impl Notation for ObjectIdentifier {
@@ -307,17 +307,17 @@ impl Notation for ObjectIdentifier {
     type Inner = ();
 
     ghost means = { record {
-      told = true;
+      tags_known = true;
       tags = oid_tag ∷ [];
       retagged = true;
       under = λ u m n v b. Primitively AreComponents n m (tag_or u oid_tag) v b;
       any_under = λ u. Any (λ m n v b. Primitively AreComponents n m (tag_or u oid_tag) v b);
-      asks_memory = true;
+      may_allocate = true;
       same = λ v w. v ≡ w;
-      form_under = λ u. oid_form (tag_or u oid_tag);
-      nest = leaf_nest;
+      encoding_under = λ u. oid_encoding (tag_or u oid_tag);
+      depth = leaf_depth;
       can = IsEncodableOid;
-      fits = written_fits leaf_nest IsEncodableOid;
+      fits = written_fits leaf_depth IsEncodableOid;
     } };
 
     #[inline(always)]
@@ -335,9 +335,9 @@ impl Notation for ObjectIdentifier {
         writer.write_oid(value)
     }
 
-    ghost keeps = { λ _. element_keeps oid_tag oid_laws (primitively_begins AreComponents) (not_end 6 (λ e. omega arith)) (omega arith) };
+    ghost lawful = { λ _. element_lawful oid_tag oid_laws (primitively_begins AreComponents) (not_end 6 (λ e. omega arith)) (omega arith) };
 
-    ghost filled = { λ u m v. element_filled _ _ _ _ };
+    ghost non_empty = { λ u m v. element_non_empty _ _ _ _ };
 }
 
 /// INTEGER of any size: its contents in two's complement, and whether it isn't negative.
@@ -349,17 +349,17 @@ impl Notation for BigInteger {
     type Inner = ();
 
     ghost means = { record {
-      told = true;
+      tags_known = true;
       tags = integer_tag ∷ [];
       retagged = true;
       under = λ u m n v b. Primitively IsBigInteger n m (tag_or u integer_tag) (big_integer_in v) b;
       any_under = λ u. Any (λ m n v b. Primitively IsBigInteger n m (tag_or u integer_tag) v b);
-      asks_memory = true;
+      may_allocate = true;
       same = λ v w. big_integer_in v ≡ big_integer_in w;
-      form_under = λ u m v. big_integer_form (tag_or u integer_tag) m (big_integer_in v);
-      nest = leaf_nest;
+      encoding_under = λ u m v. big_integer_encoding (tag_or u integer_tag) m (big_integer_in v);
+      depth = leaf_depth;
       can = λ v. CanBigInteger (big_integer_in v);
-      fits = λ m n v. written_fits leaf_nest CanBigInteger m n (big_integer_in v);
+      fits = λ m n v. written_fits leaf_depth CanBigInteger m n (big_integer_in v);
     } };
 
     #[inline(always)]
@@ -377,7 +377,7 @@ impl Notation for BigInteger {
         writer.write_bigint_bytes(value.0.as_slice(), value.1)
     }
 
-    ghost keeps = { λ _. element_keeps integer_tag (seen_laws big_integer_in big_integer_laws) (primitively_begins IsBigInteger) (not_end 2 (λ e. omega arith)) (omega arith) };
+    ghost lawful = { λ _. element_lawful integer_tag (seen_laws big_integer_in big_integer_laws) (primitively_begins IsBigInteger) (not_end 2 (λ e. omega arith)) (omega arith) };
 
-    ghost filled = { λ u m v. element_filled _ _ _ _ };
+    ghost non_empty = { λ u m v. element_non_empty _ _ _ _ };
 }

@@ -2,20 +2,20 @@
 ghost use Rattle.std.specs.Prelude.{◌≡◌, ◌∷◌, [], true};
 ghost use Rattle.std.specs.List.{AllByRecursion};
 ghost use Rattle.std.proofs.Common.{arith};
-ghost use Rattle.yasna_base.specs.Bits.{IsBits, CanBits, AreCanonicalBits, bits_tag, bits_form, bits_nest};
+ghost use Rattle.yasna_base.specs.Bits.{IsBits, CanBits, AreCanonicalBits, bits_tag, bits_encoding, bits_depth};
 ghost use Rattle.yasna_base.specs.Canonical.{Always};
 ghost use Rattle.yasna_base.specs.Coding.{Any};
 ghost use Rattle.yasna_base.specs.Digits.{IsBytes};
 ghost use Rattle.yasna_base.specs.Exact.{written_fits};
 ghost use Rattle.yasna_base.specs.Identifier.{tag_or};
-ghost use Rattle.yasna_base.specs.Octets.{IsOctets, octets_tag, octets_form, octets_nest};
-ghost use Rattle.yasna_base.specs.Text.{IsStringOf, IsUtf8In, InUtf8, InPrintable, InIa5, InNumeric, InVisible, characters, utf8_form, utf8_nest};
+ghost use Rattle.yasna_base.specs.Octets.{IsOctets, octets_tag, octets_encoding, octets_depth};
+ghost use Rattle.yasna_base.specs.Text.{IsStringOf, IsUtf8In, InUtf8, InPrintable, InIa5, InNumeric, InVisible, characters, utf8_encoding, utf8_depth};
 ghost use Rattle.yasna_base.specs.Text.{utf8_tag, printable_tag, ia5_tag, numeric_tag, visible_tag};
 ghost use Rattle.yasna_base.proofs.Identifier.{not_end};
 ghost use Rattle.yasna_base.proofs.UnderTags.{bits_under_tags};
 ghost use Rattle.yasna_bytes.specs.Segments.{bits_in};
-ghost use Rattle.yasna_notation.specs.Laws.{element_keeps, seen_laws, octets_of, octets_laws, octets_begin, bits_begin, text_begins, text_laws, class_laws};
-ghost use Rattle.yasna_notation.specs.Laws.{octets_filled, bits_filled, text_filled};
+ghost use Rattle.yasna_notation.specs.Laws.{element_lawful, seen_laws, octets_of, octets_laws, octets_begin, bits_begin, text_begins, text_laws, class_laws};
+ghost use Rattle.yasna_notation.specs.Laws.{octets_non_empty, bits_non_empty, text_non_empty};
 
 use crate::notation::Notation;
 use yasna_base::tags::{
@@ -32,17 +32,17 @@ impl Notation for Vec<u8> {
     type Inner = ();
 
     ghost means = { record {
-      told = true;
+      tags_known = true;
       tags = octets_tag ∷ [];
       retagged = true;
       under = λ u m n v b. IsOctets n m (tag_or u octets_tag) (octets_of v) b;
       any_under = λ u. Any (λ m n v b. IsOctets n m (tag_or u octets_tag) v b);
-      asks_memory = true;
+      may_allocate = true;
       same = λ v w. octets_of v ≡ octets_of w;
-      form_under = λ u m v. octets_form (tag_or u octets_tag) m v.items;
-      nest = λ m v. octets_nest m v.items;
+      encoding_under = λ u m v. octets_encoding (tag_or u octets_tag) m v.items;
+      depth = λ m v. octets_depth m v.items;
       can = λ v. IsBytes v.items;
-      fits = λ m n v. written_fits octets_nest IsBytes m n v.items;
+      fits = λ m n v. written_fits octets_depth IsBytes m n v.items;
     } };
 
     #[inline(always)]
@@ -60,9 +60,9 @@ impl Notation for Vec<u8> {
         writer.write_bytes(value.as_slice())
     }
 
-    ghost keeps = { λ _. element_keeps octets_tag (seen_laws octets_of octets_laws) (octets_begin) (not_end 4 (λ e. omega arith)) (omega arith) };
+    ghost lawful = { λ _. element_lawful octets_tag (seen_laws octets_of octets_laws) (octets_begin) (not_end 4 (λ e. omega arith)) (omega arith) };
 
-    ghost filled = { λ u m v. octets_filled (tag_or u octets_tag) m v.items };
+    ghost non_empty = { λ u m v. octets_non_empty (tag_or u octets_tag) m v.items };
 }
 
 /// BIT STRING: its bytes, the first bit of a byte being its highest, and how many bits there are.
@@ -74,17 +74,17 @@ impl Notation for BitString {
     type Inner = ();
 
     ghost means = { record {
-      told = true;
+      tags_known = true;
       tags = bits_tag ∷ [];
       retagged = true;
       under = λ u m n v b. IsBits n m (tag_or u bits_tag) (bits_in v) b;
       any_under = λ u. Any (λ m n v b. IsBits n m (tag_or u bits_tag) v b);
-      asks_memory = true;
+      may_allocate = true;
       same = λ v w. bits_in v ≡ bits_in w;
-      form_under = λ u m v. bits_form (tag_or u bits_tag) m (bits_in v);
-      nest = λ m v. bits_nest m (bits_in v);
+      encoding_under = λ u m v. bits_encoding (tag_or u bits_tag) m (bits_in v);
+      depth = λ m v. bits_depth m (bits_in v);
       can = λ v. CanBits (bits_in v);
-      fits = λ m n v. written_fits bits_nest AreCanonicalBits m n (bits_in v);
+      fits = λ m n v. written_fits bits_depth AreCanonicalBits m n (bits_in v);
     } };
 
     #[inline(always)]
@@ -102,9 +102,9 @@ impl Notation for BitString {
         writer.write_bitvec_bytes(value.0.as_slice(), value.1)
     }
 
-    ghost keeps = { λ _. element_keeps bits_tag (seen_laws bits_in bits_under_tags) (bits_begin) (not_end 3 (λ e. omega arith)) (omega arith) };
+    ghost lawful = { λ _. element_lawful bits_tag (seen_laws bits_in bits_under_tags) (bits_begin) (not_end 3 (λ e. omega arith)) (omega arith) };
 
-    ghost filled = { λ u m v. bits_filled (tag_or u bits_tag) m (bits_in v) };
+    ghost non_empty = { λ u m v. bits_non_empty (tag_or u bits_tag) m (bits_in v) };
 }
 
 impl Notation for String {
@@ -113,17 +113,17 @@ impl Notation for String {
     type Inner = ();
 
     ghost means = { record {
-      told = true;
+      tags_known = true;
       tags = utf8_tag ∷ [];
       retagged = true;
       under = λ u m n v b. IsStringOf (IsUtf8In InUtf8) n m (tag_or u utf8_tag) (characters v) b;
       any_under = λ u. Any (λ m n v b. IsStringOf (IsUtf8In InUtf8) n m (tag_or u utf8_tag) v b);
-      asks_memory = true;
+      may_allocate = true;
       same = λ v w. characters v ≡ characters w;
-      form_under = λ u m v. utf8_form (tag_or u utf8_tag) m (characters v);
-      nest = λ m v. utf8_nest m (characters v);
+      encoding_under = λ u m v. utf8_encoding (tag_or u utf8_tag) m (characters v);
+      depth = λ m v. utf8_depth m (characters v);
       can = Always;
-      fits = written_fits (λ m v. utf8_nest m (characters v)) Always;
+      fits = written_fits (λ m v. utf8_depth m (characters v)) Always;
     } };
 
     #[inline(always)]
@@ -141,9 +141,9 @@ impl Notation for String {
         writer.write_utf8string(value.as_str())
     }
 
-    ghost keeps = { λ _. element_keeps utf8_tag text_laws (text_begins InUtf8) (not_end 12 (λ e. omega arith)) (omega arith) };
+    ghost lawful = { λ _. element_lawful utf8_tag text_laws (text_begins InUtf8) (not_end 12 (λ e. omega arith)) (omega arith) };
 
-    ghost filled = { λ u m v. text_filled (tag_or u utf8_tag) m (characters v) };
+    ghost non_empty = { λ u m v. text_non_empty (tag_or u utf8_tag) m (characters v) };
 }
 
 /// PrintableString (X.680, 41): a text of its characters.
@@ -155,17 +155,17 @@ impl Notation for PrintableString {
     type Inner = ();
 
     ghost means = { record {
-      told = true;
+      tags_known = true;
       tags = printable_tag ∷ [];
       retagged = true;
       under = λ u m n v b. IsStringOf (IsUtf8In InPrintable) n m (tag_or u printable_tag) (characters v) b;
       any_under = λ u. Any (λ m n v b. IsStringOf (IsUtf8In InPrintable) n m (tag_or u printable_tag) v b);
-      asks_memory = true;
+      may_allocate = true;
       same = λ v w. characters v ≡ characters w;
-      form_under = λ u m v. utf8_form (tag_or u printable_tag) m (characters v);
-      nest = λ m v. utf8_nest m (characters v);
+      encoding_under = λ u m v. utf8_encoding (tag_or u printable_tag) m (characters v);
+      depth = λ m v. utf8_depth m (characters v);
       can = λ v. AllByRecursion InPrintable (characters v);
-      fits = written_fits (λ m v. utf8_nest m (characters v)) (λ v. AllByRecursion InPrintable (characters v));
+      fits = written_fits (λ m v. utf8_depth m (characters v)) (λ v. AllByRecursion InPrintable (characters v));
     } };
 
     #[inline(always)]
@@ -183,9 +183,9 @@ impl Notation for PrintableString {
         writer.write_printable_string(value.as_str())
     }
 
-    ghost keeps = { λ _. element_keeps printable_tag (class_laws InPrintable) (text_begins InPrintable) (not_end 19 (λ e. omega arith)) (omega arith) };
+    ghost lawful = { λ _. element_lawful printable_tag (class_laws InPrintable) (text_begins InPrintable) (not_end 19 (λ e. omega arith)) (omega arith) };
 
-    ghost filled = { λ u m v. text_filled (tag_or u printable_tag) m (characters v) };
+    ghost non_empty = { λ u m v. text_non_empty (tag_or u printable_tag) m (characters v) };
 }
 
 /// IA5String (X.680, 41): a text of its characters.
@@ -197,17 +197,17 @@ impl Notation for Ia5String {
     type Inner = ();
 
     ghost means = { record {
-      told = true;
+      tags_known = true;
       tags = ia5_tag ∷ [];
       retagged = true;
       under = λ u m n v b. IsStringOf (IsUtf8In InIa5) n m (tag_or u ia5_tag) (characters v) b;
       any_under = λ u. Any (λ m n v b. IsStringOf (IsUtf8In InIa5) n m (tag_or u ia5_tag) v b);
-      asks_memory = true;
+      may_allocate = true;
       same = λ v w. characters v ≡ characters w;
-      form_under = λ u m v. utf8_form (tag_or u ia5_tag) m (characters v);
-      nest = λ m v. utf8_nest m (characters v);
+      encoding_under = λ u m v. utf8_encoding (tag_or u ia5_tag) m (characters v);
+      depth = λ m v. utf8_depth m (characters v);
       can = λ v. AllByRecursion InIa5 (characters v);
-      fits = written_fits (λ m v. utf8_nest m (characters v)) (λ v. AllByRecursion InIa5 (characters v));
+      fits = written_fits (λ m v. utf8_depth m (characters v)) (λ v. AllByRecursion InIa5 (characters v));
     } };
 
     #[inline(always)]
@@ -225,9 +225,9 @@ impl Notation for Ia5String {
         writer.write_ia5_string(value.as_str())
     }
 
-    ghost keeps = { λ _. element_keeps ia5_tag (class_laws InIa5) (text_begins InIa5) (not_end 22 (λ e. omega arith)) (omega arith) };
+    ghost lawful = { λ _. element_lawful ia5_tag (class_laws InIa5) (text_begins InIa5) (not_end 22 (λ e. omega arith)) (omega arith) };
 
-    ghost filled = { λ u m v. text_filled (tag_or u ia5_tag) m (characters v) };
+    ghost non_empty = { λ u m v. text_non_empty (tag_or u ia5_tag) m (characters v) };
 }
 
 /// NumericString (X.680, 41): a text of its characters.
@@ -239,17 +239,17 @@ impl Notation for NumericString {
     type Inner = ();
 
     ghost means = { record {
-      told = true;
+      tags_known = true;
       tags = numeric_tag ∷ [];
       retagged = true;
       under = λ u m n v b. IsStringOf (IsUtf8In InNumeric) n m (tag_or u numeric_tag) (characters v) b;
       any_under = λ u. Any (λ m n v b. IsStringOf (IsUtf8In InNumeric) n m (tag_or u numeric_tag) v b);
-      asks_memory = true;
+      may_allocate = true;
       same = λ v w. characters v ≡ characters w;
-      form_under = λ u m v. utf8_form (tag_or u numeric_tag) m (characters v);
-      nest = λ m v. utf8_nest m (characters v);
+      encoding_under = λ u m v. utf8_encoding (tag_or u numeric_tag) m (characters v);
+      depth = λ m v. utf8_depth m (characters v);
       can = λ v. AllByRecursion InNumeric (characters v);
-      fits = written_fits (λ m v. utf8_nest m (characters v)) (λ v. AllByRecursion InNumeric (characters v));
+      fits = written_fits (λ m v. utf8_depth m (characters v)) (λ v. AllByRecursion InNumeric (characters v));
     } };
 
     #[inline(always)]
@@ -267,9 +267,9 @@ impl Notation for NumericString {
         writer.write_numeric_string(value.as_str())
     }
 
-    ghost keeps = { λ _. element_keeps numeric_tag (class_laws InNumeric) (text_begins InNumeric) (not_end 18 (λ e. omega arith)) (omega arith) };
+    ghost lawful = { λ _. element_lawful numeric_tag (class_laws InNumeric) (text_begins InNumeric) (not_end 18 (λ e. omega arith)) (omega arith) };
 
-    ghost filled = { λ u m v. text_filled (tag_or u numeric_tag) m (characters v) };
+    ghost non_empty = { λ u m v. text_non_empty (tag_or u numeric_tag) m (characters v) };
 }
 
 /// VisibleString (X.680, 41): a text of its characters.
@@ -281,17 +281,17 @@ impl Notation for VisibleString {
     type Inner = ();
 
     ghost means = { record {
-      told = true;
+      tags_known = true;
       tags = visible_tag ∷ [];
       retagged = true;
       under = λ u m n v b. IsStringOf (IsUtf8In InVisible) n m (tag_or u visible_tag) (characters v) b;
       any_under = λ u. Any (λ m n v b. IsStringOf (IsUtf8In InVisible) n m (tag_or u visible_tag) v b);
-      asks_memory = true;
+      may_allocate = true;
       same = λ v w. characters v ≡ characters w;
-      form_under = λ u m v. utf8_form (tag_or u visible_tag) m (characters v);
-      nest = λ m v. utf8_nest m (characters v);
+      encoding_under = λ u m v. utf8_encoding (tag_or u visible_tag) m (characters v);
+      depth = λ m v. utf8_depth m (characters v);
       can = λ v. AllByRecursion InVisible (characters v);
-      fits = written_fits (λ m v. utf8_nest m (characters v)) (λ v. AllByRecursion InVisible (characters v));
+      fits = written_fits (λ m v. utf8_depth m (characters v)) (λ v. AllByRecursion InVisible (characters v));
     } };
 
     #[inline(always)]
@@ -309,7 +309,7 @@ impl Notation for VisibleString {
         writer.write_visible_string(value.as_str())
     }
 
-    ghost keeps = { λ _. element_keeps visible_tag (class_laws InVisible) (text_begins InVisible) (not_end 26 (λ e. omega arith)) (omega arith) };
+    ghost lawful = { λ _. element_lawful visible_tag (class_laws InVisible) (text_begins InVisible) (not_end 26 (λ e. omega arith)) (omega arith) };
 
-    ghost filled = { λ u m v. text_filled (tag_or u visible_tag) m (characters v) };
+    ghost non_empty = { λ u m v. text_non_empty (tag_or u visible_tag) m (characters v) };
 }

@@ -8,9 +8,9 @@ ghost use Rattle.yasna_base.specs.Identifier.{tag_or};
 ghost use Rattle.yasna_base.specs.Text.{IsStringOf};
 ghost use Rattle.yasna_base.proofs.Identifier.{not_end};
 ghost use Rattle.yasna_times.specs.Models.{utc_of, moment_of};
-ghost use Rattle.yasna_times.specs.UtcTime.{SaysUtcTime, utc_time_tag, utc_text, utc_time_form, utc_time_nest};
-ghost use Rattle.yasna_times.specs.GeneralizedTime.{SaysGeneralizedTime, generalized_time_tag, general_text, generalized_time_form, generalized_time_nest};
-ghost use Rattle.yasna_notation.specs.Laws.{element_keeps, string_begins, utc_laws, general_laws, octets_filled};
+ghost use Rattle.yasna_times.specs.UtcTime.{SpellsUtcTime, utc_time_tag, utc_text, utc_time_encoding, utc_time_depth};
+ghost use Rattle.yasna_times.specs.GeneralizedTime.{SpellsGeneralizedTime, generalized_time_tag, general_text, generalized_time_encoding, generalized_time_depth};
+ghost use Rattle.yasna_notation.specs.Laws.{element_lawful, string_begins, utc_laws, general_laws, octets_non_empty};
 
 use crate::notation::Notation;
 use yasna_base::tags::{TAG_GENERALIZEDTIME, TAG_UTCTIME};
@@ -25,17 +25,17 @@ impl Notation for UTCTime {
     type Inner = ();
 
     ghost means = { record {
-      told = true;
+      tags_known = true;
       tags = utc_time_tag ∷ [];
       retagged = true;
-      under = λ u m n v b. IsStringOf SaysUtcTime n m (tag_or u utc_time_tag) (utc_of v) b;
-      any_under = λ u. Any (λ m n v b. IsStringOf SaysUtcTime n m (tag_or u utc_time_tag) v b);
-      asks_memory = true;
+      under = λ u m n v b. IsStringOf SpellsUtcTime n m (tag_or u utc_time_tag) (utc_of v) b;
+      any_under = λ u. Any (λ m n v b. IsStringOf SpellsUtcTime n m (tag_or u utc_time_tag) v b);
+      may_allocate = true;
       same = λ v w. utc_of v ≡ utc_of w;
-      form_under = λ u m v. utc_time_form (tag_or u utc_time_tag) m (utc_of v);
-      nest = λ m v. utc_time_nest m (utc_of v);
+      encoding_under = λ u m v. utc_time_encoding (tag_or u utc_time_tag) m (utc_of v);
+      depth = λ m v. utc_time_depth m (utc_of v);
       can = Always;
-      fits = written_fits (λ m v. utc_time_nest m (utc_of v)) Always;
+      fits = written_fits (λ m v. utc_time_depth m (utc_of v)) Always;
     } };
 
     #[inline(always)]
@@ -53,9 +53,9 @@ impl Notation for UTCTime {
         writer.write_utctime(value)
     }
 
-    ghost keeps = { λ _. element_keeps utc_time_tag utc_laws (string_begins SaysUtcTime) (not_end 23 (λ e. omega arith)) (omega arith) };
+    ghost lawful = { λ _. element_lawful utc_time_tag utc_laws (string_begins SpellsUtcTime) (not_end 23 (λ e. omega arith)) (omega arith) };
 
-    ghost filled = { λ u m v. octets_filled (tag_or u utc_time_tag) m (utc_text (utc_of v)) };
+    ghost non_empty = { λ u m v. octets_non_empty (tag_or u utc_time_tag) m (utc_text (utc_of v)) };
 }
 
 impl Notation for GeneralizedTime {
@@ -64,17 +64,17 @@ impl Notation for GeneralizedTime {
     type Inner = ();
 
     ghost means = { record {
-      told = true;
+      tags_known = true;
       tags = generalized_time_tag ∷ [];
       retagged = true;
-      under = λ u m n v b. IsStringOf SaysGeneralizedTime n m (tag_or u generalized_time_tag) (moment_of v) b;
-      any_under = λ u. Any (λ m n v b. IsStringOf SaysGeneralizedTime n m (tag_or u generalized_time_tag) v b);
-      asks_memory = true;
+      under = λ u m n v b. IsStringOf SpellsGeneralizedTime n m (tag_or u generalized_time_tag) (moment_of v) b;
+      any_under = λ u. Any (λ m n v b. IsStringOf SpellsGeneralizedTime n m (tag_or u generalized_time_tag) v b);
+      may_allocate = true;
       same = λ v w. moment_of v ≡ moment_of w;
-      form_under = λ u m v. generalized_time_form (tag_or u generalized_time_tag) m (moment_of v);
-      nest = λ m v. generalized_time_nest m (moment_of v);
+      encoding_under = λ u m v. generalized_time_encoding (tag_or u generalized_time_tag) m (moment_of v);
+      depth = λ m v. generalized_time_depth m (moment_of v);
       can = Always;
-      fits = written_fits (λ m v. generalized_time_nest m (moment_of v)) Always;
+      fits = written_fits (λ m v. generalized_time_depth m (moment_of v)) Always;
     } };
 
     #[inline(always)]
@@ -92,7 +92,7 @@ impl Notation for GeneralizedTime {
         writer.write_generalized_time(value)
     }
 
-    ghost keeps = { λ _. element_keeps generalized_time_tag general_laws (string_begins SaysGeneralizedTime) (not_end 24 (λ e. omega arith)) (omega arith) };
+    ghost lawful = { λ _. element_lawful generalized_time_tag general_laws (string_begins SpellsGeneralizedTime) (not_end 24 (λ e. omega arith)) (omega arith) };
 
-    ghost filled = { λ u m v. octets_filled (tag_or u generalized_time_tag) m (general_text (moment_of v)) };
+    ghost non_empty = { λ u m v. octets_non_empty (tag_or u generalized_time_tag) m (general_text (moment_of v)) };
 }

@@ -8,98 +8,98 @@ use Rattle.yasna_base.specs.declared.mode.BERMode.{BERMode}
 use Rattle.yasna_base.specs.declared.tag.Tag.{Tag}
 use Rattle.yasna_bytes.specs.declared.bytes.cursor.Cursor.{Cursor}
 use Rattle.yasna_reader.specs.declared.callback.Outcome.{Outcome}
-use Rattle.yasna_reader.specs.declared.callback.Outcome.TheVariants.{Gave, Quiet, Failed}
+use Rattle.yasna_reader.specs.declared.callback.Outcome.TheVariants.{Matched, NoMatch, Failed}
 use Rattle.yasna_reader.specs.Buffer.{Buffered}
-use Rattle.yasna_reader.specs.Callback.{ComesTo, Barred, Hands, Lent, Fault, WithSome, at_cursor, kept, before, own}
+use Rattle.yasna_reader.specs.Callback.{ComesTo, Barred, Hands, Lent, ErrorCause, WithSome, at_cursor, sticky, before, own}
 use Rattle.yasna_reader.specs.Sequence.{place_in}
 use Rattle.yasna_reader.specs.State.{Reading, Does}
 
 -- where there is no going on, that is what a callback came to
 pub barred_fails : {A : Type 0} (s : Reading) (x : Result A ASN1Error) (m : Reading) (e : ASN1Error) (s' : Reading) → Barred s m (Some e) s' →
     ComesTo s x m (Failed e) s'
-barred_fails s x m e s' (inl k, f) = (kept k, f)
+barred_fails s x m e s' (inl k, f) = (sticky k, f)
 barred_fails s x m e s' (inr h, f) = (before h.0 h.1 h.2, f)
 
-fault_as : {A B : Type 0} (c : List ℕ) (d : ASN1Error) (m : Reading) (e : ASN1Error) → Fault {A = A} c (Err d) m e → Fault {A = B} c (Err d) m e
-fault_as c d m e (kept k) = kept k
-fault_as c d m e (before k b i) = before k b i
-fault_as c d m e (own k b i n) = own k b (let g : d ≡ e = cc in ap Err g) n
+cause_as : {A B : Type 0} (c : List ℕ) (d : ASN1Error) (m : Reading) (e : ASN1Error) → ErrorCause {A = A} c (Err d) m e → ErrorCause {A = B} c (Err d) m e
+cause_as c d m e (sticky k) = sticky k
+cause_as c d m e (before k b i) = before k b i
+cause_as c d m e (own k b i n) = own k b (let g : d ≡ e = cc in ap Err g) n
 
--- a callback that answered an Err gave no value, of whatever type
+-- a callback that returned an Err gave no value, of whatever type
 pub none_given : (A : Type 0) (s : Reading) (d : ASN1Error) (m : Reading) (o : Outcome (Unit {0})) (s' : Reading) → ComesTo s (Err d) m o s' →
     WithSome {A = A} (λ o. ComesTo s (Err d) m o s') o
-none_given A s d m (Gave u) s' h = let i = h.2 in absurd (cc)
-none_given A s d m (Quiet e) s' h = (h.0, h.1, h.2, (let i = h.3 in let g : d ≡ e = cc in ap Err g), h.4)
-none_given A s d m (Failed e) s' h = (fault_as s.left d m e h.0, h.1)
+none_given A s d m (Matched u) s' h = let i = h.2 in absurd (cc)
+none_given A s d m (NoMatch e) s' h = (h.0, h.1, h.2, (let i = h.3 in let g : d ≡ e = cc in ap Err g), h.4)
+none_given A s d m (Failed e) s' h = (cause_as s.left d m e h.0, h.1)
 
 tagged_at : {A : Type 0} (c : Cursor) (t : Option Tag) (k : Option ASN1Error) (x : Result A ASN1Error) (m : Reading) (o : Outcome A) (s' : Reading) →
-    ComesTo (at_cursor c) x m o s' → ComesTo (record (at_cursor c) { tag = t; kept = k }) x m o s'
-tagged_at c t k x m (Gave v) s' h = h
-tagged_at c t k x m (Quiet e) s' h = h
+    ComesTo (at_cursor c) x m o s' → ComesTo (record (at_cursor c) { tag = t; failed = k }) x m o s'
+tagged_at c t k x m (Matched v) s' h = h
+tagged_at c t k x m (NoMatch e) s' h = h
 tagged_at c t k x m (Failed e) s' h = h
 
 -- what a callback came to depends on the place alone that it began at
 pub comes_at : {A : Type 0} (c : Cursor) (t : Option Tag) (k : Option ASN1Error) (s : Reading) (x : Result A ASN1Error) (m : Reading) (o : Outcome A)
-    (s' : Reading) → record (at_cursor c) { tag = t; kept = k } ≡ s → ComesTo (at_cursor c) x m o s' → ComesTo s x m o s'
+    (s' : Reading) → record (at_cursor c) { tag = t; failed = k } ≡ s → ComesTo (at_cursor c) x m o s' → ComesTo s x m o s'
 comes_at c t k s x m o s' e h = subst (λ z. ComesTo z x m o s') e (tagged_at c t k x m o s' h)
 
--- what is left then stands behind what was taken
-pub taken_behind : {A : Type 0} (s : Reading) (x : Result A ASN1Error) (m : Reading) (o : Outcome A) (s' : Reading) → ComesTo s x m o s' →
+-- what is left then is after what was taken
+pub taken_after : {A : Type 0} (s : Reading) (x : Result A ASN1Error) (m : Reading) (o : Outcome A) (s' : Reading) → ComesTo s x m o s' →
     (taken : List ℕ) × (s.left ≡ taken ++ s'.left)
-taken_behind s x m o s' h =
-    let e = moved s x m o s' h in
+taken_after s x m o s' h =
+    let e = advanced s x m o s' h in
     let n = length s.left - length m.left in
     (take n s.left, sym (take-append-drop n s.left) ∙ ap (λ z. take n s.left ++ z) (sym e))
   where
-    moved : {A : Type 0} (s : Reading) (x : Result A ASN1Error) (m : Reading) (o : Outcome A) (s' : Reading) → ComesTo s x m o s' →
+    advanced : {A : Type 0} (s : Reading) (x : Result A ASN1Error) (m : Reading) (o : Outcome A) (s' : Reading) → ComesTo s x m o s' →
         s'.left ≡ place_in s.left m.left
-    moved s x m (Gave v) s' h = ap (λ (z : Reading). z.left) h.3
-    moved s x m (Quiet e) s' h = ap (λ (z : Reading). z.left) h.4
-    moved s x m (Failed e) s' h = ap (λ (z : Reading). z.left) h.1
+    advanced s x m (Matched v) s' h = ap (λ (z : Reading). z.left) h.3
+    advanced s x m (NoMatch e) s' h = ap (λ (z : Reading). z.left) h.4
+    advanced s x m (Failed e) s' h = ap (λ (z : Reading). z.left) h.1
 
-taken_front : (b left l taken : List ℕ) → b ≡ taken ++ l → left ≡ l → b ≡ take (length b - length left) b ++ l
-taken_front b left l taken e f =
+taken_prefix : (b left l taken : List ℕ) → b ≡ taken ++ l → left ≡ l → b ≡ take (length b - length left) b ++ l
+taken_prefix b left l taken e f =
     let n : length b - length left ≡ length taken = omega (arith, ap length e, ap length f, length-append taken l) in
     sym (take-append-drop (length b - length left) b) ∙ ap (λ z. take (length b - length left) b ++ z)
     (ap (λ k. drop k b) n ∙ ap (λ z. drop (length taken) z) e ∙ drop-append_seam taken l)
 
 -- what was taken of these bytes is as long as what is left is shorter
-pub buffered : {A : Type 0} (b left l : List ℕ) (v : A) (x : Bor (List ℕ)) (o : Outcome A) → o ≡ Gave v → (taken : List ℕ) × (b ≡ taken ++ l) →
+pub buffered : {A : Type 0} (b left l : List ℕ) (v : A) (x : Bor (List ℕ)) (o : Outcome A) → o ≡ Matched v → (taken : List ℕ) × (b ≡ taken ++ l) →
     left ≡ l → x.now ≡ take (length b - length left) b → Buffered b o (Ok (v, x)) l
 buffered b left l v x o g t f e =
-    subst (λ p. Buffered b p (Ok (v, x)) l) (sym g) (refl, taken_front b left l t.0 t.1 f ∙ ap (λ z. z ++ l) (sym e))
+    subst (λ p. Buffered b p (Ok (v, x)) l) (sym g) (refl, taken_prefix b left l t.0 t.1 f ∙ ap (λ z. z ++ l) (sym e))
 
 -- the same of a reading that begins there
 pub taken_from : {A : Type 0} (c : List ℕ) (mode : BERMode) (n : ℕ) (x : Result A ASN1Error) (m : Reading) (o : Outcome A) (s' : Reading) →
-    ComesTo (record { left = c; mode = mode; levels = n; tag = None; kept = None }) x m o s' → (taken : List ℕ) × (c ≡ taken ++ s'.left)
-taken_from c mode n x m o s' h = taken_behind (record { left = c; mode = mode; levels = n; tag = None; kept = None }) x m o s' h
+    ComesTo (record { left = c; mode = mode; levels = n; tag = None; failed = None }) x m o s' → (taken : List ℕ) × (c ≡ taken ++ s'.left)
+taken_from c mode n x m o s' h = taken_after (record { left = c; mode = mode; levels = n; tag = None; failed = None }) x m o s' h
 
 -- a place that didn't move is where it was
-pub place_unmoved : (c y : List ℕ) → length y ≡ length c → place_in c y ≡ c
-place_unmoved c y e = let n : length c - length y ≡ 0 = omega (arith, e) in ap (λ n. drop n c) n
+pub place_unconsumed : (c y : List ℕ) → length y ≡ length c → place_in c y ≡ c
+place_unconsumed c y e = let n : length c - length y ≡ 0 = omega (arith, e) in ap (λ n. drop n c) n
 
--- a quiet callback left the reading as it was, but for the implicit tag that was handed to it
-quiet_leaves : {A : Type 0} (s : Reading) (t : Option Tag) (x : Result A ASN1Error) (m : Reading) (e : ASN1Error) (s' : Reading) → s.kept ≡ None →
-    ComesTo (record s { tag = t }) x m (Quiet e) s' → record s' { tag = s.tag } ≡ s
-quiet_leaves s t x m e s' k h =
-    ap (λ (z : Reading). record z { tag = s.tag }) h.4 ∙ ap {A = List ℕ} {B = Reading} (λ l. record s { left = l; kept = None })
-    (place_unmoved s.left m.left h.1)
-    ∙ ap {A = Option ASN1Error} {B = Reading} (λ u. record s { kept = u }) (sym k)
+-- a callback without a match left the reading as it was, but for the implicit tag that was handed to it
+no_match_leaves : {A : Type 0} (s : Reading) (t : Option Tag) (x : Result A ASN1Error) (m : Reading) (e : ASN1Error) (s' : Reading) → s.failed ≡ None →
+    ComesTo (record s { tag = t }) x m (NoMatch e) s' → record s' { tag = s.tag } ≡ s
+no_match_leaves s t x m e s' k h =
+    ap (λ (z : Reading). record z { tag = s.tag }) h.4 ∙ ap {A = List ℕ} {B = Reading} (λ l. record s { left = l; failed = None })
+    (place_unconsumed s.left m.left h.1)
+    ∙ ap {A = Option ASN1Error} {B = Reading} (λ u. record s { failed = u }) (sym k)
 
 -- so where the tag waits again that waited, the reading is as it was
 pub waits_again : {A : Type 0} (P : Does A) (s : Reading) (t : Option Tag) (e : ASN1Error) (z s' : Reading) →
-    s.kept ≡ None → Hands P (record s { tag = t }) (Quiet e) z → s' ≡ record z { tag = s.tag } → Lent P (record s { tag = t }) s (Quiet e) s'
-waits_again P s t e z s' k h f = record { between = z; hands = h; state = f ∙ quiet_leaves s t h.own h.left e z k h.comes }
+    s.failed ≡ None → Hands P (record s { tag = t }) (NoMatch e) z → s' ≡ record z { tag = s.tag } → Lent P (record s { tag = t }) s (NoMatch e) s'
+waits_again P s t e z s' k h f = record { between = z; hands = h; state = f ∙ no_match_leaves s t h.own h.left e z k h.comes }
 
-behind : {A : Type 0} (P : Does A) (z s : Reading) (o : Outcome A) (b s' : Reading) → z.left ≡ s.left →
+after : {A : Type 0} (P : Does A) (z s : Reading) (o : Outcome A) (b s' : Reading) → z.left ≡ s.left →
     Hands P z o b → s' ≡ b → (taken : List ℕ) × (s.left ≡ taken ++ s'.left)
-behind P z s o b s' e h f =
-    let t = taken_behind z h.own h.left o b h.comes in
+after P z s o b s' e h f =
+    let t = taken_after z h.own h.left o b h.comes in
     (t.0, sym e ∙ t.1 ∙ ap (λ (x : Reading). t.0 ++ x.left) (sym f))
 
--- what is left of a reading that was lent stands behind what was taken
-pub lent_behind : {A : Type 0} (P : Does A) (z s : Reading) (o : Outcome A) (s' : Reading) → z.left ≡ s.left →
+-- what is left of a reading that was lent is after what was taken
+pub lent_after : {A : Type 0} (P : Does A) (z s : Reading) (o : Outcome A) (s' : Reading) → z.left ≡ s.left →
     Lent P z s o s' → (taken : List ℕ) × (s.left ≡ taken ++ s'.left)
-lent_behind P z s (Gave v) s' e h = behind P z s (Gave v) h.between s' e h.hands h.state
-lent_behind P z s (Quiet d) s' e h = ([], ap (λ (x : Reading). x.left) (sym h.state))
-lent_behind P z s (Failed d) s' e h = behind P z s (Failed d) h.between s' e h.hands h.state
+lent_after P z s (Matched v) s' e h = after P z s (Matched v) h.between s' e h.hands h.state
+lent_after P z s (NoMatch d) s' e h = ([], ap (λ (x : Reading). x.left) (sym h.state))
+lent_after P z s (Failed d) s' e h = after P z s (Failed d) h.between s' e h.hands h.state

@@ -1,4 +1,4 @@
--- A CHOICE that is read by the next tag (X.690, 8.13), of any number of types: the tag tells which of them stands there.
+-- A CHOICE that is read by the next tag (X.690, 8.13), of any number of types: the tag determines which of them is there.
 use Rattle.std.proofs.Common.{◌≡◌, ℕ, List, [], ◌∷◌, ◌++◌, Result, Ok, Err, Bool, true, false, not, ◌||◌, inl, inr, refl, sym, subst, ap₂}
 use Rattle.std.proofs.lemmas.Bool.{eqb-true, and_parts}
 use Rattle.std.specs.List.{list_any, AllByRecursion}
@@ -12,8 +12,8 @@ use Rattle.yasna_base.specs.Coding.{IsCoding}
 use Rattle.yasna_base.specs.Grammar.{Grammar, Members}
 use Rattle.yasna_base.specs.Identifier.{BeginsWithTag, class_number}
 use Rattle.yasna_base.proofs.Identifier.{class_same}
-use Rattle.yasna_bytes.specs.Refusal.{IsElsewhere}
-use Rattle.yasna_reader.specs.ByTags.{AreElsewhere, QuietElsewhere, DecodesByTags}
+use Rattle.yasna_bytes.specs.Rejection.{IsElsewhere}
+use Rattle.yasna_reader.specs.ByTags.{AreElsewhere, NoMatchElsewhere, DecodesByTags}
 use Rattle.yasna_reader.specs.Lookahead.{FindsTag}
 use Rattle.yasna_reader.specs.State.{Reading, IsFresh}
 use Rattle.yasna_reader.proofs.NextTag.{found_none, found_other}
@@ -34,7 +34,7 @@ none_begins t [] s b r x found e y = y
 none_begins t (u ∷ us) s b r x found e (inl y) = found_other t u s b r found y e x.0
 none_begins t (u ∷ us) s b r x found e (inr y) = none_begins t us s b r x.1 found e y
 
--- where a tag was found that none of the other types has, the first type stands
+-- where a tag was found that none of the other types has, the first type is there
 pub first_of : {us : List Tag} {S Q T : Members} (t : Tag) (s : Reading) → BeginsWithTag t s.left → BeginsBy us Q →
     share_none (t ∷ []) us ≡ true → OnlyOf s T (AnyEither S Q) → OnlyOf s T S
 first_of {us} {S} {Q} t s found x none choice = record { only = λ b r e y. by_type b r e (choice.only b r e y) }
@@ -76,27 +76,27 @@ elsewhere_too u (t ∷ ts) s e x = elim (either_true (is_tag u t) (list_any (is_
   | inr f ↦ elsewhere_too u ts s f x.1
 ]
 
--- where none of some tags stands, none of those among them does
+-- where none of some tags is there, none of those among them is
 pub fewer_elsewhere : (us ts : List Tag) (s : List ℕ) → are_among us ts ≡ true → AreElsewhere ts s → AreElsewhere us s
 fewer_elsewhere [] ts s e x = tt
 fewer_elsewhere (u ∷ us) ts s e x =
     let y = and_parts (list_any (is_tag u) ts) (are_among us ts) e in
     ((elsewhere_too u ts s y.0 x).0, fewer_elsewhere us ts s y.1 x)
 
-quiet_so : {A U : Type 0} (f : A → U) (us ts : List Tag) → are_among us ts ≡ true → (s : Reading) (x : Result A ASN1Error) (s' : Reading) →
-    QuietElsewhere us s x s' → QuietElsewhere ts s (seen f x) s'
-quiet_so f us ts among s (Ok v) s' q = tt
-quiet_so f us ts among s (Err e) s' q = λ a. q (fewer_elsewhere us ts s.left among a)
+no_match_so : {A U : Type 0} (f : A → U) (us ts : List Tag) → are_among us ts ≡ true → (s : Reading) (x : Result A ASN1Error) (s' : Reading) →
+    NoMatchElsewhere us s x s' → NoMatchElsewhere ts s (seen f x) s'
+no_match_so f us ts among s (Ok v) s' q = tt
+no_match_so f us ts among s (Err e) s' q = λ a. q (fewer_elsewhere us ts s.left among a)
 
--- what reads the type that stands there reads the CHOICE: its values stand by f for those of the choice
-pub chosen_by_tags : {A U : Type 0} {us ts : List Tag} {asks more : Bool} {B : Grammar A} {S : Members} {D : Grammar U} {T : Members} (f : A → U) →
-    ((m : BERMode) (n : ℕ) (v : A) (b : List ℕ) → B m n v b → D m n (f v) b) → (asks ≡ true → more ≡ true) → are_among us ts ≡ true →
-    (s : Reading) → OnlyOf s T S → (x : Result A ASN1Error) (s' : Reading) → DecodesByTags us asks B S s x s' →
+-- what reads the type that is there reads the CHOICE: its values are by f for those of the choice
+pub chosen_by_tags : {A U : Type 0} {us ts : List Tag} {may_allocate more : Bool} {B : Grammar A} {S : Members} {D : Grammar U} {T : Members} (f : A → U) →
+    ((m : BERMode) (n : ℕ) (v : A) (b : List ℕ) → B m n v b → D m n (f v) b) → (may_allocate ≡ true → more ≡ true) → are_among us ts ≡ true →
+    (s : Reading) → OnlyOf s T S → (x : Result A ASN1Error) (s' : Reading) → DecodesByTags us may_allocate B S s x s' →
     DecodesByTags ts more D T s (seen f x) s'
-chosen_by_tags {us} {ts} {asks} {more} {B} {S} {D} {T} f says up among s only x s' h =
-    record { decodes = chosen asks more B S D T f says up s only.only x s' h.decodes; quiet = quiet_so f us ts among s x s' h.quiet }
+chosen_by_tags {us} {ts} {may_allocate} {more} {B} {S} {D} {T} f obeys up among s only x s' h =
+    record { decodes = chosen may_allocate more B S D T f obeys up s only.only x s' h.decodes; no_match = no_match_so f us ts among s x s' h.no_match }
 
--- where no tag was found none of the types stands
-pub found_none_by_tags : {A : Type 0} {E : A → A → Type 0} {B : Grammar A} {S : Members} (ts : List Tag) (asks : Bool) →
-    IsCoding E B S → (s : Reading) → IsFresh s → (e : ASN1Error) → FindsTag s.left (Err e) → DecodesByTags ts asks B S s (Err e) s
-found_none_by_tags ts asks laws s fresh e h = record { decodes = found_none asks laws s fresh e h; quiet = λ a. (refl, h.0) }
+-- where no tag was found none of the types is there
+pub found_none_by_tags : {A : Type 0} {E : A → A → Type 0} {B : Grammar A} {S : Members} (ts : List Tag) (may_allocate : Bool) →
+    IsCoding E B S → (s : Reading) → IsFresh s → (e : ASN1Error) → FindsTag s.left (Err e) → DecodesByTags ts may_allocate B S s (Err e) s
+found_none_by_tags ts may_allocate laws s fresh e h = record { decodes = found_none may_allocate laws s fresh e h; no_match = λ a. (refl, h.0) }

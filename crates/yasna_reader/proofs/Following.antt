@@ -1,4 +1,4 @@
--- Whether contents end in front of bytes, by the identifier at their front.
+-- Whether contents end before bytes, by the identifier at their front.
 use Rattle.std.proofs.Common.{◌≡◌, ℕ, ◌^◌, ◌<◌, List, [], ◌++◌, length, arith, ap, subst}
 use Rattle.yasna_base.specs.declared.tag.Tag.{Tag}
 use Rattle.yasna_base.specs.declared.tag.PCBit.{PCBit}

@@ -3,7 +3,7 @@ pub mod RawReads
 pub mod Sequences
 pub mod Callbacks
 pub mod Following
-pub mod Kept
+pub mod Sticky
 pub mod ListTurns
 pub mod SetListing
 pub mod SetRuns

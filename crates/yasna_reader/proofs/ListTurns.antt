@@ -8,7 +8,7 @@ use Rattle.std.specs.Prelude.{Result, Vec}
 use Rattle.yasna_base.specs.declared.error.ASN1Error.{ASN1Error}
 use Rattle.yasna_base.specs.declared.tag.Tag.{Tag}
 use Rattle.yasna_reader.specs.declared.callback.Outcome.{Outcome}
-use Rattle.yasna_reader.specs.declared.callback.Outcome.TheVariants.{Gave, Quiet, Failed}
+use Rattle.yasna_reader.specs.declared.callback.Outcome.TheVariants.{Matched, NoMatch, Failed}
 use Rattle.yasna_bytes.specs.declared.bytes.cursor.Cursor.{Cursor}
 use Rattle.yasna_reader.specs.Callback.{WithSome, ComesTo, FailsAs, at_cursor}
 use Rattle.yasna_reader.specs.Sequence.{ReadsParts}
@@ -19,33 +19,33 @@ use Rattle.yasna_base.specs.Error.{error_of}
 use Rattle.yasna_base.specs.declared.error.ASN1ErrorKind.TheVariants.{Invalid}
 use Rattle.yasna_reader.specs.State.{Reading, IsFresh, failing}
 use Rattle.yasna_bytes.specs.Walk.{IsRest}
-use Rattle.yasna_reader.proofs.Callbacks.{taken_behind}
+use Rattle.yasna_reader.proofs.Callbacks.{taken_after}
 use Rattle.yasna_reader.proofs.Sequences.{parts_map}
 
 tagged_turn : {A : Type 0} (c : Cursor) (t : Option Tag) (k : Option ASN1Error) (x : Result A ASN1Error) (m : Reading) (o : Outcome A) (s' : Reading) →
-    TurnsOut (at_cursor c) x m o s' → TurnsOut (record (at_cursor c) { tag = t; kept = k }) x m o s'
-tagged_turn c t k x m (Gave v) s' h = h
-tagged_turn c t k x m (Quiet e) s' h = h
+    TurnsOut (at_cursor c) x m o s' → TurnsOut (record (at_cursor c) { tag = t; failed = k }) x m o s'
+tagged_turn c t k x m (Matched v) s' h = h
+tagged_turn c t k x m (NoMatch e) s' h = h
 tagged_turn c t k x m (Failed e) s' (inl h) = inl h
 tagged_turn c t k x m (Failed e) s' (inr h) = inr (record {
   value = h.value;
   between = h.between;
   comes = h.comes;
-  unmoved = h.unmoved;
+  consumed_nothing = h.consumed_nothing;
   invalid = h.invalid;
   state = h.state;
 })
 
 some_tagged : {A : Type 0} (c : Cursor) (t : Option Tag) (k : Option ASN1Error) (x : Result A ASN1Error) (m : Reading) (o : Outcome (Unit {0}))
     (z : Reading) → WithSome (λ q. TurnsOut (at_cursor c) x m q z) o →
-    WithSome (λ q. TurnsOut (record (at_cursor c) { tag = t; kept = k }) x m q z) o
-some_tagged c t k x m (Gave u) z h = (h.0, tagged_turn c t k x m (Gave h.0) z h.1)
-some_tagged c t k x m (Quiet e) z h = tagged_turn c t k x m (Quiet e) z h
+    WithSome (λ q. TurnsOut (record (at_cursor c) { tag = t; failed = k }) x m q z) o
+some_tagged c t k x m (Matched u) z h = (h.0, tagged_turn c t k x m (Matched h.0) z h.1)
+some_tagged c t k x m (NoMatch e) z h = tagged_turn c t k x m (NoMatch e) z h
 some_tagged c t k x m (Failed e) z h = tagged_turn c t k x m (Failed e) z h
 
 -- what a turn came to depends on the place alone that it began at
 pub turned_at : {A : Type 0} (c : Cursor) (t : Option Tag) (k : Option ASN1Error) (s : Reading) (a : Option (List ℕ)) (x : Result A ASN1Error)
-    (m : Reading) (o : Outcome (Unit {0})) (n : Option (List ℕ)) (s' : Reading) → record (at_cursor c) { tag = t; kept = k } ≡ s →
+    (m : Reading) (o : Outcome (Unit {0})) (n : Option (List ℕ)) (s' : Reading) → record (at_cursor c) { tag = t; failed = k } ≡ s →
     TurnsOutInOrder a (at_cursor c) x m o n s' → TurnsOutInOrder a s x m o n s'
 turned_at c t k s a x m o n s' e h =
     subst (λ z. TurnsOutInOrder a z x m o n s') e (record {
@@ -57,22 +57,22 @@ turned_at c t k s a x m o n s' e h =
 
 module _ {G A : Type 0} (T : G → Reading → Outcome A → G → Reading → Type 0) where
   -- one turn more
-  pub turns_more : (g : G) (s : Reading) (vs : List A) (v : A) (h : G) (m : Reading) (g' : G) (s' : Reading) → Turns T g s vs h m → T h m (Gave v) g' s' →
+  pub turns_more : (g : G) (s : Reading) (vs : List A) (v : A) (h : G) (m : Reading) (g' : G) (s' : Reading) → Turns T g s vs h m → T h m (Matched v) g' s' →
       Turns T g s (vs ++ (v ∷ [])) g' s'
-  turns_more g s [] v h m g' s' a b = (g', s', subst (λ z. T z s (Gave v) g' s') a.0 (subst (λ z. T h z (Gave v) g' s') a.1 b), (refl, refl))
+  turns_more g s [] v h m g' s' a b = (g', s', subst (λ z. T z s (Matched v) g' s') a.0 (subst (λ z. T h z (Matched v) g' s') a.1 b), (refl, refl))
   turns_more g s (w ∷ vs) v h m g' s' a b = (a.0, a.1, a.2, turns_more a.0 a.1 vs v h m g' s' a.3 b)
 
 -- a fresh reading has no implicit tag and no failure to lose
-pub fresh_as : (s : Reading) (c : List ℕ) → IsFresh s → record s { left = c; tag = None; kept = None } ≡ record s { left = c }
+pub fresh_as : (s : Reading) (c : List ℕ) → IsFresh s → record s { left = c; tag = None; failed = None } ≡ record s { left = c }
 fresh_as s c fresh =
-    ap (λ (t : Option Tag). record s { left = c; tag = t; kept = None }) (sym fresh.1) ∙
-    ap (λ (k : Option ASN1Error). record s { left = c; kept = k }) (sym fresh.0)
+    ap (λ (t : Option Tag). record s { left = c; tag = t; failed = None }) (sym fresh.1) ∙
+    ap (λ (k : Option ASN1Error). record s { left = c; failed = k }) (sym fresh.0)
 
 -- turns so far: from the fresh reading s they gave these values, and are at the reading m, which is what is left of s
 pub record SoFar {G A : Type 0} (T : G → Reading → Outcome A → G → Reading → Type 0) (g : G) (s : Reading) (vs : List A) (h : G) (m : Reading) :
     Type 0 where
-  pub front : List ℕ
-  pub joined : s.left ≡ front ++ m.left
+  pub prefix : List ℕ
+  pub joined : s.left ≡ prefix ++ m.left
   pub same : m ≡ record s { left = m.left }
   pub turns : Turns T g s vs h m
 
@@ -82,13 +82,13 @@ pub more_so_far : {F A : Type 0} (C : F → Reading → Result A ASN1Error → F
     SoFar (TurnInOrder C) g s (vs ++ (v ∷ [])) g' s'
 more_so_far C g s vs v h m g' s' fresh a b =
     let c = b.turn.comes.0 in
-    let at : s' ≡ record m { left = s'.left; tag = None; kept = None } =
-    c.3 ∙ ap (λ (z : List ℕ). record m { left = z; tag = None; kept = None }) (sym (ap (λ (z : Reading). z.left) c.3)) in
-    let mid : record m { left = s'.left; tag = None; kept = None } ≡ record s { left = s'.left; tag = None; kept = None } =
-    ap (λ (z : Reading). record z { left = s'.left; tag = None; kept = None }) a.same in
+    let at : s' ≡ record m { left = s'.left; tag = None; failed = None } =
+    c.3 ∙ ap (λ (z : List ℕ). record m { left = z; tag = None; failed = None }) (sym (ap (λ (z : Reading). z.left) c.3)) in
+    let mid : record m { left = s'.left; tag = None; failed = None } ≡ record s { left = s'.left; tag = None; failed = None } =
+    ap (λ (z : Reading). record z { left = s'.left; tag = None; failed = None }) a.same in
     record {
-      front = a.front ++ b.element;
-      joined = a.joined ∙ ap (λ z. a.front ++ z) b.joined ∙ sym (append_assoc a.front b.element s'.left);
+      prefix = a.prefix ++ b.element;
+      joined = a.joined ∙ ap (λ z. a.prefix ++ z) b.joined ∙ sym (append_assoc a.prefix b.element s'.left);
       same = at ∙ mid ∙ fresh_as s s'.left fresh;
       turns = turns_more (TurnInOrder C) g s vs v h m g' s' a.turns b;
     }
@@ -103,31 +103,31 @@ plain_turns C (v ∷ vs) g s h m t = (t.0.callback, t.1, t.2.turn, plain_turns C
 pub takes_turn : {F A : Type 0} (g : Mut F (MutBor Reading × Unit {0}) (Result A ASN1Error × (MutBor Reading × Unit {0}))) (b : Bounded F) (s : Reading)
     (vs : List A) (h : Bounded F) (m : Reading) → TakesTurns g s → SoFar (TurnInOrder (CalledAtMut g)) b s vs h m → TakesTurn g h.callback m
 takes_turn g b s vs h m may so =
-    subst (λ z. TakesTurn g h.callback z) (sym so.same) (may b.callback h.callback vs so.front m.left so.joined
+    subst (λ z. TakesTurn g h.callback z) (sym so.same) (may b.callback h.callback vs so.prefix m.left so.joined
     (subst (λ z. Turns (ListTurn (CalledAtMut g)) b.callback s vs h.callback z) so.same (plain_turns (CalledAtMut g) vs b s h m so.turns)))
 
--- what is left behind a turn stands behind what it took
+-- what is left behind a turn is after what it took
 pub turn_rest : {A : Type 0} (s : Reading) (x : Result A ASN1Error) (m : Reading) (o : Outcome (Unit {0})) (s' : Reading) →
     WithSome (λ q. TurnsOut s x m q s') o → IsRest s.left s'.left
-turn_rest s x m (Gave u) s' h = taken_behind s x m (Gave h.0) s' h.1.0
-turn_rest s x m (Quiet e) s' h = taken_behind s x m (Quiet e) s' h
-turn_rest s x m (Failed e) s' (inl h) = taken_behind s x m (Failed e) s' h
+turn_rest s x m (Matched u) s' h = taken_after s x m (Matched h.0) s' h.1.0
+turn_rest s x m (NoMatch e) s' h = taken_after s x m (NoMatch e) s' h
+turn_rest s x m (Failed e) s' (inl h) = taken_after s x m (Failed e) s' h
 turn_rest s x m (Failed e) s' (inr i) =
-    let w = taken_behind s x m (Gave i.value) i.between i.comes in
+    let w = taken_after s x m (Matched i.value) i.between i.comes in
     (w.0, w.1 ∙ ap (λ (z : Reading). w.0 ++ z.left) (sym i.state))
 
--- a value for which nothing was taken, and the failure that is answered in its place
+-- a value for which nothing was taken, and the failure that is returned in its place
 pub idled : {A : Type 0} (s : Reading) (x : Result A ASN1Error) (m z s' : Reading) (p o : Outcome (Unit {0})) (u : Unit {0}) (e : ASN1Error) →
-    WithSome (λ q. ComesTo s x m q z) p → p ≡ Gave u → length s.left ≤ length z.left → e ≡ error_of Invalid → FailsAs e z o s' →
+    WithSome (λ q. ComesTo s x m q z) p → p ≡ Matched u → length s.left ≤ length z.left → e ≡ error_of Invalid → FailsAs e z o s' →
     WithSome (λ q. TurnsOut s x m q s') o
-idled s x m z s' p o u e h gave idle is fails =
-    let given = subst (λ w. WithSome (λ q. ComesTo s x m q z) w) gave h in
-    let rest = taken_behind s x m (Gave given.0) z given.1 in
+idled s x m z s' p o u e h matched idle is fails =
+    let given = subst (λ w. WithSome (λ q. ComesTo s x m q z) w) matched h in
+    let rest = taken_after s x m (Matched given.0) z given.1 in
     subst (λ w. WithSome (λ q. TurnsOut s x m q s') w) (sym fails.0) (inr (record {
       value = given.0;
       between = z;
       comes = given.1;
-      unmoved = omega (arith, idle, ap length rest.1, length-append rest.0 z.left);
+      consumed_nothing = omega (arith, idle, ap length rest.1, length-append rest.0 z.left);
       invalid = is;
       state = fails.1;
     }))
@@ -135,9 +135,9 @@ idled s x m z s' p o u e h gave idle is fails =
 -- what was made of a turn
 module _ {F A : Type 0} (C : F → Reading → Result A ASN1Error → F → Reading → Type 0) (g g' : Bounded F) (s : Reading) (x : Result A ASN1Error)
     (m s' : Reading) (called : C g.callback s x g'.callback m) where
-  gave_by : (p : Outcome (Unit {0})) (z : Reading) (u : Unit {0}) → WithSome (λ q. TurnsOut s x m q z) p →
-      Ordered g.bound s.left p z (Gave u) g'.bound s' → (v : A) × (x ≡ Ok v) × GivesInOrder C g s v g' s'
-  gave_by (Gave w) z u t (b, e, inl h) = (
+  matched_by : (p : Outcome (Unit {0})) (z : Reading) (u : Unit {0}) → WithSome (λ q. TurnsOut s x m q z) p →
+      Ordered g.bound s.left p z (Matched u) g'.bound s' → (v : A) × (x ≡ Ok v) × GivesInOrder C g s v g' s'
+  matched_by (Matched w) z u t (b, e, inl h) = (
     t.0,
     t.1.0.2,
     subst (λ y. GivesInOrder C g s t.0 g' y) (sym h.2) (record {
@@ -147,37 +147,37 @@ module _ {F A : Type 0} (C : F → Reading → Result A ASN1Error → F → Read
       follows = h.0;
     }),
   )
-  gave_by (Gave w) z u t (b, e, inr h) = let i = h.1 in absurd (cc)
-  gave_by (Quiet d) z u t h = let i = h.0 in absurd (cc)
-  gave_by (Failed d) z u t h = let i = h.0 in absurd (cc)
+  matched_by (Matched w) z u t (b, e, inr h) = let i = h.1 in absurd (cc)
+  matched_by (NoMatch d) z u t h = let i = h.0 in absurd (cc)
+  matched_by (Failed d) z u t h = let i = h.0 in absurd (cc)
 
-  -- a value that may stand behind those before
-  pub gave_in_order : (u : Unit {0}) → TurnsOutInOrder g.bound s x m (Gave u) g'.bound s' → (v : A) × (x ≡ Ok v) × GivesInOrder C g s v g' s'
-  gave_in_order u h = gave_by h.outcome h.between u h.turn h.ordered
+  -- a value that may be after those before
+  pub matched_in_order : (u : Unit {0}) → TurnsOutInOrder g.bound s x m (Matched u) g'.bound s' → (v : A) × (x ≡ Ok v) × GivesInOrder C g s v g' s'
+  matched_in_order u h = matched_by h.outcome h.between u h.turn h.ordered
 
-  quiet_by : (p : Outcome (Unit {0})) (z : Reading) (e : ASN1Error) → WithSome (λ q. TurnsOut s x m q z) p →
-      Ordered g.bound s.left p z (Quiet e) g'.bound s' → ListTurn C g.callback s (Quiet e) g'.callback s'
-  quiet_by (Gave w) z e t (b, i, inl h) = let j = h.1 in absurd (cc)
-  quiet_by (Gave w) z e t (b, i, inr h) = let j = h.1 in absurd (cc)
-  quiet_by (Quiet d) z e t h =
+  no_match_by : (p : Outcome (Unit {0})) (z : Reading) (e : ASN1Error) → WithSome (λ q. TurnsOut s x m q z) p →
+      Ordered g.bound s.left p z (NoMatch e) g'.bound s' → ListTurn C g.callback s (NoMatch e) g'.callback s'
+  no_match_by (Matched w) z e t (b, i, inl h) = let j = h.1 in absurd (cc)
+  no_match_by (Matched w) z e t (b, i, inr h) = let j = h.1 in absurd (cc)
+  no_match_by (NoMatch d) z e t h =
       let j = h.0 in
       let k : e ≡ d = cc in
-      subst (λ y. ListTurn C g.callback s (Quiet e) g'.callback y) (sym h.1) (record {
+      subst (λ y. ListTurn C g.callback s (NoMatch e) g'.callback y) (sym h.1) (record {
         own = x;
         left = m;
         called = called;
-        comes = subst (λ y. TurnsOut s x m (Quiet y) z) (sym k) t;
+        comes = subst (λ y. TurnsOut s x m (NoMatch y) z) (sym k) t;
       })
-  quiet_by (Failed d) z e t h = let j = h.0 in absurd (cc)
+  no_match_by (Failed d) z e t h = let j = h.0 in absurd (cc)
 
   -- no value
-  pub quiet_in_order : (e : ASN1Error) → TurnsOutInOrder g.bound s x m (Quiet e) g'.bound s' → ListTurn C g.callback s (Quiet e) g'.callback s'
-  quiet_in_order e h = quiet_by h.outcome h.between e h.turn h.ordered
+  pub no_match_in_order : (e : ASN1Error) → TurnsOutInOrder g.bound s x m (NoMatch e) g'.bound s' → ListTurn C g.callback s (NoMatch e) g'.callback s'
+  no_match_in_order e h = no_match_by h.outcome h.between e h.turn h.ordered
 
   failed_by : (p : Outcome (Unit {0})) (z : Reading) (e : ASN1Error) → WithSome (λ q. TurnsOut s x m q z) p →
       Ordered g.bound s.left p z (Failed e) g'.bound s' → FailsInOrder C g s e g' s'
-  failed_by (Gave w) z e t (b, i, inl h) = let j = h.1 in absurd (cc)
-  failed_by (Gave w) z e t (b, i, inr h) =
+  failed_by (Matched w) z e t (b, i, inl h) = let j = h.1 in absurd (cc)
+  failed_by (Matched w) z e t (b, i, inr h) =
       let j = h.1 in
       let k : e ≡ error_of Invalid = cc in
       fell (record {
@@ -190,7 +190,7 @@ module _ {F A : Type 0} (C : F → Reading → Result A ASN1Error → F → Read
         invalid = k;
         state = h.2 ∙ ap (λ y. failing z y) (sym k);
       })
-  failed_by (Quiet d) z e t h = let j = h.0 in absurd (cc)
+  failed_by (NoMatch d) z e t h = let j = h.0 in absurd (cc)
   failed_by (Failed d) z e t h =
       let j = h.0 in
       let k : e ≡ d = cc in
@@ -201,7 +201,7 @@ module _ {F A : Type 0} (C : F → Reading → Result A ASN1Error → F → Read
         comes = subst (λ y. TurnsOut s x m (Failed y) z) (sym k) t;
       }))
 
-  -- a failure that is kept
+  -- a sticky error
   pub failed_in_order : (e : ASN1Error) → TurnsOutInOrder g.bound s x m (Failed e) g'.bound s' → FailsInOrder C g s e g' s'
   failed_in_order e h = failed_by h.outcome h.between e h.turn h.ordered
 
@@ -224,8 +224,8 @@ module _ {F A : Type 0} (C : F → Reading → Result A ASN1Error → F → Read
 
   turn_any : (g : Bounded F) (s : Reading) (o : Outcome A) (g' : Bounded F) (s' : Reading) → g.bound ≡ None → TurnInOrder C g s o g' s' →
       ListTurn C g.callback s o g'.callback s'
-  turn_any g s (Gave v) g' s' e t = t.turn
-  turn_any g s (Quiet k) g' s' e t = t
+  turn_any g s (Matched v) g' s' e t = t.turn
+  turn_any g s (NoMatch k) g' s' e t = t
   turn_any g s (Failed k) g' s' e (failed t) = t
   turn_any g s (Failed k) g' s' e (fell t) = absurd (none_falls g.bound t.element e t.falls)
 
@@ -256,7 +256,7 @@ module _ {F A : Type 0} (C : F → Reading → Result A ASN1Error → F → Read
       turns = (turns_any (x.values ++ (x.last ∷ [])) (record { callback = f; bound = None }) s x.reached x.place refl x.turns).0;
       error = x.error;
       memory = x.memory;
-      answer = x.answer;
+      returned = x.returned;
       state = x.state;
     })
   ]) t
@@ -266,5 +266,5 @@ module _ {F A : Type 0} (C : F → Reading → Result A ASN1Error → F → Read
   visits_any f t = parts_map (VisitsInOrder Any C f) (Visits C f) (λ s r s' fresh h. record {
     items = h.items;
     lists = lists_any f s h.items s' h.lists;
-    answer = h.answer;
+    returned = h.returned;
   }) t

@@ -1,4 +1,4 @@
--- Typed reads of parts that may be left out: they are quiet where what follows begins with another tag.
+-- Typed reads of parts that may be omitted: they have no match where what follows begins with another tag.
 use Rattle.std.proofs.Common.{◌≡◌, ℕ, ◌^◌, ◌<◌, List, ◌∷◌, ◌++◌, sym, ap, subst, ◌∙◌}
 use Rattle.std.specs.Prelude.{Err}
 use Rattle.yasna_base.specs.declared.error.ASN1Error.{ASN1Error}
@@ -9,12 +9,12 @@ use Rattle.yasna_base.specs.Grammar.{Members, TaggedGrammar, TaggedMembers}
 use Rattle.yasna_base.specs.Identifier.{BeginsWithTag, AtEnd, end_tag, tag_or, begins}
 use Rattle.yasna_base.specs.Sequence.{AnyPart, AnyNothing}
 use Rattle.yasna_base.proofs.Identifier.{begins_with}
-use Rattle.yasna_bytes.specs.Contents.{Never, WantsMemory}
-use Rattle.yasna_reader.specs.Primitive.{RefusedAs, ReadsUnlessKept, ReadsSeen, Reads, NoLevel}
-use Rattle.yasna_bytes.specs.Refusal.{BlamesBytes, IsElsewhere, another}
-use Rattle.yasna_reader.specs.State.{Reading, IsFresh, refusing, tag_of}
-use Rattle.yasna_reader.proofs.OptionalParts.{IsQuietBefore}
-use Rattle.yasna_bytes.proofs.Refusal.{plain_of, at_end_elsewhere, begins_not_elsewhere}
+use Rattle.yasna_bytes.specs.Contents.{NeverAllocates, MayAllocate}
+use Rattle.yasna_reader.specs.Primitive.{RejectedAs, ReadsUnlessFailed, ReadsSeen, Reads, NoLevel}
+use Rattle.yasna_bytes.specs.Rejection.{BlamesBytes, IsElsewhere, another}
+use Rattle.yasna_reader.specs.State.{Reading, IsFresh, rejecting, tag_of}
+use Rattle.yasna_reader.proofs.OptionalParts.{NoMatchBefore}
+use Rattle.yasna_bytes.proofs.Rejection.{blames_bytes_of, at_end_elsewhere, begins_not_elsewhere}
 
 -- contents in Q, up to an end, don't begin with the tag
 abbrev pub StartsElsewhere : Tag → Members → Type 0
@@ -28,41 +28,41 @@ nothing_elsewhere t not_end m n c r i q = subst (λ z. IsElsewhere t (z ++ r)) (
 pub part_elsewhere : {S : Members} (t u : Tag) (R : Members) → u.tag_number < 2 ^ 64 → (u ≡ t → ⊥) →
     ((m : BERMode) (n : ℕ) (b : List ℕ) → S m n b → BeginsWithTag u b) → StartsElsewhere t (AnyPart S R)
 part_elsewhere t u R range other starts m n c r i q =
-    let front = begins_with u q.front q.rest (starts m n q.front q.here) in
-    another u range other (begins_with u c r (subst (λ z. BeginsWithTag u z) (sym q.joined) front))
+    let prefix = begins_with u q.prefix q.rest (starts m n q.prefix q.here) in
+    another u range other (begins_with u c r (subst (λ z. BeginsWithTag u z) (sym q.joined) prefix))
 
 module _ {V A : Type 0} (B : TaggedGrammar A) (view : V → A) (D : TaggedMembers)
     (M : ℕ → Tag → List ℕ → Type 0) (t : Tag) (deep : (n : ℕ) (m : BERMode) (s : List ℕ) → D n m t s → BeginsWithTag t s)
     (memory : (n : ℕ) (s : List ℕ) → M n t s → BeginsWithTag t s) where
-  refused_quiet : (s : Reading) (e : ASN1Error) (s' : Reading) →
-      RefusedAs (B s.levels s.mode t) (D s.levels s.mode t s.left) (M s.levels t s.left) t s e s' → IsElsewhere t s.left → (s' ≡ s) × BlamesBytes (kind_of e)
-  refused_quiet s e s' y other = (
-    y.state ∙ ap (λ b. refusing b s e) (y.refuses.moved.1 other),
-    plain_of (kind_of e) (λ i. begins_not_elsewhere (deep s.levels s.mode s.left (y.refuses.too_deep (y.kind ∙ i))) other)
-        (λ i. begins_not_elsewhere (memory s.levels s.left (y.refuses.memory (y.kind ∙ i))) other),
+  rejected_no_match : (s : Reading) (e : ASN1Error) (s' : Reading) →
+      RejectedAs (B s.levels s.mode t) (D s.levels s.mode t s.left) (M s.levels t s.left) t s e s' → IsElsewhere t s.left → (s' ≡ s) × BlamesBytes (kind_of e)
+  rejected_no_match s e s' y other = (
+    y.state ∙ ap (λ b. rejecting b s e) (y.rejects.consumed.1 other),
+    blames_bytes_of (kind_of e) (λ i. begins_not_elsewhere (deep s.levels s.mode s.left (y.rejects.too_deep (y.kind ∙ i))) other)
+        (λ i. begins_not_elsewhere (memory s.levels s.left (y.rejects.memory (y.kind ∙ i))) other),
   )
 
-  fresh_refused : (s : Reading) (e : ASN1Error) (s' : Reading) → IsFresh s → ReadsSeen B view D M t s (Err e) s' →
-      RefusedAs (B s.levels s.mode t) (D s.levels s.mode t s.left) (M s.levels t s.left) t s e s'
-  fresh_refused s e s' f x =
-      let y = subst (λ k. ReadsUnlessKept k (B s.levels s.mode (tag_of s t)) view (D s.levels s.mode (tag_of s t) s.left) (M s.levels (tag_of s t) s.left)
+  fresh_rejected : (s : Reading) (e : ASN1Error) (s' : Reading) → IsFresh s → ReadsSeen B view D M t s (Err e) s' →
+      RejectedAs (B s.levels s.mode t) (D s.levels s.mode t s.left) (M s.levels t s.left) t s e s'
+  fresh_rejected s e s' f x =
+      let y = subst (λ k. ReadsUnlessFailed k (B s.levels s.mode (tag_of s t)) view (D s.levels s.mode (tag_of s t) s.left) (M s.levels (tag_of s t) s.left)
       (tag_of s t) s (Err e) s') f.0 x.reads in
-      subst (λ u. RefusedAs (B s.levels s.mode (tag_or u t)) (D s.levels s.mode (tag_or u t) s.left) (M s.levels (tag_or u t) s.left) (tag_or u t) s e s')
+      subst (λ u. RejectedAs (B s.levels s.mode (tag_or u t)) (D s.levels s.mode (tag_or u t) s.left) (M s.levels (tag_or u t) s.left) (tag_or u t) s e s')
       f.1 y
 
-  -- a typed read is quiet where what follows begins with another tag
-  pub quiet_elsewhere : (Q : Members) → StartsElsewhere t Q → IsQuietBefore (ReadsSeen B view D M t) Q
-  quiet_elsewhere Q elsewhere = record {
-    quiet = λ s e s' f x q. refused_quiet s e s' (fresh_refused s e s' f x)
+  -- a typed read has no match where what follows begins with another tag
+  pub no_match_elsewhere : (Q : Members) → StartsElsewhere t Q → NoMatchBefore (ReadsSeen B view D M t) Q
+  no_match_elsewhere Q elsewhere = record {
+    no_match = λ s e s' f x q. rejected_no_match s e s' (fresh_rejected s e s' f x)
         (subst (λ z. IsElsewhere t z) (sym q.joined) (elsewhere s.mode s.levels q.contents q.rest q.ends q.member));
   }
 
 -- so for a read that goes one level down and takes no memory
-pub leaf_quiet : {A : Type 0} (B : TaggedGrammar A) (t : Tag) (Q : Members) → StartsElsewhere t Q → IsQuietBefore (Reads B NoLevel Never t) Q
-leaf_quiet B t Q = quiet_elsewhere B (λ v. v) NoLevel Never t (λ n m s d. d.1) (λ n s x. absurd x) Q
+pub leaf_no_match : {A : Type 0} (B : TaggedGrammar A) (t : Tag) (Q : Members) → StartsElsewhere t Q → NoMatchBefore (Reads B NoLevel NeverAllocates t) Q
+leaf_no_match B t Q = no_match_elsewhere B (λ v. v) NoLevel NeverAllocates t (λ n m s d. d.1) (λ n s x. absurd x) Q
 
--- and for one that may want memory, where what lies too deep begins with the tag
-pub asking_quiet : {V A : Type 0} (B : TaggedGrammar A) (view : V → A) (D : TaggedMembers) (t : Tag)
+-- and for one that may allocate, where what lies too deep begins with the tag
+pub allocating_no_match : {V A : Type 0} (B : TaggedGrammar A) (view : V → A) (D : TaggedMembers) (t : Tag)
     (Q : Members) → ((n : ℕ) (m : BERMode) (s : List ℕ) → D n m t s → BeginsWithTag t s) → StartsElsewhere t Q →
-    IsQuietBefore (ReadsSeen B view D WantsMemory t) Q
-asking_quiet B view D t Q deep = quiet_elsewhere B view D WantsMemory t deep (λ n s w. begins w.bit (w.size ∷ w.after) w.joined) Q
+    NoMatchBefore (ReadsSeen B view D MayAllocate t) Q
+allocating_no_match B view D t Q deep = no_match_elsewhere B view D MayAllocate t deep (λ n s w. begins w.bit (w.size ∷ w.after) w.joined) Q

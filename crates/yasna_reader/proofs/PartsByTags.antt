@@ -1,5 +1,5 @@
--- Parts that tags tell apart, which are read one by one: each takes one line, which says what it decodes and that it is quiet where
--- what follows stands.
+-- Parts that tags distinguish, which are read one by one: each takes one line, which says what it decodes and that it has no match where
+-- what follows is there.
 use Rattle.std.proofs.Common.{◌≡◌, ℕ, ◌^◌, ◌<◌, List, [], ◌∷◌, ◌++◌, length, Option, None, Err, Bool, true, false, not, inl, inr, refl, sym, ap, subst, ◌∙◌, append_assoc, arith}
 use Rattle.std.proofs.lemmas.Bool.{and_parts}
 use Rattle.std.specs.List.{list_any, AllByRecursion}
@@ -8,22 +8,22 @@ use Rattle.yasna_base.specs.declared.mode.BERMode.{BERMode}
 use Rattle.yasna_base.specs.declared.tag.Tag.{Tag}
 use Rattle.yasna_base.specs.Beginnings.{BeginsWithOne, ContentsBeginBy, is_tag, share_none, CodingByTags}
 use Rattle.yasna_base.specs.Coding.{IsCoding, Any}
-use Rattle.yasna_base.specs.Default.{TellsDefault, DefaultOf}
+use Rattle.yasna_base.specs.Default.{DetectsDefault, DefaultOf}
 use Rattle.yasna_base.specs.Grammar.{Grammar, Members}
 use Rattle.yasna_base.specs.Identifier.{BeginsWithTag, AtEnd, nothing as at_nothing, end as at_zeros, end_tag}
 use Rattle.yasna_base.specs.Optional.{OptionOf, AnyOption}
 use Rattle.yasna_base.specs.Sequence.{PartOf, NoParts, AnyPart, AnyNothing}
-use Rattle.yasna_base.proofs.Beginnings.{tags_differ, begins_apart, nothing_by_tags, part_by_tags as part_begins_by, left_out_by_tags}
+use Rattle.yasna_base.proofs.Beginnings.{tags_differ, unambiguous_before, nothing_by_tags, part_by_tags as part_begins_by, left_out_by_tags}
 use Rattle.yasna_base.proofs.Identifier.{begins_once, begins_some, begins_with}
-use Rattle.yasna_bytes.specs.Refusal.{IsElsewhere, another}
-use Rattle.yasna_bytes.proofs.Refusal.{at_end_elsewhere}
+use Rattle.yasna_bytes.specs.Rejection.{IsElsewhere, another}
+use Rattle.yasna_bytes.proofs.Rejection.{at_end_elsewhere}
 use Rattle.yasna_reader.specs.ByTags.{AreElsewhere}
 use Rattle.yasna_reader.specs.Decodes.{Step, Done}
 use Rattle.yasna_reader.specs.Optional.{ReadsOptional, ReadsDefault}
 use Rattle.yasna_reader.specs.State.{Does}
 use Rattle.yasna_reader.proofs.ByTags.{IsDecoderByTags, plain_by}
 use Rattle.yasna_reader.proofs.DefaultParts.{less, default_by}
-use Rattle.yasna_reader.proofs.OptionalParts.{IsContentsDecoder, IsQuietBefore, then_by, part_by, option_by, end_by}
+use Rattle.yasna_reader.proofs.OptionalParts.{IsContentsDecoder, NoMatchBefore, then_by, part_by, option_by, end_by}
 use Rattle.yasna_reader.proofs.OptionalReads.{StartsElsewhere}
 use Rattle.yasna_reader.proofs.Tuples.{IsDecoder}
 
@@ -68,19 +68,19 @@ all_elsewhere (t ∷ ts) us s e range b =
     let y = and_parts (not (list_any (is_tag t) (end_tag ∷ us))) (share_none ts (end_tag ∷ us)) e in
     (elsewhere_by t us s (differs_from t (end_tag ∷ us) y.0) range b, all_elsewhere ts us s y.1 range b)
 
--- so what decodes by tags is quiet before contents that begin by others
-pub quiet_before : {A : Type 0} {ts us : List Tag} {asks : Bool} {B : Grammar A} {S Q : Members} {N : Does A} → IsDecoderByTags ts asks B S N →
-    share_none ts (end_tag ∷ us) ≡ true → ContentsBeginBy us Q → BeginInRange Q → IsQuietBefore N Q
-quiet_before {ts} {us} {Q} value none x range = record {
-  quiet = λ s e s' fresh h q.
+-- so what decodes by tags has no match before contents that begin by others
+pub no_match_before : {A : Type 0} {ts us : List Tag} {may_allocate : Bool} {B : Grammar A} {S Q : Members} {N : Does A} → IsDecoderByTags ts may_allocate B S N →
+    share_none ts (end_tag ∷ us) ≡ true → ContentsBeginBy us Q → BeginInRange Q → NoMatchBefore N Q
+no_match_before {ts} {us} {Q} value none x range = record {
+  no_match = λ s e s' fresh h q.
       let b = x.at s.mode s.levels q.contents q.rest q.ends q.member in
-      (value.decodes s (Err e) s' fresh h).quiet
+      (value.decodes s (Err e) s' fresh h).no_match
       (all_elsewhere ts us s.left none
       (λ u i. range.at s.mode s.levels q.contents q.rest u q.ends q.member (subst (λ z. BeginsWithTag u z) q.joined i))
       (subst (λ z. BeginsWithOne us z ⊎ AtEnd z) (sym q.joined) b));
 }
 
--- at an end only the end's own tag stands
+-- at an end only the end's own tag is there
 pub end_in_range : (s : List ℕ) (u : Tag) → AtEnd s → BeginsWithTag u s → u.tag_number < 2 ^ 64
 end_in_range s u (at_nothing e) b = absurd (omega (arith, begins_some u s b, ap length e))
 end_in_range s u (at_zeros i) b =
@@ -101,38 +101,38 @@ in_range_by {us} range x = record { at = λ m n c s u i q b. by_start (c ++ s) u
     by_start s u b (inl y) = one us s u range b y
     by_start s u b (inr i) = end_in_range s u i b
 
--- an encoding begins with a tag of 64 bits, whatever stands behind it
-front_in_range : {A : Type 0} {E : A → A → Type 0} {B : Grammar A} {S : Members} → IsCoding E B S →
+-- an encoding begins with a tag of 64 bits, whatever is after it
+prefix_in_range : {A : Type 0} {E : A → A → Type 0} {B : Grammar A} {S : Members} → IsCoding E B S →
     (m : BERMode) (n : ℕ) (b r : List ℕ) (u : Tag) → S m n b →
     BeginsWithTag u (b ++ r) → u.tag_number < 2 ^ 64
-front_in_range x m n b r u p i =
+prefix_in_range x m n b r u p i =
     let o = x.opens m n b p in
     subst (λ (t : Tag). t.tag_number < 2 ^ 64) (begins_once o.tag u (b ++ r) (begins_with o.tag b r o.begins) i) o.in_range
 
 pub part_in_range : {A : Type 0} {E : A → A → Type 0} {B : Grammar A} {S : Members} (Q : Members) → IsCoding E B S → BeginInRange (AnyPart S Q)
 part_in_range Q x = record {
   at = λ m n c s u i p b.
-      front_in_range x m n p.front (p.rest ++ s) u p.here
-      (subst (λ z. BeginsWithTag u z) (ap (λ z. z ++ s) p.joined ∙ append_assoc p.front p.rest s) b);
+      prefix_in_range x m n p.prefix (p.rest ++ s) u p.here
+      (subst (λ z. BeginsWithTag u z) (ap (λ z. z ++ s) p.joined ∙ append_assoc p.prefix p.rest s) b);
 }
 
 pub left_out_in_range : {A : Type 0} {E : A → A → Type 0} {B : Grammar A} {S Q : Members} → IsCoding E B S → BeginInRange Q →
     BeginInRange (AnyPart (AnyOption S) Q)
 left_out_in_range {S} {Q} x y = record {
   at = λ m n c s u i p b.
-      by_front m n p.front p.rest s u i p.here p.more
-      (subst (λ z. BeginsWithTag u z) (ap (λ z. z ++ s) p.joined ∙ append_assoc p.front p.rest s) b);
+      by_prefix m n p.prefix p.rest s u i p.here p.more
+      (subst (λ z. BeginsWithTag u z) (ap (λ z. z ++ s) p.joined ∙ append_assoc p.prefix p.rest s) b);
 }
   where
-    by_front : (m : BERMode) (n : ℕ) (front rest s : List ℕ) (u : Tag) → AtEnd s → AnyOption S m n front → Q m n rest →
-        BeginsWithTag u (front ++ (rest ++ s)) → u.tag_number < 2 ^ 64
-    by_front m n front rest s u i (inl p) q b = front_in_range x m n front (rest ++ s) u p b
-    by_front m n front rest s u i (inr e) q b = y.at m n rest s u i q (subst (λ z. BeginsWithTag u (z ++ (rest ++ s))) e b)
+    by_prefix : (m : BERMode) (n : ℕ) (prefix rest s : List ℕ) (u : Tag) → AtEnd s → AnyOption S m n prefix → Q m n rest →
+        BeginsWithTag u (prefix ++ (rest ++ s)) → u.tag_number < 2 ^ 64
+    by_prefix m n prefix rest s u i (inl p) q b = prefix_in_range x m n prefix (rest ++ s) u p b
+    by_prefix m n prefix rest s u i (inr e) q b = y.at m n rest s u i q (subst (λ z. BeginsWithTag u (z ++ (rest ++ s))) e b)
 
 -- each run of P on a fresh reading decodes contents that make a value, and these begin by the tags
-pub record IsPartsDecoderByTags {U A : Type 0} (ts : List Tag) (asks : Bool) (C : Grammar A) (S : Members) (make : A →
+pub record IsPartsDecoderByTags {U A : Type 0} (ts : List Tag) (may_allocate : Bool) (C : Grammar A) (S : Members) (make : A →
     U) (P : Does U) : Type 0 where
-  pub contents : IsContentsDecoder asks C S make P
+  pub contents : IsContentsDecoder may_allocate C S make P
   pub begins : ContentsBeginBy ts S
   pub in_range : BeginInRange S
 
@@ -146,7 +146,7 @@ end_by_tags = record {
 
 module _ {A V U : Type 0} {E : A → A →
     Type 0} {B : Grammar A} {S : Members} {N : Does A} {ts us : List Tag} {p q : Bool} {C : Grammar V} {Q : Members} where
-  -- a part that isn't left out, and where it stood, others
+  -- a part that isn't omitted, and where it was there, others
   pub part_by_tags : {make : A × V → U} {K : A → Does U} → CodingByTags ts E B S → IsDecoder p B S N →
       ((v : A) → IsPartsDecoderByTags us q C Q (λ w. make (v, w)) (K v)) →
       IsPartsDecoderByTags ts (p || q) (PartOf B C) (AnyPart S Q) make (Step N K)
@@ -156,7 +156,7 @@ module _ {A V U : Type 0} {E : A → A →
     in_range = part_in_range Q laws.coding;
   }
 
-  -- one that may be left out, where no tag of it stands behind it
+  -- one that may be omitted, where no tag of it is after it
   pub option_by_tags : {make : Option A × V → U} {K : Option A → Does U} → CodingByTags ts E B S → IsDecoderByTags ts p B S N →
       share_none ts (end_tag ∷ us) ≡ true → ((v : Option A) → IsPartsDecoderByTags us q C Q (λ w. make (v, w)) (K v)) →
       IsPartsDecoderByTags (ts ++ us) (p || q) (PartOf (OptionOf B) C) (AnyPart (AnyOption S) Q) make (Step (ReadsOptional N) K)
@@ -164,25 +164,25 @@ module _ {A V U : Type 0} {E : A → A →
       let y = more None in
       record {
         contents = then_by
-            (option_by laws.coding (plain_by value) (begins_apart laws.begins y.begins none) (quiet_before value none y.begins y.in_range))
+            (option_by laws.coding (plain_by value) (unambiguous_before laws.begins y.begins none) (no_match_before value none y.begins y.in_range))
             (λ v. (more v).contents);
         begins = left_out_by_tags laws.begins y.begins;
         in_range = left_out_in_range laws.coding y.in_range;
       }
 
-  -- and one that is the default d where it is left out
-  pub default_by_tags : {make : A × V → U} {K : A → Does U} (is : A → Bool) (eq : A → A → Bool) (d : A) → TellsDefault E is d →
+  -- and one that is the default d where it is omitted
+  pub default_by_tags : {make : A × V → U} {K : A → Does U} (is : A → Bool) (eq : A → A → Bool) (d : A) → DetectsDefault E is d →
       ((v : A) → is v ≡ eq v d) → CodingByTags ts E B S → IsDecoderByTags ts p B S N → share_none ts (end_tag ∷ us) ≡ true →
       ((v : A) → IsPartsDecoderByTags us q C Q (λ w. make (v, w)) (K v)) →
       IsPartsDecoderByTags (ts ++ us) (p || q) (PartOf (DefaultOf is B) C) (AnyPart (Any (DefaultOf is B)) Q) make (Step (ReadsDefault N eq d) K)
-  default_by_tags is eq d tells tests laws value none more =
+  default_by_tags is eq d explains tests laws value none more =
       let y = more d in
       let begins = left_out_by_tags laws.begins y.begins in
       let range = left_out_in_range laws.coding y.in_range in
       record {
         contents = then_by
-            (default_by is eq d tells tests laws.coding (plain_by value) (begins_apart laws.begins y.begins none)
-            (quiet_before value none y.begins y.in_range))
+            (default_by is eq d explains tests laws.coding (plain_by value) (unambiguous_before laws.begins y.begins none)
+            (no_match_before value none y.begins y.in_range))
             (λ v. (more v).contents);
         begins = record { at = λ m n c s i b. begins.at m n c s i (less Q is laws.coding m n c b) };
         in_range = record { at = λ m n c s u i b. range.at m n c s u i (less Q is laws.coding m n c b) };

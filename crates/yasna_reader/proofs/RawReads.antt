@@ -11,26 +11,26 @@ use Rattle.yasna_base.specs.Identifier.{StartsElement}
 use Rattle.yasna_base.specs.Raw.{RawValue, IsRaw}
 use Rattle.yasna_base.proofs.Identifier.{begins_with}
 use Rattle.yasna_base.proofs.Raw.{raw_zero, raw_starts, deep_starts}
-use Rattle.yasna_bytes.specs.declared.bytes.header.Refusal.{Refusal}
+use Rattle.yasna_bytes.specs.declared.bytes.header.Rejection.{Rejection}
 use Rattle.yasna_bytes.specs.declared.bytes.walk.RawElement.{RawElement}
-use Rattle.yasna_bytes.specs.Front.{Takes, Stands}
-use Rattle.yasna_reader.specs.Decodes.{Tells, KeptTells, NotTook, IsQuietAtEnd, Decodes}
-use Rattle.yasna_reader.specs.Primitive.{Settles, ReadsFront}
-use Rattle.yasna_reader.specs.Raw.{RefusesCopy, CopiedAt, RefusedRaw, ReadsRawUnlessKept, ReadsRaw}
-use Rattle.yasna_reader.specs.State.{Reading, IsFresh, refusing}
-use Rattle.yasna_bytes.specs.Walk.{RefusesRaw, TakesRaw, element_of}
+use Rattle.yasna_bytes.specs.Prefix.{Takes, HasPrefix}
+use Rattle.yasna_reader.specs.Decodes.{Explains, StickyExplains, NotParsed, NoMatchAtEnd, Decodes}
+use Rattle.yasna_reader.specs.Primitive.{Commits, ReadsPrefix}
+use Rattle.yasna_reader.specs.Raw.{RejectsCopy, CopiedAt, RejectedRaw, ReadsRawUnlessFailed, ReadsRaw}
+use Rattle.yasna_reader.specs.State.{Reading, IsFresh, rejecting}
+use Rattle.yasna_bytes.specs.Walk.{RejectsRaw, TakesRaw, element_of}
 use Rattle.yasna_bytes.proofs.RawHeader.{starts_not_at_end}
-use Rattle.yasna_bytes.proofs.Refusal.{plain_of}
+use Rattle.yasna_bytes.proofs.Rejection.{blames_bytes_of}
 
--- where no raw element stands, no copy of one is made
-pub refuses_copy : {A : Type 0} (B : ℕ → BERMode → A → List ℕ → Type 0) (n : ℕ) (m : BERMode) (s : List ℕ) (e : Refusal) →
-    ((v : A) (b : List ℕ) → B n m v b → (x : RawValue) × IsRaw n m x b) → RefusesRaw m n s e → RefusesCopy (Stands (B n m) s) n m s e
-refuses_copy B n m s e raw x = record {
+-- where no raw element is there, no copy of one is made
+pub rejects_copy : {A : Type 0} (B : ℕ → BERMode → A → List ℕ → Type 0) (n : ℕ) (m : BERMode) (s : List ℕ) (e : Rejection) →
+    ((v : A) (b : List ℕ) → B n m v b → (x : RawValue) × IsRaw n m x b) → RejectsRaw m n s e → RejectsCopy (HasPrefix (B n m) s) n m s e
+rejects_copy B n m s e raw x = record {
   none = λ _ y.
       let w = y.2 in
-      let r = raw y.0 w.front w.member in
-      x.none (r.0, y.1, record { front = w.front; joined = w.joined; member = r.1 });
-  moved = x.moved;
+      let r = raw y.0 w.prefix w.member in
+      x.none (r.0, y.1, record { prefix = w.prefix; joined = w.joined; member = r.1 });
+  consumed = x.consumed;
   too_deep = x.deep.0;
   deep = λ _. x.deep.1;
   memory = λ k. absurd (x.no_memory k);
@@ -45,102 +45,102 @@ raw_level : (n : ℕ) (m : BERMode) (v : RawValue) (b : List ℕ) → IsRaw n m 
 raw_level zero m v b x = absurd (raw_zero m v b x)
 raw_level (suc n) m v b x = omega arith
 
--- a raw element stands there, and there is no memory for a copy
-pub lacks_copy : (N : Type 0) (n : ℕ) (m : BERMode) (s : List ℕ) (e : Refusal) (x : RawElement) (r : List ℕ) → TakesRaw m n s x r → e.kind ≡ OutOfMemory →
-    e.moved ≡ true → RefusesCopy N n m s e
-lacks_copy N n m s e x r y k f =
+-- a raw element is there, and there is no memory for a copy
+pub out_of_memory_for_copy : (N : Type 0) (n : ℕ) (m : BERMode) (s : List ℕ) (e : Rejection) (x : RawElement) (r : List ℕ) → TakesRaw m n s x r → e.kind ≡ OutOfMemory →
+    e.consumed ≡ true → RejectsCopy N n m s e
+out_of_memory_for_copy N n m s e x r y k f =
     let i = starts_with s x.bytes.now r (raw_starts n m (element_of x) x.bytes.now y.raw) y.joined in
     record {
       none = λ no _. no k;
-      moved = (λ g. absurd (cc), λ a. absurd (starts_not_at_end s i a));
+      consumed = (λ g. absurd (cc), λ a. absurd (starts_not_at_end s i a));
       too_deep = λ g. absurd (cc);
       deep = λ no _. absurd (no k);
       memory = λ _. (raw_level n m (element_of x) x.bytes.now y.raw, i);
     }
 
-settled_raw : {V A : Type 0} (B : ℕ → BERMode → A → List ℕ → Type 0) (view : V → A) (s : Reading) (f : Result (V × Bor (List ℕ)) Refusal)
-    (r : Result V ASN1Error) (s' : Reading) → CopiedAt B view s.levels s.mode s.left f → Settles s f r s' → ReadsRawUnlessKept None B view s r s'
-settled_raw B view s (Ok x) (Ok v) s' a b =
+committed_raw : {V A : Type 0} (B : ℕ → BERMode → A → List ℕ → Type 0) (view : V → A) (s : Reading) (f : Result (V × Bor (List ℕ)) Rejection)
+    (r : Result V ASN1Error) (s' : Reading) → CopiedAt B view s.levels s.mode s.left f → Commits s f r s' → ReadsRawUnlessFailed None B view s r s'
+committed_raw B view s (Ok x) (Ok v) s' a b =
     record { rest = x.1.now; takes = let e : x.0 ≡ v = cc (b.0) in subst (λ z. Takes (B s.levels s.mode) s.left (view z) x.1.now) e a; state = b.1 }
-settled_raw B view s (Ok x) (Err e) s' a b = let f = b.0 in absurd (cc)
-settled_raw B view s (Err x) (Ok v) s' a b = let f = b.0 in absurd (cc)
-settled_raw B view s (Err x) (Err e) s' a b =
+committed_raw B view s (Ok x) (Err e) s' a b = let f = b.0 in absurd (cc)
+committed_raw B view s (Err x) (Ok v) s' a b = let f = b.0 in absurd (cc)
+committed_raw B view s (Err x) (Err e) s' a b =
     let g : record { kind = x.kind } ≡ e = let f = b.0 in cc in
-    record { refusal = x; kind = ap kind_of g; refuses = a; state = b.1 ∙ ap (refusing x.moved s) g }
+    record { rejection = x; kind = ap kind_of g; rejects = a; state = b.1 ∙ ap (rejecting x.consumed s) g }
 
--- what was found at the front, with the reading settled, is what a read does
-pub reads_raw : {V A : Type 0} (B : ℕ → BERMode → A → List ℕ → Type 0) (view : V → A) (s : Reading) (f : Result (V × Bor (List ℕ)) Refusal)
-    (r : Result V ASN1Error) (s' : Reading) → s.kept ≡ None → CopiedAt B view s.levels s.mode s.left f → Settles s f r s' →
+-- what was found at the start, with the reading settled, is what a read does
+pub reads_raw : {V A : Type 0} (B : ℕ → BERMode → A → List ℕ → Type 0) (view : V → A) (s : Reading) (f : Result (V × Bor (List ℕ)) Rejection)
+    (r : Result V ASN1Error) (s' : Reading) → s.failed ≡ None → CopiedAt B view s.levels s.mode s.left f → Commits s f r s' →
     ReadsRaw B view s r s'
-reads_raw B view s f r s' e a b = record { reads = subst (λ k. ReadsRawUnlessKept k B view s r s') (sym e) (settled_raw B view s f r s' a b) }
+reads_raw B view s f r s' e a b = record { reads = subst (λ k. ReadsRawUnlessFailed k B view s r s') (sym e) (committed_raw B view s f r s' a b) }
 
--- with a failure kept a read answers that failure
-pub reads_raw_kept : {V A : Type 0} (B : ℕ → BERMode → A → List ℕ → Type 0) (view : V → A) (s : Reading) (e : ASN1Error) (r : Result V ASN1Error)
-    (s' : Reading) → s.kept ≡ Some e → r ≡ Err e → s' ≡ s → ReadsRaw B view s r s'
-reads_raw_kept B view s e r s' k f g = record { reads = subst (λ k. ReadsRawUnlessKept k B view s r s') (sym k) (f, g) }
+-- with a sticky error a read returns that failure
+pub reads_raw_sticky : {V A : Type 0} (B : ℕ → BERMode → A → List ℕ → Type 0) (view : V → A) (s : Reading) (e : ASN1Error) (r : Result V ASN1Error)
+    (s' : Reading) → s.failed ≡ Some e → r ≡ Err e → s' ≡ s → ReadsRaw B view s r s'
+reads_raw_sticky B view s e r s' k f g = record { reads = subst (λ k. ReadsRawUnlessFailed k B view s r s') (sym k) (f, g) }
 
 -- a value that says what another does is read where that is
 pub reads_raw_as : {V W A : Type 0} (B : ℕ → BERMode → A → List ℕ → Type 0) (view : V → A) (shown : W → A) (s : Reading) (v : V) (w : W)
     (s' : Reading) → shown w ≡ view v → ReadsRaw B view s (Ok v) s' → ReadsRaw B shown s (Ok w) s'
-reads_raw_as B view shown s v w s' e h = record { reads = by_kept s.kept h.reads }
+reads_raw_as B view shown s v w s' e h = record { reads = by_sticky s.failed h.reads }
   where
-    by_kept : (k : Option ASN1Error) → ReadsRawUnlessKept k B view s (Ok v) s' → ReadsRawUnlessKept k B shown s (Ok w) s'
-    by_kept (Some d) r = let f = r.0 in absurd (cc)
-    by_kept None r = subst (λ z. ReadsFront (B s.levels s.mode) s z s') (sym e) r
+    by_sticky : (k : Option ASN1Error) → ReadsRawUnlessFailed k B view s (Ok v) s' → ReadsRawUnlessFailed k B shown s (Ok w) s'
+    by_sticky (Some d) r = let f = r.0 in absurd (cc)
+    by_sticky None r = subst (λ z. ReadsPrefix (B s.levels s.mode) s z s') (sym e) r
 
-pub refuses_raw_as : {V W A : Type 0} (B : ℕ → BERMode → A → List ℕ → Type 0) (view : V → A) (shown : W → A) (s : Reading) (e : ASN1Error)
+pub rejects_raw_as : {V W A : Type 0} (B : ℕ → BERMode → A → List ℕ → Type 0) (view : V → A) (shown : W → A) (s : Reading) (e : ASN1Error)
     (s' : Reading) → ReadsRaw B view s (Err e) s' → ReadsRaw B shown s (Err e) s'
-refuses_raw_as B view shown s e s' h = record { reads = by_kept s.kept h.reads }
+rejects_raw_as B view shown s e s' h = record { reads = by_sticky s.failed h.reads }
   where
-    by_kept : (k : Option ASN1Error) → ReadsRawUnlessKept k B view s (Err e) s' → ReadsRawUnlessKept k B shown s (Err e) s'
-    by_kept (Some d) r = let f = r.0 in let g : e ≡ d = cc in (ap Err g, r.1)
-    by_kept None r = r
+    by_sticky : (k : Option ASN1Error) → ReadsRawUnlessFailed k B view s (Err e) s' → ReadsRawUnlessFailed k B shown s (Err e) s'
+    by_sticky (Some d) r = let f = r.0 in let g : e ≡ d = cc in (ap Err g, r.1)
+    by_sticky None r = r
 
 -- What a fresh reading decodes by a read of a raw element, of which B says what is copied
 module _ {V A : Type 0} (B : ℕ → BERMode → A → List ℕ → Type 0) (view : V → A) (s : Reading) (fresh : IsFresh s) where
-  refused_tells : (e : ASN1Error) (s' : Reading) → RefusedRaw B s e s' → Tells true (Any (λ m n v b. B n m v b) s.mode s.levels) s.left e
-  refused_tells e s' x = record {
-    none = λ q b y i j. x.refuses.none (λ f. q (sym x.kind ∙ f)) (j.0, y, record { front = b; joined = i; member = j.1 });
+  rejected_explains : (e : ASN1Error) (s' : Reading) → RejectedRaw B s e s' → Explains true (Any (λ m n v b. B n m v b) s.mode s.levels) s.left e
+  rejected_explains e s' x = record {
+    none = λ q b y i j. x.rejects.none (λ f. q (sym x.kind ∙ f)) (j.0, y, record { prefix = b; joined = i; member = j.1 });
     memory = λ q. refl;
   }
 
-  refused_as : (e : ASN1Error) (s' : Reading) (x : RefusedRaw B s e s') (w : Bool) → x.refusal.moved ≡ w →
-      NotTook true (Any (λ m n v b. B n m v b) s.mode s.levels) s e (refusing w s e) × IsQuietAtEnd s e (refusing w s e)
-  refused_as e s' x true f = (
+  rejected_as : (e : ASN1Error) (s' : Reading) (x : RejectedRaw B s e s') (w : Bool) → x.rejection.consumed ≡ w →
+      NotParsed true (Any (λ m n v b. B n m v b) s.mode s.levels) s e (rejecting w s e) × NoMatchAtEnd s e (rejecting w s e)
+  rejected_as e s' x true f = (
     record {
-      tells = refused_tells e s' x;
-      kept = refused_tells e s' x;
+      explains = rejected_explains e s' x;
+      failed = rejected_explains e s' x;
       further = omega arith;
-      same = ap {A = Option Tag} {B = Reading} (λ u. record s { kept = Some e; tag = u }) (sym fresh.1);
+      same = ap {A = Option Tag} {B = Reading} (λ u. record s { failed = Some e; tag = u }) (sym fresh.1);
     },
-    λ a. let g = sym f ∙ x.refuses.moved.1 a in absurd (cc),
+    λ a. let g = sym f ∙ x.rejects.consumed.1 a in absurd (cc),
   )
-  refused_as e s' x false f = (
+  rejected_as e s' x false f = (
     record {
-      tells = refused_tells e s' x;
-      kept = subst (λ z. KeptTells true (Any (λ m n v b. B n m v b) s.mode s.levels) s.left z) (sym fresh.0) tt;
+      explains = rejected_explains e s' x;
+      failed = subst (λ z. StickyExplains true (Any (λ m n v b. B n m v b) s.mode s.levels) s.left z) (sym fresh.0) tt;
       further = omega arith;
       same = refl;
     },
     λ a. (
       refl,
-      plain_of (kind_of e) (λ i. starts_not_at_end s.left (deep_starts s.levels s.mode s.left (x.refuses.too_deep (x.kind ∙ i))) a)
-          (λ i. starts_not_at_end s.left (x.refuses.memory (x.kind ∙ i)).1 a),
+      blames_bytes_of (kind_of e) (λ i. starts_not_at_end s.left (deep_starts s.levels s.mode s.left (x.rejects.too_deep (x.kind ∙ i))) a)
+          (λ i. starts_not_at_end s.left (x.rejects.memory (x.kind ∙ i)).1 a),
     ),
   )
 
-  decodes_unkept : (r : Result V ASN1Error) (s' : Reading) → ReadsRawUnlessKept None B view s r s' →
+  decodes_unfailed : (r : Result V ASN1Error) (s' : Reading) → ReadsRawUnlessFailed None B view s r s' →
       Decodes true (λ m n v b. B n m (view v) b) (Any (λ m n v b. B n m v b)) s r s'
-  decodes_unkept (Ok v) s' x = record {
-    front = x.takes.front;
+  decodes_unfailed (Ok v) s' x = record {
+    prefix = x.takes.prefix;
     rest = x.rest;
     joined = x.takes.joined;
-    stands = x.takes.member;
+    member = x.takes.member;
     left = x.state ∙ ap {A = Option Tag} {B = Reading} (λ u. record s { left = x.rest; tag = u }) (sym fresh.1);
   }
-  decodes_unkept (Err e) s' x =
-      subst (λ z. NotTook true (Any (λ m n v b. B n m v b) s.mode s.levels) s e z × IsQuietAtEnd s e z) (sym x.state) (refused_as e s' x x.refusal.moved refl)
+  decodes_unfailed (Err e) s' x =
+      subst (λ z. NotParsed true (Any (λ m n v b. B n m v b) s.mode s.levels) s e z × NoMatchAtEnd s e z) (sym x.state) (rejected_as e s' x x.rejection.consumed refl)
 
   pub raw_decodes : (r : Result V ASN1Error) (s' : Reading) → ReadsRaw B view s r s' →
       Decodes true (λ m n v b. B n m (view v) b) (Any (λ m n v b. B n m v b)) s r s'
-  raw_decodes r s' x = decodes_unkept r s' (subst (λ k. ReadsRawUnlessKept k B view s r s') fresh.0 x.reads)
+  raw_decodes r s' x = decodes_unfailed r s' (subst (λ k. ReadsRawUnlessFailed k B view s r s') fresh.0 x.reads)

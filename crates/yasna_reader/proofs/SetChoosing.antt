@@ -26,7 +26,7 @@ pub among_end : (ts : List Tag) (l : List SetElement) (i : ℕ) → length l ≤
 among_end ts l i e h = AllWithin-upto (λ x. IsAmong ts x → ⊥) l 0 i (length l) e h
 
 -- the first element is taken that has one of the tags
-pub chose : (l : List SetElement) (s : Reading) (ts : List Tag) (i : ℕ) (x : SetElement) (l' : List SetElement) (s' : Reading) → s.kept ≡ None →
+pub chose : (l : List SetElement) (s : Reading) (ts : List Tag) (i : ℕ) (x : SetElement) (l' : List SetElement) (s' : Reading) → s.failed ≡ None →
     IsFirstAmong ts l i → x ≡ slice_index_or l i x → l' ≡ remove l i → s' ≡ record s { left = x.bytes.now; tag = None } → Chooses l s ts (Ok tt) l' s'
 chose l s ts i x l' s' e first f g h = record {
   chooses = subst (λ k. ChoosesBy k ts l s (Ok tt) l' s') (sym e) (record {
@@ -40,11 +40,11 @@ chose l s ts i x l' s' e first f g h = record {
 }
 
 -- none has
-pub chose_none : (l : List SetElement) (s : Reading) (ts : List Tag) (e : ASN1Error) (s' : Reading) → s.kept ≡ None → NoneIsAmong ts l →
+pub chose_none : (l : List SetElement) (s : Reading) (ts : List Tag) (e : ASN1Error) (s' : Reading) → s.failed ≡ None → NoneIsAmong ts l →
     e ≡ error_of Invalid → s' ≡ untagged s → Chooses l s ts (Err e) l s'
 chose_none l s ts e s' k none f g = record { chooses = subst (λ z. ChoosesBy z ts l s (Err e) l s') (sym k) (none, f, refl, g) }
 
--- a failure is kept
-pub chose_kept : (l : List SetElement) (s : Reading) (ts : List Tag) (e : ASN1Error) (r : Result (Unit {0}) ASN1Error) (l' : List SetElement)
-    (s' : Reading) → s.kept ≡ Some e → r ≡ Err e → l' ≡ l → s' ≡ untagged s → Chooses l s ts r l' s'
-chose_kept l s ts e r l' s' k f g h = record { chooses = subst (λ z. ChoosesBy z ts l s r l' s') (sym k) (f, g, h) }
+-- an error is sticky
+pub chose_sticky : (l : List SetElement) (s : Reading) (ts : List Tag) (e : ASN1Error) (r : Result (Unit {0}) ASN1Error) (l' : List SetElement)
+    (s' : Reading) → s.failed ≡ Some e → r ≡ Err e → l' ≡ l → s' ≡ untagged s → Chooses l s ts r l' s'
+chose_sticky l s ts e r l' s' k f g h = record { chooses = subst (λ z. ChoosesBy z ts l s r l' s') (sym k) (f, g, h) }

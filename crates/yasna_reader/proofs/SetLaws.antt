@@ -14,12 +14,12 @@ use Rattle.yasna_base.specs.Order.{tag_cmp}
 use Rattle.yasna_base.specs.Pieces.{Each}
 use Rattle.yasna_base.specs.Raw.{RawValue, IsRaw}
 use Rattle.yasna_base.specs.Set.{AreInSetOrder, SetElements}
-use Rattle.yasna_base.proofs.Pieces.{NoFront, no_front_at_end, pieces_once, each_same}
+use Rattle.yasna_base.proofs.Pieces.{NoPrefix, no_prefix_at_end, pieces_once, each_same}
 use Rattle.yasna_base.proofs.Raw.{raw_starts, raw_exact}
 use Rattle.yasna_reader.specs.declared.set.SetElement.{SetElement}
 use Rattle.yasna_reader.specs.Set.{ElementsAreInSetOrder, IsListed, IsSetList, ListsAll}
 use Rattle.yasna_reader.specs.SetLaws.{IsElementOf, IsSameElement, ListsAreOne, ListsAreSets, ListsSet, SetsAreListed, elements_bytes}
-use Rattle.yasna_reader.proofs.SetListing.{listed_alone}
+use Rattle.yasna_reader.proofs.SetListing.{listed_prefix_free}
 
 -- items ascend by their keys exactly where the keys ascend
 keys_ascend : {X K : Type 0} (key : X → K) (cmp : K → K → Ordering) (l : List X) → IsSortedByKey key cmp l → IsSorted cmp (map key l)
@@ -57,7 +57,7 @@ same_tags n m [] (v ∷ vs) h = absurd h
 same_tags n m (x ∷ l) [] h = absurd h
 same_tags n m (x ∷ l) (v ∷ vs) h = ap₂ (λ t ts. t ∷ ts) h.0.tag (same_tags n m l vs h.1)
 
--- elements are the pieces that stand for their values
+-- elements are the pieces that represent their values
 pieces_of : (n : ℕ) (m : BERMode) (l : List SetElement) (vs : List RawValue) → Each (IsElementOf n m) l vs →
     Each (IsRaw n m) vs (map (λ (x : SetElement). x.bytes.now) l) × Each (IsListed n m) l (map (λ (x : SetElement). x.bytes.now) l)
 pieces_of n m [] [] h = (tt, tt)
@@ -111,7 +111,7 @@ set_is_list : (n : ℕ) (m : BERMode) (l : List SetElement) (vs : List RawValue)
 set_is_list n m l vs c y h = record {
   all = record {
     listed = record {
-      front = elements_bytes l;
+      prefix = elements_bytes l;
       elements = record { pieces = map (λ (x : SetElement). x.bytes.now) l; each = (pieces_of n m l vs h.each).1; joined = refl };
       joined = h.joined;
     };
@@ -123,7 +123,7 @@ set_is_list n m l vs c y h = record {
 pub lists_are_sets : ListsAreSets
 lists_are_sets = λ n m l c y. (list_is_set n m l c y, λ h. set_is_list n m l h.0 c y h.1)
 
--- the elements that stand for values
+-- the elements that represent values
 record Elements (n : ℕ) (m : BERMode) (vs : List RawValue) (bs : List (List ℕ)) : Type 0 where
   elements : List SetElement
   each : Each (IsElementOf n m) elements vs
@@ -161,13 +161,13 @@ same_element n m x w b h k =
     let e = (raw_exact n n m h.value k.value b b [] [] h.raw k.raw refl).0 in
     record { tag = h.tag ∙ ap (λ (v : RawValue). v.tag) e ∙ sym k.tag; bytes = h.bytes ∙ sym k.bytes }
 
--- what stands up to an end is listed once
+-- what is up to an end is listed once
 pub all_one : (n : ℕ) (m : BERMode) (l k : List SetElement) (c y z : List ℕ) → ListsAll n m l c y → ListsAll n m k c z → Each IsSameElement l k × (y ≡ z)
 all_one n m l k c y z h i =
     let p = h.listed in
     let q = i.listed in
-    let no_more : (x : List ℕ) → AtEnd x → NoFront (IsListed n m) x = λ x e. no_front_at_end (λ v b r. raw_starts n m r.value b r.raw) x e in
-    let w = pieces_once (listed_alone n m) l k p.front q.front y z p.elements q.elements (no_more y h.ends) (no_more z i.ends) (sym p.joined ∙ q.joined) in (
+    let no_more : (x : List ℕ) → AtEnd x → NoPrefix (IsListed n m) x = λ x e. no_prefix_at_end (λ v b r. raw_starts n m r.value b r.raw) x e in
+    let w = pieces_once (listed_prefix_free n m) l k p.prefix q.prefix y z p.elements q.elements (no_more y h.ends) (no_more z i.ends) (sym p.joined ∙ q.joined) in (
       each_same (same_element n m) l k q.elements.pieces (subst (λ bs. Each (IsListed n m) l bs) w.0 p.elements.each) q.elements.each,
       w.1,
     )

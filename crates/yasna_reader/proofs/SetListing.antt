@@ -13,18 +13,18 @@ use Rattle.yasna_base.specs.Order.{tag_cmp}
 use Rattle.yasna_base.specs.Pieces.{Each}
 use Rattle.yasna_base.specs.Raw.{RawValue, IsRaw, IsDeepRaw}
 use Rattle.yasna_base.proofs.Identifier.{begins_some}
-use Rattle.yasna_base.proofs.Pieces.{NoFront, no_front_at_end, pieces_once, no_pieces, one_piece, pieces_append}
+use Rattle.yasna_base.proofs.Pieces.{NoPrefix, no_prefix_at_end, pieces_once, no_pieces, one_piece, pieces_append}
 use Rattle.yasna_base.proofs.Raw.{raw_starts, raw_exact, deep_not_raw}
-use Rattle.yasna_bytes.specs.declared.bytes.header.Refusal.{Refusal}
+use Rattle.yasna_bytes.specs.declared.bytes.header.Rejection.{Rejection}
 use Rattle.yasna_bytes.specs.declared.bytes.walk.RawElement.{RawElement}
 use Rattle.yasna_reader.specs.declared.set.SetElement.{SetElement}
 use Rattle.yasna_reader.specs.Set.{IsListed, Listed, ListsAll, NotListed}
-use Rattle.yasna_bytes.specs.Front.{Stands}
-use Rattle.yasna_bytes.specs.Walk.{RefusesRaw, TakesRaw, element_of}
+use Rattle.yasna_bytes.specs.Prefix.{HasPrefix}
+use Rattle.yasna_bytes.specs.Walk.{RejectsRaw, TakesRaw, element_of}
 
 -- before the first element
 pub none_listed : (n : ℕ) (m : BERMode) (c : List ℕ) → Listed n m [] c c
-none_listed n m c = record { front = []; elements = no_pieces; joined = refl }
+none_listed n m c = record { prefix = []; elements = no_pieces; joined = refl }
 
 -- one element more
 pub listed_more : (n k : ℕ) (m o : BERMode) (l : List SetElement) (c y z : List ℕ) (x : SetElement) (e : RawElement) (r : List ℕ) → Listed n m l c y →
@@ -33,10 +33,10 @@ listed_more n k m o l c y z x e r h i j t a b f =
     let raw : IsRaw n m (element_of e) e.bytes.now =
     subst (λ u. IsRaw u m (element_of e) e.bytes.now) j (subst (λ u. IsRaw k u (element_of e) e.bytes.now) i t.raw) in
     record {
-      front = h.front ++ e.bytes.now;
-      elements = pieces_append l (x ∷ []) h.front e.bytes.now h.elements
+      prefix = h.prefix ++ e.bytes.now;
+      elements = pieces_append l (x ∷ []) h.prefix e.bytes.now h.elements
           (one_piece x e.bytes.now (record { value = element_of e; raw = raw; tag = a; bytes = b }));
-      joined = h.joined ∙ ap (λ w. h.front ++ w) (t.joined ∙ ap (λ w. e.bytes.now ++ w) (sym f)) ∙ sym (append_assoc h.front e.bytes.now z);
+      joined = h.joined ∙ ap (λ w. h.prefix ++ w) (t.joined ∙ ap (λ w. e.bytes.now ++ w) (sym f)) ∙ sym (append_assoc h.prefix e.bytes.now z);
     }
 
 -- an element takes some bytes
@@ -45,11 +45,11 @@ listed_smaller k o y z e r t f =
     let s = raw_starts k o (element_of e) e.bytes.now t.raw in
     omega (arith, begins_some s.tag e.bytes.now s.begins, ap length t.joined, length-append e.bytes.now r, ap length f)
 
-pub listed_alone : (n : ℕ) (m : BERMode) (x w : SetElement) (b c r s : List ℕ) → IsListed n m x b → IsListed n m w c → b ++ r ≡ c ++ s → b ≡ c
-listed_alone n m x w b c r s h k e = (raw_exact n n m h.value k.value b c r s h.raw k.raw e).1
+pub listed_prefix_free : (n : ℕ) (m : BERMode) (x w : SetElement) (b c r s : List ℕ) → IsListed n m x b → IsListed n m w c → b ++ r ≡ c ++ s → b ≡ c
+listed_prefix_free n m x w b c r s h k e = (raw_exact n n m h.value k.value b c r s h.raw k.raw e).1
 
-raw_alone : (n : ℕ) (m : BERMode) (x : SetElement) (v : RawValue) (b c r s : List ℕ) → IsListed n m x b → IsRaw n m v c → b ++ r ≡ c ++ s → b ≡ c
-raw_alone n m x v b c r s h k e = (raw_exact n n m h.value v b c r s h.raw k e).1
+raw_prefix_free : (n : ℕ) (m : BERMode) (x : SetElement) (v : RawValue) (b c r s : List ℕ) → IsListed n m x b → IsRaw n m v c → b ++ r ≡ c ++ s → b ≡ c
+raw_prefix_free n m x v b c r s h k e = (raw_exact n n m h.value v b c r s h.raw k e).1
 
 each_raw : (n : ℕ) (m : BERMode) (l : List SetElement) (bs : List (List ℕ)) → Each (IsListed n m) l bs → (vs : List RawValue) × Each (IsRaw n m) vs bs
 each_raw n m [] [] h = ([], tt)
@@ -57,24 +57,24 @@ each_raw n m [] (b ∷ bs) h = absurd h
 each_raw n m (x ∷ l) [] h = absurd h
 each_raw n m (x ∷ l) (b ∷ bs) h = let w = each_raw n m l bs h.1 in (h.0.value ∷ w.0, (h.0.raw, w.1))
 
--- where no element stands that may be listed, no list has all
-pub not_listed : (n k : ℕ) (m o : BERMode) (l : List SetElement) (c y : List ℕ) (e : Refusal) → Listed n m l c y → o ≡ m → k ≡ n → RefusesRaw o k y e →
-    e.moved ≡ true → NotListed n m c e.kind
-not_listed n k m o l c y e h i j t moved =
-    let u : RefusesRaw m n y e = subst (λ w. RefusesRaw m w y e) j (subst (λ w. RefusesRaw w k y e) i t) in
-    let stop : NoFront (IsRaw n m) y = λ v b r p q. u.none (v, r, record { front = b; joined = q; member = p }) in
+-- where no element is there that may be listed, no list has all
+pub not_listed : (n k : ℕ) (m o : BERMode) (l : List SetElement) (c y : List ℕ) (e : Rejection) → Listed n m l c y → o ≡ m → k ≡ n → RejectsRaw o k y e →
+    e.consumed ≡ true → NotListed n m c e.kind
+not_listed n k m o l c y e h i j t consumed =
+    let u : RejectsRaw m n y e = subst (λ w. RejectsRaw m w y e) j (subst (λ w. RejectsRaw w k y e) i t) in
+    let stop : NoPrefix (IsRaw n m) y = λ v b r p q. u.none (v, r, record { prefix = b; joined = q; member = p }) in
     record {
       none = λ _ ws z a.
           let x = a.listed in
-          let at : NoFront (IsListed n m) z = no_front_at_end (λ v b p. raw_starts n m p.value b p.raw) z a.ends in
-          let here : NoFront (IsListed n m) y = λ v b r p q. stop p.value b r p.raw q in
-          let same = pieces_once (listed_alone n m) ws l x.front h.front z y x.elements h.elements at here (sym x.joined ∙ h.joined) in
-          let f = u.moved.1 (subst AtEnd same.1 a.ends) in absurd (cc);
+          let at : NoPrefix (IsListed n m) z = no_prefix_at_end (λ v b p. raw_starts n m p.value b p.raw) z a.ends in
+          let here : NoPrefix (IsListed n m) y = λ v b r p q. stop p.value b r p.raw q in
+          let same = pieces_once (listed_prefix_free n m) ws l x.prefix h.prefix z y x.elements h.elements at here (sym x.joined ∙ h.joined) in
+          let f = u.consumed.1 (subst AtEnd same.1 a.ends) in absurd (cc);
       too_deep = λ d.
           let w = each_raw n m l h.elements.pieces h.elements.each in
           record {
             values = w.0;
-            front = h.front;
+            prefix = h.prefix;
             rest = y;
             pieces = record { pieces = h.elements.pieces; each = w.1; joined = h.elements.joined };
             more = tt;
@@ -82,41 +82,41 @@ not_listed n k m o l c y e h i j t moved =
             deep = u.deep.0 d;
           };
       deep = λ _ d.
-          let here : NoFront (IsListed n m) y = λ v b r p q. stop p.value b r p.raw q in
+          let here : NoPrefix (IsListed n m) y = λ v b r p q. stop p.value b r p.raw q in
           let at = deep_not_raw n m d.rest d.deep in
-          let same = pieces_once (raw_alone n m) l d.values h.front d.front y d.rest h.elements d.pieces stop
+          let same = pieces_once (raw_prefix_free n m) l d.values h.prefix d.prefix y d.rest h.elements d.pieces stop
           (λ v b r p q. at p.value b r p.raw q) (sym h.joined ∙ d.joined) in
           u.deep.1 (subst (λ w. IsDeepRaw n m w) (sym same.1) d.deep);
       memory = λ q. absurd (u.no_memory q);
     }
 
--- the first of these elements, or the one behind them, stands at the front
-first_stands : (n : ℕ) (m : BERMode) (l : List SetElement) (bs : List (List ℕ)) (y c : List ℕ) (v : RawValue) (b r : List ℕ) → Each (IsListed n m) l bs →
-    c ≡ concat bs ++ y → IsRaw n m v b → y ≡ b ++ r → Stands (IsRaw n m) c
-first_stands n m [] [] y c v b r h e p q = (v, r, record { front = b; joined = e ∙ q; member = p })
-first_stands n m [] (d ∷ ds) y c v b r h e p q = absurd h
-first_stands n m (x ∷ l) [] y c v b r h e p q = absurd h
-first_stands n m (x ∷ l) (d ∷ ds) y c v b r h e p q =
-    (h.0.value, concat ds ++ y, record { front = d; joined = e ∙ append_assoc d (concat ds) y; member = h.0.raw })
+-- the first of these elements, or the one after them, is at the start
+first_is_there : (n : ℕ) (m : BERMode) (l : List SetElement) (bs : List (List ℕ)) (y c : List ℕ) (v : RawValue) (b r : List ℕ) → Each (IsListed n m) l bs →
+    c ≡ concat bs ++ y → IsRaw n m v b → y ≡ b ++ r → HasPrefix (IsRaw n m) c
+first_is_there n m [] [] y c v b r h e p q = (v, r, record { prefix = b; joined = e ∙ q; member = p })
+first_is_there n m [] (d ∷ ds) y c v b r h e p q = absurd h
+first_is_there n m (x ∷ l) [] y c v b r h e p q = absurd h
+first_is_there n m (x ∷ l) (d ∷ ds) y c v b r h e p q =
+    (h.0.value, concat ds ++ y, record { prefix = d; joined = e ∙ append_assoc d (concat ds) y; member = h.0.raw })
 
--- there was no memory for the list, where an element stands behind those that were listed
-pub lacks_memory : (n k : ℕ) (m o : BERMode) (l : List SetElement) (c y : List ℕ) (e : RawElement) (r : List ℕ) → Listed n m l c y → o ≡ m → k ≡ n →
+-- there was no memory for the list, where an element is after those that were listed
+pub out_of_memory_for_list : (n k : ℕ) (m o : BERMode) (l : List SetElement) (c y : List ℕ) (e : RawElement) (r : List ℕ) → Listed n m l c y → o ≡ m → k ≡ n →
     TakesRaw o k y e r → NotListed n m c OutOfMemory
-lacks_memory n k m o l c y e r h i j t =
+out_of_memory_for_list n k m o l c y e r h i j t =
     let raw : IsRaw n m (element_of e) e.bytes.now =
     subst (λ u. IsRaw u m (element_of e) e.bytes.now) j (subst (λ u. IsRaw k u (element_of e) e.bytes.now) i t.raw) in
     record {
       none = λ q. absurd (q refl);
       too_deep = λ g. absurd (cc);
       deep = λ q. absurd (q refl);
-      memory = λ _. first_stands n m l h.elements.pieces y c (element_of e) e.bytes.now r h.elements.each (h.joined ∙ ap (λ z. z ++ y) h.elements.joined)
+      memory = λ _. first_is_there n m l h.elements.pieces y c (element_of e) e.bytes.now r h.elements.each (h.joined ∙ ap (λ z. z ++ y) h.elements.joined)
           raw t.joined;
     }
 
--- all are listed where an end stands
-pub listed_all : (n k : ℕ) (m o : BERMode) (l : List SetElement) (c y : List ℕ) (e : Refusal) → Listed n m l c y → RefusesRaw o k y e → e.moved ≡ false →
+-- all are listed where an end is there
+pub listed_all : (n k : ℕ) (m o : BERMode) (l : List SetElement) (c y : List ℕ) (e : Rejection) → Listed n m l c y → RejectsRaw o k y e → e.consumed ≡ false →
     ListsAll n m l c y
-listed_all n k m o l c y e h t moved = record { listed = h; ends = t.moved.0 moved }
+listed_all n k m o l c y e h t consumed = record { listed = h; ends = t.consumed.0 consumed }
 
 -- whether the tag of an element goes before that of another
 abbrev tag_before : SetElement → SetElement → Bool

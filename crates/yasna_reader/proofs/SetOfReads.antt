@@ -21,22 +21,22 @@ use Rattle.yasna_base.specs.Order.{octets_cmp}
 use Rattle.yasna_base.specs.Pieces.{Each}
 use Rattle.yasna_base.specs.SequenceOf.{ElementsOf, AnyElements}
 use Rattle.yasna_base.specs.Set.{AreInSetOfOrder, SetOfElements, AnySetOfElements, IsSetOf, AnySetOf}
-use Rattle.yasna_base.proofs.AnyOrder.{as_it_stands}
+use Rattle.yasna_base.proofs.AnyOrder.{as_it_is}
 use Rattle.yasna_base.proofs.Lists.{append_before}
 use Rattle.yasna_base.proofs.Order.{Rises, rises_sorted}
-use Rattle.yasna_base.proofs.Pieces.{NoFront, no_front_at_end, pieces_further, each_append}
+use Rattle.yasna_base.proofs.Pieces.{NoPrefix, no_prefix_at_end, pieces_further, each_append}
 use Rattle.yasna_reader.specs.declared.callback.Outcome.{Outcome}
-use Rattle.yasna_reader.specs.declared.callback.Outcome.TheVariants.{Gave, Quiet, Failed}
+use Rattle.yasna_reader.specs.declared.callback.Outcome.TheVariants.{Matched, NoMatch, Failed}
 use Rattle.yasna_reader.specs.declared.set_of.Order.TheVariants.{Ascending}
 use Rattle.yasna_reader.specs.Decodes.{Decodes, NotContents, DecodesContents}
-use Rattle.yasna_reader.specs.Parse.{unless_kept}
+use Rattle.yasna_reader.specs.Parse.{unless_failed}
 use Rattle.yasna_reader.specs.Sequence.{ReadsParts}
 use Rattle.yasna_reader.specs.SequenceOf.{ListTurn, Turns, EndsList, items_of}
 use Rattle.yasna_reader.specs.SetOf.{Bounded, bound_in, goes_before, FallsBelow, Follows, Falls, failed, fell, TurnInOrder, CollectsInOrder}
 use Rattle.yasna_reader.specs.State.{Reading, IsFresh, Does}
-use Rattle.yasna_reader.proofs.ByTags.{IsDecoderByTags, parts_quiet}
-use Rattle.yasna_reader.proofs.Callbacks.{place_unmoved}
-use Rattle.yasna_reader.proofs.Handed.{left_behind}
+use Rattle.yasna_reader.proofs.ByTags.{IsDecoderByTags, parts_no_match}
+use Rattle.yasna_reader.proofs.Callbacks.{place_unconsumed}
+use Rattle.yasna_reader.proofs.Handed.{left_after}
 use Rattle.yasna_reader.proofs.ListDecoding.{listed}
 use Rattle.yasna_reader.proofs.Sequences.{element}
 use Rattle.yasna_reader.proofs.Tuples.{IsDecoder, decodes_map, enclosed_seen}
@@ -58,16 +58,16 @@ follow_sorted a (b ∷ bs) n f (suc k) d low h =
     let more = subst (λ u. FollowAll u bs n) f.1.1 f.2 in
     ap (λ i. below (get_or (a ∷ b ∷ bs) i d) (get_or (b ∷ bs) k d)) e ∙ follow_sorted b bs n more k d (omega arith) (omega (arith, h))
 
-behind_bound : (a : List ℕ) (bs : List (List ℕ)) (n : Option (List ℕ)) → FollowAll (Some a) bs n → IsSorted octets_cmp bs
-behind_bound a [] n f = λ k d low h. absurd (omega (arith, h))
-behind_bound a (b ∷ bs) n f = follow_sorted b bs n (subst (λ u. FollowAll u bs n) f.1.1 f.2)
+after_bound : (a : List ℕ) (bs : List (List ℕ)) (n : Option (List ℕ)) → FollowAll (Some a) bs n → IsSorted octets_cmp bs
+after_bound a [] n f = λ k d low h. absurd (omega (arith, h))
+after_bound a (b ∷ bs) n f = follow_sorted b bs n (subst (λ u. FollowAll u bs n) f.1.1 f.2)
 
 follow_ordered : (m : BERMode) (bs : List (List ℕ)) (n : Option (List ℕ)) → FollowAll (bound_in Ascending m) bs n → AreInSetOfOrder m bs
 follow_ordered Ber bs n f = tt
-follow_ordered Der bs n f = behind_bound [] bs n f
-follow_ordered Cer bs n f = behind_bound [] bs n f
+follow_ordered Der bs n f = after_bound [] bs n f
+follow_ordered Cer bs n f = after_bound [] bs n f
 
--- no list that rises has behind them a piece that falls below their bound
+-- no list that rises has after them a piece that falls below their bound
 falls_not : (a : List ℕ) (bs : List (List ℕ)) (n : Option (List ℕ)) (x : List ℕ) (more : List (List ℕ)) → FollowAll (Some a) bs n → FallsBelow n x →
     Rises below (a ∷ ((bs ++ (x ∷ [])) ++ more)) → ⊥
 falls_not a [] n x more f falls r =
@@ -100,16 +100,16 @@ falls_in Cer bs n x more f falls up =
 
 -- a vector's contents are those of its items
 seen_contents : {A : Type 0} (C : Grammar (List A)) (S : Members) (s s' : Reading) (k : Option ASN1Error)
-    (r : Result (Vec A Global) ASN1Error) → DecodesContents true C S s (unless_kept k (items_of r)) s' →
-    DecodesContents {A = Vec A Global} true (λ m n v c. C m n v.items c) S s (unless_kept k r) s'
+    (r : Result (Vec A Global) ASN1Error) → DecodesContents true C S s (unless_failed k (items_of r)) s' →
+    DecodesContents {A = Vec A Global} true (λ m n v c. C m n v.items c) S s (unless_failed k r) s'
 seen_contents C S s s' (Some e) r h = h
 seen_contents C S s s' None (Ok v) h = record {
-  took = record { front = h.took.front; rest = h.took.rest; joined = h.took.joined; stands = h.took.stands; left = h.took.left };
+  parsed = record { prefix = h.parsed.prefix; rest = h.parsed.rest; joined = h.parsed.joined; member = h.parsed.member; left = h.parsed.left };
   ends = h.ends;
 }
 seen_contents C S s s' None (Err e) h = h
 
--- pieces that are members of S stand for themselves
+-- pieces that are members of S represent themselves
 abbrev Itself : (List ℕ → Type 0) → List ℕ → List ℕ → Type 0
 Itself S v b = (v ≡ b) × S b
 
@@ -121,10 +121,10 @@ each_itself f [] (b ∷ bs) p = absurd p
 each_itself f (v ∷ vs) [] p = absurd p
 each_itself f (v ∷ vs) (b ∷ bs) p = ((refl, f v b p.0), each_itself f vs bs p.1)
 
-module _ {F A : Type 0} {E : A → A → Type 0} {B : Grammar A} {S : Members} (laws : IsCoding E B S) (asks : Bool)
+module _ {F A : Type 0} {E : A → A → Type 0} {B : Grammar A} {S : Members} (laws : IsCoding E B S) (may_allocate : Bool)
     (C : F → Reading → Result A ASN1Error → F → Reading → Type 0)
-    (says : (f : F) (s : Reading) (r : Result A ASN1Error) (f' : F) (s' : Reading) → IsFresh s → C f s r f' s' → Decodes asks B S s r s') where
-  -- turns in order took these pieces, which stand for the values
+    (obeys : (f : F) (s : Reading) (r : Result A ASN1Error) (f' : F) (s' : Reading) → IsFresh s → C f s r f' s' → Decodes may_allocate B S s r s') where
+  -- turns in order took these pieces, which represent the values
   record InOrder (g : Bounded F) (vs : List A) (s : Reading) (g' : Bounded F) (s' : Reading) : Type 0 where
     pieces : List (List ℕ)
     each : Each (B s.mode s.levels) vs pieces
@@ -133,19 +133,19 @@ module _ {F A : Type 0} {E : A → A → Type 0} {B : Grammar A} {S : Members} (
     follow : FollowAll g.bound pieces g'.bound
     turns : Turns (ListTurn C) g.callback s vs g'.callback s'
 
-  -- a turn that gave a value took an element that stands for it
+  -- a turn that gave a value took an element that represents it
   record Given (s : Reading) (v : A) (b : List ℕ) (s' : Reading) : Type 0 where
-    stands : B s.mode s.levels v b
+    member : B s.mode s.levels v b
     left : s' ≡ record s { left = s'.left }
 
-  given : (f : F) (s : Reading) (v : A) (f' : F) (s' : Reading) (b : List ℕ) → IsFresh s → ListTurn C f s (Gave v) f' s' → s.left ≡ b ++ s'.left →
+  given : (f : F) (s : Reading) (v : A) (f' : F) (s' : Reading) (b : List ℕ) → IsFresh s → ListTurn C f s (Matched v) f' s' → s.left ≡ b ++ s'.left →
       Given s v b s'
   given f s v f' s' b fresh t e =
-      let d = subst (λ z. Decodes asks B S s z t.left) t.comes.0.2 (says f s t.own f' t.left fresh t.called) in
-      let at = left_behind asks B S s fresh v t.left s' d t.comes.0.3 in
+      let d = subst (λ z. Decodes may_allocate B S s z t.left) t.comes.0.2 (obeys f s t.own f' t.left fresh t.called) in
+      let at = left_after may_allocate B S s fresh v t.left s' d t.comes.0.3 in
       let rest = ap (λ (z : Reading). z.left) at in
-      let same = append_before b d.front d.rest (ap (λ z. b ++ z) (sym rest) ∙ sym e ∙ d.joined) in
-      record { stands = subst (λ z. B s.mode s.levels v z) (sym same) d.stands; left = at ∙ ap (λ (z : List ℕ). record s { left = z }) (sym rest) }
+      let same = append_before b d.prefix d.rest (ap (λ z. b ++ z) (sym rest) ∙ sym e ∙ d.joined) in
+      record { member = subst (λ z. B s.mode s.levels v z) (sym same) d.member; left = at ∙ ap (λ (z : List ℕ). record s { left = z }) (sym rest) }
 
   ran : (vs : List A) (g : Bounded F) (s : Reading) (g' : Bounded F) (s' : Reading) → IsFresh s → Turns (TurnInOrder C) g s vs g' s' →
       InOrder g vs s g' s'
@@ -159,11 +159,11 @@ module _ {F A : Type 0} {E : A → A → Type 0} {B : Grammar A} {S : Members} (
   }
   ran (v ∷ vs) g s g' s' fresh t =
       let k = given g.callback s v t.0.callback t.1 t.2.element fresh t.2.turn t.2.joined in
-      let now : IsFresh t.1 = (ap (λ (z : Reading). z.kept) k.left ∙ fresh.0, ap (λ (z : Reading). z.tag) k.left ∙ fresh.1) in
+      let now : IsFresh t.1 = (ap (λ (z : Reading). z.failed) k.left ∙ fresh.0, ap (λ (z : Reading). z.tag) k.left ∙ fresh.1) in
       let x = ran vs t.0 t.1 g' s' now t.3 in
       record {
         pieces = t.2.element ∷ x.pieces;
-        each = (k.stands, subst (λ (z : Reading). Each (B z.mode z.levels) vs x.pieces) k.left x.each);
+        each = (k.member, subst (λ (z : Reading). Each (B z.mode z.levels) vs x.pieces) k.left x.each);
         joined = t.2.joined ∙ ap (λ z. t.2.element ++ z) x.joined ∙ sym (append_assoc t.2.element (concat x.pieces) s'.left);
         same = x.same ∙ ap (λ (z : Reading). record z { left = s'.left }) k.left;
         follow = (t.0.bound, t.2.follows, x.follow);
@@ -181,24 +181,24 @@ module _ {F A : Type 0} {E : A → A → Type 0} {B : Grammar A} {S : Members} (
   widen g s bound (Ok ws) s' w h =
       let y = w ws refl in
       let i = y.2 in
-      let rest : y.1.left ≡ h.took.rest = y.3 ∙ ap (λ (z : Reading). z.left) h.took.left in
-      let same = append_before (concat i.pieces) h.took.front h.took.rest
-      (ap (λ z. concat i.pieces ++ z) (sym rest) ∙ sym i.joined ∙ h.took.joined) in
+      let rest : y.1.left ≡ h.parsed.rest = y.3 ∙ ap (λ (z : Reading). z.left) h.parsed.left in
+      let same = append_before (concat i.pieces) h.parsed.prefix h.parsed.rest
+      (ap (λ z. concat i.pieces ++ z) (sym rest) ∙ sym i.joined ∙ h.parsed.joined) in
       record {
-        took = record {
-          front = h.took.front;
-          rest = h.took.rest;
-          joined = h.took.joined;
-          stands = record {
+        parsed = record {
+          prefix = h.parsed.prefix;
+          rest = h.parsed.rest;
+          joined = h.parsed.joined;
+          member = record {
             elements = record { pieces = i.pieces; each = i.each; joined = sym same };
             order = follow_ordered s.mode i.pieces y.0.bound (subst (λ u. FollowAll u i.pieces y.0.bound) bound i.follow);
           };
-          left = h.took.left;
+          left = h.parsed.left;
         };
         ends = λ d x e j k. h.ends d x e j (as_list s.mode s.levels d k);
       }
 
-  -- an element that falls below the bound is in no SET OF that stands there
+  -- an element that falls below the bound is in no SET OF that is there
   falls_none : (g : Bounded F) (s : Reading) → IsFresh s → g.bound ≡ bound_in Ascending s.mode → (vs : List A) (h : Bounded F) (place : Reading) →
       InOrder g vs s h place → (e : ASN1Error) (h' : Bounded F) (s' : Reading) → Falls C h place e h' s' →
       NotContents true (AnySetOfElements S s.mode s.levels) s e
@@ -211,16 +211,16 @@ module _ {F A : Type 0} {E : A → A → Type 0} {B : Grammar A} {S : Members} (
       n = s.levels
 
       now : IsFresh place
-      now = (ap (λ (z : Reading). z.kept) x.same ∙ fresh.0, ap (λ (z : Reading). z.tag) x.same ∙ fresh.1)
+      now = (ap (λ (z : Reading). z.failed) x.same ∙ fresh.0, ap (λ (z : Reading). z.tag) x.same ∙ fresh.1)
 
       here : B m n f.value f.element
       here =
           let k = given h.callback place f.value h'.callback f.between f.element now f.turn f.joined in
-          subst (λ (z : Reading). B z.mode z.levels f.value f.element) x.same k.stands
+          subst (λ (z : Reading). B z.mode z.levels f.value f.element) x.same k.member
 
       exact : (v w b c r t : List ℕ) → Itself (S m n) v b → Itself (S m n) w c → b ++ r ≡ c ++ t → (v ≡ w) × (b ≡ c)
       exact v w b c r t p q e =
-          let same = laws.alone m n n b c r t p.1 q.1 e in
+          let same = laws.prefix_free m n n b c r t p.1 q.1 e in
           (p.0 ∙ same ∙ sym q.0, same)
 
       so_far : Each (Itself (S m n)) (x.pieces ++ (f.element ∷ [])) (x.pieces ++ (f.element ∷ []))
@@ -239,22 +239,22 @@ module _ {F A : Type 0} {E : A → A → Type 0} {B : Grammar A} {S : Members} (
       none d y i j us p =
           let ps = p.elements.pieces in
           let all : Each (Itself (S m n)) ps ps = each_itself (λ u b k. k) us ps p.elements.each in
-          let stop : NoFront (Itself (S m n)) y = no_front_at_end (λ v b k. laws.opens m n b k.1) y j in
+          let stop : NoPrefix (Itself (S m n)) y = no_prefix_at_end (λ v b k. laws.opens m n b k.1) y j in
           let w = pieces_further exact (x.pieces ++ (f.element ∷ [])) ps (concat (x.pieces ++ (f.element ∷ []))) d f.between.left y
           (record { pieces = x.pieces ++ (f.element ∷ []); each = so_far; joined = refl })
           (record { pieces = ps; each = all; joined = p.elements.joined }) stop (sym reached ∙ i) in
           falls_in m x.pieces h.bound f.element w.values (subst (λ u. FollowAll u x.pieces h.bound) bound x.follow) f.falls
           (subst (AreInSetOfOrder m) w.all p.order)
 
-  plain : (g : Bounded F) (s : Reading) → IsFresh s → g.bound ≡ bound_in Ascending s.mode → (vs : List A) (h : Bounded F) (place : Reading) →
+  blames_bytes : (g : Bounded F) (s : Reading) → IsFresh s → g.bound ≡ bound_in Ascending s.mode → (vs : List A) (h : Bounded F) (place : Reading) →
       InOrder g vs s h place → (o : Outcome A) (h' : Bounded F) (s' : Reading) → ListTurn C h.callback place o h'.callback s' →
       (xs : Result (List A) ASN1Error) → EndsList vs o xs →
-      ((ws : List A) → unless_kept s'.kept xs ≡ Ok ws → (ws ≡ vs) × (place.left ≡ s'.left)) →
-      DecodesContents true (SetOfElements B) (AnySetOfElements S) s (unless_kept s'.kept xs) s'
-  plain g s fresh bound vs h place x o h' s' t xs ends at =
-      widen g s bound (unless_kept s'.kept xs) s'
+      ((ws : List A) → unless_failed s'.failed xs ≡ Ok ws → (ws ≡ vs) × (place.left ≡ s'.left)) →
+      DecodesContents true (SetOfElements B) (AnySetOfElements S) s (unless_failed s'.failed xs) s'
+  blames_bytes g s fresh bound vs h place x o h' s' t xs ends at =
+      widen g s bound (unless_failed s'.failed xs) s'
       (λ ws e. let y = at ws e in (h, place, subst (λ z. InOrder g z s h place) (sym y.0) x, y.1))
-      (listed laws asks C says true (λ e. refl) g.callback s fresh xs s' (record {
+      (listed laws may_allocate C obeys true (λ e. refl) g.callback s fresh xs s' (record {
         values = vs;
         reached = h.callback;
         place = place;
@@ -268,35 +268,35 @@ module _ {F A : Type 0} {E : A → A → Type 0} {B : Grammar A} {S : Members} (
   ended_by : (g : Bounded F) (s : Reading) → IsFresh s → g.bound ≡ bound_in Ascending s.mode → (vs : List A) (h : Bounded F) (place : Reading) →
       InOrder g vs s h place → (o : Outcome A) (h' : Bounded F) (s' : Reading) → TurnInOrder C h place o h' s' →
       (xs : Result (List A) ASN1Error) → EndsList vs o xs →
-      DecodesContents true (SetOfElements B) (AnySetOfElements S) s (unless_kept s'.kept xs) s'
-  ended_by g s fresh bound vs h place x (Gave v) h' s' t xs ends = absurd ends
-  ended_by g s fresh bound vs h place x (Quiet e) h' s' t xs ends =
-      plain g s fresh bound vs h place x (Quiet e) h' s' t xs ends (λ ws f.
-      let none : s'.kept ≡ None = ap (λ (z : Reading). z.kept) t.comes.4 in
-      let g : Ok vs ≡ Ok ws = sym (ap₂ unless_kept none ends) ∙ f in
-      let left = ap (λ (z : Reading). z.left) t.comes.4 ∙ place_unmoved place.left t.left.left t.comes.1 in
+      DecodesContents true (SetOfElements B) (AnySetOfElements S) s (unless_failed s'.failed xs) s'
+  ended_by g s fresh bound vs h place x (Matched v) h' s' t xs ends = absurd ends
+  ended_by g s fresh bound vs h place x (NoMatch e) h' s' t xs ends =
+      blames_bytes g s fresh bound vs h place x (NoMatch e) h' s' t xs ends (λ ws f.
+      let none : s'.failed ≡ None = ap (λ (z : Reading). z.failed) t.comes.4 in
+      let g : Ok vs ≡ Ok ws = sym (ap₂ unless_failed none ends) ∙ f in
+      let left = ap (λ (z : Reading). z.left) t.comes.4 ∙ place_unconsumed place.left t.left.left t.comes.1 in
       ((cc), sym left))
   ended_by g s fresh bound vs h place x (Failed e) h' s' (failed t) xs ends =
-      plain g s fresh bound vs h place x (Failed e) h' s' t xs ends (λ ws f. absurd (not_ok s'.kept ws (ap (λ z. unless_kept s'.kept z)
+      blames_bytes g s fresh bound vs h place x (Failed e) h' s' t xs ends (λ ws f. absurd (not_ok s'.failed ws (ap (λ z. unless_failed s'.failed z)
       (sym ends) ∙ f)))
     where
-      not_ok : (k : Option ASN1Error) (ws : List A) → unless_kept k (Err e) ≡ Ok ws → ⊥
+      not_ok : (k : Option ASN1Error) (ws : List A) → unless_failed k (Err e) ≡ Ok ws → ⊥
       not_ok (Some d) ws f = absurd (cc)
       not_ok None ws f = absurd (cc)
   ended_by g s fresh bound vs h place x (Failed e) h' s' (fell f) xs ends =
       let D = falls_none g s fresh bound vs h place x e h' s' f in
-      let k : s'.kept ≡ Some e = ap (λ (z : Reading). z.kept) f.state in
-      subst (λ z. DecodesContents true (SetOfElements B) (AnySetOfElements S) s (unless_kept z xs) s') (sym k) D
+      let k : s'.failed ≡ Some e = ap (λ (z : Reading). z.failed) f.state in
+      subst (λ z. DecodesContents true (SetOfElements B) (AnySetOfElements S) s (unless_failed z xs) s') (sym k) D
 
   in_order : (f : F) (s : Reading) (r : Result (Vec A Global) ASN1Error) (s' : Reading) → IsFresh s → CollectsInOrder Ascending C f s r s' →
-      DecodesContents true (SetOfElements B) (AnySetOfElements S) s (unless_kept s'.kept (items_of r)) s'
+      DecodesContents true (SetOfElements B) (AnySetOfElements S) s (unless_failed s'.failed (items_of r)) s'
   in_order f s r s' fresh (inl x) =
       let g : Bounded F = record { callback = f; bound = bound_in Ascending s.mode } in
       ended_by g s fresh refl x.values x.reached x.place (ran x.values g s x.reached x.place fresh x.turns) x.last x.after s' x.turn (items_of r) x.ends
   in_order f s r s' fresh (inr x) =
       let D : NotContents true (AnySetOfElements S s.mode s.levels) s x.error = record { none = λ q d y i j k. q x.memory; memory = λ q. refl } in
-      subst (λ k. DecodesContents true (SetOfElements B) (AnySetOfElements S) s (unless_kept k (items_of r)) s')
-      (sym (ap (λ (z : Reading). z.kept) x.state)) D
+      subst (λ k. DecodesContents true (SetOfElements B) (AnySetOfElements S) s (unless_failed k (items_of r)) s')
+      (sym (ap (λ (z : Reading). z.failed) x.state)) D
 
   -- a SET OF that is collected
   pub collects_set_of : (t : Tag) → (t ≡ end_tag → ⊥) → (f : F) (s : Reading) → IsFresh s → (r : Result (Vec A Global) ASN1Error) (s' : Reading) →
@@ -307,36 +307,36 @@ module _ {F A : Type 0} {E : A → A → Type 0} {B : Grammar A} {S : Members} (
       (AnySetOf S t)
       (enclosed_seen (λ v. v.items) (SetOfElements B) t) s r s'
       (element true (λ m n v c. SetOfElements B m n v.items c) (AnySetOfElements S) (CollectsInOrder Ascending C f)
-      (λ z x m i k. seen_contents (SetOfElements B) (AnySetOfElements S) z m m.kept x (in_order f z x m i k)) t not_end s fresh r s' h)
+      (λ z x m i k. seen_contents (SetOfElements B) (AnySetOfElements S) z m m.failed x (in_order f z x m i k)) t not_end s fresh r s' h)
 
--- a SET OF whose callback decodes an element a turn, its items as they stand
-pub set_of_by_tag : {F A : Type 0} {E : A → A → Type 0} {asks : Bool} {B : Grammar A} {S : Members} {N : Does A}
-    (C : F → Reading → Result A ASN1Error → F → Reading → Type 0) (f : F) (t : Tag) → (t ≡ end_tag → ⊥) → IsCoding E B S → IsDecoder asks B S N →
+-- a SET OF whose callback decodes an element a turn, its items as they are
+pub set_of_by_tag : {F A : Type 0} {E : A → A → Type 0} {may_allocate : Bool} {B : Grammar A} {S : Members} {N : Does A}
+    (C : F → Reading → Result A ASN1Error → F → Reading → Type 0) (f : F) (t : Tag) → (t ≡ end_tag → ⊥) → IsCoding E B S → IsDecoder may_allocate B S N →
     ((f f' : F) (s : Reading) (r : Result A ASN1Error) (s' : Reading) → C f s r f' s' → N s r s') →
     IsDecoderByTags {A = Vec A Global} (t ∷ []) true (λ m n v b. IsSetOf B t m n v.items b) (AnySetOf S t)
     (ReadsParts (CollectsInOrder Ascending C f) t)
-set_of_by_tag {asks} C f t not_end laws value says = record {
+set_of_by_tag {may_allocate} C f t not_end laws value obeys = record {
   decodes = λ s r s' fresh h. record {
-    decodes = collects_set_of laws asks C (λ g z x g' z' now k. value.decodes z x z' now (says g g' z x z' k)) t not_end f s fresh r s' h;
-    quiet = parts_quiet (CollectsInOrder Ascending C f) t s r s' fresh h;
+    decodes = collects_set_of laws may_allocate C (λ g z x g' z' now k. value.decodes z x z' now (obeys g g' z x z' k)) t not_end f s fresh r s' h;
+    no_match = parts_no_match (CollectsInOrder Ascending C f) t s r s' fresh h;
   };
 }
 
 -- and in no order
-pub any_set_of_by_tag : {F A : Type 0} {E : A → A → Type 0} {asks : Bool} {B : Grammar A} {S : Members} {N : Does A}
-    (C : F → Reading → Result A ASN1Error → F → Reading → Type 0) (f : F) (t : Tag) → (t ≡ end_tag → ⊥) → IsCoding E B S → IsDecoder asks B S N →
+pub any_set_of_by_tag : {F A : Type 0} {E : A → A → Type 0} {may_allocate : Bool} {B : Grammar A} {S : Members} {N : Does A}
+    (C : F → Reading → Result A ASN1Error → F → Reading → Type 0) (f : F) (t : Tag) → (t ≡ end_tag → ⊥) → IsCoding E B S → IsDecoder may_allocate B S N →
     ((f f' : F) (s : Reading) (r : Result A ASN1Error) (s' : Reading) → C f s r f' s' → N s r s') →
     IsDecoderByTags {A = Vec A Global} (t ∷ []) true (λ m n v b. InSomeOrder (IsSetOf B t) m n v.items b) (AnySetOf S t)
     (ReadsParts (CollectsInOrder Ascending C f) t)
-any_set_of_by_tag {A} {B} {S} C f t not_end laws value says =
-    let x = set_of_by_tag C f t not_end laws value says in
+any_set_of_by_tag {A} {B} {S} C f t not_end laws value obeys =
+    let x = set_of_by_tag C f t not_end laws value obeys in
     record {
       decodes = λ s r s' fresh h.
           let y = x.decodes s r s' fresh h in
           record {
             decodes = decodes_map {A = Vec A Global} true (λ m n v b. IsSetOf B t m n v.items b)
                 (λ m n v b. InSomeOrder (IsSetOf B t) m n v.items b)
-                (AnySetOf S t) (λ m n v b k. as_it_stands (IsSetOf B t) m n v.items b k) s r s' y.decodes;
-            quiet = y.quiet;
+                (AnySetOf S t) (λ m n v b k. as_it_is (IsSetOf B t) m n v.items b k) s r s' y.decodes;
+            no_match = y.no_match;
           };
     }

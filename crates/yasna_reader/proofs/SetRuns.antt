@@ -20,10 +20,10 @@ takes_set g f s l y z takes h e p k = takes l y h p (k ∙ ap (λ (w : Reading).
 pub ran_on_set : {F A : Type 0} (g : SetCallback F A) (f : F) (s : Reading) (l : VecDeque SetElement Global) (y : List ℕ)
     (z : Reading) (own : Result A ASN1Error) (n : SetReading) (r : Result A ASN1Error) (s' : Reading) →
     IsSetList s.levels s.mode l.items s.left y → z ≡ emptied s → FnOnceReturnsAtMut g f (record { reader = z; list = l }) own n →
-    r ≡ all_taken own n.list.items → s' ≡ record s { left = y; kept = n.reader.kept } → RunsOnSet g f s r s'
+    r ≡ all_taken own n.list.items → s' ≡ record s { left = y; failed = n.reader.failed } → RunsOnSet g f s r s'
 ran_on_set g f s l y z own n r s' h e c a b = inl (record {
   found = record { list = l; rest = y; lists = h };
   run = record { own = own; left = n; called = subst (λ (w : Reading). FnOnceReturnsAtMut g f (record { reader = w; list = l }) own n) e c };
-  answer = a;
+  returned = a;
   state = b;
 })

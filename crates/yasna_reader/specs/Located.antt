@@ -8,19 +8,19 @@ use Rattle.yasna_reader.specs.Parse.{Parses, parsed}
 use Rattle.yasna_reader.specs.State.{Reading, Does}
 use Rattle.yasna_reader.specs.declared.located.Located.{Located}
 
--- l tells of the refusal e, at a place in the bytes s or at their end
+-- l tells of the error e, at a place in the bytes s or at their end
 pub record IsLocated (e : ASN1Error) (s : List ℕ) (l : Located) : Type 0 where
   pub error : l.error ≡ e
   pub place : l.offset ≤ length s
 
--- the answer without the place
+-- the result without the place
 abbrev pub without_place : {A : Type 0} → Result A Located → Result A ASN1Error
 without_place (Ok v) = Ok v
 without_place (Err l) = Err l.error
 
--- what a parse of s answers where its callback answered own and left z
+-- what a parse of s returns where its callback returned own and left z
 pub record IsParsedWithPlace {A : Type 0} (own : Result A ASN1Error) (z : Reading) (s : List ℕ) (r : Result A Located) : Type 0 where
-  pub answer : without_place r ≡ parsed own z
+  pub returned : without_place r ≡ parsed own z
   pub place : IfErr r (λ l. l.offset ≤ length s)
 
 -- a parse of s in the mode m as P says; where it fails, at a place in s or at its end

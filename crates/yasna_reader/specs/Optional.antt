@@ -1,36 +1,36 @@
--- What reads of parts do that may be left out (X.690, 8.9.3 and 11.5).
+-- What reads of parts do that may be omitted (X.690, 8.9.3 and 11.5).
 use Rattle.std.specs.Prelude.{Bool, Err, None, Ok, Option, Result, Some, false, length, nat_lt, true, ℕ, ◌≡◌, ◌⊎◌}
 pub use Rattle.yasna_base.specs.Default.{TakesDefault}
 use Rattle.yasna_base.specs.Error.{error_of}
 use Rattle.yasna_base.specs.declared.error.ASN1Error.{ASN1Error}
 use Rattle.yasna_base.specs.declared.error.ASN1ErrorKind.TheVariants.{Invalid}
-use Rattle.yasna_reader.specs.Callback.{Hands, UnlessKept}
+use Rattle.yasna_reader.specs.Callback.{Hands, UnlessFailed}
 use Rattle.yasna_reader.specs.State.{Reading, failing_if, untagged, Does}
 use Rattle.yasna_reader.specs.declared.callback.Outcome.{Outcome}
-use Rattle.yasna_reader.specs.declared.callback.Outcome.TheVariants.{Gave, Quiet, Failed}
+use Rattle.yasna_reader.specs.declared.callback.Outcome.TheVariants.{Matched, NoMatch, Failed}
 
--- a value, or none where the callback's Err is quiet
+-- a value, or none where the callback's Err is a no-match
 abbrev pub optional : {A : Type 0} → Outcome A → Result (Option A) ASN1Error
-optional (Gave v) = Ok (Some v)
-optional (Quiet e) = Ok None
+optional (Matched v) = Ok (Some v)
+optional (NoMatch e) = Ok None
 optional (Failed e) = Err e
 
 -- the callback is handed the reading
 abbrev pub ReadsOptional : {A : Type 0} → Does A → Does (Option A)
-ReadsOptional {A} P s r s' = UnlessKept s.kept s r s' ((o : Outcome A) × Hands P (untagged s) o s' × (r ≡ optional o))
+ReadsOptional {A} P s r s' = UnlessFailed s.failed s r s' ((o : Outcome A) × Hands P (untagged s) o s' × (r ≡ optional o))
 
 -- What is made of the value v that a reading of which z is left gave, where the default is d (X.690, 11.5). It is taken where
--- the mode takes a value that is its default, or it isn't the default; and refused where it equals the default and the mode
--- doesn't take that: the refusal is kept where something moved
-pub data UnlessDefault {A : Type 0} (eq : A → A → Bool) (d v : A) (moved : Bool) (z : Reading) (r : Result A ASN1Error) (s' : Reading) : Type 0 where
-  taken : (TakesDefault z.mode ⊎ (eq v d ≡ false)) → r ≡ Ok v → s' ≡ z → UnlessDefault eq d v moved z r s'
-  equal : (TakesDefault z.mode → ⊥) → eq v d ≡ true → r ≡ Err (error_of Invalid) → s' ≡ failing_if moved z (error_of Invalid) →
-      UnlessDefault eq d v moved z r s'
+-- the mode takes a value that is its default, or it isn't the default; and rejected where it equals the default and the mode
+-- doesn't take that: the error is sticky where something was consumed
+pub data UnlessDefault {A : Type 0} (eq : A → A → Bool) (d v : A) (consumed : Bool) (z : Reading) (r : Result A ASN1Error) (s' : Reading) : Type 0 where
+  taken : (TakesDefault z.mode ⊎ (eq v d ≡ false)) → r ≡ Ok v → s' ≡ z → UnlessDefault eq d v consumed z r s'
+  equal : (TakesDefault z.mode → ⊥) → eq v d ≡ true → r ≡ Err (error_of Invalid) → s' ≡ failing_if consumed z (error_of Invalid) →
+      UnlessDefault eq d v consumed z r s'
 
--- the default d for none; a value of a reading of n bytes that left z, unless the mode refuses it
+-- the default d for none; a value of a reading of n bytes that left z, unless the mode rejects it
 abbrev pub DefaultsTo : {A : Type 0} → (A → A → Bool) → A → ℕ → Outcome A → Does A
-DefaultsTo eq d n (Gave v) z r s' = UnlessDefault eq d v (nat_lt (length z.left) n) z r s'
-DefaultsTo eq d n (Quiet e) z r s' = (r ≡ Ok d) × (s' ≡ z)
+DefaultsTo eq d n (Matched v) z r s' = UnlessDefault eq d v (nat_lt (length z.left) n) z r s'
+DefaultsTo eq d n (NoMatch e) z r s' = (r ≡ Ok d) × (s' ≡ z)
 DefaultsTo eq d n (Failed e) z r s' = (r ≡ Err e) × (s' ≡ z)
 
 -- the callback is handed the reading, and what it comes to is put to the test
@@ -40,6 +40,6 @@ pub record ReadsOrDefaults {A : Type 0} (P : Does A) (eq : A → A → Bool) (d 
   pub hands : Hands P s outcome between
   pub defaults : DefaultsTo eq d (length s.left) outcome between r s'
 
--- what read_default does: a failure that is kept comes first
+-- what read_default does: a sticky error comes first
 abbrev pub ReadsDefault : {A : Type 0} → Does A → (A → A → Bool) → A → Does A
-ReadsDefault P eq d s r s' = UnlessKept s.kept s r s' (ReadsOrDefaults P eq d (untagged s) r s')
+ReadsDefault P eq d s r s' = UnlessFailed s.failed s r s' (ReadsOrDefaults P eq d (untagged s) r s')

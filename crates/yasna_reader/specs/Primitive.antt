@@ -5,48 +5,48 @@ use Rattle.yasna_base.specs.Error.{error_of, kind_of}
 use Rattle.yasna_base.specs.declared.error.ASN1Error.{ASN1Error}
 use Rattle.yasna_base.specs.declared.tag.Tag.{Tag}
 use Rattle.yasna_base.specs.Grammar.{TaggedGrammar, TaggedMembers}
-use Rattle.yasna_bytes.specs.Front.{Takes, Stands, SeenAt}
-use Rattle.yasna_bytes.specs.Refusal.{IsTooDeep, Refuses}
-use Rattle.yasna_reader.specs.State.{Reading, refusing, tag_of, untagged, Does}
-use Rattle.yasna_bytes.specs.declared.bytes.header.Refusal.{Refusal}
+use Rattle.yasna_bytes.specs.Prefix.{Takes, HasPrefix, SeenAt}
+use Rattle.yasna_bytes.specs.Rejection.{IsTooDeep, Rejects}
+use Rattle.yasna_reader.specs.State.{Reading, rejecting, tag_of, untagged, Does}
+use Rattle.yasna_bytes.specs.declared.bytes.header.Rejection.{Rejection}
 
--- the refusal e of a read: what it says, and that it is kept where it moved
-pub record RefusedAs {A : Type 0} (B : A → List ℕ → Type 0) (D M : Type 0) (t : Tag) (s : Reading) (e : ASN1Error) (s' : Reading) : Type 0 where
-  pub refusal : Refusal
-  pub kind : refusal.kind ≡ kind_of e
-  pub refuses : Refuses (Stands B s.left) D M t s.left refusal
-  pub state : s' ≡ refusing refusal.moved s e
+-- the error e of a read: what it says, and that it is sticky where it consumed input
+pub record RejectedAs {A : Type 0} (B : A → List ℕ → Type 0) (D M : Type 0) (t : Tag) (s : Reading) (e : ASN1Error) (s' : Reading) : Type 0 where
+  pub rejection : Rejection
+  pub kind : rejection.kind ≡ kind_of e
+  pub rejects : Rejects (HasPrefix B s.left) D M t s.left rejection
+  pub state : s' ≡ rejecting rejection.consumed s e
 
--- a front of what is left stands for v, and the rest is left
-pub record ReadsFront {A : Type 0} (B : A → List ℕ → Type 0) (s : Reading) (v : A) (s' : Reading) : Type 0 where
+-- a prefix of what is left represents v, and the rest is left
+pub record ReadsPrefix {A : Type 0} (B : A → List ℕ → Type 0) (s : Reading) (v : A) (s' : Reading) : Type 0 where
   pub rest : List ℕ
   pub takes : Takes B s.left v rest
   pub state : s' ≡ record (untagged s) { left = rest }
 
--- a kept failure comes first, and leaves the reading as it was; view says what is seen of a value
-abbrev pub ReadsUnlessKept : {V A : Type 0} → Option ASN1Error → (A → List ℕ → Type 0) → (V → A) → Type 0 → Type 0 → Tag → Does V
-ReadsUnlessKept (Some e) B view D M t s r s' = (r ≡ Err e) × (s' ≡ s)
-ReadsUnlessKept None B view D M t s (Ok v) s' = ReadsFront B s (view v) s'
-ReadsUnlessKept None B view D M t s (Err e) s' = RefusedAs B D M t s e s'
+-- a sticky error comes first, and leaves the reading as it was; view says what is seen of a value
+abbrev pub ReadsUnlessFailed : {V A : Type 0} → Option ASN1Error → (A → List ℕ → Type 0) → (V → A) → Type 0 → Type 0 → Tag → Does V
+ReadsUnlessFailed (Some e) B view D M t s r s' = (r ≡ Err e) × (s' ≡ s)
+ReadsUnlessFailed None B view D M t s (Ok v) s' = ReadsPrefix B s (view v) s'
+ReadsUnlessFailed None B view D M t s (Err e) s' = RejectedAs B D M t s e s'
 
 -- what a front that was looked for does to a reading
-abbrev pub Settles : {A : Type 0} → Reading → Result (A × Bor (List ℕ)) Refusal → Result A ASN1Error → Reading → Type 0
-Settles s (Ok x) r s' = (r ≡ Ok x.0) × (s' ≡ record (untagged s) { left = x.1.now })
-Settles s (Err e) r s' = (r ≡ Err (error_of e.kind)) × (s' ≡ refusing e.moved s (error_of e.kind))
+abbrev pub Commits : {A : Type 0} → Reading → Result (A × Bor (List ℕ)) Rejection → Result A ASN1Error → Reading → Type 0
+Commits s (Ok x) r s' = (r ≡ Ok x.0) × (s' ≡ record (untagged s) { left = x.1.now })
+Commits s (Err e) r s' = (r ≡ Err (error_of e.kind)) × (s' ≡ rejecting e.consumed s (error_of e.kind))
 
--- What a typed read looks for. B: which fronts it takes; D: where they lie too deep; M: where memory may be wanting
-abbrev pub FrontOf : {V A : Type 0} → TaggedGrammar A → (V → A) → TaggedMembers →
-    (ℕ → Tag → List ℕ → Type 0) → Tag → Reading → Result (V × Bor (List ℕ)) Refusal → Type 0
-FrontOf B view D M tag s r = SeenAt (B s.levels s.mode (tag_of s tag)) view (D s.levels s.mode (tag_of s tag) s.left) (M s.levels (tag_of s tag) s.left)
+-- What a typed read looks for. B: which prefixes it takes; D: where they lie too deep; M: whether it may allocate
+abbrev pub ParsesAs : {V A : Type 0} → TaggedGrammar A → (V → A) → TaggedMembers →
+    (ℕ → Tag → List ℕ → Type 0) → Tag → Reading → Result (V × Bor (List ℕ)) Rejection → Type 0
+ParsesAs B view D M tag s r = SeenAt (B s.levels s.mode (tag_of s tag)) view (D s.levels s.mode (tag_of s tag) s.left) (M s.levels (tag_of s tag) s.left)
     (tag_of s tag) s.left r
 
--- A typed read of values of which view says what is seen: with a failure kept that failure, and nothing moved; else Ok takes
--- a front in B, which stands for what is seen of the value, and leaves the rest; an Err that isn't of memory says that no
--- front is in B, whatever it stands for. It is unmoved exactly where nothing or another tag stands there: then the reading
--- is as it was, the implicit tag too; and kept otherwise; of depth exactly where D holds; of memory only where M does
+-- A typed read of values of which view says what is seen: with a sticky error that failure, and nothing was consumed; else Ok takes
+-- a front in B, which represents what is seen of the value, and leaves the rest; an Err that isn't of memory says that no
+-- front is in B, whatever it represents. It consumed nothing exactly where nothing or another tag is there: then the reading
+-- is as it was, the implicit tag too; and sticky otherwise; of depth exactly where D holds; of memory only where M does
 pub record ReadsSeen {V A : Type 0} (B : TaggedGrammar A) (view : V → A) (D : TaggedMembers)
     (M : ℕ → Tag → List ℕ → Type 0) (tag : Tag) (s : Reading) (r : Result V ASN1Error) (s' : Reading) : Type 0 where
-  pub reads : ReadsUnlessKept s.kept (B s.levels s.mode (tag_of s tag)) view (D s.levels s.mode (tag_of s tag) s.left) (M s.levels (tag_of s tag) s.left)
+  pub reads : ReadsUnlessFailed s.failed (B s.levels s.mode (tag_of s tag)) view (D s.levels s.mode (tag_of s tag) s.left) (M s.levels (tag_of s tag) s.left)
       (tag_of s tag) s r s'
 
 -- the same of values that are seen as they are

@@ -1,5 +1,5 @@
 -- What a read of a SEQUENCE OF does, whose elements a callback reads one by one (X.690, 8.10). C f s x f' m says that the
--- callback f, called on the reading s, answers x, becomes f' and leaves m.
+-- callback f, called on the reading s, returns x, becomes f' and leaves m.
 use Rattle.std.specs.Borrow.{MutBor}
 use Rattle.std.specs.Fn.{Mut, CalledAtMut}
 use Rattle.std.specs.Global.{Global}
@@ -7,29 +7,29 @@ use Rattle.std.specs.Prelude.{Err, List, Ok, Result, Vec, [], length, ℕ, ◌++
 use Rattle.yasna_base.specs.Error.{error_of, kind_of}
 use Rattle.yasna_base.specs.declared.error.ASN1Error.{ASN1Error}
 use Rattle.yasna_base.specs.declared.error.ASN1ErrorKind.TheVariants.{Invalid, OutOfMemory}
-use Rattle.yasna_reader.specs.Callback.{ComesTo, IsUnmoved}
+use Rattle.yasna_reader.specs.Callback.{ComesTo, ConsumedNothing}
 use Rattle.yasna_reader.specs.State.{Reading, failing, Does}
 use Rattle.yasna_reader.specs.declared.callback.Outcome.{Outcome}
-use Rattle.yasna_reader.specs.declared.callback.Outcome.TheVariants.{Gave, Quiet, Failed}
+use Rattle.yasna_reader.specs.declared.callback.Outcome.TheVariants.{Matched, NoMatch, Failed}
 
 -- f may be called on the reading s
 abbrev pub TakesTurn : {F R : Type 0} → Mut F (MutBor Reading × Unit {0}) R → F → Reading → Type 0
 TakesTurn g f s = (p : MutBor Reading) → p.now ≡ s → g.pre f (p, tt)
 
--- a value for which nothing was taken is Invalid, and that is kept
+-- a value for which nothing was taken is Invalid, and that is sticky
 pub record Idles {A : Type 0} (s : Reading) (x : Result A ASN1Error) (m : Reading) (e : ASN1Error) (s' : Reading) : Type 0 where
   pub value : A
   pub between : Reading
-  pub comes : ComesTo s x m (Gave value) between
-  pub unmoved : IsUnmoved s.left between
+  pub comes : ComesTo s x m (Matched value) between
+  pub consumed_nothing : ConsumedNothing s.left between
   pub invalid : e ≡ error_of Invalid
   pub state : s' ≡ failing between e
 
--- what a turn comes to whose callback answered x and left m: a value for which something was taken, a quiet Err, or a
--- failure that is kept
+-- what a turn comes to whose callback returned x and left m: a value for which something was taken, a no-match Err, or a
+-- sticky error
 abbrev pub TurnsOut : {A : Type 0} → Reading → Result A ASN1Error → Reading → Outcome A → Reading → Type 0
-TurnsOut s x m (Gave v) s' = ComesTo s x m (Gave v) s' × (length s'.left < length s.left)
-TurnsOut s x m (Quiet e) s' = ComesTo s x m (Quiet e) s'
+TurnsOut s x m (Matched v) s' = ComesTo s x m (Matched v) s' × (length s'.left < length s.left)
+TurnsOut s x m (NoMatch e) s' = ComesTo s x m (NoMatch e) s'
 TurnsOut s x m (Failed e) s' = ComesTo s x m (Failed e) s' ⊎ Idles s x m e s'
 
 -- a turn of f on the reading s
@@ -44,22 +44,22 @@ pub record ListTurn {F A : Type 0} (C : F → Reading → Result A ASN1Error →
 -- the state g, on the reading s, comes to o and leaves g' and s'
 abbrev pub Turns : {G A : Type 0} → (G → Reading → Outcome A → G → Reading → Type 0) → G → Reading → List A → G → Reading → Type 0
 Turns T g s [] g' s' = (g' ≡ g) × (s' ≡ s)
-Turns {G} T g s (v ∷ vs) g' s' = (h : G) × (m : Reading) × T g s (Gave v) h m × Turns T h m vs g' s'
+Turns {G} T g s (v ∷ vs) g' s' = (h : G) × (m : Reading) × T g s (Matched v) h m × Turns T h m vs g' s'
 
 -- so may the callback wherever its turns reach: first on the reading s, in any state of its own, then each time in the state
 -- and on the reading that the turn before left
 abbrev pub TakesTurns : {F A : Type 0} → Mut F (MutBor Reading × Unit {0}) (Result A ASN1Error × (MutBor Reading × Unit {0})) → Reading → Type 0
 TakesTurns {F} {A} g s =
-    (f h : F) (vs : List A) (front rest : List ℕ) → s.left ≡ front ++ rest → Turns (ListTurn (CalledAtMut g)) f s vs h (record s { left = rest }) →
+    (f h : F) (vs : List A) (prefix rest : List ℕ) → s.left ≡ prefix ++ rest → Turns (ListTurn (CalledAtMut g)) f s vs h (record s { left = rest }) →
     TakesTurn g h (record s { left = rest })
 
--- what is answered where the turn behind these values came to that
+-- what is returned where the turn after these values came to that
 abbrev pub EndsList : {A : Type 0} → List A → Outcome A → Result (List A) ASN1Error → Type 0
-EndsList vs (Gave v) r = ⊥
-EndsList vs (Quiet e) r = r ≡ Ok vs
+EndsList vs (Matched v) r = ⊥
+EndsList vs (NoMatch e) r = r ≡ Ok vs
 EndsList vs (Failed e) r = r ≡ Err e
 
--- turns from s on, up to one that gives no value: a quiet Err ends the list, a failure is answered
+-- turns from s on, up to one that gives no value: a no-match Err ends the list, a failure is returned
 pub record Lists {G A : Type 0} (T : G → Reading → Outcome A → G → Reading → Type 0) (g : G) (s : Reading) (r : Result (List A) ASN1Error)
     (s' : Reading) : Type 0 where
   pub values : List A
@@ -72,7 +72,7 @@ pub record Lists {G A : Type 0} (T : G → Reading → Outcome A → G → Readi
   pub ends : EndsList values last r
 
 -- there was no memory for the last of these values
-pub record LacksRoom {G A : Type 0} (T : G → Reading → Outcome A → G → Reading → Type 0) (g : G) (s : Reading) (r : Result (List A) ASN1Error)
+pub record OutOfMemoryAtLast {G A : Type 0} (T : G → Reading → Outcome A → G → Reading → Type 0) (g : G) (s : Reading) (r : Result (List A) ASN1Error)
     (s' : Reading) : Type 0 where
   pub values : List A
   pub last : A
@@ -81,29 +81,29 @@ pub record LacksRoom {G A : Type 0} (T : G → Reading → Outcome A → G → R
   pub turns : Turns T g s (values ++ (last ∷ [])) reached place
   pub error : ASN1Error
   pub memory : kind_of error ≡ OutOfMemory
-  pub answer : r ≡ Err error
+  pub returned : r ≡ Err error
   pub state : s' ≡ failing place error
 
--- what is seen of a vector that is answered
+-- what is seen of a vector that is returned
 abbrev pub items_of : {A : Type 0} → Result (Vec A Global) ASN1Error → Result (List A) ASN1Error
 items_of (Ok v) = Ok v.items
 items_of (Err e) = Err e
 
 -- contents are read into a vector by such turns
 abbrev pub CollectsBy : {G A : Type 0} → (G → Reading → Outcome A → G → Reading → Type 0) → G → Does (Vec A Global)
-CollectsBy T g s r s' = Lists T g s (items_of r) s' ⊎ LacksRoom T g s (items_of r) s'
+CollectsBy T g s r s' = Lists T g s (items_of r) s' ⊎ OutOfMemoryAtLast T g s (items_of r) s'
 
 -- the same answer where nothing is gathered
 abbrev pub without_items : {A : Type 0} → Result (List A) ASN1Error → Result (Unit {0}) ASN1Error
 without_items (Ok vs) = Ok tt
 without_items (Err e) = Err e
 
--- contents are read by such turns, and nothing is answered of them
+-- contents are read by such turns, and nothing is returned of them
 pub record VisitsBy {G A : Type 0} (T : G → Reading → Outcome A → G → Reading → Type 0) (g : G)
     (s : Reading) (r : Result (Unit {0}) ASN1Error) (s' : Reading) : Type 0 where
   pub items : Result (List A) ASN1Error
   pub lists : Lists T g s items s'
-  pub answer : r ≡ without_items items
+  pub returned : r ≡ without_items items
 
 -- the elements are the callback's, in any order
 abbrev pub Collects : {F A : Type 0} → (F → Reading → Result A ASN1Error → F → Reading → Type 0) → F → Does (Vec A Global)

@@ -33,7 +33,7 @@ pub record IsSameElement (x y : SetElement) : Type 0 where
 abbrev pub elements_bytes : List SetElement → List ℕ
 elements_bytes l = concat (map (λ (x : SetElement). x.bytes.now) l)
 
--- the elements l are the contents of a SET of the raw values vs, which stand at the front of c, and y is the end behind them
+-- the elements l are the contents of a SET of the raw values vs, which are at the start of c, and y is the end after them
 pub record ListsSet (n : ℕ) (m : BERMode) (l : List SetElement) (vs : List RawValue) (c y : List ℕ) : Type 0 where
   pub each : Each (IsElementOf n m) l vs
   pub contents : SetElements m n vs (elements_bytes l)
@@ -62,35 +62,35 @@ pub record RunOnValues {F A : Type 0} (g : SetCallback F A) (f : F)
   pub left : SetReading
   pub called : FnOnceReturnsAtMut g f (record { reader = inside s []; list = list }) own left
 
--- a callback that answered r and left this gave v: it took all elements, and no failure was kept
-pub record GaveOfAll {A : Type 0} (r : Result A ASN1Error) (left : SetReading) (v : A) : Type 0 where
-  pub answer : r ≡ Ok v
+-- a callback that returned r and left this gave v: it took all elements, and no error was sticky
+pub record MatchedOfAll {A : Type 0} (r : Result A ASN1Error) (left : SetReading) (v : A) : Type 0 where
+  pub returned : r ≡ Ok v
   pub all : left.list.items ≡ []
-  pub unkept : left.reader.kept ≡ None
+  pub unfailed : left.reader.failed ≡ None
 
--- a SET of these values stands at the front of s, f gave v from its elements, whose bytes are the contents of that SET, and
+-- a SET of these values is at the start of s, f gave v from its elements, whose bytes are the contents of that SET, and
 -- the rest is left
 pub record TakesSet {F A : Type 0} (g : SetCallback F A) (f : F)
     (t : Tag) (s : Reading) (v : A) (s' : Reading) : Type 0 where
   pub values : List RawValue
-  pub front : List ℕ
+  pub prefix : List ℕ
   pub rest : List ℕ
-  pub joined : s.left ≡ front ++ rest
-  pub set : IsSet t s.mode s.levels values front
+  pub joined : s.left ≡ prefix ++ rest
+  pub set : IsSet t s.mode s.levels values prefix
   pub run : RunOnValues g f s values
-  pub contents : Element s.mode t Constructed (elements_bytes run.list.items) front
-  pub gave : GaveOfAll run.own run.left v
+  pub contents : Element s.mode t Constructed (elements_bytes run.list.items) prefix
+  pub matched : MatchedOfAll run.own run.left v
   pub state : s' ≡ record s { left = rest; tag = None }
 
--- where a SET stands at the front of s, f was run on its elements, whose bytes are its contents, and gave no value from them,
+-- where a SET is at the start of s, f was run on its elements, whose bytes are its contents, and gave no value from them,
 -- or e is of memory
-abbrev pub RefusesSet : {F A : Type 0} → SetCallback F A → F →
+abbrev pub RejectsSet : {F A : Type 0} → SetCallback F A → F →
     Tag → Reading → ASN1Error → Type 0
-RefusesSet {F} {A} g f t s e = (vs : List RawValue) (front rest : List ℕ) → (kind_of e ≡ OutOfMemory → ⊥) → s.left ≡ front ++ rest →
-    IsSet t s.mode s.levels vs front → (x : RunOnValues g f s vs) × Element s.mode t Constructed (elements_bytes x.list.items) front
-    × ((v : A) → GaveOfAll x.own x.left v → ⊥)
+RejectsSet {F} {A} g f t s e = (vs : List RawValue) (prefix rest : List ℕ) → (kind_of e ≡ OutOfMemory → ⊥) → s.left ≡ prefix ++ rest →
+    IsSet t s.mode s.levels vs prefix → (x : RunOnValues g f s vs) × Element s.mode t Constructed (elements_bytes x.list.items) prefix
+    × ((v : A) → MatchedOfAll x.own x.left v → ⊥)
 
 -- a read of a SET, whose elements f takes
 abbrev pub ReadsSet : {F A : Type 0} → SetCallback F A → F → Tag → Does A
 ReadsSet g f t s (Ok v) s' = TakesSet g f t s v s'
-ReadsSet g f t s (Err e) s' = RefusesSet g f t s e
+ReadsSet g f t s (Err e) s' = RejectsSet g f t s e

@@ -13,7 +13,7 @@ use Rattle.yasna_reader.specs.Callback.{WithSome}
 use Rattle.yasna_reader.specs.SequenceOf.{CollectsBy, ListTurn, TurnsOut, VisitsBy}
 use Rattle.yasna_reader.specs.State.{Reading, failing, Does}
 use Rattle.yasna_reader.specs.declared.callback.Outcome.{Outcome}
-use Rattle.yasna_reader.specs.declared.callback.Outcome.TheVariants.{Gave, Quiet, Failed}
+use Rattle.yasna_reader.specs.declared.callback.Outcome.TheVariants.{Matched, NoMatch, Failed}
 use Rattle.yasna_reader.specs.declared.set_of.Order.{Order}
 use Rattle.yasna_reader.specs.declared.set_of.Order.TheVariants.{Any, Ascending}
 
@@ -31,7 +31,7 @@ abbrev pub bound_bytes : Option (Bor (List ℕ)) → Option (List ℕ)
 bound_bytes None = None
 bound_bytes (Some b) = Some b.now
 
--- where elements are to ascend, the first one is behind no bytes
+-- where elements are to ascend, the first one is after no bytes
 abbrev pub bound_in : Order → BERMode → Option (List ℕ)
 bound_in Any m = None
 bound_in Ascending Ber = None
@@ -48,20 +48,20 @@ abbrev pub Follows : Option (List ℕ) → List ℕ → Option (List ℕ) → Ty
 Follows None b n = n ≡ None
 Follows (Some a) b n = (goes_before b a ≡ false) × (n ≡ Some b)
 
--- a turn gave a value, and took an element that may stand behind those before
+-- a turn gave a value, and took an element that may be after those before
 pub record GivesInOrder {F A : Type 0} (C : F → Reading → Result A ASN1Error → F → Reading → Type 0) (g : Bounded F) (s : Reading) (v : A)
     (g' : Bounded F) (s' : Reading) : Type 0 where
-  pub turn : ListTurn C g.callback s (Gave v) g'.callback s'
+  pub turn : ListTurn C g.callback s (Matched v) g'.callback s'
   pub element : List ℕ
   pub joined : s.left ≡ element ++ s'.left
   pub follows : Follows g.bound element g'.bound
 
--- one that may not is Invalid, and that is kept
+-- one that may not is Invalid, and that is sticky
 pub record Falls {F A : Type 0} (C : F → Reading → Result A ASN1Error → F → Reading → Type 0) (g : Bounded F) (s : Reading) (e : ASN1Error)
     (g' : Bounded F) (s' : Reading) : Type 0 where
   pub value : A
   pub between : Reading
-  pub turn : ListTurn C g.callback s (Gave value) g'.callback between
+  pub turn : ListTurn C g.callback s (Matched value) g'.callback between
   pub element : List ℕ
   pub joined : s.left ≡ element ++ between.left
   pub falls : FallsBelow g.bound element
@@ -77,18 +77,18 @@ pub data FailsInOrder {F A : Type 0} (C : F → Reading → Result A ASN1Error �
 -- a turn of a list whose elements ascend where there is a bound (X.690, 11.6), by what it comes to
 abbrev pub TurnInOrder : {F A : Type 0} → (F → Reading → Result A ASN1Error → F → Reading → Type 0) → Bounded F → Reading → Outcome A → Bounded F →
     Reading → Type 0
-TurnInOrder C g s (Gave v) g' s' = GivesInOrder C g s v g' s'
-TurnInOrder C g s (Quiet e) g' s' = ListTurn C g.callback s (Quiet e) g'.callback s'
+TurnInOrder C g s (Matched v) g' s' = GivesInOrder C g s v g' s'
+TurnInOrder C g s (NoMatch e) g' s' = ListTurn C g.callback s (NoMatch e) g'.callback s'
 TurnInOrder C g s (Failed e) g' s' = FailsInOrder C g s e g' s'
 
 -- what is made of a turn that came to o, began with the bytes c and left s, where the bound is a
 abbrev pub Ordered : {A : Type 0} → Option (List ℕ) → List ℕ → Outcome A → Reading → Outcome A → Option (List ℕ) → Reading → Type 0
-Ordered a c (Gave v) s o n s' = (b : List ℕ) × (c ≡ b ++ s.left) ×
-    ((Follows a b n × (o ≡ Gave v) × (s' ≡ s)) ⊎ (FallsBelow a b × (o ≡ Failed (error_of Invalid)) × (s' ≡ failing s (error_of Invalid))))
-Ordered a c (Quiet e) s o n s' = (o ≡ Quiet e) × (s' ≡ s)
+Ordered a c (Matched v) s o n s' = (b : List ℕ) × (c ≡ b ++ s.left) ×
+    ((Follows a b n × (o ≡ Matched v) × (s' ≡ s)) ⊎ (FallsBelow a b × (o ≡ Failed (error_of Invalid)) × (s' ≡ failing s (error_of Invalid))))
+Ordered a c (NoMatch e) s o n s' = (o ≡ NoMatch e) × (s' ≡ s)
 Ordered a c (Failed e) s o n s' = (o ≡ Failed e) × (s' ≡ s)
 
--- what a turn came to whose callback was handed s, answered x and left m, where the bound is a: what its callback did, and what is
+-- what a turn came to whose callback was handed s, returned x and left m, where the bound is a: what its callback did, and what is
 -- made of that
 pub record TurnsOutInOrder {A : Type 0} (a : Option (List ℕ)) (s : Reading) (x : Result A ASN1Error) (m : Reading) (o : Outcome (Unit {0}))
     (n : Option (List ℕ)) (s' : Reading) :

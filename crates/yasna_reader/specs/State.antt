@@ -5,60 +5,60 @@ use Rattle.yasna_base.specs.declared.error.ASN1Error.{ASN1Error}
 use Rattle.yasna_base.specs.declared.mode.BERMode.{BERMode}
 use Rattle.yasna_base.specs.declared.tag.Tag.{Tag}
 use Rattle.yasna_base.specs.Identifier.{tag_or}
-use Rattle.yasna_reader.specs.contracts.state.Parts.{the_row}
-use Rattle.yasna_reader.specs.declared.state.Parts.{Parts}
+use Rattle.yasna_reader.specs.contracts.state.PartsReader.{the_row}
+use Rattle.yasna_reader.specs.declared.state.PartsReader.{PartsReader}
 
 -- the bytes left in the innermost element of definite length or the input, the mode, the levels left, the implicit tag
--- of the next element, and the failure that was kept
+-- of the next element, and the sticky error
 pub record Reading : Type 0 where
   pub left : List ℕ
   pub mode : BERMode
   pub levels : ℕ
   pub tag : Option Tag
-  pub kept : Option ASN1Error
+  pub failed : Option ASN1Error
 
 -- what a read does: from which reading, with which answer, and what is left
 abbrev pub Does : Type 0 → Type 1
 Does A = Reading → Result A ASN1Error → Reading → Type 0
 
--- no failure was kept, and no implicit tag waits
+-- no error was sticky, and no implicit tag waits
 abbrev pub IsFresh : Reading → Type 0
-IsFresh s = (s.kept ≡ None) × (s.tag ≡ None)
+IsFresh s = (s.failed ≡ None) × (s.tag ≡ None)
 
 -- the reading that a parse starts with
 abbrev pub starts : List ℕ → BERMode → Reading
-starts s m = record { left = s; mode = m; levels = 101; tag = None; kept = None }
+starts s m = record { left = s; mode = m; levels = 101; tag = None; failed = None }
 
 -- the reading of an element's contents c
 abbrev pub inside : Reading → List ℕ → Reading
-inside s c = record s { left = c; levels = s.levels - 1; tag = None; kept = None }
+inside s c = record s { left = c; levels = s.levels - 1; tag = None; failed = None }
 
 -- the reading once its implicit tag is used up
 abbrev pub untagged : Reading → Reading
 untagged s = record s { tag = None }
 
--- the reading with this failure kept
+-- the reading with this sticky error
 abbrev pub failing : Reading → ASN1Error → Reading
-failing s e = record s { kept = Some e }
+failing s e = record s { failed = Some e }
 
 -- the tag of the next element: the implicit one, or the type's own
 abbrev pub tag_of : Reading → Tag → Tag
 tag_of s t = tag_or s.tag t
 
--- a refusal that moved is kept, and uses the implicit tag up; any other leaves the reading as it was
-abbrev pub refusing : Bool → Reading → ASN1Error → Reading
-refusing true s e = failing (untagged s) e
-refusing false s e = s
+-- an error that consumed input is sticky, and uses the implicit tag up; any other leaves the reading as it was
+abbrev pub rejecting : Bool → Reading → ASN1Error → Reading
+rejecting true s e = failing (untagged s) e
+rejecting false s e = s
 
--- a failure is kept where something moved
+-- an error is sticky where something was consumed
 abbrev pub failing_if : Bool → Reading → ASN1Error → Reading
 failing_if true s e = failing s e
 failing_if false s e = s
 
 -- what the next part is read from
-abbrev pub part_of : {S : Type 0} → Parts S → S
+abbrev pub part_of : {S : Type 0} → PartsReader S → S
 part_of p = p.reader
 
 -- r lends the reading: what it is in the end is what is left of the parts
-abbrev pub LendsReader : (S : RattleType) → MutBor (Parts S.Denot) → MutBor S.Denot → Fml
+abbrev pub LendsReader : (S : RattleType) → MutBor (PartsReader S.Denot) → MutBor S.Denot → Fml
 LendsReader S s r = Lends (the_row S) S s r (λ w. record s.now { reader = w })

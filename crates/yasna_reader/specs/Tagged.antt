@@ -1,7 +1,7 @@
 -- What a read under an implicit tag of the caller's does.
 use Rattle.std.specs.Prelude.{Some, ◌≡◌}
 use Rattle.yasna_base.specs.declared.tag.Tag.{Tag}
-use Rattle.yasna_reader.specs.Callback.{Lent, UnlessKept, answer_of}
+use Rattle.yasna_reader.specs.Callback.{Lent, UnlessFailed, returned_of}
 use Rattle.yasna_reader.specs.State.{Reading, tag_of, Does}
 use Rattle.yasna_reader.specs.declared.callback.Outcome.{Outcome}
 
@@ -9,7 +9,7 @@ use Rattle.yasna_reader.specs.declared.callback.Outcome.{Outcome}
 abbrev pub reading_under : Tag → Reading → Reading
 reading_under tag s = record s { tag = Some (tag_of s tag) }
 
--- the callback is handed the reading under the tag, and what it comes to is answered; where it is quiet, the reading is as
+-- the callback is handed the reading under the tag, and what it comes to is returned; where it has no match, the reading is as
 -- it was, with the tag that waited
 abbrev pub ReadsImplicitly : {A : Type 0} → Does A → Tag → Does A
-ReadsImplicitly {A} P tag s r s' = UnlessKept s.kept s r s' ((o : Outcome A) × Lent P (reading_under tag s) s o s' × (r ≡ answer_of o))
+ReadsImplicitly {A} P tag s r s' = UnlessFailed s.failed s r s' ((o : Outcome A) × Lent P (reading_under tag s) s o s' × (r ≡ returned_of o))

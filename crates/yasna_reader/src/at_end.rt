@@ -1,8 +1,8 @@
-//! Where contents end (X.690, 8.1.5): nothing is left, or the end of contents stands there.
+//! Where contents end (X.690, 8.1.5): nothing is left, or the end of contents is there.
 ghost use Rattle.std.specs.Prelude.{IsTrue, ◌↔◌, ◌≡◌};
 ghost use Rattle.yasna_base.specs.Identifier.{AtEnd, end_tag};
 
-use crate::state::{Parts, ReaderState};
+use crate::state::{PartsReader, ReaderState};
 use yasna_base::bytes::identifier::read_identifier;
 use yasna_base::tag::Tag;
 use yasna_base::tags::TAG_EOC;
@@ -14,7 +14,7 @@ fn is_end(tag: Tag) -> bool
     tag == TAG_EOC
 }
 
-// Whether contents end in front of these bytes.
+// Whether contents end before these bytes.
 #[inline(always)]
 #[tactic(auto, using(crate::proofs::Following::ends_by_tag, crate::proofs::Following::tag_at_end, crate::proofs::Following::empty_at_end))]
 fn end_here(s: &[u8]) -> bool
@@ -31,24 +31,24 @@ impl<'a> ReaderState<'a> {
 
     #[inline(always)]
     fn nothing_follows(&self) -> bool
-        ensures { IsTrue result ↔ NothingFollows self.now.kept self.now.left }
+        ensures { IsTrue result ↔ NothingFollows self.now.failed self.now.left }
     {
-        match self.kept {
+        match self.failed {
             Some(_) => true,
             None => end_here(self.cursor.left),
         }
     }
 }
 
-impl<'a> Parts<ReaderState<'a>> {
+impl<'a> PartsReader<ReaderState<'a>> {
     ghost use Rattle.yasna_reader.specs.State.{part_of};
     ghost use Rattle.yasna_reader.specs.Lookahead.{NothingFollows};
 
-    /// Whether no part follows: nothing is left, or the end of contents stands first. So it is where a failure is kept too, since then no
+    /// Whether no part follows: nothing is left, or the end of contents is first. So it is where an error is sticky too, since then no
     /// read takes anything: a loop until here ends.
     #[inline(always)]
     pub fn is_at_end(&self) -> bool
-        ensures { IsTrue result ↔ NothingFollows (part_of self.now).kept (part_of self.now).left }
+        ensures { IsTrue result ↔ NothingFollows (part_of self.now).failed (part_of self.now).left }
     {
         let reader = &self.reader;
         reader.nothing_follows()

@@ -1,8 +1,8 @@
-//! Reads that also answer the bytes they took, as a signature over an element wants them: `read_with_buffer` of a reader and of
+//! Reads that also return the bytes they took, as a signature over an element wants them: `read_with_buffer` of a reader and of
 //! a SEQUENCE's parts, which users call.
 
 use crate::callback::Outcome;
-use crate::state::{BERReader, BERReaderSeq, Parts, ReaderState};
+use crate::state::{BERReader, BERReaderSeq, PartsReader, ReaderState};
 use yasna_base::error::ASN1Result;
 
 impl<'a> ReaderState<'a> {
@@ -10,7 +10,7 @@ impl<'a> ReaderState<'a> {
     ghost use Rattle.std.specs.Fn.{FnOnceTakesAtMut, FnOnceReturnsAtMut};
     ghost use Rattle.yasna_reader.specs.Buffer.{Buffered, ReadsBuffer};
 
-    // What is answered where a callback that began with these bytes came to this.
+    // What is returned where a callback that began with these bytes came to this.
     #[inline(always)]
     fn with_taken<T: Drop>(
         &self,
@@ -21,25 +21,25 @@ impl<'a> ReaderState<'a> {
         ensures { Buffered before.now outcome result self.now.left }
     {
         let value = match outcome {
-            Outcome::Gave(value) => value,
-            Outcome::Quiet(error) | Outcome::Failed(error) => return Err(error),
+            Outcome::Matched(value) => value,
+            Outcome::NoMatch(error) | Outcome::Failed(error) => return Err(error),
         };
         let taken = before.len() - self.cursor.left.len();
         Ok((value, &before[..taken]))
     }
 
-    /// Reads what the callback reads, and answers the bytes that it took beside its value.
+    /// Reads what the callback reads, and returns the bytes that it took beside its value.
     ///
-    /// The bytes are the input's own: they outlive this reading. An implicit tag that waits is handed on, and waits again where
-    /// the callback's Err moved nothing.
+    /// The bytes are the input's own: they outlive this reading. An implicit tag that waits is passed on, and waits again where
+    /// the callback's Err consumed nothing.
     #[inline(always)]
     pub fn read_with_buffer<T: Drop, F>(&mut self, f: F) -> ASN1Result<(T, &'a [u8])>
     where
         F: FnOnce(BERReader<'a, '_>) -> ASN1Result<T>,
-        requires { self.old.kept ≡ None → FnOnceTakesAtMut F.FnOnce f self.old }
+        requires { self.old.failed ≡ None → FnOnceTakesAtMut F.FnOnce f self.old }
         ensures { ReadsBuffer (FnOnceReturnsAtMut F.FnOnce f) self.old result self.new }
     {
-        if let Some(error) = self.kept {
+        if let Some(error) = self.failed {
             return Err(error);
         }
         let before = self.cursor.left;
@@ -48,30 +48,30 @@ impl<'a> ReaderState<'a> {
     }
 }
 
-impl<'a> Parts<ReaderState<'a>> {
+impl<'a> PartsReader<ReaderState<'a>> {
     ghost use Rattle.std.specs.Prelude.{None, ◌≡◌};
     ghost use Rattle.std.specs.Fn.{FnOnceTakesAtMut};
     ghost use Rattle.yasna_reader.specs.Buffer.{ReadsBuffer};
     ghost use Rattle.yasna_reader.specs.Sequence.{Runs};
     ghost use Rattle.yasna_reader.specs.State.{part_of, untagged};
 
-    /// Reads what the callback reads of these parts, and answers the bytes that it took beside its value.
+    /// Reads what the callback reads of these parts, and returns the bytes that it took beside its value.
     ///
     /// The bytes are the input's own: they outlive this reading.
     #[inline(always)]
     pub fn read_with_buffer<T: Drop, F>(&mut self, f: F) -> ASN1Result<(T, &'a [u8])>
     where
         F: FnOnce(&mut BERReaderSeq<'a, '_>) -> ASN1Result<T>,
-        requires { (part_of self.old).kept ≡ None → FnOnceTakesAtMut F.FnOnce f (record { reader = untagged (part_of self.old) }) }
+        requires { (part_of self.old).failed ≡ None → FnOnceTakesAtMut F.FnOnce f (record { reader = untagged (part_of self.old) }) }
         ensures { ReadsBuffer (Runs F.FnOnce f) (untagged (part_of self.old)) result (part_of self.new) }
     {
         self.reader.untag();
-        if let Some(error) = self.reader.kept {
+        if let Some(error) = self.reader.failed {
             return Err(error);
         }
         let before = self.reader.cursor;
-        let answer = f(self);
-        let outcome = self.reader.take_back(before, answer);
+        let returned = f(self);
+        let outcome = self.reader.take_back(before, returned);
         self.reader.with_taken(before.left, outcome)
     }
 }

@@ -1,9 +1,9 @@
 //! What becomes of a reading that a callback is handed. The calls around callbacks use it: `optional`, `set_optional`, `tagged`,
 //! `buffer` and `sequence_of`.
 //!
-//! Of what the callback left only the failure counts that is kept there, and how many bytes are left.
+//! Of what the callback left only the failure counts that is sticky there, and how many bytes are left.
 ghost use Rattle.std.specs.Prelude.{IsTrue, ◌↔◌, ◌≡◌, length};
-ghost use Rattle.yasna_bytes.specs.Refusal.{BlamesBytes};
+ghost use Rattle.yasna_bytes.specs.Rejection.{BlamesBytes};
 
 use crate::state::{BERReader, ReaderState};
 use yasna_base::error::{ASN1Error, ASN1ErrorKind, ASN1Result};
@@ -13,17 +13,17 @@ use yasna_bytes::bytes::cursor::Cursor;
 /// What a callback came to.
 #[derive(Drop)]
 pub enum Outcome<T> {
-    /// A value, with no failure kept.
-    Gave(T),
-    /// An Err that moved nothing and is neither of depth nor of memory, with no failure kept.
-    Quiet(ASN1Error),
-    /// This failure is kept.
+    /// A value, with no sticky error.
+    Matched(T),
+    /// An Err that consumed nothing and is neither of depth nor of memory, with no sticky error.
+    NoMatch(ASN1Error),
+    /// This error is sticky.
     Failed(ASN1Error),
 }
 
 // Whether a kind is neither of depth nor of memory.
 #[inline(always)]
-fn is_plain(kind: ASN1ErrorKind) -> bool
+fn blames_bytes(kind: ASN1ErrorKind) -> bool
     ensures { IsTrue result ↔ BlamesBytes kind }
 {
     match kind {
@@ -32,7 +32,7 @@ fn is_plain(kind: ASN1ErrorKind) -> bool
     }
 }
 
-// The same tag, field by field: a copy of the whole holds what stands between its fields too, and is read back from memory.
+// The same tag, field by field: a copy of the whole holds what is between its fields too, and is read back from memory.
 #[inline(always)]
 fn by_fields(tag: Option<Tag>) -> Option<Tag>
     ensures { result ≡ tag }
@@ -54,7 +54,7 @@ fn by_fields(tag: Option<Tag>) -> Option<Tag>
 impl<'a> ReaderState<'a> {
     ghost use Rattle.std.specs.Prelude.{Err, None, length, ◌≡◌};
     ghost use Rattle.std.specs.Fn.{FnOnceTakesAtMut, FnOnceReturnsAtMut};
-    ghost use Rattle.yasna_reader.specs.Callback.{ComesTo, Barred, Hands, Lent, FailsAs, WithSome, at_cursor, moved_as};
+    ghost use Rattle.yasna_reader.specs.Callback.{ComesTo, Barred, Hands, Lent, FailsAs, WithSome, at_cursor, advanced_as};
     ghost use Rattle.yasna_reader.specs.State.{failing};
 
     // Hands this reading to a callback, and takes it back.
@@ -66,42 +66,42 @@ impl<'a> ReaderState<'a> {
         ensures { Hands (FnOnceReturnsAtMut F.FnOnce f) self.old result self.new }
     {
         let before = self.cursor;
-        let answer = f(self);
-        self.take_back(before, answer)
+        let returned = f(self);
+        self.take_back(before, returned)
     }
 
-    // Hands this reading to a callback with this tag in place of the one that waits, which waits again where the callback is
-    // quiet.
+    // Hands this reading to a callback with this tag in place of the one that waits, which waits again where the callback has
+    // no match.
     #[inline(always)]
     #[tactic(auto, using(crate::proofs::Callbacks::waits_again))]
     pub(crate) fn hand_under<T: Drop, F>(&mut self, tag: Option<Tag>, f: F) -> Outcome<T>
     where
         F: FnOnce(BERReader<'a, '_>) -> ASN1Result<T>,
-        requires kept { self.old.kept ≡ None }
+        requires failed { self.old.failed ≡ None }
         requires may { FnOnceTakesAtMut F.FnOnce f (record self.old { tag = tag }) }
         ensures { Lent (FnOnceReturnsAtMut F.FnOnce f) (record self.old { tag = tag }) self.old result self.new }
     {
         let waiting = by_fields(self.tag);
         self.tag = by_fields(tag);
         let outcome = self.hand(f);
-        if let Outcome::Quiet(_) = outcome {
+        if let Outcome::NoMatch(_) = outcome {
             self.tag = waiting;
         }
         outcome
     }
 
-    // What a callback came to that began here and gave this answer, which is looked at first, as `leave` does. The reading goes on
+    // What a callback came to that began here and gave this result, which is looked at first, as `leave` does. The reading goes on
     // where the callback left it.
     #[inline(always)]
-    #[tactic(auto, using(crate::proofs::Callbacks::place_unmoved, crate::proofs::Callbacks::barred_fails))]
+    #[tactic(auto, using(crate::proofs::Callbacks::place_unconsumed, crate::proofs::Callbacks::barred_fails))]
     pub(crate) fn take_back<T: Drop>(
         &mut self,
         before: Cursor<'a>,
-        answer: ASN1Result<T>,
+        returned: ASN1Result<T>,
     ) -> Outcome<T>
-        ensures { ComesTo (at_cursor before.entry) answer self.old result self.new }
+        ensures { ComesTo (at_cursor before.entry) returned self.old result self.new }
     {
-        let value = match answer {
+        let value = match returned {
             Ok(value) => value,
             Err(error) => return self.take_back_failed(before, error),
         };
@@ -109,57 +109,61 @@ impl<'a> ReaderState<'a> {
             return Outcome::Failed(error);
         }
         self.go_on(before);
-        Outcome::Gave(value)
+        Outcome::Matched(value)
     }
 
-    // What a callback came to that began here and gave this answer, which stays where it is.
+    // What a callback came to that began here and gave this result, which stays where it is.
     #[inline(always)]
     #[tactic(auto, using(crate::proofs::Callbacks::barred_fails, crate::proofs::Callbacks::none_given))]
-    pub(crate) fn look_back<T>(&mut self, before: Cursor<'a>, answer: &ASN1Result<T>) -> Outcome<()>
-        ensures { WithSome (λ o. ComesTo (at_cursor before.entry) answer.now self.old o self.new) result }
+    pub(crate) fn look_back<T>(
+        &mut self,
+        before: Cursor<'a>,
+        returned: &ASN1Result<T>,
+    ) -> Outcome<()>
+        ensures { WithSome (λ o. ComesTo (at_cursor before.entry) returned.now self.old o self.new) result }
     {
-        match answer {
+        match returned {
             Ok(_) => {
                 if let Some(error) = self.barred(before) {
                     return Outcome::Failed(error);
                 }
                 self.go_on(before);
-                Outcome::Gave(())
+                Outcome::Matched(())
             }
             Err(error) => self.take_back_failed(before, *error),
         }
     }
 
-    // What it came to where it answered an Err.
+    // What it came to where it returned an Err.
     #[inline(always)]
-    #[tactic(auto, using(crate::proofs::Callbacks::place_unmoved, crate::proofs::Callbacks::barred_fails))]
+    #[tactic(auto, using(crate::proofs::Callbacks::place_unconsumed, crate::proofs::Callbacks::barred_fails))]
     fn take_back_failed<T>(&mut self, before: Cursor<'a>, error: ASN1Error) -> Outcome<T>
         ensures { ComesTo (at_cursor before.entry) (Err error) self.old result self.new }
     {
-        if let Some(kept) = self.barred(before) {
-            return Outcome::Failed(kept);
+        if let Some(failed) = self.barred(before) {
+            return Outcome::Failed(failed);
         }
-        if self.cursor.left.len() == before.left.len() && is_plain(error.kind()) {
+        if self.cursor.left.len() == before.left.len() && blames_bytes(error.kind()) {
             self.go_back(before);
-            return Outcome::Quiet(error);
+            return Outcome::NoMatch(error);
         }
         self.fail_back(before, error)
     }
 
-    // Why there is no going on where a callback left this reading that began there, whatever it answered: a failure that it kept,
-    // or a place before. That is kept.
+    // Why there is no going on where a callback left this reading that began there, whatever it returned: a failure that it kept,
+    // or a place before. That is sticky.
     #[inline(always)]
     fn barred(&mut self, before: Cursor<'a>) -> Option<ASN1Error>
         ensures { Barred (at_cursor before.entry) self.old result self.new }
     {
-        if let Some(error) = self.kept {
+        if let Some(error) = self.failed {
             self.go_on_failed(before);
             return Some(error);
         }
         if before.left.len() < self.cursor.left.len() {
             let error = ASN1Error::new(ASN1ErrorKind::Invalid);
             self.go_on(before);
-            self.kept = Some(error);
+            self.failed = Some(error);
             return Some(error);
         }
         None
@@ -168,7 +172,7 @@ impl<'a> ReaderState<'a> {
     // Goes back to where a callback began.
     #[inline(always)]
     fn go_back(&mut self, before: Cursor<'a>)
-        ensures { self.new ≡ record (at_cursor before.entry) { kept = self.old.kept } }
+        ensures { self.new ≡ record (at_cursor before.entry) { failed = self.old.failed } }
     {
         self.cursor = before;
         self.untag();
@@ -177,7 +181,7 @@ impl<'a> ReaderState<'a> {
     // Goes on where a callback left this reading that began there.
     #[inline(always)]
     fn go_on(&mut self, before: Cursor<'a>)
-        ensures { self.new ≡ record (moved_as (at_cursor before.entry) self.old) { kept = self.old.kept } }
+        ensures { self.new ≡ record (advanced_as (at_cursor before.entry) self.old) { failed = self.old.failed } }
     {
         let all = before.left.len();
         let remaining = self.cursor.left.len();
@@ -188,28 +192,28 @@ impl<'a> ReaderState<'a> {
     // The same where it keeps a failure: the place at which that was found stays.
     #[inline(always)]
     fn go_on_failed(&mut self, before: Cursor<'a>)
-        ensures { self.new ≡ record (moved_as (at_cursor before.entry) self.old) { kept = self.old.kept } }
+        ensures { self.new ≡ record (advanced_as (at_cursor before.entry) self.old) { failed = self.old.failed } }
     {
-        let place = self.place_of_failure();
+        let place = self.place_of_error();
         self.go_on(before);
-        self.stand_at(place, self.deeper);
+        self.set_place(place, self.deeper);
     }
 
-    // What a callback came to where this failure is found behind it.
+    // What a callback came to where this failure is found after it.
     #[inline(always)]
     fn fail_back<T>(&mut self, before: Cursor<'a>, error: ASN1Error) -> Outcome<T>
-        ensures { FailsAs error (moved_as (at_cursor before.entry) self.old) result self.new }
+        ensures { FailsAs error (advanced_as (at_cursor before.entry) self.old) result self.new }
     {
         self.go_on(before);
-        self.failed(error)
+        self.fail_outcome(error)
     }
 
     // Keeps a failure.
     #[inline(always)]
-    pub(crate) fn failed<T>(&mut self, error: ASN1Error) -> Outcome<T>
+    pub(crate) fn fail_outcome<T>(&mut self, error: ASN1Error) -> Outcome<T>
         ensures { FailsAs error self.old result self.new }
     {
-        self.kept = Some(error);
+        self.failed = Some(error);
         Outcome::Failed(error)
     }
 }

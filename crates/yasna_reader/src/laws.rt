@@ -13,18 +13,18 @@ use crate::set::BERReaderSet;
 use yasna_base::error::ASN1Result;
 
 /// The elements that the callback of a SET is handed are just the contents of a SET as the grammar has it, up to their
-/// end: there is a list of them exactly where such contents stand, and it is one.
+/// end: there is a list of them exactly where such contents are there, and it is one.
 pub fn set_lists()
     ensures lists { ListsAreSets }
     ensures sets { SetsAreListed }
     ensures one { ListsAreOne }
 {}
 
-/// Where `read_set` answers a value, a SET as the grammar has it stood at the front, and the callback gave that value from
-/// all of its elements, with no failure kept. Where it refuses, the callback gave none from the SET that stands there, if
+/// Where `read_set` returns a value, a SET as the grammar has it was at the start, and the callback gave that value from
+/// all of its elements, with no sticky error. Where it rejects, the callback gave none from the SET that is there, if
 /// one does, unless memory ran out.
 pub fn set_reads<'a, T: Drop, F>()
 where
     F: FnOnce(&mut BERReaderSet<'a, '_>) -> ASN1Result<T>,
-    ensures { (f : F) (tag : Tag) (s z : Reading) (r : Result T ASN1Error) → ReadsParts (RunsOnSet F.FnOnce f) tag s r z → s.kept ≡ None → ReadsSet F.FnOnce f (tag_of s tag) s r z }
+    ensures { (f : F) (tag : Tag) (s z : Reading) (r : Result T ASN1Error) → ReadsParts (RunsOnSet F.FnOnce f) tag s r z → s.failed ≡ None → ReadsSet F.FnOnce f (tag_of s tag) s r z }
 {}

@@ -1,7 +1,7 @@
 //! Reading BER, DER and CER.
 //!
-//! Bytes come in at `parse`; `state` holds where a reading stands, by which rules it reads and what went wrong; each
-//! read finds what stands in front of it (`yasna_bytes`), and the state takes it or keeps the refusal.
+//! Bytes come in at `parse`; `state` holds where a reading is, by which rules it reads and what went wrong; each
+//! read finds what is before it (`yasna_bytes`), and the state takes it or keeps the error.
 //!
 //! | Module | Holds |
 //! |---|---|
@@ -16,12 +16,12 @@
 //! | `sequence_of` | reads of lists, whose elements a callback reads one by one |
 //! | `set_of` | reads of lists whose elements ascend in DER and CER |
 //! | `set` | reads of sets, whose elements a callback takes by their tags |
-//! | `set_optional` | reads of elements of a set that may be left out |
-//! | `place` | where in the input a reading stands |
+//! | `set_optional` | reads of elements of a set that may be omitted |
+//! | `place` | where in the input a reading is |
 //! | `callback` | what becomes of a reading that a callback is handed |
 //! | `tagged` | reads under tags of the caller's |
-//! | `optional` | reads of parts that may be left out |
-//! | `buffer` | reads that also answer the bytes they took |
+//! | `optional` | reads of parts that may be omitted |
+//! | `buffer` | reads that also return the bytes they took |
 //! | `lookahead` | the next tag |
 //! | `at_end` | where contents end |
 //! | `laws` | what is proved of the readings that callbacks are handed |
@@ -53,4 +53,4 @@ pub use parse::{
     parse_ber, parse_ber_general, parse_cer, parse_der, try_parse_ber, try_parse_cer, try_parse_der,
 };
 pub use set::{BERReaderSet, Choose, Chosen, SetElement};
-pub use state::{BERReader, BERReaderSeq, Parts, ReaderState};
+pub use state::{BERReader, BERReaderSeq, PartsReader, ReaderState};

@@ -11,19 +11,19 @@ use std::fmt;
 use yasna_base::error::{ASN1Error, ASN1Result};
 use yasna_base::mode::BERMode;
 
-/// A refusal, and where in the input it was found.
+/// An error, and where in the input it was found.
 #[derive(Clone, Copy, PartialEq, Eq, Debug)]
 pub struct Located {
-    /// The refusal.
+    /// The error.
     pub error: ASN1Error,
-    /// Where the element begins that was refused, in bytes from the input's first one. Where none is left, where that shows; where it
-    /// was a callback that refused what it had read, as far as that went.
+    /// Where the element begins that was rejected, in bytes from the input's first one. Where none is left, where that shows; where it
+    /// was a callback that rejected what it had read, as far as that went.
     pub offset: usize,
     /// How many elements there are around it.
     pub depth: usize,
 }
 
-/// One line: the refusal, the offset and the depth.
+/// One line: the error, the offset and the depth.
 impl fmt::Display for Located {
     ghost use Rattle.std.specs.Prelude.{Some};
     ghost use Rattle.yasna_reader.specs.Located.{located_text};
@@ -100,19 +100,19 @@ where
     ensures { LocatesParse (FnOnceReturnsAtMut F.FnOnce callback) mode buf.now result }
 {
     let mut state = ReaderState::new(alloc, buf, mode);
-    let answer = callback(&mut state);
-    state.located(answer, buf)
+    let returned = callback(&mut state);
+    state.located(returned, buf)
 }
 
 impl<'a> ReaderState<'a> {
     ghost use Rattle.yasna_reader.specs.Located.{IsLocated, IsParsedWithPlace};
 
-    // What a parse of these bytes answers where its callback gave this answer.
+    // What a parse of these bytes returns where its callback gave this result.
     #[inline(always)]
-    fn located<T: Drop>(&self, answer: ASN1Result<T>, buf: &[u8]) -> Result<T, Located>
-        ensures { IsParsedWithPlace answer self.now buf.now result }
+    fn located<T: Drop>(&self, returned: ASN1Result<T>, buf: &[u8]) -> Result<T, Located>
+        ensures { IsParsedWithPlace returned self.now buf.now result }
     {
-        match self.parsed(answer) {
+        match self.parsed(returned) {
             Ok(value) => Ok(value),
             Err(error) => Err(self.locate(error, buf)),
         }

@@ -10,12 +10,12 @@ impl<'a> ReaderState<'a> {
 
     /// The tag of the next element, which isn't taken (X.690, 8.1.2). An implicit tag that waits changes nothing.
     ///
-    /// Answers `Eof` where nothing is left, and why there is no identifier where one is broken. No such Err is kept.
+    /// Returns `Eof` where nothing is left, and why there is no identifier where one is malformed. No such Err is sticky.
     #[inline(always)]
     pub fn lookahead_tag(&self) -> ASN1Result<Tag>
-        ensures { LooksAhead self.now.kept self.now.left result }
+        ensures { LooksAhead self.now.failed self.now.left result }
     {
-        if let Some(error) = self.kept {
+        if let Some(error) = self.failed {
             return Err(error);
         }
         match read_identifier(self.cursor.left) {

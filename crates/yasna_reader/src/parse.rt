@@ -1,4 +1,4 @@
-//! Parses of whole inputs, where users begin: one element that a callback reads, and nothing behind it (X.690, 8 to 11).
+//! Parses of whole inputs, where users begin: one element that a callback reads, and nothing after it (X.690, 8 to 11).
 ghost use Rattle.yasna_base.specs.declared.mode.BERMode.TheVariants.{Ber, Der, Cer};
 ghost use Rattle.std.specs.Fn.{FnOnceTakesAtMut, FnOnceReturnsAtMut};
 ghost use Rattle.yasna_reader.specs.State.{starts};
@@ -11,7 +11,7 @@ use yasna_base::mode::BERMode;
 
 /// Reads bytes by these rules: the callback is to read all of them.
 ///
-/// Answers the failure that the reading kept, if there is one; else the callback's Err; else `Extra` where bytes are
+/// Returns the failure that the reading kept, if there is one; else the callback's Err; else `Extra` where bytes are
 /// left; else the callback's value.
 #[inline(always)]
 pub fn parse_ber_general<'a, T: Drop, F>(
@@ -61,9 +61,9 @@ where
     parse_ber_general(alloc, buf, BERMode::Cer, callback)
 }
 
-/// Reads bytes by the basic encoding rules (X.690, clause 8), where the callback may answer errors of its own.
+/// Reads bytes by the basic encoding rules (X.690, clause 8), where the callback may return errors of its own.
 ///
-/// Answers as `parse_ber_general` does, with the failures of the reading turned into `E`.
+/// Returns as `parse_ber_general` does, with the failures of the reading turned into `E`.
 #[inline(always)]
 pub fn try_parse_ber<'a, T: Drop, E: From<ASN1Error> + Drop, F>(
     alloc: Global,
@@ -122,25 +122,25 @@ where
     ensures { TryParses (FnOnceReturnsAtMut F.FnOnce callback) E.from_gives mode buf.now result }
 {
     let mut state = ReaderState::new(alloc, buf, mode);
-    let answer = callback(&mut state);
-    state.parsed(answer)
+    let returned = callback(&mut state);
+    state.parsed(returned)
 }
 
 impl<'a> ReaderState<'a> {
     ghost use Rattle.yasna_reader.specs.Parse.{IsParsed};
 
-    // What a parse answers where its callback gave this answer.
+    // What a parse returns where its callback gave this result.
     #[inline(always)]
     pub(crate) fn parsed<T: Drop, E: From<ASN1Error> + Drop>(
         &self,
-        answer: Result<T, E>,
+        returned: Result<T, E>,
     ) -> Result<T, E>
-        ensures { IsParsed E.from_gives answer self.now result }
+        ensures { IsParsed E.from_gives returned self.now result }
     {
-        if let Some(error) = self.kept {
+        if let Some(error) = self.failed {
             return Err(E::from(error));
         }
-        match answer {
+        match returned {
             Ok(value) => {
                 if self.cursor.left.is_empty() {
                     Ok(value)

@@ -11,8 +11,8 @@ use yasna_base::error::ASN1Result;
 use yasna_base::models::ObjectIdentifier;
 use yasna_base::tag::Tag;
 use yasna_base::tags::{TAG_BOOLEAN, TAG_ENUM, TAG_INTEGER, TAG_NULL, TAG_OID};
-use yasna_bytes::bytes::contents::{Contents, value};
-use yasna_bytes::bytes::header::Refusal;
+use yasna_bytes::bytes::contents::{Contents, read_value};
+use yasna_bytes::bytes::header::Rejection;
 
 impl<'a> ReaderState<'a> {
     ghost use Rattle.std.specs.Int.{w64, w32, w16, w8};
@@ -22,15 +22,15 @@ impl<'a> ReaderState<'a> {
     ghost use Rattle.yasna_base.specs.Null.{IsNull};
     ghost use Rattle.yasna_base.specs.Oid.{AreComponents};
     ghost use Rattle.yasna_base.specs.Integer.{IsSigned, IsUnsigned};
-    ghost use Rattle.yasna_bytes.specs.Contents.{big_integer_in, Never, WantsMemory};
-    ghost use Rattle.yasna_reader.specs.Primitive.{Reads, ReadsSeen, FrontOf, NoLevel};
+    ghost use Rattle.yasna_bytes.specs.Contents.{big_integer_in, NeverAllocates, MayAllocate};
+    ghost use Rattle.yasna_reader.specs.Primitive.{Reads, ReadsSeen, ParsesAs, NoLevel};
 
     /// Reads BOOLEAN (X.690, 8.2): 0 is false, and any other byte true in BER.
     ///
     /// In DER and CER 255 alone is true (11.1). Other contents are `Invalid`.
     #[inline(always)]
     pub fn read_bool(&mut self) -> ASN1Result<bool>
-        ensures { Reads (Primitively IsBoolean) NoLevel Never boolean_tag self.old result self.new }
+        ensures { Reads (Primitively IsBoolean) NoLevel NeverAllocates boolean_tag self.old result self.new }
     {
         self.read_primitive::<bool>(TAG_BOOLEAN)
     }
@@ -38,7 +38,7 @@ impl<'a> ReaderState<'a> {
     /// Reads NULL (X.690, 8.8). It has no contents: any are `Invalid`.
     #[inline(always)]
     pub fn read_null(&mut self) -> ASN1Result<()>
-        ensures { Reads (Primitively IsNull) NoLevel Never null_tag self.old result self.new }
+        ensures { Reads (Primitively IsNull) NoLevel NeverAllocates null_tag self.old result self.new }
     {
         self.read_primitive::<()>(TAG_NULL)
     }
@@ -46,7 +46,7 @@ impl<'a> ReaderState<'a> {
     /// Reads ENUMERATED (X.690, 8.4): its number, as `read_i64` reads that of an INTEGER.
     #[inline(always)]
     pub fn read_enum(&mut self) -> ASN1Result<i64>
-        ensures { Reads (Primitively (IsSigned w64)) NoLevel Never enumerated_tag self.old result self.new }
+        ensures { Reads (Primitively (IsSigned w64)) NoLevel NeverAllocates enumerated_tag self.old result self.new }
     {
         self.read_primitive::<i64>(TAG_ENUM)
     }
@@ -56,7 +56,7 @@ impl<'a> ReaderState<'a> {
     /// Contents that aren't the fewest bytes of a number are `Invalid`, and a number outside the type is `IntegerOverflow`.
     #[inline(always)]
     pub fn read_i64(&mut self) -> ASN1Result<i64>
-        ensures { Reads (Primitively (IsSigned w64)) NoLevel Never integer_tag self.old result self.new }
+        ensures { Reads (Primitively (IsSigned w64)) NoLevel NeverAllocates integer_tag self.old result self.new }
     {
         self.read_primitive::<i64>(TAG_INTEGER)
     }
@@ -64,7 +64,7 @@ impl<'a> ReaderState<'a> {
     /// Reads INTEGER (X.690, 8.3), as `read_i64` does: a number outside the type is `IntegerOverflow`.
     #[inline(always)]
     pub fn read_i32(&mut self) -> ASN1Result<i32>
-        ensures { Reads (Primitively (IsSigned w32)) NoLevel Never integer_tag self.old result self.new }
+        ensures { Reads (Primitively (IsSigned w32)) NoLevel NeverAllocates integer_tag self.old result self.new }
     {
         self.read_primitive::<i32>(TAG_INTEGER)
     }
@@ -72,7 +72,7 @@ impl<'a> ReaderState<'a> {
     /// Reads INTEGER (X.690, 8.3), as `read_i64` does: a number outside the type is `IntegerOverflow`.
     #[inline(always)]
     pub fn read_i16(&mut self) -> ASN1Result<i16>
-        ensures { Reads (Primitively (IsSigned w16)) NoLevel Never integer_tag self.old result self.new }
+        ensures { Reads (Primitively (IsSigned w16)) NoLevel NeverAllocates integer_tag self.old result self.new }
     {
         self.read_primitive::<i16>(TAG_INTEGER)
     }
@@ -80,7 +80,7 @@ impl<'a> ReaderState<'a> {
     /// Reads INTEGER (X.690, 8.3), as `read_i64` does: a number outside the type is `IntegerOverflow`.
     #[inline(always)]
     pub fn read_i8(&mut self) -> ASN1Result<i8>
-        ensures { Reads (Primitively (IsSigned w8)) NoLevel Never integer_tag self.old result self.new }
+        ensures { Reads (Primitively (IsSigned w8)) NoLevel NeverAllocates integer_tag self.old result self.new }
     {
         self.read_primitive::<i8>(TAG_INTEGER)
     }
@@ -88,7 +88,7 @@ impl<'a> ReaderState<'a> {
     /// Reads INTEGER (X.690, 8.3), as `read_i64` does: a number outside the type is `IntegerOverflow`.
     #[inline(always)]
     pub fn read_u64(&mut self) -> ASN1Result<u64>
-        ensures { Reads (Primitively (IsUnsigned 64)) NoLevel Never integer_tag self.old result self.new }
+        ensures { Reads (Primitively (IsUnsigned 64)) NoLevel NeverAllocates integer_tag self.old result self.new }
     {
         self.read_primitive::<u64>(TAG_INTEGER)
     }
@@ -96,7 +96,7 @@ impl<'a> ReaderState<'a> {
     /// Reads INTEGER (X.690, 8.3), as `read_i64` does: a number outside the type is `IntegerOverflow`.
     #[inline(always)]
     pub fn read_u32(&mut self) -> ASN1Result<u32>
-        ensures { Reads (Primitively (IsUnsigned 32)) NoLevel Never integer_tag self.old result self.new }
+        ensures { Reads (Primitively (IsUnsigned 32)) NoLevel NeverAllocates integer_tag self.old result self.new }
     {
         self.read_primitive::<u32>(TAG_INTEGER)
     }
@@ -104,7 +104,7 @@ impl<'a> ReaderState<'a> {
     /// Reads INTEGER (X.690, 8.3), as `read_i64` does: a number outside the type is `IntegerOverflow`.
     #[inline(always)]
     pub fn read_u16(&mut self) -> ASN1Result<u16>
-        ensures { Reads (Primitively (IsUnsigned 16)) NoLevel Never integer_tag self.old result self.new }
+        ensures { Reads (Primitively (IsUnsigned 16)) NoLevel NeverAllocates integer_tag self.old result self.new }
     {
         self.read_primitive::<u16>(TAG_INTEGER)
     }
@@ -112,7 +112,7 @@ impl<'a> ReaderState<'a> {
     /// Reads INTEGER (X.690, 8.3), as `read_i64` does: a number outside the type is `IntegerOverflow`.
     #[inline(always)]
     pub fn read_u8(&mut self) -> ASN1Result<u8>
-        ensures { Reads (Primitively (IsUnsigned 8)) NoLevel Never integer_tag self.old result self.new }
+        ensures { Reads (Primitively (IsUnsigned 8)) NoLevel NeverAllocates integer_tag self.old result self.new }
     {
         self.read_primitive::<u8>(TAG_INTEGER)
     }
@@ -122,7 +122,7 @@ impl<'a> ReaderState<'a> {
     /// Contents that aren't the fewest bytes of a number are `Invalid`.
     #[inline(always)]
     pub fn read_bigint_bytes(&mut self) -> ASN1Result<(Vec<u8>, bool)>
-        ensures { ReadsSeen (Primitively IsBigInteger) big_integer_in NoLevel WantsMemory integer_tag self.old result self.new }
+        ensures { ReadsSeen (Primitively IsBigInteger) big_integer_in NoLevel MayAllocate integer_tag self.old result self.new }
     {
         self.read_primitive::<(Vec<u8>, bool)>(TAG_INTEGER)
     }
@@ -132,29 +132,29 @@ impl<'a> ReaderState<'a> {
     /// A subidentifier past 2^64-1 is `IntegerOverflow`. One that begins with 128 or has no end is `Invalid`, and so are empty contents.
     #[inline(always)]
     pub fn read_oid(&mut self) -> ASN1Result<ObjectIdentifier>
-        ensures { Reads (Primitively AreComponents) NoLevel WantsMemory oid_tag self.old result self.new }
+        ensures { Reads (Primitively AreComponents) NoLevel MayAllocate oid_tag self.old result self.new }
     {
         self.read_primitive::<ObjectIdentifier>(TAG_OID)
     }
 
-    // What stands at the front as an element of one primitive type.
+    // What is at the start as an element of one primitive type.
     #[inline(always)]
-    fn front<T: Contents>(&self, tag: Tag) -> Result<(T, &'a [u8]), Refusal>
-        ensures { FrontOf (Primitively T.means) T.view NoLevel T.wants tag self.now result }
+    fn parse_primitive<T: Contents>(&self, tag: Tag) -> Result<(T, &'a [u8]), Rejection>
+        ensures { ParsesAs (Primitively T.means) T.view NoLevel T.may_allocate tag self.now result }
     {
-        value(self.alloc, self.cursor, self.wanted(tag))
+        read_value(self.alloc, self.cursor, self.expected(tag))
     }
 
     // Reads an element of one primitive type.
     #[inline(always)]
-    #[tactic(auto, using(crate::proofs::Primitives::reads_front, crate::proofs::Primitives::reads_kept))]
+    #[tactic(auto, using(crate::proofs::Primitives::reads_prefix, crate::proofs::Primitives::reads_sticky))]
     fn read_primitive<T: Contents + Drop>(&mut self, tag: Tag) -> ASN1Result<T>
-        ensures { ReadsSeen (Primitively T.means) T.view NoLevel T.wants tag self.old result self.new }
+        ensures { ReadsSeen (Primitively T.means) T.view NoLevel T.may_allocate tag self.old result self.new }
     {
-        if let Some(error) = self.kept {
+        if let Some(error) = self.failed {
             return Err(error);
         }
-        let front = self.front::<T>(tag);
-        self.settle(front)
+        let parsed = self.parse_primitive::<T>(tag);
+        self.commit(parsed)
     }
 }

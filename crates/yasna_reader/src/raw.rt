@@ -13,7 +13,7 @@ use yasna_base::error::{ASN1ErrorKind, ASN1Result};
 use yasna_base::models::TaggedDerValue;
 use yasna_base::tag::{PCBit, Tag, TagClass};
 use yasna_bytes::bytes::cursor::Cursor;
-use yasna_bytes::bytes::header::{Refusal, refuse};
+use yasna_bytes::bytes::header::{Rejection, reject};
 use yasna_bytes::bytes::walk::{RawElement, raw_element};
 
 /// What is made of a raw element.
@@ -31,7 +31,7 @@ trait Copied: Sized {
     ghost element: { (n : ℕ) (m : BERMode) (v : Seen) (b : List ℕ) → copies n m v b → (x : RawValue) × IsRaw n m x b };
 }
 
-// Its tag, its bit and its payload, one beside the other: a `TaggedDerValue` is moved with what stands between its fields, as words
+// Its tag, its bit and its payload, one beside the other: a `TaggedDerValue` is moved with what is between its fields, as words
 // that overlap, which stalls the processor.
 #[derive(Drop)]
 struct Pieces {
@@ -91,17 +91,17 @@ impl Copied for Vec<u8> {
     ghost element = { λ n m v b x. (x.element, x.raw) };
 }
 
-// What is made of the raw element at the front, and the rest.
+// What is made of the raw element at the start, and the rest.
 #[inline(always)]
-fn copy_of_front<T: Copied>(alloc: Global, cursor: Cursor<'_>) -> Result<(T, &[u8]), Refusal>
+fn parse_copy<T: Copied>(alloc: Global, cursor: Cursor<'_>) -> Result<(T, &[u8]), Rejection>
     ensures { CopiedAt T.copies T.view cursor.entry.levels cursor.entry.mode cursor.entry.left.now result }
 {
     match raw_element(cursor) {
         Ok((element, rest)) => match T::of_element(alloc, &element) {
             Ok(value) => Ok((value, rest)),
-            Err(_) => Err(refuse(ASN1ErrorKind::OutOfMemory, true)),
+            Err(_) => Err(reject(ASN1ErrorKind::OutOfMemory, true)),
         },
-        Err(refusal) => Err(refusal),
+        Err(rejection) => Err(rejection),
     }
 }
 
@@ -114,8 +114,8 @@ impl<'a> ReaderState<'a> {
     ///
     /// In DER constructed contents are to be elements one after the other, in BER and CER those of indefinite length; levels
     /// are counted in them too. What values they are isn't looked at. An implicit tag is ignored, and used up. Where an end of
-    /// contents stands, the answer is `Invalid` and nothing is kept.
-    #[tactic(auto, using(crate::proofs::RawReads::reads_raw_as, crate::proofs::RawReads::refuses_raw_as))]
+    /// contents is there, the result is `Invalid` and nothing is sticky.
+    #[tactic(auto, using(crate::proofs::RawReads::reads_raw_as, crate::proofs::RawReads::rejects_raw_as))]
     pub fn read_tagged_der(&mut self) -> ASN1Result<TaggedDerValue>
         ensures { ReadsRaw IsRaw raw_of self.old result self.new }
     {
@@ -134,22 +134,22 @@ impl<'a> ReaderState<'a> {
     }
 
     #[inline(always)]
-    fn copy_of<T: Copied>(&self) -> Result<(T, &'a [u8]), Refusal>
+    fn copy_of<T: Copied>(&self) -> Result<(T, &'a [u8]), Rejection>
         ensures { CopiedAt T.copies T.view self.now.levels self.now.mode self.now.left result }
     {
-        copy_of_front::<T>(self.alloc, self.cursor)
+        parse_copy::<T>(self.alloc, self.cursor)
     }
 
     // Reads a raw element, and copies what is wanted of it.
     #[inline(always)]
-    #[tactic(auto, using(crate::proofs::RawReads::reads_raw, crate::proofs::RawReads::reads_raw_kept))]
+    #[tactic(auto, using(crate::proofs::RawReads::reads_raw, crate::proofs::RawReads::reads_raw_sticky))]
     fn read_raw<T: Copied + Drop>(&mut self) -> ASN1Result<T>
         ensures { ReadsRaw T.copies T.view self.old result self.new }
     {
-        if let Some(error) = self.kept {
+        if let Some(error) = self.failed {
             return Err(error);
         }
-        let front = self.copy_of::<T>();
-        self.settle(front)
+        let parsed = self.copy_of::<T>();
+        self.commit(parsed)
     }
 }

@@ -3,22 +3,22 @@
 ghost use Rattle.yasna_reader.specs.Sequence.{ClosesFrom};
 ghost use Rattle.yasna_base.specs.Sequence.{sequence_tag};
 
-use crate::state::{BERReaderSeq, Parts, ReaderState};
+use crate::state::{BERReaderSeq, PartsReader, ReaderState};
 use yasna_base::error::{ASN1Error, ASN1ErrorKind, ASN1Result};
 use yasna_base::tag::Tag;
 use yasna_base::tags::TAG_SEQUENCE;
-use yasna_bytes::bytes::header::{Opened, Refusal, close, constructed};
+use yasna_bytes::bytes::header::{Opened, Rejection, close, open_constructed};
 
 // What follows an element of which a callback left this many bytes to be read.
 #[inline(always)]
 fn close_from<'a>(opened: &Opened<'a>, remaining: usize) -> Result<&'a [u8], ASN1ErrorKind>
-    ensures { ClosesFrom opened.now.end opened.now.within remaining result }
+    ensures { ClosesFrom opened.now.end opened.now.contents remaining result }
 {
-    let within = opened.within;
-    if within.len() < remaining {
+    let contents = opened.contents;
+    if contents.len() < remaining {
         return Err(ASN1ErrorKind::Invalid);
     }
-    close(opened, &within[within.len() - remaining..])
+    close(opened, &contents[contents.len() - remaining..])
 }
 
 impl<'a> ReaderState<'a> {
@@ -30,7 +30,7 @@ impl<'a> ReaderState<'a> {
     /// Reads a SEQUENCE (X.690, 8.9), whose parts the callback reads.
     ///
     /// The callback is to read all of them: what it leaves is `Extra`, or `Invalid` where the length is indefinite. What goes
-    /// wrong in it is kept, whatever it answers: later calls answer it.
+    /// wrong in it is sticky, whatever it returns: later calls return it.
     #[inline(always)]
     #[tactic(auto, using(crate::proofs::Sequences::stepped_in, crate::proofs::Sequences::stayed_out, crate::proofs::Sequences::takes_inside))]
     pub fn read_sequence<T: Drop, F>(&mut self, f: F) -> ASN1Result<T>
@@ -40,12 +40,12 @@ impl<'a> ReaderState<'a> {
         ensures { ReadsParts (Runs F.FnOnce f) sequence_tag self.old result self.new }
     {
         let opened = self.step_in(TAG_SEQUENCE)?;
-        let mut parts = Parts {
-            reader: self.within(&opened),
+        let mut parts = PartsReader {
+            reader: self.contents_reader(&opened),
         };
-        let answer = f(&mut parts);
-        self.leave(&opened, &answer, &parts.reader)?;
-        answer
+        let returned = f(&mut parts);
+        self.leave(&opened, &returned, &parts.reader)?;
+        returned
     }
 
     // The header of a constructed element of this tag, or of the implicit one, whose contents are to be read. A failure that was
@@ -54,66 +54,66 @@ impl<'a> ReaderState<'a> {
     pub(crate) fn step_in(&mut self, tag: Tag) -> ASN1Result<Opened<'a>>
         ensures { StepsAt (tag_of self.old tag) self.old result self.new }
     {
-        if let Some(error) = self.kept {
+        if let Some(error) = self.failed {
             return Err(error);
         }
         match self.enter(tag) {
             Ok(opened) => Ok(opened),
-            Err(refusal) => self.settle(Err(refusal)),
+            Err(rejection) => self.commit(Err(rejection)),
         }
     }
 
     // The header of a constructed element of this tag, or of the implicit one.
     #[inline(always)]
-    pub(crate) fn enter(&self, tag: Tag) -> Result<Opened<'a>, Refusal>
+    pub(crate) fn enter(&self, tag: Tag) -> Result<Opened<'a>, Rejection>
         ensures { ConstructedAt self.now.mode self.now.levels (tag_of self.now tag) self.now.left result }
     {
-        constructed(self.cursor, self.wanted(tag))
+        open_constructed(self.cursor, self.expected(tag))
     }
 
     // The reading of an element's contents.
     #[inline(always)]
-    pub(crate) fn within(&self, opened: &Opened<'a>) -> ReaderState<'a>
+    pub(crate) fn contents_reader(&self, opened: &Opened<'a>) -> ReaderState<'a>
         requires { 1 ≤ self.now.levels }
-        ensures { result ≡ inside self.now opened.now.within }
+        ensures { result ≡ inside self.now opened.now.contents }
     {
         ReaderState {
             cursor: self.cursor.inside(opened),
             tag: None,
-            kept: None,
+            failed: None,
             deeper: 0,
             alloc: self.alloc,
         }
     }
 
-    // Goes on behind an element of whose contents a callback answered this, and left like this. A failure that was kept there comes
-    // first. The answer is looked at where it is: a value that waits for other tests is moved by way of memory.
+    // Goes on after an element of whose contents a callback returned this, and left like this. A sticky error there comes
+    // first. The result is looked at where it is: a value that waits for other tests is moved by way of memory.
     #[inline(always)]
     #[tactic(auto, using(crate::proofs::Sequences::closed_with, crate::proofs::Sequences::not_closed_with))]
     pub(crate) fn leave<T>(
         &mut self,
         opened: &Opened<'a>,
-        answer: &ASN1Result<T>,
+        returned: &ASN1Result<T>,
         left: &ReaderState<'a>,
     ) -> ASN1Result<()>
-        ensures { Left opened.now.end opened.now.within left.now.kept left.now.left answer.now (untagged self.old) (after_leaving answer.now result) self.new }
+        ensures { Left opened.now.end opened.now.contents left.now.failed left.now.left returned.now (untagged self.old) (after_leaving returned.now result) self.new }
     {
-        match answer {
+        match returned {
             Ok(_) => self.close(opened, left),
             Err(error) => {
                 self.untag();
-                self.fail_within(left.kept.unwrap_or(*error), left)
+                self.fail_within(left.failed.unwrap_or(*error), left)
             }
         }
     }
 
-    // Goes on behind an element whose contents a callback read, and left like this.
+    // Goes on after an element whose contents a callback read, and left like this.
     #[inline(always)]
     fn close(&mut self, opened: &Opened<'a>, left: &ReaderState<'a>) -> ASN1Result<()>
-        ensures { Left opened.now.end opened.now.within left.now.kept left.now.left (Ok tt) (untagged self.old) result self.new }
+        ensures { Left opened.now.end opened.now.contents left.now.failed left.now.left (Ok tt) (untagged self.old) result self.new }
     {
         self.untag();
-        if let Some(error) = left.kept {
+        if let Some(error) = left.failed {
             return self.fail_within(error, left);
         }
         match close_from(opened, left.cursor.left.len()) {
@@ -125,21 +125,21 @@ impl<'a> ReaderState<'a> {
         }
     }
 
-    // Keeps a failure, which was found where the reading of an element's contents stands, and answers it.
+    // Keeps a failure, which was found where the reading of an element's contents is there, and returns it.
     #[inline(always)]
     fn fail_within<T>(&mut self, error: ASN1Error, contents: &ReaderState<'a>) -> ASN1Result<T>
         ensures { Fails error self.old result self.new }
     {
-        self.stand_within(contents);
+        self.set_place_in(contents);
         self.fail(error)
     }
 
-    // Keeps a failure, and answers it.
+    // Keeps a failure, and returns it.
     #[inline(always)]
     pub(crate) fn fail<T>(&mut self, error: ASN1Error) -> ASN1Result<T>
         ensures { Fails error self.old result self.new }
     {
-        self.kept = Some(error);
+        self.failed = Some(error);
         Err(error)
     }
 }

@@ -20,8 +20,8 @@ impl<'a> ReaderState<'a> {
 
     /// Reads a SEQUENCE OF (X.690, 8.10): the callback reads one element each time that it is called.
     ///
-    /// It is called until its Err moves nothing; the list is to end there. `StackOverflow` and `OutOfMemory` end no list:
-    /// they are kept. Where the callback answers Ok and took nothing, that is `Invalid`, and kept.
+    /// It is called until its Err consumes nothing; the list is to end there. `StackOverflow` and `OutOfMemory` end no list:
+    /// they are sticky. Where the callback returns Ok and took nothing, that is `Invalid`, and sticky.
     #[inline(always)]
     #[tactic(auto, using(crate::proofs::ListTurns::visits_any))]
     pub fn read_sequence_of<F>(&mut self, f: F) -> ASN1Result<()>
@@ -33,9 +33,9 @@ impl<'a> ReaderState<'a> {
         self.read_list(TAG_SEQUENCE, Order::Any, f)
     }
 
-    /// Reads a SEQUENCE OF as `read_sequence_of` does, into a vector of what the callback answered, in order.
+    /// Reads a SEQUENCE OF as `read_sequence_of` does, into a vector of what the callback returned, in order.
     ///
-    /// Answers `OutOfMemory` besides, and keeps it, where there is no memory for the vector.
+    /// Returns `OutOfMemory` besides, and keeps it, where there is no memory for the vector.
     #[inline(always)]
     #[tactic(auto, using(crate::proofs::ListTurns::collects_any))]
     pub fn collect_sequence_of<T: Drop, F>(&mut self, f: F) -> ASN1Result<Vec<T>>
@@ -57,10 +57,10 @@ impl<'a> ReaderState<'a> {
         ensures { ReadsParts (VisitsInOrder order (CalledAtMut F.FnMut) f) tag self.old result self.new }
     {
         let opened = self.step_in(tag)?;
-        let mut contents = self.within(&opened);
-        let answer = contents.visit(order, f);
-        self.leave(&opened, &answer, &contents)?;
-        answer
+        let mut contents = self.contents_reader(&opened);
+        let returned = contents.visit(order, f);
+        self.leave(&opened, &returned, &contents)?;
+        returned
     }
 
     // Reads such a list into a vector.
@@ -78,10 +78,10 @@ impl<'a> ReaderState<'a> {
         ensures { ReadsParts (CollectsInOrder order (CalledAtMut F.FnMut) f) tag self.old result self.new }
     {
         let opened = self.step_in(tag)?;
-        let mut contents = self.within(&opened);
-        let answer = contents.collect(order, f);
-        self.leave(&opened, &answer, &contents)?;
-        answer
+        let mut contents = self.contents_reader(&opened);
+        let returned = contents.collect(order, f);
+        self.leave(&opened, &returned, &contents)?;
+        returned
     }
 
     // Calls a callback until it gives no value.
@@ -96,10 +96,10 @@ impl<'a> ReaderState<'a> {
         let mut bound = first_bound(order, self.cursor.mode);
         loop {
             let before = self.cursor;
-            let answer = self.call(&mut f);
-            match self.turned(before, &answer, &mut bound) {
-                Outcome::Gave(()) => {}
-                Outcome::Quiet(_) => return Ok(()),
+            let returned = self.call(&mut f);
+            match self.turned(before, &returned, &mut bound) {
+                Outcome::Matched(()) => {}
+                Outcome::NoMatch(_) => return Ok(()),
                 Outcome::Failed(error) => return Err(error),
             }
         }
@@ -118,13 +118,13 @@ impl<'a> ReaderState<'a> {
         let mut bound = first_bound(order, self.cursor.mode);
         loop {
             let before = self.cursor;
-            let answer = self.call(&mut f);
-            match self.turned(before, &answer, &mut bound) {
-                Outcome::Gave(()) => {}
-                Outcome::Quiet(_) => return Ok(items),
+            let returned = self.call(&mut f);
+            match self.turned(before, &returned, &mut bound) {
+                Outcome::Matched(()) => {}
+                Outcome::NoMatch(_) => return Ok(items),
                 Outcome::Failed(error) => return Err(error),
             }
-            if items.push(answer?).is_err() {
+            if items.push(returned?).is_err() {
                 return self.fail(ASN1Error::new(ASN1ErrorKind::OutOfMemory));
             }
         }
@@ -141,31 +141,31 @@ impl<'a> ReaderState<'a> {
         f(self)
     }
 
-    // What a turn of a list's callback came to that began here and gave this answer, where no element may be less than the bound, which
+    // What a turn of a list's callback came to that began here and gave this result, where no element may be less than the bound, which
     // becomes the element. The answer stays where it is: a list's elements may be large.
     #[inline(always)]
     fn turned<T>(
         &mut self,
         before: Cursor<'a>,
-        answer: &ASN1Result<T>,
+        returned: &ASN1Result<T>,
         bound: &mut Option<&'a [u8]>,
     ) -> Outcome<()>
-        ensures { TurnsOutInOrder (bound_bytes bound.old) (at_cursor before.entry) answer.now self.old result (bound_bytes bound.new) self.new }
+        ensures { TurnsOutInOrder (bound_bytes bound.old) (at_cursor before.entry) returned.now self.old result (bound_bytes bound.new) self.new }
     {
-        let outcome = self.take_turn(before, answer);
+        let outcome = self.take_turn(before, returned);
         self.in_order(before.left, outcome, bound)
     }
 
-    // What a turn came to that began here, and whose callback gave this answer.
+    // What a turn came to that began here, and whose callback gave this result.
     #[inline(always)]
-    fn take_turn<T>(&mut self, before: Cursor<'a>, answer: &ASN1Result<T>) -> Outcome<()>
-        ensures { WithSome (λ o. TurnsOut (at_cursor before.entry) answer.now self.old o self.new) result }
+    fn take_turn<T>(&mut self, before: Cursor<'a>, returned: &ASN1Result<T>) -> Outcome<()>
+        ensures { WithSome (λ o. TurnsOut (at_cursor before.entry) returned.now self.old o self.new) result }
     {
-        let outcome = self.look_back(before, answer);
-        if let Outcome::Gave(()) = outcome
+        let outcome = self.look_back(before, returned);
+        if let Outcome::Matched(()) = outcome
             && before.left.len() <= self.cursor.left.len()
         {
-            return self.failed(ASN1Error::new(ASN1ErrorKind::Invalid));
+            return self.fail_outcome(ASN1Error::new(ASN1ErrorKind::Invalid));
         }
         outcome
     }

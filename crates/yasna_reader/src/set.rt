@@ -58,7 +58,7 @@ impl<S, L: Choose<S>> Chosen<S, L> {
     /// The reading of the first element left that has one of these tags. It sees that element alone, which is gone then,
     /// even if it is never read.
     ///
-    /// Answers `Invalid` where there is none: this isn't kept.
+    /// Returns `Invalid` where there is none: this isn't sticky.
     pub fn next(&mut self, tags: &[Tag]) -> ASN1Result<&mut S>
         ensures* lends { sem 𝓛 (LendsChosen S.row L.row (λ l s r k t. L.chooses l s tags.now r k t) self.entry result) }
     {
@@ -85,7 +85,7 @@ impl<S, L: Choose<S>> Chosen<S, L> {
 /// ```
 pub type BERReaderSet<'a, 'b> = Chosen<ReaderState<'a>, VecDeque<SetElement<'a>>>;
 
-// Where the first element stands that has one of these tags.
+// Where the first element is there that has one of these tags.
 #[tactic(auto, using(crate::proofs::SetChoosing::among_more, crate::proofs::SetChoosing::among_here, crate::proofs::SetChoosing::among_end))]
 fn first_among(list: &VecDeque<SetElement<'_>>, tags: &[Tag]) -> Option<usize>
     ensures { MatchOption result (NoneIsAmong tags.now list.now.items) (λ i. IsFirstAmong tags.now list.now.items i) }
@@ -106,7 +106,7 @@ fn is_among(tags: &[Tag], element: &SetElement<'_>) -> bool
     tags.contains(&element.tag)
 }
 
-// Takes the element that stands at this place.
+// Takes the element that is at this place.
 #[inline(always)]
 fn take<'a>(list: &mut VecDeque<SetElement<'a>>, place: usize) -> SetElement<'a>
     requires { place < deque_len list.old }
@@ -115,12 +115,12 @@ fn take<'a>(list: &mut VecDeque<SetElement<'a>>, place: usize) -> SetElement<'a>
     if place == 0 {
         return list.pop_front().unwrap();
     }
-    take_behind(list, place)
+    take_after(list, place)
 }
 
 // The same of one that isn't in front: those on its shorter side move.
 #[inline(never)]
-fn take_behind<'a>(list: &mut VecDeque<SetElement<'a>>, place: usize) -> SetElement<'a>
+fn take_after<'a>(list: &mut VecDeque<SetElement<'a>>, place: usize) -> SetElement<'a>
     requires { place < deque_len list.old }
     ensures { (result ≡ slice_index_or list.old.items place result) × (list.new.items ≡ remove list.old.items place) }
 {
@@ -132,10 +132,10 @@ impl<'a> Choose<ReaderState<'a>> for VecDeque<SetElement<'a>> {
 
     ghost chooses = { λ l s ts r k t. Chooses l.items s ts r k.items t };
 
-    #[tactic(auto, using(crate::proofs::SetChoosing::chose, crate::proofs::SetChoosing::chose_none, crate::proofs::SetChoosing::chose_kept))]
+    #[tactic(auto, using(crate::proofs::SetChoosing::chose, crate::proofs::SetChoosing::chose_none, crate::proofs::SetChoosing::chose_sticky))]
     fn choose(&mut self, tags: &[Tag], state: &mut ReaderState<'a>) -> ASN1Result<()> {
         state.untag();
-        if let Some(error) = state.kept {
+        if let Some(error) = state.failed {
             return Err(error);
         }
         match first_among(self, tags) {
@@ -182,7 +182,7 @@ fn is_in_order(mode: BERMode, list: &[SetElement<'_>]) -> bool
     }
 }
 
-// The elements that stand one after the other, and what is left behind them.
+// The elements that are one after the other, and what is left behind them.
 fn list_elements<'a>(
     alloc: Global,
     cursor: Cursor<'a>,
@@ -204,9 +204,9 @@ fn list_elements<'a>(
                 }
                 here = here.further(rest);
             }
-            Err(refusal) => {
-                if refusal.moved {
-                    return Err(refusal.kind);
+            Err(rejection) => {
+                if rejection.consumed {
+                    return Err(rejection.kind);
                 }
                 return Ok((list, here.left));
             }
@@ -214,11 +214,14 @@ fn list_elements<'a>(
     }
 }
 
-// What is answered where a callback left these elements.
-fn answer_of_all<T: Drop>(answer: ASN1Result<T>, others: &VecDeque<SetElement<'_>>) -> ASN1Result<T>
-    ensures { result ≡ all_taken answer others.now.items }
+// What is returned where a callback left these elements.
+fn returned_of_all<T: Drop>(
+    returned: ASN1Result<T>,
+    others: &VecDeque<SetElement<'_>>,
+) -> ASN1Result<T>
+    ensures { result ≡ all_taken returned others.now.items }
 {
-    match answer {
+    match returned {
         Ok(value) => match others.front() {
             None => Ok(value),
             _ => Err(ASN1Error::new(ASN1ErrorKind::Invalid)),
@@ -248,7 +251,7 @@ impl<'a> ReaderState<'a> {
     ///
     /// All elements are found before the callback is called: they are raw elements up to an end, and in DER and CER their
     /// tags don't fall (10.3 and 9.3), else `Invalid`. The callback is to take all of them, else `Invalid`. What goes wrong in it is
-    /// kept, whatever it answers: later calls answer it.
+    /// kept, whatever it returns: later calls return it.
     #[inline(always)]
     #[tactic(auto, using(crate::proofs::Sequences::stepped_in, crate::proofs::Sequences::stayed_out))]
     pub fn read_set<T: Drop, F>(&mut self, f: F) -> ASN1Result<T>
@@ -258,13 +261,13 @@ impl<'a> ReaderState<'a> {
         ensures { ReadsParts (RunsOnSet F.FnOnce f) set_tag self.old result self.new }
     {
         let opened = self.step_in(TAG_SET)?;
-        let mut contents = self.within(&opened);
-        let answer = contents.run_on_set(f);
-        self.leave(&opened, &answer, &contents)?;
-        answer
+        let mut contents = self.contents_reader(&opened);
+        let returned = contents.run_on_set(f);
+        self.leave(&opened, &returned, &contents)?;
+        returned
     }
 
-    // Runs a callback on the elements that stand here.
+    // Runs a callback on the elements that are here.
     #[inline(always)]
     fn run_on_set<T: Drop, F>(&mut self, f: F) -> ASN1Result<T>
     where
@@ -279,16 +282,16 @@ impl<'a> ReaderState<'a> {
                     reader: self.emptied(),
                     list,
                 };
-                let answer = run(f, &mut set);
+                let returned = run(f, &mut set);
                 let Chosen { reader, list } = set;
-                self.pass(rest, &reader, &list, answer.is_err());
-                answer_of_all(answer, &list)
+                self.pass(rest, &reader, &list, returned.is_err());
+                returned_of_all(returned, &list)
             }
             Err(kind) => self.fail(ASN1Error::new(kind)),
         }
     }
 
-    // The elements that stand here, where they are in the order that the mode asks, and what is left behind them.
+    // The elements that are here, where they are in the order that the mode asks, and what is left behind them.
     fn list_set(&self) -> Result<(VecDeque<SetElement<'a>>, &'a [u8]), ASN1ErrorKind>
         ensures { SetListAt self.now.levels self.now.mode self.now.left result }
     {
@@ -312,29 +315,29 @@ impl<'a> ReaderState<'a> {
         ReaderState {
             cursor: self.cursor.further(&[]),
             tag: None,
-            kept: None,
+            failed: None,
             deeper: 0,
             alloc: self.alloc,
         }
     }
 
-    // Goes on with this rest, and keeps the failure that was kept there. A failure stands where that reading does, or at the first of the
+    // Goes on with this rest, and keeps the sticky error there. A failure is where that reading does, or at the first of the
     // elements that are left.
     fn pass(
         &mut self,
         rest: &'a [u8],
         reader: &ReaderState<'a>,
         others: &VecDeque<SetElement<'a>>,
-        failed: bool,
+        has_failed: bool,
     )
-        ensures { self.new ≡ record self.old { left = rest.now; kept = reader.now.kept } }
+        ensures { self.new ≡ record self.old { left = rest.now; failed = reader.now.failed } }
     {
         self.cursor.left = rest;
-        self.kept = reader.kept;
-        if failed || self.kept.is_some() {
-            self.stand_at(reader.place_of_failure(), reader.deeper);
+        self.failed = reader.failed;
+        if has_failed || self.failed.is_some() {
+            self.set_place(reader.place_of_error(), reader.deeper);
         } else if let Some(first) = others.front() {
-            self.stand_at(first.end.saturating_sub(first.bytes.len()), 0);
+            self.set_place(first.end.saturating_sub(first.bytes.len()), 0);
         }
     }
 
@@ -342,7 +345,7 @@ impl<'a> ReaderState<'a> {
     fn turn_to(&mut self, element: SetElement<'a>)
         ensures { self.new ≡ record self.old { left = element.entry.bytes.now; tag = None } }
     {
-        self.cursor = self.cursor.alone(element.bytes, element.end);
+        self.cursor = self.cursor.for_element(element.bytes, element.end);
         self.tag = None;
     }
 }

@@ -10,7 +10,7 @@ use yasna_base::bytes::order::compare_octets;
 use yasna_base::error::{ASN1Error, ASN1ErrorKind, ASN1Result};
 use yasna_base::mode::BERMode;
 use yasna_base::tags::TAG_SET;
-use yasna_bytes::bytes::walk::in_front;
+use yasna_bytes::bytes::walk::prefix_before;
 
 /// How the elements of a list are to follow each other.
 #[derive(Clone, Copy)]
@@ -55,7 +55,7 @@ impl<'a> ReaderState<'a> {
     /// Reads a SET OF (X.690, 8.12): the callback reads one element each time that it is called.
     ///
     /// It is called as that of `read_sequence_of` is. In DER and CER an element whose bytes are less than those of the one before is
-    /// `Invalid`, and that is kept (11.6).
+    /// `Invalid`, and that is sticky (11.6).
     #[inline(always)]
     pub fn read_set_of<F>(&mut self, f: F) -> ASN1Result<()>
     where
@@ -66,9 +66,9 @@ impl<'a> ReaderState<'a> {
         self.read_list(TAG_SET, Order::Ascending, f)
     }
 
-    /// Reads a SET OF as `read_set_of` does, into a vector of what the callback answered, in order.
+    /// Reads a SET OF as `read_set_of` does, into a vector of what the callback returned, in order.
     ///
-    /// Answers `OutOfMemory` besides, and keeps it, where there is no memory for the vector.
+    /// Returns `OutOfMemory` besides, and keeps it, where there is no memory for the vector.
     #[inline(always)]
     pub fn collect_set_of<T: Drop, F>(&mut self, f: F) -> ASN1Result<Vec<T>>
     where
@@ -90,11 +90,11 @@ impl<'a> ReaderState<'a> {
         requires { IsRest before.now self.old.left }
         ensures { Ordered (bound_bytes bound.old) before.now outcome self.old result (bound_bytes bound.new) self.new }
     {
-        if let (Outcome::Gave(_), Some(least)) = (&outcome, *bound) {
-            let element = in_front(before, self.cursor.left);
+        if let (Outcome::Matched(_), Some(least)) = (&outcome, *bound) {
+            let element = prefix_before(before, self.cursor.left);
             if goes_before(element, least) {
-                self.stand_at(self.place_before(before.len()), 0);
-                return self.failed(ASN1Error::new(ASN1ErrorKind::Invalid));
+                self.set_place(self.place_before(before.len()), 0);
+                return self.fail_outcome(ASN1Error::new(ASN1ErrorKind::Invalid));
             }
             *bound = Some(element);
         }

@@ -1,4 +1,4 @@
-//! Reads of a SET's elements that may be left out: OPTIONAL and DEFAULT (X.690, 8.11.3 and 11.5). Users call them on the elements
+//! Reads of a SET's elements that may be omitted: OPTIONAL and DEFAULT (X.690, 8.11.3 and 11.5). Users call them on the elements
 //! that the callback of `read_set` is handed.
 
 use crate::callback::Outcome;
@@ -10,38 +10,38 @@ use yasna_base::tag::Tag;
 
 impl<'a> ReaderState<'a> {
     ghost use Rattle.std.specs.Fn.{FnOnceTakesAtMut, FnOnceReturnsAtMut};
-    ghost use Rattle.yasna_reader.specs.SetOptional.{DefaultsChosen, ReadsAlone};
+    ghost use Rattle.yasna_reader.specs.SetOptional.{DefaultsChosen, ReadsSingle};
 
     // Lets a callback read all that is left here, and keeps what fails.
     #[inline(always)]
-    fn read_alone<T: Drop, F>(&mut self, f: F) -> ASN1Result<T>
+    fn read_single<T: Drop, F>(&mut self, f: F) -> ASN1Result<T>
     where
         F: FnOnce(BERReader<'a, '_>) -> ASN1Result<T>,
         requires { FnOnceTakesAtMut F.FnOnce f self.old }
-        ensures { ReadsAlone (FnOnceReturnsAtMut F.FnOnce f) self.old result self.new }
+        ensures { ReadsSingle (FnOnceReturnsAtMut F.FnOnce f) self.old result self.new }
     {
         match self.hand(f) {
-            Outcome::Gave(value) => {
+            Outcome::Matched(value) => {
                 if self.cursor.left.is_empty() {
                     Ok(value)
                 } else {
                     self.fail(ASN1Error::new(ASN1ErrorKind::Extra))
                 }
             }
-            Outcome::Quiet(error) | Outcome::Failed(error) => self.fail(error),
+            Outcome::NoMatch(error) | Outcome::Failed(error) => self.fail(error),
         }
     }
 
-    // What is read where a set's read of an element that may be left out gave this answer, and this is the default.
+    // What is read where a set's read of an element that may be omitted gave this result, and this is the default.
     #[inline(always)]
     fn chosen_or_default<T: Eq + Drop>(
         &mut self,
-        answer: ASN1Result<Option<T>>,
+        returned: ASN1Result<Option<T>>,
         default: T,
     ) -> ASN1Result<T>
-        ensures { DefaultsChosen T.eq default answer self.old result self.new }
+        ensures { DefaultsChosen T.eq default returned self.old result self.new }
     {
-        match answer {
+        match returned {
             Ok(Some(value)) => self.unless_default(self.place(), value, default, true),
             Ok(None) => Ok(default),
             Err(error) => Err(error),
@@ -56,7 +56,7 @@ impl<'a> Chosen<ReaderState<'a>, VecDeque<SetElement<'a>>> {
     /// Reads the first element left that has one of these tags. It is gone then.
     ///
     /// None where there is none. The callback is handed that element alone, and is to read all of it, else `Extra` is
-    /// answered. Each Err of the callback is kept and answered, one that moved nothing too, since the element is gone.
+    /// returned. Each Err of the callback is sticky and returned, one that consumed nothing too, since the element is gone.
     #[inline(always)]
     pub fn read_optional<T: Drop, F>(&mut self, tags: &[Tag], f: F) -> ASN1Result<Option<T>>
     where
@@ -66,10 +66,10 @@ impl<'a> Chosen<ReaderState<'a>, VecDeque<SetElement<'a>>> {
     {
         match self.list.choose(tags, &mut self.reader) {
             Ok(()) => {
-                let value = self.reader.read_alone(f)?;
+                let value = self.reader.read_single(f)?;
                 Ok(Some(value))
             }
-            Err(error) => match self.reader.kept {
+            Err(error) => match self.reader.failed {
                 Some(_) => Err(error),
                 None => Ok(None),
             },
@@ -78,7 +78,7 @@ impl<'a> Chosen<ReaderState<'a>, VecDeque<SetElement<'a>>> {
 
     /// Reads such an element, which is the default where there is none, as `read_optional` does.
     ///
-    /// In DER and CER an element that equals the default is refused as `Invalid`, and this is kept (X.690, 11.5).
+    /// In DER and CER an element that equals the default is rejected as `Invalid`, and this is sticky (X.690, 11.5).
     #[inline(always)]
     pub fn read_default<T: Eq + Drop, F>(&mut self, tags: &[Tag], default: T, f: F) -> ASN1Result<T>
     where
@@ -86,7 +86,7 @@ impl<'a> Chosen<ReaderState<'a>, VecDeque<SetElement<'a>>> {
         requires { TakesChosen F.FnOnce f tags.now self.old }
         ensures { ReadsChosenDefault (FnOnceReturnsAtMut F.FnOnce f) T.eq default tags.now self.old result self.new }
     {
-        let answer = self.read_optional(tags, f);
-        self.reader.chosen_or_default(answer, default)
+        let returned = self.read_optional(tags, f);
+        self.reader.chosen_or_default(returned, default)
     }
 }

@@ -1,4 +1,4 @@
-//! The state of a reading: what is left, the tag that waits (X.690, 8.14) and the failure that was kept; and what the calls on it
+//! The state of a reading: what is left, the tag that waits (X.690, 8.14) and the sticky error; and what the calls on it
 //! share. Each other module adds reads to it.
 ghost use Rattle.std.specs.Prelude.{◌≡◌};
 
@@ -8,9 +8,9 @@ use yasna_base::error::{ASN1Error, ASN1Result};
 use yasna_base::mode::BERMode;
 use yasna_base::tag::Tag;
 use yasna_bytes::bytes::cursor::Cursor;
-use yasna_bytes::bytes::header::Refusal;
+use yasna_bytes::bytes::header::Rejection;
 
-/// A reading of bytes: where it stands, by which rules it reads, and what went wrong.
+/// A reading of bytes: where it is, by which rules it reads, and what went wrong.
 ///
 /// Users name it `BERReader`.
 #[derive(Drop)]
@@ -18,8 +18,8 @@ pub struct ReaderState<'a> {
     pub(crate) cursor: Cursor<'a>,
     // the implicit tag of the next element
     pub(crate) tag: Option<Tag>,
-    pub(crate) kept: Option<ASN1Error>,
-    // how many elements there are around the failure that was kept, besides those around this reading
+    pub(crate) failed: Option<ASN1Error>,
+    // how many elements there are around the sticky error, besides those around this reading
     pub(crate) deeper: u8,
     pub(crate) alloc: Global,
 }
@@ -29,13 +29,13 @@ impl<'a> Model for ReaderState<'a> {
 
     ghost Value = { Reading };
 
-    ghost view = { λ s. record { left = s.cursor.left.now; mode = s.cursor.mode; levels = s.cursor.levels; tag = s.tag; kept = s.kept } };
+    ghost view = { λ s. record { left = s.cursor.left.now; mode = s.cursor.mode; levels = s.cursor.levels; tag = s.tag; failed = s.failed } };
 }
 
 impl<'a> ReaderState<'a> {
     ghost use Rattle.std.specs.Prelude.{◌≡◌};
     ghost use Rattle.yasna_reader.specs.State.{starts, tag_of, untagged};
-    ghost use Rattle.yasna_reader.specs.Primitive.{Settles};
+    ghost use Rattle.yasna_reader.specs.Primitive.{Commits};
 
     /// By which rules this reading reads.
     pub fn mode(&self) -> BERMode
@@ -51,16 +51,16 @@ impl<'a> ReaderState<'a> {
         ReaderState {
             cursor: Cursor::start(buf, mode),
             tag: None,
-            kept: None,
+            failed: None,
             deeper: 0,
             alloc,
         }
     }
 
-    // The tag that the next element is to have, where its type's own is this one. The one that waits is made anew, so that what stands
+    // The tag that the next element is to have, where its type's own is this one. The one that waits is made anew, so that what is
     // between its fields isn't read back from memory.
     #[inline(always)]
-    pub(crate) fn wanted(&self, tag: Tag) -> Tag
+    pub(crate) fn expected(&self, tag: Tag) -> Tag
         ensures { result ≡ tag_of self.now tag }
     {
         match self.tag {
@@ -87,22 +87,25 @@ impl<'a> ReaderState<'a> {
         }
     }
 
-    // Takes what was found at the front, or keeps the refusal where it moved. What moved nothing leaves the reading as it was.
+    // Takes what was found at the start, or keeps the error where it consumed input. What consumed nothing leaves the reading as it was.
     #[inline(always)]
-    pub(crate) fn settle<T: Drop>(&mut self, front: Result<(T, &'a [u8]), Refusal>) -> ASN1Result<T>
-        ensures { Settles self.old front.entry result self.new }
+    pub(crate) fn commit<T: Drop>(
+        &mut self,
+        parsed: Result<(T, &'a [u8]), Rejection>,
+    ) -> ASN1Result<T>
+        ensures { Commits self.old parsed.entry result self.new }
     {
-        match front {
+        match parsed {
             Ok((value, rest)) => {
                 self.tag = None;
                 self.cursor.left = rest;
                 Ok(value)
             }
-            Err(refusal) => {
-                let error = ASN1Error::new(refusal.kind);
-                if refusal.moved {
+            Err(rejection) => {
+                let error = ASN1Error::new(rejection.kind);
+                if rejection.consumed {
                     self.tag = None;
-                    self.kept = Some(error);
+                    self.failed = Some(error);
                 }
                 Err(error)
             }
@@ -112,16 +115,16 @@ impl<'a> ReaderState<'a> {
 
 /// The reading of one element.
 ///
-/// Each read takes what it reads off the front. Where nothing is left (`Eof`), or an element of another tag stands there
-/// (`Invalid`), it leaves the reading as it was, and an implicit tag that waits too. Any other failure of a read is kept: each later
-/// call answers it, and so does the parse around it, whatever callbacks answer. Such are
+/// Each read takes what it reads off the front. Where nothing is left (`Eof`), or an element of another tag is there
+/// (`Invalid`), it leaves the reading as it was, and an implicit tag that waits too. Any other failure of a read is sticky: each later
+/// call returns it, and so does the parse around it, whatever callbacks return. Such are
 ///
 /// - `Eof` where a header or contents end early,
 /// - `Invalid` for a header or contents that the mode doesn't take,
 /// - `IntegerOverflow` for a tag number or a position past 2^64-1,
 /// - `Extra` for what is left of contents whose length is counted,
 /// - `StackOverflow` for an element on level 102,
-/// - `OutOfMemory` where there is no memory for what it answers;
+/// - `OutOfMemory` where there is no memory for what it returns;
 ///
 /// what contents and callbacks add is said with each read.
 ///
@@ -141,11 +144,11 @@ pub type BERReader<'a, 'b> = &'b mut ReaderState<'a>;
 
 /// The contents of a constructed element, which holds the reading of them.
 #[derive(Drop)]
-pub struct Parts<S> {
+pub struct PartsReader<S> {
     pub(crate) reader: S,
 }
 
-impl<S> Parts<S> {
+impl<S> PartsReader<S> {
     ghost use Rattle.std.specs.Borrow.{sem};
     ghost use Rattle.yasna_reader.specs.State.{LendsReader, part_of};
 
@@ -170,9 +173,9 @@ impl<S> Parts<S> {
 ///     })
 /// }
 /// ```
-pub type BERReaderSeq<'a, 'b> = Parts<ReaderState<'a>>;
+pub type BERReaderSeq<'a, 'b> = PartsReader<ReaderState<'a>>;
 
-impl<'a> Parts<ReaderState<'a>> {
+impl<'a> PartsReader<ReaderState<'a>> {
     ghost use Rattle.std.specs.Prelude.{◌≡◌};
     ghost use Rattle.yasna_reader.specs.State.{part_of};
 

@@ -14,7 +14,7 @@ use yasna_base::tags::{
     TAG_BITSTRING, TAG_BMPSTRING, TAG_IA5STRING, TAG_NUMERICSTRING, TAG_OCTETSTRING,
     TAG_PRINTABLESTRING, TAG_UTF8STRING, TAG_VISIBLESTRING,
 };
-use yasna_bytes::bytes::header::Refusal;
+use yasna_bytes::bytes::header::Rejection;
 use yasna_bytes::bytes::segments::{bit_string, octet_string};
 use yasna_bytes::bytes::text::{Class, Judge, string_of};
 
@@ -22,69 +22,69 @@ impl<'a> ReaderState<'a> {
     ghost use Rattle.yasna_base.specs.Bits.{IsBits, IsDeepBits};
     ghost use Rattle.yasna_base.specs.Octets.{IsOctets, IsDeepOctets};
     ghost use Rattle.yasna_base.specs.Text.{InUtf8, InNumeric, InPrintable, InIa5, InVisible, IsUtf8In, IsBmp, IsStringOf, characters};
-    ghost use Rattle.yasna_bytes.specs.Contents.{WantsMemory};
-    ghost use Rattle.yasna_reader.specs.Primitive.{ReadsSeen, FrontOf};
+    ghost use Rattle.yasna_bytes.specs.Contents.{MayAllocate};
+    ghost use Rattle.yasna_reader.specs.Primitive.{ReadsSeen, ParsesAs};
     ghost use Rattle.yasna_bytes.specs.Segments.{bits_in};
 
-    /// Reads OCTET STRING (X.690, 8.7): its octets, joined where they stand in segments.
+    /// Reads OCTET STRING (X.690, 8.7): its octets, joined where they are in segments.
     #[inline(always)]
-    #[tactic(auto, using(crate::proofs::Primitives::reads_front, crate::proofs::Primitives::reads_kept))]
+    #[tactic(auto, using(crate::proofs::Primitives::reads_prefix, crate::proofs::Primitives::reads_sticky))]
     pub fn read_bytes(&mut self) -> ASN1Result<Vec<u8>>
-        ensures { ReadsSeen IsOctets (λ v. v.items) IsDeepOctets WantsMemory octets_tag self.old result self.new }
+        ensures { ReadsSeen IsOctets (λ v. v.items) IsDeepOctets MayAllocate octets_tag self.old result self.new }
     {
-        if let Some(error) = self.kept {
+        if let Some(error) = self.failed {
             return Err(error);
         }
-        let front = self.octets(TAG_OCTETSTRING);
-        self.settle(front)
+        let parsed = self.octets(TAG_OCTETSTRING);
+        self.commit(parsed)
     }
 
     /// Reads BIT STRING (X.690, 8.6): its bytes, the first bit the highest of the first byte, and how many bits there are.
     ///
-    /// In BER the unused bits of the last byte are answered as they stand there; in DER and CER any but zeros are `Invalid` (11.2).
+    /// In BER the unused bits of the last byte are returned as they are there; in DER and CER any but zeros are `Invalid` (11.2).
     /// So is a count of unused bits that the last byte doesn't have.
     #[inline(always)]
-    #[tactic(auto, using(crate::proofs::Primitives::reads_front, crate::proofs::Primitives::reads_kept))]
+    #[tactic(auto, using(crate::proofs::Primitives::reads_prefix, crate::proofs::Primitives::reads_sticky))]
     pub fn read_bitvec_bytes(&mut self) -> ASN1Result<(Vec<u8>, usize)>
-        ensures { ReadsSeen IsBits bits_in IsDeepBits WantsMemory bits_tag self.old result self.new }
+        ensures { ReadsSeen IsBits bits_in IsDeepBits MayAllocate bits_tag self.old result self.new }
     {
-        if let Some(error) = self.kept {
+        if let Some(error) = self.failed {
             return Err(error);
         }
-        let front = self.bits(TAG_BITSTRING);
-        self.settle(front)
+        let parsed = self.bits(TAG_BITSTRING);
+        self.commit(parsed)
     }
 
     /// Reads UTF8String (X.690, 8.23.10). Octets that aren't UTF-8 are `Invalid`, once all segments are joined.
     #[inline(always)]
     pub fn read_utf8string(&mut self) -> ASN1Result<String>
-        ensures { ReadsSeen (IsStringOf (IsUtf8In InUtf8)) characters IsDeepOctets WantsMemory utf8_tag self.old result self.new }
+        ensures { ReadsSeen (IsStringOf (IsUtf8In InUtf8)) characters IsDeepOctets MayAllocate utf8_tag self.old result self.new }
     {
-        self.read_said(TAG_UTF8STRING, Class::Utf8)
+        self.read_judged(TAG_UTF8STRING, Class::Utf8)
     }
 
     /// Reads NumericString (X.680, 41): digits and space. Any other octet is `Invalid`.
     #[inline(always)]
     pub fn read_numeric_string(&mut self) -> ASN1Result<String>
-        ensures { ReadsSeen (IsStringOf (IsUtf8In InNumeric)) characters IsDeepOctets WantsMemory numeric_tag self.old result self.new }
+        ensures { ReadsSeen (IsStringOf (IsUtf8In InNumeric)) characters IsDeepOctets MayAllocate numeric_tag self.old result self.new }
     {
-        self.read_said(TAG_NUMERICSTRING, Class::Numeric)
+        self.read_judged(TAG_NUMERICSTRING, Class::Numeric)
     }
 
     /// Reads PrintableString (X.680, 41): letters, digits, space and `'()+,-./:=?`. Any other octet is `Invalid`.
     #[inline(always)]
     pub fn read_printable_string(&mut self) -> ASN1Result<String>
-        ensures { ReadsSeen (IsStringOf (IsUtf8In InPrintable)) characters IsDeepOctets WantsMemory printable_tag self.old result self.new }
+        ensures { ReadsSeen (IsStringOf (IsUtf8In InPrintable)) characters IsDeepOctets MayAllocate printable_tag self.old result self.new }
     {
-        self.read_said(TAG_PRINTABLESTRING, Class::Printable)
+        self.read_judged(TAG_PRINTABLESTRING, Class::Printable)
     }
 
     /// Reads IA5String (X.680, 41): the characters up to 127. Any other octet is `Invalid`.
     #[inline(always)]
     pub fn read_ia5_string(&mut self) -> ASN1Result<String>
-        ensures { ReadsSeen (IsStringOf (IsUtf8In InIa5)) characters IsDeepOctets WantsMemory ia5_tag self.old result self.new }
+        ensures { ReadsSeen (IsStringOf (IsUtf8In InIa5)) characters IsDeepOctets MayAllocate ia5_tag self.old result self.new }
     {
-        self.read_said(TAG_IA5STRING, Class::Ia5)
+        self.read_judged(TAG_IA5STRING, Class::Ia5)
     }
 
     /// Reads BMPString (X.690, 8.23): units of UTF-16, the high byte of each first. An odd number of octets is `Invalid`.
@@ -92,53 +92,53 @@ impl<'a> ReaderState<'a> {
     /// A surrogate without its partner is read as U+FFFD.
     #[inline(always)]
     pub fn read_bmp_string(&mut self) -> ASN1Result<String>
-        ensures { ReadsSeen (IsStringOf IsBmp) characters IsDeepOctets WantsMemory bmp_tag self.old result self.new }
+        ensures { ReadsSeen (IsStringOf IsBmp) characters IsDeepOctets MayAllocate bmp_tag self.old result self.new }
     {
-        self.read_said(TAG_BMPSTRING, Class::Bmp)
+        self.read_judged(TAG_BMPSTRING, Class::Bmp)
     }
 
     /// Reads VisibleString (X.680, 41): the characters from space to `~`. Any other octet is `Invalid`.
     #[inline(always)]
     pub fn read_visible_string(&mut self) -> ASN1Result<String>
-        ensures { ReadsSeen (IsStringOf (IsUtf8In InVisible)) characters IsDeepOctets WantsMemory visible_tag self.old result self.new }
+        ensures { ReadsSeen (IsStringOf (IsUtf8In InVisible)) characters IsDeepOctets MayAllocate visible_tag self.old result self.new }
     {
-        self.read_said(TAG_VISIBLESTRING, Class::Visible)
+        self.read_judged(TAG_VISIBLESTRING, Class::Visible)
     }
 
     // Reads a string whose octets are judged.
     #[inline(always)]
-    #[tactic(auto, using(crate::proofs::Primitives::reads_front, crate::proofs::Primitives::reads_kept))]
-    pub(crate) fn read_said<J: Judge>(&mut self, tag: Tag, judge: J) -> ASN1Result<J::Value>
-        ensures { ReadsSeen (IsStringOf (J.says judge)) J.view IsDeepOctets WantsMemory tag self.old result self.new }
+    #[tactic(auto, using(crate::proofs::Primitives::reads_prefix, crate::proofs::Primitives::reads_sticky))]
+    pub(crate) fn read_judged<J: Judge>(&mut self, tag: Tag, judge: J) -> ASN1Result<J::Value>
+        ensures { ReadsSeen (IsStringOf (J.encodes judge)) J.view IsDeepOctets MayAllocate tag self.old result self.new }
     {
-        if let Some(error) = self.kept {
+        if let Some(error) = self.failed {
             return Err(error);
         }
-        let front = self.said(tag, judge);
-        self.settle(front)
+        let parsed = self.judged(tag, judge);
+        self.commit(parsed)
     }
 
-    // The string at the front whose octets are judged.
+    // The string at the start whose octets are judged.
     #[inline(always)]
-    fn said<J: Judge>(&self, tag: Tag, judge: J) -> Result<(J::Value, &'a [u8]), Refusal>
-        ensures { FrontOf (IsStringOf (J.says judge)) J.view IsDeepOctets WantsMemory tag self.now result }
+    fn judged<J: Judge>(&self, tag: Tag, judge: J) -> Result<(J::Value, &'a [u8]), Rejection>
+        ensures { ParsesAs (IsStringOf (J.encodes judge)) J.view IsDeepOctets MayAllocate tag self.now result }
     {
-        string_of(self.alloc, self.cursor, self.wanted(tag), judge)
+        string_of(self.alloc, self.cursor, self.expected(tag), judge)
     }
 
-    // The octet string at the front.
+    // The octet string at the start.
     #[inline(always)]
-    fn octets(&self, tag: Tag) -> Result<(Vec<u8>, &'a [u8]), Refusal>
-        ensures { FrontOf IsOctets (λ v. v.items) IsDeepOctets WantsMemory tag self.now result }
+    fn octets(&self, tag: Tag) -> Result<(Vec<u8>, &'a [u8]), Rejection>
+        ensures { ParsesAs IsOctets (λ v. v.items) IsDeepOctets MayAllocate tag self.now result }
     {
-        octet_string(self.alloc, self.cursor, self.wanted(tag))
+        octet_string(self.alloc, self.cursor, self.expected(tag))
     }
 
-    // The bit string at the front.
+    // The bit string at the start.
     #[inline(always)]
-    fn bits(&self, tag: Tag) -> Result<((Vec<u8>, usize), &'a [u8]), Refusal>
-        ensures { FrontOf IsBits bits_in IsDeepBits WantsMemory tag self.now result }
+    fn bits(&self, tag: Tag) -> Result<((Vec<u8>, usize), &'a [u8]), Rejection>
+        ensures { ParsesAs IsBits bits_in IsDeepBits MayAllocate tag self.now result }
     {
-        bit_string(self.alloc, self.cursor, self.wanted(tag))
+        bit_string(self.alloc, self.cursor, self.expected(tag))
     }
 }

@@ -13,8 +13,8 @@ impl<'a> ReaderState<'a> {
 
     /// Reads a constructed element of this tag, explicit tagging (X.690, 8.14): the callback reads the element inside.
     ///
-    /// An implicit tag that waits stands in place of this one. What goes wrong in the callback is kept, whatever it
-    /// answers.
+    /// An implicit tag that waits is in place of this one. What goes wrong in the callback is sticky, whatever it
+    /// returns.
     #[inline(always)]
     #[tactic(auto, using(crate::proofs::Sequences::stepped_in, crate::proofs::Sequences::stayed_out, crate::proofs::Sequences::takes_inside))]
     pub fn read_tagged<T: Drop, F>(&mut self, tag: Tag, f: F) -> ASN1Result<T>
@@ -24,30 +24,30 @@ impl<'a> ReaderState<'a> {
         ensures { ReadsParts (FnOnceReturnsAtMut F.FnOnce f) tag self.old result self.new }
     {
         let opened = self.step_in(tag)?;
-        let mut contents = self.within(&opened);
-        let answer = f(&mut contents);
-        self.leave(&opened, &answer, &contents)?;
-        answer
+        let mut contents = self.contents_reader(&opened);
+        let returned = f(&mut contents);
+        self.leave(&opened, &returned, &contents)?;
+        returned
     }
 
-    /// Lets this tag stand in place of that of the next element that the callback reads, implicit tagging (X.690, 8.14).
+    /// Lets this tag be in place of that of the next element that the callback reads, implicit tagging (X.690, 8.14).
     ///
-    /// An implicit tag that waits already stands in place of this one: the outermost wins. An Err of the callback is kept
-    /// where it moved something, or is `StackOverflow` or `OutOfMemory`; any other leaves the reading as it was, and the tag
+    /// An implicit tag that waits already is in place of this one: the outermost wins. An Err of the callback is sticky
+    /// where it consumed input, or is `StackOverflow` or `OutOfMemory`; any other leaves the reading as it was, and the tag
     /// that waited waits again.
     #[inline(always)]
     pub fn read_tagged_implicit<T: Drop, F>(&mut self, tag: Tag, f: F) -> ASN1Result<T>
     where
         F: FnOnce(BERReader<'a, '_>) -> ASN1Result<T>,
-        requires { self.old.kept ≡ None → FnOnceTakesAtMut F.FnOnce f (reading_under tag self.old) }
+        requires { self.old.failed ≡ None → FnOnceTakesAtMut F.FnOnce f (reading_under tag self.old) }
         ensures { ReadsImplicitly (FnOnceReturnsAtMut F.FnOnce f) tag self.old result self.new }
     {
-        if let Some(error) = self.kept {
+        if let Some(error) = self.failed {
             return Err(error);
         }
-        let value = match self.hand_under(Some(self.wanted(tag)), f) {
-            Outcome::Gave(value) => value,
-            Outcome::Quiet(error) | Outcome::Failed(error) => return Err(error),
+        let value = match self.hand_under(Some(self.expected(tag)), f) {
+            Outcome::Matched(value) => value,
+            Outcome::NoMatch(error) | Outcome::Failed(error) => return Err(error),
         };
         Ok(value)
     }

@@ -4,10 +4,10 @@
 //! is longer than 1000 octets.
 ghost use Rattle.std.specs.Prelude.{IsTrue, ◌↔◌};
 ghost use Rattle.yasna_base.specs.Canonical.{IsCanonicalMode};
-ghost use Rattle.yasna_times.specs.GeneralizedTime.{SaysGeneralizedTime, generalized_time_tag};
+ghost use Rattle.yasna_times.specs.GeneralizedTime.{SpellsGeneralizedTime, generalized_time_tag};
 ghost use Rattle.yasna_times.specs.Models.{DateTime, utc_of, moment_of};
 ghost use Rattle.yasna_times.specs.Moment.{Moment};
-ghost use Rattle.yasna_times.specs.UtcTime.{SaysUtcTime, utc_time_tag};
+ghost use Rattle.yasna_times.specs.UtcTime.{SpellsUtcTime, utc_time_tag};
 
 use crate::state::ReaderState;
 use std::alloc::Global;
@@ -19,7 +19,7 @@ use yasna_times::models::{GeneralizedTime, UTCTime};
 
 // Whether a mode takes the canonical text alone (X.690, 11.7 and 11.8).
 #[inline(always)]
-fn asks_canonical(mode: BERMode) -> bool
+fn requires_canonical(mode: BERMode) -> bool
     ensures { IsTrue result ↔ IsCanonicalMode mode }
 {
     match mode {
@@ -36,11 +36,11 @@ struct UtcText;
 impl Judge for UtcText {
     type Value = UTCTime;
 
-    ghost Said = { DateTime };
+    ghost Seen = { DateTime };
 
     ghost view = { utc_of };
 
-    ghost says = { λ _. SaysUtcTime };
+    ghost encodes = { λ _. SpellsUtcTime };
 
     #[inline(always)]
     fn judge(self, _alloc: Global, mode: BERMode, text: &[u8]) -> Result<UTCTime, ASN1ErrorKind> {
@@ -48,7 +48,7 @@ impl Judge for UtcText {
             Some(utc) => utc,
             None => return Err(ASN1ErrorKind::Invalid),
         };
-        if !asks_canonical(mode) {
+        if !requires_canonical(mode) {
             return Ok(utc);
         }
         if utc.is_canonical(text) {
@@ -66,11 +66,11 @@ struct GeneralText;
 impl Judge for GeneralText {
     type Value = GeneralizedTime;
 
-    ghost Said = { Moment };
+    ghost Seen = { Moment };
 
     ghost view = { moment_of };
 
-    ghost says = { λ _. SaysGeneralizedTime };
+    ghost encodes = { λ _. SpellsGeneralizedTime };
 
     #[inline(always)]
     fn judge(
@@ -87,7 +87,7 @@ impl Judge for GeneralText {
             Ok(None) => return Err(ASN1ErrorKind::Invalid),
             Err(_) => return Err(ASN1ErrorKind::OutOfMemory),
         };
-        if !asks_canonical(mode) {
+        if !requires_canonical(mode) {
             return Ok(time);
         }
         if time.is_canonical(text) {
@@ -101,7 +101,7 @@ impl Judge for GeneralText {
 impl<'a> ReaderState<'a> {
     ghost use Rattle.yasna_base.specs.Octets.{IsDeepOctets};
     ghost use Rattle.yasna_base.specs.Text.{IsStringOf};
-    ghost use Rattle.yasna_bytes.specs.Contents.{WantsMemory};
+    ghost use Rattle.yasna_bytes.specs.Contents.{MayAllocate};
     ghost use Rattle.yasna_reader.specs.Primitive.{ReadsSeen};
 
     /// Reads UTCTime (X.690, 8.26 and 11.8).
@@ -109,9 +109,9 @@ impl<'a> ReaderState<'a> {
     /// In BER any text is taken that `UTCTime::parse` takes, in DER and CER the canonical one alone. Any other is `Invalid`.
     #[inline(always)]
     pub fn read_utctime(&mut self) -> ASN1Result<UTCTime>
-        ensures { ReadsSeen (IsStringOf SaysUtcTime) utc_of IsDeepOctets WantsMemory utc_time_tag self.old result self.new }
+        ensures { ReadsSeen (IsStringOf SpellsUtcTime) utc_of IsDeepOctets MayAllocate utc_time_tag self.old result self.new }
     {
-        self.read_said(TAG_UTCTIME, UtcText)
+        self.read_judged(TAG_UTCTIME, UtcText)
     }
 
     /// Reads GeneralizedTime (X.690, 8.25 and 11.7).
@@ -119,8 +119,8 @@ impl<'a> ReaderState<'a> {
     /// In BER any text is taken that `GeneralizedTime::parse` takes, in DER and CER the canonical one alone. Any other is `Invalid`.
     #[inline(always)]
     pub fn read_generalized_time(&mut self) -> ASN1Result<GeneralizedTime>
-        ensures { ReadsSeen (IsStringOf SaysGeneralizedTime) moment_of IsDeepOctets WantsMemory generalized_time_tag self.old result self.new }
+        ensures { ReadsSeen (IsStringOf SpellsGeneralizedTime) moment_of IsDeepOctets MayAllocate generalized_time_tag self.old result self.new }
     {
-        self.read_said(TAG_GENERALIZEDTIME, GeneralText)
+        self.read_judged(TAG_GENERALIZEDTIME, GeneralText)
     }
 }

@@ -4,11 +4,11 @@ use Rattle.std.proofs.lemmas.Int.{ints}
 use Rattle.jiff.specs.Types.{Date, Time}
 use Rattle.jiff.specs.Words.{IsBetween, days_in_month, IsDate, IsTime, IsYmd, IsHms}
 
-pub kept_8 : (z : ℤ) (n : ℕ) → z ≡ pos n → n < 100 → to_z w8 (of_z w8 z) ≡ pos n
-kept_8 z n e h = ap (λ (x : ℤ). to_z w8 (of_z w8 x)) e ∙ (omega (arith, ints))
+pub round_trip_8 : (z : ℤ) (n : ℕ) → z ≡ pos n → n < 100 → to_z w8 (of_z w8 z) ≡ pos n
+round_trip_8 z n e h = ap (λ (x : ℤ). to_z w8 (of_z w8 x)) e ∙ (omega (arith, ints))
 
-pub kept_16 : (z : ℤ) (n : ℕ) → z ≡ pos n → n < 10000 → to_z w16 (of_z w16 z) ≡ pos n
-kept_16 z n e h = ap (λ (x : ℤ). to_z w16 (of_z w16 x)) e ∙ (omega (arith, ints))
+pub round_trip_16 : (z : ℤ) (n : ℕ) → z ≡ pos n → n < 10000 → to_z w16 (of_z w16 z) ≡ pos n
+round_trip_16 z n e h = ap (λ (x : ℤ). to_z w16 (of_z w16 x)) e ∙ (omega (arith, ints))
 
 between : (a b n : ℕ) → (a ≤ n) × (n ≤ b) → IsBetween (pos a) (pos b) (pos n)
 between a b n h = (omega (arith, ints, h.0), omega (arith, ints, h.1))
@@ -24,7 +24,7 @@ parts_of_time h m s n x e =
 
 -- a part of two digits, on its way to a function that takes one
 pub short_part : (z : ℤ) (n : ℕ) → z ≡ pos n → n < 100 → IsBetween (pos 0) (pos 99) (to_z w8 (of_z w8 z))
-short_part z n e h = subst (IsBetween (pos 0) (pos 99)) (sym (kept_8 z n e h)) (omega (arith, ints, h), omega (arith, ints, h))
+short_part z n e h = subst (IsBetween (pos 0) (pos 99)) (sym (round_trip_8 z n e h)) (omega (arith, ints, h), omega (arith, ints, h))
 
 -- the parts of a time of day have two digits
 pub hour_short : (t : Time) → t.hour < 100

@@ -12,7 +12,7 @@ use Rattle.yasna_base.specs.Canonical.{IsCanonicalMode}
 use Rattle.yasna_base.specs.Digits.{IsBytes}
 use Rattle.yasna_times.specs.Decimal.{AreDigits, HasDigits, two_at, two_digits}
 use Rattle.yasna_times.specs.Fraction.{IsReducedFraction}
-use Rattle.yasna_times.specs.GeneralizedTime.{IsPart, IsZone, IsLayout, IsGeneralClock, IsGeneralText, IsGeneralMoment, SaysGeneralizedTime, is_leap, part_digits, point_digits, clock_digits, general_text}
+use Rattle.yasna_times.specs.GeneralizedTime.{IsPart, IsZone, IsLayout, IsGeneralClock, IsGeneralText, IsGeneralMoment, SpellsGeneralizedTime, is_leap, part_digits, point_digits, clock_digits, general_text}
 use Rattle.yasna_times.specs.Moment.{Moment, moment_at, after_year}
 use Rattle.yasna_base.specs.Text.{IsDigit}
 use Rattle.yasna_times.proofs.Decimal.{two_spelled, two_before, ascii_cons, ascii_two, ascii_bytes}
@@ -83,11 +83,11 @@ has_layout m (c ∷ cs) given h d =
     let f : List ℕ = c ∷ cs in
     let s : List ℕ = text_with m f in
     let n : ℕ = length f in
-    let front : List ℕ = clock_digits m ++ 46 ∷ [] in
+    let prefix : List ℕ = clock_digits m ++ 46 ∷ [] in
     let back : List ℕ = f ++ 90 ∷ [] in
     let some : 0 < n = omega arith in
     let whole : length s ≡ 16 + n = omega (arith, text_length m f, length-append f (90 ∷ [])) in
-    let later : (k : ℕ) → 15 ≤ k → get_or s k 0 ≡ get_or back (k - 15) 0 = λ k le. get_or-append_right front back k 0 le in
+    let later : (k : ℕ) → 15 ≤ k → get_or s k 0 ≡ get_or back (k - 15) 0 = λ k le. get_or-append_right prefix back k 0 le in
     let last : 15 + n - 15 ≡ n = omega arith in
     let zed : get_or s (15 + n) 0 ≡ 90 = later (15 + n) (omega arith) ∙ ap (λ k. get_or back k 0) last ∙ get_or-append_seam f 90 [] 0 in
     record {
@@ -164,9 +164,9 @@ text_clock m h =
     }
 
 -- the canonical text says its moment
-pub general_text_says : (m : Moment) → IsGeneralMoment m → (given : Option ℤ) → IsGeneralText (general_text m) given m
+pub general_text_spells : (m : Moment) → IsGeneralMoment m → (given : Option ℤ) → IsGeneralText (general_text m) given m
 unfolding date_time
-general_text_says m h given =
+general_text_spells m h given =
     let l = has_layout m m.fraction given (short m h) h.digits in
     let second = two_spelled m.second (omega (arith, h.second)) in
     let exact : IsReducedFraction 1 m.fraction 0 m.fraction = record { equation = omega arith; below = omega arith; digits = h.digits; trimmed = h.trimmed } in
@@ -203,20 +203,20 @@ general_ranges s given m t =
     subst IsGeneralMoment (sym t.is) here
 
 -- what the octets of a GeneralizedTime say: one moment
-pub general_says_one : (m : BERMode) (v w : Moment) (s : List ℕ) → SaysGeneralizedTime m v s → SaysGeneralizedTime m w s → v ≡ w
-general_says_one m v w s x y = general_text_is s None v w x.text y.text
+pub general_spells_one : (m : BERMode) (v w : Moment) (s : List ℕ) → SpellsGeneralizedTime m v s → SpellsGeneralizedTime m w s → v ≡ w
+general_spells_one m v w s x y = general_text_is s None v w x.text y.text
 
 -- of the ranges of a GeneralizedTime
-pub general_says_can : (m : BERMode) (v : Moment) (s : List ℕ) → SaysGeneralizedTime m v s → IsGeneralMoment v
-general_says_can m v s x = general_ranges s None v x.text
+pub general_spells_can : (m : BERMode) (v : Moment) (s : List ℕ) → SpellsGeneralizedTime m v s → IsGeneralMoment v
+general_spells_can m v s x = general_ranges s None v x.text
 
 -- by the canonical text in each mode
-pub general_says_canonical : (m : BERMode) (v : Moment) → IsGeneralMoment v → SaysGeneralizedTime m v (general_text v)
-general_says_canonical m v h = record { text = general_text_says v h None; canonical = λ c. refl }
+pub general_spells_canonical : (m : BERMode) (v : Moment) → IsGeneralMoment v → SpellsGeneralizedTime m v (general_text v)
+general_spells_canonical m v h = record { text = general_text_spells v h None; canonical = λ c. refl }
 
 -- and in a canonical mode by no other
-pub general_says_only : (m : BERMode) (v : Moment) (s : List ℕ) → IsCanonicalMode m → SaysGeneralizedTime m v s → s ≡ general_text v
-general_says_only m v s c x = x.canonical c
+pub general_spells_only : (m : BERMode) (v : Moment) (s : List ℕ) → IsCanonicalMode m → SpellsGeneralizedTime m v s → s ≡ general_text v
+general_spells_only m v s c x = x.canonical c
 
 pub general_text_bytes : (v : Moment) → IsGeneralMoment v → IsBytes (general_text v)
 general_text_bytes v h = ascii_bytes (general_text v) (general_text_ascii v h)

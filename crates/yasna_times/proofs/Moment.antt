@@ -84,8 +84,8 @@ whole_nanos (pos n) h = (pos (n / 60), omega (arith, signed_arith))
 whole_nanos (negsuc n) h = (neg_ℤ (pos ((n + 1) / 60)), omega (arith, signed_arith))
 
 -- whole minutes leave the second
-pub second_kept : (local utc : DateTime) (offset : ℤ) → IsWholeMinutes offset → IsLess local offset utc → utc.time.second ≡ local.time.second
-second_kept local utc offset h less =
+pub second_shown : (local utc : DateTime) (offset : ℤ) → IsWholeMinutes offset → IsLess local offset utc → utc.time.second ≡ local.time.second
+second_shown local utc offset h less =
     let w = whole_nanos offset h in
     let l = local.time.second_in in
     let u = utc.time.second_in in

@@ -2,21 +2,21 @@
 use Rattle.std.proofs.Common.{◌≡◌, ℕ, ◌+◌, ◌<◌, List, ℤ, Option, length, get_or, arith, inl, inr, subst}
 use Rattle.std.proofs.lemmas.Bool.{cases_order, cases_lt}
 use Rattle.yasna_times.specs.Decimal.{IsRun}
-use Rattle.yasna_times.specs.GeneralizedTime.{IsMark, IsPart, IsZone, IsLayout}
+use Rattle.yasna_times.specs.GeneralizedTime.{IsDecimalMark, IsPart, IsZone, IsLayout}
 use Rattle.yasna_times.proofs.Decimal.{run_is}
 use Rattle.yasna_times.proofs.Zone.{zone_head, zone_is}
 
 -- the fraction at i ends at j, where j is i if there is none
 pub record EndsPart (s : List ℕ) (i j : ℕ) : Type 0 where
-  pub some : (j ≡ i → ⊥) → IsMark (get_or s i 0) × IsRun s (i + 1) j
-  pub none : j ≡ i → i < length s → IsMark (get_or s i 0) → ⊥
+  pub some : (j ≡ i → ⊥) → IsDecimalMark (get_or s i 0) × IsRun s (i + 1) j
+  pub none : j ≡ i → i < length s → IsDecimalMark (get_or s i 0) → ⊥
 
 -- a fraction before a zone ends so
 pub part_ends : (s : List ℕ) (given : Option ℤ) (i j : ℕ) (z : ℤ) → IsPart s i j → IsZone s given j z → EndsPart s i j
 part_ends s given i j z (IsPart.none e) h =
     record {
       some = λ ne. absurd (ne e);
-      none = λ same. (zone_head s given i z (subst (λ k. IsZone s given k z) e h)).no_mark;
+      none = λ same. (zone_head s given i z (subst (λ k. IsZone s given k z) e h)).no_decimal_mark;
     }
 part_ends s given i j z (IsPart.some m more r) h = record { some = λ ne. (m, r); none = λ same. absurd (omega arith) }
 
@@ -29,7 +29,7 @@ part_is s given i j k z p (IsPart.none e) h =
       | inr o ↦
           let ne : j ≡ i → ⊥ = λ f. elim o [ inl lt ↦ omega arith | inr gt ↦ omega arith ] in
           let q = p.some ne in
-          absurd (head.no_mark (omega (arith, q.1.order, q.1.inside)) q.0)
+          absurd (head.no_decimal_mark (omega (arith, q.1.order, q.1.inside)) q.0)
     ]
 part_is s given i j k z p (IsPart.some m more r) h =
     elim (cases_order j i) [
@@ -45,7 +45,7 @@ pub record SameLayout (p f : ℕ) (z : ℤ) (end zone : ℕ) (offset : ℤ) : Ty
   pub same_zone : zone ≡ f
   pub same_offset : offset ≡ z
 
--- the clock and the zone of a layout stand where digits end
+-- the clock and the zone of a layout are where digits end
 pub places_are : (s : List ℕ) (given : Option ℤ) (p f end zone : ℕ) (z : ℤ) → IsRun s 0 p → EndsPart s p f → IsLayout s given end zone z →
     (end ≡ p) × (zone ≡ f)
 places_are s given p f end zone z r e l =
@@ -63,7 +63,7 @@ no_empty_part s given p f r e one end zone z l =
     let w = places_are s given p f end zone z r e l in
     empty_part s end zone l.part (omega (arith, w.0, w.1))
 
--- where no zone stands behind the fraction there is no layout
+-- where no zone is after the fraction there is no layout
 pub no_zone_there : (s : List ℕ) (given : Option ℤ) (p f : ℕ) → IsRun s 0 p → EndsPart s p f → ((z : ℤ) → IsZone s given f z → ⊥) →
     (end zone : ℕ) (z : ℤ) → IsLayout s given end zone z → ⊥
 no_zone_there s given p f r e none end zone z l =

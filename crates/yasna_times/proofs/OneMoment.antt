@@ -8,7 +8,7 @@ use Rattle.yasna_times.specs.Models.{moment_of, SameTime}
 use Rattle.yasna_times.specs.Moment.{Moment}
 use Rattle.yasna_times.proofs.Fraction.{nine_value, by_zero, less_trimmed}
 
--- a digit of a fraction, 0 behind its last
+-- a digit of a fraction, 0 after its last
 abbrev digit_at : List ℕ → ℕ → ℕ
 digit_at ds i = get_or ds i 48
 
@@ -50,7 +50,7 @@ same_digits (c ∷ a) (d ∷ b) t u h =
     let f = same_digits a b (later c a t) (later d b u) (λ i. h (suc i)) in
     ap (λ x. x ∷ a) e ∙ ap (λ x. d ∷ x) f
 
--- the nanosecond, and the digits behind it
+-- the nanosecond, and the digits after it
 split_is : (n k : ℕ) (a b : List ℕ) → n < 1000000000 → k < 1000000000 → IsTrimmed a → IsTrimmed b →
     trimmed (nine_digits n ++ a) ≡ trimmed (nine_digits k ++ b) → (n ≡ k) × (a ≡ b)
 split_is n k a b hn hk t u e =
@@ -61,7 +61,7 @@ split_is n k a b hn hk t u e =
     let nine : nine_digits n ≡ nine_digits k = cc in
     (sym (nine_value n hn) ∙ ap value nine ∙ nine_value k hk, same_digits a b t u (λ i. d (suc (suc (suc (suc (suc (suc (suc (suc (suc i)))))))))))
 
--- the flag and the second behind what a clock shows
+-- the flag and the second after what a clock shows
 seconds_are : (a b : Bool) (s t : ℕ) → s < 60 → t < 60 → (a ≡ true → s ≡ 59) → (b ≡ true → t ≡ 59) →
     (if a then 60 else s) ≡ (if b then 60 else t) → (a ≡ b) × (s ≡ t)
 seconds_are true true s t hs ht f g e = (refl, f refl ∙ sym (g refl))

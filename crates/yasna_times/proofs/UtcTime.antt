@@ -11,7 +11,7 @@ use Rattle.yasna_base.specs.Canonical.{IsCanonicalMode}
 use Rattle.yasna_base.specs.Digits.{IsBytes}
 use Rattle.yasna_times.specs.Decimal.{HasDigits, IsRun, two_at}
 use Rattle.yasna_times.specs.Moment.{IsLess, moment_at, after_year}
-use Rattle.yasna_times.specs.UtcTime.{IsUtcZone, IsUtcClock, IsUtcText, IsUtcDateTime, HasUtcTime, SaysUtcTime, utc_year, utc_text}
+use Rattle.yasna_times.specs.UtcTime.{IsUtcZone, IsUtcClock, IsUtcText, IsUtcDateTime, HasUtcTime, SpellsUtcTime, utc_year, utc_text}
 use Rattle.yasna_times.proofs.Decimal.{run_is, two_spelled, two_before, ascii_two, ascii_cons, ascii_bytes}
 use Rattle.yasna_times.proofs.Moment.{clock_is, one_utc, less_none, IsShort, month_short, day_short, after_year_ascii, after_year_digits}
 use Rattle.yasna_times.proofs.Zone.{utc_zone_head, utc_zone_is}
@@ -89,8 +89,8 @@ utc_text_clock dt h =
     }
 
 -- the canonical text says its date-time
-pub utc_text_says : (dt : DateTime) → IsUtcDateTime dt → IsUtcText (utc_text dt) dt
-utc_text_says dt h =
+pub utc_text_spells : (dt : DateTime) → IsUtcDateTime dt → IsUtcText (utc_text dt) dt
+utc_text_spells dt h =
     record {
       end = 12;
       local = dt;
@@ -102,20 +102,20 @@ utc_text_says dt h =
     }
 
 -- what the octets of a UTCTime say: one date-time
-pub utc_says_one : (m : BERMode) (v w : DateTime) (s : List ℕ) → SaysUtcTime m v s → SaysUtcTime m w s → v ≡ w
-utc_says_one m v w s x y = utc_text_is s v w x.text y.text
+pub utc_spells_one : (m : BERMode) (v w : DateTime) (s : List ℕ) → SpellsUtcTime m v s → SpellsUtcTime m w s → v ≡ w
+utc_spells_one m v w s x y = utc_text_is s v w x.text y.text
 
 -- of the ranges of a UTCTime
-pub utc_says_can : (m : BERMode) (v : DateTime) (s : List ℕ) → SaysUtcTime m v s → IsUtcDateTime v
-utc_says_can m v s x = x.text.in_range
+pub utc_spells_can : (m : BERMode) (v : DateTime) (s : List ℕ) → SpellsUtcTime m v s → IsUtcDateTime v
+utc_spells_can m v s x = x.text.in_range
 
 -- by the canonical text in each mode
-pub utc_says_canonical : (m : BERMode) (v : DateTime) → IsUtcDateTime v → SaysUtcTime m v (utc_text v)
-utc_says_canonical m v h = record { text = utc_text_says v h; canonical = λ c. refl }
+pub utc_spells_canonical : (m : BERMode) (v : DateTime) → IsUtcDateTime v → SpellsUtcTime m v (utc_text v)
+utc_spells_canonical m v h = record { text = utc_text_spells v h; canonical = λ c. refl }
 
 -- and in a canonical mode by no other
-pub utc_says_only : (m : BERMode) (v : DateTime) (s : List ℕ) → IsCanonicalMode m → SaysUtcTime m v s → s ≡ utc_text v
-utc_says_only m v s c x = x.canonical c
+pub utc_spells_only : (m : BERMode) (v : DateTime) (s : List ℕ) → IsCanonicalMode m → SpellsUtcTime m v s → s ≡ utc_text v
+utc_spells_only m v s c x = x.canonical c
 
 pub utc_text_bytes : (v : DateTime) → IsBytes (utc_text v)
 utc_text_bytes v = ascii_bytes (utc_text v) (utc_text_ascii v)

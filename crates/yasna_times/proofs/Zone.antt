@@ -1,7 +1,7 @@
 -- A text has one zone, and no digit begins it.
 use Rattle.std.proofs.Common.{◌≡◌, ◌⊎◌, ℕ, ◌+◌, ◌<◌, ◌≤◌, Option, List, ℤ, length, get_or, arith, sym, ◌∙◌, inl, inr, subst}
 use Rattle.yasna_base.specs.Text.{IsDigit}
-use Rattle.yasna_times.specs.GeneralizedTime.{IsZone, IsMark}
+use Rattle.yasna_times.specs.GeneralizedTime.{IsZone, IsDecimalMark}
 use Rattle.yasna_times.specs.UtcTime.{IsUtcZone}
 use Rattle.yasna_times.specs.Zone.{IsZulu, IsHoursAndMinutes, IsAmount, IsOffset}
 
@@ -16,7 +16,7 @@ one_offset sign n k z y e (IsOffset.plus a b) (IsOffset.minus c d) = absurd (ome
 one_offset sign n k z y e (IsOffset.minus a b) (IsOffset.plus c d) = absurd (omega arith)
 one_offset sign n k z y e (IsOffset.minus a b) (IsOffset.minus c d) = cc
 
--- the byte at i, which stands, is no digit
+-- the byte at i, which is, is no digit
 pub record IsHead (s : List ℕ) (i : ℕ) : Type 0 where
   pub inside : i < length s
   pub no_digit : IsDigit (get_or s i 0) → ⊥
@@ -65,9 +65,9 @@ amount_inside s i n (inr a) = omega (arith, a.ends)
 pub record IsZoneHead (s : List ℕ) (i : ℕ) : Type 0 where
   pub inside : i ≤ length s
   pub no_digit : i < length s → IsDigit (get_or s i 0) → ⊥
-  pub no_mark : i < length s → IsMark (get_or s i 0) → ⊥
+  pub no_decimal_mark : i < length s → IsDecimalMark (get_or s i 0) → ⊥
 
-sign_unmarked : (b n : ℕ) (z : ℤ) → IsOffset b n z → IsMark b → ⊥
+sign_unmarked : (b n : ℕ) (z : ℤ) → IsOffset b n z → IsDecimalMark b → ⊥
 sign_unmarked b n z a m = elim (is_sign b n z a) [
   | inl e ↦ elim m [ inl f ↦ omega arith | inr f ↦ omega arith ]
   | inr e ↦ elim m [ inl f ↦ omega arith | inr f ↦ omega arith ]
@@ -75,18 +75,18 @@ sign_unmarked b n z a m = elim (is_sign b n z a) [
 
 pub zone_head : (s : List ℕ) (given : Option ℤ) (i : ℕ) (z : ℤ) → IsZone s given i z → IsZoneHead s i
 zone_head s given i z (IsZone.local_time e l) =
-    record { inside = omega arith; no_digit = λ lt. absurd (omega arith); no_mark = λ lt. absurd (omega arith) }
+    record { inside = omega arith; no_digit = λ lt. absurd (omega arith); no_decimal_mark = λ lt. absurd (omega arith) }
 zone_head s given i z (IsZone.zulu a e) =
     let h = zulu_head s i a in
     record {
       inside = omega (arith, h.inside);
       no_digit = λ lt. h.no_digit;
-      no_mark = λ lt m. elim m [ inl f ↦ omega (arith, a.letter) | inr f ↦ omega (arith, a.letter) ];
+      no_decimal_mark = λ lt m. elim m [ inl f ↦ omega (arith, a.letter) | inr f ↦ omega (arith, a.letter) ];
     }
 zone_head s given i z (IsZone.signed n a b) =
     let lt : i < length s = omega (arith, amount_inside s (i + 1) n a) in
     let h = signed_head s i n z lt b in
-    record { inside = omega arith; no_digit = λ lt. h.no_digit; no_mark = λ lt. sign_unmarked (get_or s i 0) n z b }
+    record { inside = omega arith; no_digit = λ lt. h.no_digit; no_decimal_mark = λ lt. sign_unmarked (get_or s i 0) n z b }
 
 pub zone_is : (s : List ℕ) (given : Option ℤ) (i : ℕ) (z y : ℤ) → IsZone s given i z → IsZone s given i y → z ≡ y
 zone_is s given i z y (IsZone.local_time e l) (IsZone.local_time f m) = cc

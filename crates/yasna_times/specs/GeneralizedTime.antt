@@ -7,11 +7,11 @@ use Rattle.yasna_base.specs.declared.tag.Tag.{Tag}
 use Rattle.yasna_base.specs.Canonical.{IsCanonicalMode}
 use Rattle.yasna_times.specs.Decimal.{AreDigits, IsRun, two_at, two_digits}
 use Rattle.yasna_times.specs.Fraction.{IsReducedFraction, IsTrimmed}
-use Rattle.yasna_base.specs.Grammar.{Grammar, Form, Nest}
+use Rattle.yasna_base.specs.Grammar.{Grammar, Encoding, Depth}
 use Rattle.yasna_base.specs.Identifier.{universal}
 use Rattle.yasna_base.specs.Laws.{KeepsLaws}
 use Rattle.yasna_times.specs.Moment.{Moment, IsLess, moment_at, after_year}
-use Rattle.yasna_base.specs.Octets.{octets_form, octets_nest}
+use Rattle.yasna_base.specs.Octets.{octets_encoding, octets_depth}
 use Rattle.yasna_base.specs.Text.{IsStringOf}
 use Rattle.yasna_times.specs.Zone.{IsZulu, IsAmount, IsOffset}
 
@@ -36,13 +36,13 @@ abbrev pub IsClockEnd : ℕ → Type 0
 IsClockEnd end = (end ≡ 10) ⊎ (end ≡ 12) ⊎ (end ≡ 14)
 
 -- a point or a comma
-abbrev pub IsMark : ℕ → Type 0
-IsMark b = (b ≡ 46) ⊎ (b ≡ 44)
+abbrev pub IsDecimalMark : ℕ → Type 0
+IsDecimalMark b = (b ≡ 46) ⊎ (b ≡ 44)
 
--- from i to j stands nothing, or a mark and digits, which end there
+-- from i to j is nothing, or a mark and digits, which end there
 pub data IsPart (s : List ℕ) (i j : ℕ) : Type 0 where
   none : j ≡ i → IsPart s i j
-  some : IsMark (slice_index s i) → i + 1 < j → IsRun s (i + 1) j → IsPart s i j
+  some : IsDecimalMark (slice_index s i) → i + 1 < j → IsRun s (i + 1) j → IsPart s i j
 
 -- the text ends by a zone at i: Z, or + or - and hh or hhmm; or without one, where an offset is given
 pub data IsZone (s : List ℕ) (given : Option ℤ) (i : ℕ) (offset : ℤ) : Type 0 where
@@ -128,7 +128,7 @@ point_digits (c ∷ cs) = 46 ∷ c ∷ cs
 abbrev pub clock_digits : Moment → List ℕ
 clock_digits m = two_digits (unsigned_abs m.date.year / 100) ++ (two_digits (unsigned_abs m.date.year % 100) ++ after_year m)
 
--- the canonical text: the clock, the fraction of the second behind a point, Z
+-- the canonical text: the clock, the fraction of the second after a point, Z
 abbrev pub general_text : Moment → List ℕ
 general_text m = clock_digits m ++ (point_digits m.fraction ++ 90 ∷ [])
 
@@ -139,22 +139,22 @@ pub record GeneralTextsAreExact : Type 0 where
   pub canonical : (m : Moment) → IsGeneralMoment m → (given : Option ℤ) → IsGeneralText (general_text m) given m
 
 -- the octets are a text of the moment, in a canonical mode the canonical one
-pub record SaysGeneralizedTime (m : BERMode) (v : Moment) (s : List ℕ) : Type 0 where
+pub record SpellsGeneralizedTime (m : BERMode) (v : Moment) (s : List ℕ) : Type 0 where
   pub text : IsGeneralText s None v
   pub canonical : IsCanonicalMode m → s ≡ general_text v
 
 -- the type's grammar under its own tag
 abbrev pub EncodesGeneralizedTime : Grammar Moment
-EncodesGeneralizedTime m n v b = IsStringOf SaysGeneralizedTime n m generalized_time_tag v b
+EncodesGeneralizedTime m n v b = IsStringOf SpellsGeneralizedTime n m generalized_time_tag v b
 
--- the form in a canonical mode
-abbrev pub generalized_time_form : Tag → Form Moment
-generalized_time_form t m v = octets_form t m (general_text v)
+-- the encoding in a canonical mode
+abbrev pub generalized_time_encoding : Tag → Encoding Moment
+generalized_time_encoding t m v = octets_encoding t m (general_text v)
 
 -- how deep it nests
-abbrev pub generalized_time_nest : Nest Moment
-generalized_time_nest m v = octets_nest m (general_text v)
+abbrev pub generalized_time_depth : Depth Moment
+generalized_time_depth m v = octets_depth m (general_text v)
 
--- GeneralizedTime keeps the laws under any tag
+-- GeneralizedTime satisfies the laws under any tag
 abbrev pub GeneralizedTimeKeepsLaws : Type 0
-GeneralizedTimeKeepsLaws = KeepsLaws (IsStringOf SaysGeneralizedTime) generalized_time_form generalized_time_nest IsGeneralMoment
+GeneralizedTimeKeepsLaws = KeepsLaws (IsStringOf SpellsGeneralizedTime) generalized_time_encoding generalized_time_depth IsGeneralMoment

@@ -16,7 +16,7 @@ utc_of t = t.datetime
 abbrev pub moment_of : GeneralizedTime → Moment
 moment_of t = moment t.datetime t.sub_nano.items t.is_leap_second
 
--- the time is the local date-time less so many seconds, with these digits behind the nanosecond
+-- the time is the local date-time less so many seconds, with these digits after the nanosecond
 pub record IsTimeAt (local : DateTime) (seconds : ℤ) (sub_nano : List ℕ) (t : GeneralizedTime) : Type 0 where
   pub less : IsLess local seconds t.datetime
   pub digits : t.sub_nano.items ≡ sub_nano

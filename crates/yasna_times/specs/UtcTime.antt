@@ -6,11 +6,11 @@ use Rattle.yasna_base.specs.declared.mode.BERMode.{BERMode}
 use Rattle.yasna_base.specs.declared.tag.Tag.{Tag}
 use Rattle.yasna_base.specs.Canonical.{IsCanonicalMode}
 use Rattle.yasna_times.specs.Decimal.{HasDigits, two_at, two_digits}
-use Rattle.yasna_base.specs.Grammar.{Grammar, Form, Nest}
+use Rattle.yasna_base.specs.Grammar.{Grammar, Encoding, Depth}
 use Rattle.yasna_base.specs.Identifier.{universal}
 use Rattle.yasna_base.specs.Laws.{KeepsLaws}
 use Rattle.yasna_times.specs.Moment.{IsLess, moment_at, after_year}
-use Rattle.yasna_base.specs.Octets.{octets_form, octets_nest}
+use Rattle.yasna_base.specs.Octets.{octets_encoding, octets_depth}
 use Rattle.yasna_base.specs.Text.{IsStringOf}
 use Rattle.yasna_times.specs.Zone.{IsZulu, IsHoursAndMinutes, IsOffset}
 
@@ -68,22 +68,22 @@ pub record UtcTextsAreExact : Type 0 where
   pub canonical : (utc : DateTime) → IsUtcDateTime utc → IsUtcText (utc_text utc) utc
 
 -- the octets are a text of the date-time, in a canonical mode the canonical one
-pub record SaysUtcTime (m : BERMode) (utc : DateTime) (s : List ℕ) : Type 0 where
+pub record SpellsUtcTime (m : BERMode) (utc : DateTime) (s : List ℕ) : Type 0 where
   pub text : IsUtcText s utc
   pub canonical : IsCanonicalMode m → s ≡ utc_text utc
 
 -- the type's grammar under its own tag
 abbrev pub EncodesUtcTime : Grammar DateTime
-EncodesUtcTime m n v b = IsStringOf SaysUtcTime n m utc_time_tag v b
+EncodesUtcTime m n v b = IsStringOf SpellsUtcTime n m utc_time_tag v b
 
--- the form in a canonical mode
-abbrev pub utc_time_form : Tag → Form DateTime
-utc_time_form t m utc = octets_form t m (utc_text utc)
+-- the encoding in a canonical mode
+abbrev pub utc_time_encoding : Tag → Encoding DateTime
+utc_time_encoding t m utc = octets_encoding t m (utc_text utc)
 
 -- how deep it nests
-abbrev pub utc_time_nest : Nest DateTime
-utc_time_nest m utc = octets_nest m (utc_text utc)
+abbrev pub utc_time_depth : Depth DateTime
+utc_time_depth m utc = octets_depth m (utc_text utc)
 
--- UTCTime keeps the laws under any tag
+-- UTCTime satisfies the laws under any tag
 abbrev pub UtcTimeKeepsLaws : Type 0
-UtcTimeKeepsLaws = KeepsLaws (IsStringOf SaysUtcTime) utc_time_form utc_time_nest IsUtcDateTime
+UtcTimeKeepsLaws = KeepsLaws (IsStringOf SpellsUtcTime) utc_time_encoding utc_time_depth IsUtcDateTime

@@ -1,7 +1,7 @@
 //! What is proved of times and their texts, of which no program is part.
 //!
 //! These functions do nothing. Their contracts state the laws that every reader and every writer of times relies on: a text
-//! says one moment, a moment has one canonical text, and both types keep the laws of reading and of writing.
+//! says one moment, a moment has one canonical text, and both types satisfy the laws of reading and of writing.
 ghost use Rattle.std.specs.Prelude.{◌≡◌, ◌++◌, IsTrue, ◌↔◌};
 ghost use Rattle.std.specs.Cmp.Lexicographic.{slice_cmp};
 ghost use Rattle.std.specs.Hash as fed;
@@ -27,7 +27,7 @@ pub fn moments()
     ensures { TimesAreMoments }
 {}
 
-/// Both times keep the laws of reading and of writing, as `simple_types` says them, however BER or CER cuts their texts
+/// Both times satisfy the laws of reading and of writing, as `simple_types` says them, however BER or CER cuts their texts
 /// into segments.
 pub fn times()
     ensures utc { UtcTimeKeepsLaws }
@@ -35,7 +35,7 @@ pub fn times()
 {}
 
 /// UTCTimes are ordered as they come. GeneralizedTimes are ordered by their date-times, which show second 60 as 59, then by
-/// the digits behind the nanosecond, then by whether the second is 60. Times are equal where they are one moment.
+/// the digits after the nanosecond, then by whether the second is 60. Times are equal where they are one moment.
 pub fn time_orders()
     ensures utc { (a b : UTCTime) → ⟦<UTCTime as Ord>⟧.cmp a b ≡ int_cmp (civil_nanos (utc_of a)) (civil_nanos (utc_of b)) }
     ensures utc_equality { (a b : UTCTime) → IsTrue (⟦<UTCTime as PartialEq>⟧.eq a b) ↔ (utc_of a ≡ utc_of b) }
@@ -43,7 +43,7 @@ pub fn time_orders()
     ensures general_equality { (a b : GeneralizedTime) → IsTrue (⟦<GeneralizedTime as PartialEq>⟧.eq a b) ↔ (moment_of a ≡ moment_of b) }
 {}
 
-/// A UTCTime is hashed as its date-time, a GeneralizedTime as its date-time, the digits behind the nanosecond, and whether the
+/// A UTCTime is hashed as its date-time, a GeneralizedTime as its date-time, the digits after the nanosecond, and whether the
 /// second is 60. So times that are equal, which are of one moment, have one hash.
 pub fn time_hashes()
     ensures utc { (a : UTCTime) → ⟦<UTCTime as Hash>⟧.hash_input a ≡ ⟦<DateTime as Hash>⟧.hash_input (utc_of a) }

@@ -6,7 +6,7 @@ use Rattle.std.specs.List.{after_first, position_or_len}
 abbrev pub is_space : ℕ → Bool
 is_space b = b == 32
 
--- what stands behind the first word and its space
+-- what is after the first word and its space
 abbrev pub others : List ℕ → List ℕ
 others s = after_first is_space s
 

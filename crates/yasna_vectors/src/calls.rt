@@ -1,10 +1,10 @@
 //! The calls that read, by their names.
 //!
 //! A read of one value is the read of its kind. The others are made of such reads: `reads` says what each body reads, `steps` how
-//! the parts of a SEQUENCE and the elements of a SET are asked for. `nestN`, which stands in no table, reads N SEQUENCEs one in
+//! the parts of a SEQUENCE and the elements of a SET are asked for. `nestN`, which is in no table, reads N SEQUENCEs one in
 //! the other around an INTEGER.
 
-use crate::kind::Kind;
+use crate::kind::ElementType;
 use crate::parts::Piece;
 use crate::reads::{Body, Read, Then};
 use crate::steps::{Ask, Choice, Step};
@@ -12,20 +12,20 @@ use crate::strings::Class;
 use yasna::tags::{TAG_BOOLEAN, TAG_INTEGER, TAG_SEQUENCE};
 use yasna::{ASN1ErrorKind, Tag, TagClass};
 
-const INTEGER: Piece = Piece::Plain(Kind::I64);
+const INTEGER: Piece = Piece::Plain(ElementType::I64);
 
-const BOOLEAN: Piece = Piece::Plain(Kind::Bool);
+const BOOLEAN: Piece = Piece::Plain(ElementType::Bool);
 
-const OCTETS: Piece = Piece::Plain(Kind::Bytes);
+const OCTETS: Piece = Piece::Plain(ElementType::Bytes);
 
-const AROUND: Piece = Piece::Plain(Kind::Around);
+const AROUND: Piece = Piece::Plain(ElementType::Around);
 
-const WITHIN: Piece = Piece::Plain(Kind::Within);
+const WITHIN: Piece = Piece::Plain(ElementType::Within);
 
-/// An element as it stands.
-pub const RAW: Piece = Piece::Plain(Kind::Raw);
+/// An element as it is.
+pub const RAW: Piece = Piece::Plain(ElementType::Raw);
 
-const IDLE: Piece = Piece::Plain(Kind::Idle);
+const IDLE: Piece = Piece::Plain(ElementType::Idle);
 
 /// `bytes`.
 pub const BYTES: Read = Read(Then::Shown, Body::Alone(OCTETS));
@@ -76,33 +76,33 @@ const C345678: Tag = Tag {
 };
 
 /// Reads of one value.
-pub static KINDS: [(&str, Kind); 26] = [
-    ("bool", Kind::Bool),
-    ("null", Kind::Null),
-    ("enum", Kind::Enum),
-    ("i64", Kind::I64),
-    ("i32", Kind::I32),
-    ("i16", Kind::I16),
-    ("i8", Kind::I8),
-    ("u64", Kind::U64),
-    ("u32", Kind::U32),
-    ("u16", Kind::U16),
-    ("u8", Kind::U8),
-    ("bigint", Kind::BigInteger),
-    ("bytes", Kind::Bytes),
-    ("bits", Kind::Bits),
-    ("utf8", Kind::Text(Class::Utf8)),
-    ("utf8_string", Kind::Text(Class::Utf8String)),
-    ("numeric", Kind::Text(Class::Numeric)),
-    ("printable", Kind::Text(Class::Printable)),
-    ("ia5", Kind::Text(Class::Ia5)),
-    ("bmp", Kind::Text(Class::Bmp)),
-    ("visible", Kind::Text(Class::Visible)),
-    ("oid", Kind::Identifier),
-    ("utctime", Kind::UtcTime),
-    ("gtime", Kind::GeneralizedTime),
-    ("der", Kind::Raw),
-    ("tdv", Kind::Tagged),
+pub static KINDS: [(&str, ElementType); 26] = [
+    ("bool", ElementType::Bool),
+    ("null", ElementType::Null),
+    ("enum", ElementType::Enum),
+    ("i64", ElementType::I64),
+    ("i32", ElementType::I32),
+    ("i16", ElementType::I16),
+    ("i8", ElementType::I8),
+    ("u64", ElementType::U64),
+    ("u32", ElementType::U32),
+    ("u16", ElementType::U16),
+    ("u8", ElementType::U8),
+    ("bigint", ElementType::BigInteger),
+    ("bytes", ElementType::Bytes),
+    ("bits", ElementType::Bits),
+    ("utf8", ElementType::Text(Class::Utf8)),
+    ("utf8_string", ElementType::Text(Class::Utf8String)),
+    ("numeric", ElementType::Text(Class::Numeric)),
+    ("printable", ElementType::Text(Class::Printable)),
+    ("ia5", ElementType::Text(Class::Ia5)),
+    ("bmp", ElementType::Text(Class::Bmp)),
+    ("visible", ElementType::Text(Class::Visible)),
+    ("oid", ElementType::Identifier),
+    ("utctime", ElementType::UtcTime),
+    ("gtime", ElementType::GeneralizedTime),
+    ("der", ElementType::Raw),
+    ("tdv", ElementType::Tagged),
 ];
 
 /// Reads of several values, or of none.
@@ -149,7 +149,7 @@ pub static CALLS: [(&str, Read); 60] = [
             Body::Sequence(&[
                 Step(Ask::Optional, OCTETS),
                 Step(Ask::Optional, AROUND),
-                Step(Ask::Optional, Piece::Explicit(C0, Kind::Null)),
+                Step(Ask::Optional, Piece::Explicit(C0, ElementType::Null)),
             ]),
         ),
     ),
@@ -160,7 +160,7 @@ pub static CALLS: [(&str, Read); 60] = [
             Body::Sequence(&[
                 Step(
                     Ask::Optional,
-                    Piece::Plain(Kind::Refused(ASN1ErrorKind::Invalid)),
+                    Piece::Plain(ElementType::Rejected(ASN1ErrorKind::Invalid)),
                 ),
                 Step(Ask::Next, INTEGER),
             ]),
@@ -173,7 +173,7 @@ pub static CALLS: [(&str, Read); 60] = [
             Body::Sequence(&[
                 Step(
                     Ask::OptionalDiscarded,
-                    Piece::Plain(Kind::Refused(ASN1ErrorKind::OutOfMemory)),
+                    Piece::Plain(ElementType::Rejected(ASN1ErrorKind::OutOfMemory)),
                 ),
                 Step(Ask::Next, INTEGER),
             ]),
@@ -197,7 +197,7 @@ pub static CALLS: [(&str, Read); 60] = [
             Then::Shown,
             Body::Sequence(&[
                 Step(Ask::Buffered, INTEGER),
-                Step(Ask::Next, Piece::Plain(Kind::Null)),
+                Step(Ask::Next, Piece::Plain(ElementType::Null)),
             ]),
         ),
     ),
@@ -207,8 +207,8 @@ pub static CALLS: [(&str, Read); 60] = [
         Read(
             Then::Shown,
             Body::Sequence(&[
-                Step(Ask::NextBuffered, Piece::Implicit(C3, Kind::Bytes)),
-                Step(Ask::Next, Piece::Plain(Kind::Null)),
+                Step(Ask::NextBuffered, Piece::Implicit(C3, ElementType::Bytes)),
+                Step(Ask::Next, Piece::Plain(ElementType::Null)),
             ]),
         ),
     ),
@@ -217,7 +217,10 @@ pub static CALLS: [(&str, Read); 60] = [
     ("seqof_der", Read(Then::Shown, Body::SequenceOf(RAW))),
     (
         "seqof_choice",
-        Read(Then::Shown, Body::SequenceOf(Piece::Plain(Kind::Choice))),
+        Read(
+            Then::Shown,
+            Body::SequenceOf(Piece::Plain(ElementType::Choice)),
+        ),
     ),
     ("seqof_sum", Read(Then::Shown, Body::SequenceSum)),
     ("idle", Read(Then::Shown, Body::SequenceIdle)),
@@ -253,10 +256,10 @@ pub static CALLS: [(&str, Read); 60] = [
         Read(
             Then::Shown,
             Body::Set(&[
-                Choice::Next(C28, Piece::Implicit(C28, Kind::I64)),
-                Choice::Next(C345678, Piece::Explicit(C345678, Kind::Bytes)),
-                Choice::Next(C27, Piece::Explicit(C27, Kind::I64)),
-                Choice::Next(C345677, Piece::Explicit(C345677, Kind::Bytes)),
+                Choice::Next(C28, Piece::Implicit(C28, ElementType::I64)),
+                Choice::Next(C345678, Piece::Explicit(C345678, ElementType::Bytes)),
+                Choice::Next(C27, Piece::Explicit(C27, ElementType::I64)),
+                Choice::Next(C345677, Piece::Explicit(C345677, ElementType::Bytes)),
             ]),
         ),
     ),
@@ -264,7 +267,7 @@ pub static CALLS: [(&str, Read); 60] = [
         "set_seqel",
         Read(
             Then::Shown,
-            Body::Set(&[Choice::Next(TAG_SEQUENCE, Piece::Plain(Kind::Nests))]),
+            Body::Set(&[Choice::Next(TAG_SEQUENCE, Piece::Plain(ElementType::Nests))]),
         ),
     ),
     (
@@ -293,42 +296,66 @@ pub static CALLS: [(&str, Read); 60] = [
     // under tags of the caller's (X.690, 8.14)
     (
         "tag3_i64",
-        Read(Then::Shown, Body::Alone(Piece::Explicit(C3, Kind::I64))),
+        Read(
+            Then::Shown,
+            Body::Alone(Piece::Explicit(C3, ElementType::I64)),
+        ),
     ),
     (
         "tag31_null",
-        Read(Then::Shown, Body::Alone(Piece::Explicit(C31, Kind::Null))),
+        Read(
+            Then::Shown,
+            Body::Alone(Piece::Explicit(C31, ElementType::Null)),
+        ),
     ),
     (
         "itag3_i64",
-        Read(Then::Shown, Body::Alone(Piece::Implicit(C3, Kind::I64))),
+        Read(
+            Then::Shown,
+            Body::Alone(Piece::Implicit(C3, ElementType::I64)),
+        ),
     ),
     (
         "itag3_again",
-        Read(Then::Shown, Body::Alone(Piece::Implicit(C3, Kind::Again))),
+        Read(
+            Then::Shown,
+            Body::Alone(Piece::Implicit(C3, ElementType::Again)),
+        ),
     ),
     (
         "itag3_bytes",
-        Read(Then::Shown, Body::Alone(Piece::Implicit(C3, Kind::Bytes))),
+        Read(
+            Then::Shown,
+            Body::Alone(Piece::Implicit(C3, ElementType::Bytes)),
+        ),
     ),
     (
         "itag3_bits",
-        Read(Then::Shown, Body::Alone(Piece::Implicit(C3, Kind::Bits))),
+        Read(
+            Then::Shown,
+            Body::Alone(Piece::Implicit(C3, ElementType::Bits)),
+        ),
     ),
     (
         "itag3_utf8",
         Read(
             Then::Shown,
-            Body::Alone(Piece::Implicit(C3, Kind::Text(Class::Utf8))),
+            Body::Alone(Piece::Implicit(C3, ElementType::Text(Class::Utf8))),
         ),
     ),
     (
         "itag3_tag4",
-        Read(Then::Shown, Body::Implicit(Piece::Explicit(C4, Kind::I64))),
+        Read(
+            Then::Shown,
+            Body::Implicit(Piece::Explicit(C4, ElementType::I64)),
+        ),
     ),
     (
         "itag3_itag4",
-        Read(Then::Shown, Body::Implicit(Piece::Implicit(C4, Kind::I64))),
+        Read(
+            Then::Shown,
+            Body::Implicit(Piece::Implicit(C4, ElementType::I64)),
+        ),
     ),
     (
         "itag31_seq",
@@ -340,7 +367,7 @@ pub static CALLS: [(&str, Read); 60] = [
     ("lookder", Read(Then::Shown, Body::Alone(Piece::LookedAt))),
     (
         "rec",
-        Read(Then::Shown, Body::Alone(Piece::Plain(Kind::Nests))),
+        Read(Then::Shown, Body::Alone(Piece::Plain(ElementType::Nests))),
     ),
     ("tree", Read(Then::Shown, Body::Tree)),
     // of which something else is shown
@@ -357,12 +384,12 @@ pub static CALLS: [(&str, Read); 60] = [
             Body::Set(&[Choice::Optional(TAG_INTEGER, IDLE)]),
         ),
     ),
-    // whose callbacks throw refusals away, or make them
+    // whose callbacks throw errors away, or make them
     (
         "seq_err",
         Read(
             Then::Shown,
-            Body::Sequence(&[Step(Ask::Refused(ASN1ErrorKind::Invalid), IDLE)]),
+            Body::Sequence(&[Step(Ask::Rejected(ASN1ErrorKind::Invalid), IDLE)]),
         ),
     ),
     (
@@ -375,7 +402,7 @@ pub static CALLS: [(&str, Read); 60] = [
             Then::Shown,
             Body::Sequence(&[
                 Step(Ask::Discarded, BOOLEAN),
-                Step(Ask::Refused(ASN1ErrorKind::Eof), IDLE),
+                Step(Ask::Rejected(ASN1ErrorKind::Eof), IDLE),
             ]),
         ),
     ),
@@ -398,7 +425,7 @@ pub static CALLS: [(&str, Read); 60] = [
         "swallow_err",
         Read(
             Then::Discarded,
-            Body::Sequence(&[Step(Ask::Refused(ASN1ErrorKind::Invalid), IDLE)]),
+            Body::Sequence(&[Step(Ask::Rejected(ASN1ErrorKind::Invalid), IDLE)]),
         ),
     ),
     (
@@ -410,11 +437,14 @@ pub static CALLS: [(&str, Read); 60] = [
     ),
     (
         "swallow_deep",
-        Read(Then::Discarded, Body::Alone(Piece::Plain(Kind::Nest(101)))),
+        Read(
+            Then::Discarded,
+            Body::Alone(Piece::Plain(ElementType::Nest(101))),
+        ),
     ),
     ("replace_bool", Read(Then::Replaced, Body::Alone(BOOLEAN))),
     (
         "replace_i8",
-        Read(Then::Replaced, Body::Alone(Piece::Plain(Kind::I8))),
+        Read(Then::Replaced, Body::Alone(Piece::Plain(ElementType::I8))),
     ),
 ];

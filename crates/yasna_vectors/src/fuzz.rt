@@ -1,11 +1,11 @@
-//! Calls on random input, whose answers are held against each other.
+//! Calls on random input, whose returns are held against each other.
 //!
-//! | Where a call answers | So |
+//! | Where a call returns | So |
 //! |---|---|
 //! | a value in DER | BER gives the same value, and what is written of it are the bytes that were read |
 //! | a value in CER | BER gives the same value, and what is written of it in CER are the bytes that were read |
 //! | a value in BER | what is written of it is read as the same value, in BER and in DER |
-//! | anything | it is no want of memory |
+//! | anything | it is no `OutOfMemory` |
 //!
 //! Three kinds of calls differ. What is written is read as another value, though as one that is written the same, where a
 //! bit string keeps unused bits that are set, or where the value shows the bytes that were taken. A BMPString takes half of
@@ -15,16 +15,16 @@
 //! Each input has a seed of its own, which is printed where a call fails on it. The first input of a run has the run's seed: so
 //! a run of one input from a printed seed makes that input again.
 
-use crate::answer::answer_or_unknown;
 use crate::line::Case;
 use crate::mutation::Vectors;
+use crate::outcome::outcome_or_unknown;
 use crate::random::Random;
 use crate::run::Verdict;
 use std::alloc::{AllocError, Global};
 use std::io;
 use yasna::BERMode;
 
-// Behind how many inputs the counts are printed.
+// After how many inputs the counts are printed.
 const BLOCK: u64 = 100_000;
 
 // From the seed of an input to that of the next: 2^64 over the golden ratio, whose multiples lie far from each other. So runs of
@@ -33,7 +33,7 @@ const STRIDE: u64 = 0x9e37_79b9_7f4a_7c15;
 
 // What holds of a call.
 #[derive(Clone, Copy)]
-enum Kind {
+enum CallClass {
     // All of this.
     Plain,
     // Its value shows bits or bytes that are written otherwise.
@@ -45,84 +45,84 @@ enum Kind {
 }
 
 // The calls, and what holds of each.
-static CALLS: [(&str, Kind); 77] = [
-    ("bool", Kind::Plain),
-    ("null", Kind::Plain),
-    ("enum", Kind::Plain),
-    ("i64", Kind::Plain),
-    ("i32", Kind::Plain),
-    ("i16", Kind::Plain),
-    ("i8", Kind::Plain),
-    ("u64", Kind::Plain),
-    ("u32", Kind::Plain),
-    ("u16", Kind::Plain),
-    ("u8", Kind::Plain),
-    ("bigint", Kind::Plain),
-    ("bytes", Kind::Plain),
-    ("utf8", Kind::Plain),
-    ("numeric", Kind::Plain),
-    ("printable", Kind::Plain),
-    ("ia5", Kind::Plain),
-    ("visible", Kind::Plain),
-    ("oid", Kind::Plain),
-    ("utctime", Kind::Plain),
-    ("gtime", Kind::Plain),
-    ("seq_ib", Kind::Plain),
-    ("seq_i", Kind::Plain),
-    ("seq_sb", Kind::Plain),
-    ("seq_empty", Kind::Plain),
-    ("seq_opt", Kind::Plain),
-    ("seq_def", Kind::Plain),
-    ("seq_opts", Kind::Plain),
-    ("seqof_i64", Kind::Plain),
-    ("seqof_choice", Kind::Plain),
-    ("tag3_i64", Kind::Plain),
-    ("tag31_null", Kind::Plain),
-    ("itag3_i64", Kind::Plain),
-    ("itag3_bytes", Kind::Plain),
-    ("itag3_utf8", Kind::Plain),
-    ("itag31_seq", Kind::Plain),
-    ("itag3_tag4", Kind::Plain),
-    ("itag3_itag4", Kind::Plain),
-    ("rec", Kind::Plain),
-    ("nest2", Kind::Plain),
-    ("d:null", Kind::Plain),
-    ("d:bool", Kind::Plain),
-    ("d:int", Kind::Plain),
-    ("d:i32", Kind::Plain),
-    ("d:i16", Kind::Plain),
-    ("d:u64", Kind::Plain),
-    ("d:u32", Kind::Plain),
-    ("d:u16", Kind::Plain),
-    ("d:pair", Kind::Plain),
-    ("d:pairs", Kind::Plain),
-    ("d:deep", Kind::Plain),
-    ("d:octets", Kind::Plain),
-    ("d:text", Kind::Plain),
-    ("d:oid", Kind::Plain),
-    ("d:utime", Kind::Plain),
-    ("d:gtime", Kind::Plain),
-    ("d:named", Kind::Plain),
-    ("d:ints", Kind::Plain),
-    ("d:vvi", Kind::Plain),
-    ("d:vbytes", Kind::Plain),
-    ("d:vtext", Kind::Plain),
-    ("d:vpair", Kind::Plain),
-    ("d:t1n", Kind::Plain),
-    ("d:t3", Kind::Plain),
-    ("tup1", Kind::Plain),
-    ("tup3", Kind::Plain),
-    ("tup12", Kind::Plain),
-    ("bits", Kind::Showing),
-    ("itag3_bits", Kind::Showing),
-    ("buf", Kind::Showing),
-    ("buf2", Kind::Showing),
-    ("buf3", Kind::Showing),
-    ("bmp", Kind::Lenient),
-    ("der", Kind::Raw),
-    ("tdv", Kind::Raw),
-    ("d:tdv", Kind::Raw),
-    ("d:vtdv", Kind::Raw),
+static CALLS: [(&str, CallClass); 77] = [
+    ("bool", CallClass::Plain),
+    ("null", CallClass::Plain),
+    ("enum", CallClass::Plain),
+    ("i64", CallClass::Plain),
+    ("i32", CallClass::Plain),
+    ("i16", CallClass::Plain),
+    ("i8", CallClass::Plain),
+    ("u64", CallClass::Plain),
+    ("u32", CallClass::Plain),
+    ("u16", CallClass::Plain),
+    ("u8", CallClass::Plain),
+    ("bigint", CallClass::Plain),
+    ("bytes", CallClass::Plain),
+    ("utf8", CallClass::Plain),
+    ("numeric", CallClass::Plain),
+    ("printable", CallClass::Plain),
+    ("ia5", CallClass::Plain),
+    ("visible", CallClass::Plain),
+    ("oid", CallClass::Plain),
+    ("utctime", CallClass::Plain),
+    ("gtime", CallClass::Plain),
+    ("seq_ib", CallClass::Plain),
+    ("seq_i", CallClass::Plain),
+    ("seq_sb", CallClass::Plain),
+    ("seq_empty", CallClass::Plain),
+    ("seq_opt", CallClass::Plain),
+    ("seq_def", CallClass::Plain),
+    ("seq_opts", CallClass::Plain),
+    ("seqof_i64", CallClass::Plain),
+    ("seqof_choice", CallClass::Plain),
+    ("tag3_i64", CallClass::Plain),
+    ("tag31_null", CallClass::Plain),
+    ("itag3_i64", CallClass::Plain),
+    ("itag3_bytes", CallClass::Plain),
+    ("itag3_utf8", CallClass::Plain),
+    ("itag31_seq", CallClass::Plain),
+    ("itag3_tag4", CallClass::Plain),
+    ("itag3_itag4", CallClass::Plain),
+    ("rec", CallClass::Plain),
+    ("nest2", CallClass::Plain),
+    ("d:null", CallClass::Plain),
+    ("d:bool", CallClass::Plain),
+    ("d:int", CallClass::Plain),
+    ("d:i32", CallClass::Plain),
+    ("d:i16", CallClass::Plain),
+    ("d:u64", CallClass::Plain),
+    ("d:u32", CallClass::Plain),
+    ("d:u16", CallClass::Plain),
+    ("d:pair", CallClass::Plain),
+    ("d:pairs", CallClass::Plain),
+    ("d:deep", CallClass::Plain),
+    ("d:octets", CallClass::Plain),
+    ("d:text", CallClass::Plain),
+    ("d:oid", CallClass::Plain),
+    ("d:utime", CallClass::Plain),
+    ("d:gtime", CallClass::Plain),
+    ("d:named", CallClass::Plain),
+    ("d:ints", CallClass::Plain),
+    ("d:vvi", CallClass::Plain),
+    ("d:vbytes", CallClass::Plain),
+    ("d:vtext", CallClass::Plain),
+    ("d:vpair", CallClass::Plain),
+    ("d:t1n", CallClass::Plain),
+    ("d:t3", CallClass::Plain),
+    ("tup1", CallClass::Plain),
+    ("tup3", CallClass::Plain),
+    ("tup12", CallClass::Plain),
+    ("bits", CallClass::Showing),
+    ("itag3_bits", CallClass::Showing),
+    ("buf", CallClass::Showing),
+    ("buf2", CallClass::Showing),
+    ("buf3", CallClass::Showing),
+    ("bmp", CallClass::Lenient),
+    ("der", CallClass::Raw),
+    ("tdv", CallClass::Raw),
+    ("d:tdv", CallClass::Raw),
+    ("d:vtdv", CallClass::Raw),
 ];
 
 // How many inputs were tried, how many values were read, how many calls failed, and what is to be printed of that.
@@ -134,7 +134,7 @@ struct Tally {
     failed: u64,
 }
 
-/// Makes so many inputs, and checks each call on each of them. What fails is printed as it is found, the counts so far behind
+/// Makes so many inputs, and checks each call on each of them. What fails is printed as it is found, the counts so far after
 /// each block of inputs.
 pub fn check_random(
     rt: &impl Print,
@@ -156,13 +156,13 @@ pub fn check_random(
         rt.print(tally.text.as_str())?;
         tally.text.clear();
     }
-    tally.tell_counts()?;
+    tally.append_counts()?;
     rt.print(tally.text.as_str())?;
     Ok(Verdict::of(tally.failed))
 }
 
 impl Tally {
-    // Makes the input of a seed, and checks each call on it; behind a block of inputs tells the counts before.
+    // Makes the input of a seed, and checks each call on it; after a block of inputs appends the counts before.
     fn check_input(
         &mut self,
         alloc: Global,
@@ -170,7 +170,7 @@ impl Tally {
         seed: u64,
     ) -> Result<(), AllocError> {
         if self.inputs > 0 && self.inputs.is_multiple_of(BLOCK) {
-            self.tell_counts()?;
+            self.append_counts()?;
         }
         self.inputs = self.inputs.saturating_add(1);
         let bytes = vectors.input(alloc, &mut Random::new(seed))?;
@@ -182,16 +182,16 @@ impl Tally {
     // Checks each call on these bytes.
     fn check_calls(&mut self, alloc: Global, seed: u64, bytes: &str) -> Result<(), AllocError> {
         for (call, kind) in &CALLS {
-            if let Some(fault) = fault(alloc, *kind, call, bytes, &mut self.accepted)? {
+            if let Some(error) = error(alloc, *kind, call, bytes, &mut self.accepted)? {
                 self.failed = self.failed.saturating_add(1);
-                writeln!(self.text, "seed {seed}: {call} {bytes}: {fault}")?;
+                writeln!(self.text, "seed {seed}: {call} {bytes}: {error}")?;
             }
         }
         Ok(())
     }
 
-    // Tells the counts.
-    fn tell_counts(&mut self) -> Result<(), AllocError> {
+    // Appends the counts.
+    fn append_counts(&mut self) -> Result<(), AllocError> {
         let inputs = self.inputs;
         let accepted = self.accepted;
         let failed = self.failed;
@@ -202,45 +202,45 @@ impl Tally {
     }
 }
 
-// What is wrong with a call's answers on these bytes.
-fn fault(
+// What is wrong with a call's returns on these bytes.
+fn error(
     alloc: Global,
-    kind: Kind,
+    kind: CallClass,
     call: &str,
     bytes: &str,
     accepted: &mut u64,
 ) -> Result<Option<&'static str>, AllocError> {
-    let answers = Answers::of(alloc, call, bytes)?;
-    if let Some(fault) = answers.fault(kind, bytes, accepted) {
-        return Ok(Some(fault));
+    let outcomes = Outcomes::of(alloc, call, bytes)?;
+    if let Some(error) = outcomes.error(kind, bytes, accepted) {
+        return Ok(Some(error));
     }
-    let ber = answers.ber.as_str();
-    match form_of(ber) {
-        Some(form) => form_fault(alloc, kind, call, ber, form),
+    let ber = outcomes.ber.as_str();
+    match encoding_of(ber) {
+        Some(encoding) => encoding_error(alloc, kind, call, ber, encoding),
         None => Ok(None),
     }
 }
 
-// What a call answers on the same bytes in each mode.
+// What a call returns on the same bytes in each mode.
 #[derive(Drop)]
-struct Answers {
+struct Outcomes {
     ber: String,
     der: String,
     cer: String,
 }
 
-impl Answers {
-    // What the call of this name answers.
-    fn of(alloc: Global, call: &str, bytes: &str) -> Result<Answers, AllocError> {
-        Ok(Answers {
-            ber: answered(alloc, BERMode::Ber, call, bytes)?,
-            der: answered(alloc, BERMode::Der, call, bytes)?,
-            cer: answered(alloc, BERMode::Cer, call, bytes)?,
+impl Outcomes {
+    // What the call of this name returns.
+    fn of(alloc: Global, call: &str, bytes: &str) -> Result<Outcomes, AllocError> {
+        Ok(Outcomes {
+            ber: outcome_for(alloc, BERMode::Ber, call, bytes)?,
+            der: outcome_for(alloc, BERMode::Der, call, bytes)?,
+            cer: outcome_for(alloc, BERMode::Cer, call, bytes)?,
         })
     }
 
     // What is wrong among them.
-    fn fault(&self, kind: Kind, bytes: &str, accepted: &mut u64) -> Option<&'static str> {
+    fn error(&self, kind: CallClass, bytes: &str, accepted: &mut u64) -> Option<&'static str> {
         let ber = self.ber.as_str();
         let der = self.der.as_str();
         let cer = self.cer.as_str();
@@ -250,83 +250,83 @@ impl Answers {
         count_accepted(ber, accepted);
         count_accepted(der, accepted);
         count_accepted(cer, accepted);
-        if form_of(der).is_some() && ber != der {
+        if encoding_of(der).is_some() && ber != der {
             return Some("BER answers otherwise than DER");
         }
-        if is_other_form(kind, der, bytes) {
+        if is_other_encoding(kind, der, bytes) {
             return Some("DER took what is not the form");
         }
-        if form_of(cer).is_some() && value_of(ber) != value_of(cer) {
+        if encoding_of(cer).is_some() && value_of(ber) != value_of(cer) {
             return Some("BER answers otherwise than CER");
         }
-        if is_other_form(kind, cer, bytes) {
+        if is_other_encoding(kind, cer, bytes) {
             return Some("CER took what is not the form");
         }
         None
     }
 }
 
-// Whether an answer shows another form than these bytes, where it may not.
-fn is_other_form(kind: Kind, answer: &str, bytes: &str) -> bool {
-    match (kind, form_of(answer)) {
-        (Kind::Lenient, _) | (_, None) => false,
-        (_, Some(form)) => form != bytes,
+// Whether a result shows another encoding than these bytes, where it may not.
+fn is_other_encoding(kind: CallClass, outcome: &str, bytes: &str) -> bool {
+    match (kind, encoding_of(outcome)) {
+        (CallClass::Lenient, _) | (_, None) => false,
+        (_, Some(encoding)) => encoding != bytes,
     }
 }
 
-// Counts an answer that shows a value.
-fn count_accepted(answer: &str, accepted: &mut u64) {
-    if form_of(answer).is_some() {
+// Counts a result that shows a value.
+fn count_accepted(outcome: &str, accepted: &mut u64) {
+    if encoding_of(outcome).is_some() {
         *accepted = accepted.saturating_add(1);
     }
 }
 
-// What is wrong with a call's answers on the form that is written of the value in this answer.
-fn form_fault(
+// What is wrong with a call's returns on the encoding that is written of the value in this result.
+fn encoding_error(
     alloc: Global,
-    kind: Kind,
+    kind: CallClass,
     call: &str,
     ber: &str,
-    form: &str,
+    encoding: &str,
 ) -> Result<Option<&'static str>, AllocError> {
-    let again = answered(alloc, BERMode::Ber, call, form)?;
+    let again = outcome_for(alloc, BERMode::Ber, call, encoding)?;
     if !agree(kind, ber, again.as_str()) {
         return Ok(Some("BER reads the form as another value"));
     }
-    let again = answered(alloc, BERMode::Der, call, form)?;
-    if !matches!(kind, Kind::Raw) && !agree(kind, ber, again.as_str()) {
+    let again = outcome_for(alloc, BERMode::Der, call, encoding)?;
+    if !matches!(kind, CallClass::Raw) && !agree(kind, ber, again.as_str()) {
         return Ok(Some("DER reads the form as another value"));
     }
     Ok(None)
 }
 
-// Whether two answers are of one value, or, where it shows more, of values that are written the same.
-fn agree(kind: Kind, first: &str, second: &str) -> bool {
+// Whether two returns are of one value, or, where it shows more, of values that are written the same.
+fn agree(kind: CallClass, first: &str, second: &str) -> bool {
     match kind {
-        Kind::Showing => form_of(first) == form_of(second),
-        Kind::Plain | Kind::Lenient | Kind::Raw => first == second,
+        CallClass::Showing => encoding_of(first) == encoding_of(second),
+        CallClass::Plain | CallClass::Lenient | CallClass::Raw => first == second,
     }
 }
 
 // Whether an answer is none of a read with ample memory.
-fn is_none(answer: &str) -> bool {
-    answer == "unknown" || answer == "err OutOfMemory"
+fn is_none(outcome: &str) -> bool {
+    outcome == "unknown" || outcome == "err OutOfMemory"
 }
 
-// The value that an answer shows.
-fn value_of(answer: &str) -> Option<&str> {
-    let (value, _) = answer.strip_prefix("ok ")?.rsplit_once(' ')?;
+// The value that a result shows.
+fn value_of(outcome: &str) -> Option<&str> {
+    let (value, _) = outcome.strip_prefix("ok ")?.rsplit_once(' ')?;
     Some(value)
 }
 
-// What was written of a value that an answer shows.
-fn form_of(answer: &str) -> Option<&str> {
-    let (_, form) = answer.strip_prefix("ok ")?.rsplit_once(' ')?;
-    Some(form)
+// What was written of a value that a result shows.
+fn encoding_of(outcome: &str) -> Option<&str> {
+    let (_, encoding) = outcome.strip_prefix("ok ")?.rsplit_once(' ')?;
+    Some(encoding)
 }
 
-// What a call answers on these bytes.
-fn answered<'a>(
+// What a call returns on these bytes.
+fn outcome_for<'a>(
     alloc: Global,
     mode: BERMode,
     call: &'a str,
@@ -339,5 +339,5 @@ fn answered<'a>(
         arg: bytes,
         marked: false,
     };
-    answer_or_unknown(alloc, &case)
+    outcome_or_unknown(alloc, &case)
 }

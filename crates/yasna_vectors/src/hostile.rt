@@ -9,11 +9,11 @@
 //! | | it is 128, in DER (X.690, 10.1), and in CER of a primitive element (X.690, 9.1) | Invalid |
 //! | | it is 0 in place of 128, in CER (X.690, 9.1) | Invalid |
 //!
-//! Some fronts answer otherwise: those of a SET of indefinite length that end behind its header or behind an element. Its
-//! callback runs before its end is missed; where it refuses these elements, that is the answer.
+//! Some prefixes answer otherwise: those of a SET of indefinite length that end after its header or after an element. Its
+//! callback runs before its end is missed; where it rejects these elements, that is the result.
 
-use crate::answer::answer_or_unknown;
 use crate::line::{Case, Line};
+use crate::outcome::outcome_or_unknown;
 use crate::run::{Report, Verdict};
 use std::alloc::{AllocError, Global};
 
@@ -65,7 +65,7 @@ fn check_case(
     }
     let case = with(case, case.call, &digits);
     match group {
-        Group::Cut => check_fronts(alloc, &case, tally),
+        Group::Cut => check_prefixes(alloc, &case, tally),
         Group::Length => check_lengths(alloc, &case, tally),
     }
 }
@@ -90,7 +90,7 @@ fn report(group: Group, tally: Tally) -> Result<Report, AllocError> {
 fn accepted(line: &str) -> Option<Case<'_>> {
     let line = Line::parse(line)?;
     let takes_bytes = line.case.takes_bytes() && line.case.arg != "-" && line.case.arg.len() <= 600;
-    if takes_bytes && line.wanted.starts_with("ok ") {
+    if takes_bytes && line.expected.starts_with("ok ") {
         Some(line.case)
     } else {
         None
@@ -98,23 +98,23 @@ fn accepted(line: &str) -> Option<Case<'_>> {
 }
 
 // Checks each proper front of a case's bytes.
-fn check_fronts(alloc: Global, case: &Case, tally: &mut Tally) -> Result<(), AllocError> {
+fn check_prefixes(alloc: Global, case: &Case, tally: &mut Tally) -> Result<(), AllocError> {
     for end in (0..case.arg.len()).step_by(2) {
-        let front = case.arg.get(..end).unwrap_or("");
-        let wanted = front_answer(alloc, case, front)?;
-        check(alloc, case, front, wanted, tally)?;
+        let prefix = case.arg.get(..end).unwrap_or("");
+        let expected = prefix_outcome(alloc, case, prefix)?;
+        check(alloc, case, prefix, expected, tally)?;
     }
     Ok(())
 }
 
-// What a front is to answer.
-fn front_answer(alloc: Global, case: &Case, front: &str) -> Result<&'static str, AllocError> {
-    if !front.starts_with("3180") {
+// What a front is to return.
+fn prefix_outcome(alloc: Global, case: &Case, prefix: &str) -> Result<&'static str, AllocError> {
+    if !prefix.starts_with("3180") {
         return Ok("err Eof");
     }
-    let ended = format!(in alloc; "{front}0000")?;
-    let is_whole = answers(alloc, &with(case, "der", &ended), "ok ")?;
-    if is_whole && answers(alloc, &with(case, case.call, &ended), "err Invalid")? {
+    let ended = format!(in alloc; "{prefix}0000")?;
+    let is_whole = outcomes(alloc, &with(case, "der", &ended), "ok ")?;
+    if is_whole && outcomes(alloc, &with(case, case.call, &ended), "err Invalid")? {
         Ok("err Invalid")
     } else {
         Ok("err Eof")
@@ -122,8 +122,8 @@ fn front_answer(alloc: Global, case: &Case, front: &str) -> Result<&'static str,
 }
 
 // Whether a case's answer begins so.
-fn answers(alloc: Global, case: &Case, beginning: &str) -> Result<bool, AllocError> {
-    Ok(answer_or_unknown(alloc, case)?.starts_with(beginning))
+fn outcomes(alloc: Global, case: &Case, beginning: &str) -> Result<bool, AllocError> {
+    Ok(outcome_or_unknown(alloc, case)?.starts_with(beginning))
 }
 
 // A change of the first byte of a length.
@@ -131,43 +131,43 @@ fn answers(alloc: Global, case: &Case, beginning: &str) -> Result<bool, AllocErr
 struct Change {
     // the mode in which it is made; in each where there is none
     mode: Option<&'static str>,
-    // what stands there, where it matters
+    // what is there, where it matters
     from: &'static str,
     to: &'static str,
-    wanted: &'static str,
+    expected: &'static str,
 }
 
-// These changes: none is made where the byte stands there.
+// These changes: none is made where the byte is there.
 static CHANGES: [Change; 5] = [
     Change {
         mode: None,
         from: "",
         to: "ff",
-        wanted: "err Invalid",
+        expected: "err Invalid",
     },
     Change {
         mode: None,
         from: "",
         to: "fe",
-        wanted: "err Eof",
+        expected: "err Eof",
     },
     Change {
         mode: Some("der"),
         from: "",
         to: "80",
-        wanted: "err Invalid",
+        expected: "err Invalid",
     },
     Change {
         mode: Some("cer"),
         from: "",
         to: "80",
-        wanted: "err Invalid",
+        expected: "err Invalid",
     },
     Change {
         mode: Some("cer"),
         from: "80",
         to: "00",
-        wanted: "err Invalid",
+        expected: "err Invalid",
     },
 ];
 
@@ -179,7 +179,7 @@ fn check_lengths(alloc: Global, case: &Case, tally: &mut Tally) -> Result<(), Al
         if change.fits(case.mode_name(), length) {
             let to = change.to;
             let changed = format!(in alloc; "{identifier}{to}{others}")?;
-            check(alloc, case, &changed, change.wanted, tally)?;
+            check(alloc, case, &changed, change.expected, tally)?;
         }
     }
     Ok(())
@@ -194,19 +194,19 @@ impl Change {
     }
 }
 
-// The first identifier of a text in hexadecimal, and what stands behind it.
+// The first identifier of a text in hexadecimal, and what is after it.
 fn at_length(text: &str) -> (&str, &str) {
     let place = identifier_digits(text);
     text.split_at_checked(place).unwrap_or((text, ""))
 }
 
-// Whether the first two hexadecimal digits end in five bits that are set: the number stands in the bytes behind (X.690, 8.1.2.4).
+// Whether the first two hexadecimal digits end in five bits that are set: the number is in the bytes after (X.690, 8.1.2.4).
 fn is_long(text: &str) -> bool {
     text.starts_with(['1', '3', '5', '7', '9', 'b', 'd', 'f']) && text.get(1..2) == Some("f")
 }
 
 // How many hexadecimal digits the first identifier of a text has (X.690, 8.1.2): two, and in the long form those of each
-// byte from 128 on behind, and of the one that follows these.
+// byte from 128 on after, and of the one that follows these.
 fn identifier_digits(text: &str) -> usize {
     if !is_long(text) {
         return 2;
@@ -232,18 +232,18 @@ fn with<'a>(case: &Case, call: &'a str, bytes: &'a str) -> Case<'a> {
     }
 }
 
-// Checks what a case's call answers on other bytes.
+// Checks what a case's call returns on other bytes.
 fn check(
     alloc: Global,
     case: &Case,
     bytes: &str,
-    wanted: &str,
+    expected: &str,
     tally: &mut Tally,
 ) -> Result<(), AllocError> {
     tally.tried = tally.tried.saturating_add(1);
     let changed = with(case, case.call, bytes);
-    let came = answer_or_unknown(alloc, &changed)?;
-    if came.as_str() == wanted {
+    let came = outcome_or_unknown(alloc, &changed)?;
+    if came.as_str() == expected {
         return Ok(());
     }
     tally.failed = tally.failed.saturating_add(1);
@@ -253,6 +253,6 @@ fn check(
     let came = came.as_str();
     writeln!(
         tally.text,
-        "{mode} {call} {bytes} => {wanted}\n    came {came}"
+        "{mode} {call} {bytes} => {expected}\n    came {came}"
     )
 }

@@ -4,7 +4,7 @@
 //! |---|---|---|
 //! | numbers, BOOLEAN, NULL | the read of the type | as it is shown |
 //! | a big INTEGER | read_bigint_bytes | contents in hexadecimal, a slash, whether it isn't negative |
-//! | strings | the read of the type | bytes in hexadecimal; behind those of a bit string a slash and the count of bits |
+//! | strings | the read of the type | bytes in hexadecimal; after those of a bit string a slash and the count of bits |
 //! | OBJECT IDENTIFIER | read_oid | its components with points between them |
 //! | `Raw` | read_der | bytes in hexadecimal |
 //! | `Tagged` | read_tagged_der | |
@@ -12,8 +12,8 @@
 //! | `Around` | read_sequence of an INTEGER, the next part | the number in brackets |
 //! | `Within` | the same; the number alone is what was read | |
 //! | `Choice` | lookahead_tag: INTEGER, or else NULL | |
-//! | `Again` | read_i64, and once more where that is refused | |
-//! | `Idle`, `Refused` | nothing: NULL comes of it, or a refusal | |
+//! | `Again` | read_i64, and once more where that is rejected | |
+//! | `Idle`, `Rejected` | nothing: NULL comes of it, or an error | |
 //!
 //! Where there is no text, such a value is read alone, and not made by a call that writes.
 
@@ -29,7 +29,7 @@ use yasna::{ASN1Error, ASN1ErrorKind, ASN1Result, BERReader, BERReaderSeq};
 
 /// What such an element is read as.
 #[derive(Clone, Copy)]
-pub enum Kind {
+pub enum ElementType {
     Bool,
     Null,
     Enum,
@@ -57,23 +57,23 @@ pub enum Kind {
     Choice,
     Again,
     Idle,
-    Refused(ASN1ErrorKind),
+    Rejected(ASN1ErrorKind),
 }
 
-impl Kind {
+impl ElementType {
     /// Reads such an element.
     pub fn read(self, reader: BERReader) -> ASN1Result<Leaf> {
         Ok(match self {
-            Kind::Bool => Leaf::Bool(reader.read_bool()?),
-            Kind::Enum => Leaf::Enum(reader.read_enum()?),
-            Kind::I64 => Leaf::I64(reader.read_i64()?),
-            Kind::I32 => Leaf::I32(reader.read_i32()?),
-            Kind::I16 => Leaf::I16(reader.read_i16()?),
-            Kind::I8 => Leaf::I8(reader.read_i8()?),
-            Kind::U64 => Leaf::U64(reader.read_u64()?),
-            Kind::U32 => Leaf::U32(reader.read_u32()?),
-            Kind::U16 => Leaf::U16(reader.read_u16()?),
-            Kind::U8 => Leaf::U8(reader.read_u8()?),
+            ElementType::Bool => Leaf::Bool(reader.read_bool()?),
+            ElementType::Enum => Leaf::Enum(reader.read_enum()?),
+            ElementType::I64 => Leaf::I64(reader.read_i64()?),
+            ElementType::I32 => Leaf::I32(reader.read_i32()?),
+            ElementType::I16 => Leaf::I16(reader.read_i16()?),
+            ElementType::I8 => Leaf::I8(reader.read_i8()?),
+            ElementType::U64 => Leaf::U64(reader.read_u64()?),
+            ElementType::U32 => Leaf::U32(reader.read_u32()?),
+            ElementType::U16 => Leaf::U16(reader.read_u16()?),
+            ElementType::U8 => Leaf::U8(reader.read_u8()?),
             _ => return self.read_other(reader),
         })
     }
@@ -81,21 +81,21 @@ impl Kind {
     // The same of one that isn't a number as Rust has it or a BOOLEAN.
     fn read_other(self, reader: BERReader) -> ASN1Result<Leaf> {
         Ok(match self {
-            Kind::BigInteger => {
+            ElementType::BigInteger => {
                 let (contents, positive) = reader.read_bigint_bytes()?;
                 Leaf::BigInteger(contents, positive)
             }
-            Kind::Bytes => Leaf::Bytes(reader.read_bytes()?),
-            Kind::Bits => {
+            ElementType::Bytes => Leaf::Bytes(reader.read_bytes()?),
+            ElementType::Bits => {
                 let (bytes, count) = reader.read_bitvec_bytes()?;
                 Leaf::Bits(bytes, count)
             }
-            Kind::Text(class) => Leaf::Text(class, class.read(reader)?),
-            Kind::Identifier => Leaf::Identifier(reader.read_oid()?),
-            Kind::UtcTime => Leaf::UtcTime(reader.read_utctime()?),
-            Kind::GeneralizedTime => Leaf::GeneralizedTime(reader.read_generalized_time()?),
-            Kind::Raw => Leaf::Raw(reader.read_der()?),
-            Kind::Tagged => Leaf::Tagged(reader.read_tagged_der()?),
+            ElementType::Text(class) => Leaf::Text(class, class.read(reader)?),
+            ElementType::Identifier => Leaf::Identifier(reader.read_oid()?),
+            ElementType::UtcTime => Leaf::UtcTime(reader.read_utctime()?),
+            ElementType::GeneralizedTime => Leaf::GeneralizedTime(reader.read_generalized_time()?),
+            ElementType::Raw => Leaf::Raw(reader.read_der()?),
+            ElementType::Tagged => Leaf::Tagged(reader.read_tagged_der()?),
             _ => return self.read_composed(reader),
         })
     }
@@ -103,23 +103,23 @@ impl Kind {
     // The same of one that takes several reads, or none.
     fn read_composed(self, reader: BERReader) -> ASN1Result<Leaf> {
         Ok(match self {
-            Kind::Null => return read_null(reader),
-            Kind::Nest(depth) => Leaf::Nested(read_nest(depth, reader)?),
-            Kind::Nests => Leaf::Nested(read_nests(reader)?),
-            Kind::Around => {
+            ElementType::Null => return read_null(reader),
+            ElementType::Nest(depth) => Leaf::Nested(read_nest(depth, reader)?),
+            ElementType::Nests => Leaf::Nested(read_nests(reader)?),
+            ElementType::Around => {
                 let number = reader.read_sequence(read_next_integer)?;
                 Leaf::Nested(Nested::around(number))
             }
-            Kind::Within => Leaf::I64(reader.read_sequence(read_next_integer)?),
-            Kind::Choice if reader.lookahead_tag()? == TAG_INTEGER => {
+            ElementType::Within => Leaf::I64(reader.read_sequence(read_next_integer)?),
+            ElementType::Choice if reader.lookahead_tag()? == TAG_INTEGER => {
                 Leaf::I64(reader.read_i64()?)
             }
-            Kind::Choice => return read_null(reader),
-            Kind::Again => Leaf::I64(match reader.read_i64() {
+            ElementType::Choice => return read_null(reader),
+            ElementType::Again => Leaf::I64(match reader.read_i64() {
                 Ok(number) => number,
                 Err(_) => reader.read_i64()?,
             }),
-            Kind::Refused(kind) => return Err(ASN1Error::new(kind)),
+            ElementType::Rejected(kind) => return Err(ASN1Error::new(kind)),
             _ => Leaf::Null,
         })
     }
@@ -127,23 +127,23 @@ impl Kind {
     /// The value that a text is.
     pub fn value(self, alloc: Global, text: &str) -> Option<Result<Leaf, AllocError>> {
         match self {
-            Kind::BigInteger | Kind::Bits => {
+            ElementType::BigInteger | ElementType::Bits => {
                 let (bytes, others) = text.split_once('/')?;
                 self.value_of_bytes(bytes_of(alloc, bytes)?, others)
             }
-            Kind::Bytes | Kind::Text(_) | Kind::Raw => self.value_of_bytes(
+            ElementType::Bytes | ElementType::Text(_) | ElementType::Raw => self.value_of_bytes(
                 bytes_of(alloc, text)?,
                 "",
             ),
-            Kind::Identifier => match identifier(alloc, text) {
+            ElementType::Identifier => match identifier(alloc, text) {
                 Ok(identifier) => Some(Ok(Leaf::Identifier(identifier?))),
-                Err(lack) => Some(Err(lack)),
+                Err(out_of_memory) => Some(Err(out_of_memory)),
             },
             _ => Some(Ok(self.small(text)?)),
         }
     }
 
-    // The value that bytes are, and what stands behind them in a text.
+    // The value that bytes are, and what is after them in a text.
     fn value_of_bytes(
         self,
         bytes: Result<Vec<u8>, AllocError>,
@@ -151,13 +151,13 @@ impl Kind {
     ) -> Option<Result<Leaf, AllocError>> {
         let bytes = match bytes {
             Ok(bytes) => bytes,
-            Err(lack) => return Some(Err(lack)),
+            Err(out_of_memory) => return Some(Err(out_of_memory)),
         };
         Some(Ok(match self {
-            Kind::BigInteger => Leaf::BigInteger(bytes, others.parse().ok()?),
-            Kind::Bits => Leaf::Bits(bytes, others.parse().ok()?),
-            Kind::Text(class) => Leaf::Text(class, String::from_utf8(bytes).ok()?),
-            Kind::Raw => Leaf::Raw(bytes),
+            ElementType::BigInteger => Leaf::BigInteger(bytes, others.parse().ok()?),
+            ElementType::Bits => Leaf::Bits(bytes, others.parse().ok()?),
+            ElementType::Text(class) => Leaf::Text(class, String::from_utf8(bytes).ok()?),
+            ElementType::Raw => Leaf::Raw(bytes),
             _ => Leaf::Bytes(bytes),
         }))
     }
@@ -165,21 +165,21 @@ impl Kind {
     // The same where no memory is asked for.
     fn small(self, text: &str) -> Option<Leaf> {
         match self {
-            Kind::Bool => Some(Leaf::Bool(text.parse().ok()?)),
-            Kind::Null if text == "()" => Some(Leaf::Null),
-            Kind::Around => {
+            ElementType::Bool => Some(Leaf::Bool(text.parse().ok()?)),
+            ElementType::Null if text == "()" => Some(Leaf::Null),
+            ElementType::Around => {
                 let number = text.strip_prefix('(')?.strip_suffix(')')?;
                 Some(Leaf::Nested(Nested::around(number.parse().ok()?)))
             }
-            Kind::Enum
-            | Kind::I64
-            | Kind::I32
-            | Kind::I16
-            | Kind::I8
-            | Kind::U64
-            | Kind::U32
-            | Kind::U16
-            | Kind::U8 => self.number(text).ok(),
+            ElementType::Enum
+            | ElementType::I64
+            | ElementType::I32
+            | ElementType::I16
+            | ElementType::I8
+            | ElementType::U64
+            | ElementType::U32
+            | ElementType::U16
+            | ElementType::U8 => self.number(text).ok(),
             _ => None,
         }
     }
@@ -187,14 +187,14 @@ impl Kind {
     // The same of a number.
     fn number(self, text: &str) -> Result<Leaf, ParseIntError> {
         Ok(match self {
-            Kind::Enum => Leaf::Enum(text.parse()?),
-            Kind::I32 => Leaf::I32(text.parse()?),
-            Kind::I16 => Leaf::I16(text.parse()?),
-            Kind::I8 => Leaf::I8(text.parse()?),
-            Kind::U64 => Leaf::U64(text.parse()?),
-            Kind::U32 => Leaf::U32(text.parse()?),
-            Kind::U16 => Leaf::U16(text.parse()?),
-            Kind::U8 => Leaf::U8(text.parse()?),
+            ElementType::Enum => Leaf::Enum(text.parse()?),
+            ElementType::I32 => Leaf::I32(text.parse()?),
+            ElementType::I16 => Leaf::I16(text.parse()?),
+            ElementType::I8 => Leaf::I8(text.parse()?),
+            ElementType::U64 => Leaf::U64(text.parse()?),
+            ElementType::U32 => Leaf::U32(text.parse()?),
+            ElementType::U16 => Leaf::U16(text.parse()?),
+            ElementType::U8 => Leaf::U8(text.parse()?),
             _ => Leaf::I64(text.parse()?),
         })
     }

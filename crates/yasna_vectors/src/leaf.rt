@@ -10,12 +10,12 @@
 //! | a text | `sHEX` | the write of its class |
 //! | an object identifier | `o1.2.3` | write_oid |
 //! | a time | `tTEXT` | the write of its type |
-//! | an element as it stands | `rHEX` | write_der |
+//! | an element as it is | `rHEX` | write_der |
 //! | a tagged value | its tag, its bit and its payload | write_tagged_der |
 //! | SEQUENCEs one in the other around an INTEGER | the number | `nest.rt` |
 //! | an element that was shown and written before | as it was | write_der |
-//! | a number that is refused | the number | write_sequence of write_i64, whose closure then answers Err(Invalid) |
-//! | a number whose refusal is thrown away | the number | the same, thrown away |
+//! | a number that is rejected | the number | write_sequence of write_i64, whose closure then returns Err(Invalid) |
+//! | a number whose error is discarded | the number | the same, discarded |
 //! | what is absent | `none` | no call |
 ghost use Rattle.std.specs.Prelude.{◌↔◌, ◌≤◌, ◌<◌, ◌+◌, ◌*◌, IsTrue};
 
@@ -52,9 +52,9 @@ pub enum Leaf {
     Raw(Vec<u8>),
     Tagged(TaggedDerValue),
     Nested(Nested),
-    /// How an element is shown, and its form.
+    /// How an element is shown, and its encoding.
     Known(String, Vec<u8>),
-    Refused(i64),
+    Rejected(i64),
     Discarded(i64),
     Absent,
 }
@@ -67,7 +67,7 @@ impl Leaf {
             Leaf::Null => text.push("()"),
             Leaf::Enum(number)
             | Leaf::I64(number)
-            | Leaf::Refused(number)
+            | Leaf::Rejected(number)
             | Leaf::Discarded(number) => text.push_value(number),
             Leaf::I32(number) => text.push_value(number),
             Leaf::I16(number) => text.push_value(number),
@@ -141,9 +141,9 @@ impl Leaf {
             Leaf::Raw(element) | Leaf::Known(_, element) => writer.write_der(element),
             Leaf::Tagged(value) => writer.write_tagged_der(value),
             Leaf::Nested(nested) => nested.write(writer),
-            Leaf::Refused(number) => write_refused(writer, *number),
+            Leaf::Rejected(number) => write_rejected(writer, *number),
             Leaf::Discarded(number) => {
-                let _ = write_refused(writer, *number);
+                let _ = write_rejected(writer, *number);
                 Ok(())
             }
             Leaf::Absent => Ok(()),
@@ -199,7 +199,7 @@ fn show_tagged(value: &TaggedDerValue, text: &mut Text) {
     text.push_bytes(value.value());
 }
 
-/// Writes an object identifier; Err(Invalid) where it has no form.
+/// Writes an object identifier; Err(Invalid) where it has no encoding.
 pub fn write_identifier(identifier: &ObjectIdentifier, writer: DERWriter<'_>) -> ASN1Result<()> {
     if identifier.is_encodable() {
         writer.write_oid(identifier)
@@ -208,8 +208,8 @@ pub fn write_identifier(identifier: &ObjectIdentifier, writer: DERWriter<'_>) ->
     }
 }
 
-// Writes a number in a sequence whose closure answers an Err.
-fn write_refused(writer: DERWriter<'_>, number: i64) -> ASN1Result<()> {
+// Writes a number in a sequence whose closure returns an Err.
+fn write_rejected(writer: DERWriter<'_>, number: i64) -> ASN1Result<()> {
     writer.write_sequence(|seq| {
         seq.next().write_i64(number)?;
         Err(ASN1Error::new(ASN1ErrorKind::Invalid))

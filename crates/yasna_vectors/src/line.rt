@@ -23,18 +23,18 @@ pub struct Case<'a> {
     /// The rules to read by; none where nothing is read.
     pub mode: Option<BERMode>,
     pub call: &'a str,
-    /// The second call in a SEQUENCE, behind a `/`.
+    /// The second call in a SEQUENCE, after a `/`.
     pub second: Option<&'a str>,
     pub arg: &'a str,
-    /// Whether the answer says if a refused read moved.
+    /// Whether the result says if a rejected read moved.
     pub marked: bool,
 }
 
-/// A call, and the answer that is to come.
+/// A call, and the result that is to come.
 #[derive(Drop)]
 pub struct Line<'a> {
     pub case: Case<'a>,
-    pub wanted: &'a str,
+    pub expected: &'a str,
 }
 
 /// Splits a text at the first space and at the next one.
@@ -85,23 +85,23 @@ impl<'a> Case<'a> {
         }
     }
 
-    /// The bytes that the argument stands for, if it is such a text: pieces with `+` between them, each in hexadecimal, with
-    /// `*` and a number behind it where it stands so many times.
+    /// The bytes that the argument represents, if it is such a text: pieces with `+` between them, each in hexadecimal, with
+    /// `*` and a number after it where it is so many times.
     pub fn bytes(&self, alloc: Global) -> Option<Result<Vec<u8>, AllocError>> {
         if !self.arg.contains(['+', '*']) {
             return bytes_of(alloc, self.arg);
         }
         let mut bytes = Vec::new(alloc);
         for piece in self.arg.split('+') {
-            if let Err(lack) = append(&mut bytes, piece)? {
-                return Some(Err(lack));
+            if let Err(out_of_memory) = append(&mut bytes, piece)? {
+                return Some(Err(out_of_memory));
             }
         }
         Some(Ok(bytes))
     }
 }
 
-// Appends a piece as often as it stands, if it is one.
+// Appends a piece as often as it is, if it is one.
 fn append(bytes: &mut Vec<u8>, piece: &str) -> Option<Result<(), AllocError>> {
     let (text, times) = match piece.split_once('*') {
         Some((text, times)) => (text, times.parse().ok()?),
@@ -109,7 +109,7 @@ fn append(bytes: &mut Vec<u8>, piece: &str) -> Option<Result<(), AllocError>> {
     };
     match bytes_of(*bytes.allocator(), text)? {
         Ok(piece) => Some(append_times(bytes, &piece, times)),
-        Err(lack) => Some(Err(lack)),
+        Err(out_of_memory) => Some(Err(out_of_memory)),
     }
 }
 
@@ -124,25 +124,25 @@ fn append_times(bytes: &mut Vec<u8>, piece: &[u8], times: u64) -> Result<(), All
 impl<'a> Line<'a> {
     /// The line `MODE CALL ARG => ANSWER`.
     pub fn parse(text: &'a str) -> Option<Line<'a>> {
-        let (call, wanted) = text.split_once(" => ")?;
-        let marked = wanted.ends_with("moved");
+        let (call, expected) = text.split_once(" => ")?;
+        let marked = expected.ends_with("moved");
         let case = Case::parse(call, marked)?;
-        Some(Line { case, wanted })
+        Some(Line { case, expected })
     }
 }
 
-/// Whether this came where that is wanted: pieces with `+` between them, with `*` and a number behind one that stands so many
+/// Whether this came where that is wanted: pieces with `+` between them, with `*` and a number after one that is so many
 /// times.
-pub fn is_answer(came: &str, wanted: &str) -> bool {
+pub fn is_outcome(came: &str, expected: &str) -> bool {
     let mut others = came;
-    for piece in wanted.split('+') {
+    for piece in expected.split('+') {
         let (text, times) = match piece.split_once('*') {
             Some((text, times)) => (text, times.parse().unwrap_or(0)),
             None => (piece, 1u64),
         };
         for _ in 0..times {
             match others.strip_prefix(text) {
-                Some(behind) => others = behind,
+                Some(after) => others = after,
                 None => return false,
             }
         }
@@ -150,7 +150,7 @@ pub fn is_answer(came: &str, wanted: &str) -> bool {
     others.is_empty()
 }
 
-/// The bytes that a text in hexadecimal stands for, `-` for none.
+/// The bytes that a text in hexadecimal represents, `-` for none.
 pub fn bytes_of(alloc: Global, text: &str) -> Option<Result<Vec<u8>, AllocError>>
     ensures bytes { text.now ≢ codes "-" → IfSome result (λ found. IfOk found (λ bytes. decode_of text.now ≡ Ok bytes.items)) }
     ensures dash { text.now ≡ codes "-" → IfSome result (λ found. IfOk found (λ bytes. bytes.items ≡ [])) }

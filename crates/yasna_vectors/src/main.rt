@@ -1,15 +1,15 @@
 //! Lines of calls and answers, run through the public calls of `yasna`.
 //!
 //! A line is `MODE CALL ARG => ANSWER`. MODE is `ber`, `der` or `cer` where bytes are read, `x` elsewhere. ARG is the bytes in
-//! hexadecimal, `-` for none, unless the call says otherwise; `3080*200+00` is 200 times the bytes 3080, and a byte 00 behind.
-//! ANSWER is `ok VALUE HEX`, where HEX is what the matching writes make of the value in DER, or `err KIND`. Behind a refused
-//! read may stand ` moved` or ` unmoved`: then the call is made twice in a SEQUENCE around ARG, in CER in none, and says
-//! whether the failure is kept. ANSWER may say how often a text stands in it too: `ok h+5b*3+ 0403+5b*3` is `ok h5b5b5b 04035b5b5b`.
+//! hexadecimal, `-` for none, unless the call says otherwise; `3080*200+00` is 200 times the bytes 3080, and a byte 00 after.
+//! ANSWER is `ok VALUE HEX`, where HEX is what the matching writes make of the value in DER, or `err KIND`. After a rejected
+//! read may be ` moved` or ` consumed_nothing`: then the call is made twice in a SEQUENCE around ARG, in CER in none, and says
+//! whether the error is sticky. ANSWER may say how often a text is in it too: `ok h+5b*3+ 0403+5b*3` is `ok h5b5b5b 04035b5b5b`.
 //! Lines that begin with `#` and blank lines are passed over.
 //!
 //! With no argument the program reads such lines from standard input, and says how many ran and how many failed; each
 //! that failed is printed with what came. Then it says the same of the lines' bytes, cut and with other lengths. With the
-//! argument `answer` it reads lines with no answer, and prints one each, `unknown` where it has no such call. `task` tells
+//! argument `outcome` it reads lines with no answer, and prints one each, `unknown` where it has no such call. `task` tells
 //! the other arguments.
 //!
 //! | Status | When |
@@ -28,31 +28,29 @@
 //! | `hostile` | their bytes, cut and with other lengths |
 //! | `memory` | lines of which a request for memory is refused |
 //! | `fuzz`, `mutation`, `random` | calls on random input, and how it is made |
-//! | `text` | answers as text |
-//! | `answer` | which family answers a call |
+//! | `text` | returns as text |
+//! | `outcome` | which family returns a call |
 //! | `calls` | the calls that read, by their names |
 //! | `reads` | what such a call reads |
 //! | `reading` | how such a call is made |
 //! | `kind`, `steps` | what an element is read as that is one value, and what is read in a SEQUENCE and in a SET |
 //! | `leaf`, `parts` | what was read: values, and elements made of them |
 //! | `strings`, `nest` | classes of text, SEQUENCEs one in the other |
-//! | `tree` | elements of many types, as deep as they stand |
+//! | `tree` | elements of many types, as deep as they are |
 //! | `many` | octet strings and lists of any length |
-//! | `kept_failures` | failures that callbacks throw away, call in call |
+//! | `sticky_errors` | failures that callbacks discard, call in call |
 //! | `whole` | types that are read and written as a whole |
 //! | `writing`, `length` | calls that write |
-//! | `refusing_closures` | writes whose closures refuse, call in call |
+//! | `rejecting_closures` | writes whose closures reject, call in call |
 //! | `oid`, `times` | object identifiers and times from texts |
-//! | `tag`, `refusal`, `mode` | tags, the texts of refusals, the mode that a callback sees |
-//! | `forms` | parses and writes by the mode |
+//! | `tag`, `rejection`, `mode` | tags, the texts of errors, the mode that a callback sees |
+//! | `encodings` | parses and writes by the mode |
 #![tactic(auto)]
 
-mod answer;
 mod calls;
-mod forms;
+mod encodings;
 mod fuzz;
 mod hostile;
-mod kept_failures;
 mod kind;
 mod leaf;
 mod length;
@@ -64,14 +62,16 @@ mod mutation;
 mod names;
 mod nest;
 mod oid;
+mod outcome;
 mod parts;
 mod random;
 mod reading;
 mod reads;
-mod refusal;
-mod refusing_closures;
+mod rejecting_closures;
+mod rejection;
 mod run;
 mod steps;
+mod sticky_errors;
 mod strings;
 mod tag;
 mod task;
@@ -97,7 +97,7 @@ fn main(rt: HostRuntime) -> ExitCode {
         Err(error) => {
             let _ = eprintln!(rt; "{error}");
             match error.kind() {
-                io::ErrorKind::OutOfMemory => ExitCode::from(4),
+                io::ErrorElementType::OutOfMemory => ExitCode::from(4),
                 _ => ExitCode::from(3),
             }
         }

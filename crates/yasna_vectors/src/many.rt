@@ -6,21 +6,21 @@
 //! | `cut` | N/K | the same in segments of K bytes, of definite length, in an element of indefinite length |
 //! | `seqof_many` | N | N INTEGERs 0 to N - 1 in a SEQUENCE OF |
 //!
-//! The answer is how many bytes were read, which are those that were put in, and how many the form has that is written of
+//! The result is how many bytes were read, which are those that were put in, and how many the encoding has that is written of
 //! them; of a list how many numbers were collected, and of how many bytes.
 
-use crate::answer::Answer;
 use crate::calls::{BYTES, NUMBERS};
 use crate::leaf::Leaf;
 use crate::line::Case;
+use crate::outcome::Outcome;
 use crate::parts::{Element, Group, Part, append};
-use crate::reading::{form_of, parse};
+use crate::reading::{encoding_of, parse};
 use crate::text::Text;
 use std::alloc::{AllocError, Global};
 use yasna::{ASN1Result, BERMode, construct_der};
 
-/// What a call of this family answers.
-pub fn answer(alloc: Global, mode: BERMode, case: &Case) -> Answer {
+/// What a call of this family returns.
+pub fn outcome(alloc: Global, mode: BERMode, case: &Case) -> Outcome {
     let (count, size) = match case.arg.split_once('/') {
         Some((count, size)) => (count, Some(size.parse().ok()?)),
         None => (case.arg, None),
@@ -40,11 +40,11 @@ pub fn answer(alloc: Global, mode: BERMode, case: &Case) -> Answer {
 fn shown(alloc: Global, counts: ASN1Result<(usize, usize)>) -> Text {
     match counts {
         Ok((read, written)) => Text::counts(alloc, &[read, written]),
-        Err(error) => Text::refused(alloc, error.kind()),
+        Err(error) => Text::rejected(alloc, error.kind()),
     }
 }
 
-// What reading so many bytes answers, in segments of so many.
+// What reading so many bytes returns, in segments of so many.
 fn octets(
     alloc: Global,
     mode: BERMode,
@@ -98,7 +98,7 @@ fn read_back(
     bytes: &[u8],
 ) -> ASN1Result<(usize, usize)> {
     let element = parse(alloc, mode, BYTES, encoded)?;
-    let written = form_of(alloc, mode, &element)?;
+    let written = encoding_of(alloc, mode, &element)?;
     match element.octets() {
         Some(read) if read == bytes => Ok((read.len(), written.len())),
         _ => Ok((0, 0)),
@@ -107,7 +107,7 @@ fn read_back(
 
 // How many numbers are collected of so many that are written, and in how many bytes.
 fn collected(alloc: Global, mode: BERMode, count: usize) -> ASN1Result<(usize, usize)> {
-    let bytes = form_of(alloc, mode, &numbers(alloc, count)?)?;
+    let bytes = encoding_of(alloc, mode, &numbers(alloc, count)?)?;
     match parse(alloc, mode, NUMBERS, &bytes)?.parts() {
         Some(items) => Ok((items.len(), bytes.len())),
         None => Ok((0, 0)),

@@ -1,34 +1,34 @@
 //! Lines in whose calls a request for memory is refused.
 //!
-//! `ci/refused_memory.sh` refuses one request of a run. The line whose request it is answers want of memory, or nothing where
-//! the harness found none for an argument or a text, or what it says where it does without; each other line answers what it
+//! `ci/refused_memory.sh` refuses one request of a run. The line whose request it is returns `OutOfMemory`, or nothing where
+//! the harness found none for an argument or a text, or what it says where it does without; each other line returns what it
 //! says.
 
-use crate::answer::answer;
-use crate::line::{Case, Line, is_answer};
+use crate::line::{Case, Line, is_outcome};
+use crate::outcome::outcome;
 use crate::run::{Report, Verdict};
 use std::alloc::{AllocError, Global};
 
-// What the lines answered.
+// What the lines returned.
 #[derive(Drop)]
 struct Tally {
     text: String,
     lines: u64,
-    // lines that `yasna` refused for want of memory
-    refused: u64,
+    // lines that `yasna` rejected when out of memory
+    rejected: u64,
     // lines with no answer, as there was no memory for their argument or their text
     silent: u64,
     failed: u64,
-    // the last line that lacked memory
+    // the last line that ran out of memory
     place: u64,
 }
 
-/// Runs the lines, and counts those that lacked memory.
+/// Runs the lines, and counts those that ran out of memory.
 pub fn run_lines(alloc: Global, lines: &str) -> Result<Report, AllocError> {
     let mut tally = Tally {
         text: String::new(alloc),
         lines: 0,
-        refused: 0,
+        rejected: 0,
         silent: 0,
         failed: 0,
         place: 0,
@@ -41,7 +41,7 @@ pub fn run_lines(alloc: Global, lines: &str) -> Result<Report, AllocError> {
     report(tally)
 }
 
-// Runs a line, and notes what it answered. Whether a refusal moved isn't asked, as that takes further calls.
+// Runs a line, and notes what it returned. Whether an error moved isn't asked, as that takes further calls.
 fn run_line(alloc: Global, line: &Line, tally: &mut Tally) -> Result<(), AllocError> {
     tally.lines = tally.lines.saturating_add(1);
     let case = Case {
@@ -51,15 +51,15 @@ fn run_line(alloc: Global, line: &Line, tally: &mut Tally) -> Result<(), AllocEr
         arg: line.case.arg,
         marked: false,
     };
-    match answer(alloc, &case) {
+    match outcome(alloc, &case) {
         Some(Err(_)) => {
             tally.silent = tally.silent.saturating_add(1);
             tally.place = tally.lines;
             Ok(())
         }
-        Some(Ok(came)) if is_answer(came.as_str(), unmarked(line.wanted)) => Ok(()),
+        Some(Ok(came)) if is_outcome(came.as_str(), unmarked(line.expected)) => Ok(()),
         Some(Ok(came)) if came.starts_with("err OutOfMemory") => {
-            tally.refused = tally.refused.saturating_add(1);
+            tally.rejected = tally.rejected.saturating_add(1);
             tally.place = tally.lines;
             Ok(())
         }
@@ -69,14 +69,14 @@ fn run_line(alloc: Global, line: &Line, tally: &mut Tally) -> Result<(), AllocEr
 }
 
 // An answer without what it says of a move.
-fn unmarked(answer: &str) -> &str {
-    match answer.strip_suffix(" moved") {
+fn unmarked(outcome: &str) -> &str {
+    match outcome.strip_suffix(" moved") {
         Some(unmarked) => unmarked,
-        None => answer.strip_suffix(" unmoved").unwrap_or(answer),
+        None => outcome.strip_suffix(" unmoved").unwrap_or(outcome),
     }
 }
 
-// Notes a line that answered what it isn't to.
+// Notes a line that returned what it isn't to.
 fn fail(tally: &mut Tally, case: &Case, came: &str) -> Result<(), AllocError> {
     tally.failed = tally.failed.saturating_add(1);
     let mode = case.mode_name();
@@ -89,11 +89,11 @@ fn fail(tally: &mut Tally, case: &Case, came: &str) -> Result<(), AllocError> {
 fn report(tally: Tally) -> Result<Report, AllocError> {
     let mut text = tally.text;
     let lines = tally.lines;
-    let refused = tally.refused;
+    let rejected = tally.rejected;
     let silent = tally.silent;
     let failed = tally.failed;
     let place = tally.place;
-    write!(text, "{lines} lines, {refused} refused, {silent} silent, ")?;
+    write!(text, "{lines} lines, {rejected} refused, {silent} silent, ")?;
     writeln!(text, "{failed} failed, place {place}")?;
     Ok(Report {
         text,

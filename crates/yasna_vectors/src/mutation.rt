@@ -119,28 +119,28 @@ fn cut(random: &mut Random, mut bytes: Vec<u8>) -> Vec<u8> {
 // The bytes with another one between them, or without one.
 fn with_middle(alloc: Global, random: &mut Random, bytes: &[u8]) -> Result<Vec<u8>, AllocError> {
     let place = random.below(bytes.len());
-    let (front, back) = bytes.split_at_checked(place).unwrap_or((bytes, &[]));
+    let (prefix, back) = bytes.split_at_checked(place).unwrap_or((bytes, &[]));
     if random.below(2) == 0 {
-        joined_three(alloc, front, &[any_byte(random)], back)
+        joined_three(alloc, prefix, &[any_byte(random)], back)
     } else {
-        joined_three(alloc, front, &[], back.get(1..).unwrap_or(&[]))
+        joined_three(alloc, prefix, &[], back.get(1..).unwrap_or(&[]))
     }
 }
 
-// These bytes, one behind the other.
+// These bytes, one after the other.
 fn joined_three(
     alloc: Global,
-    front: &[u8],
+    prefix: &[u8],
     middle: &[u8],
     back: &[u8],
 ) -> Result<Vec<u8>, AllocError> {
-    let mut made = Vec::from_slice(alloc, front)?;
+    let mut made = Vec::from_slice(alloc, prefix)?;
     made.extend_from_slice(middle)?;
     made.extend_from_slice(back)?;
     Ok(made)
 }
 
-// The bytes, and others behind them.
+// The bytes, and others after them.
 fn joined(mut bytes: Vec<u8>, others: &[u8]) -> Result<Vec<u8>, AllocError> {
     bytes.extend_from_slice(others)?;
     Ok(bytes)

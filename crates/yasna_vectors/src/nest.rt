@@ -90,7 +90,7 @@ pub fn read_nests(reader: BERReader) -> ASN1Result<Nested> {
     )
 }
 
-/// What stands in the innermost SEQUENCE.
+/// What is in the innermost SEQUENCE.
 #[derive(Clone, Copy)]
 pub enum Inner<'a> {
     Number(i64),

@@ -6,11 +6,11 @@
 //! | a SEQUENCE OF | `(..)` | write_sequence_of |
 //! | a SET, in the order in which its elements are asked for | `{..}` | write_set |
 //! | a SET OF | `[..]` | write_set_of |
-//! | what stands under a tag | behind the tag | write_tagged, write_tagged_implicit |
+//! | what is under a tag | after the tag | write_tagged, write_tagged_implicit |
 //! | a part with the bytes that it took | `<..,rHEX>` | as the part |
 //! | a part that is the default, or absent | as its value, `none` | not |
 
-use crate::kind::Kind;
+use crate::kind::ElementType;
 use crate::leaf::Leaf;
 use crate::tag::show_tag;
 use crate::text::Text;
@@ -20,14 +20,14 @@ use yasna::{ASN1Result, BERReader, DERWriter, DERWriterSeq, DERWriterSet, Tag};
 /// What a part is read as: a value, or one under a tag.
 #[derive(Clone, Copy)]
 pub enum Piece {
-    Plain(Kind),
-    Explicit(Tag, Kind),
-    Implicit(Tag, Kind),
-    /// An element as it stands, under the tag that lookahead_tag answers.
+    Plain(ElementType),
+    Explicit(Tag, ElementType),
+    Implicit(Tag, ElementType),
+    /// An element as it is, under the tag that lookahead_tag returns.
     LookedAt,
 }
 
-/// How a part stands where it was read.
+/// How a part is where it was read.
 #[derive(Clone, Copy)]
 enum Frame {
     Plain,
@@ -64,7 +64,7 @@ enum Contents {
 /// What a call reads.
 #[derive(Drop)]
 pub struct Element {
-    // the implicit tag that it stands under, if any
+    // the implicit tag that it is under, if any
     tag: Option<Tag>,
     contents: Contents,
 }
@@ -99,7 +99,7 @@ impl Piece {
         };
         match kind.value(alloc, text)? {
             Ok(leaf) => Some(Ok(Part::new(frame, leaf))),
-            Err(lack) => Some(Err(lack)),
+            Err(out_of_memory) => Some(Err(out_of_memory)),
         }
     }
 }
@@ -178,10 +178,10 @@ impl Part {
         text.push(">");
     }
 
-    // Shows its value, behind its tag.
+    // Shows its value, after its tag.
     fn show_value(&self, text: &mut Text) {
         if let Frame::Explicit(tag) | Frame::Implicit(tag) = self.frame {
-            show_behind_tag(tag, text);
+            show_after_tag(tag, text);
         }
         self.leaf.show(text);
     }
@@ -199,7 +199,7 @@ impl Part {
 }
 
 impl Group {
-    // The characters that stand around its parts.
+    // The characters that are around its parts.
     fn brackets(self) -> (&'static str, &'static str) {
         match self {
             Group::Sequence | Group::SequenceOf => ("(", ")"),
@@ -265,7 +265,7 @@ impl Element {
     /// Appends it to a text.
     pub fn show(&self, text: &mut Text) {
         if let Some(tag) = self.tag {
-            show_behind_tag(tag, text);
+            show_after_tag(tag, text);
         }
         match &self.contents {
             Contents::Alone(part) => part.show(text),
@@ -311,8 +311,8 @@ impl Element {
     }
 }
 
-// Shows a tag, and what stands between it and a value.
-fn show_behind_tag(tag: Tag, text: &mut Text) {
+// Shows a tag, and what is between it and a value.
+fn show_after_tag(tag: Tag, text: &mut Text) {
     show_tag(tag, text);
     text.push(":");
 }

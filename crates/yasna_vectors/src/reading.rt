@@ -1,8 +1,8 @@
-//! How a call that reads is made, and made twice where it is asked whether its refusal is kept.
+//! How a call that reads is made, and made twice where it is asked whether its error is kept.
 
-use crate::answer::Answer;
-use crate::forms::{construct_in, parse_in};
+use crate::encodings::{construct_in, parse_in};
 use crate::line::Case;
+use crate::outcome::Outcome;
 use crate::parts::Element;
 use crate::reads::Read;
 use crate::text::Text;
@@ -11,8 +11,8 @@ use yasna::{
     ASN1ErrorKind, ASN1Result, BERMode, BERReader, BERReaderSeq, parse_ber_general, parse_cer,
 };
 
-/// What a call that reads answers on these bytes.
-pub fn answer(alloc: Global, mode: BERMode, case: &Case, bytes: &[u8]) -> Answer {
+/// What a call that reads returns on these bytes.
+pub fn outcome(alloc: Global, mode: BERMode, case: &Case, bytes: &[u8]) -> Outcome {
     let first = Read::named(case.call)?;
     let second = match case.second {
         Some(name) => Read::named(name)?,
@@ -25,9 +25,9 @@ pub fn answer(alloc: Global, mode: BERMode, case: &Case, bytes: &[u8]) -> Answer
                 first,
                 second,
             };
-            both.answer(mode, case, bytes, error.kind())
+            both.outcome(mode, case, bytes, error.kind())
         }
-        read => Some(answer_of(alloc, mode, read)),
+        read => Some(outcome_of(alloc, mode, read)),
     }
 }
 
@@ -36,11 +36,11 @@ pub fn parse(alloc: Global, mode: BERMode, read: Read, bytes: &[u8]) -> ASN1Resu
     parse_in(alloc, mode, bytes, |reader| read.read(alloc, reader))
 }
 
-// The answer of a read: its value and what is written of that, or its refusal.
-fn answer_of(alloc: Global, mode: BERMode, read: ASN1Result<Element>) -> Text {
+// The answer of a read: its value and what is written of that, or its error.
+fn outcome_of(alloc: Global, mode: BERMode, read: ASN1Result<Element>) -> Text {
     match read {
         Ok(element) => shown(alloc, mode, &element),
-        Err(error) => Text::refused(alloc, error.kind()),
+        Err(error) => Text::rejected(alloc, error.kind()),
     }
 }
 
@@ -48,11 +48,11 @@ fn answer_of(alloc: Global, mode: BERMode, read: ASN1Result<Element>) -> Text {
 pub fn shown(alloc: Global, mode: BERMode, element: &Element) -> Text {
     let mut text = Text::new(alloc, "ok ");
     element.show(&mut text);
-    text.with_form(form_of(alloc, mode, element))
+    text.with_encoding(encoding_of(alloc, mode, element))
 }
 
 /// What is written of an element.
-pub fn form_of(alloc: Global, mode: BERMode, element: &Element) -> ASN1Result<Vec<u8>> {
+pub fn encoding_of(alloc: Global, mode: BERMode, element: &Element) -> ASN1Result<Vec<u8>> {
     construct_in(alloc, mode, |writer| element.write(writer))
 }
 
@@ -64,7 +64,7 @@ struct Both {
     second: Read,
 }
 
-// Why two calls were refused, if they were.
+// Why two calls were rejected, if they were.
 #[derive(Clone, Copy)]
 struct Kinds {
     first: Option<ASN1ErrorKind>,
@@ -72,9 +72,9 @@ struct Kinds {
 }
 
 impl Both {
-    // The answer of a call that was refused, and whether the refusal is kept: both calls are made in a SEQUENCE of these
+    // The answer of a call that was rejected, and whether the error is kept: both calls are made in a SEQUENCE of these
     // bytes, which hold no more than a length of one byte can say; in CER, where it would have no length, without one.
-    fn answer(self, mode: BERMode, case: &Case, bytes: &[u8], kind: ASN1ErrorKind) -> Answer {
+    fn outcome(self, mode: BERMode, case: &Case, bytes: &[u8], kind: ASN1ErrorKind) -> Outcome {
         let mut kinds = Kinds {
             first: None,
             second: None,
@@ -88,22 +88,22 @@ impl Both {
             }
             match self.within(length, bytes) {
                 Ok(whole) => self.parse_within(mode, &whole, &mut kinds),
-                Err(_) => return Some(Text::lacking(self.alloc)),
+                Err(_) => return Some(Text::when_out_of_memory(self.alloc)),
             }
         };
-        let mut text = Text::refused(self.alloc, kind);
+        let mut text = Text::rejected(self.alloc, kind);
         text.push(kinds.mark(parsed, kind, case.second.is_some()));
         Some(text)
     }
 
-    // The bytes behind the identifier of a SEQUENCE and this length.
+    // The bytes after the identifier of a SEQUENCE and this length.
     fn within(self, length: u8, bytes: &[u8]) -> Result<Vec<u8>, AllocError> {
         let mut whole = Vec::from_slice(self.alloc, &[48, length])?;
         whole.extend_from_slice(bytes)?;
         Ok(whole)
     }
 
-    // Makes both calls in no SEQUENCE, in CER: why the parse was refused.
+    // Makes both calls in no SEQUENCE, in CER: why the parse was rejected.
     fn parse_alone(self, bytes: &[u8], kinds: &mut Kinds) -> Option<ASN1ErrorKind> {
         kind_of(parse_cer(self.alloc, bytes, move |reader| {
             kinds.first = kind_of(self.first.read(self.alloc, reader));
@@ -112,7 +112,7 @@ impl Both {
         }))
     }
 
-    // Makes both calls in a SEQUENCE: why the parse around it was refused.
+    // Makes both calls in a SEQUENCE: why the parse around it was rejected.
     fn parse_within(self, mode: BERMode, whole: &[u8], kinds: &mut Kinds) -> Option<ASN1ErrorKind> {
         kind_of(parse_ber_general(
             self.alloc,
@@ -130,7 +130,7 @@ impl Both {
         })
     }
 
-    // Makes both calls, whatever the first answers.
+    // Makes both calls, whatever the first returns.
     fn refusals(self, seq: &mut BERReaderSeq) -> Kinds {
         let first = kind_of(self.first.read(self.alloc, seq.next()));
         let second = kind_of(self.second.read(self.alloc, seq.next()));
@@ -139,8 +139,8 @@ impl Both {
 }
 
 impl Kinds {
-    // Whether a refusal is kept: moved, if the second call and the parse around both answer it too; unmoved, if another call
-    // takes what stands there, or the same one is refused again and the parse is not.
+    // Whether an error is kept: moved, if the second call and the parse around both answer it too; unmoved, if another call
+    // takes what is there, or the same one is rejected again and the parse is not.
     fn mark(
         self,
         parsed: Option<ASN1ErrorKind>,
@@ -160,9 +160,9 @@ impl Kinds {
     }
 }
 
-/// Why a call was refused, if it was.
-pub fn kind_of<T: Drop>(answer: ASN1Result<T>) -> Option<ASN1ErrorKind> {
-    match answer {
+/// Why a call was rejected, if it was.
+pub fn kind_of<T: Drop>(outcome: ASN1Result<T>) -> Option<ASN1ErrorKind> {
+    match outcome {
         Ok(_) => None,
         Err(error) => Some(error.kind()),
     }

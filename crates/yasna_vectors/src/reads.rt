@@ -1,7 +1,7 @@
 //! Calls that read: what each reads, and what is made of that.
 
 use crate::calls::{C3, CALLS, KINDS, RAW};
-use crate::kind::Kind;
+use crate::kind::ElementType;
 use crate::leaf::Leaf;
 use crate::names::named;
 use crate::parts::{Element, Group, Part, Piece, append};
@@ -26,7 +26,7 @@ pub enum Body {
     /// read_set of these steps.
     Set(&'static [Choice]),
     /// read_set, in which next is called with the tags of each class that are numbered 0 to 199 as long as it gives an element,
-    /// which is read as it stands.
+    /// which is read as it is.
     SetAny,
     /// collect_sequence_of.
     SequenceOf(Piece),
@@ -36,11 +36,11 @@ pub enum Body {
     SequenceSum,
     /// The same by read_set_of.
     SetSum,
-    /// read_sequence_of whose callback answers Ok unread.
+    /// read_sequence_of whose callback returns Ok unread.
     SequenceIdle,
     /// The same by read_set_of.
     SetIdle,
-    /// An element of many types, as deep as it stands.
+    /// An element of many types, as deep as it is.
     Tree,
 }
 
@@ -53,9 +53,9 @@ pub enum Then {
     Last,
     /// NULL is shown in its place.
     Null,
-    /// It is thrown away, and a refusal too: NULL is shown.
+    /// It is discarded, and an error too: NULL is shown.
     Discarded,
-    /// It is thrown away, and a refusal too: the answer is Err(Extra).
+    /// It is discarded, and an error too: the result is Err(Extra).
     Replaced,
 }
 
@@ -73,11 +73,11 @@ impl Read {
             return Some(read);
         }
         let depth = name.strip_prefix("nest")?.parse().ok()?;
-        Some(Read::of(Kind::Nest(depth)))
+        Some(Read::of(ElementType::Nest(depth)))
     }
 
     // The read of one value.
-    fn of(kind: Kind) -> Read {
+    fn of(kind: ElementType) -> Read {
         Read(Then::Shown, Body::Alone(Piece::Plain(kind)))
     }
 
@@ -86,15 +86,15 @@ impl Read {
         match self.1 {
             Body::Alone(piece) => match piece.value(alloc, text)? {
                 Ok(part) => Some(Ok(Element::alone(part))),
-                Err(lack) => Some(Err(lack)),
+                Err(out_of_memory) => Some(Err(out_of_memory)),
             },
             Body::Implicit(piece) => match piece.value(alloc, text)? {
                 Ok(part) => Some(Ok(Element::alone(part).under(C3))),
-                Err(lack) => Some(Err(lack)),
+                Err(out_of_memory) => Some(Err(out_of_memory)),
             },
             Body::Sequence(steps) => match parts_of(alloc, steps, text)? {
                 Ok(parts) => Some(Ok(Element::group(Group::Sequence, parts))),
-                Err(lack) => Some(Err(lack)),
+                Err(out_of_memory) => Some(Err(out_of_memory)),
             },
             _ => None,
         }
@@ -218,8 +218,8 @@ fn parts_of(
         let Step(Ask::Next, piece) = step else {
             return None;
         };
-        if let Err(lack) = append_made(&mut parts, piece.value(alloc, texts.next()?)?) {
-            return Some(Err(lack));
+        if let Err(out_of_memory) = append_made(&mut parts, piece.value(alloc, texts.next()?)?) {
+            return Some(Err(out_of_memory));
         }
     }
     Some(Ok(parts))
@@ -232,8 +232,8 @@ pub fn raw_parts(alloc: Global, text: &str) -> Option<Result<Vec<Part>, AllocErr
         return Some(Ok(parts));
     }
     for element in text.split(',') {
-        if let Err(lack) = append_made(&mut parts, RAW.value(alloc, element)?) {
-            return Some(Err(lack));
+        if let Err(out_of_memory) = append_made(&mut parts, RAW.value(alloc, element)?) {
+            return Some(Err(out_of_memory));
         }
     }
     Some(Ok(parts))

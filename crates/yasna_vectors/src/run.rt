@@ -1,7 +1,7 @@
 //! All lines of a text, one after the other.
 
-use crate::answer::{answer, answer_or_unknown};
-use crate::line::{Case, Line, is_answer};
+use crate::line::{Case, Line, is_outcome};
+use crate::outcome::{outcome, outcome_or_unknown};
 use std::alloc::{AllocError, Global};
 
 /// How a run ended.
@@ -34,10 +34,10 @@ pub struct Report {
 }
 
 /// An answer for each line that has none.
-pub fn answer_lines(alloc: Global, input: &str) -> Result<Report, AllocError> {
+pub fn outcome_lines(alloc: Global, input: &str) -> Result<Report, AllocError> {
     let mut text = String::new(alloc);
     for line in input.lines() {
-        answer_line(alloc, line, &mut text)?;
+        outcome_line(alloc, line, &mut text)?;
     }
     Ok(Report {
         text,
@@ -45,16 +45,16 @@ pub fn answer_lines(alloc: Global, input: &str) -> Result<Report, AllocError> {
     })
 }
 
-// Appends the answer for a line.
-fn answer_line(alloc: Global, line: &str, text: &mut String) -> Result<(), AllocError> {
+// Appends the result for a line.
+fn outcome_line(alloc: Global, line: &str, text: &mut String) -> Result<(), AllocError> {
     match Case::parse(line, false) {
-        Some(case) => text.push_str(&answer_or_unknown(alloc, &case)?)?,
+        Some(case) => text.push_str(&outcome_or_unknown(alloc, &case)?)?,
         None => text.push_str("unknown")?,
     }
     text.push('\n')
 }
 
-/// Checks the answer of each line, and says how many there were.
+/// Checks the result of each line, and says how many there were.
 pub fn check_lines(alloc: Global, input: &str) -> Result<Report, AllocError> {
     let mut text = String::new(alloc);
     let mut count = 0u64;
@@ -85,8 +85,8 @@ fn check_line(alloc: Global, line: &str, text: &mut String) -> Result<Verdict, A
     let Some(parsed) = Line::parse(line) else {
         return no_line("no line", line, text);
     };
-    match answer(alloc, &parsed.case) {
-        Some(came) => compare(line, parsed.wanted, came?.as_str(), text),
+    match outcome(alloc, &parsed.case) {
+        Some(came) => compare(line, parsed.expected, came?.as_str(), text),
         None => no_line("no such call or argument", line, text),
     }
 }
@@ -98,8 +98,13 @@ fn no_line(why: &str, line: &str, text: &mut String) -> Result<Verdict, AllocErr
 }
 
 // Compares what came with what a line wants, and appends both where they differ.
-fn compare(line: &str, wanted: &str, came: &str, text: &mut String) -> Result<Verdict, AllocError> {
-    if is_answer(came, wanted) {
+fn compare(
+    line: &str,
+    expected: &str,
+    came: &str,
+    text: &mut String,
+) -> Result<Verdict, AllocError> {
+    if is_outcome(came, expected) {
         return Ok(Verdict::Right);
     }
     writeln!(text, "{line}\n    came {came}")?;

@@ -1,21 +1,21 @@
-//! What stands in a SEQUENCE or a SET, read part by part.
+//! What is in a SEQUENCE or a SET, read part by part.
 //!
 //! | Step in a SEQUENCE | Reads |
 //! |---|---|
 //! | `Next` | next |
 //! | `Optional` | read_optional; `none` is shown where the part is absent |
 //! | `Ten` | read_default of an INTEGER that is 10 where there is none; 10 is shown and not written |
-//! | `Discarded` | next, thrown away |
-//! | `OptionalDiscarded` | read_optional, thrown away |
+//! | `Discarded` | next, discarded |
+//! | `OptionalDiscarded` | read_optional, discarded |
 //! | `Buffered` | read_with_buffer of the parts, around next |
 //! | `NextBuffered` | next, and read_with_buffer of it |
-//! | `Refused` | nothing: the callback answers this refusal |
+//! | `Rejected` | nothing: the callback returns this error |
 //!
 //! | Step in a SET | Reads |
 //! |---|---|
 //! | `Next` | next with this tag |
-//! | `Asked` | nothing behind next with this tag |
-//! | `AskedInVain` | the same, whatever next answers |
+//! | `Asked` | nothing after next with this tag |
+//! | `AskedInVain` | the same, whatever next returns |
 //! | `Optional` | read_optional with this tag |
 //! | `False` | read_default of a BOOLEAN that is false where there is none; false is shown and not written |
 
@@ -37,7 +37,7 @@ pub enum Ask {
     OptionalDiscarded,
     Buffered,
     NextBuffered,
-    Refused(ASN1ErrorKind),
+    Rejected(ASN1ErrorKind),
 }
 
 /// A step in a SEQUENCE: how a part is asked for, and what it is read as.
@@ -80,7 +80,7 @@ pub fn read_choices(
     Ok(parts)
 }
 
-/// Reads the elements of a SET that have a tag numbered 0 to 199, each as it stands.
+/// Reads the elements of a SET that have a tag numbered 0 to 199, each as it is.
 pub fn read_any(alloc: Global, piece: Piece, set: &mut BERReaderSet) -> ASN1Result<Vec<Part>> {
     let tags = all_tags(alloc)?;
     let mut parts = Vec::new(alloc);
@@ -136,7 +136,7 @@ impl Step {
             }
             Ask::Buffered => Ok(Some(read_next_buffered(alloc, piece, seq)?)),
             Ask::NextBuffered => Ok(Some(read_buffered(alloc, piece, seq.next())?)),
-            Ask::Refused(kind) => Err(ASN1Error::new(kind)),
+            Ask::Rejected(kind) => Err(ASN1Error::new(kind)),
         }
     }
 }

@@ -2,16 +2,16 @@
 //!
 //! A tag is shown as the letter of its class (`u` universal, `a` application, `c` context, `p` private) and its number.
 //!
-//! | Call | Answers |
+//! | Call | Returns |
 //! |---|---|
 //! | `tag NAME` | the constant of this name in `tags` |
 //! | `tag_of TAG` | the tag that its class's function makes |
 //! | `order TAG,TAG` | how the two compare |
 //! | `order_class`, `order_bit` | the same of classes by letter, and of `primitive` and `constructed` |
 
-use crate::answer::Answer;
 use crate::line::Case;
 use crate::names::named;
+use crate::outcome::Outcome;
 use crate::text::Text;
 use std::alloc::Global;
 use std::cmp::Ordering;
@@ -73,8 +73,8 @@ static BITS: [(&str, PCBit); 2] = [
     ("constructed", PCBit::Constructed),
 ];
 
-/// What a call of this family answers.
-pub fn answer(alloc: Global, case: &Case) -> Answer {
+/// What a call of this family returns.
+pub fn outcome(alloc: Global, case: &Case) -> Outcome {
     Some(match case.call {
         "tag" => shown(alloc, named(&TAGS, case.arg)?),
         "tag_of" => shown(alloc, parsed(case.arg)?),

@@ -4,12 +4,12 @@
 //! |---|---|
 //! | none | they are checked, then cut, then their lengths are changed |
 //! | `lines`, `cut`, `length` | one of these alone |
-//! | `answer` | lines with no answer are answered |
+//! | `outcome` | lines with no answer are returned |
 //! | `memory` | they are run where a request for memory is refused |
 //! | `fuzz SEED COUNT` | so many inputs are made of them at random |
 
 use crate::hostile::{Group, check_group};
-use crate::run::{Report, Verdict, answer_lines, check_lines};
+use crate::run::{Report, Verdict, check_lines, outcome_lines};
 use crate::{fuzz, memory};
 use std::alloc::{AllocError, Global};
 use std::io;
@@ -19,7 +19,7 @@ use std::io;
 pub enum Task {
     All,
     Lines,
-    Answers,
+    Outcomes,
     Group(Group),
     Memory,
     Random { seed: u64, count: u64 },
@@ -43,7 +43,7 @@ impl Task {
     fn named(name: &str) -> Option<Task> {
         match name {
             "lines" => Some(Task::Lines),
-            "answer" => Some(Task::Answers),
+            "answer" => Some(Task::Outcomes),
             "cut" => Some(Task::Group(Group::Cut)),
             "length" => Some(Task::Group(Group::Length)),
             "memory" => Some(Task::Memory),
@@ -56,7 +56,7 @@ impl Task {
         let made = match self {
             Task::All => run_all(alloc, input),
             Task::Lines => check_lines(alloc, input),
-            Task::Answers => answer_lines(alloc, input),
+            Task::Outcomes => outcome_lines(alloc, input),
             Task::Group(group) => check_group(alloc, group, input),
             Task::Memory => memory::run_lines(alloc, input),
             Task::Random { seed, count } => {

@@ -1,4 +1,4 @@
-//! Answers as text, which is made piece by piece.
+//! Returns as text, which is made piece by piece.
 ghost use Rattle.std.specs.Prelude.{◌≡◌, ◌++◌, OnOk, string_bytes};
 ghost use Rattle.hex.specs.Hex.{encode_lower};
 
@@ -6,37 +6,40 @@ use std::alloc::{AllocError, Global};
 use std::fmt::{Debug, Display};
 use yasna::{ASN1ErrorKind, ASN1Result};
 
-// Room for most answers: with it a text asks for memory once, where each request is refused in turn.
+// Room for most returns: with it a text allocates once, where each request is rejected in turn.
 const ROOM: usize = 2_000;
 
-/// The text of an answer. Where there was no memory for a piece of it, that is known at its end.
+/// The text of a result. Where there was no memory for a piece of it, that is known at its end.
 #[derive(Drop)]
 pub struct Text {
     text: String,
-    lacks: bool,
+    header_missing: bool,
 }
 
 impl Text {
     /// A text that begins so.
     pub fn new(alloc: Global, beginning: &str) -> Text {
         let mut text = match String::with_capacity(alloc, ROOM) {
-            Ok(text) => Text { text, lacks: false },
-            Err(_) => return Text::lacking(alloc),
+            Ok(text) => Text {
+                text,
+                header_missing: false,
+            },
+            Err(_) => return Text::when_out_of_memory(alloc),
         };
         text.push(beginning);
         text
     }
 
     /// A text that there was no memory for.
-    pub fn lacking(alloc: Global) -> Text {
+    pub fn when_out_of_memory(alloc: Global) -> Text {
         Text {
             text: String::new(alloc),
-            lacks: true,
+            header_missing: true,
         }
     }
 
-    /// The answer of a refusal.
-    pub fn refused(alloc: Global, kind: ASN1ErrorKind) -> Text {
+    /// The answer of an error.
+    pub fn rejected(alloc: Global, kind: ASN1ErrorKind) -> Text {
         let mut text = Text::new(alloc, "err ");
         text.push_kind(kind);
         text
@@ -52,7 +55,7 @@ impl Text {
         text
     }
 
-    // Appends the kind of a refusal.
+    // Appends the kind of an error.
     fn push_kind(&mut self, kind: ASN1ErrorKind) {
         let text = &mut self.text;
         let made = write!(text, "{kind:?}");
@@ -62,7 +65,7 @@ impl Text {
     // Notes whether there was memory for a piece.
     fn note(&mut self, made: Result<(), AllocError>) {
         if made.is_err() {
-            self.lacks = true;
+            self.header_missing = true;
         }
     }
 
@@ -82,7 +85,7 @@ impl Text {
     pub fn push_made(&mut self, made: Result<String, AllocError>) {
         match made {
             Ok(piece) => self.push(&piece),
-            Err(_) => self.lacks = true,
+            Err(_) => self.header_missing = true,
         }
     }
 
@@ -98,12 +101,12 @@ impl Text {
         self.note(made);
     }
 
-    /// Appends a value as Rust shows it for errors, with no spaces, no comma behind a part that is alone, and a list in round
+    /// Appends a value as Rust shows it for errors, with no spaces, no comma after a part that is alone, and a list in round
     /// brackets.
     pub fn push_plain<T: Debug>(value: &T, text: &mut Text) {
         match format!(in text.allocator(); "{value:?}") {
             Ok(shown) => text.push_rewritten(&shown),
-            Err(_) => text.lacks = true,
+            Err(_) => text.header_missing = true,
         }
     }
 
@@ -126,10 +129,10 @@ impl Text {
         self.note(made);
     }
 
-    /// The answer with what was written behind it; that of the refusal where the write was refused.
-    pub fn with_form(mut self, form: ASN1Result<Vec<u8>>) -> Text {
-        match form {
-            Ok(form) => self.push_form(&form),
+    /// The answer with what was written after it; that of the error where the write was rejected.
+    pub fn with_encoding(mut self, encoding: ASN1Result<Vec<u8>>) -> Text {
+        match encoding {
+            Ok(encoding) => self.push_encoding(&encoding),
             Err(error) => {
                 self.text.clear();
                 self.push("err ");
@@ -140,14 +143,14 @@ impl Text {
     }
 
     // Appends what was written.
-    fn push_form(&mut self, form: &[u8]) {
-        self.push(if form.is_empty() { " -" } else { " " });
-        self.push_bytes(form);
+    fn push_encoding(&mut self, encoding: &[u8]) {
+        self.push(if encoding.is_empty() { " -" } else { " " });
+        self.push_bytes(encoding);
     }
 
     /// The whole text.
     pub fn finish(self) -> Result<String, AllocError> {
-        if self.lacks {
+        if self.header_missing {
             Err(AllocError)
         } else {
             Ok(self.text)

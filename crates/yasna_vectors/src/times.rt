@@ -1,12 +1,12 @@
 //! Times by parses of texts.
 //!
 //! ARG of `p:utime` and `p:gtime` is a text in hexadecimal, of `p:gtimeoff` the seconds of an offset, a slash and such a text.
-//! The answer is `none` where the text is no time. Behind that of `p:gtime` stand the digits behind the nanosecond, and the
-//! nanosecond; `p:gtimeoff` answers `-` in place of the form.
+//! The result is `none` where the text is no time. After that of `p:gtime` are the digits after the nanosecond, and the
+//! nanosecond; `p:gtimeoff` returns `-` in place of the encoding.
 
-use crate::answer::Answer;
 use crate::leaf::{Leaf, show_generalized_time};
 use crate::line::{Case, bytes_of};
+use crate::outcome::Outcome;
 use crate::parts::{Element, Part};
 use crate::reading::shown;
 use crate::text::Text;
@@ -14,19 +14,19 @@ use std::alloc::{AllocError, Global};
 use yasna::BERMode;
 use yasna::models::{GeneralizedTime, Offset, UTCTime};
 
-/// What a call on a text answers.
-pub fn answer(alloc: Global, case: &Case) -> Answer {
+/// What a call on a text returns.
+pub fn outcome(alloc: Global, case: &Case) -> Outcome {
     let (offset, text) = match case.arg.split_once('/') {
         Some((seconds, text)) => (Some(offset(seconds)?), text),
         None => (None, case.arg),
     };
     let Ok(bytes) = bytes_of(alloc, text)? else {
-        return Some(Text::lacking(alloc));
+        return Some(Text::when_out_of_memory(alloc));
     };
     Some(match (case.call, offset) {
-        ("p:utime", None) => utc_answer(alloc, UTCTime::parse(&bytes)),
-        ("p:gtime", None) => general_answer(alloc, GeneralizedTime::parse(alloc, &bytes)),
-        ("p:gtimeoff", Some(offset)) => local_answer(
+        ("p:utime", None) => utc_outcome(alloc, UTCTime::parse(&bytes)),
+        ("p:gtime", None) => general_outcome(alloc, GeneralizedTime::parse(alloc, &bytes)),
+        ("p:gtimeoff", Some(offset)) => local_outcome(
             alloc,
             GeneralizedTime::parse_with_offset(alloc, &bytes, offset),
         ),
@@ -39,31 +39,31 @@ fn offset(seconds: &str) -> Option<Offset> {
     Offset::from_seconds(seconds.parse().ok()?).ok()
 }
 
-// What parsing a text of UTCTime answers.
-fn utc_answer(alloc: Global, parsed: Option<UTCTime>) -> Text {
+// What parsing a text of UTCTime returns.
+fn utc_outcome(alloc: Global, parsed: Option<UTCTime>) -> Text {
     match parsed {
-        Some(time) => time_answer(alloc, Leaf::UtcTime(time)),
+        Some(time) => time_outcome(alloc, Leaf::UtcTime(time)),
         None => Text::new(alloc, "none"),
     }
 }
 
-// What parsing a text of GeneralizedTime answers.
-fn general_answer(alloc: Global, parsed: Result<Option<GeneralizedTime>, AllocError>) -> Text {
+// What parsing a text of GeneralizedTime returns.
+fn general_outcome(alloc: Global, parsed: Result<Option<GeneralizedTime>, AllocError>) -> Text {
     match parsed {
         Ok(Some(time)) => {
             let mut fraction = Text::new(alloc, " sub=");
             show_fraction(&time, &mut fraction);
-            let mut answer = time_answer(alloc, Leaf::GeneralizedTime(time));
-            answer.push_made(fraction.finish());
-            answer
+            let mut outcome = time_outcome(alloc, Leaf::GeneralizedTime(time));
+            outcome.push_made(fraction.finish());
+            outcome
         }
         Ok(None) => Text::new(alloc, "none"),
-        Err(_) => Text::lacking(alloc),
+        Err(_) => Text::when_out_of_memory(alloc),
     }
 }
 
 // The answer with a time.
-fn time_answer(alloc: Global, time: Leaf) -> Text {
+fn time_outcome(alloc: Global, time: Leaf) -> Text {
     shown(alloc, BERMode::Der, &Element::alone(Part::plain(time)))
 }
 
@@ -76,16 +76,16 @@ fn show_fraction(time: &GeneralizedTime, text: &mut Text) {
     text.push_value(&time.datetime().subsec_nanosecond());
 }
 
-// What parsing a text that may be local answers: the time alone.
-fn local_answer(alloc: Global, parsed: Result<Option<GeneralizedTime>, AllocError>) -> Text {
+// What parsing a text that may be local returns: the time alone.
+fn local_outcome(alloc: Global, parsed: Result<Option<GeneralizedTime>, AllocError>) -> Text {
     match parsed {
         Ok(Some(time)) => {
-            let mut answer = Text::new(alloc, "ok ");
-            show_generalized_time(&time, &mut answer);
-            answer.push(" -");
-            answer
+            let mut outcome = Text::new(alloc, "ok ");
+            show_generalized_time(&time, &mut outcome);
+            outcome.push(" -");
+            outcome
         }
         Ok(None) => Text::new(alloc, "none"),
-        Err(_) => Text::lacking(alloc),
+        Err(_) => Text::when_out_of_memory(alloc),
     }
 }

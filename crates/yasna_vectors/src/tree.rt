@@ -1,4 +1,4 @@
-//! Elements of any of these types, as deep as they stand, by the next tag: `tree`.
+//! Elements of any of these types, as deep as they are, by the next tag: `tree`.
 //!
 //! | Tag | Read |
 //! |---|---|
@@ -8,13 +8,13 @@
 //! | BOOLEAN, NULL, OCTET STRING, BIT STRING, OBJECT IDENTIFIER, UTF8String, PrintableString, UTCTime, GeneralizedTime, ENUMERATED | the read of the type |
 //! | any other | read_bigint_bytes |
 //!
-//! What stands within an element is shown and written when it has been read, and is written into it as it stands.
+//! What is within an element is shown and written when it has been read, and is written into it as it is.
 ghost use Rattle.yasna.specs.reader.State.{IsFresh};
 
-use crate::kind::Kind;
+use crate::kind::ElementType;
 use crate::leaf::Leaf;
 use crate::parts::{Element, Group, Part, Piece};
-use crate::reading::form_of;
+use crate::reading::encoding_of;
 use crate::strings::Class;
 use crate::text::Text;
 use std::alloc::Global;
@@ -25,17 +25,17 @@ use yasna::tags::{
 use yasna::{ASN1Result, BERMode, BERReader, Tag, TagClass};
 
 // The types that hold no element.
-static KINDS: [(Tag, Kind); 10] = [
-    (TAG_BOOLEAN, Kind::Bool),
-    (TAG_NULL, Kind::Null),
-    (TAG_ENUM, Kind::Enum),
-    (TAG_OID, Kind::Identifier),
-    (TAG_UTCTIME, Kind::UtcTime),
-    (TAG_GENERALIZEDTIME, Kind::GeneralizedTime),
-    (TAG_OCTETSTRING, Kind::Bytes),
-    (TAG_BITSTRING, Kind::Bits),
-    (TAG_UTF8STRING, Kind::Text(Class::Utf8)),
-    (TAG_PRINTABLESTRING, Kind::Text(Class::Printable)),
+static KINDS: [(Tag, ElementType); 10] = [
+    (TAG_BOOLEAN, ElementType::Bool),
+    (TAG_NULL, ElementType::Null),
+    (TAG_ENUM, ElementType::Enum),
+    (TAG_OID, ElementType::Identifier),
+    (TAG_UTCTIME, ElementType::UtcTime),
+    (TAG_GENERALIZEDTIME, ElementType::GeneralizedTime),
+    (TAG_OCTETSTRING, ElementType::Bytes),
+    (TAG_BITSTRING, ElementType::Bits),
+    (TAG_UTF8STRING, ElementType::Text(Class::Utf8)),
+    (TAG_PRINTABLESTRING, ElementType::Text(Class::Printable)),
 ];
 
 /// Reads an element by its tag.
@@ -43,7 +43,9 @@ pub fn read_tree(alloc: Global, reader: BERReader) -> ASN1Result<Part> {
     let tag = reader.lookahead_tag()?;
     let mode = reader.mode();
     let element = match tag.tag_class {
-        TagClass::Application => Element::alone(Piece::Implicit(tag, Kind::Bytes).read(reader)?),
+        TagClass::Application => Element::alone(Piece::Implicit(tag, ElementType::Bytes).read(
+            reader,
+        )?),
         TagClass::ContextSpecific => {
             let inner = reader.read_tagged(
                 tag,
@@ -75,19 +77,19 @@ pub fn read_tree(alloc: Global, reader: BERReader) -> ASN1Result<Part> {
 }
 
 // The type of this tag.
-fn kind_of(tag: Tag) -> Kind {
+fn kind_of(tag: Tag) -> ElementType {
     for (known, kind) in &KINDS {
         if *known == tag {
             return *kind;
         }
     }
-    Kind::BigInteger
+    ElementType::BigInteger
 }
 
-// How an element is shown, and its form.
+// How an element is shown, and its encoding.
 fn known(alloc: Global, mode: BERMode, element: &Element) -> ASN1Result<Part> {
-    let form = form_of(alloc, mode, element)?;
+    let encoding = encoding_of(alloc, mode, element)?;
     let mut shown = Text::new(alloc, "");
     element.show(&mut shown);
-    Ok(Part::plain(Leaf::Known(shown.finish()?, form)))
+    Ok(Part::plain(Leaf::Known(shown.finish()?, encoding)))
 }

@@ -15,12 +15,12 @@
 //!
 //! `tup1`, `tup3` and `tup12` are tuples of `i64`.
 
-use crate::answer::Answer;
-use crate::forms::encode_in;
+use crate::encodings::encode_in;
 use crate::leaf::{
     Leaf, show_generalized_time, show_identifier, show_octets, show_text, show_utc_time,
 };
 use crate::names::named;
+use crate::outcome::Outcome;
 use crate::parts::{Element, Group, Part, append};
 use crate::reading::shown;
 use crate::text::Text;
@@ -108,8 +108,8 @@ static TYPES: [(&str, Type); 29] = [
 ];
 
 impl Type {
-    // What decoding it answers.
-    fn answer(self, alloc: Global, mode: BERMode, bytes: &[u8]) -> Text {
+    // What decoding it returns.
+    fn outcome(self, alloc: Global, mode: BERMode, bytes: &[u8]) -> Text {
         match self {
             Type::Null => plain::<()>(alloc, mode, bytes),
             Type::Bool => plain::<bool>(alloc, mode, bytes),
@@ -151,12 +151,12 @@ impl Type {
     }
 }
 
-/// What decoding the type of this name answers on these bytes.
-pub fn answer(alloc: Global, mode: BERMode, call: &str, bytes: &[u8]) -> Answer {
-    Some(named(&TYPES, call)?.answer(alloc, mode, bytes))
+/// What decoding the type of this name returns on these bytes.
+pub fn outcome(alloc: Global, mode: BERMode, call: &str, bytes: &[u8]) -> Outcome {
+    Some(named(&TYPES, call)?.outcome(alloc, mode, bytes))
 }
 
-// What decoding answers, and encoding behind it.
+// What decoding returns, and encoding after it.
 fn decoded<T: DERCanonical, F>(alloc: Global, mode: BERMode, bytes: &[u8], show: F) -> Text
 where
     F: FnOnce(&T, &mut Text),
@@ -171,9 +171,9 @@ where
         Ok(value) => {
             let mut text = Text::new(alloc, "ok ");
             show(&value, &mut text);
-            text.with_form(encode_in::<T>(alloc, mode, &value))
+            text.with_encoding(encode_in::<T>(alloc, mode, &value))
         }
-        Err(error) => Text::refused(alloc, error.kind()),
+        Err(error) => Text::rejected(alloc, error.kind()),
     }
 }
 
@@ -237,7 +237,7 @@ fn show_mixed(value: &(u16, (), Vec<u8>), text: &mut Text) {
     text.push(")");
 }
 
-// What decoding a raw element answers, and its own write behind it.
+// What decoding a raw element returns, and its own write after it.
 fn raw(alloc: Global, mode: BERMode, bytes: &[u8]) -> Text {
     match decode_ber_general(alloc, bytes, mode) {
         Ok(value) => shown(
@@ -245,7 +245,7 @@ fn raw(alloc: Global, mode: BERMode, bytes: &[u8]) -> Text {
             mode,
             &Element::alone(Part::plain(Leaf::Tagged(value))),
         ),
-        Err(error) => Text::refused(alloc, error.kind()),
+        Err(error) => Text::rejected(alloc, error.kind()),
     }
 }
 
@@ -254,9 +254,9 @@ fn raws(alloc: Global, mode: BERMode, bytes: &[u8]) -> Text {
     match decode_ber_general(alloc, bytes, mode) {
         Ok(values) => match list(alloc, values) {
             Ok(element) => shown(alloc, mode, &element),
-            Err(_) => Text::lacking(alloc),
+            Err(_) => Text::when_out_of_memory(alloc),
         },
-        Err(error) => Text::refused(alloc, error.kind()),
+        Err(error) => Text::rejected(alloc, error.kind()),
     }
 }
 

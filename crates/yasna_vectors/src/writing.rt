@@ -7,7 +7,7 @@
 //! | `ws:NAME` | construct_der_seq |
 //! | `tws:NAME` | try_construct_der_seq, with an error type of the caller's own |
 //!
-//! ARG is the value, as an answer shows it. NAME is a call that reads one value, a sequence of them, or one under tags, or:
+//! ARG is the value, as a result shows it. NAME is a call that reads one value, a sequence of them, or one under tags, or:
 //!
 //! | NAME | Body |
 //! |---|---|
@@ -15,20 +15,20 @@
 //! | `set` | write_set of the raw elements that ARG says, with commas between them, each by write_der |
 //! | `nest` | as many sequences one in the other as ARG says, around the INTEGER 10 |
 //! | `nothing` | no call; Ok |
-//! | `refused` | write_sequence of write_i64, whose closure then answers Err(Invalid) |
-//! | `thrown` | `refused`, thrown away |
+//! | `rejected` | write_sequence of write_i64, whose closure then returns Err(Invalid) |
+//! | `thrown` | `rejected`, discarded |
 //!
 //! `ws` and `tws` write parts of a sequence with no header around them. `length` tells further names.
 
-use crate::answer::Answer;
 use crate::leaf::Leaf;
 use crate::length;
 use crate::line::Case;
 use crate::nest::Nested;
+use crate::outcome::Outcome;
 use crate::parts::{Element, Group, Part, write_parts};
-use crate::reading::form_of;
+use crate::reading::encoding_of;
 use crate::reads::{Read, raw_parts};
-use crate::refusal::Fault;
+use crate::rejection::OwnError;
 use crate::text::Text;
 use std::alloc::{AllocError, Global};
 use yasna::{
@@ -36,27 +36,27 @@ use yasna::{
     try_construct_der_seq,
 };
 
-/// What a call of this family answers.
-pub fn answer(alloc: Global, case: &Case) -> Answer {
+/// What a call of this family returns.
+pub fn outcome(alloc: Global, case: &Case) -> Outcome {
     let (around, name) = case.call.split_once(':')?;
     if let "seqbigint" | "seqlen" | "seqseqlen" = name {
-        return Some(length::answer(alloc, name, case.arg.parse().ok()?));
+        return Some(length::outcome(alloc, name, case.arg.parse().ok()?));
     }
     match element(alloc, name, case.arg)? {
         Ok(element) => {
-            let form = form_in(alloc, around, &element)?;
+            let encoding = encoding_in(alloc, around, &element)?;
             let mut text = Text::new(alloc, "ok ");
             element.show(&mut text);
-            Some(text.with_form(form))
+            Some(text.with_encoding(encoding))
         }
-        Err(_) => Some(Text::lacking(alloc)),
+        Err(_) => Some(Text::when_out_of_memory(alloc)),
     }
 }
 
 // What is written of an element by this call around the writing.
-fn form_in(alloc: Global, around: &str, element: &Element) -> Option<ASN1Result<Vec<u8>>> {
+fn encoding_in(alloc: Global, around: &str, element: &Element) -> Option<ASN1Result<Vec<u8>>> {
     Some(match around {
-        "w" => form_of(alloc, BERMode::Der, element),
+        "w" => encoding_of(alloc, BERMode::Der, element),
         "tw" => tried(try_construct_der(alloc, |writer| Ok(element.write(writer)?))),
         "ws" => {
             let parts = element.parts()?;
@@ -70,11 +70,11 @@ fn form_in(alloc: Global, around: &str, element: &Element) -> Option<ASN1Result<
 }
 
 // The answer of a call with an error type of the caller's own.
-fn tried(form: Result<Vec<u8>, Fault>) -> ASN1Result<Vec<u8>> {
-    match form {
-        Ok(form) => Ok(form),
-        Err(Fault::Writing(error)) => Err(error),
-        Err(Fault::Own) => Err(ASN1Error::new(ASN1ErrorKind::Invalid)),
+fn tried(encoding: Result<Vec<u8>, OwnError>) -> ASN1Result<Vec<u8>> {
+    match encoding {
+        Ok(encoding) => Ok(encoding),
+        Err(OwnError::Writing(error)) => Err(error),
+        Err(OwnError::Own) => Err(ASN1Error::new(ASN1ErrorKind::Invalid)),
     }
 }
 
@@ -90,7 +90,7 @@ fn element(alloc: Global, name: &str, arg: &str) -> Option<Result<Element, Alloc
     };
     match raw_parts(alloc, arg)? {
         Ok(parts) => Some(Ok(Element::group(group, parts))),
-        Err(lack) => Some(Err(lack)),
+        Err(out_of_memory) => Some(Err(out_of_memory)),
     }
 }
 
@@ -99,7 +99,7 @@ fn small(name: &str, arg: &str) -> Option<Part> {
     let leaf = match name {
         "nothing" => return Some(Part::unwritten(Leaf::Null)),
         "nest" => Leaf::Nested(Nested::new(arg.parse().ok()?, 10)),
-        "refused" => Leaf::Refused(arg.parse().ok()?),
+        "refused" => Leaf::Rejected(arg.parse().ok()?),
         "thrown" => Leaf::Discarded(arg.parse().ok()?),
         _ => return None,
     };

@@ -5,12 +5,12 @@ use Rattle.std.proofs.lemmas.List.{take_more}
 use Rattle.std.proofs.lemmas.Result.{on_ok_weaker}
 use Rattle.std.specs.List.{flat_map}
 
--- what two appends leave, where the second one's answer is handed on
+-- what two appends leave, where the second one's answer is passed on
 pub append_then :
     {T E : Type 0} (r : Result T E) (old mid new xs ys zs : List ℕ) → mid ≡ old ++ xs → OnOk r (new ≡ mid ++ ys) → zs ≡ xs ++ ys → OnOk r (new ≡ old ++ zs)
 append_then r old mid new xs ys zs p q e = on_ok_weaker r (λ f. f ∙ ap (λ z. z ++ ys) p ∙ append_assoc old xs ys ∙ ap (λ z. old ++ z) (sym e)) q
 
--- what stands once the bytes of one item more are appended
+-- what is once the bytes of one item more are appended
 pub append_item : {X : Type 0} (f : X → List ℕ) (xs : List X) (i : ℕ) (d : X) (old mid : List ℕ) → i < length xs → mid ≡ old ++ flat_map f (take i xs) →
     mid ++ f (get_or xs i d) ≡ old ++ flat_map f (take (i + 1) xs)
 append_item f xs i d old mid h e =

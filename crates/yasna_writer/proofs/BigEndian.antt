@@ -7,7 +7,7 @@ use Rattle.std.proofs.lemmas.Nat.{from_be_bytes-to_be_bytes_8}
 use Rattle.yasna_base.specs.Digits.{IsBytes, digits}
 use Rattle.yasna_base.specs.Length.{shortest_length}
 use Rattle.yasna_base.proofs.Length.{counted_length}
-use Rattle.yasna_base.specs.BigInteger.{without, signed_number}
+use Rattle.yasna_base.specs.BigInteger.{trim_leading, signed_number}
 use Rattle.yasna_writer.proofs.Without.{without_shorter, digits_without}
 
 pub be_length : (n : ℕ) → length (to_be_bytes w64 n) ≡ 8
@@ -19,12 +19,12 @@ be_bytes n = search arith
 pub be_number : (n : ℕ) → n < 2 ^ 64 → number_from_digits 256 (to_be_bytes w64 n) ≡ n
 be_number n h = let e = from_be_bytes-to_be_bytes_8 n h in omega arith
 
-pub without_at_most : (n : ℕ) → length (without 0 (to_be_bytes w64 n)) ≤ 8
-without_at_most n = omega (arith, without_shorter 0 (to_be_bytes w64 n), be_length n)
+pub trimmed_at_most : (n : ℕ) → length (trim_leading 0 (to_be_bytes w64 n)) ≤ 8
+trimmed_at_most n = omega (arith, without_shorter 0 (to_be_bytes w64 n), be_length n)
 
 -- a length from 128 on is its bytes without the zeros in front, and their count
-pub length_without : (n : ℕ) → 128 ≤ n → n < 2 ^ 64 → shortest_length n ≡ (128 + length (without 0 (to_be_bytes w64 n))) ∷ without 0 (to_be_bytes w64 n)
-length_without n h small =
+pub length_trimmed : (n : ℕ) → 128 ≤ n → n < 2 ^ 64 → shortest_length n ≡ (128 + length (trim_leading 0 (to_be_bytes w64 n))) ∷ trim_leading 0 (to_be_bytes w64 n)
+length_trimmed n h small =
     let e = be_number n small in
     let d = ap (digits 256) (sym e) ∙ digits_without (to_be_bytes w64 n) (be_bytes n) (omega arith) in
     counted_length n h ∙ ap (λ ds. (128 + length ds) ∷ ds) d

@@ -8,7 +8,7 @@ use Rattle.yasna_base.specs.Identifier.{identifier}
 use Rattle.yasna_base.specs.Length.{shortest_length}
 use Rattle.yasna_base.proofs.Identifier.{identifier_short, identifier_long}
 use Rattle.yasna_base.proofs.Length.{short_length}
-use Rattle.yasna_writer.proofs.BigEndian.{length_without, without_at_most}
+use Rattle.yasna_writer.proofs.BigEndian.{length_trimmed, trimmed_at_most}
 use Rattle.yasna_writer.proofs.Identifiers.{base128_length_at_most}
 
 identifier_at_most : (t : Tag) (p : PCBit) → t.tag_number < 2 ^ 64 → length (identifier t p) ≤ 11
@@ -20,7 +20,7 @@ identifier_at_most t p h = elim (cases_lt t.tag_number 31) [
 length_at_most : (n : ℕ) → n < 2 ^ 64 → length (shortest_length n) ≤ 9
 length_at_most n h = elim (cases_lt n 128) [
   | inl l ↦ omega (arith, ap length (short_length n l))
-  | inr l ↦ omega (arith, ap length (length_without n l h), without_at_most n)
+  | inr l ↦ omega (arith, ap length (length_trimmed n l h), trimmed_at_most n)
 ]
 
 -- of definite length

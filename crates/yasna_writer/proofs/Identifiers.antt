@@ -26,7 +26,7 @@ digits_step b zero two h = absurd (omega arith)
 digits_step b (suc k) two h = digits_of_step b (suc k) two (omega arith) ∙ ap (λ ds. ds ++ (suc k % b ∷ []))
     (digits_are b (suc k / b) two (positive_quotient b (suc k) two h))
 
--- with another digit behind them, all digits are marked
+-- with another digit after them, all digits are marked
 pub marked_push : (ds : List ℕ) (d : ℕ) → marked (ds ++ (d ∷ [])) ≡ map (λ e. 128 + e) ds ++ (d ∷ [])
 marked_push [] d = refl
 marked_push (e ∷ []) d = refl

@@ -14,8 +14,8 @@ use Rattle.yasna_base.specs.Digits.{IsBytes}
 use Rattle.yasna_base.specs.Integer.{twos, IsMinimal, minimal_bytes, IsInteger, distance}
 use Rattle.yasna_base.proofs.Digits.{number_cons}
 use Rattle.yasna_base.proofs.Integer.{twos_positive, twos_negative, negative_is, number_above, number_below, minimal_only}
-use Rattle.yasna_base.specs.BigInteger.{without, signed_number, signed_or_zero, big_integer}
-use Rattle.yasna_writer.specs.Integer.{sign_byte, sign_front}
+use Rattle.yasna_base.specs.BigInteger.{trim_leading, signed_number, signed_or_zero, big_integer}
+use Rattle.yasna_writer.specs.Integer.{sign_byte, sign_octet}
 use Rattle.yasna_writer.proofs.BigEndian.{be_bytes, be_number}
 use Rattle.yasna_writer.proofs.Without.{without_cases, without_bytes, without_first}
 
@@ -24,8 +24,8 @@ pub sign_byte_more : (positive : Bool) (b : List ℕ) → signed_number positive
 sign_byte_more true b = let e = number_cons 256 0 b in ap pos (omega arith)
 sign_byte_more false b = let e = number_cons 256 255 b in let p = pow-suc 256 (length b) in omega (arith, ints)
 
--- nor does it where it is left out
-pub sign_without : (positive : Bool) (b : List ℕ) → signed_number positive (without (sign_byte positive) b) ≡ signed_number positive b
+-- nor does it where it is omitted
+pub sign_without : (positive : Bool) (b : List ℕ) → signed_number positive (trim_leading (sign_byte positive) b) ≡ signed_number positive b
 sign_without positive [] = refl
 sign_without positive (y ∷ ys) = elim (without_cases (sign_byte positive) y ys) [
   | inl p ↦ ap (signed_number positive) p.1 ∙ sign_without positive ys ∙ sym (sign_byte_more positive ys) ∙ ap (λ z. signed_number positive (z ∷ ys)) (sym p.0)
@@ -34,7 +34,7 @@ sign_without positive (y ∷ ys) = elim (without_cases (sign_byte positive) y ys
 
 -- bytes with the sign byte where it is needed
 abbrev signed : Bool → List ℕ → List ℕ
-signed positive c = sign_front positive c ++ c
+signed positive c = sign_octet positive c ++ c
 
 small_minimal : (x : ℕ) (xs : List ℕ) → (x ≡ 0 → ⊥) → (x ≡ 255 → ⊥) → IsMinimal (x ∷ xs)
 small_minimal x [] f g = tt
@@ -83,9 +83,9 @@ signed_integer false (x ∷ xs) h f = negative_bytes x xs h (f x xs refl)
 -- bytes without sign bytes in front, and one where it is needed, are the fewest
 pub signed_bytes :
     (positive : Bool) (b : List ℕ) → IsBytes b
-    → sign_front positive (without (sign_byte positive) b) ++ without (sign_byte positive) b ≡ minimal_bytes (signed_number positive b)
+    → sign_octet positive (trim_leading (sign_byte positive) b) ++ trim_leading (sign_byte positive) b ≡ minimal_bytes (signed_number positive b)
 signed_bytes positive b h =
-    let c = without (sign_byte positive) b in
+    let c = trim_leading (sign_byte positive) b in
     minimal_only (signed_number positive c) (signed positive c)
     (signed_integer positive c (without_bytes (sign_byte positive) b h) (λ y ys. without_first (sign_byte positive) y b ys))
     ∙ ap minimal_bytes (sign_without positive b)
@@ -98,15 +98,15 @@ signed_none : (positive : Bool) (c : List ℕ) → length c ≡ 0 → signed_num
 signed_none positive [] h = refl
 signed_none positive (x ∷ xs) h = absurd (omega arith)
 
--- the number of bytes where some stand behind the zeros
-pub big_some : (positive : Bool) (b : List ℕ) → 0 < length (without 0 b) → signed_number positive (without 0 b) ≡ big_integer b positive
+-- the number of bytes where some are after the zeros
+pub big_some : (positive : Bool) (b : List ℕ) → 0 < length (trim_leading 0 b) → signed_number positive (trim_leading 0 b) ≡ big_integer b positive
 unfolding big_integer
-big_some positive b h = signed_some positive (without 0 b) h
+big_some positive b h = signed_some positive (trim_leading 0 b) h
 
 -- and where none do
-pub big_none : (positive : Bool) (b : List ℕ) → length (without 0 b) ≡ 0 → signed_number true (without 0 b) ≡ big_integer b positive
+pub big_none : (positive : Bool) (b : List ℕ) → length (trim_leading 0 b) ≡ 0 → signed_number true (trim_leading 0 b) ≡ big_integer b positive
 unfolding big_integer
-big_none positive b h = signed_none positive (without 0 b) h
+big_none positive b h = signed_none positive (trim_leading 0 b) h
 
 -- the first byte of two or more says nothing where the number fits one byte less
 narrow_one : (x y : ℕ) (ys : List ℕ) → IsBytes (x ∷ y ∷ ys) → distance (twos (x ∷ y ∷ ys)) < 128 * 256 ^ length ys → twos (y ∷ ys) ≡ twos (x ∷ y ∷ ys)

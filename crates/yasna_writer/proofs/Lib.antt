@@ -2,8 +2,8 @@ pub mod Appends
 pub mod Blocks
 pub mod Bmps
 pub mod BigEndian
-pub mod Drafts
-pub mod Fronts
+pub mod Buffers
+pub mod SortKeys
 pub mod Headers
 pub mod Identifiers
 pub mod Joins

@@ -28,16 +28,16 @@ pub short_bytes :
     → count ≡ length c → first ∷ count ∷ c ≡ canonical_element m t Primitive c
 short_bytes m t first count c h k e f = ap₂ (λ x y. x ∷ y ∷ c) e f ∙ sym (short_element m t c h k)
 
--- what one append leaves, where nothing was kept and the tag is used up before it
+-- what one append leaves, where nothing was sticky and the tag is used up before it
 pub wrote_by :
     (piece bs : List ℕ) (old mid new : Written) (r : Result (Unit {0}) ASN1Error)
-    → old.kept ≡ None → mid ≡ record old { tag = None } → piece ≡ bs → MatchResult r (λ _. new ≡ record mid { bytes = mid.bytes ++ piece })
-    (λ e. (kind_of e ≡ OutOfMemory) × (new.kept ≡ Some e)) → Wrote bs old new r
+    → old.failed ≡ None → mid ≡ record old { tag = None } → piece ≡ bs → MatchResult r (λ _. new ≡ record mid { bytes = mid.bytes ++ piece })
+    (λ e. (kind_of e ≡ OutOfMemory) × (new.failed ≡ Some e)) → Wrote bs old new r
 wrote_by piece bs old mid new r none taken e h =
     rw none
     (MatchResult-weaker r h
     (λ _ f. f ∙ ap₂ (λ (w : Written) x. record w { bytes = w.bytes ++ x }) taken e
-    ∙ ap (λ (k : Option ASN1Error). record old { bytes = old.bytes ++ bs; tag = None; kept = k }) none)
+    ∙ ap (λ (k : Option ASN1Error). record old { bytes = old.bytes ++ bs; tag = None; failed = k }) none)
     (λ k f. f))
 
 -- what two appends leave

@@ -9,12 +9,12 @@ use Rattle.std.proofs.Common.{ℕ, List}
 use Rattle.yasna_base.specs.Canonical.{canonical_element, definite_element}
 use Rattle.yasna_base.specs.Identifier.{identifier}
 use Rattle.yasna_base.specs.Length.{shortest_length}
-use Rattle.yasna_base.specs.Raw.{raw_form}
+use Rattle.yasna_base.specs.Raw.{raw_encoding}
 use Rattle.yasna_writer.specs.Header.{raw_header}
 
 -- header and payload are the element
 pub raw_written : (m : BERMode) (t own : Tag) (p : PCBit) (c : List ℕ) →
-    raw_header m p (record { tag = t; length = length c }) ++ c ≡ raw_form t m (record { tag = own; bit = p; payload = c })
+    raw_header m p (record { tag = t; length = length c }) ++ c ≡ raw_encoding t m (record { tag = own; bit = p; payload = c })
 unfolding canonical_element definite_element
 raw_written Ber t own Primitive c = append_assoc (identifier t Primitive) (shortest_length (length c)) c
 raw_written Ber t own Constructed c = append_assoc (identifier t Constructed) (shortest_length (length c)) c

@@ -12,11 +12,11 @@ use Rattle.yasna_base.specs.declared.tag.PCBit.TheVariants.{Primitive}
 use Rattle.yasna_base.specs.declared.tag.Tag.{Tag}
 use Rattle.yasna_base.specs.Bits.{bits_tag, padded, unused_bits, bit_pieces}
 use Rattle.yasna_base.specs.Canonical.{canonical_element, definite_element, indefinite_element}
-use Rattle.yasna_base.specs.Segmented.{Segmentation, segmented_form}
+use Rattle.yasna_base.specs.Segmented.{Segmentation, segmented_encoding}
 use Rattle.yasna_base.specs.Digits.{digits}
 use Rattle.yasna_base.specs.Identifier.{identifier}
 use Rattle.yasna_base.specs.Length.{shortest_length}
-use Rattle.yasna_base.specs.Octets.{octets_form}
+use Rattle.yasna_base.specs.Octets.{octets_encoding}
 use Rattle.yasna_base.specs.Segments.{segments}
 use Rattle.yasna_base.proofs.Bits.{padded_length}
 use Rattle.yasna_base.proofs.Segments.{segments_more, segments_one}
@@ -28,19 +28,19 @@ use Rattle.yasna_writer.proofs.Padding.{contents_with}
 -- what is cut is an element of indefinite length around its segments
 pub goes_apart : {A : Type 0} (k : Segmentation A) (contents : A → List ℕ) (pieces : A → List A) (t : Tag) (m : BERMode) (v : A) →
     is_cut m k.full (length (k.bytes v)) ≡ true →
-    indefinite_element t (flat_map (λ w. canonical_element Der k.segment Primitive (contents w)) (pieces v)) ≡ segmented_form k contents pieces t m v
+    indefinite_element t (flat_map (λ w. canonical_element Der k.segment Primitive (contents w)) (pieces v)) ≡ segmented_encoding k contents pieces t m v
 unfolding canonical_element
 goes_apart k contents pieces t Ber v h = absurd (cc)
 goes_apart k contents pieces t Der v h = absurd (cc)
 goes_apart k contents pieces t Cer v h = rw h refl
 
 -- so few octets aren't cut
-pub octets_whole : (t : Tag) (m : BERMode) (b : List ℕ) → length b ≤ 1000 → canonical_element m t Primitive b ≡ octets_form t m b
+pub octets_whole : (t : Tag) (m : BERMode) (b : List ℕ) → length b ≤ 1000 → canonical_element m t Primitive b ≡ octets_encoding t m b
 octets_whole t Ber b h = refl
 octets_whole t Der b h = refl
 octets_whole t Cer b h = grind (arith, nat_tests)
 
--- a full segment of octets, and those behind it
+-- a full segment of octets, and those after it
 pub octets_more : (b : List ℕ) → 1000 < length b → in_octet_segments b ≡ octet_segment (take 1000 b) ++ in_octet_segments (drop 1000 b)
 octets_more b h = ap (flat_map octet_segment) (segments_more 1000 b (omega arith) h)
 
@@ -79,7 +79,7 @@ padded_drop u zero (x ∷ d) h = refl
 padded_drop u (suc n) (x ∷ []) h = absurd (omega (arith, h))
 padded_drop u (suc n) (x ∷ y ∷ ys) h = padded_drop u n (y ∷ ys) (omega (arith, h))
 
--- a segment in front of others is full
+-- a segment before others is full
 pieces_more : (b : List ℕ) (bs : List (List ℕ)) (k : ℕ) → 1 ≤ length bs →
     bit_pieces (b ∷ bs) k ≡ record { bytes = b; count = 8 * length b } ∷ bit_pieces bs (k - 8 * length b)
 pieces_more b [] k h = absurd (omega (arith, h))
@@ -91,20 +91,20 @@ some_segments k v h = elim (cases_lt k (length v)) [
   | inr i ↦ omega (arith, ap length (segments_one k v i))
 ]
 
--- as many bits are left over behind a front of bytes
+-- as many bits are left over after a prefix of bytes
 pub unused_with : (u : ℕ) (b : List ℕ) → u < 8 → 1 ≤ length b → unused_bits (bits_with u b) ≡ u
 unused_with u b h some = omega arith
 
--- a full segment of bits, and those behind it
+-- a full segment of bits, and those after it
 pub bits_more : (u : ℕ) (b : List ℕ) → u < 8 → 999 < length b →
     in_bit_segments (bits_with u b) ≡ bit_segment (bits_with 0 (take 999 b)) ++ in_bit_segments (bits_with u (drop 999 b))
 bits_more u b h long =
     let p = padded u b in
     let n = padded_length u b in
-    let behind = length-drop 999 b in
-    let front = length-take 999 b in
+    let after = length-drop 999 b in
+    let prefix = length-take 999 b in
     let own = unused_with u b h (omega (arith, long)) in
-    let rest = unused_with u (drop 999 b) h (omega (arith, behind)) in
+    let rest = unused_with u (drop 999 b) h (omega (arith, after)) in
     let count : (8 * length b - u) - 8 * length (take 999 b) ≡ 8 * length (drop 999 b) - u = omega arith in
     let whole : 8 * length (take 999 b) ≡ 8 * length (take 999 b) - 0 = omega arith in
     ap (λ j. flat_map bit_segment (bit_pieces (segments 999 (padded j b)) (8 * length b - u))) own
@@ -128,12 +128,12 @@ bits_one u b h some fits =
     ∙ ap (λ i. canonical_element Der bits_tag Primitive (i ∷ padded i (padded j b))) left
     ∙ ap (λ d. canonical_element Der bits_tag Primitive (j ∷ d)) (padded_twice j b)
 
--- 1000 octets stand behind their tag and 1000 in two bytes
+-- 1000 octets are after their tag and 1000 in two bytes
 pub full_octets : (b : List ℕ) → length b ≡ 1000 → (4 ∷ 130 ∷ 3 ∷ 232 ∷ []) ++ b ≡ octet_segment b
 unfolding canonical_element definite_element identifier shortest_length digits
 full_octets b h = ap (λ n. 4 ∷ (shortest_length n ++ b)) (sym h)
 
--- so do 999 bytes of bits behind the count of those left over, none
+-- so do 999 bytes of bits after the count of those left over, none
 pub full_bits : (b : List ℕ) → length b ≡ 999 → (3 ∷ 130 ∷ 3 ∷ 232 ∷ 0 ∷ []) ++ b ≡ bit_segment (bits_with 0 b)
 unfolding canonical_element definite_element identifier shortest_length digits
 full_bits b h =
@@ -143,10 +143,10 @@ full_bits b h =
     ∙ ap (λ u. definite_element bits_tag Primitive (u ∷ padded u b)) e
 
 -- the last one, as it is written
-pub last_segment : (m : BERMode) (bytes front : List ℕ) (last u : ℕ) → last < 256 → u < 8 → bytes ≡ front ++ last ∷ [] →
-    canonical_element m bits_tag Primitive (u ∷ (front ++ (last / 2 ^ u * 2 ^ u % 256) ∷ [])) ≡ bit_segment (bits_with u bytes)
+pub last_segment : (m : BERMode) (bytes prefix : List ℕ) (last u : ℕ) → last < 256 → u < 8 → bytes ≡ prefix ++ last ∷ [] →
+    canonical_element m bits_tag Primitive (u ∷ (prefix ++ (last / 2 ^ u * 2 ^ u % 256) ∷ [])) ≡ bit_segment (bits_with u bytes)
 unfolding canonical_element
-last_segment m bytes front last u byte few split = ap (definite_element bits_tag Primitive) (sym (contents_with bytes front last u byte few split))
+last_segment m bytes prefix last u byte few split = ap (definite_element bits_tag Primitive) (sym (contents_with bytes prefix last u byte few split))
 
 -- where a segment was appended, what is left completes the same
 pub segment_appended : (w mid new : Written) (rest next piece : List ℕ) → new ≡ record mid { bytes = mid.bytes ++ piece } → rest ≡ piece ++ next →

@@ -12,21 +12,21 @@ use Rattle.yasna_base.specs.Order.{octets_cmp, in_order}
 use Rattle.yasna_base.specs.Set.{SetOfContents}
 use Rattle.yasna_writer.specs.declared.ordered_part.OrderedPart.{OrderedPart}
 use Rattle.yasna_writer.specs.Parts.{WrittenParts, only_part, last_part, bytes_each, ordered_bytes}
-use Rattle.yasna_writer.specs.Set.{EndsPart, LacksParts, BeginsNext, EndsSet}
+use Rattle.yasna_writer.specs.Set.{EndsPart, LosesParts, BeginsNext, EndsSet}
 use Rattle.yasna_writer.specs.View.{Written, begun}
 
--- a part begins behind those before
+-- a part begins after those before
 pub part_begins : (m : BERMode) (b : Bool) (old : List (Vec ℕ Global)) (last : Written) (new : List (Vec ℕ Global)) (w : Written) →
     EndsPart b old last new (Ok tt) →
-    w ≡ record (begun m) { kept = None } → BeginsNext m b old last new w
+    w ≡ record (begun m) { failed = None } → BeginsNext m b old last new w
 part_begins m b old last new w h e =
-    subst (λ x. BeginsNext m b old last new x) (sym e) (record { begins = record { keeps = h.0; fresh = refl }; before = h.1 })
+    subst (λ x. BeginsNext m b old last new x) (sym e) (record { begins = record { sticks = h.0; fresh = refl }; before = h.1 })
 
--- the same where a failure is kept
+-- the same where an error is sticky
 pub part_fails : (m : BERMode) (b : Bool) (old : List (Vec ℕ Global)) (last : Written) (new : List (Vec ℕ Global)) (w : Written) (k : ASN1Error) →
-    LacksParts last.kept k → new ≡ [] → w ≡ record (begun m) { kept = Some k } → BeginsNext m b old last new w
+    LosesParts last.failed k → new ≡ [] → w ≡ record (begun m) { failed = Some k } → BeginsNext m b old last new w
 part_fails m b old last new w k h n e =
-    subst (λ x. BeginsNext m b old last new x) (sym e) (record { begins = record { keeps = h; fresh = refl }; before = ap bytes_each n })
+    subst (λ x. BeginsNext m b old last new x) (sym e) (record { begins = record { sticks = h; fresh = refl }; before = ap bytes_each n })
 
 -- parts joined are their bytes joined
 pub flat_concat : {X : Type 0} (f : X → List ℕ) (xs : List X) → flat_map f xs ≡ concat (map f xs)
@@ -46,13 +46,13 @@ all_unmap f P (x ∷ xs) a = (a.0, all_unmap f P xs a.1)
 pub not_set_of : (vs : List (Vec ℕ Global)) (ps : List (List ℕ)) → bytes_each vs ≡ ps → (AllByRecursion (λ v. v.items ≡ [] → ⊥) vs → ⊥) → (c : List ℕ) →
     SetOfContents ps c → ⊥
 not_set_of vs ps e not_all c h =
-    not_all (all_unmap (λ (v : Vec ℕ Global). v.items) (λ b. b ≡ [] → ⊥) vs (subst (λ z. AllByRecursion (λ b. b ≡ [] → ⊥) z) (sym e) h.filled))
+    not_all (all_unmap (λ (v : Vec ℕ Global). v.items) (λ b. b ≡ [] → ⊥) vs (subst (λ z. AllByRecursion (λ b. b ≡ [] → ⊥) z) (sym e) h.non_empty))
 
 -- parts in order make the contents of a SET OF
 pub set_of_contents : (vs : List (Vec ℕ Global)) (ws : List OrderedPart) (ps : List (List ℕ)) → bytes_each vs ≡ ps → AllByRecursion (λ v. v.items ≡ [] → ⊥) vs →
     ordered_bytes ws ≡ in_order octets_cmp (bytes_each vs) → SetOfContents ps (flat_map (λ (p : OrderedPart). p.bytes.items) ws)
 set_of_contents vs ws ps e all f = record {
-  filled = subst (λ z. AllByRecursion (λ b. b ≡ [] → ⊥) z) e (all_map (λ (v : Vec ℕ Global). v.items) (λ b. b ≡ [] → ⊥) vs all);
+  non_empty = subst (λ z. AllByRecursion (λ b. b ≡ [] → ⊥) z) e (all_map (λ (v : Vec ℕ Global). v.items) (λ b. b ≡ [] → ⊥) vs all);
   joined = flat_concat (λ (p : OrderedPart). p.bytes.items) ws ∙ ap concat (f ∙ ap (in_order octets_cmp) e);
 }
 
@@ -67,12 +67,12 @@ set_ends Contents tag t old taken left new e f h =
     subst (λ (u : Tag). EndsSet Contents (canonical_element old.mode u Constructed) left (record old { tag = None }) new) f
     (subst (λ (w : Written). EndsSet Contents (canonical_element w.mode tag Constructed) left w new) e h)
 
--- the end of a SET OF with one part, seen from where this part hadn't been put behind the others
-pub only_part_ends : (form : List ℕ → List ℕ) (parts : List (Vec ℕ Global)) (b : Bool) (m : BERMode) (last : Written) (left : WrittenParts)
+-- the end of a SET OF with one part, seen from where this part hadn't been put after the others
+pub only_part_ends : (encoding : List ℕ → List ℕ) (parts : List (Vec ℕ Global)) (b : Bool) (m : BERMode) (last : Written) (left : WrittenParts)
     (old new : Written) →
-    record { parts = bytes_each parts ++ last_part b last.bytes; mode = m; kept = last.kept } ≡ left → b ≡ true → parts ≡ [] →
-    EndsSet SetOfContents form (only_part last) old new → EndsSet SetOfContents form left old new
-only_part_ends form parts b m last left old new v t e h =
+    record { parts = bytes_each parts ++ last_part b last.bytes; mode = m; failed = last.failed } ≡ left → b ≡ true → parts ≡ [] →
+    EndsSet SetOfContents encoding (only_part last) old new → EndsSet SetOfContents encoding left old new
+only_part_ends encoding parts b m last left old new v t e h =
     let one : bytes_each parts ++ last_part b last.bytes ≡ last.bytes ∷ [] = rw (t, e) refl in
-    subst (λ (w : WrittenParts). EndsSet SetOfContents form w old new) v
-    (subst (λ ps. EndsSet SetOfContents form (record { parts = ps; mode = m; kept = last.kept }) old new) (sym one) h)
+    subst (λ (w : WrittenParts). EndsSet SetOfContents encoding w old new) v
+    (subst (λ ps. EndsSet SetOfContents encoding (record { parts = ps; mode = m; failed = last.failed }) old new) (sym one) h)

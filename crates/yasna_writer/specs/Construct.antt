@@ -1,4 +1,4 @@
--- What a call answers that begins a writing and ends it.
+-- What a call returns that begins a writing and ends it.
 use Rattle.std.specs.Prelude.{◌≡◌, ℕ, ◌⊎◌, Result, Ok, Err, MatchOption, MatchResult, IsErrAnd, Vec}
 use Rattle.std.specs.Global.{Global}
 use Rattle.yasna_base.specs.declared.error.ASN1Error.{ASN1Error}
@@ -6,14 +6,14 @@ use Rattle.yasna_base.specs.declared.error.ASN1ErrorKind.TheVariants.{OutOfMemor
 use Rattle.yasna_base.specs.Error.{kind_of}
 use Rattle.yasna_writer.specs.View.{Written, bytes_of}
 
--- e is what an error type makes of a want of memory
-abbrev pub LacksMemory : {E : Type 0} → (ASN1Error → E → Type 0) → E → Type 0
-LacksMemory from e = (k : ASN1Error) × (kind_of k ≡ OutOfMemory) × from k e
+-- e is what an error type makes of `OutOfMemory`
+abbrev pub FromOutOfMemory : {E : Type 0} → (ASN1Error → E → Type 0) → E → Type 0
+FromOutOfMemory from e = (k : ASN1Error) × (kind_of k ≡ OutOfMemory) × from k e
 
--- what is answered where a closure answered own and left the writing as w: the failure that w keeps, else the closure's Err, else
--- the bytes of w, or want of memory; from says what an error type makes of a failure of the writing
+-- what is returned where a closure returned own and left the writing as w: the failure that w keeps, else the closure's Err, else
+-- the bytes of w, or `OutOfMemory`; from says what an error type makes of a failure of the writing
 abbrev pub Constructed : {E : Type 0} → (ASN1Error → E → Type 0) → Written → Result (Unit {0}) E → Result (Vec ℕ Global) E → Type 0
 Constructed from w own result =
-    MatchOption w.kept
-    (MatchResult own (λ _. (bytes_of result ≡ Ok w.bytes) ⊎ IsErrAnd result (LacksMemory from)) (λ e. bytes_of result ≡ Err e))
+    MatchOption w.failed
+    (MatchResult own (λ _. (bytes_of result ≡ Ok w.bytes) ⊎ IsErrAnd result (FromOutOfMemory from)) (λ e. bytes_of result ≡ Err e))
     (λ k. IsErrAnd result (λ e. from k e))

@@ -29,7 +29,7 @@ abbrev pub header_of : Tag → Option ℕ → PartsHeader
 header_of t (Some n) = Counted (record { tag = t; length = n })
 header_of t None = Endless t
 
--- what stands in front of a payload that is written as it is
+-- what is before a payload that is written as it is
 abbrev pub raw_header : BERMode → PCBit → Header → List ℕ
 raw_header Cer Constructed h = indefinite_header h.tag
 raw_header m bit h = header_bytes bit h

@@ -1,13 +1,13 @@
 pub mod View
-pub mod Front
+pub mod SortKey
 pub mod Identifier
 pub mod Put
 pub mod Header
 pub mod Integer
 pub mod Bmp
 pub mod Segments
-pub mod Draft
-pub mod Entries
+pub mod Buffer
+pub mod Slots
 pub mod State
 pub mod Construct
 pub mod Sequence

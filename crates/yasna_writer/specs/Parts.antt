@@ -14,16 +14,16 @@ pub record WrittenParts : Type 0 where
   pub parts : List (List ℕ)
   -- the canonical mode of what is written
   pub mode : BERMode
-  -- the failure that later calls answer
-  pub kept : Option ASN1Error
+  -- the failure that later calls return
+  pub failed : Option ASN1Error
 
 -- a set that begins
 abbrev pub no_parts : BERMode → WrittenParts
-no_parts m = record { parts = []; mode = m; kept = None }
+no_parts m = record { parts = []; mode = m; failed = None }
 
 -- a set whose only part is this writing
 abbrev pub only_part : Written → WrittenParts
-only_part w = record { parts = w.bytes ∷ []; mode = w.mode; kept = w.kept }
+only_part w = record { parts = w.bytes ∷ []; mode = w.mode; failed = w.failed }
 
 -- the bytes of each part
 abbrev pub bytes_each : List (Vec ℕ Global) → List (List ℕ)
@@ -42,6 +42,6 @@ set_part_of p = record { tag = p.tag; bytes = p.bytes.items }
 abbrev pub parts_of : List TaggedPart → List SetPart
 parts_of ps = map set_part_of ps
 
--- the bytes of each part behind the number of its first ones
+-- the bytes of each part after the number of its first ones
 abbrev pub ordered_bytes : List OrderedPart → List (List ℕ)
 ordered_bytes ps = map (λ (p : OrderedPart). p.bytes.items) ps

@@ -9,7 +9,7 @@ use Rattle.yasna_base.specs.declared.error.ASN1ErrorKind.TheVariants.{OutOfMemor
 use Rattle.yasna_base.specs.declared.mode.BERMode.{BERMode}
 use Rattle.yasna_base.specs.Error.{kind_of}
 use Rattle.yasna_base.specs.Set.{SetPart, HasItsTag, parts_bytes, SetOfContents, SetContents}
-use Rattle.yasna_writer.specs.Sequence.{AnswersKept, AnswersOnly}
+use Rattle.yasna_writer.specs.Sequence.{ReturnsSticky, ReturnsOnly}
 use Rattle.yasna_writer.specs.declared.set.PartOrder.{PartOrder}
 use Rattle.yasna_writer.specs.declared.set.PartOrder.TheVariants.{Bytes, Tags}
 use Rattle.yasna_writer.specs.declared.tagged_part.TaggedPart.{TaggedPart}
@@ -18,49 +18,49 @@ use Rattle.yasna_writer.specs.View.{Written, holding}
 use Rattle.yasna_writer.specs.contracts.set.DERWriterSet.{the_row}
 use Rattle.yasna_writer.specs.contracts.state.Writer.{the_row as writer_row}
 
--- a part was put behind others, or there is no memory
+-- a part was put after others, or there is no memory
 abbrev pub Pushes : List ℕ → List (Vec ℕ Global) → List (Vec ℕ Global) → Result (Unit {0}) ASN1Error → Type 0
 Pushes b old new result = MatchResult result (λ _. bytes_each new ≡ bytes_each old ++ (b ∷ [])) (λ e. kind_of e ≡ OutOfMemory)
 
--- why there are no parts to be seen: a failure is kept, or there is no memory
-abbrev pub LacksParts : Option ASN1Error → ASN1Error → Type 0
-LacksParts kept e = (kept ≡ Some e) ⊎ ((kept ≡ None) × (kind_of e ≡ OutOfMemory))
+-- why there are no parts to be seen: an error is sticky, or there is no memory
+abbrev pub LosesParts : Option ASN1Error → ASN1Error → Type 0
+LosesParts failed e = (failed ≡ Some e) ⊎ ((failed ≡ None) × (kind_of e ≡ OutOfMemory))
 
--- the last part was put behind the others, where one was begun
+-- the last part was put after the others, where one was begun
 abbrev pub EndsPart : Bool → List (Vec ℕ Global) → Written → List (Vec ℕ Global) → Result (Unit {0}) ASN1Error → Type 0
 EndsPart begun old last new result =
-    MatchResult result (λ _. (last.kept ≡ None) × (bytes_each new ≡ bytes_each old ++ last_part begun last.bytes)) (λ e. LacksParts last.kept e)
+    MatchResult result (λ _. (last.failed ≡ None) × (bytes_each new ≡ bytes_each old ++ last_part begun last.bytes)) (λ e. LosesParts last.failed e)
 
--- what is kept where a part begins: the failure that was kept, or want of memory
-abbrev pub KeptAtPart : Option ASN1Error → Option ASN1Error → Type 0
-KeptAtPart old None = old ≡ None
-KeptAtPart old (Some k) = LacksParts old k
+-- what is sticky where a part begins: the sticky error, or `OutOfMemory`
+abbrev pub FailedAtPart : Option ASN1Error → Option ASN1Error → Type 0
+FailedAtPart old None = old ≡ None
+FailedAtPart old (Some k) = LosesParts old k
 
 -- nobody sees the parts after a failure
-abbrev pub parts_unless_kept : Option ASN1Error → List (List ℕ) → List (List ℕ)
-parts_unless_kept None ps = ps
-parts_unless_kept (Some k) ps = []
+abbrev pub parts_unless_failed : Option ASN1Error → List (List ℕ) → List (List ℕ)
+parts_unless_failed None ps = ps
+parts_unless_failed (Some k) ps = []
 
 -- the writing of a part begins
-pub record BeginsPart (mode : BERMode) (kept : Option ASN1Error) (w : Written) : Type 0 where
-  -- it keeps the failure of the parts before, if there is one, or want of memory
-  pub keeps : KeptAtPart kept w.kept
+pub record BeginsPart (mode : BERMode) (failed : Option ASN1Error) (w : Written) : Type 0 where
+  -- it keeps the failure of the parts before, if there is one, or `OutOfMemory`
+  pub sticks : FailedAtPart failed w.failed
   -- there is nothing in it, and it is in this mode
-  pub fresh : w ≡ record { bytes = []; mode = mode; tag = None; kept = w.kept }
+  pub fresh : w ≡ record { bytes = []; mode = mode; tag = None; failed = w.failed }
 
--- the same, behind the parts before
+-- the same, after the parts before
 pub record BeginsNext (mode : BERMode) (begun : Bool) (old : List (Vec ℕ Global)) (last : Written) (new : List (Vec ℕ Global)) (w : Written) : Type 0 where
   -- a part begins
-  pub begins : BeginsPart mode last.kept w
-  -- what was the last part stands with those before it, unless a failure is kept
-  pub before : bytes_each new ≡ parts_unless_kept w.kept (bytes_each old ++ last_part begun last.bytes)
+  pub begins : BeginsPart mode last.failed w
+  -- what was the last part is there with those before it, unless an error is sticky
+  pub before : bytes_each new ≡ parts_unless_failed w.failed (bytes_each old ++ last_part begun last.bytes)
 
--- s ends with the part that is behind r at last
+-- s ends with the part that is after r at last
 abbrev pub LendsPart : MutBor WrittenParts → MutBor Written → Fml
 LendsPart s r = Lends the_row writer_row s r (λ w. record {
-  parts = parts_unless_kept r.now.kept s.now.parts ++ (w.bytes ∷ []);
+  parts = parts_unless_failed r.now.failed s.now.parts ++ (w.bytes ∷ []);
   mode = s.now.mode;
-  kept = w.kept;
+  failed = w.failed;
 })
 
 -- these parts of a SET begin with their tags, and are ps
@@ -73,43 +73,43 @@ TagsParts ps result =
     MatchResult result (λ v. AreTagged ps (parts_of v.items))
     (λ e. (kind_of e ≡ OutOfMemory) ⊎ ((kind_of e ≡ Invalid) × ((ts : List SetPart) → AreTagged ps ts → ⊥)))
 
--- why k is kept at the end of a set whose parts a closure left so: a write of the closure failed, or there is no memory,
+-- why k is sticky at the end of a set whose parts a closure left so: a write of the closure failed, or there is no memory,
 -- or the parts make no contents
 abbrev pub FailsAtSet : (List (List ℕ) → List ℕ → Type 0) → WrittenParts → ASN1Error → Type 0
 FailsAtSet Contents left k =
-    (left.kept ≡ Some k) ⊎ ((left.kept ≡ None) × ((kind_of k ≡ OutOfMemory) ⊎ ((kind_of k ≡ Invalid) × ((c : List ℕ) → Contents left.parts c → ⊥))))
+    (left.failed ≡ Some k) ⊎ ((left.failed ≡ None) × ((kind_of k ≡ OutOfMemory) ⊎ ((kind_of k ≡ Invalid) × ((c : List ℕ) → Contents left.parts c → ⊥))))
 
 -- the contents that parts make in this order
 abbrev pub contents_in : PartOrder → List (List ℕ) → List ℕ → Type 0
 contents_in Bytes = SetOfContents
 contents_in Tags = SetContents
 
--- no failure was kept, the parts make contents, and form of these was written
+-- no error was sticky, the parts make contents, and the encoding of these was written
 abbrev pub WritesParts : (List (List ℕ) → List ℕ → Type 0) → (List ℕ → List ℕ) → WrittenParts → Written → Written → Type 0
-WritesParts Contents form left old new = (left.kept ≡ None) × (c : List ℕ) × Contents left.parts c × (new ≡ holding old (old.bytes ++ form c))
+WritesParts Contents encoding left old new = (left.failed ≡ None) × (c : List ℕ) × Contents left.parts c × (new ≡ holding old (old.bytes ++ encoding c))
 
--- the end of a set: its contents are written, unless a failure is kept
+-- the end of a set: its contents are written, unless an error is sticky
 abbrev pub EndsSet : (List (List ℕ) → List ℕ → Type 0) → (List ℕ → List ℕ) → WrittenParts → Written → Written → Type 0
-EndsSet Contents form left old new = MatchOption new.kept (WritesParts Contents form left old new) (λ k. FailsAtSet Contents left k)
+EndsSet Contents encoding left old new = MatchOption new.failed (WritesParts Contents encoding left old new) (λ k. FailsAtSet Contents left k)
 
 -- the closure f ran and wrote parts, and the set of them was written
 pub record WroteSet {F T E : Type 0} (g : Once F (MutBor WrittenParts × Unit {0}) (Result T E × (MutBor WrittenParts × Unit {0})))
     (from : ASN1Error → E → Type 0)
-    (f : F) (Contents : List (List ℕ) → List ℕ → Type 0) (form : List ℕ → List ℕ) (old new : Written) (result : Result T E) : Type 0 where
-  -- the closure's answer
+    (f : F) (Contents : List (List ℕ) → List ℕ → Type 0) (encoding : List ℕ → List ℕ) (old new : Written) (result : Result T E) : Type 0 where
+  -- the closure's result
   pub own : Result T E
   -- the parts that it left
   pub left : WrittenParts
   -- it was handed no parts
   pub ran : FnOnceReturnsAtMut g f (no_parts old.mode) own left
-  -- form of the contents that the parts make was written, or a failure is kept
-  pub ends : EndsSet Contents form left old new
-  -- that failure is answered, else the closure's answer, an Err too
-  pub answers : AnswersKept from new.kept own result
+  -- encoding of the contents that the parts make was written, or an error is sticky
+  pub ends : EndsSet Contents encoding left old new
+  -- that failure is returned, else the closure's result, an Err too
+  pub returns : ReturnsSticky from new.failed own result
 
--- what such a call does: a failure that is kept comes first
+-- what such a call does: a sticky error comes first
 abbrev pub WritesSet :
     {F T E : Type 0} → Once F (MutBor WrittenParts × Unit {0}) (Result T E × (MutBor WrittenParts × Unit {0})) → (ASN1Error → E → Type 0) → F
     → (List (List ℕ) → List ℕ → Type 0) → (List ℕ → List ℕ) → Written → Written → Result T E → Type 0
-WritesSet g from f Contents form old new result =
-    MatchOption old.kept (WroteSet g from f Contents form old new result) (λ k. AnswersOnly from k new result)
+WritesSet g from f Contents encoding old new result =
+    MatchOption old.failed (WroteSet g from f Contents encoding old new result) (λ k. ReturnsOnly from k new result)

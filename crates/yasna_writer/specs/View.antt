@@ -16,51 +16,51 @@ pub record Written : Type 0 where
   pub mode : BERMode
   -- the implicit tag that the next element takes
   pub tag : Option Tag
-  -- the failure that later calls answer
-  pub kept : Option ASN1Error
+  -- the failure that later calls return
+  pub failed : Option ASN1Error
 
 -- the writing with these bytes, with no implicit tag and no failure
 abbrev pub holding : Written → List ℕ → Written
-holding w bs = record w { bytes = bs; tag = None; kept = None }
+holding w bs = record w { bytes = bs; tag = None; failed = None }
 
--- the writing that a closure is handed, with the bytes that stand already
+-- the writing that a closure is handed, with the bytes that are already
 abbrev pub handed : Written → Written
 handed w = holding w w.bytes
 
 -- a writing that begins, in this mode
 abbrev pub begun : BERMode → Written
-begun m = record { bytes = []; mode = m; tag = None; kept = None }
+begun m = record { bytes = []; mode = m; tag = None; failed = None }
 
 -- one of DER
 abbrev pub empty_writing : Written
 empty_writing = begun Der
 
--- a kept failure is answered and stays; else Ok appended bs under the tag, which is used up, and Err is want of
--- memory, which is kept
+-- a sticky error is returned and stays; else Ok appended bs under the tag, which is used up, and Err is want of
+-- memory, which is sticky
 abbrev pub Wrote : List ℕ → Written → Written → Result (Unit {0}) ASN1Error → Type 0
 Wrote bs old new r =
-    MatchOption old.kept
-    (MatchResult r (λ _. new ≡ holding old (old.bytes ++ bs)) (λ e. (kind_of e ≡ OutOfMemory) × (new.kept ≡ Some e)))
-    (λ k. (r ≡ Err k) × (new.kept ≡ Some k))
+    MatchOption old.failed
+    (MatchResult r (λ _. new ≡ holding old (old.bytes ++ bs)) (λ e. (kind_of e ≡ OutOfMemory) × (new.failed ≡ Some e)))
+    (λ k. (r ≡ Err k) × (new.failed ≡ Some k))
 
--- a write answered e, want of memory: either that is kept, or nothing is kept and the bytes before still stand, with others behind
-abbrev pub RanOut : Written → Written → ASN1Error → Type 0
-RanOut old new e = (kind_of e ≡ OutOfMemory) × MatchOption new.kept ((c : List ℕ) × (new.bytes ≡ old.bytes ++ c)) (λ k. kind_of k ≡ OutOfMemory)
+-- a write returned e, `OutOfMemory`: either that is sticky, or nothing is sticky and the bytes before still are there, with others after
+abbrev pub FailsOutOfMemory : Written → Written → ASN1Error → Type 0
+FailsOutOfMemory old new e = (kind_of e ≡ OutOfMemory) × MatchOption new.failed ((c : List ℕ) × (new.bytes ≡ old.bytes ++ c)) (λ k. kind_of k ≡ OutOfMemory)
 
--- what `encode_der` of a type does, which may want memory of its own: a kept failure stays, whatever is answered; else Ok
--- appended bs under the tag, which is used up, and Err is want of memory, kept or not
+-- what `encode_der` of a type does, which may allocate: a sticky error stays, whatever is returned; else Ok
+-- appended bs under the tag, which is used up, and Err is `OutOfMemory`, kept or not
 abbrev pub Writes : List ℕ → Written → Written → Result (Unit {0}) ASN1Error → Type 0
 Writes bs old new r =
-    MatchOption old.kept
-    (MatchResult r (λ _. new ≡ holding old (old.bytes ++ bs)) (λ e. RanOut old new e))
-    (λ k. new.kept ≡ Some k)
+    MatchOption old.failed
+    (MatchResult r (λ _. new ≡ holding old (old.bytes ++ bs)) (λ e. FailsOutOfMemory old new e))
+    (λ k. new.failed ≡ Some k)
 
 -- what parts of an element do: the same, but that an implicit tag may still wait, as it does where there is no part
 abbrev pub WroteParts : List ℕ → Written → Written → Result (Unit {0}) ASN1Error → Type 0
 WroteParts bs old new r =
-    MatchOption old.kept
-    (MatchResult r (λ _. record new { tag = None } ≡ holding old (old.bytes ++ bs)) (λ e. RanOut old new e))
-    (λ k. new.kept ≡ Some k)
+    MatchOption old.failed
+    (MatchResult r (λ _. record new { tag = None } ≡ holding old (old.bytes ++ bs)) (λ e. FailsOutOfMemory old new e))
+    (λ k. new.failed ≡ Some k)
 
 -- the bytes of a vector that was made
 abbrev pub bytes_of : {E : Type 0} → Result (Vec ℕ Global) E → Result (List ℕ) E

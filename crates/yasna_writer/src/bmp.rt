@@ -1,4 +1,4 @@
-//! Texts in UTF-16, the high byte of each unit first, as a BMPString holds them (X.690, 8.23). `strings` and `draft` call it.
+//! Texts in UTF-16, the high byte of each unit first, as a BMPString holds them (X.690, 8.23). `strings` and `buffer` call it.
 ghost use Rattle.std.specs.Prelude.{◌≡◌, ◌≤◌, [], ◌∷◌, ◌++◌, length as count, OnOk, IfOk, vec_len};
 ghost use Rattle.std.specs.List.{sum_by};
 ghost use Rattle.std.specs.Str.{chars};
@@ -18,9 +18,9 @@ pub(crate) fn bmp_length(string: &str) -> usize
     let mut length = 0;
     let mut rest = string.as_bytes();
     while rest.len() > BLOCK {
-        let (block, behind) = rest.split_at(BLOCK);
+        let (block, after) = rest.split_at(BLOCK);
         length += begun_in(block) as usize;
-        rest = behind;
+        rest = after;
     }
     length + begun_in(rest) as usize
 }
@@ -82,7 +82,7 @@ fn push_character(out: &mut Vec<u8>, c: char) -> Result<(), AllocError>
     )
 }
 
-// A text in UTF-16, which takes so many bytes, or want of memory.
+// A text in UTF-16, which takes so many bytes, or `OutOfMemory`.
 pub(crate) fn bmp_bytes(alloc: Global, string: &str, length: usize) -> Result<Vec<u8>, AllocError>
     ensures { IfOk result (λ octets. octets.items ≡ bmp_octets (chars string.now)) }
 {

@@ -13,7 +13,7 @@ use yasna_base::{ASN1Error, ASN1Result, BERMode};
 
 /// The bytes that a closure writes in DER (X.690, clause 10).
 ///
-/// Answers the first failure of a write, whatever the closure answers; else the closure's own `Err`; else the bytes, or
+/// Returns the first failure of a write, whatever the closure returns; else the closure's own `Err`; else the bytes, or
 /// `OutOfMemory` where there is no memory for them.
 pub fn construct_der<F: FnOnce(DERWriter<'_>) -> ASN1Result<()>>(
     alloc: Global,
@@ -27,7 +27,7 @@ pub fn construct_der<F: FnOnce(DERWriter<'_>) -> ASN1Result<()>>(
 
 /// The bytes that a closure writes, with errors of any type that takes those of a writing.
 ///
-/// Answers as `construct_der` does, with the failures of the writing turned into `E`.
+/// Returns as `construct_der` does, with the failures of the writing turned into `E`.
 #[inline(always)]
 pub fn try_construct_der<E: From<ASN1Error> + Drop, F: FnOnce(DERWriter<'_>) -> Result<(), E>>(
     alloc: Global,
@@ -56,7 +56,7 @@ fn construct_by<E: From<ASN1Error> + Drop, F: FnOnce(DERWriter<'_>) -> Result<()
 
 /// The bytes that a closure writes in CER (X.690, clause 9).
 ///
-/// Elements with parts have indefinite length, and strings of more than 1000 octets stand in segments. Answers as `construct_der`
+/// Elements with parts have indefinite length, and strings of more than 1000 octets are in segments. Returns as `construct_der`
 /// does.
 pub fn construct_cer<F: FnOnce(DERWriter<'_>) -> ASN1Result<()>>(
     alloc: Global,
@@ -70,7 +70,7 @@ pub fn construct_cer<F: FnOnce(DERWriter<'_>) -> ASN1Result<()>>(
 
 /// The bytes that a closure writes as parts, one after the other, with no header around them.
 ///
-/// Answers as `construct_der` does.
+/// Returns as `construct_der` does.
 pub fn construct_der_seq<F: FnOnce(&mut DERWriterSeq) -> ASN1Result<()>>(
     alloc: Global,
     f: F,
@@ -83,7 +83,7 @@ pub fn construct_der_seq<F: FnOnce(&mut DERWriterSeq) -> ASN1Result<()>>(
 
 /// The bytes that a closure writes as parts, with errors of any type that takes those of a writing.
 ///
-/// Answers as `try_construct_der` does.
+/// Returns as `try_construct_der` does.
 #[inline(always)]
 pub fn try_construct_der_seq<
     E: From<ASN1Error> + Drop,

@@ -1,4 +1,4 @@
-//! The header of an element: identifier and length octets (X.690, 8.1.2 and 8.1.3). `draft` calls it.
+//! The header of an element: identifier and length octets (X.690, 8.1.2 and 8.1.3). `buffer` calls it.
 ghost use Rattle.std.specs.Prelude.{◌≡◌, ◌≤◌, ◌++◌, length as count, OnOk, vec_len};
 ghost use Rattle.yasna_base.specs.declared.tag.PCBit.TheVariants.{Constructed};
 ghost use Rattle.yasna_writer.specs.Header.{header_bytes, indefinite_header, parts_header, header_of};
@@ -113,7 +113,7 @@ pub(crate) fn parts_header_length(tag: Tag, length: Option<usize>) -> usize
     }
 }
 
-// Writes the header of an element with parts in front of a place, and answers where it begins.
+// Writes the header of an element with parts before a place, and returns where it begins.
 #[inline(always)]
 pub(crate) fn put_parts_header(out: &mut [u8], end: usize, header: PartsHeader) -> usize
     requires room { count (parts_header header) ≤ end }
@@ -143,7 +143,7 @@ pub(crate) fn put_header(out: &mut [u8], end: usize, header: Header) -> usize
     put_any_header(out, end, tag, length, PCBit::Constructed)
 }
 
-// Writes any header in front of a place.
+// Writes any header before a place.
 #[inline(never)]
 fn put_any_header(out: &mut [u8], end: usize, tag: Tag, length: usize, bit: PCBit) -> usize
     requires room { count (header_bytes bit (record { tag = tag; length = length })) ≤ end }
@@ -155,7 +155,7 @@ fn put_any_header(out: &mut [u8], end: usize, tag: Tag, length: usize, bit: PCBi
     put_identifier(out, start, tag, bit)
 }
 
-// Writes the header of an element of indefinite length in front of a place.
+// Writes the header of an element of indefinite length before a place.
 #[inline(never)]
 pub(crate) fn put_indefinite_header(out: &mut [u8], end: usize, tag: Tag) -> usize
     requires room { count (indefinite_header tag) ≤ end }

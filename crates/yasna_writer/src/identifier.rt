@@ -35,7 +35,7 @@ fn make_room(out: &mut Vec<u8>, more: usize) -> Result<(), AllocError>
     out.reserve(more)
 }
 
-// Writes bytes in front of a place, over those that stand there, and answers where the first of them stands.
+// Writes bytes before a place, over those that are there, and returns where the first of them is.
 #[inline(always)]
 pub(crate) fn put_bytes(out: &mut [u8], end: usize, bytes: &[u8]) -> usize
     requires room { length bytes.now ≤ end }
@@ -103,7 +103,7 @@ fn base128_byte(more: bool, number: u64) -> u8
     if more { 128 + digit } else { digit }
 }
 
-// Writes a number in base 128 in front of a place, with 128 added to all its digits, or to all but the last.
+// Writes a number in base 128 before a place, with 128 added to all its digits, or to all but the last.
 #[tactic(auto, using(crate::proofs::Identifiers::base128_digits_small))]
 fn put_base128(out: &mut [u8], end: usize, number: u64, more: bool) -> usize
     requires room { length (base128_digits more number) ≤ end }
@@ -129,7 +129,7 @@ pub(crate) fn push_base128(out: &mut Vec<u8>, number: u64) -> Result<(), AllocEr
     push_bytes(out, &digits[start..])
 }
 
-// Writes the identifier of a tag in front of a place.
+// Writes the identifier of a tag before a place.
 #[tactic(auto, using(yasna_base::proofs::Identifier::identifier_short, yasna_base::proofs::Identifier::identifier_long), unfolding(crate::specs::Identifier::base128_digits))]
 pub(crate) fn put_identifier(out: &mut [u8], end: usize, tag: Tag, bit: PCBit) -> usize
     requires room { length (identifier tag bit) ≤ end }

@@ -1,12 +1,12 @@
 //! The fewest bytes of a number, highest first (X.690, 8.3.2), for `primitive` and `length`.
 ghost use Rattle.std.specs.Prelude.{◌≡◌, ◌-◌, ◌*◌, ◌^◌, ◌<◌, ◌≤◌};
-ghost use Rattle.yasna_base.specs.BigInteger.{without};
-ghost use Rattle.yasna_writer.specs.Integer.{sign_byte, needs_sign, sign_front};
+ghost use Rattle.yasna_base.specs.BigInteger.{trim_leading};
+ghost use Rattle.yasna_writer.specs.Integer.{sign_byte, needs_sign, sign_octet};
 ghost use Rattle.yasna_base.specs.Integer.{distance};
 
-// The bytes without those equal to `byte` that stand in front.
-pub(crate) fn without(byte: u8, bytes: &[u8]) -> &[u8]
-    ensures { result.now ≡ without byte bytes.now }
+// The bytes without those equal to `byte` that are in front.
+pub(crate) fn trim_leading(byte: u8, bytes: &[u8]) -> &[u8]
+    ensures { result.now ≡ trim_leading byte bytes.now }
 {
     let mut rest = bytes;
     while let Some((first, tail)) = rest.split_first() {
@@ -18,7 +18,7 @@ pub(crate) fn without(byte: u8, bytes: &[u8]) -> &[u8]
     rest
 }
 
-// The byte that stands endlessly in front of a number in two's complement.
+// The byte that is endlessly before a number in two's complement.
 pub(crate) fn sign_byte(positive: bool) -> u8
     ensures { result ≡ sign_byte positive }
 {
@@ -37,8 +37,8 @@ fn needs_sign(positive: bool, bytes: &[u8]) -> bool
 }
 
 // That byte where it is needed.
-pub(crate) fn sign_front(positive: bool, bytes: &[u8]) -> &'static [u8]
-    ensures { result.now ≡ sign_front positive bytes.now }
+pub(crate) fn sign_octet(positive: bool, bytes: &[u8]) -> &'static [u8]
+    ensures { result.now ≡ sign_octet positive bytes.now }
 {
     if !needs_sign(positive, bytes) {
         return &[];

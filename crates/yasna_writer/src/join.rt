@@ -1,56 +1,56 @@
-//! Contents and headers joined where the contents stand, from the last header to the first, for `draft`.
+//! Contents and headers joined where the contents are, from the last header to the first, for `buffer`.
 //!
-//! Room for all headers is made behind the contents. Then each piece of the contents moves up to its place, once, and the header in front
+//! Room for all headers is made after the contents. Then each piece of the contents moves up to its place, once, and the header in front
 //! of it is written there. So no second copy of the bytes is needed.
 ghost use Rattle.std.specs.Prelude.{◌≡◌, ◌≤◌, ◌<◌, ◌+◌, ◌^◌, length as count, take, slice_range, slice_get, MatchResult, []};
 ghost use Rattle.yasna_base.specs.declared.tag.PCBit.TheVariants.{Constructed};
 ghost use Rattle.yasna_writer.specs.Header.{header_bytes};
-ghost use Rattle.yasna_writer.specs.Draft.{listed_header, header_of_mark, headers_length, joined, AreInOrder};
+ghost use Rattle.yasna_writer.specs.Buffer.{listed_header, header_of_state, headers_length, joined, AreInOrder};
 ghost use Rattle.yasna_writer.specs.Put.{PutBefore};
 
-use crate::draft::Mark;
-use crate::entries::Entries;
+use crate::buffer::SlotState;
 use crate::header::{Header, PartsHeader, put_header, put_indefinite_header, put_parts_header};
 use crate::identifier::put_bytes;
+use crate::slots::Slots;
 use std::alloc::AllocError;
 use yasna_base::{Tag, TagClass};
 
 // Puts each header at its place in the contents, and takes its entry out. The headers take so many bytes, and those that are too large
-// for an entry stand in a list.
+// for an entry are in a list.
 pub(crate) fn join(
     contents: &mut Vec<u8>,
-    entries: &mut Entries,
+    slots: &mut Slots,
     large: &[PartsHeader],
     headers: usize,
 ) -> Result<(), AllocError>
-    requires ordered { AreInOrder 0 entries.old (count contents.old.items) }
-    requires counted { headers ≡ headers_length large.now entries.old }
+    requires ordered { AreInOrder 0 slots.old (count contents.old.items) }
+    requires counted { headers ≡ headers_length large.now slots.old }
     requires few { headers < 2 ^ 63 }
-    ensures { MatchResult result (λ _. (contents.new.items ≡ joined large.now entries.old contents.old.items) × (entries.new ≡ [])) (λ _. (contents.new.items ≡ contents.old.items) × (entries.new ≡ entries.old)) }
+    ensures { MatchResult result (λ _. (contents.new.items ≡ joined large.now slots.old contents.old.items) × (slots.new ≡ [])) (λ _. (contents.new.items ≡ contents.old.items) × (slots.new ≡ slots.old)) }
 {
     let length = contents.len();
     make_room(contents, headers)?;
-    place_headers(contents, entries, large, length);
+    place_headers(contents, slots, large, length);
     Ok(())
 }
 
-// The same where there is room for all headers behind the contents, which are so long.
-fn place_headers(bytes: &mut [u8], entries: &mut Entries, large: &[PartsHeader], length: usize)
-    requires ordered { AreInOrder 0 entries.old length }
-    requires room { count bytes.old ≡ length + headers_length large.now entries.old }
-    ensures joins { bytes.new ≡ joined large.now entries.old (take length bytes.old) }
-    ensures taken { entries.new ≡ [] }
+// The same where there is room for all headers after the contents, which are so long.
+fn place_headers(bytes: &mut [u8], slots: &mut Slots, large: &[PartsHeader], length: usize)
+    requires ordered { AreInOrder 0 slots.old length }
+    requires room { count bytes.old ≡ length + headers_length large.now slots.old }
+    ensures joins { bytes.new ≡ joined large.now slots.old (take length bytes.old) }
+    ensures taken { slots.new ≡ [] }
 {
     let mut from = length;
     let mut to = bytes.len();
-    while let Some(entry) = entries.pop() {
-        let piece = move_up(bytes, entry.place, from, to);
-        to = put_mark(bytes, piece, entry.mark, large);
-        from = entry.place;
+    while let Some(slot) = slots.pop() {
+        let piece = move_up(bytes, slot.place, from, to);
+        to = put_slot(bytes, piece, slot.state, large);
+        from = slot.place;
     }
 }
 
-// Makes room for headers that take so many bytes behind the contents. For one short header these are two bytes, which are appended
+// Makes room for headers that take so many bytes after the contents. For one short header these are two bytes, which are appended
 // with no loop.
 #[inline(always)]
 fn make_room(contents: &mut Vec<u8>, headers: usize) -> Result<(), AllocError>
@@ -63,51 +63,51 @@ fn make_room(contents: &mut Vec<u8>, headers: usize) -> Result<(), AllocError>
     contents.resize(contents.len() + headers, 0)
 }
 
-// Writes the header of a mark in front of a place. Mostly its length is counted: one branch is cheaper than a jump for each kind.
+// Writes the header of a mark before a place. Mostly its length is counted: one branch is cheaper than a jump for each kind.
 #[inline(always)]
-fn put_mark(out: &mut [u8], end: usize, mark: Mark, large: &[PartsHeader]) -> usize
-    requires room { count (header_of_mark large.now mark) ≤ end }
+fn put_slot(out: &mut [u8], end: usize, state: SlotState, large: &[PartsHeader]) -> usize
+    requires room { count (header_of_state large.now state) ≤ end }
     requires within { end ≤ count out.old }
-    ensures put { PutBefore (header_of_mark large.now mark) end out.old out.new result }
+    ensures put { PutBefore (header_of_state large.now state) end out.old out.new result }
     ensures len { count out.new ≡ count out.old }
 {
-    match mark {
-        Mark::Definite {
+    match state {
+        SlotState::Definite {
             class,
             number,
             length,
         } => put_definite(out, end, class, number, length),
-        _ => put_any_mark(out, end, mark, large),
+        _ => put_any_slot(out, end, state, large),
     }
 }
 
 // The same of a mark of any kind.
 #[inline(never)]
-fn put_any_mark(out: &mut [u8], end: usize, mark: Mark, large: &[PartsHeader]) -> usize
-    requires room { count (header_of_mark large.now mark) ≤ end }
+fn put_any_slot(out: &mut [u8], end: usize, state: SlotState, large: &[PartsHeader]) -> usize
+    requires room { count (header_of_state large.now state) ≤ end }
     requires within { end ≤ count out.old }
-    ensures put { PutBefore (header_of_mark large.now mark) end out.old out.new result }
+    ensures put { PutBefore (header_of_state large.now state) end out.old out.new result }
     ensures len { count out.new ≡ count out.old }
 {
-    match mark {
-        Mark::Waits { .. } => end,
-        Mark::Definite {
+    match state {
+        SlotState::Waits { .. } => end,
+        SlotState::Definite {
             class,
             number,
             length,
         } => put_definite(out, end, class, number, length),
-        Mark::Indefinite { class, number } => {
+        SlotState::Indefinite { class, number } => {
             let tag = Tag {
                 tag_class: class,
                 tag_number: number as u64,
             };
             put_indefinite_header(out, end, tag)
         }
-        Mark::Elsewhere(index) => put_listed(out, end, large, index as usize),
+        SlotState::Elsewhere(index) => put_listed(out, end, large, index as usize),
     }
 }
 
-// Writes a header whose length is counted in front of a place.
+// Writes a header whose length is counted before a place.
 #[inline(always)]
 fn put_definite(out: &mut [u8], end: usize, class: TagClass, number: u16, length: u32) -> usize
     requires room { count (header_bytes Constructed (record { tag = record { tag_class = class; tag_number = number }; length = length })) ≤ end }
@@ -123,7 +123,7 @@ fn put_definite(out: &mut [u8], end: usize, class: TagClass, number: u16, length
     put_header(out, end, Header { tag, length })
 }
 
-// Writes a header that stands in a list in front of a place.
+// Writes a header that is in a list before a place.
 #[cold]
 fn put_listed(out: &mut [u8], end: usize, large: &[PartsHeader], index: usize) -> usize
     requires room { count (listed_header (slice_get large.now index)) ≤ end }
@@ -142,7 +142,7 @@ const FEW: usize = 16;
 
 const MANY: usize = 256;
 
-// Moves the bytes between two places up, so that they end in front of `to`, and answers where the first of them stands.
+// Moves the bytes between two places up, so that they end before `to`, and returns where the first of them is.
 #[inline(always)]
 fn move_up(bytes: &mut [u8], start: usize, end: usize, to: usize) -> usize
     requires piece { start ≤ end }

@@ -4,9 +4,9 @@ ghost use Rattle.yasna_base.specs.Length.{shortest_length};
 ghost use Rattle.yasna_writer.specs.Put.{PutBefore};
 
 use crate::identifier::put_bytes;
-use crate::integer::without;
+use crate::integer::trim_leading;
 
-// Writes a length in the fewest bytes in front of a place.
+// Writes a length in the fewest bytes before a place.
 #[tactic(auto, using(yasna_base::proofs::Length::short_length, crate::proofs::Lengths::length_in_two, crate::proofs::Lengths::length_in_three))]
 #[inline(always)]
 pub(crate) fn put_length(out: &mut [u8], end: usize, length: usize) -> usize
@@ -28,7 +28,7 @@ pub(crate) fn put_length(out: &mut [u8], end: usize, length: usize) -> usize
 }
 
 // The same of one that takes four bytes or more.
-#[tactic(auto, using(crate::proofs::BigEndian::length_without, crate::proofs::BigEndian::without_at_most))]
+#[tactic(auto, using(crate::proofs::BigEndian::length_trimmed, crate::proofs::BigEndian::trimmed_at_most))]
 #[inline(never)]
 fn put_long_length(out: &mut [u8], end: usize, length: usize) -> usize
     requires long { 128 ≤ length }
@@ -38,13 +38,13 @@ fn put_long_length(out: &mut [u8], end: usize, length: usize) -> usize
     ensures len { count out.new ≡ count out.old }
 {
     let bytes = length.to_be_bytes();
-    let digits = without(0, &bytes);
+    let digits = trim_leading(0, &bytes);
     let start = put_bytes(out, end, digits);
     put_bytes(out, start, &[128 + digits.len() as u8])
 }
 
 // How many bytes a length takes.
-#[tactic(auto, using(yasna_base::proofs::Length::short_length, crate::proofs::BigEndian::length_without, crate::proofs::BigEndian::without_at_most))]
+#[tactic(auto, using(yasna_base::proofs::Length::short_length, crate::proofs::BigEndian::length_trimmed, crate::proofs::BigEndian::trimmed_at_most))]
 #[inline(always)]
 pub(crate) fn length_length(length: usize) -> usize
     ensures octets { result ≡ count (shortest_length length) }
@@ -53,5 +53,5 @@ pub(crate) fn length_length(length: usize) -> usize
     if length < 128 {
         return 1;
     }
-    without(0, &length.to_be_bytes()).len() + 1
+    trim_leading(0, &length.to_be_bytes()).len() + 1
 }

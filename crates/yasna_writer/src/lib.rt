@@ -1,15 +1,15 @@
 //! Writing by ASN.1's distinguished and canonical encoding rules, DER and CER (X.690, clauses 8 to 11).
 //!
-//! A writing begins in `construct_der` and its kin, or `construct_cer`, which hand a writer to a closure and answer the bytes that it wrote.
+//! A writing begins in `construct_der` and its kin, or `construct_cer`, which hand a writer to a closure and return the bytes that it wrote.
 //!
-//! Names tell the layers apart. Users call `write_..`, which answers a failure that is kept, and else takes the implicit tag. It calls
-//! `append_..` of the writer, which keeps want of memory, and that `add_..` of its draft. `push_..` puts bytes behind those of a vector.
+//! Names distinguish the layers. Users call `write_..`, which returns a sticky error, and else takes the implicit tag. It calls
+//! `append_..` of the writer, which fails with a sticky `OutOfMemory`, and that `add_..` of its buffer. `push_..` puts bytes after those of a vector.
 //! A header is identifier and length octets (X.690, 8.1.2 and 8.1.3), an indefinite one those of indefinite length (8.1.3.6).
 //!
 //! | Module | Holds |
 //! |---|---|
 //! | `construct` | the calls that begin a writing and end it |
-//! | `state` | the writer: a draft, the implicit tag, the failure kept |
+//! | `state` | the writer: a buffer, the implicit tag, the sticky error |
 //! | `primitive` | the writes of elements without parts |
 //! | `strings` | the writes of strings |
 //! | `segments` | long strings of CER, cut into segments |
@@ -21,7 +21,7 @@
 //! | `ordered_part` | the parts of a SET OF, in the order of their bytes |
 //! | `tagged_part` | the parts of a SET, in the order of their tags |
 //! | `tagged` | the writes of elements under tags of the caller's |
-//! | `draft` | contents, and the headers that aren't among them yet |
+//! | `buffer` | contents, and the headers that aren't among them yet |
 //! | `join` | the joining |
 //! | `header` | the header of an element |
 //! | `identifier`, `length` | identifier and length octets |
@@ -29,9 +29,8 @@
 #![tactic(auto)]
 
 mod bmp;
+mod buffer;
 mod construct;
-mod draft;
-mod entries;
 mod header;
 mod identifier;
 mod integer;
@@ -44,6 +43,7 @@ mod raw;
 mod segments;
 mod sequence;
 mod set;
+mod slots;
 mod state;
 mod strings;
 mod tagged;

@@ -6,7 +6,7 @@ ghost use Rattle.yasna_base.specs.declared.tag.PCBit.TheVariants.{Primitive};
 ghost use Rattle.yasna_base.specs.Canonical.{canonical_element};
 ghost use Rattle.yasna_base.specs.Digits.{base128};
 ghost use Rattle.yasna_base.specs.Identifier.{tag_or};
-ghost use Rattle.yasna_base.specs.Oid.{IsEncodableOid, subidentifiers, oid_form, oid_tag};
+ghost use Rattle.yasna_base.specs.Oid.{IsEncodableOid, subidentifiers, oid_encoding, oid_tag};
 ghost use Rattle.yasna_writer.specs.View.{Wrote};
 
 use crate::header::Header;
@@ -98,9 +98,9 @@ impl Writer {
     #[tactic(auto, unfolding(yasna_base::specs::Canonical::canonical_element, yasna_base::specs::Canonical::definite_element))]
     pub fn write_oid(&mut self, oid: &ObjectIdentifier) -> ASN1Result<()>
         requires { IsEncodableOid oid.now }
-        ensures { Wrote (oid_form (tag_or self.old.tag oid_tag) self.old.mode oid.now) self.old self.new result }
+        ensures { Wrote (oid_encoding (tag_or self.old.tag oid_tag) self.old.mode oid.now) self.old self.new result }
     {
-        if let Some(error) = self.kept() {
+        if let Some(error) = self.failed() {
             return Err(error);
         }
         let tag = self.take_tag(TAG_OID);

@@ -1,22 +1,22 @@
 //! The parts of a SET OF, in the order of their bytes (X.690, 11.6), for `set`.
 ghost use Rattle.std.specs.Prelude.{◌≡◌};
 ghost use Rattle.yasna_base.specs.Order.{octets_cmp};
-ghost use Rattle.yasna_writer.specs.Front.{IsFirstEight};
+ghost use Rattle.yasna_writer.specs.SortKey.{IsFirstEight};
 
 use std::cmp::Ordering;
 use std::convert::AsSlice;
 
-// How many bytes of a part the number in front of it holds.
-const FRONT: usize = 8;
+// How many bytes of a part the number before it holds.
+const KEY_LENGTH: usize = 8;
 
-/// A part of a SET OF, behind the number that its first bytes spell: most parts differ there, so that they are compared
+/// A part of a SET OF, after the number that its first bytes spell: most parts differ there, so that they are compared
 /// without a look at their bytes.
 #[derive(Drop)]
 pub struct OrderedPart {
-    front: u64,
+    key: u64,
     bytes: Vec<u8>,
 
-    ghost spelled: { IsFirstEight front bytes.items },
+    ghost spelled: { IsFirstEight key bytes.items },
 }
 
 impl AsSlice<u8> for OrderedPart {
@@ -27,18 +27,18 @@ impl AsSlice<u8> for OrderedPart {
     }
 }
 
-// The number that the first eight bytes spell in base 256, with zeros behind fewer.
-fn front_of(bytes: &[u8]) -> u64
+// The number that the first eight bytes spell in base 256, with zeros after fewer.
+fn key_of(bytes: &[u8]) -> u64
     ensures { IsFirstEight result bytes.now }
 {
-    let mut front: u64 = 0;
+    let mut key: u64 = 0;
     let mut place = 0;
-    while place < FRONT {
+    while place < KEY_LENGTH {
         let byte = bytes.get(place).copied().unwrap_or(0);
-        front = front * 256 + u64::from(byte);
+        key = key * 256 + u64::from(byte);
         place += 1;
     }
-    front
+    key
 }
 
 impl OrderedPart {
@@ -47,7 +47,7 @@ impl OrderedPart {
         ensures { result.bytes ≡ bytes }
     {
         OrderedPart {
-            front: front_of(&bytes),
+            key: key_of(&bytes),
             bytes,
         }
     }
@@ -56,9 +56,9 @@ impl OrderedPart {
     pub fn compare(&self, other: &OrderedPart) -> Ordering
         ensures { result ≡ octets_cmp self.now.bytes.items other.now.bytes.items }
     {
-        if self.front == other.front {
+        if self.key == other.key {
             return self.bytes.cmp(&other.bytes);
         }
-        self.front.cmp(&other.front)
+        self.key.cmp(&other.key)
     }
 }

@@ -1,7 +1,7 @@
 //! Elements without parts: BOOLEAN, INTEGER, ENUMERATED and NULL (X.690, 8.2 to 8.4 and 8.8), calls of users.
 //!
-//! Each write takes the implicit tag if there is one, and else the type's own. A failure that is kept is answered, and
-//! nothing is written. Besides, each answers `OutOfMemory` where there is no memory for the element, and keeps it.
+//! Each write takes the implicit tag if there is one, and else the type's own. A sticky error is returned, and
+//! nothing is written. Besides, each returns `OutOfMemory` where there is no memory for the element, and keeps it.
 //!
 //! Where the tag's number is below 31 and the contents take a few bytes, the whole element is one append.
 ghost use Rattle.std.specs.Prelude.{◌≡◌, ◌≤◌, ◌-◌, ◌∷◌, [], ◌++◌, drop, length, Some, Err, MatchResult, pos};
@@ -10,16 +10,16 @@ ghost use Rattle.yasna_base.specs.declared.tag.PCBit.TheVariants.{Primitive};
 ghost use Rattle.yasna_base.specs.Enumerated.{enumerated_tag};
 ghost use Rattle.yasna_base.specs.Error.{kind_of};
 ghost use Rattle.yasna_base.specs.Identifier.{tag_or};
-ghost use Rattle.yasna_base.specs.Integer.{minimal_bytes, integer_form, integer_tag};
+ghost use Rattle.yasna_base.specs.Integer.{minimal_bytes, integer_encoding, integer_tag};
 ghost use Rattle.yasna_base.specs.BigInteger.{signed_number, big_integer};
 ghost use Rattle.yasna_base.specs.Canonical.{canonical_element};
-ghost use Rattle.yasna_base.specs.Boolean.{boolean_form, boolean_tag};
-ghost use Rattle.yasna_base.specs.Null.{null_form, null_tag};
+ghost use Rattle.yasna_base.specs.Boolean.{boolean_encoding, boolean_tag};
+ghost use Rattle.yasna_base.specs.Null.{null_encoding, null_tag};
 ghost use Rattle.yasna_writer.specs.State.{Appended};
 ghost use Rattle.yasna_writer.specs.View.{Wrote};
 
 use crate::identifier::leading;
-use crate::integer::{octets, sign_byte, sign_front, without};
+use crate::integer::{octets, sign_byte, sign_octet, trim_leading};
 use crate::state::Writer;
 use yasna_base::tags::{TAG_BOOLEAN, TAG_ENUM, TAG_INTEGER, TAG_NULL};
 use yasna_base::{ASN1Result, PCBit, Tag};
@@ -28,7 +28,7 @@ impl Writer {
     /// Writes a BOOLEAN: one byte, 255 for true (X.690, 8.2 and 11.1).
     #[inline(always)]
     pub fn write_bool(&mut self, val: bool) -> ASN1Result<()>
-        ensures { Wrote (boolean_form (tag_or self.old.tag boolean_tag) self.old.mode val) self.old self.new result }
+        ensures { Wrote (boolean_encoding (tag_or self.old.tag boolean_tag) self.old.mode val) self.old self.new result }
     {
         let byte = if val { 255 } else { 0 };
         self.write_byte(TAG_BOOLEAN, byte)
@@ -38,9 +38,9 @@ impl Writer {
     #[tactic(auto, using(crate::proofs::Primitives::short_element))]
     #[inline(always)]
     pub fn write_null(&mut self) -> ASN1Result<()>
-        ensures { Wrote (null_form (tag_or self.old.tag null_tag) self.old.mode tt) self.old self.new result }
+        ensures { Wrote (null_encoding (tag_or self.old.tag null_tag) self.old.mode tt) self.old self.new result }
     {
-        if let Some(error) = self.kept() {
+        if let Some(error) = self.failed() {
             return Err(error);
         }
         let tag = self.take_tag(TAG_NULL);
@@ -53,7 +53,7 @@ impl Writer {
     /// Writes an ENUMERATED, as an INTEGER but for its tag (X.690, 8.4).
     #[inline(always)]
     pub fn write_enum(&mut self, val: i64) -> ASN1Result<()>
-        ensures { Wrote (integer_form (tag_or self.old.tag enumerated_tag) self.old.mode val) self.old self.new result }
+        ensures { Wrote (integer_encoding (tag_or self.old.tag enumerated_tag) self.old.mode val) self.old self.new result }
     {
         self.write_number(TAG_ENUM, val)
     }
@@ -61,7 +61,7 @@ impl Writer {
     /// Writes an INTEGER (X.690, 8.3).
     #[inline(always)]
     pub fn write_i64(&mut self, val: i64) -> ASN1Result<()>
-        ensures { Wrote (integer_form (tag_or self.old.tag integer_tag) self.old.mode val) self.old self.new result }
+        ensures { Wrote (integer_encoding (tag_or self.old.tag integer_tag) self.old.mode val) self.old self.new result }
     {
         self.write_number(TAG_INTEGER, val)
     }
@@ -69,7 +69,7 @@ impl Writer {
     /// Writes an INTEGER (X.690, 8.3).
     #[inline(always)]
     pub fn write_i32(&mut self, val: i32) -> ASN1Result<()>
-        ensures { Wrote (integer_form (tag_or self.old.tag integer_tag) self.old.mode val) self.old self.new result }
+        ensures { Wrote (integer_encoding (tag_or self.old.tag integer_tag) self.old.mode val) self.old self.new result }
     {
         self.write_i64(i64::from(val))
     }
@@ -77,7 +77,7 @@ impl Writer {
     /// Writes an INTEGER (X.690, 8.3).
     #[inline(always)]
     pub fn write_i16(&mut self, val: i16) -> ASN1Result<()>
-        ensures { Wrote (integer_form (tag_or self.old.tag integer_tag) self.old.mode val) self.old self.new result }
+        ensures { Wrote (integer_encoding (tag_or self.old.tag integer_tag) self.old.mode val) self.old self.new result }
     {
         self.write_i64(i64::from(val))
     }
@@ -85,7 +85,7 @@ impl Writer {
     /// Writes an INTEGER (X.690, 8.3).
     #[inline(always)]
     pub fn write_i8(&mut self, val: i8) -> ASN1Result<()>
-        ensures { Wrote (integer_form (tag_or self.old.tag integer_tag) self.old.mode val) self.old self.new result }
+        ensures { Wrote (integer_encoding (tag_or self.old.tag integer_tag) self.old.mode val) self.old self.new result }
     {
         self.write_i64(i64::from(val))
     }
@@ -94,7 +94,7 @@ impl Writer {
     #[tactic(auto, using(crate::proofs::BigEndian::be_unsigned))]
     #[inline(always)]
     pub fn write_u64(&mut self, val: u64) -> ASN1Result<()>
-        ensures { Wrote (integer_form (tag_or self.old.tag integer_tag) self.old.mode (pos val)) self.old self.new result }
+        ensures { Wrote (integer_encoding (tag_or self.old.tag integer_tag) self.old.mode (pos val)) self.old self.new result }
     {
         match i64::try_from(val) {
             Ok(signed) => self.write_i64(signed),
@@ -105,7 +105,7 @@ impl Writer {
     /// Writes an INTEGER (X.690, 8.3).
     #[inline(always)]
     pub fn write_u32(&mut self, val: u32) -> ASN1Result<()>
-        ensures { Wrote (integer_form (tag_or self.old.tag integer_tag) self.old.mode (pos val)) self.old self.new result }
+        ensures { Wrote (integer_encoding (tag_or self.old.tag integer_tag) self.old.mode (pos val)) self.old self.new result }
     {
         self.write_i64(i64::from(val))
     }
@@ -113,7 +113,7 @@ impl Writer {
     /// Writes an INTEGER (X.690, 8.3).
     #[inline(always)]
     pub fn write_u16(&mut self, val: u16) -> ASN1Result<()>
-        ensures { Wrote (integer_form (tag_or self.old.tag integer_tag) self.old.mode (pos val)) self.old self.new result }
+        ensures { Wrote (integer_encoding (tag_or self.old.tag integer_tag) self.old.mode (pos val)) self.old self.new result }
     {
         self.write_i64(i64::from(val))
     }
@@ -121,19 +121,19 @@ impl Writer {
     /// Writes an INTEGER (X.690, 8.3).
     #[inline(always)]
     pub fn write_u8(&mut self, val: u8) -> ASN1Result<()>
-        ensures { Wrote (integer_form (tag_or self.old.tag integer_tag) self.old.mode (pos val)) self.old self.new result }
+        ensures { Wrote (integer_encoding (tag_or self.old.tag integer_tag) self.old.mode (pos val)) self.old self.new result }
     {
         self.write_i64(i64::from(val))
     }
 
     /// Writes an INTEGER of any size (X.690, 8.3).
     ///
-    /// Zeros in front of `bytes` are dropped, and the rest is the number, highest byte first, less 256 to the power of
+    /// Zeros before `bytes` are dropped, and the rest is the number, highest byte first, less 256 to the power of
     /// its length where `positive` is false. Where nothing is left the number is 0. It is written in the fewest bytes.
     pub fn write_bigint_bytes(&mut self, bytes: &[u8], positive: bool) -> ASN1Result<()>
-        ensures { Wrote (integer_form (tag_or self.old.tag integer_tag) self.old.mode (big_integer bytes.now positive)) self.old self.new result }
+        ensures { Wrote (integer_encoding (tag_or self.old.tag integer_tag) self.old.mode (big_integer bytes.now positive)) self.old self.new result }
     {
-        let rest = without(0, bytes);
+        let rest = trim_leading(0, bytes);
         if rest.is_empty() {
             return self.write_signed_bytes(TAG_INTEGER, true, rest);
         }
@@ -146,7 +146,7 @@ impl Writer {
     fn write_byte(&mut self, own: Tag, byte: u8) -> ASN1Result<()>
         ensures { Wrote (canonical_element self.old.mode (tag_or self.old.tag own) Primitive (byte ∷ [])) self.old self.new result }
     {
-        if let Some(error) = self.kept() {
+        if let Some(error) = self.failed() {
             return Err(error);
         }
         let tag = self.take_tag(own);
@@ -160,7 +160,7 @@ impl Writer {
     #[tactic(auto, using(crate::proofs::Integers::one_byte))]
     #[inline(always)]
     fn write_number(&mut self, own: Tag, val: i64) -> ASN1Result<()>
-        ensures { Wrote (integer_form (tag_or self.old.tag own) self.old.mode val) self.old self.new result }
+        ensures { Wrote (integer_encoding (tag_or self.old.tag own) self.old.mode val) self.old self.new result }
     {
         match i8::try_from(val) {
             Ok(small) => self.write_byte(own, small.cast_unsigned()),
@@ -170,9 +170,9 @@ impl Writer {
 
     // Writes a number of 64 bits, however many bytes it takes.
     fn write_longer(&mut self, own: Tag, val: i64) -> ASN1Result<()>
-        ensures { Wrote (integer_form (tag_or self.old.tag own) self.old.mode val) self.old self.new result }
+        ensures { Wrote (integer_encoding (tag_or self.old.tag own) self.old.mode val) self.old self.new result }
     {
-        if let Some(error) = self.kept() {
+        if let Some(error) = self.failed() {
             return Err(error);
         }
         let tag = self.take_tag(own);
@@ -199,22 +199,22 @@ impl Writer {
     }
 
     // Writes an element whose contents are two pieces.
-    fn write_pieces(&mut self, own: Tag, front: &[u8], rest: &[u8]) -> ASN1Result<()>
-        ensures { Wrote (canonical_element self.old.mode (tag_or self.old.tag own) Primitive (front.now ++ rest.now)) self.old self.new result }
+    fn write_pieces(&mut self, own: Tag, prefix: &[u8], rest: &[u8]) -> ASN1Result<()>
+        ensures { Wrote (canonical_element self.old.mode (tag_or self.old.tag own) Primitive (prefix.now ++ rest.now)) self.old self.new result }
     {
-        if let Some(error) = self.kept() {
+        if let Some(error) = self.failed() {
             return Err(error);
         }
         let tag = self.take_tag(own);
-        self.append_primitive(tag, front, rest)
+        self.append_primitive(tag, prefix, rest)
     }
 
-    // Writes the number that bytes and its sign stand for.
+    // Writes the number that bytes and its sign represent.
     fn write_signed_bytes(&mut self, own: Tag, positive: bool, bytes: &[u8]) -> ASN1Result<()>
-        ensures { Wrote (integer_form (tag_or self.old.tag own) self.old.mode (signed_number positive bytes.now)) self.old self.new result }
+        ensures { Wrote (integer_encoding (tag_or self.old.tag own) self.old.mode (signed_number positive bytes.now)) self.old self.new result }
     {
-        let rest = without(sign_byte(positive), bytes);
-        self.write_pieces(own, sign_front(positive, rest), rest)
+        let rest = trim_leading(sign_byte(positive), bytes);
+        self.write_pieces(own, sign_octet(positive, rest), rest)
     }
 }
 

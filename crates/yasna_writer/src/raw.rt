@@ -1,6 +1,6 @@
 //! Raw elements, whose contents are written as they are (X.690, 8.1): calls of users.
 ghost use Rattle.yasna_base.specs.Identifier.{tag_or};
-ghost use Rattle.yasna_base.specs.Raw.{raw_form};
+ghost use Rattle.yasna_base.specs.Raw.{raw_encoding};
 ghost use Rattle.yasna_base.specs.TaggedDerValue.{raw_of};
 ghost use Rattle.yasna_writer.specs.Header.{raw_header};
 ghost use Rattle.yasna_writer.specs.State.{Appended};
@@ -15,11 +15,11 @@ impl Writer {
     /// Writes a raw element (X.690, 8.1): its identifier, or that of the implicit tag with its bit, the length of its payload in the
     /// fewest bytes, and its payload as it is.
     ///
-    /// In CER a constructed one has indefinite length: 128 stands in place of its length, and its payload ends by the two zeros.
+    /// In CER a constructed one has indefinite length: 128 is in place of its length, and its payload ends by the two zeros.
     pub fn write_tagged_der(&mut self, value: &TaggedDerValue) -> ASN1Result<()>
-        ensures { Wrote (raw_form (tag_or self.old.tag (raw_of value.now).tag) self.old.mode (raw_of value.now)) self.old self.new result }
+        ensures { Wrote (raw_encoding (tag_or self.old.tag (raw_of value.now).tag) self.old.mode (raw_of value.now)) self.old self.new result }
     {
-        if let Some(error) = self.kept() {
+        if let Some(error) = self.failed() {
             return Err(error);
         }
         let tag = self.take_tag(value.tag());
@@ -29,7 +29,7 @@ impl Writer {
         self.append(payload)
     }
 
-    // Appends what stands in front of a payload that is written as it is, or keeps want of memory.
+    // Appends what is before a payload that is written as it is, or fails with a sticky `OutOfMemory`.
     #[inline(always)]
     fn append_raw_header(&mut self, header: Header, bit: PCBit) -> ASN1Result<()>
         ensures { Appended (raw_header self.old.mode bit header) self.old self.new result }
@@ -48,7 +48,7 @@ impl Writer {
     pub fn write_der(&mut self, der: &[u8]) -> ASN1Result<()>
         ensures { Wrote der.now self.old self.new result }
     {
-        if let Some(error) = self.kept() {
+        if let Some(error) = self.failed() {
             return Err(error);
         }
         self.untag();

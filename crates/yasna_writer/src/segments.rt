@@ -1,13 +1,13 @@
 //! Strings in segments, as CER asks where they are long (X.690, 9.2). `strings` and `times` call it.
 //!
 //! A string of more than 1000 octets is a constructed element of indefinite length. Its parts are primitive: OCTET STRINGs of 1000
-//! octets, or BIT STRINGs of 999 bytes behind their count of unused bits; the last part has what is left.
+//! octets, or BIT STRINGs of 999 bytes after their count of unused bits; the last part has what is left.
 ghost use Rattle.std.specs.Prelude.{◌≡◌, ◌≤◌, ◌<◌, ◌+◌, ◌*◌, length, [], ◌∷◌, ◌++◌};
 ghost use Rattle.yasna_base.specs.declared.tag.PCBit.TheVariants.{Primitive};
 ghost use Rattle.yasna_base.specs.Bits.{bits_tag};
 ghost use Rattle.yasna_base.specs.Canonical.{canonical_element, indefinite_element};
 ghost use Rattle.yasna_base.specs.Identifier.{tag_or};
-ghost use Rattle.yasna_base.specs.Octets.{octets_form};
+ghost use Rattle.yasna_base.specs.Octets.{octets_encoding};
 ghost use Rattle.yasna_writer.specs.Header.{indefinite_header};
 ghost use Rattle.yasna_writer.specs.Segments.{is_cut, octet_segment, in_octet_segments, bit_segment, in_bit_segments, bits_with};
 ghost use Rattle.yasna_writer.specs.State.{Appended};
@@ -22,7 +22,7 @@ use yasna_base::{ASN1Result, BERMode, PCBit, Tag};
 // How many octets fill a segment.
 pub(crate) const FULL_OCTETS: usize = 1000;
 
-// How many bytes of a BIT STRING do, behind the count of unused bits.
+// How many bytes of a BIT STRING do, after the count of unused bits.
 pub(crate) const FULL_BITS: usize = 999;
 
 // Room for so many bytes in segments, and for the two zeros.
@@ -57,7 +57,7 @@ impl Writer {
     #[tactic(auto, using(crate::proofs::SegmentSteps::octets_whole))]
     #[inline(always)]
     pub(crate) fn write_octets(&mut self, own: Tag, octets: &[u8]) -> ASN1Result<()>
-        ensures { Wrote (octets_form (tag_or self.old.tag own) self.old.mode octets.now) self.old self.new result }
+        ensures { Wrote (octets_encoding (tag_or self.old.tag own) self.old.mode octets.now) self.old self.new result }
     {
         if octets.len() < 128 {
             return self.write_contents(own, octets);
@@ -68,7 +68,7 @@ impl Writer {
     // The same of many octets.
     #[inline(never)]
     fn write_long_octets(&mut self, own: Tag, octets: &[u8]) -> ASN1Result<()>
-        ensures { Wrote (octets_form (tag_or self.old.tag own) self.old.mode octets.now) self.old self.new result }
+        ensures { Wrote (octets_encoding (tag_or self.old.tag own) self.old.mode octets.now) self.old self.new result }
     {
         if self.cuts(octets.len(), FULL_OCTETS) {
             return self.write_octet_segments(own, octets);
@@ -114,7 +114,7 @@ impl Writer {
     fn write_segments_header(&mut self, own: Tag, length: usize) -> ASN1Result<()>
         ensures { Wrote (indefinite_header (tag_or self.old.tag own)) self.old self.new result }
     {
-        if let Some(error) = self.kept() {
+        if let Some(error) = self.failed() {
             return Err(error);
         }
         let tag = self.take_tag(own);
@@ -127,9 +127,9 @@ impl Writer {
     {
         let mut rest = octets;
         while rest.len() > FULL_OCTETS {
-            let (segment, behind) = rest.split_at(FULL_OCTETS);
+            let (segment, after) = rest.split_at(FULL_OCTETS);
             self.append_full_octets(segment)?;
-            rest = behind;
+            rest = after;
         }
         self.append_octet_segment(rest)
     }
@@ -159,9 +159,9 @@ impl Writer {
     {
         let mut rest = bytes;
         while rest.len() > FULL_BITS {
-            let (segment, behind) = rest.split_at(FULL_BITS);
+            let (segment, after) = rest.split_at(FULL_BITS);
             self.append_full_bits(segment)?;
-            rest = behind;
+            rest = after;
         }
         self.append_last_bits(unused, rest)
     }
@@ -182,20 +182,20 @@ impl Writer {
         requires some { 1 ≤ length bytes.now }
         ensures { Appended (bit_segment (bits_with unused bytes.now)) self.old self.new result }
     {
-        let Some((last, front)) = bytes.split_last() else {
+        let Some((last, prefix)) = bytes.split_last() else {
             return Ok(());
         };
-        self.append_bit_string(unused, front, *last >> unused << unused)
+        self.append_bit_string(unused, prefix, *last >> unused << unused)
     }
 
     // Appends a BIT STRING with these contents.
     #[tactic(auto, unfolding(yasna_base::specs::Canonical::canonical_element, yasna_base::specs::Canonical::definite_element))]
-    fn append_bit_string(&mut self, unused: u8, front: &[u8], last: u8) -> ASN1Result<()>
-        ensures { Appended (canonical_element self.old.mode bits_tag Primitive (unused ∷ (front.now ++ last ∷ []))) self.old self.new result }
+    fn append_bit_string(&mut self, unused: u8, prefix: &[u8], last: u8) -> ASN1Result<()>
+        ensures { Appended (canonical_element self.old.mode bits_tag Primitive (unused ∷ (prefix.now ++ last ∷ []))) self.old self.new result }
     {
         let tag = TAG_BITSTRING;
-        let length = front.len() + 2;
+        let length = prefix.len() + 2;
         self.append_header(Header { tag, length }, PCBit::Primitive)?;
-        self.append_bits(unused, front, last)
+        self.append_bits(unused, prefix, last)
     }
 }

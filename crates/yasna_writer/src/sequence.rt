@@ -37,17 +37,17 @@ impl Writer {
 
     /// Writes a SEQUENCE (X.690, 8.9): its contents are what the closure writes.
     ///
-    /// A failure that is kept is answered, and the closure doesn't run. Else the closure's answer is handed on, and
+    /// A sticky error is returned, and the closure doesn't run. Else the closure's answer is passed on, and
     /// where it is an `Err` of its own, the element still ends over what was written so far and the writing goes on.
     /// Where a write of the closure failed, or there is no memory for the header (`OutOfMemory`), or the closure left
-    /// fewer bytes than there were (`Invalid`), that failure is answered instead and kept.
+    /// fewer bytes than there were (`Invalid`), that failure is returned instead and kept.
     #[inline(always)]
     pub fn write_sequence<
         T: Drop,
         E: From<ASN1Error> + Drop,
         F: FnOnce(&mut DERWriterSeq) -> Result<T, E>,
     >(&mut self, f: F) -> Result<T, E>
-        requires { self.old.kept ≡ None → FnOnceTakesAtMut F.FnOnce f (handed self.old) }
+        requires { self.old.failed ≡ None → FnOnceTakesAtMut F.FnOnce f (handed self.old) }
         ensures { Encloses F.FnOnce E.from_gives f (canonical_element self.old.mode (tag_or self.old.tag sequence_tag) Constructed) self.old self.new result }
     {
         self.write_tagged(TAG_SEQUENCE, f)
@@ -60,7 +60,7 @@ impl Writer {
         E: From<ASN1Error> + Drop,
         F: FnOnce(&mut DERWriterSeq) -> Result<T, E>,
     >(&mut self, f: F) -> Result<T, E>
-        requires { self.old.kept ≡ None → FnOnceTakesAtMut F.FnOnce f (handed self.old) }
+        requires { self.old.failed ≡ None → FnOnceTakesAtMut F.FnOnce f (handed self.old) }
         ensures { Encloses F.FnOnce E.from_gives f (canonical_element self.old.mode (tag_or self.old.tag sequence_tag) Constructed) self.old self.new result }
     {
         self.write_sequence(f)

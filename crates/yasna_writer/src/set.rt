@@ -12,7 +12,7 @@ ghost use Rattle.yasna_base.specs.Identifier.{tag_or};
 ghost use Rattle.yasna_base.specs.Order.{octets_cmp, in_order};
 ghost use Rattle.yasna_base.specs.Set.{set_tag, SetOfContents, SetContents};
 ghost use Rattle.yasna_writer.specs.Parts.{no_parts, only_part, bytes_each, ordered_bytes};
-ghost use Rattle.yasna_writer.specs.Set.{Pushes, LacksParts, EndsPart, BeginsPart, BeginsNext, LendsPart, FailsAtSet, EndsSet, WritesSet, contents_in};
+ghost use Rattle.yasna_writer.specs.Set.{Pushes, LosesParts, EndsPart, BeginsPart, BeginsNext, LendsPart, FailsAtSet, EndsSet, WritesSet, contents_in};
 ghost use Rattle.yasna_writer.specs.State.{Appended};
 ghost use Rattle.yasna_writer.specs.View.{holding, handed};
 
@@ -64,10 +64,10 @@ impl Model for DERWriterSet {
 
     ghost Value = { WrittenParts };
 
-    ghost view = { λ s. record { parts = bytes_each s.parts.items ++ last_part s.begun s.last.bytes; mode = s.mode; kept = s.last.kept } };
+    ghost view = { λ s. record { parts = bytes_each s.parts.items ++ last_part s.begun s.last.bytes; mode = s.mode; failed = s.last.failed } };
 }
 
-// Puts the bytes of a part behind others, or lacks memory.
+// Puts the bytes of a part after others, or runs out of memory.
 fn push_part(parts: &mut Vec<Vec<u8>>, last: &mut Writer) -> ASN1Result<()>
     ensures { Pushes last.old.bytes parts.old.items parts.new.items result }
 {
@@ -78,11 +78,11 @@ fn push_part(parts: &mut Vec<Vec<u8>>, last: &mut Writer) -> ASN1Result<()>
     }
 }
 
-// Puts the last part behind the others, where one was begun.
+// Puts the last part after the others, where one was begun.
 fn end_part(parts: &mut Vec<Vec<u8>>, last: &mut Writer, begun: bool) -> ASN1Result<()>
     ensures { EndsPart begun parts.old.items last.old parts.new.items result }
 {
-    if let Some(error) = last.kept() {
+    if let Some(error) = last.failed() {
         return Err(error);
     }
     if begun {
@@ -91,7 +91,7 @@ fn end_part(parts: &mut Vec<Vec<u8>>, last: &mut Writer, begun: bool) -> ASN1Res
     Ok(())
 }
 
-// Begins a part behind the others.
+// Begins a part after the others.
 fn begin_part(parts: &mut Vec<Vec<u8>>, last: &mut Writer, begun: bool, mode: BERMode)
     ensures { BeginsNext mode begun parts.old.items last.old parts.new.items last.new }
 {
@@ -104,24 +104,24 @@ fn begin_part(parts: &mut Vec<Vec<u8>>, last: &mut Writer, begun: bool, mode: BE
     }
 }
 
-fn is_filled(part: &[u8]) -> bool
+fn is_non_empty(part: &[u8]) -> bool
     ensures { IsTrue result ↔ (part.now ≡ [] → ⊥) }
 {
     !part.is_empty()
 }
 
 // Whether no part is empty.
-fn are_filled(parts: &[Vec<u8>]) -> bool
+fn are_non_empty(parts: &[Vec<u8>]) -> bool
     ensures { IsTrue result ↔ AllByRecursion (λ v. v.items ≡ [] → ⊥) parts.now }
 {
-    parts.iter().all(|part| is_filled(part))
+    parts.iter().all(|part| is_non_empty(part))
 }
 
-// Takes out the bytes of the only part of a SET OF, or answers why there are none.
-fn filled_bytes(part: &mut Writer) -> ASN1Result<Vec<u8>>
-    ensures { MatchResult result (λ v. (part.old.kept ≡ None) × SetOfContents (part.old.bytes ∷ []) (flat_map (λ w. w.items) (v ∷ []))) (λ e. FailsAtSet SetOfContents (only_part part.old) e) }
+// Takes out the bytes of the only part of a SET OF, or returns why there are none.
+fn non_empty_bytes(part: &mut Writer) -> ASN1Result<Vec<u8>>
+    ensures { MatchResult result (λ v. (part.old.failed ≡ None) × SetOfContents (part.old.bytes ∷ []) (flat_map (λ w. w.items) (v ∷ []))) (λ e. FailsAtSet SetOfContents (only_part part.old) e) }
 {
-    if let Some(error) = part.kept() {
+    if let Some(error) = part.failed() {
         return Err(error);
     }
     let bytes = part.take_bytes()?;
@@ -131,7 +131,7 @@ fn filled_bytes(part: &mut Writer) -> ASN1Result<Vec<u8>>
     Ok(bytes)
 }
 
-// The parts as they stand, each behind the number of its first bytes.
+// The parts as they are, each after the number of its first bytes.
 fn number_parts(alloc: Global, parts: Vec<Vec<u8>>) -> Result<Vec<OrderedPart>, AllocError>
     ensures { IfOk result (λ v. ordered_bytes v.items ≡ bytes_each parts.items) }
 {
@@ -167,7 +167,7 @@ impl DERWriterSet {
 
     // The parts, or why there are none.
     fn into_parts(self) -> ASN1Result<Vec<Vec<u8>>>
-        ensures { MatchResult result (λ v. (self.kept ≡ None) × (bytes_each v.items ≡ self.parts)) (λ e. LacksParts self.kept e) }
+        ensures { MatchResult result (λ v. (self.failed ≡ None) × (bytes_each v.items ≡ self.parts)) (λ e. LosesParts self.failed e) }
     {
         let DERWriterSet {
             mut parts,
@@ -181,11 +181,11 @@ impl DERWriterSet {
 
     // The parts in the order of a SET OF, or why there are none.
     fn into_set_of(self) -> ASN1Result<Vec<OrderedPart>>
-        ensures { MatchResult result (λ v. (self.kept ≡ None) × SetOfContents self.parts (flat_map (λ part. part.bytes.items) v.items)) (λ e. FailsAtSet SetOfContents self e) }
+        ensures { MatchResult result (λ v. (self.failed ≡ None) × SetOfContents self.parts (flat_map (λ part. part.bytes.items) v.items)) (λ e. FailsAtSet SetOfContents self e) }
     {
         let alloc = self.last.alloc();
         let parts = self.into_parts()?;
-        if !are_filled(&parts) {
+        if !are_non_empty(&parts) {
             return Err(ASN1Error::new(ASN1ErrorKind::Invalid));
         }
         match order_by_bytes(alloc, parts) {
@@ -196,7 +196,7 @@ impl DERWriterSet {
 
     // The parts in the order of a SET, or why there are none.
     fn into_set(self) -> ASN1Result<Vec<TaggedPart>>
-        ensures { MatchResult result (λ v. (self.kept ≡ None) × SetContents self.parts (flat_map (λ part. part.bytes.items) v.items)) (λ e. FailsAtSet SetContents self e) }
+        ensures { MatchResult result (λ v. (self.failed ≡ None) × SetContents self.parts (flat_map (λ part. part.bytes.items) v.items)) (λ e. FailsAtSet SetContents self e) }
     {
         let alloc = self.last.alloc();
         let mut parts = tag_parts(alloc, self.into_parts()?)?;
@@ -208,11 +208,11 @@ impl DERWriterSet {
 
     /// The writer of a further part, by the rules that the set began with.
     ///
-    /// Where there is no memory for the parts before, `OutOfMemory` is kept, and this writer answers it.
+    /// Where there is no memory for the parts before, `OutOfMemory` is sticky, and this writer returns it.
     #[inline(always)]
     pub fn next(&mut self) -> DERWriter<'_>
         ensures* lends { sem 𝓛 (LendsPart self.entry result) }
-        ensures value { BeginsPart self.old.mode self.old.kept result.now }
+        ensures value { BeginsPart self.old.mode self.old.failed result.now }
     {
         begin_part(&mut self.parts, &mut self.last, self.begun, self.mode);
         self.begun = true;
@@ -221,7 +221,7 @@ impl DERWriterSet {
 }
 
 impl Writer {
-    // Appends parts, one after the other, or keeps want of memory.
+    // Appends parts, one after the other, or fails with a sticky `OutOfMemory`.
     fn append_parts<P: AsSlice<u8>>(&mut self, parts: &[P]) -> ASN1Result<()>
         ensures { Appended (flat_map P.items parts.now) self.old self.new result }
     {
@@ -231,14 +231,14 @@ impl Writer {
         Ok(())
     }
 
-    // Writes an element around parts, or keeps want of memory.
+    // Writes an element around parts, or fails with a sticky `OutOfMemory`.
     fn write_parts<P: AsSlice<u8>>(&mut self, tag: Tag, parts: &[P])
         requires { self.old ≡ handed self.old }
-        ensures { MatchOption self.new.kept (self.new ≡ holding self.old (self.old.bytes ++ canonical_element self.old.mode tag Constructed (flat_map P.items parts.now))) (λ k. kind_of k ≡ OutOfMemory) }
+        ensures { MatchOption self.new.failed (self.new ≡ holding self.old (self.old.bytes ++ canonical_element self.old.mode tag Constructed (flat_map P.items parts.now))) (λ k. kind_of k ≡ OutOfMemory) }
     {
-        let beginning = self.begin(tag);
+        let opened = self.begin(tag);
         if self.append_parts(parts).is_ok() {
-            self.end(beginning);
+            self.end(opened);
         }
     }
 
@@ -247,9 +247,9 @@ impl Writer {
         requires { self.old ≡ handed self.old }
         ensures { EndsSet SetOfContents (canonical_element self.old.mode tag Constructed) (only_part part.old) self.old self.new }
     {
-        match filled_bytes(part) {
+        match non_empty_bytes(part) {
             Ok(bytes) => self.write_parts(tag, &[bytes]),
-            Err(error) => self.keep(error),
+            Err(error) => self.fail(error),
         }
     }
 
@@ -263,7 +263,7 @@ impl Writer {
         }
         match set.into_set_of() {
             Ok(parts) => self.write_parts(tag, &parts),
-            Err(error) => self.keep(error),
+            Err(error) => self.fail(error),
         }
     }
 
@@ -274,7 +274,7 @@ impl Writer {
     {
         match set.into_set() {
             Ok(parts) => self.write_parts(tag, &parts),
-            Err(error) => self.keep(error),
+            Err(error) => self.fail(error),
         }
     }
 
@@ -295,7 +295,7 @@ impl Writer {
         E: From<ASN1Error> + Drop,
         F: FnOnce(&mut DERWriterSet) -> Result<T, E>,
     >(&mut self, order: PartOrder, f: F) -> Result<T, E>
-        requires { self.old.kept ≡ None → FnOnceTakesAtMut F.FnOnce f (no_parts self.old.mode) }
+        requires { self.old.failed ≡ None → FnOnceTakesAtMut F.FnOnce f (no_parts self.old.mode) }
         ensures { WritesSet F.FnOnce E.from_gives f (contents_in order) (canonical_element self.old.mode (tag_or self.old.tag set_tag) Constructed) self.old self.new result }
     {
         let tag = match self.fresh_tag(TAG_SET) {
@@ -305,20 +305,20 @@ impl Writer {
         let mut set = self.no_parts();
         let own = f(&mut set);
         self.end_set(tag, order, set);
-        self.settle(own)
+        self.resolve(own)
     }
 
     /// Writes a SET (X.690, 8.11, 9.3 and 10.3): its contents are the parts that the closure writes, by the tags that they
     /// begin with, first the class, then the number.
     ///
-    /// Parts of one tag stand as they were written, but where its number is 31 or more, by their bytes. What is kept
-    /// and answered is as with `write_set_of`; a part that doesn't begin with an identifier is `Invalid` too.
+    /// Parts of one tag are as they were written, but where its number is 31 or more, by their bytes. What is sticky
+    /// and returned is as with `write_set_of`; a part that doesn't begin with an identifier is `Invalid` too.
     pub fn write_set<
         T: Drop,
         E: From<ASN1Error> + Drop,
         F: FnOnce(&mut DERWriterSet) -> Result<T, E>,
     >(&mut self, f: F) -> Result<T, E>
-        requires { self.old.kept ≡ None → FnOnceTakesAtMut F.FnOnce f (no_parts self.old.mode) }
+        requires { self.old.failed ≡ None → FnOnceTakesAtMut F.FnOnce f (no_parts self.old.mode) }
         ensures { WritesSet F.FnOnce E.from_gives f SetContents (canonical_element self.old.mode (tag_or self.old.tag set_tag) Constructed) self.old self.new result }
     {
         self.write_in_order(PartOrder::Tags, f)
@@ -326,16 +326,16 @@ impl Writer {
 
     /// Writes a SET OF (X.690, 8.12): its contents are the parts that the closure writes, in ascending order as bytes.
     ///
-    /// A failure that is kept is answered, and the closure doesn't run. Else the closure's answer is handed on, and
+    /// A sticky error is returned, and the closure doesn't run. Else the closure's answer is passed on, and
     /// where it is an `Err` of its own, the set still ends over the parts so far and the writing goes on. Where a write
     /// of the closure failed, or there is no memory (`OutOfMemory`), or a part is empty (`Invalid`), that failure is
-    /// answered instead and kept, and nothing of the set is written.
+    /// returned instead and kept, and nothing of the set is written.
     pub fn write_set_of<
         T: Drop,
         E: From<ASN1Error> + Drop,
         F: FnOnce(&mut DERWriterSet) -> Result<T, E>,
     >(&mut self, f: F) -> Result<T, E>
-        requires { self.old.kept ≡ None → FnOnceTakesAtMut F.FnOnce f (no_parts self.old.mode) }
+        requires { self.old.failed ≡ None → FnOnceTakesAtMut F.FnOnce f (no_parts self.old.mode) }
         ensures { WritesSet F.FnOnce E.from_gives f SetOfContents (canonical_element self.old.mode (tag_or self.old.tag set_tag) Constructed) self.old self.new result }
     {
         self.write_in_order(PartOrder::Bytes, f)

@@ -1,4 +1,4 @@
-//! The writer: a draft, the implicit tag that waits, and the failure that is kept. The writes of all other modules are built on it.
+//! The writer: a buffer, the implicit tag that waits, and the sticky error. The writes of all other modules are built on it.
 ghost use Rattle.std.specs.Prelude.{◌≡◌, ◌++◌, length, Ok, Err, Some, None, MatchResult};
 ghost use Rattle.yasna_base.specs.Error.{kind_of};
 ghost use Rattle.yasna_base.specs.declared.error.ASN1ErrorKind.TheVariants.{OutOfMemory};
@@ -11,13 +11,13 @@ ghost use Rattle.yasna_base.specs.declared.tag.PCBit.TheVariants.{Primitive};
 ghost use Rattle.yasna_writer.specs.View.{Written, begun};
 ghost use Rattle.yasna_base.specs.Identifier.{tag_or};
 ghost use Rattle.yasna_writer.specs.Construct.{Constructed};
-ghost use Rattle.yasna_writer.specs.Sequence.{AnswersKept};
+ghost use Rattle.yasna_writer.specs.Sequence.{ReturnsSticky};
 ghost use Rattle.yasna_writer.specs.Header.{header_bytes, indefinite_header};
 ghost use Rattle.yasna_writer.specs.Parts.{no_parts};
 ghost use Rattle.yasna_writer.specs.State.{Appended, TakesTag, BeginsAt, EndsElement};
-ghost use Rattle.yasna_writer.specs.Tagged.{writing_under, LeftBehind};
+ghost use Rattle.yasna_writer.specs.Tagged.{writing_under, LeftAfter};
 
-use crate::draft::{Beginning, Draft};
+use crate::buffer::{Buffer, OpenElement};
 use crate::header::Header;
 use crate::set::DERWriterSet;
 use std::alloc::Global;
@@ -25,15 +25,15 @@ use std::marker::Model;
 use yasna_base::{ASN1Error, ASN1ErrorKind, ASN1Result, BERMode, PCBit, Tag};
 
 /// A writing: bytes so far, whether they are in DER or in CER, the implicit tag that the next element takes, and the failure that
-/// later calls answer.
+/// later calls return.
 ///
-/// A write that finds no memory answers `OutOfMemory`. That failure is kept: each later write answers it, and so does
+/// A write that finds no memory returns `OutOfMemory`. That failure is sticky: each later write returns it, and so does
 /// the call that began the writing.
 #[derive(Drop)]
 pub struct Writer {
-    draft: Draft,
+    buffer: Buffer,
     tag: Option<Tag>,
-    kept: Option<ASN1Error>,
+    failed: Option<ASN1Error>,
     alloc: Global,
     // By which rules it writes.
     mode: BERMode,
@@ -44,7 +44,7 @@ impl Model for Writer {
 
     ghost Value = { Written };
 
-    ghost view = { λ s. record { bytes = s.draft; mode = s.mode; tag = s.tag; kept = s.kept } };
+    ghost view = { λ s. record { bytes = s.buffer; mode = s.mode; tag = s.tag; failed = s.failed } };
 }
 
 /// What a closure writes to.
@@ -52,7 +52,7 @@ impl Model for Writer {
 /// Each write takes the implicit tag if there is one, and else the type's own. Two writers of nested writings can be
 /// exchanged by `std::mem::swap`. Each then goes on with the bytes, the rules and the failure of the other, and an element that
 /// is open in one ends over what it holds then: by the rules that the element began with, from the place on where it began, by its
-/// count of bytes, and where fewer bytes are there, as `Invalid`, which is kept. What follows it is written by its rules again.
+/// count of bytes, and where fewer bytes are there, as `Invalid`, which is sticky. What follows it is written by its rules again.
 ///
 /// ```rust
 /// pub fn write_time(time: &Time, writer: DERWriter<'_>) -> ASN1Result<()> {
@@ -71,9 +71,9 @@ impl Writer {
         ensures { result ≡ begun mode }
     {
         Writer {
-            draft: Draft::new(alloc),
+            buffer: Buffer::new(alloc),
             tag: None,
-            kept: None,
+            failed: None,
             alloc,
             mode,
         }
@@ -87,12 +87,12 @@ impl Writer {
         self.mode
     }
 
-    // The failure that is kept.
+    // The sticky error.
     #[inline(always)]
-    pub(crate) fn kept(&self) -> Option<ASN1Error>
-        ensures { result ≡ self.now.kept }
+    pub(crate) fn failed(&self) -> Option<ASN1Error>
+        ensures { result ≡ self.now.failed }
     {
-        self.kept
+        self.failed
     }
 
     // Where memory is taken from.
@@ -101,7 +101,7 @@ impl Writer {
         self.alloc
     }
 
-    // Takes the implicit tag, or else a type's own. The one that waits is made anew, so that what stands between its fields isn't read
+    // Takes the implicit tag, or else a type's own. The one that waits is made anew, so that what is between its fields isn't read
     // back from memory.
     #[inline(always)]
     pub(crate) fn take_tag(&mut self, own: Tag) -> Tag
@@ -135,85 +135,90 @@ impl Writer {
         }
     }
 
-    // Keeps want of memory.
+    // Fails with a sticky `OutOfMemory`.
     #[cold]
-    pub(crate) fn lack_memory(&mut self) -> ASN1Error
+    pub(crate) fn fail_out_of_memory(&mut self) -> ASN1Error
         ensures kind { kind_of result ≡ OutOfMemory }
-        ensures kept { self.new ≡ record self.old { kept = Some result } }
+        ensures failed { self.new ≡ record self.old { failed = Some result } }
     {
-        let lack = ASN1Error::new(ASN1ErrorKind::OutOfMemory);
-        self.kept = Some(lack);
-        lack
+        let out_of_memory = ASN1Error::new(ASN1ErrorKind::OutOfMemory);
+        self.failed = Some(out_of_memory);
+        out_of_memory
     }
 
-    // Appends bytes, or keeps want of memory.
+    // Appends bytes, or fails with a sticky `OutOfMemory`.
     #[inline(always)]
     pub(crate) fn append(&mut self, bytes: &[u8]) -> ASN1Result<()>
         ensures { Appended bytes.now self.old self.new result }
     {
-        match self.draft.add(bytes) {
+        match self.buffer.add(bytes) {
             Ok(()) => Ok(()),
-            Err(_) => Err(self.lack_memory()),
+            Err(_) => Err(self.fail_out_of_memory()),
         }
     }
 
-    // Appends the header of an element whose contents follow, or keeps want of memory.
+    // Appends the header of an element whose contents follow, or fails with a sticky `OutOfMemory`.
     #[inline(always)]
     pub(crate) fn append_header(&mut self, header: Header, bit: PCBit) -> ASN1Result<()>
         ensures { Appended (header_bytes bit header) self.old self.new result }
     {
-        match self.draft.add_header(header, bit) {
+        match self.buffer.add_header(header, bit) {
             Ok(()) => Ok(()),
-            Err(_) => Err(self.lack_memory()),
+            Err(_) => Err(self.fail_out_of_memory()),
         }
     }
 
-    // Appends the header of an element of indefinite length, with room for so many bytes behind it, or keeps want of memory.
+    // Appends the header of an element of indefinite length, with room for so many bytes after it, or fails with a sticky `OutOfMemory`.
     pub(crate) fn append_indefinite_header(&mut self, tag: Tag, length: usize) -> ASN1Result<()>
         ensures { Appended (indefinite_header tag) self.old self.new result }
     {
-        match self.draft.add_indefinite_header(tag, length) {
+        match self.buffer.add_indefinite_header(tag, length) {
             Ok(()) => Ok(()),
-            Err(_) => Err(self.lack_memory()),
+            Err(_) => Err(self.fail_out_of_memory()),
         }
     }
 
-    // Appends an element without parts, whose contents are two pieces, or keeps want of memory. Mostly the first is empty.
+    // Appends an element without parts, whose contents are two pieces, or fails with a sticky `OutOfMemory`. Mostly the first is empty.
     #[tactic(auto, unfolding(yasna_base::specs::Canonical::canonical_element, yasna_base::specs::Canonical::definite_element))]
-    pub(crate) fn append_primitive(&mut self, tag: Tag, front: &[u8], rest: &[u8]) -> ASN1Result<()>
-        ensures { Appended (canonical_element self.old.mode tag Primitive (front.now ++ rest.now)) self.old self.new result }
+    pub(crate) fn append_primitive(
+        &mut self,
+        tag: Tag,
+        prefix: &[u8],
+        rest: &[u8],
+    ) -> ASN1Result<()>
+        ensures { Appended (canonical_element self.old.mode tag Primitive (prefix.now ++ rest.now)) self.old self.new result }
     {
-        let Some(length) = front.len().checked_add(rest.len()) else {
-            return Err(self.lack_memory());
+        let Some(length) = prefix.len().checked_add(rest.len()) else {
+            return Err(self.fail_out_of_memory());
         };
         self.append_header(Header { tag, length }, PCBit::Primitive)?;
-        if !front.is_empty() {
-            self.append(front)?;
+        if !prefix.is_empty() {
+            self.append(prefix)?;
         }
         self.append(rest)
     }
 
-    // Appends numbers in base 128, or keeps want of memory.
+    // Appends numbers in base 128, or fails with a sticky `OutOfMemory`.
     pub(crate) fn append_subidentifiers(&mut self, first: u64, further: &[u64]) -> ASN1Result<()>
         ensures { Appended (base128 first ++ flat_map base128 further.now) self.old self.new result }
     {
-        match self.draft.add_subidentifiers(first, further) {
+        match self.buffer.add_subidentifiers(first, further) {
             Ok(()) => Ok(()),
-            Err(_) => Err(self.lack_memory()),
+            Err(_) => Err(self.fail_out_of_memory()),
         }
     }
 
-    // Appends a text in UTF-16, or keeps want of memory.
+    // Appends a text in UTF-16, or fails with a sticky `OutOfMemory`.
     pub(crate) fn append_bmp(&mut self, string: &str) -> ASN1Result<()>
         ensures { Appended (bmp_octets (chars string.now)) self.old self.new result }
     {
-        match self.draft.add_bmp(string) {
+        match self.buffer.add_bmp(string) {
             Ok(()) => Ok(()),
-            Err(_) => Err(self.lack_memory()),
+            Err(_) => Err(self.fail_out_of_memory()),
         }
     }
 
-    // What the writing answers, where the closure answered `own`.
+    // What the writing returns, where the closure returned `own`.
     #[inline(always)]
     pub(crate) fn finish<E: From<ASN1Error> + Drop>(
         &mut self,
@@ -221,7 +226,7 @@ impl Writer {
     ) -> Result<Vec<u8>, E>
         ensures { Constructed E.from_gives self.old own result }
     {
-        if let Some(error) = self.kept {
+        if let Some(error) = self.failed {
             return Err(E::from(error));
         }
         if let Err(error) = own {
@@ -233,12 +238,12 @@ impl Writer {
         }
     }
 
-    // The tag of an element that begins, where no failure is kept.
+    // The tag of an element that begins, where no error is sticky.
     #[inline(always)]
     pub(crate) fn fresh_tag(&mut self, own: Tag) -> Result<Tag, ASN1Error>
         ensures { TakesTag own self.old self.new result }
     {
-        if let Some(error) = self.kept {
+        if let Some(error) = self.failed {
             return Err(error);
         }
         Ok(self.take_tag(own))
@@ -249,21 +254,21 @@ impl Writer {
     pub(crate) fn take_bytes(&mut self) -> ASN1Result<Vec<u8>>
         ensures { MatchResult result (λ v. v.items ≡ self.old.bytes) (λ e. kind_of e ≡ OutOfMemory) }
     {
-        match self.draft.take_joined(self.alloc) {
+        match self.buffer.take_joined(self.alloc) {
             Ok(bytes) => Ok(bytes),
             Err(_) => Err(ASN1Error::new(ASN1ErrorKind::OutOfMemory)),
         }
     }
 
-    // Begins anew, by these rules and with this failure kept.
+    // Begins anew, by these rules and with this sticky error.
     #[inline(always)]
-    pub(crate) fn restart(&mut self, mode: BERMode, kept: Option<ASN1Error>)
-        ensures { self.new ≡ record (begun mode) { kept = kept } }
+    pub(crate) fn restart(&mut self, mode: BERMode, failed: Option<ASN1Error>)
+        ensures { self.new ≡ record (begun mode) { failed = failed } }
     {
         self.mode = mode;
-        self.draft = Draft::new(self.alloc);
+        self.buffer = Buffer::new(self.alloc);
         self.tag = None;
-        self.kept = kept;
+        self.failed = failed;
     }
 
     // The parts of a set that begins.
@@ -276,35 +281,35 @@ impl Writer {
 
     // Keeps a failure.
     #[cold]
-    pub(crate) fn keep(&mut self, error: ASN1Error)
-        ensures { self.new ≡ record self.old { kept = Some error } }
+    pub(crate) fn fail(&mut self, error: ASN1Error)
+        ensures { self.new ≡ record self.old { failed = Some error } }
     {
-        self.kept = Some(error);
+        self.failed = Some(error);
     }
 
-    // Begins an element with parts behind what stands.
+    // Begins an element with parts after what is there.
     #[inline(always)]
-    pub(crate) fn begin(&mut self, tag: Tag) -> Beginning
+    pub(crate) fn begin(&mut self, tag: Tag) -> OpenElement
         ensures { BeginsAt tag self.old self.new result }
     {
-        self.draft.mark_beginning(self.alloc, tag, self.mode)
+        self.buffer.open_element(self.alloc, tag, self.mode)
     }
 
     // Ends it over what is left from its beginning on, by the rules that it began with, or keeps why that fails.
     #[inline(always)]
-    pub(crate) fn end(&mut self, beginning: Beginning)
-        ensures { EndsElement beginning self.old self.new }
+    pub(crate) fn end(&mut self, opened: OpenElement)
+        ensures { EndsElement opened self.old self.new }
     {
-        if self.kept.is_none() {
-            self.mode = beginning.mode;
+        if self.failed.is_none() {
+            self.mode = opened.mode;
             self.untag();
-            if let Err(error) = self.draft.enclose(self.alloc, beginning) {
-                self.kept = Some(error);
+            if let Err(error) = self.buffer.enclose(self.alloc, opened) {
+                self.failed = Some(error);
             }
         }
     }
 
-    // Lets this tag wait for the next element, where none does, and answers how many bytes there are.
+    // Lets this tag wait for the next element, where none does, and returns how many bytes there are.
     #[inline(always)]
     pub(crate) fn tag_next(&mut self, tag: Tag) -> usize
         ensures tagged { self.new ≡ writing_under tag self.old }
@@ -313,29 +318,29 @@ impl Writer {
         if self.tag.is_none() {
             self.tag = Some(tag);
         }
-        self.draft.len()
+        self.buffer.len()
     }
 
-    // Drops the implicit tag behind a closure, and keeps a failure where it left fewer bytes than these.
+    // Drops the implicit tag after a closure, and keeps a failure where it left fewer bytes than these.
     #[inline(always)]
     pub(crate) fn end_tagging(&mut self, start: usize)
-        ensures { LeftBehind start self.old self.new }
+        ensures { LeftAfter start self.old self.new }
     {
         self.untag();
-        if self.kept.is_none() && self.draft.len() < start {
-            self.kept = Some(ASN1Error::new(ASN1ErrorKind::Invalid));
+        if self.failed.is_none() && self.buffer.len() < start {
+            self.failed = Some(ASN1Error::new(ASN1ErrorKind::Invalid));
         }
     }
 
-    // What a call with a closure answers, where the closure answered `own`.
+    // What a call with a closure returns, where the closure returned `own`.
     #[inline(always)]
-    pub(crate) fn settle<T: Drop, E: From<ASN1Error> + Drop>(
+    pub(crate) fn resolve<T: Drop, E: From<ASN1Error> + Drop>(
         &self,
         own: Result<T, E>,
     ) -> Result<T, E>
-        ensures { AnswersKept E.from_gives self.now.kept own result }
+        ensures { ReturnsSticky E.from_gives self.now.failed own result }
     {
-        match self.kept {
+        match self.failed {
             Some(error) => Err(E::from(error)),
             None => own,
         }

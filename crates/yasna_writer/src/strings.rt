@@ -1,7 +1,7 @@
 //! Strings: BIT STRING, OCTET STRING and texts (X.690, 8.6, 8.7, 8.23 and 11.2), calls of users.
 //!
 //! Each is written as one primitive element, but in CER as segments where it is long (`segments`). Each write takes the implicit tag
-//! if there is one, and else the type's own. A failure that is kept is answered, and nothing is written. Besides, each answers
+//! if there is one, and else the type's own. A sticky error is returned, and nothing is written. Besides, each returns
 //! `OutOfMemory` where there is no memory for the element, and keeps it.
 ghost use Rattle.std.specs.Prelude.{[], ◌∷◌, ◌≡◌, ◌≤◌, ◌<◌, ◌+◌, ◌-◌, ◌*◌, ◌%◌, ◌++◌, length, length as count};
 ghost use Rattle.std.specs.List.{AllByRecursion};
@@ -9,9 +9,9 @@ ghost use Rattle.std.specs.Str.{chars};
 ghost use Rattle.yasna_base.specs.declared.tag.PCBit.TheVariants.{Primitive};
 ghost use Rattle.yasna_base.specs.Canonical.{canonical_element};
 ghost use Rattle.yasna_base.specs.Identifier.{tag_or};
-ghost use Rattle.yasna_base.specs.Octets.{octets_form, octets_tag};
-ghost use Rattle.yasna_base.specs.Bits.{bits_contents, bits_form, bits_tag};
-ghost use Rattle.yasna_base.specs.Text.{utf8_form, bmp_form, bmp_octets, InNumeric, InPrintable, InVisible, InIa5, utf8_tag, numeric_tag, printable_tag, ia5_tag, visible_tag, bmp_tag};
+ghost use Rattle.yasna_base.specs.Octets.{octets_encoding, octets_tag};
+ghost use Rattle.yasna_base.specs.Bits.{bits_contents, bits_encoding, bits_tag};
+ghost use Rattle.yasna_base.specs.Text.{utf8_encoding, bmp_encoding, bmp_octets, InNumeric, InPrintable, InVisible, InIa5, utf8_tag, numeric_tag, printable_tag, ia5_tag, visible_tag, bmp_tag};
 ghost use Rattle.yasna_writer.specs.Header.{header_bytes};
 ghost use Rattle.yasna_writer.specs.State.{Appended};
 ghost use Rattle.yasna_writer.specs.View.{Wrote};
@@ -30,7 +30,7 @@ impl Writer {
     /// Writes an OCTET STRING (X.690, 8.7).
     #[inline(always)]
     pub fn write_bytes(&mut self, bytes: &[u8]) -> ASN1Result<()>
-        ensures { Wrote (octets_form (tag_or self.old.tag octets_tag) self.old.mode bytes.now) self.old self.new result }
+        ensures { Wrote (octets_encoding (tag_or self.old.tag octets_tag) self.old.mode bytes.now) self.old self.new result }
     {
         self.write_octets(TAG_OCTETSTRING, bytes)
     }
@@ -40,7 +40,7 @@ impl Writer {
     pub fn write_bitvec_bytes(&mut self, bytes: &[u8], len: usize) -> ASN1Result<()>
         requires enough { len ≤ 8 * length bytes.now }
         requires least { 8 * length bytes.now < len + 8 }
-        ensures { Wrote (bits_form (tag_or self.old.tag bits_tag) self.old.mode (record { bytes = bytes.now; count = len })) self.old self.new result }
+        ensures { Wrote (bits_encoding (tag_or self.old.tag bits_tag) self.old.mode (record { bytes = bytes.now; count = len })) self.old self.new result }
     {
         if self.cuts(bytes.len(), FULL_BITS) {
             return self.write_bit_segments(bytes, len);
@@ -51,7 +51,7 @@ impl Writer {
     /// Writes a UTF8String (X.690, 8.23.10).
     #[inline(always)]
     pub fn write_utf8_string(&mut self, string: &str) -> ASN1Result<()>
-        ensures { Wrote (utf8_form (tag_or self.old.tag utf8_tag) self.old.mode (chars string.now)) self.old self.new result }
+        ensures { Wrote (utf8_encoding (tag_or self.old.tag utf8_tag) self.old.mode (chars string.now)) self.old self.new result }
     {
         self.write_text(TAG_UTF8STRING, string)
     }
@@ -59,7 +59,7 @@ impl Writer {
     /// The same as `write_utf8_string`, under the name that the reader's call has.
     #[inline(always)]
     pub fn write_utf8string(&mut self, string: &str) -> ASN1Result<()>
-        ensures { Wrote (utf8_form (tag_or self.old.tag utf8_tag) self.old.mode (chars string.now)) self.old self.new result }
+        ensures { Wrote (utf8_encoding (tag_or self.old.tag utf8_tag) self.old.mode (chars string.now)) self.old self.new result }
     {
         self.write_utf8_string(string)
     }
@@ -68,7 +68,7 @@ impl Writer {
     #[inline(always)]
     pub fn write_numeric_string(&mut self, string: &str) -> ASN1Result<()>
         requires { AllByRecursion InNumeric (chars string.now) }
-        ensures { Wrote (utf8_form (tag_or self.old.tag numeric_tag) self.old.mode (chars string.now)) self.old self.new result }
+        ensures { Wrote (utf8_encoding (tag_or self.old.tag numeric_tag) self.old.mode (chars string.now)) self.old self.new result }
     {
         self.write_text(TAG_NUMERICSTRING, string)
     }
@@ -77,7 +77,7 @@ impl Writer {
     #[inline(always)]
     pub fn write_printable_string(&mut self, string: &str) -> ASN1Result<()>
         requires { AllByRecursion InPrintable (chars string.now) }
-        ensures { Wrote (utf8_form (tag_or self.old.tag printable_tag) self.old.mode (chars string.now)) self.old self.new result }
+        ensures { Wrote (utf8_encoding (tag_or self.old.tag printable_tag) self.old.mode (chars string.now)) self.old self.new result }
     {
         self.write_text(TAG_PRINTABLESTRING, string)
     }
@@ -86,7 +86,7 @@ impl Writer {
     #[inline(always)]
     pub fn write_ia5_string(&mut self, string: &str) -> ASN1Result<()>
         requires { AllByRecursion InIa5 (chars string.now) }
-        ensures { Wrote (utf8_form (tag_or self.old.tag ia5_tag) self.old.mode (chars string.now)) self.old self.new result }
+        ensures { Wrote (utf8_encoding (tag_or self.old.tag ia5_tag) self.old.mode (chars string.now)) self.old self.new result }
     {
         self.write_text(TAG_IA5STRING, string)
     }
@@ -95,7 +95,7 @@ impl Writer {
     #[inline(always)]
     pub fn write_visible_string(&mut self, string: &str) -> ASN1Result<()>
         requires { AllByRecursion InVisible (chars string.now) }
-        ensures { Wrote (utf8_form (tag_or self.old.tag visible_tag) self.old.mode (chars string.now)) self.old self.new result }
+        ensures { Wrote (utf8_encoding (tag_or self.old.tag visible_tag) self.old.mode (chars string.now)) self.old self.new result }
     {
         self.write_text(TAG_VISIBLESTRING, string)
     }
@@ -103,7 +103,7 @@ impl Writer {
     /// Writes a BMPString (X.690, 8.23): the text in UTF-16, the high byte of each unit first. A character past 65535 is written as two
     /// surrogates, which X.680 doesn't provide for.
     pub fn write_bmp_string(&mut self, string: &str) -> ASN1Result<()>
-        ensures { Wrote (bmp_form (tag_or self.old.tag bmp_tag) self.old.mode (chars string.now)) self.old self.new result }
+        ensures { Wrote (bmp_encoding (tag_or self.old.tag bmp_tag) self.old.mode (chars string.now)) self.old self.new result }
     {
         let length = bmp_length(string);
         if self.cuts(length, FULL_OCTETS) {
@@ -115,7 +115,7 @@ impl Writer {
     // Writes a text in UTF-8.
     #[inline(always)]
     fn write_text(&mut self, own: Tag, string: &str) -> ASN1Result<()>
-        ensures { Wrote (utf8_form (tag_or self.old.tag own) self.old.mode (chars string.now)) self.old self.new result }
+        ensures { Wrote (utf8_encoding (tag_or self.old.tag own) self.old.mode (chars string.now)) self.old self.new result }
     {
         self.write_octets(own, string.as_bytes())
     }
@@ -133,14 +133,14 @@ impl Writer {
     // Writes a text in UTF-16, which is made apart, in segments.
     #[cold]
     fn write_cut_bmp(&mut self, string: &str, length: usize) -> ASN1Result<()>
-        ensures { Wrote (bmp_form (tag_or self.old.tag bmp_tag) self.old.mode (chars string.now)) self.old self.new result }
+        ensures { Wrote (bmp_encoding (tag_or self.old.tag bmp_tag) self.old.mode (chars string.now)) self.old self.new result }
     {
-        if let Some(error) = self.kept() {
+        if let Some(error) = self.failed() {
             return Err(error);
         }
         match bmp_bytes(self.alloc(), string, length) {
             Ok(octets) => self.write_octets(TAG_BMPSTRING, octets.as_slice()),
-            Err(_) => Err(self.lack_memory()),
+            Err(_) => Err(self.fail_out_of_memory()),
         }
     }
 
@@ -151,11 +151,11 @@ impl Writer {
         requires least { 8 * length bytes.now < len + 8 }
         ensures { Wrote (canonical_element self.old.mode (tag_or self.old.tag bits_tag) Primitive (bits_contents (record { bytes = bytes.now; count = len }))) self.old self.new result }
     {
-        let Some((last, front)) = bytes.split_last() else {
+        let Some((last, prefix)) = bytes.split_last() else {
             return self.write_contents(TAG_BITSTRING, &[0]);
         };
         let unused = unused_bits(len);
-        self.write_bits(unused, front, *last >> unused << unused)
+        self.write_bits(unused, prefix, *last >> unused << unused)
     }
 
     // Writes an element with these contents.
@@ -173,7 +173,7 @@ impl Writer {
     pub(crate) fn write_header(&mut self, own: Tag, length: usize) -> ASN1Result<()>
         ensures { Wrote (header_bytes Primitive (record { tag = tag_or self.old.tag own; length = length })) self.old self.new result }
     {
-        if let Some(error) = self.kept() {
+        if let Some(error) = self.failed() {
             return Err(error);
         }
         let tag = self.take_tag(own);
@@ -182,20 +182,20 @@ impl Writer {
 
     // Writes a BIT STRING, whose contents are the count of unused bits, and the bytes.
     #[tactic(auto, unfolding(yasna_base::specs::Canonical::canonical_element, yasna_base::specs::Canonical::definite_element))]
-    fn write_bits(&mut self, unused: u8, front: &[u8], last: u8) -> ASN1Result<()>
-        ensures { Wrote (canonical_element self.old.mode (tag_or self.old.tag bits_tag) Primitive (unused ∷ (front.now ++ last ∷ []))) self.old self.new result }
+    fn write_bits(&mut self, unused: u8, prefix: &[u8], last: u8) -> ASN1Result<()>
+        ensures { Wrote (canonical_element self.old.mode (tag_or self.old.tag bits_tag) Primitive (unused ∷ (prefix.now ++ last ∷ []))) self.old self.new result }
     {
-        self.write_header(TAG_BITSTRING, front.len() + 2)?;
-        self.append_bits(unused, front, last)
+        self.write_header(TAG_BITSTRING, prefix.len() + 2)?;
+        self.append_bits(unused, prefix, last)
     }
 
     // Appends the contents of a BIT STRING.
     #[inline(always)]
-    pub(crate) fn append_bits(&mut self, unused: u8, front: &[u8], last: u8) -> ASN1Result<()>
-        ensures { Appended (unused ∷ (front.now ++ last ∷ [])) self.old self.new result }
+    pub(crate) fn append_bits(&mut self, unused: u8, prefix: &[u8], last: u8) -> ASN1Result<()>
+        ensures { Appended (unused ∷ (prefix.now ++ last ∷ [])) self.old self.new result }
     {
         self.append(&[unused])?;
-        self.append(front)?;
+        self.append(prefix)?;
         self.append(&[last])
     }
 }

@@ -15,45 +15,45 @@ use yasna_base::{ASN1Error, Tag};
 impl Writer {
     /// Writes a constructed element of this tag, explicit tagging (X.690, 8.14): its contents are what the closure writes.
     ///
-    /// An implicit tag that waits stands in place of this one. Failures are those of `write_sequence`.
+    /// An implicit tag that waits is in place of this one. Failures are those of `write_sequence`.
     pub fn write_tagged<
         T: Drop,
         E: From<ASN1Error> + Drop,
         F: FnOnce(DERWriter<'_>) -> Result<T, E>,
     >(&mut self, tag: Tag, f: F) -> Result<T, E>
-        requires { self.old.kept ≡ None → FnOnceTakesAtMut F.FnOnce f (handed self.old) }
+        requires { self.old.failed ≡ None → FnOnceTakesAtMut F.FnOnce f (handed self.old) }
         ensures { Encloses F.FnOnce E.from_gives f (canonical_element self.old.mode (tag_or self.old.tag tag) Constructed) self.old self.new result }
     {
         let tag = match self.fresh_tag(tag) {
             Ok(tag) => tag,
             Err(error) => return Err(E::from(error)),
         };
-        let beginning = self.begin(tag);
+        let opened = self.begin(tag);
         let own = f(self);
-        self.end(beginning);
-        self.settle(own)
+        self.end(opened);
+        self.resolve(own)
     }
 
-    /// Lets this tag stand in place of that of the next element that the closure writes, implicit tagging (X.690, 8.14).
+    /// Lets this tag be in place of that of the next element that the closure writes, implicit tagging (X.690, 8.14).
     ///
-    /// An implicit tag that waits already stands in place of this one: the outermost wins. Nothing is written but what
-    /// the closure writes. A failure that is kept is answered, and the closure doesn't run. Else the closure's answer is
-    /// handed on, unless a write of it failed: then that failure is answered. Where the closure left fewer bytes than
-    /// there were, the failure is `Invalid`, and is kept.
+    /// An implicit tag that waits already is in place of this one: the outermost wins. Nothing is written but what
+    /// the closure writes. A sticky error is returned, and the closure doesn't run. Else the closure's answer is
+    /// passed on, unless a write of it failed: then that failure is returned. Where the closure left fewer bytes than
+    /// there were, the failure is `Invalid`, and is sticky.
     pub fn write_tagged_implicit<
         T: Drop,
         E: From<ASN1Error> + Drop,
         F: FnOnce(DERWriter<'_>) -> Result<T, E>,
     >(&mut self, tag: Tag, f: F) -> Result<T, E>
-        requires { self.old.kept ≡ None → FnOnceTakesAtMut F.FnOnce f (writing_under tag self.old) }
+        requires { self.old.failed ≡ None → FnOnceTakesAtMut F.FnOnce f (writing_under tag self.old) }
         ensures { WritesTagged F.FnOnce E.from_gives f tag self.old self.new result }
     {
-        if let Some(error) = self.kept() {
+        if let Some(error) = self.failed() {
             return Err(E::from(error));
         }
         let start = self.tag_next(tag);
         let own = f(self);
         self.end_tagging(start);
-        self.settle(own)
+        self.resolve(own)
     }
 }

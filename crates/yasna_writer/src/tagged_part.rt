@@ -27,7 +27,7 @@ impl AsSlice<u8> for TaggedPart {
 }
 
 impl TaggedPart {
-    // What parts of one tag go by: the bytes behind the first where the tag's number is 31 or more, and else nothing.
+    // What parts of one tag go by: the bytes after the first where the tag's number is 31 or more, and else nothing.
     fn tail(&self) -> &[u8]
         ensures { result.now ≡ (if nat_lt self.now.tag.tag_number 31 then [] else drop 1 self.now.bytes.items) }
     {

@@ -9,24 +9,24 @@
 //!
 //! The data is a protocol data unit.
 ghost use Rattle.std.specs.Prelude.{◌≡◌, refl};
-ghost use Rattle.yasna_notation.specs.Canonical.{standing_written};
-ghost use Rattle.yasna_notation.specs.Laws.{standing_keeps, element_filled};
+ghost use Rattle.yasna_notation.specs.Canonical.{represented_written};
+ghost use Rattle.yasna_notation.specs.Laws.{represented_lawful, element_non_empty};
 ghost use Rattle.yasna_notation.specs.Making.{in_sequence, part, exactly, in_bound};
-ghost use Rattle.yasna_notation.specs.Notation.{stands_for};
+ghost use Rattle.yasna_notation.specs.Notation.{represented_by};
 ghost use Rattle.yasna_notation.specs.Parts.{no_parts};
 ghost use Rattle.yasna_notation.specs.Writing.{no_part_written, part_written, sequence_written, bound_written};
-ghost use Rattle.yasna_notation.specs.contracts.simple.U64Notation.TheImpl.Laws.{keeps-law as count64};
+ghost use Rattle.yasna_notation.specs.contracts.simple.U64Notation.TheImpl.Laws.{lawful-law as count64};
 ghost use Rattle.yasna_notation.specs.contracts.canonical.U64CanonicalNotation.TheImpl.Laws.{written-law as count64_written};
-ghost use Rattle.yasna_notation.specs.contracts.strings.VecU8Notation.TheImpl.Laws.{keeps-law as octets};
+ghost use Rattle.yasna_notation.specs.contracts.strings.VecU8Notation.TheImpl.Laws.{lawful-law as octets};
 ghost use Rattle.yasna_notation.specs.contracts.canonical.VecU8CanonicalNotation.TheImpl.Laws.{written-law as octets_written};
-ghost use Rattle.snmp.specs.contracts.v1.pdus.PdusNotation.TheImpl.Laws.{keeps-law as pdus1};
+ghost use Rattle.snmp.specs.contracts.v1.pdus.PdusNotation.TheImpl.Laws.{lawful-law as pdus1};
 ghost use Rattle.snmp.specs.contracts.v1.pdus.PdusCanonicalNotation.TheImpl.Laws.{written-law as pdus1_written};
 
 use crate::v1::pdus::Pdus;
 use yasna::tags::TAG_SEQUENCE;
 use yasna::{ASN1Result, BERReader, DERWriter, Tag};
 use yasna_notation::{
-    Bounded, CanonicalNotation, Exactly, Message, Notation, Sequence, StandsFor, read_as,
+    Bounded, CanonicalNotation, Exactly, Message, Notation, Represents, Sequence, read_as,
 };
 
 type Version = Bounded<u64, Exactly<0>>;
@@ -44,7 +44,7 @@ pub struct SnmpMessage {
     pub data: Pdus,
 }
 
-impl StandsFor<Fields> for SnmpMessage {
+impl Represents<Fields> for SnmpMessage {
     ghost value_of = { λ v. (v.version, (v.community, (v.data, tt))) };
 
     fn from_value((version, (community, (data, ()))): Fields) -> SnmpMessage {
@@ -61,7 +61,7 @@ impl Notation for SnmpMessage {
 
     type Inner = ();
 
-    ghost means = { stands_for ⟦<SnmpMessage as StandsFor<Fields>>⟧.value_of ⟦<Sequence<Parts> as Notation>⟧.means };
+    ghost means = { represented_by ⟦<SnmpMessage as Represents<Fields>>⟧.value_of ⟦<Sequence<Parts> as Notation>⟧.means };
 
     fn has_tag(tag: Tag) -> bool {
         tag == TAG_SEQUENCE
@@ -78,19 +78,19 @@ impl Notation for SnmpMessage {
         )
     }
 
-    ghost keeps = { λ _. standing_keeps ⟦<SnmpMessage as StandsFor<Fields>>⟧.value_of (in_sequence
+    ghost lawful = { λ _. represented_lawful ⟦<SnmpMessage as Represents<Fields>>⟧.value_of (in_sequence
         (part (in_bound (exactly 0) (count64 refl)).own (part (octets refl).own
         (part (pdus1 refl).own no_parts)))) };
 
-    ghost filled = { λ u m v. element_filled _ _ _ _ };
+    ghost non_empty = { λ u m v. element_non_empty _ _ _ _ };
 }
 
 impl Message for SnmpMessage {
-    ghost told_apart = { refl };
+    ghost is_unambiguous = { refl };
 }
 
 impl CanonicalNotation for SnmpMessage {
-    ghost written = { λ _. standing_written ⟦<SnmpMessage as StandsFor<Fields>>⟧.value_of (sequence_written
+    ghost written = { λ _. represented_written ⟦<SnmpMessage as Represents<Fields>>⟧.value_of (sequence_written
         (part_written (bound_written (exactly 0) (count64_written refl)).own
         (part_written (octets_written refl).own (part_written (pdus1_written refl).own no_part_written)))) };
 }

@@ -17,24 +17,24 @@
 //! NetworkAddress ::= CHOICE { internet [APPLICATION 0] IMPLICIT OCTET STRING (SIZE (4)) }
 //! ```
 //!
-//! A number that 64 bits don't hold is refused.
+//! A number that 64 bits don't hold is rejected.
 ghost use Rattle.std.specs.Prelude.{◌≡◌, Some, refl};
 ghost use Rattle.std.proofs.Common.{arith};
-ghost use Rattle.yasna_notation.specs.Canonical.{standing_written, choice_written_as};
-ghost use Rattle.yasna_notation.specs.Laws.{standing_keeps};
-ghost use Rattle.yasna_notation.specs.Making.{alternative, alternative_filled, in_application, in_choice, exactly, octets_sized};
+ghost use Rattle.yasna_notation.specs.Canonical.{represented_written, choice_written_as};
+ghost use Rattle.yasna_notation.specs.Laws.{represented_lawful};
+ghost use Rattle.yasna_notation.specs.Making.{alternative, alternative_non_empty, in_application, in_choice, exactly, octets_sized};
 ghost use Rattle.yasna_notation.specs.Making.{application, tag_or};
-ghost use Rattle.yasna_notation.specs.Notation.{stands_for};
+ghost use Rattle.yasna_notation.specs.Notation.{represented_by};
 ghost use Rattle.yasna_notation.specs.Writing.{alternative_written, under_application, octets_sized_written};
-ghost use Rattle.yasna_notation.specs.contracts.simple.U32Notation.TheImpl.Laws.{keeps-law as count32, filled-law as count32_filled};
+ghost use Rattle.yasna_notation.specs.contracts.simple.U32Notation.TheImpl.Laws.{lawful-law as count32, non_empty-law as count32_non_empty};
 ghost use Rattle.yasna_notation.specs.contracts.canonical.U32CanonicalNotation.TheImpl.Laws.{written-law as count32_written};
-ghost use Rattle.yasna_notation.specs.contracts.simple.I64Notation.TheImpl.Laws.{keeps-law as int64, filled-law as int64_filled};
+ghost use Rattle.yasna_notation.specs.contracts.simple.I64Notation.TheImpl.Laws.{lawful-law as int64, non_empty-law as int64_non_empty};
 ghost use Rattle.yasna_notation.specs.contracts.canonical.I64CanonicalNotation.TheImpl.Laws.{written-law as int64_written};
-ghost use Rattle.yasna_notation.specs.contracts.simple.UnitNotation.TheImpl.Laws.{keeps-law as null, filled-law as null_filled};
+ghost use Rattle.yasna_notation.specs.contracts.simple.UnitNotation.TheImpl.Laws.{lawful-law as null, non_empty-law as null_non_empty};
 ghost use Rattle.yasna_notation.specs.contracts.canonical.UnitCanonicalNotation.TheImpl.Laws.{written-law as null_written};
-ghost use Rattle.yasna_notation.specs.contracts.strings.VecU8Notation.TheImpl.Laws.{keeps-law as octets, filled-law as octets_filled};
+ghost use Rattle.yasna_notation.specs.contracts.strings.VecU8Notation.TheImpl.Laws.{lawful-law as octets, non_empty-law as octets_non_empty};
 ghost use Rattle.yasna_notation.specs.contracts.canonical.VecU8CanonicalNotation.TheImpl.Laws.{written-law as octets_written};
-ghost use Rattle.yasna_notation.specs.contracts.simple.ObjectIdentifierNotation.TheImpl.Laws.{keeps-law as oid, filled-law as oid_filled};
+ghost use Rattle.yasna_notation.specs.contracts.simple.ObjectIdentifierNotation.TheImpl.Laws.{lawful-law as oid, non_empty-law as oid_non_empty};
 ghost use Rattle.yasna_notation.specs.contracts.canonical.ObjectIdentifierCanonicalNotation.TheImpl.Laws.{written-law as oid_written};
 ghost use Rattle.yasna_notation.specs.declared.choices.Either.TheVariants.{First, Second};
 ghost use Rattle.snmp.specs.declared.v1.object_syntax.ObjectSyntax.TheVariants.{Number, String, Object, Empty, Address, Counter, Gauge, Ticks, Arbitrary};
@@ -44,7 +44,7 @@ use yasna::{ASN1Result, BERReader, DERWriter, Tag};
 use yasna_notation::Either::{First, Second};
 use yasna_notation::{
     Alternatives, Application, Bounded, CanonicalNotation, Choice, Either, Implicit, Message,
-    Notation, Size, StandsFor, read_as,
+    Notation, Represents, Size, read_as,
 };
 
 type NetworkAddress = Implicit<Application<0>, Bounded<Vec<u8>, Size<4>>>;
@@ -99,7 +99,7 @@ pub enum ObjectSyntax {
     Arbitrary(Vec<u8>),
 }
 
-impl StandsFor<Sides> for ObjectSyntax {
+impl Represents<Sides> for ObjectSyntax {
     ghost value_of = { λ v. elim v [
       | Number x ↦ First x
       | String x ↦ Second (First x)
@@ -134,7 +134,7 @@ impl Notation for ObjectSyntax {
 
     type Inner = ();
 
-    ghost means = { stands_for ⟦<ObjectSyntax as StandsFor<Sides>>⟧.value_of ⟦<Choice<Types> as Notation>⟧.means };
+    ghost means = { represented_by ⟦<ObjectSyntax as Represents<Sides>>⟧.value_of ⟦<Choice<Types> as Notation>⟧.means };
 
     fn has_tag(tag: Tag) -> bool {
         <Types as Alternatives>::has_tag(tag)
@@ -158,25 +158,25 @@ impl Notation for ObjectSyntax {
         }
     }
 
-    ghost keeps = { λ _. standing_keeps ⟦<ObjectSyntax as StandsFor<Sides>>⟧.value_of (in_choice ⟦<Choice<Types> as Notation>⟧.means.form_under
+    ghost lawful = { λ _. represented_lawful ⟦<ObjectSyntax as Represents<Sides>>⟧.value_of (in_choice ⟦<Choice<Types> as Notation>⟧.means.encoding_under
         (alternative (int64 refl).own refl (alternative (octets refl).own refl (alternative (oid refl).own refl (alternative (null refl).own refl
         (alternative (in_application 0 (omega arith) (octets_sized (exactly 4) (octets refl))).own refl
         (alternative (in_application 1 (omega arith) (count32 refl)).own refl (alternative (in_application 2 (omega arith) (count32 refl)).own refl
         (alternative (in_application 3 (omega arith) (count32 refl)).own refl (in_application 4 (omega arith) (octets refl)).own))))))))) };
 
-    ghost filled = { λ u m v.
-        alternative_filled (int64_filled u) (alternative_filled (octets_filled u) (alternative_filled (oid_filled u) (alternative_filled (null_filled u)
-        (alternative_filled (octets_filled (Some (tag_or u (application 0)))) (alternative_filled (count32_filled (Some (tag_or u (application 1))))
-        (alternative_filled (count32_filled (Some (tag_or u (application 2))))
-        (alternative_filled (count32_filled (Some (tag_or u (application 3)))) (octets_filled (Some (tag_or u (application 4))))))))))) m (⟦<ObjectSyntax as StandsFor<Sides>>⟧.value_of v) };
+    ghost non_empty = { λ u m v.
+        alternative_non_empty (int64_non_empty u) (alternative_non_empty (octets_non_empty u) (alternative_non_empty (oid_non_empty u) (alternative_non_empty (null_non_empty u)
+        (alternative_non_empty (octets_non_empty (Some (tag_or u (application 0)))) (alternative_non_empty (count32_non_empty (Some (tag_or u (application 1))))
+        (alternative_non_empty (count32_non_empty (Some (tag_or u (application 2))))
+        (alternative_non_empty (count32_non_empty (Some (tag_or u (application 3)))) (octets_non_empty (Some (tag_or u (application 4))))))))))) m (⟦<ObjectSyntax as Represents<Sides>>⟧.value_of v) };
 }
 
 impl Message for ObjectSyntax {
-    ghost told_apart = { refl };
+    ghost is_unambiguous = { refl };
 }
 
 impl CanonicalNotation for ObjectSyntax {
-    ghost written = { λ _. standing_written ⟦<ObjectSyntax as StandsFor<Sides>>⟧.value_of (choice_written_as ⟦<Choice<Types> as Notation>⟧.means.form_under
+    ghost written = { λ _. represented_written ⟦<ObjectSyntax as Represents<Sides>>⟧.value_of (choice_written_as ⟦<Choice<Types> as Notation>⟧.means.encoding_under
         (alternative_written (int64_written refl).own (alternative_written (octets_written refl).own (alternative_written (oid_written refl).own
         (alternative_written (null_written refl).own
         (alternative_written (under_application 0 (omega arith) (octets_sized_written (exactly 4) (octets_written refl))).own

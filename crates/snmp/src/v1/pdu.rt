@@ -10,22 +10,22 @@
 //! VarBindList ::= SEQUENCE OF VarBind
 //! ```
 ghost use Rattle.std.specs.Prelude.{◌≡◌, refl};
-ghost use Rattle.yasna_notation.specs.Canonical.{standing_written};
-ghost use Rattle.yasna_notation.specs.Laws.{standing_keeps, element_filled};
+ghost use Rattle.yasna_notation.specs.Canonical.{represented_written};
+ghost use Rattle.yasna_notation.specs.Laws.{represented_lawful, element_non_empty};
 ghost use Rattle.yasna_notation.specs.Making.{in_sequence, in_sequence_of, part};
-ghost use Rattle.yasna_notation.specs.Notation.{stands_for};
+ghost use Rattle.yasna_notation.specs.Notation.{represented_by};
 ghost use Rattle.yasna_notation.specs.Parts.{no_parts};
 ghost use Rattle.yasna_notation.specs.Writing.{no_part_written, part_written, sequence_of_written, sequence_written};
-ghost use Rattle.snmp.specs.contracts.v1.var_bind.VarBindNotation.TheImpl.Laws.{keeps-law as binding1};
+ghost use Rattle.snmp.specs.contracts.v1.var_bind.VarBindNotation.TheImpl.Laws.{lawful-law as binding1};
 ghost use Rattle.snmp.specs.contracts.v1.var_bind.VarBindCanonicalNotation.TheImpl.Laws.{written-law as binding1_written};
-ghost use Rattle.yasna_notation.specs.contracts.simple.I64Notation.TheImpl.Laws.{keeps-law as int64};
+ghost use Rattle.yasna_notation.specs.contracts.simple.I64Notation.TheImpl.Laws.{lawful-law as int64};
 ghost use Rattle.yasna_notation.specs.contracts.canonical.I64CanonicalNotation.TheImpl.Laws.{written-law as int64_written};
 
 use crate::v1::var_bind::VarBind;
 use yasna::tags::TAG_SEQUENCE;
 use yasna::{ASN1Result, BERReader, DERWriter, Tag};
 use yasna_notation::{
-    CanonicalNotation, Message, Notation, Sequence, SequenceOf, StandsFor, read_as,
+    CanonicalNotation, Message, Notation, Represents, Sequence, SequenceOf, read_as,
 };
 
 type VarBindList = SequenceOf<VarBind>;
@@ -40,12 +40,12 @@ pub struct Pdu {
     pub request_id: i64,
     /// 0 where there was no error.
     pub error_status: i64,
-    /// Which variable is at fault, from 1; 0 where none is.
+    /// Which variable is at error, from 1; 0 where none is.
     pub error_index: i64,
     pub variable_bindings: Vec<VarBind>,
 }
 
-impl StandsFor<Fields> for Pdu {
+impl Represents<Fields> for Pdu {
     ghost value_of = { λ v. (v.request_id, (v.error_status, (v.error_index, (v.variable_bindings, tt)))) };
 
     fn from_value(
@@ -65,7 +65,7 @@ impl Notation for Pdu {
 
     type Inner = ();
 
-    ghost means = { stands_for ⟦<Pdu as StandsFor<Fields>>⟧.value_of ⟦<Sequence<Parts> as Notation>⟧.means };
+    ghost means = { represented_by ⟦<Pdu as Represents<Fields>>⟧.value_of ⟦<Sequence<Parts> as Notation>⟧.means };
 
     fn has_tag(tag: Tag) -> bool {
         tag == TAG_SEQUENCE
@@ -88,18 +88,18 @@ impl Notation for Pdu {
         )
     }
 
-    ghost keeps = { λ _. standing_keeps ⟦<Pdu as StandsFor<Fields>>⟧.value_of (in_sequence
+    ghost lawful = { λ _. represented_lawful ⟦<Pdu as Represents<Fields>>⟧.value_of (in_sequence
         (part (int64 refl).own (part (int64 refl).own (part (int64 refl).own (part (in_sequence_of (binding1 refl).own).own no_parts))))) };
 
-    ghost filled = { λ u m v. element_filled _ _ _ _ };
+    ghost non_empty = { λ u m v. element_non_empty _ _ _ _ };
 }
 
 impl Message for Pdu {
-    ghost told_apart = { refl };
+    ghost is_unambiguous = { refl };
 }
 
 impl CanonicalNotation for Pdu {
-    ghost written = { λ _. standing_written ⟦<Pdu as StandsFor<Fields>>⟧.value_of (sequence_written
+    ghost written = { λ _. represented_written ⟦<Pdu as Represents<Fields>>⟧.value_of (sequence_written
         (part_written (int64_written refl).own (part_written (int64_written refl).own (part_written (int64_written refl).own
         (part_written (sequence_of_written (binding1_written refl).own).own no_part_written))))) };
 }

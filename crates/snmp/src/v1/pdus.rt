@@ -10,15 +10,15 @@
 //! ```
 ghost use Rattle.std.specs.Prelude.{◌≡◌, Some, refl};
 ghost use Rattle.std.proofs.Common.{arith};
-ghost use Rattle.yasna_notation.specs.Canonical.{standing_written, choice_written_as};
-ghost use Rattle.yasna_notation.specs.Laws.{standing_keeps};
-ghost use Rattle.yasna_notation.specs.Making.{alternative, alternative_filled, in_choice, in_implicit};
+ghost use Rattle.yasna_notation.specs.Canonical.{represented_written, choice_written_as};
+ghost use Rattle.yasna_notation.specs.Laws.{represented_lawful};
+ghost use Rattle.yasna_notation.specs.Making.{alternative, alternative_non_empty, in_choice, in_implicit};
 ghost use Rattle.yasna_notation.specs.Making.{context, tag_or};
-ghost use Rattle.yasna_notation.specs.Notation.{stands_for};
+ghost use Rattle.yasna_notation.specs.Notation.{represented_by};
 ghost use Rattle.yasna_notation.specs.Writing.{alternative_written, under_context};
-ghost use Rattle.snmp.specs.contracts.v1.pdu.PduNotation.TheImpl.Laws.{keeps-law as pdu1, filled-law as pdu1_filled};
+ghost use Rattle.snmp.specs.contracts.v1.pdu.PduNotation.TheImpl.Laws.{lawful-law as pdu1, non_empty-law as pdu1_non_empty};
 ghost use Rattle.snmp.specs.contracts.v1.pdu.PduCanonicalNotation.TheImpl.Laws.{written-law as pdu1_written};
-ghost use Rattle.snmp.specs.contracts.v1.trap_pdu.TrapPduNotation.TheImpl.Laws.{keeps-law as trap, filled-law as trap_filled};
+ghost use Rattle.snmp.specs.contracts.v1.trap_pdu.TrapPduNotation.TheImpl.Laws.{lawful-law as trap, non_empty-law as trap_non_empty};
 ghost use Rattle.snmp.specs.contracts.v1.trap_pdu.TrapPduCanonicalNotation.TheImpl.Laws.{written-law as trap_written};
 ghost use Rattle.yasna_notation.specs.declared.choices.Either.TheVariants.{First, Second};
 ghost use Rattle.snmp.specs.declared.v1.pdus.Pdus.TheVariants.{GetRequest, GetNextRequest, GetResponse, SetRequest, Trap};
@@ -29,7 +29,7 @@ use yasna::{ASN1Result, BERReader, DERWriter, Tag};
 use yasna_notation::Either::{First, Second};
 use yasna_notation::{
     Alternatives, CanonicalNotation, Choice, Context, Either, Implicit, Message, Notation,
-    StandsFor, read_as,
+    Represents, read_as,
 };
 
 type GetRequestPdu = Implicit<Context<0>, Pdu>;
@@ -62,7 +62,7 @@ pub enum Pdus {
     Trap(TrapPdu),
 }
 
-impl StandsFor<Sides> for Pdus {
+impl Represents<Sides> for Pdus {
     ghost value_of = { λ v. elim v [
       | GetRequest x ↦ First x
       | GetNextRequest x ↦ Second (First x)
@@ -87,7 +87,7 @@ impl Notation for Pdus {
 
     type Inner = ();
 
-    ghost means = { stands_for ⟦<Pdus as StandsFor<Sides>>⟧.value_of ⟦<Choice<Types> as Notation>⟧.means };
+    ghost means = { represented_by ⟦<Pdus as Represents<Sides>>⟧.value_of ⟦<Choice<Types> as Notation>⟧.means };
 
     fn has_tag(tag: Tag) -> bool {
         <Types as Alternatives>::has_tag(tag)
@@ -107,23 +107,23 @@ impl Notation for Pdus {
         }
     }
 
-    ghost keeps = { λ _. standing_keeps ⟦<Pdus as StandsFor<Sides>>⟧.value_of (in_choice ⟦<Choice<Types> as Notation>⟧.means.form_under
+    ghost lawful = { λ _. represented_lawful ⟦<Pdus as Represents<Sides>>⟧.value_of (in_choice ⟦<Choice<Types> as Notation>⟧.means.encoding_under
         (alternative (in_implicit 0 (omega arith) (pdu1 refl)).own refl (alternative (in_implicit 1 (omega arith) (pdu1 refl)).own refl
         (alternative (in_implicit 2 (omega arith) (pdu1 refl)).own refl
         (alternative (in_implicit 3 (omega arith) (pdu1 refl)).own refl (in_implicit 4 (omega arith) (trap refl)).own))))) };
 
-    ghost filled = { λ u m v.
-        alternative_filled (pdu1_filled (Some (tag_or u (context 0)))) (alternative_filled (pdu1_filled (Some (tag_or u (context 1))))
-        (alternative_filled (pdu1_filled (Some (tag_or u (context 2))))
-        (alternative_filled (pdu1_filled (Some (tag_or u (context 3)))) (trap_filled (Some (tag_or u (context 4))))))) m (⟦<Pdus as StandsFor<Sides>>⟧.value_of v) };
+    ghost non_empty = { λ u m v.
+        alternative_non_empty (pdu1_non_empty (Some (tag_or u (context 0)))) (alternative_non_empty (pdu1_non_empty (Some (tag_or u (context 1))))
+        (alternative_non_empty (pdu1_non_empty (Some (tag_or u (context 2))))
+        (alternative_non_empty (pdu1_non_empty (Some (tag_or u (context 3)))) (trap_non_empty (Some (tag_or u (context 4))))))) m (⟦<Pdus as Represents<Sides>>⟧.value_of v) };
 }
 
 impl Message for Pdus {
-    ghost told_apart = { refl };
+    ghost is_unambiguous = { refl };
 }
 
 impl CanonicalNotation for Pdus {
-    ghost written = { λ _. standing_written ⟦<Pdus as StandsFor<Sides>>⟧.value_of (choice_written_as ⟦<Choice<Types> as Notation>⟧.means.form_under
+    ghost written = { λ _. represented_written ⟦<Pdus as Represents<Sides>>⟧.value_of (choice_written_as ⟦<Choice<Types> as Notation>⟧.means.encoding_under
         (alternative_written (under_context 0 (omega arith) (pdu1_written refl)).own
         (alternative_written (under_context 1 (omega arith) (pdu1_written refl)).own
         (alternative_written (under_context 2 (omega arith) (pdu1_written refl)).own

@@ -11,21 +11,21 @@
 //! ```
 ghost use Rattle.std.specs.Prelude.{◌≡◌, refl};
 ghost use Rattle.std.proofs.Common.{arith};
-ghost use Rattle.yasna_notation.specs.Canonical.{standing_written};
-ghost use Rattle.yasna_notation.specs.Laws.{standing_keeps, element_filled};
+ghost use Rattle.yasna_notation.specs.Canonical.{represented_written};
+ghost use Rattle.yasna_notation.specs.Laws.{represented_lawful, element_non_empty};
 ghost use Rattle.yasna_notation.specs.Making.{in_application, in_sequence, in_sequence_of, part, exactly, octets_sized};
-ghost use Rattle.yasna_notation.specs.Notation.{stands_for};
+ghost use Rattle.yasna_notation.specs.Notation.{represented_by};
 ghost use Rattle.yasna_notation.specs.Parts.{no_parts};
 ghost use Rattle.yasna_notation.specs.Writing.{no_part_written, part_written, sequence_of_written, sequence_written, under_application, octets_sized_written};
-ghost use Rattle.snmp.specs.contracts.v1.var_bind.VarBindNotation.TheImpl.Laws.{keeps-law as binding1};
+ghost use Rattle.snmp.specs.contracts.v1.var_bind.VarBindNotation.TheImpl.Laws.{lawful-law as binding1};
 ghost use Rattle.snmp.specs.contracts.v1.var_bind.VarBindCanonicalNotation.TheImpl.Laws.{written-law as binding1_written};
-ghost use Rattle.yasna_notation.specs.contracts.simple.U32Notation.TheImpl.Laws.{keeps-law as count32};
+ghost use Rattle.yasna_notation.specs.contracts.simple.U32Notation.TheImpl.Laws.{lawful-law as count32};
 ghost use Rattle.yasna_notation.specs.contracts.canonical.U32CanonicalNotation.TheImpl.Laws.{written-law as count32_written};
-ghost use Rattle.yasna_notation.specs.contracts.simple.I64Notation.TheImpl.Laws.{keeps-law as int64};
+ghost use Rattle.yasna_notation.specs.contracts.simple.I64Notation.TheImpl.Laws.{lawful-law as int64};
 ghost use Rattle.yasna_notation.specs.contracts.canonical.I64CanonicalNotation.TheImpl.Laws.{written-law as int64_written};
-ghost use Rattle.yasna_notation.specs.contracts.strings.VecU8Notation.TheImpl.Laws.{keeps-law as octets};
+ghost use Rattle.yasna_notation.specs.contracts.strings.VecU8Notation.TheImpl.Laws.{lawful-law as octets};
 ghost use Rattle.yasna_notation.specs.contracts.canonical.VecU8CanonicalNotation.TheImpl.Laws.{written-law as octets_written};
-ghost use Rattle.yasna_notation.specs.contracts.simple.ObjectIdentifierNotation.TheImpl.Laws.{keeps-law as oid};
+ghost use Rattle.yasna_notation.specs.contracts.simple.ObjectIdentifierNotation.TheImpl.Laws.{lawful-law as oid};
 ghost use Rattle.yasna_notation.specs.contracts.canonical.ObjectIdentifierCanonicalNotation.TheImpl.Laws.{written-law as oid_written};
 
 use crate::v1::var_bind::VarBind;
@@ -33,8 +33,8 @@ use yasna::models::ObjectIdentifier;
 use yasna::tags::TAG_SEQUENCE;
 use yasna::{ASN1Result, BERReader, DERWriter, Tag};
 use yasna_notation::{
-    Application, Bounded, CanonicalNotation, Implicit, Message, Notation, Sequence, SequenceOf,
-    Size, StandsFor, read_as,
+    Application, Bounded, CanonicalNotation, Implicit, Message, Notation, Represents, Sequence,
+    SequenceOf, Size, read_as,
 };
 
 type NetworkAddress = Implicit<Application<0>, Bounded<Vec<u8>, Size<4>>>;
@@ -66,7 +66,7 @@ pub struct TrapPdu {
     pub variable_bindings: Vec<VarBind>,
 }
 
-impl StandsFor<Fields> for TrapPdu {
+impl Represents<Fields> for TrapPdu {
     ghost value_of = { λ v. (v.enterprise, (v.agent_addr, (v.generic_trap, (v.specific_trap, (v.time_stamp, (v.variable_bindings, tt)))))) };
 
     fn from_value(
@@ -91,7 +91,7 @@ impl Notation for TrapPdu {
 
     type Inner = ();
 
-    ghost means = { stands_for ⟦<TrapPdu as StandsFor<Fields>>⟧.value_of ⟦<Sequence<Parts> as Notation>⟧.means };
+    ghost means = { represented_by ⟦<TrapPdu as Represents<Fields>>⟧.value_of ⟦<Sequence<Parts> as Notation>⟧.means };
 
     fn has_tag(tag: Tag) -> bool {
         tag == TAG_SEQUENCE
@@ -115,21 +115,21 @@ impl Notation for TrapPdu {
         )
     }
 
-    ghost keeps = { λ _. standing_keeps ⟦<TrapPdu as StandsFor<Fields>>⟧.value_of (in_sequence
+    ghost lawful = { λ _. represented_lawful ⟦<TrapPdu as Represents<Fields>>⟧.value_of (in_sequence
         (part (oid refl).own
         (part (in_application 0 (omega arith) (octets_sized (exactly 4) (octets refl))).own
         (part (int64 refl).own (part (int64 refl).own (part (in_application 3 (omega arith) (count32 refl)).own
         (part (in_sequence_of (binding1 refl).own).own no_parts))))))) };
 
-    ghost filled = { λ u m v. element_filled _ _ _ _ };
+    ghost non_empty = { λ u m v. element_non_empty _ _ _ _ };
 }
 
 impl Message for TrapPdu {
-    ghost told_apart = { refl };
+    ghost is_unambiguous = { refl };
 }
 
 impl CanonicalNotation for TrapPdu {
-    ghost written = { λ _. standing_written ⟦<TrapPdu as StandsFor<Fields>>⟧.value_of (sequence_written
+    ghost written = { λ _. represented_written ⟦<TrapPdu as Represents<Fields>>⟧.value_of (sequence_written
         (part_written (oid_written refl).own
         (part_written (under_application 0 (omega arith) (octets_sized_written (exactly 4) (octets_written refl))).own
         (part_written (int64_written refl).own (part_written (int64_written refl).own

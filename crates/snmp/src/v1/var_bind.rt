@@ -6,22 +6,22 @@
 //! ObjectName ::= OBJECT IDENTIFIER
 //! ```
 ghost use Rattle.std.specs.Prelude.{◌≡◌, refl};
-ghost use Rattle.yasna_notation.specs.Canonical.{standing_written};
-ghost use Rattle.yasna_notation.specs.Laws.{standing_keeps, element_filled};
+ghost use Rattle.yasna_notation.specs.Canonical.{represented_written};
+ghost use Rattle.yasna_notation.specs.Laws.{represented_lawful, element_non_empty};
 ghost use Rattle.yasna_notation.specs.Making.{in_sequence, part};
-ghost use Rattle.yasna_notation.specs.Notation.{stands_for};
+ghost use Rattle.yasna_notation.specs.Notation.{represented_by};
 ghost use Rattle.yasna_notation.specs.Parts.{no_parts};
 ghost use Rattle.yasna_notation.specs.Writing.{no_part_written, part_written, sequence_written};
-ghost use Rattle.snmp.specs.contracts.v1.object_syntax.ObjectSyntaxNotation.TheImpl.Laws.{keeps-law as object_syntax};
+ghost use Rattle.snmp.specs.contracts.v1.object_syntax.ObjectSyntaxNotation.TheImpl.Laws.{lawful-law as object_syntax};
 ghost use Rattle.snmp.specs.contracts.v1.object_syntax.ObjectSyntaxCanonicalNotation.TheImpl.Laws.{written-law as object_syntax_written};
-ghost use Rattle.yasna_notation.specs.contracts.simple.ObjectIdentifierNotation.TheImpl.Laws.{keeps-law as oid};
+ghost use Rattle.yasna_notation.specs.contracts.simple.ObjectIdentifierNotation.TheImpl.Laws.{lawful-law as oid};
 ghost use Rattle.yasna_notation.specs.contracts.canonical.ObjectIdentifierCanonicalNotation.TheImpl.Laws.{written-law as oid_written};
 
 use crate::v1::object_syntax::ObjectSyntax;
 use yasna::models::ObjectIdentifier;
 use yasna::tags::TAG_SEQUENCE;
 use yasna::{ASN1Result, BERReader, DERWriter, Tag};
-use yasna_notation::{CanonicalNotation, Message, Notation, Sequence, StandsFor, read_as};
+use yasna_notation::{CanonicalNotation, Message, Notation, Represents, Sequence, read_as};
 
 type Parts = (ObjectIdentifier, (ObjectSyntax, ()));
 
@@ -34,7 +34,7 @@ pub struct VarBind {
     pub value: ObjectSyntax,
 }
 
-impl StandsFor<Fields> for VarBind {
+impl Represents<Fields> for VarBind {
     ghost value_of = { λ v. (v.name, (v.value, tt)) };
 
     fn from_value((name, (value, ())): Fields) -> VarBind {
@@ -47,7 +47,7 @@ impl Notation for VarBind {
 
     type Inner = ();
 
-    ghost means = { stands_for ⟦<VarBind as StandsFor<Fields>>⟧.value_of ⟦<Sequence<Parts> as Notation>⟧.means };
+    ghost means = { represented_by ⟦<VarBind as Represents<Fields>>⟧.value_of ⟦<Sequence<Parts> as Notation>⟧.means };
 
     fn has_tag(tag: Tag) -> bool {
         tag == TAG_SEQUENCE
@@ -61,17 +61,17 @@ impl Notation for VarBind {
         Sequence::<Parts>::write_fields((&value.name, (&value.value, ())), writer)
     }
 
-    ghost keeps = { λ _. standing_keeps ⟦<VarBind as StandsFor<Fields>>⟧.value_of (in_sequence
+    ghost lawful = { λ _. represented_lawful ⟦<VarBind as Represents<Fields>>⟧.value_of (in_sequence
         (part (oid refl).own (part (object_syntax refl).own no_parts))) };
 
-    ghost filled = { λ u m v. element_filled _ _ _ _ };
+    ghost non_empty = { λ u m v. element_non_empty _ _ _ _ };
 }
 
 impl Message for VarBind {
-    ghost told_apart = { refl };
+    ghost is_unambiguous = { refl };
 }
 
 impl CanonicalNotation for VarBind {
-    ghost written = { λ _. standing_written ⟦<VarBind as StandsFor<Fields>>⟧.value_of (sequence_written
+    ghost written = { λ _. represented_written ⟦<VarBind as Represents<Fields>>⟧.value_of (sequence_written
         (part_written (oid_written refl).own (part_written (object_syntax_written refl).own no_part_written))) };
 }

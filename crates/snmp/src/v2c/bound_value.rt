@@ -14,17 +14,17 @@
 //! ```
 ghost use Rattle.std.specs.Prelude.{◌≡◌, Some, refl};
 ghost use Rattle.std.proofs.Common.{arith};
-ghost use Rattle.yasna_notation.specs.Canonical.{standing_written, choice_written_as};
-ghost use Rattle.yasna_notation.specs.Laws.{standing_keeps};
-ghost use Rattle.yasna_notation.specs.Making.{alternative, alternative_filled, in_choice, in_implicit};
+ghost use Rattle.yasna_notation.specs.Canonical.{represented_written, choice_written_as};
+ghost use Rattle.yasna_notation.specs.Laws.{represented_lawful};
+ghost use Rattle.yasna_notation.specs.Making.{alternative, alternative_non_empty, in_choice, in_implicit};
 ghost use Rattle.yasna_notation.specs.Making.{context, tag_or};
-ghost use Rattle.yasna_notation.specs.Notation.{stands_for};
+ghost use Rattle.yasna_notation.specs.Notation.{represented_by};
 ghost use Rattle.yasna_notation.specs.Writing.{alternative_written, under_context};
-ghost use Rattle.snmp.specs.contracts.application_syntax.ApplicationSyntaxNotation.TheImpl.Laws.{keeps-law as application_wide, filled-law as application_wide_filled};
+ghost use Rattle.snmp.specs.contracts.application_syntax.ApplicationSyntaxNotation.TheImpl.Laws.{lawful-law as application_wide, non_empty-law as application_wide_non_empty};
 ghost use Rattle.snmp.specs.contracts.application_syntax.ApplicationSyntaxCanonicalNotation.TheImpl.Laws.{written-law as application_wide_written};
-ghost use Rattle.yasna_notation.specs.contracts.simple.UnitNotation.TheImpl.Laws.{keeps-law as null, filled-law as null_filled};
+ghost use Rattle.yasna_notation.specs.contracts.simple.UnitNotation.TheImpl.Laws.{lawful-law as null, non_empty-law as null_non_empty};
 ghost use Rattle.yasna_notation.specs.contracts.canonical.UnitCanonicalNotation.TheImpl.Laws.{written-law as null_written};
-ghost use Rattle.snmp.specs.contracts.simple_syntax.SimpleSyntaxNotation.TheImpl.Laws.{keeps-law as simple, filled-law as simple_filled};
+ghost use Rattle.snmp.specs.contracts.simple_syntax.SimpleSyntaxNotation.TheImpl.Laws.{lawful-law as simple, non_empty-law as simple_non_empty};
 ghost use Rattle.snmp.specs.contracts.simple_syntax.SimpleSyntaxCanonicalNotation.TheImpl.Laws.{written-law as simple_written};
 ghost use Rattle.yasna_notation.specs.declared.choices.Either.TheVariants.{First, Second};
 ghost use Rattle.snmp.specs.declared.v2c.bound_value.BoundValue.TheVariants.{Simple, ApplicationWide, Unspecified, NoSuchObject, NoSuchInstance, EndOfMibView};
@@ -35,7 +35,7 @@ use yasna::{ASN1Result, BERReader, DERWriter, Tag};
 use yasna_notation::Either::{First, Second};
 use yasna_notation::{
     Alternatives, CanonicalNotation, Choice, Context, Either, Implicit, Message, Notation,
-    StandsFor, read_as,
+    Represents, read_as,
 };
 
 type NoSuchObject = Implicit<Context<0>, ()>;
@@ -69,7 +69,7 @@ pub enum BoundValue {
     EndOfMibView,
 }
 
-impl StandsFor<Sides> for BoundValue {
+impl Represents<Sides> for BoundValue {
     ghost value_of = { λ v. elim v [
       | Simple x ↦ First x
       | ApplicationWide x ↦ Second (First x)
@@ -96,7 +96,7 @@ impl Notation for BoundValue {
 
     type Inner = ();
 
-    ghost means = { stands_for ⟦<BoundValue as StandsFor<Sides>>⟧.value_of ⟦<Choice<Types> as Notation>⟧.means };
+    ghost means = { represented_by ⟦<BoundValue as Represents<Sides>>⟧.value_of ⟦<Choice<Types> as Notation>⟧.means };
 
     fn has_tag(tag: Tag) -> bool {
         <Types as Alternatives>::has_tag(tag)
@@ -119,23 +119,23 @@ impl Notation for BoundValue {
         }
     }
 
-    ghost keeps = { λ _. standing_keeps ⟦<BoundValue as StandsFor<Sides>>⟧.value_of (in_choice ⟦<Choice<Types> as Notation>⟧.means.form_under
+    ghost lawful = { λ _. represented_lawful ⟦<BoundValue as Represents<Sides>>⟧.value_of (in_choice ⟦<Choice<Types> as Notation>⟧.means.encoding_under
         (alternative (simple refl).own refl (alternative (application_wide refl).own refl (alternative (null refl).own refl
         (alternative (in_implicit 0 (omega arith) (null refl)).own refl
         (alternative (in_implicit 1 (omega arith) (null refl)).own refl (in_implicit 2 (omega arith) (null refl)).own)))))) };
 
-    ghost filled = { λ u m v.
-        alternative_filled (simple_filled u) (alternative_filled (application_wide_filled u) (alternative_filled (null_filled u)
-        (alternative_filled (null_filled (Some (tag_or u (context 0))))
-        (alternative_filled (null_filled (Some (tag_or u (context 1)))) (null_filled (Some (tag_or u (context 2)))))))) m (⟦<BoundValue as StandsFor<Sides>>⟧.value_of v) };
+    ghost non_empty = { λ u m v.
+        alternative_non_empty (simple_non_empty u) (alternative_non_empty (application_wide_non_empty u) (alternative_non_empty (null_non_empty u)
+        (alternative_non_empty (null_non_empty (Some (tag_or u (context 0))))
+        (alternative_non_empty (null_non_empty (Some (tag_or u (context 1)))) (null_non_empty (Some (tag_or u (context 2)))))))) m (⟦<BoundValue as Represents<Sides>>⟧.value_of v) };
 }
 
 impl Message for BoundValue {
-    ghost told_apart = { refl };
+    ghost is_unambiguous = { refl };
 }
 
 impl CanonicalNotation for BoundValue {
-    ghost written = { λ _. standing_written ⟦<BoundValue as StandsFor<Sides>>⟧.value_of (choice_written_as ⟦<Choice<Types> as Notation>⟧.means.form_under
+    ghost written = { λ _. represented_written ⟦<BoundValue as Represents<Sides>>⟧.value_of (choice_written_as ⟦<Choice<Types> as Notation>⟧.means.encoding_under
         (alternative_written (simple_written refl).own (alternative_written (application_wide_written refl).own
         (alternative_written (null_written refl).own (alternative_written (under_context 0 (omega arith) (null_written refl)).own
         (alternative_written (under_context 1 (omega arith) (null_written refl)).own (under_context 2 (omega arith) (null_written refl)).own)))))) };

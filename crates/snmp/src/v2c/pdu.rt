@@ -14,25 +14,25 @@
 //!
 //! The bounds of `request-id` lack a digit in the RFC: programs send numbers of 32 bits, and these are taken.
 ghost use Rattle.std.specs.Prelude.{◌≡◌, nat_lt, not, refl};
-ghost use Rattle.yasna_notation.specs.Canonical.{standing_written};
-ghost use Rattle.yasna_notation.specs.Laws.{standing_keeps, element_filled};
+ghost use Rattle.yasna_notation.specs.Canonical.{represented_written};
+ghost use Rattle.yasna_notation.specs.Laws.{represented_lawful, element_non_empty};
 ghost use Rattle.yasna_notation.specs.Making.{at_most, in_sequence, in_sequence_of, part, list_sized};
-ghost use Rattle.yasna_notation.specs.Notation.{stands_for};
+ghost use Rattle.yasna_notation.specs.Notation.{represented_by};
 ghost use Rattle.yasna_notation.specs.Parts.{no_parts};
 ghost use Rattle.yasna_notation.specs.Writing.{at_most_written, no_part_written, part_written, sequence_of_written, sequence_written, list_sized_written};
-ghost use Rattle.snmp.specs.contracts.v2c.var_bind.VarBindNotation.TheImpl.Laws.{keeps-law as binding};
+ghost use Rattle.snmp.specs.contracts.v2c.var_bind.VarBindNotation.TheImpl.Laws.{lawful-law as binding};
 ghost use Rattle.snmp.specs.contracts.v2c.var_bind.VarBindCanonicalNotation.TheImpl.Laws.{written-law as binding_written};
-ghost use Rattle.yasna_notation.specs.contracts.simple.U64Notation.TheImpl.Laws.{keeps-law as count64};
+ghost use Rattle.yasna_notation.specs.contracts.simple.U64Notation.TheImpl.Laws.{lawful-law as count64};
 ghost use Rattle.yasna_notation.specs.contracts.canonical.U64CanonicalNotation.TheImpl.Laws.{written-law as count64_written};
-ghost use Rattle.yasna_notation.specs.contracts.simple.I32Notation.TheImpl.Laws.{keeps-law as int32};
+ghost use Rattle.yasna_notation.specs.contracts.simple.I32Notation.TheImpl.Laws.{lawful-law as int32};
 ghost use Rattle.yasna_notation.specs.contracts.canonical.I32CanonicalNotation.TheImpl.Laws.{written-law as int32_written};
 
 use crate::v2c::var_bind::VarBind;
 use yasna::tags::TAG_SEQUENCE;
 use yasna::{ASN1Result, BERReader, DERWriter, Tag};
 use yasna_notation::{
-    AtMost, Bounded, CanonicalNotation, Message, Notation, Sequence, SequenceOf, SizeAtMost,
-    StandsFor, read_as,
+    AtMost, Bounded, CanonicalNotation, Message, Notation, Represents, Sequence, SequenceOf,
+    SizeAtMost, read_as,
 };
 
 type Index = Bounded<u64, AtMost<2147483647>>;
@@ -49,13 +49,13 @@ pub struct Pdu {
     pub request_id: i32,
     /// 0 where there was no error.
     pub error_status: i32,
-    /// Which variable is at fault, from 1 to 2147483647; 0 where none is.
+    /// Which variable is at error, from 1 to 2147483647; 0 where none is.
     pub error_index: u64,
     /// 2147483647 at most.
     pub variable_bindings: Vec<VarBind>,
 }
 
-impl StandsFor<Fields> for Pdu {
+impl Represents<Fields> for Pdu {
     ghost value_of = { λ v. (v.request_id, (v.error_status, (v.error_index, (v.variable_bindings, tt)))) };
 
     fn from_value(
@@ -75,7 +75,7 @@ impl Notation for Pdu {
 
     type Inner = ();
 
-    ghost means = { stands_for ⟦<Pdu as StandsFor<Fields>>⟧.value_of ⟦<Sequence<Parts> as Notation>⟧.means };
+    ghost means = { represented_by ⟦<Pdu as Represents<Fields>>⟧.value_of ⟦<Sequence<Parts> as Notation>⟧.means };
 
     fn has_tag(tag: Tag) -> bool {
         tag == TAG_SEQUENCE
@@ -98,19 +98,19 @@ impl Notation for Pdu {
         )
     }
 
-    ghost keeps = { λ _. standing_keeps ⟦<Pdu as StandsFor<Fields>>⟧.value_of (in_sequence
+    ghost lawful = { λ _. represented_lawful ⟦<Pdu as Represents<Fields>>⟧.value_of (in_sequence
         (part (int32 refl).own (part (int32 refl).own (part (at_most 2147483647 (count64 refl)).own
         (part (list_sized (λ k. not (nat_lt 2147483647 k)) (in_sequence_of (binding refl).own)).own no_parts))))) };
 
-    ghost filled = { λ u m v. element_filled _ _ _ _ };
+    ghost non_empty = { λ u m v. element_non_empty _ _ _ _ };
 }
 
 impl Message for Pdu {
-    ghost told_apart = { refl };
+    ghost is_unambiguous = { refl };
 }
 
 impl CanonicalNotation for Pdu {
-    ghost written = { λ _. standing_written ⟦<Pdu as StandsFor<Fields>>⟧.value_of (sequence_written
+    ghost written = { λ _. represented_written ⟦<Pdu as Represents<Fields>>⟧.value_of (sequence_written
         (part_written (int32_written refl).own (part_written (int32_written refl).own
         (part_written (at_most_written 2147483647 (count64_written refl)).own
         (part_written (list_sized_written (λ k. not (nat_lt 2147483647 k))

@@ -13,15 +13,15 @@
 //! ```
 ghost use Rattle.std.specs.Prelude.{◌≡◌, Some, refl};
 ghost use Rattle.std.proofs.Common.{arith};
-ghost use Rattle.yasna_notation.specs.Canonical.{standing_written, choice_written_as};
-ghost use Rattle.yasna_notation.specs.Laws.{standing_keeps};
-ghost use Rattle.yasna_notation.specs.Making.{alternative, alternative_filled, in_choice, in_implicit};
+ghost use Rattle.yasna_notation.specs.Canonical.{represented_written, choice_written_as};
+ghost use Rattle.yasna_notation.specs.Laws.{represented_lawful};
+ghost use Rattle.yasna_notation.specs.Making.{alternative, alternative_non_empty, in_choice, in_implicit};
 ghost use Rattle.yasna_notation.specs.Making.{context, tag_or};
-ghost use Rattle.yasna_notation.specs.Notation.{stands_for};
+ghost use Rattle.yasna_notation.specs.Notation.{represented_by};
 ghost use Rattle.yasna_notation.specs.Writing.{alternative_written, under_context};
-ghost use Rattle.snmp.specs.contracts.v2c.bulk_pdu.BulkPduNotation.TheImpl.Laws.{keeps-law as bulk, filled-law as bulk_filled};
+ghost use Rattle.snmp.specs.contracts.v2c.bulk_pdu.BulkPduNotation.TheImpl.Laws.{lawful-law as bulk, non_empty-law as bulk_non_empty};
 ghost use Rattle.snmp.specs.contracts.v2c.bulk_pdu.BulkPduCanonicalNotation.TheImpl.Laws.{written-law as bulk_written};
-ghost use Rattle.snmp.specs.contracts.v2c.pdu.PduNotation.TheImpl.Laws.{keeps-law as pdu, filled-law as pdu_filled};
+ghost use Rattle.snmp.specs.contracts.v2c.pdu.PduNotation.TheImpl.Laws.{lawful-law as pdu, non_empty-law as pdu_non_empty};
 ghost use Rattle.snmp.specs.contracts.v2c.pdu.PduCanonicalNotation.TheImpl.Laws.{written-law as pdu_written};
 ghost use Rattle.yasna_notation.specs.declared.choices.Either.TheVariants.{First, Second};
 ghost use Rattle.snmp.specs.declared.v2c.pdus.Pdus.TheVariants.{GetRequest, GetNextRequest, GetBulkRequest, Response, SetRequest, InformRequest, SnmpV2Trap, Report};
@@ -32,7 +32,7 @@ use yasna::{ASN1Result, BERReader, DERWriter, Tag};
 use yasna_notation::Either::{First, Second};
 use yasna_notation::{
     Alternatives, CanonicalNotation, Choice, Context, Either, Implicit, Message, Notation,
-    StandsFor, read_as,
+    Represents, read_as,
 };
 
 type GetRequestPdu = Implicit<Context<0>, Pdu>;
@@ -86,7 +86,7 @@ pub enum Pdus {
     Report(Pdu),
 }
 
-impl StandsFor<Sides> for Pdus {
+impl Represents<Sides> for Pdus {
     ghost value_of = { λ v. elim v [
       | GetRequest x ↦ First x
       | GetNextRequest x ↦ Second (First x)
@@ -117,7 +117,7 @@ impl Notation for Pdus {
 
     type Inner = ();
 
-    ghost means = { stands_for ⟦<Pdus as StandsFor<Sides>>⟧.value_of ⟦<Choice<Types> as Notation>⟧.means };
+    ghost means = { represented_by ⟦<Pdus as Represents<Sides>>⟧.value_of ⟦<Choice<Types> as Notation>⟧.means };
 
     fn has_tag(tag: Tag) -> bool {
         <Types as Alternatives>::has_tag(tag)
@@ -140,25 +140,25 @@ impl Notation for Pdus {
         }
     }
 
-    ghost keeps = { λ _. standing_keeps ⟦<Pdus as StandsFor<Sides>>⟧.value_of (in_choice ⟦<Choice<Types> as Notation>⟧.means.form_under
+    ghost lawful = { λ _. represented_lawful ⟦<Pdus as Represents<Sides>>⟧.value_of (in_choice ⟦<Choice<Types> as Notation>⟧.means.encoding_under
         (alternative (in_implicit 0 (omega arith) (pdu refl)).own refl (alternative (in_implicit 1 (omega arith) (pdu refl)).own refl
         (alternative (in_implicit 5 (omega arith) (bulk refl)).own refl (alternative (in_implicit 2 (omega arith) (pdu refl)).own refl
         (alternative (in_implicit 3 (omega arith) (pdu refl)).own refl (alternative (in_implicit 6 (omega arith) (pdu refl)).own refl
         (alternative (in_implicit 7 (omega arith) (pdu refl)).own refl (in_implicit 8 (omega arith) (pdu refl)).own)))))))) };
 
-    ghost filled = { λ u m v.
-        alternative_filled (pdu_filled (Some (tag_or u (context 0)))) (alternative_filled (pdu_filled (Some (tag_or u (context 1))))
-        (alternative_filled (bulk_filled (Some (tag_or u (context 5)))) (alternative_filled (pdu_filled (Some (tag_or u (context 2))))
-        (alternative_filled (pdu_filled (Some (tag_or u (context 3)))) (alternative_filled (pdu_filled (Some (tag_or u (context 6))))
-        (alternative_filled (pdu_filled (Some (tag_or u (context 7)))) (pdu_filled (Some (tag_or u (context 8)))))))))) m (⟦<Pdus as StandsFor<Sides>>⟧.value_of v) };
+    ghost non_empty = { λ u m v.
+        alternative_non_empty (pdu_non_empty (Some (tag_or u (context 0)))) (alternative_non_empty (pdu_non_empty (Some (tag_or u (context 1))))
+        (alternative_non_empty (bulk_non_empty (Some (tag_or u (context 5)))) (alternative_non_empty (pdu_non_empty (Some (tag_or u (context 2))))
+        (alternative_non_empty (pdu_non_empty (Some (tag_or u (context 3)))) (alternative_non_empty (pdu_non_empty (Some (tag_or u (context 6))))
+        (alternative_non_empty (pdu_non_empty (Some (tag_or u (context 7)))) (pdu_non_empty (Some (tag_or u (context 8)))))))))) m (⟦<Pdus as Represents<Sides>>⟧.value_of v) };
 }
 
 impl Message for Pdus {
-    ghost told_apart = { refl };
+    ghost is_unambiguous = { refl };
 }
 
 impl CanonicalNotation for Pdus {
-    ghost written = { λ _. standing_written ⟦<Pdus as StandsFor<Sides>>⟧.value_of (choice_written_as ⟦<Choice<Types> as Notation>⟧.means.form_under
+    ghost written = { λ _. represented_written ⟦<Pdus as Represents<Sides>>⟧.value_of (choice_written_as ⟦<Choice<Types> as Notation>⟧.means.encoding_under
         (alternative_written (under_context 0 (omega arith) (pdu_written refl)).own
         (alternative_written (under_context 1 (omega arith) (pdu_written refl)).own
         (alternative_written (under_context 5 (omega arith) (bulk_written refl)).own

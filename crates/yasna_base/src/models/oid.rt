@@ -16,7 +16,7 @@ use std::marker::Model;
 
 /// An object identifier: its components, the root first.
 ///
-/// Any components may stand in one; `is_encodable` says whether they have an encoding. Identifiers are compared and
+/// Any components may be in one; `is_encodable` says whether they have an encoding. Identifiers are compared and
 /// hashed as the lists of their components.
 #[derive(Debug, Drop)]
 pub struct ObjectIdentifier {

@@ -1,7 +1,7 @@
 //! The texts of object identifiers: their components in decimal, joined by dots.
 ghost use Rattle.std.specs.Prelude.{◌≡◌, ◌<◌, ◌⊎◌, ℕ, List, [], ◌∷◌, ◌++◌, length, true, false, MatchOption, MatchResult, IfErr};
 ghost use Rattle.std.specs.List.{position_or_len, before_first, after_first};
-ghost use Rattle.yasna_base.specs.OidText.{BeginsWithComponent, IsComponent, IsOidText, is_dot, lacks_memory};
+ghost use Rattle.yasna_base.specs.OidText.{BeginsWithComponent, IsComponent, IsOidText, is_dot, ran_out_of_memory};
 
 use crate::models::ObjectIdentifier;
 use std::alloc::Global;
@@ -15,9 +15,9 @@ pub struct ParseOidError {
 }
 
 impl ParseOidError {
-    // Want of memory.
-    pub(crate) fn lack() -> ParseOidError
-        ensures { lacks_memory result ≡ true }
+    // `OutOfMemory`.
+    pub(crate) fn out_of_memory_error() -> ParseOidError
+        ensures { ran_out_of_memory result ≡ true }
     {
         ParseOidError {
             out_of_memory: true,
@@ -26,7 +26,7 @@ impl ParseOidError {
 
     /// Whether no memory was to be had. The text may be one of an object identifier then.
     pub fn is_out_of_memory(&self) -> bool
-        ensures { result ≡ lacks_memory self.now }
+        ensures { result ≡ ran_out_of_memory self.now }
     {
         self.out_of_memory
     }
@@ -34,9 +34,9 @@ impl ParseOidError {
 
 impl fmt::Display for ParseOidError {
     ghost use Rattle.std.specs.Prelude.{Some};
-    ghost use Rattle.yasna_base.specs.OidText.{fault_text};
+    ghost use Rattle.yasna_base.specs.OidText.{oid_error_text};
 
-    ghost output = { λ e. Some (fault_text (lacks_memory e)) };
+    ghost output = { λ e. Some (oid_error_text (ran_out_of_memory e)) };
 
     fn fmt<W: fmt::Write>(&self, f: &mut fmt::Formatter<W>) -> fmt::Result {
         if self.out_of_memory {
@@ -68,7 +68,7 @@ impl fmt::Display for ObjectIdentifier {
     }
 }
 
-// What stands in front of a text's first dot, and behind it.
+// What is before a text's first dot, and after it.
 fn cut(text: &str) -> Option<(&str, &str)>
     ensures { MatchOption result (position_or_len is_dot text.now ≡ length text.now) (λ x. (position_or_len is_dot text.now < length text.now) × (x.0.now ≡ before_first is_dot text.now) × (x.1.now ≡ after_first is_dot text.now)) }
 {
@@ -84,8 +84,8 @@ fn component(part: &str) -> Option<u64>
 
 // Appends the number that a part of a text is.
 fn push_component(components: &mut Vec<u64>, part: &str) -> Result<(), ParseOidError>
-    ensures exact { MatchResult result (λ _. (n : ℕ) × IsComponent part.now n × (components.new.items ≡ components.old.items ++ (n ∷ []))) (λ e. lacks_memory e ≡ false → (n : ℕ) → IsComponent part.now n → ⊥) }
-    ensures memory { IfErr result (λ e. lacks_memory e ≡ true → (n : ℕ) × IsComponent part.now n) }
+    ensures exact { MatchResult result (λ _. (n : ℕ) × IsComponent part.now n × (components.new.items ≡ components.old.items ++ (n ∷ []))) (λ e. ran_out_of_memory e ≡ false → (n : ℕ) → IsComponent part.now n → ⊥) }
+    ensures memory { IfErr result (λ e. ran_out_of_memory e ≡ true → (n : ℕ) × IsComponent part.now n) }
 {
     let Some(number) = component(part) else {
         return Err(ParseOidError {
@@ -93,7 +93,7 @@ fn push_component(components: &mut Vec<u64>, part: &str) -> Result<(), ParseOidE
         });
     };
     if components.push(number).is_err() {
-        return Err(ParseOidError::lack());
+        return Err(ParseOidError::out_of_memory_error());
     }
     Ok(())
 }
@@ -101,11 +101,11 @@ fn push_component(components: &mut Vec<u64>, part: &str) -> Result<(), ParseOidE
 impl ObjectIdentifier {
     /// The object identifier whose text this is: its parts between dots are the components.
     ///
-    /// A part is one or more digits of value up to 2^64-1, before which a plus may stand. Other texts are refused. Memory is
+    /// A part is one or more digits of value up to 2^64-1, before which a plus may be there. Other texts are rejected. Memory is
     /// asked for only where the first part is such a number.
     pub fn from_str(alloc: Global, text: &str) -> Result<ObjectIdentifier, ParseOidError>
-        ensures exact { MatchResult result (λ oid. IsOidText text.now oid) (λ e. lacks_memory e ≡ false → (cs : List ℕ) → IsOidText text.now cs → ⊥) }
-        ensures memory { IfErr result (λ e. lacks_memory e ≡ true → BeginsWithComponent text.now) }
+        ensures exact { MatchResult result (λ oid. IsOidText text.now oid) (λ e. ran_out_of_memory e ≡ false → (cs : List ℕ) → IsOidText text.now cs → ⊥) }
+        ensures memory { IfErr result (λ e. ran_out_of_memory e ≡ true → BeginsWithComponent text.now) }
     {
         let mut components = Vec::new(alloc);
         let mut rest = text;

@@ -14,7 +14,7 @@ mod null;
 mod oid;
 
 use crate::bytes::cursor::Cursor;
-use crate::bytes::header::{Refusal, primitive, refuse};
+use crate::bytes::header::{Rejection, read_primitive_contents, reject};
 use std::alloc::Global;
 use yasna_base::error::ASN1ErrorKind;
 use yasna_base::mode::BERMode;
@@ -23,34 +23,34 @@ use yasna_base::tag::Tag;
 /// A type that the contents of one primitive element hold.
 pub trait Contents: Sized {
     // What contracts see of such values, and what contents say in a mode.
-    ghost Said: { Type 0 };
+    ghost Seen: { Type 0 };
 
-    ghost view: { Self → Said };
+    ghost view: { Self → Seen };
 
-    ghost means: { BERMode → Said → List ℕ → Type 0 };
+    ghost means: { BERMode → Seen → List ℕ → Type 0 };
 
-    // Where reading within so many levels, under a tag, may want memory.
-    ghost wants: { ℕ → Tag → List ℕ → Type 0 };
+    // Where reading within so many levels, under a tag, may allocate.
+    ghost may_allocate: { ℕ → Tag → List ℕ → Type 0 };
 
     /// The value that these contents say in this mode.
     fn of_contents(alloc: Global, mode: BERMode, contents: &[u8]) -> Result<Self, ASN1ErrorKind>
-        ensures { Decides (means mode) view wants contents.now result };
+        ensures { Decides (means mode) view may_allocate contents.now result };
 }
 
 /// The value that a primitive element of this tag holds, and the rest.
 #[inline(always)]
-pub fn value<T: Contents>(
+pub fn read_value<T: Contents>(
     alloc: Global,
     cursor: Cursor<'_>,
     tag: Tag,
-) -> Result<(T, &[u8]), Refusal>
-    ensures { ValueAt T.means T.view T.wants cursor.entry.levels cursor.entry.mode tag cursor.entry.left.now result }
+) -> Result<(T, &[u8]), Rejection>
+    ensures { ValueAt T.means T.view T.may_allocate cursor.entry.levels cursor.entry.mode tag cursor.entry.left.now result }
 {
-    match primitive(cursor, tag) {
+    match read_primitive_contents(cursor, tag) {
         Ok((contents, rest)) => match T::of_contents(alloc, cursor.mode, contents) {
             Ok(value) => Ok((value, rest)),
-            Err(kind) => Err(refuse(kind, true)),
+            Err(kind) => Err(reject(kind, true)),
         },
-        Err(refusal) => Err(refusal),
+        Err(rejection) => Err(rejection),
     }
 }

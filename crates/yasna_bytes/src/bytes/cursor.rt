@@ -12,7 +12,7 @@ const LEVELS: u8 = 101;
 pub struct Cursor<'a> {
     /// What is left in the innermost element of definite length, or in the input.
     pub left: &'a [u8],
-    /// Where that ends, counted from the input's first byte: it decides only of what kind some refusals are.
+    /// Where that ends, counted from the input's first byte: it decides only of what kind some errors are.
     pub end: usize,
     /// The encoding rules.
     pub mode: BERMode,
@@ -44,7 +44,7 @@ impl<'a> Cursor<'a> {
     #[inline(always)]
     pub fn inside(self, opened: &Opened<'a>) -> Cursor<'a>
         requires { 1 ≤ self.levels }
-        ensures left { result.left.now ≡ opened.now.within }
+        ensures left { result.left.now ≡ opened.now.contents }
         ensures mode { result.mode ≡ self.entry.mode }
         ensures levels { result.levels ≡ self.entry.levels - 1 }
     {
@@ -53,7 +53,7 @@ impl<'a> Cursor<'a> {
             ContentsEnd::Indefinite => self.end,
         };
         Cursor {
-            left: opened.within,
+            left: opened.contents,
             end,
             mode: self.mode,
             levels: self.levels - 1,
@@ -75,9 +75,9 @@ impl<'a> Cursor<'a> {
         }
     }
 
-    /// The beginning of an element that stands in these contents, and ends there in the input.
+    /// The beginning of an element that is in these contents, and ends there in the input.
     #[inline(always)]
-    pub fn alone(self, element: &'a [u8], end: usize) -> Cursor<'a>
+    pub fn for_element(self, element: &'a [u8], end: usize) -> Cursor<'a>
         ensures left { result.left.now ≡ element.now }
         ensures mode { result.mode ≡ self.entry.mode }
         ensures levels { result.levels ≡ self.entry.levels }
@@ -92,15 +92,15 @@ impl<'a> Cursor<'a> {
 
     /// The same place, by these rules.
     #[inline(always)]
-    pub fn ruled_by(self, rules: BERMode) -> Cursor<'a>
+    pub fn with_mode(self, mode: BERMode) -> Cursor<'a>
         ensures left { result.left.now ≡ self.entry.left.now }
-        ensures mode { result.mode ≡ rules }
+        ensures mode { result.mode ≡ mode }
         ensures levels { result.levels ≡ self.entry.levels }
     {
         Cursor {
             left: self.left,
             end: self.end,
-            mode: rules,
+            mode: mode,
             levels: self.levels,
         }
     }
@@ -108,7 +108,7 @@ impl<'a> Cursor<'a> {
     /// A place in these contents or in elements within them: so many of their bytes follow the innermost, and so many
     /// levels are left.
     #[inline(always)]
-    pub fn within(self, left: &'a [u8], behind: usize, levels: u8) -> Cursor<'a>
+    pub fn at_depth(self, left: &'a [u8], trailing: usize, levels: u8) -> Cursor<'a>
         requires { levels ≤ 101 }
         ensures left { result.left.now ≡ left.now }
         ensures mode { result.mode ≡ self.entry.mode }
@@ -116,7 +116,7 @@ impl<'a> Cursor<'a> {
     {
         Cursor {
             left,
-            end: self.end.saturating_sub(behind),
+            end: self.end.saturating_sub(trailing),
             mode: self.mode,
             levels,
         }

@@ -1,9 +1,9 @@
 //! The header of an element: identifier, length, and the cut of the contents (X.690, 8.1 and 9.1).
 ghost use Rattle.std.specs.Prelude.{◌≡◌, IsTrue, ◌↔◌, MatchOption};
 ghost use Rattle.yasna_base.specs.Element.{TakesDefinite, TakesIndefinite};
-ghost use Rattle.yasna_bytes.specs.Refusal.{BlamesBytes};
+ghost use Rattle.yasna_bytes.specs.Rejection.{BlamesBytes};
 ghost use Rattle.yasna_base.specs.Header.{indefinite_end};
-ghost use Rattle.yasna_bytes.specs.Header.{ContentsAt, BehindAt, OpenedAt, ConstructedAt, PrimitiveAt, EndsBefore, NoEnd, ClosesAt};
+ghost use Rattle.yasna_bytes.specs.Header.{ContentsAt, AfterIdentifierAt, OpenedAt, ConstructedAt, PrimitiveAt, EndsBefore, NoEnd, ClosesAt};
 
 use crate::bytes::cursor::Cursor;
 use crate::bytes::length::{cut, read_length};
@@ -13,13 +13,13 @@ use yasna_base::error::ASN1ErrorKind;
 use yasna_base::mode::BERMode;
 use yasna_base::tag::{PCBit, Tag};
 
-/// Why no element was taken from the front of bytes.
+/// Why no element was taken from the start of bytes.
 #[derive(Clone, Copy, PartialEq, Eq, Debug)]
-pub struct Refusal {
+pub struct Rejection {
     /// What is wrong.
     pub kind: ASN1ErrorKind,
-    /// Whether an identifier was passed before it showed: false where nothing is left or an element of another tag stands there.
-    pub moved: bool,
+    /// Whether an identifier was passed before it showed: false where nothing is left or an element of another tag is there.
+    pub consumed: bool,
 }
 
 /// Where the contents of an element end, by the form of its length (X.690, 8.1.3).
@@ -37,7 +37,7 @@ pub struct Opened<'a> {
     /// Whether the contents are elements.
     pub bit: PCBit,
     /// The contents, or where their length is indefinite all bytes that are left.
-    pub within: &'a [u8],
+    pub contents: &'a [u8],
     /// Where the contents end.
     pub end: ContentsEnd<'a>,
 }
@@ -47,15 +47,15 @@ impl<'a> Model for Opened<'a> {
 
     ghost Value = { Opening };
 
-    ghost view = { λ o. opening o.bit o.within.now o.end };
+    ghost view = { λ o. opening o.bit o.contents.now o.end };
 }
 
-/// The refusal of this kind.
+/// The error of this kind.
 #[inline(always)]
-pub fn refuse(kind: ASN1ErrorKind, moved: bool) -> Refusal
-    ensures { result ≡ record { kind = kind; moved = moved } }
+pub fn reject(kind: ASN1ErrorKind, consumed: bool) -> Rejection
+    ensures { result ≡ record { kind = kind; consumed = consumed } }
 {
-    Refusal { kind, moved }
+    Rejection { kind, consumed }
 }
 
 // Whether a mode takes an element of indefinite length.
@@ -92,16 +92,16 @@ fn takes_definite(mode: BERMode, bit: PCBit) -> bool
 }
 
 #[inline(always)]
-fn is_tag(found: Tag, wanted: Tag) -> bool
-    ensures { IsTrue result ↔ (found ≡ wanted) }
+fn is_tag(found: Tag, expected: Tag) -> bool
+    ensures { IsTrue result ↔ (found ≡ expected) }
 {
-    found == wanted
+    found == expected
 }
 
-// Of what kind the refusal is where fewer than `size` bytes are left up to the place `end`.
+// Of what kind the error is where fewer than `size` bytes are left up to the place `end`.
 #[cold]
 #[inline(never)]
-fn length_fault(end: usize, rest: &[u8], size: usize) -> ASN1ErrorKind
+fn length_error(end: usize, rest: &[u8], size: usize) -> ASN1ErrorKind
     ensures { BlamesBytes result }
 {
     let place = end.saturating_sub(rest.len());
@@ -113,37 +113,37 @@ fn length_fault(end: usize, rest: &[u8], size: usize) -> ASN1ErrorKind
 
 /// Reads the header of an element of this tag, and cuts off its contents where they have a length.
 #[inline(always)]
-pub fn open(cursor: Cursor<'_>, tag: Tag) -> Result<Opened<'_>, Refusal>
+pub fn open(cursor: Cursor<'_>, tag: Tag) -> Result<Opened<'_>, Rejection>
     ensures { OpenedAt cursor.entry.mode cursor.entry.levels tag cursor.entry.left.now result }
 {
     if cursor.left.is_empty() {
-        return Err(refuse(ASN1ErrorKind::Eof, false));
+        return Err(reject(ASN1ErrorKind::Eof, false));
     }
     let (found, bit, rest) = match read_identifier(cursor.left) {
         Ok(identifier) => identifier,
-        Err(kind) => return Err(refuse(kind, true)),
+        Err(kind) => return Err(reject(kind, true)),
     };
     if !is_tag(found, tag) {
-        return Err(refuse(ASN1ErrorKind::Invalid, false));
+        return Err(reject(ASN1ErrorKind::Invalid, false));
     }
-    open_behind(cursor, bit, rest)
+    open_after_identifier(cursor, bit, rest)
 }
 
 /// Reads what follows the identifier of an element.
 #[inline(always)]
-pub fn open_behind<'a>(
+pub fn open_after_identifier<'a>(
     cursor: Cursor<'a>,
     bit: PCBit,
     rest: &'a [u8],
-) -> Result<Opened<'a>, Refusal>
-    ensures { BehindAt cursor.entry.mode cursor.entry.levels bit rest.now result }
+) -> Result<Opened<'a>, Rejection>
+    ensures { AfterIdentifierAt cursor.entry.mode cursor.entry.levels bit rest.now result }
 {
     if cursor.levels == 0 {
-        return Err(refuse(ASN1ErrorKind::StackOverflow, true));
+        return Err(reject(ASN1ErrorKind::StackOverflow, true));
     }
     match contents(rest, cursor.mode, bit, cursor.end) {
         Ok(opened) => Ok(opened),
-        Err(kind) => Err(refuse(kind, true)),
+        Err(kind) => Err(reject(kind, true)),
     }
 }
 
@@ -154,20 +154,20 @@ fn contents(s: &[u8], mode: BERMode, bit: PCBit, end: usize) -> Result<Opened<'_
 {
     match read_length(s, mode) {
         Ok((Some(size), rest)) => match cut(rest, size) {
-            Some((within, after)) => {
+            Some((contents, after)) => {
                 if takes_definite(mode, bit) {
                     let end = ContentsEnd::Definite(after);
-                    Ok(Opened { bit, within, end })
+                    Ok(Opened { bit, contents, end })
                 } else {
                     Err(ASN1ErrorKind::Invalid)
                 }
             }
-            None => Err(length_fault(end, rest, size)),
+            None => Err(length_error(end, rest, size)),
         },
-        Ok((None, within)) => {
+        Ok((None, contents)) => {
             if takes_indefinite(mode, bit) {
                 let end = ContentsEnd::Indefinite;
-                Ok(Opened { bit, within, end })
+                Ok(Opened { bit, contents, end })
             } else {
                 Err(ASN1ErrorKind::Invalid)
             }
@@ -178,33 +178,33 @@ fn contents(s: &[u8], mode: BERMode, bit: PCBit, end: usize) -> Result<Opened<'_
 
 /// The same, of a constructed element.
 #[inline(always)]
-pub fn constructed(cursor: Cursor<'_>, tag: Tag) -> Result<Opened<'_>, Refusal>
+pub fn open_constructed(cursor: Cursor<'_>, tag: Tag) -> Result<Opened<'_>, Rejection>
     ensures { ConstructedAt cursor.entry.mode cursor.entry.levels tag cursor.entry.left.now result }
 {
     match open(cursor, tag) {
         Ok(opened) => match opened.bit {
             PCBit::Constructed => Ok(opened),
-            PCBit::Primitive => Err(refuse(ASN1ErrorKind::Invalid, true)),
+            PCBit::Primitive => Err(reject(ASN1ErrorKind::Invalid, true)),
         },
-        Err(refusal) => Err(refusal),
+        Err(rejection) => Err(rejection),
     }
 }
 
 /// The contents of a primitive element of this tag, and the rest.
 #[inline(always)]
-pub fn primitive(cursor: Cursor<'_>, tag: Tag) -> Result<(&[u8], &[u8]), Refusal>
+pub fn read_primitive_contents(cursor: Cursor<'_>, tag: Tag) -> Result<(&[u8], &[u8]), Rejection>
     ensures { PrimitiveAt cursor.entry.levels cursor.entry.mode tag cursor.entry.left.now result }
 {
     match open(cursor, tag) {
         Ok(opened) => match opened.bit {
             PCBit::Primitive => match opened.end {
-                ContentsEnd::Definite(after) => Ok((opened.within, after)),
+                ContentsEnd::Definite(after) => Ok((opened.contents, after)),
                 // No mode takes the indefinite form there.
-                ContentsEnd::Indefinite => Err(refuse(ASN1ErrorKind::Invalid, true)),
+                ContentsEnd::Indefinite => Err(reject(ASN1ErrorKind::Invalid, true)),
             },
-            PCBit::Constructed => Err(refuse(ASN1ErrorKind::Invalid, true)),
+            PCBit::Constructed => Err(reject(ASN1ErrorKind::Invalid, true)),
         },
-        Err(refusal) => Err(refusal),
+        Err(rejection) => Err(rejection),
     }
 }
 
@@ -223,12 +223,12 @@ pub fn close<'a>(opened: &Opened<'a>, rest: &'a [u8]) -> Result<&'a [u8], ASN1Er
         }
         ContentsEnd::Indefinite => match end_of_contents(rest) {
             Some(after) => Ok(after),
-            None => Err(end_of_contents_fault(rest)),
+            None => Err(end_of_contents_error(rest)),
         },
     }
 }
 
-/// What follows the end-of-contents octets (X.690, 8.1.5), where they stand at the front.
+/// What follows the end-of-contents octets (X.690, 8.1.5), where they are at the start.
 #[inline(always)]
 pub fn end_of_contents(s: &[u8]) -> Option<&[u8]>
     ensures { MatchOption result (NoEnd indefinite_end s.now) (λ after. EndsBefore indefinite_end s.now after.now) }
@@ -239,10 +239,10 @@ pub fn end_of_contents(s: &[u8]) -> Option<&[u8]>
     }
 }
 
-/// Of what kind the refusal is where they don't.
+/// Of what kind the error is where they don't.
 #[cold]
 #[inline(never)]
-pub fn end_of_contents_fault(s: &[u8]) -> ASN1ErrorKind
+pub fn end_of_contents_error(s: &[u8]) -> ASN1ErrorKind
     ensures { BlamesBytes result }
 {
     match s {

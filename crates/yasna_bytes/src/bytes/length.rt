@@ -1,7 +1,7 @@
 //! Lengths (X.690, 8.1.3, 9.1 and 10.1).
 ghost use Rattle.std.specs.Prelude.{◌≡◌, ℕ, ◌^◌, ◌<◌, ◌≤◌, ◌-◌, List, ◌∷◌, ◌++◌, length, drop, Some, MatchOption, IsTrue, ◌↔◌};
 ghost use Rattle.std.specs.Int.Digits.{number_from_digits};
-ghost use Rattle.yasna_bytes.specs.Refusal.{BlamesBytes};
+ghost use Rattle.yasna_bytes.specs.Rejection.{BlamesBytes};
 ghost use Rattle.yasna_bytes.specs.Length.{Measures, TakesSpelling, SpellsDigits, LengthAt};
 
 use yasna_base::error::ASN1ErrorKind;
@@ -63,7 +63,7 @@ fn size_of(digits: &[u8], mode: BERMode) -> Option<usize>
     }
 }
 
-// The length that digits spell behind a first byte above 128, which counts them, where a mode takes it so.
+// The length that digits spell after a first byte above 128, which counts them, where a mode takes it so.
 #[cold]
 #[inline(never)]
 fn long_size(first: u8, s: &[u8], mode: BERMode) -> Option<usize>
@@ -79,10 +79,10 @@ fn long_size(first: u8, s: &[u8], mode: BERMode) -> Option<usize>
     }
 }
 
-// Of what kind the refusal is where no length stands behind such a byte.
+// Of what kind the error is where no length is after such a byte.
 #[cold]
 #[inline(never)]
-fn long_fault(first: u8, s: &[u8]) -> ASN1ErrorKind
+fn long_length_error(first: u8, s: &[u8]) -> ASN1ErrorKind
     requires { 128 < first }
     ensures { BlamesBytes result }
 {
@@ -107,7 +107,7 @@ fn read_long(first: u8, s: &[u8], mode: BERMode) -> Result<(Option<usize>, &[u8]
     }
     match long_size(first, s, mode) {
         Some(size) => Ok((Some(size), &s[usize::from(first - 128)..])),
-        None => Err(long_fault(first, s)),
+        None => Err(long_length_error(first, s)),
     }
 }
 

@@ -4,16 +4,16 @@
 ghost use Rattle.std.specs.Prelude.{◌≡◌, ℕ, ◌-◌, List, IsTrue, ◌↔◌, length};
 ghost use Rattle.yasna_base.specs.Segmented.{Segmentation};
 ghost use Rattle.yasna_base.proofs.Segmented.{SegmentsOnce};
-ghost use Rattle.yasna_bytes.specs.Segments.{GoOn, Says, HoldsBytes, IsOfNone, Adds, TellsWhetherMore, WholeAt, SegmentsAt, StringAt, WithVecAt};
+ghost use Rattle.yasna_bytes.specs.Segments.{GoOn, EncodesWhole, HoldsBytes, IsOfNone, Adds, DecidesWhetherMore, WholeAt, SegmentsAt, StringAt, WithVecAt};
 
 mod bits;
 mod cuts;
 mod octets;
 
 use crate::bytes::cursor::Cursor;
-use crate::bytes::header::{ContentsEnd, Refusal, close, open, refuse};
+use crate::bytes::header::{ContentsEnd, Rejection, close, open, reject};
 pub use bits::bit_string;
-use cuts::{Cuts, may_segment, segment_rules, stays_whole, takes_cuts};
+use cuts::{Cuts, inner_mode, may_segment, stays_whole, takes_cuts};
 pub use octets::{octet_string, whole_octets};
 use std::alloc::Global;
 use yasna_base::error::ASN1ErrorKind;
@@ -44,7 +44,7 @@ pub trait Tally: Sized + Copy {
 
     /// What the contents of a primitive element say: what is known, and the bytes.
     fn of_contents(mode: BERMode, contents: &[u8]) -> Result<(Self, &[u8]), ASN1ErrorKind>
-        ensures { Says segmentation value mode contents.now result };
+        ensures { EncodesWhole segmentation value mode contents.now result };
 
     /// What is known of these segments and one more.
     fn with(self, segment: Self) -> Result<Self, ASN1ErrorKind>
@@ -52,7 +52,7 @@ pub trait Tally: Sized + Copy {
 
     /// Whether a further segment may follow.
     fn may_go_on(self) -> bool
-        ensures { TellsWhetherMore segmentation value self (IsTrue result) };
+        ensures { DecidesWhetherMore segmentation value self (IsTrue result) };
 
     ghost holds: { HoldsBytes segmentation value };
 
@@ -95,51 +95,51 @@ fn element<'a, T: Tally>(
     out: &mut Vec<u8>,
     cursor: Cursor<'a>,
     tag: Tag,
-) -> Result<(T, &'a [u8]), Refusal>
+) -> Result<(T, &'a [u8]), Rejection>
     ensures { StringAt T.segmentation T.value cursor.entry.levels cursor.entry.mode tag cursor.entry.left.now out.old.items result out.new.items }
 {
     let opened = match open(cursor, tag) {
         Ok(opened) => opened,
-        Err(refusal) => return Err(refusal),
+        Err(rejection) => return Err(rejection),
     };
     match opened.bit {
         PCBit::Primitive => {
             let ContentsEnd::Definite(after) = opened.end else {
                 // No mode takes the indefinite form there.
-                return Err(refuse(ASN1ErrorKind::Invalid, true));
+                return Err(reject(ASN1ErrorKind::Invalid, true));
             };
-            match whole::<T>(out, cursor.mode, opened.within) {
+            match whole::<T>(out, cursor.mode, opened.contents) {
                 Ok(tally) => Ok((tally, after)),
-                Err(kind) => Err(refuse(kind, true)),
+                Err(kind) => Err(reject(kind, true)),
             }
         }
         PCBit::Constructed => {
             if !may_segment(cursor.mode) {
-                return Err(refuse(ASN1ErrorKind::Invalid, true));
+                return Err(reject(ASN1ErrorKind::Invalid, true));
             }
-            let contents = cursor.inside(&opened).ruled_by(segment_rules(cursor.mode));
+            let contents = cursor.inside(&opened).with_mode(inner_mode(cursor.mode));
             let ((tally, cuts), rest) = match segments::<T>(out, contents) {
                 Ok(taken) => taken,
-                Err(refusal) => return Err(refusal),
+                Err(rejection) => return Err(rejection),
             };
             if !takes_cuts(cursor.mode, cuts) {
-                return Err(refuse(ASN1ErrorKind::Invalid, true));
+                return Err(reject(ASN1ErrorKind::Invalid, true));
             }
             match close(&opened, rest) {
                 Ok(after) => Ok((tally, after)),
-                Err(kind) => Err(refuse(kind, true)),
+                Err(kind) => Err(reject(kind, true)),
             }
         }
     }
 }
 
-// Reads segments as far as there are any, and appends their bytes; how they are cut is answered too.
+// Reads segments as far as there are any, and appends their bytes; how they are cut is returned too.
 #[cycle(string)]
 #[inline(never)]
 fn segments<'a, T: Tally>(
     out: &mut Vec<u8>,
     contents: Cursor<'a>,
-) -> Result<((T, Cuts), &'a [u8]), Refusal>
+) -> Result<((T, Cuts), &'a [u8]), Rejection>
     ensures { SegmentsAt T.segmentation T.value contents.entry.levels contents.entry.mode contents.entry.left.now out.old.items result out.new.items }
 {
     let mut place = contents;
@@ -149,9 +149,9 @@ fn segments<'a, T: Tally>(
         let before = count(out);
         let (segment, rest) = match element::<T>(out, place, T::tag()) {
             Ok(taken) => taken,
-            Err(refusal) => {
-                if refusal.moved {
-                    return Err(refusal);
+            Err(rejection) => {
+                if rejection.consumed {
+                    return Err(rejection);
                 }
                 return Ok(((tally, cuts), place.left));
             }
@@ -160,24 +160,24 @@ fn segments<'a, T: Tally>(
         cuts = cuts.with(T::full(), count(out) - before);
         tally = match tally.with(segment) {
             Ok(all) => all,
-            Err(kind) => return Err(refuse(kind, true)),
+            Err(kind) => return Err(reject(kind, true)),
         };
     }
     Ok(((tally, cuts), place.left))
 }
 
-/// The string with this tag at the front, its bytes and what is known of it besides, and the rest.
+/// The string with this tag at the start, its bytes and what is known of it besides, and the rest.
 #[inline(always)]
 pub fn string<'a, T: Tally + Drop>(
     alloc: Global,
     cursor: Cursor<'a>,
     tag: Tag,
-) -> Result<((Vec<u8>, T), &'a [u8]), Refusal>
+) -> Result<((Vec<u8>, T), &'a [u8]), Rejection>
     ensures { WithVecAt T.segmentation T.value cursor.entry.levels cursor.entry.mode tag cursor.entry.left.now result }
 {
     let mut bytes = Vec::new(alloc);
     match element::<T>(&mut bytes, cursor, tag) {
         Ok((tally, rest)) => Ok(((bytes, tally), rest)),
-        Err(refusal) => Err(refusal),
+        Err(rejection) => Err(rejection),
     }
 }

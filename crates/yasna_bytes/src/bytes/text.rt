@@ -1,16 +1,16 @@
 //! Strings whose octets say a value: character strings (X.680, 41; X.690, 8.23).
 //!
-//! The octets of one primitive element are judged where they stand. Those of segments are joined first.
+//! The octets of one primitive element are judged where they are. Those of segments are joined first.
 ghost use Rattle.std.specs.Prelude.{◌≡◌, ◌≤◌, ◌<◌, ◌+◌, ◌*◌, ℕ, List, [], ◌∷◌, length, IsTrue, ◌↔◌, IfOk, MatchResult, string_bytes};
 ghost use Rattle.std.specs.Char.Utf16.{utf16_lossy_chars};
 ghost use Rattle.std.specs.Str.{encode_utf8_all};
 ghost use Rattle.yasna_base.specs.Text.{characters, units};
 ghost use Rattle.yasna_base.specs.declared.error.ASN1ErrorKind.TheVariants.{OutOfMemory};
 ghost use Rattle.yasna_base.specs.declared.mode.BERMode.{BERMode};
-ghost use Rattle.yasna_bytes.specs.Text.{Judges, SaidAt, SaysText, MayHold, Utf8At};
+ghost use Rattle.yasna_bytes.specs.Text.{Judges, JudgedAt, SpellsText, MayHold, Utf8At};
 
 use crate::bytes::cursor::Cursor;
-use crate::bytes::header::{Refusal, refuse};
+use crate::bytes::header::{Rejection, reject};
 use crate::bytes::segments::{octet_string, whole_octets};
 use simdutf8::basic::from_utf8;
 use std::alloc::{AllocError, Global};
@@ -24,11 +24,11 @@ pub trait Judge: Sized + Copy {
     type Value: Drop;
 
     // What contracts see of such values, and what octets say in a mode.
-    ghost Said: { Type 0 };
+    ghost Seen: { Type 0 };
 
-    ghost view: { Self.Value → Said };
+    ghost view: { Self.Value → Seen };
 
-    ghost says: { Self → BERMode → Said → List ℕ → Type 0 };
+    ghost encodes: { Self → BERMode → Seen → List ℕ → Type 0 };
 
     /// The value that these octets say in this mode.
     fn judge(
@@ -37,7 +37,7 @@ pub trait Judge: Sized + Copy {
         mode: BERMode,
         octets: &[u8],
     ) -> Result<Self::Value, ASN1ErrorKind>
-        ensures { Judges (says self mode) view octets.now result };
+        ensures { Judges (encodes self mode) view octets.now result };
 
     /// The same of octets that were joined from segments, in memory that the value may keep.
     #[inline(always)]
@@ -47,29 +47,29 @@ pub trait Judge: Sized + Copy {
         mode: BERMode,
         octets: Vec<u8>,
     ) -> Result<Self::Value, ASN1ErrorKind>
-        ensures { Judges (says self mode) view octets.items result }
+        ensures { Judges (encodes self mode) view octets.items result }
     {
         self.judge(alloc, mode, octets.as_slice())
     }
 }
 
-/// The string with this tag at the front, as its octets are judged, and the rest.
+/// The string with this tag at the start, as its octets are judged, and the rest.
 #[inline(always)]
 pub fn string_of<'a, J: Judge>(
     alloc: Global,
     cursor: Cursor<'a>,
     tag: Tag,
     judge: J,
-) -> Result<(J::Value, &'a [u8]), Refusal>
-    ensures { SaidAt (J.says judge) J.view cursor.entry.levels cursor.entry.mode tag cursor.entry.left.now result }
+) -> Result<(J::Value, &'a [u8]), Rejection>
+    ensures { JudgedAt (J.encodes judge) J.view cursor.entry.levels cursor.entry.mode tag cursor.entry.left.now result }
 {
     match whole_octets(cursor, tag) {
         Ok(Some((octets, rest))) => match judge.judge(alloc, cursor.mode, octets) {
             Ok(value) => Ok((value, rest)),
-            Err(kind) => Err(refuse(kind, true)),
+            Err(kind) => Err(reject(kind, true)),
         },
         Ok(None) => joined_of(alloc, cursor, tag, judge),
-        Err(refusal) => Err(refusal),
+        Err(rejection) => Err(rejection),
     }
 }
 
@@ -80,16 +80,16 @@ fn joined_of<'a, J: Judge>(
     cursor: Cursor<'a>,
     tag: Tag,
     judge: J,
-) -> Result<(J::Value, &'a [u8]), Refusal>
-    ensures { SaidAt (J.says judge) J.view cursor.entry.levels cursor.entry.mode tag cursor.entry.left.now result }
+) -> Result<(J::Value, &'a [u8]), Rejection>
+    ensures { JudgedAt (J.encodes judge) J.view cursor.entry.levels cursor.entry.mode tag cursor.entry.left.now result }
 {
     let (octets, rest) = match octet_string(alloc, cursor, tag) {
         Ok(string) => string,
-        Err(refusal) => return Err(refusal),
+        Err(rejection) => return Err(rejection),
     };
     match judge.judge_joined(alloc, cursor.mode, octets) {
         Ok(value) => Ok((value, rest)),
-        Err(kind) => Err(refuse(kind, true)),
+        Err(kind) => Err(reject(kind, true)),
     }
 }
 
@@ -132,26 +132,26 @@ fn unit_of(high: u8, low: u8) -> u16
     u16::from(high) * 256 + u16::from(low)
 }
 
-// The character at the front of UTF-16, this unit and the octets behind it, and the octets behind the character.
+// The character at the start of UTF-16, this unit and the octets after it, and the octets after the character.
 #[inline(always)]
-fn character_of(unit: u16, behind: &[u8]) -> (char, &[u8])
-    ensures spelled { utf16_lossy_chars (unit ∷ units behind.now) ≡ result.0 ∷ utf16_lossy_chars (units result.1.now) }
-    ensures shorter { length result.1.now ≤ length behind.now }
+fn character_of(unit: u16, trailing: &[u8]) -> (char, &[u8])
+    ensures spelled { utf16_lossy_chars (unit ∷ units trailing.now) ≡ result.0 ∷ utf16_lossy_chars (units result.1.now) }
+    ensures shorter { length result.1.now ≤ length trailing.now }
 {
     match char::from_u32(u32::from(unit)) {
-        Some(character) => (character, behind),
-        None => character_of_surrogate(unit, behind),
+        Some(character) => (character, trailing),
+        None => character_of_surrogate(unit, trailing),
     }
 }
 
 // The same of a surrogate: with its partner it is a character, and without one it is U+FFFD.
 #[inline(never)]
-fn character_of_surrogate(unit: u16, behind: &[u8]) -> (char, &[u8])
+fn character_of_surrogate(unit: u16, trailing: &[u8]) -> (char, &[u8])
     requires { (0xD800 ≤ unit) × (unit < 0xE000) }
-    ensures spelled { utf16_lossy_chars (unit ∷ units behind.now) ≡ result.0 ∷ utf16_lossy_chars (units result.1.now) }
-    ensures shorter { length result.1.now ≤ length behind.now }
+    ensures spelled { utf16_lossy_chars (unit ∷ units trailing.now) ≡ result.0 ∷ utf16_lossy_chars (units result.1.now) }
+    ensures shorter { length result.1.now ≤ length trailing.now }
 {
-    if let [high, low, rest @ ..] = behind {
+    if let [high, low, rest @ ..] = trailing {
         let partner = unit_of(*high, *low);
         if unit < 0xDC00 && 0xDC00 <= partner && partner < 0xE000 {
             let code = 0x1_0000
@@ -160,7 +160,7 @@ fn character_of_surrogate(unit: u16, behind: &[u8]) -> (char, &[u8])
             return (char::from_u32(code).unwrap_or('\u{FFFD}'), rest);
         }
     }
-    ('\u{FFFD}', behind)
+    ('\u{FFFD}', trailing)
 }
 
 // The text in UTF-16, with U+FFFD for each surrogate that has no partner.
@@ -169,8 +169,8 @@ fn text_of_units(alloc: Global, octets: &[u8]) -> Result<String, AllocError>
 {
     let mut text = String::with_capacity(alloc, octets.len() / 2)?;
     let mut rest = octets;
-    while let [high, low, behind @ ..] = rest {
-        let (character, after) = character_of(unit_of(*high, *low), behind);
+    while let [high, low, trailing @ ..] = rest {
+        let (character, after) = character_of(unit_of(*high, *low), trailing);
         text.push(character)?;
         rest = after;
     }
@@ -222,11 +222,11 @@ fn joined_text(octets: Vec<u8>) -> Result<String, ASN1ErrorKind>
 impl Judge for Class {
     type Value = String;
 
-    ghost Said = { List ℕ };
+    ghost Seen = { List ℕ };
 
     ghost view = { characters };
 
-    ghost says = { SaysText };
+    ghost encodes = { SpellsText };
 
     #[inline(always)]
     fn judge(self, alloc: Global, _mode: BERMode, octets: &[u8]) -> Result<String, ASN1ErrorKind> {

@@ -1,23 +1,24 @@
 //! Raw elements: their contents are elements one after the other, which are walked over (X.690, 8.1).
 //!
 //! In DER constructed contents are walked, in BER and CER those of indefinite length alone. The walk is one loop that counts the
-//! bytes behind each element that it is in, and takes no memory.
+//! bytes after each element that it is in, and takes no memory.
 ghost use Rattle.std.specs.Prelude.{IsTrue, ◌↔◌, ◌≡◌, ◌≤◌, ◌-◌, ◌++◌, length, take, drop, MatchOption, Err};
-ghost use Rattle.yasna_base.specs.Raw.{LooksInto, IsPayload};
+ghost use Rattle.yasna_base.specs.Raw.{DescendsInto, IsPayload};
 ghost use Rattle.yasna_bytes.specs.Header.{NoEnd};
-ghost use Rattle.yasna_bytes.specs.Refusal.{BlamesBytes};
+ghost use Rattle.yasna_bytes.specs.Rejection.{BlamesBytes};
 ghost use Rattle.yasna_bytes.specs.Walk.{IsEndByte, AnyOpenedAt, EndsWithin, TurnsTo, TurnOf, TakesEnd, IsWalked, WalksTo, FollowsAt, following, follows, IsRest, HasRest, RawElementAt};
 
 use crate::bytes::cursor::Cursor;
 use crate::bytes::header::{
-    ContentsEnd, Opened, Refusal, end_of_contents, end_of_contents_fault, open_behind, refuse,
+    ContentsEnd, Opened, Rejection, end_of_contents, end_of_contents_error, open_after_identifier,
+    reject,
 };
 use yasna_base::bytes::identifier::read_identifier;
 use yasna_base::error::ASN1ErrorKind;
 use yasna_base::mode::BERMode;
 use yasna_base::tag::{PCBit, Tag};
 
-/// A raw element at the front of bytes.
+/// A raw element at the start of bytes.
 #[derive(Clone, Copy)]
 pub struct RawElement<'a> {
     /// The tag.
@@ -35,7 +36,7 @@ pub struct RawElement<'a> {
 enum Turn<'a> {
     // The end of the innermost element, and what is left behind it of the bytes that the step was given.
     Left(&'a [u8]),
-    // An element that isn't looked into, and what follows it.
+    // An element that isn't descended into, and what follows it.
     Passed(&'a [u8]),
     // The header of one that is.
     Entered(Opened<'a>),
@@ -43,8 +44,8 @@ enum Turn<'a> {
 
 // Whether contents whose length is counted are walked.
 #[inline(always)]
-fn looks_into(mode: BERMode, bit: PCBit) -> bool
-    ensures { IsTrue result ↔ LooksInto mode bit }
+fn descends_into(mode: BERMode, bit: PCBit) -> bool
+    ensures { IsTrue result ↔ DescendsInto mode bit }
 {
     match mode {
         BERMode::Ber => false,
@@ -66,28 +67,28 @@ fn is_end(first: u8) -> bool
 
 // Reads the header of an element of any tag but that of the end of contents.
 #[inline(always)]
-fn open_any(cursor: Cursor<'_>) -> Result<(Tag, Opened<'_>), Refusal>
+fn open_any(cursor: Cursor<'_>) -> Result<(Tag, Opened<'_>), Rejection>
     ensures { AnyOpenedAt cursor.entry.mode cursor.entry.levels cursor.entry.left.now result }
 {
     let [first, ..] = cursor.left else {
-        return Err(refuse(ASN1ErrorKind::Eof, false));
+        return Err(reject(ASN1ErrorKind::Eof, false));
     };
     if is_end(*first) {
-        return Err(refuse(ASN1ErrorKind::Invalid, false));
+        return Err(reject(ASN1ErrorKind::Invalid, false));
     }
     let (tag, bit, rest) = match read_identifier(cursor.left) {
         Ok(identifier) => identifier,
-        Err(kind) => return Err(refuse(kind, true)),
+        Err(kind) => return Err(reject(kind, true)),
     };
-    match open_behind(cursor, bit, rest) {
+    match open_after_identifier(cursor, bit, rest) {
         Ok(opened) => Ok((tag, opened)),
-        Err(refusal) => Err(refusal),
+        Err(rejection) => Err(rejection),
     }
 }
 
-// What is left of these bytes behind contents, where those end here.
+// What is left of these bytes after contents, where those end here.
 #[inline(always)]
-fn left_behind<'a>(opened: &Opened<'_>, rest: &'a [u8]) -> Option<&'a [u8]>
+fn left_after<'a>(opened: &Opened<'_>, rest: &'a [u8]) -> Option<&'a [u8]>
     ensures { MatchOption result (NoEnd opened.now.end rest.now) (λ a. EndsWithin opened.now.end rest.now a.now) }
 {
     match opened.end {
@@ -96,16 +97,16 @@ fn left_behind<'a>(opened: &Opened<'_>, rest: &'a [u8]) -> Option<&'a [u8]>
     }
 }
 
-// Of what kind the refusal is where they don't, and nothing is left or the tag of the end-of-contents octets stands there:
+// Of what kind the error is where they don't, and nothing is left or the tag of the end-of-contents octets is there:
 // within contents whose length is counted that tag is invalid.
 #[cold]
 #[inline(never)]
-fn stray_end_fault(opened: &Opened<'_>, rest: &[u8]) -> ASN1ErrorKind
+fn stray_end_error(opened: &Opened<'_>, rest: &[u8]) -> ASN1ErrorKind
     ensures { BlamesBytes result }
 {
     match opened.end {
         ContentsEnd::Definite(_) => ASN1ErrorKind::Invalid,
-        ContentsEnd::Indefinite => end_of_contents_fault(rest),
+        ContentsEnd::Indefinite => end_of_contents_error(rest),
     }
 }
 
@@ -117,7 +118,7 @@ fn pass_or_enter<'a>(mode: BERMode, opened: Opened<'a>) -> Turn<'a>
     match opened.end {
         ContentsEnd::Indefinite => Turn::Entered(opened),
         ContentsEnd::Definite(after) => {
-            if looks_into(mode, opened.bit) {
+            if descends_into(mode, opened.bit) {
                 Turn::Entered(opened)
             } else {
                 Turn::Passed(after)
@@ -133,19 +134,19 @@ fn take_turn<'a>(cursor: Cursor<'a>, outermost: &Opened<'_>) -> Result<Turn<'a>,
 {
     match open_any(cursor) {
         Ok((_, opened)) => Ok(pass_or_enter(cursor.mode, opened)),
-        Err(refusal) => {
-            if refusal.moved {
-                return Err(refusal.kind);
+        Err(rejection) => {
+            if rejection.consumed {
+                return Err(rejection.kind);
             }
-            match left_behind(outermost, cursor.left) {
+            match left_after(outermost, cursor.left) {
                 Some(after) => Ok(Turn::Left(after)),
-                None => Err(stray_end_fault(outermost, cursor.left)),
+                None => Err(stray_end_error(outermost, cursor.left)),
             }
         }
     }
 }
 
-// The bytes in front of the last so many.
+// The bytes before the last so many.
 #[inline(always)]
 fn all_but(s: &[u8], count: usize) -> &[u8]
     requires { count ≤ length s.now }
@@ -194,7 +195,7 @@ fn stopped<'a>(kind: ASN1ErrorKind) -> Result<&'a [u8], ASN1ErrorKind>
     Err(kind)
 }
 
-// Walks over the elements that stand from here on in the contents of one, and answers what follows it. A mode walks either
+// Walks over the elements that are from here on in the contents of one, and returns what follows it. A mode walks either
 // contents whose length is counted or those whose length is indefinite, so contents within end in the same way.
 #[inline(always)]
 fn walk_contents<'a>(cursor: Cursor<'a>, outermost: &Opened<'a>) -> Result<&'a [u8], ASN1ErrorKind>
@@ -204,27 +205,27 @@ fn walk_contents<'a>(cursor: Cursor<'a>, outermost: &Opened<'a>) -> Result<&'a [
 {
     // How many bytes of the outermost contents follow the innermost element; and those around it, each at the number of levels
     // that are left one element further in.
-    let mut behind: usize = 0;
+    let mut trailing: usize = 0;
     let mut outer: [usize; 100] = [0; 100];
     let mut left = cursor.left;
     let mut levels = cursor.levels;
     loop {
-        match take_turn(cursor.within(left, behind, levels), outermost) {
+        match take_turn(cursor.at_depth(left, trailing, levels), outermost) {
             Ok(Turn::Left(after)) => {
                 if levels == cursor.levels {
                     return Ok(followed_by(outermost, after));
                 }
-                let rest = last(cursor.left, behind + after.len());
-                behind = outer[usize::from(levels)];
+                let rest = last(cursor.left, trailing + after.len());
+                trailing = outer[usize::from(levels)];
                 levels += 1;
-                left = all_but(rest, behind);
+                left = all_but(rest, trailing);
             }
             Ok(Turn::Passed(after)) => left = after,
             Ok(Turn::Entered(opened)) => {
                 levels -= 1;
-                outer[usize::from(levels)] = behind;
-                behind += count_following(&opened);
-                left = opened.within;
+                outer[usize::from(levels)] = trailing;
+                trailing += count_following(&opened);
+                left = opened.contents;
             }
             Err(kind) => return stopped(kind),
         }
@@ -239,36 +240,36 @@ fn walk<'a>(cursor: Cursor<'a>, outermost: &Opened<'a>) -> Result<&'a [u8], ASN1
     ensures { WalksTo cursor.entry.mode cursor.entry.levels outermost.now.end cursor.entry.left.now result }
 {
     match cursor.mode {
-        BERMode::Ber => walk_contents(cursor.ruled_by(BERMode::Ber), outermost),
-        BERMode::Der => walk_contents(cursor.ruled_by(BERMode::Der), outermost),
-        BERMode::Cer => walk_contents(cursor.ruled_by(BERMode::Cer), outermost),
+        BERMode::Ber => walk_contents(cursor.with_mode(BERMode::Ber), outermost),
+        BERMode::Der => walk_contents(cursor.with_mode(BERMode::Der), outermost),
+        BERMode::Cer => walk_contents(cursor.with_mode(BERMode::Cer), outermost),
     }
 }
 
-// What follows an element with this header, where its contents stand to their end.
+// What follows an element with this header, where its contents are to their end.
 #[inline(always)]
 fn follow<'a>(cursor: Cursor<'a>, opened: &Opened<'a>) -> Result<&'a [u8], ASN1ErrorKind>
     requires level { 1 ≤ cursor.levels }
     requires taken { TakesEnd cursor.mode opened.now.bit opened.now.end }
-    ensures { FollowsAt cursor.entry.mode (cursor.entry.levels - 1) opened.now.bit opened.now.within opened.now.end result }
+    ensures { FollowsAt cursor.entry.mode (cursor.entry.levels - 1) opened.now.bit opened.now.contents opened.now.end result }
 {
     if let ContentsEnd::Definite(after) = opened.end {
-        if !looks_into(cursor.mode, opened.bit) {
+        if !descends_into(cursor.mode, opened.bit) {
             return Ok(after);
         }
     }
     // A copy, so that an element that isn't walked need not lie in memory.
     let outermost = Opened {
         bit: opened.bit,
-        within: opened.within,
+        contents: opened.contents,
         end: opened.end,
     };
     walk(cursor.inside(opened), &outermost)
 }
 
-/// The bytes in front of the last ones.
+/// The bytes before the last ones.
 #[inline(always)]
-pub fn in_front<'a>(s: &'a [u8], rest: &[u8]) -> &'a [u8]
+pub fn prefix_before<'a>(s: &'a [u8], rest: &[u8]) -> &'a [u8]
     requires { IsRest s.now rest.now }
     ensures { s.now ≡ result.now ++ rest.now }
 {
@@ -278,18 +279,18 @@ pub fn in_front<'a>(s: &'a [u8], rest: &[u8]) -> &'a [u8]
 // What follows the length of an element that ends before `rest`.
 #[inline(always)]
 fn payload<'a>(opened: &Opened<'a>, rest: &[u8]) -> &'a [u8]
-    requires { HasRest opened.now.end opened.now.within rest.now }
-    ensures { IsPayload opened.now.within opened.now.end rest.now result.now }
+    requires { HasRest opened.now.end opened.now.contents rest.now }
+    ensures { IsPayload opened.now.contents opened.now.end rest.now result.now }
 {
     match opened.end {
-        ContentsEnd::Definite(_) => opened.within,
-        ContentsEnd::Indefinite => in_front(opened.within, rest),
+        ContentsEnd::Definite(_) => opened.contents,
+        ContentsEnd::Indefinite => prefix_before(opened.contents, rest),
     }
 }
 
-/// Reads a raw element of any tag but that of the end of contents, and answers the rest too.
+/// Reads a raw element of any tag but that of the end of contents, and returns the rest too.
 #[inline(always)]
-pub fn raw_element(cursor: Cursor<'_>) -> Result<(RawElement<'_>, &[u8]), Refusal>
+pub fn raw_element(cursor: Cursor<'_>) -> Result<(RawElement<'_>, &[u8]), Rejection>
     ensures { RawElementAt cursor.entry.mode cursor.entry.levels cursor.entry.left.now result }
 {
     match open_any(cursor) {
@@ -299,12 +300,12 @@ pub fn raw_element(cursor: Cursor<'_>) -> Result<(RawElement<'_>, &[u8]), Refusa
                     tag,
                     bit: opened.bit,
                     payload: payload(&opened, rest),
-                    bytes: in_front(cursor.left, rest),
+                    bytes: prefix_before(cursor.left, rest),
                 };
                 Ok((element, rest))
             }
-            Err(kind) => Err(refuse(kind, true)),
+            Err(kind) => Err(reject(kind, true)),
         },
-        Err(refusal) => Err(refusal),
+        Err(rejection) => Err(rejection),
     }
 }

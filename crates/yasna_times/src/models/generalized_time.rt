@@ -21,7 +21,7 @@ use std::alloc::{AllocError, Global};
 /// A time in UTC of the years 0 to 9999, with a fraction of a second of any length.
 ///
 /// Second 60 is a second of its own, which `datetime` shows as 59. Times are ordered by date-time, then by the digits
-/// behind the nanosecond, then by whether the second is 60: so 60.1 stands before 59.5.
+/// after the nanosecond, then by whether the second is 60: so 60.1 is before 59.5.
 #[derive(PartialEq, Eq, PartialOrd, Ord, Hash, Drop)]
 pub struct GeneralizedTime {
     datetime: DateTime,
@@ -59,7 +59,7 @@ fn shown<'a>(nine: &'a [u8], sub_nano: &[u8]) -> &'a [u8]
     }
 }
 
-// Appends the digits behind a point, if there are any.
+// Appends the digits after a point, if there are any.
 fn push_fraction(text: &mut Vec<u8>, first: &[u8], sub_nano: &[u8]) -> Result<(), AllocError>
     requires { length first.now ≡ 0 → length sub_nano.now ≡ 0 }
     ensures { OnOk result (text.new.items ≡ text.old.items ++ point_digits (first.now ++ sub_nano.now)) }
@@ -79,35 +79,35 @@ fn is_same(bytes: &[u8], others: &[u8]) -> bool
     bytes == others
 }
 
-// What stands behind the front.
-fn behind<'a>(bytes: &'a [u8], front: &[u8]) -> Option<&'a [u8]>
-    ensures { MatchOption result ((r : List ℕ) → ¬ (bytes.now ≡ front.now ++ r)) (λ r. bytes.now ≡ front.now ++ r.now) }
+// What is after the front.
+fn after_prefix<'a>(bytes: &'a [u8], prefix: &[u8]) -> Option<&'a [u8]>
+    ensures { MatchOption result ((r : List ℕ) → ¬ (bytes.now ≡ prefix.now ++ r)) (λ r. bytes.now ≡ prefix.now ++ r.now) }
 {
-    if bytes.len() < front.len() {
+    if bytes.len() < prefix.len() {
         return None;
     }
-    let (start, rest) = bytes.split_at(front.len());
-    if !is_same(start, front) {
+    let (start, rest) = bytes.split_at(prefix.len());
+    if !is_same(start, prefix) {
         return None;
     }
     Some(rest)
 }
 
-// What stands behind a fraction of these digits.
-fn behind_fraction<'a>(bytes: &'a [u8], first: &[u8], sub_nano: &[u8]) -> Option<&'a [u8]>
+// What is after a fraction of these digits.
+fn after_fraction<'a>(bytes: &'a [u8], first: &[u8], sub_nano: &[u8]) -> Option<&'a [u8]>
     requires { length first.now ≡ 0 → length sub_nano.now ≡ 0 }
     ensures { MatchOption result ((r : List ℕ) → ¬ (bytes.now ≡ point_digits (first.now ++ sub_nano.now) ++ r)) (λ r. bytes.now ≡ point_digits (first.now ++ sub_nano.now) ++ r.now) }
 {
     if first.is_empty() {
         return Some(bytes);
     }
-    let Some(digits) = behind(bytes, b".".as_slice()) else {
+    let Some(digits) = after_prefix(bytes, b".".as_slice()) else {
         return None;
     };
-    let Some(rest) = behind(digits, first) else {
+    let Some(rest) = after_prefix(digits, first) else {
         return None;
     };
-    match behind(rest, sub_nano) {
+    match after_prefix(rest, sub_nano) {
         Some(rest) => Some(rest),
         None => None,
     }
@@ -117,7 +117,7 @@ impl GeneralizedTime {
     ghost use Rattle.yasna_times.specs.Models.{moment_of, IsTimeAt, SameTime};
 
     /// The time that a text of X.680's GeneralizedTime says: `YYYYMMDDhh`, the minute or not, the second or not, the
-    /// fraction of the last of these behind `.` or `,` or not, and `Z`, `+hh`, `-hh`, `+hhmm` or `-hhmm`.
+    /// fraction of the last of these after `.` or `,` or not, and `Z`, `+hh`, `-hh`, `+hhmm` or `-hhmm`.
     ///
     /// The fraction may have any number of digits, and is kept as it is. A text without a zone is none. Memory is asked for
     /// only where the fraction has more than nine digits.
@@ -192,7 +192,7 @@ impl GeneralizedTime {
         })
     }
 
-    /// The local date-time less the offset, with these digits behind its nanosecond, whose zeros at the end are dropped. Where
+    /// The local date-time less the offset, with these digits after its nanosecond, whose zeros at the end are dropped. Where
     /// no digits are left, no memory is asked for.
     pub fn from_datetime_and_sub_nano(
         alloc: Global,
@@ -240,14 +240,14 @@ impl GeneralizedTime {
         &self.datetime
     }
 
-    /// The digits of the second's fraction behind the nanosecond, in ASCII, without zeros at their end.
+    /// The digits of the second's fraction after the nanosecond, in ASCII, without zeros at their end.
     pub fn sub_nano(&self) -> &[u8]
         ensures { result.now ≡ self.now.sub_nano.items }
     {
         self.sub_nano.as_slice()
     }
 
-    /// The same time again. Without digits behind the nanosecond it takes no memory.
+    /// The same time again. Without digits after the nanosecond it takes no memory.
     pub fn clone(&self) -> Result<GeneralizedTime, AllocError>
         ensures same { IfOk result (SameTime self.now) }
         ensures memory { IfErr result (λ _. 0 < length self.now.sub_nano.items) }
@@ -324,10 +324,10 @@ impl GeneralizedTime {
         nine(self.datetime.subsec_nanosecond() as u32)
     }
 
-    /// The canonical text as bytes: `YYYYMMDDhhmmss`, the fraction of the second behind `.` if there is one, `Z`.
+    /// The canonical text as bytes: `YYYYMMDDhhmmss`, the fraction of the second after `.` if there is one, `Z`.
     pub fn to_bytes(&self, alloc: Global) -> Result<Vec<u8>, AllocError>
         ensures text { IfOk result (λ v. v.items ≡ general_text (moment_of self.now)) }
-        ensures says { IfOk result (λ v. (given : Option ℤ) → IsGeneralText v.items given (moment_of self.now)) }
+        ensures spells { IfOk result (λ v. (given : Option ℤ) → IsGeneralText v.items given (moment_of self.now)) }
     {
         let nine = self.nine();
         let first = shown(nine.as_slice(), self.sub_nano.as_slice());
@@ -352,10 +352,10 @@ impl GeneralizedTime {
     {
         let nine = self.nine();
         let first = shown(nine.as_slice(), self.sub_nano.as_slice());
-        let Some(fraction) = behind(bytes, self.clock().as_slice()) else {
+        let Some(fraction) = after_prefix(bytes, self.clock().as_slice()) else {
             return false;
         };
-        let Some(zone) = behind_fraction(fraction, first, self.sub_nano.as_slice()) else {
+        let Some(zone) = after_fraction(fraction, first, self.sub_nano.as_slice()) else {
             return false;
         };
         is_same(zone, b"Z".as_slice())

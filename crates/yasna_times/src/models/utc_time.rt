@@ -156,7 +156,7 @@ impl UTCTime {
     /// The canonical text as bytes.
     pub fn to_bytes(&self, alloc: Global) -> Result<Vec<u8>, AllocError>
         ensures text { IfOk result (λ v. v.items ≡ utc_text (utc_of self.now)) }
-        ensures says { IfOk result (λ v. IsUtcText v.items (utc_of self.now)) }
+        ensures spells { IfOk result (λ v. IsUtcText v.items (utc_of self.now)) }
     {
         Vec::from_slice(alloc, &self.text())
     }

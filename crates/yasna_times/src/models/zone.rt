@@ -75,7 +75,7 @@ fn offset_of(seconds: i32) -> Offset
     Offset::from_seconds(seconds).unwrap()
 }
 
-// The offset of a clock that is ahead of UTC, or behind it, by so many seconds, as the sign says.
+// The offset of a clock that is ahead of UTC, or after it, by so many seconds, as the sign says.
 fn signed(sign: u8, seconds: u32) -> Option<Offset>
     requires { seconds < 86400 }
     ensures { MatchOption result ((z : ℤ) → ¬ (IsOffset sign seconds z)) (λ o. IsOffset sign seconds o.seconds) }
@@ -87,7 +87,7 @@ fn signed(sign: u8, seconds: u32) -> Option<Offset>
     }
 }
 
-// The offset of the zone of a `UTCTime` that stands at `at`.
+// The offset of the zone of a `UTCTime` that is at `at`.
 pub(crate) fn utc_zone(bytes: &[u8], at: usize) -> Option<Offset>
     requires { at ≤ length bytes.now }
     ensures { MatchOption result ((z : ℤ) → ¬ (IsUtcZone bytes.now at z)) (λ o. IsUtcZone bytes.now at o.seconds) }
@@ -104,7 +104,7 @@ pub(crate) fn utc_zone(bytes: &[u8], at: usize) -> Option<Offset>
     signed(bytes[at], seconds)
 }
 
-// The offset of the zone of a `GeneralizedTime` that stands at `at`, or the given one where the text ends there.
+// The offset of the zone of a `GeneralizedTime` that is at `at`, or the given one where the text ends there.
 pub(crate) fn zone(bytes: &[u8], at: usize, given: Option<Offset>) -> Option<Offset>
     requires { at ≤ length bytes.now }
     ensures { MatchOption result ((z : ℤ) → ¬ (IsZone bytes.now (seconds_of given) at z)) (λ o. IsZone bytes.now (seconds_of given) at o.seconds) }

@@ -14,5 +14,5 @@ pub returns-else-is_context : goal.returns-else-is_context
 returns-else-is_context g c =
     let is = sym c.is_context.ensures ∙ c.if-is_context.false in
     let other = c.map-else-is_context in
-    found_mapped Second whole c.args.tag c.args.reader.now c.read_behind_and.new.reader c.read_behind_and.result other.result other.ensures.cases
-    (found_other c.args.tag c.args.reader.now c.read_behind_and.result c.read_behind_and.new.reader is c.read_behind_and.ensures)
+    found_mapped Second whole c.args.tag c.args.reader.now c.read_after_and.new.reader c.read_after_and.result other.result other.ensures.cases
+    (found_other c.args.tag c.args.reader.now c.read_after_and.result c.read_after_and.new.reader is c.read_after_and.ensures)

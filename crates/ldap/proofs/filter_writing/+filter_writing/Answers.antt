@@ -1,9 +1,9 @@
 use Rattle.std.proofs.Common.{rules, arith, map, ap, sym, subst, None}
 use Rattle.std.specs.List.{AllByRecursion}
 use Rattle.yasna_base.specs.declared.tag.PCBit.TheVariants.{Constructed}
-use Rattle.yasna_base.specs.Canonical.{canonical_element, enclosed_form}
+use Rattle.yasna_base.specs.Canonical.{canonical_element, enclosed_encoding}
 use Rattle.yasna_base.specs.Identifier.{context, tag_or}
-use Rattle.yasna_base.specs.Null.{null_tag, null_form}
+use Rattle.yasna_base.specs.Null.{null_tag, null_encoding}
 use Rattle.yasna_writer.specs.View.{Writes, Written, Wrote}
 use Rattle.yasna_notation.specs.declared.choices.Either.TheVariants.{First, Second}
 use Rattle.yasna_notation.proofs.Around.{around_one}
@@ -18,13 +18,13 @@ write_element-returns-in_ok-write_null-in-Err t c =
     let old = c.args.writer.now in
     let mid = c.write_filter.new.writer in
     let new = c.write_null.new.self in
-    let form = the_filter.form_under in
-    let b = form None old.mode c.args.item.now in
-    let d = form old.tag old.mode c.args.item.now in
+    let encoding = the_filter.encoding_under in
+    let b = encoding None old.mode c.args.item.now in
+    let d = encoding old.tag old.mode c.args.item.now in
     let u = tag_or mid.tag null_tag in
     after_null b d u mid.mode old mid new c.in-Err.error c.in_ok-write_null-in-Err.field-0
     (subst (λ r. Writes d old mid r) c.in-Err.is c.write_filter.ensures)
-    (subst (λ r. Wrote (null_form u mid.mode tt) mid new r) c.in_ok-write_null-in-Err.was c.write_null.ensures)
+    (subst (λ r. Wrote (null_encoding u mid.mode tt) mid new r) c.in_ok-write_null-in-Err.was c.write_null.ensures)
 
 pub write_filter-write_filters-requires : goal.write_filter-write_filters-requires
 write_filter-write_filters-requires t c =
@@ -83,7 +83,7 @@ write_filter-returns-in-Not t c =
     let old = c.args.writer.now in
     let new = c.write_negated.new.writer in
     parts_written v (Second (Second (First f))) (in_not v f c.in-Not.is) old new c.write_negated.result
-    (subst (λ z. Writes (enclosed_form (the_filter.form_under None) (tag_or old.tag (context 2)) old.mode z) old new c.write_negated.result)
+    (subst (λ z. Writes (enclosed_encoding (the_filter.encoding_under None) (tag_or old.tag (context 2)) old.mode z) old new c.write_negated.result)
     c.deref.ensures c.write_negated.ensures)
 
 pub write_filter-returns-in-Item : goal.write_filter-returns-in-Item
@@ -97,17 +97,17 @@ write_filters-returns t c = c.write_group.ensures
 
 pub write_filters-write_group-requires-clause-takes : goal.write_filters-write_group-requires-clause-takes
 write_filters-write_group-requires-clause-takes t c =
-    each_less _ the_filter.can c.args.filters.now c.requires (λ v can less f p w is begins kept. (
+    each_less _ the_filter.can c.args.filters.now c.requires (λ v can less f p w is begins failed. (
       omega (arith, less, c.decreases, ap depth_of is),
-      (subst (λ z. the_filter.can z) (sym is) can, (begins, kept)),
+      (subst (λ z. the_filter.can z) (sym is) can, (begins, failed)),
     ))
 
 pub write_negated-returns : goal.write_negated-returns
 write_negated-returns t c =
     let old : Written = c.args.writer.now in
     let new : Written = c.write_tagged.new.self in
-    let form = the_filter.form_under None in
+    let encoding = the_filter.encoding_under None in
     let v = c.args.negated.now in
-    subst (λ t. Writes (canonical_element old.mode (tag_or old.tag t) Constructed (form old.mode v)) old new c.write_tagged.result) c.context.ensures
-    (around_one _ _ _ (λ k e h. h) (canonical_element old.mode (tag_or old.tag c.context.result) Constructed) (λ u m. form m v)
+    subst (λ t. Writes (canonical_element old.mode (tag_or old.tag t) Constructed (encoding old.mode v)) old new c.write_tagged.result) c.context.ensures
+    (around_one _ _ _ (λ k e h. h) (canonical_element old.mode (tag_or old.tag c.context.result) Constructed) (λ u m. encoding m v)
     old new c.write_tagged.result c.write_tagged.ensures (λ p q x h. search rules))

@@ -7,12 +7,12 @@ use Rattle.yasna.proofs.whole.decode_ber_general.Goals as goal
 pub returns : goal.returns
 returns g c =
     let p = c.parse_ber_general.ensures in
-    let h : Decodes g.T.BERDecodable.asks_memory g.T.BERDecodable.encodes g.T.BERDecodable.elements (starts c.args.src.now c.args.mode)
+    let h : Decodes g.T.BERDecodable.may_allocate g.T.BERDecodable.encodes g.T.BERDecodable.elements (starts c.args.src.now c.args.mode)
     p.own p.left = search rules in
-    let w = whole g.T.BERDecodable.asks_memory g.met.T.BERDecodable.coding c.args.mode c.args.src.now p.own p.left h c.parse_ber_general.result p.answers in
+    let w = whole g.T.BERDecodable.may_allocate g.met.T.BERDecodable.coding c.args.mode c.args.src.now p.own p.left h c.parse_ber_general.result p.returns in
     let does : g.T.BERDecodable.reads (starts c.args.src.now c.args.mode) p.own p.left = search rules in
     record {
       decoded = w;
-      answers = record { own = p.own; left = p.left; says = does; answers = p.answers };
-      exact = exactly g.T.BERDecodable.asks_memory g.met.T.BERDecodable.coding c.args.mode c.args.src.now c.parse_ber_general.result w;
+      parses = record { own = p.own; left = p.left; obeys = does; returns = p.returns };
+      exact = exactly g.T.BERDecodable.may_allocate g.met.T.BERDecodable.coding c.args.mode c.args.src.now c.parse_ber_general.result w;
     }

@@ -1,5 +1,5 @@
 use Rattle.std.proofs.Common.{rules}
 use Rattle.yasna.proofs.whole.encode_der.Goals as goal
 
-pub returns-clause-form : goal.returns-clause-form
-returns-clause-form g c = search rules
+pub returns-clause-encoding : goal.returns-clause-encoding
+returns-clause-encoding g c = search rules

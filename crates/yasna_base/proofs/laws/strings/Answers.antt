@@ -1,5 +1,5 @@
 use Rattle.yasna_base.specs.Text.{InUtf8, InNumeric, InPrintable, InVisible, InIa5}
-use Rattle.yasna_base.proofs.BitForm.{bits_keep}
+use Rattle.yasna_base.proofs.BitEncoding.{bits_keep}
 use Rattle.yasna_base.proofs.Bits.{bits_once}
 use Rattle.yasna_base.proofs.Bmp.{bmp_keeps}
 use Rattle.yasna_base.proofs.Segmented.{deep_not_segmented}

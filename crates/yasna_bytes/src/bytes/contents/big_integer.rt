@@ -2,7 +2,7 @@
 ghost use Rattle.std.specs.Prelude.{◌≡◌, IfOk, IfErr};
 ghost use Rattle.yasna_base.specs.BigInteger.{BigInteger, IsBigInteger};
 ghost use Rattle.yasna_base.specs.declared.error.ASN1ErrorKind.TheVariants.{OutOfMemory};
-ghost use Rattle.yasna_bytes.specs.Contents.{big_integer_in, WantsMemory};
+ghost use Rattle.yasna_bytes.specs.Contents.{big_integer_in, MayAllocate};
 
 use crate::bytes::contents::Contents;
 use crate::bytes::contents::integer::is_minimal;
@@ -26,13 +26,13 @@ fn copied(alloc: Global, bytes: &[u8]) -> Result<Vec<u8>, ASN1ErrorKind>
 
 /// The contents as they are, and whether the number isn't negative.
 impl Contents for (Vec<u8>, bool) {
-    ghost Said = { BigInteger };
+    ghost Seen = { BigInteger };
 
     ghost view = { big_integer_in };
 
     ghost means = { IsBigInteger };
 
-    ghost wants = { WantsMemory };
+    ghost may_allocate = { MayAllocate };
 
     #[inline(always)]
     fn of_contents(

@@ -2,7 +2,7 @@
 ghost use Rattle.std.specs.Prelude.{ℕ, ℤ, ◌≡◌, ◌≤◌, ◌<◌, ◌+◌, ◌-◌, length, slice_index, IsTrue, ◌↔◌};
 ghost use Rattle.std.specs.Int.{w8, w16, w32, w64};
 ghost use Rattle.yasna_base.specs.Integer.{IsMinimal, twos, IsSigned, IsUnsigned};
-ghost use Rattle.yasna_bytes.specs.Contents.{Never};
+ghost use Rattle.yasna_bytes.specs.Contents.{NeverAllocates};
 
 use crate::bytes::contents::Contents;
 use crate::bytes::length::number_of;
@@ -24,19 +24,19 @@ pub fn is_minimal(contents: &[u8]) -> bool
 
 // One of the bytes of a number that is written in eight: those in front repeat the first bit of its contents.
 #[inline(always)]
-fn extended(contents: &[u8], behind: usize) -> u8
+fn extended(contents: &[u8], trailing: usize) -> u8
     requires some { 1 ≤ length contents.now }
-    requires within { behind < length contents.now + 8 }
-    ensures positive { behind < 8 → slice_index contents.now 0 < 128 → result ≡ 0 }
-    ensures negative { behind < 8 → 128 ≤ slice_index contents.now 0 → result ≡ 255 }
-    ensures contents { 8 ≤ behind → result ≡ slice_index contents.now (behind - 8) }
+    requires in_eight { trailing < length contents.now + 8 }
+    ensures positive { trailing < 8 → slice_index contents.now 0 < 128 → result ≡ 0 }
+    ensures negative { trailing < 8 → 128 ≤ slice_index contents.now 0 → result ≡ 255 }
+    ensures contents { 8 ≤ trailing → result ≡ slice_index contents.now (trailing - 8) }
 {
-    let byte = contents[behind.saturating_sub(8)];
+    let byte = contents[trailing.saturating_sub(8)];
     let sign = if contents[0] < 128 { 0 } else { 255 };
-    if behind < 8 { sign } else { byte }
+    if trailing < 8 { sign } else { byte }
 }
 
-// The number that a few bytes stand for in two's complement. More than one are taken as eight, so that no branch depends on
+// The number that a few bytes represent in two's complement. More than one are taken as eight, so that no branch depends on
 // how many there are.
 #[inline(always)]
 fn signed_of(contents: &[u8]) -> i64
@@ -56,13 +56,13 @@ fn signed_of(contents: &[u8]) -> i64
 }
 
 impl Contents for i64 {
-    ghost Said = { ℤ };
+    ghost Seen = { ℤ };
 
     ghost view = { λ v. v };
 
     ghost means = { IsSigned w64 };
 
-    ghost wants = { Never };
+    ghost may_allocate = { NeverAllocates };
 
     #[inline(always)]
     fn of_contents(_alloc: Global, _mode: BERMode, contents: &[u8]) -> Result<i64, ASN1ErrorKind> {
@@ -77,13 +77,13 @@ impl Contents for i64 {
 }
 
 impl Contents for i32 {
-    ghost Said = { ℤ };
+    ghost Seen = { ℤ };
 
     ghost view = { λ v. v };
 
     ghost means = { IsSigned w32 };
 
-    ghost wants = { Never };
+    ghost may_allocate = { NeverAllocates };
 
     #[inline(always)]
     fn of_contents(alloc: Global, mode: BERMode, contents: &[u8]) -> Result<i32, ASN1ErrorKind> {
@@ -93,13 +93,13 @@ impl Contents for i32 {
 }
 
 impl Contents for i16 {
-    ghost Said = { ℤ };
+    ghost Seen = { ℤ };
 
     ghost view = { λ v. v };
 
     ghost means = { IsSigned w16 };
 
-    ghost wants = { Never };
+    ghost may_allocate = { NeverAllocates };
 
     #[inline(always)]
     fn of_contents(alloc: Global, mode: BERMode, contents: &[u8]) -> Result<i16, ASN1ErrorKind> {
@@ -109,13 +109,13 @@ impl Contents for i16 {
 }
 
 impl Contents for i8 {
-    ghost Said = { ℤ };
+    ghost Seen = { ℤ };
 
     ghost view = { λ v. v };
 
     ghost means = { IsSigned w8 };
 
-    ghost wants = { Never };
+    ghost may_allocate = { NeverAllocates };
 
     #[inline(always)]
     fn of_contents(alloc: Global, mode: BERMode, contents: &[u8]) -> Result<i8, ASN1ErrorKind> {
@@ -125,13 +125,13 @@ impl Contents for i8 {
 }
 
 impl Contents for u64 {
-    ghost Said = { ℕ };
+    ghost Seen = { ℕ };
 
     ghost view = { λ v. v };
 
     ghost means = { IsUnsigned 64 };
 
-    ghost wants = { Never };
+    ghost may_allocate = { NeverAllocates };
 
     #[inline(always)]
     fn of_contents(_alloc: Global, _mode: BERMode, contents: &[u8]) -> Result<u64, ASN1ErrorKind> {
@@ -152,13 +152,13 @@ impl Contents for u64 {
 }
 
 impl Contents for u32 {
-    ghost Said = { ℕ };
+    ghost Seen = { ℕ };
 
     ghost view = { λ v. v };
 
     ghost means = { IsUnsigned 32 };
 
-    ghost wants = { Never };
+    ghost may_allocate = { NeverAllocates };
 
     #[inline(always)]
     fn of_contents(alloc: Global, mode: BERMode, contents: &[u8]) -> Result<u32, ASN1ErrorKind> {
@@ -168,13 +168,13 @@ impl Contents for u32 {
 }
 
 impl Contents for u16 {
-    ghost Said = { ℕ };
+    ghost Seen = { ℕ };
 
     ghost view = { λ v. v };
 
     ghost means = { IsUnsigned 16 };
 
-    ghost wants = { Never };
+    ghost may_allocate = { NeverAllocates };
 
     #[inline(always)]
     fn of_contents(alloc: Global, mode: BERMode, contents: &[u8]) -> Result<u16, ASN1ErrorKind> {
@@ -184,13 +184,13 @@ impl Contents for u16 {
 }
 
 impl Contents for u8 {
-    ghost Said = { ℕ };
+    ghost Seen = { ℕ };
 
     ghost view = { λ v. v };
 
     ghost means = { IsUnsigned 8 };
 
-    ghost wants = { Never };
+    ghost may_allocate = { NeverAllocates };
 
     #[inline(always)]
     fn of_contents(alloc: Global, mode: BERMode, contents: &[u8]) -> Result<u8, ASN1ErrorKind> {

@@ -4,9 +4,9 @@ ghost use Rattle.yasna_base.specs.declared.error.ASN1ErrorKind.TheVariants.{OutO
 ghost use Rattle.yasna_base.specs.declared.mode.BERMode.{BERMode};
 ghost use Rattle.yasna_base.specs.Base128.{Base128At};
 ghost use Rattle.yasna_base.specs.Oid.{AreFirstTwo, AreComponents};
-ghost use Rattle.yasna_bytes.specs.Contents.{Decides, WantsMemory};
+ghost use Rattle.yasna_bytes.specs.Contents.{Decides, MayAllocate};
 ghost use Rattle.yasna_bytes.specs.Oid.{AppendsFirst, AppendsNumbers};
-ghost use Rattle.yasna_bytes.specs.Refusal.{BlamesBytes};
+ghost use Rattle.yasna_bytes.specs.Rejection.{BlamesBytes};
 
 use crate::bytes::contents::Contents;
 use std::alloc::Global;
@@ -25,7 +25,7 @@ fn count(contents: &[u8]) -> usize {
     count
 }
 
-// The subidentifier at the front, however long (X.690, 8.19.2). It stays a call, so that the case of one byte is short where it
+// The subidentifier at the start, however long (X.690, 8.19.2). It stays a call, so that the case of one byte is short where it
 // is inlined.
 #[inline(never)]
 fn longer(s: &[u8]) -> Result<(u64, &[u8]), ASN1ErrorKind>
@@ -34,7 +34,7 @@ fn longer(s: &[u8]) -> Result<(u64, &[u8]), ASN1ErrorKind>
     read_base128(s)
 }
 
-// The subidentifier at the front: most are a single byte, which is read where it stands.
+// The subidentifier at the start: most are a single byte, which is read where it is.
 #[inline(always)]
 fn subidentifier(s: &[u8]) -> Result<(u64, &[u8]), ASN1ErrorKind>
     ensures { Base128At s.now result }
@@ -105,10 +105,10 @@ fn push_all(components: &mut Vec<u64>, contents: &[u8]) -> Result<(), ASN1ErrorK
     Ok(())
 }
 
-// The object identifier that contents stand for.
+// The object identifier that contents represent.
 #[inline(always)]
 fn read_components(alloc: Global, contents: &[u8]) -> Result<ObjectIdentifier, ASN1ErrorKind>
-    ensures { (m : BERMode) → Decides (AreComponents m) (λ v. v) WantsMemory contents.now result }
+    ensures { (m : BERMode) → Decides (AreComponents m) (λ v. v) MayAllocate contents.now result }
 {
     if contents.is_empty() {
         return Err(ASN1ErrorKind::Invalid);
@@ -129,12 +129,12 @@ fn read_components(alloc: Global, contents: &[u8]) -> Result<ObjectIdentifier, A
     }
 }
 
-// Of what kind a refusal is, where first it is asked whether the last subidentifier ends.
+// Of what kind an error is, where first it is asked whether the last subidentifier ends.
 #[cold]
 #[inline(never)]
-fn fault(contents: &[u8], kind: ASN1ErrorKind) -> ASN1ErrorKind
+fn oid_error(contents: &[u8], kind: ASN1ErrorKind) -> ASN1ErrorKind
     ensures memory { kind ≡ OutOfMemory → result ≡ OutOfMemory }
-    ensures plain { BlamesBytes kind → BlamesBytes result }
+    ensures blames_bytes { BlamesBytes kind → BlamesBytes result }
 {
     match kind {
         ASN1ErrorKind::OutOfMemory => kind,
@@ -146,13 +146,13 @@ fn fault(contents: &[u8], kind: ASN1ErrorKind) -> ASN1ErrorKind
 }
 
 impl Contents for ObjectIdentifier {
-    ghost Said = { List ℕ };
+    ghost Seen = { List ℕ };
 
     ghost view = { λ v. v };
 
     ghost means = { AreComponents };
 
-    ghost wants = { WantsMemory };
+    ghost may_allocate = { MayAllocate };
 
     #[inline(always)]
     fn of_contents(
@@ -162,7 +162,7 @@ impl Contents for ObjectIdentifier {
     ) -> Result<ObjectIdentifier, ASN1ErrorKind> {
         match read_components(alloc, contents) {
             Ok(oid) => Ok(oid),
-            Err(kind) => Err(fault(contents, kind)),
+            Err(kind) => Err(oid_error(contents, kind)),
         }
     }
 }

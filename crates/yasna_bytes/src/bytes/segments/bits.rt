@@ -2,12 +2,12 @@
 ghost use Rattle.std.proofs.Common.{refl};
 ghost use Rattle.std.specs.Prelude.{◌≡◌, ◌∷◌, ◌+◌, ◌*◌, ◌-◌, ◌^◌, ◌≤◌, ◌<◌, length, IsTrue, ◌↔◌, MatchOption};
 ghost use Rattle.yasna_base.specs.declared.mode.BERMode.TheVariants.{Der};
-ghost use Rattle.yasna_base.proofs.Bits.{bits_once, joined_follow, follow_front};
+ghost use Rattle.yasna_base.proofs.Bits.{bits_once, joined_follow, follow_prefix};
 ghost use Rattle.yasna_base.specs.Bits.{BitString, IsPadded, bits_segmentation};
 ghost use Rattle.yasna_bytes.specs.Segments.{BitsAt};
 
 use crate::bytes::cursor::Cursor;
-use crate::bytes::header::Refusal;
+use crate::bytes::header::Rejection;
 use crate::bytes::segments::{Tally, string};
 use std::alloc::Global;
 use yasna_base::error::ASN1ErrorKind;
@@ -124,20 +124,20 @@ impl Tally for Bits {
 
     ghost once = { bits_once };
 
-    ghost go_on = { record { joined = joined_follow; more = λ vs ws w h. follow_front vs (w ∷ ws) h } };
+    ghost go_on = { record { joined = joined_follow; more = λ vs ws w h. follow_prefix vs (w ∷ ws) h } };
 }
 
-/// The bit string with this tag at the front, its bytes and how many bits they hold, and the rest.
+/// The bit string with this tag at the start, its bytes and how many bits they hold, and the rest.
 #[inline(always)]
 pub fn bit_string<'a>(
     alloc: Global,
     cursor: Cursor<'a>,
     tag: Tag,
-) -> Result<((Vec<u8>, usize), &'a [u8]), Refusal>
+) -> Result<((Vec<u8>, usize), &'a [u8]), Rejection>
     ensures { BitsAt cursor.entry.levels cursor.entry.mode tag cursor.entry.left.now result }
 {
     match string::<Bits>(alloc, cursor, tag) {
         Ok(((bytes, bits), rest)) => Ok(((bytes, bits.count), rest)),
-        Err(refusal) => Err(refusal),
+        Err(rejection) => Err(rejection),
     }
 }

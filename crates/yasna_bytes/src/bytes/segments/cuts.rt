@@ -1,7 +1,7 @@
 //! How a string is cut into segments, as far as CER asks it (X.690, 9.2).
 ghost use Rattle.std.specs.Prelude.{◌≡◌, ◌↔◌, IsTrue, true, false};
 ghost use Rattle.yasna_base.specs.Segmented.{StaysWhole, MaySegment, segment_mode};
-ghost use Rattle.yasna_bytes.specs.Segments.{further_cut, AsksFor};
+ghost use Rattle.yasna_bytes.specs.Segments.{further_cut, AcceptsCuts};
 
 use yasna_base::mode::BERMode;
 
@@ -56,7 +56,7 @@ pub fn may_segment(mode: BERMode) -> bool
 
 /// The rules of the segments: in CER they are strings of DER.
 #[inline(always)]
-pub fn segment_rules(mode: BERMode) -> BERMode
+pub fn inner_mode(mode: BERMode) -> BERMode
     ensures { result ≡ segment_mode mode }
 {
     match mode {
@@ -81,7 +81,7 @@ pub fn stays_whole(mode: BERMode, full: usize, size: usize) -> bool
 /// Whether a mode takes segments that are cut so.
 #[inline(always)]
 pub fn takes_cuts(mode: BERMode, cuts: Cuts) -> bool
-    ensures { IsTrue result ↔ AsksFor mode cuts }
+    ensures { IsTrue result ↔ AcceptsCuts mode cuts }
 {
     match mode {
         BERMode::Ber => true,

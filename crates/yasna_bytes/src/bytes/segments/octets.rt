@@ -6,7 +6,7 @@ ghost use Rattle.yasna_base.specs.Octets.{octets_segmentation};
 ghost use Rattle.yasna_bytes.specs.Segments.{OctetsAt, WholeOctetsAt};
 
 use crate::bytes::cursor::Cursor;
-use crate::bytes::header::{ContentsEnd, Refusal, open, refuse};
+use crate::bytes::header::{ContentsEnd, Rejection, open, reject};
 use crate::bytes::segments::cuts::stays_whole;
 use crate::bytes::segments::{Tally, string};
 use std::alloc::Global;
@@ -63,40 +63,40 @@ impl Tally for Octets {
     ghost go_on = { record { joined = λ m vs ws w v h. tt {0}; more = λ vs ws w h. tt {0} } };
 }
 
-/// The octet string with this tag at the front, and the rest.
+/// The octet string with this tag at the start, and the rest.
 #[inline(always)]
 pub fn octet_string<'a>(
     alloc: Global,
     cursor: Cursor<'a>,
     tag: Tag,
-) -> Result<(Vec<u8>, &'a [u8]), Refusal>
+) -> Result<(Vec<u8>, &'a [u8]), Rejection>
     ensures { OctetsAt cursor.entry.levels cursor.entry.mode tag cursor.entry.left.now result }
 {
     match string::<Octets>(alloc, cursor, tag) {
         Ok(((bytes, _), rest)) => Ok((bytes, rest)),
-        Err(refusal) => Err(refusal),
+        Err(rejection) => Err(rejection),
     }
 }
 
-/// The octets of a string with this tag at the front where they stand, and the rest; `None` if the string is constructed.
+/// The octets of a string with this tag at the start where they are, and the rest; `None` if the string is constructed.
 #[inline(always)]
-pub fn whole_octets(cursor: Cursor<'_>, tag: Tag) -> Result<Option<(&[u8], &[u8])>, Refusal>
+pub fn whole_octets(cursor: Cursor<'_>, tag: Tag) -> Result<Option<(&[u8], &[u8])>, Rejection>
     ensures { WholeOctetsAt cursor.entry.levels cursor.entry.mode tag cursor.entry.left.now result }
 {
     let opened = match open(cursor, tag) {
         Ok(opened) => opened,
-        Err(refusal) => return Err(refusal),
+        Err(rejection) => return Err(rejection),
     };
     match opened.bit {
         PCBit::Primitive => {
             let ContentsEnd::Definite(after) = opened.end else {
                 // No mode takes the indefinite form there.
-                return Err(refuse(ASN1ErrorKind::Invalid, true));
+                return Err(reject(ASN1ErrorKind::Invalid, true));
             };
-            if !stays_whole(cursor.mode, Octets::full(), opened.within.len()) {
-                return Err(refuse(ASN1ErrorKind::Invalid, true));
+            if !stays_whole(cursor.mode, Octets::full(), opened.contents.len()) {
+                return Err(reject(ASN1ErrorKind::Invalid, true));
             }
-            Ok(Some((opened.within, after)))
+            Ok(Some((opened.contents, after)))
         }
         PCBit::Constructed => Ok(None),
     }

@@ -16,19 +16,19 @@ returns g c =
     let w = g.W.Parts in
     let s = part_of c.args.seq.now in
     let m = c.read_with_buffer.new.self in
-    let N = ReadsAs n.told n.tags n.retagged n.asks_memory n.under n.any_under in
-    let first = beside_first {told = n.told} {ts = n.tags} {retagged = n.retagged} {asks = n.asks_memory} {B = n.under} {S = n.any_under}
-    {Q = w.any_parts} (g.met.A.Notation.keeps (and_parts g.A.Notation.apart w.apart c.requires.apart).0).own.coding in
+    let N = ReadsAs n.tags_known n.tags n.retagged n.may_allocate n.under n.any_under in
+    let first = beside_first {tags_known = n.tags_known} {ts = n.tags} {retagged = n.retagged} {may_allocate = n.may_allocate} {B = n.under} {S = n.any_under}
+    {Q = w.any_parts} (g.met.A.Notation.lawful (and_parts g.A.Notation.unambiguous w.unambiguous c.requires.unambiguous).0).own.coding in
     let read = buffer_called _ _ N c.next.result.now c.read_with_buffer.result m c.read_with_buffer.ensures (λ p q x h. search rules) in
     let left = part_of c.read_parts.new.seq in
     let o = c.in_ok-others.others in
-    contents_so (n.asks_memory || w.asks_memory) (PartOf (BesideBytes (n.under None)) w.parts) (PartsWithFirst (n.under None) w.parts)
-    (AnyPart (n.any_under None) w.any_parts) s left left.kept ((c.in_ok-first.first, c.in_ok-first.first_bytes), o)
+    contents_so (n.may_allocate || w.may_allocate) (PartOf (BesideBytes (n.under None)) w.parts) (PartsWithFirst (n.under None) w.parts)
+    (AnyPart (n.any_under None) w.any_parts) s left left.failed ((c.in_ok-first.first, c.in_ok-first.first_bytes), o)
     (record { first = c.in_ok-first.first; others = o; first_bytes = c.in_ok-first.first_bytes }) (λ k z. z)
-    (first_read w.asks_memory w.parts first s c.requires.fresh c.read_with_buffer.result m
+    (first_read w.may_allocate w.parts first s c.requires.fresh c.read_with_buffer.result m
     (subst (λ z. ReadsBuffer N z c.read_with_buffer.result m) c.next.ensures.value read) (c.in_ok-first.first, c.in_ok-first.first_bytes)
     c.in_ok-first.was (Ok o) left
-    (subst (λ z. ReadsContents w.asks_memory w.parts w.any_parts m z left) c.in_ok-others.was c.read_parts.ensures))
+    (subst (λ z. ReadsContents w.may_allocate w.parts w.any_parts m z left) c.in_ok-others.was c.read_parts.ensures))
 
 pub returns-in_err-others : goal.returns-in_err-others
 returns-in_err-others g c =
@@ -36,19 +36,19 @@ returns-in_err-others g c =
     let w = g.W.Parts in
     let s = part_of c.args.seq.now in
     let m = c.read_with_buffer.new.self in
-    let N = ReadsAs n.told n.tags n.retagged n.asks_memory n.under n.any_under in
-    let first = beside_first {told = n.told} {ts = n.tags} {retagged = n.retagged} {asks = n.asks_memory} {B = n.under} {S = n.any_under}
-    {Q = w.any_parts} (g.met.A.Notation.keeps (and_parts g.A.Notation.apart w.apart c.requires.apart).0).own.coding in
+    let N = ReadsAs n.tags_known n.tags n.retagged n.may_allocate n.under n.any_under in
+    let first = beside_first {tags_known = n.tags_known} {ts = n.tags} {retagged = n.retagged} {may_allocate = n.may_allocate} {B = n.under} {S = n.any_under}
+    {Q = w.any_parts} (g.met.A.Notation.lawful (and_parts g.A.Notation.unambiguous w.unambiguous c.requires.unambiguous).0).own.coding in
     let read = buffer_called _ _ N c.next.result.now c.read_with_buffer.result m c.read_with_buffer.ensures (λ p q x h. search rules) in
     let left = part_of c.read_parts.new.seq in
     let e = c.in_err-others.field-0.0 in
     let failed : c.from_residual-in_err-others.result ≡ Err e = search rules in
-    rw failed (no_contents_so (n.asks_memory || w.asks_memory) (PartOf (BesideBytes (n.under None)) w.parts) (PartsWithFirst (n.under None) w.parts)
-    (AnyPart (n.any_under None) w.any_parts) s left left.kept e
-    (first_read w.asks_memory w.parts first s c.requires.fresh c.read_with_buffer.result m
+    rw failed (no_contents_so (n.may_allocate || w.may_allocate) (PartOf (BesideBytes (n.under None)) w.parts) (PartsWithFirst (n.under None) w.parts)
+    (AnyPart (n.any_under None) w.any_parts) s left left.failed e
+    (first_read w.may_allocate w.parts first s c.requires.fresh c.read_with_buffer.result m
     (subst (λ z. ReadsBuffer N z c.read_with_buffer.result m) c.next.ensures.value read) (c.in_ok-first.first, c.in_ok-first.first_bytes)
     c.in_ok-first.was (Err e) left
-    (subst (λ z. ReadsContents w.asks_memory w.parts w.any_parts m z left) c.in_err-others.was c.read_parts.ensures)))
+    (subst (λ z. ReadsContents w.may_allocate w.parts w.any_parts m z left) c.in_err-others.was c.read_parts.ensures)))
 
 pub returns-in_err-first : goal.returns-in_err-first
 returns-in_err-first g c =
@@ -56,13 +56,13 @@ returns-in_err-first g c =
     let w = g.W.Parts in
     let s = part_of c.args.seq.now in
     let m = c.read_with_buffer.new.self in
-    let N = ReadsAs n.told n.tags n.retagged n.asks_memory n.under n.any_under in
-    let first = beside_first {told = n.told} {ts = n.tags} {retagged = n.retagged} {asks = n.asks_memory} {B = n.under} {S = n.any_under}
-    {Q = w.any_parts} (g.met.A.Notation.keeps (and_parts g.A.Notation.apart w.apart c.requires.apart).0).own.coding in
+    let N = ReadsAs n.tags_known n.tags n.retagged n.may_allocate n.under n.any_under in
+    let first = beside_first {tags_known = n.tags_known} {ts = n.tags} {retagged = n.retagged} {may_allocate = n.may_allocate} {B = n.under} {S = n.any_under}
+    {Q = w.any_parts} (g.met.A.Notation.lawful (and_parts g.A.Notation.unambiguous w.unambiguous c.requires.unambiguous).0).own.coding in
     let read = buffer_called _ _ N c.next.result.now c.read_with_buffer.result m c.read_with_buffer.ensures (λ p q x h. search rules) in
     let e = c.in_err-first.field-0.0 in
     let failed : c.from_residual.result ≡ Err e = search rules in
-    rw failed (no_contents_so (n.asks_memory || w.asks_memory) (PartOf (BesideBytes (n.under None)) w.parts) (PartsWithFirst (n.under None) w.parts)
-    (AnyPart (n.any_under None) w.any_parts) s m m.kept e
-    (first_failed w.asks_memory w.parts first s c.requires.fresh c.read_with_buffer.result m
+    rw failed (no_contents_so (n.may_allocate || w.may_allocate) (PartOf (BesideBytes (n.under None)) w.parts) (PartsWithFirst (n.under None) w.parts)
+    (AnyPart (n.any_under None) w.any_parts) s m m.failed e
+    (first_failed w.may_allocate w.parts first s c.requires.fresh c.read_with_buffer.result m
     (subst (λ z. ReadsBuffer N z c.read_with_buffer.result m) c.next.ensures.value read) e c.in_err-first.was))

@@ -7,5 +7,5 @@ use Rattle.yasna_notation.proofs.set_lists.write_set.Goals as goal
 pub returns : goal.returns
 returns g c =
     let n = g.N.Notation.means in
-    set_written _ _ _ (n.form_under None) (tag_or c.args.writer.now.tag set_tag) c.args.items.now (g.met.N.Notation.filled None) (λ k e h. search rules)
+    set_written _ _ _ (n.encoding_under None) (tag_or c.args.writer.now.tag set_tag) c.args.items.now (g.met.N.Notation.non_empty None) (λ k e h. search rules)
     (λ p q r begins h. search rules) c.args.writer.now c.write_set_of.new.self c.write_set_of.result c.write_set_of.ensures

@@ -3,8 +3,8 @@ use Rattle.yasna_reader.proofs.parse.try_parse.Goals as goal
 
 pub returns : goal.returns
 returns g c = record {
-  own = c.callback-answer.result;
+  own = c.callback-returned.result;
   left = _;
-  says = record { shown = _; shows = c.new-state.ensures; left = _; met = c.callback-answer.ensures; leaves = refl };
-  answers = c.parsed.ensures;
+  obeys = record { shown = _; shows = c.new-state.ensures; left = _; met = c.callback-returned.ensures; leaves = refl };
+  returns = c.parsed.ensures;
 }

@@ -1,7 +1,7 @@
 use Rattle.std.proofs.Common.{◌≡◌, [], ◌∷◌, ◌++◌, rules, refl, sym, subst, ◌∙◌}
 use Rattle.yasna_reader.specs.declared.set.SetElement.{SetElement}
 use Rattle.yasna_reader.specs.Set.{Listed}
-use Rattle.yasna_reader.proofs.SetListing.{none_listed, lacks_memory, listed_more, listed_smaller, not_listed, listed_all}
+use Rattle.yasna_reader.proofs.SetListing.{none_listed, out_of_memory_for_list, listed_more, listed_smaller, not_listed, listed_all}
 use Rattle.yasna_reader.proofs.set.list_elements.Goals as goal
 
 pub loop-element-init : goal.loop-element-init
@@ -33,17 +33,17 @@ loop-element-preserved c =
 pub returns-then-is_err : goal.returns-then-is_err
 returns-then-is_err c =
     let i = c.loop-element.invariant in
-    lacks_memory c.args.cursor.levels c.loop-element.here.levels c.args.cursor.mode c.loop-element.here.mode c.loop-element.list.items
+    out_of_memory_for_list c.args.cursor.levels c.loop-element.here.levels c.args.cursor.mode c.loop-element.here.mode c.loop-element.list.items
     c.args.cursor.left.now c.loop-element.here.left.now c.in-Ok.element c.in-Ok.rest.now i.0 i.1 i.2 (c.in-Ok.ensures {u = tt})
 
-pub returns-then-refusal : goal.returns-then-refusal
-returns-then-refusal c =
+pub returns-then-rejection : goal.returns-then-rejection
+returns-then-rejection c =
     let i = c.loop-element.invariant in
     not_listed c.args.cursor.levels c.loop-element.here.levels c.args.cursor.mode c.loop-element.here.mode c.loop-element.list.items
-    c.args.cursor.left.now c.loop-element.here.left.now c.in-Err.refusal i.0 i.1 i.2 (c.in-Err.ensures {u = tt}) c.if-refusal.true
+    c.args.cursor.left.now c.loop-element.here.left.now c.in-Err.rejection i.0 i.1 i.2 (c.in-Err.ensures {u = tt}) c.if-rejection.true
 
 pub returns-in-Err : goal.returns-in-Err
 returns-in-Err c =
     let i = c.loop-element.invariant in
     listed_all c.args.cursor.levels c.loop-element.here.levels c.args.cursor.mode c.loop-element.here.mode c.loop-element.list.items
-    c.args.cursor.left.now c.loop-element.here.left.now c.in-Err.refusal i.0 (c.in-Err.ensures {u = tt}) c.if-refusal.false
+    c.args.cursor.left.now c.loop-element.here.left.now c.in-Err.rejection i.0 (c.in-Err.ensures {u = tt}) c.if-rejection.false

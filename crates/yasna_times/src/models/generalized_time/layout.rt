@@ -1,7 +1,7 @@
-//! Where the parts of a GeneralizedTime's text stand: clock, fraction and zone (X.680, 46).
+//! Where the parts of a GeneralizedTime's text are there: clock, fraction and zone (X.680, 46).
 ghost use Rattle.std.specs.Prelude.{◌≡◌, ◌↔◌, ℕ, ◌+◌, ◌<◌, ◌≤◌, ℤ, IsTrue, IfSome, MatchOption, length, slice_index};
 ghost use Rattle.yasna_times.specs.Decimal.{IsRun};
-ghost use Rattle.yasna_times.specs.GeneralizedTime.{IsMark, IsLayout};
+ghost use Rattle.yasna_times.specs.GeneralizedTime.{IsDecimalMark, IsLayout};
 ghost use Rattle.yasna_times.specs.Zone.{seconds_of};
 
 use crate::models::decimal::digits_end;
@@ -16,9 +16,9 @@ pub(crate) struct Layout {
     pub(crate) offset: Offset,
 }
 
-// A point or a comma stands at `at`.
-fn has_mark(bytes: &[u8], at: usize) -> bool
-    ensures { IsTrue result ↔ (at < length bytes.now) × IsMark (slice_index bytes.now at) }
+// A point or a comma is at `at`.
+fn has_decimal_mark(bytes: &[u8], at: usize) -> bool
+    ensures { IsTrue result ↔ (at < length bytes.now) × IsDecimalMark (slice_index bytes.now at) }
 {
     at < bytes.len() && (bytes[at] == b'.' || bytes[at] == b',')
 }
@@ -26,12 +26,12 @@ fn has_mark(bytes: &[u8], at: usize) -> bool
 // Where the fraction at `at` ends, which is `at` where there is none.
 fn part_end(bytes: &[u8], at: usize) -> usize
     requires { at ≤ length bytes.now }
-    ensures some { (result ≡ at → ⊥) → IsMark (slice_index bytes.now at) × IsRun bytes.now (at + 1) result }
-    ensures none { result ≡ at → at < length bytes.now → IsMark (slice_index bytes.now at) → ⊥ }
+    ensures some { (result ≡ at → ⊥) → IsDecimalMark (slice_index bytes.now at) × IsRun bytes.now (at + 1) result }
+    ensures none { result ≡ at → at < length bytes.now → IsDecimalMark (slice_index bytes.now at) → ⊥ }
     ensures order { at ≤ result }
     ensures inside { result ≤ length bytes.now }
 {
-    if has_mark(bytes, at) {
+    if has_decimal_mark(bytes, at) {
         digits_end(bytes, at + 1)
     } else {
         at

@@ -1,7 +1,7 @@
 use Rattle.std.proofs.Common.{◌≡◌, ◌-◌, ◌≤◌, ◌++◌, length, take, drop, slice_range, refl, subst, ◌∙◌, arith, length-take}
 use Rattle.std.proofs.lemmas.List.{take_at}
 use Rattle.yasna_writer.specs.Put.{PutBefore}
-use Rattle.yasna_writer.proofs.Joins.{moved_more}
+use Rattle.yasna_writer.proofs.Joins.{shifted_more}
 use Rattle.yasna_writer.proofs.join.move_many_up.Goals as goal
 
 pub loop-from-preserved : goal.loop-from-preserved
@@ -17,7 +17,7 @@ loop-from-preserved c =
     record {
       left = omega (arith, few, i.left);
       within = omega (arith, i.within);
-      put = moved_more (from - n) from c.args.end c.args.to n c.loop-from.place c.put_bytes-place.result c.args.bytes.now c.loop-from.bytes
+      put = shifted_more (from - n) from c.args.end c.args.to n c.loop-from.place c.put_bytes-place.result c.args.bytes.now c.loop-from.bytes
           c.put_bytes-place.new.out refl (omega (arith, few)) i.within c.requires.up c.requires.within i.put
           (subst (λ x. PutBefore x c.loop-from.place c.loop-from.bytes c.put_bytes-place.new.out c.put_bytes-place.result) part c.put_bytes-place.ensures.put);
       len = c.put_bytes-place.ensures.len ∙ i.len;

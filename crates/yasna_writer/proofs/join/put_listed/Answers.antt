@@ -1,6 +1,6 @@
 use Rattle.std.proofs.Common.{◌≤◌, length, refl, sym, subst, take-append-drop, arith}
 use Rattle.std.proofs.lemmas.Option.{slice_get_past, slice_get_read}
-use Rattle.yasna_writer.specs.Draft.{listed_header}
+use Rattle.yasna_writer.specs.Buffer.{listed_header}
 use Rattle.yasna_writer.proofs.join.put_listed.Goals as goal
 
 pub put_parts_header-requires-clause-room : goal.put_parts_header-requires-clause-room

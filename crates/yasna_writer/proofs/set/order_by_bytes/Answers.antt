@@ -14,7 +14,7 @@ returns c =
     let new = c.sort_by.new.self.items in
     let sorts = c.in_ok-sort_by.ensures {u = tt} in
     let ranks = ranks_by nat_list_cmp_total bytes in
-    let answers = answers_always _ _ _ (λ f a r g h. search rules) in
-    ap ordered_bytes (in_order_is (λ (p q : OrderedPart). octets_cmp (bytes p) (bytes q)) ranks old new (sorts.sorted _ ranks answers)
-    (sorts.stable _ ranks answers)) ∙
+    let returns = answers_always _ _ _ (λ f a r g h. search rules) in
+    ap ordered_bytes (in_order_is (λ (p q : OrderedPart). octets_cmp (bytes p) (bytes q)) ranks old new (sorts.sorted _ ranks returns)
+    (sorts.stable _ ranks returns)) ∙
     in_order_map bytes octets_cmp old ∙ ap (in_order octets_cmp) (c.in_ok-ordered.ensures {u = tt})

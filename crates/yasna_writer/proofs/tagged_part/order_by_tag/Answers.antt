@@ -13,10 +13,10 @@ returns c =
     let old = c.args.parts.now.items in
     let new = c.sort_by.new.self.items in
     let ranks = ranks_by nat_list_cmp_total (λ (p : TaggedPart). part_key (set_part_of p)) in
-    let answers = answers_always _ _ _ (λ f a r g h. search rules) in
+    let returns = answers_always _ _ _ (λ f a r g h. search rules) in
     on_ok_weaker c.sort_by.result
     (λ sorted.
-    ap parts_of (in_order_is (λ (p q : TaggedPart). part_cmp (set_part_of p) (set_part_of q)) ranks old new (sorted _ ranks answers)
-    (c.sort_by.ensures.stable _ ranks answers)) ∙
+    ap parts_of (in_order_is (λ (p q : TaggedPart). part_cmp (set_part_of p) (set_part_of q)) ranks old new (sorted _ ranks returns)
+    (c.sort_by.ensures.stable _ ranks returns)) ∙
     in_order_map set_part_of part_cmp old)
     c.sort_by.ensures.sorted

@@ -1,5 +1,5 @@
-use Rattle.yasna_notation.proofs.Standing.{read_for, failed_for}
-use Rattle.x509.specs.contracts.certificate.CertificateStandsForFields.TheImpl.{ghosts as fields}
+use Rattle.yasna_notation.proofs.Represented.{read_for, failed_for}
+use Rattle.x509.specs.contracts.certificate.CertificateRepresentsFields.TheImpl.{ghosts as fields}
 use Rattle.x509.proofs.certificate.CertificateNotation.read.Goals as goal
 
 pub returns : goal.returns

@@ -1,5 +1,5 @@
-use Rattle.yasna_notation.proofs.Standing.{read_for, failed_for}
-use Rattle.x509.specs.contracts.tbs_certificate.TbsCertificateStandsForFields.TheImpl.{ghosts as fields}
+use Rattle.yasna_notation.proofs.Represented.{read_for, failed_for}
+use Rattle.x509.specs.contracts.tbs_certificate.TbsCertificateRepresentsFields.TheImpl.{ghosts as fields}
 use Rattle.x509.proofs.tbs_certificate.TbsCertificateNotation.read.Goals as goal
 
 pub returns : goal.returns

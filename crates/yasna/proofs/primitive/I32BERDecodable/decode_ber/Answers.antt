@@ -3,12 +3,12 @@ use Rattle.std.specs.Int.{w32}
 use Rattle.yasna_base.specs.Element.{Primitively}
 use Rattle.yasna_base.specs.Integer.{IsSigned}
 use Rattle.yasna_reader.proofs.Primitives.{leaf_decodes}
-use Rattle.yasna_reader.proofs.Kept.{seen_repeats_kept}
+use Rattle.yasna_reader.proofs.Sticky.{seen_repeats_error}
 use Rattle.yasna.proofs.primitive.I32BERDecodable.decode_ber.Goals as goal
 
 pub returns-clause-decodes : goal.returns-clause-decodes
 returns-clause-decodes c = leaf_decodes (Primitively (IsSigned w32)) 2 (λ e. omega arith) c.args.reader.now c.read_i32.result c.read_i32.new.self
     c.requires c.read_i32.ensures
 
-pub returns-clause-kept : goal.returns-clause-kept
-returns-clause-kept c = seen_repeats_kept c.read_i32.ensures
+pub returns-clause-failed : goal.returns-clause-failed
+returns-clause-failed c = seen_repeats_error c.read_i32.ensures

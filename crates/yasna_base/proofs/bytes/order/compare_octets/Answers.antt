@@ -18,15 +18,15 @@ decides Greater r h = refl
 differs : (x y : ℕ) (xs ys : List ℕ) → (x ≡ y → ⊥) → nat_cmp x y ≡ octets_cmp (x ∷ xs) (y ∷ ys)
 differs x y xs ys h = decides (nat_cmp x y) (octets_cmp xs ys) (λ e. h (exact_unsigned x y e))
 
--- equal ones leave it to those behind
+-- equal ones leave it to those after
 passes : (x y : ℕ) (xs ys : List ℕ) → x ≡ y → octets_cmp xs ys ≡ octets_cmp (x ∷ xs) (y ∷ ys)
 passes x y xs ys e = ap (λ o. ordering_then o (octets_cmp xs ys)) (nat_cmp_is x y Equal e)
 
--- bytes go behind none
-goes_behind : (x : ℕ) (xs ys : List ℕ) → ys ≡ [] → Greater ≡ octets_cmp (x ∷ xs) ys
-goes_behind x xs ys e = ap (octets_cmp (x ∷ xs)) (sym e)
+-- bytes go after none
+goes_after : (x : ℕ) (xs ys : List ℕ) → ys ≡ [] → Greater ≡ octets_cmp (x ∷ xs) ys
+goes_after x xs ys e = ap (octets_cmp (x ∷ xs)) (sym e)
 
--- at the end of the first bytes, the second ones end there too or go behind
+-- at the end of the first bytes, the second ones end there too or go after
 both_end : (xs ys : List ℕ) → xs ≡ [] → true ≡ nat_eq (length ys) 0 → Equal ≡ octets_cmp xs ys
 both_end xs [] e h = ap (λ z. octets_cmp z []) (sym e)
 both_end xs (y ∷ ys) e h = absurd (omega (arith, eqb-true (length (y ∷ ys)) 0 (sym h)))
@@ -40,7 +40,7 @@ loop-x-init c = refl
 
 pub returns-in_default-split_first : goal.returns-in_default-split_first
 returns-in_default-split_first c =
-    goes_behind c.in-Some.x.now c.in-Some.xs.now c.loop-x.right.now (empty_is c.loop-x.right.now (c.in_default-split_first.ensures {u = tt}).cases)
+    goes_after c.in-Some.x.now c.in-Some.xs.now c.loop-x.right.now (empty_is c.loop-x.right.now (c.in_default-split_first.ensures {u = tt}).cases)
     ∙ sym (ap (λ z. octets_cmp z c.loop-x.right.now) (c.in-Some.ensures {u = tt}).cases.0) ∙ c.loop-x.invariant
 
 pub returns-then-x-y : goal.returns-then-x-y

@@ -10,12 +10,12 @@ pub returns-then-takes_definite : goal.returns-then-takes_definite
 returns-then-takes_definite c =
     let w : Measures c.args.mode c.args.s.now (Some c.in-Ok-Some-default.size) c.in-Ok-Some-default.rest.now = search rules in
     let x = c.in-Some.ensures {u = tt} in
-    let h : Holds c.args.mode c.args.bit c.args.s.now c.in-Some.within.now (definite_end c.in-Some.after.now) =
-    holds_counted c.args.mode c.args.bit c.args.s.now c.in-Ok-Some-default.rest.now c.in-Some.within.now c.in-Some.after.now c.in-Ok-Some-default.size w x.1
+    let h : Holds c.args.mode c.args.bit c.args.s.now c.in-Some.contents.now (definite_end c.in-Some.after.now) =
+    holds_counted c.args.mode c.args.bit c.args.s.now c.in-Ok-Some-default.rest.now c.in-Some.contents.now c.in-Some.after.now c.in-Ok-Some-default.size w x.1
     x.0 ((c.if-takes_definite.ensures {u = tt}).0 refl) in
     record {
       bit = refl;
-      in_bytes = holds_bytes c.args.mode c.args.bit c.args.s.now c.in-Some.within.now (definite_end c.in-Some.after.now)
+      in_bytes = holds_bytes c.args.mode c.args.bit c.args.s.now c.in-Some.contents.now (definite_end c.in-Some.after.now)
           (slice_bytes c.args.s.now c.type_inv.s) h;
       holds = h;
     }
@@ -30,11 +30,11 @@ returns-else-takes_definite c =
 
 pub returns-then-takes_indefinite : goal.returns-then-takes_indefinite
 returns-then-takes_indefinite c =
-    let w : c.args.s.now ≡ 128 ∷ c.in-Ok-None-default.within.now = search rules in
-    let h : Holds c.args.mode c.args.bit c.args.s.now c.in-Ok-None-default.within.now indefinite_end = ((c.if-takes_indefinite.ensures {u = tt}).0 refl, w) in
+    let w : c.args.s.now ≡ 128 ∷ c.in-Ok-None-default.contents.now = search rules in
+    let h : Holds c.args.mode c.args.bit c.args.s.now c.in-Ok-None-default.contents.now indefinite_end = ((c.if-takes_indefinite.ensures {u = tt}).0 refl, w) in
     record {
       bit = refl;
-      in_bytes = holds_bytes c.args.mode c.args.bit c.args.s.now c.in-Ok-None-default.within.now indefinite_end (slice_bytes c.args.s.now c.type_inv.s) h;
+      in_bytes = holds_bytes c.args.mode c.args.bit c.args.s.now c.in-Ok-None-default.contents.now indefinite_end (slice_bytes c.args.s.now c.type_inv.s) h;
       holds = h;
     }
 
@@ -45,8 +45,8 @@ returns-in-None c =
 
 pub returns-else-takes_indefinite : goal.returns-else-takes_indefinite
 returns-else-takes_indefinite c =
-    let w : c.args.s.now ≡ 128 ∷ c.in-Ok-None-default.within.now = search rules in
-    (tt, holds_closed c.args.mode c.args.bit c.args.s.now c.in-Ok-None-default.within.now w (λ h. let z = (c.if-takes_indefinite.ensures {u = tt}).1 h in cc))
+    let w : c.args.s.now ≡ 128 ∷ c.in-Ok-None-default.contents.now = search rules in
+    (tt, holds_closed c.args.mode c.args.bit c.args.s.now c.in-Ok-None-default.contents.now w (λ h. let z = (c.if-takes_indefinite.ensures {u = tt}).1 h in cc))
 
 pub returns-in-Err : goal.returns-in-Err
 returns-in-Err c = let w = c.in-Err.ensures {u = tt} in (w.0, holds_none c.args.mode c.args.bit c.args.s.now w.1)

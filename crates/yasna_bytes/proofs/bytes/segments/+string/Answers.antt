@@ -3,18 +3,18 @@ use Rattle.yasna_base.specs.declared.tag.PCBit.TheVariants.{Constructed}
 use Rattle.yasna_base.specs.Segmented.{segment_mode}
 use Rattle.yasna_base.specs.Element.{IsPrimitive}
 use Rattle.yasna_base.specs.Header.{OpensAt, definite_end}
-use Rattle.yasna_bytes.specs.Front.{Takes}
+use Rattle.yasna_bytes.specs.Prefix.{Takes}
 use Rattle.yasna_bytes.specs.Header.{AreContents}
-use Rattle.yasna_bytes.specs.Segments.{further_cut, RefusesSegments, TakesString, RefusesString}
-use Rattle.yasna_bytes.proofs.Segmented.{header_refused, whole_taken, whole_refused, uncut_refused, segments_refused, cuts_refused, unclosed_refused, closed_taken, taken_inside, as_well, refused_moved}
+use Rattle.yasna_bytes.specs.Segments.{further_cut, RejectsSegments, TakesString, RejectsString}
+use Rattle.yasna_bytes.proofs.Segmented.{header_rejected, whole_taken, whole_rejected, uncut_rejected, segments_rejected, cuts_rejected, unclosed_rejected, closed_taken, taken_inside, as_well, rejected_consumed}
 use Rattle.yasna_bytes.proofs.Header.{seen_bit, seen_within, takes_primitive}
-use Rattle.yasna_bytes.proofs.Segments.{Reached, reached_none, reached_more, reached_shorter, stops_elsewhere, stops_full, segment_refused, segment_too_much}
+use Rattle.yasna_bytes.proofs.Segments.{Reached, reached_none, reached_more, reached_shorter, stops_elsewhere, stops_full, segment_rejected, segment_too_much}
 use Rattle.yasna_bytes.proofs.bytes.segments.+string.Goals as goal
 
 pub element-returns-in-Err : goal.element-returns-in-Err
 element-returns-in-Err g t c =
     let p = c.args.cursor in (
-      header_refused g.T.Tally.segmentation p.levels p.mode c.args.tag p.left.now c.in-Err.refusal (c.in-Err.ensures {u = tt}),
+      header_rejected g.T.Tally.segmentation p.levels p.mode c.args.tag p.left.now c.in-Err.rejection (c.in-Err.ensures {u = tt}),
       λ _. refl {a = c.args.out.now.items},
     )
 
@@ -22,14 +22,14 @@ pub element-returns-in-Ok-whole : goal.element-returns-in-Ok-whole
 element-returns-in-Ok-whole g t c =
     let p = c.args.cursor in
     let w = c.in-Ok.ensures {u = tt} in
-    let o : OpensAt p.mode c.args.tag c.in-Ok.opened.bit p.left.now c.in-Ok.opened.within (definite_end c.in-Definite.after.now) = search rules in
+    let o : OpensAt p.mode c.args.tag c.in-Ok.opened.bit p.left.now c.in-Ok.opened.contents (definite_end c.in-Definite.after.now) = search rules in
     let x = subst (λ z. Takes (IsPrimitive AreContents p.levels p.mode c.args.tag) p.left.now z c.in-Definite.after.now)
-    (sym (seen_within c.opened.view_is)) (takes_primitive p.mode p.levels c.args.tag c.in-Ok.opened.bit p.left.now c.in-Ok.opened.within
+    (sym (seen_within c.opened.view_is)) (takes_primitive p.mode p.levels c.args.tag c.in-Ok.opened.bit p.left.now c.in-Ok.opened.contents
     c.in-Definite.after.now w.0 (seen_bit c.opened.view_is c.in-Primitive.is) o) in
     let y = c.in-Ok-whole.ensures {u = tt} in
     record {
       bytes = y.0;
-      takes = whole_taken g.T.Tally.segmentation p.levels p.mode c.args.tag p.left.now c.opened.inside.within.now c.in-Definite.after.now
+      takes = whole_taken g.T.Tally.segmentation p.levels p.mode c.args.tag p.left.now c.opened.inside.contents.now c.in-Definite.after.now
           (g.T.Tally.value y.0 c.in-Ok-whole.tally) x y.1 y.2;
       added = y.3;
     }
@@ -38,60 +38,60 @@ pub element-returns-in-Err-whole : goal.element-returns-in-Err-whole
 element-returns-in-Err-whole g t c =
     let p = c.args.cursor in
     let w = c.in-Ok.ensures {u = tt} in
-    let o : OpensAt p.mode c.args.tag c.in-Ok.opened.bit p.left.now c.in-Ok.opened.within (definite_end c.in-Definite.after.now) = search rules in
+    let o : OpensAt p.mode c.args.tag c.in-Ok.opened.bit p.left.now c.in-Ok.opened.contents (definite_end c.in-Definite.after.now) = search rules in
     let x = subst (λ z. Takes (IsPrimitive AreContents p.levels p.mode c.args.tag) p.left.now z c.in-Definite.after.now)
-    (sym (seen_within c.opened.view_is)) (takes_primitive p.mode p.levels c.args.tag c.in-Ok.opened.bit p.left.now c.in-Ok.opened.within
+    (sym (seen_within c.opened.view_is)) (takes_primitive p.mode p.levels c.args.tag c.in-Ok.opened.bit p.left.now c.in-Ok.opened.contents
     c.in-Definite.after.now w.0 (seen_bit c.opened.view_is c.in-Primitive.is) o) in
-    rw c.refuse-in-Err-whole.ensures (refused_moved
-    (whole_refused g.T.Tally.segmentation p.levels p.mode c.args.tag p.left.now c.opened.inside.within.now c.in-Definite.after.now _ x
+    rw c.reject-in-Err-whole.ensures (rejected_consumed
+    (whole_rejected g.T.Tally.segmentation p.levels p.mode c.args.tag p.left.now c.opened.inside.contents.now c.in-Definite.after.now _ x
     (c.in-Err-whole.ensures {u = tt}) refl) refl)
 
 pub element-returns-then-not-may_segment : goal.element-returns-then-not-may_segment
 element-returns-then-not-may_segment g t c =
     let p = c.args.cursor in
     let w = c.in-Ok.ensures {u = tt} in
-    let o : OpensAt p.mode c.args.tag Constructed p.left.now c.in-Ok.opened.within c.in-Ok.opened.end = search rules in
-    rw c.refuse-then-not-may_segment.ensures (refused_moved
-    (uncut_refused g.T.Tally.segmentation p.levels (p.levels - 1) w.0 refl p.mode c.args.tag p.left.now c.in-Ok.opened.within
+    let o : OpensAt p.mode c.args.tag Constructed p.left.now c.in-Ok.opened.contents c.in-Ok.opened.end = search rules in
+    rw c.reject-then-not-may_segment.ensures (rejected_consumed
+    (uncut_rejected g.T.Tally.segmentation p.levels (p.levels - 1) w.0 refl p.mode c.args.tag p.left.now c.in-Ok.opened.contents
     c.in-Ok.opened.end o _ refl (λ h. let z = (c.if-not-may_segment.ensures {u = tt}).1 h in cc) tt) refl)
 
 pub element-returns-in-Err-segments : goal.element-returns-in-Err-segments
 element-returns-in-Err-segments g t c =
     let p = c.args.cursor in
     let w = c.in-Ok.ensures {u = tt} in
-    let o : OpensAt p.mode c.args.tag Constructed p.left.now c.in-Ok.opened.within c.in-Ok.opened.end = search rules in
+    let o : OpensAt p.mode c.args.tag Constructed p.left.now c.in-Ok.opened.contents c.in-Ok.opened.end = search rules in
     let i = c.inside.ensures in
-    let q = c.ruled_by-contents.ensures in
-    let x = as_well {x = c.inside.result.levels} {y = segment_mode p.mode} {z = c.in-Ok.opened.within}
-    (λ n m s. RefusesSegments g.T.Tally.segmentation n m s c.in-Err-segments.refusal) (q.levels) (q.mode ∙ c.segment_rules.ensures)
+    let q = c.with_mode-contents.ensures in
+    let x = as_well {x = c.inside.result.levels} {y = segment_mode p.mode} {z = c.in-Ok.opened.contents}
+    (λ n m s. RejectsSegments g.T.Tally.segmentation n m s c.in-Err-segments.rejection) (q.levels) (q.mode ∙ c.inner_mode.ensures)
     (q.left ∙ i.left) (c.in-Err-segments.ensures {u = tt}) in
-    refused_moved (segments_refused g.T.Tally.segmentation p.levels c.inside.result.levels w.0 i.levels p.mode c.args.tag p.left.now c.in-Ok.opened.within
-    c.in-Ok.opened.end o _ x.moved ((c.if-not-may_segment.ensures {u = tt}).0 refl) x) x.moved
+    rejected_consumed (segments_rejected g.T.Tally.segmentation p.levels c.inside.result.levels w.0 i.levels p.mode c.args.tag p.left.now c.in-Ok.opened.contents
+    c.in-Ok.opened.end o _ x.consumed ((c.if-not-may_segment.ensures {u = tt}).0 refl) x) x.consumed
 
 pub element-returns-then-not-takes_cuts : goal.element-returns-then-not-takes_cuts
 element-returns-then-not-takes_cuts g t c =
     let p = c.args.cursor in
     let w = c.in-Ok.ensures {u = tt} in
-    let o : OpensAt p.mode c.args.tag Constructed p.left.now c.in-Ok.opened.within c.in-Ok.opened.end = search rules in
+    let o : OpensAt p.mode c.args.tag Constructed p.left.now c.in-Ok.opened.contents c.in-Ok.opened.end = search rules in
     let i = c.inside.ensures in
-    let q = c.ruled_by-contents.ensures in
-    let x = taken_inside {n = c.inside.result.levels} {c = c.in-Ok.opened.within} p.mode q.levels (q.mode ∙ c.segment_rules.ensures)
+    let q = c.with_mode-contents.ensures in
+    let x = taken_inside {n = c.inside.result.levels} {c = c.in-Ok.opened.contents} p.mode q.levels (q.mode ∙ c.inner_mode.ensures)
     (q.left ∙ i.left) (c.in-Ok-segments.ensures {u = tt}) in
-    rw c.refuse-then-not-takes_cuts.ensures (refused_moved
-    (cuts_refused g.T.Tally.segmentation p.levels c.inside.result.levels w.0 i.levels p.mode c.args.tag p.left.now c.in-Ok.opened.within
+    rw c.reject-then-not-takes_cuts.ensures (rejected_consumed
+    (cuts_rejected g.T.Tally.segmentation p.levels c.inside.result.levels w.0 i.levels p.mode c.args.tag p.left.now c.in-Ok.opened.contents
     c.in-Ok.opened.end o _ refl x.holds tt (λ h. let z = (c.if-not-takes_cuts.ensures {u = tt}).1 h in cc)) refl)
 
 pub element-returns-in-Ok-close : goal.element-returns-in-Ok-close
 element-returns-in-Ok-close g t c =
     let p = c.args.cursor in
     let w = c.in-Ok.ensures {u = tt} in
-    let o : OpensAt p.mode c.args.tag Constructed p.left.now c.in-Ok.opened.within c.in-Ok.opened.end = search rules in
+    let o : OpensAt p.mode c.args.tag Constructed p.left.now c.in-Ok.opened.contents c.in-Ok.opened.end = search rules in
     let i = c.inside.ensures in
-    let q = c.ruled_by-contents.ensures in
+    let q = c.with_mode-contents.ensures in
     let r = c.in-Ok-segments.taken in
-    let x = taken_inside {n = c.inside.result.levels} {c = c.in-Ok.opened.within} p.mode q.levels (q.mode ∙ c.segment_rules.ensures)
+    let x = taken_inside {n = c.inside.result.levels} {c = c.in-Ok.opened.contents} p.mode q.levels (q.mode ∙ c.inner_mode.ensures)
     (q.left ∙ i.left) (c.in-Ok-segments.ensures {u = tt}) in
-    closed_taken g.T.Tally.segmentation g.T.Tally.value p.levels c.inside.result.levels w.0 i.levels p.mode c.args.tag p.left.now c.in-Ok.opened.within
+    closed_taken g.T.Tally.segmentation g.T.Tally.value p.levels c.inside.result.levels w.0 i.levels p.mode c.args.tag p.left.now c.in-Ok.opened.contents
     c.in-Ok.opened.end o ((c.if-not-may_segment.ensures {u = tt}).0 refl) r.0.0 r.0.1 r.1.now c.in-Ok-close.after.now
     c.args.out.now.items c.segments.new.out.items x ((c.if-not-takes_cuts.ensures {u = tt}).0 refl) (c.in-Ok-close.ensures {u = tt})
 
@@ -99,14 +99,14 @@ pub element-returns-in-Err-close : goal.element-returns-in-Err-close
 element-returns-in-Err-close g t c =
     let p = c.args.cursor in
     let w = c.in-Ok.ensures {u = tt} in
-    let o : OpensAt p.mode c.args.tag Constructed p.left.now c.in-Ok.opened.within c.in-Ok.opened.end = search rules in
+    let o : OpensAt p.mode c.args.tag Constructed p.left.now c.in-Ok.opened.contents c.in-Ok.opened.end = search rules in
     let i = c.inside.ensures in
-    let q = c.ruled_by-contents.ensures in
-    let x = taken_inside {n = c.inside.result.levels} {c = c.in-Ok.opened.within} p.mode q.levels (q.mode ∙ c.segment_rules.ensures)
+    let q = c.with_mode-contents.ensures in
+    let x = taken_inside {n = c.inside.result.levels} {c = c.in-Ok.opened.contents} p.mode q.levels (q.mode ∙ c.inner_mode.ensures)
     (q.left ∙ i.left) (c.in-Ok-segments.ensures {u = tt}) in
     let y = c.in-Err-close.ensures {u = tt} in
-    rw c.refuse-in-Err-close.ensures (refused_moved
-    (unclosed_refused g.T.Tally.segmentation p.levels c.inside.result.levels w.0 i.levels p.mode c.args.tag p.left.now c.in-Ok.opened.within
+    rw c.reject-in-Err-close.ensures (rejected_consumed
+    (unclosed_rejected g.T.Tally.segmentation p.levels c.inside.result.levels w.0 i.levels p.mode c.args.tag p.left.now c.in-Ok.opened.contents
     c.in-Ok.opened.end o _ refl x.holds y.0 y.1) refl)
 
 pub segments-loop-out-init : goal.segments-loop-out-init
@@ -143,7 +143,7 @@ segments-loop-out-preserved g t c =
           c.args.out.now.items c.element.new.out.items) (sym f.left)
           (reached_more (g.met.T.Tally.once) (g.met.T.Tally.go_on) p.levels p.mode p.left.now (g.met.T.Tally.holds) l.tally c.in-Ok-with.all
           c.in-Ok.taken.0 l.cuts c.with-cuts.result l.place.left.now c.in-Ok.taken.1.now c.args.out.now.items l.out.items c.element.new.out.items h
-          ((c.loop-out-test.ensures {u = tt} p.levels p.mode h.values h.bytes h.holds.lead.front h.holds.lead.pieces h.holds.join).0 refl) x
+          ((c.loop-out-test.ensures {u = tt} p.levels p.mode h.values h.bytes h.holds.lead.prefix h.holds.lead.pieces h.holds.join).0 refl) x
           (c.in-Ok-with.ensures {u = tt})
           (c.with-cuts.ensures ∙ ap (λ j. further_cut l.cuts j (c.count.result - c.count-before.result)) c.full.ensures
           ∙ ap₂ (λ i j. further_cut l.cuts g.T.Tally.segmentation.full (i - j)) c.count.ensures c.count-before.ensures));
@@ -156,37 +156,37 @@ segments-returns-in-Err-with g t c =
     let x = as_well {x = p.levels} {y = p.mode}
     (λ n m t. TakesString g.T.Tally.segmentation g.T.Tally.value n m t l.place.left.now l.out.items c.in-Ok.taken.0 c.in-Ok.taken.1.now
     c.element.new.out.items) l.invariant.levels l.invariant.mode c.tag.ensures (c.in-Ok.ensures {u = tt}) in
-    rw c.refuse.ensures (segment_too_much (g.met.T.Tally.once) (g.met.T.Tally.go_on) p.levels p.mode p.left.now l.tally c.in-Ok.taken.0 l.cuts
+    rw c.reject.ensures (segment_too_much (g.met.T.Tally.once) (g.met.T.Tally.go_on) p.levels p.mode p.left.now l.tally c.in-Ok.taken.0 l.cuts
     l.place.left.now c.in-Ok.taken.1.now c.args.out.now.items l.out.items c.element.new.out.items c.in-Err-with.kind _ l.invariant.reached x
     (c.in-Err-with.ensures {u = tt}) refl
     refl)
 
-pub segments-returns-then-refusal : goal.segments-returns-then-refusal
-segments-returns-then-refusal g t c =
+pub segments-returns-then-rejection : goal.segments-returns-then-rejection
+segments-returns-then-rejection g t c =
     let p = c.args.contents in
     let l = c.loop-out in
     let h = l.invariant.reached in
     let x = as_well {x = p.levels} {y = p.mode}
-    (λ n m t. RefusesString g.T.Tally.segmentation n m t l.place.left.now c.in-Err.refusal) l.invariant.levels l.invariant.mode c.tag.ensures
+    (λ n m t. RejectsString g.T.Tally.segmentation n m t l.place.left.now c.in-Err.rejection) l.invariant.levels l.invariant.mode c.tag.ensures
     (c.in-Err.ensures {u = tt}).0 in
-    segment_refused (g.met.T.Tally.once) (g.met.T.Tally.go_on) p.levels p.mode p.left.now _ l.place.left.now c.in-Err.refusal h.holds
-    ((c.loop-out-test.ensures {u = tt} p.levels p.mode h.values h.bytes h.holds.lead.front h.holds.lead.pieces h.holds.join).0 refl) x
-    c.if-refusal.true
+    segment_rejected (g.met.T.Tally.once) (g.met.T.Tally.go_on) p.levels p.mode p.left.now _ l.place.left.now c.in-Err.rejection h.holds
+    ((c.loop-out-test.ensures {u = tt} p.levels p.mode h.values h.bytes h.holds.lead.prefix h.holds.lead.pieces h.holds.join).0 refl) x
+    c.if-rejection.true
 
 pub segments-returns-in-Err : goal.segments-returns-in-Err
 segments-returns-in-Err g t c =
     let p = c.args.contents in
     let l = c.loop-out in
     let x = as_well {x = p.levels} {y = p.mode}
-    (λ n m t. RefusesString g.T.Tally.segmentation n m t l.place.left.now c.in-Err.refusal) l.invariant.levels l.invariant.mode c.tag.ensures
+    (λ n m t. RejectsString g.T.Tally.segmentation n m t l.place.left.now c.in-Err.rejection) l.invariant.levels l.invariant.mode c.tag.ensures
     (c.in-Err.ensures {u = tt}).0 in
     let h = l.invariant.reached in
     record {
       values = h.values;
       bytes = h.bytes;
       holds = stops_elsewhere (g.met.T.Tally.once) (g.met.T.Tally.go_on) p.levels p.mode p.left.now _ l.place.left.now h.holds
-          (x.moved.0 c.if-refusal.false);
-      added = (c.in-Err.ensures {u = tt}).1 c.if-refusal.false ∙ h.added;
+          (x.consumed.0 c.if-rejection.false);
+      added = (c.in-Err.ensures {u = tt}).1 c.if-rejection.false ∙ h.added;
     }
 
 pub segments-returns : goal.segments-returns
@@ -198,6 +198,6 @@ segments-returns g t c =
       values = h.values;
       bytes = h.bytes;
       holds = stops_full (g.met.T.Tally.once) (g.met.T.Tally.go_on) p.levels p.mode p.left.now _ l.place.left.now h.holds (λ f.
-          let z = (c.loop-out-test.ensures {u = tt} p.levels p.mode h.values h.bytes h.holds.lead.front h.holds.lead.pieces h.holds.join).1 f in cc);
+          let z = (c.loop-out-test.ensures {u = tt} p.levels p.mode h.values h.bytes h.holds.lead.prefix h.holds.lead.pieces h.holds.join).1 f in cc);
       added = h.added;
     }

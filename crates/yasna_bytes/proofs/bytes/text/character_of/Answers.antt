@@ -6,7 +6,7 @@ use Rattle.yasna_bytes.proofs.bytes.text.character_of.Goals as goal
 
 pub returns-in-Some-clause-spelled : goal.returns-in-Some-clause-spelled
 returns-in-Some-clause-spelled c =
-    let us = units c.args.behind.now in
+    let us = units c.args.trailing.now in
     let made = c.in-Some.ensures {u = tt} in
     spelled_itself c.args.unit us (elim made.cases [
       | inl below ↦ inl (omega (arith, below, c.from.ensures))

@@ -8,7 +8,7 @@ use Rattle.yasna_bytes.proofs.bytes.text.character_of_surrogate.Goals as goal
 pub returns-then-partner-lt57344-clause-spelled : goal.returns-then-partner-lt57344-clause-spelled
 returns-then-partner-lt57344-clause-spelled c =
     let u = c.args.unit in
-    let o = c.args.behind.now in
+    let o = c.args.trailing.now in
     let v = c.unit_of-partner.result in
     let rest = units (take (length o - 2) (drop 2 o)) in
     let from = c.if-partner-ge56320.true in
@@ -22,8 +22,8 @@ returns-then-partner-lt57344-clause-spelled c =
 pub returns-clause-spelled : goal.returns-clause-spelled
 returns-clause-spelled c =
     let u = c.args.unit in
-    let o = c.args.behind.now in
-    spelled_unpaired u (units o) c.requires.0 c.requires.1 (λ p. elim c.if-behind-lt2.branch as (λ _. ⊥) [
+    let o = c.args.trailing.now in
+    spelled_unpaired u (units o) c.requires.0 c.requires.1 (λ p. elim c.if-trailing-lt2.branch as (λ _. ⊥) [
       | in_default w ↦ let none = units_none o (omega (arith, w.in_default.len_below)) in omega (arith, p.2, ap (λ us. get_or us 0 0) none)
       | in-len2-up+else-unit-lt56320 w ↦
           let first = ap (λ us. get_or us 0 0) (units_first o w.in-len2-up.len_at_least) in

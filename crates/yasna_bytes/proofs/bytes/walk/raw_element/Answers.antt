@@ -9,19 +9,19 @@ pub follow-requires-clause-taken : goal.follow-requires-clause-taken
 follow-requires-clause-taken c =
     let o = c.in-Ok.opened in
     let x = c.in-Ok.ensures {u = tt} in
-    opens_taken c.args.cursor.mode c.in-Ok.tag o.bit c.args.cursor.left.now o.within o.end x.opens
+    opens_taken c.args.cursor.mode c.in-Ok.tag o.bit c.args.cursor.left.now o.contents o.end x.opens
 
 pub payload-requires : goal.payload-requires
 payload-requires c =
     let p = c.args.cursor in
     let o = c.in-Ok.opened in
-    to_rest (IsRaw (p.levels - 1) p.mode) p.mode o.bit o.within o.end c.in-Ok-follow.rest.now (c.in-Ok-follow.ensures {u = tt})
+    to_rest (IsRaw (p.levels - 1) p.mode) p.mode o.bit o.contents o.end c.in-Ok-follow.rest.now (c.in-Ok-follow.ensures {u = tt})
 
-pub in_front-requires : goal.in_front-requires
-in_front-requires c =
+pub prefix_before-requires : goal.prefix_before-requires
+prefix_before-requires c =
     let p = c.args.cursor in
     let o = c.in-Ok.opened in
-    followed_rest p.mode p.levels c.in-Ok.tag o.bit p.left.now o.within o.end c.in-Ok-follow.rest.now (c.in-Ok.ensures {u = tt})
+    followed_rest p.mode p.levels c.in-Ok.tag o.bit p.left.now o.contents o.end c.in-Ok-follow.rest.now (c.in-Ok.ensures {u = tt})
     (c.in-Ok-follow.ensures {u = tt})
 
 pub returns-in-Ok-follow : goal.returns-in-Ok-follow
@@ -29,10 +29,10 @@ returns-in-Ok-follow c =
     let p = c.args.cursor in
     let o = c.in-Ok.opened in
     record {
-      raw = subst (λ q. IsRaw p.levels p.mode (record { tag = c.in-Ok.tag; bit = q; payload = c.payload.result.now }) c.in_front.result.now)
-          (seen_bit c.opened.view_is refl) (followed p.mode p.levels c.in-Ok.tag o.bit p.left.now o.within o.end c.in-Ok-follow.rest.now c.payload.result.now
-          c.in_front.result.now (c.in-Ok.ensures {u = tt}) (c.in-Ok-follow.ensures {u = tt}) c.payload.ensures c.in_front.ensures);
-      joined = c.in_front.ensures;
+      raw = subst (λ q. IsRaw p.levels p.mode (record { tag = c.in-Ok.tag; bit = q; payload = c.payload.result.now }) c.prefix_before.result.now)
+          (seen_bit c.opened.view_is refl) (followed p.mode p.levels c.in-Ok.tag o.bit p.left.now o.contents o.end c.in-Ok-follow.rest.now c.payload.result.now
+          c.prefix_before.result.now (c.in-Ok.ensures {u = tt}) (c.in-Ok-follow.ensures {u = tt}) c.payload.ensures c.prefix_before.ensures);
+      joined = c.prefix_before.ensures;
     }
 
 pub returns-in-Err-follow : goal.returns-in-Err-follow
@@ -40,8 +40,8 @@ returns-in-Err-follow c =
     let p = c.args.cursor in
     let o = c.in-Ok.opened in
     let w = c.in-Err-follow.ensures {u = tt} in
-    rw c.refuse.ensures
-    (not_followed p.mode p.levels c.in-Ok.tag o.bit p.left.now o.within o.end _ (c.in-Ok.ensures {u = tt}) w.0 w.1 refl)
+    rw c.reject.ensures
+    (not_followed p.mode p.levels c.in-Ok.tag o.bit p.left.now o.contents o.end _ (c.in-Ok.ensures {u = tt}) w.0 w.1 refl)
 
 pub returns-in-Err : goal.returns-in-Err
-returns-in-Err c = not_opened c.args.cursor.mode c.args.cursor.levels c.args.cursor.left.now c.in-Err.refusal (c.in-Err.ensures {u = tt})
+returns-in-Err c = not_opened c.args.cursor.mode c.args.cursor.levels c.args.cursor.left.now c.in-Err.rejection (c.in-Err.ensures {u = tt})

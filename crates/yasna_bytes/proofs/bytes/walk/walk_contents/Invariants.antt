@@ -5,7 +5,7 @@ use Rattle.yasna_bytes.proofs.bytes.walk.walk_contents.Given as goal
 abbrev pub invariant-loop-after : goal.invariant-loop-after
 invariant-loop-after l =
     (length l.outer ≡ 100)
-    × Walking l.fn.cursor.mode l.fn.outermost.end l.fn.cursor.levels l.fn.cursor.left.now l.outer l.behind l.levels l.left
+    × Walking l.fn.cursor.mode l.fn.outermost.end l.fn.cursor.levels l.fn.cursor.left.now l.outer l.trailing l.levels l.left
 
 abbrev pub decreases-loop-after : goal.decreases-loop-after
-decreases-loop-after l = 2 * (length l.left + l.behind) + (l.fn.cursor.levels - l.levels)
+decreases-loop-after l = 2 * (length l.left + l.trailing) + (l.fn.cursor.levels - l.levels)

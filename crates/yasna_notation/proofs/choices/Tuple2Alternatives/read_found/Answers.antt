@@ -13,9 +13,9 @@ returns-then-has_tag g c =
     let s = c.args.reader.now in
     let left = c.read.new.reader in
     let is = sym c.has_tag.ensures ∙ c.if-has_tag.true in
-    subst (λ x. ReadsFound (n.tags ++ w.tags) (n.asks_memory || w.asks_memory) (λ m n v b. EitherOf (g.A.Notation.means.under None) w.encodes m n (sides v) b)
+    subst (λ x. ReadsFound (n.tags ++ w.tags) (n.may_allocate || w.may_allocate) (λ m n v b. EitherOf (g.A.Notation.means.under None) w.encodes m n (sides v) b)
     (AnyEither (n.any_under None) w.elements) c.args.tag s (seen First x) left) c.in_ok-value.was
-    (first_found n.told n.tags w.tags n.asks_memory w.asks_memory n.under n.any_under w.encodes w.elements g.A.Notation.apart w.apart c.requires c.args.tag
+    (first_found n.tags_known n.tags w.tags n.may_allocate w.may_allocate n.under n.any_under w.encodes w.elements g.A.Notation.unambiguous w.unambiguous c.requires c.args.tag
     s n.retagged
     g.met.W.Alternatives.laws c.read.result left is c.read.ensures)
 
@@ -28,9 +28,9 @@ returns-in_err-value g c =
     let is = sym c.has_tag.ensures ∙ c.if-has_tag.true in
     let failed : c.from_residual.result ≡ Err c.in_err-value.field-0.0 = search rules in
     rw failed
-    (subst (λ x. ReadsFound (n.tags ++ w.tags) (n.asks_memory || w.asks_memory) (λ m n v b. EitherOf (g.A.Notation.means.under None) w.encodes m n (sides v) b)
+    (subst (λ x. ReadsFound (n.tags ++ w.tags) (n.may_allocate || w.may_allocate) (λ m n v b. EitherOf (g.A.Notation.means.under None) w.encodes m n (sides v) b)
     (AnyEither (n.any_under None) w.elements) c.args.tag s (seen First x) left) c.in_err-value.was
-    (first_found n.told n.tags w.tags n.asks_memory w.asks_memory n.under n.any_under w.encodes w.elements g.A.Notation.apart w.apart c.requires c.args.tag
+    (first_found n.tags_known n.tags w.tags n.may_allocate w.may_allocate n.under n.any_under w.encodes w.elements g.A.Notation.unambiguous w.unambiguous c.requires c.args.tag
     s n.retagged
     g.met.W.Alternatives.laws c.read.result left is c.read.ensures))
 
@@ -41,10 +41,10 @@ returns g c =
     let s = c.args.reader.now in
     let left = c.read_found.new.reader in
     let is = sym c.has_tag.ensures ∙ c.if-has_tag.false in
-    subst (λ x. ReadsFound (n.tags ++ w.tags) (n.asks_memory || w.asks_memory) (λ m n v b. EitherOf (g.A.Notation.means.under None) w.encodes m n (sides v) b)
+    subst (λ x. ReadsFound (n.tags ++ w.tags) (n.may_allocate || w.may_allocate) (λ m n v b. EitherOf (g.A.Notation.means.under None) w.encodes m n (sides v) b)
     (AnyEither (n.any_under None) w.elements) c.args.tag s (seen Second x) left) c.in_ok-other.was
-    (other_found n.told n.tags w.tags n.asks_memory w.asks_memory n.under n.any_under w.encodes w.elements g.A.Notation.apart w.apart c.requires c.args.tag s
-    (λ b. (g.met.A.Notation.keeps b).own) c.read_found.result left is c.read_found.ensures)
+    (other_found n.tags_known n.tags w.tags n.may_allocate w.may_allocate n.under n.any_under w.encodes w.elements g.A.Notation.unambiguous w.unambiguous c.requires c.args.tag s
+    (λ b. (g.met.A.Notation.lawful b).own) c.read_found.result left is c.read_found.ensures)
 
 pub returns-in_err-other : goal.returns-in_err-other
 returns-in_err-other g c =
@@ -55,7 +55,7 @@ returns-in_err-other g c =
     let is = sym c.has_tag.ensures ∙ c.if-has_tag.false in
     let failed : c.from_residual-in_err-other.result ≡ Err c.in_err-other.field-0.0 = search rules in
     rw failed
-    (subst (λ x. ReadsFound (n.tags ++ w.tags) (n.asks_memory || w.asks_memory) (λ m n v b. EitherOf (g.A.Notation.means.under None) w.encodes m n (sides v) b)
+    (subst (λ x. ReadsFound (n.tags ++ w.tags) (n.may_allocate || w.may_allocate) (λ m n v b. EitherOf (g.A.Notation.means.under None) w.encodes m n (sides v) b)
     (AnyEither (n.any_under None) w.elements) c.args.tag s (seen Second x) left) c.in_err-other.was
-    (other_found n.told n.tags w.tags n.asks_memory w.asks_memory n.under n.any_under w.encodes w.elements g.A.Notation.apart w.apart c.requires c.args.tag s
-    (λ b. (g.met.A.Notation.keeps b).own) c.read_found.result left is c.read_found.ensures))
+    (other_found n.tags_known n.tags w.tags n.may_allocate w.may_allocate n.under n.any_under w.encodes w.elements g.A.Notation.unambiguous w.unambiguous c.requires c.args.tag s
+    (λ b. (g.met.A.Notation.lawful b).own) c.read_found.result left is c.read_found.ensures))

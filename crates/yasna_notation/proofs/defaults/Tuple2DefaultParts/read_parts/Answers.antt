@@ -3,7 +3,7 @@ use Rattle.std.proofs.lemmas.Bool.{and_parts}
 use Rattle.yasna_reader.specs.Optional.{ReadsDefault}
 use Rattle.yasna_reader.specs.State.{part_of}
 use Rattle.yasna_notation.specs.Notation.{ReadsAs}
-use Rattle.yasna_notation.specs.Parts.{ReadsContents, is_told}
+use Rattle.yasna_notation.specs.Parts.{ReadsContents, is_known}
 use Rattle.yasna_notation.proofs.Contents.{default_first, default_called, first_read, first_failed}
 use Rattle.yasna_notation.proofs.defaults.Tuple2DefaultParts.read_parts.Goals as goal
 
@@ -14,15 +14,15 @@ returns g c =
     let w = g.W.Parts in
     let s = part_of c.args.seq.now in
     let m = part_of c.read_default.new.self in
-    let N = ReadsAs n.told n.tags n.retagged n.asks_memory n.under n.any_under in
-    let first = default_first {retagged = n.retagged} {asks = n.asks_memory} {B = n.under} {S = n.any_under} d.is g.A.Value.PartialEq.eq d.default
-    g.met.D.DefaultValue.tells g.met.D.DefaultValue.tests (λ b. (g.met.A.Notation.keeps b).own) g.met.W.Parts.laws c.requires.apart in
+    let N = ReadsAs n.tags_known n.tags n.retagged n.may_allocate n.under n.any_under in
+    let first = default_first {retagged = n.retagged} {may_allocate = n.may_allocate} {B = n.under} {S = n.any_under} d.is g.A.Value.PartialEq.eq d.default
+    g.met.D.DefaultValue.detects g.met.D.DefaultValue.tests (λ b. (g.met.A.Notation.lawful b).own) g.met.W.Parts.laws c.requires.unambiguous in
     let read = subst (λ v. ReadsDefault N _ v s c.read_default.result m) c.default.ensures
     (default_called _ _ N _ c.default.result s c.read_default.result m c.read_default.ensures (λ p q x h. search rules)) in
     let left = part_of c.read_parts.new.seq in
-    first_read w.asks_memory w.parts first s c.requires.fresh c.read_default.result m read c.in-Ok.first c.in-Ok.is
+    first_read w.may_allocate w.parts first s c.requires.fresh c.read_default.result m read c.in-Ok.first c.in-Ok.is
     (Ok c.in-Ok-read_parts.others) left
-    (subst (λ z. ReadsContents w.asks_memory w.parts w.any_parts m z left) c.in-Ok-read_parts.is c.read_parts.ensures)
+    (subst (λ z. ReadsContents w.may_allocate w.parts w.any_parts m z left) c.in-Ok-read_parts.is c.read_parts.ensures)
 
 pub returns-in-Err-read_parts : goal.returns-in-Err-read_parts
 returns-in-Err-read_parts g c =
@@ -31,15 +31,15 @@ returns-in-Err-read_parts g c =
     let w = g.W.Parts in
     let s = part_of c.args.seq.now in
     let m = part_of c.read_default.new.self in
-    let N = ReadsAs n.told n.tags n.retagged n.asks_memory n.under n.any_under in
-    let first = default_first {retagged = n.retagged} {asks = n.asks_memory} {B = n.under} {S = n.any_under} d.is g.A.Value.PartialEq.eq d.default
-    g.met.D.DefaultValue.tells g.met.D.DefaultValue.tests (λ b. (g.met.A.Notation.keeps b).own) g.met.W.Parts.laws c.requires.apart in
+    let N = ReadsAs n.tags_known n.tags n.retagged n.may_allocate n.under n.any_under in
+    let first = default_first {retagged = n.retagged} {may_allocate = n.may_allocate} {B = n.under} {S = n.any_under} d.is g.A.Value.PartialEq.eq d.default
+    g.met.D.DefaultValue.detects g.met.D.DefaultValue.tests (λ b. (g.met.A.Notation.lawful b).own) g.met.W.Parts.laws c.requires.unambiguous in
     let read = subst (λ v. ReadsDefault N _ v s c.read_default.result m) c.default.ensures
     (default_called _ _ N _ c.default.result s c.read_default.result m c.read_default.ensures (λ p q x h. search rules)) in
     let left = part_of c.read_parts.new.seq in
-    first_read w.asks_memory w.parts first s c.requires.fresh c.read_default.result m read c.in-Ok.first c.in-Ok.is
+    first_read w.may_allocate w.parts first s c.requires.fresh c.read_default.result m read c.in-Ok.first c.in-Ok.is
     (Err c.in-Err-read_parts.error) left
-    (subst (λ z. ReadsContents w.asks_memory w.parts w.any_parts m z left) c.in-Err-read_parts.is c.read_parts.ensures)
+    (subst (λ z. ReadsContents w.may_allocate w.parts w.any_parts m z left) c.in-Err-read_parts.is c.read_parts.ensures)
 
 pub returns-in-Err : goal.returns-in-Err
 returns-in-Err g c =
@@ -48,15 +48,15 @@ returns-in-Err g c =
     let w = g.W.Parts in
     let s = part_of c.args.seq.now in
     let m = part_of c.read_default.new.self in
-    let N = ReadsAs n.told n.tags n.retagged n.asks_memory n.under n.any_under in
-    let first = default_first {retagged = n.retagged} {asks = n.asks_memory} {B = n.under} {S = n.any_under} d.is g.A.Value.PartialEq.eq d.default
-    g.met.D.DefaultValue.tells g.met.D.DefaultValue.tests (λ b. (g.met.A.Notation.keeps b).own) g.met.W.Parts.laws c.requires.apart in
+    let N = ReadsAs n.tags_known n.tags n.retagged n.may_allocate n.under n.any_under in
+    let first = default_first {retagged = n.retagged} {may_allocate = n.may_allocate} {B = n.under} {S = n.any_under} d.is g.A.Value.PartialEq.eq d.default
+    g.met.D.DefaultValue.detects g.met.D.DefaultValue.tests (λ b. (g.met.A.Notation.lawful b).own) g.met.W.Parts.laws c.requires.unambiguous in
     let read = subst (λ v. ReadsDefault N _ v s c.read_default.result m) c.default.ensures
     (default_called _ _ N _ c.default.result s c.read_default.result m c.read_default.ensures (λ p q x h. search rules)) in
-    first_failed w.asks_memory w.parts first s c.requires.fresh c.read_default.result m read c.in-Err.error c.in-Err.is
+    first_failed w.may_allocate w.parts first s c.requires.fresh c.read_default.result m read c.in-Err.error c.in-Err.is
 
-pub read_parts-requires-clause-apart : goal.read_parts-requires-clause-apart
-read_parts-requires-clause-apart g c =
-    let a = g.A.Notation.apart in
-    let b = g.W.Parts.apart in
-    (and_parts a b (is_told g.A.Notation.means.told g.W.Parts.told _ (a && b) c.requires.apart).all_apart).1
+pub read_parts-requires-clause-unambiguous : goal.read_parts-requires-clause-unambiguous
+read_parts-requires-clause-unambiguous g c =
+    let a = g.A.Notation.unambiguous in
+    let b = g.W.Parts.unambiguous in
+    (and_parts a b (is_known g.A.Notation.means.tags_known g.W.Parts.tags_known _ (a && b) c.requires.unambiguous).all_unambiguous).1

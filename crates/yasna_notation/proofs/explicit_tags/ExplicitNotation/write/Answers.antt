@@ -10,9 +10,9 @@ pub returns : goal.returns
 returns g c =
     let old : Written = c.args.writer.now in
     let new : Written = c.write_tagged.new.self in
-    let form = g.N.Notation.means.form_under in
+    let encoding = g.N.Notation.means.encoding_under in
     let v = c.args.value.now in
-    subst (λ t. Writes (canonical_element old.mode (tag_or old.tag t) Constructed (form None old.mode v)) old new c.write_tagged.result)
+    subst (λ t. Writes (canonical_element old.mode (tag_or old.tag t) Constructed (encoding None old.mode v)) old new c.write_tagged.result)
     c.tag.ensures
-    (around_one _ _ _ (λ k e h. h) (canonical_element old.mode (tag_or old.tag c.tag.result) Constructed) (λ u m. form u m v)
+    (around_one _ _ _ (λ k e h. h) (canonical_element old.mode (tag_or old.tag c.tag.result) Constructed) (λ u m. encoding u m v)
     old new c.write_tagged.result c.write_tagged.ensures (λ p q x h. search rules))

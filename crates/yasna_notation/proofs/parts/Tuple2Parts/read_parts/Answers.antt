@@ -12,13 +12,13 @@ returns g c =
     let w = g.W.Parts in
     let s = part_of c.args.seq.now in
     let m = c.read.new.reader in
-    let first = required_by {told = n.told} {ts = n.tags} {retagged = n.retagged} {asks = n.asks_memory} {B = n.under} {S = n.any_under}
-    {Q = w.any_parts} (g.met.A.Notation.keeps (and_parts g.A.Notation.apart w.apart c.requires.apart).0).own.coding in
+    let first = required_by {tags_known = n.tags_known} {ts = n.tags} {retagged = n.retagged} {may_allocate = n.may_allocate} {B = n.under} {S = n.any_under}
+    {Q = w.any_parts} (g.met.A.Notation.lawful (and_parts g.A.Notation.unambiguous w.unambiguous c.requires.unambiguous).0).own.coding in
     let left = part_of c.read_parts.new.seq in
-    first_read w.asks_memory w.parts first s c.requires.fresh c.read.result m
-    (subst (λ z. ReadsAs n.told n.tags n.retagged n.asks_memory n.under n.any_under z c.read.result m) c.next.ensures.value c.read.ensures)
+    first_read w.may_allocate w.parts first s c.requires.fresh c.read.result m
+    (subst (λ z. ReadsAs n.tags_known n.tags n.retagged n.may_allocate n.under n.any_under z c.read.result m) c.next.ensures.value c.read.ensures)
     c.in-Ok.first c.in-Ok.is (Ok c.in-Ok-read_parts.others) left
-    (subst (λ z. ReadsContents w.asks_memory w.parts w.any_parts m z left) c.in-Ok-read_parts.is c.read_parts.ensures)
+    (subst (λ z. ReadsContents w.may_allocate w.parts w.any_parts m z left) c.in-Ok-read_parts.is c.read_parts.ensures)
 
 pub returns-in-Err-read_parts : goal.returns-in-Err-read_parts
 returns-in-Err-read_parts g c =
@@ -26,13 +26,13 @@ returns-in-Err-read_parts g c =
     let w = g.W.Parts in
     let s = part_of c.args.seq.now in
     let m = c.read.new.reader in
-    let first = required_by {told = n.told} {ts = n.tags} {retagged = n.retagged} {asks = n.asks_memory} {B = n.under} {S = n.any_under}
-    {Q = w.any_parts} (g.met.A.Notation.keeps (and_parts g.A.Notation.apart w.apart c.requires.apart).0).own.coding in
+    let first = required_by {tags_known = n.tags_known} {ts = n.tags} {retagged = n.retagged} {may_allocate = n.may_allocate} {B = n.under} {S = n.any_under}
+    {Q = w.any_parts} (g.met.A.Notation.lawful (and_parts g.A.Notation.unambiguous w.unambiguous c.requires.unambiguous).0).own.coding in
     let left = part_of c.read_parts.new.seq in
-    first_read w.asks_memory w.parts first s c.requires.fresh c.read.result m
-    (subst (λ z. ReadsAs n.told n.tags n.retagged n.asks_memory n.under n.any_under z c.read.result m) c.next.ensures.value c.read.ensures)
+    first_read w.may_allocate w.parts first s c.requires.fresh c.read.result m
+    (subst (λ z. ReadsAs n.tags_known n.tags n.retagged n.may_allocate n.under n.any_under z c.read.result m) c.next.ensures.value c.read.ensures)
     c.in-Ok.first c.in-Ok.is (Err c.in-Err-read_parts.error) left
-    (subst (λ z. ReadsContents w.asks_memory w.parts w.any_parts m z left) c.in-Err-read_parts.is c.read_parts.ensures)
+    (subst (λ z. ReadsContents w.may_allocate w.parts w.any_parts m z left) c.in-Err-read_parts.is c.read_parts.ensures)
 
 pub returns-in-Err : goal.returns-in-Err
 returns-in-Err g c =
@@ -40,14 +40,14 @@ returns-in-Err g c =
     let w = g.W.Parts in
     let s = part_of c.args.seq.now in
     let m = c.read.new.reader in
-    let first = required_by {told = n.told} {ts = n.tags} {retagged = n.retagged} {asks = n.asks_memory} {B = n.under} {S = n.any_under}
-    {Q = w.any_parts} (g.met.A.Notation.keeps (and_parts g.A.Notation.apart w.apart c.requires.apart).0).own.coding in
-    first_failed w.asks_memory w.parts first s c.requires.fresh c.read.result m
-    (subst (λ z. ReadsAs n.told n.tags n.retagged n.asks_memory n.under n.any_under z c.read.result m) c.next.ensures.value c.read.ensures)
+    let first = required_by {tags_known = n.tags_known} {ts = n.tags} {retagged = n.retagged} {may_allocate = n.may_allocate} {B = n.under} {S = n.any_under}
+    {Q = w.any_parts} (g.met.A.Notation.lawful (and_parts g.A.Notation.unambiguous w.unambiguous c.requires.unambiguous).0).own.coding in
+    first_failed w.may_allocate w.parts first s c.requires.fresh c.read.result m
+    (subst (λ z. ReadsAs n.tags_known n.tags n.retagged n.may_allocate n.under n.any_under z c.read.result m) c.next.ensures.value c.read.ensures)
     c.in-Err.error c.in-Err.is
 
 pub read-requires : goal.read-requires
-read-requires g c = (and_parts g.A.Notation.apart g.W.Parts.apart c.requires.apart).0
+read-requires g c = (and_parts g.A.Notation.unambiguous g.W.Parts.unambiguous c.requires.unambiguous).0
 
-pub read_parts-requires-clause-apart : goal.read_parts-requires-clause-apart
-read_parts-requires-clause-apart g c = (and_parts g.A.Notation.apart g.W.Parts.apart c.requires.apart).1
+pub read_parts-requires-clause-unambiguous : goal.read_parts-requires-clause-unambiguous
+read_parts-requires-clause-unambiguous g c = (and_parts g.A.Notation.unambiguous g.W.Parts.unambiguous c.requires.unambiguous).1

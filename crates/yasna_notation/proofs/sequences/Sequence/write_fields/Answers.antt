@@ -12,5 +12,5 @@ returns g c =
     let old : Written = c.args.writer.now in
     let v = g.P.PartsBy.held c.args.fields in
     around_parts _ _ _ (λ k e h. h) (canonical_element old.mode (tag_or old.tag sequence_tag) Constructed)
-    (λ m. g.P.Parts.form m v) old c.write_sequence.new.self c.write_sequence.result c.write_sequence.ensures
-    (λ p q x h. subst (λ b. WroteParts b p.now q.now x) (sym (c.requires.alike.forms p.now.mode v)) (search rules))
+    (λ m. g.P.Parts.encoding m v) old c.write_sequence.new.self c.write_sequence.result c.write_sequence.ensures
+    (λ p q x h. subst (λ b. WroteParts b p.now q.now x) (sym (c.requires.alike.encodings p.now.mode v)) (search rules))

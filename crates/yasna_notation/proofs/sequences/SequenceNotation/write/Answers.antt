@@ -11,5 +11,5 @@ pub returns : goal.returns
 returns g c =
     let old : Written = c.args.writer.now in
     around_parts _ _ _ (λ k e h. h) (canonical_element old.mode (tag_or old.tag sequence_tag) Constructed)
-    (λ m. g.P.Parts.form m c.args.value.now) old c.write_sequence.new.self c.write_sequence.result c.write_sequence.ensures
+    (λ m. g.P.Parts.encoding m c.args.value.now) old c.write_sequence.new.self c.write_sequence.result c.write_sequence.ensures
     (λ p q x h. search rules)

@@ -5,10 +5,10 @@ use Rattle.yasna_base.specs.Element.{Primitively}
 use Rattle.yasna_bytes.specs.Contents.{big_integer_in}
 use Rattle.yasna_reader.specs.Primitive.{NoLevel}
 use Rattle.yasna_base.proofs.Identifier.{not_end}
-use Rattle.yasna_notation.proofs.OneTag.{asking_read}
+use Rattle.yasna_notation.proofs.OneTag.{allocating_read}
 use Rattle.yasna_notation.proofs.simple.BigIntegerNotation.read.Goals as goal
 
 pub returns : goal.returns
 returns c =
-    asking_read (Primitively IsBigInteger) big_integer_in NoLevel integer_tag (not_end 2 (λ e. omega arith)) (λ t n m s d. d.1) c.args.reader.now
+    allocating_read (Primitively IsBigInteger) big_integer_in NoLevel integer_tag (not_end 2 (λ e. omega arith)) (λ t n m s d. d.1) c.args.reader.now
     c.read_bigint_bytes.result c.read_bigint_bytes.new.self c.read_bigint_bytes.ensures

@@ -3,11 +3,11 @@ use Rattle.yasna_base.specs.Octets.{IsDeepOctets, octets_segmentation}
 use Rattle.yasna_base.specs.Text.{IsStringOf, IsUtf8In, InPrintable, characters, printable_tag}
 use Rattle.yasna_base.proofs.Segmented.{deep_begins}
 use Rattle.yasna_base.proofs.Identifier.{not_end}
-use Rattle.yasna_notation.proofs.OneTag.{asking_read}
+use Rattle.yasna_notation.proofs.OneTag.{allocating_read}
 use Rattle.yasna_notation.proofs.strings.PrintableStringNotation.read.Goals as goal
 
 pub returns : goal.returns
 returns c =
-    asking_read (IsStringOf (IsUtf8In InPrintable)) characters IsDeepOctets printable_tag (not_end 19 (λ e. omega arith))
+    allocating_read (IsStringOf (IsUtf8In InPrintable)) characters IsDeepOctets printable_tag (not_end 19 (λ e. omega arith))
     (λ t n m s. deep_begins octets_segmentation n m t s) c.args.reader.now
     c.read_printable_string.result c.read_printable_string.new.self c.read_printable_string.ensures

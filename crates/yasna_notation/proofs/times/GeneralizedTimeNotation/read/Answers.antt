@@ -3,13 +3,13 @@ use Rattle.yasna_base.specs.Octets.{IsDeepOctets, octets_segmentation}
 use Rattle.yasna_base.specs.Text.{IsStringOf}
 use Rattle.yasna_base.proofs.Segmented.{deep_begins}
 use Rattle.yasna_times.specs.Models.{moment_of}
-use Rattle.yasna_times.specs.GeneralizedTime.{SaysGeneralizedTime, generalized_time_tag}
+use Rattle.yasna_times.specs.GeneralizedTime.{SpellsGeneralizedTime, generalized_time_tag}
 use Rattle.yasna_base.proofs.Identifier.{not_end}
-use Rattle.yasna_notation.proofs.OneTag.{asking_read}
+use Rattle.yasna_notation.proofs.OneTag.{allocating_read}
 use Rattle.yasna_notation.proofs.times.GeneralizedTimeNotation.read.Goals as goal
 
 pub returns : goal.returns
 returns c =
-    asking_read (IsStringOf SaysGeneralizedTime) moment_of IsDeepOctets generalized_time_tag (not_end 24 (λ e. omega arith))
+    allocating_read (IsStringOf SpellsGeneralizedTime) moment_of IsDeepOctets generalized_time_tag (not_end 24 (λ e. omega arith))
     (λ t n m s. deep_begins octets_segmentation n m t s) c.args.reader.now
     c.read_generalized_time.result c.read_generalized_time.new.self c.read_generalized_time.ensures

@@ -5,4 +5,4 @@ use Rattle.yasna_reader.proofs.state.ReaderState.copy_of.Goals as goal
 
 pub returns : goal.returns
 returns g c =
-    subst (λ (s : Reading). CopiedAt g.T.Copied.copies g.T.Copied.view s.levels s.mode s.left c.copy_of_front.result) c.self.view_is c.copy_of_front.ensures
+    subst (λ (s : Reading). CopiedAt g.T.Copied.copies g.T.Copied.view s.levels s.mode s.left c.parse_copy.result) c.self.view_is c.parse_copy.ensures

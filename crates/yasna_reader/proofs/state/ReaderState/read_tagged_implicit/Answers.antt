@@ -7,5 +7,5 @@ hand_under-requires g c κs = search rules
 pub returns : goal.returns
 returns g c = search rules
 
-pub returns-in-Quiet : goal.returns-in-Quiet
-returns-in-Quiet g c = search rules
+pub returns-in-NoMatch : goal.returns-in-NoMatch
+returns-in-NoMatch g c = search rules

@@ -8,8 +8,8 @@ pub returns : goal.returns
 returns g c =
     let left : Reading = c.look_back-outcome.new.self in
     let idle : length c.args.before.left.now ≤ length left.left = search rules in
-    idled (at_cursor c.args.before) c.args.answer.now c.args.self.now left c.failed.new.self c.look_back-outcome.result c.failed.result tt
-    c.new.result c.look_back-outcome.ensures c.in-Gave.is idle c.new.ensures c.failed.ensures
+    idled (at_cursor c.args.before) c.args.returned.now c.args.self.now left c.fail_outcome.new.self c.look_back-outcome.result c.fail_outcome.result tt
+    c.new.result c.look_back-outcome.ensures c.in-Matched.is idle c.new.ensures c.fail_outcome.ensures
 
 pub returns-2 : goal.returns-2
 returns-2 g c = search rules

@@ -4,5 +4,5 @@ use Rattle.yasna_reader.proofs.state.ReaderState.turned.Goals as goal
 
 pub in_order-requires : goal.in_order-requires
 in_order-requires g c =
-    turn_rest (at_cursor c.args.before) c.args.answer.now c.args.self.now c.take_turn-outcome.result c.take_turn-outcome.new.self
+    turn_rest (at_cursor c.args.before) c.args.returned.now c.args.self.now c.take_turn-outcome.result c.take_turn-outcome.new.self
     c.take_turn-outcome.ensures

@@ -9,10 +9,10 @@ returns-in-Ok-None c =
     let none = (rw c.in-Ok-None.field-0-is at (c.in-Ok-None.ensures {u = tt})).exact in
     inr (tt, λ v x. none v x.text)
 
-pub returns-then-not-asks_canonical : goal.returns-then-not-asks_canonical
-returns-then-not-asks_canonical c = record {
+pub returns-then-not-requires_canonical : goal.returns-then-not-requires_canonical
+returns-then-not-requires_canonical c = record {
   text = (rw c.in-Ok-Some.field-0-is at (c.in-Ok-Some.ensures {u = tt})).exact;
-  canonical = λ h. let yes = c.if-not-asks_canonical.ensures.1 h in cc;
+  canonical = λ h. let yes = c.if-not-requires_canonical.ensures.1 h in cc;
 }
 
 pub returns-then-is_canonical : goal.returns-then-is_canonical
@@ -24,13 +24,13 @@ returns-then-is_canonical c = record {
 pub returns-else-is_canonical : goal.returns-else-is_canonical
 returns-else-is_canonical c =
     let time = moment_of c.in-Ok-Some.time in
-    let says = (rw c.in-Ok-Some.field-0-is at (c.in-Ok-Some.ensures {u = tt})).exact in
+    let obeys = (rw c.in-Ok-Some.field-0-is at (c.in-Ok-Some.ensures {u = tt})).exact in
     inr (
       tt,
       λ v x.
-          let same : v ≡ time = general_text_is c.args.text.now None v time x.text says in
-          let asked = c.if-not-asks_canonical.ensures.0 refl in
-          let canonical = x.canonical asked ∙ ap general_text same in
+          let same : v ≡ time = general_text_is c.args.text.now None v time x.text obeys in
+          let may_allocate_by = c.if-not-requires_canonical.ensures.0 refl in
+          let canonical = x.canonical may_allocate_by ∙ ap general_text same in
           let yes = c.if-is_canonical.ensures.1 canonical in
           cc,
     )

@@ -2,7 +2,7 @@ use Rattle.std.proofs.Common.{ℕ, ◌+◌, ◌<◌, Bool, true, false, if◌the
 use Rattle.std.proofs.lemmas.Bool.{false≢true}
 use Rattle.yasna_times.specs.Decimal.{two_at}
 use Rattle.yasna_times.specs.UtcTime.{utc_year}
-use Rattle.yasna_times.proofs.Civil.{kept_8, kept_16, parts_of_date, parts_of_time}
+use Rattle.yasna_times.proofs.Civil.{round_trip_8, round_trip_16, parts_of_date, parts_of_time}
 use Rattle.yasna_times.proofs.models.utc_time.clock.Goals as goal
 
 year_below : (b : Bool) (y : ℕ) → y < 100 → (if b then 2000 + y else 1900 + y) < 10000
@@ -26,14 +26,14 @@ returns-in-Ok c =
       ends = c.requires.ends;
       digits = c.requires.digits;
       date = (
-        v.0.0 ∙ kept_16 _ _ y.value below,
-        v.0.1 ∙ kept_8 _ _ m.value m.bound,
-        v.0.2 ∙ kept_8 _ _ d.value d.bound,
+        v.0.0 ∙ round_trip_16 _ _ y.value below,
+        v.0.1 ∙ round_trip_8 _ _ m.value m.bound,
+        v.0.2 ∙ round_trip_8 _ _ d.value d.bound,
       );
       time = (
-        v.1.0 ∙ kept_8 _ _ h.value h.bound,
-        v.1.1 ∙ kept_8 _ _ k.value k.bound,
-        v.1.2 ∙ kept_8 _ _ s.value s.bound,
+        v.1.0 ∙ round_trip_8 _ _ h.value h.bound,
+        v.1.1 ∙ round_trip_8 _ _ k.value k.bound,
+        v.1.2 ∙ round_trip_8 _ _ s.value s.bound,
         v.1.3,
       );
     }
@@ -50,14 +50,14 @@ returns-in-Err c =
     let s = c.second-second.ensures in
     false≢true (c.in-Err.ensures.succeeds.1 (
       parts_of_date _ _ _ local.date (
-        x.date.0 ∙ sym (kept_16 _ _ y.value below),
-        x.date.1 ∙ sym (kept_8 _ _ m.value m.bound),
-        x.date.2 ∙ sym (kept_8 _ _ d.value d.bound),
+        x.date.0 ∙ sym (round_trip_16 _ _ y.value below),
+        x.date.1 ∙ sym (round_trip_8 _ _ m.value m.bound),
+        x.date.2 ∙ sym (round_trip_8 _ _ d.value d.bound),
       ),
       parts_of_time _ _ _ _ local.time (
-        x.time.0 ∙ sym (kept_8 _ _ h.value h.bound),
-        x.time.1 ∙ sym (kept_8 _ _ k.value k.bound),
-        x.time.2 ∙ sym (kept_8 _ _ s.value s.bound),
+        x.time.0 ∙ sym (round_trip_8 _ _ h.value h.bound),
+        x.time.1 ∙ sym (round_trip_8 _ _ k.value k.bound),
+        x.time.2 ∙ sym (round_trip_8 _ _ s.value s.bound),
         x.time.3,
       ),
     ))

@@ -1,6 +1,6 @@
 use Rattle.std.proofs.Common.{ℤ, length, ap, sym, ◌∙◌, subst, arith}
 use Rattle.yasna_base.specs.Identifier.{tag_or}
-use Rattle.yasna_base.specs.Integer.{integer_form, integer_tag}
+use Rattle.yasna_base.specs.Integer.{integer_encoding, integer_tag}
 use Rattle.std.specs.Prelude.{true}
 use Rattle.std.proofs.lemmas.Bool.{eqb-true, eqb-false}
 use Rattle.yasna_writer.specs.View.{Wrote}
@@ -10,15 +10,15 @@ use Rattle.yasna_writer.proofs.state.Writer.write_bigint_bytes.Goals as goal
 
 pub returns-then-is_empty : goal.returns-then-is_empty
 returns-then-is_empty c =
-    let empty = ap length (sym c.without-rest.ensures) ∙ eqb-true _ 0 (sym (c.if-is_empty.ensures {u = tt})) in
-    let number = ap (signed_number true) c.without-rest.ensures ∙ big_none c.args.positive c.args.bytes.now empty in
-    subst (λ (z : ℤ). Wrote (integer_form (tag_or c.args.self.now.tag integer_tag) c.args.self.now.mode z) c.args.self.now c.write_signed_bytes.new.self
+    let empty = ap length (sym c.trim_leading-rest.ensures) ∙ eqb-true _ 0 (sym (c.if-is_empty.ensures {u = tt})) in
+    let number = ap (signed_number true) c.trim_leading-rest.ensures ∙ big_none c.args.positive c.args.bytes.now empty in
+    subst (λ (z : ℤ). Wrote (integer_encoding (tag_or c.args.self.now.tag integer_tag) c.args.self.now.mode z) c.args.self.now c.write_signed_bytes.new.self
     c.write_signed_bytes.result) number c.write_signed_bytes.ensures
 
 pub returns : goal.returns
 returns c =
     let some = eqb-false _ 0 (sym (c.if-is_empty.ensures {u = tt})) in
-    let rest = ap length c.without-rest.ensures in
-    let number = ap (signed_number c.args.positive) c.without-rest.ensures ∙ big_some c.args.positive c.args.bytes.now (omega arith) in
-    subst (λ (z : ℤ). Wrote (integer_form (tag_or c.args.self.now.tag integer_tag) c.args.self.now.mode z) c.args.self.now c.write_signed_bytes-2.new.self
+    let rest = ap length c.trim_leading-rest.ensures in
+    let number = ap (signed_number c.args.positive) c.trim_leading-rest.ensures ∙ big_some c.args.positive c.args.bytes.now (omega arith) in
+    subst (λ (z : ℤ). Wrote (integer_encoding (tag_or c.args.self.now.tag integer_tag) c.args.self.now.mode z) c.args.self.now c.write_signed_bytes-2.new.self
     c.write_signed_bytes-2.result) number c.write_signed_bytes-2.ensures

@@ -28,5 +28,5 @@ returns g c =
         leaves = refl;
       };
       ends = set_ends (contents_in c.args.order) _ (tag_or old.tag set_tag) old c.fresh_tag.new.self left c.end_set.new.self taken.2 taken.1 c.end_set.ensures;
-      answers = c.settle.ensures;
+      returns = c.resolve.ensures;
     })

@@ -23,5 +23,5 @@ returns c =
     (λ i. let e : (n - 1) - 1 ≡ n - 2 = omega arith in rw e (rw back at c.octets.ensures.least (omega arith))) in
     let piece = ap (λ (w : Written). canonical_element w.mode c.take_tag-tag.result Primitive (drop (8 - n) c.to_be_bytes.result)) c.take_tag-tag.ensures.taken
     ∙ ap₂ (λ t x. canonical_element old.mode t Primitive x) c.take_tag-tag.ensures.tag last in
-    wrote_by _ _ old c.take_tag-tag.new.self c.append_last.new.self c.append_last.result (sym c.kept.ensures ∙ c.in_default.is) c.take_tag-tag.ensures.taken
+    wrote_by _ _ old c.take_tag-tag.new.self c.append_last.new.self c.append_last.result (sym c.failed.ensures ∙ c.in_default.is) c.take_tag-tag.ensures.taken
     piece c.append_last.ensures

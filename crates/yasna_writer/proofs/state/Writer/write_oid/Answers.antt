@@ -25,5 +25,5 @@ returns c =
     ∙ ap (λ b. canonical_element old.mode t Primitive b) contents in
     let new = c.append_subidentifiers.new.self in
     let result = c.append_subidentifiers.result in
-    wrote_by _ _ old mid new result (sym c.kept.ensures ∙ c.in_default.is) c.take_tag-tag.ensures.taken piece
+    wrote_by _ _ old mid new result (sym c.failed.ensures ∙ c.in_default.is) c.take_tag-tag.ensures.taken piece
     (appended_both mid c.append_header.new.self new result _ _ (c.in_ok-append_header.ensures {u = tt}) c.append_subidentifiers.ensures)

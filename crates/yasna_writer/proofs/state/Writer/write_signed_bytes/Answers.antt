@@ -3,8 +3,8 @@ use Rattle.yasna_base.specs.declared.tag.PCBit.TheVariants.{Primitive}
 use Rattle.yasna_base.specs.Canonical.{canonical_element}
 use Rattle.yasna_writer.specs.View.{Wrote}
 use Rattle.yasna_base.specs.Identifier.{tag_or}
-use Rattle.yasna_base.specs.BigInteger.{without}
-use Rattle.yasna_writer.specs.Integer.{sign_front}
+use Rattle.yasna_base.specs.BigInteger.{trim_leading}
+use Rattle.yasna_writer.specs.Integer.{sign_octet}
 use Rattle.yasna_base.proofs.Digits.{all_bytes}
 use Rattle.yasna_writer.proofs.Integers.{signed_bytes}
 use Rattle.yasna_writer.proofs.state.Writer.write_signed_bytes.Goals as goal
@@ -12,8 +12,8 @@ use Rattle.yasna_writer.proofs.state.Writer.write_signed_bytes.Goals as goal
 pub returns : goal.returns
 returns c =
     let positive = c.args.positive in
-    let rest = c.without-rest.ensures ∙ ap (λ s. without s c.args.bytes.now) c.sign_byte.ensures in
-    let front = c.sign_front.ensures ∙ ap (sign_front positive) rest in
-    let whole = ap₂ (λ x y. x ++ y) front rest ∙ signed_bytes positive c.args.bytes.now (all_bytes c.args.bytes.now (λ i. (c.type_inv.bytes i).fits)) in
+    let rest = c.trim_leading-rest.ensures ∙ ap (λ s. trim_leading s c.args.bytes.now) c.sign_byte.ensures in
+    let prefix = c.sign_octet.ensures ∙ ap (sign_octet positive) rest in
+    let whole = ap₂ (λ x y. x ++ y) prefix rest ∙ signed_bytes positive c.args.bytes.now (all_bytes c.args.bytes.now (λ i. (c.type_inv.bytes i).fits)) in
     subst (λ (b : List ℕ). Wrote (canonical_element c.args.self.now.mode (tag_or c.args.self.now.tag c.args.own) Primitive b) c.args.self.now
     c.write_pieces.new.self c.write_pieces.result) whole c.write_pieces.ensures

@@ -1,4 +1,4 @@
--- The answer is here so that the other text is refused at once.
+-- The result is here so that the other text is rejected at once.
 use Rattle.std.proofs.Common.{rules}
 use Rattle.yasna_base.proofs.models.oid_text.ParseOidErrorDisplay.fmt.Goals as goal
 

@@ -9,6 +9,6 @@ returns c =
     let s = c.args.s.now in
     let bytes = all_bytes s (λ i. let f = c.type_inv.s i in omega arith) in
     let there = (c.in-Some.ensures {u = tt}).cases.0 in
-    let plain : 0 * 128 + c.in-Some.byte.now ≡ c.in-Some.byte.now = omega arith in
-    rw c.from.ensures (subst (λ (k : ℕ). s ≡ base128 k ++ c.in-Some.after.now) plain
+    let blames_bytes : 0 * 128 + c.in-Some.byte.now ≡ c.in-Some.byte.now = omega arith in
+    rw c.from.ensures (subst (λ (k : ℕ). s ≡ base128 k ++ c.in-Some.after.now) blames_bytes
     (scans_found s 0 c.in-Some.byte.now s c.in-Some.after.now bytes (scans_start s bytes) there c.if-byte-lt128.true))

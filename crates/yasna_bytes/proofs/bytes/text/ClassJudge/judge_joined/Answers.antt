@@ -1,10 +1,10 @@
 use Rattle.std.proofs.Common.{refl}
-use Rattle.yasna_bytes.proofs.Text.{class_refused, utf8_judged, bmp_judged}
+use Rattle.yasna_bytes.proofs.Text.{class_rejected, utf8_judged, bmp_judged}
 use Rattle.yasna_bytes.proofs.bytes.text.ClassJudge.judge_joined.Goals as goal
 
 pub returns-then-not-may_hold : goal.returns-then-not-may_hold
 returns-then-not-may_hold c =
-    class_refused c.args.self c.args._mode c.args.octets.items
+    class_rejected c.args.self c.args._mode c.args.octets.items
     (λ h. let z = (c.if-not-may_hold.ensures {u = tt}).1 (rw c.as_slice.ensures.value h) in cc)
 
 pub returns-in-Bmp : goal.returns-in-Bmp

@@ -4,7 +4,7 @@ use Rattle.yasna_times.specs.Fraction.{IsReducedFraction, trimmed, nine_digits}
 use Rattle.yasna_times.specs.GeneralizedTime.{IsGeneralText, is_leap, part_digits}
 use Rattle.yasna_times.specs.Moment.{moment_at}
 use Rattle.yasna_times.specs.Zone.{seconds_of}
-use Rattle.yasna_times.proofs.GeneralizedTime.{says_at, reading_flagged, pos_is}
+use Rattle.yasna_times.proofs.GeneralizedTime.{spells_at, reading_flagged, pos_is}
 use Rattle.yasna_times.proofs.Moment.{moment_is}
 use Rattle.yasna_times.proofs.models.generalized_time.GeneralizedTime.general.Goals as goal
 
@@ -20,7 +20,7 @@ returns-in_default-reading-clause-exact c =
     let g : List ℕ = trimmed (nine_digits f.nanosecond ++ f.sub_nano.items) in
     let x₁ = subst (λ (ds : List ℕ). IsReducedFraction c.unit.result ds f.seconds g) c.part-digits.ensures c.in_ok-fraction.ensures.exact in
     let x₂ = subst (λ (u : ℕ). IsReducedFraction u (part_digits s l.clock_end l.zone_at) f.seconds g) c.unit.ensures.value x₁ in
-    let r = says_at s (seconds_of c.args.given) l.clock_end l.zone_at l.offset.seconds f.seconds g m c.in-Some.ensures.exact x₂ t in
+    let r = spells_at s (seconds_of c.args.given) l.clock_end l.zone_at l.offset.seconds f.seconds g m c.in-Some.ensures.exact x₂ t in
     c.in_default-reading.ensures r.utc r.reading
 
 pub invariant_of-result : goal.invariant_of-result

@@ -24,12 +24,12 @@ returns c =
     ∙ ap (λ x. trimmed (x ++ c.as_slice-2.result.now)) (c.as_slice.ensures ∙ c.nine-nine.ensures) ∙ ap (λ x. trimmed (nine ++ x)) sub_nano in
     let clock : c.as_slice-3.result.now ≡ clock_digits m = c.as_slice-3.ensures ∙ c.clock.ensures in
     let fraction : List ℕ = c.in-Some.fraction.now in
-    let zone : List ℕ = c.in-Some-behind_fraction.zone.now in
+    let zone : List ℕ = c.in-Some-after_fraction.zone.now in
     let whole : c.args.bytes.now ≡ clock_digits m ++ (point_digits m.fraction ++ zone) =
     c.in-Some.ensures ∙ ap (λ x. x ++ fraction) clock
-    ∙ ap (λ x. clock_digits m ++ x) (c.in-Some-behind_fraction.ensures ∙ ap (λ x. point_digits x ++ zone) digits) in
-    let front : List ℕ = point_digits m.fraction in (
-      λ h. whole ∙ ap (λ x. clock_digits m ++ (front ++ x)) (c.is_same.ensures.0 h ∙ c.as_slice-5.ensures),
+    ∙ ap (λ x. clock_digits m ++ x) (c.in-Some-after_fraction.ensures ∙ ap (λ x. point_digits x ++ zone) digits) in
+    let prefix : List ℕ = point_digits m.fraction in (
+      λ h. whole ∙ ap (λ x. clock_digits m ++ (prefix ++ x)) (c.is_same.ensures.0 h ∙ c.as_slice-5.ensures),
       λ e. c.is_same.ensures.1
-          (append_same front zone (90 ∷ []) (append_same (clock_digits m) (front ++ zone) (front ++ 90 ∷ []) (sym whole ∙ e)) ∙ sym c.as_slice-5.ensures),
+          (append_same prefix zone (90 ∷ []) (append_same (clock_digits m) (prefix ++ zone) (prefix ++ 90 ∷ []) (sym whole ∙ e)) ∙ sym c.as_slice-5.ensures),
     )

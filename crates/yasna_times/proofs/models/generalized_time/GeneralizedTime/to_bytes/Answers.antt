@@ -2,7 +2,7 @@ use Rattle.std.proofs.Common.{◌≡◌, ◌∙◌, ◌++◌, [], ◌∷◌, ap,
 use Rattle.yasna_times.specs.GeneralizedTime.{IsGeneralText, clock_digits, point_digits}
 use Rattle.yasna_times.specs.Fraction.{nine_digits, trimmed}
 use Rattle.yasna_times.specs.Models.{moment_of}
-use Rattle.yasna_times.proofs.GeneralText.{general_text_says}
+use Rattle.yasna_times.proofs.GeneralText.{general_text_spells}
 use Rattle.yasna_times.proofs.Times.{general_moment}
 use Rattle.yasna_times.proofs.models.generalized_time.GeneralizedTime.to_bytes.Goals as goal
 
@@ -18,11 +18,11 @@ returns-clause-text c =
     ∙ ap (λ x. trimmed (x ++ c.as_slice-2.result.now)) (c.as_slice.ensures ∙ c.nine-nine.ensures) ∙ ap (λ x. trimmed (nine ++ x)) sub_nano in
     let clock : c.extend_from_slice.new.self.items ≡ clock_digits m =
     c.in_ok-extend_from_slice.ensures.items ∙ ap (λ x. x ++ c.as_slice-3.result.now) c.in_ok-text.ensures.items ∙ c.as_slice-3.ensures ∙ c.clock.ensures in
-    let front : c.push_fraction.new.text.items ≡ clock_digits m ++ point_digits m.fraction =
+    let prefix : c.push_fraction.new.text.items ≡ clock_digits m ++ point_digits m.fraction =
     c.in_ok-push_fraction.ensures ∙ ap (λ x. x ++ point_digits (first ++ c.as_slice-4.result.now)) clock ∙ ap (λ x. clock_digits m ++ point_digits x) digits in
-    c.in_ok-push.ensures.items ∙ ap (λ x. x ++ 90 ∷ []) front ∙ append_assoc (clock_digits m) (point_digits m.fraction) (90 ∷ [])
+    c.in_ok-push.ensures.items ∙ ap (λ x. x ++ 90 ∷ []) prefix ∙ append_assoc (clock_digits m) (point_digits m.fraction) (90 ∷ [])
 
-pub returns-clause-says : goal.returns-clause-says
-returns-clause-says c =
+pub returns-clause-spells : goal.returns-clause-spells
+returns-clause-spells c =
     let t = c.args.self.now in
-    λ given. subst (λ s. IsGeneralText s given (moment_of t)) (sym (returns-clause-text c)) (general_text_says (moment_of t) (general_moment t) given)
+    λ given. subst (λ s. IsGeneralText s given (moment_of t)) (sym (returns-clause-text c)) (general_text_spells (moment_of t) (general_moment t) given)

@@ -3,6 +3,6 @@ use Rattle.yasna_bytes.proofs.bytes.contents.oid.ObjectIdentifierContents.of_con
 
 pub returns-in-Err : goal.returns-in-Err
 returns-in-Err c = elim (c.in-Err.ensures {u = tt} c.args._mode) [
-  | inl k ↦ inl (c.fault.ensures.memory k.0, k.1)
-  | inr h ↦ inr (c.fault.ensures.plain h.0, h.1)
+  | inl k ↦ inl (c.oid_error.ensures.memory k.0, k.1)
+  | inr h ↦ inr (c.oid_error.ensures.blames_bytes h.0, h.1)
 ]

@@ -1,0 +1,63 @@
+//! The kinds of messages, and what they are rewritten by.
+ghost use Rattle.std.specs.Prelude.{IfOk, ◌≡◌};
+
+use pkcs8::OneAsymmetricKey;
+use snmp::{v1, v2c};
+use std::alloc::Global;
+use x509::{Certificate, CertificateList};
+use yasna::{
+    ASN1Result, BERDecodable, DEREncodable, DERExact, decode_der, encode_der, one_der_encoding,
+};
+use yasna_notation::Encoded;
+
+/// A kind of messages.
+#[derive(Clone, Copy)]
+pub enum MessageType {
+    Certificate,
+    CertificateList,
+    OneAsymmetricKey,
+    SnmpV1,
+    SnmpV2c,
+}
+
+/// Their names, as the usage tells them.
+pub const NAMES: &str = "certificate | certificate-list | private-key | snmp-v1 | snmp-v2c";
+
+// Reads a value, and writes it.
+fn rewritten<T: BERDecodable + DEREncodable + DERExact>(
+    alloc: Global,
+    bytes: &[u8],
+) -> ASN1Result<Vec<u8>>
+    ensures { IfOk result (λ encoding. encoding.items ≡ bytes.now) }
+{
+    one_der_encoding::<T>();
+    let value: T = decode_der(alloc, bytes)?;
+    encode_der(alloc, &value)
+}
+
+impl MessageType {
+    /// The kind of this name.
+    pub fn named(word: &str) -> Option<MessageType> {
+        match word {
+            "certificate" => Some(MessageType::Certificate),
+            "certificate-list" => Some(MessageType::CertificateList),
+            "private-key" => Some(MessageType::OneAsymmetricKey),
+            "snmp-v1" => Some(MessageType::SnmpV1),
+            "snmp-v2c" => Some(MessageType::SnmpV2c),
+            _ => None,
+        }
+    }
+
+    /// The bytes again, where they are a message of this kind.
+    pub fn rewritten(self, alloc: Global, bytes: &[u8]) -> ASN1Result<Vec<u8>>
+        ensures { IfOk result (λ encoding. encoding.items ≡ bytes.now) }
+    {
+        match self {
+            MessageType::Certificate => rewritten::<Encoded<Certificate>>(alloc, bytes),
+            MessageType::CertificateList => rewritten::<Encoded<CertificateList>>(alloc, bytes),
+            MessageType::OneAsymmetricKey => rewritten::<Encoded<OneAsymmetricKey>>(alloc, bytes),
+            MessageType::SnmpV1 => rewritten::<Encoded<v1::SnmpMessage>>(alloc, bytes),
+            MessageType::SnmpV2c => rewritten::<Encoded<v2c::SnmpMessage>>(alloc, bytes),
+        }
+    }
+}

@@ -1,0 +1,5 @@
+use Rattle.std.proofs.Common.{rules}
+use Rattle.asn1der_convert.proofs.conversion.cleared_byte.Goals as goal
+
+pub returns : goal.returns
+returns c = search rules

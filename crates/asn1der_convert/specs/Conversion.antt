@@ -1,0 +1,21 @@
+-- What the conversion from BER to DER returns.
+use Rattle.std.specs.Prelude.{◌≡◌, ℕ, ◌≤◌, List, length, map}
+use Rattle.std.specs.List.{concat}
+use Rattle.yasna_base.specs.Pieces.{Each, Pieces}
+use Rattle.yasna_base.specs.declared.mode.BERMode.TheVariants.{Ber, Der}
+use Rattle.asn1der_convert.specs.Tree.{Tree, HasTree, der_encoding, SameTree}
+
+-- s is elements in BER, one or more, and d their encodings in DER, one after the other
+pub record Converts (s d : List ℕ) : Type 0 where
+  pub trees : List (Tree 101)
+  pub some : 1 ≤ length trees
+  pub read : Pieces (HasTree 101 Ber) trees s
+  pub written : d ≡ concat (map (der_encoding 101) trees)
+
+-- s is elements in BER, d elements in DER, and one by one they say the same
+pub record EncodesTheSame (s d : List ℕ) : Type 0 where
+  pub old : List (Tree 101)
+  pub new : List (Tree 101)
+  pub read : Pieces (HasTree 101 Ber) old s
+  pub written : Pieces (HasTree 101 Der) new d
+  pub same : Each (SameTree 101) old new

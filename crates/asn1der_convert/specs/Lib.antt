@@ -1,0 +1,6 @@
+pub mod Tags
+pub mod Tree
+pub mod Conversion
+pub mod ContentsClass
+pub mod Parts
+pub mod Ambiguity

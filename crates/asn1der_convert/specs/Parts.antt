@@ -1,0 +1,85 @@
+-- Elements that were read and written in DER, as the walk returns them.
+use Rattle.std.specs.Borrow.{Bor}
+use Rattle.std.specs.Global.{Global}
+use Rattle.std.specs.Prelude.{◌≡◌, ℕ, List, ◌++◌, map, Result, Ok, Err, Vec}
+use Rattle.std.specs.List.{concat}
+use Rattle.yasna_base.specs.Canonical.{canonical_element}
+use Rattle.yasna_base.specs.Header.{ContentsEnd, EndsBefore}
+use Rattle.yasna_base.specs.Order.{octets_cmp, in_order}
+use Rattle.yasna_base.specs.Pieces.{Pieces}
+use Rattle.yasna_base.specs.Set.{set_tag}
+use Rattle.yasna_base.specs.declared.mode.BERMode.{BERMode}
+use Rattle.yasna_base.specs.declared.mode.BERMode.TheVariants.{Der}
+use Rattle.yasna_base.specs.declared.tag.PCBit.TheVariants.{Constructed}
+use Rattle.yasna_base.specs.declared.tag.Tag.{Tag}
+use Rattle.asn1der_convert.specs.Tree.{Tree, tree_tag, HaveOneTag, HasTree, der_encoding}
+use Rattle.asn1der_convert.specs.declared.error.ConvertError.{ConvertError}
+use Rattle.asn1der_convert.specs.declared.error.ConvertError.TheVariants.{Memory}
+use Rattle.asn1der_convert.specs.declared.der_element.DerElement.{DerElement}
+
+-- the tag of each part
+abbrev pub part_tags : List DerElement → List Tag
+part_tags ps = map (λ (p : DerElement). p.tag) ps
+
+-- the bytes of each
+abbrev pub part_bytes : List DerElement → List (List ℕ)
+part_bytes ps = map (λ (p : DerElement). p.bytes.items) ps
+
+-- within n levels, b is an element, and p that element in DER with its tag
+pub record IsPartOf (n : ℕ) (m : BERMode) (b : List ℕ) (p : DerElement) : Type 0 where
+  pub tree : Tree n
+  pub read : HasTree n m tree b
+  pub tag : p.tag ≡ tree_tag n tree
+  pub encoding : p.bytes.items ≡ der_encoding n tree
+
+-- within n levels, c is elements one after the other, and ps those elements in DER
+pub record ArePartsOf (n : ℕ) (m : BERMode) (c : List ℕ) (ps : List DerElement) : Type 0 where
+  pub trees : List (Tree n)
+  pub read : Pieces (HasTree n m) trees c
+  pub tags : part_tags ps ≡ map (tree_tag n) trees
+  pub encodings : part_bytes ps ≡ map (der_encoding n) trees
+
+-- an element is at the start of s, p is that element in DER, and r follows it
+pub record TakesPart (n : ℕ) (m : BERMode) (s : List ℕ) (p : DerElement) (r : List ℕ) : Type 0 where
+  pub prefix : List ℕ
+  pub joined : s ≡ prefix ++ r
+  pub part : IsPartOf n m prefix p
+
+-- elements are at the start of s up to where contents end, ps are those elements in DER, and r follows the end
+pub record TakesPartsTo (n : ℕ) (m : BERMode) (s : List ℕ) (end : ContentsEnd) (ps : List DerElement) (r : List ℕ) : Type 0 where
+  pub prefix : List ℕ
+  pub rest : List ℕ
+  pub joined : s ≡ prefix ++ rest
+  pub ends : EndsBefore end rest r
+  pub parts : ArePartsOf n m prefix ps
+
+-- cs are the bytes bs of elements with the tags ts, as they are in DER within one with the tag t: those of a SET whose elements have one
+-- tag ascend, any others are as they were (X.690, 11.6)
+pub data ArePutInOrder (t : Tag) (ts : List Tag) (bs cs : List (List ℕ)) : Type 0 where
+  ascending : t ≡ set_tag → HaveOneTag ts → cs ≡ in_order octets_cmp bs → ArePutInOrder t ts bs cs
+  as_they_were : (t ≡ set_tag → HaveOneTag ts → ⊥) → cs ≡ bs → ArePutInOrder t ts bs cs
+
+-- p is the constructed element in DER with the tag t around these
+pub record IsPartAround (t : Tag) (ps : List DerElement) (p : DerElement) : Type 0 where
+  pub tag : p.tag ≡ t
+  pub inner : List (List ℕ)
+  pub order : ArePutInOrder t (part_tags ps) (part_bytes ps) inner
+  pub bytes : p.bytes.items ≡ canonical_element Der t Constructed (concat inner)
+
+-- no element is at the start of s
+abbrev pub NoTreeAt : ℕ → BERMode → List ℕ → Type 0
+NoTreeAt n m s = (v : Tree n) (b r : List ℕ) → HasTree n m v b → s ≡ b ++ r → ⊥
+
+-- no elements are at the start of s up to where contents end
+abbrev pub NoTreesTo : ℕ → BERMode → List ℕ → ContentsEnd → Type 0
+NoTreesTo n m s end = (vs : List (Tree n)) (prefix rest r : List ℕ) → Pieces (HasTree n m) vs prefix → s ≡ prefix ++ rest → EndsBefore end rest r → ⊥
+
+-- an element in DER, and what follows it in BER, or why there is none
+abbrev pub PartAt : ℕ → BERMode → List ℕ → Result (DerElement × Bor (List ℕ)) ConvertError → Type 0
+PartAt n m s (Ok x) = TakesPart n m s x.0 x.1.now
+PartAt n m s (Err e) = (e ≡ Memory → ⊥) → NoTreeAt n m s
+
+-- the same of elements up to the end of contents
+abbrev pub PartsAt : ℕ → BERMode → List ℕ → ContentsEnd → Result (Vec DerElement Global × Bor (List ℕ)) ConvertError → Type 0
+PartsAt n m s end (Ok x) = TakesPartsTo n m s end x.0.items x.1.now
+PartsAt n m s end (Err e) = (e ≡ Memory → ⊥) → NoTreesTo n m s end

@@ -1,0 +1,71 @@
+//! Why there is no output.
+ghost use Rattle.std.specs.Prelude.{◌≡◌, ◌↔◌, ◌-◌, length};
+ghost use Rattle.yasna_base.specs.declared.error.ASN1ErrorKind.TheVariants.{OutOfMemory};
+ghost use Rattle.asn1der_convert.specs.declared.error.ConvertError.TheVariants.{Malformed, Memory};
+
+use std::alloc::{AllocError, AllocFailed};
+use std::fmt;
+use yasna_base::error::ASN1ErrorKind;
+use yasna_bytes::bytes::cursor::Cursor;
+
+/// Why an input isn't converted.
+#[derive(Clone, Copy, PartialEq, Eq, Debug)]
+pub enum ConvertError {
+    /// No element in BER is at a place.
+    Malformed {
+        /// Where, counted from the input's first byte.
+        offset: usize,
+        /// What is wrong there.
+        kind: ASN1ErrorKind,
+    },
+    /// There was no memory.
+    Memory,
+}
+
+/// Where this place is, counted from the input's first byte.
+pub fn offset_of(cursor: Cursor<'_>) -> usize
+    ensures { result ≡ cursor.entry.end - length cursor.entry.left.now }
+{
+    cursor.end.saturating_sub(cursor.left.len())
+}
+
+impl ConvertError {
+    /// What is wrong with the element that begins here.
+    pub fn at(cursor: Cursor<'_>, kind: ASN1ErrorKind) -> ConvertError
+        ensures memory { (result ≡ Memory) ↔ (kind ≡ OutOfMemory) }
+        ensures malformed { (kind ≡ OutOfMemory → ⊥) → result ≡ Malformed (cursor.entry.end - length cursor.entry.left.now) kind }
+    {
+        if kind == ASN1ErrorKind::OutOfMemory {
+            return ConvertError::Memory;
+        }
+        ConvertError::Malformed {
+            offset: offset_of(cursor),
+            kind,
+        }
+    }
+}
+
+impl fmt::Display for ConvertError {
+    fn fmt<W: fmt::Write>(&self, f: &mut fmt::Formatter<W>) -> fmt::Result {
+        match self {
+            ConvertError::Malformed { offset, kind } => write!(f, "offset {offset}: {kind:?}"),
+            ConvertError::Memory => f.write_str("no memory"),
+        }
+    }
+}
+
+impl From<AllocError> for ConvertError {
+    ghost from_gives = { λ _ e. e ≡ Memory };
+
+    fn from(_rejected: AllocError) -> ConvertError {
+        ConvertError::Memory
+    }
+}
+
+impl<T: Drop> From<AllocFailed<T>> for ConvertError {
+    ghost from_gives = { λ _ e. e ≡ Memory };
+
+    fn from(_rejected: AllocFailed<T>) -> ConvertError {
+        ConvertError::Memory
+    }
+}

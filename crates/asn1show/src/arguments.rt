@@ -1,0 +1,171 @@
+//! The arguments.
+
+use asn1show_lines::InputFormat;
+use clap::{Arg, ArgAction, ArgMatches, Command, Error};
+use std::alloc::{AllocError, Global};
+use yasna_base::mode::BERMode;
+
+/// What the arguments ask for.
+#[derive(Clone, Copy)]
+pub struct Options<'a> {
+    /// The encoding rules by which the input is read.
+    pub mode: BERMode,
+    /// The format of the input, or None where that is to be detected by what is there.
+    pub input_format: Option<InputFormat>,
+    /// How many hexadecimal digits are shown of a value.
+    pub width: usize,
+    /// The file that is read, or None for standard input.
+    pub file: Option<&'a str>,
+}
+
+const WIDTH: usize = 64;
+
+// A flag that goes without two others.
+struct Flag {
+    name: &'static str,
+    others: [&'static str; 2],
+    help: &'static str,
+}
+
+static FLAGS: [Flag; 6] = [
+    Flag {
+        name: "ber",
+        others: ["der", "cer"],
+        help: "Read by the basic rules (the default)",
+    },
+    Flag {
+        name: "der",
+        others: ["ber", "cer"],
+        help: "Read by the distinguished rules",
+    },
+    Flag {
+        name: "cer",
+        others: ["ber", "der"],
+        help: "Read by the canonical rules",
+    },
+    Flag {
+        name: "hex",
+        others: ["pem", "bytes"],
+        help: "The input is hexadecimal text",
+    },
+    Flag {
+        name: "pem",
+        others: ["hex", "bytes"],
+        help: "The input has blocks of PEM",
+    },
+    Flag {
+        name: "bytes",
+        others: ["hex", "pem"],
+        help: "The input is the bytes themselves",
+    },
+];
+
+fn switch<'a>(alloc: Global, flag: &Flag) -> Arg<'a> {
+    Arg::new(alloc, flag.name)
+        .long(flag.name)
+        .action(ArgAction::SetTrue)
+        .help(flag.help)
+}
+
+fn flag_arg<'a>(alloc: Global, flag: &Flag) -> Result<Arg<'a>, AllocError> {
+    switch(alloc, flag).conflicts_with_all(&flag.others)
+}
+
+// An argument with a value.
+fn value_arg<'a>(alloc: Global, id: &'static str, help: &'static str) -> Arg<'a> {
+    Arg::new(alloc, id).action(ArgAction::Set).help(help)
+}
+
+fn width_arg<'a>(alloc: Global) -> Arg<'a> {
+    value_arg(
+        alloc,
+        "width",
+        "Show at most N hexadecimal digits of a value",
+    )
+    .long("width")
+    .value_name("N")
+    .value_parser(clap::value_parser!(u32))
+}
+
+fn file_arg<'a>(alloc: Global) -> Arg<'a> {
+    value_arg(
+        alloc,
+        "FILE",
+        "The file to read (standard input if there is none)",
+    )
+}
+
+fn push_flag(alloc: Global, args: &mut Vec<Arg<'_>>, flag: &Flag) -> Result<(), AllocError> {
+    let arg = flag_arg(alloc, flag)?;
+    Ok(args.push(arg)?)
+}
+
+fn push_values(alloc: Global, args: &mut Vec<Arg<'_>>) -> Result<(), AllocError> {
+    args.push(width_arg(alloc))?;
+    Ok(args.push(file_arg(alloc))?)
+}
+
+fn all_args<'a>(alloc: Global) -> Result<Vec<Arg<'a>>, AllocError> {
+    let mut args = Vec::new(alloc);
+    for flag in &FLAGS {
+        push_flag(alloc, &mut args, flag)?;
+    }
+    push_values(alloc, &mut args)?;
+    Ok(args)
+}
+
+fn without_args<'a>(alloc: Global) -> Result<Command<'a>, AllocError> {
+    Command::new(alloc, "asn1show")
+        .about("Lists the elements of ASN.1 bytes, a line an element")
+        .bin_name("asn1show")
+}
+
+fn command<'a>(alloc: Global) -> Result<Command<'a>, AllocError> {
+    let args = all_args(alloc)?;
+    without_args(alloc)?.args(args)
+}
+
+fn mode_of(matches: &ArgMatches<'_>) -> BERMode {
+    if matches.get_flag("der") {
+        BERMode::Der
+    } else if matches.get_flag("cer") {
+        BERMode::Cer
+    } else {
+        BERMode::Ber
+    }
+}
+
+fn format_of(matches: &ArgMatches<'_>) -> Option<InputFormat> {
+    if matches.get_flag("hex") {
+        Some(InputFormat::Hex)
+    } else if matches.get_flag("pem") {
+        Some(InputFormat::Pem)
+    } else if matches.get_flag("bytes") {
+        Some(InputFormat::Bytes)
+    } else {
+        None
+    }
+}
+
+fn matches_of<'a>(alloc: Global, words: &'a [String]) -> Result<ArgMatches<'a>, Error> {
+    command(alloc)?.try_get_matches_from(words)
+}
+
+fn found<'a>(matches: &ArgMatches<'a>) -> Options<'a> {
+    let width = match matches.get_one::<u32>("width") {
+        Some(width) => width as usize,
+        None => WIDTH,
+    };
+    Options {
+        mode: mode_of(matches),
+        input_format: format_of(matches),
+        width,
+        file: matches.get_str("FILE"),
+    }
+}
+
+/// What the words of a command line ask for, the program's name among them.
+pub fn options_of<'a>(alloc: Global, words: &'a [String]) -> Result<Options<'a>, Error> {
+    let matches = matches_of(alloc, words)?;
+    Ok(found(&matches))
+}

@@ -1,0 +1,104 @@
+//! `asn1show` lists the elements of ASN.1 bytes, a line an element.
+//!
+//! `arguments` holds what the words of the command line ask for. The lines are those of the crate `asn1show_lines`.
+#![tactic(auto)]
+
+mod arguments;
+
+use arguments::{Options, options_of};
+use asn1show_walk::error::WalkError;
+use clap::Error;
+use std::fmt::Display;
+use std::io::{BufWriter, Read, Write};
+use std::process::ExitCode;
+use std::{env, fs, io};
+
+// The status where the input is malformed.
+const MALFORMED: u8 = 1;
+
+// The status where the arguments are others.
+const USAGE: u8 = 2;
+
+// The status where a read or a write failed, or there was no memory.
+const IO_ERROR: u8 = 3;
+
+fn status_of(error: &WalkError) -> u8 {
+    match error {
+        WalkError::Malformed { .. } => MALFORMED,
+        WalkError::Memory | WalkError::Output => IO_ERROR,
+    }
+}
+
+fn read(rt: &HostRuntime, file: Option<&str>) -> io::Result<Vec<u8>> {
+    let Some(path) = file else {
+        let mut input = Vec::new(rt.alloc());
+        rt.stdin().read_to_end(&mut input)?;
+        return Ok(input);
+    };
+    fs::read(rt, path)
+}
+
+fn show(rt: &HostRuntime, options: &Options<'_>, input: &[u8]) -> Result<(), WalkError> {
+    let Options {
+        mode,
+        input_format,
+        width,
+        ..
+    } = *options;
+    let mut out = BufWriter::new(rt.alloc(), rt.stdout())?;
+    let shown = asn1show_lines::show(rt.alloc(), &mut out, mode, input_format, width, input);
+    out.flush()?;
+    shown
+}
+
+// Says on standard error what ended the run.
+fn report_error<D: Display>(rt: &HostRuntime, options: &Options<'_>, why: &D) {
+    let name = options.file.unwrap_or("stdin");
+    let _ = writeln!(rt.stderr(), "{name}: {why}");
+}
+
+// Lists what the options ask for, and gives the status.
+fn list(rt: &HostRuntime, options: &Options<'_>, input: &[u8]) -> u8 {
+    match show(rt, options, input) {
+        Ok(()) => 0,
+        Err(error) => {
+            report_error(rt, options, &error);
+            status_of(&error)
+        }
+    }
+}
+
+// The same, once it is read.
+fn run(rt: &HostRuntime, options: &Options<'_>) -> u8 {
+    match read(rt, options.file) {
+        Ok(input) => list(rt, options, input.as_slice()),
+        Err(error) => {
+            report_error(rt, options, &error);
+            IO_ERROR
+        }
+    }
+}
+
+fn words_of(rt: &HostRuntime) -> io::Result<Vec<String>> {
+    let words = env::args(rt)?;
+    Ok(words.collect(rt.alloc())?)
+}
+
+// Says why there are no options: the words are others, or ask for help.
+fn explain_usage(rt: &HostRuntime, error: &Error) -> u8 {
+    if error.print(rt).is_err() {
+        return IO_ERROR;
+    }
+    if error.use_stderr() { USAGE } else { 0 }
+}
+
+fn main(rt: HostRuntime) -> ExitCode {
+    let Ok(words) = words_of(&rt) else {
+        return ExitCode::from(IO_ERROR);
+    };
+    let status = match options_of(rt.alloc(), words.as_slice()) {
+        Ok(options) => run(&rt, &options),
+        Err(error) => explain_usage(&rt, &error),
+    };
+    ExitCode::from(status)
+}

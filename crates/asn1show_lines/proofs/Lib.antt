@@ -1,0 +1,5 @@
+pub mod Blocks
+pub mod Boundaries
+pub mod Taking
+pub mod Detected
+pub mod Cut

@@ -1,0 +1,76 @@
+//! In which format an input is.
+ghost use Rattle.std.specs.Prelude.{◌↔◌, ◌||◌, IsTrue, Any};
+ghost use Rattle.std.specs.Char.{is_ascii_hexdigit};
+ghost use Rattle.std.specs.List.{AllByRecursion};
+ghost use Rattle.asn1show_lines.specs.Input.{BeginsAfterText, AreHexDigits, IsDetected, IsText};
+ghost use Rattle.asn1show_lines.specs.Text.{is_between};
+
+use crate::digits::is_between_digits;
+use crate::pem::{BEGIN, cut_line};
+
+/// In which format an input is.
+#[derive(Clone, Copy)]
+pub enum InputFormat {
+    /// The bytes themselves.
+    Bytes,
+    /// Hexadecimal digits, with spaces, line ends and colons between them.
+    Hex,
+    /// Blocks in base64 between lines, with any text around them.
+    Pem,
+}
+
+fn is_text(line: &[u8]) -> bool
+    ensures { IsTrue result ↔ AllByRecursion IsText line.now }
+{
+    line.iter().all(|octet| matches!(*octet, 9 | 12 | 13) || (*octet >= 32 && *octet != 127))
+}
+
+// Whether a block begins after lines of text.
+fn has_block(input: &[u8]) -> bool
+    ensures { IsTrue result ↔ BeginsAfterText input.now }
+{
+    let mut left = Some(input);
+    while let Some(text) = left {
+        let (line, after) = cut_line(text);
+        if line.starts_with(BEGIN) {
+            return true;
+        }
+        if !is_text(line) {
+            return false;
+        }
+        left = after;
+    }
+    false
+}
+
+fn has_digit(input: &[u8]) -> bool
+    ensures { IsTrue result ↔ Any (λ c. IsTrue (is_ascii_hexdigit c)) input.now }
+{
+    input.iter().any(|octet| octet.is_ascii_hexdigit())
+}
+
+// Whether nothing is there but digits, and what may be between them.
+fn are_digits(input: &[u8]) -> bool
+    ensures { IsTrue result ↔ AllByRecursion (λ c. IsTrue (is_ascii_hexdigit c || is_between c)) input.now }
+{
+    input.iter().all(|octet| octet.is_ascii_hexdigit() || is_between_digits(*octet))
+}
+
+fn is_hexadecimal(input: &[u8]) -> bool
+    ensures { IsTrue result ↔ AreHexDigits input.now }
+{
+    are_digits(input) && has_digit(input)
+}
+
+/// In which format an input is, by what is there.
+pub fn format_of(input: &[u8]) -> InputFormat
+    ensures { IsDetected input.now result }
+{
+    if has_block(input) {
+        InputFormat::Pem
+    } else if is_hexadecimal(input) {
+        InputFormat::Hex
+    } else {
+        InputFormat::Bytes
+    }
+}

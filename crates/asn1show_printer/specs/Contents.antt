@@ -1,0 +1,136 @@
+-- Which contents of primitive elements are those of a type (X.690, 8 and 11), and what diagnostics report of that.
+use Rattle.std.specs.Prelude.{◌≡◌, ◌⊎◌, ◌≤◌, ◌%◌, ℕ, Bool, true, false, cond, List, [], ◌∷◌, length, Option, Some, None, pos, IsUtf8}
+use Rattle.std.specs.Char.{IsScalar}
+use Rattle.std.specs.Int.Digits.{number_from_digits}
+use Rattle.std.specs.List.{AllByRecursion, flat_map}
+use Rattle.yasna_base.specs.declared.mode.BERMode.{BERMode}
+use Rattle.yasna_base.specs.declared.mode.BERMode.TheVariants.{Ber, Der, Cer}
+use Rattle.yasna_base.specs.Bits.{IsPadded}
+use Rattle.yasna_base.specs.Boolean.{IsBoolean}
+use Rattle.yasna_base.specs.Canonical.{IsCanonicalMode}
+use Rattle.yasna_base.specs.Digits.{base128}
+use Rattle.yasna_base.specs.Integer.{IsMinimal}
+use Rattle.yasna_base.specs.Text.{InNumeric, InPrintable, InIa5, InVisible}
+use Rattle.yasna_times.specs.GeneralizedTime.{IsGeneralText, SpellsGeneralizedTime}
+use Rattle.yasna_times.specs.Models.{utc_of}
+use Rattle.yasna_times.specs.Moment.{Moment}
+use Rattle.yasna_times.specs.UtcTime.{SpellsUtcTime}
+use Rattle.yasna_times.specs.declared.models.utc_time.UTCTime.{UTCTime}
+use Rattle.asn1show_printer.specs.declared.asn_type.Characters.{Characters}
+use Rattle.asn1show_printer.specs.declared.asn_type.Characters.TheVariants.{Utf8, Numeric, Printable, Ia5, Visible, Bmp, Universal, Other}
+use Rattle.asn1show_printer.specs.declared.asn_type.AsnType.{AsnType}
+use Rattle.asn1show_printer.specs.declared.asn_type.AsnType.TheVariants.{Boolean, Integer, Bits, Octets, Null, Oid, Relative, Real, Text, UtcTime, GeneralizedTime, Set, Parts, Unknown}
+use Rattle.asn1show_printer.specs.declared.line.LineBuffer.{LineBuffer}
+use Rattle.asn1show_printer.specs.declared.diagnostic.Diagnostic.{Diagnostic}
+use Rattle.asn1show_printer.specs.declared.diagnostic.Diagnostic.TheVariants.{LongLength, Indefinite, Segments, Truth, Padding, Order, Time, Local, HasParts, HasNoParts, Segment, Boolean as NoBoolean, Number, Null as NoNull, Bits as NoBits, Components, Characters as NoCharacters, NoTime}
+
+-- the contents of a bit string: how many bits of the last octet are unused, and the octets
+pub record AreBits (m : BERMode) (c : List ℕ) : Type 0 where
+  pub unused : ℕ
+  pub octets : List ℕ
+  pub contents : c ≡ unused ∷ octets
+  pub below : unused ≤ 7
+  pub none_of_none : octets ≡ [] → unused ≡ 0
+  pub padded : IsPadded m unused octets
+
+-- one or more numbers in base 128, as the components of object identifiers are
+pub record AreSubidentifiers (c : List ℕ) : Type 0 where
+  pub numbers : List ℕ
+  pub spelled : c ≡ flat_map base128 numbers
+  pub some : 1 ≤ length numbers
+
+-- numbers of two octets each, and of four, the highest octet first; what is left over doesn't count
+abbrev pub pairs : List ℕ → List ℕ
+pairs [] = []
+pairs (x ∷ []) = []
+pairs (x ∷ y ∷ more) = number_from_digits 256 (x ∷ y ∷ []) ∷ pairs more
+
+abbrev pub quads : List ℕ → List ℕ
+quads [] = []
+quads (x ∷ []) = []
+quads (x ∷ y ∷ []) = []
+quads (x ∷ y ∷ z ∷ []) = []
+quads (x ∷ y ∷ z ∷ w ∷ more) = number_from_digits 256 (x ∷ y ∷ z ∷ w ∷ []) ∷ quads more
+
+-- numbers of so many octets each, of which each is a character: no surrogate, and none beyond the last one
+pub record AreWide (size : ℕ) (numbers : List ℕ → List ℕ) (c : List ℕ) : Type 0 where
+  pub whole : length c % size ≡ 0
+  pub characters : AllByRecursion IsScalar (numbers c)
+
+-- the octets of a text of these characters; others aren't judged
+abbrev pub AreCharacters : Characters → List ℕ → Type 0
+AreCharacters Utf8 c = IsUtf8 c
+AreCharacters Numeric c = AllByRecursion InNumeric c
+AreCharacters Printable c = AllByRecursion InPrintable c
+AreCharacters Ia5 c = AllByRecursion InIa5 c
+AreCharacters Visible c = AllByRecursion InVisible c
+AreCharacters Bmp c = AreWide 2 pairs c
+AreCharacters Universal c = AreWide 4 quads c
+AreCharacters Other c = Unit {0}
+
+-- a time in no known zone, which is in BER alone
+abbrev pub IsLocalTime : BERMode → List ℕ → Type 0
+IsLocalTime Ber c = (v : Moment) × IsGeneralText c (Some (pos 0)) v
+IsLocalTime Der c = ⊥
+IsLocalTime Cer c = ⊥
+
+-- the contents of a primitive element of a type of this kind, by the rules of a mode, but for how many octets CER leaves a string in one
+-- piece (X.690, 9.2)
+abbrev pub AreOfKind : AsnType → BERMode → List ℕ → Type 0
+AreOfKind Boolean m c = (v : Bool) × IsBoolean m v c
+AreOfKind Integer m c = IsMinimal c
+AreOfKind Bits m c = AreBits m c
+AreOfKind Octets m c = Unit {0}
+AreOfKind Null m c = c ≡ []
+AreOfKind Oid m c = AreSubidentifiers c
+AreOfKind Relative m c = AreSubidentifiers c
+AreOfKind Real m c = Unit {0}
+AreOfKind (Text characters) m c = AreCharacters characters c
+AreOfKind UtcTime m c = (t : UTCTime) × SpellsUtcTime m (utc_of t) c
+AreOfKind GeneralizedTime m c = ((v : Moment) × SpellsGeneralizedTime m v c) ⊎ IsLocalTime m c
+AreOfKind Set m c = ⊥
+AreOfKind Parts m c = ⊥
+AreOfKind Unknown m c = Unit {0}
+
+-- whether a diagnostic says `not BER`, and not only `not DER`
+abbrev pub is_of_ber : Diagnostic → Bool
+is_of_ber LongLength = false
+is_of_ber Indefinite = false
+is_of_ber Segments = false
+is_of_ber Truth = false
+is_of_ber Padding = false
+is_of_ber Order = false
+is_of_ber Time = false
+is_of_ber Local = false
+is_of_ber HasParts = true
+is_of_ber HasNoParts = true
+is_of_ber Segment = true
+is_of_ber NoBoolean = true
+is_of_ber Number = true
+is_of_ber NoNull = true
+is_of_ber NoBits = true
+is_of_ber Components = true
+is_of_ber NoCharacters = true
+is_of_ber NoTime = true
+
+-- contents are in the rules of each mode
+abbrev pub InAll : (BERMode → List ℕ → Type 0) → List ℕ → Type 0
+InAll C c = (m : BERMode) → C m c
+
+-- they are in those of BER alone
+pub record OnlyInBer (C : BERMode → List ℕ → Type 0) (c : List ℕ) : Type 0 where
+  pub here : C Ber c
+  pub not_there : (m : BERMode) → IsCanonicalMode m → C m c → ⊥
+
+-- they are in those of none
+abbrev pub InNone : (BERMode → List ℕ → Type 0) → List ℕ → Type 0
+InNone C c = (m : BERMode) → C m c → ⊥
+
+-- a diagnostic, or that there is none, tells in the rules of which modes contents are
+abbrev pub DiagnosesOf : AsnType → List ℕ → Option Diagnostic → Type 0
+DiagnosesOf kind c None = InAll (AreOfKind kind) c
+DiagnosesOf kind c (Some r) = cond (is_of_ber r) (InNone (AreOfKind kind) c) (OnlyInBer (AreOfKind kind) c)
+
+-- whether there was no memory for what was to be appended to a line
+abbrev pub line_is_out_of_memory : LineBuffer → Bool
+line_is_out_of_memory line = line.out_of_memory

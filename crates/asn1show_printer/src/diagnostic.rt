@@ -1,0 +1,134 @@
+//! What is said after a line, and in which encoding rules the whole is.
+ghost use Rattle.std.specs.Prelude.{◌≡◌, if◌then◌else◌, Some, None};
+
+use yasna_base::mode::BERMode;
+
+/// Why an element is in some encoding rules and not in others.
+#[derive(Clone, Copy)]
+pub enum Diagnostic {
+    /// The length takes more octets than it needs (X.690, 10.1).
+    LongLength,
+    /// The length is indefinite (X.690, 10.1).
+    Indefinite,
+    /// A string is cut into segments (X.690, 10.2).
+    Segments,
+    /// A TRUE isn't all ones (X.690, 11.1).
+    Truth,
+    /// The unused bits of a BIT STRING aren't zeros (X.690, 11.2.1).
+    Padding,
+    /// A SET OF isn't in the order of its elements' octets (X.690, 11.6).
+    Order,
+    /// A time isn't in its one form (X.690, 11.7 and 11.8).
+    Time,
+    /// A time is in no known zone (X.690, 11.7.1).
+    Local,
+    /// A type that has no parts is constructed.
+    HasParts,
+    /// A type that has parts is primitive.
+    HasNoParts,
+    /// A segment isn't of the type that it is to be.
+    Segment,
+    /// A BOOLEAN isn't one octet.
+    Boolean,
+    /// A number has no octets or nine equal bits in front.
+    Number,
+    /// A NULL has contents.
+    Null,
+    /// A BIT STRING has no count of unused bits, or one that doesn't fit.
+    Bits,
+    /// A component of an object identifier is missing, cut off or not in the fewest octets.
+    Components,
+    /// A text has a character that its type hasn't.
+    Characters,
+    /// A text is no time.
+    NoTime,
+}
+
+impl Diagnostic {
+    /// What is said of it.
+    pub fn text(self) -> &'static str {
+        match self {
+            Diagnostic::LongLength => "not DER: the length isn't the shortest",
+            Diagnostic::Indefinite => "not DER: indefinite length",
+            Diagnostic::Segments => "not DER: cut into segments",
+            Diagnostic::Truth => "not DER: TRUE isn't FF",
+            Diagnostic::Padding => "not DER: unused bits aren't zeros",
+            Diagnostic::Order => "not DER: a SET OF out of order",
+            Diagnostic::Time => "not DER: the time isn't canonical",
+            Diagnostic::Local => "not DER: local time",
+            Diagnostic::HasParts => "not BER: constructed, where the type is primitive",
+            Diagnostic::HasNoParts => "not BER: primitive, where the type is constructed",
+            Diagnostic::Segment => "not BER: a segment of another type",
+            Diagnostic::Boolean => "not BER: a BOOLEAN that isn't one octet",
+            Diagnostic::Number => "not BER: a number in too many octets or none",
+            Diagnostic::Null => "not BER: a NULL with contents",
+            Diagnostic::Bits => "not BER: no count of unused bits that fits",
+            Diagnostic::Components => "not BER: a component in too many octets or none",
+            Diagnostic::Characters => "not BER: a character that the type hasn't",
+            Diagnostic::NoTime => "not BER: no time",
+        }
+    }
+
+    // Whether what is so isn't in these rules.
+    fn excludes(self, mode: BERMode) -> bool {
+        match self {
+            Diagnostic::Indefinite | Diagnostic::Segments => mode == BERMode::Der,
+            Diagnostic::LongLength
+            | Diagnostic::Truth
+            | Diagnostic::Padding
+            | Diagnostic::Order
+            | Diagnostic::Time
+            | Diagnostic::Local => mode != BERMode::Ber,
+            _ => true,
+        }
+    }
+}
+
+/// The diagnostic, where this isn't so.
+pub fn unless(is_so: bool, diagnostic: Diagnostic) -> Option<Diagnostic>
+    ensures { result ≡ if is_so then None else Some diagnostic }
+{
+    if is_so { None } else { Some(diagnostic) }
+}
+
+/// In which encoding rules elements are, as far as can be known without a schema.
+#[derive(Clone, Copy)]
+pub struct Conformance {
+    ber: bool,
+    der: bool,
+    cer: bool,
+}
+
+impl Conformance {
+    /// That of no elements.
+    pub fn new() -> Conformance {
+        Conformance {
+            ber: true,
+            der: true,
+            cer: true,
+        }
+    }
+
+    /// Less the rules that this excludes.
+    pub fn note(&mut self, diagnostic: Diagnostic) {
+        self.ber = self.ber && !diagnostic.excludes(BERMode::Ber);
+        self.der = self.der && !diagnostic.excludes(BERMode::Der);
+        self.cer = self.cer && !diagnostic.excludes(BERMode::Cer);
+    }
+
+    /// Less CER.
+    pub fn exclude_cer(&mut self) {
+        self.cer = false;
+    }
+
+    /// The names of the rules.
+    pub fn modes(self) -> &'static str {
+        match (self.ber, self.der, self.cer) {
+            (false, _, _) => "none",
+            (true, false, false) => "BER",
+            (true, true, false) => "BER, DER",
+            (true, false, true) => "BER, CER",
+            (true, true, true) => "BER, DER, CER",
+        }
+    }
+}

@@ -1,0 +1,74 @@
+//! A line as it is made.
+ghost use Rattle.std.specs.Prelude.{◌≡◌, true, IfErr};
+ghost use Rattle.asn1show_walk.specs.Errors.{IsExternal};
+
+use asn1show_walk::error::WalkError;
+use std::alloc::Global;
+use std::fmt::Display;
+use std::io::Write;
+
+/// The text of a line, and whether there was no memory for one that was to be appended, after which nothing is. So only the end of a line is
+/// asked whether all went well.
+#[derive(Drop)]
+pub struct LineBuffer {
+    text: Vec<u8>,
+    out_of_memory: bool,
+}
+
+impl LineBuffer {
+    /// With no text yet.
+    pub fn new(alloc: Global) -> LineBuffer {
+        LineBuffer {
+            text: Vec::new(alloc),
+            out_of_memory: false,
+        }
+    }
+
+    /// Keeps that there was no memory for what was to be appended.
+    pub fn fail_out_of_memory(&mut self)
+        ensures { self.new ≡ record self.old { out_of_memory = true } }
+    {
+        self.out_of_memory = true;
+    }
+
+    /// Appends what `write!` is handed.
+    pub fn write_fmt<D: Display + Drop>(&mut self, text: D) {
+        if !self.out_of_memory && self.text.write_fmt(text).is_err() {
+            self.fail_out_of_memory();
+        }
+    }
+
+    /// Appends octets as they are.
+    pub fn write_all(&mut self, octets: &[u8]) {
+        if !self.out_of_memory && self.text.extend_from_slice(octets).is_err() {
+            self.fail_out_of_memory();
+        }
+    }
+
+    /// Appends a text as it is.
+    pub fn write_str(&mut self, text: &str) {
+        self.write_all(text.as_bytes())
+    }
+
+    /// The text, where there was memory for all of it.
+    pub fn text(&self) -> Result<&[u8], WalkError>
+        ensures { IfErr result IsExternal }
+    {
+        if self.out_of_memory {
+            return Err(WalkError::Memory);
+        }
+        Ok(self.text.as_slice())
+    }
+
+    /// Writes the line, and begins the next one. `Err` says that there was no memory for its text, or that the write failed.
+    pub fn end<W: Write>(&mut self, writer: &mut W) -> Result<(), WalkError>
+        ensures { IfErr result IsExternal }
+    {
+        self.write_str("\n");
+        if writer.write_all(self.text()?).is_err() {
+            return Err(WalkError::Output);
+        }
+        self.text.clear();
+        Ok(())
+    }
+}

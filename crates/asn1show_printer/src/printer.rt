@@ -1,0 +1,269 @@
+//! The lines.
+ghost use Rattle.std.specs.Prelude.{IfErr};
+ghost use Rattle.asn1show_walk.specs.Errors.{IsExternal};
+
+use crate::asn_type::{AsnType, type_of};
+use crate::diagnostic::{Conformance, Diagnostic, unless};
+use crate::line::LineBuffer;
+use crate::names::type_name;
+use crate::sets::{are_cer_segments, is_out_of_order, stays_whole};
+use crate::value::{Style, write_value};
+use asn1show_walk::error::WalkError;
+use asn1show_walk::listing::{Context, Item, Place, Visitor, is_one_element};
+use std::io::Write;
+use yasna_base::tag::{PCBit, Tag, TagClass};
+use yasna_base::tags::{TAG_BITSTRING, TAG_OCTETSTRING};
+
+/// Prints a line for each element.
+#[derive(Drop)]
+pub struct Printer<'w, 'n, W: Write> {
+    writer: &'w mut W,
+    report: Report<'n>,
+}
+
+impl<'w, 'n, W: Write> Printer<'w, 'n, W> {
+    /// Prints to `writer`.
+    pub fn new(writer: &'w mut W, style: Style<'n>) -> Printer<'w, 'n, W> {
+        Printer {
+            writer,
+            report: Report::new(style),
+        }
+    }
+
+    /// Prints in which encoding rules the elements are. `Err` says that there was no memory for that, or that a write failed.
+    pub fn finish(self) -> Result<(), WalkError>
+        ensures { IfErr result IsExternal }
+    {
+        let Printer { writer, mut report } = self;
+        report.print_conformance();
+        report.line.end(writer)
+    }
+}
+
+// The line of an element, and what is known of those before it.
+#[derive(Drop)]
+struct Report<'n> {
+    line: LineBuffer,
+    style: Style<'n>,
+    conformance: Conformance,
+    // For each element around the next one the tag of its segments, if it is a string.
+    around: Vec<Option<Tag>>,
+    // Whether the last line is of a segment.
+    is_segment: bool,
+}
+
+impl<'n> Report<'n> {
+    // Of no elements yet.
+    fn new(style: Style<'n>) -> Report<'n> {
+        Report {
+            line: LineBuffer::new(style.alloc),
+            style,
+            conformance: Conformance::new(),
+            around: Vec::new(style.alloc),
+            is_segment: false,
+        }
+    }
+
+    // In which encoding rules the elements are.
+    fn print_conformance(&mut self) {
+        self.line.write_str("rules: ");
+        self.line.write_str(self.conformance.modes())
+    }
+
+    // What is said of an element.
+    fn print_element(&mut self, item: &Item<'_>) {
+        let kind = type_of(item.tag);
+        self.note_cer(item, kind);
+        self.print_head(item);
+        self.print_contents(item, kind);
+        self.diagnose_header(item);
+        if self.around.push(segments_of(item.bit, kind)).is_err() {
+            self.line.fail_out_of_memory();
+        }
+    }
+
+    fn print_tag(&mut self, tag: Tag) {
+        if let Some(name) = name_of(tag) {
+            return self.line.write_str(name);
+        }
+        self.line.write_str(class_of(tag.tag_class));
+        write!(self.line, "{}]", tag.tag_number)
+    }
+
+    // The place of an element, and its lengths.
+    fn print_place(&mut self, item: &Item<'_>) {
+        let (offset, header) = (item.offset, item.header);
+        write!(self.line, "{offset:>7} {header:>2}+");
+        self.print_size(item.size)
+    }
+
+    fn print_size(&mut self, size: Option<usize>) {
+        match size {
+            Some(size) => write!(self.line, "{size:<7}"),
+            None => self.line.write_str("indef  "),
+        }
+    }
+
+    // The same, and its tag.
+    fn print_head(&mut self, item: &Item<'_>) {
+        self.print_place(item);
+        self.line.write_str(if item.in_string { ">" } else { " " });
+        let indent = 1 + 2 * usize::from(item.depth);
+        write!(self.line, "{:indent$}", "");
+        self.print_tag(item.tag)
+    }
+
+    // What is said of an element that isn't so. What is in a string doesn't bear on the whole.
+    fn diagnose(&mut self, item: &Item<'_>, diagnostic: Option<Diagnostic>) {
+        let Some(diagnostic) = diagnostic else {
+            return;
+        };
+        if !item.in_string {
+            self.conformance.note(diagnostic);
+        }
+        self.line.write_str(" -- ");
+        self.line.write_str(diagnostic.text())
+    }
+
+    // The tag that an element is to have as a segment, if it is one.
+    fn segment_tag(&mut self, depth: u8) -> Option<Tag> {
+        self.around.truncate(usize::from(depth));
+        *self.around.as_slice().last()?
+    }
+
+    // Whether an element may be there: where a segment is to be, it has the tag of one.
+    fn is_expected(&mut self, item: &Item<'_>) -> bool {
+        let wanted = self.segment_tag(item.depth);
+        self.is_segment = wanted.is_some();
+        wanted.is_none() || wanted == Some(item.tag)
+    }
+
+    fn print_contents(&mut self, item: &Item<'_>, kind: AsnType) {
+        match item.bit {
+            PCBit::Primitive => self.print_primitive(item, kind),
+            PCBit::Constructed => self.diagnose_constructed(item, kind),
+        }
+    }
+
+    fn print_primitive(&mut self, item: &Item<'_>, kind: AsnType) {
+        if !matches!(kind, AsnType::Null) {
+            self.line.write_str(" ");
+        }
+        let diagnostic = write_value(&mut self.line, self.style, kind, item.contents);
+        self.diagnose(item, diagnostic)
+    }
+
+    fn diagnose_constructed(&mut self, item: &Item<'_>, kind: AsnType) {
+        self.diagnose(item, unless(item.size.is_some(), Diagnostic::Indefinite));
+        self.diagnose(item, diagnostic_of(kind, item.contents))
+    }
+
+    // What is said of an element's header.
+    fn diagnose_header(&mut self, item: &Item<'_>) {
+        let is_expected = self.is_expected(item);
+        self.diagnose(item, unless(!is_long(item), Diagnostic::LongLength));
+        self.diagnose(item, unless(is_expected, Diagnostic::Segment))
+    }
+
+    fn note_cer(&mut self, item: &Item<'_>, kind: AsnType) {
+        if !item.in_string && !is_in_cer(item, kind) {
+            self.conformance.exclude_cer();
+        }
+    }
+}
+
+// What is before the number of a tag of this class.
+fn class_of(class: TagClass) -> &'static str {
+    match class {
+        TagClass::Universal => "[UNIVERSAL ",
+        TagClass::Application => "[APPLICATION ",
+        TagClass::ContextSpecific => "[",
+        TagClass::Private => "[PRIVATE ",
+    }
+}
+
+// The name of the type with this tag, where it is one of X.680's own.
+fn name_of(tag: Tag) -> Option<&'static str> {
+    match tag.tag_class {
+        TagClass::Universal => type_name(tag.tag_number),
+        _ => None,
+    }
+}
+
+// Whether CER has an element of this kind in this form: constructed ones have no counted length, and strings are cut where they
+// are long (X.690, 9.1 and 9.2).
+fn is_in_cer(item: &Item<'_>, kind: AsnType) -> bool {
+    match item.bit {
+        PCBit::Primitive => !kind.is_string() || stays_whole(item.contents),
+        PCBit::Constructed if kind.is_string() => {
+            item.size.is_none() && are_cer_segments(item.contents)
+        }
+        PCBit::Constructed => item.size.is_none(),
+    }
+}
+
+// The tag of the segments that a constructed string of this kind is cut into (X.690, 8.6, 8.7 and 8.23).
+fn segments_of(bit: PCBit, kind: AsnType) -> Option<Tag> {
+    match (bit, kind) {
+        (PCBit::Primitive, _) => None,
+        (PCBit::Constructed, AsnType::Bits) => Some(TAG_BITSTRING),
+        (PCBit::Constructed, _) if kind.is_string() => Some(TAG_OCTETSTRING),
+        (PCBit::Constructed, _) => None,
+    }
+}
+
+// What is said of a constructed element of this kind.
+fn diagnostic_of(kind: AsnType, contents: &[u8]) -> Option<Diagnostic> {
+    match kind {
+        AsnType::Set if is_out_of_order(contents) => Some(Diagnostic::Order),
+        AsnType::Set | AsnType::Unknown => None,
+        _ if kind.has_parts() => None,
+        _ if kind.is_string() => Some(Diagnostic::Segments),
+        _ => Some(Diagnostic::HasParts),
+    }
+}
+
+// How many octets the shortest length of this size takes.
+fn shortest_length(size: usize) -> usize {
+    if size < 128 {
+        return 1;
+    }
+    let bits = usize::BITS - size.leading_zeros();
+    1 + bits.div_ceil(8) as usize
+}
+
+// How many octets an identifier with this number takes.
+fn identifier_length(number: u64) -> usize {
+    if number < 31 {
+        return 1;
+    }
+    let bits = u64::BITS - number.leading_zeros();
+    1 + bits.div_ceil(7) as usize
+}
+
+// Whether an element's length takes more octets than it needs.
+fn is_long(item: &Item<'_>) -> bool {
+    let Some(size) = item.size else {
+        return false;
+    };
+    item.header > identifier_length(item.tag.tag_number).saturating_add(shortest_length(size))
+}
+
+impl<'w, 'n, W: Write> Visitor for Printer<'w, 'n, W> {
+    ghost use Rattle.std.specs.Prelude.{None};
+    ghost use Rattle.asn1show_walk.specs.Errors.{IsExternal};
+
+    ghost visited = { λ _. None };
+
+    ghost rejects = { λ _. IsExternal };
+
+    fn visit(&mut self, item: &Item<'_>) -> Result<(), WalkError> {
+        self.report.print_element(item);
+        self.report.line.end(self.writer)
+    }
+
+    // Where one whole element is there, and the string isn't a segment.
+    fn descends_into(&self, context: Context, string: Place<'_>) -> bool {
+        !self.report.is_segment && is_one_element(context, string)
+    }
+}

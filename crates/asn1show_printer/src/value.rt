@@ -1,0 +1,174 @@
+//! What primitive elements say.
+ghost use Rattle.std.specs.Prelude.{◌≡◌, ◌↔◌, ◌∷◌, [], false, IsTrue};
+ghost use Rattle.yasna_base.specs.Integer.{IsMinimal};
+ghost use Rattle.asn1show_printer.specs.Contents.{AreCharacters, DiagnosesOf, line_is_out_of_memory};
+ghost use Rattle.asn1show_printer.specs.declared.asn_type.AsnType.TheVariants.{Bits, Boolean, GeneralizedTime, Text};
+
+mod arcs;
+mod number;
+mod octets;
+mod text;
+mod time;
+
+use crate::asn_type::{AsnType, Characters};
+use crate::diagnostic::{Diagnostic, unless};
+use crate::line::LineBuffer;
+use crate::names::Names;
+use arcs::{are_components, write_oid, write_relative};
+use number::write_integer;
+use octets::{are_bits, is_padding_clear, write_bits, write_octets};
+use std::alloc::Global;
+use std::str;
+pub use text::write_quoted;
+use text::{are_pairs, are_quads, write_utf8, write_wide};
+use time::{write_generalized_time, write_utc_time};
+use yasna_base::text::{is_ia5, is_numeric, is_printable, is_visible};
+
+/// How values are written.
+#[derive(Clone, Copy)]
+pub struct Style<'n> {
+    /// Where memory comes from.
+    pub alloc: Global,
+    /// The names of object identifiers.
+    pub names: &'n Names,
+    /// How many hexadecimal digits are written of a value.
+    pub width: usize,
+}
+
+// Writes the one octet of a BOOLEAN, and says whether it is in its one form.
+fn write_truth(line: &mut LineBuffer, octet: u8) -> Option<Diagnostic>
+    ensures { DiagnosesOf Boolean (octet ∷ []) result }
+{
+    if octet == 0 {
+        line.write_str("FALSE");
+        return None;
+    }
+    line.write_str("TRUE");
+    unless(octet == 255, Diagnostic::Truth)
+}
+
+fn write_boolean(line: &mut LineBuffer, contents: &[u8]) -> Option<Diagnostic>
+    ensures { DiagnosesOf Boolean contents.now result }
+{
+    match contents {
+        [octet] => write_truth(line, *octet),
+        _ => Some(Diagnostic::Boolean),
+    }
+}
+
+// Whether contents are those of a number in two's complement (X.690, 8.3.2).
+fn are_number(contents: &[u8]) -> bool
+    ensures { IsTrue result ↔ IsMinimal contents.now }
+{
+    match contents {
+        [] => false,
+        [0, second, ..] => *second >= 128,
+        [255, second, ..] => *second < 128,
+        _ => true,
+    }
+}
+
+// Whether octets are a text of these characters.
+fn are_characters(characters: Characters, octets: &[u8]) -> bool
+    ensures { IsTrue result ↔ AreCharacters characters octets.now }
+{
+    match characters {
+        Characters::Utf8 => str::from_utf8(octets).is_ok(),
+        Characters::Numeric => is_numeric(octets),
+        Characters::Printable => is_printable(octets),
+        Characters::Ia5 => is_ia5(octets),
+        Characters::Visible => is_visible(octets),
+        Characters::Bmp => are_pairs(octets),
+        Characters::Universal => are_quads(octets),
+        Characters::Other => true,
+    }
+}
+
+fn write_text(line: &mut LineBuffer, characters: Characters, octets: &[u8]) -> Option<Diagnostic>
+    ensures { DiagnosesOf (Text characters) octets.now result }
+{
+    match characters {
+        Characters::Utf8 => write_utf8(line, octets),
+        Characters::Bmp => write_wide(line, octets, 2),
+        Characters::Universal => write_wide(line, octets, 4),
+        _ => write_quoted(line, octets),
+    }
+    unless(are_characters(characters, octets), Diagnostic::Characters)
+}
+
+fn write_bit_string(line: &mut LineBuffer, style: Style<'_>, contents: &[u8]) -> Option<Diagnostic>
+    ensures { DiagnosesOf Bits contents.now result }
+{
+    write_bits(line, style.alloc, contents, style.width);
+    if are_bits(contents) {
+        return unless(is_padding_clear(contents), Diagnostic::Padding);
+    }
+    Some(Diagnostic::Bits)
+}
+
+// A number of more octets is written in hexadecimal: to write it in decimal would take long.
+const LONGEST_DECIMAL: usize = 2048;
+
+fn write_integer_or_octets(line: &mut LineBuffer, style: Style<'_>, contents: &[u8]) {
+    if contents.len() > LONGEST_DECIMAL {
+        return write_octets(line, style.alloc, contents, style.width);
+    }
+    write_integer(line, style.alloc, contents)
+}
+
+// Writes a time, where there was memory to read it.
+fn write_time(line: &mut LineBuffer, alloc: Global, contents: &[u8]) -> Option<Diagnostic>
+    ensures { line_is_out_of_memory line.new ≡ false → DiagnosesOf GeneralizedTime contents.now result }
+{
+    match write_generalized_time(line, alloc, contents) {
+        Ok(diagnostic) => diagnostic,
+        Err(_) => {
+            line.fail_out_of_memory();
+            None
+        }
+    }
+}
+
+/// Writes what the contents of a primitive element of this kind say, and reports what is wrong with them.
+pub fn write_value(
+    line: &mut LineBuffer,
+    style: Style<'_>,
+    kind: AsnType,
+    contents: &[u8],
+) -> Option<Diagnostic>
+    ensures { line_is_out_of_memory line.new ≡ false → DiagnosesOf kind contents.now result }
+{
+    let Style {
+        alloc,
+        names,
+        width,
+    } = style;
+    match kind {
+        AsnType::Boolean => write_boolean(line, contents),
+        AsnType::Integer => {
+            write_integer_or_octets(line, style, contents);
+            unless(are_number(contents), Diagnostic::Number)
+        }
+        AsnType::Bits => write_bit_string(line, style, contents),
+        AsnType::Null => unless(contents.is_empty(), Diagnostic::Null),
+        AsnType::Oid => {
+            write_oid(line, alloc, names, contents);
+            unless(are_components(contents), Diagnostic::Components)
+        }
+        AsnType::Relative => {
+            write_relative(line, alloc, contents);
+            unless(are_components(contents), Diagnostic::Components)
+        }
+        AsnType::Text(characters) => write_text(line, characters, contents),
+        AsnType::UtcTime => write_utc_time(line, contents),
+        AsnType::GeneralizedTime => write_time(line, alloc, contents),
+        AsnType::Octets | AsnType::Real | AsnType::Unknown => {
+            write_octets(line, alloc, contents, width);
+            None
+        }
+        AsnType::Set | AsnType::Parts => {
+            write_octets(line, alloc, contents, width);
+            Some(Diagnostic::HasNoParts)
+        }
+    }
+}

@@ -1,0 +1,86 @@
+-- What lines report of elements (X.690, 8.1).
+use Rattle.std.specs.Prelude.{◌≡◌, ◌⊎◌, ℕ, zero, suc, ◌+◌, ◌^◌, ◌<◌, Bool, true, List, [], ◌∷◌, ◌++◌, length, Option, Some, None, ⊤}
+use Rattle.yasna_base.specs.Bits.{bits_tag}
+use Rattle.yasna_base.specs.Digits.{IsBytes}
+use Rattle.yasna_base.specs.Element.{Definite, Indefinite}
+use Rattle.yasna_base.specs.Identifier.{end_tag}
+use Rattle.yasna_base.specs.Octets.{octets_tag}
+use Rattle.yasna_base.specs.declared.mode.BERMode.{BERMode}
+use Rattle.yasna_base.specs.declared.tag.PCBit.{PCBit}
+use Rattle.yasna_base.specs.declared.tag.PCBit.TheVariants.{Primitive, Constructed}
+use Rattle.yasna_base.specs.declared.tag.Tag.{Tag}
+
+-- where an element begins, how many octets its header and its contents take, and how many elements are around it
+pub record Line : Type 0 where
+  pub offset : ℕ
+  pub header : ℕ
+  pub size : Option ℕ
+  pub depth : ℕ
+  pub in_string : Bool
+  pub tag : Tag
+  pub bit : PCBit
+
+-- what is known to have been visited grows by these lines
+abbrev pub Visits : Option (List Line) → Option (List Line) → List Line → Type 0
+Visits None new ls = ⊤
+Visits (Some xs) None ls = ⊥
+Visits (Some xs) (Some ys) ls = ys ≡ xs ++ ls
+
+-- b is an element with the contents c and h octets before them, and len is how many they are where they are counted
+pub data IsHeaded (m : BERMode) (t : Tag) (bit : PCBit) (c b : List ℕ) (h : ℕ) (len : Option ℕ) : Type 0 where
+  with_length : Definite m t bit c b → h + length c ≡ length b → len ≡ Some (length c) → IsHeaded m t bit c b h len
+  with_zeros : Indefinite m t bit c b → h + length c + 2 ≡ length b → len ≡ None → IsHeaded m t bit c b h len
+
+-- lines list what is in the contents c of a string, which begin at o: for a BIT STRING after the count of unused bits, which is none
+pub data InString (Inner : ℕ → List ℕ → List Line → Type 0) (t : Tag) (o : ℕ) (c : List ℕ) (ls : List Line) : Type 0 where
+  octets : t ≡ octets_tag → Inner o c ls → InString Inner t o c ls
+  bits : (d : List ℕ) → t ≡ bits_tag → c ≡ 0 ∷ d → Inner (o + 1) d ls → InString Inner t o c ls
+
+-- lines list what is in contents: the elements of a constructed element, and nothing or those in a string
+abbrev pub Below : (Bool → ℕ → List ℕ → List Line → Type 0) → Bool → Tag → PCBit → ℕ → List ℕ → List Line → Type 0
+Below Inner w t Constructed o c ls = Inner w o c ls
+Below Inner w t Primitive o c ls = (ls ≡ []) ⊎ InString (Inner true) t o c ls
+
+-- lines list the element b, which begins at o and has n levels left: its own line, and those of what is in it
+pub record ListsElement (Inner : Bool → ℕ → List ℕ → List Line → Type 0) (m : BERMode) (n : ℕ) (w : Bool) (o : ℕ) (b : List ℕ) (ls : List Line) : Type 0 where
+  pub line : Line
+  pub below : List Line
+  pub reported : ls ≡ line ∷ below
+  pub offset : line.offset ≡ o
+  pub depth : line.depth + n ≡ 101
+  pub in_string : line.in_string ≡ w
+  pub not_end : line.tag ≡ end_tag → ⊥
+  pub in_range : line.tag.tag_number < 2 ^ 64
+  pub contents : List ℕ
+  pub in_bytes : IsBytes contents
+  pub header : IsHeaded m line.tag line.bit contents b line.header line.size
+  pub inner : Below Inner w line.tag line.bit (o + line.header) contents below
+
+-- lines list a prefix of s by Before, and after it a last piece by One
+pub record Continues (Before One : ℕ → List ℕ → List Line → Type 0) (o : ℕ) (s : List ℕ) (ls : List Line) : Type 0 where
+  pub prefix : List ℕ
+  pub last : List ℕ
+  pub lines : List Line
+  pub more : List Line
+  pub before : Before o prefix lines
+  pub one : One (o + length prefix) last more
+  pub joined : s ≡ prefix ++ last
+  pub reported : ls ≡ lines ++ more
+
+-- lines list k pieces of s one after the other, which begin at o, each by One
+unfoldable pub ListsCount : (One : ℕ → List ℕ → List Line → Type 0) → ℕ → ℕ → List ℕ → List Line → Type 0
+ListsCount One zero o s ls = (s ≡ []) × (ls ≡ [])
+ListsCount One (suc k) o s ls = Continues (ListsCount One k) One o s ls
+
+-- the same of any count
+abbrev pub ListsEach : (One : ℕ → List ℕ → List Line → Type 0) → ℕ → List ℕ → List Line → Type 0
+ListsEach One o s ls = (k : ℕ) × ListsCount One k o s ls
+
+-- within n levels, lines list the element b, which begins at o
+unfoldable pub ListsOne : ℕ → BERMode → Bool → ℕ → List ℕ → List Line → Type 0
+ListsOne zero m w o b ls = ⊥
+ListsOne (suc n) m w o b ls = ListsElement (λ v. ListsEach (ListsOne n m v)) m (suc n) w o b ls
+
+-- within n levels, lines list the elements that s is, one after the other, of which the first begins at o
+abbrev pub ListsBytes : ℕ → BERMode → Bool → ℕ → List ℕ → List Line → Type 0
+ListsBytes n m w o s ls = ListsEach (ListsOne n m w) o s ls

@@ -1,0 +1,128 @@
+//! Why a run ends before its input does.
+ghost use Rattle.std.specs.Prelude.{◌≡◌};
+ghost use Rattle.asn1show_walk.specs.declared.error.WalkError.TheVariants.{Memory, Output};
+
+use std::alloc::{AllocError, AllocFailed};
+use std::{fmt, io};
+use yasna_base::error::ASN1ErrorKind;
+
+/// What should be at a place and isn't.
+#[derive(Clone, Copy)]
+pub enum Expected {
+    /// Any element.
+    Element,
+    /// More of a tag number.
+    TagNumber,
+    /// A tag number in its one form.
+    ShortestTagNumber,
+    /// A tag number of 64 bits.
+    SmallTagNumber,
+    /// Anything but the tag of the end of contents.
+    NoEnd,
+    /// The two zeros that end contents.
+    End,
+    /// A level less.
+    FewerLevels,
+    /// A length, or more of one.
+    Length,
+    /// A length in its one form.
+    ShortestLength,
+    /// A length of 64 bits.
+    SmallLength,
+    /// A length that is counted.
+    CountedLength,
+    /// A length that isn't.
+    IndefiniteLength,
+    /// Contents of so many octets, where so many are left.
+    Contents(usize, usize),
+    /// Pairs of hexadecimal digits.
+    HexDigits,
+    /// Text in base64.
+    Base64,
+    /// A line that begins a block of PEM.
+    Block,
+    /// A line that ends one.
+    BlockEnd,
+}
+
+impl fmt::Display for Expected {
+    fn fmt<W: fmt::Write>(&self, f: &mut fmt::Formatter<W>) -> fmt::Result {
+        f.write_str(match self {
+            Expected::Element => "an element",
+            Expected::TagNumber => "the rest of a tag number",
+            Expected::ShortestTagNumber => "a tag number of 31 or more in the fewest octets",
+            Expected::SmallTagNumber => "a tag number below 2^64",
+            Expected::NoEnd => "an element, no end of contents",
+            Expected::End => "the two zeros that end contents",
+            Expected::FewerLevels => "at most 101 levels of elements",
+            Expected::Length => "length octets",
+            Expected::ShortestLength => "a length in the fewest octets",
+            Expected::SmallLength => "a length below 2^64",
+            Expected::CountedLength => "a length that is counted",
+            Expected::IndefiniteLength => "a constructed element of indefinite length",
+            Expected::Contents(size, left) => {
+                return write!(f, "{size} octets of contents, of which {left} are there");
+            }
+            Expected::HexDigits => "pairs of hexadecimal digits",
+            Expected::Base64 => "base64",
+            Expected::Block => "a line that begins a block of PEM",
+            Expected::BlockEnd => "a line that ends the block of PEM",
+        })
+    }
+}
+
+/// Why a run ends before its input does.
+#[derive(Clone, Copy)]
+pub enum WalkError {
+    /// What is at a place isn't what should.
+    Malformed {
+        /// Where, counted from the input's first byte.
+        offset: usize,
+        /// Of what kind that is.
+        kind: ASN1ErrorKind,
+        /// What should be there.
+        expected: Expected,
+    },
+    /// There was no memory.
+    Memory,
+    /// A write failed.
+    Output,
+}
+
+impl fmt::Display for WalkError {
+    fn fmt<W: fmt::Write>(&self, f: &mut fmt::Formatter<W>) -> fmt::Result {
+        match self {
+            WalkError::Malformed {
+                offset,
+                kind,
+                expected,
+            } => write!(f, "offset {offset}: {kind:?}: expected {expected}"),
+            WalkError::Memory => f.write_str("no memory"),
+            WalkError::Output => f.write_str("the output could not be written"),
+        }
+    }
+}
+
+impl From<io::Error> for WalkError {
+    ghost from_gives = { λ _ e. e ≡ Output };
+
+    fn from(_error: io::Error) -> WalkError {
+        WalkError::Output
+    }
+}
+
+impl From<AllocError> for WalkError {
+    ghost from_gives = { λ _ e. e ≡ Memory };
+
+    fn from(_rejected: AllocError) -> WalkError {
+        WalkError::Memory
+    }
+}
+
+impl<T: Drop> From<AllocFailed<T>> for WalkError {
+    ghost from_gives = { λ _ e. e ≡ Memory };
+
+    fn from(_rejected: AllocFailed<T>) -> WalkError {
+        WalkError::Memory
+    }
+}

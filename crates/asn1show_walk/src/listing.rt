@@ -1,0 +1,193 @@
+//! Elements one after the other, each reported to a visitor before what is in it (X.690, 8.1).
+ghost use Rattle.std.specs.Prelude.{◌≡◌, ◌+◌, ◌-◌, ◌^◌, ◌<◌, ◌≤◌, ℕ, List, [], ◌∷◌, Option, length, false, true, IsTrue, IfOk, IfErr, OnOk, MatchOption, ⊤};
+ghost use Rattle.yasna_base.specs.Raw.{IsRaw, IsJoining};
+ghost use Rattle.asn1show_walk.specs.Listing.{Line, Visits, ListsBytes};
+ghost use Rattle.asn1show_walk.specs.Errors.{WalkFails};
+ghost use Rattle.asn1show_walk.specs.WellFormed.{IsWellFormed, AreElements, EndsHere};
+ghost use Rattle.asn1show_walk.specs.Reading.{line_of, IsFurther, ItemAt, ContentsVisited, ElementVisited, BelowVisited, IsInString, EndsAt, ElementBefore, NoElement, NotClosed, NoneBelow, NoElements};
+
+mod header;
+mod item;
+mod one_element;
+mod place;
+
+use crate::error::{Expected, WalkError};
+use header::open;
+pub use item::Item;
+pub use one_element::is_one_element;
+pub use place::{Context, Place};
+use yasna_base::error::ASN1ErrorKind;
+use yasna_base::mode::BERMode;
+use yasna_base::tag::PCBit;
+use yasna_base::tags::{TAG_BITSTRING, TAG_OCTETSTRING};
+use yasna_bytes::bytes::header::{ContentsEnd, end_of_contents};
+
+/// Who is told of elements.
+pub trait Visitor {
+    ghost use Rattle.asn1show_walk.specs.declared.error.WalkError.{WalkError};
+
+    // The lines of the elements that were visited, where they are known.
+    ghost visited: { Self → Option (List Line) };
+
+    // With which errors an element is rejected.
+    ghost rejects: { Self → WalkError → Type 0 };
+
+    /// Takes the next element. `Err` is an error, which ends the listing.
+    fn visit(&mut self, item: &Item<'_>) -> Result<(), WalkError>
+        ensures reported { OnOk result (Visits (visited self.old) (visited self.new) (line_of item.now ∷ [])) }
+        ensures rejected { IfErr result (λ f. rejects self.new f) };
+
+    /// Whether the contents of a string are to be visited as elements, which they are then to be.
+    fn descends_into(&self, context: Context, string: Place<'_>) -> bool
+        ensures { IsTrue result → IsJoining (IsWellFormed context.levels context.mode) string.entry.left.now };
+}
+
+// Where the contents of a string may be an element: after the count of unused bits, which is none.
+fn string_of<'a>(item: &Item<'a>) -> Option<Place<'a>>
+    ensures { MatchOption result ⊤ (λ p. IsInString item.now p) }
+{
+    if item.tag == TAG_OCTETSTRING {
+        return Some(item.contents_place());
+    }
+    if item.tag != TAG_BITSTRING {
+        return None;
+    }
+    match item.contents {
+        [0, bytes @ ..] => Some(item.contents_place().further(bytes)),
+        _ => None,
+    }
+}
+
+// What is here is the end of the contents, and what follows it.
+fn after_end<'a>(place: Place<'a>, is_counted: bool) -> Option<Place<'a>>
+    ensures { MatchOption result (EndsHere is_counted place.entry.left.now → ⊥) (λ after. EndsAt is_counted place.entry after) }
+{
+    if is_counted {
+        if place.left.is_empty() {
+            return Some(place);
+        }
+        return None;
+    }
+    match end_of_contents(place.left) {
+        Some(after) => Some(place.further(after)),
+        None => None,
+    }
+}
+
+// Tells of the elements from here to the end of contents, and gives the place after that. `Err` says that the visitor rejected, or
+// that they don't go on to that end.
+#[cycle(listing)]
+fn list_contents<'a, L: Visitor>(
+    context: Context,
+    contents: Place<'a>,
+    is_counted: bool,
+    visitor: &mut L,
+) -> Result<Place<'a>, WalkError>
+    ensures visited { IfOk result (λ after. ContentsVisited context contents.entry is_counted after (L.visited visitor.old) (L.visited visitor.new)) }
+    ensures fails { IfErr result (λ f. WalkFails (L.rejects visitor.new) (NotClosed context contents.entry is_counted) f) }
+{
+    let mut place = contents;
+    loop {
+        if let Some(after) = after_end(place, is_counted) {
+            return Ok(after);
+        }
+        place = match list_element(context, place, visitor) {
+            Ok(after) => after,
+            Err(error) => return Err(error),
+        };
+    }
+}
+
+// Tells of what is in counted contents: elements, or the element in a string. `Err` says that the visitor rejected, or that no
+// elements are in a constructed element.
+#[cycle(listing)]
+fn list_contents_of<L: Visitor>(
+    context: Context,
+    item: &Item<'_>,
+    visitor: &mut L,
+) -> Result<(), WalkError>
+    requires { 1 ≤ context.levels }
+    ensures visited { OnOk result (BelowVisited context item.now (L.visited visitor.old) (L.visited visitor.new)) }
+    ensures fails { IfErr result (λ f. WalkFails (L.rejects visitor.new) (NoneBelow context item.now) f) }
+{
+    match item.bit {
+        PCBit::Constructed => {
+            match list_contents(context.below(), item.contents_place(), true, visitor) {
+                Ok(_) => Ok(()),
+                Err(error) => Err(error),
+            }
+        }
+        PCBit::Primitive => {
+            let Some(string) = string_of(item) else {
+                return Ok(());
+            };
+            if !visitor.descends_into(context.for_string(), string) {
+                return Ok(());
+            }
+            match list_contents(context.for_string(), string, true, visitor) {
+                Ok(_) => Ok(()),
+                Err(error) => Err(error),
+            }
+        }
+    }
+}
+
+/// Tells of the element that begins here and of those within, and gives the place after it.
+///
+/// `Err` says that the visitor rejected, or that none is here that is one down to the primitive ones, and where it stops.
+#[cycle(listing)]
+pub fn list_element<'a, L: Visitor>(
+    context: Context,
+    place: Place<'a>,
+    visitor: &mut L,
+) -> Result<Place<'a>, WalkError>
+    ensures visited { IfOk result (λ after. ElementVisited context place.entry after (L.visited visitor.old) (L.visited visitor.new)) }
+    ensures element { IfOk result (λ after. ElementBefore context place.entry after) }
+    ensures fails { IfErr result (λ f. WalkFails (L.rejects visitor.new) (NoElement context place.entry) f) }
+{
+    let opened = match open(context, place) {
+        Ok(opened) => opened,
+        Err(error) => return Err(error),
+    };
+    match visitor.visit(&opened.item) {
+        Ok(()) => {}
+        Err(error) => return Err(error),
+    }
+    match opened.end {
+        ContentsEnd::Definite(after) => match list_contents_of(context, &opened.item, visitor) {
+            Ok(()) => Ok(place.further(after)),
+            Err(error) => Err(error),
+        },
+        ContentsEnd::Indefinite => list_contents(
+            context.below(),
+            opened.item.contents_place(),
+            false,
+            visitor,
+        ),
+    }
+}
+
+/// Tells of the elements of an input, which are one or more.
+///
+/// `Err` says that the visitor rejected, or that the input isn't one or more elements down to the primitive ones, within 101 levels: then
+/// its offset is that of the first header that should be and isn't. So for a visitor that rejects nothing it is `Ok` exactly where
+/// the input is such elements.
+pub fn list_input<L: Visitor>(input: &[u8], mode: BERMode, visitor: &mut L) -> Result<(), WalkError>
+    ensures lines { OnOk result ((ls : List Line) × Visits (L.visited visitor.old) (L.visited visitor.new) ls × ListsBytes 101 mode false 0 input.now ls) }
+    ensures raw { OnOk result (IsJoining (IsRaw 101 mode) input.now) }
+    ensures some { OnOk result (1 ≤ length input.now) }
+    ensures elements { OnOk result (AreElements 101 mode input.now) }
+    ensures fails { IfErr result (λ f. WalkFails (L.rejects visitor.new) (NoElements 101 mode input.now) f) }
+{
+    if input.is_empty() {
+        return Err(WalkError::Malformed {
+            offset: 0,
+            kind: ASN1ErrorKind::Eof,
+            expected: Expected::Element,
+        });
+    }
+    match list_contents(Context::start(mode), Place::start(input), true, visitor) {
+        Ok(_) => Ok(()),
+        Err(error) => Err(error),
+    }
+}

@@ -1,0 +1,38 @@
+//! Whether bytes are one element.
+ghost use Rattle.std.specs.Prelude.{IsTrue, ◌↔◌};
+ghost use Rattle.asn1show_walk.specs.WellFormed.{IsOne};
+
+use crate::error::WalkError;
+use crate::listing::item::Item;
+use crate::listing::place::{Context, Place};
+use crate::listing::{Visitor, list_element};
+
+// Visits all elements, and keeps nothing.
+#[derive(Clone, Copy)]
+struct Silent;
+
+impl Visitor for Silent {
+    ghost use Rattle.std.specs.Prelude.{None};
+
+    ghost visited = { λ _. None };
+
+    ghost rejects = { λ _ _. ⊥ };
+
+    fn visit(&mut self, _item: &Item<'_>) -> Result<(), WalkError> {
+        Ok(())
+    }
+
+    fn descends_into(&self, _context: Context, _string: Place<'_>) -> bool {
+        false
+    }
+}
+
+/// Whether what is left here is one element down to the primitive ones, and nothing after it.
+pub fn is_one_element(context: Context, place: Place<'_>) -> bool
+    ensures { IsTrue result ↔ IsOne context.levels context.mode place.entry.left.now }
+{
+    match list_element(context, place, &mut Silent) {
+        Ok(after) => after.left.is_empty(),
+        Err(_) => false,
+    }
+}

@@ -1,0 +1,99 @@
+//! Where elements are read, and by which rules.
+ghost use Rattle.std.specs.Prelude.{◌≡◌, ◌+◌, ◌-◌, ◌^◌, ◌<◌, ◌≤◌, length, true, false};
+
+use yasna_base::mode::BERMode;
+
+/// How many levels of elements are listed.
+pub const LEVELS: u8 = 101;
+
+/// Bytes, and where they are in the input.
+#[derive(Clone, Copy)]
+pub struct Place<'a> {
+    /// What is left in the contents around, or in the input.
+    pub left: &'a [u8],
+    /// Where that begins, counted from the input's first byte.
+    pub offset: usize,
+
+    ghost fits: { offset + length left.now < 2 ^ 64 },
+}
+
+impl<'a> Place<'a> {
+    /// The beginning of an input.
+    pub(super) fn start(input: &'a [u8]) -> Place<'a>
+        ensures left { result.left.now ≡ input.now }
+        ensures offset { result.offset ≡ 0 }
+    {
+        Place {
+            left: input,
+            offset: 0,
+        }
+    }
+
+    /// The place where only these bytes are left of those here.
+    pub(super) fn further(self, rest: &'a [u8]) -> Place<'a>
+        requires { length rest.now ≤ length self.left.now }
+        ensures left { result.left.now ≡ rest.now }
+        ensures offset { result.offset + length rest.now ≡ self.entry.offset + length self.entry.left.now }
+    {
+        Place {
+            left: rest,
+            offset: self.offset + (self.left.len() - rest.len()),
+        }
+    }
+}
+
+/// How elements are read.
+#[derive(Clone, Copy)]
+pub struct Context {
+    /// The encoding rules.
+    pub mode: BERMode,
+    /// How many levels of elements are still allowed.
+    pub levels: u8,
+    /// Whether the elements are in the contents of a string.
+    pub in_string: bool,
+
+    ghost few: { levels ≤ 101 },
+}
+
+impl Context {
+    /// The rules at the beginning of an input.
+    pub(super) fn start(mode: BERMode) -> Context
+        ensures mode { result.mode ≡ mode }
+        ensures levels { result.levels ≡ 101 }
+        ensures in_string { result.in_string ≡ false }
+    {
+        Context {
+            mode,
+            levels: LEVELS,
+            in_string: false,
+        }
+    }
+
+    /// The same a level further in.
+    pub(super) fn below(self) -> Context
+        requires { 1 ≤ self.levels }
+        ensures mode { result.mode ≡ self.mode }
+        ensures levels { result.levels + 1 ≡ self.levels }
+        ensures in_string { result.in_string ≡ self.in_string }
+    {
+        Context {
+            mode: self.mode,
+            levels: self.levels - 1,
+            in_string: self.in_string,
+        }
+    }
+
+    /// The same for the contents of a string.
+    pub(super) fn for_string(self) -> Context
+        requires { 1 ≤ self.levels }
+        ensures mode { result.mode ≡ self.mode }
+        ensures levels { result.levels + 1 ≡ self.levels }
+        ensures in_string { result.in_string ≡ true }
+    {
+        Context {
+            mode: self.mode,
+            levels: self.levels - 1,
+            in_string: true,
+        }
+    }
+}

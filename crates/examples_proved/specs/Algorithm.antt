@@ -1,0 +1,43 @@
+-- AlgorithmIdentifier (RFC 5280, 4.1.1.2): a name, and any element, which may be omitted.
+use Rattle.std.specs.Prelude.{◌≡◌, ◌+◌, ◌*◌, ◌<◌, ◌≤◌, length}
+use Rattle.yasna.specs.Words.{BitString, IsCoding, Any, Enclosed, AnyEnclosed, EncodesOid, OptionOf, AnyOption}
+use Rattle.yasna.specs.Words.{SameOption, IsRaw, sequence_tag, PartOf, NoParts, AnyPart, AnyNothing, SamePart, SameNothing}
+use Rattle.yasna.specs.Words.{raw_of}
+use Rattle.yasna.specs.base.declared.models.tagged_der_value.TaggedDerValue.{TaggedDerValue}
+use Rattle.yasna.proofs.Laws.{along, unambiguous_before_nothing, no_part, oid_coding, option_before, part_before, parts_contents, raw_coding, sequence}
+use Rattle.examples_proved.specs.declared.public_key.AlgorithmIdentifier.{AlgorithmIdentifier}
+use Rattle.yasna.specs.Words.{Grammar, Members}
+
+-- an element of any type
+abbrev pub EncodesAny : Grammar TaggedDerValue
+EncodesAny m n v b = IsRaw n m (raw_of v) b
+
+-- the same of bytes alone
+abbrev pub AnyElement : Members
+AnyElement = Any (λ m n v b. IsRaw n m v b)
+
+-- a SEQUENCE of a name and, where they are there, parameters of any type
+abbrev pub EncodesAlgorithm : Grammar AlgorithmIdentifier
+EncodesAlgorithm m n v b = Enclosed (PartOf EncodesOid (PartOf (OptionOf EncodesAny) NoParts)) sequence_tag m n (v.algorithm, (v.parameters, tt)) b
+
+-- what that asks of the bytes alone
+abbrev pub AnyAlgorithm : Members
+AnyAlgorithm = AnyEnclosed (AnyPart (Any EncodesOid) (AnyPart (AnyOption AnyElement) AnyNothing)) sequence_tag
+
+-- a bit string has as many bytes as its bits need
+abbrev pub HasRoom : BitString → Type 0
+HasRoom v = (v.count ≤ 8 * length v.bytes) × (8 * length v.bytes < v.count + 8)
+
+-- names are equal, and so are parameters
+abbrev pub SameAlgorithm : AlgorithmIdentifier → AlgorithmIdentifier → Type 0
+SameAlgorithm v w = SamePart (λ x y. x ≡ y) (SamePart (SameOption (λ x y. raw_of x ≡ raw_of y)) SameNothing) (v.algorithm, (v.parameters, tt))
+    (w.algorithm, (w.parameters, tt))
+
+-- any element satisfies the laws of reading
+pub element_coding : IsCoding (λ v w. raw_of v ≡ raw_of w) EncodesAny AnyElement
+element_coding = along raw_of raw_coding
+
+-- AlgorithmIdentifier satisfies the laws of reading
+pub algorithm_coding : IsCoding SameAlgorithm EncodesAlgorithm AnyAlgorithm
+algorithm_coding = sequence (λ v. (v.algorithm, (v.parameters, tt)))
+    (part_before oid_coding (option_before element_coding (unambiguous_before_nothing element_coding) (parts_contents no_part)))

@@ -1,0 +1,164 @@
+//! What is checked of every type. It is generic: so it is proved once, and not for each type anew.
+
+use std::alloc::Global;
+use std::process::Abort;
+use yasna::{
+    ASN1Error, ASN1ErrorKind, ASN1Result, BERDecodable, BERMode, DERCanonical, DEREncodable,
+    DERExact, decode_ber, decode_ber_general, decode_der, encode_der, one_der_encoding,
+    one_encoding,
+};
+
+/// What is so of a row's bytes.
+#[derive(Clone, Copy)]
+pub enum Claim {
+    /// They are the DER encoding of a value, and come back.
+    IsEncoding,
+    /// DER rejects them.
+    IsNoEncoding,
+    /// These rules reject them.
+    IsRejected(BERMode),
+    /// BER rejects them as `Invalid`.
+    IsInvalid,
+    /// By these rules a value is read whose fields are as the row says.
+    Says(BERMode, Fields),
+    /// DER rejects them, BER reads them, and the value's DER encoding is that of this text.
+    Becomes(&'static str),
+    /// The signature is over those of these places: from the first up to the second.
+    IsSigned(usize, usize),
+}
+
+/// What fields a row speaks of.
+#[derive(Clone, Copy)]
+pub enum Fields {
+    /// Those that the type's other rows don't speak of.
+    All,
+    /// The version, where it is the first one.
+    FirstVersion,
+    /// The issuer's number.
+    IssuerId,
+}
+
+/// A type whose fields a row speaks of.
+pub trait Looks {
+    /// Whether the fields are as the row says.
+    fn has(&self, fields: Fields) -> bool;
+}
+
+/// The bytes that these pairs of hexadecimal digits are, or `OutOfMemory` where the text is none, which no row wants.
+pub fn bytes_of(alloc: Global, text: &str) -> ASN1Result<Vec<u8>> {
+    let mut bytes = Vec::new(alloc);
+    for pair in text.as_bytes().chunks(2) {
+        match byte_of(pair) {
+            Some(byte) => bytes.push(byte)?,
+            None => return Err(ASN1Error::new(ASN1ErrorKind::OutOfMemory)),
+        }
+    }
+    Ok(bytes)
+}
+
+fn byte_of(pair: &[u8]) -> Option<u8> {
+    match pair {
+        [high, low] => Some(digit(*high)? << 4 | digit(*low)?),
+        _ => None,
+    }
+}
+
+fn digit(character: u8) -> Option<u8> {
+    match character {
+        b'0'..=b'9' => Some(character - b'0'),
+        b'a'..=b'f' => Some(character - b'a' + 10),
+        _ => None,
+    }
+}
+
+fn gives(outcome: ASN1Result<Vec<u8>>, bytes: &[u8]) -> bool {
+    match outcome {
+        Ok(found) => found.as_slice() == bytes,
+        Err(_) => false,
+    }
+}
+
+fn rewritten<T: BERDecodable + DEREncodable + DERExact>(
+    alloc: Global,
+    bytes: &[u8],
+) -> ASN1Result<Vec<u8>> {
+    one_der_encoding::<T>();
+    let value: T = decode_der(alloc, bytes)?;
+    encode_der(alloc, &value)
+}
+
+fn rejects<T: Drop>(outcome: ASN1Result<T>) -> bool {
+    match outcome {
+        Ok(_) => false,
+        Err(error) => matches!(error.kind(), ASN1ErrorKind::Invalid),
+    }
+}
+
+/// Whether the claim is so of these bytes, where it is of no fields.
+pub fn holds<T: BERDecodable + DEREncodable + DERExact>(
+    alloc: Global,
+    bytes: &[u8],
+    claim: Claim,
+) -> bool {
+    match claim {
+        Claim::IsEncoding => gives(rewritten::<T>(alloc, bytes), bytes),
+        Claim::IsNoEncoding => decode_der::<T>(alloc, bytes).is_err(),
+        Claim::IsRejected(mode) => decode_ber_general::<T>(alloc, bytes, mode).is_err(),
+        Claim::IsInvalid => rejects(decode_ber::<T>(alloc, bytes)),
+        _ => false,
+    }
+}
+
+/// Whether a value of this type is read from these bytes, whose fields are as the row says.
+pub fn says<T: BERDecodable + Looks>(
+    alloc: Global,
+    bytes: &[u8],
+    mode: BERMode,
+    fields: Fields,
+) -> bool {
+    match decode_ber_general::<T>(alloc, bytes, mode) {
+        Ok(value) => value.has(fields),
+        Err(_) => false,
+    }
+}
+
+/// Whether the claim is so of these bytes, where it may be of fields.
+pub fn holds_or_says<T: BERDecodable + DEREncodable + DERExact + Looks>(
+    alloc: Global,
+    bytes: &[u8],
+    claim: Claim,
+) -> bool {
+    match claim {
+        Claim::Says(mode, fields) => says::<T>(alloc, bytes, mode, fields),
+        _ => holds::<T>(alloc, bytes, claim),
+    }
+}
+
+fn normalized<T: BERDecodable + DEREncodable + DERCanonical>(
+    alloc: Global,
+    bytes: &[u8],
+) -> ASN1Result<Vec<u8>> {
+    one_encoding::<T>();
+    let value: T = decode_ber(alloc, bytes)?;
+    encode_der(alloc, &value)
+}
+
+/// Whether DER rejects these bytes, which BER reads, and whose DER encoding is that of the text.
+pub fn becomes<T: BERDecodable + DEREncodable + DERCanonical>(
+    alloc: Global,
+    bytes: &[u8],
+    encoding: &str,
+) -> bool {
+    match bytes_of(alloc, encoding) {
+        Ok(encoding) => {
+            gives(normalized::<T>(alloc, bytes), &encoding)
+                && decode_der::<T>(alloc, bytes).is_err()
+        }
+        Err(_) => false,
+    }
+}
+
+/// Fails the test if a row was found, and says which.
+pub fn finds_none(rt: &impl Abort, found: Option<&str>) {
+    assert!(rt; found.is_none(), "{found:?}");
+}

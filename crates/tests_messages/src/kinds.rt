@@ -1,0 +1,92 @@
+//! What a row is, and by what its kind is checked.
+
+use crate::certificates::is_signed;
+use crate::checks::{Claim, becomes, bytes_of, holds, holds_or_says};
+use crate::messages::{Part, is_part};
+use crate::parts::is_in_a_sequence;
+use cms::{ContentInfo, EnvelopedData, SignedData};
+use ldap::LdapMessage;
+use pkcs8::{OneAsymmetricKey, PrivateKeyInfo};
+use snmp::{v1, v2c};
+use std::alloc::Global;
+use x509::{Certificate, CertificateList};
+use yasna_notation::Encoded;
+
+/// What a row's bytes are, or are not.
+#[derive(Clone, Copy)]
+pub enum Kind {
+    Certificate,
+    CertificateList,
+    /// A certificate that is read with the bytes that are signed of it.
+    SignedCertificate,
+    /// A list that is read so.
+    SignedList,
+    PrivateKeyInfo,
+    OneAsymmetricKey,
+    ContentInfo,
+    /// The content that a ContentInfo has.
+    SignedData,
+    /// The same of another.
+    EnvelopedData,
+    LdapMessage,
+    SnmpV1,
+    SnmpV2c,
+    /// A part of a message.
+    Part(Part),
+    /// Parts that are pairs.
+    Pairs,
+}
+
+/// A kind, what is claimed, the row's name, and its bytes in hexadecimal.
+pub type Row = (Kind, Claim, &'static str, &'static str);
+
+// The content of a ContentInfo, which ends it: what comes after 19 octets.
+fn content_of(bytes: &[u8]) -> &[u8] {
+    bytes.get(19..).unwrap_or(&[])
+}
+
+fn is_so(alloc: Global, kind: Kind, bytes: &[u8], claim: Claim) -> bool {
+    match kind {
+        Kind::Certificate => holds_or_says::<Encoded<Certificate>>(alloc, bytes, claim),
+        Kind::CertificateList => holds_or_says::<Encoded<CertificateList>>(alloc, bytes, claim),
+        Kind::SignedCertificate => is_signed(alloc, bytes, claim, false),
+        Kind::SignedList => is_signed(alloc, bytes, claim, true),
+        Kind::PrivateKeyInfo => holds::<Encoded<PrivateKeyInfo>>(alloc, bytes, claim),
+        Kind::OneAsymmetricKey => holds_or_says::<Encoded<OneAsymmetricKey>>(alloc, bytes, claim),
+        Kind::ContentInfo => holds_or_says::<Encoded<ContentInfo>>(alloc, bytes, claim),
+        Kind::SignedData => holds_or_says::<Encoded<SignedData>>(alloc, content_of(bytes), claim),
+        Kind::EnvelopedData => {
+            holds_or_says::<Encoded<EnvelopedData>>(alloc, content_of(bytes), claim)
+        }
+        Kind::LdapMessage => match claim {
+            Claim::Becomes(encoding) => becomes::<Encoded<LdapMessage>>(alloc, bytes, encoding),
+            _ => holds_or_says::<Encoded<LdapMessage>>(alloc, bytes, claim),
+        },
+        Kind::SnmpV1 => holds::<Encoded<v1::SnmpMessage>>(alloc, bytes, claim),
+        Kind::SnmpV2c => match claim {
+            Claim::Becomes(encoding) => becomes::<Encoded<v2c::SnmpMessage>>(
+                alloc, bytes, encoding,
+            ),
+            _ => holds_or_says::<Encoded<v2c::SnmpMessage>>(alloc, bytes, claim),
+        },
+        Kind::Part(part) => is_part(alloc, part, bytes, claim),
+        Kind::Pairs => is_in_a_sequence(alloc, bytes, claim),
+    }
+}
+
+fn is_row(alloc: Global, row: &Row) -> bool {
+    match bytes_of(alloc, row.3) {
+        Ok(bytes) => is_so(alloc, row.0, &bytes, row.1),
+        Err(_) => false,
+    }
+}
+
+/// The name of the first row that isn't so.
+pub fn first_failing(alloc: Global, rows: &[Row]) -> Option<&'static str> {
+    for row in rows {
+        if !is_row(alloc, row) {
+            return Some(row.2);
+        }
+    }
+    None
+}

@@ -1,0 +1,152 @@
+//! Messages that are types made of types: a DER encoding comes back as it was, and what is none is rejected.
+
+use crate::checks::{Claim, finds_none, holds};
+use crate::kinds::{Kind, Row, first_failing};
+use snmp::{ApplicationSyntax, SimpleSyntax};
+use std::alloc::Global;
+use x509::{AlgorithmIdentifier, Attribute, Extensions, Name, SubjectPublicKeyInfo, Validity};
+use yasna_notation::Encoded;
+
+/// A part of a message.
+#[derive(Clone, Copy)]
+pub enum Part {
+    Algorithm,
+    PublicKey,
+    Name,
+    Attribute,
+    Validity,
+    Extensions,
+    Simple,
+    Application,
+}
+
+static ROWS: [Row; 18] = [
+    (
+        Kind::Part(Part::Algorithm),
+        Claim::IsEncoding,
+        "an algorithm with NULL",
+        "300d06092a864886f70d0101010500",
+    ),
+    (
+        Kind::Part(Part::PublicKey),
+        Claim::IsEncoding,
+        "a public key",
+        "300b300506032b6570030200aa",
+    ),
+    (
+        Kind::Part(Part::Name),
+        Claim::IsEncoding,
+        "a name of one part",
+        "300c310a300806035504030c0161",
+    ),
+    (
+        Kind::Part(Part::Attribute),
+        Claim::IsEncoding,
+        "an attribute",
+        "300a060355040331030c0161",
+    ),
+    (
+        Kind::Part(Part::Validity),
+        Claim::IsEncoding,
+        "a validity from a UTCTime to a GeneralizedTime",
+        "3020170d3235303130313030303030305a180f32303530303130313030303030305a",
+    ),
+    (
+        Kind::Part(Part::Extensions),
+        Claim::IsEncoding,
+        "an extension",
+        "300e300c0603551d130101ff04023000",
+    ),
+    (
+        Kind::Part(Part::Simple),
+        Claim::IsEncoding,
+        "a number",
+        "020105",
+    ),
+    (
+        Kind::Part(Part::Simple),
+        Claim::IsEncoding,
+        "a string",
+        "040161",
+    ),
+    (
+        Kind::Part(Part::Simple),
+        Claim::IsEncoding,
+        "an object identifier",
+        "0603550403",
+    ),
+    (
+        Kind::Part(Part::Application),
+        Claim::IsEncoding,
+        "an address",
+        "40047f000001",
+    ),
+    (
+        Kind::Part(Part::Application),
+        Claim::IsEncoding,
+        "a counter",
+        "410107",
+    ),
+    (
+        Kind::Part(Part::Application),
+        Claim::IsEncoding,
+        "an unsigned number",
+        "420107",
+    ),
+    (
+        Kind::Part(Part::Application),
+        Claim::IsEncoding,
+        "ticks",
+        "430107",
+    ),
+    (
+        Kind::Part(Part::Application),
+        Claim::IsEncoding,
+        "an opaque value",
+        "440161",
+    ),
+    (
+        Kind::Part(Part::Application),
+        Claim::IsEncoding,
+        "a count of 64 bits",
+        "460107",
+    ),
+    (
+        Kind::Part(Part::Application),
+        Claim::IsNoEncoding,
+        "an address of three octets",
+        "40037f0000",
+    ),
+    (
+        Kind::Part(Part::Name),
+        Claim::IsNoEncoding,
+        "a part of a name with no attribute",
+        "30023100",
+    ),
+    (
+        Kind::Part(Part::Extensions),
+        Claim::IsNoEncoding,
+        "no extension",
+        "3000",
+    ),
+];
+
+/// Whether the claim is so of such a part.
+pub fn is_part(alloc: Global, part: Part, bytes: &[u8], claim: Claim) -> bool {
+    match part {
+        Part::Algorithm => holds::<Encoded<AlgorithmIdentifier>>(alloc, bytes, claim),
+        Part::PublicKey => holds::<Encoded<SubjectPublicKeyInfo>>(alloc, bytes, claim),
+        Part::Name => holds::<Encoded<Name>>(alloc, bytes, claim),
+        Part::Attribute => holds::<Encoded<Attribute>>(alloc, bytes, claim),
+        Part::Validity => holds::<Encoded<Validity>>(alloc, bytes, claim),
+        Part::Extensions => holds::<Encoded<Extensions>>(alloc, bytes, claim),
+        Part::Simple => holds::<Encoded<SimpleSyntax>>(alloc, bytes, claim),
+        Part::Application => holds::<Encoded<ApplicationSyntax>>(alloc, bytes, claim),
+    }
+}
+
+// Parts of certificates, values of variables, and too few parts.
+#[test]
+fn parts_and_values_round_trip_or_are_rejected(rt: HostRuntime) {
+    finds_none(&rt, first_failing(rt.alloc(), &ROWS));
+}

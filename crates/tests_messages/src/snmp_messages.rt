@@ -1,0 +1,124 @@
+//! Messages of SNMPv1 and SNMPv2c (RFC 1157, RFC 1901 and RFC 3416), made by hand as programs of net-snmp send them.
+
+use crate::checks::{Claim, Fields, Looks, finds_none};
+use crate::kinds::{Kind, Row, first_failing};
+use snmp::{ApplicationSyntax, SimpleSyntax, v2c};
+use yasna::BERMode::{Ber, Der};
+use yasna_notation::Encoded;
+
+// A get-request of SNMPv1, for sysDescr.0.
+const GET: &str =
+    "302602010004067075626c6963a019020101020100020100300e300c06082b060102010101000500";
+
+// A trap of SNMPv1, with two variables.
+const TRAP: &str =
+    "304c02010004067075626c6963a43f06072b06010401bf084004c0000201020106020101430230393024300e06082b060102\
+    0101030043023039301206082b060102010101000406726f75746572";
+
+// A response of SNMPv2c: ticks, a text, a count of 64 bits, and two that are not there.
+const RESPONSE: &str =
+    "306f02010104067075626c6963a2620204012345670201000201003054301106082b06010201010300430500ffffffff3011\
+    06082b0601020101010004054c696e75783017060a2b060102010202010a01460900ffffffffffffffff300b06072b060102\
+    0163008000300606022b078200";
+
+// A get-bulk-request of SNMPv2c.
+const BULK: &str =
+    "302602010104067075626c6963a5190201ff02010002010a300e300c06082b060102010101000500";
+
+// The same question as GET, of SNMPv2c, in BER: of an indefinite length, and a length that is not the shortest.
+const LONG: &str =
+    "308002010104067075626c6963a08119020101020100020100300e300c06082b0601020101010005000000";
+
+// The DER encoding of LONG: GET with the other version's number.
+const SHORTEST: &str =
+    "302602010104067075626c6963a019020101020100020100300e300c06082b060102010101000500";
+
+// A message that says that it is of version 3.
+const VERSION_3: &str =
+    "302602010304067075626c6963a019020101020100020100300e300c06082b060102010101000500";
+
+// Each version has its own messages.
+static ROWS: [Row; 11] = [
+    (Kind::SnmpV1, Claim::IsEncoding, "GET", GET),
+    (Kind::SnmpV1, Claim::IsEncoding, "TRAP", TRAP),
+    (Kind::SnmpV2c, Claim::IsEncoding, "RESPONSE", RESPONSE),
+    (Kind::SnmpV2c, Claim::IsEncoding, "BULK", BULK),
+    (
+        Kind::SnmpV1,
+        Claim::IsRejected(Ber),
+        "BULK is none of SNMPv1",
+        BULK,
+    ),
+    (
+        Kind::SnmpV2c,
+        Claim::IsRejected(Ber),
+        "GET is none of SNMPv2c",
+        GET,
+    ),
+    (Kind::SnmpV1, Claim::IsRejected(Ber), "VERSION_3", VERSION_3),
+    (
+        Kind::SnmpV2c,
+        Claim::Says(Ber, Fields::All),
+        "what RESPONSE says",
+        RESPONSE,
+    ),
+    (
+        Kind::SnmpV2c,
+        Claim::Becomes(SHORTEST),
+        "the form of LONG",
+        LONG,
+    ),
+    (Kind::SnmpV2c, Claim::IsEncoding, "SHORTEST", SHORTEST),
+    (
+        Kind::SnmpV2c,
+        Claim::IsRejected(Der),
+        "LONG is no form",
+        LONG,
+    ),
+];
+
+impl Looks for Encoded<v2c::SnmpMessage> {
+    // Whether it is the result to the public community that RESPONSE is.
+    fn has(&self, _fields: Fields) -> bool {
+        self.value.community.as_slice() == b"public".as_slice() && is_response(&self.value.data)
+    }
+}
+
+// Whether it has the number and the values of RESPONSE.
+fn is_response(data: &v2c::Pdus) -> bool {
+    match data {
+        v2c::Pdus::Response(pdu) => {
+            pdu.request_id == 19088743 && are_of_response(&pdu.variable_bindings)
+        }
+        _ => false,
+    }
+}
+
+fn are_of_response(bindings: &[v2c::VarBind]) -> bool {
+    match bindings {
+        [ticks, name, count, missing, end] => {
+            kind_of(&ticks.value) == 1
+                && kind_of(&name.value) == 5
+                && kind_of(&count.value) == 3
+                && kind_of(&missing.value) == 4
+                && kind_of(&end.value) == 6
+        }
+        _ => false,
+    }
+}
+
+fn kind_of(value: &v2c::BoundValue) -> usize {
+    match value {
+        v2c::BoundValue::ApplicationWide(ApplicationSyntax::TimeTicksValue(4294967295)) => 1,
+        v2c::BoundValue::Simple(SimpleSyntax::StringValue(text)) => text.len(),
+        v2c::BoundValue::ApplicationWide(ApplicationSyntax::BigCounterValue(u64::MAX)) => 3,
+        v2c::BoundValue::NoSuchObject => 4,
+        v2c::BoundValue::EndOfMibView => 6,
+        _ => 0,
+    }
+}
+
+#[test]
+fn messages_round_trip_or_are_rejected(rt: HostRuntime) {
+    finds_none(&rt, first_failing(rt.alloc(), &ROWS));
+}

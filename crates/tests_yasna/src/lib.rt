@@ -1,0 +1,74 @@
+//! Tests of the public calls of `yasna`, of the code in `examples_plain` and `examples_proved`, and of what the programs do.
+//!
+//! They are a crate of their own, since a crate with tests is proved twice. Each has ample memory.
+//!
+//! | Module | Holds tests of |
+//! |---|---|
+//! | `algorithm`, `public_key` | keys and their algorithms, as types of one's own and by closures |
+//! | `buffer` | the bytes that a read took |
+//! | `at_end` | where contents end, and errors of reading callbacks |
+//! | `checks` | none: it holds what many of them check, and how they fail |
+//! | `conversion` | elements in BER turned into DER |
+//! | `engine` | the program `yasna_tool` over memory, and over ends that fail |
+//! | `composed` | lists, tuples and borrowed values |
+//! | `exact` | types that keep an element of any type as it came |
+//! | `guide` | the pieces of code of README.md and docs/GUIDE.md |
+//! | `known` | calls whose closures are known |
+//! | `lines` | the lines of the elements of any input |
+//! | `located` | where a parse failed |
+//! | `oid` | object identifiers |
+//! | `pieces` | none: it holds how rows of bytes are read and written again |
+//! | `records`, `scrypt`, `third_party` | types of one's own |
+//! | `sets` | sets, read and written by callbacks |
+//! | `set_writing` | the order of a SET's parts, and malformed ones |
+//! | `times` | both times |
+//! | `tree` | a type that refers to itself, and elements at 101 levels |
+//! | `writing` | long tags, exchanged writers, strings whose contents come in pieces |
+#![tactic(auto)]
+
+#[cfg(test)]
+mod algorithm;
+#[cfg(test)]
+mod at_end;
+#[cfg(test)]
+mod buffer;
+#[cfg(test)]
+mod checks;
+#[cfg(test)]
+mod composed;
+#[cfg(test)]
+mod conversion;
+#[cfg(test)]
+mod engine;
+#[cfg(test)]
+mod exact;
+#[cfg(test)]
+mod guide;
+#[cfg(test)]
+mod known;
+#[cfg(test)]
+mod lines;
+#[cfg(test)]
+mod located;
+#[cfg(test)]
+mod oid;
+#[cfg(test)]
+mod pieces;
+#[cfg(test)]
+mod public_key;
+#[cfg(test)]
+mod records;
+#[cfg(test)]
+mod scrypt;
+#[cfg(test)]
+mod set_writing;
+#[cfg(test)]
+mod sets;
+#[cfg(test)]
+mod third_party;
+#[cfg(test)]
+mod times;
+#[cfg(test)]
+mod tree;
+#[cfg(test)]
+mod writing;

@@ -1,0 +1,393 @@
+//! The lines of `asn1show_lines`, diagnostics and rejections. The offsets, depths, lengths and tags of the key are those that `openssl asn1parse -i` prints of it.
+
+use crate::checks::{holds, spelled};
+use asn1show_lines::{InputFormat, show};
+use asn1show_walk::error::WalkError;
+use asn1show_walk::listing::{Context, Place, is_one_element};
+use std::alloc::Global;
+use yasna::BERMode::{Ber, Cer, Der};
+use yasna::{ASN1Result, BERMode};
+
+// What is wanted of an input.
+#[derive(Clone, Copy)]
+enum Expectation {
+    /// These lines, and that the input is taken whole.
+    Whole(&'static str),
+    /// This as the first line.
+    Head(&'static str),
+    /// This line after the first one, and after it these rules.
+    Line(&'static str, &'static str),
+    /// That the input is taken whole.
+    Taken,
+    /// That it is malformed, and this is said of it.
+    Malformed(&'static str),
+}
+
+use Expectation::{Head, Line, Malformed, Taken, Whole};
+
+impl Expectation {
+    // Whether this was written, and the input taken whole where that is wanted.
+    fn is_written(self, text: &str, is_taken: bool) -> bool {
+        let mut rows = text.lines();
+        let head = rows.next().unwrap_or("");
+        match self {
+            Whole(lines) => is_taken && text == lines,
+            Head(first) => head == first,
+            Line(line, rules) => {
+                let first = rows.next().unwrap_or("").trim_start();
+                let second = rows.next().unwrap_or("");
+                first.strip_prefix("0  ") == Some(line)
+                    && second.strip_prefix("rules: ") == Some(rules)
+            }
+            Taken => is_taken,
+            Malformed(_) => false,
+        }
+    }
+}
+
+fn is_shown(
+    alloc: Global,
+    mode: BERMode,
+    input_format: Option<InputFormat>,
+    input: &str,
+    expected: Expectation,
+) -> ASN1Result<bool> {
+    let mut output = Vec::new(alloc);
+    let outcome = show(alloc, &mut output, mode, input_format, 16, input.as_bytes());
+    if let Malformed(said) = expected {
+        return match outcome {
+            Err(error) => Ok(
+                matches!(error, WalkError::Malformed { .. })
+                    && error.to_string(alloc)?.as_str() == said,
+            ),
+            Ok(()) => Ok(false),
+        };
+    }
+    let text = std::str::from_utf8(output.as_slice()).unwrap_or("");
+    Ok(expected.is_written(text, outcome.is_ok()))
+}
+
+const KEY: &str = "A key:
+-----BEGIN PUBLIC KEY-----
+MFkwEwYHKoZIzj0CAQYIKoZIzj0DAQcDQgAE+CJBf22HZggwwIIlf8bcFqqlxl5w
+FAS09q/vMsaZpxQqACy4ath3ntPoBK/7vwBscMw1CWqWcv/YJyVHQlaC7A==
+-----END PUBLIC KEY-----
+";
+
+const KEY_LINES: &str = "input: PEM \"PUBLIC KEY\", 91 bytes
+      0  2+89       SEQUENCE
+      2  2+19         SEQUENCE
+      4  2+7            OBJECT IDENTIFIER 1.2.840.10045.2.1 ecPublicKey
+     13  2+8            OBJECT IDENTIFIER 1.2.840.10045.3.1.7 prime256v1
+     23  2+66         BIT STRING '04F822417F6D8766..'H
+rules: BER, DER
+";
+
+// An element of indefinite length around a SET OF out of order, a string in segments, and a string that holds an element.
+const NESTED: &str = "3080 3106 020102 020101 2480 0401AA 0401BB 0000 0403 020105 0000";
+
+const NESTED_LINES: &str = "input: hexadecimal, 27 bytes
+      0  2+indef    SEQUENCE -- not DER: indefinite length
+      2  2+6          SET -- not DER: a SET OF out of order
+      4  2+1            INTEGER 2
+      7  2+1            INTEGER 1
+     10  2+indef      OCTET STRING -- not DER: indefinite length -- not DER: cut into segments
+     12  2+1            OCTET STRING 'AA'H
+     15  2+1            OCTET STRING 'BB'H
+     20  2+3          OCTET STRING '020105'H
+     22  2+1      >     INTEGER 5
+rules: BER
+";
+
+// Inputs whose encoding isn't given, the rules, and what is wanted of them.
+static LINES: [(&str, BERMode, Expectation); 24] = [
+    (KEY, Der, Whole(KEY_LINES)),
+    (NESTED, Ber, Whole(NESTED_LINES)),
+    ("30 00\n", Ber, Head("input: hexadecimal, 2 bytes")),
+    ("0\x00", Ber, Head("input: 2 bytes")),
+    (
+        "\u{4}\u{14}\n-----BEGIN X-----\n",
+        Ber,
+        Head("input: 21 bytes"),
+    ),
+    (
+        "0101FF",
+        Ber,
+        Line("2+1        BOOLEAN TRUE", "BER, DER, CER"),
+    ),
+    (
+        "010101",
+        Ber,
+        Line("2+1        BOOLEAN TRUE -- not DER: TRUE isn't FF", "BER"),
+    ),
+    (
+        "0202FF7F",
+        Ber,
+        Line("2+2        INTEGER -129", "BER, DER, CER"),
+    ),
+    (
+        "0209010000000000000000",
+        Ber,
+        Line("2+9        INTEGER 18446744073709551616", "BER, DER, CER"),
+    ),
+    (
+        "0209FF0000000000000000",
+        Ber,
+        Line("2+9        INTEGER -18446744073709551616", "BER, DER, CER"),
+    ),
+    (
+        "0202007F",
+        Ber,
+        Line(
+            "2+2        INTEGER 127 -- not BER: a number in too many octets or none",
+            "none",
+        ),
+    ),
+    (
+        "028101 05",
+        Ber,
+        Line(
+            "3+1        INTEGER 5 -- not DER: the length isn't the shortest",
+            "BER",
+        ),
+    ),
+    (
+        "0303 04 A5 F0",
+        Ber,
+        Line("2+3        BIT STRING 'A5F0'H less 4 bits", "BER, DER, CER"),
+    ),
+    (
+        "0302 04 A5",
+        Ber,
+        Line(
+            "2+2        BIT STRING 'A5'H less 4 bits -- not DER: unused bits aren't zeros",
+            "BER",
+        ),
+    ),
+    (
+        "0603550403",
+        Ber,
+        Line(
+            "2+3        OBJECT IDENTIFIER 2.5.4.3 commonName",
+            "BER, DER, CER",
+        ),
+    ),
+    (
+        "0C07 41 07 E2 80 AE 22 7F",
+        Ber,
+        Line(
+            "2+7        UTF8String \"A\\u{7}\\u{202E}\\\"\\u{7F}\"",
+            "BER, DER, CER",
+        ),
+    ),
+    (
+        "1302 41 2A",
+        Ber,
+        Line(
+            "2+2        PrintableString \"A*\" -- not BER: a character that the type hasn't",
+            "none",
+        ),
+    ),
+    (
+        "1E04 0041 D800",
+        Ber,
+        Line(
+            "2+4        BMPString \"A\\u{D800}\" -- not BER: a character that the type hasn't",
+            "none",
+        ),
+    ),
+    (
+        "170B 38323031303231323030 5A",
+        Ber,
+        Line(
+            "2+11       UTCTime 1982-01-02T12:00:00Z -- not DER: the time isn't canonical",
+            "BER",
+        ),
+    ),
+    (
+        "1813 31393835313130363231303832392E3732345A",
+        Ber,
+        Line(
+            "2+19       GeneralizedTime 1985-11-06T21:08:29.724000000Z",
+            "BER, DER, CER",
+        ),
+    ),
+    (
+        "180E 3139383531313036323130383239",
+        Ber,
+        Line(
+            "2+14       GeneralizedTime 1985-11-06T21:08:29 -- not DER: local time",
+            "BER",
+        ),
+    ),
+    ("0500", Ber, Line("2+0        NULL", "BER, DER, CER")),
+    (
+        "8505 0102030405",
+        Ber,
+        Line("2+5        [5] '0102030405'H", "BER, DER, CER"),
+    ),
+    ("3000", Ber, Line("2+0        SEQUENCE", "BER, DER")),
+];
+
+#[test]
+fn each_element_has_its_line(rt: HostRuntime) {
+    for row in &LINES {
+        holds(&rt, row.0, is_shown(rt.alloc(), row.1, None, row.0, row.2));
+    }
+}
+
+// Malformed input in hexadecimal, and what is said of it.
+static MALFORMED: [(&str, BERMode, Expectation); 9] = [
+    (
+        "3003 020101 02",
+        Ber,
+        Malformed("offset 5: Eof: expected length octets"),
+    ),
+    (
+        "3005 020101",
+        Ber,
+        Malformed("offset 0: Eof: expected 5 octets of contents, of which 3 are there"),
+    ),
+    (
+        "3080 020101",
+        Ber,
+        Malformed("offset 5: Eof: expected an element"),
+    ),
+    (
+        "3002 0000",
+        Ber,
+        Malformed("offset 2: Invalid: expected an element, no end of contents"),
+    ),
+    (
+        "1F 1E 00",
+        Ber,
+        Malformed("offset 0: Invalid: expected a tag number of 31 or more in the fewest octets"),
+    ),
+    (
+        "3080 0000",
+        Der,
+        Malformed("offset 0: Invalid: expected a length that is counted"),
+    ),
+    (
+        "028101 05",
+        Der,
+        Malformed("offset 0: Invalid: expected a length in the fewest octets"),
+    ),
+    (
+        "3000",
+        Cer,
+        Malformed("offset 0: Invalid: expected a constructed element of indefinite length"),
+    ),
+    (
+        "030",
+        Ber,
+        Malformed("offset 3: Invalid: expected pairs of hexadecimal digits"),
+    ),
+];
+
+// A name, an encoding, the texts that an input is spelled of, how often, and what is wanted of it. The greatest depth is 101. Base64 is
+// padded at its end alone, however much of it is before.
+static SPELLED: [(&str, Option<InputFormat>, [&str; 4], usize, Expectation); 5] = [
+    (
+        "101 elements are taken",
+        Some(InputFormat::Hex),
+        ["", "3080", "0500", "0000"],
+        100,
+        Taken,
+    ),
+    (
+        "102 elements are rejected",
+        Some(InputFormat::Hex),
+        ["", "3080", "30803080", ""],
+        100,
+        Malformed("offset 202: StackOverflow: expected at most 101 levels of elements"),
+    ),
+    (
+        "a cut block of PEM is rejected",
+        None,
+        ["text\n-----BEGIN X-----\n", "", "", ""],
+        0,
+        Malformed("offset 23: Eof: expected a line that ends the block of PEM"),
+    ),
+    (
+        "padding in the first group",
+        None,
+        [
+            "-----BEGIN X-----\n",
+            "BAFB",
+            "QQ==QUFB\n-----END X-----\n",
+            "",
+        ],
+        0,
+        Malformed("offset 42: Invalid: expected base64"),
+    ),
+    (
+        "padding in a later group",
+        None,
+        [
+            "-----BEGIN X-----\n",
+            "BAFB",
+            "QQ==QUFB\n-----END X-----\n",
+            "",
+        ],
+        1023,
+        Malformed("offset 4134: Invalid: expected base64"),
+    ),
+];
+
+fn is_spelled(
+    alloc: Global,
+    input_format: Option<InputFormat>,
+    texts: [&str; 4],
+    times: usize,
+    expected: Expectation,
+) -> ASN1Result<bool> {
+    let input = spelled(alloc, texts, times)?;
+    is_shown(alloc, Ber, input_format, &input, expected)
+}
+
+#[test]
+fn malformed_input_is_rejected_at_its_offset(rt: HostRuntime) {
+    for row in &MALFORMED {
+        let is_so = is_shown(rt.alloc(), row.1, Some(InputFormat::Hex), row.0, row.2);
+        holds(&rt, row.0, is_so);
+    }
+    for row in &SPELLED {
+        holds(
+            &rt,
+            row.0,
+            is_spelled(rt.alloc(), row.1, row.2, row.3, row.4),
+        );
+    }
+}
+
+// Contents of a string, and whether they are one element.
+static CONTENTS: [(&str, &[u8], bool); 5] = [
+    ("a number", &[2, 1, 10], true),
+    ("a NULL in a SEQUENCE", &[48, 128, 5, 0, 0, 0], true),
+    ("nothing", &[], false),
+    ("a zero behind a number", &[2, 1, 10, 0], false),
+    ("a cut number in a SEQUENCE", &[48, 2, 2, 1], false),
+];
+
+fn is_one(contents: &[u8]) -> bool {
+    let rules = Context {
+        mode: Ber,
+        levels: 101,
+        in_string: true,
+    };
+    let place = Place {
+        left: contents,
+        offset: 0,
+    };
+    is_one_element(rules, place)
+}
+
+/// Bytes are one element down to the primitive ones where one is there, each constructed one in it holds such elements, and nothing
+/// is after it.
+#[test]
+fn strings_hold_one_element_or_none(rt: HostRuntime) {
+    for row in &CONTENTS {
+        holds(&rt, row.0, Ok(is_one(row.1) == row.2));
+    }
+}

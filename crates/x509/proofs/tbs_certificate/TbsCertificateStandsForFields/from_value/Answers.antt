@@ -1,5 +1,0 @@
-use Rattle.std.proofs.Common.{refl}
-use Rattle.x509.proofs.tbs_certificate.TbsCertificateStandsForFields.from_value.Goals as goal
-
-pub returns : goal.returns
-returns c = refl

@@ -1,5 +1,0 @@
-use Rattle.std.proofs.Common.{rules}
-use Rattle.yasna_bytes.proofs.bytes.segments.cuts.segment_rules.Goals as goal
-
-pub returns-in-Cer : goal.returns-in-Cer
-returns-in-Cer c = search rules

@@ -1,5 +1,0 @@
-use Rattle.std.proofs.Common.{rules}
-use Rattle.yasna_bytes.proofs.bytes.walk.looks_into.Goals as goal
-
-pub returns-in-Constructed : goal.returns-in-Constructed
-returns-in-Constructed c = search rules

@@ -1,5 +1,0 @@
-use Rattle.std.proofs.Common.{rules}
-use Rattle.yasna_conversion.proofs.set_order.put_in_order.Goals as goal
-
-pub returns-then-have_one_tag : goal.returns-then-have_one_tag
-returns-then-have_one_tag c = search rules

@@ -1,7 +1,0 @@
-use Rattle.std.proofs.Common.{ap, ◌∙◌}
-use Rattle.yasna_base.specs.SetWriting.{own_form}
-use Rattle.yasna_base.specs.declared.mode.BERMode.TheVariants.{Der}
-use Rattle.yasna_conversion.proofs.writing.element.Goals as goal
-
-pub returns-in-Ok-clause-bytes : goal.returns-in-Ok-clause-bytes
-returns-in-Ok-clause-bytes c = (c.in-Ok.ensures {u = tt}).form ∙ ap (own_form Der) c.from_tag_pc_and_bytes-value.ensures

@@ -1,4 +1,0 @@
-pub mod Writes
-pub mod Recoded
-pub mod Faults
-pub mod Statuses

@@ -1,5 +1,0 @@
-use Rattle.std.proofs.Common.{refl}
-use Rattle.yasna_engine.proofs.ends.Counted.new.Goals as goal
-
-pub returns-clause-failures : goal.returns-clause-failures
-returns-clause-failures g c = refl

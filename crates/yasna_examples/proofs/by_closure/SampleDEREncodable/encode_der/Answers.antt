@@ -1,9 +1,0 @@
-use Rattle.std.proofs.Common.{rules}
-use Rattle.yasna.specs.Words.{sequence_tag}
-use Rattle.yasna_examples.proofs.Writing.{enclosed_by}
-use Rattle.yasna_examples.proofs.by_closure.SampleDEREncodable.encode_der.Goals as goal
-
-pub returns : goal.returns
-returns c =
-    enclosed_by _ _ sequence_tag c.args.writer.now c.write_sequence.new.self c.write_sequence.result _ c.requires.untagged c.write_sequence.ensures
-    (λ p q x h. search rules)

@@ -1,5 +1,0 @@
-use Rattle.std.proofs.Common.{rules}
-use Rattle.yasna_examples.proofs.by_tuple.MeasurementFromShape.from_shape.Goals as goal
-
-pub returns : goal.returns
-returns c = search rules

@@ -1,5 +1,0 @@
-use Rattle.std.proofs.Common.{rules}
-use Rattle.yasna_examples.proofs.exact.reencoded.Goals as goal
-
-pub returns-clause-same : goal.returns-clause-same
-returns-clause-same g c = search rules

@@ -1,5 +1,0 @@
-use Rattle.std.proofs.Common.{rules}
-use Rattle.yasna_examples.proofs.known.fn.parsed_pair.fn.parse_der.read_sequence.Goals as goal
-
-pub returns : goal.returns
-returns c = search rules

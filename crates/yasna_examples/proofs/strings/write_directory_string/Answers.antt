@@ -1,5 +1,0 @@
-use Rattle.std.proofs.Common.{rules}
-use Rattle.yasna_examples.proofs.strings.write_directory_string.Goals as goal
-
-pub write_printable_string-requires : goal.write_printable_string-requires
-write_printable_string-requires c = search rules

@@ -1,5 +1,0 @@
-use Rattle.std.proofs.Common.{rules}
-use Rattle.yasna_examples.proofs.third_party.encoded_report.Goals as goal
-
-pub returns : goal.returns
-returns c = search rules

@@ -1,5 +1,0 @@
-pub mod Blocks
-pub mod Marks
-pub mod Taking
-pub mod Told
-pub mod Cut

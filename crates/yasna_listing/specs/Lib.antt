@@ -1,5 +1,0 @@
-pub mod Listing
-pub mod WellFormed
-pub mod Stops
-pub mod Faults
-pub mod Reading

@@ -1,0 +1,67 @@
+//! Types that a module defines: a struct or enum of Rust whose values represent those of a notation.
+ghost use Rattle.std.specs.Prelude.{◌≡◌, true, refl};
+ghost use Rattle.yasna_writer.specs.View.{Writes};
+ghost use Rattle.yasna_notation.specs.Laws.{represented_lawful};
+ghost use Rattle.yasna_notation.specs.Notation.{represented_by};
+
+use crate::messages::Message;
+use crate::notation::Notation;
+use yasna_base::{ASN1Result, Tag};
+use yasna_reader::BERReader;
+use yasna_writer::DERWriter;
+
+/// A type that a module defines: its values represent those of a notation.
+pub trait DefinedType: Sized + Drop {
+    /// What the module writes after `::=`.
+    type Notation: Notation;
+
+    // What represents a value.
+    ghost value_of: { Self → Self.Notation.Value };
+
+    /// Makes a value of what represents it.
+    fn from_value(value: <Self::Notation as Notation>::Value) -> Self
+        ensures { value_of result ≡ value };
+
+    /// Writes what represents the value.
+    fn write_value(&self, writer: DERWriter<'_>) -> ASN1Result<()>
+        requires { Self.Notation.means.can (value_of self.now) }
+        ensures { Writes (Self.Notation.means.encoding_under writer.old.tag writer.old.mode (value_of self.now)) writer.old writer.new result };
+
+    // Tags make unambiguous what has to be: `refl` proves it where they do.
+    ghost unambiguous: { Self.Notation.unambiguous ≡ true };
+}
+
+impl<T: DefinedType> Notation for T {
+    type Value = T;
+
+    type Inner = (
+        <T::Notation as Notation>::Value,
+        <T::Notation as Notation>::Inner,
+    );
+
+    ghost means = { represented_by T.value_of T.Notation.means };
+
+    #[inline(always)]
+    fn has_tag(tag: Tag) -> bool {
+        T::Notation::has_tag(tag)
+    }
+
+    #[inline(always)]
+    fn read(reader: BERReader) -> ASN1Result<T> {
+        let value = T::Notation::read(reader)?;
+        Ok(T::from_value(value))
+    }
+
+    #[inline(always)]
+    fn write(value: &T, writer: DERWriter<'_>) -> ASN1Result<()> {
+        value.write_value(writer)
+    }
+
+    ghost lawful = { λ _. represented_lawful T.value_of (T.Notation.lawful T.unambiguous) };
+
+    ghost non_empty = { λ u m v. T.Notation.non_empty u m (T.value_of v) };
+}
+
+impl<T: DefinedType> Message for T {
+    ghost is_unambiguous = { refl };
+}

@@ -1,5 +1,0 @@
-use Rattle.std.proofs.Common.{rules}
-use Rattle.yasna_reader.proofs.times.asks_canonical.Goals as goal
-
-pub returns-in-Cer : goal.returns-in-Cer
-returns-in-Cer c = search rules

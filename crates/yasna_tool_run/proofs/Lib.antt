@@ -1,0 +1,4 @@
+pub mod Writes
+pub mod Recoded
+pub mod Errors
+pub mod Statuses

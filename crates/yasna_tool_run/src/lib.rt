@@ -1,0 +1,14 @@
+//! What the program `yasna_tool` does between its ends: it decodes a value of a kind, and writes its DER encoding.
+//!
+//! | Module | Holds |
+//! |---|---|
+//! | `ends` | where bytes come from and go to, with a count of failures |
+//! | `engine` | read to the end, decode, encode, write |
+//! | `value_type` | the kinds of values that the program knows |
+//! | `tool` | the arguments, the texts of errors and the exit statuses |
+#![tactic(auto)]
+
+pub mod ends;
+pub mod engine;
+pub mod tool;
+pub mod value_type;

@@ -1,0 +1,61 @@
+//! Which family returns a call.
+
+use crate::line::Case;
+use crate::text::Text;
+use crate::{
+    many, mode, oid, reading, rejecting_closures, rejection, sticky_errors, tag, times, whole,
+    writing,
+};
+use std::alloc::{AllocError, Global};
+use yasna::BERMode;
+
+/// The text of a result; none where there is no such call, or no such argument of it.
+pub type Outcome = Option<Text>;
+
+/// What the call of a case returns, as text.
+pub fn outcome(alloc: Global, case: &Case) -> Option<Result<String, AllocError>> {
+    let text = match case.mode {
+        None => outcome_alone(alloc, case)?,
+        Some(mode) if case.takes_bytes() => match case.bytes(alloc)? {
+            Ok(bytes) => outcome_on(alloc, mode, case, &bytes)?,
+            Err(_) => Text::when_out_of_memory(alloc),
+        },
+        Some(mode) if case.call.contains(':') => rejecting_closures::outcome(alloc, mode, case)?,
+        Some(mode) => many::outcome(alloc, mode, case)?,
+    };
+    Some(text.finish())
+}
+
+/// The same; `unknown` where there is no such call.
+pub fn outcome_or_unknown(alloc: Global, case: &Case) -> Result<String, AllocError> {
+    match outcome(alloc, case) {
+        Some(came) => came,
+        None => String::from_str(alloc, "unknown"),
+    }
+}
+
+// What it returns on these bytes.
+fn outcome_on(alloc: Global, mode: BERMode, case: &Case, bytes: &[u8]) -> Outcome {
+    match case.call {
+        "mode" => Some(mode::outcome_alone(alloc, mode, bytes)),
+        "seq_mode" => Some(mode::outcome_within(alloc, mode, bytes)),
+        "general" => Some(mode::outcome_number(alloc, mode, bytes)),
+        call if call.starts_with("d:") || call.starts_with("tup") => {
+            whole::outcome(alloc, mode, call, bytes)
+        }
+        call if call.contains(':') => sticky_errors::outcome(alloc, mode, call, bytes),
+        _ => reading::outcome(alloc, mode, case, bytes),
+    }
+}
+
+// What it returns where no bytes are read.
+fn outcome_alone(alloc: Global, case: &Case) -> Outcome {
+    match case.call.split_once(':') {
+        Some(("w" | "tw" | "ws" | "tws", _)) => writing::outcome(alloc, case),
+        Some(("p", _)) => times::outcome(alloc, case),
+        Some(("o", _)) => oid::outcome(alloc, case),
+        Some(_) => rejecting_closures::outcome(alloc, BERMode::Der, case),
+        None if case.call == "text" || case.call == "own" => rejection::outcome(alloc, case),
+        None => tag::outcome(alloc, case),
+    }
+}

@@ -1,6 +1,0 @@
-use Rattle.std.proofs.Common.{arith}
-use Rattle.yasna_writer.proofs.Drafts.{entries_more}
-use Rattle.yasna_writer.proofs.draft.Draft.add_subidentifiers.Goals as goal
-
-pub invariant_of-self : goal.invariant_of-self
-invariant_of-self c = entries_more _ _ _ _ _ _ c.self.invariant (omega (arith, c.push_subidentifiers.ensures.grows))

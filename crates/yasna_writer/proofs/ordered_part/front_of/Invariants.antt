@@ -1,9 +1,0 @@
-use Rattle.std.proofs.Common.{◌-◌, ◌≡◌, ◌≤◌}
-use Rattle.yasna_writer.specs.Front.{front_number}
-use Rattle.yasna_writer.proofs.ordered_part.front_of.Given as goal
-
-abbrev pub invariant-loop-place : goal.invariant-loop-place
-invariant-loop-place l = (l.front ≡ front_number l.place l.fn.bytes) × (l.place ≤ 8)
-
-abbrev pub decreases-loop-place : goal.decreases-loop-place
-decreases-loop-place l = 8 - l.place
