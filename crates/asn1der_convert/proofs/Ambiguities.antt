@@ -34,7 +34,7 @@ meets_both : (a b c : Option ℕ) (P Q R : Type 0) → (P → Q → R) → (R �
 meets_both a b c P Q R f g x y =
     (λ e. let q = y.0 e in let p = x.0 q.0 in (p.0, f p.1 q.1), λ h. let r = g h.1 in y.1 (x.1 (h.0, r.0), r.1))
 
--- the same of a property that says as much
+-- `Meets` of a property that says as much
 meets_as : (a b : Option ℕ) (P Q : Type 0) → (P → Q) → (Q → P) → Meets a b P → Meets a b Q
 meets_as a b P Q f g x = (λ e. let p = x.0 e in (p.0, f p.1), λ h. x.1 (h.0, g h.1))
 
@@ -136,7 +136,7 @@ around_meets k m t s d r end ps old mid new is opens x inside segments order v b
 abbrev pub Inside : ℕ → List DerElement → List ℕ → Ambiguities → Ambiguities → BERMode → List ℕ → ContentsEnd → Type 0
 Inside k ps r old mid m d end = TakesPartsTo k m d end ps r × MeetsTo k m d end r old mid
 
--- the same, where the contents are read at a place of their own
+-- as `constructed_part` of Parts, with the ambiguities, where the contents are read at their own place
 pub constructed_meets : (n k : ℕ) (m m' : BERMode) (t : Tag) (s d d' r : List ℕ) (end end' : ContentsEnd) (ps qs : List DerElement) (old mid new : Ambiguities) → m' ≡ m →
     1 ≤ n → k ≡ n - 1 → d' ≡ d → end' ≡ end → qs ≡ ps → IsOtherTag t → OpensAt m t Constructed s d end → TakesPartsTo k m' d' end' ps r →
     MeetsTo k m' d' end' r old mid → Meets mid.segments new.segments (t.tag_class ≡ Universal) →

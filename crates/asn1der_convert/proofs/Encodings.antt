@@ -48,7 +48,7 @@ module _ {A : Type 0} (R : BERMode → A → List ℕ → Type 0) (E : A → A �
   abbrev pub HasCanonical : A → Type 0
   HasCanonical v = length (f v) < 2 ^ 64 → CanonicalOne v
 
-  -- the same of the encodings of several
+  -- `HasCanonical` of each of several
   pub record CanonicalEach (vs : List A) : Type 0 where
     pub trees : List A
     pub read : (o : BERMode) → HoldsEncoding Der o → Each (R o) trees (map f vs)
@@ -80,7 +80,7 @@ module _ {A : Type 0} (R : BERMode → A → List ℕ → Type 0) (E : A → A �
   all_canonical g (v ∷ vs) [] p = absurd p
   all_canonical g (v ∷ vs) (b ∷ bs) p = (g v b p.0, all_canonical g vs bs p.1)
 
-  -- the same of an element around such
+  -- `HasCanonical` of an element around such elements
   pub record CanonicalBranch (n : ℕ) (v : Branch A) : Type 0 where
     pub tree : Branch A
     pub read : (o : BERMode) → HoldsEncoding Der o → HasBranch (R o) mark n o tree (branch_encoding f v)
@@ -210,7 +210,7 @@ module _ {A : Type 0} (R : BERMode → A → List ℕ → Type 0) (E : A → A �
   branch_canonical g n level (constructed t vs) b x short =
       constructed_canonical n t vs b x (all_canonical g vs x.1.inner.elements.pieces x.1.inner.elements.each) short
 
--- the same of trees
+-- a tree with a canonical encoding
 abbrev pub Canonical : (n : ℕ) → Tree n → Type 0
 Canonical n v = CanonicalOne (HasTree n) (SameTree n) (der_encoding n) (tree_tag n) v
 

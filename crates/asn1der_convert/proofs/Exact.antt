@@ -121,7 +121,7 @@ module _ {A : Type 0} (R : A → List ℕ → Type 0) (mark : A → Tag) (n : �
         each_equal vs ws
         (each_same (λ v w b x y. (exact v w b b [] [] x y refl).0) vs ws q.pieces (subst (λ bs. Each R vs bs) same p.each) q.each)
 
-    -- the same of the elements around them
+    -- elements around equal contents have equal tags and trees
     record SameAround (t u : Tag) (vs ws : List A) (b c : List ℕ) : Type 0 where
       tags : t ≡ u
       trees : vs ≡ ws

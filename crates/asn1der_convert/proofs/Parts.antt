@@ -203,7 +203,7 @@ contents_empty bytes c count u enough unused n e =
     let same : 8 * length bytes - count ≡ u = omega arith in
     e ∙ sym (rw same (ap (λ zs. u ∷ zs) (ap (padded u) empty)))
 
--- the same as `constructed_part`, where the contents are read at a place of their own
+-- as `constructed_part`, where the contents are read at their own place
 pub constructed_taken : (n k : ℕ) (m m' : BERMode) (t : Tag) (s d d' r : List ℕ) (end end' : ContentsEnd) (ps : List DerElement) (p : DerElement) → m ≡ Ber → m' ≡ m →
     1 ≤ n → k ≡ n - 1 → d' ≡ d → end' ≡ end → IsOtherTag t → OpensAt m t Constructed s d end → TakesPartsTo k m' d' end' ps r → IsPartAround t ps p →
     TakesPart n m s p r

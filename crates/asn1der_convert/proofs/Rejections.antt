@@ -182,7 +182,7 @@ no_empty_conversion s n d x = go x.trees x.read.pieces x.read.each x.some (sym (
         let y = tree_starts 101 Ber v b q.0 in
         omega (arith, begins_some y.tag b y.begins, j, length-append b (concat bs))
 
--- the same, where the contents are read at a place of their own
+-- no constructed element is there, where its contents are read at their own place
 pub no_constructed_at : (n k : ℕ) (m m' : BERMode) (t : Tag) (s d d' : List ℕ) (end end' : ContentsEnd) → m' ≡ m → 1 ≤ n → k ≡ n - 1 → d' ≡ d → end' ≡ end →
     IsOtherTag t → OpensAt m t Constructed s d end → NoTreesTo k m' d' end' → NoTreeAt n m s
 no_constructed_at n k m m' t s d d' end end' f level less g h is opens none =

@@ -28,7 +28,7 @@ IsSureBranch G S (primitive t c) = Unit {0}
 IsSureBranch G S (set_of vs) = AllByRecursion S vs
 IsSureBranch G S (constructed t vs) = G t × AllByRecursion S vs
 
--- the same of trees
+-- as `IsSureBranch`, of all elements of a tree
 unfoldable pub IsSure : (Tag → Type 0) → (n : ℕ) → Tree n → Type 0
 unfolding Tree
 IsSure G zero v = ⊥

@@ -79,7 +79,7 @@ abbrev pub PartAt : ℕ → BERMode → List ℕ → Result (DerElement × Bor (
 PartAt n m s (Ok x) = TakesPart n m s x.0 x.1.now
 PartAt n m s (Err e) = (e ≡ Memory → ⊥) → NoTreeAt n m s
 
--- the same of elements up to the end of contents
+-- elements in DER up to the end of contents and what follows it, or why there are none
 abbrev pub PartsAt : ℕ → BERMode → List ℕ → ContentsEnd → Result (Vec DerElement Global × Bor (List ℕ)) ConvertError → Type 0
 PartsAt n m s end (Ok x) = TakesPartsTo n m s end x.0.items x.1.now
 PartsAt n m s end (Err e) = (e ≡ Memory → ⊥) → NoTreesTo n m s end

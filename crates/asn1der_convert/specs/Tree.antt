@@ -107,7 +107,7 @@ SameBranch E (set_of vs) (set_of ws) = SameSetOf E vs ws
 SameBranch E (constructed t vs) (constructed u ws) = (t ≡ u) × Each E vs ws
 SameBranch E v w = ⊥
 
--- the same of trees
+-- trees that say the same, element by element, as `SameBranch`
 unfoldable pub SameTree : (n : ℕ) → Tree n → Tree n → Type 0
 unfolding Tree
 SameTree zero v w = ⊥

@@ -68,7 +68,7 @@ fn list(rt: &HostRuntime, options: &Options<'_>, input: &[u8]) -> u8 {
     }
 }
 
-// The same, once it is read.
+// Lists the input that the options name, and returns the status.
 fn run(rt: &HostRuntime, options: &Options<'_>) -> u8 {
     match read(rt, options.file) {
         Ok(input) => list(rt, options, input.as_slice()),

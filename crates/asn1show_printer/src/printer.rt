@@ -104,7 +104,7 @@ impl<'n> Report<'n> {
         }
     }
 
-    // The same, and its tag.
+    // Prints an element's place, lengths and tag.
     fn print_head(&mut self, item: &Item<'_>) {
         self.print_place(item);
         self.line.write_str(if item.in_string { ">" } else { " " });

@@ -72,7 +72,7 @@ unfoldable pub ListsCount : (One : ℕ → List ℕ → List Line → Type 0) �
 ListsCount One zero o s ls = (s ≡ []) × (ls ≡ [])
 ListsCount One (suc k) o s ls = Continues (ListsCount One k) One o s ls
 
--- the same of any count
+-- lines list pieces of s, however many, as `ListsCount`
 abbrev pub ListsEach : (One : ℕ → List ℕ → List Line → Type 0) → ℕ → List ℕ → List Line → Type 0
 ListsEach One o s ls = (k : ℕ) × ListsCount One k o s ls
 

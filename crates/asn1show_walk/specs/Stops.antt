@@ -58,7 +58,7 @@ unfoldable pub StopsOne : ℕ → BERMode → ASN1ErrorKind → List ℕ → ℕ
 StopsOne zero m k s at = StopsElement (λ counted c further. ⊥) m zero k s at
 StopsOne (suc n) m k s at = StopsElement (StopsAfter (IsWellFormed n m) (StopsOne n m k)) m (suc n) k s at
 
--- the same of elements one after the other in contents
+-- as `StopsOne`, of elements one after the other in contents
 abbrev pub StopsIn : ℕ → BERMode → ASN1ErrorKind → Bool → List ℕ → ℕ → Type 0
 StopsIn n m k counted s at = StopsAfter (IsWellFormed n m) (StopsOne n m k) counted s at
 

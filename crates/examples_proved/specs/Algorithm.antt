@@ -12,7 +12,7 @@ use Rattle.yasna.specs.Words.{Grammar, Members}
 abbrev pub EncodesAny : Grammar TaggedDerValue
 EncodesAny m n v b = IsRaw n m (raw_of v) b
 
--- the same of bytes alone
+-- the bytes are an element of some type
 abbrev pub AnyElement : Members
 AnyElement = Any (λ m n v b. IsRaw n m v b)
 

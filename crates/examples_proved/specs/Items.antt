@@ -22,6 +22,6 @@ AnyItem = AnyEither (Any (EncodesSigned w64)) (Any EncodesNull)
 abbrev pub EncodesItems : Grammar (List (Option ℤ))
 EncodesItems m n vs b = IsListOf EncodesItem sequence_tag m n vs b
 
--- the same of bytes alone
+-- the bytes encode some list of items
 abbrev pub AnyItems : Members
 AnyItems = AnyListOf AnyItem sequence_tag

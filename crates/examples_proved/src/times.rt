@@ -6,21 +6,21 @@ ghost use Rattle.examples_proved.specs.Times.{to_the_second, with_second_59, wit
 use std::alloc::{AllocError, Global};
 use yasna::models::{GeneralizedTime, Offset, UTCTime};
 
-/// The same time, made of its own date-time.
+/// A UTCTime made of another's date-time: it is equal to that.
 pub fn remade_utc_time(time: &UTCTime) -> UTCTime
     ensures { utc_of result ≡ utc_of time.now }
 {
     UTCTime::from_datetime(*time.datetime(), Offset::UTC)
 }
 
-/// The same moment as a GeneralizedTime.
+/// A UTCTime's moment as a GeneralizedTime.
 pub fn as_generalized_time(alloc: Global, time: &UTCTime) -> GeneralizedTime
     ensures { moment_of result ≡ to_the_second (utc_of time.now) }
 {
     GeneralizedTime::from_datetime(alloc, *time.datetime(), Offset::UTC)
 }
 
-/// The same moment with the same fraction of a second, at second 59 where it is at second 60.
+/// A GeneralizedTime's moment and fraction, at second 59 if it is at second 60.
 ///
 /// For clocks that know no second 60.
 pub fn without_leap_second(

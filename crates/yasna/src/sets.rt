@@ -11,7 +11,7 @@ pub fn set_of_is_read<T: BERDecodable>()
     ensures { SetOfKeepsReadingLaws T.same T.encodes T.elements }
 {}
 
-/// The same of a SET OF such SETs OF, each under any tag but that of the end of contents.
+/// As `set_of_is_read`, of a SET OF such SETs OF, each under any tag but that of the end of contents.
 ///
 /// Deeper ones satisfy the laws by the lemma `set_of_reading`, of the law of their elements; `laws::sets_of_other_types` of `yasna_base`
 /// says so of elements without traits.

@@ -93,7 +93,7 @@ pair_encoding : enclosed_encoding (part_encoding (integer_encoding integer_tag) 
 unfolding canonical_element definite_element identifier shortest_length minimal_bytes digits
 pair_encoding = refl
 
--- the same in an element of indefinite length, which BER reads
+-- 10 and true in an element of indefinite length, which BER reads
 pair_indefinite : EncodesTwoParts Ber 101 (pos 10, (Bool.true, tt)) (48 ∷ 128 ∷ 2 ∷ 1 ∷ 10 ∷ 1 ∷ 1 ∷ 255 ∷ 0 ∷ 0 ∷ [])
 unfolding canonical_element definite_element identifier shortest_length minimal_bytes digits
 pair_indefinite = record {

@@ -99,7 +99,7 @@ module _ {U : Type 0} (parts : U → List U) where
     meaning = subst (λ us. Pieces (IsNested parts n m) us p.contents) (sym e) p.meaning;
   }
 
--- the same of bytes alone
+-- bytes of some values within one are a list of such bytes
 pub any_nested_list : (m : BERMode) (n : ℕ) (b : List ℕ) → AnyNested n m b → AnyListOf (λ m n b. AnyNested n m b) sequence_tag m n b
 any_nested_list m zero b p = p
 any_nested_list m (suc n) b p = record { contents = p.contents; element = p.element; meaning = p.meaning }

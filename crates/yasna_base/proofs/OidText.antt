@@ -83,7 +83,7 @@ begins_more text rest part n (inl w) h e c =
     )
 begins_more text rest part n (inr b) h e c = b
 
--- the same of the last part
+-- as `begins_more`, of the last part
 pub begins_last : (text rest : List ℕ) (n : ℕ) → (rest ≡ text) ⊎ BeginsWithComponent text → position_or_len is_dot rest ≡ length rest →
     IsComponent rest n → BeginsWithComponent text
 begins_last text rest n (inl w) h c = subst BeginsWithComponent w (n, rest, [], one_part rest h, c)

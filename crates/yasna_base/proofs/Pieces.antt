@@ -68,7 +68,7 @@ module _ {A B : Type 0} {R : A → List ℕ → Type 0} {S : B → List ℕ → 
     | right_further w c r ds f h g ↦ absurd (i w c r h g)
   ]
 
-  -- the same of what they join to
+  -- as `each_once`, of the bytes that pieces join to
   pub pieces_once : (vs : List A) (ws : List B) (b c x y : List ℕ) (p : Pieces R vs b) (q : Pieces S ws c) → NoPrefix S x → NoPrefix R y → b ++ x ≡ c ++ y →
       (p.pieces ≡ q.pieces) × (x ≡ y)
   pieces_once vs ws b c x y p q i j e =
@@ -81,7 +81,7 @@ module _ {A B : Type 0} {R : A → List ℕ → Type 0} {S : B → List ℕ → 
       let same = (pieces_once vs ws b c x y p q (no_prefix_at_end right x i) (no_prefix_at_end left y j) e).0 in
       p.joined ∙ ap concat same ∙ sym q.joined
 
--- the same pieces represent values that are equal one by one
+-- values of equal pieces are equal one by one
 pub each_same : {A B X : Type 0} {R : A → X → Type 0} {S : B → X → Type 0} {E : A → B → Type 0} →
     ((v : A) (w : B) (b : X) → R v b → S w b → E v w) → (vs : List A) (ws : List B) (bs : List X) → Each R vs bs → Each S ws bs → Each E vs ws
 each_same f [] [] [] p q = tt

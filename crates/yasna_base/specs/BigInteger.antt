@@ -31,7 +31,7 @@ abbrev pub signed_number : Bool → List ℕ → ℤ
 signed_number true b = pos (number_from_digits 256 b)
 signed_number false b = pos (number_from_digits 256 b) -ℤ pos (256 ^ length b)
 
--- the same, but 0 where there are no bytes
+-- as `signed_number`, but 0 where there are no bytes
 abbrev pub signed_or_zero : Bool → List ℕ → ℤ
 signed_or_zero positive [] = pos 0
 signed_or_zero positive (x ∷ xs) = signed_number positive (x ∷ xs)

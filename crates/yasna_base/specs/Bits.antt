@@ -120,7 +120,7 @@ pub record AreCanonicalBits (v : BitString) : Type 0 where
   pub can : CanBits v
   pub zeros : IsPadded Der (unused_bits v) v.bytes
 
--- the same bits, with zeros after them
+-- a bit string with its unused bits cleared
 abbrev pub cleared : BitString → BitString
 cleared v = record { bytes = padded (unused_bits v) v.bytes; count = v.count }
 

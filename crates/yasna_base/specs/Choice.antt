@@ -9,7 +9,7 @@ abbrev pub EitherOf : {A V : Type 0} → Grammar A → Grammar V → Grammar (A 
 EitherOf B C m n (inl v) b = B m n v b
 EitherOf B C m n (inr w) b = C m n w b
 
--- the same of bytes alone
+-- b encodes some value of either type
 abbrev pub AnyEither : Members → Members → Members
 AnyEither S Q m n b = S m n b ⊎ Q m n b
 

@@ -33,12 +33,12 @@ pub record IsCoding {A : Type 0} (E : A → A → Type 0) (B : Grammar A) (S : M
   -- of two encodings neither begins the other
   pub prefix_free : IsPrefixFree S
 
--- the same of the parts of a tuple, which may be empty
+-- the laws of reading of the parts of a tuple, which may be empty
 pub record ArePartsCoding {A : Type 0} (E : A → A → Type 0) (C : Grammar A) (S : Members) : Type 0 where
   pub meaning : IsMeaning E C S
   pub prefix_free : IsPrefixFree S
 
--- the same of contents, which end where nothing is left or the end of contents is there
+-- the laws of reading of contents, which end where nothing is left or the end of contents is there
 pub record IsContentsCoding {A : Type 0} (E : A → A → Type 0) (C : Grammar A) (S : Members) : Type 0 where
   pub meaning : IsMeaning E C S
   pub ends : (m : BERMode) (n k : ℕ) (b c r s : List ℕ) → AtEnd r → AtEnd s → S m n b → S m k c → b ++ r ≡ c ++ s → b ≡ c

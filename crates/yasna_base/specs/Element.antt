@@ -59,7 +59,7 @@ pub record IsPrimitive {A : Type 0} (W : A → List ℕ → Type 0) (n : ℕ) (m
   pub element : Element m t Primitive contents b
   pub meaning : W v contents
 
--- the same, where the meaning depends on the mode
+-- as `IsPrimitive`, where the meaning depends on the mode
 abbrev pub Primitively : {A : Type 0} → (BERMode → A → List ℕ → Type 0) → TaggedGrammar A
 Primitively W n m t v b = IsPrimitive (W m) n m t v b
 
@@ -74,6 +74,6 @@ abbrev pub Enclosed : {A : Type 0} → Grammar A → Tag → Grammar A
 Enclosed C t m zero v b = ⊥
 Enclosed C t m (suc n) v b = Around m t (C m n) v b
 
--- the same of bytes alone
+-- an element around contents of some value
 abbrev pub AnyEnclosed : Members → Tag → Members
 AnyEnclosed S t m n b = Enclosed {A = Unit {0}} (λ m n u c. S m n c) t m n tt b

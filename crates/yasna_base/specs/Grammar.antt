@@ -11,7 +11,7 @@ Grammar A = BERMode → ℕ → A → List ℕ → Type 0
 abbrev pub Members : Type 1
 Members = BERMode → ℕ → List ℕ → Type 0
 
--- the same where the tag is given, as under an IMPLICIT tag (X.690, 8.14.3)
+-- a grammar to which the tag is given, as under an IMPLICIT tag (X.690, 8.14.3)
 abbrev pub TaggedGrammar : Type 0 → Type 1
 TaggedGrammar A = ℕ → BERMode → Tag → A → List ℕ → Type 0
 

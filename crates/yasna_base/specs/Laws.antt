@@ -35,6 +35,6 @@ KeepsLaws B encoding depth Can =
     AnyTag (λ t. IsCoding (λ v w. v ≡ w) (λ m n v b. B n m t v b) (Any (λ m n v b. B n m t v b))
     × IsWritten (λ v w. v ≡ w) (λ m n v b. B n m t v b) (encoding t) depth Can)
 
--- the same of a type of primitive elements alone, whose contents say v by W
+-- `KeepsLaws` of a type of primitive elements only, whose contents encode v by W
 abbrev pub PrimitiveKeepsLaws : {A : Type 0} → (BERMode → A → List ℕ → Type 0) → (Tag → Encoding A) → (A → Type 0) → Type 0
 PrimitiveKeepsLaws W encoding Can = KeepsLaws (Primitively W) encoding leaf_depth Can

@@ -10,7 +10,7 @@ abbrev pub IsNested : {U : Type 0} → (U → List U) → ℕ → BERMode → U 
 IsNested parts zero m v b = ⊥
 IsNested parts (suc n) m v b = Around m sequence_tag (λ vs c. Pieces (IsNested parts n m) vs c) (parts v) b
 
--- the same of bytes alone
+-- within n levels, b is a SEQUENCE of the values within some value
 abbrev pub AnyNested : ℕ → BERMode → List ℕ → Type 0
 AnyNested zero m b = ⊥
 AnyNested (suc n) m b = Around {A = Unit {0}} m sequence_tag (λ u c. (us : List (Unit {0})) × Pieces (λ w. AnyNested n m) us c) tt b

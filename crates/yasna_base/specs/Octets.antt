@@ -39,7 +39,7 @@ IsDeepOctets n m t s = IsDeepSegmented octets_segmentation n m t s
 abbrev pub EncodesOctets : Grammar (List ℕ)
 EncodesOctets m n v b = IsOctets n m octets_tag v b
 
--- the same of the octets in a vector
+-- as `EncodesOctets`, of the octets in a vector
 abbrev pub EncodesVec : Grammar (Vec ℕ Global)
 EncodesVec m n v b = EncodesOctets m n v.items b
 

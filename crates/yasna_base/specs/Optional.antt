@@ -7,7 +7,7 @@ abbrev pub OptionOf : {A : Type 0} → Grammar A → Grammar (Option A)
 OptionOf B m n (Some v) b = B m n v b
 OptionOf B m n None b = b ≡ []
 
--- the same of bytes alone
+-- the part encodes some value, or it is omitted
 abbrev pub AnyOption : Members → Members
 AnyOption S m n b = S m n b ⊎ (b ≡ [])
 

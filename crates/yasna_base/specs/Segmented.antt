@@ -53,7 +53,7 @@ pub data Segmented {A : Type 0} (k : Segmentation A) (R : A → List ℕ → Typ
   in_segments : MaySegment m → (c : List ℕ) (vs : List A) → Element m t Constructed c b → Pieces R vs c → k.join (segment_mode m) vs v →
       FallsInto m k.full (map k.bytes vs) → Segmented k R m t v b
 
--- the same within n levels, where each segment is such a string in turn
+-- within n levels b is a string with the tag t that encodes v, whose segments are such strings in turn
 unfoldable pub IsSegmented : {A : Type 0} → Segmentation A → TaggedGrammar A
 IsSegmented k zero m t v b = ⊥
 IsSegmented k (suc n) m t v b = Segmented k (IsSegmented k n (segment_mode m) k.segment) m t v b

@@ -24,7 +24,7 @@ PartOf B C m n v c = Then (B m n v.0) (C m n v.1) c
 abbrev pub NoParts : Grammar (Unit {0})
 NoParts m n v c = c ≡ []
 
--- the same of bytes alone
+-- a part of some value, and contents after it
 abbrev pub AnyPart : Members → Members → Members
 AnyPart S Q m n c = Then (S m n) (Q m n) c
 

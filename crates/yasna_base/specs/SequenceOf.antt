@@ -9,7 +9,7 @@ use Rattle.yasna_base.specs.Pieces.{Pieces}
 abbrev pub ElementsOf : {A : Type 0} → Grammar A → Grammar (List A)
 ElementsOf B m n vs c = Pieces (B m n) vs c
 
--- the same of bytes alone
+-- contents that encode some values, one after the other
 abbrev pub AnyElements : Members → Members
 AnyElements S m n c = (us : List (Unit {0})) × Pieces (λ u. S m n) us c
 
@@ -17,7 +17,7 @@ AnyElements S m n c = (us : List (Unit {0})) × Pieces (λ u. S m n) us c
 abbrev pub IsListOf : {A : Type 0} → Grammar A → Tag → Grammar (List A)
 IsListOf B t = Enclosed (ElementsOf B) t
 
--- the same of bytes alone
+-- an element around contents that encode some values
 abbrev pub AnyListOf : Members → Tag → Members
 AnyListOf S t = AnyEnclosed (AnyElements S) t
 

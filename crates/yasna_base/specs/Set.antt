@@ -28,7 +28,7 @@ pub record SetOfElements {A : Type 0} (B : Grammar A) (m : BERMode) (n : ℕ) (v
   pub elements : ElementsOf B m n vs c
   pub order : AreInSetOfOrder m elements.pieces
 
--- the same of bytes alone
+-- contents that encode some values, in the order that the mode asks
 abbrev pub AnySetOfElements : Members → Members
 AnySetOfElements S m n c = (us : List (Unit {0})) × SetOfElements {A = Unit {0}} (λ m n u b. S m n b) m n us c
 
@@ -36,7 +36,7 @@ AnySetOfElements S m n c = (us : List (Unit {0})) × SetOfElements {A = Unit {0}
 abbrev pub IsSetOf : {A : Type 0} → Grammar A → Tag → Grammar (List A)
 IsSetOf B t = Enclosed (SetOfElements B) t
 
--- the same of bytes alone
+-- an element around contents that encode some values in that order
 abbrev pub AnySetOf : Members → Tag → Members
 AnySetOf S t = AnyEnclosed (AnySetOfElements S) t
 

@@ -17,7 +17,7 @@ SetKeepsReadingLaws = AnyTag (λ t. IsCoding (λ v w. v ≡ w) (IsSet t) (AnyEnc
 abbrev pub SetOfOrderIsOne : Type 0
 SetOfOrderIsOne = (ps qs : List (List ℕ)) → IsPermutation ps qs → in_order octets_cmp ps ≡ in_order octets_cmp qs
 
--- the same of a SET, where parts of one tag are one
+-- parts in another order are put in the same order of a SET, where parts of one tag are equal
 abbrev pub SetOrderIsOne : Type 0
 SetOrderIsOne =
     (ps qs : List SetPart) → IsPermutation ps qs → ((p q : SetPart) → Contains ps p → Contains ps q → p.tag ≡ q.tag → p ≡ q) →

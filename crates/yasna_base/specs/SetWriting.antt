@@ -86,7 +86,7 @@ abbrev pub SetOfKeepsReadingOf : {A : Type 0} → TaggedGrammar A → Type 0
 SetOfKeepsReadingOf B =
     AnyTag (λ u. SetOfKeepsReadingLaws (λ v w. v ≡ w) (λ m n v b. B n m u v b) (Any (λ m n v b. B n m u v b)))
 
--- the same where its elements are a SET
+-- SET OF satisfies the laws of reading under any tag, where its elements are a SET
 abbrev pub SetOfSetKeepsReadingLaws : Type 0
 SetOfSetKeepsReadingLaws =
     AnyTag (λ u. SetOfKeepsReadingLaws (λ v w. v ≡ w) (IsSet u) (AnyEnclosed (Any SetElements) u))

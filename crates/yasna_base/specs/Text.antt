@@ -87,7 +87,7 @@ pub record IsBmp (m : BERMode) (text v : List ℕ) : Type 0 where
   pub even : length v % 2 ≡ 0
   pub spelled : text ≡ utf16_lossy_chars (units v)
 
--- the same where each surrogate has its partner
+-- the octets v are units of UTF-16 that spell the text, and each surrogate has its partner
 pub record IsPairedBmp (m : BERMode) (text v : List ℕ) : Type 0 where
   pub even : length v % 2 ≡ 0
   pub spelled : map Some text ≡ utf16_chars (units v)
@@ -130,7 +130,7 @@ characters s = chars (string_bytes s)
 abbrev pub EncodesText : Grammar (List ℕ)
 EncodesText m n v b = IsStringOf (IsUtf8In InUtf8) n m utf8_tag v b
 
--- the same of the characters of a string
+-- as `EncodesText`, of the characters of a string
 abbrev pub EncodesString : Grammar (String Global)
 EncodesString m n v b = EncodesText m n (characters v) b
 

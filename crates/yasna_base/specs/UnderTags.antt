@@ -16,7 +16,7 @@ abbrev pub KeepsLawsUnderTags : {A : Type 0} → (A → A → Type 0) → (Tag �
 KeepsLawsUnderTags E B S encoding depth Can =
     AnyTag (λ t. IsCoding E (B t) (S t) × IsWritten E (B t) (encoding t) depth Can)
 
--- the same of a type of which a canonical mode alone has one encoding
+-- as `KeepsLawsUnderTags`, of a type of which only a canonical mode has one encoding
 abbrev pub IsExactUnderTags : {A : Type 0} → (A → A → Type 0) → (Tag → Grammar A) → (Tag → Members) → (Tag → Encoding A) → Fitting A → (A → Type 0) →
     Type 0
 IsExactUnderTags E B S encoding Fits Can =

@@ -81,7 +81,7 @@ impl From<AllocError> for ASN1Error {
     }
 }
 
-/// The same where the value comes back that had no room.
+/// `OutOfMemory`, where an allocation also returns the value that it had no room for.
 impl<T: Drop> From<AllocFailed<T>> for ASN1Error {
     ghost use Rattle.yasna_base.specs.Error.{error_of};
     ghost use Rattle.yasna_base.specs.declared.error.ASN1ErrorKind.TheVariants.{OutOfMemory};

@@ -29,7 +29,7 @@ fn five_explicit(parts: &mut BERReaderSeq, tag: u64) -> ASN1Result<u64>
     Ok(mixed(checksum, explicit(parts, tag + 4)?))
 }
 
-/// The same under implicit tags.
+/// As `yasna_ten_explicit`, under implicit tags.
 #[unsafe(no_mangle)]
 pub extern "C" fn yasna_ten_implicit(alloc: Global, bytes: &[u8]) -> u64 {
     number_of(parse_der(alloc, bytes, |reader| {
@@ -72,7 +72,7 @@ fn explicit_looped(parts: &mut BERReaderSeq) -> ASN1Result<u64> {
     Ok(checksum)
 }
 
-/// The same under implicit tags.
+/// As `yasna_ten_explicit_looped`, under implicit tags.
 #[unsafe(no_mangle)]
 pub extern "C" fn yasna_ten_implicit_looped(alloc: Global, bytes: &[u8]) -> u64 {
     number_of(parse_der(alloc, bytes, |reader| reader.read_sequence(implicit_looped)))

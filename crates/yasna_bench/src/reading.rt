@@ -160,7 +160,7 @@ fn nested(reader: BERReader, depth: usize) -> ASN1Result<i64> {
     }
 }
 
-// The same in the contents of a sequence.
+// The number in `depth` sequences, in the contents of another.
 fn nested_within(seq: &mut BERReaderSeq, depth: usize) -> ASN1Result<i64> {
     match depth.checked_sub(1) {
         None => seq.next().read_i64(),

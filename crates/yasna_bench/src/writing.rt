@@ -90,7 +90,7 @@ fn nested(writer: DERWriter<'_>, contents: &[u8], depth: usize) -> ASN1Result<()
     }
 }
 
-// The same in the contents of a sequence.
+// Writes `depth` sequences around a number, in the contents of another.
 fn nested_within(seq: &mut DERWriterSeq, contents: &[u8], depth: usize) -> ASN1Result<()> {
     match depth.checked_sub(1) {
         None => seq.next().write_bigint_bytes(contents, true),

@@ -27,7 +27,7 @@ abbrev pub AnyDeep : BERMode → List ContentsEnd → ℕ → List ℕ → Type 
 AnyDeep m [] n s = ⊥
 AnyDeep m (e ∷ es) n s = MeetsDeep n m s ⊎ ((r : List ℕ) × ClosesBefore n m e s r × AnyDeep m es (suc n) r)
 
--- the same is found from either place
+-- a walk finds the same from either place
 pub record Same (m : BERMode) (es : List ContentsEnd) (n : ℕ) (s : List ℕ) (fs : List ContentsEnd) (k : ℕ) (r : List ℕ) : Type 0 where
   pub closes : (a : List ℕ) → AllClose m es n s a ↔ AllClose m fs k r a
   pub deep : AnyDeep m es n s ↔ AnyDeep m fs k r

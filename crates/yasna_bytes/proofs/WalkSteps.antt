@@ -143,7 +143,7 @@ module _ (m : BERMode) (n : ℕ) (s r : List ℕ) (x : Passes m (suc n) s r) whe
   pub passed_deep : MeetsDeep (suc n) m s ↔ MeetsDeep (suc n) m r
   passed_deep = passed (λ d. passed_not_deep (deep_into n m s d))
 
--- the same of one that is
+-- what is said after elements from a place on, where an element is descended into
 module _ (m : BERMode) (n : ℕ) (s c : List ℕ) (f : ContentsEnd) (x : Enters m (suc n) s c f) where
   enter : {P : List ℕ → Type 0} → After P m n x.bit s c f → P s ⊎ ((r : List ℕ) × ClosesBefore n m f c r × JoiningBefore (IsRaw (suc n) m) P r)
   enter (at_once d) = inl d

@@ -29,7 +29,7 @@ pub record HoldsContents (m : BERMode) (bit_read : PCBit) (y : List ℕ) (o : Op
   pub in_bytes : IsBytes o.contents
   pub holds : Holds m bit_read y o.contents o.end
 
--- the same, or none do
+-- a length and contents after an identifier with this bit, or why there are none
 abbrev pub ContentsAt : BERMode → PCBit → List ℕ → Result Opened ASN1ErrorKind → Type 0
 ContentsAt m bit y (Ok o) = HoldsContents m bit y o
 ContentsAt m bit y (Err k) = BlamesBytes k × ((c : List ℕ) (f : ContentsEnd) → Holds m bit y c f → ⊥)
@@ -72,7 +72,7 @@ abbrev pub OpenedAt : BERMode → ℕ → Tag → List ℕ → Result Opened Rej
 OpenedAt m n t s (Ok o) = (1 ≤ n) × OpensAt m t o.bit s o.contents o.end
 OpenedAt m n t s (Err e) = RejectsHeader AnyBit m n t s e
 
--- the same of a constructed element
+-- as `OpenedAt`, of a constructed element
 abbrev pub ConstructedAt : BERMode → ℕ → Tag → List ℕ → Result Opened Rejection → Type 0
 ConstructedAt m n t s (Ok o) = (1 ≤ n) × OpensAt m t Constructed s o.contents o.end
 ConstructedAt m n t s (Err e) = RejectsHeader OnlyConstructed m n t s e

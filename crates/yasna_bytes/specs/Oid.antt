@@ -25,7 +25,7 @@ pub record AppendedFirstTwo (number : ℕ) (old new : List ℕ) : Type 0 where
   pub made : 40 * first + second ≡ number
   pub appended : new ≡ old ++ (first ∷ second ∷ [])
 
--- the same, or out of memory
+-- as `AppendedFirstTwo`, or out of memory
 abbrev pub AppendsFirst : ℕ → List ℕ → List ℕ → Result (Unit {0}) ASN1ErrorKind → Type 0
 AppendsFirst number old new (Ok _) = AppendedFirstTwo number old new
 AppendsFirst number old new (Err k) = k ≡ OutOfMemory

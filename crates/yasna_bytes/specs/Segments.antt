@@ -112,7 +112,7 @@ pub record ReadsUpTo {A T : Type 0} (k : Segmentation A) (value : List ℕ → T
   pub join : k.join m x.values (value x.bytes x.known)
   pub cut : AreCut k x.values x.cuts
 
--- The same, and none follows. only: no others make up c. not_deep: none lies too deep
+-- Segments of a string, after which none follows. only: no others make up c. not_deep: none lies too deep
 pub record TakesSegments {A T : Type 0} (k : Segmentation A) (value : List ℕ → T → A) (n : ℕ) (m : BERMode) (c : List ℕ) (x : SegmentsRead A T)
     (y : List ℕ) : Type 0 where
   pub read : ReadsUpTo k value n m c x y
@@ -157,7 +157,7 @@ abbrev pub StringAt : {A T : Type 0} → Segmentation A → (List ℕ → T → 
 StringAt k value n m t s out (Ok x) out' = TakesString k value n m t s out x.0 x.1.now out'
 StringAt k value n m t s out (Err e) out' = RejectsString k n m t s e × (e.consumed ≡ false → out' ≡ out)
 
--- the same, where the bytes make up a vector of their own
+-- as `StringAt`, where the bytes are put in a new vector
 abbrev pub WithVecAt : {A T : Type 0} → Segmentation A → (List ℕ → T → A) → ℕ → BERMode → Tag → List ℕ →
     Result ((Vec ℕ Global × T) × Bor (List ℕ)) Rejection → Type 0
 WithVecAt k value n m t s r = SeenAt (IsSegmented k n m t) (λ v. value v.0.items v.1) (IsDeepSegmented k n m t s) (MayAllocate n t s) t s r

@@ -146,7 +146,7 @@ module _ {A U : Type 0} (tags_known : Bool) (ts : List Tag) (retagged may_alloca
         (ap (λ z. Err z) same, x.1);
   }
 
--- the same of contents
+-- what reads contents of one value reads those of another, where these encode it too
 module _ {A U : Type 0} (may_allocate : Bool) (C : Grammar A) (D : Grammar U) (S : Members) (s : Reading) (s' : Reading) where
   pub contents_so : (k : Option ASN1Error) (v : A) (w : U) → ((c : List ℕ) → C s.mode s.levels v c → D s.mode s.levels w c) →
       DecodesContents may_allocate C S s (unless_failed k (Ok v)) s' → DecodesContents may_allocate D S s (unless_failed k (Ok w)) s'

@@ -43,7 +43,7 @@ pub record IsNotation {A : Type 0} (tags_known : Bool) (ts : List Tag) (E : A �
   pub begins : tags_known ≡ true → BeginsBy ts S
   pub exact : IsExact E B encoding Fits Can
 
--- the same under any tag but that of the end of contents: B u is the grammar where the tag u is in place of the type's own
+-- `IsNotation` under any tag but that of the end of contents: B u is the grammar where the tag u is in place of the type's own
 abbrev pub IsNotationUnderTags : {A : Type 0} → (A → A → Type 0) → (Option Tag → Grammar A) → (Option Tag → Members) → (Option Tag → Encoding A) → Fitting A →
     (A → Type 0) → Type 0
 IsNotationUnderTags E B S encoding Fits Can = AnyTag (λ t. IsNotation true (t ∷ []) E (B (Some t)) (S (Some t)) (encoding (Some t)) Fits Can)
@@ -96,7 +96,7 @@ pub record DecodesAs {A : Type 0} (tags_known : Bool) (ts : List Tag) (may_alloc
   pub decodes : Decodes may_allocate B S s r s'
   pub no_match : tags_known ≡ true → NoMatchElsewhere ts s r s'
 
--- the same, where an implicit tag may wait
+-- what reading a value does, where an implicit tag may wait
 pub record ReadsAs {A : Type 0} (tags_known : Bool) (ts : List Tag) (retagged may_allocate : Bool) (B : Option Tag → Grammar A) (S : Option Tag → Members)
     (s : Reading) (r : Result A ASN1Error) (s' : Reading) :
     Type 0 where

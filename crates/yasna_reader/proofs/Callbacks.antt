@@ -69,7 +69,7 @@ pub buffered : {A : Type 0} (b left l : List ℕ) (v : A) (x : Bor (List ℕ)) (
 buffered b left l v x o g t f e =
     subst (λ p. Buffered b p (Ok (v, x)) l) (sym g) (refl, taken_prefix b left l t.0 t.1 f ∙ ap (λ z. z ++ l) (sym e))
 
--- the same of a reading that begins there
+-- as `taken_after`, of a reading that begins at these bytes
 pub taken_from : {A : Type 0} (c : List ℕ) (mode : BERMode) (n : ℕ) (x : Result A ASN1Error) (m : Reading) (o : Outcome A) (s' : Reading) →
     ComesTo (record { left = c; mode = mode; levels = n; tag = None; failed = None }) x m o s' → (taken : List ℕ) × (c ≡ taken ++ s'.left)
 taken_from c mode n x m o s' h = taken_after (record { left = c; mode = mode; levels = n; tag = None; failed = None }) x m o s' h

@@ -43,7 +43,7 @@ pub some_default : {A : Type 0} {E : A → A → Type 0} {B : Grammar A} {S : Me
 some_default is x m n b (v, inl p) = inl (x.meaning.among m n v b p.0)
 some_default is x m n b (v, inr p) = inr p.0
 
--- the same of contents after it too
+-- as `some_default`, with contents after the part
 pub less : {A : Type 0} {E : A → A → Type 0} {B : Grammar A} {S : Members} (Q : Members) (is : A → Bool) → IsCoding E B S →
     (m : BERMode) (n : ℕ) (b : List ℕ) → AnyPart (Any (DefaultOf is B)) Q m n b → AnyPart (AnyOption S) Q m n b
 less Q is x m n b p = record { prefix = p.prefix; rest = p.rest; joined = p.joined; here = some_default is x m n p.prefix p.here; more = p.more }

@@ -175,7 +175,7 @@ all_one n m l k c y z h i =
 pub lists_are_one : ListsAreOne
 lists_are_one = λ n m l k c y z h i. all_one n m l k c y z h.all i.all
 
--- the same elements have the same tags
+-- equal elements have equal tags
 tags_of_same : (l k : List SetElement) → Each IsSameElement l k → map (λ (x : SetElement). x.tag) l ≡ map (λ (x : SetElement). x.tag) k
 tags_of_same [] [] h = refl
 tags_of_same [] (y ∷ k) h = absurd h

@@ -159,7 +159,7 @@ pub ascend_end : (l : List SetElement) (i : ℕ) → length l ≤ i → IsSorted
     IsSortedByKey (λ (x : SetElement). x.tag) tag_cmp l
 ascend_end l i e h k d a b = h k d a (omega (arith, b, e))
 
--- the same of elements that were read from the list
+-- as `ascend_more`, of elements that were read from the list
 pub ascend_more_at : (l : List SetElement) (i : ℕ) (d e : SetElement) → 1 ≤ i → i < length l →
     IsSortedWithin (λ (x y : SetElement). is_lt (tag_cmp x.tag y.tag)) l 0 i →
     is_lt (tag_cmp (slice_index_or l i d).tag (slice_index_or l (i - 1) e).tag) ≡ false →

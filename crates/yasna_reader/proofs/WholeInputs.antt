@@ -63,7 +63,7 @@ pub exactly : {A : Type 0} {E : A → A → Type 0} {B : Grammar A} {S : Members
 exactly may_allocate laws m s (Ok w) h v k = laws.meaning.exact m 101 101 w v s h k
 exactly may_allocate laws m s (Err e) h v k = elim (memory_or (kind_of e)) [ inl f ↦ f | inr f ↦ absurd (h.none f (laws.meaning.among m 101 v s k)) ]
 
--- the same, where what is read represents a value
+-- bytes that encode a value are read as what represents an equal one, unless out of memory
 pub exactly_as : {U A : Type 0} {E : A → A → Type 0} {B : Grammar A} {S : Members} (may_allocate : Bool) (f : U → A) →
     IsCoding E B S → (m : BERMode) (s : List ℕ) (r : Result U ASN1Error) → Decoded {A = U} may_allocate (λ m n u b. B m n (f u) b) S m s r → (v : A) → B m 101 v s →
     MatchResult r (λ u. E (f u) v) (λ e. kind_of e ≡ OutOfMemory)

@@ -44,7 +44,7 @@ abbrev pub Decodes : {A : Type 0} → Bool → Grammar A → Members → Does A
 Decodes may_allocate B S s (Ok v) s' = ParsedValue (B s.mode s.levels) s v s'
 Decodes may_allocate B S s (Err e) s' = NotParsed may_allocate (S s.mode s.levels) s e s' × NoMatchAtEnd s e s'
 
--- the same of the parts of a tuple, which may be empty
+-- what reading the parts of a tuple does, which may be empty
 abbrev pub DecodesParts : {A : Type 0} → Bool → Grammar A → Members → Does A
 DecodesParts may_allocate C S s (Ok v) s' = ParsedValue (C s.mode s.levels) s v s'
 DecodesParts may_allocate C S s (Err e) s' = NotParsed may_allocate (S s.mode s.levels) s e s'

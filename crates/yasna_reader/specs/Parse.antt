@@ -39,7 +39,7 @@ EndsParse from None (Ok v) (x ∷ s) r = IsErrAnd r (λ f. from (error_of Extra)
 abbrev pub IsParsed : {A E : Type 0} → (ASN1Error → E → Type 0) → Result A E → Reading → Result A E → Type 0
 IsParsed from own s r = EndsParse from s.failed own s.left r
 
--- the same of a parse whose callback returns errors of its own
+-- as `Parses`, where the callback returns its own type of errors
 pub record TryParses {A E : Type 0} (P : Reading → Result A E → Reading → Type 0) (from : ASN1Error → E → Type 0) (m : BERMode) (s : List ℕ)
     (r : Result A E) : Type 0 where
   pub own : Result A E

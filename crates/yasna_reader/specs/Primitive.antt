@@ -49,7 +49,7 @@ pub record ReadsSeen {V A : Type 0} (B : TaggedGrammar A) (view : V → A) (D : 
   pub reads : ReadsUnlessFailed s.failed (B s.levels s.mode (tag_of s tag)) view (D s.levels s.mode (tag_of s tag) s.left) (M s.levels (tag_of s tag) s.left)
       (tag_of s tag) s r s'
 
--- the same of values that are seen as they are
+-- `ReadsSeen` of values that are seen as they are
 abbrev pub Reads : {A : Type 0} → TaggedGrammar A → TaggedMembers → (ℕ → Tag → List ℕ → Type 0) → Tag → Does A
 Reads B D M tag s r s' = ReadsSeen B (λ v. v) D M tag s r s'
 

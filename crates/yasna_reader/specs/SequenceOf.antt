@@ -93,7 +93,7 @@ items_of (Err e) = Err e
 abbrev pub CollectsBy : {G A : Type 0} → (G → Reading → Outcome A → G → Reading → Type 0) → G → Does (Vec A Global)
 CollectsBy T g s r s' = Lists T g s (items_of r) s' ⊎ OutOfMemoryAtLast T g s (items_of r) s'
 
--- the same answer where nothing is gathered
+-- the result where nothing is gathered
 abbrev pub without_items : {A : Type 0} → Result (List A) ASN1Error → Result (Unit {0}) ASN1Error
 without_items (Ok vs) = Ok tt
 without_items (Err e) = Err e

@@ -65,7 +65,7 @@ DefaultsChosen eq d (Ok (Some v)) z r z' = UnlessDefault eq d v true z r z'
 DefaultsChosen eq d (Ok None) z r z' = (r ≡ Ok d) × (z' ≡ z)
 DefaultsChosen eq d (Err e) z r z' = (r ≡ Err e) × (z' ≡ z)
 
--- the same read, with the default d for none
+-- a read of an element that has one of the tags and may be omitted, with the default d for none
 pub record ReadsChosenDefault {A : Type 0} (P : Does A) (eq : A → A → Bool) (d : A) (ts : List Tag)
     (c : SetReading) (r : Result A ASN1Error) (c' : SetReading) : Type 0 where
   pub own : Result (Option A) ASN1Error

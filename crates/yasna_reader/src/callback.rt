@@ -32,7 +32,7 @@ fn blames_bytes(kind: ASN1ErrorKind) -> bool
     }
 }
 
-// The same tag, field by field: a copy of the whole holds what is between its fields too, and is read back from memory.
+// A tag copied field by field: a copy of the whole has its padding too, and is read back from memory.
 #[inline(always)]
 fn by_fields(tag: Option<Tag>) -> Option<Tag>
     ensures { result ≡ tag }
@@ -189,7 +189,7 @@ impl<'a> ReaderState<'a> {
         self.cursor.left = &before.left[all.saturating_sub(remaining)..];
     }
 
-    // The same where it keeps a failure: the place at which that was found stays.
+    // As `go_on`, of a reading with a sticky error, which stays at the place where that was found.
     #[inline(always)]
     fn go_on_failed(&mut self, before: Cursor<'a>)
         ensures { self.new ≡ record (advanced_as (at_cursor before.entry) self.old) { failed = self.old.failed } }

@@ -118,7 +118,7 @@ fn take<'a>(list: &mut VecDeque<SetElement<'a>>, place: usize) -> SetElement<'a>
     take_after(list, place)
 }
 
-// The same of one that isn't in front: those on its shorter side move.
+// Takes an element that isn't the first: those on its shorter side move.
 #[inline(never)]
 fn take_after<'a>(list: &mut VecDeque<SetElement<'a>>, place: usize) -> SetElement<'a>
     requires { place < deque_len list.old }

@@ -37,6 +37,6 @@ TimesAreMoments =
 abbrev pub EncodesUtc : Grammar UTCTime
 EncodesUtc m n v b = EncodesUtcTime m n (utc_of v) b
 
--- the same of a GeneralizedTime
+-- the grammar of GeneralizedTime under its own tag
 abbrev pub EncodesGeneral : Grammar GeneralizedTime
 EncodesGeneral m n v b = EncodesGeneralizedTime m n (moment_of v) b

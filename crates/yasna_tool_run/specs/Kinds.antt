@@ -48,7 +48,7 @@ EncodesIntegers m n v b = IsListOf (EncodesSigned w64) sequence_tag m n v b
 abbrev pub integers_encoding : Encoding (List ℤ)
 integers_encoding m v = enclosed_encoding (elements_encoding (integer_encoding integer_tag)) sequence_tag m v
 
--- the same of each kind
+-- s encodes a value of the type in the mode m, and out is its DER encoding
 abbrev pub Recodes : ValueType → BERMode → List ℕ → List ℕ → Type 0
 Recodes kind.Pair m s out = Recoded EncodesPair pair_encoding m s out
 Recodes kind.Int m s out = Recoded (EncodesSigned w64) (integer_encoding integer_tag) m s out

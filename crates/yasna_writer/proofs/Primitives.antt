@@ -76,7 +76,7 @@ appended_last w new r P t first from k b c h f l s d m =
     (short_bytes w.mode t first k c h (omega arith) f l ∙ ap (canonical_element w.mode t Primitive) (sym d)))
     (λ e i. i)
 
--- the same where the last bytes are `k` of eight, one by one
+-- as `appended_last`, where the last bytes are `k` of eight, one by one
 pub appended_few :
     (w new : Written) (r : Result (Unit {0}) ASN1Error) (P : ASN1Error → Type 0) (t : Tag) (first count k : ℕ) (b : List ℕ) → length b ≡ 8 → k ≤ 8
     → count ≡ k → t.tag_number < 31 → first ≡ leading_byte t Primitive t.tag_number

@@ -49,7 +49,7 @@ put_both a b end old one new middle start p q within =
           ∙ ap (λ x. take start old ++ x) (sym (append_assoc a b (drop end old)));
     }
 
--- the same by what both are
+-- octets before others that were put, by what both are
 pub put_then :
     (a b c : List ℕ) (end : ℕ) (old one new : List ℕ) (middle start : ℕ) → PutBefore b end old one middle → PutBefore a middle one new start → end ≤ length old
     → a ++ b ≡ c → PutBefore c end old new start

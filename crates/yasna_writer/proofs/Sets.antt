@@ -22,7 +22,7 @@ pub part_begins : (m : BERMode) (b : Bool) (old : List (Vec ℕ Global)) (last :
 part_begins m b old last new w h e =
     subst (λ x. BeginsNext m b old last new x) (sym e) (record { begins = record { sticks = h.0; fresh = refl }; before = h.1 })
 
--- the same where an error is sticky
+-- a part that begins where an error is sticky
 pub part_fails : (m : BERMode) (b : Bool) (old : List (Vec ℕ Global)) (last : Written) (new : List (Vec ℕ Global)) (w : Written) (k : ASN1Error) →
     LosesParts last.failed k → new ≡ [] → w ≡ record (begun m) { failed = Some k } → BeginsNext m b old last new w
 part_fails m b old last new w k h n e =

@@ -38,7 +38,7 @@ last_part true b = b ∷ []
 abbrev pub set_part_of : TaggedPart → SetPart
 set_part_of p = record { tag = p.tag; bytes = p.bytes.items }
 
--- the same of each part
+-- `set_part_of` of each part
 abbrev pub parts_of : List TaggedPart → List SetPart
 parts_of ps = map set_part_of ps
 

@@ -48,7 +48,7 @@ pub record BeginsPart (mode : BERMode) (failed : Option ASN1Error) (w : Written)
   -- there is nothing in it, and it is in this mode
   pub fresh : w ≡ record { bytes = []; mode = mode; tag = None; failed = w.failed }
 
--- the same, after the parts before
+-- a part begins after the parts before
 pub record BeginsNext (mode : BERMode) (begun : Bool) (old : List (Vec ℕ Global)) (last : Written) (new : List (Vec ℕ Global)) (w : Written) : Type 0 where
   -- a part begins
   pub begins : BeginsPart mode last.failed w

@@ -303,7 +303,7 @@ impl Buffer {
         self.place_header(alloc, opened, Some(all - opened.start))
     }
 
-    // The same in CER: two zeros end the contents, whose length isn't counted (X.690, 9.1).
+    // As `enclose`, in CER: two zeros end the contents, whose length isn't counted (X.690, 9.1).
     #[inline(never)]
     fn enclose_in_cer(
         &mut self,
@@ -355,7 +355,7 @@ impl Buffer {
         Ok(())
     }
 
-    // The same where the element has no entry, or others that are open are after it: all is joined, so that the
+    // As `place_header`, where the element has no slot, or other open elements follow it: all is joined, so that the
     // element's start is a place in the contents.
     #[cold]
     fn place_header_apart(
@@ -434,7 +434,7 @@ fn push_header_with_room(out: &mut Vec<u8>, header: Header, bit: PCBit) -> Resul
     reserve_and_push_header(out, header, bit)
 }
 
-// The same where the contents are long: room is made for all of it first.
+// As `push_header_with_room`, where the contents are long: room is made for the whole element first.
 #[inline(never)]
 fn reserve_and_push_header(out: &mut Vec<u8>, header: Header, bit: PCBit) -> Result<(), AllocError>
     ensures items { OnOk result (out.new.items ≡ out.old.items ++ header_bytes bit header) }

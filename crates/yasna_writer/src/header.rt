@@ -78,7 +78,7 @@ pub(crate) fn push_indefinite_header(out: &mut Vec<u8>, tag: Tag) -> Result<(), 
     push_any_indefinite_header(out, tag)
 }
 
-// The same with any identifier.
+// As `push_indefinite_header`, with any identifier.
 #[tactic(auto, using(crate::proofs::Headers::indefinite_header_at_most, crate::proofs::Puts::put_last))]
 #[inline(never)]
 fn push_any_indefinite_header(out: &mut Vec<u8>, tag: Tag) -> Result<(), AllocError>
@@ -127,7 +127,7 @@ pub(crate) fn put_parts_header(out: &mut [u8], end: usize, header: PartsHeader) 
     }
 }
 
-// The same of one whose length is counted.
+// Writes the header of an element with parts before a place, where its length is counted, and returns where it begins.
 #[tactic(auto, using(yasna_base::proofs::Identifier::identifier_short, yasna_base::proofs::Length::short_length))]
 #[inline(always)]
 pub(crate) fn put_header(out: &mut [u8], end: usize, header: Header) -> usize

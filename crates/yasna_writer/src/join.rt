@@ -34,7 +34,7 @@ pub(crate) fn join(
     Ok(())
 }
 
-// The same where there is room for all headers after the contents, which are so long.
+// As `join`, where there is room for all headers after the contents, which are `length` long.
 fn place_headers(bytes: &mut [u8], slots: &mut Slots, large: &[PartsHeader], length: usize)
     requires ordered { AreInOrder 0 slots.old length }
     requires room { count bytes.old ≡ length + headers_length large.now slots.old }
@@ -81,7 +81,7 @@ fn put_slot(out: &mut [u8], end: usize, state: SlotState, large: &[PartsHeader])
     }
 }
 
-// The same of a mark of any kind.
+// As `put_slot`, of a slot in any state.
 #[inline(never)]
 fn put_any_slot(out: &mut [u8], end: usize, state: SlotState, large: &[PartsHeader]) -> usize
     requires room { count (header_of_state large.now state) ≤ end }
@@ -160,7 +160,7 @@ fn move_up(bytes: &mut [u8], start: usize, end: usize, to: usize) -> usize
     place
 }
 
-// The same where they are many.
+// As `move_up`, of many bytes.
 #[inline(never)]
 fn move_many_up(bytes: &mut [u8], start: usize, end: usize, to: usize) -> usize
     requires piece { start ≤ end }

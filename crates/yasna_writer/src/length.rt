@@ -27,7 +27,7 @@ pub(crate) fn put_length(out: &mut [u8], end: usize, length: usize) -> usize
     put_long_length(out, end, length)
 }
 
-// The same of one that takes four bytes or more.
+// As `put_length`, of a length that takes four bytes or more.
 #[tactic(auto, using(crate::proofs::BigEndian::length_trimmed, crate::proofs::BigEndian::trimmed_at_most))]
 #[inline(never)]
 fn put_long_length(out: &mut [u8], end: usize, length: usize) -> usize

@@ -65,7 +65,7 @@ impl Writer {
         self.write_long_octets(own, octets)
     }
 
-    // The same of many octets.
+    // As `write_octets`, of octets that may be cut into segments.
     #[inline(never)]
     fn write_long_octets(&mut self, own: Tag, octets: &[u8]) -> ASN1Result<()>
         ensures { Wrote (octets_encoding (tag_or self.old.tag own) self.old.mode octets.now) self.old self.new result }
@@ -98,7 +98,7 @@ impl Writer {
         self.write_cut_bits(unused_bits(len), bytes)
     }
 
-    // The same by the count of unused bits.
+    // As `write_bit_segments`, by the count of unused bits.
     #[tactic(auto, unfolding(yasna_base::specs::Canonical::indefinite_element))]
     fn write_cut_bits(&mut self, unused: u8, bytes: &[u8]) -> ASN1Result<()>
         requires few { unused < 8 }

@@ -267,7 +267,7 @@ impl Writer {
         }
     }
 
-    // The same of a SET.
+    // Writes a SET around the parts, or fails with a sticky error.
     fn end_set_by_tag(&mut self, tag: Tag, set: DERWriterSet)
         requires { self.old ≡ handed self.old }
         ensures { EndsSet SetContents (canonical_element self.old.mode tag Constructed) set self.old self.new }
@@ -278,7 +278,7 @@ impl Writer {
         }
     }
 
-    // The same of either.
+    // Writes a SET or a SET OF around the parts, or fails with a sticky error.
     fn end_set(&mut self, tag: Tag, order: PartOrder, set: DERWriterSet)
         requires { self.old ≡ handed self.old }
         ensures { EndsSet (contents_in order) (canonical_element self.old.mode tag Constructed) set self.old self.new }

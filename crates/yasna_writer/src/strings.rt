@@ -56,7 +56,7 @@ impl Writer {
         self.write_text(TAG_UTF8STRING, string)
     }
 
-    /// The same as `write_utf8_string`, under the name that the reader's call has.
+    /// As `write_utf8_string`, under the name that the reader's call has.
     #[inline(always)]
     pub fn write_utf8string(&mut self, string: &str) -> ASN1Result<()>
         ensures { Wrote (utf8_encoding (tag_or self.old.tag utf8_tag) self.old.mode (chars string.now)) self.old self.new result }

@@ -41,7 +41,7 @@ impl<'a> Item<'a> {
     }
 }
 
-/// The same, and where its contents end.
+/// An element, and where its contents end.
 #[derive(Clone, Copy)]
 pub struct OpenedItem<'a> {
     /// The element.

@@ -69,7 +69,7 @@ impl Context {
         }
     }
 
-    /// The same a level further in.
+    /// The context one level further in.
     pub(super) fn below(self) -> Context
         requires { 1 ≤ self.levels }
         ensures mode { result.mode ≡ self.mode }
@@ -83,7 +83,7 @@ impl Context {
         }
     }
 
-    /// The same for the contents of a string.
+    /// The context in the contents of a string, one level further in.
     pub(super) fn for_string(self) -> Context
         requires { 1 ≤ self.levels }
         ensures mode { result.mode ≡ self.mode }

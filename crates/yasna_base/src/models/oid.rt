@@ -73,7 +73,7 @@ impl ObjectIdentifier {
         Ok(ObjectIdentifier { components: copy })
     }
 
-    /// The same identifier in memory of its own. No components take none.
+    /// A copy of the identifier. Without components it doesn't allocate.
     pub fn clone(&self) -> Result<ObjectIdentifier, AllocError>
         ensures copy { IfOk result (λ oid. oid ≡ self.now) }
         ensures memory { IfErr result (λ _. 0 < length self.now) }

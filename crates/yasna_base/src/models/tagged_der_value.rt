@@ -104,7 +104,7 @@ impl TaggedDerValue {
         }
     }
 
-    /// The same element in memory of its own. No bytes take none.
+    /// A copy of the element. Without bytes it doesn't allocate.
     pub fn clone(&self) -> Result<TaggedDerValue, AllocError>
         ensures copy { IfOk result (λ copy. raw_of copy ≡ raw_of self.now) }
         ensures memory { IfErr result (λ _. 0 < length (raw_of self.now).payload) }

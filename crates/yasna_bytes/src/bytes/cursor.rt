@@ -90,7 +90,7 @@ impl<'a> Cursor<'a> {
         }
     }
 
-    /// The same place, by these rules.
+    /// The cursor at this place, in another mode.
     #[inline(always)]
     pub fn with_mode(self, mode: BERMode) -> Cursor<'a>
         ensures left { result.left.now ≡ self.entry.left.now }

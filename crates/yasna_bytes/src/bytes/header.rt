@@ -176,7 +176,7 @@ fn contents(s: &[u8], mode: BERMode, bit: PCBit, end: usize) -> Result<Opened<'_
     }
 }
 
-/// The same, of a constructed element.
+/// As `open`, but rejects a primitive element.
 #[inline(always)]
 pub fn open_constructed(cursor: Cursor<'_>, tag: Tag) -> Result<Opened<'_>, Rejection>
     ensures { ConstructedAt cursor.entry.mode cursor.entry.levels tag cursor.entry.left.now result }

@@ -39,7 +39,7 @@ pub trait Judge: Sized + Copy {
     ) -> Result<Self::Value, ASN1ErrorKind>
         ensures { Judges (encodes self mode) view octets.now result };
 
-    /// The same of octets that were joined from segments, in memory that the value may keep.
+    /// As `judge`, of octets that were joined from segments, in memory that the value may keep.
     #[inline(always)]
     fn judge_joined(
         self,
@@ -73,7 +73,7 @@ pub fn string_of<'a, J: Judge>(
     }
 }
 
-// The same, with the octets joined in any case.
+// As `string_of`, but joins the octets in any case.
 #[inline(never)]
 fn joined_of<'a, J: Judge>(
     alloc: Global,
@@ -144,7 +144,7 @@ fn character_of(unit: u16, trailing: &[u8]) -> (char, &[u8])
     }
 }
 
-// The same of a surrogate: with its partner it is a character, and without one it is U+FFFD.
+// The character that a surrogate begins: with its partner, or U+FFFD without one; and the octets after it.
 #[inline(never)]
 fn character_of_surrogate(unit: u16, trailing: &[u8]) -> (char, &[u8])
     requires { (0xD800 ≤ unit) × (unit < 0xE000) }
@@ -177,7 +177,7 @@ fn text_of_units(alloc: Global, octets: &[u8]) -> Result<String, AllocError>
     Ok(text)
 }
 
-// The same, or that there is no memory for it. An empty text asks for none.
+// The text in UTF-16, as `text_of_units`, or `OutOfMemory`. An empty text doesn't allocate.
 #[inline(never)]
 fn utf16_text(alloc: Global, octets: &[u8]) -> Result<String, ASN1ErrorKind>
     ensures { MatchResult result (λ text. characters text ≡ utf16_lossy_chars (units octets.now)) (λ kind. (kind ≡ OutOfMemory) × (octets.now ≡ [] → ⊥)) }
@@ -208,7 +208,7 @@ fn utf8_text(alloc: Global, octets: &[u8]) -> Result<String, ASN1ErrorKind>
     }
 }
 
-// The same, in the octets' own memory.
+// The text in UTF-8, in the octets' own memory.
 #[inline(always)]
 fn joined_text(octets: Vec<u8>) -> Result<String, ASN1ErrorKind>
     ensures { Utf8At octets.items result }

@@ -232,7 +232,7 @@ fn walk_contents<'a>(cursor: Cursor<'a>, outermost: &Opened<'a>) -> Result<&'a [
     }
 }
 
-// The same, by a loop for each mode: that asks for none at each step.
+// As `walk_contents`, by a loop for each mode, which tests the mode once and not at each step.
 #[inline(never)]
 fn walk<'a>(cursor: Cursor<'a>, outermost: &Opened<'a>) -> Result<&'a [u8], ASN1ErrorKind>
     requires shallow { cursor.levels ≤ 100 }

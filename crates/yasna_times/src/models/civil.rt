@@ -23,7 +23,7 @@ pub(crate) fn in_utc(local: DateTime, offset: Offset) -> Option<DateTime>
     }
 }
 
-// The same, where its year is 0 or later.
+// The local date-time less the offset, where the calendar has it and its year is 0 or later.
 pub(crate) fn in_years(local: DateTime, offset: Offset) -> Option<DateTime>
     ensures { MatchOption result (¬ (HasGeneralizedTime local offset.seconds)) (λ utc. IsInYears utc × IsLess local offset.seconds utc) }
 {

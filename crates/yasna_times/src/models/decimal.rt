@@ -34,7 +34,7 @@ pub(crate) fn two(bytes: &[u8], at: usize) -> u8
     (bytes[at] - b'0') * 10 + (bytes[at + 1] - b'0')
 }
 
-// The same as a signed number.
+// The number that the two digits at `at` spell, in a signed type.
 pub(crate) fn signed_two(bytes: &[u8], at: usize) -> i8
     requires inside { at + 2 ≤ length bytes.now }
     requires digits { HasDigits bytes.now at (at + 2) }

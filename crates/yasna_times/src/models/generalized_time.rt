@@ -128,7 +128,7 @@ impl GeneralizedTime {
         GeneralizedTime::general(alloc, bytes, None)
     }
 
-    /// The same, where a text without a zone is at the offset.
+    /// As `parse`, where a text without a zone is at the offset.
     ///
     /// Second 60 goes with an offset of whole minutes alone.
     pub fn parse_with_offset(
@@ -142,7 +142,7 @@ impl GeneralizedTime {
         GeneralizedTime::general(alloc, bytes, Some(offset))
     }
 
-    // The same, where a text without a zone is at the given offset.
+    // Parses a text; one without a zone is at the given offset.
     fn general(
         alloc: Global,
         bytes: &[u8],
@@ -210,7 +210,7 @@ impl GeneralizedTime {
         )?.unwrap())
     }
 
-    /// The same, where the year in UTC is 0 to 9999 and each byte is an ASCII digit.
+    /// As `from_datetime_and_sub_nano`, or None unless the year in UTC is 0 to 9999 and each byte is an ASCII digit.
     pub fn from_datetime_and_sub_nano_opt(
         alloc: Global,
         local: DateTime,
@@ -247,7 +247,7 @@ impl GeneralizedTime {
         self.sub_nano.as_slice()
     }
 
-    /// The same time again. Without digits after the nanosecond it takes no memory.
+    /// A copy of the time. Without digits after the nanosecond it doesn't allocate.
     pub fn clone(&self) -> Result<GeneralizedTime, AllocError>
         ensures same { IfOk result (SameTime self.now) }
         ensures memory { IfErr result (λ _. 0 < length self.now.sub_nano.items) }
