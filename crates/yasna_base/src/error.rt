@@ -1,11 +1,11 @@
-//! Errors.
+//! The errors of reading and writing.
 ghost use Rattle.std.specs.Prelude.{◌≡◌};
 
 use std::alloc::{AllocError, AllocFailed};
 use std::error::Error;
 use std::fmt;
 
-/// What a reading or a writing returns.
+/// The result of reading or writing.
 pub type ASN1Result<T> = Result<T, ASN1Error>;
 
 /// Why bytes were rejected, or a value was not written.
@@ -25,7 +25,7 @@ pub enum ASN1ErrorKind {
     OutOfMemory,
 }
 
-/// An error.
+/// An error of reading or writing.
 #[derive(Clone, Copy, PartialEq, Eq, Debug)]
 pub struct ASN1Error {
     kind: ASN1ErrorKind,
@@ -34,14 +34,14 @@ pub struct ASN1Error {
 impl ASN1Error {
     ghost use Rattle.yasna_base.specs.Error.{kind_of, error_of};
 
-    /// The error of this kind.
+    /// Makes an error of this kind.
     pub fn new(kind: ASN1ErrorKind) -> ASN1Error
         ensures { result ≡ error_of kind }
     {
         ASN1Error { kind }
     }
 
-    /// Of what kind the error is.
+    /// The kind of this error.
     pub fn kind(&self) -> ASN1ErrorKind
         ensures { result ≡ kind_of self.now }
     {
@@ -69,7 +69,7 @@ impl fmt::Display for ASN1Error {
 
 impl Error for ASN1Error {}
 
-/// So `?` returns `OutOfMemory` where an allocation in a reading or a writing fails.
+/// Lets `?` turn a failed allocation into `OutOfMemory`.
 impl From<AllocError> for ASN1Error {
     ghost use Rattle.yasna_base.specs.Error.{error_of};
     ghost use Rattle.yasna_base.specs.declared.error.ASN1ErrorKind.TheVariants.{OutOfMemory};
@@ -81,7 +81,7 @@ impl From<AllocError> for ASN1Error {
     }
 }
 
-/// `OutOfMemory`, where an allocation also returns the value that it had no room for.
+/// Lets `?` turn a failed allocation that hands a value back into `OutOfMemory`.
 impl<T: Drop> From<AllocFailed<T>> for ASN1Error {
     ghost use Rattle.yasna_base.specs.Error.{error_of};
     ghost use Rattle.yasna_base.specs.declared.error.ASN1ErrorKind.TheVariants.{OutOfMemory};

@@ -1,7 +1,7 @@
 //! What is proved of the grammar itself, of which no program is part.
 //!
 //! These functions do nothing. Their contracts state the laws that every reader and every writer above relies on:
-//! bytes have one meaning, no encoding begins another, and each value has one encoding in DER and one in CER.
+//! bytes have one meaning, encodings are prefix-free, and each value has one encoding in DER and one in CER.
 ghost use Rattle.std.specs.Prelude.{◌≡◌, ◌<◌, ◌^◌, ℕ, List, length, true, MatchResult, IsTrue, ◌↔◌, FitsSigned};
 ghost use Rattle.std.specs.Int.{w64};
 ghost use Rattle.std.specs.List.{AllByRecursion};
@@ -89,8 +89,8 @@ pub fn universal_tags()
 {}
 
 /// Tags are ordered by class, then by number; classes and bits by the numbers that they have in an identifier; BER
-/// is before DER, and that before CER. Object identifiers are ordered by their first component that differs, and what begins another
-/// comes first.
+/// comes before DER, and DER before CER. Object identifiers are ordered by the first component that differs; a proper prefix comes
+/// first.
 pub fn orders()
     ensures tags { (t u : Tag) → ⟦<Tag as Ord>⟧.cmp t u ≡ ordering_then (nat_cmp (class_number t.tag_class) (class_number u.tag_class)) (nat_cmp t.tag_number u.tag_number) }
     ensures classes { (c d : TagClass) → ⟦<TagClass as Ord>⟧.cmp c d ≡ nat_cmp (class_number c) (class_number d) }
@@ -120,28 +120,28 @@ pub fn bit_discriminant(bit: PCBit) -> u8
     bit as u8
 }
 
-/// No identifier begins another, and an identifier determines the tag and whether the contents are constructed.
+/// Identifiers are prefix-free, and an identifier determines the tag and whether the contents are constructed.
 pub fn identifiers()
     ensures { IdentifiersAreUnambiguous }
 {}
 
-/// In each mode, no spelling of a length begins another, and a spelling determines the length.
+/// In each mode, the spellings of lengths are prefix-free, and a spelling determines the length.
 pub fn lengths()
     ensures { LengthsAreUnambiguous }
 {}
 
-/// In each mode, no primitive element begins another, and an element determines the tag and the contents.
+/// In each mode, primitive elements are prefix-free, and an element determines the tag and the contents.
 pub fn elements()
     ensures { PrimitiveElementsAreUnambiguous }
 {}
 
 /// The simple types satisfy the laws of reading and of writing, under any tag but that of the end of contents.
 ///
-/// Reading: bytes encode one value at most, no encoding begins another, and what is read within some levels is read
-/// within more. Writing: DER and CER read a value from its one encoding there alone, BER reads both encodings too, and what BER
+/// Reading: bytes encode at most one value, encodings are prefix-free, and what is read within some levels is read
+/// within more. Writing: DER and CER read a value only from its one encoding there, BER reads both encodings too, and what BER
 /// reads has them.
 ///
-/// INTEGER keeps them in the signed types of each width, in the unsigned types of each count of bits, and as bytes of
+/// INTEGER satisfies them in the signed types of each width, in the unsigned types of each count of bits, and as bytes of
 /// any count with a sign.
 pub fn simple_types()
     ensures boolean { BooleanKeepsLaws }
@@ -183,8 +183,8 @@ pub fn raw_elements()
 
 /// SET satisfies the laws of reading, under any tag but that of the end of contents.
 ///
-/// What a SET OF holds depends on its parts alone, and not on how they were; and so does what a SET holds, where parts
-/// that begin with one tag are one. The contents that the parts of a SET make are one then, however they were.
+/// The contents of a SET OF depend only on its parts, not on their order. So do those of a SET, where parts that begin with one
+/// tag are equal.
 pub fn sets()
     ensures set { SetKeepsReadingLaws }
     ensures set_of_order { SetOfOrderIsOne }
@@ -215,12 +215,12 @@ pub fn oid_is_read_again(
 /// Sets satisfy the laws of writing, under any tag but that of the end of contents, and SET OF those of reading too.
 ///
 /// A list of values is read from the encodings of its items where these ascend, in their mode and in BER, and DER and CER read
-/// nothing else; so is a list of raw elements of DER or CER whose tags don't fall. Parts that are such encodings make a set that is read as
-/// the same values in order, however the parts were. Written again, what DER or CER read makes the same bytes: a SET OF however
-/// its parts are there, and so a SET where each tag has one element. Where two elements of a SET have one tag, it does so for
-/// parts that are as they were read, if that tag's number is below 31.
+/// nothing else; so is a list of raw elements of DER or CER whose tags don't fall. Parts that are such encodings, in any order,
+/// make a set that is read as the same values in order. Written again, what DER or CER read makes the same bytes: a SET OF with its
+/// parts in any order, and a SET where each tag has one element. Where two elements of a SET have one tag, their parts have to be
+/// in the order in which they were read, and that tag's number below 31.
 ///
-/// SET OF keeps both for elements of any type that does: these clauses say so of three types, and `set_of_is_written` of
+/// SET OF satisfies both for elements of any type that does: these clauses say so of three types, and `set_of_is_written` of
 /// the crate `yasna` says so of each that has its traits.
 pub fn sets_written()
     ensures set_of_enumerated { SetOfKeepsLaws (Primitively (IsSigned w64)) integer_encoding leaf_depth (FitsSigned w64) }

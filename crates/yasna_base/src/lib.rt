@@ -1,16 +1,16 @@
 //! What ASN.1's basic encoding rules (X.690) mean: tags, modes and errors as Rust types,
-//! and in `specs/` the grammar that the contracts of every crate above speak of.
+//! and in `specs/` the grammar that the contracts of all crates above cite.
 //!
 //! | Module | Holds |
 //! |---|---|
 //! | `bytes` | numbers in base 128 and identifiers at the start of bytes, and how encodings compare |
-//! | `error` | why a reading or a writing was rejected |
+//! | `error` | errors of reading and writing |
 //! | `laws` | what is proved of the grammar itself |
-//! | `mode` | by which of the rules of X.690 bytes are read |
+//! | `mode` | the encoding rules: BER, DER and CER |
 //! | `models` | values of ASN.1 that Rust has no type for: object identifiers and raw elements |
 //! | `tag` | identifiers: class, number, and whether the contents are constructed |
 //! | `tags` | the universal tags, by name |
-//! | `text` | which characters the classes of text take |
+//! | `text` | the characters of each class of text |
 #![tactic(auto)]
 
 pub mod bytes;

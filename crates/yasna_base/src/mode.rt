@@ -1,6 +1,6 @@
-//! By which rules bytes are read.
+//! The encoding rules.
 
-/// The encoding rules of X.690 by which bytes are read.
+/// The encoding rules of X.690: BER, DER or CER.
 #[derive(Clone, Copy, PartialEq, Eq, PartialOrd, Ord, Hash, Debug)]
 pub enum BERMode {
     /// The basic encoding rules (X.690, clause 8).

@@ -1,4 +1,4 @@
-//! Values of ASN.1 that Rust has no type for. Times are in a crate of their own.
+//! Values of ASN.1 that Rust has no type for. Times are in `yasna_times`.
 //!
 //! | Module | Holds |
 //! |---|---|

@@ -16,13 +16,13 @@ pub enum TagClass {
     Universal = 0,
     /// Types of one application.
     Application,
-    /// Types distinguished by the place where they are.
+    /// Types distinguished by their place.
     ContextSpecific,
     /// Types of one enterprise.
     Private,
 }
 
-/// A tag: it says of what type an element is.
+/// A tag: the type of an element.
 ///
 /// Tags are ordered by class, then by number.
 #[derive(Clone, Copy, PartialEq, Eq, PartialOrd, Ord, Hash, Debug)]

@@ -1,6 +1,6 @@
-//! Which characters the classes of text take (X.680, 41).
+//! The characters of each class of text (X.680, 41).
 //!
-//! Their characters lie below 128, where UTF-8 has a byte for each, so a text is judged by its bytes.
+//! They are below 128, where UTF-8 has a byte for each, so a text is validated by its bytes.
 ghost use Rattle.std.specs.Prelude.{IsTrue, ◌↔◌};
 ghost use Rattle.std.specs.List.{AllByRecursion};
 ghost use Rattle.std.specs.Str.{chars};

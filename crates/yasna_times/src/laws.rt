@@ -22,7 +22,7 @@ pub fn texts_of_times()
     ensures general { GeneralTextsAreExact }
 {}
 
-/// Times of one moment are one, and print the same bytes.
+/// Times of one moment are equal, and print the same bytes.
 pub fn moments()
     ensures { TimesAreMoments }
 {}
@@ -34,8 +34,8 @@ pub fn times()
     ensures general { GeneralizedTimeKeepsLaws }
 {}
 
-/// UTCTimes are ordered as they come. GeneralizedTimes are ordered by their date-times, which show second 60 as 59, then by
-/// the digits after the nanosecond, then by whether the second is 60. Times are equal where they are one moment.
+/// UTCTimes are ordered by date-time. GeneralizedTimes are ordered by date-time, which shows second 60 as 59, then by the digits
+/// after the nanosecond, then by whether the second is 60. Times of one moment are equal.
 pub fn time_orders()
     ensures utc { (a b : UTCTime) → ⟦<UTCTime as Ord>⟧.cmp a b ≡ int_cmp (civil_nanos (utc_of a)) (civil_nanos (utc_of b)) }
     ensures utc_equality { (a b : UTCTime) → IsTrue (⟦<UTCTime as PartialEq>⟧.eq a b) ↔ (utc_of a ≡ utc_of b) }

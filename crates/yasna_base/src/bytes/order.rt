@@ -4,7 +4,7 @@ ghost use Rattle.yasna_base.specs.Order.{octets_cmp};
 
 use std::cmp::Ordering;
 
-/// Compares encodings by their first byte that differs; one that begins another goes before it.
+/// Compares encodings by the first byte that differs; a proper prefix is less.
 #[inline(always)]
 pub fn compare_octets(a: &[u8], b: &[u8]) -> Ordering
     ensures { result ≡ octets_cmp a.now b.now }

@@ -63,7 +63,7 @@ impl ObjectIdentifier {
         ObjectIdentifier { components }
     }
 
-    /// The identifier with a copy of these components. No components take no memory.
+    /// The identifier with a copy of these components. Without components it doesn't allocate.
     pub fn from_slice(alloc: Global, components: &[u64]) -> Result<ObjectIdentifier, AllocError>
         ensures copy { IfOk result (λ oid. oid ≡ components.now) }
         ensures memory { IfErr result (λ _. 0 < length components.now) }
@@ -88,7 +88,7 @@ impl ObjectIdentifier {
         &self.components
     }
 
-    /// The components, to be changed.
+    /// The components, mutable.
     pub fn components_mut(&mut self) -> &mut Vec<u64>
         ensures* lends { sem 𝓛 (LendsComponents self.entry result) }
         ensures value { result.now.items ≡ self.old }

@@ -24,7 +24,7 @@ impl ParseOidError {
         }
     }
 
-    /// Whether no memory was to be had. The text may be one of an object identifier then.
+    /// Whether memory ran out. Then the text may be that of an object identifier.
     pub fn is_out_of_memory(&self) -> bool
         ensures { result ≡ ran_out_of_memory self.now }
     {
@@ -75,14 +75,14 @@ fn cut(text: &str) -> Option<(&str, &str)>
     text.split_once('.')
 }
 
-// The number that a part of a text is.
+// The number that a part of a text spells.
 fn component(part: &str) -> Option<u64>
     ensures { MatchOption result ((n : ℕ) → IsComponent part.now n → ⊥) (λ n. IsComponent part.now n) }
 {
     part.parse::<u64>().ok()
 }
 
-// Appends the number that a part of a text is.
+// Appends the number that a part of a text spells.
 fn push_component(components: &mut Vec<u64>, part: &str) -> Result<(), ParseOidError>
     ensures exact { MatchResult result (λ _. (n : ℕ) × IsComponent part.now n × (components.new.items ≡ components.old.items ++ (n ∷ []))) (λ e. ran_out_of_memory e ≡ false → (n : ℕ) → IsComponent part.now n → ⊥) }
     ensures memory { IfErr result (λ e. ran_out_of_memory e ≡ true → (n : ℕ) × IsComponent part.now n) }
@@ -101,8 +101,8 @@ fn push_component(components: &mut Vec<u64>, part: &str) -> Result<(), ParseOidE
 impl ObjectIdentifier {
     /// The object identifier whose text this is: its parts between dots are the components.
     ///
-    /// A part is one or more digits of value up to 2^64-1, before which a plus may be there. Other texts are rejected. Memory is
-    /// asked for only where the first part is such a number.
+    /// A part is one or more digits of value up to 2^64-1, with a plus before them or none. Other texts are rejected. It allocates
+    /// only if the first part is such a number.
     pub fn from_str(alloc: Global, text: &str) -> Result<ObjectIdentifier, ParseOidError>
         ensures exact { MatchResult result (λ oid. IsOidText text.now oid) (λ e. ran_out_of_memory e ≡ false → (cs : List ℕ) → IsOidText text.now cs → ⊥) }
         ensures memory { IfErr result (λ e. ran_out_of_memory e ≡ true → BeginsWithComponent text.now) }

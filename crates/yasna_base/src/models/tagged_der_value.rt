@@ -13,8 +13,8 @@ use std::alloc::AllocError;
 
 /// A raw element: its tag, whether it is constructed, and what follows its length.
 ///
-/// What was read has the two zeros that end its contents where their length is indefinite. What is made by the functions
-/// below is taken as it is: whoever makes it answers for its being DER.
+/// One that was read with indefinite length has the two zeros that end its contents. One that the functions below make is taken
+/// as it is: the caller vouches that it is DER.
 ///
 /// Raw elements are ordered by tag, then bit, then bytes.
 #[derive(Debug, PartialEq, Eq, PartialOrd, Ord, Hash, Drop)]

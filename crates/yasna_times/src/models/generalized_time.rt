@@ -72,14 +72,13 @@ fn push_fraction(text: &mut Vec<u8>, first: &[u8], sub_nano: &[u8]) -> Result<()
     text.extend_from_slice(sub_nano)
 }
 
-// The bytes are the same.
 fn is_same(bytes: &[u8], others: &[u8]) -> bool
     ensures { IsTrue result ↔ bytes.now ≡ others.now }
 {
     bytes == others
 }
 
-// What is after the front.
+// The text after a prefix.
 fn after_prefix<'a>(bytes: &'a [u8], prefix: &[u8]) -> Option<&'a [u8]>
     ensures { MatchOption result ((r : List ℕ) → ¬ (bytes.now ≡ prefix.now ++ r)) (λ r. bytes.now ≡ prefix.now ++ r.now) }
 {
@@ -93,7 +92,7 @@ fn after_prefix<'a>(bytes: &'a [u8], prefix: &[u8]) -> Option<&'a [u8]>
     Some(rest)
 }
 
-// What is after a fraction of these digits.
+// The text after a fraction of these digits.
 fn after_fraction<'a>(bytes: &'a [u8], first: &[u8], sub_nano: &[u8]) -> Option<&'a [u8]>
     requires { length first.now ≡ 0 → length sub_nano.now ≡ 0 }
     ensures { MatchOption result ((r : List ℕ) → ¬ (bytes.now ≡ point_digits (first.now ++ sub_nano.now) ++ r)) (λ r. bytes.now ≡ point_digits (first.now ++ sub_nano.now) ++ r.now) }
@@ -119,8 +118,8 @@ impl GeneralizedTime {
     /// The time that a text of X.680's GeneralizedTime says: `YYYYMMDDhh`, the minute or not, the second or not, the
     /// fraction of the last of these after `.` or `,` or not, and `Z`, `+hh`, `-hh`, `+hhmm` or `-hhmm`.
     ///
-    /// The fraction may have any number of digits, and is kept as it is. A text without a zone is none. Memory is asked for
-    /// only where the fraction has more than nine digits.
+    /// The fraction may have any number of digits, and is kept as it is. A text without a zone is rejected. It allocates only if the
+    /// fraction has more than nine digits.
     pub fn parse(alloc: Global, bytes: &[u8]) -> Result<Option<GeneralizedTime>, AllocError>
         ensures exact { IfOk result (λ o. MatchOption o ((m : Moment) → ¬ (IsGeneralText bytes.now None m)) (λ t. IsGeneralText bytes.now None (moment_of t))) }
         ensures memory { IfErr result (λ _. HasLongFraction bytes.now None) }
@@ -130,7 +129,7 @@ impl GeneralizedTime {
 
     /// As `parse`, where a text without a zone is at the offset.
     ///
-    /// Second 60 goes with an offset of whole minutes alone.
+    /// Second 60 is accepted only with an offset of whole minutes.
     pub fn parse_with_offset(
         alloc: Global,
         bytes: &[u8],
@@ -192,8 +191,8 @@ impl GeneralizedTime {
         })
     }
 
-    /// The local date-time less the offset, with these digits after its nanosecond, whose zeros at the end are dropped. Where
-    /// no digits are left, no memory is asked for.
+    /// The local date-time less the offset, with these digits after its nanosecond, less the zeros at their end. It allocates only
+    /// if digits are left.
     pub fn from_datetime_and_sub_nano(
         alloc: Global,
         local: DateTime,
@@ -279,7 +278,7 @@ impl GeneralizedTime {
         (self.datetime.year() / 100) as u8
     }
 
-    // The last two.
+    // The last two digits of the year, as a number.
     fn year_of_century(&self) -> u8
         ensures value { result ≡ unsigned_abs (moment_of self.now).date.year % 100 }
         ensures bound { result < 100 }

@@ -14,7 +14,7 @@ use std::alloc::{AllocError, Global};
 
 /// A time in UTC to the second, of the years 1950 to 2049.
 ///
-/// Times are ordered as they come.
+/// Times are ordered by date-time.
 #[derive(Clone, Copy, PartialEq, Eq, PartialOrd, Ord, Hash)]
 pub struct UTCTime {
     datetime: DateTime,
@@ -28,7 +28,7 @@ fn is_utc_datetime(dt: DateTime) -> bool
     dt.year() >= 1950 && dt.year() < 2050 && dt.subsec_nanosecond() == 0
 }
 
-// The year that the first two digits tell (X.501, 6.2).
+// The year of the first two digits (X.501, 6.2).
 fn year(bytes: &[u8]) -> i16
     requires inside { 2 ≤ length bytes.now }
     requires digits { HasDigits bytes.now 0 2 }
@@ -74,8 +74,8 @@ impl UTCTime {
 
     /// The time that a text of X.680's UTCTime says: `YYMMDDhhmm`, the second or not, and `Z`, `+hhmm` or `-hhmm`.
     ///
-    /// Years from 50 on are in the twentieth century, the others in the next. There is no second 60. A text whose
-    /// year in UTC is none of 1950 to 2049 is no text.
+    /// Years from 50 on are in the twentieth century, the others in the next. There is no second 60. A text whose year in UTC isn't
+    /// one of 1950 to 2049 is rejected.
     pub fn parse(bytes: &[u8]) -> Option<UTCTime>
         ensures { MatchOption result ((utc : Plain) → ¬ (IsUtcText bytes.now utc)) (λ t. IsUtcText bytes.now (utc_of t)) }
     {
@@ -168,8 +168,7 @@ impl UTCTime {
         String::from_str(alloc, std::str::from_utf8(&self.text()).unwrap())
     }
 
-    /// Whether a text that says this time is the canonical one: of such texts it alone has thirteen bytes, so their number is all that is
-    /// looked at.
+    /// Whether a text of this time is the canonical one. Only that has thirteen bytes, so their number decides.
     #[doc(hidden)]
     #[inline(always)]
     pub fn is_canonical(&self, text: &[u8]) -> bool

@@ -73,7 +73,7 @@ fn second(bytes: &[u8], end: usize, seconds: u32) -> i8
     signed_two(bytes, 12)
 }
 
-// The local date-time of a clock that ends at `end` and whose fraction comes to so many seconds.
+// The local date-time of a clock that ends at `end`, with the whole seconds of its fraction.
 fn local(bytes: &[u8], end: usize, seconds: u32) -> Option<DateTime>
     requires ends { IsClockEnd end }
     requires inside { end ≤ length bytes.now }
@@ -100,7 +100,7 @@ fn is_whole(offset: Offset) -> bool
     offset.seconds() % 60 == 0
 }
 
-// Second 60 goes with whole minutes alone.
+// Second 60 is accepted only with an offset of whole minutes.
 fn is_timely(bytes: &[u8], end: usize, offset: Offset) -> bool
     requires inside { end ≤ length bytes.now }
     requires digits { HasDigits bytes.now 0 end }

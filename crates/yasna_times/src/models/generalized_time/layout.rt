@@ -1,4 +1,4 @@
-//! Where the parts of a GeneralizedTime's text are there: clock, fraction and zone (X.680, 46).
+//! Where the parts of a GeneralizedTime's text are: clock, fraction and zone (X.680, 46).
 ghost use Rattle.std.specs.Prelude.{◌≡◌, ◌↔◌, ℕ, ◌+◌, ◌<◌, ◌≤◌, ℤ, IsTrue, IfSome, MatchOption, length, slice_index};
 ghost use Rattle.yasna_times.specs.Decimal.{IsRun};
 ghost use Rattle.yasna_times.specs.GeneralizedTime.{IsDecimalMark, IsLayout};
