@@ -1,6 +1,6 @@
-//! What is at the start of bytes (X.690, 8.1): what every read of the crate `yasna_reader` asks, over bytes alone.
+//! Elements at the start of bytes (X.690, 8.1): what all reads of `yasna_reader` share, over bytes only.
 //!
-//! It is there for that crate. A user takes the reads of `yasna`.
+//! It is part of that crate. A user calls the reads of `yasna`.
 #![tactic(auto)]
 
 #[doc(hidden)]

@@ -1,5 +1,4 @@
-//! What the contents of one primitive element say, where a type is of such elements alone (X.690, 8.2 to 8.4, 8.8 and
-//! 8.19).
+//! The contents of types of one primitive element (X.690, 8.2 to 8.4, 8.8 and 8.19).
 //!
 //! A type's file holds its impl of `Contents`; `value` reads any such type.
 ghost use Rattle.std.specs.Prelude.{ℕ, List};
@@ -29,10 +28,10 @@ pub trait Contents: Sized {
 
     ghost means: { BERMode → Seen → List ℕ → Type 0 };
 
-    // Where reading within so many levels, under a tag, may allocate.
+    // Whether reading within so many levels, under a tag, may allocate.
     ghost may_allocate: { ℕ → Tag → List ℕ → Type 0 };
 
-    /// The value that these contents say in this mode.
+    /// The value that these contents encode in this mode.
     fn of_contents(alloc: Global, mode: BERMode, contents: &[u8]) -> Result<Self, ASN1ErrorKind>
         ensures { Decides (means mode) view may_allocate contents.now result };
 }

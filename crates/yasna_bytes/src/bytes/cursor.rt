@@ -4,15 +4,15 @@ ghost use Rattle.std.specs.Prelude.{◌≡◌, ◌-◌, ◌≤◌, length};
 use crate::bytes::header::{ContentsEnd, Opened};
 use yasna_base::mode::BERMode;
 
-// How many levels of elements a reading goes down.
+// The levels of elements that a reading descends.
 const LEVELS: u8 = 101;
 
-/// Where elements are read, and by which rules.
+/// A place where elements are read, and the mode.
 #[derive(Clone, Copy)]
 pub struct Cursor<'a> {
     /// What is left in the innermost element of definite length, or in the input.
     pub left: &'a [u8],
-    /// Where that ends, counted from the input's first byte: it decides only of what kind some errors are.
+    /// Where that ends, counted from the input's first byte. It decides only the kinds of some errors.
     pub end: usize,
     /// The encoding rules.
     pub mode: BERMode,
@@ -105,8 +105,7 @@ impl<'a> Cursor<'a> {
         }
     }
 
-    /// A place in these contents or in elements within them: so many of their bytes follow the innermost, and so many
-    /// levels are left.
+    /// A place in these contents or in elements within them, by the bytes that follow the innermost and the levels that are left.
     #[inline(always)]
     pub fn at_depth(self, left: &'a [u8], trailing: usize, levels: u8) -> Cursor<'a>
         requires { levels ≤ 101 }

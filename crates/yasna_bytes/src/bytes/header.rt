@@ -18,7 +18,7 @@ use yasna_base::tag::{PCBit, Tag};
 pub struct Rejection {
     /// What is wrong.
     pub kind: ASN1ErrorKind,
-    /// Whether an identifier was passed before it showed: false where nothing is left or an element of another tag is there.
+    /// Whether input was consumed before: false if nothing is left or an element of another tag is there.
     pub consumed: bool,
 }
 
@@ -50,7 +50,7 @@ impl<'a> Model for Opened<'a> {
     ghost view = { λ o. opening o.bit o.contents.now o.end };
 }
 
-/// The error of this kind.
+/// Makes a rejection of this kind.
 #[inline(always)]
 pub fn reject(kind: ASN1ErrorKind, consumed: bool) -> Rejection
     ensures { result ≡ record { kind = kind; consumed = consumed } }
@@ -58,7 +58,7 @@ pub fn reject(kind: ASN1ErrorKind, consumed: bool) -> Rejection
     Rejection { kind, consumed }
 }
 
-// Whether a mode takes an element of indefinite length.
+// Whether a mode accepts an element of indefinite length.
 #[inline(always)]
 fn takes_indefinite(mode: BERMode, bit: PCBit) -> bool
     ensures { IsTrue result ↔ TakesIndefinite mode bit }
@@ -76,7 +76,7 @@ fn takes_indefinite(mode: BERMode, bit: PCBit) -> bool
     }
 }
 
-// Whether a mode takes an element whose contents are counted.
+// Whether a mode accepts an element of definite length.
 #[inline(always)]
 fn takes_definite(mode: BERMode, bit: PCBit) -> bool
     ensures { IsTrue result ↔ TakesDefinite mode bit }
@@ -98,7 +98,7 @@ fn is_tag(found: Tag, expected: Tag) -> bool
     found == expected
 }
 
-// Of what kind the error is where fewer than `size` bytes are left up to the place `end`.
+// The kind of error if fewer than `size` bytes are left up to the place `end`.
 #[cold]
 #[inline(never)]
 fn length_error(end: usize, rest: &[u8], size: usize) -> ASN1ErrorKind
@@ -190,7 +190,7 @@ pub fn open_constructed(cursor: Cursor<'_>, tag: Tag) -> Result<Opened<'_>, Reje
     }
 }
 
-/// The contents of a primitive element of this tag, and the rest.
+/// Reads a primitive element of this tag, and returns its contents and the rest.
 #[inline(always)]
 pub fn read_primitive_contents(cursor: Cursor<'_>, tag: Tag) -> Result<(&[u8], &[u8]), Rejection>
     ensures { PrimitiveAt cursor.entry.levels cursor.entry.mode tag cursor.entry.left.now result }
@@ -199,7 +199,7 @@ pub fn read_primitive_contents(cursor: Cursor<'_>, tag: Tag) -> Result<(&[u8], &
         Ok(opened) => match opened.bit {
             PCBit::Primitive => match opened.end {
                 ContentsEnd::Definite(after) => Ok((opened.contents, after)),
-                // No mode takes the indefinite form there.
+                // No mode accepts the indefinite form here.
                 ContentsEnd::Indefinite => Err(reject(ASN1ErrorKind::Invalid, true)),
             },
             PCBit::Constructed => Err(reject(ASN1ErrorKind::Invalid, true)),
@@ -239,7 +239,7 @@ pub fn end_of_contents(s: &[u8]) -> Option<&[u8]>
     }
 }
 
-/// Of what kind the error is where they don't.
+/// The kind of error if the end-of-contents octets aren't there.
 #[cold]
 #[inline(never)]
 pub fn end_of_contents_error(s: &[u8]) -> ASN1ErrorKind

@@ -36,7 +36,7 @@ pub fn number_of(digits: &[u8]) -> Option<u64>
     Some(number)
 }
 
-// Whether a mode takes a length spelled by these digits.
+// Whether a mode accepts a length spelled by these digits.
 fn is_spelling(mode: BERMode, digits: &[u8], size: u64) -> bool
     requires { 0 < length digits.now }
     ensures { IsTrue result ↔ TakesSpelling mode digits.now size }
@@ -48,7 +48,7 @@ fn is_spelling(mode: BERMode, digits: &[u8], size: u64) -> bool
     }
 }
 
-// The length that digits spell, where a mode takes it so.
+// The length that digits spell, if a mode accepts them.
 fn size_of(digits: &[u8], mode: BERMode) -> Option<usize>
     requires { 0 < length digits.now }
     ensures { MatchOption result ((k : ℕ) → SpellsDigits mode digits.now k → ⊥) (λ k. SpellsDigits mode digits.now k) }
@@ -63,7 +63,7 @@ fn size_of(digits: &[u8], mode: BERMode) -> Option<usize>
     }
 }
 
-// The length that digits spell after a first byte above 128, which counts them, where a mode takes it so.
+// The length that digits spell after a first byte above 128, which counts them, if a mode accepts them.
 #[cold]
 #[inline(never)]
 fn long_size(first: u8, s: &[u8], mode: BERMode) -> Option<usize>
@@ -79,7 +79,7 @@ fn long_size(first: u8, s: &[u8], mode: BERMode) -> Option<usize>
     }
 }
 
-// Of what kind the error is where no length is after such a byte.
+// The kind of error if no length follows a first byte above 128.
 #[cold]
 #[inline(never)]
 fn long_length_error(first: u8, s: &[u8]) -> ASN1ErrorKind

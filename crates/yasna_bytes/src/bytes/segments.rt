@@ -20,7 +20,7 @@ use yasna_base::error::ASN1ErrorKind;
 use yasna_base::mode::BERMode;
 use yasna_base::tag::{PCBit, Tag};
 
-/// What is known of a kind of string besides its bytes, as its segments are read.
+/// What is counted of a kind of string besides its bytes, as its segments are read.
 pub trait Tally: Sized + Copy {
     // The values of such strings, and how the strings are cut.
     ghost Value: { Type 0 };
@@ -38,15 +38,15 @@ pub trait Tally: Sized + Copy {
     fn full() -> usize
         ensures { result ≡ segmentation.full };
 
-    /// What is known of no segments.
+    /// The tally of no segments.
     fn none() -> Self
         ensures { IsOfNone segmentation value result };
 
-    /// What the contents of a primitive element say: what is known, and the bytes.
+    /// The tally of a primitive element, and its bytes.
     fn of_contents(mode: BERMode, contents: &[u8]) -> Result<(Self, &[u8]), ASN1ErrorKind>
         ensures { EncodesWhole segmentation value mode contents.now result };
 
-    /// What is known of these segments and one more.
+    /// The tally of these segments and one more.
     fn with(self, segment: Self) -> Result<Self, ASN1ErrorKind>
         ensures { Adds segmentation value self segment result };
 
@@ -61,7 +61,7 @@ pub trait Tally: Sized + Copy {
     ghost go_on: { GoOn segmentation };
 }
 
-// Appends what the contents of a primitive element say.
+// Appends the bytes of a primitive element, and returns its tally.
 #[inline(always)]
 fn whole<T: Tally>(out: &mut Vec<u8>, mode: BERMode, contents: &[u8]) -> Result<T, ASN1ErrorKind>
     ensures { WholeAt T.segmentation T.value mode contents.now out.old.items result out.new.items }
@@ -105,7 +105,7 @@ fn element<'a, T: Tally>(
     match opened.bit {
         PCBit::Primitive => {
             let ContentsEnd::Definite(after) = opened.end else {
-                // No mode takes the indefinite form there.
+                // No mode accepts the indefinite form here.
                 return Err(reject(ASN1ErrorKind::Invalid, true));
             };
             match whole::<T>(out, cursor.mode, opened.contents) {
@@ -133,7 +133,7 @@ fn element<'a, T: Tally>(
     }
 }
 
-// Reads segments as far as there are any, and appends their bytes; how they are cut is returned too.
+// Reads all segments that are there, appends their bytes, and returns their tally and how they are cut.
 #[cycle(string)]
 #[inline(never)]
 fn segments<'a, T: Tally>(
@@ -166,7 +166,7 @@ fn segments<'a, T: Tally>(
     Ok(((tally, cuts), place.left))
 }
 
-/// The string with this tag at the start, its bytes and what is known of it besides, and the rest.
+/// Reads a string with this tag, and returns its bytes, its tally and the rest.
 #[inline(always)]
 pub fn string<'a, T: Tally + Drop>(
     alloc: Global,

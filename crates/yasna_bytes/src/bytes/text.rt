@@ -1,6 +1,6 @@
-//! Strings whose octets say a value: character strings (X.680, 41; X.690, 8.23).
+//! Strings whose octets encode a value: character strings (X.680, 41; X.690, 8.23).
 //!
-//! The octets of one primitive element are judged where they are. Those of segments are joined first.
+//! The octets of one primitive element are validated in place. Those of segments are joined first.
 ghost use Rattle.std.specs.Prelude.{◌≡◌, ◌≤◌, ◌<◌, ◌+◌, ◌*◌, ℕ, List, [], ◌∷◌, length, IsTrue, ◌↔◌, IfOk, MatchResult, string_bytes};
 ghost use Rattle.std.specs.Char.Utf16.{utf16_lossy_chars};
 ghost use Rattle.std.specs.Str.{encode_utf8_all};
@@ -19,18 +19,18 @@ use yasna_base::mode::BERMode;
 use yasna_base::tag::Tag;
 use yasna_base::text::{is_ia5, is_numeric, is_printable, is_visible};
 
-/// What the octets of a string are to say.
+/// How the octets of a string are validated.
 pub trait Judge: Sized + Copy {
     type Value: Drop;
 
-    // What contracts see of such values, and what octets say in a mode.
+    // What contracts see of such values, and which values octets encode in a mode.
     ghost Seen: { Type 0 };
 
     ghost view: { Self.Value → Seen };
 
     ghost encodes: { Self → BERMode → Seen → List ℕ → Type 0 };
 
-    /// The value that these octets say in this mode.
+    /// The value that these octets encode in this mode.
     fn judge(
         self,
         alloc: Global,
@@ -53,7 +53,7 @@ pub trait Judge: Sized + Copy {
     }
 }
 
-/// The string with this tag at the start, as its octets are judged, and the rest.
+/// Reads a string with this tag, and returns the value of its octets and the rest.
 #[inline(always)]
 pub fn string_of<'a, J: Judge>(
     alloc: Global,
@@ -108,7 +108,7 @@ impl Class {
     ghost use Rattle.std.specs.Prelude.{IsTrue, ◌↔◌};
     ghost use Rattle.yasna_bytes.specs.Text.{MayHold};
 
-    // Whether the octets are what the class asks of each, or of their number.
+    // Whether the octets, or their number, are what the class requires.
     #[inline(always)]
     fn may_hold(self, octets: &[u8]) -> bool
         ensures { IsTrue result ↔ MayHold self octets.now }

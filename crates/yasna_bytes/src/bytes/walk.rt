@@ -1,7 +1,7 @@
-//! Raw elements: their contents are elements one after the other, which are walked over (X.690, 8.1).
+//! Raw elements: the elements in their contents are walked, and not decoded (X.690, 8.1).
 //!
-//! In DER constructed contents are walked, in BER and CER those of indefinite length alone. The walk is one loop that counts the
-//! bytes after each element that it is in, and takes no memory.
+//! In DER constructed contents are walked, in BER and CER only those of indefinite length. The walk is one loop that counts the
+//! bytes after each open element, and doesn't allocate.
 ghost use Rattle.std.specs.Prelude.{IsTrue, ◌↔◌, ◌≡◌, ◌≤◌, ◌-◌, ◌++◌, length, take, drop, MatchOption, Err};
 ghost use Rattle.yasna_base.specs.Raw.{DescendsInto, IsPayload};
 ghost use Rattle.yasna_bytes.specs.Header.{NoEnd};
@@ -34,11 +34,11 @@ pub struct RawElement<'a> {
 // What a walk meets at a place.
 #[derive(Drop)]
 enum Turn<'a> {
-    // The end of the innermost element, and what is left behind it of the bytes that the step was given.
+    // The end of the innermost element, and the bytes that are left after it.
     Left(&'a [u8]),
     // An element that isn't descended into, and what follows it.
     Passed(&'a [u8]),
-    // The header of one that is.
+    // The header of an element that is descended into.
     Entered(Opened<'a>),
 }
 
@@ -86,7 +86,7 @@ fn open_any(cursor: Cursor<'_>) -> Result<(Tag, Opened<'_>), Rejection>
     }
 }
 
-// What is left of these bytes after contents, where those end here.
+// The bytes that are left after contents, if those end here.
 #[inline(always)]
 fn left_after<'a>(opened: &Opened<'_>, rest: &'a [u8]) -> Option<&'a [u8]>
     ensures { MatchOption result (NoEnd opened.now.end rest.now) (λ a. EndsWithin opened.now.end rest.now a.now) }
@@ -97,8 +97,8 @@ fn left_after<'a>(opened: &Opened<'_>, rest: &'a [u8]) -> Option<&'a [u8]>
     }
 }
 
-// Of what kind the error is where they don't, and nothing is left or the tag of the end-of-contents octets is there:
-// within contents whose length is counted that tag is invalid.
+// The kind of error if contents don't end, and nothing is left or the tag of the end-of-contents octets is there. In contents
+// of definite length that tag is invalid.
 #[cold]
 #[inline(never)]
 fn stray_end_error(opened: &Opened<'_>, rest: &[u8]) -> ASN1ErrorKind
@@ -146,7 +146,7 @@ fn take_turn<'a>(cursor: Cursor<'a>, outermost: &Opened<'_>) -> Result<Turn<'a>,
     }
 }
 
-// The bytes before the last so many.
+// The bytes but for the last `count`.
 #[inline(always)]
 fn all_but(s: &[u8], count: usize) -> &[u8]
     requires { count ≤ length s.now }
@@ -155,7 +155,7 @@ fn all_but(s: &[u8], count: usize) -> &[u8]
     &s[..s.len() - count]
 }
 
-// The last so many bytes.
+// The last `count` bytes.
 #[inline(always)]
 fn last(s: &[u8], count: usize) -> &[u8]
     requires { count ≤ length s.now }
@@ -164,7 +164,7 @@ fn last(s: &[u8], count: usize) -> &[u8]
     &s[s.len() - count..]
 }
 
-// How many bytes follow an element within the contents around it, none where its length is indefinite.
+// The count of bytes that follow an element in the contents around it, 0 if its length is indefinite.
 #[inline(always)]
 fn count_following(opened: &Opened<'_>) -> usize
     ensures { result ≡ length (following opened.now.end) }
@@ -175,7 +175,7 @@ fn count_following(opened: &Opened<'_>) -> usize
     }
 }
 
-// What follows an element whose contents end before these bytes of those that were given.
+// The bytes after an element whose contents end before these.
 #[inline(always)]
 fn followed_by<'a>(opened: &Opened<'a>, after: &'a [u8]) -> &'a [u8]
     ensures { result.now ≡ follows opened.now.end after.now }
@@ -186,7 +186,7 @@ fn followed_by<'a>(opened: &Opened<'a>, after: &'a [u8]) -> &'a [u8]
     }
 }
 
-// A walk that stops for this reason, out of the way of its loop.
+// The error of a walk, in a function outside of its loop.
 #[cold]
 #[inline(never)]
 fn stopped<'a>(kind: ASN1ErrorKind) -> Result<&'a [u8], ASN1ErrorKind>
@@ -195,16 +195,16 @@ fn stopped<'a>(kind: ASN1ErrorKind) -> Result<&'a [u8], ASN1ErrorKind>
     Err(kind)
 }
 
-// Walks over the elements that are from here on in the contents of one, and returns what follows it. A mode walks either
-// contents whose length is counted or those whose length is indefinite, so contents within end in the same way.
+// Walks over the elements in the contents of one, and returns what follows it. A mode walks either contents of definite length or
+// those of indefinite length, so all contents within end in one way.
 #[inline(always)]
 fn walk_contents<'a>(cursor: Cursor<'a>, outermost: &Opened<'a>) -> Result<&'a [u8], ASN1ErrorKind>
     requires shallow { cursor.levels ≤ 100 }
     requires walked { IsWalked cursor.mode outermost.now.end }
     ensures { WalksTo cursor.entry.mode cursor.entry.levels outermost.now.end cursor.entry.left.now result }
 {
-    // How many bytes of the outermost contents follow the innermost element; and those around it, each at the number of levels
-    // that are left one element further in.
+    // The count of bytes in the outermost contents that follow the innermost element; and of those around it, each at the number of
+    // levels that are left one element further in.
     let mut trailing: usize = 0;
     let mut outer: [usize; 100] = [0; 100];
     let mut left = cursor.left;
@@ -246,7 +246,7 @@ fn walk<'a>(cursor: Cursor<'a>, outermost: &Opened<'a>) -> Result<&'a [u8], ASN1
     }
 }
 
-// What follows an element with this header, where its contents are to their end.
+// Reads an element's contents to their end, and returns what follows it.
 #[inline(always)]
 fn follow<'a>(cursor: Cursor<'a>, opened: &Opened<'a>) -> Result<&'a [u8], ASN1ErrorKind>
     requires level { 1 ≤ cursor.levels }
@@ -258,7 +258,7 @@ fn follow<'a>(cursor: Cursor<'a>, opened: &Opened<'a>) -> Result<&'a [u8], ASN1E
             return Ok(after);
         }
     }
-    // A copy, so that an element that isn't walked need not lie in memory.
+    // A copy, so that an element that isn't walked stays in registers.
     let outermost = Opened {
         bit: opened.bit,
         contents: opened.contents,
@@ -267,7 +267,7 @@ fn follow<'a>(cursor: Cursor<'a>, opened: &Opened<'a>) -> Result<&'a [u8], ASN1E
     walk(cursor.inside(opened), &outermost)
 }
 
-/// The bytes before the last ones.
+/// The bytes of `s` before its suffix `rest`.
 #[inline(always)]
 pub fn prefix_before<'a>(s: &'a [u8], rest: &[u8]) -> &'a [u8]
     requires { IsRest s.now rest.now }
@@ -276,7 +276,7 @@ pub fn prefix_before<'a>(s: &'a [u8], rest: &[u8]) -> &'a [u8]
     &s[..s.len() - rest.len()]
 }
 
-// What follows the length of an element that ends before `rest`.
+// The payload of an element that ends before `rest`: what follows its length.
 #[inline(always)]
 fn payload<'a>(opened: &Opened<'a>, rest: &[u8]) -> &'a [u8]
     requires { HasRest opened.now.end opened.now.contents rest.now }

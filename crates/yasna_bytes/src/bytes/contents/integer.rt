@@ -22,7 +22,7 @@ pub fn is_minimal(contents: &[u8]) -> bool
     }
 }
 
-// One of the bytes of a number that is written in eight: those in front repeat the first bit of its contents.
+// One of the bytes of a number that is extended to eight: leading ones repeat the first bit of its contents.
 #[inline(always)]
 fn extended(contents: &[u8], trailing: usize) -> u8
     requires some { 1 ≤ length contents.now }
@@ -36,8 +36,8 @@ fn extended(contents: &[u8], trailing: usize) -> u8
     if trailing < 8 { sign } else { byte }
 }
 
-// The number that a few bytes represent in two's complement. More than one are taken as eight, so that no branch depends on
-// how many there are.
+// The number that up to eight bytes represent in two's complement. More than one are extended to eight, so that no branch depends
+// on how many there are.
 #[inline(always)]
 fn signed_of(contents: &[u8]) -> i64
     requires some { 1 ≤ length contents.now }

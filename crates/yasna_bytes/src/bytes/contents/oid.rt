@@ -129,7 +129,7 @@ fn read_components(alloc: Global, contents: &[u8]) -> Result<ObjectIdentifier, A
     }
 }
 
-// Of what kind an error is, where first it is asked whether the last subidentifier ends.
+// The kind of an error. Whether the last subidentifier ends is tested first.
 #[cold]
 #[inline(never)]
 fn oid_error(contents: &[u8], kind: ASN1ErrorKind) -> ASN1ErrorKind

@@ -15,7 +15,7 @@ use yasna_base::mode::BERMode;
 use yasna_base::tag::Tag;
 use yasna_base::tags::TAG_BITSTRING;
 
-/// Bits: how many there are.
+/// The tally of a bit string: the count of its bits.
 #[derive(Clone, Copy, Drop)]
 pub struct Bits {
     count: usize,
@@ -33,7 +33,7 @@ fn ends_in_zeros(unused: u8, bytes: &[u8]) -> bool
     }
 }
 
-// Whether they are as the mode asks them to be.
+// Whether the unused bits are as the mode requires.
 #[inline(always)]
 fn is_padded(mode: BERMode, unused: u8, bytes: &[u8]) -> bool
     requires { unused ≤ 7 }
@@ -46,7 +46,7 @@ fn is_padded(mode: BERMode, unused: u8, bytes: &[u8]) -> bool
     }
 }
 
-// How many bits so many bytes hold, of which some are unused.
+// The count of bits in these bytes, less the unused ones.
 #[inline(always)]
 fn used_bits(bytes: usize, unused: u8) -> Option<usize>
     requires few { unused ≤ 7 }
@@ -114,7 +114,7 @@ impl Tally for Bits {
         }
     }
 
-    // Any segment but the last has none unused, so all together have as many unused as the last.
+    // Only the last segment may have unused bits, so all together have as many as the last.
     #[inline(always)]
     fn may_go_on(self) -> bool {
         self.count % 8 == 0
@@ -127,7 +127,7 @@ impl Tally for Bits {
     ghost go_on = { record { joined = joined_follow; more = λ vs ws w h. follow_prefix vs (w ∷ ws) h } };
 }
 
-/// The bit string with this tag at the start, its bytes and how many bits they hold, and the rest.
+/// Reads a bit string with this tag, and returns its bytes, the count of its bits, and the rest.
 #[inline(always)]
 pub fn bit_string<'a>(
     alloc: Global,

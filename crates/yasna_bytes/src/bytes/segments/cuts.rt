@@ -1,23 +1,23 @@
-//! How a string is cut into segments, as far as CER asks it (X.690, 9.2).
+//! How a string is cut into segments, as far as CER requires (X.690, 9.2).
 ghost use Rattle.std.specs.Prelude.{◌≡◌, ◌↔◌, IsTrue, true, false};
 ghost use Rattle.yasna_base.specs.Segmented.{StaysWhole, MaySegment, segment_mode};
 ghost use Rattle.yasna_bytes.specs.Segments.{further_cut, AcceptsCuts};
 
 use yasna_base::mode::BERMode;
 
-/// What is known of how segments are cut, as they are read.
+/// How segments are cut, as they are read.
 #[derive(Clone, Copy, Drop)]
 pub struct Cuts {
-    // Whether there is one.
+    // Whether there is a segment.
     some: bool,
-    // Whether all are full.
+    // Whether all segments are full.
     full: bool,
-    // Whether there are two or more, all full but the last, which holds a byte or more and fits one.
+    // Whether there are two segments or more, all full but the last, which has a byte or more and isn't longer than a full one.
     even: bool,
 }
 
 impl Cuts {
-    /// Of no segments.
+    /// The cuts of no segments.
     #[inline(always)]
     pub fn none() -> Cuts
         ensures { result ≡ record { some = false; full = true; even = false } }
@@ -29,7 +29,7 @@ impl Cuts {
         }
     }
 
-    /// Of these segments and one more, of so many bytes, if `full` of them fill one.
+    /// The cuts of these segments and one more of `size` bytes, if `full` bytes fill one.
     #[inline(always)]
     pub fn with(self, full: usize, size: usize) -> Cuts
         ensures { result ≡ further_cut self full size }
@@ -42,7 +42,7 @@ impl Cuts {
     }
 }
 
-/// Whether a mode takes strings in segments.
+/// Whether a mode accepts strings in segments.
 #[inline(always)]
 pub fn may_segment(mode: BERMode) -> bool
     ensures { IsTrue result ↔ MaySegment mode }
@@ -54,7 +54,7 @@ pub fn may_segment(mode: BERMode) -> bool
     }
 }
 
-/// The rules of the segments: in CER they are strings of DER.
+/// The mode of the segments of a string: those of CER are strings of DER.
 #[inline(always)]
 pub fn inner_mode(mode: BERMode) -> BERMode
     ensures { result ≡ segment_mode mode }
@@ -66,7 +66,7 @@ pub fn inner_mode(mode: BERMode) -> BERMode
     }
 }
 
-/// Whether a mode takes so many bytes in one primitive element, if `full` of them fill a segment.
+/// Whether a mode accepts so many bytes in one primitive element, if `full` bytes fill a segment.
 #[inline(always)]
 pub fn stays_whole(mode: BERMode, full: usize, size: usize) -> bool
     ensures { IsTrue result ↔ StaysWhole mode full size }
@@ -78,7 +78,7 @@ pub fn stays_whole(mode: BERMode, full: usize, size: usize) -> bool
     }
 }
 
-/// Whether a mode takes segments that are cut so.
+/// Whether a mode accepts segments that are cut so.
 #[inline(always)]
 pub fn takes_cuts(mode: BERMode, cuts: Cuts) -> bool
     ensures { IsTrue result ↔ AcceptsCuts mode cuts }

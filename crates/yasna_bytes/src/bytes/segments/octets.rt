@@ -15,7 +15,7 @@ use yasna_base::mode::BERMode;
 use yasna_base::tag::{PCBit, Tag};
 use yasna_base::tags::TAG_OCTETSTRING;
 
-/// Octets: nothing is known besides the bytes.
+/// The tally of an octet string, which is empty.
 #[derive(Clone, Copy, Drop)]
 pub struct Octets;
 
@@ -63,7 +63,7 @@ impl Tally for Octets {
     ghost go_on = { record { joined = λ m vs ws w v h. tt {0}; more = λ vs ws w h. tt {0} } };
 }
 
-/// The octet string with this tag at the start, and the rest.
+/// Reads an octet string with this tag, and returns it and the rest.
 #[inline(always)]
 pub fn octet_string<'a>(
     alloc: Global,
@@ -78,7 +78,7 @@ pub fn octet_string<'a>(
     }
 }
 
-/// The octets of a string with this tag at the start where they are, and the rest; `None` if the string is constructed.
+/// Reads a string with this tag in place: its octets and the rest, or `None` if it is constructed.
 #[inline(always)]
 pub fn whole_octets(cursor: Cursor<'_>, tag: Tag) -> Result<Option<(&[u8], &[u8])>, Rejection>
     ensures { WholeOctetsAt cursor.entry.levels cursor.entry.mode tag cursor.entry.left.now result }
@@ -90,7 +90,7 @@ pub fn whole_octets(cursor: Cursor<'_>, tag: Tag) -> Result<Option<(&[u8], &[u8]
     match opened.bit {
         PCBit::Primitive => {
             let ContentsEnd::Definite(after) = opened.end else {
-                // No mode takes the indefinite form there.
+                // No mode accepts the indefinite form here.
                 return Err(reject(ASN1ErrorKind::Invalid, true));
             };
             if !stays_whole(cursor.mode, Octets::full(), opened.contents.len()) {
