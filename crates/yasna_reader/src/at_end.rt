@@ -44,8 +44,8 @@ impl<'a> PartsReader<ReaderState<'a>> {
     ghost use Rattle.yasna_reader.specs.State.{part_of};
     ghost use Rattle.yasna_reader.specs.Lookahead.{NothingFollows};
 
-    /// Whether no part follows: nothing is left, or the end of contents is first. So it is where an error is sticky too, since then no
-    /// read takes anything: a loop until here ends.
+    /// Whether no part follows: nothing is left, or the end of contents is next. It is true with a sticky error too, since then no read
+    /// consumes anything: so a loop until the end of contents ends.
     #[inline(always)]
     pub fn is_at_end(&self) -> bool
         ensures { IsTrue result ↔ NothingFollows (part_of self.now).failed (part_of self.now).left }

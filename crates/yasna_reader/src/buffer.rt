@@ -1,5 +1,5 @@
-//! Reads that also return the bytes they took, as a signature over an element wants them: `read_with_buffer` of a reader and of
-//! a SEQUENCE's parts, which users call.
+//! Reads that also return the bytes that they consumed, as a signature over an element needs them: `read_with_buffer` of a reader
+//! and of a SEQUENCE's parts, which users call.
 
 use crate::callback::Outcome;
 use crate::state::{BERReader, BERReaderSeq, PartsReader, ReaderState};
@@ -10,7 +10,7 @@ impl<'a> ReaderState<'a> {
     ghost use Rattle.std.specs.Fn.{FnOnceTakesAtMut, FnOnceReturnsAtMut};
     ghost use Rattle.yasna_reader.specs.Buffer.{Buffered, ReadsBuffer};
 
-    // What is returned where a callback that began with these bytes came to this.
+    // The outcome of a callback, with the bytes that it consumed of these.
     #[inline(always)]
     fn with_taken<T: Drop>(
         &self,
@@ -28,7 +28,7 @@ impl<'a> ReaderState<'a> {
         Ok((value, &before[..taken]))
     }
 
-    /// Reads what the callback reads, and returns the bytes that it took beside its value.
+    /// Reads what the callback reads, and returns the bytes that it consumed beside its value.
     ///
     /// The bytes are the input's own: they outlive this reading. An implicit tag that waits is passed on, and waits again where
     /// the callback's Err consumed nothing.
@@ -55,7 +55,7 @@ impl<'a> PartsReader<ReaderState<'a>> {
     ghost use Rattle.yasna_reader.specs.Sequence.{Runs};
     ghost use Rattle.yasna_reader.specs.State.{part_of, untagged};
 
-    /// Reads what the callback reads of these parts, and returns the bytes that it took beside its value.
+    /// Reads what the callback reads of these parts, and returns the bytes that it consumed beside its value.
     ///
     /// The bytes are the input's own: they outlive this reading.
     #[inline(always)]

@@ -1,7 +1,7 @@
-//! What becomes of a reading that a callback is handed. The calls around callbacks use it: `optional`, `set_optional`, `tagged`,
+//! How a reading is handed to a callback and taken back, for the calls with callbacks: `optional`, `set_optional`, `tagged`,
 //! `buffer` and `sequence_of`.
 //!
-//! Of what the callback left only the failure counts that is sticky there, and how many bytes are left.
+//! Of the reading that a callback left, only its sticky error counts, and the number of bytes that are left.
 ghost use Rattle.std.specs.Prelude.{IsTrue, ◌↔◌, ◌≡◌, length};
 ghost use Rattle.yasna_bytes.specs.Rejection.{BlamesBytes};
 
@@ -10,18 +10,18 @@ use yasna_base::error::{ASN1Error, ASN1ErrorKind, ASN1Result};
 use yasna_base::tag::Tag;
 use yasna_bytes::bytes::cursor::Cursor;
 
-/// What a callback came to.
+/// The outcome of a callback.
 #[derive(Drop)]
 pub enum Outcome<T> {
     /// A value, with no sticky error.
     Matched(T),
-    /// An Err that consumed nothing and is neither of depth nor of memory, with no sticky error.
+    /// An Err that consumed nothing and is neither `StackOverflow` nor `OutOfMemory`, with no sticky error.
     NoMatch(ASN1Error),
-    /// This error is sticky.
+    /// An error, which is sticky.
     Failed(ASN1Error),
 }
 
-// Whether a kind is neither of depth nor of memory.
+// Whether a kind is neither `StackOverflow` nor `OutOfMemory`.
 #[inline(always)]
 fn blames_bytes(kind: ASN1ErrorKind) -> bool
     ensures { IsTrue result ↔ BlamesBytes kind }
@@ -90,8 +90,8 @@ impl<'a> ReaderState<'a> {
         outcome
     }
 
-    // What a callback came to that began here and gave this result, which is looked at first, as `leave` does. The reading goes on
-    // where the callback left it.
+    // The outcome of a callback that began at this place and returned this result, which is tested first, as in `leave`. The reading
+    // goes on where the callback left it.
     #[inline(always)]
     #[tactic(auto, using(crate::proofs::Callbacks::place_unconsumed, crate::proofs::Callbacks::barred_fails))]
     pub(crate) fn take_back<T: Drop>(
@@ -112,7 +112,7 @@ impl<'a> ReaderState<'a> {
         Outcome::Matched(value)
     }
 
-    // What a callback came to that began here and gave this result, which stays where it is.
+    // As `take_back`, of a result that stays where it is.
     #[inline(always)]
     #[tactic(auto, using(crate::proofs::Callbacks::barred_fails, crate::proofs::Callbacks::none_given))]
     pub(crate) fn look_back<T>(
@@ -134,7 +134,7 @@ impl<'a> ReaderState<'a> {
         }
     }
 
-    // What it came to where it returned an Err.
+    // The outcome of a callback that returned an Err.
     #[inline(always)]
     #[tactic(auto, using(crate::proofs::Callbacks::place_unconsumed, crate::proofs::Callbacks::barred_fails))]
     fn take_back_failed<T>(&mut self, before: Cursor<'a>, error: ASN1Error) -> Outcome<T>
@@ -150,8 +150,8 @@ impl<'a> ReaderState<'a> {
         self.fail_back(before, error)
     }
 
-    // Why there is no going on where a callback left this reading that began there, whatever it returned: a failure that it kept,
-    // or a place before. That is sticky.
+    // The error that bars going on where a callback left this reading, whatever it returned: its sticky error, or a place before
+    // the one where it began. It is sticky.
     #[inline(always)]
     fn barred(&mut self, before: Cursor<'a>) -> Option<ASN1Error>
         ensures { Barred (at_cursor before.entry) self.old result self.new }
@@ -169,7 +169,7 @@ impl<'a> ReaderState<'a> {
         None
     }
 
-    // Goes back to where a callback began.
+    // Goes back to the place where a callback began.
     #[inline(always)]
     fn go_back(&mut self, before: Cursor<'a>)
         ensures { self.new ≡ record (at_cursor before.entry) { failed = self.old.failed } }
@@ -178,7 +178,7 @@ impl<'a> ReaderState<'a> {
         self.untag();
     }
 
-    // Goes on where a callback left this reading that began there.
+    // Goes on at the place where a callback left this reading.
     #[inline(always)]
     fn go_on(&mut self, before: Cursor<'a>)
         ensures { self.new ≡ record (advanced_as (at_cursor before.entry) self.old) { failed = self.old.failed } }
@@ -199,7 +199,7 @@ impl<'a> ReaderState<'a> {
         self.set_place(place, self.deeper);
     }
 
-    // What a callback came to where this failure is found after it.
+    // The outcome of a callback after which this error is found.
     #[inline(always)]
     fn fail_back<T>(&mut self, before: Cursor<'a>, error: ASN1Error) -> Outcome<T>
         ensures { FailsAs error (advanced_as (at_cursor before.entry) self.old) result self.new }
@@ -208,7 +208,7 @@ impl<'a> ReaderState<'a> {
         self.fail_outcome(error)
     }
 
-    // Keeps a failure.
+    // Makes an error sticky, as an outcome.
     #[inline(always)]
     pub(crate) fn fail_outcome<T>(&mut self, error: ASN1Error) -> Outcome<T>
         ensures { FailsAs error self.old result self.new }

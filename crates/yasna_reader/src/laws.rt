@@ -1,4 +1,4 @@
-//! What is proved of the readings that callbacks are handed, of which no program is part.
+//! Laws of the readings that callbacks are handed.
 //!
 //! These functions do nothing. Their contracts state laws that those who call this crate can rely on.
 ghost use Rattle.std.specs.Prelude.{None, Result, ◌≡◌};
@@ -12,17 +12,17 @@ ghost use Rattle.yasna_reader.specs.State.{Reading, tag_of};
 use crate::set::BERReaderSet;
 use yasna_base::error::ASN1Result;
 
-/// The elements that the callback of a SET is handed are just the contents of a SET as the grammar has it, up to their
-/// end: there is a list of them exactly where such contents are there, and it is one.
+/// The elements that the callback of a SET is handed are exactly the contents of a SET as the grammar has it, up to their end:
+/// there is a list of them exactly if there are such contents, and only one.
 pub fn set_lists()
     ensures lists { ListsAreSets }
     ensures sets { SetsAreListed }
     ensures one { ListsAreOne }
 {}
 
-/// Where `read_set` returns a value, a SET as the grammar has it was at the start, and the callback gave that value from
-/// all of its elements, with no sticky error. Where it rejects, the callback gave none from the SET that is there, if
-/// one does, unless memory ran out.
+/// If `read_set` returns a value, there was a SET as the grammar has it, and the callback returned that value from all of its
+/// elements, with no sticky error. If it rejects, there is no SET or the callback returned no value from it, unless memory ran
+/// out.
 pub fn set_reads<'a, T: Drop, F>()
 where
     F: FnOnce(&mut BERReaderSet<'a, '_>) -> ASN1Result<T>,

@@ -1,12 +1,12 @@
 //! Reading BER, DER and CER.
 //!
-//! Bytes come in at `parse`; `state` holds where a reading is, by which rules it reads and what went wrong; each
-//! read finds what is before it (`yasna_bytes`), and the state takes it or keeps the error.
+//! Bytes come in at `parse`. `state` holds the place of a reading, its mode and its sticky error. Each read parses what is next
+//! (`yasna_bytes`), and the state consumes it or makes the error sticky.
 //!
 //! | Module | Holds |
 //! |---|---|
 //! | `parse` | parses of whole inputs |
-//! | `located` | the same, which say where they failed |
+//! | `located` | parses of whole inputs that return the place of an error |
 //! | `state` | the state of a reading, and what the calls on it share |
 //! | `primitive` | reads of BOOLEAN, NULL, INTEGER, ENUMERATED and OBJECT IDENTIFIER |
 //! | `strings` | reads of OCTET STRING, BIT STRING and character strings |
@@ -18,13 +18,13 @@
 //! | `set` | reads of sets, whose elements a callback takes by their tags |
 //! | `set_optional` | reads of elements of a set that may be omitted |
 //! | `place` | where in the input a reading is |
-//! | `callback` | what becomes of a reading that a callback is handed |
-//! | `tagged` | reads under tags of the caller's |
+//! | `callback` | how a reading is handed to a callback and taken back |
+//! | `tagged` | reads under explicit and implicit tags |
 //! | `optional` | reads of parts that may be omitted |
-//! | `buffer` | reads that also return the bytes they took |
+//! | `buffer` | reads that also return the bytes that they consumed |
 //! | `lookahead` | the next tag |
 //! | `at_end` | where contents end |
-//! | `laws` | what is proved of the readings that callbacks are handed |
+//! | `laws` | laws of the readings that callbacks are handed |
 #![tactic(auto)]
 
 mod at_end;

@@ -1,4 +1,4 @@
-//! Parses of whole inputs that say where they failed.
+//! Parses of whole inputs that return the place of an error.
 ghost use Rattle.yasna_base.specs.declared.mode.BERMode.TheVariants.{Ber, Der, Cer};
 ghost use Rattle.std.specs.Fn.{FnOnceTakesAtMut, FnOnceReturnsAtMut};
 ghost use Rattle.yasna_reader.specs.State.{starts};
@@ -11,15 +11,15 @@ use std::fmt;
 use yasna_base::error::{ASN1Error, ASN1Result};
 use yasna_base::mode::BERMode;
 
-/// An error, and where in the input it was found.
+/// An error and its place in the input.
 #[derive(Clone, Copy, PartialEq, Eq, Debug)]
 pub struct Located {
     /// The error.
     pub error: ASN1Error,
-    /// Where the element begins that was rejected, in bytes from the input's first one. Where none is left, where that shows; where it
-    /// was a callback that rejected what it had read, as far as that went.
+    /// The offset of the element that was rejected, in bytes. If none is left, it is where that was found; if a callback rejected what
+    /// it had read, it is where that ended.
     pub offset: usize,
-    /// How many elements there are around it.
+    /// The number of elements around it.
     pub depth: usize,
 }
 
@@ -41,7 +41,7 @@ impl fmt::Display for Located {
 
 impl Error for Located {}
 
-/// Reads bytes by the basic encoding rules (X.690, clause 8), as `parse_ber` does. An Err says where it was found.
+/// Reads bytes by the basic encoding rules (X.690, clause 8), as `parse_ber` does. An Err has its place.
 #[inline(always)]
 pub fn parse_ber_located<'a, T: Drop, F>(
     alloc: Global,
@@ -56,7 +56,7 @@ where
     parse_located(alloc, buf, BERMode::Ber, callback)
 }
 
-/// Reads bytes by the distinguished encoding rules (X.690, clause 10), as `parse_der` does. An Err says where it was found.
+/// Reads bytes by the distinguished encoding rules (X.690, clause 10), as `parse_der` does. An Err has its place.
 #[inline(always)]
 pub fn parse_der_located<'a, T: Drop, F>(
     alloc: Global,
@@ -71,7 +71,7 @@ where
     parse_located(alloc, buf, BERMode::Der, callback)
 }
 
-/// Reads bytes by the canonical encoding rules (X.690, clause 9), as `parse_cer` does. An Err says where it was found.
+/// Reads bytes by the canonical encoding rules (X.690, clause 9), as `parse_cer` does. An Err has its place.
 #[inline(always)]
 pub fn parse_cer_located<'a, T: Drop, F>(
     alloc: Global,
@@ -86,7 +86,7 @@ where
     parse_located(alloc, buf, BERMode::Cer, callback)
 }
 
-// Reads bytes by these rules, and says where that failed.
+// Reads bytes in a mode, and returns the place of an error.
 #[inline(always)]
 fn parse_located<'a, T: Drop, F>(
     alloc: Global,
@@ -107,7 +107,7 @@ where
 impl<'a> ReaderState<'a> {
     ghost use Rattle.yasna_reader.specs.Located.{IsLocated, IsParsedWithPlace};
 
-    // What a parse of these bytes returns where its callback gave this result.
+    // The result of a parse of these bytes whose callback returned this.
     #[inline(always)]
     fn located<T: Drop>(&self, returned: ASN1Result<T>, buf: &[u8]) -> Result<T, Located>
         ensures { IsParsedWithPlace returned self.now buf.now result }
@@ -118,7 +118,7 @@ impl<'a> ReaderState<'a> {
         }
     }
 
-    // Where a failure was found, in the bytes that were to be read.
+    // The place where an error was found in these bytes.
     #[cold]
     fn locate(&self, error: ASN1Error, buf: &[u8]) -> Located
         ensures { IsLocated error buf.now result }

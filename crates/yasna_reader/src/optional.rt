@@ -8,7 +8,7 @@ use crate::state::{BERReader, PartsReader, ReaderState};
 use yasna_base::error::{ASN1Error, ASN1ErrorKind, ASN1Result};
 use yasna_base::mode::BERMode;
 
-// Whether a mode takes a value that is its default (X.690, 11.5).
+// Whether a mode accepts a value that is its default (X.690, 11.5).
 #[inline(always)]
 fn takes_default(mode: BERMode) -> bool
     ensures { IsTrue result ↔ TakesDefault mode }
@@ -24,7 +24,7 @@ impl<'a> ReaderState<'a> {
     ghost use Rattle.std.specs.Prelude.{length};
     ghost use Rattle.yasna_reader.specs.Optional.{DefaultsTo, UnlessDefault};
 
-    // A value that was read at this place where this is the default. Where it is rejected, that is sticky if something was consumed.
+    // A value that was read, unless it is the default and the mode rejects that. The error is sticky if input was consumed.
     #[inline(always)]
     pub(crate) fn unless_default<T: Eq + Drop>(
         &mut self,
@@ -46,7 +46,7 @@ impl<'a> ReaderState<'a> {
         Err(error)
     }
 
-    // What is read where a callback that began with so many bytes came to this, and this is the default.
+    // The value of a part with this default, by the outcome of the callback that read it.
     #[inline(always)]
     fn or_default<T: Eq + Drop>(
         &mut self,
@@ -75,8 +75,8 @@ impl<'a> PartsReader<ReaderState<'a>> {
 
     /// Reads a part that may be omitted (X.690, 8.9.3).
     ///
-    /// None where the callback's Err consumed nothing, unless it is `StackOverflow` or `OutOfMemory`: these are sticky and
-    /// returned, and so is an Err that consumed input.
+    /// Returns `None` if the callback failed without consuming anything: the part is absent. Any other error is returned, and is
+    /// sticky; so are `OutOfMemory` and `StackOverflow`, even if nothing was consumed.
     #[inline(always)]
     pub fn read_optional<T: Drop, F>(&mut self, f: F) -> ASN1Result<Option<T>>
     where
@@ -97,7 +97,7 @@ impl<'a> PartsReader<ReaderState<'a>> {
         Ok(Some(value))
     }
 
-    /// Reads a part that is the default where it is omitted, as `read_optional` does.
+    /// Reads a part with a default, as `read_optional` does: an absent part is the default.
     ///
     /// In DER and CER a part that equals the default is rejected as `Invalid` (X.690, 11.5).
     #[inline(always)]

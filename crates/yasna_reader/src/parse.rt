@@ -9,10 +9,10 @@ use std::alloc::Global;
 use yasna_base::error::{ASN1Error, ASN1ErrorKind, ASN1Result};
 use yasna_base::mode::BERMode;
 
-/// Reads bytes by these rules: the callback is to read all of them.
+/// Reads bytes in a mode. The callback has to read all of them.
 ///
-/// Returns the failure that the reading kept, if there is one; else the callback's Err; else `Extra` where bytes are
-/// left; else the callback's value.
+/// Returns the sticky error of the reading, if there is one; else the callback's Err; else `Extra` if bytes are left; else the
+/// callback's value.
 #[inline(always)]
 pub fn parse_ber_general<'a, T: Drop, F>(
     alloc: Global,
@@ -61,9 +61,9 @@ where
     parse_ber_general(alloc, buf, BERMode::Cer, callback)
 }
 
-/// Reads bytes by the basic encoding rules (X.690, clause 8), where the callback may return errors of its own.
+/// Reads bytes by the basic encoding rules (X.690, clause 8), where the callback returns its own type of errors.
 ///
-/// Returns as `parse_ber_general` does, with the failures of the reading turned into `E`.
+/// Returns as `parse_ber_general` does, with the errors of the reading turned into `E`.
 #[inline(always)]
 pub fn try_parse_ber<'a, T: Drop, E: From<ASN1Error> + Drop, F>(
     alloc: Global,
@@ -108,7 +108,7 @@ where
     try_parse(alloc, buf, BERMode::Cer, callback)
 }
 
-// Reads bytes by these rules.
+// Reads bytes in a mode.
 #[inline(always)]
 fn try_parse<'a, T: Drop, E: From<ASN1Error> + Drop, F>(
     alloc: Global,
@@ -129,7 +129,7 @@ where
 impl<'a> ReaderState<'a> {
     ghost use Rattle.yasna_reader.specs.Parse.{IsParsed};
 
-    // What a parse returns where its callback gave this result.
+    // The result of a parse whose callback returned this.
     #[inline(always)]
     pub(crate) fn parsed<T: Drop, E: From<ASN1Error> + Drop>(
         &self,

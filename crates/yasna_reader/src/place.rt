@@ -1,7 +1,7 @@
-//! Where in the input a reading is there, which parses return that say where they failed.
+//! The place of a reading in the input, which `parse_*_located` return with an error.
 //!
-//! No contract sees it. A reading that kept a failure reads nothing more: from then on it is where the failure was found, which
-//! may lie deeper than its own contents, and hands that place on with the failure.
+//! No contract sees it. A reading with a sticky error reads nothing more. From then on its place is that of the error, which may
+//! be deeper than its own contents, and goes outward with the error.
 
 use crate::state::ReaderState;
 
@@ -14,19 +14,19 @@ impl<'a> ReaderState<'a> {
         self.place_before(self.cursor.left.len())
     }
 
-    // The place before so many of the bytes up to where the contents end.
+    // The place before this many of the bytes up to the end of the contents.
     #[inline(always)]
     pub(crate) fn place_before(&self, left: usize) -> usize {
         self.cursor.end.saturating_sub(left)
     }
 
-    // The place where something failed.
+    // The place of an error.
     #[inline(always)]
     pub(crate) fn place_of_error(&self) -> usize {
         place_up_to(self.cursor.end, self.cursor.left.len())
     }
 
-    // Is at the place at which a failure was found, with so many elements more around it than around this reading.
+    // Sets the place of an error, with this many elements more around it than around this reading.
     #[inline(always)]
     pub(crate) fn set_place(&mut self, place: usize, deeper: u8)
         ensures { self.new ≡ self.old }
@@ -35,7 +35,7 @@ impl<'a> ReaderState<'a> {
         self.deeper = deeper;
     }
 
-    // Is where a failure was found in the contents of an element.
+    // Sets the place of an error in the contents of an element.
     #[inline(always)]
     pub(crate) fn set_place_in(&mut self, contents: &ReaderState<'a>)
         ensures { self.new ≡ self.old }
@@ -44,8 +44,8 @@ impl<'a> ReaderState<'a> {
     }
 }
 
-// The place before so many of the bytes up to this end. It is asked for where something failed, and takes no reference to a
-// reading: one whose reads are inlined may be in registers.
+// The place before this many of the bytes up to an end. It is computed only for an error, and takes no reference to a reading:
+// one whose reads are inlined may be in registers.
 #[cold]
 #[inline(never)]
 fn place_up_to(end: usize, left: usize) -> usize {

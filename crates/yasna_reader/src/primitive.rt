@@ -27,7 +27,7 @@ impl<'a> ReaderState<'a> {
 
     /// Reads BOOLEAN (X.690, 8.2): 0 is false, and any other byte true in BER.
     ///
-    /// In DER and CER 255 alone is true (11.1). Other contents are `Invalid`.
+    /// In DER and CER only 255 is true (11.1). Other contents are `Invalid`.
     #[inline(always)]
     pub fn read_bool(&mut self) -> ASN1Result<bool>
         ensures { Reads (Primitively IsBoolean) NoLevel NeverAllocates boolean_tag self.old result self.new }
@@ -137,7 +137,7 @@ impl<'a> ReaderState<'a> {
         self.read_primitive::<ObjectIdentifier>(TAG_OID)
     }
 
-    // What is at the start as an element of one primitive type.
+    // Parses the next element as one of a primitive type.
     #[inline(always)]
     fn parse_primitive<T: Contents>(&self, tag: Tag) -> Result<(T, &'a [u8]), Rejection>
         ensures { ParsesAs (Primitively T.means) T.view NoLevel T.may_allocate tag self.now result }

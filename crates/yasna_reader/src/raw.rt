@@ -16,7 +16,7 @@ use yasna_bytes::bytes::cursor::Cursor;
 use yasna_bytes::bytes::header::{Rejection, reject};
 use yasna_bytes::bytes::walk::{RawElement, raw_element};
 
-/// What is made of a raw element.
+/// A value that is copied from a raw element.
 trait Copied: Sized {
     // What contracts see of such values, and what a raw element is to be for them.
     ghost Seen: { Type 0 };
@@ -31,8 +31,8 @@ trait Copied: Sized {
     ghost element: { (n : ℕ) (m : BERMode) (v : Seen) (b : List ℕ) → copies n m v b → (x : RawValue) × IsRaw n m x b };
 }
 
-// Its tag, its bit and its payload, one beside the other: a `TaggedDerValue` is moved with what is between its fields, as words
-// that overlap, which stalls the processor.
+// A raw element's tag, bit and payload, one beside the other: a `TaggedDerValue` is moved with its padding, as words that
+// overlap, which stalls the processor.
 #[derive(Drop)]
 struct Pieces {
     class: TagClass,
@@ -42,7 +42,7 @@ struct Pieces {
 }
 
 impl Pieces {
-    // The value.
+    // The raw element's value.
     #[inline(always)]
     fn value(self) -> TaggedDerValue
         ensures { raw_of result ≡ value_of_pieces self }
@@ -76,7 +76,7 @@ impl Copied for Pieces {
     ghost element = { λ n m v b x. (v, x) };
 }
 
-/// The whole of it.
+/// All bytes of the raw element.
 impl Copied for Vec<u8> {
     ghost Seen = { List ℕ };
 
@@ -91,7 +91,7 @@ impl Copied for Vec<u8> {
     ghost element = { λ n m v b x. (x.element, x.raw) };
 }
 
-// What is made of the raw element at the start, and the rest.
+// Parses a raw element, copies it, and returns the copy and the rest.
 #[inline(always)]
 fn parse_copy<T: Copied>(alloc: Global, cursor: Cursor<'_>) -> Result<(T, &[u8]), Rejection>
     ensures { CopiedAt T.copies T.view cursor.entry.levels cursor.entry.mode cursor.entry.left.now result }
@@ -112,9 +112,9 @@ impl<'a> ReaderState<'a> {
 
     /// Reads an element of any tag but that of the end of contents: its tag, its bit, and what follows its length (X.690, 8.1).
     ///
-    /// In DER constructed contents are to be elements one after the other, in BER and CER those of indefinite length; levels
-    /// are counted in them too. What values they are isn't looked at. An implicit tag is ignored, and used up. Where an end of
-    /// contents is there, the result is `Invalid` and nothing is sticky.
+    /// In DER constructed contents have to be elements one after the other, in BER and CER those of indefinite length; levels count in
+    /// them too. Their values aren't validated. An implicit tag is ignored, and used up. At an end of contents the result is
+    /// `Invalid`, and isn't sticky.
     #[tactic(auto, using(crate::proofs::RawReads::reads_raw_as, crate::proofs::RawReads::rejects_raw_as))]
     pub fn read_tagged_der(&mut self) -> ASN1Result<TaggedDerValue>
         ensures { ReadsRaw IsRaw raw_of self.old result self.new }
@@ -125,8 +125,8 @@ impl<'a> ReaderState<'a> {
         }
     }
 
-    /// Reads the same element as a whole: its bytes from the identifier on, with the two zeros that end contents of
-    /// indefinite length.
+    /// Reads an element as `read_tagged_der` does, and returns all its bytes: from the identifier on, with the two zeros that end
+    /// contents of indefinite length.
     pub fn read_der(&mut self) -> ASN1Result<Vec<u8>>
         ensures { ReadsRaw IsWhole (λ v. v.items) self.old result self.new }
     {
@@ -140,7 +140,7 @@ impl<'a> ReaderState<'a> {
         parse_copy::<T>(self.alloc, self.cursor)
     }
 
-    // Reads a raw element, and copies what is wanted of it.
+    // Reads a raw element, and copies it.
     #[inline(always)]
     #[tactic(auto, using(crate::proofs::RawReads::reads_raw, crate::proofs::RawReads::reads_raw_sticky))]
     fn read_raw<T: Copied + Drop>(&mut self) -> ASN1Result<T>

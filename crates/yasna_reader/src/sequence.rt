@@ -9,7 +9,7 @@ use yasna_base::tag::Tag;
 use yasna_base::tags::TAG_SEQUENCE;
 use yasna_bytes::bytes::header::{Opened, Rejection, close, open_constructed};
 
-// What follows an element of which a callback left this many bytes to be read.
+// The bytes after an element of whose contents a callback left this many bytes.
 #[inline(always)]
 fn close_from<'a>(opened: &Opened<'a>, remaining: usize) -> Result<&'a [u8], ASN1ErrorKind>
     ensures { ClosesFrom opened.now.end opened.now.contents remaining result }
@@ -29,8 +29,8 @@ impl<'a> ReaderState<'a> {
 
     /// Reads a SEQUENCE (X.690, 8.9), whose parts the callback reads.
     ///
-    /// The callback is to read all of them: what it leaves is `Extra`, or `Invalid` where the length is indefinite. What goes
-    /// wrong in it is sticky, whatever it returns: later calls return it.
+    /// The callback has to read all of them: bytes that it leaves are `Extra`, or `Invalid` if the length is indefinite. An error in it
+    /// is sticky, whatever it returns: later calls return it.
     #[inline(always)]
     #[tactic(auto, using(crate::proofs::Sequences::stepped_in, crate::proofs::Sequences::stayed_out, crate::proofs::Sequences::takes_inside))]
     pub fn read_sequence<T: Drop, F>(&mut self, f: F) -> ASN1Result<T>
@@ -48,8 +48,8 @@ impl<'a> ReaderState<'a> {
         returned
     }
 
-    // The header of a constructed element of this tag, or of the implicit one, whose contents are to be read. A failure that was
-    // kept comes first.
+    // Reads the header of a constructed element of this tag, or of the implicit one, whose contents are read next. A sticky error
+    // comes first.
     #[inline(always)]
     pub(crate) fn step_in(&mut self, tag: Tag) -> ASN1Result<Opened<'a>>
         ensures { StepsAt (tag_of self.old tag) self.old result self.new }
@@ -63,7 +63,7 @@ impl<'a> ReaderState<'a> {
         }
     }
 
-    // The header of a constructed element of this tag, or of the implicit one.
+    // Reads the header of a constructed element of this tag, or of the implicit one.
     #[inline(always)]
     pub(crate) fn enter(&self, tag: Tag) -> Result<Opened<'a>, Rejection>
         ensures { ConstructedAt self.now.mode self.now.levels (tag_of self.now tag) self.now.left result }
@@ -86,8 +86,8 @@ impl<'a> ReaderState<'a> {
         }
     }
 
-    // Goes on after an element of whose contents a callback returned this, and left like this. A sticky error there comes
-    // first. The result is looked at where it is: a value that waits for other tests is moved by way of memory.
+    // Goes on after an element, by what its callback returned and left of the contents. A sticky error there comes first. The result
+    // is tested in place: a value that waits for other tests would be moved through memory.
     #[inline(always)]
     #[tactic(auto, using(crate::proofs::Sequences::closed_with, crate::proofs::Sequences::not_closed_with))]
     pub(crate) fn leave<T>(
@@ -107,7 +107,7 @@ impl<'a> ReaderState<'a> {
         }
     }
 
-    // Goes on after an element whose contents a callback read, and left like this.
+    // Goes on after an element, by what a callback left of its contents.
     #[inline(always)]
     fn close(&mut self, opened: &Opened<'a>, left: &ReaderState<'a>) -> ASN1Result<()>
         ensures { Left opened.now.end opened.now.contents left.now.failed left.now.left (Ok tt) (untagged self.old) result self.new }
@@ -125,7 +125,7 @@ impl<'a> ReaderState<'a> {
         }
     }
 
-    // Keeps a failure, which was found where the reading of an element's contents is there, and returns it.
+    // Makes an error sticky that was found in an element's contents, and returns it.
     #[inline(always)]
     fn fail_within<T>(&mut self, error: ASN1Error, contents: &ReaderState<'a>) -> ASN1Result<T>
         ensures { Fails error self.old result self.new }
@@ -134,7 +134,7 @@ impl<'a> ReaderState<'a> {
         self.fail(error)
     }
 
-    // Keeps a failure, and returns it.
+    // Makes an error sticky, and returns it.
     #[inline(always)]
     pub(crate) fn fail<T>(&mut self, error: ASN1Error) -> ASN1Result<T>
         ensures { Fails error self.old result self.new }

@@ -20,8 +20,8 @@ impl<'a> ReaderState<'a> {
 
     /// Reads a SEQUENCE OF (X.690, 8.10): the callback reads one element each time that it is called.
     ///
-    /// It is called until its Err consumes nothing; the list is to end there. `StackOverflow` and `OutOfMemory` end no list:
-    /// they are sticky. Where the callback returns Ok and took nothing, that is `Invalid`, and sticky.
+    /// It is called until its Err consumes nothing, which has to be at the end of the list. `StackOverflow` and `OutOfMemory` end no list:
+    /// they are sticky. If the callback returns Ok and consumed nothing, that is `Invalid`, and sticky.
     #[inline(always)]
     #[tactic(auto, using(crate::proofs::ListTurns::visits_any))]
     pub fn read_sequence_of<F>(&mut self, f: F) -> ASN1Result<()>
@@ -35,7 +35,7 @@ impl<'a> ReaderState<'a> {
 
     /// Reads a SEQUENCE OF as `read_sequence_of` does, into a vector of what the callback returned, in order.
     ///
-    /// Returns `OutOfMemory` besides, and keeps it, where there is no memory for the vector.
+    /// If there is no memory for the vector, it returns `OutOfMemory`, which is sticky.
     #[inline(always)]
     #[tactic(auto, using(crate::proofs::ListTurns::collects_any))]
     pub fn collect_sequence_of<T: Drop, F>(&mut self, f: F) -> ASN1Result<Vec<T>>
@@ -63,7 +63,7 @@ impl<'a> ReaderState<'a> {
         returned
     }
 
-    // Reads such a list into a vector.
+    // Reads a list under this tag, or the implicit one, into a vector.
     #[inline(always)]
     #[tactic(auto, using(crate::proofs::Sequences::stepped_in, crate::proofs::Sequences::stayed_out, crate::proofs::Sequences::takes_inside))]
     pub(crate) fn collect_list<T: Drop, F>(
@@ -84,7 +84,7 @@ impl<'a> ReaderState<'a> {
         returned
     }
 
-    // Calls a callback until it gives no value.
+    // Calls a callback until it has no match.
     #[inline(always)]
     fn visit<F>(&mut self, order: Order, mut f: F) -> ASN1Result<()>
     where
@@ -105,7 +105,7 @@ impl<'a> ReaderState<'a> {
         }
     }
 
-    // Calls a callback until it gives no value, and collects what it gives.
+    // Calls a callback until it has no match, and collects its values.
     #[inline(always)]
     fn collect<T: Drop, F>(&mut self, order: Order, mut f: F) -> ASN1Result<Vec<T>>
     where
@@ -141,8 +141,8 @@ impl<'a> ReaderState<'a> {
         f(self)
     }
 
-    // What a turn of a list's callback came to that began here and gave this result, where no element may be less than the bound, which
-    // becomes the element. The answer stays where it is: a list's elements may be large.
+    // The outcome of a turn of a list's callback that began at this place and returned this result. No element may be less than the
+    // bound, which becomes the element. The result stays where it is: a list's elements may be large.
     #[inline(always)]
     fn turned<T>(
         &mut self,
@@ -156,7 +156,7 @@ impl<'a> ReaderState<'a> {
         self.in_order(before.left, outcome, bound)
     }
 
-    // What a turn came to that began here, and whose callback gave this result.
+    // The outcome of a turn that began at this place and whose callback returned this result.
     #[inline(always)]
     fn take_turn<T>(&mut self, before: Cursor<'a>, returned: &ASN1Result<T>) -> Outcome<()>
         ensures { WithSome (λ o. TurnsOut (at_cursor before.entry) returned.now self.old o self.new) result }

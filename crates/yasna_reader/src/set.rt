@@ -30,21 +30,21 @@ pub struct SetElement<'a> {
     pub(crate) end: usize,
 }
 
-/// What gives a reading, by tags.
+/// A set of elements from which one is chosen by its tag.
 pub trait Choose<S> {
     ghost use Rattle.std.specs.Prelude.{List, Result};
     ghost use Rattle.yasna_base.specs.declared.error.ASN1Error.{ASN1Error};
     ghost use Rattle.yasna_base.specs.declared.tag.Tag.{Tag};
 
-    /// What choosing does.
+    /// What choosing an element does.
     ghost chooses: { Self → S → List Tag → Result (Unit {0}) ASN1Error → Self → S → Type 0 };
 
-    /// Lets the state read the first that has one of the tags, which is gone then.
+    /// Lets the state read the first element that has one of the tags, and takes it out.
     fn choose(&mut self, tags: &[Tag], state: &mut S) -> ASN1Result<()>
         ensures { chooses self.old state.old tags.now result self.new state.new };
 }
 
-/// A reading of one element after the other, and those that are left.
+/// A reading of one element, and the elements that are left.
 #[derive(Drop)]
 pub struct Chosen<S, L> {
     pub(crate) reader: S,
@@ -55,10 +55,10 @@ impl<S, L: Choose<S>> Chosen<S, L> {
     ghost use Rattle.std.specs.Borrow.{sem};
     ghost use Rattle.yasna_reader.specs.Set.{LendsChosen};
 
-    /// The reading of the first element left that has one of these tags. It sees that element alone, which is gone then,
-    /// even if it is never read.
+    /// The reading of the first element left that has one of these tags, and only of that. The element is taken out, even if it is
+    /// never read.
     ///
-    /// Returns `Invalid` where there is none: this isn't sticky.
+    /// Returns `Invalid` if there is none, which isn't sticky.
     pub fn next(&mut self, tags: &[Tag]) -> ASN1Result<&mut S>
         ensures* lends { sem 𝓛 (LendsChosen S.row L.row (λ l s r k t. L.chooses l s tags.now r k t) self.entry result) }
     {
@@ -85,7 +85,7 @@ impl<S, L: Choose<S>> Chosen<S, L> {
 /// ```
 pub type BERReaderSet<'a, 'b> = Chosen<ReaderState<'a>, VecDeque<SetElement<'a>>>;
 
-// Where the first element is there that has one of these tags.
+// The place of the first element that has one of these tags.
 #[tactic(auto, using(crate::proofs::SetChoosing::among_more, crate::proofs::SetChoosing::among_here, crate::proofs::SetChoosing::among_end))]
 fn first_among(list: &VecDeque<SetElement<'_>>, tags: &[Tag]) -> Option<usize>
     ensures { MatchOption result (NoneIsAmong tags.now list.now.items) (λ i. IsFirstAmong tags.now list.now.items i) }
@@ -106,7 +106,7 @@ fn is_among(tags: &[Tag], element: &SetElement<'_>) -> bool
     tags.contains(&element.tag)
 }
 
-// Takes the element that is at this place.
+// Takes out the element at this place.
 #[inline(always)]
 fn take<'a>(list: &mut VecDeque<SetElement<'a>>, place: usize) -> SetElement<'a>
     requires { place < deque_len list.old }
@@ -118,7 +118,7 @@ fn take<'a>(list: &mut VecDeque<SetElement<'a>>, place: usize) -> SetElement<'a>
     take_after(list, place)
 }
 
-// Takes an element that isn't the first: those on its shorter side move.
+// Takes out an element that isn't the first: those on its shorter side move.
 #[inline(never)]
 fn take_after<'a>(list: &mut VecDeque<SetElement<'a>>, place: usize) -> SetElement<'a>
     requires { place < deque_len list.old }
@@ -156,7 +156,7 @@ fn tag_goes_before(tag: Tag, other: Tag) -> bool
     tag.cmp(&other).is_lt()
 }
 
-// Whether no tag goes before that of the element in front.
+// Whether no tag goes before that of the previous element.
 #[tactic(auto, using(crate::proofs::SetListing::ascend_more_at, crate::proofs::SetListing::ascend_not_at, crate::proofs::SetListing::ascend_end))]
 fn tags_ascend(list: &[SetElement<'_>]) -> bool
     ensures { IsTrue result ↔ IsSortedByKey (λ (x : SetElement). x.tag) tag_cmp list.now }
@@ -171,7 +171,7 @@ fn tags_ascend(list: &[SetElement<'_>]) -> bool
     true
 }
 
-// Whether elements are in the order that a mode asks (X.690, 9.3 and 10.3).
+// Whether elements are in the order that a mode requires (X.690, 9.3 and 10.3).
 fn is_in_order(mode: BERMode, list: &[SetElement<'_>]) -> bool
     ensures { IsTrue result ↔ ElementsAreInSetOrder mode list.now }
 {
@@ -182,7 +182,7 @@ fn is_in_order(mode: BERMode, list: &[SetElement<'_>]) -> bool
     }
 }
 
-// The elements that are one after the other, and what is left behind them.
+// Lists the elements up to the end of contents, and returns what is left.
 fn list_elements<'a>(
     alloc: Global,
     cursor: Cursor<'a>,
@@ -214,7 +214,7 @@ fn list_elements<'a>(
     }
 }
 
-// What is returned where a callback left these elements.
+// The result of a callback that left these elements.
 fn returned_of_all<T: Drop>(
     returned: ASN1Result<T>,
     others: &VecDeque<SetElement<'_>>,
@@ -230,7 +230,7 @@ fn returned_of_all<T: Drop>(
     }
 }
 
-// Runs a callback on what is chosen from.
+// Runs a callback on a set of elements.
 #[inline(always)]
 fn run<S, L, T, F>(f: F, set: &mut Chosen<S, L>) -> ASN1Result<T>
 where
@@ -249,9 +249,9 @@ impl<'a> ReaderState<'a> {
 
     /// Reads a SET (X.690, 8.11), whose elements the callback takes by their tags.
     ///
-    /// All elements are found before the callback is called: they are raw elements up to an end, and in DER and CER their
-    /// tags don't fall (10.3 and 9.3), else `Invalid`. The callback is to take all of them, else `Invalid`. What goes wrong in it is
-    /// kept, whatever it returns: later calls return it.
+    /// All elements are listed before the callback is called: they are raw elements up to an end, and in DER and CER their tags don't
+    /// fall (10.3 and 9.3), else `Invalid`. The callback has to take all of them, else `Invalid`. An error in it is sticky, whatever it
+    /// returns: later calls return it.
     #[inline(always)]
     #[tactic(auto, using(crate::proofs::Sequences::stepped_in, crate::proofs::Sequences::stayed_out))]
     pub fn read_set<T: Drop, F>(&mut self, f: F) -> ASN1Result<T>
@@ -267,7 +267,7 @@ impl<'a> ReaderState<'a> {
         returned
     }
 
-    // Runs a callback on the elements that are here.
+    // Runs a callback on the elements of these contents.
     #[inline(always)]
     fn run_on_set<T: Drop, F>(&mut self, f: F) -> ASN1Result<T>
     where
@@ -291,7 +291,7 @@ impl<'a> ReaderState<'a> {
         }
     }
 
-    // The elements that are here, where they are in the order that the mode asks, and what is left behind them.
+    // Lists the elements of these contents, if they are in the order that the mode requires, and returns what is left.
     fn list_set(&self) -> Result<(VecDeque<SetElement<'a>>, &'a [u8]), ASN1ErrorKind>
         ensures { SetListAt self.now.levels self.now.mode self.now.left result }
     {
@@ -321,8 +321,8 @@ impl<'a> ReaderState<'a> {
         }
     }
 
-    // Goes on with this rest, and keeps the sticky error there. A failure is where that reading does, or at the first of the
-    // elements that are left.
+    // Goes on with this rest, with the sticky error of that reading. The place of an error is that of the reading, or the first of
+    // the elements that are left.
     fn pass(
         &mut self,
         rest: &'a [u8],
@@ -353,7 +353,7 @@ impl<'a> ReaderState<'a> {
 impl<'a> Chosen<ReaderState<'a>, VecDeque<SetElement<'a>>> {
     ghost use Rattle.std.specs.Prelude.{◌≡◌};
 
-    /// By which rules the elements are read.
+    /// The mode in which the elements are read.
     pub fn mode(&self) -> BERMode
         ensures { result ≡ self.now.reader.mode }
     {

@@ -1,5 +1,5 @@
 //! Reads of SET OF, whose elements ascend in DER and CER (X.690, 8.12 and 11.6): `read_set_of` and `collect_set_of`, which users call,
-//! and the order of elements, which `sequence_of` asks after each turn.
+//! and the order of elements, which `sequence_of` tests after each turn.
 ghost use Rattle.std.specs.Prelude.{◌≡◌};
 ghost use Rattle.yasna_reader.specs.SetOf.{goes_before, bound_bytes, bound_in};
 ghost use Rattle.yasna_base.specs.Set.{set_tag};
@@ -12,7 +12,7 @@ use yasna_base::mode::BERMode;
 use yasna_base::tags::TAG_SET;
 use yasna_bytes::bytes::walk::prefix_before;
 
-/// How the elements of a list are to follow each other.
+/// The order of the elements of a list.
 #[derive(Clone, Copy)]
 pub enum Order {
     /// In any order.
@@ -21,7 +21,7 @@ pub enum Order {
     Ascending,
 }
 
-/// What the first element may not be less than, where elements are to ascend.
+/// The bound of the first element, where elements have to ascend.
 #[inline(always)]
 pub fn first_bound<'a>(order: Order, mode: BERMode) -> Option<&'a [u8]>
     ensures { bound_bytes result ≡ bound_in order mode }
@@ -54,7 +54,7 @@ impl<'a> ReaderState<'a> {
 
     /// Reads a SET OF (X.690, 8.12): the callback reads one element each time that it is called.
     ///
-    /// It is called as that of `read_sequence_of` is. In DER and CER an element whose bytes are less than those of the one before is
+    /// It is called as in `read_sequence_of`. In DER and CER an element whose bytes are less than those of the previous one is
     /// `Invalid`, and that is sticky (11.6).
     #[inline(always)]
     pub fn read_set_of<F>(&mut self, f: F) -> ASN1Result<()>
@@ -68,7 +68,7 @@ impl<'a> ReaderState<'a> {
 
     /// Reads a SET OF as `read_set_of` does, into a vector of what the callback returned, in order.
     ///
-    /// Returns `OutOfMemory` besides, and keeps it, where there is no memory for the vector.
+    /// If there is no memory for the vector, it returns `OutOfMemory`, which is sticky.
     #[inline(always)]
     pub fn collect_set_of<T: Drop, F>(&mut self, f: F) -> ASN1Result<Vec<T>>
     where
@@ -79,7 +79,7 @@ impl<'a> ReaderState<'a> {
         self.collect_list(TAG_SET, Order::Ascending, f)
     }
 
-    // What is made of a turn that began with the bytes `before`: its element may not be less than the bound, and becomes it.
+    // The outcome of a turn that began with the bytes `before`: its element may not be less than the bound, and becomes it.
     #[inline(always)]
     pub(crate) fn in_order(
         &mut self,

@@ -12,7 +12,7 @@ impl<'a> ReaderState<'a> {
     ghost use Rattle.std.specs.Fn.{FnOnceTakesAtMut, FnOnceReturnsAtMut};
     ghost use Rattle.yasna_reader.specs.SetOptional.{DefaultsChosen, ReadsSingle};
 
-    // Lets a callback read all that is left here, and keeps what fails.
+    // Lets a callback read all that is left, and makes its error sticky.
     #[inline(always)]
     fn read_single<T: Drop, F>(&mut self, f: F) -> ASN1Result<T>
     where
@@ -32,7 +32,7 @@ impl<'a> ReaderState<'a> {
         }
     }
 
-    // What is read where a set's read of an element that may be omitted gave this result, and this is the default.
+    // The value of an element with this default, by the result of reading it as one that may be omitted.
     #[inline(always)]
     fn chosen_or_default<T: Eq + Drop>(
         &mut self,
@@ -53,10 +53,10 @@ impl<'a> Chosen<ReaderState<'a>, VecDeque<SetElement<'a>>> {
     ghost use Rattle.std.specs.Fn.{FnOnceReturnsAtMut};
     ghost use Rattle.yasna_reader.specs.SetOptional.{ReadsChosen, ReadsChosenDefault, TakesChosen};
 
-    /// Reads the first element left that has one of these tags. It is gone then.
+    /// Reads the first element left that has one of these tags, and takes it out.
     ///
-    /// None where there is none. The callback is handed that element alone, and is to read all of it, else `Extra` is
-    /// returned. Each Err of the callback is sticky and returned, one that consumed nothing too, since the element is gone.
+    /// Returns `None` if there is none. The callback is handed only that element, and has to read all of it, else `Extra` is returned.
+    /// Each Err of the callback is sticky and returned, even if it consumed nothing, since the element was taken out.
     #[inline(always)]
     pub fn read_optional<T: Drop, F>(&mut self, tags: &[Tag], f: F) -> ASN1Result<Option<T>>
     where
@@ -76,7 +76,7 @@ impl<'a> Chosen<ReaderState<'a>, VecDeque<SetElement<'a>>> {
         }
     }
 
-    /// Reads such an element, which is the default where there is none, as `read_optional` does.
+    /// Reads an element with a default, as `read_optional` does: an absent element is the default.
     ///
     /// In DER and CER an element that equals the default is rejected as `Invalid`, and this is sticky (X.690, 11.5).
     #[inline(always)]

@@ -10,7 +10,7 @@ use yasna_base::tag::Tag;
 use yasna_bytes::bytes::cursor::Cursor;
 use yasna_bytes::bytes::header::Rejection;
 
-/// A reading of bytes: where it is, by which rules it reads, and what went wrong.
+/// A reading of bytes: its place, its mode and its sticky error.
 ///
 /// Users name it `BERReader`.
 #[derive(Drop)]
@@ -37,7 +37,7 @@ impl<'a> ReaderState<'a> {
     ghost use Rattle.yasna_reader.specs.State.{starts, tag_of, untagged};
     ghost use Rattle.yasna_reader.specs.Primitive.{Commits};
 
-    /// By which rules this reading reads.
+    /// The mode of this reading.
     pub fn mode(&self) -> BERMode
         ensures { result ≡ self.now.mode }
     {
@@ -57,8 +57,8 @@ impl<'a> ReaderState<'a> {
         }
     }
 
-    // The tag that the next element is to have, where its type's own is this one. The one that waits is made anew, so that what is
-    // between its fields isn't read back from memory.
+    // The tag expected of the next element, whose type's own is this one. The tag that waits is copied by its fields, so that its
+    // padding isn't read back from memory.
     #[inline(always)]
     pub(crate) fn expected(&self, tag: Tag) -> Tag
         ensures { result ≡ tag_of self.now tag }
@@ -87,7 +87,8 @@ impl<'a> ReaderState<'a> {
         }
     }
 
-    // Takes what was found at the start, or keeps the error where it consumed input. What consumed nothing leaves the reading as it was.
+    // Consumes what was parsed, or makes the error sticky if it consumed input. An error that consumed nothing leaves the reading as it
+    // was.
     #[inline(always)]
     pub(crate) fn commit<T: Drop>(
         &mut self,
@@ -115,21 +116,21 @@ impl<'a> ReaderState<'a> {
 
 /// The reading of one element.
 ///
-/// Each read takes what it reads off the front. Where nothing is left (`Eof`), or an element of another tag is there
-/// (`Invalid`), it leaves the reading as it was, and an implicit tag that waits too. Any other failure of a read is sticky: each later
-/// call returns it, and so does the parse around it, whatever callbacks return. Such are
+/// Each read consumes what it reads. If nothing is left (`Eof`), or an element of another tag is next (`Invalid`), it leaves the reading
+/// as it was, and an implicit tag that waits too. Any other error of a read is sticky: each later call returns it, and so does the
+/// parse around it, whatever callbacks return. Such are
 ///
 /// - `Eof` where a header or contents end early,
-/// - `Invalid` for a header or contents that the mode doesn't take,
+/// - `Invalid` for a header or contents that the mode rejects,
 /// - `IntegerOverflow` for a tag number or a position past 2^64-1,
-/// - `Extra` for what is left of contents whose length is counted,
+/// - `Extra` for bytes that are left of contents of definite length,
 /// - `StackOverflow` for an element on level 102,
-/// - `OutOfMemory` where there is no memory for what it returns;
+/// - `OutOfMemory` if there is no memory for its result;
 ///
-/// what contents and callbacks add is said with each read.
+/// those of contents and callbacks are described with each read.
 ///
-/// Two readings over bytes of one lifetime can be exchanged by `std::mem::swap`. A failure that one keeps moves with it;
-/// each call around a callback takes only that failure and how many bytes are left, and cuts from its own bytes.
+/// Two readings over bytes of one lifetime can be exchanged by `std::mem::swap`. A sticky error goes with its reading; a call
+/// around a callback takes back only that error and the number of bytes that are left, and cuts from its own bytes.
 ///
 /// ```rust
 /// pub fn read_point(reader: BERReader) -> ASN1Result<Point> {
@@ -179,7 +180,7 @@ impl<'a> PartsReader<ReaderState<'a>> {
     ghost use Rattle.std.specs.Prelude.{◌≡◌};
     ghost use Rattle.yasna_reader.specs.State.{part_of};
 
-    /// By which rules the parts are read.
+    /// The mode in which the parts are read.
     pub fn mode(&self) -> BERMode
         ensures { result ≡ (part_of self.now).mode }
     {

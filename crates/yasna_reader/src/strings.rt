@@ -1,6 +1,6 @@
 //! Reads of strings: OCTET STRING, BIT STRING and character strings (X.690, 8.6, 8.7, 8.23 and 9.2).
 //!
-//! In BER a string may be cut into segments, to be joined. Each segment is an element of its own, one level down, whose tag is
+//! In BER a string may be cut into segments, to be joined. Each segment is an element one level down, whose tag is
 //! universal 3 in a BIT STRING and universal 4 in any other, whatever the tag of the string. In CER one with more than 1000 octets of
 //! contents is cut so, into primitive segments of 1000.
 ghost use Rattle.yasna_base.specs.Bits.{bits_tag};
@@ -41,7 +41,7 @@ impl<'a> ReaderState<'a> {
 
     /// Reads BIT STRING (X.690, 8.6): its bytes, the first bit the highest of the first byte, and how many bits there are.
     ///
-    /// In BER the unused bits of the last byte are returned as they are there; in DER and CER any but zeros are `Invalid` (11.2).
+    /// In BER the unused bits of the last byte are returned as they are; in DER and CER any but zeros are `Invalid` (11.2).
     /// So is a count of unused bits that the last byte doesn't have.
     #[inline(always)]
     #[tactic(auto, using(crate::proofs::Primitives::reads_prefix, crate::proofs::Primitives::reads_sticky))]
@@ -105,7 +105,7 @@ impl<'a> ReaderState<'a> {
         self.read_judged(TAG_VISIBLESTRING, Class::Visible)
     }
 
-    // Reads a string whose octets are judged.
+    // Reads a string whose octets are validated.
     #[inline(always)]
     #[tactic(auto, using(crate::proofs::Primitives::reads_prefix, crate::proofs::Primitives::reads_sticky))]
     pub(crate) fn read_judged<J: Judge>(&mut self, tag: Tag, judge: J) -> ASN1Result<J::Value>
@@ -118,7 +118,7 @@ impl<'a> ReaderState<'a> {
         self.commit(parsed)
     }
 
-    // The string at the start whose octets are judged.
+    // Parses a string whose octets are validated.
     #[inline(always)]
     fn judged<J: Judge>(&self, tag: Tag, judge: J) -> Result<(J::Value, &'a [u8]), Rejection>
         ensures { ParsesAs (IsStringOf (J.encodes judge)) J.view IsDeepOctets MayAllocate tag self.now result }
@@ -126,7 +126,7 @@ impl<'a> ReaderState<'a> {
         string_of(self.alloc, self.cursor, self.expected(tag), judge)
     }
 
-    // The octet string at the start.
+    // Parses an octet string.
     #[inline(always)]
     fn octets(&self, tag: Tag) -> Result<(Vec<u8>, &'a [u8]), Rejection>
         ensures { ParsesAs IsOctets (λ v. v.items) IsDeepOctets MayAllocate tag self.now result }
@@ -134,7 +134,7 @@ impl<'a> ReaderState<'a> {
         octet_string(self.alloc, self.cursor, self.expected(tag))
     }
 
-    // The bit string at the start.
+    // Parses a bit string.
     #[inline(always)]
     fn bits(&self, tag: Tag) -> Result<((Vec<u8>, usize), &'a [u8]), Rejection>
         ensures { ParsesAs IsBits bits_in IsDeepBits MayAllocate tag self.now result }

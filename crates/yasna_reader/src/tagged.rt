@@ -1,4 +1,4 @@
-//! Reads under tags of the caller's, explicit and implicit (X.690, 8.14). Users call them on a reader.
+//! Reads under explicit and implicit tags (X.690, 8.14). Users call them on a reader.
 
 use crate::callback::Outcome;
 use crate::state::{BERReader, ReaderState};
@@ -13,8 +13,7 @@ impl<'a> ReaderState<'a> {
 
     /// Reads a constructed element of this tag, explicit tagging (X.690, 8.14): the callback reads the element inside.
     ///
-    /// An implicit tag that waits is in place of this one. What goes wrong in the callback is sticky, whatever it
-    /// returns.
+    /// An implicit tag that waits is in place of this one. An error in the callback is sticky, whatever it returns.
     #[inline(always)]
     #[tactic(auto, using(crate::proofs::Sequences::stepped_in, crate::proofs::Sequences::stayed_out, crate::proofs::Sequences::takes_inside))]
     pub fn read_tagged<T: Drop, F>(&mut self, tag: Tag, f: F) -> ASN1Result<T>
@@ -30,11 +29,10 @@ impl<'a> ReaderState<'a> {
         returned
     }
 
-    /// Lets this tag be in place of that of the next element that the callback reads, implicit tagging (X.690, 8.14).
+    /// Puts this tag in place of that of the next element that the callback reads, implicit tagging (X.690, 8.14).
     ///
-    /// An implicit tag that waits already is in place of this one: the outermost wins. An Err of the callback is sticky
-    /// where it consumed input, or is `StackOverflow` or `OutOfMemory`; any other leaves the reading as it was, and the tag
-    /// that waited waits again.
+    /// An implicit tag that waits already is in place of this one: the outermost wins. An Err of the callback is sticky if it consumed
+    /// input, or is `StackOverflow` or `OutOfMemory`. Any other leaves the reading as it was, and the tag that waited waits again.
     #[inline(always)]
     pub fn read_tagged_implicit<T: Drop, F>(&mut self, tag: Tag, f: F) -> ASN1Result<T>
     where

@@ -1,6 +1,6 @@
 //! Reads of UTCTime and GeneralizedTime (X.680, 46 and 47; X.690, 11.7 and 11.8).
 //!
-//! In BER the text of a time may be cut into segments as an octet string, each with the tag universal 4. In CER it is cut so where it
+//! In BER the text of a time may be cut into segments as an octet string, each with the tag universal 4. In CER it is cut so if it
 //! is longer than 1000 octets.
 ghost use Rattle.std.specs.Prelude.{IsTrue, ◌↔◌};
 ghost use Rattle.yasna_base.specs.Canonical.{IsCanonicalMode};
@@ -17,7 +17,7 @@ use yasna_base::tags::{TAG_GENERALIZEDTIME, TAG_UTCTIME};
 use yasna_bytes::bytes::text::Judge;
 use yasna_times::models::{GeneralizedTime, UTCTime};
 
-// Whether a mode takes the canonical text alone (X.690, 11.7 and 11.8).
+// Whether a mode accepts only the canonical text (X.690, 11.7 and 11.8).
 #[inline(always)]
 fn requires_canonical(mode: BERMode) -> bool
     ensures { IsTrue result ↔ IsCanonicalMode mode }
@@ -106,7 +106,7 @@ impl<'a> ReaderState<'a> {
 
     /// Reads UTCTime (X.690, 8.26 and 11.8).
     ///
-    /// In BER any text is taken that `UTCTime::parse` takes, in DER and CER the canonical one alone. Any other is `Invalid`.
+    /// BER accepts any text that `UTCTime::parse` accepts, DER and CER only the canonical one. Any other is `Invalid`.
     #[inline(always)]
     pub fn read_utctime(&mut self) -> ASN1Result<UTCTime>
         ensures { ReadsSeen (IsStringOf SpellsUtcTime) utc_of IsDeepOctets MayAllocate utc_time_tag self.old result self.new }
@@ -116,7 +116,7 @@ impl<'a> ReaderState<'a> {
 
     /// Reads GeneralizedTime (X.690, 8.25 and 11.7).
     ///
-    /// In BER any text is taken that `GeneralizedTime::parse` takes, in DER and CER the canonical one alone. Any other is `Invalid`.
+    /// BER accepts any text that `GeneralizedTime::parse` accepts, DER and CER only the canonical one. Any other is `Invalid`.
     #[inline(always)]
     pub fn read_generalized_time(&mut self) -> ASN1Result<GeneralizedTime>
         ensures { ReadsSeen (IsStringOf SpellsGeneralizedTime) moment_of IsDeepOctets MayAllocate generalized_time_tag self.old result self.new }
