@@ -11,7 +11,7 @@ use std::alloc::{AllocError, Global};
 // How many bytes are counted at once.
 const BLOCK: usize = 32;
 
-// How many bytes a text takes in UTF-16.
+// The count of bytes of a text in UTF-16.
 pub(crate) fn bmp_length(string: &str) -> usize
     ensures { result ≡ count (bmp_octets (chars string.now)) }
 {
@@ -25,7 +25,7 @@ pub(crate) fn bmp_length(string: &str) -> usize
     length + begun_in(rest) as usize
 }
 
-// How many bytes in UTF-16 the characters take that these bytes begin in UTF-8. So few are summed in one byte.
+// The count of bytes in UTF-16 of the characters that these bytes begin in UTF-8. They are few enough for one byte.
 #[inline(always)]
 fn begun_in(block: &[u8]) -> u8
     requires { count block.now ≤ 32 }
@@ -38,8 +38,8 @@ fn begun_in(block: &[u8]) -> u8
     sum
 }
 
-// How many the character takes that this byte begins; none where it begins no character. There is no jump, so that
-// many bytes are taken at once.
+// The count of bytes in UTF-16 of the character that this byte begins, 0 if it begins none. There is no jump, so that many bytes are
+// counted at once.
 #[inline(always)]
 fn octets_begun(byte: u8) -> u8
     ensures { result ≡ octets_begun byte }
@@ -82,7 +82,7 @@ fn push_character(out: &mut Vec<u8>, c: char) -> Result<(), AllocError>
     )
 }
 
-// A text in UTF-16, which takes so many bytes, or `OutOfMemory`.
+// A text in UTF-16, of this many bytes, or `OutOfMemory`.
 pub(crate) fn bmp_bytes(alloc: Global, string: &str, length: usize) -> Result<Vec<u8>, AllocError>
     ensures { IfOk result (λ octets. octets.items ≡ bmp_octets (chars string.now)) }
 {

@@ -1,10 +1,10 @@
-//! Contents, and the headers of elements with parts, which are apart from them until all is joined.
+//! Contents, and the headers of elements with parts, which are stored separately until all is joined.
 //!
-//! A `Writer` holds one, and alone calls it.
+//! Only a `Writer` holds one and calls it.
 //!
-//! Where an element with parts begins, an entry with no bytes marks its place; where it ends, the entry takes its
-//! header. So contents are only appended to, no header is ever moved, and how deep elements nest costs nothing. In CER the header
-//! counts no length, and two zeros are appended first (X.690, 8.1.3.6 and 9.1).
+//! When an element with parts begins, an empty slot is appended for its place; when it ends, the slot takes its header. So contents
+//! are only appended to, no header is ever moved, and depth costs nothing. In CER the header has no length, and two zeros are appended
+//! first (X.690, 8.1.3.6 and 9.1).
 ghost use Rattle.std.specs.Prelude.{◌≡◌, ◌≤◌, ◌<◌, ◌+◌, List, ◌∷◌, ◌++◌, ◌⊎◌, [], length, length as count, vec_len, IfOk, OnOk, IfSome, MatchResult};
 ghost use Rattle.yasna_base.specs.Error.{kind_of};
 ghost use Rattle.yasna_base.specs.declared.error.ASN1ErrorKind.TheVariants.{OutOfMemory, Invalid};
@@ -33,17 +33,17 @@ use std::marker::Model;
 use std::mem;
 use yasna_base::{ASN1Error, ASN1ErrorKind, ASN1Result, BERMode, PCBit, Tag, TagClass};
 
-// What an entry knows of its element. It takes eight bytes.
+// The state of a slot, in eight bytes.
 #[derive(Clone, Copy)]
 pub(crate) enum SlotState {
     // The element is open.
     Waits {
-        // How many elements are open, it and those around it.
+        // The number of open elements: it and those around it.
         depth: u16,
-        // How many bytes the headers before it take.
+        // The count of bytes of the headers before it.
         headers: u32,
     },
-    // Its header.
+    // The header has a length.
     Definite {
         class: TagClass,
         number: u16,
@@ -54,7 +54,7 @@ pub(crate) enum SlotState {
         class: TagClass,
         number: u16,
     },
-    // The number of the tag or the length is too large for an entry. The header is in a list, at this place.
+    // The number of the tag or the length is too large for a slot. The header is in a list, at this place.
     Elsewhere(u32),
 }
 
@@ -65,7 +65,7 @@ pub(crate) struct Slot {
     pub(crate) state: SlotState,
 }
 
-// What is where there is room for an entry.
+// The value of a slot that isn't used yet.
 impl MadeWith<Global> for Slot {
     fn made_with(_alloc: Global) -> Slot {
         let state = SlotState::Waits {
@@ -76,15 +76,15 @@ impl MadeWith<Global> for Slot {
     }
 }
 
-// Where an element with parts begins, as the call that writes it remembers it.
+// An open element, as the call that writes it remembers it.
 #[derive(Clone, Copy)]
 pub(crate) struct OpenElement {
-    // The number of its entry.
+    // The number of its slot.
     slot: usize,
-    // How many bytes are before it, those of headers too.
+    // The count of bytes before it, with those of headers.
     pub(crate) start: usize,
     pub(crate) tag: Tag,
-    // By which rules it is written, whichever writer a closure leaves in the place of the one that it was lent.
+    // The mode in which it is written, whichever writer a closure leaves in place of the one that it was lent.
     pub(crate) mode: BERMode,
 }
 
@@ -93,13 +93,13 @@ pub(crate) struct OpenElement {
 pub(crate) struct Buffer {
     // Contents, which are only appended to.
     contents: Vec<u8>,
-    // How many bytes the headers take.
+    // The count of bytes of all headers.
     headers: usize,
-    // Where headers belong, by their places.
+    // The places of headers.
     slots: Slots,
-    // How many elements with an entry are open.
+    // The number of open elements that have a slot.
     waits: u16,
-    // The headers that are too large for an entry.
+    // The headers that are too large for a slot.
     large: Vec<PartsHeader>,
 }
 
@@ -114,7 +114,7 @@ impl Model for Buffer {
     ghost invariant = { λ d. AreSlots d.large.items d.slots (length d.contents.items) d.headers d.waits };
 }
 
-// At which place the element waits that began there, if it is the innermost that is open.
+// The place of this open element's slot, if it is the innermost one.
 #[inline(always)]
 fn innermost(slots: &Slots, waits: u16, opened: OpenElement) -> Option<usize>
     ensures { IfSome result (λ place. IsInnermost slots.now waits opened place) }
@@ -129,7 +129,7 @@ fn innermost(slots: &Slots, waits: u16, opened: OpenElement) -> Option<usize>
     }
 }
 
-// The mark of an element that begins, with so many that are open around it, and so many bytes of headers before it.
+// The state of a slot whose element begins, by the number of open elements around it and the bytes of headers before it.
 #[inline(always)]
 fn waiting_state(waits: u16, headers: usize) -> Option<SlotState>
     ensures { IfSome result (λ m. (waits + 1 < 65536) × (m ≡ Waits (waits + 1) headers)) }
@@ -139,7 +139,7 @@ fn waiting_state(waits: u16, headers: usize) -> Option<SlotState>
     Some(SlotState::Waits { depth, headers })
 }
 
-// The mark of a header whose numbers are small enough for an entry.
+// The state of a slot with this header, if its numbers are small enough.
 #[inline(always)]
 fn small_state(tag: Tag, length: Option<usize>) -> Option<SlotState>
     ensures { IfSome result (λ m. (ls : List PartsHeader) → StatesHeader (header_of tag length) ls m) }
@@ -159,7 +159,7 @@ fn small_state(tag: Tag, length: Option<usize>) -> Option<SlotState>
     }
 }
 
-// The mark of a header, which is listed if it is too large for an entry.
+// The state of a slot with this header, which is listed if it is too large for a slot.
 #[inline(always)]
 fn state_of(
     large: &mut Vec<PartsHeader>,
@@ -189,7 +189,7 @@ fn list_header(large: &mut Vec<PartsHeader>, header: PartsHeader) -> Result<Slot
 }
 
 impl Buffer {
-    // A buffer that begins.
+    // An empty buffer.
     #[inline(always)]
     pub(crate) fn new(alloc: Global) -> Buffer
         ensures { result ≡ [] }
@@ -203,7 +203,7 @@ impl Buffer {
         }
     }
 
-    // How many bytes there are.
+    // The count of bytes, with those of headers.
     #[inline(always)]
     pub(crate) fn len(&self) -> usize
         ensures { result ≡ length self.now }
@@ -261,8 +261,7 @@ impl Buffer {
         push_bmp(&mut self.contents, string)
     }
 
-    // Marks where an element with parts begins. Where there is no memory for the mark, or it can't hold its numbers, its end
-    // does without.
+    // Opens an element with parts. If there is no memory for its slot, or a slot can't hold its numbers, its end does without.
     #[inline(always)]
     pub(crate) fn open_element(&mut self, alloc: Global, tag: Tag, mode: BERMode) -> OpenElement
         ensures same { self.new ≡ self.old }
@@ -287,8 +286,8 @@ impl Buffer {
         opened
     }
 
-    // Makes what is from a beginning on an element, or returns `Invalid` where fewer bytes are left than there were,
-    // or `OutOfMemory`.
+    // Ends an open element over the bytes from its start on, or returns `OutOfMemory`, or `Invalid` if fewer bytes are left than when it
+    // began.
     #[inline(always)]
     pub(crate) fn enclose(&mut self, alloc: Global, opened: OpenElement) -> ASN1Result<()>
         ensures { MatchResult result (λ _. (opened.start ≤ length self.old) × (self.new ≡ with_element opened.mode opened.tag opened.start self.old)) (λ e. (kind_of e ≡ OutOfMemory) ⊎ ((kind_of e ≡ Invalid) × (length self.old < opened.start))) }
@@ -402,7 +401,7 @@ impl Buffer {
         })
     }
 
-    // Takes out the contents with each header at its place. Where there is no header they are the contents themselves.
+    // Takes out the contents with each header at its place.
     #[inline(always)]
     pub(crate) fn take_joined(&mut self, alloc: Global) -> Result<Vec<u8>, AllocError>
         ensures { IfOk result (λ v. v.items ≡ self.old) }

@@ -13,8 +13,8 @@ use yasna_base::{ASN1Error, ASN1Result, BERMode};
 
 /// The bytes that a closure writes in DER (X.690, clause 10).
 ///
-/// Returns the first failure of a write, whatever the closure returns; else the closure's own `Err`; else the bytes, or
-/// `OutOfMemory` where there is no memory for them.
+/// Returns the first error of a write, whatever the closure returns; else the closure's own `Err`; else the bytes, or
+/// `OutOfMemory` if there is no memory for them.
 pub fn construct_der<F: FnOnce(DERWriter<'_>) -> ASN1Result<()>>(
     alloc: Global,
     f: F,
@@ -25,9 +25,9 @@ pub fn construct_der<F: FnOnce(DERWriter<'_>) -> ASN1Result<()>>(
     try_construct_der(alloc, f)
 }
 
-/// The bytes that a closure writes, with errors of any type that takes those of a writing.
+/// The bytes that a closure writes in DER, where the closure returns its own type of errors.
 ///
-/// Returns as `construct_der` does, with the failures of the writing turned into `E`.
+/// Returns as `construct_der` does, with the errors of the writing turned into `E`.
 #[inline(always)]
 pub fn try_construct_der<E: From<ASN1Error> + Drop, F: FnOnce(DERWriter<'_>) -> Result<(), E>>(
     alloc: Global,
@@ -39,7 +39,7 @@ pub fn try_construct_der<E: From<ASN1Error> + Drop, F: FnOnce(DERWriter<'_>) -> 
     construct_by(alloc, BERMode::Der, f)
 }
 
-// The bytes that a closure writes by these rules.
+// The bytes that a closure writes in a mode.
 #[inline(always)]
 fn construct_by<E: From<ASN1Error> + Drop, F: FnOnce(DERWriter<'_>) -> Result<(), E>>(
     alloc: Global,
@@ -68,7 +68,7 @@ pub fn construct_cer<F: FnOnce(DERWriter<'_>) -> ASN1Result<()>>(
     construct_by(alloc, BERMode::Cer, f)
 }
 
-/// The bytes that a closure writes as parts, one after the other, with no header around them.
+/// The bytes that a closure writes in DER as parts, one after the other, with no header around them.
 ///
 /// Returns as `construct_der` does.
 pub fn construct_der_seq<F: FnOnce(&mut DERWriterSeq) -> ASN1Result<()>>(
@@ -81,7 +81,7 @@ pub fn construct_der_seq<F: FnOnce(&mut DERWriterSeq) -> ASN1Result<()>>(
     try_construct_der_seq(alloc, f)
 }
 
-/// The bytes that a closure writes as parts, with errors of any type that takes those of a writing.
+/// The bytes that a closure writes in DER as parts, where the closure returns its own type of errors.
 ///
 /// Returns as `try_construct_der` does.
 #[inline(always)]

@@ -9,25 +9,25 @@ use crate::length::{length_length, put_length};
 use std::alloc::AllocError;
 use yasna_base::{PCBit, Tag};
 
-// What the header of an element says.
+// The header of an element.
 #[derive(Clone, Copy)]
 pub(crate) struct Header {
     // The element's tag.
     pub(crate) tag: Tag,
-    // How long the element's contents are, with the headers of its parts.
+    // The length of the element's contents, with the headers of its parts.
     pub(crate) length: usize,
 }
 
-// The header of an element with parts that is ended.
+// The header of an element with parts that has ended.
 #[derive(Clone, Copy)]
 pub(crate) enum PartsHeader {
-    // Its length is counted.
+    // Its length is definite.
     Counted(Header),
     // Its length is indefinite.
     Endless(Tag),
 }
 
-// Appends a header. Where the tag's number is below 31 and the contents are short, that is two bytes.
+// Appends a header: two bytes, if the tag's number is below 31 and the contents are short.
 #[tactic(auto, using(yasna_base::proofs::Identifier::identifier_short, yasna_base::proofs::Length::short_length))]
 #[inline(always)]
 pub(crate) fn push_header(out: &mut Vec<u8>, header: Header, bit: PCBit) -> Result<(), AllocError>
@@ -41,7 +41,7 @@ pub(crate) fn push_header(out: &mut Vec<u8>, header: Header, bit: PCBit) -> Resu
     push_any_header(out, tag, length, bit)
 }
 
-// The longest header takes so many bytes: eleven of an identifier, and nine of a length.
+// The bytes of the longest header: eleven of an identifier, and nine of a length.
 const LONGEST: usize = 20;
 
 // Appends any header, which is put together on the stack.
@@ -56,7 +56,7 @@ fn push_any_header(out: &mut Vec<u8>, tag: Tag, length: usize, bit: PCBit) -> Re
     push_bytes(out, &header[start..])
 }
 
-// How many bytes the header of an element takes.
+// The count of bytes of an element's header.
 #[inline(always)]
 pub(crate) fn header_length(tag: Tag, length: usize) -> usize
     ensures octets { result ≡ count (header_bytes Constructed (record { tag = tag; length = length })) }
@@ -90,7 +90,7 @@ fn push_any_indefinite_header(out: &mut Vec<u8>, tag: Tag) -> Result<(), AllocEr
     push_bytes(out, &header[start..])
 }
 
-// The header of an element with parts that is ended, of this length or of indefinite length.
+// The header of an element with parts that has ended, of this length or of indefinite length.
 #[inline(always)]
 pub(crate) fn parts_header(tag: Tag, length: Option<usize>) -> PartsHeader
     ensures { result ≡ header_of tag length }
@@ -101,7 +101,7 @@ pub(crate) fn parts_header(tag: Tag, length: Option<usize>) -> PartsHeader
     }
 }
 
-// How many bytes that header takes. It isn't made for this: it is large, and would be moved by way of memory.
+// The count of bytes of that header, which isn't made for this: it is large, and would be moved through memory.
 #[inline(always)]
 pub(crate) fn parts_header_length(tag: Tag, length: Option<usize>) -> usize
     ensures octets { result ≡ count (parts_header (header_of tag length)) }

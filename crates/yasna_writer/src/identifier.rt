@@ -1,4 +1,4 @@
-//! Identifier octets (X.690, 8.1.2), for `header`, and numbers in base 128, of which `oid` has some too.
+//! Identifier octets (X.690, 8.1.2), for `header`, and numbers in base 128, which `oid` has too.
 ghost use Rattle.std.specs.Prelude.{◌≡◌, ◌<◌, ◌≤◌, ◌+◌, ◌*◌, ◌++◌, length, OnOk, vec_len};
 ghost use Rattle.yasna_base.specs.Identifier.{identifier, class_number, bit_number, leading_byte};
 ghost use Rattle.yasna_base.specs.Digits.{base128};
@@ -21,8 +21,8 @@ pub(crate) fn push_bytes(out: &mut Vec<u8>, bytes: &[u8]) -> Result<(), AllocErr
     out.extend_from_slice(bytes)
 }
 
-// Makes room for so many bytes more. The first room is for 24: few allocators have a smaller block, and a small element fits with
-// its header.
+// Makes room for this many further bytes. The first room is for 24: few allocators have a smaller block, and a small element fits
+// with its header.
 #[cold]
 #[inline(never)]
 fn make_room(out: &mut Vec<u8>, more: usize) -> Result<(), AllocError>
@@ -81,10 +81,10 @@ pub(crate) fn leading(tag: Tag, bit: PCBit) -> u8
     class_bits(tag.tag_class) + constructed_bit(bit) + tag.tag_number as u8
 }
 
-// A number of 64 bits takes so many bytes in base 128 at most.
+// The most bytes of a number of 64 bits in base 128.
 const LONGEST_NUMBER: usize = 10;
 
-// How many bytes a number takes in base 128.
+// The count of bytes of a number in base 128.
 #[tactic(auto, using(crate::proofs::Identifiers::base128_length_small, crate::proofs::Identifiers::base128_length_step, crate::proofs::Identifiers::base128_length_at_most))]
 pub(crate) fn base128_length(number: u64) -> usize
     ensures { result ≡ length (base128 number) }
@@ -148,7 +148,7 @@ pub(crate) fn put_identifier(out: &mut [u8], end: usize, tag: Tag, bit: PCBit) -
     )
 }
 
-// How many bytes the identifier of a constructed element takes.
+// The count of bytes of the identifier of a constructed element.
 #[tactic(auto, using(yasna_base::proofs::Identifier::identifier_short, yasna_base::proofs::Identifier::identifier_long, crate::proofs::Identifiers::base128_length_at_most))]
 #[inline(always)]
 pub(crate) fn identifier_length(tag: Tag) -> usize

@@ -4,7 +4,7 @@ ghost use Rattle.yasna_base.specs.BigInteger.{trim_leading};
 ghost use Rattle.yasna_writer.specs.Integer.{sign_byte, needs_sign, sign_octet};
 ghost use Rattle.yasna_base.specs.Integer.{distance};
 
-// The bytes without those equal to `byte` that are in front.
+// The bytes without leading ones equal to `byte`.
 pub(crate) fn trim_leading(byte: u8, bytes: &[u8]) -> &[u8]
     ensures { result.now ≡ trim_leading byte bytes.now }
 {
@@ -18,14 +18,14 @@ pub(crate) fn trim_leading(byte: u8, bytes: &[u8]) -> &[u8]
     rest
 }
 
-// The byte that is endlessly before a number in two's complement.
+// The byte that extends a number of this sign in two's complement.
 pub(crate) fn sign_byte(positive: bool) -> u8
     ensures { result ≡ sign_byte positive }
 {
     if positive { 0 } else { 255 }
 }
 
-// Whether bytes need that byte in front to have that sign.
+// Whether bytes need a leading byte to have that sign.
 fn needs_sign(positive: bool, bytes: &[u8]) -> bool
     ensures { result ≡ needs_sign positive bytes.now }
 {
@@ -36,7 +36,7 @@ fn needs_sign(positive: bool, bytes: &[u8]) -> bool
     }
 }
 
-// That byte where it is needed.
+// The leading byte for the sign, if one is needed.
 pub(crate) fn sign_octet(positive: bool, bytes: &[u8]) -> &'static [u8]
     ensures { result.now ≡ sign_octet positive bytes.now }
 {
@@ -46,7 +46,7 @@ pub(crate) fn sign_octet(positive: bool, bytes: &[u8]) -> &'static [u8]
     if positive { &[0] } else { &[255] }
 }
 
-// How far a number is from 0, or from -1 below it.
+// The distance of a number from 0, or from -1 below that.
 #[inline(always)]
 fn distance(val: i64) -> u64
     ensures distance { result ≡ distance val }
@@ -58,7 +58,7 @@ fn distance(val: i64) -> u64
     val.cast_unsigned()
 }
 
-// How many bytes a number takes in two's complement: one more bit than its distance.
+// The count of bytes of a number in two's complement: it has one more bit than its distance.
 #[inline(always)]
 pub(crate) fn octets(val: i64) -> usize
     ensures some { 1 ≤ result }

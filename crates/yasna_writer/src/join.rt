@@ -1,7 +1,7 @@
 //! Contents and headers joined where the contents are, from the last header to the first, for `buffer`.
 //!
-//! Room for all headers is made after the contents. Then each piece of the contents moves up to its place, once, and the header in front
-//! of it is written there. So no second copy of the bytes is needed.
+//! Room for all headers is made after the contents. Then each piece of the contents moves up to its place, once, and the header
+//! before it is written. So no second copy of the bytes is needed.
 ghost use Rattle.std.specs.Prelude.{◌≡◌, ◌≤◌, ◌<◌, ◌+◌, ◌^◌, length as count, take, slice_range, slice_get, MatchResult, []};
 ghost use Rattle.yasna_base.specs.declared.tag.PCBit.TheVariants.{Constructed};
 ghost use Rattle.yasna_writer.specs.Header.{header_bytes};
@@ -15,8 +15,8 @@ use crate::slots::Slots;
 use std::alloc::AllocError;
 use yasna_base::{Tag, TagClass};
 
-// Puts each header at its place in the contents, and takes its entry out. The headers take so many bytes, and those that are too large
-// for an entry are in a list.
+// Puts each header at its place in the contents, and takes its slot out. The headers take `headers` bytes, and those that are too
+// large for a slot are in a list.
 pub(crate) fn join(
     contents: &mut Vec<u8>,
     slots: &mut Slots,
@@ -50,8 +50,8 @@ fn place_headers(bytes: &mut [u8], slots: &mut Slots, large: &[PartsHeader], len
     }
 }
 
-// Makes room for headers that take so many bytes after the contents. For one short header these are two bytes, which are appended
-// with no loop.
+// Makes room after the contents for headers of this many bytes. For one short header these are two bytes, which are appended
+// without a loop.
 #[inline(always)]
 fn make_room(contents: &mut Vec<u8>, headers: usize) -> Result<(), AllocError>
     requires { count contents.old.items + headers < 2 ^ 64 }
@@ -63,7 +63,7 @@ fn make_room(contents: &mut Vec<u8>, headers: usize) -> Result<(), AllocError>
     contents.resize(contents.len() + headers, 0)
 }
 
-// Writes the header of a mark before a place. Mostly its length is counted: one branch is cheaper than a jump for each kind.
+// Writes the header of a slot before a place. Mostly its length is definite: one branch is cheaper than a jump for each state.
 #[inline(always)]
 fn put_slot(out: &mut [u8], end: usize, state: SlotState, large: &[PartsHeader]) -> usize
     requires room { count (header_of_state large.now state) ≤ end }
@@ -107,7 +107,7 @@ fn put_any_slot(out: &mut [u8], end: usize, state: SlotState, large: &[PartsHead
     }
 }
 
-// Writes a header whose length is counted before a place.
+// Writes a header of definite length before a place.
 #[inline(always)]
 fn put_definite(out: &mut [u8], end: usize, class: TagClass, number: u16, length: u32) -> usize
     requires room { count (header_bytes Constructed (record { tag = record { tag_class = class; tag_number = number }; length = length })) ≤ end }
@@ -137,7 +137,7 @@ fn put_listed(out: &mut [u8], end: usize, large: &[PartsHeader], index: usize) -
     }
 }
 
-// Pieces up to so many bytes are moved byte by byte, longer ones by way of the stack, so many bytes at a time.
+// Pieces up to this many bytes are moved byte by byte, longer ones through the stack, this many bytes at a time.
 const FEW: usize = 16;
 
 const MANY: usize = 256;

@@ -43,7 +43,7 @@ fn put_long_length(out: &mut [u8], end: usize, length: usize) -> usize
     put_bytes(out, start, &[128 + digits.len() as u8])
 }
 
-// How many bytes a length takes.
+// The count of bytes of a length.
 #[tactic(auto, using(yasna_base::proofs::Length::short_length, crate::proofs::BigEndian::length_trimmed, crate::proofs::BigEndian::trimmed_at_most))]
 #[inline(always)]
 pub(crate) fn length_length(length: usize) -> usize

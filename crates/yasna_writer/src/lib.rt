@@ -3,7 +3,7 @@
 //! A writing begins in `construct_der` and its kin, or `construct_cer`, which hand a writer to a closure and return the bytes that it wrote.
 //!
 //! Names distinguish the layers. Users call `write_..`, which returns a sticky error, and else takes the implicit tag. It calls
-//! `append_..` of the writer, which fails with a sticky `OutOfMemory`, and that `add_..` of its buffer. `push_..` puts bytes after those of a vector.
+//! `append_..` of the writer, which makes `OutOfMemory` sticky, and that `add_..` of its buffer. `push_..` appends bytes to a vector.
 //! A header is identifier and length octets (X.690, 8.1.2 and 8.1.3), an indefinite one those of indefinite length (8.1.3.6).
 //!
 //! | Module | Holds |
@@ -20,9 +20,9 @@
 //! | `set` | the writes of sets, whose parts are put in order |
 //! | `ordered_part` | the parts of a SET OF, in the order of their bytes |
 //! | `tagged_part` | the parts of a SET, in the order of their tags |
-//! | `tagged` | the writes of elements under tags of the caller's |
+//! | `tagged` | the writes of elements under explicit and implicit tags |
 //! | `buffer` | contents, and the headers that aren't among them yet |
-//! | `join` | the joining |
+//! | `join` | contents and headers joined |
 //! | `header` | the header of an element |
 //! | `identifier`, `length` | identifier and length octets |
 //! | `integer` | the fewest bytes of a number |

@@ -1,4 +1,4 @@
-//! OBJECT IDENTIFIER (X.690, 8.19): a call of users, whose contents are made of numbers as they are appended.
+//! OBJECT IDENTIFIER (X.690, 8.19), a call of users. Its contents are numbers, which are appended one by one.
 ghost use Rattle.std.specs.List.{flat_map};
 ghost use Rattle.std.specs.Prelude.{◌≡◌, ◌≤◌, ◌*◌, ◌∷◌, ◌++◌, length, OnOk, vec_len};
 ghost use Rattle.yasna_base.specs.declared.mode.BERMode.TheVariants.{Der};
@@ -17,7 +17,7 @@ use yasna_base::models::ObjectIdentifier;
 use yasna_base::tags::TAG_OID;
 use yasna_base::{ASN1Result, PCBit};
 
-// How many bytes numbers take in base 128.
+// The count of bytes of numbers in base 128.
 #[inline(always)]
 fn numbers_length(numbers: &[u64]) -> usize
     ensures octets { result ≡ length (flat_map base128 numbers.now) }
@@ -63,7 +63,7 @@ fn push_numbers(out: &mut Vec<u8>, numbers: &[u64]) -> Result<(), AllocError>
     Ok(())
 }
 
-// How many bytes these subidentifiers take.
+// The count of bytes of these subidentifiers.
 #[inline(always)]
 fn contents_length(first: u64, further: &[u64]) -> usize
     ensures { result ≡ length (base128 first ++ flat_map base128 further.now) }
@@ -84,7 +84,7 @@ pub(crate) fn push_subidentifiers(
     push_numbers(out, further)
 }
 
-// What the first two components make, and the further components.
+// The number that the first two components make, and the further components.
 #[inline(always)]
 fn subidentifiers(components: &[u64]) -> (u64, &[u64])
     requires { IsEncodableOid components.now }

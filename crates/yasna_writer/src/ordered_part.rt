@@ -6,11 +6,11 @@ ghost use Rattle.yasna_writer.specs.SortKey.{IsFirstEight};
 use std::cmp::Ordering;
 use std::convert::AsSlice;
 
-// How many bytes of a part the number before it holds.
+// The count of a part's bytes in its sort key.
 const KEY_LENGTH: usize = 8;
 
-/// A part of a SET OF, after the number that its first bytes spell: most parts differ there, so that they are compared
-/// without a look at their bytes.
+/// A part of a SET OF, after a sort key, which is the number that its first bytes spell. Most parts differ in it, and are compared
+/// without their bytes.
 #[derive(Drop)]
 pub struct OrderedPart {
     key: u64,
@@ -27,7 +27,7 @@ impl AsSlice<u8> for OrderedPart {
     }
 }
 
-// The number that the first eight bytes spell in base 256, with zeros after fewer.
+// The sort key: the number that the first eight bytes spell in base 256, with zeros after fewer.
 fn key_of(bytes: &[u8]) -> u64
     ensures { IsFirstEight result bytes.now }
 {
@@ -42,7 +42,7 @@ fn key_of(bytes: &[u8]) -> u64
 }
 
 impl OrderedPart {
-    /// A part of these bytes.
+    /// The part of these bytes.
     pub fn new(bytes: Vec<u8>) -> OrderedPart
         ensures { result.bytes ≡ bytes }
     {
@@ -52,7 +52,7 @@ impl OrderedPart {
         }
     }
 
-    /// How two parts are ordered.
+    /// The order of two parts.
     pub fn compare(&self, other: &OrderedPart) -> Ordering
         ensures { result ≡ octets_cmp self.now.bytes.items other.now.bytes.items }
     {

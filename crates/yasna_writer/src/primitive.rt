@@ -1,9 +1,9 @@
 //! Elements without parts: BOOLEAN, INTEGER, ENUMERATED and NULL (X.690, 8.2 to 8.4 and 8.8), calls of users.
 //!
 //! Each write takes the implicit tag if there is one, and else the type's own. A sticky error is returned, and
-//! nothing is written. Besides, each returns `OutOfMemory` where there is no memory for the element, and keeps it.
+//! nothing is written. If there is no memory for the element, each returns `OutOfMemory`, which is sticky.
 //!
-//! Where the tag's number is below 31 and the contents take a few bytes, the whole element is one append.
+//! If the tag's number is below 31 and the contents are a few bytes, the whole element is one append.
 ghost use Rattle.std.specs.Prelude.{◌≡◌, ◌≤◌, ◌-◌, ◌∷◌, [], ◌++◌, drop, length, Some, Err, MatchResult, pos};
 ghost use Rattle.yasna_base.specs.declared.error.ASN1ErrorKind.TheVariants.{OutOfMemory};
 ghost use Rattle.yasna_base.specs.declared.tag.PCBit.TheVariants.{Primitive};
@@ -128,8 +128,8 @@ impl Writer {
 
     /// Writes an INTEGER of any size (X.690, 8.3).
     ///
-    /// Zeros before `bytes` are dropped, and the rest is the number, highest byte first, less 256 to the power of
-    /// its length where `positive` is false. Where nothing is left the number is 0. It is written in the fewest bytes.
+    /// Leading zeros of `bytes` are dropped, and the rest is the number, highest byte first, less 256 to the power of its length if
+    /// `positive` is false. If nothing is left the number is 0. It is written in the fewest bytes.
     pub fn write_bigint_bytes(&mut self, bytes: &[u8], positive: bool) -> ASN1Result<()>
         ensures { Wrote (integer_encoding (tag_or self.old.tag integer_tag) self.old.mode (big_integer bytes.now positive)) self.old self.new result }
     {
@@ -168,7 +168,7 @@ impl Writer {
         }
     }
 
-    // Writes a number of 64 bits, however many bytes it takes.
+    // Writes a number of 64 bits, of one to eight bytes.
     fn write_longer(&mut self, own: Tag, val: i64) -> ASN1Result<()>
         ensures { Wrote (integer_encoding (tag_or self.old.tag own) self.old.mode val) self.old self.new result }
     {
@@ -179,7 +179,7 @@ impl Writer {
         self.append_last(tag, val.to_be_bytes(), octets(val))
     }
 
-    // Appends an element whose contents are so many of the last bytes. Two to four of them are appended as an array of fixed size.
+    // Appends an element whose contents are the last `count` bytes. Two to four of them are appended as an array of fixed size.
     #[inline(always)]
     fn append_last(&mut self, tag: Tag, bytes: [u8; 8], count: usize) -> ASN1Result<()>
         requires some { 1 ≤ count }

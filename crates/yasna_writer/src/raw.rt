@@ -15,7 +15,7 @@ impl Writer {
     /// Writes a raw element (X.690, 8.1): its identifier, or that of the implicit tag with its bit, the length of its payload in the
     /// fewest bytes, and its payload as it is.
     ///
-    /// In CER a constructed one has indefinite length: 128 is in place of its length, and its payload ends by the two zeros.
+    /// In CER a constructed one has indefinite length: 128 is in place of its length, and its payload has to end with two zeros.
     pub fn write_tagged_der(&mut self, value: &TaggedDerValue) -> ASN1Result<()>
         ensures { Wrote (raw_encoding (tag_or self.old.tag (raw_of value.now).tag) self.old.mode (raw_of value.now)) self.old self.new result }
     {
@@ -29,7 +29,7 @@ impl Writer {
         self.append(payload)
     }
 
-    // Appends what is before a payload that is written as it is, or fails with a sticky `OutOfMemory`.
+    // Appends the identifier and the length before a payload that is written as it is, or fails with a sticky `OutOfMemory`.
     #[inline(always)]
     fn append_raw_header(&mut self, header: Header, bit: PCBit) -> ASN1Result<()>
         ensures { Appended (raw_header self.old.mode bit header) self.old self.new result }
@@ -41,9 +41,9 @@ impl Writer {
         }
     }
 
-    /// Writes bytes as they are, whatever implicit tag waits, which is used up.
+    /// Writes bytes as they are. An implicit tag that waits is ignored, and used up.
     ///
-    /// Whoever calls it answers for their being one element in the mode of the writing.
+    /// The caller vouches that they are one element in the mode of the writing.
     #[inline(always)]
     pub fn write_der(&mut self, der: &[u8]) -> ASN1Result<()>
         ensures { Wrote der.now self.old self.new result }

@@ -1,4 +1,4 @@
-//! Strings in segments, as CER asks where they are long (X.690, 9.2). `strings` and `times` call it.
+//! Long strings in segments, as CER requires (X.690, 9.2). `strings` and `times` call it.
 //!
 //! A string of more than 1000 octets is a constructed element of indefinite length. Its parts are primitive: OCTET STRINGs of 1000
 //! octets, or BIT STRINGs of 999 bytes after their count of unused bits; the last part has what is left.
@@ -19,13 +19,13 @@ use crate::strings::unused_bits;
 use yasna_base::tags::{TAG_BITSTRING, TAG_OCTETSTRING};
 use yasna_base::{ASN1Result, BERMode, PCBit, Tag};
 
-// How many octets fill a segment.
+// The octets that fill a segment.
 pub(crate) const FULL_OCTETS: usize = 1000;
 
-// How many bytes of a BIT STRING do, after the count of unused bits.
+// The bytes of a BIT STRING that fill a segment, after the count of unused bits.
 pub(crate) const FULL_BITS: usize = 999;
 
-// Room for so many bytes in segments, and for the two zeros.
+// The room for this many bytes in segments, and for the two zeros.
 fn room(length: usize) -> usize {
     (length / FULL_BITS + 1)
         .saturating_mul(5)
@@ -34,7 +34,7 @@ fn room(length: usize) -> usize {
 }
 
 impl Writer {
-    // Whether so many bytes are cut, where so many fill a segment.
+    // Whether `length` bytes are cut, if `full` bytes fill a segment.
     #[inline(always)]
     pub(crate) fn cuts(&self, length: usize, full: usize) -> bool
         ensures { result ≡ is_cut self.now.mode full length }
@@ -42,7 +42,7 @@ impl Writer {
         length > full && self.cuts_long()
     }
 
-    // Whether long strings are cut.
+    // Whether the mode cuts long strings.
     #[inline(always)]
     fn cuts_long(&self) -> bool
         ensures { result ≡ is_cut self.now.mode 0 1 }
@@ -53,7 +53,7 @@ impl Writer {
         }
     }
 
-    // Writes octets: as one primitive element, or in segments where the mode cuts so many.
+    // Writes octets: as one primitive element, or in segments if the mode cuts that many.
     #[tactic(auto, using(crate::proofs::SegmentSteps::octets_whole))]
     #[inline(always)]
     pub(crate) fn write_octets(&mut self, own: Tag, octets: &[u8]) -> ASN1Result<()>
@@ -110,7 +110,7 @@ impl Writer {
         self.append(&[0, 0])
     }
 
-    // Writes the header of an element around segments of so many bytes, and makes room for them.
+    // Writes the header of an element around segments of this many bytes, and makes room for them.
     fn write_segments_header(&mut self, own: Tag, length: usize) -> ASN1Result<()>
         ensures { Wrote (indefinite_header (tag_or self.old.tag own)) self.old self.new result }
     {
@@ -166,7 +166,7 @@ impl Writer {
         self.append_last_bits(unused, rest)
     }
 
-    // Appends a segment of bits that is full: the tag of BIT STRING, 1000 in two bytes, no bit that is left over, and the bits.
+    // Appends a segment of bits that is full: the tag of BIT STRING, 1000 in two bytes, 0 unused bits, and the bits.
     fn append_full_bits(&mut self, bytes: &[u8]) -> ASN1Result<()>
         requires { length bytes.now ≡ 999 }
         ensures { Appended (bit_segment (bits_with 0 bytes.now)) self.old self.new result }
@@ -175,7 +175,7 @@ impl Writer {
         self.append(bytes)
     }
 
-    // Appends the last segment of bits. Those that are left over are zero.
+    // Appends the last segment of bits. Its unused bits are zero.
     #[tactic(auto, using(crate::proofs::SegmentSteps::last_segment))]
     fn append_last_bits(&mut self, unused: u8, bytes: &[u8]) -> ASN1Result<()>
         requires few { unused < 8 }

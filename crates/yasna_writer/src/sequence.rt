@@ -1,4 +1,4 @@
-//! SEQUENCE and SEQUENCE OF (X.690, 8.9 and 8.10), calls of users. The length is counted in DER (10.1), and indefinite in CER (9.1).
+//! SEQUENCE and SEQUENCE OF (X.690, 8.9 and 8.10), calls of users. The length is definite in DER (10.1), and indefinite in CER (9.1).
 ghost use Rattle.std.specs.Prelude.{◌≡◌, None};
 ghost use Rattle.std.specs.Fn.{FnOnceTakesAtMut};
 ghost use Rattle.yasna_base.specs.declared.tag.PCBit.TheVariants.{Constructed};
@@ -12,7 +12,7 @@ use crate::state::{DERWriter, Writer};
 use yasna_base::ASN1Error;
 use yasna_base::tags::TAG_SEQUENCE;
 
-/// What a closure writes the parts of a sequence to, one after the other.
+/// The parts of a sequence, which a closure writes one after the other.
 ///
 /// ```rust
 /// pub fn write_point(point: Point, writer: DERWriter<'_>) -> ASN1Result<()> {
@@ -37,10 +37,10 @@ impl Writer {
 
     /// Writes a SEQUENCE (X.690, 8.9): its contents are what the closure writes.
     ///
-    /// A sticky error is returned, and the closure doesn't run. Else the closure's answer is passed on, and
-    /// where it is an `Err` of its own, the element still ends over what was written so far and the writing goes on.
-    /// Where a write of the closure failed, or there is no memory for the header (`OutOfMemory`), or the closure left
-    /// fewer bytes than there were (`Invalid`), that failure is returned instead and kept.
+    /// A sticky error is returned, and the closure doesn't run. Else the closure's result is returned. After an `Err` of the closure's own
+    /// the element still ends over what was written so far, and the writing goes on. If a write of the closure failed, or there is no
+    /// memory for the header (`OutOfMemory`), or the closure left fewer bytes than there were (`Invalid`), that error is returned
+    /// instead, and is sticky.
     #[inline(always)]
     pub fn write_sequence<
         T: Drop,

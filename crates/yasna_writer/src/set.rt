@@ -1,5 +1,5 @@
-//! SET and SET OF (X.690, 8.11, 8.12, 9.3, 10.3 and 11.6), calls of users: their parts are written apart from each other, and then put
-//! in order. So parts of CER are ordered by the bytes that they have in CER.
+//! SET and SET OF (X.690, 8.11, 8.12, 9.3, 10.3 and 11.6), calls of users. Their parts are written separately, and then put in
+//! order. So parts of CER are ordered by the bytes that they have in CER.
 ghost use Rattle.std.specs.Prelude.{◌≡◌, ◌++◌, ◌∷◌, [], None, IsTrue, ◌↔◌, IfOk, MatchOption, MatchResult};
 ghost use Rattle.std.specs.Borrow.{sem};
 ghost use Rattle.std.specs.Fn.{FnOnceTakesAtMut};
@@ -25,7 +25,7 @@ use std::marker::Model;
 use yasna_base::tags::TAG_SET;
 use yasna_base::{ASN1Error, ASN1ErrorKind, ASN1Result, BERMode, Tag};
 
-/// By what the parts of a set are ordered.
+/// The order of the parts of a set.
 #[derive(Clone, Copy)]
 pub enum PartOrder {
     /// By their bytes, as those of a SET OF.
@@ -34,7 +34,7 @@ pub enum PartOrder {
     Tags,
 }
 
-/// What a closure writes the parts of a set to.
+/// The parts of a set, which a closure writes in any order.
 ///
 /// ```rust
 /// pub fn write_values(values: &[Vec<u8>], writer: DERWriter<'_>) -> ASN1Result<()> {
@@ -54,7 +54,7 @@ pub struct DERWriterSet {
     last: Writer,
     // Whether there is a last part.
     begun: bool,
-    // By which rules each part is written.
+    // The mode in which each part is written.
     mode: BERMode,
 }
 
@@ -67,7 +67,7 @@ impl Model for DERWriterSet {
     ghost view = { λ s. record { parts = bytes_each s.parts.items ++ last_part s.begun s.last.bytes; mode = s.mode; failed = s.last.failed } };
 }
 
-// Puts the bytes of a part after others, or runs out of memory.
+// Appends the bytes of a part to the others, or runs out of memory.
 fn push_part(parts: &mut Vec<Vec<u8>>, last: &mut Writer) -> ASN1Result<()>
     ensures { Pushes last.old.bytes parts.old.items parts.new.items result }
 {
@@ -78,7 +78,7 @@ fn push_part(parts: &mut Vec<Vec<u8>>, last: &mut Writer) -> ASN1Result<()>
     }
 }
 
-// Puts the last part after the others, where one was begun.
+// Appends the last part to the others, if one was begun.
 fn end_part(parts: &mut Vec<Vec<u8>>, last: &mut Writer, begun: bool) -> ASN1Result<()>
     ensures { EndsPart begun parts.old.items last.old parts.new.items result }
 {
@@ -131,7 +131,7 @@ fn non_empty_bytes(part: &mut Writer) -> ASN1Result<Vec<u8>>
     Ok(bytes)
 }
 
-// The parts as they are, each after the number of its first bytes.
+// The parts, each after its sort key.
 fn number_parts(alloc: Global, parts: Vec<Vec<u8>>) -> Result<Vec<OrderedPart>, AllocError>
     ensures { IfOk result (λ v. ordered_bytes v.items ≡ bytes_each parts.items) }
 {
@@ -152,7 +152,7 @@ fn order_by_bytes(alloc: Global, parts: Vec<Vec<u8>>) -> Result<Vec<OrderedPart>
 }
 
 impl DERWriterSet {
-    // A set that begins.
+    // A set without parts.
     #[inline(always)]
     pub(crate) fn new(alloc: Global, mode: BERMode) -> DERWriterSet
         ensures { result ≡ no_parts mode }
@@ -206,9 +206,9 @@ impl DERWriterSet {
         }
     }
 
-    /// The writer of a further part, by the rules that the set began with.
+    /// The writer of a further part, in the mode that the set began with.
     ///
-    /// Where there is no memory for the parts before, `OutOfMemory` is sticky, and this writer returns it.
+    /// If there is no memory for the parts before, this writer returns `OutOfMemory`, which is sticky.
     #[inline(always)]
     pub fn next(&mut self) -> DERWriter<'_>
         ensures* lends { sem 𝓛 (LendsPart self.entry result) }
@@ -242,7 +242,7 @@ impl Writer {
         }
     }
 
-    // Writes a SET OF around its only part, which needs no order, or keeps why it can't.
+    // Writes a SET OF around its only part, which needs no order, or fails with a sticky error.
     fn end_set_of_one(&mut self, tag: Tag, part: &mut Writer)
         requires { self.old ≡ handed self.old }
         ensures { EndsSet SetOfContents (canonical_element self.old.mode tag Constructed) (only_part part.old) self.old self.new }
@@ -253,7 +253,7 @@ impl Writer {
         }
     }
 
-    // Writes a SET OF around the parts, or keeps why it can't.
+    // Writes a SET OF around the parts, or fails with a sticky error.
     fn end_set_of(&mut self, tag: Tag, mut set: DERWriterSet)
         requires { self.old ≡ handed self.old }
         ensures { EndsSet SetOfContents (canonical_element self.old.mode tag Constructed) set self.old self.new }
@@ -311,8 +311,8 @@ impl Writer {
     /// Writes a SET (X.690, 8.11, 9.3 and 10.3): its contents are the parts that the closure writes, by the tags that they
     /// begin with, first the class, then the number.
     ///
-    /// Parts of one tag are as they were written, but where its number is 31 or more, by their bytes. What is sticky
-    /// and returned is as with `write_set_of`; a part that doesn't begin with an identifier is `Invalid` too.
+    /// Parts of one tag stay in the order of calls, or are ordered by their bytes if the tag's number is 31 or more. Errors are those of
+    /// `write_set_of`; a part that doesn't begin with an identifier is `Invalid` too.
     pub fn write_set<
         T: Drop,
         E: From<ASN1Error> + Drop,
@@ -326,10 +326,9 @@ impl Writer {
 
     /// Writes a SET OF (X.690, 8.12): its contents are the parts that the closure writes, in ascending order as bytes.
     ///
-    /// A sticky error is returned, and the closure doesn't run. Else the closure's answer is passed on, and
-    /// where it is an `Err` of its own, the set still ends over the parts so far and the writing goes on. Where a write
-    /// of the closure failed, or there is no memory (`OutOfMemory`), or a part is empty (`Invalid`), that failure is
-    /// returned instead and kept, and nothing of the set is written.
+    /// A sticky error is returned, and the closure doesn't run. Else the closure's result is returned. After an `Err` of the closure's own
+    /// the set still ends over the parts so far, and the writing goes on. If a write of the closure failed, or there is no memory
+    /// (`OutOfMemory`), or a part is empty (`Invalid`), that error is returned instead, and is sticky, and nothing of the set is written.
     pub fn write_set_of<
         T: Drop,
         E: From<ASN1Error> + Drop,

@@ -1,7 +1,7 @@
-//! The entries of headers, in blocks of one size, for `buffer`.
+//! The slots of headers, in blocks of one size, for `buffer`.
 //!
-//! A block that is full is never moved again. So the memory of many entries is what they take, and contents that grow beside them
-//! find the room where they were before.
+//! A full block is never moved. So the memory of many slots is what they need, and contents that grow beside them find the room
+//! where they were before.
 ghost use Rattle.std.specs.Prelude.{◌≡◌, ◌<◌, ◌∷◌, ◌++◌, [], length, set, slice_get, MatchOption, MatchResult};
 ghost use Rattle.yasna_writer.specs.Slots.{in_blocks, AreFull, PutsAfter};
 
@@ -11,15 +11,15 @@ use std::alloc::{AllocError, Global};
 use std::marker::Model;
 use std::mem;
 
-// How many entries a full block holds: 64 KiB.
+// The number of slots in a full block: 64 KiB.
 const BLOCK: usize = 4096;
 
-// Entries. Contracts see them as one list.
+// The slots, which contracts see as one list.
 #[derive(Drop)]
 pub(crate) struct Slots {
     // Blocks that are full.
     full: Vec<Vec<Slot>>,
-    // How many entries they hold.
+    // The number of slots in full blocks.
     before: usize,
     // The last block.
     last: SmallVec<Slot, 4, Global>,
@@ -38,7 +38,7 @@ impl Model for Slots {
 }
 
 impl Slots {
-    // No entries.
+    // Makes an empty list of slots.
     #[inline(always)]
     pub(crate) fn new(alloc: Global) -> Slots
         ensures { result ≡ [] }
@@ -50,7 +50,7 @@ impl Slots {
         }
     }
 
-    // How many there are.
+    // The number of slots.
     #[inline(always)]
     pub(crate) fn len(&self) -> usize
         ensures { result ≡ length self.now }
@@ -58,7 +58,7 @@ impl Slots {
         self.before + self.last.as_slice().len()
     }
 
-    // The entry of this number.
+    // The slot of this number.
     #[inline(always)]
     pub(crate) fn get(&self, index: usize) -> Option<Slot>
         ensures { result ≡ slice_get self.now index }
@@ -69,7 +69,7 @@ impl Slots {
         }
     }
 
-    // Puts an entry in place of one.
+    // Replaces a slot.
     #[inline(always)]
     pub(crate) fn set(&mut self, index: usize, slot: Slot)
         requires { index < length self.old }
@@ -81,7 +81,7 @@ impl Slots {
         }
     }
 
-    // Appends an entry.
+    // Appends a slot.
     #[inline(always)]
     pub(crate) fn push(&mut self, alloc: Global, slot: Slot) -> Result<(), AllocError>
         ensures { MatchResult result (λ _. self.new ≡ self.old ++ (slot ∷ [])) (λ _. self.new ≡ self.old) }
@@ -95,8 +95,8 @@ impl Slots {
         }
     }
 
-    // Makes room for an entry: in the first block for four times as many at each step, in each further one for all that it may hold,
-    // and in another block where the last one is full.
+    // Makes room for a slot. The first block grows by four times at each step, each further one has its full size at once, and a full
+    // block is followed by another.
     #[cold]
     #[inline(never)]
     fn make_room(&mut self, alloc: Global) -> Result<(), AllocError>
@@ -119,7 +119,7 @@ impl Slots {
         Ok(())
     }
 
-    // Takes out the last entry.
+    // Takes out the last slot.
     #[inline(always)]
     pub(crate) fn pop(&mut self) -> Option<Slot>
         ensures { MatchOption result ((self.old ≡ []) × (self.new ≡ [])) (λ e. self.old ≡ self.new ++ (e ∷ [])) }
@@ -133,7 +133,7 @@ impl Slots {
     }
 }
 
-// Puts the last block after the full ones, and begins another.
+// Appends the last block to the full ones, and begins another.
 fn put_after(
     alloc: Global,
     full: &mut Vec<Vec<Slot>>,
@@ -157,7 +157,7 @@ fn put_after(
     }
 }
 
-// The entry of this number in full blocks.
+// The slot of this number in full blocks.
 #[tactic(auto, using(crate::proofs::Blocks::slot_in_block, crate::proofs::Blocks::slot_in_none))]
 fn get_in(full: &[Vec<Slot>], index: usize) -> Option<Slot>
     requires { AreFull full.now }
@@ -167,14 +167,14 @@ fn get_in(full: &[Vec<Slot>], index: usize) -> Option<Slot>
     get_of(block, index % BLOCK)
 }
 
-// The entry of this number in a block.
+// The slot of this number in a block.
 fn get_of(block: &[Slot], index: usize) -> Option<Slot>
     ensures { result ≡ slice_get block.now index }
 {
     block.get(index).copied()
 }
 
-// Puts an entry in place of one in full blocks.
+// Replaces a slot in full blocks.
 fn set_in(full: &mut [Vec<Slot>], index: usize, slot: Slot)
     requires full { AreFull full.old }
     requires within { index < length (in_blocks full.old) }

@@ -24,18 +24,17 @@ use std::alloc::Global;
 use std::marker::Model;
 use yasna_base::{ASN1Error, ASN1ErrorKind, ASN1Result, BERMode, PCBit, Tag};
 
-/// A writing: bytes so far, whether they are in DER or in CER, the implicit tag that the next element takes, and the failure that
-/// later calls return.
+/// A writing: the bytes so far, their mode (DER or CER), the implicit tag of the next element, and the sticky error.
 ///
-/// A write that finds no memory returns `OutOfMemory`. That failure is sticky: each later write returns it, and so does
-/// the call that began the writing.
+/// A write that finds no memory returns `OutOfMemory`. That error is sticky: each later write returns it, and so does the call that
+/// began the writing.
 #[derive(Drop)]
 pub struct Writer {
     buffer: Buffer,
     tag: Option<Tag>,
     failed: Option<ASN1Error>,
     alloc: Global,
-    // By which rules it writes.
+    // The mode in which it writes.
     mode: BERMode,
 }
 
@@ -47,12 +46,12 @@ impl Model for Writer {
     ghost view = { λ s. record { bytes = s.buffer; mode = s.mode; tag = s.tag; failed = s.failed } };
 }
 
-/// What a closure writes to.
+/// The writer of one element.
 ///
-/// Each write takes the implicit tag if there is one, and else the type's own. Two writers of nested writings can be
-/// exchanged by `std::mem::swap`. Each then goes on with the bytes, the rules and the failure of the other, and an element that
-/// is open in one ends over what it holds then: by the rules that the element began with, from the place on where it began, by its
-/// count of bytes, and where fewer bytes are there, as `Invalid`, which is sticky. What follows it is written by its rules again.
+/// Each write takes the implicit tag if there is one, and else the type's own. Two writers of nested writings can be exchanged by
+/// `std::mem::swap`. Each then goes on with the bytes, the mode and the sticky error of the other. An element that is open in one
+/// ends over what that holds then, in the mode that the element began with, from its place by the count of bytes on; if fewer bytes
+/// are there, it fails as `Invalid`, which is sticky. What follows it is written in its own mode again.
 ///
 /// ```rust
 /// pub fn write_time(time: &Time, writer: DERWriter<'_>) -> ASN1Result<()> {
@@ -65,7 +64,7 @@ impl Model for Writer {
 pub type DERWriter<'a> = &'a mut Writer;
 
 impl Writer {
-    // A writing that begins, by these rules.
+    // An empty writing in this mode.
     #[inline(always)]
     pub(crate) fn new(alloc: Global, mode: BERMode) -> Writer
         ensures { result ≡ begun mode }
@@ -79,7 +78,7 @@ impl Writer {
         }
     }
 
-    // By which rules it writes.
+    // The mode in which it writes.
     #[inline(always)]
     pub(crate) fn mode(&self) -> BERMode
         ensures { result ≡ self.now.mode }
@@ -95,14 +94,14 @@ impl Writer {
         self.failed
     }
 
-    // Where memory is taken from.
+    // The allocator.
     #[inline(always)]
     pub(crate) fn alloc(&self) -> Global {
         self.alloc
     }
 
-    // Takes the implicit tag, or else a type's own. The one that waits is made anew, so that what is between its fields isn't read
-    // back from memory.
+    // Takes the implicit tag, or else a type's own. The one that waits is copied by its fields, so that its padding isn't read back
+    // from memory.
     #[inline(always)]
     pub(crate) fn take_tag(&mut self, own: Tag) -> Tag
         ensures tag { result ≡ tag_or self.old.tag own }
@@ -168,7 +167,7 @@ impl Writer {
         }
     }
 
-    // Appends the header of an element of indefinite length, with room for so many bytes after it, or fails with a sticky `OutOfMemory`.
+    // Appends the header of an element of indefinite length, with room for this many bytes after it, or fails with a sticky `OutOfMemory`.
     pub(crate) fn append_indefinite_header(&mut self, tag: Tag, length: usize) -> ASN1Result<()>
         ensures { Appended (indefinite_header tag) self.old self.new result }
     {
@@ -218,7 +217,7 @@ impl Writer {
         }
     }
 
-    // What the writing returns, where the closure returned `own`.
+    // The result of the writing, if the closure returned `own`.
     #[inline(always)]
     pub(crate) fn finish<E: From<ASN1Error> + Drop>(
         &mut self,
@@ -238,7 +237,7 @@ impl Writer {
         }
     }
 
-    // The tag of an element that begins, where no error is sticky.
+    // The tag of an element that begins, if no error is sticky.
     #[inline(always)]
     pub(crate) fn fresh_tag(&mut self, own: Tag) -> Result<Tag, ASN1Error>
         ensures { TakesTag own self.old self.new result }
@@ -249,7 +248,7 @@ impl Writer {
         Ok(self.take_tag(own))
     }
 
-    // Takes out the bytes. Nothing is written to what is left.
+    // Takes out the bytes. Nothing is written to the buffer that is left.
     #[inline(always)]
     pub(crate) fn take_bytes(&mut self) -> ASN1Result<Vec<u8>>
         ensures { MatchResult result (λ v. v.items ≡ self.old.bytes) (λ e. kind_of e ≡ OutOfMemory) }
@@ -260,7 +259,7 @@ impl Writer {
         }
     }
 
-    // Begins anew, by these rules and with this sticky error.
+    // Begins again, in this mode and with this sticky error.
     #[inline(always)]
     pub(crate) fn restart(&mut self, mode: BERMode, failed: Option<ASN1Error>)
         ensures { self.new ≡ record (begun mode) { failed = failed } }
@@ -279,7 +278,7 @@ impl Writer {
         DERWriterSet::new(self.alloc, self.mode)
     }
 
-    // Keeps a failure.
+    // Makes an error sticky.
     #[cold]
     pub(crate) fn fail(&mut self, error: ASN1Error)
         ensures { self.new ≡ record self.old { failed = Some error } }
@@ -287,7 +286,7 @@ impl Writer {
         self.failed = Some(error);
     }
 
-    // Begins an element with parts after what is there.
+    // Begins an element with parts.
     #[inline(always)]
     pub(crate) fn begin(&mut self, tag: Tag) -> OpenElement
         ensures { BeginsAt tag self.old self.new result }
@@ -295,7 +294,7 @@ impl Writer {
         self.buffer.open_element(self.alloc, tag, self.mode)
     }
 
-    // Ends it over what is left from its beginning on, by the rules that it began with, or keeps why that fails.
+    // Ends an element over what is left from its beginning on, in the mode that it began with, or fails with a sticky error.
     #[inline(always)]
     pub(crate) fn end(&mut self, opened: OpenElement)
         ensures { EndsElement opened self.old self.new }
@@ -309,7 +308,7 @@ impl Writer {
         }
     }
 
-    // Lets this tag wait for the next element, where none does, and returns how many bytes there are.
+    // Lets this tag wait for the next element, if none waits, and returns the count of bytes so far.
     #[inline(always)]
     pub(crate) fn tag_next(&mut self, tag: Tag) -> usize
         ensures tagged { self.new ≡ writing_under tag self.old }
@@ -321,7 +320,7 @@ impl Writer {
         self.buffer.len()
     }
 
-    // Drops the implicit tag after a closure, and keeps a failure where it left fewer bytes than these.
+    // Drops the implicit tag after a closure, and fails with a sticky error if it left fewer bytes than these.
     #[inline(always)]
     pub(crate) fn end_tagging(&mut self, start: usize)
         ensures { LeftAfter start self.old self.new }
@@ -332,7 +331,7 @@ impl Writer {
         }
     }
 
-    // What a call with a closure returns, where the closure returned `own`.
+    // The result of a call with a closure, if the closure returned `own`.
     #[inline(always)]
     pub(crate) fn resolve<T: Drop, E: From<ASN1Error> + Drop>(
         &self,

@@ -1,8 +1,8 @@
 //! Strings: BIT STRING, OCTET STRING and texts (X.690, 8.6, 8.7, 8.23 and 11.2), calls of users.
 //!
-//! Each is written as one primitive element, but in CER as segments where it is long (`segments`). Each write takes the implicit tag
-//! if there is one, and else the type's own. A sticky error is returned, and nothing is written. Besides, each returns
-//! `OutOfMemory` where there is no memory for the element, and keeps it.
+//! Each is written as one primitive element, or in CER as segments if it is long (`segments`). Each write takes the implicit tag if
+//! there is one, and else the type's own. A sticky error is returned, and nothing is written. If there is no memory for the
+//! element, each returns `OutOfMemory`, which is sticky.
 ghost use Rattle.std.specs.Prelude.{[], ◌∷◌, ◌≡◌, ◌≤◌, ◌<◌, ◌+◌, ◌-◌, ◌*◌, ◌%◌, ◌++◌, length, length as count};
 ghost use Rattle.std.specs.List.{AllByRecursion};
 ghost use Rattle.std.specs.Str.{chars};
@@ -35,8 +35,8 @@ impl Writer {
         self.write_octets(TAG_OCTETSTRING, bytes)
     }
 
-    /// Writes a BIT STRING of so many bits, the first of a byte being its highest (X.690, 8.6). Bits of the last byte
-    /// that are left over are written as zero (X.690, 11.2).
+    /// Writes a BIT STRING of `len` bits, the first of a byte being its highest (X.690, 8.6). Unused bits of the last byte are written as
+    /// zero (X.690, 11.2).
     pub fn write_bitvec_bytes(&mut self, bytes: &[u8], len: usize) -> ASN1Result<()>
         requires enough { len ≤ 8 * length bytes.now }
         requires least { 8 * length bytes.now < len + 8 }
@@ -130,7 +130,7 @@ impl Writer {
         self.append_bmp(string)
     }
 
-    // Writes a text in UTF-16, which is made apart, in segments.
+    // Writes a text in UTF-16, which is made separately, in segments.
     #[cold]
     fn write_cut_bmp(&mut self, string: &str, length: usize) -> ASN1Result<()>
         ensures { Wrote (bmp_encoding (tag_or self.old.tag bmp_tag) self.old.mode (chars string.now)) self.old self.new result }
@@ -168,7 +168,7 @@ impl Writer {
         self.append(contents)
     }
 
-    // Writes the header of an element with so many bytes of contents.
+    // Writes the header of an element with this many bytes of contents.
     #[inline(always)]
     pub(crate) fn write_header(&mut self, own: Tag, length: usize) -> ASN1Result<()>
         ensures { Wrote (header_bytes Primitive (record { tag = tag_or self.old.tag own; length = length })) self.old self.new result }
@@ -200,7 +200,7 @@ impl Writer {
     }
 }
 
-// How many bits of the last byte a BIT STRING of so many bits leaves over.
+// The count of unused bits in the last byte of a BIT STRING of this many bits.
 pub(crate) fn unused_bits(len: usize) -> u8
     ensures { result ≡ (8 - len % 8) % 8 }
 {

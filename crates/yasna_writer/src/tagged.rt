@@ -1,5 +1,5 @@
-//! Elements under a tag of the caller's (X.690, 8.14), calls of users. The length of an explicit one is counted in DER, and indefinite
-//! in CER.
+//! Elements under explicit and implicit tags (X.690, 8.14), calls of users. The length of an explicit one is definite in DER, and
+//! indefinite in CER.
 ghost use Rattle.std.specs.Prelude.{◌≡◌, None};
 ghost use Rattle.std.specs.Fn.{FnOnceTakesAtMut};
 ghost use Rattle.yasna_base.specs.declared.tag.PCBit.TheVariants.{Constructed};
@@ -15,7 +15,7 @@ use yasna_base::{ASN1Error, Tag};
 impl Writer {
     /// Writes a constructed element of this tag, explicit tagging (X.690, 8.14): its contents are what the closure writes.
     ///
-    /// An implicit tag that waits is in place of this one. Failures are those of `write_sequence`.
+    /// An implicit tag that waits is in place of this one. Errors are those of `write_sequence`.
     pub fn write_tagged<
         T: Drop,
         E: From<ASN1Error> + Drop,
@@ -34,12 +34,11 @@ impl Writer {
         self.resolve(own)
     }
 
-    /// Lets this tag be in place of that of the next element that the closure writes, implicit tagging (X.690, 8.14).
+    /// Puts this tag in place of that of the next element that the closure writes, implicit tagging (X.690, 8.14).
     ///
-    /// An implicit tag that waits already is in place of this one: the outermost wins. Nothing is written but what
-    /// the closure writes. A sticky error is returned, and the closure doesn't run. Else the closure's answer is
-    /// passed on, unless a write of it failed: then that failure is returned. Where the closure left fewer bytes than
-    /// there were, the failure is `Invalid`, and is sticky.
+    /// An implicit tag that waits already is in place of this one: the outermost wins. Only what the closure writes is written. A sticky
+    /// error is returned, and the closure doesn't run. Else the closure's result is returned, unless a write of it failed: then that
+    /// error is returned. If the closure left fewer bytes than there were, the error is `Invalid`, and is sticky.
     pub fn write_tagged_implicit<
         T: Drop,
         E: From<ASN1Error> + Drop,

@@ -27,7 +27,7 @@ impl AsSlice<u8> for TaggedPart {
 }
 
 impl TaggedPart {
-    // What parts of one tag go by: the bytes after the first where the tag's number is 31 or more, and else nothing.
+    // The bytes by which parts of one tag are ordered: those after the first if the tag's number is 31 or more, and else none.
     fn tail(&self) -> &[u8]
         ensures { result.now ≡ (if nat_lt self.now.tag.tag_number 31 then [] else drop 1 self.now.bytes.items) }
     {
@@ -40,7 +40,7 @@ impl TaggedPart {
         }
     }
 
-    // How two parts are ordered.
+    // The order of two parts.
     fn compare(&self, other: &TaggedPart) -> Ordering
         ensures { result ≡ part_cmp (set_part_of self.now) (set_part_of other.now) }
     {
