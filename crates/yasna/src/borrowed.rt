@@ -1,4 +1,4 @@
-//! Octets and texts that another holds: they are written as those are that hold their own.
+//! Borrowed octets and texts: they are written as `Vec<u8>` and `String` are.
 ghost use Rattle.std.specs.Str.{chars};
 ghost use Rattle.yasna_base.specs.Canonical.{Always};
 ghost use Rattle.yasna_base.specs.Digits.{IsBytes};

@@ -1,4 +1,4 @@
-//! Types of which DER and CER alone have one encoding (X.690, 9 to 11), as one that keeps an element of any type as it came.
+//! Types of which only DER and CER have one encoding (X.690, 9 to 11), as one that keeps an element of any type as it came.
 ghost use Rattle.std.specs.Prelude.{◌≡◌, ◌↔◌, ◌<◌, ◌^◌, ◌++◌, ℕ, List, [], length, FitsSigned};
 ghost use Rattle.std.specs.Int.{w64, w32, w16};
 ghost use Rattle.std.specs.List.{AllByRecursion};
@@ -28,11 +28,11 @@ use crate::traits::{BERDecodable, DEREncodable};
 use yasna_base::models::{ObjectIdentifier, TaggedDerValue};
 use yasna_times::models::{GeneralizedTime, UTCTime};
 
-/// A type that is read from DER and CER exactly where its one encoding is there, which BER reads too.
+/// A type that DER and CER read only from its one encoding there, which BER reads too.
 ///
-/// Of how what BER reads is written it says nothing, other than `DERCanonical`, of which every type can have this trait by the
-/// lemma `written_exact`. So a type can have it that keeps an element of any type as it came, or the unused bits of a BIT STRING.
-/// It has no function: an impl proves the law.
+/// Unlike `DERCanonical`, it says nothing of how what BER reads is written. So a type can have it that keeps an element of any type as
+/// it came, or the unused bits of a BIT STRING. Every type with `DERCanonical` can have it by the lemma `written_exact`. It has no
+/// function: an impl proves the law.
 ///
 /// ```rust
 /// impl DERExact for Measurement {
@@ -50,10 +50,10 @@ pub trait DERExact: BERDecodable + DEREncodable {
     ghost exact: { IsExact Self.same Self.encodes Self.encoding fits Self.encodable };
 }
 
-/// What is proved of every type of which a canonical mode alone has one encoding.
+/// The laws of every type of which only a canonical mode has one encoding.
 ///
-/// Its DER encoding is the only bytes that it is read from in DER, and its CER encoding in CER, and it is read from both in BER; what DER or CER
-/// reads can be written; no bytes belong to two values, and no encoding begins another. All within 101 levels.
+/// DER reads a value only from its DER encoding, CER only from its CER encoding, and BER from both. What DER or CER reads can be
+/// written. Encodings are unambiguous and prefix-free. All of this is within 101 levels.
 pub fn one_der_encoding<T: DERExact>()
     ensures der { (v : T) (s : List ℕ) → length s < 2 ^ 64 → T.encodes Der 101 v s ↔ (T.fits Der 101 v × (s ≡ T.encoding Der v)) }
     ensures cer { (v : T) (s : List ℕ) → length s < 2 ^ 64 → T.encodes Cer 101 v s ↔ (T.fits Cer 101 v × (s ≡ T.encoding Cer v)) }

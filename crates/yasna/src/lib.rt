@@ -51,13 +51,13 @@
 //!
 //! | Module | Holds |
 //! |---|---|
-//! | `traits` | what a type says that is read and written as a whole |
-//! | `exact` | types of which DER and CER alone have one encoding, and what is proved of them |
+//! | `traits` | the traits of types that are read and written as a whole |
+//! | `exact` | types of which only DER and CER have one encoding, and their laws |
 //! | `shapes` | types that are read and written as another is, as a struct by the tuple of its fields |
-//! | `whole` | whole inputs and outputs, and what is proved of them for every such type |
+//! | `whole` | whole inputs and outputs, and their laws for every type with the traits |
 //! | `models` | object identifiers, times and raw elements |
-//! | `law_functions` | what is proved of the grammar, of the times and of sets |
-//! | `sets` | what is proved of SET OF values of every such type |
+//! | `law_functions` | the laws of the grammar, of the times and of sets |
+//! | `sets` | the laws of SET OF values of every type with the traits |
 //! | `primitive`, `strings`, `borrowed`, `oid`, `times`, `raw`, `lists`, `tuples` | the types that come with the crate |
 #![tactic(auto)]
 

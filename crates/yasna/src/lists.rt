@@ -1,6 +1,6 @@
 //! Lists: a SEQUENCE OF their items (X.690, 8.10).
 //!
-//! `Vec<u8>` is an OCTET STRING: `u8` itself is no type that is read or written.
+//! `Vec<u8>` is an OCTET STRING: `u8` itself doesn't have the traits.
 ghost use Rattle.std.specs.Prelude.{◌≡◌, None, true};
 ghost use Rattle.std.specs.List.{AllByRecursion};
 ghost use Rattle.yasna_base.specs.Canonical.{enclosed_encoding, enclosed_depth};

@@ -30,7 +30,7 @@ impl BERDecodable for TaggedDerValue {
     ghost coding = { along raw_of raw_coding };
 }
 
-/// It is written as it came: what BER read with an indefinite length is no element of DER then. How deep it nests isn't counted.
+/// It is written as it came, so one that BER read with indefinite length isn't an element of DER. Its depth isn't counted.
 impl DEREncodable for TaggedDerValue {
     ghost encoding = { λ m v. own_encoding m (raw_of v) };
 

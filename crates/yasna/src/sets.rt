@@ -1,12 +1,12 @@
-//! SET OF values of a type (X.690, 8.12 and 11.6): what is proved of it. A closure reads and writes them.
+//! The laws of SET OF values of a type (X.690, 8.12 and 11.6). A closure reads and writes them.
 ghost use Rattle.yasna_base.specs.SetWriting.{SetOfKeepsReadingLaws, SetOfSetOfKeepsReadingLaws, SetOfKeepsWritingLaws};
 
 use crate::traits::{BERDecodable, DERCanonical};
 
-/// What is proved of a SET OF values of every type that satisfies the laws of reading.
+/// The laws of a SET OF values of every type that satisfies the laws of reading.
 ///
-/// Under any tag but that of the end of contents, no bytes belong to two lists of values, no encoding begins another,
-/// and what is read within some levels is read within more.
+/// Under any tag but that of the end of contents, encodings are unambiguous and prefix-free, and what is read within some levels is
+/// read within more.
 pub fn set_of_is_read<T: BERDecodable>()
     ensures { SetOfKeepsReadingLaws T.same T.encodes T.elements }
 {}
@@ -19,11 +19,11 @@ pub fn set_of_sets_is_read<T: BERDecodable>()
     ensures { SetOfSetOfKeepsReadingLaws T.same T.encodes T.elements }
 {}
 
-/// What is proved of a SET OF values of every type that satisfies the laws.
+/// The laws of a SET OF values of every type that satisfies the laws.
 ///
-/// Under any tag but that of the end of contents, DER and CER read values in the order of their encodings there, from these
-/// alone, and BER reads them from these too. What is written of values, in whatever order, is read as the same values in
-/// order; and what DER or CER read is written again in that mode as the same bytes.
+/// Under any tag but that of the end of contents, DER and CER read values only in the order of their encodings, and BER reads them
+/// from these too. What is written of values in any order is read as the same values in order. What DER or CER read is written again
+/// in that mode as the same bytes.
 pub fn set_of_is_written<T: DERCanonical>()
     ensures { SetOfKeepsWritingLaws T.same T.encodes T.encoding T.depth T.encodable }
 {}

@@ -1,4 +1,4 @@
-//! Types that have the shape of another: a struct that of the tuple of its fields, a reference that of what it points to.
+//! Types that have the shape of another: a struct that of the tuple of its fields, a reference that of its target.
 //!
 //! Such a type gets the three traits from its shape, with their laws.
 ghost use Rattle.std.specs.Prelude.{◌≡◌, None};
@@ -24,11 +24,11 @@ pub trait Shaped {
     /// The other type: the tuple of the fields, or the type of the only one.
     type Shape;
 
-    // What represents a value.
+    // The value of the shape that represents a value.
     ghost shape_of: { Self → Self.Shape };
 }
 
-/// A type that is read as its shape is: it has `BERDecodable` where the shape has.
+/// A type that is read as its shape is: it has `BERDecodable` if the shape has.
 ///
 /// ```rust
 /// impl FromShape for Measurement {
@@ -38,7 +38,7 @@ pub trait Shaped {
 /// }
 /// ```
 pub trait FromShape: Shaped + Sized {
-    /// Makes a value of what represents it.
+    /// Makes a value of the one of its shape that represents it.
     fn from_shape(shape: Self::Shape) -> Self
         ensures { Self.shape_of result ≡ shape };
 }
@@ -64,7 +64,7 @@ where
     ghost coding = { along T.shape_of T.Shape.coding };
 }
 
-/// A type that is written as its shape is: it has `DEREncodable`, and `DERCanonical` where it is read so too and the shape has it.
+/// A type that is written as its shape is: it has `DEREncodable`, and `DERCanonical` if it is read so too and the shape has it.
 ///
 /// ```rust
 /// impl EncodeShape for Measurement {
@@ -77,7 +77,7 @@ pub trait EncodeShape: Shaped
 where
     Self::Shape: DEREncodable,
 {
-    /// Writes what represents the value, as `encode_der` writes it.
+    /// Writes the value of the shape that represents this one, as `encode_der` writes it.
     fn encode_shape(&self, writer: DERWriter<'_>) -> ASN1Result<()>
         requires can { Self.Shape.encodable (Self.shape_of self.now) }
         requires untagged { writer.old.tag ≡ None }

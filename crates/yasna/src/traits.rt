@@ -1,7 +1,7 @@
-//! What a type says that is read and written as a whole.
+//! The traits of types that are read and written as a whole.
 //!
 //! A type names its grammar, its encoding in each canonical mode and which values are equal, and proves the laws that tie them.
-//! The laws of the types that come with the crate are by name in `yasna_base`; those of a type made of others follow from theirs.
+//! The laws of the types that come with the crate have names in `yasna_base`; those of a type made of others follow from theirs.
 ghost use Rattle.std.specs.Prelude.{◌≡◌, ⊤, ℕ, List, Bool, None, Result};
 ghost use Rattle.yasna_base.specs.declared.error.ASN1Error.{ASN1Error};
 ghost use Rattle.yasna_base.specs.declared.mode.BERMode.{BERMode};
@@ -23,7 +23,7 @@ pub trait BERDecodable: Sized + Drop {
     // Which bytes encode a value, in a mode within a number of levels.
     ghost encodes: { Grammar Self };
 
-    // What that asks of the bytes alone.
+    // Which bytes encode some value.
     ghost elements: { Members };
 
     // Whether reading a value may allocate.
@@ -32,10 +32,10 @@ pub trait BERDecodable: Sized + Drop {
     // Which values are equal.
     ghost same: { Self → Self → Type 0 };
 
-    // What `decode_ber` does besides, where a type says more than its contract, as which error comes.
+    // What `decode_ber` does besides its contract, as which error it returns.
     ghost reads: { Does Self } = { λ _ _ _. ⊤ };
 
-    /// Reads a value of this type, where no implicit tag waits.
+    /// Reads a value of this type. No implicit tag may wait.
     ///
     /// A sticky error is returned, and nothing else happens.
     fn decode_ber(reader: BERReader) -> ASN1Result<Self>
@@ -44,8 +44,7 @@ pub trait BERDecodable: Sized + Drop {
         ensures failed { RepeatsError reader.old result reader.new }
         ensures reads { reads reader.old result reader.new };
 
-    // Of two encodings neither begins the other, equal bytes encode equal values, and what is read within some levels
-    // is read within more.
+    // Encodings are prefix-free, equal bytes encode equal values, and what is read within some levels is read within more.
     ghost coding: { IsCoding same encodes elements };
 }
 
@@ -56,24 +55,24 @@ pub trait DEREncodable {
     // The encoding of a value in a canonical mode.
     ghost encoding: { Encoding Self };
 
-    // How many levels that encoding takes.
+    // The depth of that encoding.
     ghost depth: { Depth Self };
 
     // Which values have an encoding.
     ghost encodable: { Self → Type 0 };
 
-    /// Writes a value of this type, where no implicit tag waits.
+    /// Writes a value of this type. No implicit tag may wait.
     ///
-    /// `Err` is `OutOfMemory`, that of the writer or one of its own. Where an error was sticky, it stays.
+    /// `Err` is `OutOfMemory`, that of the writer or one of the type's own. A sticky error stays.
     fn encode_der(&self, writer: DERWriter<'_>) -> ASN1Result<()>
         requires can { encodable self.now }
         requires untagged { writer.old.tag ≡ None }
         ensures { Writes (encoding writer.old.mode self.now) writer.old writer.new result };
 }
 
-/// A type that is read from DER and CER exactly where its one encoding is there, which BER reads too.
+/// A type that DER and CER read only from its one encoding there, which BER reads too.
 ///
-/// It has no function: an impl proves the law. A type with a shape that has it has it too, where it is read and written as its shape.
+/// It has no function: an impl proves the law. A type has it if its shape has it, and it is read and written as its shape.
 pub trait DERCanonical: BERDecodable + DEREncodable {
     // The encoding is read, in its mode and in BER; a canonical mode reads nothing else; what BER reads can be written;
     // equal values are written alike.

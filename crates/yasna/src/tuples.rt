@@ -22,15 +22,15 @@ use yasna_base::error::ASN1Result;
 use yasna_reader::{BERReader, BERReaderSeq};
 use yasna_writer::{DERWriter, DERWriterSeq};
 
-/// What a tuple's parts are read as.
+/// The parts of a tuple, as they are read.
 pub trait TupleParts: Sized {
     // Which contents encode the parts.
     ghost parts: { Grammar Self };
 
-    // What that asks of the bytes alone.
+    // Which contents encode some parts.
     ghost any_parts: { Members };
 
-    // Whether reading one may allocate.
+    // Whether reading the parts may allocate.
     ghost parts_may_allocate: { Bool };
 
     // Which parts are equal.

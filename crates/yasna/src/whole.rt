@@ -14,9 +14,10 @@ use yasna_base::mode::BERMode;
 use yasna_reader::parse_ber_general;
 use yasna_writer::{construct_cer, construct_der};
 
-/// Reads a value from bytes, all of them, by these rules.
+/// Reads a value from all of the bytes, in a mode.
 ///
-/// An `Err` is what `T::decode_ber` kept or returned on a reading of all the bytes, else `Extra`, where it left some.
+/// An `Err` is the sticky error that `T::decode_ber` left on a reading of all the bytes, or else the one that it returned, or `Extra` if
+/// it left some bytes.
 pub fn decode_ber_general<T: BERDecodable>(
     alloc: Global,
     src: &[u8],
@@ -29,7 +30,7 @@ pub fn decode_ber_general<T: BERDecodable>(
     parse_ber_general(alloc, src, mode, |reader| T::decode_ber(reader))
 }
 
-/// Reads a value from bytes, all of them, by the basic encoding rules (X.690, clause 8).
+/// Reads a value from all of the bytes, by the basic encoding rules (X.690, clause 8).
 pub fn decode_ber<T: BERDecodable>(alloc: Global, src: &[u8]) -> ASN1Result<T>
     ensures decoded { Decoded T.may_allocate T.encodes T.elements Ber src.now result }
     ensures parses { Parses T.reads Ber src.now result }
@@ -38,7 +39,7 @@ pub fn decode_ber<T: BERDecodable>(alloc: Global, src: &[u8]) -> ASN1Result<T>
     decode_ber_general(alloc, src, BERMode::Ber)
 }
 
-/// Reads a value from bytes, all of them, by the distinguished encoding rules (X.690, clause 10).
+/// Reads a value from all of the bytes, by the distinguished encoding rules (X.690, clause 10).
 ///
 /// A value is returned only from its one DER encoding.
 pub fn decode_der<T: BERDecodable>(alloc: Global, src: &[u8]) -> ASN1Result<T>
@@ -49,7 +50,7 @@ pub fn decode_der<T: BERDecodable>(alloc: Global, src: &[u8]) -> ASN1Result<T>
     decode_ber_general(alloc, src, BERMode::Der)
 }
 
-/// Reads a value from bytes, all of them, by the canonical encoding rules (X.690, clause 9).
+/// Reads a value from all of the bytes, by the canonical encoding rules (X.690, clause 9).
 ///
 /// A value is returned only from its one CER encoding.
 pub fn decode_cer<T: BERDecodable>(alloc: Global, src: &[u8]) -> ASN1Result<T>
@@ -78,10 +79,10 @@ pub fn encode_cer<T: DEREncodable>(alloc: Global, value: &T) -> ASN1Result<Vec<u
     construct_cer(alloc, |writer| value.encode_der(writer))
 }
 
-/// What is proved of every type that satisfies the laws.
+/// The theorem on DER, for every type that satisfies the laws.
 ///
-/// Its DER encoding is the only bytes that it is read from in DER, and it is read from it in BER too; what BER reads has a
-/// form; no bytes belong to two values, and no encoding begins another. All within 101 levels.
+/// DER reads a value only from its DER encoding, and BER reads it from that too. What BER reads has a DER encoding. Encodings are
+/// unambiguous and prefix-free. All of this is within 101 levels.
 pub fn one_encoding<T: DERCanonical>()
     ensures der { (v : T) (s : List ℕ) → length s < 2 ^ 64 → T.encodes Der 101 v s ↔ (T.encodable v × (T.depth Der v ≤ 101) × (s ≡ T.encoding Der v)) }
     ensures ber { (v : T) → T.encodable v → T.depth Der v ≤ 101 → length (T.encoding Der v) < 2 ^ 64 → T.encodes Ber 101 v (T.encoding Der v) }
@@ -89,11 +90,11 @@ pub fn one_encoding<T: DERCanonical>()
     ensures unique { (m : BERMode) (v w : T) (s r : List ℕ) → T.encodes m 101 v s → T.encodes m 101 w (s ++ r) → T.same v w × (r ≡ []) }
 {}
 
-/// What is proved besides of every type that satisfies the laws: its CER encoding is the only bytes that it is read from in CER, and it
-/// is read from it in BER too.
+/// The theorem on CER, for every type that satisfies the laws: CER reads a value only from its CER encoding, and BER reads it from that
+/// too.
 ///
-/// That encoding may nest deeper than that of DER, by one level where a string is cut into segments. No bytes belong to two
-/// values in CER, and no encoding begins another, as `one_encoding` says of each mode. All within 101 levels.
+/// That encoding may be one level deeper than that of DER, where a string is cut into segments. In CER too, encodings are unambiguous
+/// and prefix-free, as `one_encoding` says of each mode. All of this is within 101 levels.
 pub fn one_encoding_cer<T: DERCanonical>()
     ensures cer { (v : T) (s : List ℕ) → length s < 2 ^ 64 → T.encodes Cer 101 v s ↔ (T.encodable v × (T.depth Cer v ≤ 101) × (s ≡ T.encoding Cer v)) }
     ensures ber { (v : T) → T.encodable v → T.depth Cer v ≤ 101 → length (T.encoding Cer v) < 2 ^ 64 → T.encodes Ber 101 v (T.encoding Cer v) }

@@ -14,7 +14,7 @@ use yasna_base::{ASN1Result, Tag};
 use yasna_reader::BERReader;
 use yasna_writer::DERWriter;
 
-/// It is written as it came: what BER read with an indefinite length is no element of DER then. How deep it nests isn't counted.
+/// It is written as it came, so one that BER read with indefinite length isn't an element of DER. Its depth isn't counted.
 impl Notation for TaggedDerValue {
     type Value = TaggedDerValue;
 

@@ -1,4 +1,4 @@
-//! Types of which a module takes some values alone (X.680, 49 to 51): those that a bound lets pass.
+//! Types of which a module accepts only some values (X.680, 49 to 51): those that pass a bound.
 ghost use Rattle.std.specs.Prelude.{◌≡◌, ◌<◌, ◌≤◌, Bool, List, Option, None, true};
 ghost use Rattle.yasna_base.specs.Coding.{Any};
 ghost use Rattle.yasna_notation.specs.Bounded.{Within, within_lawful};
@@ -9,20 +9,20 @@ use yasna_base::{ASN1Error, ASN1ErrorKind, ASN1Result, Tag};
 use yasna_reader::BERReader;
 use yasna_writer::DERWriter;
 
-/// Which values of a notation a bound lets pass.
+/// A bound: the values of a notation that pass it.
 pub trait Bound<N: Notation> {
     // The test.
     ghost passes: { N.Value → Bool };
 
-    /// Whether it lets a value pass.
+    /// Whether a value passes.
     fn lets(value: &N::Value) -> bool
         ensures { result ≡ passes value.now };
 
-    // Of equal values it lets pass all or none.
+    // Of equal values all pass or none.
     ghost alike: { (v w : N.Value) → N.means.same v w → passes v ≡ passes w };
 }
 
-/// `N (C)`: the values that the bound `C` lets pass. Others are rejected as `Invalid`.
+/// `N (C)`: the values that pass the bound `C`. Other values are rejected as `Invalid`.
 pub struct Bounded<N, C> {
     of: PhantomData<N>,
     bound: PhantomData<C>,

@@ -36,7 +36,7 @@ impl<const LOW: u64, const HIGH: u64> Bound<u64> for FromTo<LOW, HIGH> {
     ghost alike = { λ v w e. passes_alike (from_to LOW HIGH) e };
 }
 
-/// `(N)` of an INTEGER: this number alone.
+/// `(N)` of an INTEGER: only this number.
 pub struct Exactly<const N: u64>;
 
 impl<const N: u64> Bound<u64> for Exactly<N> {

@@ -1,6 +1,6 @@
-//! Notations of which BER too is written anew: what any mode reads has an encoding in DER and in CER.
+//! Notations of which also BER is written again: what any mode reads has an encoding in DER and in CER.
 //!
-//! TaggedDerValue isn't one, which is written as it came, nor is BIT STRING, whose unused bits are.
+//! `TaggedDerValue` isn't one, since it is written as it came, nor is BIT STRING, since its unused bits are.
 ghost use Rattle.std.specs.Prelude.{◌≡◌, ◌<◌, ◌^◌, ◌∷◌, None, true, pos, FitsSigned};
 ghost use Rattle.std.specs.Int.{w64, w32};
 ghost use Rattle.std.proofs.Common.{arith};
@@ -55,19 +55,20 @@ use yasna::DERCanonical;
 use yasna_base::models::ObjectIdentifier;
 use yasna_times::models::{GeneralizedTime, UTCTime};
 
-/// A notation of which any mode's values have one encoding in DER and one in CER. It has no function: an impl proves the laws.
+/// A notation whose values, in whatever mode they are read, have one encoding in DER and one in CER. It has no function: an impl proves
+/// the laws.
 pub trait CanonicalNotation: Notation {
     // The laws of writing, under the type's own tag and under those that may be in place of it.
     ghost written: { Self.unambiguous ≡ true → IsWrittenMeaning Self.means };
 }
 
-/// Parts of a SEQUENCE, each of such a notation.
+/// Parts of a SEQUENCE, each of a `CanonicalNotation`.
 pub trait CanonicalParts: Parts {
     // The laws of writing.
     ghost written: { Self.unambiguous ≡ true → IsWritten Self.same Self.parts Self.encoding Self.depth Self.can };
 }
 
-/// Types of a CHOICE, each of such a notation.
+/// Types of a CHOICE, each a `CanonicalNotation`.
 pub trait CanonicalAlternatives: Alternatives {
     // The laws of writing.
     ghost written: { Self.unambiguous ≡ true → IsWritten Self.same Self.encodes (Self.encoding_under None) Self.depth Self.can };

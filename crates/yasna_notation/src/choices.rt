@@ -21,18 +21,18 @@ use yasna_writer::DERWriter;
 /// A value of the first of two types, or of the second.
 #[derive(Drop)]
 pub enum Either<A, B> {
-    /// One of the first type.
+    /// A value of the first type.
     First(A),
-    /// One of the second.
+    /// A value of the second type.
     Second(B),
 }
 
-/// The types of a CHOICE, as pairs that end in a type alone: `(i64, (bool, ((),)))` of an INTEGER, a BOOLEAN and a NULL.
+/// The types of a CHOICE, as pairs that end in a tuple of one type: `(i64, (bool, ((),)))` of an INTEGER, a BOOLEAN and a NULL.
 pub trait Alternatives {
-    /// What its values are in Rust.
+    /// Its values in Rust.
     type Value;
 
-    /// The types of values that are inside its own, which the type of its own doesn't name: bounds name them.
+    /// The types of values inside its own, which that type doesn't name: bounds name them.
     type Inner;
 
     // The tags that encodings begin with.
@@ -44,7 +44,7 @@ pub trait Alternatives {
     // Which bytes encode a value, in a mode within a number of levels.
     ghost encodes: { Grammar Self.Value };
 
-    // What that asks of the bytes alone.
+    // Which bytes encode some value.
     ghost elements: { Members };
 
     // Whether reading a value may allocate.
@@ -66,7 +66,7 @@ pub trait Alternatives {
     fn has_tag(tag: Tag) -> bool
         ensures { result ≡ list_any (is_tag tag) tags };
 
-    /// Reads a value of which this tag was found.
+    /// Reads a value that begins with this tag.
     fn read_found(tag: Tag, reader: BERReader) -> ASN1Result<Self::Value>
         requires { unambiguous ≡ true }
         ensures { ReadsFound tags may_allocate encodes elements tag reader.old result reader.new };

@@ -1,6 +1,6 @@
-//! DEFAULT: a part that is omitted where it is the default (X.690, 8.9.3 and 11.5).
+//! DEFAULT: a part that is omitted if it is the default (X.690, 8.9.3 and 11.5).
 //!
-//! What was read is looked at by a `match`, as in `parts`.
+//! A value that was read is tested by a `match`, as in `parts`.
 ghost use Rattle.std.specs.Prelude.{◌≡◌, ◌++◌, ◌∷◌, ◌||◌, ◌&&◌, Bool, None, true, false, not, nat_eq, refl};
 ghost use Rattle.yasna_base.specs.Beginnings.{share_none};
 ghost use Rattle.yasna_base.specs.Coding.{Any};
@@ -21,22 +21,22 @@ use yasna_base::ASN1Result;
 use yasna_reader::BERReaderSeq;
 use yasna_writer::DERWriterSeq;
 
-/// The value that is where a part of this notation is omitted.
+/// The default of a part of this notation: its value if it is omitted.
 pub trait DefaultValue<N: Notation>
 where
     N::Value: Eq,
 {
-    // The value.
+    // The default.
     ghost default: { N.Value };
 
-    // The test for it.
+    // The test for the default.
     ghost is: { N.Value → Bool };
 
-    /// The value.
+    /// Makes the default.
     fn default() -> N::Value
         ensures { result ≡ default };
 
-    // The test passes the values that equal it, and is that of `==`.
+    // Exactly the values that equal the default pass the test, which is that of `==`.
     ghost detects: { DetectsDefault N.means.same is default };
 
     ghost tests: { (v : N.Value) → is v ≡ N.Value.eq v default };

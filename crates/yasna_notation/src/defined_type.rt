@@ -12,17 +12,17 @@ use yasna_writer::DERWriter;
 
 /// A type that a module defines: its values represent those of a notation.
 pub trait DefinedType: Sized + Drop {
-    /// What the module writes after `::=`.
+    /// The notation that the module writes after `::=`.
     type Notation: Notation;
 
-    // What represents a value.
+    // The value of the notation that represents a value.
     ghost value_of: { Self → Self.Notation.Value };
 
-    /// Makes a value of what represents it.
+    /// Makes a value of the notation's one that represents it.
     fn from_value(value: <Self::Notation as Notation>::Value) -> Self
         ensures { value_of result ≡ value };
 
-    /// Writes what represents the value.
+    /// Writes the notation's value that represents this one.
     fn write_value(&self, writer: DERWriter<'_>) -> ASN1Result<()>
         requires { Self.Notation.means.can (value_of self.now) }
         ensures { Writes (Self.Notation.means.encoding_under writer.old.tag writer.old.mode (value_of self.now)) writer.old writer.new result };

@@ -1,4 +1,4 @@
-//! Types that a module defines have the traits, by a shape of their own.
+//! The traits of `yasna` for types that a module defines.
 ghost use Rattle.std.specs.Prelude.{◌≡◌, None};
 ghost use Rattle.yasna_base.proofs.Coding.{along};
 ghost use Rattle.yasna_base.proofs.Exact.{exact_along};
@@ -10,7 +10,7 @@ use yasna_base::ASN1Result;
 use yasna_reader::BERReader;
 use yasna_writer::DERWriter;
 
-/// A value of a type that a module defines, which has the traits: what is decoded and encoded as a whole.
+/// A value of a type that a module defines, with the traits of `yasna`: it is decoded and encoded as a whole.
 ///
 /// ```rust
 /// pub fn extension_from_ber(alloc: Global, bytes: &[u8]) -> ASN1Result<Extension> {

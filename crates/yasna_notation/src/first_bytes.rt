@@ -1,4 +1,4 @@
-//! The bytes of a SEQUENCE's first part, as who verifies a signature over it wants them.
+//! The bytes of a SEQUENCE's first part, which a signature over it is verified with.
 ghost use Rattle.std.specs.Prelude.{◌≡◌, ◌||◌, ◌&&◌, None, true};
 ghost use Rattle.yasna_base.specs.Sequence.{AnyPart};
 ghost use Rattle.yasna_reader.specs.State.{IsFresh, part_of};
@@ -15,7 +15,7 @@ use yasna_reader::BERReaderSeq;
 pub struct WithFirst<'a, V, W> {
     /// The value of the first part.
     pub first: V,
-    /// The values of the others.
+    /// The values of the other parts.
     pub others: W,
     /// The bytes that the first part was read from: the input's own.
     pub first_bytes: &'a [u8],
@@ -23,7 +23,7 @@ pub struct WithFirst<'a, V, W> {
 
 /// Reads parts up to the end of the contents, as `<(A, W)>::read_parts` does, and returns the bytes of the first beside its value.
 ///
-/// What a SEQUENCE is read by is a function of types that are named, since the bytes borrow from the input:
+/// A SEQUENCE is read by a function with named types, and not by a closure, since the bytes borrow from the input:
 ///
 /// ```rust
 /// fn read_parts<'a>(seq: &mut BERReaderSeq<'a, '_>) -> ASN1Result<WithFirst<'a, Body, (Signature, ())>> {

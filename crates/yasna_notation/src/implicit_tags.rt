@@ -10,7 +10,7 @@ use yasna_base::{ASN1Result, Tag};
 use yasna_reader::BERReader;
 use yasna_writer::DERWriter;
 
-/// `[T] IMPLICIT N`, as `Implicit<Context<0>, i64>` of `[0] IMPLICIT INTEGER`. `N` is a type with a tag of its own.
+/// `[T] IMPLICIT N`, as `Implicit<Context<0>, i64>` of `[0] IMPLICIT INTEGER`. `N` is a type that has a tag itself.
 pub struct Implicit<T, N> {
     tag: PhantomData<T>,
     of: PhantomData<N>,

@@ -1,4 +1,4 @@
-//! A part at the end that may be omitted, of a type that no tag need tell (X.690, 8.9.3).
+//! A part at the end that may be omitted, of a type whose tags needn't be known (X.690, 8.9.3).
 ghost use Rattle.std.specs.Prelude.{◌≡◌, ◌++◌, ◌||◌, [], None, false};
 ghost use Rattle.yasna_base.specs.Canonical.{Always};
 ghost use Rattle.yasna_base.specs.Exact.{part_fits, nothing_fits, option_fits};

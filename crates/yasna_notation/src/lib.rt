@@ -2,13 +2,13 @@
 //!
 //! | Module | Holds |
 //! |---|---|
-//! | `notation` | what a notation says: which bytes represent which values, how they are read and written, and their laws |
+//! | `notation` | a notation: which bytes encode which values, how they are read and written, and their laws |
 //! | `tag_names` | the tags that a module writes, as types |
 //! | `simple` | BOOLEAN, INTEGER, ENUMERATED, NULL, OBJECT IDENTIFIER |
 //! | `strings`, `times` | strings and times |
-//! | `bounded`, `bounds` | types of which a module takes some values alone, and bounds of numbers and sizes |
+//! | `bounded`, `bounds` | types of which a module accepts only some values, and bounds of numbers and sizes |
 //! | `first_bytes` | the bytes of a SEQUENCE's first part |
-//! | `canonical` | notations of which BER too is written anew |
+//! | `canonical` | notations of which also BER is written again |
 #![tactic(auto)]
 
 mod any;

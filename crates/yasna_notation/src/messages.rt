@@ -1,4 +1,4 @@
-//! Types that are notations of their own: how a message is cut into types, each of which is checked alone.
+//! Types that are notations themselves: a message is cut into them, and each is checked separately.
 ghost use Rattle.std.specs.Prelude.{◌≡◌, true};
 ghost use Rattle.yasna_notation.specs.Notation.{ReadsMeaning, represented_by};
 
@@ -6,18 +6,18 @@ use crate::notation::Notation;
 use yasna_base::ASN1Result;
 use yasna_reader::BERReader;
 
-/// A type that is a notation of its own values.
+/// A type that is the notation of its own values.
 pub trait Message: Notation<Value = Self> + Drop {
     // Tags make unambiguous what has to be: `refl` proves it where they do.
     ghost is_unambiguous: { Self.unambiguous ≡ true };
 }
 
-/// A type whose values represent others.
+/// A type whose values represent those of another.
 pub trait Represents<V: Drop>: Sized + Drop {
-    // What represents a value.
+    // The other type's value that represents a value.
     ghost value_of: { Self → V };
 
-    /// Makes a value of what represents it.
+    /// Makes a value of the other type's one that represents it.
     fn from_value(value: V) -> Self
         ensures { value_of result ≡ value };
 }

@@ -1,4 +1,4 @@
-//! What a notation says: which bytes represent which values, how they are read and written, and the laws of both.
+//! Notations: which bytes encode which values, how they are read and written, and the laws of both.
 ghost use Rattle.std.specs.Prelude.{◌≡◌, Bool, List, [], Option, None, true};
 ghost use Rattle.std.specs.List.{list_any};
 ghost use Rattle.yasna_base.specs.declared.mode.BERMode.{BERMode};
@@ -15,19 +15,19 @@ use yasna_writer::DERWriter;
 
 /// A type as the notation of ASN.1 writes it (X.680).
 ///
-/// It has no values of its own: it says how those of a type of Rust are read and written. Where an implicit tag waits, that is in
-/// place of the type's own, if it has one of its own.
+/// It has no values itself: it says how those of a type of Rust are read and written. An implicit tag that waits is in place of the
+/// notation's own, if it has one.
 pub trait Notation {
-    /// What its values are in Rust.
+    /// Its values in Rust.
     type Value: Drop;
 
-    /// The types of values that are inside its own, which the type of its own doesn't name: bounds name them.
+    /// The types of values inside its own, which that type doesn't name: bounds name them.
     type Inner;
 
-    // What it means: which bytes represent which values, and what else the laws speak of.
+    // Its meaning: which bytes encode which values, and what else the laws are about.
     ghost means: { Meaning Self.Value };
 
-    // Whether what has to be unambiguous inside it is, by tags.
+    // Whether tags make unambiguous what has to be inside it.
     ghost unambiguous: { Bool } = { true };
 
     /// Whether this is one of the tags by which encodings begin.

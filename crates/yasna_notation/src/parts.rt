@@ -1,6 +1,6 @@
-//! What a SEQUENCE holds: parts that are there, may be omitted, or are a default where they are (X.690, 8.9).
+//! The parts of a SEQUENCE: mandatory ones, OPTIONAL ones, and ones with a DEFAULT (X.690, 8.9).
 //!
-//! What was read is looked at by a `match`: `?` moves it first, and the values of many parts are large.
+//! A value that was read is tested by a `match`: `?` moves it first, and the values of many parts are large.
 ghost use Rattle.std.specs.Prelude.{◌≡◌, ◌∷◌, ◌++◌, ◌||◌, ◌&&◌, [], Bool, List, None, true, false};
 ghost use Rattle.yasna_base.specs.declared.tag.Tag.{Tag};
 ghost use Rattle.yasna_base.specs.Beginnings.{share_none};
@@ -22,24 +22,24 @@ use yasna_writer::DERWriterSeq;
 
 /// The parts of a SEQUENCE, as pairs that end in `()`: `(i64, (Optional<bool>, ()))` of an INTEGER and a BOOLEAN OPTIONAL.
 pub trait Parts {
-    /// What their values are in Rust: pairs that end in `()` too.
+    /// Their values in Rust: pairs that end in `()` too.
     type Values;
 
-    /// The types of values that are inside its own, which the type of its own doesn't name: bounds name them.
+    /// The types of values inside these, which their type doesn't name: bounds name them.
     type Inner;
 
-    // Whether it is known by which tags they begin, up to the first that is always there, and these.
+    // Whether the tags are known by which they begin, up to the first mandatory part, and these tags.
     ghost tags_known: { Bool };
 
     ghost tags: { List Tag };
 
-    // Whether what has to be unambiguous in them is, by tags.
+    // Whether tags make unambiguous what has to be in them.
     ghost unambiguous: { Bool };
 
     // Which contents encode the values.
     ghost parts: { Grammar Self.Values };
 
-    // What that asks of the bytes alone.
+    // Which contents encode some values.
     ghost any_parts: { Members };
 
     // Whether reading them may allocate.
@@ -233,16 +233,16 @@ pub(crate) fn write_optional<A: Notation>(
     }
 }
 
-/// Parts whose values are apart, as the fields of a struct: `R` is references to them, as pairs that end in `()`.
+/// Parts whose values are separate, as the fields of a struct: `R` is references to them, as pairs that end in `()`.
 pub trait PartsBy<R> {
-    /// What the references represent: the values of the parts.
+    /// The values of the parts, which the references represent.
     type Held;
 
     // The values.
     ghost held: { R → Self.Held };
 
-    // Their encodings, and which can be written. What writes them as parts asks that these are those of `Parts`: with `Parts` above this trait,
-    // each pair in a pair would prove it for all pairs inside.
+    // Their encodings, and which can be written. A call that writes them as parts requires that these are those of `Parts`. If `Parts` were
+    // a supertrait, each pair in a pair would prove that for all pairs inside.
     ghost encoding_by: { Encoding Self.Held };
 
     ghost can_by: { Self.Held → Type 0 };

@@ -1,4 +1,4 @@
-//! SET OF (X.690, 8.12 and 11.6): its values are one in any order.
+//! SET OF (X.690, 8.12 and 11.6): its values are equal in any order.
 ghost use Rattle.std.specs.Prelude.{◌≡◌, ◌∷◌, [], None, true};
 ghost use Rattle.std.specs.List.{AllByRecursion};
 ghost use Rattle.std.proofs.Common.{arith};
@@ -22,7 +22,7 @@ use yasna_base::{ASN1Result, Tag};
 use yasna_reader::BERReader;
 use yasna_writer::{DERWriter, DERWriterSet};
 
-/// `SET OF N`. It is written in the order of its elements' bytes, however its values are there.
+/// `SET OF N`. It is written in the order of its elements' bytes, whatever the order of its values.
 pub struct SetOf<N> {
     of: PhantomData<N>,
 }
@@ -88,8 +88,8 @@ fn write_elements<N: Notation>(items: &[N::Value], set: &mut DERWriterSet) -> AS
     Ok(())
 }
 
-// Writes an item as a part that begins. A set rejects an empty part: where there is no memory and that isn't sticky, a NULL is left, so
-// that `OutOfMemory` is what is returned.
+// Writes an item as a part that begins. A set rejects an empty part. So if there is no memory and that isn't sticky, a NULL is left, and
+// `OutOfMemory` is returned.
 fn write_element<N: Notation>(item: &N::Value, writer: DERWriter<'_>) -> ASN1Result<()>
     requires can { N.means.can item.now }
     requires begins { (writer.old.bytes ≡ []) × (writer.old.tag ≡ None) }

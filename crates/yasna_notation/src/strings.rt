@@ -65,7 +65,7 @@ impl Notation for Vec<u8> {
     ghost non_empty = { λ u m v. octets_non_empty (tag_or u octets_tag) m v.items };
 }
 
-/// BIT STRING: its bytes, the first bit of a byte being its highest, and how many bits there are.
+/// BIT STRING: its bytes, the first bit of a byte being its highest, and the count of its bits.
 pub struct BitString;
 
 impl Notation for BitString {

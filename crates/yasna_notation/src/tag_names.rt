@@ -17,7 +17,7 @@ pub trait TagName {
     fn tag() -> Tag
         ensures { result ≡ tag };
 
-    // Its number is one of 64 bits, and it isn't that of the end of contents.
+    // Its number has at most 64 bits, and it isn't the tag of the end of contents.
     ghost in_range: { tag.tag_number < 2 ^ 64 };
 
     ghost not_end: { tag ≡ end_tag → ⊥ };
