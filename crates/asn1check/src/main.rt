@@ -1,17 +1,17 @@
-//! `asn1check KIND` reads a message in DER from standard input, as a value of its type, and writes that value.
+//! `asn1check KIND` checks that standard input is exactly one message of a type, in DER, and writes it to standard output.
 //!
-//! What it writes is what it read, since a value has one encoding in DER; so it says whether bytes are such a message.
+//! It reads the message as a value of its type and writes that value: the bytes are the same, since a value has one encoding in DER.
 //!
 //! | Status | When |
 //! |---|---|
 //! | 0 | the bytes are one such message |
-//! | 1 | they aren't, or there was no memory for it; the error is on standard error |
-//! | 2 | the arguments are others |
+//! | 1 | the bytes aren't one, or there was no memory for it; the error is on standard error |
+//! | 2 | usage error |
 //! | 3 | a read or a write failed |
 //!
 //! | Module | Holds |
 //! |---|---|
-//! | `kind` | the kinds of messages, and what they are rewritten by |
+//! | `message_type` | the types of messages, and how each is rewritten |
 #![tactic(auto)]
 
 mod message_type;
@@ -33,7 +33,7 @@ fn write(rt: &HostRuntime, bytes: &[u8]) -> io::Result<()> {
     out.flush()
 }
 
-// The kind that the words after the program's name are, if they are one.
+// The type of message that the arguments name, if they name one.
 fn requested_type(words: &[String]) -> Option<MessageType> {
     let [_, word] = words else {
         return None;
@@ -41,7 +41,7 @@ fn requested_type(words: &[String]) -> Option<MessageType> {
     MessageType::named(word.as_str())
 }
 
-// Rewrites a message, and gives the status.
+// Rewrites a message, and returns the status.
 fn run(rt: &HostRuntime, kind: MessageType) -> u8 {
     let mut errors = rt.stderr();
     let Ok(input) = read(rt) else {

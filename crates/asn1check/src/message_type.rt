@@ -1,4 +1,4 @@
-//! The kinds of messages, and what they are rewritten by.
+//! The types of messages, and how each is rewritten.
 ghost use Rattle.std.specs.Prelude.{IfOk, ◌≡◌};
 
 use pkcs8::OneAsymmetricKey;
@@ -10,7 +10,7 @@ use yasna::{
 };
 use yasna_notation::Encoded;
 
-/// A kind of messages.
+/// A type of messages.
 #[derive(Clone, Copy)]
 pub enum MessageType {
     Certificate,
@@ -20,7 +20,7 @@ pub enum MessageType {
     SnmpV2c,
 }
 
-/// Their names, as the usage tells them.
+/// The names of the types, for the usage.
 pub const NAMES: &str = "certificate | certificate-list | private-key | snmp-v1 | snmp-v2c";
 
 // Reads a value, and writes it.
@@ -36,7 +36,7 @@ fn rewritten<T: BERDecodable + DEREncodable + DERExact>(
 }
 
 impl MessageType {
-    /// The kind of this name.
+    /// The type of this name.
     pub fn named(word: &str) -> Option<MessageType> {
         match word {
             "certificate" => Some(MessageType::Certificate),
@@ -48,7 +48,7 @@ impl MessageType {
         }
     }
 
-    /// The bytes again, where they are a message of this kind.
+    /// The bytes again, if they are a message of this type.
     pub fn rewritten(self, alloc: Global, bytes: &[u8]) -> ASN1Result<Vec<u8>>
         ensures { IfOk result (λ encoding. encoding.items ≡ bytes.now) }
     {

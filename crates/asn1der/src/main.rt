@@ -3,9 +3,9 @@
 //! | Status | When |
 //! |---|---|
 //! | 0 | the elements are written |
-//! | 1 | the input isn't elements in BER, or with `--strict` their encoding in DER is in doubt: nothing is written |
-//! | 2 | the arguments are others |
-//! | 3 | a read or a write failed, or there was no memory |
+//! | 1 | the input isn't elements in BER, or with `--strict` their DER encoding is ambiguous: nothing is written |
+//! | 2 | usage error |
+//! | 3 | I/O error, or out of memory |
 //!
 //! The crate `asn1der_convert` holds what it does between its ends.
 #![tactic(auto)]
@@ -17,10 +17,10 @@ use std::io::{Read, Write};
 use std::process::ExitCode;
 use std::{env, io};
 
-// The status where the input is malformed or in doubt.
+// The status if the input is malformed or ambiguous.
 const REJECTED: u8 = 1;
 
-// The status where a read or a write failed, or there was no memory.
+// The status after an I/O error, or if memory ran out.
 const IO_ERROR: u8 = 3;
 
 const USAGE: &str = "usage: asn1der [--strict]
@@ -40,7 +40,7 @@ fn write(rt: &HostRuntime, bytes: &[u8]) -> io::Result<()> {
     out.flush()
 }
 
-// Whether the words after the program's name ask for no doubt, if they are known.
+// Whether the arguments ask for `--strict`, or None after a usage error.
 fn is_strict(words: &[String]) -> Option<bool> {
     match words {
         [_] => Some(false),
@@ -49,7 +49,7 @@ fn is_strict(words: &[String]) -> Option<bool> {
     }
 }
 
-// Says where the first doubt of each kind is.
+// Reports the first ambiguity of each kind.
 fn report(rt: &HostRuntime, ambiguities: &Ambiguities) {
     for ambiguity in [Ambiguity::Segments, Ambiguity::Order] {
         if let Some(offset) = ambiguities.first(ambiguity) {
@@ -58,7 +58,7 @@ fn report(rt: &HostRuntime, ambiguities: &Ambiguities) {
     }
 }
 
-// Converts standard input, and gives the status.
+// Converts standard input, and returns the status.
 fn run(rt: &HostRuntime, strict: bool) -> u8 {
     let Ok(input) = read(rt) else {
         let _ = writeln!(rt.stderr(), "standard input can't be read");

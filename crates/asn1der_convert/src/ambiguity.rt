@@ -1,4 +1,4 @@
-//! Where the encoding in DER isn't known without a schema.
+//! Ambiguities: where the DER encoding depends on a schema.
 ghost use Rattle.std.specs.Prelude.{◌≡◌, ◌↔◌, IsTrue, None, Some};
 ghost use Rattle.yasna_base.specs.Set.{set_tag};
 ghost use Rattle.yasna_base.specs.declared.tag.TagClass.TheVariants.{Universal};
@@ -13,7 +13,7 @@ use std::fmt;
 use yasna_base::tag::{Tag, TagClass};
 use yasna_base::tags::TAG_SET;
 
-/// What a schema would decide.
+/// A kind of ambiguity, which a schema would decide.
 #[derive(Clone, Copy, PartialEq, Eq, Debug)]
 pub enum Ambiguity {
     /// A constructed element whose tag isn't universal may be a string in segments (X.690, 8.14.3 and 10.2).
@@ -31,7 +31,7 @@ impl fmt::Display for Ambiguity {
     }
 }
 
-// The first place, where one is known: elements within another are met before it ends.
+// The earlier of two places: elements within another are met before it ends.
 fn earlier(known: Option<usize>, offset: usize) -> Option<usize>
     ensures { result ≡ Some (first_of known offset) }
 {
@@ -41,7 +41,7 @@ fn earlier(known: Option<usize>, offset: usize) -> Option<usize>
     }
 }
 
-/// Where the first doubt of each kind is, counted from the input's first byte.
+/// The offset of the first ambiguity of each kind.
 #[derive(Clone, Copy, PartialEq, Eq, Debug)]
 pub struct Ambiguities {
     segments: Option<usize>,
@@ -49,7 +49,7 @@ pub struct Ambiguities {
 }
 
 impl Ambiguities {
-    /// No doubt.
+    /// No ambiguity.
     pub fn none() -> Ambiguities
         ensures segments { result.segments ≡ None }
         ensures order { result.order ≡ None }
@@ -60,7 +60,7 @@ impl Ambiguities {
         }
     }
 
-    /// Where the first doubt of this kind is.
+    /// The offset of the first ambiguity of this kind.
     pub fn first(&self, ambiguity: Ambiguity) -> Option<usize>
         ensures segments { ambiguity ≡ Segments → result ≡ self.now.segments }
         ensures order { ambiguity ≡ Order → result ≡ self.now.order }
@@ -71,14 +71,14 @@ impl Ambiguities {
         }
     }
 
-    /// Whether there is any.
+    /// Whether there is an ambiguity.
     pub fn are_any(&self) -> bool
         ensures { IsTrue result ↔ ((self.now.segments ≡ None) × (self.now.order ≡ None) → ⊥) }
     {
         self.segments.is_some() || self.order.is_some()
     }
 
-    /// Takes what is in doubt about the constructed element that begins here, has this tag and is around these.
+    /// Notes the ambiguity of the constructed element that begins here, has this tag and is around these.
     pub fn note(&mut self, offset: usize, tag: Tag, parts: &[DerElement])
         ensures certain { tag.tag_class ≡ Universal → self.new.segments ≡ self.old.segments }
         ensures may_be_a_string { (tag.tag_class ≡ Universal → ⊥) → self.new.segments ≡ Some (first_of self.old.segments offset) }

@@ -1,4 +1,4 @@
-//! Which types have values that BER spells in several ways (X.690, 8.2, 8.6, 8.7, 8.23 and 8.25).
+//! The types whose values BER encodes in several ways (X.690, 8.2, 8.6, 8.7, 8.23 and 8.25).
 ghost use Rattle.std.specs.Prelude.{IsTrue, ◌↔◌};
 ghost use Rattle.asn1der_convert.specs.Tags.{IsStringTag};
 ghost use Rattle.asn1der_convert.specs.Conversion.{Converts};
@@ -7,7 +7,7 @@ ghost use Rattle.asn1der_convert.specs.ContentsClass.{IsOfClass};
 use yasna_base::tag::{Tag, TagClass};
 use yasna_base::tags::{TAG_BITSTRING, TAG_BOOLEAN, TAG_EOC};
 
-/// What the contents of an element are read as.
+/// How the contents of an element are read.
 #[derive(Clone, Copy)]
 pub enum ContentsClass {
     /// No element: the tag is that of the end of contents.
@@ -29,7 +29,7 @@ fn is_string(tag: Tag) -> bool
     tag.tag_class == TagClass::Universal && matches!(tag.tag_number, 4 | 7 | 12 | 18..=28 | 30)
 }
 
-/// What the contents of an element with this tag are read as.
+/// How the contents of an element with this tag are read.
 pub fn class_of(tag: Tag) -> ContentsClass
     ensures { IsOfClass result tag }
 {

@@ -1,8 +1,8 @@
 //! Elements from BER to DER (X.690, clauses 8, 10 and 11).
 //!
-//! `convert` begins the walk. `convert_contents` goes from element to element, `convert_element` asks an element's tag how
-//! its contents are read, and `convert_constructed` goes down a level. Each returns whole elements in DER, so that those of
-//! a SET OF can be put in order before a header is put before them.
+//! `convert` begins the walk. `convert_contents` goes from element to element, `convert_element` decides by an element's tag how its
+//! contents are read, and `convert_constructed` descends one level. Each returns whole elements in DER, so that those of a SET OF are
+//! put in order before their header is written.
 ghost use Rattle.std.specs.Prelude.{◌≡◌, ◌≤◌, ◌<◌, ◌+◌, ◌*◌, ◌-◌, ◌%◌, ◌^◌, ◌∷◌, [], ℕ, List, IfOk, IfErr, MatchOption, length};
 ghost use Rattle.yasna_base.specs.Bits.{bits_tag, bits_contents};
 ghost use Rattle.yasna_base.specs.Boolean.{boolean_byte, boolean_tag};
@@ -41,7 +41,7 @@ use yasna_bytes::bytes::segments::{bit_string, octet_string};
 pub struct Converted {
     /// The elements, one after the other.
     pub bytes: Vec<u8>,
-    /// What a schema might change.
+    /// The ambiguities, which a schema would decide.
     pub ambiguities: Ambiguities,
 }
 
@@ -74,14 +74,14 @@ fn cleared_byte(last: u8, unused: u8) -> u8
     last - last % (1u8 << unused)
 }
 
-// How many bits of the last byte aren't among so many.
+// The count of unused bits in the last byte of a BIT STRING of this many bits.
 fn unused_bits(count: usize) -> u8
     ensures { result ≡ (8 - count % 8) % 8 }
 {
     ((8 - count % 8) % 8) as u8
 }
 
-// The contents of a BIT STRING: the count of unused bits, and the bytes with zeros there (X.690, 11.2.1).
+// The contents of a BIT STRING: the count of unused bits, and the bytes, whose unused bits are zeros (X.690, 11.2.1).
 fn bit_contents(alloc: Global, bytes: &[u8], count: usize) -> Result<Vec<u8>, ConvertError>
     requires enough { count ≤ 8 * length bytes.now }
     requires least { 8 * length bytes.now < count + 8 }
@@ -130,7 +130,7 @@ fn convert_octets(
     Ok((part, rest))
 }
 
-// What follows contents that end so, where they end here.
+// The bytes after contents, if they end here.
 fn after_end<'a>(end: ContentsEnd<'a>, left: &'a [u8]) -> Option<&'a [u8]>
     ensures { MatchOption result (NoEnd (end_found end.entry) left.now) (λ after. EndsBefore (end_found end.entry) left.now after.now) }
 {
@@ -153,7 +153,7 @@ fn convert_primitive<'a>(
     ensures { PartAt cursor.entry.levels cursor.entry.mode cursor.entry.left.now result }
 {
     let ContentsEnd::Definite(after) = opened.end else {
-        // No mode takes the indefinite form there.
+        // No mode accepts the indefinite form here.
         return Err(ConvertError::at(cursor, ASN1ErrorKind::Invalid));
     };
     let mut contents = Vec::new(alloc);
@@ -173,7 +173,7 @@ fn enclose(alloc: Global, tag: Tag, parts: Vec<DerElement>) -> Result<DerElement
     element(alloc, tag, PCBit::Constructed, contents)
 }
 
-// The elements from here to the end of contents, and what follows that.
+// Converts the elements up to the end of contents, and returns what follows it.
 #[cycle(conversion)]
 fn convert_contents<'a>(
     alloc: Global,
@@ -201,7 +201,7 @@ fn convert_contents<'a>(
     }
 }
 
-// A constructed element of another type, and what is in doubt about it.
+// Converts a constructed element of another type, and notes its ambiguity.
 #[cycle(conversion)]
 fn convert_constructed<'a>(
     alloc: Global,
@@ -229,7 +229,7 @@ fn convert_constructed<'a>(
     }
 }
 
-// The element of another type that begins here.
+// Converts an element of another type.
 #[cycle(conversion)]
 fn convert_other<'a>(
     alloc: Global,
@@ -251,7 +251,7 @@ fn convert_other<'a>(
     }
 }
 
-// The element that begins here, and what follows it.
+// Converts an element, and returns what follows it.
 #[cycle(conversion)]
 fn convert_element<'a>(
     alloc: Global,

@@ -1,4 +1,4 @@
-//! Why there is no output.
+//! The errors of the conversion.
 ghost use Rattle.std.specs.Prelude.{◌≡◌, ◌↔◌, ◌-◌, length};
 ghost use Rattle.yasna_base.specs.declared.error.ASN1ErrorKind.TheVariants.{OutOfMemory};
 ghost use Rattle.asn1der_convert.specs.declared.error.ConvertError.TheVariants.{Malformed, Memory};
@@ -8,21 +8,21 @@ use std::fmt;
 use yasna_base::error::ASN1ErrorKind;
 use yasna_bytes::bytes::cursor::Cursor;
 
-/// Why an input isn't converted.
+/// An error of the conversion.
 #[derive(Clone, Copy, PartialEq, Eq, Debug)]
 pub enum ConvertError {
-    /// No element in BER is at a place.
+    /// There is no element in BER at a place.
     Malformed {
-        /// Where, counted from the input's first byte.
+        /// The offset of the place.
         offset: usize,
-        /// What is wrong there.
+        /// The kind of the error.
         kind: ASN1ErrorKind,
     },
-    /// There was no memory.
+    /// Memory ran out.
     Memory,
 }
 
-/// Where this place is, counted from the input's first byte.
+/// The offset of this place.
 pub fn offset_of(cursor: Cursor<'_>) -> usize
     ensures { result ≡ cursor.entry.end - length cursor.entry.left.now }
 {
@@ -30,7 +30,7 @@ pub fn offset_of(cursor: Cursor<'_>) -> usize
 }
 
 impl ConvertError {
-    /// What is wrong with the element that begins here.
+    /// The error of the element that begins here.
     pub fn at(cursor: Cursor<'_>, kind: ASN1ErrorKind) -> ConvertError
         ensures memory { (result ≡ Memory) ↔ (kind ≡ OutOfMemory) }
         ensures malformed { (kind ≡ OutOfMemory → ⊥) → result ≡ Malformed (cursor.entry.end - length cursor.entry.left.now) kind }

@@ -1,14 +1,14 @@
-//! Elements in BER turned into the same elements in DER, as the program `asn1der` does it.
+//! Elements converted from BER to DER, for the program `asn1der`.
 //!
 //! | Module | Holds |
 //! |---|---|
-//! | `conversion` | the walk over the elements, and what is proved of it |
+//! | `conversion` | the walk over the elements |
 //! | `contents_class` | how the contents of an element are read, by its tag |
 //! | `der_element` | the elements that are written |
 //! | `set_order` | the order of a SET OF |
 //! | `writing` | headers before contents |
-//! | `ambiguity` | where a schema would have to be known |
-//! | `error` | why there is no output |
+//! | `ambiguity` | where the DER encoding depends on a schema |
+//! | `error` | the errors of the conversion |
 #![tactic(auto)]
 
 pub mod ambiguity;

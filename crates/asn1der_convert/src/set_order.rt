@@ -11,14 +11,13 @@ use yasna_base::bytes::order::compare_octets;
 use yasna_base::tag::Tag;
 use yasna_base::tags::TAG_SET;
 
-// Whether this element has the tag.
 fn has_tag(part: &DerElement, tag: Tag) -> bool
     ensures { IsTrue result ↔ (part.now.tag ≡ tag) }
 {
     part.tag == tag
 }
 
-// Whether all of these have it.
+// Whether all of these elements have the tag.
 fn all_have_tag(parts: &[DerElement], tag: Tag) -> bool
     ensures { IsTrue result ↔ AllByRecursion (λ p. p.tag ≡ tag) parts.now }
 {
@@ -42,7 +41,7 @@ fn sort_parts(parts: &mut Vec<DerElement>) -> Result<(), AllocError>
     parts.sort_by(|part, other| compare_octets(&part.bytes, &other.bytes))
 }
 
-/// Puts the elements within one that has this tag in the order that DER asks.
+/// Puts the elements within one that has this tag in the order that DER requires.
 pub fn put_in_order(tag: Tag, parts: &mut Vec<DerElement>) -> Result<(), AllocError>
     ensures { OnOk result (ArePutInOrder tag (part_tags parts.old.items) (part_bytes parts.old.items) (part_bytes parts.new.items)) }
 {

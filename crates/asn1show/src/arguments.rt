@@ -5,14 +5,14 @@ use clap::{Arg, ArgAction, ArgMatches, Command, Error};
 use std::alloc::{AllocError, Global};
 use yasna_base::mode::BERMode;
 
-/// What the arguments ask for.
+/// The options that the arguments name.
 #[derive(Clone, Copy)]
 pub struct Options<'a> {
     /// The encoding rules by which the input is read.
     pub mode: BERMode,
-    /// The format of the input, or None where that is to be detected by what is there.
+    /// The format of the input, or None if it is to be detected.
     pub input_format: Option<InputFormat>,
-    /// How many hexadecimal digits are shown of a value.
+    /// The most hexadecimal digits that are shown of a value.
     pub width: usize,
     /// The file that is read, or None for standard input.
     pub file: Option<&'a str>,
@@ -20,7 +20,7 @@ pub struct Options<'a> {
 
 const WIDTH: usize = 64;
 
-// A flag that goes without two others.
+// A flag that excludes two others.
 struct Flag {
     name: &'static str,
     others: [&'static str; 2],
@@ -164,7 +164,7 @@ fn found<'a>(matches: &ArgMatches<'a>) -> Options<'a> {
     }
 }
 
-/// What the words of a command line ask for, the program's name among them.
+/// The options of a command line, which begins with the program's name.
 pub fn options_of<'a>(alloc: Global, words: &'a [String]) -> Result<Options<'a>, Error> {
     let matches = matches_of(alloc, words)?;
     Ok(found(&matches))

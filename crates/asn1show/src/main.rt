@@ -1,6 +1,6 @@
 //! `asn1show` lists the elements of ASN.1 bytes, a line an element.
 //!
-//! `arguments` holds what the words of the command line ask for. The lines are those of the crate `asn1show_lines`.
+//! `arguments` has the options of the command line. `asn1show_lines` makes the lines.
 #![tactic(auto)]
 
 mod arguments;
@@ -13,13 +13,13 @@ use std::io::{BufWriter, Read, Write};
 use std::process::ExitCode;
 use std::{env, fs, io};
 
-// The status where the input is malformed.
+// The status if the input is malformed.
 const MALFORMED: u8 = 1;
 
-// The status where the arguments are others.
+// The status after a usage error.
 const USAGE: u8 = 2;
 
-// The status where a read or a write failed, or there was no memory.
+// The status after an I/O error, or if memory ran out.
 const IO_ERROR: u8 = 3;
 
 fn status_of(error: &WalkError) -> u8 {
@@ -51,13 +51,13 @@ fn show(rt: &HostRuntime, options: &Options<'_>, input: &[u8]) -> Result<(), Wal
     shown
 }
 
-// Says on standard error what ended the run.
+// Reports the error that ended the run.
 fn report_error<D: Display>(rt: &HostRuntime, options: &Options<'_>, why: &D) {
     let name = options.file.unwrap_or("stdin");
     let _ = writeln!(rt.stderr(), "{name}: {why}");
 }
 
-// Lists what the options ask for, and gives the status.
+// Lists an input that was read, and returns the status.
 fn list(rt: &HostRuntime, options: &Options<'_>, input: &[u8]) -> u8 {
     match show(rt, options, input) {
         Ok(()) => 0,
@@ -68,7 +68,7 @@ fn list(rt: &HostRuntime, options: &Options<'_>, input: &[u8]) -> u8 {
     }
 }
 
-// Lists the input that the options name, and returns the status.
+// Reads and lists the input that the options name, and returns the status.
 fn run(rt: &HostRuntime, options: &Options<'_>) -> u8 {
     match read(rt, options.file) {
         Ok(input) => list(rt, options, input.as_slice()),
@@ -84,7 +84,7 @@ fn words_of(rt: &HostRuntime) -> io::Result<Vec<String>> {
     Ok(words.collect(rt.alloc())?)
 }
 
-// Says why there are no options: the words are others, or ask for help.
+// Explains why there are no options: a usage error, or a request for help.
 fn explain_usage(rt: &HostRuntime, error: &Error) -> u8 {
     if error.print(rt).is_err() {
         return IO_ERROR;

@@ -31,7 +31,7 @@ pub fn push_digits(digits: &mut Vec<u8>, text: &[u8]) -> Result<(), AllocError>
     Ok(())
 }
 
-// That digits up to this offset are none of these.
+// The error of digits up to this offset that aren't as expected.
 fn malformed(offset: usize, expected: Expected) -> WalkError
     ensures { result ≡ Malformed offset Invalid expected }
 {
@@ -42,7 +42,7 @@ fn malformed(offset: usize, expected: Expected) -> WalkError
     }
 }
 
-/// The bytes that text says in hexadecimal.
+/// The bytes of a text in hexadecimal.
 pub fn decode_hex(alloc: Global, text: &[u8]) -> Result<Vec<u8>, WalkError>
     ensures ok { IfOk result (λ bytes. IsHex text.now bytes.items) }
     ensures malformed { IfErr result (λ f. WalkFails IsOutOfMemory (IsNoHex text.now) f) }
@@ -56,7 +56,7 @@ pub fn decode_hex(alloc: Global, text: &[u8]) -> Result<Vec<u8>, WalkError>
     }
 }
 
-/// The bytes that digits say in base64, which end at this offset.
+/// The bytes of digits in base64, which end at this offset.
 pub fn decode_base64(alloc: Global, digits: &[u8], offset: usize) -> Result<Vec<u8>, WalkError>
     ensures ok { IfOk result (λ bytes. Base64Decodes digits.now bytes.items) }
     ensures malformed { IfErr result (λ f. WalkFails IsOutOfMemory (IsNoBase64 digits.now offset) f) }

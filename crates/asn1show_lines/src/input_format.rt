@@ -1,4 +1,4 @@
-//! In which format an input is.
+//! The format of an input.
 ghost use Rattle.std.specs.Prelude.{◌↔◌, ◌||◌, IsTrue, Any};
 ghost use Rattle.std.specs.Char.{is_ascii_hexdigit};
 ghost use Rattle.std.specs.List.{AllByRecursion};
@@ -8,7 +8,7 @@ ghost use Rattle.asn1show_lines.specs.Text.{is_between};
 use crate::digits::is_between_digits;
 use crate::pem::{BEGIN, cut_line};
 
-/// In which format an input is.
+/// The format of an input.
 #[derive(Clone, Copy)]
 pub enum InputFormat {
     /// The bytes themselves.
@@ -49,7 +49,7 @@ fn has_digit(input: &[u8]) -> bool
     input.iter().any(|octet| octet.is_ascii_hexdigit())
 }
 
-// Whether nothing is there but digits, and what may be between them.
+// Whether a text is only digits, and what may be between them.
 fn are_digits(input: &[u8]) -> bool
     ensures { IsTrue result ↔ AllByRecursion (λ c. IsTrue (is_ascii_hexdigit c || is_between c)) input.now }
 {
@@ -62,7 +62,7 @@ fn is_hexadecimal(input: &[u8]) -> bool
     are_digits(input) && has_digit(input)
 }
 
-/// In which format an input is, by what is there.
+/// Detects the format of an input.
 pub fn format_of(input: &[u8]) -> InputFormat
     ensures { IsDetected input.now result }
 {

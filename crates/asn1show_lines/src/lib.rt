@@ -1,10 +1,10 @@
-//! The lines that tell what is in ASN.1 bytes, a line an element.
+//! The lines that show ASN.1 bytes, one for each element.
 //!
-//! It is there for the program `asn1show`.
+//! It is part of the program `asn1show`.
 //!
 //! | Module | Holds |
 //! |---|---|
-//! | `input_format` | in which format an input is |
+//! | `input_format` | the format of an input |
 //! | `digits` | bytes from digits, in hexadecimal and in base64 |
 //! | `pem` | blocks of PEM |
 //! | `lines` | an input from its text to its lines |

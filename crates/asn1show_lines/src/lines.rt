@@ -22,7 +22,7 @@ use std::alloc::Global;
 use std::io::Write;
 use yasna_base::mode::BERMode;
 
-// Lists the elements of bytes, and in which encoding rules they are.
+// Lists the elements of bytes, and prints their encoding rules.
 fn show_bytes<W: Write>(
     out: &mut W,
     mode: BERMode,
@@ -39,7 +39,7 @@ fn show_bytes<W: Write>(
     printer.finish()
 }
 
-// Ends a line with how many bytes there are, and lists the elements of them.
+// Ends a line with the count of bytes, and lists their elements.
 fn show_counted<W: Write>(
     out: &mut W,
     mode: BERMode,
@@ -86,7 +86,7 @@ fn show_block<W: Write>(
     show_counted(out, mode, style, line, block.bytes.as_slice())
 }
 
-// TakesLine a line of PEM, and lists the elements of the block that ends with it, if one does.
+// Takes a line of PEM, and lists the elements of the block that ends with it, if one does.
 fn show_line<'a, W: Write>(
     out: &mut W,
     mode: BERMode,
@@ -164,11 +164,10 @@ fn show_format<W: Write>(
     }
 }
 
-/// Lists the elements of an input by the rules of a mode, with at most `width` hexadecimal digits of a value. Where no format is given,
-/// what is there decides.
+/// Lists the elements of an input in a mode, with at most `width` hexadecimal digits of a value. If no format is given, it is detected.
 ///
-/// It returns Ok only where the input in this format says one or more elements down to the primitive ones, in PEM each of one or more blocks. A
-/// error that isn't of the device says that it doesn't.
+/// Returns Ok only if the input in this format is one or more elements that are well formed, in PEM each of one or more blocks. If an error
+/// is neither an I/O error nor out of memory, the input isn't such.
 pub fn show<W: Write>(
     alloc: Global,
     out: &mut W,

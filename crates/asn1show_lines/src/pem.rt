@@ -12,12 +12,12 @@ use asn1show_walk::error::{Expected, WalkError};
 use std::alloc::{AllocError, Global};
 use yasna_base::error::ASN1ErrorKind;
 
-/// What a line begins with that begins a block.
+/// The start of a line that begins a block.
 pub const BEGIN: &[u8] = b"-----BEGIN ";
 
 const END: &[u8] = b"-----END ";
 
-/// The first line of a text, and what is after its end, if it has one.
+/// The first line of a text, and the text after its end, if it has one.
 pub fn cut_line(text: &[u8]) -> (&[u8], Option<&[u8]>)
     ensures lines { lines_of text.now ≡ result.0.now ∷ lines_left result.1 }
     ensures shorter { IfSome result.1 (λ after. length after.now < length text.now) }
@@ -28,16 +28,16 @@ pub fn cut_line(text: &[u8]) -> (&[u8], Option<&[u8]>)
     }
 }
 
-/// A block of PEM: its label, and the bytes that it says.
+/// A block of PEM: its label and its bytes.
 #[derive(Drop)]
 pub struct Block<'a> {
-    /// What the lines around it call it.
+    /// The label, from the lines around it.
     pub label: &'a [u8],
     /// The bytes.
     pub bytes: Vec<u8>,
 }
 
-// A block that isn't at its end, and the digits of its lines.
+// An open block, and the digits of its lines.
 #[derive(Drop)]
 struct OpenBlock<'a> {
     label: &'a [u8],
@@ -54,7 +54,7 @@ fn label_of(line: &[u8]) -> Option<&[u8]>
 }
 
 impl<'a> OpenBlock<'a> {
-    // The block that this line begins, if it does.
+    // The block that this line begins, if it begins one.
     fn begin(alloc: Global, line: &'a [u8]) -> Option<OpenBlock<'a>>
         ensures digits { IfSome result (λ b. b.digits.items ≡ []) }
         ensures begins { IfSome result (λ b. Begins line.now b.label.now) }
@@ -65,7 +65,7 @@ impl<'a> OpenBlock<'a> {
         Some(OpenBlock { label, digits })
     }
 
-    // TakesLine a line. One with a colon is a header of an older form (RFC 1421).
+    // Takes a line. One with a colon is a header of an older form (RFC 1421).
     fn push(&mut self, line: &[u8]) -> Result<(), AllocError>
         ensures { OnOk result (self.new.digits.items ≡ self.old.digits.items ++ digits_in line.now) }
     {
@@ -108,7 +108,7 @@ fn missing(offset: usize, expected: Expected) -> WalkError
 }
 
 impl<'a> PemReader<'a> {
-    /// Before the first line.
+    /// A reader before the first line.
     pub fn new(alloc: Global) -> PemReader<'a>
         ensures digits { open_digits result ≡ None }
         ensures any { has_any result ≡ false }
@@ -121,7 +121,7 @@ impl<'a> PemReader<'a> {
         }
     }
 
-    // Goes to the end of a line, and gives where that is.
+    // Goes to the end of a line, and returns its offset.
     fn pass(&mut self, line: &[u8]) -> usize
         ensures digits { open_digits self.new ≡ open_digits self.old }
         ensures any { has_any self.new ≡ has_any self.old }
@@ -131,7 +131,7 @@ impl<'a> PemReader<'a> {
         end
     }
 
-    /// TakesLine a line, and gives the block that ends with it.
+    /// Takes a line, and returns the block that ends with it.
     pub fn push(&mut self, line: &'a [u8]) -> Result<Option<Block<'a>>, WalkError>
         ensures takes { IfOk result (λ block. TakesLine self.old line.now (option_map (λ b. b.bytes.items) block) self.new) }
         ensures malformed { IfErr result (λ f. WalkFails IsOutOfMemory (λ at kind. DecodesNothing self.old line.now) f) }
@@ -150,7 +150,7 @@ impl<'a> PemReader<'a> {
         Ok(None)
     }
 
-    /// Sees that no block is open and that there was one, at the end of an input of this size.
+    /// Checks at the end of an input of this size that no block is open and that there was one.
     pub fn finish(&self, size: usize) -> Result<(), WalkError>
         ensures closed { OnOk result (open_digits self.now ≡ None) }
         ensures any { OnOk result (has_any self.now ≡ true) }

@@ -1,29 +1,29 @@
-//! What is known of X.680's own types: which characters they have, and whether they have parts.
+//! The types of X.680: their characters, and whether they have parts.
 
 use yasna_base::tag::{Tag, TagClass};
 
-/// Which characters a text has.
+/// The characters of a type of text.
 #[derive(Clone, Copy)]
 pub enum Characters {
-    /// Those of Unicode, in UTF-8.
+    /// Unicode, in UTF-8.
     Utf8,
     /// Digits and the space.
     Numeric,
-    /// Those of PrintableString.
+    /// The characters of PrintableString.
     Printable,
     /// ASCII.
     Ia5,
     /// ASCII without control characters.
     Visible,
-    /// Those of Unicode, in two octets each.
+    /// Unicode, in two octets each.
     Bmp,
-    /// Those of Unicode, in four octets each.
+    /// Unicode, in four octets each.
     Universal,
-    /// Others, which aren't judged.
+    /// Other characters, which aren't validated.
     Other,
 }
 
-/// Of what kind a type is.
+/// A type of X.680, or one that isn't known.
 #[derive(Clone, Copy)]
 pub enum AsnType {
     /// BOOLEAN.
@@ -56,7 +56,7 @@ pub enum AsnType {
     Unknown,
 }
 
-/// The kind of the type with this tag (X.680, 8.6).
+/// The type with this tag (X.680, 8.6).
 pub fn type_of(tag: Tag) -> AsnType {
     if tag.tag_class != TagClass::Universal {
         return AsnType::Unknown;

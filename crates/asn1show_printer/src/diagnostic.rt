@@ -1,9 +1,9 @@
-//! What is said after a line, and in which encoding rules the whole is.
+//! Diagnostics of elements, and the conformance of the whole to encoding rules.
 ghost use Rattle.std.specs.Prelude.{◌≡◌, if◌then◌else◌, Some, None};
 
 use yasna_base::mode::BERMode;
 
-/// Why an element is in some encoding rules and not in others.
+/// A diagnostic: why an element is not DER, or not BER.
 #[derive(Clone, Copy)]
 pub enum Diagnostic {
     /// The length takes more octets than it needs (X.690, 10.1).
@@ -18,7 +18,7 @@ pub enum Diagnostic {
     Padding,
     /// A SET OF isn't in the order of its elements' octets (X.690, 11.6).
     Order,
-    /// A time isn't in its one form (X.690, 11.7 and 11.8).
+    /// A time isn't canonical (X.690, 11.7 and 11.8).
     Time,
     /// A time is in no known zone (X.690, 11.7.1).
     Local,
@@ -26,11 +26,11 @@ pub enum Diagnostic {
     HasParts,
     /// A type that has parts is primitive.
     HasNoParts,
-    /// A segment isn't of the type that it is to be.
+    /// A segment isn't of the expected type.
     Segment,
     /// A BOOLEAN isn't one octet.
     Boolean,
-    /// A number has no octets or nine equal bits in front.
+    /// A number has no octets or nine equal leading bits.
     Number,
     /// A NULL has contents.
     Null,
@@ -40,12 +40,12 @@ pub enum Diagnostic {
     Components,
     /// A text has a character that its type hasn't.
     Characters,
-    /// A text is no time.
+    /// A text isn't a time.
     NoTime,
 }
 
 impl Diagnostic {
-    /// What is said of it.
+    /// The text of a diagnostic.
     pub fn text(self) -> &'static str {
         match self {
             Diagnostic::LongLength => "not DER: the length isn't the shortest",
@@ -69,7 +69,7 @@ impl Diagnostic {
         }
     }
 
-    // Whether what is so isn't in these rules.
+    // Whether an element with this diagnostic isn't in a mode.
     fn excludes(self, mode: BERMode) -> bool {
         match self {
             Diagnostic::Indefinite | Diagnostic::Segments => mode == BERMode::Der,
@@ -84,14 +84,14 @@ impl Diagnostic {
     }
 }
 
-/// The diagnostic, where this isn't so.
+/// The diagnostic, unless this is so.
 pub fn unless(is_so: bool, diagnostic: Diagnostic) -> Option<Diagnostic>
     ensures { result ≡ if is_so then None else Some diagnostic }
 {
     if is_so { None } else { Some(diagnostic) }
 }
 
-/// In which encoding rules elements are, as far as can be known without a schema.
+/// The encoding rules that elements conform to, as far as can be known without a schema.
 #[derive(Clone, Copy)]
 pub struct Conformance {
     ber: bool,
@@ -100,7 +100,7 @@ pub struct Conformance {
 }
 
 impl Conformance {
-    /// That of no elements.
+    /// The conformance of no elements.
     pub fn new() -> Conformance {
         Conformance {
             ber: true,
@@ -109,19 +109,19 @@ impl Conformance {
         }
     }
 
-    /// Less the rules that this excludes.
+    /// Drops the encoding rules that a diagnostic excludes.
     pub fn note(&mut self, diagnostic: Diagnostic) {
         self.ber = self.ber && !diagnostic.excludes(BERMode::Ber);
         self.der = self.der && !diagnostic.excludes(BERMode::Der);
         self.cer = self.cer && !diagnostic.excludes(BERMode::Cer);
     }
 
-    /// Less CER.
+    /// Drops CER.
     pub fn exclude_cer(&mut self) {
         self.cer = false;
     }
 
-    /// The names of the rules.
+    /// The names of the encoding rules.
     pub fn modes(self) -> &'static str {
         match (self.ber, self.der, self.cer) {
             (false, _, _) => "none",

@@ -1,13 +1,13 @@
-//! A visitor that prints a line for each element that it is told of: where it is, its type, and what it says.
+//! A visitor that prints a line for each element: its place, its type and its value.
 //!
-//! It is there for `asn1show_lines`, which hands it the elements of an input.
+//! It is part of `asn1show`: `asn1show_lines` hands it the elements of an input.
 //!
 //! | Module | Holds |
 //! |---|---|
-//! | `asn_type` | the kinds of X.680's own types |
-//! | `value` | what primitive elements say |
+//! | `asn_type` | the types of X.680 |
+//! | `value` | the values of primitive elements |
 //! | `sets` | the order of a SET OF, and how CER cuts strings |
-//! | `diagnostic` | what is said after a line, and in which encoding rules the whole is |
+//! | `diagnostic` | diagnostics of elements, and the conformance of the whole |
 //! | `line` | a line as it is made |
 //! | `names` | names of types and of object identifiers |
 //! | `printer` | the lines |

@@ -7,8 +7,7 @@ use std::alloc::Global;
 use std::fmt::Display;
 use std::io::Write;
 
-/// The text of a line, and whether there was no memory for one that was to be appended, after which nothing is. So only the end of a line is
-/// asked whether all went well.
+/// The text of a line, and whether memory ran out, after which nothing is appended. So only the end of a line is checked.
 #[derive(Drop)]
 pub struct LineBuffer {
     text: Vec<u8>,
@@ -16,7 +15,7 @@ pub struct LineBuffer {
 }
 
 impl LineBuffer {
-    /// With no text yet.
+    /// An empty line.
     pub fn new(alloc: Global) -> LineBuffer {
         LineBuffer {
             text: Vec::new(alloc),
@@ -24,14 +23,14 @@ impl LineBuffer {
         }
     }
 
-    /// Keeps that there was no memory for what was to be appended.
+    /// Notes that memory ran out.
     pub fn fail_out_of_memory(&mut self)
         ensures { self.new ≡ record self.old { out_of_memory = true } }
     {
         self.out_of_memory = true;
     }
 
-    /// Appends what `write!` is handed.
+    /// Appends the text of `write!`.
     pub fn write_fmt<D: Display + Drop>(&mut self, text: D) {
         if !self.out_of_memory && self.text.write_fmt(text).is_err() {
             self.fail_out_of_memory();
@@ -50,7 +49,7 @@ impl LineBuffer {
         self.write_all(text.as_bytes())
     }
 
-    /// The text, where there was memory for all of it.
+    /// The text, if there was memory for all of it.
     pub fn text(&self) -> Result<&[u8], WalkError>
         ensures { IfErr result IsExternal }
     {

@@ -30,7 +30,7 @@ impl<'w, 'n, W: Write> Printer<'w, 'n, W> {
         }
     }
 
-    /// Prints in which encoding rules the elements are. `Err` says that there was no memory for that, or that a write failed.
+    /// Prints the encoding rules that the elements conform to. `Err` says that memory ran out, or that a write failed.
     pub fn finish(self) -> Result<(), WalkError>
         ensures { IfErr result IsExternal }
     {
@@ -40,7 +40,7 @@ impl<'w, 'n, W: Write> Printer<'w, 'n, W> {
     }
 }
 
-// The line of an element, and what is known of those before it.
+// The line of an element, and the state after those before it.
 #[derive(Drop)]
 struct Report<'n> {
     line: LineBuffer,
@@ -53,7 +53,7 @@ struct Report<'n> {
 }
 
 impl<'n> Report<'n> {
-    // Of no elements yet.
+    // The report of no elements.
     fn new(style: Style<'n>) -> Report<'n> {
         Report {
             line: LineBuffer::new(style.alloc),
@@ -64,13 +64,13 @@ impl<'n> Report<'n> {
         }
     }
 
-    // In which encoding rules the elements are.
+    // Prints the encoding rules that the elements conform to.
     fn print_conformance(&mut self) {
         self.line.write_str("rules: ");
         self.line.write_str(self.conformance.modes())
     }
 
-    // What is said of an element.
+    // Prints an element with its diagnostics.
     fn print_element(&mut self, item: &Item<'_>) {
         let kind = type_of(item.tag);
         self.note_cer(item, kind);
@@ -90,7 +90,7 @@ impl<'n> Report<'n> {
         write!(self.line, "{}]", tag.tag_number)
     }
 
-    // The place of an element, and its lengths.
+    // Prints an element's place and lengths.
     fn print_place(&mut self, item: &Item<'_>) {
         let (offset, header) = (item.offset, item.header);
         write!(self.line, "{offset:>7} {header:>2}+");
@@ -113,7 +113,7 @@ impl<'n> Report<'n> {
         self.print_tag(item.tag)
     }
 
-    // What is said of an element that isn't so. What is in a string doesn't bear on the whole.
+    // Prints a diagnostic. Elements in a string don't count for the conformance of the whole.
     fn diagnose(&mut self, item: &Item<'_>, diagnostic: Option<Diagnostic>) {
         let Some(diagnostic) = diagnostic else {
             return;
@@ -125,13 +125,13 @@ impl<'n> Report<'n> {
         self.line.write_str(diagnostic.text())
     }
 
-    // The tag that an element is to have as a segment, if it is one.
+    // The tag expected of an element as a segment, if it is one.
     fn segment_tag(&mut self, depth: u8) -> Option<Tag> {
         self.around.truncate(usize::from(depth));
         *self.around.as_slice().last()?
     }
 
-    // Whether an element may be there: where a segment is to be, it has the tag of one.
+    // Whether an element is expected: a segment has the tag of one.
     fn is_expected(&mut self, item: &Item<'_>) -> bool {
         let wanted = self.segment_tag(item.depth);
         self.is_segment = wanted.is_some();
@@ -158,7 +158,7 @@ impl<'n> Report<'n> {
         self.diagnose(item, diagnostic_of(kind, item.contents))
     }
 
-    // What is said of an element's header.
+    // Prints the diagnostics of an element's header.
     fn diagnose_header(&mut self, item: &Item<'_>) {
         let is_expected = self.is_expected(item);
         self.diagnose(item, unless(!is_long(item), Diagnostic::LongLength));
@@ -172,7 +172,7 @@ impl<'n> Report<'n> {
     }
 }
 
-// What is before the number of a tag of this class.
+// The prefix of a tag number of this class.
 fn class_of(class: TagClass) -> &'static str {
     match class {
         TagClass::Universal => "[UNIVERSAL ",
@@ -182,7 +182,7 @@ fn class_of(class: TagClass) -> &'static str {
     }
 }
 
-// The name of the type with this tag, where it is one of X.680's own.
+// The name of the type with this tag, if it is one of X.680.
 fn name_of(tag: Tag) -> Option<&'static str> {
     match tag.tag_class {
         TagClass::Universal => type_name(tag.tag_number),
@@ -190,8 +190,8 @@ fn name_of(tag: Tag) -> Option<&'static str> {
     }
 }
 
-// Whether CER has an element of this kind in this form: constructed ones have no counted length, and strings are cut where they
-// are long (X.690, 9.1 and 9.2).
+// Whether CER accepts an element of this type as it is encoded: constructed ones have indefinite length, and long strings are cut
+// (X.690, 9.1 and 9.2).
 fn is_in_cer(item: &Item<'_>, kind: AsnType) -> bool {
     match item.bit {
         PCBit::Primitive => !kind.is_string() || stays_whole(item.contents),
@@ -202,7 +202,7 @@ fn is_in_cer(item: &Item<'_>, kind: AsnType) -> bool {
     }
 }
 
-// The tag of the segments that a constructed string of this kind is cut into (X.690, 8.6, 8.7 and 8.23).
+// The tag of the segments of a constructed string of this type (X.690, 8.6, 8.7 and 8.23).
 fn segments_of(bit: PCBit, kind: AsnType) -> Option<Tag> {
     match (bit, kind) {
         (PCBit::Primitive, _) => None,
@@ -212,7 +212,7 @@ fn segments_of(bit: PCBit, kind: AsnType) -> Option<Tag> {
     }
 }
 
-// What is said of a constructed element of this kind.
+// The diagnostic of a constructed element of this type.
 fn diagnostic_of(kind: AsnType, contents: &[u8]) -> Option<Diagnostic> {
     match kind {
         AsnType::Set if is_out_of_order(contents) => Some(Diagnostic::Order),
@@ -223,7 +223,7 @@ fn diagnostic_of(kind: AsnType, contents: &[u8]) -> Option<Diagnostic> {
     }
 }
 
-// How many octets the shortest length of this size takes.
+// The count of octets of the shortest length of this size.
 fn shortest_length(size: usize) -> usize {
     if size < 128 {
         return 1;
@@ -232,7 +232,7 @@ fn shortest_length(size: usize) -> usize {
     1 + bits.div_ceil(8) as usize
 }
 
-// How many octets an identifier with this number takes.
+// The count of octets of an identifier with this number.
 fn identifier_length(number: u64) -> usize {
     if number < 31 {
         return 1;
@@ -262,7 +262,7 @@ impl<'w, 'n, W: Write> Visitor for Printer<'w, 'n, W> {
         self.report.line.end(self.writer)
     }
 
-    // Where one whole element is there, and the string isn't a segment.
+    // Descends if the contents are one whole element, and the string isn't a segment.
     fn descends_into(&self, context: Context, string: Place<'_>) -> bool {
         !self.report.is_segment && is_one_element(context, string)
     }

@@ -7,7 +7,7 @@ use yasna_base::tag::PCBit;
 use yasna_bytes::bytes::cursor::Cursor;
 use yasna_bytes::bytes::walk::{RawElement, raw_element};
 
-// The elements from here on, as far as there are any.
+// The elements from a place on, up to the first malformed one.
 #[derive(Drop)]
 struct Elements<'a> {
     left: &'a [u8],
@@ -50,7 +50,7 @@ pub fn is_out_of_order(contents: &[u8]) -> bool {
     !is_sorted
 }
 
-// The most octets that a string has in one piece.
+// The most octets of a string in one piece.
 const FULL: usize = 1000;
 
 /// Whether a string with these contents stays whole in CER.

@@ -1,4 +1,4 @@
-//! What primitive elements say.
+//! The values of primitive elements.
 ghost use Rattle.std.specs.Prelude.{◌≡◌, ◌↔◌, ◌∷◌, [], false, IsTrue};
 ghost use Rattle.yasna_base.specs.Integer.{IsMinimal};
 ghost use Rattle.asn1show_printer.specs.Contents.{AreCharacters, DiagnosesOf, line_is_out_of_memory};
@@ -27,15 +27,15 @@ use yasna_base::text::{is_ia5, is_numeric, is_printable, is_visible};
 /// How values are written.
 #[derive(Clone, Copy)]
 pub struct Style<'n> {
-    /// Where memory comes from.
+    /// The allocator.
     pub alloc: Global,
     /// The names of object identifiers.
     pub names: &'n Names,
-    /// How many hexadecimal digits are written of a value.
+    /// The most hexadecimal digits that are written of a value.
     pub width: usize,
 }
 
-// Writes the one octet of a BOOLEAN, and says whether it is in its one form.
+// Writes a BOOLEAN, and reports what is wrong with it.
 fn write_truth(line: &mut LineBuffer, octet: u8) -> Option<Diagnostic>
     ensures { DiagnosesOf Boolean (octet ∷ []) result }
 {
@@ -116,7 +116,7 @@ fn write_integer_or_octets(line: &mut LineBuffer, style: Style<'_>, contents: &[
     write_integer(line, style.alloc, contents)
 }
 
-// Writes a time, where there was memory to read it.
+// Writes a time, if there was memory to read it.
 fn write_time(line: &mut LineBuffer, alloc: Global, contents: &[u8]) -> Option<Diagnostic>
     ensures { line_is_out_of_memory line.new ≡ false → DiagnosesOf GeneralizedTime contents.now result }
 {
@@ -129,7 +129,7 @@ fn write_time(line: &mut LineBuffer, alloc: Global, contents: &[u8]) -> Option<D
     }
 }
 
-/// Writes what the contents of a primitive element of this kind say, and reports what is wrong with them.
+/// Writes the value of a primitive element of this type, and reports what is wrong with it.
 pub fn write_value(
     line: &mut LineBuffer,
     style: Style<'_>,

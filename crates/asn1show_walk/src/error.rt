@@ -1,4 +1,4 @@
-//! Why a run ends before its input does.
+//! The errors of a run.
 ghost use Rattle.std.specs.Prelude.{◌≡◌};
 ghost use Rattle.asn1show_walk.specs.declared.error.WalkError.TheVariants.{Memory, Output};
 
@@ -6,14 +6,14 @@ use std::alloc::{AllocError, AllocFailed};
 use std::{fmt, io};
 use yasna_base::error::ASN1ErrorKind;
 
-/// What should be at a place and isn't.
+/// What was expected at a place.
 #[derive(Clone, Copy)]
 pub enum Expected {
     /// Any element.
     Element,
     /// More of a tag number.
     TagNumber,
-    /// A tag number in its one form.
+    /// A tag number in its shortest encoding.
     ShortestTagNumber,
     /// A tag number of 64 bits.
     SmallTagNumber,
@@ -21,19 +21,19 @@ pub enum Expected {
     NoEnd,
     /// The two zeros that end contents.
     End,
-    /// A level less.
+    /// Fewer levels.
     FewerLevels,
     /// A length, or more of one.
     Length,
-    /// A length in its one form.
+    /// A length in its shortest encoding.
     ShortestLength,
-    /// A length of 64 bits.
+    /// A length below 2^64.
     SmallLength,
-    /// A length that is counted.
+    /// A definite length.
     CountedLength,
-    /// A length that isn't.
+    /// An indefinite length.
     IndefiniteLength,
-    /// Contents of so many octets, where so many are left.
+    /// Contents of this many octets, of which this many are left.
     Contents(usize, usize),
     /// Pairs of hexadecimal digits.
     HexDigits,
@@ -41,7 +41,7 @@ pub enum Expected {
     Base64,
     /// A line that begins a block of PEM.
     Block,
-    /// A line that ends one.
+    /// A line that ends a block of PEM.
     BlockEnd,
 }
 
@@ -71,19 +71,19 @@ impl fmt::Display for Expected {
     }
 }
 
-/// Why a run ends before its input does.
+/// An error of a run.
 #[derive(Clone, Copy)]
 pub enum WalkError {
-    /// What is at a place isn't what should.
+    /// The input is malformed at a place.
     Malformed {
-        /// Where, counted from the input's first byte.
+        /// The offset of the place.
         offset: usize,
-        /// Of what kind that is.
+        /// The kind of the error.
         kind: ASN1ErrorKind,
-        /// What should be there.
+        /// What was expected there.
         expected: Expected,
     },
-    /// There was no memory.
+    /// Memory ran out.
     Memory,
     /// A write failed.
     Output,

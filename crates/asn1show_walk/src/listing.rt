@@ -22,27 +22,27 @@ use yasna_base::tag::PCBit;
 use yasna_base::tags::{TAG_BITSTRING, TAG_OCTETSTRING};
 use yasna_bytes::bytes::header::{ContentsEnd, end_of_contents};
 
-/// Who is told of elements.
+/// A visitor of elements.
 pub trait Visitor {
     ghost use Rattle.asn1show_walk.specs.declared.error.WalkError.{WalkError};
 
     // The lines of the elements that were visited, where they are known.
     ghost visited: { Self → Option (List Line) };
 
-    // With which errors an element is rejected.
+    // The errors with which the visitor rejects an element.
     ghost rejects: { Self → WalkError → Type 0 };
 
-    /// Takes the next element. `Err` is an error, which ends the listing.
+    /// Visits the next element. An `Err` ends the walk.
     fn visit(&mut self, item: &Item<'_>) -> Result<(), WalkError>
         ensures reported { OnOk result (Visits (visited self.old) (visited self.new) (line_of item.now ∷ [])) }
         ensures rejected { IfErr result (λ f. rejects self.new f) };
 
-    /// Whether the contents of a string are to be visited as elements, which they are then to be.
+    /// Whether the walk descends into a string. Then its contents have to be elements.
     fn descends_into(&self, context: Context, string: Place<'_>) -> bool
         ensures { IsTrue result → IsJoining (IsWellFormed context.levels context.mode) string.entry.left.now };
 }
 
-// Where the contents of a string may be an element: after the count of unused bits, which is none.
+// The place in a string's contents that may be an element: after the count of unused bits, which has to be 0.
 fn string_of<'a>(item: &Item<'a>) -> Option<Place<'a>>
     ensures { MatchOption result ⊤ (λ p. IsInString item.now p) }
 {
@@ -58,7 +58,7 @@ fn string_of<'a>(item: &Item<'a>) -> Option<Place<'a>>
     }
 }
 
-// What is here is the end of the contents, and what follows it.
+// The bytes after contents, if they end here.
 fn after_end<'a>(place: Place<'a>, is_counted: bool) -> Option<Place<'a>>
     ensures { MatchOption result (EndsHere is_counted place.entry.left.now → ⊥) (λ after. EndsAt is_counted place.entry after) }
 {
@@ -74,7 +74,7 @@ fn after_end<'a>(place: Place<'a>, is_counted: bool) -> Option<Place<'a>>
     }
 }
 
-// Tells of the elements from here to the end of contents, and gives the place after that. `Err` says that the visitor rejected, or
+// Visits the elements from a place to the end of contents, and returns the place after that. `Err` says that the visitor rejected one, or
 // that they don't go on to that end.
 #[cycle(listing)]
 fn list_contents<'a, L: Visitor>(
@@ -98,8 +98,8 @@ fn list_contents<'a, L: Visitor>(
     }
 }
 
-// Tells of what is in counted contents: elements, or the element in a string. `Err` says that the visitor rejected, or that no
-// elements are in a constructed element.
+// Visits what is in contents of definite length: elements, or the element in a string. `Err` says that the visitor rejected one, or that
+// there are no elements in a constructed element.
 #[cycle(listing)]
 fn list_contents_of<L: Visitor>(
     context: Context,
@@ -132,9 +132,9 @@ fn list_contents_of<L: Visitor>(
     }
 }
 
-/// Tells of the element that begins here and of those within, and gives the place after it.
+/// Visits the element at a place and those within it, and returns the place after it.
 ///
-/// `Err` says that the visitor rejected, or that none is here that is one down to the primitive ones, and where it stops.
+/// `Err` says that the visitor rejected one, or that there is no well formed element, and where it is malformed.
 #[cycle(listing)]
 pub fn list_element<'a, L: Visitor>(
     context: Context,
@@ -167,11 +167,11 @@ pub fn list_element<'a, L: Visitor>(
     }
 }
 
-/// Tells of the elements of an input, which are one or more.
+/// Visits the elements of an input, which are one or more.
 ///
-/// `Err` says that the visitor rejected, or that the input isn't one or more elements down to the primitive ones, within 101 levels: then
-/// its offset is that of the first header that should be and isn't. So for a visitor that rejects nothing it is `Ok` exactly where
-/// the input is such elements.
+/// `Err` says that the visitor rejected one, or that the input isn't one or more well formed elements within 101 levels: then its offset
+/// is that of the first header that was expected. So for a visitor that rejects nothing it is `Ok` exactly if the input is such
+/// elements.
 pub fn list_input<L: Visitor>(input: &[u8], mode: BERMode, visitor: &mut L) -> Result<(), WalkError>
     ensures lines { OnOk result ((ls : List Line) × Visits (L.visited visitor.old) (L.visited visitor.new) ls × ListsBytes 101 mode false 0 input.now ls) }
     ensures raw { OnOk result (IsJoining (IsRaw 101 mode) input.now) }

@@ -8,7 +8,7 @@ use crate::value::number::write_base128;
 use std::alloc::Global;
 use yasna_base::bytes::base128::read_base128;
 
-// A longer component is told by its size alone: to write it in decimal would take long.
+// A longer component is shown only by its size: to write it in decimal would take long.
 const LONGEST_COMPONENT: usize = 64;
 
 // A longer identifier has no name.

@@ -17,7 +17,7 @@ fn write_no_time(line: &mut LineBuffer, octets: &[u8]) -> Option<Diagnostic>
     Some(Diagnostic::NoTime)
 }
 
-// Ends a time in UTC, and says whether it is in its one form.
+// Ends a time in UTC, and reports whether it isn't canonical.
 fn end_in_utc(line: &mut LineBuffer, is_canonical: bool) -> Option<Diagnostic>
     ensures { result ≡ if is_canonical then None else Some Time }
 {

@@ -1,4 +1,4 @@
-//! The header of an element at a place, and what is wrong where there is none.
+//! The header of an element at a place, or the error if there is none.
 ghost use Rattle.std.specs.Prelude.{◌≡◌, ◌+◌, ◌≤◌, length};
 ghost use Rattle.yasna_bytes.specs.Opening.{end_found};
 ghost use Rattle.yasna_bytes.specs.Walk.{following};
@@ -17,7 +17,7 @@ use yasna_bytes::bytes::cursor::Cursor;
 use yasna_bytes::bytes::header::{ContentsEnd, Opened as Found, open_after_identifier};
 use yasna_bytes::bytes::length::read_length;
 
-// What should be here doesn't.
+// The error of a place where something else was expected.
 #[cold]
 fn malformed(place: Place<'_>, kind: ASN1ErrorKind, expected: Expected) -> WalkError
     ensures { result ≡ Malformed place.entry.offset kind expected }
@@ -29,7 +29,7 @@ fn malformed(place: Place<'_>, kind: ASN1ErrorKind, expected: Expected) -> WalkE
     }
 }
 
-// What should be here where no identifier is.
+// What was expected where there is no identifier.
 fn identifier_expected(place: Place<'_>, kind: ASN1ErrorKind) -> Expected {
     match kind {
         ASN1ErrorKind::Eof if place.left.is_empty() => Expected::Element,
@@ -39,7 +39,7 @@ fn identifier_expected(place: Place<'_>, kind: ASN1ErrorKind) -> Expected {
     }
 }
 
-// What should be after an identifier in place of this length.
+// What was expected after an identifier in place of this length.
 fn length_expected(mode: BERMode, size: Option<usize>, rest: &[u8]) -> Expected {
     match size {
         None => Expected::CountedLength,
@@ -49,7 +49,7 @@ fn length_expected(mode: BERMode, size: Option<usize>, rest: &[u8]) -> Expected 
     }
 }
 
-// What should be after an identifier, where no contents are.
+// What was expected after an identifier without contents.
 fn contents_expected(context: Context, rest: &[u8], kind: ASN1ErrorKind) -> Expected {
     if kind == ASN1ErrorKind::StackOverflow {
         return Expected::FewerLevels;
@@ -62,7 +62,7 @@ fn contents_expected(context: Context, rest: &[u8], kind: ASN1ErrorKind) -> Expe
     }
 }
 
-// The element that begins here with this tag and what was found after its identifier.
+// The element at a place with this tag, and what was found after its identifier.
 fn opened_of<'a>(context: Context, place: Place<'a>, tag: Tag, found: &Found<'a>) -> OpenedItem<'a>
     requires { length found.now.contents + length (following found.now.end) ≤ length place.left.now }
     ensures tag { result.item.tag ≡ tag }
@@ -96,7 +96,7 @@ fn opened_of<'a>(context: Context, place: Place<'a>, tag: Tag, found: &Found<'a>
     }
 }
 
-/// Reads the header of the element that begins here. `Err` says that none is here.
+/// Reads the header of the element at a place. `Err` says that there is none.
 pub fn open<'a>(context: Context, place: Place<'a>) -> Result<OpenedItem<'a>, WalkError>
     ensures { ItemAt context place.entry result }
 {

@@ -1,4 +1,4 @@
-//! What is reported of an element.
+//! The report of an element.
 ghost use Rattle.std.specs.Prelude.{◌≡◌, ◌+◌, ◌-◌, ◌^◌, ◌<◌, ◌≤◌, length};
 
 use crate::listing::place::Place;
@@ -8,13 +8,13 @@ use yasna_bytes::bytes::header::ContentsEnd;
 /// An element whose header was read.
 #[derive(Clone, Copy)]
 pub struct Item<'a> {
-    /// Where it begins, counted from the input's first byte.
+    /// The offset of its first byte.
     pub offset: usize,
-    /// How many octets its identifier and its length take.
+    /// The count of octets of its identifier and its length.
     pub header: usize,
-    /// How many octets its contents take, where they are counted.
+    /// The count of octets of its contents, if the length is definite.
     pub size: Option<usize>,
-    /// How many elements are around it.
+    /// The number of elements around it.
     pub depth: u8,
     /// Whether it is in the contents of a string.
     pub in_string: bool,
@@ -22,14 +22,14 @@ pub struct Item<'a> {
     pub tag: Tag,
     /// Whether the contents are elements.
     pub bit: PCBit,
-    /// The contents, or where they aren't counted all that is left.
+    /// The contents, or all bytes that are left if the length is indefinite.
     pub contents: &'a [u8],
 
     ghost fits: { offset + header + length contents.now < 2 ^ 64 },
 }
 
 impl<'a> Item<'a> {
-    /// Where the contents begin.
+    /// The place where the contents begin.
     pub(super) fn contents_place(&self) -> Place<'a>
         ensures left { result.left.now ≡ self.now.contents.now }
         ensures offset { result.offset ≡ self.now.offset + self.now.header }

@@ -7,7 +7,7 @@ use crate::listing::item::Item;
 use crate::listing::place::{Context, Place};
 use crate::listing::{Visitor, list_element};
 
-// Visits all elements, and keeps nothing.
+// A visitor that does nothing.
 #[derive(Clone, Copy)]
 struct Silent;
 
@@ -27,7 +27,7 @@ impl Visitor for Silent {
     }
 }
 
-/// Whether what is left here is one element down to the primitive ones, and nothing after it.
+/// Whether the bytes at a place are exactly one well formed element.
 pub fn is_one_element(context: Context, place: Place<'_>) -> bool
     ensures { IsTrue result ↔ IsOne context.levels context.mode place.entry.left.now }
 {

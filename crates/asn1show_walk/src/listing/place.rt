@@ -1,17 +1,17 @@
-//! Where elements are read, and by which rules.
+//! Places of elements, and the context in which they are read.
 ghost use Rattle.std.specs.Prelude.{◌≡◌, ◌+◌, ◌-◌, ◌^◌, ◌<◌, ◌≤◌, length, true, false};
 
 use yasna_base::mode::BERMode;
 
-/// How many levels of elements are listed.
+/// The levels of elements that are listed.
 pub const LEVELS: u8 = 101;
 
-/// Bytes, and where they are in the input.
+/// Bytes, and their offset in the input.
 #[derive(Clone, Copy)]
 pub struct Place<'a> {
-    /// What is left in the contents around, or in the input.
+    /// The bytes that are left in the contents around, or in the input.
     pub left: &'a [u8],
-    /// Where that begins, counted from the input's first byte.
+    /// The offset of the first of them in the input.
     pub offset: usize,
 
     ghost fits: { offset + length left.now < 2 ^ 64 },
