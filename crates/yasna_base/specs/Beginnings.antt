@@ -34,7 +34,7 @@ pub record CodingByTags {A : Type 0} (ts : List Tag) (E : A → A → Type 0) (B
   pub coding : IsCoding E B S
   pub begins : BeginsBy ts S
 
--- contents that keep them, and begin with one of the tags where they aren't empty
+-- contents that satisfy the laws of reading, and begin with one of the tags if they aren't empty
 pub record ContentsByTags {A : Type 0} (ts : List Tag) (E : A → A → Type 0) (C : Grammar A) (Q : Members) : Type 0 where
   pub coding : IsContentsCoding E C Q
   pub begins : ContentsBeginBy ts Q

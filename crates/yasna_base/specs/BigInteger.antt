@@ -21,7 +21,7 @@ pub record IsBigInteger (m : BERMode) (v : BigInteger) (c : List ℕ) : Type 0 w
   pub minimal : IsMinimal c
   pub sign : IsTrue v.positive ↔ (pos 0 ≤ℤ twos c)
 
--- the bytes without those equal to x that are in front
+-- the bytes without leading ones equal to x
 abbrev pub trim_leading : ℕ → List ℕ → List ℕ
 trim_leading x [] = []
 trim_leading x (y ∷ ys) = if y == x then trim_leading x ys else y ∷ ys

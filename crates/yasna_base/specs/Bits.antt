@@ -21,7 +21,7 @@ pub record BitString : Type 0 where
   pub bytes : List ℕ
   pub count : ℕ
 
--- the last u bits are zero, where the mode asks it of unused bits
+-- the last u bits are zero, if the mode requires it of unused bits
 abbrev pub IsPadded : BERMode → ℕ → List ℕ → Type 0
 IsPadded Ber u d = Unit {0}
 IsPadded Der u d = get_or d (length d - 1) 0 % 2 ^ u ≡ 0
@@ -41,7 +41,7 @@ pub record AreTheBits (m : BERMode) (v : BitString) (c : List ℕ) : Type 0 wher
 abbrev pub IsFull : BitString → Type 0
 IsFull v = v.count ≡ 8 * length v.bytes
 
--- none but the last has unused bits
+-- only the last has unused bits
 abbrev pub AreFullBeforeLast : List BitString → Type 0
 AreFullBeforeLast [] = Unit {0}
 AreFullBeforeLast (v ∷ []) = Unit {0}
@@ -104,7 +104,7 @@ bit_segments v = bit_pieces (segments 999 (padded (unused_bits v) v.bytes)) v.co
 abbrev pub bits_encoding : Tag → Encoding BitString
 bits_encoding t m v = segmented_encoding bits_segmentation bits_contents bit_segments t m v
 
--- how deep it nests
+-- its depth
 abbrev pub bits_depth : Depth BitString
 bits_depth m v = segmented_depth bits_segmentation m v
 

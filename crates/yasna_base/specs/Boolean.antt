@@ -15,7 +15,7 @@ use Rattle.yasna_base.specs.Laws.{PrimitiveKeepsLaws}
 abbrev pub boolean_tag : Tag
 boolean_tag = universal 1
 
--- any byte but 0 is true in BER, 255 alone in DER and CER
+-- any byte but 0 is true in BER, only 255 in DER and CER
 abbrev pub EncodesTrue : BERMode → ℕ → Type 0
 EncodesTrue Ber x = x ≡ 0 → ⊥
 EncodesTrue Der x = x ≡ 255

@@ -1,4 +1,4 @@
--- The one encoding of a value in each canonical mode (X.690, 9, 10 and 11), how deep it nests, and the laws of writing.
+-- The one encoding of a value in each canonical mode (X.690, 9, 10 and 11), its depth, and the laws of writing.
 use Rattle.std.specs.Prelude.{◌≡◌, ℕ, ◌+◌, ◌^◌, ◌<◌, ◌≤◌, List, ◌∷◌, ◌++◌, length}
 use Rattle.yasna_base.specs.declared.mode.BERMode.{BERMode}
 use Rattle.yasna_base.specs.declared.mode.BERMode.TheVariants.{Ber, Der, Cer}
@@ -49,7 +49,7 @@ leaf_depth m v = 1
 abbrev pub enclosed_encoding : {A : Type 0} → Encoding A → Tag → Encoding A
 enclosed_encoding encoding t m v = canonical_element m t Constructed (encoding m v)
 
--- it nests one level deeper than what it holds
+-- it is one level deeper than its contents
 abbrev pub enclosed_depth : {A : Type 0} → Depth A → Depth A
 enclosed_depth depth m v = 1 + depth m v
 

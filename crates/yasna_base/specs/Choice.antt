@@ -13,7 +13,7 @@ EitherOf B C m n (inr w) b = C m n w b
 abbrev pub AnyEither : Members → Members → Members
 AnyEither S Q m n b = S m n b ⊎ Q m n b
 
--- equal are values of one of the types alone
+-- only values of one of the types can be equal
 abbrev pub SameEither : {A V : Type 0} → (A → A → Type 0) → (V → V → Type 0) → A ⊎ V → A ⊎ V → Type 0
 SameEither E F (inl v) (inl w) = E v w
 SameEither E F (inl v) (inr w) = ⊥

@@ -1,5 +1,5 @@
--- The laws of reading of a type. B m n v b says that b encodes v in the mode m within n levels, S m n b what that asks of
--- the bytes alone, and E says which values are equal.
+-- The laws of reading of a type. B m n v b says that b encodes v in the mode m within n levels, S m n b that b encodes some value,
+-- and E says which values are equal.
 use Rattle.std.specs.Prelude.{◌≡◌, ℕ, ◌≤◌, List, ◌++◌}
 use Rattle.yasna_base.specs.declared.mode.BERMode.{BERMode}
 use Rattle.yasna_base.specs.Grammar.{Grammar, Members}
@@ -11,7 +11,7 @@ pub record IsSame {A : Type 0} (E : A → A → Type 0) : Type 0 where
   pub symmetric : (v w : A) → E v w → E w v
   pub transitive : (u v w : A) → E u v → E v w → E u w
 
--- what any bytes that mean values keep
+-- the laws of any grammar, of elements or of parts
 pub record IsMeaning {A : Type 0} (E : A → A → Type 0) (B : Grammar A) (S : Members) : Type 0 where
   pub equal : IsSame E
   -- an encoding of a value is among the encodings
@@ -21,7 +21,7 @@ pub record IsMeaning {A : Type 0} (E : A → A → Type 0) (B : Grammar A) (S : 
   -- what is read within some levels is read within more
   pub deeper : (m : BERMode) (n k : ℕ) (v : A) (b : List ℕ) → n ≤ k → B m n v b → B m k v b
 
--- of two members of S, within any levels, neither begins the other
+-- no member of S, within any levels, is a proper prefix of another
 abbrev pub IsPrefixFree : Members → Type 0
 IsPrefixFree S = (m : BERMode) (n k : ℕ) (b c r s : List ℕ) → S m n b → S m k c → b ++ r ≡ c ++ s → b ≡ c
 
@@ -30,7 +30,7 @@ pub record IsCoding {A : Type 0} (E : A → A → Type 0) (B : Grammar A) (S : M
   pub meaning : IsMeaning E B S
   -- an encoding begins with an identifier, which isn't that of the end of contents
   pub opens : (m : BERMode) (n : ℕ) (b : List ℕ) → S m n b → StartsElement b
-  -- of two encodings neither begins the other
+  -- encodings are prefix-free
   pub prefix_free : IsPrefixFree S
 
 -- the laws of reading of the parts of a tuple, which may be empty
@@ -43,6 +43,6 @@ pub record IsContentsCoding {A : Type 0} (E : A → A → Type 0) (C : Grammar A
   pub meaning : IsMeaning E C S
   pub ends : (m : BERMode) (n k : ℕ) (b c r s : List ℕ) → AtEnd r → AtEnd s → S m n b → S m k c → b ++ r ≡ c ++ s → b ≡ c
 
--- what reading asks of the bytes alone, where that is just to represent some value
+-- the bytes that encode some value by B
 abbrev pub Any : {A : Type 0} → Grammar A → Members
 Any {A} B m n b = (v : A) × B m n v b

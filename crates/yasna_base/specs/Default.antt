@@ -5,7 +5,7 @@ use Rattle.yasna_base.specs.declared.mode.BERMode.TheVariants.{Ber, Der, Cer}
 use Rattle.yasna_base.specs.Exact.{Fitting}
 use Rattle.yasna_base.specs.Grammar.{Grammar, Encoding, Depth}
 
--- where a mode takes a value that is its default
+-- whether a mode accepts a value that is its default
 abbrev pub TakesDefault : BERMode → Type 0
 TakesDefault Ber = Unit {0}
 TakesDefault Der = ⊥
@@ -23,7 +23,7 @@ DefaultOf is B m n v b = (B m n v b × (TakesDefault m ⊎ (is v ≡ false))) �
 abbrev pub default_encoding : {A : Type 0} → (A → Bool) → Encoding A → Encoding A
 default_encoding is f m v = if is v then [] else (f m v)
 
--- how deep that nests; nothing has no level
+-- its depth; an omitted part has none
 abbrev pub default_depth : {A : Type 0} → (A → Bool) → Depth A → Depth A
 default_depth is f m v = if is v then 0 else (f m v)
 

@@ -10,14 +10,14 @@ use Rattle.yasna_base.specs.Grammar.{Grammar, Members, TaggedGrammar}
 use Rattle.yasna_base.specs.Identifier.{identifier}
 use Rattle.yasna_base.specs.Length.{SpellsLength}
 
--- where a mode takes a length before the contents (X.690, 9.1 and 10.1)
+-- whether a mode accepts a definite length (X.690, 9.1 and 10.1)
 abbrev pub TakesDefinite : BERMode → PCBit → Type 0
 TakesDefinite Ber bit = Unit {0}
 TakesDefinite Der bit = Unit {0}
 TakesDefinite Cer Primitive = Unit {0}
 TakesDefinite Cer Constructed = ⊥
 
--- where it takes two zeros after them (X.690, 8.1.3.6)
+-- whether a mode accepts an indefinite length, with two zeros after the contents (X.690, 8.1.3.6)
 abbrev pub TakesIndefinite : BERMode → PCBit → Type 0
 TakesIndefinite Ber Constructed = Unit {0}
 TakesIndefinite Ber Primitive = ⊥

@@ -1,5 +1,5 @@
--- The laws of a type of which a canonical mode alone has one encoding. They say nothing of how what BER reads is written: so a type
--- keeps them that holds an element of any type as it came, or the unused bits of a BIT STRING.
+-- The laws of a type of which only a canonical mode has one encoding. They say nothing of how what BER reads is written: so a type that
+-- holds an element of any type as it came, or the unused bits of a BIT STRING, satisfies them.
 use Rattle.std.specs.Prelude.{◌≡◌, ℕ, zero, suc, ◌^◌, ◌<◌, ◌≤◌, List, Option, Some, None, length}
 use Rattle.std.specs.List.{AllByRecursion}
 use Rattle.yasna_base.specs.declared.mode.BERMode.{BERMode}
@@ -25,7 +25,7 @@ pub record IsExact {A : Type 0} (E : A → A → Type 0) (B : Grammar A) (encodi
   -- equal values are written alike
   pub same : (m : BERMode) (v w : A) → E v w → (encoding m v ≡ encoding m w) × (Can v → Can w) × ((n : ℕ) → Fits m n v → Fits m n w)
 
--- of a type that satisfies the laws of writing: what can be written, and nests no deeper
+-- of a type that satisfies the laws of writing: the values that can be written, and aren't too deep
 abbrev pub written_fits : {A : Type 0} → Depth A → (A → Type 0) → Fitting A
 written_fits depth Can m n v = Can v × (depth m v ≤ n)
 

@@ -7,7 +7,7 @@ use Rattle.yasna_base.specs.declared.tag.Tag.{Tag}
 abbrev pub Grammar : Type 0 → Type 1
 Grammar A = BERMode → ℕ → A → List ℕ → Type 0
 
--- what that asks of the bytes alone
+-- which bytes encode some value
 abbrev pub Members : Type 1
 Members = BERMode → ℕ → List ℕ → Type 0
 
@@ -22,6 +22,6 @@ TaggedMembers = ℕ → BERMode → Tag → List ℕ → Type 0
 abbrev pub Encoding : Type 0 → Type 0
 Encoding A = BERMode → A → List ℕ
 
--- how many levels that encoding takes
+-- the depth of that encoding
 abbrev pub Depth : Type 0 → Type 0
 Depth A = BERMode → A → ℕ

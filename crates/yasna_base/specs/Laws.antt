@@ -11,18 +11,18 @@ use Rattle.yasna_base.specs.Element.{Element, Primitively}
 use Rattle.yasna_base.specs.Coding.{IsCoding, Any}
 use Rattle.yasna_base.specs.Canonical.{leaf_depth, IsWritten}
 
--- no identifier begins another, and it determines the tag and the bit
+-- identifiers are prefix-free, and determine the tag and the bit
 abbrev pub IdentifiersAreUnambiguous : Type 0
 IdentifiersAreUnambiguous =
     (t u : Tag) (bit other : PCBit) (r s : List ℕ) → identifier t bit ++ r ≡ identifier u other ++ s → (t ≡ u) × (bit ≡ other) × (r ≡ s)
 
--- in one mode no spelling of a length begins another, and it determines the length
+-- in one mode the spellings of lengths are prefix-free, and determine the length
 abbrev pub LengthsAreUnambiguous : Type 0
 LengthsAreUnambiguous =
     (m : BERMode) (j k : ℕ) (a b r s : List ℕ) → SpellsLength m j a → SpellsLength m k b → a ++ r ≡ b ++ s →
     (j ≡ k) × (a ≡ b) × (r ≡ s)
 
--- in one mode no primitive element begins another, and it determines the tag and the contents
+-- in one mode primitive elements are prefix-free, and determine the tag and the contents
 abbrev pub PrimitiveElementsAreUnambiguous : Type 0
 PrimitiveElementsAreUnambiguous =
     (m : BERMode) (t u : Tag) (c d a b r s : List ℕ) → Element m t Primitive c a → Element m u Primitive d b → a ++ r ≡ b ++ s →

@@ -14,7 +14,7 @@ pub data IsLongLength (k : ℕ) (l : List ℕ) : Type 0 where
   one_byte : k < 128 → l ≡ k ∷ [] → IsLongLength k l
   counted : (ds : List ℕ) → 1 ≤ length ds → length ds ≤ 126 → IsBytes ds → number_from_digits 256 ds ≡ k → l ≡ (128 + length ds) ∷ ds → IsLongLength k l
 
--- l spells the length k as the mode takes it
+-- l spells the length k, as the mode accepts it
 abbrev pub SpellsLength : BERMode → ℕ → List ℕ → Type 0
 SpellsLength Ber k l = (k < 2 ^ 64) × IsLongLength k l
 SpellsLength Der k l = (k < 2 ^ 64) × (l ≡ shortest_length k)

@@ -47,7 +47,7 @@ EncodesVec m n v b = EncodesOctets m n v.items b
 abbrev pub octets_encoding : Tag → Encoding (List ℕ)
 octets_encoding t m v = segmented_encoding octets_segmentation (λ v. v) (segments 1000) t m v
 
--- how deep it nests
+-- its depth
 abbrev pub octets_depth : Depth (List ℕ)
 octets_depth m v = segmented_depth octets_segmentation m v
 

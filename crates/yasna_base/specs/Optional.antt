@@ -23,7 +23,7 @@ abbrev pub option_encoding : {A : Type 0} → Encoding A → Encoding (Option A)
 option_encoding f m (Some v) = f m v
 option_encoding f m None = []
 
--- how deep that nests; nothing has no level
+-- its depth; an omitted part has none
 abbrev pub option_depth : {A : Type 0} → Depth A → Depth (Option A)
 option_depth f m (Some v) = f m v
 option_depth f m None = 0

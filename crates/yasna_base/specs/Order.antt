@@ -10,8 +10,8 @@ use Rattle.yasna_base.specs.Identifier.{class_number}
 abbrev pub tag_cmp : Tag → Tag → Ordering
 tag_cmp t u = ordering_then (nat_cmp (class_number t.tag_class) (class_number u.tag_class)) (nat_cmp t.tag_number u.tag_number)
 
--- encodings go by their first byte that differs; as none begins another, it makes no difference to put zeros after the
--- shorter one (X.690, 11.6)
+-- encodings are ordered by the first byte that differs; as they are prefix-free, zeros after the shorter one make no difference
+-- (X.690, 11.6)
 abbrev pub octets_cmp : List ℕ → List ℕ → Ordering
 octets_cmp = slice_cmp nat_cmp
 

@@ -12,7 +12,7 @@ use Rattle.yasna_base.specs.Identifier.{BeginsWithTag}
 use Rattle.yasna_base.specs.Pieces.{Pieces}
 use Rattle.yasna_base.specs.Segments.{AreSegments}
 
--- where a mode takes strings in segments
+-- whether a mode accepts strings in segments
 abbrev pub MaySegment : BERMode → Type 0
 MaySegment Ber = Unit {0}
 MaySegment Der = ⊥
@@ -24,13 +24,13 @@ segment_mode Ber = Ber
 segment_mode Der = Der
 segment_mode Cer = Der
 
--- where a mode takes n bytes in one primitive element, if k of them fill a segment (X.690, 9.2)
+-- whether a mode accepts n bytes in one primitive element, if k bytes fill a segment (X.690, 9.2)
 abbrev pub StaysWhole : BERMode → ℕ → ℕ → Type 0
 StaysWhole Ber k n = Unit {0}
 StaysWhole Der k n = Unit {0}
 StaysWhole Cer k n = n ≤ k
 
--- where it takes bytes that are cut so
+-- whether a mode accepts bytes that are cut so
 abbrev pub FallsInto : BERMode → ℕ → List (List ℕ) → Type 0
 FallsInto Ber k bs = Unit {0}
 FallsInto Der k bs = Unit {0}
@@ -81,7 +81,7 @@ unfoldable pub IsDeepSegmented : {A : Type 0} → Segmentation A → TaggedMembe
 IsDeepSegmented k zero m t s = BeginsWithTag t s
 IsDeepSegmented k (suc n) m t s = DeepSegmented k (IsSegmented k n (segment_mode m) k.segment) (IsDeepSegmented k n (segment_mode m) k.segment) m t s
 
--- where reading a string would go too deep none is at the start
+-- if reading a string would go too deep, there is none at the start
 abbrev pub DeepIsNone : {A : Type 0} → Segmentation A → Type 0
 DeepIsNone {A} k = (n : ℕ) (m : BERMode) (t : Tag) (s : List ℕ) → IsDeepSegmented k n m t s → (v : A) (b r : List ℕ) → IsSegmented k n m t v b → s ≡ b ++ r → ⊥
 

@@ -44,7 +44,7 @@ SameNothing v w = Unit {0}
 abbrev pub part_encoding : {A V : Type 0} → Encoding A → Encoding V → Encoding (A × V)
 part_encoding f g m v = f m v.0 ++ g m v.1
 
--- parts nest as deep as the deepest
+-- the depth of parts is that of the deepest
 abbrev pub part_depth : {A V : Type 0} → Depth A → Depth V → Depth (A × V)
 part_depth f g m v = max (f m v.0) (g m v.1)
 

@@ -25,7 +25,7 @@ AnyListOf S t = AnyEnclosed (AnyElements S) t
 abbrev pub elements_encoding : {A : Type 0} → Encoding A → Encoding (List A)
 elements_encoding encoding m vs = flat_map (encoding m) vs
 
--- elements nest as deep as the deepest
+-- the depth of elements is that of the deepest
 abbrev pub elements_depth : {A : Type 0} → Depth A → Depth (List A)
 elements_depth depth m [] = 0
 elements_depth depth m (v ∷ vs) = max (depth m v) (elements_depth depth m vs)

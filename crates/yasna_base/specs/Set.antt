@@ -17,7 +17,7 @@ use Rattle.yasna_base.specs.SequenceOf.{ElementsOf}
 abbrev pub set_tag : Tag
 set_tag = universal 17
 
--- the order that a mode asks of the encodings in a SET OF, of which some may be equal
+-- the order that a mode requires of the encodings in a SET OF, of which some may be equal
 abbrev pub AreInSetOfOrder : BERMode → List (List ℕ) → Type 0
 AreInSetOfOrder Ber bs = Unit {0}
 AreInSetOfOrder Der bs = IsSorted octets_cmp bs
@@ -28,7 +28,7 @@ pub record SetOfElements {A : Type 0} (B : Grammar A) (m : BERMode) (n : ℕ) (v
   pub elements : ElementsOf B m n vs c
   pub order : AreInSetOfOrder m elements.pieces
 
--- contents that encode some values, in the order that the mode asks
+-- contents that encode some values, in the order that the mode requires
 abbrev pub AnySetOfElements : Members → Members
 AnySetOfElements S m n c = (us : List (Unit {0})) × SetOfElements {A = Unit {0}} (λ m n u b. S m n b) m n us c
 
@@ -40,7 +40,7 @@ IsSetOf B t = Enclosed (SetOfElements B) t
 abbrev pub AnySetOf : Members → Tag → Members
 AnySetOf S t = AnyEnclosed (AnySetOfElements S) t
 
--- the order that a mode asks of the tags in a SET, of which some may be equal
+-- the order that a mode requires of the tags in a SET, of which some may be equal
 abbrev pub AreInSetOrder : BERMode → List Tag → Type 0
 AreInSetOrder Ber ts = Unit {0}
 AreInSetOrder Der ts = IsSorted tag_cmp ts
@@ -55,7 +55,7 @@ pub record SetElements (m : BERMode) (n : ℕ) (vs : List RawValue) (c : List �
 abbrev pub IsSet : Tag → Grammar (List RawValue)
 IsSet t = Enclosed SetElements t
 
--- c is what a SET OF of these parts holds, none of which is empty: the parts in order
+-- c is the contents of a SET OF of these parts, none of which is empty: the parts in order
 pub record SetOfContents (parts : List (List ℕ)) (c : List ℕ) : Type 0 where
   pub non_empty : AllByRecursion (λ b. b ≡ [] → ⊥) parts
   pub joined : c ≡ concat (in_order octets_cmp parts)

@@ -32,7 +32,7 @@ encodings encoding m vs = map (encoding m) vs
 abbrev pub in_encoding_order : {A : Type 0} → Encoding A → BERMode → List A → List A
 in_encoding_order encoding m vs = in_order (λ v w. octets_cmp (encoding m v) (encoding m w)) vs
 
--- each value can be written, and their encodings are in the order that the mode asks of a SET OF
+-- each value can be written, and their encodings are in the order that the mode requires of a SET OF
 pub record CanSetOf {A : Type 0} (encoding : Encoding A) (Can : A → Type 0) (m : BERMode) (vs : List A) : Type 0 where
   pub each : AllByRecursion Can vs
   pub order : AreInSetOfOrder m (encodings encoding m vs)
@@ -41,16 +41,16 @@ pub record CanSetOf {A : Type 0} (encoding : Encoding A) (Can : A → Type 0) (m
 abbrev pub set_of_encoding : {A : Type 0} → Encoding A → Tag → Encoding (List A)
 set_of_encoding encoding t = enclosed_encoding (elements_encoding encoding) t
 
--- how deep it nests
+-- its depth
 abbrev pub set_of_depth : {A : Type 0} → Depth A → Depth (List A)
 set_of_depth depth = enclosed_depth (elements_depth depth)
 
--- The laws of writing of SET OF under the tag t, whose elements keep those of reading and of writing
+-- The laws of writing of SET OF under the tag t, whose elements satisfy those of reading and of writing
 pub record SetOfIsWritten {A : Type 0} (E : A → A → Type 0) (B : Grammar A) (encoding : Encoding A)
     (depth : Depth A) (Can : A → Type 0) (t : Tag) : Type 0 where
   -- values in the order of their encodings have one encoding: it is read, in its mode and in BER, and a canonical mode reads nothing else
   pub has : HasEncoding (IsSetOf B t) (set_of_encoding encoding t) (set_of_depth depth) (CanSetOf encoding Can)
-  -- any values that can be written can be put in that order, and nest as deep
+  -- any values that can be written can be put in that order, with the same depth
   pub ordered : (m : BERMode) (vs : List A) → AllByRecursion Can vs →
       CanSetOf encoding Can m (in_encoding_order encoding m vs) × (set_of_depth depth m (in_encoding_order encoding m vs) ≡ set_of_depth depth m vs)
   -- what BER reads can be written
@@ -66,16 +66,16 @@ pub record SetOfIsWritten {A : Type 0} (E : A → A → Type 0) (B : Grammar A) 
   pub again : (m : BERMode) (n : ℕ) (vs : List A) (b : List ℕ) (parts : List (List ℕ)) → IsCanonicalMode m → IsSetOf B t m n vs b →
       IsPermutation (encodings encoding m vs) parts → MakeElement SetOfContents m t parts b
 
--- SET OF satisfies the laws of reading under any tag, where its elements keep them
+-- SET OF satisfies the laws of reading under any tag, if its elements do
 abbrev pub SetOfKeepsReadingLaws : {A : Type 0} → (A → A → Type 0) → Grammar A → Members → Type 0
 SetOfKeepsReadingLaws E B S =
     AnyTag (λ t. IsCoding (λ vs ws. Each E vs ws) (IsSetOf B t) (AnySetOf S t))
 
--- and so it keeps those of writing
+-- SET OF satisfies the laws of writing under any tag, if its elements satisfy both
 abbrev pub SetOfKeepsWritingLaws : {A : Type 0} → (A → A → Type 0) → Grammar A → Encoding A → Depth A → (A → Type 0) → Type 0
 SetOfKeepsWritingLaws E B encoding depth Can = AnyTag (λ t. SetOfIsWritten E B encoding depth Can t)
 
--- SET OF keeps both, where its elements, which B n m u v b says the bytes b to encode under the tag u, keep them under any tag
+-- SET OF satisfies both, if its elements satisfy them under any tag. B n m u v b says that the bytes b encode one under the tag u
 abbrev pub SetOfKeepsLaws : {A : Type 0} → TaggedGrammar A → (Tag → Encoding A) → Depth A → (A → Type 0) → Type 0
 SetOfKeepsLaws B encoding depth Can =
     AnyTag (λ u. SetOfKeepsReadingLaws (λ v w. v ≡ w) (λ m n v b. B n m u v b) (Any (λ m n v b. B n m u v b))
@@ -116,7 +116,7 @@ in_part_order m vs = in_order (λ v w. part_cmp (raw_part m v) (raw_part m w)) v
 abbrev pub AreRaw : ℕ → BERMode → List RawValue → Type 0
 AreRaw n m vs = AllByRecursion (λ v. IsRaw n m v (own_encoding m v)) vs
 
--- besides, their tags are in the order that the mode asks of a SET
+-- their tags are in the order that the mode requires of a SET
 pub record CanSet (n : ℕ) (m : BERMode) (vs : List RawValue) : Type 0 where
   pub each : AreRaw n m vs
   pub order : AreInSetOrder m (map (λ (v : RawValue). v.tag) vs)

@@ -114,11 +114,11 @@ utf8_encoding t m text = octets_encoding t m (encode_utf8_all text)
 abbrev pub bmp_encoding : Tag → Encoding (List ℕ)
 bmp_encoding t m text = octets_encoding t m (bmp_octets text)
 
--- how deep they nest
+-- their depth
 abbrev pub utf8_depth : Depth (List ℕ)
 utf8_depth m text = octets_depth m (encode_utf8_all text)
 
--- how deep that nests
+-- its depth
 abbrev pub bmp_depth : Depth (List ℕ)
 bmp_depth m text = octets_depth m (bmp_octets text)
 
@@ -138,7 +138,7 @@ EncodesString m n v b = EncodesText m n (characters v) b
 abbrev pub TextKeepsLaws : (ℕ → Type 0) → Type 0
 TextKeepsLaws In = KeepsLaws (IsStringOf (IsUtf8In In)) utf8_encoding utf8_depth (IsTextIn In)
 
--- BMPString satisfies the laws of reading under any tag; where each surrogate has its partner, it keeps those of writing
+-- BMPString satisfies the laws of reading under any tag, and those of writing if each surrogate has its partner
 pub record BmpKeepsLaws : Type 0 where
   pub reading : AnyTag (λ t. IsCoding (λ v w. v ≡ w) (λ m n v b. IsStringOf IsBmp n m t v b) (Any (λ m n v b. IsStringOf IsBmp n m t v b)))
   pub paired : KeepsLaws (IsStringOf IsPairedBmp) bmp_encoding bmp_depth (IsTextIn InUtf8)

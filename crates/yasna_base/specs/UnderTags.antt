@@ -22,6 +22,6 @@ abbrev pub IsExactUnderTags : {A : Type 0} → (A → A → Type 0) → (Tag →
 IsExactUnderTags E B S encoding Fits Can =
     AnyTag (λ t. IsCoding E (B t) (S t) × IsExact E (B t) (encoding t) Fits Can)
 
--- which values have an encoding as the elements of a SET OF: those that have one, in the order that the mode asks of their encodings
+-- which values have an encoding as the elements of a SET OF: those that have one each, in the order that the mode requires
 abbrev pub set_of_fits : {A : Type 0} → Encoding A → Fitting A → Fitting (List A)
 set_of_fits encoding F m n vs = elements_fit F m n vs × AreInSetOfOrder m (encodings encoding m vs)

@@ -24,7 +24,7 @@ abbrev pub Decides : {V A : Type 0} → (A → List ℕ → Type 0) → (V → A
 Decides {V} {A} W view M c (Ok v) = W (view v) c
 Decides {V} {A} W view M c (Err k) = ((k ≡ OutOfMemory) × MayAllocateFor M c) ⊎ (BlamesBytes k × ((v : A) → W v c → ⊥))
 
--- a read that takes no memory
+-- a read that never allocates
 abbrev pub NeverAllocates : ℕ → Tag → List ℕ → Type 0
 NeverAllocates n t s = ⊥
 

@@ -77,7 +77,7 @@ abbrev pub ConstructedAt : BERMode → ℕ → Tag → List ℕ → Result Opene
 ConstructedAt m n t s (Ok o) = (1 ≤ n) × OpensAt m t Constructed s o.contents o.end
 ConstructedAt m n t s (Err e) = RejectsHeader OnlyConstructed m n t s e
 
--- the contents v themselves are what is asked for
+-- the contents v themselves
 abbrev pub AreContents : List ℕ → List ℕ → Type 0
 AreContents v c = v ≡ c
 

@@ -13,13 +13,13 @@ abbrev pub Measures : BERMode → List ℕ → Option ℕ → List ℕ → Type 
 Measures m s (Some k) r = (l : List ℕ) × SpellsLength m k l × (s ≡ l ++ r)
 Measures m s None r = s ≡ 128 ∷ r
 
--- whether a mode takes a length k spelled by digits after a count
+-- whether a mode accepts a length k spelled by digits after a count
 abbrev pub TakesSpelling : BERMode → List ℕ → ℕ → Type 0
 TakesSpelling Ber ds k = Unit {0}
 TakesSpelling Der ds k = (128 ≤ k) × (0 < get_or ds 0 0)
 TakesSpelling Cer ds k = (128 ≤ k) × (0 < get_or ds 0 0)
 
--- digits after a count spell the length k as the mode takes it
+-- digits after a count spell the length k, as the mode accepts it
 pub record SpellsDigits (m : BERMode) (digits : List ℕ) (k : ℕ) : Type 0 where
   pub number : number_from_digits 256 digits ≡ k
   pub in_range : k < 2 ^ 64

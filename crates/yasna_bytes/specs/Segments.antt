@@ -83,7 +83,7 @@ IsDeepWithin k n m c = PiecesBefore (IsSegmented k n m k.segment) k.more (IsDeep
 abbrev pub further_cut : Cuts → ℕ → ℕ → Cuts
 further_cut c k n = record { some = true; full = c.full && nat_eq n k; even = c.some && (c.full && (nat_le 1 n && nat_le n k)) }
 
--- where a mode takes segments that are cut so
+-- whether a mode accepts segments that are cut so
 abbrev pub AcceptsCuts : BERMode → Cuts → Type 0
 AcceptsCuts Ber c = Unit {0}
 AcceptsCuts Der c = Unit {0}

@@ -40,7 +40,7 @@ abbrev pub Utf8At : List ℕ → Result (String Global) ASN1ErrorKind → Type 0
 Utf8At o (Ok text) = string_bytes text ≡ o
 Utf8At o (Err k) = ((k ≡ OutOfMemory) × (o ≡ [] → ⊥)) ⊎ (BlamesBytes k × (IsUtf8 o → ⊥))
 
--- what the class asks of each octet, or of their number
+-- what the class requires of each octet, or of their number
 abbrev pub MayHold : Class → List ℕ → Type 0
 MayHold Utf8 o = Unit {0}
 MayHold Numeric o = AllByRecursion InNumeric o

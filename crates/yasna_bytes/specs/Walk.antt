@@ -107,12 +107,12 @@ abbrev pub WalksTo : BERMode → ℕ → ContentsEnd → List ℕ → Result (Bo
 WalksTo m n e s (Ok a) = ClosesBefore n m e s a.now
 WalksTo m n e s (Err k) = NotWalked m n e s k
 
--- where a mode takes contents that end so
+-- whether a mode accepts contents that end so
 abbrev pub TakesEnd : BERMode → PCBit → ContentsEnd → Type 0
 TakesEnd m bit (definite_end a) = Unit {0}
 TakesEnd m bit indefinite_end = TakesIndefinite m bit
 
--- where it takes and walks them in some elements
+-- whether a mode accepts and walks them in some elements
 abbrev pub IsWalked : BERMode → ContentsEnd → Type 0
 IsWalked m e = (bit : PCBit) × TakesEnd m bit e × DescendsUpTo m bit e
 
@@ -144,8 +144,8 @@ HasRest indefinite_end c r = IsRest c r
 abbrev pub element_of : RawElement → RawValue
 element_of x = record { tag = x.tag; bit = x.bit; payload = x.payload.now }
 
--- How bytes are rejected as a raw element: none is there. It consumed nothing exactly at an end, and of depth exactly where
--- one meets an element that no level is left for
+-- How bytes are rejected as a raw element: there is none. The rejection consumed nothing exactly at an end, and is `StackOverflow`
+-- exactly if reading meets an element for which no level is left
 pub record RejectsRaw (m : BERMode) (n : ℕ) (s : List ℕ) (e : Rejection) : Type 0 where
   pub none : HasPrefix (IsRaw n m) s → ⊥
   pub consumed : e.consumed ≡ false ↔ AtEnd s

@@ -1,4 +1,4 @@
--- What a read does that also returns the bytes it took.
+-- What a read does that also returns the bytes that it consumed.
 use Rattle.std.specs.Borrow.{Bor}
 use Rattle.std.specs.Prelude.{Err, List, Ok, Result, ℕ, ◌++◌, ◌≡◌}
 use Rattle.yasna_base.specs.declared.error.ASN1Error.{ASN1Error}

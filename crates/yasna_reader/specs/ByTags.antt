@@ -1,4 +1,4 @@
--- What reads do of types that tags distinguish: where none of their tags is there, they consume nothing, and no error is sticky.
+-- What reads do of types that tags distinguish: if none of their tags is next, they consume nothing, and no error is sticky.
 use Rattle.std.specs.List.{AllByRecursion}
 use Rattle.std.specs.Prelude.{Bool, Err, List, Ok, Result, ℕ, ◌≡◌}
 use Rattle.yasna_base.specs.Grammar.{Grammar, Members}
@@ -9,7 +9,7 @@ use Rattle.yasna_bytes.specs.Rejection.{BlamesBytes, IsElsewhere}
 use Rattle.yasna_reader.specs.Decodes.{Decodes}
 use Rattle.yasna_reader.specs.State.{Reading, Does}
 
--- s begins with none of the tags: nothing is left, or another tag is there
+-- s begins with none of the tags: nothing is left, or another tag is next
 abbrev pub AreElsewhere : List Tag → List ℕ → Type 0
 AreElsewhere ts s = AllByRecursion (λ t. IsElsewhere t s) ts
 

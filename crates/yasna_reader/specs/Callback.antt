@@ -18,33 +18,33 @@ advanced_as s m = record s { left = place_in s.left m.left; tag = None; failed =
 abbrev pub ConsumedNothing : List ℕ → Reading → Type 0
 ConsumedNothing c m = length m.left ≡ length c
 
--- Why e is sticky where a callback that was handed the bytes c returned x and left m: it was sticky; or the place isn't the old
--- one or further on; or it is the callback's own Err, which moved something, or is of depth or of memory
+-- Why e is sticky after a callback that was handed the bytes c, returned x and left m: it was sticky in m; or m's place is before
+-- the old one; or it is the callback's own Err, which consumed input, or is `StackOverflow` or `OutOfMemory`
 pub data ErrorCause {A : Type 0} (c : List ℕ) (x : Result A ASN1Error) (m : Reading) (e : ASN1Error) : Type 0 where
   sticky : m.failed ≡ Some e → ErrorCause c x m e
   before : m.failed ≡ None → IsBefore c m.left → e ≡ error_of Invalid → ErrorCause c x m e
   own : m.failed ≡ None → (IsBefore c m.left → ⊥) → x ≡ Err e → (ConsumedNothing c m → BlamesBytes (kind_of e) → ⊥) → ErrorCause c x m e
 
--- whether there is no going on where a callback left m that was handed s, whatever it returned: an error was sticky, or the place
--- isn't the old one or further on; that is sticky
+-- whether the reading can't go on after a callback that was handed s and left m, whatever it returned: an error was sticky, or the
+-- place is before the old one, which is sticky
 abbrev pub Barred : Reading → Reading → Option ASN1Error → Reading → Type 0
 Barred s m None s' = (m.failed ≡ None) × (IsBefore s.left m.left → ⊥) × (s' ≡ m)
 Barred s m (Some e) s' = ((m.failed ≡ Some e) ⊎ ((m.failed ≡ None) × IsBefore s.left m.left × (e ≡ error_of Invalid))) × (s' ≡ failing (advanced_as s m) e)
 
--- What a callback came to that was handed s, returned x and left m, and what is left then. It gave a value; or its Err is
--- no match: it consumed nothing, is neither of depth nor of memory, and left no failure; or an error is sticky
+-- The outcome of a callback that was handed s, returned x and left m, and the reading that is left. It is a value; or no match, if
+-- its Err consumed nothing, is neither `StackOverflow` nor `OutOfMemory`, and left no sticky error; or an error, which is sticky
 abbrev pub ComesTo : {A : Type 0} → Reading → Result A ASN1Error → Reading → Outcome A → Reading → Type 0
 ComesTo s x m (Matched v) s' = (m.failed ≡ None) × (IsBefore s.left m.left → ⊥) × (x ≡ Ok v) × (s' ≡ advanced_as s m)
 ComesTo s x m (NoMatch e) s' = (m.failed ≡ None) × ConsumedNothing s.left m × BlamesBytes (kind_of e) × (x ≡ Err e) × (s' ≡ advanced_as s m)
 ComesTo s x m (Failed e) s' = ErrorCause s.left x m e × (s' ≡ failing (advanced_as s m) e)
 
--- P holds of what a callback came to, with some value where it gave one
+-- P holds of the outcome of a callback, with some value if it returned one
 abbrev pub WithSome : {A : Type 0} → (Outcome A → Type 0) → Outcome (Unit {0}) → Type 0
 WithSome {A} P (Matched u) = (v : A) × P (Matched v)
 WithSome P (NoMatch e) = P (NoMatch e)
 WithSome P (Failed e) = P (Failed e)
 
--- a callback that does what P says was handed s and came to o
+-- a callback that does what P says was handed s and has the outcome o
 pub record Hands {A : Type 0} (P : Does A) (s : Reading) (o : Outcome A) (s' : Reading) : Type 0 where
   pub own : Result A ASN1Error
   pub left : Reading

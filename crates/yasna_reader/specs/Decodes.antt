@@ -1,5 +1,5 @@
--- What reading a value of a type does: B m n v b says that b encodes v, S m n b what that asks of the bytes alone, and
--- asks whether reading may allocate.
+-- What reading a value of a type does: B m n v b says that b encodes v, S m n b that b encodes some value, and may_allocate
+-- whether reading may allocate.
 use Rattle.std.specs.Prelude.{Bool, Err, List, None, Ok, Option, Result, Some, length, true, ℕ, ◌++◌, ◌≡◌, ◌≤◌}
 use Rattle.yasna_base.specs.Grammar.{Grammar, Members}
 use Rattle.yasna_base.specs.Identifier.{AtEnd}
@@ -70,7 +70,7 @@ pub record NotWhole (may_allocate : Bool) (S : List ℕ → Type 0) (s : List �
   pub memory : kind_of e ≡ OutOfMemory → may_allocate ≡ true
   pub no_match : AtEnd s → kind_of e ≡ OutOfMemory → ⊥
 
--- a value that all bytes encode within 101 levels, or an Err where they encode none
+-- a value that all bytes encode within 101 levels, or an Err if they encode none
 abbrev pub Decoded : {A : Type 0} → Bool → Grammar A → Members → BERMode → List ℕ → Result A ASN1Error → Type 0
 Decoded may_allocate B S m s (Ok v) = B m 101 v s
 Decoded may_allocate B S m s (Err e) = NotWhole may_allocate (S m 101) s e

@@ -8,7 +8,7 @@ use Rattle.yasna_reader.specs.Parse.{Parses, parsed}
 use Rattle.yasna_reader.specs.State.{Reading, Does}
 use Rattle.yasna_reader.specs.declared.located.Located.{Located}
 
--- l tells of the error e, at a place in the bytes s or at their end
+-- l is the error e with a place in the bytes s or at their end
 pub record IsLocated (e : ASN1Error) (s : List ℕ) (l : Located) : Type 0 where
   pub error : l.error ≡ e
   pub place : l.offset ≤ length s
@@ -28,6 +28,6 @@ pub record LocatesParse {A : Type 0} (P : Does A) (m : BERMode) (s : List ℕ) (
   pub parses : Parses P m s (without_place r)
   pub place : IfErr r (λ l. l.offset ≤ length s)
 
--- the line that tells of it
+-- the line that prints it
 abbrev pub located_text : Located → List ℕ
 located_text l = error_text l.error ++ codes " at offset " ++ decimal l.offset ++ codes ", depth " ++ decimal l.depth

@@ -9,7 +9,7 @@ use Rattle.yasna_reader.specs.State.{Reading, failing_if, untagged, Does}
 use Rattle.yasna_reader.specs.declared.callback.Outcome.{Outcome}
 use Rattle.yasna_reader.specs.declared.callback.Outcome.TheVariants.{Matched, NoMatch, Failed}
 
--- a value, or none where the callback's Err is a no-match
+-- a value, or None if the callback had no match
 abbrev pub optional : {A : Type 0} → Outcome A → Result (Option A) ASN1Error
 optional (Matched v) = Ok (Some v)
 optional (NoMatch e) = Ok None
@@ -19,9 +19,9 @@ optional (Failed e) = Err e
 abbrev pub ReadsOptional : {A : Type 0} → Does A → Does (Option A)
 ReadsOptional {A} P s r s' = UnlessFailed s.failed s r s' ((o : Outcome A) × Hands P (untagged s) o s' × (r ≡ optional o))
 
--- What is made of the value v that a reading of which z is left gave, where the default is d (X.690, 11.5). It is taken where
--- the mode takes a value that is its default, or it isn't the default; and rejected where it equals the default and the mode
--- doesn't take that: the error is sticky where something was consumed
+-- The outcome of a value v of a reading that left z, where the default is d (X.690, 11.5). It is accepted if it isn't the default, or
+-- the mode accepts a value that is. It is rejected if it equals the default and the mode doesn't accept that: the error is sticky if
+-- input was consumed
 pub data UnlessDefault {A : Type 0} (eq : A → A → Bool) (d v : A) (consumed : Bool) (z : Reading) (r : Result A ASN1Error) (s' : Reading) : Type 0 where
   taken : (TakesDefault z.mode ⊎ (eq v d ≡ false)) → r ≡ Ok v → s' ≡ z → UnlessDefault eq d v consumed z r s'
   equal : (TakesDefault z.mode → ⊥) → eq v d ≡ true → r ≡ Err (error_of Invalid) → s' ≡ failing_if consumed z (error_of Invalid) →

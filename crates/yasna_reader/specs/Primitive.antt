@@ -29,21 +29,21 @@ ReadsUnlessFailed (Some e) B view D M t s r s' = (r ≡ Err e) × (s' ≡ s)
 ReadsUnlessFailed None B view D M t s (Ok v) s' = ReadsPrefix B s (view v) s'
 ReadsUnlessFailed None B view D M t s (Err e) s' = RejectedAs B D M t s e s'
 
--- what a front that was looked for does to a reading
+-- what a prefix that is parsed does to a reading
 abbrev pub Commits : {A : Type 0} → Reading → Result (A × Bor (List ℕ)) Rejection → Result A ASN1Error → Reading → Type 0
 Commits s (Ok x) r s' = (r ≡ Ok x.0) × (s' ≡ record (untagged s) { left = x.1.now })
 Commits s (Err e) r s' = (r ≡ Err (error_of e.kind)) × (s' ≡ rejecting e.consumed s (error_of e.kind))
 
--- What a typed read looks for. B: which prefixes it takes; D: where they lie too deep; M: whether it may allocate
+-- What a typed read parses. B: the prefixes that it accepts; D: where they are too deep; M: whether it may allocate
 abbrev pub ParsesAs : {V A : Type 0} → TaggedGrammar A → (V → A) → TaggedMembers →
     (ℕ → Tag → List ℕ → Type 0) → Tag → Reading → Result (V × Bor (List ℕ)) Rejection → Type 0
 ParsesAs B view D M tag s r = SeenAt (B s.levels s.mode (tag_of s tag)) view (D s.levels s.mode (tag_of s tag) s.left) (M s.levels (tag_of s tag) s.left)
     (tag_of s tag) s.left r
 
--- A typed read of values of which view says what is seen: with a sticky error that failure, and nothing was consumed; else Ok takes
--- a front in B, which represents what is seen of the value, and leaves the rest; an Err that isn't of memory says that no
--- front is in B, whatever it represents. It consumed nothing exactly where nothing or another tag is there: then the reading
--- is as it was, the implicit tag too; and sticky otherwise; of depth exactly where D holds; of memory only where M does
+-- A typed read of values, of which view is seen. With a sticky error it returns that, and consumes nothing. Else Ok consumes a prefix
+-- in B that encodes what is seen of the value. An Err that isn't `OutOfMemory` says that no prefix is in B, for any value. It consumed
+-- nothing exactly if nothing is left or another tag is next: then the reading is as it was, with the implicit tag. Any other Err is
+-- sticky. It is `StackOverflow` exactly where D holds, and `OutOfMemory` only where M does
 pub record ReadsSeen {V A : Type 0} (B : TaggedGrammar A) (view : V → A) (D : TaggedMembers)
     (M : ℕ → Tag → List ℕ → Type 0) (tag : Tag) (s : Reading) (r : Result V ASN1Error) (s' : Reading) : Type 0 where
   pub reads : ReadsUnlessFailed s.failed (B s.levels s.mode (tag_of s tag)) view (D s.levels s.mode (tag_of s tag) s.left) (M s.levels (tag_of s tag) s.left)

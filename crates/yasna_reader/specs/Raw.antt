@@ -50,11 +50,11 @@ ReadsRawUnlessFailed (Some e) B view s r s' = (r ≡ Err e) × (s' ≡ s)
 ReadsRawUnlessFailed None B view s (Ok v) s' = ReadsPrefix (B s.levels s.mode) s (view v) s'
 ReadsRawUnlessFailed None B view s (Err e) s' = RejectedRaw B s e s'
 
--- A read of a raw element, whatever implicit tag waits, where view says what is seen of a value: with a sticky error that
--- failure, and nothing was consumed; else Ok takes a front in B, which represents what is seen of the value, and leaves the rest;
--- an Err that isn't of memory says that no front is in B. It consumed nothing exactly where nothing is left or an identifier of
--- the end of contents is there: then the reading is as it was; and sticky otherwise; of depth exactly where the elements nest too deep; of memory only
--- where a level is left and another identifier is there
+-- A read of a raw element, whatever implicit tag waits, where view is seen of a value. With a sticky error it returns that, and consumes
+-- nothing. Else Ok consumes a prefix in B that encodes what is seen of the value. An Err that isn't `OutOfMemory` says that no prefix
+-- is in B. It consumed nothing exactly if nothing is left or the end of contents is next: then the reading is as it was. Any other
+-- Err is sticky. It is `StackOverflow` exactly if the elements are too deep, and `OutOfMemory` only if a level is left and another
+-- identifier is next
 pub record ReadsRaw {V A : Type 0} (B : ℕ → BERMode → A → List ℕ → Type 0) (view : V → A) (s : Reading) (r : Result V ASN1Error) (s' : Reading) :
     Type 0 where
   pub reads : ReadsRawUnlessFailed s.failed B view s r s'

@@ -37,7 +37,7 @@ place_in c y = drop (length c - length y) c
 abbrev pub IsBefore : List ℕ → List ℕ → Type 0
 IsBefore c y = length c < length y
 
--- an Err of a reading that moved
+-- an Err of a reading that consumed input
 pub record Fails {A : Type 0} (e : ASN1Error) (s : Reading) (r : Result A ASN1Error) (s' : Reading) : Type 0 where
   pub returned : r ≡ Err e
   pub state : s' ≡ failing s e
@@ -62,7 +62,7 @@ pub record StaysOpen {A : Type 0} (end : ContentsEnd) (c y : List ℕ) (s : Read
   pub no_end : IsBefore c y ⊎ NoEnd end (place_in c y)
   pub fails : Fails error s r s'
 
--- what is made of a callback's result: first the failure that it kept, then its own Err, then whether the contents end
+-- the result after a callback: first the sticky error of its reading, then its own Err, then whether the contents end
 abbrev pub Left : {A : Type 0} → ContentsEnd → List ℕ → Option ASN1Error → List ℕ → Result A ASN1Error → Does A
 Left end c (Some e) y x s r s' = Fails e s r s'
 Left end c None y (Err e) s r s' = Fails e s r s'

@@ -59,7 +59,7 @@ EndsList vs (Matched v) r = ⊥
 EndsList vs (NoMatch e) r = r ≡ Ok vs
 EndsList vs (Failed e) r = r ≡ Err e
 
--- turns from s on, up to one that gives no value: a no-match Err ends the list, a failure is returned
+-- turns from s on, up to one that has no match, which ends the list, or to an error, which is returned
 pub record Lists {G A : Type 0} (T : G → Reading → Outcome A → G → Reading → Type 0) (g : G) (s : Reading) (r : Result (List A) ASN1Error)
     (s' : Reading) : Type 0 where
   pub values : List A

@@ -45,7 +45,7 @@ pub record Listed (n : ℕ) (m : BERMode) (l : List SetElement) (c y : List ℕ)
   pub elements : Pieces (IsListed n m) l prefix
   pub joined : c ≡ prefix ++ y
 
--- the order that a mode asks of the tags in a SET, of which some may be equal
+-- the order that a mode requires of the tags in a SET, of which some may be equal
 abbrev pub ElementsAreInSetOrder : BERMode → List SetElement → Type 0
 ElementsAreInSetOrder Ber l = Unit {0}
 ElementsAreInSetOrder Der l = IsSortedByKey (λ (x : SetElement). x.tag) tag_cmp l
@@ -69,7 +69,7 @@ abbrev pub ElementsAt : ℕ → BERMode → List ℕ → Result (Vec SetElement 
 ElementsAt n m c (Ok x) = ListsAll n m x.0.items c x.1.now
 ElementsAt n m c (Err k) = NotListed n m c k
 
--- the elements that a SET's callback is handed: all of them, in the order that the mode asks
+-- the elements that a SET's callback is handed: all of them, in the order that the mode requires
 pub record IsSetList (n : ℕ) (m : BERMode) (l : List SetElement) (c y : List ℕ) : Type 0 where
   pub all : ListsAll n m l c y
   pub order : ElementsAreInSetOrder m l
@@ -90,7 +90,7 @@ abbrev pub SetListAt : ℕ → BERMode → List ℕ → Result (VecDeque SetElem
 SetListAt n m c (Ok x) = IsSetList n m x.0.items c x.1.now
 SetListAt n m c (Err k) = NotSetList n m c k
 
--- the reading that is handed to a callback with the list: none of the elements
+-- the reading that is handed to a callback with the list, which has none of the elements yet
 abbrev pub emptied : Reading → Reading
 emptied s = record s { left = []; tag = None; failed = None }
 
@@ -99,7 +99,7 @@ abbrev pub TakesElements : {F R : Type 0} → Once F (MutBor SetReading × Unit 
 TakesElements g f s = (l : VecDeque SetElement Global) (y : List ℕ) → IsSetList s.levels s.mode l.items s.left y →
     FnOnceTakesAtMut g f (record { reader = emptied s; list = l })
 
--- a callback is to take all elements
+-- a callback has to take all elements
 abbrev pub all_taken : {A : Type 0} → Result A ASN1Error → List SetElement → Result A ASN1Error
 all_taken (Err e) l = Err e
 all_taken (Ok v) [] = Ok v
@@ -124,9 +124,9 @@ pub record RanOnSet {F A : Type 0} (g : SetCallback F A) (f : F) (s : Reading) (
   pub found : FoundSet s
   -- it was handed them, none of which is being read
   pub run : CalledOnSet g f (record { reader = emptied s; list = found.list })
-  -- it is to take all of them
+  -- it has to take all of them
   pub returned : r ≡ all_taken run.own run.left.list.items
-  -- what is after them is left, and the failure that it kept is sticky
+  -- what is after them is left, and its sticky error stays
   pub state : s' ≡ record s { left = found.rest; failed = run.left.reader.failed }
 
 -- it didn't
@@ -163,7 +163,7 @@ pub record TakesAmong (ts : List Tag) (l : List SetElement) (s : Reading) (l' : 
   pub others : l' ≡ remove l place
   pub state : s' ≡ record s { left = element.bytes.now; tag = None }
 
--- an element is chosen by its tag; a sticky error comes first, and that there is none isn't sticky
+-- an element is chosen by its tag; a sticky error comes first. The error of a missing element isn't sticky
 abbrev pub ChoosesBy : Option ASN1Error → List Tag → List SetElement → Reading → Result (Unit {0}) ASN1Error → List SetElement → Reading → Type 0
 ChoosesBy (Some e) ts l s r l' s' = (r ≡ Err e) × (l' ≡ l) × (s' ≡ untagged s)
 ChoosesBy None ts l s (Ok u) l' s' = TakesAmong ts l s l' s'

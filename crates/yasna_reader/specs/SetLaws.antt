@@ -90,7 +90,7 @@ RejectsSet {F} {A} g f t s e = (vs : List RawValue) (prefix rest : List ℕ) →
     IsSet t s.mode s.levels vs prefix → (x : RunOnValues g f s vs) × Element s.mode t Constructed (elements_bytes x.list.items) prefix
     × ((v : A) → MatchedOfAll x.own x.left v → ⊥)
 
--- a read of a SET, whose elements f takes
+-- a read of a SET whose elements f takes
 abbrev pub ReadsSet : {F A : Type 0} → SetCallback F A → F → Tag → Does A
 ReadsSet g f t s (Ok v) s' = TakesSet g f t s v s'
 ReadsSet g f t s (Err e) s' = RejectsSet g f t s e

@@ -48,7 +48,7 @@ abbrev pub Follows : Option (List ℕ) → List ℕ → Option (List ℕ) → Ty
 Follows None b n = n ≡ None
 Follows (Some a) b n = (goes_before b a ≡ false) × (n ≡ Some b)
 
--- a turn gave a value, and took an element that may be after those before
+-- a turn returned a value, and consumed an element that isn't below the bound
 pub record GivesInOrder {F A : Type 0} (C : F → Reading → Result A ASN1Error → F → Reading → Type 0) (g : Bounded F) (s : Reading) (v : A)
     (g' : Bounded F) (s' : Reading) : Type 0 where
   pub turn : ListTurn C g.callback s (Matched v) g'.callback s'
@@ -98,7 +98,7 @@ pub record TurnsOutInOrder {A : Type 0} (a : Option (List ℕ)) (s : Reading) (x
   pub turn : WithSome (λ q. TurnsOut s x m q between) outcome
   pub ordered : Ordered a s.left outcome between o n s'
 
--- the elements are the callback's, and ascend where the order asks it in the mode
+-- the elements are the callback's, and ascend if the order requires it in the mode
 abbrev pub CollectsInOrder : {F A : Type 0} → Order → (F → Reading → Result A ASN1Error → F → Reading → Type 0) → F → Does (Vec A Global)
 CollectsInOrder o C f s = CollectsBy (TurnInOrder C) (record { callback = f; bound = bound_in o s.mode }) s
 

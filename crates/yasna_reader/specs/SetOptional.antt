@@ -59,7 +59,7 @@ ReadsChosenBy None P ts c r c' = ReadsTaken P ts c r c' ⊎ ReadsNone ts c r c'
 pub record ReadsChosen {A : Type 0} (P : Does A) (ts : List Tag) (c : SetReading) (r : Result (Option A) ASN1Error) (c' : SetReading) : Type 0 where
   pub reads : ReadsChosenBy c.reader.failed P ts c r c'
 
--- the default d for none; a value, unless the mode rejects it: an element was taken then, so that is sticky
+-- the default d for None; a value, unless the mode rejects it: then an element was taken, so the error is sticky
 abbrev pub DefaultsChosen : {A : Type 0} → (A → A → Bool) → A → Result (Option A) ASN1Error → Does A
 DefaultsChosen eq d (Ok (Some v)) z r z' = UnlessDefault eq d v true z r z'
 DefaultsChosen eq d (Ok None) z r z' = (r ≡ Ok d) × (z' ≡ z)

@@ -27,7 +27,7 @@ IsInYears dt = pos 0 ≤ℤ dt.date.year
 abbrev pub HasGeneralizedTime : DateTime → ℤ → Type 0
 HasGeneralizedTime local seconds = (utc : DateTime) × (IsInYears utc × IsLess local seconds utc)
 
--- second 60 is kept as second 59 with a flag
+-- second 60 is represented as second 59 with a flag
 abbrev pub IsFlagged : Bool → DateTime → Type 0
 IsFlagged leap dt = leap ≡ true → dt.time.second ≡ 59
 
@@ -39,7 +39,7 @@ IsClockEnd end = (end ≡ 10) ⊎ (end ≡ 12) ⊎ (end ≡ 14)
 abbrev pub IsDecimalMark : ℕ → Type 0
 IsDecimalMark b = (b ≡ 46) ⊎ (b ≡ 44)
 
--- from i to j is nothing, or a mark and digits, which end there
+-- from i to j there is nothing, or a decimal mark and digits, which end there
 pub data IsPart (s : List ℕ) (i j : ℕ) : Type 0 where
   none : j ≡ i → IsPart s i j
   some : IsDecimalMark (slice_index s i) → i + 1 < j → IsRun s (i + 1) j → IsPart s i j
@@ -86,7 +86,7 @@ pub record IsGeneralClock (s : List ℕ) (end seconds : ℕ) (local : DateTime) 
 abbrev pub IsWholeMinutes : ℤ → Type 0
 IsWholeMinutes offset = unsigned_abs offset % 60 ≡ 0
 
--- the clock with the fraction's seconds, at the offset, is the date-time in UTC; second 60 goes with whole minutes alone
+-- the clock with the fraction's seconds, at the offset, is the date-time in UTC; second 60 needs an offset of whole minutes
 pub record IsGeneralReading (s : List ℕ) (end seconds : ℕ) (offset : ℤ) (utc : DateTime) : Type 0 where
   pub local : DateTime
   pub clock : IsGeneralClock s end seconds local
@@ -151,7 +151,7 @@ EncodesGeneralizedTime m n v b = IsStringOf SpellsGeneralizedTime n m generalize
 abbrev pub generalized_time_encoding : Tag → Encoding Moment
 generalized_time_encoding t m v = octets_encoding t m (general_text v)
 
--- how deep it nests
+-- its depth
 abbrev pub generalized_time_depth : Depth Moment
 generalized_time_depth m v = octets_depth m (general_text v)
 

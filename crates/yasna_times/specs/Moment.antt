@@ -18,7 +18,7 @@ pub record Moment : Type 0 where
 abbrev pub IsLess : DateTime → ℤ → DateTime → Type 0
 IsLess local seconds utc = civil_nanos utc ≡ civil_nanos local -ℤ nanos_of_seconds seconds
 
--- the moment of a date-time in UTC, where second 60 is kept as second 59 with a flag
+-- the moment of a date-time in UTC, where second 60 is represented as second 59 with a flag
 abbrev pub moment_at : DateTime → Bool → List ℕ → Moment
 moment_at utc leap fraction =
     record {

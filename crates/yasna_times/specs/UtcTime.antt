@@ -18,7 +18,7 @@ use Rattle.yasna_times.specs.Zone.{IsZulu, IsHoursAndMinutes, IsOffset}
 abbrev pub utc_time_tag : Tag
 utc_time_tag = universal 23
 
--- a date-time to the second, in a year that two digits tell
+-- a date-time to the second, in a year that two digits determine
 pub record IsUtcDateTime (dt : DateTime) : Type 0 where
   pub from : pos 1950 ≤ℤ dt.date.year
   pub to : dt.date.year <ℤ pos 2050
@@ -80,7 +80,7 @@ EncodesUtcTime m n v b = IsStringOf SpellsUtcTime n m utc_time_tag v b
 abbrev pub utc_time_encoding : Tag → Encoding DateTime
 utc_time_encoding t m utc = octets_encoding t m (utc_text utc)
 
--- how deep it nests
+-- its depth
 abbrev pub utc_time_depth : Depth DateTime
 utc_time_depth m utc = octets_depth m (utc_text utc)
 
