@@ -1,4 +1,4 @@
-//! Certificates of this format and of others (RFC 5652, 10.2.2).
+//! Certificates of this format and of other formats (RFC 5652, 10.2.2).
 //!
 //! ```text
 //! CertificateChoices ::= CHOICE {

@@ -1,7 +1,7 @@
 //! Signed and encrypted messages: the Cryptographic Message Syntax (RFC 5652).
 //!
-//! Each type is a notation of its own. `yasna_notation::Encoded` of it has the traits, so `decode_der` reads a `Encoded<ContentInfo>`. The
-//! content of that is kept as it came: `decode_der` of its bytes reads a `Encoded<SignedData>`, say.
+//! Each type is a notation itself. `yasna_notation::Encoded` of it has the traits, so `decode_der` reads an `Encoded<ContentInfo>`. The
+//! content of that is kept as it came: `decode_der` of its bytes reads an `Encoded<SignedData>`, say.
 //!
 //! | Module | Holds |
 //! |---|---|
@@ -9,7 +9,7 @@
 //! | `attributes` | attributes, signed or not |
 //! | `issuer_and_serial_number`, `signer_identifier` | which certificate is a signer's |
 //! | `encapsulated_content_info`, `signer_info`, `signed_data` | signed contents |
-//! | `certificate_choices`, `revocation_info_choice` | certificates and revocation lists, of this format and of others |
+//! | `certificate_choices`, `revocation_info_choice` | certificates and revocation lists, of this format and of other formats |
 //! | `encrypted_content_info`, `enveloped_data` | encrypted contents |
 #![tactic(auto)]
 

@@ -1,4 +1,4 @@
-//! Revocation lists of this format and of others (RFC 5652, 10.2.1).
+//! Revocation lists of this format and of other formats (RFC 5652, 10.2.1).
 //!
 //! ```text
 //! RevocationInfoChoice ::= CHOICE {

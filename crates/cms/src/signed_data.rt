@@ -71,7 +71,7 @@ type ContentFields = (
 
 type Fields = (u64, ContentFields);
 
-/// Signed contents, with what their signers gave.
+/// Signed contents, with their signers' signatures.
 #[derive(Drop)]
 pub struct SignedData {
     /// From 0 to 5.

@@ -1,4 +1,4 @@
-//! What a signer gives (RFC 5652, 5.3).
+//! A signer's signature and how it was made (RFC 5652, 5.3).
 //!
 //! ```text
 //! SignerInfo ::= SEQUENCE {
@@ -57,7 +57,7 @@ type DigestFields = (AlgorithmIdentifier, (Option<Attributes>, EndFields));
 
 type Fields = (u64, (SignerIdentifier, DigestFields));
 
-/// What a signer gives: the signature, and how it was made.
+/// A signer's signature, and how it was made.
 #[derive(Drop)]
 pub struct SignerInfo {
     /// From 0 to 5: 1 where the signer's certificate is named by issuer and number, 3 where it is by its key.

@@ -1,4 +1,4 @@
-//! A type of one's own that is read by a closure, step by step.
+//! A user's type that is read by a closure, step by step.
 
 ghost use Rattle.std.specs.Prelude.{◌≡◌, ◌<◌, ◌^◌, ◌||◌, false, pos, FitsSigned};
 ghost use Rattle.std.specs.Int.{w64};

@@ -1,4 +1,4 @@
-//! A type of one's own that is read and written as a tuple.
+//! A user's type that is read and written as a tuple.
 
 use yasna::{ASN1Result, DEREncodable, DERWriter, EncodeShape, FromShape, Shaped};
 

@@ -32,7 +32,7 @@ fn number_or_null(item: BERReader) -> ASN1Result<Option<i64>>
 
 /// The items whose DER encoding as a SEQUENCE OF a CHOICE of INTEGER and NULL these bytes are, in order: None for a NULL.
 ///
-/// Rejects bytes that are the encoding of no such list, and no others, unless out of memory.
+/// Rejects exactly the bytes that aren't the encoding of such a list, unless memory runs out.
 pub fn parsed_items(alloc: Global, buf: &[u8]) -> ASN1Result<Vec<Option<i64>>>
     ensures items { IfOk result (λ v. EncodesItems Der 101 v.items buf.now) }
     ensures exactly { (vs : List (Option ℤ)) → EncodesItems Der 101 vs buf.now → MatchResult result (λ v. v.items ≡ vs) (λ e. kind_of e ≡ OutOfMemory) }

@@ -12,7 +12,7 @@ use yasna::{
     DERWriter,
 };
 
-/// The steps of a way, kept from the last to the first: a SEQUENCE OF INTEGER from the first to the last.
+/// The steps of a way, stored from the last to the first: a SEQUENCE OF INTEGER from the first to the last.
 #[derive(Drop)]
 pub struct Trail {
     pub steps: Vec<i64>,

@@ -13,7 +13,7 @@ use yasna::{
 
 /// The number whose DER encoding as an INTEGER these bytes are.
 ///
-/// Rejects bytes that are the encoding of no such number, and no others.
+/// Rejects exactly the bytes that aren't the encoding of such a number.
 pub fn parsed_integer(alloc: Global, buf: &[u8]) -> ASN1Result<i64>
     ensures number { IfOk result (λ v. EncodesSigned w64 Der 101 v buf.now × (buf.now ≡ integer_encoding integer_tag Der v)) }
     ensures rejected { IfErr result (λ e. ((v : ℤ) → EncodesSigned w64 Der 101 v buf.now → ⊥) × (kind_of e ≡ OutOfMemory → ⊥)) }
@@ -31,7 +31,7 @@ pub fn constructed_integer(alloc: Global, number: i64) -> ASN1Result<Vec<u8>>
 
 /// The number and the flag whose DER encoding as a SEQUENCE these bytes are.
 ///
-/// Rejects bytes that are the encoding of no such pair, and no others.
+/// Rejects exactly the bytes that aren't the encoding of such a pair.
 pub fn parsed_pair(alloc: Global, buf: &[u8]) -> ASN1Result<(i64, bool)>
     ensures pair { IfOk result (λ v. EncodesPair Der 101 v buf.now) }
     ensures rejected { IfErr result (λ e. ((v : ℤ × Bool) → EncodesPair Der 101 v buf.now → ⊥) × (kind_of e ≡ OutOfMemory → ⊥)) }
@@ -59,7 +59,7 @@ pub fn parsed_pair(alloc: Global, buf: &[u8]) -> ASN1Result<(i64, bool)>
 
 /// The numbers whose DER encoding as a SEQUENCE OF INTEGER these bytes are, in order.
 ///
-/// Rejects bytes that are the encoding of no such list, and no others, unless out of memory.
+/// Rejects exactly the bytes that aren't the encoding of such a list, unless memory runs out.
 pub fn parsed_numbers(alloc: Global, buf: &[u8]) -> ASN1Result<Vec<i64>>
     ensures numbers { IfOk result (λ v. EncodesNumbers Der 101 v.items buf.now) }
     ensures exactly { (vs : List ℤ) → EncodesNumbers Der 101 vs buf.now → MatchResult result (λ v. v.items ≡ vs) (λ e. kind_of e ≡ OutOfMemory) }

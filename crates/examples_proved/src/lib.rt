@@ -7,14 +7,14 @@
 //! |---|---|
 //! | `by_tuple`, `by_closure` | the two types of docs/CONTRACTS.md: one that is read and written as a tuple, one step by step |
 //! | `choice` | a list of a CHOICE, read by the next tag |
-//! | `encoders` | types of one's own that are written by other means than one call: one allocates by itself, one may write nothing |
+//! | `encoders` | types that aren't written by one call: one allocates first, one may write nothing |
 //! | `exact` | the section of docs/GUIDE.md on what is proved of values as a whole |
 //! | `known` | calls whose closures are known: their exact results follow from the contracts of `yasna` |
 //! | `parts` | a type whose parts are omitted, tagged, chosen, and in any order |
-//! | `public_key`, `scrypt` | types of one's own of which a part may be omitted, read by closures |
-//! | `records` | types of one's own of three, five and seven parts, each read and written as a tuple |
+//! | `public_key`, `scrypt` | types of which a part may be omitted, read by closures |
+//! | `records` | types of three, five and seven parts, each read and written as a tuple |
 //! | `strings` | the section of docs/GUIDE.md on strings, with no contract; the others are in `examples_plain` |
-//! | `third_party` | types of one's own that are read step by step: by typed reads, and with memory |
+//! | `third_party` | types that are read step by step: by typed reads, and with allocation |
 //! | `times` | times made of the parts of others, and of digits after the nanosecond |
 //! | `tree` | a type that refers to itself |
 #![tactic(auto)]

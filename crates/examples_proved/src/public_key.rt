@@ -56,7 +56,7 @@ impl BERDecodable for AlgorithmIdentifier {
     ghost coding = { algorithm_coding };
 }
 
-// Of parameters the outermost level is counted alone: they aren't descended into.
+// Of parameters only the outermost level is counted: they aren't descended into.
 impl DEREncodable for AlgorithmIdentifier {
     ghost encoding = { λ m v. enclosed_encoding (part_encoding (oid_encoding oid_tag) (part_encoding (option_encoding (λ m v. raw_encoding (raw_of v).tag m (raw_of v))) nothing_encoding)) sequence_tag m (v.algorithm, (v.parameters, tt)) };
 
@@ -80,7 +80,7 @@ pub struct SubjectPublicKeyInfo {
     pub algorithm: AlgorithmIdentifier,
     /// The bytes that hold the bits of the key.
     pub key: Vec<u8>,
-    /// How many bits there are.
+    /// The count of bits.
     pub bits: usize,
 }
 
@@ -140,7 +140,7 @@ impl SubjectPublicKeyInfo {
     }
 }
 
-/// The DER encoding of a key. Returns `Invalid` where it has none, and else `OutOfMemory` when out of memory.
+/// The DER encoding of a key, or `Invalid` if it has none, or `OutOfMemory`.
 pub fn encoded_key(alloc: Global, key: &SubjectPublicKeyInfo) -> ASN1Result<Vec<u8>>
     ensures ok { IfOk result (λ bytes. ⟦<SubjectPublicKeyInfo as DEREncodable>⟧.encodable key.now × (bytes.items ≡ ⟦<SubjectPublicKeyInfo as DEREncodable>⟧.encoding Der key.now)) }
     ensures err { IfErr result (λ e. (kind_of e ≡ OutOfMemory) ⊎ ((kind_of e ≡ Invalid) × (⟦<SubjectPublicKeyInfo as DEREncodable>⟧.encodable key.now → ⊥))) }

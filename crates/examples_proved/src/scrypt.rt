@@ -20,7 +20,7 @@ pub struct ScryptParameters {
     pub cost: u64,
     pub block_size: u64,
     pub parallelization: u64,
-    /// How many bytes the key has.
+    /// The count of the key's bytes.
     pub key_length: Option<u64>,
 }
 

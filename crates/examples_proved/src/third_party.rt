@@ -1,4 +1,4 @@
-//! Types of a crate of its own that are read step by step, with typed reads and with memory.
+//! Types of a separate crate that are read step by step, with typed reads and with allocation.
 ghost use Rattle.std.specs.Prelude.{IfOk, IfErr, ◌≡◌, ◌<◌, ◌^◌, true, false, ◌||◌, pos, FitsSigned};
 ghost use Rattle.std.specs.Int.{w64};
 ghost use Rattle.yasna.specs.Words.{OutOfMemory, Ber, Der, kind_of, Any, IsBytes, EncodesOctets, EncodesVec, boolean_tag, integer_tag, utf8_tag};

@@ -1,4 +1,4 @@
-//! Requests to bind: who asks from then on (RFC 4511, 4.2).
+//! Requests to bind: the client's identity from then on (RFC 4511, 4.2).
 //!
 //! ```text
 //! BindRequest ::= [APPLICATION 0] SEQUENCE {

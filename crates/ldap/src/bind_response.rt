@@ -45,7 +45,7 @@ type Notated = Implicit<Application<1>, Sequence<Parts>>;
 #[derive(Drop)]
 pub struct BindResponse {
     pub result: LdapResult,
-    /// What the mechanism gives to who binds.
+    /// The mechanism's credentials for the client.
     pub server_sasl_creds: Option<Vec<u8>>,
 }
 

@@ -1,4 +1,4 @@
-//! Filters that are not made of others (RFC 4511, 4.5.1.7).
+//! Filters that aren't made of other filters (RFC 4511, 4.5.1.7).
 //!
 //! ```text
 //! CHOICE {
@@ -77,7 +77,7 @@ type EarlierFields = Either<AttributeValueAssertion, Either<AttributeValueAssert
 
 type Fields = Either<AttributeValueAssertion, Either<SubstringFilter, EarlierFields>>;
 
-/// A filter that isn't made of others: what it asks of an attribute.
+/// A filter that isn't made of other filters: an assertion about an attribute.
 #[derive(Drop)]
 pub enum FilterItem {
     EqualityMatch(AttributeValueAssertion),

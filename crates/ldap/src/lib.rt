@@ -1,8 +1,8 @@
 //! Messages of the Lightweight Directory Access Protocol (RFC 4511): those by which a client binds, searches and unbinds.
 //!
-//! Each type is a notation of its own. `yasna_notation::Encoded` of it has the traits, so `decode_ber` reads a `Encoded<LdapMessage>`.
+//! Each type is a notation itself. `yasna_notation::Encoded` of it has the traits, so `decode_ber` reads an `Encoded<LdapMessage>`.
 //!
-//! The protocol takes the definite lengths of BER alone, OCTET STRINGs in one piece, and TRUE as 255 (RFC 4511, 5.1). `encode_der` writes
+//! The protocol accepts only definite lengths of BER, OCTET STRINGs in one piece, and TRUE as 255 (RFC 4511, 5.1). `encode_der` writes
 //! them so, but `decode_ber` reads all of BER.
 //!
 //! | Module | Holds |
@@ -13,9 +13,9 @@
 //! | `bind_request`, `authentication`, `sasl_credentials` | requests to bind, and how one shows who they are |
 //! | `bind_response`, `unbind_request` | responses to them, and requests to end a session |
 //! | `search_request` | requests to search |
-//! | `filter`, `filter_item` | filters, and those that aren't made of others |
+//! | `filter`, `filter_item` | filters, and those that aren't made of other filters |
 //! | `filter_reading`, `filter_writing`, `filter_notation` | how filters are read and written, and their laws |
-//! | `substring`, `substring_filter`, `matching_rule_assertion`, `attribute_value_assertion` | what filters ask |
+//! | `substring`, `substring_filter`, `matching_rule_assertion`, `attribute_value_assertion` | the assertions of filters |
 //! | `search_result_entry`, `search_result_done`, `search_result_reference` | what a search returns |
 //! | `partial_attribute`, `attribute` | attributes |
 //! | `tagged` | how fields are written under a tag |

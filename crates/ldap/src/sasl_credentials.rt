@@ -27,7 +27,7 @@ type Parts = (Vec<u8>, (Optional<Vec<u8>>, ()));
 
 type Fields = (Vec<u8>, (Option<Vec<u8>>, ()));
 
-/// What a mechanism is given of who asks.
+/// The client's credentials for a mechanism.
 #[derive(Drop)]
 pub struct SaslCredentials {
     /// The name of the mechanism.

@@ -71,13 +71,13 @@ type Notated = Implicit<Application<3>, Sequence<Parts>>;
 pub struct SearchRequest {
     /// The name of the entry where the search begins, in UTF-8.
     pub base_object: Vec<u8>,
-    /// 0 for that entry alone, 1 for those right below it, 2 for all from it on.
+    /// 0 for only that entry, 1 for those directly below it, 2 for it and all below it.
     pub scope: i64,
-    /// Which aliases are followed: 0 for none, 1 below that entry, 2 at it, 3 for all.
+    /// The aliases that are followed: 0 for none, 1 below that entry, 2 at it, 3 for all.
     pub deref_aliases: i64,
-    /// How many entries are wanted at most, up to 2147483647; 0 for any number.
+    /// The most entries that are wanted, up to 2147483647; 0 for any number.
     pub size_limit: u64,
-    /// How many seconds the search may take, up to 2147483647; 0 for any.
+    /// The most seconds that the search may take, up to 2147483647; 0 for any.
     pub time_limit: u64,
     /// Whether the values of attributes are omitted.
     pub types_only: bool,

@@ -1,6 +1,6 @@
 //! Private keys (PKCS #8: RFC 5208, and RFC 5958 in place of it).
 //!
-//! Each type is a notation of its own. `yasna_notation::Encoded` of it has the traits, so `decode_der` reads a `Encoded<PrivateKeyInfo>`.
+//! Each type is a notation itself. `yasna_notation::Encoded` of it has the traits, so `decode_der` reads an `Encoded<PrivateKeyInfo>`.
 //!
 //! | Module | Holds |
 //! |---|---|

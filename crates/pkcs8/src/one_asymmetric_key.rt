@@ -19,7 +19,7 @@
 //! Attributes ::= SET OF Attribute
 //! ```
 //!
-//! That v2 is where there is a public key, and v1 where there is none, is no rule of the notation.
+//! The notation doesn't require v2 with a public key, and v1 without one.
 ghost use Rattle.std.specs.Prelude.{◌≡◌, refl};
 ghost use Rattle.std.proofs.Common.{arith};
 ghost use Rattle.yasna_notation.specs.Laws.{represented_lawful, element_non_empty};

@@ -1,6 +1,6 @@
 //! Certificates and revocation lists (RFC 5280).
 //!
-//! Each type is a notation of its own. `yasna_notation::Encoded` of it has the traits, so `decode_der` reads a `Encoded<Certificate>`.
+//! Each type is a notation itself. `yasna_notation::Encoded` of it has the traits, so `decode_der` reads an `Encoded<Certificate>`.
 //!
 //! | Module | Holds |
 //! |---|---|

@@ -1,6 +1,7 @@
 //! What a TBSCertificate holds from its validity on.
 //!
-//! These are parts of a SEQUENCE by one name: what the whole asks of them is proved here once, and not for each part before them.
+//! Split off only to keep the proofs small; it isn't a type of RFC 5280. What the whole requires of these parts is proved here once, and not
+//! for each part before them.
 ghost use Rattle.std.specs.Prelude.{◌≡◌, refl};
 ghost use Rattle.std.proofs.Common.{arith};
 ghost use Rattle.yasna_notation.specs.Making.{part, optional_part, in_explicit, in_implicit};

@@ -63,7 +63,7 @@ type Fields = (Option<u64>, (AlgorithmIdentifier, (Name, UpdateFields)));
 /// What is signed of a revocation list.
 #[derive(Drop)]
 pub struct TbsCertList {
-    /// 1, for v2, and no other; v1 has none.
+    /// 1 for v2; absent for v1.
     pub version: Option<u64>,
     /// The algorithm of the signature.
     pub signature: AlgorithmIdentifier,

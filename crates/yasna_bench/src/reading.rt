@@ -8,7 +8,7 @@ use yasna::{
     ASN1Result, BERMode, BERReader, BERReaderSeq, Tag, decode_ber_general, parse_ber_general,
 };
 
-// The rules to read by.
+// The mode to read in.
 pub(crate) fn mode(der: bool) -> BERMode
     ensures { result ≡ (if der then Der else Ber) }
 {

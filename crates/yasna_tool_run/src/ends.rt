@@ -1,7 +1,7 @@
-//! The two ends of a run: where its bytes come from, and where they go.
+//! The two ends of a run: its source of bytes, and its sink.
 //!
-//! Each end counts its failures, so that a contract can say that a run fails by its ends only
-//! where one of them failed in it. Where bytes go knows besides whether they were flushed.
+//! Each end counts its failures, so that a contract can say that a run fails with an I/O error only if one of its ends failed in
+//! it. A sink also knows whether it was flushed.
 ghost use Rattle.std.specs.Prelude.{◌≡◌, ℕ, Bool, List, Option, OnOk, true, false, is_some};
 ghost use Rattle.std.specs.Io.{ReadsAtMost, WritesAtMost};
 ghost use Rattle.std.specs.Io.KnownBytes.{ReadConsumes, WriteAppends, Keeps};
@@ -14,28 +14,27 @@ use flushed::Flushed;
 use std::io;
 use std::io::{Read, Write};
 
-/// Where bytes come from.
+/// A source of bytes.
 pub trait Source {
-    // The bytes that pulls will give from here on, where they are known.
+    // The bytes that pulls will return from here on, if they are known.
     ghost remaining: { Self → Option (List ℕ) };
 
     ghost failed: { Self → ℕ };
 
-    /// Puts bytes at the start of `buffer` and says how many: none only at the end, or where
-    /// `buffer` has no room.
+    /// Puts bytes at the start of `buffer` and returns their count: 0 only at the end, or if `buffer` has no room.
     fn pull(&mut self, buffer: &mut [u8]) -> io::Result<usize>
         ensures bound { ReadsAtMost result buffer.new }
         ensures bytes { ReadConsumes (remaining self.old) (remaining self.new) result buffer.new }
         ensures count { CountsFailure (failed self.old) (failed self.new) result };
 
-    /// How many pulls failed, at most `u64::MAX`.
+    /// The count of pulls that failed, at most `u64::MAX`.
     fn failures(&self) -> u64
         ensures { result ≡ failed self.now };
 }
 
-/// Where bytes go.
+/// A sink of bytes.
 pub trait Sink {
-    // The bytes that were taken, where they are known.
+    // The bytes that were taken, if they are known.
     ghost contents: { Self → Option (List ℕ) };
 
     ghost failed: { Self → ℕ };
@@ -43,21 +42,20 @@ pub trait Sink {
     // Whether a flush reached the end since the last push.
     ghost flushed: { Self → Bool };
 
-    /// Takes bytes from the start of `buffer` and says how many. To take none where there are
-    /// some counts as a failure.
+    /// Takes bytes from the start of `buffer` and returns their count. To take none if there are some counts as a failure.
     fn push(&mut self, buffer: &[u8]) -> io::Result<usize>
         ensures bound { WritesAtMost result buffer.now }
         ensures bytes { WriteAppends (contents self.old) (contents self.new) result buffer.now }
         ensures count { CountsWrite (failed self.old) (failed self.new) result buffer.now }
         ensures flushed { flushed self.new ≡ false };
 
-    /// Sends on what was taken.
+    /// Sends the bytes on that were taken.
     fn flush(&mut self) -> io::Result<()>
         ensures bytes { Keeps (contents self.old) (contents self.new) }
         ensures count { CountsFailure (failed self.old) (failed self.new) result }
         ensures flushed { OnOk result (flushed self.new ≡ true) };
 
-    /// How many pushes and flushes failed, at most `u64::MAX`.
+    /// The count of pushes and flushes that failed, at most `u64::MAX`.
     fn failures(&self) -> u64
         ensures { result ≡ failed self.now };
 }

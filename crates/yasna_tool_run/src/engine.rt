@@ -77,10 +77,9 @@ fn write_all<W: Sink>(writer: &mut W, bytes: &[u8]) -> Result<(), RunFault>
     }
 }
 
-/// Reads `reader` to its end, decodes what it gave as a `T`, and writes the DER encoding of that
-/// value to `writer`.
+/// Reads `reader` to its end, decodes its bytes as a `T`, and writes the DER encoding of that value to `writer`.
 ///
-/// How much went out before a failed write is left open.
+/// If a write fails, some bytes may have gone out before.
 pub fn run<T: DERCanonical, R: Source, W: Sink>(
     alloc: Global,
     mode: BERMode,
@@ -99,7 +98,7 @@ pub fn run<T: DERCanonical, R: Source, W: Sink>(
     ensures rejected_counts { IfRejected result (λ _. AreAsBefore (R.failed reader.old) (R.failed reader.new) (W.failed writer.old) (W.failed writer.new)) }
     ensures rejected_writes_nothing { IfRejected result (λ _. Keeps (W.contents writer.old) (W.contents writer.new)) }
 
-    // With memory to be had, only bytes that encode no value are rejected.
+    // Unless memory runs out, only bytes that encode no value are rejected.
     ensures rejected { IfRejected result (λ e. kind_of e ≢ ASN1ErrorKind.OutOfMemory → IsAtEnd (R.remaining reader.new)
         × IfSome (R.remaining reader.old) (λ s. T.elements mode 101 s → ⊥)) }
     ensures io_error { IfIoError result ((R.failed reader.old < R.failed reader.new)

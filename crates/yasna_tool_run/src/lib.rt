@@ -1,10 +1,10 @@
-//! What the program `yasna_tool` does between its ends: it decodes a value of a kind, and writes its DER encoding.
+//! What the program `yasna_tool` does between its ends: it decodes a value of a type, and writes its DER encoding.
 //!
 //! | Module | Holds |
 //! |---|---|
-//! | `ends` | where bytes come from and go to, with a count of failures |
+//! | `ends` | the source and the sink of bytes, with a count of failures |
 //! | `engine` | read to the end, decode, encode, write |
-//! | `value_type` | the kinds of values that the program knows |
+//! | `value_type` | the types of values that the program knows |
 //! | `tool` | the arguments, the texts of errors and the exit statuses |
 #![tactic(auto)]
 

@@ -14,7 +14,7 @@ use std::alloc::Global;
 use std::io::Write;
 use yasna::{ASN1Error, BERMode};
 
-/// What failed that isn't the bytes' error.
+/// A failure at one of the ends, or of the arguments.
 #[derive(Clone, Copy, PartialEq, Eq, Debug)]
 pub enum IoError {
     /// The arguments could not be read.
@@ -25,7 +25,7 @@ pub enum IoError {
     Output,
 }
 
-/// Says that a read or a write failed, and in a second line which, and gives the status of that.
+/// Reports an I/O error, with a second line that says which, and returns its status.
 pub fn report_io_error<E: Write>(errors: &mut E, io_error: IoError) -> u8
     ensures { result ≡ 3 }
 {
@@ -38,7 +38,7 @@ pub fn report_io_error<E: Write>(errors: &mut E, io_error: IoError) -> u8
     3
 }
 
-/// Says which arguments the program takes, in a second line the kinds, and gives the status of others.
+/// Prints the usage, with the types in a second line, and returns the status of a usage error.
 fn report_usage<E: Write>(errors: &mut E) -> u8
     ensures { result ≡ 2 }
 {
@@ -48,7 +48,7 @@ fn report_usage<E: Write>(errors: &mut E) -> u8
     2
 }
 
-/// Says why the bytes were rejected, and gives the status of that.
+/// Reports why the bytes were rejected, and returns the status of that.
 fn report_rejection<E: Write>(errors: &mut E, error: ASN1Error) -> u8
     ensures { result ≡ 1 }
 {
@@ -68,7 +68,7 @@ fn mode_named(word: &str) -> Option<BERMode>
     }
 }
 
-/// The mode and the kind that the words name, and no more.
+/// The mode and the type that the words name, if they name nothing else.
 fn named(words: &[String]) -> Option<(BERMode, ValueType)>
     ensures { MatchOption result (AreTaken (map string_bytes words.now) → ⊥) (λ x. AreWords x.0 x.1 (map string_bytes words.now)) }
 {
@@ -81,7 +81,7 @@ fn named(words: &[String]) -> Option<(BERMode, ValueType)>
     }
 }
 
-/// Runs the program on the words after its name, and gives its exit status.
+/// Runs the program on the words after its name, and returns its exit status.
 ///
 /// An error's text goes to `errors`, and a failure to write it changes nothing.
 pub fn tool<R: Source, W: Sink, E: Write>(

@@ -1,4 +1,4 @@
-//! The kinds of values that the program knows.
+//! The types of values that the program knows.
 ghost use Rattle.std.specs.Prelude.{◌≡◌, ◌≢◌, ◌-◌, ◌^◌, ◌<◌, ◌⊎◌, ℕ, List, true, OnOk, IfSome, MatchOption};
 ghost use Rattle.std.specs.Io.KnownBytes.{Appends, IsAtEnd, Keeps};
 ghost use Rattle.yasna.specs.base.Error.{kind_of};
@@ -13,7 +13,7 @@ use std::alloc::Global;
 use yasna::models::{GeneralizedTime, ObjectIdentifier, UTCTime};
 use yasna::{ASN1ErrorKind, BERMode};
 
-/// A kind of value that the program knows.
+/// A type of values that the program knows.
 #[derive(Clone, Copy, PartialEq, Eq, Debug)]
 pub enum ValueType {
     Pair,
@@ -28,7 +28,7 @@ pub enum ValueType {
     Ints,
 }
 
-/// The kind of this name.
+/// The type of this name.
 pub fn kind_named(word: &str) -> Option<ValueType>
     ensures { MatchOption result ((k : ValueType) → word.now ≡ kind_word k → ⊥) (λ k. word.now ≡ kind_word k) }
 {
@@ -47,7 +47,7 @@ pub fn kind_named(word: &str) -> Option<ValueType>
     }
 }
 
-/// Runs over values of this kind.
+/// Runs over values of this type.
 pub fn run_kind<R: Source, W: Sink>(
     alloc: Global,
     mode: BERMode,
@@ -61,7 +61,7 @@ pub fn run_kind<R: Source, W: Sink>(
     ensures flushed { OnOk result (W.flushed writer.new ≡ true) }
     // The bytes are a value of the kind, whose encoding was written.
     ensures recoded { OnOk result (IfSome (R.remaining reader.old) (λ s. (out : List ℕ) × Recodes kind mode s out × Appends (W.contents writer.old) (W.contents writer.new) out)) }
-    // With memory to be had, only bytes that are no value of the kind are rejected.
+    // Unless memory runs out, only bytes that are no value of the type are rejected.
     ensures none { IfRejected result (λ e. kind_of e ≢ ASN1ErrorKind.OutOfMemory → IfSome (R.remaining reader.old) (λ s. (out : List ℕ) → Recodes kind mode s out → ⊥)) }
     ensures rejected { IfRejected result (λ _. Keeps (W.contents writer.old) (W.contents writer.new)) }
     ensures io_error { IfIoError result ((R.failed reader.old < R.failed reader.new)

@@ -88,7 +88,7 @@ pub enum ObjectSyntax {
     Number(i64),
     String(Vec<u8>),
     Object(ObjectIdentifier),
-    /// As in what asks for values.
+    /// The NULL of a request for values.
     Empty,
     /// Four octets.
     Address(Vec<u8>),

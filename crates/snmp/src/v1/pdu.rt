@@ -40,7 +40,7 @@ pub struct Pdu {
     pub request_id: i64,
     /// 0 where there was no error.
     pub error_status: i64,
-    /// Which variable is at error, from 1; 0 where none is.
+    /// The number of the variable at error, from 1; 0 for none.
     pub error_index: i64,
     pub variable_bindings: Vec<VarBind>,
 }

@@ -57,12 +57,12 @@ type Sides = Either<
     Either<ApplicationSyntax, Either<(), Either<(), Either<(), ()>>>>,
 >;
 
-/// What is bound to a variable: a value, or why there is none.
+/// The value that is bound to a variable, or why there is none.
 #[derive(Drop)]
 pub enum BoundValue {
     Simple(SimpleSyntax),
     ApplicationWide(ApplicationSyntax),
-    /// As in what asks for values.
+    /// The NULL of a request for values.
     Unspecified,
     NoSuchObject,
     NoSuchInstance,

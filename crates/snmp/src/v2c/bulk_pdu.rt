@@ -1,4 +1,4 @@
-//! What asks for many values at once (RFC 3416, 3).
+//! Requests for many values at once (RFC 3416, 3).
 //!
 //! ```text
 //! BulkPDU ::= SEQUENCE {
@@ -41,13 +41,13 @@ type Parts = (i32, (Repeaters, (Repetitions, (VarBindList, ()))));
 
 type Fields = (i32, (u64, (u64, (Vec<VarBind>, ()))));
 
-/// What asks for many values at once.
+/// A request for many values at once.
 #[derive(Drop)]
 pub struct BulkPdu {
     pub request_id: i32,
-    /// Of how many variables one value is asked for: 2147483647 at most.
+    /// The number of variables for which one value is requested: at most 2147483647.
     pub non_repeaters: u64,
-    /// How many values are asked for of each of the others: 2147483647 at most.
+    /// The number of values that are requested of each other variable: at most 2147483647.
     pub max_repetitions: u64,
     /// 2147483647 at most.
     pub variable_bindings: Vec<VarBind>,

@@ -49,7 +49,7 @@ pub struct Pdu {
     pub request_id: i32,
     /// 0 where there was no error.
     pub error_status: i32,
-    /// Which variable is at error, from 1 to 2147483647; 0 where none is.
+    /// The number of the variable at error, from 1 to 2147483647; 0 for none.
     pub error_index: u64,
     /// 2147483647 at most.
     pub variable_bindings: Vec<VarBind>,
