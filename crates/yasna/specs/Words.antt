@@ -9,9 +9,9 @@ pub use Rattle.yasna_base.specs.declared.error.ASN1ErrorKind.TheVariants.{Eof, E
 pub use Rattle.yasna_base.specs.Error.{kind_of, error_of}
 pub use Rattle.yasna_base.specs.Identifier.{universal, context, end_tag, BeginsWithTag, AtEnd}
 pub use Rattle.yasna_base.specs.Digits.{IsBytes}
--- the types of relations, encodings and nests
+-- the types of relations, encodings and depths
 pub use Rattle.yasna_base.specs.Grammar.{Grammar, Members, Encoding, Depth}
--- the laws, and what a relation asks of bytes alone
+-- the laws, and the bytes that encode some value by a relation
 pub use Rattle.yasna_base.specs.Coding.{IsCoding, Any}
 pub use Rattle.yasna_base.specs.Canonical.{IsWritten, HasEncoding, Always, leaf_depth, enclosed_encoding, enclosed_depth, canonical_element}
 pub use Rattle.yasna_base.specs.Exact.{Fitting, IsExact, written_fits, enclosed_fits, part_fits, nothing_fits, option_fits, elements_fit, raw_fits}

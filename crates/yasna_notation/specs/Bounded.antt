@@ -1,4 +1,4 @@
--- Types of which some values alone are taken (X.680, 49 to 51).
+-- Types of which only some values are accepted (X.680, 49 to 51).
 use Rattle.std.proofs.Common.{◌≡◌, ◌∷◌, [], ℕ, ℤ, List, Bool, true, not, Option, Vec, length, pos, suc, refl, sym, ap, ◌∙◌}
 use Rattle.std.specs.Global.{Global}
 use Rattle.std.specs.Prelude.{◌&&◌, int_le, nat_eq, nat_lt}
@@ -11,7 +11,7 @@ use Rattle.yasna_base.specs.Grammar.{Grammar, Members, Encoding}
 use Rattle.yasna_base.specs.Pieces.{Each}
 use Rattle.yasna_notation.specs.Notation.{IsNotation, NotationKeepsLaws}
 
--- this number alone
+-- only this number
 abbrev pub exactly : ℕ → ℕ → Bool
 exactly n v = nat_eq v n
 

@@ -1,4 +1,4 @@
--- That types which are made as the notation says satisfy the laws of writing, by which what BER reads is written anew in DER.
+-- The laws of writing of types made as the notation says, by which what BER reads is written again in DER.
 use Rattle.std.proofs.Common.{◌≡◌, ◌<◌, ◌^◌, ℕ, List, Bool, true, false, Option, Some, None, Vec, String, sym, ◌∙◌}
 use Rattle.std.proofs.lemmas.Bool.{and_parts}
 use Rattle.std.specs.Prelude.{◌&&◌}
@@ -44,7 +44,7 @@ use Rattle.yasna_notation.specs.Parts.{all_known, is_known}
 abbrev pub IsWrittenUnderTags : {A : Type 0} → (A → A → Type 0) → (Tag → Grammar A) → (Tag → Encoding A) → Depth A → (A → Type 0) → Type 0
 IsWrittenUnderTags E B encoding depth Can = AnyTag (λ t. IsWritten E (B t) (encoding t) depth Can)
 
--- so it keeps them under its own, and where another tag is in place of that
+-- so it satisfies them under its own tag, and where another tag is in place of that
 pub element_written : {A : Type 0} {E : A → A → Type 0} {B : Tag → Grammar A} {encoding : Tag → Encoding A} {depth : Depth A} {Can : A → Type 0} (own : Tag) →
     IsWrittenUnderTags E B encoding depth Can → (own ≡ end_tag → ⊥) → own.tag_number < 2 ^ 64 →
     IsWrittenAs true E (λ u. B (tag_or u own)) (λ u. encoding (tag_or u own)) depth Can

@@ -1,4 +1,4 @@
--- What the types of a CHOICE keep that are made as the notation says, and what reading one does of which the tag was found.
+-- The laws of the types of a CHOICE made as the notation says, and what reading the one does whose tag was found.
 use Rattle.std.proofs.Common.{◌≡◌, ◌++◌, [], List, Bool, true, Result, inl, inr, refl}
 use Rattle.std.proofs.lemmas.Bool.{and_parts}
 use Rattle.std.specs.Prelude.{◌⊎◌, ◌&&◌}

@@ -64,7 +64,7 @@ module _ {A : Type 0} {E : A → A → Type 0} {B : Tag → Grammar A} {S : Tag 
   at : (t : Tag) → (t ≡ end_tag → ⊥) → t.tag_number < 2 ^ 64 → IsNotation true (t ∷ []) E (B t) (S t) (encoding t) Fits Can
   at t not_end range = let x = laws t not_end range in record { coding = x.0; begins = λ _. begins_by_tag t (begins t); exact = x.1 }
 
-  -- a type that satisfies its laws under any tag keeps them under its own, and where another tag is in place of that
+  -- a type that satisfies its laws under any tag satisfies them under its own, and where another tag is in place of that
   pub element_lawful : (own ≡ end_tag → ⊥) → own.tag_number < 2 ^ 64 →
       NotationKeepsLaws true (own ∷ []) true E (λ u. B (tag_or u own)) (λ u. S (tag_or u own)) (λ u. encoding (tag_or u own)) Fits Can
   element_lawful not_end range = record { own = at own not_end range; others = λ _ t e r. at t e r }
@@ -171,7 +171,7 @@ pub any_laws : IsNotation false [] (λ v w. raw_of v ≡ raw_of w) (λ m n v b. 
     (λ m v. raw_encoding (raw_of v).tag m (raw_of v)) (λ m n v. raw_fits m n (raw_of v)) Always
 any_laws = record { coding = along raw_of raw_coding; begins = λ e. absurd (cc); exact = exact_along raw_of raw_keeps_exact }
 
--- nothing is asked where no other tag may be
+-- nothing is required if no other tag may be there
 pub never_retagged : {P : Type 0} → false ≡ true → P
 never_retagged e = absurd (cc)
 

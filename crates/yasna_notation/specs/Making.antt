@@ -121,7 +121,7 @@ pub in_choice : {A : Type 0} {ts : List Tag} {E : A → A → Type 0} {B : Gramm
     {Can : A → Type 0} → IsNotation true ts E B S (encoding None) Fits Can → NotationKeepsLaws true ts false E (λ u. B) (λ u. S) encoding Fits Can
 in_choice encoding x = record { own = x; others = λ e. never_retagged e }
 
--- values within a bound that are the same alone
+-- values within a bound, which are equal only if they are the same
 pub in_bound : {A : Type 0} {tags_known : Bool} {ts : List Tag} {retagged : Bool} {B : Option Tag → Grammar A} {S : Option Tag → Members}
     {encoding : Option Tag → Encoding A} {Fits : Fitting A} {Can : A → Type 0} (passes : A → Bool) → NotationKeepsLaws tags_known ts retagged (λ v w. v ≡ w) B S encoding Fits Can →
     NotationKeepsLaws tags_known ts retagged (λ v w. v ≡ w) (λ u. Within passes (B u)) (λ u. Any (Within passes (B u))) encoding (λ m n v. Fits m n v × (passes v ≡ true))

@@ -1,4 +1,4 @@
--- What a type keeps that is made as the notation of ASN.1 says (X.680), and what reading it does.
+-- The laws of a type made as the notation of ASN.1 says (X.680), and what reading it does.
 use Rattle.std.specs.Prelude.{◌≡◌, ◌<◌, ◌^◌, List, [], ◌∷◌, Bool, true, Option, Some, None, Result}
 use Rattle.yasna_base.specs.declared.error.ASN1Error.{ASN1Error}
 use Rattle.yasna_base.specs.declared.mode.BERMode.{BERMode}
@@ -22,13 +22,13 @@ pub record Meaning (A : Type 0) : Type 1 where
   pub retagged : Bool
   -- which bytes encode a value, in a mode within a number of levels, where this tag is in place of the type's own
   pub under : Option Tag → Grammar A
-  -- what that asks of the bytes alone
+  -- which bytes encode some value
   pub any_under : Option Tag → Members
   -- whether reading a value may allocate
   pub may_allocate : Bool
   -- which values are equal
   pub same : A → A → Type 0
-  -- the encoding of a value in a canonical mode, under such a tag, and how many levels that takes
+  -- the encoding of a value in a canonical mode, under such a tag, and its depth
   pub encoding_under : Option Tag → Encoding A
   pub depth : Depth A
   -- which values can be written
@@ -57,7 +57,7 @@ pub record NotationKeepsLaws {A : Type 0} (tags_known : Bool) (ts : List Tag) (r
 abbrev pub MeaningKeepsLaws : {A : Type 0} → Meaning A → Type 0
 MeaningKeepsLaws x = NotationKeepsLaws x.tags_known x.tags x.retagged x.same x.under x.any_under x.encoding_under x.fits x.can
 
--- the laws by which what BER reads is written anew, under a type's own tag and under those that may be in place of it
+-- the laws by which what BER reads is written again, under a type's own tag and under those that may be in place of it
 pub record IsWrittenAs {A : Type 0} (retagged : Bool) (E : A → A → Type 0) (B : Option Tag → Grammar A) (encoding : Option Tag → Encoding A) (depth : Depth A)
     (Can : A → Type 0) : Type 0 where
   pub own : IsWritten E (B None) (encoding None) depth Can

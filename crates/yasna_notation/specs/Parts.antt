@@ -1,4 +1,4 @@
--- What parts of a SEQUENCE keep that are made as the notation says, and what reading them does.
+-- The laws of parts of a SEQUENCE made as the notation says, and what reading them does.
 use Rattle.std.proofs.Common.{◌≡◌, ◌∷◌, ◌++◌, [], ℕ, List, Bool, true, false, not, Option, Result, subst, refl}
 use Rattle.std.proofs.lemmas.Bool.{and_parts, eq-eqb, eqb-true}
 use Rattle.std.specs.Prelude.{◌&&◌, nat_eq}
@@ -47,7 +47,7 @@ pub record WrittenAlike {A : Type 0} (encoding : Encoding A) (can : A → Type 0
   pub encodings : (m : BERMode) (v : A) → encoding m v ≡ encoding_by m v
   pub allowed : (v : A) → can v → can_by v
 
--- whether tags distinguish a part from what is after it, which are told, and all else is apart
+-- whether the tags of a part and of what follows it are known and distinguish them, and all else is unambiguous
 abbrev pub all_known : Bool → Bool → Bool → Bool → Bool
 all_known first others none unambiguous = first && (others && (none && unambiguous))
 

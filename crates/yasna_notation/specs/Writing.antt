@@ -81,7 +81,7 @@ pub under_application : {A : Type 0} {E : A → A → Type 0} {B : Option Tag �
     IsWrittenAs true E (λ u. B (Some (tag_or u (application k)))) (λ u. encoding (Some (tag_or u (application k)))) depth Can
 under_application k range x = implicit_written {unambiguous = true} (application k) (λ _. x) refl (application_not_end k) range
 
--- values within a bound that are the same alone
+-- values within a bound, which are equal only if they are the same
 pub bound_written : {A : Type 0} {retagged : Bool} {B : Option Tag → Grammar A} {encoding : Option Tag → Encoding A} {depth : Depth A} {Can : A → Type 0}
     (passes : A → Bool) → IsWrittenAs retagged (λ v w. v ≡ w) B encoding depth Can →
     IsWrittenAs retagged (λ v w. v ≡ w) (λ u. Within passes (B u)) encoding depth (λ v. Can v × (passes v ≡ true))

@@ -1,4 +1,4 @@
--- How many octets a text takes in UTF-16, by its bytes in UTF-8.
+-- The count of octets of a text in UTF-16, by its bytes in UTF-8.
 use Rattle.std.specs.Prelude.{ℕ, if◌then◌else◌, nat_lt}
 
 -- those of the character that a byte begins; one from 128 to 191 begins none

@@ -16,28 +16,28 @@ abbrev pub listed_header : Option PartsHeader → List ℕ
 listed_header None = []
 listed_header (Some h) = parts_header h
 
--- the header of a mark, where those that are too large for a mark are in a list; an element that is open has none yet
+-- the header of a slot's state, where those that are too large for a slot are in a list; an open element has none yet
 abbrev pub header_of_state : List PartsHeader → SlotState → List ℕ
 header_of_state ls (Waits d b) = []
 header_of_state ls (Definite c n l) = header_bytes Constructed (record { tag = record { tag_class = c; tag_number = n }; length = l })
 header_of_state ls (Indefinite c n) = indefinite_header (record { tag_class = c; tag_number = n })
 header_of_state ls (Elsewhere i) = listed_header (slice_get ls i)
 
--- a mark's header is in a list of so many, if it is in one
+-- the header of a slot's state is in a list of this length, if it is in one
 abbrev pub FindsHeader : ℕ → SlotState → Type 0
 FindsHeader n (Waits d b) = Unit {0}
 FindsHeader n (Definite c m l) = Unit {0}
 FindsHeader n (Indefinite c m) = Unit {0}
 FindsHeader n (Elsewhere i) = i < n
 
--- how many elements that are open a mark represents
+-- the number of open elements of a slot's state: one or none
 abbrev pub state_waits : SlotState → ℕ
 state_waits (Waits d b) = 1
 state_waits (Definite c n l) = 0
 state_waits (Indefinite c n) = 0
 state_waits (Elsewhere i) = 0
 
--- it is the mark of a header
+-- it is the state of a slot with a header
 pub record StatesHeader (h : PartsHeader) (ls : List PartsHeader) (m : SlotState) : Type 0 where
   pub header : header_of_state ls m ≡ parts_header h
   pub listed : FindsHeader (length ls) m
@@ -62,7 +62,7 @@ abbrev pub FindHeaders : ℕ → List Slot → Type 0
 FindHeaders n [] = Unit {0}
 FindHeaders n (e ∷ es) = FindsHeader n e.state × FindHeaders n es
 
--- how many bytes the headers take
+-- the count of bytes of the headers
 abbrev pub headers_length : List PartsHeader → List Slot → ℕ
 headers_length ls [] = 0
 headers_length ls (e ∷ es) = length (header_of_state ls e.state) + headers_length ls es
@@ -85,7 +85,7 @@ KnowPlaces ls headers waits [] = Unit {0}
 KnowPlaces ls headers waits (e ∷ es) = KnowsPlace headers waits e.state
     × KnowPlaces ls (headers + length (header_of_state ls e.state)) (waits + state_waits e.state) es
 
--- entries over n bytes of contents, counted
+-- slots over n bytes of contents, counted
 pub record AreSlots (ls : List PartsHeader) (es : List Slot) (n headers waits : ℕ) : Type 0 where
   pub ordered : AreInOrder 0 es n
   pub listed : FindHeaders (length ls) es

@@ -10,8 +10,8 @@ use Rattle.yasna_writer.specs.View.{Written, bytes_of}
 abbrev pub FromOutOfMemory : {E : Type 0} → (ASN1Error → E → Type 0) → E → Type 0
 FromOutOfMemory from e = (k : ASN1Error) × (kind_of k ≡ OutOfMemory) × from k e
 
--- what is returned where a closure returned own and left the writing as w: the failure that w keeps, else the closure's Err, else
--- the bytes of w, or `OutOfMemory`; from says what an error type makes of a failure of the writing
+-- the result if a closure returned own and left the writing as w: the sticky error of w, else the closure's Err, else the bytes of w,
+-- or `OutOfMemory`; from turns an error of the writing into the closure's type of errors
 abbrev pub Constructed : {E : Type 0} → (ASN1Error → E → Type 0) → Written → Result (Unit {0}) E → Result (Vec ℕ Global) E → Type 0
 Constructed from w own result =
     MatchOption w.failed

@@ -6,7 +6,7 @@ abbrev pub sign_byte : Bool → ℕ
 sign_byte true = 0
 sign_byte false = 255
 
--- whether bytes need that byte in front to have that sign
+-- whether bytes need a leading byte to have that sign
 abbrev pub needs_sign : Bool → List ℕ → Bool
 needs_sign positive [] = true
 needs_sign true (x ∷ xs) = nat_le 128 x

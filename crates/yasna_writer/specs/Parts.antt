@@ -14,7 +14,7 @@ pub record WrittenParts : Type 0 where
   pub parts : List (List ℕ)
   -- the canonical mode of what is written
   pub mode : BERMode
-  -- the failure that later calls return
+  -- the sticky error
   pub failed : Option ASN1Error
 
 -- a set that begins

@@ -1,4 +1,4 @@
--- Strings in segments, as CER asks where they are long (X.690, 9.2).
+-- Long strings in segments, as CER requires (X.690, 9.2).
 use Rattle.std.specs.Prelude.{ℕ, ◌-◌, ◌*◌, List, length, flat_map, Bool, false, nat_lt}
 use Rattle.yasna_base.specs.declared.mode.BERMode.{BERMode}
 use Rattle.yasna_base.specs.declared.mode.BERMode.TheVariants.{Der, Cer}

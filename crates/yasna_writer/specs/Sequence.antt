@@ -20,9 +20,9 @@ pub record WroteAround {F T E : Type 0} (g : Once F (MutBor Written × Unit {0})
   pub left : Written
   -- it was handed the bytes that were there, with no tag
   pub ran : FnOnceReturnsAtMut g f (handed old) own left
-  -- which failure is sticky, if one is
+  -- the sticky error, if there is one
   pub failed : FailedAtEnd (length old.bytes) left new.failed
-  -- that failure is returned, else the closure's result, an Err too
+  -- that error is returned, else the closure's result, an Err too
   pub returns : ReturnsSticky from new.failed own result
   -- where none is sticky, encoding of what the closure appended was written
   pub bytes : new.failed ≡ None → (c : List ℕ) → left.bytes ≡ old.bytes ++ c → new ≡ holding old (old.bytes ++ encoding c)

@@ -22,7 +22,7 @@ use Rattle.yasna_writer.specs.contracts.state.Writer.{the_row as writer_row}
 abbrev pub Pushes : List ℕ → List (Vec ℕ Global) → List (Vec ℕ Global) → Result (Unit {0}) ASN1Error → Type 0
 Pushes b old new result = MatchResult result (λ _. bytes_each new ≡ bytes_each old ++ (b ∷ [])) (λ e. kind_of e ≡ OutOfMemory)
 
--- why there are no parts to be seen: an error is sticky, or there is no memory
+-- why there are no parts: an error is sticky, or there is no memory
 abbrev pub LosesParts : Option ASN1Error → ASN1Error → Type 0
 LosesParts failed e = (failed ≡ Some e) ⊎ ((failed ≡ None) × (kind_of e ≡ OutOfMemory))
 
@@ -36,14 +36,14 @@ abbrev pub FailedAtPart : Option ASN1Error → Option ASN1Error → Type 0
 FailedAtPart old None = old ≡ None
 FailedAtPart old (Some k) = LosesParts old k
 
--- nobody sees the parts after a failure
+-- the parts aren't known after an error
 abbrev pub parts_unless_failed : Option ASN1Error → List (List ℕ) → List (List ℕ)
 parts_unless_failed None ps = ps
 parts_unless_failed (Some k) ps = []
 
 -- the writing of a part begins
 pub record BeginsPart (mode : BERMode) (failed : Option ASN1Error) (w : Written) : Type 0 where
-  -- it keeps the failure of the parts before, if there is one, or `OutOfMemory`
+  -- it has the sticky error of the parts before, if there is one, or `OutOfMemory`
   pub sticks : FailedAtPart failed w.failed
   -- there is nothing in it, and it is in this mode
   pub fresh : w ≡ record { bytes = []; mode = mode; tag = None; failed = w.failed }
@@ -104,7 +104,7 @@ pub record WroteSet {F T E : Type 0} (g : Once F (MutBor WrittenParts × Unit {0
   pub ran : FnOnceReturnsAtMut g f (no_parts old.mode) own left
   -- encoding of the contents that the parts make was written, or an error is sticky
   pub ends : EndsSet Contents encoding left old new
-  -- that failure is returned, else the closure's result, an Err too
+  -- that error is returned, else the closure's result, an Err too
   pub returns : ReturnsSticky from new.failed own result
 
 -- what such a call does: a sticky error comes first

@@ -3,7 +3,7 @@ use Rattle.std.specs.Prelude.{◌≡◌, ℕ, ◌≤◌, ◌^◌, List, [], ◌�
 use Rattle.std.specs.Global.{Global}
 use Rattle.yasna_writer.specs.declared.buffer.Slot.{Slot}
 
--- the entries of blocks, one block after the other
+-- the slots of blocks, one block after the other
 abbrev pub in_blocks : List (Vec Slot Global) → List Slot
 in_blocks [] = []
 in_blocks (b ∷ bs) = b.items ++ in_blocks bs
@@ -13,7 +13,7 @@ abbrev pub AreFull : List (Vec Slot Global) → Type 0
 AreFull [] = Unit {0}
 AreFull (b ∷ bs) = (length b.items ≡ 4096) × AreFull bs
 
--- full blocks that hold so many entries, and a last one
+-- full blocks that hold this many slots, and a last one
 pub record AreBlocks (full : List (Vec Slot Global)) (before : ℕ) (last : List Slot) : Type 0 where
   pub whole : AreFull full
   pub counted : before ≡ length (in_blocks full)

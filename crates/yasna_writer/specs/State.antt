@@ -9,7 +9,7 @@ use Rattle.yasna_writer.specs.Buffer.{with_element}
 use Rattle.yasna_writer.specs.View.{Written}
 use Rattle.yasna_base.specs.Identifier.{tag_or}
 
--- bytes were appended, or `OutOfMemory` is returned and kept
+-- bytes were appended, or `OutOfMemory` is returned and sticky
 abbrev pub Appended : List ℕ → Written → Written → Result (Unit {0}) ASN1Error → Type 0
 Appended bs old new result =
     MatchResult result (λ _. new ≡ record old { bytes = old.bytes ++ bs }) (λ e. (kind_of e ≡ OutOfMemory) × (new.failed ≡ Some e))
@@ -19,7 +19,7 @@ Appended bs old new result =
 abbrev pub FailsAtEnd : ℕ → Written → ASN1Error → Type 0
 FailsAtEnd n left k = (left.failed ≡ Some k) ⊎ ((left.failed ≡ None) × ((kind_of k ≡ OutOfMemory) ⊎ ((kind_of k ≡ Invalid) × (length left.bytes < n))))
 
--- what is sticky once an element has ended: nothing, where as many bytes are there as when it began, or that failure
+-- the sticky error once an element has ended: none, if there was none and at least as many bytes are there as when it began
 abbrev pub FailedAtEnd : ℕ → Written → Option ASN1Error → Type 0
 FailedAtEnd n left None = (left.failed ≡ None) × (n ≤ length left.bytes)
 FailedAtEnd n left (Some k) = FailsAtEnd n left k
@@ -33,7 +33,7 @@ TakesTag own old new result =
 
 -- an element begins after the bytes that are there, under this tag
 pub record BeginsAt (tag : Tag) (old new : Written) (b : OpenElement) : Type 0 where
-  -- it is to be written by the rules of the writing
+  -- it is written in the mode of the writing
   pub mode : b.mode ≡ old.mode
   -- under the tag
   pub tagged : b.tag ≡ tag
@@ -44,7 +44,7 @@ pub record BeginsAt (tag : Tag) (old new : Written) (b : OpenElement) : Type 0 w
 
 -- an element ends, in the mode that it began with, around what is left from its beginning on, or an error is sticky
 pub record EndsElement (b : OpenElement) (left new : Written) : Type 0 where
-  -- which failure is sticky, if one is
+  -- the sticky error, if there is one
   pub failed : FailedAtEnd b.start left new.failed
   -- where none is, the bytes from the beginning on became the contents of the element, and no tag waits
   pub bytes : new.failed ≡ None → new ≡ record { bytes = with_element b.mode b.tag b.start left.bytes; mode = b.mode; tag = None; failed = None }

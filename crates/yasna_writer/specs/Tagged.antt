@@ -14,7 +14,7 @@ use Rattle.yasna_writer.specs.Sequence.{ReturnsSticky, ReturnsOnly}
 abbrev pub writing_under : Tag → Written → Written
 writing_under tag w = record w { tag = Some (tag_or w.tag tag) }
 
--- what is sticky where a closure left this writing of one with n bytes: the failure that it kept, or that bytes are missing
+-- the sticky error after a closure that left this writing of one with n bytes: that of the writing, or `Invalid` if bytes are missing
 abbrev pub FailedAfter : ℕ → Written → Option ASN1Error → Type 0
 FailedAfter n left None = (left.failed ≡ None) × (n ≤ length left.bytes)
 FailedAfter n left (Some k) = (left.failed ≡ Some k) ⊎ ((left.failed ≡ None) × (kind_of k ≡ Invalid) × (length left.bytes < n))
@@ -33,7 +33,7 @@ pub record WroteTagged {F T E : Type 0} (g : Once F (MutBor Written × Unit {0})
   pub left : Written
   -- it was handed the writing with the tag
   pub ran : FnOnceReturnsAtMut g f (writing_under tag old) own left
-  -- what it left is what there is, but for the tag and a failure
+  -- the writing is what it left, but for the tag and the sticky error
   pub after : LeftAfter (length old.bytes) left new
   -- a sticky error is returned, else the closure's result, an Err too
   pub returns : ReturnsSticky from new.failed own result

@@ -14,20 +14,20 @@ pub record Written : Type 0 where
   pub bytes : List ℕ
   -- the canonical mode of what is written
   pub mode : BERMode
-  -- the implicit tag that the next element takes
+  -- the implicit tag of the next element
   pub tag : Option Tag
-  -- the failure that later calls return
+  -- the sticky error
   pub failed : Option ASN1Error
 
--- the writing with these bytes, with no implicit tag and no failure
+-- the writing with these bytes, with no implicit tag and no sticky error
 abbrev pub holding : Written → List ℕ → Written
 holding w bs = record w { bytes = bs; tag = None; failed = None }
 
--- the writing that a closure is handed, with the bytes that are already
+-- the writing that a closure is handed, with the bytes so far
 abbrev pub handed : Written → Written
 handed w = holding w w.bytes
 
--- a writing that begins, in this mode
+-- an empty writing in this mode
 abbrev pub begun : BERMode → Written
 begun m = record { bytes = []; mode = m; tag = None; failed = None }
 
@@ -35,20 +35,19 @@ begun m = record { bytes = []; mode = m; tag = None; failed = None }
 abbrev pub empty_writing : Written
 empty_writing = begun Der
 
--- a sticky error is returned and stays; else Ok appended bs under the tag, which is used up, and Err is want of
--- memory, which is sticky
+-- a sticky error is returned and stays; else Ok appended bs under the tag, which is used up, and Err is `OutOfMemory`, which is sticky
 abbrev pub Wrote : List ℕ → Written → Written → Result (Unit {0}) ASN1Error → Type 0
 Wrote bs old new r =
     MatchOption old.failed
     (MatchResult r (λ _. new ≡ holding old (old.bytes ++ bs)) (λ e. (kind_of e ≡ OutOfMemory) × (new.failed ≡ Some e)))
     (λ k. (r ≡ Err k) × (new.failed ≡ Some k))
 
--- a write returned e, `OutOfMemory`: either that is sticky, or nothing is sticky and the bytes before still are there, with others after
+-- a write returned e, which is `OutOfMemory`: it is sticky, or nothing is sticky and the earlier bytes are intact, with others after
 abbrev pub FailsOutOfMemory : Written → Written → ASN1Error → Type 0
 FailsOutOfMemory old new e = (kind_of e ≡ OutOfMemory) × MatchOption new.failed ((c : List ℕ) × (new.bytes ≡ old.bytes ++ c)) (λ k. kind_of k ≡ OutOfMemory)
 
 -- what `encode_der` of a type does, which may allocate: a sticky error stays, whatever is returned; else Ok
--- appended bs under the tag, which is used up, and Err is `OutOfMemory`, kept or not
+-- appended bs under the tag, which is used up, and Err is `OutOfMemory`, sticky or not
 abbrev pub Writes : List ℕ → Written → Written → Result (Unit {0}) ASN1Error → Type 0
 Writes bs old new r =
     MatchOption old.failed
