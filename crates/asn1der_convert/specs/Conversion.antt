@@ -1,4 +1,4 @@
--- What the conversion from BER to DER returns.
+-- The results of the conversion from BER to DER.
 use Rattle.std.specs.Prelude.{◌≡◌, ℕ, ◌≤◌, List, length, map}
 use Rattle.std.specs.List.{concat}
 use Rattle.yasna_base.specs.Pieces.{Each, Pieces}
@@ -12,7 +12,7 @@ pub record Converts (s d : List ℕ) : Type 0 where
   pub read : Pieces (HasTree 101 Ber) trees s
   pub written : d ≡ concat (map (der_encoding 101) trees)
 
--- s is elements in BER, d elements in DER, and one by one they say the same
+-- s is elements in BER, d elements in DER, and one by one they encode the same value
 pub record EncodesTheSame (s d : List ℕ) : Type 0 where
   pub old : List (Tree 101)
   pub new : List (Tree 101)

@@ -1,4 +1,4 @@
--- Elements that were read and written in DER, as the walk returns them.
+-- The elements in DER that the walk returns.
 use Rattle.std.specs.Borrow.{Bor}
 use Rattle.std.specs.Global.{Global}
 use Rattle.std.specs.Prelude.{◌≡◌, ℕ, List, ◌++◌, map, Result, Ok, Err, Vec}
@@ -21,7 +21,7 @@ use Rattle.asn1der_convert.specs.declared.der_element.DerElement.{DerElement}
 abbrev pub part_tags : List DerElement → List Tag
 part_tags ps = map (λ (p : DerElement). p.tag) ps
 
--- the bytes of each
+-- the bytes of each part
 abbrev pub part_bytes : List DerElement → List (List ℕ)
 part_bytes ps = map (λ (p : DerElement). p.bytes.items) ps
 
@@ -53,13 +53,13 @@ pub record TakesPartsTo (n : ℕ) (m : BERMode) (s : List ℕ) (end : ContentsEn
   pub ends : EndsBefore end rest r
   pub parts : ArePartsOf n m prefix ps
 
--- cs are the bytes bs of elements with the tags ts, as they are in DER within one with the tag t: those of a SET whose elements have one
--- tag ascend, any others are as they were (X.690, 11.6)
+-- cs are the bytes bs of elements with the tags ts in the order of DER, within an element with the tag t: they ascend in a SET whose
+-- elements have one tag, and keep their order in any other element (X.690, 11.6)
 pub data ArePutInOrder (t : Tag) (ts : List Tag) (bs cs : List (List ℕ)) : Type 0 where
   ascending : t ≡ set_tag → HaveOneTag ts → cs ≡ in_order octets_cmp bs → ArePutInOrder t ts bs cs
   as_they_were : (t ≡ set_tag → HaveOneTag ts → ⊥) → cs ≡ bs → ArePutInOrder t ts bs cs
 
--- p is the constructed element in DER with the tag t around these
+-- p is the constructed element in DER with the tag t around the elements ps
 pub record IsPartAround (t : Tag) (ps : List DerElement) (p : DerElement) : Type 0 where
   pub tag : p.tag ≡ t
   pub inner : List (List ℕ)
@@ -74,12 +74,12 @@ NoTreeAt n m s = (v : Tree n) (b r : List ℕ) → HasTree n m v b → s ≡ b +
 abbrev pub NoTreesTo : ℕ → BERMode → List ℕ → ContentsEnd → Type 0
 NoTreesTo n m s end = (vs : List (Tree n)) (prefix rest r : List ℕ) → Pieces (HasTree n m) vs prefix → s ≡ prefix ++ rest → EndsBefore end rest r → ⊥
 
--- an element in DER, and what follows it in BER, or why there is none
+-- the result of converting an element: the element in DER and the bytes that follow it in BER, or why there is none
 abbrev pub PartAt : ℕ → BERMode → List ℕ → Result (DerElement × Bor (List ℕ)) ConvertError → Type 0
 PartAt n m s (Ok x) = TakesPart n m s x.0 x.1.now
 PartAt n m s (Err e) = (e ≡ Memory → ⊥) → NoTreeAt n m s
 
--- elements in DER up to the end of contents and what follows it, or why there are none
+-- the result of converting contents: their elements in DER and the bytes that follow their end, or why there are none
 abbrev pub PartsAt : ℕ → BERMode → List ℕ → ContentsEnd → Result (Vec DerElement Global × Bor (List ℕ)) ConvertError → Type 0
 PartsAt n m s end (Ok x) = TakesPartsTo n m s end x.0.items x.1.now
 PartsAt n m s end (Err e) = (e ≡ Memory → ⊥) → NoTreesTo n m s end

@@ -1,4 +1,4 @@
--- Which tags say how the contents are read (X.680, 8.6).
+-- The tags that determine a class of contents (X.680, 8.6).
 use Rattle.std.specs.Prelude.{◌≡◌, ◌⊎◌, ◌≤◌}
 use Rattle.yasna_base.specs.Bits.{bits_tag}
 use Rattle.yasna_base.specs.Boolean.{boolean_tag}
@@ -12,7 +12,7 @@ pub record IsStringTag (t : Tag) : Type 0 where
   pub own : t.tag_class ≡ Universal
   pub number : (t.tag_number ≡ 4) ⊎ (t.tag_number ≡ 7) ⊎ (t.tag_number ≡ 12) ⊎ ((18 ≤ t.tag_number) × (t.tag_number ≤ 28)) ⊎ (t.tag_number ≡ 30)
 
--- the tag of any other type but BOOLEAN and BIT STRING, or of one that isn't known
+-- the tag of any other type but BOOLEAN and BIT STRING, or of an unknown type
 pub record IsOtherTag (t : Tag) : Type 0 where
   pub not_end : t ≡ end_tag → ⊥
   pub not_boolean : t ≡ boolean_tag → ⊥

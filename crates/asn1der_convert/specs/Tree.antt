@@ -1,4 +1,4 @@
--- What elements say, as trees: the same whatever the lengths, the segments and the spelling of TRUE (X.690, 8).
+-- Elements as trees, which leave out the form of lengths, the segments and the octet of TRUE (X.690, 8).
 use Rattle.std.specs.Prelude.{◌≡◌, ℕ, zero, suc, Bool, List, map}
 use Rattle.std.specs.List.{AllByRecursion, concat}
 use Rattle.yasna_base.specs.AnyOrder.{SameSetOf}
@@ -26,12 +26,12 @@ pub data Branch (A : Type 0) : Type 0 where
   set_of : List A → Branch A
   constructed : Tag → List A → Branch A
 
--- an element in which others lie n levels deep at most, itself counted
+-- an element of at most n levels, itself counted
 unfoldable pub Tree : ℕ → Type 0
 Tree zero = ⊥
 Tree (suc n) = Branch (Tree n)
 
--- the tag of one element
+-- the tag of an element
 abbrev pub branch_tag : {A : Type 0} → Branch A → Tag
 branch_tag (boolean v) = boolean_tag
 branch_tag (bits v) = bits_tag
@@ -46,28 +46,28 @@ unfolding Tree
 tree_tag zero v = absurd v
 tree_tag (suc n) v = branch_tag v
 
--- all of these are one
+-- all tags of the list are equal
 abbrev pub HaveOneTag : List Tag → Type 0
 HaveOneTag ts = (u : Tag) × AllByRecursion (λ t. t ≡ u) ts
 
--- contents that are these elements one after the other, which have one tag, and in DER ascend (X.690, 11.6)
+-- c is the elements vs one after the other; they have one tag, and in DER they ascend (X.690, 11.6)
 pub record IsSetOfContents {A : Type 0} (R : A → List ℕ → Type 0) (tag : A → Tag) (m : BERMode) (vs : List A) (c : List ℕ) : Type 0 where
   pub elements : Pieces R vs c
   pub order : AreInSetOfOrder m elements.pieces
   pub one_tag : HaveOneTag (map tag vs)
 
--- contents that are these elements one after the other, and not those of a SET whose elements have one tag
+-- c is the elements vs one after the other, and they aren't those of a SET whose elements have one tag
 pub record IsOtherContents {A : Type 0} (R : A → List ℕ → Type 0) (tag : A → Tag) (t : Tag) (vs : List A) (c : List ℕ) : Type 0 where
   pub elements : Pieces R vs c
   pub other : t ≡ set_tag → HaveOneTag (map tag vs) → ⊥
 
--- b is a constructed element around contents by C
+-- b is a constructed element whose contents C holds of
 pub record IsAround (C : List ℕ → Type 0) (m : BERMode) (t : Tag) (b : List ℕ) : Type 0 where
   pub contents : List ℕ
   pub element : Element m t Constructed contents b
   pub inner : C contents
 
--- b is this one element, and those within it are what R says; n levels are left
+-- b encodes the element, and R holds of each element within it; n levels are left
 abbrev pub HasBranch : {A : Type 0} → (A → List ℕ → Type 0) → (A → Tag) → ℕ → BERMode → Branch A → List ℕ → Type 0
 HasBranch R tag n m (boolean v) b = EncodesBoolean m n v b
 HasBranch R tag n m (bits v) b = IsBits n m bits_tag v b
@@ -82,7 +82,7 @@ unfolding Tree
 HasTree zero m v b = ⊥
 HasTree (suc n) m v b = HasBranch (HasTree n m) (tree_tag n) (suc n) m v b
 
--- the element in DER, where f writes those within it
+-- the encoding of an element in DER, where f encodes those within it
 abbrev pub branch_encoding : {A : Type 0} → (A → List ℕ) → Branch A → List ℕ
 branch_encoding f (boolean v) = boolean_encoding boolean_tag Der v
 branch_encoding f (bits v) = bits_encoding bits_tag Der v
@@ -91,13 +91,13 @@ branch_encoding f (primitive t c) = canonical_element Der t Primitive c
 branch_encoding f (set_of vs) = canonical_element Der set_tag Constructed (concat (in_order octets_cmp (map f vs)))
 branch_encoding f (constructed t vs) = canonical_element Der t Constructed (concat (map f vs))
 
--- the one encoding of a tree in DER (X.690, 10 and 11)
+-- the canonical encoding of a tree in DER (X.690, 10 and 11)
 unfoldable pub der_encoding : (n : ℕ) → Tree n → List ℕ
 unfolding Tree
 der_encoding zero v = absurd v
 der_encoding (suc n) v = branch_encoding (der_encoding n) v
 
--- elements that say the same: those of a SET OF in any order, and bits that differ in unused ones alone
+-- elements of equal values: a SET OF in any order, and bit strings that differ only in unused bits
 abbrev pub SameBranch : {A : Type 0} → (A → A → Type 0) → Branch A → Branch A → Type 0
 SameBranch E (boolean v) (boolean w) = v ≡ w
 SameBranch E (bits v) (bits w) = bits_contents v ≡ bits_contents w
@@ -107,7 +107,7 @@ SameBranch E (set_of vs) (set_of ws) = SameSetOf E vs ws
 SameBranch E (constructed t vs) (constructed u ws) = (t ≡ u) × Each E vs ws
 SameBranch E v w = ⊥
 
--- trees that say the same, element by element, as `SameBranch`
+-- trees of equal values, element by element, as `SameBranch`
 unfoldable pub SameTree : (n : ℕ) → Tree n → Tree n → Type 0
 unfolding Tree
 SameTree zero v w = ⊥

@@ -20,7 +20,7 @@ pub struct Options<'a> {
 
 const WIDTH: usize = 64;
 
-// A flag that excludes two others.
+// A flag that excludes two other flags.
 struct Flag {
     name: &'static str,
     others: [&'static str; 2],

@@ -5,7 +5,7 @@ use Rattle.std.specs.Str.{IsTrimAsciiEnd}
 use Rattle.std.specs.List.{AllByRecursion, concat, list_any, slice_split}
 use Rattle.asn1show_lines.specs.Text.{IsBase64}
 
--- what a line begins with that begins a block, and one that ends it
+-- the starts of the lines that begin and that end a block
 abbrev pub begin_boundary : List ℕ
 begin_boundary = codes "-----BEGIN "
 
@@ -30,7 +30,7 @@ EndsBlock line = (label : List ℕ) × (line ≡ end_boundary ++ label)
 abbrev pub is_base64 : List ℕ → Bool
 is_base64 line = not (list_any (λ c. c == 58) line)
 
--- the first block in lines says the bytes, and of the lines after it R holds
+-- the first block in lines encodes the bytes, and R holds of the lines after it
 pub record FirstBlock (R : List (List ℕ) → Type 0) (lines : List (List ℕ)) (bytes : List ℕ) : Type 0 where
   pub before : List (List ℕ)
   pub first : List ℕ
@@ -45,7 +45,7 @@ pub record FirstBlock (R : List (List ℕ) → Type 0) (lines : List (List ℕ))
   pub decodes : IsBase64 (concat (filter is_base64 body)) bytes
   pub others : R after
 
--- the blocks in lines say these bytes each, one block after the other
+-- the blocks in lines encode these bytes each, one block after the other
 unfoldable pub DecodeBlocks : List (List ℕ) → List (List ℕ) → Type 0
 DecodeBlocks [] lines = AllByRecursion (λ line. BeginsBlock line → ⊥) lines
 DecodeBlocks (bytes ∷ more) lines = FirstBlock (DecodeBlocks more) lines bytes
@@ -54,12 +54,12 @@ DecodeBlocks (bytes ∷ more) lines = FirstBlock (DecodeBlocks more) lines bytes
 abbrev pub lines_of : List ℕ → List (List ℕ)
 lines_of input = slice_split (λ c. c == 10) input
 
--- the lines of what is left of it, if anything is
+-- the lines of the rest of an input, if there is a rest
 abbrev pub lines_left : Option (Bor (List ℕ)) → List (List ℕ)
 lines_left None = []
 lines_left (Some text) = lines_of text.now
 
--- an input is PEM of one or more blocks, which say these bytes each
+-- an input is PEM of one or more blocks, which encode these bytes each
 pub record IsPem (input : List ℕ) (blocks : List (List ℕ)) : Type 0 where
   pub decode : DecodeBlocks blocks (lines_of input)
   pub some : 1 ≤ length blocks

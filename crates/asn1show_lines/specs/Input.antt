@@ -1,4 +1,4 @@
--- What is in an input.
+-- The formats of an input.
 use Rattle.std.specs.Prelude.{◌≡◌, ◌⊎◌, ◌≤◌, ◌||◌, ℕ, List, ◌∷◌, ◌++◌, Option, Some, None, IsTrue}
 use Rattle.std.specs.Char.{is_ascii_hexdigit}
 use Rattle.std.specs.List.{AllByRecursion, Any}
@@ -15,7 +15,7 @@ use Rattle.asn1show_walk.specs.WellFormed.{AreElements}
 abbrev pub IsText : ℕ → Type 0
 IsText c = ((c ≡ 9) ⊎ (c ≡ 12) ⊎ (c ≡ 13)) ⊎ ((32 ≤ c) × (c ≡ 127 → ⊥))
 
--- after lines of text is one that begins as one does that begins a block
+-- after lines of text a line begins as the first line of a block does
 pub record HasBoundary (lines : List (List ℕ)) : Type 0 where
   pub before : List (List ℕ)
   pub others : List ℕ
@@ -26,29 +26,29 @@ pub record HasBoundary (lines : List (List ℕ)) : Type 0 where
 abbrev pub BeginsAfterText : List ℕ → Type 0
 BeginsAfterText input = HasBoundary (lines_of input)
 
--- hexadecimal digits are in an input, and nothing else but what may be between them
+-- an input is hexadecimal digits and separators
 pub record AreHexDigits (input : List ℕ) : Type 0 where
   pub all : AllByRecursion (λ c. IsTrue (is_ascii_hexdigit c || is_between c)) input
   pub some : Any (λ c. IsTrue (is_ascii_hexdigit c)) input
 
--- the format that an input is detected to be by what is there
+-- the format that an input's octets are detected as
 abbrev pub IsDetected : List ℕ → InputFormat → Type 0
 IsDetected input Pem = BeginsAfterText input
 IsDetected input Hex = (BeginsAfterText input → ⊥) × AreHexDigits input
 IsDetected input Bytes = (BeginsAfterText input → ⊥) × (AreHexDigits input → ⊥)
 
--- the format that an input is taken to be in: the one that is given, else the one that is detected
+-- the format that an input is read in: the given one, else the detected one
 abbrev pub IsTakenAs : Option InputFormat → List ℕ → InputFormat → Type 0
 IsTakenAs (Some given) input input_format = input_format ≡ given
 IsTakenAs None input input_format = IsDetected input input_format
 
--- an input in this format says one or more elements down to the primitive ones, in PEM each block
+-- an input in this format encodes one or more well-formed elements, and in PEM each block does
 abbrev pub HoldsElements : BERMode → InputFormat → List ℕ → Type 0
 HoldsElements mode Bytes input = AreElements 101 mode input
 HoldsElements mode Hex input = (bytes : List ℕ) × IsHex input bytes × AreElements 101 mode bytes
 HoldsElements mode Pem input = (blocks : List (List ℕ)) × IsPem input blocks × AllByRecursion (AreElements 101 mode) blocks
 
--- why an input in this format doesn't, by the offset and the kind of the error
+-- an input in this format doesn't encode well-formed elements, with the offset and the kind of the error
 abbrev pub HoldsNone : BERMode → InputFormat → List ℕ → ℕ → ASN1ErrorKind → Type 0
 HoldsNone mode Bytes input offset kind = NoElements 101 mode input offset kind
 HoldsNone mode Hex input offset kind =

@@ -1,4 +1,4 @@
--- What a reader of PEM makes of a line, and what it waits for.
+-- The step of a reader of PEM by a line, and the blocks that it has yet to read.
 use Rattle.std.specs.Prelude.{◌≡◌, ◌⊎◌, ◌↔◌, ◌≤◌, ℕ, Bool, true, cond, List, [], ◌∷◌, ◌++◌, length, filter, Option, Some, None, option_map}
 use Rattle.std.specs.List.{AllByRecursion, concat}
 use Rattle.asn1show_lines.specs.Text.{digits_of, Base64Decodes}
@@ -17,7 +17,7 @@ has_any reader = reader.is_any
 abbrev pub digits_in : List ℕ → List ℕ
 digits_in line = cond (is_base64 line) (digits_of line) []
 
--- what a line makes of a reader, and which bytes the block says that ends with it
+-- the reader after a line, and the bytes of the block that ends with that line
 pub data TakesLine (old : PemReader) (line : List ℕ) (decoded : Option (List ℕ)) (new : PemReader) : Type 0 where
   outside : open_digits old ≡ None → (BeginsBlock line → ⊥) → decoded ≡ None → open_digits new ≡ None → has_any new ≡ has_any old → TakesLine old line decoded new
   begins : open_digits old ≡ None → BeginsBlock line → decoded ≡ None → open_digits new ≡ Some [] → has_any new ≡ has_any old → TakesLine old line decoded new
@@ -26,14 +26,14 @@ pub data TakesLine (old : PemReader) (line : List ℕ) (decoded : Option (List �
   ends : (digits bytes : List ℕ) → open_digits old ≡ Some digits → EndsBlock line → decoded ≡ Some bytes → Base64Decodes digits bytes →
       open_digits new ≡ None → has_any new ≡ true → TakesLine old line decoded new
 
--- a line ends the block that is open, and its digits say nothing
+-- a line ends the open block, and the block's digits encode no bytes
 pub record DecodesNothing (old : PemReader) (line : List ℕ) : Type 0 where
   pub digits : List ℕ
   pub taken : open_digits old ≡ Some digits
   pub ends : EndsBlock line
   pub none : (bytes : List ℕ) → Base64Decodes digits bytes → ⊥
 
--- the block of which these digits were taken says the bytes, and of the lines after it R holds
+-- the open block, of which these digits were read, encodes the bytes, and R holds of the lines after it
 pub record OpenBlockDecodes (R : List (List ℕ) → Type 0) (digits : List ℕ) (lines : List (List ℕ)) (bytes : List ℕ) : Type 0 where
   pub body : List (List ℕ)
   pub last : List ℕ
@@ -44,13 +44,13 @@ pub record OpenBlockDecodes (R : List (List ℕ) → Type 0) (digits : List ℕ)
   pub decodes : Base64Decodes (digits ++ digits_of (concat (filter is_base64 body))) bytes
   pub others : R after
 
--- the blocks that end in lines say these bytes each, where the first of them may be open
+-- the blocks that end in lines encode these bytes each, where the first of them may be open
 abbrev pub DecodeRest : Option (List ℕ) → List (List ℕ) → List (List ℕ) → Type 0
 DecodeRest None blocks lines = DecodeBlocks blocks lines
 DecodeRest (Some digits) [] lines = ⊥
 DecodeRest (Some digits) (bytes ∷ more) lines = OpenBlockDecodes (DecodeBlocks more) digits lines bytes
 
--- P holds of the bytes of each block that ends in these lines, and one does or has ended before
+-- P holds of the bytes of each block that ends in these lines, and a block ends in them or has ended before
 pub record AwaitsFrom (P : List ℕ → Type 0) (digits : Option (List ℕ)) (any : Bool) (lines : List (List ℕ)) : Type 0 where
   pub blocks : List (List ℕ)
   pub decode : DecodeRest digits blocks lines
@@ -60,10 +60,10 @@ pub record AwaitsFrom (P : List ℕ → Type 0) (digits : Option (List ℕ)) (an
 abbrev pub Awaits : (List ℕ → Type 0) → PemReader → List (List ℕ) → Type 0
 Awaits P reader lines = AwaitsFrom P (open_digits reader) (has_any reader) lines
 
--- after a line that made a reader another, the same is awaited
+-- P is awaited after a line exactly where it was awaited before
 abbrev pub GoesOn : (List ℕ → Type 0) → PemReader → List ℕ → PemReader → Type 0
 GoesOn P old line new = (rest : List (List ℕ)) → Awaits P old (line ∷ rest) ↔ Awaits P new rest
 
--- from a line on, whatever is after it, not what is awaited is there
+-- after a line P isn't awaited, whatever lines follow
 abbrev pub NeverComes : (List ℕ → Type 0) → PemReader → List ℕ → Type 0
 NeverComes P old line = (rest : List (List ℕ)) → Awaits P old (line ∷ rest) → ⊥

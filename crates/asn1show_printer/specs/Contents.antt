@@ -1,4 +1,4 @@
--- Which contents of primitive elements are those of a type (X.690, 8 and 11), and what diagnostics report of that.
+-- The contents of primitive elements of a type (X.690, 8 and 11), and their diagnostics.
 use Rattle.std.specs.Prelude.{◌≡◌, ◌⊎◌, ◌≤◌, ◌%◌, ℕ, Bool, true, false, cond, List, [], ◌∷◌, length, Option, Some, None, pos, IsUtf8}
 use Rattle.std.specs.Char.{IsScalar}
 use Rattle.std.specs.Int.Digits.{number_from_digits}
@@ -24,7 +24,7 @@ use Rattle.asn1show_printer.specs.declared.line.LineBuffer.{LineBuffer}
 use Rattle.asn1show_printer.specs.declared.diagnostic.Diagnostic.{Diagnostic}
 use Rattle.asn1show_printer.specs.declared.diagnostic.Diagnostic.TheVariants.{LongLength, Indefinite, Segments, Truth, Padding, Order, Time, Local, HasParts, HasNoParts, Segment, Boolean as NoBoolean, Number, Null as NoNull, Bits as NoBits, Components, Characters as NoCharacters, NoTime}
 
--- the contents of a bit string: how many bits of the last octet are unused, and the octets
+-- the contents of a bit string: the count of unused bits in the last octet, and the octets
 pub record AreBits (m : BERMode) (c : List ℕ) : Type 0 where
   pub unused : ℕ
   pub octets : List ℕ
@@ -39,7 +39,7 @@ pub record AreSubidentifiers (c : List ℕ) : Type 0 where
   pub spelled : c ≡ flat_map base128 numbers
   pub some : 1 ≤ length numbers
 
--- numbers of two octets each, and of four, the highest octet first; what is left over doesn't count
+-- numbers of two octets each, and of four, the highest octet first; octets left over are dropped
 abbrev pub pairs : List ℕ → List ℕ
 pairs [] = []
 pairs (x ∷ []) = []
@@ -52,12 +52,12 @@ quads (x ∷ y ∷ []) = []
 quads (x ∷ y ∷ z ∷ []) = []
 quads (x ∷ y ∷ z ∷ w ∷ more) = number_from_digits 256 (x ∷ y ∷ z ∷ w ∷ []) ∷ quads more
 
--- numbers of so many octets each, of which each is a character: no surrogate, and none beyond the last one
+-- c is characters of size octets each: numbers that are no surrogate and not beyond the last character
 pub record AreWide (size : ℕ) (numbers : List ℕ → List ℕ) (c : List ℕ) : Type 0 where
   pub whole : length c % size ≡ 0
   pub characters : AllByRecursion IsScalar (numbers c)
 
--- the octets of a text of these characters; others aren't judged
+-- the octets of a text of these characters; of other character sets any octets
 abbrev pub AreCharacters : Characters → List ℕ → Type 0
 AreCharacters Utf8 c = IsUtf8 c
 AreCharacters Numeric c = AllByRecursion InNumeric c
@@ -68,14 +68,14 @@ AreCharacters Bmp c = AreWide 2 pairs c
 AreCharacters Universal c = AreWide 4 quads c
 AreCharacters Other c = Unit {0}
 
--- a time in no known zone, which is in BER alone
+-- a time without a zone, which only BER has
 abbrev pub IsLocalTime : BERMode → List ℕ → Type 0
 IsLocalTime Ber c = (v : Moment) × IsGeneralText c (Some (pos 0)) v
 IsLocalTime Der c = ⊥
 IsLocalTime Cer c = ⊥
 
--- the contents of a primitive element of a type of this kind, by the rules of a mode, but for how many octets CER leaves a string in one
--- piece (X.690, 9.2)
+-- the contents of a primitive element of an ASN.1 type in a mode, but for the length from which CER writes a string in segments
+-- (X.690, 9.2)
 abbrev pub AreOfKind : AsnType → BERMode → List ℕ → Type 0
 AreOfKind Boolean m c = (v : Bool) × IsBoolean m v c
 AreOfKind Integer m c = IsMinimal c
@@ -113,24 +113,24 @@ is_of_ber Components = true
 is_of_ber NoCharacters = true
 is_of_ber NoTime = true
 
--- contents are in the rules of each mode
+-- contents conform to each mode
 abbrev pub InAll : (BERMode → List ℕ → Type 0) → List ℕ → Type 0
 InAll C c = (m : BERMode) → C m c
 
--- they are in those of BER alone
+-- contents conform only to BER
 pub record OnlyInBer (C : BERMode → List ℕ → Type 0) (c : List ℕ) : Type 0 where
   pub here : C Ber c
   pub not_there : (m : BERMode) → IsCanonicalMode m → C m c → ⊥
 
--- they are in those of none
+-- contents conform to no mode
 abbrev pub InNone : (BERMode → List ℕ → Type 0) → List ℕ → Type 0
 InNone C c = (m : BERMode) → C m c → ⊥
 
--- a diagnostic, or that there is none, tells in the rules of which modes contents are
+-- the modes that contents conform to, by their diagnostic or its absence
 abbrev pub DiagnosesOf : AsnType → List ℕ → Option Diagnostic → Type 0
 DiagnosesOf kind c None = InAll (AreOfKind kind) c
 DiagnosesOf kind c (Some r) = cond (is_of_ber r) (InNone (AreOfKind kind) c) (OnlyInBer (AreOfKind kind) c)
 
--- whether there was no memory for what was to be appended to a line
+-- whether an append to a line ran out of memory
 abbrev pub line_is_out_of_memory : LineBuffer → Bool
 line_is_out_of_memory line = line.out_of_memory

@@ -4,17 +4,17 @@ use Rattle.yasna_base.specs.declared.error.ASN1ErrorKind.{ASN1ErrorKind}
 use Rattle.asn1show_walk.specs.declared.error.WalkError.{WalkError}
 use Rattle.asn1show_walk.specs.declared.error.WalkError.TheVariants.{Malformed, Memory, Output}
 
--- something that should be at an offset isn't, and P holds of that offset and of the kind of this
+-- the error is a malformed input, and P holds of its offset and its kind
 abbrev pub IsMalformed : (ℕ → ASN1ErrorKind → Type 0) → WalkError → Type 0
 IsMalformed P (Malformed offset kind expected) = P offset kind
 IsMalformed P Memory = ⊥
 IsMalformed P Output = ⊥
 
--- the visitor rejected with this error, or what should be at an offset isn't, and N says why there was nothing to be visited
+-- the visitor returned the error, or the input is malformed and N holds of the error's offset and kind
 abbrev pub WalkFails : (WalkError → Type 0) → (ℕ → ASN1ErrorKind → Type 0) → WalkError → Type 0
 WalkFails Rejects N f = Rejects f ⊎ IsMalformed N f
 
--- there was no memory, or a write failed: that says nothing of what was to be visited
+-- the error is out of memory or of a write: it says nothing about the input
 abbrev pub IsExternal : WalkError → Type 0
 IsExternal (Malformed offset kind expected) = ⊥
 IsExternal Memory = Unit {0}

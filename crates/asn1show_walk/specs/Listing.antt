@@ -1,4 +1,4 @@
--- What lines report of elements (X.690, 8.1).
+-- The lines that list elements (X.690, 8.1).
 use Rattle.std.specs.Prelude.{◌≡◌, ◌⊎◌, ℕ, zero, suc, ◌+◌, ◌^◌, ◌<◌, Bool, true, List, [], ◌∷◌, ◌++◌, length, Option, Some, None, ⊤}
 use Rattle.yasna_base.specs.Bits.{bits_tag}
 use Rattle.yasna_base.specs.Digits.{IsBytes}
@@ -10,7 +10,7 @@ use Rattle.yasna_base.specs.declared.tag.PCBit.{PCBit}
 use Rattle.yasna_base.specs.declared.tag.PCBit.TheVariants.{Primitive, Constructed}
 use Rattle.yasna_base.specs.declared.tag.Tag.{Tag}
 
--- where an element begins, how many octets its header and its contents take, and how many elements are around it
+-- an element's offset, the octets of its header and of its contents, and its depth
 pub record Line : Type 0 where
   pub offset : ℕ
   pub header : ℕ
@@ -20,28 +20,28 @@ pub record Line : Type 0 where
   pub tag : Tag
   pub bit : PCBit
 
--- what is known to have been visited grows by these lines
+-- the lines visited grow by these lines, where they are known
 abbrev pub Visits : Option (List Line) → Option (List Line) → List Line → Type 0
 Visits None new ls = ⊤
 Visits (Some xs) None ls = ⊥
 Visits (Some xs) (Some ys) ls = ys ≡ xs ++ ls
 
--- b is an element with the contents c and h octets before them, and len is how many they are where they are counted
+-- b is an element with a header of h octets and the contents c, and len is its length where that is definite
 pub data IsHeaded (m : BERMode) (t : Tag) (bit : PCBit) (c b : List ℕ) (h : ℕ) (len : Option ℕ) : Type 0 where
   with_length : Definite m t bit c b → h + length c ≡ length b → len ≡ Some (length c) → IsHeaded m t bit c b h len
   with_zeros : Indefinite m t bit c b → h + length c + 2 ≡ length b → len ≡ None → IsHeaded m t bit c b h len
 
--- lines list what is in the contents c of a string, which begin at o: for a BIT STRING after the count of unused bits, which is none
+-- lines list the elements in the contents c of a string, which begin at o: in a BIT STRING after a count of no unused bits
 pub data InString (Inner : ℕ → List ℕ → List Line → Type 0) (t : Tag) (o : ℕ) (c : List ℕ) (ls : List Line) : Type 0 where
   octets : t ≡ octets_tag → Inner o c ls → InString Inner t o c ls
   bits : (d : List ℕ) → t ≡ bits_tag → c ≡ 0 ∷ d → Inner (o + 1) d ls → InString Inner t o c ls
 
--- lines list what is in contents: the elements of a constructed element, and nothing or those in a string
+-- lines list the elements in contents: those of a constructed element, and none or those in a string
 abbrev pub Below : (Bool → ℕ → List ℕ → List Line → Type 0) → Bool → Tag → PCBit → ℕ → List ℕ → List Line → Type 0
 Below Inner w t Constructed o c ls = Inner w o c ls
 Below Inner w t Primitive o c ls = (ls ≡ []) ⊎ InString (Inner true) t o c ls
 
--- lines list the element b, which begins at o and has n levels left: its own line, and those of what is in it
+-- lines list the element b, which begins at o and has n levels left: its own line, and the lines of the elements in it
 pub record ListsElement (Inner : Bool → ℕ → List ℕ → List Line → Type 0) (m : BERMode) (n : ℕ) (w : Bool) (o : ℕ) (b : List ℕ) (ls : List Line) : Type 0 where
   pub line : Line
   pub below : List Line

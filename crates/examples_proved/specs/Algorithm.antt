@@ -1,4 +1,4 @@
--- AlgorithmIdentifier (RFC 5280, 4.1.1.2): a name, and any element, which may be omitted.
+-- AlgorithmIdentifier (RFC 5280, 4.1.1.2): an object identifier, and an optional element of any type.
 use Rattle.std.specs.Prelude.{◌≡◌, ◌+◌, ◌*◌, ◌<◌, ◌≤◌, length}
 use Rattle.yasna.specs.Words.{BitString, IsCoding, Any, Enclosed, AnyEnclosed, EncodesOid, OptionOf, AnyOption}
 use Rattle.yasna.specs.Words.{SameOption, IsRaw, sequence_tag, PartOf, NoParts, AnyPart, AnyNothing, SamePart, SameNothing}
@@ -8,7 +8,7 @@ use Rattle.yasna.proofs.Laws.{along, unambiguous_before_nothing, no_part, oid_co
 use Rattle.examples_proved.specs.declared.public_key.AlgorithmIdentifier.{AlgorithmIdentifier}
 use Rattle.yasna.specs.Words.{Grammar, Members}
 
--- an element of any type
+-- the bytes encode an element of any type
 abbrev pub EncodesAny : Grammar TaggedDerValue
 EncodesAny m n v b = IsRaw n m (raw_of v) b
 
@@ -16,11 +16,11 @@ EncodesAny m n v b = IsRaw n m (raw_of v) b
 abbrev pub AnyElement : Members
 AnyElement = Any (λ m n v b. IsRaw n m v b)
 
--- a SEQUENCE of a name and, where they are there, parameters of any type
+-- a SEQUENCE of an object identifier and optional parameters of any type
 abbrev pub EncodesAlgorithm : Grammar AlgorithmIdentifier
 EncodesAlgorithm m n v b = Enclosed (PartOf EncodesOid (PartOf (OptionOf EncodesAny) NoParts)) sequence_tag m n (v.algorithm, (v.parameters, tt)) b
 
--- what that asks of the bytes alone
+-- the bytes encode some AlgorithmIdentifier
 abbrev pub AnyAlgorithm : Members
 AnyAlgorithm = AnyEnclosed (AnyPart (Any EncodesOid) (AnyPart (AnyOption AnyElement) AnyNothing)) sequence_tag
 
@@ -28,7 +28,7 @@ AnyAlgorithm = AnyEnclosed (AnyPart (Any EncodesOid) (AnyPart (AnyOption AnyElem
 abbrev pub HasRoom : BitString → Type 0
 HasRoom v = (v.count ≤ 8 * length v.bytes) × (8 * length v.bytes < v.count + 8)
 
--- names are equal, and so are parameters
+-- the object identifiers are equal, and the parameters too
 abbrev pub SameAlgorithm : AlgorithmIdentifier → AlgorithmIdentifier → Type 0
 SameAlgorithm v w = SamePart (λ x y. x ≡ y) (SamePart (SameOption (λ x y. raw_of x ≡ raw_of y)) SameNothing) (v.algorithm, (v.parameters, tt))
     (w.algorithm, (w.parameters, tt))

@@ -5,7 +5,7 @@ use Rattle.std.specs.Int.{w64}
 use Rattle.yasna.specs.Words.{EitherOf, AnyEither, Any, EncodesSigned, EncodesNull, sequence_tag, IsListOf, AnyListOf}
 use Rattle.yasna.specs.Words.{Grammar, Members}
 
--- a number is an INTEGER, and none a NULL
+-- a number is an INTEGER, and `None` a NULL
 abbrev pub as_either : Option ℤ → ℤ ⊎ Unit {0}
 as_either (Some v) = inl v
 as_either None = inr tt
@@ -14,7 +14,7 @@ as_either None = inr tt
 abbrev pub EncodesItem : Grammar (Option ℤ)
 EncodesItem m n v b = EitherOf (EncodesSigned w64) EncodesNull m n (as_either v) b
 
--- what that asks of the bytes alone
+-- the bytes encode some item
 abbrev pub AnyItem : Members
 AnyItem = AnyEither (Any (EncodesSigned w64)) (Any EncodesNull)
 

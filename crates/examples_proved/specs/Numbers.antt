@@ -8,6 +8,6 @@ use Rattle.yasna.specs.Words.{Grammar, Members}
 abbrev pub EncodesNumbers : Grammar (List ℤ)
 EncodesNumbers m n vs b = IsListOf (EncodesSigned w64) sequence_tag m n vs b
 
--- what that asks of the bytes alone
+-- the bytes encode some list of numbers
 abbrev pub AnyNumbers : Members
 AnyNumbers = AnyListOf (Any (EncodesSigned w64)) sequence_tag

@@ -9,6 +9,6 @@ use Rattle.yasna.specs.Words.{Grammar, Members}
 abbrev pub EncodesPair : Grammar (ℤ × Bool)
 EncodesPair m n v b = Enclosed (PartOf (EncodesSigned w64) (PartOf EncodesBoolean NoParts)) sequence_tag m n (v.0, (v.1, tt)) b
 
--- what that asks of the bytes alone
+-- the bytes encode some number and some flag
 abbrev pub AnyPair : Members
 AnyPair = AnyEnclosed (AnyPart (Any (EncodesSigned w64)) (AnyPart (Any EncodesBoolean) AnyNothing)) sequence_tag

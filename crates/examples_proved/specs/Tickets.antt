@@ -24,7 +24,7 @@ EncodesVersion = Enclosed (EncodesUnsigned 64) (context 0)
 abbrev pub AnyVersion : Members
 AnyVersion = AnyEnclosed (Any (EncodesUnsigned 64)) (context 0)
 
--- whether it is the default, 1
+-- whether a version is the default, 1
 abbrev pub is_first : ℕ → Bool
 is_first v = nat_eq v 1
 
@@ -39,7 +39,7 @@ AnyNote = Any (λ m n v b. IsOctets n m (context 1) v b)
 abbrev pub EncodesLimit : Grammar ℤ
 EncodesLimit m n v b = Primitively (IsSigned w64) n m (context 2) v b
 
--- which of the three types a kind is of
+-- the kind of a ticket as one of the three types of the CHOICE
 abbrev pub kind_as_either : TicketKind → Unit {0} ⊎ (Bool ⊎ ℤ)
 kind_as_either Open = inl tt
 kind_as_either (Sealed v) = inr (inl v)
@@ -62,7 +62,7 @@ EncodesMarks m n v b = InSomeOrder (IsSetOf (EncodesSigned w64) set_tag) m n v.i
 abbrev pub AnyMarks : Members
 AnyMarks = AnySetOf (Any (EncodesSigned w64)) set_tag
 
--- the parts in their order
+-- the parts of a ticket in their order
 abbrev pub ticket_parts : Ticket → ℕ × (Option (Vec ℕ Global) × (ℤ × (TicketKind × (Vec ℤ Global × Unit {0}))))
 ticket_parts v = (v.version, (v.note, (v.serial, (v.kind, (v.marks, tt)))))
 
@@ -107,7 +107,7 @@ sealed_with_tags = record { coding = bool_coding; begins = primitive_by_tag IsBo
 pub limit_with_tags : CodingByTags (context 2 ∷ []) (λ v w. v ≡ w) EncodesLimit (Any EncodesLimit)
 limit_with_tags = record { coding = signed_under w64 (context 2) (context_not_end 2); begins = primitive_by_tag (IsSigned w64) (context 2) }
 
--- the kind
+-- the kind of a ticket satisfies the laws, and its tags distinguish it
 pub kind_with_tags : CodingByTags (null_tag ∷ boolean_tag ∷ context 2 ∷ []) SameKind EncodesKind AnyKind
 kind_with_tags =
     let x = choice_with_tags null_with_tags (choice_with_tags sealed_with_tags limit_with_tags refl) refl in
@@ -119,7 +119,7 @@ marks_with_tags = record {
   begins = enclosed_by_tag (AnySetOfElements (Any (EncodesSigned w64))) set_tag;
 }
 
--- all parts, a line for each
+-- the parts of a ticket satisfy the laws, and their tags distinguish them
 pub parts_with_tags : ContentsByTags (context 0 ∷ context 1 ∷ integer_tag ∷ []) SameParts Parts AnyParts
 parts_with_tags =
     default_part_with_tags is_first 1 detects_first version_with_tags
@@ -133,7 +133,7 @@ pub ticket_coding : IsCoding (λ v w. SameParts (ticket_parts v) (ticket_parts w
     (AnyEnclosed AnyParts sequence_tag)
 ticket_coding = sequence ticket_parts parts_with_tags.coding
 
--- what is read after the note
+-- the result of reading the parts after the note
 abbrev pub ReadsRest : ℕ → Option (Vec ℕ Global) → Does Ticket
 ReadsRest version note =
     Step (Decodes false (EncodesSigned w64) (Any (EncodesSigned w64))) (λ serial.

@@ -1,4 +1,4 @@
--- Moments of times that are made of others.
+-- Moments of times that are made from the parts of other times.
 use Rattle.std.specs.Prelude.{ℕ, ◌+◌, ◌/◌, ◌%◌, List, [], ◌∷◌, false, ◌==◌, if◌then◌else◌}
 use Rattle.yasna.specs.time.Fraction.{trimmed}
 use Rattle.yasna.specs.time.Models.{DateTime}
@@ -24,6 +24,6 @@ abbrev pub four_digits : ℕ → List ℕ
 four_digits n =
     (48 + n / 1000 % 10) ∷ (48 + n / 100 % 10) ∷ (48 + n / 10 % 10) ∷ (48 + n % 10) ∷ []
 
--- the moment of a date-time in UTC and so many tenths of a picosecond after its nanosecond
+-- the moment of a date-time in UTC and a number of tenths of a picosecond after its nanosecond
 abbrev pub with_tenths : DateTime → ℕ → Moment
 with_tenths utc tenths = moment utc (trimmed (four_digits tenths)) false

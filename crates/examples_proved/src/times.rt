@@ -1,4 +1,4 @@
-//! Times made of the parts of others.
+//! Times made from the parts of other times.
 ghost use Rattle.std.specs.Prelude.{◌≡◌, ◌+◌, ◌%◌, ◌<◌, IfOk};
 ghost use Rattle.yasna.specs.Words.{utc_of, moment_of};
 ghost use Rattle.examples_proved.specs.Times.{to_the_second, with_second_59, with_tenths};
@@ -33,7 +33,7 @@ pub fn without_leap_second(
     GeneralizedTime::from_datetime_and_sub_nano(alloc, local, Offset::UTC, time.sub_nano())
 }
 
-/// The moment of its date-time, and after the nanosecond so many tenths of a picosecond.
+/// The moment of a date-time, and a number of tenths of a picosecond after its nanosecond.
 ///
 /// For clocks that count finer than a nanosecond.
 pub fn with_tenths_of_a_picosecond(

@@ -1,4 +1,4 @@
--- What a filter means satisfies the laws.
+-- The meaning of a filter satisfies the laws.
 use Rattle.std.proofs.Common.{◌≡◌, ◌∷◌, ◌++◌, [], ◌<◌, ◌+◌, ℕ, suc, max, List, true, Option, None, Box, map, inl, inr, refl, sym, ap, ap₂, subst, ◌∙◌, arith}
 use Rattle.std.specs.Global.{Global}
 use Rattle.std.specs.List.{AllByRecursion, concat}
@@ -111,7 +111,7 @@ negated_follows depth = record {
   depth_within = λ x y m v h. ap (λ k. 1 + k) (h v.value (omega arith));
 }
 
--- what is made of nothing within
+-- a meaning that is made of no values within
 fixed_follows : {A V : Type 0} (depth : A → ℕ) (item : Meaning V) → FollowsDepth depth (λ i. 0) (λ x. item)
 fixed_follows depth item = record {
   flat = λ x y u m v b p. p;
@@ -195,7 +195,7 @@ module _ {A V W : Type 0} {depth : A → ℕ} {p : V → ℕ} {q : W → ℕ} {f
     depth_within = depth_either;
   }
 
--- what represents what is made so
+-- a value that represents one that is made so
 represented_follows : {A U V : Type 0} {depth : A → ℕ} {p : V → ℕ} (view : U → V) (top : U → ℕ) (f : Meaning A → Meaning V) → FollowsDepth depth p f →
     ((v : U) → top v ≡ p (view v)) → FollowsDepth depth top (λ x. represented_by view (f x))
 represented_follows {depth = depth} view top f a is = record {
@@ -256,7 +256,7 @@ parted_non_empty item non_empty x u m (Second (Second (Second i))) = non_empty u
 pub filter_non_empty : (item : Meaning FilterItem) → IsNonEmptyEncoding item → IsNonEmptyEncoding (filter_means item)
 filter_non_empty item non_empty u m v = parted_non_empty item non_empty (after_steps (filter_step item) (depth_of v)) u m (parted_of v)
 
--- values within are less deep
+-- the values within a filter are less deep than it
 pub each_less : (P : Filter → Type 0) (Can : Filter → Type 0) (vs : List Filter) → AllByRecursion Can vs →
     ((v : Filter) → Can v → depth_of v < suc (largest (map depth_of vs)) → P v) → AllByRecursion P vs
 each_less P Can [] c f = tt

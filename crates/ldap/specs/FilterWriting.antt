@@ -1,4 +1,4 @@
--- What a filter means satisfies the laws of writing.
+-- The meaning of a filter satisfies the laws of writing.
 use Rattle.std.proofs.Common.{None, Box, arith}
 use Rattle.std.specs.Global.{Global}
 use Rattle.yasna_base.specs.Canonical.{IsWritten}

@@ -1,4 +1,4 @@
--- What a filter means (RFC 4511, 4.5.1.7).
+-- The meaning of a filter (RFC 4511, 4.5.1.7).
 use Rattle.std.proofs.Common.{◌≡◌, ◌∷◌, ◌++◌, [], ℕ, suc, max, List, true, false, None, Vec, Box, Result, length, map}
 use Rattle.std.specs.Global.{Global}
 use Rattle.std.specs.List.{AllByRecursion}
@@ -29,7 +29,7 @@ use Rattle.ldap.specs.declared.filter_item.FilterItem.{FilterItem}
 use Rattle.ldap.specs.contracts.filter_item.FilterItemNotation.TheImpl.{means-value}
 use Rattle.ldap.specs.Recursion.{means_within}
 
--- the values within a filter, or the one that is none of a filter
+-- the filters within a filter, or its item
 abbrev pub Parted : Type 0
 Parted = Either (Vec Filter Global) (Either (Vec Filter Global) (Either (Box Filter Global) FilterItem))
 
@@ -42,7 +42,7 @@ parted (Item i) = Second (Second (Second i))
 abbrev pub parted_of : Filter → Parted
 parted_of v = parted (out-Filter v)
 
--- how deep it is
+-- the largest of some depths
 abbrev pub largest : List ℕ → ℕ
 largest [] = 0
 largest (n ∷ ns) = max n (largest ns)
@@ -56,7 +56,7 @@ one_deeper (Item i) = 0
 abbrev pub depth_of : Filter → ℕ
 depth_of = fold-Filter ℕ one_deeper
 
--- SET SIZE (1..MAX) OF x, under this tag
+-- SET SIZE (1..MAX) OF x, with this tag
 abbrev pub list_means : {A : Type 0} → Tag → Meaning A → Meaning (Vec A Global)
 list_means {A = A} own x = record {
   tags_known = true;
@@ -113,14 +113,14 @@ either_means x y = record {
   fits = λ m n v. either_fits x.fits y.fits m n (sides v);
 }
 
--- a filter of those within, which mean x, or of an item
+-- the parts of a filter: filters that mean x, or an item
 abbrev pub parted_means : Meaning FilterItem → Meaning Filter → Meaning Parted
 parted_means item x = either_means (group_means 0 x) (either_means (group_means 1 x) (either_means (negated_means x) item))
 
 abbrev pub filter_step : Meaning FilterItem → Meaning Filter → Meaning Filter
 filter_step item x = represented_by parted_of (parted_means item x)
 
--- how deep what is within may be: less than this
+-- a depth that the filters within a group are less than
 abbrev pub group_top : {A : Type 0} → (A → ℕ) → Vec A Global → ℕ
 group_top depth v = suc (largest (map depth v.items))
 
@@ -131,7 +131,7 @@ either_top p q (Second w) = q w
 abbrev pub parted_top : Parted → ℕ
 parted_top = either_top (group_top depth_of) (either_top (group_top depth_of) (either_top (λ v. suc (depth_of v.value)) (λ i. 0)))
 
--- what a filter means
+-- the meaning of a filter
 abbrev pub filter_means : Meaning FilterItem → Meaning Filter
 filter_means item = means_within (filter_step item) depth_of
 
@@ -150,6 +150,6 @@ after_and = either_means (group_means 1 the_filter) after_or
 abbrev pub whole : Meaning Parted
 whole = either_means (group_means 0 the_filter) after_and
 
--- the types of the CHOICE, of which a tag was found
+-- the result of reading the type of the CHOICE that has the tag found
 abbrev pub Found : {A : Type 0} → Meaning A → Tag → Reading → Result A ASN1Error → Reading → Type 0
 Found x t s r s' = ReadsFound x.tags x.may_allocate (x.under None) (x.any_under None) t s r s'

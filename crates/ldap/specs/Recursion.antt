@@ -1,10 +1,10 @@
--- What a type means that is within itself. A step says what it means, from what the values mean that are one level further in.
+-- The meaning of a recursive type. A step gives the meaning of a value from that of the values one level further in.
 use Rattle.std.proofs.Common.{◌≡◌, ◌<◌, ℕ, zero, suc, List, [], true, false, Option, None}
 use Rattle.yasna_base.specs.declared.mode.BERMode.{BERMode}
 use Rattle.yasna_base.specs.declared.tag.Tag.{Tag}
 use Rattle.yasna_notation.specs.Notation.{Meaning, MeaningKeepsLaws}
 
--- what means nothing yet
+-- the meaning that no value has, before any step
 abbrev pub nothing_yet : {A : Type 0} → Meaning A
 nothing_yet = record {
   tags_known = true;
@@ -20,13 +20,13 @@ nothing_yet = record {
   fits = λ m n v. ⊥;
 }
 
--- so many steps
+-- the meaning after n steps
 abbrev pub after_steps : {A : Type 0} → (Meaning A → Meaning A) → ℕ → Meaning A
 after_steps step zero = nothing_yet
 after_steps step (suc k) = step (after_steps step k)
 
--- What it means: within n levels a value has as many steps as there may be in them, and its encoding as many as it is deep. Values are equal
--- where they are after any number of steps.
+-- The meaning of the type: within n levels it takes as many steps as there may be levels, and for an encoding as many as the value is
+-- deep. Values are equal where they are equal after any number of steps.
 abbrev pub means_within : {A : Type 0} → (Meaning A → Meaning A) → (A → ℕ) → Meaning A
 means_within step depth = record {
   tags_known = true;
@@ -42,8 +42,8 @@ means_within step depth = record {
   fits = λ m n v. (after_steps step (suc n)).fits m n v;
 }
 
--- What is made of a meaning: at no level it asks for nothing of that, at others for what is one level less. The encoding of a value, and how
--- deep that nests, is made of those of values that are less deep than the value's top.
+-- A meaning that is made of another: with no level left it doesn't depend on that, else it depends on it at one level less. The encoding
+-- of a value and its depth are made of those of values that are less deep than the value's top.
 pub record FollowsDepth {A V : Type 0} (depth : A → ℕ) (top : V → ℕ) (make : Meaning A → Meaning V) : Type 1 where
   pub flat : (x y : Meaning A) (u : Option Tag) (m : BERMode) (v : V) (b : List ℕ) → (make x).under u m 0 v b → (make y).under u m 0 v b
   pub any_flat : (x y : Meaning A) (u : Option Tag) (m : BERMode) (b : List ℕ) → (make x).any_under u m 0 b → (make y).any_under u m 0 b
@@ -62,7 +62,7 @@ pub record FollowsDepth {A V : Type 0} (depth : A → ℕ) (top : V → ℕ) (ma
   pub depth_within : (x y : Meaning A) (m : BERMode) (v : V) → ((w : A) → depth w < top v → x.depth m w ≡ y.depth m w) →
       (make x).depth m v ≡ (make y).depth m v
 
--- what a step keeps
+-- the laws of a step
 pub record IsStep {A : Type 0} (step : Meaning A → Meaning A) (depth : A → ℕ) : Type 1 where
   pub lawful : (x : Meaning A) → MeaningKeepsLaws x → MeaningKeepsLaws (step x)
   pub tags_known : (x : Meaning A) → (step x).tags_known ≡ true

@@ -1,4 +1,4 @@
--- What a type means that is within itself satisfies the laws, where its step does.
+-- The meaning of a recursive type satisfies the laws, where its step does.
 use Rattle.std.proofs.Common.{◌≡◌, ◌<◌, ◌≤◌, ◌+◌, ◌^◌, ℕ, zero, suc, List, length, Option, None, refl, sym, subst, ◌∙◌, arith}
 use Rattle.yasna_base.specs.declared.mode.BERMode.{BERMode}
 use Rattle.yasna_base.specs.declared.tag.Tag.{Tag}
@@ -63,14 +63,14 @@ module _ {A : Type 0} {step : Meaning A → Meaning A} {depth : A → ℕ} (s : 
   fits_any (suc n) (suc j) (suc k) m v lt p =
       s.follows.fits_within (after_steps step j) (after_steps step k) m n (λ w q. fits_any n j k m w (omega (arith, lt)) q) v p
 
-  -- what is the same after more steps is after less
+  -- values that are equal after more steps are equal after fewer
   same_less : (j k : ℕ) (v w : A) → j ≤ k → (after_steps step k).same v w → (after_steps step j).same v w
   same_less zero k v w le e = tt
   same_less (suc j) zero v w le e = absurd (omega (arith, le))
   same_less (suc j) (suc k) v w le e =
       s.follows.same_within (after_steps step k) (after_steps step j) (λ x y d. same_less j k x y (omega (arith, le)) d) v w e
 
-  -- so are encodings, of values that are less deep
+  -- more steps than a value is deep don't change its encoding
   pub encoding_any : (j k : ℕ) (u : Option Tag) (m : BERMode) (v : A) → depth v < j → depth v < k →
       (after_steps step j).encoding_under u m v ≡ (after_steps step k).encoding_under u m v
   encoding_any zero k u m v lt le = absurd (omega (arith, lt))
@@ -79,7 +79,7 @@ module _ {A : Type 0} {step : Meaning A → Meaning A} {depth : A → ℕ} (s : 
       s.follows.encoding_within (after_steps step j) (after_steps step k) u m v
       (λ w less. encoding_any j k None m w (omega (arith, lt, less)) (omega (arith, le, less)))
 
-  -- it satisfies the laws
+  -- the meaning satisfies the laws
   pub means_lawful : MeaningKeepsLaws (means_within step depth)
   means_lawful = record {
     own = record {
@@ -139,7 +139,7 @@ module _ {A : Type 0} {step : Meaning A → Meaning A} {depth : A → ℕ} (s : 
     others = λ e. never_retagged e;
   }
 
-  -- a step more within the same levels
+  -- one more step within the same levels changes no encodings
   pub folded_under : (u : Option Tag) (m : BERMode) (n : ℕ) (v : A) (b : List ℕ) → (step (means_within step depth)).under u m n v b →
       (means_within step depth).under u m n v b
   folded_under u m zero v b p = s.follows.flat (means_within step depth) nothing_yet u m v b p
@@ -150,7 +150,7 @@ module _ {A : Type 0} {step : Meaning A → Meaning A} {depth : A → ℕ} (s : 
   unfolded_any u m zero b p = s.follows.any_flat nothing_yet (means_within step depth) u m b p
   unfolded_any u m (suc n) b p = s.follows.any_within (after_steps step (suc n)) (means_within step depth) u m n (λ w c q. q) (λ c q. q) b p
 
-  -- what can be written can be by its parts, and its encoding is made of theirs
+  -- a value that can be written can be written by its parts, and its encoding is made of theirs
   pub unfolded_can : (v : A) → (means_within step depth).can v → (step (means_within step depth)).can v
   unfolded_can v c = go c.0 c.1
     where

@@ -1,4 +1,4 @@
--- What a type means that is within itself satisfies the laws of writing, where its step does.
+-- The meaning of a recursive type satisfies the laws of writing, where its step does.
 use Rattle.std.proofs.Common.{◌≡◌, ◌<◌, ◌≤◌, ◌+◌, ◌^◌, ℕ, zero, suc, length, None, refl, sym, subst, ◌∙◌, arith}
 use Rattle.yasna_base.specs.declared.mode.BERMode.{BERMode}
 use Rattle.yasna_base.specs.declared.mode.BERMode.TheVariants.{Ber, Der}
@@ -28,14 +28,14 @@ module _ {A : Type 0} {step : Meaning A → Meaning A} {depth : A → ℕ} (s : 
   written_after zero = nothing_written
   written_after (suc k) = writes (after_steps step k) (written_after k)
 
-  -- what can be written after some steps can be after more
+  -- a value that can be written after some steps can be written after more
   can_more : (j k : ℕ) (v : A) → j ≤ k → (after_steps step j).can v → (after_steps step k).can v
   can_more zero k v le c = absurd c
   can_more (suc j) zero v le c = absurd (omega (arith, le))
   can_more (suc j) (suc k) v le c =
       s.follows.can_within (after_steps step j) (after_steps step k) (λ w d. can_more j k w (omega (arith, le)) d) v c
 
-  -- how deep encodings nest, of values that are less deep
+  -- more steps than a value is deep don't change the depth of its encoding
   depth_any : (j k : ℕ) (m : BERMode) (v : A) → depth v < j → depth v < k → (after_steps step j).depth m v ≡ (after_steps step k).depth m v
   depth_any zero k m v lt le = absurd (omega (arith, lt))
   depth_any (suc j) zero m v lt le = absurd (omega (arith, le))

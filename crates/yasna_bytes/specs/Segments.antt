@@ -112,7 +112,7 @@ pub record ReadsUpTo {A T : Type 0} (k : Segmentation A) (value : List ℕ → T
   pub join : k.join m x.values (value x.bytes x.known)
   pub cut : AreCut k x.values x.cuts
 
--- Segments of a string, after which none follows. only: no others make up c. not_deep: none lies too deep
+-- Segments of a string, after which none follows. only: no other segments make up c. not_deep: none is too deep
 pub record TakesSegments {A T : Type 0} (k : Segmentation A) (value : List ℕ → T → A) (n : ℕ) (m : BERMode) (c : List ℕ) (x : SegmentsRead A T)
     (y : List ℕ) : Type 0 where
   pub read : ReadsUpTo k value n m c x y

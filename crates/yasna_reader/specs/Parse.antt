@@ -11,7 +11,7 @@ abbrev pub unless_failed : {A : Type 0} → Option ASN1Error → Result A ASN1Er
 unless_failed None r = r
 unless_failed (Some e) r = Err e
 
--- nothing may be left behind a value
+-- no bytes may be left after a value
 abbrev pub ended : {A : Type 0} → Result A ASN1Error → List ℕ → Result A ASN1Error
 ended (Err e) s = Err e
 ended (Ok v) [] = Ok v

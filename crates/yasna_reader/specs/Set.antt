@@ -174,7 +174,7 @@ pub record Chooses (l : List SetElement) (s : Reading) (ts : List Tag) (r : Resu
     Type 0 where
   pub chooses : ChoosesBy s.failed ts l s r l' s'
 
--- A choice from z as C says, whose answer r lends the reading, left n once what was lent ended as w
+-- A choice from z as C says, whose result r lends the reading; it is n once the loan ended as w
 pub record LentChoice {S L : Type 0} (C : L → S → Result (Unit {0}) ASN1Error → L → S → Type 0) (z : Chosen S L) (r : Result (MutBor S) ASN1Error)
     (n : Chosen S L) (w : S) : Type 0 where
   -- what is left of the loan is the reading of what is left

@@ -17,7 +17,7 @@ pub record Reading : Type 0 where
   pub tag : Option Tag
   pub failed : Option ASN1Error
 
--- what a read does: from which reading, with which answer, and what is left
+-- a read: the reading before it, its result, and the reading after it
 abbrev pub Does : Type 0 → Type 1
 Does A = Reading → Result A ASN1Error → Reading → Type 0
 

@@ -27,7 +27,7 @@ pub record IsZulu (s : List ℕ) (i : ℕ) : Type 0 where
   pub letter : slice_index s i ≡ 90
   pub ends : length s ≡ i + 1
 
--- a plus says that the clock is ahead of UTC by so many seconds, a minus that it is after
+-- an offset from UTC by its sign, `+` or `-`, and its seconds
 pub data IsOffset (sign seconds : ℕ) (offset : ℤ) : Type 0 where
   plus : sign ≡ 43 → offset ≡ pos seconds → IsOffset sign seconds offset
   minus : sign ≡ 45 → offset ≡ neg_ℤ (pos seconds) → IsOffset sign seconds offset

@@ -18,7 +18,7 @@ use Rattle.yasna_writer.specs.View.{Written, holding}
 use Rattle.yasna_writer.specs.contracts.set.DERWriterSet.{the_row}
 use Rattle.yasna_writer.specs.contracts.state.Writer.{the_row as writer_row}
 
--- a part was put after others, or there is no memory
+-- a part was put after the earlier parts, or memory is out
 abbrev pub Pushes : List ℕ → List (Vec ℕ Global) → List (Vec ℕ Global) → Result (Unit {0}) ASN1Error → Type 0
 Pushes b old new result = MatchResult result (λ _. bytes_each new ≡ bytes_each old ++ (b ∷ [])) (λ e. kind_of e ≡ OutOfMemory)
 
@@ -26,7 +26,7 @@ Pushes b old new result = MatchResult result (λ _. bytes_each new ≡ bytes_eac
 abbrev pub LosesParts : Option ASN1Error → ASN1Error → Type 0
 LosesParts failed e = (failed ≡ Some e) ⊎ ((failed ≡ None) × (kind_of e ≡ OutOfMemory))
 
--- the last part was put after the others, where one was begun
+-- the last part was put after the earlier parts, where one was begun
 abbrev pub EndsPart : Bool → List (Vec ℕ Global) → Written → List (Vec ℕ Global) → Result (Unit {0}) ASN1Error → Type 0
 EndsPart begun old last new result =
     MatchResult result (λ _. (last.failed ≡ None) × (bytes_each new ≡ bytes_each old ++ last_part begun last.bytes)) (λ e. LosesParts last.failed e)

@@ -67,7 +67,7 @@ impl Model for DERWriterSet {
     ghost view = { λ s. record { parts = bytes_each s.parts.items ++ last_part s.begun s.last.bytes; mode = s.mode; failed = s.last.failed } };
 }
 
-// Appends the bytes of a part to the others, or runs out of memory.
+// Appends the bytes of a part to those of the earlier parts, or runs out of memory.
 fn push_part(parts: &mut Vec<Vec<u8>>, last: &mut Writer) -> ASN1Result<()>
     ensures { Pushes last.old.bytes parts.old.items parts.new.items result }
 {
@@ -78,7 +78,7 @@ fn push_part(parts: &mut Vec<Vec<u8>>, last: &mut Writer) -> ASN1Result<()>
     }
 }
 
-// Appends the last part to the others, if one was begun.
+// Appends the last part to the earlier parts, if one was begun.
 fn end_part(parts: &mut Vec<Vec<u8>>, last: &mut Writer, begun: bool) -> ASN1Result<()>
     ensures { EndsPart begun parts.old.items last.old parts.new.items result }
 {
@@ -91,7 +91,7 @@ fn end_part(parts: &mut Vec<Vec<u8>>, last: &mut Writer, begun: bool) -> ASN1Res
     Ok(())
 }
 
-// Begins a part after the others.
+// Begins a part after the earlier parts.
 fn begin_part(parts: &mut Vec<Vec<u8>>, last: &mut Writer, begun: bool, mode: BERMode)
     ensures { BeginsNext mode begun parts.old.items last.old parts.new.items last.new }
 {

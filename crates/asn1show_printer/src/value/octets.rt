@@ -16,7 +16,7 @@ fn write_digits(line: &mut LineBuffer, alloc: Global, piece: &[u8]) {
     }
 }
 
-/// Writes octets in hexadecimal, cut to so many digits.
+/// Writes octets in hexadecimal, cut to a number of digits.
 pub fn write_octets(line: &mut LineBuffer, alloc: Global, octets: &[u8], width: usize) {
     let shown = octets.get(..width / 2).unwrap_or(octets);
     line.write_str("'");

@@ -78,7 +78,7 @@ fn write_octet(line: &mut LineBuffer, octet: u8) {
     write!(line, "\\x{octet:02X}")
 }
 
-// Writes octets of which the last alone may be no plain one.
+// Writes octets of which only the last may be no plain one.
 fn write_piece(line: &mut LineBuffer, piece: &[u8]) {
     match piece {
         [plain @ .., last] if !is_plain(*last) => {
@@ -122,7 +122,7 @@ fn code_of(octets: &[u8]) -> u32 {
     code
 }
 
-/// Writes characters of so many octets each, the highest first.
+/// Writes characters of a number of octets each, the highest octet first.
 pub fn write_wide(line: &mut LineBuffer, octets: &[u8], size: usize)
     requires { 0 < size }
 {

@@ -1,4 +1,4 @@
-//! Tuples of types of which DER and CER alone have one encoding (X.690, 8.9 and 9 to 11).
+//! Tuples of types of which only DER and CER have one encoding (X.690, 8.9 and 9 to 11).
 ghost use Rattle.yasna_base.specs.Exact.{enclosed_fits, part_fits, nothing_fits};
 ghost use Rattle.yasna_base.proofs.Exact.{no_part_exact, part_exact, tuple_exact};
 

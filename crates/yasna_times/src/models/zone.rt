@@ -66,7 +66,7 @@ fn amount(bytes: &[u8], at: usize) -> Option<u32>
     }
 }
 
-// The offset of so many seconds.
+// The offset of a number of seconds.
 fn offset_of(seconds: i32) -> Offset
     requires low { neg_ℤ (pos 86400) ≤ℤ seconds }
     requires high { seconds ≤ℤ pos 86400 }
@@ -75,7 +75,7 @@ fn offset_of(seconds: i32) -> Offset
     Offset::from_seconds(seconds).unwrap()
 }
 
-// The offset of a clock that is ahead of UTC, or after it, by so many seconds, as the sign says.
+// The offset from UTC with this sign, `+` or `-`, and these seconds; none by another sign.
 fn signed(sign: u8, seconds: u32) -> Option<Offset>
     requires { seconds < 86400 }
     ensures { MatchOption result ((z : ℤ) → ¬ (IsOffset sign seconds z)) (λ o. IsOffset sign seconds o.seconds) }

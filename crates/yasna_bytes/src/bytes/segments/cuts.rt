@@ -66,7 +66,7 @@ pub fn inner_mode(mode: BERMode) -> BERMode
     }
 }
 
-/// Whether a mode accepts so many bytes in one primitive element, if `full` bytes fill a segment.
+/// Whether a mode accepts `size` bytes in one primitive element, if `full` bytes fill a segment.
 #[inline(always)]
 pub fn stays_whole(mode: BERMode, full: usize, size: usize) -> bool
     ensures { IsTrue result ↔ StaysWhole mode full size }
