@@ -1,13 +1,13 @@
 //! Calls that a driver times: each does one piece of work with `yasna` and returns one number.
 //!
-//! `bench/` at the top of the repository holds the driver. Read values go into a checksum, so that no work can be left
-//! out; written bytes are returned by their length.
+//! `bench/` at the top of the repository holds the driver. Values read go into a checksum, so that the optimiser drops no work.
+//! Of bytes written the length is returned.
 //!
 //! | Module | Holds |
 //! |---|---|
-//! | `reading` | calls that read numbers, pairs and nests |
-//! | `options` | calls that read parts that may be omitted |
-//! | `writing` | calls that write them |
+//! | `reading` | calls that read numbers, pairs and nested elements |
+//! | `options` | calls that read optional parts |
+//! | `writing` | calls that write numbers, pairs and nested elements |
 //! | `sets` | calls that read and write SET OF |
 //! | `raw` | calls that read raw elements |
 //! | `strings`, `oid` | calls that read and write octet strings, texts and object identifiers |
@@ -29,7 +29,7 @@ mod writing;
 
 use yasna::ASN1Result;
 
-// The answer of a call that was rejected.
+// The result of a call that was rejected.
 const REJECTED: u64 = u64::MAX;
 
 // The number that a call returns.
@@ -42,7 +42,7 @@ fn number_of(outcome: ASN1Result<u64>) -> u64
     }
 }
 
-// The length that a call answers of what it wrote.
+// The length of the bytes that a call wrote.
 fn length(written: ASN1Result<Vec<u8>>) -> u64 {
     number_of(written.map(|bytes| bytes.len() as u64))
 }

@@ -6,20 +6,20 @@ use x509::Certificate;
 use yasna::{ASN1Result, DERExact, decode_der, encode_der, one_der_encoding, parse_der};
 use yasna_notation::{Encoded, Notation};
 
-/// The checksum of how many bits the signatures have of the certificates of a SEQUENCE OF.
+/// The checksum of the bit lengths of the signatures in a SEQUENCE OF certificates.
 #[unsafe(no_mangle)]
 pub extern "C" fn yasna_read_certificates(alloc: Global, bytes: &[u8]) -> u64 {
     number_of(read(alloc, bytes).map(|certificates| bits_checksum(&certificates)))
 }
 
-// Those certificates.
+// Reads a SEQUENCE OF certificates.
 fn read(alloc: Global, bytes: &[u8]) -> ASN1Result<Vec<Certificate>> {
     parse_der(alloc, bytes, |reader| {
         reader.collect_sequence_of(|item| Certificate::read(item))
     })
 }
 
-// The checksum of a list.
+// The checksum of the bit lengths of the certificates' signatures.
 fn bits_checksum(certificates: &[Certificate]) -> u64 {
     let mut checksum = 0;
     for certificate in certificates {
@@ -29,7 +29,7 @@ fn bits_checksum(certificates: &[Certificate]) -> u64 {
     checksum
 }
 
-/// The length of the certificates of a SEQUENCE OF, which are read and written again.
+/// The length of a SEQUENCE OF certificates that is read and written again.
 #[unsafe(no_mangle)]
 pub extern "C" fn yasna_rewrite_certificates(alloc: Global, bytes: &[u8]) -> u64 {
     length(rewritten::<Vec<Encoded<Certificate>>>(alloc, bytes))

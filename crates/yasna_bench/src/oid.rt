@@ -7,7 +7,7 @@ use std::alloc::Global;
 use yasna::models::ObjectIdentifier;
 use yasna::{ASN1Result, BERReaderSeq, DERWriterSeq, construct_der};
 
-/// The checksum of so many object identifiers in a SEQUENCE, of each its count of components.
+/// The checksum of the counts of components of `count` object identifiers in a SEQUENCE.
 #[unsafe(no_mangle)]
 pub extern "C" fn yasna_read_identifiers(
     alloc: Global,
@@ -18,7 +18,7 @@ pub extern "C" fn yasna_read_identifiers(
     of_parts(alloc, bytes, count, der, identifiers)
 }
 
-// The checksum of so many object identifiers.
+// The checksum of the counts of components of `count` object identifiers.
 fn identifiers(seq: &mut BERReaderSeq, count: usize) -> ASN1Result<u64> {
     let mut checksum = 0;
     for _ in 0..count {
@@ -31,7 +31,7 @@ fn identifiers(seq: &mut BERReaderSeq, count: usize) -> ASN1Result<u64> {
     Ok(checksum)
 }
 
-/// The length of a SEQUENCE of the object identifier with these components, so many times.
+/// The length of a SEQUENCE of `count` times the object identifier with these components.
 #[unsafe(no_mangle)]
 pub extern "C" fn yasna_write_identifiers(alloc: Global, components: &[u64], count: usize) -> u64 {
     let Ok(identifier) = ObjectIdentifier::from_slice(alloc, components) else {
@@ -46,7 +46,7 @@ pub extern "C" fn yasna_write_identifiers(alloc: Global, components: &[u64], cou
     ))
 }
 
-// Writes an object identifier so many times.
+// Writes an object identifier `count` times.
 fn write_identifiers(
     seq: &mut DERWriterSeq,
     identifier: &ObjectIdentifier,

@@ -1,11 +1,11 @@
-//! Calls that read ten parts that may be omitted, each under a tag of its own.
+//! Calls that read ten optional parts, each with its own tag.
 ghost use Rattle.std.specs.Prelude.{◌≤◌};
 
 use crate::{mixed, number_of};
 use std::alloc::Global;
 use yasna::{ASN1Result, BERReaderSeq, Tag, parse_der};
 
-/// The checksum of ten numbers under explicit tags, by calls that are written one after the other.
+/// The checksum of ten numbers with explicit tags, by ten calls one after the other.
 #[unsafe(no_mangle)]
 pub extern "C" fn yasna_ten_explicit(alloc: Global, bytes: &[u8]) -> u64 {
     number_of(parse_der(alloc, bytes, |reader| {
@@ -17,7 +17,7 @@ pub extern "C" fn yasna_ten_explicit(alloc: Global, bytes: &[u8]) -> u64 {
     }))
 }
 
-// Five of them, from this tag on.
+// The checksum of five numbers with explicit tags, from this tag on.
 #[inline(always)]
 fn five_explicit(parts: &mut BERReaderSeq, tag: u64) -> ASN1Result<u64>
     requires { tag ≤ 5 }
@@ -29,7 +29,7 @@ fn five_explicit(parts: &mut BERReaderSeq, tag: u64) -> ASN1Result<u64>
     Ok(mixed(checksum, explicit(parts, tag + 4)?))
 }
 
-/// As `yasna_ten_explicit`, under implicit tags.
+/// As `yasna_ten_explicit`, with implicit tags.
 #[unsafe(no_mangle)]
 pub extern "C" fn yasna_ten_implicit(alloc: Global, bytes: &[u8]) -> u64 {
     number_of(parse_der(alloc, bytes, |reader| {
@@ -41,7 +41,7 @@ pub extern "C" fn yasna_ten_implicit(alloc: Global, bytes: &[u8]) -> u64 {
     }))
 }
 
-// Five of them, from this tag on.
+// The checksum of five numbers with implicit tags, from this tag on.
 #[inline(always)]
 fn five_implicit(parts: &mut BERReaderSeq, tag: u64) -> ASN1Result<u64>
     requires { tag ≤ 5 }
@@ -53,7 +53,7 @@ fn five_implicit(parts: &mut BERReaderSeq, tag: u64) -> ASN1Result<u64>
     Ok(mixed(checksum, implicit(parts, tag + 4)?))
 }
 
-/// The checksum of ten numbers under explicit tags, by one call in a loop.
+/// The checksum of ten numbers with explicit tags, by one call in a loop.
 #[unsafe(no_mangle)]
 pub extern "C" fn yasna_ten_explicit_looped(alloc: Global, bytes: &[u8]) -> u64 {
     number_of(parse_der(alloc, bytes, |reader| reader.read_sequence(explicit_looped)))
@@ -72,7 +72,7 @@ fn explicit_looped(parts: &mut BERReaderSeq) -> ASN1Result<u64> {
     Ok(checksum)
 }
 
-/// As `yasna_ten_explicit_looped`, under implicit tags.
+/// As `yasna_ten_explicit_looped`, with implicit tags.
 #[unsafe(no_mangle)]
 pub extern "C" fn yasna_ten_implicit_looped(alloc: Global, bytes: &[u8]) -> u64 {
     number_of(parse_der(alloc, bytes, |reader| reader.read_sequence(implicit_looped)))
@@ -91,7 +91,7 @@ fn implicit_looped(parts: &mut BERReaderSeq) -> ASN1Result<u64> {
     Ok(checksum)
 }
 
-// A number under this explicit tag, or none, which counts as 0.
+// The number with this explicit tag, or 0 where it is omitted.
 #[inline(always)]
 fn explicit(parts: &mut BERReaderSeq, tag: u64) -> ASN1Result<i64> {
     let part = parts.read_optional(|part| part.read_tagged(
@@ -101,7 +101,7 @@ fn explicit(parts: &mut BERReaderSeq, tag: u64) -> ASN1Result<i64> {
     Ok(part.unwrap_or(0))
 }
 
-// A number under this implicit tag, or none, which counts as 0.
+// The number with this implicit tag, or 0 where it is omitted.
 #[inline(always)]
 fn implicit(parts: &mut BERReaderSeq, tag: u64) -> ASN1Result<i64> {
     let part = parts.read_optional(|part| part.read_tagged_implicit(

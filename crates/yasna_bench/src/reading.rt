@@ -15,7 +15,7 @@ pub(crate) fn mode(der: bool) -> BERMode
     if der { BERMode::Der } else { BERMode::Ber }
 }
 
-/// The checksum that such a function makes of so many parts of a SEQUENCE.
+/// The checksum that `read` returns of `count` parts of a SEQUENCE.
 #[inline(always)]
 pub(crate) fn of_parts<F>(alloc: Global, bytes: &[u8], count: usize, der: bool, read: F) -> u64
 where
@@ -42,13 +42,13 @@ fn pair_checksum(pair: (i64, bool)) -> u64 {
     mixed(u64::from(flag), number)
 }
 
-/// The checksum of so many numbers in a SEQUENCE, taken as they are read.
+/// The checksum of `count` numbers in a SEQUENCE, as they are read.
 #[unsafe(no_mangle)]
 pub extern "C" fn yasna_read_integers(alloc: Global, bytes: &[u8], count: usize, der: bool) -> u64 {
     of_parts(alloc, bytes, count, der, integers)
 }
 
-// The checksum of so many numbers.
+// The checksum of `count` numbers.
 fn integers(seq: &mut BERReaderSeq, count: usize) -> ASN1Result<u64> {
     let mut checksum = 0;
     for _ in 0..count {
@@ -69,7 +69,7 @@ pub extern "C" fn yasna_list_integers(alloc: Global, bytes: &[u8], der: bool) ->
     number_of(list.map(|numbers| list_checksum(&numbers)))
 }
 
-// The checksum of a list.
+// The checksum of a list of numbers.
 pub(crate) fn list_checksum(numbers: &[i64]) -> u64 {
     let mut checksum = 0;
     for number in numbers {
@@ -78,13 +78,13 @@ pub(crate) fn list_checksum(numbers: &[i64]) -> u64 {
     checksum
 }
 
-/// The checksum of so many pairs in a SEQUENCE.
+/// The checksum of `count` pairs in a SEQUENCE.
 #[unsafe(no_mangle)]
 pub extern "C" fn yasna_read_pairs(alloc: Global, bytes: &[u8], count: usize, der: bool) -> u64 {
     of_parts(alloc, bytes, count, der, pairs)
 }
 
-// The checksum of so many pairs.
+// The checksum of `count` pairs.
 fn pairs(seq: &mut BERReaderSeq, count: usize) -> ASN1Result<u64> {
     let mut checksum = 0;
     for _ in 0..count {
@@ -98,13 +98,13 @@ fn pairs(seq: &mut BERReaderSeq, count: usize) -> ASN1Result<u64> {
     Ok(checksum)
 }
 
-/// The checksum of so many pairs in a SEQUENCE, whose parts may be omitted, after one that is.
+/// The checksum of `count` pairs in a SEQUENCE, whose parts are optional, after an omitted part.
 #[unsafe(no_mangle)]
 pub extern "C" fn yasna_read_options(alloc: Global, bytes: &[u8], count: usize, der: bool) -> u64 {
     of_parts(alloc, bytes, count, der, options)
 }
 
-// The checksum of so many such pairs.
+// The checksum of `count` pairs of optional parts.
 fn options(seq: &mut BERReaderSeq, count: usize) -> ASN1Result<u64> {
     let mut checksum = 0;
     for _ in 0..count {
@@ -119,13 +119,13 @@ fn options(seq: &mut BERReaderSeq, count: usize) -> ASN1Result<u64> {
     Ok(checksum)
 }
 
-/// The checksum of so many numbers in a SEQUENCE, each under an implicit tag inside an explicit one.
+/// The checksum of `count` numbers in a SEQUENCE, each with an implicit tag inside an explicit one.
 #[unsafe(no_mangle)]
 pub extern "C" fn yasna_read_tagged(alloc: Global, bytes: &[u8], count: usize, der: bool) -> u64 {
     of_parts(alloc, bytes, count, der, tagged)
 }
 
-// The checksum of so many such numbers.
+// The checksum of `count` numbers with an implicit tag inside an explicit one.
 fn tagged(seq: &mut BERReaderSeq, count: usize) -> ASN1Result<u64> {
     let mut checksum = 0;
     for _ in 0..count {
@@ -145,14 +145,14 @@ pub extern "C" fn yasna_read_big_integer(alloc: Global, bytes: &[u8], der: bool)
     length(read.map(|(contents, _)| contents))
 }
 
-/// The checksum of the number in so many SEQUENCEs, one in the other.
+/// The checksum of the number in `depth` SEQUENCEs, one in the other.
 #[unsafe(no_mangle)]
 pub extern "C" fn yasna_read_nested(alloc: Global, bytes: &[u8], depth: usize, der: bool) -> u64 {
     let number = parse_ber_general(alloc, bytes, mode(der), |reader| nested(reader, depth));
     number_of(number.map(|number| mixed(0, number)))
 }
 
-// The number in so many sequences.
+// The number in `depth` sequences, one in the other.
 fn nested(reader: BERReader, depth: usize) -> ASN1Result<i64> {
     match depth.checked_sub(1) {
         None => reader.read_i64(),
@@ -160,7 +160,7 @@ fn nested(reader: BERReader, depth: usize) -> ASN1Result<i64> {
     }
 }
 
-// The number in `depth` sequences, in the contents of another.
+// The number in `depth` sequences, in the contents of another sequence.
 fn nested_within(seq: &mut BERReaderSeq, depth: usize) -> ASN1Result<i64> {
     match depth.checked_sub(1) {
         None => seq.next().read_i64(),

@@ -34,13 +34,13 @@ pub extern "C" fn yasna_write_bytes_cer(alloc: Global, contents: &[u8]) -> u64 {
     length(construct_cer(alloc, |writer| writer.write_bytes(contents)))
 }
 
-/// The checksum of the lengths of so many UTF8Strings in a SEQUENCE.
+/// The checksum of the lengths of `count` UTF8Strings in a SEQUENCE.
 #[unsafe(no_mangle)]
 pub extern "C" fn yasna_read_texts(alloc: Global, bytes: &[u8], count: usize, der: bool) -> u64 {
     of_parts(alloc, bytes, count, der, texts)
 }
 
-// The checksum of the lengths of so many texts.
+// The checksum of the lengths of `count` texts.
 fn texts(seq: &mut BERReaderSeq, count: usize) -> ASN1Result<u64> {
     let mut checksum = 0;
     for _ in 0..count {
@@ -50,7 +50,7 @@ fn texts(seq: &mut BERReaderSeq, count: usize) -> ASN1Result<u64> {
     Ok(checksum)
 }
 
-/// The length of a SEQUENCE of this text, so many times; none where it isn't UTF-8.
+/// The length of a SEQUENCE of `count` times this text. A text that isn't UTF-8 is rejected.
 #[unsafe(no_mangle)]
 pub extern "C" fn yasna_write_texts(alloc: Global, text: &[u8], count: usize) -> u64 {
     let Ok(text) = from_utf8(text) else {
@@ -59,7 +59,7 @@ pub extern "C" fn yasna_write_texts(alloc: Global, text: &[u8], count: usize) ->
     of_written(alloc, text, count, write_texts)
 }
 
-// Writes a text so many times.
+// Writes a text `count` times.
 fn write_texts(seq: &mut DERWriterSeq, text: &str, count: usize) -> ASN1Result<()> {
     for _ in 0..count {
         seq.next().write_utf8string(text)?;
@@ -79,12 +79,12 @@ pub extern "C" fn yasna_read_bmp(alloc: Global, bytes: &[u8]) -> u64 {
     text_length(parse_der(alloc, bytes, |reader| reader.read_bmp_string()))
 }
 
-// The length that a call answers of a text that it read.
+// The length of the text that a call read.
 fn text_length(read: ASN1Result<String>) -> u64 {
     number_of(read.map(|text| text.len() as u64))
 }
 
-/// The length of this text as a BMPString; none where it isn't UTF-8.
+/// The length of this text as a BMPString. A text that isn't UTF-8 is rejected.
 #[unsafe(no_mangle)]
 pub extern "C" fn yasna_write_bmp(alloc: Global, text: &[u8]) -> u64 {
     let Ok(text) = from_utf8(text) else {

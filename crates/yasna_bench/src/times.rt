@@ -43,7 +43,7 @@ pub extern "C" fn yasna_parse_generalized_times(alloc: Global, texts: &[u8]) -> 
     checksum
 }
 
-/// The checksum of the lengths of a UTCTime's text, printed so many times.
+/// The checksum of the lengths of a UTCTime's text, printed `count` times.
 #[unsafe(no_mangle)]
 pub extern "C" fn yasna_print_utc_times(alloc: Global, text: &[u8], count: usize) -> u64 {
     let Some(time) = UTCTime::parse(text) else {
@@ -59,7 +59,7 @@ pub extern "C" fn yasna_print_utc_times(alloc: Global, text: &[u8], count: usize
     checksum
 }
 
-/// The checksum of the lengths of a GeneralizedTime's text, printed so many times.
+/// The checksum of the lengths of a GeneralizedTime's text, printed `count` times.
 #[unsafe(no_mangle)]
 pub extern "C" fn yasna_print_generalized_times(alloc: Global, text: &[u8], count: usize) -> u64 {
     let Ok(Some(time)) = GeneralizedTime::parse(alloc, text) else {
@@ -75,7 +75,7 @@ pub extern "C" fn yasna_print_generalized_times(alloc: Global, text: &[u8], coun
     checksum
 }
 
-/// The checksum of the seconds of so many UTCTimes in a SEQUENCE.
+/// The checksum of the seconds of `count` UTCTimes in a SEQUENCE.
 #[unsafe(no_mangle)]
 pub extern "C" fn yasna_read_utc_times(
     alloc: Global,
@@ -86,7 +86,7 @@ pub extern "C" fn yasna_read_utc_times(
     of_parts(alloc, bytes, count, der, utc_times)
 }
 
-// The checksum of so many UTCTimes.
+// The checksum of `count` UTCTimes.
 fn utc_times(seq: &mut BERReaderSeq, count: usize) -> ASN1Result<u64> {
     let mut checksum = 0;
     for _ in 0..count {
@@ -96,7 +96,7 @@ fn utc_times(seq: &mut BERReaderSeq, count: usize) -> ASN1Result<u64> {
     Ok(checksum)
 }
 
-/// The checksum of the seconds of so many GeneralizedTimes in a SEQUENCE.
+/// The checksum of the seconds of `count` GeneralizedTimes in a SEQUENCE.
 #[unsafe(no_mangle)]
 pub extern "C" fn yasna_read_generalized_times(
     alloc: Global,
@@ -107,7 +107,7 @@ pub extern "C" fn yasna_read_generalized_times(
     of_parts(alloc, bytes, count, der, generalized_times)
 }
 
-// The checksum of so many GeneralizedTimes.
+// The checksum of `count` GeneralizedTimes.
 fn generalized_times(seq: &mut BERReaderSeq, count: usize) -> ASN1Result<u64> {
     let mut checksum = 0;
     for _ in 0..count {
@@ -117,7 +117,7 @@ fn generalized_times(seq: &mut BERReaderSeq, count: usize) -> ASN1Result<u64> {
     Ok(checksum)
 }
 
-/// The length of a SEQUENCE of the UTCTime of this text, so many times.
+/// The length of a SEQUENCE of `count` times the UTCTime of this text.
 #[unsafe(no_mangle)]
 pub extern "C" fn yasna_write_utc_times(alloc: Global, text: &[u8], count: usize) -> u64 {
     let Some(time) = UTCTime::parse(text) else {
@@ -126,7 +126,7 @@ pub extern "C" fn yasna_write_utc_times(alloc: Global, text: &[u8], count: usize
     of_written(alloc, &time, count, write_utc_times)
 }
 
-// Writes a UTCTime so many times.
+// Writes a UTCTime `count` times.
 fn write_utc_times(seq: &mut DERWriterSeq, time: &UTCTime, count: usize) -> ASN1Result<()> {
     for _ in 0..count {
         seq.next().write_utctime(time)?;
@@ -134,7 +134,7 @@ fn write_utc_times(seq: &mut DERWriterSeq, time: &UTCTime, count: usize) -> ASN1
     Ok(())
 }
 
-/// The length of a SEQUENCE of the GeneralizedTime of this text, so many times.
+/// The length of a SEQUENCE of `count` times the GeneralizedTime of this text.
 #[unsafe(no_mangle)]
 pub extern "C" fn yasna_write_generalized_times(alloc: Global, text: &[u8], count: usize) -> u64 {
     let Ok(Some(time)) = GeneralizedTime::parse(alloc, text) else {
@@ -143,7 +143,7 @@ pub extern "C" fn yasna_write_generalized_times(alloc: Global, text: &[u8], coun
     of_written(alloc, &time, count, write_generalized_times)
 }
 
-// Writes a GeneralizedTime so many times.
+// Writes a GeneralizedTime `count` times.
 fn write_generalized_times(
     seq: &mut DERWriterSeq,
     time: &GeneralizedTime,

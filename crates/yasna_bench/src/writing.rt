@@ -4,7 +4,7 @@ use crate::length;
 use std::alloc::Global;
 use yasna::{ASN1Result, DERWriter, DERWriterSeq, construct_cer, construct_der, encode_der};
 
-/// The length of a SEQUENCE of what such a function writes of a value and a count.
+/// The length of a SEQUENCE of the parts that `write` writes, given a value and a count.
 #[inline(always)]
 pub(crate) fn of_written<T: Copy, F>(alloc: Global, value: T, count: usize, write: F) -> u64
 where
@@ -40,13 +40,13 @@ fn integers(seq: &mut DERWriterSeq, numbers: &[i64]) -> ASN1Result<()> {
     Ok(())
 }
 
-/// The length of so many pairs in a SEQUENCE, in as many SEQUENCEs more as `depth` says.
+/// The length of `count` pairs in a SEQUENCE, within `depth` more SEQUENCEs.
 #[unsafe(no_mangle)]
 pub extern "C" fn yasna_write_pairs(alloc: Global, count: u32, depth: usize) -> u64 {
     of_written(alloc, count, depth, pairs_within)
 }
 
-/// The length of so many pairs in a SEQUENCE, in CER.
+/// The length of `count` pairs in a SEQUENCE, in CER.
 #[unsafe(no_mangle)]
 pub extern "C" fn yasna_write_pairs_cer(alloc: Global, count: u32) -> u64 {
     length(construct_cer(
@@ -55,7 +55,7 @@ pub extern "C" fn yasna_write_pairs_cer(alloc: Global, count: u32) -> u64 {
     ))
 }
 
-// Writes so many sequences, one in the other, around the pairs.
+// Writes `depth` sequences, one in the other, around `count` pairs.
 fn pairs_within(seq: &mut DERWriterSeq, count: u32, depth: usize) -> ASN1Result<()> {
     match depth.checked_sub(1) {
         None => pairs(seq, count),
@@ -76,13 +76,13 @@ fn pairs(seq: &mut DERWriterSeq, count: u32) -> ASN1Result<()> {
     Ok(())
 }
 
-/// The length of an INTEGER with these contents in so many SEQUENCEs, one in the other.
+/// The length of an INTEGER with these contents in `depth` SEQUENCEs, one in the other.
 #[unsafe(no_mangle)]
 pub extern "C" fn yasna_write_nested(alloc: Global, contents: &[u8], depth: usize) -> u64 {
     length(construct_der(alloc, |writer| nested(writer, contents, depth)))
 }
 
-// Writes so many sequences around a number.
+// Writes `depth` sequences around a number, one in the other.
 fn nested(writer: DERWriter<'_>, contents: &[u8], depth: usize) -> ASN1Result<()> {
     match depth.checked_sub(1) {
         None => writer.write_bigint_bytes(contents, true),
@@ -90,7 +90,7 @@ fn nested(writer: DERWriter<'_>, contents: &[u8], depth: usize) -> ASN1Result<()
     }
 }
 
-// Writes `depth` sequences around a number, in the contents of another.
+// Writes `depth` sequences around a number, in the contents of another sequence.
 fn nested_within(seq: &mut DERWriterSeq, contents: &[u8], depth: usize) -> ASN1Result<()> {
     match depth.checked_sub(1) {
         None => seq.next().write_bigint_bytes(contents, true),
