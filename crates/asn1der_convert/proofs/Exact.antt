@@ -223,7 +223,7 @@ tree_exact (suc n) m v w b c r s x y e =
 pub trees_exact : (n : ℕ) (m : BERMode) (vs ws : List (Tree n)) (c : List ℕ) → Pieces (HasTree n m) vs c → Pieces (HasTree n m) ws c → vs ≡ ws
 trees_exact n m = members_exact (HasTree n m) (tree_tag n) n m (tree_exact n m) (tree_starts n m)
 
--- and where they end, but one
+-- contents up to their end have one list of trees, and one end
 pub trees_end : (n : ℕ) (m : BERMode) (vs ws : List (Tree n)) (c d x y : List ℕ) → Pieces (HasTree n m) vs c → Pieces (HasTree n m) ws d → AtEnd x → AtEnd y →
     c ++ x ≡ d ++ y → vs ≡ ws
 trees_end n m vs ws c d x y p q i j e =

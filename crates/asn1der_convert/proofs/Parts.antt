@@ -157,7 +157,7 @@ pub all_one_tag : (ps : List DerElement) (t : Tag) → AllByRecursion (λ (p : D
 all_one_tag [] t h = tt
 all_one_tag (p ∷ ps) t h = (h.0, all_one_tag ps t h.1)
 
--- and where they have one tag, it is that of each
+-- each of some parts has the tag t where all their tags are t
 pub one_tag_all : (ps : List DerElement) (t : Tag) → AllByRecursion (λ u. u ≡ t) (part_tags ps) → AllByRecursion (λ (p : DerElement). p.tag ≡ t) ps
 one_tag_all [] t h = tt
 one_tag_all (p ∷ ps) t h = (h.0, one_tag_all ps t h.1)
@@ -195,7 +195,7 @@ contents_cleared bytes prefix c last count u enough least unused split e =
     let same : 8 * length bytes - count ≡ u = omega arith in
     e ∙ sym (rw same (ap (λ zs. u ∷ zs) (ap (padded u) split ∙ padded_last u prefix last)))
 
--- and of one without bytes
+-- the contents of a BIT STRING without bytes
 pub contents_empty : (bytes c : List ℕ) (count u : ℕ) → count ≤ 8 * length bytes → u ≡ (8 - count % 8) % 8 → length bytes ≡ 0 → c ≡ u ∷ [] →
     c ≡ bits_contents (record { bytes = bytes; count = count })
 contents_empty bytes c count u enough unused n e =

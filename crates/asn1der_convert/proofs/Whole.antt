@@ -64,7 +64,7 @@ encodes_same s d x short =
 pub encodes_raw : (s d : List ℕ) → EncodesTheSame s d → IsJoining (IsRaw 101 Der) d
 encodes_raw s d x = pieces_raw (IsRaw 101 Der) (HasTree 101 Der) (tree_raw 101) x.new d x.written
 
--- and converting it again changes nothing
+-- converting elements in DER again changes nothing
 pub converts_again : (s d : List ℕ) → Converts s d → length d < 2 ^ 64 → Converts d d
 converts_again s d x short =
     let y = written s d x short in

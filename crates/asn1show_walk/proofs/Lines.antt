@@ -66,7 +66,7 @@ count_of h b c r s e f = omega (arith, f, ap length e ∙ length-append b r)
 longer : (i y : List ℕ) → 1 ≤ length i → 1 ≤ length (i ++ y)
 longer i y h = omega (arith, h, length-append i y)
 
--- an element whose contents are counted is listed by its line and those of what is in it
+-- an element of definite length is listed by its line and the lines of the elements in it
 pub counted_reported : (m : BERMode) (n k : ℕ) (w : Bool) (line : Line) (s c r : List ℕ) (below : List Line) → k + 1 ≡ n → line.depth + n ≡ 101 →
     line.in_string ≡ w → (line.tag ≡ end_tag → ⊥) → OpensAt m line.tag line.bit s c (definite_end r) → line.header + (length c + length r) ≡ length s →
     line.size ≡ Some (length c) → Below (λ v. ListsBytes k m v) w line.tag line.bit (line.offset + line.header) c below →
@@ -101,7 +101,7 @@ below_of Ber k w t Primitive o c ls x y = absurd x
 below_of Der k w t Primitive o c ls x y = absurd x
 below_of Cer k w t Primitive o c ls x y = absurd x
 
--- and one whose contents aren't, where two zeros end them
+-- an element of indefinite length is listed by its line and the lines of the elements in it, where two zeros end them
 pub uncounted_reported : (m : BERMode) (n k : ℕ) (w : Bool) (line : Line) (s d c r : List ℕ) (below : List Line) → k + 1 ≡ n → line.depth + n ≡ 101 →
     line.in_string ≡ w → (line.tag ≡ end_tag → ⊥) → OpensAt m line.tag line.bit s d indefinite_end → line.header + length d ≡ length s →
     line.size ≡ None → d ≡ c ++ (0 ∷ 0 ∷ r) → ListsBytes k m w (line.offset + line.header) c below → Reported n m w line.offset s r (line ∷ below)

@@ -14,13 +14,13 @@ use Rattle.asn1show_walk.specs.declared.listing.place.Place.{Place}
 use Rattle.asn1show_walk.specs.declared.listing.place.Context.{Context}
 use Rattle.asn1show_walk.proofs.WellFormed.{formed_raw}
 
--- one after which nothing is left is all there is
+-- an element after which nothing is left is the whole input
 pub one_before_nothing : (context : Context) (p q : Place) → ElementBefore context p q → length q.left.now ≡ 0 → IsOne context.levels context.mode p.left.now
 one_before_nothing context p q x e =
     let f : p.left.now ≡ x.1.prefix = x.1.joined ∙ ap (λ z. x.1.prefix ++ z) (empty_is q.left.now e) ∙ append-nil x.1.prefix in
     (x.0, subst (λ z. IsWellFormed context.levels context.mode x.0 z) (sym f) x.1.member)
 
--- and after all there is nothing is left
+-- nothing is left after an element that is the whole input
 pub nothing_after_one : (context : Context) (p q : Place) → ElementBefore context p q → IsOne context.levels context.mode p.left.now → length q.left.now ≡ 0
 nothing_after_one context p q x y =
     let n = context.levels in

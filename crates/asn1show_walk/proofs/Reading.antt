@@ -70,7 +70,7 @@ pub if_ok : {A E : Type 0} (r : Result A E) (P Q : A → Type 0) → ((x : A) �
 if_ok (Ok x) P Q f p = f x p
 if_ok (Err e) P Q f p = tt
 
--- the element whose contents are counted was visited, and what is in it
+-- an element of definite length was visited, and the elements in it
 pub element_counted : (context : Context) (p q : Place) (o : OpenedItem) (a b d : Option (List Line)) (r : List ℕ) → OpensItem context p o →
     end_found o.end ≡ definite_end r → Visits a b (line_of o.item ∷ []) → BelowVisited context o.item b d → q.left.now ≡ r →
     q.offset + length r ≡ p.offset + length p.left.now → ElementVisited context p q a d
@@ -93,7 +93,7 @@ element_counted context p q o a b d r x e h y i j =
       lists = subst (λ z. ListsOne context.levels context.mode context.in_string z t.bytes (line_of o.item ∷ y.lines)) x.offset t.one;
     }
 
--- and the one whose contents aren't
+-- an element of indefinite length was visited, and the elements in it
 pub element_uncounted : (context inner : Context) (p i q : Place) (o : OpenedItem) (a b d : Option (List Line)) → OpensItem context p o →
     end_found o.end ≡ indefinite_end → Visits a b (line_of o.item ∷ []) → inner.mode ≡ context.mode → inner.levels + 1 ≡ context.levels →
     inner.in_string ≡ context.in_string → i.left.now ≡ o.item.contents.now → i.offset ≡ o.item.offset + o.item.header →
@@ -146,7 +146,7 @@ string_lists : (I : ℕ → List ℕ → List Line → Type 0) (i : Item) (p : P
 string_lists I i p ls (in_octets t c o) x = octets t (subst (λ z. I z i.contents.now ls) o (subst (λ z. I p.offset z ls) c x))
 string_lists I i p ls (in_bits t c o) x = bits p.left.now t c (subst (λ z. I z p.left.now ls) o x)
 
--- and those in a string
+-- the elements in a string were visited
 pub string_reported : (context inner : Context) (i : Item) (p q : Place) (a b : Option (List Line)) → i.bit ≡ Primitive → inner.mode ≡ context.mode →
     inner.levels + 1 ≡ context.levels → inner.in_string ≡ true → IsInString i p → ContentsVisited inner p true q a b → BelowVisited context i a b
 string_reported context inner i p q a b e f g w s y =

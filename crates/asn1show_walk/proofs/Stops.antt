@@ -31,7 +31,7 @@ ends_at_end false s x = subst AtEnd (sym x.1) (zeros_at_end (0 ∷ x.0))
 pub joining_closes : (n : ℕ) (m : BERMode) (s : List ℕ) → IsJoining (IsWellFormed n m) s → ClosesWell n m true s
 joining_closes n m s x = record { values = x.0; prefix = s; rest = []; pieces = x.1; more = tt; joined = sym (append-nil s); deep = refl }
 
--- where an element begins, counted contents of a constructed one are those after its header
+-- contents of definite length after the header of a constructed element are elements, where one begins there
 pub counted_inside : {R : RawValue → List ℕ → Type 0} (m : BERMode) (t : Tag) (p : PCBit) (s c z : List ℕ) (v : RawValue) (b r : List ℕ) →
     OpensAt m t p s c (definite_end z) → WellFramed R m v b → s ≡ b ++ r → p ≡ Constructed → IsJoining R c
 counted_inside {R} m t p s c z v b r x (with_length d j) f e =
@@ -42,7 +42,7 @@ counted_inside m t p s c z v b r x (with_zeros y d j g) f e =
     let i = counted_header m m t v.tag p v.bit (length c) x.l y b (c ++ z) r x.spelled (indefinite d) (sym x.joined ∙ f) in
     absurd (definite_not_indefinite m m v.tag v.tag v.bit v.bit y y b b r r i.element d refl)
 
--- and those that two zeros end
+-- contents of indefinite length after the header of an element are elements and two zeros, where one begins there
 pub uncounted_inside : {R : RawValue → List ℕ → Type 0} (m : BERMode) (t : Tag) (p : PCBit) (s c : List ℕ) (v : RawValue) (b r : List ℕ) →
     OpensAt m t p s c indefinite_end → WellFramed R m v b → s ≡ b ++ r → (d : List ℕ) × IsJoining R d × (c ≡ d ++ (0 ∷ 0 ∷ r))
 uncounted_inside m t p s c v b r x (with_length d j) f =
@@ -133,7 +133,7 @@ one_once (suc n) m j k s a b x y =
     element_once (StopsAfter (IsWellFormed n m) (StopsOne n m j)) (StopsAfter (IsWellFormed n m) (StopsOne n m k)) m (suc n) j k s a b (omega arith)
     (λ w c d e. after_once n m (StopsOne n m j) (StopsOne n m k) (one_none n m j) (one_none n m k) (one_once n m j k) w c d e) x y
 
--- and so do elements one after the other
+-- elements one after the other stop at one place
 pub stops_once : (n : ℕ) (m : BERMode) (j k : ASN1ErrorKind) (w : Bool) (s : List ℕ) (a b : ℕ) → StopsIn n m j w s a → StopsIn n m k w s b → a ≡ b
 stops_once n m j k w s a b x y =
     after_once n m (StopsOne n m j) (StopsOne n m k) (one_none n m j) (one_none n m k) (one_once n m j k) w s a b x y

@@ -22,12 +22,12 @@ pub formed_zero : (m : BERMode) (v : RawValue) (b : List ℕ) → IsWellFormed z
 unfolding IsWellFormed
 formed_zero m v b x = x
 
--- a level more holds what is over the levels below
+-- an element over the levels below is well formed with one more level
 pub formed_of : (n : ℕ) (m : BERMode) (v : RawValue) (b : List ℕ) → WellFormedOver (IsWellFormed n m) m v b → IsWellFormed (suc n) m v b
 unfolding IsWellFormed
 formed_of n m v b x = x
 
--- and nothing else
+-- a well-formed element with one more level is over the levels below
 pub formed_into : (n : ℕ) (m : BERMode) (v : RawValue) (b : List ℕ) → IsWellFormed (suc n) m v b → WellFormedOver (IsWellFormed n m) m v b
 unfolding IsWellFormed
 formed_into n m v b x = x
@@ -52,12 +52,12 @@ over_raw : {R S : RawValue → List ℕ → Type 0} (m : BERMode) → ((v : RawV
     WellFormedOver R m v b → RawOver S m v b
 over_raw m f v b x = record { not_end = x.not_end; in_range = x.in_range; in_bytes = x.in_bytes; framed = framed_raw m f v b x.framed }
 
--- such an element is a raw element
+-- a well-formed element is a raw element
 pub formed_raw : (n : ℕ) (m : BERMode) (v : RawValue) (b : List ℕ) → IsWellFormed n m v b → IsRaw n m v b
 formed_raw zero m v b x = absurd (formed_zero m v b x)
 formed_raw (suc n) m v b x = raw_of n m v b (over_raw m (formed_raw n m) v b (formed_into n m v b x))
 
--- and begins with an identifier, which isn't that of the end of contents
+-- a well-formed element begins with an identifier, which isn't that of the end of contents
 pub formed_starts : (n : ℕ) (m : BERMode) (v : RawValue) (b : List ℕ) → IsWellFormed n m v b → StartsElement b
 formed_starts n m v b x = raw_starts n m v b (formed_raw n m v b x)
 
@@ -78,7 +78,7 @@ within_joined : (R : RawValue → List ℕ → Type 0) (I : Bool → ℕ → Lis
     (c : List ℕ) (ls : List Line) → Below I w t bit o c ls → bit ≡ Constructed → IsJoining R c
 within_joined R I f w t bit o c ls x e = f w o c ls (subst (λ p. Below I w t p o c ls) e x)
 
--- and only they have no length
+-- only constructed elements have an indefinite length
 pub takes_constructed : (m : BERMode) (bit : PCBit) → TakesIndefinite m bit → bit ≡ Constructed
 takes_constructed m Constructed l = refl
 takes_constructed Ber Primitive l = absurd l
@@ -117,11 +117,11 @@ one_formed (suc n) m w o b ls x =
     (λ v p c ks z. count_formed (ListsOne n m v) (IsWellFormed n m) (one_formed n m v) z.0 p c ks z.1) m (suc n) w o b ls x x.header in
     (y.0, formed_of n m y.0 b y.1)
 
--- elements that lines list are such elements, one after the other
+-- elements that lines list are well-formed elements, one after the other
 pub lists_formed : (n : ℕ) (m : BERMode) (w : Bool) (o : ℕ) (s : List ℕ) (ls : List Line) → ListsBytes n m w o s ls → IsJoining (IsWellFormed n m) s
 lists_formed n m w o s ls x = count_formed (ListsOne n m w) (IsWellFormed n m) (one_formed n m w) x.0 o s ls x.1
 
--- and raw elements
+-- well-formed elements, one after the other, are raw elements
 pub joining_raw : (n : ℕ) (m : BERMode) (s : List ℕ) → IsJoining (IsWellFormed n m) s → IsJoining (IsRaw n m) s
 joining_raw n m s x = joining_wider (formed_raw n m) s x
 
@@ -143,11 +143,11 @@ over_formed : {R S : RawValue → List ℕ → Type 0} (m : BERMode) → (m ≡ 
     (b : List ℕ) → RawOver R m v b → WellFormedOver S m v b
 over_formed m n f v b x = record { not_end = x.not_end; in_range = x.in_range; in_bytes = x.in_bytes; framed = framed_formed m n f v b x.framed }
 
--- so it is one down to the primitive ones
+-- a raw element in DER and CER is well formed
 raw_formed : (n : ℕ) (m : BERMode) → (m ≡ Ber → ⊥) → (v : RawValue) (b : List ℕ) → IsRaw n m v b → IsWellFormed n m v b
 raw_formed zero m e v b x = absurd (raw_zero m v b x)
 raw_formed (suc n) m e v b x = formed_of n m v b (over_formed m e (raw_formed n m e) v b (raw_into n m v b x))
 
--- and where there are no such elements there are no raw ones
+-- where there are no well-formed elements in DER and CER, there are no raw ones
 pub none_raw : (n : ℕ) (m : BERMode) (s : List ℕ) → (AreElements n m s → ⊥) → (m ≡ Ber → ⊥) → IsJoining (IsRaw n m) s → 1 ≤ length s → ⊥
 none_raw n m s none e x l = none (record { joining = joining_wider (raw_formed n m e) s x; some = l })

@@ -72,7 +72,7 @@ pub leaf_by : {A : Type 0} (B : TaggedGrammar A) (k : ℕ) → (k ≡ 0 → ⊥)
     IsDecoder false (λ m n v b. B n m (universal k) v b) (Any (λ m n v b. B n m (universal k) v b)) (Reads B NoLevel NeverAllocates (universal k))
 leaf_by B k h = record { decodes = λ s r s' fresh x. leaf_decodes B k h s r s' fresh.1 x fresh.0 }
 
--- and so does a read of a string, whose segments may be elements, where view says what is seen of a value
+-- a read of a string, whose segments may be elements, decodes; view is the model of a value
 pub string_by : {V A : Type 0} (B : TaggedGrammar A) (view : V → A) (k : ℕ) → (k ≡ 0 → ⊥) →
     IsDecoder true (λ m n v b. B n m (universal k) (view v) b) (Any (λ m n v b. B n m (universal k) v b))
     (ReadsSeen B view IsDeepOctets MayAllocate (universal k))
@@ -81,7 +81,7 @@ string_by B view k h = record {
       allocating_decodes B view IsDeepOctets k h (λ n m z. deep_begins octets_segmentation n m (universal k) z) s r s' fresh.1 x fresh.0;
 }
 
--- and a read of a BIT STRING
+-- a read of a BIT STRING decodes
 pub bits_by : IsDecoder true (λ m n v b. IsBits n m bits_tag (bits_in v) b) (Any (λ m n v b. IsBits n m bits_tag v b))
     (ReadsSeen IsBits bits_in IsDeepBits MayAllocate bits_tag)
 bits_by = record {
@@ -89,7 +89,7 @@ bits_by = record {
       allocating_decodes IsBits bits_in IsDeepBits 3 (λ e. omega arith) (λ n m z. deep_begins bits_segmentation n m bits_tag z) s r s' fresh.1 x fresh.0;
 }
 
--- and a read of an element of any tag, of which B says what is copied
+-- a read of an element of any tag, whose copy B describes, decodes
 pub raw_by : {V A : Type 0} (B : ℕ → BERMode → A → List ℕ → Type 0) (view : V → A) →
     IsDecoder true (λ m n v b. B n m (view v) b) (Any (λ m n v b. B n m v b)) (ReadsRaw B view)
 raw_by B view = record { decodes = λ s r s' fresh x. raw_decodes B view s fresh r s' x }
@@ -185,7 +185,7 @@ pub set_of_by : {F A : Type 0} {g : Mut F (MutBor Reading × Unit {0}) (Result A
 set_of_by {g} {f} {N} {s} {r} {s'} laws value fresh h obeys =
     (set_of_by_tag (CalledAtMut g) f set_tag (not_end 17 (λ e. omega arith)) laws value (by_call N obeys)).decodes s r s' fresh h
 
--- and in no order
+-- a SET OF whose closure reads one element a turn, in no order
 pub any_set_of_by : {F A : Type 0} {g : Mut F (MutBor Reading × Unit {0}) (Result A ASN1Error × (MutBor Reading × Unit {0}))} {f : F}
     {E : A → A → Type 0} {may_allocate : Bool} {B : Grammar A} {S : Members}
     {N : Does A} {s : Reading} {r : Result (Vec A Global) ASN1Error} {s' : Reading} → IsCoding E B S →

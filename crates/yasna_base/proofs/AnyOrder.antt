@@ -137,7 +137,7 @@ pub set_of_same : {A : Type 0} {E : A → A → Type 0} {B : Grammar A} {S : Mem
     IsCoding (SameSetOf E) (IsSetOf B t) (AnySetOf S t)
 set_of_same {E} t not_end x = same_as (SameSetOf E) (set_is_same x.meaning.equal) each_same_set (set_of t not_end x)
 
--- and so does one in some order
+-- a SET OF in some order satisfies the laws of reading where its lists are equal in any order
 pub any_set_of : {A : Type 0} {E : A → A → Type 0} {B : Grammar A} {S : Members} (t : Tag) → (t ≡ end_tag → ⊥) → IsCoding E B S →
     IsCoding (SameSetOf E) (InSomeOrder (IsSetOf B t)) (AnySetOf S t)
 any_set_of t not_end x = in_some_order x.meaning.equal (set_of t not_end x)
@@ -222,7 +222,7 @@ any_set_of_written {B} {encoding} {depth} {Can} t range x =
       );
     }
 
--- and so does a type whose values represent lists
+-- a type whose values represent lists in some order satisfies the laws of writing
 pub set_written : {U A : Type 0} {E : A → A → Type 0} {B : Grammar A} {encoding : Encoding A} {depth : Depth A} {Can : A → Type 0} (f : U → List A) →
     IsWritten E B encoding depth Can →
     IsWritten (λ v w. SameSetOf E (f v) (f w)) (λ m n v b. InSomeOrder (IsSetOf B set_tag) m n (f v) b)
@@ -236,7 +236,7 @@ pub sorted_encoding_made : {A : Type 0} {E : A → A → Type 0} {B : Grammar A}
     MakeElement SetOfContents m t parts (sorted_set_of_encoding encoding t m vs)
 sorted_encoding_made r x t range m vs parts = (set_of_written r x t range).made m vs parts
 
--- on one level a type that satisfies the laws of a canonical mode alone has encodings
+-- on one level a type that satisfies the laws of a canonical mode has encodings
 on_level : {A : Type 0} {E : A → A → Type 0} {B : Grammar A} {encoding : Encoding A} {Fits : Fitting A} {Can : A → Type 0} →
     IsExact E B encoding Fits Can → (k : ℕ) → HasEncoding (λ m n. B m k) encoding (λ m v. 0) (λ m. Fits m k)
 on_level x k = record {
@@ -301,7 +301,7 @@ module _ {A : Type 0} {E : A → A → Type 0} {B : Grammar A} {encoding : Encod
   exact_fits m vs ws e zero fits = fits
   exact_fits m vs ws e (suc n) fits = all_same (Fits m n) (λ v w d. (x.same m v w d).2 n) vs ws e fits
 
-  -- a SET OF in some order satisfies the laws of a canonical mode alone, where its elements do
+  -- a SET OF in some order satisfies the laws of a canonical mode, where its elements do
   pub any_set_of_exact : IsExact (SameSetOf E) (InSomeOrder (IsSetOf B t)) (sorted_set_of_encoding encoding t) (enclosed_fits (elements_fit Fits))
       (λ vs. AllByRecursion Can vs)
   any_set_of_exact = record {

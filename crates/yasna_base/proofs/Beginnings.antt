@@ -105,7 +105,7 @@ unambiguous_before {ts} {us} x y none m n k b c r s i p q e = by_rest (y.at m k 
 pub begins_by_tag : {S : Members} (t : Tag) → ((m : BERMode) (n : ℕ) (b : List ℕ) → S m n b → BeginsWithTag t b) → BeginsBy (t ∷ []) S
 begins_by_tag t f = record { at = λ m n b p. inl (f m n b p) }
 
--- so do primitive elements
+-- primitive elements begin by their tag
 pub primitive_by_tag : {A : Type 0} (W : BERMode → A → List ℕ → Type 0) (t : Tag) → BeginsBy (t ∷ []) (Any (λ m n v b. Primitively W n m t v b))
 primitive_by_tag W t = begins_by_tag t (primitively_begins W t)
 
@@ -113,11 +113,11 @@ primitive_by_tag W t = begins_by_tag t (primitively_begins W t)
 pub segmented_by_tag : {A : Type 0} (k : Segmentation A) (t : Tag) → BeginsBy (t ∷ []) (Any (λ m n v b. IsSegmented k n m t v b))
 segmented_by_tag k t = begins_by_tag t (λ m n b p. segmented_begins k n m t p.0 b p.1)
 
--- strings of text
+-- strings of text begin by their tag
 pub string_by_tag : {A : Type 0} (K : BERMode → A → List ℕ → Type 0) (t : Tag) → BeginsBy (t ∷ []) (Any (λ m n v b. IsStringOf K n m t v b))
 string_by_tag K t = begins_by_tag t (λ m n b p. segmented_begins octets_segmentation n m t p.1.octets b p.1.string)
 
--- and elements around contents
+-- elements around contents begin by their tag
 pub enclosed_by_tag : (S : Members) (t : Tag) → BeginsBy (t ∷ []) (AnyEnclosed S t)
 enclosed_by_tag S t = begins_by_tag t (enclosed_begins S t)
 
@@ -175,7 +175,7 @@ pub part_with_tags : {A V : Type 0} {ts us : List Tag} {E : A → A → Type 0} 
     CodingByTags ts E B S → ContentsByTags us F C Q → ContentsByTags ts (SamePart E F) (PartOf B C) (AnyPart S Q)
 part_with_tags {Q} x y = record { coding = part_before x.coding y.coding; begins = part_by_tags Q x.begins }
 
--- a part that may be omitted keeps them where no tag of it is after it
+-- an optional part satisfies the laws of contents where none of its tags is after it
 pub option_with_tags : {A V : Type 0} {ts us : List Tag} {E : A → A → Type 0} {F : V → V → Type 0} {B : Grammar A} {C : Grammar V} {S Q : Members} →
     CodingByTags ts E B S → ContentsByTags us F C Q → share_none ts (end_tag ∷ us) ≡ true →
     ContentsByTags (ts ++ us) (SamePart (SameOption E) F) (PartOf (OptionOf B) C) (AnyPart (AnyOption S) Q)
@@ -184,7 +184,7 @@ option_with_tags x y none = record {
   begins = left_out_by_tags x.begins y.begins;
 }
 
--- and so does a part with a default
+-- a part with a default satisfies the laws of contents where none of its tags is after it
 pub default_with_tags : {A V : Type 0} {ts us : List Tag} {E : A → A → Type 0} {F : V → V → Type 0} {B : Grammar A} {C : Grammar V} {S Q : Members}
     (is : A → Bool) (d : A) → DetectsDefault E is d → CodingByTags ts E B S → ContentsByTags us F C Q → share_none ts (end_tag ∷ us) ≡ true →
     ContentsByTags (ts ++ us) (SamePart E F) (PartOf (DefaultOf is B) C) (AnyPart (AnyOption S) Q)

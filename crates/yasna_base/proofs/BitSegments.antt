@@ -36,7 +36,7 @@ each_non_empty R f [] (b ∷ bs) p = absurd p
 each_non_empty R f (v ∷ vs) [] p = absurd p
 each_non_empty R f (v ∷ vs) (b ∷ bs) p = (f v b p.0, each_non_empty R f vs bs p.1)
 
--- so is any bit string
+-- the bits of any bit string are all of its bytes but fewer than eight
 pub bits_non_empty : (n : ℕ) (m : BERMode) (t : Tag) (v : BitString) (b : List ℕ) → IsBits n m t v b → IsNonEmpty v
 bits_non_empty zero m t v b x = absurd (segmented_zero bits_segmentation m t v b x)
 bits_non_empty (suc n) m t v b x = elim (segmented_into bits_segmentation n m t v b x) [

@@ -107,7 +107,7 @@ padded_zeros Ber u d c h = absurd c
 padded_zeros Der u d c h = h
 padded_zeros Cer u d c h = h
 
--- the contents of a canonical string say it
+-- the contents of a canonical string encode it
 pub canonical_means : (m : BERMode) (v : BitString) → AreCanonicalBits v → AreTheBits m v (bits_contents v)
 canonical_means m v h = record {
   unused = unused_bits v;
@@ -119,11 +119,11 @@ canonical_means m v h = record {
   in_range = h.can.in_range;
 }
 
--- they are bytes
+-- the contents of a canonical string are bytes
 pub contents_bytes : (v : BitString) → AreCanonicalBits v → IsBytes (bits_contents v)
 contents_bytes v h = let l = h.can.least in (omega arith, padded_bytes (unused_bits v) v.bytes h.can.in_bytes)
 
--- and a canonical mode reads nothing else
+-- contents that a canonical mode reads are those of a canonical string
 pub canonical_one : (m : BERMode) (v : BitString) (c : List ℕ) → IsCanonicalMode m → IsBytes c → AreTheBits m v c → (c ≡ bits_contents v) × AreCanonicalBits v
 canonical_one m v c h bytes x =
     let u : x.unused ≡ unused_bits v = let i = x.counted in omega arith in
@@ -160,7 +160,7 @@ cleared_canonical v h =
       zeros = subst (λ u. IsPadded Der u (cleared v).bytes) (sym (cleared_unused v)) (padded_ends (unused_bits v) v.bytes);
     }
 
--- and is written like it
+-- a string is written as it is with its unused bits cleared
 pub cleared_contents : (v : BitString) → CanBits v → bits_contents v ≡ bits_contents (cleared v)
 cleared_contents v h =
     let same = padded_same (unused_bits (cleared v)) (cleared v).bytes (cleared_canonical v h).zeros in
@@ -186,11 +186,11 @@ all_prefix : (vs ws : List BitString) → AllByRecursion IsFull (vs ++ ws) → A
 all_prefix [] ws h = tt
 all_prefix (v ∷ vs) ws h = (h.0, all_prefix vs ws h.1)
 
--- where a segment may follow strings, it may follow those in front
+-- where a segment may follow strings, it may follow the first of them
 pub follow_prefix : (vs ws : List BitString) → MayFollow (vs ++ ws) → MayFollow vs
 follow_prefix vs ws x = record { full = all_prefix vs ws x.full; in_range = omega (arith, all_bits_append vs ws, x.in_range) }
 
--- and a segment that is in a string may follow those before it
+-- a segment of a string may follow the segments before it
 pub joined_follow : (m : BERMode) (vs ws : List BitString) (w v : BitString) → AreBitsJoined m (vs ++ (w ∷ ws)) v → MayFollow vs
 joined_follow m vs ws w v x = record {
   full = full_prefix vs ws w x.full;

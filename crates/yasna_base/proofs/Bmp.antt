@@ -235,7 +235,7 @@ pub paired_coding : (t : Tag) → (t ≡ end_tag → ⊥) →
     IsCoding (λ v w. v ≡ w) (λ m n v b. IsStringOf IsPairedBmp n m t v b) (Any (λ m n v b. IsStringOf IsPairedBmp n m t v b))
 paired_coding t not_end = string_coding IsPairedBmp (λ m v w c x y. some_same v w (x.spelled ∙ sym y.spelled)) t not_end
 
--- and then those of writing
+-- where each surrogate has its partner, a BMPString satisfies the laws of writing
 pub paired_written : (t : Tag) → t.tag_number < 2 ^ 64 →
     IsWritten (λ v w. v ≡ w) (λ m n v b. IsStringOf IsPairedBmp n m t v b) (bmp_encoding t) bmp_depth (IsTextIn InUtf8)
 paired_written t range = string_written IsPairedBmp (IsTextIn InUtf8) bmp_octets t range

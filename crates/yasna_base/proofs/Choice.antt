@@ -12,7 +12,7 @@ use Rattle.yasna_base.proofs.Identifier.{begins_once, begins_with}
 abbrev pub AreUnambiguous : Members → Members → Type 0
 AreUnambiguous S Q = (m : BERMode) (n k : ℕ) (b c r s : List ℕ) → S m n b → Q m k c → b ++ r ≡ c ++ s → ⊥
 
--- they don't where they begin with two tags
+-- members of S and of Q never begin the same bytes where they begin with two tags
 pub unambiguous_by_tags : {S Q : Members} (t u : Tag) → (t ≡ u → ⊥) → ((m : BERMode) (n : ℕ) (b : List ℕ) → S m n b → BeginsWithTag t b) →
     ((m : BERMode) (n : ℕ) (b : List ℕ) → Q m n b → BeginsWithTag u b) → AreUnambiguous S Q
 unambiguous_by_tags t u other x y m n k b c r s p q e =

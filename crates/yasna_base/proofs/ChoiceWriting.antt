@@ -71,6 +71,6 @@ module _ {A V : Type 0} {E : A → A → Type 0} {F : V → V → Type 0} {B : G
   exact_alike m (inr v) (inl w) e = absurd e
   exact_alike m (inr v) (inr w) e = y.same m v w e
 
-  -- and those of a canonical mode alone
+  -- a CHOICE of two types satisfies the laws of a canonical mode
   pub choice_exact : IsExact (SameEither E F) (EitherOf B C) (either_encoding f g) (either_fits P Q) (either_can c d)
   choice_exact = record { in_bytes = exact_bytes; holds = exact_holds; only = exact_only; can = exact_can; same = exact_alike }

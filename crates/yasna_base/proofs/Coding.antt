@@ -32,7 +32,7 @@ primitively W t not_end one = record {
   prefix_free = λ m n k b c r s x y e. (primitive_exact m m t t Primitive x.1.contents y.1.contents b c r s x.1.element y.1.element e).bytes;
 }
 
--- and begins with its tag
+-- a type of one primitive element begins with its tag
 pub primitively_begins : {A : Type 0} (W : BERMode → A → List ℕ → Type 0) (t : Tag) (m : BERMode) (n : ℕ) (b : List ℕ) →
     Any (λ m n v b. Primitively W n m t v b) m n b → BeginsWithTag t b
 primitively_begins W t m n b x = framed_begins m t Primitive x.1.contents b x.1.element.framed

@@ -123,7 +123,7 @@ module _ {A : Type 0} {E : A → A → Type 0} {B : Grammar A} {encoding : Encod
 
 module _ {A : Type 0} {E : A → A → Type 0} {B : Grammar A} {encoding : Encoding A} {Fits : Fitting A}
     {Can : A → Type 0} (is : A → Bool) (alike : (v w : A) → E v w → is v ≡ is w) (x : IsExact E B encoding Fits Can) where
-  -- and those of a canonical mode alone
+  -- a part with a default satisfies the laws of a canonical mode
   pub default_exact : IsExact E (DefaultOf is B) (default_encoding is encoding) (default_fits is Fits) (default_can is Can)
   default_exact = record {
     in_bytes = λ m n v fits. bytes_by is encoding m v (λ e. x.in_bytes m n v (fits e));

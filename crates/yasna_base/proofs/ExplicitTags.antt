@@ -26,17 +26,17 @@ contexts_differ j k h e = h (ap (λ (t : Tag). t.tag_number) e)
 pub one_contents : {A : Type 0} {E : A → A → Type 0} {B : Grammar A} {S : Members} → IsCoding E B S → IsContentsCoding E B S
 one_contents x = record { meaning = x.meaning; ends = λ m n k b c r s i j. x.prefix_free m n k b c r s }
 
--- a type under an EXPLICIT tag satisfies the laws of reading
+-- a type with an EXPLICIT tag satisfies the laws of reading
 pub tagged : {A : Type 0} {E : A → A → Type 0} {B : Grammar A} {S : Members} (t : Tag) → (t ≡ end_tag → ⊥) →
     IsCoding E B S → IsCoding E (Enclosed B t) (AnyEnclosed S t)
 tagged t not_end x = enclosed t not_end (one_contents x)
 
--- and those of writing
+-- a type with an EXPLICIT tag satisfies the laws of writing
 pub tagged_written : {A : Type 0} {E : A → A → Type 0} {B : Grammar A} {encoding : Encoding A} {depth : Depth A} {Can : A → Type 0} (t : Tag) →
     t.tag_number < 2 ^ 64 → IsWritten E B encoding depth Can → IsWritten E (Enclosed B t) (enclosed_encoding encoding t) (enclosed_depth depth) Can
 tagged_written t range x = enclosed_written t range x
 
--- and those of a canonical mode alone
+-- a type with an EXPLICIT tag satisfies the laws of a canonical mode
 pub tagged_exact : {A : Type 0} {E : A → A → Type 0} {B : Grammar A} {encoding : Encoding A} {Fits : Fitting A} {Can : A → Type 0} (t : Tag) →
     t.tag_number < 2 ^ 64 → IsExact E B encoding Fits Can → IsExact E (Enclosed B t) (enclosed_encoding encoding t) (enclosed_fits Fits) Can
 tagged_exact t range x = enclosed_exact t range x

@@ -91,7 +91,7 @@ begins_once t u s (begins p r e) (begins q v f) = (identifier_exact t u p q r v 
 pub begins_some : (t : Tag) (s : List ℕ) → BeginsWithTag t s → 1 ≤ length s
 begins_some t s (begins p r e) = omega (arith, identifier_some t p, ap length e, length-append (identifier t p) r)
 
--- and so do bytes that go on
+-- bytes that begin with a tag do so whatever bytes follow
 pub begins_with : (t : Tag) (s r : List ℕ) → BeginsWithTag t s → BeginsWithTag t (s ++ r)
 begins_with t s r (begins p x e) = begins p (x ++ r) (ap (λ z. z ++ r) e ∙ append_assoc (identifier t p) x r)
 

@@ -167,17 +167,17 @@ negative_integer n (x ∷ xs) u =
       number = negative_is (255 - x) (turned xs) (bytes_turned (x ∷ xs)) (omega (arith, u.0)) ∙ ap negsuc (omega (arith, e, l, u.3));
     }
 
--- The minimal bytes of a number are contents that say it.
+-- The minimal bytes of a number are contents that encode it.
 pub minimal_is : (z : ℤ) → IsInteger z (minimal_bytes z)
 unfolding minimal_bytes
 minimal_is (pos n) = positive_integer n (unsigned_bytes (digits 256 n)) (unsigned_is n)
 minimal_is (negsuc n) = negative_integer n (unsigned_bytes (digits 256 n)) (unsigned_is n)
 
--- They are bytes.
+-- The minimal bytes of a number are bytes.
 pub minimal_in_bytes : (z : ℤ) → IsBytes (minimal_bytes z)
 minimal_in_bytes z = (minimal_is z).in_bytes
 
--- They are minimal.
+-- The minimal bytes of a number are minimal.
 pub minimal_minimal : (z : ℤ) → IsMinimal (minimal_bytes z)
 minimal_minimal z = (minimal_is z).minimal
 

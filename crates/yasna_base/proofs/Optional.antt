@@ -21,7 +21,7 @@ use Rattle.yasna_base.proofs.Pieces.{starts_not_end}
 abbrev pub IsUnambiguousBefore : Members → Members → Type 0
 IsUnambiguousBefore S Q = (m : BERMode) (n k : ℕ) (b c r s : List ℕ) → AtEnd s → S m n b → Q m k c → b ++ r ≡ c ++ s → ⊥
 
--- they don't where nothing follows
+-- where nothing follows, the end of contents never begins as a member of S
 pub unambiguous_before_nothing : {A : Type 0} {E : A → A → Type 0} {B : Grammar A} {S : Members} → IsCoding E B S → IsUnambiguousBefore S AnyNothing
 unambiguous_before_nothing x m n k b c r s i p q e = starts_not_end b r s (x.opens m n b p) i (sym (e ∙ ap (λ z. z ++ s) q))
 

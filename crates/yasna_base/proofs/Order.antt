@@ -60,7 +60,7 @@ rises_pairs lt (x ∷ xs) f = (
   rises_pairs lt xs (λ i j d h k. f (suc i) (suc j) d (omega (arith, h)) (omega (arith, k))),
 )
 
--- and so it isn't below the one before it
+-- each item isn't below the one before it
 pub sorted_rises : {X : Type 0} (lt : X → X → Bool) (xs : List X) → Rises lt xs → IsSortedBy lt xs
 sorted_rises lt [] r k d low h = absurd (omega (arith, h))
 sorted_rises lt (x ∷ []) r k d low h = absurd (omega (arith, h))
@@ -167,7 +167,7 @@ module _ {X : Type 0} (R : X → X → Ordering) (o : IsStrictWeakOrder (λ (x y
       step true f p = let r = f p.1 in (r.0, (p.0, r.1))
       step false f p = p
 
-  -- and back
+  -- what holds of items in order holds of all items
   pub all_order_back : (P : X → Type 0) (xs : List X) → AllByRecursion P (in_order R xs) → AllByRecursion P xs
   all_order_back P [] a = tt
   all_order_back P (x ∷ xs) a = let r = all_put_back P x (in_order R xs) a in (r.0, all_order_back P xs r.1)

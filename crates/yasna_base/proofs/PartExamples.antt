@@ -132,7 +132,7 @@ abbrev CanParts : Option ℤ × (Bool × (Option ℤ × (List ℕ × (Option (Un
 CanParts = part_can (option_can (FitsSigned w64)) (part_can (default_can not Always) (part_can (option_can (FitsSigned w64))
     (part_can IsBytes (part_can (option_can (either_can Always (either_can (FitsSigned w64) IsBytes))) Always))))
 
--- they satisfy the laws of writing
+-- the parts satisfy the laws of writing
 parts_written : IsWritten SameParts Parts parts_encoding parts_depth CanParts
 parts_written =
     part_written (option_written (number_written (λ z. z) (FitsSigned w64) integer_tag (omega arith)))

@@ -23,12 +23,12 @@ pub raw_zero : (m : BERMode) (v : RawValue) (b : List ℕ) → IsRaw zero m v b 
 unfolding IsRaw
 raw_zero m v b x = x
 
--- a level more holds what is over the levels below
+-- an element over the levels below is raw with one more level
 pub raw_of : (n : ℕ) (m : BERMode) (v : RawValue) (b : List ℕ) → RawOver (IsRaw n m) m v b → IsRaw (suc n) m v b
 unfolding IsRaw
 raw_of n m v b x = x
 
--- and nothing else
+-- a raw element with one more level is over the levels below
 pub raw_into : (n : ℕ) (m : BERMode) (v : RawValue) (b : List ℕ) → IsRaw (suc n) m v b → RawOver (IsRaw n m) m v b
 unfolding IsRaw
 raw_into n m v b x = x

@@ -26,14 +26,14 @@ pub segmented_zero : {A : Type 0} (k : Segmentation A) (m : BERMode) (t : Tag) (
 unfolding IsSegmented
 segmented_zero k m t v b x = x
 
--- a level more holds what is whole or in segments of the levels below
+-- a string that is whole or in segments of the levels below is a string with one more level
 pub segmented_of : {A : Type 0} (k : Segmentation A) (n : ℕ) (m : BERMode) (t : Tag) (v : A) (b : List ℕ) →
     Segmented k (IsSegmented k n (segment_mode m) k.segment) m t v b →
     IsSegmented k (suc n) m t v b
 unfolding IsSegmented
 segmented_of k n m t v b x = x
 
--- and nothing else
+-- a string with one more level is whole or in segments of the levels below
 pub segmented_into : {A : Type 0} (k : Segmentation A) (n : ℕ) (m : BERMode) (t : Tag) (v : A) (b : List ℕ) → IsSegmented k (suc n) m t v b →
     Segmented k (IsSegmented k n (segment_mode m) k.segment) m t v b
 unfolding IsSegmented
@@ -74,7 +74,7 @@ segmented_opens : {A : Type 0} (k : Segmentation A) {R : A → List ℕ → Type
 segmented_opens k m t v b not_end (whole c x p a) = element_starts m t Primitive c b not_end x
 segmented_opens k m t v b not_end (in_segments h c vs x p j a) = element_starts m t Constructed c b not_end x
 
--- and so with no end of contents
+-- a string doesn't begin with the end of contents
 pub segmented_starts : {A : Type 0} (k : Segmentation A) (n : ℕ) (m : BERMode) (t : Tag) (v : A) (b : List ℕ) → (t ≡ end_tag → ⊥) → IsSegmented k n m t v b →
     StartsElement b
 segmented_starts k zero m t v b not_end x = absurd (segmented_zero k m t v b x)

@@ -66,7 +66,7 @@ set_elements =
           all.ends m n k b c r s i j (all.meaning.among m n p.0 b p.1.elements) (all.meaning.among m k q.0 c q.1.elements) e;
     }
 
--- and so does a SET
+-- a SET satisfies the laws of reading
 pub set_coding : SetKeepsReadingLaws
 set_coding = λ t not_end range. enclosed t not_end set_elements
 

@@ -1,4 +1,4 @@
--- SET OF, of whose elements a canonical mode alone has one encoding.
+-- SET OF, of whose elements only a canonical mode has one encoding.
 use Rattle.std.proofs.Common.{◌≡◌, ℕ, zero, suc, ◌^◌, ◌<◌, List, length, map, ap, ◌∙◌, sym, subst}
 use Rattle.std.specs.List.{AllByRecursion, concat}
 use Rattle.std.proofs.lemmas.Cmp.{nat_list_cmp_total}
@@ -83,7 +83,7 @@ module _ {A : Type 0} {E : A → A → Type 0} {B : Grammar A} {encoding : Encod
         sym (in_order_map (encoding m) octets_cmp ws)) ∙
         sym (encodings_joined (encoding m) (in_encoding_order encoding m ws)))
 
-    -- and so does one whose encoding is that of the values in order, as a writer writes it
+    -- a SET OF whose encoding is that of its values in order satisfies the laws of a canonical mode
     pub ordered_set_of_exact : IsExact (λ vs ws. Each E vs ws) (IsSetOf B t) (λ m vs. set_of_encoding encoding t m (in_encoding_order encoding m vs))
         (enclosed_fits (set_of_fits encoding Fits)) (λ vs. AllByRecursion Can vs)
     ordered_set_of_exact = record {

@@ -50,13 +50,13 @@ order_holds Cer Ber bs h x = tt
 order_holds Cer Der bs h x = absurd h
 order_holds Cer Cer bs h x = x
 
--- what ascends is in the order that any mode asks
+-- encodings that ascend are in the order that any mode requires
 any_order : (m : BERMode) (bs : List (List ℕ)) → IsSorted octets_cmp bs → AreInSetOfOrder m bs
 any_order Ber bs x = tt
 any_order Der bs x = x
 any_order Cer bs x = x
 
--- and where a canonical mode asks it, it ascends
+-- encodings in the order that a canonical mode requires ascend
 canonical_order : (m : BERMode) (bs : List (List ℕ)) → IsCanonicalMode m → AreInSetOfOrder m bs → IsSorted octets_cmp bs
 canonical_order Ber bs h x = absurd h
 canonical_order Der bs h x = x
@@ -219,16 +219,16 @@ module _ {A : Type 0} {E : A → A → Type 0} {B : Grammar A} {S : Members} {en
         again = set_of_again;
       }
 
--- under any tag it satisfies the laws of reading, where its elements do
+-- under any tag a SET OF satisfies the laws of reading, where its elements do
 pub set_of_reading : {A : Type 0} {E : A → A → Type 0} {B : Grammar A} {S : Members} → IsCoding E B S → SetOfKeepsReadingLaws E B S
 set_of_reading x = λ t not_end range. set_of t not_end x
 
--- and those of writing
+-- under any tag a SET OF satisfies the laws of writing, where its elements do
 pub set_of_writing : {A : Type 0} {E : A → A → Type 0} {B : Grammar A} {S : Members} {encoding : Encoding A}
     {depth : Depth A} {Can : A → Type 0} → IsCoding E B S → IsWritten E B encoding depth Can → SetOfKeepsWritingLaws E B encoding depth Can
 set_of_writing r x = λ t not_end range. set_of_written r x t range
 
--- and both, where its elements keep them under any tag
+-- a SET OF satisfies the laws of reading and writing, where its elements satisfy them under any tag
 pub set_of_keeps : {A : Type 0} (B : TaggedGrammar A) (encoding : Tag → Encoding A) (depth : Depth A) (Can : A → Type 0) →
     KeepsLaws B encoding depth Can → SetOfKeepsLaws B encoding depth Can
 set_of_keeps B encoding depth Can x = λ u not_end range. let y = x u not_end range in (set_of_reading y.0, set_of_writing y.0 y.1)

@@ -53,12 +53,12 @@ raw_begins (suc n) m v b x =
     let z = raw_element v b y in
     record { in_range = y.in_range; in_bytes = y.in_bytes; begins = element_begins m v.tag v.bit z.contents b z.element }
 
--- in CER an element whose length is counted is primitive
+-- in CER an element of definite length is primitive
 cer_whole : (t : Tag) (p : PCBit) (c b : List ℕ) → Definite Cer t p c b → b ≡ raw_cer_encoding t p c
 cer_whole t Primitive c b d = definite_whole Cer t c b tt d
 cer_whole t Constructed c b d = absurd (d.taken)
 
--- and one that ends by two zeros is constructed
+-- in CER an element of indefinite length is constructed
 cer_constructed : (t : Tag) (p : PCBit) (c y b : List ℕ) → Indefinite Cer t p c b → y ≡ c ++ end_of_contents → b ≡ raw_cer_encoding t p y
 cer_constructed t Primitive c y b i e = absurd (i.taken)
 cer_constructed t Constructed c y b i e = i.joined ∙ ap (λ z. identifier t Constructed ++ (128 ∷ z)) (sym e)
@@ -197,7 +197,7 @@ part_tags p q e =
     then_less (nat_cmp (class_number p.tag.tag_class) (class_number q.tag.tag_class)) (nat_cmp p.tag.tag_number q.tag.tag_number)
     (octets_cmp (if nat_lt p.tag.tag_number 31 then [] else drop 1 p.bytes) (if nat_lt q.tag.tag_number 31 then [] else drop 1 q.bytes)) e
 
--- and back, where of equal tags the rest doesn't
+-- parts don't fall where their tags don't, and the rest of two parts of equal tags doesn't
 less_then : (a b x : Ordering) → is_lt (ordering_then a b) ≡ false → (a ≡ Equal → b ≡ Equal → is_lt x ≡ false) →
     is_lt (ordering_then a (ordering_then b x)) ≡ false
 less_then Less b x e f = e

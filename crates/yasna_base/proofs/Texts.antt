@@ -115,7 +115,7 @@ pub class_coding : (In : ℕ → Type 0) (t : Tag) → (t ≡ end_tag → ⊥) �
     IsCoding (λ v w. v ≡ w) (λ m n v b. IsStringOf (IsUtf8In In) n m t v b) (Any (λ m n v b. IsStringOf (IsUtf8In In) n m t v b))
 class_coding In t not_end = string_coding (IsUtf8In In) (λ m v w c x y. encodes_same v w (sym x.octets ∙ y.octets)) t not_end
 
--- and those of writing
+-- a class of text in UTF-8 satisfies the laws of writing
 pub class_written : (In : ℕ → Type 0) (t : Tag) → t.tag_number < 2 ^ 64 →
     IsWritten (λ v w. v ≡ w) (λ m n v b. IsStringOf (IsUtf8In In) n m t v b) (utf8_encoding t) utf8_depth (IsTextIn In)
 class_written In t range = string_written (IsUtf8In In) (IsTextIn In) encode_utf8_all t range
@@ -137,7 +137,7 @@ utf8_means m v h = record {
   octets = sym (encodes-chars v h);
 }
 
--- and of no other
+-- bytes in UTF-8 are the text of no other characters
 pub utf8_only : (In : ℕ → Type 0) (m : BERMode) (text v : List ℕ) → IsUtf8In In m text v → IsUtf8 v × (text ≡ chars v)
 utf8_only In m text v x =
     let s = scalars_all text x.is_text.characters in
@@ -170,7 +170,7 @@ module _ (In : ℕ → Type 0) (below : (c : ℕ) → In c → c < 128) where
       let characters = all_scalars bs (ap scalars (sym (chars-IsAscii bs a)) ∙ scalars-chars bs (IsUtf8-from_ascii bs a)) in
       record { is_text = record { characters = characters; in_class = h }; octets = sym (encodes-IsAscii bs a) }
 
-  -- and of no other
+  -- bytes in the class are the text of no other characters
   pub class_only : (m : BERMode) (text bs : List ℕ) → IsUtf8In In m text bs → (text ≡ bs) × AllByRecursion In bs
   class_only m text bs x =
       let same = sym (encodes-IsAscii text (class_ascii text x.is_text.in_class)) ∙ sym x.octets in

@@ -29,7 +29,7 @@ pub under_tags : {A : Type 0} (B : TaggedGrammar A) (encoding : Tag → Encoding
     KeepsLawsUnderTags (λ v w. v ≡ w) (λ t m n v b. B n m t v b) (λ t. Any (λ m n v b. B n m t v b)) encoding depth Can
 under_tags B encoding depth Can x = x
 
--- what satisfies the laws of writing under any tag keeps those of a canonical mode alone
+-- a type that satisfies the laws of writing under any tag satisfies those of a canonical mode
 pub exact_under_tags : {A : Type 0} {E : A → A → Type 0} {B : Tag → Grammar A} {S : Tag → Members} {encoding : Tag → Encoding A} {depth : Depth A}
     {Can : A → Type 0} → KeepsLawsUnderTags E B S encoding depth Can → IsExactUnderTags E B S encoding (written_fits depth Can) Can
 exact_under_tags x = λ t not_end range. let y = x t not_end range in (y.0, written_exact y.1)
@@ -46,7 +46,7 @@ pub sequence_under_tags : {U A : Type 0} {E : A → A → Type 0} {C : Grammar A
     (λ m v. enclosed_depth depth m (f v)) (λ v. Can (f v))
 sequence_under_tags f x y = λ t not_end range. (along f (enclosed t not_end x), written_along f (enclosed_written t range y))
 
--- and those of a canonical mode alone
+-- a type whose values represent contents satisfies the laws of a canonical mode under any tag, as a SEQUENCE does
 pub sequence_exact_under_tags : {U A : Type 0} {E : A → A → Type 0} {C : Grammar A} {S : Members} {encoding : Encoding A} {Fits : Fitting A}
     {Can : A → Type 0} (f : U → A) → IsContentsCoding E C S → IsExact E C encoding Fits Can →
     IsExactUnderTags (λ v w. E (f v) (f w)) (λ t m n v b. Enclosed C t m n (f v) b) (λ t. AnyEnclosed S t) (λ t m v. enclosed_encoding encoding t m (f v))
@@ -60,19 +60,19 @@ pub list_under_tags : {U A : Type 0} {E : A → A → Type 0} {B : Grammar A} {S
     (λ t m v. enclosed_encoding (elements_encoding encoding) t m (f v)) (λ m v. enclosed_depth (elements_depth depth) m (f v)) (λ v. AllByRecursion Can (f v))
 list_under_tags f x y = λ t not_end range. (along f (list t not_end x), written_along f (enclosed_written t range (elements_written y)))
 
--- and those of a canonical mode alone
+-- a type whose values represent lists satisfies the laws of a canonical mode under any tag, as a SEQUENCE OF does
 pub list_exact_under_tags : {U A : Type 0} {E : A → A → Type 0} {B : Grammar A} {S : Members} {encoding : Encoding A} {Fits : Fitting A} {Can : A → Type 0}
     (f : U → List A) → IsCoding E B S → IsExact E B encoding Fits Can →
     IsExactUnderTags (λ v w. Each E (f v) (f w)) (λ t m n v b. IsListOf B t m n (f v) b) (λ t. AnyListOf S t)
     (λ t m v. enclosed_encoding (elements_encoding encoding) t m (f v)) (λ m n v. enclosed_fits (elements_fit Fits) m n (f v)) (λ v. AllByRecursion Can (f v))
 list_exact_under_tags f x y = λ t not_end range. (along f (list t not_end x), exact_along f (enclosed_exact t range (elements_exact y)))
 
--- a SET OF keeps its own laws of writing under any tag
+-- a SET OF satisfies its own laws of writing under any tag
 pub set_of_under_tags : {A : Type 0} {E : A → A → Type 0} {B : Grammar A} {S : Members} {encoding : Encoding A} {depth : Depth A} {Can : A → Type 0} →
     IsCoding E B S → IsWritten E B encoding depth Can → SetOfKeepsReadingLaws E B S × SetOfKeepsWritingLaws E B encoding depth Can
 set_of_under_tags x y = (set_of_reading x, set_of_writing x y)
 
--- and a type whose values represent those of one satisfies the laws of a canonical mode alone, where its encoding is that of the values in order
+-- a type whose values represent a SET OF satisfies the laws of a canonical mode, where its encoding is that of the values in order
 pub set_of_exact_under_tags : {U A : Type 0} {E : A → A → Type 0} {B : Grammar A} {S : Members} {encoding : Encoding A} {Fits : Fitting A} {Can : A → Type 0}
     (f : U → List A) → IsCoding E B S → IsExact E B encoding Fits Can →
     IsExactUnderTags (λ v w. Each E (f v) (f w)) (λ t m n v b. IsSetOf B t m n (f v) b) (λ t. AnySetOf S t)
@@ -86,7 +86,7 @@ pub tagged_under_tags : {A : Type 0} {E : A → A → Type 0} {B : Grammar A} {S
     KeepsLawsUnderTags E (λ t. Enclosed B t) (λ t. AnyEnclosed S t) (λ t. enclosed_encoding encoding t) (enclosed_depth depth) Can
 tagged_under_tags x y = λ t not_end range. (tagged t not_end x, tagged_written t range y)
 
--- also where a canonical mode alone has one encoding
+-- also where only a canonical mode has one encoding
 pub tagged_exact_under_tags : {A : Type 0} {E : A → A → Type 0} {B : Grammar A} {S : Members} {encoding : Encoding A} {Fits : Fitting A} {Can : A → Type 0} →
     IsCoding E B S → IsExact E B encoding Fits Can →
     IsExactUnderTags E (λ t. Enclosed B t) (λ t. AnyEnclosed S t) (λ t. enclosed_encoding encoding t) (enclosed_fits Fits) Can

@@ -29,7 +29,7 @@ abbrev pub either_depth : {A V : Type 0} → Depth A → Depth V → Depth (A �
 either_depth f g m (inl v) = f m v
 either_depth f g m (inr w) = g m w
 
--- and it can be written where its own type says so
+-- a value of a CHOICE can be written where its own type says so
 abbrev pub either_can : {A V : Type 0} → (A → Type 0) → (V → Type 0) → A ⊎ V → Type 0
 either_can c d (inl v) = c v
 either_can c d (inr w) = d w

@@ -31,6 +31,6 @@ default_depth is f m v = if is v then 0 else (f m v)
 abbrev pub default_can : {A : Type 0} → (A → Bool) → (A → Type 0) → A → Type 0
 default_can is c v = is v ≡ false → c v
 
--- and always has an encoding
+-- the default always has an encoding
 abbrev pub default_fits : {A : Type 0} → (A → Bool) → Fitting A → Fitting A
 default_fits is F m n v = is v ≡ false → F m n v

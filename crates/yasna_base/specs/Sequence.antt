@@ -56,6 +56,6 @@ part_can c d v = c v.0 × d v.1
 abbrev pub nothing_encoding : Encoding (Unit {0})
 nothing_encoding m v = []
 
--- they have no level
+-- no parts have depth 0
 abbrev pub nothing_depth : Depth (Unit {0})
 nothing_depth m v = 0

@@ -91,7 +91,7 @@ abbrev pub SetOfSetKeepsReadingLaws : Type 0
 SetOfSetKeepsReadingLaws =
     AnyTag (λ u. SetOfKeepsReadingLaws (λ v w. v ≡ w) (IsSet u) (AnyEnclosed (Any SetElements) u))
 
--- and where they are a SET OF such elements as B, E and S say
+-- SET OF satisfies the laws of reading under any tag, where its elements are a SET OF elements by B, E and S
 abbrev pub SetOfSetOfKeepsReadingLaws : {A : Type 0} → (A → A → Type 0) → Grammar A → Members → Type 0
 SetOfSetOfKeepsReadingLaws E B S =
     AnyTag (λ u. SetOfKeepsReadingLaws (λ vs ws. Each E vs ws) (IsSetOf B u) (AnySetOf S u))

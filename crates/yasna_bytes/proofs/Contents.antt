@@ -89,7 +89,7 @@ opens_may_allocate n m t p s c (definite_end r) l h x =
     }
 opens_may_allocate n m t p s c indefinite_end l h x = record { level = l; bit = p; size = 128; after = c; not_empty = λ z. omega arith; joined = x.joined }
 
--- so it does where an element has contents
+-- a read may allocate where an element has contents
 pub element_may_allocate : (n : ℕ) (m : BERMode) (t : Tag) (p : PCBit) (s c b r : List ℕ) → 1 ≤ n → (c ≡ [] → ⊥) → Element m t p c b → s ≡ b ++ r → MayAllocate n t s
 element_may_allocate n m t p s c b r l h x e = elim x.framed [
   | definite y ↦ opens_may_allocate n m t p s c (definite_end r) l h (record {

@@ -79,7 +79,7 @@ module _ {A : Type 0} (k : Segmentation A) (vs : List A) (c : Cuts) (w : A) (n :
             outer.1 (x.some.1 (omega (arith, count, two)), inner.1 (x.full.1 j.0, fits.1 (j.1, j.2))),
       )
 
-  -- and of one more
+  -- the cut of segments and one more
   pub further_is_cut : AreCut k (vs ++ (w ∷ [])) (further_cut c k.full n)
   further_is_cut = record {
     some = (λ h. omega (arith, length-append vs (w ∷ [])), λ h. refl);

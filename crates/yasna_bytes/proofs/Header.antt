@@ -145,7 +145,7 @@ element_header P m n t p c b s r l a x e =
     let h = element_there m t p c b s r x e in
     record { level = l; bit = p; allowed = a; after = h.after; joined = h.joined; contents = h.contents; end = h.end; holds = h.holds }
 
--- and begins with the tag
+-- bytes that begin with an element begin with its tag
 pub begins_before : (m : BERMode) (t : Tag) (p : PCBit) (c b s r : List ℕ) → Element m t p c b → s ≡ b ++ r → BeginsWithTag t s
 begins_before m t p c b s r x e = let h = element_there m t p c b s r x e in begins p h.after h.joined
 

@@ -153,7 +153,7 @@ pub not_unsigned : (k : ℕ) (m : BERMode) (c : List ℕ) → 128 ≤ get_or c 0
 not_unsigned k m [] h v u = omega arith
 not_unsigned k m (x ∷ xs) h v u = let e = sym (negative_is x xs u.integer.in_bytes h) ∙ u.integer.number in absurd (cc)
 
--- Without it they are the unsigned number that they spell.
+-- Contents without the sign bit are the unsigned number that they spell.
 pub encodes_unsigned : (k : ℕ) (m : BERMode) (c : List ℕ) (n : ℕ) → IsBytes c → IsMinimal c → get_or c 0 0 < 128 → n ≡ number_from_digits 256 c → n < 2 ^ k →
     IsUnsigned k m n c
 encodes_unsigned k m c n b i h e l = record {
@@ -161,7 +161,7 @@ encodes_unsigned k m c n b i h e l = record {
   in_type = l;
 }
 
--- They are no other.
+-- Contents without the sign bit are no other unsigned number.
 pub unsigned_is : (k : ℕ) (m : BERMode) (c : List ℕ) → get_or c 0 0 < 128 → (v : ℕ) → IsUnsigned k m v c → v ≡ number_from_digits 256 c
 unsigned_is k m c h v u = let e = sym u.integer.number ∙ positive_is c h in cc
 

@@ -84,7 +84,7 @@ no_first m c h [] x = x.encodable
 no_first m c h (a ∷ []) x = x.encodable
 no_first m c h (a ∷ b ∷ cs) x = h (40 * a + b) (flat_map base128 cs) (first_small a b x.encodable.0) x.contents
 
--- and end with numbers
+-- contents end with numbers
 pub no_further : (m : BERMode) (c : List ℕ) (n : ℕ) (rest : List ℕ) → c ≡ base128 n ++ rest → ((ks : List ℕ) → AreNumbers ks rest → ⊥) →
     (cs : List ℕ) → AreComponents m cs c → ⊥
 no_further m c n rest e h [] x = x.encodable

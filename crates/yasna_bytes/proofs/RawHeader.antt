@@ -97,7 +97,7 @@ first_at_end [] l x = absurd (omega arith)
 first_at_end (b ∷ r) l (inl x) = subst (λ z. AtEnd (z ∷ r)) (sym x) (zeros_at_end r)
 first_at_end (b ∷ r) l (inr x) = end (begins Constructed r (ap (λ z. z ∷ r) x ∙ sym (constructed_end r)))
 
--- those that don't begin with the identifier of another tag
+-- bytes that don't begin as an end begin with the identifier of another tag
 pub first_not_end : (s r : List ℕ) (t : Tag) (p : PCBit) → (IsEndByte (get_or s 0 0) → ⊥) → s ≡ identifier t p ++ r → t ≡ end_tag → ⊥
 first_not_end s r t Primitive n e f = n (inl (ap (λ b. get_or b 0 0) (e ∙ ap (λ u. identifier u Primitive ++ r) f ∙ end_identifier r)))
 first_not_end s r t Constructed n e f = n (inr (ap (λ b. get_or b 0 0) (e ∙ ap (λ u. identifier u Constructed ++ r) f ∙ constructed_end r)))

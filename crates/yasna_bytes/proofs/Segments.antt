@@ -106,7 +106,7 @@ module _ {A T : Type 0} {k : Segmentation A} {value : List ℕ → T → A} (onc
     added = sym (append-nil out);
   }
 
-  -- and goes on by a further one
+  -- reading goes on by a further segment
   pub reached_more : HoldsBytes k value → (x z s : T) (u w : Cuts) (y r out out' out'' : List ℕ) → (h : Reached k value n m c x u y out out') →
       k.more h.values → TakesString k value n m k.segment y out' s r out'' → Adds k value x s (Ok z) → w ≡ further_cut u k.full (length out'' - length out') →
       Reached k value n m c z w r out out''

@@ -105,7 +105,7 @@ class_holds Ia5 m text o x = (class_only InIa5 ia5_below m text o x).1
 class_holds Visible m text o x = (class_only InVisible visible_below m text o x).1
 class_holds Bmp m text o x = x.even
 
--- and are UTF-8
+-- octets that spell a text of a class other than BMP are UTF-8
 pub class_in_utf8 : (k : Class) (m : BERMode) (text o : List ℕ) → (k ≡ Bmp → ⊥) → SpellsText k m text o → IsUtf8 o
 class_in_utf8 Utf8 m text o h x = (utf8_only InUtf8 m text o x).0
 class_in_utf8 Numeric m text o h x = (utf8_only InNumeric m text o x).0

@@ -203,11 +203,11 @@ deep_no_header m (suc n) s none d =
 pub level_deep : (m : BERMode) (n : ℕ) (s : List ℕ) → HasNoLevel n s → IsDeepRaw n m s
 level_deep m n s x = subst (λ k. IsDeepRaw k m s) (sym x.0) (deep_at_zero m s x.1)
 
--- where a walk stops contents don't close
+-- contents don't close where a walk stops
 pub closed_stops : (m : BERMode) (n : ℕ) (e : ContentsEnd) (s : List ℕ) (k : ASN1ErrorKind) → Stops m n e s k → (a : List ℕ) → ClosesBefore n m e s a → ⊥
 closed_stops m n e s k x a y = no_header m n s x.none (x.no_end a) (before_first s y)
 
--- and it is of depth where an element is there that no level is left for
+-- a walk stops by the depth limit only where no level is left for an element
 pub stops_deep : (m : BERMode) (n : ℕ) (e : ContentsEnd) (s : List ℕ) (k : ASN1ErrorKind) → Stops m n e s k → k ≡ StackOverflow → IsDeepRaw n m s
 stops_deep m n e s k x f = level_deep m n s (x.deep.0 f)
 

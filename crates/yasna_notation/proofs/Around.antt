@@ -43,7 +43,7 @@ module _ {s b : List ℕ} {left : Written} {own : Result (Unit {0}) ASN1Error} (
   at_end k (inr (n, inl w)) = w
   at_end k (inr (n, inr w)) = let x = subst (λ z. After s left z) n h.follows_on in absurd (as_long s x.0 left.bytes x.1 w.1)
 
-  -- and so is what is sticky after a tag
+  -- what is sticky after a tag is `OutOfMemory`
   after : (k : ASN1Error) → FailedAfter (length s) left (Some k) → IsOutOfMemory k
   after k (inl w) = subst (λ z. After s left z) w h.follows_on
   after k (inr (n, k_is, w)) = let x = subst (λ z. After s left z) n h.follows_on in absurd (as_long s x.0 left.bytes x.1 w)

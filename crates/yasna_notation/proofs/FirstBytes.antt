@@ -207,7 +207,7 @@ module _ {A V F : Type 0} (g : Once F (MutBor (PartsReader Reading) × Unit {0})
       (subst (λ z. ReadsAs true (sequence_tag ∷ []) true may_allocate (λ u. Enclosed (PartsWithFirst B C) (tag_or u sequence_tag))
       (λ u. AnyEnclosed S (tag_or u sequence_tag)) s z s') is (sequence_read h obeys))
 
--- and the bytes are those of the first
+-- the bytes of the first part are those that it was read from
 module _ {A V : Type 0} (may_allocate : Bool) (B : Grammar A) (C : Grammar V) (S : Members) (s : Reading) (x : WithFirst A V) (s' : Reading) where
   left_so : (c : List ℕ) (end : ContentsEnd) → OpensAt s.mode (tag_of s sequence_tag) Constructed s.left c end → (k : Option ASN1Error)
       (own : Result (WithFirst A V) ASN1Error) (left : Reading) →

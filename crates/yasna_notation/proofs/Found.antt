@@ -160,7 +160,7 @@ module _ {A : Type 0} {ts : List Tag} {may_allocate : Bool} {B : Grammar A} {S :
     repeats = h.repeats;
   }
 
-  -- and one of which none was
+  -- a CHOICE of which no tag was found
   pub choice_not_read : {E : A → A → Type 0} → IsCoding E B S → (e : ASN1Error) (x : Result Tag ASN1Error) → LooksAhead s.failed s.left x → x ≡ Err e →
       ReadsAs true ts false may_allocate (λ u. B) (λ u. S) s (Err e) s
   choice_not_read laws e x looks is = record {

@@ -10,6 +10,6 @@ module _ {A : Type 0} (is : A → Bool) (f : Encoding A) (m : BERMode) (v : A) w
   pub not_default : is v ≡ false → f m v ≡ default_encoding is f m v
   not_default e = subst (λ z. f m v ≡ (if z then [] else (f m v))) (sym e) refl
 
-  -- and the default has none
+  -- the default has an empty encoding
   pub default_left_out : is v ≡ true → [] ≡ default_encoding is f m v
   default_left_out e = subst (λ z. [] ≡ (if z then [] else (f m v))) (sym e) refl

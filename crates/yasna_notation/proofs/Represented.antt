@@ -38,7 +38,7 @@ module _ {U A : Type 0} (f : U → A) (tags_known : Bool) (ts : List Tag) (retag
     repeats = λ e failed. absurd (let x = (h.repeats e failed).0 in cc);
   }
 
-  -- and none where that fails
+  -- no value, where the read of the one that it represents fails
   pub represented_by_none : (e : ASN1Error) (s' : Reading) → ReadsAs {A = A} tags_known ts retagged may_allocate B S s (Err e) s' →
       ReadsAs {A = U} tags_known ts retagged may_allocate (λ t m n w b. B t m n (f w) b) S s (Err e) s'
   represented_by_none e s' h = record {
@@ -56,7 +56,7 @@ module _ {U A : Type 0} (f : U → A) (tags_known : Bool) (ts : List Tag) (retag
       ReadsAs tags_known ts retagged may_allocate (λ t m n w b. B t m n (f w) b) S s (Ok u) s'
   read_for u v r s' was is h = represented_by u v s' is (subst (λ x. ReadsAs tags_known ts retagged may_allocate B S s x s') was h)
 
-  -- and none where that returned an Err
+  -- no value, where the reading of the one that it represents returned an Err
   pub failed_for : (e : ASN1Error) (r : Result A ASN1Error) (s' : Reading) → r ≡ Err e → ReadsAs tags_known ts retagged may_allocate B S s r s' →
       ReadsAs {A = U} tags_known ts retagged may_allocate (λ t m n w b. B t m n (f w) b) S s (Err e) s'
   failed_for e r s' was h = represented_by_none e s' (subst (λ x. ReadsAs tags_known ts retagged may_allocate B S s x s') was h)

@@ -61,7 +61,7 @@ module _ {A : Type 0} {E : A → A → Type 0} (passes : A → Bool) (alike : (v
         (y.0, (λ c. (y.1 c.0, other ∙ c.1)), (λ n f. (y.2 n f.0, other ∙ f.1)));
   }
 
-  -- they satisfy the laws
+  -- the values of a type that a test passes satisfy the laws
   pub within_laws : {tags_known : Bool} {ts : List Tag} {B : Grammar A} {S : Members} {encoding : Encoding A} {Fits : Fitting A} {Can : A → Type 0} →
       IsNotation tags_known ts E B S encoding Fits Can →
       IsNotation tags_known ts E (Within passes B) (Any (Within passes B)) encoding (λ m n v. Fits m n v × (passes v ≡ true)) (λ v. Can v × (passes v ≡ true))
@@ -92,7 +92,7 @@ each_length E (v ∷ vs) (w ∷ ws) e = ap suc (each_length E vs ws e.1)
 pub sizes_alike : {A : Type 0} (E : A → A → Type 0) (test : ℕ → Bool) (vs ws : List A) → Each E vs ws → test (length vs) ≡ test (length ws)
 sizes_alike E test vs ws e = ap test (each_length E vs ws e)
 
--- and so have lists whose items are in some order
+-- lists whose items are equal in some order have one size
 pub set_sizes_alike : {A : Type 0} (E : A → A → Type 0) (test : ℕ → Bool) (vs ws : List A) → SameSetOf E vs ws → test (length vs) ≡ test (length ws)
 set_sizes_alike E test vs ws e = ap test (sym (length_permutation vs e.items e.permuted) ∙ each_length E e.items ws e.each)
 

@@ -44,7 +44,7 @@ use Rattle.yasna_notation.specs.Parts.{all_known, is_known}
 abbrev pub IsWrittenUnderTags : {A : Type 0} → (A → A → Type 0) → (Tag → Grammar A) → (Tag → Encoding A) → Depth A → (A → Type 0) → Type 0
 IsWrittenUnderTags E B encoding depth Can = AnyTag (λ t. IsWritten E (B t) (encoding t) depth Can)
 
--- so it satisfies them under its own tag, and where another tag is in place of that
+-- a type satisfies the laws of writing with its own tag, and with another tag in place of that
 pub element_written : {A : Type 0} {E : A → A → Type 0} {B : Tag → Grammar A} {encoding : Tag → Encoding A} {depth : Depth A} {Can : A → Type 0} (own : Tag) →
     IsWrittenUnderTags E B encoding depth Can → (own ≡ end_tag → ⊥) → own.tag_number < 2 ^ 64 →
     IsWrittenAs true E (λ u. B (tag_or u own)) (λ u. encoding (tag_or u own)) depth Can

@@ -217,7 +217,7 @@ represented_lawful f x = record { own = defined_type_laws f x.own; others = λ r
 begun_non_empty : (t : Tag) (bit : PCBit) (r : List ℕ) → identifier t bit ++ r ≡ [] → ⊥
 begun_non_empty t bit r e = omega (arith, begins_some t (identifier t bit ++ r) (begins bit r refl), ap length e)
 
--- so no element is, as a canonical mode writes it
+-- no element is empty, as a canonical mode writes it
 pub element_non_empty : (m : BERMode) (t : Tag) (bit : PCBit) (c : List ℕ) → canonical_element m t bit c ≡ [] → ⊥
 unfolding canonical_element definite_element indefinite_element
 element_non_empty m t Primitive c e = begun_non_empty t Primitive _ e

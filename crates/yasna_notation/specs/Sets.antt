@@ -52,6 +52,6 @@ WroteElement b old new result =
 abbrev pub MadeParts : List (List ℕ) → List (List ℕ) → Result (Unit {0}) ASN1Error → Type 0
 MadeParts these parts result = MatchResult result (λ _. parts ≡ these) (λ e. IsOutOfMemory e × AllByRecursion HasOctets parts)
 
--- so a set was left, unless `OutOfMemory` is sticky
+-- a set was left with these parts, unless `OutOfMemory` is sticky
 abbrev pub WroteElements : List (List ℕ) → WrittenParts → Result (Unit {0}) ASN1Error → Type 0
 WroteElements these left result = MatchOption left.failed (MadeParts these left.parts result) IsOutOfMemory

@@ -74,7 +74,7 @@ leaf_by_tag B t not_end = record {
   };
 }
 
--- so does one that may allocate, where what lies too deep begins with the tag
+-- a typed read that may allocate decodes by its tag, where an element that is too deep begins with the tag
 pub allocating_by_tag : {V A : Type 0} (B : TaggedGrammar A) (view : V → A) (D : TaggedMembers) (t : Tag) → (t ≡ end_tag → ⊥) →
     ((n : ℕ) (m : BERMode) (s : List ℕ) → D n m t s → BeginsWithTag t s) →
     IsDecoderByTags (t ∷ []) true (λ m n v b. B n m t (view v) b) (Any (λ m n v b. B n m t v b)) (ReadsSeen B view D MayAllocate t)
@@ -92,12 +92,12 @@ pub leaf_with_memory_by_tag : {V A : Type 0} (B : TaggedGrammar A) (view : V →
     IsDecoderByTags (t ∷ []) true (λ m n v b. B n m t (view v) b) (Any (λ m n v b. B n m t v b)) (ReadsSeen B view NoLevel MayAllocate t)
 leaf_with_memory_by_tag B view t not_end = allocating_by_tag B view NoLevel t not_end (λ n m s d. d.1)
 
--- of a string, whose segments may be elements
+-- a read of a string, whose segments may be elements, decodes by its tag
 pub string_by_tag : {V A : Type 0} (B : TaggedGrammar A) (view : V → A) (t : Tag) → (t ≡ end_tag → ⊥) →
     IsDecoderByTags (t ∷ []) true (λ m n v b. B n m t (view v) b) (Any (λ m n v b. B n m t v b)) (ReadsSeen B view IsDeepOctets MayAllocate t)
 string_by_tag B view t not_end = allocating_by_tag B view IsDeepOctets t not_end (λ n m s. deep_begins octets_segmentation n m t s)
 
--- and of a BIT STRING
+-- a read of a BIT STRING decodes by its tag
 pub bits_by_tag : (t : Tag) → (t ≡ end_tag → ⊥) →
     IsDecoderByTags (t ∷ []) true (λ m n v b. IsBits n m t (bits_in v) b) (Any (λ m n v b. IsBits n m t v b))
     (ReadsSeen IsBits bits_in IsDeepBits MayAllocate t)

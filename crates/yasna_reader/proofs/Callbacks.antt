@@ -86,7 +86,7 @@ no_match_leaves s t x m e s' k h =
     (place_unconsumed s.left m.left h.1)
     ∙ ap {A = Option ASN1Error} {B = Reading} (λ u. record s { failed = u }) (sym k)
 
--- so where the tag waits again that waited, the reading is as it was
+-- a callback without a match leaves the reading as it was, where the implicit tag waits again
 pub waits_again : {A : Type 0} (P : Does A) (s : Reading) (t : Option Tag) (e : ASN1Error) (z s' : Reading) →
     s.failed ≡ None → Hands P (record s { tag = t }) (NoMatch e) z → s' ≡ record z { tag = s.tag } → Lent P (record s { tag = t }) s (NoMatch e) s'
 waits_again P s t e z s' k h f = record { between = z; hands = h; state = f ∙ no_match_leaves s t h.own h.left e z k h.comes }

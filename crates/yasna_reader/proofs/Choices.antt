@@ -44,7 +44,7 @@ first_of {us} {S} {Q} t s found x none choice = record { only = λ b r e y. by_t
     by_type b r e (inr z) = absurd
         (none_begins t us s.left b r (differs_from t us (and_parts (not (list_any (is_tag t) us)) true none).0) found e (x.at s.mode s.levels b z))
 
--- and where one was found that the first type doesn't have, one of the others does
+-- where a tag was found that the first type doesn't have, one of the other types has it
 pub others_of : {ts : List Tag} {S Q T : Members} (t : Tag) (s : Reading) → BeginsWithTag t s.left → BeginsBy ts S →
     AllByRecursion (λ u. t ≡ u → ⊥) ts → OnlyOf s T (AnyEither S Q) → OnlyOf s T Q
 others_of {ts} {S} {Q} t s found x none choice = record { only = λ b r e y. by_type b r e (choice.only b r e y) }

@@ -60,7 +60,7 @@ module _ {A V : Type 0} {E : A → A → Type 0} {F : V → V → Type 0} {B : G
       IsContentsCoding (SamePart E F) (PartOf (DefaultOf is B) C) (AnyPart (Any (DefaultOf is B)) Q)
   default_part_before x unambiguous y = narrower_contents (less Q is x) (among B is y) (default_before is d explains x unambiguous y)
 
-  -- and where no tag of the part is after it
+  -- a part with a default satisfies the laws of contents where none of its tags is after it
   pub default_part_with_tags : {ts us : List Tag} → CodingByTags ts E B S → ContentsByTags us F C Q → share_none ts (end_tag ∷ us) ≡ true →
       ContentsByTags (ts ++ us) (SamePart E F) (PartOf (DefaultOf is B) C) (AnyPart (Any (DefaultOf is B)) Q)
   default_part_with_tags x y none =

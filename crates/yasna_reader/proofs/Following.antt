@@ -5,11 +5,11 @@ use Rattle.yasna_base.specs.declared.tag.PCBit.{PCBit}
 use Rattle.yasna_base.specs.Identifier.{AtEnd, BeginsWithTag, begins, end, nothing, end_tag, identifier}
 use Rattle.yasna_base.proofs.Identifier.{begins_once, begins_some}
 
--- they do where it is that of the end of contents
+-- contents end before the identifier of the end of contents
 pub ends_by_tag : (s : List ℕ) (t : Tag) (p : PCBit) (r : List ℕ) → s ≡ identifier t p ++ r → t ≡ end_tag → AtEnd s
 ends_by_tag s t p r e f = end (subst (λ u. BeginsWithTag u s) f (begins p r e))
 
--- and only then
+-- contents end before no other identifier
 pub tag_at_end : (s : List ℕ) (t : Tag) (p : PCBit) (r : List ℕ) → s ≡ identifier t p ++ r → AtEnd s → t ≡ end_tag
 tag_at_end s t p r e (nothing f) = absurd (omega (arith, begins_some t s (begins p r e), ap length f))
 tag_at_end s t p r e (end b) = begins_once t end_tag s (begins p r e) b

@@ -93,7 +93,7 @@ lent_decodes {may_allocate} {B} {S} value s fresh (Failed e) s' h =
       λ i. absurd (t.1 i),
     )
 
--- and has no match where the callback is
+-- a call that lends the reading has no match where its callback has none
 pub lent_no_match : {A : Type 0} {ts : List Tag} {may_allocate : Bool} {B : Grammar A} {S : Members} {N : Reading → Result A ASN1Error → Reading → Type 0} →
     IsDecoderByTags ts may_allocate B S N → (s : Reading) → IsFresh s → (o : Outcome A) (s' : Reading) → Lent N s s o s' →
     NoMatchElsewhere ts s (returned_of o) s'

@@ -97,7 +97,7 @@ module _ {F A : Type 0} {E : A → A → Type 0} {B : Grammar A} {S : Members} (
       let d = subst (λ z. Decodes may_allocate B S s z t.left) t.comes.3 (obeys f s t.own f' t.left fresh t.called) in
       d.0.explains.none (λ q. blames_not_memory t.comes.2 q)
 
-  -- and nothing is moved
+  -- a turn without a match consumes nothing
   no_match_same : (f : F) (s : Reading) (e : ASN1Error) (f' : F) (s' : Reading) → IsFresh s → ListTurn C f s (NoMatch e) f' s' → s' ≡ s
   no_match_same f s e f' s' fresh t =
       t.comes.4 ∙ ap (λ (c : List ℕ). record s { left = c; tag = None; failed = None }) (place_unconsumed s.left t.left.left t.comes.1) ∙ fresh_as s s.left fresh

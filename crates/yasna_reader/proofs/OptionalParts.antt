@@ -173,7 +173,7 @@ pub record NoMatchBefore {A : Type 0} (N : Does A) (Q : Members) : Type 0 where
   pub no_match : (s : Reading) (e : ASN1Error) (s' : Reading) → IsFresh s → N s (Err e) s' → EndsWith (Q s.mode s.levels) s.left →
       (s' ≡ s) × BlamesBytes (kind_of e)
 
--- so where nothing follows, for whatever decodes
+-- where nothing follows, a run of a decoder that returns an Err is a no-match
 pub no_match_at_end : {A : Type 0} {may_allocate : Bool} {B : Grammar A} {S : Members} {N : Does A} → IsDecoder may_allocate B S N → NoMatchBefore N AnyNothing
 no_match_at_end decoder = record {
   no_match = λ s e s' fresh h x.

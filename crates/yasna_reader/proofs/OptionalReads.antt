@@ -20,11 +20,11 @@ use Rattle.yasna_bytes.proofs.Rejection.{blames_bytes_of, at_end_elsewhere, begi
 abbrev pub StartsElsewhere : Tag → Members → Type 0
 StartsElsewhere t Q = (m : BERMode) (n : ℕ) (c r : List ℕ) → AtEnd r → Q m n c → IsElsewhere t (c ++ r)
 
--- so where nothing follows
+-- the end of contents doesn't begin with the tag
 pub nothing_elsewhere : (t : Tag) → (t ≡ end_tag → ⊥) → StartsElsewhere t AnyNothing
 nothing_elsewhere t not_end m n c r i q = subst (λ z. IsElsewhere t (z ++ r)) (sym q) (at_end_elsewhere t r not_end i)
 
--- and where a part follows that begins with another
+-- a part that begins with another tag doesn't begin with the tag
 pub part_elsewhere : {S : Members} (t u : Tag) (R : Members) → u.tag_number < 2 ^ 64 → (u ≡ t → ⊥) →
     ((m : BERMode) (n : ℕ) (b : List ℕ) → S m n b → BeginsWithTag u b) → StartsElsewhere t (AnyPart S R)
 part_elsewhere t u R range other starts m n c r i q =
@@ -57,11 +57,11 @@ module _ {V A : Type 0} (B : TaggedGrammar A) (view : V → A) (D : TaggedMember
         (subst (λ z. IsElsewhere t z) (sym q.joined) (elsewhere s.mode s.levels q.contents q.rest q.ends q.member));
   }
 
--- so for a read that goes one level down and takes no memory
+-- a read of one level that never allocates has no match where the bytes that follow begin with another tag
 pub leaf_no_match : {A : Type 0} (B : TaggedGrammar A) (t : Tag) (Q : Members) → StartsElsewhere t Q → NoMatchBefore (Reads B NoLevel NeverAllocates t) Q
 leaf_no_match B t Q = no_match_elsewhere B (λ v. v) NoLevel NeverAllocates t (λ n m s d. d.1) (λ n s x. absurd x) Q
 
--- and for one that may allocate, where what lies too deep begins with the tag
+-- a read that may allocate has no match before another tag, where an element that is too deep begins with the read's tag
 pub allocating_no_match : {V A : Type 0} (B : TaggedGrammar A) (view : V → A) (D : TaggedMembers) (t : Tag)
     (Q : Members) → ((n : ℕ) (m : BERMode) (s : List ℕ) → D n m t s → BeginsWithTag t s) → StartsElsewhere t Q →
     NoMatchBefore (ReadsSeen B view D MayAllocate t) Q

@@ -68,7 +68,7 @@ all_elsewhere (t ∷ ts) us s e range b =
     let y = and_parts (not (list_any (is_tag t) (end_tag ∷ us))) (share_none ts (end_tag ∷ us)) e in
     (elsewhere_by t us s (differs_from t (end_tag ∷ us) y.0) range b, all_elsewhere ts us s y.1 range b)
 
--- so what decodes by tags has no match before contents that begin by others
+-- a decoder by tags has no match before contents that begin by other tags
 pub no_match_before : {A : Type 0} {ts us : List Tag} {may_allocate : Bool} {B : Grammar A} {S Q : Members} {N : Does A} → IsDecoderByTags ts may_allocate B S N →
     share_none ts (end_tag ∷ us) ≡ true → ContentsBeginBy us Q → BeginInRange Q → NoMatchBefore N Q
 no_match_before {ts} {us} {Q} value none x range = record {
@@ -156,7 +156,7 @@ module _ {A V U : Type 0} {E : A → A →
     in_range = part_in_range Q laws.coding;
   }
 
-  -- one that may be omitted, where no tag of it is after it
+  -- an optional part, where none of its tags is after it
   pub option_by_tags : {make : Option A × V → U} {K : Option A → Does U} → CodingByTags ts E B S → IsDecoderByTags ts p B S N →
       share_none ts (end_tag ∷ us) ≡ true → ((v : Option A) → IsPartsDecoderByTags us q C Q (λ w. make (v, w)) (K v)) →
       IsPartsDecoderByTags (ts ++ us) (p || q) (PartOf (OptionOf B) C) (AnyPart (AnyOption S) Q) make (Step (ReadsOptional N) K)
@@ -170,7 +170,7 @@ module _ {A V U : Type 0} {E : A → A →
         in_range = left_out_in_range laws.coding y.in_range;
       }
 
-  -- and one that is the default d where it is omitted
+  -- a part that is the default d where it is omitted
   pub default_by_tags : {make : A × V → U} {K : A → Does U} (is : A → Bool) (eq : A → A → Bool) (d : A) → DetectsDefault E is d →
       ((v : A) → is v ≡ eq v d) → CodingByTags ts E B S → IsDecoderByTags ts p B S N → share_none ts (end_tag ∷ us) ≡ true →
       ((v : A) → IsPartsDecoderByTags us q C Q (λ w. make (v, w)) (K v)) →

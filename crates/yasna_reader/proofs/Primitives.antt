@@ -149,7 +149,7 @@ leaf_decodes B k h s r s' t x f =
     may_allocate_decodes false B (λ v. v) NoLevel NeverAllocates (λ m n v b. B n m (universal k) v b) (Any (λ m n v b. B n m (universal k) v b)) (universal k) (not_end k h)
     (λ m n v b y. y) (λ m n b y. y) (λ n m z. no_level_at_end n m (universal k) z (not_end k h)) (λ _ _ _ y. y) (λ _ _ y. absurd y) s r s' (f, t) x
 
--- so does one that may allocate, where what lies too deep begins with that tag
+-- a typed read that may allocate decodes under the type's own tag, where an element that is too deep begins with that tag
 pub allocating_decodes : {V A : Type 0} (B : TaggedGrammar A) (view : V → A) (D : TaggedMembers) (k : ℕ) →
     (k ≡ 0 → ⊥) → ((n : ℕ) (m : BERMode) (s : List ℕ) → D n m (universal k) s → BeginsWithTag (universal k) s) → (s : Reading) (r : Result V ASN1Error)
     (s' : Reading) → s.tag ≡ None → ReadsSeen B view D MayAllocate (universal k) s r s' → s.failed ≡ None →

@@ -187,7 +187,7 @@ order_of_same m l k h i =
     let ts = map (λ (x : SetElement). x.tag) k in
     order_of_elements m l ts (tags_of_same l k h) (order_of_values m k ts refl i)
 
--- and the same values
+-- equal elements have the same values
 pub values_of_same : (n : ℕ) (m : BERMode) (l k : List SetElement) (vs : List RawValue) → Each IsSameElement l k → Each (IsElementOf n m) k vs →
     Each (IsElementOf n m) l vs
 values_of_same n m [] [] vs h i = i
@@ -199,7 +199,7 @@ values_of_same n m (x ∷ l) (y ∷ k) (v ∷ vs) h i = (
   values_of_same n m l k vs h.1 i.1,
 )
 
--- and the same bytes
+-- equal elements have the same bytes
 pub same_bytes : (l k : List SetElement) → Each IsSameElement l k → elements_bytes l ≡ elements_bytes k
 same_bytes [] [] h = refl
 same_bytes [] (y ∷ k) h = absurd h

@@ -322,7 +322,7 @@ set_of_by_tag {may_allocate} C f t not_end laws value obeys = record {
   };
 }
 
--- and in no order
+-- a SET OF whose callback decodes an element a turn, its items in no order
 pub any_set_of_by_tag : {F A : Type 0} {E : A → A → Type 0} {may_allocate : Bool} {B : Grammar A} {S : Members} {N : Does A}
     (C : F → Reading → Result A ASN1Error → F → Reading → Type 0) (f : F) (t : Tag) → (t ≡ end_tag → ⊥) → IsCoding E B S → IsDecoder may_allocate B S N →
     ((f f' : F) (s : Reading) (r : Result A ASN1Error) (s' : Reading) → C f s r f' s' → N s r s') →

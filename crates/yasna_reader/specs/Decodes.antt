@@ -15,7 +15,7 @@ pub record Explains (may_allocate : Bool) (S : List ℕ → Type 0) (s : List �
   pub none : (kind_of f ≡ OutOfMemory → ⊥) → (b r : List ℕ) → s ≡ b ++ r → S b → ⊥
   pub memory : kind_of f ≡ OutOfMemory → may_allocate ≡ true
 
--- so does a sticky error
+-- the sticky error, if there is one, says that no prefix of s is in S, or is `OutOfMemory`
 abbrev pub StickyExplains : Bool → (List ℕ → Type 0) → List ℕ → Option ASN1Error → Type 0
 StickyExplains may_allocate S s None = Unit {0}
 StickyExplains may_allocate S s (Some f) = Explains may_allocate S s f

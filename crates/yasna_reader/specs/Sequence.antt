@@ -55,7 +55,7 @@ pub record Closes {A : Type 0} (end : ContentsEnd) (c y : List ℕ) (v : A) (s :
   pub returned : r ≡ Ok v
   pub state : s' ≡ record s { left = rest }
 
--- they don't end there
+-- contents don't end where the callback left them
 pub record StaysOpen {A : Type 0} (end : ContentsEnd) (c y : List ℕ) (s : Reading) (r : Result A ASN1Error) (s' : Reading) : Type 0 where
   pub error : ASN1Error
   pub blames_bytes : BlamesBytes (kind_of error)

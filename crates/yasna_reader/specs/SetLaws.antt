@@ -44,12 +44,12 @@ pub record ListsSet (n : ℕ) (m : BERMode) (l : List SetElement) (vs : List Raw
 abbrev pub ListsAreSets : Type 0
 ListsAreSets = (n : ℕ) (m : BERMode) (l : List SetElement) (c y : List ℕ) → IsSetList n m l c y ↔ ((vs : List RawValue) × ListsSet n m l vs c y)
 
--- and it is handed those of every SET
+-- a callback is given the contents of every SET
 abbrev pub SetsAreListed : Type 0
 SetsAreListed = (n : ℕ) (m : BERMode) (vs : List RawValue) (b c y : List ℕ) → SetElements m n vs b → c ≡ b ++ y → AtEnd y →
     (l : List SetElement) × (elements_bytes l ≡ b) × ListsSet n m l vs c y
 
--- they are the same elements, with the same end, however they were listed
+-- two lists of the elements of a SET are equal, with the same end
 abbrev pub ListsAreOne : Type 0
 ListsAreOne = (n : ℕ) (m : BERMode) (l k : List SetElement) (c y z : List ℕ) → IsSetList n m l c y → IsSetList n m k c z → Each IsSameElement l k × (y ≡ z)
 

@@ -210,11 +210,11 @@ general_spells_one m v w s x y = general_text_is s None v w x.text y.text
 pub general_spells_can : (m : BERMode) (v : Moment) (s : List ℕ) → SpellsGeneralizedTime m v s → IsGeneralMoment v
 general_spells_can m v s x = general_ranges s None v x.text
 
--- by the canonical text in each mode
+-- a time is spelled by its canonical text in each mode
 pub general_spells_canonical : (m : BERMode) (v : Moment) → IsGeneralMoment v → SpellsGeneralizedTime m v (general_text v)
 general_spells_canonical m v h = record { text = general_text_spells v h None; canonical = λ c. refl }
 
--- and in a canonical mode by no other
+-- a time is spelled by no other text in a canonical mode
 pub general_spells_only : (m : BERMode) (v : Moment) (s : List ℕ) → IsCanonicalMode m → SpellsGeneralizedTime m v s → s ≡ general_text v
 general_spells_only m v s c x = x.canonical c
 

@@ -12,7 +12,7 @@ use Rattle.yasna_times.specs.Fraction.{trimmed, nine_digits}
 use Rattle.yasna_times.specs.GeneralizedTime.{IsWholeMinutes}
 use Rattle.yasna_times.proofs.Decimal.{ascii_two, two_before, no_digits}
 
--- date-times with the same parts are one
+-- date-times with the same parts are equal
 pub clock_is : (a b : DateTime) (year month day hour minute second nano : ℤ) → IsYmd year month day a.date → IsYmd year month day b.date →
     IsHms hour minute second nano a.time → IsHms hour minute second nano b.time → a ≡ b
 clock_is a b year month day hour minute second nano d e t u =
@@ -25,7 +25,7 @@ clock_is a b year month day hour minute second nano d e t u =
     let f : a.time.subsec_nanosecond ≡ b.time.subsec_nanosecond = cc in
     same_datetime a b (civil_nanos-parts a ∙ (cc) ∙ sym (civil_nanos-parts b))
 
--- and so are those less by one offset than one local date-time
+-- date-times that are one local date-time less one offset are equal
 pub one_utc : (l r a b : DateTime) (z y : ℤ) → l ≡ r → z ≡ y → IsLess l z a → IsLess r y b → a ≡ b
 one_utc l r a b z y e f p q = same_datetime a b (p ∙ ap (λ x. civil_nanos x -ℤ nanos_of_seconds z) e ∙ ap (λ x. civil_nanos r -ℤ nanos_of_seconds x) f ∙ sym q)
 
@@ -56,7 +56,7 @@ after_year_ascii m s h a =
     ascii_two m.date.month days (month_short m.date)
     (ascii_two m.date.day hours (day_short m.date) (ascii_two m.hour minutes h.hour (ascii_two m.minute seconds h.minute (ascii_two m.second s h.second a))))
 
--- and they are digits
+-- the ten characters after the year are digits
 pub after_year_digits : (m : Moment) (s : List ℕ) → IsShort m → HasDigits (after_year m ++ s) 0 10
 after_year_digits m s h =
     let seconds = two_digits m.second ++ s in

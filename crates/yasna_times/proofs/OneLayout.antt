@@ -20,7 +20,7 @@ part_ends s given i j z (IsPart.none e) h =
     }
 part_ends s given i j z (IsPart.some m more r) h = record { some = λ ne. (m, r); none = λ same. absurd (omega arith) }
 
--- and at one place
+-- a fraction before a zone ends at one place
 pub part_is : (s : List ℕ) (given : Option ℤ) (i j k : ℕ) (z : ℤ) → EndsPart s i j → IsPart s i k → IsZone s given k z → k ≡ j
 part_is s given i j k z p (IsPart.none e) h =
     let head = zone_head s given i z (subst (λ x. IsZone s given x z) e h) in

@@ -109,11 +109,11 @@ utc_spells_one m v w s x y = utc_text_is s v w x.text y.text
 pub utc_spells_can : (m : BERMode) (v : DateTime) (s : List ℕ) → SpellsUtcTime m v s → IsUtcDateTime v
 utc_spells_can m v s x = x.text.in_range
 
--- by the canonical text in each mode
+-- a time is spelled by its canonical text in each mode
 pub utc_spells_canonical : (m : BERMode) (v : DateTime) → IsUtcDateTime v → SpellsUtcTime m v (utc_text v)
 utc_spells_canonical m v h = record { text = utc_text_spells v h; canonical = λ c. refl }
 
--- and in a canonical mode by no other
+-- a time is spelled by no other text in a canonical mode
 pub utc_spells_only : (m : BERMode) (v : DateTime) (s : List ℕ) → IsCanonicalMode m → SpellsUtcTime m v s → s ≡ utc_text v
 utc_spells_only m v s c x = x.canonical c
 

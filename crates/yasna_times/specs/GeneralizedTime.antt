@@ -69,11 +69,11 @@ part_digits s end zone = take (zone - (end + 1)) (drop (end + 1) s)
 abbrev pub is_leap : List ℕ → ℕ → Bool
 is_leap s end = if end == 14 then two_at s 12 == 60 else false
 
--- the minute, where the fraction of the last unit comes to so many seconds
+-- the minute, by the seconds in the fraction of the last unit
 abbrev pub minute_of : List ℕ → ℕ → ℕ → ℕ
 minute_of s end seconds = if end == 10 then seconds / 60 else two_at s 10
 
--- and the second, for 60 that before it
+-- the second, by the seconds in the fraction of the last unit; 59 for 60
 abbrev pub second_of : List ℕ → ℕ → ℕ → ℕ
 second_of s end seconds = if end == 14 then (if two_at s 12 == 60 then 59 else two_at s 12) else seconds % 60
 

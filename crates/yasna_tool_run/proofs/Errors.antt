@@ -17,7 +17,7 @@ none_rejected Q (Ok x) P h = tt
 none_rejected Q (Err (Refused e)) P h = absurd (cc h.0)
 none_rejected Q (Err Device) P h = tt
 
--- and what holds of that failure holds
+-- a property of the error of an end holds where only an end fails
 pub end_failed : {A Q P : Type 0} (r : Result A RunFault) → (Q → P) → OnErr r ((r ≡ Err Device) × Q) → IfIoError r P
 end_failed (Ok x) f h = tt
 end_failed (Err (Refused e)) f h = tt
@@ -78,7 +78,7 @@ module _ (O E F C K : Type 0) (R : ASN1Error → Type 0) (D G : Type 0) where
 pub when_io_error : {A : Type 0} {P : Type 0} (r : Result A RunFault) (f : RunFault) → r ≡ Err f → f ≡ Device → IfIoError r P → P
 when_io_error {A = A} {P = P} r f e d h = subst (λ z. IfIoError {A = A} z P) (e ∙ ap Err d) h
 
--- and where the bytes were rejected, what is said of that
+-- a clause on rejected bytes holds where the bytes were rejected
 pub when_rejected : {A : Type 0} {P : Type 0} (r : Result A RunFault) (f : RunFault) {x : ASN1Error} → r ≡ Err f → f ≡ Refused x
     → IfRejected r (λ _. P) → P
 when_rejected {A = A} {P = P} r f e d h = subst (λ z. IfRejected {A = A} z (λ _. P)) (e ∙ ap Err d) h

@@ -37,7 +37,7 @@ get_after (x ∷ xs) ys (suc i) h = let e : i - length xs ≡ suc i - suc (lengt
 after_block : (b : Vec Slot Global) (ys : List Slot) (i : ℕ) → length b.items ≡ 4096 → 4096 ≤ i → slice_get (b.items ++ ys) i ≡ slice_get ys (i - 4096)
 after_block b ys i l h = get_after b.items ys i (omega (arith, l)) ∙ ap (λ n. slice_get ys (i - n)) l
 
--- an entry of full blocks is in the block of its number
+-- a slot of full blocks is in the block of its number
 pub slot_in_block :
     (bs : List (Vec Slot Global)) (i : ℕ) (b : Vec Slot Global) → AreFull bs → slice_get bs (i / 4096) ≡ Some b
     → slice_get (in_blocks bs) i ≡ slice_get b.items (i % 4096)
@@ -54,7 +54,7 @@ slot_in_block (c ∷ cs) i b f e = elim (cases_lt i 4096) [
       after_block c (in_blocks cs) i f.0 h ∙ slot_in_block cs (i - 4096) b f.1 (ap (slice_get (c ∷ cs)) q ∙ e) ∙ ap (slice_get b.items) r
 ]
 
--- and nowhere where there is none
+-- a slot whose block is absent is absent
 pub slot_in_none :
     (bs : List (Vec Slot Global)) (i : ℕ) → AreFull bs → slice_get bs (i / 4096) ≡ None → slice_get (in_blocks bs) i ≡ None
 slot_in_none [] i f e = refl

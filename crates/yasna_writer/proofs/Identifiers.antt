@@ -94,7 +94,7 @@ base128_two k h l =
     let q : k / 128 < 128 = omega arith in
     base128_step k h ∙ ap (λ ds. map (λ d. 128 + d) ds ++ (k % 128 ∷ [])) (digits_small 128 (k / 128) (omega arith) q)
 
--- and of three
+-- a number of three bytes
 pub base128_three : (k : ℕ) → 16384 ≤ k → k < 2097152 → base128 k ≡ (128 + k / 128 / 128) ∷ (128 + k / 128 % 128) ∷ k % 128 ∷ []
 base128_three k h l =
     let q : k / 128 / 128 < 128 = omega arith in

@@ -103,7 +103,7 @@ pub big_some : (positive : Bool) (b : List ℕ) → 0 < length (trim_leading 0 b
 unfolding big_integer
 big_some positive b h = signed_some positive (trim_leading 0 b) h
 
--- and where none do
+-- the number of bytes that are all zeros
 pub big_none : (positive : Bool) (b : List ℕ) → length (trim_leading 0 b) ≡ 0 → signed_number true (trim_leading 0 b) ≡ big_integer b positive
 unfolding big_integer
 big_none positive b h = signed_none positive (trim_leading 0 b) h

@@ -22,7 +22,7 @@ pub short_element :
 unfolding canonical_element definite_element
 short_element m t c h k = ap₂ (λ i l. i ++ (l ++ c)) (identifier_short t Primitive h) (short_length (length c) k)
 
--- those two bytes, and the contents
+-- an element with a short tag and short contents is two bytes, and the contents
 pub short_bytes :
     (m : BERMode) (t : Tag) (first count : ℕ) (c : List ℕ) → t.tag_number < 31 → length c < 128 → first ≡ leading_byte t Primitive t.tag_number
     → count ≡ length c → first ∷ count ∷ c ≡ canonical_element m t Primitive c

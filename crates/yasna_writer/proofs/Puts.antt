@@ -15,7 +15,7 @@ put_prefix octets end old new start k p within le =
     let there : length (take start old) ≡ start = prefix_length start old (omega (arith, p.place)) in
     ap (take k) p.bytes ∙ take-append-le k (take start old) (octets ++ drop end old) (omega (arith, there)) ∙ take-take k start old le
 
--- and from it on there are the octets and what was after
+-- the octets, and what was after them, are from the first octet on
 pub put_back :
     (octets : List ℕ) (end : ℕ) (old new : List ℕ) (start : ℕ) → PutBefore octets end old new start → end ≤ length old
     → drop start new ≡ octets ++ drop end old

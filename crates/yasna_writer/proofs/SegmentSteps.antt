@@ -34,7 +34,7 @@ goes_apart k contents pieces t Ber v h = absurd (cc)
 goes_apart k contents pieces t Der v h = absurd (cc)
 goes_apart k contents pieces t Cer v h = rw h refl
 
--- so few octets aren't cut
+-- 1000 octets or fewer aren't cut
 pub octets_whole : (t : Tag) (m : BERMode) (b : List ℕ) → length b ≤ 1000 → canonical_element m t Primitive b ≡ octets_encoding t m b
 octets_whole t Ber b h = refl
 octets_whole t Der b h = refl
@@ -133,7 +133,7 @@ pub full_octets : (b : List ℕ) → length b ≡ 1000 → (4 ∷ 130 ∷ 3 ∷ 
 unfolding canonical_element definite_element identifier shortest_length digits
 full_octets b h = ap (λ n. 4 ∷ (shortest_length n ++ b)) (sym h)
 
--- so do 999 bytes of bits after the count of those left over, none
+-- 999 bytes of bits are after their tag, 1000 in two bytes, and a count of no unused bits
 pub full_bits : (b : List ℕ) → length b ≡ 999 → (3 ∷ 130 ∷ 3 ∷ 232 ∷ 0 ∷ []) ++ b ≡ bit_segment (bits_with 0 b)
 unfolding canonical_element definite_element identifier shortest_length digits
 full_bits b h =
