@@ -7,6 +7,7 @@
 # | Stage | What has to hold |
 # |---|---|
 # | api | docs/API.md lists the public items as the sources declare them |
+# | words | names, comments and documents use the words that ci/words.txt allows |
 # | guide | each piece of code that a document shows is in a proved crate |
 # | lifetimes | a slice that outlives the input is rejected by the borrow checker |
 # | proofs | each crate is proved, and so are its tests |
