@@ -3,22 +3,22 @@
 //! A line is `MODE CALL ARG => ANSWER`. MODE is `ber`, `der` or `cer` where bytes are read, `x` elsewhere. ARG is the bytes in
 //! hexadecimal, `-` for none, unless the call says otherwise; `3080*200+00` is 200 times the bytes 3080, and a byte 00 after.
 //! ANSWER is `ok VALUE HEX`, where HEX is what the matching writes make of the value in DER, or `err KIND`. After a rejected
-//! read may be ` moved` or ` consumed_nothing`: then the call is made twice in a SEQUENCE around ARG, in CER in none, and says
+//! read may be ` moved` or ` unmoved`: then the call is made twice in a SEQUENCE around ARG, in CER in none, and says
 //! whether the error is sticky. ANSWER may say how often a text is in it too: `ok h+5b*3+ 0403+5b*3` is `ok h5b5b5b 04035b5b5b`.
 //! Lines that begin with `#` and blank lines are passed over.
 //!
 //! With no argument the program reads such lines from standard input, and says how many ran and how many failed; each
 //! that failed is printed with what came. Then it says the same of the lines' bytes, cut and with other lengths. With the
-//! argument `outcome` it reads lines with no answer, and prints one each, `unknown` where it has no such call. `task` tells
+//! argument `answer` it reads lines with no answer, and prints one each, `unknown` where it has no such call. `task` lists
 //! the other arguments.
 //!
 //! | Status | When |
 //! |---|---|
 //! | 0 | no line failed |
 //! | 1 | a line failed |
-//! | 2 | a line is none, or names no call, or the arguments are others |
+//! | 2 | a line is none, or names no call, or a usage error |
 //! | 3 | a read or a write failed |
-//! | 4 | there was no memory for the program itself |
+//! | 4 | out of memory for the program itself |
 //!
 //! | Module | Holds |
 //! |---|---|
@@ -26,10 +26,10 @@
 //! | `task` | what the arguments ask for |
 //! | `run` | all lines, one after the other |
 //! | `hostile` | their bytes, cut and with other lengths |
-//! | `memory` | lines of which a request for memory is refused |
+//! | `memory` | lines of which a request for memory fails |
 //! | `fuzz`, `mutation`, `random` | calls on random input, and how it is made |
-//! | `text` | returns as text |
-//! | `outcome` | which family returns a call |
+//! | `text` | results as text |
+//! | `outcome` | which family a call belongs to |
 //! | `calls` | the calls that read, by their names |
 //! | `reads` | what such a call reads |
 //! | `reading` | how such a call is made |
@@ -38,7 +38,7 @@
 //! | `strings`, `nest` | classes of text, SEQUENCEs one in the other |
 //! | `tree` | elements of many types, as deep as they are |
 //! | `many` | octet strings and lists of any length |
-//! | `sticky_errors` | failures that callbacks discard, call in call |
+//! | `sticky_errors` | errors that callbacks discard, call in call |
 //! | `whole` | types that are read and written as a whole |
 //! | `writing`, `length` | calls that write |
 //! | `rejecting_closures` | writes whose closures reject, call in call |
@@ -97,7 +97,7 @@ fn main(rt: HostRuntime) -> ExitCode {
         Err(error) => {
             let _ = eprintln!(rt; "{error}");
             match error.kind() {
-                io::ErrorElementType::OutOfMemory => ExitCode::from(4),
+                io::ErrorKind::OutOfMemory => ExitCode::from(4),
                 _ => ExitCode::from(3),
             }
         }

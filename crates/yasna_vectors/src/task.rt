@@ -4,7 +4,7 @@
 //! |---|---|
 //! | none | they are checked, then cut, then their lengths are changed |
 //! | `lines`, `cut`, `length` | one of these alone |
-//! | `outcome` | lines with no answer are returned |
+//! | `answer` | lines with no answer are returned |
 //! | `memory` | they are run where a request for memory is refused |
 //! | `fuzz SEED COUNT` | so many inputs are made of them at random |
 
