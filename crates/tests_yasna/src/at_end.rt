@@ -122,11 +122,11 @@ static NUMBERS: [(&str, BERMode, &[u8], Outcome); 4] = [
 
 fn has_outcome(alloc: Global, mode: BERMode, bytes: &[u8], outcome: Outcome) -> bool {
     let callback = |reader: BERReader| small(alloc, reader);
-    let outcome = match mode {
+    let parsed = match mode {
         Ber => try_parse_ber(alloc, bytes, callback),
         _ => try_parse_cer(alloc, bytes, callback),
     };
-    match outcome {
+    match parsed {
         Ok(_) => matches!(outcome, Outcome::Read),
         Err(Rejected::Large) => matches!(outcome, Outcome::Large),
         Err(Rejected::Encoding(_)) => matches!(outcome, Outcome::Encoding),
