@@ -1,26 +1,32 @@
 //! The bytes that a read took.
 
-use crate::checks::holds;
 use std::alloc::Global;
-use yasna::{ASN1Result, parse_der};
+use yasna::{ASN1Result, BERReader, BERReaderSeq, parse_der};
 
-// The bytes of the first part, a number. They outlive the reading that they were taken by.
+// The first part, a number, and the bytes of its element.
+fn number_and_bytes<'a>(parts: &mut BERReaderSeq<'a, '_>) -> ASN1Result<(i64, &'a [u8])> {
+    parts.read_with_buffer(|parts| parts.next().read_i64())
+}
+
+fn first_number_and_bytes<'a>(reader: BERReader<'a, '_>) -> ASN1Result<(i64, &'a [u8])> {
+    reader.read_sequence(number_and_bytes)
+}
+
+// The bytes outlive the reading that they were taken by.
 fn bytes_of_number(alloc: Global, input: &[u8]) -> ASN1Result<&[u8]> {
-    parse_der(alloc, input, |reader| {
-        reader.read_sequence(|parts| {
-            let (_, bytes) = parts.read_with_buffer(|parts| parts.next().read_i64())?;
-            Ok(bytes)
-        })
-    })
+    let (_, bytes) = parse_der(alloc, input, first_number_and_bytes)?;
+    Ok(bytes)
+}
+
+fn has_bytes_of_number(alloc: Global, input: &[u8], bytes: &[u8]) -> bool {
+    match bytes_of_number(alloc, input) {
+        Ok(found) => found == bytes,
+        Err(_) => false,
+    }
 }
 
 #[test]
 fn bytes_outlive_their_reading(rt: HostRuntime) {
     let input = [48, 4, 2, 2, 1, 44];
-    let bytes = bytes_of_number(rt.alloc(), &input);
-    holds(
-        &rt,
-        "a number's bytes",
-        Ok(matches!(bytes, Ok([2, 2, 1, 44]))),
-    );
+    assert!(rt; has_bytes_of_number(rt.alloc(), &input, &[2, 2, 1, 44]));
 }
