@@ -150,19 +150,32 @@ fn is_deep(
     is_malformed(alloc, &text, malformed)
 }
 
-// A header, so many zeros after it, and the header that is written.
-static LONG: [(&str, usize, &str); 2] = [
-    ("0488000000000000007F", 127, "047F"),
-    ("04880000000000000080", 128, "048180"),
+// A header before zeros, how many zeros, and the header that is written before them.
+static LONG: [([&str; 4], usize, [&str; 4]); 2] = [
+    (
+        ["0488000000000000007F", "00", "", ""],
+        127,
+        ["047F", "00", "", ""],
+    ),
+    (
+        ["04880000000000000080", "00", "", ""],
+        128,
+        ["048180", "00", "", ""],
+    ),
 ];
 
-fn is_long(alloc: Global, header: &str, zeros: usize, written: &str) -> ASN1Result<bool> {
-    let input = spelled(alloc, [header, "00", "", ""], zeros)?;
-    let output = spelled(alloc, [written, "00", "", ""], zeros)?;
+fn is_long(
+    alloc: Global,
+    read: [&'static str; 4],
+    zeros: usize,
+    written: [&'static str; 4],
+) -> ASN1Result<bool> {
+    let input = spelled(alloc, read, zeros)?;
+    let output = spelled(alloc, written, zeros)?;
     is_converted(alloc, &input, &output, [None, None])
 }
 
-// What is written, the first doubts, and where malformed elements are rejected.
+// What is written, the first ambiguities, and where malformed elements are rejected.
 #[test]
 fn elements_in_ber_become_der_or_are_rejected(rt: HostRuntime) {
     for row in &CONVERTED {
@@ -176,7 +189,8 @@ fn elements_in_ber_become_der_or_are_rejected(rt: HostRuntime) {
         );
     }
     for row in &LONG {
-        holds(&rt, row.0, is_long(rt.alloc(), row.0, row.1, row.2));
+        let [header, ..] = row.0;
+        holds(&rt, header, is_long(rt.alloc(), row.0, row.1, row.2));
     }
     for row in &DEEP {
         holds(&rt, row.0, is_deep(rt.alloc(), row.1, row.2));
