@@ -56,11 +56,14 @@ enum Whole {
 
 const STORE: [i64; 2] = [5, 6];
 
-// That an entry is missing is an error of a kind that encodings here don't have.
+// `StackOverflow` only where the entry is missing: an encoding that is rejected so becomes `Invalid`, and no row takes one for the other.
 fn encoding_error(error: StoreError) -> ASN1Error {
     match error {
         StoreError::NoSuchEntry => ASN1Error::new(StackOverflow),
-        StoreError::Encoding(error) => error,
+        StoreError::Encoding(error) => match error.kind() {
+            StackOverflow => ASN1Error::new(Invalid),
+            _ => error,
+        },
     }
 }
 
