@@ -234,7 +234,7 @@ pub sorted_encoding_made : {A : Type 0} {E : A → A → Type 0} {B : Grammar A}
     IsCoding E B S → IsWritten E B encoding depth Can → (t : Tag) → t.tag_number < 2 ^ 64 → (m : BERMode) (vs : List A) (parts : List (List ℕ)) →
     IsCanonicalMode m → AllByRecursion Can vs → length (sorted_set_of_encoding encoding t m vs) < 2 ^ 64 → IsPermutation (encodings encoding m vs) parts →
     MakeElement SetOfContents m t parts (sorted_set_of_encoding encoding t m vs)
-sorted_encoding_made r x t range m vs parts = (set_of_written r x t range).made m vs parts
+sorted_encoding_made r x t range m vs parts = (set_of_written r x t range).encodings.made m vs parts
 
 -- on one level a type that satisfies the laws of a canonical mode has encodings
 on_level : {A : Type 0} {E : A → A → Type 0} {B : Grammar A} {encoding : Encoding A} {Fits : Fitting A} {Can : A → Type 0} →

@@ -21,7 +21,7 @@ use Rattle.yasna_base.specs.Order.{octets_cmp, put_in, in_order}
 use Rattle.yasna_base.specs.Pieces.{Each}
 use Rattle.yasna_base.specs.SequenceOf.{IsListOf, elements_encoding, elements_depth}
 use Rattle.yasna_base.specs.Set.{AreInSetOfOrder, SetOfElements, IsSetOf, SetOfContents}
-use Rattle.yasna_base.specs.SetWriting.{MakeElement, encodings, in_encoding_order, CanSetOf, set_of_encoding, set_of_depth, SetOfIsWritten, SetOfKeepsReadingLaws, SetOfKeepsWritingLaws, SetOfKeepsLaws}
+use Rattle.yasna_base.specs.SetWriting.{MakeElement, encodings, in_encoding_order, CanSetOf, set_of_encoding, set_of_depth, SetOfHasEncodings, SetOfIsWritten, SetOfKeepsReadingLaws, SetOfKeepsWritingLaws, SetOfKeepsLaws}
 use Rattle.yasna_base.proofs.Canonical.{enclosed_has, enclosed_written, holds_own, short_contents}
 use Rattle.yasna_base.proofs.Identifier.{begins_some}
 use Rattle.yasna_base.proofs.Order.{sorted_order, in_order_rising, rises_sorted, all_order, all_order_back, all_permuted, in_order_map}
@@ -160,7 +160,7 @@ as_list B t m zero vs b p = p
 as_list B t m (suc n) vs b p = record { contents = p.contents; element = p.element; meaning = p.meaning.elements }
 
 module _ {A : Type 0} {E : A → A → Type 0} {B : Grammar A} {S : Members} {encoding : Encoding A}
-    {depth : Depth A} {Can : A → Type 0} (r : IsCoding E B S) (x : IsWritten E B encoding depth Can) (t : Tag) (range : t.tag_number < 2 ^ 64) where
+    {depth : Depth A} {Can : A → Type 0} (r : IsCoding E B S) (x : HasEncoding B encoding depth (λ m. Can)) (t : Tag) (range : t.tag_number < 2 ^ 64) where
   element_starts : (m : BERMode) (n : ℕ) (v : A) (b : List ℕ) → B m n v b → StartsElement b
   element_starts m n v b p = r.opens m n b (r.meaning.among m n v b p)
 
@@ -169,18 +169,18 @@ module _ {A : Type 0} {E : A → A → Type 0} {B : Grammar A} {S : Members} {en
       AllByRecursion (λ b. b ≡ [] → ⊥) (encodings encoding m vs)
   encodings_non_empty m vs h can short =
       each_non_empty (element_starts m (elements_depth depth m vs)) vs (encodings encoding m vs)
-      (each_encoding x.has m m (elements_depth depth m vs) vs (holds_own m h) can (omega arith) short)
+      (each_encoding x m m (elements_depth depth m vs) vs (holds_own m h) can (omega arith) short)
 
   -- nor is any that was read
   read_non_empty : (m : BERMode) (n : ℕ) (vs : List A) (b : List ℕ) → IsCanonicalMode m → IsSetOf B t m n vs b → AllByRecursion (λ b. b ≡ [] → ⊥) (encodings encoding m vs)
   read_non_empty m zero vs b h p = absurd p
   read_non_empty m (suc n) vs b h p =
       let bs = p.meaning.elements.pieces in
-      subst (λ cs. AllByRecursion (λ b. b ≡ [] → ⊥) cs) (each_only x.has m n vs bs h p.meaning.elements.each).0
+      subst (λ cs. AllByRecursion (λ b. b ≡ [] → ⊥) cs) (each_only x m n vs bs h p.meaning.elements.each).0
       (each_non_empty (element_starts m n) vs bs p.meaning.elements.each)
 
   set_of_has : HasEncoding (IsSetOf B t) (set_of_encoding encoding t) (set_of_depth depth) (CanSetOf encoding Can)
-  set_of_has = enclosed_has (set_of_elements_have x.has) t range
+  set_of_has = enclosed_has (set_of_elements_have x) t range
 
   set_of_made : (m : BERMode) (vs : List A) (parts : List (List ℕ)) → IsCanonicalMode m → AllByRecursion Can vs →
       length (set_of_encoding encoding t m (in_encoding_order encoding m vs)) < 2 ^ 64 → IsPermutation (encodings encoding m vs) parts →
@@ -202,22 +202,28 @@ module _ {A : Type 0} {E : A → A → Type 0} {B : Grammar A} {S : Members} {en
       parts_make m t (encodings encoding m vs) parts b (read_non_empty m n vs b h y) p
       (one.0 ∙ around_encodings encoding m t vs (in_order octets_cmp (encodings encoding m vs)) (sym (octets_ordered m (encodings encoding m vs) h one.1.order)))
 
-  -- a SET OF satisfies the laws of writing
-  pub set_of_written : SetOfIsWritten E B encoding depth Can t
-  set_of_written =
-      let all = enclosed_written t range (elements_written x) in
-      record {
-        has = set_of_has;
-        ordered = λ m vs can. (
-          encoding_ordered encoding m vs can,
-          ap (λ n. 1 + n)
-              (depth_permuted depth m vs (in_encoding_order encoding m vs) (in_order_permuted (λ v w. octets_cmp (encoding m v) (encoding m w)) vs)),
-        );
-        any = λ n vs b p. all.any n vs b (as_list B t Ber n vs b p);
-        same = all.same;
-        made = set_of_made;
-        again = set_of_again;
-      }
+  -- a SET OF satisfies the laws of the encodings
+  pub set_of_encodings : SetOfHasEncodings B encoding depth Can t
+  set_of_encodings = record {
+    has = set_of_has;
+    ordered = λ m vs can. (
+      encoding_ordered encoding m vs can,
+      ap (λ n. 1 + n) (depth_permuted depth m vs (in_encoding_order encoding m vs) (in_order_permuted (λ v w. octets_cmp (encoding m v) (encoding m w)) vs)),
+    );
+    made = set_of_made;
+    again = set_of_again;
+  }
+
+-- a SET OF satisfies the laws of writing
+pub set_of_written : {A : Type 0} {E : A → A → Type 0} {B : Grammar A} {S : Members} {encoding : Encoding A} {depth : Depth A} {Can : A → Type 0} →
+    IsCoding E B S → IsWritten E B encoding depth Can → (t : Tag) → t.tag_number < 2 ^ 64 → SetOfIsWritten E B encoding depth Can t
+set_of_written {B = B} r x t range =
+    let all = enclosed_written t range (elements_written x) in
+    record {
+      encodings = set_of_encodings r x.has t range;
+      any = λ n vs b p. all.any n vs b (as_list B t Ber n vs b p);
+      same = all.same;
+    }
 
 -- under any tag a SET OF satisfies the laws of reading, where its elements do
 pub set_of_reading : {A : Type 0} {E : A → A → Type 0} {B : Grammar A} {S : Members} → IsCoding E B S → SetOfKeepsReadingLaws E B S

@@ -6,6 +6,7 @@ use Rattle.yasna_base.specs.declared.mode.BERMode.{BERMode}
 use Rattle.yasna_base.specs.declared.mode.BERMode.TheVariants.{Ber, Der}
 use Rattle.yasna_base.specs.declared.tag.PCBit.TheVariants.{Constructed}
 use Rattle.yasna_base.specs.declared.tag.Tag.{Tag}
+use Rattle.yasna_base.specs.Bits.{IsBits, bits_encoding, bits_depth, AreCanonicalBits}
 use Rattle.yasna_base.specs.Canonical.{IsCanonicalMode, HoldsEncoding, canonical_element, enclosed_encoding, enclosed_depth, HasEncoding}
 use Rattle.yasna_base.specs.Coding.{IsCoding, Any}
 use Rattle.yasna_base.specs.Element.{AnyEnclosed}
@@ -16,6 +17,7 @@ use Rattle.yasna_base.specs.Pieces.{Each}
 use Rattle.yasna_base.specs.Raw.{RawValue, IsRaw, raw_encoding}
 use Rattle.yasna_base.specs.SequenceOf.{elements_encoding, elements_depth}
 use Rattle.yasna_base.specs.Set.{AreInSetOfOrder, IsSetOf, AnySetOf, AreInSetOrder, IsSet, SetElements, SetOfContents, SetPart, part_cmp, SetContents}
+use Rattle.yasna_base.specs.Text.{IsStringOf, IsTextIn, IsUtf8In, utf8_encoding, utf8_depth}
 
 -- the parts make contents, and no others, and b is the element around them
 pub record MakeElement (Contents : List (List ℕ) → List ℕ → Type 0) (m : BERMode) (t : Tag) (parts : List (List ℕ)) (b : List ℕ) : Type 0 where
@@ -45,19 +47,13 @@ set_of_encoding encoding t = enclosed_encoding (elements_encoding encoding) t
 abbrev pub set_of_depth : {A : Type 0} → Depth A → Depth (List A)
 set_of_depth depth = enclosed_depth (elements_depth depth)
 
--- The laws of writing of SET OF under the tag t, whose elements satisfy those of reading and of writing
-pub record SetOfIsWritten {A : Type 0} (E : A → A → Type 0) (B : Grammar A) (encoding : Encoding A)
-    (depth : Depth A) (Can : A → Type 0) (t : Tag) : Type 0 where
+-- The laws of the encodings of SET OF under the tag t, whose elements have encodings
+pub record SetOfHasEncodings {A : Type 0} (B : Grammar A) (encoding : Encoding A) (depth : Depth A) (Can : A → Type 0) (t : Tag) : Type 0 where
   -- values in the order of their encodings have one encoding: it is read, in its mode and in BER, and a canonical mode reads nothing else
   pub has : HasEncoding (IsSetOf B t) (set_of_encoding encoding t) (set_of_depth depth) (CanSetOf encoding Can)
   -- any values that can be written can be put in that order, with the same depth
   pub ordered : (m : BERMode) (vs : List A) → AllByRecursion Can vs →
       CanSetOf encoding Can m (in_encoding_order encoding m vs) × (set_of_depth depth m (in_encoding_order encoding m vs) ≡ set_of_depth depth m vs)
-  -- what BER reads can be written
-  pub any : (n : ℕ) (vs : List A) (b : List ℕ) → IsSetOf B t Ber n vs b → AllByRecursion Can vs × (set_of_depth depth Der vs ≤ n)
-  -- equal values are written alike
-  pub same : (m : BERMode) (vs ws : List A) → Each E vs ws →
-      (set_of_encoding encoding t m vs ≡ set_of_encoding encoding t m ws) × (AllByRecursion Can vs → AllByRecursion Can ws) × (set_of_depth depth m vs ≡ set_of_depth depth m ws)
   -- parts that are the encodings of values, however they are, make the encoding of the values in order
   pub made : (m : BERMode) (vs : List A) (parts : List (List ℕ)) → IsCanonicalMode m → AllByRecursion Can vs →
       length (set_of_encoding encoding t m (in_encoding_order encoding m vs)) < 2 ^ 64 → IsPermutation (encodings encoding m vs) parts →
@@ -65,6 +61,16 @@ pub record SetOfIsWritten {A : Type 0} (E : A → A → Type 0) (B : Grammar A) 
   -- the encodings of what a canonical mode read, however they are, make the bytes that were read
   pub again : (m : BERMode) (n : ℕ) (vs : List A) (b : List ℕ) (parts : List (List ℕ)) → IsCanonicalMode m → IsSetOf B t m n vs b →
       IsPermutation (encodings encoding m vs) parts → MakeElement SetOfContents m t parts b
+
+-- The laws of writing of SET OF under the tag t, whose elements satisfy those of reading and of writing
+pub record SetOfIsWritten {A : Type 0} (E : A → A → Type 0) (B : Grammar A) (encoding : Encoding A)
+    (depth : Depth A) (Can : A → Type 0) (t : Tag) : Type 0 where
+  pub encodings : SetOfHasEncodings B encoding depth Can t
+  -- what BER reads can be written
+  pub any : (n : ℕ) (vs : List A) (b : List ℕ) → IsSetOf B t Ber n vs b → AllByRecursion Can vs × (set_of_depth depth Der vs ≤ n)
+  -- equal values are written alike
+  pub same : (m : BERMode) (vs ws : List A) → Each E vs ws →
+      (set_of_encoding encoding t m vs ≡ set_of_encoding encoding t m ws) × (AllByRecursion Can vs → AllByRecursion Can ws) × (set_of_depth depth m vs ≡ set_of_depth depth m ws)
 
 -- SET OF satisfies the laws of reading under any tag, if its elements do
 abbrev pub SetOfKeepsReadingLaws : {A : Type 0} → (A → A → Type 0) → Grammar A → Members → Type 0
@@ -80,6 +86,17 @@ abbrev pub SetOfKeepsLaws : {A : Type 0} → TaggedGrammar A → (Tag → Encodi
 SetOfKeepsLaws B encoding depth Can =
     AnyTag (λ u. SetOfKeepsReadingLaws (λ v w. v ≡ w) (λ m n v b. B n m u v b) (Any (λ m n v b. B n m u v b))
     × SetOfKeepsWritingLaws (λ v w. v ≡ w) (λ m n v b. B n m u v b) (encoding u) depth Can)
+
+-- SET OF texts of a class satisfies both
+abbrev pub SetOfTextKeepsLaws : (ℕ → Type 0) → Type 0
+SetOfTextKeepsLaws In = SetOfKeepsLaws (IsStringOf (IsUtf8In In)) utf8_encoding utf8_depth (IsTextIn In)
+
+-- SET OF bit strings satisfies the laws of reading, and those of the encodings of canonical ones. What BER reads may be written
+-- otherwise, as the strings with their unused bits cleared
+abbrev pub SetOfBitsKeepLaws : Type 0
+SetOfBitsKeepLaws =
+    AnyTag (λ u. SetOfKeepsReadingLaws (λ v w. v ≡ w) (λ m n v b. IsBits n m u v b) (Any (λ m n v b. IsBits n m u v b))
+    × AnyTag (λ t. SetOfHasEncodings (λ m n v b. IsBits n m u v b) (bits_encoding u) bits_depth AreCanonicalBits t))
 
 -- SET OF satisfies the laws of reading under any tag, where its elements, of which B n m u v b says so under the tag u, have any tag
 abbrev pub SetOfKeepsReadingOf : {A : Type 0} → TaggedGrammar A → Type 0

@@ -2,7 +2,12 @@
 //!
 //! These functions do nothing. Their contracts state the laws that every reader and every writer above relies on:
 //! bytes have one meaning, encodings are prefix-free, and each value has one encoding in DER and one in CER.
-ghost use Rattle.std.specs.Prelude.{◌≡◌, ◌<◌, ◌^◌, ℕ, List, length, true, MatchResult, IsTrue, ◌↔◌, FitsSigned};
+ghost use Rattle.std.specs.Hash as fed;
+ghost use Rattle.yasna_base.specs.declared.error.ASN1Error.{ASN1Error};
+ghost use Rattle.yasna_base.specs.declared.error.ASN1ErrorKind.{ASN1ErrorKind};
+ghost use Rattle.yasna_base.specs.declared.models.oid_text.ParseOidError.{ParseOidError};
+ghost use Rattle.yasna_base.specs.Error.{kind_of};
+ghost use Rattle.std.specs.Prelude.{◌≡◌, ◌++◌, ◌<◌, ◌^◌, ℕ, List, length, true, MatchResult, IsTrue, ◌↔◌, FitsSigned};
 ghost use Rattle.std.specs.Int.{w64};
 ghost use Rattle.std.specs.List.{AllByRecursion};
 ghost use Rattle.std.specs.Cmp.Lexicographic.{slice_cmp};
@@ -25,15 +30,16 @@ ghost use Rattle.yasna_base.specs.BigInteger.{IsBigInteger, big_integer_encoding
 ghost use Rattle.yasna_base.specs.Segmented.{DeepIsNone};
 ghost use Rattle.yasna_base.specs.Octets.{IsOctets, octets_encoding, octets_depth, octets_segmentation, OctetsKeepLaws};
 ghost use Rattle.yasna_base.specs.Bits.{IsBits, bits_segmentation, BitsKeepLaws};
-ghost use Rattle.yasna_base.specs.Text.{InUtf8, InNumeric, InPrintable, InVisible, InIa5, IsBmp, IsStringOf, IsUtf8In, TextKeepsLaws, BmpKeepsLaws};
+ghost use Rattle.yasna_base.specs.Text.{InUtf8, InNumeric, InPrintable, InVisible, InIa5, IsBmp, IsPairedBmp, IsStringOf, IsTextIn, IsUtf8In, TextKeepsLaws, BmpKeepsLaws, bmp_encoding, bmp_depth};
 ghost use Rattle.yasna_base.specs.Oid.{OidKeepsLaws};
 ghost use Rattle.yasna_base.specs.OidText.{ran_out_of_memory};
 ghost use Rattle.yasna_base.specs.declared.models.tagged_der_value.TaggedDerValue.{TaggedDerValue};
 ghost use Rattle.yasna_base.specs.TaggedDerValue.{raw_of};
 ghost use Rattle.yasna_base.specs.Raw.{RawKeepsReadingLaws, TooDeepIsNotRaw};
 ghost use Rattle.yasna_base.specs.SetLaws.{SetKeepsReadingLaws, SetOfOrderIsOne, SetOrderIsOne, SetContentsAreOne};
-ghost use Rattle.yasna_base.specs.SetWriting.{SetOfKeepsLaws, SetOfKeepsReadingOf, SetOfRawKeepsReadingLaws, SetOfSetKeepsReadingLaws, SetKeepsWritingLaws};
+ghost use Rattle.yasna_base.specs.SetWriting.{SetOfKeepsLaws, SetOfTextKeepsLaws, SetOfBitsKeepLaws, SetOfKeepsReadingOf, SetOfRawKeepsReadingLaws, SetOfSetKeepsReadingLaws, SetKeepsWritingLaws};
 
+use crate::error::{ASN1Error, ASN1ErrorKind};
 use crate::mode::BERMode;
 use crate::models::{ObjectIdentifier, ParseOidError, TaggedDerValue};
 use crate::tag::{PCBit, Tag, TagClass};
@@ -48,6 +54,7 @@ use crate::tags::{
 };
 use std::alloc::Global;
 use std::cmp::Ordering;
+use std::hash::Hash;
 
 /// The universal tags have the numbers that X.680, 8.6, gives them.
 pub fn universal_tags()
@@ -104,6 +111,23 @@ pub fn orders()
 pub fn raw_orders()
     ensures order { (v w : TaggedDerValue) → ⟦<TaggedDerValue as Ord>⟧.cmp v w ≡ ordering_then (⟦<Tag as Ord>⟧.cmp v.tag w.tag) (ordering_then (⟦<PCBit as Ord>⟧.cmp v.pcbit w.pcbit) (slice_cmp nat_cmp v.value.items w.value.items)) }
     ensures equality { (v w : TaggedDerValue) → IsTrue (⟦<TaggedDerValue as PartialEq>⟧.eq v w) ↔ (raw_of v ≡ raw_of w) }
+{}
+
+/// Kinds of errors are equal where they are one, errors where their kinds are, and errors of the texts of object identifiers where
+/// memory ran out for both or for neither.
+pub fn error_equality()
+    ensures kinds { (a b : ASN1ErrorKind) → IsTrue (⟦<ASN1ErrorKind as PartialEq>⟧.eq a b) ↔ (a ≡ b) }
+    ensures errors { (a b : ASN1Error) → IsTrue (⟦<ASN1Error as PartialEq>⟧.eq a b) ↔ (kind_of a ≡ kind_of b) }
+    ensures oid_errors { (a b : ParseOidError) → IsTrue (⟦<ParseOidError as PartialEq>⟧.eq a b) ↔ (ran_out_of_memory a ≡ ran_out_of_memory b) }
+{}
+
+/// A tag is hashed as its class and its number, a class and a bit as the number that they have in an identifier, and a raw element as
+/// its tag, its bit and its bytes.
+pub fn hashes()
+    ensures classes { (c : TagClass) → ⟦<TagClass as Hash>⟧.hash_input c ≡ fed.u64 (class_number c) }
+    ensures bits { (p : PCBit) → ⟦<PCBit as Hash>⟧.hash_input p ≡ fed.u64 (bit_number p) }
+    ensures tags { (t : Tag) → ⟦<Tag as Hash>⟧.hash_input t ≡ fed.u64 (class_number t.tag_class) ++ fed.u64 t.tag_number }
+    ensures raw { (v : TaggedDerValue) → ⟦<TaggedDerValue as Hash>⟧.hash_input v ≡ ⟦<Tag as Hash>⟧.hash_input v.tag ++ (⟦<PCBit as Hash>⟧.hash_input v.pcbit ++ fed.slice fed.u8 v.value.items) }
 {}
 
 /// The number that a class has in an identifier, as Rust numbers the variants.
@@ -220,12 +244,20 @@ pub fn oid_is_read_again(
 /// parts in any order, and a SET where each tag has one element. Where two elements of a SET have one tag, their parts have to be
 /// in the order in which they were read, and that tag's number below 31.
 ///
-/// SET OF satisfies both for elements of any type that does: these clauses say so of three types, and `set_of_is_written` of
-/// the crate `yasna` says so of each that has its traits.
+/// SET OF satisfies both for elements of any type that does: these clauses say so of numbers, octets, texts of each class and BMP
+/// texts whose surrogates are paired, and `set_of_is_written` of the crate `yasna` says so of each type that has its traits. A bit
+/// string is written so where its unused bits are zero; BER reads others too.
 pub fn sets_written()
     ensures set_of_enumerated { SetOfKeepsLaws (Primitively (IsSigned w64)) integer_encoding leaf_depth (FitsSigned w64) }
     ensures set_of_big_integer { SetOfKeepsLaws (Primitively IsBigInteger) big_integer_encoding leaf_depth CanBigInteger }
     ensures set_of_octets { SetOfKeepsLaws IsOctets octets_encoding octets_depth IsBytes }
+    ensures set_of_utf8 { SetOfTextKeepsLaws InUtf8 }
+    ensures set_of_numeric { SetOfTextKeepsLaws InNumeric }
+    ensures set_of_printable { SetOfTextKeepsLaws InPrintable }
+    ensures set_of_ia5 { SetOfTextKeepsLaws InIa5 }
+    ensures set_of_visible { SetOfTextKeepsLaws InVisible }
+    ensures set_of_bmp { SetOfKeepsLaws (IsStringOf IsPairedBmp) bmp_encoding bmp_depth (IsTextIn InUtf8) }
+    ensures set_of_bits { SetOfBitsKeepLaws }
     ensures set_of_raw { SetOfRawKeepsReadingLaws }
     ensures set { SetKeepsWritingLaws }
 {}
