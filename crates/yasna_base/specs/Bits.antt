@@ -64,9 +64,13 @@ pub record MayFollow (vs : List BitString) : Type 0 where
   pub full : AllByRecursion IsFull vs
   pub in_range : all_bits vs < 2 ^ 64
 
--- the count of unused bits is the thousandth octet of a segment
+-- the bytes of bits in a segment that is full in CER (9.2): the count of unused bits is its thousandth octet
+abbrev pub bits_full : ℕ
+bits_full = 999
+
+-- segments follow while no bit is unused
 abbrev pub bits_segmentation : Segmentation BitString
-bits_segmentation = record { whole = AreTheBits; join = AreBitsJoined; more = MayFollow; segment = bits_tag; bytes = λ v. v.bytes; full = 999 }
+bits_segmentation = record { whole = AreTheBits; join = AreBitsJoined; more = MayFollow; segment = bits_tag; bytes = λ v. v.bytes; full = bits_full }
 
 -- within n levels, b is the bit string v with the tag t
 abbrev pub IsBits : TaggedGrammar BitString
@@ -96,9 +100,9 @@ bit_pieces [] k = []
 bit_pieces (b ∷ []) k = record { bytes = b; count = k } ∷ []
 bit_pieces (b ∷ c ∷ bs) k = record { bytes = b; count = 8 * length b } ∷ bit_pieces (c ∷ bs) (k - 8 * length b)
 
--- the bits in segments of 999 bytes, with zeros after them
+-- the bits in full segments and one of what is left, with zeros after them
 abbrev pub bit_segments : BitString → List BitString
-bit_segments v = bit_pieces (segments 999 (padded (unused_bits v) v.bytes)) v.count
+bit_segments v = bit_pieces (segments bits_full (padded (unused_bits v) v.bytes)) v.count
 
 -- a string of bits in a canonical mode: whole, or in those segments
 abbrev pub bits_encoding : Tag → Encoding BitString

@@ -3,6 +3,10 @@ use Rattle.std.specs.Prelude.{ℕ, List}
 use Rattle.yasna_base.specs.declared.mode.BERMode.{BERMode}
 use Rattle.yasna_base.specs.declared.tag.Tag.{Tag}
 
+-- how deep elements may nest in an input
+abbrev pub max_depth : ℕ
+max_depth = 101
+
 -- which bytes encode a value, in a mode within a number of levels
 abbrev pub Grammar : Type 0 → Type 1
 Grammar A = BERMode → ℕ → A → List ℕ → Type 0

@@ -23,9 +23,13 @@ AreTheOctets m v c = v ≡ c
 abbrev pub AreOctetsJoined : BERMode → List (List ℕ) → List ℕ → Type 0
 AreOctetsJoined m vs v = v ≡ concat vs
 
+-- the octets of a segment that is full in CER (9.2)
+abbrev pub octets_full : ℕ
+octets_full = 1000
+
 -- a further segment may follow any
 abbrev pub octets_segmentation : Segmentation (List ℕ)
-octets_segmentation = record { whole = AreTheOctets; join = AreOctetsJoined; more = λ vs. Unit {0}; segment = octets_tag; bytes = λ v. v; full = 1000 }
+octets_segmentation = record { whole = AreTheOctets; join = AreOctetsJoined; more = λ vs. Unit {0}; segment = octets_tag; bytes = λ v. v; full = octets_full }
 
 -- within n levels, b is the octet string v with the tag t
 abbrev pub IsOctets : TaggedGrammar (List ℕ)
@@ -43,9 +47,9 @@ EncodesOctets m n v b = IsOctets n m octets_tag v b
 abbrev pub EncodesVec : Grammar (Vec ℕ Global)
 EncodesVec m n v b = EncodesOctets m n v.items b
 
--- octets in a canonical mode: whole, or in segments of 1000
+-- octets in a canonical mode: whole, or in full segments and one of what is left
 abbrev pub octets_encoding : Tag → Encoding (List ℕ)
-octets_encoding t m v = segmented_encoding octets_segmentation (λ v. v) (segments 1000) t m v
+octets_encoding t m v = segmented_encoding octets_segmentation (λ v. v) (segments octets_full) t m v
 
 -- its depth
 abbrev pub octets_depth : Depth (List ℕ)
