@@ -5,9 +5,9 @@ use Rattle.std.specs.Fn.{Once, FnOnceReturnsAtMut}
 use Rattle.yasna.specs.Words.{ASN1Error, Reading, Does, Decodes, ReadsOptional}
 use Rattle.yasna.specs.base.Grammar.{Grammar, Members}
 use Rattle.yasna.specs.reader.Decodes.{ParsedValue}
-use Rattle.yasna.specs.reader.Callback.{Hands, UnlessFailed}
+use Rattle.yasna.specs.reader.Callback.{Hands}
 use Rattle.yasna.specs.reader.Optional.{optional}
-use Rattle.yasna.specs.reader.State.{untagged}
+use Rattle.yasna.specs.reader.State.{untagged, UnlessFailed}
 use Rattle.yasna.specs.reader.declared.callback.Outcome.{Outcome}
 
 -- the closure's calls do what N says

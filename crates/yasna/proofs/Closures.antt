@@ -20,7 +20,6 @@ use Rattle.yasna_base.specs.Octets.{octets_segmentation, IsDeepOctets}
 use Rattle.yasna_base.proofs.Segmented.{deep_begins}
 use Rattle.yasna_base.proofs.Identifier.{not_end}
 use Rattle.yasna_reader.specs.declared.state.PartsReader.{PartsReader}
-use Rattle.yasna_reader.specs.Callback.{UnlessFailed}
 use Rattle.yasna_reader.specs.Optional.{ReadsDefault, ReadsOrDefaults}
 use Rattle.yasna_reader.specs.Parse.{Parses}
 use Rattle.yasna_reader.specs.Sequence.{Runs, ReadsParts}
@@ -34,7 +33,7 @@ use Rattle.yasna_reader.specs.Primitive.{ReadsSeen, Reads, NoLevel}
 use Rattle.yasna_reader.specs.Raw.{ReadsRaw}
 use Rattle.yasna_bytes.specs.Contents.{NeverAllocates, MayAllocate}
 use Rattle.yasna_bytes.specs.Segments.{bits_in}
-use Rattle.yasna_reader.specs.State.{Reading, IsFresh, untagged, starts, part_of, Does}
+use Rattle.yasna_reader.specs.State.{Reading, IsFresh, untagged, starts, part_of, Does, UnlessFailed}
 use Rattle.yasna_reader.proofs.ListDecoding.{collects}
 use Rattle.yasna_reader.proofs.ByTags.{IsDecoderByTags, tagged_by_tag}
 use Rattle.yasna_reader.proofs.PartsByTags.{IsPartsDecoderByTags}

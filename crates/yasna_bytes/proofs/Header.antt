@@ -14,7 +14,7 @@ use Rattle.yasna_base.proofs.Element.{definite_then, indefinite_then}
 use Rattle.yasna_base.proofs.Header.{opens_begins}
 use Rattle.yasna_bytes.specs.declared.bytes.header.Opened.{Opened}
 use Rattle.yasna_bytes.specs.declared.bytes.header.Rejection.{Rejection}
-use Rattle.yasna_bytes.specs.Rejection.{BlamesBytes, IsTooDeep, Rejects}
+use Rattle.yasna_bytes.specs.Rejection.{BlamesBytes, IsTooDeep, Rejects, IsElsewhere}
 use Rattle.yasna_bytes.specs.Length.{Measures}
 use Rattle.yasna_bytes.specs.Opening.{Opening}
 use Rattle.yasna_bytes.specs.Prefix.{Takes, HasPrefix}
@@ -151,7 +151,7 @@ begins_before m t p c b s r x e = let h = element_there m t p c b s r x e in beg
 
 -- where no header is there, no primitive element is
 pub header_rejects : {A : Type 0} (W : A → List ℕ → Type 0) (m : BERMode) (n : ℕ) (t : Tag) (s : List ℕ) (e : Rejection) → RejectsHeader AnyBit m n t s e →
-    Rejects (HasPrefix (IsPrimitive W n m t) s) (IsTooDeep n t s) ⊥ t s e
+    Rejects (HasPrefix (IsPrimitive W n m t) s) (IsTooDeep n t s) ⊥ (IsElsewhere t s) e
 header_rejects {A} W m n t s e x = rejects_less (HasHeader AnyBit m n t s) (HasPrefix (IsPrimitive W n m t) s) (IsTooDeep n t s) ⊥ t s e (λ h.
     let y = h.2 in
     element_header AnyBit m n t Primitive y.member.contents y.prefix s h.1 y.member.level tt y.member.element y.joined) x
@@ -177,7 +177,7 @@ takes_primitive m n t Constructed s c r l e x = absurd (cc)
 
 -- a constructed element is where a primitive one is wanted
 pub other_primitive : {A : Type 0} (W : A → List ℕ → Type 0) (m : BERMode) (n : ℕ) (t : Tag) (q : PCBit) (s c : List ℕ) (f : ContentsEnd) (e : Rejection) →
-    1 ≤ n → q ≡ Constructed → OpensAt m t q s c f → BlamesBytes e.kind → e.consumed ≡ true → Rejects (HasPrefix (IsPrimitive W n m t) s) (IsTooDeep n t s) ⊥ t s e
+    1 ≤ n → q ≡ Constructed → OpensAt m t q s c f → BlamesBytes e.kind → e.consumed ≡ true → Rejects (HasPrefix (IsPrimitive W n m t) s) (IsTooDeep n t s) ⊥ (IsElsewhere t s) e
 other_primitive W m n t q s c f e l i x k h = there_rejects_all (HasPrefix (IsPrimitive W n m t) s) n t s e (opens_begins m t q s c f x) l k h (λ w.
     let y = w.2 in
     let z = element_there m t Primitive y.member.contents y.prefix s w.1 y.member.element y.joined in

@@ -41,7 +41,7 @@ not_at_end t s n a b = begins_not_elsewhere b (at_end_elsewhere t s n a)
 
 -- nothing is left, or an element of another tag is there, and so nothing that begins with the tag
 pub elsewhere_rejects : (N : Type 0) (n : ℕ) (t : Tag) (s : List ℕ) (e : Rejection) → (N → BeginsWithTag t s) → IsElsewhere t s → BlamesBytes e.kind →
-    e.consumed ≡ false → Rejects N (IsTooDeep n t s) ⊥ t s e
+    e.consumed ≡ false → Rejects N (IsTooDeep n t s) ⊥ (IsElsewhere t s) e
 elsewhere_rejects N n t s e has f k o = record {
   none = λ _ x. begins_not_elsewhere (has x) f;
   consumed = (λ _. f, λ _. o);
@@ -52,7 +52,7 @@ elsewhere_rejects N n t s e has f k o = record {
 
 -- the tag is there, and no level is left for an element
 pub deep_rejects : (N : Type 0) (n : ℕ) (t : Tag) (s : List ℕ) (e : Rejection) → (N → 1 ≤ n) → BeginsWithTag t s → n ≡ 0 → e.kind ≡ StackOverflow →
-    e.consumed ≡ true → Rejects N (IsTooDeep n t s) ⊥ t s e
+    e.consumed ≡ true → Rejects N (IsTooDeep n t s) ⊥ (IsElsewhere t s) e
 deep_rejects N n t s e has b z k o = record {
   none = λ _ x. let l = has x in absurd (omega arith);
   consumed = (λ f. absurd (cc), λ f. absurd (begins_not_elsewhere b f));
@@ -63,7 +63,7 @@ deep_rejects N n t s e has b z k o = record {
 
 -- the tag is there within the levels, and nothing that is wanted does
 pub there_rejects_all : (N : Type 0) (n : ℕ) (t : Tag) (s : List ℕ) (e : Rejection) → BeginsWithTag t s → 1 ≤ n → BlamesBytes e.kind → e.consumed ≡ true → (N → ⊥) →
-    Rejects N (IsTooDeep n t s) ⊥ t s e
+    Rejects N (IsTooDeep n t s) ⊥ (IsElsewhere t s) e
 there_rejects_all N n t s e b l k o w = record {
   none = λ _. w;
   consumed = (λ f. absurd (cc), λ f. absurd (begins_not_elsewhere b f));
@@ -73,9 +73,9 @@ there_rejects_all N n t s e b l k o w = record {
 }
 
 -- where something isn't, nothing does that it follows from
-pub rejects_less : (N K D M : Type 0) (t : Tag) (s : List ℕ) (e : Rejection) → (K → N) → Rejects N D M t s e → Rejects K D M t s e
+pub rejects_less : (N K D M : Type 0) (t : Tag) (s : List ℕ) (e : Rejection) → (K → N) → Rejects N D M (IsElsewhere t s) e → Rejects K D M (IsElsewhere t s) e
 rejects_less N K D M t s e has x = record { none = λ h k. x.none h (has k); consumed = x.consumed; too_deep = x.too_deep; deep = x.deep; memory = x.memory }
 
 -- what never is of memory may be
-pub may_allocate_too : (N D M : Type 0) (t : Tag) (s : List ℕ) (e : Rejection) → Rejects N D ⊥ t s e → Rejects N D M t s e
+pub may_allocate_too : (N D M : Type 0) (t : Tag) (s : List ℕ) (e : Rejection) → Rejects N D ⊥ (IsElsewhere t s) e → Rejects N D M (IsElsewhere t s) e
 may_allocate_too N D M t s e x = record { none = x.none; consumed = x.consumed; too_deep = x.too_deep; deep = x.deep; memory = λ h. absurd (x.memory h) }

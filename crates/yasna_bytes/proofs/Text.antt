@@ -27,7 +27,7 @@ use Rattle.yasna_bytes.specs.declared.bytes.text.Class.{Class}
 use Rattle.yasna_bytes.specs.declared.bytes.text.Class.TheVariants.{Utf8, Numeric, Printable, Ia5, Visible, Bmp}
 use Rattle.yasna_bytes.specs.Contents.{MayAllocate}
 use Rattle.yasna_bytes.specs.Prefix.{Takes, HasPrefix}
-use Rattle.yasna_bytes.specs.Rejection.{BlamesBytes, Rejects}
+use Rattle.yasna_bytes.specs.Rejection.{BlamesBytes, Rejects, IsElsewhere}
 use Rattle.yasna_bytes.specs.Text.{Judges, SpellsText, MayHold, Utf8At}
 use Rattle.yasna_bytes.proofs.Contents.{element_may_allocate}
 use Rattle.yasna_bytes.proofs.Rejection.{blames_not_depth, blames_not_memory, begins_not_elsewhere, rejects_less}
@@ -58,7 +58,7 @@ octets_begin n m t s v r x =
 -- octets were read that say nothing, or for whose value there is no memory
 pub judged_rejected : {A : Type 0} (K : BERMode → A → List ℕ → Type 0) (n : ℕ) (m : BERMode) (t : Tag) (s o r : List ℕ) (e : Rejection) →
     Takes (IsOctets n m t) s o r → ((e.kind ≡ OutOfMemory) × (o ≡ [] → ⊥)) ⊎ (BlamesBytes e.kind × ((v : A) → K m v o → ⊥)) → e.consumed ≡ true →
-    Rejects (HasPrefix (IsStringOf K n m t) s) (IsDeepOctets n m t s) (MayAllocate n t s) t s e
+    Rejects (HasPrefix (IsStringOf K n m t) s) (IsDeepOctets n m t s) (MayAllocate n t s) (IsElsewhere t s) e
 judged_rejected K n m t s o r e x (inl h) f = record {
   none = λ q. absurd (q h.0);
   consumed = (λ g. absurd (cc), λ g. absurd (begins_not_elsewhere (octets_begin n m t s o r x) g));
@@ -79,7 +79,7 @@ judged_rejected K n m t s o r e x (inr h) f = record {
 
 -- where no octet string is there, none is that says a value
 pub octets_rejected : {A : Type 0} (K : BERMode → A → List ℕ → Type 0) (n : ℕ) (m : BERMode) (t : Tag) (s : List ℕ) (D M : Type 0) (e : Rejection) →
-    Rejects (HasPrefix (IsOctets n m t) s) D M t s e → Rejects (HasPrefix (IsStringOf K n m t) s) D M t s e
+    Rejects (HasPrefix (IsOctets n m t) s) D M (IsElsewhere t s) e → Rejects (HasPrefix (IsStringOf K n m t) s) D M (IsElsewhere t s) e
 octets_rejected K n m t s D M e x = rejects_less (HasPrefix (IsOctets n m t) s) (HasPrefix (IsStringOf K n m t) s) D M t s e (λ w.
     let y = w.2 in
     (y.member.octets, w.1, record { prefix = y.prefix; joined = y.joined; member = y.member.string })) x

@@ -12,7 +12,7 @@ use Rattle.yasna_base.specs.declared.tag.PCBit.{PCBit}
 use Rattle.yasna_base.specs.declared.tag.Tag.{Tag}
 use Rattle.yasna_bytes.specs.Prefix.{Takes, SeenAt}
 use Rattle.yasna_bytes.specs.Header.{AreContents}
-use Rattle.yasna_bytes.specs.Rejection.{BlamesBytes, IsTooDeep}
+use Rattle.yasna_bytes.specs.Rejection.{BlamesBytes, IsTooDeep, IsElsewhere}
 use Rattle.yasna_bytes.specs.declared.bytes.header.Rejection.{Rejection}
 
 -- wherever c are the contents of a primitive element, it may allocate by M
@@ -45,4 +45,4 @@ big_integer_in v = record { bytes = v.0.items; positive = v.1 }
 -- where M says so
 abbrev pub ValueAt : {V A : Type 0} → (BERMode → A → List ℕ → Type 0) → (V → A) → (ℕ → Tag → List ℕ → Type 0) → ℕ → BERMode → Tag → List ℕ →
     Result (V × Bor (List ℕ)) Rejection → Type 0
-ValueAt W view M n m t s r = SeenAt (Primitively W n m t) view (IsTooDeep n t s) (M n t s) t s r
+ValueAt W view M n m t s r = SeenAt (Primitively W n m t) view (IsTooDeep n t s) (M n t s) (IsElsewhere t s) s r

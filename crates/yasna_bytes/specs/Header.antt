@@ -14,7 +14,7 @@ use Rattle.yasna_base.specs.declared.tag.PCBit.{PCBit}
 use Rattle.yasna_base.specs.declared.tag.PCBit.TheVariants.{Constructed}
 use Rattle.yasna_base.specs.declared.tag.Tag.{Tag}
 use Rattle.yasna_bytes.specs.Prefix.{Takes, HasPrefix}
-use Rattle.yasna_bytes.specs.Rejection.{BlamesBytes, IsTooDeep, Rejects}
+use Rattle.yasna_bytes.specs.Rejection.{BlamesBytes, IsTooDeep, Rejects, IsElsewhere}
 use Rattle.yasna_bytes.specs.declared.bytes.header.Opened.{Opened}
 use Rattle.yasna_bytes.specs.declared.bytes.header.Rejection.{Rejection}
 
@@ -65,7 +65,7 @@ OnlyConstructed bit = bit ≡ Constructed
 
 -- no such header is there
 abbrev pub RejectsHeader : (PCBit → Type 0) → BERMode → ℕ → Tag → List ℕ → Rejection → Type 0
-RejectsHeader P m n t s e = Rejects (HasHeader P m n t s) (IsTooDeep n t s) ⊥ t s e
+RejectsHeader P m n t s e = Rejects (HasHeader P m n t s) (IsTooDeep n t s) ⊥ (IsElsewhere t s) e
 
 -- a header of the tag is at the start, and a level is left for the element
 abbrev pub OpenedAt : BERMode → ℕ → Tag → List ℕ → Result Opened Rejection → Type 0
@@ -84,7 +84,7 @@ AreContents v c = v ≡ c
 -- the contents of a primitive element, and the rest
 abbrev pub PrimitiveAt : ℕ → BERMode → Tag → List ℕ → Result (Bor (List ℕ) × Bor (List ℕ)) Rejection → Type 0
 PrimitiveAt n m t s (Ok x) = Takes (IsPrimitive AreContents n m t) s x.0.now x.1.now
-PrimitiveAt n m t s (Err e) = Rejects (HasPrefix (IsPrimitive AreContents n m t) s) (IsTooDeep n t s) ⊥ t s e
+PrimitiveAt n m t s (Err e) = Rejects (HasPrefix (IsPrimitive AreContents n m t) s) (IsTooDeep n t s) ⊥ (IsElsewhere t s) e
 
 -- contents that end so don't end at y
 abbrev pub NoEnd : ContentsEnd → List ℕ → Type 0

@@ -1,7 +1,6 @@
 -- A value that is at the start of bytes.
 use Rattle.std.specs.Borrow.{Bor}
 use Rattle.std.specs.Prelude.{Err, List, Ok, Result, ℕ, ◌++◌, ◌≡◌}
-use Rattle.yasna_base.specs.declared.tag.Tag.{Tag}
 use Rattle.yasna_bytes.specs.Rejection.{Rejects}
 use Rattle.yasna_bytes.specs.declared.bytes.header.Rejection.{Rejection}
 
@@ -15,7 +14,8 @@ pub record Takes {A : Type 0} (B : A → List ℕ → Type 0) (s : List ℕ) (v 
 abbrev pub HasPrefix : {A : Type 0} → (A → List ℕ → Type 0) → List ℕ → Type 0
 HasPrefix {A} B s = (v : A) × (r : List ℕ) × Takes B s v r
 
--- a value, of which view says what is seen, and the rest, or an error
-abbrev pub SeenAt : {V A : Type 0} → (A → List ℕ → Type 0) → (V → A) → Type 0 → Type 0 → Tag → List ℕ → Result (V × Bor (List ℕ)) Rejection → Type 0
-SeenAt B view D M t s (Ok x) = Takes B s (view x.0) x.1.now
-SeenAt B view D M t s (Err e) = Rejects (HasPrefix B s) D M t s e
+-- a value, of which view says what is seen, and the rest, or an error, as `Rejects` says
+abbrev pub SeenAt : {V A : Type 0} → (A → List ℕ → Type 0) → (V → A) → (Deep MayAllocate Elsewhere : Type 0) → List ℕ →
+    Result (V × Bor (List ℕ)) Rejection → Type 0
+SeenAt B view Deep MayAllocate Elsewhere s (Ok x) = Takes B s (view x.0) x.1.now
+SeenAt B view Deep MayAllocate Elsewhere s (Err e) = Rejects (HasPrefix B s) Deep MayAllocate Elsewhere e

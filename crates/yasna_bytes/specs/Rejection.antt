@@ -15,10 +15,11 @@ pub data IsElsewhere (t : Tag) (s : List ℕ) : Type 0 where
 abbrev pub IsTooDeep : ℕ → Tag → List ℕ → Type 0
 IsTooDeep n t s = (n ≡ 0) × BeginsWithTag t s
 
--- How bytes are rejected. N: what isn't there. D: where it lies too deep. M: whether it may allocate
-pub record Rejects (N D M : Type 0) (t : Tag) (s : List ℕ) (e : Rejection) : Type 0 where
-  pub none : (e.kind ≡ OutOfMemory → ⊥) → N → ⊥
-  pub consumed : e.consumed ≡ false ↔ IsElsewhere t s
-  pub too_deep : e.kind ≡ StackOverflow → D
-  pub deep : (e.kind ≡ OutOfMemory → ⊥) → D → e.kind ≡ StackOverflow
-  pub memory : e.kind ≡ OutOfMemory → M
+-- How bytes are rejected. Found: what isn't there. Deep: where it lies too deep. MayAllocate: whether it may allocate. Elsewhere: where
+-- nothing is consumed
+pub record Rejects (Found Deep MayAllocate Elsewhere : Type 0) (e : Rejection) : Type 0 where
+  pub none : (e.kind ≡ OutOfMemory → ⊥) → Found → ⊥
+  pub consumed : e.consumed ≡ false ↔ Elsewhere
+  pub too_deep : e.kind ≡ StackOverflow → Deep
+  pub deep : (e.kind ≡ OutOfMemory → ⊥) → Deep → e.kind ≡ StackOverflow
+  pub memory : e.kind ≡ OutOfMemory → MayAllocate

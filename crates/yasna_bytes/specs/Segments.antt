@@ -17,7 +17,7 @@ use Rattle.yasna_base.specs.declared.tag.PCBit.TheVariants.{Constructed}
 use Rattle.yasna_base.specs.declared.tag.Tag.{Tag}
 use Rattle.yasna_bytes.specs.Contents.{MayAllocate}
 use Rattle.yasna_bytes.specs.Prefix.{Takes, HasPrefix, SeenAt}
-use Rattle.yasna_bytes.specs.Rejection.{BlamesBytes, Rejects}
+use Rattle.yasna_bytes.specs.Rejection.{BlamesBytes, Rejects, IsElsewhere}
 use Rattle.yasna_bytes.specs.declared.bytes.header.Rejection.{Rejection}
 use Rattle.yasna_bytes.specs.declared.bytes.segments.cuts.Cuts.{Cuts}
 
@@ -149,7 +149,7 @@ pub record TakesString {A T : Type 0} (k : Segmentation A) (value : List ℕ →
 
 -- no string does
 abbrev pub RejectsString : {A : Type 0} → Segmentation A → ℕ → BERMode → Tag → List ℕ → Rejection → Type 0
-RejectsString k n m t s e = Rejects (HasPrefix (IsSegmented k n m t) s) (IsDeepSegmented k n m t s) (MayAllocate n t s) t s e
+RejectsString k n m t s e = Rejects (HasPrefix (IsSegmented k n m t) s) (IsDeepSegmented k n m t s) (MayAllocate n t s) (IsElsewhere t s) e
 
 -- what reading a string returns, by its case; where it consumed nothing, nothing was appended
 abbrev pub StringAt : {A T : Type 0} → Segmentation A → (List ℕ → T → A) → ℕ → BERMode → Tag → List ℕ → List ℕ → Result (T × Bor (List ℕ)) Rejection →
@@ -160,11 +160,11 @@ StringAt k value n m t s out (Err e) out' = RejectsString k n m t s e × (e.cons
 -- as `StringAt`, where the bytes are put in a new vector
 abbrev pub WithVecAt : {A T : Type 0} → Segmentation A → (List ℕ → T → A) → ℕ → BERMode → Tag → List ℕ →
     Result ((Vec ℕ Global × T) × Bor (List ℕ)) Rejection → Type 0
-WithVecAt k value n m t s r = SeenAt (IsSegmented k n m t) (λ v. value v.0.items v.1) (IsDeepSegmented k n m t s) (MayAllocate n t s) t s r
+WithVecAt k value n m t s r = SeenAt (IsSegmented k n m t) (λ v. value v.0.items v.1) (IsDeepSegmented k n m t s) (MayAllocate n t s) (IsElsewhere t s) s r
 
 -- the octet string in a vector's bytes, and the rest, or an error
 abbrev pub OctetsAt : ℕ → BERMode → Tag → List ℕ → Result (Vec ℕ Global × Bor (List ℕ)) Rejection → Type 0
-OctetsAt n m t s r = SeenAt (IsOctets n m t) (λ v. v.items) (IsDeepOctets n m t s) (MayAllocate n t s) t s r
+OctetsAt n m t s r = SeenAt (IsOctets n m t) (λ v. v.items) (IsDeepOctets n m t s) (MayAllocate n t s) (IsElsewhere t s) s r
 
 -- the octets of a string in one primitive element where they are, and the rest, or the header of a constructed one
 abbrev pub WholeOctetsAt : ℕ → BERMode → Tag → List ℕ → Result (Option (Bor (List ℕ) × Bor (List ℕ))) Rejection → Type 0
@@ -178,4 +178,4 @@ bits_in v = record { bytes = v.0.items; count = v.1 }
 
 -- what reading a bit string returns
 abbrev pub BitsAt : ℕ → BERMode → Tag → List ℕ → Result ((Vec ℕ Global × ℕ) × Bor (List ℕ)) Rejection → Type 0
-BitsAt n m t s r = SeenAt (IsBits n m t) bits_in (IsDeepBits n m t s) (MayAllocate n t s) t s r
+BitsAt n m t s r = SeenAt (IsBits n m t) bits_in (IsDeepBits n m t s) (MayAllocate n t s) (IsElsewhere t s) s r

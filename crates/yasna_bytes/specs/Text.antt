@@ -12,7 +12,7 @@ use Rattle.yasna_base.specs.declared.mode.BERMode.{BERMode}
 use Rattle.yasna_base.specs.declared.tag.Tag.{Tag}
 use Rattle.yasna_bytes.specs.Contents.{MayAllocate}
 use Rattle.yasna_bytes.specs.Prefix.{SeenAt}
-use Rattle.yasna_bytes.specs.Rejection.{BlamesBytes}
+use Rattle.yasna_bytes.specs.Rejection.{BlamesBytes, IsElsewhere}
 use Rattle.yasna_bytes.specs.declared.bytes.header.Rejection.{Rejection}
 use Rattle.yasna_bytes.specs.declared.bytes.text.Class.{Class}
 use Rattle.yasna_bytes.specs.declared.bytes.text.Class.TheVariants.{Utf8, Numeric, Printable, Ia5, Visible, Bmp}
@@ -24,7 +24,7 @@ Judges {V} {A} W view o (Err k) = ((k ≡ OutOfMemory) × (o ≡ [] → ⊥)) �
 
 -- a string whose octets say by K what the view of a value is, and the rest, or an error
 abbrev pub JudgedAt : {V A : Type 0} → (BERMode → A → List ℕ → Type 0) → (V → A) → ℕ → BERMode → Tag → List ℕ → Result (V × Bor (List ℕ)) Rejection → Type 0
-JudgedAt K view n m t s r = SeenAt (IsStringOf K n m t) view (IsDeepOctets n m t s) (MayAllocate n t s) t s r
+JudgedAt K view n m t s r = SeenAt (IsStringOf K n m t) view (IsDeepOctets n m t s) (MayAllocate n t s) (IsElsewhere t s) s r
 
 -- what the octets of a text of each class say
 abbrev pub SpellsText : Class → BERMode → List ℕ → List ℕ → Type 0

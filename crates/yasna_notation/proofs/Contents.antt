@@ -16,11 +16,11 @@ use Rattle.yasna_base.specs.Sequence.{PartOf, NoParts, AnyPart, AnyNothing}
 use Rattle.yasna_base.proofs.Beginnings.{unambiguous_before}
 use Rattle.yasna_base.proofs.Optional.{unambiguous_before_nothing}
 use Rattle.yasna_reader.specs.declared.callback.Outcome.{Outcome}
-use Rattle.yasna_reader.specs.Callback.{Hands, UnlessFailed}
+use Rattle.yasna_reader.specs.Callback.{Hands}
 use Rattle.yasna_reader.specs.Decodes.{DecodesContents, AndIn, Done, Made}
 use Rattle.yasna_reader.specs.Optional.{ReadsOptional, ReadsDefault, ReadsOrDefaults, optional}
 use Rattle.yasna_reader.specs.Parse.{unless_failed}
-use Rattle.yasna_reader.specs.State.{Reading, IsFresh, untagged, Does}
+use Rattle.yasna_reader.specs.State.{Reading, IsFresh, untagged, Does, UnlessFailed}
 use Rattle.yasna_reader.proofs.ByTags.{IsDecoderByTags, plain_by}
 use Rattle.yasna_reader.proofs.DefaultParts.{default_by}
 use Rattle.yasna_reader.proofs.OptionalParts.{IsFirstDecoder, IsContentsDecoder, then_by, part_by, option_by, no_match_at_end, end_by}

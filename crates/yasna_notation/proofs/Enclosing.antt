@@ -15,11 +15,11 @@ use Rattle.yasna_base.proofs.Identifier.{not_end}
 use Rattle.yasna_reader.specs.declared.callback.Outcome.{Outcome}
 use Rattle.yasna_reader.specs.declared.state.PartsReader.{PartsReader}
 use Rattle.yasna_reader.specs.ByTags.{DecodesByTags}
-use Rattle.yasna_reader.specs.Callback.{Lent, UnlessFailed, returned_of}
+use Rattle.yasna_reader.specs.Callback.{Lent, returned_of}
 use Rattle.yasna_reader.specs.Decodes.{RepeatsError}
 use Rattle.yasna_reader.specs.Sequence.{Runs, ReadsParts}
 use Rattle.yasna_reader.specs.SequenceOf.{Collects}
-use Rattle.yasna_reader.specs.State.{Reading, IsFresh, part_of, untagged, Does}
+use Rattle.yasna_reader.specs.State.{Reading, IsFresh, part_of, untagged, Does, UnlessFailed}
 use Rattle.yasna_reader.specs.Tagged.{reading_under, ReadsImplicitly}
 use Rattle.yasna_reader.proofs.ByTags.{tagged_by_tag, list_by_tag, decodes_by_tags, parts_no_match, IsDecoderByTags}
 use Rattle.yasna_reader.proofs.Sticky.{parts_repeat_error}

@@ -18,12 +18,12 @@ use Rattle.yasna_bytes.proofs.Ending.{closed}
 use Rattle.yasna_reader.specs.declared.callback.Outcome.{Outcome}
 use Rattle.yasna_reader.specs.declared.callback.Outcome.TheVariants.{Matched, NoMatch, Failed}
 use Rattle.yasna_reader.specs.Buffer.{Buffered, ReadsBuffer}
-use Rattle.yasna_reader.specs.Callback.{Lent, UnlessFailed, returned_of}
+use Rattle.yasna_reader.specs.Callback.{Lent, returned_of}
 use Rattle.yasna_reader.specs.declared.state.PartsReader.{PartsReader}
 use Rattle.yasna_reader.specs.Decodes.{Decodes, DecodesContents}
 use Rattle.yasna_reader.specs.Parse.{unless_failed}
-use Rattle.yasna_reader.specs.Sequence.{EntersUnlessFailed, Left, ReadsParts, Runs, place_in}
-use Rattle.yasna_reader.specs.State.{Reading, IsFresh, inside, part_of, tag_of, untagged, Does}
+use Rattle.yasna_reader.specs.Sequence.{EntersAt, Left, ReadsParts, Runs, place_in}
+use Rattle.yasna_reader.specs.State.{Reading, IsFresh, inside, part_of, tag_of, untagged, Does, UnlessFailed}
 use Rattle.yasna_reader.proofs.Handed.{lent_decodes}
 use Rattle.yasna_reader.proofs.OptionalParts.{IsFirstDecoder, part_by}
 use Rattle.yasna_reader.proofs.Sequences.{parts_map, place_after}
@@ -236,7 +236,7 @@ module _ {A V : Type 0} (may_allocate : Bool) (B : Grammar A) (C : Grammar V) (S
   abbrev N : Does (WithFirst A V)
   N s r s' = IsFresh s → ReadsContents may_allocate (PartsWithFirst B C) S s r s'
 
-  enters_so : (k : Option ASN1Error) → EntersUnlessFailed k N (tag_of s sequence_tag) s (Ok x) s' → BeginsByPart B s x.first x.first_bytes.now s'
+  enters_so : (k : Option ASN1Error) → UnlessFailed k s (Ok x) s' (EntersAt N (tag_of s sequence_tag) s (Ok x) s') → BeginsByPart B s x.first x.first_bytes.now s'
   enters_so (Some e) h = let y = h.0 in absurd (cc)
   enters_so None (inr h) = let y = h.returned in absurd (cc)
   enters_so None (inl h) = left_so h.contents h.end h.opens h.left.failed h.own h.left (h.obeys (refl, refl)) h.closed

@@ -25,9 +25,9 @@ use Rattle.yasna_reader.specs.ByTags.{NoMatchElsewhere, DecodesByTags}
 use Rattle.yasna_reader.specs.Decodes.{Decodes, DecodesParts, DecodesContents}
 use Rattle.yasna_reader.specs.Parse.{unless_failed}
 use Rattle.yasna_reader.specs.Primitive.{ReadsSeen, Reads, NoLevel}
-use Rattle.yasna_reader.specs.Sequence.{NotEntered, EntersUnlessFailed, ReadsParts}
+use Rattle.yasna_reader.specs.Sequence.{NotEntered, EntersAt, ReadsParts}
 use Rattle.yasna_reader.specs.SequenceOf.{Collects}
-use Rattle.yasna_reader.specs.State.{Reading, IsFresh, rejecting, tag_of, Does}
+use Rattle.yasna_reader.specs.State.{Reading, IsFresh, rejecting, tag_of, Does, UnlessFailed}
 use Rattle.yasna_reader.proofs.ListDecoding.{collects}
 use Rattle.yasna_reader.proofs.OptionalParts.{NoMatchBefore, IsContentsDecoder, contents_sequence}
 use Rattle.yasna_reader.proofs.OptionalReads.{StartsElsewhere, leaf_no_match, allocating_no_match}
@@ -117,11 +117,11 @@ module _ {A : Type 0} (P : Does A) (t : Tag) where
   pub parts_no_match : (s : Reading) (r : Result A ASN1Error) (s' : Reading) → IsFresh s → ReadsParts P t s r s' → NoMatchElsewhere (t ∷ []) s r s'
   parts_no_match s (Ok v) s' fresh h = tt
   parts_no_match s (Err e) s' fresh h =
-      let k = subst (λ u. EntersUnlessFailed None P (tag_or u t) s (Err e) s') fresh.1
-      (subst (λ z. EntersUnlessFailed z P (tag_of s t) s (Err e) s') fresh.0 h.enters) in
+      let k = subst (λ u. EntersAt P (tag_or u t) s (Err e) s') fresh.1
+      (subst (λ z. UnlessFailed {A = A} z s (Err e) s' (EntersAt P (tag_of s t) s (Err e) s')) fresh.0 h.enters) in
       λ a. by_entry k a.0
     where
-      by_entry : EntersUnlessFailed None P t s (Err e) s' → IsElsewhere t s.left → (s' ≡ s) × BlamesBytes (kind_of e)
+      by_entry : EntersAt P t s (Err e) s' → IsElsewhere t s.left → (s' ≡ s) × BlamesBytes (kind_of e)
       by_entry (inl x) other = absurd (begins_not_elsewhere (opens_begins s.mode t Constructed s.left x.contents x.end x.opens) other)
       by_entry (inr x) other = rejected_no_match s e s' x other
 

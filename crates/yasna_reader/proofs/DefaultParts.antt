@@ -20,10 +20,10 @@ use Rattle.yasna_base.proofs.Default.{default_alike, default_before}
 use Rattle.yasna_base.proofs.Optional.{IsUnambiguousBefore, some_not_empty}
 use Rattle.yasna_reader.specs.declared.callback.Outcome.{Outcome}
 use Rattle.yasna_reader.specs.declared.callback.Outcome.TheVariants.{Matched, NoMatch, Failed}
-use Rattle.yasna_reader.specs.Callback.{Hands, UnlessFailed}
+use Rattle.yasna_reader.specs.Callback.{Hands}
 use Rattle.yasna_reader.specs.Decodes.{NotContents}
 use Rattle.yasna_reader.specs.Optional.{optional, ReadsOptional, taken, equal, DefaultsTo, ReadsOrDefaults, ReadsDefault}
-use Rattle.yasna_reader.specs.State.{Reading, IsFresh, untagged, failing_if, Does}
+use Rattle.yasna_reader.specs.State.{Reading, IsFresh, untagged, failing_if, Does, UnlessFailed}
 use Rattle.yasna_reader.proofs.OptionalParts.{first_error, ParsedFirst, DecodesFirst, IsFirstDecoder, NoMatchBefore, option_by}
 use Rattle.yasna_reader.proofs.Sequences.{replaced}
 use Rattle.yasna_reader.proofs.Tuples.{IsDecoder}

@@ -11,13 +11,14 @@ use Rattle.yasna_reader.specs.declared.callback.Outcome.{Outcome}
 use Rattle.yasna_reader.specs.declared.callback.Outcome.TheVariants.{Matched, NoMatch, Failed}
 use Rattle.yasna_bytes.specs.declared.bytes.cursor.Cursor.{Cursor}
 use Rattle.yasna_reader.specs.Callback.{WithSome, ComesTo, FailsAs, at_cursor}
-use Rattle.yasna_reader.specs.Sequence.{ReadsParts}
+use Rattle.yasna_reader.specs.Sequence.{ReadsParts, TakesContents}
 use Rattle.yasna_reader.specs.SequenceOf.{TakesTurn, TakesTurns, TurnsOut, ListTurn, Turns, Lists, Collects, Visits, items_of}
-use Rattle.yasna_reader.specs.SetOf.{Bounded, Follows, FallsBelow, GivesInOrder, FailsInOrder, TurnInOrder, failed, fell, Ordered, TurnsOutInOrder, CollectsInOrder, VisitsInOrder}
+use Rattle.yasna_reader.specs.SetOf.{Bounded, Follows, FallsBelow, GivesInOrder, FailsInOrder, TurnInOrder, failed, fell, Ordered, TurnsOutInOrder, CollectsInOrder, VisitsInOrder, TakesTurnsInOrder, bound_in}
+use Rattle.yasna_reader.specs.declared.set_of.Order.{Order}
 use Rattle.yasna_reader.specs.declared.set_of.Order.TheVariants.{Any}
 use Rattle.yasna_base.specs.Error.{error_of}
 use Rattle.yasna_base.specs.declared.error.ASN1ErrorKind.TheVariants.{Invalid}
-use Rattle.yasna_reader.specs.State.{Reading, IsFresh, failing}
+use Rattle.yasna_reader.specs.State.{Reading, IsFresh, failing, inside}
 use Rattle.yasna_bytes.specs.Walk.{IsRest}
 use Rattle.yasna_reader.proofs.Callbacks.{taken_after}
 use Rattle.yasna_reader.proofs.Sequences.{parts_map}
@@ -99,12 +100,20 @@ plain_turns : {F A : Type 0} (C : F → Reading → Result A ASN1Error → F →
 plain_turns C [] g s h m t = (ap (λ (z : Bounded _). z.callback) t.0, t.1)
 plain_turns C (v ∷ vs) g s h m t = (t.0.callback, t.1, t.2.turn, plain_turns C vs t.0 t.1 h m t.3)
 
+-- a callback that may be called wherever its turns reach may be so where elements have to be in order
+pub takes_in_order : {F A : Type 0} (o : Order) (g : Mut F (MutBor Reading × Unit {0}) (Result A ASN1Error × (MutBor Reading × Unit {0}))) (f : F)
+    (t : Tag) (s : Reading) → TakesContents (TakesTurns g f) t s → TakesContents (TakesTurnsInOrder o g f) t s
+takes_in_order o g f t s may c end unfailed level opens h vs prefix rest e turns =
+    may c end unfailed level opens h.callback vs prefix rest e (plain_turns (CalledAtMut g) vs
+    (record { callback = f; bound = bound_in o (inside s c).mode }) (inside s c) h (record (inside s c) { left = rest }) turns)
+
 -- the callback may be called where turns so far reached
-pub takes_turn : {F A : Type 0} (g : Mut F (MutBor Reading × Unit {0}) (Result A ASN1Error × (MutBor Reading × Unit {0}))) (b : Bounded F) (s : Reading)
-    (vs : List A) (h : Bounded F) (m : Reading) → TakesTurns g s → SoFar (TurnInOrder (CalledAtMut g)) b s vs h m → TakesTurn g h.callback m
-takes_turn g b s vs h m may so =
-    subst (λ z. TakesTurn g h.callback z) (sym so.same) (may b.callback h.callback vs so.prefix m.left so.joined
-    (subst (λ z. Turns (ListTurn (CalledAtMut g)) b.callback s vs h.callback z) so.same (plain_turns (CalledAtMut g) vs b s h m so.turns)))
+pub takes_turn : {F A : Type 0} (o : Order) (g : Mut F (MutBor Reading × Unit {0}) (Result A ASN1Error × (MutBor Reading × Unit {0}))) (f : F)
+    (s : Reading) (vs : List A) (h : Bounded F) (m : Reading) → TakesTurnsInOrder o g f s →
+    SoFar (TurnInOrder (CalledAtMut g)) (record { callback = f; bound = bound_in o s.mode }) s vs h m → TakesTurn g h.callback m
+takes_turn o g f s vs h m may so =
+    subst (λ z. TakesTurn g h.callback z) (sym so.same) (may h vs so.prefix m.left so.joined
+    (subst (λ z. Turns (TurnInOrder (CalledAtMut g)) (record { callback = f; bound = bound_in o s.mode }) s vs h z) so.same so.turns))
 
 -- what is left behind a turn is after what it took
 pub turn_rest : {A : Type 0} (s : Reading) (x : Result A ASN1Error) (m : Reading) (o : Outcome (Unit {0})) (s' : Reading) →

@@ -16,13 +16,13 @@ use Rattle.yasna_base.proofs.Lists.{append_same}
 use Rattle.yasna_base.proofs.Optional.{IsUnambiguousBefore}
 use Rattle.yasna_reader.specs.declared.callback.Outcome.{Outcome}
 use Rattle.yasna_reader.specs.declared.callback.Outcome.TheVariants.{Matched, NoMatch, Failed}
-use Rattle.yasna_reader.specs.Callback.{ErrorCause, sticky, before, own, Hands, UnlessFailed, advanced_as}
+use Rattle.yasna_reader.specs.Callback.{ErrorCause, sticky, before, own, Hands, advanced_as}
 use Rattle.yasna_reader.specs.Decodes.{Explains, StickyExplains, ParsedValue, NotParsed, Decodes, ParsedContents, NotContents, DecodesContents, AndIn, Step, Done, Made}
 use Rattle.yasna_reader.specs.Optional.{ReadsOptional, optional}
 use Rattle.yasna_reader.specs.Parse.{unless_failed}
 use Rattle.yasna_bytes.specs.Rejection.{BlamesBytes}
 use Rattle.yasna_reader.specs.Sequence.{ReadsParts, place_in}
-use Rattle.yasna_reader.specs.State.{Reading, IsFresh, untagged, Does}
+use Rattle.yasna_reader.specs.State.{Reading, IsFresh, untagged, Does, UnlessFailed}
 use Rattle.yasna_reader.proofs.Callbacks.{place_unconsumed}
 use Rattle.yasna_bytes.proofs.Rejection.{blames_not_memory}
 use Rattle.yasna_reader.proofs.Sequences.{element, place_after, replaced}

@@ -10,9 +10,9 @@ use Rattle.yasna_base.specs.Identifier.{BeginsWithTag, AtEnd, end_tag, tag_or, b
 use Rattle.yasna_base.specs.Sequence.{AnyPart, AnyNothing}
 use Rattle.yasna_base.proofs.Identifier.{begins_with}
 use Rattle.yasna_bytes.specs.Contents.{NeverAllocates, MayAllocate}
-use Rattle.yasna_reader.specs.Primitive.{RejectedAs, ReadsUnlessFailed, ReadsSeen, Reads, NoLevel}
+use Rattle.yasna_reader.specs.Primitive.{RejectedAs, ReadsTyped, ReadsSeen, Reads, NoLevel}
 use Rattle.yasna_bytes.specs.Rejection.{BlamesBytes, IsElsewhere, another}
-use Rattle.yasna_reader.specs.State.{Reading, IsFresh, rejecting, tag_of}
+use Rattle.yasna_reader.specs.State.{Reading, IsFresh, rejecting, tag_of, UnlessFailed}
 use Rattle.yasna_reader.proofs.OptionalParts.{NoMatchBefore}
 use Rattle.yasna_bytes.proofs.Rejection.{blames_bytes_of, at_end_elsewhere, begins_not_elsewhere}
 
@@ -35,7 +35,7 @@ module _ {V A : Type 0} (B : TaggedGrammar A) (view : V → A) (D : TaggedMember
     (M : ℕ → Tag → List ℕ → Type 0) (t : Tag) (deep : (n : ℕ) (m : BERMode) (s : List ℕ) → D n m t s → BeginsWithTag t s)
     (memory : (n : ℕ) (s : List ℕ) → M n t s → BeginsWithTag t s) where
   rejected_no_match : (s : Reading) (e : ASN1Error) (s' : Reading) →
-      RejectedAs (B s.levels s.mode t) (D s.levels s.mode t s.left) (M s.levels t s.left) t s e s' → IsElsewhere t s.left → (s' ≡ s) × BlamesBytes (kind_of e)
+      RejectedAs (B s.levels s.mode t) (D s.levels s.mode t s.left) (M s.levels t s.left) (IsElsewhere t s.left) s e s' → IsElsewhere t s.left → (s' ≡ s) × BlamesBytes (kind_of e)
   rejected_no_match s e s' y other = (
     y.state ∙ ap (λ b. rejecting b s e) (y.rejects.consumed.1 other),
     blames_bytes_of (kind_of e) (λ i. begins_not_elsewhere (deep s.levels s.mode s.left (y.rejects.too_deep (y.kind ∙ i))) other)
@@ -43,12 +43,10 @@ module _ {V A : Type 0} (B : TaggedGrammar A) (view : V → A) (D : TaggedMember
   )
 
   fresh_rejected : (s : Reading) (e : ASN1Error) (s' : Reading) → IsFresh s → ReadsSeen B view D M t s (Err e) s' →
-      RejectedAs (B s.levels s.mode t) (D s.levels s.mode t s.left) (M s.levels t s.left) t s e s'
+      RejectedAs (B s.levels s.mode t) (D s.levels s.mode t s.left) (M s.levels t s.left) (IsElsewhere t s.left) s e s'
   fresh_rejected s e s' f x =
-      let y = subst (λ k. ReadsUnlessFailed k (B s.levels s.mode (tag_of s t)) view (D s.levels s.mode (tag_of s t) s.left) (M s.levels (tag_of s t) s.left)
-      (tag_of s t) s (Err e) s') f.0 x.reads in
-      subst (λ u. RejectedAs (B s.levels s.mode (tag_or u t)) (D s.levels s.mode (tag_or u t) s.left) (M s.levels (tag_or u t) s.left) (tag_or u t) s e s')
-      f.1 y
+      let y = subst (λ k. UnlessFailed {A = V} k s (Err e) s' (ReadsTyped B view D M (tag_of s t) s (Err e) s')) f.0 x.reads in
+      subst (λ u. ReadsTyped B view D M (tag_or u t) s (Err e) s') f.1 y
 
   -- a typed read has no match where what follows begins with another tag
   pub no_match_elsewhere : (Q : Members) → StartsElsewhere t Q → NoMatchBefore (ReadsSeen B view D M t) Q

@@ -10,42 +10,42 @@ use Rattle.yasna_base.specs.Identifier.{BeginsWithTag, begins, end_tag, AtEnd, u
 use Rattle.yasna_base.specs.Coding.{Any}
 use Rattle.yasna_base.proofs.Identifier.{not_end}
 use Rattle.yasna_bytes.specs.declared.bytes.header.Rejection.{Rejection}
-use Rattle.yasna_reader.specs.State.{Reading, IsFresh, untagged, rejecting, tag_of}
+use Rattle.yasna_reader.specs.State.{Reading, IsFresh, untagged, rejecting, tag_of, UnlessFailed}
 use Rattle.yasna_bytes.specs.Prefix.{Takes, SeenAt}
 use Rattle.yasna_bytes.specs.Contents.{NeverAllocates, MayAllocate}
-use Rattle.yasna_reader.specs.Primitive.{RejectedAs, ReadsPrefix, ReadsUnlessFailed, Commits, ParsesAs, ReadsSeen, Reads, NoLevel}
+use Rattle.yasna_reader.specs.Primitive.{RejectedAs, ReadsPrefix, ReadsAt, ReadsTyped, Commits, ParsesAs, ReadsSeen, Reads, NoLevel}
 use Rattle.yasna_reader.specs.Decodes.{Explains, StickyExplains, ParsedValue, NotParsed, NoMatchAtEnd, Decodes}
+use Rattle.yasna_bytes.specs.Rejection.{IsElsewhere}
 use Rattle.yasna_bytes.proofs.Rejection.{blames_bytes_of, at_end_elsewhere, not_at_end}
 
-committed : {V A : Type 0} (B : A → List ℕ → Type 0) (view : V → A) (D M : Type 0) (t : Tag) (s : Reading) (f : Result (V × Bor (List ℕ)) Rejection)
-    (r : Result V ASN1Error) (s' : Reading) → SeenAt B view D M t s.left f → Commits s f r s' → ReadsUnlessFailed None B view D M t s r s'
-committed B view D M t s (Ok x) (Ok v) s' a b =
+-- what was found at the start, with the reading settled
+pub committed : {V A : Type 0} (B : A → List ℕ → Type 0) (view : V → A) (D M E : Type 0) (s : Reading) (f : Result (V × Bor (List ℕ)) Rejection)
+    (r : Result V ASN1Error) (s' : Reading) → SeenAt B view D M E s.left f → Commits s f r s' → ReadsAt B view D M E s r s'
+committed B view D M E s (Ok x) (Ok v) s' a b =
     record { rest = x.1.now; takes = let e : x.0 ≡ v = cc (b.0) in subst (λ z. Takes B s.left (view z) x.1.now) e a; state = b.1 }
-committed B view D M t s (Ok x) (Err e) s' a b = let f = b.0 in absurd (cc)
-committed B view D M t s (Err x) (Ok v) s' a b = let f = b.0 in absurd (cc)
-committed B view D M t s (Err x) (Err e) s' a b =
+committed B view D M E s (Ok x) (Err e) s' a b = let f = b.0 in absurd (cc)
+committed B view D M E s (Err x) (Ok v) s' a b = let f = b.0 in absurd (cc)
+committed B view D M E s (Err x) (Err e) s' a b =
     let g : record { kind = x.kind } ≡ e = let f = b.0 in cc in
     record { rejection = x; kind = ap kind_of g; rejects = a; state = b.1 ∙ ap (rejecting x.consumed s) g }
 
 -- what was found with the fields of a reading was found for the reading
 pub at_view : {V A : Type 0} (B : TaggedGrammar A) (view : V → A) (D : TaggedMembers)
     (M : ℕ → Tag → List ℕ → Type 0) (tag u : Tag) (z s : Reading) (r : Result (V × Bor (List ℕ)) Rejection) → z ≡ s → u ≡ tag_of s tag →
-    SeenAt (B z.levels z.mode u) view (D z.levels z.mode u z.left) (M z.levels u z.left) u z.left r → ParsesAs B view D M tag s r
+    SeenAt (B z.levels z.mode u) view (D z.levels z.mode u z.left) (M z.levels u z.left) (IsElsewhere u z.left) z.left r → ParsesAs B view D M tag s r
 at_view B view D M tag u z s r e f x =
-    let y = subst (λ u. SeenAt (B z.levels z.mode u) view (D z.levels z.mode u z.left) (M z.levels u z.left) u z.left r) f x in
-    subst (λ z. SeenAt (B z.levels z.mode (tag_of s tag)) view (D z.levels z.mode (tag_of s tag) z.left) (M z.levels (tag_of s tag) z.left) (tag_of s tag)
-    z.left r) e y
+    let y = subst (λ u. SeenAt (B z.levels z.mode u) view (D z.levels z.mode u z.left) (M z.levels u z.left) (IsElsewhere u z.left) z.left r) f x in
+    subst (λ z. SeenAt (B z.levels z.mode (tag_of s tag)) view (D z.levels z.mode (tag_of s tag) z.left) (M z.levels (tag_of s tag) z.left)
+    (IsElsewhere (tag_of s tag) z.left) z.left r) e y
 
 -- what was found at the start, with the reading settled, is what a typed read does
 pub reads_prefix : {V A : Type 0} (B : TaggedGrammar A) (view : V → A) (D : TaggedMembers)
     (M : ℕ → Tag → List ℕ → Type 0) (tag : Tag) (s : Reading) (f : Result (V × Bor (List ℕ)) Rejection) (r : Result V ASN1Error) (s' : Reading) →
     s.failed ≡ None → ParsesAs B view D M tag s f → Commits s f r s' → ReadsSeen B view D M tag s r s'
 reads_prefix B view D M tag s f r s' e a b = record {
-  reads = subst
-      (λ k. ReadsUnlessFailed k (B s.levels s.mode (tag_of s tag)) view (D s.levels s.mode (tag_of s tag) s.left) (M s.levels (tag_of s tag) s.left)
-      (tag_of s tag) s r s') (sym e)
-      (committed (B s.levels s.mode (tag_of s tag)) view (D s.levels s.mode (tag_of s tag) s.left) (M s.levels (tag_of s tag) s.left) (tag_of s tag) s f r s'
-      a b);
+  reads = subst (λ k. UnlessFailed k s r s' (ReadsTyped B view D M (tag_of s tag) s r s')) (sym e)
+      (committed (B s.levels s.mode (tag_of s tag)) view (D s.levels s.mode (tag_of s tag) s.left) (M s.levels (tag_of s tag) s.left)
+      (IsElsewhere (tag_of s tag) s.left) s f r s' a b);
 }
 
 -- a typed read with a sticky error returns that failure
@@ -53,19 +53,15 @@ pub reads_sticky : {V A : Type 0} (B : TaggedGrammar A) (view : V → A) (D : Ta
     (M : ℕ → Tag → List ℕ → Type 0) (tag : Tag) (s : Reading) (e : ASN1Error) (r : Result V ASN1Error) (s' : Reading) → s.failed ≡ Some e → r ≡ Err e →
     s' ≡ s → ReadsSeen B view D M tag s r s'
 reads_sticky B view D M tag s e r s' k f g = record {
-  reads = subst
-      (λ k. ReadsUnlessFailed k (B s.levels s.mode (tag_of s tag)) view (D s.levels s.mode (tag_of s tag) s.left) (M s.levels (tag_of s tag) s.left)
-      (tag_of s tag) s r s') (sym k) (f, g);
+  reads = subst (λ k. UnlessFailed k s r s' (ReadsTyped B view D M (tag_of s tag) s r s')) (sym k) (f, g);
 }
 
 fresh : {V A : Type 0} (B : TaggedGrammar A) (view : V → A) (D : TaggedMembers)
     (M : ℕ → Tag → List ℕ → Type 0) (t : Tag) (s : Reading) (r : Result V ASN1Error) (s' : Reading) → IsFresh s → ReadsSeen B view D M t s r s' →
-    ReadsUnlessFailed None (B s.levels s.mode t) view (D s.levels s.mode t s.left) (M s.levels t s.left) t s r s'
+    ReadsTyped B view D M t s r s'
 fresh B view D M t s r s' f x =
-    let y = subst (λ k. ReadsUnlessFailed k (B s.levels s.mode (tag_of s t)) view (D s.levels s.mode (tag_of s t) s.left) (M s.levels (tag_of s t) s.left)
-    (tag_of s t) s r s') f.0 x.reads in
-    subst (λ u. ReadsUnlessFailed None (B s.levels s.mode (tag_or u t)) view (D s.levels s.mode (tag_or u t) s.left) (M s.levels (tag_or u t) s.left)
-    (tag_or u t) s r s') f.1 y
+    let y = subst (λ k. UnlessFailed k s r s' (ReadsTyped B view D M (tag_of s t) s r s')) f.0 x.reads in
+    subst (λ u. ReadsTyped B view D M (tag_or u t) s r s') f.1 y
 
 -- nothing is too deep at an end
 pub no_level_at_end : (n : ℕ) (m : BERMode) (t : Tag) (s : List ℕ) → (t ≡ end_tag → ⊥) → AtEnd s → NoLevel n m t s → ⊥
@@ -99,7 +95,7 @@ module _ {V A : Type 0} (may_allocate : Bool) (B : TaggedGrammar A) (view : V �
     left = y.state ∙ ap {A = Reading} (λ z. record z { left = y.rest }) (stays s f);
   }
 
-  explains : (s : Reading) (e : ASN1Error) (s' : Reading) → RejectedAs (B s.levels s.mode t) (D s.levels s.mode t s.left) (M s.levels t s.left) t s e s' →
+  explains : (s : Reading) (e : ASN1Error) (s' : Reading) → RejectedAs (B s.levels s.mode t) (D s.levels s.mode t s.left) (M s.levels t s.left) (IsElsewhere t s.left) s e s' →
       Explains may_allocate (S' s.mode s.levels) s.left e
   explains s e s' y = record {
     none = λ h b z g w. let a = may_allocate_by s.mode s.levels b w in
@@ -113,7 +109,7 @@ module _ {V A : Type 0} (may_allocate : Bool) (B : TaggedGrammar A) (view : V �
   rejecting_untagged false s e f = refl
 
   typed_rejected : (s : Reading) (e : ASN1Error) (s' : Reading) → IsFresh s →
-      RejectedAs (B s.levels s.mode t) (D s.levels s.mode t s.left) (M s.levels t s.left) t s e s' → NotParsed may_allocate (S' s.mode s.levels) s e s'
+      RejectedAs (B s.levels s.mode t) (D s.levels s.mode t s.left) (M s.levels t s.left) (IsElsewhere t s.left) s e s' → NotParsed may_allocate (S' s.mode s.levels) s e s'
   typed_rejected s e s' f y =
       let i = ap (λ z. length z.left) y.state in
       let j = ap length (left_as y.rejection.consumed s e) in
@@ -126,14 +122,14 @@ module _ {V A : Type 0} (may_allocate : Bool) (B : TaggedGrammar A) (view : V �
       }
 
   no_match : (s : Reading) (e : ASN1Error) (s' : Reading) →
-      RejectedAs (B s.levels s.mode t) (D s.levels s.mode t s.left) (M s.levels t s.left) t s e s' → NoMatchAtEnd s e s'
+      RejectedAs (B s.levels s.mode t) (D s.levels s.mode t s.left) (M s.levels t s.left) (IsElsewhere t s.left) s e s' → NoMatchAtEnd s e s'
   no_match s e s' y a = (
     y.state ∙ ap (λ b. rejecting b s e) (y.rejects.consumed.1 (at_end_elsewhere t s.left other a)),
     blames_bytes_of (kind_of e) (λ i. deep s.levels s.mode s.left a (y.rejects.too_deep (y.kind ∙ i))) (λ i. memory s.levels s.left a (y.rejects.memory (y.kind ∙ i))),
   )
 
   decodes : (s : Reading) (r : Result V ASN1Error) (s' : Reading) → IsFresh s →
-      ReadsUnlessFailed None (B s.levels s.mode t) view (D s.levels s.mode t s.left) (M s.levels t s.left) t s r s' → Decodes may_allocate B' S' s r s'
+      ReadsTyped B view D M t s r s' → Decodes may_allocate B' S' s r s'
   decodes s (Ok v) s' f y = typed_parsed s v s' f.1 y
   decodes s (Err e) s' f y = (typed_rejected s e s' f y, no_match s e s' y)
 

@@ -7,24 +7,27 @@ use Rattle.yasna_base.specs.declared.mode.BERMode.{BERMode}
 use Rattle.yasna_base.specs.declared.tag.Tag.{Tag}
 use Rattle.yasna_base.specs.Coding.{Any}
 use Rattle.yasna_base.specs.Error.{kind_of}
-use Rattle.yasna_base.specs.Identifier.{StartsElement}
-use Rattle.yasna_base.specs.Raw.{RawValue, IsRaw}
+use Rattle.yasna_base.specs.Identifier.{StartsElement, AtEnd}
+use Rattle.yasna_base.specs.Raw.{RawValue, IsRaw, IsDeepRaw}
 use Rattle.yasna_base.proofs.Identifier.{begins_with}
 use Rattle.yasna_base.proofs.Raw.{raw_zero, raw_starts, deep_starts}
 use Rattle.yasna_bytes.specs.declared.bytes.header.Rejection.{Rejection}
 use Rattle.yasna_bytes.specs.declared.bytes.walk.RawElement.{RawElement}
-use Rattle.yasna_bytes.specs.Prefix.{Takes, HasPrefix}
+use Rattle.yasna_bytes.specs.Prefix.{HasPrefix}
+use Rattle.yasna_bytes.specs.Rejection.{Rejects}
 use Rattle.yasna_reader.specs.Decodes.{Explains, StickyExplains, NotParsed, NoMatchAtEnd, Decodes}
-use Rattle.yasna_reader.specs.Primitive.{Commits, ReadsPrefix}
-use Rattle.yasna_reader.specs.Raw.{RejectsCopy, CopiedAt, RejectedRaw, ReadsRawUnlessFailed, ReadsRaw}
-use Rattle.yasna_reader.specs.State.{Reading, IsFresh, rejecting}
+use Rattle.yasna_reader.specs.Primitive.{Commits, ReadsPrefix, RejectedAs}
+use Rattle.yasna_reader.specs.Raw.{CopiedAt, MayAllocateRaw, ReadsRawAt, ReadsRaw}
+use Rattle.yasna_reader.specs.State.{Reading, IsFresh, UnlessFailed, rejecting}
 use Rattle.yasna_bytes.specs.Walk.{RejectsRaw, TakesRaw, element_of}
 use Rattle.yasna_bytes.proofs.RawHeader.{starts_not_at_end}
 use Rattle.yasna_bytes.proofs.Rejection.{blames_bytes_of}
+use Rattle.yasna_reader.proofs.Primitives.{committed}
 
 -- where no raw element is there, no copy of one is made
 pub rejects_copy : {A : Type 0} (B : ℕ → BERMode → A → List ℕ → Type 0) (n : ℕ) (m : BERMode) (s : List ℕ) (e : Rejection) →
-    ((v : A) (b : List ℕ) → B n m v b → (x : RawValue) × IsRaw n m x b) → RejectsRaw m n s e → RejectsCopy (HasPrefix (B n m) s) n m s e
+    ((v : A) (b : List ℕ) → B n m v b → (x : RawValue) × IsRaw n m x b) → RejectsRaw m n s e →
+    Rejects (HasPrefix (B n m) s) (IsDeepRaw n m s) (MayAllocateRaw n s) (AtEnd s) e
 rejects_copy B n m s e raw x = record {
   none = λ _ y.
       let w = y.2 in
@@ -47,7 +50,7 @@ raw_level (suc n) m v b x = omega arith
 
 -- a raw element is there, and there is no memory for a copy
 pub out_of_memory_for_copy : (N : Type 0) (n : ℕ) (m : BERMode) (s : List ℕ) (e : Rejection) (x : RawElement) (r : List ℕ) → TakesRaw m n s x r → e.kind ≡ OutOfMemory →
-    e.consumed ≡ true → RejectsCopy N n m s e
+    e.consumed ≡ true → Rejects N (IsDeepRaw n m s) (MayAllocateRaw n s) (AtEnd s) e
 out_of_memory_for_copy N n m s e x r y k f =
     let i = starts_with s x.bytes.now r (raw_starts n m (element_of x) x.bytes.now y.raw) y.joined in
     record {
@@ -58,53 +61,51 @@ out_of_memory_for_copy N n m s e x r y k f =
       memory = λ _. (raw_level n m (element_of x) x.bytes.now y.raw, i);
     }
 
-committed_raw : {V A : Type 0} (B : ℕ → BERMode → A → List ℕ → Type 0) (view : V → A) (s : Reading) (f : Result (V × Bor (List ℕ)) Rejection)
-    (r : Result V ASN1Error) (s' : Reading) → CopiedAt B view s.levels s.mode s.left f → Commits s f r s' → ReadsRawUnlessFailed None B view s r s'
-committed_raw B view s (Ok x) (Ok v) s' a b =
-    record { rest = x.1.now; takes = let e : x.0 ≡ v = cc (b.0) in subst (λ z. Takes (B s.levels s.mode) s.left (view z) x.1.now) e a; state = b.1 }
-committed_raw B view s (Ok x) (Err e) s' a b = let f = b.0 in absurd (cc)
-committed_raw B view s (Err x) (Ok v) s' a b = let f = b.0 in absurd (cc)
-committed_raw B view s (Err x) (Err e) s' a b =
-    let g : record { kind = x.kind } ≡ e = let f = b.0 in cc in
-    record { rejection = x; kind = ap kind_of g; rejects = a; state = b.1 ∙ ap (rejecting x.consumed s) g }
-
 -- what was found at the start, with the reading settled, is what a read does
 pub reads_raw : {V A : Type 0} (B : ℕ → BERMode → A → List ℕ → Type 0) (view : V → A) (s : Reading) (f : Result (V × Bor (List ℕ)) Rejection)
     (r : Result V ASN1Error) (s' : Reading) → s.failed ≡ None → CopiedAt B view s.levels s.mode s.left f → Commits s f r s' →
     ReadsRaw B view s r s'
-reads_raw B view s f r s' e a b = record { reads = subst (λ k. ReadsRawUnlessFailed k B view s r s') (sym e) (committed_raw B view s f r s' a b) }
+reads_raw B view s f r s' e a b = record {
+  reads = subst (λ k. UnlessFailed k s r s' (ReadsRawAt B view s r s')) (sym e)
+      (committed (B s.levels s.mode) view (IsDeepRaw s.levels s.mode s.left) (MayAllocateRaw s.levels s.left) (AtEnd s.left) s f r s' a b);
+}
 
 -- with a sticky error a read returns that failure
 pub reads_raw_sticky : {V A : Type 0} (B : ℕ → BERMode → A → List ℕ → Type 0) (view : V → A) (s : Reading) (e : ASN1Error) (r : Result V ASN1Error)
     (s' : Reading) → s.failed ≡ Some e → r ≡ Err e → s' ≡ s → ReadsRaw B view s r s'
-reads_raw_sticky B view s e r s' k f g = record { reads = subst (λ k. ReadsRawUnlessFailed k B view s r s') (sym k) (f, g) }
+reads_raw_sticky B view s e r s' k f g = record { reads = subst (λ k. UnlessFailed k s r s' (ReadsRawAt B view s r s')) (sym k) (f, g) }
 
 -- a value that says what another does is read where that is
 pub reads_raw_as : {V W A : Type 0} (B : ℕ → BERMode → A → List ℕ → Type 0) (view : V → A) (shown : W → A) (s : Reading) (v : V) (w : W)
     (s' : Reading) → shown w ≡ view v → ReadsRaw B view s (Ok v) s' → ReadsRaw B shown s (Ok w) s'
 reads_raw_as B view shown s v w s' e h = record { reads = by_sticky s.failed h.reads }
   where
-    by_sticky : (k : Option ASN1Error) → ReadsRawUnlessFailed k B view s (Ok v) s' → ReadsRawUnlessFailed k B shown s (Ok w) s'
+    by_sticky : (k : Option ASN1Error) → UnlessFailed k s (Ok v) s' (ReadsRawAt B view s (Ok v) s') →
+        UnlessFailed k s (Ok w) s' (ReadsRawAt B shown s (Ok w) s')
     by_sticky (Some d) r = let f = r.0 in absurd (cc)
     by_sticky None r = subst (λ z. ReadsPrefix (B s.levels s.mode) s z s') (sym e) r
 
 pub rejects_raw_as : {V W A : Type 0} (B : ℕ → BERMode → A → List ℕ → Type 0) (view : V → A) (shown : W → A) (s : Reading) (e : ASN1Error)
     (s' : Reading) → ReadsRaw B view s (Err e) s' → ReadsRaw B shown s (Err e) s'
-rejects_raw_as B view shown s e s' h = record { reads = by_sticky s.failed h.reads }
+rejects_raw_as {V} {W} B view shown s e s' h = record { reads = by_sticky s.failed h.reads }
   where
-    by_sticky : (k : Option ASN1Error) → ReadsRawUnlessFailed k B view s (Err e) s' → ReadsRawUnlessFailed k B shown s (Err e) s'
+    by_sticky : (k : Option ASN1Error) → UnlessFailed {A = V} k s (Err e) s' (ReadsRawAt B view s (Err e) s') →
+        UnlessFailed {A = W} k s (Err e) s' (ReadsRawAt B shown s (Err e) s')
     by_sticky (Some d) r = let f = r.0 in let g : e ≡ d = cc in (ap Err g, r.1)
     by_sticky None r = r
 
 -- What a fresh reading decodes by a read of a raw element, of which B says what is copied
 module _ {V A : Type 0} (B : ℕ → BERMode → A → List ℕ → Type 0) (view : V → A) (s : Reading) (fresh : IsFresh s) where
-  rejected_explains : (e : ASN1Error) (s' : Reading) → RejectedRaw B s e s' → Explains true (Any (λ m n v b. B n m v b) s.mode s.levels) s.left e
+  abbrev RejectedRaw : Reading → ASN1Error → Reading → Type 0
+  RejectedRaw z e s' = RejectedAs (B z.levels z.mode) (IsDeepRaw z.levels z.mode z.left) (MayAllocateRaw z.levels z.left) (AtEnd z.left) z e s'
+
+  rejected_explains : (e : ASN1Error) (s' : Reading) → RejectedRaw s e s' → Explains true (Any (λ m n v b. B n m v b) s.mode s.levels) s.left e
   rejected_explains e s' x = record {
     none = λ q b y i j. x.rejects.none (λ f. q (sym x.kind ∙ f)) (j.0, y, record { prefix = b; joined = i; member = j.1 });
     memory = λ q. refl;
   }
 
-  rejected_as : (e : ASN1Error) (s' : Reading) (x : RejectedRaw B s e s') (w : Bool) → x.rejection.consumed ≡ w →
+  rejected_as : (e : ASN1Error) (s' : Reading) (x : RejectedRaw s e s') (w : Bool) → x.rejection.consumed ≡ w →
       NotParsed true (Any (λ m n v b. B n m v b) s.mode s.levels) s e (rejecting w s e) × NoMatchAtEnd s e (rejecting w s e)
   rejected_as e s' x true f = (
     record {
@@ -129,7 +130,7 @@ module _ {V A : Type 0} (B : ℕ → BERMode → A → List ℕ → Type 0) (vie
     ),
   )
 
-  decodes_unfailed : (r : Result V ASN1Error) (s' : Reading) → ReadsRawUnlessFailed None B view s r s' →
+  decodes_unfailed : (r : Result V ASN1Error) (s' : Reading) → ReadsRawAt B view s r s' →
       Decodes true (λ m n v b. B n m (view v) b) (Any (λ m n v b. B n m v b)) s r s'
   decodes_unfailed (Ok v) s' x = record {
     prefix = x.takes.prefix;
@@ -143,4 +144,4 @@ module _ {V A : Type 0} (B : ℕ → BERMode → A → List ℕ → Type 0) (vie
 
   pub raw_decodes : (r : Result V ASN1Error) (s' : Reading) → ReadsRaw B view s r s' →
       Decodes true (λ m n v b. B n m (view v) b) (Any (λ m n v b. B n m v b)) s r s'
-  raw_decodes r s' x = decodes_unfailed r s' (subst (λ k. ReadsRawUnlessFailed k B view s r s') fresh.0 x.reads)
+  raw_decodes r s' x = decodes_unfailed r s' (subst (λ k. UnlessFailed k s r s' (ReadsRawAt B view s r s')) fresh.0 x.reads)

@@ -18,16 +18,16 @@ use Rattle.yasna_bytes.specs.declared.bytes.header.Rejection.{Rejection}
 use Rattle.yasna_base.specs.Header.{ContentsEnd, OpensAt}
 use Rattle.yasna_bytes.specs.Header.{EndsBefore, RejectsHeader, OnlyConstructed}
 use Rattle.yasna_reader.specs.Parse.{unless_failed}
-use Rattle.yasna_reader.specs.Sequence.{place_in, Fails, Left, Entered, NotEntered, EntersUnlessFailed, ReadsParts, StepsIn, StaysOut, sticky, rejected, TakesContents}
+use Rattle.yasna_reader.specs.Sequence.{place_in, Fails, Left, Entered, NotEntered, EntersAt, ReadsParts, StepsIn, StaysOut, sticky, rejected, TakesContents}
 use Rattle.yasna_reader.specs.Decodes.{Explains, StickyExplains, NotParsed, NoMatchAtEnd, Decodes, NotContents, ParsedContents, DecodesContents}
-use Rattle.yasna_reader.specs.State.{Reading, IsFresh, inside, untagged, rejecting, tag_of, Does}
+use Rattle.yasna_reader.specs.State.{Reading, IsFresh, inside, untagged, rejecting, tag_of, Does, UnlessFailed}
 use Rattle.yasna_bytes.proofs.Rejection.{blames_not_memory, blames_bytes_of, at_end_elsewhere, not_at_end}
 use Rattle.yasna_bytes.proofs.Ending.{closed}
 use Rattle.yasna_bytes.proofs.Header.{element_header}
 
 module _ {A : Type 0} (P Q : Does A) (obeys : (s : Reading) (r : Result A ASN1Error) (s' : Reading) → IsFresh s → P s r s' → Q s r s') where
-  enters_map : (k : Option ASN1Error) (t : Tag) (s : Reading) (r : Result A ASN1Error) (s' : Reading) → EntersUnlessFailed k P t s r s' →
-      EntersUnlessFailed k Q t s r s'
+  enters_map : (k : Option ASN1Error) (t : Tag) (s : Reading) (r : Result A ASN1Error) (s' : Reading) → UnlessFailed k s r s' (EntersAt P t s r s') →
+      UnlessFailed k s r s' (EntersAt Q t s r s')
   enters_map (Some e) t s r s' h = h
   enters_map None t s r s' (inr x) = inr x
   enters_map None t s r s' (inl x) = inl (record {
@@ -50,7 +50,7 @@ pub stepped_in : {A : Type 0} (P : Does A) (tag : Tag) (s : Reading) (o : Openin
     (r : Result A ASN1Error) (s' : Reading) → StepsIn (tag_of s tag) s o × (m ≡ s) → z ≡ inside m o.contents → P z own left →
     Left o.end o.contents left.failed left.left own (untagged m) r s' → ReadsParts P tag s r s'
 stepped_in P tag s o z m own left r s' h e p l = record {
-  enters = subst (λ k. EntersUnlessFailed k P (tag_of s tag) s r s') (sym h.0.unfailed) (inl (record {
+  enters = subst (λ k. UnlessFailed k s r s' (EntersAt P (tag_of s tag) s r s')) (sym h.0.unfailed) (inl (record {
     level = h.0.level;
     contents = o.contents;
     end = o.end;
@@ -65,9 +65,9 @@ stepped_in P tag s o z m own left r s' h e p l = record {
 -- one that wasn't
 pub stayed_out : {A : Type 0} (P : Does A) (tag : Tag) (s : Reading) (e : ASN1Error) (s' : Reading) → StaysOut (tag_of s tag) s e s' →
     ReadsParts P tag s (Err e) s'
-stayed_out P tag s e s' (sticky k m) = record { enters = subst (λ o. EntersUnlessFailed o P (tag_of s tag) s (Err e) s') (sym k) (refl, m) }
-stayed_out P tag s e s' (rejected k h) = record {
-  enters = subst (λ o. EntersUnlessFailed o P (tag_of s tag) s (Err e) s') (sym k) (inr (record {
+stayed_out {A} P tag s e s' (sticky k m) = record { enters = subst (λ o. UnlessFailed {A = A} o s (Err e) s' (EntersAt P (tag_of s tag) s (Err e) s')) (sym k) (refl, m) }
+stayed_out {A} P tag s e s' (rejected k h) = record {
+  enters = subst (λ o. UnlessFailed {A = A} o s (Err e) s' (EntersAt P (tag_of s tag) s (Err e) s')) (sym k) (inr (record {
     rejection = h.rejection;
     rejects = h.rejects;
     returned = let i = h.returned in let j : e ≡ error_of h.rejection.kind = cc in ap Err j;
@@ -213,7 +213,7 @@ pub element : {A : Type 0} (may_allocate : Bool) (C : Grammar A) (S : Members) (
     Decodes may_allocate (Enclosed C t) (AnyEnclosed S t) s r s'
 element may_allocate C S P obeys t not_end s fresh r s' h =
     let k : Entered P t s r s' ⊎ NotEntered t s r s' =
-    subst (λ u. EntersUnlessFailed None P (tag_or u t) s r s') fresh.1 (subst (λ z. EntersUnlessFailed z P (tag_of s t) s r s') fresh.0 h.enters) in
+    subst (λ u. EntersAt P (tag_or u t) s r s') fresh.1 (subst (λ z. UnlessFailed z s r s' (EntersAt P (tag_of s t) s r s')) fresh.0 h.enters) in
     elim k [
       | inl x ↦ left_decodes may_allocate C S t not_end s fresh x.contents x.end x.opens x.level x.left.failed x.own x.left
           (obeys (inside s x.contents) x.own x.left (refl, refl) x.obeys) r s' x.closed

@@ -8,7 +8,7 @@ use Rattle.yasna_base.specs.declared.error.ASN1ErrorKind.TheVariants.{Invalid}
 use Rattle.yasna_base.specs.declared.tag.Tag.{Tag}
 use Rattle.yasna_base.specs.Error.{error_of}
 use Rattle.yasna_reader.specs.declared.set.SetElement.{SetElement}
-use Rattle.yasna_reader.specs.Set.{Chooses, ChoosesBy, IsAmong, IsFirstAmong, NoneIsAmong}
+use Rattle.yasna_reader.specs.SetChoice.{Chooses, ChoosesBy, IsAmong, IsFirstAmong, NoneIsAmong}
 use Rattle.yasna_reader.specs.State.{Reading, untagged}
 
 -- one element more has none of the tags

@@ -17,7 +17,7 @@ use Rattle.yasna_base.specs.Set.{AreInSetOrder, SetElements}
 use Rattle.yasna_base.proofs.Pieces.{NoPrefix, no_prefix_at_end, pieces_once, each_same}
 use Rattle.yasna_base.proofs.Raw.{raw_starts, raw_exact}
 use Rattle.yasna_reader.specs.declared.set.SetElement.{SetElement}
-use Rattle.yasna_reader.specs.Set.{ElementsAreInSetOrder, IsListed, IsSetList, ListsAll}
+use Rattle.yasna_reader.specs.SetList.{ElementsAreInSetOrder, IsListed, IsSetList, ListsAll}
 use Rattle.yasna_reader.specs.SetLaws.{IsElementOf, IsSameElement, ListsAreOne, ListsAreSets, ListsSet, SetsAreListed, elements_bytes}
 use Rattle.yasna_reader.proofs.SetListing.{listed_prefix_free}
 

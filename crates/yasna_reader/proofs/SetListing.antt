@@ -18,7 +18,7 @@ use Rattle.yasna_base.proofs.Raw.{raw_starts, raw_exact, deep_not_raw}
 use Rattle.yasna_bytes.specs.declared.bytes.header.Rejection.{Rejection}
 use Rattle.yasna_bytes.specs.declared.bytes.walk.RawElement.{RawElement}
 use Rattle.yasna_reader.specs.declared.set.SetElement.{SetElement}
-use Rattle.yasna_reader.specs.Set.{IsListed, Listed, ListsAll, NotListed}
+use Rattle.yasna_reader.specs.SetList.{IsListed, Listed, ListsAll, NotListed}
 use Rattle.yasna_bytes.specs.Prefix.{HasPrefix}
 use Rattle.yasna_bytes.specs.Walk.{RejectsRaw, TakesRaw, element_of}
 

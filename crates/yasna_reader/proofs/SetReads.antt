@@ -15,10 +15,11 @@ use Rattle.yasna_base.specs.Set.{SetElements}
 use Rattle.yasna_base.proofs.Header.{header_of, end_after}
 use Rattle.yasna_reader.specs.declared.set.SetElement.{SetElement}
 use Rattle.yasna_bytes.specs.Header.{OnlyConstructed}
-use Rattle.yasna_reader.specs.Sequence.{EntersUnlessFailed, Left, ReadsParts, place_in}
-use Rattle.yasna_reader.specs.Set.{IsSetList, NotSetList, RunsOnSet, SetCallback, all_taken}
+use Rattle.yasna_reader.specs.Sequence.{EntersAt, Left, ReadsParts, place_in}
+use Rattle.yasna_reader.specs.Set.{RunsOnSet, SetCallback, all_taken}
+use Rattle.yasna_reader.specs.SetList.{IsSetList, NotSetList}
 use Rattle.yasna_reader.specs.SetLaws.{MatchedOfAll, IsElementOf, ReadsSet, RejectsSet, RunOnValues, TakesSet, elements_bytes}
-use Rattle.yasna_reader.specs.State.{Reading, inside, tag_of, untagged}
+use Rattle.yasna_reader.specs.State.{Reading, inside, tag_of, untagged, UnlessFailed}
 use Rattle.yasna_bytes.proofs.Header.{element_header}
 use Rattle.yasna_reader.proofs.Sequences.{around, place_after, within}
 use Rattle.yasna_bytes.proofs.Ending.{closed}
@@ -144,7 +145,7 @@ module _ {F A : Type 0} (g : SetCallback F A) (f : F) where
         ((lists_are_sets (s.levels - 1) s.mode z.0 c b.after).1 (vs, z.2)) b.joined rest b.ends own left x k i e
         s' h q
 
-  set_entered : (t : Tag) (s : Reading) (r : Result A ASN1Error) (s' : Reading) → EntersUnlessFailed None (RunsOnSet g f) t s r s' → ReadsSet g f t s r s'
+  set_entered : (t : Tag) (s : Reading) (r : Result A ASN1Error) (s' : Reading) → EntersAt (RunsOnSet g f) t s r s' → ReadsSet g f t s r s'
   set_entered t s (Ok v) s' (inl x) = set_parsed t s x.contents x.end x.opens x.level x.own x.left x.obeys x.left.failed refl v s' x.closed
   set_entered t s (Err e) s' (inl x) = set_rejected t s x.contents x.end x.opens x.own x.left x.obeys x.left.failed refl e s' x.closed
   set_entered t s (Ok v) s' (inr x) = let h = x.returned in absurd (cc)
@@ -156,4 +157,4 @@ module _ {F A : Type 0} (g : SetCallback F A) (f : F) where
   -- what a read of a SET does
   pub reads_set : (tag : Tag) (s : Reading) (r : Result A ASN1Error) (s' : Reading) → ReadsParts (RunsOnSet g f) tag s r s' → s.failed ≡ None →
       ReadsSet g f (tag_of s tag) s r s'
-  reads_set tag s r s' h k = set_entered (tag_of s tag) s r s' (subst (λ z. EntersUnlessFailed z (RunsOnSet g f) (tag_of s tag) s r s') k h.enters)
+  reads_set tag s r s' h k = set_entered (tag_of s tag) s r s' (subst (λ z. UnlessFailed z s r s' (EntersAt (RunsOnSet g f) (tag_of s tag) s r s')) k h.enters)

@@ -7,7 +7,8 @@ use Rattle.std.specs.Prelude.{Result}
 use Rattle.std.specs.declared.collections.VecDeque.{VecDeque}
 use Rattle.yasna_base.specs.declared.error.ASN1Error.{ASN1Error}
 use Rattle.yasna_reader.specs.declared.set.SetElement.{SetElement}
-use Rattle.yasna_reader.specs.Set.{IsSetList, RunsOnSet, SetCallback, SetReading, TakesElements, all_taken, emptied}
+use Rattle.yasna_reader.specs.Set.{RunsOnSet, SetCallback, SetReading, TakesElements, all_taken, emptied}
+use Rattle.yasna_reader.specs.SetList.{IsSetList}
 use Rattle.yasna_reader.specs.State.{Reading}
 
 -- what it is handed it takes

@@ -6,24 +6,23 @@ use Rattle.yasna_base.specs.declared.mode.BERMode.{BERMode}
 use Rattle.yasna_base.specs.declared.tag.Tag.{Tag}
 use Rattle.yasna_base.specs.Grammar.{TaggedGrammar, TaggedMembers}
 use Rattle.yasna_reader.specs.Decodes.{RepeatsError}
-use Rattle.yasna_reader.specs.Primitive.{ReadsSeen, ReadsUnlessFailed}
-use Rattle.yasna_reader.specs.Raw.{ReadsRaw, ReadsRawUnlessFailed}
-use Rattle.yasna_reader.specs.Sequence.{ReadsParts, EntersUnlessFailed}
-use Rattle.yasna_reader.specs.State.{Reading, tag_of, Does}
+use Rattle.yasna_reader.specs.Primitive.{ReadsSeen, ReadsTyped}
+use Rattle.yasna_reader.specs.Raw.{ReadsRaw, ReadsRawAt}
+use Rattle.yasna_reader.specs.Sequence.{ReadsParts, EntersAt}
+use Rattle.yasna_reader.specs.State.{Reading, UnlessFailed, tag_of, Does}
 
 -- of a primitive type, a string or a time
 pub seen_repeats_error : {V A : Type 0} {B : TaggedGrammar A} {view : V → A} {D : TaggedMembers}
     {M : ℕ → Tag → List ℕ → Type 0} {tag : Tag} {s : Reading} {r : Result V ASN1Error} {s' : Reading} → ReadsSeen B view D M tag s r s' → RepeatsError s r s'
 seen_repeats_error {B} {view} {D} {M} {tag} {s} {r} {s'} h e k =
-    subst (λ o. ReadsUnlessFailed o (B s.levels s.mode (tag_of s tag)) view (D s.levels s.mode (tag_of s tag) s.left) (M s.levels (tag_of s tag) s.left)
-    (tag_of s tag) s r s') k h.reads
+    subst (λ o. UnlessFailed o s r s' (ReadsTyped B view D M (tag_of s tag) s r s')) k h.reads
 
 -- of a raw element
 pub raw_repeats_error : {V A : Type 0} {B : ℕ → BERMode → A → List ℕ → Type 0} {view : V → A} {s : Reading} {r : Result V ASN1Error} {s' : Reading} →
     ReadsRaw B view s r s' → RepeatsError s r s'
-raw_repeats_error {B} {view} {s} {r} {s'} h e k = subst (λ o. ReadsRawUnlessFailed o B view s r s') k h.reads
+raw_repeats_error {B} {view} {s} {r} {s'} h e k = subst (λ o. UnlessFailed o s r s' (ReadsRawAt B view s r s')) k h.reads
 
 -- of an element with parts
 pub parts_repeat_error : {A : Type 0} {P : Does A} {tag : Tag} {s : Reading} {r : Result A ASN1Error} {s' : Reading} →
     ReadsParts P tag s r s' → RepeatsError s r s'
-parts_repeat_error {P} {tag} {s} {r} {s'} h e k = subst (λ o. EntersUnlessFailed o P (tag_of s tag) s r s') k h.enters
+parts_repeat_error {P} {tag} {s} {r} {s'} h e k = subst (λ o. UnlessFailed o s r s' (EntersAt P (tag_of s tag) s r s')) k h.enters

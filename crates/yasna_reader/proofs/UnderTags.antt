@@ -7,10 +7,10 @@ use Rattle.yasna_base.specs.Identifier.{tag_or}
 use Rattle.yasna_reader.specs.declared.callback.Outcome.{Outcome}
 use Rattle.yasna_reader.specs.declared.callback.Outcome.TheVariants.{Matched, NoMatch, Failed}
 use Rattle.yasna_reader.specs.ByTags.{DecodesByTags}
-use Rattle.yasna_reader.specs.Callback.{ErrorCause, sticky, before, own, ComesTo, Hands, Lent, UnlessFailed, returned_of}
-use Rattle.yasna_reader.specs.Primitive.{ReadsUnlessFailed, ReadsSeen}
-use Rattle.yasna_reader.specs.Sequence.{Left, EntersUnlessFailed, ReadsParts}
-use Rattle.yasna_reader.specs.State.{Reading, IsFresh, untagged, rejecting, tag_of, Does}
+use Rattle.yasna_reader.specs.Callback.{ErrorCause, sticky, before, own, ComesTo, Hands, Lent, returned_of}
+use Rattle.yasna_reader.specs.Primitive.{ReadsSeen, ReadsTyped}
+use Rattle.yasna_reader.specs.Sequence.{Left, EntersAt, ReadsParts}
+use Rattle.yasna_reader.specs.State.{Reading, IsFresh, untagged, rejecting, tag_of, Does, UnlessFailed}
 use Rattle.yasna_reader.specs.Tagged.{reading_under, ReadsImplicitly}
 use Rattle.yasna_reader.proofs.ByTags.{IsDecoderByTags, plain_by}
 use Rattle.yasna_reader.proofs.Handed.{lent_decodes, lent_no_match}
@@ -31,8 +31,7 @@ rejects_so t s e m false fresh h = ap untagged h ∙ stays s fresh
 -- what is read from what equals a fresh reading with its own tag
 module _ {V A : Type 0} (B : TaggedGrammar A) (view : V → A) (D : TaggedMembers) (M : ℕ → Tag → List ℕ → Type 0) (own t : Tag) where
   seen_so : (s : Reading) (r : Result V ASN1Error) (m : Reading) → IsFresh s →
-      ReadsUnlessFailed None (B s.levels s.mode t) view (D s.levels s.mode t s.left) (M s.levels t s.left) t (record s { tag = Some t }) r m →
-      ReadsUnlessFailed None (B s.levels s.mode t) view (D s.levels s.mode t s.left) (M s.levels t s.left) t s r (untagged m)
+      ReadsTyped B view D M t (record s { tag = Some t }) r m → ReadsTyped B view D M t s r (untagged m)
   seen_so s (Ok v) m fresh h = record { rest = h.rest; takes = h.takes; state = ap untagged h.state }
   seen_so s (Err e) m fresh h =
       record { rejection = h.rejection; kind = h.kind; rejects = h.rejects; state = rejects_so t s e m h.rejection.consumed fresh h.state }
@@ -41,12 +40,11 @@ module _ {V A : Type 0} (B : TaggedGrammar A) (view : V → A) (D : TaggedMember
   pub seen_under : DoesUnder t (ReadsSeen B view D M own) (ReadsSeen B view D M t)
   seen_under = record {
     does = λ s r m fresh h.
-        let U = λ (k : Option ASN1Error) (u : Tag) (z : Reading) (w : Reading).
-        ReadsUnlessFailed k (B s.levels s.mode u) view (D s.levels s.mode u s.left) (M s.levels u s.left) u z r w in
+        let under = record s { tag = Some t } in
         record {
-          reads = subst (λ k. U k (tag_of s t) s (untagged m)) (sym fresh.0)
-              (subst (λ (o : Option Tag). U None (tag_or o t) s (untagged m)) (sym fresh.1)
-              (seen_so s r m fresh (subst (λ k. U k t (record s { tag = Some t }) m) fresh.0 h.reads)));
+          reads = subst (λ k. UnlessFailed k s r (untagged m) (ReadsTyped B view D M (tag_of s t) s r (untagged m))) (sym fresh.0)
+              (subst (λ (o : Option Tag). ReadsTyped B view D M (tag_or o t) s r (untagged m)) (sym fresh.1)
+              (seen_so s r m fresh (subst (λ k. UnlessFailed k under r m (ReadsTyped B view D M t under r m)) fresh.0 h.reads)));
         };
   }
 
@@ -60,8 +58,8 @@ module _ {A : Type 0} (P : Does A) (own t : Tag) where
   left_so s end c y None (Ok v) r m (inr h) =
       inr (record { error = h.error; blames_bytes = h.blames_bytes; no_end = h.no_end; fails = record { returned = h.fails.returned; state = ap untagged h.fails.state } })
 
-  entered_so : (s : Reading) (r : Result A ASN1Error) (m : Reading) → IsFresh s → EntersUnlessFailed None P t (record s { tag = Some t }) r m →
-      EntersUnlessFailed None P t s r (untagged m)
+  entered_so : (s : Reading) (r : Result A ASN1Error) (m : Reading) → IsFresh s → EntersAt P t (record s { tag = Some t }) r m →
+      EntersAt P t s r (untagged m)
   entered_so s r m fresh (inl x) = inl (record {
     level = x.level;
     contents = x.contents;
@@ -83,9 +81,9 @@ module _ {A : Type 0} (P : Does A) (own t : Tag) where
   pub parts_under : DoesUnder t (ReadsParts P own) (ReadsParts P t)
   parts_under = record {
     does = λ s r m fresh h. record {
-      enters = subst (λ k. EntersUnlessFailed k P (tag_of s t) s r (untagged m)) (sym fresh.0)
-          (subst (λ (o : Option Tag). EntersUnlessFailed None P (tag_or o t) s r (untagged m)) (sym fresh.1)
-          (entered_so s r m fresh (subst (λ k. EntersUnlessFailed k P t (record s { tag = Some t }) r m) fresh.0 h.enters)));
+      enters = subst (λ k. UnlessFailed k s r (untagged m) (EntersAt P (tag_of s t) s r (untagged m))) (sym fresh.0)
+          (subst (λ (o : Option Tag). EntersAt P (tag_or o t) s r (untagged m)) (sym fresh.1)
+          (entered_so s r m fresh (subst (λ k. UnlessFailed k (record s { tag = Some t }) r m (EntersAt P t (record s { tag = Some t }) r m)) fresh.0 h.enters)));
     };
   }
 

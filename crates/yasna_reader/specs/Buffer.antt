@@ -2,8 +2,8 @@
 use Rattle.std.specs.Borrow.{Bor}
 use Rattle.std.specs.Prelude.{Err, List, Ok, Result, ℕ, ◌++◌, ◌≡◌}
 use Rattle.yasna_base.specs.declared.error.ASN1Error.{ASN1Error}
-use Rattle.yasna_reader.specs.Callback.{Lent, UnlessFailed}
-use Rattle.yasna_reader.specs.State.{Reading, Does}
+use Rattle.yasna_reader.specs.Callback.{Lent}
+use Rattle.yasna_reader.specs.State.{Reading, Does, UnlessFailed}
 use Rattle.yasna_reader.specs.declared.callback.Outcome.{Outcome}
 use Rattle.yasna_reader.specs.declared.callback.Outcome.TheVariants.{Matched, NoMatch, Failed}
 

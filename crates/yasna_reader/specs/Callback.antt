@@ -69,11 +69,6 @@ returned_of (Matched v) = Ok v
 returned_of (NoMatch e) = Err e
 returned_of (Failed e) = Err e
 
--- a sticky error comes before what K says, and leaves the reading as it was
-abbrev pub UnlessFailed : {A : Type 0} → Option ASN1Error → Reading → Result A ASN1Error → Reading → Type 0 → Type 0
-UnlessFailed (Some e) s r s' K = (r ≡ Err e) × (s' ≡ s)
-UnlessFailed None s r s' K = K
-
 -- the reading that begins at a cursor
 abbrev pub at_cursor : Cursor → Reading
 at_cursor c = record { left = c.left.now; mode = c.mode; levels = c.levels; tag = None; failed = None }

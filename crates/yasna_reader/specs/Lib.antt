@@ -12,7 +12,9 @@ pub mod Parse
 pub mod Located
 pub mod Raw
 pub mod Decodes
+pub mod SetList
 pub mod Set
+pub mod SetChoice
 pub mod SetOptional
 pub mod SetLaws
 pub mod ByTags

@@ -8,10 +8,15 @@ use Rattle.yasna_reader.specs.Parse.{Parses, parsed}
 use Rattle.yasna_reader.specs.State.{Reading, Does}
 use Rattle.yasna_reader.specs.declared.located.Located.{Located}
 
+-- a place in the bytes s or at their end, and at most as many elements around it as may be around one
+pub record IsPlaceIn (s : List ℕ) (l : Located) : Type 0 where
+  pub offset : l.offset ≤ length s
+  pub depth : l.depth ≤ 101
+
 -- l is the error e with a place in the bytes s or at their end
 pub record IsLocated (e : ASN1Error) (s : List ℕ) (l : Located) : Type 0 where
   pub error : l.error ≡ e
-  pub place : l.offset ≤ length s
+  pub place : IsPlaceIn s l
 
 -- the result without the place
 abbrev pub without_place : {A : Type 0} → Result A Located → Result A ASN1Error
@@ -21,12 +26,12 @@ without_place (Err l) = Err l.error
 -- what a parse of s returns where its callback returned own and left z
 pub record IsParsedWithPlace {A : Type 0} (own : Result A ASN1Error) (z : Reading) (s : List ℕ) (r : Result A Located) : Type 0 where
   pub returned : without_place r ≡ parsed own z
-  pub place : IfErr r (λ l. l.offset ≤ length s)
+  pub place : IfErr r (λ l. IsPlaceIn s l)
 
 -- a parse of s in the mode m as P says; where it fails, at a place in s or at its end
 pub record LocatesParse {A : Type 0} (P : Does A) (m : BERMode) (s : List ℕ) (r : Result A Located) : Type 0 where
   pub parses : Parses P m s (without_place r)
-  pub place : IfErr r (λ l. l.offset ≤ length s)
+  pub place : IfErr r (λ l. IsPlaceIn s l)
 
 -- the line that prints it
 abbrev pub located_text : Located → List ℕ

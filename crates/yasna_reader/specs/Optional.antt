@@ -4,8 +4,8 @@ pub use Rattle.yasna_base.specs.Default.{TakesDefault}
 use Rattle.yasna_base.specs.Error.{error_of}
 use Rattle.yasna_base.specs.declared.error.ASN1Error.{ASN1Error}
 use Rattle.yasna_base.specs.declared.error.ASN1ErrorKind.TheVariants.{Invalid}
-use Rattle.yasna_reader.specs.Callback.{Hands, UnlessFailed}
-use Rattle.yasna_reader.specs.State.{Reading, failing_if, untagged, Does}
+use Rattle.yasna_reader.specs.Callback.{Hands}
+use Rattle.yasna_reader.specs.State.{Reading, failing_if, untagged, Does, UnlessFailed}
 use Rattle.yasna_reader.specs.declared.callback.Outcome.{Outcome}
 use Rattle.yasna_reader.specs.declared.callback.Outcome.TheVariants.{Matched, NoMatch, Failed}
 

@@ -6,15 +6,16 @@ use Rattle.yasna_base.specs.declared.error.ASN1Error.{ASN1Error}
 use Rattle.yasna_base.specs.declared.tag.Tag.{Tag}
 use Rattle.yasna_base.specs.Grammar.{TaggedGrammar, TaggedMembers}
 use Rattle.yasna_bytes.specs.Prefix.{Takes, HasPrefix, SeenAt}
-use Rattle.yasna_bytes.specs.Rejection.{IsTooDeep, Rejects}
-use Rattle.yasna_reader.specs.State.{Reading, rejecting, tag_of, untagged, Does}
+use Rattle.yasna_bytes.specs.Rejection.{IsElsewhere, IsTooDeep, Rejects}
+use Rattle.yasna_reader.specs.State.{Reading, UnlessFailed, rejecting, tag_of, untagged, Does}
 use Rattle.yasna_bytes.specs.declared.bytes.header.Rejection.{Rejection}
 
--- the error e of a read: what it says, and that it is sticky where it consumed input
-pub record RejectedAs {A : Type 0} (B : A → List ℕ → Type 0) (D M : Type 0) (t : Tag) (s : Reading) (e : ASN1Error) (s' : Reading) : Type 0 where
+-- the error e of a read: what it says, as `Rejects` does, and that it is sticky where it consumed input
+pub record RejectedAs {A : Type 0} (B : A → List ℕ → Type 0) (Deep MayAllocate Elsewhere : Type 0) (s : Reading) (e : ASN1Error) (s' : Reading) :
+    Type 0 where
   pub rejection : Rejection
   pub kind : rejection.kind ≡ kind_of e
-  pub rejects : Rejects (HasPrefix B s.left) D M t s.left rejection
+  pub rejects : Rejects (HasPrefix B s.left) Deep MayAllocate Elsewhere rejection
   pub state : s' ≡ rejecting rejection.consumed s e
 
 -- a prefix of what is left represents v, and the rest is left
@@ -23,11 +24,15 @@ pub record ReadsPrefix {A : Type 0} (B : A → List ℕ → Type 0) (s : Reading
   pub takes : Takes B s.left v rest
   pub state : s' ≡ record (untagged s) { left = rest }
 
--- a sticky error comes first, and leaves the reading as it was; view says what is seen of a value
-abbrev pub ReadsUnlessFailed : {V A : Type 0} → Option ASN1Error → (A → List ℕ → Type 0) → (V → A) → Type 0 → Type 0 → Tag → Does V
-ReadsUnlessFailed (Some e) B view D M t s r s' = (r ≡ Err e) × (s' ≡ s)
-ReadsUnlessFailed None B view D M t s (Ok v) s' = ReadsPrefix B s (view v) s'
-ReadsUnlessFailed None B view D M t s (Err e) s' = RejectedAs B D M t s e s'
+-- what a read does where no error is sticky; view says what is seen of a value
+abbrev pub ReadsAt : {V A : Type 0} → (A → List ℕ → Type 0) → (V → A) → (Deep MayAllocate Elsewhere : Type 0) → Does V
+ReadsAt B view Deep MayAllocate Elsewhere s (Ok v) s' = ReadsPrefix B s (view v) s'
+ReadsAt B view Deep MayAllocate Elsewhere s (Err e) s' = RejectedAs B Deep MayAllocate Elsewhere s e s'
+
+-- `ReadsAt` of an element of a tag, within the levels and in the mode of the reading
+abbrev pub ReadsTyped : {V A : Type 0} → TaggedGrammar A → (V → A) → TaggedMembers → (ℕ → Tag → List ℕ → Type 0) → Tag → Does V
+ReadsTyped B view D M t s =
+    ReadsAt (B s.levels s.mode t) view (D s.levels s.mode t s.left) (M s.levels t s.left) (IsElsewhere t s.left) s
 
 -- what a prefix that is parsed does to a reading
 abbrev pub Commits : {A : Type 0} → Reading → Result (A × Bor (List ℕ)) Rejection → Result A ASN1Error → Reading → Type 0
@@ -38,7 +43,7 @@ Commits s (Err e) r s' = (r ≡ Err (error_of e.kind)) × (s' ≡ rejecting e.co
 abbrev pub ParsesAs : {V A : Type 0} → TaggedGrammar A → (V → A) → TaggedMembers →
     (ℕ → Tag → List ℕ → Type 0) → Tag → Reading → Result (V × Bor (List ℕ)) Rejection → Type 0
 ParsesAs B view D M tag s r = SeenAt (B s.levels s.mode (tag_of s tag)) view (D s.levels s.mode (tag_of s tag) s.left) (M s.levels (tag_of s tag) s.left)
-    (tag_of s tag) s.left r
+    (IsElsewhere (tag_of s tag) s.left) s.left r
 
 -- A typed read of values, of which view is seen. With a sticky error it returns that, and consumes nothing. Else Ok consumes a prefix
 -- in B that encodes what is seen of the value. An Err that isn't `OutOfMemory` says that no prefix is in B, for any value. It consumed
@@ -46,8 +51,7 @@ ParsesAs B view D M tag s r = SeenAt (B s.levels s.mode (tag_of s tag)) view (D 
 -- sticky. It is `StackOverflow` exactly where D holds, and `OutOfMemory` only where M does
 pub record ReadsSeen {V A : Type 0} (B : TaggedGrammar A) (view : V → A) (D : TaggedMembers)
     (M : ℕ → Tag → List ℕ → Type 0) (tag : Tag) (s : Reading) (r : Result V ASN1Error) (s' : Reading) : Type 0 where
-  pub reads : ReadsUnlessFailed s.failed (B s.levels s.mode (tag_of s tag)) view (D s.levels s.mode (tag_of s tag) s.left) (M s.levels (tag_of s tag) s.left)
-      (tag_of s tag) s r s'
+  pub reads : UnlessFailed s.failed s r s' (ReadsTyped B view D M (tag_of s tag) s r s')
 
 -- `ReadsSeen` of values that are seen as they are
 abbrev pub Reads : {A : Type 0} → TaggedGrammar A → TaggedMembers → (ℕ → Tag → List ℕ → Type 0) → Tag → Does A

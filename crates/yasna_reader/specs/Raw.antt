@@ -1,17 +1,15 @@
 -- What a read of a raw element does to a reading.
 use Rattle.std.specs.Borrow.{Bor}
-use Rattle.std.specs.Prelude.{Err, List, None, Ok, Option, Result, Some, false, ℕ, ◌≡◌, ◌↔◌, ◌≤◌}
-use Rattle.yasna_base.specs.Error.{kind_of}
+use Rattle.std.specs.Prelude.{List, Result, ℕ, ◌≡◌, ◌≤◌}
 use Rattle.yasna_base.specs.Identifier.{StartsElement, AtEnd}
 use Rattle.yasna_base.specs.Raw.{RawValue, IsRaw, IsDeepRaw}
 use Rattle.yasna_base.specs.TaggedDerValue.{raw_value}
 use Rattle.yasna_reader.specs.declared.raw.Pieces.{Pieces}
 use Rattle.yasna_base.specs.declared.error.ASN1Error.{ASN1Error}
-use Rattle.yasna_base.specs.declared.error.ASN1ErrorKind.TheVariants.{OutOfMemory, StackOverflow}
 use Rattle.yasna_base.specs.declared.mode.BERMode.{BERMode}
-use Rattle.yasna_bytes.specs.Prefix.{HasPrefix, Takes}
-use Rattle.yasna_reader.specs.Primitive.{ReadsPrefix}
-use Rattle.yasna_reader.specs.State.{Reading, rejecting, Does}
+use Rattle.yasna_bytes.specs.Prefix.{SeenAt}
+use Rattle.yasna_reader.specs.Primitive.{ReadsAt}
+use Rattle.yasna_reader.specs.State.{Reading, UnlessFailed, Does}
 use Rattle.yasna_bytes.specs.declared.bytes.header.Rejection.{Rejection}
 
 -- the value that pieces of one say
@@ -24,31 +22,18 @@ pub record IsWhole (n : ℕ) (m : BERMode) (v b : List ℕ) : Type 0 where
   pub element : RawValue
   pub raw : IsRaw n m element b
 
--- How bytes are rejected as a raw element. N: what isn't there
-pub record RejectsCopy (N : Type 0) (n : ℕ) (m : BERMode) (s : List ℕ) (e : Rejection) : Type 0 where
-  pub none : (e.kind ≡ OutOfMemory → ⊥) → N → ⊥
-  pub consumed : e.consumed ≡ false ↔ AtEnd s
-  pub too_deep : e.kind ≡ StackOverflow → IsDeepRaw n m s
-  pub deep : (e.kind ≡ OutOfMemory → ⊥) → IsDeepRaw n m s → e.kind ≡ StackOverflow
-  pub memory : e.kind ≡ OutOfMemory → (1 ≤ n) × StartsElement s
+-- a level is left for a raw element, and its identifier is next
+abbrev pub MayAllocateRaw : ℕ → List ℕ → Type 0
+MayAllocateRaw n s = (1 ≤ n) × StartsElement s
 
 -- a value, of which view says what is seen, and the rest, or an error
 abbrev pub CopiedAt : {V A : Type 0} → (ℕ → BERMode → A → List ℕ → Type 0) → (V → A) → ℕ → BERMode → List ℕ → Result (V × Bor (List ℕ)) Rejection → Type 0
-CopiedAt B view n m s (Ok x) = Takes (B n m) s (view x.0) x.1.now
-CopiedAt B view n m s (Err e) = RejectsCopy (HasPrefix (B n m) s) n m s e
+CopiedAt B view n m s r = SeenAt (B n m) view (IsDeepRaw n m s) (MayAllocateRaw n s) (AtEnd s) s r
 
--- the error e of a read: what it says, and that it is sticky where it consumed input
-pub record RejectedRaw {A : Type 0} (B : ℕ → BERMode → A → List ℕ → Type 0) (s : Reading) (e : ASN1Error) (s' : Reading) : Type 0 where
-  pub rejection : Rejection
-  pub kind : rejection.kind ≡ kind_of e
-  pub rejects : RejectsCopy (HasPrefix (B s.levels s.mode) s.left) s.levels s.mode s.left rejection
-  pub state : s' ≡ rejecting rejection.consumed s e
-
--- a sticky error comes first
-abbrev pub ReadsRawUnlessFailed : {V A : Type 0} → Option ASN1Error → (ℕ → BERMode → A → List ℕ → Type 0) → (V → A) → Does V
-ReadsRawUnlessFailed (Some e) B view s r s' = (r ≡ Err e) × (s' ≡ s)
-ReadsRawUnlessFailed None B view s (Ok v) s' = ReadsPrefix (B s.levels s.mode) s (view v) s'
-ReadsRawUnlessFailed None B view s (Err e) s' = RejectedRaw B s e s'
+-- a read of a raw element where no error is sticky
+abbrev pub ReadsRawAt : {V A : Type 0} → (ℕ → BERMode → A → List ℕ → Type 0) → (V → A) → Does V
+ReadsRawAt B view s =
+    ReadsAt (B s.levels s.mode) view (IsDeepRaw s.levels s.mode s.left) (MayAllocateRaw s.levels s.left) (AtEnd s.left) s
 
 -- A read of a raw element, whatever implicit tag waits, where view is seen of a value. With a sticky error it returns that, and consumes
 -- nothing. Else Ok consumes a prefix in B that encodes what is seen of the value. An Err that isn't `OutOfMemory` says that no prefix
@@ -57,4 +42,4 @@ ReadsRawUnlessFailed None B view s (Err e) s' = RejectedRaw B s e s'
 -- identifier is next
 pub record ReadsRaw {V A : Type 0} (B : ℕ → BERMode → A → List ℕ → Type 0) (view : V → A) (s : Reading) (r : Result V ASN1Error) (s' : Reading) :
     Type 0 where
-  pub reads : ReadsRawUnlessFailed s.failed B view s r s'
+  pub reads : UnlessFailed s.failed s r s' (ReadsRawAt B view s r s')

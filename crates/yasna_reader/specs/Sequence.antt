@@ -11,7 +11,7 @@ use Rattle.yasna_base.specs.Header.{ContentsEnd, OpensAt}
 use Rattle.yasna_bytes.specs.Header.{OnlyConstructed, RejectsHeader, EndsBefore, NoEnd}
 use Rattle.yasna_bytes.specs.Opening.{Opening}
 use Rattle.yasna_bytes.specs.Rejection.{BlamesBytes}
-use Rattle.yasna_reader.specs.State.{Reading, failing, inside, rejecting, tag_of, untagged, Does}
+use Rattle.yasna_reader.specs.State.{Reading, UnlessFailed, failing, inside, rejecting, tag_of, untagged, Does}
 use Rattle.yasna_bytes.specs.declared.bytes.header.Rejection.{Rejection}
 use Rattle.yasna_reader.specs.declared.state.PartsReader.{PartsReader}
 
@@ -107,11 +107,10 @@ abbrev pub StepsAt : Tag → Reading → Result Opening ASN1Error → Reading �
 StepsAt t s (Ok o) s' = StepsIn t s o × (s' ≡ s)
 StepsAt t s (Err e) s' = StaysOut t s e s'
 
--- a sticky error comes first
-abbrev pub EntersUnlessFailed : {A : Type 0} → Option ASN1Error → Does A → Tag → Does A
-EntersUnlessFailed (Some e) P t s r s' = (r ≡ Err e) × (s' ≡ s)
-EntersUnlessFailed None P t s r s' = Entered P t s r s' ⊎ NotEntered t s r s'
+-- what such a read does where no error is sticky
+abbrev pub EntersAt : {A : Type 0} → Does A → Tag → Does A
+EntersAt P t s r s' = Entered P t s r s' ⊎ NotEntered t s r s'
 
 -- a read of a constructed element whose contents are read as P says
 pub record ReadsParts {A : Type 0} (P : Does A) (tag : Tag) (s : Reading) (r : Result A ASN1Error) (s' : Reading) : Type 0 where
-  pub enters : EntersUnlessFailed s.failed P (tag_of s tag) s r s'
+  pub enters : UnlessFailed s.failed s r s' (EntersAt P (tag_of s tag) s r s')

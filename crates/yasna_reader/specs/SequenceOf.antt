@@ -46,11 +46,11 @@ abbrev pub Turns : {G A : Type 0} → (G → Reading → Outcome A → G → Rea
 Turns T g s [] g' s' = (g' ≡ g) × (s' ≡ s)
 Turns {G} T g s (v ∷ vs) g' s' = (h : G) × (m : Reading) × T g s (Matched v) h m × Turns T h m vs g' s'
 
--- the callback may be called wherever its turns reach: first on the reading s, in any state, then in the state and on the reading
--- that the turn before left
-abbrev pub TakesTurns : {F A : Type 0} → Mut F (MutBor Reading × Unit {0}) (Result A ASN1Error × (MutBor Reading × Unit {0})) → Reading → Type 0
-TakesTurns {F} {A} g s =
-    (f h : F) (vs : List A) (prefix rest : List ℕ) → s.left ≡ prefix ++ rest → Turns (ListTurn (CalledAtMut g)) f s vs h (record s { left = rest }) →
+-- the callback f may be called wherever its turns reach: first on the reading s, then in the state and on the reading that the
+-- turn before left
+abbrev pub TakesTurns : {F A : Type 0} → Mut F (MutBor Reading × Unit {0}) (Result A ASN1Error × (MutBor Reading × Unit {0})) → F → Reading → Type 0
+TakesTurns {F} {A} g f s =
+    (h : F) (vs : List A) (prefix rest : List ℕ) → s.left ≡ prefix ++ rest → Turns (ListTurn (CalledAtMut g)) f s vs h (record s { left = rest }) →
     TakesTurn g h (record s { left = rest })
 
 -- what is returned where the turn after these values came to that

@@ -15,7 +15,8 @@ use Rattle.yasna_base.specs.declared.error.ASN1ErrorKind.TheVariants.{OutOfMemor
 use Rattle.yasna_base.specs.declared.mode.BERMode.{BERMode}
 use Rattle.yasna_base.specs.declared.tag.PCBit.TheVariants.{Constructed}
 use Rattle.yasna_base.specs.declared.tag.Tag.{Tag}
-use Rattle.yasna_reader.specs.Set.{IsSetList, SetCallback, SetReading}
+use Rattle.yasna_reader.specs.Set.{SetCallback, SetReading}
+use Rattle.yasna_reader.specs.SetList.{IsSetList}
 use Rattle.yasna_reader.specs.State.{Reading, inside, Does}
 use Rattle.yasna_reader.specs.declared.set.SetElement.{SetElement}
 

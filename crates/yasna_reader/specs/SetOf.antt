@@ -1,5 +1,6 @@
 -- What a read of a SET OF does, whose elements ascend in DER and CER as byte strings (X.690, 8.12 and 11.6).
-use Rattle.std.specs.Borrow.{Bor}
+use Rattle.std.specs.Borrow.{Bor, MutBor}
+use Rattle.std.specs.Fn.{Mut, CalledAtMut}
 use Rattle.std.specs.Global.{Global}
 use Rattle.std.specs.Ordering.{is_lt}
 use Rattle.std.specs.Prelude.{Bool, List, None, Option, Result, Some, Vec, [], false, true, ℕ, ◌++◌, ◌≡◌, ◌⊎◌}
@@ -10,7 +11,7 @@ use Rattle.yasna_base.specs.declared.error.ASN1ErrorKind.TheVariants.{Invalid}
 use Rattle.yasna_base.specs.declared.mode.BERMode.{BERMode}
 use Rattle.yasna_base.specs.declared.mode.BERMode.TheVariants.{Ber, Der, Cer}
 use Rattle.yasna_reader.specs.Callback.{WithSome}
-use Rattle.yasna_reader.specs.SequenceOf.{CollectsBy, ListTurn, TurnsOut, VisitsBy}
+use Rattle.yasna_reader.specs.SequenceOf.{CollectsBy, ListTurn, TakesTurn, Turns, TurnsOut, VisitsBy}
 use Rattle.yasna_reader.specs.State.{Reading, failing, Does}
 use Rattle.yasna_reader.specs.declared.callback.Outcome.{Outcome}
 use Rattle.yasna_reader.specs.declared.callback.Outcome.TheVariants.{Matched, NoMatch, Failed}
@@ -80,6 +81,14 @@ abbrev pub TurnInOrder : {F A : Type 0} → (F → Reading → Result A ASN1Erro
 TurnInOrder C g s (Matched v) g' s' = GivesInOrder C g s v g' s'
 TurnInOrder C g s (NoMatch e) g' s' = ListTurn C g.callback s (NoMatch e) g'.callback s'
 TurnInOrder C g s (Failed e) g' s' = FailsInOrder C g s e g' s'
+
+-- as `TakesTurns`, of a list whose elements are in that order: none of its turns is behind an element that is out of order
+abbrev pub TakesTurnsInOrder : {F A : Type 0} → Order → Mut F (MutBor Reading × Unit {0}) (Result A ASN1Error × (MutBor Reading × Unit {0})) → F →
+    Reading → Type 0
+TakesTurnsInOrder {F} {A} o g f s =
+    (h : Bounded F) (vs : List A) (prefix rest : List ℕ) → s.left ≡ prefix ++ rest →
+    Turns (TurnInOrder (CalledAtMut g)) (record { callback = f; bound = bound_in o s.mode }) s vs h (record s { left = rest }) →
+    TakesTurn g h.callback (record s { left = rest })
 
 -- what is made of a turn that came to o, began with the bytes c and left s, where the bound is a
 abbrev pub Ordered : {A : Type 0} → Option (List ℕ) → List ℕ → Outcome A → Reading → Outcome A → Option (List ℕ) → Reading → Type 0

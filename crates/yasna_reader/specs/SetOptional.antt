@@ -7,7 +7,8 @@ use Rattle.yasna_base.specs.declared.tag.Tag.{Tag}
 use Rattle.yasna_reader.specs.Callback.{Hands, returned_of}
 use Rattle.yasna_reader.specs.Optional.{UnlessDefault}
 use Rattle.yasna_reader.specs.Parse.{ended}
-use Rattle.yasna_reader.specs.Set.{NoneIsAmong, SetReading, TakesAmong}
+use Rattle.yasna_reader.specs.Set.{SetReading}
+use Rattle.yasna_reader.specs.SetChoice.{NoneIsAmong, TakesAmong}
 use Rattle.yasna_reader.specs.State.{Reading, failing, untagged, Does}
 use Rattle.yasna_reader.specs.declared.callback.Outcome.{Outcome}
 use Rattle.yasna_reader.specs.declared.set.SetElement.{SetElement}

@@ -1,6 +1,6 @@
 -- A reading as contracts see it, and what the parts of a constructed element lend.
 use Rattle.std.specs.Borrow.{Fml, Lends, MutBor, RattleType}
-use Rattle.std.specs.Prelude.{Bool, List, None, Option, Result, Some, false, true, ℕ, ◌-◌, ◌≡◌}
+use Rattle.std.specs.Prelude.{Bool, Err, List, None, Option, Result, Some, false, true, ℕ, ◌-◌, ◌≡◌}
 use Rattle.yasna_base.specs.declared.error.ASN1Error.{ASN1Error}
 use Rattle.yasna_base.specs.declared.mode.BERMode.{BERMode}
 use Rattle.yasna_base.specs.declared.tag.Tag.{Tag}
@@ -20,6 +20,11 @@ pub record Reading : Type 0 where
 -- a read: the reading before it, its result, and the reading after it
 abbrev pub Does : Type 0 → Type 1
 Does A = Reading → Result A ASN1Error → Reading → Type 0
+
+-- a sticky error is returned before what K says is done, and leaves the reading as it was
+abbrev pub UnlessFailed : {A : Type 0} → Option ASN1Error → Reading → Result A ASN1Error → Reading → Type 0 → Type 0
+UnlessFailed (Some e) s r s' K = (r ≡ Err e) × (s' ≡ s)
+UnlessFailed None s r s' K = K
 
 -- no error was sticky, and no implicit tag waits
 abbrev pub IsFresh : Reading → Type 0

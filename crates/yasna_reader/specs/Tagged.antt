@@ -1,8 +1,8 @@
 -- What a read under an implicit tag of the caller's does.
 use Rattle.std.specs.Prelude.{Some, ◌≡◌}
 use Rattle.yasna_base.specs.declared.tag.Tag.{Tag}
-use Rattle.yasna_reader.specs.Callback.{Lent, UnlessFailed, returned_of}
-use Rattle.yasna_reader.specs.State.{Reading, tag_of, Does}
+use Rattle.yasna_reader.specs.Callback.{Lent, returned_of}
+use Rattle.yasna_reader.specs.State.{Reading, tag_of, Does, UnlessFailed}
 use Rattle.yasna_reader.specs.declared.callback.Outcome.{Outcome}
 
 -- the reading whose next element is to have the tag, or the one that waits already

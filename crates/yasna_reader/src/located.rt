@@ -11,6 +11,9 @@ use std::fmt;
 use yasna_base::error::{ASN1Error, ASN1Result};
 use yasna_base::mode::BERMode;
 
+// The most elements that are around one which is read, or which is rejected as too deep.
+const DEEPEST: usize = 101;
+
 /// An error and its place in the input.
 #[derive(Clone, Copy, PartialEq, Eq, Debug)]
 pub struct Located {
@@ -19,7 +22,7 @@ pub struct Located {
     /// The offset of the element that was rejected, in bytes. If none is left, it is where that was found; if a callback rejected what
     /// it had read, it is where that ended.
     pub offset: usize,
-    /// The number of elements around it.
+    /// The number of elements around it, at most 101.
     pub depth: usize,
 }
 
@@ -126,7 +129,7 @@ impl<'a> ReaderState<'a> {
         Located {
             error,
             offset: self.place().min(buf.len()),
-            depth: usize::from(self.deeper),
+            depth: usize::from(self.deeper).min(DEEPEST),
         }
     }
 }

@@ -15,7 +15,7 @@ impl<'a> ReaderState<'a> {
     ghost use Rattle.yasna_reader.specs.Callback.{WithSome, at_cursor};
     ghost use Rattle.yasna_reader.specs.Sequence.{TakesContents, ReadsParts};
     ghost use Rattle.yasna_reader.specs.SequenceOf.{TakesTurn, TakesTurns, TurnsOut, Collects, Visits};
-    ghost use Rattle.yasna_reader.specs.SetOf.{CollectsInOrder, VisitsInOrder, TurnsOutInOrder, bound_bytes};
+    ghost use Rattle.yasna_reader.specs.SetOf.{CollectsInOrder, TakesTurnsInOrder, VisitsInOrder, TurnsOutInOrder, bound_bytes};
     ghost use Rattle.yasna_reader.specs.State.{IsFresh};
 
     /// Reads a SEQUENCE OF (X.690, 8.10): the callback reads one element each time that it is called.
@@ -27,7 +27,7 @@ impl<'a> ReaderState<'a> {
     pub fn read_sequence_of<F>(&mut self, f: F) -> ASN1Result<()>
     where
         F: FnMut(BERReader<'a, '_>) -> ASN1Result<()> + Drop,
-        requires { TakesContents (TakesTurns F.FnMut) sequence_tag self.old }
+        requires { TakesContents (TakesTurns F.FnMut f) sequence_tag self.old }
         ensures { ReadsParts (Visits (CalledAtMut F.FnMut) f) sequence_tag self.old result self.new }
     {
         self.read_list(TAG_SEQUENCE, Order::Any, f)
@@ -41,7 +41,7 @@ impl<'a> ReaderState<'a> {
     pub fn collect_sequence_of<T: Drop, F>(&mut self, f: F) -> ASN1Result<Vec<T>>
     where
         F: FnMut(BERReader<'a, '_>) -> ASN1Result<T> + Drop,
-        requires { TakesContents (TakesTurns F.FnMut) sequence_tag self.old }
+        requires { TakesContents (TakesTurns F.FnMut f) sequence_tag self.old }
         ensures { ReadsParts (Collects (CalledAtMut F.FnMut) f) sequence_tag self.old result self.new }
     {
         self.collect_list(TAG_SEQUENCE, Order::Any, f)
@@ -53,7 +53,7 @@ impl<'a> ReaderState<'a> {
     pub(crate) fn read_list<F>(&mut self, tag: Tag, order: Order, f: F) -> ASN1Result<()>
     where
         F: FnMut(BERReader<'a, '_>) -> ASN1Result<()> + Drop,
-        requires { TakesContents (TakesTurns F.FnMut) tag self.old }
+        requires { TakesContents (TakesTurnsInOrder order F.FnMut f) tag self.old }
         ensures { ReadsParts (VisitsInOrder order (CalledAtMut F.FnMut) f) tag self.old result self.new }
     {
         let opened = self.step_in(tag)?;
@@ -74,7 +74,7 @@ impl<'a> ReaderState<'a> {
     ) -> ASN1Result<Vec<T>>
     where
         F: FnMut(BERReader<'a, '_>) -> ASN1Result<T> + Drop,
-        requires { TakesContents (TakesTurns F.FnMut) tag self.old }
+        requires { TakesContents (TakesTurnsInOrder order F.FnMut f) tag self.old }
         ensures { ReadsParts (CollectsInOrder order (CalledAtMut F.FnMut) f) tag self.old result self.new }
     {
         let opened = self.step_in(tag)?;
@@ -90,7 +90,7 @@ impl<'a> ReaderState<'a> {
     where
         F: FnMut(BERReader<'a, '_>) -> ASN1Result<()> + Drop,
         requires fresh { IsFresh self.old }
-        requires turns { TakesTurns F.FnMut self.old }
+        requires turns { TakesTurnsInOrder order F.FnMut f self.old }
         ensures { VisitsInOrder order (CalledAtMut F.FnMut) f self.old result self.new }
     {
         let mut bound = first_bound(order, self.cursor.mode);
@@ -111,7 +111,7 @@ impl<'a> ReaderState<'a> {
     where
         F: FnMut(BERReader<'a, '_>) -> ASN1Result<T> + Drop,
         requires fresh { IsFresh self.old }
-        requires turns { TakesTurns F.FnMut self.old }
+        requires turns { TakesTurnsInOrder order F.FnMut f self.old }
         ensures { CollectsInOrder order (CalledAtMut F.FnMut) f self.old result self.new }
     {
         let mut items = Vec::new(self.alloc);

@@ -8,7 +8,9 @@ ghost use Rattle.std.specs.Ordering.{is_lt};
 ghost use Rattle.std.specs.VecDeque.{deque_len};
 ghost use Rattle.yasna_base.specs.Order.{tag_cmp};
 ghost use Rattle.yasna_base.specs.Set.{set_tag};
-ghost use Rattle.yasna_reader.specs.Set.{ElementsAreInSetOrder, ElementsAt, IsAmong, IsFirstAmong, NoneIsAmong, all_taken};
+ghost use Rattle.yasna_reader.specs.Set.{all_taken};
+ghost use Rattle.yasna_reader.specs.SetList.{ElementsAreInSetOrder, ElementsAt};
+ghost use Rattle.yasna_reader.specs.SetChoice.{IsAmong, IsFirstAmong, NoneIsAmong};
 ghost use Rattle.yasna_reader.specs.declared.set.SetElement.{SetElement};
 
 use crate::state::ReaderState;
@@ -28,6 +30,22 @@ pub struct SetElement<'a> {
     pub(crate) bytes: &'a [u8],
     // where it ends, counted from the input's first byte
     pub(crate) end: usize,
+}
+
+impl<'a> SetElement<'a> {
+    // Where it begins, counted from the input's first byte.
+    #[cold]
+    fn place(&self) -> usize {
+        self.end.saturating_sub(self.bytes.len())
+    }
+}
+
+// Why the elements of a SET weren't listed.
+#[derive(Clone, Copy)]
+struct Unlisted {
+    kind: ASN1ErrorKind,
+    // where the element begins that was rejected, counted from the input's first byte
+    place: usize,
 }
 
 /// A set of elements from which one is chosen by its tag.
@@ -53,7 +71,7 @@ pub struct Chosen<S, L> {
 
 impl<S, L: Choose<S>> Chosen<S, L> {
     ghost use Rattle.std.specs.Borrow.{sem};
-    ghost use Rattle.yasna_reader.specs.Set.{LendsChosen};
+    ghost use Rattle.yasna_reader.specs.SetChoice.{LendsChosen};
 
     /// The reading of the first element left that has one of these tags, and only of that. The element is taken out, even if it is
     /// never read.
@@ -128,7 +146,7 @@ fn take_after<'a>(list: &mut VecDeque<SetElement<'a>>, place: usize) -> SetEleme
 }
 
 impl<'a> Choose<ReaderState<'a>> for VecDeque<SetElement<'a>> {
-    ghost use Rattle.yasna_reader.specs.Set.{Chooses};
+    ghost use Rattle.yasna_reader.specs.SetChoice.{Chooses};
 
     ghost chooses = { λ l s ts r k t. Chooses l.items s ts r k.items t };
 
@@ -156,29 +174,43 @@ fn tag_goes_before(tag: Tag, other: Tag) -> bool
     tag.cmp(&other).is_lt()
 }
 
-// Whether no tag goes before that of the previous element.
+// The first element whose tag goes before that of the previous one.
 #[tactic(auto, using(crate::proofs::SetListing::ascend_more_at, crate::proofs::SetListing::ascend_not_at, crate::proofs::SetListing::ascend_end))]
-fn tags_ascend(list: &[SetElement<'_>]) -> bool
-    ensures { IsTrue result ↔ IsSortedByKey (λ (x : SetElement). x.tag) tag_cmp list.now }
+fn first_falling<'a>(list: &[SetElement<'a>]) -> Option<SetElement<'a>>
+    ensures { MatchOption result (IsSortedByKey (λ (x : SetElement). x.tag) tag_cmp list.now) (λ _. ¬ (IsSortedByKey (λ (x : SetElement). x.tag) tag_cmp list.now)) }
 {
     let mut place = 1;
     while place < list.len() {
         if tag_goes_before(list[place].tag, list[place - 1].tag) {
-            return false;
+            return Some(list[place]);
         }
         place += 1;
     }
-    true
+    None
 }
 
-// Whether elements are in the order that a mode requires (X.690, 9.3 and 10.3).
-fn is_in_order(mode: BERMode, list: &[SetElement<'_>]) -> bool
-    ensures { IsTrue result ↔ ElementsAreInSetOrder mode list.now }
+// The first element that isn't in the order that a mode requires (X.690, 9.3 and 10.3).
+fn first_out_of_order<'a>(
+    mode: BERMode,
+    list: &[SetElement<'a>],
+) -> Option<SetElement<'a>>
+    ensures { MatchOption result (ElementsAreInSetOrder mode list.now) (λ _. ¬ (ElementsAreInSetOrder mode list.now)) }
 {
     match mode {
-        BERMode::Ber => true,
-        BERMode::Der => tags_ascend(list),
-        BERMode::Cer => tags_ascend(list),
+        BERMode::Ber => None,
+        BERMode::Der => first_falling(list),
+        BERMode::Cer => first_falling(list),
+    }
+}
+
+// Elements aren't listed, as the one that begins here is rejected.
+#[cold]
+fn rejected_at(kind: ASN1ErrorKind, here: Cursor<'_>) -> Unlisted
+    ensures { result.kind ≡ kind }
+{
+    Unlisted {
+        kind,
+        place: here.end.saturating_sub(here.left.len()),
     }
 }
 
@@ -186,7 +218,7 @@ fn is_in_order(mode: BERMode, list: &[SetElement<'_>]) -> bool
 fn list_elements<'a>(
     alloc: Global,
     cursor: Cursor<'a>,
-) -> Result<(Vec<SetElement<'a>>, &'a [u8]), ASN1ErrorKind>
+) -> Result<(Vec<SetElement<'a>>, &'a [u8]), Unlisted>
     ensures { ElementsAt cursor.entry.levels cursor.entry.mode cursor.entry.left.now result }
 {
     let mut list = Vec::new(alloc);
@@ -200,13 +232,13 @@ fn list_elements<'a>(
                     end: here.end.saturating_sub(rest.len()),
                 };
                 if list.push(listed).is_err() {
-                    return Err(ASN1ErrorKind::OutOfMemory);
+                    return Err(rejected_at(ASN1ErrorKind::OutOfMemory, here));
                 }
                 here = here.further(rest);
             }
             Err(rejection) => {
                 if rejection.consumed {
-                    return Err(rejection.kind);
+                    return Err(rejected_at(rejection.kind, here));
                 }
                 return Ok((list, here.left));
             }
@@ -244,7 +276,8 @@ where
 impl<'a> ReaderState<'a> {
     ghost use Rattle.std.specs.Prelude.{[], ◌≡◌};
     ghost use Rattle.yasna_reader.specs.Sequence.{TakesContents, ReadsParts};
-    ghost use Rattle.yasna_reader.specs.Set.{RunsOnSet, SetListAt, TakesElements, emptied};
+    ghost use Rattle.yasna_reader.specs.Set.{RunsOnSet, TakesElements, emptied};
+    ghost use Rattle.yasna_reader.specs.SetList.{SetListAt};
     ghost use Rattle.yasna_reader.specs.State.{IsFresh, untagged};
 
     /// Reads a SET (X.690, 8.11), whose elements the callback takes by their tags.
@@ -287,33 +320,36 @@ impl<'a> ReaderState<'a> {
                 self.pass(rest, &reader, &list, returned.is_err());
                 returned_of_all(returned, &list)
             }
-            Err(kind) => self.fail(ASN1Error::new(kind)),
+            Err(fault) => {
+                self.set_place(fault.place, 0);
+                self.fail(ASN1Error::new(fault.kind))
+            }
         }
     }
 
     // Lists the elements of these contents, if they are in the order that the mode requires, and returns what is left.
-    fn list_set(&self) -> Result<(VecDeque<SetElement<'a>>, &'a [u8]), ASN1ErrorKind>
+    fn list_set(&self) -> Result<(VecDeque<SetElement<'a>>, &'a [u8]), Unlisted>
         ensures { SetListAt self.now.levels self.now.mode self.now.left result }
     {
         let cursor = self.cursor;
         match list_elements(self.alloc, cursor) {
-            Ok((list, rest)) => {
-                if is_in_order(cursor.mode, &list) {
-                    Ok((VecDeque::from_vec(list), rest))
-                } else {
-                    Err(ASN1ErrorKind::Invalid)
-                }
-            }
-            Err(kind) => Err(kind),
+            Ok((list, rest)) => match first_out_of_order(cursor.mode, &list) {
+                None => Ok((VecDeque::from_vec(list), rest)),
+                Some(element) => Err(Unlisted {
+                    kind: ASN1ErrorKind::Invalid,
+                    place: element.place(),
+                }),
+            },
+            Err(fault) => Err(fault),
         }
     }
 
-    // A reading like this one, of nothing.
+    // A reading like this one, of nothing. Its place is that of the first element, so that an error is there if none is taken.
     fn emptied(&self) -> ReaderState<'a>
         ensures { result ≡ emptied self.now }
     {
         ReaderState {
-            cursor: self.cursor.further(&[]),
+            cursor: self.cursor.for_element(&[], self.place()),
             tag: None,
             failed: None,
             deeper: 0,
@@ -337,7 +373,7 @@ impl<'a> ReaderState<'a> {
         if has_failed || self.failed.is_some() {
             self.set_place(reader.place_of_error(), reader.deeper);
         } else if let Some(first) = others.front() {
-            self.set_place(first.end.saturating_sub(first.bytes.len()), 0);
+            self.set_place(first.place(), 0);
         }
     }
 

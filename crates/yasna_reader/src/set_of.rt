@@ -47,8 +47,7 @@ fn goes_before(element: &[u8], other: &[u8]) -> bool
 impl<'a> ReaderState<'a> {
     ghost use Rattle.std.specs.Fn.{CalledAtMut};
     ghost use Rattle.yasna_reader.specs.Sequence.{TakesContents, ReadsParts};
-    ghost use Rattle.yasna_reader.specs.SequenceOf.{TakesTurns};
-    ghost use Rattle.yasna_reader.specs.SetOf.{CollectsInOrder, VisitsInOrder, Ordered, bound_bytes};
+    ghost use Rattle.yasna_reader.specs.SetOf.{CollectsInOrder, TakesTurnsInOrder, VisitsInOrder, Ordered, bound_bytes};
     ghost use Rattle.yasna_bytes.specs.Walk.{IsRest};
     ghost use Rattle.yasna_reader.specs.declared.set_of.Order.TheVariants.{Ascending};
 
@@ -60,7 +59,7 @@ impl<'a> ReaderState<'a> {
     pub fn read_set_of<F>(&mut self, f: F) -> ASN1Result<()>
     where
         F: FnMut(BERReader<'a, '_>) -> ASN1Result<()> + Drop,
-        requires { TakesContents (TakesTurns F.FnMut) set_tag self.old }
+        requires { TakesContents (TakesTurnsInOrder Ascending F.FnMut f) set_tag self.old }
         ensures { ReadsParts (VisitsInOrder Ascending (CalledAtMut F.FnMut) f) set_tag self.old result self.new }
     {
         self.read_list(TAG_SET, Order::Ascending, f)
@@ -73,7 +72,7 @@ impl<'a> ReaderState<'a> {
     pub fn collect_set_of<T: Drop, F>(&mut self, f: F) -> ASN1Result<Vec<T>>
     where
         F: FnMut(BERReader<'a, '_>) -> ASN1Result<T> + Drop,
-        requires { TakesContents (TakesTurns F.FnMut) set_tag self.old }
+        requires { TakesContents (TakesTurnsInOrder Ascending F.FnMut f) set_tag self.old }
         ensures { ReadsParts (CollectsInOrder Ascending (CalledAtMut F.FnMut) f) set_tag self.old result self.new }
     {
         self.collect_list(TAG_SET, Order::Ascending, f)

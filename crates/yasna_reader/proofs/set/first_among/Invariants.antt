@@ -1,7 +1,7 @@
 use Rattle.std.proofs.Common.{◌-◌}
 use Rattle.std.specs.List.{AllWithin}
 use Rattle.std.specs.VecDeque.{deque_len}
-use Rattle.yasna_reader.specs.Set.{IsAmong}
+use Rattle.yasna_reader.specs.SetChoice.{IsAmong}
 use Rattle.yasna_reader.proofs.set.first_among.Given as goal
 
 -- none before has one of the tags

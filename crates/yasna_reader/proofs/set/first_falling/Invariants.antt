@@ -3,7 +3,7 @@ use Rattle.std.specs.List.Sorted.{IsSortedWithin}
 use Rattle.std.specs.Ordering.{is_lt}
 use Rattle.yasna_base.specs.Order.{tag_cmp}
 use Rattle.yasna_reader.specs.declared.set.SetElement.{SetElement}
-use Rattle.yasna_reader.proofs.set.tags_ascend.Given as goal
+use Rattle.yasna_reader.proofs.set.first_falling.Given as goal
 
 -- the tags before don't fall
 abbrev pub invariant-loop-place : goal.invariant-loop-place

@@ -1,5 +1,5 @@
 use Rattle.std.proofs.Common.{rules}
-use Rattle.yasna_reader.proofs.set.is_in_order.Goals as goal
+use Rattle.yasna_reader.proofs.set.first_out_of_order.Goals as goal
 
 pub returns-in-Der : goal.returns-in-Der
 returns-in-Der c = search rules

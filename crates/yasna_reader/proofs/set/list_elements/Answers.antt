@@ -1,6 +1,6 @@
 use Rattle.std.proofs.Common.{◌≡◌, [], ◌∷◌, ◌++◌, rules, refl, sym, subst, ◌∙◌}
 use Rattle.yasna_reader.specs.declared.set.SetElement.{SetElement}
-use Rattle.yasna_reader.specs.Set.{Listed}
+use Rattle.yasna_reader.specs.SetList.{Listed, NotListed}
 use Rattle.yasna_reader.proofs.SetListing.{none_listed, out_of_memory_for_list, listed_more, listed_smaller, not_listed, listed_all}
 use Rattle.yasna_reader.proofs.set.list_elements.Goals as goal
 
@@ -33,14 +33,16 @@ loop-element-preserved c =
 pub returns-then-is_err : goal.returns-then-is_err
 returns-then-is_err c =
     let i = c.loop-element.invariant in
-    out_of_memory_for_list c.args.cursor.levels c.loop-element.here.levels c.args.cursor.mode c.loop-element.here.mode c.loop-element.list.items
-    c.args.cursor.left.now c.loop-element.here.left.now c.in-Ok.element c.in-Ok.rest.now i.0 i.1 i.2 (c.in-Ok.ensures {u = tt})
+    subst (NotListed c.args.cursor.levels c.args.cursor.mode c.args.cursor.left.now) (sym c.rejected_at.ensures)
+    (out_of_memory_for_list c.args.cursor.levels c.loop-element.here.levels c.args.cursor.mode c.loop-element.here.mode c.loop-element.list.items
+    c.args.cursor.left.now c.loop-element.here.left.now c.in-Ok.element c.in-Ok.rest.now i.0 i.1 i.2 (c.in-Ok.ensures {u = tt}))
 
 pub returns-then-rejection : goal.returns-then-rejection
 returns-then-rejection c =
     let i = c.loop-element.invariant in
-    not_listed c.args.cursor.levels c.loop-element.here.levels c.args.cursor.mode c.loop-element.here.mode c.loop-element.list.items
-    c.args.cursor.left.now c.loop-element.here.left.now c.in-Err.rejection i.0 i.1 i.2 (c.in-Err.ensures {u = tt}) c.if-rejection.true
+    subst (NotListed c.args.cursor.levels c.args.cursor.mode c.args.cursor.left.now) (sym c.rejected_at-then-rejection.ensures)
+    (not_listed c.args.cursor.levels c.loop-element.here.levels c.args.cursor.mode c.loop-element.here.mode c.loop-element.list.items
+    c.args.cursor.left.now c.loop-element.here.left.now c.in-Err.rejection i.0 i.1 i.2 (c.in-Err.ensures {u = tt}) c.if-rejection.true)
 
 pub returns-in-Err : goal.returns-in-Err
 returns-in-Err c =

@@ -1,5 +1,5 @@
 use Rattle.std.proofs.Common.{◌≡◌, length}
-use Rattle.yasna_reader.specs.Set.{Listed}
+use Rattle.yasna_reader.specs.SetList.{Listed}
 use Rattle.yasna_reader.proofs.set.list_elements.Given as goal
 
 abbrev pub invariant-loop-element : goal.invariant-loop-element

@@ -11,7 +11,7 @@ use Rattle.yasna_reader.proofs.state.ReaderState.collect.Goals as goal
 pub call-returned-requires : goal.call-returned-requires
 call-returned-requires g c κs = (
   (refl, tt),
-  takes_turn g.F.FnMut (record { callback = c.args.f; bound = bound_in c.args.order c.args.self.now.mode }) c.args.self.now
+  takes_turn c.args.order g.F.FnMut c.args.f c.args.self.now
       c.loop-items.items.items (record { callback = c.loop-items.f; bound = bound_bytes c.loop-items.bound }) c.loop-items.self c.requires.turns
       c.loop-items.invariant,
 )

@@ -9,8 +9,8 @@ pub call-returned-requires : goal.call-returned-requires
 call-returned-requires g c κs =
     let so = c.loop-f.invariant in (
       (refl, tt),
-      takes_turn g.F.FnMut (record { callback = c.args.f; bound = bound_in c.args.order c.args.self.now.mode }) c.args.self.now so.0
-          (record { callback = c.loop-f.f; bound = bound_bytes c.loop-f.bound }) c.loop-f.self c.requires.turns so.1,
+      takes_turn c.args.order g.F.FnMut c.args.f c.args.self.now so.0 (record { callback = c.loop-f.f; bound = bound_bytes c.loop-f.bound })
+          c.loop-f.self c.requires.turns so.1,
     )
 
 pub loop-f-preserved : goal.loop-f-preserved
