@@ -1,7 +1,7 @@
 -- What reading a value of a type does: B m n v b says that b encodes v, S m n b that b encodes some value, and may_allocate
 -- whether reading may allocate.
 use Rattle.std.specs.Prelude.{Bool, Err, List, None, Ok, Option, Result, Some, length, true, ℕ, ◌++◌, ◌≡◌, ◌≤◌}
-use Rattle.yasna_base.specs.Grammar.{Grammar, Members}
+use Rattle.yasna_base.specs.Grammar.{Grammar, Members, max_depth}
 use Rattle.yasna_base.specs.Identifier.{AtEnd}
 use Rattle.yasna_base.specs.Error.{kind_of}
 use Rattle.yasna_base.specs.declared.error.ASN1Error.{ASN1Error}
@@ -72,8 +72,8 @@ pub record NotWhole (may_allocate : Bool) (S : List ℕ → Type 0) (s : List �
 
 -- a value that all bytes encode within 101 levels, or an Err if they encode none
 abbrev pub Decoded : {A : Type 0} → Bool → Grammar A → Members → BERMode → List ℕ → Result A ASN1Error → Type 0
-Decoded may_allocate B S m s (Ok v) = B m 101 v s
-Decoded may_allocate B S m s (Err e) = NotWhole may_allocate (S m 101) s e
+Decoded may_allocate B S m s (Ok v) = B m max_depth v s
+Decoded may_allocate B S m s (Err e) = NotWhole may_allocate (S m max_depth) s e
 
 -- a sticky error is returned, and nothing else happens
 abbrev pub RepeatsError : {A : Type 0} → Does A

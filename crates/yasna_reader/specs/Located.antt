@@ -2,6 +2,7 @@
 use Rattle.std.specs.Fmt.{decimal}
 use Rattle.std.specs.Prelude.{Err, IfErr, List, Ok, Result, codes, length, ℕ, ◌++◌, ◌≡◌, ◌≤◌}
 use Rattle.yasna_base.specs.Error.{error_text}
+use Rattle.yasna_base.specs.Grammar.{max_depth}
 use Rattle.yasna_base.specs.declared.error.ASN1Error.{ASN1Error}
 use Rattle.yasna_base.specs.declared.mode.BERMode.{BERMode}
 use Rattle.yasna_reader.specs.Parse.{Parses, parsed}
@@ -11,7 +12,7 @@ use Rattle.yasna_reader.specs.declared.located.Located.{Located}
 -- a place in the bytes s or at their end, and at most as many elements around it as may be around one
 pub record IsPlaceIn (s : List ℕ) (l : Located) : Type 0 where
   pub offset : l.offset ≤ length s
-  pub depth : l.depth ≤ 101
+  pub depth : l.depth ≤ max_depth
 
 -- l is the error e with a place in the bytes s or at their end
 pub record IsLocated (e : ASN1Error) (s : List ℕ) (l : Located) : Type 0 where

@@ -1,6 +1,7 @@
 -- A reading as contracts see it, and what the parts of a constructed element lend.
 use Rattle.std.specs.Borrow.{Fml, Lends, MutBor, RattleType}
 use Rattle.std.specs.Prelude.{Bool, Err, List, None, Option, Result, Some, false, true, ℕ, ◌-◌, ◌≡◌}
+use Rattle.yasna_base.specs.Grammar.{max_depth}
 use Rattle.yasna_base.specs.declared.error.ASN1Error.{ASN1Error}
 use Rattle.yasna_base.specs.declared.mode.BERMode.{BERMode}
 use Rattle.yasna_base.specs.declared.tag.Tag.{Tag}
@@ -32,7 +33,7 @@ IsFresh s = (s.failed ≡ None) × (s.tag ≡ None)
 
 -- the reading that a parse starts with
 abbrev pub starts : List ℕ → BERMode → Reading
-starts s m = record { left = s; mode = m; levels = 101; tag = None; failed = None }
+starts s m = record { left = s; mode = m; levels = max_depth; tag = None; failed = None }
 
 -- the reading of an element's contents c
 abbrev pub inside : Reading → List ℕ → Reading

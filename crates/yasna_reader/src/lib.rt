@@ -1,7 +1,11 @@
 //! Reading BER, DER and CER.
 //!
-//! Bytes come in at `parse`. `state` holds the place of a reading, its mode and its sticky error. Each read parses what is next
-//! (`yasna_bytes`), and the state consumes it or makes the error sticky.
+//! Bytes come in at `parse`. `state` holds the place of a reading, its mode and its sticky error.
+//!
+//! Names distinguish the layers. Users call `read_..`, which returns a sticky error, and else parses what is next: `parse_..`, or what
+//! a string is read as (`octets`, `bits`, `judged`), takes a value from the bytes by `yasna_bytes`, and changes nothing. `commit` then
+//! consumes these bytes, or makes the error sticky. An element with parts is entered by `step_in` and left by `leave`. A callback is
+//! handed the reading by `hand..`, which takes it back by `take_back`.
 //!
 //! | Module | Holds |
 //! |---|---|

@@ -1,5 +1,6 @@
 //! A place in an input's bytes.
 ghost use Rattle.std.specs.Prelude.{◌≡◌, ◌-◌, ◌≤◌, length};
+ghost use Rattle.yasna_base.specs.Grammar.{max_depth};
 
 use crate::bytes::header::{ContentsEnd, Opened};
 use yasna_base::mode::BERMode;
@@ -19,7 +20,7 @@ pub struct Cursor<'a> {
     /// How many levels of elements are still allowed.
     pub levels: u8,
 
-    ghost few: { levels ≤ 101 },
+    ghost few: { levels ≤ max_depth },
 }
 
 impl<'a> Cursor<'a> {
@@ -30,7 +31,7 @@ impl<'a> Cursor<'a> {
     pub fn start(input: &'a [u8], mode: BERMode) -> Cursor<'a>
         ensures left { result.left.now ≡ input.now }
         ensures mode { result.mode ≡ mode }
-        ensures levels { result.levels ≡ 101 }
+        ensures levels { result.levels ≡ max_depth }
     {
         Cursor {
             left: input,
@@ -108,7 +109,7 @@ impl<'a> Cursor<'a> {
     /// A place in these contents or in elements within them, by the bytes that follow the innermost and the levels that are left.
     #[inline(always)]
     pub fn at_depth(self, left: &'a [u8], trailing: usize, levels: u8) -> Cursor<'a>
-        requires { levels ≤ 101 }
+        requires { levels ≤ max_depth }
         ensures left { result.left.now ≡ left.now }
         ensures mode { result.mode ≡ self.entry.mode }
         ensures levels { result.levels ≡ levels }
