@@ -1,5 +1,5 @@
 -- Reads that decode by tags: typed reads under any tag, and elements around what is read.
-use Rattle.std.proofs.Common.{◌≡◌, ℕ, List, [], ◌∷◌, ◌++◌, append-nil, None, Result, Ok, Err, Bool, true, false, inl, inr, refl, sym, ap, subst, ◌∙◌}
+use Rattle.std.proofs.Common.{◌≡◌, ℕ, List, [], ◌∷◌, ◌++◌, append-nil, Result, Ok, Err, Bool, true, false, inl, inr, refl, sym, ap, subst, ◌∙◌}
 use Rattle.std.specs.Global.{Global}
 use Rattle.std.specs.Prelude.{Vec}
 use Rattle.yasna_base.specs.declared.error.ASN1Error.{ASN1Error}

@@ -1,6 +1,6 @@
 -- What a typed read does to a reading.
 use Rattle.std.specs.Borrow.{Bor}
-use Rattle.std.specs.Prelude.{Err, List, None, Ok, Option, Result, Some, ℕ, ◌≡◌}
+use Rattle.std.specs.Prelude.{Err, List, Ok, Result, ℕ, ◌≡◌}
 use Rattle.yasna_base.specs.Error.{error_of, kind_of}
 use Rattle.yasna_base.specs.declared.error.ASN1Error.{ASN1Error}
 use Rattle.yasna_base.specs.declared.tag.Tag.{Tag}

@@ -190,10 +190,7 @@ fn first_falling<'a>(list: &[SetElement<'a>]) -> Option<SetElement<'a>>
 }
 
 // The first element that isn't in the order that a mode requires (X.690, 9.3 and 10.3).
-fn first_out_of_order<'a>(
-    mode: BERMode,
-    list: &[SetElement<'a>],
-) -> Option<SetElement<'a>>
+fn first_out_of_order<'a>(mode: BERMode, list: &[SetElement<'a>]) -> Option<SetElement<'a>>
     ensures { MatchOption result (ElementsAreInSetOrder mode list.now) (λ _. ¬ (ElementsAreInSetOrder mode list.now)) }
 {
     match mode {
