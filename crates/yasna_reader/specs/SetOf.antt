@@ -82,7 +82,7 @@ TurnInOrder C g s (Matched v) g' s' = GivesInOrder C g s v g' s'
 TurnInOrder C g s (NoMatch e) g' s' = ListTurn C g.callback s (NoMatch e) g'.callback s'
 TurnInOrder C g s (Failed e) g' s' = FailsInOrder C g s e g' s'
 
--- as `TakesTurns`, of a list whose elements are in that order: none of its turns is behind an element that is out of order
+-- as `TakesTurns`, of a list whose elements are in that order: no turn comes after an element that is out of order
 abbrev pub TakesTurnsInOrder : {F A : Type 0} → Order → Mut F (MutBor Reading × Unit {0}) (Result A ASN1Error × (MutBor Reading × Unit {0})) → F →
     Reading → Type 0
 TakesTurnsInOrder {F} {A} o g f s =

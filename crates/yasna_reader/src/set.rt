@@ -317,9 +317,9 @@ impl<'a> ReaderState<'a> {
                 self.pass(rest, &reader, &list, returned.is_err());
                 returned_of_all(returned, &list)
             }
-            Err(fault) => {
-                self.set_place(fault.place, 0);
-                self.fail(ASN1Error::new(fault.kind))
+            Err(rejected) => {
+                self.set_place(rejected.place, 0);
+                self.fail(ASN1Error::new(rejected.kind))
             }
         }
     }
@@ -337,7 +337,7 @@ impl<'a> ReaderState<'a> {
                     place: element.place(),
                 }),
             },
-            Err(fault) => Err(fault),
+            Err(rejected) => Err(rejected),
         }
     }
 
