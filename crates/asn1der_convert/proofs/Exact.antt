@@ -1,12 +1,12 @@
 -- Bytes have one tree, and no element begins another.
-use Rattle.std.proofs.Common.{◌≡◌, ◌⊎◌, ℕ, zero, suc, ◌≤◌, ◌<◌, ◌^◌, List, [], ◌++◌, map, inl, inr, refl, sym, ap, ap₂, ◌∙◌, subst, arith}
+use Rattle.std.proofs.Common.{◌≡◌, ◌⊎◌, ℕ, zero, suc, ◌≤◌, ◌<◌, ◌^◌, List, [], ◌++◌, inl, inr, refl, sym, ap, ap₂, ◌∙◌, subst, arith}
 use Rattle.yasna_base.specs.Bits.{bits_segmentation, bits_tag}
 use Rattle.yasna_base.specs.Boolean.{boolean_tag}
 use Rattle.yasna_base.specs.Element.{Element}
 use Rattle.yasna_base.specs.Identifier.{end_tag, BeginsWithTag, StartsElement, AtEnd, nothing}
 use Rattle.yasna_base.specs.Octets.{IsOctets, octets_segmentation}
 use Rattle.yasna_base.specs.Pieces.{Each, Pieces}
-use Rattle.yasna_base.specs.Set.{set_tag}
+use Rattle.yasna_base.specs.Set.{SetPart, set_tag}
 use Rattle.yasna_base.specs.declared.mode.BERMode.{BERMode}
 use Rattle.yasna_base.specs.declared.tag.PCBit.TheVariants.{Primitive, Constructed}
 use Rattle.yasna_base.specs.declared.tag.Tag.{Tag}
@@ -18,8 +18,9 @@ use Rattle.yasna_base.proofs.Octets.{octets_once}
 use Rattle.yasna_base.proofs.Pieces.{no_prefix_at_end, pieces_once, pieces_end, each_same, each_equal}
 use Rattle.yasna_base.proofs.Segmented.{segmented_begins, segmented_exact}
 use Rattle.asn1der_convert.specs.ContentsClass.{IsOfClass}
+use Rattle.asn1der_convert.specs.SetOrder.{IsOrderKnown}
 use Rattle.asn1der_convert.specs.Tags.{IsStringTag, IsOtherTag}
-use Rattle.asn1der_convert.specs.Tree.{Branch, boolean, bits, string, primitive, set_of, constructed, Tree, branch_tag, tree_tag, HaveOneTag, HasBranch, HasTree}
+use Rattle.asn1der_convert.specs.Tree.{Branch, boolean, bits, string, primitive, set_of, constructed, Tree, branch_tag, tree_parts, HasBranch, HasTree}
 use Rattle.asn1der_convert.specs.declared.contents_class.ContentsClass.{ContentsClass}
 use Rattle.asn1der_convert.specs.declared.contents_class.ContentsClass.TheVariants.{EndOfContents, Boolean, Bits, Octets, Other}
 use Rattle.asn1der_convert.proofs.Encodings.{string_small}
@@ -85,18 +86,18 @@ branch_class (primitive t c) = Other
 branch_class (set_of vs) = Other
 branch_class (constructed t vs) = Other
 
-module _ {A : Type 0} (R : A → List ℕ → Type 0) (mark : A → Tag) (n : ℕ) (m : BERMode) where
+module _ {A : Type 0} (R : A → List ℕ → Type 0) (parts : List A → List SetPart) (n : ℕ) (m : BERMode) where
   -- it is that of its tag
-  pub branch_is_of_class : (v : Branch A) (b : List ℕ) → HasBranch R mark n m v b → IsOfClass (branch_class v) (branch_tag v)
+  pub branch_is_of_class : (v : Branch A) (b : List ℕ) → HasBranch R parts n m v b → IsOfClass (branch_class v) (branch_tag v)
   branch_is_of_class (boolean v) b x = refl
   branch_is_of_class (bits v) b x = refl
   branch_is_of_class (string t v) b x = x.0
-  branch_is_of_class (primitive t c) b x = x.0
+  branch_is_of_class (primitive t c) b x = x.0.other
   branch_is_of_class (set_of vs) b x = set_other
-  branch_is_of_class (constructed t vs) b x = x.0
+  branch_is_of_class (constructed t vs) b x = x.0.other
 
   -- it begins with its tag
-  pub branch_begins : (v : Branch A) (b : List ℕ) → HasBranch R mark n m v b → BeginsWithTag (branch_tag v) b
+  pub branch_begins : (v : Branch A) (b : List ℕ) → HasBranch R parts n m v b → BeginsWithTag (branch_tag v) b
   branch_begins (boolean v) b x = element_begins m boolean_tag Primitive x.contents b x.element
   branch_begins (bits v) b x = segmented_begins bits_segmentation n m bits_tag v b x
   branch_begins (string t v) b x = segmented_begins octets_segmentation n m t v b x.1
@@ -134,11 +135,11 @@ module _ {A : Type 0} (R : A → List ℕ → Type 0) (mark : A → Tag) (n : �
         let i = element_exact m m t u Constructed Constructed c d b e r s x y (λ z w j k g. members_end vs ws c d z w p q j k g) f in
         record { tags = i.tag; trees = members_exact vs ws d (subst (λ z. Pieces R vs z) i.contents p) q; bytes = i.bytes }
 
-    by_kind : (v w : Branch A) (b c r s : List ℕ) → HasBranch R mark n m v b → HasBranch R mark n m w c → b ++ r ≡ c ++ s → branch_tag v ≡ branch_tag w →
+    by_kind : (v w : Branch A) (b c r s : List ℕ) → HasBranch R parts n m v b → HasBranch R parts n m w c → b ++ r ≡ c ++ s → branch_tag v ≡ branch_tag w →
         branch_class v ≡ branch_class w → (v ≡ w) × (b ≡ c)
     by_kind (boolean v) (boolean w) b c r s x y e t k =
         let same = bool_coding.prefix_free m n n b c r s (v, x) (w, y) e in
-        (ap boolean (bool_coding.meaning.exact m n n v w c (subst (λ z. HasBranch R mark n m (boolean v) z) same x) y), same)
+        (ap boolean (bool_coding.meaning.exact m n n v w c (subst (λ z. HasBranch R parts n m (boolean v) z) same x) y), same)
     by_kind (boolean v) w b c r s x y e t k = absurd (cc)
     by_kind (bits v) (bits w) b c r s x y e t k = let i = segmented_exact bits_once n n m bits_tag v w b c r s x y e in (ap bits i.0, i.1)
     by_kind (bits v) w b c r s x y e t k = absurd (cc)
@@ -161,7 +162,7 @@ module _ {A : Type 0} (R : A → List ℕ → Type 0) (mark : A → Tag) (n : �
         let i = (primitive_exact m m u set_tag Constructed d x.contents c b s r y.1 x.element (sym e)).bit in absurd (cc)
     by_kind (set_of vs) (constructed u ws) b c r s x y e f k =
         let i = around_exact set_tag u vs ws x.contents y.1.contents b c r s x.element y.1.element x.inner.elements y.1.inner.elements e in
-        absurd (y.1.inner.other (sym f) (subst (λ us. HaveOneTag (map mark us)) i.trees x.inner.one_tag))
+        absurd (y.1.inner.other (sym f) (subst (λ us. IsOrderKnown (parts us)) i.trees x.inner.known))
     by_kind (set_of vs) w b c r s x y e f k = absurd (cc)
     by_kind (constructed t vs) (constructed u ws) b c r s x y e f k =
         let i = around_exact t u vs ws x.1.contents y.1.contents b c r s x.1.element y.1.element x.1.inner.elements y.1.inner.elements e in
@@ -170,10 +171,10 @@ module _ {A : Type 0} (R : A → List ℕ → Type 0) (mark : A → Tag) (n : �
         let i = (primitive_exact m m u t Constructed d x.1.contents c b s r y.1 x.1.element (sym e)).bit in absurd (cc)
     by_kind (constructed t vs) (set_of ws) b c r s x y e f k =
         let i = around_exact t set_tag vs ws x.1.contents y.contents b c r s x.1.element y.element x.1.inner.elements y.inner.elements e in
-        absurd (x.1.inner.other f (subst (λ us. HaveOneTag (map mark us)) (sym i.trees) y.inner.one_tag))
+        absurd (x.1.inner.other f (subst (λ us. IsOrderKnown (parts us)) (sym i.trees) y.inner.known))
     by_kind (constructed t vs) w b c r s x y e f k = absurd (cc)
 
-    pub branch_exact : (v w : Branch A) (b c r s : List ℕ) → HasBranch R mark n m v b → HasBranch R mark n m w c → b ++ r ≡ c ++ s → (v ≡ w) × (b ≡ c)
+    pub branch_exact : (v w : Branch A) (b c r s : List ℕ) → HasBranch R parts n m v b → HasBranch R parts n m w c → b ++ r ≡ c ++ s → (v ≡ w) × (b ≡ c)
     branch_exact v w b c r s x y e =
         let i = begins_with (branch_tag v) b r (branch_begins v b x) in
         let j = begins_with (branch_tag w) c s (branch_begins w c y) in
@@ -191,10 +192,10 @@ module _ {A : Type 0} (R : A → List ℕ → Type 0) (mark : A → Tag) (n : �
   kind_not_end (constructed u vs) t h e = h.not_end e
 
   -- the tag isn't that of the end of contents
-  pub branch_not_end : (v : Branch A) (b : List ℕ) → HasBranch R mark n m v b → branch_tag v ≡ end_tag → ⊥
+  pub branch_not_end : (v : Branch A) (b : List ℕ) → HasBranch R parts n m v b → branch_tag v ≡ end_tag → ⊥
   branch_not_end v b x = kind_not_end v (branch_tag v) (branch_is_of_class v b x)
 
-  branch_small : (v : Branch A) (b : List ℕ) → HasBranch R mark n m v b → (branch_tag v).tag_number < 2 ^ 64
+  branch_small : (v : Branch A) (b : List ℕ) → HasBranch R parts n m v b → (branch_tag v).tag_number < 2 ^ 64
   branch_small (boolean v) b x = omega arith
   branch_small (bits v) b x = omega arith
   branch_small (string t v) b x = (string_small t x.0).1
@@ -203,29 +204,29 @@ module _ {A : Type 0} (R : A → List ℕ → Type 0) (mark : A → Tag) (n : �
   branch_small (constructed t vs) b x = x.1.element.in_range
 
   -- it begins an element
-  pub branch_starts : (v : Branch A) (b : List ℕ) → HasBranch R mark n m v b → StartsElement b
+  pub branch_starts : (v : Branch A) (b : List ℕ) → HasBranch R parts n m v b → StartsElement b
   branch_starts v b x = record { tag = branch_tag v; in_range = branch_small v b x; not_end = branch_not_end v b x; begins = branch_begins v b x }
 
 -- what has a tree begins an element
 pub tree_starts : (n : ℕ) (m : BERMode) (v : Tree n) (b : List ℕ) → HasTree n m v b → StartsElement b
 unfolding Tree HasTree
 tree_starts zero m v b x = absurd x
-tree_starts (suc n) m v b x = branch_starts (HasTree n m) (tree_tag n) (suc n) m v b x
+tree_starts (suc n) m v b x = branch_starts (HasTree n m) (tree_parts n) (suc n) m v b x
 
 -- bytes have one tree, and no element begins another
 pub tree_exact : (n : ℕ) (m : BERMode) (v w : Tree n) (b c r s : List ℕ) → HasTree n m v b → HasTree n m w c → b ++ r ≡ c ++ s → (v ≡ w) × (b ≡ c)
 unfolding Tree HasTree
 tree_exact zero m v w b c r s x y e = absurd x
 tree_exact (suc n) m v w b c r s x y e =
-    branch_exact (HasTree n m) (tree_tag n) (suc n) m (tree_exact n m) (tree_starts n m) v w b c r s x y e
+    branch_exact (HasTree n m) (tree_parts n) (suc n) m (tree_exact n m) (tree_starts n m) v w b c r s x y e
 
 -- contents have one list of trees
 pub trees_exact : (n : ℕ) (m : BERMode) (vs ws : List (Tree n)) (c : List ℕ) → Pieces (HasTree n m) vs c → Pieces (HasTree n m) ws c → vs ≡ ws
-trees_exact n m = members_exact (HasTree n m) (tree_tag n) n m (tree_exact n m) (tree_starts n m)
+trees_exact n m = members_exact (HasTree n m) (tree_parts n) n m (tree_exact n m) (tree_starts n m)
 
 -- contents up to their end have one list of trees, and one end
 pub trees_end : (n : ℕ) (m : BERMode) (vs ws : List (Tree n)) (c d x y : List ℕ) → Pieces (HasTree n m) vs c → Pieces (HasTree n m) ws d → AtEnd x → AtEnd y →
     c ++ x ≡ d ++ y → vs ≡ ws
 trees_end n m vs ws c d x y p q i j e =
-    let same = members_end (HasTree n m) (tree_tag n) n m (tree_exact n m) (tree_starts n m) vs ws c d x y p q i j e in
+    let same = members_end (HasTree n m) (tree_parts n) n m (tree_exact n m) (tree_starts n m) vs ws c d x y p q i j e in
     trees_exact n m vs ws d (subst (λ z. Pieces (HasTree n m) vs z) same p) q

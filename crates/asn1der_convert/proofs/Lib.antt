@@ -1,3 +1,4 @@
+pub mod SetOrder
 pub mod Parts
 pub mod Encodings
 pub mod Raw

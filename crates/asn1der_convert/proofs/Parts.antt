@@ -9,7 +9,7 @@ use Rattle.yasna_base.specs.Element.{Element, Primitively}
 use Rattle.yasna_base.specs.Header.{ContentsEnd, definite_end, OpensAt}
 use Rattle.yasna_base.specs.Octets.{IsOctets, octets_segmentation}
 use Rattle.yasna_base.specs.Order.{octets_cmp, in_order}
-use Rattle.yasna_base.specs.Set.{set_tag}
+use Rattle.yasna_base.specs.Set.{SetPart, parts_bytes, set_tag}
 use Rattle.yasna_base.specs.declared.mode.BERMode.{BERMode}
 use Rattle.yasna_base.specs.declared.mode.BERMode.TheVariants.{Ber, Der}
 use Rattle.yasna_base.specs.declared.tag.PCBit.TheVariants.{Primitive, Constructed}
@@ -20,21 +20,23 @@ use Rattle.yasna_base.proofs.Pieces.{no_pieces, one_piece, pieces_append}
 use Rattle.yasna_base.proofs.Segmented.{segmented_begins, segmented_level}
 use Rattle.yasna_bytes.specs.Prefix.{Takes}
 use Rattle.yasna_bytes.proofs.Ending.{closed}
-use Rattle.asn1der_convert.specs.Parts.{part_tags, part_bytes, IsPartOf, ArePartsOf, TakesPart, TakesPartsTo, ArePutInOrder, ascending, as_they_were, IsPartAround}
-use Rattle.asn1der_convert.specs.Tags.{IsStringTag, IsOtherTag}
-use Rattle.asn1der_convert.specs.Tree.{Branch, boolean, bits, string, primitive, set_of, constructed, Tree, branch_tag, tree_tag, HaveOneTag, HasBranch, HasTree, branch_encoding, der_encoding}
+use Rattle.asn1der_convert.specs.Parts.{part_tags, part_bytes, set_parts, IsPartOf, ArePartsOf, TakesPart, TakesPartsTo, ArePutInOrder, sorted, as_they_were, IsPartAround}
+use Rattle.asn1der_convert.specs.SetOrder.{IsOrderKnown}
+use Rattle.asn1der_convert.specs.Tags.{IsStringTag, IsOtherPrimitive, IsOtherConstructed}
+use Rattle.asn1der_convert.specs.Tree.{Branch, boolean, bits, string, primitive, set_of, constructed, Tree, branch_tag, tree_tag, tree_parts, HaveOneTag, HasBranch, HasTree, branch_encoding, der_encoding}
 use Rattle.asn1der_convert.specs.declared.der_element.DerElement.{DerElement}
+use Rattle.asn1der_convert.proofs.SetOrder.{same_parts, parts_of_bytes, by_octets_bytes}
 
 -- an element around those a level further in
-branch_part : (n : ℕ) (m : BERMode) (b : List ℕ) (v : Branch (Tree n)) → HasBranch (HasTree n m) (tree_tag n) (suc n) m v b → (p : DerElement) →
+branch_part : (n : ℕ) (m : BERMode) (b : List ℕ) (v : Branch (Tree n)) → HasBranch (HasTree n m) (tree_parts n) (suc n) m v b → (p : DerElement) →
     p.tag ≡ branch_tag v → p.bytes.items ≡ branch_encoding (der_encoding n) v → IsPartOf (suc n) m b p
 unfolding Tree HasTree tree_tag der_encoding
 branch_part n m b v x p t f = record { tree = v; read = x; tag = t; encoding = f }
 
-part_at : (n k : ℕ) → suc k ≡ n → (m : BERMode) (b : List ℕ) (v : Branch (Tree k)) → HasBranch (HasTree k m) (tree_tag k) n m v b → (p : DerElement) →
+part_at : (n k : ℕ) → suc k ≡ n → (m : BERMode) (b : List ℕ) (v : Branch (Tree k)) → HasBranch (HasTree k m) (tree_parts k) n m v b → (p : DerElement) →
     p.tag ≡ branch_tag v → p.bytes.items ≡ branch_encoding (der_encoding k) v → IsPartOf n m b p
 part_at n k e m b v x p t f =
-    subst (λ z. IsPartOf z m b p) e (branch_part k m b v (subst (λ z. HasBranch (HasTree k m) (tree_tag k) z m v b) (sym e) x) p t f)
+    subst (λ z. IsPartOf z m b p) e (branch_part k m b v (subst (λ z. HasBranch (HasTree k m) (tree_parts k) z m v b) (sym e) x) p t f)
 
 one_less : (n : ℕ) → 1 ≤ n → (k : ℕ) × (suc k ≡ n)
 one_less zero h = absurd (omega (arith, h))
@@ -70,7 +72,7 @@ string_part n m t s r v p h x e f =
     record { prefix = x.prefix; joined = x.joined; part = part_at n k.0 k.1 m x.prefix (string t v) (h, x.member) p e f }
 
 -- any other primitive element
-pub primitive_part : (n : ℕ) (m : BERMode) (t : Tag) (s r c : List ℕ) (p : DerElement) → 1 ≤ n → IsOtherTag t → OpensAt m t Primitive s c (definite_end r) →
+pub primitive_part : (n : ℕ) (m : BERMode) (t : Tag) (s r c : List ℕ) (p : DerElement) → 1 ≤ n → IsOtherPrimitive t → OpensAt m t Primitive s c (definite_end r) →
     p.tag ≡ t → p.bytes.items ≡ canonical_element Der t Primitive c → TakesPart n m s p r
 primitive_part n m t s r c p level h x e f =
     let k = one_less n level in
@@ -116,34 +118,45 @@ reached_more n m s r q ps p x y = record {
   parts = more_parts n m x.prefix y.prefix ps p x.parts y.part;
 }
 
-around_order : (k n : ℕ) → suc k ≡ n → (t : Tag) (c b : List ℕ) (ps : List DerElement) (p : DerElement) (cs : List (List ℕ)) → IsOtherTag t → ArePartsOf k Ber c ps →
-    Element Ber t Constructed c b → p.tag ≡ t → p.bytes.items ≡ canonical_element Der t Constructed (concat cs) →
-    ArePutInOrder t (part_tags ps) (part_bytes ps) cs →
-    IsPartOf n Ber b p
-around_order k n e t c b ps p cs h x y i f (ascending s o j) =
+-- elements that were read are the parts of their trees
+pub parts_labels : (n : ℕ) (m : BERMode) (c : List ℕ) (ps : List DerElement) → (x : ArePartsOf n m c ps) → set_parts ps ≡ tree_parts n x.trees
+parts_labels n m c ps x =
+    same_parts (λ (p : DerElement). p.tag) (λ (p : DerElement). p.bytes.items) (tree_tag n) (der_encoding n) ps x.trees x.tags x.encodings
+
+around_order : (k n : ℕ) → suc k ≡ n → (t : Tag) (c b : List ℕ) (ps : List DerElement) (p : DerElement) (qs : List SetPart) → IsOtherConstructed t →
+    ArePartsOf k Ber c ps → Element Ber t Constructed c b → p.tag ≡ t → p.bytes.items ≡ canonical_element Der t Constructed (concat (parts_bytes qs)) →
+    ArePutInOrder t (set_parts ps) qs → IsPartOf n Ber b p
+around_order k n e t c b ps p qs h x y i f (sorted s o j) =
+    let labels = parts_labels k Ber c ps x in
+    let bytes : parts_bytes qs ≡ in_order octets_cmp (map (der_encoding k) x.trees) =
+    ap parts_bytes j ∙ by_octets_bytes (set_parts ps) ∙
+    ap (λ (zs : List SetPart). in_order octets_cmp (parts_bytes zs)) labels ∙ ap (in_order octets_cmp) (parts_of_bytes (tree_tag k) (der_encoding k) x.trees) in
     part_at n k e Ber b (set_of x.trees)
     (record {
       contents = c;
       element = subst (λ u. Element Ber u Constructed c b) s y;
-      inner = record { elements = x.read; order = tt; one_tag = subst HaveOneTag x.tags o };
+      inner = record { elements = x.read; order = tt; known = subst IsOrderKnown labels o };
     })
     p (i ∙ s)
-    (f ∙ ap₂ (λ u z. canonical_element Der u Constructed (concat z)) s (j ∙ ap (in_order octets_cmp) x.encodings))
-around_order k n e t c b ps p cs h x y i f (as_they_were o j) =
+    (f ∙ ap₂ (λ u z. canonical_element Der u Constructed (concat z)) s bytes)
+around_order k n e t c b ps p qs h x y i f (as_they_were o j) =
+    let labels = parts_labels k Ber c ps x in
+    let bytes : parts_bytes qs ≡ map (der_encoding k) x.trees =
+    ap parts_bytes (j ∙ labels) ∙ parts_of_bytes (tree_tag k) (der_encoding k) x.trees in
     part_at n k e Ber b (constructed t x.trees) (
       h,
       record {
         contents = c;
         element = y;
-        inner = record { elements = x.read; other = λ s a. o s (subst HaveOneTag (sym x.tags) a) };
+        inner = record { elements = x.read; other = λ s a. o s (subst IsOrderKnown (sym labels) a) };
       },
     )
     p i
-    (f ∙ ap (λ z. canonical_element Der t Constructed (concat z)) (j ∙ x.encodings))
+    (f ∙ ap (λ z. canonical_element Der t Constructed (concat z)) bytes)
 
 -- any other constructed element, whose contents end so
-pub constructed_part : (k n : ℕ) → suc k ≡ n → (t : Tag) (s d r : List ℕ) (end : ContentsEnd) (ps : List DerElement) (p : DerElement) → IsOtherTag t →
-    OpensAt Ber t Constructed s d end → TakesPartsTo k Ber d end ps r → IsPartAround t ps p → TakesPart n Ber s p r
+pub constructed_part : (k n : ℕ) → suc k ≡ n → (t : Tag) (s d r : List ℕ) (end : ContentsEnd) (ps : List DerElement) (p : DerElement) → IsOtherConstructed t →
+    OpensAt Ber t Constructed s d end → TakesPartsTo k Ber d end ps r → IsPartAround t (set_parts ps) p → TakesPart n Ber s p r
 constructed_part k n e t s d r end ps p h x y z =
     let w = closed Ber t Constructed s d end x y.prefix y.rest r y.joined y.ends in
     record {
@@ -166,6 +179,11 @@ one_tag_all (p ∷ ps) t h = (h.0, one_tag_all ps t h.1)
 pub joined_parts : (ps : List DerElement) → flat_map (λ (p : DerElement). p.bytes.items) ps ≡ concat (part_bytes ps)
 joined_parts [] = refl
 joined_parts (p ∷ ps) = ap (λ z. p.bytes.items ++ z) (joined_parts ps)
+
+-- they are their parts' bytes joined
+pub joined_set_parts : (ps : List DerElement) → flat_map (λ (p : DerElement). p.bytes.items) ps ≡ concat (parts_bytes (set_parts ps))
+joined_set_parts [] = refl
+joined_set_parts (p ∷ ps) = ap (λ z. p.bytes.items ++ z) (joined_set_parts ps)
 
 no_items : {A : Type 0} (xs : List A) → length xs ≡ 0 → xs ≡ []
 no_items [] n = refl
@@ -205,7 +223,7 @@ contents_empty bytes c count u enough unused n e =
 
 -- as `constructed_part`, where the contents are read at their own place
 pub constructed_taken : (n k : ℕ) (m m' : BERMode) (t : Tag) (s d d' r : List ℕ) (end end' : ContentsEnd) (ps : List DerElement) (p : DerElement) → m ≡ Ber → m' ≡ m →
-    1 ≤ n → k ≡ n - 1 → d' ≡ d → end' ≡ end → IsOtherTag t → OpensAt m t Constructed s d end → TakesPartsTo k m' d' end' ps r → IsPartAround t ps p →
+    1 ≤ n → k ≡ n - 1 → d' ≡ d → end' ≡ end → IsOtherConstructed t → OpensAt m t Constructed s d end → TakesPartsTo k m' d' end' ps r → IsPartAround t (set_parts ps) p →
     TakesPart n m s p r
 constructed_taken n k m m' t s d d' r end end' ps p f g level less h i other opens takes encloses =
     let one = subst (λ z. TakesPartsTo k z d' end' ps r) (g ∙ f) takes in
@@ -214,18 +232,18 @@ constructed_taken n k m m' t s d d' r end end' ps p f g level less h i other ope
     let above = subst (λ z. OpensAt z t Constructed s d end) f opens in
     subst (λ z. TakesPart n z s p r) (sym f) (constructed_part k n (omega (arith, level, less)) t s d r end ps p other above three encloses)
 
-branch_some : {A : Type 0} (R : A → List ℕ → Type 0) (tag : A → Tag) (n : ℕ) (m : BERMode) (v : Branch A) (b : List ℕ) → HasBranch R tag n m v b → 1 ≤ length b
-branch_some R tag n m (boolean v) b x = begins_some boolean_tag b (element_begins m boolean_tag Primitive x.contents b x.element)
-branch_some R tag n m (bits v) b x = begins_some bits_tag b (segmented_begins bits_segmentation n m bits_tag v b x)
-branch_some R tag n m (string t v) b x = begins_some t b (segmented_begins octets_segmentation n m t v b x.1)
-branch_some R tag n m (primitive t c) b x = begins_some t b (element_begins m t Primitive c b x.1)
-branch_some R tag n m (set_of vs) b x = begins_some set_tag b (element_begins m set_tag Constructed x.contents b x.element)
-branch_some R tag n m (constructed t vs) b x = begins_some t b (element_begins m t Constructed x.1.contents b x.1.element)
+branch_some : {A : Type 0} (R : A → List ℕ → Type 0) (parts : List A → List SetPart) (n : ℕ) (m : BERMode) (v : Branch A) (b : List ℕ) → HasBranch R parts n m v b → 1 ≤ length b
+branch_some R parts n m (boolean v) b x = begins_some boolean_tag b (element_begins m boolean_tag Primitive x.contents b x.element)
+branch_some R parts n m (bits v) b x = begins_some bits_tag b (segmented_begins bits_segmentation n m bits_tag v b x)
+branch_some R parts n m (string t v) b x = begins_some t b (segmented_begins octets_segmentation n m t v b x.1)
+branch_some R parts n m (primitive t c) b x = begins_some t b (element_begins m t Primitive c b x.1)
+branch_some R parts n m (set_of vs) b x = begins_some set_tag b (element_begins m set_tag Constructed x.contents b x.element)
+branch_some R parts n m (constructed t vs) b x = begins_some t b (element_begins m t Constructed x.1.contents b x.1.element)
 
 tree_some : (n : ℕ) (m : BERMode) (v : Tree n) (b : List ℕ) → HasTree n m v b → 1 ≤ length b
 unfolding Tree HasTree
 tree_some zero m v b x = absurd x
-tree_some (suc n) m v b x = branch_some (HasTree n m) (tree_tag n) (suc n) m v b x
+tree_some (suc n) m v b x = branch_some (HasTree n m) (tree_parts n) (suc n) m v b x
 
 -- fewer bytes are left behind an element
 pub taken_shorter : (n : ℕ) (m : BERMode) (s : List ℕ) (p : DerElement) (r q : List ℕ) → TakesPart n m s p r → q ≡ r → length q < length s

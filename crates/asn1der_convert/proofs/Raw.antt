@@ -8,7 +8,7 @@ use Rattle.yasna_base.specs.Octets.{octets_segmentation}
 use Rattle.yasna_base.specs.Pieces.{Each, Pieces}
 use Rattle.yasna_base.specs.Raw.{RawValue, DescendsInto, IsJoining, RawFramed, with_length, RawOver, IsRaw}
 use Rattle.yasna_base.specs.Segmented.{Segmentation, Segmented, whole, in_segments}
-use Rattle.yasna_base.specs.Set.{set_tag}
+use Rattle.yasna_base.specs.Set.{SetPart, set_tag}
 use Rattle.yasna_base.specs.declared.mode.BERMode.TheVariants.{Der}
 use Rattle.yasna_base.specs.declared.tag.PCBit.{PCBit}
 use Rattle.yasna_base.specs.declared.tag.PCBit.TheVariants.{Primitive, Constructed}
@@ -16,7 +16,7 @@ use Rattle.yasna_base.specs.declared.tag.Tag.{Tag}
 use Rattle.yasna_base.proofs.Identifier.{not_end}
 use Rattle.yasna_base.proofs.Raw.{raw_of}
 use Rattle.yasna_base.proofs.Segmented.{segmented_into}
-use Rattle.asn1der_convert.specs.Tree.{Branch, boolean, bits, string, primitive, set_of, constructed, Tree, tree_tag, IsAround, HasBranch, HasTree}
+use Rattle.asn1der_convert.specs.Tree.{Branch, boolean, bits, string, primitive, set_of, constructed, Tree, tree_parts, IsAround, HasBranch, HasTree}
 use Rattle.asn1der_convert.proofs.Encodings.{string_small}
 
 module _ (S : RawValue → List ℕ → Type 0) where
@@ -58,22 +58,22 @@ module _ (S : RawValue → List ℕ → Type 0) where
       (r : RawValue) × RawOver S Der r b
   around_raw C t b ne x g = element_raw t Constructed x.contents b ne x.element (λ l. g x.contents x.inner)
 
-  branch_raw : {A : Type 0} (R : A → List ℕ → Type 0) (tag : A → Tag) → ((w : A) (c : List ℕ) → R w c → (r : RawValue) × S r c) → (n : ℕ) (v : Branch A)
-      (b : List ℕ) → HasBranch R tag (suc n) Der v b → (r : RawValue) × RawOver S Der r b
-  branch_raw R tag f n (boolean v) b x = element_raw boolean_tag Primitive x.contents b (not_end 1 (λ e. omega arith)) x.element (λ l. absurd l)
-  branch_raw R tag f n (bits v) b x =
+  branch_raw : {A : Type 0} (R : A → List ℕ → Type 0) (parts : List A → List SetPart) → ((w : A) (c : List ℕ) → R w c → (r : RawValue) × S r c) → (n : ℕ) (v : Branch A)
+      (b : List ℕ) → HasBranch R parts (suc n) Der v b → (r : RawValue) × RawOver S Der r b
+  branch_raw R parts f n (boolean v) b x = element_raw boolean_tag Primitive x.contents b (not_end 1 (λ e. omega arith)) x.element (λ l. absurd l)
+  branch_raw R parts f n (bits v) b x =
       segmented_raw bits_segmentation _ bits_tag v b (not_end 3 (λ e. omega arith)) (segmented_into bits_segmentation n Der bits_tag v b x)
-  branch_raw R tag f n (string t v) b x =
+  branch_raw R parts f n (string t v) b x =
       segmented_raw octets_segmentation _ t v b (λ e. omega (arith, (string_small t x.0).0, ap (λ (u : Tag). u.tag_number) e))
       (segmented_into octets_segmentation n Der t v b x.1)
-  branch_raw R tag f n (primitive t c) b x = element_raw t Primitive c b x.0.not_end x.1 (λ l. absurd l)
-  branch_raw R tag f n (set_of vs) b x = around_raw _ set_tag b (not_end 17 (λ e. omega arith)) x (λ c y. pieces_raw R f vs c y.elements)
-  branch_raw R tag f n (constructed t vs) b x = around_raw _ t b x.0.not_end x.1 (λ c y. pieces_raw R f vs c y.elements)
+  branch_raw R parts f n (primitive t c) b x = element_raw t Primitive c b x.0.other.not_end x.1 (λ l. absurd l)
+  branch_raw R parts f n (set_of vs) b x = around_raw _ set_tag b (not_end 17 (λ e. omega arith)) x (λ c y. pieces_raw R f vs c y.elements)
+  branch_raw R parts f n (constructed t vs) b x = around_raw _ t b x.0.other.not_end x.1 (λ c y. pieces_raw R f vs c y.elements)
 
 -- an element in DER that has a tree is a raw element
 pub tree_raw : (n : ℕ) (v : Tree n) (b : List ℕ) → HasTree n Der v b → (r : RawValue) × IsRaw n Der r b
 unfolding Tree HasTree
 tree_raw zero v b x = absurd x
 tree_raw (suc n) v b x =
-    let y = branch_raw (IsRaw n Der) (HasTree n Der) (tree_tag n) (tree_raw n) n v b x in
+    let y = branch_raw (IsRaw n Der) (HasTree n Der) (tree_parts n) (tree_raw n) n v b x in
     (y.0, raw_of n Der y.0 b y.1)

@@ -1,5 +1,5 @@
 -- Where no element is there.
-use Rattle.std.proofs.Common.{◌≡◌, ℕ, zero, suc, ◌-◌, ◌^◌, ◌<◌, ◌≤◌, List, [], ◌∷◌, ◌++◌, length, refl, sym, ap, ◌∙◌, subst, append-nil, append_assoc, length-append, arith}
+use Rattle.std.proofs.Common.{◌≡◌, ◌⊎◌, inl, inr, ℕ, zero, suc, ◌-◌, ◌^◌, ◌<◌, ◌≤◌, List, [], ◌∷◌, ◌++◌, length, refl, sym, ap, ◌∙◌, subst, append-nil, append_assoc, length-append, arith}
 use Rattle.std.specs.List.{concat}
 use Rattle.yasna_base.specs.Bits.{IsBits, bits_tag}
 use Rattle.yasna_base.specs.Boolean.{IsBoolean, boolean_tag}
@@ -8,7 +8,7 @@ use Rattle.yasna_base.specs.Header.{ContentsEnd, definite_end, OpensAt, EndsBefo
 use Rattle.yasna_base.specs.Identifier.{identifier, end_tag, BeginsWithTag, begins}
 use Rattle.yasna_base.specs.Octets.{IsOctets}
 use Rattle.yasna_base.specs.Pieces.{Each}
-use Rattle.yasna_base.specs.Set.{set_tag}
+use Rattle.yasna_base.specs.Set.{SetPart, set_tag}
 use Rattle.yasna_base.specs.declared.error.ASN1ErrorKind.{ASN1ErrorKind}
 use Rattle.yasna_base.specs.declared.mode.BERMode.{BERMode}
 use Rattle.yasna_base.specs.declared.mode.BERMode.TheVariants.{Ber}
@@ -24,20 +24,35 @@ use Rattle.yasna_bytes.proofs.Header.{element_there}
 use Rattle.asn1der_convert.specs.Conversion.{Converts}
 use Rattle.asn1der_convert.specs.ContentsClass.{IsOfClass}
 use Rattle.asn1der_convert.specs.Parts.{NoTreeAt, NoTreesTo}
-use Rattle.asn1der_convert.specs.Tags.{IsStringTag, IsOtherTag}
-use Rattle.asn1der_convert.specs.Tree.{Branch, boolean, bits, string, primitive, set_of, constructed, Tree, branch_tag, tree_tag, HasBranch, HasTree}
+use Rattle.asn1der_convert.specs.Tags.{IsStringTag, IsOtherTag, IsPrimitiveTag, IsConstructedTag}
+use Rattle.asn1der_convert.specs.Tree.{Branch, boolean, bits, string, primitive, set_of, constructed, Tree, branch_tag, tree_parts, HasBranch, HasTree}
 use Rattle.asn1der_convert.specs.declared.contents_class.ContentsClass.{ContentsClass}
 use Rattle.asn1der_convert.specs.declared.contents_class.ContentsClass.TheVariants.{Boolean, Bits, Octets, Other}
 use Rattle.asn1der_convert.specs.declared.der_element.DerElement.{DerElement}
 use Rattle.asn1der_convert.proofs.Exact.{branch_class, branch_is_of_class, branch_begins, kinds_once, tree_starts, tree_exact}
 use Rattle.asn1der_convert.proofs.Parts.{Reached}
 
+-- a SET's encoding isn't primitive
+set_not_primitive : IsPrimitiveTag set_tag → ⊥
+set_not_primitive h = go set_tag.tag_number h.number refl
+  where
+    go : (k : ℕ) → (k ≡ 1) ⊎ (k ≡ 2) ⊎ (k ≡ 5) ⊎ (k ≡ 6) ⊎ (k ≡ 9) ⊎ (k ≡ 10) ⊎ (k ≡ 13) ⊎ (k ≡ 14) ⊎ ((31 ≤ k) × (k ≤ 36)) → k ≡ 17 → ⊥
+    go k (inl e) f = omega (arith, e, f)
+    go k (inr (inl e)) f = omega (arith, e, f)
+    go k (inr (inr (inl e))) f = omega (arith, e, f)
+    go k (inr (inr (inr (inl e)))) f = omega (arith, e, f)
+    go k (inr (inr (inr (inr (inl e))))) f = omega (arith, e, f)
+    go k (inr (inr (inr (inr (inr (inl e)))))) f = omega (arith, e, f)
+    go k (inr (inr (inr (inr (inr (inr (inl e))))))) f = omega (arith, e, f)
+    go k (inr (inr (inr (inr (inr (inr (inr (inl e)))))))) f = omega (arith, e, f)
+    go k (inr (inr (inr (inr (inr (inr (inr (inr e)))))))) f = omega (arith, e.0, f)
+
 -- what is seen of a tree that bytes have: one element around those a level further in
 pub record Root (n : ℕ) (m : BERMode) (b : List ℕ) : Type 0 where
   pub k : ℕ
   pub level : suc k ≡ n
   pub branch : Branch (Tree k)
-  pub has : HasBranch (HasTree k m) (tree_tag k) n m branch b
+  pub has : HasBranch (HasTree k m) (tree_parts k) n m branch b
 
 pub tree_root : (n : ℕ) (m : BERMode) (v : Tree n) (b : List ℕ) → HasTree n m v b → Root n m b
 unfolding Tree HasTree
@@ -46,13 +61,13 @@ tree_root (suc k) m v b x = record { k = k; level = refl; branch = v; has = x }
 
 pub root_tag : (n : ℕ) (m : BERMode) (t : Tag) (s b r : List ℕ) (x : Root n m b) → BeginsWithTag t s → s ≡ b ++ r → branch_tag x.branch ≡ t
 root_tag n m t s b r x h e =
-    let i = begins_with (branch_tag x.branch) b r (branch_begins (HasTree x.k m) (tree_tag x.k) n m x.branch b x.has) in
+    let i = begins_with (branch_tag x.branch) b r (branch_begins (HasTree x.k m) (tree_parts x.k) n m x.branch b x.has) in
     begins_once (branch_tag x.branch) t s (subst (λ z. BeginsWithTag (branch_tag x.branch) z) (sym e) i) h
 
 pub root_kind : (n : ℕ) (m : BERMode) (k : ContentsClass) (t : Tag) (s b r : List ℕ) (x : Root n m b) → IsOfClass k t → BeginsWithTag t s → s ≡ b ++ r →
     branch_class x.branch ≡ k
 root_kind n m k t s b r x h i e =
-    let is = branch_is_of_class (HasTree x.k m) (tree_tag x.k) n m x.branch b x.has in
+    let is = branch_is_of_class (HasTree x.k m) (tree_parts x.k) n m x.branch b x.has in
     kinds_once (branch_class x.branch) k t (subst (λ u. IsOfClass (branch_class x.branch) u) (root_tag n m t s b r x i e) is) h
 
 -- where no BOOLEAN is after its tag
@@ -61,7 +76,7 @@ no_boolean n m s h none v b r x e =
     let y = tree_root n m v b x in
     go y.k y.branch y.has (root_kind n m Boolean boolean_tag s b r y refl h e)
   where
-    go : (k : ℕ) (w : Branch (Tree k)) → HasBranch (HasTree k m) (tree_tag k) n m w b → branch_class w ≡ Boolean → ⊥
+    go : (k : ℕ) (w : Branch (Tree k)) → HasBranch (HasTree k m) (tree_parts k) n m w b → branch_class w ≡ Boolean → ⊥
     go k (boolean u) i f = none (u, r, record { prefix = b; joined = e; member = i })
     go k w i f = absurd (cc)
 
@@ -71,7 +86,7 @@ no_bits n m s h none v b r x e =
     let y = tree_root n m v b x in
     go y.k y.branch y.has (root_kind n m Bits bits_tag s b r y refl h e)
   where
-    go : (k : ℕ) (w : Branch (Tree k)) → HasBranch (HasTree k m) (tree_tag k) n m w b → branch_class w ≡ Bits → ⊥
+    go : (k : ℕ) (w : Branch (Tree k)) → HasBranch (HasTree k m) (tree_parts k) n m w b → branch_class w ≡ Bits → ⊥
     go k (bits u) i f = none (u, r, record { prefix = b; joined = e; member = i })
     go k w i f = absurd (cc)
 
@@ -81,7 +96,7 @@ no_string n m t s is h none v b r x e =
     let y = tree_root n m v b x in
     go y.k y.branch y.has (root_kind n m Octets t s b r y is h e) (root_tag n m t s b r y h e)
   where
-    go : (k : ℕ) (w : Branch (Tree k)) → HasBranch (HasTree k m) (tree_tag k) n m w b → branch_class w ≡ Octets → branch_tag w ≡ t → ⊥
+    go : (k : ℕ) (w : Branch (Tree k)) → HasBranch (HasTree k m) (tree_parts k) n m w b → branch_class w ≡ Octets → branch_tag w ≡ t → ⊥
     go k (string u c) i f g = none (c, r, record { prefix = b; joined = e; member = subst (λ z. IsOctets n m z c b) g i.1 })
     go k w i f g = absurd (cc)
 
@@ -91,12 +106,12 @@ record OtherElement (m : BERMode) (t : Tag) (b : List ℕ) : Type 0 where
   contents : List ℕ
   element : Element m t bit contents b
 
-other_element : {A : Type 0} (R : A → List ℕ → Type 0) (mark : A → Tag) (n : ℕ) (m : BERMode) (w : Branch A) (b : List ℕ) → HasBranch R mark n m w b →
+other_element : {A : Type 0} (R : A → List ℕ → Type 0) (parts : List A → List SetPart) (n : ℕ) (m : BERMode) (w : Branch A) (b : List ℕ) → HasBranch R parts n m w b →
     branch_class w ≡ Other → OtherElement m (branch_tag w) b
-other_element R mark n m (primitive t c) b x k = record { bit = Primitive; contents = c; element = x.1 }
-other_element R mark n m (set_of vs) b x k = record { bit = Constructed; contents = x.contents; element = x.element }
-other_element R mark n m (constructed t vs) b x k = record { bit = Constructed; contents = x.1.contents; element = x.1.element }
-other_element R mark n m w b x k = absurd (cc)
+other_element R parts n m (primitive t c) b x k = record { bit = Primitive; contents = c; element = x.1 }
+other_element R parts n m (set_of vs) b x k = record { bit = Constructed; contents = x.contents; element = x.element }
+other_element R parts n m (constructed t vs) b x k = record { bit = Constructed; contents = x.1.contents; element = x.1.element }
+other_element R parts n m w b x k = absurd (cc)
 
 -- no contents after the identifier of another type
 pub no_header : (n : ℕ) (m : BERMode) (t : Tag) (bit : PCBit) (s y : List ℕ) → IsOtherTag t → s ≡ identifier t bit ++ y →
@@ -104,7 +119,7 @@ pub no_header : (n : ℕ) (m : BERMode) (t : Tag) (bit : PCBit) (s y : List ℕ)
 no_header n m t bit s y is j none v b r x e =
     let z = tree_root n m v b x in
     let k = root_kind n m Other t s b r z is (begins bit y j) e in
-    let o = other_element (HasTree z.k m) (tree_tag z.k) n m z.branch b z.has k in
+    let o = other_element (HasTree z.k m) (tree_parts z.k) n m z.branch b z.has k in
     let h = element_there m (branch_tag z.branch) o.bit o.contents b s r o.element e in
     let i = identifier_exact (branch_tag z.branch) t o.bit bit h.after y (sym h.joined ∙ j) in
     none h.contents h.end (subst (λ p. Holds m p y h.contents h.end) i.1 (subst (λ a. Holds m o.bit a h.contents h.end) i.2 h.holds))
@@ -143,7 +158,7 @@ no_constructed n k m t s d end level is opens none v b r x e =
     let y = tree_root n m v b x in
     go y.k y.branch y.has (omega (arith, level, y.level)) (root_kind n m Other t s b r y is (opens_begins m t Constructed s d end opens) e)
   where
-    go : (j : ℕ) (w : Branch (Tree j)) → HasBranch (HasTree j m) (tree_tag j) n m w b → k ≡ j → branch_class w ≡ Other → ⊥
+    go : (j : ℕ) (w : Branch (Tree j)) → HasBranch (HasTree j m) (tree_parts j) n m w b → k ≡ j → branch_class w ≡ Other → ⊥
     go j (primitive u c) i l f = let h = (header_of m t u Constructed Primitive s d c b r end opens i.1 e).bit in absurd (cc)
     go j (set_of vs) i l f =
         let h = header_of m t set_tag Constructed Constructed s d i.contents b r end opens i.element e in
@@ -152,6 +167,34 @@ no_constructed n k m t s d end level is opens none v b r x e =
         let h = header_of m t u Constructed Constructed s d i.1.contents b r end opens i.1.element e in
         subst (λ z. NoTreesTo z m d end) l none vs i.1.contents h.after r i.1.inner.elements h.joined h.ends
     go j w i l f = absurd (cc)
+
+-- no constructed element of a type whose encoding is primitive
+pub no_primitive_type : (n : ℕ) (m : BERMode) (t : Tag) (s c : List ℕ) (end : ContentsEnd) → IsOtherTag t → IsPrimitiveTag t →
+    OpensAt m t Constructed s c end → NoTreeAt n m s
+no_primitive_type n m t s c end is always opens v b r x e =
+    let y = tree_root n m v b x in
+    let h = opens_begins m t Constructed s c end opens in
+    go y.k y.branch y.has (root_kind n m Other t s b r y is h e) (root_tag n m t s b r y h e)
+  where
+    go : (j : ℕ) (w : Branch (Tree j)) → HasBranch (HasTree j m) (tree_parts j) n m w b → branch_class w ≡ Other → branch_tag w ≡ t → ⊥
+    go j (primitive u d) i f g = let h = (header_of m t u Constructed Primitive s c d b r end opens i.1 e).bit in absurd (cc)
+    go j (set_of vs) i f g = set_not_primitive (subst IsPrimitiveTag (sym g) always)
+    go j (constructed u vs) i f g = i.0.not_primitive (subst IsPrimitiveTag (sym g) always)
+    go j w i f g = absurd (cc)
+
+-- no primitive element of a type whose encoding is constructed
+pub no_constructed_type : (n : ℕ) (m : BERMode) (t : Tag) (s c : List ℕ) (end : ContentsEnd) → IsOtherTag t → IsConstructedTag t →
+    OpensAt m t Primitive s c end → NoTreeAt n m s
+no_constructed_type n m t s c end is always opens v b r x e =
+    let y = tree_root n m v b x in
+    let h = opens_begins m t Primitive s c end opens in
+    go y.k y.branch y.has (root_kind n m Other t s b r y is h e) (root_tag n m t s b r y h e)
+  where
+    go : (j : ℕ) (w : Branch (Tree j)) → HasBranch (HasTree j m) (tree_parts j) n m w b → branch_class w ≡ Other → branch_tag w ≡ t → ⊥
+    go j (primitive u d) i f g = i.0.not_constructed (subst IsConstructedTag (sym g) always)
+    go j (set_of vs) i f g = let h = (header_of m t set_tag Primitive Constructed s c i.contents b r end opens i.element e).bit in absurd (cc)
+    go j (constructed u vs) i f g = let h = (header_of m t u Primitive Constructed s c i.1.contents b r end opens i.1.element e).bit in absurd (cc)
+    go j w i f g = absurd (cc)
 
 -- contents neither end where the walk is, nor does an element are there
 pub no_trees_from : (n : ℕ) (m : BERMode) (s y : List ℕ) (end : ContentsEnd) (ps : List DerElement) → Reached n m s ps y → NoEnd end y → NoTreeAt n m y →

@@ -1,38 +1,48 @@
 -- Where the encoding in DER depends on a schema.
-use Rattle.std.specs.Prelude.{◌≡◌, ◌↔◌, ℕ, zero, suc, min, List, [], ◌∷◌, ◌++◌, Option, None, Some}
+use Rattle.std.specs.Prelude.{◌≡◌, ◌⊎◌, ◌↔◌, ℕ, zero, suc, min, List, [], ◌∷◌, ◌++◌, Option, None, Some}
 use Rattle.std.specs.List.{AllByRecursion}
+use Rattle.yasna_base.specs.Bits.{bits_tag}
 use Rattle.yasna_base.specs.Header.{ContentsEnd, EndsBefore}
+use Rattle.yasna_base.specs.Octets.{octets_tag}
 use Rattle.yasna_base.specs.Pieces.{Pieces}
-use Rattle.yasna_base.specs.Set.{set_tag}
+use Rattle.yasna_base.specs.Set.{SetPart, set_tag}
 use Rattle.yasna_base.specs.declared.mode.BERMode.{BERMode}
 use Rattle.yasna_base.specs.declared.mode.BERMode.TheVariants.{Ber}
 use Rattle.yasna_base.specs.declared.tag.Tag.{Tag}
 use Rattle.yasna_base.specs.declared.tag.TagClass.TheVariants.{Universal}
-use Rattle.asn1der_convert.specs.Tree.{Branch, boolean, bits, string, primitive, set_of, constructed, Tree, HasTree}
+use Rattle.asn1der_convert.specs.Parts.{IsPartAround}
+use Rattle.asn1der_convert.specs.SetOrder.{InOrder}
+use Rattle.asn1der_convert.specs.Tree.{Branch, boolean, bits, string, primitive, set_of, constructed, Tree, HasTree, tree_parts}
 use Rattle.asn1der_convert.specs.declared.ambiguity.Ambiguities.{Ambiguities}
+use Rattle.asn1der_convert.specs.declared.ambiguity.Ambiguity.{Ambiguity}
+use Rattle.asn1der_convert.specs.declared.ambiguity.Ambiguity.TheVariants.{Segments, ImplicitSetOf, Order}
+use Rattle.asn1der_convert.specs.declared.der_element.DerElement.{DerElement}
+use Rattle.asn1der_convert.specs.declared.set_order.SetOrder.TheVariants.{Tags, Octets}
 
--- a constructed element with this tag isn't a constructed string
-abbrev pub IsNoString : Tag → Type 0
-IsNoString t = t.tag_class ≡ Universal
+-- these elements may be the segments of a string: all are OCTET STRINGs, or all are BIT STRINGs (X.690, 8.6.4 and 8.7.3)
+abbrev pub AreSegments : List SetPart → Type 0
+AreSegments ps = AllByRecursion (λ (p : SetPart). p.tag ≡ octets_tag) ps ⊎ AllByRecursion (λ (p : SetPart). p.tag ≡ bits_tag) ps
 
--- an element with this tag that isn't a SET of elements with one tag isn't a SET
-abbrev pub IsNoSet : Tag → Type 0
-IsNoSet t = t ≡ set_tag → ⊥
+-- a constructed element with this tag around these, in the order in which they are written, has no such ambiguity
+abbrev pub IsCertain : Ambiguity → Tag → List SetPart → Type 0
+IsCertain Segments t ps = (t.tag_class ≡ Universal) ⊎ (AreSegments ps → ⊥)
+IsCertain ImplicitSetOf t ps = (t.tag_class ≡ Universal) ⊎ InOrder Octets ps
+IsCertain Order t ps = (t ≡ set_tag → ⊥) ⊎ InOrder Octets ps ⊎ InOrder Tags ps
 
--- G holds of the tag of a constructed element, unless it is a SET of elements with one tag, and S holds of each element within
-abbrev pub IsSureBranch : {A : Type 0} → (Tag → Type 0) → (A → Type 0) → Branch A → Type 0
-IsSureBranch G S (boolean v) = Unit {0}
-IsSureBranch G S (bits v) = Unit {0}
-IsSureBranch G S (string t v) = Unit {0}
-IsSureBranch G S (primitive t c) = Unit {0}
-IsSureBranch G S (set_of vs) = AllByRecursion S vs
-IsSureBranch G S (constructed t vs) = G t × AllByRecursion S vs
+-- a constructed element has no such ambiguity, and S holds of each element within; a SET whose order is known has none itself
+abbrev pub IsSureBranch : {A : Type 0} → Ambiguity → (List A → List SetPart) → (A → Type 0) → Branch A → Type 0
+IsSureBranch a parts S (boolean v) = Unit {0}
+IsSureBranch a parts S (bits v) = Unit {0}
+IsSureBranch a parts S (string t v) = Unit {0}
+IsSureBranch a parts S (primitive t c) = Unit {0}
+IsSureBranch a parts S (set_of vs) = AllByRecursion S vs
+IsSureBranch a parts S (constructed t vs) = IsCertain a t (parts vs) × AllByRecursion S vs
 
 -- as `IsSureBranch`, for all elements of a tree
-unfoldable pub IsSure : (Tag → Type 0) → (n : ℕ) → Tree n → Type 0
+unfoldable pub IsSure : Ambiguity → (n : ℕ) → Tree n → Type 0
 unfolding Tree
-IsSure G zero v = ⊥
-IsSure G (suc n) v = IsSureBranch G (IsSure G n) v
+IsSure a zero v = ⊥
+IsSure a (suc n) v = IsSureBranch a (tree_parts n) (IsSure a n) v
 
 -- the first of two places, where the first may be absent
 abbrev pub first_of : Option ℕ → ℕ → ℕ
@@ -43,10 +53,26 @@ first_of (Some place) offset = min place offset
 abbrev pub Meets : Option ℕ → Option ℕ → Type 0 → Type 0
 Meets old new P = (new ≡ None) ↔ ((old ≡ None) × P)
 
+-- the first place after an element at this offset, which has no ambiguity exactly if P holds
+pub record Notes (old new : Option ℕ) (offset : ℕ) (P : Type 0) : Type 0 where
+  pub certain : P → new ≡ old
+  pub ambiguous : (P → ⊥) → new ≡ Some (first_of old offset)
+  pub meets : Meets old new P
+
+-- the first place of each kind
+abbrev pub first_place : Ambiguity → Ambiguities → Option ℕ
+first_place Segments d = d.segments
+first_place ImplicitSetOf d = d.implicit_set_of
+first_place Order d = d.order
+
+-- p is the constructed element in DER with the tag t around the elements ps, and its ambiguities were met
+pub record Encloses (t : Tag) (ps : List SetPart) (p : DerElement) (old new : Ambiguities) : Type 0 where
+  pub part : IsPartAround t ps p
+  pub met : (a : Ambiguity) → Meets (first_place a old) (first_place a new) (IsCertain a t part.inner)
+
 -- the ambiguities of these elements were met
-pub record MeetsAmbiguities (n : ℕ) (vs : List (Tree n)) (old new : Ambiguities) : Type 0 where
-  pub segments : Meets old.segments new.segments (AllByRecursion (IsSure IsNoString n) vs)
-  pub order : Meets old.order new.order (AllByRecursion (IsSure IsNoSet n) vs)
+abbrev pub MeetsAmbiguities : (n : ℕ) → List (Tree n) → Ambiguities → Ambiguities → Type 0
+MeetsAmbiguities n vs old new = (a : Ambiguity) → Meets (first_place a old) (first_place a new) (AllByRecursion (IsSure a n) vs)
 
 -- the ambiguities of an element at the start of s, which r follows, were met
 abbrev pub MeetsAt : ℕ → BERMode → List ℕ → List ℕ → Ambiguities → Ambiguities → Type 0
@@ -58,6 +84,6 @@ MeetsTo n m s end r old new =
     (vs : List (Tree n)) (prefix rest : List ℕ) → Pieces (HasTree n m) vs prefix → s ≡ prefix ++ rest → EndsBefore end rest r → MeetsAmbiguities n vs old new
 
 -- an ambiguity has no first place exactly where the elements that s is don't have it
-pub record AreTheAmbiguities (s : List ℕ) (d : Ambiguities) : Type 0 where
-  pub segments : (vs : List (Tree 101)) → Pieces (HasTree 101 Ber) vs s → (d.segments ≡ None) ↔ AllByRecursion (IsSure IsNoString 101) vs
-  pub order : (vs : List (Tree 101)) → Pieces (HasTree 101 Ber) vs s → (d.order ≡ None) ↔ AllByRecursion (IsSure IsNoSet 101) vs
+abbrev pub AreTheAmbiguities : List ℕ → Ambiguities → Type 0
+AreTheAmbiguities s d =
+    (a : Ambiguity) (vs : List (Tree 101)) → Pieces (HasTree 101 Ber) vs s → (first_place a d ≡ None) ↔ AllByRecursion (IsSure a 101) vs

@@ -1,4 +1,5 @@
 pub mod Tags
+pub mod SetOrder
 pub mod Tree
 pub mod Conversion
 pub mod ContentsClass

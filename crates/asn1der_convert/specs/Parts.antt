@@ -5,14 +5,14 @@ use Rattle.std.specs.Prelude.{◌≡◌, ℕ, List, ◌++◌, map, Result, Ok, E
 use Rattle.std.specs.List.{concat}
 use Rattle.yasna_base.specs.Canonical.{canonical_element}
 use Rattle.yasna_base.specs.Header.{ContentsEnd, EndsBefore}
-use Rattle.yasna_base.specs.Order.{octets_cmp, in_order}
 use Rattle.yasna_base.specs.Pieces.{Pieces}
-use Rattle.yasna_base.specs.Set.{set_tag}
+use Rattle.yasna_base.specs.Set.{SetPart, parts_bytes, set_tag}
 use Rattle.yasna_base.specs.declared.mode.BERMode.{BERMode}
 use Rattle.yasna_base.specs.declared.mode.BERMode.TheVariants.{Der}
 use Rattle.yasna_base.specs.declared.tag.PCBit.TheVariants.{Constructed}
 use Rattle.yasna_base.specs.declared.tag.Tag.{Tag}
-use Rattle.asn1der_convert.specs.Tree.{Tree, tree_tag, HaveOneTag, HasTree, der_encoding}
+use Rattle.asn1der_convert.specs.SetOrder.{part_of, parts_of, by_octets, IsOrderKnown}
+use Rattle.asn1der_convert.specs.Tree.{Tree, tree_tag, HasTree, der_encoding}
 use Rattle.asn1der_convert.specs.declared.error.ConvertError.{ConvertError}
 use Rattle.asn1der_convert.specs.declared.error.ConvertError.TheVariants.{Memory}
 use Rattle.asn1der_convert.specs.declared.der_element.DerElement.{DerElement}
@@ -20,6 +20,14 @@ use Rattle.asn1der_convert.specs.declared.der_element.DerElement.{DerElement}
 -- the tag of each part
 abbrev pub part_tags : List DerElement → List Tag
 part_tags ps = map (λ (p : DerElement). p.tag) ps
+
+-- an element in DER with its tag
+abbrev pub set_part : DerElement → SetPart
+set_part = part_of (λ (p : DerElement). p.tag) (λ (p : DerElement). p.bytes.items)
+
+-- each of these elements with its tag
+abbrev pub set_parts : List DerElement → List SetPart
+set_parts = parts_of (λ (p : DerElement). p.tag) (λ (p : DerElement). p.bytes.items)
 
 -- the bytes of each part
 abbrev pub part_bytes : List DerElement → List (List ℕ)
@@ -53,18 +61,18 @@ pub record TakesPartsTo (n : ℕ) (m : BERMode) (s : List ℕ) (end : ContentsEn
   pub ends : EndsBefore end rest r
   pub parts : ArePartsOf n m prefix ps
 
--- cs are the bytes bs of elements with the tags ts in the order of DER, within an element with the tag t: they ascend in a SET whose
--- elements have one tag, and keep their order in any other element (X.690, 11.6)
-pub data ArePutInOrder (t : Tag) (ts : List Tag) (bs cs : List (List ℕ)) : Type 0 where
-  ascending : t ≡ set_tag → HaveOneTag ts → cs ≡ in_order octets_cmp bs → ArePutInOrder t ts bs cs
-  as_they_were : (t ≡ set_tag → HaveOneTag ts → ⊥) → cs ≡ bs → ArePutInOrder t ts bs cs
+-- qs are the elements ps of a constructed element with the tag t in the order of DER: that of a SET OF in a SET whose order is known, and
+-- else the order that they have (X.690, 10.3 and 11.6)
+pub data ArePutInOrder (t : Tag) (ps qs : List SetPart) : Type 0 where
+  sorted : t ≡ set_tag → IsOrderKnown ps → qs ≡ by_octets ps → ArePutInOrder t ps qs
+  as_they_were : (t ≡ set_tag → IsOrderKnown ps → ⊥) → qs ≡ ps → ArePutInOrder t ps qs
 
 -- p is the constructed element in DER with the tag t around the elements ps
-pub record IsPartAround (t : Tag) (ps : List DerElement) (p : DerElement) : Type 0 where
+pub record IsPartAround (t : Tag) (ps : List SetPart) (p : DerElement) : Type 0 where
   pub tag : p.tag ≡ t
-  pub inner : List (List ℕ)
-  pub order : ArePutInOrder t (part_tags ps) (part_bytes ps) inner
-  pub bytes : p.bytes.items ≡ canonical_element Der t Constructed (concat inner)
+  pub inner : List SetPart
+  pub order : ArePutInOrder t ps inner
+  pub bytes : p.bytes.items ≡ canonical_element Der t Constructed (concat (parts_bytes inner))
 
 -- no element is at the start of s
 abbrev pub NoTreeAt : ℕ → BERMode → List ℕ → Type 0

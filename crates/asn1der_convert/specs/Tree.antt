@@ -9,15 +9,16 @@ use Rattle.yasna_base.specs.Element.{Element}
 use Rattle.yasna_base.specs.Octets.{IsOctets, octets_encoding}
 use Rattle.yasna_base.specs.Order.{octets_cmp, in_order}
 use Rattle.yasna_base.specs.Pieces.{Each, Pieces}
-use Rattle.yasna_base.specs.Set.{set_tag, AreInSetOfOrder}
+use Rattle.yasna_base.specs.Set.{SetPart, set_tag, AreInSetOfOrder}
 use Rattle.yasna_base.specs.declared.mode.BERMode.{BERMode}
 use Rattle.yasna_base.specs.declared.mode.BERMode.TheVariants.{Der}
 use Rattle.yasna_base.specs.declared.tag.PCBit.TheVariants.{Primitive, Constructed}
 use Rattle.yasna_base.specs.declared.tag.Tag.{Tag}
-use Rattle.asn1der_convert.specs.Tags.{IsStringTag, IsOtherTag}
+use Rattle.asn1der_convert.specs.SetOrder.{parts_of, IsOrderKnown}
+use Rattle.asn1der_convert.specs.Tags.{IsStringTag, IsOtherPrimitive, IsOtherConstructed}
 
 -- one element, around elements of A: a BOOLEAN, a BIT STRING, the octets of a string with its tag, the contents of any other primitive
--- element, a SET of elements with one tag, or the elements of any other constructed one
+-- element, a SET whose order is known, or the elements of any other constructed one
 pub data Branch (A : Type 0) : Type 0 where
   boolean : Bool → Branch A
   bits : BitString → Branch A
@@ -46,42 +47,6 @@ unfolding Tree
 tree_tag zero v = absurd v
 tree_tag (suc n) v = branch_tag v
 
--- all tags of the list are equal
-abbrev pub HaveOneTag : List Tag → Type 0
-HaveOneTag ts = (u : Tag) × AllByRecursion (λ t. t ≡ u) ts
-
--- c is the elements vs one after the other; they have one tag, and in DER they ascend (X.690, 11.6)
-pub record IsSetOfContents {A : Type 0} (R : A → List ℕ → Type 0) (tag : A → Tag) (m : BERMode) (vs : List A) (c : List ℕ) : Type 0 where
-  pub elements : Pieces R vs c
-  pub order : AreInSetOfOrder m elements.pieces
-  pub one_tag : HaveOneTag (map tag vs)
-
--- c is the elements vs one after the other, and they aren't those of a SET whose elements have one tag
-pub record IsOtherContents {A : Type 0} (R : A → List ℕ → Type 0) (tag : A → Tag) (t : Tag) (vs : List A) (c : List ℕ) : Type 0 where
-  pub elements : Pieces R vs c
-  pub other : t ≡ set_tag → HaveOneTag (map tag vs) → ⊥
-
--- b is a constructed element whose contents C holds of
-pub record IsAround (C : List ℕ → Type 0) (m : BERMode) (t : Tag) (b : List ℕ) : Type 0 where
-  pub contents : List ℕ
-  pub element : Element m t Constructed contents b
-  pub inner : C contents
-
--- b encodes the element, and R holds of each element within it; n levels are left
-abbrev pub HasBranch : {A : Type 0} → (A → List ℕ → Type 0) → (A → Tag) → ℕ → BERMode → Branch A → List ℕ → Type 0
-HasBranch R tag n m (boolean v) b = EncodesBoolean m n v b
-HasBranch R tag n m (bits v) b = IsBits n m bits_tag v b
-HasBranch R tag n m (string t v) b = IsStringTag t × IsOctets n m t v b
-HasBranch R tag n m (primitive t c) b = IsOtherTag t × Element m t Primitive c b
-HasBranch R tag n m (set_of vs) b = IsAround (IsSetOfContents R tag m vs) m set_tag b
-HasBranch R tag n m (constructed t vs) b = IsOtherTag t × IsAround (IsOtherContents R tag t vs) m t b
-
--- b is an element with this tree
-unfoldable pub HasTree : (n : ℕ) → BERMode → Tree n → List ℕ → Type 0
-unfolding Tree
-HasTree zero m v b = ⊥
-HasTree (suc n) m v b = HasBranch (HasTree n m) (tree_tag n) (suc n) m v b
-
 -- the encoding of an element in DER, where f encodes those within it
 abbrev pub branch_encoding : {A : Type 0} → (A → List ℕ) → Branch A → List ℕ
 branch_encoding f (boolean v) = boolean_encoding boolean_tag Der v
@@ -96,6 +61,46 @@ unfoldable pub der_encoding : (n : ℕ) → Tree n → List ℕ
 unfolding Tree
 der_encoding zero v = absurd v
 der_encoding (suc n) v = branch_encoding (der_encoding n) v
+
+-- the tags of trees, and their encodings in DER
+abbrev pub tree_parts : (n : ℕ) → List (Tree n) → List SetPart
+tree_parts n = parts_of (tree_tag n) (der_encoding n)
+
+-- all tags of the list are equal
+abbrev pub HaveOneTag : List Tag → Type 0
+HaveOneTag ts = (u : Tag) × AllByRecursion (λ t. t ≡ u) ts
+
+-- c is the elements vs one after the other; their order in a SET is known, and in DER they are in it (X.690, 10.3 and 11.6)
+pub record IsSetOfContents {A : Type 0} (R : A → List ℕ → Type 0) (parts : List A → List SetPart) (m : BERMode) (vs : List A) (c : List ℕ) : Type 0 where
+  pub elements : Pieces R vs c
+  pub order : AreInSetOfOrder m elements.pieces
+  pub known : IsOrderKnown (parts vs)
+
+-- c is the elements vs one after the other, and they aren't those of a SET whose order is known
+pub record IsOtherContents {A : Type 0} (R : A → List ℕ → Type 0) (parts : List A → List SetPart) (t : Tag) (vs : List A) (c : List ℕ) : Type 0 where
+  pub elements : Pieces R vs c
+  pub other : t ≡ set_tag → IsOrderKnown (parts vs) → ⊥
+
+-- b is a constructed element whose contents C holds of
+pub record IsAround (C : List ℕ → Type 0) (m : BERMode) (t : Tag) (b : List ℕ) : Type 0 where
+  pub contents : List ℕ
+  pub element : Element m t Constructed contents b
+  pub inner : C contents
+
+-- b encodes the element, R holds of each element within it, and parts gives these in DER; n levels are left
+abbrev pub HasBranch : {A : Type 0} → (A → List ℕ → Type 0) → (List A → List SetPart) → ℕ → BERMode → Branch A → List ℕ → Type 0
+HasBranch R parts n m (boolean v) b = EncodesBoolean m n v b
+HasBranch R parts n m (bits v) b = IsBits n m bits_tag v b
+HasBranch R parts n m (string t v) b = IsStringTag t × IsOctets n m t v b
+HasBranch R parts n m (primitive t c) b = IsOtherPrimitive t × Element m t Primitive c b
+HasBranch R parts n m (set_of vs) b = IsAround (IsSetOfContents R parts m vs) m set_tag b
+HasBranch R parts n m (constructed t vs) b = IsOtherConstructed t × IsAround (IsOtherContents R parts t vs) m t b
+
+-- b is an element with this tree
+unfoldable pub HasTree : (n : ℕ) → BERMode → Tree n → List ℕ → Type 0
+unfolding Tree
+HasTree zero m v b = ⊥
+HasTree (suc n) m v b = HasBranch (HasTree n m) (tree_parts n) (suc n) m v b
 
 -- elements of equal values: a SET OF in any order, and bit strings that differ only in unused bits
 abbrev pub SameBranch : {A : Type 0} → (A → A → Type 0) → Branch A → Branch A → Type 0

@@ -1,24 +1,24 @@
 //! Ambiguities: where the DER encoding depends on a schema.
-ghost use Rattle.std.specs.Prelude.{◌≡◌, ◌↔◌, IsTrue, None, Some};
-ghost use Rattle.yasna_base.specs.Set.{set_tag};
-ghost use Rattle.yasna_base.specs.declared.tag.TagClass.TheVariants.{Universal};
-ghost use Rattle.asn1der_convert.specs.Ambiguity.{Meets, first_of};
-ghost use Rattle.asn1der_convert.specs.declared.ambiguity.Ambiguity.TheVariants.{Segments, Order};
-ghost use Rattle.asn1der_convert.specs.Parts.{part_tags};
-ghost use Rattle.asn1der_convert.specs.Tree.{HaveOneTag};
+ghost use Rattle.std.specs.Prelude.{◌≡◌, ◌↔◌, IsTrue, None};
+ghost use Rattle.asn1der_convert.specs.Ambiguity.{AreSegments, IsCertain, Notes, first_place};
+ghost use Rattle.asn1der_convert.specs.declared.ambiguity.Ambiguity.{Ambiguity};
+ghost use Rattle.asn1der_convert.specs.Parts.{set_parts};
 
 use crate::der_element::DerElement;
-use crate::set_order::have_one_tag;
+use crate::set_order::{SetOrder, all_have_tag, are_in_order};
 use std::fmt;
 use yasna_base::tag::{Tag, TagClass};
-use yasna_base::tags::TAG_SET;
+use yasna_base::tags::{TAG_BITSTRING, TAG_OCTETSTRING, TAG_SET};
 
 /// A kind of ambiguity, which a schema would decide.
 #[derive(Clone, Copy, PartialEq, Eq, Debug)]
 pub enum Ambiguity {
-    /// A constructed element whose tag isn't universal may be a string in segments (X.690, 8.14.3 and 10.2).
+    /// A constructed element whose tag isn't universal may be a string, if its elements are OCTET STRINGs or BIT STRINGs (X.690, 8.14.3
+    /// and 10.2).
     Segments,
-    /// A SET whose elements have several tags is ordered by them, but a SET OF by its bytes (X.690, 10.3 and 11.6).
+    /// A constructed element whose tag isn't universal may be a SET OF, if its elements are out of order (X.690, 8.14.3 and 11.6).
+    ImplicitSetOf,
+    /// A SET is ordered by tags, but a SET OF by octets: the elements are in neither order, and the two differ (X.690, 10.3 and 11.6).
     Order,
 }
 
@@ -26,15 +26,45 @@ impl fmt::Display for Ambiguity {
     fn fmt<W: fmt::Write>(&self, f: &mut fmt::Formatter<W>) -> fmt::Result {
         match self {
             Ambiguity::Segments => f.write_str("it may be a string in segments"),
-            Ambiguity::Order => f.write_str("a SET with several tags may be out of order"),
+            Ambiguity::ImplicitSetOf => f.write_str("it may be a SET OF that is out of order"),
+            Ambiguity::Order => {
+                f.write_str("it is out of order as a SET and as a SET OF, and these orders differ")
+            }
         }
     }
 }
 
-// The earlier of two places: elements within another are met before it ends.
-fn earlier(known: Option<usize>, offset: usize) -> Option<usize>
-    ensures { result ≡ Some (first_of known offset) }
+// Whether these may be the segments of a string (X.690, 8.6.4 and 8.7.3).
+fn are_segments(parts: &[DerElement]) -> bool
+    ensures { IsTrue result ↔ AreSegments (set_parts parts.now) }
 {
+    all_have_tag(parts, TAG_OCTETSTRING) || all_have_tag(parts, TAG_BITSTRING)
+}
+
+// Whether the constructed element with this tag around these has no such ambiguity.
+fn is_certain(ambiguity: Ambiguity, tag: Tag, parts: &[DerElement]) -> bool
+    ensures { IsTrue result ↔ IsCertain ambiguity tag (set_parts parts.now) }
+{
+    match ambiguity {
+        Ambiguity::Segments => tag.tag_class == TagClass::Universal || !are_segments(parts),
+        Ambiguity::ImplicitSetOf => {
+            tag.tag_class == TagClass::Universal || are_in_order(SetOrder::Octets, parts)
+        }
+        Ambiguity::Order => {
+            tag != TAG_SET
+                || are_in_order(SetOrder::Octets, parts)
+                || are_in_order(SetOrder::Tags, parts)
+        }
+    }
+}
+
+// The first place after one more element: elements within another are met before it ends.
+fn noted(known: Option<usize>, offset: usize, is_certain: bool) -> Option<usize>
+    ensures { Notes known result offset (IsTrue is_certain) }
+{
+    if is_certain {
+        return known;
+    }
     match known {
         Some(place) if place < offset => known,
         _ => Some(offset),
@@ -45,53 +75,49 @@ fn earlier(known: Option<usize>, offset: usize) -> Option<usize>
 #[derive(Clone, Copy, PartialEq, Eq, Debug)]
 pub struct Ambiguities {
     segments: Option<usize>,
+    implicit_set_of: Option<usize>,
     order: Option<usize>,
 }
 
 impl Ambiguities {
     /// No ambiguity.
     pub fn none() -> Ambiguities
-        ensures segments { result.segments ≡ None }
-        ensures order { result.order ≡ None }
+        ensures { (a : Ambiguity) → first_place a result ≡ None }
     {
         Ambiguities {
             segments: None,
+            implicit_set_of: None,
             order: None,
         }
     }
 
     /// The offset of the first ambiguity of this kind.
     pub fn first(&self, ambiguity: Ambiguity) -> Option<usize>
-        ensures segments { ambiguity ≡ Segments → result ≡ self.now.segments }
-        ensures order { ambiguity ≡ Order → result ≡ self.now.order }
+        ensures { result ≡ first_place ambiguity self.now }
     {
         match ambiguity {
             Ambiguity::Segments => self.segments,
+            Ambiguity::ImplicitSetOf => self.implicit_set_of,
             Ambiguity::Order => self.order,
         }
     }
 
     /// Whether there is an ambiguity.
     pub fn are_any(&self) -> bool
-        ensures { IsTrue result ↔ ((self.now.segments ≡ None) × (self.now.order ≡ None) → ⊥) }
+        ensures { IsTrue result ↔ ((self.now.segments ≡ None) × (self.now.implicit_set_of ≡ None) × (self.now.order ≡ None) → ⊥) }
     {
-        self.segments.is_some() || self.order.is_some()
+        self.segments.is_some() || self.implicit_set_of.is_some() || self.order.is_some()
     }
 
-    /// Notes the ambiguity of the constructed element that begins here, has this tag and is around these.
+    /// Notes the ambiguities of the constructed element that begins here, has this tag and is around these.
     pub fn note(&mut self, offset: usize, tag: Tag, parts: &[DerElement])
-        ensures certain { tag.tag_class ≡ Universal → self.new.segments ≡ self.old.segments }
-        ensures may_be_a_string { (tag.tag_class ≡ Universal → ⊥) → self.new.segments ≡ Some (first_of self.old.segments offset) }
-        ensures of_one_tag { (tag ≡ set_tag → HaveOneTag (part_tags parts.now)) → self.new.order ≡ self.old.order }
-        ensures of_several_tags { ((tag ≡ set_tag → HaveOneTag (part_tags parts.now)) → ⊥) → self.new.order ≡ Some (first_of self.old.order offset) }
-        ensures segments { Meets self.old.segments self.new.segments (tag.tag_class ≡ Universal) }
-        ensures order { Meets self.old.order self.new.order (tag ≡ set_tag → HaveOneTag (part_tags parts.now)) }
+        ensures { (a : Ambiguity) → Notes (first_place a self.old) (first_place a self.new) offset (IsCertain a tag (set_parts parts.now)) }
     {
-        if tag.tag_class != TagClass::Universal {
-            self.segments = earlier(self.segments, offset);
-        }
-        if tag == TAG_SET && !have_one_tag(parts) {
-            self.order = earlier(self.order, offset);
-        }
+        let segments = is_certain(Ambiguity::Segments, tag, parts);
+        let implicit = is_certain(Ambiguity::ImplicitSetOf, tag, parts);
+        let order = is_certain(Ambiguity::Order, tag, parts);
+        self.segments = noted(self.segments, offset, segments);
+        self.implicit_set_of = noted(self.implicit_set_of, offset, implicit);
+        self.order = noted(self.order, offset, order);
     }
 }

@@ -14,15 +14,16 @@ ghost use Rattle.yasna_base.specs.declared.mode.BERMode.TheVariants.{Ber, Der};
 ghost use Rattle.yasna_base.specs.Identifier.{BeginsWithTag};
 ghost use Rattle.yasna_base.specs.Raw.{IsRaw, IsJoining};
 ghost use Rattle.yasna_base.specs.declared.tag.PCBit.TheVariants.{Primitive, Constructed};
-ghost use Rattle.asn1der_convert.specs.Ambiguity.{MeetsAt, MeetsTo, AreTheAmbiguities};
-ghost use Rattle.asn1der_convert.specs.Parts.{IsPartAround, PartAt, PartsAt};
+ghost use Rattle.asn1der_convert.specs.Ambiguity.{Encloses, MeetsAt, MeetsTo, AreTheAmbiguities};
+ghost use Rattle.asn1der_convert.specs.Parts.{set_parts, PartAt, PartsAt};
 ghost use Rattle.asn1der_convert.specs.declared.error.ConvertError.TheVariants.{Memory};
-ghost use Rattle.asn1der_convert.specs.Tags.{IsOtherTag, IsStringTag};
+ghost use Rattle.asn1der_convert.specs.Tags.{IsOtherTag, IsOtherPrimitive, IsOtherConstructed, IsStringTag};
 
 use crate::ambiguity::Ambiguities;
-use crate::contents_class::{ContentsClass, class_of};
+use crate::contents_class::{ContentsClass, class_of, is_constructed_type, is_primitive_type};
 use crate::der_element::DerElement;
 use crate::error::{ConvertError, offset_of};
+use crate::segments::{StringKind, string_error};
 use crate::set_order::put_in_order;
 use crate::writing::{element, joined};
 use std::alloc::Global;
@@ -105,7 +106,10 @@ fn convert_bits(alloc: Global, cursor: Cursor<'_>) -> Result<(DerElement, &[u8])
 {
     let ((bytes, count), rest) = match bit_string(alloc, cursor, TAG_BITSTRING) {
         Ok(taken) => taken,
-        Err(rejection) => return Err(ConvertError::at(cursor, rejection.kind)),
+        Err(rejection) => {
+            let bits = StringKind::Bits;
+            return Err(string_error(alloc, cursor, TAG_BITSTRING, bits, rejection.kind));
+        }
     };
     let contents = bit_contents(alloc, &bytes, count)?;
     let part = element(alloc, TAG_BITSTRING, PCBit::Primitive, contents)?;
@@ -124,14 +128,17 @@ fn convert_octets(
 {
     let (octets, rest) = match octet_string(alloc, cursor, tag) {
         Ok(taken) => taken,
-        Err(rejection) => return Err(ConvertError::at(cursor, rejection.kind)),
+        Err(rejection) => {
+            let octets = StringKind::Octets;
+            return Err(string_error(alloc, cursor, tag, octets, rejection.kind));
+        }
     };
     let part = element(alloc, tag, PCBit::Primitive, octets)?;
     Ok((part, rest))
 }
 
-// The bytes after contents, if they end here.
-fn after_end<'a>(end: ContentsEnd<'a>, left: &'a [u8]) -> Option<&'a [u8]>
+/// The bytes after contents, if they end here.
+pub fn after_end<'a>(end: ContentsEnd<'a>, left: &'a [u8]) -> Option<&'a [u8]>
     ensures { MatchOption result (NoEnd (end_found end.entry) left.now) (λ after. EndsBefore (end_found end.entry) left.now after.now) }
 {
     match end {
@@ -148,7 +155,7 @@ fn convert_primitive<'a>(
     opened: &Opened<'a>,
 ) -> Result<(DerElement, &'a [u8]), ConvertError>
     requires level { 1 ≤ cursor.levels }
-    requires other { IsOtherTag tag }
+    requires other { IsOtherPrimitive tag }
     requires opens { OpensAt cursor.mode tag Primitive cursor.left.now opened.now.contents opened.now.end }
     ensures { PartAt cursor.entry.levels cursor.entry.mode cursor.entry.left.now result }
 {
@@ -162,13 +169,20 @@ fn convert_primitive<'a>(
     Ok((part, after))
 }
 
-// The constructed element with this tag around these.
-fn enclose(alloc: Global, tag: Tag, parts: Vec<DerElement>) -> Result<DerElement, ConvertError>
-    ensures part { IfOk result (λ p. IsPartAround tag parts.items p) }
+// The constructed element with this tag around these, which begins here, and whose ambiguities are noted.
+fn enclose(
+    alloc: Global,
+    offset: usize,
+    tag: Tag,
+    parts: Vec<DerElement>,
+    ambiguities: &mut Ambiguities,
+) -> Result<DerElement, ConvertError>
+    ensures part { IfOk result (λ p. Encloses tag (set_parts parts.items) p ambiguities.old ambiguities.new) }
     ensures memory { IfErr result (λ e. e ≡ Memory) }
 {
     let mut inner = parts;
-    put_in_order(tag, &mut inner)?;
+    put_in_order(alloc, tag, &mut inner)?;
+    ambiguities.note(offset, tag, &inner);
     let contents = joined(alloc, &inner)?;
     element(alloc, tag, PCBit::Constructed, contents)
 }
@@ -201,7 +215,7 @@ fn convert_contents<'a>(
     }
 }
 
-// Converts a constructed element of another type, and notes its ambiguity.
+// Converts a constructed element of another type, and notes its ambiguities.
 #[cycle(conversion)]
 fn convert_constructed<'a>(
     alloc: Global,
@@ -212,7 +226,7 @@ fn convert_constructed<'a>(
 ) -> Result<(DerElement, &'a [u8]), ConvertError>
     requires mode { cursor.mode ≡ Ber }
     requires level { 1 ≤ cursor.levels }
-    requires other { IsOtherTag tag }
+    requires other { IsOtherConstructed tag }
     requires opens { OpensAt cursor.mode tag Constructed cursor.left.now opened.now.contents opened.now.end }
     ensures part { PartAt cursor.entry.levels cursor.entry.mode cursor.entry.left.now result }
     ensures met { IfOk result (λ r. MeetsAt cursor.entry.levels cursor.entry.mode cursor.entry.left.now r.1.now ambiguities.old ambiguities.new) }
@@ -222,8 +236,7 @@ fn convert_constructed<'a>(
         Ok(taken) => taken,
         Err(error) => return Err(error),
     };
-    ambiguities.note(offset_of(cursor), tag, &parts);
-    match enclose(alloc, tag, parts) {
+    match enclose(alloc, offset_of(cursor), tag, parts, ambiguities) {
         Ok(part) => Ok((part, rest)),
         Err(error) => Err(error),
     }
@@ -246,8 +259,18 @@ fn convert_other<'a>(
     ensures met { IfOk result (λ r. MeetsAt cursor.entry.levels cursor.entry.mode cursor.entry.left.now r.1.now ambiguities.old ambiguities.new) }
 {
     match opened.bit {
-        PCBit::Primitive => convert_primitive(alloc, cursor, tag, opened),
-        PCBit::Constructed => convert_constructed(alloc, cursor, tag, opened, ambiguities),
+        PCBit::Primitive => {
+            if is_constructed_type(tag) {
+                return Err(ConvertError::at(cursor, ASN1ErrorKind::Invalid));
+            }
+            convert_primitive(alloc, cursor, tag, opened)
+        }
+        PCBit::Constructed => {
+            if is_primitive_type(tag) {
+                return Err(ConvertError::at(cursor, ASN1ErrorKind::Invalid));
+            }
+            convert_constructed(alloc, cursor, tag, opened, ambiguities)
+        }
     }
 }
 

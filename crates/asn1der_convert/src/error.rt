@@ -1,5 +1,5 @@
 //! The errors of the conversion.
-ghost use Rattle.std.specs.Prelude.{◌≡◌, ◌↔◌, ◌-◌, length};
+ghost use Rattle.std.specs.Prelude.{◌≡◌, ◌↔◌, ◌-◌, length, None};
 ghost use Rattle.yasna_base.specs.declared.error.ASN1ErrorKind.TheVariants.{OutOfMemory};
 ghost use Rattle.asn1der_convert.specs.declared.error.ConvertError.TheVariants.{Malformed, Memory};
 
@@ -8,15 +8,40 @@ use std::fmt;
 use yasna_base::error::ASN1ErrorKind;
 use yasna_bytes::bytes::cursor::Cursor;
 
+/// What was expected in a string where a segment is malformed (X.690, 8.6.4, 8.7.3 and 8.23).
+#[derive(Clone, Copy, PartialEq, Eq, Debug)]
+pub enum Expected {
+    /// A segment of a string of octets.
+    OctetString,
+    /// A segment of a BIT STRING.
+    BitString,
+    /// No unused bits, since this segment isn't the last.
+    NoUnusedBits,
+}
+
+impl fmt::Display for Expected {
+    fn fmt<W: fmt::Write>(&self, f: &mut fmt::Formatter<W>) -> fmt::Result {
+        match self {
+            Expected::OctetString => f.write_str("expected an OCTET STRING as a segment"),
+            Expected::BitString => f.write_str("expected a BIT STRING as a segment"),
+            Expected::NoUnusedBits => {
+                f.write_str("expected no unused bits in a segment that isn't the last")
+            }
+        }
+    }
+}
+
 /// An error of the conversion.
 #[derive(Clone, Copy, PartialEq, Eq, Debug)]
 pub enum ConvertError {
     /// There is no element in BER at a place.
     Malformed {
-        /// The offset of the place.
+        /// The offset of the place. In a string in segments it is that of the malformed segment.
         offset: usize,
         /// The kind of the error.
         kind: ASN1ErrorKind,
+        /// What was expected of a segment.
+        expected: Option<Expected>,
     },
     /// Memory ran out.
     Memory,
@@ -33,7 +58,7 @@ impl ConvertError {
     /// The error of the element that begins here.
     pub fn at(cursor: Cursor<'_>, kind: ASN1ErrorKind) -> ConvertError
         ensures memory { (result ≡ Memory) ↔ (kind ≡ OutOfMemory) }
-        ensures malformed { (kind ≡ OutOfMemory → ⊥) → result ≡ Malformed (cursor.entry.end - length cursor.entry.left.now) kind }
+        ensures malformed { (kind ≡ OutOfMemory → ⊥) → result ≡ Malformed (cursor.entry.end - length cursor.entry.left.now) kind None }
     {
         if kind == ASN1ErrorKind::OutOfMemory {
             return ConvertError::Memory;
@@ -41,6 +66,7 @@ impl ConvertError {
         ConvertError::Malformed {
             offset: offset_of(cursor),
             kind,
+            expected: None,
         }
     }
 }
@@ -48,8 +74,17 @@ impl ConvertError {
 impl fmt::Display for ConvertError {
     fn fmt<W: fmt::Write>(&self, f: &mut fmt::Formatter<W>) -> fmt::Result {
         match self {
-            ConvertError::Malformed { offset, kind } => write!(f, "offset {offset}: {kind:?}"),
-            ConvertError::Memory => f.write_str("no memory"),
+            ConvertError::Malformed {
+                offset,
+                kind,
+                expected: None,
+            } => write!(f, "offset {offset}: {kind:?}"),
+            ConvertError::Malformed {
+                offset,
+                kind,
+                expected: Some(expected),
+            } => write!(f, "offset {offset}: {kind:?}: {expected}"),
+            ConvertError::Memory => f.write_str("out of memory"),
         }
     }
 }

@@ -5,7 +5,8 @@
 //! | `conversion` | the walk over the elements |
 //! | `contents_class` | how the contents of an element are read, by its tag |
 //! | `der_element` | the elements that are written |
-//! | `set_order` | the order of a SET OF |
+//! | `segments` | the malformed segment of a string |
+//! | `set_order` | the order of a SET or a SET OF |
 //! | `writing` | headers before contents |
 //! | `ambiguity` | where the DER encoding depends on a schema |
 //! | `error` | the errors of the conversion |
@@ -16,5 +17,6 @@ mod contents_class;
 pub mod conversion;
 mod der_element;
 pub mod error;
+mod segments;
 mod set_order;
 mod writing;

@@ -5,11 +5,11 @@ use asn1der_convert::ambiguity::Ambiguity;
 use asn1der_convert::conversion::convert;
 use asn1der_convert::error::ConvertError;
 use std::alloc::Global;
-use yasna::ASN1ErrorKind::{Eof, Extra, Invalid, StackOverflow};
+use yasna::ASN1ErrorKind::{Eof, Invalid, StackOverflow};
 use yasna::{ASN1ErrorKind, ASN1Result};
 
 // Elements in BER, the same in DER, and the first doubts about a string in segments and about an order.
-static CONVERTED: [(&str, &str, [Option<usize>; 2]); 24] = [
+static CONVERTED: [(&str, &str, [Option<usize>; 2]); 21] = [
     // booleans
     ("010101", "0101FF", [None, None]),
     ("010100", "010100", [None, None]),
@@ -49,13 +49,6 @@ static CONVERTED: [(&str, &str, [Option<usize>; 2]); 24] = [
     ("310704016224020400", "31050400040162", [None, None]),
     // elements in doubt
     ("A0800401610000", "A003040161", [Some(0), None]),
-    ("05006102A200", "05006102A200", [Some(2), None]),
-    (
-        "30083106020101010105",
-        "300831060201010101FF",
-        [None, Some(2)],
-    ),
-    ("3180A30081000000", "3104A3008100", [Some(2), Some(0)]),
 ];
 
 fn is_converted(
@@ -90,7 +83,7 @@ fn is_row(
 }
 
 // Malformed elements, and where and how they are.
-static MALFORMED: [(&str, usize, ASN1ErrorKind); 15] = [
+static MALFORMED: [(&str, usize, ASN1ErrorKind); 13] = [
     // cut off
     ("", 0, Eof),
     ("02", 0, Eof),
@@ -107,9 +100,6 @@ static MALFORMED: [(&str, usize, ASN1ErrorKind); 15] = [
     ("01020000", 0, Invalid),
     ("05002103010101", 2, Invalid),
     ("03020801", 0, Invalid),
-    ("2308030201FE030200FF", 0, Extra),
-    // a segment of another type
-    ("2403020105", 0, Extra),
     // a small tag number in the long form
     ("300505001F1E00", 4, Invalid),
 ];
@@ -123,7 +113,7 @@ fn is_malformed(
     let bytes = bytes_of(alloc, text)?;
     match convert(alloc, &bytes) {
         Ok(_) => Ok(malformed.is_none()),
-        Err(ConvertError::Malformed { offset, kind }) => match malformed {
+        Err(ConvertError::Malformed { offset, kind, .. }) => match malformed {
             Some((place, expected)) => Ok(offset == place && is_kind(kind, expected)),
             None => Ok(false),
         },

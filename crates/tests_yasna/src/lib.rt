@@ -9,6 +9,7 @@
 //! | `at_end` | where contents end, and errors of reading callbacks |
 //! | `checks` | none: it holds what many of them check, and how they fail |
 //! | `conversion` | elements in BER turned into DER |
+//! | `converted` | elements that may be something else without a schema, and malformed segments |
 //! | `engine` | the program `yasna_tool` over memory, and over ends that fail |
 //! | `composed` | lists, tuples and borrowed values |
 //! | `exact` | types that keep an element of any type as it came |
@@ -38,6 +39,8 @@ mod checks;
 mod composed;
 #[cfg(test)]
 mod conversion;
+#[cfg(test)]
+mod converted;
 #[cfg(test)]
 mod engine;
 #[cfg(test)]

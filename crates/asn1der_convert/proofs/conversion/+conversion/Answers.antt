@@ -1,4 +1,4 @@
-use Rattle.std.proofs.Common.{refl, ap, subst, sym, ◌∙◌}
+use Rattle.std.proofs.Common.{refl, ap, subst, sym, ◌∙◌, rules, IsTrue}
 use Rattle.yasna_base.specs.Bits.{bits_tag}
 use Rattle.yasna_base.specs.Boolean.{boolean_tag}
 use Rattle.yasna_base.specs.Header.{OpensAt}
@@ -7,7 +7,7 @@ use Rattle.yasna_bytes.specs.Opening.{Opening, end_found}
 use Rattle.asn1der_convert.proofs.Ambiguities.{constructed_meets, kind_meets, primitive_meets, if_ok_any, walked_none, walked_next, walked_end}
 use Rattle.asn1der_convert.specs.declared.contents_class.ContentsClass.TheVariants.{Boolean, Bits, Octets}
 use Rattle.asn1der_convert.proofs.Parts.{constructed_taken, taken_shorter}
-use Rattle.asn1der_convert.proofs.Rejections.{no_constructed_at, no_trees_at, no_identifier, no_end, not_held, begins_of}
+use Rattle.asn1der_convert.proofs.Rejections.{no_constructed_at, no_trees_at, no_identifier, no_end, not_held, begins_of, no_primitive_type, no_constructed_type}
 use Rattle.asn1der_convert.proofs.conversion.+conversion.Goals as goal
 
 pub convert_constructed-returns-in-Ok-enclose-clause-part : goal.convert_constructed-returns-in-Ok-enclose-clause-part
@@ -16,7 +16,7 @@ convert_constructed-returns-in-Ok-enclose-clause-part t c =
     constructed_taken c.args.cursor.levels inside.result.levels c.args.cursor.mode inside.result.mode c.args.tag c.args.cursor.left.now
     c.args.opened.now.contents inside.result.left.now c.in-Ok.taken.1.now c.args.opened.now.end _ c.in-Ok.taken.0.items c.in-Ok-enclose.part c.requires.mode
     inside.ensures.mode c.requires.level inside.ensures.levels inside.ensures.left (ap (λ (o : Opening). o.end) c.opened.view_is) c.requires.other
-    c.requires.opens c.in-Ok.ensures.parts c.in-Ok-enclose.ensures.part
+    c.requires.opens c.in-Ok.ensures.parts c.in-Ok-enclose.ensures.part.part
 
 pub convert_contents-loop-after-smaller : goal.convert_contents-loop-after-smaller
 convert_contents-loop-after-smaller t c =
@@ -40,7 +40,7 @@ convert_constructed-returns-in-Err-clause-part t c = λ known.
     let inside = c.inside-contents in
     no_constructed_at c.args.cursor.levels inside.result.levels c.args.cursor.mode inside.result.mode c.args.tag c.args.cursor.left.now
     c.args.opened.now.contents inside.result.left.now c.args.opened.now.end _ inside.ensures.mode c.requires.level inside.ensures.levels inside.ensures.left
-    (ap (λ (o : Opening). o.end) c.opened.view_is) c.requires.other c.requires.opens (c.in-Err.ensures.parts known)
+    (ap (λ (o : Opening). o.end) c.opened.view_is) c.requires.other.other c.requires.opens (c.in-Err.ensures.parts known)
 
 pub convert_contents-returns-in-Err-clause-parts : goal.convert_contents-returns-in-Err-clause-parts
 convert_contents-returns-in-Err-clause-parts t c = λ known.
@@ -81,10 +81,10 @@ pub convert_constructed-returns-in-Ok-enclose-clause-met : goal.convert_construc
 convert_constructed-returns-in-Ok-enclose-clause-met t c =
     let inside = c.inside-contents in
     constructed_meets c.args.cursor.levels inside.result.levels c.args.cursor.mode inside.result.mode c.args.tag c.args.cursor.left.now
-    c.args.opened.now.contents inside.result.left.now c.in-Ok.taken.1.now c.args.opened.now.end _ c.in-Ok.taken.0.items c.deref.result.now c.args.ambiguities.now
-    c.convert_contents.new.ambiguities c.note.new.self inside.ensures.mode c.requires.level inside.ensures.levels inside.ensures.left
-    (ap (λ (o : Opening). o.end) c.opened.view_is) c.deref.ensures.value c.requires.other c.requires.opens c.in-Ok.ensures.parts c.in-Ok.ensures.met
-    c.note.ensures.segments c.note.ensures.order
+    c.args.opened.now.contents inside.result.left.now c.in-Ok.taken.1.now c.args.opened.now.end _ c.in-Ok.taken.0.items c.in-Ok-enclose.part c.args.ambiguities.now
+    c.convert_contents.new.ambiguities c.enclose.new.ambiguities inside.ensures.mode c.requires.level inside.ensures.levels inside.ensures.left
+    (ap (λ (o : Opening). o.end) c.opened.view_is) c.requires.other c.requires.opens c.in-Ok.ensures.parts c.in-Ok.ensures.met
+    c.in-Ok-enclose.ensures.part
 
 pub convert_contents-loop-after-init : goal.convert_contents-loop-after-init
 convert_contents-loop-after-init t c = record {
@@ -114,9 +114,25 @@ convert_element-returns-in-Octets-clause-met t c =
     if_ok_any c.convert_octets.result _ (λ r. kind_meets c.args.cursor.levels c.args.cursor.mode Octets c.in-Ok.identifier.0 c.args.cursor.left.now r.1.now
     c.args.ambiguities.now (c.in-Octets.ensures {u = tt}) (λ e. cc) (begins c.in-Ok.identifier.1 c.in-Ok.identifier.2.now (c.in-Ok.ensures {u = tt})))
 
-pub convert_other-returns-in-Primitive-clause-met : goal.convert_other-returns-in-Primitive-clause-met
-convert_other-returns-in-Primitive-clause-met t c =
+pub convert_other-returns-else-is_constructed_type-clause-met : goal.convert_other-returns-else-is_constructed_type-clause-met
+convert_other-returns-else-is_constructed_type-clause-met t c =
     if_ok_any c.convert_primitive.result _ (λ r. primitive_meets c.args.cursor.levels c.args.cursor.mode c.args.tag c.args.cursor.left.now
     c.args.opened.now.contents r.1.now c.args.opened.now.end c.args.ambiguities.now
     (subst (λ z. OpensAt c.args.cursor.mode c.args.tag z c.args.cursor.left.now c.args.opened.now.contents c.args.opened.now.end)
     (sym (ap (λ (o : Opening). o.bit) c.opened.view_is) ∙ c.in-Primitive.is) c.requires.opens))
+
+pub convert_other-returns-then-is_constructed_type-clause-part : goal.convert_other-returns-then-is_constructed_type-clause-part
+convert_other-returns-then-is_constructed_type-clause-part t c = λ known.
+    let yes : IsTrue c.is_constructed_type.result = search rules in
+    no_constructed_type c.args.cursor.levels c.args.cursor.mode c.args.tag c.args.cursor.left.now c.args.opened.now.contents c.args.opened.now.end
+    c.requires.other (c.is_constructed_type.ensures.0 yes)
+    (subst (λ z. OpensAt c.args.cursor.mode c.args.tag z c.args.cursor.left.now c.args.opened.now.contents c.args.opened.now.end)
+    (sym (ap (λ (o : Opening). o.bit) c.opened.view_is) ∙ c.in-Primitive.is) c.requires.opens)
+
+pub convert_other-returns-then-is_primitive_type-clause-part : goal.convert_other-returns-then-is_primitive_type-clause-part
+convert_other-returns-then-is_primitive_type-clause-part t c = λ known.
+    let yes : IsTrue c.is_primitive_type.result = search rules in
+    no_primitive_type c.args.cursor.levels c.args.cursor.mode c.args.tag c.args.cursor.left.now c.args.opened.now.contents c.args.opened.now.end
+    c.requires.other (c.is_primitive_type.ensures.0 yes)
+    (subst (λ z. OpensAt c.args.cursor.mode c.args.tag z c.args.cursor.left.now c.args.opened.now.contents c.args.opened.now.end)
+    (sym (ap (λ (o : Opening). o.bit) c.opened.view_is) ∙ c.in-Constructed.is) c.requires.opens)

@@ -63,4 +63,4 @@ returns-clause-ambiguities c =
     (c.in-Ok.ensures.parts, c.in-Ok.ensures.met) in
     let two = subst (λ (m : BERMode). Inside 101 ps rest old new m start.result.left.now (definite_end [])) start.ensures.mode one in
     let three = subst (λ s. Inside 101 ps rest old new Ber s (definite_end [])) start.ensures.left two in
-    are_the_ambiguities c.args.input.now rest ps old new three.0 three.1 c.none-ambiguities.ensures.segments c.none-ambiguities.ensures.order
+    are_the_ambiguities c.args.input.now rest ps old new three.0 three.1 c.none-ambiguities.ensures

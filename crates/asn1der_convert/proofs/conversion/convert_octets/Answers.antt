@@ -10,4 +10,4 @@ returns c =
 pub returns-in-Err : goal.returns-in-Err
 returns-in-Err c = λ known.
     no_string c.args.cursor.levels c.args.cursor.mode c.args.tag c.args.cursor.left.now c.requires.string c.requires.begins
-    ((c.in-Err.ensures {u = tt}).none (λ k. known (c.at.ensures.memory.1 k)))
+    ((c.in-Err.ensures {u = tt}).none (λ k. known (c.string_error.ensures.1 k)))

@@ -3,9 +3,10 @@ use Rattle.std.proofs.lemmas.Cmp.{nat_list_cmp_total}
 use Rattle.std.proofs.lemmas.List.Sorted.{ranks_by, answers_always}
 use Rattle.std.proofs.lemmas.Result.{on_ok_weaker}
 use Rattle.yasna_base.specs.Order.{octets_cmp}
-use Rattle.yasna_base.proofs.Order.{in_order_is, in_order_map}
-use Rattle.asn1der_convert.specs.Parts.{part_bytes}
+use Rattle.yasna_base.proofs.Order.{in_order_is}
+use Rattle.asn1der_convert.specs.Parts.{set_parts}
 use Rattle.asn1der_convert.specs.declared.der_element.DerElement.{DerElement}
+use Rattle.asn1der_convert.proofs.SetOrder.{by_octets_of}
 use Rattle.asn1der_convert.proofs.set_order.sort_parts.Goals as goal
 
 pub returns : goal.returns
@@ -17,7 +18,7 @@ returns c =
     let ranked = answers_always _ _ _ (λ f a r g h. search rules) in
     on_ok_weaker c.sort_by.result
     (λ sorted.
-    ap part_bytes (in_order_is (λ (p q : DerElement). octets_cmp (bytes p) (bytes q)) ranks old new (sorted _ ranks ranked)
+    ap set_parts (in_order_is (λ (p q : DerElement). octets_cmp (bytes p) (bytes q)) ranks old new (sorted _ ranks ranked)
     (c.sort_by.ensures.stable _ ranks ranked)) ∙
-    in_order_map bytes octets_cmp old)
+    by_octets_of (λ (p : DerElement). p.tag) bytes old)
     c.sort_by.ensures.sorted
