@@ -2,6 +2,14 @@
 //!
 //! Each type is a notation itself. `yasna_notation::Encoded` of it has the traits, so `decode_der` reads an `Encoded<Certificate>`.
 //!
+//! What is read has the syntax of the module of RFC 5280. Other rules of that RFC are left to the caller:
+//!
+//! - A value under ANY, as a parameter of an algorithm or an attribute's value, is only framed: its identifier and length are read, and in
+//!   DER those of the elements in it. A NULL with contents passes. What the octets of an extension hold isn't read.
+//! - A certificate may have fields that its version doesn't allow, as extensions in v1. It may have an extension twice, a serial number of
+//!   any sign and size, no issuer, an end before its beginning, a time of either type, and two algorithms that differ. So may a list.
+//! - An arc of 2^64 or more in any object identifier rejects the whole.
+//!
 //! | Module | Holds |
 //! |---|---|
 //! | `time`, `time_part`, `validity` | times, and from when until when a certificate holds |
