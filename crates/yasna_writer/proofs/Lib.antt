@@ -8,9 +8,11 @@ pub mod Headers
 pub mod Identifiers
 pub mod Joins
 pub mod Integers
+pub mod KnownLengths
 pub mod Lengths
 pub mod Padding
 pub mod PartByPart
+pub mod Prepends
 pub mod Primitives
 pub mod Puts
 pub mod RawElements

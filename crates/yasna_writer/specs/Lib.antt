@@ -3,6 +3,7 @@ pub mod SortKey
 pub mod Identifier
 pub mod Put
 pub mod Header
+pub mod Prepend
 pub mod Integer
 pub mod Bmp
 pub mod Segments

@@ -42,7 +42,7 @@ pub(crate) fn push_header(out: &mut Vec<u8>, header: Header, bit: PCBit) -> Resu
 }
 
 // The bytes of the longest header: eleven of an identifier, and nine of a length.
-const LONGEST: usize = 20;
+pub(crate) const LONGEST: usize = 20;
 
 // Appends any header, which is put together on the stack.
 #[tactic(auto, using(crate::proofs::Headers::header_at_most, crate::proofs::Puts::put_last))]
@@ -145,7 +145,13 @@ pub(crate) fn put_header(out: &mut [u8], end: usize, header: Header) -> usize
 
 // Writes any header before a place.
 #[inline(never)]
-fn put_any_header(out: &mut [u8], end: usize, tag: Tag, length: usize, bit: PCBit) -> usize
+pub(crate) fn put_any_header(
+    out: &mut [u8],
+    end: usize,
+    tag: Tag,
+    length: usize,
+    bit: PCBit,
+) -> usize
     requires room { count (header_bytes bit (record { tag = tag; length = length })) ≤ end }
     requires within { end ≤ count out.old }
     ensures put { PutBefore (header_bytes bit (record { tag = tag; length = length })) end out.old out.new result }

@@ -82,7 +82,7 @@ pub(crate) fn leading(tag: Tag, bit: PCBit) -> u8
 }
 
 // The most bytes of a number of 64 bits in base 128.
-const LONGEST_NUMBER: usize = 10;
+pub(crate) const LONGEST_NUMBER: usize = 10;
 
 // The count of bytes of a number in base 128.
 #[tactic(auto, using(crate::proofs::Identifiers::base128_length_small, crate::proofs::Identifiers::base128_length_step, crate::proofs::Identifiers::base128_length_at_most))]
@@ -105,7 +105,7 @@ fn base128_byte(more: bool, number: u64) -> u8
 
 // Writes a number in base 128 before a place, with 128 added to all its digits, or to all but the last.
 #[tactic(auto, using(crate::proofs::Identifiers::base128_digits_small))]
-fn put_base128(out: &mut [u8], end: usize, number: u64, more: bool) -> usize
+pub(crate) fn put_base128(out: &mut [u8], end: usize, number: u64, more: bool) -> usize
     requires room { length (base128_digits more number) ≤ end }
     requires within { end ≤ length out.old }
     ensures put { PutBefore (base128_digits more number) end out.old out.new result }

@@ -26,11 +26,15 @@
 //! | `header` | the header of an element |
 //! | `identifier`, `length` | identifier and length octets |
 //! | `integer` | the fewest bytes of a number |
+//! | `prepend_buffer` | a buffer that grows at its front, into which values are written from their last byte to their first |
+//! | `prepend`, `prepend_strings` | the elements that are prepended to it |
+//! | `encoded_len` | the length of an encoding, without making it |
 #![tactic(auto)]
 
 mod bmp;
 mod buffer;
 mod construct;
+mod encoded_len;
 mod header;
 mod identifier;
 mod integer;
@@ -38,6 +42,9 @@ mod join;
 mod length;
 mod oid;
 mod ordered_part;
+mod prepend;
+mod prepend_buffer;
+mod prepend_strings;
 mod primitive;
 mod raw;
 mod segments;
@@ -53,6 +60,11 @@ mod times;
 pub use construct::{
     construct_cer, construct_der, construct_der_seq, try_construct_der, try_construct_der_seq,
 };
+pub use encoded_len::{
+    bigint_len, bitvec_len, bytes_len, constructed_len, generalized_time_len, i64_len, oid_len,
+    primitive_len, tagged_der_len, text_len, u64_len, utctime_len,
+};
+pub use prepend_buffer::PrependBuffer;
 pub use sequence::DERWriterSeq;
 pub use set::DERWriterSet;
 pub use state::{DERWriter, Writer};

@@ -65,7 +65,7 @@ fn push_numbers(out: &mut Vec<u8>, numbers: &[u64]) -> Result<(), AllocError>
 
 // The count of bytes of these subidentifiers.
 #[inline(always)]
-fn contents_length(first: u64, further: &[u64]) -> usize
+pub(crate) fn contents_length(first: u64, further: &[u64]) -> usize
     ensures { result ≡ length (base128 first ++ flat_map base128 further.now) }
 {
     base128_length(first) + numbers_length(further)
@@ -86,7 +86,7 @@ pub(crate) fn push_subidentifiers(
 
 // The number that the first two components make, and the further components.
 #[inline(always)]
-fn subidentifiers(components: &[u64]) -> (u64, &[u64])
+pub(crate) fn subidentifiers(components: &[u64]) -> (u64, &[u64])
     requires { IsEncodableOid components.now }
     ensures { subidentifiers components.now ≡ result.0 ∷ result.1.now }
 {

@@ -78,6 +78,20 @@ impl Writer {
         }
     }
 
+    // An empty writing in this mode, with this implicit tag.
+    #[inline(always)]
+    pub(crate) fn under(alloc: Global, mode: BERMode, tag: Option<Tag>) -> Writer
+        ensures { result ≡ record (begun mode) { tag = tag } }
+    {
+        Writer {
+            buffer: Buffer::new(alloc),
+            tag,
+            failed: None,
+            alloc,
+            mode,
+        }
+    }
+
     // The mode in which it writes.
     #[inline(always)]
     pub(crate) fn mode(&self) -> BERMode
