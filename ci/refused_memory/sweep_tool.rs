@@ -26,7 +26,7 @@ use std::{env, fs, io};
 const USAGE: &str = "usage: sweep_tool PROGRAM ALLOCATOR FOLDER";
 /// What the program says where it has no memory for a value, and where it has none for its arguments.
 const OUT_OF_MEMORY: &str = "ASN1Error { kind: OutOfMemory }\n";
-const DEVICE: &str = "io\nthe arguments could not be read\n";
+const DEVICE: &str = "io\n";
 
 /// A kind that the program knows, an encoding of such a value in BER, and its encodings in DER and in CER.
 struct Kind {

@@ -14,8 +14,7 @@ const EXTRA: &str = "ASN1Error { kind: Extra }\n";
 
 const INVALID: &str = "ASN1Error { kind: Invalid }\n";
 
-const USAGE: &str =
-    "usage: yasna_tool ber|der|cer KIND\nKIND: pair int bool null octets text oid utime gtime ints\n";
+const USAGE: &str = "usage: yasna_tool ber|der|cer KIND\n";
 
 // The words and the input, the status, the output, and what is written of an error.
 static RUNS: [(&str, u8, &str, &str); 80] = [

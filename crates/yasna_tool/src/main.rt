@@ -6,15 +6,15 @@
 use std::env;
 use std::process::ExitCode;
 use yasna_tool_run::ends::Counted;
-use yasna_tool_run::tool::{self, IoError};
+use yasna_tool_run::tool;
 
 fn main(rt: HostRuntime) -> ExitCode {
     let mut errors = rt.stderr();
     let Ok(all) = env::args(&rt) else {
-        return ExitCode::from(tool::report_io_error(&mut errors, IoError::Arguments));
+        return ExitCode::from(tool::report_io_error(&mut errors));
     };
     let Ok(words) = all.skip(1).collect::<Vec<String>>(rt.alloc()) else {
-        return ExitCode::from(tool::report_io_error(&mut errors, IoError::Arguments));
+        return ExitCode::from(tool::report_io_error(&mut errors));
     };
     let mut reader = Counted::new(rt.stdin());
     let mut writer = Counted::new(rt.stdout());

@@ -14,37 +14,19 @@ use std::alloc::Global;
 use std::io::Write;
 use yasna::{ASN1Error, BERMode};
 
-/// A failure at one of the ends, or of the arguments.
-#[derive(Clone, Copy, PartialEq, Eq, Debug)]
-pub enum IoError {
-    /// The arguments could not be read.
-    Arguments,
-    /// A read failed.
-    Input,
-    /// A write or the flush after it failed.
-    Output,
-}
-
-/// Reports an I/O error, with a second line that says which, and returns its status.
-pub fn report_io_error<E: Write>(errors: &mut E, io_error: IoError) -> u8
+/// Reports that a read or a write failed, or that there are no arguments to read, and returns the status of an I/O error.
+pub fn report_io_error<E: Write>(errors: &mut E) -> u8
     ensures { result ≡ 3 }
 {
-    let text = match io_error {
-        IoError::Arguments => "io\nthe arguments could not be read\n",
-        IoError::Input => "io\nthe input could not be read\n",
-        IoError::Output => "io\nthe output could not be written\n",
-    };
-    let _ = errors.write_all(text.as_bytes());
+    let _ = errors.write_all(b"io\n");
     3
 }
 
-/// Prints the usage, with the types in a second line, and returns the status of a usage error.
+/// Prints the usage, and returns the status of a usage error.
 fn report_usage<E: Write>(errors: &mut E) -> u8
     ensures { result ≡ 2 }
 {
-    let _ = errors.write_all(
-        b"usage: yasna_tool ber|der|cer KIND\nKIND: pair int bool null octets text oid utime gtime ints\n",
-    );
+    let _ = errors.write_all(b"usage: yasna_tool ber|der|cer KIND\n");
     2
 }
 
@@ -109,13 +91,9 @@ pub fn tool<R: Source, W: Sink, E: Write>(
     let Some((mode, kind)) = named(words) else {
         return report_usage(errors);
     };
-    let failures = reader.failures();
     match run_kind(alloc, mode, kind, reader, writer) {
         Ok(()) => 0,
         Err(RunFault::Refused(error)) => report_rejection(errors, error),
-        Err(RunFault::Device) if reader.failures() == failures => {
-            report_io_error(errors, IoError::Output)
-        }
-        Err(RunFault::Device) => report_io_error(errors, IoError::Input),
+        Err(RunFault::Device) => report_io_error(errors),
     }
 }

@@ -14,9 +14,9 @@ use yasna_tool_run::tool::tool;
 /// The encoding of the pair of 10 and TRUE.
 const PAIR: [u8; 8] = [48, 6, 2, 1, 10, 1, 1, 255];
 
-const INPUT: &str = "io\nthe input could not be read\n";
+const INPUT: &str = "io\n";
 
-const OUTPUT: &str = "io\nthe output could not be written\n";
+const OUTPUT: &str = "io\n";
 
 /// Gives at most four bytes a pull, and fails once its pulls are used up.
 #[derive(Drop)]

@@ -21,11 +21,6 @@ returns-in-Err-Device g c =
     clauses_io_error c.report_io_error.ensures (c.in-Some.mode, c.in-Some.kind, c.in-Some.ensures {u = tt})
     (when_io_error _ _ c.in-Err-Device.is c.in-Err-Device.field-0-is c.run_kind.ensures.io_error) c.run_kind.ensures.failed_read
 
-pub returns-in-Err-Device-2 : goal.returns-in-Err-Device-2
-returns-in-Err-Device-2 g c =
-    clauses_io_error c.report_io_error-in-Err-Device-2.ensures (c.in-Some.mode, c.in-Some.kind, c.in-Some.ensures {u = tt})
-    (when_io_error _ _ c.in-Err-Device.is c.in-Err-Device.field-0-is c.run_kind.ensures.io_error) c.run_kind.ensures.failed_read
-
 pub returns-in-Err-Refused-clause-rejected : goal.returns-in-Err-Refused-clause-rejected
 returns-in-Err-Refused-clause-rejected g c =
     λ _. when_rejected _ _ c.in-Err-Refused.is c.in-Err-Refused.field-0-is c.run_kind.ensures.rejected
