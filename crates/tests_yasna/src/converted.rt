@@ -99,11 +99,13 @@ fn is_converted(
         Ok(converted) => {
             let found = &converted.ambiguities;
             let is_certain = segments.is_none() && implicit.is_none() && order.is_none();
-            Ok(converted.bytes.as_slice() == output.as_slice()
-                && found.first(Ambiguity::Segments) == segments
-                && found.first(Ambiguity::ImplicitSetOf) == implicit
-                && found.first(Ambiguity::Order) == order
-                && found.are_any() != is_certain)
+            Ok(
+                converted.bytes.as_slice() == output.as_slice()
+                    && found.first(Ambiguity::Segments) == segments
+                    && found.first(Ambiguity::ImplicitSetOf) == implicit
+                    && found.first(Ambiguity::Order) == order
+                    && found.are_any() != is_certain,
+            )
         }
         Err(_) => Ok(false),
     }
@@ -134,8 +136,18 @@ static MALFORMED: [(&str, usize, ASN1ErrorKind, Option<Expected>); 21] = [
     ("240404056162", 2, Eof, Some(Expected::OctetString)),
     ("2303030108", 2, Invalid, Some(Expected::BitString)),
     // unused bits in a segment that isn't the last
-    ("2308030204F0030200AA", 2, Invalid, Some(Expected::NoUnusedBits)),
-    ("230A2304030204F0030200AA", 2, Invalid, Some(Expected::NoUnusedBits)),
+    (
+        "2308030204F0030200AA",
+        2,
+        Invalid,
+        Some(Expected::NoUnusedBits),
+    ),
+    (
+        "230A2304030204F0030200AA",
+        2,
+        Invalid,
+        Some(Expected::NoUnusedBits),
+    ),
     // a string in one piece
     ("03020801", 0, Invalid, None),
 ];
@@ -150,11 +162,13 @@ fn is_malformed(
 ) -> ASN1Result<bool> {
     let bytes = bytes_of(alloc, text)?;
     match convert(alloc, &bytes) {
-        Err(ConvertError::Malformed {
-            offset,
-            kind,
-            expected,
-        }) => Ok(offset == place && is_kind(kind, error) && expected == wanted),
+        Err(
+            ConvertError::Malformed {
+                offset,
+                kind,
+                expected,
+            },
+        ) => Ok(offset == place && is_kind(kind, error) && expected == wanted),
         Err(ConvertError::Memory) | Ok(_) => Ok(false),
     }
 }
