@@ -2,6 +2,13 @@
 //!
 //! Each type is a notation itself. `yasna_notation::Encoded` of it has the traits, so `decode_der` reads an `Encoded<PrivateKeyInfo>`.
 //!
+//! What is read has the syntax of these RFCs' modules. Other rules of theirs are left to the caller:
+//!
+//! - What the octets of a private key hold isn't read. A value under ANY, as a parameter of an algorithm or an attribute's value, is only
+//!   framed: its identifier and length are read, and in DER those of the elements in it.
+//! - A `OneAsymmetricKey` may have a public key in v1, and none in v2. Attributes may be of any type, and of one type twice.
+//! - An arc of 2^64 or more in any object identifier rejects the whole.
+//!
 //! | Module | Holds |
 //! |---|---|
 //! | `private_key_info` | a private key, of version 1 |

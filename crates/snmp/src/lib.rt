@@ -3,6 +3,9 @@
 //! Each type is a notation of its own. `yasna_notation::Encoded` of it has the traits, `DERCanonical` too: so `decode_ber` reads a
 //! `Encoded<v2c::SnmpMessage>`, and `encode_der` writes it in its one encoding.
 //!
+//! Each version has types of its own, as its RFC has. Those of messages and of variables differ only by a number and a type, but take no
+//! parameters: they are declared as every other type is, and what holds them cites their laws by name.
+//!
 //! | Module | Holds |
 //! |---|---|
 //! | `v1` | messages of SNMPv1 |
