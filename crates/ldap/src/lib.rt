@@ -5,6 +5,10 @@
 //! The protocol accepts only definite lengths of BER, OCTET STRINGs in one piece, and TRUE as 255 (RFC 4511, 5.1). `encode_der` writes
 //! them so, but `decode_ber` reads all of BER.
 //!
+//! The types of the module are extensible (RFC 4511, 4). Numbers that extensions add to `resultCode` and `scope` are read and written.
+//! Unknown components at the end of a SEQUENCE, which that section has a receiver ignore, are rejected until the notation keeps them.
+//! So are further numbers of `derefAliases`, and unknown alternatives of a CHOICE, such as an operation of another tag.
+//!
 //! | Module | Holds |
 //! |---|---|
 //! | `ldap_message`, `protocol_op` | messages, and the operations in them |

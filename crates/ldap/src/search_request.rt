@@ -21,7 +21,7 @@
 ghost use Rattle.std.specs.Prelude.{◌≡◌, pos, refl};
 ghost use Rattle.std.proofs.Common.{arith};
 ghost use Rattle.yasna_notation.specs.Laws.{represented_lawful, element_non_empty};
-ghost use Rattle.yasna_notation.specs.Making.{in_application, in_sequence, in_sequence_of, part, at_most, in_bound, up_to};
+ghost use Rattle.yasna_notation.specs.Making.{in_application, in_sequence, in_sequence_of, part, at_most, in_bound, from_zero, up_to};
 ghost use Rattle.yasna_notation.specs.Notation.{represented_by};
 ghost use Rattle.yasna_notation.specs.Parts.{no_parts};
 ghost use Rattle.yasna_notation.specs.contracts.strings.VecU8Notation.TheImpl.Laws.{lawful-law as octets};
@@ -42,8 +42,8 @@ use crate::filter::Filter;
 use crate::tagged::write_tagged_fields;
 use yasna::{ASN1Result, BERReader, DERWriter, Tag};
 use yasna_notation::{
-    Application, AtMost, Bounded, CanonicalNotation, Enumerated, Implicit, Message, Notation,
-    Represents, Sequence, SequenceOf, UpTo, read_as,
+    Application, AtMost, Bounded, CanonicalNotation, Enumerated, FromZero, Implicit, Message,
+    Notation, Represents, Sequence, SequenceOf, UpTo, read_as,
 };
 
 type MaxInt = Bounded<u64, AtMost<2147483647>>;
@@ -55,7 +55,7 @@ type Limits = (MaxInt, (MaxInt, Ends));
 type Parts = (
     Vec<u8>,
     (
-        Bounded<Enumerated, UpTo<2>>,
+        Bounded<Enumerated, FromZero>,
         (Bounded<Enumerated, UpTo<3>>, Limits),
     ),
 );
@@ -71,7 +71,8 @@ type Notated = Implicit<Application<3>, Sequence<Parts>>;
 pub struct SearchRequest {
     /// The name of the entry where the search begins, in UTF-8.
     pub base_object: Vec<u8>,
-    /// 0 for only that entry, 1 for those directly below it, 2 for it and all below it.
+    /// 0 for only that entry, 1 for those directly below it, 2 for it and all below it. Extensions add further numbers, never negative, such
+    /// as 3 for all below it.
     pub scope: i64,
     /// The aliases that are followed: 0 for none, 1 below that entry, 2 at it, 3 for all.
     pub deref_aliases: i64,
@@ -145,7 +146,7 @@ impl Notation for SearchRequest {
 
     ghost lawful = { λ _. represented_lawful ⟦<SearchRequest as Represents<Fields>>⟧.value_of
         (in_application 3 (omega arith) (in_sequence (part (octets refl).own (part (in_bound
-        (up_to (pos 2)) (enumerated refl)).own (part (in_bound (up_to (pos 3)) (enumerated refl)).own (part (at_most 2147483647 (number refl)).own (part
+        from_zero (enumerated refl)).own (part (in_bound (up_to (pos 3)) (enumerated refl)).own (part (at_most 2147483647 (number refl)).own (part
         (at_most 2147483647 (number refl)).own (part (flag refl).own (part (filter refl).own (part (in_sequence_of (octets refl).own).own no_parts)))))))))) };
 
     ghost non_empty = { λ u m v. element_non_empty _ _ _ _ };
@@ -157,7 +158,7 @@ impl Message for SearchRequest {
 
 impl CanonicalNotation for SearchRequest {
     ghost written = { λ _. represented_written ⟦<SearchRequest as Represents<Fields>>⟧.value_of (under_application 3 (omega arith) (sequence_written
-        (part_written (octets_written refl).own (part_written (bound_written (up_to (pos 2)) (enumerated_written refl)).own (part_written
+        (part_written (octets_written refl).own (part_written (bound_written from_zero (enumerated_written refl)).own (part_written
         (bound_written (up_to (pos 3)) (enumerated_written refl)).own (part_written (at_most_written 2147483647 (number_written refl)).own
         (part_written (at_most_written 2147483647 (number_written refl)).own (part_written (flag_written refl).own (part_written (filter_written
         refl).own (part_written (sequence_of_written (octets_written refl).own).own no_part_written)))))))))) };
