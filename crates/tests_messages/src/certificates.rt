@@ -4,7 +4,7 @@ use crate::checks::{Claim, Fields, Looks, finds_none};
 use crate::kinds::{Kind, Row, first_failing};
 use std::alloc::Global;
 use x509::{Certificate, CertificateList, Signed, read_signed_certificate, read_signed_list};
-use yasna::BERMode::Ber;
+use yasna::BERMode::{Ber, Cer};
 use yasna::{ASN1Error, ASN1ErrorKind, ASN1Result, BERReader, parse_der};
 use yasna_notation::Encoded;
 
@@ -78,10 +78,46 @@ const OLDER: &str =
     0101300a06082a8648ce3d04030203480030450220223b31a996765ce918e9f9f9dffafceab29055f1d2fadc0d56c878afca\
     9a5fec022100a81803f202b500c5c834aaa800b28f39ce5dee989da5d8ce30caf15364b11fc9";
 
-static ROWS: [Row; 15] = [
+// LEAF in CER, where each constructed element has an indefinite length.
+const LEAF_IN_CER: &str =
+    "30803080020105308006082a8648ce3d0403020000308031803080060355040613024e4c0000000031803080060355040a0c\
+    0b4578616d706c65204f7267000000003180308006035504030c114578616d706c6520417574686f72697479000000000000\
+    3080170d3236313132353038303435375a170d3237313132353038303435375a000030803180308006035504030c046c6561\
+    660000000000003080308006032b657000000321006f90df22420d4519c963cdab5980f30545cd52e22df4af153c57187f92\
+    8326f700000000308006082a8648ce3d0403020000034700304402204bdb17a817dcca992ac9cdda5ea9d0a48280bb4d1d25\
+    76f31e3f7656ad3ae60602206f4b99d6c1a1cccacbe282e0167f6f00525aea00ae45bc7ab0b74852d15acff10000";
+
+// A certificate that breaks rules of RFC 5280 other than those of its module. It has no version but extensions, one of them twice, and a
+// unique identifier. Its serial number is negative and has 21 octets. Nobody issued it, its end is before its beginning, and its two
+// algorithms differ. The NULL that is the parameter of one of them has contents.
+const UNRULY: &str =
+    "3076306a0215800000000000000000000000000000000000000000300806032b65700501003000301e170d32373132333132\
+    33353935395a170d3236303130313030303030305a3000300a300506032b6570030100810100a314301230070603551d1304\
+    0030070603551d130400300506032b6571030100";
+
+static ROWS: [Row; 19] = [
     (Kind::Certificate, Claim::IsEncoding, "AUTHORITY", AUTHORITY),
     (Kind::Certificate, Claim::IsEncoding, "LEAF", LEAF),
     (Kind::Certificate, Claim::IsEncoding, "UNIQUE", UNIQUE),
+    (Kind::Certificate, Claim::IsEncoding, "UNRULY", UNRULY),
+    (
+        Kind::Certificate,
+        Claim::IsCerEncoding,
+        "LEAF_IN_CER",
+        LEAF_IN_CER,
+    ),
+    (
+        Kind::Certificate,
+        Claim::IsNoEncoding,
+        "LEAF_IN_CER is none of DER",
+        LEAF_IN_CER,
+    ),
+    (
+        Kind::Certificate,
+        Claim::IsRejected(Cer),
+        "LEAF is none of CER",
+        LEAF,
+    ),
     // a default that is written out is none of DER, and BER takes it
     (
         Kind::Certificate,
@@ -208,7 +244,7 @@ fn part_of_certificate<'a>(reader: BERReader<'a, '_>) -> ASN1Result<&'a [u8]> {
     }
 }
 
-// The same of a list.
+// What is signed of a revocation list.
 fn part_of_list<'a>(reader: BERReader<'a, '_>) -> ASN1Result<&'a [u8]> {
     match read_signed_list(reader) {
         Ok(signed) => Ok(part_of(signed)),

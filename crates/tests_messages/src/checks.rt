@@ -4,8 +4,8 @@ use std::alloc::Global;
 use std::process::Abort;
 use yasna::{
     ASN1Error, ASN1ErrorKind, ASN1Result, BERDecodable, BERMode, DERCanonical, DEREncodable,
-    DERExact, decode_ber, decode_ber_general, decode_der, encode_der, one_der_encoding,
-    one_encoding,
+    DERExact, decode_ber, decode_ber_general, decode_cer, decode_der, encode_cer, encode_der,
+    one_der_encoding, one_encoding,
 };
 
 /// What is so of a row's bytes.
@@ -13,6 +13,8 @@ use yasna::{
 pub enum Claim {
     /// They are the DER encoding of a value, and come back.
     IsEncoding,
+    /// They are the CER encoding of a value, and come back.
+    IsCerEncoding,
     /// DER rejects them.
     IsNoEncoding,
     /// These rules reject them.
@@ -32,7 +34,7 @@ pub enum Claim {
 pub enum Fields {
     /// Those that the type's other rows don't speak of.
     All,
-    /// The version, where it is the first one.
+    /// The version, where it is the first one; of signed contents, also that no one signed them.
     FirstVersion,
     /// The issuer's number.
     IssuerId,
@@ -71,7 +73,8 @@ fn digit(character: u8) -> Option<u8> {
     }
 }
 
-fn gives(outcome: ASN1Result<Vec<u8>>, bytes: &[u8]) -> bool {
+/// Whether the outcome is these bytes.
+pub fn gives(outcome: ASN1Result<Vec<u8>>, bytes: &[u8]) -> bool {
     match outcome {
         Ok(found) => found.as_slice() == bytes,
         Err(_) => false,
@@ -85,6 +88,15 @@ fn rewritten<T: BERDecodable + DEREncodable + DERExact>(
     one_der_encoding::<T>();
     let value: T = decode_der(alloc, bytes)?;
     encode_der(alloc, &value)
+}
+
+fn rewritten_in_cer<T: BERDecodable + DEREncodable + DERExact>(
+    alloc: Global,
+    bytes: &[u8],
+) -> ASN1Result<Vec<u8>> {
+    one_der_encoding::<T>();
+    let value: T = decode_cer(alloc, bytes)?;
+    encode_cer(alloc, &value)
 }
 
 fn rejects<T: Drop>(outcome: ASN1Result<T>) -> bool {
@@ -102,6 +114,7 @@ pub fn holds<T: BERDecodable + DEREncodable + DERExact>(
 ) -> bool {
     match claim {
         Claim::IsEncoding => gives(rewritten::<T>(alloc, bytes), bytes),
+        Claim::IsCerEncoding => gives(rewritten_in_cer::<T>(alloc, bytes), bytes),
         Claim::IsNoEncoding => decode_der::<T>(alloc, bytes).is_err(),
         Claim::IsRejected(mode) => decode_ber_general::<T>(alloc, bytes, mode).is_err(),
         Claim::IsInvalid => rejects(decode_ber::<T>(alloc, bytes)),

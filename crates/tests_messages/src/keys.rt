@@ -1,11 +1,14 @@
 //! Private keys (RFC 5208 and RFC 5958), and contents that are signed or enveloped (RFC 5652).
 
-use crate::checks::{Claim, Fields, Looks, finds_none};
+use crate::checks::{Claim, Fields, Looks, bytes_of, finds_none, gives};
 use crate::kinds::{Kind, Row, first_failing};
-use cms::{ContentInfo, EnvelopedData, SignedData};
+use cms::{ContentInfo, EncapsulatedContentInfo, EnvelopedData, SignedData, decode_content};
 use pkcs8::OneAsymmetricKey;
-use yasna::BERMode::{Ber, Der};
+use std::alloc::Global;
+use yasna::BERMode::Ber;
+use yasna::models::TaggedDerValue;
 use yasna::tags::TAG_SEQUENCE;
+use yasna::{ASN1Result, BERDecodable, decode_ber, encode_der};
 use yasna_notation::Encoded;
 
 // `openssl genpkey -algorithm ED25519 -outform DER`.
@@ -52,8 +55,33 @@ const STREAMED: &str =
     d9509c246f649e5063e3efccdadbb11fad5f76f4fb52486bd4f602203e573c6c16b26b172e4432cc1dbaf67b1b92003c7955\
     be7c22257c7b79e3b99f000000000000";
 
+// `openssl cms -encrypt -stream -aes-128-cbc -binary -outform DER`, for who has a key with the identifier 1.
+const STREAMED_ENVELOPE: &str =
+    "308006092a864886f70d010703a08030800201023131a22f0201043003040101300b06096086480165030401050418c1e0f0\
+    a0eb31e88533c979331da6366f156fb4d152208aa2308006092a864886f70d010701301d0609608648016503040102041089\
+    7adacaaa290c014a4f4c24cc628195a08004108d273d2a3825dabf1a95179cb62251bd00000000000000000000";
+
+// A SignedData of version 0 that no one signed, with no content.
+const UNSIGNED: &str = "302306092a864886f70d010702a01630140201003100300b06092a864886f70d0107013100";
+
+// UNSIGNED in CER, where each constructed element has an indefinite length.
+const UNSIGNED_IN_CER: &str =
+    "308006092a864886f70d010702a080308002010031800000308006092a864886f70d010701000031800000000000000000";
+
+// WITH_PUBLIC_KEY with the number of the older version, which has no public key in RFC 5958.
+const OLDER_WITH_PUBLIC_KEY: &str =
+    "3072020100300506032b657004220420d4ee72dbf913584ad5b6d8f1f769f8ad3afe7c28cbf1d4fbe097a88f44755842a01f\
+    301d060a2a864886f70d01090914310f0c0d437572646c652043686169727381210019bf44096984cdfe8541bac167dc3b96\
+    c85086aa30b6b6cb0c5c38ad703166e1";
+
+// WITH_PUBLIC_KEY in CER.
+const WITH_PUBLIC_KEY_IN_CER: &str =
+    "3080020101308006032b6570000004220420d4ee72dbf913584ad5b6d8f1f769f8ad3afe7c28cbf1d4fbe097a88f44755842\
+    a0803080060a2a864886f70d0109091431800c0d437572646c652043686169727300000000000081210019bf44096984cdfe\
+    8541bac167dc3b96c85086aa30b6b6cb0c5c38ad703166e10000";
+
 // A key with its public key is none of the older type; where contents were streamed, BER alone reads them.
-static ROWS: [Row; 15] = [
+static ROWS: [Row; 25] = [
     (
         Kind::PrivateKeyInfo,
         Claim::IsEncoding,
@@ -112,10 +140,28 @@ static ROWS: [Row; 15] = [
         VERSION_3,
     ),
     (
-        Kind::SignedData,
-        Claim::Says(Der, Fields::All),
+        Kind::SignedContent,
+        Claim::Says(Ber, Fields::All),
         "what SIGNED says",
         SIGNED,
+    ),
+    (
+        Kind::SignedContent,
+        Claim::Says(Ber, Fields::All),
+        "what is signed in STREAMED",
+        STREAMED,
+    ),
+    (
+        Kind::SignedContent,
+        Claim::Says(Ber, Fields::FirstVersion),
+        "what UNSIGNED says",
+        UNSIGNED,
+    ),
+    (
+        Kind::SignedContent,
+        Claim::IsRejected(Ber),
+        "STREAMED_ENVELOPE isn't signed",
+        STREAMED_ENVELOPE,
     ),
     (
         Kind::ContentInfo,
@@ -124,10 +170,53 @@ static ROWS: [Row; 15] = [
         STREAMED,
     ),
     (
-        Kind::EnvelopedData,
-        Claim::Says(Der, Fields::All),
+        Kind::EnvelopedContent,
+        Claim::Says(Ber, Fields::All),
         "what ENVELOPED says",
         ENVELOPED,
+    ),
+    (
+        Kind::EnvelopedContent,
+        Claim::Says(Ber, Fields::All),
+        "what is encrypted in STREAMED_ENVELOPE",
+        STREAMED_ENVELOPE,
+    ),
+    (
+        Kind::ContentInfo,
+        Claim::IsCerEncoding,
+        "UNSIGNED_IN_CER",
+        UNSIGNED_IN_CER,
+    ),
+    (
+        Kind::OneAsymmetricKey,
+        Claim::IsEncoding,
+        "OLDER_WITH_PUBLIC_KEY",
+        OLDER_WITH_PUBLIC_KEY,
+    ),
+    (
+        Kind::OneAsymmetricKey,
+        Claim::IsCerEncoding,
+        "WITH_PUBLIC_KEY_IN_CER",
+        WITH_PUBLIC_KEY_IN_CER,
+    ),
+    // the two zeros that ended it end what is written of it
+    (
+        Kind::Raw,
+        Claim::Becomes("30080201050101ff0000"),
+        "an element of indefinite length, kept as it came",
+        "30800201050101ff0000",
+    ),
+    (
+        Kind::Pairs,
+        Claim::Says(Ber, Fields::All),
+        "an element of indefinite length is a SEQUENCE",
+        "30800201050101ff0000",
+    ),
+    (
+        Kind::Pairs,
+        Claim::IsRejected(Ber),
+        "what is written of it is none",
+        "30080201050101ff0000",
     ),
 ];
 
@@ -142,8 +231,23 @@ impl Looks for Encoded<OneAsymmetricKey> {
 }
 
 impl Looks for Encoded<SignedData> {
-    fn has(&self, _fields: Fields) -> bool {
-        self.value.version == 3 && self.value.signer_infos.len() == 1
+    // Whether it is a greeting that one has signed, or of the first version and signed by no one.
+    fn has(&self, fields: Fields) -> bool {
+        match fields {
+            Fields::FirstVersion => self.value.version == 0 && self.value.signer_infos.is_empty(),
+            _ => {
+                self.value.version == 3
+                    && self.value.signer_infos.len() == 1
+                    && greets(&self.value.encap_content_info)
+            }
+        }
+    }
+}
+
+fn greets(signed: &EncapsulatedContentInfo) -> bool {
+    match &signed.e_content {
+        Some(octets) => octets.as_slice() == b"Hello, world.\n".as_slice(),
+        None => false,
     }
 }
 
@@ -156,6 +260,43 @@ impl Looks for Encoded<ContentInfo> {
 impl Looks for Encoded<EnvelopedData> {
     fn has(&self, _fields: Fields) -> bool {
         self.value.recipient_infos.len() == 1
+            && self
+                .value
+                .encrypted_content_info
+                .encrypted_content
+                .is_some()
+    }
+}
+
+fn content<T: BERDecodable>(alloc: Global, bytes: &[u8]) -> ASN1Result<T> {
+    let message: Encoded<ContentInfo> = decode_ber(alloc, bytes)?;
+    decode_content(alloc, &message.value)
+}
+
+/// Whether the claim is so of what a ContentInfo of these bytes contains, as BER reads both.
+pub fn is_content<T: BERDecodable + Looks>(alloc: Global, bytes: &[u8], claim: Claim) -> bool {
+    match content::<T>(alloc, bytes) {
+        Ok(value) => match claim {
+            Claim::Says(_, fields) => value.has(fields),
+            _ => false,
+        },
+        Err(_) => matches!(claim, Claim::IsRejected(_)),
+    }
+}
+
+fn rewritten_raw(alloc: Global, bytes: &[u8]) -> ASN1Result<Vec<u8>> {
+    let element: TaggedDerValue = decode_ber(alloc, bytes)?;
+    encode_der(alloc, &element)
+}
+
+/// Whether the claim is so of an element that BER reads, and DER writes as it came.
+pub fn is_raw(alloc: Global, bytes: &[u8], claim: Claim) -> bool {
+    match claim {
+        Claim::Becomes(text) => match bytes_of(alloc, text) {
+            Ok(written) => gives(rewritten_raw(alloc, bytes), &written),
+            Err(_) => false,
+        },
+        _ => false,
     }
 }
 

@@ -2,6 +2,7 @@
 
 use crate::certificates::is_signed;
 use crate::checks::{Claim, becomes, bytes_of, holds, holds_or_says};
+use crate::keys::{is_content, is_raw};
 use crate::messages::{Part, is_part};
 use crate::parts::is_in_a_sequence;
 use cms::{ContentInfo, EnvelopedData, SignedData};
@@ -24,10 +25,16 @@ pub enum Kind {
     PrivateKeyInfo,
     OneAsymmetricKey,
     ContentInfo,
-    /// The content that a ContentInfo has.
+    /// The SignedData that ends a ContentInfo.
     SignedData,
-    /// The same of another.
+    /// The EnvelopedData that ends a ContentInfo.
     EnvelopedData,
+    /// The SignedData that `decode_content` reads from a ContentInfo.
+    SignedContent,
+    /// The EnvelopedData that `decode_content` reads from a ContentInfo.
+    EnvelopedContent,
+    /// An element that is kept as it came.
+    Raw,
     LdapMessage,
     SnmpV1,
     SnmpV2c,
@@ -54,10 +61,11 @@ fn is_so(alloc: Global, kind: Kind, bytes: &[u8], claim: Claim) -> bool {
         Kind::PrivateKeyInfo => holds::<Encoded<PrivateKeyInfo>>(alloc, bytes, claim),
         Kind::OneAsymmetricKey => holds_or_says::<Encoded<OneAsymmetricKey>>(alloc, bytes, claim),
         Kind::ContentInfo => holds_or_says::<Encoded<ContentInfo>>(alloc, bytes, claim),
-        Kind::SignedData => holds_or_says::<Encoded<SignedData>>(alloc, content_of(bytes), claim),
-        Kind::EnvelopedData => {
-            holds_or_says::<Encoded<EnvelopedData>>(alloc, content_of(bytes), claim)
-        }
+        Kind::SignedData => holds::<Encoded<SignedData>>(alloc, content_of(bytes), claim),
+        Kind::EnvelopedData => holds::<Encoded<EnvelopedData>>(alloc, content_of(bytes), claim),
+        Kind::SignedContent => is_content::<Encoded<SignedData>>(alloc, bytes, claim),
+        Kind::EnvelopedContent => is_content::<Encoded<EnvelopedData>>(alloc, bytes, claim),
+        Kind::Raw => is_raw(alloc, bytes, claim),
         Kind::LdapMessage => match claim {
             Claim::Becomes(encoding) => becomes::<Encoded<LdapMessage>>(alloc, bytes, encoding),
             _ => holds_or_says::<Encoded<LdapMessage>>(alloc, bytes, claim),

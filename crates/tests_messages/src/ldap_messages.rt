@@ -6,7 +6,7 @@ use ldap::{Filter, FilterItem, LdapMessage, ProtocolOp};
 use yasna::BERMode::Ber;
 use yasna_notation::Encoded;
 
-static ROWS: [Row; 51] = [
+static ROWS: [Row; 53] = [
     // messages in DER
     (
         Kind::LdapMessage,
@@ -153,6 +153,12 @@ static ROWS: [Row; 51] = [
          35a233a231a22fa22da22ba229a227a225a223a221a21fa21da21ba219a217a215a213a211a20fa20d870b6f\
          626a656374436c6173733000",
     ),
+    (
+        Kind::LdapMessage,
+        Claim::IsEncoding,
+        "search request, scope 3, as `ldapsearch -s children -b dc=a` sends it",
+        "30290201026324040464633d610a01030a0100020100020100010100870b6f626a656374636c6173733000",
+    ),
     // no messages in any encoding rules
     (
         Kind::LdapMessage,
@@ -242,8 +248,14 @@ static ROWS: [Row; 51] = [
     (
         Kind::LdapMessage,
         Claim::IsRejected(Ber),
-        "search request, scope 3",
-        "30290201026324040464633d610a01030a0100020100020100010100870b6f626a656374436c6173733000",
+        "search request, scope -1",
+        "30290201026324040464633d610a01ff0a0100020100020100010100870b6f626a656374436c6173733000",
+    ),
+    (
+        Kind::LdapMessage,
+        Claim::IsRejected(Ber),
+        "unbind request with an unknown component after it",
+        "30070201034200a100",
     ),
     (
         Kind::LdapMessage,
@@ -274,7 +286,7 @@ static ROWS: [Row; 51] = [
     (
         Kind::LdapMessage,
         Claim::IsEncoding,
-        "the form of: unbind request, indefinite length",
+        "DER encoding of: unbind request, indefinite length",
         "30050201034200",
     ),
     (
@@ -286,7 +298,7 @@ static ROWS: [Row; 51] = [
     (
         Kind::LdapMessage,
         Claim::IsEncoding,
-        "the form of: criticality FALSE written out",
+        "DER encoding of: criticality FALSE written out",
         "301702010265070a010004000400a00930070405312e322e33",
     ),
     (
@@ -298,7 +310,7 @@ static ROWS: [Row; 51] = [
     (
         Kind::LdapMessage,
         Claim::IsEncoding,
-        "the form of: values in another order",
+        "DER encoding of: values in another order",
         "301b02010264160404636e3d61300e300c0402636e3106040161040162",
     ),
     (
@@ -314,7 +326,7 @@ static ROWS: [Row; 51] = [
     (
         Kind::LdapMessage,
         Claim::IsEncoding,
-        "the form of: filters in another order",
+        "DER encoding of: filters in another order",
         "3034020102632f040464633d610a01020a0100020100020100010100a016870b6f626a656374436c6173\
          73a3070402636e0401783000",
     ),
@@ -327,7 +339,7 @@ static ROWS: [Row; 51] = [
     (
         Kind::LdapMessage,
         Claim::IsEncoding,
-        "the form of: dnAttributes FALSE written out",
+        "DER encoding of: dnAttributes FALSE written out",
         "3021020102631c040464633d610a01020a0100020100020100010100a9038301763000",
     ),
     // what a search asks

@@ -5,6 +5,7 @@ use crate::kinds::{Kind, Row, first_failing};
 use snmp::{ApplicationSyntax, SimpleSyntax};
 use std::alloc::Global;
 use x509::{AlgorithmIdentifier, Attribute, Extensions, Name, SubjectPublicKeyInfo, Validity};
+use yasna::BERMode::Ber;
 use yasna_notation::Encoded;
 
 /// A part of a message.
@@ -20,12 +21,24 @@ pub enum Part {
     Application,
 }
 
-static ROWS: [Row; 18] = [
+static ROWS: [Row; 20] = [
     (
         Kind::Part(Part::Algorithm),
         Claim::IsEncoding,
         "an algorithm with NULL",
         "300d06092a864886f70d0101010500",
+    ),
+    (
+        Kind::Part(Part::Algorithm),
+        Claim::IsEncoding,
+        "an algorithm whose last arc is 2^64 - 1",
+        "300d060b2a81ffffffffffffffff7f",
+    ),
+    (
+        Kind::Part(Part::Algorithm),
+        Claim::IsRejected(Ber),
+        "an algorithm whose last arc is 2^64",
+        "300d060b2a82808080808080808000",
     ),
     (
         Kind::Part(Part::PublicKey),

@@ -25,7 +25,7 @@ const RESPONSE: &str =
 const BULK: &str =
     "302602010104067075626c6963a5190201ff02010002010a300e300c06082b060102010101000500";
 
-// The same question as GET, of SNMPv2c, in BER: of an indefinite length, and a length that is not the shortest.
+// GET with the version of SNMPv2c, in BER: of an indefinite length, and a length that is not the shortest.
 const LONG: &str =
     "308002010104067075626c6963a08119020101020100020100300e300c06082b0601020101010005000000";
 
@@ -62,17 +62,12 @@ static ROWS: [Row; 11] = [
         "what RESPONSE says",
         RESPONSE,
     ),
-    (
-        Kind::SnmpV2c,
-        Claim::Becomes(SHORTEST),
-        "the form of LONG",
-        LONG,
-    ),
+    (Kind::SnmpV2c, Claim::Becomes(SHORTEST), "LONG in DER", LONG),
     (Kind::SnmpV2c, Claim::IsEncoding, "SHORTEST", SHORTEST),
     (
         Kind::SnmpV2c,
         Claim::IsRejected(Der),
-        "LONG is no form",
+        "LONG is no DER encoding",
         LONG,
     ),
 ];
