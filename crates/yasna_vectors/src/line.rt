@@ -26,7 +26,7 @@ pub struct Case<'a> {
     /// The second call in a SEQUENCE, after a `/`.
     pub second: Option<&'a str>,
     pub arg: &'a str,
-    /// Whether the result says if a rejected read moved.
+    /// Whether the result says if a rejected read consumed something.
     pub marked: bool,
 }
 
@@ -125,7 +125,7 @@ impl<'a> Line<'a> {
     /// The line `MODE CALL ARG => ANSWER`.
     pub fn parse(text: &'a str) -> Option<Line<'a>> {
         let (call, expected) = text.split_once(" => ")?;
-        let marked = expected.ends_with("moved");
+        let marked = expected.ends_with("consumed");
         let case = Case::parse(call, marked)?;
         Some(Line { case, expected })
     }

@@ -3,7 +3,7 @@
 //! A line is `MODE CALL ARG => ANSWER`. MODE is `ber`, `der` or `cer` where bytes are read, `x` elsewhere. ARG is the bytes in
 //! hexadecimal, `-` for none, unless the call says otherwise; `3080*200+00` is 200 times the bytes 3080, and a byte 00 after.
 //! ANSWER is `ok VALUE HEX`, where HEX is what the matching writes make of the value in DER, or `err KIND`. After a rejected
-//! read may be ` moved` or ` unmoved`: then the call is made twice in a SEQUENCE around ARG, in CER in none, and says
+//! read may be ` consumed` or ` unconsumed`: then the call is made twice in a SEQUENCE around ARG, in CER in none, and says
 //! whether the error is sticky. ANSWER may say how often a text is in it too: `ok h+5b*3+ 0403+5b*3` is `ok h5b5b5b 04035b5b5b`.
 //! Lines that begin with `#` and blank lines are passed over.
 //!

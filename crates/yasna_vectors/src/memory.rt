@@ -41,7 +41,7 @@ pub fn run_lines(alloc: Global, lines: &str) -> Result<Report, AllocError> {
     report(tally)
 }
 
-// Runs a line, and notes what it returned. Whether an error moved isn't asked, as that takes further calls.
+// Runs a line, and notes what it returned. Whether an error consumed something isn't asked, as that takes further calls.
 fn run_line(alloc: Global, line: &Line, tally: &mut Tally) -> Result<(), AllocError> {
     tally.lines = tally.lines.saturating_add(1);
     let case = Case {
@@ -68,11 +68,11 @@ fn run_line(alloc: Global, line: &Line, tally: &mut Tally) -> Result<(), AllocEr
     }
 }
 
-// An answer without what it says of a move.
+// A result without what it says of consumed bytes.
 fn unmarked(outcome: &str) -> &str {
-    match outcome.strip_suffix(" moved") {
+    match outcome.strip_suffix(" consumed") {
         Some(unmarked) => unmarked,
-        None => outcome.strip_suffix(" unmoved").unwrap_or(outcome),
+        None => outcome.strip_suffix(" unconsumed").unwrap_or(outcome),
     }
 }
 

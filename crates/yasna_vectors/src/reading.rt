@@ -139,8 +139,8 @@ impl Both {
 }
 
 impl Kinds {
-    // Whether an error is kept: moved, if the second call and the parse around both answer it too; unmoved, if another call
-    // takes what is there, or the same one is rejected again and the parse is not.
+    // Whether an error is sticky. It consumed something if the second call and the parse around both return it too. It consumed
+    // nothing if another call takes what is there, or if this one is rejected again and the parse is not.
     fn mark(
         self,
         parsed: Option<ASN1ErrorKind>,
@@ -151,11 +151,11 @@ impl Kinds {
             return " refused otherwise";
         }
         match (self.second, parsed) {
-            (Some(second), Some(whole)) if second == kind && whole == kind => " moved",
-            (None, None) => " unmoved",
+            (Some(second), Some(whole)) if second == kind && whole == kind => " consumed",
+            (None, None) => " unconsumed",
             (Some(second), None | Some(ASN1ErrorKind::Extra)) if second == kind && !differs =>
-                " unmoved",
-            _ => " neither moved nor unmoved",
+                " unconsumed",
+            _ => " neither consumed nor unconsumed",
         }
     }
 }
