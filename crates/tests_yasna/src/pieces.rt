@@ -7,7 +7,7 @@ use yasna::{ASN1Error, ASN1ErrorKind, ASN1Result, BERMode};
 /// The end of a row.
 #[derive(Clone, Copy)]
 pub enum Outcome {
-    /// The same bytes are written.
+    /// The bytes that were read are written.
     Same,
     /// These are written.
     Written(&'static str),

@@ -24,11 +24,11 @@ enum Reading {
     PastFlag,
     /// A number that may be omitted, of which nothing is read.
     Unread,
-    /// The same, of which a flag is read.
+    /// A number that may be omitted, of which a flag is read.
     Another,
-    /// The same, for which the callback has no memory.
+    /// A number that may be omitted, for which the callback has no memory.
     WithoutMemory,
-    /// The same, and no callback looks at that.
+    /// A number that may be omitted, for which the callback has no memory, and no callback looks at that.
     PastWithoutMemory,
 }
 

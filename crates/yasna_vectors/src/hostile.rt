@@ -221,7 +221,7 @@ fn identifier_digits(text: &str) -> usize {
     digits
 }
 
-// The same case of another call, on other bytes.
+// A case like this one, of another call and on other bytes.
 fn with<'a>(case: &Case, call: &'a str, bytes: &'a str) -> Case<'a> {
     Case {
         mode: case.mode,

@@ -78,7 +78,7 @@ impl ElementType {
         })
     }
 
-    // The same of one that isn't a number as Rust has it or a BOOLEAN.
+    // Reads an element that isn't a number as Rust has it or a BOOLEAN.
     fn read_other(self, reader: BERReader) -> ASN1Result<Leaf> {
         Ok(match self {
             ElementType::BigInteger => {
@@ -100,7 +100,7 @@ impl ElementType {
         })
     }
 
-    // The same of one that takes several reads, or none.
+    // Reads an element that takes several reads, or none.
     fn read_composed(self, reader: BERReader) -> ASN1Result<Leaf> {
         Ok(match self {
             ElementType::Null => return read_null(reader),
@@ -162,7 +162,7 @@ impl ElementType {
         }))
     }
 
-    // The same where no memory is asked for.
+    // The value of a text for which no memory is asked for.
     fn small(self, text: &str) -> Option<Leaf> {
         match self {
             ElementType::Bool => Some(Leaf::Bool(text.parse().ok()?)),
@@ -184,7 +184,7 @@ impl ElementType {
         }
     }
 
-    // The same of a number.
+    // The number that a text spells.
     fn number(self, text: &str) -> Result<Leaf, ParseIntError> {
         Ok(match self {
             ElementType::Enum => Leaf::Enum(text.parse()?),

@@ -80,7 +80,7 @@ impl Leaf {
         }
     }
 
-    // The same of one that isn't a number as Rust has it, a BOOLEAN or NULL.
+    // Appends a value that isn't a number as Rust has it, a BOOLEAN or NULL.
     fn show_other(&self, text: &mut Text) {
         match self {
             Leaf::BigInteger(contents, positive) => {
@@ -126,7 +126,7 @@ impl Leaf {
         }
     }
 
-    // The same of one that isn't a number as Rust has it, a BOOLEAN or NULL.
+    // Writes a value that isn't a number as Rust has it, a BOOLEAN or NULL.
     fn write_other(&self, writer: DERWriter<'_>) -> ASN1Result<()> {
         match self {
             Leaf::BigInteger(contents, positive) => writer.write_bigint_bytes(contents, *positive),

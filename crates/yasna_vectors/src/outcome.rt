@@ -26,7 +26,7 @@ pub fn outcome(alloc: Global, case: &Case) -> Option<Result<String, AllocError>>
     Some(text.finish())
 }
 
-/// The same; `unknown` where there is no such call.
+/// What a case returns, `unknown` where there is no such call.
 pub fn outcome_or_unknown(alloc: Global, case: &Case) -> Result<String, AllocError> {
     match outcome(alloc, case) {
         Some(came) => came,

@@ -134,7 +134,7 @@ impl Part {
         Part::new(Frame::Unwritten, leaf)
     }
 
-    /// The same value under an explicit tag.
+    /// The part's value under an explicit tag.
     pub fn under_explicit(self, tag: Tag) -> Part {
         Part::explicit(tag, self.leaf)
     }
@@ -144,7 +144,7 @@ impl Part {
         Part::unwritten(Leaf::Absent)
     }
 
-    /// The same part, with the bytes that it took.
+    /// The part, with the bytes that it was read from.
     pub fn with_taken(self, taken: Vec<u8>) -> Part {
         Part {
             frame: self.frame,

@@ -34,11 +34,11 @@ pub enum Body {
     SetOf(Piece),
     /// read_sequence_of an INTEGER; the sum, wrapping, is shown, and written as it is.
     SequenceSum,
-    /// The same by read_set_of.
+    /// read_set_of an INTEGER; the sum, wrapping, is shown, and written as it is.
     SetSum,
     /// read_sequence_of whose callback returns Ok unread.
     SequenceIdle,
-    /// The same by read_set_of.
+    /// read_set_of whose callback returns Ok unread.
     SetIdle,
     /// An element of many types, as deep as it is.
     Tree,
@@ -187,7 +187,7 @@ fn read_sequence(alloc: Global, steps: &'static [Step], reader: BERReader) -> AS
     Ok(Element::group(Group::Sequence, parts))
 }
 
-// The same under an implicit tag.
+// Reads these steps in a SEQUENCE under an implicit tag.
 fn read_implicit_sequence(
     alloc: Global,
     steps: &'static [Step],

@@ -130,7 +130,7 @@ impl Type {
         }
     }
 
-    // The same where it is made of others.
+    // What decoding a type that is made of others returns.
     fn composed(self, alloc: Global, mode: BERMode, bytes: &[u8]) -> Text {
         match self {
             Type::Pair => plain::<(i64, bool)>(alloc, mode, bytes),
@@ -177,7 +177,7 @@ where
     }
 }
 
-// The same of a value that is made of numbers and BOOLEANs alone.
+// What decoding a value that is made of numbers and BOOLEANs alone returns.
 fn plain<T: DERCanonical + Debug>(alloc: Global, mode: BERMode, bytes: &[u8]) -> Text {
     decoded::<T, _>(alloc, mode, bytes, Text::push_plain)
 }
@@ -249,7 +249,7 @@ fn raw(alloc: Global, mode: BERMode, bytes: &[u8]) -> Text {
     }
 }
 
-// The same of a list of them.
+// What decoding a list of raw elements returns, and its own write after it.
 fn raws(alloc: Global, mode: BERMode, bytes: &[u8]) -> Text {
     match decode_ber_general(alloc, bytes, mode) {
         Ok(values) => match list(alloc, values) {
