@@ -6,8 +6,9 @@
 mod arguments;
 
 use arguments::{Options, options_of};
-use asn1show_walk::error::WalkError;
+use asn1show_walk::WalkError;
 use clap::Error;
+use clap::error::ErrorKind;
 use std::fmt::Display;
 use std::io::{BufWriter, Read, Write};
 use std::process::ExitCode;
@@ -25,7 +26,7 @@ const IO_ERROR: u8 = 3;
 fn status_of(error: &WalkError) -> u8 {
     match error {
         WalkError::Malformed { .. } => MALFORMED,
-        WalkError::Memory | WalkError::Output => IO_ERROR,
+        WalkError::Memory | WalkError::Output | WalkError::ClosedOutput => IO_ERROR,
     }
 }
 
@@ -47,8 +48,9 @@ fn show(rt: &HostRuntime, options: &Options<'_>, input: &[u8]) -> Result<(), Wal
     } = *options;
     let mut out = BufWriter::new(rt.alloc(), rt.stdout())?;
     let shown = asn1show_lines::show(rt.alloc(), &mut out, mode, input_format, width, input);
-    out.flush()?;
-    shown
+    let flushed = out.flush();
+    shown?;
+    Ok(flushed?)
 }
 
 // Reports the error that ended the run.
@@ -61,6 +63,8 @@ fn report_error<D: Display>(rt: &HostRuntime, options: &Options<'_>, why: &D) {
 fn list(rt: &HostRuntime, options: &Options<'_>, input: &[u8]) -> u8 {
     match show(rt, options, input) {
         Ok(()) => 0,
+        // Its reader has what it asked for, as `head` does.
+        Err(WalkError::ClosedOutput) => IO_ERROR,
         Err(error) => {
             report_error(rt, options, &error);
             status_of(&error)
@@ -84,8 +88,23 @@ fn words_of(rt: &HostRuntime) -> io::Result<Vec<String>> {
     Ok(words.collect(rt.alloc())?)
 }
 
-// Explains why there are no options: a usage error, or a request for help.
+// Explains why there are no words of a command line.
+fn explain_words(rt: &HostRuntime, error: &io::Error) -> u8 {
+    let _ = match error.kind() {
+        io::ErrorKind::InvalidData => {
+            writeln!(rt.stderr(), "asn1show: an argument isn't text in UTF-8")
+        }
+        _ => writeln!(rt.stderr(), "asn1show: {error}"),
+    };
+    IO_ERROR
+}
+
+// Explains why there are no options: a usage error, a request for help, or out of memory.
 fn explain_usage(rt: &HostRuntime, error: &Error) -> u8 {
+    if error.kind() == ErrorKind::OutOfMemory {
+        let _ = writeln!(rt.stderr(), "asn1show: out of memory");
+        return IO_ERROR;
+    }
     if error.print(rt).is_err() {
         return IO_ERROR;
     }
@@ -93,8 +112,9 @@ fn explain_usage(rt: &HostRuntime, error: &Error) -> u8 {
 }
 
 fn main(rt: HostRuntime) -> ExitCode {
-    let Ok(words) = words_of(&rt) else {
-        return ExitCode::from(IO_ERROR);
+    let words = match words_of(&rt) {
+        Ok(words) => words,
+        Err(error) => return ExitCode::from(explain_words(&rt, &error)),
     };
     let status = match options_of(rt.alloc(), words.as_slice()) {
         Ok(options) => run(&rt, &options),

@@ -5,7 +5,7 @@ ghost use Rattle.asn1show_lines.specs.Text.{digits_of, is_between, Base64Decodes
 ghost use Rattle.asn1show_walk.specs.Errors.{WalkFails};
 ghost use Rattle.asn1show_walk.specs.declared.error.WalkError.TheVariants.{Malformed};
 
-use asn1show_walk::error::{Expected, WalkError};
+use asn1show_walk::{Expected, WalkError};
 use base64::DecodeAllocError;
 use base64::engine::general_purpose::STANDARD;
 use hex::FromHexError;
@@ -52,7 +52,8 @@ pub fn decode_hex(alloc: Global, text: &[u8]) -> Result<Vec<u8>, WalkError>
     match hex::decode(alloc, digits.as_slice()) {
         Ok(bytes) => Ok(bytes),
         Err(FromHexError::OutOfMemory) => Err(WalkError::Memory),
-        Err(_) => Err(malformed(text.len(), Expected::HexDigits)),
+        Err(FromHexError::OddLength) => Err(malformed(text.len(), Expected::HexPair)),
+        Err(_) => Err(malformed(text.len(), Expected::HexDigit)),
     }
 }
 
@@ -64,6 +65,6 @@ pub fn decode_base64(alloc: Global, digits: &[u8], offset: usize) -> Result<Vec<
     match STANDARD.decode(alloc, digits) {
         Ok(bytes) => Ok(bytes),
         Err(DecodeAllocError::OutOfMemory) => Err(WalkError::Memory),
-        Err(DecodeAllocError::DecodeError(_)) => Err(malformed(offset, Expected::Base64)),
+        Err(DecodeAllocError::DecodeError(_)) => Err(malformed(offset, Expected::Base64Digit)),
     }
 }

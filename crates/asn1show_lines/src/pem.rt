@@ -8,7 +8,7 @@ ghost use Rattle.asn1show_walk.specs.Errors.{IsMalformed, WalkFails};
 ghost use Rattle.asn1show_walk.specs.declared.error.WalkError.TheVariants.{Malformed};
 
 use crate::digits::{decode_base64, push_digits};
-use asn1show_walk::error::{Expected, WalkError};
+use asn1show_walk::{Expected, WalkError};
 use std::alloc::{AllocError, Global};
 use yasna_base::error::ASN1ErrorKind;
 

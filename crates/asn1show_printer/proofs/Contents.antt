@@ -14,8 +14,10 @@ use Rattle.yasna_times.specs.declared.models.generalized_time.GeneralizedTime.{G
 use Rattle.yasna_times.specs.declared.models.utc_time.UTCTime.{UTCTime}
 use Rattle.yasna_times.proofs.GeneralText.{general_spells_one}
 use Rattle.yasna_times.proofs.UtcTime.{utc_spells_one}
-use Rattle.asn1show_printer.specs.Contents.{AreOfKind, IsLocalTime, DiagnosesOf}
-use Rattle.asn1show_printer.specs.declared.asn_type.AsnType.TheVariants.{Boolean, GeneralizedTime as OfGeneralizedTime, UtcTime as OfUtcTime}
+use Rattle.asn1show_printer.specs.Contents.{AreOfKind, IsLocalTime, InNone, OnlyInBer, DiagnosesOf, is_of_ber}
+use Rattle.asn1show_printer.specs.declared.asn_type.Characters.{Characters}
+use Rattle.asn1show_printer.specs.declared.asn_type.AsnType.TheVariants.{Boolean, GeneralizedTime as OfGeneralizedTime, Text, UtcTime as OfUtcTime, Whole}
+use Rattle.asn1show_printer.specs.declared.diagnostic.Diagnostic.{Diagnostic}
 use Rattle.asn1show_printer.specs.declared.diagnostic.Diagnostic.TheVariants.{Truth, Time, Local, NoTime}
 
 -- ---- BOOLEAN
@@ -106,3 +108,15 @@ pub other_diagnosed : (s : List ℕ) → ((m : Moment) → IsGeneralText s None 
     DiagnosesOf OfGeneralizedTime s (if is_some local then Some Local else Some NoTime)
 other_diagnosed s none None h = no_general_diagnosed s none h
 other_diagnosed s none (Some t) h = local_diagnosed s (moment_of t) none h
+
+-- ---- texts that are always primitive
+
+whole_by : (x : Characters) (c : List ℕ) (b : Bool) → cond b (InNone (AreOfKind (Text x)) c) (OnlyInBer (AreOfKind (Text x)) c) →
+    cond b (InNone (AreOfKind (Whole x)) c) (OnlyInBer (AreOfKind (Whole x)) c)
+whole_by x c true d = d
+whole_by x c false d = record { here = d.here; not_there = d.not_there }
+
+-- what is reported of a text's characters doesn't depend on whether it may be cut into segments
+pub whole_diagnosed : (x : Characters) (c : List ℕ) (r : Option Diagnostic) → DiagnosesOf (Text x) c r → DiagnosesOf (Whole x) c r
+whole_diagnosed x c None d = d
+whole_diagnosed x c (Some r) d = whole_by x c (is_of_ber r) d

@@ -1,3 +1,5 @@
 pub mod Prefix
+pub mod Outputs
+pub mod Types
 pub mod Contents
 pub mod Components

@@ -19,10 +19,10 @@ use Rattle.yasna_times.specs.declared.models.utc_time.UTCTime.{UTCTime}
 use Rattle.asn1show_printer.specs.declared.asn_type.Characters.{Characters}
 use Rattle.asn1show_printer.specs.declared.asn_type.Characters.TheVariants.{Utf8, Numeric, Printable, Ia5, Visible, Bmp, Universal, Other}
 use Rattle.asn1show_printer.specs.declared.asn_type.AsnType.{AsnType}
-use Rattle.asn1show_printer.specs.declared.asn_type.AsnType.TheVariants.{Boolean, Integer, Bits, Octets, Null, Oid, Relative, Real, Text, UtcTime, GeneralizedTime, Set, Parts, Unknown}
+use Rattle.asn1show_printer.specs.declared.asn_type.AsnType.TheVariants.{Boolean, Integer, Bits, Octets, Null, Oid, Relative, Real, Text, Whole, UtcTime, GeneralizedTime, Set, Parts, Unknown}
 use Rattle.asn1show_printer.specs.declared.line.LineBuffer.{LineBuffer}
 use Rattle.asn1show_printer.specs.declared.diagnostic.Diagnostic.{Diagnostic}
-use Rattle.asn1show_printer.specs.declared.diagnostic.Diagnostic.TheVariants.{LongLength, Indefinite, Segments, Truth, Padding, Order, Time, Local, HasParts, HasNoParts, Segment, Boolean as NoBoolean, Number, Null as NoNull, Bits as NoBits, Components, Characters as NoCharacters, NoTime}
+use Rattle.asn1show_printer.specs.declared.diagnostic.Diagnostic.TheVariants.{LongLength, Indefinite, Segments, Truth, Padding, Order, TagOrder, Time, Local, HasParts, HasNoParts, Segment, AfterUnusedBits, Boolean as NoBoolean, Number, Null as NoNull, Bits as NoBits, NoComponent, LongComponent, CutComponent, Characters as NoCharacters, NoTime}
 
 -- the contents of a bit string: the count of unused bits in the last octet, and the octets
 pub record AreBits (m : BERMode) (c : List ℕ) : Type 0 where
@@ -86,6 +86,7 @@ AreOfKind Oid m c = AreSubidentifiers c
 AreOfKind Relative m c = AreSubidentifiers c
 AreOfKind Real m c = Unit {0}
 AreOfKind (Text characters) m c = AreCharacters characters c
+AreOfKind (Whole characters) m c = AreCharacters characters c
 AreOfKind UtcTime m c = (t : UTCTime) × SpellsUtcTime m (utc_of t) c
 AreOfKind GeneralizedTime m c = ((v : Moment) × SpellsGeneralizedTime m v c) ⊎ IsLocalTime m c
 AreOfKind Set m c = ⊥
@@ -100,16 +101,20 @@ is_of_ber Segments = false
 is_of_ber Truth = false
 is_of_ber Padding = false
 is_of_ber Order = false
+is_of_ber TagOrder = false
 is_of_ber Time = false
 is_of_ber Local = false
 is_of_ber HasParts = true
 is_of_ber HasNoParts = true
 is_of_ber Segment = true
+is_of_ber AfterUnusedBits = true
 is_of_ber NoBoolean = true
 is_of_ber Number = true
 is_of_ber NoNull = true
 is_of_ber NoBits = true
-is_of_ber Components = true
+is_of_ber NoComponent = true
+is_of_ber LongComponent = true
+is_of_ber CutComponent = true
 is_of_ber NoCharacters = true
 is_of_ber NoTime = true
 

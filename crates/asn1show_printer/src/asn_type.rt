@@ -1,5 +1,9 @@
 //! The types of X.680: their characters, and whether they have parts.
+ghost use Rattle.std.specs.Prelude.{◌≡◌, ◌≤◌, get_or};
+ghost use Rattle.asn1show_printer.specs.Types.{diagnostic_if_constructed, type_with, universal_types};
+ghost use Rattle.asn1show_printer.specs.declared.asn_type.AsnType.TheVariants.{Unknown};
 
+use crate::diagnostic::Diagnostic;
 use yasna_base::tag::{Tag, TagClass};
 
 /// The characters of a type of text.
@@ -42,8 +46,10 @@ pub enum AsnType {
     Relative,
     /// REAL.
     Real,
-    /// A text.
+    /// A text that is a string: BER may cut it into segments.
     Text(Characters),
+    /// A text that is always primitive: TIME and its kin, OID-IRI and RELATIVE-OID-IRI (X.690, 8.21, 8.22 and 8.26).
+    Whole(Characters),
     /// UTCTime.
     UtcTime,
     /// GeneralizedTime.
@@ -56,12 +62,26 @@ pub enum AsnType {
     Unknown,
 }
 
-/// The type with this tag (X.680, 8.6).
-pub fn type_of(tag: Tag) -> AsnType {
-    if tag.tag_class != TagClass::Universal {
-        return AsnType::Unknown;
+// The type with a universal number from 31 on: DATE and its kin, OID-IRI and RELATIVE-OID-IRI.
+fn late_type(number: u64) -> AsnType
+    requires { 31 ≤ number }
+    ensures { result ≡ get_or universal_types number Unknown }
+{
+    match number {
+        31..=34 => AsnType::Whole(Characters::Visible),
+        35 | 36 => AsnType::Whole(Characters::Utf8),
+        _ => AsnType::Unknown,
     }
-    match tag.tag_number {
+}
+
+// The type with this universal number.
+fn universal_type(number: u64) -> AsnType
+    ensures { result ≡ get_or universal_types number Unknown }
+{
+    if number >= 31 {
+        return late_type(number);
+    }
+    match number {
         1 => AsnType::Boolean,
         2 | 10 => AsnType::Integer,
         3 => AsnType::Bits,
@@ -74,22 +94,49 @@ pub fn type_of(tag: Tag) -> AsnType {
         8 | 11 | 16 | 29 => AsnType::Parts,
         23 => AsnType::UtcTime,
         24 => AsnType::GeneralizedTime,
-        12 | 35 | 36 => AsnType::Text(Characters::Utf8),
+        12 => AsnType::Text(Characters::Utf8),
         18 => AsnType::Text(Characters::Numeric),
         19 => AsnType::Text(Characters::Printable),
         22 => AsnType::Text(Characters::Ia5),
-        14 | 26 | 31..=34 => AsnType::Text(Characters::Visible),
+        26 => AsnType::Text(Characters::Visible),
         28 => AsnType::Text(Characters::Universal),
         30 => AsnType::Text(Characters::Bmp),
         7 | 20 | 21 | 25 | 27 => AsnType::Text(Characters::Other),
+        14 => AsnType::Whole(Characters::Visible),
         _ => AsnType::Unknown,
     }
 }
 
+/// The type with this tag (X.680, 8.6).
+pub fn type_of(tag: Tag) -> AsnType
+    ensures { result ≡ type_with tag }
+{
+    match tag.tag_class {
+        TagClass::Universal => universal_type(tag.tag_number),
+        TagClass::Application | TagClass::ContextSpecific | TagClass::Private => AsnType::Unknown,
+    }
+}
+
 impl AsnType {
-    /// Whether the type is always constructed.
-    pub fn has_parts(self) -> bool {
-        matches!(self, AsnType::Set | AsnType::Parts)
+    /// What is wrong with a constructed element of the type, whatever is in it (X.690, 8 and 10.2).
+    pub fn constructed_diagnostic(self) -> Option<Diagnostic>
+        ensures { result ≡ diagnostic_if_constructed self }
+    {
+        match self {
+            AsnType::Boolean
+            | AsnType::Integer
+            | AsnType::Null
+            | AsnType::Oid
+            | AsnType::Relative
+            | AsnType::Real
+            | AsnType::Whole(_) => Some(Diagnostic::HasParts),
+            AsnType::Bits
+            | AsnType::Octets
+            | AsnType::Text(_)
+            | AsnType::UtcTime
+            | AsnType::GeneralizedTime => Some(Diagnostic::Segments),
+            AsnType::Set | AsnType::Parts | AsnType::Unknown => None,
+        }
     }
 
     /// Whether the type may be cut into segments.

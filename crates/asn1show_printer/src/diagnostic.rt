@@ -18,6 +18,8 @@ pub enum Diagnostic {
     Padding,
     /// A SET OF isn't in the order of its elements' octets (X.690, 11.6).
     Order,
+    /// A SET isn't in the order of its elements' tags, nor in that of their octets, by which a SET OF goes (X.690, 10.3 and 11.6).
+    TagOrder,
     /// A time isn't canonical (X.690, 11.7 and 11.8).
     Time,
     /// A time is in no known zone (X.690, 11.7.1).
@@ -28,6 +30,8 @@ pub enum Diagnostic {
     HasNoParts,
     /// A segment isn't of the expected type.
     Segment,
+    /// A segment follows one with unused bits, which only the last may have (X.690, 8.6.4).
+    AfterUnusedBits,
     /// A BOOLEAN isn't one octet.
     Boolean,
     /// A number has no octets or nine equal leading bits.
@@ -36,8 +40,12 @@ pub enum Diagnostic {
     Null,
     /// A BIT STRING has no count of unused bits, or one that doesn't fit.
     Bits,
-    /// A component of an object identifier is missing, cut off or not in the fewest octets.
-    Components,
+    /// An object identifier has no components.
+    NoComponent,
+    /// A component of an object identifier isn't in the fewest octets (X.690, 8.19.2).
+    LongComponent,
+    /// The last component of an object identifier is cut off.
+    CutComponent,
     /// A text has a character that its type hasn't.
     Characters,
     /// A text isn't a time.
@@ -54,16 +62,20 @@ impl Diagnostic {
             Diagnostic::Truth => "not DER: TRUE isn't FF",
             Diagnostic::Padding => "not DER: unused bits aren't zeros",
             Diagnostic::Order => "not DER: a SET OF out of order",
+            Diagnostic::TagOrder => "not DER: a SET out of order by tags, and by octets",
             Diagnostic::Time => "not DER: the time isn't canonical",
             Diagnostic::Local => "not DER: local time",
             Diagnostic::HasParts => "not BER: constructed, where the type is primitive",
             Diagnostic::HasNoParts => "not BER: primitive, where the type is constructed",
             Diagnostic::Segment => "not BER: a segment of another type",
+            Diagnostic::AfterUnusedBits => "not BER: a segment after unused bits",
             Diagnostic::Boolean => "not BER: a BOOLEAN that isn't one octet",
             Diagnostic::Number => "not BER: a number in too many octets or none",
             Diagnostic::Null => "not BER: a NULL with contents",
             Diagnostic::Bits => "not BER: no count of unused bits that fits",
-            Diagnostic::Components => "not BER: a component in too many octets or none",
+            Diagnostic::NoComponent => "not BER: an identifier without components",
+            Diagnostic::LongComponent => "not BER: a component in more octets than it needs",
+            Diagnostic::CutComponent => "not BER: the last component is cut off",
             Diagnostic::Characters => "not BER: a character that the type hasn't",
             Diagnostic::NoTime => "not BER: no time",
         }
@@ -72,7 +84,10 @@ impl Diagnostic {
     // Whether an element with this diagnostic isn't in a mode.
     fn excludes(self, mode: BERMode) -> bool {
         match self {
-            Diagnostic::Indefinite | Diagnostic::Segments => mode == BERMode::Der,
+            // CER orders an untagged CHOICE by the least of its tags (X.690, 9.3), which no element shows.
+            Diagnostic::Indefinite | Diagnostic::Segments | Diagnostic::TagOrder => {
+                mode == BERMode::Der
+            }
             Diagnostic::LongLength
             | Diagnostic::Truth
             | Diagnostic::Padding

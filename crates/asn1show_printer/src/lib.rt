@@ -6,17 +6,24 @@
 //! |---|---|
 //! | `asn_type` | the types of X.680 |
 //! | `value` | the values of primitive elements |
-//! | `sets` | the order of a SET OF, and how CER cuts strings |
+//! | `sets` | the order of a SET, and how CER cuts strings |
 //! | `diagnostic` | diagnostics of elements, and the conformance of the whole |
 //! | `line` | a line as it is made |
 //! | `names` | names of types and of object identifiers |
 //! | `printer` | the lines |
+//!
+//! What `asn1show_lines` calls are items of the crate: `asn1show_printer::Printer`.
 #![tactic(auto)]
 
 mod asn_type;
 mod diagnostic;
-pub mod line;
-pub mod names;
-pub mod printer;
+mod line;
+mod names;
+mod printer;
 mod sets;
-pub mod value;
+mod value;
+
+pub use line::LineBuffer;
+pub use names::Names;
+pub use printer::Printer;
+pub use value::{Style, write_quoted};

@@ -2,7 +2,7 @@
 ghost use Rattle.std.specs.Prelude.{◌≡◌, true, IfErr};
 ghost use Rattle.asn1show_walk.specs.Errors.{IsExternal};
 
-use asn1show_walk::error::WalkError;
+use asn1show_walk::WalkError;
 use std::alloc::Global;
 use std::fmt::Display;
 use std::io::Write;
@@ -64,8 +64,8 @@ impl LineBuffer {
         ensures { IfErr result IsExternal }
     {
         self.write_str("\n");
-        if writer.write_all(self.text()?).is_err() {
-            return Err(WalkError::Output);
+        if let Err(error) = writer.write_all(self.text()?) {
+            return Err(WalkError::from(error));
         }
         self.text.clear();
         Ok(())

@@ -6,10 +6,10 @@ use crate::asn_type::{AsnType, type_of};
 use crate::diagnostic::{Conformance, Diagnostic, unless};
 use crate::line::LineBuffer;
 use crate::names::type_name;
-use crate::sets::{are_cer_segments, is_out_of_order, stays_whole};
+use crate::sets::{are_cer_segments, order_of, stays_whole};
 use crate::value::{Style, write_value};
-use asn1show_walk::error::WalkError;
-use asn1show_walk::listing::{Context, Item, Place, Visitor, is_one_element};
+use asn1show_walk::{Context, Item, Place, Visitor, WalkError, is_one_element};
+use std::alloc::AllocError;
 use std::io::Write;
 use yasna_base::tag::{PCBit, Tag, TagClass};
 use yasna_base::tags::{TAG_BITSTRING, TAG_OCTETSTRING};
@@ -50,6 +50,8 @@ struct Report<'n> {
     around: Vec<Option<Tag>>,
     // Whether the last line is of a segment.
     is_segment: bool,
+    // Whether a segment of the outermost open BIT STRING has unused bits.
+    has_unused_bits: bool,
 }
 
 impl<'n> Report<'n> {
@@ -61,6 +63,7 @@ impl<'n> Report<'n> {
             conformance: Conformance::new(),
             around: Vec::new(style.alloc),
             is_segment: false,
+            has_unused_bits: false,
         }
     }
 
@@ -138,6 +141,13 @@ impl<'n> Report<'n> {
         wanted.is_none() || wanted == Some(item.tag)
     }
 
+    // Whether an element may be here: after unused bits no segment may follow (X.690, 8.6.4).
+    fn may_follow(&mut self, item: &Item<'_>) -> bool {
+        let before = self.is_segment && self.has_unused_bits;
+        self.has_unused_bits = before || (self.is_segment && has_unused_bits(item));
+        !before
+    }
+
     fn print_contents(&mut self, item: &Item<'_>, kind: AsnType) {
         match item.bit {
             PCBit::Primitive => self.print_primitive(item, kind),
@@ -155,14 +165,27 @@ impl<'n> Report<'n> {
 
     fn diagnose_constructed(&mut self, item: &Item<'_>, kind: AsnType) {
         self.diagnose(item, unless(item.size.is_some(), Diagnostic::Indefinite));
-        self.diagnose(item, diagnostic_of(kind, item.contents))
+        self.diagnose(item, kind.constructed_diagnostic());
+        if matches!(kind, AsnType::Set) {
+            self.diagnose_order(item, order_of(self.style.alloc, item.contents))
+        }
+    }
+
+    // Prints what is wrong with the order of a SET, if there was memory to see it.
+    fn diagnose_order(&mut self, item: &Item<'_>, order: Result<Option<Diagnostic>, AllocError>) {
+        match order {
+            Ok(diagnostic) => self.diagnose(item, diagnostic),
+            Err(_) => self.line.fail_out_of_memory(),
+        }
     }
 
     // Prints the diagnostics of an element's header.
     fn diagnose_header(&mut self, item: &Item<'_>) {
         let is_expected = self.is_expected(item);
+        let may_follow = self.may_follow(item);
         self.diagnose(item, unless(!is_long(item), Diagnostic::LongLength));
-        self.diagnose(item, unless(is_expected, Diagnostic::Segment))
+        self.diagnose(item, unless(is_expected, Diagnostic::Segment));
+        self.diagnose(item, unless(may_follow, Diagnostic::AfterUnusedBits))
     }
 
     fn note_cer(&mut self, item: &Item<'_>, kind: AsnType) {
@@ -212,15 +235,11 @@ fn segments_of(bit: PCBit, kind: AsnType) -> Option<Tag> {
     }
 }
 
-// The diagnostic of a constructed element of this type.
-fn diagnostic_of(kind: AsnType, contents: &[u8]) -> Option<Diagnostic> {
-    match kind {
-        AsnType::Set if is_out_of_order(contents) => Some(Diagnostic::Order),
-        AsnType::Set | AsnType::Unknown => None,
-        _ if kind.has_parts() => None,
-        _ if kind.is_string() => Some(Diagnostic::Segments),
-        _ => Some(Diagnostic::HasParts),
-    }
+// Whether a segment of a BIT STRING has unused bits.
+fn has_unused_bits(item: &Item<'_>) -> bool {
+    item.tag == TAG_BITSTRING
+        && item.bit == PCBit::Primitive
+        && item.contents.first().is_some_and(|unused| *unused != 0)
 }
 
 // The count of octets of the shortest length of this size.

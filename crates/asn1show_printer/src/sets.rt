@@ -1,5 +1,7 @@
-//! The order of a SET OF (X.690, 11.6), and how CER cuts strings (X.690, 9.2).
+//! The order of a SET and of a SET OF (X.690, 10.3 and 11.6), and how CER cuts strings (X.690, 9.2).
 
+use crate::diagnostic::Diagnostic;
+use std::alloc::{AllocError, Global};
 use std::cmp::Ordering;
 use yasna_base::bytes::order::compare_octets;
 use yasna_base::mode::BERMode;
@@ -32,22 +34,43 @@ impl<'a> Iterator for Elements<'a> {
     }
 }
 
-/// Whether elements of one tag are in contents, and not in the order of their octets.
-pub fn is_out_of_order(contents: &[u8]) -> bool {
+// Whether the elements in contents are in an order that DER has: by their tags, which differ in a SET, or by their octets, as in a SET OF.
+fn are_in_order(contents: &[u8]) -> bool {
     let mut elements = Elements { left: contents };
-    let Some(first) = elements.next() else {
-        return false;
+    let Some(mut previous) = elements.next() else {
+        return true;
     };
-    let mut previous = first.bytes;
-    let mut is_sorted = true;
+    let (mut by_tags, mut by_octets) = (true, true);
     for element in elements {
-        if element.tag != first.tag {
-            return false;
-        }
-        is_sorted = is_sorted && compare_octets(previous, element.bytes) != Ordering::Greater;
-        previous = element.bytes;
+        by_tags = by_tags && previous.tag < element.tag;
+        by_octets = by_octets && compare_octets(previous.bytes, element.bytes) != Ordering::Greater;
+        previous = element;
     }
-    !is_sorted
+    by_tags || by_octets
+}
+
+// Whether two of the elements in contents have one tag, as no components of a SET have (X.680, 27.3).
+fn has_repeated_tag(alloc: Global, contents: &[u8]) -> Result<bool, AllocError> {
+    let mut tags = Vec::new(alloc);
+    for element in (Elements { left: contents }) {
+        tags.push(element.tag)?;
+    }
+    let count = tags.len();
+    tags.sort()?;
+    tags.dedup();
+    Ok(tags.len() < count)
+}
+
+/// What is wrong with the order of the elements in a SET, whatever its schema.
+pub fn order_of(alloc: Global, contents: &[u8]) -> Result<Option<Diagnostic>, AllocError> {
+    if are_in_order(contents) {
+        return Ok(None);
+    }
+    Ok(Some(if has_repeated_tag(alloc, contents)? {
+        Diagnostic::Order
+    } else {
+        Diagnostic::TagOrder
+    }))
 }
 
 // The most octets of a string in one piece.

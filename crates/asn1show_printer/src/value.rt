@@ -14,7 +14,7 @@ use crate::asn_type::{AsnType, Characters};
 use crate::diagnostic::{Diagnostic, unless};
 use crate::line::LineBuffer;
 use crate::names::Names;
-use arcs::{are_components, write_oid, write_relative};
+use arcs::{are_components, components_diagnostic, write_oid, write_relative};
 use number::write_integer;
 use octets::{are_bits, is_padding_clear, write_bits, write_octets};
 use std::alloc::Global;
@@ -153,13 +153,14 @@ pub fn write_value(
         AsnType::Null => unless(contents.is_empty(), Diagnostic::Null),
         AsnType::Oid => {
             write_oid(line, alloc, names, contents);
-            unless(are_components(contents), Diagnostic::Components)
+            unless(are_components(contents), components_diagnostic(contents))
         }
         AsnType::Relative => {
             write_relative(line, alloc, contents);
-            unless(are_components(contents), Diagnostic::Components)
+            unless(are_components(contents), components_diagnostic(contents))
         }
         AsnType::Text(characters) => write_text(line, characters, contents),
+        AsnType::Whole(characters) => write_text(line, characters, contents),
         AsnType::UtcTime => write_utc_time(line, contents),
         AsnType::GeneralizedTime => write_time(line, alloc, contents),
         AsnType::Octets | AsnType::Real | AsnType::Unknown => {

@@ -9,7 +9,7 @@ use Rattle.asn1show_walk.specs.Errors.{WalkFails}
 use Rattle.asn1show_walk.specs.Reading.{ElementBefore, NoElement}
 use Rattle.asn1show_walk.specs.WellFormed.{IsWellFormed, IsOne}
 use Rattle.asn1show_walk.specs.declared.error.WalkError.{WalkError}
-use Rattle.asn1show_walk.specs.declared.error.WalkError.TheVariants.{Malformed, Memory, Output}
+use Rattle.asn1show_walk.specs.declared.error.WalkError.TheVariants.{Malformed, Memory, Output, ClosedOutput}
 use Rattle.asn1show_walk.specs.declared.listing.place.Place.{Place}
 use Rattle.asn1show_walk.specs.declared.listing.place.Context.{Context}
 use Rattle.asn1show_walk.proofs.WellFormed.{formed_raw}
@@ -39,6 +39,8 @@ none_is_one context p Memory (inl x) y = x
 none_is_one context p Memory (inr x) y = x
 none_is_one context p Output (inl x) y = x
 none_is_one context p Output (inr x) y = x
+none_is_one context p ClosedOutput (inl x) y = x
+none_is_one context p ClosedOutput (inr x) y = x
 
 -- one is a joining of one
 pub one_joining : (n : ℕ) (m : BERMode) (s : List ℕ) → IsOne n m s → IsJoining (IsWellFormed n m) s

@@ -1,4 +1,4 @@
--- Where elements down to the primitive ones stop: none is there, and they stop nowhere else.
+-- Where well-formed elements stop: none is there, and they stop nowhere else.
 use Rattle.std.proofs.Common.{◌≡◌, ◌≤◌, ℕ, zero, suc, Bool, true, false, List, [], ◌∷◌, ◌++◌, length, refl, sym, ap, ◌∙◌, subst, append-nil, length-append, arith}
 use Rattle.yasna_base.specs.declared.error.ASN1ErrorKind.{ASN1ErrorKind}
 use Rattle.yasna_base.specs.declared.mode.BERMode.{BERMode}

@@ -1,4 +1,4 @@
--- Why elements weren't visited: at the first place where none is there that is one down to the primitive ones.
+-- Why elements weren't visited: at the first place where no well-formed element is.
 use Rattle.std.proofs.Common.{◌≡◌, ◌+◌, ℕ, zero, suc, Bool, true, false, List, ◌∷◌, ◌++◌, length, Ok, Err, inl, inr, refl, sym, ap, ◌∙◌, subst, arith}
 use Rattle.std.specs.Prelude.{Option, Result, IfErr}
 use Rattle.yasna_base.specs.declared.error.ASN1ErrorKind.{ASN1ErrorKind}
@@ -20,7 +20,7 @@ use Rattle.asn1show_walk.specs.Reading.{OpensItem, NoItem, ElementBefore, NoElem
 use Rattle.asn1show_walk.specs.Stops.{HeaderMissing, StopsInside, at_header, inside, StopsOne, StopsIn}
 use Rattle.asn1show_walk.specs.WellFormed.{WellFormedOver, IsWellFormed, AreElements, EndsHere, ClosesWell}
 use Rattle.asn1show_walk.specs.declared.error.WalkError.{WalkError}
-use Rattle.asn1show_walk.specs.declared.error.WalkError.TheVariants.{Malformed, Memory, Output}
+use Rattle.asn1show_walk.specs.declared.error.WalkError.TheVariants.{Malformed, Memory, Output, ClosedOutput}
 use Rattle.asn1show_walk.specs.declared.listing.item.Item.{Item}
 use Rattle.asn1show_walk.specs.declared.listing.item.OpenedItem.{OpenedItem}
 use Rattle.asn1show_walk.specs.declared.listing.place.Place.{Place}
@@ -34,6 +34,7 @@ malformed_by : {P Q : ℕ → ASN1ErrorKind → Type 0} (f : WalkError) → ((o 
 malformed_by (Malformed o k e) g x = g o k x
 malformed_by Memory g x = x
 malformed_by Output g x = x
+malformed_by ClosedOutput g x = x
 
 pub fails_by : (R : WalkError → Type 0) {P Q : ℕ → ASN1ErrorKind → Type 0} (f : WalkError) → ((o : ℕ) (k : ASN1ErrorKind) → P o k → Q o k) →
     WalkFails R P f → WalkFails R Q f
@@ -49,7 +50,7 @@ pub if_err : {A E : Type 0} (r : Result A E) (P Q : E → Type 0) → ((x : E) �
 if_err (Ok x) P Q f p = tt
 if_err (Err e) P Q f p = f e p
 
--- an element that was visited is one down to the primitive ones
+-- an element that was visited is well formed
 pub visited_element : (context : Context) (p q : Place) (a b : Option (List Line)) → ElementVisited context p q a b → ElementBefore context p q
 visited_element context p q a b x =
     let v = one_formed context.levels context.mode context.in_string p.offset x.bytes x.lines x.lists in

@@ -1,4 +1,4 @@
--- Elements that lines list are elements down to the primitive ones, and those are raw elements.
+-- Elements that lines list are well formed, and well-formed elements are raw elements.
 use Rattle.std.proofs.Common.{◌≡◌, ◌+◌, ◌≤◌, ℕ, zero, suc, Bool, List, [], ◌∷◌, ◌++◌, length, refl, sym, subst, rules}
 use Rattle.yasna_base.specs.declared.mode.BERMode.{BERMode}
 use Rattle.yasna_base.specs.declared.mode.BERMode.TheVariants.{Ber, Der, Cer}
@@ -108,7 +108,7 @@ element_formed R I f m n w o b ls x (with_zeros d h e) = (
   },
 )
 
--- an element that lines list is one down to the primitive ones
+-- an element that lines list is well formed
 pub one_formed : (n : ℕ) (m : BERMode) (w : Bool) (o : ℕ) (b : List ℕ) (ls : List Line) → ListsOne n m w o b ls → (v : RawValue) × IsWellFormed n m v b
 unfolding ListsOne
 one_formed zero m w o b ls x = absurd x

@@ -1,4 +1,4 @@
--- Well-formed elements: elements down to the primitive ones (X.690, 8.1).
+-- Well-formed elements: the contents of each constructed one are well-formed elements again (X.690, 8.1).
 use Rattle.std.specs.Prelude.{◌≡◌, ℕ, zero, suc, ◌^◌, ◌<◌, ◌≤◌, Bool, true, false, List, [], ◌∷◌, ◌++◌, length}
 use Rattle.yasna_base.specs.declared.mode.BERMode.{BERMode}
 use Rattle.yasna_base.specs.declared.tag.PCBit.TheVariants.{Constructed}
@@ -19,7 +19,7 @@ pub record WellFormedOver (R : RawValue → List ℕ → Type 0) (m : BERMode) (
   pub in_bytes : IsBytes v.payload
   pub framed : WellFramed R m v b
 
--- within n levels, b is the element v and well formed, as is each element in it, down to the primitive ones
+-- within n levels, b is the element v, whose contents are well-formed elements within one level less where it is constructed
 unfoldable pub IsWellFormed : ℕ → BERMode → RawValue → List ℕ → Type 0
 IsWellFormed zero m v b = ⊥
 IsWellFormed (suc n) m v b = WellFormedOver (IsWellFormed n m) m v b

@@ -1,6 +1,8 @@
 //! The errors of a run.
-ghost use Rattle.std.specs.Prelude.{◌≡◌};
-ghost use Rattle.asn1show_walk.specs.declared.error.WalkError.TheVariants.{Memory, Output};
+ghost use Rattle.std.specs.Prelude.{◌≡◌, ◌↔◌, IsTrue};
+ghost use Rattle.std.specs.IoError.{error_kind};
+ghost use Rattle.asn1show_walk.specs.Errors.{output_error, IsExternal};
+ghost use Rattle.asn1show_walk.specs.declared.error.WalkError.TheVariants.{Memory};
 
 use std::alloc::{AllocError, AllocFailed};
 use std::{fmt, io};
@@ -35,10 +37,22 @@ pub enum Expected {
     IndefiniteLength,
     /// Contents of this many octets, of which this many are left.
     Contents(usize, usize),
-    /// Pairs of hexadecimal digits.
-    HexDigits,
-    /// Text in base64.
-    Base64,
+    /// A hexadecimal digit, or a separator.
+    HexDigit,
+    /// The second hexadecimal digit of a pair.
+    HexPair,
+    /// A digit of base64.
+    Base64Digit,
+    /// No padding of base64, which is only at its end.
+    Base64Unpadded,
+    /// A last digit of base64 whose unused bits are zeros.
+    Base64Zeros,
+    /// Base64 in groups of four.
+    Base64Groups,
+    /// The blank line that ends the headers of a block of PEM.
+    BlankLine,
+    /// A block of PEM that isn't encrypted.
+    PlainBlock,
     /// A line that begins a block of PEM.
     Block,
     /// A line that ends a block of PEM.
@@ -63,8 +77,14 @@ impl fmt::Display for Expected {
             Expected::Contents(size, left) => {
                 return write!(f, "{size} octets of contents, of which {left} are there");
             }
-            Expected::HexDigits => "pairs of hexadecimal digits",
-            Expected::Base64 => "base64",
+            Expected::HexDigit => "a hexadecimal digit",
+            Expected::HexPair => "one more hexadecimal digit",
+            Expected::Base64Digit => "a digit of base64",
+            Expected::Base64Unpadded => "no padding before the end of base64",
+            Expected::Base64Zeros => "zeros in the unused bits of base64",
+            Expected::Base64Groups => "base64 in groups of four digits",
+            Expected::BlankLine => "a blank line after the headers of the block of PEM",
+            Expected::PlainBlock => "a block of PEM that isn't encrypted",
             Expected::Block => "a line that begins a block of PEM",
             Expected::BlockEnd => "a line that ends the block of PEM",
         })
@@ -87,6 +107,20 @@ pub enum WalkError {
     Memory,
     /// A write failed.
     Output,
+    /// The reader of the output has closed it.
+    ClosedOutput,
+}
+
+impl WalkError {
+    /// Whether the error is out of memory or of a write: it says nothing about the input.
+    pub fn is_external(&self) -> bool
+        ensures { IsTrue result ↔ IsExternal self.now }
+    {
+        match self {
+            WalkError::Malformed { .. } => false,
+            WalkError::Memory | WalkError::Output | WalkError::ClosedOutput => true,
+        }
+    }
 }
 
 impl fmt::Display for WalkError {
@@ -97,17 +131,29 @@ impl fmt::Display for WalkError {
                 kind,
                 expected,
             } => write!(f, "offset {offset}: {kind:?}: expected {expected}"),
-            WalkError::Memory => f.write_str("no memory"),
+            WalkError::Memory => f.write_str("out of memory"),
             WalkError::Output => f.write_str("the output could not be written"),
+            WalkError::ClosedOutput => f.write_str("the output is closed"),
         }
     }
 }
 
-impl From<io::Error> for WalkError {
-    ghost from_gives = { λ _ e. e ≡ Output };
+// The error of a write that failed with an error of this kind.
+fn output_error(kind: io::ErrorKind) -> WalkError
+    ensures { result ≡ output_error kind }
+{
+    match kind {
+        io::ErrorKind::BrokenPipe => WalkError::ClosedOutput,
+        io::ErrorKind::OutOfMemory => WalkError::Memory,
+        _ => WalkError::Output,
+    }
+}
 
-    fn from(_error: io::Error) -> WalkError {
-        WalkError::Output
+impl From<io::Error> for WalkError {
+    ghost from_gives = { λ error e. e ≡ output_error (error_kind error) };
+
+    fn from(error: io::Error) -> WalkError {
+        output_error(error.kind())
     }
 }
 

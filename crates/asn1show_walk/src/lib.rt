@@ -6,7 +6,12 @@
 //! |---|---|
 //! | `listing` | the walk over the elements |
 //! | `error` | the errors of a run |
+//!
+//! Their public items are those of the crate: `asn1show_walk::list_input`.
 #![tactic(auto)]
 
-pub mod error;
-pub mod listing;
+mod error;
+mod listing;
+
+pub use error::{Expected, WalkError};
+pub use listing::{Context, Item, Place, Visitor, is_one_element, list_element, list_input};

@@ -1,7 +1,8 @@
 //! Object identifiers with their dots (X.690, 8.19 and 8.20).
-ghost use Rattle.std.specs.Prelude.{◌≡◌, ◌↔◌, nat_lt, IsTrue};
-ghost use Rattle.asn1show_printer.specs.Contents.{AreSubidentifiers};
+ghost use Rattle.std.specs.Prelude.{◌≡◌, ◌↔◌, nat_lt, true, IsTrue};
+ghost use Rattle.asn1show_printer.specs.Contents.{AreSubidentifiers, is_of_ber};
 
+use crate::diagnostic::Diagnostic;
 use crate::line::LineBuffer;
 use crate::names::Names;
 use crate::value::number::write_base128;
@@ -35,26 +36,59 @@ pub fn are_components(contents: &[u8]) -> bool
     begins && !contents.is_empty()
 }
 
-fn write_component(line: &mut LineBuffer, alloc: Global, component: &[u8]) {
-    match read_base128(component) {
-        Ok((number, [])) => write!(line, "{number}"),
-        _ if component.len() > LONGEST_COMPONENT => {
-            let size = component.len();
-            write!(line, "({size} octets)")
-        }
-        _ => write_base128(line, alloc, component),
+/// What is wrong with contents that aren't components.
+pub fn components_diagnostic(contents: &[u8]) -> Diagnostic
+    ensures { is_of_ber result ≡ true }
+{
+    match contents.last() {
+        None => Diagnostic::NoComponent,
+        Some(octet) if is_last(octet) => Diagnostic::LongComponent,
+        Some(_) => Diagnostic::CutComponent,
     }
 }
 
-// The first two components are in one.
-fn write_first(line: &mut LineBuffer, first: &[u8]) {
-    let Ok((number, _)) = read_base128(first) else {
-        let size = first.len();
+// The octets of a component without leading zeros in base 128; None if the component is cut off.
+fn significant(component: &[u8]) -> Option<&[u8]> {
+    let start = component.iter().position(|octet| *octet != 128)?;
+    let digits = component.get(start..)?;
+    digits.last().filter(|octet| is_last(octet))?;
+    Some(digits)
+}
+
+fn write_number(line: &mut LineBuffer, alloc: Global, digits: &[u8]) {
+    match read_base128(digits) {
+        Ok((number, [])) => write!(line, "{number}"),
+        _ if digits.len() > LONGEST_COMPONENT => {
+            let size = digits.len();
+            write!(line, "({size} octets)")
+        }
+        _ => write_base128(line, alloc, digits),
+    }
+}
+
+fn write_component(line: &mut LineBuffer, alloc: Global, component: &[u8]) {
+    match significant(component) {
+        Some(digits) => write_number(line, alloc, digits),
+        None => line.write_str("(cut off)"),
+    }
+}
+
+// Writes the number that the first two components are in.
+fn write_roots(line: &mut LineBuffer, digits: &[u8]) {
+    let Ok((number, _)) = read_base128(digits) else {
+        let size = digits.len();
         return write!(line, "2.({size} octets)");
     };
     let root = (number / 40).min(2);
     let second = number - 40 * root;
     write!(line, "{root}.{second}")
+}
+
+fn write_first(line: &mut LineBuffer, first: &[u8]) {
+    match significant(first) {
+        Some(digits) => write_roots(line, digits),
+        None => line.write_str("(cut off)"),
+    }
 }
 
 /// Writes components with dots between them.
@@ -85,9 +119,9 @@ fn write_named(line: &mut LineBuffer, names: &Names, dotted: &[u8]) {
     }
 }
 
-/// Writes an object identifier, and its usual name where it has one.
+/// Writes an object identifier, and its usual name where it is whole and has one.
 pub fn write_oid(line: &mut LineBuffer, alloc: Global, names: &Names, contents: &[u8]) {
-    if contents.len() > LONGEST_NAMED {
+    if contents.len() > LONGEST_NAMED || !are_components(contents) {
         return write_absolute(line, alloc, contents);
     }
     let mut dotted = LineBuffer::new(alloc);

@@ -5,21 +5,19 @@ ghost use Rattle.asn1show_printer.specs.Contents.{AreWide, pairs, quads};
 
 use crate::line::LineBuffer;
 use std::str;
+use unicode::properties::is_default_ignorable_code_point;
 
-// Characters that change how those around them are shown, or that aren't seen.
-fn is_hidden(c: char) -> bool {
+// Signs and marks without ink that Unicode doesn't count as ignorable, and the marks around an annotation.
+fn is_blank(c: char) -> bool {
     matches!(
         c,
-        '\u{AD}'
-            | '\u{61C}'
-            | '\u{180E}'
-            | '\u{200B}'..='\u{200F}'
-            | '\u{2028}'..='\u{202E}'
-            | '\u{2060}'..='\u{206F}'
-            | '\u{FEFF}'
-            | '\u{FFF9}'..='\u{FFFB}'
-            | '\u{E0000}'..='\u{E007F}'
+        '\u{2800}' | '\u{FFF9}'..='\u{FFFB}' | '\u{16FE4}' | '\u{1D159}'
     )
+}
+
+// Characters that aren't seen, those that change how others are shown among them, and spaces other than that of ASCII.
+fn is_hidden(c: char) -> bool {
+    is_default_ignorable_code_point(c) || (c.is_whitespace() && c != ' ') || is_blank(c)
 }
 
 fn needs_escape(c: char) -> bool {

@@ -36,19 +36,35 @@ pub fn write_utc_time(line: &mut LineBuffer, octets: &[u8]) -> Option<Diagnostic
     end_in_utc(line, time.is_canonical(octets))
 }
 
-// The fraction of a second has nine digits or none, and those after them.
-fn write_fine_time(line: &mut LineBuffer, time: &GeneralizedTime) {
-    let (datetime, below) = (time.datetime(), time.sub_nano());
-    if below.is_empty() && datetime.subsec_nanosecond() == 0 {
-        return write!(line, "{datetime}");
+// What ISO 8601 has before the digit at a place of a canonical text.
+fn separator(place: usize) -> &'static str {
+    match place {
+        4 | 6 => "-",
+        8 => "T",
+        10 | 12 => ":",
+        _ => "",
     }
-    write!(line, "{datetime:.9}");
-    line.write_all(below)
+}
+
+fn write_separated(line: &mut LineBuffer, text: &[u8]) {
+    for (place, octet) in text.iter().enumerate() {
+        line.write_str(separator(place));
+        line.write_all(&[*octet]);
+    }
+}
+
+// Writes a time without its zone. Its canonical text has a second 60, and all digits of the fraction.
+fn write_fine_time(line: &mut LineBuffer, alloc: Global, time: &GeneralizedTime) {
+    match time.to_bytes(alloc) {
+        Ok(text) => write_separated(line, text.strip_suffix(b"Z").unwrap_or(text.as_slice())),
+        Err(_) => line.fail_out_of_memory(),
+    }
 }
 
 // Writes a GeneralizedTime in no known zone, where it is one.
 fn write_local_time(
     line: &mut LineBuffer,
+    alloc: Global,
     octets: &[u8],
     parsed: Option<GeneralizedTime>,
 ) -> Option<Diagnostic>
@@ -57,7 +73,7 @@ fn write_local_time(
     let Some(time) = parsed else {
         return write_no_time(line, octets);
     };
-    write_fine_time(line, &time);
+    write_fine_time(line, alloc, &time);
     Some(Diagnostic::Local)
 }
 
@@ -71,8 +87,8 @@ pub fn write_generalized_time(
 {
     let Some(time) = GeneralizedTime::parse(alloc, octets)? else {
         let parsed = GeneralizedTime::parse_with_offset(alloc, octets, Offset::UTC)?;
-        return Ok(write_local_time(line, octets, parsed));
+        return Ok(write_local_time(line, alloc, octets, parsed));
     };
-    write_fine_time(line, &time);
+    write_fine_time(line, alloc, &time);
     Ok(end_in_utc(line, time.is_canonical(octets)))
 }

@@ -49,6 +49,14 @@ fn length_expected(mode: BERMode, size: Option<usize>, rest: &[u8]) -> Expected 
     }
 }
 
+// Whether as many length octets are there as the first of them counts (X.690, 8.1.3.5).
+fn has_whole_length(rest: &[u8]) -> bool {
+    match rest.split_first() {
+        Some((first, digits)) => digits.len() >= usize::from(first.saturating_sub(128)),
+        None => false,
+    }
+}
+
 // What was expected after an identifier without contents.
 fn contents_expected(context: Context, rest: &[u8], kind: ASN1ErrorKind) -> Expected {
     if kind == ASN1ErrorKind::StackOverflow {
@@ -56,8 +64,8 @@ fn contents_expected(context: Context, rest: &[u8], kind: ASN1ErrorKind) -> Expe
     }
     match read_length(rest, context.mode) {
         Ok((size, trailing)) => length_expected(context.mode, size, trailing),
-        Err(ASN1ErrorKind::Eof) => Expected::Length,
-        Err(ASN1ErrorKind::IntegerOverflow) => Expected::SmallLength,
+        Err(ASN1ErrorKind::Eof) if !has_whole_length(rest) => Expected::Length,
+        Err(ASN1ErrorKind::Eof) => Expected::SmallLength,
         Err(_) => Expected::ShortestLength,
     }
 }

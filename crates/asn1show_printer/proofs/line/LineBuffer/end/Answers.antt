@@ -1,5 +1,7 @@
-use Rattle.std.proofs.Common.{rules}
+use Rattle.std.proofs.Common.{sym, subst}
+use Rattle.asn1show_walk.specs.Errors.{IsExternal}
+use Rattle.asn1show_printer.proofs.Outputs.{output_is_external}
 use Rattle.asn1show_printer.proofs.line.LineBuffer.end.Goals as goal
 
-pub returns-then-is_err : goal.returns-then-is_err
-returns-then-is_err g c = search rules
+pub returns-in-Err : goal.returns-in-Err
+returns-in-Err g c = subst IsExternal (sym c.from.ensures) (output_is_external _)
