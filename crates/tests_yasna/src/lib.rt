@@ -21,6 +21,7 @@
 //! | `pieces` | none: it holds how rows of bytes are read and written again |
 //! | `records`, `scrypt`, `third_party` | types of one's own |
 //! | `sets` | sets, read and written by callbacks |
+//! | `shown` | the lines of malformed and unusual elements |
 //! | `set_writing` | the order of a SET's parts, and malformed ones |
 //! | `times` | both times |
 //! | `tree` | a type that refers to itself, and elements at 101 levels |
@@ -67,6 +68,8 @@ mod scrypt;
 mod set_writing;
 #[cfg(test)]
 mod sets;
+#[cfg(test)]
+mod shown;
 #[cfg(test)]
 mod third_party;
 #[cfg(test)]

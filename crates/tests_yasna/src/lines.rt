@@ -2,15 +2,14 @@
 
 use crate::checks::{holds, spelled};
 use asn1show_lines::{InputFormat, show};
-use asn1show_walk::error::WalkError;
-use asn1show_walk::listing::{Context, Place, is_one_element};
+use asn1show_walk::{Context, Place, WalkError, is_one_element};
 use std::alloc::Global;
 use yasna::BERMode::{Ber, Cer, Der};
 use yasna::{ASN1Result, BERMode};
 
 // What is wanted of an input.
 #[derive(Clone, Copy)]
-enum Expectation {
+pub(crate) enum Expectation {
     /// These lines, and that the input is taken whole.
     Whole(&'static str),
     /// This as the first line.
@@ -45,7 +44,7 @@ impl Expectation {
     }
 }
 
-fn is_shown(
+pub(crate) fn is_shown(
     alloc: Global,
     mode: BERMode,
     input_format: Option<InputFormat>,
@@ -208,7 +207,7 @@ static LINES: [(&str, BERMode, Expectation); 24] = [
         "1813 31393835313130363231303832392E3732345A",
         Ber,
         Line(
-            "2+19       GeneralizedTime 1985-11-06T21:08:29.724000000Z",
+            "2+19       GeneralizedTime 1985-11-06T21:08:29.724Z",
             "BER, DER, CER",
         ),
     ),
@@ -281,7 +280,7 @@ static MALFORMED: [(&str, BERMode, Expectation); 9] = [
     (
         "030",
         Ber,
-        Malformed("offset 3: Invalid: expected pairs of hexadecimal digits"),
+        Malformed("offset 3: Invalid: expected one more hexadecimal digit"),
     ),
 ];
 
@@ -319,7 +318,7 @@ static SPELLED: [(&str, Option<InputFormat>, [&str; 4], usize, Expectation); 5] 
             "",
         ],
         0,
-        Malformed("offset 42: Invalid: expected base64"),
+        Malformed("offset 42: Invalid: expected a digit of base64"),
     ),
     (
         "padding in a later group",
@@ -331,7 +330,7 @@ static SPELLED: [(&str, Option<InputFormat>, [&str; 4], usize, Expectation); 5] 
             "",
         ],
         1023,
-        Malformed("offset 4134: Invalid: expected base64"),
+        Malformed("offset 4134: Invalid: expected a digit of base64"),
     ),
 ];
 
@@ -383,8 +382,7 @@ fn is_one(contents: &[u8]) -> bool {
     is_one_element(rules, place)
 }
 
-/// Bytes are one element down to the primitive ones where one is there, each constructed one in it holds such elements, and nothing
-/// is after it.
+/// Bytes are one well-formed element where one is there, each constructed one in it holds such elements, and nothing is after it.
 #[test]
 fn strings_hold_one_element_or_none(rt: HostRuntime) {
     for row in &CONTENTS {

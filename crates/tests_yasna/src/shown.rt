@@ -1,0 +1,200 @@
+//! The lines of elements that are malformed or unusual.
+
+use crate::checks::holds;
+use crate::lines::{Expectation, is_shown};
+use Expectation::{Line, Malformed, Whole};
+use asn1show_lines::{InputFormat, show};
+use std::alloc::Global;
+use yasna::ASN1Result;
+use yasna::BERMode::Ber;
+
+// Hexadecimal digits, and what is shown of them in BER.
+static SHOWN: [(&str, Expectation); 16] = [
+    (
+        "180F32303235303130313030303036305A",
+        Line(
+            "2+15       GeneralizedTime 2025-01-01T00:00:60Z",
+            "BER, DER, CER",
+        ),
+    ),
+    (
+        "1811 3230323530313031303030303630 2E355A",
+        Line(
+            "2+17       GeneralizedTime 2025-01-01T00:00:60.5Z",
+            "BER, DER, CER",
+        ),
+    ),
+    (
+        "2308030204F0030200AA",
+        Whole(
+            "input: hexadecimal, 10 bytes
+      0  2+8        BIT STRING -- not DER: cut into segments
+      2  2+2          BIT STRING 'F0'H less 4 bits
+      6  2+2          BIT STRING 'AA'H -- not BER: a segment after unused bits
+rules: none
+",
+        ),
+    ),
+    (
+        "2308030200AA030204F0",
+        Whole(
+            "input: hexadecimal, 10 bytes
+      0  2+8        BIT STRING -- not DER: cut into segments
+      2  2+2          BIT STRING 'AA'H
+      6  2+2          BIT STRING 'F0'H less 4 bits
+rules: BER
+",
+        ),
+    ),
+    (
+        "3106020101010100",
+        Whole(
+            "input: hexadecimal, 8 bytes
+      0  2+6        SET -- not DER: a SET out of order by tags, and by octets
+      2  2+1          INTEGER 1
+      5  2+1          BOOLEAN FALSE
+rules: BER
+",
+        ),
+    ),
+    (
+        "3180020101010100020100 0000",
+        Whole(
+            "input: hexadecimal, 13 bytes
+      0  2+indef    SET -- not DER: indefinite length -- not DER: a SET OF out of order
+      2  2+1          INTEGER 1
+      5  2+1          BOOLEAN FALSE
+      8  2+1          INTEGER 0
+rules: BER
+",
+        ),
+    ),
+    (
+        "3104A0008100",
+        Whole(
+            "input: hexadecimal, 6 bytes
+      0  2+4        SET
+      2  2+0          [0]
+      4  2+0          [1] ''H
+rules: BER, DER
+",
+        ),
+    ),
+    (
+        "31048100A000",
+        Whole(
+            "input: hexadecimal, 6 bytes
+      0  2+4        SET
+      2  2+0          [1] ''H
+      4  2+0          [0]
+rules: BER, DER
+",
+        ),
+    ),
+    (
+        "0603803703",
+        Line(
+            "2+3        OBJECT IDENTIFIER 1.15.3 -- not BER: a component in more octets than it needs",
+            "none",
+        ),
+    ),
+    (
+        "06028000",
+        Line(
+            "2+2        OBJECT IDENTIFIER 0.0 -- not BER: a component in more octets than it needs",
+            "none",
+        ),
+    ),
+    (
+        "0603550480",
+        Line(
+            "2+3        OBJECT IDENTIFIER 2.5.4.(cut off) -- not BER: the last component is cut off",
+            "none",
+        ),
+    ),
+    (
+        "0D00",
+        Line(
+            "2+0        RELATIVE-OID  -- not BER: an identifier without components",
+            "none",
+        ),
+    ),
+    (
+        "2203020105",
+        Whole(
+            "input: hexadecimal, 5 bytes
+      0  2+3        INTEGER -- not BER: constructed, where the type is primitive
+      2  2+1          INTEGER 5
+rules: none
+",
+        ),
+    ),
+    (
+        "3089010000000000000000",
+        Malformed("offset 0: Eof: expected a length below 2^64"),
+    ),
+    (
+        "30890100",
+        Malformed("offset 0: Eof: expected length octets"),
+    ),
+    (
+        "0C0E E385A4 E2A080 C2A0 20 E1A08E C3A9",
+        Line(
+            "2+14       UTF8String \"\\u{3164}\\u{2800}\\u{A0} \\u{180E}é\"",
+            "BER, DER, CER",
+        ),
+    ),
+];
+
+// Types that are always primitive, constructed.
+static CONSTRUCTED: [&str; 18] = [
+    "2103010100",
+    "2203020105",
+    "2500",
+    "2603040141",
+    "2903040141",
+    "2A03020105",
+    "2D03040141",
+    "2E03040141",
+    "3F1F03040141",
+    "3F2003040141",
+    "3F2103040141",
+    "3F2203040141",
+    "3F2303040141",
+    "3F2403040141",
+    "2580 0000",
+    "2E80 040141 0000",
+    "3F1F80 040141 0000",
+    "2100",
+];
+
+// Whether a constructed element is said not to be in BER, and the input isn't in any encoding rules.
+fn is_said_constructed(alloc: Global, input: &str) -> ASN1Result<bool> {
+    let mut output = Vec::new(alloc);
+    let outcome = show(
+        alloc,
+        &mut output,
+        Ber,
+        Some(InputFormat::Hex),
+        16,
+        input.as_bytes(),
+    );
+    let text = std::str::from_utf8(output.as_slice()).unwrap_or("");
+    let first = text.lines().nth(1).unwrap_or("");
+    Ok(
+        outcome.is_ok()
+            && first.contains(" -- not BER: constructed, where the type is primitive")
+            && text.ends_with("rules: none\n"),
+    )
+}
+
+#[test]
+fn elements_are_shown_as_they_are(rt: HostRuntime) {
+    for row in &SHOWN {
+        let is_so = is_shown(rt.alloc(), Ber, Some(InputFormat::Hex), row.0, row.1);
+        holds(&rt, row.0, is_so);
+    }
+    for row in &CONSTRUCTED {
+        holds(&rt, row, is_said_constructed(rt.alloc(), row));
+    }
+}
