@@ -2,6 +2,7 @@
 use Rattle.std.specs.Prelude.{◌≡◌, ◌⊎◌, ◌↔◌, ℕ, zero, suc, min, List, [], ◌∷◌, ◌++◌, Option, None, Some}
 use Rattle.std.specs.List.{AllByRecursion}
 use Rattle.yasna_base.specs.Bits.{bits_tag}
+use Rattle.yasna_base.specs.Grammar.{max_depth}
 use Rattle.yasna_base.specs.Header.{ContentsEnd, EndsBefore}
 use Rattle.yasna_base.specs.Octets.{octets_tag}
 use Rattle.yasna_base.specs.Pieces.{Pieces}
@@ -86,4 +87,4 @@ MeetsTo n m s end r old new =
 -- an ambiguity has no first place exactly where the elements that s is don't have it
 abbrev pub AreTheAmbiguities : List ℕ → Ambiguities → Type 0
 AreTheAmbiguities s d =
-    (a : Ambiguity) (vs : List (Tree 101)) → Pieces (HasTree 101 Ber) vs s → (first_place a d ≡ None) ↔ AllByRecursion (IsSure a 101) vs
+    (a : Ambiguity) (vs : List (Tree max_depth)) → Pieces (HasTree max_depth Ber) vs s → (first_place a d ≡ None) ↔ AllByRecursion (IsSure a max_depth) vs

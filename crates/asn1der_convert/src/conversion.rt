@@ -6,6 +6,7 @@
 ghost use Rattle.std.specs.Prelude.{◌≡◌, ◌≤◌, ◌<◌, ◌+◌, ◌*◌, ◌-◌, ◌%◌, ◌^◌, ◌∷◌, [], ℕ, List, IfOk, IfErr, MatchOption, length};
 ghost use Rattle.yasna_base.specs.Bits.{bits_tag, bits_contents};
 ghost use Rattle.yasna_base.specs.Boolean.{boolean_byte, boolean_tag};
+ghost use Rattle.yasna_base.specs.Grammar.{max_depth};
 ghost use Rattle.yasna_base.specs.Header.{OpensAt, EndsBefore};
 ghost use Rattle.yasna_bytes.specs.Header.{NoEnd};
 ghost use Rattle.yasna_bytes.specs.Opening.{end_found};
@@ -304,7 +305,7 @@ fn convert_element<'a>(
 /// Converts elements from BER to DER.
 pub fn convert(alloc: Global, input: &[u8]) -> Result<Converted, ConvertError>
     ensures encoding { IfOk result (λ c. Converts input.now c.bytes.items) }
-    ensures raw { IfOk result (λ c. IsJoining (IsRaw 101 Der) c.bytes.items) }
+    ensures raw { IfOk result (λ c. IsJoining (IsRaw max_depth Der) c.bytes.items) }
     ensures same { IfOk result (λ c. EncodesTheSame input.now c.bytes.items) }
     ensures again { IfOk result (λ c. Converts c.bytes.items c.bytes.items) }
     ensures one { IfOk result (λ c. (d : List ℕ) → Converts input.now d → d ≡ c.bytes.items) }

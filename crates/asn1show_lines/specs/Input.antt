@@ -2,6 +2,7 @@
 use Rattle.std.specs.Prelude.{◌≡◌, ◌⊎◌, ◌≤◌, ◌||◌, ℕ, List, ◌∷◌, ◌++◌, Option, Some, None, IsTrue}
 use Rattle.std.specs.Char.{is_ascii_hexdigit}
 use Rattle.std.specs.List.{AllByRecursion, Any}
+use Rattle.yasna_base.specs.Grammar.{max_depth}
 use Rattle.yasna_base.specs.declared.error.ASN1ErrorKind.{ASN1ErrorKind}
 use Rattle.yasna_base.specs.declared.mode.BERMode.{BERMode}
 use Rattle.asn1show_lines.specs.Text.{is_between, IsHex, IsNoHex}
@@ -44,13 +45,13 @@ IsTakenAs None input input_format = IsDetected input input_format
 
 -- an input in this format encodes one or more well-formed elements, and in PEM each block does
 abbrev pub HoldsElements : BERMode → InputFormat → List ℕ → Type 0
-HoldsElements mode Bytes input = AreElements 101 mode input
-HoldsElements mode Hex input = (bytes : List ℕ) × IsHex input bytes × AreElements 101 mode bytes
-HoldsElements mode Pem input = (blocks : List (List ℕ)) × IsPem input blocks × AllByRecursion (AreElements 101 mode) blocks
+HoldsElements mode Bytes input = AreElements max_depth mode input
+HoldsElements mode Hex input = (bytes : List ℕ) × IsHex input bytes × AreElements max_depth mode bytes
+HoldsElements mode Pem input = (blocks : List (List ℕ)) × IsPem input blocks × AllByRecursion (AreElements max_depth mode) blocks
 
 -- an input in this format doesn't encode well-formed elements, with the offset and the kind of the error
 abbrev pub HoldsNone : BERMode → InputFormat → List ℕ → ℕ → ASN1ErrorKind → Type 0
-HoldsNone mode Bytes input offset kind = NoElements 101 mode input offset kind
+HoldsNone mode Bytes input offset kind = NoElements max_depth mode input offset kind
 HoldsNone mode Hex input offset kind =
-    IsNoHex input offset kind ⊎ ((bytes : List ℕ) × IsHex input bytes × NoElements 101 mode bytes offset kind)
+    IsNoHex input offset kind ⊎ ((bytes : List ℕ) × IsHex input bytes × NoElements max_depth mode bytes offset kind)
 HoldsNone mode Pem input offset kind = HoldsElements mode Pem input → ⊥

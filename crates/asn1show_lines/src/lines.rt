@@ -1,5 +1,6 @@
 //! An input from its text to its lines.
 ghost use Rattle.std.specs.Prelude.{◌≡◌, ◌≤◌, length, IfErr, OnOk, Some};
+ghost use Rattle.yasna_base.specs.Grammar.{max_depth};
 ghost use Rattle.yasna_base.specs.Raw.{IsRaw, IsJoining};
 ghost use Rattle.asn1show_lines.specs.Input.{IsTakenAs, HoldsElements, HoldsNone};
 ghost use Rattle.asn1show_lines.specs.Reader.{GoesOn, NeverComes};
@@ -25,10 +26,10 @@ fn show_bytes<W: Write>(
     style: Style<'_>,
     bytes: &[u8],
 ) -> Result<(), WalkError>
-    ensures raw { OnOk result (IsJoining (IsRaw 101 mode) bytes.now) }
+    ensures raw { OnOk result (IsJoining (IsRaw max_depth mode) bytes.now) }
     ensures some { OnOk result (1 ≤ length bytes.now) }
-    ensures elements { OnOk result (AreElements 101 mode bytes.now) }
-    ensures fails { IfErr result (λ f. WalkFails IsExternal (NoElements 101 mode bytes.now) f) }
+    ensures elements { OnOk result (AreElements max_depth mode bytes.now) }
+    ensures fails { IfErr result (λ f. WalkFails IsExternal (NoElements max_depth mode bytes.now) f) }
 {
     let mut printer = Printer::new(out, style);
     list_input(bytes, mode, &mut printer)?;
@@ -43,10 +44,10 @@ fn show_counted<W: Write>(
     mut line: LineBuffer,
     bytes: &[u8],
 ) -> Result<(), WalkError>
-    ensures raw { OnOk result (IsJoining (IsRaw 101 mode) bytes.now) }
+    ensures raw { OnOk result (IsJoining (IsRaw max_depth mode) bytes.now) }
     ensures some { OnOk result (1 ≤ length bytes.now) }
-    ensures elements { OnOk result (AreElements 101 mode bytes.now) }
-    ensures fails { IfErr result (λ f. WalkFails IsExternal (NoElements 101 mode bytes.now) f) }
+    ensures elements { OnOk result (AreElements max_depth mode bytes.now) }
+    ensures fails { IfErr result (λ f. WalkFails IsExternal (NoElements max_depth mode bytes.now) f) }
 {
     let count = bytes.len();
     write!(line, "{count} bytes");
@@ -75,8 +76,8 @@ fn show_block<W: Write>(
     style: Style<'_>,
     block: &Block<'_>,
 ) -> Result<(), WalkError>
-    ensures elements { OnOk result (AreElements 101 mode block.now.bytes.items) }
-    ensures fails { IfErr result (λ f. WalkFails IsExternal (NoElements 101 mode block.now.bytes.items) f) }
+    ensures elements { OnOk result (AreElements max_depth mode block.now.bytes.items) }
+    ensures fails { IfErr result (λ f. WalkFails IsExternal (NoElements max_depth mode block.now.bytes.items) f) }
 {
     let line = block_line(style.alloc, block.label);
     show_counted(out, mode, style, line, block.bytes.as_slice())
@@ -90,8 +91,8 @@ fn show_line<'a, W: Write>(
     reader: &mut PemReader<'a>,
     line: &'a [u8],
 ) -> Result<(), WalkError>
-    ensures goes_on { OnOk result (GoesOn (AreElements 101 mode) reader.old line.now reader.new) }
-    ensures fails { IfErr result (λ f. WalkFails IsExternal (λ offset kind. NeverComes (AreElements 101 mode) reader.old line.now) f) }
+    ensures goes_on { OnOk result (GoesOn (AreElements max_depth mode) reader.old line.now reader.new) }
+    ensures fails { IfErr result (λ f. WalkFails IsExternal (λ offset kind. NeverComes (AreElements max_depth mode) reader.old line.now) f) }
 {
     match reader.push(line) {
         Ok(Some(block)) => show_block(out, mode, style, &block),
@@ -143,7 +144,7 @@ fn show_format<W: Write>(
     style: Style<'_>,
     input: &[u8],
 ) -> Result<(), WalkError>
-    ensures raw { OnOk result (input_format ≡ Bytes → IsJoining (IsRaw 101 mode) input.now) }
+    ensures raw { OnOk result (input_format ≡ Bytes → IsJoining (IsRaw max_depth mode) input.now) }
     ensures decodes { OnOk result (HoldsElements mode input_format input.now) }
     ensures fails { IfErr result (λ f. WalkFails IsExternal (HoldsNone mode input_format input.now) f) }
 {
@@ -172,7 +173,7 @@ pub fn show<W: Write>(
     width: usize,
     input: &[u8],
 ) -> Result<(), WalkError>
-    ensures raw { OnOk result (IsTakenAs input_format input.now Bytes → IsJoining (IsRaw 101 mode) input.now) }
+    ensures raw { OnOk result (IsTakenAs input_format input.now Bytes → IsJoining (IsRaw max_depth mode) input.now) }
     ensures decodes { (taken : InputFormat) → IsTakenAs input_format input.now taken → OnOk result (HoldsElements mode taken input.now) }
     ensures fails { (taken : InputFormat) → IsTakenAs input_format input.now taken → IfErr result (λ f. WalkFails IsExternal (HoldsNone mode taken input.now) f) }
 {

@@ -3,6 +3,7 @@ use Rattle.std.specs.Prelude.{◌≡◌, ◌⊎◌, ℕ, zero, suc, ◌+◌, ◌
 use Rattle.yasna_base.specs.Bits.{bits_tag}
 use Rattle.yasna_base.specs.Digits.{IsBytes}
 use Rattle.yasna_base.specs.Element.{Definite, Indefinite}
+use Rattle.yasna_base.specs.Grammar.{max_depth}
 use Rattle.yasna_base.specs.Identifier.{end_tag}
 use Rattle.yasna_base.specs.Octets.{octets_tag}
 use Rattle.yasna_base.specs.declared.mode.BERMode.{BERMode}
@@ -47,7 +48,7 @@ pub record ListsElement (Inner : Bool → ℕ → List ℕ → List Line → Typ
   pub below : List Line
   pub reported : ls ≡ line ∷ below
   pub offset : line.offset ≡ o
-  pub depth : line.depth + n ≡ 101
+  pub depth : line.depth + n ≡ max_depth
   pub in_string : line.in_string ≡ w
   pub not_end : line.tag ≡ end_tag → ⊥
   pub in_range : line.tag.tag_number < 2 ^ 64

@@ -1,6 +1,7 @@
 -- The results of reading elements.
 use Rattle.std.specs.Prelude.{◌≡◌, ◌⊎◌, ℕ, ◌+◌, ◌≤◌, Bool, true, false, List, [], ◌∷◌, ◌++◌, length, Option, Some, None, Result, Ok, Err}
 use Rattle.yasna_base.specs.Bits.{bits_tag}
+use Rattle.yasna_base.specs.Grammar.{max_depth}
 use Rattle.yasna_base.specs.Header.{ContentsEnd, definite_end, indefinite_end, OpensAt}
 use Rattle.yasna_base.specs.Identifier.{end_tag}
 use Rattle.yasna_base.specs.Octets.{octets_tag}
@@ -40,7 +41,7 @@ pub record OpensItem (context : Context) (p : Place) (o : OpenedItem) : Type 0 w
   pub offset : o.item.offset ≡ p.offset
   pub header : o.item.header + (length o.item.contents.now + length (following (end_found o.end))) ≡ length p.left.now
   pub counts : o.item.size ≡ counted_length (end_found o.end) (length o.item.contents.now)
-  pub depth : o.item.depth + context.levels ≡ 101
+  pub depth : o.item.depth + context.levels ≡ max_depth
   pub in_string : o.item.in_string ≡ context.in_string
 
 -- no header of an element is at a place, with the offset and the kind of the error

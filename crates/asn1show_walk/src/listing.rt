@@ -1,5 +1,6 @@
 //! Elements one after the other, each reported to a visitor before what is in it (X.690, 8.1).
 ghost use Rattle.std.specs.Prelude.{◌≡◌, ◌+◌, ◌-◌, ◌^◌, ◌<◌, ◌≤◌, ℕ, List, [], ◌∷◌, Option, length, false, true, IsTrue, IfOk, IfErr, OnOk, MatchOption, ⊤};
+ghost use Rattle.yasna_base.specs.Grammar.{max_depth};
 ghost use Rattle.yasna_base.specs.Raw.{IsRaw, IsJoining};
 ghost use Rattle.asn1show_walk.specs.Listing.{Line, Visits, ListsBytes};
 ghost use Rattle.asn1show_walk.specs.Errors.{WalkFails};
@@ -173,11 +174,11 @@ pub fn list_element<'a, L: Visitor>(
 /// is that of the first header that was expected. So for a visitor that rejects nothing it is `Ok` exactly if the input is such
 /// elements.
 pub fn list_input<L: Visitor>(input: &[u8], mode: BERMode, visitor: &mut L) -> Result<(), WalkError>
-    ensures lines { OnOk result ((ls : List Line) × Visits (L.visited visitor.old) (L.visited visitor.new) ls × ListsBytes 101 mode false 0 input.now ls) }
-    ensures raw { OnOk result (IsJoining (IsRaw 101 mode) input.now) }
+    ensures lines { OnOk result ((ls : List Line) × Visits (L.visited visitor.old) (L.visited visitor.new) ls × ListsBytes max_depth mode false 0 input.now ls) }
+    ensures raw { OnOk result (IsJoining (IsRaw max_depth mode) input.now) }
     ensures some { OnOk result (1 ≤ length input.now) }
-    ensures elements { OnOk result (AreElements 101 mode input.now) }
-    ensures fails { IfErr result (λ f. WalkFails (L.rejects visitor.new) (NoElements 101 mode input.now) f) }
+    ensures elements { OnOk result (AreElements max_depth mode input.now) }
+    ensures fails { IfErr result (λ f. WalkFails (L.rejects visitor.new) (NoElements max_depth mode input.now) f) }
 {
     if input.is_empty() {
         return Err(WalkError::Malformed {

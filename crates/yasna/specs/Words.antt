@@ -64,3 +64,4 @@ pub use Rattle.yasna_reader.specs.Optional.{ReadsOptional, ReadsDefault}
 pub use Rattle.yasna_bytes.specs.Contents.{NeverAllocates, MayAllocate}
 -- what writes do
 pub use Rattle.yasna_writer.specs.View.{Written, Writes}
+pub use Rattle.yasna_writer.specs.Prepend.{Prepended, Prepends, KnownLength}

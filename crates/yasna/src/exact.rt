@@ -2,6 +2,7 @@
 ghost use Rattle.std.specs.Prelude.{◌≡◌, ◌↔◌, ◌<◌, ◌^◌, ◌++◌, ℕ, List, [], length, FitsSigned};
 ghost use Rattle.std.specs.Int.{w64, w32, w16};
 ghost use Rattle.std.specs.List.{AllByRecursion};
+ghost use Rattle.yasna_base.specs.Grammar.{max_depth};
 ghost use Rattle.yasna_base.specs.declared.mode.BERMode.{BERMode};
 ghost use Rattle.yasna_base.specs.declared.mode.BERMode.TheVariants.{Ber, Der, Cer};
 ghost use Rattle.yasna_base.specs.Canonical.{Always, leaf_depth};
@@ -55,13 +56,13 @@ pub trait DERExact: BERDecodable + DEREncodable {
 /// DER reads a value only from its DER encoding, CER only from its CER encoding, and BER from both. What DER or CER reads can be
 /// written. Encodings are unambiguous and prefix-free. All of this is within 101 levels.
 pub fn one_der_encoding<T: DERExact>()
-    ensures der { (v : T) (s : List ℕ) → length s < 2 ^ 64 → T.encodes Der 101 v s ↔ (T.fits Der 101 v × (s ≡ T.encoding Der v)) }
-    ensures cer { (v : T) (s : List ℕ) → length s < 2 ^ 64 → T.encodes Cer 101 v s ↔ (T.fits Cer 101 v × (s ≡ T.encoding Cer v)) }
-    ensures ber { (v : T) → T.fits Der 101 v → length (T.encoding Der v) < 2 ^ 64 → T.encodes Ber 101 v (T.encoding Der v) }
-    ensures ber_of_cer { (v : T) → T.fits Cer 101 v → length (T.encoding Cer v) < 2 ^ 64 → T.encodes Ber 101 v (T.encoding Cer v) }
-    ensures written { (v : T) (s : List ℕ) → T.encodes Der 101 v s → T.encodable v }
-    ensures written_of_cer { (v : T) (s : List ℕ) → T.encodes Cer 101 v s → T.encodable v }
-    ensures unique { (m : BERMode) (v w : T) (s r : List ℕ) → T.encodes m 101 v s → T.encodes m 101 w (s ++ r) → T.same v w × (r ≡ []) }
+    ensures der { (v : T) (s : List ℕ) → length s < 2 ^ 64 → T.encodes Der max_depth v s ↔ (T.fits Der max_depth v × (s ≡ T.encoding Der v)) }
+    ensures cer { (v : T) (s : List ℕ) → length s < 2 ^ 64 → T.encodes Cer max_depth v s ↔ (T.fits Cer max_depth v × (s ≡ T.encoding Cer v)) }
+    ensures ber { (v : T) → T.fits Der max_depth v → length (T.encoding Der v) < 2 ^ 64 → T.encodes Ber max_depth v (T.encoding Der v) }
+    ensures ber_of_cer { (v : T) → T.fits Cer max_depth v → length (T.encoding Cer v) < 2 ^ 64 → T.encodes Ber max_depth v (T.encoding Cer v) }
+    ensures written { (v : T) (s : List ℕ) → T.encodes Der max_depth v s → T.encodable v }
+    ensures written_of_cer { (v : T) (s : List ℕ) → T.encodes Cer max_depth v s → T.encodable v }
+    ensures unique { (m : BERMode) (v w : T) (s r : List ℕ) → T.encodes m max_depth v s → T.encodes m max_depth w (s ++ r) → T.same v w × (r ≡ []) }
 {}
 
 impl DERExact for () {

@@ -97,6 +97,8 @@ pub use yasna_reader::{
     try_parse_cer, try_parse_der,
 };
 pub use yasna_writer::{
-    DERWriter, DERWriterSeq, DERWriterSet, construct_cer, construct_der, construct_der_seq,
-    try_construct_der, try_construct_der_seq,
+    DERWriter, DERWriterSeq, DERWriterSet, PrependBuffer, bigint_len, bitvec_len, bytes_len,
+    construct_cer, construct_der, construct_der_seq, constructed_len, generalized_time_len,
+    i64_len, oid_len, primitive_len, tagged_der_len, text_len, try_construct_der,
+    try_construct_der_seq, u64_len, utctime_len,
 };

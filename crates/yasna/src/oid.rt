@@ -7,9 +7,11 @@ ghost use Rattle.yasna_base.proofs.Oid.{oid_coding, oid_written};
 
 use crate::traits::{BERDecodable, DERCanonical, DEREncodable};
 use yasna_base::error::ASN1Result;
+use yasna_base::mode::BERMode;
 use yasna_base::models::ObjectIdentifier;
+use yasna_base::tags::TAG_OID;
 use yasna_reader::BERReader;
-use yasna_writer::DERWriter;
+use yasna_writer::{DERWriter, PrependBuffer, oid_len};
 
 impl BERDecodable for ObjectIdentifier {
     ghost encodes = { EncodesOid };
@@ -36,6 +38,16 @@ impl DEREncodable for ObjectIdentifier {
 
     fn encode_der(&self, writer: DERWriter<'_>) -> ASN1Result<()> {
         writer.write_oid(self)
+    }
+
+    #[inline(always)]
+    fn prepend_der(&self, out: &mut PrependBuffer) -> ASN1Result<()> {
+        out.prepend_oid(TAG_OID, self)
+    }
+
+    #[inline(always)]
+    fn encoded_len(&self, _mode: BERMode) -> Option<usize> {
+        oid_len(TAG_OID, self)
     }
 }
 

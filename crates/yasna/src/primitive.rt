@@ -12,8 +12,10 @@ ghost use Rattle.yasna_base.proofs.Integer.{signed_coding, signed_written, unsig
 
 use crate::traits::{BERDecodable, DERCanonical, DEREncodable};
 use yasna_base::error::ASN1Result;
+use yasna_base::mode::BERMode;
+use yasna_base::tags::{TAG_BOOLEAN, TAG_INTEGER, TAG_NULL};
 use yasna_reader::BERReader;
-use yasna_writer::DERWriter;
+use yasna_writer::{DERWriter, PrependBuffer, i64_len, primitive_len, u64_len};
 
 impl BERDecodable for () {
     ghost encodes = { EncodesNull };
@@ -40,6 +42,16 @@ impl DEREncodable for () {
 
     fn encode_der(&self, writer: DERWriter<'_>) -> ASN1Result<()> {
         writer.write_null()
+    }
+
+    #[inline(always)]
+    fn prepend_der(&self, out: &mut PrependBuffer) -> ASN1Result<()> {
+        out.prepend_null(TAG_NULL)
+    }
+
+    #[inline(always)]
+    fn encoded_len(&self, _mode: BERMode) -> Option<usize> {
+        primitive_len(TAG_NULL, 0)
     }
 }
 
@@ -73,6 +85,16 @@ impl DEREncodable for bool {
     fn encode_der(&self, writer: DERWriter<'_>) -> ASN1Result<()> {
         writer.write_bool(*self)
     }
+
+    #[inline(always)]
+    fn prepend_der(&self, out: &mut PrependBuffer) -> ASN1Result<()> {
+        out.prepend_bool(TAG_BOOLEAN, *self)
+    }
+
+    #[inline(always)]
+    fn encoded_len(&self, _mode: BERMode) -> Option<usize> {
+        primitive_len(TAG_BOOLEAN, 1)
+    }
 }
 
 impl DERCanonical for bool {
@@ -104,6 +126,16 @@ impl DEREncodable for i64 {
 
     fn encode_der(&self, writer: DERWriter<'_>) -> ASN1Result<()> {
         writer.write_i64(*self)
+    }
+
+    #[inline(always)]
+    fn prepend_der(&self, out: &mut PrependBuffer) -> ASN1Result<()> {
+        out.prepend_i64(TAG_INTEGER, *self)
+    }
+
+    #[inline(always)]
+    fn encoded_len(&self, _mode: BERMode) -> Option<usize> {
+        i64_len(TAG_INTEGER, *self)
     }
 }
 
@@ -137,6 +169,16 @@ impl DEREncodable for i32 {
     fn encode_der(&self, writer: DERWriter<'_>) -> ASN1Result<()> {
         writer.write_i32(*self)
     }
+
+    #[inline(always)]
+    fn prepend_der(&self, out: &mut PrependBuffer) -> ASN1Result<()> {
+        out.prepend_i64(TAG_INTEGER, i64::from(*self))
+    }
+
+    #[inline(always)]
+    fn encoded_len(&self, _mode: BERMode) -> Option<usize> {
+        i64_len(TAG_INTEGER, i64::from(*self))
+    }
 }
 
 impl DERCanonical for i32 {
@@ -168,6 +210,16 @@ impl DEREncodable for i16 {
 
     fn encode_der(&self, writer: DERWriter<'_>) -> ASN1Result<()> {
         writer.write_i16(*self)
+    }
+
+    #[inline(always)]
+    fn prepend_der(&self, out: &mut PrependBuffer) -> ASN1Result<()> {
+        out.prepend_i64(TAG_INTEGER, i64::from(*self))
+    }
+
+    #[inline(always)]
+    fn encoded_len(&self, _mode: BERMode) -> Option<usize> {
+        i64_len(TAG_INTEGER, i64::from(*self))
     }
 }
 
@@ -201,6 +253,16 @@ impl DEREncodable for u64 {
     fn encode_der(&self, writer: DERWriter<'_>) -> ASN1Result<()> {
         writer.write_u64(*self)
     }
+
+    #[inline(always)]
+    fn prepend_der(&self, out: &mut PrependBuffer) -> ASN1Result<()> {
+        out.prepend_u64(TAG_INTEGER, *self)
+    }
+
+    #[inline(always)]
+    fn encoded_len(&self, _mode: BERMode) -> Option<usize> {
+        u64_len(TAG_INTEGER, *self)
+    }
 }
 
 impl DERCanonical for u64 {
@@ -233,6 +295,16 @@ impl DEREncodable for u32 {
     fn encode_der(&self, writer: DERWriter<'_>) -> ASN1Result<()> {
         writer.write_u32(*self)
     }
+
+    #[inline(always)]
+    fn prepend_der(&self, out: &mut PrependBuffer) -> ASN1Result<()> {
+        out.prepend_i64(TAG_INTEGER, i64::from(*self))
+    }
+
+    #[inline(always)]
+    fn encoded_len(&self, _mode: BERMode) -> Option<usize> {
+        i64_len(TAG_INTEGER, i64::from(*self))
+    }
 }
 
 impl DERCanonical for u32 {
@@ -264,6 +336,16 @@ impl DEREncodable for u16 {
 
     fn encode_der(&self, writer: DERWriter<'_>) -> ASN1Result<()> {
         writer.write_u16(*self)
+    }
+
+    #[inline(always)]
+    fn prepend_der(&self, out: &mut PrependBuffer) -> ASN1Result<()> {
+        out.prepend_i64(TAG_INTEGER, i64::from(*self))
+    }
+
+    #[inline(always)]
+    fn encoded_len(&self, _mode: BERMode) -> Option<usize> {
+        i64_len(TAG_INTEGER, i64::from(*self))
     }
 }
 

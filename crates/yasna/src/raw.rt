@@ -10,9 +10,10 @@ ghost use Rattle.yasna_base.proofs.Raw.{raw_coding};
 
 use crate::traits::{BERDecodable, DEREncodable};
 use yasna_base::error::ASN1Result;
+use yasna_base::mode::BERMode;
 use yasna_base::models::TaggedDerValue;
 use yasna_reader::BERReader;
-use yasna_writer::DERWriter;
+use yasna_writer::{DERWriter, PrependBuffer, tagged_der_len};
 
 impl BERDecodable for TaggedDerValue {
     ghost encodes = { λ m n v b. IsRaw n m (raw_of v) b };
@@ -40,5 +41,15 @@ impl DEREncodable for TaggedDerValue {
 
     fn encode_der(&self, writer: DERWriter<'_>) -> ASN1Result<()> {
         writer.write_tagged_der(self)
+    }
+
+    #[inline(always)]
+    fn prepend_der(&self, out: &mut PrependBuffer) -> ASN1Result<()> {
+        out.prepend_tagged_der(self.tag(), self)
+    }
+
+    #[inline(always)]
+    fn encoded_len(&self, mode: BERMode) -> Option<usize> {
+        tagged_der_len(mode, self.tag(), self)
     }
 }

@@ -4,12 +4,14 @@
 ghost use Rattle.std.specs.Prelude.{◌≡◌, None};
 ghost use Rattle.yasna_base.proofs.Canonical.{written_along};
 ghost use Rattle.yasna_base.proofs.Coding.{along};
+ghost use Rattle.yasna_writer.specs.Prepend.{Prepends, KnownLength};
 ghost use Rattle.yasna_writer.specs.View.{Writes};
 
 use crate::traits::{BERDecodable, DERCanonical, DEREncodable};
 use yasna_base::error::ASN1Result;
+use yasna_base::mode::BERMode;
 use yasna_reader::BERReader;
-use yasna_writer::DERWriter;
+use yasna_writer::{DERWriter, PrependBuffer};
 
 /// A type whose values are encoded as those of another type, its shape.
 ///
@@ -82,6 +84,25 @@ where
         requires can { Self.Shape.encodable (Self.shape_of self.now) }
         requires untagged { writer.old.tag ≡ None }
         ensures { Writes (Self.Shape.encoding writer.old.mode (Self.shape_of self.now)) writer.old writer.new result };
+
+    /// Prepends the value of the shape that represents this one, as `prepend_der` prepends it.
+    fn prepend_shape(&self, out: &mut PrependBuffer) -> ASN1Result<()>
+        requires { Self.Shape.encodable (Self.shape_of self.now) }
+        ensures { Prepends (Self.Shape.encoding out.old.mode (Self.shape_of self.now)) out.old out.new result }
+    {
+        let mut writer = out.writer();
+        self.encode_shape(&mut writer)?;
+        out.prepend_written(&mut writer)
+    }
+
+    /// The length of the encoding, if it is known, as `encoded_len` returns it.
+    fn shape_len(&self, mode: BERMode) -> Option<usize>
+        requires { Self.Shape.encodable (Self.shape_of self.now) }
+        ensures { KnownLength (Self.Shape.encoding mode (Self.shape_of self.now)) result }
+    {
+        let _ = mode;
+        None
+    }
 }
 
 impl<T: EncodeShape> DEREncodable for T
@@ -97,6 +118,16 @@ where
     #[inline(always)]
     fn encode_der(&self, writer: DERWriter<'_>) -> ASN1Result<()> {
         self.encode_shape(writer)
+    }
+
+    #[inline(always)]
+    fn prepend_der(&self, out: &mut PrependBuffer) -> ASN1Result<()> {
+        self.prepend_shape(out)
+    }
+
+    #[inline(always)]
+    fn encoded_len(&self, mode: BERMode) -> Option<usize> {
+        self.shape_len(mode)
     }
 }
 
@@ -117,5 +148,15 @@ impl<'a, T: DEREncodable> EncodeShape for &'a T {
     #[inline(always)]
     fn encode_shape(&self, writer: DERWriter<'_>) -> ASN1Result<()> {
         T::encode_der(*self, writer)
+    }
+
+    #[inline(always)]
+    fn prepend_shape(&self, out: &mut PrependBuffer) -> ASN1Result<()> {
+        T::prepend_der(*self, out)
+    }
+
+    #[inline(always)]
+    fn shape_len(&self, mode: BERMode) -> Option<usize> {
+        T::encoded_len(*self, mode)
     }
 }

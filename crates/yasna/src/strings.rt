@@ -10,8 +10,10 @@ ghost use Rattle.yasna_base.proofs.Texts.{text_coding, text_written};
 
 use crate::traits::{BERDecodable, DERCanonical, DEREncodable};
 use yasna_base::error::ASN1Result;
+use yasna_base::mode::BERMode;
+use yasna_base::tags::{TAG_OCTETSTRING, TAG_UTF8STRING};
 use yasna_reader::BERReader;
-use yasna_writer::DERWriter;
+use yasna_writer::{DERWriter, PrependBuffer, bytes_len, text_len};
 
 impl BERDecodable for Vec<u8> {
     ghost encodes = { EncodesVec };
@@ -38,6 +40,16 @@ impl DEREncodable for Vec<u8> {
 
     fn encode_der(&self, writer: DERWriter<'_>) -> ASN1Result<()> {
         writer.write_bytes(self.as_slice())
+    }
+
+    #[inline(always)]
+    fn prepend_der(&self, out: &mut PrependBuffer) -> ASN1Result<()> {
+        out.prepend_bytes(TAG_OCTETSTRING, self.as_slice())
+    }
+
+    #[inline(always)]
+    fn encoded_len(&self, mode: BERMode) -> Option<usize> {
+        bytes_len(mode, TAG_OCTETSTRING, self.as_slice())
     }
 }
 
@@ -70,6 +82,16 @@ impl DEREncodable for String {
 
     fn encode_der(&self, writer: DERWriter<'_>) -> ASN1Result<()> {
         writer.write_utf8_string(self.as_str())
+    }
+
+    #[inline(always)]
+    fn prepend_der(&self, out: &mut PrependBuffer) -> ASN1Result<()> {
+        out.prepend_text(TAG_UTF8STRING, self.as_str())
+    }
+
+    #[inline(always)]
+    fn encoded_len(&self, mode: BERMode) -> Option<usize> {
+        text_len(mode, TAG_UTF8STRING, self.as_str())
     }
 }
 

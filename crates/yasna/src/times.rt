@@ -9,9 +9,11 @@ ghost use Rattle.yasna_times.proofs.TimeLaws.{utc_coding, utc_written, general_c
 
 use crate::traits::{BERDecodable, DERCanonical, DEREncodable};
 use yasna_base::error::ASN1Result;
+use yasna_base::mode::BERMode;
+use yasna_base::tags::{TAG_GENERALIZEDTIME, TAG_UTCTIME};
 use yasna_reader::BERReader;
 use yasna_times::models::{GeneralizedTime, UTCTime};
-use yasna_writer::DERWriter;
+use yasna_writer::{DERWriter, PrependBuffer, generalized_time_len, utctime_len};
 
 impl BERDecodable for UTCTime {
     ghost encodes = { EncodesUtc };
@@ -38,6 +40,16 @@ impl DEREncodable for UTCTime {
 
     fn encode_der(&self, writer: DERWriter<'_>) -> ASN1Result<()> {
         writer.write_utctime(self)
+    }
+
+    #[inline(always)]
+    fn prepend_der(&self, out: &mut PrependBuffer) -> ASN1Result<()> {
+        out.prepend_utctime(TAG_UTCTIME, self)
+    }
+
+    #[inline(always)]
+    fn encoded_len(&self, _mode: BERMode) -> Option<usize> {
+        utctime_len(TAG_UTCTIME, self)
     }
 }
 
@@ -70,6 +82,16 @@ impl DEREncodable for GeneralizedTime {
 
     fn encode_der(&self, writer: DERWriter<'_>) -> ASN1Result<()> {
         writer.write_generalized_time(self)
+    }
+
+    #[inline(always)]
+    fn prepend_der(&self, out: &mut PrependBuffer) -> ASN1Result<()> {
+        out.prepend_generalized_time(TAG_GENERALIZEDTIME, self)
+    }
+
+    #[inline(always)]
+    fn encoded_len(&self, _mode: BERMode) -> Option<usize> {
+        generalized_time_len(TAG_GENERALIZEDTIME, self)
     }
 }
 

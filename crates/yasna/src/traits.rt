@@ -10,11 +10,13 @@ ghost use Rattle.yasna_base.specs.Canonical.{IsWritten};
 ghost use Rattle.yasna_base.specs.Grammar.{Grammar, Members, Encoding, Depth};
 ghost use Rattle.yasna_reader.specs.Decodes.{Decodes, RepeatsError};
 ghost use Rattle.yasna_reader.specs.State.{Reading, Does};
+ghost use Rattle.yasna_writer.specs.Prepend.{Prepends, KnownLength};
 ghost use Rattle.yasna_writer.specs.View.{Writes};
 
 use yasna_base::error::ASN1Result;
+use yasna_base::mode::BERMode;
 use yasna_reader::BERReader;
-use yasna_writer::DERWriter;
+use yasna_writer::{DERWriter, PrependBuffer};
 
 /// A type that is read from BER, DER and CER.
 ///
@@ -68,6 +70,30 @@ pub trait DEREncodable {
         requires can { encodable self.now }
         requires untagged { writer.old.tag ≡ None }
         ensures { Writes (encoding writer.old.mode self.now) writer.old writer.new result };
+
+    /// Prepends a value of this type to a buffer, in its mode: the bytes that `encode_der` appends.
+    ///
+    /// `Err` is `OutOfMemory`. A type without a body of its own is written by `encode_der` separately.
+    fn prepend_der(&self, out: &mut PrependBuffer) -> ASN1Result<()>
+        requires { encodable self.now }
+        ensures { Prepends (encoding out.old.mode self.now) out.old out.new result }
+    {
+        let mut writer = out.writer();
+        self.encode_der(&mut writer)?;
+        out.prepend_written(&mut writer)
+    }
+
+    /// The length of the encoding in a canonical mode, if it is known.
+    ///
+    /// The functions `encode_der` and `encode_cer` call `prepend_der` of a value whose length is known, into a block of just that length.
+    /// `None` lets them call the method `encode_der` for all of it. So a type that returns `Some` has a body of its own for `prepend_der` too.
+    fn encoded_len(&self, mode: BERMode) -> Option<usize>
+        requires { encodable self.now }
+        ensures { KnownLength (encoding mode self.now) result }
+    {
+        let _ = mode;
+        None
+    }
 }
 
 /// A type that DER and CER read only from its one encoding there, which BER reads too.

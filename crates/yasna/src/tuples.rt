@@ -10,17 +10,21 @@ ghost use Rattle.yasna_base.specs.Element.{Enclosed, AnyEnclosed};
 ghost use Rattle.yasna_base.specs.Coding.{ArePartsCoding};
 ghost use Rattle.yasna_base.specs.Canonical.{enclosed_encoding, enclosed_depth, Always};
 ghost use Rattle.yasna_base.proofs.Sequence.{part, no_part, tuple, part_written, no_part_written, tuple_written};
+ghost use Rattle.yasna_writer.specs.Prepend.{Prepends, KnownLength};
 ghost use Rattle.yasna_writer.specs.View.{Writes, WroteParts};
 ghost use Rattle.yasna_reader.specs.State.{IsFresh, part_of};
 ghost use Rattle.yasna_reader.specs.Decodes.{Decodes, DecodesParts, RepeatsError};
 
 mod exact;
-mod three_to_twelve;
+mod seven_to_twelve;
+mod three_to_six;
 
 use crate::traits::{BERDecodable, DERCanonical, DEREncodable};
 use yasna_base::error::ASN1Result;
+use yasna_base::mode::BERMode;
+use yasna_base::tags::TAG_SEQUENCE;
 use yasna_reader::{BERReader, BERReaderSeq};
-use yasna_writer::{DERWriter, DERWriterSeq};
+use yasna_writer::{DERWriter, DERWriterSeq, PrependBuffer, constructed_len};
 
 /// The parts of a tuple, as they are read.
 pub trait TupleParts: Sized {
@@ -121,6 +125,16 @@ pub trait EncodableParts {
     fn write_parts(&self, seq: &mut DERWriterSeq) -> ASN1Result<()>
         requires { parts_encodable self.now }
         ensures { WroteParts (parts_encoding seq.old.mode self.now) seq.old seq.new result };
+
+    /// Prepends the values, from the last to the first.
+    fn prepend_parts(&self, out: &mut PrependBuffer) -> ASN1Result<()>
+        requires { parts_encodable self.now }
+        ensures { Prepends (parts_encoding out.old.mode self.now) out.old out.new result };
+
+    /// The length of their encodings, one after the other, if it is known.
+    fn parts_len(&self, mode: BERMode) -> Option<usize>
+        requires { parts_encodable self.now }
+        ensures { KnownLength (parts_encoding mode self.now) result };
 }
 
 impl EncodableParts for () {
@@ -130,6 +144,16 @@ impl EncodableParts for () {
 
     fn write_parts(&self, _seq: &mut DERWriterSeq) -> ASN1Result<()> {
         Ok(())
+    }
+
+    #[inline(always)]
+    fn prepend_parts(&self, _out: &mut PrependBuffer) -> ASN1Result<()> {
+        Ok(())
+    }
+
+    #[inline(always)]
+    fn parts_len(&self, _mode: BERMode) -> Option<usize> {
+        Some(0)
     }
 }
 
@@ -142,6 +166,19 @@ impl<A: DEREncodable, W: EncodableParts> EncodableParts for (A, W) {
         self.0.encode_der(seq.next())?;
         self.1.write_parts(seq)
     }
+
+    #[inline(always)]
+    fn prepend_parts(&self, out: &mut PrependBuffer) -> ASN1Result<()> {
+        self.1.prepend_parts(out)?;
+        self.0.prepend_der(out)
+    }
+
+    #[inline(always)]
+    fn parts_len(&self, mode: BERMode) -> Option<usize> {
+        let first = self.0.encoded_len(mode)?;
+        let others = self.1.parts_len(mode)?;
+        first.checked_add(others)
+    }
 }
 
 // Writes a SEQUENCE of these parts.
@@ -152,6 +189,26 @@ fn write_tuple<W: EncodableParts>(parts: &W, writer: DERWriter<'_>) -> ASN1Resul
     ensures { Writes (enclosed_encoding W.parts_encoding sequence_tag writer.old.mode parts.now) writer.old writer.new result }
 {
     writer.write_sequence(|seq| parts.write_parts(seq))
+}
+
+// Prepends a SEQUENCE of these parts.
+#[inline(always)]
+fn prepend_tuple<W: EncodableParts>(parts: &W, out: &mut PrependBuffer) -> ASN1Result<()>
+    requires { W.parts_encodable parts.now }
+    ensures { Prepends (enclosed_encoding W.parts_encoding sequence_tag out.old.mode parts.now) out.old out.new result }
+{
+    let after = out.begin_contents()?;
+    parts.prepend_parts(out)?;
+    out.enclose(TAG_SEQUENCE, after)
+}
+
+// The length of that.
+#[inline(always)]
+fn tuple_len<W: EncodableParts>(parts: &W, mode: BERMode) -> Option<usize>
+    requires { W.parts_encodable parts.now }
+    ensures { KnownLength (enclosed_encoding W.parts_encoding sequence_tag mode parts.now) result }
+{
+    constructed_len(mode, TAG_SEQUENCE, parts.parts_len(mode)?)
 }
 
 // Writes a SEQUENCE of six parts and of those after them.
@@ -170,6 +227,40 @@ fn write_long_tuple<
 {
     let (a, b, c, d, e, f) = first;
     write_tuple(&(a, (b, (c, (d, (e, (f, others)))))), writer)
+}
+
+// Prepends a SEQUENCE of six parts and of those after them.
+fn prepend_long_tuple<
+    A: DEREncodable,
+    B: DEREncodable,
+    C: DEREncodable,
+    D: DEREncodable,
+    E: DEREncodable,
+    F: DEREncodable,
+    W: EncodableParts + Drop,
+>(first: (&A, &B, &C, &D, &E, &F), others: W, out: &mut PrependBuffer) -> ASN1Result<()>
+    requires { part_can A.encodable (part_can B.encodable (part_can C.encodable (part_can D.encodable (part_can E.encodable (part_can F.encodable W.parts_encodable))))) (first.0.now, (first.1.now, (first.2.now, (first.3.now, (first.4.now, (first.5.now, others)))))) }
+    ensures { Prepends (enclosed_encoding (part_encoding A.encoding (part_encoding B.encoding (part_encoding C.encoding (part_encoding D.encoding (part_encoding E.encoding (part_encoding F.encoding W.parts_encoding)))))) sequence_tag out.old.mode (first.entry.0.now, (first.entry.1.now, (first.entry.2.now, (first.entry.3.now, (first.entry.4.now, (first.entry.5.now, others))))))) out.old out.new result }
+{
+    let (a, b, c, d, e, f) = first;
+    prepend_tuple(&(a, (b, (c, (d, (e, (f, others)))))), out)
+}
+
+// The length of that.
+fn long_tuple_len<
+    A: DEREncodable,
+    B: DEREncodable,
+    C: DEREncodable,
+    D: DEREncodable,
+    E: DEREncodable,
+    F: DEREncodable,
+    W: EncodableParts + Drop,
+>(first: (&A, &B, &C, &D, &E, &F), others: W, mode: BERMode) -> Option<usize>
+    requires { part_can A.encodable (part_can B.encodable (part_can C.encodable (part_can D.encodable (part_can E.encodable (part_can F.encodable W.parts_encodable))))) (first.0.now, (first.1.now, (first.2.now, (first.3.now, (first.4.now, (first.5.now, others)))))) }
+    ensures { KnownLength (enclosed_encoding (part_encoding A.encoding (part_encoding B.encoding (part_encoding C.encoding (part_encoding D.encoding (part_encoding E.encoding (part_encoding F.encoding W.parts_encoding)))))) sequence_tag mode (first.entry.0.now, (first.entry.1.now, (first.entry.2.now, (first.entry.3.now, (first.entry.4.now, (first.entry.5.now, others))))))) result }
+{
+    let (a, b, c, d, e, f) = first;
+    tuple_len(&(a, (b, (c, (d, (e, (f, others)))))), mode)
 }
 
 /// A SEQUENCE of these parts, which are pairs that end in `()`.
@@ -226,6 +317,16 @@ impl<A: DEREncodable, B: DEREncodable> DEREncodable for (A, B) {
 
     fn encode_der(&self, writer: DERWriter<'_>) -> ASN1Result<()> {
         write_tuple(&(&self.0, (&self.1, ())), writer)
+    }
+
+    #[inline(always)]
+    fn prepend_der(&self, out: &mut PrependBuffer) -> ASN1Result<()> {
+        prepend_tuple(&(&self.0, (&self.1, ())), out)
+    }
+
+    #[inline(always)]
+    fn encoded_len(&self, mode: BERMode) -> Option<usize> {
+        tuple_len(&(&self.0, (&self.1, ())), mode)
     }
 }
 

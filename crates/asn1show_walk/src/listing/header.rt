@@ -1,5 +1,6 @@
 //! The header of an element at a place, or the error if there is none.
 ghost use Rattle.std.specs.Prelude.{◌≡◌, ◌+◌, ◌≤◌, length};
+ghost use Rattle.yasna_base.specs.Grammar.{max_depth};
 ghost use Rattle.yasna_bytes.specs.Opening.{end_found};
 ghost use Rattle.yasna_bytes.specs.Walk.{following};
 ghost use Rattle.asn1show_walk.specs.Reading.{ItemAt, counted_length};
@@ -80,7 +81,7 @@ fn opened_of<'a>(context: Context, place: Place<'a>, tag: Tag, found: &Found<'a>
     ensures offset { result.item.offset ≡ place.entry.offset }
     ensures header { result.item.header + (length found.now.contents + length (following found.now.end)) ≡ length place.entry.left.now }
     ensures size { result.item.size ≡ counted_length found.now.end (length found.now.contents) }
-    ensures depth { result.item.depth + context.levels ≡ 101 }
+    ensures depth { result.item.depth + context.levels ≡ max_depth }
     ensures in_string { result.item.in_string ≡ context.in_string }
 {
     let size = found.contents.len();

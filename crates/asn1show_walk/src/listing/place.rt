@@ -1,5 +1,6 @@
 //! Places of elements, and the context in which they are read.
 ghost use Rattle.std.specs.Prelude.{◌≡◌, ◌+◌, ◌-◌, ◌^◌, ◌<◌, ◌≤◌, length, true, false};
+ghost use Rattle.yasna_base.specs.Grammar.{max_depth};
 
 use yasna_base::mode::BERMode;
 
@@ -52,14 +53,14 @@ pub struct Context {
     /// Whether the elements are in the contents of a string.
     pub in_string: bool,
 
-    ghost few: { levels ≤ 101 },
+    ghost few: { levels ≤ max_depth },
 }
 
 impl Context {
     /// The rules at the beginning of an input.
     pub(super) fn start(mode: BERMode) -> Context
         ensures mode { result.mode ≡ mode }
-        ensures levels { result.levels ≡ 101 }
+        ensures levels { result.levels ≡ max_depth }
         ensures in_string { result.in_string ≡ false }
     {
         Context {

@@ -1,4 +1,4 @@
-use Rattle.yasna.proofs.tuples.three_to_twelve.Tuple12BERDecodable.decode_ber.Goals as goal
+use Rattle.yasna.proofs.tuples.seven_to_twelve.Tuple11BERDecodable.decode_ber.Goals as goal
 
 pub returns-in-Ok-clause-decodes : goal.returns-in-Ok-clause-decodes
 returns-in-Ok-clause-decodes g c failed =

@@ -1,0 +1,10 @@
+use Rattle.yasna_base.specs.Sequence.{sequence_tag}
+use Rattle.yasna_base.specs.SequenceOf.{elements_encoding}
+use Rattle.yasna_writer.proofs.Prepends.{element_prepended}
+use Rattle.yasna.proofs.lists.prepend_list.Goals as goal
+
+pub returns : goal.returns
+returns g c =
+    let begun = c.in_ok-after.ensures {u = tt} in
+    element_prepended sequence_tag (λ m. elements_encoding g.T.DEREncodable.encoding m c.args.items.now) c.args.out.now c.begin_contents.new.self c.prepend_items.new.out
+    c.enclose.new.self c.in_ok-after.after c.enclose.result begun.0 begun.1 (c.in_ok-prepend_items.ensures {u = tt}) c.enclose.ensures
