@@ -31,7 +31,8 @@ ORDER = {
         " parse_der_located parse_cer_located parse_ber_located Located",
         "Constructing": "construct_der construct_cer construct_der_seq try_construct_der try_construct_der_seq",
         "Readers": "BERReader BERReaderSeq BERReaderSet",
-        "Writers": "DERWriter DERWriterSeq DERWriterSet",
+        "Writers": "DERWriter DERWriterSeq DERWriterSet PrependBuffer",
+        "Lengths of encodings": "bigint_len bitvec_len bytes_len constructed_len generalized_time_len i64_len oid_len primitive_len tagged_der_len text_len u64_len utctime_len",
         "Errors": "ASN1Result ASN1Error ASN1ErrorKind",
         "Tags and modes": "Tag TagClass PCBit BERMode tags::*",
         "Values": "models::ObjectIdentifier models::ParseOidError models::UTCTime models::GeneralizedTime models::TaggedDerValue"
