@@ -2,7 +2,7 @@
 
 use crate::checks::{bytes_of, holds, is_kind};
 use std::alloc::Global;
-use yasna::ASN1ErrorKind::{Eof, Extra, Invalid};
+use yasna::ASN1ErrorKind::{Eof, Extra, Invalid, StackOverflow};
 use yasna::BERMode::{Ber, Cer, Der};
 use yasna::{
     ASN1Error, ASN1ErrorKind, ASN1Result, BERMode, BERReader, BERReaderSeq, BERReaderSet, Located,
@@ -20,17 +20,22 @@ enum Reading {
     OtherThanSeven,
     /// SET { number INTEGER, name UTF8String OPTIONAL }, whose number is 7.
     Setting,
+    /// SEQUENCE { setting SET { number INTEGER, name UTF8String OPTIONAL } }
+    Enclosed,
 }
 
-use Reading::{OtherThanSeven, Setting, Table, Tagged};
+use Reading::{Enclosed, OtherThanSeven, Setting, Table, Tagged};
+
+fn setting(elements: &mut BERReaderSet) -> ASN1Result<bool> {
+    elements.read_optional(&[tags::TAG_UTF8STRING], |name| name.read_utf8string())?;
+    Ok(elements.next(&[tags::TAG_INTEGER])?.read_i64()? == 7)
+}
 
 impl Reading {
     fn read(self, reader: BERReader) -> ASN1Result<bool> {
         match self {
-            Setting => reader.read_set(|elements| {
-                elements.read_optional(&[tags::TAG_UTF8STRING], |name| name.read_utf8string())?;
-                Ok(elements.next(&[tags::TAG_INTEGER])?.read_i64()? == 7)
-            }),
+            Setting => reader.read_set(setting),
+            Enclosed => reader.read_sequence(|parts| parts.next().read_set(setting)),
             Tagged => reader.read_tagged(Tag::context(0), |inner| {
                 inner.read_tagged_implicit(Tag::context(1), |part| {
                     part.read_sequence(|parts| parts.next().read_bool())
@@ -73,7 +78,7 @@ fn read(alloc: Global, mode: BERMode, bytes: &[u8], reading: Reading) -> Result<
 type Error = (ASN1ErrorKind, usize, usize);
 
 // A name, what is read in which mode, and how it fails, if it does.
-static READINGS: [(&str, Reading, BERMode, &str, Option<Error>); 25] = [
+static READINGS: [(&str, Reading, BERMode, &str, Option<Error>); 29] = [
     // the outermost element, which fails at the beginning
     (
         "a table",
@@ -224,6 +229,35 @@ static READINGS: [(&str, Reading, BERMode, &str, Option<Error>); 25] = [
         "3107020200070C0141",
         Some((Invalid, 2, 1)),
     ),
+    // so do those that the callback is never handed, and a SET of which it takes nothing fails at its first element
+    (
+        "a cut element of a SET",
+        Setting,
+        Ber,
+        "31050201010203",
+        Some((Eof, 5, 1)),
+    ),
+    (
+        "an element of a SET that is out of order",
+        Setting,
+        Der,
+        "31060C0141020107",
+        Some((Invalid, 5, 1)),
+    ),
+    (
+        "a SET without a number",
+        Setting,
+        Ber,
+        "31800101000000",
+        Some((Invalid, 2, 1)),
+    ),
+    (
+        "a SET without a number, before other elements",
+        Enclosed,
+        Ber,
+        "3080318001010000000201010201FF0000",
+        Some((Invalid, 4, 2)),
+    ),
 ];
 
 fn is_read(
@@ -265,6 +299,20 @@ fn are_exchanged(alloc: Global) -> bool {
     in_string && outcome.is_ok()
 }
 
+// Whether an element of a SET that is too deep fails where it begins.
+fn is_too_deep(alloc: Global) -> ASN1Result<bool> {
+    let mut bytes = bytes_of(alloc, "3180")?;
+    for _ in 0..101 {
+        bytes.extend_from_slice(&[0x30, 0x80])?;
+    }
+    match read(alloc, Ber, &bytes, Setting) {
+        Ok(_) => Ok(false),
+        Err(found) => Ok(is_kind(found.error.kind(), StackOverflow)
+            && found.offset == 2
+            && found.depth == 1),
+    }
+}
+
 // Whether the line of a failure says where a table is malformed.
 fn is_line(alloc: Global, malformed: &[u8], line: &str) -> ASN1Result<bool> {
     match read(alloc, Der, malformed, Table) {
@@ -280,6 +328,7 @@ fn parses_fail_where_elements_are_malformed(rt: HostRuntime) {
         holds(&rt, row.0, is_read(rt.alloc(), row.1, row.2, row.3, row.4));
     }
     holds(&rt, "exchanged readings", Ok(are_exchanged(rt.alloc())));
+    holds(&rt, "a deep element of a SET", is_too_deep(rt.alloc()));
     let line = "ASN1Error { kind: Eof } at offset 2, depth 1";
     holds(&rt, line, is_line(rt.alloc(), &[48, 3, 2, 2, 7], line));
 }
