@@ -4,10 +4,10 @@
 //!
 //! | Status | When |
 //! |---|---|
-//! | 0 | the bytes are one such message |
-//! | 1 | the bytes aren't one, or there was no memory for it; the error is on standard error |
+//! | 0 | the bytes are one such message, and were written |
+//! | 1 | the bytes aren't one; the error is on standard error |
 //! | 2 | usage error |
-//! | 3 | a read or a write failed |
+//! | 3 | I/O error, or out of memory |
 //!
 //! | Module | Holds |
 //! |---|---|
@@ -17,21 +17,16 @@
 mod message_type;
 
 use message_type::MessageType;
-use std::io::{Read, Write};
+use program_io::{ProgramError, arguments, read_input, write_output};
+use std::io::Write;
 use std::process::ExitCode;
-use std::{env, io};
+use yasna::{ASN1Error, ASN1ErrorKind};
 
-fn read(rt: &HostRuntime) -> io::Result<Vec<u8>> {
-    let mut input = Vec::new(rt.alloc());
-    rt.stdin().read_to_end(&mut input)?;
-    Ok(input)
-}
+// The status if the bytes aren't such a message.
+const REJECTED: u8 = 1;
 
-fn write(rt: &HostRuntime, bytes: &[u8]) -> io::Result<()> {
-    let mut out = rt.stdout();
-    out.write_all(bytes)?;
-    out.flush()
-}
+// The status after a usage error.
+const USAGE_ERROR: u8 = 2;
 
 // The type of message that the arguments name, if they name one.
 fn requested_type(words: &[String]) -> Option<MessageType> {
@@ -41,38 +36,45 @@ fn requested_type(words: &[String]) -> Option<MessageType> {
     MessageType::named(word.as_str())
 }
 
-// Rewrites a message, and returns the status.
+// Reports why there is no message, and returns the status.
+fn reject(rt: &HostRuntime, error: ASN1Error) -> u8 {
+    if error.kind() == ASN1ErrorKind::OutOfMemory {
+        return ProgramError::Memory.report(rt);
+    }
+    let _ = writeln!(rt.stderr(), "{error}");
+    REJECTED
+}
+
+// Writes a message, and returns the status.
+fn finish(rt: &HostRuntime, encoding: &[u8]) -> u8 {
+    match write_output(rt, encoding) {
+        Ok(()) => 0,
+        Err(error) => error.report(rt),
+    }
+}
+
+// Rewrites standard input, and returns the status.
 fn run(rt: &HostRuntime, kind: MessageType) -> u8 {
-    let mut errors = rt.stderr();
-    let Ok(input) = read(rt) else {
-        let _ = writeln!(errors, "standard input can't be read");
-        return 3;
+    let input = match read_input(rt) {
+        Ok(input) => input,
+        Err(error) => return error.report(rt),
     };
     match kind.rewritten(rt.alloc(), input.as_slice()) {
-        Ok(encoding) => match write(rt, encoding.as_slice()) {
-            Ok(()) => 0,
-            Err(_) => {
-                let _ = writeln!(errors, "standard output can't be written");
-                3
-            }
-        },
-        Err(error) => {
-            let _ = writeln!(errors, "{error}");
-            1
-        }
+        Ok(encoding) => finish(rt, encoding.as_slice()),
+        Err(error) => reject(rt, error),
     }
 }
 
 fn main(rt: HostRuntime) -> ExitCode {
-    let Ok(words) = env::args(&rt).and_then(|all| Ok(all.collect::<Vec<String>>(rt.alloc())?))
-    else {
-        return ExitCode::from(3);
+    let words = match arguments(&rt) {
+        Ok(words) => words,
+        Err(error) => return ExitCode::from(error.report(&rt)),
     };
     match requested_type(words.as_slice()) {
         Some(kind) => ExitCode::from(run(&rt, kind)),
         None => {
             let _ = writeln!(rt.stderr(), "usage: asn1check {}", message_type::NAMES);
-            ExitCode::from(2)
+            ExitCode::from(USAGE_ERROR)
         }
     }
 }

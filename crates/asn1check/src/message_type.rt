@@ -1,5 +1,7 @@
 //! The types of messages, and how each is rewritten.
 ghost use Rattle.std.specs.Prelude.{IfOk, ◌≡◌};
+ghost use Rattle.asn1check.specs.Rewriting.{Rewritten};
+ghost use Rattle.asn1check.specs.declared.message_type.MessageType.{MessageType};
 
 use pkcs8::OneAsymmetricKey;
 use snmp::{v1, v2c};
@@ -28,7 +30,7 @@ fn rewritten<T: BERDecodable + DEREncodable + DERExact>(
     alloc: Global,
     bytes: &[u8],
 ) -> ASN1Result<Vec<u8>>
-    ensures { IfOk result (λ encoding. encoding.items ≡ bytes.now) }
+    ensures { Rewritten T.encodes T.encoding bytes.now result }
 {
     one_der_encoding::<T>();
     let value: T = decode_der(alloc, bytes)?;
@@ -48,9 +50,21 @@ impl MessageType {
         }
     }
 
-    /// The bytes again, if they are a message of this type.
+    /// Reads a message of this type, and writes it: the bytes are its DER encoding, which is written again.
+    ///
+    /// An error is one of the bytes, which are no such message, or `OutOfMemory`.
     pub fn rewritten(self, alloc: Global, bytes: &[u8]) -> ASN1Result<Vec<u8>>
-        ensures { IfOk result (λ encoding. encoding.items ≡ bytes.now) }
+        ensures same { IfOk result (λ encoding. encoding.items ≡ bytes.now) }
+        ensures certificate { self ≡ MessageType.Certificate →
+            Rewritten ⟦<Encoded<Certificate> as BERDecodable>⟧.encodes ⟦<Encoded<Certificate> as DEREncodable>⟧.encoding bytes.now result }
+        ensures certificate_list { self ≡ MessageType.CertificateList →
+            Rewritten ⟦<Encoded<CertificateList> as BERDecodable>⟧.encodes ⟦<Encoded<CertificateList> as DEREncodable>⟧.encoding bytes.now result }
+        ensures private_key { self ≡ MessageType.OneAsymmetricKey →
+            Rewritten ⟦<Encoded<OneAsymmetricKey> as BERDecodable>⟧.encodes ⟦<Encoded<OneAsymmetricKey> as DEREncodable>⟧.encoding bytes.now result }
+        ensures snmp_v1 { self ≡ MessageType.SnmpV1 →
+            Rewritten ⟦<Encoded<v1::SnmpMessage> as BERDecodable>⟧.encodes ⟦<Encoded<v1::SnmpMessage> as DEREncodable>⟧.encoding bytes.now result }
+        ensures snmp_v2c { self ≡ MessageType.SnmpV2c →
+            Rewritten ⟦<Encoded<v2c::SnmpMessage> as BERDecodable>⟧.encodes ⟦<Encoded<v2c::SnmpMessage> as DEREncodable>⟧.encoding bytes.now result }
     {
         match self {
             MessageType::Certificate => rewritten::<Encoded<Certificate>>(alloc, bytes),
