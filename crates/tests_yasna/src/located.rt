@@ -307,9 +307,9 @@ fn is_too_deep(alloc: Global) -> ASN1Result<bool> {
     }
     match read(alloc, Ber, &bytes, Setting) {
         Ok(_) => Ok(false),
-        Err(found) => Ok(is_kind(found.error.kind(), StackOverflow)
-            && found.offset == 2
-            && found.depth == 1),
+        Err(found) => Ok(
+            is_kind(found.error.kind(), StackOverflow) && found.offset == 2 && found.depth == 1,
+        ),
     }
 }
 
