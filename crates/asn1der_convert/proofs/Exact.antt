@@ -144,7 +144,7 @@ module _ {A : Type 0} (R : A → List ℕ → Type 0) (parts : List A → List S
     by_kind (bits v) (bits w) b c r s x y e t k = let i = segmented_exact bits_once n n m bits_tag v w b c r s x y e in (ap bits i.0, i.1)
     by_kind (bits v) w b c r s x y e t k = absurd (cc)
     by_kind (string t v) (string u w) b c r s x y e f k =
-        let i = segmented_exact octets_once n n m u v w b c r s (subst (λ z. IsOctets n m z v b) f x.1) y.1 e in
+        let i = segmented_exact octets_once n n m u v w b c r s (subst (λ z. IsOctets z m n v b) f x.1) y.1 e in
         (ap₂ (λ z a. string z a) f i.0, i.1)
     by_kind (string t v) w b c r s x y e f k = absurd (cc)
     by_kind (primitive t c) (primitive u d) b a r s x y e f k =

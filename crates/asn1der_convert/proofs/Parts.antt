@@ -43,7 +43,7 @@ one_less zero h = absurd (omega (arith, h))
 one_less (suc k) h = (k, refl)
 
 -- a BOOLEAN
-pub boolean_part : (n : ℕ) (m : BERMode) (s r : List ℕ) (v : Bool) (p : DerElement) (c : List ℕ) → Takes (Primitively IsBoolean n m boolean_tag) s v r →
+pub boolean_part : (n : ℕ) (m : BERMode) (s r : List ℕ) (v : Bool) (p : DerElement) (c : List ℕ) → Takes (Primitively IsBoolean boolean_tag m n) s v r →
     p.tag ≡ boolean_tag → p.bytes.items ≡ canonical_element Der boolean_tag Primitive c → c ≡ boolean_byte v ∷ [] → TakesPart n m s p r
 boolean_part n m s r v p c x t f e =
     let k = one_less n x.member.level in
@@ -54,7 +54,7 @@ boolean_part n m s r v p c x t f e =
     }
 
 -- a BIT STRING
-pub bits_part : (n : ℕ) (m : BERMode) (s r : List ℕ) (v : BitString) (p : DerElement) (c : List ℕ) → Takes (IsBits n m bits_tag) s v r →
+pub bits_part : (n : ℕ) (m : BERMode) (s r : List ℕ) (v : BitString) (p : DerElement) (c : List ℕ) → Takes (IsBits bits_tag m n) s v r →
     p.tag ≡ bits_tag → p.bytes.items ≡ canonical_element Der bits_tag Primitive c → c ≡ bits_contents v → TakesPart n m s p r
 bits_part n m s r v p c x t f e =
     let k = one_less n (segmented_level bits_segmentation n m bits_tag v x.prefix x.member) in
@@ -65,7 +65,7 @@ bits_part n m s r v p c x t f e =
     }
 
 -- a string of octets
-pub string_part : (n : ℕ) (m : BERMode) (t : Tag) (s r v : List ℕ) (p : DerElement) → IsStringTag t → Takes (IsOctets n m t) s v r →
+pub string_part : (n : ℕ) (m : BERMode) (t : Tag) (s r v : List ℕ) (p : DerElement) → IsStringTag t → Takes (IsOctets t m n) s v r →
     p.tag ≡ t → p.bytes.items ≡ canonical_element Der t Primitive v → TakesPart n m s p r
 string_part n m t s r v p h x e f =
     let k = one_less n (segmented_level octets_segmentation n m t v x.prefix x.member) in

@@ -71,9 +71,9 @@ module _ (S : RawValue → List ℕ → Type 0) where
   branch_raw R parts f n (constructed t vs) b x = around_raw _ t b x.0.other.not_end x.1 (λ c y. pieces_raw R f vs c y.elements)
 
 -- an element in DER that has a tree is a raw element
-pub tree_raw : (n : ℕ) (v : Tree n) (b : List ℕ) → HasTree n Der v b → (r : RawValue) × IsRaw n Der r b
+pub tree_raw : (n : ℕ) (v : Tree n) (b : List ℕ) → HasTree n Der v b → (r : RawValue) × IsRaw Der n r b
 unfolding Tree HasTree
 tree_raw zero v b x = absurd x
 tree_raw (suc n) v b x =
-    let y = branch_raw (IsRaw n Der) (HasTree n Der) (tree_parts n) (tree_raw n) n v b x in
+    let y = branch_raw (IsRaw Der n) (HasTree n Der) (tree_parts n) (tree_raw n) n v b x in
     (y.0, raw_of n Der y.0 b y.1)

@@ -71,7 +71,7 @@ root_kind n m k t s b r x h i e =
     kinds_once (branch_class x.branch) k t (subst (λ u. IsOfClass (branch_class x.branch) u) (root_tag n m t s b r x i e) is) h
 
 -- where no BOOLEAN is after its tag
-pub no_boolean : (n : ℕ) (m : BERMode) (s : List ℕ) → BeginsWithTag boolean_tag s → (HasPrefix (Primitively IsBoolean n m boolean_tag) s → ⊥) → NoTreeAt n m s
+pub no_boolean : (n : ℕ) (m : BERMode) (s : List ℕ) → BeginsWithTag boolean_tag s → (HasPrefix (Primitively IsBoolean boolean_tag m n) s → ⊥) → NoTreeAt n m s
 no_boolean n m s h none v b r x e =
     let y = tree_root n m v b x in
     go y.k y.branch y.has (root_kind n m Boolean boolean_tag s b r y refl h e)
@@ -81,7 +81,7 @@ no_boolean n m s h none v b r x e =
     go k w i f = absurd (cc)
 
 -- no BIT STRING
-pub no_bits : (n : ℕ) (m : BERMode) (s : List ℕ) → BeginsWithTag bits_tag s → (HasPrefix (IsBits n m bits_tag) s → ⊥) → NoTreeAt n m s
+pub no_bits : (n : ℕ) (m : BERMode) (s : List ℕ) → BeginsWithTag bits_tag s → (HasPrefix (IsBits bits_tag m n) s → ⊥) → NoTreeAt n m s
 no_bits n m s h none v b r x e =
     let y = tree_root n m v b x in
     go y.k y.branch y.has (root_kind n m Bits bits_tag s b r y refl h e)
@@ -91,13 +91,13 @@ no_bits n m s h none v b r x e =
     go k w i f = absurd (cc)
 
 -- no string of octets
-pub no_string : (n : ℕ) (m : BERMode) (t : Tag) (s : List ℕ) → IsStringTag t → BeginsWithTag t s → (HasPrefix (IsOctets n m t) s → ⊥) → NoTreeAt n m s
+pub no_string : (n : ℕ) (m : BERMode) (t : Tag) (s : List ℕ) → IsStringTag t → BeginsWithTag t s → (HasPrefix (IsOctets t m n) s → ⊥) → NoTreeAt n m s
 no_string n m t s is h none v b r x e =
     let y = tree_root n m v b x in
     go y.k y.branch y.has (root_kind n m Octets t s b r y is h e) (root_tag n m t s b r y h e)
   where
     go : (k : ℕ) (w : Branch (Tree k)) → HasBranch (HasTree k m) (tree_parts k) n m w b → branch_class w ≡ Octets → branch_tag w ≡ t → ⊥
-    go k (string u c) i f g = none (c, r, record { prefix = b; joined = e; member = subst (λ z. IsOctets n m z c b) g i.1 })
+    go k (string u c) i f g = none (c, r, record { prefix = b; joined = e; member = subst (λ z. IsOctets z m n c b) g i.1 })
     go k w i f g = absurd (cc)
 
 -- the element of another type that bytes are

@@ -61,8 +61,8 @@ encodes_same s d x short =
     }
 
 -- it is raw elements in DER
-pub encodes_raw : (s d : List ℕ) → EncodesTheSame s d → IsJoining (IsRaw 101 Der) d
-encodes_raw s d x = pieces_raw (IsRaw 101 Der) (HasTree 101 Der) (tree_raw 101) x.new d x.written
+pub encodes_raw : (s d : List ℕ) → EncodesTheSame s d → IsJoining (IsRaw Der 101) d
+encodes_raw s d x = pieces_raw (IsRaw Der 101) (HasTree 101 Der) (tree_raw 101) x.new d x.written
 
 -- converting elements in DER again changes nothing
 pub converts_again : (s d : List ℕ) → Converts s d → length d < 2 ^ 64 → Converts d d

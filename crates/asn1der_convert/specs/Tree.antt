@@ -90,8 +90,8 @@ pub record IsAround (C : List ℕ → Type 0) (m : BERMode) (t : Tag) (b : List 
 -- b encodes the element, R holds of each element within it, and parts gives these in DER; n levels are left
 abbrev pub HasBranch : {A : Type 0} → (A → List ℕ → Type 0) → (List A → List SetPart) → ℕ → BERMode → Branch A → List ℕ → Type 0
 HasBranch R parts n m (boolean v) b = EncodesBoolean m n v b
-HasBranch R parts n m (bits v) b = IsBits n m bits_tag v b
-HasBranch R parts n m (string t v) b = IsStringTag t × IsOctets n m t v b
+HasBranch R parts n m (bits v) b = IsBits bits_tag m n v b
+HasBranch R parts n m (string t v) b = IsStringTag t × IsOctets t m n v b
 HasBranch R parts n m (primitive t c) b = IsOtherPrimitive t × Element m t Primitive c b
 HasBranch R parts n m (set_of vs) b = IsAround (IsSetOfContents R parts m vs) m set_tag b
 HasBranch R parts n m (constructed t vs) b = IsOtherConstructed t × IsAround (IsOtherContents R parts t vs) m t b

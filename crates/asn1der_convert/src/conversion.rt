@@ -305,7 +305,7 @@ fn convert_element<'a>(
 /// Converts elements from BER to DER.
 pub fn convert(alloc: Global, input: &[u8]) -> Result<Converted, ConvertError>
     ensures encoding { IfOk result (λ c. Converts input.now c.bytes.items) }
-    ensures raw { IfOk result (λ c. IsJoining (IsRaw max_depth Der) c.bytes.items) }
+    ensures raw { IfOk result (λ c. IsJoining (IsRaw Der max_depth) c.bytes.items) }
     ensures same { IfOk result (λ c. EncodesTheSame input.now c.bytes.items) }
     ensures again { IfOk result (λ c. Converts c.bytes.items c.bytes.items) }
     ensures one { IfOk result (λ c. (d : List ℕ) → Converts input.now d → d ≡ c.bytes.items) }

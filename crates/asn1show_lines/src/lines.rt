@@ -26,7 +26,7 @@ fn show_bytes<W: Write>(
     style: Style<'_>,
     bytes: &[u8],
 ) -> Result<(), WalkError>
-    ensures raw { OnOk result (IsJoining (IsRaw max_depth mode) bytes.now) }
+    ensures raw { OnOk result (IsJoining (IsRaw mode max_depth) bytes.now) }
     ensures some { OnOk result (1 ≤ length bytes.now) }
     ensures elements { OnOk result (AreElements max_depth mode bytes.now) }
     ensures fails { IfErr result (λ f. WalkFails IsExternal (NoElements max_depth mode bytes.now) f) }
@@ -44,7 +44,7 @@ fn show_counted<W: Write>(
     mut line: LineBuffer,
     bytes: &[u8],
 ) -> Result<(), WalkError>
-    ensures raw { OnOk result (IsJoining (IsRaw max_depth mode) bytes.now) }
+    ensures raw { OnOk result (IsJoining (IsRaw mode max_depth) bytes.now) }
     ensures some { OnOk result (1 ≤ length bytes.now) }
     ensures elements { OnOk result (AreElements max_depth mode bytes.now) }
     ensures fails { IfErr result (λ f. WalkFails IsExternal (NoElements max_depth mode bytes.now) f) }
@@ -144,7 +144,7 @@ fn show_format<W: Write>(
     style: Style<'_>,
     input: &[u8],
 ) -> Result<(), WalkError>
-    ensures raw { OnOk result (input_format ≡ Bytes → IsJoining (IsRaw max_depth mode) input.now) }
+    ensures raw { OnOk result (input_format ≡ Bytes → IsJoining (IsRaw mode max_depth) input.now) }
     ensures decodes { OnOk result (HoldsElements mode input_format input.now) }
     ensures fails { IfErr result (λ f. WalkFails IsExternal (HoldsNone mode input_format input.now) f) }
 {
@@ -173,7 +173,7 @@ pub fn show<W: Write>(
     width: usize,
     input: &[u8],
 ) -> Result<(), WalkError>
-    ensures raw { OnOk result (IsTakenAs input_format input.now Bytes → IsJoining (IsRaw max_depth mode) input.now) }
+    ensures raw { OnOk result (IsTakenAs input_format input.now Bytes → IsJoining (IsRaw mode max_depth) input.now) }
     ensures decodes { (taken : InputFormat) → IsTakenAs input_format input.now taken → OnOk result (HoldsElements mode taken input.now) }
     ensures fails { (taken : InputFormat) → IsTakenAs input_format input.now taken → IfErr result (λ f. WalkFails IsExternal (HoldsNone mode taken input.now) f) }
 {

@@ -53,7 +53,7 @@ over_raw : {R S : RawValue → List ℕ → Type 0} (m : BERMode) → ((v : RawV
 over_raw m f v b x = record { not_end = x.not_end; in_range = x.in_range; in_bytes = x.in_bytes; framed = framed_raw m f v b x.framed }
 
 -- a well-formed element is a raw element
-pub formed_raw : (n : ℕ) (m : BERMode) (v : RawValue) (b : List ℕ) → IsWellFormed n m v b → IsRaw n m v b
+pub formed_raw : (n : ℕ) (m : BERMode) (v : RawValue) (b : List ℕ) → IsWellFormed n m v b → IsRaw m n v b
 formed_raw zero m v b x = absurd (formed_zero m v b x)
 formed_raw (suc n) m v b x = raw_of n m v b (over_raw m (formed_raw n m) v b (formed_into n m v b x))
 
@@ -122,7 +122,7 @@ pub lists_formed : (n : ℕ) (m : BERMode) (w : Bool) (o : ℕ) (s : List ℕ) (
 lists_formed n m w o s ls x = count_formed (ListsOne n m w) (IsWellFormed n m) (one_formed n m w) x.0 o s ls x.1
 
 -- well-formed elements, one after the other, are raw elements
-pub joining_raw : (n : ℕ) (m : BERMode) (s : List ℕ) → IsJoining (IsWellFormed n m) s → IsJoining (IsRaw n m) s
+pub joining_raw : (n : ℕ) (m : BERMode) (s : List ℕ) → IsJoining (IsWellFormed n m) s → IsJoining (IsRaw m n) s
 joining_raw n m s x = joining_wider (formed_raw n m) s x
 
 -- in DER and CER a raw element is descended into wherever it is constructed
@@ -144,10 +144,10 @@ over_formed : {R S : RawValue → List ℕ → Type 0} (m : BERMode) → (m ≡ 
 over_formed m n f v b x = record { not_end = x.not_end; in_range = x.in_range; in_bytes = x.in_bytes; framed = framed_formed m n f v b x.framed }
 
 -- a raw element in DER and CER is well formed
-raw_formed : (n : ℕ) (m : BERMode) → (m ≡ Ber → ⊥) → (v : RawValue) (b : List ℕ) → IsRaw n m v b → IsWellFormed n m v b
+raw_formed : (n : ℕ) (m : BERMode) → (m ≡ Ber → ⊥) → (v : RawValue) (b : List ℕ) → IsRaw m n v b → IsWellFormed n m v b
 raw_formed zero m e v b x = absurd (raw_zero m v b x)
 raw_formed (suc n) m e v b x = formed_of n m v b (over_formed m e (raw_formed n m e) v b (raw_into n m v b x))
 
 -- where there are no well-formed elements in DER and CER, there are no raw ones
-pub none_raw : (n : ℕ) (m : BERMode) (s : List ℕ) → (AreElements n m s → ⊥) → (m ≡ Ber → ⊥) → IsJoining (IsRaw n m) s → 1 ≤ length s → ⊥
+pub none_raw : (n : ℕ) (m : BERMode) (s : List ℕ) → (AreElements n m s → ⊥) → (m ≡ Ber → ⊥) → IsJoining (IsRaw m n) s → 1 ≤ length s → ⊥
 none_raw n m s none e x l = none (record { joining = joining_wider (raw_formed n m e) s x; some = l })

@@ -128,5 +128,5 @@ pub record NoneBelow (context : Context) (i : Item) (offset : ℕ) (kind : ASN1E
 -- is at the offset, and only there
 pub record NoElements (n : ℕ) (m : BERMode) (s : List ℕ) (offset : ℕ) (kind : ASN1ErrorKind) : Type 0 where
   pub none : AreElements n m s → ⊥
-  pub not_raw : (m ≡ Ber → ⊥) → IsJoining (IsRaw n m) s → 1 ≤ length s → ⊥
+  pub not_raw : (m ≡ Ber → ⊥) → IsJoining (IsRaw m n) s → 1 ≤ length s → ⊥
   pub stops : ((s ≡ []) × (offset ≡ 0) × (kind ≡ Eof)) ⊎ StopsOnly n m kind s offset

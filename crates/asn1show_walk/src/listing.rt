@@ -175,7 +175,7 @@ pub fn list_element<'a, L: Visitor>(
 /// elements.
 pub fn list_input<L: Visitor>(input: &[u8], mode: BERMode, visitor: &mut L) -> Result<(), WalkError>
     ensures lines { OnOk result ((ls : List Line) × Visits (L.visited visitor.old) (L.visited visitor.new) ls × ListsBytes max_depth mode false 0 input.now ls) }
-    ensures raw { OnOk result (IsJoining (IsRaw max_depth mode) input.now) }
+    ensures raw { OnOk result (IsJoining (IsRaw mode max_depth) input.now) }
     ensures some { OnOk result (1 ≤ length input.now) }
     ensures elements { OnOk result (AreElements max_depth mode input.now) }
     ensures fails { IfErr result (λ f. WalkFails (L.rejects visitor.new) (NoElements max_depth mode input.now) f) }

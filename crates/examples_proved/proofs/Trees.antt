@@ -16,11 +16,11 @@ branches_back : (v : Vec Tree Global) → branches_of (tree_of v) ≡ v.items
 branches_back v = ap (λ z. z.branches.items) (out-roll-Tree (record { branches = v }))
 
 pub tree_read : (s : Reading) (x : Result (Vec Tree Global) ASN1Error) (s' : Reading) →
-    Decodes {A = Vec Tree Global} true (λ m n v b. IsListOf (λ m n v b. IsNested branches_of n m v b) sequence_tag m n v.items b)
-    (AnyListOf (λ m n b. AnyNested n m b) sequence_tag) s x s' →
-    Decodes true (λ m n v b. IsNested branches_of n m v b) (λ m n b. AnyNested n m b) s (seen tree_of x) s'
+    Decodes {A = Vec Tree Global} true (λ m n v b. IsListOf (IsNested branches_of) sequence_tag m n v.items b)
+    (AnyListOf AnyNested sequence_tag) s x s' →
+    Decodes true (IsNested branches_of) AnyNested s (seen tree_of x) s'
 tree_read s x s' h =
-    chosen true true (λ m n v b. IsListOf (λ m n v b. IsNested branches_of n m v b) sequence_tag m n v.items b)
-    (AnyListOf (λ m n b. AnyNested n m b) sequence_tag) (λ m n v b. IsNested branches_of n m v b) (λ m n b. AnyNested n m b) tree_of
+    chosen true true (λ m n v b. IsListOf (IsNested branches_of) sequence_tag m n v.items b)
+    (AnyListOf AnyNested sequence_tag) (IsNested branches_of) AnyNested tree_of
     (λ m n v b p. nested_list branches_of m n (tree_of v) v.items b (branches_back v) p) (λ e. e) s
     (λ b r e k. any_nested_list s.mode s.levels b k) x s' h

@@ -10,11 +10,11 @@ use Rattle.yasna.specs.Words.{Grammar, Members}
 
 -- the bytes encode an element of any type
 abbrev pub EncodesAny : Grammar TaggedDerValue
-EncodesAny m n v b = IsRaw n m (raw_of v) b
+EncodesAny m n v b = IsRaw m n (raw_of v) b
 
 -- the bytes are an element of some type
 abbrev pub AnyElement : Members
-AnyElement = Any (λ m n v b. IsRaw n m v b)
+AnyElement = Any IsRaw
 
 -- a SEQUENCE of an object identifier and optional parameters of any type
 abbrev pub EncodesAlgorithm : Grammar AlgorithmIdentifier

@@ -30,14 +30,14 @@ is_first v = nat_eq v 1
 
 -- [1] IMPLICIT OCTET STRING
 abbrev pub EncodesNote : Grammar (Vec ℕ Global)
-EncodesNote m n v b = IsOctets n m (context 1) v.items b
+EncodesNote m n v b = IsOctets (context 1) m n v.items b
 
 abbrev pub AnyNote : Members
-AnyNote = Any (λ m n v b. IsOctets n m (context 1) v b)
+AnyNote = Any (IsOctets (context 1))
 
 -- [2] IMPLICIT INTEGER
 abbrev pub EncodesLimit : Grammar ℤ
-EncodesLimit m n v b = Primitively (IsSigned w64) n m (context 2) v b
+EncodesLimit = Primitively (IsSigned w64) (context 2)
 
 -- the kind of a ticket as one of the three types of the CHOICE
 abbrev pub kind_as_either : TicketKind → Unit {0} ⊎ (Bool ⊎ ℤ)

@@ -85,9 +85,9 @@ pub struct SubjectPublicKeyInfo {
 }
 
 impl BERDecodable for SubjectPublicKeyInfo {
-    ghost encodes = { λ m n v b. Enclosed (PartOf EncodesAlgorithm (PartOf (λ m n v b. IsBits n m bits_tag (bits_in v) b) NoParts)) sequence_tag m n (v.algorithm, ((v.key, v.bits), tt)) b };
+    ghost encodes = { λ m n v b. Enclosed (PartOf EncodesAlgorithm (PartOf (λ m n v b. IsBits bits_tag m n (bits_in v) b) NoParts)) sequence_tag m n (v.algorithm, ((v.key, v.bits), tt)) b };
 
-    ghost elements = { AnyEnclosed (AnyPart AnyAlgorithm (AnyPart (Any (λ m n v b. IsBits n m bits_tag v b)) AnyNothing)) sequence_tag };
+    ghost elements = { AnyEnclosed (AnyPart AnyAlgorithm (AnyPart (Any (IsBits bits_tag)) AnyNothing)) sequence_tag };
 
     ghost may_allocate = { (true || (true || false)) };
 

@@ -15,9 +15,9 @@ pub struct Tree {
 }
 
 impl BERDecodable for Tree {
-    ghost encodes = { λ m n v b. IsNested branches_of n m v b };
+    ghost encodes = { λ m n v b. IsNested branches_of m n v b };
 
-    ghost elements = { λ m n b. AnyNested n m b };
+    ghost elements = { λ m n b. AnyNested m n b };
 
     ghost may_allocate = { true };
 
@@ -27,7 +27,7 @@ impl BERDecodable for Tree {
         match reader.collect_sequence_of(
             |item| -> ASN1Result<Tree>
                 requires { IsFresh item.old }
-                ensures { Decodes true (λ m n v b. IsNested branches_of n m v b) (λ m n b. AnyNested n m b) item.old result item.new }
+                ensures { Decodes true (IsNested branches_of) AnyNested item.old result item.new }
             { Tree::decode_ber(item) },
         ) {
             Ok(branches) => Ok(Tree { branches }),

@@ -68,12 +68,12 @@ reads_at {B} {view} {D} {M} {t} {r} {s'} h e = subst (λ z. ReadsSeen B view D M
 
 -- a typed read under the type's own tag decodes
 pub leaf_by : {A : Type 0} (B : TaggedGrammar A) (k : ℕ) → (k ≡ 0 → ⊥) →
-    IsDecoder false (λ m n v b. B n m (universal k) v b) (Any (λ m n v b. B n m (universal k) v b)) (Reads B NoLevel NeverAllocates (universal k))
+    IsDecoder false (B (universal k)) (Any (B (universal k))) (Reads B NoLevel NeverAllocates (universal k))
 leaf_by B k h = record { decodes = λ s r s' fresh x. leaf_decodes B k h s r s' fresh.1 x fresh.0 }
 
 -- a read of a string, whose segments may be elements, decodes; view is the model of a value
 pub string_by : {V A : Type 0} (B : TaggedGrammar A) (view : V → A) (k : ℕ) → (k ≡ 0 → ⊥) →
-    IsDecoder true (λ m n v b. B n m (universal k) (view v) b) (Any (λ m n v b. B n m (universal k) v b))
+    IsDecoder true (λ m n v b. B (universal k) m n (view v) b) (Any (B (universal k)))
     (ReadsSeen B view IsDeepOctets MayAllocate (universal k))
 string_by B view k h = record {
   decodes = λ s r s' fresh x.
@@ -81,7 +81,7 @@ string_by B view k h = record {
 }
 
 -- a read of a BIT STRING decodes
-pub bits_by : IsDecoder true (λ m n v b. IsBits n m bits_tag (bits_in v) b) (Any (λ m n v b. IsBits n m bits_tag v b))
+pub bits_by : IsDecoder true (λ m n v b. IsBits bits_tag m n (bits_in v) b) (Any (IsBits bits_tag))
     (ReadsSeen IsBits bits_in IsDeepBits MayAllocate bits_tag)
 bits_by = record {
   decodes = λ s r s' fresh x.
@@ -89,8 +89,8 @@ bits_by = record {
 }
 
 -- a read of an element of any tag, whose copy B describes, decodes
-pub raw_by : {V A : Type 0} (B : ℕ → BERMode → A → List ℕ → Type 0) (view : V → A) →
-    IsDecoder true (λ m n v b. B n m (view v) b) (Any (λ m n v b. B n m v b)) (ReadsRaw B view)
+pub raw_by : {V A : Type 0} (B : Grammar A) (view : V → A) →
+    IsDecoder true (λ m n v b. B m n (view v) b) (Any B) (ReadsRaw B view)
 raw_by B view = record { decodes = λ s r s' fresh x. raw_decodes B view s fresh r s' x }
 
 -- a run of f does what each of its calls does

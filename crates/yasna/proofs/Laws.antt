@@ -11,7 +11,7 @@ pub use Rattle.yasna_base.proofs.Sequence.{no_part, part, tuple, no_part_written
 pub use Rattle.yasna_base.proofs.Optional.{unambiguous_before_nothing, unambiguous_before_part, unambiguous_before_option, either_unambiguous_before, part_before, option_before, option_written, sequence}
 pub use Rattle.yasna_base.proofs.Default.{default_before, default_alike, default_written, default_exact}
 pub use Rattle.yasna_base.proofs.ExplicitTags.{context_not_end, contexts_differ, one_contents, tagged, tagged_written, tagged_exact, enclosed_begins}
-pub use Rattle.yasna_base.proofs.UnderTags.{under_tags, sequence_under_tags, list_under_tags, exact_under_tags, sequence_exact_under_tags, list_exact_under_tags, bits_under_tags}
+pub use Rattle.yasna_base.proofs.UnderTags.{sequence_under_tags, list_under_tags, exact_under_tags, sequence_exact_under_tags, list_exact_under_tags, bits_under_tags}
 pub use Rattle.yasna_base.proofs.Beginnings.{tags_differ, begins_by_tag, primitive_by_tag, segmented_by_tag, string_by_tag, enclosed_by_tag, either_by_tags}
 pub use Rattle.yasna_base.proofs.Beginnings.{are_unambiguous, unambiguous_before, choice_with_tags, end_with_tags, part_with_tags, option_with_tags, default_with_tags}
 pub use Rattle.yasna_base.proofs.AnyOrder.{any_set_of, any_set_of_written, any_set_of_exact, set_along, set_written}
@@ -41,6 +41,6 @@ pub use Rattle.yasna_base.proofs.Texts.{text_coding, text_written, ascii_text}
 pub use Rattle.yasna_base.proofs.Canonical.{enclosed_written, primitively_written, written_along, can_be_written}
 
 -- a BIT STRING satisfies the laws of reading, as the bytes that hold the bits, and how many bits there are
-pub bit_string_coding : IsCoding (λ v w. bits_in v ≡ bits_in w) (λ m n v b. IsBits n m bits_tag (bits_in v) b)
-    (Any (λ m n v b. IsBits n m bits_tag v b))
+pub bit_string_coding : IsCoding (λ v w. bits_in v ≡ bits_in w) (λ m n v b. IsBits bits_tag m n (bits_in v) b)
+    (Any (IsBits bits_tag))
 bit_string_coding = along bits_in (bits_coding bits_tag (not_end 3 (λ e. omega arith)))

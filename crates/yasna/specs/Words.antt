@@ -49,7 +49,8 @@ pub use Rattle.yasna_base.specs.Pieces.{Each}
 pub use Rattle.yasna_base.specs.Nested.{IsNested, AnyNested, SameNested}
 pub use Rattle.yasna_base.specs.Choice.{EitherOf, AnyEither, SameEither, either_encoding, either_depth, either_can, either_fits}
 -- tags around a type, and in place of its own
-pub use Rattle.yasna_base.specs.UnderTags.{KeepsLawsUnderTags, IsExactUnderTags}
+pub use Rattle.yasna_base.specs.Laws.{KeepsLawsUnderTags}
+pub use Rattle.yasna_base.specs.UnderTags.{IsExactUnderTags}
 pub use Rattle.yasna_base.specs.Beginnings.{BeginsBy, ContentsBeginBy, CodingByTags, ContentsByTags}
 pub use Rattle.yasna_base.specs.Set.{set_tag, IsSet, IsSetOf, AnySetOf, AnySetOfElements}
 pub use Rattle.yasna_base.specs.AnyOrder.{SameSetOf, InSomeOrder, sorted_set_of_encoding}

@@ -16,9 +16,9 @@ use yasna_reader::BERReader;
 use yasna_writer::{DERWriter, PrependBuffer, tagged_der_len};
 
 impl BERDecodable for TaggedDerValue {
-    ghost encodes = { λ m n v b. IsRaw n m (raw_of v) b };
+    ghost encodes = { λ m n v b. IsRaw m n (raw_of v) b };
 
-    ghost elements = { Any (λ m n v b. IsRaw n m v b) };
+    ghost elements = { Any IsRaw };
 
     ghost may_allocate = { true };
 

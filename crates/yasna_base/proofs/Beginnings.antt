@@ -106,15 +106,15 @@ pub begins_by_tag : {S : Members} (t : Tag) → ((m : BERMode) (n : ℕ) (b : Li
 begins_by_tag t f = record { at = λ m n b p. inl (f m n b p) }
 
 -- primitive elements begin by their tag
-pub primitive_by_tag : {A : Type 0} (W : BERMode → A → List ℕ → Type 0) (t : Tag) → BeginsBy (t ∷ []) (Any (λ m n v b. Primitively W n m t v b))
+pub primitive_by_tag : {A : Type 0} (W : BERMode → A → List ℕ → Type 0) (t : Tag) → BeginsBy (t ∷ []) (Any (Primitively W t))
 primitive_by_tag W t = begins_by_tag t (primitively_begins W t)
 
 -- strings, whole or in pieces
-pub segmented_by_tag : {A : Type 0} (k : Segmentation A) (t : Tag) → BeginsBy (t ∷ []) (Any (λ m n v b. IsSegmented k n m t v b))
+pub segmented_by_tag : {A : Type 0} (k : Segmentation A) (t : Tag) → BeginsBy (t ∷ []) (Any (IsSegmented k t))
 segmented_by_tag k t = begins_by_tag t (λ m n b p. segmented_begins k n m t p.0 b p.1)
 
 -- strings of text begin by their tag
-pub string_by_tag : {A : Type 0} (K : BERMode → A → List ℕ → Type 0) (t : Tag) → BeginsBy (t ∷ []) (Any (λ m n v b. IsStringOf K n m t v b))
+pub string_by_tag : {A : Type 0} (K : BERMode → A → List ℕ → Type 0) (t : Tag) → BeginsBy (t ∷ []) (Any (IsStringOf K t))
 string_by_tag K t = begins_by_tag t (λ m n b p. segmented_begins octets_segmentation n m t p.1.octets b p.1.string)
 
 -- elements around contents begin by their tag

@@ -81,12 +81,12 @@ big_integer_can m v c x =
 
 -- INTEGER of any size satisfies the laws of reading
 pub big_integer_coding : (t : Tag) → (t ≡ end_tag → ⊥) →
-    IsCoding (λ v w. v ≡ w) (λ m n v b. Primitively IsBigInteger n m t v b) (Any (λ m n v b. Primitively IsBigInteger n m t v b))
+    IsCoding (λ v w. v ≡ w) (Primitively IsBigInteger t) (Any (Primitively IsBigInteger t))
 big_integer_coding t not_end = primitively IsBigInteger t not_end one_big_integer
 
 -- INTEGER of any size satisfies the laws of writing
 pub big_integer_written : (t : Tag) → t.tag_number < 2 ^ 64 →
-    IsWritten (λ v w. v ≡ w) (λ m n v b. Primitively IsBigInteger n m t v b) (big_integer_encoding t) leaf_depth CanBigInteger
+    IsWritten (λ v w. v ≡ w) (Primitively IsBigInteger t) (big_integer_encoding t) leaf_depth CanBigInteger
 big_integer_written t range = primitively_written IsBigInteger CanBigInteger (λ v. minimal_bytes (big_integer v.bytes v.positive)) t range
     (λ v can. minimal_in_bytes (big_integer v.bytes v.positive))
     (λ m v can. big_integer_means m v (minimal_bytes (big_integer v.bytes v.positive)) (canonical_bytes v can) can)

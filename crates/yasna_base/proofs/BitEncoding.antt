@@ -200,7 +200,7 @@ bits_in_segments = record {
 }
 
 -- a canonical BIT STRING has its encoding
-pub bits_has : (t : Tag) → t.tag_number < 2 ^ 64 → HasEncoding (λ m n v b. IsBits n m t v b) (bits_encoding t) bits_depth (λ m. AreCanonicalBits)
+pub bits_has : (t : Tag) → t.tag_number < 2 ^ 64 → HasEncoding (IsBits t) (bits_encoding t) bits_depth (λ m. AreCanonicalBits)
 bits_has t range = segmented_has bits_in_segments (omega arith) t range
 
 -- with its unused bits cleared a string has the same encoding

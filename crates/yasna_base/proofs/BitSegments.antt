@@ -37,13 +37,13 @@ each_non_empty R f (v ∷ vs) [] p = absurd p
 each_non_empty R f (v ∷ vs) (b ∷ bs) p = (f v b p.0, each_non_empty R f vs bs p.1)
 
 -- the bits of any bit string are all of its bytes but fewer than eight
-pub bits_non_empty : (n : ℕ) (m : BERMode) (t : Tag) (v : BitString) (b : List ℕ) → IsBits n m t v b → IsNonEmpty v
+pub bits_non_empty : (n : ℕ) (m : BERMode) (t : Tag) (v : BitString) (b : List ℕ) → IsBits t m n v b → IsNonEmpty v
 bits_non_empty zero m t v b x = absurd (segmented_zero bits_segmentation m t v b x)
 bits_non_empty (suc n) m t v b x = elim (segmented_into bits_segmentation n m t v b x) [
   | whole c y w a ↦ record { unused = w.unused; below = w.below; counted = w.counted }
   | in_segments h c vs y p j a ↦
       let f = joined_non_empty vs j.full
-      (each_non_empty (IsSegmented bits_segmentation n (segment_mode m) bits_segmentation.segment)
+      (each_non_empty (IsSegmented bits_segmentation bits_segmentation.segment (segment_mode m) n)
       (bits_non_empty n (segment_mode m) bits_segmentation.segment) vs p.pieces p.each) in
       let i = f.counted in
       let k = j.count in
@@ -61,12 +61,12 @@ eight_of_full (v ∷ vs) h = let e = h.0 in omega (arith, eight_of_full vs h.1)
 
 -- segments may be followed where their bits make up whole bytes
 pub eight_may_follow : (n : ℕ) (m : BERMode) (vs : List BitString) (v : BitString) (bs : List (List ℕ)) →
-    Each (IsSegmented bits_segmentation n m bits_segmentation.segment) vs bs → AreBitsJoined m vs v → v.count % 8 ≡ 0 → MayFollow vs
+    Each (IsSegmented bits_segmentation bits_segmentation.segment m n) vs bs → AreBitsJoined m vs v → v.count % 8 ≡ 0 → MayFollow vs
 eight_may_follow n m vs v bs p j e =
     let k = j.count in
     let l = j.in_range in
     record {
-      full = full_of_eight vs j.full (each_non_empty (IsSegmented bits_segmentation n m bits_segmentation.segment)
+      full = full_of_eight vs j.full (each_non_empty (IsSegmented bits_segmentation bits_segmentation.segment m n)
           (bits_non_empty n m bits_segmentation.segment) vs bs p) (omega arith);
       in_range = omega arith;
     }

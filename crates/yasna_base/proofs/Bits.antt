@@ -34,7 +34,7 @@ bits_once = record {
 }
 
 -- BIT STRING satisfies the laws of reading
-pub bits_coding : (t : Tag) → (t ≡ end_tag → ⊥) → IsCoding (λ v w. v ≡ w) (λ m n v b. IsBits n m t v b) (Any (λ m n v b. IsBits n m t v b))
+pub bits_coding : (t : Tag) → (t ≡ end_tag → ⊥) → IsCoding (λ v w. v ≡ w) (IsBits t) (Any (IsBits t))
 bits_coding t not_end = segmented_coding bits_once t not_end
 
 joined_can : (vs : List BitString) → AreFullBeforeLast vs → AllByRecursion CanBits vs →
@@ -72,7 +72,7 @@ whole_can m v c bytes x = record {
 }
 
 -- bits are in as many bytes as they need
-pub bits_can : (n : ℕ) (m : BERMode) (t : Tag) (v : BitString) (b : List ℕ) → IsBits n m t v b → CanBits v
+pub bits_can : (n : ℕ) (m : BERMode) (t : Tag) (v : BitString) (b : List ℕ) → IsBits t m n v b → CanBits v
 bits_can = segmented_keeps bits_segmentation CanBits whole_can join_can
 
 -- zeros in place of zeros

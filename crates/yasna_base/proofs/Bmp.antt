@@ -227,17 +227,17 @@ lossless (c ∷ cs) (o ∷ os) e =
     ap₂ (λ x xs. x ∷ xs) (ap (λ p. unwrap_or p 0xFFFD) f) (lossless cs os g)
 
 -- BMPString satisfies the laws of reading
-pub bmp_coding : (t : Tag) → (t ≡ end_tag → ⊥) → IsCoding (λ v w. v ≡ w) (λ m n v b. IsStringOf IsBmp n m t v b) (Any (λ m n v b. IsStringOf IsBmp n m t v b))
+pub bmp_coding : (t : Tag) → (t ≡ end_tag → ⊥) → IsCoding (λ v w. v ≡ w) (IsStringOf IsBmp t) (Any (IsStringOf IsBmp t))
 bmp_coding t not_end = string_coding IsBmp (λ m v w c x y. x.spelled ∙ sym y.spelled) t not_end
 
 -- where each surrogate has its partner too
 pub paired_coding : (t : Tag) → (t ≡ end_tag → ⊥) →
-    IsCoding (λ v w. v ≡ w) (λ m n v b. IsStringOf IsPairedBmp n m t v b) (Any (λ m n v b. IsStringOf IsPairedBmp n m t v b))
+    IsCoding (λ v w. v ≡ w) (IsStringOf IsPairedBmp t) (Any (IsStringOf IsPairedBmp t))
 paired_coding t not_end = string_coding IsPairedBmp (λ m v w c x y. some_same v w (x.spelled ∙ sym y.spelled)) t not_end
 
 -- where each surrogate has its partner, a BMPString satisfies the laws of writing
 pub paired_written : (t : Tag) → t.tag_number < 2 ^ 64 →
-    IsWritten (λ v w. v ≡ w) (λ m n v b. IsStringOf IsPairedBmp n m t v b) (bmp_encoding t) bmp_depth (IsTextIn InUtf8)
+    IsWritten (λ v w. v ≡ w) (IsStringOf IsPairedBmp t) (bmp_encoding t) bmp_depth (IsTextIn InUtf8)
 paired_written t range = string_written IsPairedBmp (IsTextIn InUtf8) bmp_octets t range
     (λ v can. octets_bytes (flat_map encode_utf16 v) (text_units v can.characters)) paired_means
     (λ m v c h bytes x. paired_only m v c bytes x)

@@ -26,7 +26,7 @@ one_boolean m v w c (IsBoolean.encodes_true x a b e f) (IsBoolean.encodes_true y
 
 -- BOOLEAN satisfies the laws of reading
 pub boolean_coding : (t : Tag) → (t ≡ end_tag → ⊥) →
-    IsCoding (λ v w. v ≡ w) (λ m n v b. Primitively IsBoolean n m t v b) (Any (λ m n v b. Primitively IsBoolean n m t v b))
+    IsCoding (λ v w. v ≡ w) (Primitively IsBoolean t) (Any (Primitively IsBoolean t))
 boolean_coding t not_end = primitively IsBoolean t not_end one_boolean
 
 true_255 : (m : BERMode) → EncodesTrue m 255
@@ -53,7 +53,7 @@ boolean_bytes Bool.true h = (omega arith, tt)
 
 -- BOOLEAN satisfies the laws of writing
 pub boolean_written : (t : Tag) → t.tag_number < 2 ^ 64 →
-    IsWritten (λ v w. v ≡ w) (λ m n v b. Primitively IsBoolean n m t v b) (boolean_encoding t) leaf_depth Always
+    IsWritten (λ v w. v ≡ w) (Primitively IsBoolean t) (boolean_encoding t) leaf_depth Always
 boolean_written t range =
     primitively_written IsBoolean Always (λ v. boolean_byte v ∷ []) t range boolean_bytes boolean_means boolean_one (λ m v c x. tt)
 

@@ -127,7 +127,7 @@ pub primitively_written : {A : Type 0} (W : BERMode → A → List ℕ → Type 
     ((v : A) → Can v → IsBytes (contents v)) → ((m : BERMode) (v : A) → Can v → W m v (contents v)) →
     ((m : BERMode) (v : A) (c : List ℕ) → IsCanonicalMode m → W m v c → c ≡ contents v) →
     ((m : BERMode) (v : A) (c : List ℕ) → W m v c → Can v) →
-    IsWritten (λ v w. v ≡ w) (λ m n v b. Primitively W n m t v b) (λ m v. canonical_element m t Primitive (contents v)) leaf_depth Can
+    IsWritten (λ v w. v ≡ w) (Primitively W t) (λ m v. canonical_element m t Primitive (contents v)) leaf_depth Can
 primitively_written W Can contents t range bytes means one back = record {
   has = record {
     in_bytes = λ m v can short. canonical_element_bytes m t Primitive (contents v) (bytes v can) short;

@@ -18,7 +18,7 @@ equal_same = record { reflexive = λ v. refl; symmetric = λ v w e. sym e; trans
 -- a type of one primitive element, whose contents have one meaning, satisfies the laws
 pub primitively : {A : Type 0} (W : BERMode → A → List ℕ → Type 0) (t : Tag) → (t ≡ end_tag → ⊥) →
     ((m : BERMode) (v w : A) (c : List ℕ) → W m v c → W m w c → v ≡ w) →
-    IsCoding (λ v w. v ≡ w) (λ m n v b. Primitively W n m t v b) (Any (λ m n v b. Primitively W n m t v b))
+    IsCoding (λ v w. v ≡ w) (Primitively W t) (Any (Primitively W t))
 primitively W t not_end one = record {
   meaning = record {
     equal = equal_same;
@@ -34,7 +34,7 @@ primitively W t not_end one = record {
 
 -- a type of one primitive element begins with its tag
 pub primitively_begins : {A : Type 0} (W : BERMode → A → List ℕ → Type 0) (t : Tag) (m : BERMode) (n : ℕ) (b : List ℕ) →
-    Any (λ m n v b. Primitively W n m t v b) m n b → BeginsWithTag t b
+    Any (Primitively W t) m n b → BeginsWithTag t b
 primitively_begins W t m n b x = framed_begins m t Primitive x.1.contents b x.1.element.framed
 
 -- a type satisfies the laws by any equivalence that follows from its own

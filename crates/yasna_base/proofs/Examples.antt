@@ -140,7 +140,7 @@ two_bytes = record {
 
 -- but no INTEGER in either mode
 not_127 : {A : Type 0} (f : A → ℤ) (InType : A → Type 0) (m : BERMode) (n : ℕ) (v : A) →
-    Primitively (IsNumber f InType) n m integer_tag v (2 ∷ 2 ∷ 0 ∷ 127 ∷ []) → ⊥
+    Primitively (IsNumber f InType) integer_tag m n v (2 ∷ 2 ∷ 0 ∷ 127 ∷ []) → ⊥
 unfolding definite_element identifier shortest_length
 not_127 f InType m n v x =
     let e = (primitive_exact m Ber integer_tag integer_tag Primitive x.contents (0 ∷ 127 ∷ []) _ _ [] [] x.element two_bytes refl).contents in
@@ -174,7 +174,7 @@ unfolding canonical_element definite_element identifier
 hello_der n v x = let e = ((octets_written octets_tag (omega arith)).has.only Der n v _ tt x).0 in absurd (cc)
 
 -- with one level the first segment is too deep
-hello_deep : IsDeepOctets 1 Ber octets_tag (36 ∷ 128 ∷ 4 ∷ 2 ∷ 72 ∷ 101 ∷ 0 ∷ 0 ∷ [])
+hello_deep : IsDeepOctets octets_tag Ber 1 (36 ∷ 128 ∷ 4 ∷ 2 ∷ 72 ∷ 101 ∷ 0 ∷ 0 ∷ [])
 unfolding identifier
 hello_deep = deep_of octets_segmentation 0 Ber octets_tag _ (record {
   taken = tt;
@@ -221,20 +221,20 @@ bits_8 = record { bytes = 1 ∷ []; count = 8 }
 bits_4 : BitString
 bits_4 = record { bytes = 240 ∷ []; count = 4 }
 
-bits_8_encoding : (n : ℕ) → IsBits (suc n) Ber bits_tag bits_8 (3 ∷ 2 ∷ 0 ∷ 1 ∷ [])
+bits_8_encoding : (n : ℕ) → IsBits bits_tag Ber (suc n) bits_8 (3 ∷ 2 ∷ 0 ∷ 1 ∷ [])
 unfolding canonical_element definite_element identifier shortest_length digits bits_8
 bits_8_encoding n = (bits_has bits_tag (omega arith)).holds Der Ber (suc n) bits_8 tt
     (record { can = record { in_bytes = byte_1; enough = omega arith; least = omega arith; in_range = omega arith }; zeros = refl })
     (omega arith) (omega arith)
 
-bits_4_encoding : (n : ℕ) → IsBits (suc n) Ber bits_tag bits_4 (3 ∷ 2 ∷ 4 ∷ 240 ∷ [])
+bits_4_encoding : (n : ℕ) → IsBits bits_tag Ber (suc n) bits_4 (3 ∷ 2 ∷ 4 ∷ 240 ∷ [])
 unfolding canonical_element definite_element identifier shortest_length digits bits_4
 bits_4_encoding n = (bits_has bits_tag (omega arith)).holds Der Ber (suc n) bits_4 tt
     (record { can = record { in_bytes = search arith; enough = omega arith; least = omega arith; in_range = omega arith }; zeros = refl })
     (omega arith) (omega arith)
 
 -- make twelve
-bits_12 : (n : ℕ) → IsBits (suc (suc n)) Ber bits_tag (record { bytes = 1 ∷ 240 ∷ []; count = 12 }) (35 ∷ 8 ∷ 3 ∷ 2 ∷ 0 ∷ 1 ∷ 3 ∷ 2 ∷ 4 ∷ 240 ∷ [])
+bits_12 : (n : ℕ) → IsBits bits_tag Ber (suc (suc n)) (record { bytes = 1 ∷ 240 ∷ []; count = 12 }) (35 ∷ 8 ∷ 3 ∷ 2 ∷ 0 ∷ 1 ∷ 3 ∷ 2 ∷ 4 ∷ 240 ∷ [])
 unfolding definite_element identifier shortest_length bits_8 bits_4
 bits_12 n = segmented_of bits_segmentation (suc n) Ber bits_tag _ _ (in_segments tt (3 ∷ 2 ∷ 0 ∷ 1 ∷ 3 ∷ 2 ∷ 4 ∷ 240 ∷ []) (bits_8 ∷ bits_4 ∷ [])
     (record {
@@ -257,7 +257,7 @@ turned = record {
   framed = definite_is Ber bits_tag Constructed (3 ∷ 2 ∷ 4 ∷ 240 ∷ 3 ∷ 2 ∷ 0 ∷ 1 ∷ []) tt (omega arith);
 }
 
-turned_pieces : (n : ℕ) → Pieces (IsBits (suc n) Ber bits_tag) (bits_4 ∷ bits_8 ∷ []) (3 ∷ 2 ∷ 4 ∷ 240 ∷ 3 ∷ 2 ∷ 0 ∷ 1 ∷ [])
+turned_pieces : (n : ℕ) → Pieces (IsBits bits_tag Ber (suc n)) (bits_4 ∷ bits_8 ∷ []) (3 ∷ 2 ∷ 4 ∷ 240 ∷ 3 ∷ 2 ∷ 0 ∷ 1 ∷ [])
 turned_pieces n = record {
   pieces = (3 ∷ 2 ∷ 4 ∷ 240 ∷ []) ∷ (3 ∷ 2 ∷ 0 ∷ 1 ∷ []) ∷ [];
   each = (bits_4_encoding n, (bits_8_encoding n, tt));
@@ -265,7 +265,7 @@ turned_pieces n = record {
 }
 
 not_turned : (n : ℕ) (v : BitString) →
-    Segmented bits_segmentation (IsBits (suc n) Ber bits_tag) Ber bits_tag v (35 ∷ 8 ∷ 3 ∷ 2 ∷ 4 ∷ 240 ∷ 3 ∷ 2 ∷ 0 ∷ 1 ∷ []) → ⊥
+    Segmented bits_segmentation (IsBits bits_tag Ber (suc n)) Ber bits_tag v (35 ∷ 8 ∷ 3 ∷ 2 ∷ 4 ∷ 240 ∷ 3 ∷ 2 ∷ 0 ∷ 1 ∷ []) → ⊥
 unfolding bits_4
 not_turned n v (whole c x p a) = let e = (primitive_exact Ber Ber bits_tag bits_tag Constructed c _ _ _ [] [] x turned refl).bit in absurd (cc)
 not_turned n v (in_segments h c vs x p j a) =
@@ -277,7 +277,7 @@ not_turned n v (in_segments h c vs x p j a) =
     absurd (omega arith)
 
 -- after unused bits no segment may follow
-bits_end : (n : ℕ) (v : BitString) → IsBits n Ber bits_tag v (35 ∷ 8 ∷ 3 ∷ 2 ∷ 4 ∷ 240 ∷ 3 ∷ 2 ∷ 0 ∷ 1 ∷ []) → ⊥
+bits_end : (n : ℕ) (v : BitString) → IsBits bits_tag Ber n v (35 ∷ 8 ∷ 3 ∷ 2 ∷ 4 ∷ 240 ∷ 3 ∷ 2 ∷ 0 ∷ 1 ∷ []) → ⊥
 bits_end n v x =
     not_turned n v (segmented_into bits_segmentation (suc n) Ber bits_tag v _ (segmented_deeper bits_segmentation n (suc (suc n)) Ber bits_tag v _
     (omega arith) x))

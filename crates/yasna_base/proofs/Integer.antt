@@ -191,12 +191,12 @@ minimal_only z c h = twos_determined c (minimal_bytes z) h.in_bytes (minimal_in_
 
 -- a type of numbers that represent integers one to one satisfies the laws of reading
 pub number_coding : {A : Type 0} (f : A → ℤ) (InType : A → Type 0) → ((v w : A) → f v ≡ f w → v ≡ w) → (t : Tag) → (t ≡ end_tag → ⊥) →
-    IsCoding (λ v w. v ≡ w) (λ m n v b. Primitively (IsNumber f InType) n m t v b) (Any (λ m n v b. Primitively (IsNumber f InType) n m t v b))
+    IsCoding (λ v w. v ≡ w) (Primitively (IsNumber f InType) t) (Any (Primitively (IsNumber f InType) t))
 number_coding f InType one t not_end = primitively (IsNumber f InType) t not_end (λ m v w c x y. one v w (sym x.integer.number ∙ y.integer.number))
 
 -- a type of numbers satisfies the laws of writing
 pub number_written : {A : Type 0} (f : A → ℤ) (InType : A → Type 0) (t : Tag) → t.tag_number < 2 ^ 64 →
-    IsWritten (λ v w. v ≡ w) (λ m n v b. Primitively (IsNumber f InType) n m t v b) (λ m v. integer_encoding t m (f v)) leaf_depth InType
+    IsWritten (λ v w. v ≡ w) (Primitively (IsNumber f InType) t) (λ m v. integer_encoding t m (f v)) leaf_depth InType
 number_written f InType t range = primitively_written (IsNumber f InType) InType (λ v. minimal_bytes (f v)) t range
     (λ v can. minimal_in_bytes (f v))
     (λ m v can. record { integer = minimal_is (f v); in_type = can })
@@ -204,11 +204,11 @@ number_written f InType t range = primitively_written (IsNumber f InType) InType
     (λ m v c x. x.in_type)
 
 pub signed_under : (w : Width) (t : Tag) → (t ≡ end_tag → ⊥) →
-    IsCoding (λ v u. v ≡ u) (λ m n v b. Primitively (IsSigned w) n m t v b) (Any (λ m n v b. Primitively (IsSigned w) n m t v b))
+    IsCoding (λ v u. v ≡ u) (Primitively (IsSigned w) t) (Any (Primitively (IsSigned w) t))
 signed_under w t not_end = number_coding (λ z. z) (FitsSigned w) (λ v u e. e) t not_end
 
 pub unsigned_under : (k : ℕ) (t : Tag) → (t ≡ end_tag → ⊥) →
-    IsCoding (λ v u. v ≡ u) (λ m n v b. Primitively (IsUnsigned k) n m t v b) (Any (λ m n v b. Primitively (IsUnsigned k) n m t v b))
+    IsCoding (λ v u. v ≡ u) (Primitively (IsUnsigned k) t) (Any (Primitively (IsUnsigned k) t))
 unsigned_under k t not_end = number_coding pos (λ u. u < 2 ^ k) (λ v u e. cc) t not_end
 
 -- under INTEGER's tag

@@ -13,11 +13,11 @@ use Rattle.yasna_base.proofs.Identifier.{not_end}
 use Rattle.yasna_base.proofs.Pieces.{no_prefix_at_end, pieces_once, pieces_end, each_same, pieces_wider}
 use Rattle.yasna_base.proofs.SequenceOf.{each_any, each_is_same}
 
-any_opens : (n : ℕ) (m : BERMode) (b : List ℕ) → AnyNested n m b → StartsElement b
+any_opens : (n : ℕ) (m : BERMode) (b : List ℕ) → AnyNested m n b → StartsElement b
 any_opens zero m b p = absurd p
 any_opens (suc n) m b p = element_starts m sequence_tag Constructed p.contents b (not_end 16 (λ e. omega arith)) p.element
 
-any_prefix_free : (n k : ℕ) (m : BERMode) (b c r s : List ℕ) → AnyNested n m b → AnyNested k m c → b ++ r ≡ c ++ s → b ≡ c
+any_prefix_free : (n k : ℕ) (m : BERMode) (b c r s : List ℕ) → AnyNested m n b → AnyNested m k c → b ++ r ≡ c ++ s → b ≡ c
 any_prefix_free zero k m b c r s p q e = absurd p
 any_prefix_free (suc n) zero m b c r s p q e = absurd q
 any_prefix_free (suc n) (suc k) m b c r s p q e =
@@ -26,33 +26,33 @@ any_prefix_free (suc n) (suc k) m b c r s p q e =
     p.meaning.0 q.meaning.0 p.contents q.contents y z p.meaning.1 q.meaning.1 i j f) e).bytes
 
 module _ {U : Type 0} (parts : U → List U) where
-  nested_among : (n : ℕ) (m : BERMode) (v : U) (b : List ℕ) → IsNested parts n m v b → AnyNested n m b
+  nested_among : (n : ℕ) (m : BERMode) (v : U) (b : List ℕ) → IsNested parts m n v b → AnyNested m n b
   nested_among zero m v b p = absurd p
   nested_among (suc n) m v b p =
       let x = p.meaning in
       let r = each_any (nested_among n m) (parts v) x.pieces x.each in
       record { contents = p.contents; element = p.element; meaning = (r.0, record { pieces = x.pieces; each = r.1; joined = x.joined }) }
 
-  nested_starts : (n : ℕ) (m : BERMode) (v : U) (b : List ℕ) → IsNested parts n m v b → StartsElement b
+  nested_starts : (n : ℕ) (m : BERMode) (v : U) (b : List ℕ) → IsNested parts m n v b → StartsElement b
   nested_starts n m v b p = any_opens n m b (nested_among n m v b p)
 
-  nested_exact : (n k : ℕ) (m : BERMode) (v w : U) (b : List ℕ) → IsNested parts n m v b → IsNested parts k m w b → (j : ℕ) → SameTo parts j v w
+  nested_exact : (n k : ℕ) (m : BERMode) (v w : U) (b : List ℕ) → IsNested parts m n v b → IsNested parts m k w b → (j : ℕ) → SameTo parts j v w
   nested_exact n k m v w b p q zero = tt
   nested_exact zero k m v w b p q (suc j) = absurd p
   nested_exact (suc n) zero m v w b p q (suc j) = absurd q
   nested_exact (suc n) (suc k) m v w b p q (suc j) =
-      let prefix_free = λ (v w : U) (b c r s : List ℕ) (g : IsNested parts n m v b) (h : IsNested parts k m w c) (e : b ++ r ≡ c ++ s).
+      let prefix_free = λ (v w : U) (b c r s : List ℕ) (g : IsNested parts m n v b) (h : IsNested parts m k w c) (e : b ++ r ≡ c ++ s).
       any_prefix_free n k m b c r s (nested_among n m v b g) (nested_among k m w c h) e in
       let same = element_exact m m sequence_tag sequence_tag Constructed Constructed p.contents q.contents b b [] [] p.element q.element
       (λ y z g h f. pieces_end prefix_free (nested_starts n m) (nested_starts k m) (parts v) (parts w) p.contents q.contents y z p.meaning q.meaning g h f) refl in
-      let x = subst (λ c. Pieces (IsNested parts n m) (parts v) c) same.contents p.meaning in
+      let x = subst (λ c. Pieces (IsNested parts m n) (parts v) c) same.contents p.meaning in
       let y = q.meaning in
       let once = pieces_once prefix_free (parts v) (parts w) q.contents q.contents [] [] x y (no_prefix_at_end (nested_starts k m) [] (nothing refl))
       (no_prefix_at_end (nested_starts n m) [] (nothing refl)) refl in
-      each_same (λ v w b g h. nested_exact n k m v w b g h j) (parts v) (parts w) y.pieces (subst (λ bs. Each (IsNested parts n m) (parts v) bs) once.0 x.each)
+      each_same (λ v w b g h. nested_exact n k m v w b g h j) (parts v) (parts w) y.pieces (subst (λ bs. Each (IsNested parts m n) (parts v) bs) once.0 x.each)
       y.each
 
-  nested_deeper : (n k : ℕ) (m : BERMode) (v : U) (b : List ℕ) → n ≤ k → IsNested parts n m v b → IsNested parts k m v b
+  nested_deeper : (n k : ℕ) (m : BERMode) (v : U) (b : List ℕ) → n ≤ k → IsNested parts m n v b → IsNested parts m k v b
   nested_deeper zero k m v b below p = absurd p
   nested_deeper (suc n) zero m v b below p = absurd (omega (arith, below))
   nested_deeper (suc n) (suc k) m v b below p = record {
@@ -72,7 +72,7 @@ module _ {U : Type 0} (parts : U → List U) where
       }
 
   -- such a type satisfies the laws of reading
-  pub nested_coding : IsCoding (SameNested parts) (λ m n v b. IsNested parts n m v b) (λ m n b. AnyNested n m b)
+  pub nested_coding : IsCoding (SameNested parts) (IsNested parts) AnyNested
   nested_coding = record {
     meaning = record {
       equal = record {
@@ -90,16 +90,16 @@ module _ {U : Type 0} (parts : U → List U) where
 
   -- a list of the values within one is the one
   pub nested_list : (m : BERMode) (n : ℕ) (v : U) (vs : List U) (b : List ℕ) → parts v ≡ vs →
-      IsListOf (λ m n v b. IsNested parts n m v b) sequence_tag m n vs b →
-      IsNested parts n m v b
+      IsListOf (IsNested parts) sequence_tag m n vs b →
+      IsNested parts m n v b
   nested_list m zero v vs b e p = p
   nested_list m (suc n) v vs b e p = record {
     contents = p.contents;
     element = p.element;
-    meaning = subst (λ us. Pieces (IsNested parts n m) us p.contents) (sym e) p.meaning;
+    meaning = subst (λ us. Pieces (IsNested parts m n) us p.contents) (sym e) p.meaning;
   }
 
 -- bytes of some values within one are a list of such bytes
-pub any_nested_list : (m : BERMode) (n : ℕ) (b : List ℕ) → AnyNested n m b → AnyListOf (λ m n b. AnyNested n m b) sequence_tag m n b
+pub any_nested_list : (m : BERMode) (n : ℕ) (b : List ℕ) → AnyNested m n b → AnyListOf AnyNested sequence_tag m n b
 any_nested_list m zero b p = p
 any_nested_list m (suc n) b p = record { contents = p.contents; element = p.element; meaning = p.meaning }

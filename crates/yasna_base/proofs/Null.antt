@@ -12,11 +12,11 @@ use Rattle.yasna_base.proofs.Identifier.{not_end}
 
 -- NULL satisfies the laws of reading
 pub null_coding : (t : Tag) → (t ≡ end_tag → ⊥) →
-    IsCoding (λ v w. v ≡ w) (λ m n v b. Primitively IsNull n m t v b) (Any (λ m n v b. Primitively IsNull n m t v b))
+    IsCoding (λ v w. v ≡ w) (Primitively IsNull t) (Any (Primitively IsNull t))
 null_coding t not_end = primitively IsNull t not_end (λ m v w c x y. refl)
 
 -- NULL satisfies the laws of writing
-pub null_written : (t : Tag) → t.tag_number < 2 ^ 64 → IsWritten (λ v w. v ≡ w) (λ m n v b. Primitively IsNull n m t v b) (null_encoding t) leaf_depth Always
+pub null_written : (t : Tag) → t.tag_number < 2 ^ 64 → IsWritten (λ v w. v ≡ w) (Primitively IsNull t) (null_encoding t) leaf_depth Always
 null_written t range = primitively_written IsNull Always (λ v. []) t range (λ v can. tt) (λ m v can. refl) (λ m v c h x. x) (λ m v c x. tt)
 
 -- under its own tag

@@ -26,7 +26,7 @@ pub octets_once : SegmentsOnce octets_segmentation
 octets_once = record { whole = λ m v w c x y. x ∙ sym y; join = λ m vs v w x y. x ∙ sym y; segment = not_end 4 (λ e. omega arith) }
 
 -- OCTET STRING satisfies the laws of reading
-pub octets_coding : (t : Tag) → (t ≡ end_tag → ⊥) → IsCoding (λ v w. v ≡ w) (λ m n v b. IsOctets n m t v b) (Any (λ m n v b. IsOctets n m t v b))
+pub octets_coding : (t : Tag) → (t ≡ end_tag → ⊥) → IsCoding (λ v w. v ≡ w) (IsOctets t) (Any (IsOctets t))
 octets_coding t not_end = segmented_coding octets_once t not_end
 
 concat_bytes : (vs : List (List ℕ)) → AllByRecursion IsBytes vs → IsBytes (concat vs)
@@ -34,7 +34,7 @@ concat_bytes [] h = tt
 concat_bytes (v ∷ vs) h = bytes_append v (concat vs) h.0 (concat_bytes vs h.1)
 
 -- octets are bytes
-pub octets_bytes : (n : ℕ) (m : BERMode) (t : Tag) (v b : List ℕ) → IsOctets n m t v b → IsBytes v
+pub octets_bytes : (n : ℕ) (m : BERMode) (t : Tag) (v b : List ℕ) → IsOctets t m n v b → IsBytes v
 octets_bytes = segmented_keeps octets_segmentation IsBytes (λ m v c h e. subst IsBytes (sym e) h) (λ m vs v h e. subst IsBytes (sym e) (concat_bytes vs h))
 
 -- octets are cut in one way by CER, into segments of 1000
@@ -63,7 +63,7 @@ octets_in_segments = record {
 
 -- OCTET STRING satisfies the laws of writing
 pub octets_written : (t : Tag) → t.tag_number < 2 ^ 64 →
-    IsWritten (λ v w. v ≡ w) (λ m n v b. IsOctets n m t v b) (octets_encoding t) octets_depth IsBytes
+    IsWritten (λ v w. v ≡ w) (IsOctets t) (octets_encoding t) octets_depth IsBytes
 octets_written t range = record {
   has = segmented_has octets_in_segments (omega arith) t range;
   any = λ n v b x. (octets_bytes n Ber t v b x, segmented_level octets_segmentation n Ber t v b x);

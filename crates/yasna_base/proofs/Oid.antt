@@ -81,12 +81,12 @@ encodable_of (x ∷ y ∷ cs) r l f h = (λ t. (h.0 t, all_small cs (λ i. f (su
 
 -- OBJECT IDENTIFIER satisfies the laws of reading
 pub oid_under : (t : Tag) → (t ≡ end_tag → ⊥) →
-    IsCoding (λ v w. v ≡ w) (λ m n v b. Primitively AreComponents n m t v b) (Any (λ m n v b. Primitively AreComponents n m t v b))
+    IsCoding (λ v w. v ≡ w) (Primitively AreComponents t) (Any (Primitively AreComponents t))
 oid_under t not_end = primitively AreComponents t not_end (λ m v w c x y. one_oid v w c x.encodable y.encodable x.contents y.contents)
 
 -- OBJECT IDENTIFIER satisfies the laws of writing
 pub oid_written_under : (t : Tag) → t.tag_number < 2 ^ 64 →
-    IsWritten (λ v w. v ≡ w) (λ m n v b. Primitively AreComponents n m t v b) (oid_encoding t) leaf_depth IsEncodableOid
+    IsWritten (λ v w. v ≡ w) (Primitively AreComponents t) (oid_encoding t) leaf_depth IsEncodableOid
 oid_written_under t range = primitively_written AreComponents IsEncodableOid oid_contents t range
     (λ v can. oid_bytes v)
     (λ m v can. record { encodable = can; contents = refl })

@@ -47,16 +47,16 @@ abbrev context : ℕ → Tag
 context number = record { tag_class = ContextSpecific; tag_number = number }
 
 abbrev Number : Tag → Grammar ℤ
-Number t m n v b = Primitively (IsSigned w64) n m t v b
+Number t m n v b = Primitively (IsSigned w64) t m n v b
 
 abbrev Flag : Tag → Grammar Bool
-Flag t m n v b = Primitively IsBoolean n m t v b
+Flag t m n v b = Primitively IsBoolean t m n v b
 
 abbrev Empty : Tag → Grammar (Unit {0})
-Empty t m n v b = Primitively IsNull n m t v b
+Empty t m n v b = Primitively IsNull t m n v b
 
 abbrev Octets : Tag → Grammar (List ℕ)
-Octets t m n v b = IsOctets n m t v b
+Octets t m n v b = IsOctets t m n v b
 
 number_with_tags : (t : Tag) → (t ≡ end_tag → ⊥) → CodingByTags (t ∷ []) (λ v w. v ≡ w) (Number t) (Any (Number t))
 number_with_tags t not_end = record { coding = signed_under w64 t not_end; begins = primitive_by_tag (IsSigned w64) t }

@@ -19,35 +19,35 @@ use Rattle.yasna_base.proofs.Lists.{prefixes_same, append_before}
 use Rattle.yasna_base.proofs.Pieces.{NoPrefix, no_prefix_at_end, starts_not_end, pieces_end, pieces_once, pieces_wider}
 
 -- no level holds a raw element
-pub raw_zero : (m : BERMode) (v : RawValue) (b : List ℕ) → IsRaw zero m v b → ⊥
+pub raw_zero : (m : BERMode) (v : RawValue) (b : List ℕ) → IsRaw m zero v b → ⊥
 unfolding IsRaw
 raw_zero m v b x = x
 
 -- an element over the levels below is raw with one more level
-pub raw_of : (n : ℕ) (m : BERMode) (v : RawValue) (b : List ℕ) → RawOver (IsRaw n m) m v b → IsRaw (suc n) m v b
+pub raw_of : (n : ℕ) (m : BERMode) (v : RawValue) (b : List ℕ) → RawOver (IsRaw m n) m v b → IsRaw m (suc n) v b
 unfolding IsRaw
 raw_of n m v b x = x
 
 -- a raw element with one more level is over the levels below
-pub raw_into : (n : ℕ) (m : BERMode) (v : RawValue) (b : List ℕ) → IsRaw (suc n) m v b → RawOver (IsRaw n m) m v b
+pub raw_into : (n : ℕ) (m : BERMode) (v : RawValue) (b : List ℕ) → IsRaw m (suc n) v b → RawOver (IsRaw m n) m v b
 unfolding IsRaw
 raw_into n m v b x = x
 
 -- where no level is left any element is too deep
-pub deep_at_zero : (m : BERMode) (s : List ℕ) → StartsElement s → IsDeepRaw zero m s
+pub deep_at_zero : (m : BERMode) (s : List ℕ) → StartsElement s → IsDeepRaw m zero s
 unfolding IsDeepRaw
 deep_at_zero m s x = x
 
-pub deep_zero_into : (m : BERMode) (s : List ℕ) → IsDeepRaw zero m s → StartsElement s
+pub deep_zero_into : (m : BERMode) (s : List ℕ) → IsDeepRaw m zero s → StartsElement s
 unfolding IsDeepRaw
 deep_zero_into m s x = x
 
 -- where one is left, an element within is
-pub deep_of : (n : ℕ) (m : BERMode) (s : List ℕ) → DeepRaw (IsRaw n m) (IsDeepRaw n m) m s → IsDeepRaw (suc n) m s
+pub deep_of : (n : ℕ) (m : BERMode) (s : List ℕ) → DeepRaw (IsRaw m n) (IsDeepRaw m n) m s → IsDeepRaw m (suc n) s
 unfolding IsDeepRaw
 deep_of n m s x = x
 
-pub deep_into : (n : ℕ) (m : BERMode) (s : List ℕ) → IsDeepRaw (suc n) m s → DeepRaw (IsRaw n m) (IsDeepRaw n m) m s
+pub deep_into : (n : ℕ) (m : BERMode) (s : List ℕ) → IsDeepRaw m (suc n) s → DeepRaw (IsRaw m n) (IsDeepRaw m n) m s
 unfolding IsDeepRaw
 deep_into n m s x = x
 
@@ -71,7 +71,7 @@ over_starts : {R : RawValue → List ℕ → Type 0} {m : BERMode} (v : RawValue
 over_starts {R} {m} v b x = let y = raw_element v b x in element_starts m v.tag v.bit y.contents b x.not_end y.element
 
 -- it begins with an identifier, which isn't that of the end of contents
-pub raw_starts : (n : ℕ) (m : BERMode) (v : RawValue) (b : List ℕ) → IsRaw n m v b → StartsElement b
+pub raw_starts : (n : ℕ) (m : BERMode) (v : RawValue) (b : List ℕ) → IsRaw m n v b → StartsElement b
 raw_starts zero m v b x = absurd (raw_zero m v b x)
 raw_starts (suc n) m v b x = over_starts v b (raw_into n m v b x)
 
@@ -85,7 +85,7 @@ over_wider : {R S : RawValue → List ℕ → Type 0} (m : BERMode) → ((v : Ra
 over_wider m f v b x = record { not_end = x.not_end; in_range = x.in_range; in_bytes = x.in_bytes; framed = framed_wider m f v b x.framed }
 
 -- a raw element within some levels is one within more
-pub raw_deeper : (n j : ℕ) (m : BERMode) (v : RawValue) (b : List ℕ) → n ≤ j → IsRaw n m v b → IsRaw j m v b
+pub raw_deeper : (n j : ℕ) (m : BERMode) (v : RawValue) (b : List ℕ) → n ≤ j → IsRaw m n v b → IsRaw m j v b
 raw_deeper zero j m v b below x = absurd (raw_zero m v b x)
 raw_deeper (suc n) zero m v b below x = absurd (omega (arith, below))
 raw_deeper (suc n) (suc j) m v b below x =
@@ -112,7 +112,7 @@ framed_exact m prefix_free left right v w b c r s (with_zeros x d j h) (with_zer
     (same_raw v w i.tag i.bit (h ∙ ap (λ z. z ++ end_of_contents) i.contents ∙ sym g), i.bytes)
 
 -- of two raw elements neither begins the other, and equal bytes are equal elements
-pub raw_exact : (n j : ℕ) (m : BERMode) (v w : RawValue) (b c r s : List ℕ) → IsRaw n m v b → IsRaw j m w c → b ++ r ≡ c ++ s → (v ≡ w) × (b ≡ c)
+pub raw_exact : (n j : ℕ) (m : BERMode) (v w : RawValue) (b c r s : List ℕ) → IsRaw m n v b → IsRaw m j w c → b ++ r ≡ c ++ s → (v ≡ w) × (b ≡ c)
 raw_exact zero j m v w b c r s x y e = absurd (raw_zero m v b x)
 raw_exact (suc n) zero m v w b c r s x y e = absurd (raw_zero m w c y)
 raw_exact (suc n) (suc j) m v w b c r s x y e =
@@ -120,7 +120,7 @@ raw_exact (suc n) (suc j) m v w b c r s x y e =
     (raw_into n m v b x).framed (raw_into j m w c y).framed e
 
 -- raw elements satisfy the laws of reading
-pub raw_coding : IsCoding (λ v w. v ≡ w) (λ m n v b. IsRaw n m v b) (Any (λ m n v b. IsRaw n m v b))
+pub raw_coding : IsCoding (λ v w. v ≡ w) IsRaw (Any IsRaw)
 raw_coding = record {
   meaning = record {
     equal = equal_same;
@@ -219,14 +219,14 @@ deep_not_to m prefix_free starts first unambiguous p c indefinite_end r l x w =
     deep_inside m prefix_free starts first unambiguous w.1.0 w.0 c (0 ∷ 0 ∷ r) w.1.1 (zeros_at_end (0 ∷ r)) x w.2
 
 -- what is too deep begins with an identifier, which isn't that of the end of contents
-pub deep_starts : (n : ℕ) (m : BERMode) (s : List ℕ) → IsDeepRaw n m s → StartsElement s
+pub deep_starts : (n : ℕ) (m : BERMode) (s : List ℕ) → IsDeepRaw m n s → StartsElement s
 deep_starts zero m s x = deep_zero_into m s x
 deep_starts (suc n) m s x =
     let y = deep_into n m s x in
     opens_starts m y.tag y.bit s y.contents y.end y.not_end y.opens
 
 -- where it is too deep no front is a raw element
-pub deep_not_raw : (n : ℕ) (m : BERMode) (s : List ℕ) → IsDeepRaw n m s → NoPrefix (IsRaw n m) s
+pub deep_not_raw : (n : ℕ) (m : BERMode) (s : List ℕ) → IsDeepRaw m n s → NoPrefix (IsRaw m n) s
 deep_not_raw zero m s d v b r x e = raw_zero m v b x
 deep_not_raw (suc n) m s d v b r x e =
     let y = deep_into n m s d in

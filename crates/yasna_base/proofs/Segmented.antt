@@ -22,40 +22,40 @@ pub record SegmentsOnce {A : Type 0} (k : Segmentation A) : Type 0 where
   pub segment : k.segment ≡ end_tag → ⊥
 
 -- no level holds a string
-pub segmented_zero : {A : Type 0} (k : Segmentation A) (m : BERMode) (t : Tag) (v : A) (b : List ℕ) → IsSegmented k zero m t v b → ⊥
+pub segmented_zero : {A : Type 0} (k : Segmentation A) (m : BERMode) (t : Tag) (v : A) (b : List ℕ) → IsSegmented k t m zero v b → ⊥
 unfolding IsSegmented
 segmented_zero k m t v b x = x
 
 -- a string that is whole or in segments of the levels below is a string with one more level
 pub segmented_of : {A : Type 0} (k : Segmentation A) (n : ℕ) (m : BERMode) (t : Tag) (v : A) (b : List ℕ) →
-    Segmented k (IsSegmented k n (segment_mode m) k.segment) m t v b →
-    IsSegmented k (suc n) m t v b
+    Segmented k (IsSegmented k k.segment (segment_mode m) n) m t v b →
+    IsSegmented k t m (suc n) v b
 unfolding IsSegmented
 segmented_of k n m t v b x = x
 
 -- a string with one more level is whole or in segments of the levels below
-pub segmented_into : {A : Type 0} (k : Segmentation A) (n : ℕ) (m : BERMode) (t : Tag) (v : A) (b : List ℕ) → IsSegmented k (suc n) m t v b →
-    Segmented k (IsSegmented k n (segment_mode m) k.segment) m t v b
+pub segmented_into : {A : Type 0} (k : Segmentation A) (n : ℕ) (m : BERMode) (t : Tag) (v : A) (b : List ℕ) → IsSegmented k t m (suc n) v b →
+    Segmented k (IsSegmented k k.segment (segment_mode m) n) m t v b
 unfolding IsSegmented
 segmented_into k n m t v b x = x
 
 -- where no level is left the wanted tag is too deep
-pub deep_at_zero : {A : Type 0} (k : Segmentation A) (m : BERMode) (t : Tag) (s : List ℕ) → BeginsWithTag t s → IsDeepSegmented k zero m t s
+pub deep_at_zero : {A : Type 0} (k : Segmentation A) (m : BERMode) (t : Tag) (s : List ℕ) → BeginsWithTag t s → IsDeepSegmented k t m zero s
 unfolding IsDeepSegmented
 deep_at_zero k m t s x = x
 
-pub deep_zero_into : {A : Type 0} (k : Segmentation A) (m : BERMode) (t : Tag) (s : List ℕ) → IsDeepSegmented k zero m t s → BeginsWithTag t s
+pub deep_zero_into : {A : Type 0} (k : Segmentation A) (m : BERMode) (t : Tag) (s : List ℕ) → IsDeepSegmented k t m zero s → BeginsWithTag t s
 unfolding IsDeepSegmented
 deep_zero_into k m t s x = x
 
 -- where one is left, a segment within is
 pub deep_of : {A : Type 0} (k : Segmentation A) (n : ℕ) (m : BERMode) (t : Tag) (s : List ℕ) →
-    DeepSegmented k (IsSegmented k n (segment_mode m) k.segment) (IsDeepSegmented k n (segment_mode m) k.segment) m t s → IsDeepSegmented k (suc n) m t s
+    DeepSegmented k (IsSegmented k k.segment (segment_mode m) n) (IsDeepSegmented k k.segment (segment_mode m) n) m t s → IsDeepSegmented k t m (suc n) s
 unfolding IsDeepSegmented
 deep_of k n m t s x = x
 
-pub deep_into : {A : Type 0} (k : Segmentation A) (n : ℕ) (m : BERMode) (t : Tag) (s : List ℕ) → IsDeepSegmented k (suc n) m t s →
-    DeepSegmented k (IsSegmented k n (segment_mode m) k.segment) (IsDeepSegmented k n (segment_mode m) k.segment) m t s
+pub deep_into : {A : Type 0} (k : Segmentation A) (n : ℕ) (m : BERMode) (t : Tag) (s : List ℕ) → IsDeepSegmented k t m (suc n) s →
+    DeepSegmented k (IsSegmented k k.segment (segment_mode m) n) (IsDeepSegmented k k.segment (segment_mode m) n) m t s
 unfolding IsDeepSegmented
 deep_into k n m t s x = x
 
@@ -65,7 +65,7 @@ segmented_first : {A : Type 0} (k : Segmentation A) {R : A → List ℕ → Type
 segmented_first k m t v b (whole c x p a) = element_begins m t Primitive c b x
 segmented_first k m t v b (in_segments h c vs x p j a) = element_begins m t Constructed c b x
 
-pub segmented_begins : {A : Type 0} (k : Segmentation A) (n : ℕ) (m : BERMode) (t : Tag) (v : A) (b : List ℕ) → IsSegmented k n m t v b → BeginsWithTag t b
+pub segmented_begins : {A : Type 0} (k : Segmentation A) (n : ℕ) (m : BERMode) (t : Tag) (v : A) (b : List ℕ) → IsSegmented k t m n v b → BeginsWithTag t b
 segmented_begins k zero m t v b x = absurd (segmented_zero k m t v b x)
 segmented_begins k (suc n) m t v b x = segmented_first k m t v b (segmented_into k n m t v b x)
 
@@ -75,7 +75,7 @@ segmented_opens k m t v b not_end (whole c x p a) = element_starts m t Primitive
 segmented_opens k m t v b not_end (in_segments h c vs x p j a) = element_starts m t Constructed c b not_end x
 
 -- a string doesn't begin with the end of contents
-pub segmented_starts : {A : Type 0} (k : Segmentation A) (n : ℕ) (m : BERMode) (t : Tag) (v : A) (b : List ℕ) → (t ≡ end_tag → ⊥) → IsSegmented k n m t v b →
+pub segmented_starts : {A : Type 0} (k : Segmentation A) (n : ℕ) (m : BERMode) (t : Tag) (v : A) (b : List ℕ) → (t ≡ end_tag → ⊥) → IsSegmented k t m n v b →
     StartsElement b
 segmented_starts k zero m t v b not_end x = absurd (segmented_zero k m t v b x)
 segmented_starts k (suc n) m t v b not_end x = segmented_opens k m t v b not_end (segmented_into k n m t v b x)
@@ -86,8 +86,8 @@ segmented_wider k m t f v b (whole c x p a) = whole c x p a
 segmented_wider k m t f v b (in_segments h c vs x p j a) = in_segments h c vs x (pieces_wider f vs c p) j a
 
 -- a string within some levels is one within more
-pub segmented_deeper : {A : Type 0} (k : Segmentation A) (n j : ℕ) (m : BERMode) (t : Tag) (v : A) (b : List ℕ) → n ≤ j → IsSegmented k n m t v b →
-    IsSegmented k j m t v b
+pub segmented_deeper : {A : Type 0} (k : Segmentation A) (n j : ℕ) (m : BERMode) (t : Tag) (v : A) (b : List ℕ) → n ≤ j → IsSegmented k t m n v b →
+    IsSegmented k t m j v b
 segmented_deeper k zero j m t v b below x = absurd (segmented_zero k m t v b x)
 segmented_deeper k (suc n) zero m t v b below x = absurd (omega (arith, below))
 segmented_deeper k (suc n) (suc j) m t v b below x =
@@ -95,7 +95,7 @@ segmented_deeper k (suc n) (suc j) m t v b below x =
     (segmented_into k n m t v b x))
 
 -- what is too deep begins with the wanted tag
-pub deep_begins : {A : Type 0} (k : Segmentation A) (n : ℕ) (m : BERMode) (t : Tag) (s : List ℕ) → IsDeepSegmented k n m t s → BeginsWithTag t s
+pub deep_begins : {A : Type 0} (k : Segmentation A) (n : ℕ) (m : BERMode) (t : Tag) (s : List ℕ) → IsDeepSegmented k t m n s → BeginsWithTag t s
 deep_begins k zero m t s x = deep_zero_into k m t s x
 deep_begins k (suc n) m t s x = let y = deep_into k n m t s x in opens_begins m t Constructed s y.contents y.end y.opens
 
@@ -131,7 +131,7 @@ module _ {A : Type 0} {k : Segmentation A} (once : SegmentsOnce k) where
       (once.join (segment_mode m) ws v w (subst (λ us. k.join (segment_mode m) us v) same.0 j) l, same.1)
 
   -- of two strings neither begins the other, and equal bytes are equal strings
-  pub segmented_exact : (n j : ℕ) (m : BERMode) (t : Tag) (v w : A) (b c r s : List ℕ) → IsSegmented k n m t v b → IsSegmented k j m t w c → b ++ r ≡ c ++ s →
+  pub segmented_exact : (n j : ℕ) (m : BERMode) (t : Tag) (v w : A) (b c r s : List ℕ) → IsSegmented k t m n v b → IsSegmented k t m j w c → b ++ r ≡ c ++ s →
       (v ≡ w) × (b ≡ c)
   segmented_exact zero j m t v w b c r s x y e = absurd (segmented_zero k m t v b x)
   segmented_exact (suc n) zero m t v w b c r s x y e = absurd (segmented_zero k m t w c y)
@@ -141,7 +141,7 @@ module _ {A : Type 0} {k : Segmentation A} (once : SegmentsOnce k) where
       v w b c r s (segmented_into k n m t v b x) (segmented_into k j m t w c y) e
 
   -- a string satisfies the laws of reading, however it is cut
-  pub segmented_coding : (t : Tag) → (t ≡ end_tag → ⊥) → IsCoding (λ v w. v ≡ w) (λ m n v b. IsSegmented k n m t v b) (Any (λ m n v b. IsSegmented k n m t v b))
+  pub segmented_coding : (t : Tag) → (t ≡ end_tag → ⊥) → IsCoding (λ v w. v ≡ w) (IsSegmented k t) (Any (IsSegmented k t))
   segmented_coding t not_end = record {
     meaning = record {
       equal = equal_same;
@@ -167,7 +167,7 @@ module _ {A : Type 0} {k : Segmentation A} (once : SegmentsOnce k) where
       tag_not_end k.segment i.after once.segment (subst (λ z. BeginsWithTag k.segment z) f.1 (first d.inside.rest d.inside.deep)) ended
 
   -- where it is too deep no front is a string
-  pub deep_not_segmented : (n : ℕ) (m : BERMode) (t : Tag) (s : List ℕ) → IsDeepSegmented k n m t s → NoPrefix (IsSegmented k n m t) s
+  pub deep_not_segmented : (n : ℕ) (m : BERMode) (t : Tag) (s : List ℕ) → IsDeepSegmented k t m n s → NoPrefix (IsSegmented k t m n) s
   deep_not_segmented zero m t s d v b r x e = segmented_zero k m t v b x
   deep_not_segmented (suc n) m t s d v b r x e =
       deep_not_in m t (λ u w c g y z p q i. (segmented_exact n n (segment_mode m) k.segment u w c g y z p q i).1)
@@ -187,18 +187,18 @@ module _ {A : Type 0} (k : Segmentation A) (P : A → Type 0) (of_whole : (m : B
   keeps_of f m t v b (whole c x p a) = of_whole m v c x.in_bytes p
   keeps_of f m t v b (in_segments h c vs x p j a) = of_join (segment_mode m) vs v (each_keeps f vs p.pieces p.each) j
 
-  pub segmented_keeps : (n : ℕ) (m : BERMode) (t : Tag) (v : A) (b : List ℕ) → IsSegmented k n m t v b → P v
+  pub segmented_keeps : (n : ℕ) (m : BERMode) (t : Tag) (v : A) (b : List ℕ) → IsSegmented k t m n v b → P v
   segmented_keeps zero m t v b x = absurd (segmented_zero k m t v b x)
   segmented_keeps (suc n) m t v b x = keeps_of (segmented_keeps n (segment_mode m) k.segment) m t v b (segmented_into k n m t v b x)
 
 -- a string takes a level
-pub segmented_level : {A : Type 0} (k : Segmentation A) (n : ℕ) (m : BERMode) (t : Tag) (v : A) (b : List ℕ) → IsSegmented k n m t v b → 1 ≤ n
+pub segmented_level : {A : Type 0} (k : Segmentation A) (n : ℕ) (m : BERMode) (t : Tag) (v : A) (b : List ℕ) → IsSegmented k t m n v b → 1 ≤ n
 segmented_level k zero m t v b x = absurd (segmented_zero k m t v b x)
 segmented_level k (suc n) m t v b x = omega arith
 
 -- the contents of a primitive element are a string where a level is left
 pub segmented_whole : {A : Type 0} (k : Segmentation A) (n : ℕ) (m : BERMode) (t : Tag) (v : A) (c b : List ℕ) → 1 ≤ n → Element m t Primitive c b →
     k.whole m v c →
-    StaysWhole m k.full (length (k.bytes v)) → IsSegmented k n m t v b
+    StaysWhole m k.full (length (k.bytes v)) → IsSegmented k t m n v b
 segmented_whole k zero m t v c b level x p a = absurd (omega (arith, level))
 segmented_whole k (suc n) m t v c b level x p a = segmented_of k n m t v b (whole c x p a)

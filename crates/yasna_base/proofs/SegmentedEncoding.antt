@@ -85,7 +85,7 @@ module _ {A : Type 0} {k : Segmentation A} {Can : A → Type 0} {contents : A �
       (canonical_element_only Der t Primitive c b tt e ∙ ap (canonical_element Der t Primitive) same.0, same.1)
   der_only t v b (in_segments h c vs e p j a) = absurd h
 
-  pieces_only : (n : ℕ) (vs : List A) (bs : List (List ℕ)) → Each (IsSegmented k n Der k.segment) vs bs →
+  pieces_only : (n : ℕ) (vs : List A) (bs : List (List ℕ)) → Each (IsSegmented k k.segment Der n) vs bs →
       (concat bs ≡ flat_map (λ w. canonical_element Der k.segment Primitive (contents w)) vs) × AllByRecursion Can vs × (1 ≤ length vs → 1 ≤ n)
   pieces_only n [] [] p = (refl, tt, λ h. omega (arith, h))
   pieces_only n [] (b ∷ bs) p = absurd p
@@ -134,7 +134,7 @@ module _ {A : Type 0} {k : Segmentation A} {Can : A → Type 0} {contents : A �
     ]
 
     long_holds : (o : BERMode) (n : ℕ) (v : A) → HoldsEncoding Cer o → Can v → k.full < length (k.bytes v) → 2 ≤ n →
-        length (canonical_element Cer t Constructed (inside v)) < 2 ^ 64 → IsSegmented k n o t v (canonical_element Cer t Constructed (inside v))
+        length (canonical_element Cer t Constructed (inside v)) < 2 ^ 64 → IsSegmented k t o n v (canonical_element Cer t Constructed (inside v))
     long_holds o zero v h can long level short = absurd (omega (arith, level))
     long_holds o (suc zero) v h can long level short = absurd (omega (arith, level))
     long_holds o (suc (suc n)) v h can long level short =
@@ -151,23 +151,23 @@ module _ {A : Type 0} {k : Segmentation A} {Can : A → Type 0} {contents : A �
 
     encoding_holds : (m o : BERMode) (n : ℕ) (v : A) → HoldsEncoding m o → Can v → segmented_depth k m v ≤ n →
         length (segmented_encoding k contents segments t m v) < 2 ^ 64 →
-        IsSegmented k n o t v (segmented_encoding k contents segments t m v)
+        IsSegmented k t o n v (segmented_encoding k contents segments t m v)
     encoding_holds m o n v h can level short = elim (stays_or_not m k.full (length (k.bytes v))) [
       | inl i ↦
           let e = encoding_whole m v i in
-          subst (IsSegmented k n o t v) (sym e.0)
+          subst (IsSegmented k t o n v) (sym e.0)
           (segmented_whole k n o t v (contents v) (canonical_element m t Primitive (contents v)) (subst (λ j. j ≤ n) e.1 level)
           (canonical_element_is m o t Primitive (contents v) h range (x.bytes v can) (subst (λ b. length b < 2 ^ 64) e.0 short))
           (x.means o v can) (stays_where m o k.full (length (k.bytes v)) h i))
       | inr i ↦
           let e = encoding_segmented v i.1 in
           subst (λ q. HoldsEncoding q o → segmented_depth k q v ≤ n → length (segmented_encoding k contents segments t q v) < 2 ^ 64 →
-          IsSegmented k n o t v (segmented_encoding k contents segments t q v))
-          (sym i.0) (λ g l s. subst (IsSegmented k n o t v) (sym e.0)
+          IsSegmented k t o n v (segmented_encoding k contents segments t q v))
+          (sym i.0) (λ g l s. subst (IsSegmented k t o n v) (sym e.0)
           (long_holds o n v g can i.1 (subst (λ j. j ≤ n) e.1 l) (subst (λ b. length b < 2 ^ 64) e.0 s))) h level short
     ]
 
-    segmented_only : (m : BERMode) (n : ℕ) (v : A) (b : List ℕ) → IsCanonicalMode m → Segmented k (IsSegmented k n (segment_mode m) k.segment) m t v b →
+    segmented_only : (m : BERMode) (n : ℕ) (v : A) (b : List ℕ) → IsCanonicalMode m → Segmented k (IsSegmented k k.segment (segment_mode m) n) m t v b →
         (b ≡ segmented_encoding k contents segments t m v) × Can v × (segmented_depth k m v ≤ suc n)
     segmented_only m n v b h (whole c e p a) =
         let same = x.one m v c h e.in_bytes p in
@@ -190,11 +190,11 @@ module _ {A : Type 0} {k : Segmentation A} {Can : A → Type 0} {contents : A �
           subst (λ l. l ≤ suc n) (sym f.1) (let l = each.2 two in omega (arith, l)),
         )
 
-    encoding_only : (m : BERMode) (n : ℕ) (v : A) (b : List ℕ) → IsCanonicalMode m → IsSegmented k n m t v b →
+    encoding_only : (m : BERMode) (n : ℕ) (v : A) (b : List ℕ) → IsCanonicalMode m → IsSegmented k t m n v b →
         (b ≡ segmented_encoding k contents segments t m v) × Can v × (segmented_depth k m v ≤ n)
     encoding_only m zero v b h y = absurd (segmented_zero k m t v b y)
     encoding_only m (suc n) v b h y = segmented_only m n v b h (segmented_into k n m t v b y)
 
     -- a string that can be written has one encoding in each canonical mode
-    pub segmented_has : HasEncoding (λ m n v b. IsSegmented k n m t v b) (segmented_encoding k contents segments t) (segmented_depth k) (λ m. Can)
+    pub segmented_has : HasEncoding (IsSegmented k t) (segmented_encoding k contents segments t) (segmented_depth k) (λ m. Can)
     segmented_has = record { in_bytes = encoding_bytes; holds = encoding_holds; only = encoding_only }

@@ -46,7 +46,7 @@ pub record OwnTag (v : RawValue) (b : List ℕ) : Type 0 where
   pub begins : BeginsWithTag v.tag b
 
 -- it begins with its tag, and its payload is bytes
-pub raw_begins : (n : ℕ) (m : BERMode) (v : RawValue) (b : List ℕ) → IsRaw n m v b → OwnTag v b
+pub raw_begins : (n : ℕ) (m : BERMode) (v : RawValue) (b : List ℕ) → IsRaw m n v b → OwnTag v b
 raw_begins zero m v b x = absurd (raw_zero m v b x)
 raw_begins (suc n) m v b x =
     let y = raw_into n m v b x in
@@ -73,7 +73,7 @@ framed_only Cer v b h x (with_length d j) = cer_whole v.tag v.bit v.payload b d
 framed_only Cer v b h x (with_zeros c i j e) = cer_constructed v.tag v.bit c v.payload b i e
 
 -- a canonical mode takes a raw element in its encoding alone
-pub raw_only : (n : ℕ) (m : BERMode) (v : RawValue) (b : List ℕ) → IsCanonicalMode m → IsRaw n m v b → b ≡ own_encoding m v
+pub raw_only : (n : ℕ) (m : BERMode) (v : RawValue) (b : List ℕ) → IsCanonicalMode m → IsRaw m n v b → b ≡ own_encoding m v
 raw_only zero m v b h x = absurd (raw_zero m v b x)
 raw_only (suc n) m v b h x = let y = raw_into n m v b x in framed_only m v b h y y.framed
 
@@ -87,7 +87,7 @@ framed_in_ber v b (with_length d j) =
     }) (λ l. absurd l)
 framed_in_ber v b (with_zeros c i j e) = absurd (i.taken)
 
-raw_in_ber : (n : ℕ) (v : RawValue) (b : List ℕ) → IsRaw n Der v b → IsRaw n Ber v b
+raw_in_ber : (n : ℕ) (v : RawValue) (b : List ℕ) → IsRaw Der n v b → IsRaw Ber n v b
 raw_in_ber zero v b x = absurd (raw_zero Der v b x)
 raw_in_ber (suc n) v b x =
     let y = raw_into n Der v b x in
@@ -110,14 +110,14 @@ cer_framed f v b (with_length d j) =
 cer_framed f v b (with_zeros c i j e) =
     with_zeros c (record { taken = ber_takes v.bit i.taken; joined = i.joined }) (j.0, pieces_wider f j.0 c j.1) e
 
-raw_cer_in_ber : (n : ℕ) (v : RawValue) (b : List ℕ) → IsRaw n Cer v b → IsRaw n Ber v b
+raw_cer_in_ber : (n : ℕ) (v : RawValue) (b : List ℕ) → IsRaw Cer n v b → IsRaw Ber n v b
 raw_cer_in_ber zero v b x = absurd (raw_zero Cer v b x)
 raw_cer_in_ber (suc n) v b x =
     let y = raw_into n Cer v b x in
     raw_of n Ber v b (record { not_end = y.not_end; in_range = y.in_range; in_bytes = y.in_bytes; framed = cer_framed (raw_cer_in_ber n) v b y.framed })
 
 -- a raw element of a canonical mode is one wherever that mode's encodings hold
-pub raw_holds : (m o : BERMode) (n : ℕ) (v : RawValue) (b : List ℕ) → HoldsEncoding m o → IsRaw n m v b → IsRaw n o v b
+pub raw_holds : (m o : BERMode) (n : ℕ) (v : RawValue) (b : List ℕ) → HoldsEncoding m o → IsRaw m n v b → IsRaw o n v b
 raw_holds Ber o n v b h x = absurd h
 raw_holds Der Ber n v b h x = raw_in_ber n v b x
 raw_holds Der Der n v b h x = x
@@ -141,13 +141,13 @@ own_bytes Der v bytes short = canonical_element_bytes Der v.tag v.bit v.payload 
 own_bytes Cer v bytes short = cer_bytes v.tag v.bit v.payload bytes short
 
 -- raw elements within n levels have one encoding, where that is one
-raw_has : (n : ℕ) → HasEncoding (λ m k v b. IsRaw n m v b) own_encoding no_depth (λ m v. IsRaw n m v (own_encoding m v))
+raw_has : (n : ℕ) → HasEncoding (λ m k v b. IsRaw m n v b) own_encoding no_depth (λ m v. IsRaw m n v (own_encoding m v))
 raw_has n = record {
   in_bytes = λ m v can short. own_bytes m v (raw_begins n m v (own_encoding m v) can).in_bytes short;
   holds = λ m o k v h can level short. raw_holds m o n v (own_encoding m v) h can;
   only = λ m k v b h x.
       let e = raw_only n m v b h x in
-      (e, subst (λ c. IsRaw n m v c) e x, omega arith);
+      (e, subst (λ c. IsRaw m n v c) e x, omega arith);
 }
 
 -- the order that a mode asks of tags is asked wherever its encodings hold
@@ -241,7 +241,7 @@ tags vs = map (λ (v : RawValue). v.tag) vs
 -- raw elements can be put in the order of parts
 set_ordered : (n : ℕ) (m : BERMode) (vs : List RawValue) → AreRaw n m vs → CanSet n m (in_part_order m vs)
 set_ordered n m vs all = record {
-  each = all_order (part_order m) (part_weak m) (λ v. IsRaw n m v (own_encoding m v)) vs all;
+  each = all_order (part_order m) (part_weak m) (λ v. IsRaw m n v (own_encoding m v)) vs all;
   order = any_tags m (tags (in_part_order m vs)) (sorted_rises (λ t u. is_lt (tag_cmp t u)) (tags (in_part_order m vs))
       (rises_map (λ (v : RawValue). v.tag) (λ v w. is_lt (part_order m v w)) (λ t u. is_lt (tag_cmp t u))
       (λ v w. part_tags (raw_part m v) (raw_part m w)) (in_part_order m vs) (rises_order (part_order m) (part_weak m) vs)));
@@ -331,7 +331,7 @@ module _ (t : Tag) (range : t.tag_number < 2 ^ 64) (n : ℕ) where
       tags_unique v w a c (tag_of_key (raw_part m v) (raw_part m w) (octets_tie (part_key (raw_part m v)) (part_key (raw_part m w)) e)))) in
       subst (λ c. MakeElement SetContents m t (encodings own_encoding m ws) c)
       (ap (set_encoding t m) (order ∙ set_unchanged m vs h one.1 (λ v w a c e. inl (tags_unique v w a c e))) ∙ sym one.0)
-      (set_made m ws (all_permuted (λ v. IsRaw n m v (own_encoding m v)) vs ws p one.1.each))
+      (set_made m ws (all_permuted (λ v. IsRaw m n v (own_encoding m v)) vs ws p one.1.each))
 
   -- a SET satisfies the laws of writing
   set_written : SetIsWritten t n

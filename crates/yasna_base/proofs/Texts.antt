@@ -29,7 +29,7 @@ use Rattle.std.specs.Int.{IsOutOfRange}
 
 -- what octets say satisfies the laws of reading, where they say one thing
 pub string_coding : {A : Type 0} (K : BERMode → A → List ℕ → Type 0) → ((m : BERMode) (v w : A) (c : List ℕ) → K m v c → K m w c → v ≡ w) →
-    (t : Tag) → (t ≡ end_tag → ⊥) → IsCoding (λ v w. v ≡ w) (λ m n v b. IsStringOf K n m t v b) (Any (λ m n v b. IsStringOf K n m t v b))
+    (t : Tag) → (t ≡ end_tag → ⊥) → IsCoding (λ v w. v ≡ w) (IsStringOf K t) (Any (IsStringOf K t))
 string_coding K one t not_end = record {
   meaning = record {
     equal = equal_same;
@@ -49,7 +49,7 @@ pub string_written : {A : Type 0} (K : BERMode → A → List ℕ → Type 0) (C
     ((v : A) → Can v → IsBytes (octets v)) → ((m : BERMode) (v : A) → Can v → K m v (octets v)) →
     ((m : BERMode) (v : A) (c : List ℕ) → IsCanonicalMode m → IsBytes c → K m v c → c ≡ octets v) →
     ((m : BERMode) (v : A) (c : List ℕ) → IsBytes c → K m v c → Can v) →
-    IsWritten (λ v w. v ≡ w) (λ m n v b. IsStringOf K n m t v b) (λ m v. octets_encoding t m (octets v)) (λ m v. octets_depth m (octets v)) Can
+    IsWritten (λ v w. v ≡ w) (IsStringOf K t) (λ m v. octets_encoding t m (octets v)) (λ m v. octets_depth m (octets v)) Can
 string_written K Can octets t range bytes means one back =
     let has = (octets_written t range).has in
     record {
@@ -112,12 +112,12 @@ text_bytes (c ∷ cs) h = bytes_append (encode c) (encodes cs) (encode_bytes c (
 
 -- a class of text in UTF-8 satisfies the laws of reading
 pub class_coding : (In : ℕ → Type 0) (t : Tag) → (t ≡ end_tag → ⊥) →
-    IsCoding (λ v w. v ≡ w) (λ m n v b. IsStringOf (IsUtf8In In) n m t v b) (Any (λ m n v b. IsStringOf (IsUtf8In In) n m t v b))
+    IsCoding (λ v w. v ≡ w) (IsStringOf (IsUtf8In In) t) (Any (IsStringOf (IsUtf8In In) t))
 class_coding In t not_end = string_coding (IsUtf8In In) (λ m v w c x y. encodes_same v w (sym x.octets ∙ y.octets)) t not_end
 
 -- a class of text in UTF-8 satisfies the laws of writing
 pub class_written : (In : ℕ → Type 0) (t : Tag) → t.tag_number < 2 ^ 64 →
-    IsWritten (λ v w. v ≡ w) (λ m n v b. IsStringOf (IsUtf8In In) n m t v b) (utf8_encoding t) utf8_depth (IsTextIn In)
+    IsWritten (λ v w. v ≡ w) (IsStringOf (IsUtf8In In) t) (utf8_encoding t) utf8_depth (IsTextIn In)
 class_written In t range = string_written (IsUtf8In In) (IsTextIn In) encode_utf8_all t range
     (λ v can. text_bytes v can.characters) (λ m v can. record { is_text = can; octets = refl })
     (λ m v c h bytes x. x.octets) (λ m v c bytes x. x.is_text)

@@ -7,13 +7,13 @@ use Rattle.yasna_base.specs.Canonical.{enclosed_encoding, enclosed_depth, IsWrit
 use Rattle.yasna_base.specs.Coding.{IsCoding, IsContentsCoding, Any}
 use Rattle.yasna_base.specs.Element.{Enclosed, AnyEnclosed}
 use Rattle.yasna_base.specs.Exact.{Fitting, IsExact, written_fits, enclosed_fits, elements_fit}
-use Rattle.yasna_base.specs.Grammar.{Grammar, Members, TaggedGrammar, Encoding, Depth}
-use Rattle.yasna_base.specs.Laws.{KeepsLaws}
+use Rattle.yasna_base.specs.Grammar.{Grammar, Members, TaggedGrammar, TaggedMembers, Encoding, Depth}
+use Rattle.yasna_base.specs.Laws.{KeepsLawsUnderTags}
 use Rattle.yasna_base.specs.Pieces.{Each}
 use Rattle.yasna_base.specs.SequenceOf.{IsListOf, AnyListOf, elements_encoding, elements_depth}
 use Rattle.yasna_base.specs.Set.{IsSetOf, AnySetOf}
 use Rattle.yasna_base.specs.SetWriting.{in_encoding_order, set_of_encoding, SetOfKeepsReadingLaws, SetOfKeepsWritingLaws}
-use Rattle.yasna_base.specs.UnderTags.{KeepsLawsUnderTags, IsExactUnderTags, set_of_fits}
+use Rattle.yasna_base.specs.UnderTags.{IsExactUnderTags, set_of_fits}
 use Rattle.yasna_base.proofs.Bits.{bits_coding}
 use Rattle.yasna_base.proofs.Canonical.{enclosed_written, written_along}
 use Rattle.yasna_base.proofs.Coding.{enclosed, along}
@@ -24,18 +24,13 @@ use Rattle.yasna_base.proofs.SetLaws.{set_of}
 use Rattle.yasna_base.proofs.SetOfExact.{ordered_set_of_exact}
 use Rattle.yasna_base.proofs.SetOfWriting.{set_of_reading, set_of_writing}
 
--- a type that satisfies the laws as a type of its own keeps them under any tag
-pub under_tags : {A : Type 0} (B : TaggedGrammar A) (encoding : Tag → Encoding A) (depth : Depth A) (Can : A → Type 0) → KeepsLaws B encoding depth Can →
-    KeepsLawsUnderTags (λ v w. v ≡ w) (λ t m n v b. B n m t v b) (λ t. Any (λ m n v b. B n m t v b)) encoding depth Can
-under_tags B encoding depth Can x = x
-
 -- a type that satisfies the laws of writing under any tag satisfies those of a canonical mode
-pub exact_under_tags : {A : Type 0} {E : A → A → Type 0} {B : Tag → Grammar A} {S : Tag → Members} {encoding : Tag → Encoding A} {depth : Depth A}
+pub exact_under_tags : {A : Type 0} {E : A → A → Type 0} {B : TaggedGrammar A} {S : TaggedMembers} {encoding : Tag → Encoding A} {depth : Depth A}
     {Can : A → Type 0} → KeepsLawsUnderTags E B S encoding depth Can → IsExactUnderTags E B S encoding (written_fits depth Can) Can
 exact_under_tags x = λ t not_end range. let y = x t not_end range in (y.0, written_exact y.1)
 
 -- a BIT STRING keeps these, whatever its unused bits
-pub bits_under_tags : IsExactUnderTags (λ v w. v ≡ w) (λ t m n v b. IsBits n m t v b) (λ t. Any (λ m n v b. IsBits n m t v b)) bits_encoding
+pub bits_under_tags : IsExactUnderTags (λ v w. v ≡ w) IsBits (λ t. Any (IsBits t)) bits_encoding
     (written_fits bits_depth AreCanonicalBits) CanBits
 bits_under_tags = λ t not_end range. (bits_coding t not_end, bits_exact t range)
 

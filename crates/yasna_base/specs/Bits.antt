@@ -74,11 +74,11 @@ bits_segmentation = record { whole = AreTheBits; join = AreBitsJoined; more = Ma
 
 -- within n levels, b is the bit string v with the tag t
 abbrev pub IsBits : TaggedGrammar BitString
-IsBits n m t v b = IsSegmented bits_segmentation n m t v b
+IsBits = IsSegmented bits_segmentation
 
 -- reading a bit string with the tag t from s meets an element that no level is left for
 abbrev pub IsDeepBits : TaggedMembers
-IsDeepBits n m t s = IsDeepSegmented bits_segmentation n m t s
+IsDeepBits = IsDeepSegmented bits_segmentation
 
 -- how many bits of the bytes are unused
 abbrev pub unused_bits : BitString → ℕ
@@ -131,9 +131,9 @@ cleared v = record { bytes = padded (unused_bits v) v.bytes; count = v.count }
 -- the laws of reading hold, and those of the encoding where a string is canonical. Whatever is read has as many bytes as the bits
 -- need, and is written as the canonical string of the same bits
 pub record BitLaws (t : Tag) : Type 0 where
-  pub coding : IsCoding (λ v w. v ≡ w) (λ m n v b. IsBits n m t v b) (Any (λ m n v b. IsBits n m t v b))
-  pub has : HasEncoding (λ m n v b. IsBits n m t v b) (bits_encoding t) bits_depth (λ m. AreCanonicalBits)
-  pub can : (m : BERMode) (n : ℕ) (v : BitString) (b : List ℕ) → IsBits n m t v b → CanBits v
+  pub coding : IsCoding (λ v w. v ≡ w) (IsBits t) (Any (IsBits t))
+  pub has : HasEncoding (IsBits t) (bits_encoding t) bits_depth (λ m. AreCanonicalBits)
+  pub can : (m : BERMode) (n : ℕ) (v : BitString) (b : List ℕ) → IsBits t m n v b → CanBits v
   pub cleared : (m : BERMode) (v : BitString) → CanBits v → AreCanonicalBits (cleared v) × (bits_encoding t m v ≡ bits_encoding t m (cleared v))
 
 -- BIT STRING satisfies these laws under any tag

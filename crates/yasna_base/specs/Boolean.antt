@@ -28,7 +28,7 @@ pub data IsBoolean (m : BERMode) (v : Bool) (c : List ℕ) : Type 0 where
 
 -- the type's grammar under its own tag
 abbrev pub EncodesBoolean : Grammar Bool
-EncodesBoolean m n v b = Primitively IsBoolean n m boolean_tag v b
+EncodesBoolean = Primitively IsBoolean boolean_tag
 
 -- the one byte that is written
 abbrev pub boolean_byte : Bool → ℕ

@@ -53,7 +53,7 @@ pub record Element (m : BERMode) (t : Tag) (bit : PCBit) (c b : List ℕ) : Type
   pub framed : Framed m t bit c b
 
 -- within n levels, b is a primitive element whose contents say v by W
-pub record IsPrimitive {A : Type 0} (W : A → List ℕ → Type 0) (n : ℕ) (m : BERMode) (t : Tag) (v : A) (b : List ℕ) : Type 0 where
+pub record IsPrimitive {A : Type 0} (W : A → List ℕ → Type 0) (t : Tag) (m : BERMode) (n : ℕ) (v : A) (b : List ℕ) : Type 0 where
   pub level : 1 ≤ n
   pub contents : List ℕ
   pub element : Element m t Primitive contents b
@@ -61,7 +61,7 @@ pub record IsPrimitive {A : Type 0} (W : A → List ℕ → Type 0) (n : ℕ) (m
 
 -- as `IsPrimitive`, where the meaning depends on the mode
 abbrev pub Primitively : {A : Type 0} → (BERMode → A → List ℕ → Type 0) → TaggedGrammar A
-Primitively W n m t v b = IsPrimitive (W m) n m t v b
+Primitively W t m n v b = IsPrimitive (W m) t m n v b
 
 -- b is a constructed element around contents that say v by C
 pub record Around {A : Type 0} (m : BERMode) (t : Tag) (C : A → List ℕ → Type 0) (v : A) (b : List ℕ) : Type 0 where

@@ -14,7 +14,7 @@ enumerated_tag = universal 10
 
 -- the type's grammar under its own tag
 abbrev pub EncodesEnumerated : Grammar ℤ
-EncodesEnumerated m n v b = Primitively (IsSigned w64) n m enumerated_tag v b
+EncodesEnumerated = Primitively (IsSigned w64) enumerated_tag
 
 -- ENUMERATED satisfies the laws under any tag
 abbrev pub EnumeratedKeepsLaws : Type 0

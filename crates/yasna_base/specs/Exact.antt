@@ -53,4 +53,4 @@ elements_fit F m n vs = AllByRecursion (F m n) vs
 
 -- of an element of any type, kept as it came: it is in the mode itself
 abbrev pub raw_fits : Fitting RawValue
-raw_fits m n v = IsRaw n m v (raw_encoding v.tag m v)
+raw_fits m n v = IsRaw m n v (raw_encoding v.tag m v)

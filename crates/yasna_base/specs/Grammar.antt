@@ -17,10 +17,10 @@ Members = BERMode → ℕ → List ℕ → Type 0
 
 -- a grammar to which the tag is given, as under an IMPLICIT tag (X.690, 8.14.3)
 abbrev pub TaggedGrammar : Type 0 → Type 1
-TaggedGrammar A = ℕ → BERMode → Tag → A → List ℕ → Type 0
+TaggedGrammar A = Tag → Grammar A
 
 abbrev pub TaggedMembers : Type 1
-TaggedMembers = ℕ → BERMode → Tag → List ℕ → Type 0
+TaggedMembers = Tag → Members
 
 -- the encoding of a value in each canonical mode
 abbrev pub Encoding : Type 0 → Type 0

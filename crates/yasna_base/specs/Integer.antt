@@ -57,11 +57,11 @@ IsUnsigned k m v c = IsNumber pos (λ n. n < 2 ^ k) m v c
 
 -- the grammar of a signed type under INTEGER's tag
 abbrev pub EncodesSigned : Width → Grammar ℤ
-EncodesSigned w m n v b = Primitively (IsSigned w) n m integer_tag v b
+EncodesSigned w = Primitively (IsSigned w) integer_tag
 
 -- the grammar of an unsigned type under INTEGER's tag
 abbrev pub EncodesUnsigned : ℕ → Grammar ℕ
-EncodesUnsigned k m n v b = Primitively (IsUnsigned k) n m integer_tag v b
+EncodesUnsigned k = Primitively (IsUnsigned k) integer_tag
 
 -- digits, after a zero where the first bit would be set
 abbrev pub unsigned_bytes : List ℕ → List ℕ

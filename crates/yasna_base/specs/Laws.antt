@@ -4,7 +4,7 @@ use Rattle.yasna_base.specs.declared.mode.BERMode.{BERMode}
 use Rattle.yasna_base.specs.declared.tag.Tag.{Tag}
 use Rattle.yasna_base.specs.declared.tag.PCBit.{PCBit}
 use Rattle.yasna_base.specs.declared.tag.PCBit.TheVariants.{Primitive}
-use Rattle.yasna_base.specs.Grammar.{TaggedGrammar, Encoding, Depth}
+use Rattle.yasna_base.specs.Grammar.{TaggedGrammar, TaggedMembers, Encoding, Depth}
 use Rattle.yasna_base.specs.Identifier.{identifier, AnyTag}
 use Rattle.yasna_base.specs.Length.{SpellsLength}
 use Rattle.yasna_base.specs.Element.{Element, Primitively}
@@ -28,12 +28,15 @@ PrimitiveElementsAreUnambiguous =
     (m : BERMode) (t u : Tag) (c d a b r s : List ℕ) → Element m t Primitive c a → Element m u Primitive d b → a ++ r ≡ b ++ s →
     (t ≡ u) × (c ≡ d) × (a ≡ b) × (r ≡ s)
 
--- A type, which B n m t v b says the bytes b to encode, satisfies the laws of reading and of writing under any tag but that of
--- the end of contents. Its values are equal only where they are one
+-- A type, which B t m n v b says the bytes b to encode under the tag t, satisfies the laws of reading and of writing under any tag
+-- but that of the end of contents
+abbrev pub KeepsLawsUnderTags : {A : Type 0} → (A → A → Type 0) → TaggedGrammar A → TaggedMembers → (Tag → Encoding A) → Depth A → (A → Type 0) → Type 0
+KeepsLawsUnderTags E B S encoding depth Can =
+    AnyTag (λ t. IsCoding E (B t) (S t) × IsWritten E (B t) (encoding t) depth Can)
+
+-- as `KeepsLawsUnderTags`, of a type whose values are equal only where they are one
 abbrev pub KeepsLaws : {A : Type 0} → TaggedGrammar A → (Tag → Encoding A) → Depth A → (A → Type 0) → Type 0
-KeepsLaws B encoding depth Can =
-    AnyTag (λ t. IsCoding (λ v w. v ≡ w) (λ m n v b. B n m t v b) (Any (λ m n v b. B n m t v b))
-    × IsWritten (λ v w. v ≡ w) (λ m n v b. B n m t v b) (encoding t) depth Can)
+KeepsLaws B encoding depth Can = KeepsLawsUnderTags (λ v w. v ≡ w) B (λ t. Any (B t)) encoding depth Can
 
 -- `KeepsLaws` of a type of primitive elements only, whose contents encode v by W
 abbrev pub PrimitiveKeepsLaws : {A : Type 0} → (BERMode → A → List ℕ → Type 0) → (Tag → Encoding A) → (A → Type 0) → Type 0

@@ -19,7 +19,7 @@ IsNull m v c = c ≡ []
 
 -- the type's grammar under its own tag
 abbrev pub EncodesNull : Grammar (Unit {0})
-EncodesNull m n v b = Primitively IsNull n m null_tag v b
+EncodesNull = Primitively IsNull null_tag
 
 -- the encoding in a canonical mode
 abbrev pub null_encoding : Tag → Encoding (Unit {0})

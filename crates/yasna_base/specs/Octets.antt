@@ -33,15 +33,15 @@ octets_segmentation = record { whole = AreTheOctets; join = AreOctetsJoined; mor
 
 -- within n levels, b is the octet string v with the tag t
 abbrev pub IsOctets : TaggedGrammar (List ℕ)
-IsOctets n m t v b = IsSegmented octets_segmentation n m t v b
+IsOctets = IsSegmented octets_segmentation
 
 -- reading an octet string with the tag t from s meets an element that no level is left for
 abbrev pub IsDeepOctets : TaggedMembers
-IsDeepOctets n m t s = IsDeepSegmented octets_segmentation n m t s
+IsDeepOctets = IsDeepSegmented octets_segmentation
 
 -- the type's grammar under its own tag
 abbrev pub EncodesOctets : Grammar (List ℕ)
-EncodesOctets m n v b = IsOctets n m octets_tag v b
+EncodesOctets = IsOctets octets_tag
 
 -- as `EncodesOctets`, of the octets in a vector
 abbrev pub EncodesVec : Grammar (Vec ℕ Global)

@@ -45,7 +45,7 @@ pub record AreComponents (m : BERMode) (cs c : List ℕ) : Type 0 where
 
 -- the type's grammar under its own tag
 abbrev pub EncodesOid : Grammar (List ℕ)
-EncodesOid m n v b = Primitively AreComponents n m oid_tag v b
+EncodesOid = Primitively AreComponents oid_tag
 
 -- the encoding in a canonical mode
 abbrev pub oid_encoding : Tag → Encoding (List ℕ)

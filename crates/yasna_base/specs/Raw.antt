@@ -10,7 +10,7 @@ use Rattle.yasna_base.specs.Coding.{IsCoding, Any}
 use Rattle.yasna_base.specs.Segmented.{PiecesBefore}
 use Rattle.yasna_base.specs.Digits.{IsBytes}
 use Rattle.yasna_base.specs.Element.{Definite, Indefinite, end_of_contents}
-use Rattle.yasna_base.specs.Grammar.{Encoding}
+use Rattle.yasna_base.specs.Grammar.{Grammar, Members, Encoding}
 use Rattle.yasna_base.specs.Header.{ContentsEnd, definite_end, indefinite_end, OpensAt}
 use Rattle.yasna_base.specs.Identifier.{identifier, end_tag, StartsElement}
 use Rattle.yasna_base.specs.Pieces.{Pieces}
@@ -50,9 +50,9 @@ pub record RawOver (R : RawValue → List ℕ → Type 0) (m : BERMode) (v : Raw
   pub framed : RawFramed R m v b
 
 -- within n levels, b is the raw element v
-unfoldable pub IsRaw : ℕ → BERMode → RawValue → List ℕ → Type 0
-IsRaw zero m v b = ⊥
-IsRaw (suc n) m v b = RawOver (IsRaw n m) m v b
+unfoldable pub IsRaw : Grammar RawValue
+IsRaw m zero v b = ⊥
+IsRaw m (suc n) v b = RawOver (IsRaw m n) m v b
 
 -- elements by R, and after them what D says
 abbrev pub JoiningBefore : (RawValue → List ℕ → Type 0) → (List ℕ → Type 0) → List ℕ → Type 0
@@ -70,9 +70,9 @@ pub record DeepRaw (R : RawValue → List ℕ → Type 0) (D : List ℕ → Type
   pub inside : JoiningBefore R D contents
 
 -- reading a raw element from the start of s meets one that no level is left for
-unfoldable pub IsDeepRaw : ℕ → BERMode → List ℕ → Type 0
-IsDeepRaw zero m s = StartsElement s
-IsDeepRaw (suc n) m s = DeepRaw (IsRaw n m) (IsDeepRaw n m) m s
+unfoldable pub IsDeepRaw : Members
+IsDeepRaw m zero s = StartsElement s
+IsDeepRaw m (suc n) s = DeepRaw (IsRaw m n) (IsDeepRaw m n) m s
 
 -- in CER, where the payload of a constructed element ends by the two zeros
 abbrev pub raw_cer_encoding : Tag → PCBit → List ℕ → List ℕ
@@ -86,11 +86,11 @@ raw_encoding t m v = canonical_element m t v.bit v.payload
 
 -- raw elements satisfy the laws of reading
 abbrev pub RawKeepsReadingLaws : Type 0
-RawKeepsReadingLaws = IsCoding (λ v w. v ≡ w) (λ m n v b. IsRaw n m v b) (Any (λ m n v b. IsRaw n m v b))
+RawKeepsReadingLaws = IsCoding (λ v w. v ≡ w) IsRaw (Any IsRaw)
 
 -- where an element lies too deep, no raw element is there
 abbrev pub TooDeepIsNotRaw : Type 0
-TooDeepIsNotRaw = (n : ℕ) (m : BERMode) (v : RawValue) (s b r : List ℕ) → IsDeepRaw n m s → IsRaw n m v b → s ≡ b ++ r → ⊥
+TooDeepIsNotRaw = (n : ℕ) (m : BERMode) (v : RawValue) (s b r : List ℕ) → IsDeepRaw m n s → IsRaw m n v b → s ≡ b ++ r → ⊥
 
 -- the element whose contents c a header opens ends before r
 abbrev pub ContentsTo : (RawValue → List ℕ → Type 0) → BERMode → PCBit → List ℕ → ContentsEnd → List ℕ → Type 0

@@ -55,8 +55,8 @@ pub data Segmented {A : Type 0} (k : Segmentation A) (R : A → List ℕ → Typ
 
 -- within n levels b is a string with the tag t that encodes v, whose segments are such strings in turn
 unfoldable pub IsSegmented : {A : Type 0} → Segmentation A → TaggedGrammar A
-IsSegmented k zero m t v b = ⊥
-IsSegmented k (suc n) m t v b = Segmented k (IsSegmented k n (segment_mode m) k.segment) m t v b
+IsSegmented k t m zero v b = ⊥
+IsSegmented k t m (suc n) v b = Segmented k (IsSegmented k k.segment (segment_mode m) n) m t v b
 
 -- c are segments that a further one may follow, and after them is what D says
 pub record PiecesBefore {A : Type 0} (R : A → List ℕ → Type 0) (More : List A → Type 0) (D : List ℕ → Type 0) (c : List ℕ) : Type 0 where
@@ -78,12 +78,12 @@ pub record DeepSegmented {A : Type 0} (k : Segmentation A) (R : A → List ℕ �
 
 -- reading a string with the tag t from the start of s meets an element that no level is left for
 unfoldable pub IsDeepSegmented : {A : Type 0} → Segmentation A → TaggedMembers
-IsDeepSegmented k zero m t s = BeginsWithTag t s
-IsDeepSegmented k (suc n) m t s = DeepSegmented k (IsSegmented k n (segment_mode m) k.segment) (IsDeepSegmented k n (segment_mode m) k.segment) m t s
+IsDeepSegmented k t m zero s = BeginsWithTag t s
+IsDeepSegmented k t m (suc n) s = DeepSegmented k (IsSegmented k k.segment (segment_mode m) n) (IsDeepSegmented k k.segment (segment_mode m) n) m t s
 
 -- if reading a string would go too deep, there is none at the start
 abbrev pub DeepIsNone : {A : Type 0} → Segmentation A → Type 0
-DeepIsNone {A} k = (n : ℕ) (m : BERMode) (t : Tag) (s : List ℕ) → IsDeepSegmented k n m t s → (v : A) (b r : List ℕ) → IsSegmented k n m t v b → s ≡ b ++ r → ⊥
+DeepIsNone {A} k = (n : ℕ) (m : BERMode) (t : Tag) (s : List ℕ) → IsDeepSegmented k t m n s → (v : A) (b r : List ℕ) → IsSegmented k t m n v b → s ≡ b ++ r → ⊥
 
 -- The encoding of a string in a canonical mode: one primitive element, in CER segments where more bytes hold it than fill a segment.
 -- contents v: those of a primitive element; segments v: the segments that v is cut into

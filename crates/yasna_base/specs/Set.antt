@@ -48,7 +48,7 @@ AreInSetOrder Cer ts = IsSorted tag_cmp ts
 
 -- contents that are these raw elements, one after the other, their tags in that order
 pub record SetElements (m : BERMode) (n : ℕ) (vs : List RawValue) (c : List ℕ) : Type 0 where
-  pub elements : ElementsOf (λ m n v b. IsRaw n m v b) m n vs c
+  pub elements : ElementsOf IsRaw m n vs c
   pub order : AreInSetOrder m (map (λ (v : RawValue). v.tag) vs)
 
 -- an element around them, with one level less inside

@@ -81,11 +81,11 @@ SetOfKeepsReadingLaws E B S =
 abbrev pub SetOfKeepsWritingLaws : {A : Type 0} → (A → A → Type 0) → Grammar A → Encoding A → Depth A → (A → Type 0) → Type 0
 SetOfKeepsWritingLaws E B encoding depth Can = AnyTag (λ t. SetOfIsWritten E B encoding depth Can t)
 
--- SET OF satisfies both, if its elements satisfy them under any tag. B n m u v b says that the bytes b encode one under the tag u
+-- SET OF satisfies both, if its elements satisfy them under any tag. B u m n v b says that the bytes b encode one under the tag u
 abbrev pub SetOfKeepsLaws : {A : Type 0} → TaggedGrammar A → (Tag → Encoding A) → Depth A → (A → Type 0) → Type 0
 SetOfKeepsLaws B encoding depth Can =
-    AnyTag (λ u. SetOfKeepsReadingLaws (λ v w. v ≡ w) (λ m n v b. B n m u v b) (Any (λ m n v b. B n m u v b))
-    × SetOfKeepsWritingLaws (λ v w. v ≡ w) (λ m n v b. B n m u v b) (encoding u) depth Can)
+    AnyTag (λ u. SetOfKeepsReadingLaws (λ v w. v ≡ w) (B u) (Any (B u))
+    × SetOfKeepsWritingLaws (λ v w. v ≡ w) (B u) (encoding u) depth Can)
 
 -- SET OF texts of a class satisfies both
 abbrev pub SetOfTextKeepsLaws : (ℕ → Type 0) → Type 0
@@ -95,13 +95,13 @@ SetOfTextKeepsLaws In = SetOfKeepsLaws (IsStringOf (IsUtf8In In)) utf8_encoding 
 -- otherwise, as the strings with their unused bits cleared
 abbrev pub SetOfBitsKeepLaws : Type 0
 SetOfBitsKeepLaws =
-    AnyTag (λ u. SetOfKeepsReadingLaws (λ v w. v ≡ w) (λ m n v b. IsBits n m u v b) (Any (λ m n v b. IsBits n m u v b))
-    × AnyTag (λ t. SetOfHasEncodings (λ m n v b. IsBits n m u v b) (bits_encoding u) bits_depth AreCanonicalBits t))
+    AnyTag (λ u. SetOfKeepsReadingLaws (λ v w. v ≡ w) (IsBits u) (Any (IsBits u))
+    × AnyTag (λ t. SetOfHasEncodings (IsBits u) (bits_encoding u) bits_depth AreCanonicalBits t))
 
--- SET OF satisfies the laws of reading under any tag, where its elements, of which B n m u v b says so under the tag u, have any tag
+-- SET OF satisfies the laws of reading under any tag, where its elements, of which B u m n v b says so under the tag u, have any tag
 abbrev pub SetOfKeepsReadingOf : {A : Type 0} → TaggedGrammar A → Type 0
 SetOfKeepsReadingOf B =
-    AnyTag (λ u. SetOfKeepsReadingLaws (λ v w. v ≡ w) (λ m n v b. B n m u v b) (Any (λ m n v b. B n m u v b)))
+    AnyTag (λ u. SetOfKeepsReadingLaws (λ v w. v ≡ w) (B u) (Any (B u)))
 
 -- SET OF satisfies the laws of reading under any tag, where its elements are a SET
 abbrev pub SetOfSetKeepsReadingLaws : Type 0
@@ -115,7 +115,7 @@ SetOfSetOfKeepsReadingLaws E B S =
 
 -- SET OF raw elements satisfies the laws of reading
 abbrev pub SetOfRawKeepsReadingLaws : Type 0
-SetOfRawKeepsReadingLaws = SetOfKeepsReadingLaws (λ v w. v ≡ w) (λ m n v b. IsRaw n m v b) (Any (λ m n v b. IsRaw n m v b))
+SetOfRawKeepsReadingLaws = SetOfKeepsReadingLaws (λ v w. v ≡ w) IsRaw (Any IsRaw)
 
 -- the encoding of a raw element under its own tag
 abbrev pub own_encoding : Encoding RawValue
@@ -131,7 +131,7 @@ in_part_order m vs = in_order (λ v w. part_cmp (raw_part m v) (raw_part m w)) v
 
 -- the encoding of each is a raw element within n levels
 abbrev pub AreRaw : ℕ → BERMode → List RawValue → Type 0
-AreRaw n m vs = AllByRecursion (λ v. IsRaw n m v (own_encoding m v)) vs
+AreRaw n m vs = AllByRecursion (λ v. IsRaw m n v (own_encoding m v)) vs
 
 -- their tags are in the order that the mode requires of a SET
 pub record CanSet (n : ℕ) (m : BERMode) (vs : List RawValue) : Type 0 where

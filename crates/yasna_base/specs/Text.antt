@@ -93,9 +93,9 @@ pub record IsPairedBmp (m : BERMode) (text v : List ℕ) : Type 0 where
   pub spelled : map Some text ≡ utf16_chars (units v)
 
 -- within n levels, b is an octet string with the tag t, and its octets say v by K
-pub record IsStringOf {A : Type 0} (K : BERMode → A → List ℕ → Type 0) (n : ℕ) (m : BERMode) (t : Tag) (v : A) (b : List ℕ) : Type 0 where
+pub record IsStringOf {A : Type 0} (K : BERMode → A → List ℕ → Type 0) (t : Tag) (m : BERMode) (n : ℕ) (v : A) (b : List ℕ) : Type 0 where
   pub octets : List ℕ
-  pub string : IsOctets n m t octets b
+  pub string : IsOctets t m n octets b
   pub meaning : K m v octets
 
 -- the octets of a unit
@@ -128,7 +128,7 @@ characters s = chars (string_bytes s)
 
 -- the grammar of UTF8String under its own tag
 abbrev pub EncodesText : Grammar (List ℕ)
-EncodesText m n v b = IsStringOf (IsUtf8In InUtf8) n m utf8_tag v b
+EncodesText = IsStringOf (IsUtf8In InUtf8) utf8_tag
 
 -- as `EncodesText`, of the characters of a string
 abbrev pub EncodesString : Grammar (String Global)
@@ -140,6 +140,6 @@ TextKeepsLaws In = KeepsLaws (IsStringOf (IsUtf8In In)) utf8_encoding utf8_depth
 
 -- BMPString satisfies the laws of reading under any tag, and those of writing if each surrogate has its partner
 pub record BmpKeepsLaws : Type 0 where
-  pub reading : AnyTag (λ t. IsCoding (λ v w. v ≡ w) (λ m n v b. IsStringOf IsBmp n m t v b) (Any (λ m n v b. IsStringOf IsBmp n m t v b)))
+  pub reading : AnyTag (λ t. IsCoding (λ v w. v ≡ w) (IsStringOf IsBmp t) (Any (IsStringOf IsBmp t)))
   pub paired : KeepsLaws (IsStringOf IsPairedBmp) bmp_encoding bmp_depth (IsTextIn InUtf8)
   pub spells : (m : BERMode) (text v : List ℕ) → IsPairedBmp m text v → IsBmp m text v

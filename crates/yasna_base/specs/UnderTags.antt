@@ -2,22 +2,16 @@
 -- (X.690, 8.14.3).
 use Rattle.std.specs.Prelude.{List}
 use Rattle.yasna_base.specs.declared.tag.Tag.{Tag}
-use Rattle.yasna_base.specs.Canonical.{IsWritten}
 use Rattle.yasna_base.specs.Coding.{IsCoding}
 use Rattle.yasna_base.specs.Exact.{Fitting, IsExact, elements_fit}
-use Rattle.yasna_base.specs.Grammar.{Grammar, Members, Encoding, Depth}
+use Rattle.yasna_base.specs.Grammar.{TaggedGrammar, TaggedMembers, Encoding}
 use Rattle.yasna_base.specs.Identifier.{AnyTag}
 use Rattle.yasna_base.specs.Set.{AreInSetOfOrder}
 use Rattle.yasna_base.specs.SetWriting.{encodings}
 
--- A type, which B t m n v b says the bytes b to encode under the tag t, satisfies the laws of reading and of writing under any tag
--- but that of the end of contents
-abbrev pub KeepsLawsUnderTags : {A : Type 0} → (A → A → Type 0) → (Tag → Grammar A) → (Tag → Members) → (Tag → Encoding A) → Depth A → (A → Type 0) → Type 0
-KeepsLawsUnderTags E B S encoding depth Can =
-    AnyTag (λ t. IsCoding E (B t) (S t) × IsWritten E (B t) (encoding t) depth Can)
-
--- as `KeepsLawsUnderTags`, of a type of which only a canonical mode has one encoding
-abbrev pub IsExactUnderTags : {A : Type 0} → (A → A → Type 0) → (Tag → Grammar A) → (Tag → Members) → (Tag → Encoding A) → Fitting A → (A → Type 0) →
+-- A type, which B t m n v b says the bytes b to encode under the tag t, satisfies the laws of reading under any tag but that of the end
+-- of contents, and has one encoding in each canonical mode
+abbrev pub IsExactUnderTags : {A : Type 0} → (A → A → Type 0) → TaggedGrammar A → TaggedMembers → (Tag → Encoding A) → Fitting A → (A → Type 0) →
     Type 0
 IsExactUnderTags E B S encoding Fits Can =
     AnyTag (λ t. IsCoding E (B t) (S t) × IsExact E (B t) (encoding t) Fits Can)

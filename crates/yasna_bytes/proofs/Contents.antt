@@ -21,24 +21,24 @@ use Rattle.yasna_bytes.proofs.Rejection.{begins_not_elsewhere, there_rejects_all
 use Rattle.yasna_bytes.proofs.Header.{begins_before}
 
 -- a front that is a primitive element begins with the tag
-pub takes_begins : (m : BERMode) (n : ℕ) (t : Tag) (s c r : List ℕ) → Takes (IsPrimitive AreContents n m t) s c r → BeginsWithTag t s
+pub takes_begins : (m : BERMode) (n : ℕ) (t : Tag) (s c r : List ℕ) → Takes (IsPrimitive AreContents t m n) s c r → BeginsWithTag t s
 takes_begins m n t s c r x = begins_before m t Primitive x.member.contents x.prefix s r x.member.element x.joined
 
 -- contents that represent no value, in a primitive element
 no_value : {A : Type 0} (W : A → List ℕ → Type 0) (m : BERMode) (n : ℕ) (t : Tag) (s c r : List ℕ) (e : Rejection) →
-    Takes (IsPrimitive AreContents n m t) s c r → ((v : A) → W v c → ⊥) → BlamesBytes e.kind → e.consumed ≡ true →
-    Rejects (HasPrefix (IsPrimitive W n m t) s) (IsTooDeep n t s) ⊥ (IsElsewhere t s) e
+    Takes (IsPrimitive AreContents t m n) s c r → ((v : A) → W v c → ⊥) → BlamesBytes e.kind → e.consumed ≡ true →
+    Rejects (HasPrefix (IsPrimitive W t m n) s) (IsTooDeep n t s) ⊥ (IsElsewhere t s) e
 no_value W m n t s c r e x h k o =
     let y = x.member in
-    there_rejects_all (HasPrefix (IsPrimitive W n m t) s) n t s e (takes_begins m n t s c r x) y.level k o (λ w.
+    there_rejects_all (HasPrefix (IsPrimitive W t m n) s) n t s e (takes_begins m n t s c r x) y.level k o (λ w.
     let z = w.2 in
     let i = primitive_exact m m t t Primitive y.contents z.member.contents x.prefix z.prefix r w.1 y.element z.member.element (sym x.joined ∙ z.joined) in
     h w.0 (subst (W w.0) (sym (y.meaning ∙ i.contents)) z.member.meaning))
 
 -- contents were read that couldn't be copied
 out_of_memory_for_contents : {A : Type 0} (W : A → List ℕ → Type 0) (M : ℕ → Tag → List ℕ → Type 0) (m : BERMode) (n : ℕ) (t : Tag) (s c r : List ℕ) (e : Rejection) →
-    Takes (IsPrimitive AreContents n m t) s c r → MayAllocateFor M c → e.kind ≡ OutOfMemory → e.consumed ≡ true →
-    Rejects (HasPrefix (IsPrimitive W n m t) s) (IsTooDeep n t s) (M n t s) (IsElsewhere t s) e
+    Takes (IsPrimitive AreContents t m n) s c r → MayAllocateFor M c → e.kind ≡ OutOfMemory → e.consumed ≡ true →
+    Rejects (HasPrefix (IsPrimitive W t m n) s) (IsTooDeep n t s) (M n t s) (IsElsewhere t s) e
 out_of_memory_for_contents W M m n t s c r e x h k o = record {
   none = λ f. absurd (f k);
   consumed = (λ f. absurd (let g = sym o ∙ f in cc), λ f. absurd (begins_not_elsewhere (takes_begins m n t s c r x) f));
@@ -49,16 +49,16 @@ out_of_memory_for_contents W M m n t s c r e x h k o = record {
 
 -- contents were read that weren't made a value
 pub not_taken : {A : Type 0} (W : A → List ℕ → Type 0) (M : ℕ → Tag → List ℕ → Type 0) (m : BERMode) (n : ℕ) (t : Tag) (s c r : List ℕ) (e : Rejection) →
-    Takes (IsPrimitive AreContents n m t) s c r → ((e.kind ≡ OutOfMemory) × MayAllocateFor M c) ⊎ (BlamesBytes e.kind × ((v : A) → W v c → ⊥)) → e.consumed ≡ true →
-    Rejects (HasPrefix (IsPrimitive W n m t) s) (IsTooDeep n t s) (M n t s) (IsElsewhere t s) e
+    Takes (IsPrimitive AreContents t m n) s c r → ((e.kind ≡ OutOfMemory) × MayAllocateFor M c) ⊎ (BlamesBytes e.kind × ((v : A) → W v c → ⊥)) → e.consumed ≡ true →
+    Rejects (HasPrefix (IsPrimitive W t m n) s) (IsTooDeep n t s) (M n t s) (IsElsewhere t s) e
 not_taken W M m n t s c r e x (inl h) o = out_of_memory_for_contents W M m n t s c r e x h.1 h.0 o
-not_taken W M m n t s c r e x (inr h) o = may_allocate_too (HasPrefix (IsPrimitive W n m t) s) (IsTooDeep n t s) (M n t s) t s e (no_value W m n t s c r e x h.1 h.0 o)
+not_taken W M m n t s c r e x (inr h) o = may_allocate_too (HasPrefix (IsPrimitive W t m n) s) (IsTooDeep n t s) (M n t s) t s e (no_value W m n t s c r e x h.1 h.0 o)
 
 -- where no primitive element is there, no value is that is one
 pub rejects_value : {A : Type 0} (W : A → List ℕ → Type 0) (M : Type 0) (m : BERMode) (n : ℕ) (t : Tag) (s : List ℕ) (e : Rejection) →
-    Rejects (HasPrefix (IsPrimitive AreContents n m t) s) (IsTooDeep n t s) ⊥ (IsElsewhere t s) e → Rejects (HasPrefix (IsPrimitive W n m t) s) (IsTooDeep n t s) M (IsElsewhere t s) e
-rejects_value W M m n t s e x = may_allocate_too (HasPrefix (IsPrimitive W n m t) s) (IsTooDeep n t s) M t s e
-    (rejects_less (HasPrefix (IsPrimitive AreContents n m t) s) (HasPrefix (IsPrimitive W n m t) s) (IsTooDeep n t s) ⊥ t s e (λ h.
+    Rejects (HasPrefix (IsPrimitive AreContents t m n) s) (IsTooDeep n t s) ⊥ (IsElsewhere t s) e → Rejects (HasPrefix (IsPrimitive W t m n) s) (IsTooDeep n t s) M (IsElsewhere t s) e
+rejects_value W M m n t s e x = may_allocate_too (HasPrefix (IsPrimitive W t m n) s) (IsTooDeep n t s) M t s e
+    (rejects_less (HasPrefix (IsPrimitive AreContents t m n) s) (HasPrefix (IsPrimitive W t m n) s) (IsTooDeep n t s) ⊥ t s e (λ h.
     let y = h.2 in (
       y.member.contents,
       h.1,

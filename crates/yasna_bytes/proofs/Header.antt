@@ -151,8 +151,8 @@ begins_before m t p c b s r x e = let h = element_there m t p c b s r x e in beg
 
 -- where no header is there, no primitive element is
 pub header_rejects : {A : Type 0} (W : A → List ℕ → Type 0) (m : BERMode) (n : ℕ) (t : Tag) (s : List ℕ) (e : Rejection) → RejectsHeader AnyBit m n t s e →
-    Rejects (HasPrefix (IsPrimitive W n m t) s) (IsTooDeep n t s) ⊥ (IsElsewhere t s) e
-header_rejects {A} W m n t s e x = rejects_less (HasHeader AnyBit m n t s) (HasPrefix (IsPrimitive W n m t) s) (IsTooDeep n t s) ⊥ t s e (λ h.
+    Rejects (HasPrefix (IsPrimitive W t m n) s) (IsTooDeep n t s) ⊥ (IsElsewhere t s) e
+header_rejects {A} W m n t s e x = rejects_less (HasHeader AnyBit m n t s) (HasPrefix (IsPrimitive W t m n) s) (IsTooDeep n t s) ⊥ t s e (λ h.
     let y = h.2 in
     element_header AnyBit m n t Primitive y.member.contents y.prefix s h.1 y.member.level tt y.member.element y.joined) x
 
@@ -166,7 +166,7 @@ counts_element m t p s c r x = record {
 
 -- the contents of a primitive element were read
 pub takes_primitive : (m : BERMode) (n : ℕ) (t : Tag) (q : PCBit) (s c r : List ℕ) → 1 ≤ n → q ≡ Primitive → OpensAt m t q s c (definite_end r) →
-    Takes (IsPrimitive AreContents n m t) s c r
+    Takes (IsPrimitive AreContents t m n) s c r
 takes_primitive m n t Primitive s c r l e x =
     record {
       prefix = _;
@@ -177,8 +177,8 @@ takes_primitive m n t Constructed s c r l e x = absurd (cc)
 
 -- a constructed element is where a primitive one is wanted
 pub other_primitive : {A : Type 0} (W : A → List ℕ → Type 0) (m : BERMode) (n : ℕ) (t : Tag) (q : PCBit) (s c : List ℕ) (f : ContentsEnd) (e : Rejection) →
-    1 ≤ n → q ≡ Constructed → OpensAt m t q s c f → BlamesBytes e.kind → e.consumed ≡ true → Rejects (HasPrefix (IsPrimitive W n m t) s) (IsTooDeep n t s) ⊥ (IsElsewhere t s) e
-other_primitive W m n t q s c f e l i x k h = there_rejects_all (HasPrefix (IsPrimitive W n m t) s) n t s e (opens_begins m t q s c f x) l k h (λ w.
+    1 ≤ n → q ≡ Constructed → OpensAt m t q s c f → BlamesBytes e.kind → e.consumed ≡ true → Rejects (HasPrefix (IsPrimitive W t m n) s) (IsTooDeep n t s) ⊥ (IsElsewhere t s) e
+other_primitive W m n t q s c f e l i x k h = there_rejects_all (HasPrefix (IsPrimitive W t m n) s) n t s e (opens_begins m t q s c f x) l k h (λ w.
     let y = w.2 in
     let z = element_there m t Primitive y.member.contents y.prefix s w.1 y.member.element y.joined in
     differ m t q s c f x z.after z.joined i)

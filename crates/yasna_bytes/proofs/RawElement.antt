@@ -45,15 +45,15 @@ to_rest R m p c indefinite_end r w = (w.0 ++ (0 ∷ 0 ∷ []), w.2 ∙ sym (appe
 
 -- r follows some bytes of an element that ends before r
 pub followed_rest : (m : BERMode) (n : ℕ) (t : Tag) (p : PCBit) (s c : List ℕ) (e : ContentsEnd) (r : List ℕ) → IsOpened m n s t p c e →
-    ContentsTo (IsRaw (n - 1) m) m p c e r → IsRest s r
+    ContentsTo (IsRaw m (n - 1)) m p c e r → IsRest s r
 followed_rest m n t p s c e r o w = let x = raw_within m t p s c e r o.not_end o.opens w in (x.1.bytes, x.1.joined)
 
 -- the element with this payload, whose bytes are before r
 pub followed : (m : BERMode) (n : ℕ) (t : Tag) (p : PCBit) (s c : List ℕ) (e : ContentsEnd) (r y b : List ℕ) → IsOpened m n s t p c e →
-    ContentsTo (IsRaw (n - 1) m) m p c e r → IsPayload c e r y → s ≡ b ++ r → IsRaw n m (record { tag = t; bit = p; payload = y }) b
+    ContentsTo (IsRaw m (n - 1)) m p c e r → IsPayload c e r y → s ≡ b ++ r → IsRaw m n (record { tag = t; bit = p; payload = y }) b
 followed m zero t p s c e r y b o w i f = let l = o.level in absurd (omega arith)
 followed m (suc n) t p s c e r y b o w i f =
     let less : suc n - 1 ≡ n = omega arith in
-    let x = raw_ends m t p s c e r y o.not_end o.opens (subst (λ k. ContentsTo (IsRaw k m) m p c e r) less w) i in
+    let x = raw_ends m t p s c e r y o.not_end o.opens (subst (λ k. ContentsTo (IsRaw m k) m p c e r) less w) i in
     let v : RawValue = record { tag = t; bit = p; payload = y } in
-    subst (λ z. IsRaw (suc n) m v z) (append_before x.bytes b r (sym x.joined ∙ f)) (raw_of n m v x.bytes x.raw)
+    subst (λ z. IsRaw m (suc n) v z) (append_before x.bytes b r (sym x.joined ∙ f)) (raw_of n m v x.bytes x.raw)

@@ -27,7 +27,7 @@ use Rattle.yasna_bytes.proofs.Ending.{closed}
 
 -- the wanted tag is there, no string is, and it isn't too deep
 there_rejects : {A : Type 0} (k : Segmentation A) (n : ℕ) (m : BERMode) (t : Tag) (s : List ℕ) (e : Rejection) → BeginsWithTag t s → BlamesBytes e.kind → e.consumed ≡ true →
-    (HasPrefix (IsSegmented k n m t) s → ⊥) → (IsDeepSegmented k n m t s → ⊥) → RejectsString k n m t s e
+    (HasPrefix (IsSegmented k t m n) s → ⊥) → (IsDeepSegmented k t m n s → ⊥) → RejectsString k n m t s e
 there_rejects k n m t s e b p o none deep = record {
   none = λ _. none;
   consumed = (λ f. absurd (cc), λ f. absurd (begins_not_elsewhere b f));
@@ -37,7 +37,7 @@ there_rejects k n m t s e b p o none deep = record {
 }
 
 -- a string has a header
-segmented_header : {A : Type 0} (k : Segmentation A) (n : ℕ) (m : BERMode) (t : Tag) (v : A) (b s r : List ℕ) → IsSegmented k n m t v b → s ≡ b ++ r →
+segmented_header : {A : Type 0} (k : Segmentation A) (n : ℕ) (m : BERMode) (t : Tag) (v : A) (b s r : List ℕ) → IsSegmented k t m n v b → s ≡ b ++ r →
     HasHeader AnyBit m n t s
 segmented_header k zero m t v b s r x e = absurd (segmented_zero k m t v b x)
 segmented_header k (suc n) m t v b s r x e = elim (segmented_into k n m t v b x) [
@@ -45,12 +45,12 @@ segmented_header k (suc n) m t v b s r x e = elim (segmented_into k n m t v b x)
   | in_segments h c vs y p j a ↦ element_header AnyBit m (suc n) t Constructed c b s r (omega arith) tt y e
 ]
 
-deep_header : {A : Type 0} (k : Segmentation A) (n : ℕ) (m : BERMode) (t : Tag) (s : List ℕ) → IsDeepSegmented k n m t s →
+deep_header : {A : Type 0} (k : Segmentation A) (n : ℕ) (m : BERMode) (t : Tag) (s : List ℕ) → IsDeepSegmented k t m n s →
     IsTooDeep n t s ⊎ HasHeader AnyBit m n t s
 deep_header k zero m t s d = inl (refl, deep_zero_into k m t s d)
 deep_header k (suc n) m t s d = let x = deep_into k n m t s d in inr (opens_header m (suc n) t Constructed s x.contents x.end (omega arith) x.opens)
 
-too_deep_segmented : {A : Type 0} (k : Segmentation A) (n : ℕ) (m : BERMode) (t : Tag) (s : List ℕ) → IsTooDeep n t s → IsDeepSegmented k n m t s
+too_deep_segmented : {A : Type 0} (k : Segmentation A) (n : ℕ) (m : BERMode) (t : Tag) (s : List ℕ) → IsTooDeep n t s → IsDeepSegmented k t m n s
 too_deep_segmented k zero m t s d = deep_at_zero k m t s d.1
 too_deep_segmented k (suc n) m t s d = let e = d.0 in absurd (omega arith)
 
@@ -66,8 +66,8 @@ header_rejected k n m t s e x = record {
 }
 
 -- the contents of a primitive element say a value
-pub whole_taken : {A : Type 0} (k : Segmentation A) (n : ℕ) (m : BERMode) (t : Tag) (s c r : List ℕ) (v : A) → Takes (IsPrimitive AreContents n m t) s c r →
-    k.whole m v c → StaysWhole m k.full (length (k.bytes v)) → Takes (IsSegmented k n m t) s v r
+pub whole_taken : {A : Type 0} (k : Segmentation A) (n : ℕ) (m : BERMode) (t : Tag) (s c r : List ℕ) (v : A) → Takes (IsPrimitive AreContents t m n) s c r →
+    k.whole m v c → StaysWhole m k.full (length (k.bytes v)) → Takes (IsSegmented k t m n) s v r
 whole_taken k zero m t s c r v x w a = let l = x.member.level in absurd (omega arith)
 whole_taken k (suc n) m t s c r v x w a = record {
   prefix = x.prefix;
@@ -76,8 +76,8 @@ whole_taken k (suc n) m t s c r v x w a = record {
 }
 
 -- or say none
-whole_none : {A : Type 0} (k : Segmentation A) (n : ℕ) (m : BERMode) (t : Tag) (s c r : List ℕ) → Takes (IsPrimitive AreContents n m t) s c r →
-    ((v : A) → k.whole m v c → StaysWhole m k.full (length (k.bytes v)) → ⊥) → HasPrefix (IsSegmented k n m t) s → ⊥
+whole_none : {A : Type 0} (k : Segmentation A) (n : ℕ) (m : BERMode) (t : Tag) (s c r : List ℕ) → Takes (IsPrimitive AreContents t m n) s c r →
+    ((v : A) → k.whole m v c → StaysWhole m k.full (length (k.bytes v)) → ⊥) → HasPrefix (IsSegmented k t m n) s → ⊥
 whole_none k zero m t s c r x h w = segmented_zero k m t w.0 w.2.prefix w.2.member
 whole_none {A} k (suc n) m t s c r x h w =
     let y = x.member in
@@ -90,8 +90,8 @@ whole_none {A} k (suc n) m t s c r x h w =
     ]
 
 -- a primitive element isn't too deep
-whole_not_deep : {A : Type 0} (k : Segmentation A) (n : ℕ) (m : BERMode) (t : Tag) (s c r : List ℕ) → Takes (IsPrimitive AreContents n m t) s c r →
-    IsDeepSegmented k n m t s → ⊥
+whole_not_deep : {A : Type 0} (k : Segmentation A) (n : ℕ) (m : BERMode) (t : Tag) (s c r : List ℕ) → Takes (IsPrimitive AreContents t m n) s c r →
+    IsDeepSegmented k t m n s → ⊥
 whole_not_deep k zero m t s c r x d = let l = x.member.level in omega arith
 whole_not_deep k (suc n) m t s c r x d =
     let y = deep_into k n m t s d in
@@ -100,7 +100,7 @@ whole_not_deep k (suc n) m t s c r x d =
 
 -- the contents of a primitive element were rejected
 pub whole_rejected : {A : Type 0} (k : Segmentation A) (n : ℕ) (m : BERMode) (t : Tag) (s c r : List ℕ) (e : Rejection) →
-    Takes (IsPrimitive AreContents n m t) s c r →
+    Takes (IsPrimitive AreContents t m n) s c r →
     ((e.kind ≡ OutOfMemory) × (c ≡ [] → ⊥)) ⊎ (BlamesBytes e.kind × ((v : A) → k.whole m v c → StaysWhole m k.full (length (k.bytes v)) → ⊥)) →
     e.consumed ≡ true → RejectsString k n m t s e
 whole_rejected k n m t s c r e x (inl h) o = record {
@@ -129,8 +129,8 @@ module _ {A : Type 0} (k : Segmentation A) (n j : ℕ) (more : 1 ≤ n) (less : 
     made : MakeUpTo k j (segment_mode m) c place
     cut : FallsInto m k.full (map k.bytes made.values)
 
-  as_segments : (v : A) (r : List ℕ) → Takes (IsSegmented k n m t) s v r → InSegments v r
-  as_segments v r w = elim (segmented_into k j m t v w.prefix (subst (λ z. IsSegmented k z m t v w.prefix) (sym level) w.member)) [
+  as_segments : (v : A) (r : List ℕ) → Takes (IsSegmented k t m n) s v r → InSegments v r
+  as_segments v r w = elim (segmented_into k j m t v w.prefix (subst (λ z. IsSegmented k t m z v w.prefix) (sym level) w.member)) [
     | whole d z q a ↦ let i = (header_of m t t Constructed Primitive s c d w.prefix r end o z w.joined).bit in absurd (cc)
     | in_segments h d vs z p q a ↦
         let b = header_of m t t Constructed Constructed s c d w.prefix r end o z w.joined in
@@ -149,9 +149,9 @@ module _ {A : Type 0} (k : Segmentation A) (n j : ℕ) (more : 1 ≤ n) (less : 
         }
   ]
 
-  deep_within : IsDeepSegmented k n m t s → MaySegment m × IsDeepWithin k j (segment_mode m) c
+  deep_within : IsDeepSegmented k t m n s → MaySegment m × IsDeepWithin k j (segment_mode m) c
   deep_within d =
-      let y = deep_into k j m t s (subst (λ z. IsDeepSegmented k z m t s) (sym level) d) in
+      let y = deep_into k j m t s (subst (λ z. IsDeepSegmented k t m z s) (sym level) d) in
       let i = (header_once m t t Constructed Constructed s y.contents c y.end end y.opens o).contents in
       (y.taken, subst (IsDeepWithin k j (segment_mode m)) i y.inside)
 
@@ -164,7 +164,7 @@ module _ {A : Type 0} (k : Segmentation A) (n j : ℕ) (more : 1 ≤ n) (less : 
   segments_rejected h x = record {
     none = λ q w. let y = as_segments w.0 w.1 w.2 in x.none q y.place y.made;
     consumed = (λ f. absurd (cc), λ f. absurd (begins_not_elsewhere begun f));
-    too_deep = λ f. subst (λ z. IsDeepSegmented k z m t s) level
+    too_deep = λ f. subst (λ z. IsDeepSegmented k t m z s) level
         (deep_of k j m t s (record { taken = h; contents = c; end = end; opens = o; inside = x.too_deep f }));
     deep = λ q d. x.deep q (deep_within d).1;
     memory = λ _. opens_may_allocate n m t Constructed s c end more x.not_empty o;
@@ -200,7 +200,7 @@ closed_taken k value n j l f m t s c end o h x u y r out out' z a e =
         prefix = b.bytes;
         joined = b.joined;
         member = let g : suc j ≡ n = omega arith in
-            subst (λ q. IsSegmented k q m t (value z.bytes x) b.bytes) g
+            subst (λ q. IsSegmented k t m q (value z.bytes x) b.bytes) g
             (segmented_of k j m t (value z.bytes x) b.bytes
             (in_segments h i.lead.prefix z.values b.element i.lead.pieces i.join ((accepted_cut k m z.values u i.cut).0 a)));
       };

@@ -47,7 +47,7 @@ lead_more R c vs y v b r f p e = record {
 
 module _ {A : Type 0} {k : Segmentation A} (once : SegmentsOnce k) (n : ℕ) (m : BERMode) (c : List ℕ) where
   -- a string isn't elsewhere
-  segment_not_elsewhere : (v : A) (b r y : List ℕ) → IsSegmented k n m k.segment v b → y ≡ b ++ r → IsElsewhere k.segment y → ⊥
+  segment_not_elsewhere : (v : A) (b r y : List ℕ) → IsSegmented k k.segment m n v b → y ≡ b ++ r → IsElsewhere k.segment y → ⊥
   segment_not_elsewhere v b r y p e = begins_not_elsewhere (subst (λ z. BeginsWithTag k.segment z) (sym e)
       (begins_with k.segment b r (segmented_begins k n m k.segment v b p)))
 
@@ -59,8 +59,8 @@ module _ {A : Type 0} {k : Segmentation A} (once : SegmentsOnce k) (n : ℕ) (m 
     pub join : k.join m vs value
     pub at_end : AtEnd y
 
-  one_end : (vs : List A) (y : List ℕ) → LeadTo (IsSegmented k n m k.segment) c vs y →
-      ((w : A) (us : List A) (v : A) (b r : List ℕ) → IsSegmented k n m k.segment w b → y ≡ b ++ r → k.join m (vs ++ (w ∷ us)) v → ⊥) →
+  one_end : (vs : List A) (y : List ℕ) → LeadTo (IsSegmented k k.segment m n) c vs y →
+      ((w : A) (us : List A) (v : A) (b r : List ℕ) → IsSegmented k k.segment m n w b → y ≡ b ++ r → k.join m (vs ++ (w ∷ us)) v → ⊥) →
       (z : List ℕ) (e : MakeUpTo k n m c z) → OneEnd vs e.values y z
   one_end vs y f none z e =
       elim (leads_on (segmented_exact once n n m k.segment) c vs e.values y z f e.lead
@@ -77,13 +77,13 @@ module _ {A : Type 0} {k : Segmentation A} (once : SegmentsOnce k) (n : ℕ) (m 
       ]
 
   -- nor is too deep a segment elsewhere
-  one_deep : (vs : List A) (y : List ℕ) → LeadTo (IsSegmented k n m k.segment) c vs y →
-      ((w : A) (us : List A) (b r : List ℕ) → IsSegmented k n m k.segment w b → y ≡ b ++ r → k.more (vs ++ (w ∷ us)) → ⊥) →
-      IsDeepWithin k n m c → k.more vs × IsDeepSegmented k n m k.segment y
+  one_deep : (vs : List A) (y : List ℕ) → LeadTo (IsSegmented k k.segment m n) c vs y →
+      ((w : A) (us : List A) (b r : List ℕ) → IsSegmented k k.segment m n w b → y ≡ b ++ r → k.more (vs ++ (w ∷ us)) → ⊥) →
+      IsDeepWithin k n m c → k.more vs × IsDeepSegmented k k.segment m n y
   one_deep vs y f none d =
-      let g : LeadTo (IsSegmented k n m k.segment) c d.values d.rest = record { prefix = d.prefix; pieces = d.pieces; joined = d.joined } in
+      let g : LeadTo (IsSegmented k k.segment m n) c d.values d.rest = record { prefix = d.prefix; pieces = d.pieces; joined = d.joined } in
       elim (leads_on (segmented_exact once n n m k.segment) c vs d.values y d.rest f g (deep_not_segmented once n m k.segment d.rest d.deep)) [
-        | stops h i ↦ (subst k.more (sym h) d.more, subst (IsDeepSegmented k n m k.segment) (sym i) d.deep)
+        | stops h i ↦ (subst k.more (sym h) d.more, subst (IsDeepSegmented k k.segment m n) (sym i) d.deep)
         | goes w us b r h p i ↦ absurd (none w us b r p i (subst k.more h d.more))
       ]
 
@@ -114,7 +114,7 @@ module _ {A T : Type 0} {k : Segmentation A} {value : List ℕ → T → A} (onc
     values = h.values ++ (value t.bytes s ∷ []);
     bytes = h.bytes ++ t.bytes;
     holds = record {
-      lead = lead_more (IsSegmented k n m k.segment) c h.values y (value t.bytes s) t.takes.prefix r h.holds.lead t.takes.member t.takes.joined;
+      lead = lead_more (IsSegmented k k.segment m n) c h.values y (value t.bytes s) t.takes.prefix r h.holds.lead t.takes.member t.takes.joined;
       join = a m h.values h.bytes t.bytes h.holds.join more;
       cut =
           let size : length out'' - length out' ≡ length (k.bytes (value t.bytes s)) =
@@ -153,7 +153,7 @@ module _ {A T : Type 0} {k : Segmentation A} {value : List ℕ → T → A} (onc
       e.consumed ≡ true → RejectsSegments k n m c e
   segment_rejected s y e h more f o =
       let there : IsElsewhere k.segment y → ⊥ = λ g. let i = f.consumed.1 g in absurd (cc) in
-      let none : (e.kind ≡ OutOfMemory → ⊥) → NoPrefix (IsSegmented k n m k.segment) y =
+      let none : (e.kind ≡ OutOfMemory → ⊥) → NoPrefix (IsSegmented k k.segment m n) y =
       λ q w b r p g. f.none q (w, r, record { prefix = b; joined = g; member = p }) in
       record {
         none = λ q z i. there (at_end_elsewhere k.segment y once.segment (one_end once n m c s.values y h.lead
@@ -182,7 +182,7 @@ module _ {A T : Type 0} {k : Segmentation A} {value : List ℕ → T → A} (onc
   segment_too_much x s u y r out out' out'' q e h t a f o =
       let w = value t.bytes s in
       let vs = h.values ++ (w ∷ []) in
-      let lead = lead_more (IsSegmented k n m k.segment) c h.values y w t.takes.prefix r h.holds.lead t.takes.member t.takes.joined in
+      let lead = lead_more (IsSegmented k k.segment m n) c h.values y w t.takes.prefix r h.holds.lead t.takes.member t.takes.joined in
       let none : (us : List A) → ((v : A) → k.join m (h.values ++ (w ∷ us)) v → ⊥) × (k.more (h.values ++ (w ∷ us)) → ⊥) =
       λ us. a.1 m h.values us h.bytes t.bytes h.holds.join in
       let blames_bytes : BlamesBytes e.kind = subst BlamesBytes (sym f) a.0 in

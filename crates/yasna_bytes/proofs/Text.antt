@@ -33,7 +33,7 @@ use Rattle.yasna_bytes.proofs.Contents.{element_may_allocate}
 use Rattle.yasna_bytes.proofs.Rejection.{blames_not_depth, blames_not_memory, begins_not_elsewhere, rejects_less}
 
 -- no segments but none at all make up nothing
-no_pieces : (n : ℕ) (m : BERMode) (vs bs : List (List ℕ)) → Each (IsOctets n m octets_tag) vs bs → concat bs ≡ [] → concat vs ≡ []
+no_pieces : (n : ℕ) (m : BERMode) (vs bs : List (List ℕ)) → Each (IsOctets octets_tag m n) vs bs → concat bs ≡ [] → concat vs ≡ []
 no_pieces n m [] [] p e = refl
 no_pieces n m [] (b ∷ bs) p e = absurd p
 no_pieces n m (v ∷ vs) [] p e = absurd p
@@ -42,7 +42,7 @@ no_pieces n m (v ∷ vs) (b ∷ bs) p e =
     absurd (omega (arith, ap length e, length-append b (concat bs)))
 
 -- a string with octets has contents
-octets_may_allocate : (n : ℕ) (m : BERMode) (t : Tag) (s v r : List ℕ) → Takes (IsOctets n m t) s v r → (v ≡ [] → ⊥) → MayAllocate n t s
+octets_may_allocate : (n : ℕ) (m : BERMode) (t : Tag) (s v r : List ℕ) → Takes (IsOctets t m n) s v r → (v ≡ [] → ⊥) → MayAllocate n t s
 octets_may_allocate zero m t s v r x h = absurd (segmented_zero octets_segmentation m t v x.prefix x.member)
 octets_may_allocate (suc n) m t s v r x h = elim (segmented_into octets_segmentation n m t v x.prefix x.member) [
   | whole c y w a ↦ element_may_allocate (suc n) m t Primitive s c x.prefix r (omega arith) (λ e. h (w ∙ e)) y x.joined
@@ -51,14 +51,14 @@ octets_may_allocate (suc n) m t s v r x h = elim (segmented_into octets_segmenta
       x.joined
 ]
 
-octets_begin : (n : ℕ) (m : BERMode) (t : Tag) (s v r : List ℕ) → Takes (IsOctets n m t) s v r → BeginsWithTag t s
+octets_begin : (n : ℕ) (m : BERMode) (t : Tag) (s v r : List ℕ) → Takes (IsOctets t m n) s v r → BeginsWithTag t s
 octets_begin n m t s v r x =
     subst (λ z. BeginsWithTag t z) (sym x.joined) (begins_with t x.prefix r (segmented_begins octets_segmentation n m t v x.prefix x.member))
 
 -- octets were read that say nothing, or for whose value there is no memory
 pub judged_rejected : {A : Type 0} (K : BERMode → A → List ℕ → Type 0) (n : ℕ) (m : BERMode) (t : Tag) (s o r : List ℕ) (e : Rejection) →
-    Takes (IsOctets n m t) s o r → ((e.kind ≡ OutOfMemory) × (o ≡ [] → ⊥)) ⊎ (BlamesBytes e.kind × ((v : A) → K m v o → ⊥)) → e.consumed ≡ true →
-    Rejects (HasPrefix (IsStringOf K n m t) s) (IsDeepOctets n m t s) (MayAllocate n t s) (IsElsewhere t s) e
+    Takes (IsOctets t m n) s o r → ((e.kind ≡ OutOfMemory) × (o ≡ [] → ⊥)) ⊎ (BlamesBytes e.kind × ((v : A) → K m v o → ⊥)) → e.consumed ≡ true →
+    Rejects (HasPrefix (IsStringOf K t m n) s) (IsDeepOctets t m n s) (MayAllocate n t s) (IsElsewhere t s) e
 judged_rejected K n m t s o r e x (inl h) f = record {
   none = λ q. absurd (q h.0);
   consumed = (λ g. absurd (cc), λ g. absurd (begins_not_elsewhere (octets_begin n m t s o r x) g));
@@ -79,8 +79,8 @@ judged_rejected K n m t s o r e x (inr h) f = record {
 
 -- where no octet string is there, none is that says a value
 pub octets_rejected : {A : Type 0} (K : BERMode → A → List ℕ → Type 0) (n : ℕ) (m : BERMode) (t : Tag) (s : List ℕ) (D M : Type 0) (e : Rejection) →
-    Rejects (HasPrefix (IsOctets n m t) s) D M (IsElsewhere t s) e → Rejects (HasPrefix (IsStringOf K n m t) s) D M (IsElsewhere t s) e
-octets_rejected K n m t s D M e x = rejects_less (HasPrefix (IsOctets n m t) s) (HasPrefix (IsStringOf K n m t) s) D M t s e (λ w.
+    Rejects (HasPrefix (IsOctets t m n) s) D M (IsElsewhere t s) e → Rejects (HasPrefix (IsStringOf K t m n) s) D M (IsElsewhere t s) e
+octets_rejected K n m t s D M e x = rejects_less (HasPrefix (IsOctets t m n) s) (HasPrefix (IsStringOf K t m n) s) D M t s e (λ w.
     let y = w.2 in
     (y.member.octets, w.1, record { prefix = y.prefix; joined = y.joined; member = y.member.string })) x
 

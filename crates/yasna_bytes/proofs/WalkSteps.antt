@@ -98,17 +98,17 @@ raw_within m t p s c indefinite_end r n x w = (
 )
 
 -- a raw element within the levels is in front
-more_raw : {P : List ℕ → Type 0} (m : BERMode) (n : ℕ) (v : RawValue) (s r : List ℕ) → RawAt (IsRaw n m) m v s r → JoiningBefore (IsRaw (suc n) m) P r →
-    JoiningBefore (IsRaw (suc n) m) P s
+more_raw : {P : List ℕ → Type 0} (m : BERMode) (n : ℕ) (v : RawValue) (s r : List ℕ) → RawAt (IsRaw m n) m v s r → JoiningBefore (IsRaw m (suc n)) P r →
+    JoiningBefore (IsRaw m (suc n)) P s
 more_raw m n v s r x y = before_more v x.bytes s r (raw_of n m v x.bytes x.raw) x.joined y
 
 -- where a header is there, what is said holds there, or the contents end and it holds after elements from there on
 data After (P : List ℕ → Type 0) (m : BERMode) (n : ℕ) (p : PCBit) (s c : List ℕ) (e : ContentsEnd) : Type 0 where
   at_once : P s → After P m n p s c e
-  later : (r : List ℕ) → ContentsTo (IsRaw n m) m p c e r → JoiningBefore (IsRaw (suc n) m) P r → After P m n p s c e
+  later : (r : List ℕ) → ContentsTo (IsRaw m n) m p c e r → JoiningBefore (IsRaw m (suc n)) P r → After P m n p s c e
 
 first_after : {P : List ℕ → Type 0} (m : BERMode) (n : ℕ) (t : Tag) (p : PCBit) (s c : List ℕ) (e : ContentsEnd) → OpensAt m t p s c e →
-    First (IsRaw (suc n) m) P s → After P m n p s c e
+    First (IsRaw m (suc n)) P s → After P m n p s c e
 first_after m n t p s c e o (here d) = at_once d
 first_after m n t p s c e o (further v b r x f y) = later r (opens_raw m t p s c e v b r o (raw_into n m v b x) f).inside y
 
@@ -118,11 +118,11 @@ starts_no_end e s r x y = starts_not_at_end s x (ends_at_end e s r y)
 
 -- what is said after elements from a place on, where an element of one header is there that isn't descended into
 module _ (m : BERMode) (n : ℕ) (s r : List ℕ) (x : Passes m (suc n) s r) where
-  past : {P : List ℕ → Type 0} → (P s → ⊥) → After P m n x.bit s x.contents (definite_end r) → JoiningBefore (IsRaw (suc n) m) P r
+  past : {P : List ℕ → Type 0} → (P s → ⊥) → After P m n x.bit s x.contents (definite_end r) → JoiningBefore (IsRaw m (suc n)) P r
   past not_here (at_once d) = absurd (not_here d)
-  past {P} not_here (later q w y) = subst (λ z. JoiningBefore (IsRaw (suc n) m) P z) w.0 y
+  past {P} not_here (later q w y) = subst (λ z. JoiningBefore (IsRaw m (suc n)) P z) w.0 y
 
-  passed : {P : List ℕ → Type 0} → (P s → ⊥) → JoiningBefore (IsRaw (suc n) m) P s ↔ JoiningBefore (IsRaw (suc n) m) P r
+  passed : {P : List ℕ → Type 0} → (P s → ⊥) → JoiningBefore (IsRaw m (suc n)) P s ↔ JoiningBefore (IsRaw m (suc n)) P r
   passed not_here = (
     λ y. past not_here (first_after m n x.tag x.bit s x.contents (definite_end r) x.opened.opens (before_first s y)),
     λ y. let w = raw_within m x.tag x.bit s x.contents (definite_end r) r x.opened.not_end x.opened.opens (refl, λ l. absurd (x.closed l)) in
@@ -135,7 +135,7 @@ module _ (m : BERMode) (n : ℕ) (s r : List ℕ) (x : Passes m (suc n) s r) whe
   pub passed_closes : (e : ContentsEnd) (a : List ℕ) → ClosesBefore (suc n) m e s a ↔ ClosesBefore (suc n) m e r a
   passed_closes e a = passed (starts_no_end e s a passed_starts)
 
-  passed_not_deep : DeepRaw (IsRaw n m) (IsDeepRaw n m) m s → ⊥
+  passed_not_deep : DeepRaw (IsRaw m n) (IsDeepRaw m n) m s → ⊥
   passed_not_deep y =
       let i = header_once m y.tag x.tag y.bit x.bit s y.contents x.contents y.end (definite_end r) y.opens x.opened.opens in
       x.closed (subst (λ p. DescendsInto m p) i.bit (subst (λ e. DescendsUpTo m y.bit e) i.end y.descends))
@@ -145,15 +145,15 @@ module _ (m : BERMode) (n : ℕ) (s r : List ℕ) (x : Passes m (suc n) s r) whe
 
 -- what is said after elements from a place on, where an element is descended into
 module _ (m : BERMode) (n : ℕ) (s c : List ℕ) (f : ContentsEnd) (x : Enters m (suc n) s c f) where
-  enter : {P : List ℕ → Type 0} → After P m n x.bit s c f → P s ⊎ ((r : List ℕ) × ClosesBefore n m f c r × JoiningBefore (IsRaw (suc n) m) P r)
+  enter : {P : List ℕ → Type 0} → After P m n x.bit s c f → P s ⊎ ((r : List ℕ) × ClosesBefore n m f c r × JoiningBefore (IsRaw m (suc n)) P r)
   enter (at_once d) = inl d
   enter (later r w y) = inr (r, closes_to m x.bit c f r x.descends w, y)
 
-  pub entered : {P : List ℕ → Type 0} → JoiningBefore (IsRaw (suc n) m) P s →
-      P s ⊎ ((r : List ℕ) × ClosesBefore n m f c r × JoiningBefore (IsRaw (suc n) m) P r)
+  pub entered : {P : List ℕ → Type 0} → JoiningBefore (IsRaw m (suc n)) P s →
+      P s ⊎ ((r : List ℕ) × ClosesBefore n m f c r × JoiningBefore (IsRaw m (suc n)) P r)
   entered y = enter (first_after m n x.tag x.bit s c f x.opened.opens (before_first s y))
 
-  pub entered_more : {P : List ℕ → Type 0} (r : List ℕ) → ClosesBefore n m f c r → JoiningBefore (IsRaw (suc n) m) P r → JoiningBefore (IsRaw (suc n) m) P s
+  pub entered_more : {P : List ℕ → Type 0} (r : List ℕ) → ClosesBefore n m f c r → JoiningBefore (IsRaw m (suc n)) P r → JoiningBefore (IsRaw m (suc n)) P s
   entered_more r w y =
       let v = raw_within m x.tag x.bit s c f r x.opened.not_end x.opened.opens (to_closes m x.bit c f r w) in
       more_raw m n v.0 s r v.1 y
@@ -161,38 +161,38 @@ module _ (m : BERMode) (n : ℕ) (s c : List ℕ) (f : ContentsEnd) (x : Enters 
   pub entered_not_end : (e : ContentsEnd) (a : List ℕ) → EndsBefore e s a → ⊥
   entered_not_end e a = starts_no_end e s a (opens_starts m x.tag x.bit s c f x.opened.not_end x.opened.opens)
 
-  pub entered_deep : IsDeepRaw (suc n) m s → MeetsDeep n m c
+  pub entered_deep : IsDeepRaw m (suc n) s → MeetsDeep n m c
   entered_deep d =
       let y = deep_into n m s d in
       let i = header_once m y.tag x.tag y.bit x.bit s y.contents c y.end f y.opens x.opened.opens in
       subst (λ z. MeetsDeep n m z) i.contents y.inside
 
-  pub deep_entered : MeetsDeep n m c → IsDeepRaw (suc n) m s
+  pub deep_entered : MeetsDeep n m c → IsDeepRaw m (suc n) s
   deep_entered d = deep_of n m s
       (record { tag = x.tag; bit = x.bit; not_end = x.opened.not_end; contents = c; end = f; opens = x.opened.opens; descends = x.descends; inside = d })
 
 -- contents end at once
-pub left_closes : (m : BERMode) (n : ℕ) (e : ContentsEnd) (s r a : List ℕ) → EndsBefore e s r → First (IsRaw n m) (λ q. EndsBefore e q a) s → a ≡ r
+pub left_closes : (m : BERMode) (n : ℕ) (e : ContentsEnd) (s r a : List ℕ) → EndsBefore e s r → First (IsRaw m n) (λ q. EndsBefore e q a) s → a ≡ r
 left_closes m n e s r a x (here y) = ends_once e s a r y x
 left_closes m n e s r a x (further v b q p f y) = absurd (starts_not_end b q s (raw_starts n m v b p) (ends_at_end e s r x) f)
 
-pub left_deep : (m : BERMode) (n : ℕ) (e : ContentsEnd) (s r : List ℕ) → EndsBefore e s r → First (IsRaw n m) (IsDeepRaw n m) s → ⊥
+pub left_deep : (m : BERMode) (n : ℕ) (e : ContentsEnd) (s r : List ℕ) → EndsBefore e s r → First (IsRaw m n) (IsDeepRaw m n) s → ⊥
 left_deep m n e s r x (here d) = starts_no_end e s r (deep_starts n m s d) x
 left_deep m n e s r x (further v b q p f y) = starts_not_end b q s (raw_starts n m v b p) (ends_at_end e s r x) f
 
 -- no element is where no header is
-pub no_raw : (m : BERMode) (n : ℕ) (s : List ℕ) → NoHeader m n s → (v : RawValue) (b r : List ℕ) → IsRaw n m v b → s ≡ b ++ r → ⊥
+pub no_raw : (m : BERMode) (n : ℕ) (s : List ℕ) → NoHeader m n s → (v : RawValue) (b r : List ℕ) → IsRaw m n v b → s ≡ b ++ r → ⊥
 no_raw m zero s none v b r p f = raw_zero m v b p
 no_raw m (suc n) s none v b r p f =
     let o = raw_into n m v b p in
     let i = raw_element v b o in
     none v.tag o.in_range o.not_end (element_header AnyBit m (suc n) v.tag v.bit i.contents b s r (omega arith) tt i.element f)
 
-no_header : {P : List ℕ → Type 0} (m : BERMode) (n : ℕ) (s : List ℕ) → NoHeader m n s → (P s → ⊥) → First (IsRaw n m) P s → ⊥
+no_header : {P : List ℕ → Type 0} (m : BERMode) (n : ℕ) (s : List ℕ) → NoHeader m n s → (P s → ⊥) → First (IsRaw m n) P s → ⊥
 no_header m n s none not_here (here d) = not_here d
 no_header m n s none not_here (further v b r p f y) = no_raw m n s none v b r p f
 
-pub deep_no_header : (m : BERMode) (n : ℕ) (s : List ℕ) → NoHeader m n s → IsDeepRaw n m s → HasNoLevel n s
+pub deep_no_header : (m : BERMode) (n : ℕ) (s : List ℕ) → NoHeader m n s → IsDeepRaw m n s → HasNoLevel n s
 deep_no_header m zero s none d = (refl, deep_zero_into m s d)
 deep_no_header m (suc n) s none d =
     let y = deep_into n m s d in
@@ -200,18 +200,18 @@ deep_no_header m (suc n) s none d =
     absurd (none y.tag (opens_range m y.tag y.bit s y.contents y.end y.opens) y.not_end
     (opens_header m (suc n) y.tag y.bit s y.contents y.end (omega arith) y.opens))
 
-pub level_deep : (m : BERMode) (n : ℕ) (s : List ℕ) → HasNoLevel n s → IsDeepRaw n m s
-level_deep m n s x = subst (λ k. IsDeepRaw k m s) (sym x.0) (deep_at_zero m s x.1)
+pub level_deep : (m : BERMode) (n : ℕ) (s : List ℕ) → HasNoLevel n s → IsDeepRaw m n s
+level_deep m n s x = subst (λ k. IsDeepRaw m k s) (sym x.0) (deep_at_zero m s x.1)
 
 -- contents don't close where a walk stops
 pub closed_stops : (m : BERMode) (n : ℕ) (e : ContentsEnd) (s : List ℕ) (k : ASN1ErrorKind) → Stops m n e s k → (a : List ℕ) → ClosesBefore n m e s a → ⊥
 closed_stops m n e s k x a y = no_header m n s x.none (x.no_end a) (before_first s y)
 
 -- a walk stops by the depth limit only where no level is left for an element
-pub stops_deep : (m : BERMode) (n : ℕ) (e : ContentsEnd) (s : List ℕ) (k : ASN1ErrorKind) → Stops m n e s k → k ≡ StackOverflow → IsDeepRaw n m s
+pub stops_deep : (m : BERMode) (n : ℕ) (e : ContentsEnd) (s : List ℕ) (k : ASN1ErrorKind) → Stops m n e s k → k ≡ StackOverflow → IsDeepRaw m n s
 stops_deep m n e s k x f = level_deep m n s (x.deep.0 f)
 
-deep_first : (m : BERMode) (n : ℕ) (s : List ℕ) → NoHeader m n s → First (IsRaw n m) (IsDeepRaw n m) s → HasNoLevel n s
+deep_first : (m : BERMode) (n : ℕ) (s : List ℕ) → NoHeader m n s → First (IsRaw m n) (IsDeepRaw m n) s → HasNoLevel n s
 deep_first m n s none (here d) = deep_no_header m n s none d
 deep_first m n s none (further v b r p f y) = absurd (no_raw m n s none v b r p f)
 

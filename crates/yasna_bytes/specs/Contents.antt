@@ -17,7 +17,7 @@ use Rattle.yasna_bytes.specs.declared.bytes.header.Rejection.{Rejection}
 
 -- wherever c are the contents of a primitive element, it may allocate by M
 abbrev pub MayAllocateFor : (ℕ → Tag → List ℕ → Type 0) → List ℕ → Type 0
-MayAllocateFor M c = (n : ℕ) (m : BERMode) (t : Tag) (s r : List ℕ) → Takes (IsPrimitive AreContents n m t) s c r → M n t s
+MayAllocateFor M c = (n : ℕ) (m : BERMode) (t : Tag) (s r : List ℕ) → Takes (IsPrimitive AreContents t m n) s c r → M n t s
 
 -- contents that are taken exactly where they say by W what the view of a value is, unless out of memory
 abbrev pub Decides : {V A : Type 0} → (A → List ℕ → Type 0) → (V → A) → (ℕ → Tag → List ℕ → Type 0) → List ℕ → Result V ASN1ErrorKind → Type 0
@@ -45,4 +45,4 @@ big_integer_in v = record { bytes = v.0.items; positive = v.1 }
 -- where M says so
 abbrev pub ValueAt : {V A : Type 0} → (BERMode → A → List ℕ → Type 0) → (V → A) → (ℕ → Tag → List ℕ → Type 0) → ℕ → BERMode → Tag → List ℕ →
     Result (V × Bor (List ℕ)) Rejection → Type 0
-ValueAt W view M n m t s r = SeenAt (Primitively W n m t) view (IsTooDeep n t s) (M n t s) (IsElsewhere t s) s r
+ValueAt W view M n m t s r = SeenAt (Primitively W t m n) view (IsTooDeep n t s) (M n t s) (IsElsewhere t s) s r

@@ -83,8 +83,8 @@ AreContents v c = v ≡ c
 
 -- the contents of a primitive element, and the rest
 abbrev pub PrimitiveAt : ℕ → BERMode → Tag → List ℕ → Result (Bor (List ℕ) × Bor (List ℕ)) Rejection → Type 0
-PrimitiveAt n m t s (Ok x) = Takes (IsPrimitive AreContents n m t) s x.0.now x.1.now
-PrimitiveAt n m t s (Err e) = Rejects (HasPrefix (IsPrimitive AreContents n m t) s) (IsTooDeep n t s) ⊥ (IsElsewhere t s) e
+PrimitiveAt n m t s (Ok x) = Takes (IsPrimitive AreContents t m n) s x.0.now x.1.now
+PrimitiveAt n m t s (Err e) = Rejects (HasPrefix (IsPrimitive AreContents t m n) s) (IsTooDeep n t s) ⊥ (IsElsewhere t s) e
 
 -- contents that end so don't end at y
 abbrev pub NoEnd : ContentsEnd → List ℕ → Type 0

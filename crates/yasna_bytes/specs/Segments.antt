@@ -52,7 +52,7 @@ Adds {A} k value x y (Err e) =
 -- the result says whether a further segment may follow those of which x is known
 abbrev pub DecidesWhetherMore : {A T : Type 0} → Segmentation A → (List ℕ → T → A) → T → Type 0 → Type 0
 DecidesWhetherMore {A} k value x may_follow =
-    (n : ℕ) (m : BERMode) (vs : List A) (b c : List ℕ) → Pieces (IsSegmented k n m k.segment) vs c → k.join m vs (value b x) → may_follow ↔ k.more vs
+    (n : ℕ) (m : BERMode) (vs : List A) (b c : List ℕ) → Pieces (IsSegmented k k.segment m n) vs c → k.join m vs (value b x) → may_follow ↔ k.more vs
 
 -- the contents of a primitive element, whose bytes were appended to out, or why not
 abbrev pub WholeAt : {A T : Type 0} → Segmentation A → (List ℕ → T → A) → BERMode → List ℕ → List ℕ → Result T ASN1ErrorKind → List ℕ → Type 0
@@ -71,13 +71,13 @@ pub record LeadTo {A : Type 0} (R : A → List ℕ → Type 0) (c : List ℕ) (v
 pub record MakeUpTo {A : Type 0} (k : Segmentation A) (n : ℕ) (m : BERMode) (c y : List ℕ) : Type 0 where
   pub values : List A
   pub value : A
-  pub lead : LeadTo (IsSegmented k n m k.segment) c values y
+  pub lead : LeadTo (IsSegmented k k.segment m n) c values y
   pub join : k.join m values value
   pub at_end : AtEnd y
 
 -- reading segments from c meets one that no level is left for
 abbrev pub IsDeepWithin : {A : Type 0} → Segmentation A → ℕ → BERMode → List ℕ → Type 0
-IsDeepWithin k n m c = PiecesBefore (IsSegmented k n m k.segment) k.more (IsDeepSegmented k n m k.segment) c
+IsDeepWithin k n m c = PiecesBefore (IsSegmented k k.segment m n) k.more (IsDeepSegmented k k.segment m n) c
 
 -- how segments are cut that were cut as c says, and one of n bytes more, if k of them fill one
 abbrev pub further_cut : Cuts → ℕ → ℕ → Cuts
@@ -108,7 +108,7 @@ pub record SegmentsRead (A T : Type 0) : Type 0 where
 -- contents octets, joined in order, say a value. cut: they are as long as is said
 pub record ReadsUpTo {A T : Type 0} (k : Segmentation A) (value : List ℕ → T → A) (n : ℕ) (m : BERMode) (c : List ℕ) (x : SegmentsRead A T)
     (y : List ℕ) : Type 0 where
-  pub lead : LeadTo (IsSegmented k n m k.segment) c x.values y
+  pub lead : LeadTo (IsSegmented k k.segment m n) c x.values y
   pub join : k.join m x.values (value x.bytes x.known)
   pub cut : AreCut k x.values x.cuts
 
@@ -144,12 +144,12 @@ SegmentsAt k value n m c out (Err e) out' = RejectsSegments k n m c e
 pub record TakesString {A T : Type 0} (k : Segmentation A) (value : List ℕ → T → A) (n : ℕ) (m : BERMode) (t : Tag) (s out : List ℕ) (x : T)
     (r out' : List ℕ) : Type 0 where
   pub bytes : List ℕ
-  pub takes : Takes (IsSegmented k n m t) s (value bytes x) r
+  pub takes : Takes (IsSegmented k t m n) s (value bytes x) r
   pub added : out' ≡ out ++ bytes
 
 -- no string does
 abbrev pub RejectsString : {A : Type 0} → Segmentation A → ℕ → BERMode → Tag → List ℕ → Rejection → Type 0
-RejectsString k n m t s e = Rejects (HasPrefix (IsSegmented k n m t) s) (IsDeepSegmented k n m t s) (MayAllocate n t s) (IsElsewhere t s) e
+RejectsString k n m t s e = Rejects (HasPrefix (IsSegmented k t m n) s) (IsDeepSegmented k t m n s) (MayAllocate n t s) (IsElsewhere t s) e
 
 -- what reading a string returns, by its case; where it consumed nothing, nothing was appended
 abbrev pub StringAt : {A T : Type 0} → Segmentation A → (List ℕ → T → A) → ℕ → BERMode → Tag → List ℕ → List ℕ → Result (T × Bor (List ℕ)) Rejection →
@@ -160,15 +160,15 @@ StringAt k value n m t s out (Err e) out' = RejectsString k n m t s e × (e.cons
 -- as `StringAt`, where the bytes are put in a new vector
 abbrev pub WithVecAt : {A T : Type 0} → Segmentation A → (List ℕ → T → A) → ℕ → BERMode → Tag → List ℕ →
     Result ((Vec ℕ Global × T) × Bor (List ℕ)) Rejection → Type 0
-WithVecAt k value n m t s r = SeenAt (IsSegmented k n m t) (λ v. value v.0.items v.1) (IsDeepSegmented k n m t s) (MayAllocate n t s) (IsElsewhere t s) s r
+WithVecAt k value n m t s r = SeenAt (IsSegmented k t m n) (λ v. value v.0.items v.1) (IsDeepSegmented k t m n s) (MayAllocate n t s) (IsElsewhere t s) s r
 
 -- the octet string in a vector's bytes, and the rest, or an error
 abbrev pub OctetsAt : ℕ → BERMode → Tag → List ℕ → Result (Vec ℕ Global × Bor (List ℕ)) Rejection → Type 0
-OctetsAt n m t s r = SeenAt (IsOctets n m t) (λ v. v.items) (IsDeepOctets n m t s) (MayAllocate n t s) (IsElsewhere t s) s r
+OctetsAt n m t s r = SeenAt (IsOctets t m n) (λ v. v.items) (IsDeepOctets t m n s) (MayAllocate n t s) (IsElsewhere t s) s r
 
 -- the octets of a string in one primitive element where they are, and the rest, or the header of a constructed one
 abbrev pub WholeOctetsAt : ℕ → BERMode → Tag → List ℕ → Result (Option (Bor (List ℕ) × Bor (List ℕ))) Rejection → Type 0
-WholeOctetsAt n m t s (Ok (Some x)) = Takes (IsOctets n m t) s x.0.now x.1.now
+WholeOctetsAt n m t s (Ok (Some x)) = Takes (IsOctets t m n) s x.0.now x.1.now
 WholeOctetsAt n m t s (Ok None) = (c : List ℕ) × (e : ContentsEnd) × OpensAt m t Constructed s c e
 WholeOctetsAt n m t s (Err e) = RejectsString octets_segmentation n m t s e
 
@@ -178,4 +178,4 @@ bits_in v = record { bytes = v.0.items; count = v.1 }
 
 -- what reading a bit string returns
 abbrev pub BitsAt : ℕ → BERMode → Tag → List ℕ → Result ((Vec ℕ Global × ℕ) × Bor (List ℕ)) Rejection → Type 0
-BitsAt n m t s r = SeenAt (IsBits n m t) bits_in (IsDeepBits n m t s) (MayAllocate n t s) (IsElsewhere t s) s r
+BitsAt n m t s r = SeenAt (IsBits t m n) bits_in (IsDeepBits t m n s) (MayAllocate n t s) (IsElsewhere t s) s r

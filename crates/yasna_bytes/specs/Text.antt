@@ -24,7 +24,7 @@ Judges {V} {A} W view o (Err k) = ((k ≡ OutOfMemory) × (o ≡ [] → ⊥)) �
 
 -- a string whose octets say by K what the view of a value is, and the rest, or an error
 abbrev pub JudgedAt : {V A : Type 0} → (BERMode → A → List ℕ → Type 0) → (V → A) → ℕ → BERMode → Tag → List ℕ → Result (V × Bor (List ℕ)) Rejection → Type 0
-JudgedAt K view n m t s r = SeenAt (IsStringOf K n m t) view (IsDeepOctets n m t s) (MayAllocate n t s) (IsElsewhere t s) s r
+JudgedAt K view n m t s r = SeenAt (IsStringOf K t m n) view (IsDeepOctets t m n s) (MayAllocate n t s) (IsElsewhere t s) s r
 
 -- what the octets of a text of each class say
 abbrev pub SpellsText : Class → BERMode → List ℕ → List ℕ → Type 0

@@ -90,11 +90,11 @@ TurnOf m n e s (Err k) = Stops m n e s k
 
 -- raw elements within n levels are from s on to the end of contents that end so, and a follows
 abbrev pub ClosesBefore : ℕ → BERMode → ContentsEnd → List ℕ → List ℕ → Type 0
-ClosesBefore n m e s a = JoiningBefore (IsRaw n m) (λ q. EndsBefore e q a) s
+ClosesBefore n m e s a = JoiningBefore (IsRaw m n) (λ q. EndsBefore e q a) s
 
 -- raw elements are from s on up to one that no level is left for
 abbrev pub MeetsDeep : ℕ → BERMode → List ℕ → Type 0
-MeetsDeep n m s = JoiningBefore (IsRaw n m) (IsDeepRaw n m) s
+MeetsDeep n m s = JoiningBefore (IsRaw m n) (IsDeepRaw m n) s
 
 -- why contents weren't walked to their end
 pub record NotWalked (m : BERMode) (n : ℕ) (e : ContentsEnd) (s : List ℕ) (k : ASN1ErrorKind) : Type 0 where
@@ -128,7 +128,7 @@ follows indefinite_end r = r
 
 -- an element whose header was read ends, or its contents, which are descended into, don't
 abbrev pub FollowsAt : BERMode → ℕ → PCBit → List ℕ → ContentsEnd → Result (Bor (List ℕ)) ASN1ErrorKind → Type 0
-FollowsAt m n bit c e (Ok r) = ContentsTo (IsRaw n m) m bit c e r.now
+FollowsAt m n bit c e (Ok r) = ContentsTo (IsRaw m n) m bit c e r.now
 FollowsAt m n bit c e (Err k) = DescendsUpTo m bit e × NotWalked m n e c k
 
 -- r are the last of s
@@ -147,14 +147,14 @@ element_of x = record { tag = x.tag; bit = x.bit; payload = x.payload.now }
 -- How bytes are rejected as a raw element: there is none. The rejection consumed nothing exactly at an end, and is `StackOverflow`
 -- exactly if reading meets an element for which no level is left
 pub record RejectsRaw (m : BERMode) (n : ℕ) (s : List ℕ) (e : Rejection) : Type 0 where
-  pub none : HasPrefix (IsRaw n m) s → ⊥
+  pub none : HasPrefix (IsRaw m n) s → ⊥
   pub consumed : e.consumed ≡ false ↔ AtEnd s
-  pub deep : e.kind ≡ StackOverflow ↔ IsDeepRaw n m s
+  pub deep : e.kind ≡ StackOverflow ↔ IsDeepRaw m n s
   pub no_memory : e.kind ≡ OutOfMemory → ⊥
 
 -- a raw element at the start of s, and the rest
 pub record TakesRaw (m : BERMode) (n : ℕ) (s : List ℕ) (x : RawElement) (r : List ℕ) : Type 0 where
-  pub raw : IsRaw n m (element_of x) x.bytes.now
+  pub raw : IsRaw m n (element_of x) x.bytes.now
   pub joined : s ≡ x.bytes.now ++ r
 
 -- what reading a raw element returns, by its case

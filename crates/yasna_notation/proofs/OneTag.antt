@@ -42,23 +42,23 @@ one_tag_read {A} N own not_end decodes under s r s' repeats h = record {
 -- a typed read that never allocates
 pub leaf_read : {A : Type 0} (B : TaggedGrammar A) (own : Tag) → (own ≡ end_tag → ⊥) → (s : Reading) (r : Result A ASN1Error) (s' : Reading) →
     Reads B NoLevel NeverAllocates own s r s' →
-    ReadsAs true (own ∷ []) true false (λ u m n v b. B n m (tag_or u own) v b) (λ u. Any (λ m n v b. B n m (tag_or u own) v b)) s r s'
+    ReadsAs true (own ∷ []) true false (λ u m n v b. B (tag_or u own) m n v b) (λ u. Any (B (tag_or u own))) s r s'
 leaf_read B own not_end s r s' h =
     one_tag_read (λ t. Reads B NoLevel NeverAllocates t) own not_end (leaf_by_tag B) (λ t. seen_under B (λ v. v) NoLevel NeverAllocates own t) s r s'
     (seen_repeats_error h) h
 
 -- one that may, where what lies too deep begins with the tag
 pub allocating_read : {V A : Type 0} (B : TaggedGrammar A) (view : V → A) (D : TaggedMembers) (own : Tag) → (own ≡ end_tag → ⊥) →
-    ((t : Tag) (n : ℕ) (m : BERMode) (s : List ℕ) → D n m t s → BeginsWithTag t s) → (s : Reading) (r : Result V ASN1Error) (s' : Reading) →
+    ((t : Tag) (n : ℕ) (m : BERMode) (s : List ℕ) → D t m n s → BeginsWithTag t s) → (s : Reading) (r : Result V ASN1Error) (s' : Reading) →
     ReadsSeen B view D MayAllocate own s r s' →
-    ReadsAs true (own ∷ []) true true (λ u m n v b. B n m (tag_or u own) (view v) b) (λ u. Any (λ m n v b. B n m (tag_or u own) v b)) s r s'
+    ReadsAs true (own ∷ []) true true (λ u m n v b. B (tag_or u own) m n (view v) b) (λ u. Any (B (tag_or u own))) s r s'
 allocating_read B view D own not_end deep s r s' h =
     one_tag_read (λ t. ReadsSeen B view D MayAllocate t) own not_end (λ t other. allocating_by_tag B view D t other (deep t))
     (λ t. seen_under B view D MayAllocate own t) s r s' (seen_repeats_error h) h
 
 -- a read of an element of any tag
 pub any_read : (s : Reading) (r : Result TaggedDerValue ASN1Error) (s' : Reading) → ReadsRaw IsRaw raw_of s r s' →
-    ReadsAs false [] false true (λ u m n v b. IsRaw n m (raw_of v) b) (λ u. Any (λ m n v b. IsRaw n m v b)) s r s'
+    ReadsAs false [] false true (λ u m n v b. IsRaw m n (raw_of v) b) (λ u. Any IsRaw) s r s'
 any_read s r s' h = record {
   fresh = λ fresh. record { decodes = raw_decodes IsRaw raw_of s fresh r s' h; no_match = λ e. absurd (cc) };
   replaced = λ e t other range failed waits. absurd (cc);

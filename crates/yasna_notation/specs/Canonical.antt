@@ -51,24 +51,24 @@ pub element_written : {A : Type 0} {E : A → A → Type 0} {B : Tag → Grammar
 element_written own laws not_end range = record { own = laws own not_end range; others = λ _. laws }
 
 -- strings of any character, and of those of a class
-pub text_under : IsWrittenUnderTags (λ v w. characters v ≡ characters w) (λ t m n v b. IsStringOf (IsUtf8In InUtf8) n m t (characters v) b)
+pub text_under : IsWrittenUnderTags (λ v w. characters v ≡ characters w) (λ t m n v b. IsStringOf (IsUtf8In InUtf8) t m n (characters v) b)
     (λ t m v. utf8_encoding t m (characters v)) (λ m v. utf8_depth m (characters v)) Always
 text_under t not_end range = written_always string_text (written_along characters (class_written InUtf8 t range))
 
 pub class_under : (In : ℕ → Type 0) → IsWrittenUnderTags (λ v w. characters v ≡ characters w)
-    (λ t m n v b. IsStringOf (IsUtf8In In) n m t (characters v) b) (λ t m v. utf8_encoding t m (characters v)) (λ m v. utf8_depth m (characters v))
+    (λ t m n v b. IsStringOf (IsUtf8In In) t m n (characters v) b) (λ t m v. utf8_encoding t m (characters v)) (λ m v. utf8_depth m (characters v))
     (λ v. AllByRecursion In (characters v))
 class_under In t not_end range = written_where
     (λ (v : String Global). (λ can. can.in_class, λ can. record { characters = (string_text v).characters; in_class = can }))
     (written_along characters (class_written In t range))
 
 -- times
-pub utc_under : IsWrittenUnderTags (λ v w. utc_of v ≡ utc_of w) (λ t m n v b. IsStringOf SpellsUtcTime n m t (utc_of v) b)
+pub utc_under : IsWrittenUnderTags (λ v w. utc_of v ≡ utc_of w) (λ t m n v b. IsStringOf SpellsUtcTime t m n (utc_of v) b)
     (λ t m v. utc_time_encoding t m (utc_of v)) (λ m v. utc_time_depth m (utc_of v)) Always
 utc_under t not_end range =
     written_where (λ (v : UTCTime). (λ can. tt, λ can. v.in_range)) (written_along utc_of (utc_time_keeps t not_end range).1)
 
-pub general_under : IsWrittenUnderTags (λ v w. moment_of v ≡ moment_of w) (λ t m n v b. IsStringOf SpellsGeneralizedTime n m t (moment_of v) b)
+pub general_under : IsWrittenUnderTags (λ v w. moment_of v ≡ moment_of w) (λ t m n v b. IsStringOf SpellsGeneralizedTime t m n (moment_of v) b)
     (λ t m v. generalized_time_encoding t m (moment_of v)) (λ m v. generalized_time_depth m (moment_of v)) Always
 general_under t not_end range =
     written_where (λ (v : GeneralizedTime). (λ can. tt, λ can. general_moment v)) (written_along moment_of (generalized_time_keeps t not_end range).1)

@@ -77,55 +77,55 @@ pub seen_laws : {U A : Type 0} {B : Tag → Grammar A} {S : Tag → Members} {en
 seen_laws view laws t not_end range = let x = laws t not_end range in (along view x.0, exact_along view x.1)
 
 -- primitive types
-pub boolean_laws : IsExactUnderTags (λ v w. v ≡ w) (λ t m n v b. Primitively IsBoolean n m t v b) (λ t. Any (λ m n v b. Primitively IsBoolean n m t v b))
+pub boolean_laws : IsExactUnderTags (λ v w. v ≡ w) (Primitively IsBoolean) (λ t. Any (Primitively IsBoolean t))
     boolean_encoding (written_fits leaf_depth Always) Always
 boolean_laws t not_end range = (boolean_coding t not_end, written_exact (boolean_written t range))
 
-pub null_laws : IsExactUnderTags (λ v w. v ≡ w) (λ t m n v b. Primitively IsNull n m t v b) (λ t. Any (λ m n v b. Primitively IsNull n m t v b))
+pub null_laws : IsExactUnderTags (λ v w. v ≡ w) (Primitively IsNull) (λ t. Any (Primitively IsNull t))
     null_encoding (written_fits leaf_depth Always) Always
 null_laws t not_end range = (null_coding t not_end, written_exact (null_written t range))
 
-pub signed_laws : (w : Width) → IsExactUnderTags (λ v u. v ≡ u) (λ t m n v b. Primitively (IsSigned w) n m t v b)
-    (λ t. Any (λ m n v b. Primitively (IsSigned w) n m t v b)) integer_encoding (written_fits leaf_depth (FitsSigned w)) (FitsSigned w)
+pub signed_laws : (w : Width) → IsExactUnderTags (λ v u. v ≡ u) (Primitively (IsSigned w))
+    (λ t. Any (Primitively (IsSigned w) t)) integer_encoding (written_fits leaf_depth (FitsSigned w)) (FitsSigned w)
 signed_laws w t not_end range = (signed_under w t not_end, written_exact (number_written (λ z. z) (FitsSigned w) t range))
 
-pub unsigned_laws : (k : ℕ) → IsExactUnderTags (λ v u. v ≡ u) (λ t m n v b. Primitively (IsUnsigned k) n m t v b)
-    (λ t. Any (λ m n v b. Primitively (IsUnsigned k) n m t v b)) (λ t m v. integer_encoding t m (pos v)) (written_fits leaf_depth (λ u. u < 2 ^ k))
+pub unsigned_laws : (k : ℕ) → IsExactUnderTags (λ v u. v ≡ u) (Primitively (IsUnsigned k))
+    (λ t. Any (Primitively (IsUnsigned k) t)) (λ t m v. integer_encoding t m (pos v)) (written_fits leaf_depth (λ u. u < 2 ^ k))
     (λ u. u < 2 ^ k)
 unsigned_laws k t not_end range = (unsigned_under k t not_end, written_exact (number_written pos (λ u. u < 2 ^ k) t range))
 
-pub oid_laws : IsExactUnderTags (λ v w. v ≡ w) (λ t m n v b. Primitively AreComponents n m t v b)
-    (λ t. Any (λ m n v b. Primitively AreComponents n m t v b)) oid_encoding (written_fits leaf_depth IsEncodableOid) IsEncodableOid
+pub oid_laws : IsExactUnderTags (λ v w. v ≡ w) (Primitively AreComponents)
+    (λ t. Any (Primitively AreComponents t)) oid_encoding (written_fits leaf_depth IsEncodableOid) IsEncodableOid
 oid_laws t not_end range = (oid_under t not_end, written_exact (oid_written_under t range))
 
-pub big_integer_laws : IsExactUnderTags (λ v w. v ≡ w) (λ t m n v b. Primitively IsBigInteger n m t v b)
-    (λ t. Any (λ m n v b. Primitively IsBigInteger n m t v b)) big_integer_encoding (written_fits leaf_depth CanBigInteger) CanBigInteger
+pub big_integer_laws : IsExactUnderTags (λ v w. v ≡ w) (Primitively IsBigInteger)
+    (λ t. Any (Primitively IsBigInteger t)) big_integer_encoding (written_fits leaf_depth CanBigInteger) CanBigInteger
 big_integer_laws t not_end range = (big_integer_coding t not_end, written_exact (big_integer_written t range))
 
 -- strings
 abbrev pub octets_of : Vec ℕ Global → List ℕ
 octets_of v = v.items
 
-pub octets_laws : IsExactUnderTags (λ v w. v ≡ w) (λ t m n v b. IsOctets n m t v b) (λ t. Any (λ m n v b. IsOctets n m t v b)) octets_encoding
+pub octets_laws : IsExactUnderTags (λ v w. v ≡ w) IsOctets (λ t. Any (IsOctets t)) octets_encoding
     (written_fits octets_depth IsBytes) IsBytes
 octets_laws t not_end range = (octets_coding t not_end, written_exact (octets_written t range))
 
-pub octets_begin : (t : Tag) (m : BERMode) (n : ℕ) (b : List ℕ) → Any (λ m n v b. IsOctets n m t v b) m n b → BeginsWithTag t b
+pub octets_begin : (t : Tag) (m : BERMode) (n : ℕ) (b : List ℕ) → Any (IsOctets t) m n b → BeginsWithTag t b
 octets_begin t m n b p = segmented_begins octets_segmentation n m t p.0 b p.1
 
-pub bits_begin : (t : Tag) (m : BERMode) (n : ℕ) (b : List ℕ) → Any (λ m n v b. IsBits n m t v b) m n b → BeginsWithTag t b
+pub bits_begin : (t : Tag) (m : BERMode) (n : ℕ) (b : List ℕ) → Any (IsBits t) m n b → BeginsWithTag t b
 bits_begin t m n b p = segmented_begins bits_segmentation n m t p.0 b p.1
 
 pub string_begins : {A : Type 0} (K : BERMode → A → List ℕ → Type 0) (t : Tag) (m : BERMode) (n : ℕ) (b : List ℕ) →
-    Any (λ m n v b. IsStringOf K n m t v b) m n b → BeginsWithTag t b
+    Any (IsStringOf K t) m n b → BeginsWithTag t b
 string_begins K t m n b p = segmented_begins octets_segmentation n m t p.1.octets b p.1.string
 
 pub text_begins : (In : ℕ → Type 0) (t : Tag) (m : BERMode) (n : ℕ) (b : List ℕ) →
-    Any (λ m n v b. IsStringOf (IsUtf8In In) n m t v b) m n b → BeginsWithTag t b
+    Any (IsStringOf (IsUtf8In In) t) m n b → BeginsWithTag t b
 text_begins In = string_begins (IsUtf8In In)
 
-pub text_laws : IsExactUnderTags (λ v w. characters v ≡ characters w) (λ t m n v b. IsStringOf (IsUtf8In InUtf8) n m t (characters v) b)
-    (λ t. Any (λ m n v b. IsStringOf (IsUtf8In InUtf8) n m t v b)) (λ t m v. utf8_encoding t m (characters v))
+pub text_laws : IsExactUnderTags (λ v w. characters v ≡ characters w) (λ t m n v b. IsStringOf (IsUtf8In InUtf8) t m n (characters v) b)
+    (λ t. Any (IsStringOf (IsUtf8In InUtf8) t)) (λ t m v. utf8_encoding t m (characters v))
     (written_fits (λ m v. utf8_depth m (characters v)) Always) Always
 text_laws t not_end range = (
   along characters (class_coding InUtf8 t not_end),
@@ -133,7 +133,7 @@ text_laws t not_end range = (
 )
 
 pub class_laws : (In : ℕ → Type 0) → IsExactUnderTags (λ v w. characters v ≡ characters w)
-    (λ t m n v b. IsStringOf (IsUtf8In In) n m t (characters v) b) (λ t. Any (λ m n v b. IsStringOf (IsUtf8In In) n m t v b))
+    (λ t m n v b. IsStringOf (IsUtf8In In) t m n (characters v) b) (λ t. Any (IsStringOf (IsUtf8In In) t))
     (λ t m v. utf8_encoding t m (characters v)) (written_fits (λ m v. utf8_depth m (characters v)) (λ v. AllByRecursion In (characters v)))
     (λ v. AllByRecursion In (characters v))
 class_laws In t not_end range = (
@@ -144,15 +144,15 @@ class_laws In t not_end range = (
 )
 
 -- times
-pub utc_laws : IsExactUnderTags (λ v w. utc_of v ≡ utc_of w) (λ t m n v b. IsStringOf SpellsUtcTime n m t (utc_of v) b)
-    (λ t. Any (λ m n v b. IsStringOf SpellsUtcTime n m t v b)) (λ t m v. utc_time_encoding t m (utc_of v))
+pub utc_laws : IsExactUnderTags (λ v w. utc_of v ≡ utc_of w) (λ t m n v b. IsStringOf SpellsUtcTime t m n (utc_of v) b)
+    (λ t. Any (IsStringOf SpellsUtcTime t)) (λ t m v. utc_time_encoding t m (utc_of v))
     (written_fits (λ m v. utc_time_depth m (utc_of v)) Always) Always
 utc_laws t not_end range =
     let x = utc_time_keeps t not_end range in
     (along utc_of x.0, written_exact (written_where (λ (v : UTCTime). (λ can. tt, λ can. v.in_range)) (written_along utc_of x.1)))
 
-pub general_laws : IsExactUnderTags (λ v w. moment_of v ≡ moment_of w) (λ t m n v b. IsStringOf SpellsGeneralizedTime n m t (moment_of v) b)
-    (λ t. Any (λ m n v b. IsStringOf SpellsGeneralizedTime n m t v b)) (λ t m v. generalized_time_encoding t m (moment_of v))
+pub general_laws : IsExactUnderTags (λ v w. moment_of v ≡ moment_of w) (λ t m n v b. IsStringOf SpellsGeneralizedTime t m n (moment_of v) b)
+    (λ t. Any (IsStringOf SpellsGeneralizedTime t)) (λ t m v. generalized_time_encoding t m (moment_of v))
     (written_fits (λ m v. generalized_time_depth m (moment_of v)) Always) Always
 general_laws t not_end range =
     let x = generalized_time_keeps t not_end range in
@@ -167,7 +167,7 @@ pub application_not_end : (k : ℕ) → application k ≡ end_tag → ⊥
 application_not_end k e = let c = ap (λ (t : Tag). class_number t.tag_class) e in absurd (omega arith)
 
 -- an element of any tag
-pub any_laws : IsNotation false [] (λ v w. raw_of v ≡ raw_of w) (λ m n v b. IsRaw n m (raw_of v) b) (Any (λ m n v b. IsRaw n m v b))
+pub any_laws : IsNotation false [] (λ v w. raw_of v ≡ raw_of w) (λ m n v b. IsRaw m n (raw_of v) b) (Any IsRaw)
     (λ m v. raw_encoding (raw_of v).tag m (raw_of v)) (λ m n v. raw_fits m n (raw_of v)) Always
 any_laws = record { coding = along raw_of raw_coding; begins = λ e. absurd (cc); exact = exact_along raw_of raw_keeps_exact }
 

@@ -24,8 +24,8 @@ impl Notation for TaggedDerValue {
       tags_known = false;
       tags = [];
       retagged = false;
-      under = λ u m n v b. IsRaw n m (raw_of v) b;
-      any_under = λ u. Any (λ m n v b. IsRaw n m v b);
+      under = λ u m n v b. IsRaw m n (raw_of v) b;
+      any_under = λ u. Any IsRaw;
       may_allocate = true;
       same = λ v w. raw_of v ≡ raw_of w;
       encoding_under = λ u m v. raw_encoding (tag_or u (raw_of v).tag) m (raw_of v);

@@ -35,8 +35,8 @@ impl Notation for Vec<u8> {
       tags_known = true;
       tags = octets_tag ∷ [];
       retagged = true;
-      under = λ u m n v b. IsOctets n m (tag_or u octets_tag) (octets_of v) b;
-      any_under = λ u. Any (λ m n v b. IsOctets n m (tag_or u octets_tag) v b);
+      under = λ u m n v b. IsOctets (tag_or u octets_tag) m n (octets_of v) b;
+      any_under = λ u. Any (IsOctets (tag_or u octets_tag));
       may_allocate = true;
       same = λ v w. octets_of v ≡ octets_of w;
       encoding_under = λ u m v. octets_encoding (tag_or u octets_tag) m v.items;
@@ -77,8 +77,8 @@ impl Notation for BitString {
       tags_known = true;
       tags = bits_tag ∷ [];
       retagged = true;
-      under = λ u m n v b. IsBits n m (tag_or u bits_tag) (bits_in v) b;
-      any_under = λ u. Any (λ m n v b. IsBits n m (tag_or u bits_tag) v b);
+      under = λ u m n v b. IsBits (tag_or u bits_tag) m n (bits_in v) b;
+      any_under = λ u. Any (IsBits (tag_or u bits_tag));
       may_allocate = true;
       same = λ v w. bits_in v ≡ bits_in w;
       encoding_under = λ u m v. bits_encoding (tag_or u bits_tag) m (bits_in v);
@@ -116,8 +116,8 @@ impl Notation for String {
       tags_known = true;
       tags = utf8_tag ∷ [];
       retagged = true;
-      under = λ u m n v b. IsStringOf (IsUtf8In InUtf8) n m (tag_or u utf8_tag) (characters v) b;
-      any_under = λ u. Any (λ m n v b. IsStringOf (IsUtf8In InUtf8) n m (tag_or u utf8_tag) v b);
+      under = λ u m n v b. IsStringOf (IsUtf8In InUtf8) (tag_or u utf8_tag) m n (characters v) b;
+      any_under = λ u. Any (IsStringOf (IsUtf8In InUtf8) (tag_or u utf8_tag));
       may_allocate = true;
       same = λ v w. characters v ≡ characters w;
       encoding_under = λ u m v. utf8_encoding (tag_or u utf8_tag) m (characters v);
@@ -158,8 +158,8 @@ impl Notation for PrintableString {
       tags_known = true;
       tags = printable_tag ∷ [];
       retagged = true;
-      under = λ u m n v b. IsStringOf (IsUtf8In InPrintable) n m (tag_or u printable_tag) (characters v) b;
-      any_under = λ u. Any (λ m n v b. IsStringOf (IsUtf8In InPrintable) n m (tag_or u printable_tag) v b);
+      under = λ u m n v b. IsStringOf (IsUtf8In InPrintable) (tag_or u printable_tag) m n (characters v) b;
+      any_under = λ u. Any (IsStringOf (IsUtf8In InPrintable) (tag_or u printable_tag));
       may_allocate = true;
       same = λ v w. characters v ≡ characters w;
       encoding_under = λ u m v. utf8_encoding (tag_or u printable_tag) m (characters v);
@@ -200,8 +200,8 @@ impl Notation for Ia5String {
       tags_known = true;
       tags = ia5_tag ∷ [];
       retagged = true;
-      under = λ u m n v b. IsStringOf (IsUtf8In InIa5) n m (tag_or u ia5_tag) (characters v) b;
-      any_under = λ u. Any (λ m n v b. IsStringOf (IsUtf8In InIa5) n m (tag_or u ia5_tag) v b);
+      under = λ u m n v b. IsStringOf (IsUtf8In InIa5) (tag_or u ia5_tag) m n (characters v) b;
+      any_under = λ u. Any (IsStringOf (IsUtf8In InIa5) (tag_or u ia5_tag));
       may_allocate = true;
       same = λ v w. characters v ≡ characters w;
       encoding_under = λ u m v. utf8_encoding (tag_or u ia5_tag) m (characters v);
@@ -242,8 +242,8 @@ impl Notation for NumericString {
       tags_known = true;
       tags = numeric_tag ∷ [];
       retagged = true;
-      under = λ u m n v b. IsStringOf (IsUtf8In InNumeric) n m (tag_or u numeric_tag) (characters v) b;
-      any_under = λ u. Any (λ m n v b. IsStringOf (IsUtf8In InNumeric) n m (tag_or u numeric_tag) v b);
+      under = λ u m n v b. IsStringOf (IsUtf8In InNumeric) (tag_or u numeric_tag) m n (characters v) b;
+      any_under = λ u. Any (IsStringOf (IsUtf8In InNumeric) (tag_or u numeric_tag));
       may_allocate = true;
       same = λ v w. characters v ≡ characters w;
       encoding_under = λ u m v. utf8_encoding (tag_or u numeric_tag) m (characters v);
@@ -284,8 +284,8 @@ impl Notation for VisibleString {
       tags_known = true;
       tags = visible_tag ∷ [];
       retagged = true;
-      under = λ u m n v b. IsStringOf (IsUtf8In InVisible) n m (tag_or u visible_tag) (characters v) b;
-      any_under = λ u. Any (λ m n v b. IsStringOf (IsUtf8In InVisible) n m (tag_or u visible_tag) v b);
+      under = λ u m n v b. IsStringOf (IsUtf8In InVisible) (tag_or u visible_tag) m n (characters v) b;
+      any_under = λ u. Any (IsStringOf (IsUtf8In InVisible) (tag_or u visible_tag));
       may_allocate = true;
       same = λ v w. characters v ≡ characters w;
       encoding_under = λ u m v. utf8_encoding (tag_or u visible_tag) m (characters v);

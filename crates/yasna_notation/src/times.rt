@@ -28,8 +28,8 @@ impl Notation for UTCTime {
       tags_known = true;
       tags = utc_time_tag ∷ [];
       retagged = true;
-      under = λ u m n v b. IsStringOf SpellsUtcTime n m (tag_or u utc_time_tag) (utc_of v) b;
-      any_under = λ u. Any (λ m n v b. IsStringOf SpellsUtcTime n m (tag_or u utc_time_tag) v b);
+      under = λ u m n v b. IsStringOf SpellsUtcTime (tag_or u utc_time_tag) m n (utc_of v) b;
+      any_under = λ u. Any (IsStringOf SpellsUtcTime (tag_or u utc_time_tag));
       may_allocate = true;
       same = λ v w. utc_of v ≡ utc_of w;
       encoding_under = λ u m v. utc_time_encoding (tag_or u utc_time_tag) m (utc_of v);
@@ -67,8 +67,8 @@ impl Notation for GeneralizedTime {
       tags_known = true;
       tags = generalized_time_tag ∷ [];
       retagged = true;
-      under = λ u m n v b. IsStringOf SpellsGeneralizedTime n m (tag_or u generalized_time_tag) (moment_of v) b;
-      any_under = λ u. Any (λ m n v b. IsStringOf SpellsGeneralizedTime n m (tag_or u generalized_time_tag) v b);
+      under = λ u m n v b. IsStringOf SpellsGeneralizedTime (tag_or u generalized_time_tag) m n (moment_of v) b;
+      any_under = λ u. Any (IsStringOf SpellsGeneralizedTime (tag_or u generalized_time_tag));
       may_allocate = true;
       same = λ v w. moment_of v ≡ moment_of w;
       encoding_under = λ u m v. generalized_time_encoding (tag_or u generalized_time_tag) m (moment_of v);

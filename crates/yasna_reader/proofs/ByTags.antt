@@ -65,10 +65,10 @@ no_match_by t x s (Err e) s' fresh h = λ a. x.no_match s e s' fresh h
 
 -- a typed read under any tag decodes by it
 pub leaf_by_tag : {A : Type 0} (B : TaggedGrammar A) (t : Tag) → (t ≡ end_tag → ⊥) →
-    IsDecoderByTags (t ∷ []) false (λ m n v b. B n m t v b) (Any (λ m n v b. B n m t v b)) (Reads B NoLevel NeverAllocates t)
+    IsDecoderByTags (t ∷ []) false (B t) (Any (B t)) (Reads B NoLevel NeverAllocates t)
 leaf_by_tag B t not_end = record {
   decodes = λ s r s' fresh h. record {
-    decodes = may_allocate_decodes false B (λ v. v) NoLevel NeverAllocates (λ m n v b. B n m t v b) (Any (λ m n v b. B n m t v b)) t not_end (λ m n v b y. y)
+    decodes = may_allocate_decodes false B (λ v. v) NoLevel NeverAllocates (B t) (Any (B t)) t not_end (λ m n v b y. y)
         (λ m n b y. y) (λ n m z. no_level_at_end n m t z not_end) (λ _ _ _ y. y) (λ _ _ y. absurd y) s r s' fresh h;
     no_match = no_match_by t (leaf_no_match B t (Elsewhere t) (elsewhere_itself t not_end)) s r s' fresh h;
   };
@@ -76,11 +76,11 @@ leaf_by_tag B t not_end = record {
 
 -- a typed read that may allocate decodes by its tag, where an element that is too deep begins with the tag
 pub allocating_by_tag : {V A : Type 0} (B : TaggedGrammar A) (view : V → A) (D : TaggedMembers) (t : Tag) → (t ≡ end_tag → ⊥) →
-    ((n : ℕ) (m : BERMode) (s : List ℕ) → D n m t s → BeginsWithTag t s) →
-    IsDecoderByTags (t ∷ []) true (λ m n v b. B n m t (view v) b) (Any (λ m n v b. B n m t v b)) (ReadsSeen B view D MayAllocate t)
+    ((n : ℕ) (m : BERMode) (s : List ℕ) → D t m n s → BeginsWithTag t s) →
+    IsDecoderByTags (t ∷ []) true (λ m n v b. B t m n (view v) b) (Any (B t)) (ReadsSeen B view D MayAllocate t)
 allocating_by_tag B view D t not_end deep = record {
   decodes = λ s r s' fresh h. record {
-    decodes = may_allocate_decodes true B view D MayAllocate (λ m n v b. B n m t (view v) b) (Any (λ m n v b. B n m t v b)) t not_end (λ m n v b y. y)
+    decodes = may_allocate_decodes true B view D MayAllocate (λ m n v b. B t m n (view v) b) (Any (B t)) t not_end (λ m n v b y. y)
         (λ m n b y. y) (λ n m z a d. not_at_end t z not_end a (deep n m z d))
         (λ n z a w. not_at_end t z not_end a (begins w.bit (w.size ∷ w.after) w.joined)) (λ n z w. refl) s r s' fresh h;
     no_match = no_match_by t (allocating_no_match B view D t (Elsewhere t) deep (elsewhere_itself t not_end)) s r s' fresh h;
@@ -89,17 +89,17 @@ allocating_by_tag B view D t not_end deep = record {
 
 -- as one does of an element whose contents are copied
 pub leaf_with_memory_by_tag : {V A : Type 0} (B : TaggedGrammar A) (view : V → A) (t : Tag) → (t ≡ end_tag → ⊥) →
-    IsDecoderByTags (t ∷ []) true (λ m n v b. B n m t (view v) b) (Any (λ m n v b. B n m t v b)) (ReadsSeen B view NoLevel MayAllocate t)
+    IsDecoderByTags (t ∷ []) true (λ m n v b. B t m n (view v) b) (Any (B t)) (ReadsSeen B view NoLevel MayAllocate t)
 leaf_with_memory_by_tag B view t not_end = allocating_by_tag B view NoLevel t not_end (λ n m s d. d.1)
 
 -- a read of a string, whose segments may be elements, decodes by its tag
 pub string_by_tag : {V A : Type 0} (B : TaggedGrammar A) (view : V → A) (t : Tag) → (t ≡ end_tag → ⊥) →
-    IsDecoderByTags (t ∷ []) true (λ m n v b. B n m t (view v) b) (Any (λ m n v b. B n m t v b)) (ReadsSeen B view IsDeepOctets MayAllocate t)
+    IsDecoderByTags (t ∷ []) true (λ m n v b. B t m n (view v) b) (Any (B t)) (ReadsSeen B view IsDeepOctets MayAllocate t)
 string_by_tag B view t not_end = allocating_by_tag B view IsDeepOctets t not_end (λ n m s. deep_begins octets_segmentation n m t s)
 
 -- a read of a BIT STRING decodes by its tag
 pub bits_by_tag : (t : Tag) → (t ≡ end_tag → ⊥) →
-    IsDecoderByTags (t ∷ []) true (λ m n v b. IsBits n m t (bits_in v) b) (Any (λ m n v b. IsBits n m t v b))
+    IsDecoderByTags (t ∷ []) true (λ m n v b. IsBits t m n (bits_in v) b) (Any (IsBits t))
     (ReadsSeen IsBits bits_in IsDeepBits MayAllocate t)
 bits_by_tag t not_end = allocating_by_tag IsBits bits_in IsDeepBits t not_end (λ n m s. deep_begins bits_segmentation n m t s)
 

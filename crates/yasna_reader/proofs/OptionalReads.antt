@@ -32,10 +32,10 @@ part_elsewhere t u R range other starts m n c r i q =
     another u range other (begins_with u c r (subst (λ z. BeginsWithTag u z) (sym q.joined) prefix))
 
 module _ {V A : Type 0} (B : TaggedGrammar A) (view : V → A) (D : TaggedMembers)
-    (M : ℕ → Tag → List ℕ → Type 0) (t : Tag) (deep : (n : ℕ) (m : BERMode) (s : List ℕ) → D n m t s → BeginsWithTag t s)
+    (M : ℕ → Tag → List ℕ → Type 0) (t : Tag) (deep : (n : ℕ) (m : BERMode) (s : List ℕ) → D t m n s → BeginsWithTag t s)
     (memory : (n : ℕ) (s : List ℕ) → M n t s → BeginsWithTag t s) where
   rejected_no_match : (s : Reading) (e : ASN1Error) (s' : Reading) →
-      RejectedAs (B s.levels s.mode t) (D s.levels s.mode t s.left) (M s.levels t s.left) (IsElsewhere t s.left) s e s' → IsElsewhere t s.left → (s' ≡ s) × BlamesBytes (kind_of e)
+      RejectedAs (B t s.mode s.levels) (D t s.mode s.levels s.left) (M s.levels t s.left) (IsElsewhere t s.left) s e s' → IsElsewhere t s.left → (s' ≡ s) × BlamesBytes (kind_of e)
   rejected_no_match s e s' y other = (
     y.state ∙ ap (λ b. rejecting b s e) (y.rejects.consumed.1 other),
     blames_bytes_of (kind_of e) (λ i. begins_not_elsewhere (deep s.levels s.mode s.left (y.rejects.too_deep (y.kind ∙ i))) other)
@@ -43,7 +43,7 @@ module _ {V A : Type 0} (B : TaggedGrammar A) (view : V → A) (D : TaggedMember
   )
 
   fresh_rejected : (s : Reading) (e : ASN1Error) (s' : Reading) → IsFresh s → ReadsSeen B view D M t s (Err e) s' →
-      RejectedAs (B s.levels s.mode t) (D s.levels s.mode t s.left) (M s.levels t s.left) (IsElsewhere t s.left) s e s'
+      RejectedAs (B t s.mode s.levels) (D t s.mode s.levels s.left) (M s.levels t s.left) (IsElsewhere t s.left) s e s'
   fresh_rejected s e s' f x =
       let y = subst (λ k. UnlessFailed {A = V} k s (Err e) s' (ReadsTyped B view D M (tag_of s t) s (Err e) s')) f.0 x.reads in
       subst (λ u. ReadsTyped B view D M (tag_or u t) s (Err e) s') f.1 y
@@ -61,6 +61,6 @@ leaf_no_match B t Q = no_match_elsewhere B (λ v. v) NoLevel NeverAllocates t (�
 
 -- a read that may allocate has no match before another tag, where an element that is too deep begins with the read's tag
 pub allocating_no_match : {V A : Type 0} (B : TaggedGrammar A) (view : V → A) (D : TaggedMembers) (t : Tag)
-    (Q : Members) → ((n : ℕ) (m : BERMode) (s : List ℕ) → D n m t s → BeginsWithTag t s) → StartsElsewhere t Q →
+    (Q : Members) → ((n : ℕ) (m : BERMode) (s : List ℕ) → D t m n s → BeginsWithTag t s) → StartsElsewhere t Q →
     NoMatchBefore (ReadsSeen B view D MayAllocate t) Q
 allocating_no_match B view D t Q deep = no_match_elsewhere B view D MayAllocate t deep (λ n s w. begins w.bit (w.size ∷ w.after) w.joined) Q

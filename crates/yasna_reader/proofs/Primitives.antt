@@ -32,10 +32,10 @@ committed B view D M E s (Err x) (Err e) s' a b =
 -- what was found with the fields of a reading was found for the reading
 pub at_view : {V A : Type 0} (B : TaggedGrammar A) (view : V → A) (D : TaggedMembers)
     (M : ℕ → Tag → List ℕ → Type 0) (tag u : Tag) (z s : Reading) (r : Result (V × Bor (List ℕ)) Rejection) → z ≡ s → u ≡ tag_of s tag →
-    SeenAt (B z.levels z.mode u) view (D z.levels z.mode u z.left) (M z.levels u z.left) (IsElsewhere u z.left) z.left r → ParsesAs B view D M tag s r
+    SeenAt (B u z.mode z.levels) view (D u z.mode z.levels z.left) (M z.levels u z.left) (IsElsewhere u z.left) z.left r → ParsesAs B view D M tag s r
 at_view B view D M tag u z s r e f x =
-    let y = subst (λ u. SeenAt (B z.levels z.mode u) view (D z.levels z.mode u z.left) (M z.levels u z.left) (IsElsewhere u z.left) z.left r) f x in
-    subst (λ z. SeenAt (B z.levels z.mode (tag_of s tag)) view (D z.levels z.mode (tag_of s tag) z.left) (M z.levels (tag_of s tag) z.left)
+    let y = subst (λ u. SeenAt (B u z.mode z.levels) view (D u z.mode z.levels z.left) (M z.levels u z.left) (IsElsewhere u z.left) z.left r) f x in
+    subst (λ z. SeenAt (B (tag_of s tag) z.mode z.levels) view (D (tag_of s tag) z.mode z.levels z.left) (M z.levels (tag_of s tag) z.left)
     (IsElsewhere (tag_of s tag) z.left) z.left r) e y
 
 -- what was found at the start, with the reading settled, is what a typed read does
@@ -44,7 +44,7 @@ pub reads_prefix : {V A : Type 0} (B : TaggedGrammar A) (view : V → A) (D : Ta
     s.failed ≡ None → ParsesAs B view D M tag s f → Commits s f r s' → ReadsSeen B view D M tag s r s'
 reads_prefix B view D M tag s f r s' e a b = record {
   reads = subst (λ k. UnlessFailed k s r s' (ReadsTyped B view D M (tag_of s tag) s r s')) (sym e)
-      (committed (B s.levels s.mode (tag_of s tag)) view (D s.levels s.mode (tag_of s tag) s.left) (M s.levels (tag_of s tag) s.left)
+      (committed (B (tag_of s tag) s.mode s.levels) view (D (tag_of s tag) s.mode s.levels s.left) (M s.levels (tag_of s tag) s.left)
       (IsElsewhere (tag_of s tag) s.left) s f r s' a b);
 }
 
@@ -64,7 +64,7 @@ fresh B view D M t s r s' f x =
     subst (λ u. ReadsTyped B view D M (tag_or u t) s r s') f.1 y
 
 -- nothing is too deep at an end
-pub no_level_at_end : (n : ℕ) (m : BERMode) (t : Tag) (s : List ℕ) → (t ≡ end_tag → ⊥) → AtEnd s → NoLevel n m t s → ⊥
+pub no_level_at_end : (n : ℕ) (m : BERMode) (t : Tag) (s : List ℕ) → (t ≡ end_tag → ⊥) → AtEnd s → NoLevel t m n s → ⊥
 no_level_at_end n m t s o a x = not_at_end t s o a x.1
 
 left_as : (b : Bool) (s : Reading) (e : ASN1Error) → (rejecting b s e).left ≡ s.left
@@ -83,10 +83,10 @@ stays s e = ap (λ t. record s { tag = t }) (sym e)
 -- or allocates, and asks says whether it may allocate.
 module _ {V A : Type 0} (may_allocate : Bool) (B : TaggedGrammar A) (view : V → A) (D : TaggedMembers)
     (M : ℕ → Tag → List ℕ → Type 0) (B' : Grammar V) (S' : Members) (t : Tag) (other : t ≡ end_tag → ⊥)
-    (obeys : (m : BERMode) (n : ℕ) (v : V) (b : List ℕ) → B n m t (view v) b → B' m n v b)
-    (may_allocate_by : (m : BERMode) (n : ℕ) (b : List ℕ) → S' m n b → (v : A) × B n m t v b) (deep : (n : ℕ) (m : BERMode) (s : List ℕ) → AtEnd s → D n m t s → ⊥)
+    (obeys : (m : BERMode) (n : ℕ) (v : V) (b : List ℕ) → B t m n (view v) b → B' m n v b)
+    (may_allocate_by : (m : BERMode) (n : ℕ) (b : List ℕ) → S' m n b → (v : A) × B t m n v b) (deep : (n : ℕ) (m : BERMode) (s : List ℕ) → AtEnd s → D t m n s → ⊥)
     (memory : (n : ℕ) (s : List ℕ) → AtEnd s → M n t s → ⊥) (may : (n : ℕ) (s : List ℕ) → M n t s → may_allocate ≡ true) where
-  typed_parsed : (s : Reading) (v : V) (s' : Reading) → s.tag ≡ None → ReadsPrefix (B s.levels s.mode t) s (view v) s' → ParsedValue (B' s.mode s.levels) s v s'
+  typed_parsed : (s : Reading) (v : V) (s' : Reading) → s.tag ≡ None → ReadsPrefix (B t s.mode s.levels) s (view v) s' → ParsedValue (B' s.mode s.levels) s v s'
   typed_parsed s v s' f y = record {
     prefix = y.takes.prefix;
     rest = y.rest;
@@ -95,7 +95,7 @@ module _ {V A : Type 0} (may_allocate : Bool) (B : TaggedGrammar A) (view : V �
     left = y.state ∙ ap {A = Reading} (λ z. record z { left = y.rest }) (stays s f);
   }
 
-  explains : (s : Reading) (e : ASN1Error) (s' : Reading) → RejectedAs (B s.levels s.mode t) (D s.levels s.mode t s.left) (M s.levels t s.left) (IsElsewhere t s.left) s e s' →
+  explains : (s : Reading) (e : ASN1Error) (s' : Reading) → RejectedAs (B t s.mode s.levels) (D t s.mode s.levels s.left) (M s.levels t s.left) (IsElsewhere t s.left) s e s' →
       Explains may_allocate (S' s.mode s.levels) s.left e
   explains s e s' y = record {
     none = λ h b z g w. let a = may_allocate_by s.mode s.levels b w in
@@ -109,7 +109,7 @@ module _ {V A : Type 0} (may_allocate : Bool) (B : TaggedGrammar A) (view : V �
   rejecting_untagged false s e f = refl
 
   typed_rejected : (s : Reading) (e : ASN1Error) (s' : Reading) → IsFresh s →
-      RejectedAs (B s.levels s.mode t) (D s.levels s.mode t s.left) (M s.levels t s.left) (IsElsewhere t s.left) s e s' → NotParsed may_allocate (S' s.mode s.levels) s e s'
+      RejectedAs (B t s.mode s.levels) (D t s.mode s.levels s.left) (M s.levels t s.left) (IsElsewhere t s.left) s e s' → NotParsed may_allocate (S' s.mode s.levels) s e s'
   typed_rejected s e s' f y =
       let i = ap (λ z. length z.left) y.state in
       let j = ap length (left_as y.rejection.consumed s e) in
@@ -122,7 +122,7 @@ module _ {V A : Type 0} (may_allocate : Bool) (B : TaggedGrammar A) (view : V �
       }
 
   no_match : (s : Reading) (e : ASN1Error) (s' : Reading) →
-      RejectedAs (B s.levels s.mode t) (D s.levels s.mode t s.left) (M s.levels t s.left) (IsElsewhere t s.left) s e s' → NoMatchAtEnd s e s'
+      RejectedAs (B t s.mode s.levels) (D t s.mode s.levels s.left) (M s.levels t s.left) (IsElsewhere t s.left) s e s' → NoMatchAtEnd s e s'
   no_match s e s' y a = (
     y.state ∙ ap (λ b. rejecting b s e) (y.rejects.consumed.1 (at_end_elsewhere t s.left other a)),
     blames_bytes_of (kind_of e) (λ i. deep s.levels s.mode s.left a (y.rejects.too_deep (y.kind ∙ i))) (λ i. memory s.levels s.left a (y.rejects.memory (y.kind ∙ i))),
@@ -140,17 +140,17 @@ module _ {V A : Type 0} (may_allocate : Bool) (B : TaggedGrammar A) (view : V �
 -- a typed read under the type's own tag that goes one level down and takes no memory decodes
 pub leaf_decodes : {A : Type 0} (B : TaggedGrammar A) (k : ℕ) → (k ≡ 0 → ⊥) → (s : Reading) (r : Result A ASN1Error) (s' : Reading) →
     s.tag ≡ None → Reads B NoLevel NeverAllocates (universal k) s r s' → s.failed ≡ None →
-    Decodes false (λ m n v b. B n m (universal k) v b) (Any (λ m n v b. B n m (universal k) v b)) s r s'
+    Decodes false (B (universal k)) (Any (B (universal k))) s r s'
 leaf_decodes B k h s r s' t x f =
-    may_allocate_decodes false B (λ v. v) NoLevel NeverAllocates (λ m n v b. B n m (universal k) v b) (Any (λ m n v b. B n m (universal k) v b)) (universal k) (not_end k h)
+    may_allocate_decodes false B (λ v. v) NoLevel NeverAllocates (B (universal k)) (Any (B (universal k))) (universal k) (not_end k h)
     (λ m n v b y. y) (λ m n b y. y) (λ n m z. no_level_at_end n m (universal k) z (not_end k h)) (λ _ _ _ y. y) (λ _ _ y. absurd y) s r s' (f, t) x
 
 -- a typed read that may allocate decodes under the type's own tag, where an element that is too deep begins with that tag
 pub allocating_decodes : {V A : Type 0} (B : TaggedGrammar A) (view : V → A) (D : TaggedMembers) (k : ℕ) →
-    (k ≡ 0 → ⊥) → ((n : ℕ) (m : BERMode) (s : List ℕ) → D n m (universal k) s → BeginsWithTag (universal k) s) → (s : Reading) (r : Result V ASN1Error)
+    (k ≡ 0 → ⊥) → ((n : ℕ) (m : BERMode) (s : List ℕ) → D (universal k) m n s → BeginsWithTag (universal k) s) → (s : Reading) (r : Result V ASN1Error)
     (s' : Reading) → s.tag ≡ None → ReadsSeen B view D MayAllocate (universal k) s r s' → s.failed ≡ None →
-    Decodes true (λ m n v b. B n m (universal k) (view v) b) (Any (λ m n v b. B n m (universal k) v b)) s r s'
+    Decodes true (λ m n v b. B (universal k) m n (view v) b) (Any (B (universal k))) s r s'
 allocating_decodes B view D k h begins_so s r s' t x f =
-    may_allocate_decodes true B view D MayAllocate (λ m n v b. B n m (universal k) (view v) b) (Any (λ m n v b. B n m (universal k) v b)) (universal k) (not_end k h)
+    may_allocate_decodes true B view D MayAllocate (λ m n v b. B (universal k) m n (view v) b) (Any (B (universal k))) (universal k) (not_end k h)
     (λ m n v b y. y) (λ m n b y. y) (λ n m z a d. not_at_end (universal k) z (not_end k h) a (begins_so n m z d))
     (λ n z a w. not_at_end (universal k) z (not_end k h) a (begins w.bit (w.size ∷ w.after) w.joined)) (λ n z w. refl) s r s' (f, t) x

@@ -59,7 +59,7 @@ same_tags n m (x ∷ l) (v ∷ vs) h = ap₂ (λ t ts. t ∷ ts) h.0.tag (same_t
 
 -- elements are the pieces that represent their values
 pieces_of : (n : ℕ) (m : BERMode) (l : List SetElement) (vs : List RawValue) → Each (IsElementOf n m) l vs →
-    Each (IsRaw n m) vs (map (λ (x : SetElement). x.bytes.now) l) × Each (IsListed n m) l (map (λ (x : SetElement). x.bytes.now) l)
+    Each (IsRaw m n) vs (map (λ (x : SetElement). x.bytes.now) l) × Each (IsListed n m) l (map (λ (x : SetElement). x.bytes.now) l)
 pieces_of n m [] [] h = (tt, tt)
 pieces_of n m [] (v ∷ vs) h = absurd h
 pieces_of n m (x ∷ l) [] h = absurd h
@@ -81,7 +81,7 @@ values_of n m (x ∷ l) (b ∷ bs) h =
     let w = values_of n m l bs h.1 in
     record {
       values = h.0.value ∷ w.values;
-      each = (record { tag = h.0.tag; raw = subst (λ z. IsRaw n m h.0.value z) (sym h.0.bytes) h.0.raw }, w.each);
+      each = (record { tag = h.0.tag; raw = subst (λ z. IsRaw m n h.0.value z) (sym h.0.bytes) h.0.raw }, w.each);
       bytes = ap₂ (λ c cs. c ∷ cs) h.0.bytes w.bytes;
     }
 
@@ -129,7 +129,7 @@ record Elements (n : ℕ) (m : BERMode) (vs : List RawValue) (bs : List (List �
   each : Each (IsElementOf n m) elements vs
   bytes : map (λ (x : SetElement). x.bytes.now) elements ≡ bs
 
-elements_of : (n : ℕ) (m : BERMode) (vs : List RawValue) (bs : List (List ℕ)) → Each (IsRaw n m) vs bs → Elements n m vs bs
+elements_of : (n : ℕ) (m : BERMode) (vs : List RawValue) (bs : List (List ℕ)) → Each (IsRaw m n) vs bs → Elements n m vs bs
 elements_of n m [] [] h = record { elements = []; each = tt; bytes = refl }
 elements_of n m [] (b ∷ bs) h = absurd h
 elements_of n m (v ∷ vs) [] h = absurd h
@@ -195,7 +195,7 @@ values_of_same n m [] (y ∷ k) vs h i = absurd h
 values_of_same n m (x ∷ l) [] vs h i = absurd h
 values_of_same n m (x ∷ l) (y ∷ k) [] h i = absurd i
 values_of_same n m (x ∷ l) (y ∷ k) (v ∷ vs) h i = (
-  record { tag = h.0.tag ∙ i.0.tag; raw = subst (λ b. IsRaw n m v b) (sym h.0.bytes) i.0.raw },
+  record { tag = h.0.tag ∙ i.0.tag; raw = subst (λ b. IsRaw m n v b) (sym h.0.bytes) i.0.raw },
   values_of_same n m l k vs h.1 i.1,
 )
 

@@ -30,8 +30,8 @@ none_listed n m c = record { prefix = []; elements = no_pieces; joined = refl }
 pub listed_more : (n k : ℕ) (m o : BERMode) (l : List SetElement) (c y z : List ℕ) (x : SetElement) (e : RawElement) (r : List ℕ) → Listed n m l c y →
     o ≡ m → k ≡ n → TakesRaw o k y e r → x.tag ≡ e.tag → x.bytes.now ≡ e.bytes.now → z ≡ r → Listed n m (l ++ (x ∷ [])) c z
 listed_more n k m o l c y z x e r h i j t a b f =
-    let raw : IsRaw n m (element_of e) e.bytes.now =
-    subst (λ u. IsRaw u m (element_of e) e.bytes.now) j (subst (λ u. IsRaw k u (element_of e) e.bytes.now) i t.raw) in
+    let raw : IsRaw m n (element_of e) e.bytes.now =
+    subst (λ u. IsRaw m u (element_of e) e.bytes.now) j (subst (λ u. IsRaw u k (element_of e) e.bytes.now) i t.raw) in
     record {
       prefix = h.prefix ++ e.bytes.now;
       elements = pieces_append l (x ∷ []) h.prefix e.bytes.now h.elements
@@ -48,10 +48,10 @@ listed_smaller k o y z e r t f =
 pub listed_prefix_free : (n : ℕ) (m : BERMode) (x w : SetElement) (b c r s : List ℕ) → IsListed n m x b → IsListed n m w c → b ++ r ≡ c ++ s → b ≡ c
 listed_prefix_free n m x w b c r s h k e = (raw_exact n n m h.value k.value b c r s h.raw k.raw e).1
 
-raw_prefix_free : (n : ℕ) (m : BERMode) (x : SetElement) (v : RawValue) (b c r s : List ℕ) → IsListed n m x b → IsRaw n m v c → b ++ r ≡ c ++ s → b ≡ c
+raw_prefix_free : (n : ℕ) (m : BERMode) (x : SetElement) (v : RawValue) (b c r s : List ℕ) → IsListed n m x b → IsRaw m n v c → b ++ r ≡ c ++ s → b ≡ c
 raw_prefix_free n m x v b c r s h k e = (raw_exact n n m h.value v b c r s h.raw k e).1
 
-each_raw : (n : ℕ) (m : BERMode) (l : List SetElement) (bs : List (List ℕ)) → Each (IsListed n m) l bs → (vs : List RawValue) × Each (IsRaw n m) vs bs
+each_raw : (n : ℕ) (m : BERMode) (l : List SetElement) (bs : List (List ℕ)) → Each (IsListed n m) l bs → (vs : List RawValue) × Each (IsRaw m n) vs bs
 each_raw n m [] [] h = ([], tt)
 each_raw n m [] (b ∷ bs) h = absurd h
 each_raw n m (x ∷ l) [] h = absurd h
@@ -62,7 +62,7 @@ pub not_listed : (n k : ℕ) (m o : BERMode) (l : List SetElement) (c y : List �
     e.consumed ≡ true → NotListed n m c e.kind
 not_listed n k m o l c y e h i j t consumed =
     let u : RejectsRaw m n y e = subst (λ w. RejectsRaw m w y e) j (subst (λ w. RejectsRaw w k y e) i t) in
-    let stop : NoPrefix (IsRaw n m) y = λ v b r p q. u.none (v, r, record { prefix = b; joined = q; member = p }) in
+    let stop : NoPrefix (IsRaw m n) y = λ v b r p q. u.none (v, r, record { prefix = b; joined = q; member = p }) in
     record {
       none = λ _ ws z a.
           let x = a.listed in
@@ -86,13 +86,13 @@ not_listed n k m o l c y e h i j t consumed =
           let at = deep_not_raw n m d.rest d.deep in
           let same = pieces_once (raw_prefix_free n m) l d.values h.prefix d.prefix y d.rest h.elements d.pieces stop
           (λ v b r p q. at p.value b r p.raw q) (sym h.joined ∙ d.joined) in
-          u.deep.1 (subst (λ w. IsDeepRaw n m w) (sym same.1) d.deep);
+          u.deep.1 (subst (λ w. IsDeepRaw m n w) (sym same.1) d.deep);
       memory = λ q. absurd (u.no_memory q);
     }
 
 -- the first of these elements, or the one after them, is at the start
 first_is_there : (n : ℕ) (m : BERMode) (l : List SetElement) (bs : List (List ℕ)) (y c : List ℕ) (v : RawValue) (b r : List ℕ) → Each (IsListed n m) l bs →
-    c ≡ concat bs ++ y → IsRaw n m v b → y ≡ b ++ r → HasPrefix (IsRaw n m) c
+    c ≡ concat bs ++ y → IsRaw m n v b → y ≡ b ++ r → HasPrefix (IsRaw m n) c
 first_is_there n m [] [] y c v b r h e p q = (v, r, record { prefix = b; joined = e ∙ q; member = p })
 first_is_there n m [] (d ∷ ds) y c v b r h e p q = absurd h
 first_is_there n m (x ∷ l) [] y c v b r h e p q = absurd h
@@ -103,8 +103,8 @@ first_is_there n m (x ∷ l) (d ∷ ds) y c v b r h e p q =
 pub out_of_memory_for_list : (n k : ℕ) (m o : BERMode) (l : List SetElement) (c y : List ℕ) (e : RawElement) (r : List ℕ) → Listed n m l c y → o ≡ m → k ≡ n →
     TakesRaw o k y e r → NotListed n m c OutOfMemory
 out_of_memory_for_list n k m o l c y e r h i j t =
-    let raw : IsRaw n m (element_of e) e.bytes.now =
-    subst (λ u. IsRaw u m (element_of e) e.bytes.now) j (subst (λ u. IsRaw k u (element_of e) e.bytes.now) i t.raw) in
+    let raw : IsRaw m n (element_of e) e.bytes.now =
+    subst (λ u. IsRaw m u (element_of e) e.bytes.now) j (subst (λ u. IsRaw u k (element_of e) e.bytes.now) i t.raw) in
     record {
       none = λ q. absurd (q refl);
       too_deep = λ g. absurd (cc);

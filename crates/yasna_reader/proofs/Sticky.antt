@@ -2,9 +2,8 @@
 use Rattle.std.proofs.Common.{ℕ, List, subst}
 use Rattle.std.specs.Prelude.{Result}
 use Rattle.yasna_base.specs.declared.error.ASN1Error.{ASN1Error}
-use Rattle.yasna_base.specs.declared.mode.BERMode.{BERMode}
 use Rattle.yasna_base.specs.declared.tag.Tag.{Tag}
-use Rattle.yasna_base.specs.Grammar.{TaggedGrammar, TaggedMembers}
+use Rattle.yasna_base.specs.Grammar.{Grammar, TaggedGrammar, TaggedMembers}
 use Rattle.yasna_reader.specs.Decodes.{RepeatsError}
 use Rattle.yasna_reader.specs.Primitive.{ReadsSeen, ReadsTyped}
 use Rattle.yasna_reader.specs.Raw.{ReadsRaw, ReadsRawAt}
@@ -18,7 +17,7 @@ seen_repeats_error {B} {view} {D} {M} {tag} {s} {r} {s'} h e k =
     subst (λ o. UnlessFailed o s r s' (ReadsTyped B view D M (tag_of s tag) s r s')) k h.reads
 
 -- of a raw element
-pub raw_repeats_error : {V A : Type 0} {B : ℕ → BERMode → A → List ℕ → Type 0} {view : V → A} {s : Reading} {r : Result V ASN1Error} {s' : Reading} →
+pub raw_repeats_error : {V A : Type 0} {B : Grammar A} {view : V → A} {s : Reading} {r : Result V ASN1Error} {s' : Reading} →
     ReadsRaw B view s r s' → RepeatsError s r s'
 raw_repeats_error {B} {view} {s} {r} {s'} h e k = subst (λ o. UnlessFailed o s r s' (ReadsRawAt B view s r s')) k h.reads
 

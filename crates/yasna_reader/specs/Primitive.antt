@@ -32,7 +32,7 @@ ReadsAt B view Deep MayAllocate Elsewhere s (Err e) s' = RejectedAs B Deep MayAl
 -- `ReadsAt` of an element of a tag, within the levels and in the mode of the reading
 abbrev pub ReadsTyped : {V A : Type 0} → TaggedGrammar A → (V → A) → TaggedMembers → (ℕ → Tag → List ℕ → Type 0) → Tag → Does V
 ReadsTyped B view D M t s =
-    ReadsAt (B s.levels s.mode t) view (D s.levels s.mode t s.left) (M s.levels t s.left) (IsElsewhere t s.left) s
+    ReadsAt (B t s.mode s.levels) view (D t s.mode s.levels s.left) (M s.levels t s.left) (IsElsewhere t s.left) s
 
 -- what a prefix that is parsed does to a reading
 abbrev pub Commits : {A : Type 0} → Reading → Result (A × Bor (List ℕ)) Rejection → Result A ASN1Error → Reading → Type 0
@@ -42,7 +42,7 @@ Commits s (Err e) r s' = (r ≡ Err (error_of e.kind)) × (s' ≡ rejecting e.co
 -- What a typed read parses. B: the prefixes that it accepts; D: where they are too deep; M: whether it may allocate
 abbrev pub ParsesAs : {V A : Type 0} → TaggedGrammar A → (V → A) → TaggedMembers →
     (ℕ → Tag → List ℕ → Type 0) → Tag → Reading → Result (V × Bor (List ℕ)) Rejection → Type 0
-ParsesAs B view D M tag s r = SeenAt (B s.levels s.mode (tag_of s tag)) view (D s.levels s.mode (tag_of s tag) s.left) (M s.levels (tag_of s tag) s.left)
+ParsesAs B view D M tag s r = SeenAt (B (tag_of s tag) s.mode s.levels) view (D (tag_of s tag) s.mode s.levels s.left) (M s.levels (tag_of s tag) s.left)
     (IsElsewhere (tag_of s tag) s.left) s.left r
 
 -- A typed read of values, of which view is seen. With a sticky error it returns that, and consumes nothing. Else Ok consumes a prefix
@@ -59,4 +59,4 @@ Reads B D M tag s r s' = ReadsSeen B (λ v. v) D M tag s r s'
 
 -- depth of a read that goes one level down
 abbrev pub NoLevel : TaggedMembers
-NoLevel n m t s = IsTooDeep n t s
+NoLevel t m n s = IsTooDeep n t s

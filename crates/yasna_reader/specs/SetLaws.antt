@@ -23,7 +23,7 @@ use Rattle.yasna_reader.specs.declared.set.SetElement.{SetElement}
 -- within n levels, x is an element of the raw value v: its tag, and bytes that encode it
 pub record IsElementOf (n : ℕ) (m : BERMode) (x : SetElement) (v : RawValue) : Type 0 where
   pub tag : x.tag ≡ v.tag
-  pub raw : IsRaw n m v x.bytes.now
+  pub raw : IsRaw m n v x.bytes.now
 
 -- two elements have one tag and the same bytes
 pub record IsSameElement (x y : SetElement) : Type 0 where

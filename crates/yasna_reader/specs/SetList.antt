@@ -20,7 +20,7 @@ use Rattle.yasna_reader.specs.declared.set.Unlisted.{Unlisted}
 -- within n levels, b is a raw element, and x what was listed of it: its tag and these very bytes
 pub record IsListed (n : ℕ) (m : BERMode) (x : SetElement) (b : List ℕ) : Type 0 where
   pub value : RawValue
-  pub raw : IsRaw n m value b
+  pub raw : IsRaw m n value b
   pub tag : x.tag ≡ value.tag
   pub bytes : x.bytes.now ≡ b
 
@@ -47,7 +47,7 @@ pub record NotListed (n : ℕ) (m : BERMode) (c : List ℕ) (k : ASN1ErrorKind) 
   pub none : (k ≡ OutOfMemory → ⊥) → (l : List SetElement) (y : List ℕ) → ListsAll n m l c y → ⊥
   pub too_deep : k ≡ StackOverflow → MeetsDeep n m c
   pub deep : (k ≡ OutOfMemory → ⊥) → MeetsDeep n m c → k ≡ StackOverflow
-  pub memory : k ≡ OutOfMemory → HasPrefix (IsRaw n m) c
+  pub memory : k ≡ OutOfMemory → HasPrefix (IsRaw m n) c
 
 -- what listing elements returns, by its case
 abbrev pub ElementsAt : ℕ → BERMode → List ℕ → Result (Vec SetElement Global × Bor (List ℕ)) Unlisted → Type 0

@@ -2,6 +2,7 @@
 //! reader.
 ghost use Rattle.std.specs.Prelude.{ℕ, List, IfOk, ◌≡◌};
 ghost use Rattle.yasna_base.specs.declared.mode.BERMode.{BERMode};
+ghost use Rattle.yasna_base.specs.Grammar.{Grammar};
 ghost use Rattle.yasna_base.specs.Raw.{RawValue, IsRaw};
 ghost use Rattle.yasna_base.specs.TaggedDerValue.{raw_of};
 ghost use Rattle.yasna_reader.specs.Raw.{IsWhole, CopiedAt, value_of_pieces};
@@ -23,12 +24,12 @@ trait Copied: Sized {
 
     ghost view: { Self → Seen };
 
-    ghost copies: { ℕ → BERMode → Seen → List ℕ → Type 0 };
+    ghost copies: { Grammar Seen };
 
     fn of_element(alloc: Global, element: &RawElement<'_>) -> Result<Self, AllocError>
-        ensures { IfOk result (λ v. (n : ℕ) (m : BERMode) → IsRaw n m (element_of element.now) element.now.bytes.now → copies n m (view v) element.now.bytes.now) };
+        ensures { IfOk result (λ v. (n : ℕ) (m : BERMode) → IsRaw m n (element_of element.now) element.now.bytes.now → copies m n (view v) element.now.bytes.now) };
 
-    ghost element: { (n : ℕ) (m : BERMode) (v : Seen) (b : List ℕ) → copies n m v b → (x : RawValue) × IsRaw n m x b };
+    ghost element: { (n : ℕ) (m : BERMode) (v : Seen) (b : List ℕ) → copies m n v b → (x : RawValue) × IsRaw m n x b };
 }
 
 // A raw element's tag, bit and payload, one beside the other: a `TaggedDerValue` is moved with its padding, as words that

@@ -18,7 +18,7 @@ use Rattle.yasna_times.proofs.Times.{general_moment}
 use Rattle.yasna_times.proofs.UtcTime.{utc_spells_one, utc_spells_can, utc_spells_canonical, utc_spells_only, utc_text_bytes}
 
 utc_time_written : (t : Tag) → t.tag_number < 2 ^ 64 →
-    IsWritten (λ v w. v ≡ w) (λ m n v b. IsStringOf SpellsUtcTime n m t v b) (utc_time_encoding t) utc_time_depth IsUtcDateTime
+    IsWritten (λ v w. v ≡ w) (IsStringOf SpellsUtcTime t) (utc_time_encoding t) utc_time_depth IsUtcDateTime
 utc_time_written t range = string_written SpellsUtcTime IsUtcDateTime utc_text t range (λ v can. utc_text_bytes v) utc_spells_canonical
     (λ m v c h bytes x. utc_spells_only m v c h x) (λ m v c bytes x. utc_spells_can m v c x)
 
@@ -27,7 +27,7 @@ pub utc_time_keeps : UtcTimeKeepsLaws
 utc_time_keeps t not_end range = (string_coding SpellsUtcTime utc_spells_one t not_end, utc_time_written t range)
 
 generalized_time_written : (t : Tag) → t.tag_number < 2 ^ 64 →
-    IsWritten (λ v w. v ≡ w) (λ m n v b. IsStringOf SpellsGeneralizedTime n m t v b) (generalized_time_encoding t) generalized_time_depth IsGeneralMoment
+    IsWritten (λ v w. v ≡ w) (IsStringOf SpellsGeneralizedTime t) (generalized_time_encoding t) generalized_time_depth IsGeneralMoment
 generalized_time_written t range = string_written SpellsGeneralizedTime IsGeneralMoment general_text t range general_text_bytes general_spells_canonical
     (λ m v c h bytes x. general_spells_only m v c h x) (λ m v c bytes x. general_spells_can m v c x)
 

@@ -145,7 +145,7 @@ pub record SpellsGeneralizedTime (m : BERMode) (v : Moment) (s : List ℕ) : Typ
 
 -- the type's grammar under its own tag
 abbrev pub EncodesGeneralizedTime : Grammar Moment
-EncodesGeneralizedTime m n v b = IsStringOf SpellsGeneralizedTime n m generalized_time_tag v b
+EncodesGeneralizedTime = IsStringOf SpellsGeneralizedTime generalized_time_tag
 
 -- the encoding in a canonical mode
 abbrev pub generalized_time_encoding : Tag → Encoding Moment

@@ -74,7 +74,7 @@ pub record SpellsUtcTime (m : BERMode) (utc : DateTime) (s : List ℕ) : Type 0 
 
 -- the type's grammar under its own tag
 abbrev pub EncodesUtcTime : Grammar DateTime
-EncodesUtcTime m n v b = IsStringOf SpellsUtcTime n m utc_time_tag v b
+EncodesUtcTime = IsStringOf SpellsUtcTime utc_time_tag
 
 -- the encoding in a canonical mode
 abbrev pub utc_time_encoding : Tag → Encoding DateTime

@@ -42,7 +42,7 @@ pair_encoding m v = enclosed_encoding (part_encoding (integer_encoding integer_t
 
 -- a SEQUENCE OF INTEGER
 abbrev pub EncodesIntegers : Grammar (List ℤ)
-EncodesIntegers m n v b = IsListOf (EncodesSigned w64) sequence_tag m n v b
+EncodesIntegers = IsListOf (EncodesSigned w64) sequence_tag
 
 -- its encoding
 abbrev pub integers_encoding : Encoding (List ℤ)

@@ -11,7 +11,7 @@ returns-in-Ok-clause-decodes t c failed =
     let s = c.args.reader.now in
     let s' = c.collect_sequence_of.new.self in
     let h = list_by (nested_coding branches_of) (decodes_by {may_allocate = true}) (failed, c.requires) c.collect_sequence_of.ensures (λ f f' p q x h. search rules) in
-    subst (λ z. Decodes true (λ m n v b. IsNested branches_of n m v b) (λ m n b. AnyNested n m b) s (seen tree_of z) s') c.in-Ok.is
+    subst (λ z. Decodes true (IsNested branches_of) AnyNested s (seen tree_of z) s') c.in-Ok.is
     (tree_read s c.collect_sequence_of.result s' h)
 
 pub returns-in-Err-clause-decodes : goal.returns-in-Err-clause-decodes
@@ -19,5 +19,5 @@ returns-in-Err-clause-decodes t c failed =
     let s = c.args.reader.now in
     let s' = c.collect_sequence_of.new.self in
     let h = list_by (nested_coding branches_of) (decodes_by {may_allocate = true}) (failed, c.requires) c.collect_sequence_of.ensures (λ f f' p q x h. search rules) in
-    subst (λ z. Decodes true (λ m n v b. IsNested branches_of n m v b) (λ m n b. AnyNested n m b) s (seen tree_of z) s') c.in-Err.is
+    subst (λ z. Decodes true (IsNested branches_of) AnyNested s (seen tree_of z) s') c.in-Err.is
     (tree_read s c.collect_sequence_of.result s' h)

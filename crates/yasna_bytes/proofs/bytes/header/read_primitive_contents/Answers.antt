@@ -11,7 +11,7 @@ returns-in-Definite c =
     let p = c.args.cursor in
     let w = c.in-Ok.ensures {u = tt} in
     let o : OpensAt p.mode c.args.tag c.in-Ok.opened.bit p.left.now c.in-Ok.opened.contents (definite_end c.in-Definite.after.now) = search rules in
-    subst (λ z. Takes (IsPrimitive AreContents p.levels p.mode c.args.tag) p.left.now z c.in-Definite.after.now) (sym (seen_within c.opened.view_is))
+    subst (λ z. Takes (IsPrimitive AreContents c.args.tag p.mode p.levels) p.left.now z c.in-Definite.after.now) (sym (seen_within c.opened.view_is))
     (takes_primitive p.mode p.levels c.args.tag c.in-Ok.opened.bit p.left.now c.in-Ok.opened.contents c.in-Definite.after.now w.0
     (seen_bit c.opened.view_is c.in-Primitive.is) o)
 

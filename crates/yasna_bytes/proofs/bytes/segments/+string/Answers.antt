@@ -23,7 +23,7 @@ element-returns-in-Ok-whole g t c =
     let p = c.args.cursor in
     let w = c.in-Ok.ensures {u = tt} in
     let o : OpensAt p.mode c.args.tag c.in-Ok.opened.bit p.left.now c.in-Ok.opened.contents (definite_end c.in-Definite.after.now) = search rules in
-    let x = subst (λ z. Takes (IsPrimitive AreContents p.levels p.mode c.args.tag) p.left.now z c.in-Definite.after.now)
+    let x = subst (λ z. Takes (IsPrimitive AreContents c.args.tag p.mode p.levels) p.left.now z c.in-Definite.after.now)
     (sym (seen_within c.opened.view_is)) (takes_primitive p.mode p.levels c.args.tag c.in-Ok.opened.bit p.left.now c.in-Ok.opened.contents
     c.in-Definite.after.now w.0 (seen_bit c.opened.view_is c.in-Primitive.is) o) in
     let y = c.in-Ok-whole.ensures {u = tt} in
@@ -39,7 +39,7 @@ element-returns-in-Err-whole g t c =
     let p = c.args.cursor in
     let w = c.in-Ok.ensures {u = tt} in
     let o : OpensAt p.mode c.args.tag c.in-Ok.opened.bit p.left.now c.in-Ok.opened.contents (definite_end c.in-Definite.after.now) = search rules in
-    let x = subst (λ z. Takes (IsPrimitive AreContents p.levels p.mode c.args.tag) p.left.now z c.in-Definite.after.now)
+    let x = subst (λ z. Takes (IsPrimitive AreContents c.args.tag p.mode p.levels) p.left.now z c.in-Definite.after.now)
     (sym (seen_within c.opened.view_is)) (takes_primitive p.mode p.levels c.args.tag c.in-Ok.opened.bit p.left.now c.in-Ok.opened.contents
     c.in-Definite.after.now w.0 (seen_bit c.opened.view_is c.in-Primitive.is) o) in
     rw c.reject-in-Err-whole.ensures (rejected_consumed

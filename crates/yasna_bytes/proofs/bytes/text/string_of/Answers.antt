@@ -13,5 +13,5 @@ returns-in-Err-judge g c =
 pub returns-in-Err : goal.returns-in-Err
 returns-in-Err g c =
     let p = c.args.cursor in
-    octets_rejected (g.J.Judge.encodes c.args.judge) p.levels p.mode c.args.tag p.left.now (IsDeepOctets p.levels p.mode c.args.tag p.left.now)
+    octets_rejected (g.J.Judge.encodes c.args.judge) p.levels p.mode c.args.tag p.left.now (IsDeepOctets c.args.tag p.mode p.levels p.left.now)
     (MayAllocate p.levels c.args.tag p.left.now) c.in-Err.rejection (c.in-Err.ensures {u = tt})

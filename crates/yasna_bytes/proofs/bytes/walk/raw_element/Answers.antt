@@ -15,7 +15,7 @@ pub payload-requires : goal.payload-requires
 payload-requires c =
     let p = c.args.cursor in
     let o = c.in-Ok.opened in
-    to_rest (IsRaw (p.levels - 1) p.mode) p.mode o.bit o.contents o.end c.in-Ok-follow.rest.now (c.in-Ok-follow.ensures {u = tt})
+    to_rest (IsRaw p.mode (p.levels - 1)) p.mode o.bit o.contents o.end c.in-Ok-follow.rest.now (c.in-Ok-follow.ensures {u = tt})
 
 pub prefix_before-requires : goal.prefix_before-requires
 prefix_before-requires c =
@@ -29,7 +29,7 @@ returns-in-Ok-follow c =
     let p = c.args.cursor in
     let o = c.in-Ok.opened in
     record {
-      raw = subst (λ q. IsRaw p.levels p.mode (record { tag = c.in-Ok.tag; bit = q; payload = c.payload.result.now }) c.prefix_before.result.now)
+      raw = subst (λ q. IsRaw p.mode p.levels (record { tag = c.in-Ok.tag; bit = q; payload = c.payload.result.now }) c.prefix_before.result.now)
           (seen_bit c.opened.view_is refl) (followed p.mode p.levels c.in-Ok.tag o.bit p.left.now o.contents o.end c.in-Ok-follow.rest.now c.payload.result.now
           c.prefix_before.result.now (c.in-Ok.ensures {u = tt}) (c.in-Ok-follow.ensures {u = tt}) c.payload.ensures c.prefix_before.ensures);
       joined = c.prefix_before.ensures;

@@ -19,7 +19,7 @@ returns-then-not-stays_whole c =
     let p = c.args.cursor in
     let w = c.in-Ok.ensures {u = tt} in
     let o : OpensAt p.mode c.args.tag c.in-Ok.opened.bit p.left.now c.in-Ok.opened.contents (definite_end c.in-Definite.after.now) = search rules in
-    let x = subst (λ z. Takes (IsPrimitive AreContents p.levels p.mode c.args.tag) p.left.now z c.in-Definite.after.now)
+    let x = subst (λ z. Takes (IsPrimitive AreContents c.args.tag p.mode p.levels) p.left.now z c.in-Definite.after.now)
     (sym (seen_within c.opened.view_is)) (takes_primitive p.mode p.levels c.args.tag c.in-Ok.opened.bit p.left.now c.in-Ok.opened.contents
     c.in-Definite.after.now w.0 (seen_bit c.opened.view_is c.in-Primitive.is) o) in
     rw c.reject-then-not-stays_whole.ensures (whole_rejected octets_segmentation p.levels p.mode c.args.tag p.left.now c.opened.inside.contents.now
@@ -36,7 +36,7 @@ returns-else-not-stays_whole c =
     let p = c.args.cursor in
     let w = c.in-Ok.ensures {u = tt} in
     let o : OpensAt p.mode c.args.tag c.in-Ok.opened.bit p.left.now c.in-Ok.opened.contents (definite_end c.in-Definite.after.now) = search rules in
-    let x = subst (λ z. Takes (IsPrimitive AreContents p.levels p.mode c.args.tag) p.left.now z c.in-Definite.after.now)
+    let x = subst (λ z. Takes (IsPrimitive AreContents c.args.tag p.mode p.levels) p.left.now z c.in-Definite.after.now)
     (sym (seen_within c.opened.view_is)) (takes_primitive p.mode p.levels c.args.tag c.in-Ok.opened.bit p.left.now c.in-Ok.opened.contents
     c.in-Definite.after.now w.0 (seen_bit c.opened.view_is c.in-Primitive.is) o) in
     let s = rw c.full.ensures at ((c.if-not-stays_whole.ensures {u = tt}).0 refl) in
