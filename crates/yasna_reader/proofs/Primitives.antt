@@ -13,7 +13,7 @@ use Rattle.yasna_bytes.specs.declared.bytes.header.Rejection.{Rejection}
 use Rattle.yasna_reader.specs.State.{Reading, IsFresh, untagged, rejecting, tag_of, UnlessFailed}
 use Rattle.yasna_bytes.specs.Prefix.{Takes, SeenAt}
 use Rattle.yasna_bytes.specs.Contents.{NeverAllocates, MayAllocate}
-use Rattle.yasna_reader.specs.Primitive.{RejectedAs, ReadsPrefix, ReadsAt, ReadsTyped, Commits, ParsesAs, ReadsSeen, Reads, NoLevel}
+use Rattle.yasna_reader.specs.Primitive.{RejectedAs, ReadsAt, ReadsTyped, Commits, ParsesAs, ReadsSeen, Reads, NoLevel}
 use Rattle.yasna_reader.specs.Decodes.{Explains, StickyExplains, ParsedValue, NotParsed, NoMatchAtEnd, Decodes}
 use Rattle.yasna_bytes.specs.Rejection.{IsElsewhere}
 use Rattle.yasna_bytes.proofs.Rejection.{blames_bytes_of, at_end_elsewhere, not_at_end}
@@ -22,7 +22,9 @@ use Rattle.yasna_bytes.proofs.Rejection.{blames_bytes_of, at_end_elsewhere, not_
 pub committed : {V A : Type 0} (B : A → List ℕ → Type 0) (view : V → A) (D M E : Type 0) (s : Reading) (f : Result (V × Bor (List ℕ)) Rejection)
     (r : Result V ASN1Error) (s' : Reading) → SeenAt B view D M E s.left f → Commits s f r s' → ReadsAt B view D M E s r s'
 committed B view D M E s (Ok x) (Ok v) s' a b =
-    record { rest = x.1.now; takes = let e : x.0 ≡ v = cc (b.0) in subst (λ z. Takes B s.left (view z) x.1.now) e a; state = b.1 }
+    let e : x.0 ≡ v = cc (b.0) in
+    let y = subst (λ z. Takes B s.left (view z) x.1.now) e a in
+    record { prefix = y.prefix; rest = x.1.now; joined = y.joined; member = y.member; left = b.1 }
 committed B view D M E s (Ok x) (Err e) s' a b = let f = b.0 in absurd (cc)
 committed B view D M E s (Err x) (Ok v) s' a b = let f = b.0 in absurd (cc)
 committed B view D M E s (Err x) (Err e) s' a b =
@@ -86,13 +88,13 @@ module _ {V A : Type 0} (may_allocate : Bool) (B : TaggedGrammar A) (view : V �
     (obeys : (m : BERMode) (n : ℕ) (v : V) (b : List ℕ) → B t m n (view v) b → B' m n v b)
     (may_allocate_by : (m : BERMode) (n : ℕ) (b : List ℕ) → S' m n b → (v : A) × B t m n v b) (deep : (n : ℕ) (m : BERMode) (s : List ℕ) → AtEnd s → D t m n s → ⊥)
     (memory : (n : ℕ) (s : List ℕ) → AtEnd s → M n t s → ⊥) (may : (n : ℕ) (s : List ℕ) → M n t s → may_allocate ≡ true) where
-  typed_parsed : (s : Reading) (v : V) (s' : Reading) → s.tag ≡ None → ReadsPrefix (B t s.mode s.levels) s (view v) s' → ParsedValue (B' s.mode s.levels) s v s'
+  typed_parsed : (s : Reading) (v : V) (s' : Reading) → s.tag ≡ None → ParsedValue (B t s.mode s.levels) (untagged s) (view v) s' → ParsedValue (B' s.mode s.levels) s v s'
   typed_parsed s v s' f y = record {
-    prefix = y.takes.prefix;
+    prefix = y.prefix;
     rest = y.rest;
-    joined = y.takes.joined;
-    member = obeys s.mode s.levels v y.takes.prefix y.takes.member;
-    left = y.state ∙ ap {A = Reading} (λ z. record z { left = y.rest }) (stays s f);
+    joined = y.joined;
+    member = obeys s.mode s.levels v y.prefix y.member;
+    left = y.left ∙ ap {A = Reading} (λ z. record z { left = y.rest }) (stays s f);
   }
 
   explains : (s : Reading) (e : ASN1Error) (s' : Reading) → RejectedAs (B t s.mode s.levels) (D t s.mode s.levels s.left) (M s.levels t s.left) (IsElsewhere t s.left) s e s' →

@@ -16,10 +16,10 @@ use Rattle.yasna_bytes.specs.declared.bytes.header.Rejection.{Rejection}
 use Rattle.yasna_bytes.specs.declared.bytes.walk.RawElement.{RawElement}
 use Rattle.yasna_bytes.specs.Prefix.{HasPrefix}
 use Rattle.yasna_bytes.specs.Rejection.{Rejects}
-use Rattle.yasna_reader.specs.Decodes.{Explains, StickyExplains, NotParsed, NoMatchAtEnd, Decodes}
-use Rattle.yasna_reader.specs.Primitive.{Commits, ReadsPrefix, RejectedAs}
+use Rattle.yasna_reader.specs.Decodes.{Explains, StickyExplains, ParsedValue, NotParsed, NoMatchAtEnd, Decodes}
+use Rattle.yasna_reader.specs.Primitive.{Commits, RejectedAs}
 use Rattle.yasna_reader.specs.Raw.{CopiedAt, MayAllocateRaw, ReadsRawAt, ReadsRaw}
-use Rattle.yasna_reader.specs.State.{Reading, IsFresh, UnlessFailed, rejecting}
+use Rattle.yasna_reader.specs.State.{Reading, IsFresh, UnlessFailed, rejecting, untagged}
 use Rattle.yasna_bytes.specs.Walk.{RejectsRaw, TakesRaw, element_of}
 use Rattle.yasna_bytes.proofs.RawHeader.{starts_not_at_end}
 use Rattle.yasna_bytes.proofs.Rejection.{blames_bytes_of}
@@ -84,7 +84,7 @@ reads_raw_as B view shown s v w s' e h = record { reads = by_sticky s.failed h.r
     by_sticky : (k : Option ASN1Error) → UnlessFailed k s (Ok v) s' (ReadsRawAt B view s (Ok v) s') →
         UnlessFailed k s (Ok w) s' (ReadsRawAt B shown s (Ok w) s')
     by_sticky (Some d) r = let f = r.0 in absurd (cc)
-    by_sticky None r = subst (λ z. ReadsPrefix (B s.mode s.levels) s z s') (sym e) r
+    by_sticky None r = subst (λ z. ParsedValue (B s.mode s.levels) (untagged s) z s') (sym e) r
 
 pub rejects_raw_as : {V W A : Type 0} (B : Grammar A) (view : V → A) (shown : W → A) (s : Reading) (e : ASN1Error)
     (s' : Reading) → ReadsRaw B view s (Err e) s' → ReadsRaw B shown s (Err e) s'
@@ -134,11 +134,11 @@ module _ {V A : Type 0} (B : Grammar A) (view : V → A) (s : Reading) (fresh : 
   decodes_unfailed : (r : Result V ASN1Error) (s' : Reading) → ReadsRawAt B view s r s' →
       Decodes true (λ m n v b. B m n (view v) b) (Any B) s r s'
   decodes_unfailed (Ok v) s' x = record {
-    prefix = x.takes.prefix;
+    prefix = x.prefix;
     rest = x.rest;
-    joined = x.takes.joined;
-    member = x.takes.member;
-    left = x.state ∙ ap {A = Option Tag} {B = Reading} (λ u. record s { left = x.rest; tag = u }) (sym fresh.1);
+    joined = x.joined;
+    member = x.member;
+    left = x.left ∙ ap {A = Option Tag} {B = Reading} (λ u. record s { left = x.rest; tag = u }) (sym fresh.1);
   }
   decodes_unfailed (Err e) s' x =
       subst (λ z. NotParsed true (Any B s.mode s.levels) s e z × NoMatchAtEnd s e z) (sym x.state) (rejected_as e s' x x.rejection.consumed refl)

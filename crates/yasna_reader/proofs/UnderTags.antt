@@ -32,7 +32,7 @@ rejects_so t s e m false fresh h = ap untagged h ∙ stays s fresh
 module _ {V A : Type 0} (B : TaggedGrammar A) (view : V → A) (D : TaggedMembers) (M : ℕ → Tag → List ℕ → Type 0) (own t : Tag) where
   seen_so : (s : Reading) (r : Result V ASN1Error) (m : Reading) → IsFresh s →
       ReadsTyped B view D M t (record s { tag = Some t }) r m → ReadsTyped B view D M t s r (untagged m)
-  seen_so s (Ok v) m fresh h = record { rest = h.rest; takes = h.takes; state = ap untagged h.state }
+  seen_so s (Ok v) m fresh h = record { prefix = h.prefix; rest = h.rest; joined = h.joined; member = h.member; left = ap untagged h.left }
   seen_so s (Err e) m fresh h =
       record { rejection = h.rejection; kind = h.kind; rejects = h.rejects; state = rejects_so t s e m h.rejection.consumed fresh h.state }
 

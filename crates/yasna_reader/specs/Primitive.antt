@@ -5,8 +5,9 @@ use Rattle.yasna_base.specs.Error.{error_of, kind_of}
 use Rattle.yasna_base.specs.declared.error.ASN1Error.{ASN1Error}
 use Rattle.yasna_base.specs.declared.tag.Tag.{Tag}
 use Rattle.yasna_base.specs.Grammar.{TaggedGrammar, TaggedMembers}
-use Rattle.yasna_bytes.specs.Prefix.{Takes, HasPrefix, SeenAt}
+use Rattle.yasna_bytes.specs.Prefix.{HasPrefix, SeenAt}
 use Rattle.yasna_bytes.specs.Rejection.{IsElsewhere, IsTooDeep, Rejects}
+use Rattle.yasna_reader.specs.Decodes.{ParsedValue}
 use Rattle.yasna_reader.specs.State.{Reading, UnlessFailed, rejecting, tag_of, untagged, Does}
 use Rattle.yasna_bytes.specs.declared.bytes.header.Rejection.{Rejection}
 
@@ -18,15 +19,9 @@ pub record RejectedAs {A : Type 0} (B : A → List ℕ → Type 0) (Deep MayAllo
   pub rejects : Rejects (HasPrefix B s.left) Deep MayAllocate Elsewhere rejection
   pub state : s' ≡ rejecting rejection.consumed s e
 
--- a prefix of what is left represents v, and the rest is left
-pub record ReadsPrefix {A : Type 0} (B : A → List ℕ → Type 0) (s : Reading) (v : A) (s' : Reading) : Type 0 where
-  pub rest : List ℕ
-  pub takes : Takes B s.left v rest
-  pub state : s' ≡ record (untagged s) { left = rest }
-
--- what a read does where no error is sticky; view says what is seen of a value
+-- what a read does where no error is sticky: a value's prefix is consumed, and no implicit tag waits; view says what is seen of a value
 abbrev pub ReadsAt : {V A : Type 0} → (A → List ℕ → Type 0) → (V → A) → (Deep MayAllocate Elsewhere : Type 0) → Does V
-ReadsAt B view Deep MayAllocate Elsewhere s (Ok v) s' = ReadsPrefix B s (view v) s'
+ReadsAt B view Deep MayAllocate Elsewhere s (Ok v) s' = ParsedValue B (untagged s) (view v) s'
 ReadsAt B view Deep MayAllocate Elsewhere s (Err e) s' = RejectedAs B Deep MayAllocate Elsewhere s e s'
 
 -- `ReadsAt` of an element of a tag, within the levels and in the mode of the reading
