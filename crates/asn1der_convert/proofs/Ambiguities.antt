@@ -13,7 +13,7 @@ use Rattle.yasna_base.specs.declared.mode.BERMode.TheVariants.{Ber}
 use Rattle.yasna_base.specs.declared.tag.PCBit.TheVariants.{Primitive, Constructed}
 use Rattle.yasna_base.specs.declared.tag.Tag.{Tag}
 use Rattle.yasna_base.proofs.Header.{opens_begins, header_of, end_after}
-use Rattle.asn1der_convert.specs.Ambiguity.{AreSegments, IsCertain, IsSureBranch, IsSure, Meets, Notes, first_place, Encloses, MeetsAmbiguities, MeetsAt, MeetsTo, AreTheAmbiguities}
+use Rattle.asn1der_convert.specs.Ambiguity.{MayBeSegments, IsCertain, IsSureBranch, IsSure, Meets, Notes, first_place, EnclosesParts, MeetsAmbiguities, MeetsAt, MeetsTo, AreTheAmbiguities}
 use Rattle.asn1der_convert.specs.ContentsClass.{IsOfClass}
 use Rattle.asn1der_convert.specs.Parts.{set_parts, TakesPart, TakesPartsTo, ArePutInOrder, sorted, as_they_were}
 use Rattle.asn1der_convert.specs.SetOrder.{IsOrderKnown, InOrder}
@@ -43,15 +43,15 @@ tags_of t [] = (λ a. tt, λ a. tt)
 tags_of t (p ∷ ps) = let r = tags_of t ps in (λ a. (a.0, r.0 a.1), λ a. (a.0, r.1 a.1))
 
 -- OCTET STRINGs may be segments
-pub segments_octets : (ps : List DerElement) (P : Type 0) → P → P ↔ AllByRecursion (λ (p : DerElement). p.tag ≡ octets_tag) ps → P ↔ AreSegments (set_parts ps)
+pub segments_octets : (ps : List DerElement) (P : Type 0) → P → P ↔ AllByRecursion (λ (p : DerElement). p.tag ≡ octets_tag) ps → P ↔ MayBeSegments (set_parts ps)
 segments_octets ps P holds h = (λ i. inl ((tags_of octets_tag ps).0 (h.0 i)), λ s. holds)
 
 -- other elements, where they are BIT STRINGs
 pub segments_bits : (ps : List DerElement) (P Q : Type 0) → (P → ⊥) → P ↔ AllByRecursion (λ (p : DerElement). p.tag ≡ octets_tag) ps →
-    Q ↔ AllByRecursion (λ (p : DerElement). p.tag ≡ bits_tag) ps → Q ↔ AreSegments (set_parts ps)
+    Q ↔ AllByRecursion (λ (p : DerElement). p.tag ≡ bits_tag) ps → Q ↔ MayBeSegments (set_parts ps)
 segments_bits ps P Q not_octets g h = (λ i. inr ((tags_of bits_tag ps).0 (h.0 i)), go)
   where
-    go : AreSegments (set_parts ps) → Q
+    go : MayBeSegments (set_parts ps) → Q
     go (inl a) = absurd (not_octets (g.1 ((tags_of octets_tag ps).1 a)))
     go (inr a) = h.1 ((tags_of bits_tag ps).1 a)
 
@@ -173,7 +173,7 @@ order_other t ps qs (as_they_were _ e) other = e
 
 -- the ambiguities of a constructed element
 around_meets : (k : ℕ) (m : BERMode) (t : Tag) (s d r : List ℕ) (end : ContentsEnd) (ps : List DerElement) (p : DerElement) (old mid new : Ambiguities) →
-    IsOtherTag t → OpensAt m t Constructed s d end → TakesPartsTo k m d end ps r → MeetsTo k m d end r old mid → Encloses t (set_parts ps) p mid new →
+    IsOtherTag t → OpensAt m t Constructed s d end → TakesPartsTo k m d end ps r → MeetsTo k m d end r old mid → EnclosesParts t (set_parts ps) p mid new →
     MeetsAt (suc k) m s r old new
 around_meets k m t s d r end ps p old mid new is opens x inside around v b y e a =
     let same = taken_trees k m d end ps r x in
@@ -194,7 +194,7 @@ Inside k ps r old mid m d end = TakesPartsTo k m d end ps r × MeetsTo k m d end
 -- as `constructed_part` of Parts, with the ambiguities, where the contents are read at their own place
 pub constructed_meets : (n k : ℕ) (m m' : BERMode) (t : Tag) (s d d' r : List ℕ) (end end' : ContentsEnd) (ps : List DerElement) (p : DerElement) (old mid new : Ambiguities) → m' ≡ m →
     1 ≤ n → k ≡ n - 1 → d' ≡ d → end' ≡ end → IsOtherConstructed t → OpensAt m t Constructed s d end → TakesPartsTo k m' d' end' ps r →
-    MeetsTo k m' d' end' r old mid → Encloses t (set_parts ps) p mid new → MeetsAt n m s r old new
+    MeetsTo k m' d' end' r old mid → EnclosesParts t (set_parts ps) p mid new → MeetsAt n m s r old new
 constructed_meets n k m m' t s d d' r end end' ps p old mid new f level less g h is opens x inside around =
     let one = subst (λ z. Inside k ps r old mid z d' end') f (x, inside) in
     let two = subst (λ z. Inside k ps r old mid m z end') g one in

@@ -19,7 +19,7 @@ use Rattle.yasna_base.proofs.Digits.{bytes_append}
 use Rattle.yasna_base.proofs.Octets.{octets_written}
 use Rattle.yasna_base.proofs.Order.{in_order_map, all_permuted}
 use Rattle.yasna_base.proofs.SetOfWriting.{in_order_permuted, octets_in_order, octets_ordered}
-use Rattle.asn1der_convert.specs.SetOrder.{parts_of, IsOrderKnown}
+use Rattle.asn1der_convert.specs.SetOrder.{keyed_parts, IsOrderKnown}
 use Rattle.asn1der_convert.specs.Tags.{IsStringTag}
 use Rattle.asn1der_convert.specs.Tree.{Branch, boolean, bits, string, primitive, set_of, constructed, Tree, branch_tag, tree_tag, HasBranch, HasTree, branch_encoding, der_encoding, SameBranch, SameTree}
 use Rattle.asn1der_convert.proofs.SetOrder.{same_parts, known_again}
@@ -84,7 +84,7 @@ module _ {A : Type 0} (R : BERMode → A → List ℕ → Type 0) (E : A → A �
   -- `HasCanonical` of an element around such elements
   pub record CanonicalBranch (n : ℕ) (v : Branch A) : Type 0 where
     pub tree : Branch A
-    pub read : (o : BERMode) → HoldsEncoding Der o → HasBranch (R o) (parts_of mark f) n o tree (branch_encoding f v)
+    pub read : (o : BERMode) → HoldsEncoding Der o → HasBranch (R o) (keyed_parts mark f) n o tree (branch_encoding f v)
     pub same : SameBranch E v tree
     pub encoding : branch_encoding f tree ≡ branch_encoding f v
     pub tag : branch_tag tree ≡ branch_tag v
@@ -109,14 +109,14 @@ module _ {A : Type 0} (R : BERMode → A → List ℕ → Type 0) (E : A → A �
       let short' : length (bits_encoding bits_tag Der (cleared v)) < 2 ^ 64 = subst (λ z. length z < 2 ^ 64) e short in
       record {
         tree = bits (cleared v);
-        read = λ o h. subst (λ z. HasBranch (R o) (parts_of mark f) n o (bits (cleared v)) z) (sym e) (has.holds Der o n (cleared v) h canonical level short');
+        read = λ o h. subst (λ z. HasBranch (R o) (keyed_parts mark f) n o (bits (cleared v)) z) (sym e) (has.holds Der o n (cleared v) h canonical level short');
         same = contents;
         encoding = sym e;
         tag = refl;
         in_bytes = subst IsBytes (sym e) (has.in_bytes Der (cleared v) canonical short');
       }
 
-  string_canonical : (n : ℕ) (t : Tag) (v b : List ℕ) → 1 ≤ n → HasBranch (R Ber) (parts_of mark f) n Ber (string t v) b → length (branch_encoding f (string t v)) < 2 ^ 64 →
+  string_canonical : (n : ℕ) (t : Tag) (v b : List ℕ) → 1 ≤ n → HasBranch (R Ber) (keyed_parts mark f) n Ber (string t v) b → length (branch_encoding f (string t v)) < 2 ^ 64 →
       CanonicalBranch n (string t v)
   string_canonical n t v b level x short =
       let w = octets_written t ((string_small t x.0).1) in
@@ -130,7 +130,7 @@ module _ {A : Type 0} (R : BERMode → A → List ℕ → Type 0) (E : A → A �
         in_bytes = w.has.in_bytes Der v can short;
       }
 
-  primitive_canonical : (n : ℕ) (t : Tag) (c b : List ℕ) → HasBranch (R Ber) (parts_of mark f) n Ber (primitive t c) b → length (branch_encoding f (primitive t c)) < 2 ^ 64 →
+  primitive_canonical : (n : ℕ) (t : Tag) (c b : List ℕ) → HasBranch (R Ber) (keyed_parts mark f) n Ber (primitive t c) b → length (branch_encoding f (primitive t c)) < 2 ^ 64 →
       CanonicalBranch n (primitive t c)
   primitive_canonical n t c b x short = record {
     tree = primitive t c;
@@ -141,7 +141,7 @@ module _ {A : Type 0} (R : BERMode → A → List ℕ → Type 0) (E : A → A �
     in_bytes = canonical_element_bytes Der t Primitive c x.1.in_bytes short;
   }
 
-  constructed_canonical : (n : ℕ) (t : Tag) (vs : List A) (b : List ℕ) → (x : HasBranch (R Ber) (parts_of mark f) n Ber (constructed t vs) b) →
+  constructed_canonical : (n : ℕ) (t : Tag) (vs : List A) (b : List ℕ) → (x : HasBranch (R Ber) (keyed_parts mark f) n Ber (constructed t vs) b) →
       AllByRecursion HasCanonical vs → length (branch_encoding f (constructed t vs)) < 2 ^ 64 → CanonicalBranch n (constructed t vs)
   constructed_canonical n t vs b x all short =
       let c = concat (map f vs) in
@@ -165,7 +165,7 @@ module _ {A : Type 0} (R : BERMode → A → List ℕ → Type 0) (E : A → A �
         in_bytes = canonical_element_bytes Der t Constructed c xs.in_bytes short;
       }
 
-  set_of_canonical : (n : ℕ) (vs : List A) (b : List ℕ) → (x : HasBranch (R Ber) (parts_of mark f) n Ber (set_of vs) b) → AllByRecursion HasCanonical vs →
+  set_of_canonical : (n : ℕ) (vs : List A) (b : List ℕ) → (x : HasBranch (R Ber) (keyed_parts mark f) n Ber (set_of vs) b) → AllByRecursion HasCanonical vs →
       length (branch_encoding f (set_of vs)) < 2 ^ 64 → CanonicalBranch n (set_of vs)
   set_of_canonical n vs b x all short =
       let cmp = λ (v w : A). octets_cmp (f v) (f w) in
@@ -177,7 +177,7 @@ module _ {A : Type 0} (R : BERMode → A → List ℕ → Type 0) (E : A → A �
       subst (λ z. length (concat z) < 2 ^ 64) (sym e) (short_contents Der set_tag Constructed (concat bs) short) in
       let xs = canonical_each us (all_permuted HasCanonical vs us permuted all) fits in
       let bytes : IsBytes (concat bs) = subst (λ z. IsBytes (concat z)) e xs.in_bytes in
-      let known : IsOrderKnown (parts_of mark f us) = known_again mark f vs x.inner.known in
+      let known : IsOrderKnown (keyed_parts mark f us) = known_again mark f vs x.inner.known in
       record {
         tree = set_of xs.trees;
         read = λ o h. record {
@@ -199,7 +199,7 @@ module _ {A : Type 0} (R : BERMode → A → List ℕ → Type 0) (E : A → A �
 
   -- an element in BER has a canonical encoding, where those within it have
   pub branch_canonical : ((v : A) (b : List ℕ) → R Ber v b → HasCanonical v) → (n : ℕ) → 1 ≤ n → (v : Branch A) (b : List ℕ) →
-      HasBranch (R Ber) (parts_of mark f) n Ber v b → length (branch_encoding f v) < 2 ^ 64 → CanonicalBranch n v
+      HasBranch (R Ber) (keyed_parts mark f) n Ber v b → length (branch_encoding f v) < 2 ^ 64 → CanonicalBranch n v
   branch_canonical g n level (boolean v) b x short = boolean_canonical n v level short
   branch_canonical g n level (bits v) b x short = bits_canonical n v level (bits_can n Ber bits_tag v b x) short
   branch_canonical g n level (string t v) b x short = string_canonical n t v b level x short

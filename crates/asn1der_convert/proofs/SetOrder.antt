@@ -12,7 +12,7 @@ use Rattle.yasna_base.specs.Set.{SetPart, parts_bytes, set_tag}
 use Rattle.yasna_base.specs.declared.tag.Tag.{Tag}
 use Rattle.yasna_base.proofs.Order.{Rises, rises_order, in_order_rising, in_order_map, all_order}
 use Rattle.asn1der_convert.specs.Parts.{part_tags, set_parts, ArePutInOrder, sorted, as_they_were}
-use Rattle.asn1der_convert.specs.SetOrder.{part_of, parts_of, set_order, InOrder, by_octets, IsOrderKnown}
+use Rattle.asn1der_convert.specs.SetOrder.{keyed_part, keyed_parts, set_order, InOrder, by_octets, IsOrderKnown}
 use Rattle.asn1der_convert.specs.Tree.{HaveOneTag}
 use Rattle.asn1der_convert.specs.declared.der_element.DerElement.{DerElement}
 use Rattle.asn1der_convert.specs.declared.set_order.SetOrder.TheVariants.{Tags, Octets}
@@ -26,7 +26,7 @@ part t b = record { tag = t; bytes = b }
 
 -- items with equal tags and encodings are equal parts
 pub same_parts : {A B : Type 0} (f : A → Tag) (g : A → List ℕ) (h : B → Tag) (k : B → List ℕ) (xs : List A) (ys : List B) → map f xs ≡ map h ys →
-    map g xs ≡ map k ys → parts_of f g xs ≡ parts_of h k ys
+    map g xs ≡ map k ys → keyed_parts f g xs ≡ keyed_parts h k ys
 same_parts f g h k [] [] e i = refl
 same_parts f g h k [] (y ∷ ys) e i = absurd (omega (arith, ap length e))
 same_parts f g h k (x ∷ xs) [] e i = absurd (omega (arith, ap length e))
@@ -38,7 +38,7 @@ same_parts f g h k (x ∷ xs) (y ∷ ys) e i =
     ap₂ (λ z zs. z ∷ zs) (ap₂ part tag bytes) (same_parts f g h k xs ys tags all_bytes)
 
 -- the bytes of items
-pub parts_of_bytes : {A : Type 0} (f : A → Tag) (g : A → List ℕ) (xs : List A) → parts_bytes (parts_of f g xs) ≡ map g xs
+pub parts_of_bytes : {A : Type 0} (f : A → Tag) (g : A → List ℕ) (xs : List A) → parts_bytes (keyed_parts f g xs) ≡ map g xs
 parts_of_bytes f g [] = refl
 parts_of_bytes f g (x ∷ xs) = ap (λ zs. g x ∷ zs) (parts_of_bytes f g xs)
 
@@ -48,8 +48,8 @@ by_octets_bytes ps = in_order_map (λ (p : SetPart). p.bytes) octets_cmp ps
 
 -- items put in the order of their encodings are parts in the order of a SET OF
 pub by_octets_of : {A : Type 0} (f : A → Tag) (g : A → List ℕ) (vs : List A) →
-    parts_of f g (in_order (λ v w. octets_cmp (g v) (g w)) vs) ≡ by_octets (parts_of f g vs)
-by_octets_of f g vs = in_order_map (part_of f g) (set_order Octets) vs
+    keyed_parts f g (in_order (λ v w. octets_cmp (g v) (g w)) vs) ≡ by_octets (keyed_parts f g vs)
+by_octets_of f g vs = in_order_map (keyed_part f g) (set_order Octets) vs
 
 rising_in_order : (ps : List SetPart) → Rises (λ p q. is_lt (set_order Octets p q)) ps → InOrder Octets ps
 rising_in_order [] r = tt
@@ -65,11 +65,11 @@ pub by_octets_again : (ps : List SetPart) → by_octets (by_octets ps) ≡ by_oc
 by_octets_again ps = in_order_rising (set_order Octets) octets_rank (by_octets ps) (rises_order (set_order Octets) octets_rank ps)
 
 -- items put in the order of their encodings have a known order where they had one before
-pub known_again : {A : Type 0} (f : A → Tag) (g : A → List ℕ) (vs : List A) → IsOrderKnown (parts_of f g vs) →
-    IsOrderKnown (parts_of f g (in_order (λ v w. octets_cmp (g v) (g w)) vs))
+pub known_again : {A : Type 0} (f : A → Tag) (g : A → List ℕ) (vs : List A) → IsOrderKnown (keyed_parts f g vs) →
+    IsOrderKnown (keyed_parts f g (in_order (λ v w. octets_cmp (g v) (g w)) vs))
 known_again f g vs known =
     let once = by_octets_of f g vs in
-    subst (InOrder Tags) (sym (ap by_octets once ∙ by_octets_again (parts_of f g vs))) known
+    subst (InOrder Tags) (sym (ap by_octets once ∙ by_octets_again (keyed_parts f g vs))) known
 
 tag_self : (u : Tag) → is_lt (tag_cmp u u) ≡ false
 tag_self u =

@@ -21,12 +21,12 @@ use Rattle.asn1der_convert.specs.declared.der_element.DerElement.{DerElement}
 use Rattle.asn1der_convert.specs.declared.set_order.SetOrder.TheVariants.{Tags, Octets}
 
 -- these elements may be the segments of a string: all are OCTET STRINGs, or all are BIT STRINGs (X.690, 8.6.4 and 8.7.3)
-abbrev pub AreSegments : List SetPart → Type 0
-AreSegments ps = AllByRecursion (λ (p : SetPart). p.tag ≡ octets_tag) ps ⊎ AllByRecursion (λ (p : SetPart). p.tag ≡ bits_tag) ps
+abbrev pub MayBeSegments : List SetPart → Type 0
+MayBeSegments ps = AllByRecursion (λ (p : SetPart). p.tag ≡ octets_tag) ps ⊎ AllByRecursion (λ (p : SetPart). p.tag ≡ bits_tag) ps
 
 -- a constructed element with this tag around these, in the order in which they are written, has no such ambiguity
 abbrev pub IsCertain : Ambiguity → Tag → List SetPart → Type 0
-IsCertain Segments t ps = (t.tag_class ≡ Universal) ⊎ (AreSegments ps → ⊥)
+IsCertain Segments t ps = (t.tag_class ≡ Universal) ⊎ (MayBeSegments ps → ⊥)
 IsCertain ImplicitSetOf t ps = (t.tag_class ≡ Universal) ⊎ InOrder Octets ps
 IsCertain Order t ps = (t ≡ set_tag → ⊥) ⊎ InOrder Octets ps ⊎ InOrder Tags ps
 
@@ -67,7 +67,7 @@ first_place ImplicitSetOf d = d.implicit_set_of
 first_place Order d = d.order
 
 -- p is the constructed element in DER with the tag t around the elements ps, and its ambiguities were met
-pub record Encloses (t : Tag) (ps : List SetPart) (p : DerElement) (old new : Ambiguities) : Type 0 where
+pub record EnclosesParts (t : Tag) (ps : List SetPart) (p : DerElement) (old new : Ambiguities) : Type 0 where
   pub part : IsPartAround t ps p
   pub met : (a : Ambiguity) → Meets (first_place a old) (first_place a new) (IsCertain a t part.inner)
 

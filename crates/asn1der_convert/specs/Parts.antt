@@ -11,7 +11,7 @@ use Rattle.yasna_base.specs.declared.mode.BERMode.{BERMode}
 use Rattle.yasna_base.specs.declared.mode.BERMode.TheVariants.{Der}
 use Rattle.yasna_base.specs.declared.tag.PCBit.TheVariants.{Constructed}
 use Rattle.yasna_base.specs.declared.tag.Tag.{Tag}
-use Rattle.asn1der_convert.specs.SetOrder.{part_of, parts_of, by_octets, IsOrderKnown}
+use Rattle.asn1der_convert.specs.SetOrder.{keyed_part, keyed_parts, by_octets, IsOrderKnown}
 use Rattle.asn1der_convert.specs.Tree.{Tree, tree_tag, HasTree, der_encoding}
 use Rattle.asn1der_convert.specs.declared.error.ConvertError.{ConvertError}
 use Rattle.asn1der_convert.specs.declared.error.ConvertError.TheVariants.{Memory}
@@ -23,11 +23,11 @@ part_tags ps = map (λ (p : DerElement). p.tag) ps
 
 -- an element in DER with its tag
 abbrev pub set_part : DerElement → SetPart
-set_part = part_of (λ (p : DerElement). p.tag) (λ (p : DerElement). p.bytes.items)
+set_part = keyed_part (λ (p : DerElement). p.tag) (λ (p : DerElement). p.bytes.items)
 
 -- each of these elements with its tag
 abbrev pub set_parts : List DerElement → List SetPart
-set_parts = parts_of (λ (p : DerElement). p.tag) (λ (p : DerElement). p.bytes.items)
+set_parts = keyed_parts (λ (p : DerElement). p.tag) (λ (p : DerElement). p.bytes.items)
 
 -- the bytes of each part
 abbrev pub part_bytes : List DerElement → List (List ℕ)

@@ -9,12 +9,12 @@ use Rattle.asn1der_convert.specs.declared.set_order.SetOrder.{SetOrder}
 use Rattle.asn1der_convert.specs.declared.set_order.SetOrder.TheVariants.{Tags, Octets}
 
 -- an item with its tag and its encoding
-abbrev pub part_of : {A : Type 0} → (A → Tag) → (A → List ℕ) → A → SetPart
-part_of tag f v = record { tag = tag v; bytes = f v }
+abbrev pub keyed_part : {A : Type 0} → (A → Tag) → (A → List ℕ) → A → SetPart
+keyed_part tag f v = record { tag = tag v; bytes = f v }
 
 -- items with their tags and encodings
-abbrev pub parts_of : {A : Type 0} → (A → Tag) → (A → List ℕ) → List A → List SetPart
-parts_of tag f vs = map (part_of tag f) vs
+abbrev pub keyed_parts : {A : Type 0} → (A → Tag) → (A → List ℕ) → List A → List SetPart
+keyed_parts tag f vs = map (keyed_part tag f) vs
 
 -- a SET is ordered by tags, and a SET OF by octets
 abbrev pub set_order : SetOrder → SetPart → SetPart → Ordering

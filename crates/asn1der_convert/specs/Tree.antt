@@ -14,7 +14,7 @@ use Rattle.yasna_base.specs.declared.mode.BERMode.{BERMode}
 use Rattle.yasna_base.specs.declared.mode.BERMode.TheVariants.{Der}
 use Rattle.yasna_base.specs.declared.tag.PCBit.TheVariants.{Primitive, Constructed}
 use Rattle.yasna_base.specs.declared.tag.Tag.{Tag}
-use Rattle.asn1der_convert.specs.SetOrder.{parts_of, IsOrderKnown}
+use Rattle.asn1der_convert.specs.SetOrder.{keyed_parts, IsOrderKnown}
 use Rattle.asn1der_convert.specs.Tags.{IsStringTag, IsOtherPrimitive, IsOtherConstructed}
 
 -- one element, around elements of A: a BOOLEAN, a BIT STRING, the octets of a string with its tag, the contents of any other primitive
@@ -64,7 +64,7 @@ der_encoding (suc n) v = branch_encoding (der_encoding n) v
 
 -- the tags of trees, and their encodings in DER
 abbrev pub tree_parts : (n : ℕ) → List (Tree n) → List SetPart
-tree_parts n = parts_of (tree_tag n) (der_encoding n)
+tree_parts n = keyed_parts (tree_tag n) (der_encoding n)
 
 -- all tags of the list are equal
 abbrev pub HaveOneTag : List Tag → Type 0

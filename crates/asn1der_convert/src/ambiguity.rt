@@ -1,6 +1,6 @@
 //! Ambiguities: where the DER encoding depends on a schema.
 ghost use Rattle.std.specs.Prelude.{◌≡◌, ◌↔◌, IsTrue, None};
-ghost use Rattle.asn1der_convert.specs.Ambiguity.{AreSegments, IsCertain, Notes, first_place};
+ghost use Rattle.asn1der_convert.specs.Ambiguity.{MayBeSegments, IsCertain, Notes, first_place};
 ghost use Rattle.asn1der_convert.specs.declared.ambiguity.Ambiguity.{Ambiguity};
 ghost use Rattle.asn1der_convert.specs.Parts.{set_parts};
 
@@ -36,7 +36,7 @@ impl fmt::Display for Ambiguity {
 
 // Whether these may be the segments of a string (X.690, 8.6.4 and 8.7.3).
 fn are_segments(parts: &[DerElement]) -> bool
-    ensures { IsTrue result ↔ AreSegments (set_parts parts.now) }
+    ensures { IsTrue result ↔ MayBeSegments (set_parts parts.now) }
 {
     all_have_tag(parts, TAG_OCTETSTRING) || all_have_tag(parts, TAG_BITSTRING)
 }

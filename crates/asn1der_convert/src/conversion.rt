@@ -15,7 +15,7 @@ ghost use Rattle.yasna_base.specs.declared.mode.BERMode.TheVariants.{Ber, Der};
 ghost use Rattle.yasna_base.specs.Identifier.{BeginsWithTag};
 ghost use Rattle.yasna_base.specs.Raw.{IsRaw, IsJoining};
 ghost use Rattle.yasna_base.specs.declared.tag.PCBit.TheVariants.{Primitive, Constructed};
-ghost use Rattle.asn1der_convert.specs.Ambiguity.{Encloses, MeetsAt, MeetsTo, AreTheAmbiguities};
+ghost use Rattle.asn1der_convert.specs.Ambiguity.{EnclosesParts, MeetsAt, MeetsTo, AreTheAmbiguities};
 ghost use Rattle.asn1der_convert.specs.Parts.{set_parts, PartAt, PartsAt};
 ghost use Rattle.asn1der_convert.specs.declared.error.ConvertError.TheVariants.{Memory};
 ghost use Rattle.asn1der_convert.specs.Tags.{IsOtherTag, IsOtherPrimitive, IsOtherConstructed, IsStringTag};
@@ -178,7 +178,7 @@ fn enclose(
     parts: Vec<DerElement>,
     ambiguities: &mut Ambiguities,
 ) -> Result<DerElement, ConvertError>
-    ensures part { IfOk result (λ p. Encloses tag (set_parts parts.items) p ambiguities.old ambiguities.new) }
+    ensures part { IfOk result (λ p. EnclosesParts tag (set_parts parts.items) p ambiguities.old ambiguities.new) }
     ensures memory { IfErr result (λ e. e ≡ Memory) }
 {
     let mut inner = parts;

@@ -25,8 +25,8 @@ abbrev pub AnyAlgorithm : Members
 AnyAlgorithm = AnyEnclosed (AnyPart (Any EncodesOid) (AnyPart (AnyOption AnyElement) AnyNothing)) sequence_tag
 
 -- a bit string has as many bytes as its bits need
-abbrev pub HasRoom : BitString → Type 0
-HasRoom v = (v.count ≤ 8 * length v.bytes) × (8 * length v.bytes < v.count + 8)
+abbrev pub FillsItsBytes : BitString → Type 0
+FillsItsBytes v = (v.count ≤ 8 * length v.bytes) × (8 * length v.bytes < v.count + 8)
 
 -- the object identifiers are equal, and the parameters too
 abbrev pub SameAlgorithm : AlgorithmIdentifier → AlgorithmIdentifier → Type 0

@@ -5,3 +5,4 @@ pub mod Times
 pub mod Algorithm
 pub mod Branches
 pub mod Tickets
+pub mod Scrypt

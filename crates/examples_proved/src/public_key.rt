@@ -11,7 +11,7 @@ ghost use Rattle.yasna.specs.Words.{PartOf, NoParts, AnyPart, AnyNothing, SamePa
 ghost use Rattle.yasna.specs.Words.{nothing_encoding, nothing_depth, raw_of, MayAllocate, Decodes, Step, Done, ReadsOptional};
 ghost use Rattle.yasna.specs.Words.{ReadsSeen, ReadsRaw, bits_in, IsFresh, part_of};
 ghost use Rattle.yasna.proofs.Laws.{bit_string_coding, no_part, part, tuple};
-ghost use Rattle.examples_proved.specs.Algorithm.{HasRoom, EncodesAlgorithm, AnyAlgorithm, SameAlgorithm, algorithm_coding};
+ghost use Rattle.examples_proved.specs.Algorithm.{FillsItsBytes, EncodesAlgorithm, AnyAlgorithm, SameAlgorithm, algorithm_coding};
 
 use std::alloc::Global;
 use yasna::models::{ObjectIdentifier, TaggedDerValue};
@@ -119,7 +119,7 @@ impl DEREncodable for SubjectPublicKeyInfo {
 
     ghost depth = { λ m v. enclosed_depth (part_depth ⟦<AlgorithmIdentifier as DEREncodable>⟧.depth (part_depth (λ m x. bits_depth m (bits_in x)) nothing_depth)) m (v.algorithm, ((v.key, v.bits), tt)) };
 
-    ghost encodable = { λ v. part_can ⟦<AlgorithmIdentifier as DEREncodable>⟧.encodable (part_can (λ x. HasRoom (bits_in x)) Always) (v.algorithm, ((v.key, v.bits), tt {0})) };
+    ghost encodable = { λ v. part_can ⟦<AlgorithmIdentifier as DEREncodable>⟧.encodable (part_can (λ x. FillsItsBytes (bits_in x)) Always) (v.algorithm, ((v.key, v.bits), tt {0})) };
 
     fn encode_der(&self, writer: DERWriter<'_>) -> ASN1Result<()> {
         writer.write_sequence(|seq| {

@@ -21,4 +21,4 @@ Buffered before (Failed e) r after = r ≡ Err e
 -- the callback is handed the reading, and the bytes that it took are returned beside its value; where it has no match, the
 -- reading is as it was
 abbrev pub ReadsBuffer : {A : Type 0} → Does A → Reading → Result (A × Bor (List ℕ)) ASN1Error → Reading → Type 0
-ReadsBuffer {A} P s r s' = UnlessFailed s.failed s r s' ((o : Outcome A) × Lent P s s o s' × Buffered s.left o r s'.left)
+ReadsBuffer {A} Callback s r s' = UnlessFailed s.failed s r s' ((o : Outcome A) × Lent Callback s s o s' × Buffered s.left o r s'.left)

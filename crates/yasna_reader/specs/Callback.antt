@@ -38,17 +38,17 @@ ComesTo s x m (Matched v) s' = (m.failed ≡ None) × (IsBefore s.left m.left �
 ComesTo s x m (NoMatch e) s' = (m.failed ≡ None) × ConsumedNothing s.left m × BlamesBytes (kind_of e) × (x ≡ Err e) × (s' ≡ advanced_as s m)
 ComesTo s x m (Failed e) s' = ErrorCause s.left x m e × (s' ≡ failing (advanced_as s m) e)
 
--- P holds of the outcome of a callback, with some value if it returned one
+-- what is asked of an outcome is so of a callback's, with some value if it returned one
 abbrev pub WithSome : {A : Type 0} → (Outcome A → Type 0) → Outcome (Unit {0}) → Type 0
-WithSome {A} P (Matched u) = (v : A) × P (Matched v)
-WithSome P (NoMatch e) = P (NoMatch e)
-WithSome P (Failed e) = P (Failed e)
+WithSome {A} Holds (Matched u) = (v : A) × Holds (Matched v)
+WithSome Holds (NoMatch e) = Holds (NoMatch e)
+WithSome Holds (Failed e) = Holds (Failed e)
 
--- a callback that does what P says was handed s and has the outcome o
-pub record Hands {A : Type 0} (P : Does A) (s : Reading) (o : Outcome A) (s' : Reading) : Type 0 where
+-- a callback that does what Callback says was handed s and has the outcome o
+pub record Hands {A : Type 0} (Callback : Does A) (s : Reading) (o : Outcome A) (s' : Reading) : Type 0 where
   pub own : Result A ASN1Error
   pub left : Reading
-  pub obeys : P s own left
+  pub obeys : Callback s own left
   pub comes : ComesTo s own left o s'
 
 -- what is left of the reading s, of which a callback that came to o left z: where it has no match, the reading as it was
@@ -57,10 +57,10 @@ left_by (Matched v) s z = z
 left_by (NoMatch e) s z = s
 left_by (Failed e) s z = z
 
--- a callback that does what P says was handed z in place of the reading s, and came to o
-pub record Lent {A : Type 0} (P : Does A) (z s : Reading) (o : Outcome A) (s' : Reading) : Type 0 where
+-- a callback that does what Callback says was handed z in place of the reading s, and came to o
+pub record Lent {A : Type 0} (Callback : Does A) (z s : Reading) (o : Outcome A) (s' : Reading) : Type 0 where
   pub between : Reading
-  pub hands : Hands P z o between
+  pub hands : Hands Callback z o between
   pub state : s' ≡ left_by o s between
 
 -- a call around a callback hands its result on, a sticky error first

@@ -81,12 +81,12 @@ RepeatsError s r s' = (e : ASN1Error) → s.failed ≡ Some e → (r ≡ Err e) 
 
 -- what follows a call that returned x and left m
 abbrev pub AndIn : {A U : Type 0} → (A → Does U) → Result A ASN1Error → Does U
-AndIn K (Ok a) m r s' = K a m r s'
-AndIn K (Err e) m r s' = (r ≡ Err e) × (s' ≡ m)
+AndIn Next (Ok a) m r s' = Next a m r s'
+AndIn Next (Err e) m r s' = (r ≡ Err e) × (s' ≡ m)
 
--- a call as P, and where it returned Ok, K of its value
+-- a call does what Call says, and where it returned Ok, Next says what is done with its value
 abbrev pub Step : {A U : Type 0} → Does A → (A → Does U) → Does U
-Step {A} P K s r s' = (x : Result A ASN1Error) × (m : Reading) × P s x m × AndIn K x m r s'
+Step {A} Call Next s r s' = (x : Result A ASN1Error) × (m : Reading) × Call s x m × AndIn Next x m r s'
 
 -- the end of such steps: the value v is returned, and nothing more is read
 abbrev pub Done : {U : Type 0} → U → Does U

@@ -29,9 +29,9 @@ pub record IsParsedWithPlace {A : Type 0} (own : Result A ASN1Error) (z : Readin
   pub returned : without_place r ≡ parsed own z
   pub place : IfErr r (λ l. IsPlaceIn s l)
 
--- a parse of s in the mode m as P says; where it fails, at a place in s or at its end
-pub record LocatesParse {A : Type 0} (P : Does A) (m : BERMode) (s : List ℕ) (r : Result A Located) : Type 0 where
-  pub parses : Parses P m s (without_place r)
+-- a parse of s in the mode m as Callback says; where it fails, at a place in s or at its end
+pub record LocatesParse {A : Type 0} (Callback : Does A) (m : BERMode) (s : List ℕ) (r : Result A Located) : Type 0 where
+  pub parses : Parses Callback m s (without_place r)
   pub place : IfErr r (λ l. IsPlaceIn s l)
 
 -- the line that prints it

@@ -17,7 +17,7 @@ optional (Failed e) = Err e
 
 -- the callback is handed the reading
 abbrev pub ReadsOptional : {A : Type 0} → Does A → Does (Option A)
-ReadsOptional {A} P s r s' = UnlessFailed s.failed s r s' ((o : Outcome A) × Hands P (untagged s) o s' × (r ≡ optional o))
+ReadsOptional {A} Callback s r s' = UnlessFailed s.failed s r s' ((o : Outcome A) × Hands Callback (untagged s) o s' × (r ≡ optional o))
 
 -- The outcome of a value v of a reading that left z, where the default is d (X.690, 11.5). It is accepted if it isn't the default, or
 -- the mode accepts a value that is. It is rejected if it equals the default and the mode doesn't accept that: the error is sticky if
@@ -34,12 +34,12 @@ DefaultsTo eq d n (NoMatch e) z r s' = (r ≡ Ok d) × (s' ≡ z)
 DefaultsTo eq d n (Failed e) z r s' = (r ≡ Err e) × (s' ≡ z)
 
 -- the callback is handed the reading, and what it comes to is put to the test
-pub record ReadsOrDefaults {A : Type 0} (P : Does A) (eq : A → A → Bool) (d : A) (s : Reading) (r : Result A ASN1Error) (s' : Reading) : Type 0 where
+pub record ReadsOrDefaults {A : Type 0} (Callback : Does A) (eq : A → A → Bool) (d : A) (s : Reading) (r : Result A ASN1Error) (s' : Reading) : Type 0 where
   pub outcome : Outcome A
   pub between : Reading
-  pub hands : Hands P s outcome between
+  pub hands : Hands Callback s outcome between
   pub defaults : DefaultsTo eq d (length s.left) outcome between r s'
 
 -- what read_default does: a sticky error comes first
 abbrev pub ReadsDefault : {A : Type 0} → Does A → (A → A → Bool) → A → Does A
-ReadsDefault P eq d s r s' = UnlessFailed s.failed s r s' (ReadsOrDefaults P eq d (untagged s) r s')
+ReadsDefault Callback eq d s r s' = UnlessFailed s.failed s r s' (ReadsOrDefaults Callback eq d (untagged s) r s')

@@ -21,11 +21,11 @@ ended (Ok v) (x ∷ s) = Err (error_of Extra)
 abbrev pub parsed : {A : Type 0} → Result A ASN1Error → Reading → Result A ASN1Error
 parsed r s = unless_failed s.failed (ended r s.left)
 
--- a parse of s in the mode m: what P says of the reading that it starts with, and what is made of the result
-pub record Parses {A : Type 0} (P : Does A) (m : BERMode) (s : List ℕ) (r : Result A ASN1Error) : Type 0 where
+-- a parse of s in the mode m: what Callback says of the reading that it starts with, and what is made of the result
+pub record Parses {A : Type 0} (Callback : Does A) (m : BERMode) (s : List ℕ) (r : Result A ASN1Error) : Type 0 where
   pub own : Result A ASN1Error
   pub left : Reading
-  pub obeys : P (starts s m) own left
+  pub obeys : Callback (starts s m) own left
   pub returns : r ≡ parsed own left
 
 -- what such a parse returns where its callback, which returns errors of its own, gave the result r and left s: from says what becomes of
@@ -40,9 +40,9 @@ abbrev pub IsParsed : {A E : Type 0} → (ASN1Error → E → Type 0) → Result
 IsParsed from own s r = EndsParse from s.failed own s.left r
 
 -- as `Parses`, where the callback returns its own type of errors
-pub record TryParses {A E : Type 0} (P : Reading → Result A E → Reading → Type 0) (from : ASN1Error → E → Type 0) (m : BERMode) (s : List ℕ)
+pub record TryParses {A E : Type 0} (Callback : Reading → Result A E → Reading → Type 0) (from : ASN1Error → E → Type 0) (m : BERMode) (s : List ℕ)
     (r : Result A E) : Type 0 where
   pub own : Result A E
   pub left : Reading
-  pub obeys : P (starts s m) own left
+  pub obeys : Callback (starts s m) own left
   pub returns : IsParsed from own left r

@@ -26,31 +26,31 @@ ReadsAt B view Deep MayAllocate Elsewhere s (Err e) s' = RejectedAs B Deep MayAl
 
 -- `ReadsAt` of an element of a tag, within the levels and in the mode of the reading
 abbrev pub ReadsTyped : {V A : Type 0} → TaggedGrammar A → (V → A) → TaggedMembers → (ℕ → Tag → List ℕ → Type 0) → Tag → Does V
-ReadsTyped B view D M t s =
-    ReadsAt (B t s.mode s.levels) view (D t s.mode s.levels s.left) (M s.levels t s.left) (IsElsewhere t s.left) s
+ReadsTyped B view TooDeep Allocates t s =
+    ReadsAt (B t s.mode s.levels) view (TooDeep t s.mode s.levels s.left) (Allocates s.levels t s.left) (IsElsewhere t s.left) s
 
 -- what a prefix that is parsed does to a reading
 abbrev pub Commits : {A : Type 0} → Reading → Result (A × Bor (List ℕ)) Rejection → Result A ASN1Error → Reading → Type 0
 Commits s (Ok x) r s' = (r ≡ Ok x.0) × (s' ≡ record (untagged s) { left = x.1.now })
 Commits s (Err e) r s' = (r ≡ Err (error_of e.kind)) × (s' ≡ rejecting e.consumed s (error_of e.kind))
 
--- What a typed read parses. B: the prefixes that it accepts; D: where they are too deep; M: whether it may allocate
+-- What a typed read parses. B: the prefixes that it accepts; TooDeep: where they are too deep; Allocates: whether it may allocate
 abbrev pub ParsesAs : {V A : Type 0} → TaggedGrammar A → (V → A) → TaggedMembers →
     (ℕ → Tag → List ℕ → Type 0) → Tag → Reading → Result (V × Bor (List ℕ)) Rejection → Type 0
-ParsesAs B view D M tag s r = SeenAt (B (tag_of s tag) s.mode s.levels) view (D (tag_of s tag) s.mode s.levels s.left) (M s.levels (tag_of s tag) s.left)
+ParsesAs B view TooDeep Allocates tag s r = SeenAt (B (tag_of s tag) s.mode s.levels) view (TooDeep (tag_of s tag) s.mode s.levels s.left) (Allocates s.levels (tag_of s tag) s.left)
     (IsElsewhere (tag_of s tag) s.left) s.left r
 
 -- A typed read of values, of which view is seen. With a sticky error it returns that, and consumes nothing. Else Ok consumes a prefix
 -- in B that encodes what is seen of the value. An Err that isn't `OutOfMemory` says that no prefix is in B, for any value. It consumed
 -- nothing exactly if nothing is left or another tag is next: then the reading is as it was, with the implicit tag. Any other Err is
--- sticky. It is `StackOverflow` exactly where D holds, and `OutOfMemory` only where M does
-pub record ReadsSeen {V A : Type 0} (B : TaggedGrammar A) (view : V → A) (D : TaggedMembers)
-    (M : ℕ → Tag → List ℕ → Type 0) (tag : Tag) (s : Reading) (r : Result V ASN1Error) (s' : Reading) : Type 0 where
-  pub reads : UnlessFailed s.failed s r s' (ReadsTyped B view D M (tag_of s tag) s r s')
+-- sticky. It is `StackOverflow` exactly where TooDeep holds, and `OutOfMemory` only where Allocates does
+pub record ReadsSeen {V A : Type 0} (B : TaggedGrammar A) (view : V → A) (TooDeep : TaggedMembers)
+    (Allocates : ℕ → Tag → List ℕ → Type 0) (tag : Tag) (s : Reading) (r : Result V ASN1Error) (s' : Reading) : Type 0 where
+  pub reads : UnlessFailed s.failed s r s' (ReadsTyped B view TooDeep Allocates (tag_of s tag) s r s')
 
 -- `ReadsSeen` of values that are seen as they are
 abbrev pub Reads : {A : Type 0} → TaggedGrammar A → TaggedMembers → (ℕ → Tag → List ℕ → Type 0) → Tag → Does A
-Reads B D M tag s r s' = ReadsSeen B (λ v. v) D M tag s r s'
+Reads B TooDeep Allocates tag s r s' = ReadsSeen B (λ v. v) TooDeep Allocates tag s r s'
 
 -- depth of a read that goes one level down
 abbrev pub NoLevel : TaggedMembers

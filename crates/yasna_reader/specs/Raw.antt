@@ -18,7 +18,7 @@ abbrev pub value_of_pieces : Pieces → RawValue
 value_of_pieces p = raw_value (record { tag_class = p.class; tag_number = p.number }) p.bit p.payload.items
 
 -- the whole of a raw element
-pub record IsWhole (n : ℕ) (m : BERMode) (v b : List ℕ) : Type 0 where
+pub record IsWhole (m : BERMode) (n : ℕ) (v b : List ℕ) : Type 0 where
   pub bytes : v ≡ b
   pub element : RawValue
   pub raw : IsRaw m n element b

@@ -15,11 +15,11 @@ use Rattle.yasna_reader.specs.State.{Reading, UnlessFailed, failing, inside, rej
 use Rattle.yasna_bytes.specs.declared.bytes.header.Rejection.{Rejection}
 use Rattle.yasna_reader.specs.declared.state.PartsReader.{PartsReader}
 
--- P holds of the reading of the contents of an element with the tag, where one is at the start, no error is sticky and
+-- Accepts says yes of the reading of the contents of an element with the tag, where one is at the start, no error is sticky and
 -- a level is left
 abbrev pub TakesContents : (Reading → Type 0) → Tag → Reading → Type 0
-TakesContents P tag s =
-    (c : List ℕ) (end : ContentsEnd) → s.failed ≡ None → 1 ≤ s.levels → OpensAt s.mode (tag_of s tag) Constructed s.left c end → P (inside s c)
+TakesContents Accepts tag s =
+    (c : List ℕ) (end : ContentsEnd) → s.failed ≡ None → 1 ≤ s.levels → OpensAt s.mode (tag_of s tag) Constructed s.left c end → Accepts (inside s c)
 
 -- f may be called on the parts of such an element
 abbrev pub TakesParts : {F R : Type 0} → Once F (MutBor (PartsReader Reading) × Unit {0}) R → F → Tag → Reading → Type 0
@@ -73,15 +73,15 @@ abbrev pub after_leaving : {A : Type 0} → Result A ASN1Error → Result (Unit 
 after_leaving x (Ok u) = x
 after_leaving x (Err e) = Err e
 
--- the header of a constructed element is there, and its contents were read as P says
-pub record Entered {A : Type 0} (P : Does A) (t : Tag) (s : Reading) (r : Result A ASN1Error) (s' : Reading) : Type 0 where
+-- the header of a constructed element is there, and its contents were read as Callback says
+pub record Entered {A : Type 0} (Callback : Does A) (t : Tag) (s : Reading) (r : Result A ASN1Error) (s' : Reading) : Type 0 where
   pub level : 1 ≤ s.levels
   pub contents : List ℕ
   pub end : ContentsEnd
   pub opens : OpensAt s.mode t Constructed s.left contents end
   pub own : Result A ASN1Error
   pub left : Reading
-  pub obeys : P (inside s contents) own left
+  pub obeys : Callback (inside s contents) own left
   pub closed : Left end contents left.failed left.left own (untagged s) r s'
 
 -- no such header is there, and nothing was read of contents
@@ -109,8 +109,8 @@ StepsAt t s (Err e) s' = StaysOut t s e s'
 
 -- what such a read does where no error is sticky
 abbrev pub EntersAt : {A : Type 0} → Does A → Tag → Does A
-EntersAt P t s r s' = Entered P t s r s' ⊎ NotEntered t s r s'
+EntersAt Callback t s r s' = Entered Callback t s r s' ⊎ NotEntered t s r s'
 
--- a read of a constructed element whose contents are read as P says
-pub record ReadsParts {A : Type 0} (P : Does A) (tag : Tag) (s : Reading) (r : Result A ASN1Error) (s' : Reading) : Type 0 where
-  pub enters : UnlessFailed s.failed s r s' (EntersAt P (tag_of s tag) s r s')
+-- a read of a constructed element whose contents are read as Callback says
+pub record ReadsParts {A : Type 0} (Callback : Does A) (tag : Tag) (s : Reading) (r : Result A ASN1Error) (s' : Reading) : Type 0 where
+  pub enters : UnlessFailed s.failed s r s' (EntersAt Callback (tag_of s tag) s r s')

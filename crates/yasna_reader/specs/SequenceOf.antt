@@ -1,4 +1,4 @@
--- What a read of a SEQUENCE OF does, whose elements a callback reads one by one (X.690, 8.10). C f s x f' m says that the
+-- What a read of a SEQUENCE OF does, whose elements a callback reads one by one (X.690, 8.10). Callback f s x f' m says that the
 -- callback f, called on the reading s, returns x, becomes f' and leaves m.
 use Rattle.std.specs.Borrow.{MutBor}
 use Rattle.std.specs.Fn.{Mut, CalledAtMut}
@@ -33,18 +33,18 @@ TurnsOut s x m (NoMatch e) s' = ComesTo s x m (NoMatch e) s'
 TurnsOut s x m (Failed e) s' = ComesTo s x m (Failed e) s' ⊎ Idles s x m e s'
 
 -- a turn of f on the reading s
-pub record ListTurn {F A : Type 0} (C : F → Reading → Result A ASN1Error → F → Reading → Type 0) (f : F) (s : Reading) (o : Outcome A) (f' : F)
+pub record ListTurn {F A : Type 0} (Callback : F → Reading → Result A ASN1Error → F → Reading → Type 0) (f : F) (s : Reading) (o : Outcome A) (f' : F)
     (s' : Reading) : Type 0 where
   pub own : Result A ASN1Error
   pub left : Reading
-  pub called : C f s own f' left
+  pub called : Callback f s own f' left
   pub comes : TurnsOut s own left o s'
 
--- turns one after the other, each from where the one before left off, gave these values. T g s o g' s' says that a turn in
+-- turns one after the other, each from where the one before left off, gave these values. Turn g s o g' s' says that a turn in
 -- the state g, on the reading s, comes to o and leaves g' and s'
 abbrev pub Turns : {G A : Type 0} → (G → Reading → Outcome A → G → Reading → Type 0) → G → Reading → List A → G → Reading → Type 0
-Turns T g s [] g' s' = (g' ≡ g) × (s' ≡ s)
-Turns {G} T g s (v ∷ vs) g' s' = (h : G) × (m : Reading) × T g s (Matched v) h m × Turns T h m vs g' s'
+Turns Turn g s [] g' s' = (g' ≡ g) × (s' ≡ s)
+Turns {G} Turn g s (v ∷ vs) g' s' = (h : G) × (m : Reading) × Turn g s (Matched v) h m × Turns Turn h m vs g' s'
 
 -- the callback f may be called wherever its turns reach: first on the reading s, then in the state and on the reading that the
 -- turn before left
@@ -60,25 +60,25 @@ EndsList vs (NoMatch e) r = r ≡ Ok vs
 EndsList vs (Failed e) r = r ≡ Err e
 
 -- turns from s on, up to one that has no match, which ends the list, or to an error, which is returned
-pub record Lists {G A : Type 0} (T : G → Reading → Outcome A → G → Reading → Type 0) (g : G) (s : Reading) (r : Result (List A) ASN1Error)
+pub record Lists {G A : Type 0} (Turn : G → Reading → Outcome A → G → Reading → Type 0) (g : G) (s : Reading) (r : Result (List A) ASN1Error)
     (s' : Reading) : Type 0 where
   pub values : List A
   pub reached : G
   pub place : Reading
-  pub turns : Turns T g s values reached place
+  pub turns : Turns Turn g s values reached place
   pub last : Outcome A
   pub after : G
-  pub turn : T reached place last after s'
+  pub turn : Turn reached place last after s'
   pub ends : EndsList values last r
 
 -- there was no memory for the last of these values
-pub record OutOfMemoryAtLast {G A : Type 0} (T : G → Reading → Outcome A → G → Reading → Type 0) (g : G) (s : Reading) (r : Result (List A) ASN1Error)
+pub record OutOfMemoryAtLast {G A : Type 0} (Turn : G → Reading → Outcome A → G → Reading → Type 0) (g : G) (s : Reading) (r : Result (List A) ASN1Error)
     (s' : Reading) : Type 0 where
   pub values : List A
   pub last : A
   pub reached : G
   pub place : Reading
-  pub turns : Turns T g s (values ++ (last ∷ [])) reached place
+  pub turns : Turns Turn g s (values ++ (last ∷ [])) reached place
   pub error : ASN1Error
   pub memory : kind_of error ≡ OutOfMemory
   pub returned : r ≡ Err error
@@ -91,7 +91,7 @@ items_of (Err e) = Err e
 
 -- contents are read into a vector by such turns
 abbrev pub CollectsBy : {G A : Type 0} → (G → Reading → Outcome A → G → Reading → Type 0) → G → Does (Vec A Global)
-CollectsBy T g s r s' = Lists T g s (items_of r) s' ⊎ OutOfMemoryAtLast T g s (items_of r) s'
+CollectsBy Turn g s r s' = Lists Turn g s (items_of r) s' ⊎ OutOfMemoryAtLast Turn g s (items_of r) s'
 
 -- the result where nothing is gathered
 abbrev pub without_items : {A : Type 0} → Result (List A) ASN1Error → Result (Unit {0}) ASN1Error
@@ -99,16 +99,16 @@ without_items (Ok vs) = Ok tt
 without_items (Err e) = Err e
 
 -- contents are read by such turns, and nothing is returned of them
-pub record VisitsBy {G A : Type 0} (T : G → Reading → Outcome A → G → Reading → Type 0) (g : G)
+pub record VisitsBy {G A : Type 0} (Turn : G → Reading → Outcome A → G → Reading → Type 0) (g : G)
     (s : Reading) (r : Result (Unit {0}) ASN1Error) (s' : Reading) : Type 0 where
   pub items : Result (List A) ASN1Error
-  pub lists : Lists T g s items s'
+  pub lists : Lists Turn g s items s'
   pub returned : r ≡ without_items items
 
 -- the elements are the callback's, in any order
 abbrev pub Collects : {F A : Type 0} → (F → Reading → Result A ASN1Error → F → Reading → Type 0) → F → Does (Vec A Global)
-Collects C f = CollectsBy (ListTurn C) f
+Collects Callback f = CollectsBy (ListTurn Callback) f
 
 -- what read_sequence_of does: its turns, for no vector
 abbrev pub Visits : {F A : Type 0} → (F → Reading → Result A ASN1Error → F → Reading → Type 0) → F → Does (Unit {0})
-Visits C f = VisitsBy (ListTurn C) f
+Visits Callback f = VisitsBy (ListTurn Callback) f

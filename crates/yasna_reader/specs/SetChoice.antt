@@ -45,20 +45,20 @@ pub record Chooses (l : List SetElement) (s : Reading) (ts : List Tag) (r : Resu
     Type 0 where
   pub chooses : ChoosesBy s.failed ts l s r l' s'
 
--- A choice from z as C says, whose result r lends the reading; it is n once the loan ended as w
-pub record LentChoice {S L : Type 0} (C : L → S → Result (Unit {0}) ASN1Error → L → S → Type 0) (z : Chosen S L) (r : Result (MutBor S) ASN1Error)
+-- A choice from z as Choice says, whose result r lends the reading; it is n once the loan ended as w
+pub record LentChoice {S L : Type 0} (Choice : L → S → Result (Unit {0}) ASN1Error → L → S → Type 0) (z : Chosen S L) (r : Result (MutBor S) ASN1Error)
     (n : Chosen S L) (w : S) : Type 0 where
   -- what is left of the loan is the reading of what is left
   pub reader : n.reader ≡ w
   -- the element was taken out of the list, and its reading was lent
-  pub chose : MatchResult r (λ x. C z.list z.reader (Ok tt) n.list x.now) (λ e. Unit {0})
+  pub chose : MatchResult r (λ x. Choice z.list z.reader (Ok tt) n.list x.now) (λ e. Unit {0})
 
 -- such a choice, which returned an Err and lent nothing, left n
 abbrev pub LentNone : {S L : Type 0} → (L → S → Result (Unit {0}) ASN1Error → L → S → Type 0) → Chosen S L → Result (MutBor S) ASN1Error → Chosen S L →
     Type 0
-LentNone C z r n = MatchResult r (λ x. Unit {0}) (λ e. C z.list z.reader (Err e) n.list n.reader)
+LentNone Choice z r n = MatchResult r (λ x. Unit {0}) (λ e. Choice z.list z.reader (Err e) n.list n.reader)
 
--- r lends the reading of an element that was chosen as C says (X.690, 8.11), or is the Err of the choice
+-- r lends the reading of an element that was chosen as Choice says (X.690, 8.11), or is the Err of the choice
 abbrev pub LendsChosen : (S L : RattleType) → (L.Denot → S.Denot → Result (Unit {0}) ASN1Error → L.Denot → S.Denot → Type 0) →
     MutBor (Chosen S.Denot L.Denot) → Result (MutBor S.Denot) ASN1Error → Fml
-LendsChosen S L C s r = LendsSoOk (the_row S L) S s r (LentChoice C s.now r) (LentNone C s.now r)
+LendsChosen S L Choice s r = LendsSoOk (the_row S L) S s r (LentChoice Choice s.now r) (LentNone Choice s.now r)

@@ -50,19 +50,19 @@ Follows None b n = n ≡ None
 Follows (Some a) b n = (goes_before b a ≡ false) × (n ≡ Some b)
 
 -- a turn returned a value, and consumed an element that isn't below the bound
-pub record GivesInOrder {F A : Type 0} (C : F → Reading → Result A ASN1Error → F → Reading → Type 0) (g : Bounded F) (s : Reading) (v : A)
+pub record GivesInOrder {F A : Type 0} (Callback : F → Reading → Result A ASN1Error → F → Reading → Type 0) (g : Bounded F) (s : Reading) (v : A)
     (g' : Bounded F) (s' : Reading) : Type 0 where
-  pub turn : ListTurn C g.callback s (Matched v) g'.callback s'
+  pub turn : ListTurn Callback g.callback s (Matched v) g'.callback s'
   pub element : List ℕ
   pub joined : s.left ≡ element ++ s'.left
   pub follows : Follows g.bound element g'.bound
 
 -- one that may not is Invalid, and that is sticky
-pub record Falls {F A : Type 0} (C : F → Reading → Result A ASN1Error → F → Reading → Type 0) (g : Bounded F) (s : Reading) (e : ASN1Error)
+pub record Falls {F A : Type 0} (Callback : F → Reading → Result A ASN1Error → F → Reading → Type 0) (g : Bounded F) (s : Reading) (e : ASN1Error)
     (g' : Bounded F) (s' : Reading) : Type 0 where
   pub value : A
   pub between : Reading
-  pub turn : ListTurn C g.callback s (Matched value) g'.callback between
+  pub turn : ListTurn Callback g.callback s (Matched value) g'.callback between
   pub element : List ℕ
   pub joined : s.left ≡ element ++ between.left
   pub falls : FallsBelow g.bound element
@@ -70,17 +70,17 @@ pub record Falls {F A : Type 0} (C : F → Reading → Result A ASN1Error → F 
   pub state : s' ≡ failing between e
 
 -- why a turn of such a list fails: the callback's own turn does, or its element falls
-pub data FailsInOrder {F A : Type 0} (C : F → Reading → Result A ASN1Error → F → Reading → Type 0) (g : Bounded F) (s : Reading) (e : ASN1Error)
+pub data FailsInOrder {F A : Type 0} (Callback : F → Reading → Result A ASN1Error → F → Reading → Type 0) (g : Bounded F) (s : Reading) (e : ASN1Error)
     (g' : Bounded F) (s' : Reading) : Type 0 where
-  failed : ListTurn C g.callback s (Failed e) g'.callback s' → FailsInOrder C g s e g' s'
-  fell : Falls C g s e g' s' → FailsInOrder C g s e g' s'
+  failed : ListTurn Callback g.callback s (Failed e) g'.callback s' → FailsInOrder Callback g s e g' s'
+  fell : Falls Callback g s e g' s' → FailsInOrder Callback g s e g' s'
 
 -- a turn of a list whose elements ascend where there is a bound (X.690, 11.6), by what it comes to
 abbrev pub TurnInOrder : {F A : Type 0} → (F → Reading → Result A ASN1Error → F → Reading → Type 0) → Bounded F → Reading → Outcome A → Bounded F →
     Reading → Type 0
-TurnInOrder C g s (Matched v) g' s' = GivesInOrder C g s v g' s'
-TurnInOrder C g s (NoMatch e) g' s' = ListTurn C g.callback s (NoMatch e) g'.callback s'
-TurnInOrder C g s (Failed e) g' s' = FailsInOrder C g s e g' s'
+TurnInOrder Callback g s (Matched v) g' s' = GivesInOrder Callback g s v g' s'
+TurnInOrder Callback g s (NoMatch e) g' s' = ListTurn Callback g.callback s (NoMatch e) g'.callback s'
+TurnInOrder Callback g s (Failed e) g' s' = FailsInOrder Callback g s e g' s'
 
 -- as `TakesTurns`, of a list whose elements are in that order: no turn comes after an element that is out of order
 abbrev pub TakesTurnsInOrder : {F A : Type 0} → Order → Mut F (MutBor Reading × Unit {0}) (Result A ASN1Error × (MutBor Reading × Unit {0})) → F →
@@ -109,8 +109,8 @@ pub record TurnsOutInOrder {A : Type 0} (a : Option (List ℕ)) (s : Reading) (x
 
 -- the elements are the callback's, and ascend if the order requires it in the mode
 abbrev pub CollectsInOrder : {F A : Type 0} → Order → (F → Reading → Result A ASN1Error → F → Reading → Type 0) → F → Does (Vec A Global)
-CollectsInOrder o C f s = CollectsBy (TurnInOrder C) (record { callback = f; bound = bound_in o s.mode }) s
+CollectsInOrder o Callback f s = CollectsBy (TurnInOrder Callback) (record { callback = f; bound = bound_in o s.mode }) s
 
 -- what read_set_of does: such turns, for no vector
 abbrev pub VisitsInOrder : {F A : Type 0} → Order → (F → Reading → Result A ASN1Error → F → Reading → Type 0) → F → Does (Unit {0})
-VisitsInOrder o C f s = VisitsBy (TurnInOrder C) (record { callback = f; bound = bound_in o s.mode }) s
+VisitsInOrder o Callback f s = VisitsBy (TurnInOrder Callback) (record { callback = f; bound = bound_in o s.mode }) s

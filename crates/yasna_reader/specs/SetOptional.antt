@@ -23,11 +23,11 @@ abbrev pub failing_on_err : {A : Type 0} → Result A ASN1Error → Reading → 
 failing_on_err (Ok v) s = s
 failing_on_err (Err e) s = failing s e
 
--- a callback that does what P says is handed the reading of one element: it is to leave nothing, and what fails is sticky
-pub record ReadsSingle {A : Type 0} (P : Does A) (s : Reading) (r : Result A ASN1Error) (s' : Reading) : Type 0 where
+-- a callback that does what Callback says is handed the reading of one element: it is to leave nothing, and what fails is sticky
+pub record ReadsSingle {A : Type 0} (Callback : Does A) (s : Reading) (r : Result A ASN1Error) (s' : Reading) : Type 0 where
   pub outcome : Outcome A
   pub between : Reading
-  pub hands : Hands P s outcome between
+  pub hands : Hands Callback s outcome between
   pub returned : r ≡ ended (returned_of outcome) between.left
   pub state : s' ≡ failing_on_err r between
 
@@ -37,11 +37,11 @@ some (Ok v) = Ok (Some v)
 some (Err e) = Err e
 
 -- the first element that has one of the tags is taken out, and is read
-pub record ReadsTaken {A : Type 0} (P : Does A) (ts : List Tag) (c : SetReading) (r : Result (Option A) ASN1Error) (c' : SetReading) : Type 0 where
+pub record ReadsTaken {A : Type 0} (Callback : Does A) (ts : List Tag) (c : SetReading) (r : Result (Option A) ASN1Error) (c' : SetReading) : Type 0 where
   pub single : Reading
   pub takes : TakesAmong ts c.list.items c.reader c'.list.items single
   pub own : Result A ASN1Error
-  pub reads : ReadsSingle P single own c'.reader
+  pub reads : ReadsSingle Callback single own c'.reader
   pub returned : r ≡ some own
 
 -- there is none
@@ -53,12 +53,12 @@ pub record ReadsNone {A : Type 0} (ts : List Tag) (c : SetReading) (r : Result (
 
 -- a sticky error comes first, and then nothing is taken
 abbrev pub ReadsChosenBy : {A : Type 0} → Option ASN1Error → Does A → List Tag → SetReading → Result (Option A) ASN1Error → SetReading → Type 0
-ReadsChosenBy (Some e) P ts c r c' = (r ≡ Err e) × (c'.list.items ≡ c.list.items) × (c'.reader ≡ untagged c.reader)
-ReadsChosenBy None P ts c r c' = ReadsTaken P ts c r c' ⊎ ReadsNone ts c r c'
+ReadsChosenBy (Some e) Callback ts c r c' = (r ≡ Err e) × (c'.list.items ≡ c.list.items) × (c'.reader ≡ untagged c.reader)
+ReadsChosenBy None Callback ts c r c' = ReadsTaken Callback ts c r c' ⊎ ReadsNone ts c r c'
 
 -- a read of an element that has one of the tags and may be omitted
-pub record ReadsChosen {A : Type 0} (P : Does A) (ts : List Tag) (c : SetReading) (r : Result (Option A) ASN1Error) (c' : SetReading) : Type 0 where
-  pub reads : ReadsChosenBy c.reader.failed P ts c r c'
+pub record ReadsChosen {A : Type 0} (Callback : Does A) (ts : List Tag) (c : SetReading) (r : Result (Option A) ASN1Error) (c' : SetReading) : Type 0 where
+  pub reads : ReadsChosenBy c.reader.failed Callback ts c r c'
 
 -- the default d for None; a value, unless the mode rejects it: then an element was taken, so the error is sticky
 abbrev pub DefaultsChosen : {A : Type 0} → (A → A → Bool) → A → Result (Option A) ASN1Error → Does A
@@ -67,10 +67,10 @@ DefaultsChosen eq d (Ok None) z r z' = (r ≡ Ok d) × (z' ≡ z)
 DefaultsChosen eq d (Err e) z r z' = (r ≡ Err e) × (z' ≡ z)
 
 -- a read of an element that has one of the tags and may be omitted, with the default d for none
-pub record ReadsChosenDefault {A : Type 0} (P : Does A) (eq : A → A → Bool) (d : A) (ts : List Tag)
+pub record ReadsChosenDefault {A : Type 0} (Callback : Does A) (eq : A → A → Bool) (d : A) (ts : List Tag)
     (c : SetReading) (r : Result A ASN1Error) (c' : SetReading) : Type 0 where
   pub own : Result (Option A) ASN1Error
   pub between : SetReading
-  pub chosen : ReadsChosen P ts c own between
+  pub chosen : ReadsChosen Callback ts c own between
   pub others : c'.list.items ≡ between.list.items
   pub defaults : DefaultsChosen eq d own between.reader r c'.reader

@@ -22,10 +22,10 @@ pub record Reading : Type 0 where
 abbrev pub Does : Type 0 → Type 1
 Does A = Reading → Result A ASN1Error → Reading → Type 0
 
--- a sticky error is returned before what K says is done, and leaves the reading as it was
+-- a sticky error is returned before what Otherwise says is done, and leaves the reading as it was
 abbrev pub UnlessFailed : {A : Type 0} → Option ASN1Error → Reading → Result A ASN1Error → Reading → Type 0 → Type 0
-UnlessFailed (Some e) s r s' K = (r ≡ Err e) × (s' ≡ s)
-UnlessFailed None s r s' K = K
+UnlessFailed (Some e) s r s' Otherwise = (r ≡ Err e) × (s' ≡ s)
+UnlessFailed None s r s' Otherwise = Otherwise
 
 -- no error was sticky, and no implicit tag waits
 abbrev pub IsFresh : Reading → Type 0

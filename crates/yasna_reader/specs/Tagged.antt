@@ -12,4 +12,4 @@ reading_under tag s = record s { tag = Some (tag_of s tag) }
 -- the callback is handed the reading under the tag, and what it comes to is returned; where it has no match, the reading is as
 -- it was, with the tag that waited
 abbrev pub ReadsImplicitly : {A : Type 0} → Does A → Tag → Does A
-ReadsImplicitly {A} P tag s r s' = UnlessFailed s.failed s r s' ((o : Outcome A) × Lent P (reading_under tag s) s o s' × (r ≡ returned_of o))
+ReadsImplicitly {A} Callback tag s r s' = UnlessFailed s.failed s r s' ((o : Outcome A) × Lent Callback (reading_under tag s) s o s' × (r ≡ returned_of o))

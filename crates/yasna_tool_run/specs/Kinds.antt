@@ -33,8 +33,8 @@ pub record Recoded {A : Type 0} (B : Grammar A) (encoding : Encoding A) (m : BER
   pub written : out ≡ encoding Der value
 
 -- a SEQUENCE of an INTEGER and a BOOLEAN
-abbrev pub EncodesPair : Grammar (ℤ × Bool)
-EncodesPair m n v b = Enclosed (PartOf (EncodesSigned w64) (PartOf EncodesBoolean NoParts)) sequence_tag m n (v.0, (v.1, tt)) b
+abbrev pub EncodesNumberAndFlag : Grammar (ℤ × Bool)
+EncodesNumberAndFlag m n v b = Enclosed (PartOf (EncodesSigned w64) (PartOf EncodesBoolean NoParts)) sequence_tag m n (v.0, (v.1, tt)) b
 
 -- its encoding
 abbrev pub pair_encoding : Encoding (ℤ × Bool)
@@ -50,7 +50,7 @@ integers_encoding m v = enclosed_encoding (elements_encoding (integer_encoding i
 
 -- s encodes a value of the type in the mode m, and out is its DER encoding
 abbrev pub Recodes : ValueType → BERMode → List ℕ → List ℕ → Type 0
-Recodes kind.Pair m s out = Recoded EncodesPair pair_encoding m s out
+Recodes kind.Pair m s out = Recoded EncodesNumberAndFlag pair_encoding m s out
 Recodes kind.Int m s out = Recoded (EncodesSigned w64) (integer_encoding integer_tag) m s out
 Recodes kind.Bool m s out = Recoded EncodesBoolean (boolean_encoding boolean_tag) m s out
 Recodes kind.Null m s out = Recoded EncodesNull (null_encoding null_tag) m s out

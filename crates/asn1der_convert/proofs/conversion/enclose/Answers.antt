@@ -4,7 +4,7 @@ use Rattle.yasna_base.specs.Canonical.{canonical_element}
 use Rattle.yasna_base.specs.Set.{parts_bytes}
 use Rattle.yasna_base.specs.declared.mode.BERMode.TheVariants.{Der}
 use Rattle.yasna_base.specs.declared.tag.PCBit.TheVariants.{Constructed}
-use Rattle.asn1der_convert.specs.Ambiguity.{Encloses, Meets, IsCertain, first_place}
+use Rattle.asn1der_convert.specs.Ambiguity.{EnclosesParts, Meets, IsCertain, first_place}
 use Rattle.asn1der_convert.specs.Parts.{set_parts}
 use Rattle.asn1der_convert.specs.declared.ambiguity.Ambiguity.{Ambiguity}
 use Rattle.asn1der_convert.specs.declared.der_element.DerElement.{DerElement}
@@ -21,7 +21,7 @@ returns-clause-part c =
     let met = λ (a : Ambiguity). subst (λ (ps : List DerElement). Meets (first_place a c.args.ambiguities.now) (first_place a c.note.new.self)
     (IsCertain a c.args.tag (set_parts ps))) c.deref.ensures.value (c.note.ensures a).meets in
     if_ok_both c.element.result (λ p. p.tag ≡ c.args.tag) (λ p. p.bytes.items ≡ canonical_element Der c.args.tag Constructed contents)
-    (λ p. Encloses c.args.tag (set_parts c.args.parts.items) p c.args.ambiguities.now c.note.new.self)
+    (λ p. EnclosesParts c.args.tag (set_parts c.args.parts.items) p c.args.ambiguities.now c.note.new.self)
     (λ p t b. record {
       part = record {
         tag = t;
