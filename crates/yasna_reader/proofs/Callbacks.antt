@@ -10,9 +10,9 @@ use Rattle.yasna_bytes.specs.declared.bytes.cursor.Cursor.{Cursor}
 use Rattle.yasna_reader.specs.declared.callback.Outcome.{Outcome}
 use Rattle.yasna_reader.specs.declared.callback.Outcome.TheVariants.{Matched, NoMatch, Failed}
 use Rattle.yasna_reader.specs.Buffer.{Buffered}
-use Rattle.yasna_reader.specs.Callback.{ComesTo, Barred, Hands, Lent, ErrorCause, WithSome, at_cursor, sticky, before, own}
+use Rattle.yasna_reader.specs.Callback.{ComesTo, Barred, BarredBy, Hands, Lent, Regains, ErrorCause, WithSome, advanced_as, at_cursor, sticky, before, own}
 use Rattle.yasna_reader.specs.Sequence.{place_in}
-use Rattle.yasna_reader.specs.State.{Reading, Does}
+use Rattle.yasna_reader.specs.State.{Reading, Does, failing, untagged}
 
 -- where there is no going on, that is what a callback came to
 pub barred_fails : {A : Type 0} (s : Reading) (x : Result A ASN1Error) (m : Reading) (e : ASN1Error) (s' : Reading) → Barred s m (Some e) s' →
@@ -78,18 +78,34 @@ taken_from c mode n x m o s' h = taken_after (record { left = c; mode = mode; le
 pub place_unconsumed : (c y : List ℕ) → length y ≡ length c → place_in c y ≡ c
 place_unconsumed c y e = let n : length c - length y ≡ 0 = omega (arith, e) in ap (λ n. drop n c) n
 
--- a callback without a match left the reading as it was, but for the implicit tag that was handed to it
-no_match_leaves : {A : Type 0} (s : Reading) (t : Option Tag) (x : Result A ASN1Error) (m : Reading) (e : ASN1Error) (s' : Reading) → s.failed ≡ None →
-    ComesTo (record s { tag = t }) x m (NoMatch e) s' → record s' { tag = s.tag } ≡ s
-no_match_leaves s t x m e s' k h =
-    ap (λ (z : Reading). record z { tag = s.tag }) h.4 ∙ ap {A = List ℕ} {B = Reading} (λ l. record s { left = l; failed = None })
-    (place_unconsumed s.left m.left h.1)
-    ∙ ap {A = Option ASN1Error} {B = Reading} (λ u. record s { failed = u }) (sym k)
+-- a callback that is lent a copy, for which a tag waits
+pub regained : {A : Type 0} (P : Does A) (s : Reading) (t : Option Tag) (x : Result A ASN1Error) (m : Reading) (o : Outcome A) (s' : Reading) →
+    P (record s { tag = t }) x m → Regains x m s o s' → Lent P (record s { tag = t }) s o s'
+regained P s t x m (Matched v) s' p h = record { between = s'; hands = record { own = x; left = m; obeys = p; comes = h }; state = refl }
+regained P s t x m (NoMatch e) s' p h =
+    record { between = advanced_as s m; hands = record { own = x; left = m; obeys = p; comes = h.0 }; state = h.1 }
+regained P s t x m (Failed e) s' p h = record { between = s'; hands = record { own = x; left = m; obeys = p; comes = h }; state = refl }
 
--- a callback without a match leaves the reading as it was, where the implicit tag waits again
-pub waits_again : {A : Type 0} (P : Does A) (s : Reading) (t : Option Tag) (e : ASN1Error) (z s' : Reading) →
-    s.failed ≡ None → Hands P (record s { tag = t }) (NoMatch e) z → s' ≡ record z { tag = s.tag } → Lent P (record s { tag = t }) s (NoMatch e) s'
-waits_again P s t e z s' k h f = record { between = z; hands = h; state = f ∙ no_match_leaves s t h.own h.left e z k h.comes }
+-- where a callback was lent a copy that can't go on, that is what it came to
+pub barred_regains : {A : Type 0} (x : Result A ASN1Error) (m s : Reading) (e : ASN1Error) (s' : Reading) → BarredBy s m (Some e) →
+    s' ≡ failing (advanced_as s m) e → Regains x m s (Failed e) s'
+barred_regains x m s e s' (inl k) f = (sticky k, f)
+barred_regains x m s e s' (inr h) f = (before h.0 h.1 h.2, f)
+
+-- where no tag waits, a callback without a match left the reading as it was
+no_match_stays : {A : Type 0} (s : Reading) (x : Result A ASN1Error) (m : Reading) (e : ASN1Error) (s' : Reading) → s.failed ≡ None →
+    ComesTo (untagged s) x m (NoMatch e) s' → s' ≡ untagged s
+no_match_stays s x m e s' k h =
+    h.4 ∙ ap {A = List ℕ} {B = Reading} (λ l. record s { left = l; tag = None; failed = None }) (place_unconsumed s.left m.left h.1)
+    ∙ ap {A = Option ASN1Error} {B = Reading} (λ u. record s { tag = None; failed = u }) (sym k)
+
+-- a reading that was lent with no tag that waits was handed
+pub lent_hands : {A : Type 0} (P : Does A) (s : Reading) (o : Outcome A) (s' : Reading) → s.failed ≡ None →
+    Lent P (untagged s) (untagged s) o s' → Hands P (untagged s) o s'
+lent_hands P s (Matched v) s' k h = subst (λ z. Hands P (untagged s) (Matched v) z) (sym h.state) h.hands
+lent_hands P s (NoMatch e) s' k h =
+    subst (λ z. Hands P (untagged s) (NoMatch e) z) (no_match_stays s h.hands.own h.hands.left e h.between k h.hands.comes ∙ sym h.state) h.hands
+lent_hands P s (Failed e) s' k h = subst (λ z. Hands P (untagged s) (Failed e) z) (sym h.state) h.hands
 
 after : {A : Type 0} (P : Does A) (z s : Reading) (o : Outcome A) (b s' : Reading) → z.left ≡ s.left →
     Hands P z o b → s' ≡ b → (taken : List ℕ) × (s.left ≡ taken ++ s'.left)

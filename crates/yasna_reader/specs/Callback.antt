@@ -38,6 +38,17 @@ ComesTo s x m (Matched v) s' = (m.failed ≡ None) × (IsBefore s.left m.left �
 ComesTo s x m (NoMatch e) s' = (m.failed ≡ None) × ConsumedNothing s.left m × BlamesBytes (kind_of e) × (x ≡ Err e) × (s' ≡ advanced_as s m)
 ComesTo s x m (Failed e) s' = ErrorCause s.left x m e × (s' ≡ failing (advanced_as s m) e)
 
+-- the error for which there is no going on after a callback that was lent s and left m, whatever it returned
+abbrev pub BarredBy : Reading → Reading → Option ASN1Error → Type 0
+BarredBy s m None = (m.failed ≡ None) × (IsBefore s.left m.left → ⊥)
+BarredBy s m (Some e) = (m.failed ≡ Some e) ⊎ ((m.failed ≡ None) × IsBefore s.left m.left × (e ≡ error_of Invalid))
+
+-- As `ComesTo`, of a callback that was lent a copy of s: where it has no match, s stays as it was
+abbrev pub Regains : {A : Type 0} → Result A ASN1Error → Reading → Reading → Outcome A → Reading → Type 0
+Regains x m s (Matched v) s' = ComesTo s x m (Matched v) s'
+Regains x m s (NoMatch e) s' = ComesTo s x m (NoMatch e) (advanced_as s m) × (s' ≡ s)
+Regains x m s (Failed e) s' = ComesTo s x m (Failed e) s'
+
 -- what is asked of an outcome is so of a callback's, with some value if it returned one
 abbrev pub WithSome : {A : Type 0} → (Outcome A → Type 0) → Outcome (Unit {0}) → Type 0
 WithSome {A} Holds (Matched u) = (v : A) × Holds (Matched v)

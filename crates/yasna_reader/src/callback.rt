@@ -1,7 +1,8 @@
 //! How a reading is handed to a callback and taken back, for the calls with callbacks: `optional`, `set_optional`, `tagged`,
 //! `buffer` and `sequence_of`.
 //!
-//! Of the reading that a callback left, only its sticky error counts, and the number of bytes that are left.
+//! Of the reading that a callback left, only its sticky error counts, and the number of bytes that are left. Where a part may be
+//! omitted, the callback is lent a copy: the reading stays as it is where there is no match, and may be in registers meanwhile.
 ghost use Rattle.std.specs.Prelude.{IsTrue, ◌↔◌, ◌≡◌, length};
 ghost use Rattle.yasna_bytes.specs.Rejection.{BlamesBytes};
 
@@ -32,30 +33,12 @@ fn blames_bytes(kind: ASN1ErrorKind) -> bool
     }
 }
 
-// A tag copied field by field: a copy of the whole has its padding too, and is read back from memory.
-#[inline(always)]
-fn by_fields(tag: Option<Tag>) -> Option<Tag>
-    ensures { result ≡ tag }
-{
-    match tag {
-        Some(
-            Tag {
-                tag_class,
-                tag_number,
-            },
-        ) => Some(Tag {
-            tag_class,
-            tag_number,
-        }),
-        None => None,
-    }
-}
-
 impl<'a> ReaderState<'a> {
     ghost use Rattle.std.specs.Prelude.{Err, None, length, ◌≡◌};
     ghost use Rattle.std.specs.Fn.{FnOnceTakesAtMut, FnOnceReturnsAtMut};
-    ghost use Rattle.yasna_reader.specs.Callback.{ComesTo, Barred, Hands, Lent, FailsAs, WithSome, at_cursor, advanced_as};
-    ghost use Rattle.yasna_reader.specs.State.{failing};
+    ghost use Rattle.yasna_base.specs.Error.{kind_of};
+    ghost use Rattle.yasna_reader.specs.Callback.{ConsumedNothing, ComesTo, Barred, BarredBy, Hands, Lent, FailsAs, Regains, WithSome, at_cursor, advanced_as};
+    ghost use Rattle.yasna_reader.specs.State.{failing, untagged};
 
     // Hands this reading to a callback, and takes it back.
     #[inline(always)]
@@ -70,10 +53,9 @@ impl<'a> ReaderState<'a> {
         self.take_back(before, returned)
     }
 
-    // Hands this reading to a callback with this tag in place of the one that waits, which waits again where the callback has
-    // no match.
+    // Lends a callback a copy of this reading, with this tag in place of the one that waits. Where the callback has no match, this
+    // reading is as it was. The copy's bytes are stored once more, as two words: sixteen bytes at once would wait for both.
     #[inline(always)]
-    #[tactic(auto, using(crate::proofs::Callbacks::waits_again))]
     pub(crate) fn hand_under<T: Drop, F>(&mut self, tag: Option<Tag>, f: F) -> Outcome<T>
     where
         F: FnOnce(BERReader<'a, '_>) -> ASN1Result<T>,
@@ -81,13 +63,111 @@ impl<'a> ReaderState<'a> {
         requires may { FnOnceTakesAtMut F.FnOnce f (record self.old { tag = tag }) }
         ensures { Lent (FnOnceReturnsAtMut F.FnOnce f) (record self.old { tag = tag }) self.old result self.new }
     {
-        let waiting = by_fields(self.tag);
-        self.tag = by_fields(tag);
-        let outcome = self.hand(f);
-        if let Outcome::NoMatch(_) = outcome {
-            self.tag = waiting;
+        let mut lent = ReaderState {
+            cursor: self.cursor,
+            tag,
+            failed: None,
+            deeper: 0,
+            alloc: self.alloc,
+        };
+        lent.go_to(self.cursor.left);
+        let returned = f(&mut lent);
+        self.regain(&lent, returned)
+    }
+
+    // Goes on with these bytes.
+    #[inline(always)]
+    fn go_to(&mut self, left: &'a [u8])
+        ensures { self.new ≡ record self.old { left = left.now } }
+    {
+        self.cursor.left = left;
+    }
+
+    // The outcome of a callback that left this of a copy and returned this result, which is tested first, as in `leave`.
+    #[inline(always)]
+    #[tactic(auto, using(crate::proofs::Callbacks::barred_regains))]
+    fn regain<T: Drop>(&mut self, lent: &ReaderState<'a>, returned: ASN1Result<T>) -> Outcome<T>
+        requires { self.old.failed ≡ None }
+        ensures { Regains returned lent.now self.old result self.new }
+    {
+        let error = match returned {
+            Ok(value) => match self.barred_by(lent) {
+                None => {
+                    self.advance(lent);
+                    return Outcome::Matched(value);
+                }
+                Some(failed) => failed,
+            },
+            Err(error) => match self.barred_by(lent) {
+                None => {
+                    if self.has_no_match(lent, error) {
+                        return Outcome::NoMatch(error);
+                    }
+                    error
+                }
+                Some(failed) => failed,
+            },
+        };
+        self.fail_as(lent, error)
+    }
+
+    // Whether an Err is no match, where nothing bars going on.
+    #[inline(always)]
+    fn has_no_match(&self, lent: &ReaderState<'a>, error: ASN1Error) -> bool
+        ensures { IsTrue result ↔ (ConsumedNothing self.now.left lent.now × BlamesBytes (kind_of error)) }
+    {
+        lent.cursor.left.len() == self.cursor.left.len() && blames_bytes(error.kind())
+    }
+
+    // The error that bars going on where a callback left this of a copy.
+    #[inline(always)]
+    fn barred_by(&self, lent: &ReaderState<'a>) -> Option<ASN1Error>
+        ensures { BarredBy self.now lent.now result }
+    {
+        if let Some(error) = lent.failed {
+            return Some(error);
         }
-        outcome
+        if self.cursor.left.len() < lent.cursor.left.len() {
+            return Some(ASN1Error::new(ASN1ErrorKind::Invalid));
+        }
+        None
+    }
+
+    // Goes on at the place where a callback left a copy.
+    #[inline(always)]
+    fn advance(&mut self, lent: &ReaderState<'a>)
+        ensures { self.new ≡ record (advanced_as self.old lent.now) { failed = self.old.failed } }
+    {
+        let all = self.cursor.left.len();
+        let remaining = lent.cursor.left.len();
+        self.untag();
+        self.cursor.left = &self.cursor.left[all.saturating_sub(remaining)..];
+    }
+
+    // As `advance`, with an error, which stays at its place if it was sticky in the copy.
+    #[inline(always)]
+    fn fail_as<T>(&mut self, lent: &ReaderState<'a>, error: ASN1Error) -> Outcome<T>
+        ensures { FailsAs error (advanced_as self.old lent.now) result self.new }
+    {
+        self.advance(lent);
+        if lent.failed.is_some() {
+            self.set_place(lent.place_of_error(), lent.deeper);
+        }
+        self.fail_outcome(error)
+    }
+
+    // Lends a callback a copy of this reading, for which no tag waits.
+    #[inline(always)]
+    #[tactic(auto, using(crate::proofs::Callbacks::lent_hands))]
+    pub(crate) fn hand_untagged<T: Drop, F>(&mut self, f: F) -> Outcome<T>
+    where
+        F: FnOnce(BERReader<'a, '_>) -> ASN1Result<T>,
+        requires failed { self.old.failed ≡ None }
+        requires may { FnOnceTakesAtMut F.FnOnce f (untagged self.old) }
+        ensures { Hands (FnOnceReturnsAtMut F.FnOnce f) (untagged self.old) result self.new }
+    {
+        self.untag();
+        self.hand_under(None, f)
     }
 
     // The outcome of a callback that began at this place and returned this result, which is tested first, as in `leave`. The reading

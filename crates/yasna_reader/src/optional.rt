@@ -88,8 +88,7 @@ impl<'a> PartsReader<ReaderState<'a>> {
         if let Some(error) = reader.failed {
             return Err(error);
         }
-        reader.untag();
-        let value = match reader.hand(f) {
+        let value = match reader.hand_untagged(f) {
             Outcome::Matched(value) => value,
             Outcome::NoMatch(_) => return Ok(None),
             Outcome::Failed(error) => return Err(error),
@@ -111,9 +110,8 @@ impl<'a> PartsReader<ReaderState<'a>> {
         if let Some(error) = reader.failed {
             return Err(error);
         }
-        reader.untag();
         let before = reader.cursor.left.len();
-        let outcome = reader.hand(f);
+        let outcome = reader.hand_untagged(f);
         reader.or_default(before, outcome, default)
     }
 }
