@@ -10,9 +10,9 @@ ghost use Rattle.yasna_notation.specs.Laws.{any_laws, never_retagged, raw_non_em
 
 use crate::notation::Notation;
 use yasna_base::models::TaggedDerValue;
-use yasna_base::{ASN1Result, Tag};
+use yasna_base::{ASN1Result, BERMode, Tag};
 use yasna_reader::BERReader;
-use yasna_writer::DERWriter;
+use yasna_writer::{DERWriter, PrependBuffer, tagged_der_len};
 
 /// It is written as it came, so one that BER read with indefinite length isn't an element of DER. Its depth isn't counted.
 impl Notation for TaggedDerValue {
@@ -47,6 +47,20 @@ impl Notation for TaggedDerValue {
     #[inline(always)]
     fn write(value: &TaggedDerValue, writer: DERWriter<'_>) -> ASN1Result<()> {
         writer.write_tagged_der(value)
+    }
+
+    #[inline(always)]
+    fn prepend(
+        value: &TaggedDerValue,
+        under: Option<Tag>,
+        out: &mut PrependBuffer,
+    ) -> ASN1Result<()> {
+        out.prepend_tagged_der(under.unwrap_or(value.tag()), value)
+    }
+
+    #[inline(always)]
+    fn encoded_len(value: &TaggedDerValue, under: Option<Tag>, mode: BERMode) -> Option<usize> {
+        tagged_der_len(mode, under.unwrap_or(value.tag()), value)
     }
 
     ghost lawful = { λ _. record { own = any_laws; others = λ e. never_retagged e } };

@@ -5,9 +5,9 @@ ghost use Rattle.yasna_notation.specs.Bounded.{Within, within_lawful};
 
 use crate::notation::Notation;
 use std::marker::PhantomData;
-use yasna_base::{ASN1Error, ASN1ErrorKind, ASN1Result, Tag};
+use yasna_base::{ASN1Error, ASN1ErrorKind, ASN1Result, BERMode, Tag};
 use yasna_reader::BERReader;
-use yasna_writer::DERWriter;
+use yasna_writer::{DERWriter, PrependBuffer};
 
 /// A bound: the values of a notation that pass it.
 pub trait Bound<N: Notation> {
@@ -66,6 +66,16 @@ impl<N: Notation, C: Bound<N>> Notation for Bounded<N, C> {
     #[inline(always)]
     fn write(value: &N::Value, writer: DERWriter<'_>) -> ASN1Result<()> {
         N::write(value, writer)
+    }
+
+    #[inline(always)]
+    fn prepend(value: &N::Value, under: Option<Tag>, out: &mut PrependBuffer) -> ASN1Result<()> {
+        N::prepend(value, under, out)
+    }
+
+    #[inline(always)]
+    fn encoded_len(value: &N::Value, under: Option<Tag>, mode: BERMode) -> Option<usize> {
+        N::encoded_len(value, under, mode)
     }
 
     ghost lawful = { λ a. within_lawful C.passes C.alike (N.lawful a) };

@@ -7,6 +7,7 @@ ghost use Rattle.yasna_base.specs.Beginnings.{is_tag, share_none};
 ghost use Rattle.yasna_base.specs.Choice.{EitherOf, AnyEither, SameEither, either_encoding, either_depth, either_can, either_fits};
 ghost use Rattle.yasna_base.specs.Exact.{Fitting};
 ghost use Rattle.yasna_base.specs.Grammar.{Grammar, Members, Encoding, Depth};
+ghost use Rattle.yasna_writer.specs.Prepend.{Prepends, KnownLength};
 ghost use Rattle.yasna_writer.specs.View.{Writes};
 ghost use Rattle.yasna_notation.specs.Notation.{IsNotation};
 ghost use Rattle.yasna_notation.specs.Choices.{ReadsFound, sides, last_laws, either_laws, either_non_empty};
@@ -14,9 +15,9 @@ ghost use Rattle.yasna_notation.specs.Laws.{never_retagged};
 
 use crate::notation::Notation;
 use std::marker::PhantomData;
-use yasna_base::{ASN1Result, Tag};
+use yasna_base::{ASN1Result, BERMode, Tag};
 use yasna_reader::BERReader;
-use yasna_writer::DERWriter;
+use yasna_writer::{DERWriter, PrependBuffer};
 
 /// A value of the first of two types, or of the second.
 #[derive(Drop)]
@@ -76,6 +77,27 @@ pub trait Alternatives {
         requires { can value.now }
         ensures { Writes (encoding_under writer.old.tag writer.old.mode value.now) writer.old writer.new result };
 
+    /// Prepends a value to a buffer, as `Notation::prepend`.
+    fn prepend(value: &Self::Value, under: Option<Tag>, out: &mut PrependBuffer) -> ASN1Result<()>
+        requires { can value.now }
+        ensures { Prepends (encoding_under under out.old.mode value.now) out.old out.new result }
+    {
+        let mut writer = out.writer_under(under);
+        Self::write(value, &mut writer)?;
+        out.prepend_written(&mut writer)
+    }
+
+    /// The length of the encoding, if it is known, as `Notation::encoded_len`.
+    fn encoded_len(value: &Self::Value, under: Option<Tag>, mode: BERMode) -> Option<usize>
+        requires { can value.now }
+        ensures { KnownLength (encoding_under under mode value.now) result }
+    {
+        let _ = value;
+        let _ = under;
+        let _ = mode;
+        None
+    }
+
     // The laws of reading and of a canonical mode.
     ghost laws: { unambiguous ≡ true → IsNotation true tags same encodes elements (encoding_under None) fits can };
 
@@ -121,6 +143,16 @@ impl<A: Notation> Alternatives for (A,) {
     #[inline(always)]
     fn write(value: &A::Value, writer: DERWriter<'_>) -> ASN1Result<()> {
         A::write(value, writer)
+    }
+
+    #[inline(always)]
+    fn prepend(value: &A::Value, under: Option<Tag>, out: &mut PrependBuffer) -> ASN1Result<()> {
+        A::prepend(value, under, out)
+    }
+
+    #[inline(always)]
+    fn encoded_len(value: &A::Value, under: Option<Tag>, mode: BERMode) -> Option<usize> {
+        A::encoded_len(value, under, mode)
     }
 
     ghost laws = { λ a. last_laws (λ b. (A.lawful b).own) a };
@@ -176,6 +208,30 @@ impl<A: Notation, W: Alternatives> Alternatives for (A, W) {
         }
     }
 
+    #[inline(always)]
+    fn prepend(
+        value: &Either<A::Value, W::Value>,
+        under: Option<Tag>,
+        out: &mut PrependBuffer,
+    ) -> ASN1Result<()> {
+        match value {
+            Either::First(first) => A::prepend(first, under, out),
+            Either::Second(second) => W::prepend(second, under, out),
+        }
+    }
+
+    #[inline(always)]
+    fn encoded_len(
+        value: &Either<A::Value, W::Value>,
+        under: Option<Tag>,
+        mode: BERMode,
+    ) -> Option<usize> {
+        match value {
+            Either::First(first) => A::encoded_len(first, under, mode),
+            Either::Second(second) => W::encoded_len(second, under, mode),
+        }
+    }
+
     ghost laws = { λ a. either_laws (λ b. (A.lawful b).own) W.laws a };
 
     ghost non_empty = { λ u m v. either_non_empty (A.means.encoding_under u) (W.encoding_under u) m (A.non_empty u m) (W.non_empty u m) v };
@@ -224,6 +280,16 @@ where
     #[inline(always)]
     fn write(value: &A::Value, writer: DERWriter<'_>) -> ASN1Result<()> {
         A::write(value, writer)
+    }
+
+    #[inline(always)]
+    fn prepend(value: &A::Value, under: Option<Tag>, out: &mut PrependBuffer) -> ASN1Result<()> {
+        A::prepend(value, under, out)
+    }
+
+    #[inline(always)]
+    fn encoded_len(value: &A::Value, under: Option<Tag>, mode: BERMode) -> Option<usize> {
+        A::encoded_len(value, under, mode)
     }
 
     ghost lawful = { λ a. record { own = A.laws a; others = λ e. never_retagged e } };

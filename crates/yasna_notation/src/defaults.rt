@@ -8,6 +8,7 @@ ghost use Rattle.yasna_base.specs.Default.{DetectsDefault, DefaultOf, default_en
 ghost use Rattle.yasna_base.specs.Exact.{part_fits};
 ghost use Rattle.yasna_base.specs.Identifier.{end_tag};
 ghost use Rattle.yasna_base.specs.Sequence.{PartOf, AnyPart, SamePart, part_encoding, part_depth, part_can};
+ghost use Rattle.yasna_writer.specs.Prepend.{Prepends, KnownLength};
 ghost use Rattle.yasna_writer.specs.View.{WroteParts};
 ghost use Rattle.yasna_notation.specs.Parts.{all_known, default_laws, detects_false, tests_false, detects_number};
 
@@ -17,9 +18,9 @@ use crate::notation::Notation;
 use crate::parts::{Parts, PartsBy};
 use crate::tag_names::TagName;
 use std::marker::PhantomData;
-use yasna_base::ASN1Result;
+use yasna_base::{ASN1Result, BERMode};
 use yasna_reader::BERReaderSeq;
-use yasna_writer::DERWriterSeq;
+use yasna_writer::{DERWriterSeq, PrependBuffer};
 
 /// The default of a part of this notation: its value if it is omitted.
 pub trait DefaultValue<N: Notation>
@@ -164,6 +165,19 @@ where
         W::write_parts(&values.1, seq)
     }
 
+    #[inline(always)]
+    fn prepend_parts(values: &(A::Value, W::Values), out: &mut PrependBuffer) -> ASN1Result<()> {
+        W::prepend_parts(&values.1, out)?;
+        prepend_unless_default::<A, D>(&values.0, out)
+    }
+
+    #[inline(always)]
+    fn parts_len(values: &(A::Value, W::Values), mode: BERMode) -> Option<usize> {
+        let first = unless_default_len::<A, D>(&values.0, mode)?;
+        let others = W::parts_len(&values.1, mode)?;
+        first.checked_add(others)
+    }
+
     ghost laws = { λ a. default_laws D.is D.default D.detects (λ b. (A.lawful b).own) W.laws a };
 }
 
@@ -185,6 +199,19 @@ where
         write_unless_default::<A, D>(fields.0, seq)?;
         W::write_each(&fields.1, seq)
     }
+
+    #[inline(always)]
+    fn prepend_each(fields: &(&'a A::Value, R), out: &mut PrependBuffer) -> ASN1Result<()> {
+        W::prepend_each(&fields.1, out)?;
+        prepend_unless_default::<A, D>(fields.0, out)
+    }
+
+    #[inline(always)]
+    fn each_len(fields: &(&'a A::Value, R), mode: BERMode) -> Option<usize> {
+        let first = unless_default_len::<A, D>(fields.0, mode)?;
+        let others = W::each_len(&fields.1, mode)?;
+        first.checked_add(others)
+    }
 }
 
 // Writes a part, unless it is the default.
@@ -202,4 +229,40 @@ where
         return Ok(());
     }
     A::write(value, seq.next())
+}
+
+// Prepends a part, unless it is the default.
+#[inline(always)]
+fn prepend_unless_default<A: Notation, D: DefaultValue<A>>(
+    value: &A::Value,
+    out: &mut PrependBuffer,
+) -> ASN1Result<()>
+where
+    A::Value: Eq,
+    requires { default_can D.is A.means.can value.now }
+    ensures { Prepends (default_encoding D.is (A.means.encoding_under None) out.old.mode value.now) out.old out.new result }
+{
+    if *value == D::default() {
+        Ok(())
+    } else {
+        A::prepend(value, None, out)
+    }
+}
+
+// The length of a part, or 0 if it is the default.
+#[inline(always)]
+fn unless_default_len<A: Notation, D: DefaultValue<A>>(
+    value: &A::Value,
+    mode: BERMode,
+) -> Option<usize>
+where
+    A::Value: Eq,
+    requires { default_can D.is A.means.can value.now }
+    ensures { KnownLength (default_encoding D.is (A.means.encoding_under None) mode value.now) result }
+{
+    if *value == D::default() {
+        Some(0)
+    } else {
+        A::encoded_len(value, None, mode)
+    }
 }

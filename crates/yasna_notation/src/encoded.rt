@@ -6,9 +6,9 @@ ghost use Rattle.yasna_base.proofs.Exact.{exact_along};
 use crate::messages::Message;
 use crate::notation::Notation;
 use yasna::{BERDecodable, DEREncodable, DERExact};
-use yasna_base::ASN1Result;
+use yasna_base::{ASN1Result, BERMode};
 use yasna_reader::BERReader;
-use yasna_writer::DERWriter;
+use yasna_writer::{DERWriter, PrependBuffer};
 
 /// A value of a type that a module defines, with the traits of `yasna`: it is decoded and encoded as a whole.
 ///
@@ -63,6 +63,16 @@ impl<T: Message> DEREncodable for Encoded<T> {
     #[inline(always)]
     fn encode_der(&self, writer: DERWriter<'_>) -> ASN1Result<()> {
         <T as Notation>::write(&self.value, writer)
+    }
+
+    #[inline(always)]
+    fn prepend_der(&self, out: &mut PrependBuffer) -> ASN1Result<()> {
+        <T as Notation>::prepend(&self.value, None, out)
+    }
+
+    #[inline(always)]
+    fn encoded_len(&self, mode: BERMode) -> Option<usize> {
+        <T as Notation>::encoded_len(&self.value, None, mode)
     }
 }
 

@@ -10,9 +10,9 @@ ghost use Rattle.yasna_notation.specs.Laws.{element_lawful, explicit_laws, eleme
 use crate::notation::Notation;
 use crate::tag_names::TagName;
 use std::marker::PhantomData;
-use yasna_base::{ASN1Result, Tag};
+use yasna_base::{ASN1Result, BERMode, Tag};
 use yasna_reader::BERReader;
-use yasna_writer::DERWriter;
+use yasna_writer::{DERWriter, PrependBuffer, constructed_len};
 
 /// `[T] EXPLICIT N`, as `Explicit<Context<0>, i64>` of `[0] EXPLICIT INTEGER`.
 pub struct Explicit<T, N> {
@@ -54,6 +54,22 @@ impl<T: TagName, N: Notation> Notation for Explicit<T, N> {
     #[inline(always)]
     fn write(value: &N::Value, writer: DERWriter<'_>) -> ASN1Result<()> {
         writer.write_tagged(T::tag(), |inner| N::write(value, inner))
+    }
+
+    #[inline(always)]
+    fn prepend(value: &N::Value, under: Option<Tag>, out: &mut PrependBuffer) -> ASN1Result<()> {
+        let after = out.begin_contents()?;
+        N::prepend(value, None, out)?;
+        out.enclose(under.unwrap_or(T::tag()), after)
+    }
+
+    #[inline(always)]
+    fn encoded_len(value: &N::Value, under: Option<Tag>, mode: BERMode) -> Option<usize> {
+        constructed_len(
+            mode,
+            under.unwrap_or(T::tag()),
+            N::encoded_len(value, None, mode)?,
+        )
     }
 
     ghost lawful = { λ a. element_lawful T.tag (explicit_laws (N.lawful a).own) (enclosed_begins (N.means.any_under None)) T.not_end T.in_range };

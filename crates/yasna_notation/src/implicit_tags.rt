@@ -6,9 +6,9 @@ ghost use Rattle.yasna_notation.specs.Laws.{implicit_lawful};
 use crate::notation::Notation;
 use crate::tag_names::TagName;
 use std::marker::PhantomData;
-use yasna_base::{ASN1Result, Tag};
+use yasna_base::{ASN1Result, BERMode, Tag};
 use yasna_reader::BERReader;
-use yasna_writer::DERWriter;
+use yasna_writer::{DERWriter, PrependBuffer};
 
 /// `[T] IMPLICIT N`, as `Implicit<Context<0>, i64>` of `[0] IMPLICIT INTEGER`. `N` is a type that has a tag itself.
 pub struct Implicit<T, N> {
@@ -50,6 +50,16 @@ impl<T: TagName, N: Notation> Notation for Implicit<T, N> {
     #[inline(always)]
     fn write(value: &N::Value, writer: DERWriter<'_>) -> ASN1Result<()> {
         writer.write_tagged_implicit(T::tag(), |inner| N::write(value, inner))
+    }
+
+    #[inline(always)]
+    fn prepend(value: &N::Value, under: Option<Tag>, out: &mut PrependBuffer) -> ASN1Result<()> {
+        N::prepend(value, Some(under.unwrap_or(T::tag())), out)
+    }
+
+    #[inline(always)]
+    fn encoded_len(value: &N::Value, under: Option<Tag>, mode: BERMode) -> Option<usize> {
+        N::encoded_len(value, Some(under.unwrap_or(T::tag())), mode)
     }
 
     ghost lawful = { λ a. implicit_lawful T.tag (λ b. N.lawful b) a T.not_end T.in_range };

@@ -8,11 +8,11 @@ ghost use Rattle.yasna_writer.specs.View.{WroteParts};
 ghost use Rattle.yasna_notation.specs.Parts.{last_part_laws};
 
 use crate::notation::Notation;
-use crate::parts::{Parts, PartsBy, write_optional};
+use crate::parts::{Parts, PartsBy, optional_len, prepend_optional, write_optional};
 use std::marker::PhantomData;
-use yasna_base::ASN1Result;
+use yasna_base::{ASN1Result, BERMode};
 use yasna_reader::BERReaderSeq;
-use yasna_writer::DERWriterSeq;
+use yasna_writer::{DERWriterSeq, PrependBuffer};
 
 /// `N OPTIONAL` at the end of a SEQUENCE, as `(ObjectIdentifier, Last<TaggedDerValue>)` of an OBJECT IDENTIFIER and an ANY OPTIONAL.
 pub struct Last<N> {
@@ -56,6 +56,16 @@ impl<A: Notation> Parts for Last<A> {
         write_optional::<A>(values, seq)
     }
 
+    #[inline(always)]
+    fn prepend_parts(values: &Option<A::Value>, out: &mut PrependBuffer) -> ASN1Result<()> {
+        prepend_optional::<A>(values, out)
+    }
+
+    #[inline(always)]
+    fn parts_len(values: &Option<A::Value>, mode: BERMode) -> Option<usize> {
+        optional_len::<A>(values, mode)
+    }
+
     ghost laws = { λ a. last_part_laws (A.lawful a).own };
 }
 
@@ -71,5 +81,15 @@ impl<'a, A: Notation> PartsBy<&'a Option<A::Value>> for Last<A> {
     #[inline(always)]
     fn write_each(fields: &&'a Option<A::Value>, seq: &mut DERWriterSeq) -> ASN1Result<()> {
         write_optional::<A>(*fields, seq)
+    }
+
+    #[inline(always)]
+    fn prepend_each(fields: &&'a Option<A::Value>, out: &mut PrependBuffer) -> ASN1Result<()> {
+        prepend_optional::<A>(*fields, out)
+    }
+
+    #[inline(always)]
+    fn each_len(fields: &&'a Option<A::Value>, mode: BERMode) -> Option<usize> {
+        optional_len::<A>(*fields, mode)
     }
 }

@@ -10,6 +10,7 @@ ghost use Rattle.yasna_base.specs.SequenceOf.{IsListOf, AnyListOf, elements_enco
 ghost use Rattle.yasna_base.proofs.ExplicitTags.{enclosed_begins};
 ghost use Rattle.yasna_base.proofs.Identifier.{not_end};
 ghost use Rattle.std.proofs.Common.{arith};
+ghost use Rattle.yasna_writer.specs.Prepend.{Prepends, KnownLength};
 ghost use Rattle.yasna_writer.specs.View.{Writes, WroteParts};
 ghost use Rattle.yasna_notation.specs.Making.{in_sequence_of};
 ghost use Rattle.yasna_notation.specs.Laws.{element_lawful, list_laws, element_non_empty};
@@ -17,9 +18,9 @@ ghost use Rattle.yasna_notation.specs.Laws.{element_lawful, list_laws, element_n
 use crate::notation::Notation;
 use std::marker::PhantomData;
 use yasna_base::tags::TAG_SEQUENCE;
-use yasna_base::{ASN1Result, Tag};
+use yasna_base::{ASN1Result, BERMode, Tag};
 use yasna_reader::BERReader;
-use yasna_writer::{DERWriter, DERWriterSeq};
+use yasna_writer::{DERWriter, DERWriterSeq, PrependBuffer, constructed_len};
 
 /// `SEQUENCE OF N`.
 pub struct SequenceOf<N> {
@@ -62,6 +63,20 @@ impl<N: Notation> Notation for SequenceOf<N> {
         write_list::<N>(value.as_slice(), writer)
     }
 
+    #[inline(always)]
+    fn prepend(
+        value: &Vec<N::Value>,
+        under: Option<Tag>,
+        out: &mut PrependBuffer,
+    ) -> ASN1Result<()> {
+        prepend_list::<N>(value.as_slice(), under.unwrap_or(TAG_SEQUENCE), out)
+    }
+
+    #[inline(always)]
+    fn encoded_len(value: &Vec<N::Value>, under: Option<Tag>, mode: BERMode) -> Option<usize> {
+        list_len::<N>(value.as_slice(), under.unwrap_or(TAG_SEQUENCE), mode)
+    }
+
     ghost lawful = { λ a. in_sequence_of (N.lawful a).own };
 
     ghost non_empty = { λ u m v. element_non_empty _ _ _ _ };
@@ -84,4 +99,51 @@ fn write_items<N: Notation>(items: &[N::Value], seq: &mut DERWriterSeq) -> ASN1R
         N::write(item, seq.next())?;
     }
     Ok(())
+}
+
+// Prepends an element of this tag around items.
+pub(crate) fn prepend_list<N: Notation>(
+    items: &[N::Value],
+    tag: Tag,
+    out: &mut PrependBuffer,
+) -> ASN1Result<()>
+    requires { AllByRecursion N.means.can items.now }
+    ensures { Prepends (enclosed_encoding (elements_encoding (N.means.encoding_under None)) tag out.old.mode items.now) out.old out.new result }
+{
+    let after = out.begin_contents()?;
+    prepend_items::<N>(items, out)?;
+    out.enclose(tag, after)
+}
+
+// The length of that.
+fn list_len<N: Notation>(items: &[N::Value], tag: Tag, mode: BERMode) -> Option<usize>
+    requires { AllByRecursion N.means.can items.now }
+    ensures { KnownLength (enclosed_encoding (elements_encoding (N.means.encoding_under None)) tag mode items.now) result }
+{
+    constructed_len(mode, tag, items_len::<N>(items, mode)?)
+}
+
+// Prepends items, from the last to the first.
+fn prepend_items<N: Notation>(items: &[N::Value], out: &mut PrependBuffer) -> ASN1Result<()>
+    requires { AllByRecursion N.means.can items.now }
+    ensures { Prepends (elements_encoding (N.means.encoding_under None) out.old.mode items.now) out.old out.new result }
+{
+    let mut rest = items;
+    while let Some((last, others)) = rest.split_last() {
+        N::prepend(last, None, out)?;
+        rest = others;
+    }
+    Ok(())
+}
+
+// The length of items, one after the other.
+pub(crate) fn items_len<N: Notation>(items: &[N::Value], mode: BERMode) -> Option<usize>
+    requires { AllByRecursion N.means.can items.now }
+    ensures { KnownLength (elements_encoding (N.means.encoding_under None) mode items.now) result }
+{
+    let mut total: usize = 0;
+    for item in items {
+        total = total.checked_add(N::encoded_len(item, None, mode)?)?;
+    }
+    Some(total)
 }

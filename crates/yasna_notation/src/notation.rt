@@ -6,12 +6,13 @@ ghost use Rattle.yasna_base.specs.declared.tag.Tag.{Tag};
 ghost use Rattle.yasna_base.specs.Beginnings.{is_tag};
 ghost use Rattle.yasna_base.specs.Exact.{Fitting};
 ghost use Rattle.yasna_base.specs.Grammar.{Grammar, Members, Encoding, Depth};
+ghost use Rattle.yasna_writer.specs.Prepend.{Prepends, KnownLength};
 ghost use Rattle.yasna_writer.specs.View.{Writes};
 ghost use Rattle.yasna_notation.specs.Notation.{Meaning, MeaningKeepsLaws, IsNonEmptyEncoding, ReadsMeaning};
 
-use yasna_base::{ASN1Result, Tag};
+use yasna_base::{ASN1Result, BERMode, Tag};
 use yasna_reader::BERReader;
-use yasna_writer::DERWriter;
+use yasna_writer::{DERWriter, PrependBuffer};
 
 /// A type as the notation of ASN.1 writes it (X.680).
 ///
@@ -43,6 +44,31 @@ pub trait Notation {
     fn write(value: &Self::Value, writer: DERWriter<'_>) -> ASN1Result<()>
         requires { means.can value.now }
         ensures { Writes (means.encoding_under writer.old.tag writer.old.mode value.now) writer.old writer.new result };
+
+    /// Prepends a value to a buffer, in its mode: the bytes that `write` appends, if the implicit tag `under` waits.
+    ///
+    /// `Err` is `OutOfMemory`. A notation without a body of its own is written by `write` separately.
+    fn prepend(value: &Self::Value, under: Option<Tag>, out: &mut PrependBuffer) -> ASN1Result<()>
+        requires { means.can value.now }
+        ensures { Prepends (means.encoding_under under out.old.mode value.now) out.old out.new result }
+    {
+        let mut writer = out.writer_under(under);
+        Self::write(value, &mut writer)?;
+        out.prepend_written(&mut writer)
+    }
+
+    /// The length of the encoding in a canonical mode, if it is known.
+    ///
+    /// A notation that returns `Some` has a body of its own for `prepend` too.
+    fn encoded_len(value: &Self::Value, under: Option<Tag>, mode: BERMode) -> Option<usize>
+        requires { means.can value.now }
+        ensures { KnownLength (means.encoding_under under mode value.now) result }
+    {
+        let _ = value;
+        let _ = under;
+        let _ = mode;
+        None
+    }
 
     // The laws of reading and of a canonical mode, under the type's own tag and under others.
     ghost lawful: { unambiguous ≡ true → MeaningKeepsLaws means };

@@ -11,14 +11,15 @@ ghost use Rattle.yasna_base.specs.Identifier.{end_tag};
 ghost use Rattle.yasna_base.specs.Optional.{OptionOf, AnyOption, SameOption, option_encoding, option_depth, option_can};
 ghost use Rattle.yasna_base.specs.Sequence.{PartOf, NoParts, AnyPart, AnyNothing, SamePart, SameNothing, part_encoding, part_depth, part_can, nothing_encoding, nothing_depth};
 ghost use Rattle.yasna_reader.specs.State.{IsFresh, part_of};
+ghost use Rattle.yasna_writer.specs.Prepend.{Prepends, KnownLength};
 ghost use Rattle.yasna_writer.specs.View.{WroteParts};
 ghost use Rattle.yasna_notation.specs.Parts.{ReadsContents, AreParts, no_parts, part_laws, option_laws, all_known};
 
 use crate::notation::Notation;
 use std::marker::PhantomData;
-use yasna_base::ASN1Result;
+use yasna_base::{ASN1Result, BERMode};
 use yasna_reader::BERReaderSeq;
-use yasna_writer::DERWriterSeq;
+use yasna_writer::{DERWriterSeq, PrependBuffer};
 
 /// The parts of a SEQUENCE, as pairs that end in `()`: `(i64, (Optional<bool>, ()))` of an INTEGER and a BOOLEAN OPTIONAL.
 pub trait Parts {
@@ -68,6 +69,28 @@ pub trait Parts {
         requires { can values.now }
         ensures { WroteParts (encoding seq.old.mode values.now) seq.old seq.new result };
 
+    /// Prepends the parts to a buffer, from the last to the first.
+    ///
+    /// `Err` is `OutOfMemory`.
+    fn prepend_parts(values: &Self::Values, out: &mut PrependBuffer) -> ASN1Result<()>
+        requires { can values.now }
+        ensures { Prepends (encoding out.old.mode values.now) out.old out.new result }
+    {
+        let mut writer = out.writer();
+        Self::write_parts(values, &mut writer)?;
+        out.prepend_written(&mut writer)
+    }
+
+    /// The length of their encodings, one after the other, if it is known.
+    fn parts_len(values: &Self::Values, mode: BERMode) -> Option<usize>
+        requires { can values.now }
+        ensures { KnownLength (encoding mode values.now) result }
+    {
+        let _ = values;
+        let _ = mode;
+        None
+    }
+
     // The laws of reading and of a canonical mode.
     ghost laws: { unambiguous ≡ true → AreParts tags_known tags same parts any_parts encoding fits can };
 }
@@ -107,6 +130,16 @@ impl Parts for () {
     #[inline(always)]
     fn write_parts(_values: &(), _seq: &mut DERWriterSeq) -> ASN1Result<()> {
         Ok(())
+    }
+
+    #[inline(always)]
+    fn prepend_parts(_values: &(), _out: &mut PrependBuffer) -> ASN1Result<()> {
+        Ok(())
+    }
+
+    #[inline(always)]
+    fn parts_len(_values: &(), _mode: BERMode) -> Option<usize> {
+        Some(0)
     }
 
     ghost laws = { λ _. no_parts };
@@ -156,6 +189,19 @@ impl<A: Notation, W: Parts> Parts for (A, W) {
     fn write_parts(values: &(A::Value, W::Values), seq: &mut DERWriterSeq) -> ASN1Result<()> {
         A::write(&values.0, seq.next())?;
         W::write_parts(&values.1, seq)
+    }
+
+    #[inline(always)]
+    fn prepend_parts(values: &(A::Value, W::Values), out: &mut PrependBuffer) -> ASN1Result<()> {
+        W::prepend_parts(&values.1, out)?;
+        A::prepend(&values.0, None, out)
+    }
+
+    #[inline(always)]
+    fn parts_len(values: &(A::Value, W::Values), mode: BERMode) -> Option<usize> {
+        let first = A::encoded_len(&values.0, None, mode)?;
+        let others = W::parts_len(&values.1, mode)?;
+        first.checked_add(others)
     }
 
     ghost laws = { λ a. part_laws (λ b. (A.lawful b).own) W.laws a };
@@ -215,6 +261,22 @@ impl<A: Notation, W: Parts> Parts for (Optional<A>, W) {
         W::write_parts(&values.1, seq)
     }
 
+    #[inline(always)]
+    fn prepend_parts(
+        values: &(Option<A::Value>, W::Values),
+        out: &mut PrependBuffer,
+    ) -> ASN1Result<()> {
+        W::prepend_parts(&values.1, out)?;
+        prepend_optional::<A>(&values.0, out)
+    }
+
+    #[inline(always)]
+    fn parts_len(values: &(Option<A::Value>, W::Values), mode: BERMode) -> Option<usize> {
+        let first = optional_len::<A>(&values.0, mode)?;
+        let others = W::parts_len(&values.1, mode)?;
+        first.checked_add(others)
+    }
+
     ghost laws = { λ a. option_laws (λ b. (A.lawful b).own) W.laws a };
 }
 
@@ -230,6 +292,33 @@ pub(crate) fn write_optional<A: Notation>(
     match value {
         Some(part) => A::write(part, seq.next()),
         None => Ok(()),
+    }
+}
+
+// Prepends a part that may be omitted.
+#[inline(always)]
+pub(crate) fn prepend_optional<A: Notation>(
+    value: &Option<A::Value>,
+    out: &mut PrependBuffer,
+) -> ASN1Result<()>
+    requires { option_can A.means.can value.now }
+    ensures { Prepends (option_encoding (A.means.encoding_under None) out.old.mode value.now) out.old out.new result }
+{
+    match value {
+        Some(part) => A::prepend(part, None, out),
+        None => Ok(()),
+    }
+}
+
+// The length of a part that may be omitted.
+#[inline(always)]
+pub(crate) fn optional_len<A: Notation>(value: &Option<A::Value>, mode: BERMode) -> Option<usize>
+    requires { option_can A.means.can value.now }
+    ensures { KnownLength (option_encoding (A.means.encoding_under None) mode value.now) result }
+{
+    match value {
+        Some(part) => A::encoded_len(part, None, mode),
+        None => Some(0),
     }
 }
 
@@ -251,6 +340,28 @@ pub trait PartsBy<R> {
     fn write_each(fields: &R, seq: &mut DERWriterSeq) -> ASN1Result<()>
         requires { can_by (held fields.now) }
         ensures { WroteParts (encoding_by seq.old.mode (held fields.now)) seq.old seq.new result };
+
+    /// Prepends the parts to a buffer, from the last to the first.
+    ///
+    /// `Err` is `OutOfMemory`.
+    fn prepend_each(fields: &R, out: &mut PrependBuffer) -> ASN1Result<()>
+        requires { can_by (held fields.now) }
+        ensures { Prepends (encoding_by out.old.mode (held fields.now)) out.old out.new result }
+    {
+        let mut writer = out.writer();
+        Self::write_each(fields, &mut writer)?;
+        out.prepend_written(&mut writer)
+    }
+
+    /// The length of their encodings, one after the other, if it is known.
+    fn each_len(fields: &R, mode: BERMode) -> Option<usize>
+        requires { can_by (held fields.now) }
+        ensures { KnownLength (encoding_by mode (held fields.now)) result }
+    {
+        let _ = fields;
+        let _ = mode;
+        None
+    }
 }
 
 impl PartsBy<()> for () {
@@ -265,6 +376,16 @@ impl PartsBy<()> for () {
     #[inline(always)]
     fn write_each(_fields: &(), _seq: &mut DERWriterSeq) -> ASN1Result<()> {
         Ok(())
+    }
+
+    #[inline(always)]
+    fn prepend_each(_fields: &(), _out: &mut PrependBuffer) -> ASN1Result<()> {
+        Ok(())
+    }
+
+    #[inline(always)]
+    fn each_len(_fields: &(), _mode: BERMode) -> Option<usize> {
+        Some(0)
     }
 }
 
@@ -282,6 +403,19 @@ impl<'a, A: Notation, R, W: PartsBy<R>> PartsBy<(&'a A::Value, R)> for (A, W) {
         A::write(fields.0, seq.next())?;
         W::write_each(&fields.1, seq)
     }
+
+    #[inline(always)]
+    fn prepend_each(fields: &(&'a A::Value, R), out: &mut PrependBuffer) -> ASN1Result<()> {
+        W::prepend_each(&fields.1, out)?;
+        A::prepend(fields.0, None, out)
+    }
+
+    #[inline(always)]
+    fn each_len(fields: &(&'a A::Value, R), mode: BERMode) -> Option<usize> {
+        let first = A::encoded_len(fields.0, None, mode)?;
+        let others = W::each_len(&fields.1, mode)?;
+        first.checked_add(others)
+    }
 }
 
 impl<'a, A: Notation, R, W: PartsBy<R>> PartsBy<(&'a Option<A::Value>, R)> for (Optional<A>, W) {
@@ -297,5 +431,18 @@ impl<'a, A: Notation, R, W: PartsBy<R>> PartsBy<(&'a Option<A::Value>, R)> for (
     fn write_each(fields: &(&'a Option<A::Value>, R), seq: &mut DERWriterSeq) -> ASN1Result<()> {
         write_optional::<A>(fields.0, seq)?;
         W::write_each(&fields.1, seq)
+    }
+
+    #[inline(always)]
+    fn prepend_each(fields: &(&'a Option<A::Value>, R), out: &mut PrependBuffer) -> ASN1Result<()> {
+        W::prepend_each(&fields.1, out)?;
+        prepend_optional::<A>(fields.0, out)
+    }
+
+    #[inline(always)]
+    fn each_len(fields: &(&'a Option<A::Value>, R), mode: BERMode) -> Option<usize> {
+        let first = optional_len::<A>(fields.0, mode)?;
+        let others = W::each_len(&fields.1, mode)?;
+        first.checked_add(others)
     }
 }

@@ -8,6 +8,7 @@ ghost use Rattle.yasna_base.specs.Identifier.{tag_or};
 ghost use Rattle.yasna_base.specs.Sequence.{sequence_tag};
 ghost use Rattle.yasna_base.proofs.ExplicitTags.{enclosed_begins};
 ghost use Rattle.yasna_base.proofs.Identifier.{not_end};
+ghost use Rattle.yasna_writer.specs.Prepend.{Prepends, KnownLength};
 ghost use Rattle.yasna_writer.specs.View.{Writes};
 ghost use Rattle.yasna_notation.specs.Making.{in_sequence};
 ghost use Rattle.yasna_notation.specs.Laws.{element_lawful, element_non_empty};
@@ -17,9 +18,9 @@ use crate::notation::Notation;
 use crate::parts::{Parts, PartsBy};
 use std::marker::PhantomData;
 use yasna_base::tags::TAG_SEQUENCE;
-use yasna_base::{ASN1Result, Tag};
+use yasna_base::{ASN1Result, BERMode, Tag};
 use yasna_reader::BERReader;
-use yasna_writer::DERWriter;
+use yasna_writer::{DERWriter, PrependBuffer, constructed_len};
 
 /// `SEQUENCE { P }`, as `Sequence<(i64, (Optional<bool>, ()))>`.
 pub struct Sequence<P> {
@@ -65,6 +66,22 @@ where
         writer.write_sequence(|seq| P::write_parts(value, seq))
     }
 
+    #[inline(always)]
+    fn prepend(value: &P::Values, under: Option<Tag>, out: &mut PrependBuffer) -> ASN1Result<()> {
+        let after = out.begin_contents()?;
+        P::prepend_parts(value, out)?;
+        out.enclose(under.unwrap_or(TAG_SEQUENCE), after)
+    }
+
+    #[inline(always)]
+    fn encoded_len(value: &P::Values, under: Option<Tag>, mode: BERMode) -> Option<usize> {
+        constructed_len(
+            mode,
+            under.unwrap_or(TAG_SEQUENCE),
+            P::parts_len(value, mode)?,
+        )
+    }
+
     ghost lawful = { λ a. in_sequence (P.laws a) };
 
     ghost non_empty = { λ u m v. element_non_empty _ _ _ _ };
@@ -81,5 +98,36 @@ impl<P: Parts> Sequence<P> {
         ensures { Writes (enclosed_encoding P.encoding (tag_or writer.old.tag sequence_tag) writer.old.mode (P.held fields)) writer.old writer.new result }
     {
         writer.write_sequence(|seq| P::write_each(&fields, seq))
+    }
+
+    /// Prepends a SEQUENCE of these fields to a buffer.
+    #[inline(always)]
+    pub fn prepend_fields<R: Drop>(
+        fields: R,
+        under: Option<Tag>,
+        out: &mut PrependBuffer,
+    ) -> ASN1Result<()>
+    where
+        P: PartsBy<R, Held = P::Values>,
+        requires can { P.can (P.held fields) }
+        requires alike { WrittenAlike P.encoding P.can P.encoding_by P.can_by }
+        ensures { Prepends (enclosed_encoding P.encoding (tag_or under sequence_tag) out.old.mode (P.held fields)) out.old out.new result }
+    {
+        let after = out.begin_contents()?;
+        P::prepend_each(&fields, out)?;
+        out.enclose(under.unwrap_or(TAG_SEQUENCE), after)
+    }
+
+    /// The length of that SEQUENCE, if it is known.
+    #[inline(always)]
+    pub fn fields_len<R: Drop>(fields: R, under: Option<Tag>, mode: BERMode) -> Option<usize>
+    where
+        P: PartsBy<R, Held = P::Values>,
+        requires can { P.can (P.held fields) }
+        requires alike { WrittenAlike P.encoding P.can P.encoding_by P.can_by }
+        ensures { KnownLength (enclosed_encoding P.encoding (tag_or under sequence_tag) mode (P.held fields)) result }
+    {
+        let contents = P::each_len(&fields, mode)?;
+        constructed_len(mode, under.unwrap_or(TAG_SEQUENCE), contents)
     }
 }

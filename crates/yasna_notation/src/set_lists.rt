@@ -10,17 +10,19 @@ ghost use Rattle.yasna_base.specs.SetWriting.{encodings, set_of_depth};
 ghost use Rattle.yasna_base.proofs.ExplicitTags.{enclosed_begins};
 ghost use Rattle.yasna_base.proofs.Identifier.{not_end};
 ghost use Rattle.yasna_writer.specs.Parts.{no_parts};
+ghost use Rattle.yasna_writer.specs.Prepend.{Prepends, KnownLength};
 ghost use Rattle.yasna_writer.specs.View.{Writes};
 ghost use Rattle.yasna_notation.specs.Making.{in_set_of};
 ghost use Rattle.yasna_notation.specs.Laws.{element_lawful, element_non_empty};
 ghost use Rattle.yasna_notation.specs.Sets.{set_of_laws, FailsOnlyOutOfMemory, WroteElement, WroteElements};
 
+use crate::lists::{items_len, prepend_list};
 use crate::notation::Notation;
 use std::marker::PhantomData;
 use yasna_base::tags::TAG_SET;
-use yasna_base::{ASN1Result, Tag};
+use yasna_base::{ASN1Result, BERMode, Tag};
 use yasna_reader::BERReader;
-use yasna_writer::{DERWriter, DERWriterSet};
+use yasna_writer::{DERWriter, DERWriterSet, PrependBuffer, constructed_len};
 
 /// `SET OF N`. It is written in the order of its elements' bytes, whatever the order of its values.
 pub struct SetOf<N> {
@@ -63,6 +65,20 @@ impl<N: Notation> Notation for SetOf<N> {
         write_set::<N>(value.as_slice(), writer)
     }
 
+    #[inline(always)]
+    fn prepend(
+        value: &Vec<N::Value>,
+        under: Option<Tag>,
+        out: &mut PrependBuffer,
+    ) -> ASN1Result<()> {
+        prepend_set::<N>(value.as_slice(), under.unwrap_or(TAG_SET), out)
+    }
+
+    #[inline(always)]
+    fn encoded_len(value: &Vec<N::Value>, under: Option<Tag>, mode: BERMode) -> Option<usize> {
+        set_len::<N>(value.as_slice(), under.unwrap_or(TAG_SET), mode)
+    }
+
     ghost lawful = { λ a. in_set_of (N.lawful a).own };
 
     ghost non_empty = { λ u m v. element_non_empty _ _ _ _ };
@@ -103,4 +119,25 @@ fn write_element<N: Notation>(item: &N::Value, writer: DERWriter<'_>) -> ASN1Res
             Err(error)
         }
     }
+}
+
+// Prepends a SET OF these items, which at most one needs no order for.
+fn prepend_set<N: Notation>(items: &[N::Value], tag: Tag, out: &mut PrependBuffer) -> ASN1Result<()>
+    requires { AllByRecursion N.means.can items.now }
+    ensures { Prepends (sorted_set_of_encoding (N.means.encoding_under None) tag out.old.mode items.now) out.old out.new result }
+{
+    if items.len() <= 1 {
+        return prepend_list::<N>(items, tag, out);
+    }
+    let mut writer = out.writer_under(Some(tag));
+    write_set::<N>(items, &mut writer)?;
+    out.prepend_written(&mut writer)
+}
+
+// The length of that. It is the same in any order.
+fn set_len<N: Notation>(items: &[N::Value], tag: Tag, mode: BERMode) -> Option<usize>
+    requires { AllByRecursion N.means.can items.now }
+    ensures { KnownLength (sorted_set_of_encoding (N.means.encoding_under None) tag mode items.now) result }
+{
+    constructed_len(mode, tag, items_len::<N>(items, mode)?)
 }

@@ -21,9 +21,11 @@ ghost use Rattle.yasna_notation.specs.Laws.{element_lawful, seen_laws, boolean_l
 use crate::notation::Notation;
 use yasna_base::models::ObjectIdentifier;
 use yasna_base::tags::{TAG_BOOLEAN, TAG_ENUM, TAG_INTEGER, TAG_NULL, TAG_OID};
-use yasna_base::{ASN1Result, Tag};
+use yasna_base::{ASN1Result, BERMode, Tag};
 use yasna_reader::BERReader;
-use yasna_writer::DERWriter;
+use yasna_writer::{
+    DERWriter, PrependBuffer, bigint_len, i64_len, oid_len, primitive_len, u64_len,
+};
 
 impl Notation for bool {
     type Value = bool;
@@ -57,6 +59,16 @@ impl Notation for bool {
     #[inline(always)]
     fn write(value: &bool, writer: DERWriter<'_>) -> ASN1Result<()> {
         writer.write_bool(*value)
+    }
+
+    #[inline(always)]
+    fn prepend(value: &bool, under: Option<Tag>, out: &mut PrependBuffer) -> ASN1Result<()> {
+        out.prepend_bool(under.unwrap_or(TAG_BOOLEAN), *value)
+    }
+
+    #[inline(always)]
+    fn encoded_len(_value: &bool, under: Option<Tag>, _mode: BERMode) -> Option<usize> {
+        primitive_len(under.unwrap_or(TAG_BOOLEAN), 1)
     }
 
     ghost lawful = { λ _. element_lawful boolean_tag boolean_laws (primitively_begins IsBoolean) (not_end 1 (λ e. omega arith)) (omega arith) };
@@ -98,6 +110,16 @@ impl Notation for () {
         writer.write_null()
     }
 
+    #[inline(always)]
+    fn prepend(_value: &(), under: Option<Tag>, out: &mut PrependBuffer) -> ASN1Result<()> {
+        out.prepend_null(under.unwrap_or(TAG_NULL))
+    }
+
+    #[inline(always)]
+    fn encoded_len(_value: &(), under: Option<Tag>, _mode: BERMode) -> Option<usize> {
+        primitive_len(under.unwrap_or(TAG_NULL), 0)
+    }
+
     ghost lawful = { λ _. element_lawful null_tag null_laws (primitively_begins IsNull) (not_end 5 (λ e. omega arith)) (omega arith) };
 
     ghost non_empty = { λ u m v. element_non_empty _ _ _ _ };
@@ -135,6 +157,16 @@ impl Notation for i64 {
     #[inline(always)]
     fn write(value: &i64, writer: DERWriter<'_>) -> ASN1Result<()> {
         writer.write_i64(*value)
+    }
+
+    #[inline(always)]
+    fn prepend(value: &i64, under: Option<Tag>, out: &mut PrependBuffer) -> ASN1Result<()> {
+        out.prepend_i64(under.unwrap_or(TAG_INTEGER), *value)
+    }
+
+    #[inline(always)]
+    fn encoded_len(value: &i64, under: Option<Tag>, _mode: BERMode) -> Option<usize> {
+        i64_len(under.unwrap_or(TAG_INTEGER), *value)
     }
 
     ghost lawful = { λ _. element_lawful integer_tag (signed_laws w64) (primitively_begins (IsSigned w64)) (not_end 2 (λ e. omega arith)) (omega arith) };
@@ -176,6 +208,16 @@ impl Notation for i32 {
         writer.write_i32(*value)
     }
 
+    #[inline(always)]
+    fn prepend(value: &i32, under: Option<Tag>, out: &mut PrependBuffer) -> ASN1Result<()> {
+        out.prepend_i64(under.unwrap_or(TAG_INTEGER), i64::from(*value))
+    }
+
+    #[inline(always)]
+    fn encoded_len(value: &i32, under: Option<Tag>, _mode: BERMode) -> Option<usize> {
+        i64_len(under.unwrap_or(TAG_INTEGER), i64::from(*value))
+    }
+
     ghost lawful = { λ _. element_lawful integer_tag (signed_laws w32) (primitively_begins (IsSigned w32)) (not_end 2 (λ e. omega arith)) (omega arith) };
 
     ghost non_empty = { λ u m v. element_non_empty _ _ _ _ };
@@ -215,6 +257,16 @@ impl Notation for u64 {
         writer.write_u64(*value)
     }
 
+    #[inline(always)]
+    fn prepend(value: &u64, under: Option<Tag>, out: &mut PrependBuffer) -> ASN1Result<()> {
+        out.prepend_u64(under.unwrap_or(TAG_INTEGER), *value)
+    }
+
+    #[inline(always)]
+    fn encoded_len(value: &u64, under: Option<Tag>, _mode: BERMode) -> Option<usize> {
+        u64_len(under.unwrap_or(TAG_INTEGER), *value)
+    }
+
     ghost lawful = { λ _. element_lawful integer_tag (unsigned_laws 64) (primitively_begins (IsUnsigned 64)) (not_end 2 (λ e. omega arith)) (omega arith) };
 
     ghost non_empty = { λ u m v. element_non_empty _ _ _ _ };
@@ -252,6 +304,16 @@ impl Notation for u32 {
     #[inline(always)]
     fn write(value: &u32, writer: DERWriter<'_>) -> ASN1Result<()> {
         writer.write_u32(*value)
+    }
+
+    #[inline(always)]
+    fn prepend(value: &u32, under: Option<Tag>, out: &mut PrependBuffer) -> ASN1Result<()> {
+        out.prepend_i64(under.unwrap_or(TAG_INTEGER), i64::from(*value))
+    }
+
+    #[inline(always)]
+    fn encoded_len(value: &u32, under: Option<Tag>, _mode: BERMode) -> Option<usize> {
+        i64_len(under.unwrap_or(TAG_INTEGER), i64::from(*value))
     }
 
     ghost lawful = { λ _. element_lawful integer_tag (unsigned_laws 32) (primitively_begins (IsUnsigned 32)) (not_end 2 (λ e. omega arith)) (omega arith) };
@@ -296,6 +358,16 @@ impl Notation for Enumerated {
         writer.write_enum(*value)
     }
 
+    #[inline(always)]
+    fn prepend(value: &i64, under: Option<Tag>, out: &mut PrependBuffer) -> ASN1Result<()> {
+        out.prepend_i64(under.unwrap_or(TAG_ENUM), *value)
+    }
+
+    #[inline(always)]
+    fn encoded_len(value: &i64, under: Option<Tag>, _mode: BERMode) -> Option<usize> {
+        i64_len(under.unwrap_or(TAG_ENUM), *value)
+    }
+
     ghost lawful = { λ _. element_lawful enumerated_tag (signed_laws w64) (primitively_begins (IsSigned w64)) (not_end 10 (λ e. omega arith)) (omega arith) };
 
     ghost non_empty = { λ u m v. element_non_empty _ _ _ _ };
@@ -333,6 +405,20 @@ impl Notation for ObjectIdentifier {
     #[inline(always)]
     fn write(value: &ObjectIdentifier, writer: DERWriter<'_>) -> ASN1Result<()> {
         writer.write_oid(value)
+    }
+
+    #[inline(always)]
+    fn prepend(
+        value: &ObjectIdentifier,
+        under: Option<Tag>,
+        out: &mut PrependBuffer,
+    ) -> ASN1Result<()> {
+        out.prepend_oid(under.unwrap_or(TAG_OID), value)
+    }
+
+    #[inline(always)]
+    fn encoded_len(value: &ObjectIdentifier, under: Option<Tag>, _mode: BERMode) -> Option<usize> {
+        oid_len(under.unwrap_or(TAG_OID), value)
     }
 
     ghost lawful = { λ _. element_lawful oid_tag oid_laws (primitively_begins AreComponents) (not_end 6 (λ e. omega arith)) (omega arith) };
@@ -375,6 +461,20 @@ impl Notation for BigInteger {
     #[inline(always)]
     fn write(value: &(Vec<u8>, bool), writer: DERWriter<'_>) -> ASN1Result<()> {
         writer.write_bigint_bytes(value.0.as_slice(), value.1)
+    }
+
+    #[inline(always)]
+    fn prepend(
+        value: &(Vec<u8>, bool),
+        under: Option<Tag>,
+        out: &mut PrependBuffer,
+    ) -> ASN1Result<()> {
+        out.prepend_bigint_bytes(under.unwrap_or(TAG_INTEGER), value.0.as_slice(), value.1)
+    }
+
+    #[inline(always)]
+    fn encoded_len(value: &(Vec<u8>, bool), under: Option<Tag>, _mode: BERMode) -> Option<usize> {
+        bigint_len(under.unwrap_or(TAG_INTEGER), value.0.as_slice(), value.1)
     }
 
     ghost lawful = { λ _. element_lawful integer_tag (seen_laws big_integer_in big_integer_laws) (primitively_begins IsBigInteger) (not_end 2 (λ e. omega arith)) (omega arith) };

@@ -22,9 +22,9 @@ use yasna_base::tags::{
     TAG_BITSTRING, TAG_IA5STRING, TAG_NUMERICSTRING, TAG_OCTETSTRING, TAG_PRINTABLESTRING,
     TAG_UTF8STRING, TAG_VISIBLESTRING,
 };
-use yasna_base::{ASN1Result, Tag};
+use yasna_base::{ASN1Result, BERMode, Tag};
 use yasna_reader::BERReader;
-use yasna_writer::DERWriter;
+use yasna_writer::{DERWriter, PrependBuffer, bitvec_len, bytes_len, text_len};
 
 impl Notation for Vec<u8> {
     type Value = Vec<u8>;
@@ -58,6 +58,16 @@ impl Notation for Vec<u8> {
     #[inline(always)]
     fn write(value: &Vec<u8>, writer: DERWriter<'_>) -> ASN1Result<()> {
         writer.write_bytes(value.as_slice())
+    }
+
+    #[inline(always)]
+    fn prepend(value: &Vec<u8>, under: Option<Tag>, out: &mut PrependBuffer) -> ASN1Result<()> {
+        out.prepend_bytes(under.unwrap_or(TAG_OCTETSTRING), value.as_slice())
+    }
+
+    #[inline(always)]
+    fn encoded_len(value: &Vec<u8>, under: Option<Tag>, mode: BERMode) -> Option<usize> {
+        bytes_len(mode, under.unwrap_or(TAG_OCTETSTRING), value.as_slice())
     }
 
     ghost lawful = { λ _. element_lawful octets_tag (seen_laws octets_of octets_laws) (octets_begin) (not_end 4 (λ e. omega arith)) (omega arith) };
@@ -102,6 +112,20 @@ impl Notation for BitString {
         writer.write_bitvec_bytes(value.0.as_slice(), value.1)
     }
 
+    #[inline(always)]
+    fn prepend(
+        value: &(Vec<u8>, usize),
+        under: Option<Tag>,
+        out: &mut PrependBuffer,
+    ) -> ASN1Result<()> {
+        out.prepend_bitvec_bytes(under.unwrap_or(TAG_BITSTRING), value.0.as_slice(), value.1)
+    }
+
+    #[inline(always)]
+    fn encoded_len(value: &(Vec<u8>, usize), under: Option<Tag>, mode: BERMode) -> Option<usize> {
+        bitvec_len(mode, under.unwrap_or(TAG_BITSTRING), value.0.as_slice())
+    }
+
     ghost lawful = { λ _. element_lawful bits_tag (seen_laws bits_in bits_under_tags) (bits_begin) (not_end 3 (λ e. omega arith)) (omega arith) };
 
     ghost non_empty = { λ u m v. bits_non_empty (tag_or u bits_tag) m (bits_in v) };
@@ -139,6 +163,16 @@ impl Notation for String {
     #[inline(always)]
     fn write(value: &String, writer: DERWriter<'_>) -> ASN1Result<()> {
         writer.write_utf8string(value.as_str())
+    }
+
+    #[inline(always)]
+    fn prepend(value: &String, under: Option<Tag>, out: &mut PrependBuffer) -> ASN1Result<()> {
+        out.prepend_text(under.unwrap_or(TAG_UTF8STRING), value.as_str())
+    }
+
+    #[inline(always)]
+    fn encoded_len(value: &String, under: Option<Tag>, mode: BERMode) -> Option<usize> {
+        text_len(mode, under.unwrap_or(TAG_UTF8STRING), value.as_str())
     }
 
     ghost lawful = { λ _. element_lawful utf8_tag text_laws (text_begins InUtf8) (not_end 12 (λ e. omega arith)) (omega arith) };
@@ -183,6 +217,16 @@ impl Notation for PrintableString {
         writer.write_printable_string(value.as_str())
     }
 
+    #[inline(always)]
+    fn prepend(value: &String, under: Option<Tag>, out: &mut PrependBuffer) -> ASN1Result<()> {
+        out.prepend_text(under.unwrap_or(TAG_PRINTABLESTRING), value.as_str())
+    }
+
+    #[inline(always)]
+    fn encoded_len(value: &String, under: Option<Tag>, mode: BERMode) -> Option<usize> {
+        text_len(mode, under.unwrap_or(TAG_PRINTABLESTRING), value.as_str())
+    }
+
     ghost lawful = { λ _. element_lawful printable_tag (class_laws InPrintable) (text_begins InPrintable) (not_end 19 (λ e. omega arith)) (omega arith) };
 
     ghost non_empty = { λ u m v. text_non_empty (tag_or u printable_tag) m (characters v) };
@@ -223,6 +267,16 @@ impl Notation for Ia5String {
     #[inline(always)]
     fn write(value: &String, writer: DERWriter<'_>) -> ASN1Result<()> {
         writer.write_ia5_string(value.as_str())
+    }
+
+    #[inline(always)]
+    fn prepend(value: &String, under: Option<Tag>, out: &mut PrependBuffer) -> ASN1Result<()> {
+        out.prepend_text(under.unwrap_or(TAG_IA5STRING), value.as_str())
+    }
+
+    #[inline(always)]
+    fn encoded_len(value: &String, under: Option<Tag>, mode: BERMode) -> Option<usize> {
+        text_len(mode, under.unwrap_or(TAG_IA5STRING), value.as_str())
     }
 
     ghost lawful = { λ _. element_lawful ia5_tag (class_laws InIa5) (text_begins InIa5) (not_end 22 (λ e. omega arith)) (omega arith) };
@@ -267,6 +321,16 @@ impl Notation for NumericString {
         writer.write_numeric_string(value.as_str())
     }
 
+    #[inline(always)]
+    fn prepend(value: &String, under: Option<Tag>, out: &mut PrependBuffer) -> ASN1Result<()> {
+        out.prepend_text(under.unwrap_or(TAG_NUMERICSTRING), value.as_str())
+    }
+
+    #[inline(always)]
+    fn encoded_len(value: &String, under: Option<Tag>, mode: BERMode) -> Option<usize> {
+        text_len(mode, under.unwrap_or(TAG_NUMERICSTRING), value.as_str())
+    }
+
     ghost lawful = { λ _. element_lawful numeric_tag (class_laws InNumeric) (text_begins InNumeric) (not_end 18 (λ e. omega arith)) (omega arith) };
 
     ghost non_empty = { λ u m v. text_non_empty (tag_or u numeric_tag) m (characters v) };
@@ -307,6 +371,16 @@ impl Notation for VisibleString {
     #[inline(always)]
     fn write(value: &String, writer: DERWriter<'_>) -> ASN1Result<()> {
         writer.write_visible_string(value.as_str())
+    }
+
+    #[inline(always)]
+    fn prepend(value: &String, under: Option<Tag>, out: &mut PrependBuffer) -> ASN1Result<()> {
+        out.prepend_text(under.unwrap_or(TAG_VISIBLESTRING), value.as_str())
+    }
+
+    #[inline(always)]
+    fn encoded_len(value: &String, under: Option<Tag>, mode: BERMode) -> Option<usize> {
+        text_len(mode, under.unwrap_or(TAG_VISIBLESTRING), value.as_str())
     }
 
     ghost lawful = { λ _. element_lawful visible_tag (class_laws InVisible) (text_begins InVisible) (not_end 26 (λ e. omega arith)) (omega arith) };

@@ -14,10 +14,10 @@ ghost use Rattle.yasna_notation.specs.Laws.{element_lawful, string_begins, utc_l
 
 use crate::notation::Notation;
 use yasna_base::tags::{TAG_GENERALIZEDTIME, TAG_UTCTIME};
-use yasna_base::{ASN1Result, Tag};
+use yasna_base::{ASN1Result, BERMode, Tag};
 use yasna_reader::BERReader;
 use yasna_times::models::{GeneralizedTime, UTCTime};
-use yasna_writer::DERWriter;
+use yasna_writer::{DERWriter, PrependBuffer, generalized_time_len, utctime_len};
 
 impl Notation for UTCTime {
     type Value = UTCTime;
@@ -51,6 +51,16 @@ impl Notation for UTCTime {
     #[inline(always)]
     fn write(value: &UTCTime, writer: DERWriter<'_>) -> ASN1Result<()> {
         writer.write_utctime(value)
+    }
+
+    #[inline(always)]
+    fn prepend(value: &UTCTime, under: Option<Tag>, out: &mut PrependBuffer) -> ASN1Result<()> {
+        out.prepend_utctime(under.unwrap_or(TAG_UTCTIME), value)
+    }
+
+    #[inline(always)]
+    fn encoded_len(value: &UTCTime, under: Option<Tag>, _mode: BERMode) -> Option<usize> {
+        utctime_len(under.unwrap_or(TAG_UTCTIME), value)
     }
 
     ghost lawful = { λ _. element_lawful utc_time_tag utc_laws (string_begins SpellsUtcTime) (not_end 23 (λ e. omega arith)) (omega arith) };
@@ -90,6 +100,20 @@ impl Notation for GeneralizedTime {
     #[inline(always)]
     fn write(value: &GeneralizedTime, writer: DERWriter<'_>) -> ASN1Result<()> {
         writer.write_generalized_time(value)
+    }
+
+    #[inline(always)]
+    fn prepend(
+        value: &GeneralizedTime,
+        under: Option<Tag>,
+        out: &mut PrependBuffer,
+    ) -> ASN1Result<()> {
+        out.prepend_generalized_time(under.unwrap_or(TAG_GENERALIZEDTIME), value)
+    }
+
+    #[inline(always)]
+    fn encoded_len(value: &GeneralizedTime, under: Option<Tag>, _mode: BERMode) -> Option<usize> {
+        generalized_time_len(under.unwrap_or(TAG_GENERALIZEDTIME), value)
     }
 
     ghost lawful = { λ _. element_lawful generalized_time_tag general_laws (string_begins SpellsGeneralizedTime) (not_end 24 (λ e. omega arith)) (omega arith) };
